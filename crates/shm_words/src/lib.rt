@@ -1,0 +1,19 @@
+//! The words of a shared memory pool: where each word lies and how headers, tags and redo records are packed.
+//!
+//! A pool is a table of 64-bit words. The design (a header with last client, era and count; a matrix of eras; a redo
+//! record) is that of CXL-SHM (SOSP 2023); the exact layout and packings are this project's own.
+#![tactic(auto)]
+
+pub mod class;
+pub mod geometry;
+pub mod header;
+pub mod place;
+pub mod redo;
+pub mod tag;
+
+pub use class::class_of;
+pub use geometry::{BadGeometry, Geometry};
+pub use header::Header;
+pub use place::Place;
+pub use redo::Redo;
+pub use tag::Tag;
