@@ -1,1 +1,6 @@
 pub mod Puts
+pub mod Folds
+pub mod Shut
+pub mod ShutWords
+pub mod Cells
+pub mod Runs
