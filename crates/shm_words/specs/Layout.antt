@@ -1,5 +1,5 @@
 -- the layout of a pool: which word lies where
-use Rattle.std.specs.Prelude.{ℕ, ◌+◌, ◌-◌, ◌*◌, ◌/◌, ◌%◌, ◌<◌, ◌≤◌, Bool, true, false, ◌&&◌, ◌==◌, nat_lt, if◌then◌else◌}
+use Rattle.std.specs.Prelude.{ℕ, ◌+◌, ◌-◌, ◌*◌, ◌/◌, ◌%◌, ◌≤◌, Bool, true, ◌&&◌, ◌==◌, nat_lt, if◌then◌else◌}
 use Rattle.shm_words.specs.declared.place.Place.{Place}
 use Rattle.shm_words.specs.declared.place.Place.TheVariants.{Spare, Status, Redo, Hold, Latch, Home, Era, Root, Tail, Head, Slot, Segment, Page, Body}
 use Rattle.shm_words.specs.declared.geometry.Geometry.{Geometry}

@@ -7,6 +7,7 @@
 pub mod class;
 pub mod geometry;
 pub mod header;
+pub mod layout;
 pub mod place;
 pub mod redo;
 pub mod tag;

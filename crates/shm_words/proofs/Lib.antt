@@ -1,0 +1,4 @@
+pub mod Regions
+pub mod Placing
+pub mod Words
+pub mod Classing
