@@ -1,0 +1,1 @@
+//! The one form of a trace: a pool, a client and its puts.
