@@ -58,7 +58,8 @@ fn packs_headers(rt: HostRuntime) {
 }
 
 #[test]
-fn packs_tags(rt: HostRuntime) {
+fn packs_tags(rt: HostRuntime) -> Result<(), Fail> {
+    let pool = Geometry::new(1, 1)?;
     // reference words, plain words, author, link and the word
     let rows = [
         (0, 0, 0, 0, 0),
@@ -87,7 +88,10 @@ fn packs_tags(rt: HostRuntime) {
         );
         assert_eq!(rt; tag.pack(), word, "{tag:?}");
         assert_eq!(rt; Tag::unpack(word), Some(tag), "{word}");
+        assert_eq!(rt; pool.write_tag(tag), word, "{tag:?}");
+        assert_eq!(rt; pool.read_tag(word), Some(tag), "{word}");
     }
+    Ok(())
 }
 
 #[test]
