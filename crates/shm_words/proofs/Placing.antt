@@ -109,6 +109,9 @@ same_place g a b p q e = sym (address-place g a p) ∙ (ap (address g) e ∙ add
 pub total_most : (g : Geometry) → GeometryFits g → total_of g ≤ 531793
 total_most g f = let s = mul-le g.clients g.clients 16 16 f.clients f.clients in omega arith
 
+pub total_small : (g : Geometry) → GeometryFits g → total_of g < 2 ^ 20
+total_small g f = let m = total_most g f in omega arith
+
 pub total_least : (g : Geometry) → 1 ≤ total_of g
 total_least g = omega arith
 

@@ -11,6 +11,8 @@ pub mod layout;
 pub mod place;
 pub mod redo;
 pub mod tag;
+#[cfg(test)]
+mod tests;
 
 pub use class::class_of;
 pub use geometry::{BadGeometry, Geometry};

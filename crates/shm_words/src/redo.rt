@@ -4,25 +4,42 @@ ghost use Rattle.std.specs.Prelude.{◌≡◌, ◌≢◌, ℕ, ◌<◌, ◌^◌}
 ghost use Rattle.shm_words.specs.declared.redo.Redo.{Redo as ARedo};
 ghost use Rattle.shm_words.specs.Redos.{redo_word, redo_of, RedoFits, fields};
 
-#[derive(Clone, Copy, Drop)]
+/// Which count step an identity is at, so that a recoverer can finish or drop it.
+///
+/// Slots and blocks are addresses below 2^20. The word 0 is the redo word of an idle identity.
+#[derive(Clone, Copy, Debug, PartialEq, Eq, Drop)]
 pub enum Redo {
+    /// No step.
     Idle,
+    /// The count of `block` goes up, and `slot` comes to refer to it (kind 1).
     Up {
+        /// The address of the reference word that changes, below 2^20 (bits 40 to 59).
         slot: u32,
+        /// The address of the block, below 2^20 (bits 0 to 19).
         block: u32,
     },
+    /// The count of `block` goes down, and `slot` no longer refers to it (kind 2).
     Down {
+        /// The address of the reference word that changes, below 2^20 (bits 40 to 59).
         slot: u32,
+        /// The address of the block, below 2^20 (bits 20 to 39).
         block: u32,
     },
+    /// The count of `after` goes up at one era, `slot` comes to refer to it in place of `before`, and the count of
+    /// `before` goes down at the next era (kind 3).
     Change {
+        /// Whether the era at which the step began is odd (bit 60).
         odd: bool,
+        /// The address of the reference word that changes, below 2^20 (bits 40 to 59).
         slot: u32,
+        /// The address of the block that `slot` referred to, below 2^20 (bits 20 to 39).
         before: u32,
+        /// The address of the block that `slot` comes to refer to, below 2^20 (bits 0 to 19).
         after: u32,
     },
 }
 
+// the kind is in bits 61 to 63
 fn word(kind: u64, odd: bool, slot: u32, before: u32, after: u32) -> u64
     requires kind { kind < 8 }
     requires slot { slot < 2 ^ 20 }
@@ -38,7 +55,7 @@ fn word(kind: u64, odd: bool, slot: u32, before: u32, after: u32) -> u64
 }
 
 impl Redo {
-    /// The word.
+    /// The word of this redo record.
     #[tactic(auto, unfolding(crate::specs::Redos::redo_word))]
     pub fn pack(self) -> u64
         requires { RedoFits self }
@@ -57,7 +74,7 @@ impl Redo {
         }
     }
 
-    /// What the word says, if a redo word in range packs to it.
+    /// What the word says; `None` exactly where no redo record in range packs to the word.
     #[tactic(auto, unfolding(crate::specs::Redos::redo_of))]
     pub fn unpack(word: u64) -> Option<Redo>
         ensures { result ≡ redo_of word }
@@ -84,7 +101,7 @@ impl Redo {
     }
 }
 
-/// Packing and unpacking are inverse, and what is no redo word is packed by none.
+/// Packing and unpacking a redo record are inverse, and what unpacks to none is packed by none.
 #[tactic(auto, unfolding(crate::specs::Redos::redo_word, crate::specs::Redos::redo_of))]
 pub fn redo_laws()
     ensures unpacks { (r : ARedo) → RedoFits r → redo_of (redo_word r) ≡ Some r }
