@@ -43,4 +43,12 @@ impl PlainClosed {
     {
         self.words.as_slice()
     }
+
+    /// The words of a pool that is clean.
+    pub(crate) fn of(geometry: Geometry, words: Vec<u64>) -> PlainClosed
+        requires { IsClosed (record { geometry = geometry; words = words.items }) }
+        ensures { result ≡ record { geometry = geometry; words = words.items } }
+    {
+        PlainClosed { geometry, words }
+    }
 }

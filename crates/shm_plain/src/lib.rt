@@ -2,7 +2,12 @@
 #![tactic(auto)]
 
 pub mod closed;
+pub mod first;
 pub mod pair;
 
 pub use closed::PlainClosed;
+pub use first::{FirstRun, replay_first};
 pub use pair::Pair;
+
+#[cfg(test)]
+mod tests;

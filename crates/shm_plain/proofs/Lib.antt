@@ -1,0 +1,2 @@
+pub mod Celling
+pub mod Nexts
