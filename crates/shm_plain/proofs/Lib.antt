@@ -1,0 +1,3 @@
+pub mod CellAt
+pub mod One
+pub mod Buckets
