@@ -1,3 +1,6 @@
 pub mod CellAt
 pub mod One
 pub mod Buckets
+pub mod Filled
+pub mod FilledWords
+pub mod FilledBlocks
