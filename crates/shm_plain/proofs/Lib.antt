@@ -4,3 +4,5 @@ pub mod Buckets
 pub mod Filled
 pub mod FilledWords
 pub mod FilledBlocks
+pub mod FilledBlock
+pub mod FilledNames
