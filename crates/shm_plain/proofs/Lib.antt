@@ -6,3 +6,5 @@ pub mod FilledWords
 pub mod FilledBlocks
 pub mod FilledBlock
 pub mod FilledNames
+pub mod FilledCounts
+pub mod FilledClean

@@ -71,6 +71,10 @@ entry_tag i l = in_page 2 (306 + 8 * i + 1) (8 * i + 1) (omega arith) (omega ari
 pub entry_body : (i j : ℕ) → i < 16 → j < 6 → spot_at one kind (306 + 8 * i + 2 + j) ≡ Body (306 + 8 * i) j
 entry_body i j l m = in_page 2 (306 + 8 * i + 2 + j) (8 * i + 2 + j) (omega arith) (omega arith) (omega arith) ∙ word_spot 8 (306 + 8 * i + 2 + j) (8 * i + 2 + j) (306 + 8 * i) j (omega arith) (omega arith) refl
 
+pub home_spot : spot_at one kind 5 ≡ Home 0
+unfolding spot_at layout.place_at
+home_spot = refl
+
 -- ---- where a header may lie
 
 -- an address in a page
