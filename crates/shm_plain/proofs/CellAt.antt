@@ -1,7 +1,7 @@
 -- the cells of the regions
-use Rattle.std.proofs.Common.{◌≡◌, ℕ, ◌+◌, ◌*◌, ◌<◌, ◌≤◌, refl, arith}
+use Rattle.std.proofs.Common.{◌≡◌, ℕ, ◌+◌, ◌*◌, ◌<◌, refl, arith}
 use Rattle.std.proofs.lemmas.Bool.Decides.{nat_tests}
-use Rattle.shm_plain.specs.Cells.{Cell, cell_at}
+use Rattle.shm_plain.specs.Cells.{cell_at}
 use Rattle.shm_plain.specs.Cells.Cell.{Status, Home, Root, Queue, Page, Value, Directory, Entry}
 
 pub cell_status : cell_at 1 ≡ Status

@@ -1,17 +1,15 @@
 -- headers and tags of blocks
-use Rattle.std.proofs.Common.{◌≡◌, ◌≢◌, ℕ, ◌+◌, ◌-◌, ◌*◌, ◌/◌, ◌%◌, ◌^◌, ◌<◌, ◌≤◌, Bool, true, false, refl, sym, ap, subst, ◌∙◌, arith, inl, inr, ◌⊎◌, List}
+use Rattle.std.proofs.Common.{◌≡◌, ℕ, ◌<◌, ◌≤◌, Bool, true, ap, ◌∙◌, arith}
 use Rattle.std.specs.Prelude.{Some}
-use Rattle.std.proofs.lemmas.Bool.Decides.{nat_tests}
 use Rattle.shm_words.specs.declared.header.Header.{Header}
 use Rattle.shm_words.specs.declared.tag.Tag.{Tag as ATag}
 use Rattle.shm_words.specs.Headers.{header_of, HeaderFits}
 use Rattle.shm_words.specs.Tags.{tag_of, tag_refs, tag_plain, tag_author, TagFits}
-use Rattle.shm_words.proofs.Words.{header_of-word, header_of_zero, tag_of-word, tag_refs-word, tag_plain-word, tag_author-word, live_not_zero}
+use Rattle.shm_words.proofs.Words.{header_of-word, tag_of-word, tag_refs-word, tag_plain-word, tag_author-word}
 use Rattle.shm_graph.specs.declared.spot.Spot.{Spot}
-use Rattle.shm_graph.specs.declared.spot.Spot.TheVariants.{Head, Tag}
-use Rattle.shm_graph.specs.Blocks.{headers, IsLive}
+use Rattle.shm_graph.specs.declared.spot.Spot.TheVariants.{Tag}
+use Rattle.shm_graph.specs.Blocks.{headers}
 use Rattle.shm_graph.specs.References.{words_of, refs_of}
-use Rattle.shm_plain.specs.Cells.{live_header, own_tag}
 use Rattle.shm_plain.proofs.Filled.{Block}
 
 -- the block's numbers fit its header and its tag

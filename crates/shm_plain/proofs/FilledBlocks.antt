@@ -1,11 +1,10 @@
 -- what is seen in blocks
-use Rattle.std.proofs.Common.{◌≡◌, ◌≢◌, ℕ, ◌+◌, ◌*◌, ◌<◌, ◌≤◌, refl, sym, ap, ◌∙◌, arith, inl, inr, ◌⊎◌, List}
+use Rattle.std.proofs.Common.{◌≡◌, ◌≢◌, ℕ, ◌+◌, ◌*◌, ◌<◌, ◌≤◌, refl, ap, ◌∙◌, arith, inl, inr, List}
 use Rattle.std.proofs.lemmas.Bool.{cases_eq, cases_lt}
-use Rattle.shm_graph.specs.declared.spot.Spot.{Spot}
 use Rattle.shm_graph.specs.declared.spot.Spot.TheVariants.{Head, Tag, Body}
-use Rattle.shm_graph.specs.Spots.{spot_at, spot_address, IsAt, see}
+use Rattle.shm_graph.specs.Spots.{spot_at, spot_address, see}
 use Rattle.shm_plain.specs.declared.pair.Pair.{Pair}
-use Rattle.shm_plain.specs.Cells.{Cell, cell_at, Shows, put_at, live_header, own_tag, bucket_word, ended}
+use Rattle.shm_plain.specs.Cells.{Cell, cell_at, Shows, put_at, bucket_word, ended}
 use Rattle.shm_plain.specs.Cells.Cell.{Value, Directory, Entry}
 use Rattle.shm_plain.proofs.CellAt.{cell_value, cell_directory, cell_entry}
 use Rattle.shm_plain.proofs.One.{one, kind, head_one, value_head, value_tag, value_body, directory_head, directory_tag, directory_body, entry_head, entry_tag, entry_body}
@@ -38,21 +37,21 @@ unfolding spot_address
 heads_seen puts k ws n most h b s =
     let at = seen_at puts k ws n h (Head b) s in
     elim (head_one b at) [
-      inl t ↦
-        elim (cases_lt t.0 k) [
-          inl l ↦ inl (t.0, l, t.2)
-        | inr l ↦ absurd (s (head_seen puts k ws n h b (Value t.0 0) at (omega (arith, t.1, t.2)) (omega (arith, t.2)) (cell_value_at b t.0 0 (omega (arith, t.2)) t.1 (omega arith)) ∙ value_none puts k t.0 0 l))
-        ]
-    | inr (inl t) ↦
-        elim (cases_eq t.0 0) [
-          inl l ↦ inr (inl (omega (arith, l, t.2)))
-        | inr l ↦ absurd (s (head_seen puts k ws n h b (Directory (32 * t.0)) at (omega (arith, t.1, t.2)) (omega (arith, t.2)) (cell_directory_at b (32 * t.0) t.2 (omega (arith, t.1))) ∙ directory_none puts k (32 * t.0) (omega (arith, l))))
-        ]
-    | inr (inr t) ↦
-        elim (cases_lt t.0 k) [
-          inl l ↦ inr (inr (t.0, l, t.2))
-        | inr l ↦ absurd (s (head_seen puts k ws n h b (Entry t.0 0) at (omega (arith, t.1, t.2)) (omega (arith, t.2)) (cell_entry_at b t.0 0 (omega (arith, t.2)) t.1 (omega arith)) ∙ entry_none puts k t.0 0 l))
-        ]
+      | inl t ↦
+          elim (cases_lt t.0 k) [
+            | inl l ↦ inl (t.0, l, t.2)
+            | inr l ↦ absurd (s (head_seen puts k ws n h b (Value t.0 0) at (omega (arith, t.1, t.2)) (omega (arith, t.2)) (cell_value_at b t.0 0 (omega (arith, t.2)) t.1 (omega arith)) ∙ value_none puts k t.0 0 l))
+          ]
+      | inr (inl t) ↦
+          elim (cases_eq t.0 0) [
+            | inl l ↦ inr (inl (omega (arith, l, t.2)))
+            | inr l ↦ absurd (s (head_seen puts k ws n h b (Directory (32 * t.0)) at (omega (arith, t.1, t.2)) (omega (arith, t.2)) (cell_directory_at b (32 * t.0) t.2 (omega (arith, t.1))) ∙ directory_none puts k (32 * t.0) (omega (arith, l))))
+          ]
+      | inr (inr t) ↦
+          elim (cases_lt t.0 k) [
+            | inl l ↦ inr (inr (t.0, l, t.2))
+            | inr l ↦ absurd (s (head_seen puts k ws n h b (Entry t.0 0) at (omega (arith, t.1, t.2)) (omega (arith, t.2)) (cell_entry_at b t.0 0 (omega (arith, t.2)) t.1 (omega arith)) ∙ entry_none puts k t.0 0 l))
+          ]
     ]
 
 value_seen : (puts : List Pair) (k : ℕ) (ws : List ℕ) → k ≢ 0 → k ≤ 16 → Shows ws (ended puts k) → (i : ℕ) → i < k → Block (see one ws) (50 + 4 * i) (9 + 6 * i) 0 1

@@ -1,12 +1,12 @@
 -- a pool of one client that made its puts and left is clean
-use Rattle.std.proofs.Common.{◌≡◌, ◌≢◌, ℕ, ◌+◌, ◌-◌, ◌*◌, ◌/◌, ◌%◌, ◌<◌, ◌≤◌, refl, sym, ap, subst, ◌∙◌, arith, inl, inr, ◌⊎◌, List, length}
+use Rattle.std.proofs.Common.{◌≡◌, ℕ, ◌+◌, ◌-◌, ◌*◌, ◌/◌, ◌%◌, ◌≤◌, sym, ap, subst, ◌∙◌, arith, inl, inr, ◌⊎◌, List, length}
 use Rattle.std.proofs.lemmas.Bool.Decides.{nat_tests}
 use Rattle.shm_words.specs.Classes.{IsClass}
 use Rattle.shm_graph.specs.declared.spot.Spot.{Spot}
-use Rattle.shm_graph.specs.declared.spot.Spot.TheVariants.{Status, Page, Head, Tag}
+use Rattle.shm_graph.specs.declared.spot.Spot.TheVariants.{Status, Tag}
 use Rattle.shm_graph.specs.Spots.{class_at}
 use Rattle.shm_graph.specs.Blocks.{classes, headers, IsLive}
-use Rattle.shm_graph.specs.References.{references, references_to}
+use Rattle.shm_graph.specs.References.{references}
 use Rattle.shm_graph.specs.Clean.{TagSuits, IsClean}
 use Rattle.shm_plain.specs.declared.pair.Pair.{Pair}
 use Rattle.shm_plain.specs.Puts.{AreApart}
@@ -38,15 +38,15 @@ class_of_block puts k w f b p e d =
 pub block_good : (puts : List Pair) (k : ℕ) (w : Spot → ℕ) → k ≤ 16 → Filled puts k w → (b : ℕ) → IsOfPuts k b → IsGood w b
 block_good puts k w most f b is =
     elim is [
-      inl t ↦
-        let c : class_at one (classes w) (50 + 4 * t.0) ≡ 4 = class_of_block puts k w f (50 + 4 * t.0) 0 (omega (arith, t.1)) (omega (arith, t.1)) in
-        subst (IsGood w) (sym t.2) (good_from_block w (50 + 4 * t.0) (9 + 6 * t.0) 0 1 (f.value t.0 t.1) (value_small t.0 (omega (arith, t.1))) (omega (arith, c)))
-    | inr (inl t) ↦
-        let c : class_at one (classes w) 178 ≡ 32 = class_of_block puts k w f 178 1 (omega arith) (omega arith) in
-        subst (IsGood w) (sym t) (good_from_block w 178 4 16 0 f.directory directory_small (omega (arith, c)))
-    | inr (inr t) ↦
-        let c : class_at one (classes w) (306 + 8 * t.0) ≡ 8 = class_of_block puts k w f (306 + 8 * t.0) 2 (omega (arith, t.1)) (omega (arith, t.1)) in
-        subst (IsGood w) (sym t.2) (good_from_block w (306 + 8 * t.0) (8 + 6 * t.0) 2 1 (f.entry t.0 t.1) (entry_small t.0 (omega (arith, t.1))) (omega (arith, c)))
+      | inl t ↦
+          let c : class_at one (classes w) (50 + 4 * t.0) ≡ 4 = class_of_block puts k w f (50 + 4 * t.0) 0 (omega (arith, t.1)) (omega (arith, t.1)) in
+          subst (IsGood w) (sym t.2) (good_from_block w (50 + 4 * t.0) (9 + 6 * t.0) 0 1 (f.value t.0 t.1) (value_small t.0 (omega (arith, t.1))) (omega (arith, c)))
+      | inr (inl t) ↦
+          let c : class_at one (classes w) 178 ≡ 32 = class_of_block puts k w f 178 1 (omega arith) (omega arith) in
+          subst (IsGood w) (sym t) (good_from_block w 178 4 16 0 f.directory directory_small (omega (arith, c)))
+      | inr (inr t) ↦
+          let c : class_at one (classes w) (306 + 8 * t.0) ≡ 8 = class_of_block puts k w f (306 + 8 * t.0) 2 (omega (arith, t.1)) (omega (arith, t.1)) in
+          subst (IsGood w) (sym t.2) (good_from_block w (306 + 8 * t.0) (8 + 6 * t.0) 2 1 (f.entry t.0 t.1) (entry_small t.0 (omega (arith, t.1))) (omega (arith, c)))
     ]
 
 kind_is_class : (s p : ℕ) → (kind s p ≡ 0) ⊎ IsClass (kind s p)
@@ -56,9 +56,9 @@ kind_is_class s p = grind (arith, nat_tests)
 named_is : (puts : List Pair) (k : ℕ) (p : Spot) (b : ℕ) → IsName puts k p b → IsOfPuts k b
 named_is puts k p b is =
     elim is [
-      inl t ↦ inr (inl t.1)
-    | inr (inl t) ↦ inr (inr (t.1, t.3, t.6))
-    | inr (inr t) ↦ inl (t.0, t.1, t.3)
+      | inl t ↦ inr (inl t.1)
+      | inr (inl t) ↦ inr (inr (t.1, t.3, t.6))
+      | inr (inr t) ↦ inl (t.0, t.1, t.3)
     ]
 
 pub filled_clean : (puts : List Pair) (k : ℕ) (w : Spot → ℕ) → k ≤ 16 → AreApart puts → k ≤ length puts → Filled puts k w → IsClean one w
@@ -69,7 +69,7 @@ filled_clean puts k w most apart long f = record {
   tags = λ b l. (block_good puts k w most f b (live_of_puts puts k w f b l)).tag;
   targets = λ p n. (block_good puts k w most f (references w p) (named_is puts k p (references w p) (name_cases puts k w most f p n))).live;
   counts = λ b l.
-    let is = live_of_puts puts k w f b l in
-    let c = (block_good puts k w most f b is).count in
-    (omega (arith, c), c ∙ sym (block_named puts k w most apart long f b is));
+      let is = live_of_puts puts k w f b l in
+      let c = (block_good puts k w most f b is).count in
+      (omega (arith, c), c ∙ sym (block_named puts k w most apart long f b is));
 }

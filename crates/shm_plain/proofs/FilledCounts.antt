@@ -1,5 +1,5 @@
 -- each block of a pool of one client is named once
-use Rattle.std.proofs.Common.{◌≡◌, ◌≢◌, ℕ, ◌+◌, ◌*◌, ◌<◌, ◌≤◌, refl, sym, ap, subst, ◌∙◌, arith, inl, inr, ◌⊎◌, List, length}
+use Rattle.std.proofs.Common.{◌≡◌, ℕ, ◌+◌, ◌*◌, ◌<◌, ◌≤◌, refl, sym, ap, subst, ◌∙◌, arith, inl, inr, List, length}
 use Rattle.shm_words.specs.Layout.{total_of}
 use Rattle.shm_graph.specs.declared.spot.Spot.{Spot}
 use Rattle.shm_graph.specs.declared.spot.Spot.TheVariants.{Home, Body}
@@ -43,7 +43,7 @@ entry_named puts k w most apart long f i l =
 pub block_named : (puts : List Pair) (k : ℕ) (w : Spot → ℕ) → k ≤ 16 → AreApart puts → k ≤ length puts → Filled puts k w → (b : ℕ) → IsOfPuts k b → references_to one (classes w) (references w) b ≡ 1
 block_named puts k w most apart long f b is =
     elim is [
-      inl t ↦ subst (λ (b : ℕ). references_to one (classes w) (references w) b ≡ 1) (sym t.2) (value_named puts k w most f t.0 t.1)
-    | inr (inl t) ↦ subst (λ (b : ℕ). references_to one (classes w) (references w) b ≡ 1) (sym t) (directory_named puts k w most f)
-    | inr (inr t) ↦ subst (λ (b : ℕ). references_to one (classes w) (references w) b ≡ 1) (sym t.2) (entry_named puts k w most apart long f t.0 t.1)
+      | inl t ↦ subst (λ (b : ℕ). references_to one (classes w) (references w) b ≡ 1) (sym t.2) (value_named puts k w most f t.0 t.1)
+      | inr (inl t) ↦ subst (λ (b : ℕ). references_to one (classes w) (references w) b ≡ 1) (sym t) (directory_named puts k w most f)
+      | inr (inr t) ↦ subst (λ (b : ℕ). references_to one (classes w) (references w) b ≡ 1) (sym t.2) (entry_named puts k w most apart long f t.0 t.1)
     ]

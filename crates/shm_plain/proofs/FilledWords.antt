@@ -1,23 +1,21 @@
 -- the words of the cells are what is seen at the spots
-use Rattle.std.proofs.Common.{◌≡◌, ◌≢◌, ℕ, zero, suc, ◌+◌, ◌-◌, ◌*◌, ◌/◌, ◌%◌, ◌<◌, ◌≤◌, ◌==◌, true, false, refl, sym, ap, subst, ◌∙◌, arith, inl, inr, ◌⊎◌, List}
-use Rattle.std.specs.Prelude.{if◌then◌else◌, slice_index}
-use Rattle.std.proofs.lemmas.Bool.{cases_eq, cases_lt, cases_Bool, cond-true, cond-false, lt-ltb, le-ltb, eq-eqb, ne_eqb}
+use Rattle.std.proofs.Common.{◌≡◌, ◌≢◌, ℕ, ◌+◌, ◌-◌, ◌<◌, ◌≤◌, true, sym, ap, subst, ◌∙◌, arith, inl, inr, List}
+use Rattle.std.specs.Prelude.{slice_index}
+use Rattle.std.proofs.lemmas.Bool.{cases_eq, cases_lt, cond-true, cond-false, lt-ltb, le-ltb, eq-eqb, ne_eqb}
 use Rattle.std.proofs.lemmas.Bool.Decides.{nat_tests}
-use Rattle.shm_words.specs.declared.geometry.Geometry.{Geometry}
 use Rattle.shm_words.specs.declared.place.Place.TheVariants as place
 use Rattle.shm_words.specs.Layout as layout
 use Rattle.shm_graph.specs.declared.spot.Spot.{Spot}
-use Rattle.shm_graph.specs.declared.spot.Spot.TheVariants.{Status, Home, Root, Slot, Page, Head, Tag, Body}
+use Rattle.shm_graph.specs.declared.spot.Spot.TheVariants.{Status, Home, Root, Slot}
 use Rattle.shm_graph.specs.Spots.{spot_at, spot_address, IsAt, classes_in, see}
 use Rattle.shm_graph.specs.Blocks.{classes}
 use Rattle.shm_graph.proofs.Seen.{see_at, at_seen}
-use Rattle.shm_graph.proofs.SpotPlaces.{seen_is_in, see_page, status_at, home_at, root_is_at, slot_is_at}
+use Rattle.shm_graph.proofs.SpotPlaces.{seen_is_in, see_page, status_at, home_at}
 use Rattle.shm_plain.specs.declared.pair.Pair.{Pair}
-use Rattle.shm_plain.specs.Cells.{Cell, cell_at, Shows, put_at, page_class, live_header, own_tag, bucket_word, directory_word, value_word, entry_word, ended}
-use Rattle.shm_plain.specs.Cells.Cell.{Status as AStatus, Home as AHome, Root as ARoot, Queue as AQueue, Page as APage, Value, Directory, Entry}
-use Rattle.shm_plain.proofs.CellAt.{cell_status, cell_home, cell_root, cell_queue, cell_page, cell_value, cell_directory, cell_entry}
-use Rattle.shm_plain.proofs.One.{one, one_fits, kind, head_one, value_head, value_tag, value_body, directory_head, directory_tag, directory_body, entry_head, entry_tag, entry_body}
-use Rattle.shm_plain.proofs.Filled.{IsOfPuts, Block, Filled}
+use Rattle.shm_plain.specs.Cells.{Cell, cell_at, Shows, page_class, bucket_word, directory_word, value_word, entry_word, ended}
+use Rattle.shm_plain.specs.Cells.Cell.{Home as AHome, Page as APage, Value, Directory, Entry}
+use Rattle.shm_plain.proofs.CellAt.{cell_status, cell_home, cell_root, cell_queue, cell_page}
+use Rattle.shm_plain.proofs.One.{one, one_fits, kind}
 
 -- ---- the words of cells after at least one put
 
@@ -57,16 +55,16 @@ class_value : (puts : List Pair) (k : ℕ) (ws : List ℕ) → k ≢ 0 → Shows
 unfolding layout.address
 class_value puts k ws n h s p =
     elim (cases_lt p 16) [
-      inl l ↦
-        elim (cases_eq s 0) [
-          inl e ↦
-            let a : layout.address one (place.Page s p) ≡ 34 + p = omega arith in
-            let w : slice_index ws (34 + p) ≡ page_class p = h.at (34 + p) (omega arith) (omega arith) (omega arith) ∙ (ap (ended puts k) (cell_page p l) ∙ page_cell puts k p n) in
-            let t : layout.is_in one (place.Page s p) ≡ true = grind (arith, nat_tests) in
-            cond-true _ _ _ t ∙ (ap (slice_index ws) a ∙ (w ∙ sym (cond-true _ _ _ (eq-eqb s 0 e))))
-        | inr e ↦ grind (arith, nat_tests)
-        ]
-    | inr l ↦ grind (arith, nat_tests)
+      | inl l ↦
+          elim (cases_eq s 0) [
+            | inl e ↦
+                let a : layout.address one (place.Page s p) ≡ 34 + p = omega arith in
+                let w : slice_index ws (34 + p) ≡ page_class p = h.at (34 + p) (omega arith) (omega arith) (omega arith) ∙ (ap (ended puts k) (cell_page p l) ∙ page_cell puts k p n) in
+                let t : layout.is_in one (place.Page s p) ≡ true = grind (arith, nat_tests) in
+                cond-true _ _ _ t ∙ (ap (slice_index ws) a ∙ (w ∙ sym (cond-true _ _ _ (eq-eqb s 0 e))))
+            | inr e ↦ grind (arith, nat_tests)
+          ]
+      | inr l ↦ grind (arith, nat_tests)
     ]
 
 class_function : (puts : List Pair) (k : ℕ) (ws : List ℕ) → k ≢ 0 → Shows ws (ended puts k) → classes_in one ws ≡ kind
@@ -106,22 +104,22 @@ pub root_seen : (puts : List Pair) (k : ℕ) (ws : List ℕ) → Shows ws (ended
 unfolding spot_address layout.address
 root_seen puts k ws h c i =
     elim (cases_eq (see one ws (Root c i)) 0) [
-      inl e ↦ e
-    | inr e ↦
-        let t = seen_is_in one ws (Root c i) one_fits e in
-        let u : (c ≡ 0) × (i < 16) = grind (arith, nat_tests) in
-        let a : spot_address one (Root c i) ≡ 7 + i = omega (arith, u.0) in
-        see_at one ws (Root c i) (at_seen one ws (Root c i) e) ∙ (ap (slice_index ws) a ∙ (h.at (7 + i) (omega (arith, u.1)) (omega arith) (omega arith) ∙ ap (ended puts k) (cell_root i u.1)))
+      | inl e ↦ e
+      | inr e ↦
+          let t = seen_is_in one ws (Root c i) one_fits e in
+          let u : (c ≡ 0) × (i < 16) = grind (arith, nat_tests) in
+          let a : spot_address one (Root c i) ≡ 7 + i = omega (arith, u.0) in
+          see_at one ws (Root c i) (at_seen one ws (Root c i) e) ∙ (ap (slice_index ws) a ∙ (h.at (7 + i) (omega (arith, u.1)) (omega arith) (omega arith) ∙ ap (ended puts k) (cell_root i u.1)))
     ]
 
 pub slot_seen : (puts : List Pair) (k : ℕ) (ws : List ℕ) → Shows ws (ended puts k) → (s r i : ℕ) → see one ws (Slot s r i) ≡ 0
 unfolding spot_address layout.address
 slot_seen puts k ws h s r i =
     elim (cases_eq (see one ws (Slot s r i)) 0) [
-      inl e ↦ e
-    | inr e ↦
-        let t = seen_is_in one ws (Slot s r i) one_fits e in
-        let u : (s ≡ 0) × (r ≡ 0) × (i < 8) = grind (arith, nat_tests) in
-        let a : spot_address one (Slot s r i) ≡ 23 + (2 + i) = omega (arith, u.0, u.1) in
-        see_at one ws (Slot s r i) (at_seen one ws (Slot s r i) e) ∙ (ap (slice_index ws) a ∙ (h.at (23 + (2 + i)) (omega (arith, u.2)) (omega arith) (omega arith) ∙ ap (ended puts k) (cell_queue (2 + i) (omega (arith, u.2)))))
+      | inl e ↦ e
+      | inr e ↦
+          let t = seen_is_in one ws (Slot s r i) one_fits e in
+          let u : (s ≡ 0) × (r ≡ 0) × (i < 8) = grind (arith, nat_tests) in
+          let a : spot_address one (Slot s r i) ≡ 23 + (2 + i) = omega (arith, u.0, u.1) in
+          see_at one ws (Slot s r i) (at_seen one ws (Slot s r i) e) ∙ (ap (slice_index ws) a ∙ (h.at (23 + (2 + i)) (omega (arith, u.2)) (omega arith) (omega arith) ∙ ap (ended puts k) (cell_queue (2 + i) (omega (arith, u.2)))))
     ]

@@ -8,3 +8,7 @@ pub mod FilledBlock
 pub mod FilledNames
 pub mod FilledCounts
 pub mod FilledClean
+pub mod EmptyPool
+pub mod Folding
+pub mod FilledTable
+pub mod Ending

@@ -1,17 +1,12 @@
 -- the spots of a pool of one client and one segment
-use Rattle.std.proofs.Common.{◌≡◌, ◌≢◌, ℕ, ◌+◌, ◌-◌, ◌*◌, ◌/◌, ◌%◌, ◌<◌, ◌≤◌, ◌==◌, true, false, refl, sym, ap, subst, ◌∙◌, arith, inl, inr, ◌⊎◌}
+use Rattle.std.proofs.Common.{◌≡◌, ◌≢◌, ℕ, ◌+◌, ◌*◌, ◌/◌, ◌%◌, ◌<◌, ◌==◌, refl, sym, ap, subst, ◌∙◌, arith, inl, inr, ◌⊎◌}
 use Rattle.std.specs.Prelude.{if◌then◌else◌}
-use Rattle.std.proofs.lemmas.Bool.{cases_eq}
 use Rattle.std.proofs.lemmas.Bool.Decides.{nat_tests}
 use Rattle.shm_words.specs.declared.geometry.Geometry.{Geometry}
-use Rattle.shm_words.specs.declared.place.Place.{Place}
 use Rattle.shm_words.specs.declared.place.Place.TheVariants as place
 use Rattle.shm_words.specs.Layout as layout
-use Rattle.shm_words.proofs.Placing.{in_place, address-place}
-use Rattle.shm_words.proofs.Regions.{body_at}
-use Rattle.shm_graph.specs.declared.spot.Spot.{Spot}
-use Rattle.shm_graph.specs.declared.spot.Spot.TheVariants.{Status, Home, Page, Unused, Head, Tag, Body}
-use Rattle.shm_graph.specs.Spots.{block_spot, spot_of, spot_at, spot_address, IsAt}
+use Rattle.shm_graph.specs.declared.spot.Spot.TheVariants.{Home, Head, Tag, Body}
+use Rattle.shm_graph.specs.Spots.{block_spot, spot_at, spot_address, IsAt}
 use Rattle.shm_graph.proofs.SpotPlaces.{body_spot_at, head_at_place}
 use Rattle.shm_plain.specs.Cells.{page_class}
 
@@ -101,7 +96,7 @@ head_one b at =
     let t = head_at_place one kind b b at in
     let x = body_parts b t.0 t.1 t.2 t.3 in
     elim (kind_cases t.0 t.1 t.4) [
-      inl u ↦ inl (in_values b t.2 x.1 (ap (λ (k : ℕ). t.2 % k) (sym u.1) ∙ t.5) (omega (arith, u.0, x.2)))
-    | inr (inl u) ↦ inr (inl (in_directory b t.2 x.1 (ap (λ (k : ℕ). t.2 % k) (sym u.1) ∙ t.5) (omega (arith, u.0, x.2))))
-    | inr (inr u) ↦ inr (inr (in_entries b t.2 x.1 (ap (λ (k : ℕ). t.2 % k) (sym u.1) ∙ t.5) (omega (arith, u.0, x.2))))
+      | inl u ↦ inl (in_values b t.2 x.1 (ap (λ (k : ℕ). t.2 % k) (sym u.1) ∙ t.5) (omega (arith, u.0, x.2)))
+      | inr (inl u) ↦ inr (inl (in_directory b t.2 x.1 (ap (λ (k : ℕ). t.2 % k) (sym u.1) ∙ t.5) (omega (arith, u.0, x.2))))
+      | inr (inr u) ↦ inr (inr (in_entries b t.2 x.1 (ap (λ (k : ℕ). t.2 % k) (sym u.1) ∙ t.5) (omega (arith, u.0, x.2))))
     ]
