@@ -1,17 +1,31 @@
 -- the places of spots, and the spots of places
-use Rattle.std.proofs.Common.{◌≡◌, ◌≢◌, ℕ, ◌+◌, ◌*◌, ◌%◌, ◌<◌, true, false, Bool, refl, sym, ap, subst, ◌∙◌, arith, inl, inr, List}
-use Rattle.std.proofs.lemmas.Bool.{cases_Bool, cases_eq, false≢true, cond-true, cond-false}
+use Rattle.std.proofs.Common.{◌≡◌, ◌≢◌, ℕ, ◌+◌, ◌*◌, ◌%◌, ◌<◌, ◌≤◌, true, false, Bool, refl, sym, ap, subst, ◌∙◌, arith, inl, inr, List}
+use Rattle.std.proofs.lemmas.Bool.{cases_lt, cases_eq, false≢true}
 use Rattle.std.proofs.lemmas.Bool.Decides.{nat_tests}
 use Rattle.shm_words.specs.declared.geometry.Geometry.{Geometry}
 use Rattle.shm_words.specs.declared.place.Place.{Place}
 use Rattle.shm_words.specs.declared.place.Place.TheVariants as place
 use Rattle.shm_words.specs.Layout as layout
-use Rattle.shm_words.proofs.Placing.{place-address}
+use Rattle.shm_words.proofs.Placing.{place-address, in_place}
 use Rattle.shm_words.proofs.Regions.{body_at}
 use Rattle.shm_graph.specs.declared.spot.Spot.{Spot}
 use Rattle.shm_graph.specs.declared.spot.Spot.TheVariants.{Status, Redo, Hold, Latch, Home, Era, Root, Tail, Front, Slot, Segment, Page, Head}
 use Rattle.shm_graph.specs.Spots.{block_spot, spot_of, spot_at, spot_address, IsAt, classes_in, see}
-use Rattle.shm_graph.proofs.Seen.{see_at, at_seen, place_in}
+use Rattle.shm_graph.proofs.Seeing.{seen_is_at}
+
+-- ---- places of addresses
+
+place_past : (g : Geometry) (a : ℕ) → layout.total_of g ≤ a → layout.place_at g a ≡ place.Spare
+unfolding layout.place_at
+place_past g a l = grind (arith, nat_tests)
+
+-- the pool has the place of any address
+pub place_in : (g : Geometry) (a : ℕ) → layout.GeometryFits g → layout.is_in g (layout.place_at g a) ≡ true
+place_in g a f =
+    elim (cases_lt a (layout.total_of g)) [
+      | inl l ↦ in_place g a f l
+      | inr l ↦ subst (λ (q : Place). layout.is_in g q ≡ true) (sym (place_past g a l)) refl
+    ]
 
 -- ---- from spots to places
 
@@ -59,7 +73,7 @@ pub at_is_in : (g : Geometry) (class : ℕ → ℕ → ℕ) (p : Spot) → layou
 at_is_in g class p f at = subst (λ (q : Spot). spot_in g q ≡ true) at (spot_is_in g class (spot_address g p) f)
 
 pub seen_is_in : (g : Geometry) (ws : List ℕ) (p : Spot) → layout.GeometryFits g → see g ws p ≢ 0 → spot_in g p ≡ true
-seen_is_in g ws p f h = at_is_in g (classes_in g ws) p f (at_seen g ws p h)
+seen_is_in g ws p f h = at_is_in g (classes_in g ws) p f (seen_is_at g ws p h)
 
 pub see_out : (g : Geometry) (ws : List ℕ) (p : Spot) → layout.GeometryFits g → spot_in g p ≡ false → see g ws p ≡ 0
 see_out g ws p f h =
@@ -93,27 +107,6 @@ status_at g class c h = spot-place g class (place.Status c) h
 pub home_at : (g : Geometry) (class : ℕ → ℕ → ℕ) (c : ℕ) → layout.is_in g (place.Home c) ≡ true → IsAt g class (Home c)
 unfolding spot_address
 home_at g class c h = spot-place g class (place.Home c) h
-
-pub root_is_at : (g : Geometry) (class : ℕ → ℕ → ℕ) (c k : ℕ) → layout.is_in g (place.Root c k) ≡ true → IsAt g class (Root c k)
-unfolding spot_address
-root_is_at g class c k h = spot-place g class (place.Root c k) h
-
-pub slot_is_at : (g : Geometry) (class : ℕ → ℕ → ℕ) (s r k : ℕ) → layout.is_in g (place.Slot s r k) ≡ true → IsAt g class (Slot s r k)
-unfolding spot_address
-slot_is_at g class s r k h = spot-place g class (place.Slot s r k) h
-
-pub page_is_at : (g : Geometry) (class : ℕ → ℕ → ℕ) (s p : ℕ) → layout.is_in g (place.Page s p) ≡ true → IsAt g class (Page s p)
-unfolding spot_address
-page_is_at g class s p h = spot-place g class (place.Page s p) h
-
--- the classes that are seen
-pub see_page : (g : Geometry) (ws : List ℕ) (s p : ℕ) → layout.GeometryFits g → see g ws (Page s p) ≡ classes_in g ws s p
-unfolding spot_address
-see_page g ws s p f =
-    elim (cases_Bool (layout.is_in g (place.Page s p))) [
-      | inl e ↦ see_at g ws (Page s p) (page_is_at g (classes_in g ws) s p e) ∙ sym (cond-true _ _ _ e)
-      | inr e ↦ see_out g ws (Page s p) f e ∙ sym (cond-false _ _ _ e)
-    ]
 
 -- the spot of word i of a page
 pub body_spot_at : (g : Geometry) (class : ℕ → ℕ → ℕ) (s p i : ℕ) → s < g.segments → p < 16 → i < 128 → spot_at g class (layout.bodies g + 2048 * s + 128 * p + i) ≡ block_spot (class s p) (layout.bodies g + 2048 * s + 128 * p + i) i

@@ -14,8 +14,8 @@ use Rattle.shm_graph.specs.Blocks.{headers, IsLive}
 use Rattle.shm_graph.specs.References.{references}
 use Rattle.shm_graph.specs.Clean.{IsClean}
 use Rattle.shm_graph.specs.Tables.{IsTable}
-use Rattle.shm_graph.proofs.Seen.{at_seen}
-use Rattle.shm_graph.proofs.SpotPlaces.{see_page, head_at_place}
+use Rattle.shm_graph.proofs.Seeing.{seen_is_at, see_page}
+use Rattle.shm_graph.proofs.SpotPlaces.{head_at_place}
 use Rattle.shm_plain.specs.declared.pair.Pair.{Pair}
 use Rattle.shm_plain.specs.Cells.{Shows, ended}
 use Rattle.shm_plain.proofs.CellAt.{cell_page}
@@ -45,7 +45,7 @@ no_head puts ws h b =
     elim (cases_eq (see one ws (Head b)) 0) [
       | inl e ↦ e
       | inr e ↦
-          let t = head_at_place one (classes_in one ws) b b (at_seen one ws (Head b) e) in
+          let t = head_at_place one (classes_in one ws) b b (seen_is_at one ws (Head b) e) in
           absurd (t.4 (no_class puts ws h t.0 t.1))
     ]
 
@@ -69,7 +69,7 @@ no_name puts ws h p n = n refl
 pub empty_clean : (puts : List Pair) (ws : List ℕ) → Shows ws (ended puts 0) → IsClean one (see one ws)
 empty_clean puts ws h = record {
   statuses = λ c l. inr (ap (λ (c : ℕ). see one ws (Status c)) (let e : c ≡ 0 = omega arith in e) ∙ status_seen puts 0 ws h);
-  pages = λ s p. inl (see_page one ws s p one_fits ∙ no_class puts ws h s p);
+  pages = λ s p. inl (see_page one ws one_fits s p ∙ no_class puts ws h s p);
   heads = λ b n. absurd (n (no_head puts ws h b));
   tags = λ b l. absurd (no_live puts ws h b l);
   targets = λ p n. absurd (no_name puts ws h p n);

@@ -7,7 +7,7 @@ use Rattle.shm_graph.specs.Spots.{spot_at, spot_address}
 use Rattle.shm_graph.specs.Blocks.{classes}
 use Rattle.shm_graph.specs.References.{references, references_to}
 use Rattle.shm_graph.proofs.Sums.{one_reference}
-use Rattle.shm_graph.proofs.Seen.{address-spot}
+use Rattle.shm_graph.proofs.Spotting.{address-spot}
 use Rattle.shm_words.specs.declared.geometry.Geometry.{Geometry}
 use Rattle.shm_plain.specs.declared.pair.Pair.{Pair}
 use Rattle.shm_plain.specs.Puts.{bucket_of, AreApart}

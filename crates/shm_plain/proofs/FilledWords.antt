@@ -9,8 +9,8 @@ use Rattle.shm_graph.specs.declared.spot.Spot.{Spot}
 use Rattle.shm_graph.specs.declared.spot.Spot.TheVariants.{Status, Home, Root, Slot}
 use Rattle.shm_graph.specs.Spots.{spot_at, spot_address, IsAt, classes_in, see}
 use Rattle.shm_graph.specs.Blocks.{classes}
-use Rattle.shm_graph.proofs.Seen.{see_at, at_seen}
-use Rattle.shm_graph.proofs.SpotPlaces.{seen_is_in, see_page, status_at, home_at}
+use Rattle.shm_graph.proofs.Seeing.{see_there, seen_is_at, classes-see}
+use Rattle.shm_graph.proofs.SpotPlaces.{seen_is_in, status_at, home_at}
 use Rattle.shm_plain.specs.declared.pair.Pair.{Pair}
 use Rattle.shm_plain.specs.Cells.{Cell, cell_at, Shows, page_class, bucket_word, directory_word, value_word, entry_word, ended}
 use Rattle.shm_plain.specs.Cells.Cell.{Home as AHome, Page as APage, Value, Directory, Entry}
@@ -76,26 +76,26 @@ class_function puts k ws n h = λ i s p. class_value puts k ws n h s p i
 pub seen : (puts : List Pair) (k : ℕ) (ws : List ℕ) → k ≢ 0 → Shows ws (ended puts k) → (p : Spot) (a : ℕ) (c : Cell) → spot_at one kind a ≡ p → spot_address one p ≡ a → a < 2098 → 3 < a → cell_at a ≡ c → see one ws p ≡ ended puts k c
 seen puts k ws n h p a c at e l m q =
     let at' : IsAt one (classes_in one ws) p = subst (λ (class : ℕ → ℕ → ℕ). IsAt one class p) (sym (class_function puts k ws n h)) (ap (spot_at one kind) e ∙ at) in
-    see_at one ws p at' ∙ (ap (slice_index ws) e ∙ (h.at a l (omega arith) (omega arith) ∙ ap (ended puts k) q))
+    see_there one ws p at' ∙ (ap (slice_index ws) e ∙ (h.at a l (omega arith) (omega arith) ∙ ap (ended puts k) q))
 
 -- a spot at which something is seen is a spot of the pool
 pub seen_at : (puts : List Pair) (k : ℕ) (ws : List ℕ) → k ≢ 0 → Shows ws (ended puts k) → (p : Spot) → see one ws p ≢ 0 → IsAt one kind p
-seen_at puts k ws n h p s = subst (λ (class : ℕ → ℕ → ℕ). IsAt one class p) (class_function puts k ws n h) (at_seen one ws p s)
+seen_at puts k ws n h p s = subst (λ (class : ℕ → ℕ → ℕ). IsAt one class p) (class_function puts k ws n h) (seen_is_at one ws p s)
 
 pub pages_seen : (puts : List Pair) (k : ℕ) (ws : List ℕ) → k ≢ 0 → Shows ws (ended puts k) → classes (see one ws) ≡ kind
-pages_seen puts k ws n h = λ i s p. (see_page one ws s p one_fits ∙ class_value puts k ws n h s p) i
+pages_seen puts k ws n h = classes-see one ws one_fits ∙ class_function puts k ws n h
 
 pub status_seen : (puts : List Pair) (k : ℕ) (ws : List ℕ) → Shows ws (ended puts k) → see one ws (Status 0) ≡ 3
 unfolding spot_address layout.address
 status_seen puts k ws h =
     let t : layout.is_in one (place.Status 0) ≡ true = grind (arith, nat_tests) in
-    see_at one ws (Status 0) (status_at one (classes_in one ws) 0 t) ∙ (h.at 1 (omega arith) (omega arith) (omega arith) ∙ ap (ended puts k) cell_status)
+    see_there one ws (Status 0) (status_at one (classes_in one ws) 0 t) ∙ (h.at 1 (omega arith) (omega arith) (omega arith) ∙ ap (ended puts k) cell_status)
 
 pub home_seen : (puts : List Pair) (k : ℕ) (ws : List ℕ) → Shows ws (ended puts k) → see one ws (Home 0) ≡ ended puts k AHome
 unfolding spot_address layout.address
 home_seen puts k ws h =
     let t : layout.is_in one (place.Home 0) ≡ true = grind (arith, nat_tests) in
-    see_at one ws (Home 0) (home_at one (classes_in one ws) 0 t) ∙ (h.at 5 (omega arith) (omega arith) (omega arith) ∙ ap (ended puts k) cell_home)
+    see_there one ws (Home 0) (home_at one (classes_in one ws) 0 t) ∙ (h.at 5 (omega arith) (omega arith) (omega arith) ∙ ap (ended puts k) cell_home)
 
 pub homes_seen : (ws : List ℕ) (c : ℕ) → see one ws (Home c) ≢ 0 → c ≡ 0
 homes_seen ws c n = let t = seen_is_in one ws (Home c) one_fits n in grind (arith, nat_tests)
@@ -109,7 +109,7 @@ root_seen puts k ws h c i =
           let t = seen_is_in one ws (Root c i) one_fits e in
           let u : (c ≡ 0) × (i < 16) = grind (arith, nat_tests) in
           let a : spot_address one (Root c i) ≡ 7 + i = omega (arith, u.0) in
-          see_at one ws (Root c i) (at_seen one ws (Root c i) e) ∙ (ap (slice_index ws) a ∙ (h.at (7 + i) (omega (arith, u.1)) (omega arith) (omega arith) ∙ ap (ended puts k) (cell_root i u.1)))
+          see_there one ws (Root c i) (seen_is_at one ws (Root c i) e) ∙ (ap (slice_index ws) a ∙ (h.at (7 + i) (omega (arith, u.1)) (omega arith) (omega arith) ∙ ap (ended puts k) (cell_root i u.1)))
     ]
 
 pub slot_seen : (puts : List Pair) (k : ℕ) (ws : List ℕ) → Shows ws (ended puts k) → (s r i : ℕ) → see one ws (Slot s r i) ≡ 0
@@ -121,5 +121,5 @@ slot_seen puts k ws h s r i =
           let t = seen_is_in one ws (Slot s r i) one_fits e in
           let u : (s ≡ 0) × (r ≡ 0) × (i < 8) = grind (arith, nat_tests) in
           let a : spot_address one (Slot s r i) ≡ 23 + (2 + i) = omega (arith, u.0, u.1) in
-          see_at one ws (Slot s r i) (at_seen one ws (Slot s r i) e) ∙ (ap (slice_index ws) a ∙ (h.at (23 + (2 + i)) (omega (arith, u.2)) (omega arith) (omega arith) ∙ ap (ended puts k) (cell_queue (2 + i) (omega (arith, u.2)))))
+          see_there one ws (Slot s r i) (seen_is_at one ws (Slot s r i) e) ∙ (ap (slice_index ws) a ∙ (h.at (23 + (2 + i)) (omega (arith, u.2)) (omega arith) (omega arith) ∙ ap (ended puts k) (cell_queue (2 + i) (omega (arith, u.2)))))
     ]
