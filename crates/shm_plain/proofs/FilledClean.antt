@@ -12,7 +12,7 @@ use Rattle.shm_plain.specs.declared.pair.Pair.{Pair}
 use Rattle.shm_plain.specs.Puts.{AreApart}
 use Rattle.shm_plain.proofs.One.{one, kind}
 use Rattle.shm_plain.proofs.Filled.{IsOfPuts, Block, Filled}
-use Rattle.shm_plain.proofs.FilledBlock.{IsSmall, tag_at, live_seen, client_seen, count_seen, tag_seen}
+use Rattle.shm_plain.proofs.OneBlock.{IsSmall, tag_at, live_seen, client_seen, count_seen, tag_seen}
 use Rattle.shm_plain.proofs.FilledNames.{IsName, name_cases, live_of_puts, value_small, directory_small, entry_small}
 use Rattle.shm_plain.proofs.FilledCounts.{block_named}
 

@@ -11,7 +11,7 @@ use Rattle.shm_plain.specs.Puts.{bucket_of}
 use Rattle.shm_plain.specs.Cells.{put_at, bucket_word}
 use Rattle.shm_plain.proofs.Buckets.{IsIn, bucket_cases}
 use Rattle.shm_plain.proofs.Filled.{IsOfPuts, Filled}
-use Rattle.shm_plain.proofs.FilledBlock.{IsSmall, refs_seen}
+use Rattle.shm_plain.proofs.OneBlock.{IsSmall, refs_seen}
 
 -- the home names the directory, a bucket the entry of a put with a key there, and an entry its value
 abbrev pub IsName : List Pair → ℕ → Spot → ℕ → Type 0

@@ -11,7 +11,7 @@ use Rattle.shm_plain.specs.Puts.{PairFits}
 use Rattle.shm_plain.specs.Cells.{put_at}
 use Rattle.shm_plain.proofs.One.{one}
 use Rattle.shm_plain.proofs.Filled.{Block, Filled}
-use Rattle.shm_plain.proofs.FilledBlock.{IsSmall, live_seen, names_seen, plain_seen, author_seen}
+use Rattle.shm_plain.proofs.OneBlock.{IsSmall, live_seen, names_seen, plain_seen, author_seen}
 use Rattle.shm_plain.proofs.FilledNames.{value_small, directory_small, entry_small, bucket_names, entry_names}
 use Rattle.shm_plain.proofs.Buckets.{IsIn}
 use Rattle.shm_plain.proofs.Folding.{entry_of, chain_of, chain_cases}

@@ -4,7 +4,7 @@ pub mod Buckets
 pub mod Filled
 pub mod FilledWords
 pub mod FilledBlocks
-pub mod FilledBlock
+pub mod OneBlock
 pub mod FilledNames
 pub mod FilledCounts
 pub mod FilledClean
