@@ -1,2 +1,16 @@
 pub mod Celling
 pub mod Nexts
+pub mod CellAt
+pub mod One
+pub mod Buckets
+pub mod Filled
+pub mod FilledWords
+pub mod FilledBlocks
+pub mod OneBlock
+pub mod FilledNames
+pub mod FilledCounts
+pub mod FilledClean
+pub mod EmptyPool
+pub mod Folding
+pub mod FilledTable
+pub mod Ending

@@ -1,5 +1,5 @@
 -- the words of a pool of one client and one segment, in which values, the directory and entries have a page each
-use Rattle.std.specs.Prelude.{◌≡◌, ◌≢◌, ℕ, zero, suc, ◌+◌, ◌-◌, ◌*◌, ◌/◌, ◌%◌, ◌<◌, Bool, true, false, ◌&&◌, ◌==◌, nat_lt, if◌then◌else◌, List, length, slice_index, slice_index_or}
+use Rattle.std.specs.Prelude.{◌≡◌, ◌≢◌, ℕ, zero, suc, ◌+◌, ◌-◌, ◌*◌, ◌/◌, ◌%◌, ◌<◌, Bool, true, false, ◌&&◌, ◌==◌, nat_lt, if◌then◌else◌, List, [], ◌∷◌, ◌++◌, length, slice_index, slice_index_or}
 use Rattle.shm_words.specs.Headers.{header_word}
 use Rattle.shm_words.specs.Tags.{tag_word}
 use Rattle.shm_plain.specs.declared.pair.Pair.{Pair}
@@ -137,6 +137,10 @@ ended puts k Status = 3
 ended puts k Segment = 0
 ended puts k c = after puts k c
 
--- the value blocks of the first k puts, in order
+-- the value block of put i, and those of the first n puts, in order
 abbrev pub blocks_of : ℕ → ℕ
 blocks_of i = values + 4 * i
+
+abbrev pub first_blocks : ℕ → List ℕ
+first_blocks zero = []
+first_blocks (suc n) = first_blocks n ++ blocks_of n ∷ []

@@ -1,0 +1,4 @@
+pub mod Spotting
+pub mod Seeing
+pub mod Sums
+pub mod SpotPlaces

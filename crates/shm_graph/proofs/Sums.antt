@@ -1,0 +1,40 @@
+-- sums in which one term counts, and how many words name a block
+use Rattle.std.proofs.Common.{◌≡◌, ◌≢◌, ℕ, ◌<◌, zero, suc, refl, sym, ap, ◌∙◌, arith, inl, inr}
+use Rattle.std.specs.Prelude.{◌==◌}
+use Rattle.std.proofs.lemmas.Bool.{cases_eq, eq-eqb, ne_eqb}
+use Rattle.shm_words.specs.declared.geometry.Geometry.{Geometry}
+use Rattle.shm_words.specs.Layout.{total_of}
+use Rattle.shm_graph.specs.declared.spot.Spot.{Spot}
+use Rattle.shm_graph.specs.Spots.{spot_at}
+use Rattle.shm_graph.specs.References.{sum_below, one_if, references_to}
+
+pub sum_none : (n : ℕ) (f : ℕ → ℕ) → ((a : ℕ) → a < n → f a ≡ 0) → sum_below n f ≡ 0
+sum_none zero f h = refl
+sum_none (suc n) f h =
+    let i = sum_none n f (λ a l. h a (omega arith)) in
+    let e = h n (omega arith) in
+    omega arith
+
+pub sum_one : (n : ℕ) (f : ℕ → ℕ) (x : ℕ) → x < n → f x ≡ 1 → ((a : ℕ) → a < n → a ≢ x → f a ≡ 0) → sum_below n f ≡ 1
+sum_one zero f x l e h = absurd (omega arith)
+sum_one (suc n) f x l e h =
+    elim (cases_eq x n) [
+      | inl d ↦
+          let i = sum_none n f (λ a l. h a (omega arith) (omega arith)) in
+          let f' : f n ≡ 1 = sym (ap f d) ∙ e in
+          omega arith
+      | inr d ↦
+          let l' : x < n = omega (arith, d) in
+          let i = sum_one n f x l' e (λ a l. h a (omega arith)) in
+          let f' = h n (omega arith) (λ q. d (sym q)) in
+          omega arith
+    ]
+
+-- a number that a function takes at one place below n
+pub one_hit : (n : ℕ) (t : ℕ → ℕ) (b x : ℕ) → x < n → t x ≡ b → ((a : ℕ) → a < n → t a ≡ b → a ≡ x) → sum_below n (λ a. one_if (t a == b)) ≡ 1
+one_hit n t b x l e h =
+    sum_one n (λ a. one_if (t a == b)) x l (ap one_if (eq-eqb (t x) b e)) (λ a m d. ap one_if (ne_eqb (t a) b (λ q. d (h a m q))))
+
+pub one_reference : (g : Geometry) (class : ℕ → ℕ → ℕ) (t : Spot → ℕ) (b x : ℕ) → x < total_of g → t (spot_at g class x) ≡ b → ((a : ℕ) → a < total_of g → t (spot_at g class a) ≡ b → a ≡ x) → references_to g class t b ≡ 1
+unfolding references_to
+one_reference g class t b x l e h = one_hit (total_of g) (λ a. t (spot_at g class a)) b x l e h
