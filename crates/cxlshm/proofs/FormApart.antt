@@ -1,5 +1,5 @@
 -- A put whose bucket an earlier one has, and one whose bucket none has.
-use Rattle.std.proofs.Common.{◌≡◌, ◌≢◌, ℕ, ◌+◌, ◌<◌, ◌≤◌, List, length, take, get_or, sym, ap, ◌∙◌, arith, Bool, true, false, length-take, below_more}
+use Rattle.std.proofs.Common.{◌≡◌, ◌≢◌, ℕ, ◌+◌, ◌<◌, List, length, take, get_or, sym, ap, ◌∙◌, arith, length-take, below_more}
 use Rattle.std.specs.List.{Any}
 use Rattle.std.proofs.lemmas.List.{get_or_default, get_or-take}
 use Rattle.shm_plain.specs.declared.pair.Pair.{Pair}

@@ -1,5 +1,5 @@
 -- The first two lines of a trace, and that a trace is ASCII.
-use Rattle.std.proofs.Common.{◌≡◌, ◌≢◌, ℕ, ◌^◌, ◌<◌, List, [], ◌∷◌, ◌++◌, length, Option, Some, None, Result, Ok, Err, MatchOption, MatchResult, Bor, codes, sym, arith, lit<, append_assoc, ◌∙◌, refl, rules}
+use Rattle.std.proofs.Common.{◌≡◌, ◌≢◌, ℕ, ◌<◌, List, [], ◌∷◌, ◌++◌, Option, Some, None, Result, Ok, Err, MatchOption, MatchResult, Bor, codes, arith, rules}
 use Rattle.std.specs.Fmt.{decimal}
 use Rattle.std.specs.List.{All, AllByRecursion, flat_map}
 use Rattle.std.specs.Result.{result_ok}
@@ -26,12 +26,12 @@ ascii_put put fits =
     let number : IsAscii (decimal put.number) = IsAscii-decimal put.number fits.number in
     let blank : IsAscii (codes " ") = ascii_literal (codes " ") (search rules) in
     IsAscii-append (put_text put) (10 ∷ [])
-      (IsAscii-append (codes "put " ++ decimal put.key ++ codes " ") (decimal put.number)
-        (IsAscii-append (codes "put " ++ decimal put.key) (codes " ")
-          (IsAscii-append (codes "put ") (decimal put.key) (ascii_literal (codes "put ") (search rules)) key)
-          blank)
-        number)
-      (ascii_literal (10 ∷ []) (search rules))
+    (IsAscii-append (codes "put " ++ decimal put.key ++ codes " ") (decimal put.number)
+    (IsAscii-append (codes "put " ++ decimal put.key) (codes " ")
+    (IsAscii-append (codes "put ") (decimal put.key) (ascii_literal (codes "put ") (search rules)) key)
+    blank)
+    number)
+    (ascii_literal (10 ∷ []) (search rules))
 
 -- lines of puts are ASCII
 pub ascii_lines : (puts : List Pair) → All PairFits puts → IsAscii (flat_map put_line puts)

@@ -1,5 +1,5 @@
 -- Lines of puts: where the first one ends, and what is left behind it.
-use Rattle.std.proofs.Common.{◌≡◌, ◌≢◌, ℕ, ◌+◌, ◌-◌, ◌^◌, ◌<◌, ◌≤◌, List, [], ◌∷◌, ◌++◌, length, get_or, Option, Some, None, MatchOption, Bor, codes, refl, sym, arith, lit<, append_assoc, ◌∙◌, ap}
+use Rattle.std.proofs.Common.{◌≡◌, ◌≢◌, ℕ, ◌^◌, ◌<◌, List, [], ◌∷◌, ◌++◌, length, get_or, Option, Some, None, MatchOption, Bor, codes, refl, sym, arith, lit<, append_assoc, ◌∙◌, ap}
 use Rattle.std.specs.List.{All, flat_map}
 use Rattle.std.specs.Fmt.{decimal}
 use Rattle.std.specs.Str.{IsUtf8}
@@ -60,8 +60,8 @@ pub record IsLineFirst (line others : List ℕ) : Type 0 where
 line_cut : (text : List ℕ) (r : Option (Bor (List ℕ) × Bor (List ℕ))) → IsSplitOnceResult 10 text r → (put : Pair) (puts : List Pair) → PairFits put → text ≡ flat_map put_line (put ∷ puts) → MatchOption r ⊥ (λ x. (x.0.now ≡ put_text put) × (x.1.now ≡ flat_map put_line puts))
 line_cut text r split put puts fits is =
     split_after 10 text (put_text put) (flat_map put_line puts) r split (lit< tt)
-      (is ∙ append_assoc (put_text put) (10 ∷ []) (flat_map put_line puts))
-      (lacks_at (put_text_lacks put fits))
+    (is ∙ append_assoc (put_text put) (10 ∷ []) (flat_map put_line puts))
+    (lacks_at (put_text_lacks put fits))
 
 pub no_cut : (front back : List ℕ) → front ++ (10 ∷ back) ≢ []
 no_cut [] back is = cc

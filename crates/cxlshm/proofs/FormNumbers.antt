@@ -1,7 +1,6 @@
 -- Decimal numbers in a trace: what `parse` and two tests of the first digit say of a text.
-use Rattle.std.proofs.Common.{◌≡◌, ◌≢◌, ℕ, ◌^◌, ◌<◌, ◌≤◌, suc, zero, List, length, get_or, Result, Ok, Err, Option, Some, None, MatchOption, arith, lit<, sym, ◌∙◌, ap}
+use Rattle.std.proofs.Common.{◌≡◌, ◌≢◌, ℕ, ◌^◌, ◌<◌, suc, zero, List, length, get_or, Result, Ok, Err, MatchOption, arith, lit<, sym, ◌∙◌, ap}
 use Rattle.std.specs.Fmt.{decimal}
-use Rattle.std.specs.Int.{IsInRange}
 use Rattle.std.specs.Result.{OkIff, result_ok}
 use Rattle.std.specs.Str.Parse.{AllDigits, digits_value, ParsesUnsigned}
 use Rattle.std.proofs.lemmas.Str.Parse.{IsNumeralModel, numerals_by_value, tells_digits, not_in_digits, parse_plain}

@@ -1,5 +1,5 @@
 -- The words of a put: what `strip_prefix` and `split_once` give of its text.
-use Rattle.std.proofs.Common.{◌≡◌, ◌≢◌, ℕ, ◌^◌, ◌<◌, List, [], ◌∷◌, ◌++◌, length, Option, Some, None, MatchOption, Bor, codes, sym, arith, lit<, append_assoc, ◌∙◌, ap}
+use Rattle.std.proofs.Common.{◌≡◌, ℕ, List, [], ◌∷◌, ◌++◌, Option, MatchOption, Bor, codes, sym, arith, lit<, append_assoc, ◌∙◌, ap}
 use Rattle.std.specs.Fmt.{decimal}
 use Rattle.std.specs.Str.Pattern.{FindsTextPrefix, StripsPrefix}
 use Rattle.std.proofs.lemmas.Str.Pattern.{IsSplitOnceResult, split_after}

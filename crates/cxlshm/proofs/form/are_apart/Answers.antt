@@ -1,4 +1,3 @@
-use Rattle.std.proofs.Common.{arith}
 use Rattle.cxlshm.proofs.FormApart.{not_apart, apart_more}
 use Rattle.cxlshm.proofs.form.are_apart.Goals as goal
 

@@ -1,4 +1,4 @@
-use Rattle.std.proofs.Common.{List, Some, None, Bor, ℕ, arith}
+use Rattle.std.proofs.Common.{List, Some, Bor, ℕ, arith}
 use Rattle.std.proofs.lemmas.Bool.Decides.{nat_tests}
 use Rattle.shm_plain.specs.Puts.{PairFits}
 use Rattle.cxlshm.proofs.FormLines.{first_line, line_read, others_text, all_read, half_line}
@@ -26,5 +26,6 @@ returns c =
     let rest = c.loop-line.rest.now in
     let so_far = c.loop-line.invariant.0 in
     elim c.if-is_empty.branch [
-      then-is_empty w ↦ rw w.result-is (all_read text puts rest so_far (grind (arith, nat_tests)), so_far.fit)
-    | else-is_empty w ↦ rw w.result-is (half_line text puts rest so_far c.in_default.ensures.cases (grind (arith, nat_tests))) ]
+      | then-is_empty w ↦ rw w.result-is (all_read text puts rest so_far (grind (arith, nat_tests)), so_far.fit)
+      | else-is_empty w ↦ rw w.result-is (half_line text puts rest so_far c.in_default.ensures.cases (grind (arith, nat_tests)))
+    ]
