@@ -1,0 +1,6 @@
+pub mod FormApart
+pub mod FormHead
+pub mod FormLines
+pub mod FormNumbers
+pub mod FormPut
+pub mod FormWhole
