@@ -37,7 +37,7 @@ pub fn read_to_limit<S: Source>(
     while bytes.len() < limit {
         let room = limit - bytes.len();
         if read_piece(source, &mut bytes, room)? == 0 {
-            break;
+            return Ok(bytes);
         }
     }
     Ok(bytes)
