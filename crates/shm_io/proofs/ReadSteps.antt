@@ -9,8 +9,7 @@ use Rattle.shm_io.specs.Reading.{ReadsOn, TakesFront}
 pub ReadsOn-more : (a b c : Option (List ℕ)) (bytes more : List ℕ) (k n : ℕ) → ReadsOn a b [] bytes k → ReadsOn b c bytes more n → ReadsOn a c [] more (k + n)
 ReadsOn-more None b c bytes more k n first next = rw first at next
 ReadsOn-more (Some left) b c bytes more k n first next =
-    let then : ReadsOn (Some (drop k left)) c bytes more n = subst (λ o. ReadsOn o c bytes more n) first.1 next in
-    (
+    let then : ReadsOn (Some (drop k left)) c bytes more n = subst (λ o. ReadsOn o c bytes more n) first.1 next in (
       omega (arith, length-drop k left, then.0, first.0),
       then.1 ∙ ap Some (drop-drop n k left),
       then.2 ∙ ap (λ p. p ++ take n (drop k left)) first.2 ∙ sym (take-add k n left),

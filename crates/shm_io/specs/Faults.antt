@@ -9,7 +9,7 @@ next_count n = min (n + 1) (2 ^ 64 - 1)
 abbrev pub Rose : ℕ → ℕ → Type 0
 Rose before after = (before < after) ⊎ (after ≡ 2 ^ 64 - 1)
 
--- no fault: the count didn't rise, and doesn't stand at its end
+-- no fault: the count of faults is as it was, and doesn't stand at its end
 pub record NoFault (before after : ℕ) : Type 0 where
   pub same : after ≡ before
   pub not_at_end : after ≢ 2 ^ 64 - 1

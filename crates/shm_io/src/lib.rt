@@ -23,3 +23,6 @@ pub use sink::Sink;
 pub use source::Source;
 pub use standard::{StdSink, StdSource};
 pub use writing::write_all;
+
+#[cfg(test)]
+mod tests;

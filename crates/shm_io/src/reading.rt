@@ -2,10 +2,13 @@
 ghost use Rattle.std.specs.Prelude.{◌≡◌, ◌<◌, ◌≤◌, ◌+◌, length, vec_len, IfOk, OnOk, IfErr, OnErr};
 ghost use Rattle.std.specs.Io.KnownBytes.{IsAtEnd};
 ghost use Rattle.shm_io.specs.Reading.{TakesFront, LosesFront, ReadsOn};
+ghost use Rattle.shm_io.specs.declared.reading.ReadStop.TheVariants.{Memory, Fault};
 ghost use Rattle.shm_io.specs.Stops.{HasCause};
 
 use crate::{Failed, Source};
 use std::alloc::{AllocError, Global};
+use std::error::Error;
+use std::fmt;
 
 /// The bytes that are asked for in one read.
 const PIECE: usize = 4096;
@@ -17,6 +20,33 @@ pub enum ReadStop {
     Memory(AllocError),
     /// A read failed.
     Fault(Failed),
+}
+
+impl fmt::Display for ReadStop {
+    fn fmt<W: fmt::Write>(&self, f: &mut fmt::Formatter<W>) -> fmt::Result {
+        match self {
+            ReadStop::Memory(_) => write!(f, "no memory for the bytes"),
+            ReadStop::Fault(_) => write!(f, "a read failed"),
+        }
+    }
+}
+
+impl Error for ReadStop {}
+
+impl From<AllocError> for ReadStop {
+    ghost from_gives = { λ e stop. stop ≡ Memory e };
+
+    fn from(e: AllocError) -> Self {
+        ReadStop::Memory(e)
+    }
+}
+
+impl From<Failed> for ReadStop {
+    ghost from_gives = { λ e stop. stop ≡ Fault e };
+
+    fn from(e: Failed) -> Self {
+        ReadStop::Fault(e)
+    }
 }
 
 /// Reads a source to its end, but takes at most `limit` bytes, and answers the bytes in order. It asks for no
@@ -60,9 +90,7 @@ fn read_piece<S: Source>(
 {
     let mut piece = [0u8; PIECE];
     let asked = room.min(PIECE);
-    let n = source.read(&mut piece[..asked]).map_err(ReadStop::Fault)?;
-    bytes
-        .extend_from_slice(&piece[..n])
-        .map_err(ReadStop::Memory)?;
+    let n = source.read(&mut piece[..asked])?;
+    bytes.extend_from_slice(&piece[..n])?;
     Ok(n)
 }

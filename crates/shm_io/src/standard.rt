@@ -1,6 +1,6 @@
 //! Standard input and output as a source and a sink. This is the trusted edge: no clause says which bytes
 //! reach or leave the system.
-ghost use Rattle.std.specs.Prelude.{None};
+ghost use Rattle.std.specs.Prelude.{◌≡◌, None};
 
 use crate::{Failed, Sink, Source};
 use std::io::Read;
@@ -14,7 +14,9 @@ pub struct StdSource<R: Read + Drop> {
 
 impl<R: Read + Drop> StdSource<R> {
     /// The runtime's standard input, with no fault yet.
-    pub fn new<I: Input<Reader = R>>(rt: &I) -> StdSource<R> {
+    pub fn new<I: Input<Reader = R>>(rt: &I) -> StdSource<R>
+        ensures { ⟦<StdSource<R> as Source>⟧.faults result ≡ 0 }
+    {
         StdSource {
             reader: rt.reader(),
             faults: 0,
@@ -47,7 +49,9 @@ pub struct StdSink<'a, P: Print> {
 
 impl<'a, P: Print> StdSink<'a, P> {
     /// The runtime's standard output, with no fault yet.
-    pub fn new(rt: &'a P) -> StdSink<'a, P> {
+    pub fn new(rt: &'a P) -> StdSink<'a, P>
+        ensures { ⟦<StdSink<'a, P> as Sink>⟧.faults result ≡ 0 }
+    {
         StdSink { rt, faults: 0 }
     }
 }
