@@ -1,0 +1,3 @@
+pub mod FaultCases
+pub mod ReadSteps
+pub mod WriteSteps

@@ -1,0 +1,6 @@
+pub mod Faults
+pub mod Reading
+pub mod Stops
+pub mod Store
+pub mod Supply
+pub mod Writing

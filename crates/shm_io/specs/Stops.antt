@@ -1,0 +1,10 @@
+-- Why a reading stopped before its end.
+use Rattle.std.specs.Prelude.{◌≡◌, ℕ}
+use Rattle.shm_io.specs.Faults.{Rose}
+use Rattle.shm_io.specs.declared.reading.ReadStop.{ReadStop}
+use Rattle.shm_io.specs.declared.reading.ReadStop.TheVariants.{Memory, Fault}
+
+-- a fault is told only where the count of faults rose, and want of memory only where it stayed
+abbrev pub HasCause : ℕ → ℕ → ReadStop → Type 0
+HasCause before after (Memory _) = after ≡ before
+HasCause before after (Fault _) = Rose before after

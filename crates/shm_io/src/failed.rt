@@ -1,0 +1,16 @@
+//! The one error of a source and of a sink.
+
+use std::error::Error;
+use std::fmt;
+
+/// A read or a write failed, and nothing moved.
+#[derive(Clone, Copy, Debug, PartialEq, Eq)]
+pub struct Failed;
+
+impl fmt::Display for Failed {
+    fn fmt<W: fmt::Write>(&self, f: &mut fmt::Formatter<W>) -> fmt::Result {
+        write!(f, "a read or a write failed")
+    }
+}
+
+impl Error for Failed {}

@@ -1,0 +1,96 @@
+//! A whole reading of a source, up to a limit.
+ghost use Rattle.std.specs.Prelude.{◌≡◌, ◌<◌, ◌≤◌, ◌+◌, length, vec_len, IfOk, OnOk, IfErr, OnErr};
+ghost use Rattle.std.specs.Io.KnownBytes.{IsAtEnd};
+ghost use Rattle.shm_io.specs.Reading.{TakesFront, LosesFront, ReadsOn};
+ghost use Rattle.shm_io.specs.declared.reading.ReadStop.TheVariants.{Memory, Fault};
+ghost use Rattle.shm_io.specs.Stops.{HasCause};
+
+use crate::{Failed, Source};
+use std::alloc::{AllocError, Global};
+use std::error::Error;
+use std::fmt;
+
+/// The bytes that are asked for in one read.
+const PIECE: usize = 4096;
+
+/// Why a reading stopped before its end.
+#[derive(Clone, Copy, Debug, PartialEq, Eq)]
+pub enum ReadStop {
+    /// There was no memory for the bytes.
+    Memory(AllocError),
+    /// A read failed.
+    Fault(Failed),
+}
+
+impl fmt::Display for ReadStop {
+    fn fmt<W: fmt::Write>(&self, f: &mut fmt::Formatter<W>) -> fmt::Result {
+        match self {
+            ReadStop::Memory(_) => write!(f, "no memory for the bytes"),
+            ReadStop::Fault(_) => write!(f, "a read failed"),
+        }
+    }
+}
+
+impl Error for ReadStop {}
+
+impl From<AllocError> for ReadStop {
+    ghost from_gives = { λ e stop. stop ≡ Memory e };
+
+    fn from(e: AllocError) -> Self {
+        ReadStop::Memory(e)
+    }
+}
+
+impl From<Failed> for ReadStop {
+    ghost from_gives = { λ e stop. stop ≡ Fault e };
+
+    fn from(e: Failed) -> Self {
+        ReadStop::Fault(e)
+    }
+}
+
+/// Reads a source to its end, but takes at most `limit` bytes, and answers the bytes in order. It asks for no
+/// byte beyond the limit, so fewer bytes than `limit` come only where the source's end was seen.
+pub fn read_to_limit<S: Source>(
+    alloc: Global,
+    source: &mut S,
+    limit: usize,
+) -> Result<Vec<u8>, ReadStop>
+    ensures size { IfOk result (λ bytes. length bytes.items ≤ limit) }
+    ensures front { IfOk result (λ bytes. TakesFront (S.left source.old) (S.left source.new) limit bytes.items) }
+    ensures no_fault { OnOk result (S.faults source.new ≡ S.faults source.old) }
+    ensures lost { OnErr result (LosesFront (S.left source.old) (S.left source.new) limit) }
+    ensures cause { IfErr result (HasCause (S.faults source.old) (S.faults source.new)) }
+    ensures rising { S.faults source.old ≤ S.faults source.new }
+{
+    let mut bytes = Vec::new(alloc);
+    while bytes.len() < limit {
+        let room = limit - bytes.len();
+        if read_piece(source, &mut bytes, room)? == 0 {
+            return Ok(bytes);
+        }
+    }
+    Ok(bytes)
+}
+
+// Reads one piece of at most `room` bytes to the end of the bytes.
+fn read_piece<S: Source>(
+    source: &mut S,
+    bytes: &mut Vec<u8>,
+    room: usize,
+) -> Result<usize, ReadStop>
+    requires { 0 < room }
+    ensures count { IfOk result (λ n. (n ≤ room) × (length bytes.new.items ≡ length bytes.old.items + n)) }
+    ensures bytes { IfOk result (ReadsOn (S.left source.old) (S.left source.new) bytes.old.items bytes.new.items) }
+    ensures end { IfOk result (λ n. n ≡ 0 → IsAtEnd (S.left source.old)) }
+    ensures no_fault { OnOk result (S.faults source.new ≡ S.faults source.old) }
+    ensures lost { OnErr result (LosesFront (S.left source.old) (S.left source.new) room) }
+    ensures cause { IfErr result (HasCause (S.faults source.old) (S.faults source.new)) }
+    ensures rising { S.faults source.old ≤ S.faults source.new }
+{
+    let mut piece = [0u8; PIECE];
+    let asked = room.min(PIECE);
+    let n = source.read(&mut piece[..asked])?;
+    bytes.extend_from_slice(&piece[..n])?;
+    Ok(n)
+}
