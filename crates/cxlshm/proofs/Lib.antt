@@ -4,3 +4,5 @@ pub mod FormLines
 pub mod FormNumbers
 pub mod FormPut
 pub mod FormWhole
+pub mod TopWords
+pub mod TopReads

@@ -1,0 +1,17 @@
+use Rattle.std.proofs.Common.{refl}
+use Rattle.cxlshm.proofs.top.replay.Goals as goal
+
+pub report-requires-clause-table : goal.report-requires-clause-table
+report-requires-clause-table c = rw (c.geometry.ensures.is, c.words.ensures.is) (c.in_ok-run.ensures.run.table, c.in_ok-run.ensures.run.is)
+
+pub returns-clause-run : goal.returns-clause-run
+returns-clause-run c =
+    record {
+      puts = c.args.puts.now;
+      run = c.in_ok-run.run';
+      kept = refl;
+      form = (refl, c.requires);
+      closed = c.in_ok-run.ensures.closed;
+      first = c.in_ok-run.ensures.run;
+      report = (rw (c.geometry.ensures.is, c.words.ensures.is) at c.in_ok-text.ensures) c.in_ok-run.ensures.run.table c.in_ok-run.ensures.run.is;
+    }
