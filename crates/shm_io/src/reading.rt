@@ -52,7 +52,8 @@ impl From<Failed> for ReadStop {
 }
 
 /// Reads a source to its end, but takes at most `limit` bytes, and answers the bytes in order. It asks for no
-/// byte beyond the limit, so fewer bytes than `limit` come only where the source's end was seen.
+/// byte beyond the limit. Fewer bytes than `limit` are all that the source had left. Where it stops, a front of
+/// at most `limit` bytes is lost.
 pub fn read_to_limit<S: Source>(
     alloc: Global,
     source: &mut S,
