@@ -1,5 +1,6 @@
 pub mod Faults
 pub mod Reading
+pub mod Standard
 pub mod Stops
 pub mod Store
 pub mod Supply

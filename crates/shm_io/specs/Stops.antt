@@ -1,5 +1,5 @@
 -- Why a reading stopped before its end.
-use Rattle.std.specs.Prelude.{◌≡◌, ℕ}
+use Rattle.std.specs.Prelude.{◌≡◌, ℕ, List, codes}
 use Rattle.shm_io.specs.Faults.{Rose}
 use Rattle.shm_io.specs.declared.reading.ReadStop.{ReadStop}
 use Rattle.shm_io.specs.declared.reading.ReadStop.TheVariants.{Memory, Fault}
@@ -8,3 +8,8 @@ use Rattle.shm_io.specs.declared.reading.ReadStop.TheVariants.{Memory, Fault}
 abbrev pub HasCause : ℕ → ℕ → ReadStop → Type 0
 HasCause before after (Memory _) = after ≡ before
 HasCause before after (Fault _) = Rose before after
+
+-- what is printed of it
+abbrev pub text_of : ReadStop → List ℕ
+text_of (Memory _) = codes "no memory for the bytes"
+text_of (Fault _) = codes "a read failed"

@@ -1,9 +1,9 @@
 //! A whole reading of a source, up to a limit.
-ghost use Rattle.std.specs.Prelude.{◌≡◌, ◌<◌, ◌≤◌, ◌+◌, length, vec_len, IfOk, OnOk, IfErr, OnErr};
+ghost use Rattle.std.specs.Prelude.{◌≡◌, ◌<◌, ◌≤◌, ◌+◌, length, IfOk, OnOk, IfErr, OnErr, Some};
 ghost use Rattle.std.specs.Io.KnownBytes.{IsAtEnd};
 ghost use Rattle.shm_io.specs.Reading.{TakesFront, LosesFront, ReadsOn};
 ghost use Rattle.shm_io.specs.declared.reading.ReadStop.TheVariants.{Memory, Fault};
-ghost use Rattle.shm_io.specs.Stops.{HasCause};
+ghost use Rattle.shm_io.specs.Stops.{HasCause, text_of};
 
 use crate::{Failed, Source};
 use std::alloc::{AllocError, Global};
@@ -23,6 +23,8 @@ pub enum ReadStop {
 }
 
 impl fmt::Display for ReadStop {
+    ghost output = { λ stop. Some (text_of stop) };
+
     fn fmt<W: fmt::Write>(&self, f: &mut fmt::Formatter<W>) -> fmt::Result {
         match self {
             ReadStop::Memory(_) => write!(f, "no memory for the bytes"),
@@ -50,7 +52,8 @@ impl From<Failed> for ReadStop {
 }
 
 /// Reads a source to its end, but takes at most `limit` bytes, and answers the bytes in order. It asks for no
-/// byte beyond the limit, so fewer bytes than `limit` come only where the source's end was seen.
+/// byte beyond the limit. Fewer bytes than `limit` are all that the source had left. Where it stops, a front of
+/// at most `limit` bytes is lost.
 pub fn read_to_limit<S: Source>(
     alloc: Global,
     source: &mut S,

@@ -1,5 +1,4 @@
-use Rattle.std.proofs.Common.{◌≡◌, ◌+◌, ◌≤◌, [], length, arith, sym, subst, ◌∙◌}
-use Rattle.shm_io.specs.Reading.{ReadsOn}
+use Rattle.std.proofs.Common.{arith, ◌∙◌}
 use Rattle.shm_io.proofs.ReadSteps.{ReadsOn-more, TakesFront-end}
 use Rattle.shm_io.proofs.reading.read_to_limit.Goals as goal
 
