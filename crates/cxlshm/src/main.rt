@@ -2,6 +2,7 @@
 #![tactic(auto)]
 
 mod form;
+mod pool_words;
 mod text;
 
 fn main() {}

@@ -1,3 +1,4 @@
 pub mod Spotting
 pub mod Seeing
 pub mod Reading
+pub mod Summing
