@@ -1,1 +1,2 @@
 pub mod PoolReading
+pub mod ChainReading

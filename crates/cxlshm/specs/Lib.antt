@@ -1,3 +1,4 @@
 pub mod Form
 pub mod PoolWords
 pub mod Report
+pub mod TableRows

@@ -3,6 +3,7 @@
 
 mod form;
 mod pool_words;
+mod table_rows;
 mod text;
 
 fn main() {}
