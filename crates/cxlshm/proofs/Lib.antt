@@ -1,2 +1,3 @@
 pub mod PoolReading
 pub mod ChainReading
+pub mod TableReading
