@@ -1,3 +1,4 @@
 pub mod PoolReading
 pub mod ChainReading
 pub mod TableReading
+pub mod ValueNaming

@@ -30,10 +30,10 @@ head_word g ws a b e =
     let l = is_below g (classes_in g ws) a (Head b) e (λ z. cc) in
     ap (λ n. see g ws (Head n)) h ∙ (see_at g ws a (Head b) l e ∙ ap (λ n. get_or ws n 0) h)
 
--- no block is no live block
-pub no_head : (g : Geometry) (ws : List ℕ) (a : ℕ) → ((b : ℕ) → spot_at g (classes_in g ws) a ≡ Head b → ⊥) → (headers (see g ws) a).live ≡ false
+-- where no block begins there is no header word
+pub no_head : (g : Geometry) (ws : List ℕ) (a : ℕ) → ((b : ℕ) → spot_at g (classes_in g ws) a ≡ Head b → ⊥) → see g ws (Head a) ≡ 0
 unfolding spot_address
-no_head g ws a n = ap (λ w. (header_of w).live) (see_absent g ws (Head a) (n a)) ∙ header_of_zero
+no_head g ws a n = see_absent g ws (Head a) (n a)
 
 -- the header and the tag of a block
 pub block_header : (g : Geometry) (ws : List ℕ) (b : ℕ) → IsBlock g (classes_in g ws) b → see g ws (Head b) ≡ get_or ws b 0

@@ -2,3 +2,5 @@ pub mod Form
 pub mod PoolWords
 pub mod Report
 pub mod TableRows
+pub mod ValueNames
+pub mod Texts

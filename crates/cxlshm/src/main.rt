@@ -3,7 +3,9 @@
 
 mod form;
 mod pool_words;
+mod report;
 mod table_rows;
 mod text;
+mod value_names;
 
 fn main() {}

@@ -71,14 +71,14 @@ fn block_spot(class: u64, at: u32, k: u8) -> Spot
     }
 }
 
-/// Whether a live block begins at an address.
-pub fn is_live_at(geometry: Geometry, words: &[u64], at: u32) -> bool
+/// The header of the block that begins at an address; where none begins, that of a free block.
+pub fn header_at(geometry: Geometry, words: &[u64], at: u32) -> Header
     requires { GeometryFits geometry }
-    ensures { result ≡ (headers (see geometry words.now) at).live }
+    ensures { result ≡ headers (see geometry words.now) at }
 {
     match spot(geometry, words, at) {
-        Spot::Head { b } => Header::unpack(word(words, b)).live,
-        _ => false,
+        Spot::Head { b } => Header::unpack(word(words, b)),
+        _ => Header::unpack(0),
     }
 }
 
@@ -123,7 +123,7 @@ pub fn live_count(geometry: Geometry, words: &[u64]) -> u32
 {
     let mut live = 0;
     for at in 0..geometry.total() {
-        if is_live_at(geometry, words, at) {
+        if header_at(geometry, words, at).live {
             live += 1;
         }
     }
