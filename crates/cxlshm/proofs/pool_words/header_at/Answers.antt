@@ -9,4 +9,4 @@ returns-in-Head c =
     c.unpack.ensures.is ∙ ap header_of (c.word.ensures ∙ sym e)
 
 pub returns-in_default : goal.returns-in_default
-returns-in_default c = ?
+returns-in_default c = c.unpack-in_default.ensures.is ∙ ap header_of (sym (no_head c.args.geometry c.args.words.now c.args.at (λ b e. c.in_default.not-Head b (c.spot.ensures ∙ e))))

@@ -6,14 +6,14 @@ use Rattle.shm_graph.specs.Spots.{see}
 use Rattle.shm_graph.specs.References.{one_if, sum_below, live_count}
 use Rattle.shm_graph.proofs.Summing.{sum_up, sum_same}
 use Rattle.cxlshm.proofs.pool_words.live_count.Goals as goal
-use Rattle.cxlshm.proofs.pool_words.live_count.Goals.{then-header_at-live, else-header_at-live}
+use Rattle.cxlshm.proofs.pool_words.live_count.Goals.{then-header_at, else-header_at}
 
 pub loop-at-preserved : goal.loop-at-preserved
 loop-at-preserved c =
     let e = ap (λ h. one_if h.live) (sym c.header_at.ensures) in
-    elim c.if-header_at-live.branch [
-      | then-header_at-live w ↦ (omega arith, sum_up _ _ _ _ c.loop-at.invariant.1 w.live-is (e ∙ ap one_if w.if-header_at-live.true))
-      | else-header_at-live w ↦ (omega arith, sum_same _ _ _ _ c.loop-at.invariant.1 w.live-is (e ∙ ap one_if w.if-header_at-live.false))
+    elim c.if-header_at.branch [
+      | then-header_at w ↦ (omega arith, sum_up _ _ _ _ c.loop-at.invariant.1 w.live-is (e ∙ ap one_if w.if-header_at.true))
+      | else-header_at w ↦ (omega arith, sum_same _ _ _ _ c.loop-at.invariant.1 w.live-is (e ∙ ap one_if w.if-header_at.false))
     ]
 
 pub returns : goal.returns
