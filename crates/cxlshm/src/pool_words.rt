@@ -157,3 +157,79 @@ pub fn home_count(geometry: Geometry, words: &[u64]) -> u32
     }
     homes
 }
+
+#[cfg(test)]
+mod tests {
+    use super::*;
+    use std::test::Fail;
+
+    // one client and one segment: a value block of 4 words, a directory of 32 and an entry of 8
+    #[test]
+    fn reads_a_pool(rt: HostRuntime) -> Result<(), Fail> {
+        let header = Header {
+            live: true,
+            client: 0,
+            count: 1,
+            era: 9,
+        }
+        .pack();
+        let value = Tag {
+            refs: 0,
+            plain: 1,
+            author: 0,
+            link: 0,
+        }
+        .pack();
+        let directory = Tag {
+            refs: 16,
+            plain: 0,
+            author: 0,
+            link: 0,
+        }
+        .pack();
+        let entry = Tag {
+            refs: 2,
+            plain: 1,
+            author: 0,
+            link: 0,
+        }
+        .pack();
+        let mut words = vec![in rt.alloc(); 0u64; 2098]?;
+        for (at, word) in [
+            (5usize, 178u64),
+            (34, 4),
+            (35, 32),
+            (36, 8),
+            (50, header),
+            (51, value),
+            (52, 77),
+            (178, header),
+            (179, directory),
+            (185, 306),
+            (306, header),
+            (307, entry),
+            (309, 50),
+            (310, 5),
+        ] {
+            assert!(rt; at < words.len());
+            words[at] = word;
+        }
+        let geometry = Geometry::new(1, 1).expect(&rt, "one client and one segment");
+        for (at, wanted) in [
+            (5, Spot::Home { c: 0 }),
+            (50, Spot::Head { b: 50 }),
+            (54, Spot::Head { b: 54 }),
+            (179, Spot::Tag { b: 178 }),
+            (185, Spot::Body { b: 178, i: 5 }),
+            (434, Spot::Unused { a: 434 }),
+            (2098, Spot::Spare),
+        ] {
+            assert_eq!(rt; spot(geometry, words.as_slice(), at), wanted, "at {at}");
+        }
+        assert_eq!(rt; header_at(geometry, words.as_slice(), 50).count, 1);
+        assert!(rt; !header_at(geometry, words.as_slice(), 54).live);
+        assert_eq!(rt; live_count(geometry, words.as_slice()), 3);
+        assert_eq!(rt; home_count(geometry, words.as_slice()), 1);
+        Ok(())
+    }
+}

@@ -134,3 +134,25 @@ fn push_counts(text: &mut Vec<u8>, geometry: Geometry, words: &[u64]) -> Result<
     push_number(text, u64::from(reference_count(geometry, words)))?;
     push_text(text, "\n")
 }
+
+#[cfg(test)]
+mod tests {
+    use super::*;
+    use std::test::Fail;
+
+    #[test]
+    fn prints_lines(rt: HostRuntime) -> Result<(), Fail> {
+        let row = TableRow {
+            client: 0,
+            key: 5,
+            number: 77,
+            value: 50,
+        };
+        let mut text = Vec::new(rt.alloc());
+        push_log(&mut text, &[Pair { key: 5, number: 77 }])?;
+        push_row(&mut text, row, 1)?;
+        let wanted: &[u8] = b"client 0 ended 1\nput 5 77 ok\n0 5 77 v1\n";
+        assert_eq!(rt; text.as_slice(), wanted);
+        Ok(())
+    }
+}

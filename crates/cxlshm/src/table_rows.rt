@@ -137,7 +137,11 @@ fn push_rows(
 }
 
 /// The rows of the table, by client and then by key.
-pub fn table_rows(alloc: Global, geometry: Geometry, words: &[u64]) -> Result<Vec<TableRow>, AllocError>
+pub fn table_rows(
+    alloc: Global,
+    geometry: Geometry,
+    words: &[u64],
+) -> Result<Vec<TableRow>, AllocError>
     requires pool { IsCleanPool geometry words.now }
     requires table { (table : ℕ → ℕ → List Entry) × HoldsTable geometry words.now table }
     ensures { IfOk result (λ v. (table : ℕ → ℕ → List Entry) → HoldsTable geometry words.now table → rows_seen v.items ≡ rows_below geometry.clients table) }
