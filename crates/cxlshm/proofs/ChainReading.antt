@@ -1,5 +1,5 @@
 -- entries and chains, read from the words of a pool
-use Rattle.std.proofs.Common.{◌≡◌, ◌≢◌, ℕ, zero, suc, ◌+◌, ◌*◌, ◌<◌, ◌≤◌, ◌^◌, List, [], ◌∷◌, ◌++◌, length, map, get_or, take, drop, sym, ap, ◌∙◌, refl, eqb, true, false, inl, inr, subst, add-one, arith}
+use Rattle.std.proofs.Common.{◌≡◌, ◌≢◌, ℕ, zero, suc, ◌+◌, ◌<◌, ◌≤◌, ◌^◌, List, [], ◌∷◌, ◌++◌, length, map, get_or, take, drop, sym, ap, ◌∙◌, refl, eqb, true, false, inl, inr, subst, add-one, arith}
 use Rattle.std.proofs.lemmas.Bool.{ne_eqb, eqb-true, eq-eqb, false≢true, or_cases}
 use Rattle.std.specs.Ordering.{nat_cmp}
 use Rattle.std.specs.BTreeMap.{insert_entry}
@@ -10,8 +10,7 @@ use Rattle.std.proofs.lemmas.Map.Steps.{length-le_from_distinct_below}
 use Rattle.shm_words.specs.declared.geometry.Geometry.{Geometry}
 use Rattle.shm_words.specs.Layout.{total_of}
 use Rattle.shm_words.proofs.Placing.{total_most}
-use Rattle.shm_graph.specs.Spots.{see}
-use Rattle.shm_graph.specs.Tables.{Entry, IsEntry, IsChain, HasShape}
+use Rattle.shm_graph.specs.Tables.{Entry, IsEntry, IsChain}
 use Rattle.shm_graph.proofs.Reading.{live_below, shape_word, shape_reference}
 use Rattle.cxlshm.specs.PoolWords.{IsCleanPool}
 use Rattle.cxlshm.specs.Report.{add_entries}

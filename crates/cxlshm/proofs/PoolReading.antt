@@ -1,5 +1,5 @@
 -- what the words of a pool say at an address
-use Rattle.std.proofs.Common.{◌≡◌, ◌≢◌, ℕ, ◌+◌, ◌<◌, ◌≤◌, List, get_or, sym, ap, ◌∙◌, cond, eqb, ltb, true, false, refl, inl, inr, arith}
+use Rattle.std.proofs.Common.{◌≡◌, ℕ, ◌+◌, ◌<◌, ◌≤◌, List, get_or, sym, ap, ◌∙◌, cond, eqb, ltb, true, false, refl, inl, inr, arith}
 use Rattle.std.specs.Prelude.{Option, Some, None}
 use Rattle.std.proofs.lemmas.Bool.{cond-true, cond-false, lt-ltb, le-ltb, cases_lt}
 use Rattle.std.proofs.lemmas.Bool.Decides.{nat_tests}
@@ -10,14 +10,13 @@ use Rattle.shm_words.specs.declared.tag.Tag.{Tag as ATag}
 use Rattle.shm_words.specs.Layout.{GeometryFits, total_of, address, is_in, place_at}
 use Rattle.shm_words.specs.Headers.{header_of}
 use Rattle.shm_words.specs.Tags.{tag_of, tag_refs}
-use Rattle.shm_words.proofs.Words.{header_of_zero, tag_fields}
+use Rattle.shm_words.proofs.Words.{tag_fields}
 use Rattle.shm_words.proofs.Placing.{place-address, address_below}
 use Rattle.shm_graph.specs.declared.spot.Spot.{Spot}
 use Rattle.shm_graph.specs.declared.spot.Spot.TheVariants.{Home, Root, Slot, Head, Tag, Body}
 use Rattle.shm_graph.specs.Spots.{spot_at, spot_of, spot_address, classes_in, see}
 use Rattle.shm_graph.specs.Blocks.{IsBlock, IsLive, classes, headers}
 use Rattle.shm_graph.specs.References.{Words, reference, references, words_of}
-use Rattle.shm_graph.specs.Clean.{IsClean}
 use Rattle.shm_graph.proofs.Spotting.{head_at, is_below, body_block, block_within, tag_spot}
 use Rattle.shm_graph.proofs.Seeing.{see_at, see_absent, classes-see}
 use Rattle.shm_graph.proofs.Reading.{live_class}

@@ -1,13 +1,13 @@
 -- the partitions of a table, read from the words of a pool
-use Rattle.std.proofs.Common.{◌≡◌, ◌≢◌, ℕ, zero, suc, ◌+◌, ◌<◌, ◌≤◌, List, [], ◌++◌, get_or, sym, ap, ◌∙◌, refl, subst, add-one, arith}
+use Rattle.std.proofs.Common.{◌≡◌, ◌≢◌, ℕ, zero, suc, ◌+◌, ◌<◌, List, [], ◌++◌, get_or, sym, ap, ◌∙◌, refl, subst, add-one, arith}
 use Rattle.shm_words.specs.declared.geometry.Geometry.{Geometry}
 use Rattle.shm_words.proofs.Placing.{total_most}
 use Rattle.shm_graph.specs.declared.spot.Spot.TheVariants.{Home}
 use Rattle.shm_graph.specs.Spots.{see}
-use Rattle.shm_graph.specs.Tables.{Entry, IsChain, IsPartition}
+use Rattle.shm_graph.specs.Tables.{Entry, IsChain}
 use Rattle.shm_graph.proofs.Reading.{live_below, shape_reference}
 use Rattle.cxlshm.specs.PoolWords.{IsCleanPool}
-use Rattle.cxlshm.specs.Report.{add_entries, entries_below, in_order, Row, rows_below}
+use Rattle.cxlshm.specs.Report.{add_entries, entries_below, in_order}
 use Rattle.cxlshm.specs.TableRows.{contents_in, IsChainAt, HoldsTable}
 use Rattle.cxlshm.proofs.ChainReading.{add_entries-append}
 

@@ -1,5 +1,5 @@
 -- sums over the numbers below a number
-use Rattle.std.proofs.Common.{◌≡◌, ℕ, ◌+◌, sym, ap, ◌∙◌, add-one, arith}
+use Rattle.std.proofs.Common.{◌≡◌, ℕ, ◌+◌, ap, add-one, arith}
 use Rattle.shm_graph.specs.References.{sum_below}
 
 pub sum_below-one_more : (f : ℕ → ℕ) (n : ℕ) → sum_below (n + 1) f ≡ sum_below n f + f n

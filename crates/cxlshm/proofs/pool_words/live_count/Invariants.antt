@@ -1,9 +1,8 @@
-use Rattle.std.proofs.Common.{◌≡◌, ◌≤◌, ◌==◌, cond}
+use Rattle.std.proofs.Common.{◌≡◌, ◌≤◌}
 use Rattle.shm_words.specs.Headers.{header_of}
-use Rattle.shm_graph.specs.declared.spot.Spot.TheVariants.{Home, Head}
-use Rattle.shm_graph.specs.Spots.{see, spot_at}
-use Rattle.shm_graph.specs.Blocks.{classes}
-use Rattle.shm_graph.specs.References.{sum_below, one_if, references}
+use Rattle.shm_graph.specs.declared.spot.Spot.TheVariants.{Head}
+use Rattle.shm_graph.specs.Spots.{see}
+use Rattle.shm_graph.specs.References.{sum_below, one_if}
 use Rattle.cxlshm.proofs.pool_words.live_count.Given as goal
 
 abbrev pub invariant-loop-at : goal.invariant-loop-at

@@ -1,8 +1,6 @@
-use Rattle.std.proofs.Common.{◌≡◌, sym, ap, ◌∙◌, inl, inr}
-use Rattle.shm_graph.specs.declared.spot.Spot.{Spot}
-use Rattle.shm_graph.specs.Spots.{see, spot_at, classes_in}
-use Rattle.shm_graph.specs.Blocks.{classes}
-use Rattle.shm_graph.specs.References.{references, words_of}
+use Rattle.std.proofs.Common.{sym, ◌∙◌, inl, inr}
+use Rattle.shm_graph.specs.Spots.{see}
+use Rattle.shm_graph.specs.References.{words_of}
 use Rattle.shm_graph.proofs.Spotting.{body_block}
 use Rattle.shm_graph.proofs.Seeing.{see_at}
 use Rattle.cxlshm.proofs.PoolReading.{reference_word, body_reference, body_plain, other_reference}

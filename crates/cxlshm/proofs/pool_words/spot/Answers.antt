@@ -1,4 +1,4 @@
-use Rattle.std.proofs.Common.{sym, ap, ◌∙◌, arith}
+use Rattle.std.proofs.Common.{sym, ap, ◌∙◌}
 use Rattle.shm_words.specs.Layout.{is_in, address}
 use Rattle.shm_words.proofs.Placing.{address-place, in_place}
 use Rattle.shm_graph.specs.Spots.{spot_at, spot_of, classes_in}

@@ -1,4 +1,4 @@
-use Rattle.std.proofs.Common.{sym, ap, ◌∙◌, arith}
+use Rattle.std.proofs.Common.{sym, ap, ◌∙◌}
 use Rattle.shm_words.specs.Layout.{is_in, address}
 use Rattle.shm_graph.specs.Spots.{spot_of, block_spot, classes_in}
 use Rattle.cxlshm.proofs.PoolReading.{body_in, body_after, page_class}

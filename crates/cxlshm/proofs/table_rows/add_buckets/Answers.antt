@@ -1,6 +1,5 @@
-use Rattle.std.proofs.Common.{◌≡◌, ap, ◌∙◌, sym, subst, arith}
+use Rattle.std.proofs.Common.{◌≡◌, ap, ◌∙◌, arith}
 use Rattle.cxlshm.specs.Report.{add_entries, entries_below}
-use Rattle.cxlshm.specs.TableRows.{IsChainAt}
 use Rattle.cxlshm.proofs.TableReading.{home_below, bucket_chain, add_bucket}
 use Rattle.cxlshm.proofs.table_rows.add_buckets.Goals as goal
 

@@ -1,5 +1,5 @@
-use Rattle.std.proofs.Common.{◌≡◌, ◌≤◌, ap, ◌∙◌, subst, refl, length, arith}
-use Rattle.cxlshm.proofs.ChainReading.{Walks, walk_entry, walk_step, walk_end, walk_all, chain_length}
+use Rattle.std.proofs.Common.{◌≤◌, refl, length, arith}
+use Rattle.cxlshm.proofs.ChainReading.{walk_entry, walk_step, walk_end, walk_all, chain_length}
 use Rattle.cxlshm.proofs.table_rows.add_chain.Goals as goal
 
 pub loop-init : goal.loop-init

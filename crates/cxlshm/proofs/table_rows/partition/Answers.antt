@@ -1,6 +1,4 @@
-use Rattle.std.proofs.Common.{◌≡◌, ◌<◌, ap, ◌∙◌, sym, get_or, arith}
-use Rattle.shm_graph.specs.declared.spot.Spot.TheVariants.{Home}
-use Rattle.shm_graph.specs.Spots.{see}
+use Rattle.std.proofs.Common.{◌<◌, ap, ◌∙◌, sym, get_or, arith}
 use Rattle.cxlshm.specs.Report.{add_entries, entries_below}
 use Rattle.cxlshm.proofs.PoolReading.{home_word}
 use Rattle.cxlshm.proofs.TableReading.{home_below, no_entries}
