@@ -259,8 +259,9 @@ body_block g class a b i e =
     let z : eqb (class_at g class a) 0 ≡ false = ne_eqb _ _ h.0 in
     let q = next_in_page (a - bodies g) ((a - bodies g) % 128 % class_at g class a) r h.3 in
     let y : b + 1 - bodies g ≡ a - bodies g - (a - bodies g) % 128 % class_at g class a + 1 = omega arith in
-    let o : b + 1 - 1 ≡ b = omega arith in
-    ((spot_in_bodies g class b (omega arith) (omega arith) ∙ rw (x, p.0, p.1, p.2, m.0, z) refl),
-    (spot_in_bodies g class (b + 1) (omega arith) (omega arith) ∙ rw (y, q.0, q.1, q.2, m.1, z, o) refl),
-    omega arith,
-    w.1)
+    let o : b + 1 - 1 ≡ b = omega arith in (
+      (spot_in_bodies g class b (omega arith) (omega arith) ∙ rw (x, p.0, p.1, p.2, m.0, z) refl),
+      (spot_in_bodies g class (b + 1) (omega arith) (omega arith) ∙ rw (y, q.0, q.1, q.2, m.1, z, o) refl),
+      omega arith,
+      w.1,
+    )
