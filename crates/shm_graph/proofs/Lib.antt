@@ -1,0 +1,3 @@
+pub mod Spotting
+pub mod Seeing
+pub mod Reading
