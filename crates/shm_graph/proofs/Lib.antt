@@ -1,3 +1,5 @@
 pub mod Spotting
+pub mod Fixed
 pub mod Seeing
+pub mod Storing
 pub mod Reading

@@ -264,3 +264,47 @@ body_block g class a b i e =
     (spot_in_bodies g class (b + 1) (omega arith) (omega arith) ∙ rw (y, q.0, q.1, q.2, m.1, z, o) refl),
     omega arith,
     w.1)
+
+pub class_of_block : (g : Geometry) (class : ℕ → ℕ → ℕ) (a b r : ℕ) → bodies g ≤ a → r ≤ (a - bodies g) % 128 → b ≡ a - r → class_at g class b ≡ class_at g class a
+class_of_block g class a b r w l e =
+    let p = back_in_page (a - bodies g) r l in
+    let x : b - bodies g ≡ a - bodies g - r = omega arith in
+    rw (x, p.0, p.1) refl
+
+-- a word of a block is within its size
+pub body_room : (g : Geometry) (class : ℕ → ℕ → ℕ) (a b i : ℕ) → spot_at g class a ≡ Body b i → 2 + i < class_at g class b
+body_room g class a b i e =
+    let w = within_bodies g class a (ap is_in_body e) in
+    let h = block_body (class_at g class a) a ((a - bodies g) % 128) b i (sym (spot_in_bodies g class a w.0 w.1) ∙ e) in
+    let r : (a - bodies g) % 128 % class_at g class a ≤ (a - bodies g) % 128 = mod_most ((a - bodies g) % 128) (class_at g class a) h.0 in
+    let c = class_of_block g class a b ((a - bodies g) % 128 % class_at g class a) w.0 r h.1 in
+    let m : (a - bodies g) % 128 % class_at g class a < class_at g class a = omega arith in
+    omega arith
+
+-- the block of a tag
+block_tag : (k a i b : ℕ) → block_spot k a i ≡ Tag b → (k ≢ 0) × (b ≡ a - 1) × (i % k ≡ 1)
+block_tag k a i b e = grind (arith, nat_tests)
+
+after_head : (k c : ℕ) → c ≢ 0 → k % c ≡ 1 → (k - 1) % c ≡ 0
+after_head k c n e =
+    let x : k - 1 ≡ k / c * c + 0 = omega arith in
+    ap (λ u. u % c) x ∙ mod-mul-add (k / c) c 0 (omega arith)
+
+pub tag_block : (g : Geometry) (class : ℕ → ℕ → ℕ) (a b : ℕ) → spot_at g class a ≡ Tag b → IsBlock g class b × (b + 1 ≡ a) × (a < total_of g)
+tag_block g class a b e =
+    let w = within_bodies g class a (ap is_in_body e) in
+    let h = block_tag (class_at g class a) a ((a - bodies g) % 128) b (sym (spot_in_bodies g class a w.0 w.1) ∙ e) in
+    let r : 1 ≤ (a - bodies g) % 128 = let l = mod_most ((a - bodies g) % 128) (class_at g class a) h.0 in omega arith in
+    let p = back_in_page (a - bodies g) 1 r in
+    let m = after_head ((a - bodies g) % 128) (class_at g class a) h.0 h.2 in
+    let x : b - bodies g ≡ a - bodies g - 1 = omega arith in
+    let z : eqb (class_at g class a) 0 ≡ false = ne_eqb _ _ h.0 in
+    ((spot_in_bodies g class b (omega arith) (omega arith) ∙ rw (x, p.0, p.1, p.2, m, z) refl), omega arith, w.1)
+
+-- ---- two addresses
+
+pub same_address : (g : Geometry) (class : ℕ → ℕ → ℕ) (a b : ℕ) → a < total_of g → b < total_of g → spot_at g class a ≡ spot_at g class b → a ≡ b
+same_address g class a b l m e = sym (address-spot g class a l) ∙ (ap (spot_address g) e ∙ address-spot g class b m)
+
+pub other_spot : (g : Geometry) (class : ℕ → ℕ → ℕ) (a b : ℕ) → a < total_of g → b < total_of g → a ≢ b → same_spot (spot_at g class a) (spot_at g class b) ≡ false
+other_spot g class a b l m n = same_spot_not _ _ (λ e. n (same_address g class a b l m e))
