@@ -29,7 +29,7 @@ see_by_other g class ws a x p n =
       | inl e ↦ rw e (get_or-set_other ws a (spot_address g p) x 0 (λ z. false≢true (sym n ∙ (ap (λ b. same_spot (spot_at g class b) p) (sym z) ∙ e))))
     ]
 
-see_by-set : (g : Geometry) (class : ℕ → ℕ → ℕ) (ws : List ℕ) (a x : ℕ) (p : Spot) → length ws ≡ total_of g → a < total_of g → see_by g class (set ws a x) p ≡ upd (see_by g class ws) (spot_at g class a) x p
+pub see_by-set : (g : Geometry) (class : ℕ → ℕ → ℕ) (ws : List ℕ) (a x : ℕ) (p : Spot) → length ws ≡ total_of g → a < total_of g → see_by g class (set ws a x) p ≡ upd (see_by g class ws) (spot_at g class a) x p
 see_by-set g class ws a x p all l =
     elim (cases_Bool (same_spot (spot_at g class a) p)) [
       | inl e ↦ ap (see_by g class (set ws a x)) (sym (same_spot_is (spot_at g class a) p e)) ∙ (see_by-spot g class (set ws a x) a l ∙ (get_or-set_same ws a x 0 (omega arith) ∙ sym (cond-true _ _ _ e)))
