@@ -4,4 +4,5 @@ pub mod Seeing
 pub mod PageSpots
 pub mod Storing
 pub mod ClassStoring
+pub mod Starting
 pub mod Reading

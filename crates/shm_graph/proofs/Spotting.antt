@@ -138,12 +138,23 @@ address-spot g class a l =
       | inr b ↦ ap (spot_address g) (spot_in_bodies g class a b l) ∙ block_address g (class_at g class a) a ((a - bodies g) % 128) (omega arith) (omega arith)
     ]
 
+spare_below : (g : Geometry) → spot_address g Spare < total_of g
+unfolding spot_address layout.address
+spare_below g = omega arith
+
 -- a spot that is there is at one address
 pub is_below : (g : Geometry) (class : ℕ → ℕ → ℕ) (a : ℕ) (p : Spot) → spot_at g class a ≡ p → p ≢ Spare → a < total_of g
 is_below g class a p e n =
     elim (cases_lt a (total_of g)) [
       | inl l ↦ l
       | inr h ↦ absurd (n (sym e ∙ spot_past g class a h))
+    ]
+
+pub at_below : (g : Geometry) (class : ℕ → ℕ → ℕ) (p : Spot) → IsAt g class p → spot_address g p < total_of g
+at_below g class p e =
+    elim (cases_lt (spot_address g p) (total_of g)) [
+      | inl l ↦ l
+      | inr h ↦ (let s : Spare ≡ p = sym (spot_past g class (spot_address g p) h) ∙ e in subst (λ q. spot_address g q < total_of g) s (spare_below g))
     ]
 
 pub alone : (g : Geometry) (class : ℕ → ℕ → ℕ) (a : ℕ) (p : Spot) → spot_at g class a ≡ p → p ≢ Spare → spot_address g p ≡ a
