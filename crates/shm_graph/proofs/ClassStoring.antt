@@ -15,7 +15,7 @@ use Rattle.shm_graph.specs.Spots.{same_spot, spot_at, spot_address, upd, classes
 use Rattle.shm_graph.proofs.Fixed.{fixed_place}
 use Rattle.shm_graph.proofs.Seeing.{see_at, see_page}
 use Rattle.shm_graph.proofs.PageSpots.{IsOfPage, class_with, page_spot, fixed_stays}
-use Rattle.shm_graph.proofs.Storing.{see_by, see_by-set}
+use Rattle.shm_graph.proofs.Storing.{see_by, see_by-set, is_page, see-set}
 
 -- ---- the classes after it
 
@@ -91,3 +91,10 @@ see-set_class g ws a k s q f all l e none zeros = see_class_set g ws a k s q f a
 pub see-set_class_zeros : (g : Geometry) (ws : List ℕ) (a k s q : ℕ) → GeometryFits g → length ws ≡ total_of g → a < total_of g → spot_at g (classes_in g ws) a ≡ Page s q → see g ws (Page s q) ≡ 0 → ((i : ℕ) → i < 128 → get_or ws (bodies g + 2048 * s + 128 * q + i) 0 ≡ 0) → see g (set ws a k) ≡ upd (see g ws) (Page s q) k
 see-set_class_zeros g ws a k s q f all l e none zeros = see_class_set g ws a k s q f all l e (sym (see_page g ws f s q) ∙ none)
     (λ b h. let x : b ≡ bodies g + 2048 * s + 128 * q + (b - bodies g) % 128 = omega arith in ap (λ n. get_or ws n 0) x ∙ zeros ((b - bodies g) % 128) (omega arith))
+
+-- ---- a store at any spot
+
+-- a page gets a class once, and each word in a page without a class is seen as 0
+pub see-set_any : (g : Geometry) (ws : List ℕ) (a x : ℕ) (p : Spot) → GeometryFits g → length ws ≡ total_of g → a < total_of g → spot_at g (classes_in g ws) a ≡ p → (is_page p ≡ true → see g ws p ≡ 0) → ((b : ℕ) → see g ws (Unused b) ≡ 0) → see g (set ws a x) ≡ upd (see g ws) p x
+see-set_any g ws a x (Page s q) f all l e once zeros = see-set_class g ws a x s q f all l e (once refl) zeros
+see-set_any g ws a x p f all l e once zeros = see-set g ws a x p all l e refl

@@ -160,6 +160,15 @@ at_below g class p e =
 pub alone : (g : Geometry) (class : ℕ → ℕ → ℕ) (a : ℕ) (p : Spot) → spot_at g class a ≡ p → p ≢ Spare → spot_address g p ≡ a
 alone g class a p e n = ap (spot_address g) (sym e) ∙ address-spot g class a (is_below g class a p e n)
 
+spot_zero : (g : Geometry) (class : ℕ → ℕ → ℕ) → spot_at g class 0 ≡ Spare
+unfolding spot_at place_at
+spot_zero g class = refl
+
+pub in_pool : (g : Geometry) (class : ℕ → ℕ → ℕ) (a : ℕ) (p : Spot) → spot_at g class a ≡ p → p ≢ Spare → (0 < a) × (a < total_of g)
+in_pool g class a p e n =
+    let z : a ≢ 0 = λ z. n (sym e ∙ (ap (spot_at g class) z ∙ spot_zero g class)) in
+    (omega arith, is_below g class a p e n)
+
 -- what stands at an address is there
 pub spot_is_at : (g : Geometry) (class : ℕ → ℕ → ℕ) (a : ℕ) → a < total_of g → IsAt g class (spot_at g class a)
 spot_is_at g class a l = ap (spot_at g class) (address-spot g class a l)
@@ -241,6 +250,19 @@ body_spot g class b i is k l =
     let z : eqb (2 + i) 1 ≡ false = grind (arith, nat_tests) in
     rw x (s ∙ rw (y, z, e, f) refl)
 
+-- a block, its tag and its words are there
+pub block_is_at : (g : Geometry) (class : ℕ → ℕ → ℕ) (b : ℕ) → IsBlock g class b → IsAt g class (Head b)
+unfolding spot_address
+block_is_at g class b is = is
+
+pub tag_is_at : (g : Geometry) (class : ℕ → ℕ → ℕ) (b : ℕ) → IsBlock g class b → IsClass (class_at g class b) → IsAt g class (Tag b)
+unfolding spot_address
+tag_is_at g class b is k = tag_spot g class b is k
+
+pub body_is_at : (g : Geometry) (class : ℕ → ℕ → ℕ) (b i : ℕ) → IsBlock g class b → IsClass (class_at g class b) → 2 + i < class_at g class b → IsAt g class (Body b i)
+unfolding spot_address
+body_is_at g class b i is k l = body_spot g class b i is k l
+
 -- the block of a word in it
 back_to_head : (k c : ℕ) → c ≢ 0 → 2 ≤ k % c → ((k - k % c) % c ≡ 0) × ((k - k % c + 1) % c ≡ 1)
 back_to_head k c n l =
@@ -270,11 +292,12 @@ body_block g class a b i e =
     let z : eqb (class_at g class a) 0 ≡ false = ne_eqb _ _ h.0 in
     let q = next_in_page (a - bodies g) ((a - bodies g) % 128 % class_at g class a) r h.3 in
     let y : b + 1 - bodies g ≡ a - bodies g - (a - bodies g) % 128 % class_at g class a + 1 = omega arith in
-    let o : b + 1 - 1 ≡ b = omega arith in
-    ((spot_in_bodies g class b (omega arith) (omega arith) ∙ rw (x, p.0, p.1, p.2, m.0, z) refl),
-    (spot_in_bodies g class (b + 1) (omega arith) (omega arith) ∙ rw (y, q.0, q.1, q.2, m.1, z, o) refl),
-    omega arith,
-    w.1)
+    let o : b + 1 - 1 ≡ b = omega arith in (
+      (spot_in_bodies g class b (omega arith) (omega arith) ∙ rw (x, p.0, p.1, p.2, m.0, z) refl),
+      (spot_in_bodies g class (b + 1) (omega arith) (omega arith) ∙ rw (y, q.0, q.1, q.2, m.1, z, o) refl),
+      omega arith,
+      w.1,
+    )
 
 pub class_of_block : (g : Geometry) (class : ℕ → ℕ → ℕ) (a b r : ℕ) → bodies g ≤ a → r ≤ (a - bodies g) % 128 → b ≡ a - r → class_at g class b ≡ class_at g class a
 class_of_block g class a b r w l e =
@@ -319,3 +342,15 @@ same_address g class a b l m e = sym (address-spot g class a l) ∙ (ap (spot_ad
 
 pub other_spot : (g : Geometry) (class : ℕ → ℕ → ℕ) (a b : ℕ) → a < total_of g → b < total_of g → a ≢ b → same_spot (spot_at g class a) (spot_at g class b) ≡ false
 other_spot g class a b l m n = same_spot_not _ _ (λ e. n (same_address g class a b l m e))
+
+-- ---- a spot in a block that is there
+
+pub is_at_block : (g : Geometry) (class : ℕ → ℕ → ℕ) (b : ℕ) → IsAt g class (Head b) → IsBlock g class b
+unfolding spot_address
+is_at_block g class b at = at
+
+pub is_at_tag : (g : Geometry) (class : ℕ → ℕ → ℕ) (b : ℕ) → IsAt g class (Tag b) → IsBlock g class b
+is_at_tag g class b at = (tag_block g class (spot_address g (Tag b)) b at).0
+
+pub is_at_body : (g : Geometry) (class : ℕ → ℕ → ℕ) (b i : ℕ) → IsAt g class (Body b i) → IsBlock g class b × (2 + i < class_at g class b)
+is_at_body g class b i at = ((body_block g class (spot_address g (Body b i)) b i at).0, body_room g class (spot_address g (Body b i)) b i at)

@@ -1,5 +1,5 @@
 -- a store to the list of words is one at a spot
-use Rattle.std.proofs.Common.{◌≡◌, ◌≢◌, ℕ, ◌<◌, List, length, get_or, sym, ap, ◌∙◌, true, false, Bool, cond, refl, inl, inr, arith}
+use Rattle.std.proofs.Common.{◌≡◌, ◌≢◌, ℕ, ◌<◌, List, length, get_or, sym, ap, ◌∙◌, true, false, refl, Bool, cond, inl, inr, arith}
 use Rattle.std.proofs.Math.ListN.{set}
 use Rattle.std.proofs.Math.Path.{fun_ext}
 use Rattle.std.proofs.lemmas.List.{get_or-set_same, get_or-set_other}
@@ -12,6 +12,7 @@ use Rattle.shm_words.proofs.Placing.{place-address}
 use Rattle.shm_graph.specs.declared.spot.Spot.{Spot}
 use Rattle.shm_graph.specs.declared.spot.Spot.TheVariants.{Page}
 use Rattle.shm_graph.specs.Spots.{same_spot, spot_of, spot_at, spot_address, upd, classes_in, see}
+use Rattle.shm_graph.specs.Blocks.{classes}
 use Rattle.shm_graph.proofs.Spotting.{same_spot_self, same_spot_is, address-spot, spot_is_at}
 
 -- the word at a spot by classes that need not be those of the list
@@ -68,3 +69,10 @@ see_set_at g ws a x p q all l e n =
 -- what is seen after the store
 pub see-set : (g : Geometry) (ws : List ℕ) (a x : ℕ) (p : Spot) → length ws ≡ total_of g → a < total_of g → spot_at g (classes_in g ws) a ≡ p → is_page p ≡ false → see g (set ws a x) ≡ upd (see g ws) p x
 see-set g ws a x p all l e n = fun_ext (λ q. see_set_at g ws a x p q all l e n)
+
+page_upd : (w : Spot → ℕ) (p : Spot) (x s q : ℕ) → is_page p ≡ false → upd w p x (Page s q) ≡ w (Page s q)
+page_upd w (Page h r) x s q n = absurd (true≢false n)
+page_upd w p x s q n = refl
+
+pub classes-upd : (w : Spot → ℕ) (p : Spot) (x : ℕ) → is_page p ≡ false → classes (upd w p x) ≡ classes w
+classes-upd w p x n = λ i s q. page_upd w p x s q n i
