@@ -1,6 +1,11 @@
 pub mod Spotting
+pub mod Fixed
 pub mod Seeing
 pub mod Sums
 pub mod SpotPlaces
+pub mod PageSpots
+pub mod Storing
+pub mod ClassStoring
+pub mod Starting
 pub mod Reading
 pub mod Summing

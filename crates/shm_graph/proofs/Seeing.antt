@@ -1,5 +1,5 @@
 -- the words at the spots of a pool
-use Rattle.std.proofs.Common.{◌≡◌, ◌≢◌, ℕ, ◌<◌, List, get_or, sym, ap, ◌∙◌, true, false, refl, inl, inr}
+use Rattle.std.proofs.Common.{◌≡◌, ◌≢◌, ℕ, ◌<◌, List, get_or, sym, ap, ◌∙◌, true, false, refl, inl, inr, subst}
 use Rattle.std.proofs.lemmas.Bool.{cases_Bool, cond-true, cond-false, false≢true, true≢false}
 use Rattle.shm_words.specs.declared.geometry.Geometry.{Geometry}
 use Rattle.shm_words.specs.declared.place.Place.{Place}
@@ -79,3 +79,9 @@ see_page g ws f s p =
 
 pub classes-see : (g : Geometry) (ws : List ℕ) → GeometryFits g → classes (see g ws) ≡ classes_in g ws
 classes-see g ws f = λ i s p. see_page g ws f s p i
+
+-- a word that is not 0 stands in the pool, by the classes that are seen
+pub seen_stands : (g : Geometry) (ws : List ℕ) (p : Spot) → GeometryFits g → see g ws p ≢ 0 → IsAt g (classes (see g ws)) p
+seen_stands g ws p f n =
+    let P : (ℕ → ℕ → ℕ) → Type 0 = λ c. IsAt g c p in
+    subst P (sym (classes-see g ws f)) (seen_is_at g ws p n)

@@ -138,6 +138,10 @@ address-spot g class a l =
       | inr b ↦ ap (spot_address g) (spot_in_bodies g class a b l) ∙ block_address g (class_at g class a) a ((a - bodies g) % 128) (omega arith) (omega arith)
     ]
 
+spare_below : (g : Geometry) → spot_address g Spare < total_of g
+unfolding spot_address layout.address
+spare_below g = omega arith
+
 -- a spot that is there is at one address
 pub is_below : (g : Geometry) (class : ℕ → ℕ → ℕ) (a : ℕ) (p : Spot) → spot_at g class a ≡ p → p ≢ Spare → a < total_of g
 is_below g class a p e n =
@@ -146,8 +150,24 @@ is_below g class a p e n =
       | inr h ↦ absurd (n (sym e ∙ spot_past g class a h))
     ]
 
+pub at_below : (g : Geometry) (class : ℕ → ℕ → ℕ) (p : Spot) → IsAt g class p → spot_address g p < total_of g
+at_below g class p e =
+    elim (cases_lt (spot_address g p) (total_of g)) [
+      | inl l ↦ l
+      | inr h ↦ (let s : Spare ≡ p = sym (spot_past g class (spot_address g p) h) ∙ e in subst (λ q. spot_address g q < total_of g) s (spare_below g))
+    ]
+
 pub alone : (g : Geometry) (class : ℕ → ℕ → ℕ) (a : ℕ) (p : Spot) → spot_at g class a ≡ p → p ≢ Spare → spot_address g p ≡ a
 alone g class a p e n = ap (spot_address g) (sym e) ∙ address-spot g class a (is_below g class a p e n)
+
+spot_zero : (g : Geometry) (class : ℕ → ℕ → ℕ) → spot_at g class 0 ≡ Spare
+unfolding spot_at place_at
+spot_zero g class = refl
+
+pub in_pool : (g : Geometry) (class : ℕ → ℕ → ℕ) (a : ℕ) (p : Spot) → spot_at g class a ≡ p → p ≢ Spare → (0 < a) × (a < total_of g)
+in_pool g class a p e n =
+    let z : a ≢ 0 = λ z. n (sym e ∙ (ap (spot_at g class) z ∙ spot_zero g class)) in
+    (omega arith, is_below g class a p e n)
 
 -- what stands at an address is there
 pub spot_is_at : (g : Geometry) (class : ℕ → ℕ → ℕ) (a : ℕ) → a < total_of g → IsAt g class (spot_at g class a)
@@ -230,6 +250,19 @@ body_spot g class b i is k l =
     let z : eqb (2 + i) 1 ≡ false = grind (arith, nat_tests) in
     rw x (s ∙ rw (y, z, e, f) refl)
 
+-- a block, its tag and its words are there
+pub block_is_at : (g : Geometry) (class : ℕ → ℕ → ℕ) (b : ℕ) → IsBlock g class b → IsAt g class (Head b)
+unfolding spot_address
+block_is_at g class b is = is
+
+pub tag_is_at : (g : Geometry) (class : ℕ → ℕ → ℕ) (b : ℕ) → IsBlock g class b → IsClass (class_at g class b) → IsAt g class (Tag b)
+unfolding spot_address
+tag_is_at g class b is k = tag_spot g class b is k
+
+pub body_is_at : (g : Geometry) (class : ℕ → ℕ → ℕ) (b i : ℕ) → IsBlock g class b → IsClass (class_at g class b) → 2 + i < class_at g class b → IsAt g class (Body b i)
+unfolding spot_address
+body_is_at g class b i is k l = body_spot g class b i is k l
+
 -- the block of a word in it
 back_to_head : (k c : ℕ) → c ≢ 0 → 2 ≤ k % c → ((k - k % c) % c ≡ 0) × ((k - k % c + 1) % c ≡ 1)
 back_to_head k c n l =
@@ -265,3 +298,59 @@ body_block g class a b i e =
       omega arith,
       w.1,
     )
+
+pub class_of_block : (g : Geometry) (class : ℕ → ℕ → ℕ) (a b r : ℕ) → bodies g ≤ a → r ≤ (a - bodies g) % 128 → b ≡ a - r → class_at g class b ≡ class_at g class a
+class_of_block g class a b r w l e =
+    let p = back_in_page (a - bodies g) r l in
+    let x : b - bodies g ≡ a - bodies g - r = omega arith in
+    rw (x, p.0, p.1) refl
+
+-- a word of a block is within its size
+pub body_room : (g : Geometry) (class : ℕ → ℕ → ℕ) (a b i : ℕ) → spot_at g class a ≡ Body b i → 2 + i < class_at g class b
+body_room g class a b i e =
+    let w = within_bodies g class a (ap is_in_body e) in
+    let h = block_body (class_at g class a) a ((a - bodies g) % 128) b i (sym (spot_in_bodies g class a w.0 w.1) ∙ e) in
+    let r : (a - bodies g) % 128 % class_at g class a ≤ (a - bodies g) % 128 = mod_most ((a - bodies g) % 128) (class_at g class a) h.0 in
+    let c = class_of_block g class a b ((a - bodies g) % 128 % class_at g class a) w.0 r h.1 in
+    let m : (a - bodies g) % 128 % class_at g class a < class_at g class a = omega arith in
+    omega arith
+
+-- the block of a tag
+block_tag : (k a i b : ℕ) → block_spot k a i ≡ Tag b → (k ≢ 0) × (b ≡ a - 1) × (i % k ≡ 1)
+block_tag k a i b e = grind (arith, nat_tests)
+
+after_head : (k c : ℕ) → c ≢ 0 → k % c ≡ 1 → (k - 1) % c ≡ 0
+after_head k c n e =
+    let x : k - 1 ≡ k / c * c + 0 = omega arith in
+    ap (λ u. u % c) x ∙ mod-mul-add (k / c) c 0 (omega arith)
+
+pub tag_block : (g : Geometry) (class : ℕ → ℕ → ℕ) (a b : ℕ) → spot_at g class a ≡ Tag b → IsBlock g class b × (b + 1 ≡ a) × (a < total_of g)
+tag_block g class a b e =
+    let w = within_bodies g class a (ap is_in_body e) in
+    let h = block_tag (class_at g class a) a ((a - bodies g) % 128) b (sym (spot_in_bodies g class a w.0 w.1) ∙ e) in
+    let r : 1 ≤ (a - bodies g) % 128 = let l = mod_most ((a - bodies g) % 128) (class_at g class a) h.0 in omega arith in
+    let p = back_in_page (a - bodies g) 1 r in
+    let m = after_head ((a - bodies g) % 128) (class_at g class a) h.0 h.2 in
+    let x : b - bodies g ≡ a - bodies g - 1 = omega arith in
+    let z : eqb (class_at g class a) 0 ≡ false = ne_eqb _ _ h.0 in
+    ((spot_in_bodies g class b (omega arith) (omega arith) ∙ rw (x, p.0, p.1, p.2, m, z) refl), omega arith, w.1)
+
+-- ---- two addresses
+
+pub same_address : (g : Geometry) (class : ℕ → ℕ → ℕ) (a b : ℕ) → a < total_of g → b < total_of g → spot_at g class a ≡ spot_at g class b → a ≡ b
+same_address g class a b l m e = sym (address-spot g class a l) ∙ (ap (spot_address g) e ∙ address-spot g class b m)
+
+pub other_spot : (g : Geometry) (class : ℕ → ℕ → ℕ) (a b : ℕ) → a < total_of g → b < total_of g → a ≢ b → same_spot (spot_at g class a) (spot_at g class b) ≡ false
+other_spot g class a b l m n = same_spot_not _ _ (λ e. n (same_address g class a b l m e))
+
+-- ---- a spot in a block that is there
+
+pub is_at_block : (g : Geometry) (class : ℕ → ℕ → ℕ) (b : ℕ) → IsAt g class (Head b) → IsBlock g class b
+unfolding spot_address
+is_at_block g class b at = at
+
+pub is_at_tag : (g : Geometry) (class : ℕ → ℕ → ℕ) (b : ℕ) → IsAt g class (Tag b) → IsBlock g class b
+is_at_tag g class b at = (tag_block g class (spot_address g (Tag b)) b at).0
+
+pub is_at_body : (g : Geometry) (class : ℕ → ℕ → ℕ) (b i : ℕ) → IsAt g class (Body b i) → IsBlock g class b × (2 + i < class_at g class b)
+is_at_body g class b i at = ((body_block g class (spot_address g (Body b i)) b i at).0, body_room g class (spot_address g (Body b i)) b i at)

@@ -53,6 +53,10 @@ spot_of class a (place.Segment s) = Segment s
 spot_of class a (place.Page s p) = Page s p
 spot_of class a (place.Body s p i) = block_spot (class s p) a i
 
+-- the words at the spots after a store at one of them
+abbrev pub upd : (Spot → ℕ) → Spot → ℕ → Spot → ℕ
+upd w p x q = if same_spot p q then x else w q
+
 -- the spot at an address
 unfoldable pub spot_at : Geometry → (ℕ → ℕ → ℕ) → ℕ → Spot
 spot_at g class a = spot_of class a (layout.place_at g a)
