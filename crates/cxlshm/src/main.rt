@@ -4,9 +4,14 @@
 #![tactic(auto)]
 
 mod form;
+mod pool_words;
 mod report;
+mod table_rows;
+#[cfg(test)]
+mod tests;
 mod text;
 mod top;
+mod value_names;
 
 use shm_io::{StdSink, StdSource};
 use std::alloc::{AllocError, Global};
