@@ -7,7 +7,6 @@ use Rattle.shm_words.specs.Layout.{total_of}
 use Rattle.shm_graph.specs.declared.spot.Spot.{Spot}
 use Rattle.shm_graph.specs.declared.spot.Spot.TheVariants.{Home, Root, Slot, Head, Tag, Body}
 use Rattle.shm_graph.specs.Spots.{spot_at}
-use Rattle.shm_graph.specs.Blocks.{classes}
 
 -- f 0 + f 1 + .. + f (n - 1)
 abbrev pub sum_below : ℕ → (ℕ → ℕ) → ℕ
