@@ -1,6 +1,6 @@
+pub mod CellAt
 pub mod Celling
 pub mod Nexts
-pub mod CellAt
 pub mod One
 pub mod Buckets
 pub mod Filled

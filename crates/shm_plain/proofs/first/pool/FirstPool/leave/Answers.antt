@@ -1,0 +1,24 @@
+use Rattle.std.proofs.Common.{refl, ◌≡◌, ℕ, List, ap, ◌∙◌, subst, sym, get_or, ◌+◌, inl, inr}
+use Rattle.shm_plain.specs.Cells.{Cell, Segment, Shows, upd, cell_at}
+use Rattle.shm_plain.proofs.CellAt.{cell_status, cell_segment}
+use Rattle.shm_plain.proofs.Celling.{shows_put, shown_segment}
+use Rattle.shm_plain.proofs.first.pool.FirstPool.leave.Goals as goal
+use Rattle.shm_plain.proofs.first.pool.FirstPool.leave.Goals.{then-load-eq1, else-load-eq1}
+
+pub loop-k-init : goal.loop-k-init
+loop-k-init c = refl
+
+pub drop_root-requires-clause-block : goal.drop_root-requires-clause-block
+drop_root-requires-clause-block c = λ some.
+    absurd (some (ap (λ (xs : List ℕ). get_or xs (7 + c.loop-k.k) 0) c.loop-k.invariant ∙ c.requires c.loop-k.k c.loop-k-test.true))
+
+pub loop-k-preserved : goal.loop-k-preserved
+loop-k-preserved c =
+    c.drop_root.ensures.none (ap (λ (xs : List ℕ). get_or xs (7 + c.loop-k.k) 0) c.loop-k.invariant ∙ c.requires c.loop-k.k c.loop-k-test.true) ∙ c.loop-k.invariant
+
+pub returns : goal.returns
+returns c = λ w s own.
+    let s0 : Shows c.loop-k.self.words.items w = subst (λ (xs : List ℕ). Shows xs w) (sym c.loop-k.invariant) s in
+    let found : c.load.result ≡ w Segment = c.load.ensures.is ∙ (ap (λ (a : ℕ). get_or c.loop-k.self.words.items a 0) c.segment-segment.ensures ∙ shown_segment _ w s0) in
+    let s1 : Shows c.if-load-eq1.self.words.items (upd w Segment 0) = ? in
+    subst (λ (p : Cell). Shows c.store-2.new.self.words.items (upd (upd w Segment 0) p 3)) (ap cell_at c.status-status.ensures ∙ cell_status) (c.store-2.ensures.shows _ s1)
