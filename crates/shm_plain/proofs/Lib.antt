@@ -14,3 +14,5 @@ pub mod EmptyPool
 pub mod Folding
 pub mod FilledTable
 pub mod Ending
+pub mod Alive
+pub mod Making

@@ -1,0 +1,51 @@
+-- live blocks among the words that are shown
+use Rattle.std.proofs.Common.{◌≡◌, ◌≢◌, ℕ, ◌+◌, ◌*◌, ◌^◌, ◌<◌, ◌≤◌, sym, ap, subst, ◌∙◌, arith, refl, true, inl, inr, ◌⊎◌, List, get_or}
+use Rattle.shm_words.specs.declared.header.Header.{Header}
+use Rattle.shm_words.specs.Headers.{header_of, HeaderFits}
+use Rattle.shm_words.proofs.Words.{header_of-word, live_word_not_zero}
+use Rattle.shm_plain.specs.Cells.{Cell, Root, Era, Shows, cell_at, upd, live_header, values}
+use Rattle.shm_plain.specs.Steps.{IsDroppable, raised, lowered}
+use Rattle.shm_plain.proofs.CellAt.{cell_root}
+use Rattle.shm_plain.proofs.Celling.{shown, shown_era, shown_root}
+
+pub live_not_none : (n e : ℕ) → live_header n e ≢ 0
+live_not_none n e = live_word_not_zero (record { live = true; client = 0; count = n; era = e }) refl
+
+pub live_count : (n e : ℕ) → n < 1024 → e < 2 ^ 47 → (header_of (live_header n e)).count ≡ n
+live_count n e l m =
+    let h : Header = record { live = true; client = 0; count = n; era = e } in
+    let f : HeaderFits h = record { client = omega arith; count = omega arith; era = omega arith } in
+    ap (λ (h : Header). h.count) (header_of-word h f)
+
+-- the word at an address of a block whose cell is known
+pub shown_as : (ws : List ℕ) (w : Cell → ℕ) (a : ℕ) (p : Cell) → Shows ws w → 50 ≤ a → a < 2098 → cell_at a ≡ p → get_or ws a 0 ≡ w p
+shown_as ws w a p s l h e = shown ws w a s l h ∙ ap w e
+
+-- the count of a live block
+pub counted : (ws : List ℕ) (w : Cell → ℕ) (a n e : ℕ) (p : Cell) → Shows ws w → 50 ≤ a → a < 2098 → cell_at a ≡ p → w p ≡ live_header n e → n < 1024 → e < 2 ^ 47 → (header_of (get_or ws a 0)).count ≡ n
+counted ws w a n e p s l h at is small low = ap (λ (x : ℕ). (header_of x).count) (shown_as ws w a p s l h at ∙ is) ∙ live_count n e small low
+
+-- a root that names a live block can be emptied
+pub droppable : (ws : List ℕ) (w : Cell → ℕ) (r b n e : ℕ) (p : Cell) → Shows ws w → r < 16 → w (Root r) ≡ b → 50 ≤ b → b < 2098 → cell_at b ≡ p → w p ≡ live_header n e → 0 < n → n < 1024 → e < 2 ^ 47 → w Era < 2 ^ 47 → IsDroppable ws r
+droppable ws w r b n e p s root names low high at is some small soon era =
+    let named : get_or ws (7 + r) 0 ≡ b = shown_root ws w r s root ∙ names in
+    let held : (header_of (get_or ws b 0)).count ≡ n = counted ws w b n e p s low high at is small soon in
+    let both : (header_of (get_or ws (get_or ws (7 + r) 0) 0)).count ≡ n = ap (λ (b : ℕ). (header_of (get_or ws b 0)).count) named ∙ held in
+    record {
+      block = omega (arith, named);
+      inside = omega (arith, named);
+      count = omega (arith, both);
+      era = omega (arith, shown_era ws w s);
+    }
+
+-- a block's count rises, seen at cells
+pub shows_raised : (ws : List ℕ) (w : Cell → ℕ) (e slot block n : ℕ) (p q : Cell) → Shows ws (raised w e slot block n) → cell_at block ≡ p → cell_at slot ≡ q → Shows ws (upd (upd (upd w p (live_header (n + 1) e)) q block) Era (e + 1))
+shows_raised ws w e slot block n p q s at to =
+    let s1 = subst (λ (p : Cell). Shows ws (upd (upd (upd w p (live_header (n + 1) e)) (cell_at slot) block) Era (e + 1))) at s in
+    subst (λ (q : Cell). Shows ws (upd (upd (upd w p (live_header (n + 1) e)) q block) Era (e + 1))) to s1
+
+-- a root is emptied and a block's count falls to 1, seen at cells
+pub shows_dropped : (ws : List ℕ) (w : Cell → ℕ) (e r block : ℕ) (p : Cell) → Shows ws (lowered w e (7 + r) block 2) → r < 16 → cell_at block ≡ p → Shows ws (upd (upd (upd w p (live_header 1 e)) (Root r) 0) Era (e + 1))
+shows_dropped ws w e r block p s root at =
+    let s1 = subst (λ (p : Cell). Shows ws (upd (upd (upd w p (live_header 1 e)) (cell_at (7 + r)) 0) Era (e + 1))) at s in
+    subst (λ (q : Cell). Shows ws (upd (upd (upd w p (live_header 1 e)) q 0) Era (e + 1))) (cell_root r root) s1
