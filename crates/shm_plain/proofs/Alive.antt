@@ -1,10 +1,10 @@
 -- live blocks among the words that are shown
-use Rattle.std.proofs.Common.{◌≡◌, ◌≢◌, ℕ, ◌+◌, ◌*◌, ◌^◌, ◌<◌, ◌≤◌, sym, ap, subst, ◌∙◌, arith, refl, true, inl, inr, ◌⊎◌, List, get_or}
+use Rattle.std.proofs.Common.{◌≡◌, ◌≢◌, ℕ, ◌+◌, ◌*◌, ◌^◌, ◌<◌, ◌≤◌, sym, ap, subst, ◌∙◌, arith, refl, true, inl, inr, ◌⊎◌, List, [], ◌∷◌, get_or}
 use Rattle.shm_words.specs.declared.header.Header.{Header}
 use Rattle.shm_words.specs.Headers.{header_of, HeaderFits}
 use Rattle.shm_words.proofs.Words.{header_of-word, live_word_not_zero}
-use Rattle.shm_plain.specs.Cells.{Cell, Root, Era, Shows, cell_at, upd, live_header, values}
-use Rattle.shm_plain.specs.Steps.{IsDroppable, raised, lowered}
+use Rattle.shm_plain.specs.Cells.{Cell, Root, Era, Segment, Page, Shows, cell_at, upd, live_header, own_tag, values}
+use Rattle.shm_plain.specs.Steps.{IsDroppable, raised, lowered, allocated, block_at}
 use Rattle.shm_plain.proofs.CellAt.{cell_root}
 use Rattle.shm_plain.proofs.Celling.{shown, shown_era, shown_root}
 
@@ -49,3 +49,18 @@ pub shows_dropped : (ws : List ℕ) (w : Cell → ℕ) (e r block : ℕ) (p : Ce
 shows_dropped ws w e r block p s root at =
     let s1 = subst (λ (p : Cell). Shows ws (upd (upd (upd w p (live_header 1 e)) (cell_at (7 + r)) 0) Era (e + 1))) at s in
     subst (λ (q : Cell). Shows ws (upd (upd (upd w p (live_header 1 e)) q 0) Era (e + 1))) (cell_root r root) s1
+
+-- a block with one plain word was made, seen at cells
+pub shows_made : (ws : List ℕ) (w : Cell → ℕ) (e class p i r refs x : ℕ) (head tag body : Cell) → Shows ws (allocated w e class p i r refs (x ∷ [])) → cell_at (block_at class p i) ≡ head → cell_at (block_at class p i + 1) ≡ tag → cell_at (block_at class p i + 2 + refs) ≡ body → Shows ws (upd (upd (upd (upd (upd (upd (upd w Segment 1) (Page p) class) tag (own_tag refs 1)) body x) head (live_header 1 e)) (Root r) (block_at class p i)) Era (e + 1))
+shows_made ws w e class p i r refs x head tag body s h t b =
+    let v = upd (upd w Segment 1) (Page p) class in
+    let s1 = subst (λ (tag : Cell). Shows ws (upd (upd (upd (upd (upd v tag (own_tag refs 1)) (cell_at (block_at class p i + 2 + refs)) x) (cell_at (block_at class p i)) (live_header 1 e)) (Root r) (block_at class p i)) Era (e + 1))) t s in
+    let s2 = subst (λ (body : Cell). Shows ws (upd (upd (upd (upd (upd v tag (own_tag refs 1)) body x) (cell_at (block_at class p i)) (live_header 1 e)) (Root r) (block_at class p i)) Era (e + 1))) b s1 in
+    subst (λ (head : Cell). Shows ws (upd (upd (upd (upd (upd v tag (own_tag refs 1)) body x) head (live_header 1 e)) (Root r) (block_at class p i)) Era (e + 1))) h s2
+
+-- a block without plain words was made, seen at cells
+pub shows_headed : (ws : List ℕ) (w : Cell → ℕ) (e class p i r refs : ℕ) (head tag : Cell) → Shows ws (allocated w e class p i r refs []) → cell_at (block_at class p i) ≡ head → cell_at (block_at class p i + 1) ≡ tag → Shows ws (upd (upd (upd (upd (upd (upd w Segment 1) (Page p) class) tag (own_tag refs 0)) head (live_header 1 e)) (Root r) (block_at class p i)) Era (e + 1))
+shows_headed ws w e class p i r refs head tag s h t =
+    let v = upd (upd w Segment 1) (Page p) class in
+    let s1 = subst (λ (tag : Cell). Shows ws (upd (upd (upd (upd v tag (own_tag refs 0)) (cell_at (block_at class p i)) (live_header 1 e)) (Root r) (block_at class p i)) Era (e + 1))) t s in
+    subst (λ (head : Cell). Shows ws (upd (upd (upd (upd v tag (own_tag refs 0)) head (live_header 1 e)) (Root r) (block_at class p i)) Era (e + 1))) h s1

@@ -16,3 +16,4 @@ pub mod FilledTable
 pub mod Ending
 pub mod Alive
 pub mod Making
+pub mod Housing

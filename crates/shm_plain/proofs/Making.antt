@@ -2,13 +2,13 @@
 use Rattle.std.proofs.Common.{◌≡◌, ◌≢◌, ℕ, zero, suc, ◌+◌, ◌*◌, ◌<◌, ◌≤◌, sym, ap, ◌∙◌, arith, refl, inl, inr, ◌⊎◌, List, [], ◌∷◌, get_or}
 use Rattle.std.proofs.lemmas.Bool.Decides.{nat_tests}
 use Rattle.shm_plain.specs.declared.pair.Pair.{Pair}
-use Rattle.shm_plain.specs.Cells.{Cell, Era, Segment, Page, Value, Directory, Entry, Root, Shows, after, put_at, live_header, own_tag, upd}
+use Rattle.shm_plain.specs.Cells.{Cell, Era, Segment, Page, Value, Directory, Entry, Root, Shows, cell_at, after, put_at, live_header, own_tag, upd}
 use Rattle.shm_plain.specs.Cells.Cell.{Spare, Status, Redo, Hold, Latch, Home, Queue, Rest}
 use Rattle.shm_plain.specs.Steps.{IsNext, IsFirstFree, IsLeastRoot, allocated, block_at}
 use Rattle.shm_plain.specs.Stages.{valued}
 use Rattle.shm_plain.proofs.CellAt.{cell_value_at}
 use Rattle.shm_plain.proofs.Celling.{shown_segment, shown_page, shown_root, shows_same}
-use Rattle.shm_plain.proofs.Alive.{shown_as, live_not_none}
+use Rattle.shm_plain.proofs.Alive.{shown_as, live_not_none, shows_made}
 
 value_used : (puts : List Pair) (k j : ℕ) → j < k → after puts k (Value j 0) ≡ live_header 1 (9 + 6 * j)
 value_used puts k j l = grind (arith, nat_tests)
@@ -55,7 +55,5 @@ value_cells puts k c = refl
 -- the words once it is made
 pub shows_valued : (puts : List Pair) (k : ℕ) (ws : List ℕ) → k < 16 → Shows ws (allocated (after puts k) (after puts k Era) 4 0 k 0 0 ((put_at puts k).number ∷ [])) → Shows ws (valued puts k)
 shows_valued puts k ws l s =
-    let e0 = cell_value_at (50 + 4 * k) k 0 (omega arith) (omega arith) (omega arith) in
-    let e1 = cell_value_at (50 + 4 * k + 1) k 1 (omega arith) (omega arith) (omega arith) in
-    let e2 = cell_value_at (50 + 4 * k + 2) k 2 (omega arith) (omega arith) (omega arith) in
-    shows_same ws _ (valued puts k) s (λ a low redo hold. rw (e0, e1, e2) (value_cells puts k _))
+    let s1 = shows_made ws (after puts k) (after puts k Era) 4 0 k 0 0 (put_at puts k).number (Value k 0) (Value k 1) (Value k 2) s (cell_value_at _ k 0 (omega arith) (omega arith) (omega arith)) (cell_value_at _ k 1 (omega arith) (omega arith) (omega arith)) (cell_value_at _ k 2 (omega arith) (omega arith) (omega arith)) in
+    shows_same ws _ (valued puts k) s1 (λ a low redo hold. value_cells puts k (cell_at a))
