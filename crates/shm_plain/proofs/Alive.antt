@@ -64,3 +64,7 @@ shows_headed ws w e class p i r refs head tag s h t =
     let v = upd (upd w Segment 1) (Page p) class in
     let s1 = subst (λ (tag : Cell). Shows ws (upd (upd (upd (upd v tag (own_tag refs 0)) (cell_at (block_at class p i)) (live_header 1 e)) (Root r) (block_at class p i)) Era (e + 1))) t s in
     subst (λ (head : Cell). Shows ws (upd (upd (upd (upd v tag (own_tag refs 0)) head (live_header 1 e)) (Root r) (block_at class p i)) Era (e + 1))) h s1
+
+-- the era in another form
+pub shows_era : (ws : List ℕ) (w : Cell → ℕ) (d e : ℕ) → Shows ws (upd w Era d) → d ≡ e → Shows ws (upd w Era e)
+shows_era ws w d e s is = subst (λ (e : ℕ). Shows ws (upd w Era e)) is s

@@ -7,7 +7,7 @@ use Rattle.shm_words.specs.declared.geometry.Geometry.{Geometry}
 use Rattle.shm_words.specs.Layout.{total_of}
 use Rattle.shm_plain.specs.Cells.{Cell, Spare, Status, Redo, Hold, Latch, Home, Era, Root, Queue, Segment, Page, Value, Directory, Entry, Rest, cell_at, same_cell, upd, Shows}
 use Rattle.shm_plain.specs.Steps.{fresh, stored_from, claimed}
-use Rattle.shm_plain.proofs.CellAt.{cell_era, cell_segment, cell_page, cell_root}
+use Rattle.shm_plain.proofs.CellAt.{cell_latch, cell_home, cell_era, cell_segment, cell_page, cell_root}
 
 -- the address of a cell
 abbrev address : Cell → ℕ
@@ -147,6 +147,12 @@ shows_put ws p x w s e = shows_same ws w _ s (λ a low redo hold. sym (upd_same 
 
 pub shown_segment : (ws : List ℕ) (w : Cell → ℕ) → Shows ws w → get_or ws 33 0 ≡ w Segment
 shown_segment ws w s = s.at 33 (omega arith) (λ e. cc) (λ e. cc) ∙ ap w cell_segment
+
+pub shown_home : (ws : List ℕ) (w : Cell → ℕ) → Shows ws w → get_or ws 5 0 ≡ w Home
+shown_home ws w s = s.at 5 (omega arith) (λ e. cc) (λ e. cc) ∙ ap w cell_home
+
+pub shown_latch : (ws : List ℕ) (w : Cell → ℕ) → Shows ws w → get_or ws 4 0 ≡ w Latch
+shown_latch ws w s = s.at 4 (omega arith) (λ e. cc) (λ e. cc) ∙ ap w cell_latch
 
 pub shown_page : (ws : List ℕ) (w : Cell → ℕ) (p : ℕ) → Shows ws w → p < 16 → get_or ws (34 + p) 0 ≡ w (Page p)
 shown_page ws w p s l = s.at (34 + p) (omega arith) (λ e. let x : 34 + p ≡ 2 = e in absurd (omega arith)) (λ e. let x : 34 + p ≡ 3 = e in absurd (omega arith)) ∙ ap w (cell_page p l)

@@ -7,7 +7,7 @@ use Rattle.shm_plain.specs.Cells.{Cell, Home, Era, Segment, Page, Value, Directo
 use Rattle.shm_plain.specs.Steps.{IsNext, IsFirstFree, IsLeastRoot, IsDroppable, allocated, raised, lowered, block_at}
 use Rattle.shm_plain.specs.Stages.{valued, housed}
 use Rattle.shm_plain.proofs.CellAt.{cell_home, cell_directory_at}
-use Rattle.shm_plain.proofs.Celling.{shown_segment, shown_page, shown_root, shows_same}
+use Rattle.shm_plain.proofs.Celling.{shown_segment, shown_page, shown_root, shown_home, shows_same}
 use Rattle.shm_plain.proofs.Alive.{shown_as, live_not_none, shows_headed, shows_raised, shows_dropped}
 
 -- at the first put, page 1 has no class
@@ -70,3 +70,17 @@ later_cells puts k c n = refl
 
 pub shows_later : (puts : List Pair) (k : ℕ) (ws : List ℕ) → k ≢ 0 → Shows ws (valued puts k) → Shows ws (housed puts k)
 shows_later puts k ws n s = shows_same ws (valued puts k) (housed puts k) s (λ a low redo hold. later_cells puts k (cell_at a) n)
+
+home_some : (puts : List Pair) (k : ℕ) → k ≢ 0 → valued puts k Home ≡ 178
+home_some puts k n = grind (arith, nat_tests)
+
+-- the home says whether it is the first put
+pub home_none : (puts : List Pair) (k : ℕ) (ws : List ℕ) → Shows ws (valued puts k) → get_or ws 5 0 ≡ 0 → k ≡ 0
+home_none puts k ws s e =
+    elim (cases_eq k 0) [
+      | inl z ↦ z
+      | inr n ↦ let h = shown_home ws (valued puts k) s ∙ home_some puts k n in absurd (omega arith)
+    ]
+
+pub home_there : (puts : List Pair) (k : ℕ) (ws : List ℕ) → Shows ws (valued puts k) → get_or ws 5 0 ≢ 0 → k ≢ 0
+home_there puts k ws s n e = n (shown_home ws (valued puts k) s ∙ ap (λ (k : ℕ). valued puts k Home) e)

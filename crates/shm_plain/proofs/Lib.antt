@@ -17,3 +17,4 @@ pub mod Ending
 pub mod Alive
 pub mod Making
 pub mod Housing
+pub mod Linking

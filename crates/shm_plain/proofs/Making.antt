@@ -57,3 +57,6 @@ pub shows_valued : (puts : List Pair) (k : ℕ) (ws : List ℕ) → k < 16 → S
 shows_valued puts k ws l s =
     let s1 = shows_made ws (after puts k) (after puts k Era) 4 0 k 0 0 (put_at puts k).number (Value k 0) (Value k 1) (Value k 2) s (cell_value_at _ k 0 (omega arith) (omega arith) (omega arith)) (cell_value_at _ k 1 (omega arith) (omega arith) (omega arith)) (cell_value_at _ k 2 (omega arith) (omega arith) (omega arith)) in
     shows_same ws _ (valued puts k) s1 (λ a low redo hold. value_cells puts k (cell_at a))
+
+pub era_low : (puts : List Pair) (k : ℕ) → k < 16 → after puts k Era < 1000
+era_low puts k l = grind (arith, nat_tests)

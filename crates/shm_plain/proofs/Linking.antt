@@ -1,0 +1,109 @@
+-- the entry of a put: where it is made, and the words once it is linked
+use Rattle.std.proofs.Common.{◌≡◌, ◌≢◌, ℕ, zero, suc, ◌+◌, ◌*◌, ◌<◌, ◌≤◌, sym, ap, ◌∙◌, arith, refl, inl, inr, ◌⊎◌, List, [], ◌∷◌, get_or, length, add-one, ◌==◌}
+use Rattle.std.specs.Prelude.{if◌then◌else◌}
+use Rattle.std.proofs.lemmas.Bool.{cases_eq}
+use Rattle.std.proofs.lemmas.Bool.Decides.{nat_tests}
+use Rattle.shm_plain.specs.declared.pair.Pair.{Pair}
+use Rattle.shm_plain.specs.Puts.{bucket_of}
+use Rattle.shm_plain.specs.Cells.{Cell, Latch, Home, Era, Segment, Page, Value, Directory, Entry, Root, Shows, cell_at, after, put_at, bucket_word, live_header, own_tag, upd}
+use Rattle.shm_plain.specs.Steps.{IsNext, IsFirstFree, IsLeastRoot, allocated, raised, lowered, block_at}
+use Rattle.shm_plain.specs.Stages.{housed, latched, entered, linked}
+use Rattle.shm_plain.proofs.CellAt.{cell_value_at, cell_directory_at, cell_entry_at}
+use Rattle.shm_plain.proofs.Celling.{shown_segment, shown_page, shown_root, shows_same}
+use Rattle.shm_plain.proofs.Alive.{shown_as, live_not_none, shows_made, shows_raised, shows_dropped, shows_era}
+
+entry_used : (puts : List Pair) (k j : ℕ) → j < k → latched puts k (Entry j 0) ≡ live_header 1 (8 + 6 * j)
+entry_used puts k j l = grind (arith, nat_tests)
+
+entry_free : (puts : List Pair) (k j : ℕ) → latched puts k (Entry k j) ≡ 0
+entry_free puts k j = grind (arith, nat_tests)
+
+value_page : (puts : List Pair) (k : ℕ) → latched puts k (Page 0) ≡ 4
+value_page puts k = grind (arith, nat_tests)
+
+directory_page : (puts : List Pair) (k : ℕ) → latched puts k (Page 1) ≡ 32
+directory_page puts k = grind (arith, nat_tests)
+
+entry_page : (puts : List Pair) (k : ℕ) → (latched puts k (Page 2) ≡ 0) ⊎ (latched puts k (Page 2) ≡ 8)
+entry_page puts k = grind (arith, nat_tests)
+
+other_page : (puts : List Pair) (k : ℕ) (ws : List ℕ) → Shows ws (latched puts k) → (q : ℕ) → q < 2 → (get_or ws (34 + q) 0 ≢ 0) × (get_or ws (34 + q) 0 ≢ 8)
+other_page puts k ws s q h =
+    let e = shown_page ws (latched puts k) 0 s (omega arith) ∙ value_page puts k in
+    let f = shown_page ws (latched puts k) 1 s (omega arith) ∙ directory_page puts k in
+    elim (cases_eq q 0) [
+      | inl z ↦ rw z (omega (arith, e), omega (arith, e))
+      | inr z ↦ let o : q ≡ 1 = omega arith in rw o (omega (arith, f), omega (arith, f))
+    ]
+
+-- the next entry block is that of put k
+pub entry_next : (puts : List Pair) (k : ℕ) (ws : List ℕ) → k < 16 → Shows ws (latched puts k) → IsNext ws 8 2 k
+entry_next puts k ws l s = record {
+  page = omega arith;
+  segment = inr (shown_segment ws (latched puts k) s);
+  before = other_page puts k ws s;
+  here = rw (shown_page ws (latched puts k) 2 s (omega arith)) (entry_page puts k);
+  first = record {
+    room = omega arith;
+    used = λ j h e. live_not_none 1 (8 + 6 * j) (sym (shown_as ws (latched puts k) (block_at 8 2 j) (Entry j 0) s (omega arith) (omega arith) (cell_entry_at _ j 0 (omega arith) (omega arith) (omega arith)) ∙ entry_used puts k j h) ∙ e);
+    free = shown_as ws (latched puts k) (block_at 8 2 k) (Entry k 0) s (omega arith) (omega arith) (cell_entry_at _ k 0 (omega arith) (omega arith) (omega arith)) ∙ entry_free puts k 0;
+  };
+  free = λ j h. shown_as ws (latched puts k) (block_at 8 2 k + j) (Entry k j) s (omega arith) (omega arith) (cell_entry_at _ k j (omega arith) (omega arith) h) ∙ entry_free puts k j;
+}
+
+pub entry_root : (puts : List Pair) (k : ℕ) (ws : List ℕ) → Shows ws (latched puts k) → IsLeastRoot ws 1
+entry_root puts k ws s =
+    let held : get_or ws 7 0 ≡ 50 + 4 * k = shown_root ws (latched puts k) 0 s (omega arith) in
+    record {
+      root = omega arith;
+      before = λ j h. let z : j ≡ 0 = omega arith in rw z (omega (arith, held));
+      empty = shown_root ws (latched puts k) 1 s (omega arith);
+    }
+
+entry_cells : (puts : List Pair) (k : ℕ) (c : Cell) → upd (upd (upd (upd (upd (upd (upd (latched puts k) Segment 1) (Page 2) 8) (Entry k 1) (own_tag 2 1)) (Entry k 4) (put_at puts k).key) (Entry k 0) (live_header 1 (5 + 6 * k))) (Root 1) (306 + 8 * k)) Era (5 + 6 * k + 1) c ≡ entered puts k c
+entry_cells puts k Era = omega arith
+entry_cells puts k (Root j) = grind (arith, nat_tests)
+entry_cells puts k (Page p) = grind (arith, nat_tests)
+entry_cells puts k (Entry i j) = grind (arith, nat_tests)
+entry_cells puts k Segment = refl
+entry_cells puts k c = refl
+
+pub shows_entered : (puts : List Pair) (k : ℕ) (ws : List ℕ) → k < 16 → Shows ws (allocated (latched puts k) (5 + 6 * k) 8 2 k 1 2 ((put_at puts k).key ∷ [])) → Shows ws (entered puts k)
+shows_entered puts k ws l s =
+    let s1 = shows_made ws (latched puts k) (5 + 6 * k) 8 2 k 1 2 (put_at puts k).key (Entry k 0) (Entry k 1) (Entry k 4) s (cell_entry_at _ k 0 (omega arith) (omega arith) (omega arith)) (cell_entry_at _ k 1 (omega arith) (omega arith) (omega arith)) (cell_entry_at _ k 4 (omega arith) (omega arith) (omega arith)) in
+    shows_same ws _ (entered puts k) s1 (λ a low redo hold. entry_cells puts k (cell_at a))
+
+-- the entry references the value, and the bucket the entry
+abbrev pub valuing : List Pair → ℕ → Cell → ℕ
+valuing puts k = upd (upd (upd (entered puts k) (Value k 0) (live_header 2 (6 + 6 * k))) (Entry k 3) (50 + 4 * k)) Era (7 + 6 * k)
+
+abbrev pub hanging : List Pair → ℕ → Cell → ℕ
+hanging puts k = upd (upd (upd (valuing puts k) (Entry k 0) (live_header 2 (7 + 6 * k))) (Directory (2 + bucket_of (put_at puts k).key)) (306 + 8 * k)) Era (8 + 6 * k)
+
+bucket_step : (puts : List Pair) (k j : ℕ) → j < 16 → bucket_word puts (k + 1) j ≡ (if bucket_of (put_at puts k).key == j then 306 + 8 * k else bucket_word puts k j)
+bucket_step puts k j l = rw (add-one k) refl
+
+directory_cells : (puts : List Pair) (k j : ℕ) → upd (housed puts k) (Directory (2 + bucket_of (put_at puts k).key)) (306 + 8 * k) (Directory j) ≡ after puts (k + 1) (Directory j)
+directory_cells puts k j = ?
+
+link_cells : (puts : List Pair) (k : ℕ) (c : Cell) → upd (upd (upd (upd (hanging puts k) Latch 0) (Entry k 0) (live_header 1 (8 + 6 * k))) (Root 1) 0) Era (8 + 6 * k + 1) c ≡ linked puts k c
+link_cells puts k Home = grind (arith, nat_tests)
+link_cells puts k Era = omega arith
+link_cells puts k (Root j) = grind (arith, nat_tests)
+link_cells puts k Segment = grind (arith, nat_tests)
+link_cells puts k (Page p) = grind (arith, nat_tests)
+link_cells puts k (Value i j) = grind (arith, nat_tests)
+link_cells puts k (Directory j) = directory_cells puts k j
+link_cells puts k (Entry i j) = grind (arith, nat_tests)
+link_cells puts k c = refl
+
+pub shows_valuing : (puts : List Pair) (k : ℕ) (ws : List ℕ) → k < 16 → Shows ws (raised (entered puts k) (6 + 6 * k) (306 + 8 * k + 3) (50 + 4 * k) 1) → Shows ws (valuing puts k)
+shows_valuing puts k ws l s = shows_era ws _ (6 + 6 * k + 1) (7 + 6 * k) (shows_raised ws (entered puts k) (6 + 6 * k) (306 + 8 * k + 3) (50 + 4 * k) 1 (Value k 0) (Entry k 3) s (cell_value_at _ k 0 (omega arith) (omega arith) (omega arith)) (cell_entry_at _ k 3 (omega arith) (omega arith) (omega arith))) (omega arith)
+
+pub shows_hanging : (puts : List Pair) (k : ℕ) (ws : List ℕ) → k < 16 → Shows ws (raised (valuing puts k) (7 + 6 * k) (180 + bucket_of (put_at puts k).key) (306 + 8 * k) 1) → Shows ws (hanging puts k)
+shows_hanging puts k ws l s = shows_era ws _ (7 + 6 * k + 1) (8 + 6 * k) (shows_raised ws (valuing puts k) (7 + 6 * k) (180 + bucket_of (put_at puts k).key) (306 + 8 * k) 1 (Entry k 0) (Directory (2 + bucket_of (put_at puts k).key)) s (cell_entry_at _ k 0 (omega arith) (omega arith) (omega arith)) (cell_directory_at _ (2 + bucket_of (put_at puts k).key) (omega arith) (omega arith))) (omega arith)
+
+pub shows_linked : (puts : List Pair) (k : ℕ) (ws : List ℕ) → k < 16 → Shows ws (lowered (upd (hanging puts k) Latch 0) (8 + 6 * k) 8 (306 + 8 * k) 2) → Shows ws (linked puts k)
+shows_linked puts k ws l s =
+    let s1 = shows_dropped ws (upd (hanging puts k) Latch 0) (8 + 6 * k) 1 (306 + 8 * k) (Entry k 0) s (omega arith) (cell_entry_at _ k 0 (omega arith) (omega arith) (omega arith)) in
+    shows_same ws _ (linked puts k) s1 (λ a low redo hold. link_cells puts k (cell_at a))
