@@ -1,7 +1,7 @@
 -- the entry of a put: where it is made, and the words once it is linked
-use Rattle.std.proofs.Common.{◌≡◌, ◌≢◌, ℕ, zero, suc, ◌+◌, ◌*◌, ◌<◌, ◌≤◌, sym, ap, ◌∙◌, arith, refl, inl, inr, ◌⊎◌, List, [], ◌∷◌, get_or, length, add-one, ◌==◌}
-use Rattle.std.specs.Prelude.{if◌then◌else◌}
-use Rattle.std.proofs.lemmas.Bool.{cases_eq}
+use Rattle.std.proofs.Common.{◌≡◌, ◌≢◌, ℕ, zero, suc, ◌+◌, ◌*◌, ◌<◌, ◌≤◌, sym, ap, ◌∙◌, arith, refl, inl, inr, ◌⊎◌, List, [], ◌∷◌, get_or, add-one, ◌==◌, ◌-◌}
+use Rattle.std.specs.Prelude.{if◌then◌else◌, nat_lt}
+use Rattle.std.proofs.lemmas.Bool.{cases_eq, cond-false, ne_eqb}
 use Rattle.std.proofs.lemmas.Bool.Decides.{nat_tests}
 use Rattle.shm_plain.specs.declared.pair.Pair.{Pair}
 use Rattle.shm_plain.specs.Puts.{bucket_of}
@@ -80,11 +80,18 @@ valuing puts k = upd (upd (upd (entered puts k) (Value k 0) (live_header 2 (6 + 
 abbrev pub hanging : List Pair → ℕ → Cell → ℕ
 hanging puts k = upd (upd (upd (valuing puts k) (Entry k 0) (live_header 2 (7 + 6 * k))) (Directory (2 + bucket_of (put_at puts k).key)) (306 + 8 * k)) Era (8 + 6 * k)
 
-bucket_step : (puts : List Pair) (k j : ℕ) → j < 16 → bucket_word puts (k + 1) j ≡ (if bucket_of (put_at puts k).key == j then 306 + 8 * k else bucket_word puts k j)
-bucket_step puts k j l = rw (add-one k) refl
+bucket_step : (puts : List Pair) (k b : ℕ) → bucket_word puts (k + 1) b ≡ (if bucket_of (put_at puts k).key == b then 306 + 8 * k else bucket_word puts k b)
+bucket_step puts k b = rw (add-one k) refl
+
+-- a directory whose bucket b came to be a word x, where bucket words were u and are v
+bucket_words : (h t b x j : ℕ) (u v : ℕ → ℕ) → b < 16 → ((i : ℕ) → v i ≡ (if b == i then x else u i)) → (if 2 + b == j then x else if j == 0 then h else if j == 1 then t else if nat_lt j 18 then u (j - 2) else 0) ≡ (if j == 0 then h else if j == 1 then t else if nat_lt j 18 then v (j - 2) else 0)
+bucket_words h t b x j u v l step = let e = step (j - 2) in grind (arith, nat_tests)
 
 directory_cells : (puts : List Pair) (k j : ℕ) → upd (housed puts k) (Directory (2 + bucket_of (put_at puts k).key)) (306 + 8 * k) (Directory j) ≡ after puts (k + 1) (Directory j)
-directory_cells puts k j = ?
+directory_cells puts k j =
+    let l : bucket_of (put_at puts k).key < 16 = omega arith in
+    let n : k + 1 ≢ 0 = omega arith in
+    bucket_words (live_header 1 4) (own_tag 16 0) (bucket_of (put_at puts k).key) (306 + 8 * k) j (bucket_word puts k) (bucket_word puts (k + 1)) l (bucket_step puts k) ∙ sym (cond-false _ _ _ (ne_eqb (k + 1) 0 n))
 
 link_cells : (puts : List Pair) (k : ℕ) (c : Cell) → upd (upd (upd (upd (hanging puts k) Latch 0) (Entry k 0) (live_header 1 (8 + 6 * k))) (Root 1) 0) Era (8 + 6 * k + 1) c ≡ linked puts k c
 link_cells puts k Home = grind (arith, nat_tests)
