@@ -38,17 +38,27 @@ droppable ws w r b n e p s root names low high at is some small soon era =
       era = omega (arith, shown_era ws w s);
     }
 
--- a block's count rises, seen at cells
-pub shows_raised : (ws : List ℕ) (w : Cell → ℕ) (e slot block n : ℕ) (p q : Cell) → Shows ws (raised w e slot block n) → cell_at block ≡ p → cell_at slot ≡ q → Shows ws (upd (upd (upd w p (live_header (n + 1) e)) q block) Era (e + 1))
-shows_raised ws w e slot block n p q s at to =
-    let s1 = subst (λ (p : Cell). Shows ws (upd (upd (upd w p (live_header (n + 1) e)) (cell_at slot) block) Era (e + 1))) at s in
-    subst (λ (q : Cell). Shows ws (upd (upd (upd w p (live_header (n + 1) e)) q block) Era (e + 1))) to s1
+-- what raising a block's count for a slot does, and emptying a root
+abbrev pub Raises : List ℕ → List ℕ → ℕ → ℕ → Type 0
+Raises ws vs slot block = (w : Cell → ℕ) (e n : ℕ) → Shows ws w → w Era ≡ e → (header_of (w (cell_at block))).count ≡ n → Shows vs (raised w e slot block n)
 
--- a root is emptied and a block's count falls to 1, seen at cells
-pub shows_dropped : (ws : List ℕ) (w : Cell → ℕ) (e r block : ℕ) (p : Cell) → Shows ws (lowered w e (7 + r) block 2) → r < 16 → cell_at block ≡ p → Shows ws (upd (upd (upd w p (live_header 1 e)) (Root r) 0) Era (e + 1))
-shows_dropped ws w e r block p s root at =
-    let s1 = subst (λ (p : Cell). Shows ws (upd (upd (upd w p (live_header 1 e)) (cell_at (7 + r)) 0) Era (e + 1))) at s in
-    subst (λ (q : Cell). Shows ws (upd (upd (upd w p (live_header 1 e)) q 0) Era (e + 1))) (cell_root r root) s1
+abbrev pub Drops : List ℕ → List ℕ → ℕ → Type 0
+Drops ws vs r = (w : Cell → ℕ) (e b n : ℕ) → Shows ws w → w Era ≡ e → w (Root r) ≡ b → b ≢ 0 → (header_of (w (cell_at b))).count ≡ n → Shows vs (lowered w e (7 + r) b n)
+
+count_as : (w : Cell → ℕ) (b n e : ℕ) (p : Cell) → cell_at b ≡ p → w p ≡ live_header n e → n < 1024 → e < 2 ^ 47 → (header_of (w (cell_at b))).count ≡ n
+count_as w b n e p at is small low = ap (λ (x : ℕ). (header_of x).count) (ap w at ∙ is) ∙ live_count n e small low
+
+-- a block's count rose, seen at cells
+pub shows_raised : (ws vs : List ℕ) (w : Cell → ℕ) (slot block e n h : ℕ) (p q : Cell) → Raises ws vs slot block → Shows ws w → w Era ≡ e → cell_at block ≡ p → cell_at slot ≡ q → w p ≡ live_header n h → n < 1024 → h < 2 ^ 47 → Shows vs (upd (upd (upd w p (live_header (n + 1) e)) q block) Era (e + 1))
+shows_raised ws vs w slot block e n h p q raises s era at to is small low =
+    let s1 = subst (λ (p : Cell). Shows vs (upd (upd (upd w p (live_header (n + 1) e)) (cell_at slot) block) Era (e + 1))) at (raises w e n s era (count_as w block n h p at is small low)) in
+    subst (λ (q : Cell). Shows vs (upd (upd (upd w p (live_header (n + 1) e)) q block) Era (e + 1))) to s1
+
+-- a root was emptied, and its block's count fell to 1, seen at cells
+pub shows_dropped : (ws vs : List ℕ) (w : Cell → ℕ) (r b e h : ℕ) (p : Cell) → Drops ws vs r → Shows ws w → r < 16 → w Era ≡ e → w (Root r) ≡ b → b ≢ 0 → cell_at b ≡ p → w p ≡ live_header 2 h → h < 2 ^ 47 → Shows vs (upd (upd (upd w p (live_header 1 e)) (Root r) 0) Era (e + 1))
+shows_dropped ws vs w r b e h p drops s root era names some at is low =
+    let s1 = subst (λ (p : Cell). Shows vs (upd (upd (upd w p (live_header 1 e)) (cell_at (7 + r)) 0) Era (e + 1))) at (drops w e b 2 s era names some (count_as w b 2 h p at is (omega arith) low)) in
+    subst (λ (q : Cell). Shows vs (upd (upd (upd w p (live_header 1 e)) q 0) Era (e + 1))) (cell_root r root) s1
 
 -- a block with one plain word was made, seen at cells
 pub shows_made : (ws : List ℕ) (w : Cell → ℕ) (e class p i r refs x : ℕ) (head tag body : Cell) → Shows ws (allocated w e class p i r refs (x ∷ [])) → cell_at (block_at class p i) ≡ head → cell_at (block_at class p i + 1) ≡ tag → cell_at (block_at class p i + 2 + refs) ≡ body → Shows ws (upd (upd (upd (upd (upd (upd (upd w Segment 1) (Page p) class) tag (own_tag refs 1)) body x) head (live_header 1 e)) (Root r) (block_at class p i)) Era (e + 1))

@@ -3,14 +3,15 @@ use Rattle.std.proofs.Common.{◌≡◌, ◌≢◌, ℕ, zero, suc, ◌+◌, ◌
 use Rattle.std.specs.Prelude.{if◌then◌else◌, nat_lt}
 use Rattle.std.proofs.lemmas.Bool.{cases_eq, cond-false, ne_eqb}
 use Rattle.std.proofs.lemmas.Bool.Decides.{nat_tests}
+use Rattle.shm_words.specs.Headers.{header_of}
 use Rattle.shm_plain.specs.declared.pair.Pair.{Pair}
 use Rattle.shm_plain.specs.Puts.{bucket_of}
 use Rattle.shm_plain.specs.Cells.{Cell, Latch, Home, Era, Segment, Page, Value, Directory, Entry, Root, Shows, cell_at, after, put_at, bucket_word, live_header, own_tag, upd}
-use Rattle.shm_plain.specs.Steps.{IsNext, IsFirstFree, IsLeastRoot, allocated, raised, lowered, block_at}
+use Rattle.shm_plain.specs.Steps.{IsNext, IsFirstFree, IsLeastRoot, IsDroppable, allocated, block_at}
 use Rattle.shm_plain.specs.Stages.{housed, latched, entered, linked}
 use Rattle.shm_plain.proofs.CellAt.{cell_value_at, cell_directory_at, cell_entry_at}
 use Rattle.shm_plain.proofs.Celling.{shown_segment, shown_page, shown_root, shows_same}
-use Rattle.shm_plain.proofs.Alive.{shown_as, live_not_none, shows_made, shows_raised, shows_dropped, shows_era}
+use Rattle.shm_plain.proofs.Alive.{shown_as, live_not_none, shows_made, Raises, Drops, shows_raised, shows_dropped, shows_era, counted, droppable}
 
 entry_used : (puts : List Pair) (k j : ℕ) → j < k → latched puts k (Entry j 0) ≡ live_header 1 (8 + 6 * j)
 entry_used puts k j l = grind (arith, nat_tests)
@@ -104,13 +105,59 @@ link_cells puts k (Directory j) = directory_cells puts k j
 link_cells puts k (Entry i j) = grind (arith, nat_tests)
 link_cells puts k c = refl
 
-pub shows_valuing : (puts : List Pair) (k : ℕ) (ws : List ℕ) → k < 16 → Shows ws (raised (entered puts k) (6 + 6 * k) (306 + 8 * k + 3) (50 + 4 * k) 1) → Shows ws (valuing puts k)
-shows_valuing puts k ws l s = shows_era ws _ (6 + 6 * k + 1) (7 + 6 * k) (shows_raised ws (entered puts k) (6 + 6 * k) (306 + 8 * k + 3) (50 + 4 * k) 1 (Value k 0) (Entry k 3) s (cell_value_at _ k 0 (omega arith) (omega arith) (omega arith)) (cell_entry_at _ k 3 (omega arith) (omega arith) (omega arith))) (omega arith)
+entered_header : (puts : List Pair) (k : ℕ) → entered puts k (Value k 0) ≡ live_header 1 (if k == 0 then 1 else 4 + 6 * k)
+entered_header puts k = grind (arith, nat_tests)
 
-pub shows_hanging : (puts : List Pair) (k : ℕ) (ws : List ℕ) → k < 16 → Shows ws (raised (valuing puts k) (7 + 6 * k) (180 + bucket_of (put_at puts k).key) (306 + 8 * k) 1) → Shows ws (hanging puts k)
-shows_hanging puts k ws l s = shows_era ws _ (7 + 6 * k + 1) (8 + 6 * k) (shows_raised ws (valuing puts k) (7 + 6 * k) (180 + bucket_of (put_at puts k).key) (306 + 8 * k) 1 (Entry k 0) (Directory (2 + bucket_of (put_at puts k).key)) s (cell_entry_at _ k 0 (omega arith) (omega arith) (omega arith)) (cell_directory_at _ (2 + bucket_of (put_at puts k).key) (omega arith) (omega arith))) (omega arith)
+era_before : (k : ℕ) → k < 16 → (if k == 0 then 1 else 4 + 6 * k) < 1000
+era_before k l = grind (arith, nat_tests)
 
-pub shows_linked : (puts : List Pair) (k : ℕ) (ws : List ℕ) → k < 16 → Shows ws (lowered (upd (hanging puts k) Latch 0) (8 + 6 * k) 8 (306 + 8 * k) 2) → Shows ws (linked puts k)
-shows_linked puts k ws l s =
-    let s1 = shows_dropped ws (upd (hanging puts k) Latch 0) (8 + 6 * k) 1 (306 + 8 * k) (Entry k 0) s (omega arith) (cell_entry_at _ k 0 (omega arith) (omega arith) (omega arith)) in
-    shows_same ws _ (linked puts k) s1 (λ a low redo hold. link_cells puts k (cell_at a))
+valuing_header : (puts : List Pair) (k : ℕ) → valuing puts k (Entry k 0) ≡ live_header 1 (5 + 6 * k)
+valuing_header puts k = grind (arith, nat_tests)
+
+hanging_header : (puts : List Pair) (k : ℕ) → hanging puts k (Entry k 0) ≡ live_header 2 (7 + 6 * k)
+hanging_header puts k = grind (arith, nat_tests)
+
+pub shows_valuing : (puts : List Pair) (k : ℕ) (ws vs : List ℕ) → k < 16 → Raises ws vs (306 + 8 * k + 3) (50 + 4 * k) → Shows ws (entered puts k) → Shows vs (valuing puts k)
+shows_valuing puts k ws vs l raises s =
+    let low = era_before k l in
+    shows_era vs _ (6 + 6 * k + 1) (7 + 6 * k) (shows_raised ws vs (entered puts k) (306 + 8 * k + 3) (50 + 4 * k) (6 + 6 * k) 1 _ (Value k 0) (Entry k 3) raises s refl (cell_value_at _ k 0 (omega arith) (omega arith) (omega arith)) (cell_entry_at _ k 3 (omega arith) (omega arith) (omega arith)) (entered_header puts k) (omega arith) (omega arith)) (omega arith)
+
+pub shows_hanging : (puts : List Pair) (k : ℕ) (ws vs : List ℕ) → k < 16 → Raises ws vs (180 + bucket_of (put_at puts k).key) (306 + 8 * k) → Shows ws (valuing puts k) → Shows vs (hanging puts k)
+shows_hanging puts k ws vs l raises s =
+    shows_era vs _ (7 + 6 * k + 1) (8 + 6 * k) (shows_raised ws vs (valuing puts k) (180 + bucket_of (put_at puts k).key) (306 + 8 * k) (7 + 6 * k) 1 _ (Entry k 0) (Directory (2 + bucket_of (put_at puts k).key)) raises s refl (cell_entry_at _ k 0 (omega arith) (omega arith) (omega arith)) (cell_directory_at _ (2 + bucket_of (put_at puts k).key) (omega arith) (omega arith)) (valuing_header puts k) (omega arith) (omega arith)) (omega arith)
+
+pub shows_linked : (puts : List Pair) (k : ℕ) (ws vs : List ℕ) → k < 16 → Drops ws vs 1 → Shows ws (upd (hanging puts k) Latch 0) → Shows vs (linked puts k)
+shows_linked puts k ws vs l drops s =
+    let s1 = shows_dropped ws vs (upd (hanging puts k) Latch 0) 1 (306 + 8 * k) (8 + 6 * k) _ (Entry k 0) drops s (omega arith) refl refl (omega arith) (cell_entry_at _ k 0 (omega arith) (omega arith) (omega arith)) (hanging_header puts k) (omega arith) in
+    shows_same vs _ (linked puts k) s1 (λ a low redo hold. link_cells puts k (cell_at a))
+
+-- the counts that are raised, and that the entry's root can be emptied
+pub entered_count : (puts : List Pair) (k : ℕ) (ws : List ℕ) → k < 16 → Shows ws (entered puts k) → (header_of (get_or ws (50 + 4 * k) 0)).count ≡ 1
+entered_count puts k ws l s = 
+    let low = era_before k l in
+    counted ws (entered puts k) (50 + 4 * k) 1 _ (Value k 0) s (omega arith) (omega arith) (cell_value_at _ k 0 (omega arith) (omega arith) (omega arith)) (entered_header puts k) (omega arith) (omega arith)
+
+pub valuing_count : (puts : List Pair) (k : ℕ) (ws : List ℕ) → k < 16 → Shows ws (valuing puts k) → (header_of (get_or ws (306 + 8 * k) 0)).count ≡ 1
+valuing_count puts k ws l s = counted ws (valuing puts k) (306 + 8 * k) 1 _ (Entry k 0) s (omega arith) (omega arith) (cell_entry_at _ k 0 (omega arith) (omega arith) (omega arith)) (valuing_header puts k) (omega arith) (omega arith)
+
+pub hanging_droppable : (puts : List Pair) (k : ℕ) (ws : List ℕ) → k < 16 → Shows ws (upd (hanging puts k) Latch 0) → IsDroppable ws 1
+hanging_droppable puts k ws l s = droppable ws (upd (hanging puts k) Latch 0) 1 (306 + 8 * k) 2 _ (Entry k 0) s (omega arith) refl (omega arith) (omega arith) (cell_entry_at _ k 0 (omega arith) (omega arith) (omega arith)) (hanging_header puts k) (omega arith) (omega arith) (omega arith) (omega arith)
+
+-- ---- the last step of a put
+
+linked_header : (puts : List Pair) (k : ℕ) → linked puts k (Value k 0) ≡ live_header 2 (6 + 6 * k)
+linked_header puts k = grind (arith, nat_tests)
+
+put_cells : (puts : List Pair) (k : ℕ) (c : Cell) → upd (upd (upd (linked puts k) (Value k 0) (live_header 1 (9 + 6 * k))) (Root 0) 0) Era (9 + 6 * k + 1) c ≡ after puts (k + 1) c
+put_cells puts k Era = grind (arith, nat_tests)
+put_cells puts k (Root j) = grind (arith, nat_tests)
+put_cells puts k (Value i j) = grind (arith, nat_tests)
+put_cells puts k c = refl
+
+pub linked_droppable : (puts : List Pair) (k : ℕ) (ws : List ℕ) → k < 16 → Shows ws (linked puts k) → IsDroppable ws 0
+linked_droppable puts k ws l s = droppable ws (linked puts k) 0 (50 + 4 * k) 2 _ (Value k 0) s (omega arith) refl (omega arith) (omega arith) (cell_value_at _ k 0 (omega arith) (omega arith) (omega arith)) (linked_header puts k) (omega arith) (omega arith) (omega arith) (omega arith)
+
+pub shows_after : (puts : List Pair) (k : ℕ) (ws vs : List ℕ) → k < 16 → Drops ws vs 0 → Shows ws (linked puts k) → Shows vs (after puts (k + 1))
+shows_after puts k ws vs l drops s =
+    let s1 = shows_dropped ws vs (linked puts k) 0 (50 + 4 * k) (9 + 6 * k) _ (Value k 0) drops s (omega arith) refl refl (omega arith) (cell_value_at _ k 0 (omega arith) (omega arith) (omega arith)) (linked_header puts k) (omega arith) in
+    shows_same vs _ (after puts (k + 1)) s1 (λ a low redo hold. put_cells puts k (cell_at a))
