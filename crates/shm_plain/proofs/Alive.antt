@@ -78,3 +78,9 @@ shows_headed ws w e class p i r refs head tag s h t =
 -- the era in another form
 pub shows_era : (ws : List ℕ) (w : Cell → ℕ) (d e : ℕ) → Shows ws (upd w Era d) → d ≡ e → Shows ws (upd w Era e)
 shows_era ws w d e s is = subst (λ (e : ℕ). Shows ws (upd w Era e)) is s
+
+pub raises_as : (ws vs : List ℕ) (slot block a b : ℕ) → Raises ws vs slot block → slot ≡ a → block ≡ b → Raises ws vs a b
+raises_as ws vs slot block a b raises d e = subst (λ (a : ℕ). Raises ws vs a b) d (subst (λ (b : ℕ). Raises ws vs slot b) e raises)
+
+pub drops_as : (ws vs : List ℕ) (r q : ℕ) → Drops ws vs r → r ≡ q → Drops ws vs q
+drops_as ws vs r q drops e = subst (λ (q : ℕ). Drops ws vs q) e drops

@@ -86,12 +86,15 @@ home_some : (puts : List Pair) (k : ℕ) → k ≢ 0 → valued puts k Home ≡ 
 home_some puts k n = grind (arith, nat_tests)
 
 -- the home says whether it is the first put
-pub first_words : (puts : List Pair) (k : ℕ) (ws : List ℕ) (at home : ℕ) → Shows ws (valued puts k) → at ≡ 5 → home ≡ get_or ws at 0 → home ≡ 0 → Shows ws (valued puts 0)
-first_words puts k ws at home s e f z =
+pub first_put : (puts : List Pair) (k : ℕ) (ws : List ℕ) (at home : ℕ) → Shows ws (valued puts k) → at ≡ 5 → home ≡ get_or ws at 0 → home ≡ 0 → k ≡ 0
+first_put puts k ws at home s e f z =
     elim (cases_eq k 0) [
-      | inl z ↦ subst (λ (k : ℕ). Shows ws (valued puts k)) z s
+      | inl z ↦ z
       | inr n ↦ absurd (omega (arith, home_seen puts k ws at home s e f, home_some puts k n))
     ]
+
+pub first_words : (puts : List Pair) (k : ℕ) (ws : List ℕ) (at home : ℕ) → Shows ws (valued puts k) → at ≡ 5 → home ≡ get_or ws at 0 → home ≡ 0 → Shows ws (valued puts 0)
+first_words puts k ws at home s e f z = subst (λ (k : ℕ). Shows ws (valued puts k)) (first_put puts k ws at home s e f z) s
 
 pub later_words : (puts : List Pair) (k : ℕ) (ws : List ℕ) (at home : ℕ) → Shows ws (valued puts k) → at ≡ 5 → home ≡ get_or ws at 0 → home ≢ 0 → Shows ws (housed puts k)
 later_words puts k ws at home s e f n = shows_later puts k ws (λ z. n (home_seen puts k ws at home s e f ∙ ap (λ (k : ℕ). valued puts k Home) z)) s
