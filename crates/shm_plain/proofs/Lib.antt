@@ -18,3 +18,4 @@ pub mod Alive
 pub mod Making
 pub mod Housing
 pub mod Linking
+pub mod Running

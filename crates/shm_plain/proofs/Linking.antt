@@ -1,17 +1,57 @@
 -- the entry of a put: where it is made, and the words once it is linked
-use Rattle.std.proofs.Common.{◌≡◌, ◌≢◌, ℕ, zero, suc, ◌+◌, ◌*◌, ◌<◌, ◌≤◌, sym, ap, ◌∙◌, arith, refl, inl, inr, ◌⊎◌, List, [], ◌∷◌, get_or, add-one, ◌==◌, ◌-◌}
+use Rattle.std.proofs.Common.{◌≡◌, ◌≢◌, ℕ, zero, suc, ◌+◌, ◌*◌, ◌<◌, ◌≤◌, sym, ap, ◌∙◌, arith, refl, inl, inr, ◌⊎◌, List, [], ◌∷◌, get_or, set, subst, length, add-one, ◌==◌, ◌-◌}
 use Rattle.std.specs.Prelude.{if◌then◌else◌, nat_lt}
 use Rattle.std.proofs.lemmas.Bool.{cases_eq, cond-false, ne_eqb}
 use Rattle.std.proofs.lemmas.Bool.Decides.{nat_tests}
 use Rattle.shm_words.specs.Headers.{header_of}
 use Rattle.shm_plain.specs.declared.pair.Pair.{Pair}
-use Rattle.shm_plain.specs.Puts.{bucket_of}
-use Rattle.shm_plain.specs.Cells.{Cell, Latch, Home, Era, Segment, Page, Value, Directory, Entry, Root, Shows, cell_at, after, put_at, bucket_word, live_header, own_tag, upd}
+use Rattle.shm_plain.specs.Puts.{bucket_of, AreApart}
+use Rattle.shm_plain.specs.Cells.{Cell, Latch, Home, Era, Segment, Page, Value, Directory, Entry, Root, Shows, cell_at, after, put_at, bucket_word, directory_word, live_header, own_tag, upd}
 use Rattle.shm_plain.specs.Steps.{IsNext, IsFirstFree, IsLeastRoot, IsDroppable, allocated, block_at}
 use Rattle.shm_plain.specs.Stages.{housed, latched, entered, linked}
-use Rattle.shm_plain.proofs.CellAt.{cell_value_at, cell_directory_at, cell_entry_at}
-use Rattle.shm_plain.proofs.Celling.{shown_segment, shown_page, shown_root, shows_same}
+use Rattle.shm_plain.proofs.CellAt.{cell_latch, cell_value_at, cell_directory_at, cell_entry_at}
+use Rattle.shm_plain.proofs.Celling.{shown_segment, shown_page, shown_root, shown_home, shows_same, shows_hold}
+use Rattle.shm_plain.proofs.Buckets.{bucket_cases}
 use Rattle.shm_plain.proofs.Alive.{shown_as, live_not_none, shows_made, Raises, Drops, shows_raised, shows_dropped, shows_era, counted, droppable}
+
+-- ---- the latch, and the bucket
+
+pub shows_held : (puts : List Pair) (k : ℕ) (ws vs : List ℕ) (hold : ℕ) → Shows ws (housed puts k) → vs ≡ set ws hold 1 → hold ≡ 3 → Shows vs (housed puts k)
+shows_held puts k ws vs hold s e h = subst (λ (xs : List ℕ). Shows xs (housed puts k)) (sym (e ∙ ap (λ (a : ℕ). set ws a 1) h)) (shows_hold ws 1 (housed puts k) s)
+
+latch_cells : (puts : List Pair) (k : ℕ) (c : Cell) → upd (housed puts k) Latch 1 c ≡ latched puts k c
+latch_cells puts k Latch = refl
+latch_cells puts k c = refl
+
+pub shows_latched : (puts : List Pair) (k : ℕ) (vs : List ℕ) (latch : ℕ) → Shows vs (upd (housed puts k) (cell_at latch) 1) → latch ≡ 4 → Shows vs (latched puts k)
+shows_latched puts k vs latch s e =
+    let s1 = subst (λ (p : Cell). Shows vs (upd (housed puts k) p 1)) (ap cell_at e ∙ cell_latch) s in
+    shows_same vs _ (latched puts k) s1 (λ a low redo hold. latch_cells puts k (cell_at a))
+
+bucket_at : (puts : List Pair) (k b : ℕ) → b < 16 → latched puts k (Directory (2 + b)) ≡ bucket_word puts k b
+bucket_at puts k b l =
+    let e : 2 + b - 2 ≡ b = omega arith in
+    let d : directory_word puts k (2 + b) ≡ bucket_word puts k (2 + b - 2) = grind (arith, nat_tests) in
+    d ∙ ap (bucket_word puts k) e
+
+-- no earlier put has its key in the bucket of put k
+bucket_none : (puts : List Pair) (k : ℕ) → AreApart puts → k < length puts → bucket_word puts k (bucket_of (put_at puts k).key) ≡ 0
+bucket_none puts k apart l =
+    elim (bucket_cases puts k (bucket_of (put_at puts k).key)) [
+      | inl z ↦ z
+      | inr t ↦ absurd (apart t.0 k _ t.1 l t.2)
+    ]
+
+pub bucket_empty : (puts : List Pair) (k : ℕ) (ws : List ℕ) (home : ℕ) → AreApart puts → k < length puts → Shows ws (latched puts k) → home ≡ 178 → get_or ws (home + 2 + bucket_of (put_at puts k).key) 0 ≡ 0
+bucket_empty puts k ws home apart l s e =
+    let b : bucket_of (put_at puts k).key < 16 = omega arith in
+    shown_as ws (latched puts k) _ (Directory (2 + bucket_of (put_at puts k).key)) s (omega arith) (omega arith) (cell_directory_at _ (2 + bucket_of (put_at puts k).key) (omega arith) (omega arith)) ∙ (bucket_at puts k _ b ∙ bucket_none puts k apart l)
+
+-- the home names the directory
+pub home_is : (puts : List Pair) (k : ℕ) (ws : List ℕ) (at home : ℕ) → Shows ws (latched puts k) → at ≡ 5 → home ≡ get_or ws at 0 → home ≡ 178
+home_is puts k ws at home s e f = f ∙ (ap (λ (a : ℕ). get_or ws a 0) e ∙ shown_home ws (latched puts k) s)
+
+-- ---- the entry
 
 entry_used : (puts : List Pair) (k j : ℕ) → j < k → latched puts k (Entry j 0) ≡ live_header 1 (8 + 6 * j)
 entry_used puts k j l = grind (arith, nat_tests)
