@@ -16,7 +16,7 @@ value_used puts k j l = grind (arith, nat_tests)
 value_free : (puts : List Pair) (k j : ℕ) → after puts k (Value k j) ≡ 0
 value_free puts k j = grind (arith, nat_tests)
 
-segment_own : (puts : List Pair) (k : ℕ) → (after puts k Segment ≡ 0) ⊎ (after puts k Segment ≡ 1)
+pub segment_own : (puts : List Pair) (k : ℕ) → (after puts k Segment ≡ 0) ⊎ (after puts k Segment ≡ 1)
 segment_own puts k = grind (arith, nat_tests)
 
 page_own : (puts : List Pair) (k : ℕ) → (after puts k (Page 0) ≡ 0) ⊎ (after puts k (Page 0) ≡ 4)

@@ -3,15 +3,12 @@ use Rattle.std.proofs.Common.{◌≡◌, ◌≢◌, ℕ, zero, suc, ◌+◌, ◌
 use Rattle.std.proofs.lemmas.Bool.Decides.{nat_tests}
 use Rattle.shm_words.specs.declared.geometry.Geometry.{Geometry}
 use Rattle.shm_words.specs.Layout.{GeometryFits, total_of}
-use Rattle.shm_graph.specs.Spots.{see}
-use Rattle.shm_graph.specs.Tables.{Entry, IsTable, map_of}
 use Rattle.shm_plain.specs.declared.pair.Pair.{Pair}
 use Rattle.shm_plain.specs.Puts.{PutsFit}
-use Rattle.shm_plain.specs.Folds.{log_of, fold_of}
 use Rattle.shm_plain.specs.Shut.{Shut}
 use Rattle.shm_plain.specs.ShutWords.{IsClosed}
 use Rattle.shm_plain.specs.Runs.{IsFirstRun}
-use Rattle.shm_plain.specs.Cells.{Cell, Status, Segment, Shows, cell_at, after, ended, upd, blocks_of, first_blocks}
+use Rattle.shm_plain.specs.Cells.{Cell, Status, Segment, Value, Entry, Shows, cell_at, after, ended, upd, blocks_of, first_blocks}
 use Rattle.shm_plain.specs.Steps.{fresh}
 use Rattle.shm_plain.proofs.One.{one, one_fits, one_from}
 use Rattle.shm_plain.proofs.Celling.{shown_root, shows_same, total_one}
@@ -20,6 +17,8 @@ use Rattle.shm_plain.proofs.Ending.{ended_clean, ended_table}
 
 join_cells : (puts : List Pair) (c : Cell) → upd fresh Status 1 c ≡ after puts 0 c
 join_cells puts Status = refl
+join_cells puts (Value i j) = grind (arith, nat_tests)
+join_cells puts (Entry i j) = grind (arith, nat_tests)
 join_cells puts c = refl
 
 pub shows_joined : (puts : List Pair) (ws : List ℕ) → Shows ws (upd fresh Status 1) → Shows ws (after puts 0)
@@ -32,9 +31,6 @@ leave_cells puts k c = refl
 
 pub shows_ended : (puts : List Pair) (k : ℕ) (ws : List ℕ) → Shows ws (upd (upd (after puts k) Segment 0) Status 3) → Shows ws (ended puts k)
 shows_ended puts k ws s = shows_same ws _ (ended puts k) s (λ a low redo hold. leave_cells puts k (cell_at a))
-
-pub segment_own : (puts : List Pair) (k : ℕ) → (after puts k Segment ≡ 0) ⊎ (after puts k Segment ≡ 1)
-segment_own puts k = grind (arith, nat_tests)
 
 pub roots_empty : (puts : List Pair) (k : ℕ) (ws : List ℕ) → Shows ws (after puts k) → (r : ℕ) → r < 16 → get_or ws (7 + r) 0 ≡ 0
 roots_empty puts k ws s r l = shown_root ws (after puts k) r s l
