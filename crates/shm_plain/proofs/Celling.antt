@@ -7,6 +7,7 @@ use Rattle.shm_words.specs.declared.geometry.Geometry.{Geometry}
 use Rattle.shm_words.specs.Layout.{total_of}
 use Rattle.shm_plain.specs.Cells.{Cell, Spare, Status, Redo, Hold, Latch, Home, Era, Root, Queue, Segment, Page, Value, Directory, Entry, Rest, cell_at, same_cell, upd, Shows}
 use Rattle.shm_plain.specs.Steps.{fresh, stored_from, claimed}
+use Rattle.shm_plain.proofs.CellAt.{cell_latch, cell_home, cell_era, cell_segment, cell_page, cell_root}
 
 -- the address of a cell
 abbrev address : Cell → ℕ
@@ -81,52 +82,12 @@ shows_redo ws value w s = record { long = length-set ws 2 value ∙ s.long; at =
 pub shows_hold : (ws : List ℕ) (value : ℕ) (w : Cell → ℕ) → Shows ws w → Shows (set ws 3 value) w
 shows_hold ws value w s = record { long = length-set ws 3 value ∙ s.long; at = λ a low redo hold. get_or-set_other ws 3 a value 0 hold ∙ s.at a low redo hold }
 
-pub era_cell : cell_at 6 ≡ Era
-unfolding cell_at
-era_cell = refl
-
-pub status_cell : cell_at 1 ≡ Status
-unfolding cell_at
-status_cell = refl
-
-pub latch_cell : cell_at 4 ≡ Latch
-unfolding cell_at
-latch_cell = refl
-
-pub home_cell : cell_at 5 ≡ Home
-unfolding cell_at
-home_cell = refl
-
-pub segment_cell : cell_at 33 ≡ Segment
-unfolding cell_at
-segment_cell = refl
-
-pub root_cell : (k : ℕ) → k < 16 → cell_at (7 + k) ≡ Root k
-unfolding cell_at
-root_cell k l = grind (arith, nat_tests)
-
-pub page_cell : (p : ℕ) → p < 16 → cell_at (34 + p) ≡ Page p
-unfolding cell_at
-page_cell p l = grind (arith, nat_tests)
-
-pub value_cell : (i j : ℕ) → i < 32 → j < 4 → cell_at (50 + 4 * i + j) ≡ Value i j
-unfolding cell_at
-value_cell i j l m = grind (arith, nat_tests)
-
-pub directory_cell : (j : ℕ) → j < 128 → cell_at (178 + j) ≡ Directory j
-unfolding cell_at
-directory_cell j l = grind (arith, nat_tests)
-
-pub entry_cell : (i j : ℕ) → i < 16 → j < 8 → cell_at (306 + 8 * i + j) ≡ Entry i j
-unfolding cell_at
-entry_cell i j l m = grind (arith, nat_tests)
-
 -- the word at an address of a block
 pub shown : (ws : List ℕ) (w : Cell → ℕ) (a : ℕ) → Shows ws w → 50 ≤ a → a < 2098 → get_or ws a 0 ≡ w (cell_at a)
 shown ws w a s l h = s.at a h (λ e. let x : a ≡ 2 = e in absurd (omega arith)) (λ e. let x : a ≡ 3 = e in absurd (omega arith))
 
 pub shown_era : (ws : List ℕ) (w : Cell → ℕ) → Shows ws w → get_or ws 6 0 ≡ w Era
-shown_era ws w s = s.at 6 (omega arith) (λ e. cc) (λ e. cc) ∙ ap w era_cell
+shown_era ws w s = s.at 6 (omega arith) (λ e. cc) (λ e. cc) ∙ ap w cell_era
 
 -- a list of zeros
 pub shows_zeros : (ws : List ℕ) (n : ℕ) → ws ≡ replicate n 0 → n ≡ 2098 → Shows ws (λ c. 0)
@@ -155,7 +116,7 @@ fresh_is (Rest a) = refl
 
 -- a list of zeros but for the era
 pub shows_fresh : (ws : List ℕ) → Shows ws (upd (λ d. 0) (cell_at 6) 1) → Shows ws fresh
-shows_fresh ws s = shows_same ws _ fresh s (λ a low redo hold. ap (λ p. upd (λ d. 0) p 1 (cell_at a)) era_cell ∙ fresh_is (cell_at a))
+shows_fresh ws s = shows_same ws _ fresh s (λ a low redo hold. ap (λ p. upd (λ d. 0) p 1 (cell_at a)) cell_era ∙ fresh_is (cell_at a))
 
 pub total_one : (g : Geometry) → g.clients ≡ 1 → g.segments ≡ 1 → total_of g ≡ 2098
 total_one g c s = rw (c, s) refl
@@ -185,17 +146,23 @@ pub shows_put : (ws : List ℕ) (p : Cell) (x : ℕ) (w : Cell → ℕ) → Show
 shows_put ws p x w s e = shows_same ws w _ s (λ a low redo hold. sym (upd_same w p (cell_at a) x e))
 
 pub shown_segment : (ws : List ℕ) (w : Cell → ℕ) → Shows ws w → get_or ws 33 0 ≡ w Segment
-shown_segment ws w s = s.at 33 (omega arith) (λ e. cc) (λ e. cc) ∙ ap w segment_cell
+shown_segment ws w s = s.at 33 (omega arith) (λ e. cc) (λ e. cc) ∙ ap w cell_segment
+
+pub shown_home : (ws : List ℕ) (w : Cell → ℕ) → Shows ws w → get_or ws 5 0 ≡ w Home
+shown_home ws w s = s.at 5 (omega arith) (λ e. cc) (λ e. cc) ∙ ap w cell_home
+
+pub shown_latch : (ws : List ℕ) (w : Cell → ℕ) → Shows ws w → get_or ws 4 0 ≡ w Latch
+shown_latch ws w s = s.at 4 (omega arith) (λ e. cc) (λ e. cc) ∙ ap w cell_latch
 
 pub shown_page : (ws : List ℕ) (w : Cell → ℕ) (p : ℕ) → Shows ws w → p < 16 → get_or ws (34 + p) 0 ≡ w (Page p)
-shown_page ws w p s l = s.at (34 + p) (omega arith) (λ e. let x : 34 + p ≡ 2 = e in absurd (omega arith)) (λ e. let x : 34 + p ≡ 3 = e in absurd (omega arith)) ∙ ap w (page_cell p l)
+shown_page ws w p s l = s.at (34 + p) (omega arith) (λ e. let x : 34 + p ≡ 2 = e in absurd (omega arith)) (λ e. let x : 34 + p ≡ 3 = e in absurd (omega arith)) ∙ ap w (cell_page p l)
 
 pub shown_root : (ws : List ℕ) (w : Cell → ℕ) (k : ℕ) → Shows ws w → k < 16 → get_or ws (7 + k) 0 ≡ w (Root k)
-shown_root ws w p s l = s.at (7 + p) (omega arith) (λ e. let x : 7 + p ≡ 2 = e in absurd (omega arith)) (λ e. let x : 7 + p ≡ 3 = e in absurd (omega arith)) ∙ ap w (root_cell p l)
+shown_root ws w p s l = s.at (7 + p) (omega arith) (λ e. let x : 7 + p ≡ 2 = e in absurd (omega arith)) (λ e. let x : 7 + p ≡ 3 = e in absurd (omega arith)) ∙ ap w (cell_root p l)
 
 -- a claim of the segment and of a page leaves the words of blocks
 pub claimed_at : (w : Cell → ℕ) (class p a : ℕ) → p < 16 → 50 ≤ a → claimed w class p (cell_at a) ≡ w (cell_at a)
 claimed_at w class p a l h =
     let n : 34 + p ≢ a = λ e. omega (arith, e) in
     let m : 33 ≢ a = λ e. omega (arith, e) in
-    ap (λ q. upd (upd w Segment 1) q class (cell_at a)) (sym (page_cell p l)) ∙ (upd_other (upd w Segment 1) (34 + p) a class n ∙ (ap (λ q. upd w q 1 (cell_at a)) (sym segment_cell) ∙ upd_other w 33 a 1 m))
+    ap (λ q. upd (upd w Segment 1) q class (cell_at a)) (sym (cell_page p l)) ∙ (upd_other (upd w Segment 1) (34 + p) a class n ∙ (ap (λ q. upd w q 1 (cell_at a)) (sym cell_segment) ∙ upd_other w 33 a 1 m))

@@ -1,24 +1,15 @@
 -- what is seen in blocks
-use Rattle.std.proofs.Common.{◌≡◌, ◌≢◌, ℕ, ◌+◌, ◌*◌, ◌<◌, ◌≤◌, refl, ap, ◌∙◌, arith, inl, inr, List}
+use Rattle.std.proofs.Common.{◌≡◌, ◌≢◌, ℕ, ◌+◌, ◌*◌, ◌<◌, ◌≤◌, refl, ◌∙◌, arith, inl, inr, List}
 use Rattle.std.proofs.lemmas.Bool.{cases_eq, cases_lt}
 use Rattle.shm_graph.specs.declared.spot.Spot.TheVariants.{Head, Tag, Body}
 use Rattle.shm_graph.specs.Spots.{spot_at, spot_address, see}
 use Rattle.shm_plain.specs.declared.pair.Pair.{Pair}
 use Rattle.shm_plain.specs.Cells.{Cell, cell_at, Shows, put_at, bucket_word, ended}
 use Rattle.shm_plain.specs.Cells.Cell.{Value, Directory, Entry}
-use Rattle.shm_plain.proofs.CellAt.{cell_value, cell_directory, cell_entry}
+use Rattle.shm_plain.proofs.CellAt.{cell_value_at, cell_directory_at, cell_entry_at}
 use Rattle.shm_plain.proofs.One.{one, kind, head_one, value_head, value_tag, value_body, directory_head, directory_tag, directory_body, entry_head, entry_tag, entry_body}
 use Rattle.shm_plain.proofs.Filled.{IsOfPuts, Block, Filled}
 use Rattle.shm_plain.proofs.FilledWords.{seen, seen_at, value_cell, entry_cell, value_none, entry_none, home_cell, directory_cell, directory_none, bucket_cell, pages_seen, status_seen, home_seen, homes_seen, root_seen, slot_seen}
-
-cell_value_at : (a i j : ℕ) → a ≡ 50 + 4 * i + j → i < 32 → j < 4 → cell_at a ≡ Value i j
-cell_value_at a i j e l m = ap cell_at e ∙ cell_value i j l m
-
-cell_directory_at : (a j : ℕ) → a ≡ 178 + j → j < 128 → cell_at a ≡ Directory j
-cell_directory_at a j e l = ap cell_at e ∙ cell_directory j l
-
-cell_entry_at : (a i j : ℕ) → a ≡ 306 + 8 * i + j → i < 16 → j < 8 → cell_at a ≡ Entry i j
-cell_entry_at a i j e l m = ap cell_at e ∙ cell_entry i j l m
 
 head_seen : (puts : List Pair) (k : ℕ) (ws : List ℕ) → k ≢ 0 → Shows ws (ended puts k) → (b : ℕ) (c : Cell) → spot_at one kind b ≡ Head b → b < 2098 → 3 < b → cell_at b ≡ c → see one ws (Head b) ≡ ended puts k c
 unfolding spot_address

@@ -1,6 +1,6 @@
+pub mod CellAt
 pub mod Celling
 pub mod Nexts
-pub mod CellAt
 pub mod One
 pub mod Buckets
 pub mod Filled
@@ -14,3 +14,8 @@ pub mod EmptyPool
 pub mod Folding
 pub mod FilledTable
 pub mod Ending
+pub mod Alive
+pub mod Making
+pub mod Housing
+pub mod Linking
+pub mod Running

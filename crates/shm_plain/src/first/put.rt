@@ -2,11 +2,12 @@
 
 ghost use Rattle.std.specs.Prelude.{◌≡◌, ◌≢◌, ℕ, ◌+◌, ◌*◌, ◌<◌, ◌≤◌, ◌⊎◌, length, slice_index};
 ghost use Rattle.shm_words.specs.Headers.{header_of};
-ghost use Rattle.shm_plain.specs.Puts.{PutsFit};
-ghost use Rattle.shm_plain.specs.Cells.{Cell, Status, Era, Root, Segment, Shows, cell_at, upd, values, after};
+ghost use Rattle.shm_plain.specs.Puts.{PutsFit, bucket_of};
+ghost use Rattle.shm_plain.specs.Cells.{Cell, Status, Latch, Era, Root, Segment, Shows, cell_at, upd, values, directory, entries, put_at, after};
 ghost use Rattle.shm_plain.specs.Steps.{fresh, lowered, IsDroppable};
-ghost use Rattle.shm_plain.specs.Stages.{valued, housed, linked};
+ghost use Rattle.shm_plain.specs.Stages.{valued, housed, latched, entered, linked};
 
+use super::blocks::Made;
 use super::pool::FirstPool;
 use crate::Pair;
 
@@ -64,6 +65,45 @@ impl FirstPool {
         }
     }
 
+    /// Gives the client's latch back.
+    fn unlatch(&mut self)
+        ensures { (w : Cell → ℕ) → Shows self.old.words.items w → Shows self.new.words.items (upd w Latch 0) }
+    {
+        let (hold, latch) = (self.hold(), self.latch());
+        self.store(latch, 0);
+        self.store(hold, 0);
+    }
+
+    /// Takes the client's latch, and answers the bucket of the put `k`, which is empty.
+    fn latch_bucket(&mut self, puts: &[Pair], k: usize) -> u32
+        requires puts { PutsFit puts.now }
+        requires k { k < length puts.now }
+        requires words { Shows self.old.words.items (housed puts.now k) }
+        ensures bucket { result ≡ directory + 2 + bucket_of (put_at puts.now k).key }
+        ensures words { Shows self.new.words.items (latched puts.now k) }
+    {
+        let (hold, latch, home) = (self.hold(), self.latch(), self.home());
+        self.store(hold, 1);
+        self.exchange(latch, 0, 1);
+        let bucket = self.load(home) as u32 + 2 + puts[k].key % 16;
+        prove_eq!(self.load(bucket), 0);
+        bucket
+    }
+
+    /// Makes the entry block of the put `k`, in root 1.
+    fn make_entry(&mut self, puts: &[Pair], k: usize) -> Made
+        requires puts { PutsFit puts.now }
+        requires k { k < length puts.now }
+        requires words { Shows self.old.words.items (latched puts.now k) }
+        ensures made { result ≡ record { root = 1; block = entries + 8 * k } }
+        ensures words { Shows self.new.words.items (entered puts.now k) }
+    {
+        let Some(entry) = self.alloc(2, &[u64::from(puts[k].key)]) else {
+            unreachable!()
+        };
+        entry
+    }
+
     /// Puts an entry for the put `k` of these and its value block into the key's bucket, which is empty.
     fn link(&mut self, puts: &[Pair], k: usize, value: u32)
         requires puts { PutsFit puts.now }
@@ -72,19 +112,11 @@ impl FirstPool {
         requires words { Shows self.old.words.items (housed puts.now k) }
         ensures words { Shows self.new.words.items (linked puts.now k) }
     {
-        let key = puts[k].key;
-        let (hold, latch, home) = (self.hold(), self.latch(), self.home());
-        self.store(hold, 1);
-        self.exchange(latch, 0, 1);
-        let bucket = self.load(home) as u32 + 2 + key % 16;
-        prove_eq!(self.load(bucket), 0);
-        let Some(entry) = self.alloc(2, &[u64::from(key)]) else {
-            unreachable!()
-        };
+        let bucket = self.latch_bucket(puts, k);
+        let entry = self.make_entry(puts, k);
         self.up(entry.block + 3, value);
         self.up(bucket, entry.block);
-        self.store(latch, 0);
-        self.store(hold, 0);
+        self.unlatch();
         self.drop_root(entry.root);
     }
 

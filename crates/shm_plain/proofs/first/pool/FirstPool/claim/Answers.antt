@@ -1,10 +1,11 @@
 use Rattle.std.proofs.Common.{◌≡◌, ℕ, ap, ◌∙◌, sym, subst, inl, inr, get_or}
 use Rattle.shm_plain.specs.Cells.{Cell, Shows, upd, cell_at, Segment}
-use Rattle.shm_plain.proofs.Celling.{segment_cell, shows_put, shown_segment}
+use Rattle.shm_plain.proofs.CellAt.{cell_segment}
+use Rattle.shm_plain.proofs.Celling.{shows_put, shown_segment}
 use Rattle.shm_plain.proofs.first.pool.FirstPool.claim.Goals as goal
 
 pub returns-then-load-eq0-clause-shows : goal.returns-then-load-eq0-clause-shows
-returns-then-load-eq0-clause-shows c = λ w s h. subst (λ (p : Cell). Shows c.exchange.new.self.words.items (upd w p 1)) (ap cell_at c.segment-segment.ensures ∙ segment_cell) (c.exchange.ensures.shows w s)
+returns-then-load-eq0-clause-shows c = λ w s h. subst (λ (p : Cell). Shows c.exchange.new.self.words.items (upd w p 1)) (ap cell_at c.segment-segment.ensures ∙ cell_segment) (c.exchange.ensures.shows w s)
 
 pub returns-else-load-eq0-clause-shows : goal.returns-else-load-eq0-clause-shows
 returns-else-load-eq0-clause-shows c = λ w s h.

@@ -1,12 +1,13 @@
 use Rattle.std.proofs.Common.{◌≡◌, ℕ, ap, ◌∙◌, sym, subst, get_or}
 use Rattle.std.proofs.lemmas.Bool.{eqb-true}
 use Rattle.shm_plain.specs.Cells.{Cell, Shows, upd, cell_at, Page}
-use Rattle.shm_plain.proofs.Celling.{page_cell, shows_put, shown_page}
+use Rattle.shm_plain.proofs.CellAt.{cell_page}
+use Rattle.shm_plain.proofs.Celling.{shows_put, shown_page}
 use Rattle.shm_plain.proofs.first.pool.FirstPool.offer_page.Goals as goal
 
 pub returns-then-found-eq0-clause-shows : goal.returns-then-found-eq0-clause-shows
 returns-then-found-eq0-clause-shows c = λ w e s.
-    let s1 = subst (λ (p : Cell). Shows c.store.new.self.words.items (upd w p c.from.result)) (ap cell_at c.page-at.ensures ∙ page_cell c.args.page c.requires.page) (c.store.ensures.shows w s) in
+    let s1 = subst (λ (p : Cell). Shows c.store.new.self.words.items (upd w p c.from.result)) (ap cell_at c.page-at.ensures ∙ cell_page c.args.page c.requires.page) (c.store.ensures.shows w s) in
     subst (λ (x : ℕ). Shows c.store.new.self.words.items (upd w (Page c.args.page) x)) c.from.ensures s1
 
 pub returns-clause-shows : goal.returns-clause-shows
