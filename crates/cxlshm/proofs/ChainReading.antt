@@ -10,7 +10,8 @@ use Rattle.std.proofs.lemmas.Map.Steps.{length-le_from_distinct_below}
 use Rattle.shm_words.specs.declared.geometry.Geometry.{Geometry}
 use Rattle.shm_words.specs.Layout.{total_of}
 use Rattle.shm_words.proofs.Placing.{total_most}
-use Rattle.shm_graph.specs.Tables.{Entry, IsEntry, IsChain}
+use Rattle.shm_graph.specs.Tables.{IsEntry, IsChain}
+use Rattle.shm_graph.specs.declared.table.Entry.{Entry}
 use Rattle.shm_graph.proofs.Reading.{live_below, shape_word, shape_reference}
 use Rattle.cxlshm.specs.PoolWords.{IsCleanPool}
 use Rattle.cxlshm.specs.Report.{add_entries}

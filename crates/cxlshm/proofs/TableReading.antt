@@ -4,7 +4,8 @@ use Rattle.shm_words.specs.declared.geometry.Geometry.{Geometry}
 use Rattle.shm_words.proofs.Placing.{total_most}
 use Rattle.shm_graph.specs.declared.spot.Spot.TheVariants.{Home}
 use Rattle.shm_graph.specs.Spots.{see}
-use Rattle.shm_graph.specs.Tables.{Entry, IsChain}
+use Rattle.shm_graph.specs.Tables.{IsChain}
+use Rattle.shm_graph.specs.declared.table.Entry.{Entry}
 use Rattle.shm_graph.proofs.Reading.{live_below, shape_reference}
 use Rattle.cxlshm.specs.PoolWords.{IsCleanPool}
 use Rattle.cxlshm.specs.Report.{add_entries, entries_below, in_order}

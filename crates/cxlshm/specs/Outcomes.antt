@@ -3,7 +3,7 @@ use Rattle.std.specs.Prelude.{◌≡◌, ◌≢◌, ℕ, ◌<◌, ◌≤◌, ◌
 use Rattle.std.specs.String.{string_bytes}
 use Rattle.shm_io.specs.Writing.{Appends, AppendsFront}
 use Rattle.shm_graph.specs.Spots.{see}
-use Rattle.shm_graph.specs.Tables.{Entry}
+use Rattle.shm_graph.specs.declared.table.Entry.{Entry}
 use Rattle.shm_plain.specs.declared.pair.Pair.{Pair}
 use Rattle.shm_plain.specs.declared.first.FirstRun.{FirstRun}
 use Rattle.shm_plain.specs.ShutWords.{IsClosed}

@@ -4,7 +4,8 @@ use Rattle.std.specs.List.{IsDistinct}
 use Rattle.shm_words.specs.declared.geometry.Geometry.{Geometry}
 use Rattle.shm_graph.specs.Spots.{see}
 use Rattle.shm_graph.specs.References.{references}
-use Rattle.shm_graph.specs.Tables.{Entry, Contents, contents_of, IsEntry, IsChain, IsTable}
+use Rattle.shm_graph.specs.Tables.{Contents, contents_of, IsEntry, IsChain, IsTable}
+use Rattle.shm_graph.specs.declared.table.Entry.{Entry}
 use Rattle.cxlshm.specs.Report.{Row}
 use Rattle.cxlshm.specs.declared.table_rows.ChainEntry.{ChainEntry}
 use Rattle.cxlshm.specs.declared.table_rows.TableRow.{TableRow}

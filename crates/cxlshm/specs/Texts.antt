@@ -6,7 +6,8 @@ use Rattle.shm_graph.specs.declared.spot.Spot.{Spot}
 use Rattle.shm_graph.specs.Spots.{see}
 use Rattle.shm_graph.specs.Blocks.{classes}
 use Rattle.shm_graph.specs.References.{references, reference_count, live_count, home_count}
-use Rattle.shm_graph.specs.Tables.{Entry, IsTable}
+use Rattle.shm_graph.specs.Tables.{IsTable}
+use Rattle.shm_graph.specs.declared.table.Entry.{Entry}
 use Rattle.shm_plain.specs.declared.pair.Pair.{Pair}
 use Rattle.cxlshm.specs.Report.{line_end, report_of}
 

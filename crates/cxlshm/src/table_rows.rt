@@ -4,7 +4,7 @@ ghost use Rattle.std.specs.Prelude.{◌≡◌, ◌<◌, ◌++◌, ℕ, List, map
 ghost use Rattle.shm_words.specs.Layout.{GeometryFits, total_of};
 ghost use Rattle.shm_graph.specs.declared.spot.Spot.{Spot as ASpot};
 ghost use Rattle.shm_graph.specs.Spots.{see};
-ghost use Rattle.shm_graph.specs.Tables.{Entry};
+ghost use Rattle.shm_graph.specs.declared.table.Entry.{Entry};
 ghost use Rattle.cxlshm.specs.PoolWords.{IsCleanPool};
 ghost use Rattle.cxlshm.specs.Report.{entries_below, add_entries, in_order, row_of, rows_below};
 ghost use Rattle.cxlshm.specs.TableRows.{IsEntryAt, ReadsEntry, IsChainAt, HoldsTable, rows_seen};

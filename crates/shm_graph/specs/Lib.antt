@@ -3,3 +3,13 @@ pub mod Blocks
 pub mod References
 pub mod Clean
 pub mod Tables
+pub mod Ops
+pub mod Views
+pub mod Held
+pub mod Asks
+pub mod Changes
+pub mod Events
+pub mod Controls
+pub mod Laws
+pub mod Runs
+pub mod Whole

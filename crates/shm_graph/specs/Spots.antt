@@ -89,6 +89,10 @@ IsAt g class p = spot_at g class (spot_address g p) ≡ p
 abbrev pub class_at : Geometry → (ℕ → ℕ → ℕ) → ℕ → ℕ
 class_at g class a = class ((a - layout.bodies g) / 2048) ((a - layout.bodies g) / 128 % 16)
 
+-- the segment of a block
+abbrev pub segment_of : Geometry → ℕ → ℕ
+segment_of g b = (b - layout.bodies g) / 2048
+
 -- the classes of the pages in a list of words
 abbrev pub classes_in : Geometry → List ℕ → ℕ → ℕ → ℕ
 classes_in g ws s p = if layout.is_in g (place.Page s p) then slice_index ws (layout.address g (place.Page s p)) else 0

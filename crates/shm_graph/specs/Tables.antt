@@ -5,16 +5,10 @@ use Rattle.shm_words.specs.declared.geometry.Geometry.{Geometry}
 use Rattle.shm_words.specs.declared.header.Header.{Header}
 use Rattle.shm_words.specs.Tags.{tag_refs, tag_plain, tag_author}
 use Rattle.shm_graph.specs.declared.spot.Spot.{Spot}
+use Rattle.shm_graph.specs.declared.table.Entry.{Entry}
 use Rattle.shm_graph.specs.declared.spot.Spot.TheVariants.{Home, Tag, Body}
 use Rattle.shm_graph.specs.Blocks.{headers}
 use Rattle.shm_graph.specs.References.{references}
-
--- an entry: its key and number, its own block and its value block
-pub record Entry : Type 0 where
-  pub key : ℕ
-  pub number : ℕ
-  pub block : ℕ
-  pub value : ℕ
 
 -- what a table is read from: headers, tags, the references in blocks and the words of blocks
 pub record Contents : Type 0 where

@@ -1,10 +1,23 @@
-//! What the words of a pool say: blocks, reference words and their counts, clean pools and the tables in them.
+//! What the words of a pool say: blocks, reference words and their counts, clean pools and the tables in them; and what one
+//! identity's word steps do to them: memos, the invariant of a pool, machines and their law.
 //!
-//! The definitions are in specs/ and are cited by the contracts of the crates above.
+//! The definitions are in specs/ and are cited by the contracts of the crates above. The design of headers, eras and redo
+//! records is that of CXL-SHM (SOSP 2023); the invariant is this project's own.
 #![tactic(auto)]
 
 pub mod ask;
+pub mod machine;
+pub mod memo;
+pub mod run;
 pub mod spot;
+pub mod table;
 
-pub use ask::Ask;
+pub use ask::{Ask, Life, Me, Turn};
+pub use machine::Machine;
+pub use memo::{
+    Agent, Fact, Fate, First, Half, Kind, Look, Making, Memo, Op, Second, Seen, Status, Step,
+    Stored, Test,
+};
+pub use run::{Account, Move, Start, Told};
 pub use spot::Spot;
+pub use table::{Entry, Part};

@@ -4,7 +4,8 @@ use Rattle.std.proofs.lemmas.Bool.{cases_eq}
 use Rattle.shm_words.specs.declared.geometry.Geometry.{Geometry}
 use Rattle.shm_graph.specs.Spots.{see}
 use Rattle.shm_graph.specs.Clean.{IsClean}
-use Rattle.shm_graph.specs.Tables.{Entry, IsTable, map_of}
+use Rattle.shm_graph.specs.Tables.{IsTable, map_of}
+use Rattle.shm_graph.specs.declared.table.Entry.{Entry}
 use Rattle.shm_plain.specs.declared.pair.Pair.{Pair}
 use Rattle.shm_plain.specs.Puts.{PutsFit}
 use Rattle.shm_plain.specs.Folds.{log_of, fold_of}

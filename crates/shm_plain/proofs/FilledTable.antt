@@ -5,7 +5,8 @@ use Rattle.std.specs.List.{IsDistinct, All}
 use Rattle.shm_graph.specs.declared.spot.Spot.{Spot}
 use Rattle.shm_graph.specs.declared.spot.Spot.TheVariants.{Home, Body}
 use Rattle.shm_graph.specs.References.{references}
-use Rattle.shm_graph.specs.Tables.{Entry, contents_of, HasShape, IsEntry, IsChain, IsPartition, IsTable}
+use Rattle.shm_graph.specs.Tables.{contents_of, HasShape, IsEntry, IsChain, IsPartition, IsTable}
+use Rattle.shm_graph.specs.declared.table.Entry.{Entry}
 use Rattle.shm_plain.specs.declared.pair.Pair.{Pair}
 use Rattle.shm_plain.specs.Puts.{PairFits}
 use Rattle.shm_plain.specs.Cells.{put_at}

@@ -1,7 +1,8 @@
 -- what a replay of one client's puts leaves
 use Rattle.std.specs.Prelude.{◌≡◌, ℕ, List, length}
 use Rattle.shm_graph.specs.Spots.{see}
-use Rattle.shm_graph.specs.Tables.{Entry, IsTable, map_of}
+use Rattle.shm_graph.specs.Tables.{IsTable, map_of}
+use Rattle.shm_graph.specs.declared.table.Entry.{Entry}
 use Rattle.shm_plain.specs.declared.pair.Pair.{Pair}
 use Rattle.shm_plain.specs.Shut.{Shut}
 use Rattle.shm_plain.specs.Folds.{log_of, fold_of}

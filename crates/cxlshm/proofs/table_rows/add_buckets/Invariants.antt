@@ -1,5 +1,5 @@
 use Rattle.std.proofs.Common.{◌≡◌, ℕ, List}
-use Rattle.shm_graph.specs.Tables.{Entry}
+use Rattle.shm_graph.specs.declared.table.Entry.{Entry}
 use Rattle.cxlshm.specs.Report.{add_entries, entries_below}
 use Rattle.cxlshm.specs.TableRows.{HoldsTable}
 use Rattle.cxlshm.proofs.table_rows.add_buckets.Given as goal

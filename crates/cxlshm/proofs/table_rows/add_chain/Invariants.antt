@@ -1,5 +1,5 @@
 use Rattle.std.proofs.Common.{List}
-use Rattle.shm_graph.specs.Tables.{Entry}
+use Rattle.shm_graph.specs.declared.table.Entry.{Entry}
 use Rattle.cxlshm.specs.TableRows.{IsChainAt}
 use Rattle.cxlshm.proofs.ChainReading.{Walks}
 use Rattle.cxlshm.proofs.table_rows.add_chain.Given as goal

@@ -1,5 +1,5 @@
 use Rattle.std.proofs.Common.{◌≡◌, ℕ, List, ◌++◌, map}
-use Rattle.shm_graph.specs.Tables.{Entry}
+use Rattle.shm_graph.specs.declared.table.Entry.{Entry}
 use Rattle.cxlshm.specs.Report.{in_order, row_of}
 use Rattle.cxlshm.specs.TableRows.{HoldsTable, rows_seen}
 use Rattle.cxlshm.proofs.table_rows.push_rows.Given as goal

@@ -1,0 +1,46 @@
+//! Machines: programs that take one word step at a time.
+
+ghost use Rattle.std.specs.Prelude.{◌≡◌, false};
+ghost use Rattle.shm_graph.specs.declared.memo.Memo.{Memo as AMemo};
+ghost use Rattle.shm_graph.specs.Asks.{Trail};
+ghost use Rattle.shm_graph.specs.Laws.{Control, Laws, turn_of};
+
+use crate::ask::{Ask, Me, Turn};
+
+/// A program of word steps: it asks for one word step, is told what was found, and asks for the next.
+///
+/// Its law says that from any state that holds and whose memo fits the machine, the step that it asks for leads to such a state, and
+/// is one event of the graph of references. Whoever steps it needs nothing else.
+pub trait Machine {
+    type Answer;
+
+    /// Its control, as plain data.
+    ghost control: { Control Self Self.Answer };
+
+    /// Of the machine, the memo before its first step, the memo now and what it has asked.
+    ghost fits: { Self → AMemo → AMemo → Trail → Type 0 };
+
+    /// Of the machine at any time, the memo before its first step, the memo at the end, all that it asked and its answer.
+    ghost gives: { Self → AMemo → AMemo → Trail → Self.Answer → Type 0 };
+
+    /// The identity that it works for.
+    fn me(&self) -> Me
+        ensures { result ≡ control.me self.now };
+
+    /// Whether it has answered.
+    fn finished(&self) -> bool
+        ensures { result ≡ control.finished self.now };
+
+    /// The word step that it asks for next.
+    fn ask(&self) -> Ask
+        requires { control.finished self.now ≡ false }
+        ensures { result ≡ control.asks self.now };
+
+    /// Takes the word that was found, for a store 0; it never answers `Died`.
+    fn take(&mut self, seen: u64) -> Turn<Self::Answer>
+        requires { control.finished self.old ≡ false }
+        ensures machine { self.new ≡ control.after self.old seen }
+        ensures turn { result ≡ turn_of (control.turns self.old seen) };
+
+    ghost laws: { Laws control fits gives };
+}
