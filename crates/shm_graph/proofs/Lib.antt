@@ -9,3 +9,8 @@ pub mod ClassStoring
 pub mod Starting
 pub mod Reading
 pub mod Summing
+pub mod Lists
+pub mod MemoSteps
+pub mod Composing
+pub mod Wholes
+pub mod Running
