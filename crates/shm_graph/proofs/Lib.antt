@@ -19,3 +19,4 @@ pub mod Running
 pub mod Counting
 pub mod Holders
 pub mod HeldSound
+pub mod StillClean

@@ -1,19 +1,23 @@
 //! The laws of runs, and of machines that run by themselves.
 
-ghost use Rattle.std.specs.Prelude.{◌≡◌, ℕ, ◌<◌, List, [], ◌∷◌, ◌++◌, length};
+ghost use Rattle.std.specs.Prelude.{◌≡◌, ℕ, ◌<◌, ◌⊎◌, List, [], ◌∷◌, ◌++◌, length};
 ghost use Rattle.shm_words.specs.declared.geometry.Geometry.{Geometry as AGeometry};
 ghost use Rattle.shm_words.specs.Layout.{total_of};
 ghost use Rattle.shm_graph.specs.declared.ask.Ask.{Ask as AnAsk};
 ghost use Rattle.shm_graph.specs.declared.spot.Spot.{Spot as ASpot};
 ghost use Rattle.shm_graph.specs.declared.memo.Kind.{Kind as AKind};
+ghost use Rattle.shm_graph.specs.declared.memo.Status.TheVariants.{New, Gone};
+ghost use Rattle.shm_graph.specs.declared.run.Account.{Account as AnAccount};
 ghost use Rattle.shm_graph.specs.declared.run.Move.{Move as AMove};
 ghost use Rattle.shm_graph.specs.declared.run.Move.TheVariants.{Dies, Begins};
 ghost use Rattle.shm_graph.specs.Spots.{spot_at, classes_in, see};
-ghost use Rattle.shm_graph.specs.Views.{View};
+ghost use Rattle.shm_graph.specs.Views.{View, view};
 ghost use Rattle.shm_graph.specs.Held.{HeldAt};
 ghost use Rattle.shm_graph.specs.Controls.{IsAllowed};
 ghost use Rattle.shm_graph.specs.Asks.{at_of, words_after, words_set};
-ghost use Rattle.shm_graph.specs.Runs.{Held, State, moved, IsMove, Turned, Leads};
+ghost use Rattle.shm_graph.specs.Runs.{Held, State, memos_of, moved, IsMove, Turned, Leads};
+ghost use Rattle.shm_graph.specs.Sound.{IsSound};
+ghost use Rattle.shm_graph.specs.Clean.{IsClean};
 ghost use Rattle.shm_graph.specs.Whole.{fits_now, gives_now, Inside, Keeps};
 
 use crate::machine::Machine;
@@ -42,4 +46,15 @@ pub fn agents_change()
 pub fn machine_law<M: Machine>()
     ensures inside { Inside M.control (fits_now M.control M.fits) (gives_now M.gives) }
     ensures keeps { Keeps M.control (fits_now M.control M.fits) (gives_now M.gives) }
+{}
+
+/// A state that holds is sound: memos show what the words say, counts are numbers of references, and no word is two identities'
+/// to store.
+pub fn held_state_sound()
+    ensures { (g : AGeometry) (ws : List ℕ) (es : List AnAccount) → Held g ws es → IsSound g (see g ws) (view (memos_of es)) }
+{}
+
+/// A state that holds is clean where each identity is one that nobody has joined or that is gone.
+pub fn still_state_clean()
+    ensures { (g : AGeometry) (ws : List ℕ) (es : List AnAccount) → Held g ws es → ((c : ℕ) → c < g.clients → ((memos_of es c).status ≡ New) ⊎ ((memos_of es c).status ≡ Gone)) → IsClean g (see g ws) }
 {}
