@@ -1,10 +1,8 @@
 -- a state that holds is sound
-use Rattle.std.proofs.Common.{◌≡◌, ◌≢◌, ℕ, ◌+◌, ◌%◌, ◌<◌, refl, sym, ap, ◌∙◌, arith, subst, inl, inr, ◌⊎◌, true, List}
+use Rattle.std.proofs.Common.{◌≡◌, ◌≢◌, ℕ, ◌+◌, ◌<◌, refl, sym, ◌∙◌, arith, inl, inr, ◌⊎◌, true, List}
 use Rattle.std.proofs.lemmas.Bool.{eq-eqb}
 use Rattle.std.proofs.lemmas.List.Elements.{All-get_or}
 use Rattle.shm_words.specs.declared.geometry.Geometry.{Geometry}
-use Rattle.shm_words.specs.Headers.{header_of}
-use Rattle.shm_words.specs.Tags.{tag_refs}
 use Rattle.shm_words.proofs.Words.{live_not_zero}
 use Rattle.shm_graph.specs.declared.spot.Spot.{Spot}
 use Rattle.shm_graph.specs.declared.spot.Spot.TheVariants.{Spare, Status, Redo, Hold, Latch, Home, Era, Root, Tail, Front, Slot, Segment, Page, Head, Tag, Body}
@@ -12,9 +10,8 @@ use Rattle.shm_graph.specs.declared.memo.Status.TheVariants.{Gone}
 use Rattle.shm_graph.specs.declared.run.Account.{Account}
 use Rattle.shm_graph.specs.Spots.{see}
 use Rattle.shm_graph.specs.Blocks.{headers}
-use Rattle.shm_graph.specs.Ops.{slot_of}
-use Rattle.shm_graph.specs.Views.{View, view, targets}
-use Rattle.shm_graph.specs.Held.{HeldAt, IsDying}
+use Rattle.shm_graph.specs.Views.{View, view}
+use Rattle.shm_graph.specs.Held.{HeldAt}
 use Rattle.shm_graph.specs.Controls.{Controls, IsOwnFree, IsOwnDying, IsOwnSlot}
 use Rattle.shm_graph.specs.Sound.{IsSound, IsGone}
 use Rattle.shm_graph.specs.Runs.{Held, memos_of}

@@ -1,5 +1,5 @@
 -- who holds a slot or a latch, and that a block that is named or in reach is live and counted
-use Rattle.std.proofs.Common.{◌≡◌, ◌≢◌, ℕ, ◌+◌, ◌%◌, ◌<◌, refl, sym, ap, ◌∙◌, arith, true, subst, inl, inr, ◌⊎◌, List, [], ◌∷◌, Option, Some}
+use Rattle.std.proofs.Common.{◌≡◌, ◌≢◌, ℕ, ◌+◌, ◌%◌, ◌<◌, refl, sym, ◌∙◌, arith, true, subst, inl, inr, ◌⊎◌, List, [], ◌∷◌, Option, Some}
 use Rattle.std.specs.List.{All}
 use Rattle.std.proofs.lemmas.List.Elements.{All-nil, All-cons, All-contains}
 use Rattle.shm_words.specs.declared.geometry.Geometry.{Geometry}
@@ -40,8 +40,8 @@ pub looks_targets : (t : Spot → ℕ) (author : ℕ → ℕ) (latch : Option �
 looks_targets t author latch named earlier [] x = All-nil (λ (k : Look). (k.block ≢ 0) × ((p : Spot) × (t p ≡ k.block)))
 looks_targets t author latch named earlier (k ∷ ks) x =
     All-cons (λ (k : Look). (k.block ≢ 0) × ((p : Spot) × (t p ≡ k.block))) k ks
-        (named_word t author latch (λ b. named b ⊎ InLooks earlier b) k.from k.block x.0)
-        (looks_targets t author latch named (k ∷ earlier) ks x.1)
+    (named_word t author latch (λ b. named b ⊎ InLooks earlier b) k.from k.block x.0)
+    (looks_targets t author latch named (k ∷ earlier) ks x.1)
 
 module _ (g : Geometry) (w : Spot → ℕ) (v : View) (h : HeldAt g w v) where
   -- ---- blocks
