@@ -16,3 +16,7 @@ pub mod MemoSteps
 pub mod Composing
 pub mod Wholes
 pub mod Running
+pub mod Counting
+pub mod Holders
+pub mod HeldSound
+pub mod StillClean

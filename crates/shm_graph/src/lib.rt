@@ -6,6 +6,7 @@
 #![tactic(auto)]
 
 pub mod ask;
+pub mod laws;
 pub mod machine;
 pub mod memo;
 pub mod run;
@@ -14,6 +15,9 @@ pub mod start;
 pub mod table;
 
 pub use ask::{Ask, Life, Me, Turn};
+pub use laws::{
+    agents_change, held_state_sound, machine_law, runs_compose, still_state_clean, word_steps,
+};
 pub use machine::Machine;
 pub use memo::{
     Agent, Fact, Fate, First, Half, Kind, Look, Making, Memo, Op, Second, Seen, Status, Step,
