@@ -9,3 +9,11 @@ pub mod ClassStoring
 pub mod Starting
 pub mod Reading
 pub mod Summing
+pub mod Frames
+pub mod MemoParts
+pub mod Calls
+pub mod Updating
+pub mod StatusStore
+pub mod Calling
+pub mod SameGraph
+pub mod Keeping
