@@ -20,3 +20,11 @@ pub mod Counting
 pub mod Holders
 pub mod HeldSound
 pub mod StillClean
+pub mod Frames
+pub mod MemoParts
+pub mod Calls
+pub mod Updating
+pub mod StatusStore
+pub mod Calling
+pub mod SameGraph
+pub mod Keeping
