@@ -9,3 +9,4 @@ pub mod ClassStoring
 pub mod Starting
 pub mod Reading
 pub mod Summing
+pub mod FirstHeld
