@@ -54,6 +54,7 @@ impl PlainPool {
         requires geometry { GeometryFits geometry }
         requires era { EraFits first_era }
         ensures first { IfOk result (λ p. p ≡ first_pool (record { geometry = geometry; first_era = first_era; tables = tables })) }
+        ensures run { IfOk result (λ p. IsRun p) }
     {
         let start = Start {
             geometry,
@@ -73,6 +74,7 @@ impl PlainPool {
     /// The sizes of the pool.
     pub fn geometry(&self) -> Geometry
         ensures is { result ≡ self.now.start.geometry }
+        ensures run { IsRun self.now }
     {
         self.start.geometry
     }
@@ -117,7 +119,6 @@ impl PlainPool {
         ensures run { IsRun self.new }
         ensures learns { Learns M.control (fits_now M.control M.fits) (gives_now M.gives) m.now result (memo_of (readied self.old who) who) (memo_of self.new who) }
     {
-        let _ = who;
         let ask = m.ask();
         let seen = make_step(&mut self.words, ask);
         note(&self.board, &mut self.place, m, seen);
