@@ -1,11 +1,11 @@
 -- the first state of a pool holds
-use Rattle.std.proofs.Common.{◌≡◌, ◌≢◌, ℕ, zero, suc, ◌+◌, ◌%◌, ◌^◌, ◌<◌, ◌≤◌, refl, sym, ap, ◌∙◌, arith, true, false, Bool, cond, eqb, ltb, lt-ltb, le-ltb, eq-eqb, eqb-true, ltb-true, subst, ◌&&◌, List, [], ◌∷◌, lit<, Some, length, get_or, replicate, map, inl, inr}
+use Rattle.std.proofs.Common.{◌≡◌, ◌≢◌, ℕ, zero, suc, ◌+◌, ◌%◌, ◌^◌, ◌<◌, ◌≤◌, refl, sym, ap, ◌∙◌, arith, true, false, Bool, cond, eqb, ltb, lt-ltb, le-ltb, eq-eqb, eqb-true, subst, ◌&&◌, List, [], ◌∷◌, lit<, Some, length, get_or, replicate, map, inl, inr}
 use Rattle.std.specs.Prelude.{nat_eq}
 use Rattle.std.specs.List.{All, Contains, IsDistinct}
 use Rattle.std.proofs.Math.Path.{fun_ext}
 use Rattle.std.proofs.lemmas.List.{get_or-replicate, get_or_past, length-replicate}
 use Rattle.std.proofs.lemmas.List.Elements.{All-nil}
-use Rattle.std.proofs.lemmas.Bool.{true≢false, ne_eqb, and_parts, and_from, cases_Bool, cases_lt}
+use Rattle.std.proofs.lemmas.Bool.{true≢false, ne_eqb, and_parts, and_from, cases_lt}
 use Rattle.shm_words.specs.declared.geometry.Geometry.{Geometry}
 use Rattle.shm_words.specs.declared.redo.Redo.TheVariants as redos
 use Rattle.shm_words.specs.Redos.{redo_of}
@@ -22,13 +22,13 @@ use Rattle.shm_graph.specs.Spots.{IsAt, see}
 use Rattle.shm_graph.specs.Ops.{covered}
 use Rattle.shm_graph.specs.Ops.Cover.{Quiet}
 use Rattle.shm_graph.specs.References.{words_of}
-use Rattle.shm_graph.specs.Tables.{Contents, contents_of, IsPartition}
-use Rattle.shm_graph.specs.Views.{View, view, targets, own_word, owner_is}
+use Rattle.shm_graph.specs.Tables.{Contents, IsPartition}
+use Rattle.shm_graph.specs.Views.{view, targets, own_word, owner_is}
 use Rattle.shm_graph.specs.Held.{HeldAt, Names, PartTie, LaneSound}
 use Rattle.shm_graph.specs.Runs as runs
-use Rattle.shm_graph.specs.Runs.{Held, EraFits, first_part, first_memo, first_account, accounts_from, account_at, memos_of, words_from}
+use Rattle.shm_graph.specs.Runs.{Held, EraFits, first_word, first_part, first_memo, first_account, accounts_from, account_at, memos_of, words_from}
 use Rattle.shm_graph.proofs.Fixed.{fixed_is_at}
-use Rattle.shm_graph.proofs.Starting.{first_word, first_words, IsFirst, see-first}
+use Rattle.shm_graph.proofs.Starting.{first_words, IsFirst, see-first}
 
 -- ---- lists
 
@@ -284,7 +284,7 @@ first_seen s fits = see-first s.geometry (runs.first_words s) s.first_era fits i
 pub first_held_at : (s : Start) → GeometryFits s.geometry → EraFits s.first_era → HeldAt s.geometry (see s.geometry (runs.first_words s)) (view (memos_of (accounts_from s 0 s.geometry.clients)))
 first_held_at s fits begins =
     subst (λ (w : Spot → ℕ). HeldAt s.geometry w (view (memos_of (accounts_from s 0 s.geometry.clients)))) (sym (first_seen s fits))
-      (subst (λ (r : ℕ → Memo). HeldAt s.geometry (first_words s.geometry s.first_era) (view r)) (sym (memos_start s)) (start_held s fits begins))
+    (subst (λ (r : ℕ → Memo). HeldAt s.geometry (first_words s.geometry s.first_era) (view r)) (sym (memos_start s)) (start_held s fits begins))
 
 -- and of the lists
 pub first_held : (s : Start) → GeometryFits s.geometry → EraFits s.first_era → Held s.geometry (runs.first_words s) (accounts_from s 0 s.geometry.clients)

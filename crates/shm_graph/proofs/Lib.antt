@@ -10,3 +10,4 @@ pub mod Starting
 pub mod Reading
 pub mod Summing
 pub mod FirstHeld
+pub mod FirstStoring
