@@ -11,3 +11,8 @@ pub mod Reading
 pub mod Summing
 pub mod FirstHeld
 pub mod FirstStoring
+pub mod Lists
+pub mod MemoSteps
+pub mod Composing
+pub mod Wholes
+pub mod Running
