@@ -1,7 +1,7 @@
 -- a turn of a machine that keeps the law
 use Rattle.std.proofs.Common.{◌≡◌, ℕ, ◌<◌, true, false, Bool, cond, List, [], ◌∷◌, ◌++◌, length, refl, sym, ap, ◌∙◌, subst}
 use Rattle.std.proofs.lemmas.List.{get_or-set_same}
-use Rattle.std.specs.Prelude.{Option, Some}
+use Rattle.std.specs.Prelude.{Some}
 use Rattle.shm_words.specs.declared.geometry.Geometry.{Geometry}
 use Rattle.shm_words.specs.Layout.{total_of, GeometryFits}
 use Rattle.shm_graph.specs.declared.ask.Me.{Me}
@@ -10,7 +10,6 @@ use Rattle.shm_graph.specs.declared.memo.Kind.{Kind}
 use Rattle.shm_graph.specs.declared.memo.Memo.{Memo}
 use Rattle.shm_graph.specs.declared.memo.Step.{Step}
 use Rattle.shm_graph.specs.declared.run.Account.{Account}
-use Rattle.shm_graph.specs.declared.run.Move.{Move}
 use Rattle.shm_graph.specs.declared.run.Move.TheVariants.{Word, Begins}
 use Rattle.shm_graph.specs.declared.run.Start.{Start}
 use Rattle.shm_graph.specs.Asks.{at_of}
@@ -19,9 +18,9 @@ use Rattle.shm_graph.specs.Laws.{Control, Outcome}
 use Rattle.shm_graph.specs.Runs.{Turned, state, Held, account_at, account_after, account_entered, accounts_after, changed, EraFits}
 use Rattle.shm_graph.specs.Whole.{Inside, Keeps, Kept, Learns}
 use Rattle.shm_graph.proofs.FirstHeld.{first_held}
+use Rattle.shm_graph.proofs.Running.{Leads-more, turned-begins}
 use Rattle.shm_plain.specs.Pools.{Pool, pool, first_pool, memo_of, IsRun, IsOf, MayStep, readied, turn_on, turned}
 use Rattle.shm_plain.specs.Tracks.{kind_next}
-use Rattle.shm_plain.proofs.Awaited.{Leads-more, held_entered}
 
 pub first_run : (s : Start) → GeometryFits s.geometry → EraFits s.first_era → IsRun (first_pool s)
 first_run s fits era = record { held = first_held s fits era; leads = refl }
@@ -35,9 +34,6 @@ last_added a (x ∷ y ∷ ys) = last_added a (y ∷ ys)
 
 entered_acts : (k : Kind) (m : Memo) → acts (entered k m) ≡ true
 entered_acts k m = ap acts_by (last_added _ m.agents)
-
-begun : (p : Pool) (c : ℕ) (k : Kind) → Pool
-begun p c k = pool p.start p.words (changed (account_entered k) p.accounts c) (p.turns ++ Begins c k ∷ [])
 
 pub ready_run : (p : Pool) (c : ℕ) → IsRun p → c < p.start.geometry.clients → MayStep p c → IsRun (readied p c) × (acts (memo_of (readied p c) c) ≡ true)
 ready_run p c run l may = go (acts (memo_of p c)) refl
@@ -53,8 +49,8 @@ ready_run p c run l may = go (acts (memo_of p c)) refl
 
     begins : acts (memo_of p c) ≡ false → IsRun (pool p.start p.words es' (p.turns ++ Begins c k ∷ []))
     begins e =
-        let h : Held p.start.geometry p.words es' = held_entered p.start.geometry p.words p.accounts c k run.held l in
-        record { held = h; leads = Leads-more p.start.geometry _ p.turns _ (Begins c k) run.leads (e, may e) (record { held = h; event = tt }) }
+        let now : Turned p.start.geometry (state p.words p.accounts) (Begins c k) = turned-begins p.start.geometry (state p.words p.accounts) c k run.held l in
+        record { held = now.held; leads = Leads-more p.start.geometry _ p.turns _ (Begins c k) run.leads (e, may e) now }
 
     go : (b : Bool) → acts (memo_of p c) ≡ b → let es = cond b p.accounts es' in IsRun (pool p.start p.words es (cond b p.turns (p.turns ++ Begins c k ∷ []))) × (acts (account_at es c).memo ≡ true)
     go true e = (run, e)

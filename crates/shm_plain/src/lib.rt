@@ -6,7 +6,6 @@ pub mod closed;
 pub mod first;
 pub mod pair;
 pub mod pool;
-mod scratch;
 pub mod track;
 
 pub use closed::PlainClosed;

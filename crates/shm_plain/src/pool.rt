@@ -11,9 +11,8 @@ ghost use Rattle.shm_plain.specs.Tracks.{kind_next};
 ghost use Rattle.shm_plain.specs.Pools.{IsOf, IsRun, first_pool, memo_of, readied, turn_on, turned, MayStep};
 
 use crate::act::make_step;
-use crate::scratch::first_words;
 use crate::track::{Board, Place, board, note};
-use shm_graph::{Life, Machine, Start, Turn};
+use shm_graph::{Life, Machine, Start, Turn, first_words};
 use shm_words::Geometry;
 use std::alloc::{AllocError, Global};
 use std::marker::Model;

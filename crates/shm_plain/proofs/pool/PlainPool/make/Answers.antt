@@ -17,3 +17,6 @@ invariant_of-result c =
       subst (λ (z : Track). IsRun (pool s c.in_ok-words.words.items z.accounts z.turns)) (sym (ap (λ m. m.0) a.3))
           (subst (λ (ws : List ℕ). IsRun (pool s ws (first_track s).accounts (first_track s).turns)) (sym w) (first_run s c.requires.geometry c.requires.era)),
     )
+
+pub returns-clause-run : goal.returns-clause-run
+returns-clause-run c = (invariant_of-result c).3
