@@ -14,3 +14,4 @@ pub mod MemoSteps
 pub mod Composing
 pub mod Wholes
 pub mod Running
+pub mod Going

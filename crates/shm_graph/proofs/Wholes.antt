@@ -40,9 +40,8 @@ turned_by ws es t after h l within x =
     let memos : at1 r c (memo_on (r c) t p) ≡ memos_of (accounts_after es t) = ap (at1 r c) told ∙ sym (memos_of-after es t long) in
     let seen : words_after w t.ask p ≡ see g (words_set t.ask ws) = sym (see-words_set g ws (view r) c t.ask p h.at h.words within refl x.step.allowed) in
     let step : Stepped g c t.ask p e w (view r) (see g (words_set t.ask ws)) (view (memos_of (accounts_after es t))) =
-        subst (λ (v : Spot → ℕ). Stepped g c t.ask p e w (view r) v (view (memos_of (accounts_after es t)))) seen
-        (subst (λ (z : ℕ → Memo). Stepped g c t.ask p e w (view r) (words_after w t.ask p) (view z)) memos x.step) in
-    (
+    subst (λ (v : Spot → ℕ). Stepped g c t.ask p e w (view r) v (view (memos_of (accounts_after es t)))) seen
+    (subst (λ (z : ℕ → Memo). Stepped g c t.ask p e w (view r) (words_after w t.ask p) (view z)) memos x.step) in (
       record {
         held = record {
           words = length-words_set t.ask ws ∙ h.words;
@@ -74,7 +73,7 @@ module _ {S A : Type 0} (k : Control S A) (fits : S → Memo → Memo → Trail 
       let e : w p ≡ slice_index ws (at_of a) = see-spot g ws (at_of a) (whole_inside m r0 (r me.who) l fit going) in
       let stands : Stands me w r f tr = record { held = h.at; who = l; call = ([], refl) } in
       let x : KeptAt me w r a f (Then k fits gives m r0 tr) p =
-          subst (λ (class : ℕ → ℕ → ℕ). KeptAt me w r a f (Then k fits gives m r0 tr) (spot_at g class (at_of a))) (classes-see g ws h.at.fits) (laws.keeps m r0 tr going w r f stands fit) in
+      subst (λ (class : ℕ → ℕ → ℕ). KeptAt me w r a f (Then k fits gives m r0 tr) (spot_at g class (at_of a))) (classes-see g ws h.at.fits) (laws.keeps m r0 tr going w r f stands fit) in
       subst (λ (z : ℕ). part.Kept w r (framed me a f (seen_of a z)) p (Then k fits gives m r0 tr (seen_of a z))) e x
 
   pub whole_keeps : Keeps k (fits_now k fits) (gives_now gives)
