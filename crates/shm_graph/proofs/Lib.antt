@@ -9,6 +9,8 @@ pub mod ClassStoring
 pub mod Starting
 pub mod Reading
 pub mod Summing
+pub mod FirstHeld
+pub mod FirstStoring
 pub mod Lists
 pub mod MemoSteps
 pub mod Composing

@@ -11,6 +11,7 @@ pub mod machine;
 pub mod memo;
 pub mod run;
 pub mod spot;
+pub mod start;
 pub mod table;
 
 pub use ask::{Ask, Life, Me, Turn};
@@ -22,4 +23,5 @@ pub use memo::{
 };
 pub use run::{Account, Move, Start, Told};
 pub use spot::Spot;
+pub use start::{first_state_holds, first_words};
 pub use table::{Entry, Part};
