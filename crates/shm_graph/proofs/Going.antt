@@ -1,11 +1,12 @@
 -- a run goes on by a step of a machine that keeps its law, by a death and by a beginning
-use Rattle.std.proofs.Common.{◌≡◌, ℕ, ◌<◌, List, [], ◌∷◌, ◌++◌, length, refl, sym, ap, ◌∙◌, subst, true, false, cond, inl, inr}
+use Rattle.std.proofs.Common.{◌≡◌, ◌≢◌, ℕ, ◌<◌, List, [], ◌∷◌, ◌++◌, length, refl, sym, ap, ◌∙◌, subst, true, false, cond, ◌&&◌, inl, inr}
 use Rattle.std.specs.Prelude.{slice_index, Some, None}
 use Rattle.std.proofs.lemmas.List.{get_or_past}
 use Rattle.std.proofs.lemmas.Bool.{cases_lt, false≢true}
 use Rattle.shm_words.specs.declared.geometry.Geometry.{Geometry}
 use Rattle.shm_words.specs.Layout.{total_of}
 use Rattle.shm_graph.specs.declared.ask.Me.{Me}
+use Rattle.shm_graph.specs.declared.memo.Status.TheVariants.{Gone}
 use Rattle.shm_graph.specs.declared.memo.Kind.{Kind}
 use Rattle.shm_graph.specs.declared.memo.Memo.{Memo}
 use Rattle.shm_graph.specs.declared.memo.Step.{Step}
@@ -13,12 +14,12 @@ use Rattle.shm_graph.specs.declared.run.Account.{Account}
 use Rattle.shm_graph.specs.declared.run.Move.{Move}
 use Rattle.shm_graph.specs.declared.run.Move.TheVariants.{Word, Dies, Begins}
 use Rattle.shm_graph.specs.Asks.{Trail, at_of, seen_of}
-use Rattle.shm_graph.specs.Changes.{acts, spot_told}
+use Rattle.shm_graph.specs.Changes.{is_gone, acts, spot_told}
 use Rattle.shm_graph.specs.Laws.{Control, Steady, Outcome, Back, step_of, is_some}
 use Rattle.shm_graph.specs.Runs.{Held, State, state, moved, Turned, Leads, MayBegin, memos_of, account_at, account_after, accounts_after}
 use Rattle.shm_graph.specs.Whole.{gives_now, Inside, Keeps, Kept, Learns}
 use Rattle.shm_graph.proofs.Lists.{account_here}
-use Rattle.shm_graph.proofs.MemoSteps.{acts_after, is_gone}
+use Rattle.shm_graph.proofs.MemoSteps.{acts_after, acts-on, acts-here, acts-gone}
 use Rattle.shm_graph.proofs.Running.{Leads-more, turned-dies, turned-begins}
 
 -- ---- deaths and beginnings
@@ -39,7 +40,7 @@ run-dies g a ms s c h run e =
 pub run-begins : (g : Geometry) (a : State) (ms : List Move) (s : State) (c : ℕ) (k : Kind) → Held g s.words s.accounts → c < g.clients → Leads g a ms s → acts (memos_of s.accounts c) ≡ false → MayBegin k (memos_of s.accounts c) → Turned g s (Begins c k) × Leads g a (ms ++ Begins c k ∷ []) (moved s (Begins c k))
 run-begins g a ms s c k h l run e may =
     let turned : Turned g s (Begins c k) = turned-begins g s c k h l in
-    (turned, Leads-more g a ms s (Begins c k) run (e, may) turned)
+    (turned, Leads-more g a ms s (Begins c k) run (subst (λ (z : ℕ). c < z) (sym h.accounts) l, e, may) turned)
 
 -- ---- a machine, one step on
 
@@ -58,8 +59,18 @@ module _ {S A : Type 0} (k : Control S A) (steady : Steady k) where
   done_on m n a going e = (steady m n going).ends ∙ ap is_some e
 
 -- what a step leaves of whether an agent acts
-pub account_acts : (e : Account) (t : Step) → acts (account_after e t).memo ≡ cond (is_gone t.ask (spot_told t.me.geometry e.memo (at_of t.ask))) false (acts e.memo)
+pub account_acts : (e : Account) (t : Step) → acts (account_after e t).memo ≡ cond (t.ends && (is_gone (account_after e t).memo.status)) false (acts e.memo)
 account_acts e t = acts_after e.memo t (spot_told t.me.geometry e.memo (at_of t.ask))
+
+-- where the machine goes on, where it doesn't leave the status gone, and where it ends and does
+pub account_acts-on : (e : Account) (t : Step) → t.ends ≡ false → acts (account_after e t).memo ≡ acts e.memo
+account_acts-on e t going = acts-on e.memo t (spot_told t.me.geometry e.memo (at_of t.ask)) going
+
+pub account_acts-here : (e : Account) (t : Step) → (account_after e t).memo.status ≢ Gone → acts (account_after e t).memo ≡ acts e.memo
+account_acts-here e t n = acts-here e.memo t (spot_told t.me.geometry e.memo (at_of t.ask)) n
+
+pub account_acts-gone : (e : Account) (t : Step) → t.ends ≡ true → (account_after e t).memo.status ≡ Gone → acts (account_after e t).memo ≡ false
+account_acts-gone e t ends s = acts-gone e.memo t (spot_told t.me.geometry e.memo (at_of t.ask)) ends s
 
 -- what an answer says of the machine one step on, it says of the machine
 pub whole_back : {S A : Type 0} (k : Control S A) (gives : S → Memo → Memo → Trail → A → Type 0) → Back k gives → (m : S) (n : ℕ) → k.finished m ≡ false → k.turns m n ≡ None → (r0 r : Memo) (a : A) → gives_now gives (k.after m n) r0 r a → gives_now gives m r0 r a
@@ -109,6 +120,16 @@ module _ {S A : Type 0} (k : Control S A) (fits : S → Memo → Memo → Type 0
       let who : t.me.who ≡ c = ap (λ (z : Me). z.who) is.me in
       let long : c < length es = subst (λ (z : ℕ). c < z) (sym h.accounts) is.below in
       subst (λ (z : ℕ). account_at (accounts_after es t) z ≡ account_after (account_at es z) t) who (account_here es t.me.who (account_after (account_at es t.me.who) t) (subst (λ (z : ℕ). z < length es) (sym who) long))
+
+  -- an agent of c acts as before where the machine goes on, and where it doesn't leave the status gone
+  pub acts-step : Steady k → (g : Geometry) (ws : List ℕ) (es : List Account) (c : ℕ) (m : S) → Held g ws es → Is g c m → k.turns m (step_on ws m).seen ≡ None → acts (memos_of (accounts_after es (step_on ws m)) c) ≡ acts (memos_of es c)
+  acts-step steady g ws es c m h is e =
+      let t : Step = step_on ws m in
+      ap (λ (x : Account). acts x.memo) (account-step g ws es c m h is) ∙ account_acts-on (account_at es c) t (going_on k steady m t.seen is.going e)
+
+  pub acts-answer : (g : Geometry) (ws : List ℕ) (es : List Account) (c : ℕ) (m : S) → Held g ws es → Is g c m → (account_after (account_at es c) (step_on ws m)).memo.status ≢ Gone → acts (memos_of (accounts_after es (step_on ws m)) c) ≡ acts (memos_of es c)
+  acts-answer g ws es c m h is n =
+      ap (λ (x : Account). acts x.memo) (account-step g ws es c m h is) ∙ account_acts-here (account_at es c) (step_on ws m) n
 
   pub learns-step : Keeps k fits gives → (g : Geometry) (ws : List ℕ) (es : List Account) (c : ℕ) (m : S) → Held g ws es → Is g c m → Learns k fits gives m (step_on ws m).seen (memos_of es c) (account_after (account_at es c) (step_on ws m)).memo
   learns-step keeps g ws es c m h is r0 fit =
