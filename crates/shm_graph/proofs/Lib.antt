@@ -28,3 +28,4 @@ pub mod StatusStore
 pub mod Calling
 pub mod SameGraph
 pub mod Keeping
+pub mod Going

@@ -1,20 +1,21 @@
 -- what a word step, a death and a beginning leave of a memo's call and of its agents
-use Rattle.std.proofs.Common.{◌≡◌, ℕ, ◌++◌, ◌∷◌, [], refl, sym, ap, ◌∙◌, true, false, Bool, cond, eqb, List, inl, inr}
-use Rattle.std.specs.Prelude.{Option, Some, None, ◌==◌}
-use Rattle.std.proofs.lemmas.Bool.{cases_Bool, eqb-true, true≢false}
+use Rattle.std.proofs.Common.{◌≡◌, ◌≢◌, ℕ, ◌++◌, ◌∷◌, [], refl, sym, ap, ◌∙◌, true, false, Bool, cond, ◌&&◌, List}
+use Rattle.std.specs.Prelude.{Option, Some, None}
+use Rattle.std.proofs.lemmas.Bool.{true≢false}
 use Rattle.shm_graph.specs.declared.spot.Spot.{Spot}
 use Rattle.shm_graph.specs.declared.spot.Spot.TheVariants.{Status, Hold, Home, Era, Tail, Front, Page}
 use Rattle.shm_graph.specs.declared.ask.Ask.{Ask}
 use Rattle.shm_graph.specs.declared.ask.Ask.TheVariants.{Load, Store, Exchange}
 use Rattle.shm_graph.specs.declared.memo.Op.TheVariants.{Nothing}
-use Rattle.shm_graph.specs.declared.memo.Status.TheVariants.{New}
+use Rattle.shm_graph.specs.declared.memo.Status.{Status as AStatus}
+use Rattle.shm_graph.specs.declared.memo.Status.TheVariants.{New, Gone}
 use Rattle.shm_graph.specs.declared.memo.Agent.{Agent}
 use Rattle.shm_graph.specs.declared.memo.Kind.{Kind}
 use Rattle.shm_graph.specs.declared.memo.Memo.{Memo}
 use Rattle.shm_graph.specs.declared.memo.Step.{Step}
 use Rattle.shm_graph.specs.declared.memo.Test.{Test}
 use Rattle.shm_graph.specs.Asks.{call_after}
-use Rattle.shm_graph.specs.Changes.{last_agent, with_last, acts_by, acts, recovers_by, recovers, is_recoverer, stepped, ended, fallen, died, entered, with_status, read_on, stored_on, called, test_before, changed_by, memo_on}
+use Rattle.shm_graph.specs.Changes.{last_agent, with_last, acts_by, acts, recovers_by, recovers, is_recoverer, stepped, ended, fallen, died, entered, is_gone, with_status, read_on, stored_on, called, test_before, changed_by, memo_on}
 use Rattle.shm_graph.specs.Runs.{fell_by}
 
 either_is : (P : Memo → Type 0) (b : Bool) (x y : Memo) → P x → P y → P (cond b x y)
@@ -40,17 +41,10 @@ read_rest c m test _ seen = refl
 
 -- the parts that no store changes
 abbrev pub unstored : Memo → Memo
-unstored m = record m { status = New; making = None; values = []; known = []; agents = [] }
+unstored m = record m { status = New; making = None; values = []; known = [] }
 
 status_rest : (m : Memo) (v : ℕ) → unstored (with_status m v) ≡ unstored m
-status_rest m v =
-    elim (cases_Bool (eqb v 2)) [
-      | inl t ↦ rw t refl
-      | inr n ↦ elim (cases_Bool (eqb v 3)) [
-        | inl t ↦ rw (n, t) refl
-        | inr u ↦ rw (n, u) refl
-      ]
-    ]
+status_rest m v = either_is (λ x. unstored x ≡ unstored m) _ _ _ refl refl
 
 pub stored_rest : (m : Memo) (p : Spot) (v : ℕ) → unstored (stored_on m p v) ≡ unstored m
 stored_rest m (Status d) v = status_rest m v
@@ -74,35 +68,20 @@ memo_over m t p = go t.ask
 
 -- ---- the agents
 
--- the store of the status gone
-abbrev pub is_gone : Ask → Spot → Bool
-is_gone (Store at v) (Status d) = v == 3
-is_gone _ _ = false
-
--- the agents after a step
+-- the agents after a step, which has ended the agent or not
 abbrev pub agents_after : Bool → List Agent → List Agent
 agents_after gone xs = cond gone (with_last ended (with_last stepped xs)) (with_last stepped xs)
 
-status_agents : (m : Memo) (v : ℕ) → (with_status m v).agents ≡ cond (eqb v 3) (with_last ended m.agents) m.agents
-status_agents m v =
-    elim (cases_Bool (eqb v 2)) [
-      | inl t ↦ (let two : v ≡ 2 = eqb-true v 2 t in rw two refl)
-      | inr n ↦ elim (cases_Bool (eqb v 3)) [
-        | inl t ↦ rw (n, t) refl
-        | inr u ↦ rw (n, u) refl
-      ]
-    ]
+-- whether the step ends the agent
+abbrev pub ends_agent : Memo → Step → Spot → Bool
+ends_agent m t p = t.ends && (is_gone (memo_on m t p).status)
 
-stored_agents : (m : Memo) (at : ℕ) (p : Spot) (v : ℕ) → (stored_on m p v).agents ≡ cond (is_gone (Store at v) p) (with_last ended m.agents) m.agents
-stored_agents m at (Status d) v = status_agents m v
-stored_agents m at _ v = refl
-
-pub memo_agents : (m : Memo) (t : Step) (p : Spot) → (memo_on m t p).agents ≡ agents_after (is_gone t.ask p) m.agents
-memo_agents m t p = go t.ask
+pub memo_agents : (m : Memo) (t : Step) (p : Spot) → (memo_on m t p).agents ≡ agents_after (ends_agent m t p) m.agents
+memo_agents m t p = ap (λ xs. cond (ends_agent m t p) (with_last ended xs) xs) (go t.ask)
   where
-    go : (a : Ask) → (changed_by m t p a).agents ≡ agents_after (is_gone a p) m.agents
+    go : (a : Ask) → (changed_by m t p a).agents ≡ with_last stepped m.agents
     go (Load at) = ap (λ (x : Memo). x.agents) (read_rest t.me.who (called m t) (test_before m t) p t.seen)
-    go (Store at v) = stored_agents (called m t) at p v
+    go (Store at v) = ap (λ (x : Memo). x.agents) (stored_rest (called m t) p v)
     go (Exchange at from to) = either_is (λ x. x.agents ≡ (called m t).agents) _ _ _ refl (ap (λ (x : Memo). x.agents) (read_rest t.me.who (called m t) (test_before m t) p t.seen))
 
 -- the last of changed agents
@@ -133,13 +112,32 @@ acts_fallen : (o : Option Agent) → acts_by (with_some fallen o) ≡ false
 acts_fallen None = refl
 acts_fallen (Some a) = refl
 
--- an agent acts until it stores the status gone
-pub acts_after : (m : Memo) (t : Step) (p : Spot) → acts (memo_on m t p) ≡ cond (is_gone t.ask p) false (acts m)
-acts_after m t p = ap (λ xs. acts_by (last_agent xs)) (memo_agents m t p) ∙ go (is_gone t.ask p)
+-- an agent acts until a step ends its machine and leaves the status gone
+pub acts_after : (m : Memo) (t : Step) (p : Spot) → acts (memo_on m t p) ≡ cond (ends_agent m t p) false (acts m)
+acts_after m t p = ap (λ xs. acts_by (last_agent xs)) (memo_agents m t p) ∙ go (ends_agent m t p)
   where
     go : (b : Bool) → acts_by (last_agent (agents_after b m.agents)) ≡ cond b false (acts m)
     go true = ap acts_by (last-with_last ended (with_last stepped m.agents)) ∙ acts_ended (last_agent (with_last stepped m.agents))
     go false = ap acts_by (last-with_last stepped m.agents) ∙ acts_stepped (last_agent m.agents)
+
+not_gone : (s : AStatus) → s ≢ Gone → is_gone s ≡ false
+not_gone Gone n = absurd (n refl)
+not_gone _ n = refl
+
+-- a step that doesn't end the machine, and one that leaves another status than gone
+pub acts-on : (m : Memo) (t : Step) (p : Spot) → t.ends ≡ false → acts (memo_on m t p) ≡ acts m
+acts-on m t p e = acts_after m t p ∙ ap (λ b. cond (b && (is_gone (memo_on m t p).status)) false (acts m)) e
+
+pub acts-here : (m : Memo) (t : Step) (p : Spot) → (memo_on m t p).status ≢ Gone → acts (memo_on m t p) ≡ acts m
+acts-here m t p n = acts_after m t p ∙ (ap (λ b. cond (t.ends && b) false (acts m)) (not_gone (memo_on m t p).status n) ∙ go t.ends)
+  where
+    go : (b : Bool) → cond (b && false) false (acts m) ≡ acts m
+    go true = refl
+    go false = refl
+
+-- a step that ends the machine and leaves the status gone ends the agent
+pub acts-gone : (m : Memo) (t : Step) (p : Spot) → t.ends ≡ true → (memo_on m t p).status ≡ Gone → acts (memo_on m t p) ≡ false
+acts-gone m t p e s = acts_after m t p ∙ (ap (λ b. cond (b && (is_gone (memo_on m t p).status)) false (acts m)) e ∙ ap (λ z. cond (is_gone z) false (acts m)) s)
 
 pub acts-died : (m : Memo) → acts (died m) ≡ false
 acts-died m = ap acts_by (last-with_last fallen m.agents) ∙ acts_fallen (last_agent m.agents)
