@@ -59,7 +59,7 @@ module _ {S A : Type 0} (k : Control S A) (steady : Steady k) where
   done_on m n a going e = (steady m n going).ends ∙ ap is_some e
 
 -- what a step leaves of whether an agent acts
-pub account_acts : (e : Account) (t : Step) → acts (account_after e t).memo ≡ cond (t.ends && (is_gone (account_after e t).memo.status)) false (acts e.memo)
+pub account_acts : (e : Account) (t : Step) → acts (account_after e t).memo ≡ cond (is_gone (account_after e t).memo.status && t.ends) false (acts e.memo)
 account_acts e t = acts_after e.memo t (spot_told t.me.geometry e.memo (at_of t.ask))
 
 -- where the machine goes on, where it doesn't leave the status gone, and where it ends and does

@@ -74,7 +74,7 @@ agents_after gone xs = cond gone (with_last ended (with_last stepped xs)) (with_
 
 -- whether the step ends the agent
 abbrev pub ends_agent : Memo → Step → Spot → Bool
-ends_agent m t p = t.ends && (is_gone (memo_on m t p).status)
+ends_agent m t p = is_gone (memo_on m t p).status && t.ends
 
 pub memo_agents : (m : Memo) (t : Step) (p : Spot) → (memo_on m t p).agents ≡ agents_after (ends_agent m t p) m.agents
 memo_agents m t p = ap (λ xs. cond (ends_agent m t p) (with_last ended xs) xs) (go t.ask)
@@ -126,18 +126,18 @@ not_gone _ n = refl
 
 -- a step that doesn't end the machine, and one that leaves another status than gone
 pub acts-on : (m : Memo) (t : Step) (p : Spot) → t.ends ≡ false → acts (memo_on m t p) ≡ acts m
-acts-on m t p e = acts_after m t p ∙ ap (λ b. cond (b && (is_gone (memo_on m t p).status)) false (acts m)) e
-
-pub acts-here : (m : Memo) (t : Step) (p : Spot) → (memo_on m t p).status ≢ Gone → acts (memo_on m t p) ≡ acts m
-acts-here m t p n = acts_after m t p ∙ (ap (λ b. cond (t.ends && b) false (acts m)) (not_gone (memo_on m t p).status n) ∙ go t.ends)
+acts-on m t p e = acts_after m t p ∙ (ap (λ b. cond (is_gone (memo_on m t p).status && b) false (acts m)) e ∙ go (is_gone (memo_on m t p).status))
   where
     go : (b : Bool) → cond (b && false) false (acts m) ≡ acts m
     go true = refl
     go false = refl
 
+pub acts-here : (m : Memo) (t : Step) (p : Spot) → (memo_on m t p).status ≢ Gone → acts (memo_on m t p) ≡ acts m
+acts-here m t p n = acts_after m t p ∙ ap (λ b. cond (b && t.ends) false (acts m)) (not_gone (memo_on m t p).status n)
+
 -- a step that ends the machine and leaves the status gone ends the agent
 pub acts-gone : (m : Memo) (t : Step) (p : Spot) → t.ends ≡ true → (memo_on m t p).status ≡ Gone → acts (memo_on m t p) ≡ false
-acts-gone m t p e s = acts_after m t p ∙ (ap (λ b. cond (b && (is_gone (memo_on m t p).status)) false (acts m)) e ∙ ap (λ z. cond (is_gone z) false (acts m)) s)
+acts-gone m t p e s = acts_after m t p ∙ (ap (λ b. cond (is_gone (memo_on m t p).status && b) false (acts m)) e ∙ ap (λ z. cond (is_gone z && true) false (acts m)) s)
 
 pub acts-died : (m : Memo) → acts (died m) ≡ false
 acts-died m = ap acts_by (last-with_last fallen m.agents) ∙ acts_fallen (last_agent m.agents)

@@ -161,7 +161,7 @@ changed_by m t p (Exchange at from to) = if t.seen == from then called m t else 
 
 -- an agent ends with the step that ends its machine and leaves the status gone
 abbrev pub with_end : Bool → Memo → Memo
-with_end ends m = record m { agents = if ends && (is_gone m.status) then with_last ended m.agents else m.agents }
+with_end ends m = record m { agents = if is_gone m.status && ends then with_last ended m.agents else m.agents }
 
 -- the memo of the stepping identity after its step at a spot
 abbrev pub memo_on : Memo → Step → Spot → Memo
