@@ -50,7 +50,7 @@ ready_run p c run l may = go (acts (memo_of p c)) refl
     begins : acts (memo_of p c) ≡ false → IsRun (pool p.start p.words es' (p.turns ++ Begins c k ∷ []))
     begins e =
         let now : Turned p.start.geometry (state p.words p.accounts) (Begins c k) = turned-begins p.start.geometry (state p.words p.accounts) c k run.held l in
-        record { held = now.held; leads = Leads-more p.start.geometry _ p.turns _ (Begins c k) run.leads (e, may e) now }
+        record { held = now.held; leads = Leads-more p.start.geometry _ p.turns _ (Begins c k) run.leads (subst (λ (z : ℕ). c < z) (sym run.held.accounts) l, e, may e) now }
 
     go : (b : Bool) → acts (memo_of p c) ≡ b → let es = cond b p.accounts es' in IsRun (pool p.start p.words es (cond b p.turns (p.turns ++ Begins c k ∷ []))) × (acts (account_at es c).memo ≡ true)
     go true e = (run, e)
