@@ -17,3 +17,4 @@ pub mod StatusStore
 pub mod Calling
 pub mod SameGraph
 pub mod Keeping
+pub mod Loads
