@@ -18,3 +18,5 @@ pub mod Calling
 pub mod SameGraph
 pub mod Keeping
 pub mod Loads
+pub mod HomeTarget
+pub mod Looking
