@@ -9,6 +9,17 @@ pub mod ClassStoring
 pub mod Starting
 pub mod Reading
 pub mod Summing
+pub mod FirstHeld
+pub mod FirstStoring
+pub mod Lists
+pub mod MemoSteps
+pub mod Composing
+pub mod Wholes
+pub mod Running
+pub mod Counting
+pub mod Holders
+pub mod HeldSound
+pub mod StillClean
 pub mod Frames
 pub mod MemoParts
 pub mod Calls
@@ -20,3 +31,4 @@ pub mod Keeping
 pub mod Loads
 pub mod HomeTarget
 pub mod Looking
+pub mod Going

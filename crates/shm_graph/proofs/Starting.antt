@@ -9,17 +9,13 @@ use Rattle.shm_words.specs.declared.place.Place.TheVariants as place
 use Rattle.shm_words.specs.Layout.{GeometryFits, total_of, place_at}
 use Rattle.shm_graph.specs.declared.spot.Spot.{Spot}
 use Rattle.shm_graph.specs.declared.spot.Spot.TheVariants.{Spare, Status, Redo, Hold, Latch, Home, Era, Root, Tail, Front, Slot, Segment, Page, Unused, Head, Tag, Body}
+use Rattle.shm_graph.specs.Runs.{first_word}
 use Rattle.shm_graph.specs.Spots.{spot_of, spot_at, spot_address, IsAt, classes_in, see}
 use Rattle.shm_graph.proofs.Spotting.{is_in_body, at_below}
 use Rattle.shm_graph.proofs.Fixed.{place_of, fixed_place, fixed_is_at, fixed_in}
 use Rattle.shm_graph.proofs.Seeing.{see_there, see_absent, seen_is_at}
 
--- the first words by place: all are 0, but the own eras
-abbrev pub first_word : ℕ → Place → ℕ
-first_word era (place.Era i j) = if i == j then era else 0
-first_word era _ = 0
-
--- and by spot
+-- the first words by spot: all are 0, but the own eras
 abbrev pub first_words : Geometry → ℕ → Spot → ℕ
 first_words g era (Era i j) = if (i == j) && nat_lt i g.clients then era else 0
 first_words g era _ = 0

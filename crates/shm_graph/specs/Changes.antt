@@ -82,11 +82,14 @@ entered k m = record m { agents = m.agents ++ record { kind = k; steps = 0; fate
 abbrev pub status_of : ℕ → AStatus
 status_of v = if v == 1 then status.Live else if v == 2 then status.Dead else if v == 3 then status.Gone else status.New
 
--- a status was stored: a recoverer's first step empties what the dead agent prepared and knew, and an agent ends with the status gone
+abbrev pub is_gone : AStatus → Bool
+is_gone status.Gone = true
+is_gone _ = false
+
+-- a status was stored: a recoverer's first step empties what the dead agent prepared and knew
 abbrev pub with_status : Memo → ℕ → Memo
 with_status m v =
     if v == 2 then record m { status = status_of v; making = None; known = []; values = [] }
-    else if v == 3 then record m { status = status_of v; agents = with_last ended m.agents }
     else record m { status = status_of v }
 
 -- ---- what a load leaves
@@ -156,9 +159,13 @@ changed_by m t p (Load at) = read_on t.me.who (called m t) (test_before m t) p t
 changed_by m t p (Store at v) = stored_on (called m t) p v
 changed_by m t p (Exchange at from to) = if t.seen == from then called m t else read_on t.me.who (called m t) (test_before m t) p t.seen
 
+-- an agent ends with the step that ends its machine and leaves the status gone
+abbrev pub with_end : Bool → Memo → Memo
+with_end ends m = record m { agents = if is_gone m.status && ends then with_last ended m.agents else m.agents }
+
 -- the memo of the stepping identity after its step at a spot
 abbrev pub memo_on : Memo → Step → Spot → Memo
-memo_on m t p = changed_by m t p t.ask
+memo_on m t p = with_end t.ends (changed_by m t p t.ask)
 
 -- the spot that is asked for, as the memo tells it: the words of pages' bodies come with the machines that ask for them
 abbrev pub spot_told : Geometry → Memo → ℕ → Spot

@@ -13,3 +13,4 @@ pub mod Controls
 pub mod Laws
 pub mod Runs
 pub mod Whole
+pub mod Sound

@@ -175,26 +175,30 @@ abbrev pub MayBegin : Kind → Memo → Type 0
 MayBegin Client m = (m.status ≡ New) ⊎ (m.status ≡ Gone)
 MayBegin Recoverer m = fell_by (last_agent m.agents) ≡ true
 
--- a word step is one of an acting agent and sees the word that is there; an acting agent dies; an agent begins where none acts
+-- a word step is one of an acting agent and sees the word that is there; an acting agent dies; an agent begins where the pool has the identity and none of it acts
 abbrev pub IsMove : State → Move → Type 0
 IsMove s (Word t) = (t.seen ≡ seen_of t.ask (slice_index s.words (at_of t.ask))) × (acts (memos_of s.accounts t.me.who) ≡ true)
 IsMove s (Dies c) = acts (memos_of s.accounts c) ≡ true
-IsMove s (Begins c k) = (acts (memos_of s.accounts c) ≡ false) × MayBegin k (memos_of s.accounts c)
+IsMove s (Begins c k) = (c < length s.accounts) × (acts (memos_of s.accounts c) ≡ false) × MayBegin k (memos_of s.accounts c)
 
--- a word step is one event and is allowed
+-- a word step is of this pool, asks for a word of it, is one event and is allowed
+pub record IsWordTurn (g : Geometry) (s : State) (t : Step) : Type 0 where
+  pub of : t.me.geometry ≡ g
+  pub inside : at_of t.ask < total_of g
+  pub one_event : let p = spot_at g (classes_in g s.words) (at_of t.ask) in
+      Stepped g t.me.who t.ask p (event_on (memos_of s.accounts t.me.who) t p) (see g s.words) (view (memos_of s.accounts)) (see g (moved s (Word t)).words) (view (memos_of (moved s (Word t)).accounts))
+
 abbrev pub IsOneEvent : Geometry → State → Move → Type 0
-IsOneEvent g s (Word t) =
-    let p = spot_at g (classes_in g s.words) (at_of t.ask) in
-    Stepped g t.me.who t.ask p (event_on (memos_of s.accounts t.me.who) t p) (see g s.words) (view (memos_of s.accounts)) (see g (moved s (Word t)).words) (view (memos_of (moved s (Word t)).accounts))
+IsOneEvent g s (Word t) = IsWordTurn g s t
 IsOneEvent g s (Dies c) = Unit {0}
 IsOneEvent g s (Begins c k) = Unit {0}
 
--- the turn leads to a Held state, and a word step is one event
+-- the turn leads to a Held state, and a word step is one event, of a word of this pool
 pub record Turned (g : Geometry) (s : State) (m : Move) : Type 0 where
   pub held : Held g (moved s m).words (moved s m).accounts
   pub event : IsOneEvent g s m
 
--- the turns lead from a to b, each state on the way is Held, and each word step is one event
+-- the turns lead from a to b, each state on the way is Held, and each word step is one event, of a word of this pool
 abbrev pub Leads : Geometry → State → List Move → State → Type 0
 Leads g a [] b = a ≡ b
 Leads g a (m ∷ ms) b = IsMove a m × Turned g a m × Leads g (moved a m) ms b

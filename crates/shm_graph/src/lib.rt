@@ -6,13 +6,18 @@
 #![tactic(auto)]
 
 pub mod ask;
+pub mod laws;
 pub mod machine;
 pub mod memo;
 pub mod run;
 pub mod spot;
+pub mod start;
 pub mod table;
 
 pub use ask::{Ask, Life, Me, Turn};
+pub use laws::{
+    agents_change, held_state_sound, machine_law, runs_compose, still_state_clean, word_steps,
+};
 pub use machine::Machine;
 pub use memo::{
     Agent, Fact, Fate, First, Half, Kind, Look, Making, Memo, Op, Second, Seen, Status, Step,
@@ -20,4 +25,5 @@ pub use memo::{
 };
 pub use run::{Account, Move, Start, Told};
 pub use spot::Spot;
+pub use start::{first_state_holds, first_words};
 pub use table::{Entry, Part};

@@ -19,3 +19,4 @@ pub mod Making
 pub mod Housing
 pub mod Linking
 pub mod Running
+pub mod Turning

@@ -6,3 +6,5 @@ pub mod Cells
 pub mod Steps
 pub mod Stages
 pub mod Runs
+pub mod Tracks
+pub mod Pools

@@ -1,13 +1,17 @@
 //! A pool in a vector of words, for one thread.
 #![tactic(auto)]
 
+mod act;
 pub mod closed;
 pub mod first;
 pub mod pair;
+pub mod pool;
+pub mod track;
 
 pub use closed::PlainClosed;
 pub use first::{FirstRun, replay_first};
 pub use pair::Pair;
+pub use pool::PlainPool;
 
 #[cfg(test)]
 mod tests;

@@ -1,0 +1,5 @@
+use Rattle.shm_graph.proofs.StillClean.{still_state_clean}
+use Rattle.shm_graph.proofs.laws.still_state_clean.Goals as goal
+
+pub returns : goal.returns
+returns c = still_state_clean

@@ -1,0 +1,60 @@
+//! The laws of runs, and of machines that run by themselves.
+
+ghost use Rattle.std.specs.Prelude.{◌≡◌, ℕ, ◌<◌, ◌⊎◌, List, [], ◌∷◌, ◌++◌, length};
+ghost use Rattle.shm_words.specs.declared.geometry.Geometry.{Geometry as AGeometry};
+ghost use Rattle.shm_words.specs.Layout.{total_of};
+ghost use Rattle.shm_graph.specs.declared.ask.Ask.{Ask as AnAsk};
+ghost use Rattle.shm_graph.specs.declared.spot.Spot.{Spot as ASpot};
+ghost use Rattle.shm_graph.specs.declared.memo.Kind.{Kind as AKind};
+ghost use Rattle.shm_graph.specs.declared.memo.Status.TheVariants.{New, Gone};
+ghost use Rattle.shm_graph.specs.declared.run.Account.{Account as AnAccount};
+ghost use Rattle.shm_graph.specs.declared.run.Move.{Move as AMove};
+ghost use Rattle.shm_graph.specs.declared.run.Move.TheVariants.{Dies, Begins};
+ghost use Rattle.shm_graph.specs.Spots.{spot_at, classes_in, see};
+ghost use Rattle.shm_graph.specs.Views.{View, view};
+ghost use Rattle.shm_graph.specs.Held.{HeldAt};
+ghost use Rattle.shm_graph.specs.Controls.{IsAllowed};
+ghost use Rattle.shm_graph.specs.Asks.{at_of, words_after, words_set};
+ghost use Rattle.shm_graph.specs.Runs.{Held, State, memos_of, moved, IsMove, Turned, Leads};
+ghost use Rattle.shm_graph.specs.Sound.{IsSound};
+ghost use Rattle.shm_graph.specs.Clean.{IsClean};
+ghost use Rattle.shm_graph.specs.Whole.{fits_now, gives_now, Inside, Keeps};
+
+use crate::machine::Machine;
+
+/// A step on the list of words that is allowed is the step at its spot.
+pub fn word_steps()
+    ensures { (g : AGeometry) (ws : List ℕ) (v : View) (c : ℕ) (a : AnAsk) (p : ASpot) → HeldAt g (see g ws) v → length ws ≡ total_of g → at_of a < total_of g → spot_at g (classes_in g ws) (at_of a) ≡ p → IsAllowed g (see g ws) v c a p → see g (words_set a ws) ≡ words_after (see g ws) a p }
+{}
+
+/// A run goes on by a turn and by another run, and ends in a state that holds.
+pub fn runs_compose()
+    ensures more { (g : AGeometry) (a : State) (ms : List AMove) (b : State) (m : AMove) → Leads g a ms b → IsMove b m → Turned g b m → Leads g a (ms ++ m ∷ []) (moved b m) }
+    ensures append { (g : AGeometry) (a : State) (ms : List AMove) (b : State) (ns : List AMove) (c : State) → Leads g a ms b → Leads g b ns c → Leads g a (ms ++ ns) c }
+    ensures split { (g : AGeometry) (a : State) (ms : List AMove) (ns : List AMove) (c : State) → Leads g a (ms ++ ns) c → (b : State) × Leads g a ms b × Leads g b ns c }
+    ensures held { (g : AGeometry) (a : State) (ms : List AMove) (b : State) → Held g a.words a.accounts → Leads g a ms b → Held g b.words b.accounts }
+{}
+
+/// The invariant outlives the death of an agent, and the beginning of one.
+pub fn agents_change()
+    ensures dies { (g : AGeometry) (s : State) (c : ℕ) → Held g s.words s.accounts → c < g.clients → Turned g s (Dies c) }
+    ensures begins { (g : AGeometry) (s : State) (c : ℕ) (k : AKind) → Held g s.words s.accounts → c < g.clients → Turned g s (Begins c k) }
+{}
+
+/// The law of a machine that runs by itself, of any machine: it asks for words of the pool, and each of its steps is a turn after
+/// which it fits again, or gives what it answers.
+pub fn machine_law<M: Machine>()
+    ensures inside { Inside M.control (fits_now M.control M.fits) (gives_now M.gives) }
+    ensures keeps { Keeps M.control (fits_now M.control M.fits) (gives_now M.gives) }
+{}
+
+/// A state that holds is sound: memos show what the words say, counts are numbers of references, and no word is two identities'
+/// to store.
+pub fn held_state_sound()
+    ensures { (g : AGeometry) (ws : List ℕ) (es : List AnAccount) → Held g ws es → IsSound g (see g ws) (view (memos_of es)) }
+{}
+
+/// A state that holds is clean where each identity is one that nobody has joined or that is gone.
+pub fn still_state_clean()
+    ensures { (g : AGeometry) (ws : List ℕ) (es : List AnAccount) → Held g ws es → ((c : ℕ) → c < g.clients → ((memos_of es c).status ≡ New) ⊎ ((memos_of es c).status ≡ Gone)) → IsClean g (see g ws) }
+{}

@@ -1,0 +1,489 @@
+-- the kinds of step: what each needs, and what it makes of the memos
+use Rattle.std.specs.Prelude.{◌≡◌, ◌≢◌, ℕ, ◌+◌, ◌^◌, ◌<◌, ◌≤◌, Bool, true, false, not, ◌&&◌, ◌==◌, if◌then◌else◌, List, [], ◌∷◌, ◌++◌, Option, Some, None}
+use Rattle.std.specs.List.{All, Contains, filter}
+use Rattle.shm_words.specs.declared.header.Header.{Header}
+use Rattle.shm_words.specs.Headers.{header_of}
+use Rattle.shm_words.specs.declared.geometry.Geometry.{Geometry}
+use Rattle.shm_graph.specs.declared.spot.Spot.{Spot}
+use Rattle.shm_graph.specs.declared.spot.Spot.TheVariants.{Redo, Hold, Latch, Home, Era, Root, Tail, Front, Slot, Page, Head, Tag, Body}
+use Rattle.shm_graph.specs.declared.memo.Status.TheVariants as status
+use Rattle.shm_graph.specs.declared.memo.First.TheVariants.{Begun, Committed, Written}
+use Rattle.shm_graph.specs.declared.memo.Op.{Op}
+use Rattle.shm_graph.specs.declared.memo.Op.TheVariants.{Nothing, Alloc, Up, Down, Change}
+use Rattle.shm_graph.specs.declared.memo.Half.TheVariants.{Raising, Lowering}
+use Rattle.shm_graph.specs.declared.memo.Second.TheVariants.{Open, Closed}
+use Rattle.shm_graph.specs.declared.memo.Stored.{Stored}
+use Rattle.shm_graph.specs.declared.memo.Look.{Look}
+use Rattle.shm_graph.specs.declared.memo.Making.{Making}
+use Rattle.shm_graph.specs.declared.memo.Test.{Test}
+use Rattle.shm_graph.specs.declared.memo.Fact.TheVariants.{Header as HeaderRead, Counter, Class}
+use Rattle.shm_words.specs.Classes.{IsClass, class_for}
+use Rattle.shm_words.specs.Tags.{tag_refs, tag_plain, tag_author, tag_link}
+use Rattle.shm_graph.specs.Spots.{IsAt, same_spot, upd}
+use Rattle.shm_graph.specs.References.{words_of}
+use Rattle.shm_graph.specs.Ops.{cover_of, on_of, limbo_of, slot_of, is_op, Quiet}
+use Rattle.shm_graph.specs.Views.{View, own_word, targets, at1}
+use Rattle.shm_graph.specs.Held.{Allowed, OpTie, RedoTie, room_of, KnownAt, reach_of, named_by, SlotOf, LooksSound}
+
+abbrev pub other_than : Spot → Spot → Bool
+other_than p q = not (same_spot p q)
+
+-- ---- the store of a page's class
+
+pub record ClassStep (g : Geometry) (w : Spot → ℕ) (v : View) (c s q k : ℕ) : Type 0 where
+  pub inside : c < g.clients
+  pub acts : v.status c ≡ status.Live
+  pub page : IsAt g (λ i j. w (Page i j)) (Page s q)
+  pub read : Contains (v.zeros c) (Page s q)
+  pub class : IsClass k
+
+abbrev pub class_view : View → ℕ → ℕ → ℕ → ℕ → View
+class_view v c s q k =
+    record v {
+      zeros = at1 v.zeros c (filter (other_than (Page s q)) (v.zeros c));
+      facts = at1 v.facts c (Class s q k ∷ v.facts c);
+      test = at1 v.test c None;
+    }
+
+-- ---- the exchange that makes a free block live
+
+pub record AllocStep (g : Geometry) (w : Spot → ℕ) (v : View) (c k b e to tag : ℕ) (m : Making) : Type 0 where
+  pub inside : c < g.clients
+  pub acts : v.status c ≡ status.Live
+  pub op : v.op c ≡ Alloc Begun (Root c k) b e
+  pub making : v.making c ≡ Some m
+  pub block : m.block ≡ b
+  pub small : to < 2 ^ 64
+  pub new : header_of to ≡ record { live = true; client = c; count = 1; era = e }
+  pub tagged : Contains m.words (record { spot = Tag b; value = tag })
+  pub small_tag : tag < 2 ^ 35
+  pub refs : tag_refs tag ≤ 16
+  pub plain : tag_plain tag ≤ 8
+  pub author : tag_author tag ≡ c
+  pub link : tag_link tag ≡ 0
+  pub fits : class_for (tag_refs tag) (tag_plain tag) ≡ m.class
+  pub zeros : (i : ℕ) → i < tag_refs tag → Contains m.words (record { spot = Body b i; value = 0 })
+
+abbrev pub alloc_view : View → ℕ → ℕ → ℕ → ℕ → Making → View
+alloc_view v c k b e m =
+    record v {
+      op = at1 v.op c (Alloc Committed (Root c k) b e);
+      making = at1 v.making c None;
+      known = at1 v.known c (m.words ++ v.known c);
+      zeros = at1 v.zeros c (filter (other_than (Head b)) (v.zeros c));
+      test = at1 v.test c None;
+    }
+
+-- ---- the exchange that lowers a live block for a root
+
+-- the row of c shows the era of the header that is overwritten
+abbrev pub RowShows : (ℕ → ℕ → ℕ) → Header → ℕ → Type 0
+RowShows era h c = (c ≢ h.client) → h.era ≤ era c h.client
+
+-- what is known afterwards was known, and is of a block in reach or of a dying block
+pub record DownStep (g : Geometry) (w : Spot → ℕ) (v : View) (c k b e n to : ℕ) (kept : List Stored) : Type 0 where
+  pub inside : c < g.clients
+  pub acts : v.status c ≢ status.New
+  pub here : v.status c ≢ status.Gone
+  pub op : v.op c ≡ Down Begun (Root c k) b e
+  pub some : b ≢ 0
+  pub small : to < 2 ^ 64
+  pub new : header_of to ≡ record { live = true; client = c; count = n; era = e }
+  pub lower : n + 1 ≡ (header_of (w (Head b))).count
+  pub shows : RowShows (λ i j. w (Era i j)) (header_of (w (Head b))) c
+
+abbrev pub dying_after : ℕ → ℕ → List ℕ → List ℕ
+dying_after n b dying = if n == 0 then dying ++ b ∷ [] else dying
+
+abbrev pub down_view : View → ℕ → ℕ → ℕ → ℕ → ℕ → List Stored → View
+down_view v c k b e n kept =
+    record v {
+      op = at1 v.op c (Down Committed (Root c k) b e);
+      dying = at1 v.dying c (dying_after n b (v.dying c));
+      looks = at1 v.looks c [];
+      known = at1 v.known c kept;
+      test = at1 v.test c None;
+    }
+
+-- ---- the store that frees a dying block
+
+abbrev pub is_of : ℕ → Spot → Bool
+is_of b (Tag d) = d == b
+is_of b (Body d i) = d == b
+is_of b _ = false
+
+abbrev pub not_of : ℕ → Stored → Bool
+not_of b s = not (is_of b s.spot)
+
+abbrev pub not_block : ℕ → ℕ → Bool
+not_block b d = not (b == d)
+
+pub record FreeStep (g : Geometry) (v : View) (c b tag : ℕ) : Type 0 where
+  pub inside : c < g.clients
+  pub acts : v.status c ≢ status.New
+  pub here : v.status c ≢ status.Gone
+  pub op : v.op c ≡ Nothing
+  pub dying : Contains (v.dying c) b
+  pub tagged : Contains (v.known c) (record { spot = Tag b; value = tag })
+  pub zeros : (i : ℕ) → i < tag_refs tag → Contains (v.known c) (record { spot = Body b i; value = 0 })
+
+abbrev pub free_view : View → ℕ → ℕ → View
+free_view v c b =
+    record v {
+      dying = at1 v.dying c (filter (not_block b) (v.dying c));
+      known = at1 v.known c (filter (not_of b) (v.known c));
+      test = at1 v.test c None;
+    }
+
+-- ---- the store of a committed op into its slot, a reference word of a block
+
+-- the op that is committed has written
+abbrev pub Writes : Op → Op → ℕ → Type 0
+Writes (Alloc Committed p b e) o x = (o ≡ Alloc Written p b e) × (x ≡ b)
+Writes (Up Committed p b e) o x = (o ≡ Up Written p b e) × (x ≡ b)
+Writes (Down Committed p b e) o x = (o ≡ Down Written p b e) × (x ≡ 0)
+Writes (Change (Raising Committed) p a b e) o x = (o ≡ Change (Raising Written) p a b e) × (x ≡ b)
+Writes _ o x = ⊥
+
+pub record BodyStep (g : Geometry) (v : View) (c b i x : ℕ) (o : Op) : Type 0 where
+  pub inside : c < g.clients
+  pub acts : v.status c ≢ status.New
+  pub here : v.status c ≢ status.Gone
+  pub slot : slot_of (v.op c) ≡ Body b i
+  pub op : Writes (v.op c) o x
+  pub small : x < 2 ^ 64
+
+abbrev pub not_spot : Spot → Stored → Bool
+not_spot p s = not (same_spot p s.spot)
+
+abbrev pub body_view : View → ℕ → ℕ → ℕ → ℕ → Op → View
+body_view v c b i x o =
+    record v {
+      op = at1 v.op c o;
+      known = at1 v.known c (record { spot = Body b i; value = x } ∷ filter (not_spot (Body b i)) (v.known c));
+      test = at1 v.test c None;
+    }
+
+-- ---- the latch is taken, and given back
+
+pub record LatchStep (g : Geometry) (w : Spot → ℕ) (v : View) (c a : ℕ) : Type 0 where
+  pub inside : c < g.clients
+  pub few : g.clients ≤ 16
+  pub acts : v.status c ≢ status.New
+  pub here : v.status c ≢ status.Gone
+  pub place : IsAt g (λ s q. w (Page s q)) (Latch a)
+  pub op : v.op c ≡ Nothing
+  pub none : v.latch c ≡ None
+  pub free : w (Latch a) ≡ 0
+  pub hold : own_word (v.own c) (Hold c) ≡ a + 1
+
+abbrev pub latch_view : View → ℕ → ℕ → View
+latch_view v c a =
+    record v {
+      latch = at1 v.latch c (Some a);
+      test = at1 v.test c None;
+    }
+
+pub record BackStep (g : Geometry) (v : View) (c a : ℕ) : Type 0 where
+  pub inside : c < g.clients
+  pub acts : v.status c ≢ status.New
+  pub here : v.status c ≢ status.Gone
+  pub op : v.op c ≡ Nothing
+  pub latch : v.latch c ≡ Some a
+
+abbrev pub back_view : View → ℕ → List Stored → View
+back_view v c kept =
+    record v {
+      latch = at1 v.latch c None;
+      looks = at1 v.looks c [];
+      known = at1 v.known c kept;
+      test = at1 v.test c None;
+    }
+
+-- ---- a reference word of a block in reach is loaded under its author's latch
+
+pub record LookStep (g : Geometry) (w : Spot → ℕ) (v : View) (c b i : ℕ) : Type 0 where
+  pub inside : c < g.clients
+  pub acts : v.status c ≢ status.New
+  pub here : v.status c ≢ status.Gone
+  pub op : v.op c ≡ Nothing
+  pub latch : v.latch c ≡ Some (tag_author (w (Tag b)))
+  pub reach : reach_of (targets g w v) (λ s r. w (Tail s r)) (λ s r. w (Front s r)) v.looks c b
+  pub refs : i < tag_refs (w (Tag b))
+  pub some : w (Body b i) ≢ 0
+
+abbrev pub look_view : View → ℕ → ℕ → ℕ → ℕ → View
+look_view v c b i x =
+    record v {
+      looks = at1 v.looks c (v.looks c ++ record { block = x; from = Body b i } ∷ []);
+      known = at1 v.known c (record { spot = Body b i; value = x } ∷ v.known c);
+      test = at1 v.test c None;
+    }
+
+-- ---- the exchange that raises a live block, for any slot
+
+-- the unsent block, where the slot is that of a queue
+abbrev pub unsent_after : Spot → ℕ → (ℕ → ℕ → ℕ) → ℕ → ℕ → ℕ
+unsent_after (Slot i j k) b u s r = if (i == s) && (j == r) then b else u s r
+unsent_after _ b u s r = u s r
+
+pub record UpStep (g : Geometry) (w : Spot → ℕ) (v : View) (c b e to : ℕ) (p : Spot) : Type 0 where
+  pub inside : c < g.clients
+  pub acts : v.status c ≢ status.New
+  pub here : v.status c ≢ status.Gone
+  pub op : v.op c ≡ Up Begun p b e
+  pub small : to < 2 ^ 64
+  pub some : b ≢ 0
+  pub named : (q : Spot) × (targets g w v q ≡ b)
+  pub new : header_of to ≡ record { live = true; client = c; count = (header_of (w (Head b))).count + 1; era = e }
+  pub shows : RowShows (λ i j. w (Era i j)) (header_of (w (Head b))) c
+
+abbrev pub up_view : View → ℕ → ℕ → ℕ → Spot → View
+up_view v c b e p =
+    record v {
+      op = at1 v.op c (Up Committed p b e);
+      unsent = unsent_after p b v.unsent;
+      test = at1 v.test c None;
+    }
+
+-- ---- the exchange that lowers a live block, for any slot
+
+-- the block that was taken out of a head slot
+abbrev pub untaken_after : ℕ → Spot → ℕ → (ℕ → ℕ → ℕ) → ℕ → ℕ → ℕ
+untaken_after c (Slot i j k) b u r s = if (j == c) && ((i == s) && (j == r)) then b else u r s
+untaken_after c _ b u r s = u r s
+
+abbrev pub unsent_back : ℕ → Spot → (ℕ → ℕ → ℕ) → ℕ → ℕ → ℕ
+unsent_back c (Slot i j k) u s r = if (i == c) && ((i == s) && (j == r)) then 0 else u s r
+unsent_back c _ u s r = u s r
+
+abbrev pub lower_view : View → ℕ → ℕ → ℕ → ℕ → Spot → List Look → List Stored → View
+lower_view v c b e n p looks kept =
+    record v {
+      op = at1 v.op c (Down Committed p b e);
+      dying = at1 v.dying c (dying_after n b (v.dying c));
+      looks = at1 v.looks c looks;
+      known = at1 v.known c kept;
+      unsent = unsent_back c p v.unsent;
+      untaken = untaken_after c p b v.untaken;
+      test = at1 v.test c None;
+    }
+
+pub record LowerStep (g : Geometry) (w : Spot → ℕ) (v : View) (c b e n to : ℕ) (p : Spot) (looks : List Look) (kept : List Stored) : Type 0 where
+  pub inside : c < g.clients
+  pub acts : v.status c ≢ status.New
+  pub here : v.status c ≢ status.Gone
+  pub op : v.op c ≡ Down Begun p b e
+  pub some : b ≢ 0
+  pub small : to < 2 ^ 64
+  pub new : header_of to ≡ record { live = true; client = c; count = n; era = e }
+  pub lower : n + 1 ≡ (header_of (w (Head b))).count
+  pub shows : RowShows (λ i j. w (Era i j)) (header_of (w (Head b))) c
+  -- of the memo's own change: what stays of looks and known is sound for the new targets, and the slot's block stays in reach
+  pub looked : LooksSound (λ a. upd (targets g w v) p 0 (Home a)) (λ b i. upd (targets g w v) p 0 (Body b i)) (λ b. tag_author (w (Tag b))) (v.latch c) (named_by (upd (targets g w v) p 0) (λ s r. w (Tail s r)) (λ s r. w (Front s r)) c) [] looks
+  pub slot : SlotOf c (λ i. header_of (w (Head i))) (λ i. w (Tag i)) (v.latch c) (λ s r. w (Tail s r)) (λ s r. w (Front s r)) (reach_of (upd (targets g w v) p 0) (λ s r. w (Tail s r)) (λ s r. w (Front s r)) (λ d. looks) c) p
+  pub knows : All (λ (s : Stored). KnownAt c (λ i. w (Tag i)) (λ i j. w (Body i j)) (λ i j l. w (Slot i j l)) (λ i j. w (Tail i j)) (λ i j. w (Front i j)) (λ s. untaken_after c p b v.untaken c s) (v.latch c)
+      (reach_of (upd (targets g w v) p 0) (λ i j. w (Tail i j)) (λ i j. w (Front i j)) (λ d. looks) c) (dying_after n b (v.dying c)) s.spot s.value) kept
+
+-- ---- the store of the own era, which closes an op or the first half of a change
+
+abbrev pub Closes : Op → Op → Type 0
+Closes (Alloc Written p b e) o = o ≡ Nothing
+Closes (Up Written p b e) o = o ≡ Nothing
+Closes (Down Written p b e) o = o ≡ Nothing
+Closes (Change (Raising Written) p a b e) o = o ≡ Change (Lowering Open) p a b (e + 1)
+Closes (Change (Lowering Closed) p a b e) o = o ≡ Nothing
+Closes _ o = ⊥
+
+pub record CloseStep (g : Geometry) (v : View) (c : ℕ) (o : Op) : Type 0 where
+  pub inside : c < g.clients
+  pub acts : v.status c ≢ status.New
+  pub here : v.status c ≢ status.Gone
+  pub op : Closes (v.op c) o
+
+abbrev pub close_view : View → ℕ → ℕ → Op → View
+close_view v c x o =
+    record v {
+      own = at1 v.own c (record { spot = Era c c; value = x } ∷ v.own c);
+      op = at1 v.op c o;
+      test = at1 v.test c None;
+    }
+
+-- ---- the exchange of a change's second half: the block before loses the reference that the limbo was
+
+abbrev pub second_view : View → ℕ → ℕ → ℕ → ℕ → ℕ → Spot → List Look → List Stored → View
+second_view v c x b e n p looks kept =
+    record v {
+      op = at1 v.op c (Change (Lowering Closed) p x b e);
+      dying = at1 v.dying c (dying_after n x (v.dying c));
+      looks = at1 v.looks c looks;
+      known = at1 v.known c kept;
+      test = at1 v.test c None;
+    }
+
+pub record SecondStep (g : Geometry) (w : Spot → ℕ) (v : View) (c x b e n to : ℕ) (p : Spot) (looks : List Look) (kept : List Stored) : Type 0 where
+  pub inside : c < g.clients
+  pub acts : v.status c ≢ status.New
+  pub here : v.status c ≢ status.Gone
+  pub op : v.op c ≡ Change (Lowering Open) p x b e
+  pub small : to < 2 ^ 64
+  pub new : header_of to ≡ record { live = true; client = c; count = n; era = e }
+  pub lower : n + 1 ≡ (header_of (w (Head x))).count
+  pub shows : RowShows (λ i j. w (Era i j)) (header_of (w (Head x))) c
+  pub looked : LooksSound (λ a. targets g w v (Home a)) (λ b i. targets g w v (Body b i)) (λ b. tag_author (w (Tag b))) (v.latch c) (named_by (targets g w v) (λ s r. w (Tail s r)) (λ s r. w (Front s r)) c) [] looks
+  pub slot : SlotOf c (λ i. header_of (w (Head i))) (λ i. w (Tag i)) (v.latch c) (λ s r. w (Tail s r)) (λ s r. w (Front s r)) (reach_of (targets g w v) (λ s r. w (Tail s r)) (λ s r. w (Front s r)) (λ d. looks) c) p
+  pub knows : All (λ (s : Stored). KnownAt c (λ i. w (Tag i)) (λ i j. w (Body i j)) (λ i j l. w (Slot i j l)) (λ i j. w (Tail i j)) (λ i j. w (Front i j)) (v.untaken c) (v.latch c)
+      (reach_of (targets g w v) (λ i j. w (Tail i j)) (λ i j. w (Front i j)) (λ d. looks) c) (dying_after n x (v.dying c)) s.spot s.value) kept
+
+-- ---- the exchange of a change's first half
+
+abbrev pub change_view : View → ℕ → ℕ → ℕ → ℕ → Spot → List Look → List Stored → View
+change_view v c x b e p looks kept =
+    record v {
+      op = at1 v.op c (Change (Raising Committed) p x b e);
+      looks = at1 v.looks c looks;
+      known = at1 v.known c kept;
+      test = at1 v.test c None;
+    }
+
+pub record ChangeStep (g : Geometry) (w : Spot → ℕ) (v : View) (c x b e to : ℕ) (p : Spot) (looks : List Look) (kept : List Stored) : Type 0 where
+  pub inside : c < g.clients
+  pub acts : v.status c ≢ status.New
+  pub here : v.status c ≢ status.Gone
+  pub op : v.op c ≡ Change (Raising Begun) p x b e
+  pub small : to < 2 ^ 64
+  pub named : (q : Spot) × (targets g w v q ≡ b)
+  pub new : header_of to ≡ record { live = true; client = c; count = (header_of (w (Head b))).count + 1; era = e }
+  pub shows : RowShows (λ i j. w (Era i j)) (header_of (w (Head b))) c
+  pub looked : LooksSound (λ a. upd (targets g w v) p b (Home a)) (λ d i. upd (targets g w v) p b (Body d i)) (λ b. tag_author (w (Tag b))) (v.latch c) (named_by (upd (targets g w v) p b) (λ s r. w (Tail s r)) (λ s r. w (Front s r)) c) [] looks
+  pub slot : SlotOf c (λ i. header_of (w (Head i))) (λ i. w (Tag i)) (v.latch c) (λ s r. w (Tail s r)) (λ s r. w (Front s r)) (reach_of (upd (targets g w v) p b) (λ s r. w (Tail s r)) (λ s r. w (Front s r)) (λ d. looks) c) p
+  pub knows : All (λ (s : Stored). KnownAt c (λ i. w (Tag i)) (λ i j. w (Body i j)) (λ i j l. w (Slot i j l)) (λ i j. w (Tail i j)) (λ i j. w (Front i j)) (v.untaken c) (v.latch c)
+      (reach_of (upd (targets g w v) p b) (λ i j. w (Tail i j)) (λ i j. w (Front i j)) (λ d. looks) c) (v.dying c) s.spot s.value) kept
+
+-- ---- loads that only read what grows: a header, and a row of another identity
+
+pub record ReadStep (g : Geometry) (v : View) (c : ℕ) : Type 0 where
+  pub inside : c < g.clients
+
+-- a header; where a recoverer is in the commit test of this block, the window opens
+abbrev pub header_view : View → ℕ → ℕ → Option Test → View
+header_view v c x test =
+    record v {
+      facts = at1 v.facts c (HeaderRead x ∷ v.facts c);
+      test = at1 v.test c test;
+    }
+
+-- a row
+abbrev pub row_view : View → ℕ → ℕ → ℕ → Option Test → View
+row_view v c k x test =
+    record v {
+      facts = at1 v.facts c (Counter (Era k c) x ∷ v.facts c);
+      test = at1 v.test c test;
+    }
+
+-- ---- the store of a tail, and of a head
+
+abbrev pub at2 : {T : Type 0} → (ℕ → ℕ → T) → ℕ → ℕ → T → ℕ → ℕ → T
+at2 f s r x i j = if (s == i) && (r == j) then x else f i j
+
+pub record TailStep (g : Geometry) (w : Spot → ℕ) (v : View) (c r : ℕ) : Type 0 where
+  pub inside : c < g.clients
+  pub to : r < g.clients
+  pub other : c ≢ r
+  pub acts : v.status c ≢ status.New
+  pub here : v.status c ≢ status.Gone
+  pub op : v.op c ≡ Nothing
+  pub some : v.unsent c r ≢ 0
+  pub place : IsAt g (λ s q. w (Page s q)) (Tail c r)
+  pub small : w (Tail c r) + 1 < 2 ^ 64
+
+abbrev pub tail_view : View → ℕ → ℕ → ℕ → View
+tail_view v c r x =
+    record v {
+      own = at1 v.own c (record { spot = Tail c r; value = x } ∷ v.own c);
+      sent = at2 v.sent c r (v.sent c r ++ v.unsent c r ∷ []);
+      unsent = at2 v.unsent c r 0;
+      test = at1 v.test c None;
+    }
+
+pub record HeadStep (g : Geometry) (w : Spot → ℕ) (v : View) (c s : ℕ) : Type 0 where
+  pub inside : c < g.clients
+  pub from : s < g.clients
+  pub other : s ≢ c
+  pub acts : v.status c ≢ status.New
+  pub here : v.status c ≢ status.Gone
+  pub op : v.op c ≡ Nothing
+  pub some : v.untaken c s ≢ 0
+  pub place : IsAt g (λ i q. w (Page i q)) (Front s c)
+  pub small : w (Front s c) + 1 < 2 ^ 64
+
+abbrev pub head_view : View → ℕ → ℕ → ℕ → View
+head_view v c s x =
+    record v {
+      own = at1 v.own c (record { spot = Front s c; value = x } ∷ v.own c);
+      received = at2 v.received c s (v.received c s ++ v.untaken c s ∷ []);
+      untaken = at2 v.untaken c s 0;
+      test = at1 v.test c None;
+    }
+
+-- ---- the store of a redo word, which begins an op
+
+pub record BeginStep (g : Geometry) (w : Spot → ℕ) (v : View) (c x : ℕ) (o : Op) : Type 0 where
+  pub inside : c < g.clients
+  pub acts : v.status c ≢ status.New
+  pub here : v.status c ≢ status.Gone
+  pub place : IsAt g (λ s q. w (Page s q)) (Redo c)
+  pub small : x < 2 ^ 64
+  pub op : v.op c ≡ Nothing
+  pub on : on_of o ≡ None
+  pub limbo : limbo_of o ≡ 0
+  pub quiet : cover_of o ≡ Quiet
+  pub room : w (Era c c) + room_of o ≤ 2 ^ 47
+  pub tie : OpTie g (λ s q. w (Page s q)) x (w (Era c c)) (words_of w) o
+  pub names : RedoTie g (λ s q. w (Page s q)) x
+  pub allowed : Allowed c o
+  pub slot : is_op o ≡ true → SlotOf c (λ i. header_of (w (Head i))) (λ i. w (Tag i)) (v.latch c) (λ s r. w (Tail s r)) (λ s r. w (Front s r)) (reach_of (targets g w v) (λ s r. w (Tail s r)) (λ s r. w (Front s r)) v.looks c) (slot_of o)
+
+abbrev pub begin_view : View → ℕ → ℕ → Op → View
+begin_view v c x o =
+    record v {
+      own = at1 v.own c (record { spot = Redo c; value = x } ∷ v.own c);
+      op = at1 v.op c o;
+      test = at1 v.test c None;
+    }
+
+-- ---- the store of a row
+
+pub record RowStep (g : Geometry) (w : Spot → ℕ) (v : View) (c j x : ℕ) : Type 0 where
+  pub inside : c < g.clients
+  pub acts : v.status c ≢ status.New
+  pub here : v.status c ≢ status.Gone
+  pub other : c ≢ j
+  pub place : IsAt g (λ s q. w (Page s q)) (Era c j)
+  pub more : w (Era c j) ≤ x
+  pub read : (y : ℕ) × Contains (v.facts c) (HeaderRead y) × ((header_of y).live ≡ true) × ((header_of y).client ≡ j) × (x ≤ (header_of y).era)
+
+abbrev pub row_store_view : View → ℕ → ℕ → ℕ → View
+row_store_view v c j x =
+    record v {
+      own = at1 v.own c (record { spot = Era c j; value = x } ∷ v.own c);
+      test = at1 v.test c None;
+    }
+
+-- ---- the store of a committed op into its slot, a root
+
+pub record RootStep (g : Geometry) (w : Spot → ℕ) (v : View) (c k x : ℕ) (o : Op) : Type 0 where
+  pub inside : c < g.clients
+  pub acts : v.status c ≢ status.New
+  pub here : v.status c ≢ status.Gone
+  pub slot : slot_of (v.op c) ≡ Root c k
+  pub op : Writes (v.op c) o x
+  pub small : x < 2 ^ 64
+
+abbrev pub root_view : View → ℕ → ℕ → ℕ → Op → View
+root_view v c k x o =
+    record v {
+      own = at1 v.own c (record { spot = Root c k; value = x } ∷ v.own c);
+      op = at1 v.op c o;
+      test = at1 v.test c None;
+    }

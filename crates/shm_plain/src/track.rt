@@ -1,0 +1,77 @@
+//! What a pool accounts for of its identities, and its turns, as the view of the one seat of a table of one word.
+//!
+//! No value of them is made. Each turn changes the view by one load of that word.
+
+ghost use Rattle.std.specs.Prelude.{◌≡◌, ◌<◌, [], IfOk};
+ghost use Rattle.shm_graph.specs.Laws.{step_of};
+ghost use Rattle.shm_plain.specs.Tracks.{first_track, noted};
+
+use atomic_table::{Play, Seat, Table, TableRule};
+use shm_graph::{Account, Machine, Move, Start};
+use std::alloc::{AllocError, Global};
+use std::collections::LinkedList;
+use std::marker::{Brand, PhantomData};
+
+/// The accounts, by identity, and the turns. No value of it is made.
+pub struct Track {
+    pub accounts: LinkedList<Account>,
+    pub turns: LinkedList<Move>,
+}
+
+/// It asks nothing: the seat alone knows.
+pub(crate) struct Anything;
+
+impl TableRule<(), Track, Start> for Anything {
+    ghost use Rattle.shm_plain.specs.Tracks.{first_track};
+
+    ghost holds = { λ _ _. Unit {0} };
+
+    ghost first = { λ s. first_track s };
+}
+
+/// What a turn does to the view; a call picks it.
+pub(crate) trait Change {
+    ghost use Rattle.shm_plain.specs.declared.track.Track.{Track};
+
+    ghost to: { Track → Track };
+}
+
+impl Change for Brand {
+    ghost to = { λ t. t };
+}
+
+pub(crate) struct Changes<C> {
+    change: PhantomData<C>,
+}
+
+impl<C: Change> Play<(), Track> for Changes<C> {
+    ghost use Rattle.std.specs.Prelude.{◌≡◌};
+
+    ghost then = { λ step before found now. (now.0 ≡ C.to before.0) × (now.1 ≡ before.1) };
+}
+
+pub(crate) type Board = Table<(), Track, Start, Anything, Global>;
+
+pub(crate) type Place = Seat<(), Track>;
+
+/// The table and its seat, with the first accounts and no turn.
+pub(crate) fn board(alloc: Global, start: Start) -> Result<(Board, Place), AllocError>
+    ensures { IfOk result (λ b. (b.0.shared.table_id.words ≡ 1) × (b.0.shared.table_id.slots ≡ 0) × (b.1.table_id ≡ b.0.shared.table_id) × (b.1.me ≡ (first_track start, []))) }
+{
+    Table::of_words(alloc, &[0], &start)
+}
+
+/// Notes the step of a machine that was given `seen`, after the beginning of an agent where none acts.
+pub(crate) fn note<M: Machine>(board: &Board, place: &mut Place, m: &M, seen: u64)
+    requires { (place.old.table_id ≡ board.now.shared.table_id) × (board.now.shared.table_id.words ≡ 1) }
+    ensures { (place.new.table_id ≡ place.old.table_id) × (place.new.me.0 ≡ noted (step_of M.control m.now seen) place.old.me.0) × (place.new.me.1 ≡ place.old.me.1) }
+{
+    note_as::<Brand, M>(board, place, m, seen);
+}
+
+fn note_as<C: Change, M: Machine>(board: &Board, place: &mut Place, _m: &M, _seen: u64)
+    requires { (place.old.table_id ≡ board.now.shared.table_id) × (board.now.shared.table_id.words ≡ 1) }
+    ensures { (place.new.table_id ≡ place.old.table_id) × (place.new.me.0 ≡ C.to place.old.me.0) × (place.new.me.1 ≡ place.old.me.1) }
+{
+    board.shared.load::<Changes<C>>(place, 0);
+}
