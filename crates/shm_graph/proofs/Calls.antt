@@ -12,11 +12,17 @@ use Rattle.shm_graph.specs.Held.{HeldAt, FactAt, ZeroAt, TestAt, MadeAt}
 use Rattle.shm_graph.proofs.Frames.{at1_all}
 
 -- the facts, the words read as 0, the commit test and the new blocks of c hold
+abbrev pub FactHolds : Geometry → (Spot → ℕ) → View → Fact → Type 0
+FactHolds g w v = FactAt g.clients (λ i j. w (Era i j)) (ons v) (λ s r. w (Tail s r)) (λ s r. w (Front s r)) (λ s q. w (Page s q))
+
 abbrev pub FactsHold : Geometry → (Spot → ℕ) → View → List Fact → Type 0
-FactsHold g w v = All (FactAt g.clients (λ i j. w (Era i j)) (ons v) (λ s r. w (Tail s r)) (λ s r. w (Front s r)) (λ s q. w (Page s q)))
+FactsHold g w v = All (FactHolds g w v)
+
+abbrev pub ZeroHolds : Geometry → (Spot → ℕ) → ℕ → Spot → Type 0
+ZeroHolds g w c = ZeroAt g (λ s q. w (Page s q)) (λ s. w (Segment s)) (λ b. w (Head b)) c
 
 abbrev pub ZerosHold : Geometry → (Spot → ℕ) → ℕ → List Spot → Type 0
-ZerosHold g w c = All (ZeroAt g (λ s q. w (Page s q)) (λ s. w (Segment s)) (λ b. w (Head b)) c)
+ZerosHold g w c = All (ZeroHolds g w c)
 
 abbrev pub TestHolds : Geometry → (Spot → ℕ) → View → ℕ → Option Test → Type 0
 TestHolds g w v c = TestAt g.clients (λ i j. w (Era i j)) (ons v c) c

@@ -28,4 +28,7 @@ pub mod StatusStore
 pub mod Calling
 pub mod SameGraph
 pub mod Keeping
+pub mod Loads
+pub mod HomeTarget
+pub mod Looking
 pub mod Going

@@ -1,6 +1,6 @@
 //! Joining a pool.
 
-ghost use Rattle.std.specs.Prelude.{◌≡◌, ◌<◌};
+ghost use Rattle.std.specs.Prelude.{◌≡◌, ◌<◌, [], ◌∷◌};
 ghost use Rattle.shm_words.specs.Layout.{GeometryFits};
 ghost use Rattle.shm_recover.specs.Joining.{join_control, join_fresh, JoinFits, JoinGives};
 ghost use Rattle.shm_recover.specs.JoinKeeps.{join_laws};
@@ -43,11 +43,12 @@ impl Model for Join {
 }
 
 impl Join {
-    /// A join of the identity `me`, before its first step.
+    /// A join of the identity `me`, before its first step; its line is the bytes of `join`.
     pub fn new(me: Me) -> Join
         requires geometry { GeometryFits me.geometry }
         requires who { me.who < me.geometry.clients }
-        ensures { result ≡ join_fresh me }
+        ensures state { result ≡ join_fresh me }
+        ensures line { join_control.line result ≡ 106 ∷ 111 ∷ 105 ∷ 110 ∷ [] }
     {
         Join {
             state: JoinState {
