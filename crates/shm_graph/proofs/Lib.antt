@@ -16,3 +16,12 @@ pub mod MemoSteps
 pub mod Composing
 pub mod Wholes
 pub mod Running
+pub mod Frames
+pub mod MemoParts
+pub mod Calls
+pub mod Updating
+pub mod StatusStore
+pub mod Calling
+pub mod SameGraph
+pub mod Keeping
+pub mod Loads

@@ -1,0 +1,46 @@
+-- steps that leave the graph of references
+use Rattle.std.proofs.Common.{◌≡◌, ℕ, ap, sym, subst, ◌∙◌, false, refl}
+use Rattle.std.proofs.lemmas.Bool.{true≢false}
+use Rattle.shm_words.specs.declared.geometry.Geometry.{Geometry}
+use Rattle.shm_words.specs.Headers.{header_of}
+use Rattle.shm_graph.specs.declared.ask.Ask.{Ask}
+use Rattle.shm_graph.specs.declared.ask.Ask.TheVariants.{Load, Store, Exchange}
+use Rattle.shm_graph.specs.declared.spot.Spot.{Spot}
+use Rattle.shm_graph.specs.declared.spot.Spot.TheVariants.{Spare, Status, Redo, Hold, Latch, Home, Era, Root, Tail, Front, Slot, Segment, Page, Unused, Head, Tag, Body}
+use Rattle.shm_graph.specs.declared.memo.Memo.{Memo}
+use Rattle.shm_graph.specs.declared.memo.Step.{Step}
+use Rattle.shm_graph.specs.Views.{View, view, at1}
+use Rattle.shm_graph.specs.References.{Words, words_of}
+use Rattle.shm_graph.specs.Ops.{Cover, cover_of, limbo_of, target}
+use Rattle.shm_graph.specs.Events.{Nothing, Graph, graph_of, IsSame, Happens}
+use Rattle.shm_graph.specs.Controls.{IsRowShown}
+use Rattle.shm_graph.specs.Laws.{event_by}
+use Rattle.shm_graph.proofs.Spotting.{is_in_body}
+use Rattle.shm_graph.proofs.MemoParts.{part_stays}
+
+-- no header, no tag and no reference word changed, and the step in progress covers and holds over what it did
+pub same_graph : (g : Geometry) (w w' : Spot → ℕ) (r : ℕ → Memo) (c : ℕ) (m : Memo) → cover_of m.op ≡ cover_of (r c).op → limbo_of m.op ≡ limbo_of (r c).op
+    → ((b : ℕ) → w' (Head b) ≡ w (Head b)) → ((b : ℕ) → w' (Tag b) ≡ w (Tag b)) → words_of w' ≡ words_of w
+    → IsSame (graph_of g w (view r)) (graph_of g w' (view (at1 r c m)))
+same_graph g w w' r c m cover limbo heads tags words =
+    record {
+      lives = λ b. ap (λ n. (header_of n).live) (heads b);
+      shapes = λ b. rw (heads b, tags b) refl;
+      targets = λ p. ap (λ (x : Words). target g.clients x (λ d. cover_of ((at1 r c m d).op)) p) words ∙ ap (λ (q : ℕ → Cover). target g.clients (words_of w) q p) (part_stays (λ (x : Memo). cover_of x.op) r c m cover);
+      limbos = λ d. ap (λ (q : ℕ → ℕ). q d) (part_stays (λ (x : Memo). limbo_of x.op) r c m limbo);
+    }
+
+-- a step at a spot of no body that exchanges no header is no event, and needs no row
+no_event : (m : Memo) (t : Step) (a : Ask) (p : Spot) → is_in_body p ≡ false → event_by m t a p ≡ Nothing
+no_event m t (Load at) p n = refl
+no_event m t (Store at v) (Head b) n = absurd (true≢false n)
+no_event m t (Exchange at from to) (Head b) n = absurd (true≢false n)
+no_event m t (Store at v) _ n = refl
+no_event m t (Exchange at from to) _ n = refl
+
+pub no_row : (w : Spot → ℕ) (c : ℕ) (a : Ask) (p : Spot) → is_in_body p ≡ false → IsRowShown w c a p
+no_row w c (Exchange at from to) (Head b) n = absurd (true≢false n)
+no_row w c _ p n = tt
+
+pub nothing_happens : (g : Geometry) (w w' : Spot → ℕ) (m : Memo) (t : Step) (a : Ask) (p : Spot) (x y : Graph) → is_in_body p ≡ false → IsSame x y → Happens g w (event_by m t a p) x y
+nothing_happens g w w' m t a p x y n same = subst (λ e. Happens g w e x y) (sym (no_event m t a p n)) same

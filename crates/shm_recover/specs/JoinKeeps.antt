@@ -1,0 +1,80 @@
+-- the laws of a join
+use Rattle.std.proofs.Common.{◌≡◌, ℕ, refl, sym, arith, false, subst, [], ◌∷◌, ◌++◌}
+use Rattle.std.proofs.lemmas.Bool.{true≢false}
+use Rattle.std.proofs.lemmas.Bool.Decides.{nat_tests}
+use Rattle.shm_words.specs.declared.place.Place.TheVariants as place
+use Rattle.shm_words.specs.Layout.{address}
+use Rattle.shm_graph.specs.declared.ask.Ask.TheVariants.{Store}
+use Rattle.shm_graph.specs.declared.ask.Me.{Me}
+use Rattle.shm_graph.specs.declared.spot.Spot.TheVariants.{Status}
+use Rattle.shm_graph.specs.declared.memo.Memo.{Memo}
+use Rattle.shm_graph.specs.declared.memo.Step.{Step}
+use Rattle.shm_graph.specs.declared.memo.Status.TheVariants as status
+use Rattle.shm_graph.specs.Spots.{spot_at}
+use Rattle.shm_graph.specs.Blocks.{classes}
+use Rattle.shm_graph.specs.Asks.{Trail, pair}
+use Rattle.shm_graph.specs.Changes.{called}
+use Rattle.shm_graph.specs.Laws.{Laws, Keeps, Then, framed}
+use Rattle.shm_graph.proofs.Spotting.{in_pool}
+use Rattle.shm_graph.proofs.SpotPlaces.{spot-place}
+use Rattle.shm_graph.proofs.Calling.{called_part}
+use Rattle.shm_graph.proofs.Keeping.{live_kept}
+use Rattle.shm_recover.specs.declared.join.JoinPoint.{JoinPoint}
+use Rattle.shm_recover.specs.declared.join.JoinPoint.TheVariants.{Start, Over}
+use Rattle.shm_recover.specs.declared.join.JoinState.{JoinState}
+use Rattle.shm_recover.specs.JoinTrail.{join_ask}
+use Rattle.shm_recover.specs.Joining.{IsMember, CanJoin, join_control, join_fresh, is_over, JoinFits, JoinGives}
+
+-- a join that has just been made fits each memo of an identity that may join
+pub join_begins : (me : Me) (r : Memo) → CanJoin me r → JoinFits (join_fresh me) r r []
+join_begins me r can = record { can = can; start = λ e. (refl, refl) }
+
+status_spot : (me : Me) (class : ℕ → ℕ → ℕ) → IsMember me → spot_at me.geometry class (address me.geometry (place.Status me.who)) ≡ Status me.who
+status_spot me class k = spot-place me.geometry class (place.Status me.who) (let l = k.who in grind (arith, nat_tests))
+
+-- what the store of the status leaves
+joined : (m : JoinState) (r0 : Memo) (t : Step) → JoinGives m r0 (record (called r0 t) { status = status.Live }) (pair (join_ask m.me) 0 ∷ []) tt
+joined m r0 t =
+    record {
+      status = refl;
+      own = called_part (λ (x : Memo). x.own) r0 t refl refl;
+      op = called_part (λ (x : Memo). x.op) r0 t refl refl;
+      latch = called_part (λ (x : Memo). x.latch) r0 t refl refl;
+      looks = called_part (λ (x : Memo). x.looks) r0 t refl refl;
+      making = called_part (λ (x : Memo). x.making) r0 t refl refl;
+      owned = called_part (λ (x : Memo). x.owned) r0 t refl refl;
+      dying = called_part (λ (x : Memo). x.dying) r0 t refl refl;
+      sent = called_part (λ (x : Memo). x.sent) r0 t refl refl;
+      received = called_part (λ (x : Memo). x.received) r0 t refl refl;
+      unsent = called_part (λ (x : Memo). x.unsent) r0 t refl refl;
+      untaken = called_part (λ (x : Memo). x.untaken) r0 t refl refl;
+      part = called_part (λ (x : Memo). x.part) r0 t refl refl;
+      values = called_part (λ (x : Memo). x.values) r0 t refl refl;
+      known = called_part (λ (x : Memo). x.known) r0 t refl refl;
+      trail = refl;
+    }
+
+start_of : (m : JoinState) → is_over m.point ≡ false → m.point ≡ Start
+start_of m e = go m.point e
+  where
+    go : (p : JoinPoint) → is_over p ≡ false → p ≡ Start
+    go Start e = refl
+    go Over e = absurd (true≢false e)
+
+join_keeps : Keeps join_control JoinFits JoinGives
+join_keeps m r0 tr going w r f s fit =
+    let same = fit.start (start_of m going) in
+    let at = address m.me.geometry (place.Status m.me.who) in
+    live_kept m.me w r f tr at (Then join_control JoinFits JoinGives m r0 tr) s (status_spot m.me (classes w) fit.can.member)
+    (subst (λ (x : Memo). JoinGives m r0 (record (called x (framed m.me (Store at 1) f 0)) { status = status.Live }) (tr ++ pair (join_ask m.me) 0 ∷ []) tt) (sym same.0)
+    (subst (λ (x : Trail). JoinGives m r0 (record (called r0 (framed m.me (Store at 1) f 0)) { status = status.Live }) (x ++ pair (join_ask m.me) 0 ∷ []) tt) (sym same.1)
+    (joined m r0 (framed m.me (Store at 1) f 0))))
+
+pub join_laws : Laws join_control JoinFits JoinGives
+join_laws =
+    record {
+      steady = λ m n going. record { same_me = refl; same_line = refl; started = refl; ends = refl };
+      inside = λ m r0 r tr l fit going. in_pool m.me.geometry (λ s p. 0) (address m.me.geometry (place.Status m.me.who)) (Status m.me.who) (status_spot m.me (λ s p. 0) fit.can.member) (λ e. cc);
+      back = λ m n going goes r0 r tr a g. absurd (cc);
+      keeps = join_keeps;
+    }

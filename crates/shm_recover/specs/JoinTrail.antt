@@ -1,0 +1,20 @@
+-- what a join asks
+use Rattle.std.specs.Prelude.{ℕ, [], ◌∷◌}
+use Rattle.shm_words.specs.declared.place.Place.TheVariants as place
+use Rattle.shm_words.specs.Layout.{address}
+use Rattle.shm_graph.specs.declared.ask.Ask.{Ask}
+use Rattle.shm_graph.specs.declared.ask.Ask.TheVariants.{Store}
+use Rattle.shm_graph.specs.declared.ask.Me.{Me}
+use Rattle.shm_graph.specs.Asks.{Trail, pair}
+
+-- the status live is stored
+abbrev pub join_ask : Me → Ask
+join_ask me = Store (address me.geometry (place.Status me.who)) 1
+
+-- all that a join asks, with what it sees
+abbrev pub join_trail : Me → Trail
+join_trail me = pair (join_ask me) 0 ∷ []
+
+-- how many word steps a join makes
+abbrev pub join_steps : ℕ
+join_steps = 1

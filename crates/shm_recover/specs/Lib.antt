@@ -1,0 +1,3 @@
+pub mod JoinTrail
+pub mod Joining
+pub mod JoinKeeps

@@ -1,0 +1,96 @@
+//! Joining a pool.
+
+ghost use Rattle.std.specs.Prelude.{◌≡◌, ◌<◌, [], ◌∷◌};
+ghost use Rattle.shm_words.specs.Layout.{GeometryFits};
+ghost use Rattle.shm_recover.specs.Joining.{join_control, join_fresh, JoinFits, JoinGives};
+ghost use Rattle.shm_recover.specs.JoinKeeps.{join_laws};
+
+use shm_graph::{Ask, Machine, Me, Turn};
+use std::marker::Model;
+
+/// How far a join has come.
+#[derive(Clone, Copy, Debug, PartialEq, Eq, Drop)]
+pub enum JoinPoint {
+    /// The status is to be stored.
+    Start,
+    /// The status is stored.
+    Over,
+}
+
+/// The control of a join.
+#[derive(Clone, Copy, Debug, PartialEq, Eq, Drop)]
+pub struct JoinState {
+    pub me: Me,
+    pub point: JoinPoint,
+}
+
+/// Makes an identity that is new or gone live, in one word step: the store of its status.
+#[derive(Drop)]
+pub struct Join {
+    state: JoinState,
+}
+
+impl Model for Join {
+    ghost use Rattle.shm_recover.specs.declared.join.JoinState.{JoinState as AState};
+
+    ghost Value = { AState };
+
+    ghost view = { λ a. a.state };
+
+    ghost use Rattle.shm_recover.specs.Joining.{IsMember};
+
+    ghost invariant = { λ a. IsMember a.state.me };
+}
+
+impl Join {
+    /// A join of the identity `me`, before its first step; its line is the bytes of `join`.
+    pub fn new(me: Me) -> Join
+        requires geometry { GeometryFits me.geometry }
+        requires who { me.who < me.geometry.clients }
+        ensures state { result ≡ join_fresh me }
+        ensures line { join_control.line result ≡ 106 ∷ 111 ∷ 105 ∷ 110 ∷ [] }
+    {
+        Join {
+            state: JoinState {
+                me,
+                point: JoinPoint::Start,
+            },
+        }
+    }
+}
+
+impl Machine for Join {
+    type Answer = ();
+
+    ghost control = { join_control };
+
+    ghost fits = { JoinFits };
+
+    ghost gives = { JoinGives };
+
+    fn me(&self) -> Me {
+        self.state.me
+    }
+
+    fn finished(&self) -> bool {
+        match self.state.point {
+            JoinPoint::Start => false,
+            JoinPoint::Over => true,
+        }
+    }
+
+    fn ask(&self) -> Ask {
+        let me = self.state.me;
+        Ask::Store {
+            at: me.geometry.status(me.who),
+            value: 1,
+        }
+    }
+
+    fn take(&mut self, _seen: u64) -> Turn<()> {
+        self.state.point = JoinPoint::Over;
+        Turn::Done(())
+    }
+
+    ghost laws = { join_laws };
+}

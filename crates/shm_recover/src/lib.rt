@@ -1,0 +1,9 @@
+//! Machines with which an identity joins a pool, leaves it and is recovered.
+#![tactic(auto)]
+
+pub mod join;
+
+pub use join::{Join, JoinPoint, JoinState};
+
+#[cfg(test)]
+mod tests;
