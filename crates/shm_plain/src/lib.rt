@@ -6,7 +6,7 @@ pub mod closed;
 pub mod first;
 pub mod pair;
 pub mod pool;
-pub mod track;
+mod track;
 
 pub use closed::PlainClosed;
 pub use first::{FirstRun, replay_first};
