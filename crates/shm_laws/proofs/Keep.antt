@@ -59,6 +59,10 @@ pub era_of_zero : (header_of 0).era ≡ 0
 unfolding header_of
 era_of_zero = refl
 
+pub count_of_zero : (header_of 0).count ≡ 0
+unfolding header_of
+count_of_zero = refl
+
 filter_all : {X : Type 0} (test : X → Bool) → (xs : List X) → All (λ x. test x ≡ true → Contains (filter test xs) x) xs
 filter_all {X} test [] = All-nil (λ x. test x ≡ true → Contains (filter test []) x)
 filter_all {X} test (x ∷ xs) = go (test x) refl (filter_all test xs)

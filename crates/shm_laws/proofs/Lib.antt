@@ -5,3 +5,5 @@ pub mod Keep
 pub mod Lanes
 pub mod Sum
 pub mod Exchange
+pub mod Parts
+pub mod References
