@@ -7,3 +7,6 @@ pub mod Sum
 pub mod Exchange
 pub mod Parts
 pub mod References
+pub mod Rows
+pub mod PageClass
+pub mod Loads
