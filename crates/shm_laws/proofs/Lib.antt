@@ -10,3 +10,5 @@ pub mod References
 pub mod Rows
 pub mod PageClass
 pub mod Loads
+pub mod Queues
+pub mod Latches

@@ -63,7 +63,7 @@ module _ (g : Geometry) (w : Spot → ℕ) (v : View) (h : HeldAt g w v) where
   name_and_limbo b q c lc f e l =
       let some = live_some b l in
       let m : targets g w v q ≢ 0 = λ z. some (sym f ∙ z) in
-            let s = limbo_step g (λ s p. w (Page s p)) (targets g w v) (limbos v) (at1 (limbos v) c 0) c b lc (λ d n. at1_other (limbos v) c 0 d (λ e. n (sym e))) in
+      let s = limbo_step g (λ s p. w (Page s p)) (targets g w v) (limbos v) (at1 (limbos v) c 0) c b lc (λ d n. at1_other (limbos v) c 0 d (λ e. n (sym e))) in
       let one = indegree_has g (λ s p. w (Page s p)) (targets g w v) (at1 (limbos v) c 0) q b (target_at q m) (target_there q m) f in
       let was : one_if (eqb (limbos v c) b) ≡ 1 = ap one_if (eq-eqb (limbos v c) b e) in
       let is : one_if (eqb (at1 (limbos v) c 0 c) b) ≡ 0 = ap one_if (ap (λ z. eqb z b) (at1_here (limbos v) c 0) ∙ ne_eqb 0 b (λ z. some (sym z))) in
