@@ -4,8 +4,9 @@ use Rattle.std.proofs.Common.{◌≡◌, ◌≢◌, ℕ, ◌+◌, ◌%◌, ◌<�
 use Rattle.std.proofs.lemmas.List.{take-append-le}
 use Rattle.std.proofs.lemmas.Grind.{common_steps}
 use Rattle.std.proofs.lemmas.List.Elements.{All-push}
-use Rattle.std.proofs.lemmas.Bool.{cases_lt, and_parts, and_cases}
+use Rattle.std.proofs.lemmas.Bool.{cases_lt, cases_Bool, and_parts, and_cases, eqb-true, cond-true}
 use Rattle.shm_graph.specs.Held.{LaneSound}
+use Rattle.shm_laws.specs.Steps.{at2}
 
 -- a slot of a queue near another one is another
 pub apart_slots : (n m : ℕ) → n < m → m < n + 8 → n % 8 ≢ m % 8
@@ -130,3 +131,19 @@ lane_received t tail front sent unsent received block nz h =
     next : (tail < front + 8) ⊎ (front + 8 ≤ tail) → t (tail % 8) ≡ unsent
     next (inl l) = h.next l
     next (inr g) = let r = h.room in let e : tail ≡ front + 8 = omega arith in ap t (let q : tail % 8 ≡ front % 8 = omega arith in q) ∙ ((h.taken nz).2 ∙ sym (h.full e))
+
+-- ---- what is changed at one queue
+
+-- a fact of the changed queue and of each other one is one of all
+pub at2_all : {T : Type 0} (P : ℕ → ℕ → T → Type 0) (f : ℕ → ℕ → T) (s r : ℕ) (x : T) (i j : ℕ) → P s r x → ((eqb s i && eqb r j) ≡ false → P i j (f i j)) → P i j (at2 f s r x i j)
+at2_all {T} P f s r x i j here other = elim (cases_Bool (eqb s i && eqb r j)) [
+  | inl e ↦ (let q = and_parts (eqb s i) (eqb r j) e in subst (P i j) (sym (cond-true (eqb s i && eqb r j) x (f i j) e)) (subst (λ a. P a j x) (eqb-true s i q.0) (subst (λ a. P s a x) (eqb-true r j q.1) here)))
+  | inr e ↦ rw e (other e)
+]
+
+-- no queue between two identities is one from an identity to itself
+pub no_self : (s r d : ℕ) → s ≢ r → (eqb s d && eqb r d) ≡ false
+no_self s r d n = elim (cases_Bool (eqb s d && eqb r d)) [
+  | inl e ↦ (let q = and_parts (eqb s d) (eqb r d) e in absurd (n (eqb-true s d q.0 ∙ sym (eqb-true r d q.1))))
+  | inr e ↦ e
+]

@@ -10,5 +10,6 @@ pub mod References
 pub mod Rows
 pub mod PageClass
 pub mod Loads
-pub mod Queues
+pub mod Tails
+pub mod Heads
 pub mod Latches
