@@ -1,0 +1,15 @@
+pub mod Sums
+pub mod Frames
+pub mod Owns
+pub mod Keep
+pub mod Lanes
+pub mod Sum
+pub mod Exchange
+pub mod Parts
+pub mod References
+pub mod Rows
+pub mod PageClass
+pub mod Loads
+pub mod Tails
+pub mod Heads
+pub mod Latches

@@ -23,7 +23,8 @@ use Rattle.shm_graph.specs.Spots.{IsAt, same_spot, upd}
 use Rattle.shm_graph.specs.References.{words_of}
 use Rattle.shm_graph.specs.Ops.{cover_of, on_of, limbo_of, slot_of, is_op, Quiet}
 use Rattle.shm_graph.specs.Views.{View, own_word, targets, at1}
-use Rattle.shm_graph.specs.Held.{Allowed, OpTie, RedoTie, room_of, KnownAt, reach_of, named_by, SlotOf, LooksSound}
+use Rattle.shm_graph.specs.Held.{Allowed, OpTie, RedoTie, room_of, KnownAt, ValueAt, reach_of, named_by, SlotOf, LooksSound}
+use Rattle.shm_graph.specs.Tables.{contents_of}
 
 abbrev pub other_than : Spot → Spot → Bool
 other_than p q = not (same_spot p q)
@@ -168,7 +169,6 @@ body_view v c b i x o =
 
 pub record LatchStep (g : Geometry) (w : Spot → ℕ) (v : View) (c a : ℕ) : Type 0 where
   pub inside : c < g.clients
-  pub few : g.clients ≤ 16
   pub acts : v.status c ≢ status.New
   pub here : v.status c ≢ status.Gone
   pub place : IsAt g (λ s q. w (Page s q)) (Latch a)
@@ -184,19 +184,24 @@ latch_view v c a =
       test = at1 v.test c None;
     }
 
-pub record BackStep (g : Geometry) (v : View) (c a : ℕ) : Type 0 where
+pub record BackStep (g : Geometry) (w : Spot → ℕ) (v : View) (c a : ℕ) (kept : List Stored) (values : List ℕ) : Type 0 where
   pub inside : c < g.clients
   pub acts : v.status c ≢ status.New
   pub here : v.status c ≢ status.Gone
   pub op : v.op c ≡ Nothing
   pub latch : v.latch c ≡ Some a
+  -- what is kept of what is known, and of the value blocks, is in reach without looks
+  pub knows : All (λ (s : Stored). KnownAt c (λ i. w (Tag i)) (λ i j. w (Body i j)) (λ i j l. w (Slot i j l)) (λ i j. w (Tail i j)) (λ i j. w (Front i j)) (v.untaken c) None
+      (reach_of (targets g w v) (λ i j. w (Tail i j)) (λ i j. w (Front i j)) (λ d. []) c) (v.dying c) s.spot s.value) kept
+  pub valued : All (ValueAt (contents_of w (targets g w v)) (reach_of (targets g w v) (λ i j. w (Tail i j)) (λ i j. w (Front i j)) (λ d. []) c)) values
 
-abbrev pub back_view : View → ℕ → List Stored → View
-back_view v c kept =
+abbrev pub back_view : View → ℕ → List Stored → List ℕ → View
+back_view v c kept values =
     record v {
       latch = at1 v.latch c None;
       looks = at1 v.looks c [];
       known = at1 v.known c kept;
+      values = at1 v.values c values;
       test = at1 v.test c None;
     }
 
@@ -395,7 +400,6 @@ pub record TailStep (g : Geometry) (w : Spot → ℕ) (v : View) (c r : ℕ) : T
   pub op : v.op c ≡ Nothing
   pub some : v.unsent c r ≢ 0
   pub place : IsAt g (λ s q. w (Page s q)) (Tail c r)
-  pub small : w (Tail c r) + 1 < 2 ^ 64
 
 abbrev pub tail_view : View → ℕ → ℕ → ℕ → View
 tail_view v c r x =
@@ -415,7 +419,6 @@ pub record HeadStep (g : Geometry) (w : Spot → ℕ) (v : View) (c s : ℕ) : T
   pub op : v.op c ≡ Nothing
   pub some : v.untaken c s ≢ 0
   pub place : IsAt g (λ i q. w (Page i q)) (Front s c)
-  pub small : w (Front s c) + 1 < 2 ^ 64
 
 abbrev pub head_view : View → ℕ → ℕ → ℕ → View
 head_view v c s x =

@@ -1,0 +1,84 @@
+-- the loads of the commit test keep the rule, its window with them
+use Rattle.std.proofs.Common.{◌≡◌, ◌≢◌, ℕ, ◌+◌, ◌<◌, ◌≤◌, ap, arith, subst, inl, inr, List, ◌∷◌, Option, Some}
+use Rattle.std.specs.List.{All}
+use Rattle.std.proofs.lemmas.List.Elements.{All-cons}
+use Rattle.shm_words.specs.Headers.{header_of}
+use Rattle.shm_words.specs.declared.geometry.Geometry.{Geometry}
+use Rattle.shm_graph.specs.declared.spot.Spot.{Spot}
+use Rattle.shm_graph.specs.declared.spot.Spot.TheVariants.{Era, Tail, Front, Page, Head}
+use Rattle.shm_graph.specs.declared.memo.Fact.{Fact}
+use Rattle.shm_graph.specs.declared.memo.Fact.TheVariants.{Header as HeaderRead, Counter}
+use Rattle.shm_graph.specs.declared.memo.Test.{Test}
+use Rattle.shm_graph.specs.Views.{at1, View, ons}
+use Rattle.shm_laws.proofs.Frames.{at1_all}
+use Rattle.shm_graph.specs.Held.{HeldAt, FactAt, TestAt}
+use Rattle.shm_laws.specs.Steps.{header_view, row_view}
+
+-- one more fact, another window
+fact_kept : (g : Geometry) (w : Spot → ℕ) (v : View) (c : ℕ) (f : Fact) (test : Option Test) → HeldAt g w v → c < g.clients → FactAt g.clients (λ i j. w (Era i j)) (ons v) (λ s r. w (Tail s r)) (λ s r. w (Front s r)) (λ s q. w (Page s q)) f → TestAt g.clients (λ i j. w (Era i j)) (ons v c) c test
+    → HeldAt g w (record v { facts = at1 v.facts c (f ∷ v.facts c); test = at1 v.test c test })
+fact_kept g w v c f test h lc new window =
+    record {
+      fits = h.fits;
+      small = h.small;
+      there = h.there;
+      spare = h.spare;
+      unused = h.unused;
+      sizes = h.sizes;
+      mine = h.mine;
+      state = h.state;
+      latch = h.latch;
+      segments = h.segments;
+      dying = h.dying;
+      making = h.making;
+      blocks = h.blocks;
+      era = h.era;
+      own = h.own;
+      op = h.op;
+      redo = h.redo;
+      allowed = h.allowed;
+      count = h.count;
+      slots = h.slots;
+      looks = h.looks;
+      lanes = h.lanes;
+      known = h.known;
+      facts = λ d. at1_all (λ (i : ℕ) (x : List Fact). i < g.clients → All (FactAt g.clients (λ i j. w (Era i j)) (ons v) (λ s r. w (Tail s r)) (λ s r. w (Front s r)) (λ s q. w (Page s q))) x) v.facts c (f ∷ v.facts c) d
+          (λ l. All-cons (FactAt g.clients (λ i j. w (Era i j)) (ons v) (λ s r. w (Tail s r)) (λ s r. w (Front s r)) (λ s q. w (Page s q))) f (v.facts c) new (h.facts c l)) (λ m. h.facts d);
+      zeros = h.zeros;
+      test = λ d. at1_all (λ (i : ℕ) (x : Option Test). i < g.clients → TestAt g.clients (λ i j. w (Era i j)) (ons v i) i x) v.test c test d (λ l. window) (λ m. h.test d);
+      fresh = h.fresh;
+      gone = h.gone;
+      self_lanes = h.self_lanes;
+      tails = h.tails;
+      parts = h.parts;
+      part = h.part;
+      queued = h.queued;
+      values = h.values;
+      made = h.made;
+    }
+
+-- a header that didn't show the op opens the window at row 0
+pub header_kept : (g : Geometry) (w : Spot → ℕ) (v : View) (c b : ℕ) → HeldAt g w v → c < g.clients
+    → (((header_of (w (Head b))).client ≡ c) × ((header_of (w (Head b))).era ≡ w (Era c c)) → ⊥)
+    → HeldAt g w (header_view v c (w (Head b)) (Some (record { block = b; next = 0 })))
+header_kept g w v c b h lc differs = fact_kept g w v c (HeaderRead (w (Head b))) (Some (record { block = b; next = 0 })) h lc
+    (λ l. let q = h.era.header b l in (h.era.client b l, record { most = q.most; equal = λ e. (b, q.equal e) }))
+    (λ e. elim (h.era.shown c b lc e) [
+      | inl t ↦ absurd (differs t)
+      | inr t ↦ (t.0, omega arith, t.1, t.2, t.3)
+    ])
+
+-- the next row, which was below, moves the window on
+pub row_kept : (g : Geometry) (w : Spot → ℕ) (v : View) (c : ℕ) (t : Test) → HeldAt g w v → c < g.clients → v.test c ≡ Some t → w (Era t.next c) < w (Era c c)
+    → HeldAt g w (row_view v c t.next (w (Era t.next c)) (Some (record { block = t.block; next = t.next + 1 })))
+row_kept g w v c t h lc test below = fact_kept g w v c (Counter (Era t.next c) (w (Era t.next c))) (Some (record { block = t.block; next = t.next + 1 })) h lc (omega arith)
+    (λ e. let q : TestAt g.clients (λ i j. w (Era i j)) (ons v c) c (Some t) = subst (TestAt g.clients (λ i j. w (Era i j)) (ons v c) c) test (h.test c lc) in let r = q e in
+    (r.0, (let n : r.0 ≢ t.next = (λ z. let s : w (Era r.0 c) ≡ w (Era t.next c) = ap (λ i. w (Era i c)) z in let u = r.4 in omega arith) in let m = r.1 in omega arith), r.2, r.3, r.4))
+
+-- c's own row is passed over
+pub own_row_kept : (g : Geometry) (w : Spot → ℕ) (v : View) (c : ℕ) (t : Test) → HeldAt g w v → c < g.clients → t.next ≡ c → TestAt g.clients (λ i j. w (Era i j)) (ons v c) c (Some t) → TestAt g.clients (λ i j. w (Era i j)) (ons v c) c (Some (record { block = t.block; next = t.next + 1 }))
+own_row_kept g w v c t h lc at k = λ e. let r = k e in (r.0, (let n = r.3 in let m = r.1 in omega arith), r.2, r.3, r.4)
+
+-- at the end of the window nothing is committed
+pub not_committed : (n : ℕ) (era : ℕ → ℕ → ℕ) (on : Option ℕ) (c : ℕ) (t : Test) → TestAt n era on c (Some t) → n ≤ t.next → on ≢ Some t.block
+not_committed n era on c t k l e = let r = k e in let m = r.1 in let u = r.2 in omega arith
