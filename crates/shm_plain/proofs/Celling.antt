@@ -1,6 +1,6 @@
 -- cells and addresses, and what a store does
-use Rattle.std.proofs.Common.{◌≡◌, ◌≢◌, ℕ, ◌+◌, ◌-◌, ◌*◌, ◌/◌, ◌%◌, ◌<◌, ◌≤◌, sym, ap, ◌∙◌, arith, true, false, refl, Bool, cond, List, length, set, get_or, get_or-set_same, get_or-set_other, length-set, replicate, add-zero, [], ◌∷◌, ◌++◌, eqb, inl, inr, ◌⊎◌, subst}
-use Rattle.std.proofs.lemmas.Bool.{and_parts, eqb-true, eq-eqb, cases_Bool, cases_eq, false_from_ne_true}
+use Rattle.std.proofs.Common.{◌≡◌, ◌≢◌, ℕ, ◌+◌, ◌*◌, ◌<◌, ◌≤◌, sym, ap, ◌∙◌, arith, true, false, refl, List, length, set, get_or, get_or-set_same, get_or-set_other, length-set, replicate, add-zero, [], ◌∷◌, ◌++◌, inl, inr, ◌⊎◌, subst}
+use Rattle.std.proofs.lemmas.Bool.{and_parts, eqb-true, cases_Bool, cases_eq, false_from_ne_true}
 use Rattle.std.proofs.lemmas.Bool.Decides.{nat_tests}
 use Rattle.std.proofs.lemmas.List.{get_or-replicate, length-replicate}
 use Rattle.shm_words.specs.declared.geometry.Geometry.{Geometry}

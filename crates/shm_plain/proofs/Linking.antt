@@ -1,5 +1,5 @@
 -- the entry of a put: where it is made, and the words once it is linked
-use Rattle.std.proofs.Common.{◌≡◌, ◌≢◌, ℕ, zero, suc, ◌+◌, ◌*◌, ◌<◌, ◌≤◌, sym, ap, ◌∙◌, arith, refl, inl, inr, ◌⊎◌, List, [], ◌∷◌, get_or, set, subst, length, add-one, ◌==◌, ◌-◌}
+use Rattle.std.proofs.Common.{◌≡◌, ◌≢◌, ℕ, ◌+◌, ◌*◌, ◌<◌, sym, ap, ◌∙◌, arith, refl, inl, inr, ◌⊎◌, List, [], ◌∷◌, get_or, set, subst, length, add-one, ◌==◌, ◌-◌}
 use Rattle.std.specs.Prelude.{if◌then◌else◌, nat_lt}
 use Rattle.std.proofs.lemmas.Bool.{cases_eq, cond-false, ne_eqb}
 use Rattle.std.proofs.lemmas.Bool.Decides.{nat_tests}
@@ -7,7 +7,7 @@ use Rattle.shm_words.specs.Headers.{header_of}
 use Rattle.shm_plain.specs.declared.pair.Pair.{Pair}
 use Rattle.shm_plain.specs.Puts.{bucket_of, AreApart}
 use Rattle.shm_plain.specs.Cells.{Cell, Latch, Home, Era, Segment, Page, Value, Directory, Entry, Root, Shows, cell_at, after, put_at, bucket_word, directory_word, live_header, own_tag, upd}
-use Rattle.shm_plain.specs.Steps.{IsNext, IsFirstFree, IsLeastRoot, IsDroppable, allocated, block_at}
+use Rattle.shm_plain.specs.Steps.{IsNext, IsLeastRoot, IsDroppable, allocated, block_at}
 use Rattle.shm_plain.specs.Stages.{housed, latched, entered, linked}
 use Rattle.shm_plain.proofs.CellAt.{cell_latch, cell_value_at, cell_directory_at, cell_entry_at}
 use Rattle.shm_plain.proofs.Celling.{shown_segment, shown_page, shown_root, shown_home, shows_same, shows_hold}
@@ -173,7 +173,7 @@ shows_linked puts k ws vs l drops s =
 
 -- the counts that are raised, and that the entry's root can be emptied
 pub entered_count : (puts : List Pair) (k : ℕ) (ws : List ℕ) → k < 16 → Shows ws (entered puts k) → (header_of (get_or ws (50 + 4 * k) 0)).count ≡ 1
-entered_count puts k ws l s = 
+entered_count puts k ws l s =
     let low = era_before k l in
     counted ws (entered puts k) (50 + 4 * k) 1 _ (Value k 0) s (omega arith) (omega arith) (cell_value_at _ k 0 (omega arith) (omega arith) (omega arith)) (entered_header puts k) (omega arith) (omega arith)
 

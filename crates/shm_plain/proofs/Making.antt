@@ -1,10 +1,9 @@
 -- the block of a put's value: where it is made, and the words then
-use Rattle.std.proofs.Common.{◌≡◌, ◌≢◌, ℕ, zero, suc, ◌+◌, ◌*◌, ◌<◌, ◌≤◌, sym, ap, ◌∙◌, arith, refl, inl, inr, ◌⊎◌, List, [], ◌∷◌, get_or}
+use Rattle.std.proofs.Common.{◌≡◌, ℕ, ◌+◌, ◌*◌, ◌<◌, sym, ◌∙◌, arith, refl, ◌⊎◌, List, [], ◌∷◌}
 use Rattle.std.proofs.lemmas.Bool.Decides.{nat_tests}
 use Rattle.shm_plain.specs.declared.pair.Pair.{Pair}
-use Rattle.shm_plain.specs.Cells.{Cell, Era, Segment, Page, Value, Directory, Entry, Root, Shows, cell_at, after, put_at, live_header, own_tag, upd}
-use Rattle.shm_plain.specs.Cells.Cell.{Spare, Status, Redo, Hold, Latch, Home, Queue, Rest}
-use Rattle.shm_plain.specs.Steps.{IsNext, IsFirstFree, IsLeastRoot, allocated, block_at}
+use Rattle.shm_plain.specs.Cells.{Cell, Era, Segment, Page, Value, Root, Shows, cell_at, after, put_at, live_header, own_tag, upd}
+use Rattle.shm_plain.specs.Steps.{IsNext, IsLeastRoot, allocated, block_at}
 use Rattle.shm_plain.specs.Stages.{valued}
 use Rattle.shm_plain.proofs.CellAt.{cell_value_at}
 use Rattle.shm_plain.proofs.Celling.{shown_segment, shown_page, shown_root, shows_same}
