@@ -12,6 +12,7 @@ use Rattle.shm_plain.specs.Stages.{housed, latched, entered, linked}
 use Rattle.shm_plain.proofs.CellAt.{cell_latch, cell_value_at, cell_directory_at, cell_entry_at}
 use Rattle.shm_plain.proofs.Celling.{shown_segment, shown_page, shown_root, shown_home, shows_same, shows_hold}
 use Rattle.shm_plain.proofs.Buckets.{bucket_cases}
+use Rattle.shm_plain.proofs.FilledWords.{entry_cell, entry_none}
 use Rattle.shm_plain.proofs.Alive.{shown_as, live_not_none, shows_made, Raises, Drops, shows_raised, shows_dropped, shows_era, counted, droppable}
 
 -- ---- the latch, and the bucket
@@ -53,12 +54,6 @@ home_is puts k ws at home s e f = f ∙ (ap (λ (a : ℕ). get_or ws a 0) e ∙ 
 
 -- ---- the entry
 
-entry_used : (puts : List Pair) (k j : ℕ) → j < k → latched puts k (Entry j 0) ≡ live_header 1 (8 + 6 * j)
-entry_used puts k j l = grind (arith, nat_tests)
-
-entry_free : (puts : List Pair) (k j : ℕ) → latched puts k (Entry k j) ≡ 0
-entry_free puts k j = grind (arith, nat_tests)
-
 value_page : (puts : List Pair) (k : ℕ) → latched puts k (Page 0) ≡ 4
 value_page puts k = grind (arith, nat_tests)
 
@@ -86,10 +81,10 @@ entry_next puts k ws l s = record {
   here = rw (shown_page ws (latched puts k) 2 s (omega arith)) (entry_page puts k);
   first = record {
     room = omega arith;
-    used = λ j h e. live_not_none 1 (8 + 6 * j) (sym (shown_as ws (latched puts k) (block_at 8 2 j) (Entry j 0) s (omega arith) (omega arith) (cell_entry_at _ j 0 (omega arith) (omega arith) (omega arith)) ∙ entry_used puts k j h) ∙ e);
-    free = shown_as ws (latched puts k) (block_at 8 2 k) (Entry k 0) s (omega arith) (omega arith) (cell_entry_at _ k 0 (omega arith) (omega arith) (omega arith)) ∙ entry_free puts k 0;
+    used = λ j h e. live_not_none 1 (8 + 6 * j) (sym (shown_as ws (latched puts k) (block_at 8 2 j) (Entry j 0) s (omega arith) (omega arith) (cell_entry_at _ j 0 (omega arith) (omega arith) (omega arith)) ∙ entry_cell puts k j 0 h) ∙ e);
+    free = shown_as ws (latched puts k) (block_at 8 2 k) (Entry k 0) s (omega arith) (omega arith) (cell_entry_at _ k 0 (omega arith) (omega arith) (omega arith)) ∙ entry_none puts k k 0 (omega arith);
   };
-  free = λ j h. shown_as ws (latched puts k) (block_at 8 2 k + j) (Entry k j) s (omega arith) (omega arith) (cell_entry_at _ k j (omega arith) (omega arith) h) ∙ entry_free puts k j;
+  free = λ j h. shown_as ws (latched puts k) (block_at 8 2 k + j) (Entry k j) s (omega arith) (omega arith) (cell_entry_at _ k j (omega arith) (omega arith) h) ∙ entry_none puts k k j (omega arith);
 }
 
 pub entry_root : (puts : List Pair) (k : ℕ) (ws : List ℕ) → Shows ws (latched puts k) → IsLeastRoot ws 1
