@@ -75,10 +75,7 @@ shows_store ws at value w s below =
 pub shows_same : (ws : List ℕ) (w v : Cell → ℕ) → Shows ws w → ((a : ℕ) → a < 2098 → a ≢ 2 → a ≢ 3 → w (cell_at a) ≡ v (cell_at a)) → Shows ws v
 shows_same ws w v s e = record { long = s.long; at = λ a low redo hold. s.at a low redo hold ∙ e a low redo hold }
 
--- of the redo record and the hold word nothing is said
-pub shows_redo : (ws : List ℕ) (value : ℕ) (w : Cell → ℕ) → Shows ws w → Shows (set ws 2 value) w
-shows_redo ws value w s = record { long = length-set ws 2 value ∙ s.long; at = λ a low redo hold. get_or-set_other ws 2 a value 0 redo ∙ s.at a low redo hold }
-
+-- of the hold word nothing is said
 pub shows_hold : (ws : List ℕ) (value : ℕ) (w : Cell → ℕ) → Shows ws w → Shows (set ws 3 value) w
 shows_hold ws value w s = record { long = length-set ws 3 value ∙ s.long; at = λ a low redo hold. get_or-set_other ws 3 a value 0 hold ∙ s.at a low redo hold }
 
