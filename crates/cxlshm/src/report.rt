@@ -10,7 +10,7 @@ ghost use Rattle.shm_graph.specs.Clean.{IsClean};
 ghost use Rattle.shm_graph.specs.Tables.{Entry, IsTable};
 ghost use Rattle.cxlshm.specs.PoolWords.{IsCleanPool};
 ghost use Rattle.cxlshm.specs.Report.{log_text, row_line, rows_text, value_lines};
-ghost use Rattle.cxlshm.specs.TableRows.{row_seen, rows_seen};
+ghost use Rattle.cxlshm.specs.TableRows.{rows_seen};
 ghost use Rattle.cxlshm.specs.Texts.{IsReport, counts_text};
 ghost use Rattle.cxlshm.specs.ValueNames.{IsNumbered};
 
