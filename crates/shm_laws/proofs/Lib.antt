@@ -13,3 +13,4 @@ pub mod Loads
 pub mod Tails
 pub mod Heads
 pub mod Latches
+pub mod FreeBlock
