@@ -14,3 +14,4 @@ pub mod Tails
 pub mod Heads
 pub mod Latches
 pub mod FreeBlock
+pub mod LowerBlock
