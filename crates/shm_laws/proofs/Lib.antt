@@ -15,3 +15,4 @@ pub mod Heads
 pub mod Latches
 pub mod FreeBlock
 pub mod LowerBlock
+pub mod SecondHalf
