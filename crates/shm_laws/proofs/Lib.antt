@@ -13,3 +13,6 @@ pub mod Loads
 pub mod Tails
 pub mod Heads
 pub mod Latches
+pub mod FreeBlock
+pub mod LowerBlock
+pub mod SecondHalf
