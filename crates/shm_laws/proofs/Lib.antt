@@ -13,3 +13,6 @@ pub mod Loads
 pub mod Tails
 pub mod Heads
 pub mod Latches
+pub mod Writing
+pub mod RootStore
+pub mod BodyStore
