@@ -16,3 +16,6 @@ pub mod Latches
 pub mod FreeBlock
 pub mod LowerBlock
 pub mod SecondHalf
+pub mod Writing
+pub mod RootStore
+pub mod BodyStore
