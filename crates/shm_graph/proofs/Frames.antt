@@ -1,14 +1,9 @@
 -- what a change of one identity's part leaves
 use Rattle.std.proofs.Common.{◌≡◌, ◌≢◌, ℕ, refl, sym, ◌∙◌, true, false, Bool, cond, eqb, subst, inl, inr}
 use Rattle.std.proofs.Math.Path.{fun_ext}
-use Rattle.std.proofs.lemmas.Bool.{cases_eq, eq-eqb, ne_eqb}
+use Rattle.std.proofs.lemmas.Bool.{cases_eq}
 use Rattle.shm_graph.specs.Views.{at1}
-
-pub at1_here : {T : Type 0} (f : ℕ → T) (c : ℕ) (x : T) → at1 f c x c ≡ x
-at1_here f c x = rw (eq-eqb c c refl)
-
-pub at1_other : {T : Type 0} (f : ℕ → T) (c : ℕ) (x : T) (d : ℕ) → c ≢ d → at1 f c x d ≡ f d
-at1_other f c x d h = rw (ne_eqb c d h)
+use Rattle.shm_graph.proofs.Lists.{at1_here, at1_other}
 
 -- a fact of the changed value and of each other one is one of all
 pub at1_all : {T : Type 0} (P : ℕ → T → Type 0) (f : ℕ → T) (c : ℕ) (x : T) (d : ℕ) → P c x → (c ≢ d → P d (f d)) → P d (at1 f c x d)

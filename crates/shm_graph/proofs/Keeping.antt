@@ -21,7 +21,7 @@ use Rattle.shm_graph.specs.Ops.{cover_of, limbo_of}
 use Rattle.shm_graph.specs.Events.{graph_of, IsSame}
 use Rattle.shm_graph.specs.Controls.{IsAllowed}
 use Rattle.shm_graph.specs.Laws.{Frame, framed, Stands, KeptAt}
-use Rattle.shm_graph.proofs.Frames.{at1_here}
+use Rattle.shm_graph.proofs.Lists.{at1_here}
 use Rattle.shm_graph.proofs.MemoParts.{status_set}
 use Rattle.shm_graph.proofs.Calling.{called_held, called_part}
 use Rattle.shm_graph.proofs.StatusStore.{status_held}

@@ -16,7 +16,8 @@ use Rattle.shm_graph.specs.Tables.{contents_of}
 use Rattle.shm_graph.specs.Ops.{is_op, slot_of}
 use Rattle.shm_graph.specs.Views.{View, at1, targets}
 use Rattle.shm_graph.specs.Held.{HeldAt, LooksSound, LookAt, InLooks, SlotOf, KnownAt, ValueAt, Fresh, named_by, reach_of}
-use Rattle.shm_graph.proofs.Frames.{at1_all, at1_other}
+use Rattle.shm_graph.proofs.Frames.{at1_all}
+use Rattle.shm_graph.proofs.Lists.{at1_other}
 use Rattle.shm_graph.proofs.HomeTarget.{home_target}
 
 -- ---- a longer reach

@@ -20,7 +20,7 @@ use Rattle.shm_graph.specs.Tables.{contents_of, HasShape}
 use Rattle.shm_graph.specs.Held.{HeldAt, CountSound, SlotOf, reach_of, named_by, MakingTie, InBlock, FactAt, TestAt, EraSound, KnownAt, LooksSound, LaneSound, IsUnusedLane, PartTie, ValueAt, MadeAt, is_loose}
 use Rattle.shm_graph.proofs.Spotting.{same_spot_self}
 use Rattle.shm_graph.proofs.Holders.{Holds, InReach, reach_counted, one_latch}
-use Rattle.shm_laws.proofs.Frames.{at1_all}
+use Rattle.shm_graph.proofs.Frames.{at1_all}
 use Rattle.shm_laws.proofs.Keep.{All-kept, live_word}
 use Rattle.shm_laws.proofs.Owns.{mine_other, small_stored, there_stored}
 use Rattle.shm_laws.proofs.References.{part_stored, values_kept, queued_kept}

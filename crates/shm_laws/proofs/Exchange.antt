@@ -8,7 +8,7 @@ use Rattle.shm_words.specs.Headers.{header_of}
 use Rattle.shm_graph.specs.Held.{Shown, CountSound, EraSound, Committing, Bound, FactAt, SlotOf, IsDying, named_by, InLooks, LookAt, LooksSound, KnownAt}
 use Rattle.shm_graph.specs.References.{one_if, references_to}
 use Rattle.shm_graph.specs.Views.{at1}
-use Rattle.shm_laws.proofs.Frames.{at1_all}
+use Rattle.shm_graph.proofs.Frames.{at1_all}
 use Rattle.shm_graph.proofs.Lists.{at1_here, at1_other}
 use Rattle.shm_words.specs.declared.geometry.Geometry.{Geometry}
 use Rattle.shm_graph.specs.declared.spot.Spot.{Spot}

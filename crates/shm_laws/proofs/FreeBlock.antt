@@ -13,7 +13,7 @@ use Rattle.shm_graph.specs.declared.spot.Spot.TheVariants.{Spare, Home, Era, Roo
 use Rattle.shm_graph.specs.declared.memo.Making.{Making}
 use Rattle.shm_graph.specs.declared.memo.Stored.{Stored}
 use Rattle.shm_graph.specs.declared.memo.Test.{Test}
-use Rattle.shm_laws.proofs.Frames.{at1_all}
+use Rattle.shm_graph.proofs.Frames.{at1_all}
 use Rattle.shm_graph.proofs.Lists.{at1_here, at1_other}
 use Rattle.shm_graph.specs.References.{words_of, refs_of}
 use Rattle.shm_graph.specs.Spots.{upd, IsAt, class_at}

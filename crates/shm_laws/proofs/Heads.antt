@@ -11,7 +11,7 @@ use Rattle.shm_graph.specs.declared.memo.Stored.{Stored}
 use Rattle.shm_graph.specs.declared.memo.Test.{Test}
 use Rattle.shm_graph.specs.declared.memo.Fact.{Fact}
 use Rattle.shm_graph.specs.declared.memo.Fact.TheVariants.{Header as HeaderRead, Counter, Class}
-use Rattle.shm_laws.proofs.Frames.{at1_all}
+use Rattle.shm_graph.proofs.Frames.{at1_all}
 use Rattle.shm_graph.specs.Spots.{upd, IsAt}
 use Rattle.shm_graph.specs.Views.{View, targets, ons}
 use Rattle.shm_graph.specs.Ops.{slot_of, is_op}

@@ -1,5 +1,4 @@
 pub mod Sums
-pub mod Frames
 pub mod Owns
 pub mod Keep
 pub mod Lanes

@@ -11,7 +11,7 @@ use Rattle.shm_graph.specs.declared.memo.Fact.{Fact}
 use Rattle.shm_graph.specs.declared.memo.Fact.TheVariants.{Header as HeaderRead, Counter}
 use Rattle.shm_graph.specs.declared.memo.Test.{Test}
 use Rattle.shm_graph.specs.Views.{at1, View, ons}
-use Rattle.shm_laws.proofs.Frames.{at1_all}
+use Rattle.shm_graph.proofs.Frames.{at1_all}
 use Rattle.shm_graph.specs.Held.{HeldAt, FactAt, TestAt}
 use Rattle.shm_graph.specs.Changes.{next_row}
 use Rattle.shm_laws.specs.Steps.{header_view, row_view}

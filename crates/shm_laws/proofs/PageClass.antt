@@ -11,7 +11,7 @@ use Rattle.shm_graph.specs.declared.memo.Making.{Making}
 use Rattle.shm_graph.specs.declared.memo.Fact.{Fact}
 use Rattle.shm_graph.specs.declared.memo.Test.{Test}
 use Rattle.shm_graph.specs.declared.memo.Fact.TheVariants.{Header as HeaderRead, Counter, Class}
-use Rattle.shm_laws.proofs.Frames.{at1_all}
+use Rattle.shm_graph.proofs.Frames.{at1_all}
 use Rattle.shm_graph.specs.Spots.{upd, IsAt, spot_address, spot_at}
 use Rattle.shm_graph.specs.Views.{View, targets, ons, limbos}
 use Rattle.shm_graph.specs.Blocks.{IsBlock}

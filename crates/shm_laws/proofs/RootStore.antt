@@ -17,7 +17,7 @@ use Rattle.shm_graph.specs.Views.{View, targets, limbos, ons}
 use Rattle.shm_graph.specs.Tables.{contents_of, HasShape}
 use Rattle.shm_graph.specs.Held.{HeldAt, CountSound, SlotOf, reach_of, named_by, FactAt, TestAt, EraSound, KnownAt, LooksSound, LaneSound, IsUnusedLane, PartTie, ValueAt, MadeAt, is_loose}
 use Rattle.shm_graph.proofs.Spotting.{same_spot_self}
-use Rattle.shm_laws.proofs.Frames.{at1_all}
+use Rattle.shm_graph.proofs.Frames.{at1_all}
 use Rattle.shm_laws.proofs.Owns.{mine_stored, small_stored, there_stored}
 use Rattle.shm_laws.proofs.Writing.{at_slot, on_same, limbo_same, own_same, allowed_same, tails_same, slots_same, ops_same, targets_same}
 use Rattle.shm_laws.specs.Steps.{RootStep, root_view}

@@ -5,7 +5,7 @@ use Rattle.std.proofs.lemmas.Bool.{cases_eq, cases_Bool, eq-eqb, false_from_ne_t
 use Rattle.shm_graph.specs.References.{sum_below, one_if, references_to, Words, words_of}
 use Rattle.shm_laws.proofs.Sums.{sum_but, sum_same}
 use Rattle.shm_graph.specs.Views.{at1}
-use Rattle.shm_laws.proofs.Frames.{at1_all}
+use Rattle.shm_graph.proofs.Frames.{at1_all}
 use Rattle.shm_graph.proofs.Lists.{at1_here, at1_other}
 use Rattle.shm_words.specs.declared.geometry.Geometry.{Geometry}
 use Rattle.shm_graph.specs.declared.spot.Spot.{Spot}

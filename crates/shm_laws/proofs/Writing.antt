@@ -16,7 +16,7 @@ use Rattle.shm_graph.specs.Views.{View, at1, targets, limbos, ons}
 use Rattle.shm_graph.specs.Held.{HeldAt, OpTie, OwnSound, TailSound, Allowed, room_of}
 use Rattle.shm_graph.proofs.Spotting.{same_spot_is, same_spot_self}
 use Rattle.shm_graph.proofs.Holders.{Holds, one_holder}
-use Rattle.shm_laws.proofs.Frames.{at1_all}
+use Rattle.shm_graph.proofs.Frames.{at1_all}
 use Rattle.shm_laws.proofs.Sum.{covered_alone, cover_slot, cover_idle, op_at}
 use Rattle.shm_laws.specs.Steps.{Writes}
 
