@@ -16,3 +16,4 @@ pub mod Latches
 pub mod FreeBlock
 pub mod LowerBlock
 pub mod SecondHalf
+pub mod ChangeFirst
