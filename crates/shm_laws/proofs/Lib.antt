@@ -17,3 +17,5 @@ pub mod FreeBlock
 pub mod LowerBlock
 pub mod SecondHalf
 pub mod ChangeFirst
+pub mod LookLoad
+pub mod LooksCut
