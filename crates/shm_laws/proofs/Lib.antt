@@ -18,3 +18,6 @@ pub mod SecondHalf
 pub mod Writing
 pub mod RootStore
 pub mod BodyStore
+pub mod ChangeFirst
+pub mod LookLoad
+pub mod LooksCut

@@ -376,6 +376,8 @@ pub record ChangeStep (g : Geometry) (w : Spot → ℕ) (v : View) (c x b e to :
   pub op : v.op c ≡ Change (Raising Begun) p x b e
   pub small : to < 2 ^ 64
   pub named : (q : Spot) × (targets g w v q ≡ b)
+  -- where that word is a root, it is one of c
+  pub rooted : (d k : ℕ) → named.0 ≡ Root d k → d ≡ c
   pub new : header_of to ≡ record { live = true; client = c; count = (header_of (w (Head b))).count + 1; era = e }
   pub shows : RowShows (λ i j. w (Era i j)) (header_of (w (Head b))) c
   pub looked : LooksSound (λ a. upd (targets g w v) p b (Home a)) (λ d i. upd (targets g w v) p b (Body d i)) (λ b. tag_author (w (Tag b))) (v.latch c) (named_by (upd (targets g w v) p b) (λ s r. w (Tail s r)) (λ s r. w (Front s r)) c) [] looks
