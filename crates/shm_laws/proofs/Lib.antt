@@ -16,3 +16,4 @@ pub mod Latches
 pub mod Writing
 pub mod RootStore
 pub mod BodyStore
+pub mod CloseOp
