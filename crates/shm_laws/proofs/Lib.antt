@@ -21,3 +21,4 @@ pub mod BodyStore
 pub mod ChangeFirst
 pub mod LookLoad
 pub mod LooksCut
+pub mod CloseOp
