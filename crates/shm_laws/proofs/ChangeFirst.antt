@@ -16,7 +16,7 @@ use Rattle.shm_graph.specs.declared.memo.Half.TheVariants.{Raising}
 use Rattle.shm_graph.specs.declared.memo.Making.{Making}
 use Rattle.shm_graph.specs.declared.memo.Stored.{Stored}
 use Rattle.shm_graph.specs.declared.memo.Look.{Look}
-use Rattle.shm_laws.proofs.Frames.{at1_all}
+use Rattle.shm_graph.proofs.Frames.{at1_all}
 use Rattle.shm_graph.proofs.Lists.{at1_here, at1_other}
 use Rattle.shm_graph.specs.Ops.{word_at, cover, cover_of, covered, slot_of, indegree, limbo_of, on_of, is_op}
 use Rattle.shm_graph.specs.Spots.{upd, same_spot, IsAt, class_at, spot_address}

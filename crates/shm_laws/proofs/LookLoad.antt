@@ -11,7 +11,7 @@ use Rattle.shm_graph.specs.declared.spot.Spot.TheVariants.{Home, Era, Tail, Fron
 use Rattle.shm_graph.specs.declared.memo.Stored.{Stored}
 use Rattle.shm_graph.specs.declared.memo.Look.{Look}
 use Rattle.shm_graph.specs.declared.memo.Test.{Test}
-use Rattle.shm_laws.proofs.Frames.{at1_all}
+use Rattle.shm_graph.proofs.Frames.{at1_all}
 use Rattle.shm_graph.specs.References.{words_of, refs_of}
 use Rattle.shm_graph.specs.Views.{View, targets, ons, limbos}
 use Rattle.shm_graph.specs.Ops.{cover, cover_of, covered, slot_of, is_op}
