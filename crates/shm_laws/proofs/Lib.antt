@@ -17,3 +17,4 @@ pub mod Writing
 pub mod RootStore
 pub mod BodyStore
 pub mod CloseOp
+pub mod AllocBlock

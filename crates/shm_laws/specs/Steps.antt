@@ -72,6 +72,7 @@ alloc_view v c k b e m =
       making = at1 v.making c None;
       known = at1 v.known c (m.words ++ v.known c);
       zeros = at1 v.zeros c (filter (other_than (Head b)) (v.zeros c));
+      made = at1 v.made c (b ∷ v.made c);
       test = at1 v.test c None;
     }
 
