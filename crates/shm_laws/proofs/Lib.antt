@@ -18,3 +18,4 @@ pub mod RootStore
 pub mod BodyStore
 pub mod CloseOp
 pub mod AllocBlock
+pub mod UpBlock
