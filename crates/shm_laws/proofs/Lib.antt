@@ -13,6 +13,7 @@ pub mod Loads
 pub mod Tails
 pub mod Heads
 pub mod Latches
+pub mod Slots
 pub mod Writing
 pub mod RootStore
 pub mod BodyStore

@@ -1,9 +1,9 @@
 -- the exchange that raises a live block keeps the invariant, for any slot
 use Rattle.std.proofs.Math.Path.{fun_ext}
-use Rattle.std.proofs.Common.{◌≡◌, ◌≢◌, ℕ, ◌+◌, ◌%◌, ◌^◌, ◌<◌, ◌≤◌, refl, sym, ap, ◌∙◌, arith, true, false, Bool, cond, eqb, ltb, lt-ltb, eq-eqb, subst, inl, inr, ◌⊎◌, ◌&&◌, List, [], Option, Some, None}
+use Rattle.std.proofs.Common.{◌≡◌, ◌≢◌, ℕ, ◌+◌, ◌%◌, ◌^◌, ◌<◌, ◌≤◌, refl, sym, ap, ◌∙◌, arith, true, false, Bool, cond, eqb, eq-eqb, subst, inl, inr, ◌⊎◌, ◌&&◌, List, [], Option, Some, None}
 use Rattle.std.specs.List.{All, Contains, filter}
 use Rattle.std.proofs.lemmas.List.Elements.{All-weaker}
-use Rattle.std.proofs.lemmas.Bool.{cases_Bool, cases_eq, true≢false, ne_eqb, eqb-true, and_parts, cond-true, false_from_ne_true}
+use Rattle.std.proofs.lemmas.Bool.{cases_Bool, cases_eq, true≢false, ne_eqb, eqb-true, and_parts, false_from_ne_true}
 use Rattle.shm_words.specs.declared.geometry.Geometry.{Geometry}
 use Rattle.shm_words.specs.declared.header.Header.{Header}
 use Rattle.shm_words.specs.declared.redo.Redo.TheVariants as redos
@@ -25,13 +25,13 @@ use Rattle.shm_graph.specs.Tables.{contents_of, HasShape}
 use Rattle.shm_graph.specs.Held.{HeldAt, CountSound, SlotOf, reach_of, named_by, TagSound, MakingTie, ZeroAt, TestAt, KnownAt, LooksSound, is_slot, is_slot_to, LaneSound, IsDying, OwnSound, OpTie, OpSound, Allowed, TailSound, room_of, IsUnusedLane, PartTie, ValueAt, MadeAt, is_loose}
 use Rattle.shm_graph.proofs.Spotting.{same_spot_is, block_is_at}
 use Rattle.shm_graph.proofs.Lists.{at1_here, at1_other}
-use Rattle.shm_graph.proofs.Holders.{one_holder}
 use Rattle.shm_laws.proofs.Frames.{at1_all}
 use Rattle.shm_laws.proofs.Owns.{mine_other, small_stored, there_stored}
 use Rattle.shm_laws.proofs.Sum.{refs_target, commit_target, covered_alone, HasTarget}
 use Rattle.shm_laws.proofs.Lanes.{lane_up, lane_same, other_lane, this_lane, no_self}
 use Rattle.shm_laws.proofs.Keep.{live_block, live_word}
-use Rattle.shm_laws.proofs.Exchange.{era_exchange, facts_committed, count_exchange, named_kept, slot_kept, looks_kept, known_kept, apart}
+use Rattle.shm_laws.proofs.Exchange.{era_exchange, facts_committed, count_exchange, named_kept, slot_kept, looks_kept, known_kept}
+use Rattle.shm_laws.proofs.Slots.{covers_slot, has_target, target_covered}
 use Rattle.shm_laws.proofs.Parts.{PartKept, part_kept}
 use Rattle.shm_laws.proofs.References.{live_some, named_count, two_names, slot_no_root, part_other, values_kept, made_kept, made_own, queued_kept}
 use Rattle.shm_laws.specs.Steps.{UpStep, up_view, unsent_after, not_block}
@@ -212,28 +212,17 @@ up_kept g w v c b e to p part h a =
     zero d (Head i) z = (at1_other word b to i (not_free i z.0) ∙ z.0, z.1, z.2)
     zero d _ z = absurd z
 
-    covers_slot : (d : ℕ) → d < g.clients → d ≢ c → (y : ℕ) → cover (cover_of (v.op d)) p y ≡ y
-    covers_slot d l n y = apart d (λ i. header_of (word i)) tags (v.latch d) tail front (reach_of t tail front v.looks d) (v.op d) p (h.slots d l) (λ x. n (sym (one_holder g w v h c d p a.inside l mine_at x))) y
+    covers : (d : ℕ) → d < g.clients → d ≢ c → (y : ℕ) → cover (cover_of (v.op d)) p y ≡ y
+    covers = covers_slot g w v h c a.inside p mine_at
 
-    has : (q : Spot) → At c q → HasTarget (words_of w).refs q
-    has (Root i j) x = tt
-    has (Home i) x = tt
-    has (Slot s r k) x = tt
-    has (Body j i) x = subst (λ z. i < z) (sym (ap (λ z. refs_of z (w (Tag j))) x.0)) x.1
-    has _ x = absurd x
+    has : HasTarget (words_of w).refs p
+    has = has_target g w v h c a.inside p mine_at
 
     covered_zero : covered (λ d. cover_of (v.op d)) g.clients p (word_at (words_of w) p) ≡ 0
-    covered_zero = covered_alone g.clients c p (word_at (words_of w) p) (λ d. cover_of (v.op d)) a.inside covers_slot ∙ (ap (λ z. cover (cover_of z) p (word_at (words_of w) p)) a.op ∙ op_sound.word)
-
-    target_of : (q : Spot) → HasTarget (words_of w).refs q → t q ≡ covered (λ d. cover_of (v.op d)) g.clients q (word_at (words_of w) q)
-    target_of (Root i j) x = refl
-    target_of (Home i) x = refl
-    target_of (Slot s r k) x = refl
-    target_of (Body j i) x = cond-true (ltb i ((words_of w).refs j)) _ 0 (lt-ltb i ((words_of w).refs j) x)
-    target_of _ x = absurd x
+    covered_zero = covered_alone g.clients c p (word_at (words_of w) p) (λ d. cover_of (v.op d)) a.inside covers ∙ (ap (λ z. cover (cover_of z) p (word_at (words_of w) p)) a.op ∙ op_sound.word)
 
     held_at : t p ≡ 0
-    held_at = target_of p (has p mine_at) ∙ covered_zero
+    held_at = target_covered g w v h c a.inside p has ∙ covered_zero
 
     refs' : ℕ → ℕ
     refs' = λ i. refs_of (header_of (upd w (Head b) to (Head i))).live (w (Tag i))
@@ -252,7 +241,7 @@ up_kept g w v c b e to p part h a =
     has' _ x = absurd x
 
     path : targets g w' v' ≡ t'
-    path = commit_target g.clients (words_of w') v.op c o p b a.inside (ap cover_of a.op) refl (has' p (has p mine_at)) covers_slot
+    path = commit_target g.clients (words_of w') v.op c o p b a.inside (ap cover_of a.op) refl (has' p has) covers
         ∙ ap (λ z. upd z p b) (refs_target g.clients (words_of w) refs' (λ d. cover_of (v.op d)) (λ d. inl (refs_all d)))
 
     limbo : limbos v' ≡ limbos v
