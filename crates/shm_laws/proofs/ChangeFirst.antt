@@ -1,5 +1,5 @@
 -- the exchange of a change's first half keeps the invariant
-use Rattle.std.proofs.Common.{◌≡◌, ◌≢◌, ℕ, ◌+◌, ◌%◌, ◌^◌, ◌<◌, ◌≤◌, refl, sym, ap, ◌∙◌, arith, true, false, Bool, cond, eqb, ltb, lt-ltb, eq-eqb, subst, inl, inr, ◌⊎◌, List, [], Option, Some, None}
+use Rattle.std.proofs.Common.{◌≡◌, ◌≢◌, ℕ, ◌+◌, ◌%◌, ◌^◌, ◌<◌, ◌≤◌, refl, sym, ap, ◌∙◌, arith, true, false, Bool, cond, eqb, ltb, lt-ltb, eq-eqb, subst, inl, inr, List, [], Option, Some, None}
 use Rattle.std.specs.List.{All, Contains, filter}
 use Rattle.std.proofs.lemmas.List.Elements.{All-weaker}
 use Rattle.std.proofs.lemmas.Bool.{cases_eq, true≢false, ne_eqb, and_parts, false_from_ne_true, cond-true}
@@ -34,7 +34,7 @@ use Rattle.shm_graph.proofs.Holders.{one_holder, one_latch, target_counted, held
 use Rattle.shm_graph.specs.declared.table.Part.{Part}
 use Rattle.shm_graph.specs.Tables.{contents_of, HasShape}
 use Rattle.shm_laws.proofs.Parts.{PartKept, part_kept}
-use Rattle.shm_laws.proofs.References.{IsNamed, two_names, slot_no_root, part_other, values_kept, made_kept, made_own, queued_kept}
+use Rattle.shm_laws.proofs.References.{two_names, slot_no_root, part_other, values_kept, made_kept, made_own, queued_kept}
 use Rattle.shm_laws.proofs.Exchange.{reach_target, era_exchange, facts_committed, named_kept, slot_kept, looks_through, known_kept, apart}
 use Rattle.shm_words.specs.declared.redo.Redo.TheVariants as redos
 

@@ -1,6 +1,6 @@
 -- the load of a reference word under its author's latch: what was read joins the looks
-use Rattle.std.proofs.Common.{◌≡◌, ◌≢◌, ℕ, ◌+◌, ◌<◌, refl, sym, ap, ◌∙◌, arith, true, false, eqb, ltb, lt-ltb, eq-eqb, subst, inl, inr, ◌⊎◌, List, [], ◌∷◌, ◌++◌, Option, Some, None}
-use Rattle.std.specs.List.{All, Contains}
+use Rattle.std.proofs.Common.{◌≡◌, ◌≢◌, ℕ, ◌<◌, refl, sym, ap, ◌∙◌, true, false, ltb, lt-ltb, subst, inl, inr, List, [], ◌∷◌, ◌++◌, Option, Some, None}
+use Rattle.std.specs.List.{All}
 use Rattle.std.proofs.lemmas.List.Elements.{All-cons, All-weaker, Contains-append_left}
 use Rattle.std.proofs.lemmas.Bool.{cases_eq, ne_eqb, cond-true}
 use Rattle.shm_words.specs.declared.header.Header.{Header}
@@ -13,10 +13,10 @@ use Rattle.shm_graph.specs.declared.memo.Look.{Look}
 use Rattle.shm_graph.specs.declared.memo.Test.{Test}
 use Rattle.shm_laws.proofs.Frames.{at1_all}
 use Rattle.shm_graph.specs.References.{words_of, refs_of}
-use Rattle.shm_graph.specs.Views.{View, targets, ons, limbos}
+use Rattle.shm_graph.specs.Views.{View, targets, ons}
 use Rattle.shm_graph.specs.Ops.{cover, cover_of, covered, slot_of, is_op}
 use Rattle.shm_words.specs.Tags.{tag_refs, tag_author}
-use Rattle.shm_graph.specs.Held.{HeldAt, reach_of, named_by, KnownAt, LookAt, LooksSound, TestAt, ValueAt, InLooks}
+use Rattle.shm_graph.specs.Held.{HeldAt, reach_of, named_by, KnownAt, LooksSound, TestAt, ValueAt, InLooks}
 use Rattle.shm_laws.proofs.Sum.{cover_idle, covered_none}
 use Rattle.shm_graph.proofs.Holders.{one_latch, reach_counted}
 use Rattle.shm_graph.specs.Tables.{contents_of}

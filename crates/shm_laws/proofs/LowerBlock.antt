@@ -31,9 +31,9 @@ use Rattle.shm_laws.proofs.Lanes.{apart_slots, lane_up, lane_taken, lane_same, o
 use Rattle.shm_laws.proofs.Keep.{live_block, live_word}
 use Rattle.shm_graph.proofs.Holders.{one_holder, one_latch, target_counted, held_live_not_zero}
 use Rattle.shm_graph.specs.declared.table.Part.{Part}
-use Rattle.shm_graph.specs.Tables.{Contents, contents_of, HasShape}
+use Rattle.shm_graph.specs.Tables.{contents_of, HasShape}
 use Rattle.shm_laws.proofs.Parts.{PartKept, part_kept}
-use Rattle.shm_laws.proofs.References.{IsNamed, two_names, slot_no_root, slot_no_home, part_other, values_kept, made_kept, made_own, queued_kept}
+use Rattle.shm_laws.proofs.References.{two_names, slot_no_root, part_other, values_kept, made_kept, made_own, queued_kept}
 use Rattle.shm_laws.proofs.Exchange.{reach_target, era_exchange, facts_committed, count_exchange, named_kept, slot_kept, looks_through, known_kept, apart}
 use Rattle.shm_words.specs.declared.redo.Redo.TheVariants as redos
 
