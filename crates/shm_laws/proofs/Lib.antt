@@ -7,6 +7,8 @@ pub mod Sum
 pub mod Exchange
 pub mod Parts
 pub mod References
+pub mod Headers
+pub mod Slots
 pub mod Rows
 pub mod PageClass
 pub mod Loads
