@@ -1,5 +1,5 @@
 -- the slot of c's step: nobody else stores it, and what another identity reads is another word
-use Rattle.std.proofs.Common.{◌≡◌, ◌≢◌, ℕ, ◌%◌, ◌<◌, refl, sym, ap, ◌∙◌, arith, true, false, ltb, lt-ltb, subst, inl, inr, ◌⊎◌, [], Some}
+use Rattle.std.proofs.Common.{◌≡◌, ◌≢◌, ℕ, ◌%◌, ◌<◌, refl, sym, ap, ◌∙◌, arith, false, ltb, lt-ltb, subst, inl, inr, [], Some}
 use Rattle.std.proofs.lemmas.Bool.{true≢false, false_from_ne_true, cond-true}
 use Rattle.shm_words.specs.declared.geometry.Geometry.{Geometry}
 use Rattle.shm_words.specs.Tags.{tag_author}
