@@ -1,6 +1,6 @@
 -- the exchange that raises a live block keeps the invariant, for any slot
 use Rattle.std.proofs.Math.Path.{fun_ext}
-use Rattle.std.proofs.Common.{◌≡◌, ◌≢◌, ℕ, ◌+◌, ◌%◌, ◌^◌, ◌<◌, ◌≤◌, refl, sym, ap, ◌∙◌, arith, true, false, Bool, cond, eqb, eq-eqb, subst, inl, inr, ◌⊎◌, ◌&&◌, List, [], Option, Some, None}
+use Rattle.std.proofs.Common.{◌≡◌, ◌≢◌, ℕ, ◌+◌, ◌%◌, ◌^◌, ◌<◌, ◌≤◌, refl, sym, ap, ◌∙◌, arith, true, false, Bool, cond, eqb, eq-eqb, subst, inl, inr, ◌⊎◌, ◌&&◌, List, []}
 use Rattle.std.specs.List.{All, Contains, filter}
 use Rattle.std.proofs.lemmas.List.Elements.{All-weaker}
 use Rattle.std.proofs.lemmas.Bool.{cases_Bool, cases_eq, true≢false, ne_eqb, eqb-true, and_parts, false_from_ne_true}
@@ -8,30 +8,29 @@ use Rattle.shm_words.specs.declared.geometry.Geometry.{Geometry}
 use Rattle.shm_words.specs.declared.header.Header.{Header}
 use Rattle.shm_words.specs.declared.redo.Redo.TheVariants as redos
 use Rattle.shm_words.specs.Headers.{header_of}
-use Rattle.shm_words.specs.Tags.{tag_author, tag_link}
+use Rattle.shm_words.specs.Tags.{tag_author}
 use Rattle.shm_graph.specs.declared.spot.Spot.{Spot}
-use Rattle.shm_graph.specs.declared.spot.Spot.TheVariants.{Spare, Redo, Home, Era, Root, Tail, Front, Slot, Segment, Page, Head, Tag, Body}
+use Rattle.shm_graph.specs.declared.spot.Spot.TheVariants.{Redo, Home, Era, Root, Tail, Front, Slot, Segment, Page, Head, Tag, Body}
 use Rattle.shm_graph.specs.declared.table.Part.{Part}
 use Rattle.shm_graph.specs.declared.memo.First.TheVariants.{Begun, Committed}
 use Rattle.shm_graph.specs.declared.memo.Op.{Op}
 use Rattle.shm_graph.specs.declared.memo.Op.TheVariants.{Up}
-use Rattle.shm_graph.specs.declared.memo.Making.{Making}
 use Rattle.shm_graph.specs.declared.memo.Stored.{Stored}
-use Rattle.shm_graph.specs.Spots.{upd, same_spot, IsAt, class_at, spot_address}
-use Rattle.shm_graph.specs.References.{one_if, refs_of, words_of}
-use Rattle.shm_graph.specs.Ops.{word_at, cover, cover_of, covered, slot_of, indegree, limbo_of, on_of, is_op}
+use Rattle.shm_graph.specs.Spots.{upd, same_spot, IsAt, spot_address}
+use Rattle.shm_graph.specs.References.{one_if, words_of}
+use Rattle.shm_graph.specs.Ops.{word_at, cover, cover_of, slot_of, indegree, limbo_of, on_of, is_op}
 use Rattle.shm_graph.specs.Views.{View, targets, ons, limbos}
 use Rattle.shm_graph.specs.Tables.{contents_of, HasShape}
-use Rattle.shm_graph.specs.Held.{HeldAt, CountSound, SlotOf, reach_of, named_by, TagSound, MakingTie, ZeroAt, TestAt, KnownAt, LooksSound, is_slot, is_slot_to, LaneSound, IsDying, OwnSound, OpTie, OpSound, Allowed, TailSound, room_of, IsUnusedLane, PartTie, ValueAt, MadeAt, is_loose}
+use Rattle.shm_graph.specs.Held.{HeldAt, CountSound, SlotOf, reach_of, named_by, TestAt, KnownAt, LooksSound, is_slot, is_slot_to, LaneSound, IsDying, OwnSound, OpTie, OpSound, Allowed, TailSound, room_of, IsUnusedLane, PartTie, ValueAt, MadeAt, is_loose}
 use Rattle.shm_graph.proofs.Spotting.{same_spot_is, block_is_at}
-use Rattle.shm_graph.proofs.Lists.{at1_here, at1_other}
+use Rattle.shm_graph.proofs.Lists.{at1_here}
 use Rattle.shm_laws.proofs.Frames.{at1_all}
 use Rattle.shm_laws.proofs.Owns.{mine_other, small_stored, there_stored}
-use Rattle.shm_laws.proofs.Sum.{refs_target, commit_target, covered_alone, HasTarget}
 use Rattle.shm_laws.proofs.Lanes.{lane_up, lane_same, other_lane, this_lane, no_self}
-use Rattle.shm_laws.proofs.Keep.{live_block, live_word}
+use Rattle.shm_laws.proofs.Keep.{live_block}
 use Rattle.shm_laws.proofs.Exchange.{era_exchange, facts_committed, count_exchange, named_kept, slot_kept, looks_kept, known_kept}
-use Rattle.shm_laws.proofs.Slots.{covers_slot, has_target, target_covered}
+use Rattle.shm_laws.proofs.Headers.{lives as headers_live, dying_stays, blocks_stay, making_stays, zero_stays, refs_stay}
+use Rattle.shm_laws.proofs.Slots.{slot_not_spare, slot_names, slot_committed}
 use Rattle.shm_laws.proofs.Parts.{PartKept, part_kept}
 use Rattle.shm_laws.proofs.References.{live_some, named_count, two_names, slot_no_root, part_other, values_kept, made_kept, made_own, queued_kept}
 use Rattle.shm_laws.specs.Steps.{UpStep, up_view, unsent_after, not_block}
@@ -53,12 +52,8 @@ up_kept g w v c b e to p part h a =
         listed = λ i x. dying_kept d i ((h.dying d l).listed i x);
         all = λ i x. at1_all (λ (j y : ℕ). IsDying (header_of y) d → Contains (v.dying d) j) word b to i (λ q. let z = new_count in let u = q.1 in absurd (omega arith)) (λ n. (h.dying d l).all i) x;
       };
-      making = λ d l. making d (v.making d) (h.making d l);
-      blocks = record {
-        plain = λ i. at1_all (λ (j x : ℕ). (header_of x).live ≡ false → x ≡ 0) word b to i (λ dead. absurd (true≢false (sym new_live ∙ dead))) (λ n. h.blocks.plain i);
-        tagged = λ i. at1_all (λ (j x : ℕ). (header_of x).live ≡ true → TagSound g.clients (class_at g class j) (w (Tag j))) word b to i (λ _. h.blocks.tagged b live) (λ n. h.blocks.tagged i);
-        link = λ i. at1_all (λ (j x : ℕ). (header_of x).live ≡ true → (header_of x).count ≢ 0 → tag_link (w (Tag j)) ≡ 0) word b to i (λ _ _. h.blocks.link b live counted) (λ n. h.blocks.link i);
-      };
+      making = λ d l. making_stays g w v h b to live counted new_live d (v.making d) (h.making d l);
+      blocks = blocks_stay g w v h b to live counted new_live;
       era = era_exchange g.clients word eras v.op c b to o a.inside (ap on_of a.op) refl (ap (λ (x : Header). x.client) a.new) (ap (λ (x : Header). x.era) a.new ∙ op_sound.current) (h.own c a.inside).some over h.era;
       own = λ d. at1_all (λ (i : ℕ) (x : Op). i < g.clients → OwnSound (w (Era i i)) x) v.op c o d (λ l. let q = h.own c l in record { some = q.some; room = subst (λ x. w (Era c c) + room_of x ≤ 2 ^ 47) a.op q.room }) (λ n. h.own d);
       op = λ d. at1_all (λ (i : ℕ) (x : Op). i < g.clients → OpTie g class (w (Redo i)) (w (Era i i)) (words_of w') x) v.op c o d
@@ -68,7 +63,7 @@ up_kept g w v c b e to p part h a =
       allowed = λ d. at1_all (λ (i : ℕ) (x : Op). i < g.clients → Allowed i x) v.op c o d (λ l. not_to) (λ n. h.allowed d);
       count = subst (λ (t : Spot → ℕ). CountSound g class (λ i. header_of (word' i)) t (limbos v')) (sym path)
           (subst (λ (l : ℕ → ℕ). CountSound g class (λ i. header_of (word' i)) t' l) (sym limbo)
-          (count_exchange g class word t (limbos v) p b to b op_sound.at not_spare live_not_zero new_live balance others (λ _. refl) h.count));
+          (count_exchange g class word t (limbos v) p b to b op_sound.at (slot_not_spare g w v h c p a.inside mine_at) live_not_zero new_live balance others (λ _. refl) h.count));
       slots = subst (λ (t : Spot → ℕ). (d : ℕ) → d < g.clients → is_op (v'.op d) ≡ true → SlotOf d (λ i. header_of (word' i)) tags (v.latch d) tail front (reach_of t tail front v.looks d) (slot_of (v'.op d))) (sym path)
           (λ d. at1_all (λ (i : ℕ) (x : Op). i < g.clients → is_op x ≡ true → SlotOf i (λ j. header_of (word' j)) tags (v.latch i) tail front (reach_of t' tail front v.looks i) (slot_of x)) v.op c o d
           (λ l _. slots c p mine_at)
@@ -79,7 +74,7 @@ up_kept g w v c b e to p part h a =
       known = subst (λ (t : Spot → ℕ). (d : ℕ) → d < g.clients → All (λ (s : Stored). KnownAt d tags bodies slot tail front (v.untaken d) (v.latch d) (reach_of t tail front v.looks d) (v.dying d) s.spot s.value) (v.known d)) (sym path)
           (λ d l. All-weaker _ _ (λ (s : Stored). known_kept d tags bodies slot tail front (v.untaken d) (v.latch d) (reach_of t tail front v.looks d) (reach_of t' tail front v.looks d) (v.dying d) (v.dying d) s.spot s.value (reach d) (λ _ x. x)) (v.known d) (h.known d l));
       facts = λ d l. All-weaker _ _ (facts_committed g.clients eras tail front class v.op c b o refl) (v.facts d) (h.facts d l);
-      zeros = λ d l. All-weaker _ _ (zero d) (v.zeros d) (h.zeros d l);
+      zeros = λ d l. All-weaker _ _ (zero_stays g w v h b to live counted new_live d) (v.zeros d) (h.zeros d l);
       test = λ d l. elim (cases_eq c d) [
         | inl x ↦ subst (λ i. TestAt g.clients eras (ons v' i) i (v'.test i)) x (rw (eq-eqb c c refl) tt)
         | inr n ↦ rw (ne_eqb c d n) (h.test d l)
@@ -175,9 +170,6 @@ up_kept g w v c b e to p part h a =
     op_sound : OpSound g class (w (Redo c)) (w (Era c c)) (word_at (words_of w) p) p (redos.Up (spot_address g p) b) e 0
     op_sound = let q : OpTie g class (w (Redo c)) (w (Era c c)) (words_of w) (Up Begun p b e) = subst (OpTie g class (w (Redo c)) (w (Era c c)) (words_of w)) a.op (h.op c a.inside) in q
 
-    not_spare : p ≢ Spare
-    not_spare z = let q : At c Spare = subst (At c) z mine_at in absurd q
-
     -- the block is a target, so it is live and counted
     live : (header_of (word b)).live ≡ true
     live = subst (λ i. (header_of (word i)).live ≡ true) a.named.1 (h.count.targets a.named.0 (λ z. a.some (sym a.named.1 ∙ z)))
@@ -192,57 +184,19 @@ up_kept g w v c b e to p part h a =
     over d l m cl er = let s : (header_of (word b)).era ≤ eras c (header_of (word b)).client = a.shows (λ z. m (z ∙ cl)) in subst (λ x. x ≤ eras c d) er (subst (λ i. (header_of (word b)).era ≤ eras c i) cl s)
 
     lives : (i : ℕ) → (header_of (word i)).live ≡ true → (header_of (word' i)).live ≡ true
-    lives i = at1_all (λ (j x : ℕ). (header_of (word j)).live ≡ true → (header_of x).live ≡ true) word b to i (λ _. new_live) (λ _ q. q)
+    lives = headers_live g w v h b to live counted new_live
 
     dying_kept : (d i : ℕ) → IsDying (header_of (word i)) d → IsDying (header_of (word' i)) d
-    dying_kept d i = at1_all (λ (j x : ℕ). IsDying (header_of (word j)) d → IsDying (header_of x) d) word b to i (λ q. absurd (counted q.1)) (λ _ q. q)
+    dying_kept = dying_stays g w v h b to live counted new_live
 
     live_not_zero : (i : ℕ) → (header_of (word i)).live ≡ true → i ≢ 0
     live_not_zero i l = live_some g w v h i l
 
-    not_free : (i : ℕ) → word i ≡ 0 → b ≢ i
-    not_free i z x = live_word (word b) live (ap word x ∙ z)
-
-    making : (d : ℕ) (x : Option Making) → MakingTie g class segment word tags bodies d x → MakingTie g class segment word' tags bodies d x
-    making d None y = tt
-    making d (Some x) y = record { free = at1_other word b to x.block (not_free x.block y.free) ∙ y.free; block = y.block; mine = y.mine; sized = y.sized; stored = y.stored }
-
-    zero : (d : ℕ) (q : Spot) → ZeroAt g class segment word d q → ZeroAt g class segment word' d q
-    zero d (Page i j) z = z
-    zero d (Head i) z = (at1_other word b to i (not_free i z.0) ∙ z.0, z.1, z.2)
-    zero d _ z = absurd z
-
-    covers : (d : ℕ) → d < g.clients → d ≢ c → (y : ℕ) → cover (cover_of (v.op d)) p y ≡ y
-    covers = covers_slot g w v h c a.inside p mine_at
-
-    has : HasTarget (words_of w).refs p
-    has = has_target g w v h c a.inside p mine_at
-
-    covered_zero : covered (λ d. cover_of (v.op d)) g.clients p (word_at (words_of w) p) ≡ 0
-    covered_zero = covered_alone g.clients c p (word_at (words_of w) p) (λ d. cover_of (v.op d)) a.inside covers ∙ (ap (λ z. cover (cover_of z) p (word_at (words_of w) p)) a.op ∙ op_sound.word)
-
     held_at : t p ≡ 0
-    held_at = target_covered g w v h c a.inside p has ∙ covered_zero
-
-    refs' : ℕ → ℕ
-    refs' = λ i. refs_of (header_of (upd w (Head b) to (Head i))).live (w (Tag i))
-
-    refs_all : (d : ℕ) → refs' d ≡ (words_of w).refs d
-    refs_all d = elim (cases_eq b d) [
-      | inl x ↦ subst (λ z. refs' z ≡ (words_of w).refs z) x (ap (λ z. refs_of (header_of z).live (w (Tag b))) (at1_here word b to) ∙ ap (λ z. refs_of z (w (Tag b))) (new_live ∙ sym live))
-      | inr n ↦ ap (λ z. refs_of (header_of z).live (w (Tag d))) (at1_other word b to d n)
-    ]
-
-    has' : (q : Spot) → HasTarget (words_of w).refs q → HasTarget refs' q
-    has' (Root i j) x = tt
-    has' (Home i) x = tt
-    has' (Slot s r k) x = tt
-    has' (Body j i) x = subst (λ z. i < z) (sym (refs_all j)) x
-    has' _ x = absurd x
+    held_at = slot_names g w v h c p a.inside mine_at ∙ (ap (λ z. cover (cover_of z) p (word_at (words_of w) p)) a.op ∙ op_sound.word)
 
     path : targets g w' v' ≡ t'
-    path = commit_target g.clients (words_of w') v.op c o p b a.inside (ap cover_of a.op) refl (has' p has) covers
-        ∙ ap (λ z. upd z p b) (refs_target g.clients (words_of w) refs' (λ d. cover_of (v.op d)) (λ d. inl (refs_all d)))
+    path = slot_committed g w v h c p a.inside mine_at b to b o (ap cover_of a.op) refl (refs_stay g w v h b to live counted new_live)
 
     limbo : limbos v' ≡ limbos v
     limbo = fun_ext (λ d. at1_all (λ (i : ℕ) (x : Op). limbo_of x ≡ limbo_of (v.op i)) v.op c o d (sym (ap limbo_of a.op)) (λ _. refl))

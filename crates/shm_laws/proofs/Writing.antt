@@ -18,7 +18,7 @@ use Rattle.shm_graph.proofs.Spotting.{same_spot_is, same_spot_self}
 use Rattle.shm_graph.proofs.Holders.{Holds, one_holder}
 use Rattle.shm_laws.proofs.Frames.{at1_all}
 use Rattle.shm_laws.proofs.Sum.{covered_alone, op_at}
-use Rattle.shm_laws.proofs.Slots.{covers_slot}
+use Rattle.shm_laws.proofs.Slots.{slot_alone}
 use Rattle.shm_laws.specs.Steps.{Writes}
 
 -- what a write leaves
@@ -132,7 +132,7 @@ module _ (g : Geometry) (w : Spot → ℕ) (v : View) (h : HeldAt g w v) (c x : 
   -- the slot's target is what the step gives it, whatever the word
   covered_here : (y : ℕ) → covered (λ d. cover_of (v.op d)) g.clients p y ≡ x
   covered_here y =
-      covered_alone g.clients c p y (λ d. cover_of (v.op d)) inside (covers_slot g w v h c inside p mine_at)
+      covered_alone g.clients c p y (λ d. cover_of (v.op d)) inside (slot_alone g w v h c p inside mine_at)
       ∙ (ap (λ k. cover k p y) (same.before ∙ ap (λ q. On q x) slot) ∙ cond-true (same_spot p p) x y (same_spot_self p))
 
   stored_target : (q : Spot) (z : Bool) → same_spot p q ≡ z → covered (λ d. cover_of (v.op d)) g.clients q (upd w p x q) ≡ covered (λ d. cover_of (v.op d)) g.clients q (w q)

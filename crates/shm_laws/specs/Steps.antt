@@ -272,8 +272,8 @@ abbrev pub unsent_back : ℕ → Spot → (ℕ → ℕ → ℕ) → ℕ → ℕ 
 unsent_back c (Slot i j k) u s r = if (i == c) && ((i == s) && (j == r)) then 0 else u s r
 unsent_back c _ u s r = u s r
 
-abbrev pub lower_view : View → ℕ → ℕ → ℕ → ℕ → Spot → List Look → List Stored → View
-lower_view v c b e n p looks kept =
+abbrev pub lower_view : View → ℕ → ℕ → ℕ → ℕ → Spot → List Look → List Stored → List ℕ → Part → View
+lower_view v c b e n p looks kept values part =
     record v {
       op = at1 v.op c (Down Committed p b e);
       dying = at1 v.dying c (dying_after n b (v.dying c));
@@ -281,10 +281,13 @@ lower_view v c b e n p looks kept =
       known = at1 v.known c kept;
       unsent = unsent_back c p v.unsent;
       untaken = untaken_after c p b v.untaken;
+      part = at1 v.part c part;
+      values = at1 v.values c values;
+      made = at1 v.made c (filter (not_block b) (v.made c));
       test = at1 v.test c None;
     }
 
-pub record LowerStep (g : Geometry) (w : Spot → ℕ) (v : View) (c b e n to : ℕ) (p : Spot) (looks : List Look) (kept : List Stored) : Type 0 where
+pub record LowerStep (g : Geometry) (w : Spot → ℕ) (v : View) (c b e n to : ℕ) (p : Spot) (looks : List Look) (kept : List Stored) (values : List ℕ) (part : Part) : Type 0 where
   pub inside : c < g.clients
   pub acts : v.status c ≢ status.New
   pub here : v.status c ≢ status.Gone
@@ -299,6 +302,10 @@ pub record LowerStep (g : Geometry) (w : Spot → ℕ) (v : View) (c b e n to : 
   pub slot : SlotOf c (λ i. header_of (w (Head i))) (λ i. w (Tag i)) (v.latch c) (λ s r. w (Tail s r)) (λ s r. w (Front s r)) (reach_of (upd (targets g w v) p 0) (λ s r. w (Tail s r)) (λ s r. w (Front s r)) (λ d. looks) c) p
   pub knows : All (λ (s : Stored). KnownAt c (λ i. w (Tag i)) (λ i j. w (Body i j)) (λ i j l. w (Slot i j l)) (λ i j. w (Tail i j)) (λ i j. w (Front i j)) (λ s. untaken_after c p b v.untaken c s) (v.latch c)
       (reach_of (upd (targets g w v) p 0) (λ i j. w (Tail i j)) (λ i j. w (Front i j)) (λ d. looks) c) (dying_after n b (v.dying c)) s.spot s.value) kept
+  -- so is what stays of the value blocks, and the part is the one that the new targets hold
+  pub valued : All (ValueAt (contents_of w (upd (targets g w v) p 0)) (reach_of (upd (targets g w v) p 0) (λ i j. w (Tail i j)) (λ i j. w (Front i j)) (λ d. looks) c)) values
+  pub parted : PartTie (contents_of w (upd (targets g w v) p 0)) c (upd (targets g w v) p 0 (Home c)) part
+  pub loose : is_loose part ≡ is_loose (v.part c)
 
 -- ---- the store of the own era, which closes an op or the first half of a change
 
@@ -326,17 +333,19 @@ close_view v c x o =
 
 -- ---- the exchange of a change's second half: the block before loses the reference that the limbo was
 
-abbrev pub second_view : View → ℕ → ℕ → ℕ → ℕ → ℕ → Spot → List Look → List Stored → View
-second_view v c x b e n p looks kept =
+abbrev pub second_view : View → ℕ → ℕ → ℕ → ℕ → ℕ → Spot → List Look → List Stored → List ℕ → View
+second_view v c x b e n p looks kept values =
     record v {
       op = at1 v.op c (Change (Lowering Closed) p x b e);
       dying = at1 v.dying c (dying_after n x (v.dying c));
       looks = at1 v.looks c looks;
       known = at1 v.known c kept;
+      values = at1 v.values c values;
+      made = at1 v.made c (filter (not_block x) (v.made c));
       test = at1 v.test c None;
     }
 
-pub record SecondStep (g : Geometry) (w : Spot → ℕ) (v : View) (c x b e n to : ℕ) (p : Spot) (looks : List Look) (kept : List Stored) : Type 0 where
+pub record SecondStep (g : Geometry) (w : Spot → ℕ) (v : View) (c x b e n to : ℕ) (p : Spot) (looks : List Look) (kept : List Stored) (values : List ℕ) : Type 0 where
   pub inside : c < g.clients
   pub acts : v.status c ≢ status.New
   pub here : v.status c ≢ status.Gone
@@ -349,31 +358,45 @@ pub record SecondStep (g : Geometry) (w : Spot → ℕ) (v : View) (c x b e n to
   pub slot : SlotOf c (λ i. header_of (w (Head i))) (λ i. w (Tag i)) (v.latch c) (λ s r. w (Tail s r)) (λ s r. w (Front s r)) (reach_of (targets g w v) (λ s r. w (Tail s r)) (λ s r. w (Front s r)) (λ d. looks) c) p
   pub knows : All (λ (s : Stored). KnownAt c (λ i. w (Tag i)) (λ i j. w (Body i j)) (λ i j l. w (Slot i j l)) (λ i j. w (Tail i j)) (λ i j. w (Front i j)) (v.untaken c) (v.latch c)
       (reach_of (targets g w v) (λ i j. w (Tail i j)) (λ i j. w (Front i j)) (λ d. looks) c) (dying_after n x (v.dying c)) s.spot s.value) kept
+  pub valued : All (ValueAt (contents_of w (targets g w v)) (reach_of (targets g w v) (λ i j. w (Tail i j)) (λ i j. w (Front i j)) (λ d. looks) c)) values
 
 -- ---- the exchange of a change's first half
 
-abbrev pub change_view : View → ℕ → ℕ → ℕ → ℕ → Spot → List Look → List Stored → View
-change_view v c x b e p looks kept =
+-- neither of these blocks
+abbrev pub not_blocks : ℕ → ℕ → ℕ → Bool
+not_blocks b x d = not_block b d && not_block x d
+
+abbrev pub change_view : View → ℕ → ℕ → ℕ → ℕ → Spot → List Look → List Stored → List ℕ → Part → View
+change_view v c x b e p looks kept values part =
     record v {
       op = at1 v.op c (Change (Raising Committed) p x b e);
       looks = at1 v.looks c looks;
       known = at1 v.known c kept;
+      part = at1 v.part c part;
+      values = at1 v.values c values;
+      made = at1 v.made c (filter (not_blocks b x) (v.made c));
       test = at1 v.test c None;
     }
 
-pub record ChangeStep (g : Geometry) (w : Spot → ℕ) (v : View) (c x b e to : ℕ) (p : Spot) (looks : List Look) (kept : List Stored) : Type 0 where
+pub record ChangeStep (g : Geometry) (w : Spot → ℕ) (v : View) (c x b e to : ℕ) (p : Spot) (looks : List Look) (kept : List Stored) (values : List ℕ) (part : Part) : Type 0 where
   pub inside : c < g.clients
   pub acts : v.status c ≢ status.New
   pub here : v.status c ≢ status.Gone
   pub op : v.op c ≡ Change (Raising Begun) p x b e
   pub small : to < 2 ^ 64
   pub named : (q : Spot) × (targets g w v q ≡ b)
+  -- where that word is a root, it is one of c
+  pub rooted : (d k : ℕ) → named.0 ≡ Root d k → d ≡ c
   pub new : header_of to ≡ record { live = true; client = c; count = (header_of (w (Head b))).count + 1; era = e }
   pub shows : RowShows (λ i j. w (Era i j)) (header_of (w (Head b))) c
   pub looked : LooksSound (λ a. upd (targets g w v) p b (Home a)) (λ d i. upd (targets g w v) p b (Body d i)) (λ b. tag_author (w (Tag b))) (v.latch c) (named_by (upd (targets g w v) p b) (λ s r. w (Tail s r)) (λ s r. w (Front s r)) c) [] looks
   pub slot : SlotOf c (λ i. header_of (w (Head i))) (λ i. w (Tag i)) (v.latch c) (λ s r. w (Tail s r)) (λ s r. w (Front s r)) (reach_of (upd (targets g w v) p b) (λ s r. w (Tail s r)) (λ s r. w (Front s r)) (λ d. looks) c) p
   pub knows : All (λ (s : Stored). KnownAt c (λ i. w (Tag i)) (λ i j. w (Body i j)) (λ i j l. w (Slot i j l)) (λ i j. w (Tail i j)) (λ i j. w (Front i j)) (v.untaken c) (v.latch c)
       (reach_of (upd (targets g w v) p b) (λ i j. w (Tail i j)) (λ i j. w (Front i j)) (λ d. looks) c) (v.dying c) s.spot s.value) kept
+  -- so is what stays of the value blocks, and the part is the one that the new targets hold
+  pub valued : All (ValueAt (contents_of w (upd (targets g w v) p b)) (reach_of (upd (targets g w v) p b) (λ i j. w (Tail i j)) (λ i j. w (Front i j)) (λ d. looks) c)) values
+  pub parted : PartTie (contents_of w (upd (targets g w v) p b)) c (upd (targets g w v) p b (Home c)) part
+  pub loose : is_loose part ≡ is_loose (v.part c)
 
 -- ---- loads that only read what grows: a header, and a row of another identity
 
