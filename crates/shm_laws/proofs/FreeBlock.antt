@@ -23,11 +23,12 @@ use Rattle.shm_words.specs.Tags.{tag_refs, tag_author, tag_link}
 use Rattle.shm_laws.specs.Steps.{FreeStep, free_view, not_block, not_of, is_of}
 use Rattle.shm_laws.proofs.Owns.{mine_other, small_stored, there_stored}
 use Rattle.shm_graph.proofs.Spotting.{block_is_at}
-use Rattle.shm_laws.proofs.Sum.{refs_target, covered_none, has_place, target_not_spare, indegree_has, limbo_has, cover_idle}
-use Rattle.shm_laws.proofs.Keep.{block_not_zero, live_block, All-kept, Contains-filter, filter_from}
+use Rattle.shm_graph.proofs.Holders.{held_live_not_zero, limbo_counted, reach_counted, target_counted}
+use Rattle.shm_laws.proofs.Sum.{refs_target, covered_none, cover_idle}
+use Rattle.shm_laws.proofs.Keep.{live_block, All-kept, Contains-filter, filter_from}
 use Rattle.shm_graph.specs.Tables.{contents_of, HasShape}
 use Rattle.shm_laws.proofs.References.{IsNamed, part_lives, values_kept, made_kept, queued_kept}
-use Rattle.shm_laws.proofs.Exchange.{slot_kept, known_kept, apart, reach_target}
+use Rattle.shm_laws.proofs.Exchange.{slot_kept, known_kept, apart}
 
 pub free_kept : (g : Geometry) (w : Spot → ℕ) (v : View) (c b tag : ℕ) → HeldAt g w v → FreeStep g v c b tag → HeldAt g (upd w (Head b) 0) (free_view v c b)
 free_kept g w v c b tag h a =
@@ -70,7 +71,7 @@ free_kept g w v c b tag h a =
       count = subst (λ (t : Spot → ℕ). CountSound g class (λ i. header_of (word' i)) t (limbos v)) (sym path) (record {
         counts = λ i. at1_all (λ (j x : ℕ). (header_of x).live ≡ true → (header_of x).count ≡ indegree g class t (limbos v) j) word b 0 i (λ q. absurd (dead q)) (λ n. h.count.counts i);
         targets = λ p n. lives (t p) (λ z. no_target p (sym z)) (h.count.targets p n);
-        limbos = λ d l n. lives (limbos v d) (λ z. let u = limbo_has g class t (limbos v) d b l (sym z) in let y = degree in absurd (omega arith)) (h.count.limbos d l n);
+        limbos = λ d l n. lives (limbos v d) (λ z. (limbo_counted g w v h d b l b_not_zero (sym z)).1 dying.1) (h.count.limbos d l n);
       });
       slots = subst (λ (t : Spot → ℕ). (d : ℕ) → d < g.clients → is_op (v.op d) ≡ true → SlotOf d (λ i. header_of (word' i)) tags (v.latch d) tail front (reach_of t tail front v.looks d) (slot_of (v.op d))) (sym path)
           (λ d l is. slot_kept d (λ i. header_of (word i)) (λ i. header_of (word' i)) tags (v.latch d) tail front (reach_of t tail front v.looks d) (reach_of t tail front v.looks d) (slot_of (v.op d))
@@ -151,19 +152,13 @@ free_kept g w v c b tag h a =
     dead q = true≢false (sym q ∙ header_of_zero)
 
     b_not_zero : b ≢ 0
-    b_not_zero = block_not_zero g class b (live_block g w h.there b dying.0)
-
-    degree : indegree g class t (limbos v) b ≡ 0
-    degree = sym (h.count.counts b dying.0) ∙ dying.1
+    b_not_zero = held_live_not_zero g w v h b dying.0
 
     no_target : (p : Spot) → t p ≡ b → ⊥
-    no_target p e =
-        let n : t p ≢ 0 = (λ z. b_not_zero (sym e ∙ z)) in
-        let u = indegree_has g class t (limbos v) p b (has_place g w v.op h.there h.op p n) (target_not_spare g.clients (words_of w) (λ d. cover_of (v.op d)) p n) e in
-        let y = degree in absurd (omega arith)
+    no_target p e = (target_counted g w v h p b b_not_zero e).1 dying.1
 
     no_reach : (d : ℕ) → d < g.clients → reach_of t tail front v.looks d b → ⊥
-    no_reach d l x = let q = reach_target t tail front (λ b. tag_author (w (Tag b))) (v.latch d) (v.looks d) d b (h.looks d l) x in no_target q.0 q.1
+    no_reach d l x = (reach_counted g w v h d b l x).1 dying.1
 
     other : (d : ℕ) → is_op (v.op d) ≡ true → c ≢ d
     other d is x = let z : is_op (v.op d) ≡ false = ap (λ i. is_op (v.op i)) (sym x) ∙ ap is_op a.op in true≢false (sym is ∙ z)

@@ -168,7 +168,7 @@ module _ (g : Geometry) (w : Spot → ℕ) (v : View) (h : HeldAt g w v) where
       )
 
   -- a made block isn't 0
-  made_some : (b : ℕ) → (header_of (w (Head b))).count ≡ 1 → b ≢ 0
+  pub made_some : (b : ℕ) → (header_of (w (Head b))).count ≡ 1 → b ≢ 0
   made_some b e z = let q = ap (λ x. (header_of x).count) (none b z) ∙ count_of_zero in omega arith
     where
       none : (b : ℕ) → b ≡ 0 → w (Head b) ≡ 0

@@ -1,7 +1,7 @@
 -- the store of a committed step into its slot: targets, limbos and what is committed stay
 use Rattle.std.proofs.Math.Path.{fun_ext}
-use Rattle.std.proofs.Common.{◌≡◌, ◌≢◌, ℕ, ◌+◌, ◌^◌, ◌<◌, ◌≤◌, refl, sym, ap, ◌∙◌, true, false, Bool, cond, ltb, subst, inl, inr}
-use Rattle.std.proofs.lemmas.Bool.{cases_Bool, false_from_ne_true, cond-true}
+use Rattle.std.proofs.Common.{◌≡◌, ◌≢◌, ℕ, ◌+◌, ◌^◌, ◌<◌, ◌≤◌, refl, sym, ap, ◌∙◌, true, false, Bool, cond, ltb, subst}
+use Rattle.std.proofs.lemmas.Bool.{false_from_ne_true, cond-true}
 use Rattle.shm_words.specs.declared.geometry.Geometry.{Geometry}
 use Rattle.shm_graph.specs.declared.spot.Spot.{Spot}
 use Rattle.shm_graph.specs.declared.spot.Spot.TheVariants.{Spare, Status, Redo, Hold, Latch, Home, Era, Root, Tail, Front, Slot, Segment, Page, Unused, Head, Tag, Body}
@@ -17,7 +17,8 @@ use Rattle.shm_graph.specs.Held.{HeldAt, OpTie, OwnSound, TailSound, Allowed, ro
 use Rattle.shm_graph.proofs.Spotting.{same_spot_is, same_spot_self}
 use Rattle.shm_graph.proofs.Holders.{Holds, one_holder}
 use Rattle.shm_graph.proofs.Frames.{at1_all}
-use Rattle.shm_laws.proofs.Sum.{covered_alone, cover_slot, cover_idle, op_at}
+use Rattle.shm_laws.proofs.Sum.{covered_alone, op_at}
+use Rattle.shm_laws.proofs.Slots.{slot_alone}
 use Rattle.shm_laws.specs.Steps.{Writes}
 
 -- what a write leaves
@@ -105,13 +106,6 @@ module _ (g : Geometry) (w : Spot → ℕ) (v : View) (h : HeldAt g w v) (c x : 
   off : (d : ℕ) → d < g.clients → c ≢ d → is_op (v.op d) ≡ true → same_spot p (slot_of (v.op d)) ≡ false
   off d l n y = false_from_ne_true _ (λ z. n (one_holder g w v h c d p inside l mine_at (subst (Holds w g v d) (sym (same_spot_is p (slot_of (v.op d)) z)) (h.slots d l y))))
 
-  apart : (d : ℕ) → d < g.clients → d ≢ c → (y : ℕ) → cover (cover_of (v.op d)) p y ≡ y
-  apart d l n y =
-      elim (cases_Bool (is_op (v.op d))) [
-        | inl k ↦ cover_slot (v.op d) p (false_from_ne_true _ (λ u. n (sym (one_holder g w v h c d p inside l mine_at (subst (Holds w g v d) (same_spot_is (slot_of (v.op d)) p u) (h.slots d l k)))))) y
-        | inr k ↦ cover_idle (v.op d) p k y
-      ]
-
   pub on_same : (λ d. on_of (at1 v.op c o d)) ≡ ons v
   on_same = fun_ext (λ d. at1_all (λ (j : ℕ) (k : Op). on_of k ≡ on_of (v.op j)) v.op c o d same.on (λ _. refl))
 
@@ -138,7 +132,7 @@ module _ (g : Geometry) (w : Spot → ℕ) (v : View) (h : HeldAt g w v) (c x : 
   -- the slot's target is what the step gives it, whatever the word
   covered_here : (y : ℕ) → covered (λ d. cover_of (v.op d)) g.clients p y ≡ x
   covered_here y =
-      covered_alone g.clients c p y (λ d. cover_of (v.op d)) inside (λ d l n. apart d l n)
+      covered_alone g.clients c p y (λ d. cover_of (v.op d)) inside (slot_alone g w v h c p inside mine_at)
       ∙ (ap (λ k. cover k p y) (same.before ∙ ap (λ q. On q x) slot) ∙ cond-true (same_spot p p) x y (same_spot_self p))
 
   stored_target : (q : Spot) (z : Bool) → same_spot p q ≡ z → covered (λ d. cover_of (v.op d)) g.clients q (upd w p x q) ≡ covered (λ d. cover_of (v.op d)) g.clients q (w q)

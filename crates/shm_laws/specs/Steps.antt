@@ -23,9 +23,9 @@ use Rattle.shm_graph.specs.Spots.{IsAt, same_spot, upd}
 use Rattle.shm_graph.specs.References.{words_of}
 use Rattle.shm_graph.specs.Ops.{cover_of, on_of, limbo_of, slot_of, is_op, Quiet}
 use Rattle.shm_graph.specs.Views.{View, own_word, targets, at1}
-use Rattle.shm_graph.specs.Held.{Allowed, OpTie, RedoTie, room_of, KnownAt, ValueAt, PartTie, is_loose, reach_of, named_by, SlotOf, LooksSound}
+use Rattle.shm_graph.specs.Held.{Allowed, OpTie, RedoTie, room_of, KnownAt, ValueAt, PartTie, is_loose, is_slot, reach_of, named_by, SlotOf, LooksSound}
 use Rattle.shm_graph.specs.declared.table.Part.{Part}
-use Rattle.shm_graph.specs.Tables.{contents_of}
+use Rattle.shm_graph.specs.Tables.{contents_of, HasShape}
 
 abbrev pub other_than : Spot → Spot → Bool
 other_than p q = not (same_spot p q)
@@ -73,6 +73,7 @@ alloc_view v c k b e m =
       making = at1 v.making c None;
       known = at1 v.known c (m.words ++ v.known c);
       zeros = at1 v.zeros c (filter (other_than (Head b)) (v.zeros c));
+      made = at1 v.made c (b ∷ v.made c);
       test = at1 v.test c None;
     }
 
@@ -233,7 +234,7 @@ abbrev pub unsent_after : Spot → ℕ → (ℕ → ℕ → ℕ) → ℕ → ℕ
 unsent_after (Slot i j k) b u s r = if (i == s) && (j == r) then b else u s r
 unsent_after _ b u s r = u s r
 
-pub record UpStep (g : Geometry) (w : Spot → ℕ) (v : View) (c b e to : ℕ) (p : Spot) : Type 0 where
+pub record UpStep (g : Geometry) (w : Spot → ℕ) (v : View) (c b e to : ℕ) (p : Spot) (part : Part) : Type 0 where
   pub inside : c < g.clients
   pub acts : v.status c ≢ status.New
   pub here : v.status c ≢ status.Gone
@@ -241,14 +242,22 @@ pub record UpStep (g : Geometry) (w : Spot → ℕ) (v : View) (c b e to : ℕ) 
   pub small : to < 2 ^ 64
   pub some : b ≢ 0
   pub named : (q : Spot) × (targets g w v q ≡ b)
+  -- where that word is a root, it is one of c
+  pub rooted : (d k : ℕ) → named.0 ≡ Root d k → d ≡ c
   pub new : header_of to ≡ record { live = true; client = c; count = (header_of (w (Head b))).count + 1; era = e }
   pub shows : RowShows (λ i j. w (Era i j)) (header_of (w (Head b))) c
+  -- in a pool for tables a block that is sent is a value block, and the part is the one that the new targets hold
+  pub queued : is_loose (v.part c) ≡ false → is_slot p ≡ true → HasShape (contents_of w (targets g w v)) 0 1 b
+  pub parted : PartTie (contents_of w (upd (targets g w v) p b)) c (upd (targets g w v) p b (Home c)) part
+  pub loose : is_loose part ≡ is_loose (v.part c)
 
-abbrev pub up_view : View → ℕ → ℕ → ℕ → Spot → View
-up_view v c b e p =
+abbrev pub up_view : View → ℕ → ℕ → ℕ → Spot → Part → View
+up_view v c b e p part =
     record v {
       op = at1 v.op c (Up Committed p b e);
       unsent = unsent_after p b v.unsent;
+      part = at1 v.part c part;
+      made = at1 v.made c (filter (not_block b) (v.made c));
       test = at1 v.test c None;
     }
 
