@@ -24,9 +24,8 @@ use Rattle.shm_graph.specs.References.{words_of}
 use Rattle.shm_graph.specs.Ops.{Cover, cover, cover_of, limbo_of, on_of, slot_of, up_slot, target, word_at, is_op}
 use Rattle.shm_graph.specs.Ops.Cover.{Quiet}
 use Rattle.shm_graph.specs.Views.{View, at1, targets, ons, limbos}
-use Rattle.shm_graph.specs.Held.{HeldAt, SlotOf, reach_of, named_by, OpTie, OwnSound, IdleSound, TailSound, Allowed, CountSound, EraSound, LooksSound, LaneSound, KnownAt, TestAt, Fresh, Gone, IsUnusedLane, PartTie, ValueAt, MadeAt, is_loose, odd, room_of}
+use Rattle.shm_graph.specs.Held.{HeldAt, FactAt, SlotOf, reach_of, named_by, OpTie, OwnSound, IdleSound, TailSound, Allowed, CountSound, EraSound, LooksSound, LaneSound, KnownAt, TestAt, Fresh, Gone, IsUnusedLane, PartTie, ValueAt, MadeAt, is_loose, odd, room_of}
 use Rattle.shm_graph.proofs.Frames.{at1_all}
-use Rattle.shm_graph.proofs.Calls.{FactsHold}
 use Rattle.shm_graph.proofs.Spotting.{same_spot_is, same_spot_self}
 use Rattle.shm_graph.proofs.Counting.{cover_slot, cover_idle, covered_none}
 use Rattle.shm_graph.proofs.Holders.{apart_slots}
@@ -120,3 +119,95 @@ tails_after g w v c r h lc lr u =
       | inl e ↦ absurd (some (next_empty g w v c r h lc lr u (same_spot_is _ _ e)))
       | inr n ↦ old.1 some (λ e. false≢true (sym n ∙ (ap (λ q. same_spot q (next_slot w c r)) e ∙ same_spot_self (next_slot w c r))))
     ])
+
+-- ---- the step ends
+
+op_same : {T : Type 0} (f : Op → T) (op : ℕ → Op) (c : ℕ) → f (op c) ≡ f Nothing → ◌≡◌ {A = ℕ → T} (λ d. f (op d)) (λ d. f (at1 op c Nothing d))
+op_same {T} f op c e = fun_ext (λ d. at1_all (λ (i : ℕ) (x : Op). f (op i) ≡ f x) op c Nothing d e (λ n. refl))
+
+pub op_ended : (g : Geometry) (w : Spot → ℕ) (v : View) (c : ℕ) → HeldAt g w v → c < g.clients → IsUncommitted (v.op c) → HeldAt g w (record v { op = at1 v.op c Nothing })
+op_ended g w v c h l u =
+    record {
+      fits = h.fits;
+      small = h.small;
+      there = h.there;
+      spare = h.spare;
+      unused = h.unused;
+      sizes = h.sizes;
+      mine = h.mine;
+      state = h.state;
+      latch = h.latch;
+      segments = h.segments;
+      dying = h.dying;
+      making = h.making;
+      blocks = h.blocks;
+      era = subst (λ (on : ℕ → Option ℕ). EraSound g.clients (λ b. header_of (w (Head b))) (λ i j. w (Era i j)) on) same_ons h.era;
+      own = λ d. at1_all (λ (i : ℕ) (x : Op). i < g.clients → OwnSound (w (Era i i)) x) v.op c Nothing d (λ m. room_after (w (Era c c)) (v.op c) (h.own c m)) (λ n. h.own d);
+      op = λ d. at1_all (λ (i : ℕ) (x : Op). i < g.clients → OpTie g (λ s q. w (Page s q)) (w (Redo i)) (w (Era i i)) (words_of w) x) v.op c Nothing d
+          (λ m. idle_after g (λ s q. w (Page s q)) (w (Redo c)) (w (Era c c)) w (v.op c) u (h.op c m)) (λ n. h.op d);
+      redo = h.redo;
+      allowed = λ d. at1_all (λ (i : ℕ) (x : Op). i < g.clients → Allowed i x) v.op c Nothing d (λ m. tt) (λ n. h.allowed d);
+      count = subst (λ (t : Spot → ℕ). CountSound g (λ s q. w (Page s q)) (λ b. header_of (w (Head b))) t (limbos v')) same_targets
+          (subst (λ (k : ℕ → ℕ). CountSound g (λ s q. w (Page s q)) (λ b. header_of (w (Head b))) (targets g w v) k) same_limbos h.count);
+      slots = λ d. subst (λ (t : Spot → ℕ). d < g.clients → is_op (v'.op d) ≡ true → Holds t d (slot_of (v'.op d))) same_targets
+          (at1_all (λ (i : ℕ) (x : Op). i < g.clients → is_op x ≡ true → Holds (targets g w v) i (slot_of x)) v.op c Nothing d (λ m z. absurd (false≢true z)) (λ n. h.slots d));
+      looks = subst (λ (t : Spot → ℕ). (d : ℕ) → d < g.clients → LooksSound (λ a. t (Home a)) (λ b i. t (Body b i)) (λ b. tag_author (w (Tag b))) (v.latch d) (named_by t tail front d) [] (v.looks d)) same_targets h.looks;
+      lanes = subst (λ (t : Spot → ℕ). (s r : ℕ) → s < g.clients → r < g.clients → s ≢ r → LaneSound (λ k. t (Slot s r k)) (tail s r) (front s r) (v.sent s r) (v.unsent s r) (v.received r s) (v.untaken r s)) same_targets h.lanes;
+      known = subst (λ (t : Spot → ℕ). (d : ℕ) → d < g.clients → All (λ (k : Stored). KnownAt d (λ b. w (Tag b)) (λ b i. w (Body b i)) (λ s r k. w (Slot s r k)) tail front (v.untaken d) (v.latch d) (reach_of t tail front v.looks d) (v.dying d) k.spot k.value) (v.known d)) same_targets h.known;
+      facts = subst (λ (on : ℕ → Option ℕ). (d : ℕ) → d < g.clients → All (FactAt g.clients (λ i j. w (Era i j)) on tail front (λ s q. w (Page s q))) (v.facts d)) same_ons h.facts;
+      zeros = h.zeros;
+      test = subst (λ (on : ℕ → Option ℕ). (d : ℕ) → d < g.clients → TestAt g.clients (λ i j. w (Era i j)) (on d) d (v.test d)) same_ons h.test;
+      fresh = λ d m e. let f = h.fresh d m e in record {
+        words = f.words;
+        idle = nothing d f.idle;
+        latched = f.latched;
+        looked = f.looked;
+        made = f.made;
+        segments = f.segments;
+        dyings = f.dyings;
+        sends = f.sends;
+        takes = f.takes;
+      };
+      gone = λ d m e. let f = h.gone d m e in record {
+        roots = f.roots;
+        hold = f.hold;
+        idle = nothing d f.idle;
+        latched = f.latched;
+        segments = f.segments;
+        dyings = f.dyings;
+        sends = f.sends;
+        takes = f.takes;
+      };
+      self_lanes = subst (λ (t : Spot → ℕ). (d : ℕ) → d < g.clients → IsUnusedLane (tail d d) (front d d) (λ k. t (Slot d d k))) same_targets h.self_lanes;
+      tails = λ d r m k. at1_all (λ (i : ℕ) (x : Op). i < g.clients → TailSound i r (w (Era i i)) (tail i r) (v.unsent i r) x) v.op c Nothing d
+          (λ n. tails_after g w v c r h n k u) (λ n i. h.tails d r i k) m;
+      parts = h.parts;
+      part = subst (λ (t : Spot → ℕ). (d : ℕ) → d < g.clients → PartTie (contents_of w t) d (t (Home d)) (v.part d)) same_targets h.part;
+      queued = subst (λ (t : Spot → ℕ). (d : ℕ) → d < g.clients → is_loose (v.part d) ≡ false → (s r k : ℕ) → t (Slot s r k) ≢ 0 → HasShape (contents_of w t) 0 1 (t (Slot s r k))) same_targets h.queued;
+      values = subst (λ (t : Spot → ℕ). (d : ℕ) → d < g.clients → All (ValueAt (contents_of w t) (reach_of t tail front v.looks d)) (v.values d)) same_targets h.values;
+      made = subst (λ (t : Spot → ℕ). (d : ℕ) → d < g.clients → All (MadeAt (λ b. header_of (w (Head b))) (λ k. t (Root d k))) (v.made d)) same_targets h.made;
+    }
+  where
+    tail : ℕ → ℕ → ℕ
+    tail = λ s r. w (Tail s r)
+
+    front : ℕ → ℕ → ℕ
+    front = λ s r. w (Front s r)
+
+    v' : View
+    v' = record v { op = at1 v.op c Nothing }
+
+    Holds : (Spot → ℕ) → ℕ → Spot → Type 0
+    Holds t d = SlotOf d (λ b. header_of (w (Head b))) (λ b. w (Tag b)) (v.latch d) tail front (reach_of t tail front v.looks d)
+
+    same_targets : targets g w v ≡ targets g w v'
+    same_targets = ap (target g.clients (words_of w)) (op_same cover_of v.op c (uncommitted_quiet (v.op c) u).0)
+
+    same_limbos : limbos v ≡ limbos v'
+    same_limbos = op_same limbo_of v.op c (uncommitted_quiet (v.op c) u).1
+
+    same_ons : ons v ≡ ons v'
+    same_ons = op_same on_of v.op c (uncommitted_quiet (v.op c) u).2
+
+    nothing : (d : ℕ) → v.op d ≡ Nothing → v'.op d ≡ Nothing
+    nothing d e = at1_all (λ (i : ℕ) (x : Op). v.op i ≡ Nothing → x ≡ Nothing) v.op c Nothing d (λ _. refl) (λ n z. z) e
