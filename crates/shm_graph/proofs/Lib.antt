@@ -33,3 +33,4 @@ pub mod HomeTarget
 pub mod Looking
 pub mod Going
 pub mod OpEnd
+pub mod LoadKeeping

@@ -37,9 +37,9 @@ row_test n era on c k None h = tt
 row_test n era on c k (Some t) h =
     choice (TestAt n era on c) (eqb (next_row c t.next) k && ltb (era k c) (era c c)) (Some (record { block = t.block; next = k + 1 })) None
     (λ b e. let q = and_parts _ _ b in let x = h e in
-      let m = next_row_most c t.next x.0 k (eqb-true _ _ q.0) x.1 x.3 in
-      let d : x.0 ≢ k = (λ z. let u : era x.0 c ≡ era k c = ap (λ i. era i c) z in let v = ltb-true _ _ q.1 in let y = x.4 in omega arith) in
-      (x.0, omega arith, x.2, x.3, x.4))
+    let m = next_row_most c t.next x.0 k (eqb-true _ _ q.0) x.1 x.3 in
+    let d : x.0 ≢ k = (λ z. let u : era x.0 c ≡ era k c = ap (λ i. era i c) z in let v = ltb-true _ _ q.1 in let y = x.4 in omega arith) in
+    (x.0, omega arith, x.2, x.3, x.4))
     (λ b. tt)
 
 test_before_holds : (g : Geometry) (w : Spot → ℕ) (r : ℕ → Memo) (c : ℕ) (t : Step) → HeldAt g w (view r) → c < g.clients → TestHolds g w (view r) c (test_before (r c) t)
@@ -56,7 +56,7 @@ row_held g w r c t k h l =
     fact_held g w r c t (Counter (Era k c) (w (Era k c))) (cond (recovers m && not (eqb k c)) (test_on c (own_word m.own (Era c c)) (test_before (r c) t) k (w (Era k c))) None) h l (omega arith)
     (choice (TestHolds g w (view r) c) (recovers m && not (eqb k c)) (test_on c (own_word m.own (Era c c)) (test_before (r c) t) k (w (Era k c))) None
     (λ b. subst (λ e. TestHolds g w (view r) c (test_on c e (test_before (r c) t) k (w (Era k c)))) (sym (own_era g w r c t h l))
-        (row_test g.clients (λ i j. w (Era i j)) (ons (view r) c) c k (test_before (r c) t) (test_before_holds g w r c t h l)))
+    (row_test g.clients (λ i j. w (Era i j)) (ons (view r) c) c k (test_before (r c) t) (test_before_holds g w r c t h l)))
     (λ b. tt))
 
 -- ---- pages

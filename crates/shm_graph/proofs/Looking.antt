@@ -60,9 +60,11 @@ module _ (home : ℕ → ℕ) (body : ℕ → ℕ → ℕ) (author : ℕ → ℕ
   pub looks_push : (ks : List Look) (earlier : List Look) (k : Look) → LooksSound home body author latch named earlier ks
       → LookAt home body author latch (λ b. named b ⊎ (InLooks earlier b ⊎ InLooks ks b)) k.from k.block → LooksSound home body author latch named earlier (ks ++ k ∷ [])
   looks_push [] earlier k h new = (look_more home body author latch (λ b. named b ⊎ (InLooks earlier b ⊎ InLooks [] b)) (λ b. named b ⊎ InLooks earlier b) (λ b x. elim x [ inl y ↦ inl y | inr y ↦ inr (elim y [ inl z ↦ z | inr z ↦ absurd (not_empty b z) ]) ]) k.from k.block new, tt)
-  looks_push (j ∷ ks) earlier k h new =
-      (h.0, looks_push ks (j ∷ earlier) k h.1 (look_more home body author latch (λ b. named b ⊎ (InLooks earlier b ⊎ InLooks (j ∷ ks) b)) (λ b. named b ⊎ (InLooks (j ∷ earlier) b ⊎ InLooks ks b))
-          (λ b x. elim x [ inl y ↦ inl y | inr y ↦ inr (in_first earlier ks j b y) ]) k.from k.block new))
+  looks_push (j ∷ ks) earlier k h new = (
+    h.0,
+    looks_push ks (j ∷ earlier) k h.1 (look_more home body author latch (λ b. named b ⊎ (InLooks earlier b ⊎ InLooks (j ∷ ks) b)) (λ b. named b ⊎ (InLooks (j ∷ earlier) b ⊎ InLooks ks b))
+        (λ b x. elim x [ inl y ↦ inl y | inr y ↦ inr (in_first earlier ks j b y) ]) k.from k.block new),
+  )
 
 -- a block in a home, under the latch of its author
 pub home_held : (g : Geometry) (w : Spot → ℕ) (v : View) (c a : ℕ) → HeldAt g w v → c < g.clients → v.latch c ≡ Some a → w (Home a) ≢ 0
@@ -92,7 +94,7 @@ home_held g w v c a h l latched some =
       looks = λ d. at1_all (λ (i : ℕ) (x : List Look). i < g.clients → LooksSound (λ b. targets g w v (Home b)) (λ b i. targets g w v (Body b i)) (λ b. tag_author (w (Tag b))) (v.latch i) (named_by (targets g w v) (λ s r. w (Tail s r)) (λ s r. w (Front s r)) i) [] x)
           v.looks c (v.looks c ++ k ∷ []) d
           (λ m. looks_push (λ b. targets g w v (Home b)) (λ b i. targets g w v (Body b i)) (λ b. tag_author (w (Tag b))) (v.latch c) (named_by (targets g w v) (λ s r. w (Tail s r)) (λ s r. w (Front s r)) c) (v.looks c) [] k (h.looks c m)
-              (some, latched, home_target g w v a h some))
+          (some, latched, home_target g w v a h some))
           (λ n. h.looks d);
       lanes = h.lanes;
       known = λ d m. All-weaker (λ (s : Stored). KnownAt d (λ b. w (Tag b)) (λ b i. w (Body b i)) (λ s r k. w (Slot s r k)) (λ s r. w (Tail s r)) (λ s r. w (Front s r)) (v.untaken d) (v.latch d) (near d) (v.dying d) s.spot s.value)

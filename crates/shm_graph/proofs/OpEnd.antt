@@ -105,20 +105,22 @@ next_empty g w v c r h lc lr u e =
       | inr z ↦ absurd (mine.0 (sym z.0))
       | inl z ↦
           (let t : targets g w v (next_slot w c r) ≡ w (next_slot w c r) = covered_none g.clients (next_slot w c r) (w (next_slot w c r)) (λ d. cover_of (v.op d))
-            (λ d l y. elim (cases_eq c d) [
-              | inl q ↦ subst (λ i. cover (cover_of (v.op i)) (next_slot w c r) y ≡ y) q (ap (λ x. cover x (next_slot w c r) y) (uncommitted_quiet (v.op c) u).0)
-              | inr q ↦ next_covered g w v c r h mine.0 z.2 d l q y
-            ]) in
+          (λ d l y. elim (cases_eq c d) [
+            | inl q ↦ subst (λ i. cover (cover_of (v.op i)) (next_slot w c r) y ≡ y) q (ap (λ x. cover x (next_slot w c r) y) (uncommitted_quiet (v.op c) u).0)
+            | inr q ↦ next_covered g w v c r h mine.0 z.2 d l q y
+          ]) in
           sym ((h.lanes c r lc lr mine.0).next z.2) ∙ (t ∙ op.2))
     ]
 
 tails_after : (g : Geometry) (w : Spot → ℕ) (v : View) (c r : ℕ) → HeldAt g w v → c < g.clients → r < g.clients → IsUncommitted (v.op c) → TailSound c r (w (Era c c)) (w (Tail c r)) (v.unsent c r) Nothing
 tails_after g w v c r h lc lr u =
-    let old = h.tails c r lc lr in
-    (old.0, λ some _. elim (cases_Bool (same_spot (up_slot (v.op c)) (next_slot w c r))) [
-      | inl e ↦ absurd (some (next_empty g w v c r h lc lr u (same_spot_is _ _ e)))
-      | inr n ↦ old.1 some (λ e. false≢true (sym n ∙ (ap (λ q. same_spot q (next_slot w c r)) e ∙ same_spot_self (next_slot w c r))))
-    ])
+    let old = h.tails c r lc lr in (
+      old.0,
+      λ some _. elim (cases_Bool (same_spot (up_slot (v.op c)) (next_slot w c r))) [
+        | inl e ↦ absurd (some (next_empty g w v c r h lc lr u (same_spot_is _ _ e)))
+        | inr n ↦ old.1 some (λ e. false≢true (sym n ∙ (ap (λ q. same_spot q (next_slot w c r)) e ∙ same_spot_self (next_slot w c r))))
+      ],
+    )
 
 -- ---- the step ends
 
