@@ -1,11 +1,9 @@
 -- a word step joins the call: what of the memo stays, and that the pool still holds
-use Rattle.std.proofs.Common.{◌≡◌, ℕ, ◌<◌, refl, sym, ap, ◌∙◌, subst, Bool, true, false, List, [], ◌∷◌, Option}
+use Rattle.std.proofs.Common.{◌≡◌, ℕ, ◌<◌, sym, ap, ◌∙◌, subst, Bool, true, false, List, [], ◌∷◌, Option}
 use Rattle.std.specs.Prelude.{None}
 use Rattle.std.proofs.lemmas.List.Elements.{All-nil, All-cons}
 use Rattle.shm_words.specs.declared.geometry.Geometry.{Geometry}
-use Rattle.shm_words.specs.Headers.{header_of}
 use Rattle.shm_graph.specs.declared.spot.Spot.{Spot}
-use Rattle.shm_graph.specs.declared.spot.Spot.TheVariants.{Era, Root, Tail, Front, Segment, Page, Head}
 use Rattle.shm_graph.specs.declared.memo.Fact.{Fact}
 use Rattle.shm_graph.specs.declared.memo.Test.{Test}
 use Rattle.shm_graph.specs.declared.memo.Memo.{Memo}
@@ -13,8 +11,8 @@ use Rattle.shm_graph.specs.declared.memo.Step.{Step}
 use Rattle.shm_graph.specs.declared.memo.Seen.{Seen}
 use Rattle.shm_graph.specs.declared.memo.Agent.{Agent}
 use Rattle.shm_graph.specs.Asks.{call_after}
-use Rattle.shm_graph.specs.Views.{View, view, at1, targets, ons}
-use Rattle.shm_graph.specs.Held.{HeldAt, FactAt, ZeroAt, MadeAt}
+use Rattle.shm_graph.specs.Views.{View, view, at1}
+use Rattle.shm_graph.specs.Held.{HeldAt}
 use Rattle.shm_graph.specs.Changes.{called, with_last, stepped}
 use Rattle.shm_graph.proofs.MemoParts.{call_set, view_here}
 use Rattle.shm_graph.proofs.Calls.{FactHolds, FactsHold, ZeroHolds, ZerosHold, TestHolds, MadeHold, call_held}

@@ -1,5 +1,5 @@
 -- what of a call binds changes, and no word
-use Rattle.std.proofs.Common.{◌≡◌, ℕ, ◌<◌, List, Option}
+use Rattle.std.proofs.Common.{ℕ, ◌<◌, List, Option}
 use Rattle.std.specs.List.{All}
 use Rattle.shm_words.specs.declared.geometry.Geometry.{Geometry}
 use Rattle.shm_words.specs.Headers.{header_of}

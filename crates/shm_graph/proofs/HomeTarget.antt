@@ -1,5 +1,5 @@
 -- what a home names that isn't 0 is its word
-use Rattle.std.proofs.Common.{◌≡◌, ◌≢◌, ℕ, zero, suc, ◌<◌, refl, sym, ap, ◌∙◌, subst, arith, true, false, Bool, inl, inr}
+use Rattle.std.proofs.Common.{◌≡◌, ◌≢◌, ℕ, zero, suc, ◌<◌, refl, sym, ap, ◌∙◌, subst, arith, inl, inr}
 use Rattle.std.proofs.lemmas.Bool.{cases_Bool, cond-true, cond-false, true≢false, false≢true}
 use Rattle.shm_words.specs.declared.geometry.Geometry.{Geometry}
 use Rattle.shm_graph.specs.declared.spot.Spot.{Spot}
@@ -12,7 +12,7 @@ use Rattle.shm_graph.specs.declared.memo.Op.TheVariants.{Nothing, Alloc, Up, Dow
 use Rattle.shm_graph.specs.Spots.{same_spot}
 use Rattle.shm_graph.specs.References.{words_of}
 use Rattle.shm_graph.specs.Ops.{Cover, cover, cover_of, cover_from, covered, word_at}
-use Rattle.shm_graph.specs.Ops.Cover.{Quiet, On}
+use Rattle.shm_graph.specs.Ops.Cover.{On}
 use Rattle.shm_graph.specs.Views.{View, targets}
 use Rattle.shm_graph.specs.Held.{HeldAt, OpTie, Allowed, is_root, is_home}
 use Rattle.shm_graph.proofs.Spotting.{same_spot_is}

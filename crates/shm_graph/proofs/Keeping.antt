@@ -1,27 +1,24 @@
 -- the laws of the kinds of word step at spots of no body, as machines use them
-use Rattle.std.proofs.Common.{◌≡◌, ◌≢◌, ℕ, ◌<◌, refl, sym, ap, ◌∙◌, true, false, subst}
+use Rattle.std.proofs.Common.{◌≡◌, ℕ, refl, sym, false, subst}
 use Rattle.std.specs.Prelude.{slice_index}
 use Rattle.shm_words.specs.declared.geometry.Geometry.{Geometry}
 use Rattle.shm_graph.specs.declared.ask.Ask.{Ask}
-use Rattle.shm_graph.specs.declared.ask.Ask.TheVariants.{Load, Store, Exchange}
+use Rattle.shm_graph.specs.declared.ask.Ask.TheVariants.{Store}
 use Rattle.shm_graph.specs.declared.ask.Me.{Me}
 use Rattle.shm_graph.specs.declared.spot.Spot.{Spot}
 use Rattle.shm_graph.specs.declared.spot.Spot.TheVariants.{Status}
 use Rattle.shm_graph.specs.declared.memo.Memo.{Memo}
-use Rattle.shm_graph.specs.declared.memo.Step.{Step}
-use Rattle.shm_graph.specs.declared.memo.Status.{Status as AStatus}
 use Rattle.shm_graph.specs.declared.memo.Status.TheVariants as status
-use Rattle.shm_graph.specs.Spots.{spot_of, spot_at, upd}
+use Rattle.shm_graph.specs.Spots.{spot_at, upd}
 use Rattle.shm_graph.specs.Blocks.{classes}
-use Rattle.shm_graph.specs.Views.{View, view, at1}
-use Rattle.shm_graph.specs.Held.{HeldAt, Gone, status_word}
+use Rattle.shm_graph.specs.Views.{view, at1}
+use Rattle.shm_graph.specs.Held.{HeldAt, Gone}
 use Rattle.shm_graph.specs.Asks.{Trail, at_of, seen_of, words_after}
-use Rattle.shm_graph.specs.Changes.{memo_on, spot_told, called, with_last, ended}
+use Rattle.shm_graph.specs.Changes.{memo_on, spot_told, called}
 use Rattle.shm_graph.specs.Ops.{cover_of, limbo_of}
 use Rattle.shm_graph.specs.Events.{graph_of, IsSame}
 use Rattle.shm_graph.specs.Controls.{IsAllowed}
 use Rattle.shm_graph.specs.Laws.{Frame, framed, Stands, KeptAt}
-use Rattle.shm_graph.proofs.Frames.{at1_here}
 use Rattle.shm_graph.proofs.MemoParts.{status_set}
 use Rattle.shm_graph.proofs.Calling.{called_held, called_part}
 use Rattle.shm_graph.proofs.StatusStore.{status_held}

@@ -1,8 +1,7 @@
 -- a block joins the looks
-use Rattle.std.proofs.Common.{◌≡◌, ◌≢◌, ℕ, ◌<◌, refl, sym, ap, ◌∙◌, subst, arith, List, [], ◌∷◌, ◌++◌, ◌⊎◌, inl, inr, Option}
+use Rattle.std.proofs.Common.{◌≡◌, ◌≢◌, ℕ, ◌<◌, sym, ◌∙◌, subst, arith, List, [], ◌∷◌, ◌++◌, ◌⊎◌, inl, inr, Option}
 use Rattle.std.specs.Prelude.{None, Some}
-use Rattle.std.specs.List.{All, Contains}
-use Rattle.std.proofs.lemmas.List.Elements.{All-weaker, Contains-push, Contains-append_left, Contains-append_right, Contains-append_cases}
+use Rattle.std.proofs.lemmas.List.Elements.{All-weaker, Contains-append_left, Contains-append_right, Contains-append_cases}
 use Rattle.shm_words.specs.declared.geometry.Geometry.{Geometry}
 use Rattle.shm_words.specs.declared.header.Header.{Header}
 use Rattle.shm_words.specs.Headers.{header_of}
@@ -11,11 +10,10 @@ use Rattle.shm_graph.specs.declared.spot.Spot.{Spot}
 use Rattle.shm_graph.specs.declared.spot.Spot.TheVariants.{Home, Root, Tail, Front, Slot, Tag, Body, Head}
 use Rattle.shm_graph.specs.declared.memo.Look.{Look}
 use Rattle.shm_graph.specs.declared.memo.Stored.{Stored}
-use Rattle.shm_graph.specs.declared.memo.Status.TheVariants as status
 use Rattle.shm_graph.specs.Tables.{contents_of}
-use Rattle.shm_graph.specs.Ops.{is_op, slot_of}
+use Rattle.shm_graph.specs.Ops.{slot_of}
 use Rattle.shm_graph.specs.Views.{View, at1, targets}
-use Rattle.shm_graph.specs.Held.{HeldAt, LooksSound, LookAt, InLooks, SlotOf, KnownAt, ValueAt, Fresh, named_by, reach_of}
+use Rattle.shm_graph.specs.Held.{HeldAt, LooksSound, LookAt, InLooks, SlotOf, KnownAt, ValueAt, named_by, reach_of}
 use Rattle.shm_graph.proofs.Frames.{at1_all, at1_other}
 use Rattle.shm_graph.proofs.HomeTarget.{home_target}
 

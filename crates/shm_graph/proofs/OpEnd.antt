@@ -1,30 +1,26 @@
 -- a step that was not committed ends, with no word
-use Rattle.std.proofs.Common.{◌≡◌, ◌≢◌, ℕ, ◌+◌, ◌%◌, ◌<◌, ◌≤◌, refl, sym, ap, ◌∙◌, subst, arith, true, false, inl, inr, List, Option, [], eqb}
-use Rattle.std.specs.Prelude.{Some, None}
+use Rattle.std.proofs.Common.{◌≡◌, ◌≢◌, ℕ, ◌+◌, ◌%◌, ◌<◌, refl, sym, ap, ◌∙◌, subst, arith, true, false, inl, inr, Option, []}
+use Rattle.std.specs.Prelude.{None}
 use Rattle.std.specs.List.{All}
 use Rattle.std.proofs.Math.Path.{fun_ext}
 use Rattle.std.proofs.lemmas.Bool.{cases_eq, cases_Bool, false≢true}
 use Rattle.shm_words.specs.declared.geometry.Geometry.{Geometry}
-use Rattle.shm_words.specs.declared.redo.Redo.TheVariants as redos
-use Rattle.shm_words.specs.Redos.{redo_of}
 use Rattle.shm_words.specs.Headers.{header_of}
 use Rattle.shm_words.specs.Tags.{tag_author}
 use Rattle.shm_graph.specs.declared.spot.Spot.{Spot}
-use Rattle.shm_graph.specs.declared.spot.Spot.TheVariants.{Spare, Home, Redo, Era, Root, Tail, Front, Slot, Segment, Page, Head, Tag, Body}
+use Rattle.shm_graph.specs.declared.spot.Spot.TheVariants.{Home, Redo, Era, Root, Tail, Front, Slot, Page, Head, Tag, Body}
 use Rattle.shm_graph.specs.declared.memo.First.TheVariants.{Begun, Committed, Written}
 use Rattle.shm_graph.specs.declared.memo.Half.TheVariants.{Raising, Lowering}
 use Rattle.shm_graph.specs.declared.memo.Op.{Op}
 use Rattle.shm_graph.specs.declared.memo.Op.TheVariants.{Nothing, Alloc, Up, Down, Change}
-use Rattle.shm_graph.specs.declared.memo.Fact.{Fact}
 use Rattle.shm_graph.specs.declared.memo.Stored.{Stored}
-use Rattle.shm_graph.specs.declared.memo.Status.TheVariants as status
 use Rattle.shm_graph.specs.Spots.{same_spot}
-use Rattle.shm_graph.specs.Tables.{Contents, contents_of, HasShape}
+use Rattle.shm_graph.specs.Tables.{contents_of, HasShape}
 use Rattle.shm_graph.specs.References.{words_of}
-use Rattle.shm_graph.specs.Ops.{Cover, cover, cover_of, limbo_of, on_of, slot_of, up_slot, target, word_at, is_op}
+use Rattle.shm_graph.specs.Ops.{cover, cover_of, limbo_of, on_of, slot_of, up_slot, target, word_at, is_op}
 use Rattle.shm_graph.specs.Ops.Cover.{Quiet}
 use Rattle.shm_graph.specs.Views.{View, at1, targets, ons, limbos}
-use Rattle.shm_graph.specs.Held.{HeldAt, FactAt, SlotOf, reach_of, named_by, OpTie, OwnSound, IdleSound, TailSound, Allowed, CountSound, EraSound, LooksSound, LaneSound, KnownAt, TestAt, Fresh, Gone, IsUnusedLane, PartTie, ValueAt, MadeAt, is_loose, odd, room_of}
+use Rattle.shm_graph.specs.Held.{HeldAt, FactAt, SlotOf, reach_of, named_by, OpTie, OwnSound, IdleSound, TailSound, Allowed, CountSound, EraSound, LooksSound, LaneSound, KnownAt, TestAt, IsUnusedLane, PartTie, ValueAt, MadeAt, is_loose, odd}
 use Rattle.shm_graph.proofs.Frames.{at1_all}
 use Rattle.shm_graph.proofs.Spotting.{same_spot_is, same_spot_self}
 use Rattle.shm_graph.proofs.Counting.{cover_slot, cover_idle, covered_none}

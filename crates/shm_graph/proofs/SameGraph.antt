@@ -6,10 +6,10 @@ use Rattle.shm_words.specs.Headers.{header_of}
 use Rattle.shm_graph.specs.declared.ask.Ask.{Ask}
 use Rattle.shm_graph.specs.declared.ask.Ask.TheVariants.{Load, Store, Exchange}
 use Rattle.shm_graph.specs.declared.spot.Spot.{Spot}
-use Rattle.shm_graph.specs.declared.spot.Spot.TheVariants.{Spare, Status, Redo, Hold, Latch, Home, Era, Root, Tail, Front, Slot, Segment, Page, Unused, Head, Tag, Body}
+use Rattle.shm_graph.specs.declared.spot.Spot.TheVariants.{Head, Tag}
 use Rattle.shm_graph.specs.declared.memo.Memo.{Memo}
 use Rattle.shm_graph.specs.declared.memo.Step.{Step}
-use Rattle.shm_graph.specs.Views.{View, view, at1}
+use Rattle.shm_graph.specs.Views.{view, at1}
 use Rattle.shm_graph.specs.References.{Words, words_of}
 use Rattle.shm_graph.specs.Ops.{Cover, cover_of, limbo_of, target}
 use Rattle.shm_graph.specs.Events.{Nothing, Graph, graph_of, IsSame, Happens}

@@ -1,5 +1,5 @@
 -- the words after a store at one spot
-use Rattle.std.proofs.Common.{◌≡◌, ◌≢◌, ℕ, ◌^◌, ◌<◌, sym, true, false, inl, inr, subst}
+use Rattle.std.proofs.Common.{◌≡◌, ℕ, sym, false, inl, inr, subst}
 use Rattle.std.proofs.lemmas.Bool.{cases_Bool, cond-true, cond-false}
 use Rattle.shm_graph.specs.declared.spot.Spot.{Spot}
 use Rattle.shm_graph.specs.Spots.{same_spot, upd}
