@@ -5,8 +5,8 @@ use Rattle.std.proofs.lemmas.Bool.{cases_lt}
 use Rattle.std.proofs.lemmas.List.{take_all, length-take, drop_all}
 use Rattle.shm_io.specs.Reading.{TakesBytes, TakesFront}
 use Rattle.shm_plain.specs.declared.pair.Pair.{Pair}
-use Rattle.cxlshm.specs.Form.{IsForm, form_text}
-use Rattle.cxlshm.specs.Outcomes.{ReadsAll, ReadsNoForm, Replayed, Refused, RanOn, IsNoForm, Answers, read_limit, refused_text}
+use Rattle.cxlshm.specs.Form.{IsForm}
+use Rattle.cxlshm.specs.Outcomes.{ReadsAll, ReadsNoForm, Replayed, Refused, RanOn, IsNoForm, Answers, read_limit}
 use Rattle.cxlshm.specs.declared.top.Finished.{Finished}
 
 -- bytes that were taken up to a limit, and are fewer, are all

@@ -1,9 +1,7 @@
 -- what a call of the program does: what it reads, what it answers and what it writes
-use Rattle.std.specs.Prelude.{◌≡◌, ◌≢◌, ℕ, ◌<◌, ◌≤◌, ◌⊎◌, List, [], ◌∷◌, length, map, drop, codes, Option, Some, None, MatchOption}
-use Rattle.std.specs.String.{string_bytes}
+use Rattle.std.specs.Prelude.{◌≡◌, ◌≢◌, ℕ, ◌<◌, ◌≤◌, ◌⊎◌, List, [], ◌∷◌, length, drop, codes, Option, Some, None, MatchOption}
 use Rattle.shm_io.specs.Writing.{Appends, AppendsFront}
 use Rattle.shm_graph.specs.Spots.{see}
-use Rattle.shm_graph.specs.declared.table.Entry.{Entry}
 use Rattle.shm_plain.specs.declared.pair.Pair.{Pair}
 use Rattle.shm_plain.specs.declared.first.FirstRun.{FirstRun}
 use Rattle.shm_plain.specs.ShutWords.{IsClosed}

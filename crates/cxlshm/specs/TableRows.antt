@@ -39,9 +39,18 @@ pub record IsChainAt (g : Geometry) (ws : List ℕ) (at : ℕ) (es : List Entry)
 abbrev pub HoldsTable : Geometry → List ℕ → (ℕ → ℕ → List Entry) → Type 0
 HoldsTable g ws = IsTable g (see g ws)
 
+-- the words hold some table
+abbrev pub SomeTable : Geometry → List ℕ → Type 0
+SomeTable g ws = (table : ℕ → ℕ → List Entry) × HoldsTable g ws table
+
+-- this is so for each table that the words hold
+abbrev pub EachTable : Geometry → List ℕ → ((ℕ → ℕ → List Entry) → Type 0) → Type 0
+EachTable g ws P = (table : ℕ → ℕ → List Entry) → HoldsTable g ws table → P table
+
+-- the row that a row of the program shows
 abbrev pub row_seen : TableRow → Row
 row_seen r = record { client = r.client; key = r.key; number = r.number; value = r.value }
 
--- the rows that a list of rows shows
+-- the rows that a list of them shows
 abbrev pub rows_seen : List TableRow → List Row
 rows_seen = map row_seen

@@ -161,11 +161,24 @@ pub fn home_count(geometry: Geometry, words: &[u64]) -> u32
 #[cfg(test)]
 mod tests {
     use super::*;
+    use std::alloc::{AllocError, Global};
     use std::test::Fail;
 
+    fn tag(refs: u8, plain: u8) -> u64
+        requires refs { refs ≤ 16 }
+        requires plain { plain ≤ 8 }
+    {
+        Tag {
+            refs,
+            plain,
+            author: 0,
+            link: 0,
+        }
+        .pack()
+    }
+
     // one client and one segment: a value block of 4 words, a directory of 32 and an entry of 8
-    #[test]
-    fn reads_a_pool(rt: HostRuntime) -> Result<(), Fail> {
+    fn pool(alloc: Global) -> Result<Vec<u64>, AllocError> {
         let header = Header {
             live: true,
             client: 0,
@@ -173,47 +186,34 @@ mod tests {
             era: 9,
         }
         .pack();
-        let value = Tag {
-            refs: 0,
-            plain: 1,
-            author: 0,
-            link: 0,
-        }
-        .pack();
-        let directory = Tag {
-            refs: 16,
-            plain: 0,
-            author: 0,
-            link: 0,
-        }
-        .pack();
-        let entry = Tag {
-            refs: 2,
-            plain: 1,
-            author: 0,
-            link: 0,
-        }
-        .pack();
-        let mut words = vec![in rt.alloc(); 0u64; 2098]?;
+        let mut words = vec![in alloc; 0u64; 2098]?;
         for (at, word) in [
-            (5usize, 178u64),
+            (5, 178),
             (34, 4),
             (35, 32),
             (36, 8),
             (50, header),
-            (51, value),
+            (51, tag(0, 1)),
             (52, 77),
             (178, header),
-            (179, directory),
+            (179, tag(16, 0)),
             (185, 306),
             (306, header),
-            (307, entry),
+            (307, tag(2, 1)),
             (309, 50),
             (310, 5),
         ] {
-            assert!(rt; at < words.len());
-            words[at] = word;
+            if let Some(slot) = words.get_mut(at) {
+                *slot = word;
+            }
         }
+        Ok(words)
+    }
+
+    #[test]
+    fn reads_a_pool(rt: HostRuntime) -> Result<(), Fail> {
+        let words = pool(rt.alloc())?;
+        let words = words.as_slice();
         let geometry = Geometry::new(1, 1).expect(&rt, "one client and one segment");
         for (at, wanted) in [
             (5, Spot::Home { c: 0 }),
@@ -224,12 +224,12 @@ mod tests {
             (434, Spot::Unused { a: 434 }),
             (2098, Spot::Spare),
         ] {
-            assert_eq!(rt; spot(geometry, words.as_slice(), at), wanted, "at {at}");
+            assert_eq!(rt; spot(geometry, words, at), wanted, "at {at}");
         }
-        assert_eq!(rt; header_at(geometry, words.as_slice(), 50).count, 1);
-        assert!(rt; !header_at(geometry, words.as_slice(), 54).live);
-        assert_eq!(rt; live_count(geometry, words.as_slice()), 3);
-        assert_eq!(rt; home_count(geometry, words.as_slice()), 1);
+        assert_eq!(rt; header_at(geometry, words, 50).count, 1);
+        assert!(rt; !header_at(geometry, words, 54).live);
+        assert_eq!(rt; live_count(geometry, words), 3);
+        assert_eq!(rt; home_count(geometry, words), 1);
         Ok(())
     }
 }

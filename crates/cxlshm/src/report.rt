@@ -11,7 +11,7 @@ ghost use Rattle.shm_graph.specs.Tables.{IsTable};
 ghost use Rattle.shm_graph.specs.declared.table.Entry.{Entry};
 ghost use Rattle.cxlshm.specs.PoolWords.{IsCleanPool};
 ghost use Rattle.cxlshm.specs.Report.{log_text, row_line, rows_text, value_lines};
-ghost use Rattle.cxlshm.specs.TableRows.{row_seen, rows_seen};
+ghost use Rattle.cxlshm.specs.TableRows.{rows_seen};
 ghost use Rattle.cxlshm.specs.Texts.{IsReport, counts_text};
 ghost use Rattle.cxlshm.specs.ValueNames.{IsNumbered};
 

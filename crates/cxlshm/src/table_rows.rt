@@ -1,13 +1,12 @@
 //! The rows of the table in a closed pool.
 
-ghost use Rattle.std.specs.Prelude.{◌≡◌, ◌<◌, ◌++◌, ℕ, List, map, slice_index, IfOk, OnOk};
-ghost use Rattle.shm_words.specs.Layout.{GeometryFits, total_of};
+ghost use Rattle.std.specs.Prelude.{◌≡◌, ◌<◌, ◌++◌, List, map, IfOk, OnOk};
 ghost use Rattle.shm_graph.specs.declared.spot.Spot.{Spot as ASpot};
 ghost use Rattle.shm_graph.specs.Spots.{see};
 ghost use Rattle.shm_graph.specs.declared.table.Entry.{Entry};
 ghost use Rattle.cxlshm.specs.PoolWords.{IsCleanPool};
 ghost use Rattle.cxlshm.specs.Report.{entries_below, add_entries, in_order, row_of, rows_below};
-ghost use Rattle.cxlshm.specs.TableRows.{IsEntryAt, ReadsEntry, IsChainAt, HoldsTable, rows_seen};
+ghost use Rattle.cxlshm.specs.TableRows.{IsEntryAt, ReadsEntry, IsChainAt, SomeTable, EachTable, rows_seen};
 
 use crate::pool_words::word;
 use shm_words::Geometry;
@@ -81,8 +80,8 @@ fn partition(
 ) -> Result<BTreeMap<u32, (u64, u32)>, AllocError>
     requires pool { IsCleanPool geometry words.now }
     requires client { c < geometry.clients }
-    requires table { (table : ℕ → ℕ → List Entry) × HoldsTable geometry words.now table }
-    ensures { IfOk result (λ m. (table : ℕ → ℕ → List Entry) → HoldsTable geometry words.now table → m.entries ≡ in_order (table c)) }
+    requires table { SomeTable geometry words.now }
+    ensures { IfOk result (λ m. EachTable geometry words.now (λ table. m.entries ≡ in_order (table c))) }
 {
     let mut entries = BTreeMap::new(alloc);
     let home = word(words, geometry.home(c));
@@ -103,8 +102,8 @@ fn add_buckets(
     requires pool { IsCleanPool geometry words.now }
     requires client { c < geometry.clients }
     requires home { (see geometry words.now (ASpot.Home c) ≡ home) × (0 < home) }
-    requires table { (table : ℕ → ℕ → List Entry) × HoldsTable geometry words.now table }
-    ensures { OnOk result ((table : ℕ → ℕ → List Entry) → HoldsTable geometry words.now table → entries.new.entries ≡ add_entries entries.old.entries (entries_below 16 (table c))) }
+    requires table { SomeTable geometry words.now }
+    ensures { OnOk result (EachTable geometry words.now (λ table. entries.new.entries ≡ add_entries entries.old.entries (entries_below 16 (table c)))) }
 {
     for bucket in 0..16 {
         add_chain(geometry, words, word(words, home + 2 + bucket), entries)?;
@@ -121,8 +120,8 @@ fn push_rows(
 ) -> Result<(), AllocError>
     requires pool { IsCleanPool geometry words.now }
     requires client { c < geometry.clients }
-    requires table { (table : ℕ → ℕ → List Entry) × HoldsTable geometry words.now table }
-    ensures { OnOk result ((table : ℕ → ℕ → List Entry) → HoldsTable geometry words.now table → rows_seen rows.new.items ≡ rows_seen rows.old.items ++ map (row_of c) (in_order (table c))) }
+    requires table { SomeTable geometry words.now }
+    ensures { OnOk result (EachTable geometry words.now (λ table. rows_seen rows.new.items ≡ rows_seen rows.old.items ++ map (row_of c) (in_order (table c)))) }
 {
     let entries = partition(*rows.allocator(), geometry, words, c)?;
     for (key, (number, value)) in entries {
@@ -143,8 +142,8 @@ pub fn table_rows(
     words: &[u64],
 ) -> Result<Vec<TableRow>, AllocError>
     requires pool { IsCleanPool geometry words.now }
-    requires table { (table : ℕ → ℕ → List Entry) × HoldsTable geometry words.now table }
-    ensures { IfOk result (λ v. (table : ℕ → ℕ → List Entry) → HoldsTable geometry words.now table → rows_seen v.items ≡ rows_below geometry.clients table) }
+    requires table { SomeTable geometry words.now }
+    ensures { IfOk result (λ v. EachTable geometry words.now (λ table. rows_seen v.items ≡ rows_below geometry.clients table)) }
 {
     let mut rows = Vec::new(alloc);
     for c in 0..geometry.clients() {

@@ -1,5 +1,5 @@
 -- what several kinds use
-use Rattle.std.proofs.Common.{◌≡◌, ◌≢◌, ℕ, refl, sym, ap, ◌∙◌, true, false, Bool, cond, List, [], ◌∷◌}
+use Rattle.std.proofs.Common.{◌≡◌, ◌≢◌, ℕ, refl, sym, ap, ◌∙◌, arith, true, false, Bool, cond, List, [], ◌∷◌}
 use Rattle.std.specs.List.{All, Contains, filter}
 use Rattle.std.proofs.lemmas.List.Elements.{All-nil, All-cons, All-head, All-tail, All-weaker, All-contains, All-contains_itself, Contains-push, Contains-append_left, Contains-append_right}
 use Rattle.std.proofs.lemmas.Bool.{true≢false}
@@ -17,7 +17,7 @@ use Rattle.shm_graph.specs.Spots.{IsAt}
 use Rattle.shm_graph.specs.Blocks.{IsBlock}
 use Rattle.shm_graph.specs.Ops.{slot_of, is_op}
 use Rattle.shm_graph.specs.Held.{OpTie, Names, RedoTie}
-use Rattle.shm_graph.proofs.Spotting.{is_at_block}
+use Rattle.shm_graph.proofs.Spotting.{is_at_block, in_pool}
 use Rattle.shm_words.specs.declared.redo.Redo.TheVariants as redos
 
 -- a live header isn't 0
@@ -27,6 +27,10 @@ live_word x l z = true≢false (sym l ∙ (ap (λ y. (header_of y).live) z ∙ h
 -- and so the block is there
 pub live_block : (g : Geometry) (w : Spot → ℕ) → ((p : Spot) → w p ≢ 0 → IsAt g (λ s q. w (Page s q)) p) → (b : ℕ) → (header_of (w (Head b))).live ≡ true → IsBlock g (λ s q. w (Page s q)) b
 live_block g w there b l = is_at_block g (λ s q. w (Page s q)) b (there (Head b) (live_word (w (Head b)) l))
+
+-- no block stands at 0
+pub block_not_zero : (g : Geometry) (class : ℕ → ℕ → ℕ) (b : ℕ) → IsBlock g class b → b ≢ 0
+block_not_zero g class b h z = let q = in_pool g class b (Head b) h (λ e. cc) in absurd (omega arith)
 
 -- the tie of an op where another page, or another word, changed
 pub op_moved : (g : Geometry) (class class' : ℕ → ℕ → ℕ) (redo own : ℕ) (x : Words) (o : Op) → ((p : Spot) → is_op o ≡ true → slot_of o ≡ p → IsAt g class p → IsAt g class' p) → OpTie g class redo own x o → OpTie g class' redo own x o

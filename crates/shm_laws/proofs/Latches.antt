@@ -1,4 +1,4 @@
--- the exchange that takes a latch keeps the rule, and the store that gives it back
+-- the exchange that takes a latch keeps the invariant, and the store that gives it back
 use Rattle.std.proofs.Common.{◌≡◌, ◌≢◌, ℕ, ◌+◌, ◌^◌, ◌<◌, ◌≤◌, refl, sym, ap, ◌∙◌, arith, false, eq-eqb, subst, inl, inr, ◌⊎◌, List, [], ◌∷◌, lit<, Option, Some, None}
 use Rattle.std.specs.List.{All}
 use Rattle.std.proofs.lemmas.List.Elements.{All-weaker}

@@ -13,3 +13,9 @@ pub mod Loads
 pub mod Tails
 pub mod Heads
 pub mod Latches
+pub mod FreeBlock
+pub mod LowerBlock
+pub mod SecondHalf
+pub mod Writing
+pub mod RootStore
+pub mod BodyStore

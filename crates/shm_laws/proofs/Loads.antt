@@ -1,7 +1,8 @@
--- the loads of the commit test keep the rule, its window with them
+-- the loads of the commit test keep the invariant, its window with them
 use Rattle.std.proofs.Common.{◌≡◌, ◌≢◌, ℕ, ◌+◌, ◌<◌, ◌≤◌, ap, arith, subst, inl, inr, List, ◌∷◌, Option, Some}
 use Rattle.std.specs.List.{All}
 use Rattle.std.proofs.lemmas.List.Elements.{All-cons}
+use Rattle.std.proofs.lemmas.Bool.{cases_eq, ne_eqb, eq-eqb}
 use Rattle.shm_words.specs.Headers.{header_of}
 use Rattle.shm_words.specs.declared.geometry.Geometry.{Geometry}
 use Rattle.shm_graph.specs.declared.spot.Spot.{Spot}
@@ -12,10 +13,11 @@ use Rattle.shm_graph.specs.declared.memo.Test.{Test}
 use Rattle.shm_graph.specs.Views.{at1, View, ons}
 use Rattle.shm_laws.proofs.Frames.{at1_all}
 use Rattle.shm_graph.specs.Held.{HeldAt, FactAt, TestAt}
+use Rattle.shm_graph.specs.Changes.{next_row}
 use Rattle.shm_laws.specs.Steps.{header_view, row_view}
 
--- one more fact, another window
-fact_kept : (g : Geometry) (w : Spot → ℕ) (v : View) (c : ℕ) (f : Fact) (test : Option Test) → HeldAt g w v → c < g.clients → FactAt g.clients (λ i j. w (Era i j)) (ons v) (λ s r. w (Tail s r)) (λ s r. w (Front s r)) (λ s q. w (Page s q)) f → TestAt g.clients (λ i j. w (Era i j)) (ons v c) c test
+-- one more fact that holds, another window that holds
+pub fact_kept : (g : Geometry) (w : Spot → ℕ) (v : View) (c : ℕ) (f : Fact) (test : Option Test) → HeldAt g w v → c < g.clients → FactAt g.clients (λ i j. w (Era i j)) (ons v) (λ s r. w (Tail s r)) (λ s r. w (Front s r)) (λ s q. w (Page s q)) f → TestAt g.clients (λ i j. w (Era i j)) (ons v c) c test
     → HeldAt g w (record v { facts = at1 v.facts c (f ∷ v.facts c); test = at1 v.test c test })
 fact_kept g w v c f test h lc new window =
     record {
@@ -57,28 +59,33 @@ fact_kept g w v c f test h lc new window =
       made = h.made;
     }
 
+-- what a header shows is a fact
+pub header_fact : (g : Geometry) (w : Spot → ℕ) (v : View) (b : ℕ) → HeldAt g w v → FactAt g.clients (λ i j. w (Era i j)) (ons v) (λ s r. w (Tail s r)) (λ s r. w (Front s r)) (λ s q. w (Page s q)) (HeaderRead (w (Head b)))
+header_fact g w v b h = λ l. let q = h.era.header b l in (h.era.client b l, record { most = q.most; equal = λ e. (b, q.equal e) })
+
 -- a header that didn't show the op opens the window at row 0
 pub header_kept : (g : Geometry) (w : Spot → ℕ) (v : View) (c b : ℕ) → HeldAt g w v → c < g.clients
     → (((header_of (w (Head b))).client ≡ c) × ((header_of (w (Head b))).era ≡ w (Era c c)) → ⊥)
     → HeldAt g w (header_view v c (w (Head b)) (Some (record { block = b; next = 0 })))
-header_kept g w v c b h lc differs = fact_kept g w v c (HeaderRead (w (Head b))) (Some (record { block = b; next = 0 })) h lc
-    (λ l. let q = h.era.header b l in (h.era.client b l, record { most = q.most; equal = λ e. (b, q.equal e) }))
+header_kept g w v c b h lc differs = fact_kept g w v c (HeaderRead (w (Head b))) (Some (record { block = b; next = 0 })) h lc (header_fact g w v b h)
     (λ e. elim (h.era.shown c b lc e) [
       | inl t ↦ absurd (differs t)
       | inr t ↦ (t.0, omega arith, t.1, t.2, t.3)
     ])
 
--- the next row, which was below, moves the window on
-pub row_kept : (g : Geometry) (w : Spot → ℕ) (v : View) (c : ℕ) (t : Test) → HeldAt g w v → c < g.clients → v.test c ≡ Some t → w (Era t.next c) < w (Era c c)
-    → HeldAt g w (row_view v c t.next (w (Era t.next c)) (Some (record { block = t.block; next = t.next + 1 })))
-row_kept g w v c t h lc test below = fact_kept g w v c (Counter (Era t.next c) (w (Era t.next c))) (Some (record { block = t.block; next = t.next + 1 })) h lc (omega arith)
+next_passes : (c next k : ℕ) → next ≤ k → k ≢ c → next_row c next ≤ k
+next_passes c next k l n = elim (cases_eq next c) [
+  | inl e ↦ rw (eq-eqb next c e) (omega arith)
+  | inr d ↦ rw (ne_eqb next c d) l
+]
+
+-- the next row of another identity, which was below, moves the window past it
+pub row_kept : (g : Geometry) (w : Spot → ℕ) (v : View) (c k : ℕ) (t : Test) → HeldAt g w v → c < g.clients → v.test c ≡ Some t → next_row c t.next ≡ k → w (Era k c) < w (Era c c)
+    → HeldAt g w (row_view v c k (w (Era k c)) (Some (record { block = t.block; next = k + 1 })))
+row_kept g w v c k t h lc test is below = fact_kept g w v c (Counter (Era k c) (w (Era k c))) (Some (record { block = t.block; next = k + 1 })) h lc (omega arith)
     (λ e. let q : TestAt g.clients (λ i j. w (Era i j)) (ons v c) c (Some t) = subst (TestAt g.clients (λ i j. w (Era i j)) (ons v c) c) test (h.test c lc) in let r = q e in
-    (r.0, (let n : r.0 ≢ t.next = (λ z. let s : w (Era r.0 c) ≡ w (Era t.next c) = ap (λ i. w (Era i c)) z in let u = r.4 in omega arith) in let m = r.1 in omega arith), r.2, r.3, r.4))
+    (r.0, (let n : r.0 ≢ k = (λ z. let s : w (Era r.0 c) ≡ w (Era k c) = ap (λ i. w (Era i c)) z in let u = r.4 in omega arith) in let m = next_passes c t.next r.0 r.1 r.3 in omega arith), r.2, r.3, r.4))
 
--- c's own row is passed over
-pub own_row_kept : (g : Geometry) (w : Spot → ℕ) (v : View) (c : ℕ) (t : Test) → HeldAt g w v → c < g.clients → t.next ≡ c → TestAt g.clients (λ i j. w (Era i j)) (ons v c) c (Some t) → TestAt g.clients (λ i j. w (Era i j)) (ons v c) c (Some (record { block = t.block; next = t.next + 1 }))
-own_row_kept g w v c t h lc at k = λ e. let r = k e in (r.0, (let n = r.3 in let m = r.1 in omega arith), r.2, r.3, r.4)
-
--- at the end of the window nothing is committed
-pub not_committed : (n : ℕ) (era : ℕ → ℕ → ℕ) (on : Option ℕ) (c : ℕ) (t : Test) → TestAt n era on c (Some t) → n ≤ t.next → on ≢ Some t.block
-not_committed n era on c t k l e = let r = k e in let m = r.1 in let u = r.2 in omega arith
+-- once no row is left nothing is committed
+pub not_committed : (n : ℕ) (era : ℕ → ℕ → ℕ) (on : Option ℕ) (c : ℕ) (t : Test) → TestAt n era on c (Some t) → n ≤ next_row c t.next → on ≢ Some t.block
+not_committed n era on c t k l e = let r = k e in let m = next_passes c t.next r.0 r.1 r.3 in let u = r.2 in omega arith

@@ -1,4 +1,4 @@
--- the store of a page's class keeps the rule
+-- the store of a page's class keeps the invariant
 use Rattle.std.proofs.Common.{◌≡◌, ◌≢◌, ℕ, ◌+◌, ◌^◌, ◌<◌, refl, sym, ap, ◌∙◌, arith, true, false, Bool, cond, eqb, subst, inl, inr, ◌&&◌, List, ◌∷◌, Option, Some, None}
 use Rattle.std.specs.List.{All, filter}
 use Rattle.std.proofs.lemmas.List.Elements.{All-cons, All-weaker, All-contains}

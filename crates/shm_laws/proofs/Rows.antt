@@ -1,4 +1,4 @@
--- the store of a redo word begins an op, and the store of a row, and both keep the rule
+-- the store of a redo word begins an op, and the store of a row, and both keep the invariant
 use Rattle.std.proofs.Math.Path.{fun_ext}
 use Rattle.std.proofs.Common.{◌≡◌, ◌≢◌, ℕ, ◌^◌, ◌<◌, ◌≤◌, refl, sym, ap, ◌∙◌, arith, true, false, Bool, cond, eqb, eq-eqb, subst, inl, inr, ◌&&◌, [], Option, Some, None, ◌%◌}
 use Rattle.std.specs.List.{All}

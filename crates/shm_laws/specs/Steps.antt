@@ -23,7 +23,8 @@ use Rattle.shm_graph.specs.Spots.{IsAt, same_spot, upd}
 use Rattle.shm_graph.specs.References.{words_of}
 use Rattle.shm_graph.specs.Ops.{cover_of, on_of, limbo_of, slot_of, is_op, Quiet}
 use Rattle.shm_graph.specs.Views.{View, own_word, targets, at1}
-use Rattle.shm_graph.specs.Held.{Allowed, OpTie, RedoTie, room_of, KnownAt, ValueAt, reach_of, named_by, SlotOf, LooksSound}
+use Rattle.shm_graph.specs.Held.{Allowed, OpTie, RedoTie, room_of, KnownAt, ValueAt, PartTie, is_loose, reach_of, named_by, SlotOf, LooksSound}
+use Rattle.shm_graph.specs.declared.table.Part.{Part}
 use Rattle.shm_graph.specs.Tables.{contents_of}
 
 abbrev pub other_than : Spot → Spot → Bool
@@ -262,8 +263,8 @@ abbrev pub unsent_back : ℕ → Spot → (ℕ → ℕ → ℕ) → ℕ → ℕ 
 unsent_back c (Slot i j k) u s r = if (i == c) && ((i == s) && (j == r)) then 0 else u s r
 unsent_back c _ u s r = u s r
 
-abbrev pub lower_view : View → ℕ → ℕ → ℕ → ℕ → Spot → List Look → List Stored → View
-lower_view v c b e n p looks kept =
+abbrev pub lower_view : View → ℕ → ℕ → ℕ → ℕ → Spot → List Look → List Stored → List ℕ → Part → View
+lower_view v c b e n p looks kept values part =
     record v {
       op = at1 v.op c (Down Committed p b e);
       dying = at1 v.dying c (dying_after n b (v.dying c));
@@ -271,10 +272,13 @@ lower_view v c b e n p looks kept =
       known = at1 v.known c kept;
       unsent = unsent_back c p v.unsent;
       untaken = untaken_after c p b v.untaken;
+      part = at1 v.part c part;
+      values = at1 v.values c values;
+      made = at1 v.made c (filter (not_block b) (v.made c));
       test = at1 v.test c None;
     }
 
-pub record LowerStep (g : Geometry) (w : Spot → ℕ) (v : View) (c b e n to : ℕ) (p : Spot) (looks : List Look) (kept : List Stored) : Type 0 where
+pub record LowerStep (g : Geometry) (w : Spot → ℕ) (v : View) (c b e n to : ℕ) (p : Spot) (looks : List Look) (kept : List Stored) (values : List ℕ) (part : Part) : Type 0 where
   pub inside : c < g.clients
   pub acts : v.status c ≢ status.New
   pub here : v.status c ≢ status.Gone
@@ -289,6 +293,10 @@ pub record LowerStep (g : Geometry) (w : Spot → ℕ) (v : View) (c b e n to : 
   pub slot : SlotOf c (λ i. header_of (w (Head i))) (λ i. w (Tag i)) (v.latch c) (λ s r. w (Tail s r)) (λ s r. w (Front s r)) (reach_of (upd (targets g w v) p 0) (λ s r. w (Tail s r)) (λ s r. w (Front s r)) (λ d. looks) c) p
   pub knows : All (λ (s : Stored). KnownAt c (λ i. w (Tag i)) (λ i j. w (Body i j)) (λ i j l. w (Slot i j l)) (λ i j. w (Tail i j)) (λ i j. w (Front i j)) (λ s. untaken_after c p b v.untaken c s) (v.latch c)
       (reach_of (upd (targets g w v) p 0) (λ i j. w (Tail i j)) (λ i j. w (Front i j)) (λ d. looks) c) (dying_after n b (v.dying c)) s.spot s.value) kept
+  -- so is what stays of the value blocks, and the part is the one that the new targets hold
+  pub valued : All (ValueAt (contents_of w (upd (targets g w v) p 0)) (reach_of (upd (targets g w v) p 0) (λ i j. w (Tail i j)) (λ i j. w (Front i j)) (λ d. looks) c)) values
+  pub parted : PartTie (contents_of w (upd (targets g w v) p 0)) c (upd (targets g w v) p 0 (Home c)) part
+  pub loose : is_loose part ≡ is_loose (v.part c)
 
 -- ---- the store of the own era, which closes an op or the first half of a change
 
@@ -316,17 +324,19 @@ close_view v c x o =
 
 -- ---- the exchange of a change's second half: the block before loses the reference that the limbo was
 
-abbrev pub second_view : View → ℕ → ℕ → ℕ → ℕ → ℕ → Spot → List Look → List Stored → View
-second_view v c x b e n p looks kept =
+abbrev pub second_view : View → ℕ → ℕ → ℕ → ℕ → ℕ → Spot → List Look → List Stored → List ℕ → View
+second_view v c x b e n p looks kept values =
     record v {
       op = at1 v.op c (Change (Lowering Closed) p x b e);
       dying = at1 v.dying c (dying_after n x (v.dying c));
       looks = at1 v.looks c looks;
       known = at1 v.known c kept;
+      values = at1 v.values c values;
+      made = at1 v.made c (filter (not_block x) (v.made c));
       test = at1 v.test c None;
     }
 
-pub record SecondStep (g : Geometry) (w : Spot → ℕ) (v : View) (c x b e n to : ℕ) (p : Spot) (looks : List Look) (kept : List Stored) : Type 0 where
+pub record SecondStep (g : Geometry) (w : Spot → ℕ) (v : View) (c x b e n to : ℕ) (p : Spot) (looks : List Look) (kept : List Stored) (values : List ℕ) : Type 0 where
   pub inside : c < g.clients
   pub acts : v.status c ≢ status.New
   pub here : v.status c ≢ status.Gone
@@ -339,19 +349,27 @@ pub record SecondStep (g : Geometry) (w : Spot → ℕ) (v : View) (c x b e n to
   pub slot : SlotOf c (λ i. header_of (w (Head i))) (λ i. w (Tag i)) (v.latch c) (λ s r. w (Tail s r)) (λ s r. w (Front s r)) (reach_of (targets g w v) (λ s r. w (Tail s r)) (λ s r. w (Front s r)) (λ d. looks) c) p
   pub knows : All (λ (s : Stored). KnownAt c (λ i. w (Tag i)) (λ i j. w (Body i j)) (λ i j l. w (Slot i j l)) (λ i j. w (Tail i j)) (λ i j. w (Front i j)) (v.untaken c) (v.latch c)
       (reach_of (targets g w v) (λ i j. w (Tail i j)) (λ i j. w (Front i j)) (λ d. looks) c) (dying_after n x (v.dying c)) s.spot s.value) kept
+  pub valued : All (ValueAt (contents_of w (targets g w v)) (reach_of (targets g w v) (λ i j. w (Tail i j)) (λ i j. w (Front i j)) (λ d. looks) c)) values
 
 -- ---- the exchange of a change's first half
 
-abbrev pub change_view : View → ℕ → ℕ → ℕ → ℕ → Spot → List Look → List Stored → View
-change_view v c x b e p looks kept =
+-- neither of these blocks
+abbrev pub not_blocks : ℕ → ℕ → ℕ → Bool
+not_blocks b x d = not_block b d && not_block x d
+
+abbrev pub change_view : View → ℕ → ℕ → ℕ → ℕ → Spot → List Look → List Stored → List ℕ → Part → View
+change_view v c x b e p looks kept values part =
     record v {
       op = at1 v.op c (Change (Raising Committed) p x b e);
       looks = at1 v.looks c looks;
       known = at1 v.known c kept;
+      part = at1 v.part c part;
+      values = at1 v.values c values;
+      made = at1 v.made c (filter (not_blocks b x) (v.made c));
       test = at1 v.test c None;
     }
 
-pub record ChangeStep (g : Geometry) (w : Spot → ℕ) (v : View) (c x b e to : ℕ) (p : Spot) (looks : List Look) (kept : List Stored) : Type 0 where
+pub record ChangeStep (g : Geometry) (w : Spot → ℕ) (v : View) (c x b e to : ℕ) (p : Spot) (looks : List Look) (kept : List Stored) (values : List ℕ) (part : Part) : Type 0 where
   pub inside : c < g.clients
   pub acts : v.status c ≢ status.New
   pub here : v.status c ≢ status.Gone
@@ -364,6 +382,10 @@ pub record ChangeStep (g : Geometry) (w : Spot → ℕ) (v : View) (c x b e to :
   pub slot : SlotOf c (λ i. header_of (w (Head i))) (λ i. w (Tag i)) (v.latch c) (λ s r. w (Tail s r)) (λ s r. w (Front s r)) (reach_of (upd (targets g w v) p b) (λ s r. w (Tail s r)) (λ s r. w (Front s r)) (λ d. looks) c) p
   pub knows : All (λ (s : Stored). KnownAt c (λ i. w (Tag i)) (λ i j. w (Body i j)) (λ i j l. w (Slot i j l)) (λ i j. w (Tail i j)) (λ i j. w (Front i j)) (v.untaken c) (v.latch c)
       (reach_of (upd (targets g w v) p b) (λ i j. w (Tail i j)) (λ i j. w (Front i j)) (λ d. looks) c) (v.dying c) s.spot s.value) kept
+  -- so is what stays of the value blocks, and the part is the one that the new targets hold
+  pub valued : All (ValueAt (contents_of w (upd (targets g w v) p b)) (reach_of (upd (targets g w v) p b) (λ i j. w (Tail i j)) (λ i j. w (Front i j)) (λ d. looks) c)) values
+  pub parted : PartTie (contents_of w (upd (targets g w v) p b)) c (upd (targets g w v) p b (Home c)) part
+  pub loose : is_loose part ≡ is_loose (v.part c)
 
 -- ---- loads that only read what grows: a header, and a row of another identity
 

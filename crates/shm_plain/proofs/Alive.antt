@@ -1,9 +1,9 @@
 -- live blocks among the words that are shown
-use Rattle.std.proofs.Common.{◌≡◌, ◌≢◌, ℕ, ◌+◌, ◌*◌, ◌^◌, ◌<◌, ◌≤◌, sym, ap, subst, ◌∙◌, arith, refl, true, inl, inr, ◌⊎◌, List, [], ◌∷◌, get_or}
+use Rattle.std.proofs.Common.{◌≡◌, ◌≢◌, ℕ, ◌+◌, ◌^◌, ◌<◌, ◌≤◌, ap, subst, ◌∙◌, arith, refl, true, List, [], ◌∷◌, get_or}
 use Rattle.shm_words.specs.declared.header.Header.{Header}
 use Rattle.shm_words.specs.Headers.{header_of, HeaderFits}
 use Rattle.shm_words.proofs.Words.{header_of-word, live_word_not_zero}
-use Rattle.shm_plain.specs.Cells.{Cell, Root, Era, Segment, Page, Shows, cell_at, upd, live_header, own_tag, values}
+use Rattle.shm_plain.specs.Cells.{Cell, Root, Era, Segment, Page, Shows, cell_at, upd, live_header, own_tag}
 use Rattle.shm_plain.specs.Steps.{IsDroppable, raised, lowered, allocated, block_at}
 use Rattle.shm_plain.proofs.CellAt.{cell_root}
 use Rattle.shm_plain.proofs.Celling.{shown, shown_era, shown_root}

@@ -1,6 +1,6 @@
 -- cells and addresses, and what a store does
-use Rattle.std.proofs.Common.{◌≡◌, ◌≢◌, ℕ, ◌+◌, ◌-◌, ◌*◌, ◌/◌, ◌%◌, ◌<◌, ◌≤◌, sym, ap, ◌∙◌, arith, true, false, refl, Bool, cond, List, length, set, get_or, get_or-set_same, get_or-set_other, length-set, replicate, add-zero, [], ◌∷◌, ◌++◌, eqb, inl, inr, ◌⊎◌, subst}
-use Rattle.std.proofs.lemmas.Bool.{and_parts, eqb-true, eq-eqb, cases_Bool, cases_eq, false_from_ne_true}
+use Rattle.std.proofs.Common.{◌≡◌, ◌≢◌, ℕ, ◌+◌, ◌*◌, ◌<◌, ◌≤◌, sym, ap, ◌∙◌, arith, true, false, refl, List, length, set, get_or, get_or-set_same, get_or-set_other, length-set, replicate, add-zero, [], ◌∷◌, ◌++◌, inl, inr, ◌⊎◌, subst}
+use Rattle.std.proofs.lemmas.Bool.{and_parts, eqb-true, cases_Bool, cases_eq, false_from_ne_true}
 use Rattle.std.proofs.lemmas.Bool.Decides.{nat_tests}
 use Rattle.std.proofs.lemmas.List.{get_or-replicate, length-replicate}
 use Rattle.shm_words.specs.declared.geometry.Geometry.{Geometry}
@@ -75,10 +75,7 @@ shows_store ws at value w s below =
 pub shows_same : (ws : List ℕ) (w v : Cell → ℕ) → Shows ws w → ((a : ℕ) → a < 2098 → a ≢ 2 → a ≢ 3 → w (cell_at a) ≡ v (cell_at a)) → Shows ws v
 shows_same ws w v s e = record { long = s.long; at = λ a low redo hold. s.at a low redo hold ∙ e a low redo hold }
 
--- of the redo record and the hold word nothing is said
-pub shows_redo : (ws : List ℕ) (value : ℕ) (w : Cell → ℕ) → Shows ws w → Shows (set ws 2 value) w
-shows_redo ws value w s = record { long = length-set ws 2 value ∙ s.long; at = λ a low redo hold. get_or-set_other ws 2 a value 0 redo ∙ s.at a low redo hold }
-
+-- of the hold word nothing is said
 pub shows_hold : (ws : List ℕ) (value : ℕ) (w : Cell → ℕ) → Shows ws w → Shows (set ws 3 value) w
 shows_hold ws value w s = record { long = length-set ws 3 value ∙ s.long; at = λ a low redo hold. get_or-set_other ws 3 a value 0 hold ∙ s.at a low redo hold }
 

@@ -1,7 +1,6 @@
 -- a pool of one client that joined and left is clean and holds the empty table
 use Rattle.std.proofs.Common.{◌≡◌, ◌≢◌, ℕ, ◌+◌, refl, ap, ◌∙◌, arith, inl, inr, List, [], true}
-use Rattle.std.specs.Prelude.{slice_index, nat_eq}
-use Rattle.std.specs.List.{IsDistinct}
+use Rattle.std.specs.Prelude.{slice_index}
 use Rattle.std.proofs.lemmas.Bool.{cases_eq, cases_lt, cond-true}
 use Rattle.std.proofs.lemmas.Bool.Decides.{nat_tests}
 use Rattle.shm_words.specs.declared.place.Place.TheVariants as place
@@ -22,6 +21,7 @@ use Rattle.shm_plain.proofs.CellAt.{cell_page}
 use Rattle.shm_plain.proofs.One.{one, one_fits}
 use Rattle.shm_plain.proofs.FilledWords.{status_seen, home_seen, homes_seen, root_seen, slot_seen}
 use Rattle.shm_plain.proofs.FilledNames.{reference_word, live_with_refs}
+use Rattle.shm_plain.proofs.FilledTable.{none_distinct}
 
 no_class : (puts : List Pair) (ws : List ℕ) → Shows ws (ended puts 0) → (s p : ℕ) → classes_in one ws s p ≡ 0
 unfolding layout.address
@@ -75,10 +75,6 @@ empty_clean puts ws h = record {
   targets = λ p n. absurd (no_name puts ws h p n);
   counts = λ b l. absurd (no_live puts ws h b l);
 }
-
-none_distinct : IsDistinct nat_eq []
-unfolding IsDistinct
-none_distinct = tt
 
 pub empty_table : (puts : List Pair) (ws : List ℕ) → Shows ws (ended puts 0) → IsTable one (see one ws) (λ c b. [])
 empty_table puts ws h c l = record {

@@ -46,7 +46,7 @@ chain_is puts k w most fit long f b l =
           (at ∙ t.4, entry_is puts k w most fit long f t.0 b t.1 t.2, entry_names puts k w most f t.0 0 t.1 (omega arith) ∙ f.next t.0 t.1)
     ]
 
-none_distinct : IsDistinct nat_eq []
+pub none_distinct : IsDistinct nat_eq []
 unfolding IsDistinct
 none_distinct = tt
 

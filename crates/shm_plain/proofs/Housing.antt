@@ -1,15 +1,15 @@
 -- the directory: where it is made, and the words then
-use Rattle.std.proofs.Common.{◌≡◌, ◌≢◌, ℕ, zero, suc, ◌+◌, ◌*◌, ◌<◌, ◌≤◌, sym, ap, ◌∙◌, arith, refl, subst, inl, inr, ◌⊎◌, List, [], ◌∷◌, get_or}
+use Rattle.std.proofs.Common.{◌≡◌, ◌≢◌, ℕ, ◌+◌, ap, ◌∙◌, arith, refl, subst, inl, inr, List, [], get_or}
 use Rattle.std.proofs.lemmas.Bool.{cases_eq}
 use Rattle.std.proofs.lemmas.Bool.Decides.{nat_tests}
 use Rattle.shm_words.specs.Headers.{header_of}
 use Rattle.shm_plain.specs.declared.pair.Pair.{Pair}
-use Rattle.shm_plain.specs.Cells.{Cell, Home, Era, Segment, Page, Value, Directory, Entry, Root, Shows, cell_at, live_header, own_tag, upd}
-use Rattle.shm_plain.specs.Steps.{IsNext, IsFirstFree, IsLeastRoot, IsDroppable, allocated, block_at}
+use Rattle.shm_plain.specs.Cells.{Cell, Home, Era, Segment, Page, Directory, Root, Shows, cell_at, live_header, own_tag, upd}
+use Rattle.shm_plain.specs.Steps.{IsNext, IsLeastRoot, IsDroppable, allocated}
 use Rattle.shm_plain.specs.Stages.{valued, housed}
 use Rattle.shm_plain.proofs.CellAt.{cell_home, cell_directory_at}
 use Rattle.shm_plain.proofs.Celling.{shown_segment, shown_page, shown_root, shown_home, shows_same}
-use Rattle.shm_plain.proofs.Alive.{shown_as, live_not_none, shows_headed, Raises, Drops, shows_raised, shows_dropped, counted, droppable}
+use Rattle.shm_plain.proofs.Alive.{shown_as, shows_headed, Raises, Drops, shows_raised, shows_dropped, counted, droppable}
 
 -- at the first put, page 1 has no class
 pub house_next : (puts : List Pair) (ws : List ℕ) → Shows ws (valued puts 0) → IsNext ws 32 1 0

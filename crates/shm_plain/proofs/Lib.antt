@@ -10,9 +10,9 @@ pub mod OneBlock
 pub mod FilledNames
 pub mod FilledCounts
 pub mod FilledClean
-pub mod EmptyPool
 pub mod Folding
 pub mod FilledTable
+pub mod EmptyPool
 pub mod Ending
 pub mod Alive
 pub mod Making

@@ -1,5 +1,5 @@
 -- the entry of a put: where it is made, and the words once it is linked
-use Rattle.std.proofs.Common.{◌≡◌, ◌≢◌, ℕ, zero, suc, ◌+◌, ◌*◌, ◌<◌, ◌≤◌, sym, ap, ◌∙◌, arith, refl, inl, inr, ◌⊎◌, List, [], ◌∷◌, get_or, set, subst, length, add-one, ◌==◌, ◌-◌}
+use Rattle.std.proofs.Common.{◌≡◌, ◌≢◌, ℕ, ◌+◌, ◌*◌, ◌<◌, sym, ap, ◌∙◌, arith, refl, inl, inr, ◌⊎◌, List, [], ◌∷◌, get_or, set, subst, length, add-one, ◌==◌, ◌-◌}
 use Rattle.std.specs.Prelude.{if◌then◌else◌, nat_lt}
 use Rattle.std.proofs.lemmas.Bool.{cases_eq, cond-false, ne_eqb}
 use Rattle.std.proofs.lemmas.Bool.Decides.{nat_tests}
@@ -7,11 +7,12 @@ use Rattle.shm_words.specs.Headers.{header_of}
 use Rattle.shm_plain.specs.declared.pair.Pair.{Pair}
 use Rattle.shm_plain.specs.Puts.{bucket_of, AreApart}
 use Rattle.shm_plain.specs.Cells.{Cell, Latch, Home, Era, Segment, Page, Value, Directory, Entry, Root, Shows, cell_at, after, put_at, bucket_word, directory_word, live_header, own_tag, upd}
-use Rattle.shm_plain.specs.Steps.{IsNext, IsFirstFree, IsLeastRoot, IsDroppable, allocated, block_at}
+use Rattle.shm_plain.specs.Steps.{IsNext, IsLeastRoot, IsDroppable, allocated, block_at}
 use Rattle.shm_plain.specs.Stages.{housed, latched, entered, linked}
 use Rattle.shm_plain.proofs.CellAt.{cell_latch, cell_value_at, cell_directory_at, cell_entry_at}
 use Rattle.shm_plain.proofs.Celling.{shown_segment, shown_page, shown_root, shown_home, shows_same, shows_hold}
 use Rattle.shm_plain.proofs.Buckets.{bucket_cases}
+use Rattle.shm_plain.proofs.FilledWords.{entry_cell, entry_none}
 use Rattle.shm_plain.proofs.Alive.{shown_as, live_not_none, shows_made, Raises, Drops, shows_raised, shows_dropped, shows_era, counted, droppable}
 
 -- ---- the latch, and the bucket
@@ -53,12 +54,6 @@ home_is puts k ws at home s e f = f ∙ (ap (λ (a : ℕ). get_or ws a 0) e ∙ 
 
 -- ---- the entry
 
-entry_used : (puts : List Pair) (k j : ℕ) → j < k → latched puts k (Entry j 0) ≡ live_header 1 (8 + 6 * j)
-entry_used puts k j l = grind (arith, nat_tests)
-
-entry_free : (puts : List Pair) (k j : ℕ) → latched puts k (Entry k j) ≡ 0
-entry_free puts k j = grind (arith, nat_tests)
-
 value_page : (puts : List Pair) (k : ℕ) → latched puts k (Page 0) ≡ 4
 value_page puts k = grind (arith, nat_tests)
 
@@ -86,10 +81,10 @@ entry_next puts k ws l s = record {
   here = rw (shown_page ws (latched puts k) 2 s (omega arith)) (entry_page puts k);
   first = record {
     room = omega arith;
-    used = λ j h e. live_not_none 1 (8 + 6 * j) (sym (shown_as ws (latched puts k) (block_at 8 2 j) (Entry j 0) s (omega arith) (omega arith) (cell_entry_at _ j 0 (omega arith) (omega arith) (omega arith)) ∙ entry_used puts k j h) ∙ e);
-    free = shown_as ws (latched puts k) (block_at 8 2 k) (Entry k 0) s (omega arith) (omega arith) (cell_entry_at _ k 0 (omega arith) (omega arith) (omega arith)) ∙ entry_free puts k 0;
+    used = λ j h e. live_not_none 1 (8 + 6 * j) (sym (shown_as ws (latched puts k) (block_at 8 2 j) (Entry j 0) s (omega arith) (omega arith) (cell_entry_at _ j 0 (omega arith) (omega arith) (omega arith)) ∙ entry_cell puts k j 0 h) ∙ e);
+    free = shown_as ws (latched puts k) (block_at 8 2 k) (Entry k 0) s (omega arith) (omega arith) (cell_entry_at _ k 0 (omega arith) (omega arith) (omega arith)) ∙ entry_none puts k k 0 (omega arith);
   };
-  free = λ j h. shown_as ws (latched puts k) (block_at 8 2 k + j) (Entry k j) s (omega arith) (omega arith) (cell_entry_at _ k j (omega arith) (omega arith) h) ∙ entry_free puts k j;
+  free = λ j h. shown_as ws (latched puts k) (block_at 8 2 k + j) (Entry k j) s (omega arith) (omega arith) (cell_entry_at _ k j (omega arith) (omega arith) h) ∙ entry_none puts k k j (omega arith);
 }
 
 pub entry_root : (puts : List Pair) (k : ℕ) (ws : List ℕ) → Shows ws (latched puts k) → IsLeastRoot ws 1
@@ -173,7 +168,7 @@ shows_linked puts k ws vs l drops s =
 
 -- the counts that are raised, and that the entry's root can be emptied
 pub entered_count : (puts : List Pair) (k : ℕ) (ws : List ℕ) → k < 16 → Shows ws (entered puts k) → (header_of (get_or ws (50 + 4 * k) 0)).count ≡ 1
-entered_count puts k ws l s = 
+entered_count puts k ws l s =
     let low = era_before k l in
     counted ws (entered puts k) (50 + 4 * k) 1 _ (Value k 0) s (omega arith) (omega arith) (cell_value_at _ k 0 (omega arith) (omega arith) (omega arith)) (entered_header puts k) (omega arith) (omega arith)
 

@@ -1,20 +1,14 @@
 -- the block of a put's value: where it is made, and the words then
-use Rattle.std.proofs.Common.{◌≡◌, ◌≢◌, ℕ, zero, suc, ◌+◌, ◌*◌, ◌<◌, ◌≤◌, sym, ap, ◌∙◌, arith, refl, inl, inr, ◌⊎◌, List, [], ◌∷◌, get_or}
+use Rattle.std.proofs.Common.{◌≡◌, ℕ, ◌+◌, ◌*◌, ◌<◌, sym, ◌∙◌, arith, refl, ◌⊎◌, List, [], ◌∷◌}
 use Rattle.std.proofs.lemmas.Bool.Decides.{nat_tests}
 use Rattle.shm_plain.specs.declared.pair.Pair.{Pair}
-use Rattle.shm_plain.specs.Cells.{Cell, Era, Segment, Page, Value, Directory, Entry, Root, Shows, cell_at, after, put_at, live_header, own_tag, upd}
-use Rattle.shm_plain.specs.Cells.Cell.{Spare, Status, Redo, Hold, Latch, Home, Queue, Rest}
-use Rattle.shm_plain.specs.Steps.{IsNext, IsFirstFree, IsLeastRoot, allocated, block_at}
+use Rattle.shm_plain.specs.Cells.{Cell, Era, Segment, Page, Value, Root, Shows, cell_at, after, put_at, live_header, own_tag, upd}
+use Rattle.shm_plain.specs.Steps.{IsNext, IsLeastRoot, allocated, block_at}
 use Rattle.shm_plain.specs.Stages.{valued}
 use Rattle.shm_plain.proofs.CellAt.{cell_value_at}
 use Rattle.shm_plain.proofs.Celling.{shown_segment, shown_page, shown_root, shows_same}
+use Rattle.shm_plain.proofs.FilledWords.{value_cell, value_none}
 use Rattle.shm_plain.proofs.Alive.{shown_as, live_not_none, shows_made}
-
-value_used : (puts : List Pair) (k j : ℕ) → j < k → after puts k (Value j 0) ≡ live_header 1 (9 + 6 * j)
-value_used puts k j l = grind (arith, nat_tests)
-
-value_free : (puts : List Pair) (k j : ℕ) → after puts k (Value k j) ≡ 0
-value_free puts k j = grind (arith, nat_tests)
 
 pub segment_own : (puts : List Pair) (k : ℕ) → (after puts k Segment ≡ 0) ⊎ (after puts k Segment ≡ 1)
 segment_own puts k = grind (arith, nat_tests)
@@ -31,10 +25,10 @@ value_next puts k ws l s = record {
   here = rw (shown_page ws (after puts k) 0 s (omega arith)) (page_own puts k);
   first = record {
     room = omega arith;
-    used = λ j h e. live_not_none 1 (9 + 6 * j) (sym (shown_as ws (after puts k) (block_at 4 0 j) (Value j 0) s (omega arith) (omega arith) (cell_value_at _ j 0 (omega arith) (omega arith) (omega arith)) ∙ value_used puts k j h) ∙ e);
-    free = shown_as ws (after puts k) (block_at 4 0 k) (Value k 0) s (omega arith) (omega arith) (cell_value_at _ k 0 (omega arith) (omega arith) (omega arith)) ∙ value_free puts k 0;
+    used = λ j h e. live_not_none 1 (9 + 6 * j) (sym (shown_as ws (after puts k) (block_at 4 0 j) (Value j 0) s (omega arith) (omega arith) (cell_value_at _ j 0 (omega arith) (omega arith) (omega arith)) ∙ value_cell puts k j 0 h) ∙ e);
+    free = shown_as ws (after puts k) (block_at 4 0 k) (Value k 0) s (omega arith) (omega arith) (cell_value_at _ k 0 (omega arith) (omega arith) (omega arith)) ∙ value_none puts k k 0 (omega arith);
   };
-  free = λ j h. shown_as ws (after puts k) (block_at 4 0 k + j) (Value k j) s (omega arith) (omega arith) (cell_value_at _ k j (omega arith) (omega arith) h) ∙ value_free puts k j;
+  free = λ j h. shown_as ws (after puts k) (block_at 4 0 k + j) (Value k j) s (omega arith) (omega arith) (cell_value_at _ k j (omega arith) (omega arith) h) ∙ value_none puts k k j (omega arith);
 }
 
 pub value_root : (puts : List Pair) (k : ℕ) (ws : List ℕ) → Shows ws (after puts k) → IsLeastRoot ws 0

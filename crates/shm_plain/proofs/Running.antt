@@ -1,16 +1,16 @@
 -- the words before the first put and once the client has left
-use Rattle.std.proofs.Common.{◌≡◌, ◌≢◌, ℕ, zero, suc, ◌+◌, ◌*◌, ◌<◌, ◌≤◌, sym, ap, subst, ◌∙◌, arith, refl, inl, inr, ◌⊎◌, List, [], ◌∷◌, ◌++◌, get_or, length, add-one}
+use Rattle.std.proofs.Common.{◌≡◌, ℕ, ◌+◌, ◌*◌, ◌<◌, sym, subst, ◌∙◌, arith, refl, List, [], ◌∷◌, ◌++◌, get_or, length, add-one}
 use Rattle.std.proofs.lemmas.Bool.Decides.{nat_tests}
 use Rattle.shm_words.specs.declared.geometry.Geometry.{Geometry}
-use Rattle.shm_words.specs.Layout.{GeometryFits, total_of}
+use Rattle.shm_words.specs.Layout.{GeometryFits}
 use Rattle.shm_plain.specs.declared.pair.Pair.{Pair}
 use Rattle.shm_plain.specs.Puts.{PutsFit}
 use Rattle.shm_plain.specs.Shut.{Shut}
 use Rattle.shm_plain.specs.ShutWords.{IsClosed}
 use Rattle.shm_plain.specs.Runs.{IsFirstRun}
-use Rattle.shm_plain.specs.Cells.{Cell, Status, Segment, Value, Entry, Shows, cell_at, after, ended, upd, blocks_of, first_blocks}
+use Rattle.shm_plain.specs.Cells.{Cell, Status, Segment, Value, Entry, Shows, cell_at, after, ended, upd, first_blocks}
 use Rattle.shm_plain.specs.Steps.{fresh}
-use Rattle.shm_plain.proofs.One.{one, one_fits, one_from}
+use Rattle.shm_plain.proofs.One.{one_fits, one_from}
 use Rattle.shm_plain.proofs.Celling.{shown_root, shows_same, total_one}
 use Rattle.shm_plain.proofs.Folding.{first_blocks_length}
 use Rattle.shm_plain.proofs.Ending.{ended_clean, ended_table}

@@ -15,7 +15,7 @@ use Rattle.shm_graph.specs.declared.run.Start.{Start}
 use Rattle.shm_graph.specs.Asks.{at_of}
 use Rattle.shm_graph.specs.Changes.{acts, acts_by, entered, last_agent}
 use Rattle.shm_graph.specs.Laws.{Control, Outcome}
-use Rattle.shm_graph.specs.Runs.{Turned, state, Held, account_at, account_after, account_entered, accounts_after, changed, EraFits}
+use Rattle.shm_graph.specs.Runs.{Turned, state, Held, account_at, account_after, account_entered, accounts_after, changed, memos_of, EraFits}
 use Rattle.shm_graph.specs.Whole.{Inside, Keeps, Kept, Learns}
 use Rattle.shm_graph.proofs.FirstHeld.{first_held}
 use Rattle.shm_graph.proofs.Running.{Leads-more, turned-begins}
@@ -34,6 +34,14 @@ last_added a (x ∷ y ∷ ys) = last_added a (y ∷ ys)
 
 entered_acts : (k : Kind) (m : Memo) → acts (entered k m) ≡ true
 entered_acts k m = ap acts_by (last_added _ m.agents)
+
+-- where no agent of the identity acts, its memo is that with the one that begins
+pub ready_memo : (p : Pool) (c : ℕ) → c < length p.accounts → let m = memo_of p c in memo_of (readied p c) c ≡ cond (acts m) m (entered (kind_next m) m)
+ready_memo p c l = go (acts (memo_of p c))
+  where
+    go : (b : Bool) → let m = memo_of p c in memos_of (cond b p.accounts (changed (account_entered (kind_next m)) p.accounts c)) c ≡ cond b m (entered (kind_next m) m)
+    go true = refl
+    go false = ap (λ (x : Account). x.memo) (get_or-set_same p.accounts c _ _ l)
 
 pub ready_run : (p : Pool) (c : ℕ) → IsRun p → c < p.start.geometry.clients → MayStep p c → IsRun (readied p c) × (acts (memo_of (readied p c) c) ≡ true)
 ready_run p c run l may = go (acts (memo_of p c)) refl

@@ -1,5 +1,5 @@
 -- the words of a closed pool are all there and clean
-use Rattle.std.specs.Prelude.{◌≡◌, List, length}
+use Rattle.std.specs.Prelude.{◌≡◌, length}
 use Rattle.shm_words.specs.Layout.{GeometryFits, total_of}
 use Rattle.shm_graph.specs.Spots.{see}
 use Rattle.shm_graph.specs.Clean.{IsClean}

@@ -1,7 +1,7 @@
 -- the words of the pool in the midst of a put
 use Rattle.std.specs.Prelude.{ℕ, ◌+◌, ◌*◌, ◌&&◌, ◌==◌, if◌then◌else◌, List}
 use Rattle.shm_plain.specs.declared.pair.Pair.{Pair}
-use Rattle.shm_plain.specs.Cells.{Cell, Latch, Home, Era, Root, Segment, Page, Value, Directory, Entry, page_class, values, directory, entries, live_header, own_tag, put_at, value_word, directory_word, after}
+use Rattle.shm_plain.specs.Cells.{Cell, Latch, Home, Era, Root, Segment, Page, Value, Directory, Entry, page_class, values, directory, entries, live_header, own_tag, put_at, directory_word, after}
 
 -- the words of the value block of put k before its entry references it, where it was made at this era
 abbrev pub new_value : List Pair → ℕ → ℕ → ℕ → ℕ

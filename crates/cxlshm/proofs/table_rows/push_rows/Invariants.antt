@@ -1,8 +1,7 @@
-use Rattle.std.proofs.Common.{◌≡◌, ℕ, List, ◌++◌, map}
-use Rattle.shm_graph.specs.declared.table.Entry.{Entry}
+use Rattle.std.proofs.Common.{◌≡◌, ◌++◌, map}
 use Rattle.cxlshm.specs.Report.{in_order, row_of}
-use Rattle.cxlshm.specs.TableRows.{HoldsTable, rows_seen}
+use Rattle.cxlshm.specs.TableRows.{EachTable, rows_seen}
 use Rattle.cxlshm.proofs.table_rows.push_rows.Given as goal
 
 abbrev pub invariant-loop-key : goal.invariant-loop-key
-invariant-loop-key l = (table : ℕ → ℕ → List Entry) → HoldsTable l.fn.geometry l.fn.words table → rows_seen l.rows.items ++ map (row_of l.c) l.key-iterator ≡ rows_seen l.fn.rows.items ++ map (row_of l.c) (in_order (table l.c))
+invariant-loop-key l = EachTable l.fn.geometry l.fn.words (λ table. rows_seen l.rows.items ++ map (row_of l.c) l.key-iterator ≡ rows_seen l.fn.rows.items ++ map (row_of l.c) (in_order (table l.c)))

@@ -1,5 +1,4 @@
-use Rattle.std.proofs.Common.{◌≡◌, ℕ, sym, ◌∙◌, ap, subst, refl, inl, inr, ◌⊎◌, arith}
-use Rattle.cxlshm.specs.Outcomes.{Replayed, Refused}
+use Rattle.std.proofs.Common.{◌∙◌, refl, inl, inr, arith}
 use Rattle.cxlshm.proofs.TopReads.{said, not_refused}
 use Rattle.cxlshm.proofs.top.top.Goals as goal
 

@@ -1,4 +1,4 @@
-use Rattle.std.proofs.Common.{◌≡◌, ℕ, ◌+◌, ◌<◌, ◌≤◌, arith, ap, ◌∙◌, subst, length}
+use Rattle.std.proofs.Common.{◌≡◌, ℕ, arith, ap, ◌∙◌, subst, length}
 use Rattle.shm_plain.specs.Cells.{Shows, after, ended, first_blocks}
 use Rattle.shm_plain.specs.Steps.{fresh}
 use Rattle.shm_plain.proofs.Making.{segment_own}

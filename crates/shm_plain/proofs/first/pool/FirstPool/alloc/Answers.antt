@@ -1,8 +1,7 @@
-use Rattle.std.proofs.Common.{◌≡◌, ℕ, ◌+◌, ◌<◌, ◌≤◌, ap, ◌∙◌, sym, subst, get_or, List, length, arith}
-use Rattle.std.specs.Prelude.{Some}
+use Rattle.std.proofs.Common.{◌≡◌, ℕ, ◌+◌, ◌<◌, ◌≤◌, ap, ◌∙◌, sym, subst, length, arith}
 use Rattle.shm_words.specs.Classes.{class_for}
 use Rattle.shm_words.proofs.Classing.{class_room}
-use Rattle.shm_plain.specs.Cells.{Cell, Shows, upd, cell_at}
+use Rattle.shm_plain.specs.Cells.{Shows, cell_at}
 use Rattle.shm_plain.specs.Steps.{IsNext, claimed, prepared, begun, block_at}
 use Rattle.shm_plain.proofs.Nexts.{block_below}
 use Rattle.shm_plain.proofs.Celling.{shown, shown_era, claimed_at}

@@ -1,4 +1,4 @@
-use Rattle.std.proofs.Common.{◌≡◌, ℕ, ap, ◌∙◌, sym, subst, inl, inr, get_or}
+use Rattle.std.proofs.Common.{◌≡◌, ℕ, ap, ◌∙◌, subst, inl, inr, get_or}
 use Rattle.shm_plain.specs.Cells.{Cell, Shows, upd, cell_at, Segment}
 use Rattle.shm_plain.proofs.CellAt.{cell_segment}
 use Rattle.shm_plain.proofs.Celling.{shows_put, shown_segment}

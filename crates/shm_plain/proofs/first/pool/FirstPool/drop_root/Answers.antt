@@ -1,4 +1,4 @@
-use Rattle.std.proofs.Common.{◌≡◌, ℕ, ◌+◌, ap, ◌∙◌, subst, sym, get_or}
+use Rattle.std.proofs.Common.{◌≡◌, ℕ, ap, ◌∙◌, subst, sym, get_or}
 use Rattle.shm_words.specs.Headers.{header_of}
 use Rattle.shm_plain.specs.Cells.{Root, Shows, cell_at}
 use Rattle.shm_plain.specs.Steps.{lowered}

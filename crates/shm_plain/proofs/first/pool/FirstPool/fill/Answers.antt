@@ -1,4 +1,4 @@
-use Rattle.std.proofs.Common.{◌≡◌, ◌≢◌, ◌+◌, ◌∙◌, arith, ap, ℕ, get_or, get_or-set_other, subst, List, [], ◌∷◌, ◌++◌, sym, take, length}
+use Rattle.std.proofs.Common.{◌≡◌, ◌≢◌, ◌+◌, ◌∙◌, arith, ap, ℕ, get_or, get_or-set_other, subst, List, [], ◌∷◌, ◌++◌, sym, take}
 use Rattle.std.proofs.lemmas.List.{take_more, take_all, length-take-le}
 use Rattle.shm_plain.specs.Cells.{Shows, upd, cell_at}
 use Rattle.shm_plain.specs.Steps.{stored_from}

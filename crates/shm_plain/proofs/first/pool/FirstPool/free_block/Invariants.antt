@@ -1,4 +1,4 @@
-use Rattle.std.proofs.Common.{◌≢◌, ℕ, ◌+◌, ◌<◌, slice_index}
+use Rattle.std.proofs.Common.{◌≢◌, ℕ, ◌<◌, slice_index}
 use Rattle.shm_plain.specs.Steps.{block_at}
 use Rattle.shm_plain.proofs.first.pool.FirstPool.free_block.Given as goal
 

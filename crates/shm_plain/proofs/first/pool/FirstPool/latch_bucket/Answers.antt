@@ -1,4 +1,4 @@
-use Rattle.std.proofs.Common.{◌≡◌, ℕ, ◌+◌, ◌<◌, arith, ap, ◌∙◌, refl, get_or}
+use Rattle.std.proofs.Common.{ℕ, arith, ap, ◌∙◌, get_or}
 use Rattle.shm_plain.specs.Stages.{housed}
 use Rattle.shm_plain.proofs.Celling.{shown_latch}
 use Rattle.shm_plain.proofs.Linking.{shows_held, shows_latched, home_is, bucket_empty}

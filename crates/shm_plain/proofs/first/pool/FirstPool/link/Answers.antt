@@ -1,4 +1,4 @@
-use Rattle.std.proofs.Common.{◌≡◌, ℕ, ◌+◌, ◌*◌, ◌<◌, arith, ap, ◌∙◌, sym, refl, subst, get_or, List}
+use Rattle.std.proofs.Common.{◌≡◌, ℕ, ◌+◌, ◌*◌, ◌<◌, arith, ap, ◌∙◌, sym, subst, get_or}
 use Rattle.shm_words.specs.Headers.{header_of}
 use Rattle.shm_plain.specs.declared.first.blocks.Made.{Made}
 use Rattle.shm_plain.specs.Puts.{bucket_of}
@@ -61,4 +61,3 @@ returns c =
     let s2 = shows_hanging c.args.puts.now c.args.k _ _ k (raises_as _ _ _ _ (180 + bucket_of (put_at c.args.puts.now c.args.k).key) (306 + 8 * c.args.k) c.up-2.ensures.shows c.latch_bucket-bucket.ensures.bucket b) s1 in
     let s3 = c.unlatch.ensures (hanging c.args.puts.now c.args.k) s2 in
     record { words = shows_linked c.args.puts.now c.args.k _ _ k (drops_as _ _ _ 1 c.drop_root.ensures.shows r) s3 }
-

@@ -1,5 +1,4 @@
-use Rattle.std.proofs.Common.{◌≡◌, ℕ, ap, ◌∙◌, subst, arith}
-use Rattle.shm_words.specs.Layout.{total_of}
+use Rattle.std.proofs.Common.{◌∙◌, subst}
 use Rattle.shm_plain.specs.Cells.{Shows, upd, cell_at}
 use Rattle.shm_plain.proofs.Celling.{shows_zeros, shows_fresh, total_one}
 use Rattle.shm_plain.proofs.first.pool.FirstPool.make.Goals as goal

@@ -1,4 +1,4 @@
-use Rattle.std.proofs.Common.{◌≡◌, ℕ, ◌<◌, ◌+◌, arith, ap, ◌∙◌, sym, refl, subst, get_or, List}
+use Rattle.std.proofs.Common.{◌≡◌, ℕ, arith, ap, ◌∙◌, sym, refl, subst, get_or}
 use Rattle.shm_words.specs.Headers.{header_of}
 use Rattle.shm_plain.specs.declared.first.blocks.Made.{Made}
 use Rattle.shm_plain.specs.Cells.{Shows}
@@ -6,7 +6,7 @@ use Rattle.shm_plain.specs.Steps.{IsDroppable}
 use Rattle.shm_plain.specs.Stages.{valued, housed}
 use Rattle.shm_plain.proofs.Celling.{shown_era}
 use Rattle.shm_plain.proofs.Alive.{raises_as, drops_as}
-use Rattle.shm_plain.proofs.Housing.{house_next, house_root, built, named, shows_built, shows_named, shows_housed, first_put, first_words, later_words, built_count, named_droppable}
+use Rattle.shm_plain.proofs.Housing.{house_next, house_root, built, shows_built, shows_named, shows_housed, first_put, first_words, later_words, built_count, named_droppable}
 use Rattle.shm_plain.proofs.first.pool.FirstPool.make_directory.Goals as goal
 
 pub alloc-requires-clause-era : goal.alloc-requires-clause-era

@@ -1,5 +1,5 @@
-use Rattle.std.proofs.Common.{◌≡◌, ℕ, ◌+◌, ◌*◌, ◌<◌, arith, refl, subst, List, [], ◌∷◌}
-use Rattle.shm_plain.specs.Cells.{Shows, entries}
+use Rattle.std.proofs.Common.{ℕ, ◌+◌, ◌*◌, ◌<◌, arith, refl, subst, [], ◌∷◌}
+use Rattle.shm_plain.specs.Cells.{Shows}
 use Rattle.shm_plain.specs.Steps.{allocated}
 use Rattle.shm_plain.specs.Stages.{latched}
 use Rattle.shm_plain.proofs.Celling.{shown_era}

@@ -1,5 +1,4 @@
-use Rattle.std.proofs.Common.{◌≡◌, ◌≢◌, ℕ, ◌+◌, ◌*◌, ◌∙◌, ◌<◌, arith, ap, sym, refl}
-use Rattle.std.specs.Prelude.{Some}
+use Rattle.std.proofs.Common.{◌≡◌, ◌+◌, ◌*◌, ◌<◌, arith, ap, refl}
 use Rattle.shm_plain.specs.declared.first.blocks.Made.{Made}
 use Rattle.shm_plain.specs.Cells.{Era, after, values}
 use Rattle.shm_plain.proofs.Celling.{shown_era}

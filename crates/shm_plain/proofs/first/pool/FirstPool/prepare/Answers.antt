@@ -1,4 +1,4 @@
-use Rattle.std.proofs.Common.{◌≡◌, ◌≢◌, ◌+◌, ◌∙◌, ◌<◌, arith, ap, ℕ, subst, length}
+use Rattle.std.proofs.Common.{◌≢◌, ◌+◌, ◌∙◌, ◌<◌, arith, ℕ, subst, length}
 use Rattle.shm_plain.specs.Cells.{Shows, upd, cell_at, own_tag}
 use Rattle.shm_plain.specs.Steps.{stored_from}
 use Rattle.shm_plain.proofs.Celling.{upd_other}

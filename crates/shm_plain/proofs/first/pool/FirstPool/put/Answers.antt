@@ -1,4 +1,4 @@
-use Rattle.std.proofs.Common.{◌≡◌, ℕ, ◌<◌, arith}
+use Rattle.std.proofs.Common.{◌<◌, arith}
 use Rattle.shm_plain.proofs.Linking.{linked_droppable, shows_after}
 use Rattle.shm_plain.proofs.first.pool.FirstPool.put.Goals as goal
 
