@@ -32,3 +32,5 @@ pub mod Loads
 pub mod HomeTarget
 pub mod Looking
 pub mod Going
+pub mod OpEnd
+pub mod LoadKeeping

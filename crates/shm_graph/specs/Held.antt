@@ -31,7 +31,7 @@ use Rattle.shm_graph.specs.Spots.{IsAt, class_at, spot_address, segment_of}
 use Rattle.shm_graph.specs.Blocks.{IsBlock}
 use Rattle.shm_graph.specs.References.{Words, words_of}
 use Rattle.shm_graph.specs.Tables.{Contents, contents_of, HasShape, IsPartition}
-use Rattle.shm_graph.specs.Ops.{word_at, is_op, slot_of, indegree}
+use Rattle.shm_graph.specs.Ops.{word_at, is_op, slot_of, up_slot, indegree}
 use Rattle.shm_graph.specs.Views.{View, own_word, owner_is, targets, limbos, ons}
 
 -- ---- words that have few values
@@ -322,7 +322,7 @@ MadeAt head root b = ((head b).count ≡ 1) × ((k : ℕ) × (root k ≡ b))
 -- ---- bounds of the tails, which the own era outruns
 
 abbrev pub TailSound : ℕ → ℕ → ℕ → ℕ → ℕ → Op → Type 0
-TailSound c r own tail unsent o = (tail + 1 ≤ own) × (unsent ≢ 0 → slot_of o ≢ Slot c r (tail % 8) → tail + 2 ≤ own)
+TailSound c r own tail unsent o = (tail + 1 ≤ own) × (unsent ≢ 0 → up_slot o ≢ Slot c r (tail % 8) → tail + 2 ≤ own)
 
 -- the words of a queue from an identity to itself are 0
 abbrev pub IsUnusedLane : ℕ → ℕ → (ℕ → ℕ) → Type 0

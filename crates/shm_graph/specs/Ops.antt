@@ -22,13 +22,17 @@ word_at x (Body b i) = x.body b i
 word_at x _ = 0
 
 -- the word that a count step changes
-
 abbrev pub slot_of : Op → Spot
 slot_of Nothing = Spare
 slot_of (Alloc s p b e) = p
 slot_of (Up s p b e) = p
 slot_of (Down s p b e) = p
 slot_of (Change h p a b e) = p
+
+-- the slot into which a step puts a reference where none was
+abbrev pub up_slot : Op → Spot
+up_slot (Up s p b e) = p
+up_slot _ = Spare
 
 -- the word that an op covers, and the value that it gives it
 pub data Cover : Type 0 where
