@@ -21,7 +21,7 @@ use Rattle.shm_graph.specs.declared.memo.Stored.{Stored}
 use Rattle.shm_graph.specs.Spots.{upd, same_spot, IsAt, class_at, segment_of, spot_address}
 use Rattle.shm_graph.specs.Blocks.{IsBlock}
 use Rattle.shm_graph.specs.References.{one_if, refs_of, words_of}
-use Rattle.shm_graph.specs.Ops.{cover, cover_of, covered, slot_of, indegree, limbo_of, on_of, is_op}
+use Rattle.shm_graph.specs.Ops.{cover, cover_of, covered, slot_of, up_slot, indegree, limbo_of, on_of, is_op}
 use Rattle.shm_graph.specs.Views.{View, targets, ons, limbos}
 use Rattle.shm_graph.specs.Tables.{contents_of, HasShape}
 use Rattle.shm_graph.specs.Held.{HeldAt, CountSound, SlotOf, reach_of, named_by, TagSound, MakingTie, MakingSound, InBlock, ZeroAt, TestAt, KnownAt, LooksSound, LaneSound, IsDying, OwnSound, OpTie, OpSound, Allowed, TailSound, room_of, IsUnusedLane, PartTie, ValueAt, MadeAt, is_loose}
@@ -98,7 +98,7 @@ alloc_kept g w v c k b e to tag m h a =
       ];
       self_lanes = subst (λ (t : Spot → ℕ). (d : ℕ) → d < g.clients → IsUnusedLane (tail d d) (front d d) (λ k. t (Slot d d k))) (sym path) h.self_lanes;
       tails = λ d r l lr. at1_all (λ (i : ℕ) (x : Op). i < g.clients → TailSound i r (w (Era i i)) (tail i r) (v.unsent i r) x) v.op c o d
-          (λ lc. let q = h.tails c r lc lr in (q.0, λ nz f. q.1 nz (λ z. f (sym (ap slot_of a.op) ∙ z)))) (λ _ ld. h.tails d r ld lr) l;
+          (λ lc. let q = h.tails c r lc lr in (q.0, λ nz f. q.1 nz (λ z. f (sym (ap up_slot a.op) ∙ z)))) (λ _ ld. h.tails d r ld lr) l;
       parts = h.parts;
       part = subst (λ (t : Spot → ℕ). (d : ℕ) → d < g.clients → PartTie (contents_of w' t) d (t (Home d)) (v.part d)) (sym path) (λ d l. part_lives g w v h d heads' t' l (λ i _. lives i) (λ _ _ _ _. refl) refl);
       queued = subst (λ (t : Spot → ℕ). (d : ℕ) → d < g.clients → is_loose (v.part d) ≡ false → (s r j : ℕ) → t (Slot s r j) ≢ 0 → HasShape (contents_of w' t) 0 1 (t (Slot s r j))) (sym path)

@@ -17,7 +17,7 @@ use Rattle.shm_graph.specs.declared.memo.Stored.{Stored}
 use Rattle.shm_graph.specs.declared.memo.Look.{Look}
 use Rattle.shm_graph.proofs.Frames.{at1_all}
 use Rattle.shm_graph.proofs.Lists.{at1_here, at1_other}
-use Rattle.shm_graph.specs.Ops.{word_at, cover, cover_of, slot_of, indegree, limbo_of, on_of, is_op}
+use Rattle.shm_graph.specs.Ops.{word_at, cover, cover_of, slot_of, up_slot, indegree, limbo_of, on_of, is_op}
 use Rattle.shm_graph.specs.Spots.{upd, same_spot, IsAt, spot_address}
 use Rattle.shm_graph.specs.Views.{View, targets, ons, limbos}
 use Rattle.shm_graph.specs.Blocks.{IsBlock}
@@ -99,7 +99,7 @@ change_kept g w v c x b e to p looks' kept values part h a =
       ];
       self_lanes = subst (λ (t : Spot → ℕ). (d : ℕ) → d < g.clients → IsUnusedLane (tail d d) (front d d) (λ k. t (Slot d d k))) (sym path) (λ d l. let q = h.self_lanes d l in (q.0, q.1, λ k. lane_apart d d k ∙ q.2 k));
       tails = λ d r l m. at1_all (λ (i : ℕ) (y : Op). i < g.clients → TailSound i r (eras i i) (tail i r) (v.unsent i r) y) v.op c o d
-          (λ lc. let q = h.tails c r lc m in (q.0, λ nz f. q.1 nz (λ z. f (sym (ap slot_of a.op) ∙ z)))) (λ _ ld. h.tails d r ld m) l;
+          (λ lc. let q = h.tails c r lc m in (q.0, λ nz f. q.1 nz (λ z. f (sym (ap up_slot a.op) ∙ z)))) (λ _ ld. h.tails d r ld m) l;
       parts = λ d i l m. loose d ∙ (h.parts d i l m ∙ sym (loose i));
       part = subst (λ (t : Spot → ℕ). (d : ℕ) → d < g.clients → PartTie (contents_of w' t) d (t (Home d)) (v'.part d)) (sym path)
           (λ d. at1_all (λ (i : ℕ) (y : Part). i < g.clients → PartTie (contents_of w' t') i (t' (Home i)) y) v.part c part d

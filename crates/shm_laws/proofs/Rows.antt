@@ -16,7 +16,7 @@ use Rattle.shm_graph.specs.declared.memo.Fact.{Fact}
 use Rattle.shm_graph.specs.declared.memo.Fact.TheVariants.{Header as HeaderRead, Counter, Class}
 use Rattle.shm_graph.proofs.Frames.{at1_all}
 use Rattle.shm_graph.proofs.Lists.{at1_here, at1_other}
-use Rattle.shm_graph.specs.Ops.{Cover, limbo_of, on_of, target, cover_of, slot_of, is_op}
+use Rattle.shm_graph.specs.Ops.{Cover, limbo_of, on_of, target, cover_of, slot_of, up_slot, is_op}
 use Rattle.shm_graph.specs.References.{words_of}
 use Rattle.shm_graph.specs.Spots.{upd, IsAt}
 use Rattle.shm_graph.specs.Views.{View, targets, ons, limbos}
@@ -118,8 +118,8 @@ begin_kept g w v c x o h a =
     no_op : is_op (v.op c) ≡ false
     no_op = ap is_op a.op
 
-    no_slot : (r k : ℕ) → slot_of (v.op c) ≢ Slot c r k
-    no_slot r k e = let q : Spare ≡ Slot c r k = sym (ap slot_of a.op) ∙ e in cc
+    no_slot : (r k : ℕ) → up_slot (v.op c) ≢ Slot c r k
+    no_slot r k e = let q : Spare ≡ Slot c r k = sym (ap up_slot a.op) ∙ e in cc
 
     redos : ℕ → ℕ
     redos = λ i. upd w (Redo c) x (Redo i)

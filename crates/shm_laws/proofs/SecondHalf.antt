@@ -18,7 +18,7 @@ use Rattle.shm_graph.specs.declared.memo.Stored.{Stored}
 use Rattle.shm_graph.specs.declared.memo.Look.{Look}
 use Rattle.shm_graph.proofs.Frames.{at1_all}
 use Rattle.shm_graph.proofs.Lists.{at1_here, at1_other}
-use Rattle.shm_graph.specs.Ops.{Cover, word_at, target, cover_of, slot_of, indegree, limbo_of, on_of, is_op}
+use Rattle.shm_graph.specs.Ops.{Cover, word_at, target, cover_of, slot_of, up_slot, indegree, limbo_of, on_of, is_op}
 use Rattle.shm_graph.specs.Spots.{upd, IsAt, spot_address}
 use Rattle.shm_graph.specs.Views.{View, targets, ons, limbos}
 use Rattle.shm_words.specs.Tags.{tag_author}
@@ -92,7 +92,7 @@ second_kept g w v c b y e n to p looks' kept values h a =
       ];
       self_lanes = subst (λ (t : Spot → ℕ). (d : ℕ) → d < g.clients → IsUnusedLane (tail d d) (front d d) (λ k. t (Slot d d k))) (sym path) h.self_lanes;
       tails = λ d r l m. at1_all (λ (i : ℕ) (x : Op). i < g.clients → TailSound i r (eras i i) (tail i r) (v.unsent i r) x) v.op c o d
-          (λ lc. let q = h.tails c r lc m in (q.0, λ nz f. q.1 nz (λ z. f (sym (ap slot_of a.op) ∙ z)))) (λ _ ld. h.tails d r ld m) l;
+          (λ lc. let q = h.tails c r lc m in (q.0, λ nz f. q.1 nz (λ z. f (sym (ap up_slot a.op) ∙ z)))) (λ _ ld. h.tails d r ld m) l;
       parts = h.parts;
       part = subst (λ (t : Spot → ℕ). (d : ℕ) → d < g.clients → PartTie (contents_of w' t) d (t (Home d)) (v.part d)) (sym path) (λ d l. part_lives g w v h d heads' t l (λ i _. stay i) (λ _ _ _ _. refl) refl);
       queued = subst (λ (t : Spot → ℕ). (d : ℕ) → d < g.clients → is_loose (v.part d) ≡ false → (s r k : ℕ) → t (Slot s r k) ≢ 0 → HasShape (contents_of w' t) 0 1 (t (Slot s r k))) (sym path)

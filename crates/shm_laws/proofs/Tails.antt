@@ -14,7 +14,7 @@ use Rattle.shm_graph.specs.declared.memo.Fact.TheVariants.{Header as HeaderRead,
 use Rattle.shm_graph.proofs.Frames.{at1_all}
 use Rattle.shm_graph.specs.Spots.{upd, IsAt}
 use Rattle.shm_graph.specs.Views.{View, targets, ons}
-use Rattle.shm_graph.specs.Ops.{slot_of, is_op}
+use Rattle.shm_graph.specs.Ops.{slot_of, up_slot, is_op}
 use Rattle.shm_words.specs.Tags.{tag_author}
 use Rattle.shm_graph.specs.Held.{HeldAt, FactAt, CounterAt, LaneSound, SlotOf, reach_of, named_by, KnownAt, TestAt, room_of, TailSound, ValueAt}
 use Rattle.shm_laws.proofs.Owns.{mine_stored, small_stored, there_stored}
@@ -124,8 +124,8 @@ tail_kept g w v c r h a =
     not_self : (d : ℕ) → (eqb c d && eqb r d) ≡ false
     not_self d = no_self c r d a.other
 
-    no_slot : slot_of (v.op c) ≢ Slot c r (tail c r % 8)
-    no_slot e = let q : Spare ≡ Slot c r (tail c r % 8) = sym (ap slot_of a.op) ∙ e in cc
+    no_slot : up_slot (v.op c) ≢ Slot c r (tail c r % 8)
+    no_slot e = let q : Spare ≡ Slot c r (tail c r % 8) = sym (ap up_slot a.op) ∙ e in cc
 
     room : tail c r + 2 ≤ w (Era c c)
     room = (h.tails c r a.inside a.to).1 a.some no_slot

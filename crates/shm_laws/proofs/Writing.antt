@@ -11,7 +11,7 @@ use Rattle.shm_graph.specs.declared.memo.Op.{Op}
 use Rattle.shm_graph.specs.declared.memo.Op.TheVariants.{Nothing, Alloc, Up, Down, Change}
 use Rattle.shm_graph.specs.Spots.{same_spot, upd, IsAt}
 use Rattle.shm_graph.specs.References.{Words, words_of}
-use Rattle.shm_graph.specs.Ops.{On, word_at, cover, cover_of, covered, target, slot_of, limbo_of, on_of, is_op}
+use Rattle.shm_graph.specs.Ops.{On, word_at, cover, cover_of, covered, target, slot_of, up_slot, limbo_of, on_of, is_op}
 use Rattle.shm_graph.specs.Views.{View, at1, targets, limbos, ons}
 use Rattle.shm_graph.specs.Held.{HeldAt, OpTie, OwnSound, TailSound, Allowed, room_of}
 use Rattle.shm_graph.proofs.Spotting.{same_spot_is, same_spot_self}
@@ -26,6 +26,7 @@ pub record Same (o o' : Op) (x : ℕ) : Type 0 where
   pub was : is_op o ≡ true
   pub is : is_op o' ≡ true
   pub slot : slot_of o' ≡ slot_of o
+  pub up : up_slot o' ≡ up_slot o
   pub before : cover_of o ≡ On (slot_of o) x
   pub after : cover_of o' ≡ On (slot_of o) x
   pub limbo : limbo_of o' ≡ limbo_of o
@@ -33,10 +34,10 @@ pub record Same (o o' : Op) (x : ℕ) : Type 0 where
   pub room : room_of o' ≡ room_of o
 
 pub written : (o o' : Op) (x : ℕ) → Writes o o' x → Same o o' x
-written (Alloc Committed p b e) o' x (y, z) = record { was = refl; is = subst (λ k. is_op k ≡ true) (sym y) refl; slot = ap slot_of y; before = ap (On p) (sym z); after = ap cover_of y ∙ ap (On p) (sym z); limbo = ap limbo_of y; on = ap on_of y; room = ap room_of y }
-written (Up Committed p b e) o' x (y, z) = record { was = refl; is = subst (λ k. is_op k ≡ true) (sym y) refl; slot = ap slot_of y; before = ap (On p) (sym z); after = ap cover_of y ∙ ap (On p) (sym z); limbo = ap limbo_of y; on = ap on_of y; room = ap room_of y }
-written (Down Committed p b e) o' x (y, z) = record { was = refl; is = subst (λ k. is_op k ≡ true) (sym y) refl; slot = ap slot_of y; before = ap (On p) (sym z); after = ap cover_of y ∙ ap (On p) (sym z); limbo = ap limbo_of y; on = ap on_of y; room = ap room_of y }
-written (Change (Raising Committed) p a b e) o' x (y, z) = record { was = refl; is = subst (λ k. is_op k ≡ true) (sym y) refl; slot = ap slot_of y; before = ap (On p) (sym z); after = ap cover_of y ∙ ap (On p) (sym z); limbo = ap limbo_of y; on = ap on_of y; room = ap room_of y }
+written (Alloc Committed p b e) o' x (y, z) = record { was = refl; is = subst (λ k. is_op k ≡ true) (sym y) refl; slot = ap slot_of y; up = ap up_slot y; before = ap (On p) (sym z); after = ap cover_of y ∙ ap (On p) (sym z); limbo = ap limbo_of y; on = ap on_of y; room = ap room_of y }
+written (Up Committed p b e) o' x (y, z) = record { was = refl; is = subst (λ k. is_op k ≡ true) (sym y) refl; slot = ap slot_of y; up = ap up_slot y; before = ap (On p) (sym z); after = ap cover_of y ∙ ap (On p) (sym z); limbo = ap limbo_of y; on = ap on_of y; room = ap room_of y }
+written (Down Committed p b e) o' x (y, z) = record { was = refl; is = subst (λ k. is_op k ≡ true) (sym y) refl; slot = ap slot_of y; up = ap up_slot y; before = ap (On p) (sym z); after = ap cover_of y ∙ ap (On p) (sym z); limbo = ap limbo_of y; on = ap on_of y; room = ap room_of y }
+written (Change (Raising Committed) p a b e) o' x (y, z) = record { was = refl; is = subst (λ k. is_op k ≡ true) (sym y) refl; slot = ap slot_of y; up = ap up_slot y; before = ap (On p) (sym z); after = ap cover_of y ∙ ap (On p) (sym z); limbo = ap limbo_of y; on = ap on_of y; room = ap room_of y }
 written (Change (Raising Begun) p a b e) o' x y = absurd y
 written (Change (Raising Written) p a b e) o' x y = absurd y
 written (Change (Lowering s) p a b e) o' x y = absurd y
@@ -119,7 +120,7 @@ module _ (g : Geometry) (w : Spot → ℕ) (v : View) (h : HeldAt g w v) (c x : 
   allowed_same d = at1_all (λ (j : ℕ) (k : Op). j < g.clients → Allowed j k) v.op c o d (λ l. allowed c (v.op c) o x writes (h.allowed c l)) (λ n. h.allowed d)
 
   pub tails_same : (d r : ℕ) → d < g.clients → r < g.clients → TailSound d r (w (Era d d)) (w (Tail d r)) (v.unsent d r) (at1 v.op c o d)
-  tails_same d r l lr = at1_all (λ (j : ℕ) (k : Op). j < g.clients → TailSound j r (w (Era j j)) (w (Tail j r)) (v.unsent j r) k) v.op c o d (λ m. let q = h.tails c r m lr in (q.0, λ u n. q.1 u (λ z. n (same.slot ∙ z)))) (λ n m. h.tails d r m lr) l
+  tails_same d r l lr = at1_all (λ (j : ℕ) (k : Op). j < g.clients → TailSound j r (w (Era j j)) (w (Tail j r)) (v.unsent j r) k) v.op c o d (λ m. let q = h.tails c r m lr in (q.0, λ u n. q.1 u (λ z. n (same.up ∙ z)))) (λ n m. h.tails d r m lr) l
 
   pub slots_same : (d : ℕ) → d < g.clients → is_op (at1 v.op c o d) ≡ true → Holds w g v d (slot_of (at1 v.op c o d))
   slots_same d = at1_all (λ (j : ℕ) (k : Op). j < g.clients → is_op k ≡ true → Holds w g v j (slot_of k)) v.op c o d (λ l _. subst (Holds w g v c) (sym same.slot) (h.slots c l same.was)) (λ n. h.slots d)
