@@ -23,7 +23,7 @@ use Rattle.shm_graph.specs.Asks.{Trail}
 use Rattle.shm_graph.specs.Changes.{called, test_before, read_on, row_read, home_read, is_held, recovers, last_agent, recovers_by, with_last, stepped, with_end, memo_on}
 use Rattle.shm_graph.specs.Events.{graph_of, IsSame}
 use Rattle.shm_graph.specs.Laws.{Frame, framed, Stands, KeptAt}
-use Rattle.shm_graph.proofs.Frames.{at1_here}
+use Rattle.shm_graph.proofs.Lists.{at1_here}
 use Rattle.shm_graph.proofs.MemoParts.{same_part, op_set, looks_set}
 use Rattle.shm_graph.proofs.Calling.{called_held, called_part, fact_held}
 use Rattle.shm_graph.proofs.Loads.{choice, row_held, page_held}

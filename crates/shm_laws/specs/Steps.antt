@@ -77,36 +77,15 @@ alloc_view v c k b e m =
       test = at1 v.test c None;
     }
 
--- ---- the exchange that lowers a live block for a root
+-- ---- what the exchanges that overwrite the header of another share
 
 -- the row of c shows the era of the header that is overwritten
 abbrev pub RowShows : (ℕ → ℕ → ℕ) → Header → ℕ → Type 0
 RowShows era h c = (c ≢ h.client) → h.era ≤ era c h.client
 
--- what is known afterwards was known, and is of a block in reach or of a dying block
-pub record DownStep (g : Geometry) (w : Spot → ℕ) (v : View) (c k b e n to : ℕ) (kept : List Stored) : Type 0 where
-  pub inside : c < g.clients
-  pub acts : v.status c ≢ status.New
-  pub here : v.status c ≢ status.Gone
-  pub op : v.op c ≡ Down Begun (Root c k) b e
-  pub some : b ≢ 0
-  pub small : to < 2 ^ 64
-  pub new : header_of to ≡ record { live = true; client = c; count = n; era = e }
-  pub lower : n + 1 ≡ (header_of (w (Head b))).count
-  pub shows : RowShows (λ i j. w (Era i j)) (header_of (w (Head b))) c
-
+-- the dying blocks with a block whose count became n
 abbrev pub dying_after : ℕ → ℕ → List ℕ → List ℕ
 dying_after n b dying = if n == 0 then dying ++ b ∷ [] else dying
-
-abbrev pub down_view : View → ℕ → ℕ → ℕ → ℕ → ℕ → List Stored → View
-down_view v c k b e n kept =
-    record v {
-      op = at1 v.op c (Down Committed (Root c k) b e);
-      dying = at1 v.dying c (dying_after n b (v.dying c));
-      looks = at1 v.looks c [];
-      known = at1 v.known c kept;
-      test = at1 v.test c None;
-    }
 
 -- ---- the store that frees a dying block
 
