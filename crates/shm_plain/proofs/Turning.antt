@@ -10,16 +10,16 @@ use Rattle.shm_graph.specs.declared.memo.Kind.{Kind}
 use Rattle.shm_graph.specs.declared.memo.Memo.{Memo}
 use Rattle.shm_graph.specs.declared.memo.Step.{Step}
 use Rattle.shm_graph.specs.declared.run.Account.{Account}
-use Rattle.shm_graph.specs.declared.run.Move.TheVariants.{Word, Begins}
+use Rattle.shm_graph.specs.declared.run.Move.TheVariants.{Word, Dies, Begins}
 use Rattle.shm_graph.specs.declared.run.Start.{Start}
 use Rattle.shm_graph.specs.Asks.{at_of}
 use Rattle.shm_graph.specs.Changes.{acts, acts_by, entered, last_agent}
 use Rattle.shm_graph.specs.Laws.{Control, Outcome}
-use Rattle.shm_graph.specs.Runs.{Turned, state, Held, account_at, account_after, account_entered, accounts_after, changed, memos_of, EraFits}
+use Rattle.shm_graph.specs.Runs.{Turned, state, Held, account_at, account_after, account_died, account_entered, accounts_after, changed, memos_of, EraFits}
 use Rattle.shm_graph.specs.Whole.{Inside, Keeps, Kept, Learns}
 use Rattle.shm_graph.proofs.FirstHeld.{first_held}
-use Rattle.shm_graph.proofs.Running.{Leads-more, turned-begins}
-use Rattle.shm_plain.specs.Pools.{Pool, pool, first_pool, memo_of, IsRun, IsOf, MayStep, readied, turn_on, turned}
+use Rattle.shm_graph.proofs.Running.{Leads-more, turned-begins, turned-dies}
+use Rattle.shm_plain.specs.Pools.{Pool, pool, first_pool, memo_of, IsRun, IsOf, MayStep, readied, turn_on, turned, after_fall}
 use Rattle.shm_plain.specs.Tracks.{kind_next}
 
 pub first_run : (s : Start) → GeometryFits s.geometry → EraFits s.first_era → IsRun (first_pool s)
@@ -63,6 +63,20 @@ ready_run p c run l may = go (acts (memo_of p c)) refl
     go : (b : Bool) → acts (memo_of p c) ≡ b → let es = cond b p.accounts es' in IsRun (pool p.start p.words es (cond b p.turns (p.turns ++ Begins c k ∷ []))) × (acts (account_at es c).memo ≡ true)
     go true e = (run, e)
     go false e = (begins e, ap (λ (x : Account). acts x.memo) here ∙ entered_acts k (memo_of p c))
+
+-- ---- the death of an agent
+
+pub fall_run : (p : Pool) (c : ℕ) → IsRun p → c < p.start.geometry.clients → IsRun (after_fall p c)
+fall_run p c run l = go (acts (memo_of p c)) refl
+  where
+    es' : List Account
+    es' = changed account_died p.accounts c
+
+    go : (b : Bool) → acts (memo_of p c) ≡ b → IsRun (pool p.start p.words (cond b es' p.accounts) (cond b (p.turns ++ Dies c ∷ []) p.turns))
+    go false e = run
+    go true e =
+        let now : Turned p.start.geometry (state p.words p.accounts) (Dies c) = turned-dies p.start.geometry (state p.words p.accounts) c run.held l in
+        record { held = now.held; leads = Leads-more p.start.geometry _ p.turns _ (Dies c) run.leads e now }
 
 -- ---- a word step
 

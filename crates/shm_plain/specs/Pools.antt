@@ -10,7 +10,7 @@ use Rattle.shm_graph.specs.Asks.{at_of, seen_of, words_set}
 use Rattle.shm_graph.specs.Changes.{acts}
 use Rattle.shm_graph.specs.Laws.{Control, step_of}
 use Rattle.shm_graph.specs.Runs.{Held, Leads, MayBegin, state, first_state, first_words, accounts_from, accounts_after, memos_of}
-use Rattle.shm_plain.specs.Tracks.{kind_next, ready_accounts, ready_turns}
+use Rattle.shm_plain.specs.Tracks.{kind_next, ready_accounts, ready_turns, fall_accounts, fall_turns}
 
 -- what it was made of, its words by address, its accounts by identity, and its turns, the first one first
 pub record Pool : Type 0 where
@@ -40,6 +40,10 @@ turn_on p k m = step_of k m (seen_of (k.asks m) (slice_index p.words (at_of (k.a
 -- the pool after a word step
 abbrev pub turned : Pool → Step → Pool
 turned p t = pool p.start (words_set t.ask p.words) (accounts_after p.accounts t) (p.turns ++ Word t ∷ [])
+
+-- the pool in which no agent of the identity acts: where one did, it is dead
+abbrev pub after_fall : Pool → ℕ → Pool
+after_fall p c = pool p.start p.words (fall_accounts p.accounts c) (fall_turns p.accounts p.turns c)
 
 -- the state is Held, and the turns lead to it from the first one
 pub record IsRun (p : Pool) : Type 0 where

@@ -7,9 +7,9 @@ use Rattle.shm_graph.specs.declared.memo.Step.{Step}
 use Rattle.shm_graph.specs.declared.run.Start.{Start}
 use Rattle.shm_graph.specs.declared.run.Account.{Account}
 use Rattle.shm_graph.specs.declared.run.Move.{Move}
-use Rattle.shm_graph.specs.declared.run.Move.TheVariants.{Word, Begins}
+use Rattle.shm_graph.specs.declared.run.Move.TheVariants.{Word, Dies, Begins}
 use Rattle.shm_graph.specs.Changes.{acts, last_agent}
-use Rattle.shm_graph.specs.Runs.{accounts_from, accounts_after, account_entered, changed, fell_by, memos_of}
+use Rattle.shm_graph.specs.Runs.{accounts_from, accounts_after, account_died, account_entered, changed, fell_by, memos_of}
 use Rattle.shm_plain.specs.declared.track.Track.{Track}
 
 -- the first accounts, and no turn
@@ -33,3 +33,13 @@ noted_at c t k = record { accounts = accounts_after (ready_accounts k.accounts c
 
 abbrev pub noted : Step → Track → Track
 noted t k = noted_at t.me.who t k
+
+-- an acting agent of c dies
+abbrev pub fall_accounts : List Account → ℕ → List Account
+fall_accounts es c = if acts (memos_of es c) then changed account_died es c else es
+
+abbrev pub fall_turns : List Account → List Move → ℕ → List Move
+fall_turns es ts c = if acts (memos_of es c) then ts ++ Dies c ∷ [] else ts
+
+abbrev pub fallen : ℕ → Track → Track
+fallen c k = record { accounts = fall_accounts k.accounts c; turns = fall_turns k.accounts k.turns c }

@@ -8,10 +8,10 @@ ghost use Rattle.shm_graph.specs.Laws.{turn_of, is_died, Outcome};
 ghost use Rattle.shm_graph.specs.Runs.{EraFits, MayBegin};
 ghost use Rattle.shm_graph.specs.Whole.{fits_now, gives_now, Learns};
 ghost use Rattle.shm_plain.specs.Tracks.{kind_next};
-ghost use Rattle.shm_plain.specs.Pools.{IsOf, IsRun, first_pool, memo_of, readied, turn_on, turned, MayStep};
+ghost use Rattle.shm_plain.specs.Pools.{IsOf, IsRun, first_pool, memo_of, readied, turn_on, turned, MayStep, after_fall};
 
 use crate::act::make_step;
-use crate::track::{Board, Place, board, note};
+use crate::track::{Board, Place, board, note, note_death};
 use shm_graph::{Life, Machine, Start, Turn, first_words};
 use shm_words::Geometry;
 use std::alloc::{AllocError, Global};
@@ -107,6 +107,15 @@ impl PlainPool {
         life.left -= 1;
         let seen = self.turn(who, m);
         m.take(seen)
+    }
+
+    /// The agent of `who` is dead. Where none acts nothing changes, and no turn is added.
+    pub fn fall(&mut self, who: u8)
+        requires { who < self.old.start.geometry.clients }
+        ensures fallen { self.new ≡ after_fall self.old who }
+        ensures run { IsRun self.new }
+    {
+        note_death(&self.board, &mut self.place, who);
     }
 
     /// Makes the word step that the machine asks for, and gives what it sees.

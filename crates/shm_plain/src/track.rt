@@ -4,7 +4,7 @@
 
 ghost use Rattle.std.specs.Prelude.{◌≡◌, ◌<◌, [], IfOk};
 ghost use Rattle.shm_graph.specs.Laws.{step_of};
-ghost use Rattle.shm_plain.specs.Tracks.{first_track, noted};
+ghost use Rattle.shm_plain.specs.Tracks.{first_track, noted, fallen};
 
 use atomic_table::{Play, Seat, Table, TableRule};
 use shm_graph::{Account, Machine, Move, Start};
@@ -61,6 +61,14 @@ pub(crate) fn board(alloc: Global, start: Start) -> Result<(Board, Place), Alloc
     Table::of_words(alloc, &[0], &start)
 }
 
+/// Changes the view by one load.
+fn make_change<C: Change>(board: &Board, place: &mut Place)
+    requires { (place.old.table_id ≡ board.now.shared.table_id) × (board.now.shared.table_id.words ≡ 1) }
+    ensures { (place.new.table_id ≡ place.old.table_id) × (place.new.me.0 ≡ C.to place.old.me.0) × (place.new.me.1 ≡ place.old.me.1) }
+{
+    board.shared.load::<Changes<C>>(place, 0);
+}
+
 /// Notes the step of a machine that was given `seen`, after the beginning of an agent where none acts.
 pub(crate) fn note<M: Machine>(board: &Board, place: &mut Place, m: &M, seen: u64)
     requires { (place.old.table_id ≡ board.now.shared.table_id) × (board.now.shared.table_id.words ≡ 1) }
@@ -73,5 +81,20 @@ fn note_as<C: Change, M: Machine>(board: &Board, place: &mut Place, _m: &M, _see
     requires { (place.old.table_id ≡ board.now.shared.table_id) × (board.now.shared.table_id.words ≡ 1) }
     ensures { (place.new.table_id ≡ place.old.table_id) × (place.new.me.0 ≡ C.to place.old.me.0) × (place.new.me.1 ≡ place.old.me.1) }
 {
-    board.shared.load::<Changes<C>>(place, 0);
+    make_change::<C>(board, place);
+}
+
+/// Notes the death of the agent of `who`, where one acts.
+pub(crate) fn note_death(board: &Board, place: &mut Place, who: u8)
+    requires { (place.old.table_id ≡ board.now.shared.table_id) × (board.now.shared.table_id.words ≡ 1) }
+    ensures { (place.new.table_id ≡ place.old.table_id) × (place.new.me.0 ≡ fallen who place.old.me.0) × (place.new.me.1 ≡ place.old.me.1) }
+{
+    note_death_as::<Brand>(board, place, who);
+}
+
+fn note_death_as<C: Change>(board: &Board, place: &mut Place, _who: u8)
+    requires { (place.old.table_id ≡ board.now.shared.table_id) × (board.now.shared.table_id.words ≡ 1) }
+    ensures { (place.new.table_id ≡ place.old.table_id) × (place.new.me.0 ≡ C.to place.old.me.0) × (place.new.me.1 ≡ place.old.me.1) }
+{
+    make_change::<C>(board, place);
 }

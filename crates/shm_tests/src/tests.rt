@@ -10,8 +10,10 @@ fn a_join_stores_one_word(rt: HostRuntime) -> Result<(), Fail> {
     let rows = [(0, true, 0, 0), (1, false, 1, 0), (5, false, 1, 4)];
     for (steps, died, status, left) in rows {
         let geometry = Geometry::new(1, 1)?;
-        let after = step_join(rt.alloc(), geometry, 9, 0, steps)?;
+        let mut after = step_join(rt.alloc(), geometry, 9, 0, steps)?;
         assert_eq!(rt; (after.died, after.left), (died, left), "{steps}");
+        after.pool.fall(0);
+        assert_eq!(rt; after.pool.geometry(), geometry, "{steps}");
         for at in 0..2098u32 {
             let word = match at {
                 1 => status,
