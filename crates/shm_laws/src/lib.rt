@@ -3,3 +3,7 @@
 //! A kind's condition and what it makes of the memos stand in specs/, its law in proofs/ under the kind's name. They are stated
 //! over functions (the word at each spot, the parts of each memo), so that a clause that a step doesn't touch stays by computation.
 #![tactic(auto)]
+
+mod laws;
+
+pub use laws::{exchanges_kept, loads_kept, own_stores_kept, shared_stores_kept};

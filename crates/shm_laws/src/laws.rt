@@ -1,0 +1,57 @@
+//! The laws of the kinds of word step: under the kind's condition the invariant outlives the step.
+
+ghost use Rattle.std.specs.Prelude.{◌≡◌, ℕ, ◌+◌, ◌<◌, Option, Some, List};
+ghost use Rattle.shm_words.specs.declared.geometry.Geometry.{Geometry as AGeometry};
+ghost use Rattle.shm_words.specs.Headers.{header_of};
+ghost use Rattle.shm_graph.specs.declared.spot.Spot.{Spot as ASpot};
+ghost use Rattle.shm_graph.specs.declared.spot.Spot.TheVariants.{Redo, Latch, Era, Root, Tail, Front, Page, Head, Body};
+ghost use Rattle.shm_graph.specs.declared.memo.Op.{Op as AnOp};
+ghost use Rattle.shm_graph.specs.declared.memo.Stored.{Stored as AStored};
+ghost use Rattle.shm_graph.specs.declared.memo.Look.{Look as ALook};
+ghost use Rattle.shm_graph.specs.declared.memo.Making.{Making as AMaking};
+ghost use Rattle.shm_graph.specs.declared.memo.Test.{Test as ATest};
+ghost use Rattle.shm_graph.specs.declared.table.Part.{Part as APart};
+ghost use Rattle.shm_graph.specs.Spots.{upd};
+ghost use Rattle.shm_graph.specs.Views.{View};
+ghost use Rattle.shm_graph.specs.Held.{HeldAt};
+ghost use Rattle.shm_graph.specs.Changes.{next_row};
+ghost use Rattle.shm_laws.specs.Steps.{BeginStep, begin_view, RowStep, row_store_view, ClassStep, class_view, CloseStep, close_view, TailStep, tail_view, HeadStep, head_view, RootStep, root_view, BodyStep, body_view, BackStep, back_view, FreeStep, free_view, LatchStep, latch_view, AllocStep, alloc_view, UpStep, up_view, LowerStep, lower_view, ChangeStep, change_view, SecondStep, second_view, header_view, row_view, LookStep, look_view};
+
+/// Stores of own words: a redo record that begins a step, a row, the own era that closes a step or the first half of a change, the
+/// tail of a queue whose send is closed, and the head of a queue whose item was taken.
+pub fn own_stores_kept()
+    ensures redo { (g : AGeometry) (w : ASpot → ℕ) (v : View) (c x : ℕ) (o : AnOp) → HeldAt g w v → BeginStep g w v c x o → HeldAt g (upd w (Redo c) x) (begin_view v c x o) }
+    ensures row { (g : AGeometry) (w : ASpot → ℕ) (v : View) (c j x : ℕ) → HeldAt g w v → RowStep g w v c j x → HeldAt g (upd w (Era c j) x) (row_store_view v c j x) }
+    ensures era { (g : AGeometry) (w : ASpot → ℕ) (v : View) (c : ℕ) (o : AnOp) → HeldAt g w v → CloseStep g v c o → HeldAt g (upd w (Era c c) (w (Era c c) + 1)) (close_view v c (w (Era c c) + 1) o) }
+    ensures tail { (g : AGeometry) (w : ASpot → ℕ) (v : View) (c r : ℕ) → HeldAt g w v → TailStep g w v c r → HeldAt g (upd w (Tail c r) (w (Tail c r) + 1)) (tail_view v c r (w (Tail c r) + 1)) }
+    ensures head { (g : AGeometry) (w : ASpot → ℕ) (v : View) (c s : ℕ) → HeldAt g w v → HeadStep g w v c s → HeldAt g (upd w (Front s c) (w (Front s c) + 1)) (head_view v c s (w (Front s c) + 1)) }
+{}
+
+/// Stores of shared words: the new value of a committed step in its root, or in a reference word of a block; a page's class; a
+/// latch that is given back; and the header of a zero-count block that is freed.
+pub fn shared_stores_kept()
+    ensures root { (g : AGeometry) (w : ASpot → ℕ) (v : View) (c k x : ℕ) (o : AnOp) → HeldAt g w v → RootStep g w v c k x o → HeldAt g (upd w (Root c k) x) (root_view v c k x o) }
+    ensures body { (g : AGeometry) (w : ASpot → ℕ) (v : View) (c b i x : ℕ) (o : AnOp) → HeldAt g w v → BodyStep g v c b i x o → HeldAt g (upd w (Body b i) x) (body_view v c b i x o) }
+    ensures class { (g : AGeometry) (w : ASpot → ℕ) (v : View) (c s q k : ℕ) → HeldAt g w v → ClassStep g w v c s q k → HeldAt g (upd w (Page s q) k) (class_view v c s q k) }
+    ensures latch { (g : AGeometry) (w : ASpot → ℕ) (v : View) (c a : ℕ) (kept : List AStored) (values : List ℕ) → HeldAt g w v → BackStep g w v c a kept values → HeldAt g (upd w (Latch a) 0) (back_view v c kept values) }
+    ensures free { (g : AGeometry) (w : ASpot → ℕ) (v : View) (c b tag : ℕ) → HeldAt g w v → FreeStep g v c b tag → HeldAt g (upd w (Head b) 0) (free_view v c b) }
+{}
+
+/// Exchanges that succeed: of a latch, and of a header, by which a block becomes live, is raised, is lowered, or a half of a change
+/// is committed.
+pub fn exchanges_kept()
+    ensures latch { (g : AGeometry) (w : ASpot → ℕ) (v : View) (c a : ℕ) → HeldAt g w v → LatchStep g w v c a → HeldAt g (upd w (Latch a) (c + 1)) (latch_view v c a) }
+    ensures alloc { (g : AGeometry) (w : ASpot → ℕ) (v : View) (c k b e to tag : ℕ) (m : AMaking) → HeldAt g w v → AllocStep g w v c k b e to tag m → HeldAt g (upd w (Head b) to) (alloc_view v c k b e m) }
+    ensures up { (g : AGeometry) (w : ASpot → ℕ) (v : View) (c b e to : ℕ) (p : ASpot) (part : APart) → HeldAt g w v → UpStep g w v c b e to p part → HeldAt g (upd w (Head b) to) (up_view v c b e p part) }
+    ensures down { (g : AGeometry) (w : ASpot → ℕ) (v : View) (c b e n to : ℕ) (p : ASpot) (looks : List ALook) (kept : List AStored) (values : List ℕ) (part : APart) → HeldAt g w v → LowerStep g w v c b e n to p looks kept values part → HeldAt g (upd w (Head b) to) (lower_view v c b e n p looks kept values part) }
+    ensures first { (g : AGeometry) (w : ASpot → ℕ) (v : View) (c x b e to : ℕ) (p : ASpot) (looks : List ALook) (kept : List AStored) (values : List ℕ) (part : APart) → HeldAt g w v → ChangeStep g w v c x b e to p looks kept values part → HeldAt g (upd w (Head b) to) (change_view v c x b e p looks kept values part) }
+    ensures second { (g : AGeometry) (w : ASpot → ℕ) (v : View) (c b y e n to : ℕ) (p : ASpot) (looks : List ALook) (kept : List AStored) (values : List ℕ) → HeldAt g w v → SecondStep g w v c b y e n to p looks kept values → HeldAt g (upd w (Head b) to) (second_view v c b y e n p looks kept values) }
+{}
+
+/// Loads: of a header and of a row by a recoverer that tests whether a step was committed, and of a reference word of a block under
+/// its author's latch.
+pub fn loads_kept()
+    ensures header { (g : AGeometry) (w : ASpot → ℕ) (v : View) (c b : ℕ) → HeldAt g w v → c < g.clients → (((header_of (w (Head b))).client ≡ c) × ((header_of (w (Head b))).era ≡ w (Era c c)) → ⊥) → HeldAt g w (header_view v c (w (Head b)) (Some (record { block = b; next = 0 }))) }
+    ensures row { (g : AGeometry) (w : ASpot → ℕ) (v : View) (c k : ℕ) (t : ATest) → HeldAt g w v → c < g.clients → v.test c ≡ Some t → next_row c t.next ≡ k → w (Era k c) < w (Era c c) → HeldAt g w (row_view v c k (w (Era k c)) (Some (record { block = t.block; next = k + 1 }))) }
+    ensures look { (g : AGeometry) (w : ASpot → ℕ) (v : View) (c b i : ℕ) → HeldAt g w v → LookStep g w v c b i → HeldAt g w (look_view v c b i (w (Body b i))) }
+{}
