@@ -8,8 +8,8 @@ use Rattle.shm_words.specs.Layout.{GeometryFits, total_of, place_at, is_in}
 use Rattle.shm_words.proofs.Placing.{place-address, in_place}
 use Rattle.shm_graph.specs.declared.spot.Spot.{Spot}
 use Rattle.shm_graph.specs.declared.spot.Spot.TheVariants.{Spare, Status, Redo, Hold, Latch, Home, Era, Root, Tail, Front, Slot, Segment, Page}
-use Rattle.shm_graph.specs.Spots.{spot_of, spot_at, spot_address, IsAt}
-use Rattle.shm_graph.proofs.Spotting.{is_in_body, block_in_body, spot_past}
+use Rattle.shm_graph.specs.Spots.{spot_of, spot_at, spot_address, IsAt, is_in_body}
+use Rattle.shm_graph.proofs.Spotting.{block_in_body, spot_past}
 
 -- the place of a spot of no body
 abbrev pub place_of : Spot → Place

@@ -9,7 +9,7 @@ use Rattle.shm_graph.specs.declared.spot.Spot.{Spot}
 use Rattle.shm_graph.specs.declared.spot.Spot.TheVariants.{Status}
 use Rattle.shm_graph.specs.declared.memo.Memo.{Memo}
 use Rattle.shm_graph.specs.declared.memo.Status.TheVariants as status
-use Rattle.shm_graph.specs.Spots.{spot_at, upd}
+use Rattle.shm_graph.specs.Spots.{spot_at, upd, is_in_body}
 use Rattle.shm_graph.specs.Blocks.{classes}
 use Rattle.shm_graph.specs.Views.{view, at1}
 use Rattle.shm_graph.specs.Held.{HeldAt, Gone}
@@ -23,7 +23,6 @@ use Rattle.shm_graph.proofs.MemoParts.{status_set}
 use Rattle.shm_graph.proofs.Calling.{called_held, called_part}
 use Rattle.shm_graph.proofs.StatusStore.{status_held}
 use Rattle.shm_graph.proofs.SameGraph.{same_graph, nothing_happens, no_row}
-use Rattle.shm_graph.proofs.Spotting.{is_in_body}
 use Rattle.shm_graph.proofs.PageSpots.{fixed_stays}
 
 -- the memo tells each spot of no body

@@ -14,23 +14,22 @@ use Rattle.shm_graph.specs.declared.memo.Memo.{Memo}
 use Rattle.shm_graph.specs.declared.memo.Step.{Step}
 use Rattle.shm_graph.specs.declared.memo.Op.{Op}
 use Rattle.shm_graph.specs.declared.memo.Op.TheVariants.{Nothing}
-use Rattle.shm_graph.specs.Spots.{spot_at, upd}
+use Rattle.shm_graph.specs.Spots.{spot_at, upd, is_in_body}
 use Rattle.shm_graph.specs.Blocks.{classes}
 use Rattle.shm_graph.specs.Views.{view, at1}
 use Rattle.shm_graph.specs.Held.{HeldAt}
-use Rattle.shm_graph.specs.Ops.{cover_of, limbo_of}
+use Rattle.shm_graph.specs.Ops.{IsUncommitted, cover_of, limbo_of}
 use Rattle.shm_graph.specs.Asks.{Trail}
 use Rattle.shm_graph.specs.Changes.{called, test_before, read_on, row_read, home_read, is_held, recovers, last_agent, recovers_by, with_last, stepped, with_end, memo_on}
 use Rattle.shm_graph.specs.Events.{graph_of, IsSame}
-use Rattle.shm_graph.specs.Laws.{Frame, framed, Stands, KeptAt}
+use Rattle.shm_graph.specs.Laws.{MayEnd, Frame, framed, Stands, KeptAt}
 use Rattle.shm_graph.proofs.Lists.{at1_here}
 use Rattle.shm_graph.proofs.MemoParts.{same_part, op_set, looks_set}
 use Rattle.shm_graph.proofs.Calling.{called_held, called_part, fact_held}
 use Rattle.shm_graph.proofs.Loads.{choice, row_held, page_held}
 use Rattle.shm_graph.proofs.Looking.{home_held}
-use Rattle.shm_graph.proofs.OpEnd.{IsUncommitted, uncommitted_quiet, op_ended}
+use Rattle.shm_graph.proofs.OpEnd.{uncommitted_quiet, op_ended}
 use Rattle.shm_graph.proofs.SameGraph.{same_graph}
-use Rattle.shm_graph.proofs.Spotting.{is_in_body}
 use Rattle.shm_graph.proofs.Keeping.{fixed_kept}
 
 -- ---- the agent stays what it is
@@ -42,11 +41,6 @@ last_stepped (a ∷ b ∷ []) = refl
 last_stepped (a ∷ b ∷ d ∷ xs) = last_stepped (b ∷ d ∷ xs)
 
 -- ---- each word of the fixed part
-
--- where a recoverer reads its hold word, no step of its identity is committed
-abbrev pub MayEnd : ℕ → Memo → Spot → Type 0
-MayEnd c m (Hold d) = recovers m ≡ true → c ≡ d → IsUncommitted m.op
-MayEnd c m _ = Unit {0}
 
 held_by : (latch : Option ℕ) (a : ℕ) → is_held latch a ≡ true → latch ≡ Some a
 held_by None a e = absurd (false≢true e)
@@ -146,8 +140,7 @@ load_kept me w r f tr at after p s e n u x =
 
 -- an exchange of a word of the fixed part found another word
 pub lost_kept : (me : Me) (w : Spot → ℕ) (r : ℕ → Memo) (f : Frame) (tr : Trail) (at from to : ℕ) (after : ℕ → Memo → Type 0) (p : Spot) → Stands me w r f tr → spot_at me.geometry (classes w) at ≡ p → is_in_body p ≡ false → MayEnd me.who (r me.who) p → w p ≢ from
-    → let t : Step = framed me (Exchange at from to) f (w p) in
-    after (w p) (with_end f.ends (read_on me.who (called (r me.who) t) (test_before (r me.who) t) p (w p)))
+    → after (w p) (memo_on (r me.who) (framed me (Exchange at from to) f (w p)) p)
     → KeptAt me w r (Exchange at from to) f after (spot_at me.geometry (classes w) at)
 lost_kept me w r f tr at from to after p s e n u other x =
     let c = me.who in
@@ -160,4 +153,4 @@ lost_kept me w r f tr at from to after p s e n u other x =
     (subst (HeldAt me.geometry w) (sym (end_view r c (read_on c (called (r c) t) (test_before (r c) t) p (w p)) f.ends)) (read_held me.geometry w r c t p s.held s.who u)))
     (subst (λ b. IsSame (graph_of me.geometry w (view r)) (graph_of me.geometry (words b) (view (at1 r c (memo b))))) lost (read_same me.geometry w r c t p u))
     (λ q. absurd (other q))
-    (subst (λ b. after (w p) (memo b)) lost x)
+    x

@@ -17,7 +17,7 @@ use Rattle.shm_graph.specs.declared.memo.Stored.{Stored}
 use Rattle.shm_graph.specs.Spots.{same_spot}
 use Rattle.shm_graph.specs.Tables.{contents_of, HasShape}
 use Rattle.shm_graph.specs.References.{words_of}
-use Rattle.shm_graph.specs.Ops.{cover, cover_of, limbo_of, on_of, slot_of, up_slot, target, word_at, is_op}
+use Rattle.shm_graph.specs.Ops.{IsUncommitted, cover, cover_of, limbo_of, on_of, slot_of, up_slot, target, word_at, is_op}
 use Rattle.shm_graph.specs.Ops.Cover.{Quiet}
 use Rattle.shm_graph.specs.Views.{View, at1, targets, ons, limbos}
 use Rattle.shm_graph.specs.Held.{HeldAt, FactAt, SlotOf, reach_of, named_by, OpTie, OwnSound, IdleSound, TailSound, Allowed, CountSound, EraSound, LooksSound, LaneSound, KnownAt, TestAt, IsUnusedLane, PartTie, ValueAt, MadeAt, is_loose, odd}
@@ -25,15 +25,6 @@ use Rattle.shm_graph.proofs.Frames.{at1_all}
 use Rattle.shm_graph.proofs.Spotting.{same_spot_is, same_spot_self}
 use Rattle.shm_graph.proofs.Counting.{cover_slot, cover_idle, covered_none}
 use Rattle.shm_graph.proofs.Holders.{apart_slots}
-
--- the step, if there is one, has done no more than store its redo record
-abbrev pub IsUncommitted : Op → Type 0
-IsUncommitted Nothing = Unit {0}
-IsUncommitted (Alloc Begun p b e) = Unit {0}
-IsUncommitted (Up Begun p b e) = Unit {0}
-IsUncommitted (Down Begun p b e) = Unit {0}
-IsUncommitted (Change (Raising Begun) p a b e) = Unit {0}
-IsUncommitted _ = ⊥
 
 -- such a step does nothing to the references
 pub uncommitted_quiet : (o : Op) → IsUncommitted o → (cover_of o ≡ Quiet) × (limbo_of o ≡ 0) × (on_of o ≡ None)

@@ -7,9 +7,9 @@ use Rattle.shm_words.specs.declared.place.Place.TheVariants as place
 use Rattle.shm_words.specs.Layout.{total_of, bodies, place_at}
 use Rattle.shm_graph.specs.declared.spot.Spot.{Spot}
 use Rattle.shm_graph.specs.declared.spot.Spot.TheVariants.{Unused}
-use Rattle.shm_graph.specs.Spots.{spot_of, spot_at, class_at}
+use Rattle.shm_graph.specs.Spots.{spot_of, spot_at, class_at, is_in_body}
 use Rattle.shm_graph.specs.Blocks.{IsBlock}
-use Rattle.shm_graph.proofs.Spotting.{is_in_body, block_in_body, spot_past, spot_in_bodies, spot_before_bodies, block_within}
+use Rattle.shm_graph.proofs.Spotting.{block_in_body, spot_past, spot_in_bodies, spot_before_bodies, block_within}
 
 abbrev pub is_unused : Spot → Bool
 is_unused (Unused a) = true

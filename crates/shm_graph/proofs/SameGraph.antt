@@ -15,7 +15,7 @@ use Rattle.shm_graph.specs.Ops.{Cover, cover_of, limbo_of, target}
 use Rattle.shm_graph.specs.Events.{Nothing, Graph, graph_of, IsSame, Happens}
 use Rattle.shm_graph.specs.Controls.{IsRowShown}
 use Rattle.shm_graph.specs.Laws.{event_by}
-use Rattle.shm_graph.proofs.Spotting.{is_in_body}
+use Rattle.shm_graph.specs.Spots.{is_in_body}
 use Rattle.shm_graph.proofs.MemoParts.{part_stays}
 
 -- no header, no tag and no reference word changed, and the step in progress covers and holds over what it did

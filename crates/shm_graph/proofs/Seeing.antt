@@ -9,9 +9,9 @@ use Rattle.shm_words.specs.Layout.{GeometryFits, total_of, place_at, is_in}
 use Rattle.shm_words.proofs.Placing.{place-address, in_place}
 use Rattle.shm_graph.specs.declared.spot.Spot.{Spot}
 use Rattle.shm_graph.specs.declared.spot.Spot.TheVariants.{Page}
-use Rattle.shm_graph.specs.Spots.{same_spot, spot_of, spot_at, spot_address, IsAt, classes_in, see}
+use Rattle.shm_graph.specs.Spots.{same_spot, spot_of, spot_at, spot_address, IsAt, classes_in, see, is_in_body}
 use Rattle.shm_graph.specs.Blocks.{classes}
-use Rattle.shm_graph.proofs.Spotting.{same_spot_self, same_spot_is, same_spot_not, address-spot, spot_is_at, is_in_body, block_in_body, is_below}
+use Rattle.shm_graph.proofs.Spotting.{same_spot_self, same_spot_is, same_spot_not, address-spot, spot_is_at, block_in_body, is_below}
 
 -- a spot that is there holds the word at its address, and another holds 0
 pub see_there : (g : Geometry) (ws : List ℕ) (p : Spot) → IsAt g (classes_in g ws) p → see g ws p ≡ get_or ws (spot_address g p) 0

@@ -12,7 +12,7 @@ use Rattle.shm_words.specs.Classes.{IsClass}
 use Rattle.shm_words.proofs.Placing.{address-place}
 use Rattle.shm_graph.specs.declared.spot.Spot.{Spot}
 use Rattle.shm_graph.specs.declared.spot.Spot.TheVariants.{Spare, Status, Redo, Hold, Latch, Home, Era, Root, Tail, Front, Slot, Segment, Page, Unused, Head, Tag, Body}
-use Rattle.shm_graph.specs.Spots.{same_spot, block_spot, spot_of, spot_at, spot_address, IsAt, class_at}
+use Rattle.shm_graph.specs.Spots.{is_in_body, same_spot, block_spot, spot_of, spot_at, spot_address, IsAt, class_at}
 use Rattle.shm_graph.specs.Blocks.{IsBlock}
 
 -- ---- one spot or two
@@ -80,14 +80,6 @@ spot_past g class a l = grind (arith, nat_tests)
 pub spot_in_bodies : (g : Geometry) (class : ℕ → ℕ → ℕ) (a : ℕ) → bodies g ≤ a → a < total_of g → spot_at g class a ≡ block_spot (class_at g class a) a ((a - bodies g) % 128)
 unfolding spot_at place_at
 spot_in_bodies g class a b l = grind (arith, nat_tests)
-
--- a spot of a page's body
-abbrev pub is_in_body : Spot → Bool
-is_in_body (Unused a) = true
-is_in_body (Head b) = true
-is_in_body (Tag b) = true
-is_in_body (Body b i) = true
-is_in_body _ = false
 
 pub spot_before_bodies : (g : Geometry) (class : ℕ → ℕ → ℕ) (a : ℕ) → a < bodies g → is_in_body (spot_at g class a) ≡ false
 unfolding spot_at place_at

@@ -10,8 +10,8 @@ use Rattle.shm_words.specs.Layout.{GeometryFits, total_of, place_at}
 use Rattle.shm_graph.specs.declared.spot.Spot.{Spot}
 use Rattle.shm_graph.specs.declared.spot.Spot.TheVariants.{Spare, Status, Redo, Hold, Latch, Home, Era, Root, Tail, Front, Slot, Segment, Page, Unused, Head, Tag, Body}
 use Rattle.shm_graph.specs.Runs.{first_word}
-use Rattle.shm_graph.specs.Spots.{spot_of, spot_at, spot_address, IsAt, classes_in, see}
-use Rattle.shm_graph.proofs.Spotting.{is_in_body, at_below}
+use Rattle.shm_graph.specs.Spots.{spot_of, spot_at, spot_address, IsAt, classes_in, see, is_in_body}
+use Rattle.shm_graph.proofs.Spotting.{at_below}
 use Rattle.shm_graph.proofs.Fixed.{place_of, fixed_place, fixed_is_at, fixed_in}
 use Rattle.shm_graph.proofs.Seeing.{see_there, see_absent, seen_is_at}
 

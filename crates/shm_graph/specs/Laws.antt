@@ -8,7 +8,7 @@ use Rattle.shm_graph.specs.declared.ask.Me.{Me}
 use Rattle.shm_graph.specs.declared.ask.Turn.{Turn}
 use Rattle.shm_graph.specs.declared.ask.Turn.TheVariants.{More, Done, Died}
 use Rattle.shm_graph.specs.declared.spot.Spot.{Spot}
-use Rattle.shm_graph.specs.declared.spot.Spot.TheVariants.{Root, Head}
+use Rattle.shm_graph.specs.declared.spot.Spot.TheVariants.{Hold, Root, Head}
 use Rattle.shm_graph.specs.declared.memo.First.TheVariants.{Begun}
 use Rattle.shm_graph.specs.declared.memo.Second.TheVariants.{Open}
 use Rattle.shm_graph.specs.declared.memo.Half.TheVariants.{Raising, Lowering}
@@ -22,7 +22,8 @@ use Rattle.shm_graph.specs.Blocks.{classes}
 use Rattle.shm_graph.specs.Views.{View, view, at1}
 use Rattle.shm_graph.specs.Held.{HeldAt}
 use Rattle.shm_graph.specs.Asks.{Trail, at_of, seen_of, words_after, pair, call_before}
-use Rattle.shm_graph.specs.Changes.{memo_on, spot_told}
+use Rattle.shm_graph.specs.Ops.{IsUncommitted}
+use Rattle.shm_graph.specs.Changes.{memo_on, spot_told, recovers}
 use Rattle.shm_graph.specs.Events.{Event, Nothing, Alloc, Up, Down, ChangeUp, ChangeDown, Free, graph_of, Happens}
 use Rattle.shm_graph.specs.Controls.{IsAllowed, IsRowShown}
 
@@ -119,6 +120,11 @@ KeptAt me w r a f after p = Kept w r (framed me a f (seen_of a (w p))) p (after 
 -- from each Held state that fits, in any frame, the step that is asked for leads to a Held state, and then `after` holds of the word found and of the memo
 abbrev pub StepKeeps : Me → Ask → Trail → (Memo → Type 0) → (ℕ → Memo → Type 0) → Type 0
 StepKeeps me a tr before after = (w : Spot → ℕ) (r : ℕ → Memo) (f : Frame) → Stands me w r f tr → before (r me.who) → KeptAt me w r a f after (spot_at me.geometry (classes w) (at_of a))
+
+-- where a recoverer reads its hold word, no step of its identity is committed
+abbrev pub MayEnd : ℕ → Memo → Spot → Type 0
+MayEnd c m (Hold d) = recovers m ≡ true → c ≡ d → IsUncommitted m.op
+MayEnd c m _ = Unit {0}
 
 module _ {S A : Type 0} (k : Control S A) where
   -- its identity and its line stay, it has made a step, and it is finished once it has answered

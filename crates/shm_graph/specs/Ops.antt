@@ -34,6 +34,15 @@ abbrev pub up_slot : Op → Spot
 up_slot (Up s p b e) = p
 up_slot _ = Spare
 
+-- the step, if there is one, has done no more than store its redo record
+abbrev pub IsUncommitted : Op → Type 0
+IsUncommitted Nothing = Unit {0}
+IsUncommitted (Alloc Begun p b e) = Unit {0}
+IsUncommitted (Up Begun p b e) = Unit {0}
+IsUncommitted (Down Begun p b e) = Unit {0}
+IsUncommitted (Change (Raising Begun) p a b e) = Unit {0}
+IsUncommitted _ = ⊥
+
 -- the word that an op covers, and the value that it gives it
 pub data Cover : Type 0 where
   Quiet : Cover

@@ -85,6 +85,14 @@ spot_address g (Body b i) = b + 2 + i
 abbrev pub IsAt : Geometry → (ℕ → ℕ → ℕ) → Spot → Type 0
 IsAt g class p = spot_at g class (spot_address g p) ≡ p
 
+-- a spot of a page's body
+abbrev pub is_in_body : Spot → Bool
+is_in_body (Unused a) = true
+is_in_body (Head b) = true
+is_in_body (Tag b) = true
+is_in_body (Body b i) = true
+is_in_body _ = false
+
 -- the page of an address in a body, and its class
 abbrev pub class_at : Geometry → (ℕ → ℕ → ℕ) → ℕ → ℕ
 class_at g class a = class ((a - layout.bodies g) / 2048) ((a - layout.bodies g) / 128 % 16)

@@ -1,20 +1,26 @@
 //! The laws of runs, and of machines that run by themselves.
 
-ghost use Rattle.std.specs.Prelude.{◌≡◌, ℕ, ◌<◌, ◌⊎◌, List, [], ◌∷◌, ◌++◌, length};
+ghost use Rattle.std.specs.Prelude.{◌≡◌, ◌≢◌, ℕ, false, ◌<◌, ◌⊎◌, List, [], ◌∷◌, ◌++◌, length};
 ghost use Rattle.shm_words.specs.declared.geometry.Geometry.{Geometry as AGeometry};
 ghost use Rattle.shm_words.specs.Layout.{total_of};
 ghost use Rattle.shm_graph.specs.declared.ask.Ask.{Ask as AnAsk};
+ghost use Rattle.shm_graph.specs.declared.ask.Ask.TheVariants.{Load, Store, Exchange};
+ghost use Rattle.shm_graph.specs.declared.ask.Me.{Me as AMe};
+ghost use Rattle.shm_graph.specs.declared.memo.Memo.{Memo as AMemo};
 ghost use Rattle.shm_graph.specs.declared.spot.Spot.{Spot as ASpot};
+ghost use Rattle.shm_graph.specs.declared.spot.Spot.TheVariants.{Status};
 ghost use Rattle.shm_graph.specs.declared.memo.Kind.{Kind as AKind};
 ghost use Rattle.shm_graph.specs.declared.memo.Status.TheVariants.{New, Gone};
 ghost use Rattle.shm_graph.specs.declared.run.Account.{Account as AnAccount};
 ghost use Rattle.shm_graph.specs.declared.run.Move.{Move as AMove};
 ghost use Rattle.shm_graph.specs.declared.run.Move.TheVariants.{Dies, Begins};
-ghost use Rattle.shm_graph.specs.Spots.{spot_at, classes_in, see};
+ghost use Rattle.shm_graph.specs.Spots.{spot_at, classes_in, see, is_in_body};
+ghost use Rattle.shm_graph.specs.Blocks.{classes};
 ghost use Rattle.shm_graph.specs.Views.{View, view};
 ghost use Rattle.shm_graph.specs.Held.{HeldAt};
 ghost use Rattle.shm_graph.specs.Controls.{IsAllowed};
-ghost use Rattle.shm_graph.specs.Asks.{at_of, words_after, words_set};
+ghost use Rattle.shm_graph.specs.Asks.{Trail, at_of, words_after, words_set};
+ghost use Rattle.shm_graph.specs.Laws.{Frame, Stands, KeptAt, MayEnd};
 ghost use Rattle.shm_graph.specs.Runs.{Held, State, memos_of, moved, IsMove, Turned, Leads};
 ghost use Rattle.shm_graph.specs.Sound.{IsSound};
 ghost use Rattle.shm_graph.specs.Clean.{IsClean};
@@ -57,4 +63,13 @@ pub fn held_state_sound()
 /// A state that holds is clean where each identity is one that nobody has joined or that is gone.
 pub fn still_state_clean()
     ensures { (g : AGeometry) (ws : List ℕ) (es : List AnAccount) → Held g ws es → ((c : ℕ) → c < g.clients → ((memos_of es c).status ≡ New) ⊎ ((memos_of es c).status ≡ Gone)) → IsClean g (see g ws) }
+{}
+
+/// In any frame these steps keep the invariant: the store of status live, a load of a word outside the pages' bodies, and an
+/// exchange there that finds another word than it names. A recoverer loads its hold word only where no step of its identity is
+/// committed.
+pub fn steps_keep()
+    ensures live { (me : AMe) (w : ASpot → ℕ) (r : ℕ → AMemo) (f : Frame) (tr : Trail) (at : ℕ) → Stands me w r f tr → spot_at me.geometry (classes w) at ≡ Status me.who → KeptAt me w r (Store at 1) f (λ n m. Unit {0}) (spot_at me.geometry (classes w) at) }
+    ensures load { (me : AMe) (w : ASpot → ℕ) (r : ℕ → AMemo) (f : Frame) (tr : Trail) (at : ℕ) (p : ASpot) → Stands me w r f tr → spot_at me.geometry (classes w) at ≡ p → is_in_body p ≡ false → MayEnd me.who (r me.who) p → KeptAt me w r (Load at) f (λ n m. Unit {0}) (spot_at me.geometry (classes w) at) }
+    ensures lost { (me : AMe) (w : ASpot → ℕ) (r : ℕ → AMemo) (f : Frame) (tr : Trail) (at from to : ℕ) (p : ASpot) → Stands me w r f tr → spot_at me.geometry (classes w) at ≡ p → is_in_body p ≡ false → MayEnd me.who (r me.who) p → w p ≢ from → KeptAt me w r (Exchange at from to) f (λ n m. Unit {0}) (spot_at me.geometry (classes w) at) }
 {}

@@ -1,0 +1,12 @@
+use Rattle.shm_graph.proofs.Keeping.{live_kept}
+use Rattle.shm_graph.proofs.LoadKeeping.{load_kept, lost_kept}
+use Rattle.shm_graph.proofs.laws.steps_keep.Goals as goal
+
+pub returns-clause-live : goal.returns-clause-live
+returns-clause-live c me w r f tr at s e = live_kept me w r f tr at (λ n m. Unit {0}) s e tt
+
+pub returns-clause-load : goal.returns-clause-load
+returns-clause-load c me w r f tr at p s e n u = load_kept me w r f tr at (λ n m. Unit {0}) p s e n u tt
+
+pub returns-clause-lost : goal.returns-clause-lost
+returns-clause-lost c me w r f tr at from to p s e n u other = lost_kept me w r f tr at from to (λ n m. Unit {0}) p s e n u other tt
