@@ -156,6 +156,65 @@ allowed c (Change (Raising Written) p i b e) o' k a = subst (Allowed c) (sym k) 
 allowed c (Change (Lowering Closed) p i b e) o' k a = subst (Allowed c) (sym k) tt
 allowed c _ o' k a = absurd k
 
+-- closing leaves the targets, and the references held over
+module _ (g : Geometry) (w : Spot → ℕ) (v : View) (c : ℕ) (o : Op) (h : HeldAt g w v) (a : CloseStep g v c o) where
+  abbrev v' : View
+  v' = close_view v c (w (Era c c) + 1) o
+
+  after : AfterClose g (λ i j. w (Page i j)) (w (Redo c)) (w (Era c c)) (words_of w) (v.op c) o
+  after = closed g (λ i j. w (Page i j)) (w (Redo c)) (w (Era c c)) (words_of w) (v.op c) o a.op (h.op c a.inside)
+
+  pub close_limbos : limbos v' ≡ limbos v
+  close_limbos = fun_ext (λ d. at1_all (λ (i : ℕ) (x : Op). limbo_of x ≡ limbo_of (v.op i)) v.op c o d after.limbo (λ _. refl))
+
+  covers_slot : (d : ℕ) → d < g.clients → d ≢ c → (y : ℕ) → cover (cover_of (v.op d)) (slot_of (v.op c)) y ≡ y
+  covers_slot d l n y = apart d (λ i. header_of (w (Head i))) (λ i. w (Tag i)) (v.latch d) (λ i j. w (Tail i j)) (λ i j. w (Front i j)) (reach_of (targets g w v) (λ i j. w (Tail i j)) (λ i j. w (Front i j)) v.looks d)
+      (v.op d) (slot_of (v.op c)) (h.slots d l) (λ x. n (sym (one_holder g w v h c d (slot_of (v.op c)) a.inside l (h.slots c a.inside after.was) x))) y
+
+  abbrev cov : ℕ → Cover
+  cov = λ d. cover_of (v.op d)
+
+  abbrev cov' : ℕ → Cover
+  cov' = λ d. cover_of (v'.op d)
+
+  -- what is covered stays, now by the word itself
+  same_at : (q : Spot) → covered cov' g.clients q (word_at (words_of w) q) ≡ covered cov g.clients q (word_at (words_of w) q)
+  same_at q = both (same_spot (slot_of (v.op c)) q) refl
+    where
+      at_slot : covered cov' g.clients (slot_of (v.op c)) (word_at (words_of w) (slot_of (v.op c))) ≡ covered cov g.clients (slot_of (v.op c)) (word_at (words_of w) (slot_of (v.op c)))
+      at_slot =
+          covered_none g.clients (slot_of (v.op c)) (word_at (words_of w) (slot_of (v.op c))) cov' (λ d l y. elim (cases_eq c d) [
+            | inl x ↦ subst (λ j. cover (cov' j) (slot_of (v.op c)) y ≡ y) x (ap (λ k. cover (cover_of k) (slot_of (v.op c)) y) (at1_here v.op c o) ∙ ap (λ k. cover k (slot_of (v.op c)) y) after.quiet)
+            | inr n ↦ ap (λ k. cover (cover_of k) (slot_of (v.op c)) y) (at1_other v.op c o d n) ∙ covers_slot d l (λ z. n (sym z)) y
+          ])
+          ∙ sym (covered_alone g.clients c (slot_of (v.op c)) (word_at (words_of w) (slot_of (v.op c))) cov a.inside covers_slot ∙ after.covers (word_at (words_of w) (slot_of (v.op c))) refl)
+
+      both : (b : Bool) → same_spot (slot_of (v.op c)) q ≡ b → covered cov' g.clients q (word_at (words_of w) q) ≡ covered cov g.clients q (word_at (words_of w) q)
+      both true e = subst (λ k. covered cov' g.clients k (word_at (words_of w) k) ≡ covered cov g.clients k (word_at (words_of w) k)) (same_spot_is (slot_of (v.op c)) q e) at_slot
+      both false e = covered_same g.clients q (word_at (words_of w) q) cov cov' (λ d l y. at1_all (λ (j : ℕ) (k : Op). cover (cover_of k) q y ≡ cover (cover_of (v.op j)) q y) v.op c o d (ap (λ k. cover k q y) after.quiet ∙ sym (cover_slot (v.op c) q e y)) (λ _. refl))
+
+  same : (q : Spot) → targets g (upd w (Era c c) (w (Era c c) + 1)) v' q ≡ targets g w v q
+  same (Body d j) = ap (λ z. cond (ltb j ((words_of w).refs d)) z 0) (same_at (Body d j))
+  same (Home d) = same_at (Home d)
+  same (Root d l) = same_at (Root d l)
+  same (Slot s r l) = same_at (Slot s r l)
+  same Spare = refl
+  same (Status d) = refl
+  same (Redo d) = refl
+  same (Hold d) = refl
+  same (Latch d) = refl
+  same (Era d l) = refl
+  same (Tail s r) = refl
+  same (Front s r) = refl
+  same (Segment s) = refl
+  same (Page s q) = refl
+  same (Unused s) = refl
+  same (Head d) = refl
+  same (Tag d) = refl
+
+  pub close_targets : targets g (upd w (Era c c) (w (Era c c) + 1)) v' ≡ targets g w v
+  close_targets = fun_ext same
+
 pub close_kept : (g : Geometry) (w : Spot → ℕ) (v : View) (c : ℕ) (o : Op) → HeldAt g w v → CloseStep g v c o → HeldAt g (upd w (Era c c) (w (Era c c) + 1)) (close_view v c (w (Era c c) + 1) o)
 close_kept g w v c o h a =
     record {
@@ -253,60 +312,16 @@ close_kept g w v c o h a =
     eras' = raised eras c (w (Era c c) + 1)
 
     cl : AfterClose g class (w (Redo c)) (w (Era c c)) (words_of w) (v.op c) o
-    cl = closed g class (w (Redo c)) (w (Era c c)) (words_of w) (v.op c) o a.op (h.op c a.inside)
+    cl = after g w v c o h a
 
     At : ℕ → Spot → Type 0
     At d = SlotOf d heads tags (v.latch d) tail front (reach_of t tail front v.looks d)
 
     limbo : limbos v' ≡ limbos v
-    limbo = fun_ext (λ d. at1_all (λ (i : ℕ) (x : Op). limbo_of x ≡ limbo_of (v.op i)) v.op c o d cl.limbo (λ _. refl))
-
-    covers_slot : (d : ℕ) → d < g.clients → d ≢ c → (y : ℕ) → cover (cover_of (v.op d)) (slot_of (v.op c)) y ≡ y
-    covers_slot d l n y = apart d heads tags (v.latch d) tail front (reach_of t tail front v.looks d) (v.op d) (slot_of (v.op c)) (h.slots d l) (λ x. n (sym (one_holder g w v h c d (slot_of (v.op c)) a.inside l (h.slots c a.inside cl.was) x))) y
-
-    cov : ℕ → Cover
-    cov = λ d. cover_of (v.op d)
-
-    cov' : ℕ → Cover
-    cov' = λ d. cover_of (v'.op d)
-
-    -- what is covered stays, now by the word itself
-    same_at : (q : Spot) → covered cov' g.clients q (word_at (words_of w) q) ≡ covered cov g.clients q (word_at (words_of w) q)
-    same_at q = both (same_spot (slot_of (v.op c)) q) refl
-      where
-        at_slot : covered cov' g.clients (slot_of (v.op c)) (word_at (words_of w) (slot_of (v.op c))) ≡ covered cov g.clients (slot_of (v.op c)) (word_at (words_of w) (slot_of (v.op c)))
-        at_slot =
-            covered_none g.clients (slot_of (v.op c)) (word_at (words_of w) (slot_of (v.op c))) cov' (λ d l y. elim (cases_eq c d) [
-              | inl x ↦ subst (λ j. cover (cov' j) (slot_of (v.op c)) y ≡ y) x (ap (λ k. cover (cover_of k) (slot_of (v.op c)) y) (at1_here v.op c o) ∙ ap (λ k. cover k (slot_of (v.op c)) y) cl.quiet)
-              | inr n ↦ ap (λ k. cover (cover_of k) (slot_of (v.op c)) y) (at1_other v.op c o d n) ∙ covers_slot d l (λ z. n (sym z)) y
-            ])
-            ∙ sym (covered_alone g.clients c (slot_of (v.op c)) (word_at (words_of w) (slot_of (v.op c))) cov a.inside covers_slot ∙ cl.covers (word_at (words_of w) (slot_of (v.op c))) refl)
-
-        both : (b : Bool) → same_spot (slot_of (v.op c)) q ≡ b → covered cov' g.clients q (word_at (words_of w) q) ≡ covered cov g.clients q (word_at (words_of w) q)
-        both true e = subst (λ k. covered cov' g.clients k (word_at (words_of w) k) ≡ covered cov g.clients k (word_at (words_of w) k)) (same_spot_is (slot_of (v.op c)) q e) at_slot
-        both false e = covered_same g.clients q (word_at (words_of w) q) cov cov' (λ d l y. at1_all (λ (j : ℕ) (k : Op). cover (cover_of k) q y ≡ cover (cover_of (v.op j)) q y) v.op c o d (ap (λ k. cover k q y) cl.quiet ∙ sym (cover_slot (v.op c) q e y)) (λ _. refl))
-
-    same : (q : Spot) → targets g (upd w (Era c c) (w (Era c c) + 1)) v' q ≡ t q
-    same (Body d j) = ap (λ z. cond (ltb j ((words_of w).refs d)) z 0) (same_at (Body d j))
-    same (Home d) = same_at (Home d)
-    same (Root d l) = same_at (Root d l)
-    same (Slot s r l) = same_at (Slot s r l)
-    same Spare = refl
-    same (Status d) = refl
-    same (Redo d) = refl
-    same (Hold d) = refl
-    same (Latch d) = refl
-    same (Era d l) = refl
-    same (Tail s r) = refl
-    same (Front s r) = refl
-    same (Segment s) = refl
-    same (Page s q) = refl
-    same (Unused s) = refl
-    same (Head d) = refl
-    same (Tag d) = refl
+    limbo = close_limbos g w v c o h a
 
     path : targets g (upd w (Era c c) (w (Era c c) + 1)) v' ≡ t
-    path = fun_ext same
+    path = close_targets g w v c o h a
 
     test : (d : ℕ) → c ≢ d → (x : Option Test) → x ≡ v.test d → (on : Option ℕ) → on ≡ ons v d → TestAt g.clients eras (ons v d) d (v.test d) → TestAt g.clients eras' on d x
     test d n x e on q k = subst (TestAt g.clients eras' on d) (sym e) (go (v.test d) k)

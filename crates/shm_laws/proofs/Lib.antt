@@ -26,3 +26,4 @@ pub mod SecondHalf
 pub mod ChangeFirst
 pub mod LookLoad
 pub mod LooksCut
+pub mod Quiet

@@ -19,12 +19,28 @@ use Rattle.shm_graph.proofs.Lists.{at1_here, at1_other}
 use Rattle.shm_graph.specs.Ops.{Cover, limbo_of, on_of, target, cover_of, slot_of, up_slot, is_op}
 use Rattle.shm_graph.specs.References.{words_of}
 use Rattle.shm_graph.specs.Spots.{upd, IsAt}
-use Rattle.shm_graph.specs.Views.{View, targets, ons, limbos}
+use Rattle.shm_graph.specs.Views.{View, at1, targets, ons, limbos}
 use Rattle.shm_words.specs.Tags.{tag_author}
 use Rattle.shm_graph.specs.Held.{HeldAt, CountSound, LaneSound, EraSound, Bound, FactAt, CounterAt, OwnSound, OpTie, RedoTie, Allowed, SlotOf, reach_of, named_by, KnownAt, LooksSound, TestAt, IsUnusedLane, TailSound, PartTie, ValueAt, MadeAt, is_loose}
 use Rattle.shm_laws.proofs.Owns.{mine_stored, small_stored, there_stored}
 use Rattle.shm_laws.specs.Steps.{BeginStep, begin_view, RowStep, row_store_view}
 use Rattle.shm_graph.specs.Tables.{HasShape, contents_of}
+
+-- an op that begins covers no word and holds no reference over
+pub begin_limbos : (g : Geometry) (w : Spot → ℕ) (v : View) (c x : ℕ) (o : Op) → BeginStep g w v c x o → limbos (begin_view v c x o) ≡ limbos v
+begin_limbos g w v c x o a = fun_ext (λ d. at1_all (λ (j : ℕ) (k : Op). limbo_of k ≡ limbo_of (v.op j)) v.op c o d (a.limbo ∙ sym (ap limbo_of a.op)) (λ _. refl))
+
+pub begin_targets : (g : Geometry) (w : Spot → ℕ) (v : View) (c x : ℕ) (o : Op) → BeginStep g w v c x o → targets g (upd w (Redo c) x) (begin_view v c x o) ≡ targets g w v
+begin_targets g w v c x o a = ap (target g.clients (words_of w)) covers
+  where
+    cov : ℕ → Cover
+    cov = λ d. cover_of (v.op d)
+
+    cov' : ℕ → Cover
+    cov' = λ d. cover_of (at1 v.op c o d)
+
+    covers : cov' ≡ cov
+    covers = fun_ext (λ d. at1_all (λ (j : ℕ) (k : Op). cover_of k ≡ cover_of (v.op j)) v.op c o d (a.quiet ∙ sym (ap cover_of a.op)) (λ _. refl))
 
 pub begin_kept : (g : Geometry) (w : Spot → ℕ) (v : View) (c x : ℕ) (o : Op) → HeldAt g w v → BeginStep g w v c x o → HeldAt g (upd w (Redo c) x) (begin_view v c x o)
 begin_kept g w v c x o h a =
@@ -128,19 +144,10 @@ begin_kept g w v c x o h a =
     on_path = fun_ext (λ d. at1_all (λ (j : ℕ) (k : Op). on_of k ≡ on_of (v.op j)) v.op c o d (a.on ∙ sym (ap on_of a.op)) (λ _. refl))
 
     limbo : limbos v' ≡ limbos v
-    limbo = fun_ext (λ d. at1_all (λ (j : ℕ) (k : Op). limbo_of k ≡ limbo_of (v.op j)) v.op c o d (a.limbo ∙ sym (ap limbo_of a.op)) (λ _. refl))
-
-    cov : ℕ → Cover
-    cov = λ d. cover_of (v.op d)
-
-    cov' : ℕ → Cover
-    cov' = λ d. cover_of (v'.op d)
-
-    covers : cov' ≡ cov
-    covers = fun_ext (λ d. at1_all (λ (j : ℕ) (k : Op). cover_of k ≡ cover_of (v.op j)) v.op c o d (a.quiet ∙ sym (ap cover_of a.op)) (λ _. refl))
+    limbo = begin_limbos g w v c x o a
 
     path : targets g (upd w (Redo c) x) v' ≡ t
-    path = ap (target g.clients (words_of w)) covers
+    path = begin_targets g w v c x o a
 
 -- ---- rows
 

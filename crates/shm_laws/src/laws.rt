@@ -13,6 +13,7 @@ ghost use Rattle.shm_graph.specs.declared.memo.Test.{Test as ATest};
 ghost use Rattle.shm_graph.specs.declared.table.Part.{Part as APart};
 ghost use Rattle.shm_graph.specs.Spots.{upd};
 ghost use Rattle.shm_graph.specs.Views.{View};
+ghost use Rattle.shm_graph.specs.Events.{Nothing, graph_of, Happens};
 ghost use Rattle.shm_graph.specs.Held.{HeldAt};
 ghost use Rattle.shm_graph.specs.Changes.{next_row};
 ghost use Rattle.shm_laws.specs.Steps.{BeginStep, begin_view, RowStep, row_store_view, ClassStep, class_view, CloseStep, close_view, TailStep, tail_view, HeadStep, head_view, RootStep, root_view, BodyStep, body_view, BackStep, back_view, FreeStep, free_view, LatchStep, latch_view, AllocStep, alloc_view, UpStep, up_view, LowerStep, lower_view, ChangeStep, change_view, SecondStep, second_view, header_view, row_view, LookStep, look_view};
@@ -35,6 +36,20 @@ pub fn shared_stores_kept()
     ensures class { (g : AGeometry) (w : ASpot → ℕ) (v : View) (c s q k : ℕ) → HeldAt g w v → ClassStep g w v c s q k → HeldAt g (upd w (Page s q) k) (class_view v c s q k) }
     ensures latch { (g : AGeometry) (w : ASpot → ℕ) (v : View) (c a : ℕ) (kept : List AStored) (values : List ℕ) → HeldAt g w v → BackStep g w v c a kept values → HeldAt g (upd w (Latch a) 0) (back_view v c kept values) }
     ensures free { (g : AGeometry) (w : ASpot → ℕ) (v : View) (c b tag : ℕ) → HeldAt g w v → FreeStep g v c b tag → HeldAt g (upd w (Head b) 0) (free_view v c b) }
+{}
+
+/// Stores of own words, of a slot, of a class and of a latch, and the exchange of a latch, leave the graph as it is.
+pub fn stores_are_quiet()
+    ensures redo { (g : AGeometry) (w : ASpot → ℕ) (v : View) (c x : ℕ) (o : AnOp) → HeldAt g w v → BeginStep g w v c x o → Happens g w Nothing (graph_of g w v) (graph_of g (upd w (Redo c) x) (begin_view v c x o)) }
+    ensures row { (g : AGeometry) (w : ASpot → ℕ) (v : View) (c j x : ℕ) → HeldAt g w v → RowStep g w v c j x → Happens g w Nothing (graph_of g w v) (graph_of g (upd w (Era c j) x) (row_store_view v c j x)) }
+    ensures era { (g : AGeometry) (w : ASpot → ℕ) (v : View) (c : ℕ) (o : AnOp) → HeldAt g w v → CloseStep g v c o → Happens g w Nothing (graph_of g w v) (graph_of g (upd w (Era c c) (w (Era c c) + 1)) (close_view v c (w (Era c c) + 1) o)) }
+    ensures tail { (g : AGeometry) (w : ASpot → ℕ) (v : View) (c r : ℕ) → HeldAt g w v → TailStep g w v c r → Happens g w Nothing (graph_of g w v) (graph_of g (upd w (Tail c r) (w (Tail c r) + 1)) (tail_view v c r (w (Tail c r) + 1))) }
+    ensures head { (g : AGeometry) (w : ASpot → ℕ) (v : View) (c s : ℕ) → HeldAt g w v → HeadStep g w v c s → Happens g w Nothing (graph_of g w v) (graph_of g (upd w (Front s c) (w (Front s c) + 1)) (head_view v c s (w (Front s c) + 1))) }
+    ensures root { (g : AGeometry) (w : ASpot → ℕ) (v : View) (c k x : ℕ) (o : AnOp) → HeldAt g w v → RootStep g w v c k x o → Happens g w Nothing (graph_of g w v) (graph_of g (upd w (Root c k) x) (root_view v c k x o)) }
+    ensures body { (g : AGeometry) (w : ASpot → ℕ) (v : View) (c b i x : ℕ) (o : AnOp) → HeldAt g w v → BodyStep g v c b i x o → Happens g w Nothing (graph_of g w v) (graph_of g (upd w (Body b i) x) (body_view v c b i x o)) }
+    ensures class { (g : AGeometry) (w : ASpot → ℕ) (v : View) (c s q k : ℕ) → HeldAt g w v → ClassStep g w v c s q k → Happens g w Nothing (graph_of g w v) (graph_of g (upd w (Page s q) k) (class_view v c s q k)) }
+    ensures back { (g : AGeometry) (w : ASpot → ℕ) (v : View) (c a : ℕ) (kept : List AStored) (values : List ℕ) → HeldAt g w v → BackStep g w v c a kept values → Happens g w Nothing (graph_of g w v) (graph_of g (upd w (Latch a) 0) (back_view v c kept values)) }
+    ensures latch { (g : AGeometry) (w : ASpot → ℕ) (v : View) (c a : ℕ) → HeldAt g w v → LatchStep g w v c a → Happens g w Nothing (graph_of g w v) (graph_of g (upd w (Latch a) (c + 1)) (latch_view v c a)) }
 {}
 
 /// Exchanges that succeed: of a latch, and of a header, by which a block becomes live, is raised, is lowered, or a half of a change
