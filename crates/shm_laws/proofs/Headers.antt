@@ -1,5 +1,5 @@
 -- the header of a live block is exchanged for a live one: what stays, and which blocks die where a count is lowered
-use Rattle.std.proofs.Common.{◌≡◌, ◌≢◌, ℕ, ◌<◌, sym, ap, ◌∙◌, true, false, Bool, cond, eqb, eq-eqb, subst, inl, inr, ◌⊎◌, List, [], ◌∷◌, ◌++◌, Option, Some, None}
+use Rattle.std.proofs.Common.{◌≡◌, ◌≢◌, ℕ, ◌/◌, ◌^◌, ◌<◌, refl, sym, ap, ◌∙◌, true, false, Bool, cond, eqb, eq-eqb, subst, inl, inr, ◌⊎◌, List, [], ◌∷◌, ◌++◌, Option, Some, None}
 use Rattle.std.specs.List.{Contains}
 use Rattle.std.proofs.lemmas.List.Elements.{Contains-push, Contains-push_cases, Contains-append_left}
 use Rattle.std.proofs.lemmas.Bool.{cases_Bool, cases_eq, true≢false, eqb-true}
@@ -27,7 +27,15 @@ module _ (g : Geometry) (w : Spot → ℕ) (v : View) (h : HeldAt g w v) (b to :
   pub lives : (i : ℕ) → (headers w i).live ≡ true → (headers (upd w (Head b) to) i).live ≡ true
   lives i = at1_all (λ (j x : ℕ). (header_of (word j)).live ≡ true → (header_of x).live ≡ true) word b to i (λ _. now) (λ _ q. q)
 
-  -- and zero-count blocks stay those that they are
+  -- and dead blocks stay dead
+  pub live_stays : (i : ℕ) → (headers (upd w (Head b) to) i).live ≡ (headers w i).live
+  live_stays i = at1_all (λ (j x : ℕ). (header_of x).live ≡ (header_of (word j)).live) word b to i (now ∙ sym live) (λ _. refl)
+
+  -- the shapes of the blocks stay
+  pub shape_stays : (i : ℕ) → cond (headers (upd w (Head b) to) i).live (w (Tag i) / 2 ^ 20) 0 ≡ cond (headers w i).live (w (Tag i) / 2 ^ 20) 0
+  shape_stays i = ap (λ z. cond z (w (Tag i) / 2 ^ 20) 0) (live_stays i)
+
+  -- zero-count blocks stay those that they are
   pub dying_stays : (d i : ℕ) → IsDying (headers w i) d → IsDying (headers (upd w (Head b) to) i) d
   dying_stays d i = at1_all (λ (j x : ℕ). IsDying (header_of (word j)) d → IsDying (header_of x) d) word b to i (λ q. absurd (counted q.1)) (λ _ q. q)
 

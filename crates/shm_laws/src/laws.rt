@@ -15,6 +15,7 @@ ghost use Rattle.shm_graph.specs.Spots.{upd};
 ghost use Rattle.shm_graph.specs.Views.{View};
 ghost use Rattle.shm_graph.specs.Events.{Nothing, graph_of, Happens};
 ghost use Rattle.shm_graph.specs.Held.{HeldAt};
+ghost use Rattle.shm_graph.specs.Events.{ChangeUp, ChangeDown, Free, graph_of, Happens};
 ghost use Rattle.shm_graph.specs.Changes.{next_row};
 ghost use Rattle.shm_laws.specs.Steps.{BeginStep, begin_view, RowStep, row_store_view, ClassStep, class_view, CloseStep, close_view, TailStep, tail_view, HeadStep, head_view, RootStep, root_view, BodyStep, body_view, BackStep, back_view, FreeStep, free_view, LatchStep, latch_view, AllocStep, alloc_view, UpStep, up_view, LowerStep, lower_view, ChangeStep, change_view, SecondStep, second_view, header_view, row_view, LookStep, look_view};
 
@@ -69,4 +70,11 @@ pub fn loads_kept()
     ensures header { (g : AGeometry) (w : ASpot → ℕ) (v : View) (c b : ℕ) → HeldAt g w v → c < g.clients → (((header_of (w (Head b))).client ≡ c) × ((header_of (w (Head b))).era ≡ w (Era c c)) → ⊥) → HeldAt g w (header_view v c (w (Head b)) (Some (record { block = b; next = 0 }))) }
     ensures row { (g : AGeometry) (w : ASpot → ℕ) (v : View) (c k : ℕ) (t : ATest) → HeldAt g w v → c < g.clients → v.test c ≡ Some t → next_row c t.next ≡ k → w (Era k c) < w (Era c c) → HeldAt g w (row_view v c k (w (Era k c)) (Some (record { block = t.block; next = k + 1 }))) }
     ensures look { (g : AGeometry) (w : ASpot → ℕ) (v : View) (c b i : ℕ) → HeldAt g w v → LookStep g w v c b i → HeldAt g w (look_view v c b i (w (Body b i))) }
+{}
+
+/// The events of the halves of a change, and of the store that frees a block.
+pub fn changes_are_events()
+    ensures first { (g : AGeometry) (w : ASpot → ℕ) (v : View) (c x b e to : ℕ) (p : ASpot) (looks : List ALook) (kept : List AStored) (values : List ℕ) (part : APart) → HeldAt g w v → ChangeStep g w v c x b e to p looks kept values part → Happens g w (ChangeUp c p x b) (graph_of g w v) (graph_of g (upd w (Head b) to) (change_view v c x b e p looks kept values part)) }
+    ensures second { (g : AGeometry) (w : ASpot → ℕ) (v : View) (c b y e n to : ℕ) (p : ASpot) (looks : List ALook) (kept : List AStored) (values : List ℕ) → HeldAt g w v → SecondStep g w v c b y e n to p looks kept values → Happens g w (ChangeDown c b) (graph_of g w v) (graph_of g (upd w (Head b) to) (second_view v c b y e n p looks kept values)) }
+    ensures free { (g : AGeometry) (w : ASpot → ℕ) (v : View) (c b tag : ℕ) → HeldAt g w v → FreeStep g v c b tag → Happens g w (Free c b) (graph_of g w v) (graph_of g (upd w (Head b) 0) (free_view v c b)) }
 {}

@@ -1,0 +1,13 @@
+use Rattle.shm_laws.proofs.ChangeFirst.{change_event}
+use Rattle.shm_laws.proofs.SecondHalf.{second_event}
+use Rattle.shm_laws.proofs.FreeBlock.{free_event}
+use Rattle.shm_laws.proofs.laws.changes_are_events.Goals as goal
+
+pub returns-clause-first : goal.returns-clause-first
+returns-clause-first c = change_event
+
+pub returns-clause-second : goal.returns-clause-second
+returns-clause-second c = second_event
+
+pub returns-clause-free : goal.returns-clause-free
+returns-clause-free c = free_event
