@@ -1,4 +1,5 @@
-//! The laws of the kinds of word step: each kind, under its condition, leads from a state that holds to one that holds.
+//! The laws of the kinds of word step: each kind, under its condition, leads from a state that holds to one that holds, and is
+//! the event of its kind or none.
 //!
 //! A kind's condition and what it makes of the memos stand in specs/, its law in proofs/ under the kind's name. They are stated
 //! over functions (the word at each spot, the parts of each memo), so that a clause that a step doesn't touch stays by computation.
