@@ -1,5 +1,5 @@
 -- the header of a live block is exchanged for a live one: what stays, and which blocks die where a count is lowered
-use Rattle.std.proofs.Common.{◌≡◌, ◌≢◌, ℕ, ◌<◌, sym, ap, ◌∙◌, true, false, Bool, cond, eqb, eq-eqb, subst, inl, inr, ◌⊎◌, List, [], ◌∷◌, ◌++◌, Option, Some, None}
+use Rattle.std.proofs.Common.{◌≡◌, ◌≢◌, ℕ, ◌/◌, ◌^◌, ◌<◌, refl, sym, ap, ◌∙◌, true, false, Bool, cond, eqb, eq-eqb, subst, inl, inr, ◌⊎◌, List, [], ◌∷◌, ◌++◌, Option, Some, None}
 use Rattle.std.specs.List.{Contains}
 use Rattle.std.proofs.lemmas.List.Elements.{Contains-push, Contains-push_cases, Contains-append_left}
 use Rattle.std.proofs.lemmas.Bool.{cases_Bool, cases_eq, true≢false, eqb-true}
@@ -12,7 +12,8 @@ use Rattle.shm_graph.specs.declared.memo.Making.{Making}
 use Rattle.shm_graph.specs.Spots.{upd, class_at}
 use Rattle.shm_graph.specs.Blocks.{classes, headers}
 use Rattle.shm_graph.specs.References.{words_of, refs_of}
-use Rattle.shm_graph.specs.Views.{View, at1}
+use Rattle.shm_graph.specs.Views.{View, at1, targets, limbos}
+use Rattle.shm_graph.specs.Events.{graph_of, with_target, IsSame}
 use Rattle.shm_graph.specs.Held.{HeldAt, BlockSound, DyingTie, IsDying, MakingTie, TagSound, ZeroAt}
 use Rattle.shm_graph.proofs.Lists.{at1_here, at1_other}
 use Rattle.shm_graph.proofs.Frames.{at1_all}
@@ -26,6 +27,10 @@ module _ (g : Geometry) (w : Spot → ℕ) (v : View) (h : HeldAt g w v) (b to :
   -- live blocks stay live
   pub lives : (i : ℕ) → (headers w i).live ≡ true → (headers (upd w (Head b) to) i).live ≡ true
   lives i = at1_all (λ (j x : ℕ). (header_of (word j)).live ≡ true → (header_of x).live ≡ true) word b to i (λ _. now) (λ _ q. q)
+
+  -- and no other block becomes live
+  pub live_stays : (i : ℕ) → (headers (upd w (Head b) to) i).live ≡ (headers w i).live
+  live_stays i = at1_all (λ (j x : ℕ). (header_of x).live ≡ (header_of (word j)).live) word b to i (now ∙ sym live) (λ _. refl)
 
   -- and zero-count blocks stay those that they are
   pub dying_stays : (d i : ℕ) → IsDying (headers w i) d → IsDying (headers (upd w (Head b) to) i) d
@@ -54,10 +59,17 @@ module _ (g : Geometry) (w : Spot → ℕ) (v : View) (h : HeldAt g w v) (b to :
 
   -- the numbers of reference words stay
   pub refs_stay : (d : ℕ) → (words_of (upd w (Head b) to)).refs d ≡ (words_of w).refs d
-  refs_stay d = elim (cases_eq b d) [
-    | inl x ↦ subst (λ z. (words_of (upd w (Head b) to)).refs z ≡ (words_of w).refs z) x (ap (λ z. refs_of (header_of z).live (w (Tag b))) (at1_here word b to) ∙ ap (λ z. refs_of z (w (Tag b))) (now ∙ sym live))
-    | inr n ↦ ap (λ z. refs_of (header_of z).live (w (Tag d))) (at1_other word b to d n)
-  ]
+  refs_stay d = ap (λ z. refs_of z (w (Tag d))) (live_stays d)
+
+  -- where one target changed and no limbo did, the graph is the one with that target
+  pub graph_stays : (v' : View) (p : Spot) (x : ℕ) → targets g (upd w (Head b) to) v' ≡ upd (targets g w v) p x → limbos v' ≡ limbos v → IsSame (with_target (graph_of g w v) p x) (graph_of g (upd w (Head b) to) v')
+  graph_stays v' p x path limbo =
+      record {
+        lives = live_stays;
+        shapes = λ i. ap (λ l. cond l (w (Tag i) / 2 ^ 20) 0) (live_stays i);
+        targets = λ q. ap (λ f. f q) path;
+        limbos = λ d. ap (λ f. f d) limbo;
+      }
 
   -- ---- the zero-count blocks, where c lowers the count to n
 

@@ -6,4 +6,6 @@
 
 mod laws;
 
-pub use laws::{exchanges_kept, loads_kept, own_stores_kept, shared_stores_kept};
+pub use laws::{
+    exchanges_are_events, exchanges_kept, loads_kept, own_stores_kept, shared_stores_kept,
+};
