@@ -1,6 +1,6 @@
--- the exchange that makes a free block live keeps the invariant
+-- the exchange that makes a free block live keeps the invariant, and is one event
 use Rattle.std.proofs.Math.Path.{fun_ext}
-use Rattle.std.proofs.Common.{◌≡◌, ◌≢◌, ℕ, ◌+◌, ◌^◌, ◌<◌, ◌≤◌, refl, sym, ap, ◌∙◌, arith, true, false, eqb, eq-eqb, subst, inl, inr, ◌⊎◌, ◌&&◌, List, [], ◌∷◌, ◌++◌, Option, Some, None}
+use Rattle.std.proofs.Common.{◌≡◌, ◌≢◌, ℕ, ◌+◌, ◌*◌, ◌/◌, ◌^◌, ◌<◌, ◌≤◌, refl, sym, ap, ◌∙◌, arith, true, false, Bool, cond, eqb, ltb, le-ltb, eq-eqb, subst, inl, inr, ◌⊎◌, ◌&&◌, List, [], ◌∷◌, ◌++◌, Option, Some, None}
 use Rattle.std.specs.List.{All, Contains, filter}
 use Rattle.std.proofs.lemmas.List.Elements.{All-cons, All-weaker, All-contains, All-append}
 use Rattle.std.proofs.lemmas.Bool.{cases_Bool, cases_eq, true≢false, ne_eqb, false_from_ne_true, cond-true}
@@ -19,13 +19,15 @@ use Rattle.shm_graph.specs.declared.memo.Op.TheVariants.{Alloc}
 use Rattle.shm_graph.specs.declared.memo.Making.{Making}
 use Rattle.shm_graph.specs.declared.memo.Stored.{Stored}
 use Rattle.shm_graph.specs.Spots.{upd, same_spot, IsAt, class_at, segment_of, spot_address}
-use Rattle.shm_graph.specs.Blocks.{IsBlock}
+use Rattle.shm_graph.specs.Blocks.{IsBlock, classes, headers}
+use Rattle.shm_graph.specs.Events.{graph_of, with_live, with_target, IsSame, Happens, Alloc as AllocEvent}
 use Rattle.shm_graph.specs.References.{one_if, refs_of, words_of}
 use Rattle.shm_graph.specs.Ops.{cover, cover_of, covered, slot_of, up_slot, indegree, limbo_of, on_of, is_op}
-use Rattle.shm_graph.specs.Views.{View, targets, ons, limbos}
+use Rattle.shm_graph.specs.Views.{View, at1, targets, ons, limbos}
 use Rattle.shm_graph.specs.Tables.{contents_of, HasShape}
 use Rattle.shm_graph.specs.Held.{HeldAt, CountSound, SlotOf, reach_of, named_by, TagSound, MakingTie, MakingSound, InBlock, ZeroAt, TestAt, KnownAt, LooksSound, LaneSound, IsDying, OwnSound, OpTie, OpSound, Allowed, TailSound, room_of, IsUnusedLane, PartTie, ValueAt, MadeAt, is_loose}
 use Rattle.shm_graph.proofs.Spotting.{same_spot_is, same_spot_self, block_is_at, in_pool}
+use Rattle.shm_graph.proofs.Holders.{InReach}
 use Rattle.shm_graph.proofs.Lists.{at1_here, at1_other}
 use Rattle.shm_graph.proofs.Frames.{at1_all}
 use Rattle.shm_laws.proofs.Owns.{mine_other, small_stored, there_stored}
@@ -35,274 +37,310 @@ use Rattle.shm_laws.proofs.Exchange.{era_exchange, facts_committed, count_free, 
 use Rattle.shm_laws.proofs.References.{live_some, part_lives, queued_kept, values_kept, made_some, made_kept}
 use Rattle.shm_laws.specs.Steps.{AllocStep, alloc_view, other_than}
 
-pub alloc_kept : (g : Geometry) (w : Spot → ℕ) (v : View) (c k b e to tag : ℕ) (m : Making) → HeldAt g w v → AllocStep g w v c k b e to tag m → HeldAt g (upd w (Head b) to) (alloc_view v c k b e m)
-alloc_kept g w v c k b e to tag m h a =
-    record {
-      fits = h.fits;
-      small = small_stored w (Head b) to (2 ^ 64) a.small h.small;
-      there = there_stored (IsAt g class) w (Head b) to (block_is_at g class b block) h.there;
-      spare = h.spare;
-      unused = h.unused;
-      sizes = h.sizes;
-      mine = mine_other w v.own g.clients (Head b) to (λ d. refl) h.mine;
-      state = h.state;
-      latch = h.latch;
-      segments = h.segments;
-      dying = λ d l. record {
-        listed = λ i x. at1_all (λ (j y : ℕ). IsDying (header_of (word j)) d → IsDying (header_of y) d) word b to i (λ q. absurd (not_live q.0)) (λ n q. q) ((h.dying d l).listed i x);
-        all = λ i x. at1_all (λ (j y : ℕ). IsDying (header_of y) d → Contains (v.dying d) j) word b to i (λ q. let z : 1 ≡ 0 = sym (ap (λ (x : Header). x.count) a.new) ∙ q.1 in absurd (omega arith)) (λ n. (h.dying d l).all i) x;
-      };
-      making = λ d. at1_all (λ (i : ℕ) (x : Option Making). i < g.clients → MakingTie g class segment word' tags bodies i x) v.making c None d (λ l. tt) (λ n l. making d n (v.making d) (h.making d l));
-      blocks = record {
-        plain = λ i. at1_all (λ (j x : ℕ). (header_of x).live ≡ false → x ≡ 0) word b to i (λ dead. absurd (true≢false (sym new_live ∙ dead))) (λ n. h.blocks.plain i);
-        tagged = λ i. at1_all (λ (j x : ℕ). (header_of x).live ≡ true → TagSound g.clients (class_at g class j) (w (Tag j))) word b to i (λ l. tag_sound) (λ n. h.blocks.tagged i);
-        link = λ i. at1_all (λ (j x : ℕ). (header_of x).live ≡ true → (header_of x).count ≢ 0 → tag_link (w (Tag j)) ≡ 0) word b to i (λ l z. ap tag_link tag_word ∙ a.link) (λ n. h.blocks.link i);
-      };
-      era = era_exchange g.clients word (λ i j. w (Era i j)) v.op c b to o a.inside (ap on_of a.op) refl (ap (λ (x : Header). x.client) a.new) (ap (λ (x : Header). x.era) a.new ∙ op_sound.current) (h.own c a.inside).some
-          (λ d l n cl er. let z : (header_of (word b)).era ≡ 0 = ap (λ x. (header_of x).era) free ∙ zero_era in let s = (h.own d l).some in absurd (omega arith)) h.era;
-      own = λ d. at1_all (λ (i : ℕ) (x : Op). i < g.clients → OwnSound (w (Era i i)) x) v.op c o d (λ l. let q = h.own c l in record { some = q.some; room = subst (λ x. w (Era c c) + room_of x ≤ 2 ^ 47) a.op q.room }) (λ n. h.own d);
-      op = λ d. at1_all (λ (i : ℕ) (x : Op). i < g.clients → OpTie g class (w (Redo i)) (w (Era i i)) (words_of w') x) v.op c o d
-          (λ l. record { spelled = op_sound.spelled; current = op_sound.current; at = op_sound.at; word = op_sound.word })
-          (λ n. h.op d);
-      redo = h.redo;
-      allowed = λ d. at1_all (λ (i : ℕ) (x : Op). i < g.clients → Allowed i x) v.op c o d (λ l. refl) (λ n. h.allowed d);
-      count = subst (λ (t : Spot → ℕ). CountSound g class (λ i. header_of (word' i)) t (limbos v')) (sym path)
-          (subst (λ (l : ℕ → ℕ). CountSound g class (λ i. header_of (word' i)) t' l) (sym limbo)
-          (count_exchange g class word t (limbos v) (Root c k) b to b op_sound.at (λ z. cc) live_not_zero new_live balance others (λ _. refl) h.count));
-      slots = subst (λ (t : Spot → ℕ). (d : ℕ) → d < g.clients → is_op (v'.op d) ≡ true → SlotOf d (λ i. header_of (word' i)) tags (v.latch d) tail front (reach_of t tail front v.looks d) (slot_of (v'.op d))) (sym path)
-          (λ d. at1_all (λ (i : ℕ) (x : Op). i < g.clients → is_op x ≡ true → SlotOf i (λ j. header_of (word' j)) tags (v.latch i) tail front (reach_of t' tail front v.looks i) (slot_of x)) v.op c o d
-          (λ l is. refl)
-          (λ n l is. slot_kept d (λ i. header_of (word i)) (λ i. header_of (word' i)) tags (v.latch d) tail front (reach_of t tail front v.looks d) (reach_of t' tail front v.looks d) (slot_of (v.op d)) (λ i q. inl (lives i q)) (dying_kept d) (reach d) (h.slots d l is)));
-      looks = subst (λ (t : Spot → ℕ). (d : ℕ) → d < g.clients → LooksSound (λ a. t (Home a)) (λ b i. t (Body b i)) (λ b. tag_author (w (Tag b))) (v.latch d) (named_by t tail front d) [] (v.looks d)) (sym path)
-          (λ d l. looks_kept (λ a. t (Home a)) (λ a. t (Home a)) (λ b i. t (Body b i)) (λ b i. t (Body b i)) (λ b. tag_author (w (Tag b))) (v.latch d) (named_by t tail front d) (named_by t' tail front d) (λ _ _ _ x. x) (λ _ _ _ _ x. x) (named d) [] (v.looks d) (h.looks d l));
-      lanes = subst (λ (t : Spot → ℕ). (i j : ℕ) → i < g.clients → j < g.clients → i ≢ j → LaneSound (λ k. t (Slot i j k)) (tail i j) (front i j) (v.sent i j) (v.unsent i j) (v.received j i) (v.untaken j i)) (sym path) h.lanes;
-      known = subst (λ (t : Spot → ℕ). (d : ℕ) → d < g.clients → All (λ (s : Stored). KnownAt d tags bodies slots tail front (v.untaken d) (v.latch d) (reach_of t tail front v.looks d) (v.dying d) s.spot s.value) (v'.known d)) (sym path)
-          (λ d. at1_all (λ (i : ℕ) (x : List Stored). i < g.clients → All (Known i) x) v.known c (m.words ++ v.known c) d
-          (λ l. All-append (Known c) m.words (v.known c) (All-weaker _ (Known c) (λ s. made s.spot s.value) m.words m_sound.stored) (All-weaker _ (Known c) (λ s. old c s.spot s.value) (v.known c) (h.known c l)))
-          (λ n l. All-weaker _ (Known d) (λ s. old d s.spot s.value) (v.known d) (h.known d l)));
-      facts = λ d l. All-weaker _ _ (facts_committed g.clients (λ i j. w (Era i j)) tail front class v.op c b o refl) (v.facts d) (h.facts d l);
-      zeros = λ d. at1_all (λ (i : ℕ) (x : List Spot). i < g.clients → All (ZeroAt g class segment word' i) x) v.zeros c (filter (other_than (Head b)) (v.zeros c)) d
-          (λ l. All-kept _ _ (other_than (Head b)) zero_own (v.zeros c) (h.zeros c l))
-          (λ n l. All-weaker _ _ (zero_other d n) (v.zeros d) (h.zeros d l));
-      test = λ d l. elim (cases_eq c d) [
-        | inl x ↦ subst (λ i. TestAt g.clients (λ i j. w (Era i j)) (ons v' i) i (v'.test i)) x (rw (eq-eqb c c refl) tt)
-        | inr n ↦ rw (ne_eqb c d n) (h.test d l)
-      ];
-      fresh = λ d l st. elim (cases_eq c d) [
-        | inl x ↦ (let z : status.Live ≡ status.New = sym a.acts ∙ (ap v.status x ∙ st) in cc)
-        | inr n ↦ rw (ne_eqb c d n) (h.fresh d l st)
-      ];
-      gone = λ d l st. elim (cases_eq c d) [
-        | inl x ↦ (let z : status.Live ≡ status.Gone = sym a.acts ∙ (ap v.status x ∙ st) in cc)
-        | inr n ↦ rw (ne_eqb c d n) (h.gone d l st)
-      ];
-      self_lanes = subst (λ (t : Spot → ℕ). (d : ℕ) → d < g.clients → IsUnusedLane (tail d d) (front d d) (λ k. t (Slot d d k))) (sym path) h.self_lanes;
-      tails = λ d r l lr. at1_all (λ (i : ℕ) (x : Op). i < g.clients → TailSound i r (w (Era i i)) (tail i r) (v.unsent i r) x) v.op c o d
-          (λ lc. let q = h.tails c r lc lr in (q.0, λ nz f. q.1 nz (λ z. f (sym (ap up_slot a.op) ∙ z)))) (λ _ ld. h.tails d r ld lr) l;
-      parts = h.parts;
-      part = subst (λ (t : Spot → ℕ). (d : ℕ) → d < g.clients → PartTie (contents_of w' t) d (t (Home d)) (v.part d)) (sym path) (λ d l. part_lives g w v h d heads' t' l (λ i _. lives i) (λ _ _ _ _. refl) refl);
-      queued = subst (λ (t : Spot → ℕ). (d : ℕ) → d < g.clients → is_loose (v.part d) ≡ false → (s r j : ℕ) → t (Slot s r j) ≢ 0 → HasShape (contents_of w' t) 0 1 (t (Slot s r j))) (sym path)
-          (λ d l. queued_kept g w v h d heads' (λ i j. t' (Body i j)) bodies t' l (λ i _. lives i) (λ s r j n. inl refl));
-      values = subst (λ (t : Spot → ℕ). (d : ℕ) → d < g.clients → All (ValueAt (contents_of w' t) (reach_of t tail front v.looks d)) (v.values d)) (sym path)
-          (λ d l. values_kept g w v h d heads' (λ i j. t' (Body i j)) bodies (reach_of t' tail front v.looks d) l (λ i _. lives i) (reach d));
-      made = subst (λ (t : Spot → ℕ). (d : ℕ) → d < g.clients → All (MadeAt heads' (λ j. t (Root d j))) (v'.made d)) (sym path)
-          (λ d. at1_all (λ (i : ℕ) (x : List ℕ). i < g.clients → All (MadeAt heads' (λ j. t' (Root i j))) x) v.made c (b ∷ v.made c) d
-          (λ l. All-cons (MadeAt heads' (λ j. t' (Root c j))) b (v.made c) (ap (λ x. (header_of x).count) (at1_here word b to) ∙ ap (λ (x : Header). x.count) a.new, (k, cond-true (same_spot (Root c k) (Root c k)) b (t (Root c k)) (same_spot_self (Root c k)))) (others_made c l))
-          (λ _. others_made d));
-    }
-  where
-    w' : Spot → ℕ
-    w' = upd w (Head b) to
+module _ (g : Geometry) (w : Spot → ℕ) (v : View) (c k b e to tag : ℕ) (m : Making) (h : HeldAt g w v) (a : AllocStep g w v c k b e to tag m) where
+  m_at : MakingSound g (classes w) (λ i. w (Segment i)) (λ i. w (Head i)) (λ i. w (Tag i)) (λ i j. w (Body i j)) c m
+  m_at = let q : MakingTie g (classes w) (λ i. w (Segment i)) (λ i. w (Head i)) (λ i. w (Tag i)) (λ i j. w (Body i j)) c (Some m) = subst (MakingTie g (classes w) (λ i. w (Segment i)) (λ i. w (Head i)) (λ i. w (Tag i)) (λ i j. w (Body i j)) c) a.making (h.making c a.inside) in q
 
-    v' : View
-    v' = alloc_view v c k b e m
+  block : IsBlock g (classes w) b
+  block = subst (IsBlock g (classes w)) a.block m_at.block
 
-    o : Op
-    o = Alloc Committed (Root c k) b e
+  free : w (Head b) ≡ 0
+  free = ap (λ i. w (Head i)) (sym a.block) ∙ m_at.free
 
-    class : ℕ → ℕ → ℕ
-    class = λ i j. w (Page i j)
+  dead : (headers w b).live ≡ false
+  dead = ap (λ x. (header_of x).live) free ∙ header_of_zero
 
-    segment : ℕ → ℕ
-    segment = λ i. w (Segment i)
+  not_live : (headers w b).live ≡ true → ⊥
+  not_live l = true≢false (sym l ∙ dead)
 
-    word : ℕ → ℕ
-    word = λ i. w (Head i)
+  new_live : (header_of to).live ≡ true
+  new_live = ap (λ (x : Header). x.live) a.new
 
-    word' : ℕ → ℕ
-    word' = λ i. upd w (Head b) to (Head i)
+  b_not_zero : b ≢ 0
+  b_not_zero z = let q = in_pool g (classes w) b (Head b) block (λ y. cc) in absurd (omega arith)
 
-    heads' : ℕ → Header
-    heads' = λ i. header_of (word' i)
+  -- nothing names a free block
+  unnamed : indegree g (classes w) (targets g w v) (limbos v) b ≡ 0
+  unnamed = count_free g (classes w) (headers w) (targets g w v) (limbos v) b h.count b_not_zero dead
 
-    tags : ℕ → ℕ
-    tags = λ i. w (Tag i)
+  op_sound : OpSound g (classes w) (w (Redo c)) (w (Era c c)) (w (Root c k)) (Root c k) (redos.Up (spot_address g (Root c k)) b) e 0
+  op_sound = let q : OpTie g (classes w) (w (Redo c)) (w (Era c c)) (words_of w) (Alloc Begun (Root c k) b e) = subst (OpTie g (classes w) (w (Redo c)) (w (Era c c)) (words_of w)) a.op (h.op c a.inside) in q
 
-    bodies : ℕ → ℕ → ℕ
-    bodies = λ i j. w (Body i j)
+  tag_word : w (Tag b) ≡ tag
+  tag_word = (All-contains (λ (s : Stored). InBlock (λ i. w (Tag i)) (λ i j. w (Body i j)) m.block m.class s.spot s.value) m.words (record { spot = Tag b; value = tag }) m_at.stored a.tagged).1
 
-    slots : ℕ → ℕ → ℕ → ℕ
-    slots = λ i j l. w (Slot i j l)
+  zero_word : (i : ℕ) → i < tag_refs tag → w (Body b i) ≡ 0
+  zero_word i l = (All-contains (λ (s : Stored). InBlock (λ i. w (Tag i)) (λ i j. w (Body i j)) m.block m.class s.spot s.value) m.words (record { spot = Body b i; value = 0 }) m_at.stored (a.zeros i l)).2
 
-    tail : ℕ → ℕ → ℕ
-    tail = λ i j. w (Tail i j)
+  covers_root : (d : ℕ) → d < g.clients → (y : ℕ) → cover (cover_of (v.op d)) (Root c k) y ≡ y
+  covers_root d l y = elim (cases_eq c d) [
+    | inl x ↦ subst (λ i. cover (cover_of (v.op i)) (Root c k) y ≡ y) x (ap (λ z. cover (cover_of z) (Root c k) y) a.op)
+    | inr n ↦ apart d (headers w) (λ i. w (Tag i)) (v.latch d) (λ i j. w (Tail i j)) (λ i j. w (Front i j)) (InReach w g v d) (v.op d) (Root c k) (h.slots d l) (λ x. n x) y
+  ]
 
-    front : ℕ → ℕ → ℕ
-    front = λ i j. w (Front i j)
+  covers_body : (i d : ℕ) → d < g.clients → (y : ℕ) → cover (cover_of (v.op d)) (Body b i) y ≡ y
+  covers_body i d l y = apart d (headers w) (λ i. w (Tag i)) (v.latch d) (λ i j. w (Tail i j)) (λ i j. w (Front i j)) (InReach w g v d) (v.op d) (Body b i) (h.slots d l) (λ x. not_live x.0) y
 
-    t : Spot → ℕ
-    t = targets g w v
+  root_zero : targets g w v (Root c k) ≡ 0
+  root_zero = covered_none g.clients (Root c k) (w (Root c k)) (λ d. cover_of (v.op d)) covers_root ∙ op_sound.word
 
-    t' : Spot → ℕ
-    t' = upd t (Root c k) b
+  abbrev refs' : ℕ → ℕ
+  refs' = (words_of (upd w (Head b) to)).refs
 
-    m_at : MakingSound g class segment word tags bodies c m
-    m_at = let q : MakingTie g class segment word tags bodies c (Some m) = subst (MakingTie g class segment word tags bodies c) a.making (h.making c a.inside) in q
+  refs_here : (refs' b ≡ (words_of w).refs b) ⊎ ((i : ℕ) → (i < refs' b) ⊎ (i < (words_of w).refs b) → covered (λ d. cover_of (v.op d)) g.clients (Body b i) (w (Body b i)) ≡ 0)
+  refs_here = inr (λ i u. covered_none g.clients (Body b i) (w (Body b i)) (λ d. cover_of (v.op d)) (covers_body i) ∙ zero_word i (elim u [
+    | inl x ↦ subst (λ z. i < z) (ap (λ z. refs_of (header_of z).live (w (Tag b))) (at1_here (λ i. w (Head i)) b to) ∙ (ap (λ z. refs_of z (w (Tag b))) new_live ∙ ap tag_refs tag_word)) x
+    | inr x ↦ (let z : (words_of w).refs b ≡ 0 = ap (λ z. refs_of z (w (Tag b))) dead in absurd (omega arith))
+  ]))
 
-    m_sound : MakingSound g class segment word tags bodies c m
-    m_sound = m_at
+  refs_all : (d : ℕ) → (refs' d ≡ (words_of w).refs d) ⊎ ((i : ℕ) → (i < refs' d) ⊎ (i < (words_of w).refs d) → covered (λ d. cover_of (v.op d)) g.clients (Body d i) (w (Body d i)) ≡ 0)
+  refs_all d = elim (cases_eq b d) [
+    | inl x ↦ subst (λ z. (refs' z ≡ (words_of w).refs z) ⊎ ((i : ℕ) → (i < refs' z) ⊎ (i < (words_of w).refs z) → covered (λ d. cover_of (v.op d)) g.clients (Body z i) (w (Body z i)) ≡ 0)) x refs_here
+    | inr n ↦ inl (ap (λ z. refs_of (header_of z).live (w (Tag d))) (at1_other (λ i. w (Head i)) b to d n))
+  ]
 
-    block : IsBlock g class b
-    block = subst (IsBlock g class) a.block m_at.block
+  path : targets g (upd w (Head b) to) (alloc_view v c k b e m) ≡ upd (targets g w v) (Root c k) b
+  path = commit_target g.clients (words_of (upd w (Head b) to)) v.op c (Alloc Committed (Root c k) b e) (Root c k) b a.inside (ap cover_of a.op) refl tt (λ d l _ y. covers_root d l y)
+      ∙ ap (λ z. upd z (Root c k) b) (refs_target g.clients (words_of w) refs' (λ d. cover_of (v.op d)) refs_all)
 
-    free : w (Head b) ≡ 0
-    free = ap word (sym a.block) ∙ m_at.free
+  limbo : limbos (alloc_view v c k b e m) ≡ limbos v
+  limbo = fun_ext (λ d. at1_all (λ (i : ℕ) (x : Op). limbo_of x ≡ limbo_of (v.op i)) v.op c (Alloc Committed (Root c k) b e) d (sym (ap limbo_of a.op)) (λ _. refl))
 
-    zero_era : (header_of 0).era ≡ 0
-    zero_era = era_of_zero
+  pub alloc_kept : HeldAt g (upd w (Head b) to) (alloc_view v c k b e m)
+  alloc_kept =
+      record {
+        fits = h.fits;
+        small = small_stored w (Head b) to (2 ^ 64) a.small h.small;
+        there = there_stored (IsAt g class) w (Head b) to (block_is_at g class b block) h.there;
+        spare = h.spare;
+        unused = h.unused;
+        sizes = h.sizes;
+        mine = mine_other w v.own g.clients (Head b) to (λ d. refl) h.mine;
+        state = h.state;
+        latch = h.latch;
+        segments = h.segments;
+        dying = λ d l. record {
+          listed = λ i x. at1_all (λ (j y : ℕ). IsDying (header_of (word j)) d → IsDying (header_of y) d) word b to i (λ q. absurd (not_live q.0)) (λ n q. q) ((h.dying d l).listed i x);
+          all = λ i x. at1_all (λ (j y : ℕ). IsDying (header_of y) d → Contains (v.dying d) j) word b to i (λ q. let z : 1 ≡ 0 = sym (ap (λ (x : Header). x.count) a.new) ∙ q.1 in absurd (omega arith)) (λ n. (h.dying d l).all i) x;
+        };
+        making = λ d. at1_all (λ (i : ℕ) (x : Option Making). i < g.clients → MakingTie g class segment word' tags bodies i x) v.making c None d (λ l. tt) (λ n l. making d n (v.making d) (h.making d l));
+        blocks = record {
+          plain = λ i. at1_all (λ (j x : ℕ). (header_of x).live ≡ false → x ≡ 0) word b to i (λ dead. absurd (true≢false (sym new_live ∙ dead))) (λ n. h.blocks.plain i);
+          tagged = λ i. at1_all (λ (j x : ℕ). (header_of x).live ≡ true → TagSound g.clients (class_at g class j) (w (Tag j))) word b to i (λ l. tag_sound) (λ n. h.blocks.tagged i);
+          link = λ i. at1_all (λ (j x : ℕ). (header_of x).live ≡ true → (header_of x).count ≢ 0 → tag_link (w (Tag j)) ≡ 0) word b to i (λ l z. ap tag_link tag_word ∙ a.link) (λ n. h.blocks.link i);
+        };
+        era = era_exchange g.clients word (λ i j. w (Era i j)) v.op c b to o a.inside (ap on_of a.op) refl (ap (λ (x : Header). x.client) a.new) (ap (λ (x : Header). x.era) a.new ∙ op_sound.current) (h.own c a.inside).some
+            (λ d l n cl er. let z : (header_of (word b)).era ≡ 0 = ap (λ x. (header_of x).era) free ∙ zero_era in let s = (h.own d l).some in absurd (omega arith)) h.era;
+        own = λ d. at1_all (λ (i : ℕ) (x : Op). i < g.clients → OwnSound (w (Era i i)) x) v.op c o d (λ l. let q = h.own c l in record { some = q.some; room = subst (λ x. w (Era c c) + room_of x ≤ 2 ^ 47) a.op q.room }) (λ n. h.own d);
+        op = λ d. at1_all (λ (i : ℕ) (x : Op). i < g.clients → OpTie g class (w (Redo i)) (w (Era i i)) (words_of w') x) v.op c o d
+            (λ l. record { spelled = op_sound.spelled; current = op_sound.current; at = op_sound.at; word = op_sound.word })
+            (λ n. h.op d);
+        redo = h.redo;
+        allowed = λ d. at1_all (λ (i : ℕ) (x : Op). i < g.clients → Allowed i x) v.op c o d (λ l. refl) (λ n. h.allowed d);
+        count = subst (λ (t : Spot → ℕ). CountSound g class (λ i. header_of (word' i)) t (limbos v')) (sym path)
+            (subst (λ (l : ℕ → ℕ). CountSound g class (λ i. header_of (word' i)) t' l) (sym limbo)
+            (count_exchange g class word t (limbos v) (Root c k) b to b op_sound.at (λ z. cc) live_not_zero new_live balance others (λ _. refl) h.count));
+        slots = subst (λ (t : Spot → ℕ). (d : ℕ) → d < g.clients → is_op (v'.op d) ≡ true → SlotOf d (λ i. header_of (word' i)) tags (v.latch d) tail front (reach_of t tail front v.looks d) (slot_of (v'.op d))) (sym path)
+            (λ d. at1_all (λ (i : ℕ) (x : Op). i < g.clients → is_op x ≡ true → SlotOf i (λ j. header_of (word' j)) tags (v.latch i) tail front (reach_of t' tail front v.looks i) (slot_of x)) v.op c o d
+            (λ l is. refl)
+            (λ n l is. slot_kept d (λ i. header_of (word i)) (λ i. header_of (word' i)) tags (v.latch d) tail front (reach_of t tail front v.looks d) (reach_of t' tail front v.looks d) (slot_of (v.op d)) (λ i q. inl (lives i q)) (dying_kept d) (reach d) (h.slots d l is)));
+        looks = subst (λ (t : Spot → ℕ). (d : ℕ) → d < g.clients → LooksSound (λ a. t (Home a)) (λ b i. t (Body b i)) (λ b. tag_author (w (Tag b))) (v.latch d) (named_by t tail front d) [] (v.looks d)) (sym path)
+            (λ d l. looks_kept (λ a. t (Home a)) (λ a. t (Home a)) (λ b i. t (Body b i)) (λ b i. t (Body b i)) (λ b. tag_author (w (Tag b))) (v.latch d) (named_by t tail front d) (named_by t' tail front d) (λ _ _ _ x. x) (λ _ _ _ _ x. x) (named d) [] (v.looks d) (h.looks d l));
+        lanes = subst (λ (t : Spot → ℕ). (i j : ℕ) → i < g.clients → j < g.clients → i ≢ j → LaneSound (λ k. t (Slot i j k)) (tail i j) (front i j) (v.sent i j) (v.unsent i j) (v.received j i) (v.untaken j i)) (sym path) h.lanes;
+        known = subst (λ (t : Spot → ℕ). (d : ℕ) → d < g.clients → All (λ (s : Stored). KnownAt d tags bodies slots tail front (v.untaken d) (v.latch d) (reach_of t tail front v.looks d) (v.dying d) s.spot s.value) (v'.known d)) (sym path)
+            (λ d. at1_all (λ (i : ℕ) (x : List Stored). i < g.clients → All (Known i) x) v.known c (m.words ++ v.known c) d
+            (λ l. All-append (Known c) m.words (v.known c) (All-weaker _ (Known c) (λ s. made s.spot s.value) m.words m_at.stored) (All-weaker _ (Known c) (λ s. old c s.spot s.value) (v.known c) (h.known c l)))
+            (λ n l. All-weaker _ (Known d) (λ s. old d s.spot s.value) (v.known d) (h.known d l)));
+        facts = λ d l. All-weaker _ _ (facts_committed g.clients (λ i j. w (Era i j)) tail front class v.op c b o refl) (v.facts d) (h.facts d l);
+        zeros = λ d. at1_all (λ (i : ℕ) (x : List Spot). i < g.clients → All (ZeroAt g class segment word' i) x) v.zeros c (filter (other_than (Head b)) (v.zeros c)) d
+            (λ l. All-kept _ _ (other_than (Head b)) zero_own (v.zeros c) (h.zeros c l))
+            (λ n l. All-weaker _ _ (zero_other d n) (v.zeros d) (h.zeros d l));
+        test = λ d l. elim (cases_eq c d) [
+          | inl x ↦ subst (λ i. TestAt g.clients (λ i j. w (Era i j)) (ons v' i) i (v'.test i)) x (rw (eq-eqb c c refl) tt)
+          | inr n ↦ rw (ne_eqb c d n) (h.test d l)
+        ];
+        fresh = λ d l st. elim (cases_eq c d) [
+          | inl x ↦ (let z : status.Live ≡ status.New = sym a.acts ∙ (ap v.status x ∙ st) in cc)
+          | inr n ↦ rw (ne_eqb c d n) (h.fresh d l st)
+        ];
+        gone = λ d l st. elim (cases_eq c d) [
+          | inl x ↦ (let z : status.Live ≡ status.Gone = sym a.acts ∙ (ap v.status x ∙ st) in cc)
+          | inr n ↦ rw (ne_eqb c d n) (h.gone d l st)
+        ];
+        self_lanes = subst (λ (t : Spot → ℕ). (d : ℕ) → d < g.clients → IsUnusedLane (tail d d) (front d d) (λ k. t (Slot d d k))) (sym path) h.self_lanes;
+        tails = λ d r l lr. at1_all (λ (i : ℕ) (x : Op). i < g.clients → TailSound i r (w (Era i i)) (tail i r) (v.unsent i r) x) v.op c o d
+            (λ lc. let q = h.tails c r lc lr in (q.0, λ nz f. q.1 nz (λ z. f (sym (ap up_slot a.op) ∙ z)))) (λ _ ld. h.tails d r ld lr) l;
+        parts = h.parts;
+        part = subst (λ (t : Spot → ℕ). (d : ℕ) → d < g.clients → PartTie (contents_of w' t) d (t (Home d)) (v.part d)) (sym path) (λ d l. part_lives g w v h d heads' t' l (λ i _. lives i) (λ _ _ _ _. refl) refl);
+        queued = subst (λ (t : Spot → ℕ). (d : ℕ) → d < g.clients → is_loose (v.part d) ≡ false → (s r j : ℕ) → t (Slot s r j) ≢ 0 → HasShape (contents_of w' t) 0 1 (t (Slot s r j))) (sym path)
+            (λ d l. queued_kept g w v h d heads' (λ i j. t' (Body i j)) bodies t' l (λ i _. lives i) (λ s r j n. inl refl));
+        values = subst (λ (t : Spot → ℕ). (d : ℕ) → d < g.clients → All (ValueAt (contents_of w' t) (reach_of t tail front v.looks d)) (v.values d)) (sym path)
+            (λ d l. values_kept g w v h d heads' (λ i j. t' (Body i j)) bodies (reach_of t' tail front v.looks d) l (λ i _. lives i) (reach d));
+        made = subst (λ (t : Spot → ℕ). (d : ℕ) → d < g.clients → All (MadeAt heads' (λ j. t (Root d j))) (v'.made d)) (sym path)
+            (λ d. at1_all (λ (i : ℕ) (x : List ℕ). i < g.clients → All (MadeAt heads' (λ j. t' (Root i j))) x) v.made c (b ∷ v.made c) d
+            (λ l. All-cons (MadeAt heads' (λ j. t' (Root c j))) b (v.made c) (ap (λ x. (header_of x).count) (at1_here word b to) ∙ ap (λ (x : Header). x.count) a.new, (k, cond-true (same_spot (Root c k) (Root c k)) b (t (Root c k)) (same_spot_self (Root c k)))) (others_made c l))
+            (λ _. others_made d));
+      }
+    where
+      w' : Spot → ℕ
+      w' = upd w (Head b) to
 
-    not_live : (header_of (word b)).live ≡ true → ⊥
-    not_live l = true≢false (sym l ∙ (ap (λ x. (header_of x).live) free ∙ header_of_zero))
+      v' : View
+      v' = alloc_view v c k b e m
 
-    new_live : (header_of to).live ≡ true
-    new_live = ap (λ (x : Header). x.live) a.new
+      o : Op
+      o = Alloc Committed (Root c k) b e
 
-    op_sound : OpSound g class (w (Redo c)) (w (Era c c)) (w (Root c k)) (Root c k) (redos.Up (spot_address g (Root c k)) b) e 0
-    op_sound = let q : OpTie g class (w (Redo c)) (w (Era c c)) (words_of w) (Alloc Begun (Root c k) b e) = subst (OpTie g class (w (Redo c)) (w (Era c c)) (words_of w)) a.op (h.op c a.inside) in q
+      class : ℕ → ℕ → ℕ
+      class = λ i j. w (Page i j)
 
-    tag_word : w (Tag b) ≡ tag
-    tag_word = (All-contains (λ (s : Stored). InBlock tags bodies m.block m.class s.spot s.value) m.words (record { spot = Tag b; value = tag }) m_at.stored a.tagged).1
+      segment : ℕ → ℕ
+      segment = λ i. w (Segment i)
 
-    zero_word : (i : ℕ) → i < tag_refs tag → w (Body b i) ≡ 0
-    zero_word i l = (All-contains (λ (s : Stored). InBlock tags bodies m.block m.class s.spot s.value) m.words (record { spot = Body b i; value = 0 }) m_at.stored (a.zeros i l)).2
+      word : ℕ → ℕ
+      word = λ i. w (Head i)
 
-    tag_sound : TagSound g.clients (class_at g class b) (w (Tag b))
-    tag_sound = subst (TagSound g.clients (class_at g class b)) (sym tag_word) (record {
-      small = a.small_tag;
-      refs = a.refs;
-      plain = a.plain;
-      author = subst (λ i. i < g.clients) (sym a.author) a.inside;
-      fits = a.fits ∙ (sym m_at.sized ∙ ap (class_at g class) a.block);
-    })
+      word' : ℕ → ℕ
+      word' = λ i. upd w (Head b) to (Head i)
 
-    making : (d : ℕ) → c ≢ d → (x : Option Making) → MakingTie g class segment word tags bodies d x → MakingTie g class segment word' tags bodies d x
-    making d n None y = tt
-    making d n (Some x) y = record {
-      free = at1_other word b to x.block (λ z. let q : c + 1 ≡ d + 1 = sym m_at.mine ∙ (ap (λ i. segment (segment_of g i)) (a.block ∙ z) ∙ y.mine) in n (omega arith)) ∙ y.free;
-      block = y.block;
-      mine = y.mine;
-      sized = y.sized;
-      stored = y.stored;
-    }
+      heads' : ℕ → Header
+      heads' = λ i. header_of (word' i)
 
-    lives : (i : ℕ) → (header_of (word i)).live ≡ true → (header_of (word' i)).live ≡ true
-    lives i = at1_all (λ (j x : ℕ). (header_of (word j)).live ≡ true → (header_of x).live ≡ true) word b to i (λ _. new_live) (λ _ q. q)
+      tags : ℕ → ℕ
+      tags = λ i. w (Tag i)
 
-    dying_kept : (d i : ℕ) → IsDying (header_of (word i)) d → IsDying (header_of (word' i)) d
-    dying_kept d i = at1_all (λ (j x : ℕ). IsDying (header_of (word j)) d → IsDying (header_of x) d) word b to i (λ q. absurd (not_live q.0)) (λ _ q. q)
+      bodies : ℕ → ℕ → ℕ
+      bodies = λ i j. w (Body i j)
 
-    live_not_zero : (i : ℕ) → (header_of (word i)).live ≡ true → i ≢ 0
-    live_not_zero i l = live_some g w v h i l
+      slots : ℕ → ℕ → ℕ → ℕ
+      slots = λ i j l. w (Slot i j l)
 
-    b_not_zero : b ≢ 0
-    b_not_zero z = let q = in_pool g class b (Head b) block (λ y. cc) in absurd (omega arith)
+      tail : ℕ → ℕ → ℕ
+      tail = λ i j. w (Tail i j)
 
-    covers_root : (d : ℕ) → d < g.clients → (y : ℕ) → cover (cover_of (v.op d)) (Root c k) y ≡ y
-    covers_root d l y = elim (cases_eq c d) [
-      | inl x ↦ subst (λ i. cover (cover_of (v.op i)) (Root c k) y ≡ y) x (ap (λ z. cover (cover_of z) (Root c k) y) a.op)
-      | inr n ↦ apart d (λ i. header_of (word i)) tags (v.latch d) tail front (reach_of t tail front v.looks d) (v.op d) (Root c k) (h.slots d l) (λ x. n x) y
-    ]
+      front : ℕ → ℕ → ℕ
+      front = λ i j. w (Front i j)
 
-    covers_body : (i d : ℕ) → d < g.clients → (y : ℕ) → cover (cover_of (v.op d)) (Body b i) y ≡ y
-    covers_body i d l y = apart d (λ i. header_of (word i)) tags (v.latch d) tail front (reach_of t tail front v.looks d) (v.op d) (Body b i) (h.slots d l) (λ x. not_live x.0) y
+      t : Spot → ℕ
+      t = targets g w v
 
-    root_zero : t (Root c k) ≡ 0
-    root_zero = covered_none g.clients (Root c k) (w (Root c k)) (λ d. cover_of (v.op d)) covers_root ∙ op_sound.word
+      t' : Spot → ℕ
+      t' = upd t (Root c k) b
 
-    refs' : ℕ → ℕ
-    refs' = λ i. refs_of (header_of (upd w (Head b) to (Head i))).live (w (Tag i))
+      zero_era : (header_of 0).era ≡ 0
+      zero_era = era_of_zero
 
-    refs_here : (refs' b ≡ (words_of w).refs b) ⊎ ((i : ℕ) → (i < refs' b) ⊎ (i < (words_of w).refs b) → covered (λ d. cover_of (v.op d)) g.clients (Body b i) (w (Body b i)) ≡ 0)
-    refs_here = inr (λ i u. covered_none g.clients (Body b i) (w (Body b i)) (λ d. cover_of (v.op d)) (covers_body i) ∙ zero_word i (elim u [
-      | inl x ↦ subst (λ z. i < z) (ap (λ z. refs_of (header_of z).live (w (Tag b))) (at1_here word b to) ∙ (ap (λ z. refs_of z (w (Tag b))) new_live ∙ ap tag_refs tag_word)) x
-      | inr x ↦ (let z : (words_of w).refs b ≡ 0 = ap (λ z. refs_of z (w (Tag b))) (ap (λ x. (header_of x).live) free ∙ header_of_zero) in absurd (omega arith))
-    ]))
+      tag_sound : TagSound g.clients (class_at g class b) (w (Tag b))
+      tag_sound = subst (TagSound g.clients (class_at g class b)) (sym tag_word) (record {
+        small = a.small_tag;
+        refs = a.refs;
+        plain = a.plain;
+        author = subst (λ i. i < g.clients) (sym a.author) a.inside;
+        fits = a.fits ∙ (sym m_at.sized ∙ ap (class_at g class) a.block);
+      })
 
-    refs_all : (d : ℕ) → (refs' d ≡ (words_of w).refs d) ⊎ ((i : ℕ) → (i < refs' d) ⊎ (i < (words_of w).refs d) → covered (λ d. cover_of (v.op d)) g.clients (Body d i) (w (Body d i)) ≡ 0)
-    refs_all d = elim (cases_eq b d) [
-      | inl x ↦ subst (λ z. (refs' z ≡ (words_of w).refs z) ⊎ ((i : ℕ) → (i < refs' z) ⊎ (i < (words_of w).refs z) → covered (λ d. cover_of (v.op d)) g.clients (Body z i) (w (Body z i)) ≡ 0)) x refs_here
-      | inr n ↦ inl (ap (λ z. refs_of (header_of z).live (w (Tag d))) (at1_other word b to d n))
-    ]
+      making : (d : ℕ) → c ≢ d → (x : Option Making) → MakingTie g class segment word tags bodies d x → MakingTie g class segment word' tags bodies d x
+      making d n None y = tt
+      making d n (Some x) y = record {
+        free = at1_other word b to x.block (λ z. let q : c + 1 ≡ d + 1 = sym m_at.mine ∙ (ap (λ i. segment (segment_of g i)) (a.block ∙ z) ∙ y.mine) in n (omega arith)) ∙ y.free;
+        block = y.block;
+        mine = y.mine;
+        sized = y.sized;
+        stored = y.stored;
+      }
 
-    path : targets g w' v' ≡ t'
-    path = commit_target g.clients (words_of w') v.op c o (Root c k) b a.inside (ap cover_of a.op) refl tt (λ d l _ y. covers_root d l y)
-        ∙ ap (λ z. upd z (Root c k) b) (refs_target g.clients (words_of w) refs' (λ d. cover_of (v.op d)) refs_all)
+      lives : (i : ℕ) → (header_of (word i)).live ≡ true → (header_of (word' i)).live ≡ true
+      lives i = at1_all (λ (j x : ℕ). (header_of (word j)).live ≡ true → (header_of x).live ≡ true) word b to i (λ _. new_live) (λ _ q. q)
 
-    limbo : limbos v' ≡ limbos v
-    limbo = fun_ext (λ d. at1_all (λ (i : ℕ) (x : Op). limbo_of x ≡ limbo_of (v.op i)) v.op c o d (sym (ap limbo_of a.op)) (λ _. refl))
+      dying_kept : (d i : ℕ) → IsDying (header_of (word i)) d → IsDying (header_of (word' i)) d
+      dying_kept d i = at1_all (λ (j x : ℕ). IsDying (header_of (word j)) d → IsDying (header_of x) d) word b to i (λ q. absurd (not_live q.0)) (λ _ q. q)
 
-    balance : (header_of to).count + one_if (eqb (t (Root c k)) b) ≡ indegree g class t (limbos v) b + one_if (eqb b b)
-    balance =
-        let x : one_if (eqb (t (Root c k)) b) ≡ 0 = ap one_if (ne_eqb _ b (λ z. b_not_zero (sym z ∙ root_zero))) in
-        let y : one_if (eqb b b) ≡ 1 = ap one_if (eq-eqb b b refl) in
-        let z : (header_of to).count ≡ 1 = ap (λ (x : Header). x.count) a.new in
-        let u = count_free g class (λ i. header_of (word i)) t (limbos v) b h.count b_not_zero (false_from_ne_true _ not_live) in
-        omega arith
+      live_not_zero : (i : ℕ) → (header_of (word i)).live ≡ true → i ≢ 0
+      live_not_zero i l = live_some g w v h i l
 
-    others : (i : ℕ) → i ≢ 0 → b ≢ i → one_if (eqb (t (Root c k)) i) ≡ one_if (eqb b i)
-    others i nz n = ap one_if (ne_eqb _ i (λ z. nz (sym z ∙ root_zero)) ∙ sym (ne_eqb b i n))
+      balance : (header_of to).count + one_if (eqb (t (Root c k)) b) ≡ indegree g class t (limbos v) b + one_if (eqb b b)
+      balance =
+          let x : one_if (eqb (t (Root c k)) b) ≡ 0 = ap one_if (ne_eqb _ b (λ z. b_not_zero (sym z ∙ root_zero))) in
+          let y : one_if (eqb b b) ≡ 1 = ap one_if (eq-eqb b b refl) in
+          let z : (header_of to).count ≡ 1 = ap (λ (x : Header). x.count) a.new in
+          let u = unnamed in
+          omega arith
 
-    -- a made block is another one, and its root another one
-    others_made : (d : ℕ) → d < g.clients → All (MadeAt heads' (λ j. t' (Root d j))) (v.made d)
-    others_made d l = made_kept g w v h d b to b (Root c k) l (λ x j one f. (
-      λ z. let q : (header_of (word b)).count ≡ 0 = ap (λ y. (header_of y).count) free ∙ count_of_zero in let u : (header_of (word b)).count ≡ 1 = ap (λ i. (header_of (word i)).count) z ∙ one in absurd (omega arith),
-      false_from_ne_true _ (λ s. made_some g w v h x one (sym f ∙ (ap t (sym (same_spot_is (Root c k) (Root d j) s)) ∙ root_zero))),
-    ))
+      others : (i : ℕ) → i ≢ 0 → b ≢ i → one_if (eqb (t (Root c k)) i) ≡ one_if (eqb b i)
+      others i nz n = ap one_if (ne_eqb _ i (λ z. nz (sym z ∙ root_zero)) ∙ sym (ne_eqb b i n))
 
-    named : (d i : ℕ) → named_by t tail front d i → named_by t' tail front d i
-    named d i = named_kept t t' tail front d i (λ n l x. root n l x (cases_Bool (eqb c d && eqb k l))) (λ _ x. x) (λ _ _ _ x. x)
-      where
-        root : i ≢ 0 → (l : ℕ) → t (Root d l) ≡ i → ((eqb c d && eqb k l) ≡ true) ⊎ ((eqb c d && eqb k l) ≡ false) → t' (Root d l) ≡ i
-        root n l x (inl q) = absurd (n (sym x ∙ (ap t (sym (same_spot_is (Root c k) (Root d l) q)) ∙ root_zero)))
-        root n l x (inr q) = rw q x
+      -- a made block is another one, and its root another one
+      others_made : (d : ℕ) → d < g.clients → All (MadeAt heads' (λ j. t' (Root d j))) (v.made d)
+      others_made d l = made_kept g w v h d b to b (Root c k) l (λ x j one f. (
+        λ z. let q : (header_of (word b)).count ≡ 0 = ap (λ y. (header_of y).count) free ∙ count_of_zero in let u : (header_of (word b)).count ≡ 1 = ap (λ i. (header_of (word i)).count) z ∙ one in absurd (omega arith),
+        false_from_ne_true _ (λ s. made_some g w v h x one (sym f ∙ (ap t (sym (same_spot_is (Root c k) (Root d j) s)) ∙ root_zero))),
+      ))
 
-    reach : (d i : ℕ) → reach_of t tail front v.looks d i → reach_of t' tail front v.looks d i
-    reach d i (inl x) = inl (named d i x)
-    reach d i (inr x) = inr x
+      named : (d i : ℕ) → named_by t tail front d i → named_by t' tail front d i
+      named d i = named_kept t t' tail front d i (λ n l x. root n l x (cases_Bool (eqb c d && eqb k l))) (λ _ x. x) (λ _ _ _ x. x)
+        where
+          root : i ≢ 0 → (l : ℕ) → t (Root d l) ≡ i → ((eqb c d && eqb k l) ≡ true) ⊎ ((eqb c d && eqb k l) ≡ false) → t' (Root d l) ≡ i
+          root n l x (inl q) = absurd (n (sym x ∙ (ap t (sym (same_spot_is (Root c k) (Root d l) q)) ∙ root_zero)))
+          root n l x (inr q) = rw q x
 
-    reach_b : reach_of t' tail front v.looks c b
-    reach_b = inl (b_not_zero, inl (k, cond-true (same_spot (Root c k) (Root c k)) b (t (Root c k)) (same_spot_self (Root c k))))
+      reach : (d i : ℕ) → reach_of t tail front v.looks d i → reach_of t' tail front v.looks d i
+      reach d i (inl x) = inl (named d i x)
+      reach d i (inr x) = inr x
 
-    Known : ℕ → Stored → Type 0
-    Known d s = KnownAt d tags bodies slots tail front (v.untaken d) (v.latch d) (reach_of t' tail front v.looks d) (v.dying d) s.spot s.value
+      reach_b : reach_of t' tail front v.looks c b
+      reach_b = inl (b_not_zero, inl (k, cond-true (same_spot (Root c k) (Root c k)) b (t (Root c k)) (same_spot_self (Root c k))))
 
-    old : (d : ℕ) (p : Spot) (x : ℕ) → KnownAt d tags bodies slots tail front (v.untaken d) (v.latch d) (reach_of t tail front v.looks d) (v.dying d) p x → KnownAt d tags bodies slots tail front (v.untaken d) (v.latch d) (reach_of t' tail front v.looks d) (v.dying d) p x
-    old d p x = known_kept d tags bodies slots tail front (v.untaken d) (v.latch d) (reach_of t tail front v.looks d) (reach_of t' tail front v.looks d) (v.dying d) (v.dying d) p x (reach d) (λ _ x. x)
+      Known : ℕ → Stored → Type 0
+      Known d s = KnownAt d tags bodies slots tail front (v.untaken d) (v.latch d) (reach_of t' tail front v.looks d) (v.dying d) s.spot s.value
 
-    made : (p : Spot) (x : ℕ) → InBlock tags bodies m.block m.class p x → KnownAt c tags bodies slots tail front (v.untaken c) (v.latch c) (reach_of t' tail front v.looks c) (v.dying c) p x
-    made (Tag d) x y = (y.1, inr (subst (reach_of t' tail front v.looks c) (sym (y.0 ∙ a.block)) reach_b))
-    made (Body d i) x y = (y.2, inr (subst (reach_of t' tail front v.looks c) (sym (y.0 ∙ a.block)) reach_b, inr (inl (ap (λ i. tag_author (w (Tag i))) (y.0 ∙ a.block) ∙ (ap tag_author tag_word ∙ a.author)))))
-    made _ x y = absurd y
+      old : (d : ℕ) (p : Spot) (x : ℕ) → KnownAt d tags bodies slots tail front (v.untaken d) (v.latch d) (reach_of t tail front v.looks d) (v.dying d) p x → KnownAt d tags bodies slots tail front (v.untaken d) (v.latch d) (reach_of t' tail front v.looks d) (v.dying d) p x
+      old d p x = known_kept d tags bodies slots tail front (v.untaken d) (v.latch d) (reach_of t tail front v.looks d) (reach_of t' tail front v.looks d) (v.dying d) (v.dying d) p x (reach d) (λ _ x. x)
 
-    zero_own : (p : Spot) → other_than (Head b) p ≡ true → ZeroAt g class segment word c p → ZeroAt g class segment word' c p
-    zero_own (Page i j) q z = z
-    zero_own (Head i) q z = elim (cases_eq b i) [
-      | inl x ↦ (let u : eqb b i ≡ true = eq-eqb b i x in let y : false ≡ true = rw u at q in cc)
-      | inr n ↦ (at1_other word b to i n ∙ z.0, z.1, z.2)
-    ]
-    zero_own _ q z = absurd z
+      made : (p : Spot) (x : ℕ) → InBlock tags bodies m.block m.class p x → KnownAt c tags bodies slots tail front (v.untaken c) (v.latch c) (reach_of t' tail front v.looks c) (v.dying c) p x
+      made (Tag d) x y = (y.1, inr (subst (reach_of t' tail front v.looks c) (sym (y.0 ∙ a.block)) reach_b))
+      made (Body d i) x y = (y.2, inr (subst (reach_of t' tail front v.looks c) (sym (y.0 ∙ a.block)) reach_b, inr (inl (ap (λ i. tag_author (w (Tag i))) (y.0 ∙ a.block) ∙ (ap tag_author tag_word ∙ a.author)))))
+      made _ x y = absurd y
 
-    zero_other : (d : ℕ) → c ≢ d → (p : Spot) → ZeroAt g class segment word d p → ZeroAt g class segment word' d p
-    zero_other d n (Page i j) z = z
-    zero_other d n (Head i) z = (at1_other word b to i (λ x. let q : c + 1 ≡ d + 1 = sym m_at.mine ∙ (ap (λ i. segment (segment_of g i)) (a.block ∙ x) ∙ z.2) in n (omega arith)) ∙ z.0, z.1, z.2)
-    zero_other d n _ z = absurd z
+      zero_own : (p : Spot) → other_than (Head b) p ≡ true → ZeroAt g class segment word c p → ZeroAt g class segment word' c p
+      zero_own (Page i j) q z = z
+      zero_own (Head i) q z = elim (cases_eq b i) [
+        | inl x ↦ (let u : eqb b i ≡ true = eq-eqb b i x in let y : false ≡ true = rw u at q in cc)
+        | inr n ↦ (at1_other word b to i n ∙ z.0, z.1, z.2)
+      ]
+      zero_own _ q z = absurd z
+
+      zero_other : (d : ℕ) → c ≢ d → (p : Spot) → ZeroAt g class segment word d p → ZeroAt g class segment word' d p
+      zero_other d n (Page i j) z = z
+      zero_other d n (Head i) z = (at1_other word b to i (λ x. let q : c + 1 ≡ d + 1 = sym m_at.mine ∙ (ap (λ i. segment (segment_of g i)) (a.block ∙ x) ∙ z.2) in n (omega arith)) ∙ z.0, z.1, z.2)
+      zero_other d n _ z = absurd z
+
+  -- and it is one event: the block is live with the tag that was stored, the root names it, and its words name nothing
+  pub alloc_event : Happens g w (AllocEvent c k b) (graph_of g w v) (graph_of g (upd w (Head b) to) (alloc_view v c k b e m))
+  alloc_event = ((block, free), unnamed, root_zero, (w (Tag b) / 2 ^ 20, author, graph), empty)
+    where
+      lives : ℕ → Bool
+      lives = λ i. (headers w i).live
+
+      shape : Bool → ℕ → ℕ
+      shape l i = cond l (w (Tag i) / 2 ^ 20) 0
+
+      shapes : ℕ → ℕ
+      shapes = λ i. shape (headers w i).live i
+
+      author : tag_author (w (Tag b) / 2 ^ 20 * 2 ^ 20) ≡ c
+      author = let y : tag_author (w (Tag b)) ≡ c = ap tag_author tag_word ∙ a.author in omega arith
+
+      graph : IsSame (with_target (with_live (graph_of g w v) b true (w (Tag b) / 2 ^ 20)) (Root c k) b) (graph_of g (upd w (Head b) to) (alloc_view v c k b e m))
+      graph =
+          record {
+            lives = λ i. at1_all (λ (j x : ℕ). (header_of x).live ≡ at1 lives b true j) (λ i. w (Head i)) b to i (new_live ∙ sym (at1_here lives b true)) (λ n. sym (at1_other lives b true i n));
+            shapes = λ i. at1_all (λ (j x : ℕ). shape (header_of x).live j ≡ at1 shapes b (w (Tag b) / 2 ^ 20) j) (λ i. w (Head i)) b to i
+                (ap (λ l. shape l b) new_live ∙ sym (at1_here shapes b (w (Tag b) / 2 ^ 20))) (λ n. sym (at1_other shapes b (w (Tag b) / 2 ^ 20) i n));
+            targets = λ q. ap (λ f. f q) path;
+            limbos = λ d. ap (λ f. f d) limbo;
+          }
+
+      -- a free block has no words that name
+      empty : (i : ℕ) → targets g (upd w (Head b) to) (alloc_view v c k b e m) (Body b i) ≡ 0
+      empty i = ap (λ f. f (Body b i)) path ∙ ap (λ l. cond (ltb i (refs_of l (w (Tag b)))) (covered (λ d. cover_of (v.op d)) g.clients (Body b i) (w (Body b i))) 0) dead
+          ∙ rw (le-ltb i 0 (omega arith)) refl

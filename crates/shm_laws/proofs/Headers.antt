@@ -12,7 +12,8 @@ use Rattle.shm_graph.specs.declared.memo.Making.{Making}
 use Rattle.shm_graph.specs.Spots.{upd, class_at}
 use Rattle.shm_graph.specs.Blocks.{classes, headers}
 use Rattle.shm_graph.specs.References.{words_of, refs_of}
-use Rattle.shm_graph.specs.Views.{View, at1}
+use Rattle.shm_graph.specs.Views.{View, at1, targets, limbos}
+use Rattle.shm_graph.specs.Events.{graph_of, with_target, IsSame}
 use Rattle.shm_graph.specs.Held.{HeldAt, BlockSound, DyingTie, IsDying, MakingTie, TagSound, ZeroAt}
 use Rattle.shm_graph.proofs.Lists.{at1_here, at1_other}
 use Rattle.shm_graph.proofs.Frames.{at1_all}
@@ -62,10 +63,17 @@ module _ (g : Geometry) (w : Spot → ℕ) (v : View) (h : HeldAt g w v) (b to :
 
   -- the numbers of reference words stay
   pub refs_stay : (d : ℕ) → (words_of (upd w (Head b) to)).refs d ≡ (words_of w).refs d
-  refs_stay d = elim (cases_eq b d) [
-    | inl x ↦ subst (λ z. (words_of (upd w (Head b) to)).refs z ≡ (words_of w).refs z) x (ap (λ z. refs_of (header_of z).live (w (Tag b))) (at1_here word b to) ∙ ap (λ z. refs_of z (w (Tag b))) (now ∙ sym live))
-    | inr n ↦ ap (λ z. refs_of (header_of z).live (w (Tag d))) (at1_other word b to d n)
-  ]
+  refs_stay d = ap (λ z. refs_of z (w (Tag d))) (live_stays d)
+
+  -- where one target changed and no limbo did, the graph is the one with that target
+  pub graph_stays : (v' : View) (p : Spot) (x : ℕ) → targets g (upd w (Head b) to) v' ≡ upd (targets g w v) p x → limbos v' ≡ limbos v → IsSame (with_target (graph_of g w v) p x) (graph_of g (upd w (Head b) to) v')
+  graph_stays v' p x path limbo =
+      record {
+        lives = live_stays;
+        shapes = λ i. ap (λ l. cond l (w (Tag i) / 2 ^ 20) 0) (live_stays i);
+        targets = λ q. ap (λ f. f q) path;
+        limbos = λ d. ap (λ f. f d) limbo;
+      }
 
   -- ---- the zero-count blocks, where c lowers the count to n
 

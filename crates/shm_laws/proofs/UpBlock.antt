@@ -1,4 +1,4 @@
--- the exchange that raises a live block keeps the invariant, for any slot
+-- the exchange that raises a live block keeps the invariant, for any slot, and is one event
 use Rattle.std.proofs.Math.Path.{fun_ext}
 use Rattle.std.proofs.Common.{◌≡◌, ◌≢◌, ℕ, ◌+◌, ◌%◌, ◌^◌, ◌<◌, ◌≤◌, refl, sym, ap, ◌∙◌, arith, true, false, Bool, cond, eqb, eq-eqb, subst, inl, inr, ◌⊎◌, ◌&&◌, List, []}
 use Rattle.std.specs.List.{All, Contains, filter}
@@ -20,286 +20,292 @@ use Rattle.shm_graph.specs.Spots.{upd, same_spot, IsAt, spot_address}
 use Rattle.shm_graph.specs.References.{one_if, words_of}
 use Rattle.shm_graph.specs.Ops.{word_at, cover, cover_of, slot_of, indegree, limbo_of, on_of, is_op}
 use Rattle.shm_graph.specs.Views.{View, targets, ons, limbos}
+use Rattle.shm_graph.specs.Blocks.{classes, headers}
+use Rattle.shm_graph.specs.Events.{graph_of, Happens, Up as UpEvent}
 use Rattle.shm_graph.specs.Tables.{contents_of, HasShape}
 use Rattle.shm_graph.specs.Held.{HeldAt, CountSound, SlotOf, reach_of, named_by, TestAt, KnownAt, LooksSound, is_slot, is_slot_to, LaneSound, IsDying, OwnSound, OpTie, OpSound, Allowed, TailSound, room_of, IsUnusedLane, PartTie, ValueAt, MadeAt, is_loose}
 use Rattle.shm_graph.proofs.Spotting.{same_spot_is, block_is_at}
+use Rattle.shm_graph.proofs.Holders.{Holds}
 use Rattle.shm_graph.proofs.Lists.{at1_here}
 use Rattle.shm_graph.proofs.Frames.{at1_all}
 use Rattle.shm_laws.proofs.Owns.{mine_other, small_stored, there_stored}
 use Rattle.shm_laws.proofs.Lanes.{lane_up, lane_same, other_lane, this_lane, no_self}
 use Rattle.shm_laws.proofs.Keep.{live_block}
 use Rattle.shm_laws.proofs.Exchange.{era_exchange, facts_committed, count_exchange, named_kept, slot_kept, looks_kept, known_kept}
-use Rattle.shm_laws.proofs.Headers.{lives as headers_live, dying_stays, blocks_stay, making_stays, zero_stays, refs_stay}
+use Rattle.shm_laws.proofs.Headers.{lives as headers_live, dying_stays, blocks_stay, making_stays, zero_stays, refs_stay, graph_stays}
 use Rattle.shm_laws.proofs.Slots.{slot_not_spare, slot_names, slot_committed}
 use Rattle.shm_laws.proofs.Parts.{PartKept, part_kept}
 use Rattle.shm_laws.proofs.References.{live_some, named_count, two_names, slot_no_root, part_other, values_kept, made_kept, made_own, queued_kept}
 use Rattle.shm_laws.specs.Steps.{UpStep, up_view, unsent_after, not_block}
 
-pub up_kept : (g : Geometry) (w : Spot → ℕ) (v : View) (c b e to : ℕ) (p : Spot) (part : Part) → HeldAt g w v → UpStep g w v c b e to p part → HeldAt g (upd w (Head b) to) (up_view v c b e p part)
-up_kept g w v c b e to p part h a =
-    record {
-      fits = h.fits;
-      small = small_stored w (Head b) to (2 ^ 64) a.small h.small;
-      there = there_stored (IsAt g class) w (Head b) to (block_is_at g class b (live_block g w h.there b live)) h.there;
-      spare = h.spare;
-      unused = h.unused;
-      sizes = h.sizes;
-      mine = mine_other w v.own g.clients (Head b) to (λ d. refl) h.mine;
-      state = h.state;
-      latch = h.latch;
-      segments = h.segments;
-      dying = λ d l. record {
-        listed = λ i x. dying_kept d i ((h.dying d l).listed i x);
-        all = λ i x. at1_all (λ (j y : ℕ). IsDying (header_of y) d → Contains (v.dying d) j) word b to i (λ q. let z = new_count in let u = q.1 in absurd (omega arith)) (λ n. (h.dying d l).all i) x;
-      };
-      making = λ d l. making_stays g w v h b to live counted new_live d (v.making d) (h.making d l);
-      blocks = blocks_stay g w v h b to live counted new_live;
-      era = era_exchange g.clients word eras v.op c b to o a.inside (ap on_of a.op) refl (ap (λ (x : Header). x.client) a.new) (ap (λ (x : Header). x.era) a.new ∙ op_sound.current) (h.own c a.inside).some over h.era;
-      own = λ d. at1_all (λ (i : ℕ) (x : Op). i < g.clients → OwnSound (w (Era i i)) x) v.op c o d (λ l. let q = h.own c l in record { some = q.some; room = subst (λ x. w (Era c c) + room_of x ≤ 2 ^ 47) a.op q.room }) (λ n. h.own d);
-      op = λ d. at1_all (λ (i : ℕ) (x : Op). i < g.clients → OpTie g class (w (Redo i)) (w (Era i i)) (words_of w') x) v.op c o d
-          (λ l. record { spelled = op_sound.spelled; current = op_sound.current; at = op_sound.at; word = op_sound.word })
-          (λ n. h.op d);
-      redo = h.redo;
-      allowed = λ d. at1_all (λ (i : ℕ) (x : Op). i < g.clients → Allowed i x) v.op c o d (λ l. not_to) (λ n. h.allowed d);
-      count = subst (λ (t : Spot → ℕ). CountSound g class (λ i. header_of (word' i)) t (limbos v')) (sym path)
-          (subst (λ (l : ℕ → ℕ). CountSound g class (λ i. header_of (word' i)) t' l) (sym limbo)
-          (count_exchange g class word t (limbos v) p b to b op_sound.at (slot_not_spare g w v h c p a.inside mine_at) live_not_zero new_live balance others (λ _. refl) h.count));
-      slots = subst (λ (t : Spot → ℕ). (d : ℕ) → d < g.clients → is_op (v'.op d) ≡ true → SlotOf d (λ i. header_of (word' i)) tags (v.latch d) tail front (reach_of t tail front v.looks d) (slot_of (v'.op d))) (sym path)
-          (λ d. at1_all (λ (i : ℕ) (x : Op). i < g.clients → is_op x ≡ true → SlotOf i (λ j. header_of (word' j)) tags (v.latch i) tail front (reach_of t' tail front v.looks i) (slot_of x)) v.op c o d
-          (λ l _. slots c p mine_at)
-          (λ n l is. slots d (slot_of (v.op d)) (h.slots d l is)));
-      looks = subst (λ (t : Spot → ℕ). (d : ℕ) → d < g.clients → LooksSound (λ a. t (Home a)) (λ b i. t (Body b i)) (λ b. tag_author (w (Tag b))) (v.latch d) (named_by t tail front d) [] (v.looks d)) (sym path)
-          (λ d l. looks_kept (λ a. t (Home a)) (λ a. t' (Home a)) (λ b i. t (Body b i)) (λ b i. t' (Body b i)) (λ b. tag_author (w (Tag b))) (v.latch d) (named_by t tail front d) (named_by t' tail front d) (λ i x n q. kept (Home i) x n q) (λ i j x n q. kept (Body i j) x n q) (named d) [] (v.looks d) (h.looks d l));
-      lanes = subst (λ (t : Spot → ℕ). (i j : ℕ) → i < g.clients → j < g.clients → i ≢ j → LaneSound (λ k. t (Slot i j k)) (tail i j) (front i j) (v.sent i j) (unsent_after p b v.unsent i j) (v.received j i) (v.untaken j i)) (sym path) (λ i j li lj n. lane p mine_at not_to held_at i j n (h.lanes i j li lj n));
-      known = subst (λ (t : Spot → ℕ). (d : ℕ) → d < g.clients → All (λ (s : Stored). KnownAt d tags bodies slot tail front (v.untaken d) (v.latch d) (reach_of t tail front v.looks d) (v.dying d) s.spot s.value) (v.known d)) (sym path)
-          (λ d l. All-weaker _ _ (λ (s : Stored). known_kept d tags bodies slot tail front (v.untaken d) (v.latch d) (reach_of t tail front v.looks d) (reach_of t' tail front v.looks d) (v.dying d) (v.dying d) s.spot s.value (reach d) (λ _ x. x)) (v.known d) (h.known d l));
-      facts = λ d l. All-weaker _ _ (facts_committed g.clients eras tail front class v.op c b o refl) (v.facts d) (h.facts d l);
-      zeros = λ d l. All-weaker _ _ (zero_stays g w v h b to live counted new_live d) (v.zeros d) (h.zeros d l);
-      test = λ d l. elim (cases_eq c d) [
-        | inl x ↦ subst (λ i. TestAt g.clients eras (ons v' i) i (v'.test i)) x (rw (eq-eqb c c refl) tt)
-        | inr n ↦ rw (ne_eqb c d n) (h.test d l)
-      ];
-      fresh = λ d l st. elim (cases_eq c d) [
-        | inl x ↦ absurd (a.acts (ap v.status x ∙ st))
-        | inr n ↦ rw (ne_eqb c d n) (let q = h.fresh d l st in record { words = q.words; idle = q.idle; latched = q.latched; looked = q.looked; made = q.made; segments = q.segments; dyings = q.dyings; sends = λ r. unsent d n p mine_at not_to r ∙ q.sends r; takes = q.takes })
-      ];
-      gone = λ d l st. elim (cases_eq c d) [
-        | inl x ↦ absurd (a.here (ap v.status x ∙ st))
-        | inr n ↦ rw (ne_eqb c d n) (let q = h.gone d l st in record { roots = q.roots; hold = q.hold; idle = q.idle; latched = q.latched; segments = q.segments; dyings = q.dyings; sends = λ r. unsent d n p mine_at not_to r ∙ q.sends r; takes = q.takes })
-      ];
-      self_lanes = subst (λ (t : Spot → ℕ). (d : ℕ) → d < g.clients → IsUnusedLane (tail d d) (front d d) (λ k. t (Slot d d k))) (sym path) (λ d l. let q = h.self_lanes d l in (q.0, q.1, λ k. self_slot p mine_at d k ∙ q.2 k));
-      tails = λ d r l lr. elim (cases_eq c d) [
-        | inl x ↦ subst (λ i. TailSound i r (eras i i) (tail i r) (unsent_after p b v.unsent i r) (v'.op i)) x (subst (TailSound c r (eras c c) (tail c r) (unsent_after p b v.unsent c r)) (sym (at1_here v.op c o)) (tail_own p mine_at not_to r (subst (TailSound c r (eras c c) (tail c r) (v.unsent c r)) a.op (h.tails c r a.inside lr))))
-        | inr n ↦ rw (unsent d n p mine_at not_to r, ne_eqb c d n) (h.tails d r l lr)
-      ];
-      parts = λ d i l m. loose d ∙ (h.parts d i l m ∙ sym (loose i));
-      part = subst (λ (t : Spot → ℕ). (d : ℕ) → d < g.clients → PartTie (contents_of w' t) d (t (Home d)) (v'.part d)) (sym path)
-          (λ d. at1_all (λ (i : ℕ) (y : Part). i < g.clients → PartTie (contents_of w' t') i (t' (Home i)) y) v.part c part d
-          (λ _. part_kept (contents_of w t') (contents_of w' t') (λ _. Unit {0}) c same (λ _ _. tt) (t' (Home c)) part tt a.parted)
-          (λ m l. part_other g w v h c d b p heads' m l mine_at (λ i _. lives i)));
-      queued = subst (λ (t : Spot → ℕ). (d : ℕ) → d < g.clients → is_loose (v'.part d) ≡ false → (s r k : ℕ) → t (Slot s r k) ≢ 0 → HasShape (contents_of w' t) 0 1 (t (Slot s r k))) (sym path)
-          (λ d l f. queued_kept g w v h d heads' (λ i j. t' (Body i j)) bodies t' l (λ i _. lives i) (λ s r k _. in_queue s r k (h.parts c d a.inside l ∙ (sym (loose d) ∙ f)) (cases_Bool (same_spot p (Slot s r k)))) (sym (loose d) ∙ f));
-      values = subst (λ (t : Spot → ℕ). (d : ℕ) → d < g.clients → All (ValueAt (contents_of w' t) (reach_of t tail front v.looks d)) (v.values d)) (sym path)
-          (λ d l. values_kept g w v h d heads' (λ i j. t' (Body i j)) bodies (reach_of t' tail front v.looks d) l (λ i _. lives i) (reach d));
-      made = subst (λ (t : Spot → ℕ). (d : ℕ) → d < g.clients → All (MadeAt heads' (λ k. t (Root d k))) (v'.made d)) (sym path)
-          (λ d. at1_all (λ (i : ℕ) (y : List ℕ). i < g.clients → All (MadeAt heads' (λ k. t' (Root i k))) y) v.made c (filter (not_block b) (v.made c)) d
-          (λ lc. made_own g w v h c b to b p (not_block b) lc (λ y f. (differ b y f, λ n z. n (sym z ∙ held_at))))
-          (λ m l. made_kept g w v h d b to b p l (λ y k one f. (only d k m y one f, slot_no_root g w v h c d k p m mine_at))));
-    }
-  where
-    w' : Spot → ℕ
-    w' = upd w (Head b) to
+module _ (g : Geometry) (w : Spot → ℕ) (v : View) (c b e to : ℕ) (p : Spot) (part : Part) (h : HeldAt g w v) (a : UpStep g w v c b e to p part) where
+  new_live : (header_of to).live ≡ true
+  new_live = ap (λ (x : Header). x.live) a.new
 
-    v' : View
-    v' = up_view v c b e p part
+  mine_at : Holds w g v c p
+  mine_at = let q : Holds w g v c (slot_of (Up Begun p b e)) = subst (λ x. Holds w g v c (slot_of x)) a.op (h.slots c a.inside (ap is_op a.op)) in q
 
-    o : Op
-    o = Up Committed p b e
+  op_sound : OpSound g (classes w) (w (Redo c)) (w (Era c c)) (word_at (words_of w) p) p (redos.Up (spot_address g p) b) e 0
+  op_sound = let q : OpTie g (classes w) (w (Redo c)) (w (Era c c)) (words_of w) (Up Begun p b e) = subst (OpTie g (classes w) (w (Redo c)) (w (Era c c)) (words_of w)) a.op (h.op c a.inside) in q
 
-    class : ℕ → ℕ → ℕ
-    class = λ i j. w (Page i j)
+  -- the block is a target, so it is live and counted
+  live : (headers w b).live ≡ true
+  live = subst (λ i. (headers w i).live ≡ true) a.named.1 (h.count.targets a.named.0 (λ z. a.some (sym a.named.1 ∙ z)))
 
-    segment : ℕ → ℕ
-    segment = λ i. w (Segment i)
+  counted : (headers w b).count ≢ 0
+  counted z = let q = named_count g w v h b a.named.0 a.named.1 live in omega arith
 
-    word : ℕ → ℕ
-    word = λ i. w (Head i)
+  -- the slot names nothing
+  held_at : targets g w v p ≡ 0
+  held_at = slot_names g w v h c p a.inside mine_at ∙ (ap (λ z. cover (cover_of z) p (word_at (words_of w) p)) a.op ∙ op_sound.word)
 
-    word' : ℕ → ℕ
-    word' = λ i. upd w (Head b) to (Head i)
+  path : targets g (upd w (Head b) to) (up_view v c b e p part) ≡ upd (targets g w v) p b
+  path = slot_committed g w v h c p a.inside mine_at b to b (Up Committed p b e) (ap cover_of a.op) refl (refs_stay g w v h b to live counted new_live)
 
-    heads' : ℕ → Header
-    heads' = λ i. header_of (word' i)
+  limbo : limbos (up_view v c b e p part) ≡ limbos v
+  limbo = fun_ext (λ d. at1_all (λ (i : ℕ) (x : Op). limbo_of x ≡ limbo_of (v.op i)) v.op c (Up Committed p b e) d (sym (ap limbo_of a.op)) (λ _. refl))
 
-    tags : ℕ → ℕ
-    tags = λ i. w (Tag i)
+  pub up_kept : HeldAt g (upd w (Head b) to) (up_view v c b e p part)
+  up_kept =
+      record {
+        fits = h.fits;
+        small = small_stored w (Head b) to (2 ^ 64) a.small h.small;
+        there = there_stored (IsAt g class) w (Head b) to (block_is_at g class b (live_block g w h.there b live)) h.there;
+        spare = h.spare;
+        unused = h.unused;
+        sizes = h.sizes;
+        mine = mine_other w v.own g.clients (Head b) to (λ d. refl) h.mine;
+        state = h.state;
+        latch = h.latch;
+        segments = h.segments;
+        dying = λ d l. record {
+          listed = λ i x. dying_kept d i ((h.dying d l).listed i x);
+          all = λ i x. at1_all (λ (j y : ℕ). IsDying (header_of y) d → Contains (v.dying d) j) word b to i (λ q. let z = new_count in let u = q.1 in absurd (omega arith)) (λ n. (h.dying d l).all i) x;
+        };
+        making = λ d l. making_stays g w v h b to live counted new_live d (v.making d) (h.making d l);
+        blocks = blocks_stay g w v h b to live counted new_live;
+        era = era_exchange g.clients word eras v.op c b to o a.inside (ap on_of a.op) refl (ap (λ (x : Header). x.client) a.new) (ap (λ (x : Header). x.era) a.new ∙ op_sound.current) (h.own c a.inside).some over h.era;
+        own = λ d. at1_all (λ (i : ℕ) (x : Op). i < g.clients → OwnSound (w (Era i i)) x) v.op c o d (λ l. let q = h.own c l in record { some = q.some; room = subst (λ x. w (Era c c) + room_of x ≤ 2 ^ 47) a.op q.room }) (λ n. h.own d);
+        op = λ d. at1_all (λ (i : ℕ) (x : Op). i < g.clients → OpTie g class (w (Redo i)) (w (Era i i)) (words_of w') x) v.op c o d
+            (λ l. record { spelled = op_sound.spelled; current = op_sound.current; at = op_sound.at; word = op_sound.word })
+            (λ n. h.op d);
+        redo = h.redo;
+        allowed = λ d. at1_all (λ (i : ℕ) (x : Op). i < g.clients → Allowed i x) v.op c o d (λ l. not_to) (λ n. h.allowed d);
+        count = subst (λ (t : Spot → ℕ). CountSound g class (λ i. header_of (word' i)) t (limbos v')) (sym path)
+            (subst (λ (l : ℕ → ℕ). CountSound g class (λ i. header_of (word' i)) t' l) (sym limbo)
+            (count_exchange g class word t (limbos v) p b to b op_sound.at (slot_not_spare g w v h c p a.inside mine_at) live_not_zero new_live balance others (λ _. refl) h.count));
+        slots = subst (λ (t : Spot → ℕ). (d : ℕ) → d < g.clients → is_op (v'.op d) ≡ true → SlotOf d (λ i. header_of (word' i)) tags (v.latch d) tail front (reach_of t tail front v.looks d) (slot_of (v'.op d))) (sym path)
+            (λ d. at1_all (λ (i : ℕ) (x : Op). i < g.clients → is_op x ≡ true → SlotOf i (λ j. header_of (word' j)) tags (v.latch i) tail front (reach_of t' tail front v.looks i) (slot_of x)) v.op c o d
+            (λ l _. slots c p mine_at)
+            (λ n l is. slots d (slot_of (v.op d)) (h.slots d l is)));
+        looks = subst (λ (t : Spot → ℕ). (d : ℕ) → d < g.clients → LooksSound (λ a. t (Home a)) (λ b i. t (Body b i)) (λ b. tag_author (w (Tag b))) (v.latch d) (named_by t tail front d) [] (v.looks d)) (sym path)
+            (λ d l. looks_kept (λ a. t (Home a)) (λ a. t' (Home a)) (λ b i. t (Body b i)) (λ b i. t' (Body b i)) (λ b. tag_author (w (Tag b))) (v.latch d) (named_by t tail front d) (named_by t' tail front d) (λ i x n q. kept (Home i) x n q) (λ i j x n q. kept (Body i j) x n q) (named d) [] (v.looks d) (h.looks d l));
+        lanes = subst (λ (t : Spot → ℕ). (i j : ℕ) → i < g.clients → j < g.clients → i ≢ j → LaneSound (λ k. t (Slot i j k)) (tail i j) (front i j) (v.sent i j) (unsent_after p b v.unsent i j) (v.received j i) (v.untaken j i)) (sym path) (λ i j li lj n. lane p mine_at not_to held_at i j n (h.lanes i j li lj n));
+        known = subst (λ (t : Spot → ℕ). (d : ℕ) → d < g.clients → All (λ (s : Stored). KnownAt d tags bodies slot tail front (v.untaken d) (v.latch d) (reach_of t tail front v.looks d) (v.dying d) s.spot s.value) (v.known d)) (sym path)
+            (λ d l. All-weaker _ _ (λ (s : Stored). known_kept d tags bodies slot tail front (v.untaken d) (v.latch d) (reach_of t tail front v.looks d) (reach_of t' tail front v.looks d) (v.dying d) (v.dying d) s.spot s.value (reach d) (λ _ x. x)) (v.known d) (h.known d l));
+        facts = λ d l. All-weaker _ _ (facts_committed g.clients eras tail front class v.op c b o refl) (v.facts d) (h.facts d l);
+        zeros = λ d l. All-weaker _ _ (zero_stays g w v h b to live counted new_live d) (v.zeros d) (h.zeros d l);
+        test = λ d l. elim (cases_eq c d) [
+          | inl x ↦ subst (λ i. TestAt g.clients eras (ons v' i) i (v'.test i)) x (rw (eq-eqb c c refl) tt)
+          | inr n ↦ rw (ne_eqb c d n) (h.test d l)
+        ];
+        fresh = λ d l st. elim (cases_eq c d) [
+          | inl x ↦ absurd (a.acts (ap v.status x ∙ st))
+          | inr n ↦ rw (ne_eqb c d n) (let q = h.fresh d l st in record { words = q.words; idle = q.idle; latched = q.latched; looked = q.looked; made = q.made; segments = q.segments; dyings = q.dyings; sends = λ r. unsent d n p mine_at not_to r ∙ q.sends r; takes = q.takes })
+        ];
+        gone = λ d l st. elim (cases_eq c d) [
+          | inl x ↦ absurd (a.here (ap v.status x ∙ st))
+          | inr n ↦ rw (ne_eqb c d n) (let q = h.gone d l st in record { roots = q.roots; hold = q.hold; idle = q.idle; latched = q.latched; segments = q.segments; dyings = q.dyings; sends = λ r. unsent d n p mine_at not_to r ∙ q.sends r; takes = q.takes })
+        ];
+        self_lanes = subst (λ (t : Spot → ℕ). (d : ℕ) → d < g.clients → IsUnusedLane (tail d d) (front d d) (λ k. t (Slot d d k))) (sym path) (λ d l. let q = h.self_lanes d l in (q.0, q.1, λ k. self_slot p mine_at d k ∙ q.2 k));
+        tails = λ d r l lr. elim (cases_eq c d) [
+          | inl x ↦ subst (λ i. TailSound i r (eras i i) (tail i r) (unsent_after p b v.unsent i r) (v'.op i)) x (subst (TailSound c r (eras c c) (tail c r) (unsent_after p b v.unsent c r)) (sym (at1_here v.op c o)) (tail_own p mine_at not_to r (subst (TailSound c r (eras c c) (tail c r) (v.unsent c r)) a.op (h.tails c r a.inside lr))))
+          | inr n ↦ rw (unsent d n p mine_at not_to r, ne_eqb c d n) (h.tails d r l lr)
+        ];
+        parts = λ d i l m. loose d ∙ (h.parts d i l m ∙ sym (loose i));
+        part = subst (λ (t : Spot → ℕ). (d : ℕ) → d < g.clients → PartTie (contents_of w' t) d (t (Home d)) (v'.part d)) (sym path)
+            (λ d. at1_all (λ (i : ℕ) (y : Part). i < g.clients → PartTie (contents_of w' t') i (t' (Home i)) y) v.part c part d
+            (λ _. part_kept (contents_of w t') (contents_of w' t') (λ _. Unit {0}) c same (λ _ _. tt) (t' (Home c)) part tt a.parted)
+            (λ m l. part_other g w v h c d b p heads' m l mine_at (λ i _. lives i)));
+        queued = subst (λ (t : Spot → ℕ). (d : ℕ) → d < g.clients → is_loose (v'.part d) ≡ false → (s r k : ℕ) → t (Slot s r k) ≢ 0 → HasShape (contents_of w' t) 0 1 (t (Slot s r k))) (sym path)
+            (λ d l f. queued_kept g w v h d heads' (λ i j. t' (Body i j)) bodies t' l (λ i _. lives i) (λ s r k _. in_queue s r k (h.parts c d a.inside l ∙ (sym (loose d) ∙ f)) (cases_Bool (same_spot p (Slot s r k)))) (sym (loose d) ∙ f));
+        values = subst (λ (t : Spot → ℕ). (d : ℕ) → d < g.clients → All (ValueAt (contents_of w' t) (reach_of t tail front v.looks d)) (v.values d)) (sym path)
+            (λ d l. values_kept g w v h d heads' (λ i j. t' (Body i j)) bodies (reach_of t' tail front v.looks d) l (λ i _. lives i) (reach d));
+        made = subst (λ (t : Spot → ℕ). (d : ℕ) → d < g.clients → All (MadeAt heads' (λ k. t (Root d k))) (v'.made d)) (sym path)
+            (λ d. at1_all (λ (i : ℕ) (y : List ℕ). i < g.clients → All (MadeAt heads' (λ k. t' (Root i k))) y) v.made c (filter (not_block b) (v.made c)) d
+            (λ lc. made_own g w v h c b to b p (not_block b) lc (λ y f. (differ b y f, λ n z. n (sym z ∙ held_at))))
+            (λ m l. made_kept g w v h d b to b p l (λ y k one f. (only d k m y one f, slot_no_root g w v h c d k p m mine_at))));
+      }
+    where
+      w' : Spot → ℕ
+      w' = upd w (Head b) to
 
-    bodies : ℕ → ℕ → ℕ
-    bodies = λ i j. w (Body i j)
+      v' : View
+      v' = up_view v c b e p part
 
-    slot : ℕ → ℕ → ℕ → ℕ
-    slot = λ i j l. w (Slot i j l)
+      o : Op
+      o = Up Committed p b e
 
-    tail : ℕ → ℕ → ℕ
-    tail = λ i j. w (Tail i j)
+      class : ℕ → ℕ → ℕ
+      class = λ i j. w (Page i j)
 
-    front : ℕ → ℕ → ℕ
-    front = λ i j. w (Front i j)
+      segment : ℕ → ℕ
+      segment = λ i. w (Segment i)
 
-    eras : ℕ → ℕ → ℕ
-    eras = λ i j. w (Era i j)
+      word : ℕ → ℕ
+      word = λ i. w (Head i)
 
-    t : Spot → ℕ
-    t = targets g w v
+      word' : ℕ → ℕ
+      word' = λ i. upd w (Head b) to (Head i)
 
-    t' : Spot → ℕ
-    t' = upd t p b
+      heads' : ℕ → Header
+      heads' = λ i. header_of (word' i)
 
-    new_live : (header_of to).live ≡ true
-    new_live = ap (λ (x : Header). x.live) a.new
+      tags : ℕ → ℕ
+      tags = λ i. w (Tag i)
 
-    At : ℕ → Spot → Type 0
-    At d = SlotOf d (λ i. header_of (word i)) tags (v.latch d) tail front (reach_of t tail front v.looks d)
+      bodies : ℕ → ℕ → ℕ
+      bodies = λ i j. w (Body i j)
 
-    mine_at : At c p
-    mine_at = let q : At c (slot_of (Up Begun p b e)) = subst (λ x. At c (slot_of x)) a.op (h.slots c a.inside (ap is_op a.op)) in q
+      slot : ℕ → ℕ → ℕ → ℕ
+      slot = λ i j l. w (Slot i j l)
 
-    not_to : is_slot_to c p ≡ false
-    not_to = let q : Allowed c (Up Begun p b e) = subst (Allowed c) a.op (h.allowed c a.inside) in q
+      tail : ℕ → ℕ → ℕ
+      tail = λ i j. w (Tail i j)
 
-    op_sound : OpSound g class (w (Redo c)) (w (Era c c)) (word_at (words_of w) p) p (redos.Up (spot_address g p) b) e 0
-    op_sound = let q : OpTie g class (w (Redo c)) (w (Era c c)) (words_of w) (Up Begun p b e) = subst (OpTie g class (w (Redo c)) (w (Era c c)) (words_of w)) a.op (h.op c a.inside) in q
+      front : ℕ → ℕ → ℕ
+      front = λ i j. w (Front i j)
 
-    -- the block is a target, so it is live and counted
-    live : (header_of (word b)).live ≡ true
-    live = subst (λ i. (header_of (word i)).live ≡ true) a.named.1 (h.count.targets a.named.0 (λ z. a.some (sym a.named.1 ∙ z)))
+      eras : ℕ → ℕ → ℕ
+      eras = λ i j. w (Era i j)
 
-    counted : (header_of (word b)).count ≢ 0
-    counted z = let q = named_count g w v h b a.named.0 a.named.1 live in omega arith
+      t : Spot → ℕ
+      t = targets g w v
 
-    new_count : (header_of to).count ≡ (header_of (word b)).count + 1
-    new_count = ap (λ (x : Header). x.count) a.new
+      t' : Spot → ℕ
+      t' = upd t p b
 
-    over : (d : ℕ) → d < g.clients → c ≢ d → (header_of (word b)).client ≡ d → (header_of (word b)).era ≡ eras d d → eras d d ≤ eras c d
-    over d l m cl er = let s : (header_of (word b)).era ≤ eras c (header_of (word b)).client = a.shows (λ z. m (z ∙ cl)) in subst (λ x. x ≤ eras c d) er (subst (λ i. (header_of (word b)).era ≤ eras c i) cl s)
+      not_to : is_slot_to c p ≡ false
+      not_to = let q : Allowed c (Up Begun p b e) = subst (Allowed c) a.op (h.allowed c a.inside) in q
 
-    lives : (i : ℕ) → (header_of (word i)).live ≡ true → (header_of (word' i)).live ≡ true
-    lives = headers_live g w v h b to live counted new_live
+      new_count : (header_of to).count ≡ (header_of (word b)).count + 1
+      new_count = ap (λ (x : Header). x.count) a.new
 
-    dying_kept : (d i : ℕ) → IsDying (header_of (word i)) d → IsDying (header_of (word' i)) d
-    dying_kept = dying_stays g w v h b to live counted new_live
+      over : (d : ℕ) → d < g.clients → c ≢ d → (header_of (word b)).client ≡ d → (header_of (word b)).era ≡ eras d d → eras d d ≤ eras c d
+      over d l m cl er = let s : (header_of (word b)).era ≤ eras c (header_of (word b)).client = a.shows (λ z. m (z ∙ cl)) in subst (λ x. x ≤ eras c d) er (subst (λ i. (header_of (word b)).era ≤ eras c i) cl s)
 
-    live_not_zero : (i : ℕ) → (header_of (word i)).live ≡ true → i ≢ 0
-    live_not_zero i l = live_some g w v h i l
+      lives : (i : ℕ) → (header_of (word i)).live ≡ true → (header_of (word' i)).live ≡ true
+      lives = headers_live g w v h b to live counted new_live
 
-    held_at : t p ≡ 0
-    held_at = slot_names g w v h c p a.inside mine_at ∙ (ap (λ z. cover (cover_of z) p (word_at (words_of w) p)) a.op ∙ op_sound.word)
+      dying_kept : (d i : ℕ) → IsDying (header_of (word i)) d → IsDying (header_of (word' i)) d
+      dying_kept = dying_stays g w v h b to live counted new_live
 
-    path : targets g w' v' ≡ t'
-    path = slot_committed g w v h c p a.inside mine_at b to b o (ap cover_of a.op) refl (refs_stay g w v h b to live counted new_live)
+      live_not_zero : (i : ℕ) → (header_of (word i)).live ≡ true → i ≢ 0
+      live_not_zero i l = live_some g w v h i l
 
-    limbo : limbos v' ≡ limbos v
-    limbo = fun_ext (λ d. at1_all (λ (i : ℕ) (x : Op). limbo_of x ≡ limbo_of (v.op i)) v.op c o d (sym (ap limbo_of a.op)) (λ _. refl))
+      balance : (header_of to).count + one_if (eqb (t p) b) ≡ indegree g class t (limbos v) b + one_if (eqb b b)
+      balance =
+          let x : one_if (eqb (t p) b) ≡ 0 = ap one_if (ne_eqb _ b (λ z. a.some (sym z ∙ held_at))) in
+          let y : one_if (eqb b b) ≡ 1 = ap one_if (eq-eqb b b refl) in
+          let u = h.count.counts b live in let q = new_count in
+          omega arith
 
-    balance : (header_of to).count + one_if (eqb (t p) b) ≡ indegree g class t (limbos v) b + one_if (eqb b b)
-    balance =
-        let x : one_if (eqb (t p) b) ≡ 0 = ap one_if (ne_eqb _ b (λ z. a.some (sym z ∙ held_at))) in
-        let y : one_if (eqb b b) ≡ 1 = ap one_if (eq-eqb b b refl) in
-        let u = h.count.counts b live in let q = new_count in
-        omega arith
+      others : (i : ℕ) → i ≢ 0 → b ≢ i → one_if (eqb (t p) i) ≡ one_if (eqb b i)
+      others i nz n = ap one_if (ne_eqb _ i (λ z. nz (sym z ∙ held_at)) ∙ sym (ne_eqb b i n))
 
-    others : (i : ℕ) → i ≢ 0 → b ≢ i → one_if (eqb (t p) i) ≡ one_if (eqb b i)
-    others i nz n = ap one_if (ne_eqb _ i (λ z. nz (sym z ∙ held_at)) ∙ sym (ne_eqb b i n))
+      -- a target that is something stays
+      kept : (q : Spot) (i : ℕ) → i ≢ 0 → t q ≡ i → t' q ≡ i
+      kept q i n x = both (same_spot p q) refl
+        where
+          both : (z : Bool) → same_spot p q ≡ z → cond z b (t q) ≡ i
+          both true z = absurd (n (sym x ∙ (ap t (sym (same_spot_is p q z)) ∙ held_at)))
+          both false z = x
 
-    -- a target that is something stays
-    kept : (q : Spot) (i : ℕ) → i ≢ 0 → t q ≡ i → t' q ≡ i
-    kept q i n x = both (same_spot p q) refl
-      where
-        both : (z : Bool) → same_spot p q ≡ z → cond z b (t q) ≡ i
-        both true z = absurd (n (sym x ∙ (ap t (sym (same_spot_is p q z)) ∙ held_at)))
-        both false z = x
+      named : (d i : ℕ) → named_by t tail front d i → named_by t' tail front d i
+      named d i = named_kept t t' tail front d i (λ n l x. kept (Root d l) i n x) (λ n x. kept (Home d) i n x) (λ n s _ x. kept (Slot s d (front s d % 8)) i n x)
 
-    named : (d i : ℕ) → named_by t tail front d i → named_by t' tail front d i
-    named d i = named_kept t t' tail front d i (λ n l x. kept (Root d l) i n x) (λ n x. kept (Home d) i n x) (λ n s _ x. kept (Slot s d (front s d % 8)) i n x)
+      reach : (d i : ℕ) → reach_of t tail front v.looks d i → reach_of t' tail front v.looks d i
+      reach d i (inl x) = inl (named d i x)
+      reach d i (inr x) = inr x
 
-    reach : (d i : ℕ) → reach_of t tail front v.looks d i → reach_of t' tail front v.looks d i
-    reach d i (inl x) = inl (named d i x)
-    reach d i (inr x) = inr x
+      slots : (d : ℕ) (q : Spot) → Holds w g v d q → SlotOf d (λ i. header_of (word' i)) tags (v.latch d) tail front (reach_of t' tail front v.looks d) q
+      slots d q = slot_kept d (λ i. header_of (word i)) (λ i. header_of (word' i)) tags (v.latch d) tail front (reach_of t tail front v.looks d) (reach_of t' tail front v.looks d) q (λ i z. inl (lives i z)) (dying_kept d) (reach d)
 
-    slots : (d : ℕ) (q : Spot) → At d q → SlotOf d (λ i. header_of (word' i)) tags (v.latch d) tail front (reach_of t' tail front v.looks d) q
-    slots d q = slot_kept d (λ i. header_of (word i)) (λ i. header_of (word' i)) tags (v.latch d) tail front (reach_of t tail front v.looks d) (reach_of t' tail front v.looks d) q (λ i z. inl (lives i z)) (dying_kept d) (reach d)
+      -- a queue from an identity to itself has no slot of a step
+      self_slot : (q : Spot) → Holds w g v c q → (d k : ℕ) → upd t q b (Slot d d k) ≡ t (Slot d d k)
+      self_slot (Slot s r l) x d k = let q = other_lane s r l d d k (no_self s r d x.0) in rw q refl
+      self_slot (Root i j) x d k = refl
+      self_slot (Home i) x d k = refl
+      self_slot (Body i j) x d k = refl
+      self_slot _ x d k = absurd x
 
-    -- a queue from an identity to itself has no slot of a step
-    self_slot : (q : Spot) → At c q → (d k : ℕ) → upd t q b (Slot d d k) ≡ t (Slot d d k)
-    self_slot (Slot s r l) x d k = let q = other_lane s r l d d k (no_self s r d x.0) in rw q refl
-    self_slot (Root i j) x d k = refl
-    self_slot (Home i) x d k = refl
-    self_slot (Body i j) x d k = refl
-    self_slot _ x d k = absurd x
+      -- in a pool for tables what is sent is a value block
+      in_queue : (s r k : ℕ) → is_loose (v.part c) ≡ false → (same_spot p (Slot s r k) ≡ true) ⊎ (same_spot p (Slot s r k) ≡ false) → (t' (Slot s r k) ≡ t (Slot s r k)) ⊎ HasShape (contents_of w' t') 0 1 (t' (Slot s r k))
+      in_queue s r k f (inl e) = inr (rw e (let q = a.queued f (ap is_slot (same_spot_is p (Slot s r k) e)) in record { live = lives b q.live; names = q.names; words = q.words }))
+      in_queue s r k f (inr e) = inl (rw e refl)
 
-    -- in a pool for tables what is sent is a value block
-    in_queue : (s r k : ℕ) → is_loose (v.part c) ≡ false → (same_spot p (Slot s r k) ≡ true) ⊎ (same_spot p (Slot s r k) ≡ false) → (t' (Slot s r k) ≡ t (Slot s r k)) ⊎ HasShape (contents_of w' t') 0 1 (t' (Slot s r k))
-    in_queue s r k f (inl e) = inr (rw e (let q = a.queued f (ap is_slot (same_spot_is p (Slot s r k) e)) in record { live = lives b q.live; names = q.names; words = q.words }))
-    in_queue s r k f (inr e) = inl (rw e refl)
+      loose : (d : ℕ) → is_loose (v'.part d) ≡ is_loose (v.part d)
+      loose d = at1_all (λ (i : ℕ) (y : Part). is_loose y ≡ is_loose (v.part i)) v.part c part d a.loose (λ _. refl)
 
-    loose : (d : ℕ) → is_loose (v'.part d) ≡ is_loose (v.part d)
-    loose d = at1_all (λ (i : ℕ) (y : Part). is_loose y ≡ is_loose (v.part i)) v.part c part d a.loose (λ _. refl)
+      same : PartKept (contents_of w t') (contents_of w' t') (λ _. Unit {0}) c
+      same = record { live = λ i _ l. lives i l; tag = λ _ _ _. refl; refs = λ _ _ _ _ _ _. refl; body = λ _ _ _ _ _. refl }
 
-    same : PartKept (contents_of w t') (contents_of w' t') (λ _. Unit {0}) c
-    same = record { live = λ i _ l. lives i l; tag = λ _ _ _. refl; refs = λ _ _ _ _ _ _. refl; body = λ _ _ _ _ _. refl }
+      differ : (i y : ℕ) → not_block i y ≡ true → i ≢ y
+      differ i y f z = let u : eqb i y ≡ true = eq-eqb i y z in let q : false ≡ true = rw u at f in true≢false (sym q)
 
-    differ : (i y : ℕ) → not_block i y ≡ true → i ≢ y
-    differ i y f z = let u : eqb i y ≡ true = eq-eqb i y z in let q : false ≡ true = rw u at f in true≢false (sym q)
+      -- the block that is raised has a reference that is no root of another identity
+      only : (d k : ℕ) → c ≢ d → (y : ℕ) → (header_of (word y)).count ≡ 1 → t (Root d k) ≡ y → b ≢ y
+      only d k m y one f z =
+          let q : same_spot a.named.0 (Root d k) ≡ false = false_from_ne_true _ (λ u. m (sym (a.rooted d k (same_spot_is a.named.0 (Root d k) u)))) in
+          let u = two_names g w v h b a.named.0 (Root d k) a.named.1 (f ∙ sym z) q live in
+          let r : (header_of (word b)).count ≡ 1 = ap (λ i. (header_of (word i)).count) z ∙ one in
+          absurd (omega arith)
 
-    -- the block that is raised has a reference that is no root of another identity
-    only : (d k : ℕ) → c ≢ d → (y : ℕ) → (header_of (word y)).count ≡ 1 → t (Root d k) ≡ y → b ≢ y
-    only d k m y one f z =
-        let q : same_spot a.named.0 (Root d k) ≡ false = false_from_ne_true _ (λ u. m (sym (a.rooted d k (same_spot_is a.named.0 (Root d k) u)))) in
-        let u = two_names g w v h b a.named.0 (Root d k) a.named.1 (f ∙ sym z) q live in
-        let r : (header_of (word b)).count ≡ 1 = ap (λ i. (header_of (word i)).count) z ∙ one in
-        absurd (omega arith)
+      unsent : (d : ℕ) → c ≢ d → (q : Spot) → Holds w g v c q → is_slot_to c q ≡ false → (r : ℕ) → unsent_after q b v.unsent d r ≡ v.unsent d r
+      unsent d n (Slot s r k) x y j = elim x.1 [
+        | inl u ↦ (let z : eqb s d ≡ false = ne_eqb s d (λ i. n (sym u.0 ∙ i)) in rw z refl)
+        | inr u ↦ absurd (true≢false (sym (eq-eqb r c u.0) ∙ y))
+      ]
+      unsent d n (Root i j) x y r = refl
+      unsent d n (Home i) x y r = refl
+      unsent d n (Body i j) x y r = refl
+      unsent d n _ x y r = absurd x
 
-    unsent : (d : ℕ) → c ≢ d → (q : Spot) → At c q → is_slot_to c q ≡ false → (r : ℕ) → unsent_after q b v.unsent d r ≡ v.unsent d r
-    unsent d n (Slot s r k) x y j = elim x.1 [
-      | inl u ↦ (let z : eqb s d ≡ false = ne_eqb s d (λ i. n (sym u.0 ∙ i)) in rw z refl)
-      | inr u ↦ absurd (true≢false (sym (eq-eqb r c u.0) ∙ y))
-    ]
-    unsent d n (Root i j) x y r = refl
-    unsent d n (Home i) x y r = refl
-    unsent d n (Body i j) x y r = refl
-    unsent d n _ x y r = absurd x
+      lane : (q : Spot) → Holds w g v c q → is_slot_to c q ≡ false → t q ≡ 0 → (i j : ℕ) → i ≢ j → LaneSound (λ k. t (Slot i j k)) (tail i j) (front i j) (v.sent i j) (v.unsent i j) (v.received j i) (v.untaken j i) → LaneSound (λ k. upd t q b (Slot i j k)) (tail i j) (front i j) (v.sent i j) (unsent_after q b v.unsent i j) (v.received j i) (v.untaken j i)
+      lane (Root _ _) x y z i j n l = l
+      lane (Home _) x y z i j n l = l
+      lane (Body _ _) x y z i j n l = l
+      lane (Slot s r k) x y z i j n l = elim (cases_Bool (eqb s i && eqb r j)) [
+        | inr f ↦ rw f (lane_same (λ m. t (Slot i j m)) (λ m. upd t (Slot s r k) b (Slot i j m)) (tail i j) (front i j) (v.sent i j) (v.unsent i j) (v.received j i) (v.untaken j i) (λ m. let q = other_lane s r k i j m f in rw q refl) l)
+        | inl f ↦ rw f (lane_up (λ m. t (Slot i j m)) (λ m. upd t (Slot s r k) b (Slot i j m)) (tail i j) (front i j) (v.sent i j) (v.unsent i j) b (v.received j i) (v.untaken j i)
+            (at_tail i j f).1
+            (λ m ne. let q : same_spot (Slot s r k) (Slot i j m) ≡ false = this_lane s r k i j m f ∙ ne_eqb k m (λ u. ne (sym u ∙ (at_tail i j f).0)) in rw q refl)
+            (let q : same_spot (Slot s r k) (Slot i j (tail i j % 8)) ≡ true = this_lane s r k i j (tail i j % 8) f ∙ eq-eqb k (tail i j % 8) (at_tail i j f).0 in rw q refl) l)
+      ]
+        where
+          at_tail : (i j : ℕ) → (eqb s i && eqb r j) ≡ true → (k ≡ tail i j % 8) × (tail i j < front i j + 8)
+          at_tail i j f = elim x.1 [
+            | inl u ↦ (let q = and_parts (eqb s i) (eqb r j) f in let d = eqb-true s i q.0 in let o = eqb-true r j q.1 in
+                subst (λ a. (k ≡ tail a j % 8) × (tail a j < front a j + 8)) d (subst (λ a. (k ≡ tail s a % 8) × (tail s a < front s a + 8)) o (u.1, u.2)))
+            | inr u ↦ absurd (true≢false (sym (eq-eqb r c u.0) ∙ y))
+          ]
+      lane _ x y z i j n l = absurd x
 
-    lane : (q : Spot) → At c q → is_slot_to c q ≡ false → t q ≡ 0 → (i j : ℕ) → i ≢ j → LaneSound (λ k. t (Slot i j k)) (tail i j) (front i j) (v.sent i j) (v.unsent i j) (v.received j i) (v.untaken j i) → LaneSound (λ k. upd t q b (Slot i j k)) (tail i j) (front i j) (v.sent i j) (unsent_after q b v.unsent i j) (v.received j i) (v.untaken j i)
-    lane (Root _ _) x y z i j n l = l
-    lane (Home _) x y z i j n l = l
-    lane (Body _ _) x y z i j n l = l
-    lane (Slot s r k) x y z i j n l = elim (cases_Bool (eqb s i && eqb r j)) [
-      | inr f ↦ rw f (lane_same (λ m. t (Slot i j m)) (λ m. upd t (Slot s r k) b (Slot i j m)) (tail i j) (front i j) (v.sent i j) (v.unsent i j) (v.received j i) (v.untaken j i) (λ m. let q = other_lane s r k i j m f in rw q refl) l)
-      | inl f ↦ rw f (lane_up (λ m. t (Slot i j m)) (λ m. upd t (Slot s r k) b (Slot i j m)) (tail i j) (front i j) (v.sent i j) (v.unsent i j) b (v.received j i) (v.untaken j i)
-          (at_tail i j f).1
-          (λ m ne. let q : same_spot (Slot s r k) (Slot i j m) ≡ false = this_lane s r k i j m f ∙ ne_eqb k m (λ u. ne (sym u ∙ (at_tail i j f).0)) in rw q refl)
-          (let q : same_spot (Slot s r k) (Slot i j (tail i j % 8)) ≡ true = this_lane s r k i j (tail i j % 8) f ∙ eq-eqb k (tail i j % 8) (at_tail i j f).0 in rw q refl) l)
-    ]
-      where
-        at_tail : (i j : ℕ) → (eqb s i && eqb r j) ≡ true → (k ≡ tail i j % 8) × (tail i j < front i j + 8)
-        at_tail i j f = elim x.1 [
-          | inl u ↦ (let q = and_parts (eqb s i) (eqb r j) f in let d = eqb-true s i q.0 in let o = eqb-true r j q.1 in
-              subst (λ a. (k ≡ tail a j % 8) × (tail a j < front a j + 8)) d (subst (λ a. (k ≡ tail s a % 8) × (tail s a < front s a + 8)) o (u.1, u.2)))
-          | inr u ↦ absurd (true≢false (sym (eq-eqb r c u.0) ∙ y))
-        ]
-    lane _ x y z i j n l = absurd x
+      -- the slot at the tail is the step's own
+      tail_own : (q : Spot) → Holds w g v c q → is_slot_to c q ≡ false → (r : ℕ) → TailSound c r (eras c c) (tail c r) (v.unsent c r) (Up Begun q b e) → TailSound c r (eras c c) (tail c r) (unsent_after q b v.unsent c r) (Up Committed q b e)
+      tail_own (Root _ _) x y r k = k
+      tail_own (Home _) x y r k = k
+      tail_own (Body _ _) x y r k = k
+      tail_own (Slot s i j) x y r k = elim (cases_Bool (eqb s c && eqb i r)) [
+        | inr f ↦ rw f k
+        | inl f ↦ (k.0, λ _ n. absurd (n (here (and_parts (eqb s c) (eqb i r) f) x.1)))
+      ]
+        where
+          here : (eqb s c ≡ true) × (eqb i r ≡ true) → ((s ≡ c) × (j ≡ tail s i % 8) × (tail s i < front s i + 8)) ⊎ ((i ≡ c) × (j ≡ front s i % 8) × (front s i < tail s i)) → Slot s i j ≡ Slot c r (tail c r % 8)
+          here q (inl u) = let m : i ≡ r = eqb-true i r q.1 in ap (λ z. Slot z i j) u.0 ∙ (ap (λ z. Slot c z j) m ∙ ap (Slot c r) (u.1 ∙ (ap (λ z. tail z i % 8) u.0 ∙ ap (λ z. tail c z % 8) m)))
+          here q (inr u) = absurd (true≢false (sym (eq-eqb i c u.0) ∙ y))
+      tail_own _ x y r k = absurd x
 
-    -- the slot at the tail is the step's own
-    tail_own : (q : Spot) → At c q → is_slot_to c q ≡ false → (r : ℕ) → TailSound c r (eras c c) (tail c r) (v.unsent c r) (Up Begun q b e) → TailSound c r (eras c c) (tail c r) (unsent_after q b v.unsent c r) (Up Committed q b e)
-    tail_own (Root _ _) x y r k = k
-    tail_own (Home _) x y r k = k
-    tail_own (Body _ _) x y r k = k
-    tail_own (Slot s i j) x y r k = elim (cases_Bool (eqb s c && eqb i r)) [
-      | inr f ↦ rw f k
-      | inl f ↦ (k.0, λ _ n. absurd (n (here (and_parts (eqb s c) (eqb i r) f) x.1)))
-    ]
-      where
-        here : (eqb s c ≡ true) × (eqb i r ≡ true) → ((s ≡ c) × (j ≡ tail s i % 8) × (tail s i < front s i + 8)) ⊎ ((i ≡ c) × (j ≡ front s i % 8) × (front s i < tail s i)) → Slot s i j ≡ Slot c r (tail c r % 8)
-        here q (inl u) = let m : i ≡ r = eqb-true i r q.1 in ap (λ z. Slot z i j) u.0 ∙ (ap (λ z. Slot c z j) m ∙ ap (Slot c r) (u.1 ∙ (ap (λ z. tail z i % 8) u.0 ∙ ap (λ z. tail c z % 8) m)))
-        here q (inr u) = absurd (true≢false (sym (eq-eqb i c u.0) ∙ y))
-    tail_own _ x y r k = absurd x
+  -- and it is one event: the empty slot names the block
+  pub up_event : Happens g w (UpEvent c p b) (graph_of g w v) (graph_of g (upd w (Head b) to) (up_view v c b e p part))
+  up_event = (held_at, (live, counted), graph_stays g w v h b to live counted new_live (up_view v c b e p part) p b path limbo)

@@ -13,9 +13,8 @@ ghost use Rattle.shm_graph.specs.declared.memo.Test.{Test as ATest};
 ghost use Rattle.shm_graph.specs.declared.table.Part.{Part as APart};
 ghost use Rattle.shm_graph.specs.Spots.{upd};
 ghost use Rattle.shm_graph.specs.Views.{View};
-ghost use Rattle.shm_graph.specs.Events.{Nothing, graph_of, Happens};
+ghost use Rattle.shm_graph.specs.Events.{Nothing, Alloc, Up, Down, ChangeUp, ChangeDown, Free, graph_of, Happens};
 ghost use Rattle.shm_graph.specs.Held.{HeldAt};
-ghost use Rattle.shm_graph.specs.Events.{ChangeUp, ChangeDown, Free, graph_of, Happens};
 ghost use Rattle.shm_graph.specs.Changes.{next_row};
 ghost use Rattle.shm_laws.specs.Steps.{BeginStep, begin_view, RowStep, row_store_view, ClassStep, class_view, CloseStep, close_view, TailStep, tail_view, HeadStep, head_view, RootStep, root_view, BodyStep, body_view, BackStep, back_view, FreeStep, free_view, LatchStep, latch_view, AllocStep, alloc_view, UpStep, up_view, LowerStep, lower_view, ChangeStep, change_view, SecondStep, second_view, header_view, row_view, LookStep, look_view};
 
@@ -62,6 +61,13 @@ pub fn exchanges_kept()
     ensures down { (g : AGeometry) (w : ASpot → ℕ) (v : View) (c b e n to : ℕ) (p : ASpot) (looks : List ALook) (kept : List AStored) (values : List ℕ) (part : APart) → HeldAt g w v → LowerStep g w v c b e n to p looks kept values part → HeldAt g (upd w (Head b) to) (lower_view v c b e n p looks kept values part) }
     ensures first { (g : AGeometry) (w : ASpot → ℕ) (v : View) (c x b e to : ℕ) (p : ASpot) (looks : List ALook) (kept : List AStored) (values : List ℕ) (part : APart) → HeldAt g w v → ChangeStep g w v c x b e to p looks kept values part → HeldAt g (upd w (Head b) to) (change_view v c x b e p looks kept values part) }
     ensures second { (g : AGeometry) (w : ASpot → ℕ) (v : View) (c b y e n to : ℕ) (p : ASpot) (looks : List ALook) (kept : List AStored) (values : List ℕ) → HeldAt g w v → SecondStep g w v c b y e n to p looks kept values → HeldAt g (upd w (Head b) to) (second_view v c b y e n p looks kept values) }
+{}
+
+/// The event of each exchange of a header that succeeds.
+pub fn exchanges_are_events()
+    ensures alloc { (g : AGeometry) (w : ASpot → ℕ) (v : View) (c k b e to tag : ℕ) (m : AMaking) → HeldAt g w v → AllocStep g w v c k b e to tag m → Happens g w (Alloc c k b) (graph_of g w v) (graph_of g (upd w (Head b) to) (alloc_view v c k b e m)) }
+    ensures up { (g : AGeometry) (w : ASpot → ℕ) (v : View) (c b e to : ℕ) (p : ASpot) (part : APart) → HeldAt g w v → UpStep g w v c b e to p part → Happens g w (Up c p b) (graph_of g w v) (graph_of g (upd w (Head b) to) (up_view v c b e p part)) }
+    ensures down { (g : AGeometry) (w : ASpot → ℕ) (v : View) (c b e n to : ℕ) (p : ASpot) (looks : List ALook) (kept : List AStored) (values : List ℕ) (part : APart) → HeldAt g w v → LowerStep g w v c b e n to p looks kept values part → Happens g w (Down c p b) (graph_of g w v) (graph_of g (upd w (Head b) to) (lower_view v c b e n p looks kept values part)) }
 {}
 
 /// Loads: of a header and of a row by a recoverer that tests whether a step was committed, and of a reference word of a block under
