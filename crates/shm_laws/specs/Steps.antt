@@ -379,9 +379,6 @@ pub record ChangeStep (g : Geometry) (w : Spot → ℕ) (v : View) (c x b e to :
 
 -- ---- loads that only read what grows: a header, and a row of another identity
 
-pub record ReadStep (g : Geometry) (v : View) (c : ℕ) : Type 0 where
-  pub inside : c < g.clients
-
 -- a header; where a recoverer is in the commit test of this block, the window opens
 abbrev pub header_view : View → ℕ → ℕ → Option Test → View
 header_view v c x test =
