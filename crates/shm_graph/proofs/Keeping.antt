@@ -54,9 +54,6 @@ fixed_kept me w r a f after p e n held same allowed x =
 
 -- ---- the own status
 
-abbrev pub GoneNow : ℕ → Memo → Type 0
-GoneNow c m = Gone c m.own m.op m.latch m.owned m.dying (λ i. slice_index m.unsent i) (λ i. slice_index m.untaken i)
-
 -- c joins
 pub live_kept : (me : Me) (w : Spot → ℕ) (r : ℕ → Memo) (f : Frame) (tr : Trail) (at : ℕ) (after : ℕ → Memo → Type 0) → Stands me w r f tr → spot_at me.geometry (classes w) at ≡ Status me.who
     → after 0 (record (called (r me.who) (framed me (Store at 1) f 0)) { status = status.Live })

@@ -34,3 +34,4 @@ pub mod Looking
 pub mod Going
 pub mod OpEnd
 pub mod LoadKeeping
+pub mod StatusKeeping

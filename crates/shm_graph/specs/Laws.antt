@@ -1,5 +1,5 @@
 -- the laws of machines
-use Rattle.std.specs.Prelude.{◌≡◌, ℕ, ◌<◌, Bool, true, false, ◌==◌, if◌then◌else◌, Option, Some, None, List, [], ◌∷◌, ◌++◌}
+use Rattle.std.specs.Prelude.{◌≡◌, ℕ, ◌<◌, Bool, true, false, ◌==◌, if◌then◌else◌, Option, Some, None, List, [], ◌∷◌, ◌++◌, slice_index}
 use Rattle.shm_words.specs.declared.geometry.Geometry.{Geometry}
 use Rattle.shm_words.specs.Layout.{total_of}
 use Rattle.shm_graph.specs.declared.ask.Ask.{Ask}
@@ -20,7 +20,7 @@ use Rattle.shm_graph.specs.declared.memo.Step.{Step}
 use Rattle.shm_graph.specs.Spots.{spot_at}
 use Rattle.shm_graph.specs.Blocks.{classes}
 use Rattle.shm_graph.specs.Views.{View, view, at1}
-use Rattle.shm_graph.specs.Held.{HeldAt}
+use Rattle.shm_graph.specs.Held.{HeldAt, Gone}
 use Rattle.shm_graph.specs.Asks.{Trail, at_of, seen_of, words_after, pair, call_before}
 use Rattle.shm_graph.specs.Ops.{IsUncommitted}
 use Rattle.shm_graph.specs.Changes.{memo_on, spot_told, recovers}
@@ -120,6 +120,10 @@ KeptAt me w r a f after p = Kept w r (framed me a f (seen_of a (w p))) p (after 
 -- from each Held state that fits, in any frame, the step that is asked for leads to a Held state, and then `after` holds of the word found and of the memo
 abbrev pub StepKeeps : Me → Ask → Trail → (Memo → Type 0) → (ℕ → Memo → Type 0) → Type 0
 StepKeeps me a tr before after = (w : Spot → ℕ) (r : ℕ → Memo) (f : Frame) → Stands me w r f tr → before (r me.who) → KeptAt me w r a f after (spot_at me.geometry (classes w) (at_of a))
+
+-- nothing of the identity is left to finish
+abbrev pub GoneNow : ℕ → Memo → Type 0
+GoneNow c m = Gone c m.own m.op m.latch m.owned m.dying (λ i. slice_index m.unsent i) (λ i. slice_index m.untaken i)
 
 -- where a recoverer reads its hold word, no step of its identity is committed
 abbrev pub MayEnd : ℕ → Memo → Spot → Type 0

@@ -20,7 +20,7 @@ ghost use Rattle.shm_graph.specs.Views.{View, view};
 ghost use Rattle.shm_graph.specs.Held.{HeldAt};
 ghost use Rattle.shm_graph.specs.Controls.{IsAllowed};
 ghost use Rattle.shm_graph.specs.Asks.{Trail, at_of, words_after, words_set};
-ghost use Rattle.shm_graph.specs.Laws.{Frame, Stands, KeptAt, MayEnd};
+ghost use Rattle.shm_graph.specs.Laws.{Frame, Stands, KeptAt, GoneNow, MayEnd};
 ghost use Rattle.shm_graph.specs.Runs.{Held, State, memos_of, moved, IsMove, Turned, Leads};
 ghost use Rattle.shm_graph.specs.Sound.{IsSound};
 ghost use Rattle.shm_graph.specs.Clean.{IsClean};
@@ -65,11 +65,13 @@ pub fn still_state_clean()
     ensures { (g : AGeometry) (ws : List ℕ) (es : List AnAccount) → Held g ws es → ((c : ℕ) → c < g.clients → ((memos_of es c).status ≡ New) ⊎ ((memos_of es c).status ≡ Gone)) → IsClean g (see g ws) }
 {}
 
-/// In any frame these steps keep the invariant: the store of status live, a load of a word outside the pages' bodies, and an
-/// exchange there that finds another word than it names. A recoverer loads its hold word only where no step of its identity is
-/// committed.
+/// In any frame these steps keep the invariant: the stores of the statuses live and dead, and of gone where nothing is left to
+/// finish; a load of a word outside the pages' bodies; and an exchange there that finds another word than it names. A recoverer
+/// loads its hold word only where no step of its identity is committed.
 pub fn steps_keep()
     ensures live { (me : AMe) (w : ASpot → ℕ) (r : ℕ → AMemo) (f : Frame) (tr : Trail) (at : ℕ) → Stands me w r f tr → spot_at me.geometry (classes w) at ≡ Status me.who → KeptAt me w r (Store at 1) f (λ n m. Unit {0}) (spot_at me.geometry (classes w) at) }
+    ensures dead { (me : AMe) (w : ASpot → ℕ) (r : ℕ → AMemo) (f : Frame) (tr : Trail) (at : ℕ) → Stands me w r f tr → spot_at me.geometry (classes w) at ≡ Status me.who → KeptAt me w r (Store at 2) f (λ n m. Unit {0}) (spot_at me.geometry (classes w) at) }
+    ensures gone { (me : AMe) (w : ASpot → ℕ) (r : ℕ → AMemo) (f : Frame) (tr : Trail) (at : ℕ) → Stands me w r f tr → spot_at me.geometry (classes w) at ≡ Status me.who → GoneNow me.who (r me.who) → KeptAt me w r (Store at 3) f (λ n m. Unit {0}) (spot_at me.geometry (classes w) at) }
     ensures load { (me : AMe) (w : ASpot → ℕ) (r : ℕ → AMemo) (f : Frame) (tr : Trail) (at : ℕ) (p : ASpot) → Stands me w r f tr → spot_at me.geometry (classes w) at ≡ p → is_in_body p ≡ false → MayEnd me.who (r me.who) p → KeptAt me w r (Load at) f (λ n m. Unit {0}) (spot_at me.geometry (classes w) at) }
     ensures lost { (me : AMe) (w : ASpot → ℕ) (r : ℕ → AMemo) (f : Frame) (tr : Trail) (at from to : ℕ) (p : ASpot) → Stands me w r f tr → spot_at me.geometry (classes w) at ≡ p → is_in_body p ≡ false → MayEnd me.who (r me.who) p → w p ≢ from → KeptAt me w r (Exchange at from to) f (λ n m. Unit {0}) (spot_at me.geometry (classes w) at) }
 {}
