@@ -29,3 +29,4 @@ pub mod LooksCut
 pub mod Quiet
 pub mod HoldStore
 pub mod SegmentClaim
+pub mod SegmentBack

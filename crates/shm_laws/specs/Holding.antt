@@ -1,10 +1,11 @@
 -- the kinds of step of a hold word and of a segment's word: what each needs, and what it makes of the memos
-use Rattle.std.specs.Prelude.{◌≡◌, ◌≢◌, ℕ, ◌<◌, ◌≤◌, ◌∷◌, None}
+use Rattle.std.specs.Prelude.{◌≡◌, ◌≢◌, ℕ, ◌<◌, ◌≤◌, Bool, true, not, ◌==◌, ◌∷◌, None}
+use Rattle.std.specs.List.{Contains, filter}
 use Rattle.shm_words.specs.declared.geometry.Geometry.{Geometry}
 use Rattle.shm_graph.specs.declared.spot.Spot.{Spot}
-use Rattle.shm_graph.specs.declared.spot.Spot.TheVariants.{Hold, Segment, Page}
+use Rattle.shm_graph.specs.declared.spot.Spot.TheVariants.{Hold, Segment, Page, Head}
 use Rattle.shm_graph.specs.declared.memo.Status.TheVariants as status
-use Rattle.shm_graph.specs.Spots.{IsAt}
+use Rattle.shm_graph.specs.Spots.{IsAt, segment_of}
 use Rattle.shm_graph.specs.Views.{View, at1}
 
 -- ---- the store of the own hold word, where no latch is held
@@ -39,5 +40,34 @@ abbrev pub claim_view : View → ℕ → ℕ → View
 claim_view v c s =
     record v {
       owned = at1 v.owned c (s ∷ v.owned c);
+      test = at1 v.test c None;
+    }
+
+-- ---- the store that gives an own segment up
+
+-- another segment than s
+abbrev pub not_segment : ℕ → ℕ → Bool
+not_segment s i = not (s == i)
+
+-- not a page of segment s, and not a header in it
+abbrev pub outside_of : Geometry → ℕ → Spot → Bool
+outside_of g s (Page i q) = not_segment s i
+outside_of g s (Head b) = not_segment s (segment_of g b)
+outside_of g s _ = true
+
+-- no block is prepared, which could stand in the segment
+pub record SegmentBackStep (g : Geometry) (v : View) (c s : ℕ) : Type 0 where
+  pub inside : c < g.clients
+  pub acts : v.status c ≢ status.New
+  pub here : v.status c ≢ status.Gone
+  pub making : v.making c ≡ None
+  pub owned : Contains (v.owned c) s
+
+-- classes that were read stay, for a page never loses its class; what was read as 0 may change once another owns the segment
+abbrev pub segment_back_view : Geometry → View → ℕ → ℕ → View
+segment_back_view g v c s =
+    record v {
+      owned = at1 v.owned c (filter (not_segment s) (v.owned c));
+      zeros = at1 v.zeros c (filter (outside_of g s) (v.zeros c));
       test = at1 v.test c None;
     }

@@ -18,7 +18,7 @@ ghost use Rattle.shm_graph.specs.Held.{HeldAt};
 ghost use Rattle.shm_graph.specs.Events.{ChangeUp, ChangeDown, Free, graph_of, Happens};
 ghost use Rattle.shm_graph.specs.Changes.{next_row};
 ghost use Rattle.shm_laws.specs.Steps.{BeginStep, begin_view, RowStep, row_store_view, ClassStep, class_view, CloseStep, close_view, TailStep, tail_view, HeadStep, head_view, RootStep, root_view, BodyStep, body_view, BackStep, back_view, FreeStep, free_view, LatchStep, latch_view, AllocStep, alloc_view, UpStep, up_view, LowerStep, lower_view, ChangeStep, change_view, SecondStep, second_view, header_view, row_view, LookStep, look_view};
-ghost use Rattle.shm_laws.specs.Holding.{HoldStep, hold_view, ClaimStep, claim_view};
+ghost use Rattle.shm_laws.specs.Holding.{HoldStep, hold_view, ClaimStep, claim_view, SegmentBackStep, segment_back_view};
 
 /// Stores of own words: a redo record that begins a step, a row, the own era that closes a step or the first half of a change, the
 /// tail of a queue whose send is closed, and the head of a queue whose item was taken.
@@ -80,10 +80,13 @@ pub fn changes_are_events()
     ensures free { (g : AGeometry) (w : ASpot → ℕ) (v : View) (c b tag : ℕ) → HeldAt g w v → FreeStep g v c b tag → Happens g w (Free c b) (graph_of g w v) (graph_of g (upd w (Head b) 0) (free_view v c b)) }
 {}
 
-/// The store of the own hold word where no latch is held, and the exchange by which a segment becomes the identity's.
+/// The store of the own hold word where no latch is held, the exchange by which a segment becomes the identity's, and the store that
+/// gives one up.
 pub fn holding_kept()
     ensures hold { (g : AGeometry) (w : ASpot → ℕ) (v : View) (c x : ℕ) → HeldAt g w v → HoldStep g w v c x → HeldAt g (upd w (Hold c) x) (hold_view v c x) }
     ensures claim { (g : AGeometry) (w : ASpot → ℕ) (v : View) (c s : ℕ) → HeldAt g w v → ClaimStep g w v c s → HeldAt g (upd w (Segment s) (c + 1)) (claim_view v c s) }
+    ensures give { (g : AGeometry) (w : ASpot → ℕ) (v : View) (c s : ℕ) → HeldAt g w v → SegmentBackStep g v c s → HeldAt g (upd w (Segment s) 0) (segment_back_view g v c s) }
     ensures hold_quiet { (g : AGeometry) (w : ASpot → ℕ) (v : View) (c x : ℕ) → HeldAt g w v → HoldStep g w v c x → Happens g w Nothing (graph_of g w v) (graph_of g (upd w (Hold c) x) (hold_view v c x)) }
     ensures claim_quiet { (g : AGeometry) (w : ASpot → ℕ) (v : View) (c s : ℕ) → HeldAt g w v → ClaimStep g w v c s → Happens g w Nothing (graph_of g w v) (graph_of g (upd w (Segment s) (c + 1)) (claim_view v c s)) }
+    ensures give_quiet { (g : AGeometry) (w : ASpot → ℕ) (v : View) (c s : ℕ) → HeldAt g w v → SegmentBackStep g v c s → Happens g w Nothing (graph_of g w v) (graph_of g (upd w (Segment s) 0) (segment_back_view g v c s)) }
 {}
