@@ -27,3 +27,6 @@ pub mod ChangeFirst
 pub mod LookLoad
 pub mod LooksCut
 pub mod Quiet
+pub mod HoldStore
+pub mod SegmentClaim
+pub mod SegmentBack

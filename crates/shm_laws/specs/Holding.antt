@@ -1,0 +1,73 @@
+-- the kinds of step of a hold word and of a segment's word: what each needs, and what it makes of the memos
+use Rattle.std.specs.Prelude.{◌≡◌, ◌≢◌, ℕ, ◌<◌, ◌≤◌, Bool, true, not, ◌==◌, ◌∷◌, None}
+use Rattle.std.specs.List.{Contains, filter}
+use Rattle.shm_words.specs.declared.geometry.Geometry.{Geometry}
+use Rattle.shm_graph.specs.declared.spot.Spot.{Spot}
+use Rattle.shm_graph.specs.declared.spot.Spot.TheVariants.{Hold, Segment, Page, Head}
+use Rattle.shm_graph.specs.declared.memo.Status.TheVariants as status
+use Rattle.shm_graph.specs.Spots.{IsAt, segment_of}
+use Rattle.shm_graph.specs.Views.{View, at1}
+
+-- ---- the store of the own hold word, where no latch is held
+
+-- x is 0, or one more than the identity whose latch is to be taken
+pub record HoldStep (g : Geometry) (w : Spot → ℕ) (v : View) (c x : ℕ) : Type 0 where
+  pub inside : c < g.clients
+  pub acts : v.status c ≢ status.New
+  pub here : v.status c ≢ status.Gone
+  pub none : v.latch c ≡ None
+  pub most : x ≤ g.clients
+  pub place : IsAt g (λ s q. w (Page s q)) (Hold c)
+
+abbrev pub hold_view : View → ℕ → ℕ → View
+hold_view v c x =
+    record v {
+      own = at1 v.own c (record { spot = Hold c; value = x } ∷ v.own c);
+      test = at1 v.test c None;
+    }
+
+-- ---- the exchange by which a segment that nobody owns becomes the identity's
+
+-- pages of the segment may have classes and live blocks, so nothing is known of them
+pub record ClaimStep (g : Geometry) (w : Spot → ℕ) (v : View) (c s : ℕ) : Type 0 where
+  pub inside : c < g.clients
+  pub acts : v.status c ≢ status.New
+  pub here : v.status c ≢ status.Gone
+  pub free : w (Segment s) ≡ 0
+  pub place : IsAt g (λ i q. w (Page i q)) (Segment s)
+
+abbrev pub claim_view : View → ℕ → ℕ → View
+claim_view v c s =
+    record v {
+      owned = at1 v.owned c (s ∷ v.owned c);
+      test = at1 v.test c None;
+    }
+
+-- ---- the store that gives an own segment up
+
+-- another segment than s
+abbrev pub not_segment : ℕ → ℕ → Bool
+not_segment s i = not (s == i)
+
+-- not a page of segment s, and not a header in it
+abbrev pub outside_of : Geometry → ℕ → Spot → Bool
+outside_of g s (Page i q) = not_segment s i
+outside_of g s (Head b) = not_segment s (segment_of g b)
+outside_of g s _ = true
+
+-- no block is prepared, which could stand in the segment
+pub record SegmentBackStep (g : Geometry) (v : View) (c s : ℕ) : Type 0 where
+  pub inside : c < g.clients
+  pub acts : v.status c ≢ status.New
+  pub here : v.status c ≢ status.Gone
+  pub making : v.making c ≡ None
+  pub owned : Contains (v.owned c) s
+
+-- classes that were read stay, for a page never loses its class; what was read as 0 may change once another owns the segment
+abbrev pub segment_back_view : Geometry → View → ℕ → ℕ → View
+segment_back_view g v c s =
+    record v {
+      owned = at1 v.owned c (filter (not_segment s) (v.owned c));
+      zeros = at1 v.zeros c (filter (outside_of g s) (v.zeros c));
+      test = at1 v.test c None;
+    }
