@@ -15,7 +15,7 @@ use Rattle.shm_laws.proofs.Writing.{targets_same, limbo_same}
 use Rattle.shm_laws.specs.Steps.{BeginStep, begin_view, RowStep, row_store_view, CloseStep, close_view, TailStep, tail_view, HeadStep, head_view, RootStep, root_view, BodyStep, body_view, ClassStep, class_view, BackStep, back_view, LatchStep, latch_view}
 
 -- no header and no tag changed, and targets and limbos stay
-quiet : (g : Geometry) (w w' : Spot → ℕ) (v v' : View) → ((b : ℕ) → w' (Head b) ≡ w (Head b)) → ((b : ℕ) → w' (Tag b) ≡ w (Tag b)) → targets g w' v' ≡ targets g w v → limbos v' ≡ limbos v
+pub quiet : (g : Geometry) (w w' : Spot → ℕ) (v v' : View) → ((b : ℕ) → w' (Head b) ≡ w (Head b)) → ((b : ℕ) → w' (Tag b) ≡ w (Tag b)) → targets g w' v' ≡ targets g w v → limbos v' ≡ limbos v
     → Happens g w Nothing (graph_of g w v) (graph_of g w' v')
 quiet g w w' v v' heads tags path limbo =
     record {
