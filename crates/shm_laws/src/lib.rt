@@ -8,5 +8,5 @@ mod laws;
 
 pub use laws::{
     changes_are_events, exchanges_kept, loads_kept, own_stores_kept, shared_stores_kept,
-    stores_are_quiet,
+    slot_stores_kept, stores_are_quiet,
 };
