@@ -30,3 +30,5 @@ pub mod Quiet
 pub mod HoldStore
 pub mod SegmentClaim
 pub mod SegmentBack
+pub mod HomeStore
+pub mod QueueStore

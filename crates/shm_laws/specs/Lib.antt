@@ -1,3 +1,4 @@
 pub mod Steps
 pub mod Cut
 pub mod Holding
+pub mod Slotting

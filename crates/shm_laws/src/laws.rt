@@ -4,7 +4,7 @@ ghost use Rattle.std.specs.Prelude.{◌≡◌, ℕ, ◌+◌, ◌<◌, Option, So
 ghost use Rattle.shm_words.specs.declared.geometry.Geometry.{Geometry as AGeometry};
 ghost use Rattle.shm_words.specs.Headers.{header_of};
 ghost use Rattle.shm_graph.specs.declared.spot.Spot.{Spot as ASpot};
-ghost use Rattle.shm_graph.specs.declared.spot.Spot.TheVariants.{Redo, Hold, Latch, Era, Root, Tail, Front, Segment, Page, Head, Body};
+ghost use Rattle.shm_graph.specs.declared.spot.Spot.TheVariants.{Redo, Hold, Latch, Era, Root, Tail, Front, Segment, Page, Head, Body, Home, Slot};
 ghost use Rattle.shm_graph.specs.declared.memo.Op.{Op as AnOp};
 ghost use Rattle.shm_graph.specs.declared.memo.Stored.{Stored as AStored};
 ghost use Rattle.shm_graph.specs.declared.memo.Look.{Look as ALook};
@@ -18,6 +18,7 @@ ghost use Rattle.shm_graph.specs.Held.{HeldAt};
 ghost use Rattle.shm_graph.specs.Changes.{next_row};
 ghost use Rattle.shm_laws.specs.Steps.{BeginStep, begin_view, RowStep, row_store_view, ClassStep, class_view, CloseStep, close_view, TailStep, tail_view, HeadStep, head_view, RootStep, root_view, BodyStep, body_view, BackStep, back_view, FreeStep, free_view, LatchStep, latch_view, AllocStep, alloc_view, UpStep, up_view, LowerStep, lower_view, ChangeStep, change_view, SecondStep, second_view, header_view, row_view, LookStep, look_view};
 ghost use Rattle.shm_laws.specs.Holding.{HoldStep, hold_view, ClaimStep, claim_view, SegmentBackStep, segment_back_view};
+ghost use Rattle.shm_laws.specs.Slotting.{HomeStep, home_view, QueueStep, queue_view};
 
 /// Stores of own words: a redo record that begins a step, a row, the own era that closes a step or the first half of a change, the
 /// tail of a queue whose send is closed, and the head of a queue whose item was taken.
@@ -95,4 +96,12 @@ pub fn holding_kept()
     ensures hold_quiet { (g : AGeometry) (w : ASpot → ℕ) (v : View) (c x : ℕ) → HeldAt g w v → HoldStep g w v c x → Happens g w Nothing (graph_of g w v) (graph_of g (upd w (Hold c) x) (hold_view v c x)) }
     ensures claim_quiet { (g : AGeometry) (w : ASpot → ℕ) (v : View) (c s : ℕ) → HeldAt g w v → ClaimStep g w v c s → Happens g w Nothing (graph_of g w v) (graph_of g (upd w (Segment s) (c + 1)) (claim_view v c s)) }
     ensures give_quiet { (g : AGeometry) (w : ASpot → ℕ) (v : View) (c s : ℕ) → HeldAt g w v → SegmentBackStep g v c s → Happens g w Nothing (graph_of g w v) (graph_of g (upd w (Segment s) 0) (segment_back_view g v c s)) }
+{}
+
+/// The new value of a committed step is stored in the own home, or in a slot of a queue.
+pub fn slot_stores_kept()
+    ensures home { (g : AGeometry) (w : ASpot → ℕ) (v : View) (c x : ℕ) (o : AnOp) → HeldAt g w v → HomeStep g w v c x o → HeldAt g (upd w (Home c) x) (home_view v c x o) }
+    ensures queue { (g : AGeometry) (w : ASpot → ℕ) (v : View) (c s r k x : ℕ) (o : AnOp) → HeldAt g w v → QueueStep g w v c s r k x o → HeldAt g (upd w (Slot s r k) x) (queue_view v c o) }
+    ensures home_quiet { (g : AGeometry) (w : ASpot → ℕ) (v : View) (c x : ℕ) (o : AnOp) → HeldAt g w v → HomeStep g w v c x o → Happens g w Nothing (graph_of g w v) (graph_of g (upd w (Home c) x) (home_view v c x o)) }
+    ensures queue_quiet { (g : AGeometry) (w : ASpot → ℕ) (v : View) (c s r k x : ℕ) (o : AnOp) → HeldAt g w v → QueueStep g w v c s r k x o → Happens g w Nothing (graph_of g w v) (graph_of g (upd w (Slot s r k) x) (queue_view v c o)) }
 {}

@@ -9,5 +9,5 @@ mod laws;
 
 pub use laws::{
     changes_are_events, exchanges_are_events, exchanges_kept, holding_kept, loads_kept,
-    own_stores_kept, shared_stores_kept, stores_are_quiet,
+    own_stores_kept, shared_stores_kept, slot_stores_kept, stores_are_quiet,
 };
