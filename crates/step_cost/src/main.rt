@@ -5,11 +5,12 @@
 #![tactic(auto)]
 
 ghost use Rattle.std.specs.Prelude.{◌≡◌, ◌<◌, true, IfOk, vec_len};
-ghost use Rattle.shm_words.specs.declared.place.Place.{Place as APlace};
-ghost use Rattle.shm_words.specs.Layout.{GeometryFits, address};
+ghost use Rattle.shm_words.specs.Layout.{GeometryFits};
 ghost use Rattle.shm_graph.specs.Asks.{at_of};
 ghost use Rattle.shm_graph.specs.Changes.{acts};
 ghost use Rattle.shm_plain.specs.Pools.{memo_of};
+ghost use Rattle.step_cost.specs.Watching.{watch_ask};
+ghost use Rattle.step_cost.specs.Watched.{IsWatched, IsWatchedOn};
 
 mod watch;
 
@@ -40,6 +41,15 @@ fn joined_pool(alloc: Global, geometry: Geometry) -> Result<PlainPool, AllocErro
     Ok(pool)
 }
 
+/// One word step of a watch through the pool; it is kept a call, as that on the words alone is.
+#[inline(never)]
+fn step_pool(pool: &mut PlainPool, watch: &mut Watch, life: &mut Life) -> Turn<()>
+    requires { IsWatched pool.old watch.old }
+    ensures { result ≡ Turn.More → IsWatched pool.new watch.new × (watch.new.left < watch.old.left) }
+{
+    pool.step(0, watch, life)
+}
+
 /// Steps a watch of identity 0 through the pool until it has answered; gives the word that it found last.
 fn watch_pool(pool: &mut PlainPool, steps: u32) -> Option<u64>
     requires geometry { GeometryFits pool.old.start.geometry }
@@ -48,7 +58,7 @@ fn watch_pool(pool: &mut PlainPool, steps: u32) -> Option<u64>
 {
     let mut watch = Watch::new(Me::new(pool.geometry(), 0), steps);
     let mut life = Life::of(u64::from(steps));
-    while let Turn::More = pool.step(0, &mut watch, &mut life) {}
+    while let Turn::More = step_pool(pool, &mut watch, &mut life) {}
     watch.last()
 }
 
@@ -73,21 +83,27 @@ fn make_step(words: &mut Vec<u64>, ask: Ask) -> u64
     }
 }
 
-/// Makes the asks of a watch of `me` on the words alone until it has answered; gives the word that it found last.
+/// One word step of a watch on the words alone.
+#[inline(never)]
+fn step_words(words: &mut Vec<u64>, watch: &mut Watch) -> Turn<()>
+    requires { IsWatchedOn (vec_len words.old) watch.old }
+    ensures { result ≡ Turn.More → IsWatchedOn (vec_len words.new) watch.new × (watch.new.left < watch.old.left) }
+{
+    let ask = watch.ask();
+    let seen = make_step(words, ask);
+    watch.take(seen)
+}
+
+/// Steps a watch of `me` on the words alone until it has answered; gives the word that it found last.
 fn watch_words(words: &mut Vec<u64>, me: Me, steps: u32) -> Option<u64>
     requires geometry { GeometryFits me.geometry }
     requires who { me.who < me.geometry.clients }
     requires steps { 0 < steps }
-    requires words { address me.geometry (APlace.Status me.who) < vec_len words.old }
+    requires words { at_of (watch_ask me) < vec_len words.old }
 {
     let mut watch = Watch::new(me, steps);
-    loop {
-        let ask = watch.ask();
-        let seen = make_step(words, ask);
-        if let Turn::Done(()) = watch.take(seen) {
-            return watch.last();
-        }
-    }
+    while let Turn::More = step_words(words, &mut watch) {}
+    watch.last()
 }
 
 /// The processor time of this thread, in nanoseconds.

@@ -1,10 +1,9 @@
-use Rattle.std.proofs.Common.{◌≡◌, ◌<◌, vec_len}
-use Rattle.shm_words.specs.declared.place.Place.TheVariants as place
-use Rattle.shm_words.specs.Layout.{address}
+use Rattle.std.proofs.Common.{vec_len}
+use Rattle.step_cost.specs.Watched.{IsWatchedOn}
 use Rattle.step_cost.proofs.watch_words.Given as goal
 
-abbrev pub invariant-loop-watch : goal.invariant-loop-watch
-invariant-loop-watch l = (0 < l.watch.left) × (address l.watch.me.geometry (place.Status l.watch.me.who) < vec_len l.words)
+abbrev pub invariant-loop : goal.invariant-loop
+invariant-loop l = IsWatchedOn (vec_len l.words) l.watch
 
-abbrev pub decreases-loop-watch : goal.decreases-loop-watch
-decreases-loop-watch l = l.watch.left
+abbrev pub decreases-loop : goal.decreases-loop
+decreases-loop l = l.watch.left
