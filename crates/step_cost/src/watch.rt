@@ -78,6 +78,7 @@ impl Machine for Watch {
         self.state.left == 0
     }
 
+    #[inline(never)]
     fn ask(&self) -> Ask {
         let me = self.state.me;
         Ask::Load {
@@ -85,6 +86,7 @@ impl Machine for Watch {
         }
     }
 
+    #[inline(never)]
     fn take(&mut self, seen: u64) -> Turn<()> {
         self.state.left -= 1;
         self.state.last = Some(seen);
