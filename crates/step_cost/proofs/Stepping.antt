@@ -5,14 +5,14 @@ use Rattle.std.proofs.lemmas.Bool.{cases_eq, true≢false}
 use Rattle.std.proofs.lemmas.List.{get_or-set_same}
 use Rattle.shm_graph.specs.declared.memo.Memo.{Memo}
 use Rattle.shm_graph.specs.declared.memo.Step.{Step}
-use Rattle.shm_graph.specs.declared.memo.Status.TheVariants.{New, Gone}
+use Rattle.shm_graph.specs.declared.memo.Status.TheVariants.{Gone}
 use Rattle.shm_graph.specs.declared.run.Account.{Account}
 use Rattle.shm_graph.specs.declared.run.Start.{Start}
 use Rattle.shm_graph.specs.Changes.{acts}
 use Rattle.shm_graph.specs.declared.ask.Turn.{Turn}
 use Rattle.shm_graph.specs.declared.ask.Turn.TheVariants.{More}
 use Rattle.shm_graph.specs.Laws.{Control, Steady, is_died, is_some, turn_of}
-use Rattle.shm_graph.specs.Runs.{account_at, account_entered, accounts_after, accounts_from, changed, first_account, memos_of}
+use Rattle.shm_graph.specs.Runs.{account_at, account_entered, accounts_from, changed, first_account}
 use Rattle.shm_graph.proofs.Going.{Is, acts-step, acts-answer, account-step}
 use Rattle.shm_plain.specs.Pools.{Pool, first_pool, memo_of, readied, turn_on, turned, IsRun, IsOf, MayStep}
 use Rattle.shm_plain.specs.Tracks.{kind_next}

@@ -1,5 +1,5 @@
 -- the laws of a watch
-use Rattle.std.proofs.Common.{◌≡◌, ◌≢◌, ℕ, ◌-◌, ◌<◌, refl, sym, ap, ◌∙◌, arith, subst, Bool, true, false, cond, eqb, inl, inr, List, [], ◌∷◌, ◌++◌, Option}
+use Rattle.std.proofs.Common.{◌≡◌, ℕ, ◌-◌, refl, sym, ◌∙◌, arith, subst, Bool, true, false, cond, eqb, inl, inr, [], ◌∷◌, ◌++◌}
 use Rattle.std.specs.Prelude.{Some, None}
 use Rattle.std.proofs.lemmas.Bool.{cases_eq, eq-eqb, ne_eqb, true≢false}
 use Rattle.std.proofs.lemmas.Bool.Decides.{nat_tests}
@@ -18,11 +18,11 @@ use Rattle.shm_graph.specs.Views.{view, at1}
 use Rattle.shm_graph.specs.Held.{HeldAt}
 use Rattle.shm_graph.specs.Ops.{cover_of, limbo_of}
 use Rattle.shm_graph.specs.Asks.{Trail, pair, call_after}
-use Rattle.shm_graph.specs.Changes.{called, with_end, with_last, stepped, ended, is_gone}
+use Rattle.shm_graph.specs.Changes.{called, with_end}
 use Rattle.shm_graph.specs.Laws.{Laws, Keeps, Then, Outcome, Frame, Stands, KeptAt, framed, is_some}
 use Rattle.shm_graph.proofs.Spotting.{in_pool}
 use Rattle.shm_graph.proofs.SpotPlaces.{spot-place}
-use Rattle.shm_graph.proofs.Calling.{called_by, called_part, less_held}
+use Rattle.shm_graph.proofs.Calling.{called_part, less_held}
 use Rattle.shm_graph.proofs.SameGraph.{same_graph}
 use Rattle.shm_graph.proofs.Keeping.{fixed_kept}
 use Rattle.shm_recover.specs.Joining.{IsMember}

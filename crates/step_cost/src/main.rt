@@ -23,10 +23,9 @@ use shm_plain::PlainPool;
 use shm_recover::Join;
 use shm_words::Geometry;
 use std::alloc::{AllocError, Global};
-use std::fmt;
-use std::io;
 use std::process::ExitCode;
 use std::time::CpuClock;
+use std::{fmt, io};
 use watch::Watch;
 
 /// How many word steps of each kind a round makes.
@@ -160,8 +159,7 @@ fn time_both(rt: &HostRuntime) -> io::Result<Option<(u64, u64)>> {
     };
     let mut least = (u64::MAX, u64::MAX);
     for _ in 0..ROUNDS {
-        let (Some(pool), Some(words)) = (time_pool(rt, geometry)?, time_words(rt, geometry)?)
-        else {
+        let (Some(pool), Some(words)) = (time_pool(rt, geometry)?, time_words(rt, geometry)?) else {
             return Ok(None);
         };
         least = (least.0.min(pool), least.1.min(words));
@@ -173,7 +171,11 @@ fn time_both(rt: &HostRuntime) -> io::Result<Option<(u64, u64)>> {
 fn report(rt: &impl Eprint, pool: u64, words: u64) -> io::Result<()> {
     let a_step = |time: u64| Hundredths(time.saturating_mul(100) / u64::from(STEPS));
     let ratio = Hundredths(pool.saturating_mul(100) / words.max(1));
-    eprintln!(rt; "pool {} ns a step, plain {} ns a step, ratio {ratio}", a_step(pool), a_step(words))
+    eprintln!(rt;
+        "pool {} ns a step, plain {} ns a step, ratio {ratio}",
+        a_step(pool),
+        a_step(words)
+    )
 }
 
 fn main(rt: HostRuntime) -> ExitCode {

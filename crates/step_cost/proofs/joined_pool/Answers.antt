@@ -1,4 +1,4 @@
-use Rattle.std.proofs.Common.{◌≡◌, ℕ, ◌<◌, ◌∙◌, sym, ap, subst, inl, arith, false}
+use Rattle.std.proofs.Common.{◌≡◌, ℕ, ◌<◌, ◌∙◌, sym, ap, subst, inl, false}
 use Rattle.shm_words.specs.declared.geometry.Geometry.{Geometry}
 use Rattle.shm_words.specs.Layout.{GeometryFits}
 use Rattle.shm_graph.specs.declared.memo.Memo.{Memo}
@@ -25,8 +25,7 @@ step-joined-requires-clause-fits c =
     let member : IsMember c.new.result = record {
       geometry = subst GeometryFits (sym geometry) c.requires;
       who = subst (λ (z : Geometry). c.new.result.who < z.clients) (sym geometry) (subst (λ (z : ℕ). z < c.args.geometry.clients) (sym who) some);
-    } in
-    (
+    } in (
       r,
       subst (λ (m : JoinState). JoinFits m r r (call_before (join_control.fresh m) r.call)) (sym c.new-join.ensures.state)
           (join_begins c.new.result r (record { member = member; status = inl new })),

@@ -1,4 +1,4 @@
-use Rattle.std.proofs.Common.{◌≡◌, ◌≢◌, ℕ, ◌-◌, ◌<◌, ◌∙◌, sym, ap, subst, refl, arith, false}
+use Rattle.std.proofs.Common.{◌≡◌, ◌≢◌, ◌-◌, ◌∙◌, sym, ap, subst, refl, arith}
 use Rattle.std.proofs.lemmas.Bool.{eq-eqb, true≢false}
 use Rattle.shm_graph.specs.declared.memo.Step.{Step}
 use Rattle.shm_graph.specs.Whole.{fits_now, gives_now}
@@ -23,8 +23,7 @@ returns c more =
     let after : c.step.new.m ≡ watch_control.after m t.seen = turn.2 in
     let stepped = still watch_control (fits_now watch_control WatchFits) (gives_now WatchGives) p 0 m c.requires.run c.requires.of may watch_laws.steady c.step.new.self c.step.new.m turn.1 after (goes_on (watch_control.turns m t.seen) (sym turn.3 ∙ more)) in
     let left : c.step.new.m.left ≡ m.left - 1 = ap (λ (z : WatchState). z.left) after in
-    let some : m.left ≢ 0 = λ z. true≢false (sym (eq-eqb m.left 0 z) ∙ c.requires.of.2) in
-    (
+    let some : m.left ≢ 0 = λ z. true≢false (sym (eq-eqb m.left 0 z) ∙ c.requires.of.2) in (
       record { of = stepped.0; acting = stepped.1; member = subst IsMember (sym (ap (λ (z : WatchState). z.me) after)) c.requires.member; run = c.step.ensures.run },
       omega arith,
     )
