@@ -1,0 +1,20 @@
+-- when a watch may take a step
+use Rattle.std.specs.Prelude.{◌≡◌, ℕ, ◌<◌, true}
+use Rattle.shm_graph.specs.Asks.{at_of}
+use Rattle.shm_graph.specs.Changes.{acts}
+use Rattle.shm_plain.specs.Pools.{Pool, IsOf, IsRun, memo_of}
+use Rattle.shm_recover.specs.Joining.{IsMember}
+use Rattle.step_cost.specs.declared.watch.WatchState.{WatchState}
+use Rattle.step_cost.specs.Watching.{watch_control, watch_ask}
+
+-- through a pool: it is identity 0's, it isn't finished, and an agent of it acts
+pub record IsWatched (p : Pool) (m : WatchState) : Type 0 where
+  pub of : IsOf p 0 watch_control m
+  pub acting : acts (memo_of p 0) ≡ true
+  pub member : IsMember m.me
+  pub run : IsRun p
+
+-- on so many words: it isn't finished, and what it asks for is one of them
+pub record IsWatchedOn (n : ℕ) (m : WatchState) : Type 0 where
+  pub left : 0 < m.left
+  pub inside : at_of (watch_ask m.me) < n
