@@ -3,64 +3,30 @@ use Rattle.std.proofs.Common.{◌≡◌, ℕ, ◌-◌, refl, sym, ◌∙◌, ari
 use Rattle.std.specs.Prelude.{Some, None}
 use Rattle.std.proofs.lemmas.Bool.{cases_eq, eq-eqb, ne_eqb, true≢false}
 use Rattle.std.proofs.lemmas.Bool.Decides.{nat_tests}
-use Rattle.std.proofs.lemmas.List.Elements.{All-nil}
 use Rattle.shm_words.specs.declared.place.Place.TheVariants as place
 use Rattle.shm_words.specs.Layout.{address}
 use Rattle.shm_graph.specs.declared.ask.Ask.TheVariants.{Load}
 use Rattle.shm_graph.specs.declared.ask.Me.{Me}
-use Rattle.shm_graph.specs.declared.spot.Spot.{Spot}
 use Rattle.shm_graph.specs.declared.spot.Spot.TheVariants.{Status}
 use Rattle.shm_graph.specs.declared.memo.Memo.{Memo}
 use Rattle.shm_graph.specs.declared.memo.Step.{Step}
 use Rattle.shm_graph.specs.Spots.{spot_at}
 use Rattle.shm_graph.specs.Blocks.{classes}
-use Rattle.shm_graph.specs.Views.{view, at1}
-use Rattle.shm_graph.specs.Held.{HeldAt}
-use Rattle.shm_graph.specs.Ops.{cover_of, limbo_of}
-use Rattle.shm_graph.specs.Asks.{Trail, pair, call_after}
+use Rattle.shm_graph.specs.Asks.{Trail, pair}
 use Rattle.shm_graph.specs.Changes.{called, with_end}
-use Rattle.shm_graph.specs.Laws.{Laws, Keeps, Then, Outcome, Frame, Stands, KeptAt, framed, is_some}
+use Rattle.shm_graph.specs.Laws.{Laws, Keeps, Then, Outcome, framed, is_some}
 use Rattle.shm_graph.proofs.Spotting.{in_pool}
 use Rattle.shm_graph.proofs.SpotPlaces.{spot-place}
-use Rattle.shm_graph.proofs.Calling.{called_part, less_held}
-use Rattle.shm_graph.proofs.SameGraph.{same_graph}
-use Rattle.shm_graph.proofs.Keeping.{fixed_kept}
+use Rattle.shm_graph.proofs.LoadKeeping.{load_kept}
 use Rattle.shm_recover.specs.Joining.{IsMember}
 use Rattle.step_cost.specs.declared.watch.WatchState.{WatchState}
 use Rattle.step_cost.specs.Watching.{watch_control, watch_ask, IsCalm, WatchFits, WatchGives}
 
--- ---- the own status is read
-
--- the memo after it
-abbrev pub read_own : Memo → Step → Memo
+-- the memo after the own status was read
+abbrev read_own : Memo → Step → Memo
 read_own m t = with_end t.ends (called m t)
 
-read_held : (me : Me) (w : Spot → ℕ) (r : ℕ → Memo) (f : Frame) (tr : Trail) (t : Step) → Stands me w r f tr → HeldAt me.geometry w (view (at1 r me.who (read_own (r me.who) t)))
-read_held me w r f tr t s = by t.fresh
-  where
-    c : ℕ
-    c = me.who
-
-    h : HeldAt me.geometry w (view r)
-    h = s.held
-
-    by : (b : Bool) → HeldAt me.geometry w (view (at1 r c (read_own (r c) (record t { fresh = b }))))
-    by true = less_held me.geometry w r c [] [] None [] (call_after true (r c).call t.ask t.seen) t.ends (with_end t.ends (called (r c) (record t { fresh = true }))).agents h (All-nil _) (All-nil _) tt (All-nil _)
-    by false = less_held me.geometry w r c (r c).facts (r c).zeros None (r c).made (call_after false (r c).call t.ask t.seen) t.ends (with_end t.ends (called (r c) (record t { fresh = false }))).agents h (h.facts c s.who) (h.zeros c s.who) tt (h.made c s.who)
-
-pub read_kept : (me : Me) (w : Spot → ℕ) (r : ℕ → Memo) (f : Frame) (tr : Trail) (at : ℕ) (after : ℕ → Memo → Type 0) → Stands me w r f tr → spot_at me.geometry (classes w) at ≡ Status me.who
-    → after (w (Status me.who)) (read_own (r me.who) (framed me (Load at) f (w (Status me.who))))
-    → KeptAt me w r (Load at) f after (spot_at me.geometry (classes w) at)
-read_kept me w r f tr at after s e x =
-    let c = me.who in
-    let t : Step = framed me (Load at) f (w (Status c)) in
-    let m : Memo = read_own (r c) t in
-    fixed_kept me w r (Load at) f after (Status c) e refl (read_held me w r f tr t s)
-    (same_graph me.geometry w w r c m (called_part (λ (y : Memo). cover_of y.op) (r c) t refl refl) (called_part (λ (y : Memo). limbo_of y.op) (r c) t refl refl) (λ b. refl) (λ b. refl) refl)
-    tt x
-
--- ---- the memo stays
-
+-- what it leaves is calm
 calm_read : (r0 r : Memo) (t : Step) → IsCalm r0 r → IsCalm r0 (read_own r t)
 calm_read r0 r t calm = subst (λ (x : Memo). IsCalm r0 (read_own x t)) (sym calm) (by t.fresh)
   where
@@ -87,7 +53,7 @@ watch_keeps m r0 tr going w r f s fit =
     let at = address m.me.geometry (place.Status m.me.who) in
     let seen = w (Status m.me.who) in
     let t : Step = framed m.me (Load at) f seen in
-    read_kept m.me w r f tr at (Then watch_control WatchFits WatchGives m r0 tr) s (status_spot m.me (classes w) fit.member)
+    load_kept m.me w r f tr at (Then watch_control WatchFits WatchGives m r0 tr) (Status m.me.who) s (status_spot m.me (classes w) fit.member) refl tt
     (both m r0 (read_own (r m.me.who) t) tr seen fit.member (calm_read r0 (r m.me.who) t fit.calm))
 
 -- a watch is finished exactly with its last step
