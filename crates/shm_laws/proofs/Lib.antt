@@ -27,3 +27,5 @@ pub mod ChangeFirst
 pub mod LookLoad
 pub mod LooksCut
 pub mod Quiet
+pub mod BlockWords
+pub mod LinkStore

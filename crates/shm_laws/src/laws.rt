@@ -4,7 +4,7 @@ ghost use Rattle.std.specs.Prelude.{◌≡◌, ℕ, ◌+◌, ◌<◌, Option, So
 ghost use Rattle.shm_words.specs.declared.geometry.Geometry.{Geometry as AGeometry};
 ghost use Rattle.shm_words.specs.Headers.{header_of};
 ghost use Rattle.shm_graph.specs.declared.spot.Spot.{Spot as ASpot};
-ghost use Rattle.shm_graph.specs.declared.spot.Spot.TheVariants.{Redo, Latch, Era, Root, Tail, Front, Page, Head, Body};
+ghost use Rattle.shm_graph.specs.declared.spot.Spot.TheVariants.{Redo, Latch, Era, Root, Tail, Front, Page, Head, Tag, Body};
 ghost use Rattle.shm_graph.specs.declared.memo.Op.{Op as AnOp};
 ghost use Rattle.shm_graph.specs.declared.memo.Stored.{Stored as AStored};
 ghost use Rattle.shm_graph.specs.declared.memo.Look.{Look as ALook};
@@ -18,6 +18,7 @@ ghost use Rattle.shm_graph.specs.Held.{HeldAt};
 ghost use Rattle.shm_graph.specs.Events.{ChangeUp, ChangeDown, Free, graph_of, Happens};
 ghost use Rattle.shm_graph.specs.Changes.{next_row};
 ghost use Rattle.shm_laws.specs.Steps.{BeginStep, begin_view, RowStep, row_store_view, ClassStep, class_view, CloseStep, close_view, TailStep, tail_view, HeadStep, head_view, RootStep, root_view, BodyStep, body_view, BackStep, back_view, FreeStep, free_view, LatchStep, latch_view, AllocStep, alloc_view, UpStep, up_view, LowerStep, lower_view, ChangeStep, change_view, SecondStep, second_view, header_view, row_view, LookStep, look_view};
+ghost use Rattle.shm_laws.specs.Preparing.{LinkStep, link_view};
 
 /// Stores of own words: a redo record that begins a step, a row, the own era that closes a step or the first half of a change, the
 /// tail of a queue whose send is closed, and the head of a queue whose item was taken.
@@ -77,4 +78,10 @@ pub fn changes_are_events()
     ensures first { (g : AGeometry) (w : ASpot → ℕ) (v : View) (c x b e to : ℕ) (p : ASpot) (looks : List ALook) (kept : List AStored) (values : List ℕ) (part : APart) → HeldAt g w v → ChangeStep g w v c x b e to p looks kept values part → Happens g w (ChangeUp c p x b) (graph_of g w v) (graph_of g (upd w (Head b) to) (change_view v c x b e p looks kept values part)) }
     ensures second { (g : AGeometry) (w : ASpot → ℕ) (v : View) (c b y e n to : ℕ) (p : ASpot) (looks : List ALook) (kept : List AStored) (values : List ℕ) → HeldAt g w v → SecondStep g w v c b y e n to p looks kept values → Happens g w (ChangeDown c b) (graph_of g w v) (graph_of g (upd w (Head b) to) (second_view v c b y e n p looks kept values)) }
     ensures free { (g : AGeometry) (w : ASpot → ℕ) (v : View) (c b tag : ℕ) → HeldAt g w v → FreeStep g v c b tag → Happens g w (Free c b) (graph_of g w v) (graph_of g (upd w (Head b) 0) (free_view v c b)) }
+{}
+
+/// Stores of words that nothing counts: of a free block that is prepared, and of the link of a zero-count block.
+pub fn block_stores_kept()
+    ensures link { (g : AGeometry) (w : ASpot → ℕ) (v : View) (c b x : ℕ) → HeldAt g w v → LinkStep g w v c b x → HeldAt g (upd w (Tag b) x) (link_view v c b x) }
+    ensures link_quiet { (g : AGeometry) (w : ASpot → ℕ) (v : View) (c b x : ℕ) → HeldAt g w v → LinkStep g w v c b x → Happens g w Nothing (graph_of g w v) (graph_of g (upd w (Tag b) x) (link_view v c b x)) }
 {}

@@ -1,0 +1,8 @@
+use Rattle.shm_laws.proofs.LinkStore.{link_kept, link_quiet}
+use Rattle.shm_laws.proofs.laws.block_stores_kept.Goals as goal
+
+pub returns-clause-link : goal.returns-clause-link
+returns-clause-link c = link_kept
+
+pub returns-clause-link_quiet : goal.returns-clause-link_quiet
+returns-clause-link_quiet c = link_quiet
