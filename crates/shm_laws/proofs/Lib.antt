@@ -28,4 +28,5 @@ pub mod LookLoad
 pub mod LooksCut
 pub mod Quiet
 pub mod BlockWords
+pub mod MakingStore
 pub mod LinkStore

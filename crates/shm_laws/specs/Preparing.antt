@@ -5,7 +5,6 @@ use Rattle.shm_words.specs.declared.geometry.Geometry.{Geometry}
 use Rattle.shm_graph.specs.declared.spot.Spot.{Spot}
 use Rattle.shm_graph.specs.declared.spot.Spot.TheVariants.{Segment, Page, Head, Tag, Body}
 use Rattle.shm_graph.specs.declared.memo.Status.TheVariants as status
-use Rattle.shm_graph.specs.declared.memo.Op.TheVariants.{Nothing}
 use Rattle.shm_graph.specs.declared.memo.Stored.{Stored}
 use Rattle.shm_graph.specs.declared.memo.Making.{Making}
 use Rattle.shm_graph.specs.Spots.{IsAt, class_at, segment_of}
@@ -30,7 +29,6 @@ pub record PrepareStep (g : Geometry) (w : Spot → ℕ) (v : View) (c b k : ℕ
   pub inside : c < g.clients
   pub acts : v.status c ≢ status.New
   pub here : v.status c ≢ status.Gone
-  pub op : v.op c ≡ Nothing
   pub word : IsOf b k p
   pub place : IsAt g (λ s q. w (Page s q)) p
   pub block : IsBlock g (λ s q. w (Page s q)) b

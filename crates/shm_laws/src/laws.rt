@@ -18,7 +18,7 @@ ghost use Rattle.shm_graph.specs.Held.{HeldAt};
 ghost use Rattle.shm_graph.specs.Events.{ChangeUp, ChangeDown, Free, graph_of, Happens};
 ghost use Rattle.shm_graph.specs.Changes.{next_row};
 ghost use Rattle.shm_laws.specs.Steps.{BeginStep, begin_view, RowStep, row_store_view, ClassStep, class_view, CloseStep, close_view, TailStep, tail_view, HeadStep, head_view, RootStep, root_view, BodyStep, body_view, BackStep, back_view, FreeStep, free_view, LatchStep, latch_view, AllocStep, alloc_view, UpStep, up_view, LowerStep, lower_view, ChangeStep, change_view, SecondStep, second_view, header_view, row_view, LookStep, look_view};
-ghost use Rattle.shm_laws.specs.Preparing.{LinkStep, link_view};
+ghost use Rattle.shm_laws.specs.Preparing.{PrepareStep, prepare_view, LinkStep, link_view};
 
 /// Stores of own words: a redo record that begins a step, a row, the own era that closes a step or the first half of a change, the
 /// tail of a queue whose send is closed, and the head of a queue whose item was taken.
@@ -82,6 +82,8 @@ pub fn changes_are_events()
 
 /// Stores of words that nothing counts: of a free block that is prepared, and of the link of a zero-count block.
 pub fn block_stores_kept()
+    ensures prepare { (g : AGeometry) (w : ASpot → ℕ) (v : View) (c b k : ℕ) (p : ASpot) (x : ℕ) → HeldAt g w v → PrepareStep g w v c b k p x → HeldAt g (upd w p x) (prepare_view v c b k p x) }
     ensures link { (g : AGeometry) (w : ASpot → ℕ) (v : View) (c b x : ℕ) → HeldAt g w v → LinkStep g w v c b x → HeldAt g (upd w (Tag b) x) (link_view v c b x) }
+    ensures prepare_quiet { (g : AGeometry) (w : ASpot → ℕ) (v : View) (c b k : ℕ) (p : ASpot) (x : ℕ) → HeldAt g w v → PrepareStep g w v c b k p x → Happens g w Nothing (graph_of g w v) (graph_of g (upd w p x) (prepare_view v c b k p x)) }
     ensures link_quiet { (g : AGeometry) (w : ASpot → ℕ) (v : View) (c b x : ℕ) → HeldAt g w v → LinkStep g w v c b x → Happens g w Nothing (graph_of g w v) (graph_of g (upd w (Tag b) x) (link_view v c b x)) }
 {}
