@@ -20,7 +20,7 @@ use Rattle.shm_graph.specs.Spots.{IsAt, class_at}
 use Rattle.shm_graph.specs.References.{words_of, refs_of}
 use Rattle.shm_graph.specs.Ops.{word_at, cover_of, covered, slot_of, is_op}
 use Rattle.shm_graph.specs.Views.{View, at1, owner_is, own_word, targets, limbos, ons}
-use Rattle.shm_graph.specs.Tables.{Contents, contents_of, HasShape}
+use Rattle.shm_graph.specs.Tables.{contents_of, HasShape}
 use Rattle.shm_graph.specs.Events.{Nothing, graph_of, Happens}
 use Rattle.shm_graph.specs.Held.{HeldAt, CountSound, SlotOf, reach_of, named_by, InLooks, LookAt, LooksSound, MakingTie, TagSound, TestAt, KnownAt, LaneSound, IsUnusedLane, PartTie, ValueAt, MadeAt, IsDying, is_loose}
 use Rattle.shm_graph.proofs.Holders.{InReach, reach_counted, reach_target, target_counted}

@@ -1,9 +1,9 @@
 -- the store of the link of a dying block keeps the invariant, and leaves the graph
 use Rattle.std.proofs.Math.Path.{fun_ext}
-use Rattle.std.proofs.Common.{◌≡◌, ◌≢◌, ℕ, ◌/◌, ◌^◌, ◌<◌, refl, sym, ap, ◌∙◌, arith, true, false, not, subst, inl, inr, ◌⊎◌, List, ◌∷◌, Option, Some, None}
-use Rattle.std.specs.List.{All, Contains, filter}
+use Rattle.std.proofs.Common.{◌≡◌, ◌≢◌, ℕ, ◌/◌, ◌^◌, ◌<◌, refl, sym, ap, ◌∙◌, arith, true, false, not, subst, inl, List, ◌∷◌, Option, Some, None}
+use Rattle.std.specs.List.{All, filter}
 use Rattle.std.proofs.lemmas.List.Elements.{All-cons, All-weaker}
-use Rattle.std.proofs.lemmas.Bool.{cases_eq, eq-eqb, true≢false}
+use Rattle.std.proofs.lemmas.Bool.{eq-eqb, true≢false}
 use Rattle.shm_words.specs.declared.geometry.Geometry.{Geometry}
 use Rattle.shm_words.specs.Headers.{header_of}
 use Rattle.shm_graph.specs.declared.spot.Spot.{Spot}
@@ -14,7 +14,6 @@ use Rattle.shm_graph.specs.Spots.{IsAt, same_spot, upd}
 use Rattle.shm_graph.specs.Views.{View, at1}
 use Rattle.shm_graph.specs.Events.{Nothing, graph_of, Happens}
 use Rattle.shm_graph.specs.Held.{HeldAt, IsDying, InBlock, MakingTie}
-use Rattle.shm_graph.proofs.Spotting.{same_spot_self}
 use Rattle.shm_graph.proofs.Lists.{at1_here, at1_other}
 use Rattle.shm_graph.proofs.Frames.{at1_all, at1_same}
 use Rattle.shm_laws.proofs.Keep.{All-kept, live_word}

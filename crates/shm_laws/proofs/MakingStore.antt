@@ -1,6 +1,6 @@
 -- the store of a word of a free block that is prepared keeps the invariant, and leaves the graph
 use Rattle.std.proofs.Math.Path.{fun_ext}
-use Rattle.std.proofs.Common.{◌≡◌, ◌≢◌, ℕ, ◌+◌, ◌/◌, ◌^◌, ◌<◌, refl, sym, ap, ◌∙◌, arith, true, false, not, subst, List, [], ◌∷◌, Option, Some, None}
+use Rattle.std.proofs.Common.{◌≡◌, ◌≢◌, ℕ, ◌+◌, ◌/◌, ◌^◌, ◌<◌, refl, sym, ap, ◌∙◌, arith, true, false, not, subst, List, [], Option, Some, None}
 use Rattle.std.specs.List.{All, filter}
 use Rattle.std.proofs.lemmas.List.Elements.{All-nil, All-cons, All-weaker}
 use Rattle.std.proofs.lemmas.Bool.{true≢false, false_from_ne_true}

@@ -25,6 +25,7 @@ abbrev pub IsMaking : ℕ → Option Making → Type 0
 IsMaking b None = Unit {0}
 IsMaking b (Some m) = m.block ≡ b
 
+-- c, which isn't new or gone, stores a word of a free block in a segment of its own; it prepares no other block
 pub record PrepareStep (g : Geometry) (w : Spot → ℕ) (v : View) (c b k : ℕ) (p : Spot) (x : ℕ) : Type 0 where
   pub inside : c < g.clients
   pub acts : v.status c ≢ status.New
@@ -43,6 +44,7 @@ abbrev pub words_with : Spot → ℕ → Option Making → List Stored
 words_with p x None = record { spot = p; value = x } ∷ []
 words_with p x (Some m) = record { spot = p; value = x } ∷ filter (not_spot p) m.words
 
+-- the block is prepared, and the word is among those that were stored; no commit test is open
 abbrev pub prepare_view : View → ℕ → ℕ → ℕ → Spot → ℕ → View
 prepare_view v c b k p x =
     record v {
@@ -52,6 +54,7 @@ prepare_view v c b k p x =
 
 -- ---- the store of the link of a dying block
 
+-- c, which isn't new or gone, stores the tag of a dying block of its own with another link
 pub record LinkStep (g : Geometry) (w : Spot → ℕ) (v : View) (c b x : ℕ) : Type 0 where
   pub inside : c < g.clients
   pub acts : v.status c ≢ status.New
@@ -62,6 +65,7 @@ pub record LinkStep (g : Geometry) (w : Spot → ℕ) (v : View) (c b x : ℕ) :
   -- the numbers of words and the author stay
   pub shape : x / 2 ^ 20 ≡ w (Tag b) / 2 ^ 20
 
+-- the tag is known; no commit test is open
 abbrev pub link_view : View → ℕ → ℕ → ℕ → View
 link_view v c b x =
     record v {
