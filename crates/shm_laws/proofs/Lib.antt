@@ -32,3 +32,6 @@ pub mod SegmentClaim
 pub mod SegmentBack
 pub mod HomeStore
 pub mod QueueStore
+pub mod BlockWords
+pub mod MakingStore
+pub mod LinkStore

@@ -64,7 +64,7 @@ tie g class redo own old new (Change (Raising Committed) p a b e) o' x y z h = s
 tie g class redo own old new _ o' x y z h = absurd y
 
 -- a step of another identity, on another word
-tie_other : (g : Geometry) (class : ℕ → ℕ → ℕ) (redo own : ℕ) (old new : Words) (o : Op) → (is_op o ≡ true → word_at new (slot_of o) ≡ word_at old (slot_of o)) → OpTie g class redo own old o → OpTie g class redo own new o
+pub tie_other : (g : Geometry) (class : ℕ → ℕ → ℕ) (redo own : ℕ) (old new : Words) (o : Op) → (is_op o ≡ true → word_at new (slot_of o) ≡ word_at old (slot_of o)) → OpTie g class redo own old o → OpTie g class redo own new o
 tie_other g class redo own old new Nothing z h = h
 tie_other g class redo own old new (Alloc s p b e) z h = record { spelled = h.spelled; current = h.current; at = h.at; word = z refl ∙ h.word }
 tie_other g class redo own old new (Up s p b e) z h = record { spelled = h.spelled; current = h.current; at = h.at; word = z refl ∙ h.word }

@@ -4,7 +4,7 @@ ghost use Rattle.std.specs.Prelude.{◌≡◌, ℕ, ◌+◌, ◌<◌, Option, So
 ghost use Rattle.shm_words.specs.declared.geometry.Geometry.{Geometry as AGeometry};
 ghost use Rattle.shm_words.specs.Headers.{header_of};
 ghost use Rattle.shm_graph.specs.declared.spot.Spot.{Spot as ASpot};
-ghost use Rattle.shm_graph.specs.declared.spot.Spot.TheVariants.{Redo, Hold, Latch, Era, Root, Tail, Front, Segment, Page, Head, Body, Home, Slot};
+ghost use Rattle.shm_graph.specs.declared.spot.Spot.TheVariants.{Redo, Hold, Latch, Era, Root, Tail, Front, Segment, Page, Head, Body, Home, Slot, Tag};
 ghost use Rattle.shm_graph.specs.declared.memo.Op.{Op as AnOp};
 ghost use Rattle.shm_graph.specs.declared.memo.Stored.{Stored as AStored};
 ghost use Rattle.shm_graph.specs.declared.memo.Look.{Look as ALook};
@@ -19,6 +19,7 @@ ghost use Rattle.shm_graph.specs.Changes.{next_row};
 ghost use Rattle.shm_laws.specs.Steps.{BeginStep, begin_view, RowStep, row_store_view, ClassStep, class_view, CloseStep, close_view, TailStep, tail_view, HeadStep, head_view, RootStep, root_view, BodyStep, body_view, BackStep, back_view, FreeStep, free_view, LatchStep, latch_view, AllocStep, alloc_view, UpStep, up_view, LowerStep, lower_view, ChangeStep, change_view, SecondStep, second_view, header_view, row_view, LookStep, look_view};
 ghost use Rattle.shm_laws.specs.Holding.{HoldStep, hold_view, ClaimStep, claim_view, SegmentBackStep, segment_back_view};
 ghost use Rattle.shm_laws.specs.Slotting.{HomeStep, home_view, QueueStep, queue_view};
+ghost use Rattle.shm_laws.specs.Preparing.{PrepareStep, prepare_view, LinkStep, link_view};
 
 /// Stores of own words: a redo record that begins a step, a row, the own era that closes a step or the first half of a change, the
 /// tail of a queue whose send is closed, and the head of a queue whose item was taken.
@@ -104,4 +105,12 @@ pub fn slot_stores_kept()
     ensures queue { (g : AGeometry) (w : ASpot → ℕ) (v : View) (c s r k x : ℕ) (o : AnOp) → HeldAt g w v → QueueStep g w v c s r k x o → HeldAt g (upd w (Slot s r k) x) (queue_view v c o) }
     ensures home_quiet { (g : AGeometry) (w : ASpot → ℕ) (v : View) (c x : ℕ) (o : AnOp) → HeldAt g w v → HomeStep g w v c x o → Happens g w Nothing (graph_of g w v) (graph_of g (upd w (Home c) x) (home_view v c x o)) }
     ensures queue_quiet { (g : AGeometry) (w : ASpot → ℕ) (v : View) (c s r k x : ℕ) (o : AnOp) → HeldAt g w v → QueueStep g w v c s r k x o → Happens g w Nothing (graph_of g w v) (graph_of g (upd w (Slot s r k) x) (queue_view v c o)) }
+{}
+
+/// Stores of words that nothing counts: of a free block that is prepared, and of the link of a zero-count block.
+pub fn block_stores_kept()
+    ensures prepare { (g : AGeometry) (w : ASpot → ℕ) (v : View) (c b k : ℕ) (p : ASpot) (x : ℕ) → HeldAt g w v → PrepareStep g w v c b k p x → HeldAt g (upd w p x) (prepare_view v c b k p x) }
+    ensures link { (g : AGeometry) (w : ASpot → ℕ) (v : View) (c b x : ℕ) → HeldAt g w v → LinkStep g w v c b x → HeldAt g (upd w (Tag b) x) (link_view v c b x) }
+    ensures prepare_quiet { (g : AGeometry) (w : ASpot → ℕ) (v : View) (c b k : ℕ) (p : ASpot) (x : ℕ) → HeldAt g w v → PrepareStep g w v c b k p x → Happens g w Nothing (graph_of g w v) (graph_of g (upd w p x) (prepare_view v c b k p x)) }
+    ensures link_quiet { (g : AGeometry) (w : ASpot → ℕ) (v : View) (c b x : ℕ) → HeldAt g w v → LinkStep g w v c b x → Happens g w Nothing (graph_of g w v) (graph_of g (upd w (Tag b) x) (link_view v c b x)) }
 {}

@@ -8,6 +8,6 @@
 mod laws;
 
 pub use laws::{
-    changes_are_events, exchanges_are_events, exchanges_kept, holding_kept, loads_kept,
-    own_stores_kept, shared_stores_kept, slot_stores_kept, stores_are_quiet,
+    block_stores_kept, changes_are_events, exchanges_are_events, exchanges_kept, holding_kept,
+    loads_kept, own_stores_kept, shared_stores_kept, slot_stores_kept, stores_are_quiet,
 };

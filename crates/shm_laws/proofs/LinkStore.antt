@@ -1,0 +1,109 @@
+-- the store of the link of a dying block keeps the invariant, and leaves the graph
+use Rattle.std.proofs.Math.Path.{fun_ext}
+use Rattle.std.proofs.Common.{◌≡◌, ◌≢◌, ℕ, ◌/◌, ◌^◌, ◌<◌, refl, sym, ap, ◌∙◌, arith, true, false, not, subst, inl, List, ◌∷◌, Option, Some, None}
+use Rattle.std.specs.List.{All, filter}
+use Rattle.std.proofs.lemmas.List.Elements.{All-cons, All-weaker}
+use Rattle.std.proofs.lemmas.Bool.{eq-eqb, true≢false}
+use Rattle.shm_words.specs.declared.geometry.Geometry.{Geometry}
+use Rattle.shm_words.specs.Headers.{header_of}
+use Rattle.shm_graph.specs.declared.spot.Spot.{Spot}
+use Rattle.shm_graph.specs.declared.spot.Spot.TheVariants.{Spare, Status, Redo, Hold, Latch, Home, Era, Root, Tail, Front, Slot, Segment, Page, Unused, Head, Tag, Body}
+use Rattle.shm_graph.specs.declared.memo.Making.{Making}
+use Rattle.shm_graph.specs.declared.memo.Stored.{Stored}
+use Rattle.shm_graph.specs.Spots.{IsAt, same_spot, upd}
+use Rattle.shm_graph.specs.Views.{View, at1}
+use Rattle.shm_graph.specs.Events.{Nothing, graph_of, Happens}
+use Rattle.shm_graph.specs.Held.{HeldAt, IsDying, InBlock, MakingTie}
+use Rattle.shm_graph.proofs.Lists.{at1_here, at1_other}
+use Rattle.shm_graph.proofs.Frames.{at1_all, at1_same}
+use Rattle.shm_laws.proofs.Keep.{All-kept, live_word}
+use Rattle.shm_laws.proofs.BlockWords.{with_blocks, blocks_view, BlocksMay, Old, New, pair_kept, blocks_kept, blocks_quiet}
+use Rattle.shm_laws.specs.Preparing.{LinkStep, link_view}
+use Rattle.shm_laws.specs.Steps.{not_spot}
+
+module _ (g : Geometry) (w : Spot → ℕ) (v : View) (c b x : ℕ) (h : HeldAt g w v) (a : LinkStep g w v c b x) where
+  abbrev tags : ℕ → ℕ
+  tags = λ i. w (Tag i)
+
+  abbrev bodies : ℕ → ℕ → ℕ
+  bodies = λ i j. w (Body i j)
+
+  -- the tags after the store
+  abbrev tag : ℕ → ℕ
+  tag = at1 tags b x
+
+  abbrev kept : List Stored
+  kept = record { spot = Tag b; value = x } ∷ filter (not_spot (Tag b)) (v.known c)
+
+  dying : IsDying (header_of (w (Head b))) c
+  dying = (h.dying c a.inside).listed b a.dying
+
+  may : BlocksMay g w c tag bodies
+  may =
+      record {
+        small_tag = λ d. at1_all (λ (j y : ℕ). y < 2 ^ 64) tags b x d (let s = a.small in omega arith) (λ _. h.small (Tag d));
+        small_body = λ d i. h.small (Body d i);
+        tag_there = λ d. at1_all (λ (j y : ℕ). y ≢ 0 → IsAt g (λ s q. w (Page s q)) (Tag j)) tags b x d (λ _. a.place) (λ _. h.there (Tag d));
+        body_there = λ d i. h.there (Body d i);
+        shape = λ d. at1_all (λ (j y : ℕ). (header_of (w (Head j))).live ≡ true → y / 2 ^ 20 ≡ w (Tag j) / 2 ^ 20) tags b x d (λ _. a.shape) (λ _ _. refl);
+        size = λ d. at1_all (λ (j y : ℕ). (header_of (w (Head j))).live ≡ true → y < 2 ^ 35) tags b x d (λ _. a.small) (λ _ l. (h.blocks.tagged d l).small);
+        same = λ d. at1_all (λ (j y : ℕ). (header_of (w (Head j))).live ≡ true → (IsDying (header_of (w (Head j))) c → ⊥) → y ≡ w (Tag j)) tags b x d (λ _ n. absurd (n dying)) (λ _ _ _. refl);
+        inner = λ d i l. refl;
+      }
+
+  -- a block that is prepared isn't live
+  making : (d : ℕ) (m : Option Making) → MakingTie g (λ s q. w (Page s q)) (λ s. w (Segment s)) (λ i. w (Head i)) tags bodies d m → MakingTie g (λ s q. w (Page s q)) (λ s. w (Segment s)) (λ i. w (Head i)) tag bodies d m
+  making d None y = tt
+  making d (Some m) y = record { free = y.free; block = y.block; mine = y.mine; sized = y.sized; stored = All-weaker _ _ (λ s. stored s.spot s.value) m.words y.stored }
+    where
+      apart : b ≢ m.block
+      apart z = live_word (w (Head b)) dying.0 (ap (λ i. w (Head i)) z ∙ y.free)
+
+      stored : (p : Spot) (z : ℕ) → InBlock tags bodies m.block m.class p z → InBlock tag bodies m.block m.class p z
+      stored (Tag d) z k = (k.0, at1_other tags b x d (λ u. apart (u ∙ k.0)) ∙ k.1)
+      stored (Body d j) z k = k
+      stored _ z k = absurd k
+
+  made : (d : ℕ) → d < g.clients → MakingTie g (λ s q. w (Page s q)) (λ s. w (Segment s)) (λ i. w (Head i)) tag bodies d (at1 v.making c (v.making c) d)
+  made d l = subst (λ (f : ℕ → Option Making). MakingTie g (λ s q. w (Page s q)) (λ s. w (Segment s)) (λ i. w (Head i)) tag bodies d (f d)) (sym (at1_same v.making c (v.making c) refl)) (making d (v.making d) (h.making d l))
+
+  -- the pairs of other words stay
+  pairs : (p : Spot) (z : ℕ) → not (same_spot (Tag b) p) ≡ true → Old g w v c tag bodies h may c p z → New g w v c tag bodies h may c p z
+  pairs p z q k = pair_kept g w v c tag bodies h may c a.inside p z (λ e u _. at1_other tags b x e (λ y. true≢false (sym q ∙ ap not (ap (same_spot (Tag b)) u ∙ eq-eqb b e y)))) k
+
+  knows : All (λ (s : Stored). New g w v c tag bodies h may c s.spot s.value) kept
+  knows = All-cons (λ (s : Stored). New g w v c tag bodies h may c s.spot s.value) (record { spot = Tag b; value = x }) (filter (not_spot (Tag b)) (v.known c)) (at1_here tags b x, inl a.dying)
+      (All-kept (λ (s : Stored). Old g w v c tag bodies h may c s.spot s.value) (λ (s : Stored). New g w v c tag bodies h may c s.spot s.value) (not_spot (Tag b)) (λ s. pairs s.spot s.value) (v.known c) (h.known c a.inside))
+
+  words : with_blocks w tag bodies ≡ upd w (Tag b) x
+  words = fun_ext go
+    where
+      go : (p : Spot) → with_blocks w tag bodies p ≡ upd w (Tag b) x p
+      go (Tag d) = refl
+      go (Body d i) = refl
+      go Spare = refl
+      go (Status d) = refl
+      go (Redo d) = refl
+      go (Hold d) = refl
+      go (Latch d) = refl
+      go (Home d) = refl
+      go (Era i j) = refl
+      go (Root d l) = refl
+      go (Tail s r) = refl
+      go (Front s r) = refl
+      go (Slot s r i) = refl
+      go (Segment s) = refl
+      go (Page s q) = refl
+      go (Unused s) = refl
+      go (Head d) = refl
+
+  views : blocks_view v c (v.making c) kept ≡ link_view v c b x
+  views = ap (λ (f : ℕ → Option Making). record (link_view v c b x) { making = f }) (at1_same v.making c (v.making c) refl)
+
+  -- the invariant stays
+  pub link_kept : HeldAt g (upd w (Tag b) x) (link_view v c b x)
+  link_kept = subst (λ u. HeldAt g (upd w (Tag b) x) u) views (subst (λ u. HeldAt g u (blocks_view v c (v.making c) kept)) words (blocks_kept g w v c tag bodies h may (v.making c) kept a.inside a.acts a.here made knows))
+
+  -- the graph stays
+  pub link_quiet : Happens g w Nothing (graph_of g w v) (graph_of g (upd w (Tag b) x) (link_view v c b x))
+  link_quiet = subst (λ u. Happens g w Nothing (graph_of g w v) (graph_of g (upd w (Tag b) x) u)) views (subst (λ u. Happens g w Nothing (graph_of g w v) (graph_of g u (blocks_view v c (v.making c) kept))) words (blocks_quiet g w v c tag bodies h may (v.making c) kept))
