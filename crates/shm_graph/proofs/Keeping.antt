@@ -1,6 +1,5 @@
 -- the laws of the kinds of word step at spots of no body, as machines use them
 use Rattle.std.proofs.Common.{◌≡◌, ℕ, refl, sym, false, subst}
-use Rattle.std.specs.Prelude.{slice_index}
 use Rattle.shm_words.specs.declared.geometry.Geometry.{Geometry}
 use Rattle.shm_graph.specs.declared.ask.Ask.{Ask}
 use Rattle.shm_graph.specs.declared.ask.Ask.TheVariants.{Store}
@@ -12,7 +11,7 @@ use Rattle.shm_graph.specs.declared.memo.Status.TheVariants as status
 use Rattle.shm_graph.specs.Spots.{spot_at, upd, is_in_body}
 use Rattle.shm_graph.specs.Blocks.{classes}
 use Rattle.shm_graph.specs.Views.{view, at1}
-use Rattle.shm_graph.specs.Held.{HeldAt, Gone}
+use Rattle.shm_graph.specs.Held.{HeldAt}
 use Rattle.shm_graph.specs.Asks.{Trail, at_of, seen_of, words_after}
 use Rattle.shm_graph.specs.Changes.{memo_on, spot_told, called}
 use Rattle.shm_graph.specs.Ops.{cover_of, limbo_of}

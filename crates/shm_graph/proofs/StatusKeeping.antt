@@ -16,7 +16,7 @@ use Rattle.shm_graph.specs.Spots.{spot_at, upd}
 use Rattle.shm_graph.specs.Blocks.{classes}
 use Rattle.shm_graph.specs.Tables.{contents_of}
 use Rattle.shm_graph.specs.Views.{View, view, at1, targets}
-use Rattle.shm_graph.specs.Held.{HeldAt, Fresh, Gone, KnownAt, ValueAt, MakingTie, reach_of}
+use Rattle.shm_graph.specs.Held.{HeldAt, Fresh, KnownAt, ValueAt, MakingTie, reach_of}
 use Rattle.shm_graph.specs.Asks.{Trail}
 use Rattle.shm_graph.specs.Changes.{called, with_status, with_end}
 use Rattle.shm_graph.specs.Ops.{cover_of, limbo_of}
