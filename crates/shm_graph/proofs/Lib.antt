@@ -35,3 +35,4 @@ pub mod Going
 pub mod OpEnd
 pub mod LoadKeeping
 pub mod StatusKeeping
+pub mod CallEventsOf

@@ -48,7 +48,7 @@ turned_by ws es t after h l within x =
           accounts = length-accounts_after es t ∙ h.accounts;
           at = step.held;
         };
-        event = record { of = refl; inside = within; one_event = step };
+        event = record { of = refl; inside = within; told = x.told; one_event = step };
       },
       subst after told x.fits,
     )

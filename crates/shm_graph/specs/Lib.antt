@@ -14,3 +14,4 @@ pub mod Laws
 pub mod Runs
 pub mod Whole
 pub mod Sound
+pub mod CallEvents

@@ -26,7 +26,7 @@ use Rattle.shm_graph.specs.Spots.{see, spot_at, classes_in}
 use Rattle.shm_graph.specs.Views.{view}
 use Rattle.shm_graph.specs.Held.{HeldAt}
 use Rattle.shm_graph.specs.Asks.{at_of, seen_of, words_set, call_after}
-use Rattle.shm_graph.specs.Changes.{memo_after, died, entered, acts, last_agent}
+use Rattle.shm_graph.specs.Changes.{memo_after, spot_told, died, entered, acts, last_agent}
 use Rattle.shm_graph.specs.Laws.{Stepped, event_on}
 
 -- ---- accounts
@@ -181,10 +181,11 @@ IsMove s (Word t) = (t.seen ≡ seen_of t.ask (slice_index s.words (at_of t.ask)
 IsMove s (Dies c) = acts (memos_of s.accounts c) ≡ true
 IsMove s (Begins c k) = (c < length s.accounts) × (acts (memos_of s.accounts c) ≡ false) × MayBegin k (memos_of s.accounts c)
 
--- a word step is of this pool, asks for a word of it, is one event and is allowed
+-- a word step is of this pool, asks for a word of it that the memo tells, is one event and is allowed
 pub record IsWordTurn (g : Geometry) (s : State) (t : Step) : Type 0 where
   pub of : t.me.geometry ≡ g
   pub inside : at_of t.ask < total_of g
+  pub told : spot_told t.me.geometry (memos_of s.accounts t.me.who) (at_of t.ask) ≡ spot_at g (classes_in g s.words) (at_of t.ask)
   pub one_event : let p = spot_at g (classes_in g s.words) (at_of t.ask) in
       Stepped g t.me.who t.ask p (event_on (memos_of s.accounts t.me.who) t p) (see g s.words) (view (memos_of s.accounts)) (see g (moved s (Word t)).words) (view (memos_of (moved s (Word t)).accounts))
 

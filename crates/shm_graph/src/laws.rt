@@ -1,6 +1,6 @@
 //! The laws of runs, and of machines that run by themselves.
 
-ghost use Rattle.std.specs.Prelude.{◌≡◌, ◌≢◌, ℕ, false, ◌<◌, ◌⊎◌, List, [], ◌∷◌, ◌++◌, length};
+ghost use Rattle.std.specs.Prelude.{◌≡◌, ◌≢◌, ℕ, Bool, true, false, ◌<◌, ◌⊎◌, List, [], ◌∷◌, ◌++◌, length};
 ghost use Rattle.shm_words.specs.declared.geometry.Geometry.{Geometry as AGeometry};
 ghost use Rattle.shm_words.specs.Layout.{total_of};
 ghost use Rattle.shm_graph.specs.declared.ask.Ask.{Ask as AnAsk};
@@ -22,6 +22,7 @@ ghost use Rattle.shm_graph.specs.Controls.{IsAllowed};
 ghost use Rattle.shm_graph.specs.Asks.{Trail, at_of, words_after, words_set};
 ghost use Rattle.shm_graph.specs.Laws.{Frame, Stands, KeptAt, GoneNow, MayEnd};
 ghost use Rattle.shm_graph.specs.Runs.{Held, State, memos_of, moved, IsMove, Turned, Leads};
+ghost use Rattle.shm_graph.specs.CallEvents.{steps_of_call, events_of, steps_in, events_in, IsUnbroken};
 ghost use Rattle.shm_graph.specs.Sound.{IsSound};
 ghost use Rattle.shm_graph.specs.Clean.{IsClean};
 ghost use Rattle.shm_graph.specs.Whole.{fits_now, gives_now, Inside, Keeps};
@@ -74,4 +75,10 @@ pub fn steps_keep()
     ensures gone { (me : AMe) (w : ASpot → ℕ) (r : ℕ → AMemo) (f : Frame) (tr : Trail) (at : ℕ) → Stands me w r f tr → spot_at me.geometry (classes w) at ≡ Status me.who → GoneNow me.who (r me.who) → KeptAt me w r (Store at 3) f (λ n m. Unit {0}) (spot_at me.geometry (classes w) at) }
     ensures load { (me : AMe) (w : ASpot → ℕ) (r : ℕ → AMemo) (f : Frame) (tr : Trail) (at : ℕ) (p : ASpot) → Stands me w r f tr → spot_at me.geometry (classes w) at ≡ p → is_in_body p ≡ false → MayEnd me.who (r me.who) p → KeptAt me w r (Load at) f (λ n m. Unit {0}) (spot_at me.geometry (classes w) at) }
     ensures lost { (me : AMe) (w : ASpot → ℕ) (r : ℕ → AMemo) (f : Frame) (tr : Trail) (at from to : ℕ) (p : ASpot) → Stands me w r f tr → spot_at me.geometry (classes w) at ≡ p → is_in_body p ≡ false → MayEnd me.who (r me.who) p → w p ≢ from → KeptAt me w r (Exchange at from to) f (λ n m. Unit {0}) (spot_at me.geometry (classes w) at) }
+{}
+
+/// The events of a call are a function of its pairs and of the memo before it: no word of the pool enters.
+pub fn call_events()
+    ensures told { (g : AGeometry) (c : ℕ) (a : State) (ms : List AMove) (b : State) → c < length a.accounts → IsUnbroken c ms → Leads g a ms b → events_in g c a ms ≡ events_of (memos_of a.accounts c) (steps_in c ms) }
+    ensures pairs { (g : AGeometry) (c : ℕ) (a : State) (ms : List AMove) (b : State) (me : AMe) (line : List ℕ) (whole : Bool) (tr : Trail) → c < length a.accounts → IsUnbroken c ms → Leads g a ms b → steps_in c ms ≡ steps_of_call me line true whole tr → events_in g c a ms ≡ events_of (memos_of a.accounts c) (steps_of_call me line true whole tr) }
 {}
