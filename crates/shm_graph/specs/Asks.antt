@@ -1,5 +1,5 @@
 -- word steps: what is asked, what is seen, and what becomes of the words
-use Rattle.std.specs.Prelude.{ℕ, Bool, ◌==◌, if◌then◌else◌, List, [], ◌∷◌, ◌++◌, slice_index, slice_set}
+use Rattle.std.specs.Prelude.{ℕ, ◌+◌, ◌*◌, ◌≤◌, Bool, ◌==◌, if◌then◌else◌, List, [], ◌∷◌, ◌++◌, length, slice_index, slice_set}
 use Rattle.shm_graph.specs.declared.ask.Ask.{Ask}
 use Rattle.shm_graph.specs.declared.ask.Ask.TheVariants.{Load, Store, Exchange}
 use Rattle.shm_graph.specs.declared.spot.Spot.{Spot}
@@ -46,3 +46,17 @@ call_before fresh call = if fresh then [] else call
 
 abbrev pub call_after : Bool → List Seen → Ask → ℕ → List Seen
 call_after fresh call a n = call_before fresh call ++ pair a n ∷ []
+
+-- whether an exchange found another word than it names, as a number
+abbrev pub failed_by : Ask → ℕ → ℕ
+failed_by (Exchange at from to) n = if n == from then 0 else 1
+failed_by _ n = 0
+
+-- how many exchanges of a trail failed
+abbrev pub failed : Trail → ℕ
+failed [] = 0
+failed (s ∷ tr) = failed_by s.ask s.word + failed tr
+
+-- the trail has at most n pairs, and three more for each exchange that failed: what is tried again loads a header and raises a row
+abbrev pub IsWithin : ℕ → Trail → Type 0
+IsWithin n tr = length tr ≤ n + 3 * failed tr

@@ -2,6 +2,10 @@
 
 ghost use Rattle.std.specs.Prelude.{◌≡◌, ◌<◌, [], ◌∷◌};
 ghost use Rattle.shm_words.specs.Layout.{GeometryFits};
+ghost use Rattle.shm_graph.specs.declared.memo.Memo.{Memo as AMemo};
+ghost use Rattle.shm_graph.specs.Asks.{Trail, IsWithin};
+ghost use Rattle.shm_recover.specs.declared.join.JoinState.{JoinState as AJoin};
+ghost use Rattle.shm_recover.specs.JoinTrail.{join_steps};
 ghost use Rattle.shm_recover.specs.Joining.{join_control, join_fresh, JoinFits, JoinGives};
 ghost use Rattle.shm_recover.specs.JoinKeeps.{join_laws};
 
@@ -58,6 +62,11 @@ impl Join {
         }
     }
 }
+
+/// Whatever a join has found, it took one word step.
+pub fn join_bound()
+    ensures { (m : AJoin) (r0 r : AMemo) (tr : Trail) → JoinGives m r0 r tr tt → IsWithin join_steps tr }
+{}
 
 impl Machine for Join {
     type Answer = ();

@@ -3,7 +3,7 @@
 
 pub mod join;
 
-pub use join::{Join, JoinPoint, JoinState};
+pub use join::{Join, JoinPoint, JoinState, join_bound};
 
 #[cfg(test)]
 mod tests;

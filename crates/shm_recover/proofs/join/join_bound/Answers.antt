@@ -1,0 +1,7 @@
+use Rattle.std.proofs.Common.{◌≡◌, sym, subst, arith}
+use Rattle.shm_recover.specs.JoinTrail.{join_steps, join_trail}
+use Rattle.shm_graph.specs.Asks.{IsWithin, Trail}
+use Rattle.shm_recover.proofs.join.join_bound.Goals as goal
+
+pub returns : goal.returns
+returns c m r0 r tr gives = subst (IsWithin join_steps) (sym gives.trail) (omega arith)
