@@ -4,7 +4,6 @@ use Rattle.std.specs.Prelude.{slice_set}
 use Rattle.std.proofs.lemmas.List.{get_or-set_other}
 use Rattle.std.proofs.lemmas.Bool.{cases_eq, eq-eqb, ne_eqb}
 use Rattle.shm_words.specs.declared.geometry.Geometry.{Geometry}
-use Rattle.shm_graph.specs.declared.spot.Spot.{Spot}
 use Rattle.shm_graph.specs.declared.ask.Me.{Me}
 use Rattle.shm_graph.specs.declared.memo.Memo.{Memo}
 use Rattle.shm_graph.specs.declared.memo.Step.{Step}
@@ -14,7 +13,6 @@ use Rattle.shm_graph.specs.declared.run.Move.TheVariants.{Word, Dies, Begins}
 use Rattle.shm_graph.specs.Spots.{spot_at, classes_in}
 use Rattle.shm_graph.specs.Asks.{Trail, at_of}
 use Rattle.shm_graph.specs.Changes.{memo_after, spot_told}
-use Rattle.shm_graph.specs.Events.{Event}
 use Rattle.shm_graph.specs.Laws.{event_on}
 use Rattle.shm_graph.specs.Runs.{State, memos_of, moved, account_at, account_after, account_died, account_entered, Leads}
 use Rattle.shm_graph.specs.CallEvents.{steps_of_call, events_of, steps_in, events_in, IsUnbroken}

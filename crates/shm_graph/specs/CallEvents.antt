@@ -1,9 +1,8 @@
 -- the events of the word steps of one identity
-use Rattle.std.specs.Prelude.{ℕ, ◌≢◌, Bool, true, false, ◌==◌, if◌then◌else◌, List, [], ◌∷◌}
+use Rattle.std.specs.Prelude.{ℕ, ◌≢◌, Bool, false, ◌==◌, if◌then◌else◌, List, [], ◌∷◌}
 use Rattle.shm_words.specs.declared.geometry.Geometry.{Geometry}
 use Rattle.shm_graph.specs.declared.ask.Me.{Me}
 use Rattle.shm_graph.specs.declared.memo.Memo.{Memo}
-use Rattle.shm_graph.specs.declared.memo.Seen.{Seen}
 use Rattle.shm_graph.specs.declared.memo.Step.{Step}
 use Rattle.shm_graph.specs.declared.run.Move.{Move}
 use Rattle.shm_graph.specs.declared.run.Move.TheVariants.{Word, Dies, Begins}

@@ -1,6 +1,6 @@
-use Rattle.std.proofs.Common.{◌≡◌, sym, subst, arith}
-use Rattle.shm_recover.specs.JoinTrail.{join_steps, join_trail}
-use Rattle.shm_graph.specs.Asks.{IsWithin, Trail}
+use Rattle.std.proofs.Common.{sym, subst, arith}
+use Rattle.shm_recover.specs.JoinTrail.{join_steps}
+use Rattle.shm_graph.specs.Asks.{IsWithin}
 use Rattle.shm_recover.proofs.join.join_bound.Goals as goal
 
 pub returns : goal.returns
