@@ -12,7 +12,7 @@ use Rattle.shm_graph.specs.declared.run.Move.{Move}
 use Rattle.shm_graph.specs.declared.run.Move.TheVariants.{Word, Dies, Begins}
 use Rattle.shm_graph.specs.Spots.{spot_at, classes_in}
 use Rattle.shm_graph.specs.Asks.{Trail, at_of}
-use Rattle.shm_graph.specs.Changes.{memo_after, spot_told}
+use Rattle.shm_graph.specs.Changes.{memo_after, asked_spot}
 use Rattle.shm_graph.specs.Laws.{event_on}
 use Rattle.shm_graph.specs.Runs.{State, memos_of, moved, account_at, account_after, account_died, account_entered, Leads}
 use Rattle.shm_graph.specs.CallEvents.{steps_of_call, events_of, steps_in, events_in, IsUnbroken}
@@ -37,9 +37,9 @@ events_told g c a (Word t ∷ ms) b l u run =
     let rest : events_in g c next ms ≡ events_of (memos_of next.accounts c) (steps_in c ms) = events_told g c next ms b long u run.2 in
     elim (cases_eq t.me.who c) [
       | inl e ↦ rw (eq-eqb t.me.who c e)
-          (let told : spot_told t.me.geometry m (at_of t.ask) ≡ spot_at g (classes_in g a.words) (at_of t.ask) = subst (λ k. spot_told t.me.geometry (memos_of a.accounts k) (at_of t.ask) ≡ spot_at g (classes_in g a.words) (at_of t.ask)) e run.1.event.told in
+          (let told : (asked_spot m t) ≡ spot_at g (classes_in g a.words) (at_of t.ask) = subst (λ k. (asked_spot (memos_of a.accounts k) t) ≡ spot_at g (classes_in g a.words) (at_of t.ask)) e run.1.event.told in
           ap (λ p. event_on m t p ∷ events_in g c next ms) (sym told)
-          ∙ ap (λ zs. event_on m t (spot_told t.me.geometry m (at_of t.ask)) ∷ zs) (rest ∙ ap (λ (x : Memo). events_of x (steps_in c ms)) (memo_here a.accounts t c e l)))
+          ∙ ap (λ zs. event_on m t ((asked_spot m t)) ∷ zs) (rest ∙ ap (λ (x : Memo). events_of x (steps_in c ms)) (memo_here a.accounts t c e l)))
       | inr n ↦ rw (ne_eqb t.me.who c n)
           (rest ∙ ap (λ (x : Memo). events_of x (steps_in c ms)) (memo_other a.accounts c t.me.who (account_after (account_at a.accounts t.me.who) t) (λ e. n (sym e))))
     ]

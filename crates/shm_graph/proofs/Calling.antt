@@ -13,7 +13,8 @@ use Rattle.shm_graph.specs.declared.memo.Agent.{Agent}
 use Rattle.shm_graph.specs.Asks.{call_after}
 use Rattle.shm_graph.specs.Views.{View, view, at1}
 use Rattle.shm_graph.specs.Held.{HeldAt}
-use Rattle.shm_graph.specs.Changes.{called, with_last, stepped}
+use Rattle.shm_graph.specs.Changes.{called}
+use Rattle.shm_graph.specs.Agents.{with_last, stepped}
 use Rattle.shm_graph.proofs.MemoParts.{call_set, view_here}
 use Rattle.shm_graph.proofs.Calls.{FactHolds, FactsHold, ZeroHolds, ZerosHold, TestHolds, MadeHold, call_held}
 

@@ -14,7 +14,8 @@ use Rattle.shm_graph.specs.declared.run.Account.{Account}
 use Rattle.shm_graph.specs.declared.run.Move.{Move}
 use Rattle.shm_graph.specs.declared.run.Move.TheVariants.{Word, Dies, Begins}
 use Rattle.shm_graph.specs.Asks.{Trail, at_of, seen_of}
-use Rattle.shm_graph.specs.Changes.{is_gone, acts, spot_told}
+use Rattle.shm_graph.specs.Agents.{is_gone, acts}
+use Rattle.shm_graph.specs.Changes.{asked_spot}
 use Rattle.shm_graph.specs.Laws.{Control, Steady, Outcome, Back, step_of, is_some}
 use Rattle.shm_graph.specs.Runs.{Held, State, state, moved, Turned, Leads, MayBegin, memos_of, account_at, account_after, accounts_after}
 use Rattle.shm_graph.specs.Whole.{gives_now, Inside, Keeps, Kept, Learns}
@@ -60,17 +61,17 @@ module _ {S A : Type 0} (k : Control S A) (steady : Steady k) where
 
 -- what a step leaves of whether an agent acts
 pub account_acts : (e : Account) (t : Step) → acts (account_after e t).memo ≡ cond (is_gone (account_after e t).memo.status && t.ends) false (acts e.memo)
-account_acts e t = acts_after e.memo t (spot_told t.me.geometry e.memo (at_of t.ask))
+account_acts e t = acts_after e.memo t ((asked_spot e.memo t))
 
 -- where the machine goes on, where it doesn't leave the status gone, and where it ends and does
 pub account_acts-on : (e : Account) (t : Step) → t.ends ≡ false → acts (account_after e t).memo ≡ acts e.memo
-account_acts-on e t going = acts-on e.memo t (spot_told t.me.geometry e.memo (at_of t.ask)) going
+account_acts-on e t going = acts-on e.memo t ((asked_spot e.memo t)) going
 
 pub account_acts-here : (e : Account) (t : Step) → (account_after e t).memo.status ≢ Gone → acts (account_after e t).memo ≡ acts e.memo
-account_acts-here e t n = acts-here e.memo t (spot_told t.me.geometry e.memo (at_of t.ask)) n
+account_acts-here e t n = acts-here e.memo t ((asked_spot e.memo t)) n
 
 pub account_acts-gone : (e : Account) (t : Step) → t.ends ≡ true → (account_after e t).memo.status ≡ Gone → acts (account_after e t).memo ≡ false
-account_acts-gone e t ends s = acts-gone e.memo t (spot_told t.me.geometry e.memo (at_of t.ask)) ends s
+account_acts-gone e t ends s = acts-gone e.memo t ((asked_spot e.memo t)) ends s
 
 -- what an answer says of the machine one step on, it says of the machine
 pub whole_back : {S A : Type 0} (k : Control S A) (gives : S → Memo → Memo → Trail → A → Type 0) → Back k gives → (m : S) (n : ℕ) → k.finished m ≡ false → k.turns m n ≡ None → (r0 r : Memo) (a : A) → gives_now gives (k.after m n) r0 r a → gives_now gives m r0 r a

@@ -20,7 +20,9 @@ use Rattle.shm_graph.specs.Views.{view, at1}
 use Rattle.shm_graph.specs.Held.{HeldAt}
 use Rattle.shm_graph.specs.Ops.{IsUncommitted, cover_of, limbo_of}
 use Rattle.shm_graph.specs.Asks.{Trail}
-use Rattle.shm_graph.specs.Changes.{called, test_before, read_on, row_read, home_read, is_held, recovers, last_agent, recovers_by, with_last, stepped, with_end, memo_on}
+use Rattle.shm_graph.specs.Changes.{called, test_before, with_end, memo_on}
+use Rattle.shm_graph.specs.Readings.{read_on, row_read, home_read, is_held}
+use Rattle.shm_graph.specs.Agents.{recovers, last_agent, recovers_by, with_last, stepped}
 use Rattle.shm_graph.specs.Events.{graph_of, IsSame}
 use Rattle.shm_graph.specs.Laws.{MayEnd, Frame, framed, Stands, KeptAt}
 use Rattle.shm_graph.proofs.Lists.{at1_here}

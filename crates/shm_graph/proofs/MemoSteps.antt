@@ -15,7 +15,10 @@ use Rattle.shm_graph.specs.declared.memo.Memo.{Memo}
 use Rattle.shm_graph.specs.declared.memo.Step.{Step}
 use Rattle.shm_graph.specs.declared.memo.Test.{Test}
 use Rattle.shm_graph.specs.Asks.{call_after}
-use Rattle.shm_graph.specs.Changes.{last_agent, with_last, acts_by, acts, recovers_by, recovers, is_recoverer, stepped, ended, fallen, died, entered, is_gone, with_status, read_on, stored_on, called, test_before, changed_by, memo_on}
+use Rattle.shm_graph.specs.Agents.{last_agent, with_last, acts_by, acts, recovers_by, recovers, is_recoverer, stepped, ended, fallen, died, entered, is_gone, with_status}
+use Rattle.shm_graph.specs.Readings.{read_on}
+use Rattle.shm_graph.specs.Stores.{stored_on}
+use Rattle.shm_graph.specs.Changes.{called, test_before, changed_by, memo_on}
 use Rattle.shm_graph.specs.Runs.{fell_by}
 
 either_is : (P : Memo → Type 0) (b : Bool) (x y : Memo) → P x → P y → P (cond b x y)

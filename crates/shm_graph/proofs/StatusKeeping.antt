@@ -18,7 +18,8 @@ use Rattle.shm_graph.specs.Tables.{contents_of}
 use Rattle.shm_graph.specs.Views.{View, view, at1, targets}
 use Rattle.shm_graph.specs.Held.{HeldAt, Fresh, KnownAt, ValueAt, MakingTie, reach_of}
 use Rattle.shm_graph.specs.Asks.{Trail}
-use Rattle.shm_graph.specs.Changes.{called, with_status, with_end}
+use Rattle.shm_graph.specs.Changes.{called, with_end}
+use Rattle.shm_graph.specs.Agents.{with_status}
 use Rattle.shm_graph.specs.Ops.{cover_of, limbo_of}
 use Rattle.shm_graph.specs.Laws.{Frame, framed, Stands, KeptAt, GoneNow}
 use Rattle.shm_graph.proofs.Frames.{at1_all}

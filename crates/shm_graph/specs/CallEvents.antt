@@ -8,7 +8,7 @@ use Rattle.shm_graph.specs.declared.run.Move.{Move}
 use Rattle.shm_graph.specs.declared.run.Move.TheVariants.{Word, Dies, Begins}
 use Rattle.shm_graph.specs.Spots.{spot_at, classes_in}
 use Rattle.shm_graph.specs.Asks.{Trail, at_of}
-use Rattle.shm_graph.specs.Changes.{memo_after, spot_told}
+use Rattle.shm_graph.specs.Changes.{memo_after, asked_spot}
 use Rattle.shm_graph.specs.Events.{Event}
 use Rattle.shm_graph.specs.Laws.{event_on}
 use Rattle.shm_graph.specs.Runs.{State, memos_of, moved}
@@ -22,7 +22,7 @@ steps_of_call me line fresh whole (s ∷ u ∷ tr) = record { me = me; line = li
 -- the events of these steps of an identity, from its memo before them: the words of the pool don't enter
 abbrev pub events_of : Memo → List Step → List Event
 events_of m [] = []
-events_of m (t ∷ ts) = event_on m t (spot_told t.me.geometry m (at_of t.ask)) ∷ events_of (memo_after m t) ts
+events_of m (t ∷ ts) = event_on m t ((asked_spot m t)) ∷ events_of (memo_after m t) ts
 
 -- the word steps of c among these turns
 abbrev pub steps_in : ℕ → List Move → List Step

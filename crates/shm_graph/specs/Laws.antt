@@ -23,7 +23,8 @@ use Rattle.shm_graph.specs.Views.{View, view, at1}
 use Rattle.shm_graph.specs.Held.{HeldAt, Gone}
 use Rattle.shm_graph.specs.Asks.{Trail, at_of, seen_of, words_after, pair, call_before}
 use Rattle.shm_graph.specs.Ops.{IsUncommitted}
-use Rattle.shm_graph.specs.Changes.{memo_on, spot_told, recovers}
+use Rattle.shm_graph.specs.Changes.{memo_on, asked_spot}
+use Rattle.shm_graph.specs.Agents.{recovers}
 use Rattle.shm_graph.specs.Events.{Event, Nothing, Alloc, Up, Down, ChangeUp, ChangeDown, Free, graph_of, Happens}
 use Rattle.shm_graph.specs.Controls.{IsAllowed, IsRowShown}
 
@@ -109,7 +110,7 @@ pub record Stepped (g : Geometry) (c : ℕ) (a : Ask) (p : Spot) (x : Event) (w 
 
 -- a step at a spot, and what holds of the memo after it
 pub record Kept (w : Spot → ℕ) (r : ℕ → Memo) (t : Step) (p : Spot) (after : Memo → Type 0) : Type 0 where
-  pub told : spot_told t.me.geometry (r t.me.who) (at_of t.ask) ≡ p
+  pub told : (asked_spot (r t.me.who) t) ≡ p
   pub step : Stepped t.me.geometry t.me.who t.ask p (event_on (r t.me.who) t p) w (view r) (words_after w t.ask p) (view (at1 r t.me.who (memo_on (r t.me.who) t p)))
   pub fits : after (memo_on (r t.me.who) t p)
 

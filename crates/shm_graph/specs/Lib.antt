@@ -7,6 +7,13 @@ pub mod Ops
 pub mod Views
 pub mod Held
 pub mod Asks
+pub mod Agents
+pub mod Reach
+pub mod Telling
+pub mod Chains
+pub mod Readings
+pub mod Stores
+pub mod Exchanges
 pub mod Changes
 pub mod Events
 pub mod Controls

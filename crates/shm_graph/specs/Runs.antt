@@ -26,7 +26,8 @@ use Rattle.shm_graph.specs.Spots.{see, spot_at, classes_in}
 use Rattle.shm_graph.specs.Views.{view}
 use Rattle.shm_graph.specs.Held.{HeldAt}
 use Rattle.shm_graph.specs.Asks.{at_of, seen_of, words_set, call_after}
-use Rattle.shm_graph.specs.Changes.{memo_after, spot_told, died, entered, acts, last_agent}
+use Rattle.shm_graph.specs.Changes.{memo_after, asked_spot}
+use Rattle.shm_graph.specs.Agents.{died, entered, acts, last_agent}
 use Rattle.shm_graph.specs.Laws.{Stepped, event_on}
 
 -- ---- accounts
@@ -185,7 +186,7 @@ IsMove s (Begins c k) = (c < length s.accounts) × (acts (memos_of s.accounts c)
 pub record IsWordTurn (g : Geometry) (s : State) (t : Step) : Type 0 where
   pub of : t.me.geometry ≡ g
   pub inside : at_of t.ask < total_of g
-  pub told : spot_told t.me.geometry (memos_of s.accounts t.me.who) (at_of t.ask) ≡ spot_at g (classes_in g s.words) (at_of t.ask)
+  pub told : asked_spot (memos_of s.accounts t.me.who) t ≡ spot_at g (classes_in g s.words) (at_of t.ask)
   pub one_event : let p = spot_at g (classes_in g s.words) (at_of t.ask) in
       Stepped g t.me.who t.ask p (event_on (memos_of s.accounts t.me.who) t p) (see g s.words) (view (memos_of s.accounts)) (see g (moved s (Word t)).words) (view (memos_of (moved s (Word t)).accounts))
 

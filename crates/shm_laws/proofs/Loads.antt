@@ -13,7 +13,7 @@ use Rattle.shm_graph.specs.declared.memo.Test.{Test}
 use Rattle.shm_graph.specs.Views.{at1, View, ons}
 use Rattle.shm_graph.proofs.Frames.{at1_all}
 use Rattle.shm_graph.specs.Held.{HeldAt, FactAt, TestAt}
-use Rattle.shm_graph.specs.Changes.{next_row}
+use Rattle.shm_graph.specs.Readings.{next_row}
 use Rattle.shm_laws.specs.Steps.{header_view, row_view}
 
 -- one more fact that holds, another window that holds

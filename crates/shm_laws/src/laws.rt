@@ -15,7 +15,7 @@ ghost use Rattle.shm_graph.specs.Spots.{upd};
 ghost use Rattle.shm_graph.specs.Views.{View};
 ghost use Rattle.shm_graph.specs.Events.{Nothing, Alloc, Up, Down, ChangeUp, ChangeDown, Free, graph_of, Happens};
 ghost use Rattle.shm_graph.specs.Held.{HeldAt};
-ghost use Rattle.shm_graph.specs.Changes.{next_row};
+ghost use Rattle.shm_graph.specs.Readings.{next_row};
 ghost use Rattle.shm_laws.specs.Steps.{BeginStep, begin_view, RowStep, row_store_view, ClassStep, class_view, CloseStep, close_view, TailStep, tail_view, HeadStep, head_view, RootStep, root_view, BodyStep, body_view, BackStep, back_view, FreeStep, free_view, LatchStep, latch_view, AllocStep, alloc_view, UpStep, up_view, LowerStep, lower_view, ChangeStep, change_view, SecondStep, second_view, header_view, row_view, LookStep, look_view};
 ghost use Rattle.shm_laws.specs.Holding.{HoldStep, hold_view, ClaimStep, claim_view, SegmentBackStep, segment_back_view};
 ghost use Rattle.shm_laws.specs.Slotting.{HomeStep, home_view, QueueStep, queue_view};

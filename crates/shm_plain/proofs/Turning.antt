@@ -13,7 +13,7 @@ use Rattle.shm_graph.specs.declared.run.Account.{Account}
 use Rattle.shm_graph.specs.declared.run.Move.TheVariants.{Word, Dies, Begins}
 use Rattle.shm_graph.specs.declared.run.Start.{Start}
 use Rattle.shm_graph.specs.Asks.{at_of}
-use Rattle.shm_graph.specs.Changes.{acts, acts_by, entered, last_agent}
+use Rattle.shm_graph.specs.Agents.{acts, acts_by, entered, last_agent}
 use Rattle.shm_graph.specs.Laws.{Control, Outcome}
 use Rattle.shm_graph.specs.Runs.{Turned, state, Held, account_at, account_after, account_died, account_entered, accounts_after, changed, memos_of, EraFits}
 use Rattle.shm_graph.specs.Whole.{Inside, Keeps, Kept, Learns}

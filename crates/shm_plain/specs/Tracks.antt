@@ -8,7 +8,7 @@ use Rattle.shm_graph.specs.declared.run.Start.{Start}
 use Rattle.shm_graph.specs.declared.run.Account.{Account}
 use Rattle.shm_graph.specs.declared.run.Move.{Move}
 use Rattle.shm_graph.specs.declared.run.Move.TheVariants.{Word, Dies, Begins}
-use Rattle.shm_graph.specs.Changes.{acts, last_agent}
+use Rattle.shm_graph.specs.Agents.{acts, last_agent}
 use Rattle.shm_graph.specs.Runs.{accounts_from, accounts_after, account_died, account_entered, changed, fell_by, memos_of}
 use Rattle.shm_plain.specs.declared.track.Track.{Track}
 

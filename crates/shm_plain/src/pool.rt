@@ -3,7 +3,7 @@
 ghost use Rattle.std.specs.Prelude.{◌≡◌, ℕ, ◌+◌, ◌<◌, ◌↔◌, false, true, slice_index, IfOk};
 ghost use Rattle.shm_words.specs.Layout.{total_of, GeometryFits};
 ghost use Rattle.shm_graph.specs.declared.memo.Memo.{Memo};
-ghost use Rattle.shm_graph.specs.Changes.{acts};
+ghost use Rattle.shm_graph.specs.Agents.{acts};
 ghost use Rattle.shm_graph.specs.Laws.{turn_of, is_died, Outcome};
 ghost use Rattle.shm_graph.specs.Runs.{EraFits, MayBegin};
 ghost use Rattle.shm_graph.specs.Whole.{fits_now, gives_now, Learns};

@@ -6,7 +6,7 @@ use Rattle.shm_graph.specs.declared.memo.Memo.{Memo}
 use Rattle.shm_graph.specs.declared.run.Account.{Account}
 use Rattle.shm_graph.specs.declared.run.Start.{Start}
 use Rattle.shm_graph.specs.Asks.{call_before}
-use Rattle.shm_graph.specs.Changes.{acts, entered}
+use Rattle.shm_graph.specs.Agents.{acts, entered}
 use Rattle.shm_graph.specs.Runs.{MayBegin, first_account, first_memo}
 use Rattle.shm_graph.proofs.FirstHeld.{at-accounts_from, length-accounts_from}
 use Rattle.shm_recover.specs.Joining.{JoinFits, is_start, join_fresh}

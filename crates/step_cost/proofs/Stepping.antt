@@ -8,7 +8,7 @@ use Rattle.shm_graph.specs.declared.memo.Step.{Step}
 use Rattle.shm_graph.specs.declared.memo.Status.TheVariants.{Gone}
 use Rattle.shm_graph.specs.declared.run.Account.{Account}
 use Rattle.shm_graph.specs.declared.run.Start.{Start}
-use Rattle.shm_graph.specs.Changes.{acts}
+use Rattle.shm_graph.specs.Agents.{acts}
 use Rattle.shm_graph.specs.declared.ask.Turn.{Turn}
 use Rattle.shm_graph.specs.declared.ask.Turn.TheVariants.{More}
 use Rattle.shm_graph.specs.Laws.{Control, Steady, is_died, is_some, turn_of}

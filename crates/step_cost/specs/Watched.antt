@@ -1,7 +1,7 @@
 -- when a watch may take a step
 use Rattle.std.specs.Prelude.{◌≡◌, ℕ, ◌<◌, true}
 use Rattle.shm_graph.specs.Asks.{at_of}
-use Rattle.shm_graph.specs.Changes.{acts}
+use Rattle.shm_graph.specs.Agents.{acts}
 use Rattle.shm_plain.specs.Pools.{Pool, IsOf, IsRun, memo_of}
 use Rattle.shm_recover.specs.Joining.{IsMember}
 use Rattle.step_cost.specs.declared.watch.WatchState.{WatchState}

@@ -11,7 +11,7 @@
 ghost use Rattle.std.specs.Prelude.{◌≡◌, ◌<◌, true, slice_index, IfOk, vec_len};
 ghost use Rattle.shm_words.specs.Layout.{GeometryFits};
 ghost use Rattle.shm_graph.specs.Asks.{at_of, seen_of, words_set};
-ghost use Rattle.shm_graph.specs.Changes.{acts};
+ghost use Rattle.shm_graph.specs.Agents.{acts};
 ghost use Rattle.shm_plain.specs.Pools.{memo_of};
 ghost use Rattle.step_cost.specs.Watching.{watch_ask};
 ghost use Rattle.step_cost.specs.Watched.{IsWatched, IsWatchedOn};
