@@ -36,3 +36,4 @@ pub mod OpEnd
 pub mod LoadKeeping
 pub mod StatusKeeping
 pub mod CallEventsOf
+pub mod SlotRead

@@ -2,12 +2,12 @@
 use Rattle.std.proofs.Common.{◌≡◌, ◌≢◌, ℕ, ◌<◌, refl, sym, ap, ◌∙◌, subst, arith, true, false, not, Bool, cond, eqb, ◌&&◌, List, [], ◌∷◌, ◌++◌, Option}
 use Rattle.std.specs.Prelude.{None, Some}
 use Rattle.std.specs.List.{list_any}
-use Rattle.std.proofs.lemmas.Bool.{eq-eqb, ne_eqb, eqb-true, and_parts, false≢true}
+use Rattle.std.proofs.lemmas.Bool.{eq-eqb, ne_eqb, eqb-true, and_parts, false≢true, true≢false}
 use Rattle.shm_words.specs.declared.geometry.Geometry.{Geometry}
 use Rattle.shm_graph.specs.declared.ask.Ask.TheVariants.{Load, Exchange}
 use Rattle.shm_graph.specs.declared.ask.Me.{Me}
 use Rattle.shm_graph.specs.declared.spot.Spot.{Spot}
-use Rattle.shm_graph.specs.declared.spot.Spot.TheVariants.{Hold, Home, Era, Tail, Front, Page}
+use Rattle.shm_graph.specs.declared.spot.Spot.TheVariants.{Hold, Home, Era, Tail, Front, Slot, Page, Head, Tag, Body}
 use Rattle.shm_graph.specs.declared.memo.Agent.{Agent}
 use Rattle.shm_graph.specs.declared.memo.Fact.TheVariants.{Counter, Class}
 use Rattle.shm_graph.specs.declared.memo.Memo.{Memo}
@@ -20,16 +20,19 @@ use Rattle.shm_graph.specs.Views.{view, at1}
 use Rattle.shm_graph.specs.Held.{HeldAt}
 use Rattle.shm_graph.specs.Ops.{IsUncommitted, cover_of, limbo_of}
 use Rattle.shm_graph.specs.Asks.{Trail}
-use Rattle.shm_graph.specs.Changes.{called, test_before, with_end, memo_on}
-use Rattle.shm_graph.specs.Readings.{read_on, row_read, home_read, is_held}
+use Rattle.shm_graph.specs.Changes.{called, test_before, with_call, with_end, memo_on}
+use Rattle.shm_graph.specs.Reach.{learnt}
+use Rattle.shm_graph.specs.Readings.{read_on, row_read, home_read, is_held, is_head_slot, valued}
+use Rattle.shm_graph.specs.Exchanges.{exchanged_on}
 use Rattle.shm_graph.specs.Agents.{recovers, last_agent, recovers_by, with_last, stepped}
 use Rattle.shm_graph.specs.Events.{graph_of, IsSame}
 use Rattle.shm_graph.specs.Laws.{MayEnd, Frame, framed, Stands, KeptAt}
 use Rattle.shm_graph.proofs.Lists.{at1_here}
-use Rattle.shm_graph.proofs.MemoParts.{same_part, op_set, looks_set}
+use Rattle.shm_graph.proofs.MemoParts.{op_set, looks_set, end_view}
 use Rattle.shm_graph.proofs.Calling.{called_held, called_part, fact_held}
 use Rattle.shm_graph.proofs.Loads.{choice, row_held, page_held}
 use Rattle.shm_graph.proofs.Looking.{home_held}
+use Rattle.shm_graph.proofs.SlotRead.{slot_held}
 use Rattle.shm_graph.proofs.OpEnd.{uncommitted_quiet, op_ended}
 use Rattle.shm_graph.proofs.SameGraph.{same_graph}
 use Rattle.shm_graph.proofs.Keeping.{fixed_kept}
@@ -49,7 +52,7 @@ held_by None a e = absurd (false≢true e)
 held_by (Some b) a e = ap Some (sym (eqb-true a b e))
 
 hold_held : (g : Geometry) (w : Spot → ℕ) (r : ℕ → Memo) (c : ℕ) (t : Step) (d : ℕ) → HeldAt g w (view r) → c < g.clients → MayEnd c (r c) (Hold d)
-    → HeldAt g w (view (at1 r c (read_on c (called (r c) t) (test_before (r c) t) (Hold d) (w (Hold d)))))
+    → HeldAt g w (view (at1 r c (read_on g c true (called (r c) t) (test_before (r c) t) (Hold d) (w (Hold d)))))
 hold_held g w r c t d h l u =
     let m : Memo = called (r c) t in
     let here = called_held g w r c t h l in
@@ -74,36 +77,33 @@ home_load g w r c t a h l =
     (λ e. here)
 
 era_load : (g : Geometry) (w : Spot → ℕ) (r : ℕ → Memo) (c : ℕ) (t : Step) (i j : ℕ) → HeldAt g w (view r) → c < g.clients
-    → HeldAt g w (view (at1 r c (read_on c (called (r c) t) (test_before (r c) t) (Era i j) (w (Era i j)))))
+    → HeldAt g w (view (at1 r c (read_on g c true (called (r c) t) (test_before (r c) t) (Era i j) (w (Era i j)))))
 era_load g w r c t i j h l =
     let m : Memo = called (r c) t in
     choice (λ (x : Memo). HeldAt g w (view (at1 r c x))) (eqb j c && not (eqb i c)) (row_read c m (test_before (r c) t) i (w (Era i j))) (record m { facts = Counter (Era i j) (w (Era i j)) ∷ m.facts })
     (λ e. subst (λ k. HeldAt g w (view (at1 r c (row_read c m (test_before (r c) t) i (w (Era i k)))))) (sym (eqb-true j c (and_parts (eqb j c) (not (eqb i c)) e).0)) (row_held g w r c t i h l))
     (λ e. fact_held g w r c t (Counter (Era i j) (w (Era i j))) None h l (omega arith) tt)
 
--- a word of the fixed part was read
-pub read_held : (g : Geometry) (w : Spot → ℕ) (r : ℕ → Memo) (c : ℕ) (t : Step) (p : Spot) → HeldAt g w (view r) → c < g.clients → MayEnd c (r c) p
-    → HeldAt g w (view (at1 r c (read_on c (called (r c) t) (test_before (r c) t) p (w p))))
-read_held g w r c t (Hold d) h l u = hold_held g w r c t d h l u
-read_held g w r c t (Home a) h l u = home_load g w r c t a h l
-read_held g w r c t (Era i j) h l u = era_load g w r c t i j h l
-read_held g w r c t (Tail s k) h l u = fact_held g w r c t (Counter (Tail s k) (w (Tail s k))) None h l (omega arith) tt
-read_held g w r c t (Front s k) h l u = fact_held g w r c t (Counter (Front s k) (w (Front s k))) None h l (omega arith) tt
-read_held g w r c t (Page s q) h l u = page_held g w r c t s q h l
-read_held g w r c t _ h l u = called_held g w r c t h l
+-- a word outside the bodies was read
+pub read_held : (g : Geometry) (w : Spot → ℕ) (r : ℕ → Memo) (c : ℕ) (t : Step) (load : Bool) (p : Spot) → HeldAt g w (view r) → c < g.clients → is_in_body p ≡ false → MayEnd c (r c) p
+    → HeldAt g w (view (at1 r c (read_on g c load (called (r c) t) (test_before (r c) t) p (w p))))
+read_held g w r c t load (Hold d) h l n u = hold_held g w r c t d h l u
+read_held g w r c t load (Home a) h l n u = home_load g w r c t a h l
+read_held g w r c t load (Era i j) h l n u = era_load g w r c t i j h l
+read_held g w r c t load (Tail s k) h l n u = fact_held g w r c t (Counter (Tail s k) (w (Tail s k))) None h l (omega arith) tt
+read_held g w r c t load (Front s k) h l n u = fact_held g w r c t (Counter (Front s k) (w (Front s k))) None h l (omega arith) tt
+read_held g w r c t load (Slot s i k) h l n u = slot_held g w r c t s i k h l
+read_held g w r c t load (Page s q) h l n u = page_held g w r c t s q h l
+read_held g w r c t load (Head b) h l n u = absurd (true≢false n)
+read_held g w r c t load (Tag b) h l n u = absurd (true≢false n)
+read_held g w r c t load (Body b i) h l n u = absurd (true≢false n)
+read_held g w r c t load _ h l n u = called_held g w r c t h l
 
 -- ---- what a machine owes
 
--- the end of an agent is no part of the view
-abbrev unended : Memo → Memo
-unended m = record m { agents = [] }
-
-pub end_view : (r : ℕ → Memo) (c : ℕ) (m : Memo) (ends : Bool) → view (at1 r c (with_end ends m)) ≡ view (at1 r c m)
-end_view r c m ends = ap view (same_part unended r c m (with_end ends m) refl)
-
 -- the step in progress is the same, or it was not committed and has ended
-pub read_op : (P : Op → Type 0) (c : ℕ) (r : Memo) (t : Step) (p : Spot) (seen : ℕ) → P r.op → (IsUncommitted r.op → P Nothing) → MayEnd c r p → P (read_on c (called r t) (test_before r t) p seen).op
-read_op P c r t p seen same none u = go p u
+pub read_op : (P : Op → Type 0) (g : Geometry) (c : ℕ) (r : Memo) (t : Step) (load : Bool) (p : Spot) (seen : ℕ) → P r.op → (IsUncommitted r.op → P Nothing) → is_in_body p ≡ false → MayEnd c r p → P (read_on g c load (called r t) (test_before r t) p seen).op
+read_op P g c r t load p seen same none n u = go p n u
   where
     m : Memo
     m = called r t
@@ -114,21 +114,32 @@ read_op P c r t p seen same none u = go p u
     o : P m.op
     o = subst P (sym (called_part (λ (x : Memo). x.op) r t refl refl)) same
 
-    go : (p : Spot) → MayEnd c r p → P (read_on c (called r t) (test_before r t) p seen).op
-    go (Hold d) u = choice Q (recovers m && eqb c d) (record m { op = Nothing }) m
+    go : (p : Spot) → is_in_body p ≡ false → MayEnd c r p → P (read_on g c load (called r t) (test_before r t) p seen).op
+    go (Hold d) n u = choice Q (recovers m && eqb c d) (record m { op = Nothing }) m
         (λ e. let q = and_parts (recovers m) (eqb c d) e in none (u (sym (last_stepped r.agents) ∙ q.0) (eqb-true c d q.1))) (λ e. o)
-    go (Home a) u = choice Q (is_held m.latch a && not (eqb seen 0)) (record m { looks = m.looks ++ record { block = seen; from = Home a } ∷ [] }) m (λ e. o) (λ e. o)
-    go (Era i j) u = choice Q (eqb j c && not (eqb i c)) (row_read c m (test_before r t) i seen) (record m { facts = Counter (Era i j) seen ∷ m.facts }) (λ e. o) (λ e. o)
-    go (Page s k) u = choice Q (eqb seen 0) (cond (list_any (eqb s) m.owned) (record m { zeros = Page s k ∷ m.zeros }) m) (record m { facts = Class s k seen ∷ m.facts })
+    go (Home a) n u = choice Q (is_held m.latch a && not (eqb seen 0)) (record m { looks = m.looks ++ record { block = seen; from = Home a } ∷ [] }) m (λ e. o) (λ e. o)
+    go (Era i j) n u = choice Q (eqb j c && not (eqb i c)) (row_read c m (test_before r t) i seen) (record m { facts = Counter (Era i j) seen ∷ m.facts }) (λ e. o) (λ e. o)
+    go (Slot s i k) n u = choice Q (is_head_slot c m s i k && not (eqb seen 0)) (record m { known = learnt (Slot s i k) seen m.known; values = valued m.part seen m.values }) m (λ e. o) (λ e. o)
+    go (Page s k) n u = choice Q (eqb seen 0) (cond (list_any (eqb s) m.owned) (record m { zeros = Page s k ∷ m.zeros }) m) (record m { facts = Class s k seen ∷ m.facts })
         (λ e. choice Q (list_any (eqb s) m.owned) (record m { zeros = Page s k ∷ m.zeros }) m (λ f. o) (λ f. o)) (λ e. o)
-    go _ u = o
+    go (Head b) n u = absurd (true≢false n)
+    go (Tag b) n u = absurd (true≢false n)
+    go (Body b i) n u = absurd (true≢false n)
+    go _ n u = o
 
-read_same : (g : Geometry) (w : Spot → ℕ) (r : ℕ → Memo) (c : ℕ) (t : Step) (p : Spot) → MayEnd c (r c) p → IsSame (graph_of g w (view r)) (graph_of g w (view (at1 r c (with_end t.ends (read_on c (called (r c) t) (test_before (r c) t) p (w p))))))
-read_same g w r c t p u =
-    same_graph g w w r c (with_end t.ends (read_on c (called (r c) t) (test_before (r c) t) p (w p)))
-    (read_op (λ o. cover_of o ≡ cover_of (r c).op) c (r c) t p (w p) refl (λ q. sym (uncommitted_quiet (r c).op q).0) u)
-    (read_op (λ o. limbo_of o ≡ limbo_of (r c).op) c (r c) t p (w p) refl (λ q. sym (uncommitted_quiet (r c).op q).1) u)
+-- the memo after the read
+abbrev read_memo : Geometry → ℕ → Memo → Step → Bool → Spot → ℕ → Memo
+read_memo g c r t load p seen = with_end t.ends (with_call (called r t) (read_on g c load (called r t) (test_before r t) p seen))
+
+read_same : (g : Geometry) (w : Spot → ℕ) (r : ℕ → Memo) (c : ℕ) (t : Step) (load : Bool) (p : Spot) → is_in_body p ≡ false → MayEnd c (r c) p → IsSame (graph_of g w (view r)) (graph_of g w (view (at1 r c (read_memo g c (r c) t load p (w p)))))
+read_same g w r c t load p n u =
+    same_graph g w w r c (read_memo g c (r c) t load p (w p))
+    (read_op (λ o. cover_of o ≡ cover_of (r c).op) g c (r c) t load p (w p) refl (λ q. sym (uncommitted_quiet (r c).op q).0) n u)
+    (read_op (λ o. limbo_of o ≡ limbo_of (r c).op) g c (r c) t load p (w p) refl (λ q. sym (uncommitted_quiet (r c).op q).1) n u)
     (λ b. refl) (λ b. refl) refl
+
+memo_held : (g : Geometry) (w : Spot → ℕ) (r : ℕ → Memo) (c : ℕ) (t : Step) (load : Bool) (p : Spot) → HeldAt g w (view r) → c < g.clients → is_in_body p ≡ false → MayEnd c (r c) p → HeldAt g w (view (at1 r c (read_memo g c (r c) t load p (w p))))
+memo_held g w r c t load p h l n u = subst (HeldAt g w) (sym (end_view r c (called (r c) t) (read_on g c load (called (r c) t) (test_before (r c) t) p (w p)) t.ends)) (read_held g w r c t load p h l n u)
 
 -- a word of the fixed part is loaded
 pub load_kept : (me : Me) (w : Spot → ℕ) (r : ℕ → Memo) (f : Frame) (tr : Trail) (at : ℕ) (after : ℕ → Memo → Type 0) (p : Spot) → Stands me w r f tr → spot_at me.geometry (classes w) at ≡ p → is_in_body p ≡ false → MayEnd me.who (r me.who) p
@@ -136,9 +147,7 @@ pub load_kept : (me : Me) (w : Spot → ℕ) (r : ℕ → Memo) (f : Frame) (tr 
     → KeptAt me w r (Load at) f after (spot_at me.geometry (classes w) at)
 load_kept me w r f tr at after p s e n u x =
     let t : Step = framed me (Load at) f (w p) in
-    fixed_kept me w r (Load at) f after p e n
-    (subst (HeldAt me.geometry w) (sym (end_view r me.who (read_on me.who (called (r me.who) t) (test_before (r me.who) t) p (w p)) f.ends)) (read_held me.geometry w r me.who t p s.held s.who u))
-    (read_same me.geometry w r me.who t p u) tt x
+    fixed_kept me w r (Load at) f after p e n (memo_held me.geometry w r me.who t true p s.held s.who n u) (read_same me.geometry w r me.who t true p n u) tt x
 
 -- an exchange of a word of the fixed part found another word
 pub lost_kept : (me : Me) (w : Spot → ℕ) (r : ℕ → Memo) (f : Frame) (tr : Trail) (at from to : ℕ) (after : ℕ → Memo → Type 0) (p : Spot) → Stands me w r f tr → spot_at me.geometry (classes w) at ≡ p → is_in_body p ≡ false → MayEnd me.who (r me.who) p → w p ≢ from
@@ -146,13 +155,12 @@ pub lost_kept : (me : Me) (w : Spot → ℕ) (r : ℕ → Memo) (f : Frame) (tr 
     → KeptAt me w r (Exchange at from to) f after (spot_at me.geometry (classes w) at)
 lost_kept me w r f tr at from to after p s e n u other x =
     let c = me.who in
+    let g = me.geometry in
     let t : Step = framed me (Exchange at from to) f (w p) in
     let lost : false ≡ eqb (w p) from = sym (ne_eqb (w p) from other) in
     let words : Bool → Spot → ℕ = λ b. cond b (upd w p to) w in
-    let memo : Bool → Memo = λ b. with_end f.ends (cond b (called (r c) t) (read_on c (called (r c) t) (test_before (r c) t) p (w p))) in
+    let memo : Bool → Memo = λ b. with_end f.ends (with_call (called (r c) t) (cond b (exchanged_on c (called (r c) t) p to) (read_on g c false (called (r c) t) (test_before (r c) t) p (w p)))) in
     fixed_kept me w r (Exchange at from to) f after p e n
-    (subst (λ b. HeldAt me.geometry (words b) (view (at1 r c (memo b)))) lost
-    (subst (HeldAt me.geometry w) (sym (end_view r c (read_on c (called (r c) t) (test_before (r c) t) p (w p)) f.ends)) (read_held me.geometry w r c t p s.held s.who u)))
-    (subst (λ b. IsSame (graph_of me.geometry w (view r)) (graph_of me.geometry (words b) (view (at1 r c (memo b))))) lost (read_same me.geometry w r c t p u))
-    (λ q. absurd (other q))
-    x
+    (subst (λ b. HeldAt g (words b) (view (at1 r c (memo b)))) lost (memo_held g w r c t false p s.held s.who n u))
+    (subst (λ b. IsSame (graph_of g w (view r)) (graph_of g (words b) (view (at1 r c (memo b))))) lost (read_same g w r c t false p n u))
+    (λ q. absurd (other q)) x

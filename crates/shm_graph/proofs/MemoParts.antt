@@ -1,26 +1,27 @@
 -- the parts of the memos once one memo has changed
-use Rattle.std.proofs.Common.{◌≡◌, ℕ, Bool, refl, sym, ap, ◌∙◌, eqb, List, Option, []}
+use Rattle.std.proofs.Common.{◌≡◌, ℕ, Bool, false, refl, sym, ap, ◌∙◌, eqb, List, Option, []}
 use Rattle.std.specs.Prelude.{slice_index, slice_index_or}
 use Rattle.std.proofs.Math.Path.{fun_ext}
 use Rattle.shm_graph.specs.declared.spot.Spot.{Spot}
 use Rattle.shm_graph.specs.declared.memo.Status.{Status}
 use Rattle.shm_graph.specs.declared.memo.Op.{Op}
+use Rattle.shm_graph.specs.declared.memo.Stored.{Stored}
 use Rattle.shm_graph.specs.declared.memo.Look.{Look}
+use Rattle.shm_graph.specs.declared.memo.Making.{Making}
 use Rattle.shm_graph.specs.declared.memo.Fact.{Fact}
 use Rattle.shm_graph.specs.declared.memo.Test.{Test}
 use Rattle.shm_graph.specs.declared.memo.Seen.{Seen}
 use Rattle.shm_graph.specs.declared.memo.Agent.{Agent}
 use Rattle.shm_graph.specs.declared.memo.Memo.{Memo}
+use Rattle.shm_graph.specs.declared.table.Part.{Part}
 use Rattle.shm_graph.specs.Views.{View, view, at1}
-use Rattle.shm_graph.proofs.Frames.{cond_same, cond_set, at1_same}
+use Rattle.shm_graph.specs.Changes.{with_end, with_call}
+use Rattle.shm_graph.proofs.Frames.{cond_same, at1_same, at1_twice}
+use Rattle.shm_graph.proofs.Lists.{at1_here, at1_part}
 
 -- a part in which the memos x and y of c agree
 pub same_part : {T : Type 0} (f : Memo → T) (r : ℕ → Memo) (c : ℕ) (x y : Memo) → f y ≡ f x → ◌≡◌ {A = ℕ → T} (λ d. f (at1 r c y d)) (λ d. f (at1 r c x d))
 same_part f r c x y e = fun_ext (λ d. cond_same f (eqb c d) x y (r d) e)
-
--- a part that the memo y of c has new
-pub new_part : {T : Type 0} (f : Memo → T) (r : ℕ → Memo) (c : ℕ) (x y : Memo) (n : T) → f y ≡ n → ◌≡◌ {A = ℕ → T} (λ d. f (at1 r c y d)) (at1 (λ d. f (at1 r c x d)) c n)
-new_part f r c x y n e = fun_ext (λ d. cond_set f (eqb c d) x y (r d) n e)
 
 -- a part that the memo m has as c's memo had it
 pub part_stays : {T : Type 0} (f : Memo → T) (r : ℕ → Memo) (c : ℕ) (m : Memo) → f m ≡ f (r c) → ◌≡◌ {A = ℕ → T} (λ d. f (at1 r c m d)) (λ d. f (r d))
@@ -159,25 +160,25 @@ put_memo : (r : ℕ → Memo) (c : ℕ) (m : Memo) → view (at1 r c m) ≡ put_
 put_memo r c m =
     λ i.
     record {
-      status = at1_part (λ (x : Memo). (parts x).status) r c m i;
-      own = at1_part (λ (x : Memo). (parts x).own) r c m i;
-      op = at1_part (λ (x : Memo). (parts x).op) r c m i;
-      latch = at1_part (λ (x : Memo). (parts x).latch) r c m i;
-      looks = at1_part (λ (x : Memo). (parts x).looks) r c m i;
-      making = at1_part (λ (x : Memo). (parts x).making) r c m i;
-      owned = at1_part (λ (x : Memo). (parts x).owned) r c m i;
-      dying = at1_part (λ (x : Memo). (parts x).dying) r c m i;
-      sent = at1_part (λ (x : Memo). (parts x).sent) r c m i;
-      unsent = at1_part (λ (x : Memo). (parts x).unsent) r c m i;
-      received = at1_part (λ (x : Memo). (parts x).received) r c m i;
-      untaken = at1_part (λ (x : Memo). (parts x).untaken) r c m i;
-      facts = at1_part (λ (x : Memo). (parts x).facts) r c m i;
-      zeros = at1_part (λ (x : Memo). (parts x).zeros) r c m i;
-      test = at1_part (λ (x : Memo). (parts x).test) r c m i;
-      known = at1_part (λ (x : Memo). (parts x).known) r c m i;
-      part = at1_part (λ (x : Memo). (parts x).part) r c m i;
-      values = at1_part (λ (x : Memo). (parts x).values) r c m i;
-      made = at1_part (λ (x : Memo). (parts x).made) r c m i;
+      status = fun_ext (at1_part (λ (x : Memo). (parts x).status) r c m) i;
+      own = fun_ext (at1_part (λ (x : Memo). (parts x).own) r c m) i;
+      op = fun_ext (at1_part (λ (x : Memo). (parts x).op) r c m) i;
+      latch = fun_ext (at1_part (λ (x : Memo). (parts x).latch) r c m) i;
+      looks = fun_ext (at1_part (λ (x : Memo). (parts x).looks) r c m) i;
+      making = fun_ext (at1_part (λ (x : Memo). (parts x).making) r c m) i;
+      owned = fun_ext (at1_part (λ (x : Memo). (parts x).owned) r c m) i;
+      dying = fun_ext (at1_part (λ (x : Memo). (parts x).dying) r c m) i;
+      sent = fun_ext (at1_part (λ (x : Memo). (parts x).sent) r c m) i;
+      unsent = fun_ext (at1_part (λ (x : Memo). (parts x).unsent) r c m) i;
+      received = fun_ext (at1_part (λ (x : Memo). (parts x).received) r c m) i;
+      untaken = fun_ext (at1_part (λ (x : Memo). (parts x).untaken) r c m) i;
+      facts = fun_ext (at1_part (λ (x : Memo). (parts x).facts) r c m) i;
+      zeros = fun_ext (at1_part (λ (x : Memo). (parts x).zeros) r c m) i;
+      test = fun_ext (at1_part (λ (x : Memo). (parts x).test) r c m) i;
+      known = fun_ext (at1_part (λ (x : Memo). (parts x).known) r c m) i;
+      part = fun_ext (at1_part (λ (x : Memo). (parts x).part) r c m) i;
+      values = fun_ext (at1_part (λ (x : Memo). (parts x).values) r c m) i;
+      made = fun_ext (at1_part (λ (x : Memo). (parts x).made) r c m) i;
     }
 
 -- the memo m of c changes by F, which changes its parts by f

@@ -21,53 +21,13 @@ use Rattle.shm_graph.specs.Stores.{stored_on}
 use Rattle.shm_graph.specs.Changes.{called, test_before, changed_by, memo_on}
 use Rattle.shm_graph.specs.Runs.{fell_by}
 
-either_is : (P : Memo → Type 0) (b : Bool) (x y : Memo) → P x → P y → P (cond b x y)
-either_is P true x y p q = p
-either_is P false x y p q = q
-
--- ---- reads
-
--- the parts that no read changes
-abbrev pub unread : Memo → Memo
-unread m = record m { op = Nothing; looks = []; facts = []; zeros = []; test = None }
-
-pub read_rest : (c : ℕ) (m : Memo) (test : Option Test) (p : Spot) (seen : ℕ) → unread (read_on c m test p seen) ≡ unread m
-read_rest c m test (Hold d) seen = either_is (λ x. unread x ≡ unread m) _ _ _ refl refl
-read_rest c m test (Home a) seen = either_is (λ x. unread x ≡ unread m) _ _ _ refl refl
-read_rest c m test (Era i j) seen = either_is (λ x. unread x ≡ unread m) _ _ _ refl refl
-read_rest c m test (Tail s r) seen = refl
-read_rest c m test (Front s r) seen = refl
-read_rest c m test (Page s q) seen = either_is (λ x. unread x ≡ unread m) _ _ _ (either_is (λ x. unread x ≡ unread m) _ _ _ refl refl) refl
-read_rest c m test _ seen = refl
-
 -- ---- the call
 
--- the parts that no store changes
-abbrev pub unstored : Memo → Memo
-unstored m = record m { status = New; making = None; values = []; known = [] }
-
-status_rest : (m : Memo) (v : ℕ) → unstored (with_status m v) ≡ unstored m
-status_rest m v = either_is (λ x. unstored x ≡ unstored m) _ _ _ refl refl
-
-pub stored_rest : (m : Memo) (p : Spot) (v : ℕ) → unstored (stored_on m p v) ≡ unstored m
-stored_rest m (Status d) v = status_rest m v
-stored_rest m _ v = refl
-
 pub memo_call : (m : Memo) (t : Step) (p : Spot) → (memo_on m t p).call ≡ call_after t.fresh m.call t.ask t.seen
-memo_call m t p = go t.ask
-  where
-    go : (a : Ask) → (changed_by m t p a).call ≡ call_after t.fresh m.call t.ask t.seen
-    go (Load at) = ap (λ (x : Memo). x.call) (read_rest t.me.who (called m t) (test_before m t) p t.seen)
-    go (Store at v) = ap (λ (x : Memo). x.call) (stored_rest (called m t) p v)
-    go (Exchange at from to) = either_is (λ x. x.call ≡ (called m t).call) _ _ _ refl (ap (λ (x : Memo). x.call) (read_rest t.me.who (called m t) (test_before m t) p t.seen))
+memo_call m t p = refl
 
 pub memo_over : (m : Memo) (t : Step) (p : Spot) → (memo_on m t p).over ≡ t.ends
-memo_over m t p = go t.ask
-  where
-    go : (a : Ask) → (changed_by m t p a).over ≡ t.ends
-    go (Load at) = ap (λ (x : Memo). x.over) (read_rest t.me.who (called m t) (test_before m t) p t.seen)
-    go (Store at v) = ap (λ (x : Memo). x.over) (stored_rest (called m t) p v)
-    go (Exchange at from to) = either_is (λ x. x.over ≡ (called m t).over) _ _ _ refl (ap (λ (x : Memo). x.over) (read_rest t.me.who (called m t) (test_before m t) p t.seen))
+memo_over m t p = refl
 
 -- ---- the agents
 
@@ -80,12 +40,7 @@ abbrev pub ends_agent : Memo → Step → Spot → Bool
 ends_agent m t p = is_gone (memo_on m t p).status && t.ends
 
 pub memo_agents : (m : Memo) (t : Step) (p : Spot) → (memo_on m t p).agents ≡ agents_after (ends_agent m t p) m.agents
-memo_agents m t p = ap (λ xs. cond (ends_agent m t p) (with_last ended xs) xs) (go t.ask)
-  where
-    go : (a : Ask) → (changed_by m t p a).agents ≡ with_last stepped m.agents
-    go (Load at) = ap (λ (x : Memo). x.agents) (read_rest t.me.who (called m t) (test_before m t) p t.seen)
-    go (Store at v) = ap (λ (x : Memo). x.agents) (stored_rest (called m t) p v)
-    go (Exchange at from to) = either_is (λ x. x.agents ≡ (called m t).agents) _ _ _ refl (ap (λ (x : Memo). x.agents) (read_rest t.me.who (called m t) (test_before m t) p t.seen))
+memo_agents m t p = refl
 
 -- the last of changed agents
 abbrev pub with_some : (Agent → Agent) → Option Agent → Option Agent

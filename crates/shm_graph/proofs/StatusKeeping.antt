@@ -1,5 +1,5 @@
 -- the stores of the statuses dead and gone, as machines use them
-use Rattle.std.proofs.Common.{◌≡◌, ◌<◌, ℕ, refl, sym, subst, List, [], Option}
+use Rattle.std.proofs.Common.{◌≡◌, ◌<◌, ℕ, refl, sym, ap, ◌∙◌, subst, List, [], Option}
 use Rattle.std.specs.Prelude.{slice_index, slice_index_or, None}
 use Rattle.std.specs.List.{All}
 use Rattle.std.proofs.lemmas.List.Elements.{All-nil}
@@ -24,7 +24,7 @@ use Rattle.shm_graph.specs.Ops.{cover_of, limbo_of}
 use Rattle.shm_graph.specs.Laws.{Frame, framed, Stands, KeptAt, GoneNow}
 use Rattle.shm_graph.proofs.Frames.{at1_all}
 use Rattle.shm_graph.proofs.Lists.{at1_here}
-use Rattle.shm_graph.proofs.MemoParts.{same_part, new_part, status_set}
+use Rattle.shm_graph.proofs.MemoParts.{changed_view, put_same, status_set}
 use Rattle.shm_graph.proofs.Calling.{called_held, called_part, called_by}
 use Rattle.shm_graph.proofs.StatusStore.{status_held}
 use Rattle.shm_graph.proofs.SameGraph.{same_graph}
@@ -38,30 +38,8 @@ abbrev forgets_view : View → ℕ → View
 forgets_view v c = record v { making = at1 v.making c None; known = at1 v.known c []; values = at1 v.values c [] }
 
 forgets_set : (r : ℕ → Memo) (c : ℕ) (m : Memo) → ◌≡◌ {A = View} (view (at1 r c (forgets m))) (forgets_view (view (at1 r c m)) c)
-forgets_set r c m =
-    let y : Memo = forgets m in
-    λ i.
-    record {
-      status = same_part (λ (x : Memo). x.status) r c m y refl i;
-      own = same_part (λ (x : Memo). x.own) r c m y refl i;
-      op = same_part (λ (x : Memo). x.op) r c m y refl i;
-      latch = same_part (λ (x : Memo). x.latch) r c m y refl i;
-      looks = same_part (λ (x : Memo). x.looks) r c m y refl i;
-      making = new_part (λ (x : Memo). x.making) r c m y None refl i;
-      owned = same_part (λ (x : Memo). x.owned) r c m y refl i;
-      dying = same_part (λ (x : Memo). x.dying) r c m y refl i;
-      sent = same_part (λ (x : Memo) i. slice_index_or x.sent i []) r c m y refl i;
-      unsent = same_part (λ (x : Memo) i. slice_index x.unsent i) r c m y refl i;
-      received = same_part (λ (x : Memo) i. slice_index_or x.received i []) r c m y refl i;
-      untaken = same_part (λ (x : Memo) i. slice_index x.untaken i) r c m y refl i;
-      facts = same_part (λ (x : Memo). x.facts) r c m y refl i;
-      zeros = same_part (λ (x : Memo). x.zeros) r c m y refl i;
-      test = same_part (λ (x : Memo). x.test) r c m y refl i;
-      known = new_part (λ (x : Memo). x.known) r c m y [] refl i;
-      part = same_part (λ (x : Memo). x.part) r c m y refl i;
-      values = new_part (λ (x : Memo). x.values) r c m y [] refl i;
-      made = same_part (λ (x : Memo). x.made) r c m y refl i;
-    }
+forgets_set r c m = let v : View = view (at1 r c m) in
+    changed_view r c m forgets (λ x. record x { making = None; known = []; values = [] }) (λ x. refl) ∙ ap (λ (u : View). record u { making = at1 v.making c None; known = at1 v.known c []; values = at1 v.values c [] }) (put_same v c)
 
 forgets_held : (g : Geometry) (w : Spot → ℕ) (v : View) (c : ℕ) → HeldAt g w v → HeldAt g w (forgets_view v c)
 forgets_held g w v c h =

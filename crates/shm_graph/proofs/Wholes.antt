@@ -13,7 +13,7 @@ use Rattle.shm_graph.specs.declared.run.Move.TheVariants.{Word}
 use Rattle.shm_graph.specs.Spots.{spot_at, classes_in, see}
 use Rattle.shm_graph.specs.Views.{at1, view}
 use Rattle.shm_graph.specs.Asks.{Trail, at_of, seen_of, pair, call_before, words_after, words_set}
-use Rattle.shm_graph.specs.Changes.{memo_on, memo_after}
+use Rattle.shm_graph.specs.Changes.{memo_on, memo_after, asked_spot}
 use Rattle.shm_graph.specs.Events.{Event}
 use Rattle.shm_graph.specs.Laws as part
 use Rattle.shm_graph.specs.Laws.{Control, Laws, Frame, Outcome, Then, Stands, Stepped, KeptAt, frame_of, framed, step_of, event_on}
@@ -83,7 +83,7 @@ module _ {S A : Type 0} (k : Control S A) (fits : S → Memo → Memo → Trail 
       let tr : Trail = call_before (k.fresh m) r.call in
       let t : Step = step_of k m n in
       let r' : Memo = memo_after r t in
-      let calls : r'.call ≡ tr ++ pair (k.asks m) n ∷ [] = memo_call r t _ in
+      let calls : r'.call ≡ tr ++ pair (k.asks m) n ∷ [] = memo_call r t (asked_spot r t) in
       let x = turned_by ws es t (Then k fits gives m r0 tr n) h l (whole_inside m r0 r l fit going) (kept_step m ws es r0 h l fit going) in
       record {
         turned = x.0;
