@@ -1,5 +1,5 @@
 -- the laws of the kinds of word step at spots of no body, as machines use them
-use Rattle.std.proofs.Common.{◌≡◌, ℕ, refl, sym, ap, ◌∙◌, true, false, subst}
+use Rattle.std.proofs.Common.{◌≡◌, ℕ, refl, sym, ap, ◌∙◌, false, subst}
 use Rattle.shm_words.specs.declared.geometry.Geometry.{Geometry}
 use Rattle.std.proofs.lemmas.Bool.{true≢false}
 use Rattle.shm_graph.specs.declared.ask.Ask.{Ask}

@@ -37,3 +37,5 @@ pub mod LoadKeeping
 pub mod StatusKeeping
 pub mod CallEventsOf
 pub mod SlotRead
+pub mod KindKeeping
+pub mod BodyTold

@@ -7,7 +7,7 @@ use Rattle.shm_words.specs.declared.geometry.Geometry.{Geometry}
 use Rattle.shm_graph.specs.declared.ask.Ask.TheVariants.{Load, Exchange}
 use Rattle.shm_graph.specs.declared.ask.Me.{Me}
 use Rattle.shm_graph.specs.declared.spot.Spot.{Spot}
-use Rattle.shm_graph.specs.declared.spot.Spot.TheVariants.{Hold, Home, Era, Tail, Front, Slot, Page, Head, Tag, Body}
+use Rattle.shm_graph.specs.declared.spot.Spot.TheVariants.{Hold, Home, Era, Tail, Front, Page, Head, Tag, Body}
 use Rattle.shm_graph.specs.declared.memo.Agent.{Agent}
 use Rattle.shm_graph.specs.declared.memo.Fact.TheVariants.{Counter, Class}
 use Rattle.shm_graph.specs.declared.memo.Memo.{Memo}
@@ -22,7 +22,8 @@ use Rattle.shm_graph.specs.Ops.{IsUncommitted, cover_of, limbo_of}
 use Rattle.shm_graph.specs.Asks.{Trail}
 use Rattle.shm_graph.specs.Changes.{called, test_before, with_call, with_end, memo_on}
 use Rattle.shm_graph.specs.Reach.{learnt}
-use Rattle.shm_graph.specs.Readings.{read_on, row_read, home_read, is_held, is_head_slot, valued}
+use Rattle.shm_graph.proofs.SlotRead.{slot_held}
+use Rattle.shm_graph.specs.Readings.{is_head_slot, valued, read_on, row_read, home_read, is_held}
 use Rattle.shm_graph.specs.Exchanges.{exchanged_on}
 use Rattle.shm_graph.specs.Agents.{recovers, last_agent, recovers_by, with_last, stepped}
 use Rattle.shm_graph.specs.Events.{graph_of, IsSame}
@@ -32,7 +33,6 @@ use Rattle.shm_graph.proofs.MemoParts.{op_set, looks_set, end_view}
 use Rattle.shm_graph.proofs.Calling.{called_held, called_part, fact_held}
 use Rattle.shm_graph.proofs.Loads.{choice, row_held, page_held}
 use Rattle.shm_graph.proofs.Looking.{home_held}
-use Rattle.shm_graph.proofs.SlotRead.{slot_held}
 use Rattle.shm_graph.proofs.OpEnd.{uncommitted_quiet, op_ended}
 use Rattle.shm_graph.proofs.SameGraph.{same_graph}
 use Rattle.shm_graph.proofs.Keeping.{fixed_kept}

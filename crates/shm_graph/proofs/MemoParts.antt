@@ -156,7 +156,7 @@ put_same v c =
     }
 
 -- one memo is another one
-put_memo : (r : ℕ → Memo) (c : ℕ) (m : Memo) → view (at1 r c m) ≡ put_parts (view r) c (parts m)
+pub put_memo : (r : ℕ → Memo) (c : ℕ) (m : Memo) → view (at1 r c m) ≡ put_parts (view r) c (parts m)
 put_memo r c m =
     λ i.
     record {

@@ -1,24 +1,17 @@
 -- what a word step, a death and a beginning leave of a memo's call and of its agents
-use Rattle.std.proofs.Common.{◌≡◌, ◌≢◌, ℕ, ◌++◌, ◌∷◌, [], refl, sym, ap, ◌∙◌, true, false, Bool, cond, ◌&&◌, List}
+use Rattle.std.proofs.Common.{◌≡◌, ◌≢◌, ◌++◌, ◌∷◌, [], refl, sym, ap, ◌∙◌, true, false, Bool, cond, ◌&&◌, List}
 use Rattle.std.specs.Prelude.{Option, Some, None}
 use Rattle.std.proofs.lemmas.Bool.{true≢false}
 use Rattle.shm_graph.specs.declared.spot.Spot.{Spot}
-use Rattle.shm_graph.specs.declared.spot.Spot.TheVariants.{Status, Hold, Home, Era, Tail, Front, Page}
-use Rattle.shm_graph.specs.declared.ask.Ask.{Ask}
-use Rattle.shm_graph.specs.declared.ask.Ask.TheVariants.{Load, Store, Exchange}
-use Rattle.shm_graph.specs.declared.memo.Op.TheVariants.{Nothing}
 use Rattle.shm_graph.specs.declared.memo.Status.{Status as AStatus}
-use Rattle.shm_graph.specs.declared.memo.Status.TheVariants.{New, Gone}
+use Rattle.shm_graph.specs.declared.memo.Status.TheVariants.{Gone}
 use Rattle.shm_graph.specs.declared.memo.Agent.{Agent}
 use Rattle.shm_graph.specs.declared.memo.Kind.{Kind}
 use Rattle.shm_graph.specs.declared.memo.Memo.{Memo}
 use Rattle.shm_graph.specs.declared.memo.Step.{Step}
-use Rattle.shm_graph.specs.declared.memo.Test.{Test}
 use Rattle.shm_graph.specs.Asks.{call_after}
-use Rattle.shm_graph.specs.Agents.{last_agent, with_last, acts_by, acts, recovers_by, recovers, is_recoverer, stepped, ended, fallen, died, entered, is_gone, with_status}
-use Rattle.shm_graph.specs.Readings.{read_on}
-use Rattle.shm_graph.specs.Stores.{stored_on}
-use Rattle.shm_graph.specs.Changes.{called, test_before, changed_by, memo_on}
+use Rattle.shm_graph.specs.Agents.{last_agent, with_last, acts_by, acts, recovers_by, recovers, is_recoverer, stepped, ended, fallen, died, entered, is_gone}
+use Rattle.shm_graph.specs.Changes.{memo_on}
 use Rattle.shm_graph.specs.Runs.{fell_by}
 
 -- ---- the call

@@ -1,6 +1,6 @@
 -- the stores of the statuses dead and gone, as machines use them
 use Rattle.std.proofs.Common.{◌≡◌, ◌<◌, ℕ, refl, sym, ap, ◌∙◌, subst, List, [], Option}
-use Rattle.std.specs.Prelude.{slice_index, slice_index_or, None}
+use Rattle.std.specs.Prelude.{None}
 use Rattle.std.specs.List.{All}
 use Rattle.std.proofs.lemmas.List.Elements.{All-nil}
 use Rattle.shm_words.specs.declared.geometry.Geometry.{Geometry}

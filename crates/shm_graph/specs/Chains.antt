@@ -1,5 +1,5 @@
 -- the partition that a memo has, once a count step has changed one reference
-use Rattle.std.specs.Prelude.{ℕ, ◌%◌, zero, suc, ◌==◌, if◌then◌else◌, List, [], ◌∷◌, map, replicate, Option, Some, None}
+use Rattle.std.specs.Prelude.{ℕ, zero, suc, ◌==◌, if◌then◌else◌, List, [], ◌∷◌, map, replicate, Option, Some, None}
 use Rattle.shm_graph.specs.declared.spot.Spot.{Spot}
 use Rattle.shm_graph.specs.declared.spot.Spot.TheVariants.{Home, Body}
 use Rattle.shm_graph.specs.declared.table.Entry.{Entry}

@@ -1,5 +1,5 @@
 -- the memo's change by a word step of its identity: a function of the memo and the step
-use Rattle.std.specs.Prelude.{ℕ, Bool, ◌&&◌, ◌==◌, true, false, if◌then◌else◌, Option, None, []}
+use Rattle.std.specs.Prelude.{Bool, ◌&&◌, ◌==◌, true, false, if◌then◌else◌, Option, None, []}
 use Rattle.shm_graph.specs.declared.spot.Spot.{Spot}
 use Rattle.shm_graph.specs.declared.ask.Ask.{Ask}
 use Rattle.shm_graph.specs.declared.ask.Ask.TheVariants.{Load, Store, Exchange}

@@ -1,5 +1,5 @@
 -- what an exchange that succeeds leaves in the memo of its identity
-use Rattle.std.specs.Prelude.{ℕ, Bool, true, false, not, ◌&&◌, ◌==◌, if◌then◌else◌, Option, Some, None, List, [], ◌∷◌, ◌++◌}
+use Rattle.std.specs.Prelude.{ℕ, ◌&&◌, ◌==◌, if◌then◌else◌, Option, Some, None, List, [], ◌∷◌, ◌++◌}
 use Rattle.std.specs.List.{filter}
 use Rattle.shm_words.specs.Headers.{header_of}
 use Rattle.shm_words.specs.Tags.{tag_refs, tag_plain}
@@ -9,7 +9,7 @@ use Rattle.shm_graph.specs.declared.memo.First.TheVariants.{Begun, Committed}
 use Rattle.shm_graph.specs.declared.memo.Second.TheVariants.{Open, Closed}
 use Rattle.shm_graph.specs.declared.memo.Half.TheVariants.{Raising, Lowering}
 use Rattle.shm_graph.specs.declared.memo.Op.{Op}
-use Rattle.shm_graph.specs.declared.memo.Op.TheVariants.{Nothing, Alloc, Up, Down, Change}
+use Rattle.shm_graph.specs.declared.memo.Op.TheVariants.{Alloc, Up, Down, Change}
 use Rattle.shm_graph.specs.declared.memo.Stored.{Stored}
 use Rattle.shm_graph.specs.declared.memo.Making.{Making}
 use Rattle.shm_graph.specs.declared.memo.Memo.{Memo}

@@ -1,5 +1,5 @@
 -- what a memo shows of reach: which blocks its identity names, and what stays of looks and of known words
-use Rattle.std.specs.Prelude.{◌≡◌, ℕ, zero, suc, Bool, true, false, not, ◌&&◌, ◌||◌, ◌==◌, nat_le, if◌then◌else◌, eqb, List, [], ◌∷◌, ◌++◌, map, Option, Some, None}
+use Rattle.std.specs.Prelude.{ℕ, zero, suc, Bool, true, not, ◌&&◌, ◌||◌, ◌==◌, nat_le, if◌then◌else◌, eqb, List, [], ◌∷◌, ◌++◌, map, Option, Some, None}
 use Rattle.std.specs.List.{filter, list_any}
 use Rattle.shm_words.specs.Tags.{tag_refs, tag_author}
 use Rattle.shm_graph.specs.declared.spot.Spot.{Spot}

@@ -14,7 +14,7 @@ use Rattle.shm_graph.specs.declared.memo.Fact.TheVariants.{Header as HeaderRead,
 use Rattle.shm_graph.specs.declared.memo.Test.{Test}
 use Rattle.shm_graph.specs.declared.memo.Memo.{Memo}
 use Rattle.shm_graph.specs.declared.table.Part.{Part}
-use Rattle.shm_graph.specs.Spots.{same_spot, segment_of}
+use Rattle.shm_graph.specs.Spots.{segment_of}
 use Rattle.shm_graph.specs.Views.{own_word}
 use Rattle.shm_graph.specs.Held.{is_loose}
 use Rattle.shm_graph.specs.Agents.{recovers}

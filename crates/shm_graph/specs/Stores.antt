@@ -1,5 +1,5 @@
 -- what a store leaves in the memo of its identity
-use Rattle.std.specs.Prelude.{ℕ, zero, suc, ◌+◌, ◌-◌, ◌/◌, ◌%◌, Bool, true, false, not, ◌&&◌, ◌==◌, if◌then◌else◌, eqb, slice_index, slice_index_or, Option, Some, None, List, [], ◌∷◌, ◌++◌}
+use Rattle.std.specs.Prelude.{ℕ, zero, suc, ◌-◌, ◌/◌, ◌%◌, Bool, true, false, not, ◌&&◌, ◌==◌, if◌then◌else◌, slice_index, slice_index_or, Option, Some, None, List, [], ◌∷◌, ◌++◌}
 use Rattle.std.specs.List.{filter}
 use Rattle.shm_words.specs.declared.geometry.Geometry.{Geometry}
 use Rattle.shm_words.specs.declared.redo.Redo.{Redo as ARedo}
@@ -9,8 +9,8 @@ use Rattle.shm_words.specs.Layout as layout
 use Rattle.shm_graph.specs.declared.spot.Spot.{Spot}
 use Rattle.shm_graph.specs.declared.spot.Spot.TheVariants.{Status, Redo, Hold, Latch, Home, Era, Root, Tail, Front, Slot, Segment, Page, Head, Tag, Body}
 use Rattle.shm_graph.specs.declared.memo.First.{First}
-use Rattle.shm_graph.specs.declared.memo.First.TheVariants.{Begun, Committed, Written}
-use Rattle.shm_graph.specs.declared.memo.Second.TheVariants.{Open, Closed}
+use Rattle.shm_graph.specs.declared.memo.First.TheVariants.{Begun, Written}
+use Rattle.shm_graph.specs.declared.memo.Second.TheVariants.{Open}
 use Rattle.shm_graph.specs.declared.memo.Half.TheVariants.{Raising, Lowering}
 use Rattle.shm_graph.specs.declared.memo.Op.{Op}
 use Rattle.shm_graph.specs.declared.memo.Op.TheVariants.{Nothing, Alloc, Up, Down, Change}
@@ -23,7 +23,7 @@ use Rattle.shm_graph.specs.Spots.{same_spot, segment_of}
 use Rattle.shm_graph.specs.Ops.{slot_of, is_op}
 use Rattle.shm_graph.specs.Views.{own_word}
 use Rattle.shm_graph.specs.Agents.{with_status}
-use Rattle.shm_graph.specs.Reach.{not_at, learnt, is_dying, sifted, unlatched}
+use Rattle.shm_graph.specs.Reach.{learnt, is_dying, sifted, unlatched}
 use Rattle.shm_graph.specs.Telling.{word_told}
 
 -- ---- own words

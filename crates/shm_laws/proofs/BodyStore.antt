@@ -25,7 +25,8 @@ use Rattle.shm_laws.proofs.Keep.{All-kept, live_word}
 use Rattle.shm_laws.proofs.Owns.{mine_other, small_stored, there_stored}
 use Rattle.shm_laws.proofs.References.{part_stored, values_kept, queued_kept}
 use Rattle.shm_laws.proofs.Writing.{at_slot, mine_at, on_same, limbo_same, own_same, allowed_same, tails_same, slots_same, ops_same, targets_same}
-use Rattle.shm_laws.specs.Steps.{BodyStep, body_view, not_spot}
+use Rattle.shm_laws.specs.Steps.{BodyStep, body_view}
+use Rattle.shm_graph.specs.Reach.{not_at}
 
 pub body_kept : (g : Geometry) (w : Spot → ℕ) (v : View) (c b i x : ℕ) (o : Op) → HeldAt g w v → BodyStep g v c b i x o → HeldAt g (upd w (Body b i) x) (body_view v c b i x o)
 body_kept g w v c b i x o h a =
@@ -53,8 +54,8 @@ body_kept g w v c b i x o h a =
       looks = subst (λ (t : Spot → ℕ). (d : ℕ) → d < g.clients → LooksSound (λ a. t (Home a)) (λ b i. t (Body b i)) (λ b. tag_author (w (Tag b))) (v.latch d) (named_by t tail front d) [] (v.looks d)) (sym path) h.looks;
       lanes = subst (λ (t : Spot → ℕ). (i j : ℕ) → i < g.clients → j < g.clients → i ≢ j → LaneSound (λ k. t (Slot i j k)) (tail i j) (front i j) (v.sent i j) (v.unsent i j) (v.received j i) (v.untaken j i)) (sym path) h.lanes;
       known = subst (λ (t : Spot → ℕ). (d : ℕ) → d < g.clients → All (λ (s : Stored). KnownAt d tags bodies' slot tail front (v.untaken d) (v.latch d) (reach_of t tail front v.looks d) (v.dying d) s.spot s.value) (v'.known d)) (sym path)
-          (λ d. at1_all (λ (j : ℕ) (y : List Stored). j < g.clients → All (Known j) y) v.known c (record { spot = Body b i; value = x } ∷ filter (not_spot (Body b i)) (v.known c)) d
-          (λ l. All-cons (Known c) (record { spot = Body b i; value = x }) (filter (not_spot (Body b i)) (v.known c)) (new_known mine) (All-kept (Old c) (Known c) (not_spot (Body b i)) (λ s. known_own s.spot s.value) (v.known c) (h.known c l)))
+          (λ d. at1_all (λ (j : ℕ) (y : List Stored). j < g.clients → All (Known j) y) v.known c (record { spot = Body b i; value = x } ∷ filter (not_at (Body b i)) (v.known c)) d
+          (λ l. All-cons (Known c) (record { spot = Body b i; value = x }) (filter (not_at (Body b i)) (v.known c)) (new_known mine) (All-kept (Old c) (Known c) (not_at (Body b i)) (λ s. known_own s.spot s.value) (v.known c) (h.known c l)))
           (λ n l. All-weaker (Old d) (Known d) (λ s. known_other d n l s.spot s.value) (v.known d) (h.known d l)));
       facts = subst (λ (on : ℕ → Option ℕ). (d : ℕ) → d < g.clients → All (FactAt g.clients eras on tail front class) (v.facts d)) (sym on) h.facts;
       zeros = h.zeros;

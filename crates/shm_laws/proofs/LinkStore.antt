@@ -19,7 +19,7 @@ use Rattle.shm_graph.proofs.Frames.{at1_all, at1_same}
 use Rattle.shm_laws.proofs.Keep.{All-kept, live_word}
 use Rattle.shm_laws.proofs.BlockWords.{with_blocks, blocks_view, BlocksMay, Old, New, pair_kept, blocks_kept, blocks_quiet}
 use Rattle.shm_laws.specs.Preparing.{LinkStep, link_view}
-use Rattle.shm_laws.specs.Steps.{not_spot}
+use Rattle.shm_graph.specs.Reach.{not_at}
 
 module _ (g : Geometry) (w : Spot → ℕ) (v : View) (c b x : ℕ) (h : HeldAt g w v) (a : LinkStep g w v c b x) where
   abbrev tags : ℕ → ℕ
@@ -33,7 +33,7 @@ module _ (g : Geometry) (w : Spot → ℕ) (v : View) (c b x : ℕ) (h : HeldAt 
   tag = at1 tags b x
 
   abbrev kept : List Stored
-  kept = record { spot = Tag b; value = x } ∷ filter (not_spot (Tag b)) (v.known c)
+  kept = record { spot = Tag b; value = x } ∷ filter (not_at (Tag b)) (v.known c)
 
   dying : IsDying (header_of (w (Head b))) c
   dying = (h.dying c a.inside).listed b a.dying
@@ -72,8 +72,8 @@ module _ (g : Geometry) (w : Spot → ℕ) (v : View) (c b x : ℕ) (h : HeldAt 
   pairs p z q k = pair_kept g w v c tag bodies h may c a.inside p z (λ e u _. at1_other tags b x e (λ y. true≢false (sym q ∙ ap not (ap (same_spot (Tag b)) u ∙ eq-eqb b e y)))) k
 
   knows : All (λ (s : Stored). New g w v c tag bodies h may c s.spot s.value) kept
-  knows = All-cons (λ (s : Stored). New g w v c tag bodies h may c s.spot s.value) (record { spot = Tag b; value = x }) (filter (not_spot (Tag b)) (v.known c)) (at1_here tags b x, inl a.dying)
-      (All-kept (λ (s : Stored). Old g w v c tag bodies h may c s.spot s.value) (λ (s : Stored). New g w v c tag bodies h may c s.spot s.value) (not_spot (Tag b)) (λ s. pairs s.spot s.value) (v.known c) (h.known c a.inside))
+  knows = All-cons (λ (s : Stored). New g w v c tag bodies h may c s.spot s.value) (record { spot = Tag b; value = x }) (filter (not_at (Tag b)) (v.known c)) (at1_here tags b x, inl a.dying)
+      (All-kept (λ (s : Stored). Old g w v c tag bodies h may c s.spot s.value) (λ (s : Stored). New g w v c tag bodies h may c s.spot s.value) (not_at (Tag b)) (λ s. pairs s.spot s.value) (v.known c) (h.known c a.inside))
 
   words : with_blocks w tag bodies ≡ upd w (Tag b) x
   words = fun_ext go

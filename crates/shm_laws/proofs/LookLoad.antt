@@ -1,6 +1,6 @@
 -- the load of a reference word under its author's latch: what was read joins the looks
 use Rattle.std.proofs.Common.{◌≡◌, ◌≢◌, ℕ, ◌<◌, refl, sym, ap, ◌∙◌, true, false, ltb, lt-ltb, subst, inl, inr, List, [], ◌∷◌, ◌++◌, Option, Some, None}
-use Rattle.std.specs.List.{All}
+use Rattle.std.specs.List.{All, filter}
 use Rattle.std.proofs.lemmas.List.Elements.{All-cons, All-weaker, Contains-append_left}
 use Rattle.std.proofs.lemmas.Bool.{cases_eq, ne_eqb, cond-true}
 use Rattle.shm_words.specs.declared.header.Header.{Header}
@@ -17,6 +17,8 @@ use Rattle.shm_graph.specs.Views.{View, targets, ons}
 use Rattle.shm_graph.specs.Ops.{cover, cover_of, covered, slot_of, is_op}
 use Rattle.shm_words.specs.Tags.{tag_refs, tag_author}
 use Rattle.shm_graph.specs.Held.{HeldAt, reach_of, named_by, KnownAt, LooksSound, TestAt, ValueAt, InLooks}
+use Rattle.shm_graph.specs.Reach.{learnt, not_at}
+use Rattle.shm_laws.proofs.Keep.{All-kept}
 use Rattle.shm_laws.proofs.Sum.{cover_idle, covered_none}
 use Rattle.shm_graph.proofs.Holders.{one_latch, reach_counted}
 use Rattle.shm_graph.specs.Tables.{contents_of}
@@ -51,8 +53,8 @@ look_kept g w v c b i h a =
           (λ l. looks_push (λ a. t (Home a)) (λ b i. t (Body b i)) (λ b. tag_author (w (Tag b))) (v.latch c) (Named c) (v.looks c) [] new (h.looks c l) (a.some, a.latch, seen, elim a.reach [ inl u ↦ inl u | inr u ↦ inr (inr u) ]))
           (λ m. h.looks d);
       lanes = h.lanes;
-      known = λ d. at1_all (λ (j : ℕ) (x : List Stored). j < g.clients → All (Known j) x) v.known c (record { spot = Body b i; value = w (Body b i) } ∷ v.known c) d
-          (λ l. All-cons (Known c) (record { spot = Body b i; value = w (Body b i) }) (v.known c) (refl, inr (reach c b a.reach, inr (inr a.latch))) (All-weaker _ (Known c) (λ s. old c s.spot s.value) (v.known c) (h.known c l)))
+      known = λ d. at1_all (λ (j : ℕ) (x : List Stored). j < g.clients → All (Known j) x) v.known c (learnt (Body b i) (w (Body b i)) (v.known c)) d
+          (λ l. All-cons (Known c) (record { spot = Body b i; value = w (Body b i) }) (filter (not_at (Body b i)) (v.known c)) (refl, inr (reach c b a.reach, inr (inr a.latch))) (All-kept _ (Known c) (not_at (Body b i)) (λ s _. old c s.spot s.value) (v.known c) (h.known c l)))
           (λ m l. All-weaker _ (Known d) (λ s. old d s.spot s.value) (v.known d) (h.known d l));
       facts = h.facts;
       zeros = h.zeros;

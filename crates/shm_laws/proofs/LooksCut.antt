@@ -6,7 +6,7 @@ use Rattle.shm_graph.specs.declared.spot.Spot.{Spot}
 use Rattle.shm_graph.specs.declared.spot.Spot.TheVariants.{Home, Body}
 use Rattle.shm_graph.specs.declared.memo.Look.{Look}
 use Rattle.shm_graph.specs.Held.{InLooks, LookAt, LooksSound}
-use Rattle.shm_laws.specs.Cut.{upto}
+use Rattle.shm_graph.specs.Reach.{upto}
 
 in_split : (k : Look) (ks : List Look) (b : ℕ) → InLooks (k ∷ ks) b → (k.block ≡ b) ⊎ InLooks ks b
 in_split k ks b x = elim (Contains-append_cases (k ∷ []) ks x.0 x.1) [

@@ -22,7 +22,8 @@ use Rattle.shm_graph.specs.Spots.{upd, same_spot, IsAt, spot_address}
 use Rattle.shm_graph.specs.Views.{View, targets, ons, limbos}
 use Rattle.shm_words.specs.Tags.{tag_author}
 use Rattle.shm_graph.specs.Held.{HeldAt, CountSound, SlotOf, reach_of, named_by, IsUnusedLane, TailSound, PartTie, ValueAt, MadeAt, is_loose, TestAt, KnownAt, LooksSound, is_home, LaneSound, IsDying, OwnSound, OpTie, OpSound, Allowed, InLooks, room_of}
-use Rattle.shm_laws.specs.Steps.{not_block, LowerStep, lower_view, dying_after, unsent_back, untaken_after}
+use Rattle.shm_graph.specs.Stores.{not_block}
+use Rattle.shm_laws.specs.Steps.{LowerStep, lower_view, dying_after, unsent_back, untaken_after}
 use Rattle.shm_laws.proofs.Owns.{mine_other, small_stored, there_stored}
 use Rattle.shm_graph.proofs.Spotting.{block_is_at}
 use Rattle.shm_laws.proofs.Lanes.{lane_up, lane_taken, lane_same, other_lane, this_lane}

@@ -21,7 +21,7 @@ use Rattle.shm_laws.proofs.Keep.{All-kept, live_word}
 use Rattle.shm_laws.proofs.Owns.{small_stored, there_stored}
 use Rattle.shm_laws.proofs.BlockWords.{with_blocks, blocks_view, BlocksMay, Old, New, known_live, pair_kept, blocks_kept, blocks_quiet}
 use Rattle.shm_laws.specs.Preparing.{IsOf, IsMaking, words_with, PrepareStep, prepare_view}
-use Rattle.shm_laws.specs.Steps.{not_spot}
+use Rattle.shm_graph.specs.Reach.{not_at}
 
 module _ (g : Geometry) (w : Spot → ℕ) (v : View) (c b k : ℕ) (p : Spot) (x : ℕ) (h : HeldAt g w v) (a : PrepareStep g w v c b k p x) where
   abbrev class : ℕ → ℕ → ℕ
@@ -103,8 +103,8 @@ module _ (g : Geometry) (w : Spot → ℕ) (v : View) (c b k : ℕ) (p : Spot) (
 
   stored : (m : Option Making) → IsMaking b m → Ties tags bodies c m → All (λ (s : Stored). InBlock tag body b k s.spot s.value) (words_with p x m)
   stored None i y = All-cons (λ (s : Stored). InBlock tag body b k s.spot s.value) (record { spot = p; value = x }) [] (new p a.word (upd_here w p x)) (All-nil (λ (s : Stored). InBlock tag body b k s.spot s.value))
-  stored (Some m) i y = All-cons (λ (s : Stored). InBlock tag body b k s.spot s.value) (record { spot = p; value = x }) (filter (not_spot p) m.words) (new p a.word (upd_here w p x))
-      (All-kept (λ (s : Stored). InBlock tags bodies m.block m.class s.spot s.value) (λ (s : Stored). InBlock tag body b k s.spot s.value) (not_spot p)
+  stored (Some m) i y = All-cons (λ (s : Stored). InBlock tag body b k s.spot s.value) (record { spot = p; value = x }) (filter (not_at p) m.words) (new p a.word (upd_here w p x))
+      (All-kept (λ (s : Stored). InBlock tags bodies m.block m.class s.spot s.value) (λ (s : Stored). InBlock tag body b k s.spot s.value) (not_at p)
       (λ s n u. older s.spot s.value n (subst (λ z. InBlock tags bodies z k s.spot s.value) i (subst (λ z. InBlock tags bodies m.block z s.spot s.value) sized u))) m.words y.stored)
     where
       sized : m.class ≡ k

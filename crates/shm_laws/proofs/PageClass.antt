@@ -19,7 +19,8 @@ use Rattle.shm_graph.specs.References.{words_of}
 use Rattle.shm_graph.specs.Ops.{cover_of, slot_of}
 use Rattle.shm_graph.specs.Held.{HeldAt, SlotOf, reach_of, TagSound, MakingTie, FactAt, ZeroAt, TestAt}
 use Rattle.shm_words.specs.Classes.{IsClass}
-use Rattle.shm_laws.specs.Steps.{ClassStep, class_view, other_than}
+use Rattle.shm_laws.specs.Steps.{ClassStep, class_view}
+use Rattle.shm_graph.specs.Stores.{other_than}
 use Rattle.shm_laws.proofs.Owns.{mine_other, small_stored, there_stored}
 use Rattle.shm_graph.proofs.Spotting.{same_spot_self, alone}
 use Rattle.shm_graph.proofs.PageSpots.{same_page, page_spot, stays_at, page_of_block, is_unused}

@@ -6,6 +6,7 @@ use Rattle.shm_graph.specs.declared.spot.Spot.{Spot}
 use Rattle.shm_graph.specs.declared.spot.Spot.TheVariants.{Hold, Segment, Page, Head}
 use Rattle.shm_graph.specs.declared.memo.Status.TheVariants as status
 use Rattle.shm_graph.specs.Spots.{IsAt, segment_of}
+use Rattle.shm_graph.specs.Stores.{not_segment, outside_of}
 use Rattle.shm_graph.specs.Views.{View, at1}
 
 -- ---- the store of the own hold word, where no latch is held
@@ -44,16 +45,6 @@ claim_view v c s =
     }
 
 -- ---- the store that gives an own segment up
-
--- another segment than s
-abbrev pub not_segment : ℕ → ℕ → Bool
-not_segment s i = not (s == i)
-
--- not a page of segment s, and not a header in it
-abbrev pub outside_of : Geometry → ℕ → Spot → Bool
-outside_of g s (Page i q) = not_segment s i
-outside_of g s (Head b) = not_segment s (segment_of g b)
-outside_of g s _ = true
 
 -- no block is prepared, which could stand in the segment
 pub record SegmentBackStep (g : Geometry) (v : View) (c s : ℕ) : Type 0 where

@@ -1,5 +1,4 @@
 pub mod Steps
-pub mod Cut
 pub mod Holding
 pub mod Slotting
 pub mod Preparing

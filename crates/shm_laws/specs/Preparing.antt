@@ -1,6 +1,6 @@
 -- stores of words that nothing counts: of a free block that is prepared, and of the link of a dying block
 use Rattle.std.specs.Prelude.{◌≡◌, ◌≢◌, ℕ, ◌+◌, ◌/◌, ◌^◌, ◌<◌, Option, Some, None, List, [], ◌∷◌}
-use Rattle.std.specs.List.{Contains, filter}
+use Rattle.std.specs.List.{Contains}
 use Rattle.shm_words.specs.declared.geometry.Geometry.{Geometry}
 use Rattle.shm_graph.specs.declared.spot.Spot.{Spot}
 use Rattle.shm_graph.specs.declared.spot.Spot.TheVariants.{Segment, Page, Head, Tag, Body}
@@ -10,7 +10,7 @@ use Rattle.shm_graph.specs.declared.memo.Making.{Making}
 use Rattle.shm_graph.specs.Spots.{IsAt, class_at, segment_of}
 use Rattle.shm_graph.specs.Blocks.{IsBlock}
 use Rattle.shm_graph.specs.Views.{View, at1}
-use Rattle.shm_laws.specs.Steps.{not_spot}
+use Rattle.shm_graph.specs.Reach.{learnt}
 
 -- ---- the store of a word of a free block
 
@@ -42,7 +42,7 @@ pub record PrepareStep (g : Geometry) (w : Spot → ℕ) (v : View) (c b k : ℕ
 -- the words that were stored, with one that is stored now
 abbrev pub words_with : Spot → ℕ → Option Making → List Stored
 words_with p x None = record { spot = p; value = x } ∷ []
-words_with p x (Some m) = record { spot = p; value = x } ∷ filter (not_spot p) m.words
+words_with p x (Some m) = learnt p x m.words
 
 -- the block is prepared, and the word is among those that were stored; no commit test is open
 abbrev pub prepare_view : View → ℕ → ℕ → ℕ → Spot → ℕ → View
@@ -69,6 +69,6 @@ pub record LinkStep (g : Geometry) (w : Spot → ℕ) (v : View) (c b x : ℕ) :
 abbrev pub link_view : View → ℕ → ℕ → ℕ → View
 link_view v c b x =
     record v {
-      known = at1 v.known c (record { spot = Tag b; value = x } ∷ filter (not_spot (Tag b)) (v.known c));
+      known = at1 v.known c (learnt (Tag b) x (v.known c));
       test = at1 v.test c None;
     }

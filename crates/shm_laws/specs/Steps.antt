@@ -19,16 +19,15 @@ use Rattle.shm_graph.specs.declared.memo.Test.{Test}
 use Rattle.shm_graph.specs.declared.memo.Fact.TheVariants.{Header as HeaderRead, Counter, Class}
 use Rattle.shm_words.specs.Classes.{IsClass, class_for}
 use Rattle.shm_words.specs.Tags.{tag_refs, tag_plain, tag_author, tag_link}
-use Rattle.shm_graph.specs.Spots.{IsAt, same_spot, upd}
+use Rattle.shm_graph.specs.Spots.{IsAt, upd}
+use Rattle.shm_graph.specs.Reach.{learnt}
+use Rattle.shm_graph.specs.Stores.{other_than, not_block, not_of}
 use Rattle.shm_graph.specs.References.{words_of}
 use Rattle.shm_graph.specs.Ops.{cover_of, on_of, limbo_of, slot_of, is_op, Quiet}
 use Rattle.shm_graph.specs.Views.{View, own_word, targets, at1}
 use Rattle.shm_graph.specs.Held.{Allowed, OpTie, RedoTie, room_of, KnownAt, ValueAt, PartTie, is_loose, is_slot, reach_of, named_by, SlotOf, LooksSound}
 use Rattle.shm_graph.specs.declared.table.Part.{Part}
 use Rattle.shm_graph.specs.Tables.{contents_of, HasShape}
-
-abbrev pub other_than : Spot → Spot → Bool
-other_than p q = not (same_spot p q)
 
 -- ---- the store of a page's class
 
@@ -89,17 +88,6 @@ dying_after n b dying = if n == 0 then dying ++ b ∷ [] else dying
 
 -- ---- the store that frees a dying block
 
-abbrev pub is_of : ℕ → Spot → Bool
-is_of b (Tag d) = d == b
-is_of b (Body d i) = d == b
-is_of b _ = false
-
-abbrev pub not_of : ℕ → Stored → Bool
-not_of b s = not (is_of b s.spot)
-
-abbrev pub not_block : ℕ → ℕ → Bool
-not_block b d = not (b == d)
-
 pub record FreeStep (g : Geometry) (v : View) (c b tag : ℕ) : Type 0 where
   pub inside : c < g.clients
   pub acts : v.status c ≢ status.New
@@ -135,14 +123,11 @@ pub record BodyStep (g : Geometry) (v : View) (c b i x : ℕ) (o : Op) : Type 0 
   pub op : Writes (v.op c) o x
   pub small : x < 2 ^ 64
 
-abbrev pub not_spot : Spot → Stored → Bool
-not_spot p s = not (same_spot p s.spot)
-
 abbrev pub body_view : View → ℕ → ℕ → ℕ → ℕ → Op → View
 body_view v c b i x o =
     record v {
       op = at1 v.op c o;
-      known = at1 v.known c (record { spot = Body b i; value = x } ∷ filter (not_spot (Body b i)) (v.known c));
+      known = at1 v.known c (learnt (Body b i) x (v.known c));
       test = at1 v.test c None;
     }
 
@@ -202,7 +187,7 @@ abbrev pub look_view : View → ℕ → ℕ → ℕ → ℕ → View
 look_view v c b i x =
     record v {
       looks = at1 v.looks c (v.looks c ++ record { block = x; from = Body b i } ∷ []);
-      known = at1 v.known c (record { spot = Body b i; value = x } ∷ v.known c);
+      known = at1 v.known c (learnt (Body b i) x (v.known c));
       test = at1 v.test c None;
     }
 

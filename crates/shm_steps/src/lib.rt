@@ -1,0 +1,10 @@
+//! The kinds of word step as machines ask for them: in any frame, under a condition on the memo of the identity, the step that is
+//! asked for keeps the invariant, is the event of its kind or none, and is allowed.
+//!
+//! A kind's law over functions stands in `shm_laws`. Here its condition speaks of the memo before the step, and what it makes of the
+//! memo is what the memo's change computes.
+#![tactic(auto)]
+
+mod laws;
+
+pub use laws::slot_stores;
