@@ -36,4 +36,6 @@ pub mod OpEnd
 pub mod LoadKeeping
 pub mod StatusKeeping
 pub mod CallEventsOf
+pub mod KnownChange
+pub mod HeadSlot
 pub mod SlotRead
