@@ -82,11 +82,13 @@ module _ (g : Geometry) (w : Spot → ℕ) (v : View) (h : HeldAt g w v) (c s k 
         | inr e ↦ absurd (head_some e)
       ]
 
-  -- ---- what the receiver may note of it
+  -- ---- what the receiver notes of the item
 
+  -- it is in reach
   pub head_reach : InReach w g v c (w (Slot s c k))
   head_reach = inl (a.word, inr (inr (s, a.some, subst (λ j. targets g w v (Slot s c j) ≡ w (Slot s c k)) a.place head_target)))
 
+  -- and the slot is known
   pub head_known : KnownHolds g w v c (record { spot = Slot s c k; value = w (Slot s c k) })
   head_known = (refl, a.other, a.place, a.some, a.left, a.word, refl)
 

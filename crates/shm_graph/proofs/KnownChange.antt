@@ -18,10 +18,11 @@ use Rattle.shm_graph.proofs.Holders.{InReach}
 use Rattle.shm_graph.proofs.Loads.{choice}
 use Rattle.shm_graph.proofs.MemoParts.{changed_view, put_same, view_here}
 
--- c knows a word as it is, and a value block in reach of c
+-- c knows a word as it is
 abbrev pub KnownHolds : Geometry → (Spot → ℕ) → View → ℕ → Stored → Type 0
 KnownHolds g w v c k = KnownAt c (λ b. w (Tag b)) (λ b i. w (Body b i)) (λ s r k. w (Slot s r k)) (λ s r. w (Tail s r)) (λ s r. w (Front s r)) (v.untaken c) (v.latch c) (InReach w g v c) (v.dying c) k.spot k.value
 
+-- a value block in reach of c
 abbrev pub ValueHolds : Geometry → (Spot → ℕ) → View → ℕ → ℕ → Type 0
 ValueHolds g w v c = ValueAt (contents_of w (targets g w v)) (InReach w g v c)
 

@@ -36,6 +36,7 @@ tail_above g w r s c x (Counter (Tail i j) y) e h =
     omega arith
 tail_above g w r s c x _ e h = absurd (false≢true e)
 
+-- one such fact among those of the memo
 any_above : (g : Geometry) (w : Spot → ℕ) (r : ℕ → Memo) (s c x : ℕ) (ks : List Fact) → list_any (is_tail_above s c x) ks ≡ true → FactsHold g w (view r) ks → x < w (Tail s c)
 any_above g w r s c x ks e h =
     let q = Any-from_list_any (is_tail_above s c x) ks e in
@@ -82,6 +83,7 @@ slot_step g w r c s i k h l =
     (valued_all (ValueHolds g w (view r) c) m.part (w (Slot s c k)) m.values (head_value g w (view r) h c s k q.1) (h.values c l))))
     (λ e. subst (HeldAt g w) (view_here r c) h)
 
+-- a slot is read
 pub slot_held : (g : Geometry) (w : Spot → ℕ) (r : ℕ → Memo) (c : ℕ) (t : Step) (s i k : ℕ) → HeldAt g w (view r) → c < g.clients
     → HeldAt g w (view (at1 r c (slot_read c (called (r c) t) s i k (w (Slot s i k)))))
 slot_held g w r c t s i k h l = after_call g w r c t (λ m. slot_read c m s i k (w (Slot s i k))) h l (λ q e here. slot_step g w q c s i k here l)
