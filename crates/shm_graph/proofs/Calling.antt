@@ -15,6 +15,8 @@ use Rattle.shm_graph.specs.Views.{View, view, at1}
 use Rattle.shm_graph.specs.Held.{HeldAt}
 use Rattle.shm_graph.specs.Changes.{called}
 use Rattle.shm_graph.specs.Agents.{with_last, stepped}
+use Rattle.shm_graph.proofs.Frames.{at1_twice}
+use Rattle.shm_graph.proofs.Lists.{at1_here}
 use Rattle.shm_graph.proofs.MemoParts.{call_set, view_here}
 use Rattle.shm_graph.proofs.Calls.{FactHolds, FactsHold, ZeroHolds, ZerosHold, TestHolds, MadeHold, call_held}
 
@@ -45,6 +47,15 @@ called_held g w r c t h l = by t.fresh
     by : (b : Bool) → HeldAt g w (view (at1 r c (called (r c) (record t { fresh = b }))))
     by true = less_held g w r c [] [] None [] (call_after true (r c).call t.ask t.seen) t.ends (with_last stepped (r c).agents) h (All-nil _) (All-nil _) tt (All-nil _)
     by false = less_held g w r c (r c).facts (r c).zeros None (r c).made (call_after false (r c).call t.ask t.seen) t.ends (with_last stepped (r c).agents) h (h.facts c l) (h.zeros c l) tt (h.made c l)
+
+-- what keeps the pool whatever the memos keeps it with the memo at a step
+pub after_call : (g : Geometry) (w : Spot → ℕ) (r : ℕ → Memo) (c : ℕ) (t : Step) (F : Memo → Memo) → HeldAt g w (view r) → c < g.clients
+    → ((q : ℕ → Memo) → q c ≡ called (r c) t → HeldAt g w (view q) → HeldAt g w (view (at1 q c (F (q c)))))
+    → HeldAt g w (view (at1 r c (F (called (r c) t))))
+after_call g w r c t F h l keeps =
+    let m : Memo = called (r c) t in
+    let q : ℕ → Memo = at1 r c m in
+    subst (HeldAt g w) (ap (λ (x : Memo). view (at1 q c (F x))) (at1_here r c m) ∙ ap view (at1_twice r c m (F m))) (keeps q (at1_here r c m) (called_held g w r c t h l))
 
 -- one more fact, and a place of the commit test
 pub fact_held : (g : Geometry) (w : Spot → ℕ) (r : ℕ → Memo) (c : ℕ) (t : Step) (k : Fact) (test : Option Test) → HeldAt g w (view r) → c < g.clients → FactHolds g w (view r) k → TestHolds g w (view r) c test

@@ -30,7 +30,7 @@ cover_on q p new x h =
       | inr e ↦ cond-false _ _ _ e
     ]
 
-cover_never : (s : First) (q p : Spot) (new x : ℕ) → (q ≡ p → ⊥) → cover (cover_from s q new) p x ≡ x
+pub cover_never : (s : First) (q p : Spot) (new x : ℕ) → (q ≡ p → ⊥) → cover (cover_from s q new) p x ≡ x
 cover_never Begun q p new x n = refl
 cover_never Committed q p new x n = cover_on q p new x (λ e. absurd (n e))
 cover_never Written q p new x n = cover_on q p new x (λ e. absurd (n e))

@@ -36,6 +36,8 @@ pub mod OpEnd
 pub mod LoadKeeping
 pub mod StatusKeeping
 pub mod CallEventsOf
+pub mod KnownChange
+pub mod HeadSlot
 pub mod SlotRead
 pub mod KindKeeping
 pub mod BodyTold
