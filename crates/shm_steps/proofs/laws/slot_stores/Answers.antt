@@ -1,0 +1,5 @@
+use Rattle.shm_steps.proofs.SlotStores.{root_stored}
+use Rattle.shm_steps.proofs.laws.slot_stores.Goals as goal
+
+pub returns : goal.returns
+returns c = record { root = root_stored }
