@@ -22,3 +22,5 @@ pub mod Runs
 pub mod Whole
 pub mod Sound
 pub mod CallEvents
+pub mod Trails
+pub mod Idle

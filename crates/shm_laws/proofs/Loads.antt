@@ -1,5 +1,5 @@
 -- the loads of the commit test keep the invariant, its window with them
-use Rattle.std.proofs.Common.{◌≡◌, ◌≢◌, ℕ, ◌+◌, ◌<◌, ◌≤◌, ap, arith, subst, inl, inr, List, ◌∷◌, Option, Some}
+use Rattle.std.proofs.Common.{refl, ◌≡◌, ◌≢◌, ℕ, ◌+◌, ◌<◌, ◌≤◌, ap, arith, subst, inl, inr, List, ◌∷◌, Option, Some}
 use Rattle.std.specs.List.{All}
 use Rattle.std.proofs.lemmas.List.Elements.{All-cons}
 use Rattle.std.proofs.lemmas.Bool.{cases_eq, ne_eqb, eq-eqb}
@@ -12,6 +12,7 @@ use Rattle.shm_graph.specs.declared.memo.Fact.TheVariants.{Header as HeaderRead,
 use Rattle.shm_graph.specs.declared.memo.Test.{Test}
 use Rattle.shm_graph.specs.Views.{at1, View, ons}
 use Rattle.shm_graph.proofs.Frames.{at1_all}
+use Rattle.shm_graph.specs.Events.{Nothing, graph_of, Happens}
 use Rattle.shm_graph.specs.Held.{HeldAt, FactAt, TestAt}
 use Rattle.shm_graph.specs.Readings.{next_row}
 use Rattle.shm_laws.specs.Steps.{header_view, row_view}
@@ -89,3 +90,10 @@ row_kept g w v c k t h lc test is below = fact_kept g w v c (Counter (Era k c) (
 -- once no row is left nothing is committed
 pub not_committed : (n : ℕ) (era : ℕ → ℕ → ℕ) (on : Option ℕ) (c : ℕ) (t : Test) → TestAt n era on c (Some t) → n ≤ next_row c t.next → on ≢ Some t.block
 not_committed n era on c t k l e = let r = k e in let m = next_passes c t.next r.0 r.1 r.3 in let u = r.2 in omega arith
+
+-- what is read of headers and rows leaves the graph
+pub header_quiet : (g : Geometry) (w : Spot → ℕ) (v : View) (c b : ℕ) (test : Option Test) → Happens g w Nothing (graph_of g w v) (graph_of g w (header_view v c (w (Head b)) test))
+header_quiet g w v c b test = record { lives = λ x. refl; shapes = λ x. refl; targets = λ p. refl; limbos = λ d. refl }
+
+pub row_quiet : (g : Geometry) (w : Spot → ℕ) (v : View) (c k : ℕ) (test : Option Test) → Happens g w Nothing (graph_of g w v) (graph_of g w (row_view v c k (w (Era k c)) test))
+row_quiet g w v c k test = record { lives = λ x. refl; shapes = λ x. refl; targets = λ p. refl; limbos = λ d. refl }

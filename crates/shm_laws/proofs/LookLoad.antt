@@ -16,6 +16,7 @@ use Rattle.shm_graph.specs.References.{words_of, refs_of}
 use Rattle.shm_graph.specs.Views.{View, targets, ons}
 use Rattle.shm_graph.specs.Ops.{cover, cover_of, covered, slot_of, is_op}
 use Rattle.shm_words.specs.Tags.{tag_refs, tag_author}
+use Rattle.shm_graph.specs.Events.{Nothing, graph_of, Happens}
 use Rattle.shm_graph.specs.Held.{HeldAt, reach_of, named_by, KnownAt, LooksSound, TestAt, ValueAt, InLooks}
 use Rattle.shm_graph.specs.Reach.{learnt, not_at}
 use Rattle.shm_laws.proofs.Keep.{All-kept}
@@ -25,6 +26,10 @@ use Rattle.shm_graph.specs.Tables.{contents_of}
 use Rattle.shm_laws.proofs.Exchange.{slot_kept, known_kept, apart}
 use Rattle.shm_graph.proofs.Looking.{looks_push}
 use Rattle.shm_laws.specs.Steps.{LookStep, look_view}
+
+-- a look leaves the graph
+pub look_quiet : (g : Geometry) (w : Spot → ℕ) (v : View) (c b i : ℕ) → Happens g w Nothing (graph_of g w v) (graph_of g w (look_view v c b i (w (Body b i))))
+look_quiet g w v c b i = record { lives = λ x. refl; shapes = λ x. refl; targets = λ p. refl; limbos = λ d. refl }
 
 pub look_kept : (g : Geometry) (w : Spot → ℕ) (v : View) (c b i : ℕ) → HeldAt g w v → LookStep g w v c b i → HeldAt g w (look_view v c b i (w (Body b i)))
 look_kept g w v c b i h a =

@@ -1,11 +1,11 @@
 -- the kinds of step of a hold word and of a segment's word: what each needs, and what it makes of the memos
-use Rattle.std.specs.Prelude.{◌≡◌, ◌≢◌, ℕ, ◌<◌, ◌≤◌, Bool, true, not, ◌==◌, ◌∷◌, None}
+use Rattle.std.specs.Prelude.{◌≡◌, ◌≢◌, ℕ, ◌<◌, ◌≤◌, ◌∷◌, None}
 use Rattle.std.specs.List.{Contains, filter}
 use Rattle.shm_words.specs.declared.geometry.Geometry.{Geometry}
 use Rattle.shm_graph.specs.declared.spot.Spot.{Spot}
-use Rattle.shm_graph.specs.declared.spot.Spot.TheVariants.{Hold, Segment, Page, Head}
+use Rattle.shm_graph.specs.declared.spot.Spot.TheVariants.{Hold, Segment, Page}
 use Rattle.shm_graph.specs.declared.memo.Status.TheVariants as status
-use Rattle.shm_graph.specs.Spots.{IsAt, segment_of}
+use Rattle.shm_graph.specs.Spots.{IsAt}
 use Rattle.shm_graph.specs.Stores.{not_segment, outside_of}
 use Rattle.shm_graph.specs.Views.{View, at1}
 

@@ -74,11 +74,14 @@ pub fn exchanges_are_events()
 {}
 
 /// Loads: of a header and of a row by a recoverer that tests whether a step was committed, and of a reference word of a block under
-/// its author's latch.
+/// its author's latch. The graph stays.
 pub fn loads_kept()
     ensures header { (g : AGeometry) (w : ASpot → ℕ) (v : View) (c b : ℕ) → HeldAt g w v → c < g.clients → (((header_of (w (Head b))).client ≡ c) × ((header_of (w (Head b))).era ≡ w (Era c c)) → ⊥) → HeldAt g w (header_view v c (w (Head b)) (Some (record { block = b; next = 0 }))) }
     ensures row { (g : AGeometry) (w : ASpot → ℕ) (v : View) (c k : ℕ) (t : ATest) → HeldAt g w v → c < g.clients → v.test c ≡ Some t → next_row c t.next ≡ k → w (Era k c) < w (Era c c) → HeldAt g w (row_view v c k (w (Era k c)) (Some (record { block = t.block; next = k + 1 }))) }
     ensures look { (g : AGeometry) (w : ASpot → ℕ) (v : View) (c b i : ℕ) → HeldAt g w v → LookStep g w v c b i → HeldAt g w (look_view v c b i (w (Body b i))) }
+    ensures header_quiet { (g : AGeometry) (w : ASpot → ℕ) (v : View) (c b : ℕ) (test : Option ATest) → Happens g w Nothing (graph_of g w v) (graph_of g w (header_view v c (w (Head b)) test)) }
+    ensures row_quiet { (g : AGeometry) (w : ASpot → ℕ) (v : View) (c k : ℕ) (test : Option ATest) → Happens g w Nothing (graph_of g w v) (graph_of g w (row_view v c k (w (Era k c)) test)) }
+    ensures look_quiet { (g : AGeometry) (w : ASpot → ℕ) (v : View) (c b i : ℕ) → Happens g w Nothing (graph_of g w v) (graph_of g w (look_view v c b i (w (Body b i)))) }
 {}
 
 /// The events of the halves of a change, and of the store that frees a block.

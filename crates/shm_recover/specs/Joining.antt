@@ -3,8 +3,9 @@ use Rattle.std.specs.Prelude.{◌≡◌, ℕ, ◌<◌, ◌⊎◌, Bool, true, fa
 use Rattle.shm_words.specs.Layout.{GeometryFits}
 use Rattle.shm_graph.specs.declared.ask.Me.{Me}
 use Rattle.shm_graph.specs.declared.memo.Memo.{Memo}
-use Rattle.shm_graph.specs.declared.memo.Status.TheVariants.{New, Live, Gone}
+use Rattle.shm_graph.specs.declared.memo.Status.TheVariants.{New, Gone}
 use Rattle.shm_graph.specs.Asks.{Trail}
+use Rattle.shm_graph.specs.Idle.{IsIdle}
 use Rattle.shm_graph.specs.Laws.{Control}
 use Rattle.shm_recover.specs.declared.join.JoinPoint.{JoinPoint}
 use Rattle.shm_recover.specs.declared.join.JoinPoint.TheVariants.{Start, Over}
@@ -54,9 +55,9 @@ pub record JoinFits (m : JoinState) (r0 r : Memo) (tr : Trail) : Type 0 where
   pub can : CanJoin m.me r0
   pub start : m.point ≡ Start → (r ≡ r0) × (tr ≡ [])
 
--- the status is live, what the identity has and has done is as it was, and what was asked is the trail of a join
+-- the identity is between two calls, what it has and has done is as it was, and what was asked is the trail of a join
 pub record JoinGives (m : JoinState) (r0 r : Memo) (tr : Trail) (a : Unit {0}) : Type 0 where
-  pub status : r.status ≡ Live
+  pub idle : IsIdle m.me.who r
   pub own : r.own ≡ r0.own
   pub op : r.op ≡ r0.op
   pub latch : r.latch ≡ r0.latch

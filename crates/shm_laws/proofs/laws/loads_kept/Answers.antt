@@ -1,5 +1,7 @@
 use Rattle.shm_laws.proofs.Loads.{header_kept, row_kept}
 use Rattle.shm_laws.proofs.LookLoad.{look_kept}
+use Rattle.shm_laws.proofs.LookLoad.{look_quiet}
+use Rattle.shm_laws.proofs.Loads.{header_quiet, row_quiet}
 use Rattle.shm_laws.proofs.laws.loads_kept.Goals as goal
 
 pub returns-clause-header : goal.returns-clause-header
@@ -10,3 +12,12 @@ returns-clause-row c = row_kept
 
 pub returns-clause-look : goal.returns-clause-look
 returns-clause-look c = look_kept
+
+pub returns-clause-header_quiet : goal.returns-clause-header_quiet
+returns-clause-header_quiet c = header_quiet
+
+pub returns-clause-row_quiet : goal.returns-clause-row_quiet
+returns-clause-row_quiet c = row_quiet
+
+pub returns-clause-look_quiet : goal.returns-clause-look_quiet
+returns-clause-look_quiet c = look_quiet

@@ -29,4 +29,4 @@ step-turn-requires-clause-fits c = (memo_of (readied c.in_ok-pool.pool c.args.wh
 pub returns-clause-live : goal.returns-clause-live
 returns-clause-live c some =
     let r : Memo = memo_of (readied c.in_ok-pool.pool c.args.who) c.args.who in
-    (c.step-turn.ensures.fits (subst (λ n. 0 < n) (sym c.of-life.ensures) some) r (fit (goal.at.returns-clause-live c).After-of-life)).status
+    (c.step-turn.ensures.fits (subst (λ n. 0 < n) (sym c.of-life.ensures) some) r (fit (goal.at.returns-clause-live c).After-of-life)).idle.live
