@@ -1,0 +1,14 @@
+use Rattle.shm_steps.proofs.PageSteps.{claimed, given_up, class_stored, latched}
+use Rattle.shm_steps.proofs.preparing.preparing_steps.Goals as goal
+
+pub returns-clause-claim : goal.returns-clause-claim
+returns-clause-claim c = claimed
+
+pub returns-clause-give : goal.returns-clause-give
+returns-clause-give c = given_up
+
+pub returns-clause-class : goal.returns-clause-class
+returns-clause-class c = class_stored
+
+pub returns-clause-latch : goal.returns-clause-latch
+returns-clause-latch c = latched
