@@ -1,2 +1,4 @@
 pub mod SlotStores
 pub mod PageSteps
+pub mod BlockTold
+pub mod Prepared

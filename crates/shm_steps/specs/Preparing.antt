@@ -1,12 +1,15 @@
 -- what the steps that prepare and give up segments, pages and blocks, and that take a latch, need of the memo of their identity
-use Rattle.std.specs.Prelude.{◌≡◌, ℕ, ◌+◌, None}
+use Rattle.std.specs.Prelude.{◌≡◌, ◌≢◌, ℕ, ◌+◌, ◌^◌, ◌<◌, ◌⊎◌, Some, None}
 use Rattle.std.specs.List.{Contains}
+use Rattle.shm_words.specs.declared.geometry.Geometry.{Geometry}
 use Rattle.shm_words.specs.Classes.{IsClass}
-use Rattle.shm_graph.specs.declared.spot.Spot.TheVariants.{Hold, Page}
+use Rattle.shm_graph.specs.declared.spot.Spot.TheVariants.{Hold, Page, Head}
 use Rattle.shm_graph.specs.declared.memo.Status.TheVariants as status
 use Rattle.shm_graph.specs.declared.memo.Op.TheVariants.{Nothing}
+use Rattle.shm_graph.specs.declared.memo.Making.{Making}
 use Rattle.shm_graph.specs.declared.memo.Memo.{Memo}
 use Rattle.shm_graph.specs.Views.{own_word}
+use Rattle.shm_graph.specs.Stores.{class_told}
 use Rattle.shm_steps.specs.Conditions.{IsHere}
 
 -- ---- segments and pages
@@ -31,3 +34,34 @@ pub record MayLatch (c : ℕ) (m : Memo) (a : ℕ) : Type 0 where
   pub idle : m.op ≡ Nothing
   pub none : m.latch ≡ None
   pub wants : own_word m.own (Hold c) ≡ a + 1
+
+-- ---- a free block that is prepared
+
+-- no block is prepared, the header of b was read as 0, and so was the class of its page
+pub record MayBegin (g : Geometry) (m : Memo) (b : ℕ) : Type 0 where
+  pub none : m.making ≡ None
+  pub read : Contains m.zeros (Head b)
+  pub told : class_told g m.facts b ≢ 0
+
+-- no step is in progress, and b is the block that is prepared
+pub record MayPrepare (m : Memo) (b x : ℕ) (k : Making) : Type 0 where
+  pub here : IsHere m
+  pub idle : m.op ≡ Nothing
+  pub making : m.making ≡ Some k
+  pub of : k.block ≡ b
+  pub small : x < 2 ^ 64
+
+-- no step is in progress, and b may be prepared from here on
+pub record MayPrepareNew (g : Geometry) (m : Memo) (b x : ℕ) : Type 0 where
+  pub here : IsHere m
+  pub idle : m.op ≡ Nothing
+  pub begin : MayBegin g m b
+  pub small : x < 2 ^ 64
+
+-- the tag of b may be stored
+abbrev pub MayTag : Geometry → Memo → ℕ → ℕ → Type 0
+MayTag g m b x = ((k : Making) × MayPrepare m b x k) ⊎ MayPrepareNew g m b x
+
+-- word i after the tag of b may be stored
+abbrev pub MayBody : Memo → ℕ → ℕ → ℕ → Type 0
+MayBody m b i x = (k : Making) × MayPrepare m b x k × (i + 2 < k.class)

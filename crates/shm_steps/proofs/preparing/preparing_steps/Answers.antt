@@ -1,4 +1,5 @@
 use Rattle.shm_steps.proofs.PageSteps.{claimed, given_up, class_stored, latched}
+use Rattle.shm_steps.proofs.Prepared.{tag_prepares, body_prepares}
 use Rattle.shm_steps.proofs.preparing.preparing_steps.Goals as goal
 
 pub returns-clause-claim : goal.returns-clause-claim
@@ -12,3 +13,9 @@ returns-clause-class c = class_stored
 
 pub returns-clause-latch : goal.returns-clause-latch
 returns-clause-latch c = latched
+
+pub returns-clause-tag : goal.returns-clause-tag
+returns-clause-tag c = tag_prepares
+
+pub returns-clause-body : goal.returns-clause-body
+returns-clause-body c = body_prepares
