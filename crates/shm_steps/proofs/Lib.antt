@@ -2,3 +2,4 @@ pub mod SlotStores
 pub mod PageSteps
 pub mod BlockTold
 pub mod Prepared
+pub mod Allocated

@@ -1,11 +1,14 @@
 -- what the steps that prepare and give up segments, pages and blocks, and that take a latch, need of the memo of their identity
-use Rattle.std.specs.Prelude.{◌≡◌, ◌≢◌, ℕ, ◌+◌, ◌^◌, ◌<◌, ◌⊎◌, Some, None}
+use Rattle.std.specs.Prelude.{◌≡◌, ◌≢◌, ℕ, ◌+◌, ◌^◌, ◌<◌, ◌≤◌, true, ◌⊎◌, Some, None}
 use Rattle.std.specs.List.{Contains}
 use Rattle.shm_words.specs.declared.geometry.Geometry.{Geometry}
-use Rattle.shm_words.specs.Classes.{IsClass}
-use Rattle.shm_graph.specs.declared.spot.Spot.TheVariants.{Hold, Page, Head}
+use Rattle.shm_words.specs.Headers.{header_of}
+use Rattle.shm_words.specs.Tags.{tag_refs, tag_plain, tag_author, tag_link}
+use Rattle.shm_words.specs.Classes.{IsClass, class_for}
+use Rattle.shm_graph.specs.declared.spot.Spot.TheVariants.{Hold, Root, Page, Head, Tag, Body}
 use Rattle.shm_graph.specs.declared.memo.Status.TheVariants as status
-use Rattle.shm_graph.specs.declared.memo.Op.TheVariants.{Nothing}
+use Rattle.shm_graph.specs.declared.memo.First.TheVariants.{Begun}
+use Rattle.shm_graph.specs.declared.memo.Op.TheVariants.{Nothing, Alloc}
 use Rattle.shm_graph.specs.declared.memo.Making.{Making}
 use Rattle.shm_graph.specs.declared.memo.Memo.{Memo}
 use Rattle.shm_graph.specs.Views.{own_word}
@@ -65,3 +68,20 @@ MayTag g m b x = ((k : Making) × MayPrepare m b x k) ⊎ MayPrepareNew g m b x
 -- word i after the tag of b may be stored
 abbrev pub MayBody : Memo → ℕ → ℕ → ℕ → Type 0
 MayBody m b i x = (k : Making) × MayPrepare m b x k × (i + 2 < k.class)
+
+-- the begun step is to make block b, which is prepared as k, live in root i at era e: the tag's fields are a tag's and fit the class, the reference words are 0, and `to` is the new header
+pub record MayAlloc (c : ℕ) (m : Memo) (i b e to tag : ℕ) (k : Making) : Type 0 where
+  pub live : m.status ≡ status.Live
+  pub op : m.op ≡ Alloc Begun (Root c i) b e
+  pub making : m.making ≡ Some k
+  pub of : k.block ≡ b
+  pub small : to < 2 ^ 64
+  pub new : header_of to ≡ record { live = true; client = c; count = 1; era = e }
+  pub tagged : Contains k.words (record { spot = Tag b; value = tag })
+  pub small_tag : tag < 2 ^ 35
+  pub refs : tag_refs tag ≤ 16
+  pub plain : tag_plain tag ≤ 8
+  pub author : tag_author tag ≡ c
+  pub link : tag_link tag ≡ 0
+  pub fits : class_for (tag_refs tag) (tag_plain tag) ≡ k.class
+  pub zeros : (j : ℕ) → j < tag_refs tag → Contains k.words (record { spot = Body b j; value = 0 })

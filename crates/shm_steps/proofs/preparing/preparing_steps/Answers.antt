@@ -1,4 +1,5 @@
 use Rattle.shm_steps.proofs.PageSteps.{claimed, given_up, class_stored, latched}
+use Rattle.shm_steps.proofs.Allocated.{allocates}
 use Rattle.shm_steps.proofs.Prepared.{tag_prepares, body_prepares}
 use Rattle.shm_steps.proofs.preparing.preparing_steps.Goals as goal
 
@@ -19,3 +20,6 @@ returns-clause-tag c = tag_prepares
 
 pub returns-clause-body : goal.returns-clause-body
 returns-clause-body c = body_prepares
+
+pub returns-clause-alloc : goal.returns-clause-alloc
+returns-clause-alloc c = allocates
