@@ -3,3 +3,4 @@ pub mod PageSteps
 pub mod BlockTold
 pub mod Prepared
 pub mod Allocated
+pub mod DyingSteps

@@ -1,5 +1,5 @@
 -- what the steps that prepare and give up segments, pages and blocks, and that take a latch, need of the memo of their identity
-use Rattle.std.specs.Prelude.{◌≡◌, ◌≢◌, ℕ, ◌+◌, ◌^◌, ◌<◌, ◌≤◌, true, ◌⊎◌, Some, None}
+use Rattle.std.specs.Prelude.{◌≡◌, ◌≢◌, ℕ, ◌+◌, ◌/◌, ◌^◌, ◌<◌, ◌≤◌, true, ◌⊎◌, Some, None}
 use Rattle.std.specs.List.{Contains}
 use Rattle.shm_words.specs.declared.geometry.Geometry.{Geometry}
 use Rattle.shm_words.specs.Headers.{header_of}
@@ -85,3 +85,23 @@ pub record MayAlloc (c : ℕ) (m : Memo) (i b e to tag : ℕ) (k : Making) : Typ
   pub link : tag_link tag ≡ 0
   pub fits : class_for (tag_refs tag) (tag_plain tag) ≡ k.class
   pub zeros : (j : ℕ) → j < tag_refs tag → Contains k.words (record { spot = Body b j; value = 0 })
+
+-- ---- zero-count blocks
+
+-- no step is in progress, and the tag of the zero-count block b is known
+pub record KnowsDying (m : Memo) (b tag : ℕ) : Type 0 where
+  pub here : IsHere m
+  pub idle : m.op ≡ Nothing
+  pub dying : Contains m.dying b
+  pub tagged : Contains m.known (record { spot = Tag b; value = tag })
+
+-- and all its reference words are known as 0
+pub record MayFree (m : Memo) (b tag : ℕ) : Type 0 where
+  pub knows : KnowsDying m b tag
+  pub zeros : (i : ℕ) → i < tag_refs tag → Contains m.known (record { spot = Body b i; value = 0 })
+
+-- and x is that tag with another link
+pub record MayLink (m : Memo) (b tag x : ℕ) : Type 0 where
+  pub knows : KnowsDying m b tag
+  pub shape : x / 2 ^ 20 ≡ tag / 2 ^ 20
+  pub small : x < 2 ^ 35

@@ -1,4 +1,5 @@
 use Rattle.shm_steps.proofs.PageSteps.{claimed, given_up, class_stored, latched}
+use Rattle.shm_steps.proofs.DyingSteps.{frees, links}
 use Rattle.shm_steps.proofs.Allocated.{allocates}
 use Rattle.shm_steps.proofs.Prepared.{tag_prepares, body_prepares}
 use Rattle.shm_steps.proofs.preparing.preparing_steps.Goals as goal
@@ -23,3 +24,9 @@ returns-clause-body c = body_prepares
 
 pub returns-clause-alloc : goal.returns-clause-alloc
 returns-clause-alloc c = allocates
+
+pub returns-clause-free : goal.returns-clause-free
+returns-clause-free c = frees
+
+pub returns-clause-link : goal.returns-clause-link
+returns-clause-link c = links
