@@ -75,6 +75,7 @@ allocated_view v c m i b e ws =
     }
 
 module _ (g : Geometry) (w : Spot → ℕ) (r : ℕ → Memo) (c i b e to tag : ℕ) (k : Making) (h : HeldAt g w (view r)) (l : c < g.clients) (a : MayAlloc c (r c) i b e to tag k) where
+  -- the condition on the memo is that of the law
   pub alloc_step : AllocStep g w (view r) c i b e to tag k
   alloc_step = record {
     inside = l;
@@ -94,15 +95,18 @@ module _ (g : Geometry) (w : Spot → ℕ) (r : ℕ → Memo) (c i b e to tag : 
     zeros = a.zeros;
   }
 
+  -- the words and the view after, without the value block
   abbrev w' : Spot → ℕ
   w' = upd w (Head b) to
 
   abbrev v' : View
   v' = alloc_view (view r) c i b e k
 
+  -- it holds of the view without the value block
   h' : HeldAt g w' v'
   h' = alloc_kept g w (view r) c i b e to tag k h alloc_step
 
+  -- the block is live
   live : (headers w' b).live ≡ true
   live = ap (λ x. (header_of x).live) (upd_here w (Head b) to) ∙ ap (λ (x : Header). x.live) a.new
 
@@ -124,6 +128,7 @@ module _ (g : Geometry) (w : Spot → ℕ) (r : ℕ → Memo) (c i b e to tag : 
       let z : t ≡ w (Tag b) = tag_told (λ d. w (Tag d)) (λ d j. w (Body d j)) k.block b k.class k.words m.stored (λ z. let u : tag_plain 0 ≡ 1 = sym (ap tag_plain z) ∙ plain in absurd (omega arith)) in
       (record { live = live; names = ap tag_refs (sym z) ∙ refs; words = ap tag_plain (sym z) ∙ plain }, reached)
 
+  -- it holds with the value block
   pub allocated_held : HeldAt g w' (allocated_view (view r) c (r c) i b e k.words)
   allocated_held =
       let vs : List ℕ = values_with (r c) b (or_zero (known_at (Tag b) k.words)) in
@@ -135,6 +140,7 @@ module _ (g : Geometry) (w : Spot → ℕ) (r : ℕ → Memo) (c i b e to tag : 
 
 -- ---- in the shape of a kind
 
+-- a block that was prepared becomes live
 pub allocates : (me : Me) (w : Spot → ℕ) (r : ℕ → Memo) (f : Frame) (tr : Trail) (at i b e to tag : ℕ) (k : Making) → Stands me w r f tr → f.fresh ≡ false → spot_at me.geometry (classes w) at ≡ Head b → MayAlloc me.who (r me.who) i b e to tag k
     → KeptAt me w r (Exchange at 0 to) f (λ n m. Unit {0}) (spot_at me.geometry (classes w) at)
 allocates me w r f tr at i b e to tag k st going q a =

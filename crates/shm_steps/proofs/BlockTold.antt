@@ -26,9 +26,11 @@ use Rattle.shm_graph.proofs.Spotting.{tag_block, body_block}
 
 -- ---- zero-count blocks
 
+-- one that is listed is found
 pub dying_true : (m : Memo) (b : ℕ) → Contains m.dying b → is_dying m b ≡ true
 dying_true m b x = list_any-from_Contains nat_eq_equiv b m.dying x
 
+-- one that isn't listed isn't found
 pub dying_false : (m : Memo) (b : ℕ) → (Contains m.dying b → ⊥) → is_dying m b ≡ false
 dying_false m b n = false_from_ne_true _ (λ e. n (Contains-from_any exact_unsigned_eq b m.dying e))
 
@@ -60,10 +62,11 @@ stored_linked g m at v idle here before =
 pub stored_freed : (g : Geometry) (m : Memo) (at : ℕ) → m.op ≡ Nothing → is_dying m at ≡ true → stored_told g m at 0 ≡ Head at
 stored_freed g m at idle here = cond-false _ _ _ (ap (λ o. is_slot_at g (cover_of o) at) idle) ∙ cond-true _ _ _ here
 
--- a word of the block that is prepared, by its address
+-- the tag of the block that is prepared, by its address
 pub tag_prepared : (g : Geometry) (class : ℕ → ℕ → ℕ) (at b : ℕ) → spot_at g class at ≡ Tag b → word_of_block b at ≡ Tag b
 tag_prepared g class at b e = cond-true _ _ _ (eq-eqb at (b + 1) (sym (tag_block g class at b e).1))
 
+-- and another word of it
 pub body_prepared : (g : Geometry) (class : ℕ → ℕ → ℕ) (at b i : ℕ) → spot_at g class at ≡ Body b i → word_of_block b at ≡ Body b i
 body_prepared g class at b i e =
     let q : b + 2 + i ≡ at = (body_block g class at b i e).2 in

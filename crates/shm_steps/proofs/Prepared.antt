@@ -43,6 +43,7 @@ use Rattle.shm_steps.proofs.BlockTold.{dying_false, dying_block, no_dying_at, st
 abbrev pub MakingHolds : (Spot → ℕ) → Geometry → ℕ → Making → Type 0
 MakingHolds w g c k = MakingSound g (classes w) (λ s. w (Segment s)) (λ b. w (Head b)) (λ b. w (Tag b)) (λ b i. w (Body b i)) c k
 
+-- it says so of the block that the memo prepares
 pub making_holds : (g : Geometry) (w : Spot → ℕ) (r : ℕ → Memo) (c : ℕ) (k : Making) → HeldAt g w (view r) → c < g.clients → (r c).making ≡ Some k → MakingHolds w g c k
 making_holds g w r c k h l e =
     let q : MakingTie g (classes w) (λ s. w (Segment s)) (λ b. w (Head b)) (λ b. w (Tag b)) (λ b i. w (Body b i)) c (Some k) =
@@ -60,6 +61,7 @@ making_more g fs mk k b p x e o =
     subst (λ z. Some (record { block = b; class = k.class; words = words_with p x z }) ≡ making_with g fs z b p x) (sym e)
     (ap (λ z. Some (record { block = z; class = k.class; words = words_with p x (Some k) })) (sym o))
 
+-- a first word of a block is stored
 making_new : (g : Geometry) (fs : List Fact) (mk : Option Making) (b : ℕ) (p : Spot) (x : ℕ) → mk ≡ None → Some (record { block = b; class = class_told g fs b; words = words_with p x mk }) ≡ making_with g fs mk b p x
 making_new g fs mk b p x e = subst (λ z. Some (record { block = b; class = class_told g fs b; words = words_with p x z }) ≡ making_with g fs z b p x) (sym e) refl
 
@@ -117,6 +119,7 @@ tag_at me w r f tr at b k x st going e step idle told made =
     refl
     (inl (step.free, step.mine))
 
+-- a tag is stored, of the block that is prepared or of one that is prepared from here on
 pub tag_prepares : (me : Me) (w : Spot → ℕ) (r : ℕ → Memo) (f : Frame) (tr : Trail) (at b x : ℕ) → Stands me w r f tr → f.fresh ≡ false → spot_at me.geometry (classes w) at ≡ Tag b → MayTag me.geometry (r me.who) b x
     → KeptAt me w r (Store at x) f (λ n m. Unit {0}) (spot_at me.geometry (classes w) at)
 tag_prepares me w r f tr at b x st going e (inl (k, a)) =
@@ -163,6 +166,7 @@ tag_prepares me w r f tr at b x st going e (inr a) =
 
 -- ---- another word
 
+-- another word of the block that is prepared is stored
 pub body_prepares : (me : Me) (w : Spot → ℕ) (r : ℕ → Memo) (f : Frame) (tr : Trail) (at b i x : ℕ) → Stands me w r f tr → f.fresh ≡ false → spot_at me.geometry (classes w) at ≡ Body b i → MayBody (r me.who) b i x
     → KeptAt me w r (Store at x) f (λ n m. Unit {0}) (spot_at me.geometry (classes w) at)
 body_prepares me w r f tr at b i x st going e (k, a, room) =

@@ -95,12 +95,12 @@ pub record KnowsDying (m : Memo) (b tag : ℕ) : Type 0 where
   pub dying : Contains m.dying b
   pub tagged : Contains m.known (record { spot = Tag b; value = tag })
 
--- and all its reference words are known as 0
+-- the zero-count block b may be freed: all its reference words are known as 0
 pub record MayFree (m : Memo) (b tag : ℕ) : Type 0 where
   pub knows : KnowsDying m b tag
   pub zeros : (i : ℕ) → i < tag_refs tag → Contains m.known (record { spot = Body b i; value = 0 })
 
--- and x is that tag with another link
+-- x may be stored as the tag of the zero-count block b: it is that tag with another link
 pub record MayLink (m : Memo) (b tag x : ℕ) : Type 0 where
   pub knows : KnowsDying m b tag
   pub shape : x / 2 ^ 20 ≡ tag / 2 ^ 20
