@@ -114,7 +114,7 @@ module _ (g : Geometry) (w : Spot → ℕ) (r : ℕ → Memo) (c i b e to tag : 
   reached : InReach w' g v' c b
   reached =
       let m : MadeAt (headers w') (λ j. targets g w' v' (Root c j)) b =
-          All-head (MadeAt (headers w') (λ j. targets g w' v' (Root c j))) b (r c).made (subst (All (MadeAt (headers w') (λ j. targets g w' v' (Root c j)))) (at1_here (view r).made c (b ∷ (r c).made)) (h'.made c l)) in
+      All-head (MadeAt (headers w') (λ j. targets g w' v' (Root c j))) b (r c).made (subst (All (MadeAt (headers w') (λ j. targets g w' v' (Root c j)))) (at1_here (view r).made c (b ∷ (r c).made)) (h'.made c l)) in
       inl (held_live_not_zero g w' v' h' b live, inl m.1)
 
   -- where the tag says so the block is a value block

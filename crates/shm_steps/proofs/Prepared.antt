@@ -47,7 +47,7 @@ MakingHolds w g c k = MakingSound g (classes w) (λ s. w (Segment s)) (λ b. w (
 pub making_holds : (g : Geometry) (w : Spot → ℕ) (r : ℕ → Memo) (c : ℕ) (k : Making) → HeldAt g w (view r) → c < g.clients → (r c).making ≡ Some k → MakingHolds w g c k
 making_holds g w r c k h l e =
     let q : MakingTie g (classes w) (λ s. w (Segment s)) (λ b. w (Head b)) (λ b. w (Tag b)) (λ b i. w (Body b i)) c (Some k) =
-        subst (MakingTie g (classes w) (λ s. w (Segment s)) (λ b. w (Head b)) (λ b. w (Tag b)) (λ b i. w (Body b i)) c) e (h.making c l) in
+    subst (MakingTie g (classes w) (λ s. w (Segment s)) (λ b. w (Head b)) (λ b. w (Tag b)) (λ b i. w (Body b i)) c) e (h.making c l) in
     q
 
 -- the class of the block's page, as it was read

@@ -23,7 +23,7 @@ pub record MayGive (m : Memo) (s : ℕ) : Type 0 where
   pub idle : m.making ≡ None
   pub owned : Contains m.owned s
 
--- the page of an own segment was read as 0, and k is a class
+-- the identity is live, the page of an own segment was read as 0, and k is a class
 pub record MayClass (m : Memo) (s q k : ℕ) : Type 0 where
   pub live : m.status ≡ status.Live
   pub read : Contains m.zeros (Page s q)
@@ -40,7 +40,7 @@ pub record MayLatch (c : ℕ) (m : Memo) (a : ℕ) : Type 0 where
 
 -- ---- a free block that is prepared
 
--- no block is prepared, the header of b was read as 0, and so was the class of its page
+-- no block is prepared, the header of b was read as 0, and the class of its page was read too, which isn't 0
 pub record MayBegin (g : Geometry) (m : Memo) (b : ℕ) : Type 0 where
   pub none : m.making ≡ None
   pub read : Contains m.zeros (Head b)
