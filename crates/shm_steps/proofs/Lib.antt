@@ -1,1 +1,6 @@
 pub mod SlotStores
+pub mod PageSteps
+pub mod BlockTold
+pub mod Prepared
+pub mod Allocated
+pub mod DyingSteps

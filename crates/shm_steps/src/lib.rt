@@ -6,5 +6,7 @@
 #![tactic(auto)]
 
 mod laws;
+mod preparing;
 
 pub use laws::slot_stores;
+pub use preparing::preparing_steps;
