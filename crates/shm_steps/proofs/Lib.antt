@@ -1,1 +1,2 @@
 pub mod SlotStores
+pub mod OwnStores

@@ -6,5 +6,7 @@
 #![tactic(auto)]
 
 mod laws;
+mod own;
 
 pub use laws::slot_stores;
+pub use own::own_stores;

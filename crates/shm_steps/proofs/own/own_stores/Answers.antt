@@ -1,0 +1,5 @@
+use Rattle.shm_steps.proofs.OwnStores.{row_stored, hold_stored}
+use Rattle.shm_steps.proofs.own.own_stores.Goals as goal
+
+pub returns : goal.returns
+returns c = record { row = row_stored; hold = hold_stored }
