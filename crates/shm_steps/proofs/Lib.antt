@@ -1,2 +1,3 @@
 pub mod SlotStores
 pub mod OwnStores
+pub mod OwnStoresLanes
