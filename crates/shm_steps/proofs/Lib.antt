@@ -1,3 +1,4 @@
 pub mod SlotStores
 pub mod OwnStores
 pub mod OwnStoresLanes
+pub mod OwnStoresRedo

@@ -9,4 +9,4 @@ mod laws;
 mod own;
 
 pub use laws::slot_stores;
-pub use own::own_stores;
+pub use own::{own_stores, root_begins};
