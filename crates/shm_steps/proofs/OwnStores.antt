@@ -82,9 +82,11 @@ hold_stored me w r f tr at x s e a = subst (KeptAt me w r (Store at x) f (λ n m
     u : View
     u = record v { facts = at1 v.facts c []; zeros = at1 v.zeros c []; test = at1 v.test c None; made = at1 v.made c [] }
 
+    -- it holds
     held : HeldAt g w u
     held = call_held g w v c [] [] None [] s.held (All-nil _) (All-nil _) tt (All-nil _)
 
+    -- the step is one that stores a hold word, in either view
     step : (y : View) → y.status ≡ v.status → y.latch ≡ v.latch → HoldStep g w y c x
     step y st la =
         record {
@@ -96,9 +98,7 @@ hold_stored me w r f tr at x s e a = subst (KeptAt me w r (Store at x) f (λ n m
           place = has_spot g w at (Hold c) e (λ z. cc);
         }
 
-    same : (b : Bool) → View → Type 0
-    same b y = y ≡ put_parts v c (parts (with_own (called (r c) (framed me (Store at x) (record f { fresh = b }) 0)) (Hold c) x))
-
+    -- the first step of a machine, and another one
     by : (b : Bool) → KeptAt me w r (Store at x) (record f { fresh = b }) (λ n m. Unit {0}) (Hold c)
     by true =
         kept_from me w r (Store at x) (record f { fresh = true }) (λ n m. Unit {0}) (Hold c) (hold_view u c x)

@@ -136,6 +136,7 @@ lowered_none _ x z = refl
 -- ---- the own era
 
 module _ (me : Me) (w : Spot → ℕ) (r : ℕ → Memo) (f : Frame) (tr : Trail) (at x : ℕ) (s : Stands me w r f tr) (a : MayClose (r me.who) x) (word : x ≡ w (Era me.who me.who) + 1) where
+  -- the sizes, the identity, the parts of the memos, the spot of the own era
   abbrev g : Geometry
   g = me.geometry
 
@@ -148,6 +149,7 @@ module _ (me : Me) (w : Spot → ℕ) (r : ℕ → Memo) (f : Frame) (tr : Trail
   abbrev p : Spot
   p = Era c c
 
+  -- the words, the step in progress and the own words afterwards
   abbrev w' : Spot → ℕ
   w' = upd w p x
 
@@ -167,21 +169,26 @@ module _ (me : Me) (w : Spot → ℕ) (r : ℕ → Memo) (f : Frame) (tr : Trail
   abbrev n' : Memo
   n' = record n { looks = [] }
 
+  -- the parts of the memos once the step in progress is closed
   abbrev v' : View
   v' = close_view v c x o
 
+  -- the step is one that closes
   step : CloseStep g v c o
   step = record { inside = s.who; acts = a.here.joined; here = a.here.stays; op = a.op }
 
+  -- they hold, and the graph stays
   closed_held : HeldAt g w' v'
   closed_held = subst (λ y. HeldAt g (upd w p y) (close_view v c y o)) (sym word) (close_kept g w v c o s.held step)
 
   closed_quiet : Happens g w Quietly (graph_of g w v) (graph_of g w' v')
   closed_quiet = subst (λ y. Happens g w Quietly (graph_of g w v) (graph_of g (upd w p y) (close_view v c y o))) (sym word) (close_quiet g w v c o s.held step)
 
+  -- an own reference word names what the memo shows
   own_target : (q : Spot) → targets g w' v' q ≡ cover (cover_of (v'.op c)) q (own_word (v'.own c) q) → cover (cover_of o) q (own_word own q) ≡ targets g w' v' q
   own_target q e = sym (e ∙ (ap (λ k. cover (cover_of k) q (own_word (v'.own c) q)) (at1_here v.op c o) ∙ ap (λ k. cover (cover_of o) q (own_word k q)) (at1_here v.own c own)))
 
+  -- the memo without looks names what the targets say
   names : Names (targets g w' v') (λ i j. w' (Tail i j)) (λ i j. w' (Front i j)) c n'
   names =
       record {
@@ -194,12 +201,14 @@ module _ (me : Me) (w : Spot → ℕ) (r : ℕ → Memo) (f : Frame) (tr : Trail
   in_reach : (b : ℕ) → is_reached c n' b ≡ true → InReachBy w' g v' c [] b
   in_reach b e = reached_sound (targets g w' v') (λ i j. w' (Tail i j)) (λ i j. w' (Front i j)) c n' names b e
 
+  -- what stays known, and the value blocks that stay
   abbrev ks : List Stored
   ks = filter (λ (k : Stored). binds c n' k.spot) (r c).known
 
   abbrev vs : List ℕ
   vs = filter (is_reached c n') (r c).values
 
+  -- where the step lowers, the state without looks holds
   dropped_held : is_lowering (r c).op ≡ true → HeldAt g w' (record v' { looks = at1 v.looks c []; known = at1 v.known c ks; values = at1 v.values c vs })
   dropped_held e =
       looks_dropped g w' v' c ks vs closed_held (at1_here v.op c o ∙ lowered_none (r c).op x e)
@@ -208,20 +217,23 @@ module _ (me : Me) (w : Spot → ℕ) (r : ℕ → Memo) (f : Frame) (tr : Trail
       (closed_held.known c s.who))
       (All-left (ValueHolds g w' v' c) (ValueBy g w' v' c []) (is_reached c n') (r c).values (λ b h t. (h.0, in_reach b t)) (closed_held.values c s.who))
 
+  -- a view is that of a memo of c
   abbrev IsMemos : View → Memo → Type 0
   IsMemos u y = u ≡ put_parts v c (parts y)
 
+  -- the memo's change by the kind of step that is closed
   stored_view : (u : View) (b : Bool) → is_lowering (r c).op ≡ b → IsMemos u (cond b (without_looks c n) n) → IsMemos u (cond (eqb c c) (era_stored c m p x) (with_own m p x))
   stored_view u b e q = subst (λ t. IsMemos u (cond t (era_stored c m p x) (with_own m p x))) (sym (eq-eqb c c refl)) (subst (λ t. IsMemos u (cond t (without_looks c n) n)) (sym e) q)
 
-  by : spot_at g (classes w) at ≡ p → (b : Bool) → is_lowering (r c).op ≡ b → KeptAt me w r (Store at x) (record f { fresh = false }) (λ n m. Unit {0}) p
-  by place true e =
+  -- a step that lowers, and another one
+  era_by : spot_at g (classes w) at ≡ p → (b : Bool) → is_lowering (r c).op ≡ b → KeptAt me w r (Store at x) (record f { fresh = false }) (λ n m. Unit {0}) p
+  era_by place true e =
       let u : View = record v' { looks = at1 v.looks c []; known = at1 v.known c ks; values = at1 v.values c vs } in
       kept_from me w r (Store at x) (record f { fresh = false }) (λ n m. Unit {0}) p u
       (told_fixed g (classes w) c (r c) (Store at x) p place refl)
       (stored_view u true e (sym (ap (λ (z : View). record z { own = at1 v.own c own; op = at1 v.op c o; looks = at1 v.looks c []; known = at1 v.known c ks; values = at1 v.values c vs; test = at1 v.test c None }) (put_same v c))))
       (dropped_held e) closed_quiet refl tt tt
-  by place false e =
+  era_by place false e =
       kept_from me w r (Store at x) (record f { fresh = false }) (λ n m. Unit {0}) p v'
       (told_fixed g (classes w) c (r c) (Store at x) p place refl)
       (stored_view v' false e (sym (ap (λ (z : View). record z { own = at1 v.own c own; op = at1 v.op c o; test = at1 v.test c None }) (put_same v c))))
@@ -235,4 +247,4 @@ era_closed me w r f tr at s going e a =
     let x : ℕ = own_word (r me.who).own p + 1 in
     subst (KeptAt me w r (Store at x) f (λ n m. Unit {0})) (sym e)
     (in_frame (λ h. KeptAt me w r (Store at x) h (λ n m. Unit {0}) p) f going
-    (by me w r f tr at x s a (ap (λ y. y + 1) (s.held.mine me.who s.who p (eq-eqb me.who me.who refl))) e (is_lowering (r me.who).op) refl))
+    (era_by me w r f tr at x s a (ap (λ y. y + 1) (s.held.mine me.who s.who p (eq-eqb me.who me.who refl))) e (is_lowering (r me.who).op) refl))

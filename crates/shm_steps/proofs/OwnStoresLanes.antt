@@ -67,7 +67,7 @@ tail_stored me w r f tr at i s going e a =
       place = has_spot g w at p e (λ z. cc);
     } in
     let sends : at1 v.sent c (λ j. slice_index_or (lane_with (r c).sent i (slice_index (r c).unsent i)) j []) ≡ at2 v.sent c i (v.sent c i ++ v.unsent c i ∷ []) =
-        part_at2 v.sent c i _ _ (λ j. put_at [] (r c).sent i (v.sent c i ++ v.unsent c i ∷ []) j) in
+    part_at2 v.sent c i _ _ (λ j. put_at [] (r c).sent i (v.sent c i ++ v.unsent c i ∷ []) j) in
     let waits : at1 v.unsent c (λ j. slice_index (put 0 (r c).unsent i 0) j) ≡ at2 v.unsent c i 0 = part_at2 v.unsent c i _ _ (λ j. put_at 0 (r c).unsent i 0 j) in
     let own = record { spot = p; value = x } ∷ v.own c in
     subst (KeptAt me w r (Store at x) f (λ n m. Unit {0})) (sym e)
@@ -102,7 +102,7 @@ head_stored me w r f tr at i s going e a =
       place = has_spot g w at p e (λ z. cc);
     } in
     let gets : at1 v.received c (λ j. slice_index_or (lane_with (r c).received i (slice_index (r c).untaken i)) j []) ≡ at2 v.received c i (v.received c i ++ v.untaken c i ∷ []) =
-        part_at2 v.received c i _ _ (λ j. put_at [] (r c).received i (v.received c i ++ v.untaken c i ∷ []) j) in
+    part_at2 v.received c i _ _ (λ j. put_at [] (r c).received i (v.received c i ++ v.untaken c i ∷ []) j) in
     let waits : at1 v.untaken c (λ j. slice_index (put 0 (r c).untaken i 0) j) ≡ at2 v.untaken c i 0 = part_at2 v.untaken c i _ _ (λ j. put_at 0 (r c).untaken i 0 j) in
     let own = record { spot = p; value = x } ∷ v.own c in
     subst (KeptAt me w r (Store at x) f (λ n m. Unit {0})) (sym e)

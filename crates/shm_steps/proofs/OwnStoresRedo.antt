@@ -78,21 +78,25 @@ spelled_or d None = d
 spelled_or d (Some x) = x
 
 module _ (g : Geometry) (w : Spot → ℕ) (r : ℕ → Memo) (c : ℕ) (h : HeldAt g w (view r)) (l : c < g.clients) where
+  -- the memo, and the own era that it tells
   abbrev m : Memo
   m = r c
 
   abbrev e : ℕ
   e = own_word m.own (Era c c)
 
+  -- the own era and the own roots are the words
   era_here : e ≡ w (Era c c)
   era_here = h.mine c l (Era c c) (eq-eqb c c refl)
 
   root_here : (k : ℕ) → own_word m.own (Root c k) ≡ w (Root c k)
   root_here k = h.mine c l (Root c k) (eq-eqb c c refl)
 
+  -- the pool has the own roots
   root_at : (k : ℕ) → k < 16 → IsAt g (classes w) (Root c k)
   root_at k s = fixed_is_at g (classes w) (Root c k) refl (rw (lt-ltb c g.clients l, lt-ltb k 16 s) refl)
 
+  -- addresses of roots and of blocks fit in a redo word
   address_fits : (k : ℕ) → IsAt g (classes w) (Root c k) → spot_address g (Root c k) < 2 ^ 20
   address_fits k a = let x = at_below g (classes w) (Root c k) a in let y = total_small g h.fits in omega arith
 
