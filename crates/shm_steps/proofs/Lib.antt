@@ -4,3 +4,7 @@ pub mod BlockTold
 pub mod Prepared
 pub mod Allocated
 pub mod DyingSteps
+pub mod OwnStores
+pub mod OwnStoresLanes
+pub mod OwnStoresRedo
+pub mod OwnStoresEra

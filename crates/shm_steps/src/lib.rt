@@ -10,3 +10,5 @@ mod preparing;
 
 pub use laws::slot_stores;
 pub use preparing::preparing_steps;
+mod own;
+pub use own::{own_stores, root_begins};

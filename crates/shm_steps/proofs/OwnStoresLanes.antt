@@ -1,0 +1,117 @@
+-- the stores of a tail and of a head, as machines use them
+use Rattle.std.proofs.Common.{◌≡◌, ℕ, zero, suc, ◌+◌, refl, sym, ap, ◌∙◌, subst, false, List, [], ◌∷◌, ◌++◌, None, cond, eqb, inl, inr, ◌⊎◌}
+use Rattle.std.specs.Prelude.{slice_index, slice_index_or}
+use Rattle.std.proofs.Math.Path.{fun_ext}
+use Rattle.std.proofs.Math.Dec.{eqb-suc-zero, eqb-zero-suc, eqb-suc-suc}
+use Rattle.std.proofs.lemmas.Bool.{eq-eqb, ne_eqb, cases_eq}
+use Rattle.shm_graph.specs.declared.ask.Ask.TheVariants.{Store}
+use Rattle.shm_graph.specs.declared.ask.Me.{Me}
+use Rattle.shm_graph.specs.declared.memo.Memo.{Memo}
+use Rattle.shm_graph.specs.declared.spot.Spot.{Spot}
+use Rattle.shm_graph.specs.declared.spot.Spot.TheVariants.{Tail, Front}
+use Rattle.shm_graph.specs.Spots.{spot_at, upd}
+use Rattle.shm_graph.specs.Blocks.{classes}
+use Rattle.shm_graph.specs.Views.{View, view, at1, own_word}
+use Rattle.shm_graph.specs.Asks.{Trail}
+use Rattle.shm_graph.specs.Events.{Nothing, graph_of, Happens}
+use Rattle.shm_graph.specs.Held.{HeldAt}
+use Rattle.shm_graph.specs.Stores.{put, lane_with}
+use Rattle.shm_graph.specs.Laws.{Frame, Stands, KeptAt}
+use Rattle.shm_graph.proofs.Keeping.{told_fixed}
+use Rattle.shm_graph.proofs.KindKeeping.{in_frame, kept_from}
+use Rattle.shm_graph.proofs.MemoParts.{put_same}
+use Rattle.shm_laws.specs.Steps.{TailStep, tail_view, HeadStep, head_view, at2}
+use Rattle.shm_laws.proofs.Tails.{tail_kept}
+use Rattle.shm_laws.proofs.Heads.{head_kept}
+use Rattle.shm_laws.proofs.Quiet.{tail_quiet, head_quiet}
+use Rattle.shm_steps.specs.OwnWords.{MaySend, MayReceive}
+use Rattle.shm_steps.proofs.OwnStores.{has_spot}
+
+-- item i of a list is x, and each other one stays
+pub put_at : {T : Type 0} (d : T) (xs : List T) (i : ℕ) (x : T) (j : ℕ) → slice_index_or (put d xs i x) j d ≡ cond (eqb i j) x (slice_index_or xs j d)
+put_at d [] zero x zero = refl
+put_at d [] zero x (suc j) = rw (eqb-zero-suc j) refl
+put_at d [] (suc i) x zero = rw (eqb-suc-zero i) refl
+put_at d [] (suc i) x (suc j) = rw (eqb-suc-suc i j) (put_at d [] i x j)
+put_at d (y ∷ ys) zero x zero = refl
+put_at d (y ∷ ys) zero x (suc j) = rw (eqb-zero-suc j) refl
+put_at d (y ∷ ys) (suc i) x zero = rw (eqb-suc-zero i) refl
+put_at d (y ∷ ys) (suc i) x (suc j) = rw (eqb-suc-suc i j) (put_at d ys i x j)
+
+-- one item of one identity's part changes
+pub part_at2 : {T : Type 0} (f : ℕ → ℕ → T) (c r : ℕ) (x : T) (h : ℕ → T) → ((j : ℕ) → h j ≡ cond (eqb r j) x (f c j)) → at1 f c h ≡ at2 f c r x
+part_at2 {T} f c r x h e = fun_ext (λ d. fun_ext (λ j. at d j (cases_eq c d)))
+  where
+    at : (d j : ℕ) → (c ≡ d) ⊎ (c ≡ d → ⊥) → at1 f c h d j ≡ at2 f c r x d j
+    at d j (inl q) = subst (λ k. at1 f c h k j ≡ at2 f c r x k j) q (rw (eq-eqb c c refl) (e j))
+    at d j (inr n) = rw (ne_eqb c d n) refl
+
+-- the tail of the queue to another client is stored
+pub tail_stored : (me : Me) (w : Spot → ℕ) (r : ℕ → Memo) (f : Frame) (tr : Trail) (at i : ℕ) → Stands me w r f tr → f.fresh ≡ false → spot_at me.geometry (classes w) at ≡ Tail me.who i → MaySend me.geometry.clients me.who (r me.who) i
+    → KeptAt me w r (Store at (own_word (r me.who).own (Tail me.who i) + 1)) f (λ n m. Unit {0}) (spot_at me.geometry (classes w) at)
+tail_stored me w r f tr at i s going e a =
+    let g = me.geometry in
+    let c = me.who in
+    let v : View = view r in
+    let p : Spot = Tail c i in
+    let x : ℕ = own_word (r c).own p + 1 in
+    let word : own_word (r c).own p ≡ w p = s.held.mine c s.who p (eq-eqb c c refl) in
+    let step : TailStep g w v c i = record {
+      inside = s.who;
+      to = a.to;
+      other = a.other;
+      acts = a.here.joined;
+      here = a.here.stays;
+      op = a.idle;
+      some = a.some;
+      place = has_spot g w at p e (λ z. cc);
+    } in
+    let sends : at1 v.sent c (λ j. slice_index_or (lane_with (r c).sent i (slice_index (r c).unsent i)) j []) ≡ at2 v.sent c i (v.sent c i ++ v.unsent c i ∷ []) =
+    part_at2 v.sent c i _ _ (λ j. put_at [] (r c).sent i (v.sent c i ++ v.unsent c i ∷ []) j) in
+    let waits : at1 v.unsent c (λ j. slice_index (put 0 (r c).unsent i 0) j) ≡ at2 v.unsent c i 0 = part_at2 v.unsent c i _ _ (λ j. put_at 0 (r c).unsent i 0 j) in
+    let own = record { spot = p; value = x } ∷ v.own c in
+    subst (KeptAt me w r (Store at x) f (λ n m. Unit {0})) (sym e)
+    (in_frame (λ h. KeptAt me w r (Store at x) h (λ n m. Unit {0}) p) f going
+    (kept_from me w r (Store at x) (record f { fresh = false }) (λ n m. Unit {0}) p (tail_view v c i x)
+    (told_fixed g (classes w) c (r c) (Store at x) p e refl)
+    (ap (λ (k : ℕ → ℕ → List ℕ). record v { own = at1 v.own c own; sent = k; unsent = at2 v.unsent c i 0; test = at1 v.test c None }) (sym sends)
+    ∙ (ap (λ (k : ℕ → ℕ → ℕ). record v { own = at1 v.own c own; sent = at1 v.sent c (λ j. slice_index_or (lane_with (r c).sent i (slice_index (r c).unsent i)) j []); unsent = k; test = at1 v.test c None }) (sym waits)
+    ∙ sym (ap (λ (u : View). record u { own = at1 v.own c own; sent = at1 v.sent c (λ j. slice_index_or (lane_with (r c).sent i (slice_index (r c).unsent i)) j []); unsent = at1 v.unsent c (λ j. slice_index (put 0 (r c).unsent i 0) j); test = at1 v.test c None }) (put_same v c))))
+    (subst (λ y. HeldAt g (upd w p (y + 1)) (tail_view v c i (y + 1))) (sym word) (tail_kept g w v c i s.held step))
+    (subst (λ y. Happens g w Nothing (graph_of g w v) (graph_of g (upd w p (y + 1)) (tail_view v c i (y + 1)))) (sym word) (tail_quiet g w v c i s.held step))
+    refl tt tt))
+
+-- the head of the queue from another client is stored
+pub head_stored : (me : Me) (w : Spot → ℕ) (r : ℕ → Memo) (f : Frame) (tr : Trail) (at i : ℕ) → Stands me w r f tr → f.fresh ≡ false → spot_at me.geometry (classes w) at ≡ Front i me.who → MayReceive me.geometry.clients me.who (r me.who) i
+    → KeptAt me w r (Store at (own_word (r me.who).own (Front i me.who) + 1)) f (λ n m. Unit {0}) (spot_at me.geometry (classes w) at)
+head_stored me w r f tr at i s going e a =
+    let g = me.geometry in
+    let c = me.who in
+    let v : View = view r in
+    let p : Spot = Front i c in
+    let x : ℕ = own_word (r c).own p + 1 in
+    let word : own_word (r c).own p ≡ w p = s.held.mine c s.who p (eq-eqb c c refl) in
+    let step : HeadStep g w v c i = record {
+      inside = s.who;
+      from = a.from;
+      other = a.other;
+      acts = a.here.joined;
+      here = a.here.stays;
+      op = a.idle;
+      some = a.some;
+      place = has_spot g w at p e (λ z. cc);
+    } in
+    let gets : at1 v.received c (λ j. slice_index_or (lane_with (r c).received i (slice_index (r c).untaken i)) j []) ≡ at2 v.received c i (v.received c i ++ v.untaken c i ∷ []) =
+    part_at2 v.received c i _ _ (λ j. put_at [] (r c).received i (v.received c i ++ v.untaken c i ∷ []) j) in
+    let waits : at1 v.untaken c (λ j. slice_index (put 0 (r c).untaken i 0) j) ≡ at2 v.untaken c i 0 = part_at2 v.untaken c i _ _ (λ j. put_at 0 (r c).untaken i 0 j) in
+    let own = record { spot = p; value = x } ∷ v.own c in
+    subst (KeptAt me w r (Store at x) f (λ n m. Unit {0})) (sym e)
+    (in_frame (λ h. KeptAt me w r (Store at x) h (λ n m. Unit {0}) p) f going
+    (kept_from me w r (Store at x) (record f { fresh = false }) (λ n m. Unit {0}) p (head_view v c i x)
+    (told_fixed g (classes w) c (r c) (Store at x) p e refl)
+    (ap (λ (k : ℕ → ℕ → List ℕ). record v { own = at1 v.own c own; received = k; untaken = at2 v.untaken c i 0; test = at1 v.test c None }) (sym gets)
+    ∙ (ap (λ (k : ℕ → ℕ → ℕ). record v { own = at1 v.own c own; received = at1 v.received c (λ j. slice_index_or (lane_with (r c).received i (slice_index (r c).untaken i)) j []); untaken = k; test = at1 v.test c None }) (sym waits)
+    ∙ sym (ap (λ (u : View). record u { own = at1 v.own c own; received = at1 v.received c (λ j. slice_index_or (lane_with (r c).received i (slice_index (r c).untaken i)) j []); untaken = at1 v.untaken c (λ j. slice_index (put 0 (r c).untaken i 0) j); test = at1 v.test c None }) (put_same v c))))
+    (subst (λ y. HeldAt g (upd w p (y + 1)) (head_view v c i (y + 1))) (sym word) (head_kept g w v c i s.held step))
+    (subst (λ y. Happens g w Nothing (graph_of g w v) (graph_of g (upd w p (y + 1)) (head_view v c i (y + 1)))) (sym word) (head_quiet g w v c i s.held step))
+    refl tt tt))

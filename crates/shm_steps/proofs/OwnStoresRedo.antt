@@ -1,0 +1,169 @@
+-- the store of the redo word, as machines use it, and what a memo shows of a step that it begins at a root
+use Rattle.std.proofs.Common.{◌≡◌, ℕ, ◌+◌, ◌^◌, ◌<◌, ◌≤◌, refl, sym, ap, ◌∙◌, subst, arith, true, false, ◌∷◌, None, Some, Option, cond, inl, inr, ◌⊎◌}
+use Rattle.std.proofs.lemmas.Bool.{eq-eqb, lt-ltb, eqb-true, false≢true}
+use Rattle.shm_words.specs.declared.geometry.Geometry.{Geometry}
+use Rattle.shm_words.specs.declared.redo.Redo.{Redo as ARedo}
+use Rattle.shm_words.specs.declared.redo.Redo.TheVariants as redos
+use Rattle.shm_words.specs.Redos.{redo_word, RedoFits}
+use Rattle.shm_words.proofs.Placing.{total_small}
+use Rattle.shm_words.proofs.Words.{redo_of-word, redo_word_small}
+use Rattle.shm_graph.specs.declared.ask.Ask.TheVariants.{Store}
+use Rattle.shm_graph.specs.declared.ask.Me.{Me}
+use Rattle.shm_graph.specs.declared.memo.First.TheVariants.{Begun}
+use Rattle.shm_graph.specs.declared.memo.Making.{Making}
+use Rattle.shm_graph.specs.declared.memo.Memo.{Memo}
+use Rattle.shm_graph.specs.declared.memo.Op.{Op}
+use Rattle.shm_graph.specs.declared.memo.Op.TheVariants.{Nothing, Alloc, Up, Down}
+use Rattle.shm_graph.specs.declared.spot.Spot.{Spot}
+use Rattle.shm_graph.specs.declared.spot.Spot.TheVariants.{Redo, Era, Root, Tag, Body, Head, Segment}
+use Rattle.shm_graph.specs.Spots.{spot_at, spot_address, IsAt}
+use Rattle.shm_graph.specs.Blocks.{classes, IsBlock}
+use Rattle.shm_graph.specs.Views.{View, view, at1, own_word, targets}
+use Rattle.shm_graph.specs.References.{words_of}
+use Rattle.shm_graph.specs.Asks.{Trail}
+use Rattle.shm_graph.specs.Held.{HeldAt, MakingTie, Names, OpSound, OpTie, Allowed, room_of}
+use Rattle.shm_graph.specs.Ops.{Quiet, cover, cover_of, on_of, limbo_of, slot_of}
+use Rattle.shm_graph.specs.Reach.{is_reached}
+use Rattle.shm_graph.specs.Stores.{is_block_made, op_spelled}
+use Rattle.shm_graph.specs.Telling.{word_told, outside_or, spot_claimed, claim_of}
+use Rattle.shm_graph.specs.Laws.{Frame, Stands, KeptAt}
+use Rattle.shm_graph.proofs.Fixed.{fixed_is_at}
+use Rattle.shm_graph.proofs.Holders.{Holds, reach_counted, target_counted, held_live_block}
+use Rattle.shm_graph.proofs.Loads.{choice}
+use Rattle.shm_graph.proofs.Keeping.{told_fixed}
+use Rattle.shm_graph.proofs.KindKeeping.{in_frame, kept_from}
+use Rattle.shm_graph.proofs.MemoParts.{put_same}
+use Rattle.shm_graph.proofs.PageSpots.{fixed_stays}
+use Rattle.shm_graph.proofs.Reached.{reached_here, shown_target}
+use Rattle.shm_graph.proofs.Spotting.{at_below, block_within}
+use Rattle.shm_laws.specs.Steps.{BeginStep, begin_view}
+use Rattle.shm_laws.proofs.Rows.{begin_kept}
+use Rattle.shm_laws.proofs.Quiet.{begin_quiet}
+use Rattle.shm_steps.specs.Conditions.{IsHere}
+use Rattle.shm_steps.specs.OwnWords.{MayAdd, MayRemove, op_begun}
+
+-- the redo word is stored, which begins a step
+pub redo_stored : (me : Me) (w : Spot → ℕ) (r : ℕ → Memo) (f : Frame) (tr : Trail) (at x : ℕ) → Stands me w r f tr → f.fresh ≡ false → spot_at me.geometry (classes w) at ≡ Redo me.who → BeginStep me.geometry w (view r) me.who x (op_begun me.geometry me.who (r me.who) x)
+    → KeptAt me w r (Store at x) f (λ n m. Unit {0}) (spot_at me.geometry (classes w) at)
+redo_stored me w r f tr at x s going e step =
+    let g = me.geometry in
+    let c = me.who in
+    let v : View = view r in
+    let p : Spot = Redo c in
+    let o : Op = op_begun g c (r c) x in
+    subst (KeptAt me w r (Store at x) f (λ n m. Unit {0})) (sym e)
+    (in_frame (λ h. KeptAt me w r (Store at x) h (λ n m. Unit {0}) p) f going
+    (kept_from me w r (Store at x) (record f { fresh = false }) (λ n m. Unit {0}) p (begin_view v c x o)
+    (told_fixed g (classes w) c (r c) (Store at x) p e refl)
+    (sym (ap (λ (u : View). record u { own = at1 v.own c (record { spot = p; value = x } ∷ v.own c); op = at1 v.op c o; test = at1 v.test c None }) (put_same v c)))
+    (begin_kept g w v c x o s.held step)
+    (begin_quiet g w v c x o s.held step)
+    refl tt tt))
+
+-- the memo tells a root by its address
+root_told : (g : Geometry) (class : ℕ → ℕ → ℕ) (c : ℕ) (m : Memo) (d k : ℕ) → IsAt g class (Root d k) → word_told g c m (spot_address g (Root d k)) ≡ Root d k
+unfolding spot_at
+root_told g class c m d k h =
+    let at : ℕ = spot_address g (Root d k) in
+    ap (λ q. outside_or q (spot_claimed at (claim_of c m at))) (fixed_stays g class (λ s q. 0) at (Root d k) h refl)
+
+-- the block that is prepared is a block
+made_block : (g : Geometry) (class : ℕ → ℕ → ℕ) (segment word tag : ℕ → ℕ) (body : ℕ → ℕ → ℕ) (c b : ℕ) (k : Option Making) → MakingTie g class segment word tag body c k → is_block_made k b ≡ true → IsBlock g class b
+made_block g class segment word tag body c b None h e = absurd (false≢true e)
+made_block g class segment word tag body c b (Some k) h e = subst (IsBlock g class) (eqb-true k.block b e) h.block
+
+-- what a redo word spells, where it spells something
+abbrev spelled_or : ARedo → Option ARedo → ARedo
+spelled_or d None = d
+spelled_or d (Some x) = x
+
+module _ (g : Geometry) (w : Spot → ℕ) (r : ℕ → Memo) (c : ℕ) (h : HeldAt g w (view r)) (l : c < g.clients) where
+  -- the memo, and the own era that it tells
+  abbrev m : Memo
+  m = r c
+
+  abbrev e : ℕ
+  e = own_word m.own (Era c c)
+
+  -- the own era and the own roots are the words
+  era_here : e ≡ w (Era c c)
+  era_here = h.mine c l (Era c c) (eq-eqb c c refl)
+
+  root_here : (k : ℕ) → own_word m.own (Root c k) ≡ w (Root c k)
+  root_here k = h.mine c l (Root c k) (eq-eqb c c refl)
+
+  -- the pool has the own roots
+  root_at : (k : ℕ) → k < 16 → IsAt g (classes w) (Root c k)
+  root_at k s = fixed_is_at g (classes w) (Root c k) refl (rw (lt-ltb c g.clients l, lt-ltb k 16 s) refl)
+
+  -- addresses of roots and of blocks fit in a redo word
+  address_fits : (k : ℕ) → IsAt g (classes w) (Root c k) → spot_address g (Root c k) < 2 ^ 20
+  address_fits k a = let x = at_below g (classes w) (Root c k) a in let y = total_small g h.fits in omega arith
+
+  block_fits : (b : ℕ) → IsBlock g (classes w) b → b < 2 ^ 20
+  block_fits b a = let x = block_within g (classes w) b a in let y = total_small g h.fits in omega arith
+
+  -- a step at an own root begins, where its redo word spells it
+  begins : (k : ℕ) (red : ARedo) (o : Op) → IsHere m → m.op ≡ Nothing → RedoFits red → Names g (classes w) red → on_of o ≡ None → limbo_of o ≡ 0 → cover_of o ≡ Quiet → room_of o ≡ 3 → e + 3 ≤ 2 ^ 47
+      → OpTie g (classes w) (redo_word red) (w (Era c c)) (words_of w) o → Allowed c o → slot_of o ≡ Root c k
+      → BeginStep g w (view r) c (redo_word red) o
+  begins k red o here idle fits names on limbo quiet three room tie may slot =
+      record {
+        inside = l;
+        acts = here.joined;
+        here = here.stays;
+        place = fixed_is_at g (classes w) (Redo c) refl (lt-ltb c g.clients l);
+        small = redo_word_small red fits;
+        op = idle;
+        on = on;
+        limbo = limbo;
+        quiet = quiet;
+        room = (let y = era_here in omega arith);
+        tie = tie;
+        names = λ s q. subst (Names g (classes w)) (ap (spelled_or red) (sym (redo_of-word red fits) ∙ q)) names;
+        allowed = may;
+        slot = λ is. subst (Holds w g (view r) c) (sym slot) refl;
+      }
+
+  -- the step that a redo word begins at an own root
+  up_begun : (k b : ℕ) → IsAt g (classes w) (Root c k) → RedoFits (redos.Up (spot_address g (Root c k)) b)
+      → op_begun g c m (redo_word (redos.Up (spot_address g (Root c k)) b)) ≡ cond (is_block_made m.making b) (Alloc Begun (Root c k) b e) (Up Begun (Root c k) b e)
+  up_begun k b at fits =
+      ap (op_spelled (word_told g c m) m.making e) (redo_of-word (redos.Up (spot_address g (Root c k)) b) fits)
+      ∙ ap (λ p. cond (is_block_made m.making b) (Alloc Begun p b e) (Up Begun p b e)) (root_told g (classes w) c m c k at)
+
+  down_begun : (k b : ℕ) → IsAt g (classes w) (Root c k) → RedoFits (redos.Down (spot_address g (Root c k)) b)
+      → op_begun g c m (redo_word (redos.Down (spot_address g (Root c k)) b)) ≡ Down Begun (Root c k) b e
+  down_begun k b at fits =
+      ap (op_spelled (word_told g c m) m.making e) (redo_of-word (redos.Down (spot_address g (Root c k)) b) fits)
+      ∙ ap (λ p. Down Begun p b e) (root_told g (classes w) c m c k at)
+
+  -- a block that is prepared, or in reach, is a block
+  source_block : (b : ℕ) → (is_block_made m.making b ≡ true) ⊎ (is_reached c m b ≡ true) → IsBlock g (classes w) b
+  source_block b (inl u) = made_block g (classes w) (λ s. w (Segment s)) (λ d. w (Head d)) (λ d. w (Tag d)) (λ d i. w (Body d i)) c b m.making (h.making c l) u
+  source_block b (inr u) = held_live_block g w (view r) h b (reach_counted g w (view r) h c b l (reached_here g w r h c l b u)).0
+
+  -- a block is to be put into an own root
+  pub root_begins_up : (k b : ℕ) → MayAdd c m k b → BeginStep g w (view r) c (redo_word (redos.Up (spot_address g (Root c k)) b)) (op_begun g c m (redo_word (redos.Up (spot_address g (Root c k)) b)))
+  root_begins_up k b a =
+      let red : ARedo = redos.Up (spot_address g (Root c k)) b in
+      let at : IsAt g (classes w) (Root c k) = root_at k a.root in
+      let block : IsBlock g (classes w) b = source_block b a.source in
+      let fits : RedoFits red = (address_fits k at, block_fits b block) in
+      let sound : OpSound g (classes w) (redo_word red) (w (Era c c)) (w (Root c k)) (Root c k) red e 0 = record { spelled = redo_of-word red fits; current = era_here; at = at; word = sym (root_here k) ∙ a.empty } in
+      subst (BeginStep g w (view r) c (redo_word red)) (sym (up_begun k b at fits))
+      (choice (BeginStep g w (view r) c (redo_word red)) (is_block_made m.making b) (Alloc Begun (Root c k) b e) (Up Begun (Root c k) b e)
+      (λ z. begins k red (Alloc Begun (Root c k) b e) a.here a.idle fits block refl refl refl refl a.room sound refl refl)
+      (λ z. begins k red (Up Begun (Root c k) b e) a.here a.idle fits block refl refl refl refl a.room sound refl refl))
+
+  -- the block of an own root is to go
+  pub root_begins_down : (k b : ℕ) → MayRemove c m k b → BeginStep g w (view r) c (redo_word (redos.Down (spot_address g (Root c k)) b)) (op_begun g c m (redo_word (redos.Down (spot_address g (Root c k)) b)))
+  root_begins_down k b a =
+      let red : ARedo = redos.Down (spot_address g (Root c k)) b in
+      let word : w (Root c k) ≡ b = sym (root_here k) ∙ a.root in
+      let at : IsAt g (classes w) (Root c k) = h.there (Root c k) (λ z. a.some (sym word ∙ z)) in
+      let names : targets g w (view r) (Root c k) ≡ b = shown_target g w (view r) h c l (Root c k) refl ∙ (ap (λ o. cover (cover_of o) (Root c k) (own_word m.own (Root c k))) a.idle ∙ a.root) in
+      let block : IsBlock g (classes w) b = held_live_block g w (view r) h b (target_counted g w (view r) h (Root c k) b a.some names).0 in
+      let fits : RedoFits red = (address_fits k at, block_fits b block) in
+      subst (BeginStep g w (view r) c (redo_word red)) (sym (down_begun k b at fits))
+      (begins k red (Down Begun (Root c k) b e) a.here a.idle fits block refl refl refl refl a.room (record { spelled = redo_of-word red fits; current = era_here; at = at; word = word }) refl refl)
