@@ -1,0 +1,3 @@
+pub mod AllocControl
+pub mod AllocTrail
+pub mod AllocFits

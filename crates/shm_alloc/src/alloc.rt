@@ -1,0 +1,60 @@
+//! The allocation of a block.
+
+use crate::point::{AllocPoint, AllocState, Next, Request};
+use shm_count::Made;
+use shm_graph::{Ask, Machine, Me, Turn};
+use std::marker::Model;
+
+/// Why no block was made.
+#[derive(Clone, Copy, Debug, PartialEq, Eq, Drop)]
+pub enum AllocFault {
+    /// The own era that was read is above 2^47 - 3.
+    EraSpent { era: u64 },
+    /// All 16 own roots are set.
+    RootsFull,
+    /// Every segment is another's, or has no free block of the class and no page without a class.
+    Full {
+        /// How many segments are another's.
+        segments: u16,
+        /// How many headers of blocks were read.
+        blocks: u32,
+    },
+}
+
+/// A block has at most 16 reference words and 8 plain words; these were asked for.
+#[derive(Clone, Copy, Debug, PartialEq, Eq, Drop)]
+pub struct TooLarge {
+    pub refs: u8,
+    pub plain: usize,
+}
+
+/// Takes a free block of a segment of the identity, and makes it live in the least empty root.
+#[derive(Drop)]
+pub struct Alloc {
+    state: AllocState,
+}
+
+impl Alloc {
+    /// An allocation for the identity `me` of a block with `refs` empty reference words and these plain words.
+    ///
+    /// # Errors
+    ///
+    /// `TooLarge` where more than 16 reference words or more than 8 plain words are asked for.
+    pub fn new(me: Me, refs: u8, plain: &[u64]) -> Result<Alloc, TooLarge> {
+        if refs > 16 || plain.len() > 8 {
+            let plain = plain.len();
+            return Err(TooLarge { refs, plain });
+        }
+        let mut words = [0; 8];
+        words[..plain.len()].copy_from_slice(plain);
+        let request = Request {
+            refs,
+            count: plain.len() as u8,
+            plain: words,
+        };
+        let point = AllocPoint::Era;
+        Ok(Alloc {
+            state: AllocState { me, request, point },
+        })
+    }
+}

@@ -1,0 +1,13 @@
+//! Allocation: a free block becomes live in an empty root of an identity, or a named refusal.
+//!
+//! Segments of pages of blocks of one class, owned by one client each, are those of CXL-SHM (SOSP 2023).
+#![tactic(auto)]
+
+pub mod alloc;
+pub mod point;
+
+pub use alloc::{Alloc, AllocFault, TooLarge};
+pub use point::{AllocPoint, AllocState, Goal, Next, Request, Search};
+
+#[cfg(test)]
+mod tests;

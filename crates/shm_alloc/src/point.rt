@@ -1,0 +1,389 @@
+//! The control of an allocation: which word it asks for, and where it goes by the word found.
+
+use crate::alloc::AllocFault;
+use shm_count::Made;
+use shm_graph::{Ask, Me};
+use shm_words::{Header, Redo, Tag, class_of};
+
+/// What the new block is to hold.
+#[derive(Clone, Copy, Debug, PartialEq, Eq, Drop)]
+pub struct Request {
+    /// How many reference words, 0 to 16.
+    pub refs: u8,
+    /// How many plain words, 0 to 8.
+    pub count: u8,
+    /// The plain words; those from `count` on mean nothing.
+    pub plain: [u64; 8],
+}
+
+/// The own era that was read, and the root that is to name the block.
+#[derive(Clone, Copy, Debug, PartialEq, Eq, Drop)]
+pub struct Goal {
+    pub era: u64,
+    pub root: u8,
+}
+
+/// How far the search for a free block has come.
+#[derive(Clone, Copy, Debug, PartialEq, Eq, Drop)]
+pub struct Search {
+    /// The segment that is looked at.
+    pub segment: u16,
+    /// How many segments before it were another's.
+    pub taken: u16,
+    /// How many headers were read that aren't free.
+    pub used: u32,
+}
+
+/// The step that comes next.
+#[derive(Clone, Copy, Debug, PartialEq, Eq, Drop)]
+pub enum AllocPoint {
+    /// Load the own era.
+    Era,
+    /// Load a root.
+    Root { era: u64, root: u8 },
+    /// Load the owner of a segment.
+    Segment { goal: Goal, search: Search },
+    /// Claim a segment that is nobody's.
+    Claim { goal: Goal, search: Search },
+    /// Load the class of a page.
+    Page {
+        goal: Goal,
+        search: Search,
+        page: u8,
+    },
+    /// Give a page its class.
+    Class {
+        goal: Goal,
+        search: Search,
+        page: u8,
+    },
+    /// Load the header of a block.
+    Header {
+        goal: Goal,
+        search: Search,
+        page: u8,
+        index: u8,
+    },
+    /// Store the tag.
+    Tag { goal: Goal, block: u32 },
+    /// Store 0 into a reference word.
+    Reference { goal: Goal, block: u32, index: u8 },
+    /// Store a plain word.
+    Plain { goal: Goal, block: u32, index: u8 },
+    /// Store the redo record.
+    Redo { goal: Goal, block: u32 },
+    /// Make the block live.
+    Commit { goal: Goal, block: u32 },
+    /// Store the root.
+    Slot { goal: Goal, block: u32 },
+    /// Store the next own era.
+    Close { goal: Goal, block: u32 },
+    /// It has answered.
+    Over,
+}
+
+/// The control of an allocation.
+#[derive(Clone, Copy, Debug, PartialEq, Eq, Drop)]
+pub struct AllocState {
+    pub me: Me,
+    pub request: Request,
+    pub point: AllocPoint,
+}
+
+/// Where an allocation goes by the word that it found.
+#[derive(Clone, Copy, Debug, PartialEq, Eq, Drop)]
+pub enum Next {
+    Point(AllocPoint),
+    Answer(Result<Made, AllocFault>),
+}
+
+impl Request {
+    /// The class of the new block.
+    pub fn class(self) -> u8 {
+        class_of(self.refs, self.count)
+    }
+
+    /// The tag of the new block.
+    fn tag(self, author: u8) -> Tag {
+        Tag {
+            refs: self.refs,
+            plain: self.count,
+            author,
+            link: 0,
+        }
+    }
+
+    /// The step after the tag and `index` reference words are stored.
+    fn references_from(self, goal: Goal, block: u32, index: u8) -> AllocPoint {
+        if index < self.refs {
+            AllocPoint::Reference { goal, block, index }
+        } else {
+            self.plain_from(goal, block, 0)
+        }
+    }
+
+    /// The step after the tag, the reference words and `index` plain words are stored.
+    fn plain_from(self, goal: Goal, block: u32, index: u8) -> AllocPoint {
+        if index < self.count {
+            AllocPoint::Plain { goal, block, index }
+        } else {
+            AllocPoint::Redo { goal, block }
+        }
+    }
+}
+
+impl AllocState {
+    /// The address of a block: its page's place and its place in the page.
+    fn block(self, search: Search, page: u8, index: u8) -> u32 {
+        self.me.geometry.body(search.segment, page)
+            + u32::from(self.request.class()) * u32::from(index)
+    }
+
+    /// The word step that comes next.
+    pub fn ask(self) -> Ask {
+        let Me { geometry, who } = self.me;
+        match self.point {
+            AllocPoint::Era => Ask::Load {
+                at: geometry.era(who, who),
+            },
+            AllocPoint::Root { root, .. } => Ask::Load {
+                at: geometry.root(who, root),
+            },
+            AllocPoint::Segment { search, .. } => Ask::Load {
+                at: geometry.segment(search.segment),
+            },
+            AllocPoint::Claim { search, .. } => Ask::Exchange {
+                at: geometry.segment(search.segment),
+                from: 0,
+                to: u64::from(who) + 1,
+            },
+            AllocPoint::Page { search, page, .. } => Ask::Load {
+                at: geometry.page(search.segment, page),
+            },
+            AllocPoint::Class { search, page, .. } => Ask::Store {
+                at: geometry.page(search.segment, page),
+                value: u64::from(self.request.class()),
+            },
+            AllocPoint::Header {
+                search,
+                page,
+                index,
+                ..
+            } => Ask::Load {
+                at: self.block(search, page, index),
+            },
+            AllocPoint::Over => Ask::Load { at: 0 },
+            _ => self.ask_for_block(),
+        }
+    }
+
+    /// The word step that comes next once a free block is found.
+    fn ask_for_block(self) -> Ask {
+        let Me { geometry, who } = self.me;
+        match self.point {
+            AllocPoint::Tag { block, .. } => Ask::Store {
+                at: block + 1,
+                value: geometry.write_tag(self.request.tag(who)),
+            },
+            AllocPoint::Reference { block, index, .. } => Ask::Store {
+                at: block + 2 + u32::from(index),
+                value: 0,
+            },
+            AllocPoint::Plain { block, index, .. } => Ask::Store {
+                at: block + 2 + u32::from(self.request.refs) + u32::from(index),
+                value: self.request.plain[index as usize],
+            },
+            AllocPoint::Redo { goal, block } => Ask::Store {
+                at: geometry.redo(who),
+                value: Redo::Up {
+                    slot: geometry.root(who, goal.root),
+                    block,
+                }
+                .pack(),
+            },
+            AllocPoint::Commit { goal, block } => Ask::Exchange {
+                at: block,
+                from: 0,
+                to: Header {
+                    live: true,
+                    client: who,
+                    count: 1,
+                    era: goal.era,
+                }
+                .pack(),
+            },
+            AllocPoint::Slot { goal, block } => Ask::Store {
+                at: geometry.root(who, goal.root),
+                value: u64::from(block),
+            },
+            AllocPoint::Close { goal, .. } => Ask::Store {
+                at: geometry.era(who, who),
+                value: goal.era + 1,
+            },
+            _ => Ask::Load { at: 0 },
+        }
+    }
+
+    /// Where it goes by the word that it found.
+    pub fn next(self, seen: u64) -> Next {
+        match self.point {
+            AllocPoint::Era => era_next(seen),
+            AllocPoint::Root { era, root } => root_next(era, root, seen),
+            AllocPoint::Segment { goal, search } => self.segment_next(goal, search, seen),
+            AllocPoint::Claim { goal, search } => {
+                if seen == 0 {
+                    first_page(goal, search)
+                } else {
+                    self.taken(goal, search)
+                }
+            }
+            AllocPoint::Page { goal, search, page } => self.page_next(goal, search, page, seen),
+            AllocPoint::Class { goal, search, page } => first_header(goal, search, page),
+            AllocPoint::Header {
+                goal,
+                search,
+                page,
+                index,
+            } => self.header_next(goal, search, page, index, seen),
+            _ => self.next_of_block(),
+        }
+    }
+
+    /// Where it goes once a free block is found.
+    fn next_of_block(self) -> Next {
+        let request = self.request;
+        match self.point {
+            AllocPoint::Tag { goal, block } => {
+                Next::Point(request.references_from(goal, block, 0))
+            }
+            AllocPoint::Reference { goal, block, index } => {
+                Next::Point(request.references_from(goal, block, index + 1))
+            }
+            AllocPoint::Plain { goal, block, index } => {
+                Next::Point(request.plain_from(goal, block, index + 1))
+            }
+            AllocPoint::Redo { goal, block } => Next::Point(AllocPoint::Commit { goal, block }),
+            AllocPoint::Commit { goal, block } => Next::Point(AllocPoint::Slot { goal, block }),
+            AllocPoint::Slot { goal, block } => Next::Point(AllocPoint::Close { goal, block }),
+            AllocPoint::Close { goal, block } => Next::Answer(Ok(Made {
+                root: goal.root,
+                block,
+            })),
+            point => Next::Point(point),
+        }
+    }
+
+    fn segment_next(self, goal: Goal, search: Search, seen: u64) -> Next {
+        if seen == 0 {
+            Next::Point(AllocPoint::Claim { goal, search })
+        } else if seen == u64::from(self.me.who) + 1 {
+            first_page(goal, search)
+        } else {
+            self.taken(goal, search)
+        }
+    }
+
+    fn page_next(self, goal: Goal, search: Search, page: u8, seen: u64) -> Next {
+        if seen == 0 {
+            Next::Point(AllocPoint::Class { goal, search, page })
+        } else if seen == u64::from(self.request.class()) {
+            first_header(goal, search, page)
+        } else {
+            self.page_over(goal, search, page)
+        }
+    }
+
+    fn header_next(self, goal: Goal, search: Search, page: u8, index: u8, seen: u64) -> Next {
+        if seen == 0 {
+            let block = self.block(search, page, index);
+            return Next::Point(AllocPoint::Tag { goal, block });
+        }
+        let search = Search {
+            used: search.used + 1,
+            ..search
+        };
+        if index + 1 < 128 / self.request.class() {
+            Next::Point(AllocPoint::Header {
+                goal,
+                search,
+                page,
+                index: index + 1,
+            })
+        } else {
+            self.page_over(goal, search, page)
+        }
+    }
+
+    /// The page has no free block of the class.
+    fn page_over(self, goal: Goal, search: Search, page: u8) -> Next {
+        if page < 15 {
+            let page = page + 1;
+            Next::Point(AllocPoint::Page { goal, search, page })
+        } else {
+            self.segment_over(goal, search)
+        }
+    }
+
+    /// The segment is another's.
+    fn taken(self, goal: Goal, search: Search) -> Next {
+        let taken = search.taken + 1;
+        self.segment_over(goal, Search { taken, ..search })
+    }
+
+    /// The segment has no free block of the class.
+    fn segment_over(self, goal: Goal, search: Search) -> Next {
+        let segment = search.segment + 1;
+        if segment < self.me.geometry.segments() {
+            let search = Search { segment, ..search };
+            Next::Point(AllocPoint::Segment { goal, search })
+        } else {
+            Next::Answer(Err(AllocFault::Full {
+                segments: search.taken,
+                blocks: search.used,
+            }))
+        }
+    }
+}
+
+fn era_next(seen: u64) -> Next {
+    if seen > (1 << 47) - 3 {
+        Next::Answer(Err(AllocFault::EraSpent { era: seen }))
+    } else {
+        Next::Point(AllocPoint::Root { era: seen, root: 0 })
+    }
+}
+
+fn root_next(era: u64, root: u8, seen: u64) -> Next {
+    if seen == 0 {
+        Next::Point(AllocPoint::Segment {
+            goal: Goal { era, root },
+            search: Search {
+                segment: 0,
+                taken: 0,
+                used: 0,
+            },
+        })
+    } else if root < 15 {
+        let root = root + 1;
+        Next::Point(AllocPoint::Root { era, root })
+    } else {
+        Next::Answer(Err(AllocFault::RootsFull))
+    }
+}
+
+fn first_page(goal: Goal, search: Search) -> Next {
+    Next::Point(AllocPoint::Page {
+        goal,
+        search,
+        page: 0,
+    })
+}
+
+fn first_header(goal: Goal, search: Search, page: u8) -> Next {
+    Next::Point(AllocPoint::Header {
+        goal,
+        search,
+        page,
+        index: 0,
+    })
+}
