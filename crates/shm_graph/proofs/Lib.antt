@@ -41,3 +41,4 @@ pub mod HeadSlot
 pub mod SlotRead
 pub mod KindKeeping
 pub mod BodyTold
+pub mod Reached
