@@ -1,1 +1,5 @@
 pub mod SlotStores
+mod MemoCommits
+mod Naming
+mod Cutting
+mod Sifting
