@@ -3,3 +3,5 @@ mod MemoCommits
 mod Naming
 mod Cutting
 mod Sifting
+mod PartsSet
+mod RaiseBlock

@@ -5,6 +5,8 @@
 //! memo is what the memo's change computes.
 #![tactic(auto)]
 
+mod exchanging;
 mod laws;
 
+pub use exchanging::header_exchanges;
 pub use laws::slot_stores;
