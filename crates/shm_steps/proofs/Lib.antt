@@ -5,3 +5,4 @@ mod Cutting
 mod Sifting
 mod PartsSet
 mod RaiseBlock
+mod LowerBlock

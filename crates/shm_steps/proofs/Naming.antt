@@ -1,22 +1,22 @@
 -- what the memo names once its step is committed is what the new targets name
 use Rattle.std.specs.List.{All, filter}
 use Rattle.shm_laws.proofs.Keep.{All-kept}
-use Rattle.std.proofs.lemmas.List.Elements.{All-weaker}
+use Rattle.std.proofs.lemmas.List.Elements.{All-weaker, All-filter}
 use Rattle.shm_words.specs.declared.geometry.Geometry.{Geometry}
-use Rattle.shm_graph.proofs.Reached.{HeadNamed, Names}
-use Rattle.shm_graph.specs.declared.spot.Spot.TheVariants.{Home, Root, Slot}
+use Rattle.shm_graph.proofs.Reached.{HeadNamed, Names, all_named}
+use Rattle.shm_graph.specs.declared.spot.Spot.TheVariants.{Home, Root, Slot, Front, Tail}
 use Rattle.shm_graph.proofs.KnownChange.{KnownHolds}
-use Rattle.std.proofs.Common.{List, ap, cond, eq-eqb, eqb, false, refl, subst, sym, true, ℕ, ◌&&◌, ◌∙◌, ◌≡◌}
+use Rattle.std.proofs.Common.{List, ap, cond, eq-eqb, eqb, false, refl, subst, sym, true, ℕ, ◌&&◌, ◌∙◌, ◌≡◌, ◌<◌}
 use Rattle.shm_graph.specs.declared.memo.Memo.{Memo}
 use Rattle.shm_graph.specs.Ops.{On, Quiet, cover, cover_of}
 use Rattle.shm_graph.specs.declared.spot.Spot.{Spot}
 use Rattle.shm_graph.specs.declared.memo.Stored.{Stored}
-use Rattle.shm_graph.specs.Views.{View, own_word}
+use Rattle.shm_graph.specs.Views.{View, own_word, targets}
 use Rattle.std.proofs.lemmas.Bool.{and_left, and_right, cond-false, ne_eqb, not-true, true≢false}
 use Rattle.shm_graph.proofs.Loads.{choice}
-use Rattle.shm_graph.specs.Held.{is_slot}
-use Rattle.shm_steps.proofs.MemoCommits.{known_left}
-use Rattle.shm_graph.specs.Stores.{other_than}
+use Rattle.shm_graph.specs.Held.{is_slot, HeldAt}
+use Rattle.shm_steps.proofs.MemoCommits.{known_left, known_lowered}
+use Rattle.shm_graph.specs.Stores.{other_than, not_of}
 use Rattle.shm_graph.specs.Spots.{same_spot, upd}
 use Rattle.shm_graph.specs.Reach.{shown}
 
@@ -87,3 +87,19 @@ names_same t tail front c m n a covers own ks =
   where
     word : (q : Spot) → shown m q ≡ t q → shown n q ≡ t q
     word q e = ap (λ z. cover z q (own_word n.own q)) covers ∙ (ap (λ z. cover (cover_of m.op) q (own_word z q)) own ∙ e)
+
+-- where p is no slot of a queue, all that is known is spared
+pub all_spared_apart : (g : Geometry) (w : Spot → ℕ) (v : View) (c : ℕ) (p : Spot) (ks : List Stored) → is_slot p ≡ false → All (KnownHolds g w v c) ks → All (StaysKnown g w v c p) ks
+all_spared_apart g w v c p ks e h = All-weaker (KnownHolds g w v c) (StaysKnown g w v c p) (λ x a. (a, spared p x.spot e)) ks h
+
+-- what is spared names head slots
+pub spared_named : (g : Geometry) (w : Spot → ℕ) (v : View) (h : HeldAt g w v) (c : ℕ) (l : c < g.clients) (p : Spot) (ks : List Stored) → All (StaysKnown g w v c p) ks
+    → All (λ (s : Stored). HeadNamed (targets g w v) (λ i j. w (Tail i j)) (λ i j. w (Front i j)) c s.spot s.value × IsSpared p s.spot) ks
+spared_named g w v h c l p ks a =
+    let named = all_named g w v h c l ks (All-weaker (StaysKnown g w v c p) (KnownHolds g w v c) (λ s y. y.0) ks a) in
+    let other = All-weaker (StaysKnown g w v c p) (λ (s : Stored). IsSpared p s.spot) (λ s y. y.1) ks a in
+    λ k d lt. (named k d lt, other k d lt)
+
+-- what holds of all that is known holds of what is left where a count became 0
+pub all_lowered : (P : Stored → Type 0) (n b : ℕ) (ks : List Stored) → All P ks → All P (known_lowered n b ks)
+all_lowered P n b ks h = choice (All P) (eqb n 0) (filter (not_of b) ks) ks (λ e. All-filter (not_of b) P ks h) (λ e. h)

@@ -4,20 +4,22 @@ use Rattle.shm_laws.proofs.Keep.{All-kept}
 use Rattle.shm_graph.specs.declared.spot.Spot.TheVariants.{Body, Front, Slot, Tag, Tail}
 use Rattle.std.proofs.lemmas.List.Elements.{Contains-append_left}
 use Rattle.std.proofs.lemmas.Map.Views.{Contains-from_any}
-use Rattle.shm_graph.specs.Tables.{Contents, HasShape}
+use Rattle.shm_graph.specs.Tables.{Contents, HasShape, contents_of}
 use Rattle.shm_words.specs.declared.geometry.Geometry.{Geometry}
-use Rattle.shm_graph.proofs.Holders.{Holds}
-use Rattle.shm_steps.proofs.Naming.{IsSpared}
-use Rattle.shm_graph.specs.Held.{KnownAt, ValueAt}
+use Rattle.shm_graph.proofs.Holders.{Holds, InReach}
+use Rattle.shm_steps.proofs.Naming.{IsSpared, StaysKnown}
+use Rattle.shm_graph.specs.Held.{KnownAt, ValueAt, HeldAt, reach_of}
 use Rattle.std.proofs.Common.{List, Option, [], ap, eq-eqb, eqb, false, inl, inr, refl, subst, sym, true, ℕ, ◌%◌, ◌&&◌, ◌++◌, ◌+◌, ◌<◌, ◌∙◌, ◌∷◌, ◌≡◌, ◌⊎◌}
 use Rattle.shm_graph.specs.declared.memo.Memo.{Memo}
 use Rattle.shm_graph.specs.declared.spot.Spot.{Spot}
-use Rattle.shm_graph.specs.Views.{View}
+use Rattle.shm_graph.specs.Views.{View, targets}
 use Rattle.std.proofs.lemmas.Bool.{and_from, and_parts, cond-false, eqb-true, false_from_ne_true, or_cases, true≢false}
 use Rattle.shm_graph.specs.Reach.{binds, is_dying, is_reached}
 use Rattle.shm_graph.proofs.Loads.{choice}
 use Rattle.shm_laws.specs.Steps.{dying_after, untaken_after}
 use Rattle.shm_graph.specs.Spots.{same_spot}
+use Rattle.shm_graph.proofs.Reached.{Names, reached_sound}
+use Rattle.shm_graph.specs.declared.memo.Stored.{Stored}
 
 -- what c knows of a word after a step, where what the memo then shows in reach is in reach, and what it shows dying is dying
 pub sift_known : (c : ℕ) (tag : ℕ → ℕ) (body : ℕ → ℕ → ℕ) (slot : ℕ → ℕ → ℕ → ℕ) (tail front : ℕ → ℕ → ℕ) (untaken untaken' : ℕ → ℕ) (latch : Option ℕ) (reach reach' : ℕ → Type 0) (dying dying' : List ℕ) (n : Memo)
@@ -61,3 +63,26 @@ untaken_stays w g v c (Slot i j l) b mine q o s r k e me at left =
         let f : same_spot (Slot i j l) (Slot s r k) ≡ false = subst (IsSpared (Slot i j l)) e o in
         true≢false (sym d ∙ f)
 untaken_stays w g v c _ b mine q o s r k e me at left = left
+
+module _ (g : Geometry) (w : Spot → ℕ) (v : View) (h : HeldAt g w v) (c : ℕ) (l : c < g.clients) (p : Spot) (t' : Spot → ℕ) (k : Memo) (names : Names t' (λ i j. w (Tail i j)) (λ i j. w (Front i j)) c k) where
+  -- what is in reach by these targets and the looks of the memo
+  abbrev pub InReachAfter : ℕ → Type 0
+  InReachAfter = reach_of t' (λ i j. w (Tail i j)) (λ i j. w (Front i j)) (λ d. k.looks) c
+
+  reached : (b : ℕ) → is_reached c k b ≡ true → InReachAfter b
+  reached b e = reached_sound t' (λ i j. w (Tail i j)) (λ i j. w (Front i j)) c k names b e
+
+  -- what the memo then knows is so
+  pub known_after : (untaken' : ℕ → ℕ) (dying' : List ℕ) → ((q : Spot) → IsSpared p q → (s r j : ℕ) → q ≡ Slot s r j → r ≡ c → j ≡ w (Front s c) % 8 → v.untaken c s ≡ 0 → untaken' s ≡ 0)
+      → ((b : ℕ) → is_dying k b ≡ true → Contains dying' b) → ((b : ℕ) → Contains (v.dying c) b → Contains dying' b) → (ks : List Stored) → All (StaysKnown g w v c p) ks
+      → All (λ (s : Stored). KnownAt c (λ i. w (Tag i)) (λ i j. w (Body i j)) (λ i j a. w (Slot i j a)) (λ i j. w (Tail i j)) (λ i j. w (Front i j)) untaken' (v.latch c) InReachAfter dying' s.spot s.value) (filter (λ s. binds c k s.spot) ks)
+  known_after untaken' dying' left hd more ks a =
+      All-kept (StaysKnown g w v c p)
+      (λ (s : Stored). KnownAt c (λ i. w (Tag i)) (λ i j. w (Body i j)) (λ i j a. w (Slot i j a)) (λ i j. w (Tail i j)) (λ i j. w (Front i j)) untaken' (v.latch c) InReachAfter dying' s.spot s.value)
+      (λ s. binds c k s.spot)
+      (λ s e y. sift_known c (λ i. w (Tag i)) (λ i j. w (Body i j)) (λ i j a. w (Slot i j a)) (λ i j. w (Tail i j)) (λ i j. w (Front i j)) (v.untaken c) untaken' (v.latch c) (InReach w g v c) InReachAfter (v.dying c) dying' k reached hd more s.spot s.value (left s.spot y.1) e y.0)
+      ks a
+
+  -- and so are its value blocks
+  pub values_after : All (ValueAt (contents_of w t') InReachAfter) (filter (is_reached c k) (v.values c))
+  values_after = sift_values (contents_of w (targets g w v)) (contents_of w t') c k (InReach w g v c) InReachAfter (λ b y. record { live = y.live; names = y.names; words = y.words }) reached (v.values c) (h.values c l)
