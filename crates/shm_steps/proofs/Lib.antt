@@ -6,3 +6,5 @@ mod Sifting
 mod PartsSet
 mod RaiseBlock
 mod LowerBlock
+mod ChangeRaised
+mod ChangeLowered

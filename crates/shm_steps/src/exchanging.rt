@@ -12,8 +12,13 @@ ghost use Rattle.shm_graph.specs.Views.{view};
 ghost use Rattle.shm_graph.specs.Asks.{Trail};
 ghost use Rattle.shm_graph.specs.Laws.{Frame, Stands, KeptAt};
 ghost use Rattle.shm_steps.specs.Raising.{MayRaise, IsReparted};
+ghost use Rattle.shm_steps.specs.Lowering.{MayLower, MayLowerFormer, MayChange};
 
-/// A header is exchanged, where the step in progress raises a block.
+/// The header of a block is exchanged: the step in progress raises the block, or takes a reference to it out of its slot; a change puts
+/// a reference to it into its slot, or takes the one that it holds over.
 pub fn header_exchanges()
-    ensures up { (me : AMe) (w : ASpot → ℕ) (r : ℕ → AMemo) (f : Frame) (tr : Trail) (at b e from to : ℕ) (p : ASpot) → Stands me w r f tr → w (Head b) ≡ from → MayRaise me.who (r me.who) p b e from to → IsReparted me.geometry w (view r) me.who (r me.who) p b → f.fresh ≡ false → spot_at me.geometry (classes w) at ≡ Head b → KeptAt me w r (Exchange at from to) f (λ n m. Unit {0}) (spot_at me.geometry (classes w) at) }
+    ensures up { (me : AMe) (w : ASpot → ℕ) (r : ℕ → AMemo) (f : Frame) (tr : Trail) (at b e from to : ℕ) (p : ASpot) → Stands me w r f tr → f.fresh ≡ false → spot_at me.geometry (classes w) at ≡ Head b → w (Head b) ≡ from → MayRaise me.who (r me.who) p b e from to → IsReparted me.geometry w (view r) me.who (r me.who) p b → KeptAt me w r (Exchange at from to) f (λ n m. Unit {0}) (spot_at me.geometry (classes w) at) }
+    ensures down { (me : AMe) (w : ASpot → ℕ) (r : ℕ → AMemo) (f : Frame) (tr : Trail) (at b e n from to : ℕ) (p : ASpot) → Stands me w r f tr → f.fresh ≡ false → spot_at me.geometry (classes w) at ≡ Head b → w (Head b) ≡ from → MayLower me.who (r me.who) p b e n from to → IsReparted me.geometry w (view r) me.who (r me.who) p 0 → KeptAt me w r (Exchange at from to) f (λ n m. Unit {0}) (spot_at me.geometry (classes w) at) }
+    ensures first { (me : AMe) (w : ASpot → ℕ) (r : ℕ → AMemo) (f : Frame) (tr : Trail) (at a b e from to : ℕ) (p : ASpot) → Stands me w r f tr → f.fresh ≡ false → spot_at me.geometry (classes w) at ≡ Head b → w (Head b) ≡ from → MayChange me.who (r me.who) p a b e from to → IsReparted me.geometry w (view r) me.who (r me.who) p b → KeptAt me w r (Exchange at from to) f (λ n m. Unit {0}) (spot_at me.geometry (classes w) at) }
+    ensures second { (me : AMe) (w : ASpot → ℕ) (r : ℕ → AMemo) (f : Frame) (tr : Trail) (at a b e n from to : ℕ) (p : ASpot) → Stands me w r f tr → f.fresh ≡ false → spot_at me.geometry (classes w) at ≡ Head a → w (Head a) ≡ from → MayLowerFormer me.who (r me.who) p a b e n from to → KeptAt me w r (Exchange at from to) f (λ n m. Unit {0}) (spot_at me.geometry (classes w) at) }
 {}
