@@ -24,7 +24,6 @@ use Rattle.shm_steps.proofs.Naming.{StaysKnown, all_lowered, all_spared_apart, n
 use Rattle.shm_graph.specs.declared.memo.Stored.{Stored}
 use Rattle.shm_graph.specs.Asks.{Trail}
 use Rattle.shm_graph.specs.Views.{View, at1, targets, view}
-use Rattle.shm_graph.specs.Agents.{acts}
 use Rattle.shm_graph.specs.Reach.{binds, cut_looks, is_reached, sifted}
 use Rattle.shm_graph.specs.Changes.{called}
 use Rattle.shm_graph.specs.Blocks.{classes, headers}
@@ -42,7 +41,6 @@ use Rattle.shm_steps.proofs.RaiseBlock.{row_shows}
 use Rattle.shm_laws.proofs.SecondHalf.{second_event, second_kept}
 use Rattle.shm_graph.specs.Spots.{spot_at, upd}
 use Rattle.shm_graph.proofs.BodyTold.{told_exchange}
-use Rattle.shm_graph.specs.Readings.{valued}
 
 module _ (me : Me) (w : Spot → ℕ) (r : ℕ → Memo) (f : Frame) (tr : Trail) (at x b e n from to : ℕ) (p : Spot) (s : Stands me w r f tr) (found : w (Head x) ≡ from) (a : MayLowerFormer me.who (r me.who) p x b e n from to) where
   abbrev g : Geometry

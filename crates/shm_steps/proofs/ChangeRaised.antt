@@ -26,7 +26,6 @@ use Rattle.shm_steps.proofs.Naming.{StaysKnown, all_spared_apart, names_after, s
 use Rattle.shm_graph.specs.declared.memo.Stored.{Stored}
 use Rattle.shm_graph.specs.Asks.{Trail}
 use Rattle.shm_graph.specs.Views.{View, at1, own_word, targets, view}
-use Rattle.shm_graph.specs.Agents.{acts}
 use Rattle.shm_graph.specs.Reach.{binds, cut_looks, is_reached, sifted}
 use Rattle.shm_graph.specs.Changes.{called}
 use Rattle.shm_laws.proofs.ChangeFirst.{change_event, change_kept}
@@ -44,7 +43,6 @@ use Rattle.shm_steps.proofs.MemoCommits.{not_both}
 use Rattle.shm_graph.specs.Chains.{part_set}
 use Rattle.shm_graph.specs.Spots.{same_spot, spot_at, upd}
 use Rattle.shm_graph.proofs.BodyTold.{told_exchange}
-use Rattle.shm_graph.specs.Readings.{valued}
 
 module _ (me : Me) (w : Spot → ℕ) (r : ℕ → Memo) (f : Frame) (tr : Trail) (at x b e from to : ℕ) (p : Spot) (s : Stands me w r f tr) (found : w (Head b) ≡ from) (a : MayChange me.who (r me.who) p x b e from to) (q : IsReparted me.geometry w (view r) me.who (r me.who) p b) where
   abbrev g : Geometry

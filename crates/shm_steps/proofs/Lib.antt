@@ -8,3 +8,4 @@ mod RaiseBlock
 mod LowerBlock
 mod ChangeRaised
 mod ChangeLowered
+mod LatchBack

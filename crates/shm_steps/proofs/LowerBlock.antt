@@ -25,7 +25,6 @@ use Rattle.shm_steps.proofs.Naming.{StaysKnown, all_lowered, all_spared, names_a
 use Rattle.shm_graph.specs.declared.memo.Stored.{Stored}
 use Rattle.shm_graph.specs.Asks.{Trail}
 use Rattle.shm_graph.specs.Views.{View, at1, own_word, targets, view}
-use Rattle.shm_graph.specs.Agents.{acts}
 use Rattle.shm_graph.specs.Reach.{binds, cut_looks, is_reached, sifted}
 use Rattle.shm_graph.specs.Changes.{called}
 use Rattle.shm_graph.specs.Blocks.{classes, headers}
@@ -47,7 +46,6 @@ use Rattle.shm_steps.proofs.RaiseBlock.{row_shows}
 use Rattle.shm_graph.specs.Spots.{same_spot, spot_at, upd}
 use Rattle.std.specs.Prelude.{slice_index}
 use Rattle.shm_graph.proofs.BodyTold.{told_exchange}
-use Rattle.shm_graph.specs.Readings.{valued}
 
 -- a header whose count isn't 0 is live
 pub counted_live : (g : Geometry) (w : Spot → ℕ) (v : View) (b n from : ℕ) → HeldAt g w v → w (Head b) ≡ from → n + 1 ≡ (header_of from).count → ((headers w b).live ≡ true) × ((headers w b).count ≢ 0)

@@ -24,7 +24,6 @@ use Rattle.shm_graph.specs.Asks.{Trail}
 use Rattle.shm_graph.specs.declared.memo.Op.TheVariants.{Up}
 use Rattle.shm_graph.proofs.KnownChange.{ValueHolds}
 use Rattle.shm_graph.specs.Views.{View, at1, own_word, targets, view}
-use Rattle.shm_graph.specs.Agents.{acts}
 use Rattle.shm_graph.specs.Changes.{called}
 use Rattle.shm_graph.specs.Blocks.{classes}
 use Rattle.shm_graph.specs.Exchanges.{exchanged_on, reparted, committed}

@@ -28,11 +28,13 @@ pub sift_known : (c : ℕ) (tag : ℕ → ℕ) (body : ℕ → ℕ → ℕ) (slo
     → binds c n q ≡ true → KnownAt c tag body slot tail front untaken latch reach dying q x → KnownAt c tag body slot tail front untaken' latch reach' dying' q x
 sift_known c tag body slot tail front untaken untaken' latch reach reach' dying dying' n hr hd more (Tag b) x left e k =
     (k.0, elim (or_cases (is_reached c n b) (is_dying n b) e) [ inl u ↦ inr (hr b u) | inr u ↦ inl (hd b u) ])
-sift_known c tag body slot tail front untaken untaken' latch reach reach' dying dying' n hr hd more (Body b i) x left e k =
-    (k.0, elim k.1 [
-      | inl u ↦ inl (more b u)
-      | inr u ↦ elim (or_cases (is_reached c n b) (is_dying n b) e) [ inl y ↦ inr (hr b y, u.1) | inr y ↦ inl (hd b y) ]
-    ])
+sift_known c tag body slot tail front untaken untaken' latch reach reach' dying dying' n hr hd more (Body b i) x left e k = (
+  k.0,
+  elim k.1 [
+    | inl u ↦ inl (more b u)
+    | inr u ↦ elim (or_cases (is_reached c n b) (is_dying n b) e) [ inl y ↦ inr (hr b y, u.1) | inr y ↦ inl (hd b y) ]
+  ],
+)
 sift_known c tag body slot tail front untaken untaken' latch reach reach' dying dying' n hr hd more (Slot s r k) x left e y =
     (y.0, y.1, y.2, y.3, left s r k refl y.0 y.2 y.4, y.5, y.6)
 sift_known c tag body slot tail front untaken untaken' latch reach reach' dying dying' n hr hd more _ x left e k = absurd k
@@ -53,7 +55,7 @@ dying_more n b bs d x = choice (λ ds. Contains ds d) (eqb n 0) (bs ++ b ∷ [])
 pub untaken_stays : (w : Spot → ℕ) (g : Geometry) (v : View) (c : ℕ) (p : Spot) (b : ℕ) → Holds w g v c p → (q : Spot) → IsSpared p q → (s r k : ℕ) → q ≡ Slot s r k → r ≡ c → k ≡ w (Front s c) % 8 → v.untaken c s ≡ 0 → untaken_after c p b v.untaken c s ≡ 0
 untaken_stays w g v c (Slot i j l) b mine q o s r k e me at left =
     cond-false _ _ _ (false_from_ne_true (eqb j c && (eqb i s && eqb j c)) (λ z. let y = and_parts (eqb j c) (eqb i s && eqb j c) z in let u = eqb-true j c y.0 in let i-s = eqb-true i s (and_parts (eqb i s) (eqb j c) y.1).0 in
-      taken u i-s mine.1)) ∙ left
+    taken u i-s mine.1)) ∙ left
   where
     taken : j ≡ c → i ≡ s → ((i ≡ c) × (l ≡ w (Tail i j) % 8) × (w (Tail i j) < w (Front i j) + 8)) ⊎ ((j ≡ c) × (l ≡ w (Front i j) % 8) × (w (Front i j) < w (Tail i j))) → ⊥
     taken u z (inl y) = mine.0 (y.0 ∙ sym u)

@@ -1,3 +1,4 @@
 pub mod Conditions
 pub mod Raising
 pub mod Lowering
+pub mod Unlatching

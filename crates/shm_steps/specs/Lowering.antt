@@ -1,6 +1,5 @@
 -- what the exchanges of headers that lower a block, and those of the halves of a change, need of the memo of their identity
 use Rattle.std.specs.Prelude.{◌≡◌, ℕ, ◌+◌, ◌^◌, ◌<◌, true}
-use Rattle.shm_words.specs.declared.header.Header.{Header}
 use Rattle.shm_words.specs.Headers.{header_of}
 use Rattle.shm_graph.specs.declared.spot.Spot.{Spot}
 use Rattle.shm_graph.specs.declared.memo.First.TheVariants.{Begun}

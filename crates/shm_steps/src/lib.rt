@@ -7,6 +7,8 @@
 
 mod exchanging;
 mod laws;
+mod unlatching;
 
 pub use exchanging::header_exchanges;
 pub use laws::slot_stores;
+pub use unlatching::latch_given_back;
