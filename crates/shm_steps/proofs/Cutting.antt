@@ -67,7 +67,7 @@ module _ (g : Geometry) (w : Spot → ℕ) (v : View) (h : HeldAt g w v) (c : �
           (λ z. tt)
       go _ e = tt
 
-  -- a block that the looks name and that a look up to it was read from is named
+  -- no block is one of no looks
   in_none : (b : ℕ) → InLooks [] b → ⊥
   in_none b x = absurd (let z = x.1.1 in omega arith)
 

@@ -1,11 +1,11 @@
 pub mod SlotStores
-mod MemoCommits
-mod Naming
-mod Cutting
-mod Sifting
-mod PartsSet
-mod RaiseBlock
-mod LowerBlock
-mod ChangeRaised
-mod ChangeLowered
-mod LatchBack
+pub mod MemoCommits
+pub mod Naming
+pub mod Cutting
+pub mod Sifting
+pub mod PartsSet
+pub mod RaiseBlock
+pub mod LowerBlock
+pub mod ChangeRaised
+pub mod ChangeLowered
+pub mod LatchBack

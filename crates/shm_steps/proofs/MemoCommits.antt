@@ -47,9 +47,6 @@ with_unsent_is c _ b m = refl
 pub with_untaken_is : (c : ℕ) (p : Spot) (b : ℕ) (m : Memo) → ◌≡◌ {A = Memo} (with_untaken c p b m) (record m { untaken = untaken_list c p b m.untaken; known = known_left c p m.known })
 with_untaken_is c (Slot s r k) b m = go (eqb r c)
   where
-    left : List Stored
-    left = filter (λ x. other_than (Slot s r k) x.spot) m.known
-
     go : (z : Bool) → ◌≡◌ {A = Memo} (cond z (record m { untaken = put 0 m.untaken s b; known = filter (λ x. other_than (Slot s r k) x.spot) m.known }) m) (record m { untaken = cond z (put 0 m.untaken s b) m.untaken; known = cond z (filter (λ x. other_than (Slot s r k) x.spot) m.known) m.known })
     go true = refl
     go false = refl

@@ -31,10 +31,6 @@ spared (Slot i j k) q e = absurd (true≢false e)
 spared p (Slot i j k) e = refl
 spared p q e = tt
 
--- a slot of another's queue is none to c
-other_queue : (s i j k c l : ℕ) → (i ≡ c → ⊥) → same_spot (Slot s i j) (Slot k c l) ≡ false
-other_queue s i j k c l n = and_right (eqb s k) (eqb i c && eqb j l) (and_left (eqb i c) (eqb j l) (ne_eqb i c n))
-
 module _ (g : Geometry) (w : Spot → ℕ) (v : View) (c : ℕ) where
   -- a word that is known as it is, and that isn't the head slot that is taken
   abbrev pub StaysKnown : Spot → Stored → Type 0

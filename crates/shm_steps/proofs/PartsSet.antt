@@ -1,5 +1,5 @@
 -- the part of a memo once its step commits
-use Rattle.std.proofs.Common.{◌≡◌, ℕ, refl, true, List}
+use Rattle.std.proofs.Common.{◌≡◌, ℕ, refl, true, List, false, sym, ◌∙◌}
 use Rattle.shm_graph.specs.declared.spot.Spot.TheVariants.{Body, Home}
 use Rattle.shm_words.specs.declared.geometry.Geometry.{Geometry}
 use Rattle.shm_graph.specs.declared.table.Part.TheVariants.{Loose, Table}
@@ -10,10 +10,11 @@ use Rattle.shm_graph.specs.declared.memo.Stored.{Stored}
 use Rattle.shm_graph.specs.Views.{View, targets}
 use Rattle.shm_graph.specs.Tables.{contents_of}
 use Rattle.std.proofs.lemmas.Bool.{false≢true}
-use Rattle.shm_steps.specs.Raising.{is_read}
+use Rattle.shm_steps.specs.Raising.{is_read, IsReparted}
 use Rattle.shm_steps.proofs.MemoCommits.{known_left}
 use Rattle.shm_graph.specs.Chains.{part_set}
 use Rattle.shm_graph.specs.Spots.{upd}
+use Rattle.shm_graph.specs.declared.memo.Memo.{Memo}
 
 pub loose_stays : (known : List Stored) (c home : ℕ) (p : Spot) (x : ℕ) (part : Part) → is_loose (part_set known c home p x part) ≡ is_loose part
 loose_stays known c home p x Loose = refl
@@ -34,3 +35,7 @@ known_read c (Home d) ks (Table chains) e = refl
 known_read c (Body b i) ks (Table chains) e = refl
 known_read c p ks Loose e = absurd (false≢true e)
 known_read c _ ks (Table chains) e = absurd (false≢true e)
+
+-- where no partition is read from the slot, nothing has to be shown of the part
+pub reparted_unread : (g : Geometry) (w : Spot → ℕ) (v : View) (c : ℕ) (m : Memo) (p : Spot) (x : ℕ) → is_read m.part p ≡ false → IsReparted g w v c m p x
+reparted_unread g w v c m p x e = record { tie = λ z. absurd (false≢true (sym e ∙ z)) }
