@@ -104,7 +104,13 @@ abbrev pub upto : ℕ → List Look → List Look
 upto b [] = []
 upto b (k ∷ ks) = k ∷ (if is_look_of b k then [] else upto b ks)
 
--- a down or a change is committed: where its slot is a reference word of a block that only the looks name, those up to that block stay
+-- whether a look was read from this word
+abbrev pub is_look_from : Spot → Look → Bool
+is_look_from p k = same_spot p k.from
+
+-- a down or a change is committed: where its slot is a reference word of a block that only the looks name, those up to that block stay, unless one of them was read from the slot
 abbrev pub cut_looks : ℕ → Memo → Spot → List Look
-cut_looks c m (Body b i) = if not (is_named c m b) && list_any (is_look_of b) m.looks then upto b m.looks else []
+cut_looks c m (Body b i) =
+    if not (is_named c m b) && (list_any (is_look_of b) m.looks && not (list_any (is_look_from (Body b i)) (upto b m.looks))) then upto b m.looks
+    else []
 cut_looks c m p = []

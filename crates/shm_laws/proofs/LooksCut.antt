@@ -1,12 +1,16 @@
 -- the looks that stay are sound for the new targets, and the block of the slot stays in reach
-use Rattle.std.proofs.Common.{◌≡◌, ◌≢◌, ℕ, refl, ap, ◌∙◌, arith, true, false, Bool, cond, eqb, eq-eqb, eqb-true, subst, inl, inr, ◌⊎◌, List, [], ◌∷◌, Option}
+use Rattle.std.proofs.Common.{◌≡◌, ℕ, refl, ap, ◌∙◌, arith, true, false, Bool, cond, eqb, eq-eqb, eqb-true, subst, inl, inr, ◌⊎◌, List, [], ◌∷◌, Option, sym}
 use Rattle.std.proofs.lemmas.List.Elements.{Contains-push, Contains-push_cases, Contains-append_cases, Contains-append_left, Contains-append_right}
-use Rattle.std.proofs.lemmas.Bool.{cases_eq, ne_eqb}
+use Rattle.std.proofs.lemmas.Bool.{cases_eq, ne_eqb, cases_Bool, false≢true, or_parts}
 use Rattle.shm_graph.specs.declared.spot.Spot.{Spot}
 use Rattle.shm_graph.specs.declared.spot.Spot.TheVariants.{Home, Body}
 use Rattle.shm_graph.specs.declared.memo.Look.{Look}
 use Rattle.shm_graph.specs.Held.{InLooks, LookAt, LooksSound}
-use Rattle.shm_graph.specs.Reach.{upto}
+use Rattle.shm_graph.specs.Reach.{upto, is_look_from}
+use Rattle.std.specs.List.{list_any}
+use Rattle.shm_graph.specs.Spots.{same_spot}
+use Rattle.shm_graph.proofs.Spotting.{same_spot_is}
+use Rattle.std.specs.Prelude.{◌||◌}
 
 in_split : (k : Look) (ks : List Look) (b : ℕ) → InLooks (k ∷ ks) b → (k.block ≡ b) ⊎ InLooks ks b
 in_split k ks b x = elim (Contains-append_cases (k ∷ []) ks x.0 x.1) [
@@ -29,19 +33,40 @@ upto_has j (k ∷ ks) x = elim (in_split k ks j x) [
     go true q r = in_head k [] j (eqb-true k.block j q)
     go false q r = (r.0, Contains-append_right (k ∷ []) (upto j ks) r.0 r.1, r.2)
 
--- where the block is in reach by the looks alone, no look that stays was read from it
-pub upto_sound : (home home' : ℕ → ℕ) (body body' : ℕ → ℕ → ℕ) (author : ℕ → ℕ) (latch : Option ℕ) (named named' : ℕ → Type 0) (j : ℕ)
-    → (named j → ⊥) → ((b : ℕ) → named b → named' b) → ((a x : ℕ) → x ≢ 0 → home a ≡ x → home' a ≡ x) → ((b i x : ℕ) → b ≢ j → x ≢ 0 → body b i ≡ x → body' b i ≡ x)
-    → (earlier ks : List Look) → (InLooks earlier j → ⊥) → LooksSound home body author latch named earlier ks → LooksSound home' body' author latch named' earlier (upto j ks)
-upto_sound home home' body body' author latch named named' j none hn hh hb earlier [] he x = tt
-upto_sound home home' body body' author latch named named' j none hn hh hb earlier (k ∷ ks) he x =
-    (at k.from x.0, rest (cases_eq k.block j) (λ n. upto_sound home home' body body' author latch named named' j none hn hh hb (k ∷ earlier) ks (λ z. elim (in_split k earlier j z) [ inl e ↦ n e | inr e ↦ he e ]) x.1))
+-- the looks up to a block are sound
+pub upto_first : (home : ℕ → ℕ) (body : ℕ → ℕ → ℕ) (author : ℕ → ℕ) (latch : Option ℕ) (named : ℕ → Type 0) (j : ℕ) (earlier ks : List Look) → LooksSound home body author latch named earlier ks → LooksSound home body author latch named earlier (upto j ks)
+upto_first home body author latch named j earlier [] x = tt
+upto_first home body author latch named j earlier (k ∷ ks) x = (x.0, rest (eqb k.block j) (upto_first home body author latch named j (k ∷ earlier) ks x.1))
   where
-    at : (p : Spot) → LookAt home body author latch (λ b. named b ⊎ InLooks earlier b) p k.block → LookAt home' body' author latch (λ b. named' b ⊎ InLooks earlier b) p k.block
-    at (Home a) y = (y.0, y.1, hh a k.block y.0 y.2)
-    at (Body b i) y = (y.0, y.1, hb b i k.block (λ e. elim y.3 [ inl u ↦ none (subst named e u) | inr u ↦ he (subst (InLooks earlier) e u) ]) y.0 y.2, elim y.3 [ inl u ↦ inl (hn b u) | inr u ↦ inr u ])
-    at _ y = absurd y
+    rest : (b : Bool) → LooksSound home body author latch named (k ∷ earlier) (upto j ks) → LooksSound home body author latch named (k ∷ earlier) (cond b [] (upto j ks))
+    rest true y = tt
+    rest false y = y
 
-    rest : (k.block ≡ j) ⊎ (k.block ≡ j → ⊥) → ((k.block ≢ j) → LooksSound home' body' author latch named' (k ∷ earlier) (upto j ks)) → LooksSound home' body' author latch named' (k ∷ earlier) (cond (eqb k.block j) [] (upto j ks))
-    rest (inl e) r = rw (eq-eqb k.block j e) tt
-    rest (inr n) r = rw (ne_eqb k.block j n) (r n)
+-- looks that were read from other words than the one whose target changes are sound for the new targets
+pub looks_apart : (t t' : Spot → ℕ) (author : ℕ → ℕ) (latch : Option ℕ) (named named' : ℕ → Type 0) (p : Spot)
+    → ((q : Spot) → same_spot p q ≡ false → t' q ≡ t q) → ((b : ℕ) → named b → named' b)
+    → (earlier ks : List Look) → list_any (is_look_from p) ks ≡ false → LooksSound (λ a. t (Home a)) (λ b i. t (Body b i)) author latch named earlier ks → LooksSound (λ a. t' (Home a)) (λ b i. t' (Body b i)) author latch named' earlier ks
+looks_apart t t' author latch named named' p same hn earlier [] n x = tt
+looks_apart t t' author latch named named' p same hn earlier (k ∷ ks) n x =
+    let q = or_parts (same_spot p k.from) (list_any (is_look_from p) ks) n in
+    (at k.from q.0 x.0, looks_apart t t' author latch named named' p same hn (k ∷ earlier) ks q.1 x.1)
+  where
+    at : (q : Spot) → same_spot p q ≡ false → LookAt (λ a. t (Home a)) (λ b i. t (Body b i)) author latch (λ b. named b ⊎ InLooks earlier b) q k.block → LookAt (λ a. t' (Home a)) (λ b i. t' (Body b i)) author latch (λ b. named' b ⊎ InLooks earlier b) q k.block
+    at (Home a) e y = (y.0, y.1, same (Home a) e ∙ y.2)
+    at (Body b i) e y = (y.0, y.1, same (Body b i) e ∙ y.2, elim y.3 [ inl u ↦ inl (hn b u) | inr u ↦ inr u ])
+    at _ e y = absurd y
+
+-- where one of the looks up to a block was read from a word of that block, the block is named
+pub from_named : (home : ℕ → ℕ) (body : ℕ → ℕ → ℕ) (author : ℕ → ℕ) (latch : Option ℕ) (named : ℕ → Type 0) (j i : ℕ) (earlier ks : List Look) → (InLooks earlier j → ⊥) → list_any (is_look_from (Body j i)) (upto j ks) ≡ true → LooksSound home body author latch named earlier ks → named j
+from_named home body author latch named j i earlier [] none any x = absurd (false≢true any)
+from_named home body author latch named j i earlier (k ∷ ks) none any x =
+    elim (cases_Bool (same_spot (Body j i) k.from)) [
+      | inl e ↦ (let y : LookAt home body author latch (λ b. named b ⊎ InLooks earlier b) (Body j i) k.block = subst (λ q. LookAt home body author latch (λ b. named b ⊎ InLooks earlier b) q k.block) (sym (same_spot_is (Body j i) k.from e)) x.0 in
+          elim y.3 [ inl u ↦ u | inr u ↦ absurd (none u) ])
+      | inr e ↦ later (from_named home body author latch named j i (k ∷ earlier) ks) (cases_eq k.block j) (sym (ap (λ b. b || list_any (is_look_from (Body j i)) (cond (eqb k.block j) [] (upto j ks))) e) ∙ any)
+    ]
+  where
+    later : ((InLooks (k ∷ earlier) j → ⊥) → list_any (is_look_from (Body j i)) (upto j ks) ≡ true → LooksSound home body author latch named (k ∷ earlier) ks → named j)
+        → (k.block ≡ j) ⊎ (k.block ≡ j → ⊥) → list_any (is_look_from (Body j i)) (cond (eqb k.block j) [] (upto j ks)) ≡ true → named j
+    later rest (inl q) z = absurd (false≢true (ap (λ b. list_any (is_look_from (Body j i)) (cond b [] (upto j ks))) (sym (eq-eqb k.block j q)) ∙ z))
+    later rest (inr n) z = rest (λ y. elim (in_split k earlier j y) [ inl q ↦ n q | inr q ↦ none q ]) (ap (λ b. list_any (is_look_from (Body j i)) (cond b [] (upto j ks))) (sym (ne_eqb k.block j n)) ∙ z) x.1

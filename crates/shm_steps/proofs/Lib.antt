@@ -8,3 +8,13 @@ pub mod OwnStores
 pub mod OwnStoresLanes
 pub mod OwnStoresRedo
 pub mod OwnStoresEra
+pub mod MemoCommits
+pub mod Naming
+pub mod Cutting
+pub mod Sifting
+pub mod PartsSet
+pub mod RaiseBlock
+pub mod LowerBlock
+pub mod ChangeRaised
+pub mod ChangeLowered
+pub mod LatchBack

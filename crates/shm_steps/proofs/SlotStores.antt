@@ -1,11 +1,11 @@
 -- the store of a committed step into its slot, as machines use it
-use Rattle.std.proofs.Common.{◌≡◌, ℕ, refl, sym, ap, subst, false, ◌∷◌, None}
+use Rattle.std.proofs.Common.{◌≡◌, ℕ, refl, sym, ap, subst, false, ◌∷◌, None, inl, inr, true, ◌&&◌, ◌∙◌}
 use Rattle.shm_graph.specs.declared.ask.Ask.TheVariants.{Store}
 use Rattle.shm_graph.specs.declared.ask.Me.{Me}
 use Rattle.shm_graph.specs.declared.memo.Memo.{Memo}
 use Rattle.shm_graph.specs.declared.spot.Spot.{Spot}
-use Rattle.shm_graph.specs.declared.spot.Spot.TheVariants.{Root}
-use Rattle.shm_graph.specs.Spots.{spot_at}
+use Rattle.shm_graph.specs.declared.spot.Spot.TheVariants.{Root, Body, Home, Slot}
+use Rattle.shm_graph.specs.Spots.{spot_at, same_spot}
 use Rattle.shm_graph.specs.Blocks.{classes}
 use Rattle.shm_graph.specs.Views.{View, view, at1}
 use Rattle.shm_graph.specs.Asks.{Trail}
@@ -13,11 +13,24 @@ use Rattle.shm_graph.specs.Stores.{op_written}
 use Rattle.shm_graph.specs.Laws.{Frame, Stands, KeptAt}
 use Rattle.shm_graph.proofs.Keeping.{told_fixed}
 use Rattle.shm_graph.proofs.KindKeeping.{in_frame, kept_from}
-use Rattle.shm_graph.proofs.MemoParts.{put_same}
-use Rattle.shm_laws.specs.Steps.{RootStep, root_view}
+use Rattle.shm_graph.proofs.MemoParts.{put_same, parts, put_parts}
+use Rattle.shm_laws.specs.Steps.{RootStep, root_view, BodyStep, Writes, body_view}
 use Rattle.shm_laws.proofs.RootStore.{root_kept}
-use Rattle.shm_laws.proofs.Quiet.{root_quiet}
+use Rattle.shm_laws.proofs.Quiet.{root_quiet, body_quiet}
 use Rattle.shm_steps.specs.Conditions.{MayWrite}
+use Rattle.shm_graph.specs.declared.memo.Op.TheVariants.{Alloc, Change, Down, Up}
+use Rattle.shm_graph.specs.declared.memo.First.TheVariants.{Committed}
+use Rattle.shm_laws.specs.Slotting.{HomeStep, QueueStep, home_view, queue_view}
+use Rattle.shm_graph.specs.Ops.{On, cover_of, is_op, slot_of}
+use Rattle.shm_graph.specs.declared.memo.Op.{Op}
+use Rattle.shm_graph.specs.declared.memo.Half.TheVariants.{Raising}
+use Rattle.std.proofs.lemmas.Bool.{and_from, cond-true}
+use Rattle.shm_laws.proofs.BodyStore.{body_kept}
+use Rattle.shm_laws.proofs.HomeStore.{home_kept, home_quiet}
+use Rattle.shm_graph.specs.Reach.{learnt}
+use Rattle.shm_laws.proofs.QueueStore.{queue_kept, queue_quiet}
+use Rattle.shm_graph.proofs.Spotting.{same_spot_self}
+use Rattle.shm_graph.proofs.BodyTold.{told_slot}
 
 pub root_stored : (me : Me) (w : Spot → ℕ) (r : ℕ → Memo) (f : Frame) (tr : Trail) (at k x : ℕ) → Stands me w r f tr → f.fresh ≡ false → spot_at me.geometry (classes w) at ≡ Root me.who k → MayWrite (r me.who) (Root me.who k) x
     → KeptAt me w r (Store at x) f (λ n m. Unit {0}) (spot_at me.geometry (classes w) at)
@@ -35,3 +48,68 @@ root_stored me w r f tr at k x s going e a =
     (root_kept g w v c k x o s.held step)
     (root_quiet g w v c k x o s.held step)
     refl tt tt))
+
+-- the own home
+pub home_stored : (me : Me) (w : Spot → ℕ) (r : ℕ → Memo) (f : Frame) (tr : Trail) (at x : ℕ) → Stands me w r f tr → f.fresh ≡ false → spot_at me.geometry (classes w) at ≡ Home me.who → MayWrite (r me.who) (Home me.who) x
+    → KeptAt me w r (Store at x) f (λ n m. Unit {0}) (spot_at me.geometry (classes w) at)
+home_stored me w r f tr at x s going e a =
+    let g = me.geometry in
+    let c = me.who in
+    let v : View = view r in
+    let o = op_written (r c).op in
+    let step : HomeStep g w v c x o = record { inside = s.who; acts = a.here.joined; here = a.here.stays; slot = a.slot; op = a.op; small = a.small } in
+    subst (KeptAt me w r (Store at x) f (λ n m. Unit {0})) (sym e)
+    (in_frame (λ h. KeptAt me w r (Store at x) h (λ n m. Unit {0}) (Home c)) f going
+    (kept_from me w r (Store at x) (record f { fresh = false }) (λ n m. Unit {0}) (Home c) (home_view v c x o)
+    (told_fixed g (classes w) c (r c) (Store at x) (Home c) e refl)
+    (sym (ap (λ (u : View). record u { own = at1 v.own c (record { spot = Home c; value = x } ∷ v.own c); op = at1 v.op c o; test = at1 v.test c None }) (put_same v c)))
+    (home_kept g w v c x o s.held step)
+    (home_quiet g w v c x o s.held step)
+    refl tt tt))
+
+-- a slot of a queue
+pub queue_stored : (me : Me) (w : Spot → ℕ) (r : ℕ → Memo) (f : Frame) (tr : Trail) (at i j k x : ℕ) → Stands me w r f tr → f.fresh ≡ false → spot_at me.geometry (classes w) at ≡ Slot i j k → MayWrite (r me.who) (Slot i j k) x
+    → KeptAt me w r (Store at x) f (λ n m. Unit {0}) (spot_at me.geometry (classes w) at)
+queue_stored me w r f tr at i j k x s going e a =
+    let g = me.geometry in
+    let c = me.who in
+    let v : View = view r in
+    let o = op_written (r c).op in
+    let step : QueueStep g w v c i j k x o = record { inside = s.who; acts = a.here.joined; here = a.here.stays; slot = a.slot; op = a.op; small = a.small } in
+    subst (KeptAt me w r (Store at x) f (λ n m. Unit {0})) (sym e)
+    (in_frame (λ h. KeptAt me w r (Store at x) h (λ n m. Unit {0}) (Slot i j k)) f going
+    (kept_from me w r (Store at x) (record f { fresh = false }) (λ n m. Unit {0}) (Slot i j k) (queue_view v c o)
+    (told_fixed g (classes w) c (r c) (Store at x) (Slot i j k) e refl)
+    (sym (ap (λ (u : View). record u { op = at1 v.op c o; test = at1 v.test c None }) (put_same v c)))
+    (queue_kept g w v c i j k x o s.held step)
+    (queue_quiet g w v c i j k x o s.held step)
+    (inl a.slot) tt tt))
+
+-- a step that may write covers its slot
+writes_cover : (o new : Op) (x : ℕ) (p : Spot) → slot_of o ≡ p → Writes o new x → (cover_of o ≡ On p x) × (is_op o ≡ true)
+writes_cover (Alloc Committed q b e) new x p s y = (ap (λ z. On z b) s ∙ ap (On p) (sym y.1), refl)
+writes_cover (Up Committed q b e) new x p s y = (ap (λ z. On z b) s ∙ ap (On p) (sym y.1), refl)
+writes_cover (Down Committed q b e) new x p s y = (ap (λ z. On z 0) s ∙ ap (On p) (sym y.1), refl)
+writes_cover (Change (Raising Committed) q a b e) new x p s y = (ap (λ z. On z b) s ∙ ap (On p) (sym y.1), refl)
+writes_cover _ new x p s y = absurd y
+
+-- a reference word of a block
+pub body_stored : (me : Me) (w : Spot → ℕ) (r : ℕ → Memo) (f : Frame) (tr : Trail) (at b i x : ℕ) → Stands me w r f tr → f.fresh ≡ false → spot_at me.geometry (classes w) at ≡ Body b i → MayWrite (r me.who) (Body b i) x
+    → KeptAt me w r (Store at x) f (λ n m. Unit {0}) (spot_at me.geometry (classes w) at)
+body_stored me w r f tr at b i x s going e a =
+    let g = me.geometry in
+    let c = me.who in
+    let v : View = view r in
+    let o = op_written (r c).op in
+    let step : BodyStep g v c b i x o = record { inside = s.who; acts = a.here.joined; here = a.here.stays; slot = a.slot; op = a.op; small = a.small } in
+    let on = writes_cover (r c).op o x (Body b i) a.slot a.op in
+    let mine : is_op (r c).op && same_spot (slot_of (r c).op) (Body b i) ≡ true = and_from _ _ on.1 (ap (λ q. same_spot q (Body b i)) a.slot ∙ same_spot_self (Body b i)) in
+    subst (KeptAt me w r (Store at x) f (λ n m. Unit {0})) (sym e)
+    (in_frame (λ h. KeptAt me w r (Store at x) h (λ n m. Unit {0}) (Body b i)) f going
+    (kept_from me w r (Store at x) (record f { fresh = false }) (λ n m. Unit {0}) (Body b i) (body_view v c b i x o)
+    (told_slot g (classes w) c (r c) at x x (Body b i) e refl on.0)
+    (sym (ap (λ (u : View). record u { op = at1 v.op c o; known = at1 v.known c (learnt (Body b i) x (v.known c)); test = at1 v.test c None }) (put_same v c))
+    ∙ ap (λ (m : Memo). put_parts v c (parts m)) (sym (cond-true _ _ _ mine)))
+    (body_kept g w v c b i x o s.held step)
+    (body_quiet g w v c b i x o s.held step)
+    (inr (inr (inl a.slot))) tt tt))

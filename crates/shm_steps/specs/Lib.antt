@@ -1,3 +1,6 @@
 pub mod Conditions
 pub mod Preparing
 pub mod OwnWords
+pub mod Raising
+pub mod Lowering
+pub mod Unlatching

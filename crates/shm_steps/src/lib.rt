@@ -5,10 +5,14 @@
 //! memo is what the memo's change computes.
 #![tactic(auto)]
 
+mod exchanging;
 mod laws;
 mod preparing;
+mod unlatching;
 
+pub use exchanging::header_exchanges;
 pub use laws::slot_stores;
 pub use preparing::preparing_steps;
 mod own;
 pub use own::{own_stores, root_begins};
+pub use unlatching::latch_given_back;
