@@ -17,7 +17,7 @@ use Rattle.shm_graph.specs.declared.memo.Op.{Op}
 use Rattle.shm_graph.specs.declared.memo.Op.TheVariants as op
 use Rattle.shm_graph.specs.declared.ask.Ask.TheVariants.{Exchange}
 use Rattle.shm_graph.specs.Asks.{Trail}
-use Rattle.shm_graph.specs.Trails.{Asked}
+use Rattle.shm_graph.specs.Trails.{Asked, Chosen}
 use Rattle.shm_graph.specs.Idle.{IsIdle}
 use Rattle.shm_graph.specs.Views.{own_word}
 use Rattle.shm_graph.specs.Stores.{class_read, class_told}
@@ -122,8 +122,7 @@ pages_after me q g s p used = page_trail me q (15 - p) (p + 1) s.segment g.era g
 abbrev pub claim_trail : Me → Request → Goal → Search → AllocTrails
 claim_trail me q g s =
     Asked (Exchange (address me.geometry (place.Segment s.segment)) 0 (me.who + 1)) (λ y.
-    if y == 0 then page_trail me q 16 0 s.segment g.era g.root s.used (segments_after me q g s)
-    else segment_trail me q (me.geometry.segments - (s.segment + 1)) (s.segment + 1) g.era g.root (s.taken + 1) s.used)
+    Chosen (y == 0) (page_trail me q 16 0 s.segment g.era g.root s.used (segments_after me q g s)) (segment_trail me q (me.geometry.segments - (s.segment + 1)) (s.segment + 1) g.era g.root (s.taken + 1) s.used))
 
 -- the trails from a point on
 abbrev pub point_trail : Me → Request → AllocPoint → AllocTrails

@@ -7,7 +7,7 @@ use Rattle.shm_words.specs.Redos.{redo_word}
 use Rattle.shm_graph.specs.declared.ask.Ask.TheVariants.{Load, Store, Exchange}
 use Rattle.shm_graph.specs.declared.ask.Me.{Me}
 use Rattle.shm_graph.specs.Asks.{Trail}
-use Rattle.shm_graph.specs.Trails.{Answers, Asked}
+use Rattle.shm_graph.specs.Trails.{Answers, Asked, Chosen}
 use Rattle.shm_count.specs.declared.answer.Made.{Made}
 use Rattle.shm_alloc.specs.declared.alloc.AllocFault.{AllocFault}
 use Rattle.shm_alloc.specs.declared.alloc.AllocFault.TheVariants.{EraSpent, RootsFull, Full}
@@ -58,7 +58,7 @@ module _ (me : Me) (q : Request) where
   header_trail zero i at e k used rest = rest used
   header_trail (suc n) i at e k used rest =
       Asked (Load (at + class_asked q * i)) (λ x.
-      if x == 0 then block_trail e k (at + class_asked q * i) else header_trail n (i + 1) at e k (used + 1) rest)
+      Chosen (x == 0) (block_trail e k (at + class_asked q * i)) (header_trail n (i + 1) at e k (used + 1) rest))
 
   -- all headers of a page
   abbrev pub headers_trail : ℕ → ℕ → ℕ → ℕ → ℕ → (ℕ → AllocTrails) → AllocTrails
@@ -73,20 +73,18 @@ module _ (me : Me) (q : Request) where
   page_trail zero p s e k used rest = rest used
   page_trail (suc n) p s e k used rest =
       Asked (Load (address me.geometry (place.Page s p))) (λ x.
-      if x == 0 then class_trail s p e k used (λ u. page_trail n (p + 1) s e k u rest)
-      else if x == class_asked q then headers_trail s p e k used (λ u. page_trail n (p + 1) s e k u rest)
-      else page_trail n (p + 1) s e k used rest)
+      Chosen (x == 0) (class_trail s p e k used (λ u. page_trail n (p + 1) s e k u rest))
+      (Chosen (x == class_asked q) (headers_trail s p e k used (λ u. page_trail n (p + 1) s e k u rest)) (page_trail n (p + 1) s e k used rest)))
 
   -- n segments from segment s on
   abbrev pub segment_trail : ℕ → ℕ → ℕ → ℕ → ℕ → ℕ → AllocTrails
   segment_trail zero s e k taken used = Answers (Err (Full taken used))
   segment_trail (suc n) s e k taken used =
       Asked (Load (address me.geometry (place.Segment s))) (λ x.
-      if x == 0 then Asked (Exchange (address me.geometry (place.Segment s)) 0 (me.who + 1)) (λ y.
-        if y == 0 then page_trail 16 0 s e k used (λ u. segment_trail n (s + 1) e k taken u)
-        else segment_trail n (s + 1) e k (taken + 1) used)
-      else if x == me.who + 1 then page_trail 16 0 s e k used (λ u. segment_trail n (s + 1) e k taken u)
-      else segment_trail n (s + 1) e k (taken + 1) used)
+      Chosen (x == 0)
+      (Asked (Exchange (address me.geometry (place.Segment s)) 0 (me.who + 1)) (λ y.
+      Chosen (y == 0) (page_trail 16 0 s e k used (λ u. segment_trail n (s + 1) e k taken u)) (segment_trail n (s + 1) e k (taken + 1) used)))
+      (Chosen (x == me.who + 1) (page_trail 16 0 s e k used (λ u. segment_trail n (s + 1) e k taken u)) (segment_trail n (s + 1) e k (taken + 1) used)))
 
   -- ---- the own era and the roots come first
 
@@ -95,8 +93,8 @@ module _ (me : Me) (q : Request) where
   root_trail zero k e = Answers (Err RootsFull)
   root_trail (suc n) k e =
       Asked (Load (address me.geometry (place.Root me.who k))) (λ x.
-      if x == 0 then segment_trail me.geometry.segments 0 e k 0 0 else root_trail n (k + 1) e)
+      Chosen (x == 0) (segment_trail me.geometry.segments 0 e k 0 0) (root_trail n (k + 1) e))
 
   -- all that an allocation asks
   abbrev pub alloc_trail : AllocTrails
-  alloc_trail = Asked (Load (address me.geometry (place.Era me.who me.who))) (λ e. if nat_lt (2 ^ 47 - 3) e then Answers (Err (EraSpent e)) else root_trail 16 0 e)
+  alloc_trail = Asked (Load (address me.geometry (place.Era me.who me.who))) (λ e. Chosen (nat_lt (2 ^ 47 - 3) e) (Answers (Err (EraSpent e))) (root_trail 16 0 e))

@@ -1,5 +1,5 @@
 -- trails: what an operation asks, told step by step, and what it answers in the end
-use Rattle.std.specs.Prelude.{◌≡◌, ◌≢◌, ℕ, List, [], ◌∷◌, ◌++◌}
+use Rattle.std.specs.Prelude.{◌≡◌, ◌≢◌, ℕ, Bool, true, false, List, [], ◌∷◌, ◌++◌}
 use Rattle.shm_graph.specs.declared.ask.Ask.{Ask}
 use Rattle.shm_graph.specs.declared.memo.Seen.{Seen}
 use Rattle.shm_graph.specs.Asks.{Trail, pair}
@@ -19,3 +19,8 @@ Joined {A} first next tr b = (t : Trail) × ((rest : Trail) × (a : A) × (tr �
 -- a trail that isn't whole: something is still asked
 abbrev pub IsBegun : {A : Type 0} → (Trail → A → Type 0) → Trail → Type 0
 IsBegun {A} whole tr = (rest : Trail) × (a : A) × (rest ≢ []) × whole (tr ++ rest) a
+
+-- the first trails where the bit is true, and otherwise the other ones
+abbrev pub Chosen : {A : Type 0} → Bool → (Trail → A → Type 0) → (Trail → A → Type 0) → Trail → A → Type 0
+Chosen true first other = first
+Chosen false first other = other
