@@ -1,6 +1,7 @@
 -- what a memo tells of blocks is so, and with it the spot of a word of a body that is read
-use Rattle.std.proofs.Common.{◌≡◌, ◌≢◌, ℕ, ◌+◌, ◌<◌, refl, sym, ap, ◌∙◌, subst, false, inl, inr, ◌⊎◌, List, [], ◌∷◌, ◌++◌, map, Option, Some, None}
+use Rattle.std.proofs.Common.{◌≡◌, ◌≢◌, ℕ, ◌+◌, ◌<◌, refl, sym, ap, ◌∙◌, subst, true, false, inl, inr, ◌⊎◌, List, [], ◌∷◌, ◌++◌, map, Option, Some, None}
 use Rattle.std.specs.List.{All, Contains}
+use Rattle.std.proofs.lemmas.Bool.{false≢true}
 use Rattle.std.proofs.lemmas.List.Elements.{All-nil, All-cons, All-head, All-tail, All-append, All-map, All-weaker, All-contains_itself}
 use Rattle.shm_words.specs.declared.geometry.Geometry.{Geometry}
 use Rattle.shm_words.specs.Tags.{tag_author, tag_refs, tag_plain}
@@ -14,12 +15,13 @@ use Rattle.shm_graph.specs.Tables.{contents_of, HasShape, IsPartition}
 use Rattle.shm_graph.specs.Views.{View, view, targets}
 use Rattle.shm_graph.specs.Held.{HeldAt, LooksSound, LookAt, InLooks, named_by, is_loose}
 use Rattle.shm_graph.specs.Reach.{reached_blocks}
-use Rattle.shm_graph.specs.Telling.{Claim, bare, tag_claim, tag_claims, Role, Directory, Entry, Value, Other, Played, roles_from, roles, shaped, role_claim, claims}
+use Rattle.shm_graph.specs.Telling.{Claim, bare, tag_claim, tag_claims, Role, Directory, Entry, Value, Other, Played, role_in, roles_from, roles, shaped, role_claim, claims}
 use Rattle.shm_graph.proofs.Holders.{InReach, held_live_not_zero, reach_counted}
 use Rattle.shm_graph.proofs.KnownChange.{KnownHolds, ValueHolds}
+use Rattle.shm_graph.specs.Readings.{is_entry}
 use Rattle.shm_graph.proofs.Loads.{choice}
 use Rattle.shm_graph.proofs.Reached.{all_reached}
-use Rattle.shm_graph.proofs.Roles.{Plays, IsPlayed, chain_shape, partition_of, roles_blocks, roles_play, latch_inside}
+use Rattle.shm_graph.proofs.Roles.{Plays, IsPlayed, chain_shape, partition_of, roles_blocks, roles_play, latch_inside, role_plays, role_next}
 
 -- both facts hold of each element
 all_both : {X : Type 0} (P Q : X → Type 0) (xs : List X) → All P xs → All Q xs → All (λ x. P x × Q x) xs
@@ -41,6 +43,12 @@ no_looks home body author named earlier (k ∷ ks) s = absurd (none k.from k.blo
     none (Home a) b y = let z = y.1 in cc
     none (Body d i) b y = let z = y.1 in cc
     none p b y = y
+
+entry_is : (role : Role) → is_entry role ≡ true → role ≡ Entry
+entry_is Entry e = refl
+entry_is Directory e = absurd (false≢true e)
+entry_is Value e = absurd (false≢true e)
+entry_is Other e = absurd (false≢true e)
 
 module _ (g : Geometry) (w : Spot → ℕ) (r : ℕ → Memo) (h : HeldAt g w (view r)) (c : ℕ) (l : c < g.clients) where
   abbrev Sound : Claim → Type 0
@@ -112,6 +120,17 @@ module _ (g : Geometry) (w : Spot → ℕ) (r : ℕ → Memo) (h : HeldAt g w (v
       let q = partition_of (contents_of w (targets g w (view r))) a (targets g w (view r) (Home a)) (r a).part (sym (h.parts c a l m) ∙ table) (h.part a m) in
       roles_play g w (view r) h a q.0 q.1 (λ b. tag_author (w (Tag b))) (named_by (targets g w (view r)) (λ s i. w (Tail s i)) (λ s i. w (Front s i)) c) [] [] (r c).looks (All-nil _)
       (subst (λ o. LooksSound (λ d. targets g w (view r) (Home d)) (λ b i. targets g w (view r) (Body b i)) (λ b. tag_author (w (Tag b))) o (named_by (targets g w (view r)) (λ s i. w (Tail s i)) (λ s i. w (Front s i)) c) [] (r c).looks) e (h.looks c l))
+
+  -- the second word of an entry that was read names a value block
+  pub entry_value : (a b d : ℕ) → (r c).latch ≡ Some a → is_entry (role_in (roles (r c)) b) ≡ true → targets g w (view r) (Body b 1) ≡ d → d ≢ 0 → HasShape (contents_of w (targets g w (view r))) 0 1 d
+  entry_value a b d e is names some =
+      choice (λ ps. is_entry (role_in ps b) ≡ true → HasShape (contents_of w (targets g w (view r))) 0 1 d) (is_loose (r c).part) [] (roles_from [] (r c).looks)
+      (λ _ z. absurd (false≢true z))
+      (λ table z. let m = latch_inside g w (view r) h c a l e in
+      let q = partition_of (contents_of w (targets g w (view r))) a (targets g w (view r) (Home a)) (r a).part (sym (h.parts c a l m) ∙ table) (h.part a m) in
+      let plays = role_plays (contents_of w (targets g w (view r))) a (targets g w (view r) (Home a)) (roles_from [] (r c).looks) b (played_here a e table) in
+      role_next g w (view r) h a q.0 q.1 Entry b 1 d (subst (λ role. Plays (contents_of w (targets g w (view r))) a (targets g w (view r) (Home a)) role b) (entry_is (role_in (roles_from [] (r c).looks) b) z) plays) names some)
+      is
 
   table_sound : (o : Option ℕ) → (r c).latch ≡ o → is_loose (r c).part ≡ false → All Sound (map (role_claim o) (roles_from [] (r c).looks))
   table_sound None e table =

@@ -75,11 +75,11 @@ module _ (g : Geometry) (w : Spot → ℕ) (v : View) (h : HeldAt g w v) (c : �
       choice (λ p. spot_at g (classes w) at ≡ p) (eqb at (b + 1)) (Tag b) (Body b (at - (b + 2)))
       (λ y. ap (spot_at g (classes w)) (eqb-true at (b + 1) y) ∙ tag_spot g (classes w) b is class)
       (λ y. let n : at ≢ b + 1 = (λ z. true≢false (sym (eq-eqb at (b + 1) z) ∙ y)) in
-          let q = s.shape (λ z. omega arith) in
-          let u = q.0 in
-          let o = q.1 in
-          let m : at ≡ b + 2 + (at - (b + 2)) = omega arith in
-          ap (spot_at g (classes w)) m ∙ body_spot g (classes w) b (at - (b + 2)) is class (omega arith))
+      let q = s.shape (λ z. omega arith) in
+      let u = q.0 in
+      let o = q.1 in
+      let m : at ≡ b + 2 + (at - (b + 2)) = omega arith in
+      ap (spot_at g (classes w)) m ∙ body_spot g (classes w) b (at - (b + 2)) is class (omega arith))
 
   -- the block of a claim that covers a tag or a word of a block
   pub claim_tag : (k : Claim) (at b : ℕ) → ClaimSound g w v c k → covers at k ≡ true → spot_at g (classes w) at ≡ Tag b → k.block ≡ b
@@ -91,8 +91,8 @@ module _ (g : Geometry) (w : Spot → ℕ) (v : View) (h : HeldAt g w v) (c : �
   pub claim_word : (k : Claim) (at b i : ℕ) → ClaimSound g w v c k → covers at k ≡ true → spot_at g (classes w) at ≡ Body b i → (k.block ≡ b) × (i < k.refs + k.plain)
   claim_word k at b i s e p =
       let same : k.block ≡ b =
-          choice (λ q. q ≡ Body b i → k.block ≡ b) (eqb at (k.block + 1)) (Tag k.block) (Body k.block (at - (k.block + 2)))
-          (λ _ z. absurd (cc)) (λ _ z. cc) (sym (claim_spot k at s e) ∙ p) in
+      choice (λ q. q ≡ Body b i → k.block ≡ b) (eqb at (k.block + 1)) (Tag k.block) (Body k.block (at - (k.block + 2)))
+      (λ _ z. absurd (cc)) (λ _ z. cc) (sym (claim_spot k at s e) ∙ p) in
       let high = ltb-true at (k.block + 2 + k.refs + k.plain) (and_parts (ltb k.block at) (ltb at (k.block + 2 + k.refs + k.plain)) e).1 in
       let there = (body_block g (classes w) at b i p).2 in
       (same, omega arith)

@@ -48,8 +48,8 @@ next_entry x a home b i d n at e =
     choice (λ r. Plays x a home r d) (eqb i 0) AnEntry (cond (eqb i 1) Value Other)
     (λ z. subst (ChainAt x a) (sym (ap (x.refs b) (eqb-true i 0 z)) ∙ e) q.4)
     (λ _. choice (λ r. Plays x a home r d) (eqb i 1) Value Other
-        (λ z. subst (HasShape x 0 1) (sym q.3.value ∙ (ap (λ j. x.refs j 1) (sym q.2) ∙ (sym (ap (x.refs b) (eqb-true i 1 z)) ∙ e))) q.3.holds)
-        (λ _. tt))
+    (λ z. subst (HasShape x 0 1) (sym q.3.value ∙ (ap (λ j. x.refs j 1) (sym q.2) ∙ (sym (ap (x.refs b) (eqb-true i 1 z)) ∙ e))) q.3.holds)
+    (λ _. tt))
 
 -- the shape of a block in its role
 pub chain_shape : (x : Contents) (a b : ℕ) → b ≢ 0 → ChainAt x a b → HasShape x 2 1 b × (tag_author (x.tag b) ≡ a)
@@ -110,7 +110,7 @@ module _ (g : Geometry) (w : Spot → ℕ) (v : View) (h : HeldAt g w v) where
         let k : tag_refs (w (Tag b)) ≡ 16 = ap (λ j. tag_refs (w (Tag j))) (sym e) ∙ (part.shape here).names in
         (i, chains i, subst (λ j. IsChain (contents_of w (targets g w v)) a i (targets g w v (Body j i)) (chains i)) e (part.chain here i (omega arith)))
 
-    role_next : (role : Role) (b i d : ℕ) → InRole role b → targets g w v (Body b i) ≡ d → d ≢ 0 → InRole (role_read role i) d
+    pub role_next : (role : Role) (b i d : ℕ) → InRole role b → targets g w v (Body b i) ≡ d → d ≢ 0 → InRole (role_read role i) d
     role_next Directory b i d p e n =
         let some : targets g w v (Body b i) ≢ 0 = (λ z. n (sym e ∙ z)) in
         subst (ChainAt (contents_of w (targets g w v)) a) e (next_chain b i (held_live_not_zero g w v h b (reference_live b i some).0) p some)

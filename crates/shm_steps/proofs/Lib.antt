@@ -1,1 +1,4 @@
 pub mod SlotStores
+pub mod HeaderReads
+pub mod BlockReads
+pub mod BodyLoads

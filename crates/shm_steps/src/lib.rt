@@ -6,5 +6,7 @@
 #![tactic(auto)]
 
 mod laws;
+mod reading;
 
 pub use laws::slot_stores;
+pub use reading::body_loads;
