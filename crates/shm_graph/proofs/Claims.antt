@@ -11,7 +11,8 @@ use Rattle.shm_graph.specs.declared.memo.Stored.{Stored}
 use Rattle.shm_graph.specs.declared.memo.Look.{Look}
 use Rattle.shm_graph.specs.declared.memo.Memo.{Memo}
 use Rattle.shm_graph.specs.Blocks.{headers, IsLive}
-use Rattle.shm_graph.specs.Tables.{contents_of, HasShape, IsPartition}
+use Rattle.shm_graph.specs.declared.table.Entry.{Entry as AnEntry}
+use Rattle.shm_graph.specs.Tables.{Contents, contents_of, HasShape, IsPartition}
 use Rattle.shm_graph.specs.Views.{View, view, targets}
 use Rattle.shm_graph.specs.Held.{HeldAt, LooksSound, LookAt, InLooks, named_by, is_loose}
 use Rattle.shm_graph.specs.Reach.{reached_blocks}
@@ -21,7 +22,7 @@ use Rattle.shm_graph.proofs.KnownChange.{KnownHolds, ValueHolds}
 use Rattle.shm_graph.specs.Readings.{is_entry}
 use Rattle.shm_graph.proofs.Loads.{choice}
 use Rattle.shm_graph.proofs.Reached.{all_reached}
-use Rattle.shm_graph.proofs.Roles.{Plays, IsPlayed, chain_shape, partition_of, roles_blocks, roles_play, latch_inside, role_plays, role_next}
+use Rattle.shm_graph.proofs.Roles.{Plays, IsPlayed, chain_shape, partition_of, roles_blocks, roles_play, latch_inside, role_plays, next_entry, reference_live}
 
 -- both facts hold of each element
 all_both : {X : Type 0} (P Q : X → Type 0) (xs : List X) → All P xs → All Q xs → All (λ x. P x × Q x) xs
@@ -44,6 +45,7 @@ no_looks home body author named earlier (k ∷ ks) s = absurd (none k.from k.blo
     none (Body d i) b y = let z = y.1 in cc
     none p b y = y
 
+-- only one role is that of an entry
 entry_is : (role : Role) → is_entry role ≡ true → role ≡ Entry
 entry_is Entry e = refl
 entry_is Directory e = absurd (false≢true e)
@@ -51,6 +53,7 @@ entry_is Value e = absurd (false≢true e)
 entry_is Other e = absurd (false≢true e)
 
 module _ (g : Geometry) (w : Spot → ℕ) (r : ℕ → Memo) (h : HeldAt g w (view r)) (c : ℕ) (l : c < g.clients) where
+  -- what is told of a block by this memo, and the blocks that it has in reach
   abbrev Sound : Claim → Type 0
   Sound = ClaimSound g w (view r) c
 
@@ -64,6 +67,7 @@ module _ (g : Geometry) (w : Spot → ℕ) (r : ℕ → Memo) (h : HeldAt g w (v
 
   -- ---- tags
 
+  -- a known tag
   tag_sound : (p : Spot) (x : ℕ) → KnownHolds g w (view r) c (record { spot = p; value = x }) → All Sound (tag_claim p x)
   tag_sound (Tag b) x a =
       All-cons Sound (record { block = b; refs = tag_refs x; plain = tag_plain x; author = Some (tag_author x) }) []
@@ -85,8 +89,22 @@ module _ (g : Geometry) (w : Spot → ℕ) (r : ℕ → Memo) (h : HeldAt g w (v
 
   -- ---- shapes
 
-  shape_sound : (b refs plain : ℕ) (author : Option ℕ) → HasShape (contents_of w (targets g w (view r))) refs plain b → Near b → ((a : ℕ) → author ≡ Some a → tag_author (w (Tag b)) ≡ a)
-      → Sound (record { block = b; refs = refs; plain = plain; author = author })
+  -- what the table is read from, the homes, and the roles of blocks in a's partition
+  abbrev Here : Contents
+  Here = contents_of w (targets g w (view r))
+
+  abbrev home : ℕ → ℕ
+  home a = targets g w (view r) (Home a)
+
+  abbrev InRole : ℕ → Role → ℕ → Type 0
+  InRole a = Plays Here a (home a)
+
+  -- the looks, under this latch
+  abbrev LooksUnder : Option ℕ → Type 0
+  LooksUnder o = LooksSound home (λ b i. targets g w (view r) (Body b i)) (λ b. tag_author (w (Tag b))) o (named_by (targets g w (view r)) (λ s i. w (Tail s i)) (λ s i. w (Front s i)) c) [] (r c).looks
+
+  -- a block of a known shape, one of which nothing is known, and a value block
+  shape_sound : (b refs plain : ℕ) (author : Option ℕ) → HasShape Here refs plain b → Near b → ((a : ℕ) → author ≡ Some a → tag_author (w (Tag b)) ≡ a) → Sound (record { block = b; refs = refs; plain = plain; author = author })
   shape_sound b refs plain author s n a = record { live = s.live; holds = inr n; shape = λ _. (s.names, s.words); author = a }
 
   bare_sound : (b : ℕ) → Contains (r c).dying b ⊎ Near b → Sound (bare b)
@@ -97,14 +115,19 @@ module _ (g : Geometry) (w : Spot → ℕ) (r : ℕ → Memo) (h : HeldAt g w (v
 
   -- ---- roles
 
-  role_sound : (a : ℕ) (chains : _) → IsPartition (contents_of w (targets g w (view r))) a (targets g w (view r) (Home a)) chains → (role : Role) (b : ℕ)
-      → Plays (contents_of w (targets g w (view r))) a (targets g w (view r) (Home a)) role b → Near b → Sound (shaped (Some a) b role)
+  -- the directory of a partition has 16 references and is its author's
+  pub directory_shape : (a b : ℕ) (chains : ℕ → List AnEntry) → IsPartition Here a (home a) chains → InRole a Directory b → b ≢ 0 → HasShape Here 16 0 b × (tag_author (w (Tag b)) ≡ a)
+  directory_shape a b chains part p n =
+      let some : home a ≢ 0 = (λ z. n (sym p ∙ z)) in
+      (subst (HasShape Here 16 0) p (part.shape some), ap (λ j. tag_author (w (Tag j))) (sym p) ∙ part.author some)
+
+  -- a block in a role has the shape that its role tells
+  role_sound : (a : ℕ) (chains : ℕ → List AnEntry) → IsPartition Here a (home a) chains → (role : Role) (b : ℕ) → InRole a role b → Near b → Sound (shaped (Some a) b role)
   role_sound a chains part Directory b p n =
-      let some : targets g w (view r) (Home a) ≢ 0 = (λ z. held_live_not_zero g w (view r) h b (near_live b (inr n)) (sym p ∙ z)) in
-      shape_sound b 16 0 (Some a) (subst (HasShape (contents_of w (targets g w (view r))) 16 0) p (part.shape some)) n
-      (λ d e. let q : a ≡ d = cc in ap (λ j. tag_author (w (Tag j))) (sym p) ∙ (part.author some ∙ q))
+      let s = directory_shape a b chains part p (held_live_not_zero g w (view r) h b (near_live b (inr n))) in
+      shape_sound b 16 0 (Some a) s.0 n (λ d e. let q : a ≡ d = cc in s.1 ∙ q)
   role_sound a chains part Entry b p n =
-      let s = chain_shape (contents_of w (targets g w (view r))) a b (held_live_not_zero g w (view r) h b (near_live b (inr n))) p in
+      let s = chain_shape Here a b (held_live_not_zero g w (view r) h b (near_live b (inr n))) p in
       shape_sound b 2 1 (Some a) s.0 n (λ d e. let q : a ≡ d = cc in s.1 ∙ q)
   role_sound a chains part Value b p n = shape_sound b 0 1 None p n (λ d e. cc)
   role_sound a chains part Other b p n = bare_sound b (inr n)
@@ -113,42 +136,49 @@ module _ (g : Geometry) (w : Spot → ℕ) (r : ℕ → Memo) (h : HeldAt g w (v
   looks_near : All (λ (k : Look). Near k.block) (r c).looks
   looks_near = All-weaker (Contains (r c).looks) (λ (k : Look). Near k.block) (λ k x. inr (k, x, refl)) (r c).looks (All-contains_itself (r c).looks)
 
-  -- what the looks of a pool for tables say, where a's latch is held
-  pub played_here : (a : ℕ) → (r c).latch ≡ Some a → is_loose (r c).part ≡ false → All (IsPlayed (contents_of w (targets g w (view r))) a (targets g w (view r) (Home a))) (roles_from [] (r c).looks)
+  -- the looks are read under the latch that is held
+  looks_under : (o : Option ℕ) → (r c).latch ≡ o → LooksUnder o
+  looks_under o e = subst LooksUnder e (h.looks c l)
+
+  -- the partition whose latch is held
+  pub part_here : (a : ℕ) → (r c).latch ≡ Some a → is_loose (r c).part ≡ false → (chains : ℕ → List AnEntry) × IsPartition Here a (home a) chains
+  part_here a e table = let m = latch_inside g w (view r) h c a l e in partition_of Here a (home a) (r a).part (sym (h.parts c a l m) ∙ table) (h.part a m)
+
+  -- what the looks of a pool for tables say of it
+  pub played_here : (a : ℕ) → (r c).latch ≡ Some a → is_loose (r c).part ≡ false → All (IsPlayed Here a (home a)) (roles_from [] (r c).looks)
   played_here a e table =
-      let m = latch_inside g w (view r) h c a l e in
-      let q = partition_of (contents_of w (targets g w (view r))) a (targets g w (view r) (Home a)) (r a).part (sym (h.parts c a l m) ∙ table) (h.part a m) in
-      roles_play g w (view r) h a q.0 q.1 (λ b. tag_author (w (Tag b))) (named_by (targets g w (view r)) (λ s i. w (Tail s i)) (λ s i. w (Front s i)) c) [] [] (r c).looks (All-nil _)
-      (subst (λ o. LooksSound (λ d. targets g w (view r) (Home d)) (λ b i. targets g w (view r) (Body b i)) (λ b. tag_author (w (Tag b))) o (named_by (targets g w (view r)) (λ s i. w (Tail s i)) (λ s i. w (Front s i)) c) [] (r c).looks) e (h.looks c l))
+      let q = part_here a e table in
+      roles_play g w (view r) h a q.0 q.1 (λ b. tag_author (w (Tag b))) (named_by (targets g w (view r)) (λ s i. w (Tail s i)) (λ s i. w (Front s i)) c) [] [] (r c).looks (All-nil _) (looks_under (Some a) e)
+
+  -- the role that a block was read in is its role
+  pub role_here : (a : ℕ) → (r c).latch ≡ Some a → (b : ℕ) → InRole a (role_in (roles (r c)) b) b
+  role_here a e b =
+      choice (λ ps. InRole a (role_in ps b) b) (is_loose (r c).part) [] (roles_from [] (r c).looks)
+      (λ _. tt) (λ table. role_plays Here a (home a) (roles_from [] (r c).looks) b (played_here a e table))
 
   -- the second word of an entry that was read names a value block
-  pub entry_value : (a b d : ℕ) → (r c).latch ≡ Some a → is_entry (role_in (roles (r c)) b) ≡ true → targets g w (view r) (Body b 1) ≡ d → d ≢ 0 → HasShape (contents_of w (targets g w (view r))) 0 1 d
+  pub entry_value : (a b d : ℕ) → (r c).latch ≡ Some a → is_entry (role_in (roles (r c)) b) ≡ true → targets g w (view r) (Body b 1) ≡ d → d ≢ 0 → HasShape Here 0 1 d
   entry_value a b d e is names some =
-      choice (λ ps. is_entry (role_in ps b) ≡ true → HasShape (contents_of w (targets g w (view r))) 0 1 d) (is_loose (r c).part) [] (roles_from [] (r c).looks)
-      (λ _ z. absurd (false≢true z))
-      (λ table z. let m = latch_inside g w (view r) h c a l e in
-      let q = partition_of (contents_of w (targets g w (view r))) a (targets g w (view r) (Home a)) (r a).part (sym (h.parts c a l m) ∙ table) (h.part a m) in
-      let plays = role_plays (contents_of w (targets g w (view r))) a (targets g w (view r) (Home a)) (roles_from [] (r c).looks) b (played_here a e table) in
-      role_next g w (view r) h a q.0 q.1 Entry b 1 d (subst (λ role. Plays (contents_of w (targets g w (view r))) a (targets g w (view r) (Home a)) role b) (entry_is (role_in (roles_from [] (r c).looks) b) z) plays) names some)
-      is
+      next_entry Here a (home a) b 1 d (held_live_not_zero g w (view r) h b (reference_live g w (view r) h b 1 (λ z. some (sym names ∙ z))).0)
+      (subst (λ role. InRole a role b) (entry_is (role_in (roles (r c)) b) is) (role_here a e b)) names
 
+  -- what the looks of a pool for tables tell is so
   table_sound : (o : Option ℕ) → (r c).latch ≡ o → is_loose (r c).part ≡ false → All Sound (map (role_claim o) (roles_from [] (r c).looks))
   table_sound None e table =
-      let z = no_looks (λ d. targets g w (view r) (Home d)) (λ b i. targets g w (view r) (Body b i)) (λ b. tag_author (w (Tag b))) (named_by (targets g w (view r)) (λ s i. w (Tail s i)) (λ s i. w (Front s i)) c) [] (r c).looks
-      (subst (λ o. LooksSound (λ d. targets g w (view r) (Home d)) (λ b i. targets g w (view r) (Body b i)) (λ b. tag_author (w (Tag b))) o (named_by (targets g w (view r)) (λ s i. w (Tail s i)) (λ s i. w (Front s i)) c) [] (r c).looks) e (h.looks c l)) in
-      subst (λ ks. All Sound (map (role_claim None) (roles_from [] ks))) (sym z) (All-nil Sound)
+      subst (λ ks. All Sound (map (role_claim None) (roles_from [] ks)))
+      (sym (no_looks home (λ b i. targets g w (view r) (Body b i)) (λ b. tag_author (w (Tag b))) (named_by (targets g w (view r)) (λ s i. w (Tail s i)) (λ s i. w (Front s i)) c) [] (r c).looks (looks_under None e)))
+      (All-nil Sound)
   table_sound (Some a) e table =
-      let m = latch_inside g w (view r) h c a l e in
-      let q = partition_of (contents_of w (targets g w (view r))) a (targets g w (view r) (Home a)) (r a).part (sym (h.parts c a l m) ∙ table) (h.part a m) in
+      let q = part_here a e table in
       let played = roles_from [] (r c).looks in
-      let P = IsPlayed (contents_of w (targets g w (view r))) a (targets g w (view r) (Home a)) in
       let N : Played → Type 0 = λ p. Near p.block in
       All-map Sound (role_claim (Some a)) played
-      (All-weaker (λ p. P p × N p) (λ p. Sound (role_claim (Some a) p)) (λ p x. role_sound a q.0 q.1 p.role p.block x.0 x.1) played
-      (all_both P N played (played_here a e table) (roles_blocks Near [] (r c).looks (All-nil _) looks_near)))
+      (All-weaker (λ p. IsPlayed Here a (home a) p × N p) (λ p. Sound (role_claim (Some a) p)) (λ p x. role_sound a q.0 q.1 p.role p.block x.0 x.1) played
+      (all_both (IsPlayed Here a (home a)) N played (played_here a e table) (roles_blocks Near [] (r c).looks (All-nil _) looks_near)))
 
   -- ---- all
 
+  -- the parts of what is told
   tags_and_roles : All Sound (tag_claims (r c).known ++ map (role_claim (r c).latch) (roles (r c)))
   tags_and_roles =
       let m : Memo = r c in
@@ -166,6 +196,7 @@ module _ (g : Geometry) (w : Spot → ℕ) (r : ℕ → Memo) (h : HeldAt g w (v
       (All-weaker Near (λ b. Sound (bare b)) (λ b x. bare_sound b (inr x)) (reached_blocks c m) (all_reached g w r h c l))
       (All-weaker (Contains m.dying) (λ b. Sound (bare b)) (λ b x. bare_sound b (inl x)) m.dying (All-contains_itself m.dying)))
 
+  -- all that the memo tells of blocks is so
   pub claims_sound : All Sound (claims c (r c))
   claims_sound =
       let m : Memo = r c in

@@ -30,6 +30,7 @@ IsClaimed c m at = (k : Claim) × Contains (claims c m) k × (covers at k ≡ tr
 
 -- ---- the first claim that covers an address
 
+-- an element is the first one or one of the others
 contains_first : {X : Type 0} (x : X) (xs : List X) (y : X) → Contains (x ∷ xs) y → (x ≡ y) ⊎ Contains xs y
 contains_first x xs y h =
     elim (Contains-append_cases (x ∷ []) xs y h) [
@@ -41,6 +42,7 @@ contains_first x xs y h =
     alone zero l e = e
     alone (suc k) l e = absurd (omega arith)
 
+-- where some claim covers an address, a first one does
 pub claim_found : (at : ℕ) (ks : List Claim) (k : Claim) → Contains ks k → covers at k ≡ true → (j : Claim) × (claim_in at ks ≡ Some j)
 claim_found at [] k h e = let l = h.1 in absurd (omega arith)
 claim_found at (j ∷ ks) k h e =
@@ -102,6 +104,7 @@ abbrev is_head : Spot → Bool
 is_head (Head b) = true
 is_head p = false
 
+-- the word of a claim's block that it covers is no header
 no_head : (k : Claim) (at b : ℕ) → word_of_block k.block at ≡ Head b → ⊥
 no_head k at b =
     choice (λ q. q ≡ Head b → ⊥) (eqb at (k.block + 1)) (Tag k.block) (Body k.block (at - (k.block + 2)))
@@ -122,6 +125,7 @@ module _ (g : Geometry) (w : Spot → ℕ) (r : ℕ → Memo) (h : HeldAt g w (v
       by None z = z
       by (Some k) z = let q = claim_here at k z in absurd (no_head k at b (sym (claim_spot g w (view r) h c k at q.0 q.1) ∙ e))
 
+  -- a header, and a word that some claim covers
   told_by : (at : ℕ) (p : Spot) → spot_at g (classes w) at ≡ p → ((b : ℕ) × (p ≡ Head b)) ⊎ IsClaimed c (r c) at → spot_claimed at (claim_of c (r c) at) ≡ p
   told_by at p e (inl (b, is)) =
       ap (spot_claimed at) (head_unclaimed at b (e ∙ is)) ∙ (ap Head (head_at g (classes w) at b (e ∙ is)) ∙ sym is)

@@ -42,7 +42,7 @@ chain_entry x a b n (i, [], z) = absurd (n z)
 chain_entry x a b n (i, e ∷ es, z) = (i, e, z.0, z.1, (i, es, subst (λ d. IsChain x a i (x.refs d 0) es) (sym z.0) z.2))
 
 -- what its words name
-next_entry : (x : Contents) (a home b i d : ℕ) → b ≢ 0 → ChainAt x a b → x.refs b i ≡ d → Plays x a home (role_read AnEntry i) d
+pub next_entry : (x : Contents) (a home b i d : ℕ) → b ≢ 0 → ChainAt x a b → x.refs b i ≡ d → Plays x a home (role_read AnEntry i) d
 next_entry x a home b i d n at e =
     let q = chain_entry x a b n at in
     choice (λ r. Plays x a home r d) (eqb i 0) AnEntry (cond (eqb i 1) Value Other)
@@ -55,6 +55,7 @@ next_entry x a home b i d n at e =
 pub chain_shape : (x : Contents) (a b : ℕ) → b ≢ 0 → ChainAt x a b → HasShape x 2 1 b × (tag_author (x.tag b) ≡ a)
 chain_shape x a b n at = let q = chain_entry x a b n at in (subst (HasShape x 2 1) (sym q.2) q.3.shape, ap (λ j. tag_author (x.tag j)) q.2 ∙ q.3.author)
 
+-- the part of a memo in a pool for tables is a partition
 pub partition_of : (x : Contents) (a home : ℕ) (p : Part) → is_loose p ≡ false → PartTie x a home p → (chains : ℕ → List Entry) × IsPartition x a home chains
 partition_of x a home Loose e h = absurd (true≢false e)
 partition_of x a home (Table chains) e h = ((λ b. slice_index_or chains b []), h)
@@ -62,9 +63,11 @@ partition_of x a home (Table chains) e h = ((λ b. slice_index_or chains b []), 
 -- ---- roles of blocks
 
 module _ (x : Contents) (a home : ℕ) where
+  -- the block plays its role
   abbrev pub IsPlayed : Played → Type 0
   IsPlayed p = Plays x a home p.role p.block
 
+  -- a block plays the role in which it was read last
   pub role_plays : (ps : List Played) (b : ℕ) → All IsPlayed ps → Plays x a home (role_in ps b) b
   role_plays [] b h = tt
   role_plays (p ∷ ps) b h =
@@ -99,6 +102,7 @@ module _ (g : Geometry) (w : Spot → ℕ) (v : View) (h : HeldAt g w v) where
       ltb-true a g.clients (at_is_in g (classes w) (Latch a) h.fits (h.there (Latch a) (λ z. omega arith)))
 
   module _ (a : ℕ) (chains : ℕ → List Entry) (part : IsPartition (contents_of w (targets g w v)) a (targets g w v (Home a)) chains) where
+    -- in a's partition
     abbrev InRole : Role → ℕ → Type 0
     InRole = Plays (contents_of w (targets g w v)) a (targets g w v (Home a))
 
@@ -110,7 +114,8 @@ module _ (g : Geometry) (w : Spot → ℕ) (v : View) (h : HeldAt g w v) where
         let k : tag_refs (w (Tag b)) ≡ 16 = ap (λ j. tag_refs (w (Tag j))) (sym e) ∙ (part.shape here).names in
         (i, chains i, subst (λ j. IsChain (contents_of w (targets g w v)) a i (targets g w v (Body j i)) (chains i)) e (part.chain here i (omega arith)))
 
-    pub role_next : (role : Role) (b i d : ℕ) → InRole role b → targets g w v (Body b i) ≡ d → d ≢ 0 → InRole (role_read role i) d
+    -- what a word of a block in a role names plays the role that the word gives it
+    role_next : (role : Role) (b i d : ℕ) → InRole role b → targets g w v (Body b i) ≡ d → d ≢ 0 → InRole (role_read role i) d
     role_next Directory b i d p e n =
         let some : targets g w v (Body b i) ≢ 0 = (λ z. n (sym e ∙ z)) in
         subst (ChainAt (contents_of w (targets g w v)) a) e (next_chain b i (held_live_not_zero g w v h b (reference_live b i some).0) p some)
@@ -122,12 +127,14 @@ module _ (g : Geometry) (w : Spot → ℕ) (v : View) (h : HeldAt g w v) where
 
     -- ---- along the looks
 
+    -- and so does the block of one more look
     role_look : (authors : ℕ → ℕ) (reach : ℕ → Type 0) (ps : List Played) (p : Spot) (b : ℕ) → All (IsPlayed (contents_of w (targets g w v)) a (targets g w v (Home a))) ps
         → LookAt (λ d. targets g w v (Home d)) (λ d i. targets g w v (Body d i)) authors (Some a) reach p b → InRole (role_from ps p) b
     role_look authors reach ps (Home d) b old y = let s : Some a ≡ Some d = y.1 in let e : a ≡ d = cc in ap (λ j. targets g w v (Home j)) e ∙ y.2
     role_look authors reach ps (Body d i) b old y = role_next (role_in ps d) d i b (role_plays (contents_of w (targets g w v)) a (targets g w v (Home a)) ps d old) y.2 y.0
     role_look authors reach ps p b old y = absurd y
 
+    -- and the blocks of all looks
     pub roles_play : (authors : ℕ → ℕ) (named : ℕ → Type 0) (ps : List Played) (earlier ks : List Look) → All (IsPlayed (contents_of w (targets g w v)) a (targets g w v (Home a))) ps
         → LooksSound (λ d. targets g w v (Home d)) (λ d i. targets g w v (Body d i)) authors (Some a) named earlier ks → All (IsPlayed (contents_of w (targets g w v)) a (targets g w v (Home a))) (roles_from ps ks)
     roles_play authors named ps earlier [] old s = old

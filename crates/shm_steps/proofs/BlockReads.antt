@@ -64,6 +64,7 @@ look_target g w v c b i h l reach low latch settled =
 
 -- ---- tags
 
+-- the pool holds with the memo that read a tag of which something is told
 tag_step : (g : Geometry) (w : Spot → ℕ) (r : ℕ → Memo) (c at b : ℕ) (k : Claim) → HeldAt g w (view r) → c < g.clients → spot_at g (classes w) at ≡ Tag b → claim_of c (r c) at ≡ Some k
     → HeldAt g w (view (at1 r c (tag_read (r c) b (w (Tag b)))))
 tag_step g w r c at b k h l e told =
@@ -77,6 +78,7 @@ tag_step g w r c at b k h l e told =
 pub told_called : (c at : ℕ) (m : Memo) (t : Step) (o : Option Claim) → claim_of c m at ≡ o → claim_of c (called m t) at ≡ o
 told_called c at m t o e = called_by (λ x. claim_of c x at ≡ o) m t e e
 
+-- and so at a step
 pub tag_held : (g : Geometry) (w : Spot → ℕ) (r : ℕ → Memo) (c at b : ℕ) (k : Claim) (t : Step) → HeldAt g w (view r) → c < g.clients → spot_at g (classes w) at ≡ Tag b → claim_of c (r c) at ≡ Some k
     → HeldAt g w (view (at1 r c (tag_read (called (r c) t) b (w (Tag b)))))
 tag_held g w r c at b k t h l e told =
@@ -93,6 +95,7 @@ module _ (g : Geometry) (w : Spot → ℕ) (r : ℕ → Memo) (c b i : ℕ) (h :
       (learnt_all (KnownHolds g w (view r) c) (Body b i) (w (Body b i)) (r c).known (refl, inr (reach, inr (inr latch))) (h.known c l))
       (h.values c l)
 
+  -- the look
   abbrev new : Look
   new = record { block = w (Body b i); from = Body b i }
 
@@ -101,9 +104,11 @@ module _ (g : Geometry) (w : Spot → ℕ) (r : ℕ → Memo) (c b i : ℕ) (h :
   looked_view = record (view r) { looks = at1 (view r).looks c ((r c).looks ++ new ∷ []) }
 
   module _ (some : w (Body b i) ≢ 0) (settled : IsSettled (r c) (Body b i)) where
+    -- the word names the block that was read
     target : targets g w (view r) (Body b i) ≡ w (Body b i)
     target = look_target g w (view r) c b i h l reach low latch settled
 
+    -- with that look the pool holds
     looked_held : HeldAt g w looked_view
     looked_held = look_held g w (view r) c (tag_author (w (Tag b))) new h l latch (some, latch, target, reach)
 
@@ -117,6 +122,7 @@ module _ (g : Geometry) (w : Spot → ℕ) (r : ℕ → Memo) (c b i : ℕ) (h :
       | inr x ↦ inr (x.0, subst (λ ks. Contains ks x.0) (sym (at1_here (view r).looks c ((r c).looks ++ new ∷ []))) (Contains-append_left (r c).looks (new ∷ []) x.0 x.1), x.2)
     ]
 
+    -- where the word is the second one of an entry its block is a value block
     values_held : All (ValueHolds g w looked_view c) (values_read (r c) b i (w (Body b i)))
     values_held =
         choice (All (ValueHolds g w looked_view c)) (is_entry (role_in (roles (r c)) b) && eqb i 1) (valued (r c).part (w (Body b i)) (r c).values) (r c).values
@@ -126,6 +132,7 @@ module _ (g : Geometry) (w : Spot → ℕ) (r : ℕ → Memo) (c b i : ℕ) (h :
         (looked_held.values c l))
         (λ _. looked_held.values c l)
 
+    -- the pool holds with the memo that read a reference word that isn't 0
     reference_looked : HeldAt g w (view (at1 r c (record (r c) { looks = (r c).looks ++ new ∷ []; known = learnt (Body b i) (w (Body b i)) (r c).known; values = values_read (r c) b i (w (Body b i)) })))
     reference_looked =
         let v : View = view r in
@@ -135,6 +142,7 @@ module _ (g : Geometry) (w : Spot → ℕ) (r : ℕ → Memo) (c b i : ℕ) (h :
         (learnt_all (KnownHolds g w looked_view c) (Body b i) (w (Body b i)) (r c).known (refl, inr (still_reach, inr (inr latch))) (looked_held.known c l))
         values_held)
 
+  -- and with the memo that read any
   reference_step : IsSettled (r c) (Body b i) → HeldAt g w (view (at1 r c (reference_read (r c) b i (w (Body b i)))))
   reference_step settled =
       choice (λ (m : Memo). HeldAt g w (view (at1 r c m))) (eqb (w (Body b i)) 0)
@@ -143,6 +151,7 @@ module _ (g : Geometry) (w : Spot → ℕ) (r : ℕ → Memo) (c b i : ℕ) (h :
       (λ _. reference_known)
       (λ e. reference_looked (λ z. true≢false (sym (eq-eqb (w (Body b i)) 0 z) ∙ e)) settled)
 
+-- the pool holds with the memo that read a word of a block
 word_step : (g : Geometry) (w : Spot → ℕ) (r : ℕ → Memo) (c b i : ℕ) → HeldAt g w (view r) → c < g.clients → spot_at g (classes w) (b + 2 + i) ≡ Body b i → MayLook c (r c) b i
     → HeldAt g w (view (at1 r c (word_read (r c) (claim_of c (r c) (b + 2 + i)) b i (w (Body b i)))))
 word_step g w r c b i h l e may = by (claim_of c (r c) (b + 2 + i)) refl may
@@ -150,6 +159,7 @@ word_step g w r c b i h l e may = by (claim_of c (r c) (b + 2 + i)) refl may
     m : Memo
     m = r c
 
+    -- the pool with this memo
     Held : Memo → Type 0
     Held n = HeldAt g w (view (at1 r c n))
 
@@ -157,9 +167,11 @@ word_step g w r c b i h l e may = by (claim_of c (r c) (b + 2 + i)) refl may
     same : Held (r c)
     same = subst (HeldAt g w) (view_here r c) h
 
+    -- the word is known
     Known : KnownHolds g w (view r) c (record { spot = Body b i; value = w (Body b i) }) → Held (record (r c) { known = learnt (Body b i) (w (Body b i)) (r c).known })
     Known new = memo_known g w r c (learnt (Body b i) (w (Body b i)) (r c).known) (r c).values h (learnt_all (KnownHolds g w (view r) c) (Body b i) (w (Body b i)) (r c).known new (h.known c l)) (h.values c l)
 
+    -- by the claim that tells it
     some : (k : Claim) → claim_of c (r c) (b + 2 + i) ≡ Some k → MayLookBy (Some k) (r c).latch (IsSettled (r c) (Body b i)) → Held (word_read (r c) (Some k) b i (w (Body b i)))
     some k told may =
         let s = claim_here g w r h c l (b + 2 + i) k told in
@@ -193,6 +205,7 @@ word_step g w r c b i h l e may = by (claim_of c (r c) (b + 2 + i)) refl may
     by None told may = same
     by (Some k) told may = some k told may
 
+-- and so at a step
 pub word_held : (g : Geometry) (w : Spot → ℕ) (r : ℕ → Memo) (c b i : ℕ) (t : Step) → HeldAt g w (view r) → c < g.clients → spot_at g (classes w) (b + 2 + i) ≡ Body b i → MayLook c (r c) b i
     → HeldAt g w (view (at1 r c (word_read (called (r c) t) (claim_of c (called (r c) t) (b + 2 + i)) b i (w (Body b i)))))
 word_held g w r c b i t h l e may =

@@ -60,6 +60,7 @@ module _ (g : Geometry) (w : Spot → ℕ) (r : ℕ → Memo) (c b : ℕ) (load 
   abbrev ended_view : View
   ended_view = record (view r) { op = at1 (view r).op c (op_refused (r c) b (w (Head b))) }
 
+  -- it holds
   ended_held : HeldAt g w ended_view
   ended_held =
       refused_op (λ o. HeldAt g w (record (view r) { op = at1 (view r).op c o })) (r c) b (w (Head b))
@@ -88,6 +89,7 @@ module _ (g : Geometry) (w : Spot → ℕ) (r : ℕ → Memo) (c b : ℕ) (load 
       ]))
       (λ _. tt)
 
+  -- the pool holds with the memo that read the header
   header_step : HeldAt g w (view (at1 r c (header_read g c load (r c) b (w (Head b)))))
   header_step =
       let v : View = view r in
