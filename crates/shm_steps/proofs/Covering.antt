@@ -76,9 +76,12 @@ module _ (c : ℕ) (m : Memo) where
 
   -- a block in reach or a zero-count block
   block_told : (b : ℕ) → Contains (reached_blocks c m ++ m.dying) b → IsTold c m b
-  block_told b h =
-      (bare b, Contains-append_right ((tag_claims m.known ++ map (role_claim m.latch) (roles m)) ++ map (λ d. shaped None d Value) m.values) (map bare (reached_blocks c m ++ m.dying)) (bare b)
-      (contains_map bare (reached_blocks c m ++ m.dying) b h), refl)
+  block_told b h = (
+    bare b,
+    Contains-append_right ((tag_claims m.known ++ map (role_claim m.latch) (roles m)) ++ map (λ d. shaped None d Value) m.values) (map bare (reached_blocks c m ++ m.dying)) (bare b)
+        (contains_map bare (reached_blocks c m ++ m.dying) b h),
+    refl,
+  )
 
   -- a block in reach, and a zero-count block
   pub reached_told : (b : ℕ) → is_reached c m b ≡ true → IsTold c m b
