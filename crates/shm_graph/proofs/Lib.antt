@@ -42,3 +42,6 @@ pub mod SlotRead
 pub mod KindKeeping
 pub mod BodyTold
 pub mod Reached
+pub mod Roles
+pub mod Claims
+pub mod LoadTold

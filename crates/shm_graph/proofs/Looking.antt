@@ -65,10 +65,11 @@ module _ (home : ℕ → ℕ) (body : ℕ → ℕ → ℕ) (author : ℕ → ℕ
         (λ b x. elim x [ inl y ↦ inl y | inr y ↦ inr (in_first earlier ks j b y) ]) k.from k.block new),
   )
 
--- a block in a home, under the latch of its author
-pub home_held : (g : Geometry) (w : Spot → ℕ) (v : View) (c a : ℕ) → HeldAt g w v → c < g.clients → v.latch c ≡ Some a → w (Home a) ≢ 0
-    → HeldAt g w (record v { looks = at1 v.looks c (v.looks c ++ record { block = w (Home a); from = Home a } ∷ []) })
-home_held g w v c a h l latched some =
+-- a block that a word names, under the latch of the word's author
+pub look_held : (g : Geometry) (w : Spot → ℕ) (v : View) (c a : ℕ) (k : Look) → HeldAt g w v → c < g.clients → v.latch c ≡ Some a
+    → LookAt (λ b. targets g w v (Home b)) (λ b i. targets g w v (Body b i)) (λ b. tag_author (w (Tag b))) (v.latch c) (reach_of (targets g w v) (λ s r. w (Tail s r)) (λ s r. w (Front s r)) v.looks c) k.from k.block
+    → HeldAt g w (record v { looks = at1 v.looks c (v.looks c ++ k ∷ []) })
+look_held g w v c a k h l latched new =
     record {
       fits = h.fits;
       small = h.small;
@@ -93,7 +94,8 @@ home_held g w v c a h l latched some =
       looks = λ d. at1_all (λ (i : ℕ) (x : List Look). i < g.clients → LooksSound (λ b. targets g w v (Home b)) (λ b i. targets g w v (Body b i)) (λ b. tag_author (w (Tag b))) (v.latch i) (named_by (targets g w v) (λ s r. w (Tail s r)) (λ s r. w (Front s r)) i) [] x)
           v.looks c (v.looks c ++ k ∷ []) d
           (λ m. looks_push (λ b. targets g w v (Home b)) (λ b i. targets g w v (Body b i)) (λ b. tag_author (w (Tag b))) (v.latch c) (named_by (targets g w v) (λ s r. w (Tail s r)) (λ s r. w (Front s r)) c) (v.looks c) [] k (h.looks c m)
-          (some, latched, home_target g w v a h some))
+          (look_more (λ b. targets g w v (Home b)) (λ b i. targets g w v (Body b i)) (λ b. tag_author (w (Tag b))) (v.latch c) (near c) (λ b. named_by (targets g w v) (λ s r. w (Tail s r)) (λ s r. w (Front s r)) c b ⊎ (InLooks [] b ⊎ InLooks (v.looks c) b))
+          (λ b x. elim x [ inl y ↦ inl y | inr y ↦ inr (inr y) ]) k.from k.block new))
           (λ n. h.looks d);
       lanes = h.lanes;
       known = λ d m. All-weaker (λ (s : Stored). KnownAt d (λ b. w (Tag b)) (λ b i. w (Body b i)) (λ s r k. w (Slot s r k)) (λ s r. w (Tail s r)) (λ s r. w (Front s r)) (v.untaken d) (v.latch d) (near d) (v.dying d) s.spot s.value)
@@ -123,9 +125,6 @@ home_held g w v c a h l latched some =
       made = h.made;
     }
   where
-    k : Look
-    k = record { block = w (Home a); from = Home a }
-
     near : ℕ → ℕ → Type 0
     near = reach_of (targets g w v) (λ s r. w (Tail s r)) (λ s r. w (Front s r)) v.looks
 
@@ -135,3 +134,8 @@ home_held g w v c a h l latched some =
     more : (d b : ℕ) → near d b → far d b
     more d b (inl x) = inl x
     more d b (inr x) = inr (at1_all (λ (i : ℕ) (y : List Look). InLooks (v.looks i) b → InLooks y b) v.looks c (v.looks c ++ k ∷ []) d (in_push (v.looks c) k b) (λ n y. y) x)
+
+-- a block in a home, under the latch of its author
+pub home_held : (g : Geometry) (w : Spot → ℕ) (v : View) (c a : ℕ) → HeldAt g w v → c < g.clients → v.latch c ≡ Some a → w (Home a) ≢ 0
+    → HeldAt g w (record v { looks = at1 v.looks c (v.looks c ++ record { block = w (Home a); from = Home a } ∷ []) })
+home_held g w v c a h l latched some = look_held g w v c a (record { block = w (Home a); from = Home a }) h l latched (some, latched, home_target g w v a h some)

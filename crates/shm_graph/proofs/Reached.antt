@@ -1,7 +1,7 @@
 -- what a memo shows of reach is so: the blocks that it says its identity names or has in reach are those of the targets
-use Rattle.std.proofs.Common.{◌≡◌, ◌≢◌, ℕ, zero, suc, ◌%◌, ◌<◌, refl, sym, ap, ◌∙◌, subst, arith, true, not, ltb, ◌&&◌, inl, inr, ◌⊎◌, List, [], ◌∷◌, ◌++◌, map}
+use Rattle.std.proofs.Common.{◌≡◌, ◌≢◌, ℕ, zero, suc, ◌%◌, ◌<◌, refl, sym, ap, ◌∙◌, subst, arith, true, false, not, cond, get_or, ltb, ◌&&◌, inl, inr, ◌⊎◌, List, [], ◌∷◌, ◌++◌, map}
 use Rattle.std.specs.List.{All, Contains, filter}
-use Rattle.std.proofs.lemmas.Bool.{cases_eq, and_parts, eqb-true, eq-eqb, ltb-true, false≢true}
+use Rattle.std.proofs.lemmas.Bool.{cases_eq, and_parts, eqb-true, eq-eqb, ltb-true, cond-false, false≢true}
 use Rattle.std.proofs.lemmas.List.Elements.{All-nil, All-cons, All-head, All-tail, All-append, All-map, All-contains, All-contains_itself, All-weaker}
 use Rattle.std.proofs.lemmas.Map.Views.{Contains-from_any}
 use Rattle.shm_words.specs.declared.geometry.Geometry.{Geometry}
@@ -10,8 +10,9 @@ use Rattle.shm_graph.specs.declared.spot.Spot.TheVariants.{Home, Root, Tail, Fro
 use Rattle.shm_graph.specs.declared.memo.Stored.{Stored}
 use Rattle.shm_graph.specs.declared.memo.Look.{Look}
 use Rattle.shm_graph.specs.declared.memo.Memo.{Memo}
+use Rattle.shm_graph.specs.Spots.{same_spot, upd}
 use Rattle.shm_graph.specs.Blocks.{classes}
-use Rattle.shm_graph.specs.Ops.{Cover, cover, cover_of, covered, slot_of}
+use Rattle.shm_graph.specs.Ops.{Cover, Quiet, On, cover, cover_of, covered, slot_of}
 use Rattle.shm_graph.specs.Views.{View, view, targets, own_word}
 use Rattle.shm_graph.specs.Held.{HeldAt, InLooks, named_by}
 use Rattle.shm_graph.specs.Reach.{shown, roots_below, in_slot, in_slots, not_zero, named_blocks, reached_blocks, is_named, is_reached}
@@ -53,10 +54,12 @@ module _ (t : Spot → ℕ) (tail front : ℕ → ℕ → ℕ) (c : ℕ) where
   abbrev MayName : ℕ → Type 0
   MayName b = b ≢ 0 → named_by t tail front c b
 
+  -- each root names what it shows
   roots_named : (m : Memo) → ((k : ℕ) → shown m (Root c k) ≡ t (Root c k)) → (n : ℕ) → All MayName (roots_below c m n)
   roots_named m e zero = All-nil MayName
   roots_named m e (suc k) = All-cons MayName (shown m (Root c k)) (roots_below c m k) (λ n. (n, inl (k, sym (e k)))) (roots_named m e k)
 
+  -- and so does each known slot
   slot_named : (p : Spot) (x : ℕ) → HeadNamed t tail front c p x → All MayName (in_slot p x)
   slot_named (Slot s r k) x h = All-cons MayName x [] (λ n. (n, inr (inr (s, h.2, subst (λ j. t (Slot s c j) ≡ x) h.1 h.3)))) (All-nil MayName)
   slot_named p x h = All-nil MayName
@@ -74,6 +77,7 @@ module _ (t : Spot → ℕ) (tail front : ℕ → ℕ → ℕ) (c : ℕ) where
       (All-append MayName (roots_below c m 16) (shown m (Home c) ∷ in_slots m.known) (roots_named m a.roots 16)
       (All-cons MayName (shown m (Home c)) (in_slots m.known) (λ n. (n, inr (inl (sym a.home)))) (slots_named m.known a.slots)))
 
+  -- a block that the memo names is named
   pub named_sound : (m : Memo) → Names t tail front c m → (b : ℕ) → is_named c m b ≡ true → named_by t tail front c b
   named_sound m a b e = All-contains (named_by t tail front c) (named_blocks c m) b (blocks_named m a) (Contains-from_any eqb-true b (named_blocks c m) e)
 
@@ -85,8 +89,31 @@ module _ (t : Spot → ℕ) (tail front : ℕ → ℕ → ℕ) (c : ℕ) where
       (All-weaker (named_by t tail front c) P (λ b x. inl x) (named_blocks c m) (blocks_named m a))
       (All-map P (λ (k : Look). k.block) m.looks (All-weaker (Contains m.looks) (λ k. P k.block) (λ k x. inr (k, x, refl)) m.looks (All-contains_itself m.looks)))
 
+  -- a block that the memo has in reach is in reach
   pub reached_sound : (m : Memo) → Names t tail front c m → (b : ℕ) → is_reached c m b ≡ true → named_by t tail front c b ⊎ InLooks m.looks b
   reached_sound m a b e = All-contains (λ x. named_by t tail front c x ⊎ InLooks m.looks x) (reached_blocks c m) b (blocks_reached m a) (Contains-from_any eqb-true b (reached_blocks c m) e)
+
+-- ---- after a step has committed
+
+-- the known slots are as they were, but for the slot of the step
+slot_after : (t : Spot → ℕ) (tail front : ℕ → ℕ → ℕ) (c : ℕ) (p : Spot) (x : ℕ) (q : Spot) (y : ℕ) → HeadNamed t tail front c q y → same_spot p q ≡ false → HeadNamed (upd t p x) tail front c q y
+slot_after t tail front c p x (Slot s r k) y h n = (h.0, h.1, h.2, cond-false _ x (t (Slot s c k)) (ap (λ j. same_spot p (Slot s j k)) (sym h.0) ∙ n) ∙ h.3)
+slot_after t tail front c p x q y h n = tt
+
+-- the memo n is m with its step committed, which makes p name x: it shows the targets after the step
+pub names_after : (t : Spot → ℕ) (tail front : ℕ → ℕ → ℕ) (c : ℕ) (m n : Memo) (p : Spot) (x : ℕ) → Names t tail front c m → cover_of m.op ≡ Quiet → cover_of n.op ≡ On p x → n.own ≡ m.own
+    → All (λ (s : Stored). HeadNamed t tail front c s.spot s.value) n.known → All (λ (s : Stored). same_spot p s.spot ≡ false) n.known → Names (upd t p x) tail front c n
+names_after t tail front c m n p x a before after own slots others =
+    record {
+      roots = λ k. word (Root c k) (a.roots k);
+      home = word (Home c) a.home;
+      slots = λ k d l. slot_after t tail front c p x (get_or n.known k d).spot (get_or n.known k d).value (slots k d l) (others k d l);
+    }
+  where
+    word : (q : Spot) → shown m q ≡ t q → shown n q ≡ upd t p x q
+    word q e =
+        let old : own_word m.own q ≡ t q = ap (λ z. cover z q (own_word m.own q)) (sym before) ∙ e in
+        ap (λ z. cover z q (own_word n.own q)) after ∙ (ap (λ (ks : List Stored). cond (same_spot p q) x (own_word ks q)) own ∙ ap (cond (same_spot p q) x) old)
 
 -- ---- an own reference word
 
@@ -142,6 +169,7 @@ module _ (g : Geometry) (w : Spot → ℕ) (v : View) (h : HeldAt g w v) (c : �
   pub known_target : (s r k x : ℕ) → KnownHolds g w v c (record { spot = Slot s r k; value = x }) → targets g w v (Slot s c k) ≡ x
   known_target s r k x a = head_target g w v h c s k (known_head s r k x a) ∙ a.6
 
+  -- what is known of slots is what they name
   known_named : (p : Spot) (x : ℕ) → KnownHolds g w v c (record { spot = p; value = x }) → HeadNamed (targets g w v) (λ s i. w (Tail s i)) (λ s i. w (Front s i)) c p x
   known_named (Slot s r k) x a = (a.0, a.2, a.3, known_target s r k x a)
   known_named p x a = tt
@@ -152,6 +180,7 @@ module _ (g : Geometry) (w : Spot → ℕ) (v : View) (h : HeldAt g w v) (c : �
 -- ---- the memo of a state that holds
 
 module _ (g : Geometry) (w : Spot → ℕ) (r : ℕ → Memo) (h : HeldAt g w (view r)) (c : ℕ) (l : c < g.clients) where
+  -- the memo shows the targets
   pub names_here : Names (targets g w (view r)) (λ s i. w (Tail s i)) (λ s i. w (Front s i)) c (r c)
   names_here =
       record {

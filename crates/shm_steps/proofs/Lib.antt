@@ -18,3 +18,7 @@ pub mod LowerBlock
 pub mod ChangeRaised
 pub mod ChangeLowered
 pub mod LatchBack
+pub mod HeaderReads
+pub mod BlockReads
+pub mod BodyLoads
+pub mod Covering

@@ -4,3 +4,4 @@ pub mod OwnWords
 pub mod Raising
 pub mod Lowering
 pub mod Unlatching
+pub mod Reading

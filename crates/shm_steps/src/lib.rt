@@ -9,6 +9,7 @@ mod exchanging;
 mod laws;
 mod preparing;
 mod unlatching;
+mod reading;
 
 pub use exchanging::header_exchanges;
 pub use laws::slot_stores;
@@ -16,3 +17,4 @@ pub use preparing::preparing_steps;
 mod own;
 pub use own::{own_stores, root_begins};
 pub use unlatching::latch_given_back;
+pub use reading::body_loads;
