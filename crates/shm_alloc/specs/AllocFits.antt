@@ -31,6 +31,8 @@ use Rattle.shm_alloc.specs.declared.point.Search.{Search}
 use Rattle.shm_alloc.specs.declared.point.AllocPoint.{AllocPoint}
 use Rattle.shm_alloc.specs.declared.point.AllocPoint.TheVariants.{Era, Root, Segment, Claim, Page, Class, Header, Tag, Reference, Plain, Redo, Commit, Slot, Close, Over}
 use Rattle.shm_alloc.specs.declared.point.AllocState.{AllocState}
+use Rattle.shm_alloc.specs.declared.point.Next.{Next}
+use Rattle.shm_alloc.specs.declared.point.Next.TheVariants.{Point, Answer}
 use Rattle.shm_alloc.specs.AllocControl.{class_asked, tag_asked, block_of, AllocKnows}
 use Rattle.shm_alloc.specs.AllocTrail.{AllocTrails, alloc_trail, root_trail, segment_trail, page_trail, header_trail, block_trail, reference_trail, plain_trail, live_trail, commit_trail, slot_trail, close_trail, class_trail}
 
@@ -150,15 +152,19 @@ pub record CanAlloc (me : Me) (r : Memo) : Type 0 where
   pub who : me.who < me.geometry.clients
   pub idle : IsIdle me.who r
 
+-- what holds of the memo at a point
+pub record PointHolds (me : Me) (q : Request) (r0 r : Memo) (p : AllocPoint) : Type 0 where
+  pub stays : Stays r0 r
+  pub op : r.op ≡ op_at me.who p
+  pub own : r.own ≡ own_at me p r0.own
+  pub has : PointHas me q r0 r p
+
 -- it could begin, the memo shows what the point needs, and what was asked is the first part of a trail that goes on from the point
 pub record AllocFits (m : AllocState) (r0 r : Memo) (tr : Trail) : Type 0 where
   pub can : CanAlloc m.me r0
   pub knows : AllocKnows m
   pub begun : m.point ≢ Era → tr ≢ []
-  pub stays : Stays r0 r
-  pub op : r.op ≡ op_at m.me.who m.point
-  pub own : r.own ≡ own_at m.me m.point r0.own
-  pub has : PointHas m.me m.request r0 r m.point
+  pub holds : PointHolds m.me m.request r0 r m.point
   pub trail : (rest : Trail) (a : Result Made AllocFault) → point_trail m.me m.request m.point rest a → alloc_trail m.me m.request (tr ++ rest) a
 
 -- a block was made: it is named by the least empty root, its words are known, and the own era is the next one
@@ -186,8 +192,18 @@ abbrev pub Gives : Me → Request → Memo → Memo → Result Made AllocFault �
 Gives me q r0 r (Ok a) = MadeGives me q r0 r a
 Gives me q r0 r (Err f) = RefusedGives r0 r × Cause me.who r0 f
 
-pub record AllocGives (m : AllocState) (r0 r : Memo) (tr : Trail) (a : Result Made AllocFault) : Type 0 where
-  pub idle : IsIdle m.me.who r
+-- what holds of the memo once it has answered
+pub record AnswerHolds (me : Me) (q : Request) (r0 r : Memo) (a : Result Made AllocFault) : Type 0 where
+  pub idle : IsIdle me.who r
   pub stays : Stays r0 r
-  pub gives : Gives m.me m.request r0 r a
+  pub gives : Gives me q r0 r a
+
+-- what holds of the memo after a step
+abbrev pub NextHolds : Me → Request → Memo → Memo → Next → Type 0
+NextHolds me q r0 r (Point p) = PointHolds me q r0 r p
+NextHolds me q r0 r (Answer a) = AnswerHolds me q r0 r a
+
+-- the identity is between two calls, and its trail is whole
+pub record AllocGives (m : AllocState) (r0 r : Memo) (tr : Trail) (a : Result Made AllocFault) : Type 0 where
+  pub holds : AnswerHolds m.me m.request r0 r a
   pub trail : alloc_trail m.me m.request tr a

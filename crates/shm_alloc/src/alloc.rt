@@ -1,5 +1,12 @@
 //! The allocation of a block.
 
+ghost use Rattle.std.specs.Prelude.{◌≡◌, ◌<◌, ◌≤◌, ◌↔◌, ◌⊎◌, IfOk, IfErr, is_err, true, length, take};
+ghost use Rattle.shm_words.specs.Layout.{GeometryFits};
+ghost use Rattle.shm_alloc.specs.AllocControl.{alloc_control};
+ghost use Rattle.shm_alloc.specs.AllocFits.{AllocFits, AllocGives};
+ghost use Rattle.shm_alloc.specs.AllocLaws.{alloc_laws};
+ghost use Rattle.shm_alloc.specs.declared.point.AllocPoint.TheVariants.{Era};
+
 use crate::point::{AllocPoint, AllocState, Next, Request};
 use shm_count::Made;
 use shm_graph::{Ask, Machine, Me, Turn};
@@ -34,13 +41,32 @@ pub struct Alloc {
     state: AllocState,
 }
 
+impl Model for Alloc {
+    ghost use Rattle.shm_alloc.specs.declared.point.AllocState.{AllocState as AState};
+
+    ghost Value = { AState };
+
+    ghost view = { λ a. a.state };
+
+    ghost use Rattle.shm_alloc.specs.AllocControl.{AllocKnows};
+
+    ghost invariant = { λ a. AllocKnows a.state };
+}
+
 impl Alloc {
     /// An allocation for the identity `me` of a block with `refs` empty reference words and these plain words.
     ///
     /// # Errors
     ///
     /// `TooLarge` where more than 16 reference words or more than 8 plain words are asked for.
-    pub fn new(me: Me, refs: u8, plain: &[u64]) -> Result<Alloc, TooLarge> {
+    pub fn new(me: Me, refs: u8, plain: &[u64]) -> Result<Alloc, TooLarge>
+        requires geometry { GeometryFits me.geometry }
+        requires who { me.who < me.geometry.clients }
+        ensures refused { is_err result ≡ true ↔ ((16 < refs) ⊎ (8 < length plain)) }
+        ensures fault { IfErr result (λ e. e ≡ record { refs = refs; plain = length plain }) }
+        ensures fresh { IfOk result (λ m. (m.me ≡ me) × (m.point ≡ Era)) }
+        ensures request { IfOk result (λ m. (m.request.refs ≡ refs) × (m.request.count ≡ length plain) × (take (length plain) m.request.plain ≡ plain)) }
+    {
         if refs > 16 || plain.len() > 8 {
             let plain = plain.len();
             return Err(TooLarge { refs, plain });
@@ -57,4 +83,41 @@ impl Alloc {
             state: AllocState { me, request, point },
         })
     }
+}
+
+impl Machine for Alloc {
+    type Answer = Result<Made, AllocFault>;
+
+    ghost control = { alloc_control };
+
+    ghost fits = { AllocFits };
+
+    ghost gives = { AllocGives };
+
+    fn me(&self) -> Me {
+        self.state.me
+    }
+
+    fn finished(&self) -> bool {
+        matches!(self.state.point, AllocPoint::Over)
+    }
+
+    fn ask(&self) -> Ask {
+        self.state.ask()
+    }
+
+    fn take(&mut self, seen: u64) -> Turn<Result<Made, AllocFault>> {
+        match self.state.next(seen) {
+            Next::Point(point) => {
+                self.state.point = point;
+                Turn::More
+            }
+            Next::Answer(answer) => {
+                self.state.point = AllocPoint::Over;
+                Turn::Done(answer)
+            }
+        }
+    }
+
+    ghost laws = { alloc_laws };
 }

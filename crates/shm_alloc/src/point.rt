@@ -1,5 +1,10 @@
 //! The control of an allocation: which word it asks for, and where it goes by the word found.
 
+ghost use Rattle.std.specs.Prelude.{◌≡◌, ◌<◌, ◌≤◌, ◌/◌};
+ghost use Rattle.shm_words.specs.Layout.{GeometryFits};
+ghost use Rattle.shm_alloc.specs.AllocControl.{class_asked, block_of, RequestFits, PointFits, AllocKnows};
+ghost use Rattle.shm_alloc.specs.AllocControl as control;
+
 use crate::alloc::AllocFault;
 use shm_count::Made;
 use shm_graph::{Ask, Me};
@@ -99,7 +104,10 @@ pub enum Next {
 
 impl Request {
     /// The class of the new block.
-    pub fn class(self) -> u8 {
+    pub fn class(self) -> u8
+        requires { RequestFits self }
+        ensures { result ≡ class_asked self }
+    {
         class_of(self.refs, self.count)
     }
 
@@ -114,7 +122,9 @@ impl Request {
     }
 
     /// The step after the tag and `index` reference words are stored.
-    fn references_from(self, goal: Goal, block: u32, index: u8) -> AllocPoint {
+    fn references_from(self, goal: Goal, block: u32, index: u8) -> AllocPoint
+        ensures { result ≡ control.references_from self goal block index }
+    {
         if index < self.refs {
             AllocPoint::Reference { goal, block, index }
         } else {
@@ -123,7 +133,9 @@ impl Request {
     }
 
     /// The step after the tag, the reference words and `index` plain words are stored.
-    fn plain_from(self, goal: Goal, block: u32, index: u8) -> AllocPoint {
+    fn plain_from(self, goal: Goal, block: u32, index: u8) -> AllocPoint
+        ensures { result ≡ control.plain_from self goal block index }
+    {
         if index < self.count {
             AllocPoint::Plain { goal, block, index }
         } else {
@@ -134,13 +146,23 @@ impl Request {
 
 impl AllocState {
     /// The address of a block: its page's place and its place in the page.
-    fn block(self, search: Search, page: u8, index: u8) -> u32 {
+    fn block(self, search: Search, page: u8, index: u8) -> u32
+        requires geometry { GeometryFits self.me.geometry }
+        requires request { RequestFits self.request }
+        requires segment { search.segment < self.me.geometry.segments }
+        requires page { page < 16 }
+        requires index { index < 128 / class_asked self.request }
+        ensures { result ≡ block_of self.me self.request search page index }
+    {
         self.me.geometry.body(search.segment, page)
             + u32::from(self.request.class()) * u32::from(index)
     }
 
     /// The word step that comes next.
-    pub fn ask(self) -> Ask {
+    pub fn ask(self) -> Ask
+        requires { AllocKnows self }
+        ensures { result ≡ control.alloc_ask self }
+    {
         let Me { geometry, who } = self.me;
         match self.point {
             AllocPoint::Era => Ask::Load {
@@ -225,7 +247,10 @@ impl AllocState {
     }
 
     /// Where it goes by the word that it found.
-    pub fn next(self, seen: u64) -> Next {
+    pub fn next(self, seen: u64) -> Next
+        requires { AllocKnows self }
+        ensures { result ≡ control.alloc_next self seen }
+    {
         match self.point {
             AllocPoint::Era => era_next(seen),
             AllocPoint::Root { era, root } => root_next(era, root, seen),
