@@ -60,16 +60,18 @@ head_slot g w r c s i k h l e =
     let q = and_parts _ _ p.1 in
     let me : i ≡ c = eqb-true i c b.0 in
     let front : x ≡ w (Front s c) = h.mine c l (Front s c) (eq-eqb c c refl) in
-    let word : w (Slot s i k) ≢ 0 = (λ z. false≢true (sym (ap not (eq-eqb (w (Slot s i k)) 0 z)) ∙ a.1)) in
-    (me, record {
-      receiver = l;
-      sender = slot_sender g w r s i k h word;
-      other = λ z. false≢true (sym (ap not (eq-eqb s c z)) ∙ d.0);
-      place = eqb-true k (x % 8) p.0 ∙ ap (λ n. n % 8) front;
-      some = subst (λ n. n < w (Tail s c)) front (any_above g w r s c x m.facts q.1 (h.facts c l));
-      left = eqb-true (slice_index m.untaken s) 0 q.0;
-      word = λ z. word (ap (λ n. w (Slot s n k)) me ∙ z);
-    })
+    let word : w (Slot s i k) ≢ 0 = (λ z. false≢true (sym (ap not (eq-eqb (w (Slot s i k)) 0 z)) ∙ a.1)) in (
+      me,
+      record {
+        receiver = l;
+        sender = slot_sender g w r s i k h word;
+        other = λ z. false≢true (sym (ap not (eq-eqb s c z)) ∙ d.0);
+        place = eqb-true k (x % 8) p.0 ∙ ap (λ n. n % 8) front;
+        some = subst (λ n. n < w (Tail s c)) front (any_above g w r s c x m.facts q.1 (h.facts c l));
+        left = eqb-true (slice_index m.untaken s) 0 q.0;
+        word = λ z. word (ap (λ n. w (Slot s n k)) me ∙ z);
+      },
+    )
 
 -- a memo reads it
 slot_step : (g : Geometry) (w : Spot → ℕ) (r : ℕ → Memo) (c s i k : ℕ) → HeldAt g w (view r) → c < g.clients → HeldAt g w (view (at1 r c (slot_read c (r c) s i k (w (Slot s i k)))))

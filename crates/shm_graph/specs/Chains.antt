@@ -44,9 +44,9 @@ abbrev pub chain_set : List Stored → ℕ → ℕ → ℕ → List Entry → Li
 chain_set known b i x [] = []
 chain_set known b i x (e ∷ es) =
     if e.block == b then
-      (if i == 0 then e ∷ relinked known x es
-      else if i == 1 then record e { value = x; number = word_known known x 0 } ∷ es
-      else e ∷ es)
+    (if i == 0 then e ∷ relinked known x es
+    else if i == 1 then record e { value = x; number = word_known known x 0 } ∷ es
+    else e ∷ es)
     else e ∷ chain_set known b i x es
 
 -- one of the chains changed

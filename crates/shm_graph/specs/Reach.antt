@@ -1,5 +1,5 @@
 -- what a memo shows of reach: which blocks its identity names, and what stays of looks and of known words
-use Rattle.std.specs.Prelude.{ℕ, zero, suc, Bool, true, not, ◌&&◌, ◌||◌, ◌==◌, nat_le, if◌then◌else◌, eqb, List, [], ◌∷◌, ◌++◌, map, Option, Some, None}
+use Rattle.std.specs.Prelude.{ℕ, zero, suc, Bool, true, false, not, ◌&&◌, ◌||◌, ◌==◌, nat_le, if◌then◌else◌, eqb, List, [], ◌∷◌, ◌++◌, map, Option, Some, None}
 use Rattle.std.specs.List.{filter, list_any}
 use Rattle.shm_words.specs.Tags.{tag_refs, tag_author}
 use Rattle.shm_graph.specs.declared.spot.Spot.{Spot}
@@ -84,15 +84,20 @@ abbrev pub is_free_of_latch : ℕ → Memo → ℕ → ℕ → Option ℕ → Bo
 is_free_of_latch c m b i None = list_any (eqb b) m.values
 is_free_of_latch c m b i (Some t) = nat_le (tag_refs t) i || (tag_author t == c)
 
-abbrev pub binds_unlatched : ℕ → Memo → Spot → Bool
-binds_unlatched c m (Body b i) = is_dying m b || (is_reached c m b && is_free_of_latch c m b i (known_at (Tag b) m.known))
-binds_unlatched c m p = binds c m p
+abbrev pub is_latch_of : ℕ → Option ℕ → Bool
+is_latch_of a None = false
+is_latch_of a (Some b) = b == a
+
+-- where the latch that is given back was the identity's own, words of other authors' blocks that are known are plain
+abbrev pub binds_unlatched : Bool → ℕ → Memo → Spot → Bool
+binds_unlatched own c m (Body b i) = is_dying m b || (is_reached c m b && (own || is_free_of_latch c m b i (known_at (Tag b) m.known)))
+binds_unlatched own c m p = binds c m p
 
 -- a latch is given back: the looks are over
 abbrev pub unlatched : ℕ → Memo → Memo
 unlatched c m =
     let n : Memo = record m { latch = None; looks = [] } in
-    record n { known = filter (λ s. binds_unlatched c n s.spot) m.known; values = filter (is_reached c n) m.values }
+    record n { known = filter (λ s. binds_unlatched (is_latch_of c m.latch) c n s.spot) m.known; values = filter (is_reached c n) m.values }
 
 -- ---- what stays of the looks
 

@@ -1,7 +1,6 @@
 -- trails: what an operation asks, told step by step, and what it answers in the end
-use Rattle.std.specs.Prelude.{◌≡◌, ◌≢◌, ℕ, Bool, true, false, List, [], ◌∷◌, ◌++◌}
+use Rattle.std.specs.Prelude.{◌≡◌, ◌≢◌, ℕ, Bool, true, false, [], ◌∷◌, ◌++◌}
 use Rattle.shm_graph.specs.declared.ask.Ask.{Ask}
-use Rattle.shm_graph.specs.declared.memo.Seen.{Seen}
 use Rattle.shm_graph.specs.Asks.{Trail, pair}
 
 -- nothing is asked any more, and this is the answer

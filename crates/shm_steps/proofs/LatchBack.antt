@@ -1,5 +1,5 @@
 -- the store that gives a latch back, as machines use it
-use Rattle.std.proofs.Common.{◌≡◌, ℕ, ◌<◌, refl, sym, ap, ◌∙◌, Bool, true, false, subst, inl, inr, None, [], List, arith, Option, cond, leb, eqb, ◌&&◌, ◌∷◌, ◌≤◌, ◌⊎◌}
+use Rattle.std.proofs.Common.{◌≡◌, ℕ, ◌<◌, refl, sym, ap, ◌∙◌, Bool, true, false, subst, inl, inr, None, [], List, arith, Option, cond, leb, eqb, ◌&&◌, ◌||◌, ◌∷◌, ◌≤◌, ◌⊎◌}
 use Rattle.std.proofs.lemmas.List.Elements.{All-contains, Contains-append_right}
 use Rattle.shm_laws.proofs.Keep.{All-kept}
 use Rattle.shm_laws.specs.Steps.{BackStep, back_view}
@@ -24,7 +24,7 @@ use Rattle.shm_graph.specs.Views.{View, at1, targets, view}
 use Rattle.std.proofs.lemmas.Bool.{and_parts, eqb-true, leb-true, or_cases}
 use Rattle.shm_laws.proofs.Latches.{back_kept}
 use Rattle.shm_laws.proofs.Quiet.{back_quiet}
-use Rattle.shm_graph.specs.Reach.{binds_unlatched, is_at, is_dying, is_free_of_latch, is_reached, known_at}
+use Rattle.shm_graph.specs.Reach.{binds_unlatched, is_at, is_dying, is_free_of_latch, is_latch_of, is_reached, known_at}
 use Rattle.shm_graph.specs.Blocks.{classes}
 use Rattle.shm_graph.specs.Tables.{contents_of}
 use Rattle.shm_steps.proofs.Sifting.{dying_listed, sift_values}
@@ -88,21 +88,39 @@ module _ (g : Geometry) (w : Spot → ℕ) (r : ℕ → Memo) (h : HeldAt g w (v
   abbrev KnownWithout : Spot → ℕ → Type 0
   KnownWithout q x = KnownAt c (λ i. w (Tag i)) (λ i j. w (Body i j)) (λ i j k. w (Slot i j k)) (λ i j. w (Tail i j)) (λ i j. w (Front i j)) (v.untaken c) None InReachWithout (v.dying c) q x
 
-  known_without : (q : Spot) (x : ℕ) → binds_unlatched c without q ≡ true → KnownHolds g w v c (record { spot = q; value = x }) → KnownWithout q x
+  -- whether the latch is the identity's own
+  abbrev own : Bool
+  own = is_latch_of c m.latch
+
+  -- under the own latch no other author's reference word is known
+  own_word_known : (b i : ℕ) (o : Option ℕ) → is_latch_of c o ≡ true → (tag_refs (w (Tag b)) ≤ i) ⊎ ((tag_author (w (Tag b)) ≡ c) ⊎ (o ≡ Some (tag_author (w (Tag b))))) → (tag_refs (w (Tag b)) ≤ i) ⊎ (tag_author (w (Tag b)) ≡ c)
+  own_word_known b i o e (inl k) = inl k
+  own_word_known b i o e (inr (inl k)) = inr k
+  own_word_known b i None e (inr (inr k)) = absurd (cc)
+  own_word_known b i (Some a) e (inr (inr k)) = inr (let z : a ≡ tag_author (w (Tag b)) = cc in sym z ∙ eqb-true a c e)
+
+  -- a word of a block in reach is free of the latch
+  settled_word : (b i x : ℕ) → KnownHolds g w v c (record { spot = Body b i; value = x }) → (own || is_free_of_latch c without b i (known_at (Tag b) m.known)) ≡ true → (Contains m.dying b) ⊎ ((tag_refs (w (Tag b)) ≤ i) ⊎ (tag_author (w (Tag b)) ≡ c))
+  settled_word b i x k e = elim (or_cases own (is_free_of_latch c without b i (known_at (Tag b) m.known)) e) [
+    | inl u ↦ elim k.1 [ inl d ↦ inl d | inr y ↦ inr (own_word_known b i m.latch u y.1) ]
+    | inr u ↦ inr (free_word b i (known_at (Tag b) m.known) refl u)
+  ]
+
+  known_without : (q : Spot) (x : ℕ) → binds_unlatched own c without q ≡ true → KnownHolds g w v c (record { spot = q; value = x }) → KnownWithout q x
   known_without (Tag b) x e k = (k.0, elim (or_cases (is_reached c without b) (is_dying without b) e) [ inl u ↦ inr (reached b u) | inr u ↦ inl (dying_listed without b u) ])
   known_without (Body b i) x e k = (
     k.0,
-    elim (or_cases (is_dying without b) (is_reached c without b && is_free_of_latch c without b i (known_at (Tag b) m.known)) e) [
+    elim (or_cases (is_dying without b) (is_reached c without b && (own || is_free_of_latch c without b i (known_at (Tag b) m.known))) e) [
       | inl u ↦ inl (dying_listed without b u)
-      | inr u ↦ (let y = and_parts (is_reached c without b) (is_free_of_latch c without b i (known_at (Tag b) m.known)) u in
-          inr (reached b y.0, elim (free_word b i (known_at (Tag b) m.known) refl y.1) [ inl z ↦ inl z | inr z ↦ inr (inl z) ]))
+      | inr u ↦ (let y = and_parts (is_reached c without b) (own || is_free_of_latch c without b i (known_at (Tag b) m.known)) u in
+          elim (settled_word b i x k y.1) [ inl d ↦ inl d | inr z ↦ inr (reached b y.0, elim z [ inl z ↦ inl z | inr z ↦ inr (inl z) ]) ])
     ],
   )
   known_without (Slot s i k) x e y = y
   known_without _ x e k = absurd k
 
   abbrev pub kept : List Stored
-  kept = filter (λ s. binds_unlatched c without s.spot) m.known
+  kept = filter (λ s. binds_unlatched own c without s.spot) m.known
 
   abbrev pub values : List ℕ
   values = filter (is_reached c without) m.values
@@ -115,7 +133,7 @@ module _ (g : Geometry) (w : Spot → ℕ) (r : ℕ → Memo) (h : HeldAt g w (v
         here = may.here.stays;
         op = may.op;
         latch = may.latch;
-        knows = All-kept (KnownHolds g w v c) (λ (s : Stored). KnownWithout s.spot s.value) (λ s. binds_unlatched c without s.spot) (λ s e y. known_without s.spot s.value e y) m.known (h.known c l);
+        knows = All-kept (KnownHolds g w v c) (λ (s : Stored). KnownWithout s.spot s.value) (λ s. binds_unlatched own c without s.spot) (λ s e y. known_without s.spot s.value e y) m.known (h.known c l);
         valued = sift_values (contents_of w (targets g w v)) (contents_of w (targets g w v)) c without (InReach w g v c) InReachWithout (λ b y. y) reached m.values (h.values c l);
       }
 

@@ -8,13 +8,15 @@
 mod exchanging;
 mod laws;
 mod preparing;
-mod unlatching;
 mod reading;
+mod unlatching;
 
 pub use exchanging::header_exchanges;
 pub use laws::slot_stores;
 pub use preparing::preparing_steps;
+
 mod own;
+
 pub use own::{own_stores, root_begins};
-pub use unlatching::latch_given_back;
 pub use reading::body_loads;
+pub use unlatching::latch_given_back;
