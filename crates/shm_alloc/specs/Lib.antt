@@ -3,3 +3,4 @@ pub mod AllocTrail
 pub mod AllocFits
 pub mod AllocSearch
 pub mod AllocSearchSegments
+pub mod AllocSearchPages
