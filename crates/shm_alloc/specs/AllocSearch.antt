@@ -39,6 +39,10 @@ kept_with me w r a f after p q e k x =
     subst (KeptAt me w r a f after) (sym e)
     (let law = subst (KeptAt me w r a f (λ n m. Unit {0})) e k in record { told = law.told; step = law.step; fits = x })
 
+-- what joins a list is in it
+pub newest : {X : Type 0} (x : X) (xs : List X) → Contains (x ∷ xs) x
+newest x xs = (0, omega arith, refl)
+
 -- ---- what a step of the search leaves of the memo
 
 -- the parts that no step of the search changes; segments are claimed

@@ -43,7 +43,7 @@ use Rattle.shm_alloc.specs.declared.point.AllocPoint.TheVariants.{Page, Class, H
 use Rattle.shm_alloc.specs.declared.point.Next.TheVariants.{Point}
 use Rattle.shm_alloc.specs.AllocControl.{class_asked, block_of, RequestFits, PointFits, alloc_ask_at, alloc_next_at, first_header, page_over, header_used}
 use Rattle.shm_alloc.specs.AllocFits.{GoalHas, CanAlloc, PointHolds, NextHolds}
-use Rattle.shm_alloc.specs.AllocSearch.{searched, Looks, Remains, kept_with, remains, called_facts, called_owned, looks_on, goal_on, owned_on, page_done}
+use Rattle.shm_alloc.specs.AllocSearch.{searched, Looks, Remains, newest, kept_with, remains, called_facts, called_owned, looks_on, goal_on, owned_on, page_done}
 use Rattle.shm_alloc.specs.AllocSearchSegments.{KeepsAt}
 
 -- ---- the class of a page
@@ -84,7 +84,7 @@ page_step me q r0 w r f tr g s p st going can request fit h =
     (looks_on r0 (r c) (memo (eqb n 0) own) (record { stays = h.stays; op = h.op; own = h.own; has = h.has.0 }) k)
     (goal_on c (r c) (memo (eqb n 0) own) g h.has.1 k)
     (owned_on (r c) (memo (eqb n 0) own) s.segment h.has.2 k)
-    (λ z. subst (λ b. Contains (memo b own).zeros x) (sym z) (subst (λ d. Contains (memo true d).zeros x) (sym mine) (0, omega arith, refl)))
+    (λ z. subst (λ b. Contains (memo b own).zeros x) (sym z) (subst (λ d. Contains (memo true d).zeros x) (sym mine) (newest x m.zeros)))
     (λ z. subst (λ b. class_read (memo b own).facts s.segment p ≡ n) (sym z) (class_first m.facts s.segment p n)))
 
 -- ---- a page gets its class
@@ -141,3 +141,52 @@ class_of_page : (g : Geometry) (fs : List Fact) (s p j : ℕ) → p < 16 → j <
 class_of_page g fs s p j o u =
     let e = page_of g s p j o u in
     ap (λ i. class_read fs i ((address g (place.Body s p 0) + j - bodies g) / 128 % 16)) e.0 ∙ ap (λ i. class_read fs s i) e.1
+
+-- ---- a header
+
+-- a memo without a step in progress stays so, where a header is read
+not_refused : (m : Memo) (b n : ℕ) → m.op ≡ op.Nothing → op_refused m b n ≡ m.op
+not_refused m b n e = choice (λ (o : Op). o ≡ m.op) (not (recovers m) && (is_held (raised_by m.op) b && leb 1023 (header_of n).count)) op.Nothing m.op (λ _. sym e) (λ _. refl)
+
+-- by the header that was read: the block is free, or the next header is read, or the page is over
+header_found : (me : Me) (q : Request) (r0 r : Memo) (g : Goal) (s : Search) (p i n : ℕ) → CanAlloc me r0 → Looks r0 r → GoalHas me.who r g → Contains r.owned s.segment → class_read r.facts s.segment p ≡ class_asked q
+    → (eqb n 0 ≡ true → Contains r.zeros (spot.Head (block_of me q s p i))) → class_told me.geometry r.facts (block_of me q s p i) ≡ class_asked q → NextHolds me q r0 r (alloc_next_at me q (Header g s p i) n)
+header_found me q r0 r g s p i n can h goal mine class none told =
+    let s' : Search = record s { used = s.used + 1 } in
+    choice (NextHolds me q r0 r) (eqb n 0) (Point (Tag g (block_of me q s p i))) (header_used me q g s' p i)
+    (λ z. record { stays = h.stays; op = h.op; own = h.own; has = (h.has, goal, none z, told) })
+    (λ _. choice (NextHolds me q r0 r) (ltb (i + 1) (128 / class_asked q)) (Point (Header g s' p (i + 1))) (page_over me g s' p)
+    (λ _. record { stays = h.stays; op = h.op; own = h.own; has = (h.has, goal, mine, class) })
+    (λ _. page_done me q r0 r g s' p can h goal mine))
+
+pub header_step : (me : Me) (q : Request) (r0 : Memo) (w : Spot → ℕ) (r : ℕ → Memo) (f : Frame) (tr : Trail) (g : Goal) (s : Search) (p i : ℕ) → Stands me w r f tr → f.fresh ≡ false → CanAlloc me r0 → RequestFits q → PointFits me q (Header g s p i) → PointHolds me q r0 (r me.who) (Header g s p i) → KeepsAt me q r0 w r f (Header g s p i)
+header_step me q r0 w r f tr g s p i st going can request fit h =
+    let c = me.who in
+    let k = class_asked q in
+    let b = block_of me q s p i in
+    let x : Spot = spot.Head b in
+    let n = w x in
+    let t : Step = framed me (Load b) f n in
+    let m : Memo = called (r c) t in
+    let r' : Memo = memo_on (r c) t x in
+    let l = lies_in k i (class_is q.refs q.count) fit.3 in
+    let some : class_read (r c).facts s.segment p ≢ 0 = λ z. l.2 (sym h.has.3 ∙ z) in
+    let class : w (spot.Page s.segment p) ≡ k =
+        class_is_read me.geometry.clients (λ i j. w (spot.Era i j)) (ons (view r)) (λ s q. w (spot.Tail s q)) (λ s q. w (spot.Front s q)) (classes w) (r c).facts s.segment p (st.held.facts c st.who) some ∙ h.has.3 in
+    let e : spot_at me.geometry (classes w) b ≡ x = head_there me.geometry (classes w) s.segment p k (k * i) class l.2 l.1 fit.1.segment fit.2 l.0 in
+    let same : searched r' ≡ searched m = ap (λ (o : Op). record (searched m) { op = o }) (not_refused m b n (called_part (λ (y : Memo). y.op) (r c) t refl refl ∙ h.op)) in
+    let y : Remains (r c) r' = remains (r c) t r' same refl in
+    let told : class_read r'.facts s.segment p ≡ k = ap (λ (fs : List Fact). class_read fs s.segment p) (called_facts me (Load b) f n (r c) going) ∙ h.has.3 in
+    let own = list_any (eqb (segment_of me.geometry b)) m.owned in
+    let mine : own ≡ true =
+        ap (λ j. list_any (eqb j) m.owned) (page_of me.geometry s.segment p (k * i) fit.2 l.0).0
+        ∙ list_any-from_Contains nat_eq_equiv s.segment m.owned (subst (λ os. Contains os s.segment) (sym (called_owned (r c) t)) h.has.2) in
+    kept_with me w r (Load b) f (λ n r'. NextHolds me q r0 r' (alloc_next_at me q (Header g s p i) n)) x (spot_at me.geometry (classes w) b) e
+    (header_loaded me w r f tr b b st e)
+    (header_found me q r0 r' g s p i n can
+    (looks_on r0 (r c) r' (record { stays = h.stays; op = h.op; own = h.own; has = h.has.0 }) y)
+    (goal_on c (r c) r' g h.has.1 y)
+    (owned_on (r c) r' s.segment h.has.2 y)
+    told
+    (λ z. subst (λ d. Contains (cond d (x ∷ m.zeros) m.zeros) x) (sym (and_from (eqb n 0) own z mine)) (newest x m.zeros))
+    (class_of_page me.geometry r'.facts s.segment p (k * i) fit.2 l.0 ∙ told))

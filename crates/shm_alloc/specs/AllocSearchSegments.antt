@@ -36,7 +36,7 @@ use Rattle.shm_alloc.specs.declared.point.AllocPoint.TheVariants.{Era, Root, Seg
 use Rattle.shm_alloc.specs.declared.point.Next.TheVariants.{Point, Answer}
 use Rattle.shm_alloc.specs.AllocControl.{RequestFits, PointFits, alloc_ask_at, alloc_next_at, first_page, segment_taken}
 use Rattle.shm_alloc.specs.AllocFits.{GoalHas, CanAlloc, PointHolds, NextHolds}
-use Rattle.shm_alloc.specs.AllocSearch.{searched, Looks, Remains, kept_with, remains, called_owned, called_searched, looks_on, goal_on, owned_on, refused, segment_done}
+use Rattle.shm_alloc.specs.AllocSearch.{searched, Looks, Remains, newest, kept_with, remains, called_owned, called_searched, looks_on, goal_on, owned_on, refused, segment_done}
 
 -- what the step of a point keeps
 abbrev pub KeepsAt : Me → Request → Memo → (Spot → ℕ) → (ℕ → Memo) → Frame → AllocPoint → Type 0
@@ -166,7 +166,7 @@ claim_step me q r0 w r f tr g s st going can request fit h =
           (claimed me w r f tr at s.segment st going e z (is_here me r0 (r c) can here))
           (subst Goes (sym (eq-eqb (w p) 0 z))
           (let x = looks_on r0 (r c) (memo true) here won in
-          record { stays = x.stays; op = x.op; own = x.own; has = (x.has, goal_on c (r c) (memo true) g h.has.1 won, (0, omega arith, refl)) }))
+          record { stays = x.stays; op = x.op; own = x.own; has = (x.has, goal_on c (r c) (memo true) g h.has.1 won, newest s.segment m.owned) }))
       | inr z ↦ lost_kept me w r f tr at 0 (c + 1) after p st e refl tt z
           (subst Goes (sym (ne_eqb (w p) 0 z))
           (segment_done me q r0 (memo false) g (record s { taken = s.taken + 1 }) can (looks_on r0 (r c) (memo false) here lost) (goal_on c (r c) (memo false) g h.has.1 lost)))
