@@ -1,6 +1,6 @@
 -- the search for a free block: what each step leaves of the memo, and where the search ends
-use Rattle.std.proofs.Common.{◌≡◌, ◌≢◌, ℕ, ◌+◌, ◌*◌, ◌^◌, ◌<◌, ◌≤◌, refl, sym, ap, ◌∙◌, subst, arith, Bool, true, false, cond, eqb, ltb, List, [], ◌∷◌, ◌++◌, append_assoc}
-use Rattle.std.specs.Prelude.{Some, None, Err}
+use Rattle.std.proofs.Common.{◌≡◌, ℕ, ◌+◌, refl, sym, ap, ◌∙◌, subst, arith, false, ltb, List, [], ◌∷◌, ◌++◌, append_assoc}
+use Rattle.std.specs.Prelude.{None, Err}
 use Rattle.std.specs.List.{Contains}
 use Rattle.std.proofs.lemmas.List.Elements.{Contains-append_right}
 use Rattle.shm_graph.specs.declared.ask.Ask.{Ask}
@@ -11,8 +11,10 @@ use Rattle.shm_graph.specs.declared.memo.Stored.{Stored}
 use Rattle.shm_graph.specs.declared.memo.Op.TheVariants as op
 use Rattle.shm_graph.specs.declared.memo.Memo.{Memo}
 use Rattle.shm_graph.specs.declared.memo.Step.{Step}
-use Rattle.shm_graph.specs.Idle.{IsIdle, hold_word}
-use Rattle.shm_graph.specs.Asks.{seen_of}
+use Rattle.shm_graph.specs.Idle.{hold_word}
+use Rattle.shm_graph.specs.Asks.{seen_of, at_of}
+use Rattle.shm_graph.specs.Spots.{spot_at}
+use Rattle.shm_graph.specs.Blocks.{classes}
 use Rattle.shm_graph.specs.Views.{own_word}
 use Rattle.shm_graph.specs.Changes.{called, memo_on}
 use Rattle.shm_graph.specs.Laws.{Frame, framed, KeptAt}
@@ -24,13 +26,19 @@ use Rattle.shm_alloc.specs.declared.alloc.AllocFault.TheVariants.{Full}
 use Rattle.shm_alloc.specs.declared.point.Request.{Request}
 use Rattle.shm_alloc.specs.declared.point.Goal.{Goal}
 use Rattle.shm_alloc.specs.declared.point.Search.{Search}
+use Rattle.shm_alloc.specs.declared.point.AllocPoint.{AllocPoint}
 use Rattle.shm_alloc.specs.declared.point.AllocPoint.TheVariants.{Segment, Page}
 use Rattle.shm_alloc.specs.declared.point.Next.TheVariants.{Point, Answer}
-use Rattle.shm_alloc.specs.AllocControl.{segment_over, page_over}
+use Rattle.shm_alloc.specs.AllocControl.{alloc_ask_at, alloc_next_at, segment_over, page_over}
 use Rattle.shm_alloc.specs.AllocFits.{GoalHas, Stays, Searches, CanAlloc, AnswerHolds, Cause, NextHolds}
 
 -- ---- a kind's law, and what holds of the memo after its step
 
+-- what the step of a point keeps
+abbrev pub KeepsAt : Me → Request → Memo → (Spot → ℕ) → (ℕ → Memo) → Frame → AllocPoint → Type 0
+KeepsAt me q r0 w r f p = KeptAt me w r (alloc_ask_at me q p) f (λ n r'. NextHolds me q r0 r' (alloc_next_at me q p n)) (spot_at me.geometry (classes w) (at_of (alloc_ask_at me q p)))
+
+-- the law that a kind has of a step, with what holds of the memo after it
 pub kept_with : (me : Me) (w : Spot → ℕ) (r : ℕ → Memo) (a : Ask) (f : Frame) (after : ℕ → Memo → Type 0) (p q : Spot) → q ≡ p
     → KeptAt me w r a f (λ n m. Unit {0}) q
     → after (seen_of a (w p)) (memo_on (r me.who) (framed me a f (seen_of a (w p))) p)
@@ -49,6 +57,7 @@ newest x xs = (0, omega arith, refl)
 abbrev pub searched : Memo → Memo
 searched m = record m { owned = []; facts = []; zeros = []; test = None; made = []; call = []; over = false; agents = [] }
 
+-- these parts are as they were, and own segments stay so
 pub record Remains (r r' : Memo) : Type 0 where
   pub same : searched r' ≡ searched r
   pub owned : (new : List ℕ) × (r'.owned ≡ new ++ r.owned)
@@ -57,6 +66,7 @@ pub record Remains (r r' : Memo) : Type 0 where
 pub called_searched : (m : Memo) (t : Step) → searched (called m t) ≡ searched m
 called_searched m t = called_part searched m t refl refl
 
+-- the segments and, but for the first step, the facts are as they were
 pub called_owned : (m : Memo) (t : Step) → (called m t).owned ≡ m.owned
 called_owned m t = called_part (λ (x : Memo). x.owned) m t refl refl
 
@@ -76,9 +86,11 @@ pub record Looks (r0 r : Memo) : Type 0 where
   pub own : r.own ≡ r0.own
   pub has : Searches r0 r
 
+-- the own words are as they were
 pub own_same : (r r' : Memo) → Remains r r' → r'.own ≡ r.own
 own_same r r' k = ap (λ (x : Memo). x.own) k.same
 
+-- it still searches
 pub looks_on : (r0 r r' : Memo) → Looks r0 r → Remains r r' → Looks r0 r'
 looks_on r0 r r' h k =
     record {

@@ -25,8 +25,8 @@ use Rattle.shm_graph.specs.Blocks.{classes}
 use Rattle.shm_graph.specs.Asks.{Trail}
 use Rattle.shm_graph.specs.Views.{view, ons}
 use Rattle.shm_graph.specs.Agents.{recovers}
-use Rattle.shm_graph.specs.Changes.{called, test_before, with_call, with_end, memo_on}
-use Rattle.shm_graph.specs.Readings.{header_read, op_refused, raised_by, is_held}
+use Rattle.shm_graph.specs.Changes.{called, with_call, with_end, memo_on}
+use Rattle.shm_graph.specs.Readings.{op_refused, raised_by, is_held}
 use Rattle.shm_graph.specs.Stores.{class_read, class_told}
 use Rattle.shm_graph.specs.Laws.{Frame, framed, Stands}
 use Rattle.shm_graph.proofs.Calling.{called_part}
@@ -41,10 +41,9 @@ use Rattle.shm_alloc.specs.declared.point.Goal.{Goal}
 use Rattle.shm_alloc.specs.declared.point.Search.{Search}
 use Rattle.shm_alloc.specs.declared.point.AllocPoint.TheVariants.{Page, Class, Header, Tag}
 use Rattle.shm_alloc.specs.declared.point.Next.TheVariants.{Point}
-use Rattle.shm_alloc.specs.AllocControl.{class_asked, block_of, RequestFits, PointFits, alloc_ask_at, alloc_next_at, first_header, page_over, header_used}
+use Rattle.shm_alloc.specs.AllocControl.{class_asked, block_of, RequestFits, PointFits, alloc_next_at, first_header, page_over, header_used}
 use Rattle.shm_alloc.specs.AllocFits.{GoalHas, CanAlloc, PointHolds, NextHolds}
-use Rattle.shm_alloc.specs.AllocSearch.{searched, Looks, Remains, newest, kept_with, remains, called_facts, called_owned, looks_on, goal_on, owned_on, page_done}
-use Rattle.shm_alloc.specs.AllocSearchSegments.{KeepsAt}
+use Rattle.shm_alloc.specs.AllocSearch.{KeepsAt, searched, Looks, Remains, newest, kept_with, remains, called_facts, called_owned, looks_on, goal_on, owned_on, page_done}
 
 -- ---- the class of a page
 
@@ -62,6 +61,7 @@ page_found me q r0 r g s p n can h goal mine none some =
     (λ e. record { stays = h.stays; op = h.op; own = h.own; has = (h.has, goal, mine, some z ∙ eqb-true n (class_asked q) e) })
     (λ _. page_done me q r0 r g s p can h goal mine))
 
+-- the class of a page is loaded
 pub page_step : (me : Me) (q : Request) (r0 : Memo) (w : Spot → ℕ) (r : ℕ → Memo) (f : Frame) (tr : Trail) (g : Goal) (s : Search) (p : ℕ) → Stands me w r f tr → f.fresh ≡ false → CanAlloc me r0 → RequestFits q → PointFits me q (Page g s p) → PointHolds me q r0 (r me.who) (Page g s p) → KeepsAt me q r0 w r f (Page g s p)
 page_step me q r0 w r f tr g s p st going can request fit h =
     let c = me.who in
@@ -76,8 +76,8 @@ page_step me q r0 w r f tr g s p st going can request fit h =
     let memo : Bool → Bool → Memo = λ b d. with_end f.ends (with_call m (cond b (cond d zero m) class)) in
     let mine : own ≡ true = list_any-from_Contains nat_eq_equiv s.segment m.owned (subst (λ os. Contains os s.segment) (sym (called_owned (r c) t)) h.has.2) in
     let k : Remains (r c) (memo (eqb n 0) own) = remains (r c) t (memo (eqb n 0) own)
-        (choice (λ (y : Memo). searched y ≡ searched m) (eqb n 0) (cond own zero m) class (λ _. choice (λ (y : Memo). searched y ≡ searched m) own zero m (λ _. refl) (λ _. refl)) (λ _. refl))
-        (choice (λ (y : Memo). y.owned ≡ m.owned) (eqb n 0) (cond own zero m) class (λ _. choice (λ (y : Memo). y.owned ≡ m.owned) own zero m (λ _. refl) (λ _. refl)) (λ _. refl)) in
+    (choice (λ (y : Memo). searched y ≡ searched m) (eqb n 0) (cond own zero m) class (λ _. choice (λ (y : Memo). searched y ≡ searched m) own zero m (λ _. refl) (λ _. refl)) (λ _. refl))
+    (choice (λ (y : Memo). y.owned ≡ m.owned) (eqb n 0) (cond own zero m) class (λ _. choice (λ (y : Memo). y.owned ≡ m.owned) own zero m (λ _. refl) (λ _. refl)) (λ _. refl)) in
     load_kept me w r f tr at (λ n r'. NextHolds me q r0 r' (alloc_next_at me q (Page g s p) n)) x st
     (spot-place me.geometry (classes w) (place.Page s.segment p) (and_from _ _ (lt-ltb s.segment me.geometry.segments fit.1.segment) (lt-ltb p 16 fit.2))) refl tt
     (page_found me q r0 (memo (eqb n 0) own) g s p n can
@@ -89,6 +89,7 @@ page_step me q r0 w r f tr g s p st going can request fit h =
 
 -- ---- a page gets its class
 
+-- the class that is asked is stored
 pub class_step : (me : Me) (q : Request) (r0 : Memo) (w : Spot → ℕ) (r : ℕ → Memo) (f : Frame) (tr : Trail) (g : Goal) (s : Search) (p : ℕ) → Stands me w r f tr → f.fresh ≡ false → CanAlloc me r0 → RequestFits q → PointFits me q (Class g s p) → PointHolds me q r0 (r me.who) (Class g s p) → KeepsAt me q r0 w r f (Class g s p)
 class_step me q r0 w r f tr g s p st going can request fit h =
     let c = me.who in
@@ -109,10 +110,11 @@ class_step me q r0 w r f tr g s p st going can request fit h =
 
 -- ---- the blocks of a page
 
--- word j of a page lies at a multiple of the class
+-- where i is below n, block i of a page of class k begins within the page, at a multiple of the class
 abbrev Lies : ℕ → ℕ → ℕ → Type 0
 Lies k i n = i < n → (k * i < 128) × (k * i % k ≡ 0) × (k ≢ 0)
 
+-- the blocks of a class lie so
 lies_in : (k i : ℕ) → IsClass k → Lies k i (128 / k)
 lies_in k i (inl e) = subst (λ n. Lies n i (128 / n)) (sym e) (λ l. (omega arith, omega arith, omega arith))
 lies_in k i (inr (inl e)) = subst (λ n. Lies n i (128 / n)) (sym e) (λ l. (omega arith, omega arith, omega arith))
@@ -137,6 +139,7 @@ page_of g s p j o u =
     let x : bodies g + 2048 * s + 128 * p + 0 + j - bodies g ≡ 2048 * s + 128 * p + j = omega arith in
     (rw x (omega arith), rw x (omega arith))
 
+-- the class that is told of it
 class_of_page : (g : Geometry) (fs : List Fact) (s p j : ℕ) → p < 16 → j < 128 → class_told g fs (address g (place.Body s p 0) + j) ≡ class_read fs s p
 class_of_page g fs s p j o u =
     let e = page_of g s p j o u in
@@ -159,6 +162,7 @@ header_found me q r0 r g s p i n can h goal mine class none told =
     (λ _. record { stays = h.stays; op = h.op; own = h.own; has = (h.has, goal, mine, class) })
     (λ _. page_done me q r0 r g s' p can h goal mine))
 
+-- the header of a block is loaded
 pub header_step : (me : Me) (q : Request) (r0 : Memo) (w : Spot → ℕ) (r : ℕ → Memo) (f : Frame) (tr : Trail) (g : Goal) (s : Search) (p i : ℕ) → Stands me w r f tr → f.fresh ≡ false → CanAlloc me r0 → RequestFits q → PointFits me q (Header g s p i) → PointHolds me q r0 (r me.who) (Header g s p i) → KeepsAt me q r0 w r f (Header g s p i)
 header_step me q r0 w r f tr g s p i st going can request fit h =
     let c = me.who in
@@ -172,15 +176,15 @@ header_step me q r0 w r f tr g s p i st going can request fit h =
     let l = lies_in k i (class_is q.refs q.count) fit.3 in
     let some : class_read (r c).facts s.segment p ≢ 0 = λ z. l.2 (sym h.has.3 ∙ z) in
     let class : w (spot.Page s.segment p) ≡ k =
-        class_is_read me.geometry.clients (λ i j. w (spot.Era i j)) (ons (view r)) (λ s q. w (spot.Tail s q)) (λ s q. w (spot.Front s q)) (classes w) (r c).facts s.segment p (st.held.facts c st.who) some ∙ h.has.3 in
+    class_is_read me.geometry.clients (λ i j. w (spot.Era i j)) (ons (view r)) (λ s q. w (spot.Tail s q)) (λ s q. w (spot.Front s q)) (classes w) (r c).facts s.segment p (st.held.facts c st.who) some ∙ h.has.3 in
     let e : spot_at me.geometry (classes w) b ≡ x = head_there me.geometry (classes w) s.segment p k (k * i) class l.2 l.1 fit.1.segment fit.2 l.0 in
     let same : searched r' ≡ searched m = ap (λ (o : Op). record (searched m) { op = o }) (not_refused m b n (called_part (λ (y : Memo). y.op) (r c) t refl refl ∙ h.op)) in
     let y : Remains (r c) r' = remains (r c) t r' same refl in
     let told : class_read r'.facts s.segment p ≡ k = ap (λ (fs : List Fact). class_read fs s.segment p) (called_facts me (Load b) f n (r c) going) ∙ h.has.3 in
     let own = list_any (eqb (segment_of me.geometry b)) m.owned in
     let mine : own ≡ true =
-        ap (λ j. list_any (eqb j) m.owned) (page_of me.geometry s.segment p (k * i) fit.2 l.0).0
-        ∙ list_any-from_Contains nat_eq_equiv s.segment m.owned (subst (λ os. Contains os s.segment) (sym (called_owned (r c) t)) h.has.2) in
+    ap (λ j. list_any (eqb j) m.owned) (page_of me.geometry s.segment p (k * i) fit.2 l.0).0
+    ∙ list_any-from_Contains nat_eq_equiv s.segment m.owned (subst (λ os. Contains os s.segment) (sym (called_owned (r c) t)) h.has.2) in
     kept_with me w r (Load b) f (λ n r'. NextHolds me q r0 r' (alloc_next_at me q (Header g s p i) n)) x (spot_at me.geometry (classes w) b) e
     (header_loaded me w r f tr b b st e)
     (header_found me q r0 r' g s p i n can

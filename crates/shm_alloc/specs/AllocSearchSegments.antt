@@ -1,5 +1,5 @@
 -- the steps of the search that read the own era, the roots and the words of segments
-use Rattle.std.proofs.Common.{◌≡◌, ◌≢◌, ℕ, ◌+◌, ◌-◌, ◌^◌, ◌<◌, ◌≤◌, refl, sym, ap, ◌∙◌, subst, arith, Bool, true, false, not, ◌&&◌, cond, eqb, ltb, inl, inr, ◌∷◌, []}
+use Rattle.std.proofs.Common.{◌≡◌, ◌≢◌, ℕ, ◌+◌, ◌-◌, ◌^◌, ◌<◌, refl, sym, ap, ◌∙◌, subst, arith, Bool, true, false, not, ◌&&◌, cond, eqb, ltb, inl, inr, ◌∷◌, []}
 use Rattle.std.specs.Prelude.{Err}
 use Rattle.std.specs.List.{Contains}
 use Rattle.std.proofs.lemmas.Bool.{cases_eq, eq-eqb, ne_eqb, eqb-true, eqb-false, ltb-true, ltb-false, lt-ltb, and_from}
@@ -11,17 +11,16 @@ use Rattle.shm_graph.specs.declared.spot.Spot.{Spot}
 use Rattle.shm_graph.specs.declared.spot.Spot.TheVariants as spot
 use Rattle.shm_graph.specs.declared.memo.Fact.TheVariants.{Counter}
 use Rattle.shm_graph.specs.declared.memo.Status.TheVariants as status
-use Rattle.shm_graph.specs.declared.memo.Stored.{Stored}
 use Rattle.shm_graph.specs.declared.memo.Memo.{Memo}
 use Rattle.shm_graph.specs.declared.memo.Step.{Step}
 use Rattle.shm_graph.specs.Spots.{spot_at}
 use Rattle.shm_graph.specs.Blocks.{classes}
-use Rattle.shm_graph.specs.Asks.{Trail, at_of}
-use Rattle.shm_graph.specs.Views.{view, own_word, owner_is}
+use Rattle.shm_graph.specs.Asks.{Trail}
+use Rattle.shm_graph.specs.Views.{own_word, owner_is}
 use Rattle.shm_graph.specs.Changes.{called, test_before, with_call, with_end, memo_on}
 use Rattle.shm_graph.specs.Readings.{read_on, row_read}
 use Rattle.shm_graph.specs.Exchanges.{exchanged_on}
-use Rattle.shm_graph.specs.Laws.{Frame, framed, Stands, KeptAt}
+use Rattle.shm_graph.specs.Laws.{Frame, framed, Stands}
 use Rattle.shm_graph.proofs.SpotPlaces.{spot-place}
 use Rattle.shm_graph.proofs.Loads.{choice}
 use Rattle.shm_graph.proofs.LoadKeeping.{load_kept, lost_kept}
@@ -31,16 +30,11 @@ use Rattle.shm_alloc.specs.declared.alloc.AllocFault.TheVariants.{EraSpent, Root
 use Rattle.shm_alloc.specs.declared.point.Request.{Request}
 use Rattle.shm_alloc.specs.declared.point.Goal.{Goal}
 use Rattle.shm_alloc.specs.declared.point.Search.{Search}
-use Rattle.shm_alloc.specs.declared.point.AllocPoint.{AllocPoint}
-use Rattle.shm_alloc.specs.declared.point.AllocPoint.TheVariants.{Era, Root, Segment, Claim, Page}
+use Rattle.shm_alloc.specs.declared.point.AllocPoint.TheVariants.{Era, Root, Segment, Claim}
 use Rattle.shm_alloc.specs.declared.point.Next.TheVariants.{Point, Answer}
-use Rattle.shm_alloc.specs.AllocControl.{RequestFits, PointFits, alloc_ask_at, alloc_next_at, first_page, segment_taken}
+use Rattle.shm_alloc.specs.AllocControl.{RequestFits, PointFits, alloc_next_at, first_page, segment_taken}
 use Rattle.shm_alloc.specs.AllocFits.{GoalHas, CanAlloc, PointHolds, NextHolds}
-use Rattle.shm_alloc.specs.AllocSearch.{searched, Looks, Remains, newest, kept_with, remains, called_owned, called_searched, looks_on, goal_on, owned_on, refused, segment_done}
-
--- what the step of a point keeps
-abbrev pub KeepsAt : Me → Request → Memo → (Spot → ℕ) → (ℕ → Memo) → Frame → AllocPoint → Type 0
-KeepsAt me q r0 w r f p = KeptAt me w r (alloc_ask_at me q p) f (λ n r'. NextHolds me q r0 r' (alloc_next_at me q p n)) (spot_at me.geometry (classes w) (at_of (alloc_ask_at me q p)))
+use Rattle.shm_alloc.specs.AllocSearch.{KeepsAt, searched, Looks, Remains, newest, kept_with, remains, called_owned, called_searched, looks_on, goal_on, owned_on, refused, segment_done}
 
 -- an own word that is read is the one that the memo has
 own_read : (me : Me) (w : Spot → ℕ) (r : ℕ → Memo) (f : Frame) (tr : Trail) (r' : Memo) (p : Spot) → Stands me w r f tr → owner_is me.who p ≡ true → Remains (r me.who) r' → own_word r'.own p ≡ w p
@@ -55,6 +49,7 @@ era_done me q r0 r n can h e =
     (λ z. refused me q r0 r (EraSpent n) can h (sym (ap (λ o. own_word o (spot.Era me.who me.who)) (sym h.own) ∙ e), ltb-true (2 ^ 47 - 3) n z))
     (λ z. record { stays = h.stays; op = h.op; own = h.own; has = (h.has, sym e, λ j l. absurd (omega arith)) })
 
+-- the own era is loaded
 pub era_step : (me : Me) (q : Request) (r0 : Memo) (w : Spot → ℕ) (r : ℕ → Memo) (f : Frame) (tr : Trail) → Stands me w r f tr → CanAlloc me r0 → RequestFits q → PointFits me q Era → PointHolds me q r0 (r me.who) Era → KeepsAt me q r0 w r f Era
 era_step me q r0 w r f tr st can request fit h =
     let c = me.who in
@@ -66,8 +61,8 @@ era_step me q r0 w r f tr st can request fit h =
     let row : Memo = row_read c m (test_before (r c) t) c (w p) in
     let other : Memo = record m { facts = Counter p (w p) ∷ m.facts } in
     let k : Remains (r c) (memo_on (r c) t p) = remains (r c) t (memo_on (r c) t p)
-        (choice (λ (x : Memo). searched x ≡ searched m) (eqb c c && not (eqb c c)) row other (λ _. refl) (λ _. refl))
-        (choice (λ (x : Memo). x.owned ≡ m.owned) (eqb c c && not (eqb c c)) row other (λ _. refl) (λ _. refl)) in
+    (choice (λ (x : Memo). searched x ≡ searched m) (eqb c c && not (eqb c c)) row other (λ _. refl) (λ _. refl))
+    (choice (λ (x : Memo). x.owned ≡ m.owned) (eqb c c && not (eqb c c)) row other (λ _. refl) (λ _. refl)) in
     load_kept me w r f tr at (λ n r'. NextHolds me q r0 r' (alloc_next_at me q Era n)) p st
     (spot-place me.geometry (classes w) (place.Era c c) (and_from _ _ inside inside)) refl tt
     (era_done me q r0 (memo_on (r c) t p) (w p) can
@@ -84,10 +79,10 @@ root_done me q r0 r e k n can fit h era set here =
     let found : Goal = record { era = e; root = k } in
     let start : Search = record { segment = 0; taken = 0; used = 0 } in
     let more : n ≢ 0 → (j : ℕ) → j < k + 1 → own_word r.own (spot.Root c j) ≢ 0 = λ some j l.
-        elim (cases_eq j k) [
-          | inl z ↦ subst (λ i. own_word r.own (spot.Root c i) ≢ 0) (sym z) (λ y. some (sym here ∙ y))
-          | inr z ↦ set j (omega arith)
-        ] in
+    elim (cases_eq j k) [
+      | inl z ↦ subst (λ i. own_word r.own (spot.Root c i) ≢ 0) (sym z) (λ y. some (sym here ∙ y))
+      | inr z ↦ set j (omega arith)
+    ] in
     choice (NextHolds me q r0 r) (eqb n 0) (Point (Segment found start)) (cond (ltb k 15) (Point (Root e (k + 1))) (Answer (Err RootsFull)))
     (λ z. record { stays = h.stays; op = h.op; own = h.own; has = (h.has, record { era = era; empty = here ∙ eqb-true n 0 z; before = set }) })
     (λ z. choice (NextHolds me q r0 r) (ltb k 15) (Point (Root e (k + 1))) (Answer (Err RootsFull))
@@ -98,6 +93,7 @@ root_done me q r0 r e k n can fit h era set here =
     refused me q r0 r RootsFull can h
     (omega arith, λ j l x. more (eqb-false n 0 z) j (omega arith) (ap (λ o. own_word o (spot.Root c j)) h.own ∙ x))))
 
+-- a root is loaded
 pub root_step : (me : Me) (q : Request) (r0 : Memo) (w : Spot → ℕ) (r : ℕ → Memo) (f : Frame) (tr : Trail) (e k : ℕ) → Stands me w r f tr → f.fresh ≡ false → CanAlloc me r0 → RequestFits q → PointFits me q (Root e k) → PointHolds me q r0 (r me.who) (Root e k) → KeepsAt me q r0 w r f (Root e k)
 root_step me q r0 w r f tr e k st going can request fit h =
     let c = me.who in
@@ -125,6 +121,7 @@ segment_found me q r0 r g s n can h goal mine =
     (λ e. record { stays = h.stays; op = h.op; own = h.own; has = (h.has, goal, mine (eqb-true n (me.who + 1) e)) })
     (λ _. segment_done me q r0 r g (record s { taken = s.taken + 1 }) can h goal))
 
+-- the owner of a segment is loaded
 pub segment_step : (me : Me) (q : Request) (r0 : Memo) (w : Spot → ℕ) (r : ℕ → Memo) (f : Frame) (tr : Trail) (g : Goal) (s : Search) → Stands me w r f tr → f.fresh ≡ false → CanAlloc me r0 → RequestFits q → PointFits me q (Segment g s) → PointHolds me q r0 (r me.who) (Segment g s) → KeepsAt me q r0 w r f (Segment g s)
 segment_step me q r0 w r f tr g s st going can request fit h =
     let c = me.who in
@@ -147,6 +144,7 @@ is_here me r0 r can h =
     let e : r.status ≡ status.Live = h.stays.status ∙ can.idle.live in
     record { joined = λ z. cc; stays = λ z. cc }
 
+-- a segment is exchanged
 pub claim_step : (me : Me) (q : Request) (r0 : Memo) (w : Spot → ℕ) (r : ℕ → Memo) (f : Frame) (tr : Trail) (g : Goal) (s : Search) → Stands me w r f tr → f.fresh ≡ false → CanAlloc me r0 → RequestFits q → PointFits me q (Claim g s) → PointHolds me q r0 (r me.who) (Claim g s) → KeepsAt me q r0 w r f (Claim g s)
 claim_step me q r0 w r f tr g s st going can request fit h =
     let c = me.who in
