@@ -1,0 +1,160 @@
+-- the search for a free block: what each step leaves of the memo, and where the search ends
+use Rattle.std.proofs.Common.{◌≡◌, ℕ, ◌+◌, refl, sym, ap, ◌∙◌, subst, arith, false, ltb, List, [], ◌∷◌, ◌++◌, append_assoc}
+use Rattle.std.specs.Prelude.{None, Err}
+use Rattle.std.specs.List.{Contains}
+use Rattle.std.proofs.lemmas.List.Elements.{Contains-append_right}
+use Rattle.shm_graph.specs.declared.ask.Ask.{Ask}
+use Rattle.shm_graph.specs.declared.ask.Me.{Me}
+use Rattle.shm_graph.specs.declared.spot.Spot.{Spot}
+use Rattle.shm_graph.specs.declared.spot.Spot.TheVariants as spot
+use Rattle.shm_graph.specs.declared.memo.Stored.{Stored}
+use Rattle.shm_graph.specs.declared.memo.Op.TheVariants as op
+use Rattle.shm_graph.specs.declared.memo.Memo.{Memo}
+use Rattle.shm_graph.specs.declared.memo.Step.{Step}
+use Rattle.shm_graph.specs.Idle.{hold_word}
+use Rattle.shm_graph.specs.Asks.{seen_of, at_of}
+use Rattle.shm_graph.specs.Spots.{spot_at}
+use Rattle.shm_graph.specs.Blocks.{classes}
+use Rattle.shm_graph.specs.Views.{own_word}
+use Rattle.shm_graph.specs.Changes.{called, memo_on}
+use Rattle.shm_graph.specs.Laws.{Frame, framed, KeptAt}
+use Rattle.shm_graph.proofs.Calling.{called_part}
+use Rattle.shm_graph.proofs.KindKeeping.{in_frame}
+use Rattle.shm_graph.proofs.Loads.{choice}
+use Rattle.shm_alloc.specs.declared.alloc.AllocFault.{AllocFault}
+use Rattle.shm_alloc.specs.declared.alloc.AllocFault.TheVariants.{Full}
+use Rattle.shm_alloc.specs.declared.point.Request.{Request}
+use Rattle.shm_alloc.specs.declared.point.Goal.{Goal}
+use Rattle.shm_alloc.specs.declared.point.Search.{Search}
+use Rattle.shm_alloc.specs.declared.point.AllocPoint.{AllocPoint}
+use Rattle.shm_alloc.specs.declared.point.AllocPoint.TheVariants.{Segment, Page}
+use Rattle.shm_alloc.specs.declared.point.Next.TheVariants.{Point, Answer}
+use Rattle.shm_alloc.specs.AllocControl.{alloc_ask_at, alloc_next_at, segment_over, page_over}
+use Rattle.shm_alloc.specs.AllocFits.{GoalHas, Stays, Searches, CanAlloc, AnswerHolds, Cause, NextHolds}
+
+-- ---- a kind's law, and what holds of the memo after its step
+
+-- what the step of a point keeps
+abbrev pub KeepsAt : Me → Request → Memo → (Spot → ℕ) → (ℕ → Memo) → Frame → AllocPoint → Type 0
+KeepsAt me q r0 w r f p = KeptAt me w r (alloc_ask_at me q p) f (λ n r'. NextHolds me q r0 r' (alloc_next_at me q p n)) (spot_at me.geometry (classes w) (at_of (alloc_ask_at me q p)))
+
+-- the law that a kind has of a step, with what holds of the memo after it
+pub kept_with : (me : Me) (w : Spot → ℕ) (r : ℕ → Memo) (a : Ask) (f : Frame) (after : ℕ → Memo → Type 0) (p q : Spot) → q ≡ p
+    → KeptAt me w r a f (λ n m. Unit {0}) q
+    → after (seen_of a (w p)) (memo_on (r me.who) (framed me a f (seen_of a (w p))) p)
+    → KeptAt me w r a f after q
+kept_with me w r a f after p q e k x =
+    subst (KeptAt me w r a f after) (sym e)
+    (let law = subst (KeptAt me w r a f (λ n m. Unit {0})) e k in record { told = law.told; step = law.step; fits = x })
+
+-- what joins a list is in it
+pub newest : {X : Type 0} (x : X) (xs : List X) → Contains (x ∷ xs) x
+newest x xs = (0, omega arith, refl)
+
+-- ---- what a step of the search leaves of the memo
+
+-- the parts that no step of the search changes; segments are claimed
+abbrev pub searched : Memo → Memo
+searched m = record m { owned = []; facts = []; zeros = []; test = None; made = []; call = []; over = false; agents = [] }
+
+-- these parts are as they were, and own segments stay so
+pub record Remains (r r' : Memo) : Type 0 where
+  pub same : searched r' ≡ searched r
+  pub owned : (new : List ℕ) × (r'.owned ≡ new ++ r.owned)
+
+-- the memo at a step has what the memo had
+pub called_searched : (m : Memo) (t : Step) → searched (called m t) ≡ searched m
+called_searched m t = called_part searched m t refl refl
+
+-- the segments and, but for the first step, the facts are as they were
+pub called_owned : (m : Memo) (t : Step) → (called m t).owned ≡ m.owned
+called_owned m t = called_part (λ (x : Memo). x.owned) m t refl refl
+
+pub called_facts : (me : Me) (a : Ask) (f : Frame) (n : ℕ) (m : Memo) → f.fresh ≡ false → (called m (framed me a f n)).facts ≡ m.facts
+called_facts me a f n m e = in_frame (λ h. (called m (framed me a h n)).facts ≡ m.facts) f e refl
+
+-- a step that changes none of these parts
+pub remains : (m : Memo) (t : Step) (r' : Memo) → searched r' ≡ searched (called m t) → r'.owned ≡ (called m t).owned → Remains m r'
+remains m t r' e o = record { same = e ∙ called_searched m t; owned = ([], o ∙ called_owned m t) }
+
+-- ---- an identity that searches
+
+-- no step is in progress, no word was stored, and no block is prepared
+pub record Looks (r0 r : Memo) : Type 0 where
+  pub stays : Stays r0 r
+  pub op : r.op ≡ op.Nothing
+  pub own : r.own ≡ r0.own
+  pub has : Searches r0 r
+
+-- the own words are as they were
+pub own_same : (r r' : Memo) → Remains r r' → r'.own ≡ r.own
+own_same r r' k = ap (λ (x : Memo). x.own) k.same
+
+-- it still searches
+pub looks_on : (r0 r r' : Memo) → Looks r0 r → Remains r r' → Looks r0 r'
+looks_on r0 r r' h k =
+    record {
+      stays = record {
+        status = ap (λ (x : Memo). x.status) k.same ∙ h.stays.status;
+        latch = ap (λ (x : Memo). x.latch) k.same ∙ h.stays.latch;
+        looks = ap (λ (x : Memo). x.looks) k.same ∙ h.stays.looks;
+        dying = ap (λ (x : Memo). x.dying) k.same ∙ h.stays.dying;
+        sent = ap (λ (x : Memo). x.sent) k.same ∙ h.stays.sent;
+        received = ap (λ (x : Memo). x.received) k.same ∙ h.stays.received;
+        unsent = ap (λ (x : Memo). x.unsent) k.same ∙ h.stays.unsent;
+        untaken = ap (λ (x : Memo). x.untaken) k.same ∙ h.stays.untaken;
+        part = ap (λ (x : Memo). x.part) k.same ∙ h.stays.part;
+        owned = (let a = k.owned in let b = h.stays.owned in (a.0 ++ b.0, a.1 ∙ (ap (λ os. a.0 ++ os) b.1 ∙ sym (append_assoc a.0 b.0 r0.owned))));
+      };
+      op = ap (λ (x : Memo). x.op) k.same ∙ h.op;
+      own = own_same r r' k ∙ h.own;
+      has = record {
+        making = ap (λ (x : Memo). x.making) k.same ∙ h.has.making;
+        known = ap (λ (x : Memo). x.known) k.same ∙ h.has.known;
+        values = ap (λ (x : Memo). x.values) k.same ∙ h.has.values;
+      };
+    }
+
+-- the goal is as it was
+pub goal_on : (c : ℕ) (r r' : Memo) (g : Goal) → GoalHas c r g → Remains r r' → GoalHas c r' g
+goal_on c r r' g h k =
+    let e : (p : Spot) → own_word r'.own p ≡ own_word r.own p = λ p. ap (λ (o : List Stored). own_word o p) (own_same r r' k) in
+    record {
+      era = h.era ∙ sym (e (spot.Era c c));
+      empty = e (spot.Root c g.root) ∙ h.empty;
+      before = λ j l z. h.before j l (sym (e (spot.Root c j)) ∙ z);
+    }
+
+-- an own segment stays one
+pub owned_on : (r r' : Memo) (s : ℕ) → Contains r.owned s → Remains r r' → Contains r'.owned s
+owned_on r r' s h k = subst (λ (os : List ℕ). Contains os s) (sym k.owned.1) (Contains-append_right k.owned.0 r.owned s h)
+
+-- ---- where the search ends
+
+-- nothing was made
+pub refused : (me : Me) (q : Request) (r0 r : Memo) (f : AllocFault) → CanAlloc me r0 → Looks r0 r → Cause me.who r0 f → AnswerHolds me q r0 r (Err f)
+refused me q r0 r f can h why =
+    record {
+      idle = record {
+        live = h.stays.status ∙ can.idle.live;
+        op = h.op;
+        making = h.has.making;
+        hold = ap (λ (o : List Stored). own_word o (spot.Hold me.who)) h.own ∙ (can.idle.hold ∙ sym (ap hold_word h.stays.latch));
+      };
+      stays = h.stays;
+      gives = (record { own = h.own; known = h.has.known; values = h.has.values }, why);
+    }
+
+-- the segment is over
+pub segment_done : (me : Me) (q : Request) (r0 r : Memo) (g : Goal) (s : Search) → CanAlloc me r0 → Looks r0 r → GoalHas me.who r g → NextHolds me q r0 r (segment_over me g s)
+segment_done me q r0 r g s can h goal =
+    choice (NextHolds me q r0 r) (ltb (s.segment + 1) me.geometry.segments) (Point (Segment g (record s { segment = s.segment + 1 }))) (Answer (Err (Full s.taken s.used)))
+    (λ e. record { stays = h.stays; op = h.op; own = h.own; has = (h.has, goal) })
+    (λ e. refused me q r0 r (Full s.taken s.used) can h tt)
+
+-- the page is over
+pub page_done : (me : Me) (q : Request) (r0 r : Memo) (g : Goal) (s : Search) (p : ℕ) → CanAlloc me r0 → Looks r0 r → GoalHas me.who r g → Contains r.owned s.segment → NextHolds me q r0 r (page_over me g s p)
+page_done me q r0 r g s p can h goal mine =
+    choice (NextHolds me q r0 r) (ltb p 15) (Point (Page g s (p + 1))) (segment_over me g s)
+    (λ e. record { stays = h.stays; op = h.op; own = h.own; has = (h.has, goal, mine) })
+    (λ e. segment_done me q r0 r g s can h goal)
