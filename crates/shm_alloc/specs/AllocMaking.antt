@@ -1,0 +1,171 @@
+-- the making of a block: what the stores of its words keep
+use Rattle.std.proofs.Common.{◌≡◌, ◌≢◌, ℕ, ◌+◌, ◌^◌, ◌<◌, ◌≤◌, refl, sym, ap, ◌∙◌, subst, arith, true, false, not, ◌&&◌, List, [], ◌∷◌, Option, Some, None, inl, inr, cond}
+use Rattle.std.specs.Prelude.{nat_lt, slice_index}
+use Rattle.std.specs.List.{All, Contains, filter}
+use Rattle.std.proofs.lemmas.Bool.{cases_eq, cond-false, ne_eqb}
+use Rattle.std.proofs.lemmas.Bool.Decides.{nat_tests}
+use Rattle.std.proofs.lemmas.List.Elements.{All-contains, Contains-append_right}
+use Rattle.shm_words.specs.declared.geometry.Geometry.{Geometry}
+use Rattle.shm_words.specs.declared.tag.Tag.{Tag as ATag}
+use Rattle.shm_words.specs.Tags.{tag_word, TagFits}
+use Rattle.shm_words.proofs.Classing.{class_is, class_room}
+use Rattle.shm_words.proofs.Words.{live_not_zero, tag_word_small}
+use Rattle.shm_graph.specs.declared.ask.Ask.{Ask}
+use Rattle.shm_graph.specs.declared.ask.Ask.TheVariants.{Store}
+use Rattle.shm_graph.specs.declared.ask.Me.{Me}
+use Rattle.shm_graph.specs.declared.spot.Spot.{Spot}
+use Rattle.shm_graph.specs.declared.spot.Spot.TheVariants as spot
+use Rattle.shm_graph.specs.declared.memo.Fact.{Fact}
+use Rattle.shm_graph.specs.declared.memo.Making.{Making}
+use Rattle.shm_graph.specs.declared.memo.Memo.{Memo}
+use Rattle.shm_graph.specs.declared.memo.Op.{Op}
+use Rattle.shm_graph.specs.declared.memo.Op.TheVariants as op
+use Rattle.shm_graph.specs.declared.memo.Status.TheVariants as status
+use Rattle.shm_graph.specs.declared.memo.Stored.{Stored}
+use Rattle.shm_graph.specs.Spots.{same_spot, spot_at, class_at, segment_of}
+use Rattle.shm_graph.specs.Blocks.{classes, IsBlock}
+use Rattle.shm_graph.specs.Views.{view}
+use Rattle.shm_graph.specs.Held.{HeldAt, ZeroAt}
+use Rattle.shm_graph.specs.Asks.{Trail, at_of, seen_of}
+use Rattle.shm_graph.specs.Agents.{with_last, stepped}
+use Rattle.shm_graph.specs.Changes.{called, with_call, with_end, memo_on}
+use Rattle.shm_graph.specs.Ops.{is_op, slot_of}
+use Rattle.shm_graph.specs.Reach.{is_dying, learnt, not_at}
+use Rattle.shm_graph.specs.Stores.{class_told, making_with, stored_on}
+use Rattle.shm_graph.specs.Laws.{Frame, framed, Stands, KeptAt}
+use Rattle.shm_graph.proofs.KindKeeping.{in_frame}
+use Rattle.shm_graph.proofs.Loads.{choice}
+use Rattle.shm_graph.proofs.Spotting.{block_within, tag_spot, body_spot, same_spot_self, same_spot_not}
+use Rattle.shm_laws.proofs.Keep.{Contains-filter}
+use Rattle.shm_steps.specs.Conditions.{IsHere}
+use Rattle.shm_steps.specs.Preparing.{MayTag, MayBody}
+use Rattle.shm_steps.proofs.BlockTold.{dying_false}
+use Rattle.shm_steps.proofs.Prepared.{MakingHolds, making_holds, tag_prepares, body_prepares}
+use Rattle.shm_alloc.specs.declared.point.Request.{Request}
+use Rattle.shm_alloc.specs.declared.point.Goal.{Goal}
+use Rattle.shm_alloc.specs.declared.point.AllocPoint.{AllocPoint}
+use Rattle.shm_alloc.specs.declared.point.AllocPoint.TheVariants.{Tag, Reference, Plain, Redo}
+use Rattle.shm_alloc.specs.AllocControl.{class_asked, tag_asked, alloc_ask_at, alloc_next_at, plain_from, references_from, RequestFits, PointFits}
+use Rattle.shm_alloc.specs.AllocFits.{GoalHas, IsPrepared, Prepares, Stays, CanAlloc, PointHolds, NextHolds}
+
+-- ---- what a step owes
+
+-- the step at a point keeps the invariant, and then what comes next holds of the memo
+abbrev pub PointKeeps : Me → Request → Memo → (Spot → ℕ) → (ℕ → Memo) → Frame → Trail → AllocPoint → Type 0
+PointKeeps me q r0 w r f tr p =
+    Stands me w r f tr → f.fresh ≡ false → CanAlloc me r0 → RequestFits q → PointFits me q p → PointHolds me q r0 (r me.who) p
+    → KeptAt me w r (alloc_ask_at me q p) f (λ n r'. NextHolds me q r0 r' (alloc_next_at me q p n)) (spot_at me.geometry (classes w) (at_of (alloc_ask_at me q p)))
+
+-- the memo at a step that isn't a machine's first, and after it
+abbrev pub at_step : Me → Ask → Frame → ℕ → Memo → Memo
+at_step me a f n m = called m (framed me a (record f { fresh = false }) n)
+
+abbrev pub after_step : Me → Ask → Frame → ℕ → Memo → Memo → Memo
+after_step me a f n m m' = with_end f.ends (with_call (at_step me a f n m) m')
+
+-- what holds of the memo after a step that its kind keeps
+pub kept_with : (me : Me) (w : Spot → ℕ) (r : ℕ → Memo) (a : Ask) (f : Frame) (after : ℕ → Memo → Type 0) (p : Spot) → f.fresh ≡ false → spot_at me.geometry (classes w) (at_of a) ≡ p
+    → KeptAt me w r a f (λ n m. Unit {0}) (spot_at me.geometry (classes w) (at_of a))
+    → after (seen_of a (w p)) (memo_on (r me.who) (framed me a (record f { fresh = false }) (seen_of a (w p))) p)
+    → KeptAt me w r a f after (spot_at me.geometry (classes w) (at_of a))
+kept_with me w r a f after p going e k x =
+    let y : after (seen_of a (w p)) (memo_on (r me.who) (framed me a f (seen_of a (w p))) p) = in_frame (λ h. after (seen_of a (w p)) (memo_on (r me.who) (framed me a h (seen_of a (w p))) p)) f going x in
+    record { told = k.told; step = k.step; fits = subst (λ q. after (seen_of a (w q)) (memo_on (r me.who) (framed me a f (seen_of a (w q))) q)) (sym e) y }
+
+-- an identity that can allocate is live, and stays here
+pub live_here : (me : Me) (r0 r : Memo) → CanAlloc me r0 → Stays r0 r → r.status ≡ status.Live
+live_here me r0 r can s = s.status ∙ can.idle.live
+
+pub is_here : (me : Me) (r0 r : Memo) → CanAlloc me r0 → Stays r0 r → IsHere r
+is_here me r0 r can s = let e = live_here me r0 r can s in record { joined = λ z. let u = sym e ∙ z in cc; stays = λ z. let u = sym e ∙ z in cc }
+
+-- what stays does so where the same parts are as they were
+pub stays_on : (r0 r r' : Memo) → Stays r0 r → r'.status ≡ r.status → r'.latch ≡ r.latch → r'.looks ≡ r.looks → r'.dying ≡ r.dying → r'.sent ≡ r.sent → r'.received ≡ r.received → r'.unsent ≡ r.unsent → r'.untaken ≡ r.untaken → r'.part ≡ r.part → r'.owned ≡ r.owned → Stays r0 r'
+stays_on r0 r r' s status latch looks dying sent received unsent untaken part owned =
+    record {
+      status = status ∙ s.status;
+      latch = latch ∙ s.latch;
+      looks = looks ∙ s.looks;
+      dying = dying ∙ s.dying;
+      sent = sent ∙ s.sent;
+      received = received ∙ s.received;
+      unsent = unsent ∙ s.unsent;
+      untaken = untaken ∙ s.untaken;
+      part = part ∙ s.part;
+      owned = (s.owned.0, owned ∙ s.owned.1);
+    }
+
+-- the tag that is asked for has a word
+pub asked_fits : (me : Me) (q : Request) (r0 : Memo) → CanAlloc me r0 → RequestFits q → TagFits (record { refs = q.refs; plain = q.count; author = me.who; link = 0 })
+asked_fits me q r0 can fits = let u = can.who in let n = can.geometry.clients in record { refs = fits.refs; plain = fits.count; author = omega arith; link = omega arith }
+
+-- ---- how far the making has come
+
+-- of the block that is prepared so many words are stored, and nothing else has changed
+pub record Makes (me : Me) (q : Request) (r0 r : Memo) (g : Goal) (b refs plain : ℕ) : Type 0 where
+  pub stays : Stays r0 r
+  pub op : r.op ≡ op.Nothing
+  pub own : r.own ≡ r0.own
+  pub known : r.known ≡ r0.known
+  pub values : r.values ≡ r0.values
+  pub goal : GoalHas me.who r g
+  pub block : Prepares me.who q b refs plain r
+
+-- what the point after so many plain words needs
+pub plain_next : (me : Me) (q : Request) (r0 r : Memo) (g : Goal) (b i : ℕ) → i ≤ q.count → Makes me q r0 r g b q.refs i → PointHolds me q r0 r (plain_from q g b i)
+plain_next me q r0 r g b i l m =
+    choice (PointHolds me q r0 r) (nat_lt i q.count) (Plain g b i) (Redo g b)
+    (λ e. record { stays = m.stays; op = m.op; own = m.own; has = (m.known, m.values, m.goal, m.block) })
+    (λ e. let all : i ≡ q.count = grind (arith, nat_tests) in record { stays = m.stays; op = m.op; own = m.own; has = (m.known, m.values, m.goal, subst (λ n. Prepares me.who q b q.refs n r) all m.block) })
+
+-- what the point after so many reference words needs
+pub references_next : (me : Me) (q : Request) (r0 r : Memo) (g : Goal) (b i : ℕ) → i ≤ q.refs → Makes me q r0 r g b i 0 → PointHolds me q r0 r (references_from q g b i)
+references_next me q r0 r g b i l m =
+    choice (PointHolds me q r0 r) (nat_lt i q.refs) (Reference g b i) (plain_from q g b 0)
+    (λ e. record { stays = m.stays; op = m.op; own = m.own; has = (m.known, m.values, m.goal, m.block) })
+    (λ e. let all : i ≡ q.refs = grind (arith, nat_tests) in plain_next me q r0 r g b 0 (omega arith) (subst (λ n. Makes me q r0 r g b n 0) all m))
+
+-- ---- the words that are stored
+
+-- a word that is stored is among them
+pub learnt_here : (p : Spot) (x : ℕ) (ks : List Stored) → Contains (learnt p x ks) (record { spot = p; value = x })
+learnt_here p x ks = (0, omega arith, refl)
+
+-- a word at another spot stays among them
+pub learnt_other : (p : Spot) (x : ℕ) (ks : List Stored) (s : Stored) → p ≢ s.spot → Contains ks s → Contains (learnt p x ks) s
+learnt_other p x ks s n h =
+    Contains-append_right (record { spot = p; value = x } ∷ []) (filter (not_at p) ks) s (Contains-filter (not_at p) ks s h (ap not (same_spot_not p s.spot n)))
+
+-- a word of the block is stored
+abbrev pub with_word : Making → Spot → ℕ → Making
+with_word k p x = record k { words = learnt p x k.words }
+
+-- one more reference word is stored
+pub reference_more : (c : ℕ) (q : Request) (b i : ℕ) (k : Making) → IsPrepared c q b i 0 k → IsPrepared c q b (i + 1) 0 (with_word k (spot.Body b i) 0)
+reference_more c q b i k h =
+    record {
+      block = h.block;
+      class = h.class;
+      tag = learnt_other (spot.Body b i) 0 k.words _ (λ z. cc) h.tag;
+      zeros = λ j l. elim (cases_eq i j) [
+        | inl e ↦ subst (λ n. Contains (learnt (spot.Body b i) 0 k.words) (record { spot = spot.Body b n; value = 0 })) e (learnt_here (spot.Body b i) 0 k.words)
+        | inr n ↦ learnt_other (spot.Body b i) 0 k.words _ (λ z. n (cc)) (h.zeros j (omega arith))
+      ];
+      words = λ j l. absurd (omega arith);
+    }
+
+-- one more plain word is stored
+pub plain_more : (c : ℕ) (q : Request) (b i : ℕ) (k : Making) → IsPrepared c q b q.refs i k → IsPrepared c q b q.refs (i + 1) (with_word k (spot.Body b (q.refs + i)) (slice_index q.plain i))
+plain_more c q b i k h =
+    let p : Spot = spot.Body b (q.refs + i) in
+    let x : ℕ = slice_index q.plain i in
+    record {
+      block = h.block;
+      class = h.class;
+      tag = learnt_other p x k.words _ (λ z. cc) h.tag;
+      zeros = λ j l. learnt_other p x k.words _ (λ z. let u : q.refs + i ≡ j = cc in absurd (omega arith)) (h.zeros j l);
+      words = λ j l. elim (cases_eq i j) [
+        | inl e ↦ subst (λ n. Contains (learnt p x k.words) (record { spot = spot.Body b (q.refs + n); value = slice_index q.plain n })) e (learnt_here p x k.words)
+        | inr n ↦ learnt_other p x k.words _ (λ z. let u : q.refs + i ≡ q.refs + j = cc in n (omega arith)) (h.words j (omega arith))
+      ];
+    }
