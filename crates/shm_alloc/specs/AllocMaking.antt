@@ -24,7 +24,7 @@ use Rattle.shm_graph.specs.declared.memo.Status.TheVariants as status
 use Rattle.shm_graph.specs.declared.memo.Stored.{Stored}
 use Rattle.shm_graph.specs.Spots.{same_spot, spot_at, class_at, segment_of}
 use Rattle.shm_graph.specs.Blocks.{classes, IsBlock}
-use Rattle.shm_graph.specs.Views.{view}
+use Rattle.shm_graph.specs.Views.{view, own_word}
 use Rattle.shm_graph.specs.Held.{HeldAt, ZeroAt}
 use Rattle.shm_graph.specs.Asks.{Trail, at_of, seen_of}
 use Rattle.shm_graph.specs.Agents.{with_last, stepped}
@@ -169,3 +169,116 @@ plain_more c q b i k h =
         | inr n ↦ learnt_other p x k.words _ (λ z. let u : q.refs + i ≡ q.refs + j = cc in n (omega arith)) (h.words j (omega arith))
       ];
     }
+
+-- what the memo shows of the goal it shows where the own words are as they were
+pub goal_on : (c : ℕ) (r r' : Memo) (g : Goal) → r'.own ≡ r.own → GoalHas c r g → GoalHas c r' g
+goal_on c r r' g e h =
+    record {
+      era = h.era ∙ ap (λ o. own_word o (spot.Era c c)) (sym e);
+      empty = ap (λ o. own_word o (spot.Root c g.root)) e ∙ h.empty;
+      before = λ j l z. h.before j l (ap (λ o. own_word o (spot.Root c j)) (sym e) ∙ z);
+    }
+
+-- ---- the tag
+
+-- the tag is stored
+pub tag_step : (me : Me) (q : Request) (r0 : Memo) (w : Spot → ℕ) (r : ℕ → Memo) (f : Frame) (tr : Trail) (g : Goal) (b : ℕ) → PointKeeps me q r0 w r f tr (Tag g b)
+tag_step me q r0 w r f tr g b st going can fits point h =
+    let c = me.who in
+    let m : Memo = r c in
+    let x : ℕ = tag_asked q c in
+    let a : Ask = Store (b + 1) x in
+    let p : Spot = spot.Tag b in
+    let zero : (w (spot.Head b) ≡ 0) × IsBlock me.geometry (classes w) b × (w (spot.Segment (segment_of me.geometry b)) ≡ c + 1) = All-contains (ZeroAt me.geometry (classes w) (λ i. w (spot.Segment i)) (λ i. w (spot.Head i)) c) m.zeros (spot.Head b) (st.held.zeros c st.who) h.has.2 in
+    let e : spot_at me.geometry (classes w) (b + 1) ≡ p = tag_spot me.geometry (classes w) b zero.1 (st.held.sizes.classes _ _ (block_within me.geometry (classes w) b zero.1).2) in
+    let some : class_told me.geometry m.facts b ≢ 0 = (λ z. let u : class_asked q ≡ 0 = sym h.has.3 ∙ z in let l = class_room q.refs q.count fits.refs fits.count in absurd (omega arith)) in
+    let free : is_dying m b ≡ false = dying_false m b (λ z. live_not_zero (w (spot.Head b)) ((st.held.dying c st.who).listed b z).0 zero.0) in
+    let small : x < 2 ^ 35 = tag_word_small _ (asked_fits me q r0 can fits) in
+    let k : Making = record { block = b; class = class_told me.geometry m.facts b; words = record { spot = p; value = x } ∷ [] } in
+    let n : Memo = record (at_step me a f 0 m) { making = making_with me.geometry m.facts m.making b p x } in
+    let n' : Memo = after_step me a f 0 m n in
+    kept_with me w r a f (λ n r'. NextHolds me q r0 r' (alloc_next_at me q (Tag g b) n)) p going e
+    (tag_prepares me w r f tr (b + 1) b x st going e
+    (inr (record { here = is_here me r0 m can h.stays; idle = h.op; begin = record { none = h.has.0.making; read = h.has.2; told = some }; small = omega arith })))
+    (subst (λ (z : Memo). PointHolds me q r0 (after_step me a f 0 m z) (references_from q g b 0)) (sym (cond-false _ _ n free))
+    (references_next me q r0 n' g b 0 (omega arith)
+    (record {
+      stays = stays_on r0 m n' h.stays refl refl refl refl refl refl refl refl refl refl;
+      op = h.op;
+      own = h.own;
+      known = h.has.0.known;
+      values = h.has.0.values;
+      goal = goal_on c m n' g refl h.has.1;
+      block = (k, ap (λ z. making_with me.geometry m.facts z b p x) h.has.0.making, record {
+        block = refl;
+        class = h.has.3;
+        tag = (0, omega arith, refl);
+        zeros = λ j l. absurd (omega arith);
+        words = λ j l. absurd (omega arith);
+      });
+    })))
+
+-- ---- the words after the tag
+
+-- word i of the block that is prepared stands at its address
+pub word_spot : (me : Me) (q : Request) (w : Spot → ℕ) (r : ℕ → Memo) (b i refs plain : ℕ) (k : Making) → HeldAt me.geometry w (view r) → me.who < me.geometry.clients → (r me.who).making ≡ Some k → IsPrepared me.who q b refs plain k → 2 + i < class_asked q
+    → spot_at me.geometry (classes w) (b + 2 + i) ≡ spot.Body b i
+word_spot me q w r b i refs plain k held who made h room =
+    let s : MakingHolds w me.geometry me.who k = making_holds me.geometry w r me.who k held who made in
+    let block : IsBlock me.geometry (classes w) b = subst (IsBlock me.geometry (classes w)) h.block s.block in
+    let sized : class_at me.geometry (classes w) b ≡ class_asked q = ap (class_at me.geometry (classes w)) (sym h.block) ∙ (s.sized ∙ h.class) in
+    body_spot me.geometry (classes w) b i block (held.sizes.classes _ _ (block_within me.geometry (classes w) b block).2) (subst (λ z. 2 + i < z) (sym sized) room)
+
+-- word i of the block is stored, and what comes next needs the making with it
+pub word_step : (me : Me) (q : Request) (r0 : Memo) (w : Spot → ℕ) (r : ℕ → Memo) (f : Frame) (tr : Trail) (g : Goal) (b i x refs plain refs' plain' : ℕ) (next : AllocPoint) → Stands me w r f tr → f.fresh ≡ false → CanAlloc me r0 → Makes me q r0 (r me.who) g b refs plain → 2 + i < class_asked q → x < 2 ^ 64
+    → ((k : Making) → IsPrepared me.who q b refs plain k → IsPrepared me.who q b refs' plain' (with_word k (spot.Body b i) x))
+    → ((r' : Memo) → Makes me q r0 r' g b refs' plain' → PointHolds me q r0 r' next)
+    → KeptAt me w r (Store (b + 2 + i) x) f (λ n r'. PointHolds me q r0 r' next) (spot_at me.geometry (classes w) (b + 2 + i))
+word_step me q r0 w r f tr g b i x refs plain refs' plain' next st going can h room small more holds =
+    let c = me.who in
+    let m : Memo = r c in
+    let a : Ask = Store (b + 2 + i) x in
+    let p : Spot = spot.Body b i in
+    let k : Making = h.block.0 in
+    let e : spot_at me.geometry (classes w) (b + 2 + i) ≡ p = word_spot me q w r b i refs plain k st.held st.who h.block.1 h.block.2 room in
+    let n : Memo = record (at_step me a f 0 m) { making = making_with me.geometry m.facts m.making b p x } in
+    let n' : Memo = after_step me a f 0 m n in
+    kept_with me w r a f (λ n r'. PointHolds me q r0 r' next) p going e
+    (body_prepares me w r f tr (b + 2 + i) b i x st going e
+    (k, record { here = is_here me r0 m can h.stays; idle = h.op; making = h.block.1; of = h.block.2.block; small = small }, (let u : k.class ≡ class_asked q = h.block.2.class in omega arith)))
+    (subst (λ (z : Memo). PointHolds me q r0 (after_step me a f 0 m z) next) (sym (cond-false _ _ n (ap (λ o. is_op o && same_spot (slot_of o) p) h.op)))
+    (holds n'
+    (record {
+      stays = stays_on r0 m n' h.stays refl refl refl refl refl refl refl refl refl refl;
+      op = h.op;
+      own = h.own;
+      known = h.known;
+      values = h.values;
+      goal = goal_on c m n' g refl h.goal;
+      block = (with_word k p x, ap (λ z. making_with me.geometry m.facts z b p x) h.block.1, more k h.block.2);
+    })))
+
+-- a reference word is stored
+pub reference_step : (me : Me) (q : Request) (r0 : Memo) (w : Spot → ℕ) (r : ℕ → Memo) (f : Frame) (tr : Trail) (g : Goal) (b i : ℕ) → PointKeeps me q r0 w r f tr (Reference g b i)
+reference_step me q r0 w r f tr g b i st going can fits point h =
+    let room = class_room q.refs q.count fits.refs fits.count in
+    let less : i < q.refs = point.2 in
+    word_step me q r0 w r f tr g b i 0 i 0 (i + 1) 0 (references_from q g b (i + 1)) st going can
+    (record { stays = h.stays; op = h.op; own = h.own; known = h.has.0; values = h.has.1; goal = h.has.2; block = h.has.3 })
+    (omega arith) (omega arith)
+    (reference_more me.who q b i)
+    (λ r' y. references_next me q r0 r' g b (i + 1) (omega arith) y)
+
+-- a plain word is stored
+pub plain_step : (me : Me) (q : Request) (r0 : Memo) (w : Spot → ℕ) (r : ℕ → Memo) (f : Frame) (tr : Trail) (g : Goal) (b i : ℕ) → PointKeeps me q r0 w r f tr (Plain g b i)
+plain_step me q r0 w r f tr g b i st going can fits point h =
+    let room = class_room q.refs q.count fits.refs fits.count in
+    let less : i < q.count = point.2 in
+    let x : ℕ = slice_index q.plain i in
+    let sum : b + 2 + (q.refs + i) ≡ b + 2 + q.refs + i = omega arith in
+    subst (λ at. KeptAt me w r (Store at x) f (λ n r'. PointHolds me q r0 r' (plain_from q g b (i + 1))) (spot_at me.geometry (classes w) at)) sum
+    (word_step me q r0 w r f tr g b (q.refs + i) x q.refs i q.refs (i + 1) (plain_from q g b (i + 1)) st going can
+    (record { stays = h.stays; op = h.op; own = h.own; known = h.has.0; values = h.has.1; goal = h.has.2; block = h.has.3 })
+    (omega arith) (fits.small i)
+    (plain_more me.who q b i)
+    (λ r' y. plain_next me q r0 r' g b (i + 1) (omega arith) y))
