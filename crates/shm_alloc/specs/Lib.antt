@@ -2,3 +2,4 @@ pub mod AllocControl
 pub mod AllocTrail
 pub mod AllocFits
 pub mod AllocMaking
+pub mod AllocLive
