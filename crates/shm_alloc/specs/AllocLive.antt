@@ -1,10 +1,9 @@
 -- a block becomes live: what the store of the redo record, the exchange of the header and the stores of the root and the own era keep
-use Rattle.std.proofs.Common.{◌≡◌, ◌≢◌, ℕ, ◌+◌, ◌^◌, ◌<◌, ◌≤◌, refl, sym, ap, ◌∙◌, subst, arith, true, false, ◌&&◌, eqb, List, [], ◌∷◌, ◌++◌, Option, Some, None, inl, inr, cond, Ok}
+use Rattle.std.proofs.Common.{◌≡◌, ◌≢◌, ℕ, ◌+◌, ◌^◌, ◌<◌, ◌≤◌, refl, sym, ap, ◌∙◌, subst, arith, true, false, ◌&&◌, eqb, List, [], ◌∷◌, ◌++◌, Some, None, inl, inr, cond}
 use Rattle.std.specs.List.{All, Contains}
 use Rattle.std.proofs.lemmas.Bool.{cases_Bool, cond-true, cond-false, eq-eqb, lt-ltb, true≢false}
 use Rattle.std.proofs.lemmas.List.Elements.{All-contains, All-head, All-tail}
 use Rattle.std.proofs.lemmas.Map.Made.{Contains-tail}
-use Rattle.shm_words.specs.declared.header.Header.{Header}
 use Rattle.shm_words.specs.declared.place.Place.TheVariants as place
 use Rattle.shm_words.specs.declared.redo.Redo.TheVariants as redos
 use Rattle.shm_words.specs.Classes.{class_for}
@@ -19,7 +18,7 @@ use Rattle.shm_graph.specs.declared.ask.Ask.TheVariants.{Store, Exchange}
 use Rattle.shm_graph.specs.declared.ask.Me.{Me}
 use Rattle.shm_graph.specs.declared.spot.Spot.{Spot}
 use Rattle.shm_graph.specs.declared.spot.Spot.TheVariants as spot
-use Rattle.shm_graph.specs.declared.memo.First.TheVariants.{Begun, Committed, Written}
+use Rattle.shm_graph.specs.declared.memo.First.TheVariants.{Begun, Committed}
 use Rattle.shm_graph.specs.declared.memo.Making.{Making}
 use Rattle.shm_graph.specs.declared.memo.Memo.{Memo}
 use Rattle.shm_graph.specs.declared.memo.Op.{Op}
@@ -27,7 +26,7 @@ use Rattle.shm_graph.specs.declared.memo.Op.TheVariants as op
 use Rattle.shm_graph.specs.declared.memo.Stored.{Stored}
 use Rattle.shm_graph.specs.Spots.{spot_at, spot_address, IsAt}
 use Rattle.shm_graph.specs.Blocks.{classes, IsBlock}
-use Rattle.shm_graph.specs.Views.{view, own_word}
+use Rattle.shm_graph.specs.Views.{own_word}
 use Rattle.shm_graph.specs.Held.{InBlock}
 use Rattle.shm_graph.specs.Asks.{Trail}
 use Rattle.shm_graph.specs.Chains.{or_zero}
@@ -38,7 +37,7 @@ use Rattle.shm_graph.specs.Ops.{slot_of}
 use Rattle.shm_graph.specs.Reach.{is_at, known_at}
 use Rattle.shm_graph.specs.Readings.{valued}
 use Rattle.shm_graph.specs.Stores.{is_block_made, with_own, op_written, op_closed, is_lowering, without_looks, era_stored}
-use Rattle.shm_graph.specs.Laws.{Frame, framed, Stands, KeptAt}
+use Rattle.shm_graph.specs.Laws.{Frame, framed, KeptAt}
 use Rattle.shm_graph.proofs.SpotPlaces.{spot-place}
 use Rattle.shm_graph.proofs.Spotting.{same_spot_self, same_spot_is}
 use Rattle.shm_laws.specs.Steps.{Writes, Closes}
@@ -52,9 +51,9 @@ use Rattle.shm_steps.proofs.SlotStores.{root_stored}
 use Rattle.shm_alloc.specs.declared.point.Request.{Request}
 use Rattle.shm_alloc.specs.declared.point.Goal.{Goal}
 use Rattle.shm_alloc.specs.declared.point.AllocPoint.TheVariants.{Redo, Commit, Slot, Close}
-use Rattle.shm_alloc.specs.AllocControl.{class_asked, tag_asked, header_made, alloc_next_at, RequestFits, PointFits, GoalFits}
-use Rattle.shm_alloc.specs.AllocFits.{GoalHas, IsPrepared, CanAlloc, PointHolds, NextHolds, Stays, redo_stored}
-use Rattle.shm_alloc.specs.AllocMaking.{PointKeeps, at_step, after_step, kept_with, is_here, live_here, stays_on, asked_fits, goal_on}
+use Rattle.shm_alloc.specs.AllocControl.{class_asked, tag_asked, header_made, alloc_next_at}
+use Rattle.shm_alloc.specs.AllocFits.{IsPrepared, PointHolds, NextHolds, redo_stored}
+use Rattle.shm_alloc.specs.AllocMaking.{PointKeeps, at_step, after_step, kept_with, is_here, live_here, stays_after, asked_fits, goal_on}
 
 -- the spot of an own root
 root_spot : (me : Me) (w : Spot → ℕ) (k : ℕ) → me.who < me.geometry.clients → k < 16 → spot_at me.geometry (classes w) (address me.geometry (place.Root me.who k)) ≡ spot.Root me.who k
@@ -88,7 +87,7 @@ redo_step me q r0 w r f tr g b st going can fits point h =
     kept_with me w r a f (λ n r'. NextHolds me q r0 r' (alloc_next_at me q (Redo g b) n)) p going e
     (begin_stored me w r f tr at x st going e (root_begins_up me.geometry w r c st.held st.who g.root b add))
     (record {
-      stays = stays_on r0 m n' h.stays refl refl refl refl refl refl refl refl refl refl;
+      stays = stays_after me a f 0 r0 m (record { spot = p; value = x } ∷ m.own) (op_begun me.geometry c m x) m.making m.known m.values m.zeros m.made h.stays;
       op = begun;
       own = ap (λ o. redo_stored me g b ∷ o) h.own;
       has = (h.has.0, h.has.1, goal_on c m r0 g (sym h.own) h.has.2, h.has.3);
@@ -157,11 +156,11 @@ commit_step me q r0 w r f tr g b st going can fits point h =
     (subst (λ y. PointHolds me q r0 (memo_on m (framed me a (record f { fresh = false }) y) p) (Slot g b)) (sym free)
     (subst (λ (o : Op). PointHolds me q r0 (after_step me a f 0 m (committed c n o to)) (Slot g b)) (sym h.op)
     (record {
-      stays = stays_on r0 m n' h.stays refl refl refl refl refl refl refl refl refl refl;
-      op = refl;
+      stays = stays_after me a f 0 r0 m m.own (op.Alloc Committed (spot.Root c g.root) b g.era) None n'.known n'.values n'.zeros n'.made h.stays;
+      op = refl {a = op.Alloc Committed (spot.Root c g.root) b g.era};
       own = h.own;
       has = (
-        refl,
+        refl {a = None},
         ap (λ z. values_with m b (or_zero (known_at (spot.Tag b) (words_made z)))) made ∙ (ap (λ z. values_with m b (or_zero z)) known ∙ values_same m r0 b t h.stays.part h.has.1),
         h.has.2,
         (k, ap (λ z. words_made z ++ m.known) made ∙ ap (λ z. k.words ++ z) h.has.0, words),
@@ -190,7 +189,7 @@ slot_step me q r0 w r f tr g b st going can fits point h =
       small = omega arith;
     }))
     (record {
-      stays = stays_on r0 m n' h.stays refl refl refl refl refl refl refl refl refl refl;
+      stays = stays_after me a f 0 r0 m (record { spot = p; value = b } ∷ m.own) (op_written m.op) m.making m.known m.values m.zeros m.made h.stays;
       op = ap op_written h.op;
       own = ap (λ o. record { spot = p; value = b } ∷ o) h.own;
       has = h.has;
@@ -211,6 +210,8 @@ close_step me q r0 w r f tr g b st going can fits point h =
     let own : own_word m.own p ≡ g.era = ap (λ o. own_word o p) h.own ∙ sym h.has.2.era in
     let n : Memo = at_step me a f 0 m in
     let n' : Memo = after_step me a f 0 m (record (with_own n p x) { op = op.Nothing }) in
+    let before : List Stored = record { spot = spot.Root c g.root; value = b } ∷ redo_stored me g b ∷ r0.own in
+    let owns : record { spot = p; value = x } ∷ m.own ≡ record { spot = p; value = own_word r0.own p + 1 } ∷ before = ap (λ o. record { spot = p; value = x } ∷ o) h.own ∙ ap (λ y. record { spot = p; value = y + 1 } ∷ before) h.has.2.era in
     let answer = alloc_next_at me q (Close g b) 0 in
     kept_with me w r a f (λ n r'. NextHolds me q r0 r' (alloc_next_at me q (Close g b) n)) p going e
     (subst (λ y. KeptAt me w r (Store at (y + 1)) f (λ n m. Unit {0}) (spot_at me.geometry (classes w) at)) own
@@ -220,16 +221,16 @@ close_step me q r0 w r f tr g b st going can fits point h =
     (record {
       idle = record {
         live = live_here me r0 m can h.stays;
-        op = refl;
+        op = refl {a = op.Nothing};
         making = h.has.0;
         hold = ap (λ o. own_word o (spot.Hold c)) h.own ∙ (can.idle.hold ∙ sym (ap hold_word h.stays.latch));
       };
-      stays = stays_on r0 m n' h.stays refl refl refl refl refl refl refl refl refl refl;
+      stays = stays_after me a f 0 r0 m (record { spot = p; value = x } ∷ m.own) op.Nothing m.making m.known m.values m.zeros m.made h.stays;
       gives = record {
         root = point.0.root;
         empty = h.has.2.empty;
         before = h.has.2.before;
-        own = ap (λ o. record { spot = p; value = x } ∷ o) h.own ∙ ap (λ y. record { spot = p; value = y + 1 } ∷ record { spot = spot.Root c g.root; value = b } ∷ redo_stored me g b ∷ r0.own) h.has.2.era;
+        own = owns;
         knows = h.has.3;
         values = h.has.1;
       };

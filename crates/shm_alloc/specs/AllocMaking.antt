@@ -1,21 +1,18 @@
 -- the making of a block: what the stores of its words keep
-use Rattle.std.proofs.Common.{◌≡◌, ◌≢◌, ℕ, ◌+◌, ◌^◌, ◌<◌, ◌≤◌, refl, sym, ap, ◌∙◌, subst, arith, true, false, not, ◌&&◌, List, [], ◌∷◌, Option, Some, None, inl, inr, cond}
+use Rattle.std.proofs.Common.{◌≡◌, ◌≢◌, ℕ, ◌+◌, ◌^◌, ◌<◌, ◌≤◌, refl, sym, ap, ◌∙◌, subst, arith, false, not, ◌&&◌, List, [], ◌∷◌, Option, Some, inl, inr}
 use Rattle.std.specs.Prelude.{nat_lt, slice_index}
-use Rattle.std.specs.List.{All, Contains, filter}
-use Rattle.std.proofs.lemmas.Bool.{cases_eq, cond-false, ne_eqb}
+use Rattle.std.specs.List.{Contains, filter}
+use Rattle.std.proofs.lemmas.Bool.{cases_eq, cond-false}
 use Rattle.std.proofs.lemmas.Bool.Decides.{nat_tests}
 use Rattle.std.proofs.lemmas.List.Elements.{All-contains, Contains-append_right}
-use Rattle.shm_words.specs.declared.geometry.Geometry.{Geometry}
-use Rattle.shm_words.specs.declared.tag.Tag.{Tag as ATag}
-use Rattle.shm_words.specs.Tags.{tag_word, TagFits}
-use Rattle.shm_words.proofs.Classing.{class_is, class_room}
+use Rattle.shm_words.specs.Tags.{TagFits}
+use Rattle.shm_words.proofs.Classing.{class_room}
 use Rattle.shm_words.proofs.Words.{live_not_zero, tag_word_small}
 use Rattle.shm_graph.specs.declared.ask.Ask.{Ask}
 use Rattle.shm_graph.specs.declared.ask.Ask.TheVariants.{Store}
 use Rattle.shm_graph.specs.declared.ask.Me.{Me}
 use Rattle.shm_graph.specs.declared.spot.Spot.{Spot}
 use Rattle.shm_graph.specs.declared.spot.Spot.TheVariants as spot
-use Rattle.shm_graph.specs.declared.memo.Fact.{Fact}
 use Rattle.shm_graph.specs.declared.memo.Making.{Making}
 use Rattle.shm_graph.specs.declared.memo.Memo.{Memo}
 use Rattle.shm_graph.specs.declared.memo.Op.{Op}
@@ -27,18 +24,16 @@ use Rattle.shm_graph.specs.Blocks.{classes, IsBlock}
 use Rattle.shm_graph.specs.Views.{view, own_word}
 use Rattle.shm_graph.specs.Held.{HeldAt, ZeroAt}
 use Rattle.shm_graph.specs.Asks.{Trail, at_of, seen_of}
-use Rattle.shm_graph.specs.Agents.{with_last, stepped}
 use Rattle.shm_graph.specs.Changes.{called, with_call, with_end, memo_on}
 use Rattle.shm_graph.specs.Ops.{is_op, slot_of}
 use Rattle.shm_graph.specs.Reach.{is_dying, learnt, not_at}
-use Rattle.shm_graph.specs.Stores.{class_told, making_with, stored_on}
+use Rattle.shm_graph.specs.Stores.{class_told, making_with}
 use Rattle.shm_graph.specs.Laws.{Frame, framed, Stands, KeptAt}
 use Rattle.shm_graph.proofs.KindKeeping.{in_frame}
 use Rattle.shm_graph.proofs.Loads.{choice}
-use Rattle.shm_graph.proofs.Spotting.{block_within, tag_spot, body_spot, same_spot_self, same_spot_not}
+use Rattle.shm_graph.proofs.Spotting.{block_within, tag_spot, body_spot, same_spot_not}
 use Rattle.shm_laws.proofs.Keep.{Contains-filter}
 use Rattle.shm_steps.specs.Conditions.{IsHere}
-use Rattle.shm_steps.specs.Preparing.{MayTag, MayBody}
 use Rattle.shm_steps.proofs.BlockTold.{dying_false}
 use Rattle.shm_steps.proofs.Prepared.{MakingHolds, making_holds, tag_prepares, body_prepares}
 use Rattle.shm_alloc.specs.declared.point.Request.{Request}
@@ -79,20 +74,21 @@ live_here me r0 r can s = s.status ∙ can.idle.live
 pub is_here : (me : Me) (r0 r : Memo) → CanAlloc me r0 → Stays r0 r → IsHere r
 is_here me r0 r can s = let e = live_here me r0 r can s in record { joined = λ z. let u = sym e ∙ z in cc; stays = λ z. let u = sym e ∙ z in cc }
 
--- what stays does so where the same parts are as they were
-pub stays_on : (r0 r r' : Memo) → Stays r0 r → r'.status ≡ r.status → r'.latch ≡ r.latch → r'.looks ≡ r.looks → r'.dying ≡ r.dying → r'.sent ≡ r.sent → r'.received ≡ r.received → r'.unsent ≡ r.unsent → r'.untaken ≡ r.untaken → r'.part ≡ r.part → r'.owned ≡ r.owned → Stays r0 r'
-stays_on r0 r r' s status latch looks dying sent received unsent untaken part owned =
+-- what stays does so at a step that changes no more than own words, the step in progress, the block that is prepared, and what is known
+pub stays_after : (me : Me) (a : Ask) (f : Frame) (n : ℕ) (r0 m : Memo) (own : List Stored) (o : Op) (making : Option Making) (known : List Stored) (values : List ℕ) (zeros : List Spot) (made : List ℕ) → Stays r0 m
+    → Stays r0 (after_step me a f n m (record (at_step me a f n m) { own = own; op = o; making = making; known = known; values = values; zeros = zeros; made = made }))
+stays_after me a f n r0 m own o making known values zeros made s =
     record {
-      status = status ∙ s.status;
-      latch = latch ∙ s.latch;
-      looks = looks ∙ s.looks;
-      dying = dying ∙ s.dying;
-      sent = sent ∙ s.sent;
-      received = received ∙ s.received;
-      unsent = unsent ∙ s.unsent;
-      untaken = untaken ∙ s.untaken;
-      part = part ∙ s.part;
-      owned = (s.owned.0, owned ∙ s.owned.1);
+      status = s.status;
+      latch = s.latch;
+      looks = s.looks;
+      dying = s.dying;
+      sent = s.sent;
+      received = s.received;
+      unsent = s.unsent;
+      untaken = s.untaken;
+      part = s.part;
+      owned = s.owned;
     }
 
 -- the tag that is asked for has a word
@@ -203,19 +199,23 @@ tag_step me q r0 w r f tr g b st going can fits point h =
     (subst (λ (z : Memo). PointHolds me q r0 (after_step me a f 0 m z) (references_from q g b 0)) (sym (cond-false _ _ n free))
     (references_next me q r0 n' g b 0 (omega arith)
     (record {
-      stays = stays_on r0 m n' h.stays refl refl refl refl refl refl refl refl refl refl;
+      stays = stays_after me a f 0 r0 m m.own m.op (making_with me.geometry m.facts m.making b p x) m.known m.values m.zeros m.made h.stays;
       op = h.op;
       own = h.own;
       known = h.has.0.known;
       values = h.has.0.values;
       goal = goal_on c m n' g refl h.has.1;
-      block = (k, ap (λ z. making_with me.geometry m.facts z b p x) h.has.0.making, record {
-        block = refl;
-        class = h.has.3;
-        tag = (0, omega arith, refl);
-        zeros = λ j l. absurd (omega arith);
-        words = λ j l. absurd (omega arith);
-      });
+      block = (
+        k,
+        ap (λ z. making_with me.geometry m.facts z b p x) h.has.0.making,
+        record {
+          block = refl;
+          class = h.has.3;
+          tag = (0, omega arith, refl);
+          zeros = λ j l. absurd (omega arith);
+          words = λ j l. absurd (omega arith);
+        },
+      );
     })))
 
 -- ---- the words after the tag
@@ -249,7 +249,7 @@ word_step me q r0 w r f tr g b i x refs plain refs' plain' next st going can h r
     (subst (λ (z : Memo). PointHolds me q r0 (after_step me a f 0 m z) next) (sym (cond-false _ _ n (ap (λ o. is_op o && same_spot (slot_of o) p) h.op)))
     (holds n'
     (record {
-      stays = stays_on r0 m n' h.stays refl refl refl refl refl refl refl refl refl refl;
+      stays = stays_after me a f 0 r0 m m.own m.op (making_with me.geometry m.facts m.making b p x) m.known m.values m.zeros m.made h.stays;
       op = h.op;
       own = h.own;
       known = h.known;
