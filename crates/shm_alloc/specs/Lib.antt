@@ -4,3 +4,5 @@ pub mod AllocFits
 pub mod AllocSearch
 pub mod AllocSearchSegments
 pub mod AllocSearchPages
+pub mod AllocMaking
+pub mod AllocLive

@@ -93,14 +93,14 @@ module _ (g : Geometry) (w : Spot → ℕ) (r : ℕ → Memo) (c : ℕ) (h : Hel
   root_here k = h.mine c l (Root c k) (eq-eqb c c refl)
 
   -- the pool has the own roots
-  root_at : (k : ℕ) → k < 16 → IsAt g (classes w) (Root c k)
+  pub root_at : (k : ℕ) → k < 16 → IsAt g (classes w) (Root c k)
   root_at k s = fixed_is_at g (classes w) (Root c k) refl (rw (lt-ltb c g.clients l, lt-ltb k 16 s) refl)
 
   -- addresses of roots and of blocks fit in a redo word
-  address_fits : (k : ℕ) → IsAt g (classes w) (Root c k) → spot_address g (Root c k) < 2 ^ 20
+  pub address_fits : (k : ℕ) → IsAt g (classes w) (Root c k) → spot_address g (Root c k) < 2 ^ 20
   address_fits k a = let x = at_below g (classes w) (Root c k) a in let y = total_small g h.fits in omega arith
 
-  block_fits : (b : ℕ) → IsBlock g (classes w) b → b < 2 ^ 20
+  pub block_fits : (b : ℕ) → IsBlock g (classes w) b → b < 2 ^ 20
   block_fits b a = let x = block_within g (classes w) b a in let y = total_small g h.fits in omega arith
 
   -- a step at an own root begins, where its redo word spells it
@@ -126,7 +126,7 @@ module _ (g : Geometry) (w : Spot → ℕ) (r : ℕ → Memo) (c : ℕ) (h : Hel
       }
 
   -- the step that a redo word begins at an own root
-  up_begun : (k b : ℕ) → IsAt g (classes w) (Root c k) → RedoFits (redos.Up (spot_address g (Root c k)) b)
+  pub up_begun : (k b : ℕ) → IsAt g (classes w) (Root c k) → RedoFits (redos.Up (spot_address g (Root c k)) b)
       → op_begun g c m (redo_word (redos.Up (spot_address g (Root c k)) b)) ≡ cond (is_block_made m.making b) (Alloc Begun (Root c k) b e) (Up Begun (Root c k) b e)
   up_begun k b at fits =
       ap (op_spelled (word_told g c m) m.making e) (redo_of-word (redos.Up (spot_address g (Root c k)) b) fits)
