@@ -1,3 +1,4 @@
 pub mod AllocControl
 pub mod AllocTrail
 pub mod AllocFits
+pub mod AllocGoing
