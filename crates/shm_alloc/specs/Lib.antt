@@ -6,3 +6,4 @@ pub mod AllocSearchSegments
 pub mod AllocSearchPages
 pub mod AllocMaking
 pub mod AllocLive
+pub mod AllocGoing

@@ -4,9 +4,11 @@
 #![tactic(auto)]
 
 pub mod alloc;
+pub mod bound;
 pub mod point;
 
 pub use alloc::{Alloc, AllocFault, TooLarge};
+pub use bound::alloc_bound;
 pub use point::{AllocPoint, AllocState, Goal, Next, Request, Search};
 
 #[cfg(test)]

@@ -1,0 +1,153 @@
+-- how many word steps an allocation makes at most
+use Rattle.std.proofs.Common.{ℕ, zero, suc, ◌+◌, ◌*◌, ◌/◌, ◌^◌, ◌-◌, ◌≤◌, sym, subst, arith, inl, inr, Bool, true, false, length}
+use Rattle.std.specs.Prelude.{◌==◌, nat_lt, Result, Ok, Err, slice_index}
+use Rattle.shm_words.specs.declared.place.Place.TheVariants as place
+use Rattle.shm_words.specs.declared.redo.Redo.TheVariants as redos
+use Rattle.shm_words.specs.Layout.{address}
+use Rattle.shm_words.specs.Redos.{redo_word}
+use Rattle.shm_words.specs.Classes.{IsClass}
+use Rattle.shm_words.proofs.Classing.{class_is}
+use Rattle.shm_graph.specs.declared.ask.Ask.{Ask}
+use Rattle.shm_graph.specs.declared.ask.Ask.TheVariants.{Load, Store, Exchange}
+use Rattle.shm_graph.specs.declared.ask.Me.{Me}
+use Rattle.shm_graph.specs.Asks.{Trail}
+use Rattle.shm_graph.specs.Trails.{Answers, Asked, Chosen}
+use Rattle.shm_count.specs.declared.answer.Made.{Made}
+use Rattle.shm_alloc.specs.declared.alloc.AllocFault.{AllocFault}
+use Rattle.shm_alloc.specs.declared.alloc.AllocFault.TheVariants.{EraSpent, RootsFull, Full}
+use Rattle.shm_alloc.specs.declared.point.Request.{Request}
+use Rattle.shm_alloc.specs.AllocControl.{class_asked, tag_asked, header_made, RequestFits}
+use Rattle.shm_alloc.specs.AllocTrail.{AllocTrails, alloc_trail, root_trail, segment_trail, page_trail, header_trail, headers_trail, class_trail, block_trail, reference_trail, plain_trail, live_trail, commit_trail, slot_trail, close_trail, alloc_steps}
+
+-- each of the trails has at most n pairs
+abbrev Short : AllocTrails → ℕ → Type 0
+Short f n = (tr : Trail) (a : Result Made AllocFault) → f tr a → length tr ≤ n
+
+short_more : (f : AllocTrails) (n m : ℕ) → n ≤ m → Short f n → Short f m
+short_more f n m l s tr a t = let below = s tr a t in omega arith
+
+short_answers : (b : Result Made AllocFault) → Short (Answers b) 0
+short_answers b tr a t = subst (λ (x : Trail). length x ≤ 0) (sym t.0) (omega arith)
+
+-- one pair more
+short_asked : (k : Ask) (next : ℕ → AllocTrails) (n : ℕ) → ((x : ℕ) → Short (next x) n) → Short (Asked k next) (n + 1)
+short_asked k next n s tr a t = let below = s t.0 t.1.0 a t.1.1.1 in subst (λ (x : Trail). length x ≤ n + 1) (sym t.1.1.0) (omega arith)
+
+short_chosen : (b : Bool) (f g : AllocTrails) (n : ℕ) → Short f n → Short g n → Short (Chosen b f g) n
+short_chosen true f g n one other = one
+short_chosen false f g n one other = other
+
+-- a page has at most 32 blocks
+page_blocks : (k : ℕ) → IsClass k → 128 / k ≤ 32
+page_blocks k (inl e) = subst (λ (x : ℕ). 128 / x ≤ 32) (sym e) (omega arith)
+page_blocks k (inr (inl e)) = subst (λ (x : ℕ). 128 / x ≤ 32) (sym e) (omega arith)
+page_blocks k (inr (inr (inl e))) = subst (λ (x : ℕ). 128 / x ≤ 32) (sym e) (omega arith)
+page_blocks k (inr (inr (inr e))) = subst (λ (x : ℕ). 128 / x ≤ 32) (sym e) (omega arith)
+
+module _ (me : Me) (q : Request) where
+  -- ---- the making
+
+  close_short : (e k b : ℕ) → Short (close_trail me q e k b) 1
+  close_short e k b = short_asked (Store (address me.geometry (place.Era me.who me.who)) (e + 1)) (λ _. Answers (Ok (record { root = k; block = b }))) 0 (λ _. short_answers (Ok (record { root = k; block = b })))
+
+  slot_short : (e k b : ℕ) → Short (slot_trail me q e k b) 2
+  slot_short e k b = short_asked (Store (address me.geometry (place.Root me.who k)) b) (λ _. close_trail me q e k b) 1 (λ _. close_short e k b)
+
+  commit_short : (e k b : ℕ) → Short (commit_trail me q e k b) 3
+  commit_short e k b = short_asked (Exchange b 0 (header_made me.who e)) (λ _. slot_trail me q e k b) 2 (λ _. slot_short e k b)
+
+  live_short : (e k b : ℕ) → Short (live_trail me q e k b) 4
+  live_short e k b = short_asked (Store (address me.geometry (place.Redo me.who)) (redo_word (redos.Up (address me.geometry (place.Root me.who k)) b))) (λ _. commit_trail me q e k b) 3 (λ _. commit_short e k b)
+
+  plain_short : (n i e k b : ℕ) → Short (plain_trail me q n i e k b) (n + 4)
+  plain_short zero i e k b = short_more (live_trail me q e k b) 4 (0 + 4) (omega arith) (live_short e k b)
+  plain_short (suc n) i e k b =
+      short_more (plain_trail me q (suc n) i e k b) (n + 4 + 1) (suc n + 4) (omega arith)
+      (short_asked (Store (b + 2 + q.refs + i) (slice_index q.plain i)) (λ _. plain_trail me q n (i + 1) e k b) (n + 4) (λ _. plain_short n (i + 1) e k b))
+
+  reference_short : (n i e k b : ℕ) → Short (reference_trail me q n i e k b) (n + (q.count + 4))
+  reference_short zero i e k b = short_more (plain_trail me q q.count 0 e k b) (q.count + 4) (0 + (q.count + 4)) (omega arith) (plain_short q.count 0 e k b)
+  reference_short (suc n) i e k b =
+      short_more (reference_trail me q (suc n) i e k b) (n + (q.count + 4) + 1) (suc n + (q.count + 4)) (omega arith)
+      (short_asked (Store (b + 2 + i) 0) (λ _. reference_trail me q n (i + 1) e k b) (n + (q.count + 4)) (λ _. reference_short n (i + 1) e k b))
+
+  block_short : RequestFits q → (e k b : ℕ) → Short (block_trail me q e k b) 29
+  block_short fits e k b =
+      let refs = fits.refs in let count = fits.count in
+      short_more (block_trail me q e k b) (q.refs + (q.count + 4) + 1) 29 (omega arith)
+      (short_asked (Store (b + 1) (tag_asked q me.who)) (λ _. reference_trail me q q.refs 0 e k b) (q.refs + (q.count + 4)) (λ _. reference_short q.refs 0 e k b))
+
+  -- ---- the search; what follows has at most m pairs, and the making of a block has no more
+
+  module _ (fits : RequestFits q) where
+    header_short : (n i at e k used m : ℕ) (rest : ℕ → AllocTrails) → 29 ≤ m → ((u : ℕ) → Short (rest u) m) → Short (header_trail me q n i at e k used rest) (n + m)
+    header_short zero i at e k used m rest l s = short_more (rest used) m (0 + m) (omega arith) (s used)
+    header_short (suc n) i at e k used m rest l s =
+        short_more (header_trail me q (suc n) i at e k used rest) (n + m + 1) (suc n + m) (omega arith)
+        (short_asked (Load (at + class_asked q * i)) (λ x. Chosen (x == 0) (block_trail me q e k (at + class_asked q * i)) (header_trail me q n (i + 1) at e k (used + 1) rest)) (n + m)
+        (λ x. short_chosen (x == 0) (block_trail me q e k (at + class_asked q * i)) (header_trail me q n (i + 1) at e k (used + 1) rest) (n + m)
+        (short_more (block_trail me q e k (at + class_asked q * i)) 29 (n + m) (omega arith) (block_short fits e k (at + class_asked q * i)))
+        (header_short n (i + 1) at e k (used + 1) m rest l s)))
+
+    headers_short : (s p e k used m : ℕ) (rest : ℕ → AllocTrails) → 29 ≤ m → ((u : ℕ) → Short (rest u) m) → Short (headers_trail me q s p e k used rest) (32 + m)
+    headers_short s p e k used m rest l r =
+        let blocks = page_blocks (class_asked q) (class_is q.refs q.count) in
+        short_more (headers_trail me q s p e k used rest) (128 / class_asked q + m) (32 + m) (omega arith)
+        (header_short (128 / class_asked q) 0 (address me.geometry (place.Body s p 0)) e k used m rest l r)
+
+    class_short : (s p e k used m : ℕ) (rest : ℕ → AllocTrails) → 29 ≤ m → ((u : ℕ) → Short (rest u) m) → Short (class_trail me q s p e k used rest) (33 + m)
+    class_short s p e k used m rest l r =
+        short_more (class_trail me q s p e k used rest) (32 + m + 1) (33 + m) (omega arith)
+        (short_asked (Store (address me.geometry (place.Page s p)) (class_asked q)) (λ _. headers_trail me q s p e k used rest) (32 + m) (λ _. headers_short s p e k used m rest l r))
+
+    page_short : (n p s e k used m : ℕ) (rest : ℕ → AllocTrails) → 29 ≤ m → ((u : ℕ) → Short (rest u) m) → Short (page_trail me q n p s e k used rest) (n * 34 + m)
+    page_short zero p s e k used m rest l r = short_more (rest used) m (0 * 34 + m) (omega arith) (r used)
+    page_short (suc n) p s e k used m rest l r =
+        let after : ℕ → AllocTrails = λ u. page_trail me q n (p + 1) s e k u rest in
+        let short : (u : ℕ) → Short (after u) (n * 34 + m) = λ u. page_short n (p + 1) s e k u m rest l r in
+        short_more (page_trail me q (suc n) p s e k used rest) (33 + (n * 34 + m) + 1) (suc n * 34 + m) (omega arith)
+        (short_asked (Load (address me.geometry (place.Page s p))) (λ x. Chosen (x == 0) (class_trail me q s p e k used after) (Chosen (x == class_asked q) (headers_trail me q s p e k used after) (after used))) (33 + (n * 34 + m))
+        (λ x. short_chosen (x == 0) (class_trail me q s p e k used after) (Chosen (x == class_asked q) (headers_trail me q s p e k used after) (after used)) (33 + (n * 34 + m))
+        (class_short s p e k used (n * 34 + m) after (omega arith) short)
+        (short_chosen (x == class_asked q) (headers_trail me q s p e k used after) (after used) (33 + (n * 34 + m))
+        (short_more (headers_trail me q s p e k used after) (32 + (n * 34 + m)) (33 + (n * 34 + m)) (omega arith) (headers_short s p e k used (n * 34 + m) after (omega arith) short))
+        (short_more (after used) (n * 34 + m) (33 + (n * 34 + m)) (omega arith) (short used)))))
+
+    segment_short : (n s e k taken used : ℕ) → Short (segment_trail me q n s e k taken used) (n * 546 + 29)
+    segment_short zero s e k taken used = short_more (Answers (Err (Full taken used))) 0 (0 * 546 + 29) (omega arith) (short_answers (Err (Full taken used)))
+    segment_short (suc n) s e k taken used =
+        let after : ℕ → AllocTrails = λ u. segment_trail me q n (s + 1) e k taken u in
+        let other : AllocTrails = segment_trail me q n (s + 1) e k (taken + 1) used in
+        let pages : AllocTrails = page_trail me q 16 0 s e k used after in
+        let own : Short pages (16 * 34 + (n * 546 + 29)) = page_short 16 0 s e k used (n * 546 + 29) after (omega arith) (λ u. segment_short n (s + 1) e k taken u) in
+        let on : Short other (16 * 34 + (n * 546 + 29)) = short_more other (n * 546 + 29) (16 * 34 + (n * 546 + 29)) (omega arith) (segment_short n (s + 1) e k (taken + 1) used) in
+        let claim : AllocTrails = Asked (Exchange (address me.geometry (place.Segment s)) 0 (me.who + 1)) (λ y. Chosen (y == 0) pages other) in
+        let claimed : Short claim (16 * 34 + (n * 546 + 29) + 1) =
+            short_asked (Exchange (address me.geometry (place.Segment s)) 0 (me.who + 1)) (λ y. Chosen (y == 0) pages other) (16 * 34 + (n * 546 + 29)) (λ y. short_chosen (y == 0) pages other (16 * 34 + (n * 546 + 29)) own on) in
+        short_more (segment_trail me q (suc n) s e k taken used) (16 * 34 + (n * 546 + 29) + 1 + 1) (suc n * 546 + 29) (omega arith)
+        (short_asked (Load (address me.geometry (place.Segment s))) (λ x. Chosen (x == 0) claim (Chosen (x == me.who + 1) pages other)) (16 * 34 + (n * 546 + 29) + 1)
+        (λ x. short_chosen (x == 0) claim (Chosen (x == me.who + 1) pages other) (16 * 34 + (n * 546 + 29) + 1) claimed
+        (short_more (Chosen (x == me.who + 1) pages other) (16 * 34 + (n * 546 + 29)) (16 * 34 + (n * 546 + 29) + 1) (omega arith) (short_chosen (x == me.who + 1) pages other (16 * 34 + (n * 546 + 29)) own on))))
+
+    -- ---- the own era and the roots
+
+    root_short : (n k e : ℕ) → Short (root_trail me q n k e) (n + (me.geometry.segments * 546 + 29))
+    root_short zero k e = short_more (Answers (Err RootsFull)) 0 (0 + (me.geometry.segments * 546 + 29)) (omega arith) (short_answers (Err RootsFull))
+    root_short (suc n) k e =
+        let most = me.geometry.segments * 546 + 29 in
+        short_more (root_trail me q (suc n) k e) (n + (me.geometry.segments * 546 + 29) + 1) (suc n + (me.geometry.segments * 546 + 29)) (omega arith)
+        (short_asked (Load (address me.geometry (place.Root me.who k))) (λ x. Chosen (x == 0) (segment_trail me q me.geometry.segments 0 e k 0 0) (root_trail me q n (k + 1) e)) (n + (me.geometry.segments * 546 + 29))
+        (λ x. short_chosen (x == 0) (segment_trail me q me.geometry.segments 0 e k 0 0) (root_trail me q n (k + 1) e) (n + (me.geometry.segments * 546 + 29))
+        (short_more (segment_trail me q me.geometry.segments 0 e k 0 0) (me.geometry.segments * 546 + 29) (n + (me.geometry.segments * 546 + 29)) (omega arith) (segment_short me.geometry.segments 0 e k 0 0))
+        (root_short n (k + 1) e)))
+
+    all_short : Short (alloc_trail me q) (alloc_steps me.geometry.segments)
+    all_short =
+        short_more (alloc_trail me q) (16 + (me.geometry.segments * 546 + 29) + 1) (alloc_steps me.geometry.segments) (omega arith)
+        (short_asked (Load (address me.geometry (place.Era me.who me.who))) (λ e. Chosen (nat_lt (2 ^ 47 - 3) e) (Answers (Err (EraSpent e))) (root_trail me q 16 0 e)) (16 + (me.geometry.segments * 546 + 29))
+        (λ e. short_chosen (nat_lt (2 ^ 47 - 3) e) (Answers (Err (EraSpent e))) (root_trail me q 16 0 e) (16 + (me.geometry.segments * 546 + 29))
+        (short_more (Answers (Err (EraSpent e))) 0 (16 + (me.geometry.segments * 546 + 29)) (omega arith) (short_answers (Err (EraSpent e)))) (root_short 16 0 e)))
+
+-- an allocation takes at most 546 word steps for each segment, and 46 more
+pub alloc_bound : (me : Me) (q : Request) → RequestFits q → (tr : Trail) (a : Result Made AllocFault) → alloc_trail me q tr a → length tr ≤ alloc_steps me.geometry.segments
+alloc_bound me q fits = all_short me q fits
