@@ -16,7 +16,9 @@ use std::marker::Model;
 #[derive(Clone, Copy, Debug, PartialEq, Eq, Drop)]
 pub enum AllocFault {
     /// The own era that was read is above 2^47 - 3.
-    EraSpent { era: u64 },
+    EraSpent {
+        era: u64,
+    },
     /// All 16 own roots are set.
     RootsFull,
     /// Every segment is another's, or has no free block of the class and no page without a class.
