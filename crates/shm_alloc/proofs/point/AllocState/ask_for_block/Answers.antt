@@ -1,11 +1,10 @@
-use Rattle.std.proofs.Common.{arith, ◌<◌, ◌^◌, ◌+◌, ◌≤◌, subst, sym, ap, refl}
-use Rattle.std.proofs.lemmas.Bool.{and_from}
+use Rattle.std.proofs.Common.{arith, ◌<◌, ◌^◌, subst, sym}
 use Rattle.std.proofs.lemmas.Bool.Decides.{nat_tests}
 use Rattle.shm_words.specs.declared.place.Place.TheVariants as place
 use Rattle.shm_words.specs.Layout.{address, total_of}
 use Rattle.shm_words.proofs.Placing.{total_small, address_below}
 use Rattle.shm_words.proofs.Classing.{class_room}
-use Rattle.shm_alloc.specs.AllocControl.{class_asked, PointFits}
+use Rattle.shm_alloc.specs.AllocControl.{PointFits}
 use Rattle.shm_alloc.proofs.point.AllocState.ask_for_block.Goals as goal
 
 pub pack-requires : goal.pack-requires

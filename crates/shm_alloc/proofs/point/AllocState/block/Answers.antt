@@ -1,7 +1,7 @@
 use Rattle.std.proofs.Common.{arith, ◌≡◌, ◌+◌, ◌*◌}
 use Rattle.shm_words.proofs.Placing.{total_most}
-use Rattle.shm_alloc.specs.AllocControl.{class_asked, block_of}
-use Rattle.shm_alloc.proofs.BlockPlaces.{block_within}
+use Rattle.shm_alloc.specs.AllocControl.{block_of}
+use Rattle.shm_alloc.specs.BlockPlaces.{block_within}
 use Rattle.shm_alloc.proofs.point.AllocState.block.Goals as goal
 
 pub overflow_add-result : goal.overflow_add-result
