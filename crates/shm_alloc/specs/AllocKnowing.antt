@@ -1,7 +1,5 @@
 -- what the control of an allocation keeps in range, it keeps there
-use Rattle.std.proofs.Common.{◌≡◌, ℕ, ◌+◌, ◌-◌, ◌*◌, ◌/◌, ◌^◌, ◌<◌, ◌≤◌, ◌==◌, nat_lt, if◌then◌else◌, Bool, true, false, sym, subst, arith, inl, inr, refl}
-use Rattle.std.specs.Prelude.{Ok, Err}
-use Rattle.std.proofs.lemmas.Bool.{cases_Bool}
+use Rattle.std.proofs.Common.{◌≡◌, ℕ, ◌+◌, ◌-◌, ◌*◌, ◌/◌, ◌^◌, ◌<◌, ◌≤◌, ◌==◌, nat_lt, if◌then◌else◌, Bool, true, false, subst, arith, refl}
 use Rattle.std.proofs.lemmas.Bool.Decides.{nat_tests}
 use Rattle.shm_words.specs.Layout.{GeometryFits, total_of, bodies}
 use Rattle.shm_words.proofs.Classing.{class_is}
@@ -14,7 +12,7 @@ use Rattle.shm_alloc.specs.declared.point.AllocPoint.TheVariants.{Era, Root, Seg
 use Rattle.shm_alloc.specs.declared.point.AllocState.{AllocState}
 use Rattle.shm_alloc.specs.declared.point.Next.{Next}
 use Rattle.shm_alloc.specs.declared.point.Next.TheVariants.{Point, Answer}
-use Rattle.shm_alloc.specs.AllocControl.{class_asked, block_of, first_page, first_header, segment_over, segment_taken, page_over, era_next, root_next, segment_next, claim_next, page_next, header_used, header_next, plain_from, references_from, alloc_next_at, alloc_next, RequestFits, GoalFits, SearchFits, PointFits, AllocKnows}
+use Rattle.shm_alloc.specs.AllocControl.{class_asked, first_page, first_header, segment_over, segment_taken, page_over, era_next, root_next, segment_next, claim_next, page_next, header_next, plain_from, references_from, alloc_next_at, alloc_next, GoalFits, SearchFits, PointFits, AllocKnows}
 use Rattle.shm_alloc.specs.BlockPlaces.{block_within, blocks_most, blocks_least}
 
 -- where it goes on, the point is in range

@@ -1,6 +1,5 @@
 -- the laws of an allocation
-use Rattle.std.proofs.Common.{◌≡◌, ◌≢◌, ℕ, ◌+◌, ◌-◌, ◌*◌, ◌^◌, ◌/◌, ◌<◌, ◌≤◌, ◌==◌, nat_lt, if◌then◌else◌, Bool, true, false, refl, sym, subst, arith}
-use Rattle.std.specs.Prelude.{Ok, Err, Option, Some, None, Result}
+use Rattle.std.proofs.Common.{◌≡◌, ◌≢◌, ℕ, ◌+◌, ◌-◌, ◌^◌, ◌/◌, ◌<◌, ◌≤◌, ◌==◌, nat_lt, if◌then◌else◌, Bool, true, false, refl, arith}
 use Rattle.std.proofs.lemmas.Bool.{true≢false}
 use Rattle.std.proofs.lemmas.Bool.Decides.{nat_tests}
 use Rattle.shm_words.specs.declared.geometry.Geometry.{Geometry}
@@ -10,22 +9,19 @@ use Rattle.shm_words.specs.Layout.{GeometryFits, address, is_in, total_of, bodie
 use Rattle.shm_words.proofs.Classing.{class_room}
 use Rattle.shm_words.proofs.Placing.{address_below}
 use Rattle.shm_graph.specs.declared.ask.Me.{Me}
-use Rattle.shm_graph.specs.declared.memo.Memo.{Memo}
-use Rattle.shm_graph.specs.Asks.{Trail, at_of}
-use Rattle.shm_graph.specs.Laws.{Laws, Steady, Inside, Back, Stays, is_some}
-use Rattle.shm_count.specs.declared.answer.Made.{Made}
-use Rattle.shm_alloc.specs.declared.alloc.AllocFault.{AllocFault}
+use Rattle.shm_graph.specs.Asks.{at_of}
+use Rattle.shm_graph.specs.Laws.{Laws, Steady, Inside, Back, is_some}
 use Rattle.shm_alloc.specs.declared.point.Request.{Request}
 use Rattle.shm_alloc.specs.declared.point.Goal.{Goal}
 use Rattle.shm_alloc.specs.declared.point.Search.{Search}
 use Rattle.shm_alloc.specs.declared.point.AllocPoint.{AllocPoint}
 use Rattle.shm_alloc.specs.declared.point.AllocPoint.TheVariants.{Era, Root, Segment, Claim, Page, Class, Header, Tag, Reference, Plain, Redo, Commit, Slot, Close, Over}
-use Rattle.shm_alloc.specs.declared.point.AllocState.{AllocState}
 use Rattle.shm_alloc.specs.declared.point.Next.{Next}
 use Rattle.shm_alloc.specs.declared.point.Next.TheVariants.{Point, Answer}
-use Rattle.shm_alloc.specs.AllocControl.{class_asked, segment_over, page_over, plain_from, references_from, alloc_ask_at, alloc_next_at, alloc_next, point_of, answer_of, is_first, is_over, alloc_control, RequestFits, GoalFits, PointFits}
+use Rattle.shm_alloc.specs.AllocControl.{class_asked, segment_over, page_over, plain_from, references_from, alloc_ask_at, alloc_next_at, alloc_next, point_of, answer_of, is_first, is_over, alloc_control, RequestFits, PointFits}
 use Rattle.shm_alloc.specs.AllocFits.{AllocFits, AllocGives}
 use Rattle.shm_alloc.specs.BlockPlaces.{block_within}
+use Rattle.shm_alloc.specs.AllocKeeps.{alloc_keeps}
 
 -- ---- steady
 
@@ -141,3 +137,8 @@ alloc_inside m r0 r tr l fit going = ask_inside m.me m.request m.point fit.knows
 -- what an answer says, it says of the identity and of the request alone
 pub alloc_back : Back alloc_control AllocGives
 alloc_back m n going goes r0 r tr a g = record { holds = g.holds; trail = g.trail }
+
+-- ---- all
+
+pub alloc_laws : Laws alloc_control AllocFits AllocGives
+alloc_laws = record { steady = alloc_steady; inside = alloc_inside; back = alloc_back; keeps = alloc_keeps }

@@ -1,5 +1,5 @@
 -- where the blocks of a page lie
-use Rattle.std.proofs.Common.{◌≡◌, ℕ, ◌+◌, ◌*◌, ◌/◌, ◌<◌, ◌≤◌, sym, subst, arith, inl, inr}
+use Rattle.std.proofs.Common.{ℕ, ◌+◌, ◌*◌, ◌/◌, ◌<◌, ◌≤◌, sym, subst, arith, inl, inr}
 use Rattle.shm_words.specs.Layout.{address, total_of, bodies}
 use Rattle.shm_words.specs.Classes.{IsClass}
 use Rattle.shm_words.proofs.Classing.{class_is}

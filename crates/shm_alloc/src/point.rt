@@ -1,8 +1,11 @@
 //! The control of an allocation: which word it asks for, and where it goes by the word found.
 
-ghost use Rattle.std.specs.Prelude.{◌≡◌, ℕ, ◌+◌, ◌*◌, ◌<◌, ◌≤◌, ◌/◌, false};
-ghost use Rattle.shm_words.specs.Layout.{GeometryFits};
-ghost use Rattle.shm_alloc.specs.AllocControl.{class_asked, block_of, is_search, RequestFits, SearchFits, PointFits, AllocKnows};
+ghost use Rattle.std.specs.Prelude.{◌≡◌, ℕ, ◌+◌, ◌*◌, ◌^◌, ◌<◌, ◌≤◌, ◌/◌, false};
+ghost use Rattle.shm_words.specs.declared.place.Place.TheVariants as place;
+ghost use Rattle.shm_words.specs.declared.redo.Redo.TheVariants as redos;
+ghost use Rattle.shm_words.specs.Layout.{GeometryFits, address};
+ghost use Rattle.shm_words.specs.Redos.{redo_word};
+ghost use Rattle.shm_alloc.specs.AllocControl.{class_asked, header_made, block_of, is_search, RequestFits, SearchFits, PointFits, AllocKnows};
 ghost use Rattle.shm_alloc.specs.AllocControl as control;
 
 use crate::alloc::AllocFault;
@@ -254,22 +257,12 @@ impl AllocState {
             },
             AllocPoint::Redo { goal, block } => Ask::Store {
                 at: geometry.redo(who),
-                value: Redo::Up {
-                    slot: geometry.root(who, goal.root),
-                    block,
-                }
-                .pack(),
+                value: self.redo(goal, block),
             },
             AllocPoint::Commit { goal, block } => Ask::Exchange {
                 at: block,
                 from: 0,
-                to: Header {
-                    live: true,
-                    client: who,
-                    count: 1,
-                    era: goal.era,
-                }
-                .pack(),
+                to: self.header(goal),
             },
             AllocPoint::Slot { goal, block } => Ask::Store {
                 at: geometry.root(who, goal.root),
@@ -279,8 +272,36 @@ impl AllocState {
                 at: geometry.era(who, who),
                 value: goal.era + 1,
             },
-            _ => Ask::Load { at: 0 },
+            _ => Ask::Load { at: 0 }, // it has answered
         }
+    }
+
+    /// The redo record of the new block, which the root is to name.
+    fn redo(self, goal: Goal, block: u32) -> u64
+        requires geometry { GeometryFits self.me.geometry }
+        requires who { self.me.who < self.me.geometry.clients }
+        requires root { goal.root < 16 }
+        requires block { block < 2 ^ 20 }
+        ensures { result ≡ redo_word (redos.Up (address self.me.geometry (place.Root self.me.who goal.root)) block) }
+    {
+        let Me { geometry, who } = self.me;
+        let slot = geometry.root(who, goal.root);
+        Redo::Up { slot, block }.pack()
+    }
+
+    /// The header of the new block once it is live.
+    fn header(self, goal: Goal) -> u64
+        requires who { self.me.who < 16 }
+        requires era { goal.era < 2 ^ 47 }
+        ensures { result ≡ header_made self.me.who goal.era }
+    {
+        Header {
+            live: true,
+            client: self.me.who,
+            count: 1,
+            era: goal.era,
+        }
+        .pack()
     }
 
     /// Where it goes by the word that it found.
@@ -335,7 +356,7 @@ impl AllocState {
                 root: goal.root,
                 block,
             })),
-            point => Next::Point(point),
+            point => Next::Point(point), // it has answered
         }
     }
 
