@@ -2,7 +2,7 @@
 use Rattle.std.specs.Prelude.{◌≡◌, ℕ, ◌+◌, ◌-◌, ◌*◌, ◌/◌, ◌^◌, ◌<◌, ◌≤◌, Bool, true, false, ◌==◌, nat_lt, if◌then◌else◌, Option, Some, None, Result, Ok, Err, List, [], length, slice_index}
 use Rattle.shm_words.specs.declared.place.Place.TheVariants as place
 use Rattle.shm_words.specs.declared.redo.Redo.TheVariants as redos
-use Rattle.shm_words.specs.Layout.{GeometryFits, address, total_of}
+use Rattle.shm_words.specs.Layout.{GeometryFits, address, total_of, bodies}
 use Rattle.shm_words.specs.Classes.{class_for}
 use Rattle.shm_words.specs.Tags.{tag_word}
 use Rattle.shm_words.specs.Headers.{header_word}
@@ -152,6 +152,17 @@ abbrev pub is_first : AllocPoint → Bool
 is_first Era = true
 is_first p = false
 
+-- no free block is found yet
+abbrev pub is_search : AllocPoint → Bool
+is_search Era = true
+is_search (Root e k) = true
+is_search (Segment g s) = true
+is_search (Claim g s) = true
+is_search (Page g s p) = true
+is_search (Class g s p) = true
+is_search (Header g s p i) = true
+is_search p = false
+
 abbrev pub is_over : AllocPoint → Bool
 is_over Over = true
 is_over p = false
@@ -193,13 +204,13 @@ PointFits me q (Claim g s) = GoalFits g × SearchFits me s 0
 PointFits me q (Page g s p) = GoalFits g × SearchFits me s (32 * p) × (p < 16)
 PointFits me q (Class g s p) = GoalFits g × SearchFits me s (32 * p) × (p < 16)
 PointFits me q (Header g s p i) = GoalFits g × SearchFits me s (32 * p + i) × (p < 16) × (i < 128 / class_asked q)
-PointFits me q (Tag g b) = GoalFits g × (b + class_asked q ≤ total_of me.geometry)
-PointFits me q (Reference g b i) = GoalFits g × (b + class_asked q ≤ total_of me.geometry) × (i < q.refs)
-PointFits me q (Plain g b i) = GoalFits g × (b + class_asked q ≤ total_of me.geometry) × (i < q.count)
-PointFits me q (Redo g b) = GoalFits g × (b + class_asked q ≤ total_of me.geometry)
-PointFits me q (Commit g b) = GoalFits g × (b + class_asked q ≤ total_of me.geometry)
-PointFits me q (Slot g b) = GoalFits g × (b + class_asked q ≤ total_of me.geometry)
-PointFits me q (Close g b) = GoalFits g × (b + class_asked q ≤ total_of me.geometry)
+PointFits me q (Tag g b) = GoalFits g × (b + class_asked q ≤ total_of me.geometry) × (bodies me.geometry ≤ b)
+PointFits me q (Reference g b i) = GoalFits g × (b + class_asked q ≤ total_of me.geometry) × (i < q.refs) × (bodies me.geometry ≤ b)
+PointFits me q (Plain g b i) = GoalFits g × (b + class_asked q ≤ total_of me.geometry) × (i < q.count) × (bodies me.geometry ≤ b)
+PointFits me q (Redo g b) = GoalFits g × (b + class_asked q ≤ total_of me.geometry) × (bodies me.geometry ≤ b)
+PointFits me q (Commit g b) = GoalFits g × (b + class_asked q ≤ total_of me.geometry) × (bodies me.geometry ≤ b)
+PointFits me q (Slot g b) = GoalFits g × (b + class_asked q ≤ total_of me.geometry) × (bodies me.geometry ≤ b)
+PointFits me q (Close g b) = GoalFits g × (b + class_asked q ≤ total_of me.geometry) × (bodies me.geometry ≤ b)
 PointFits me q Over = Unit {0}
 
 pub record AllocKnows (m : AllocState) : Type 0 where

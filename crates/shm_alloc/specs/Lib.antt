@@ -7,3 +7,6 @@ pub mod AllocSearchPages
 pub mod AllocMaking
 pub mod AllocLive
 pub mod AllocGoing
+pub mod BlockPlaces
+pub mod AllocKnowing
+pub mod AllocLaws

@@ -16,7 +16,9 @@ use std::marker::Model;
 #[derive(Clone, Copy, Debug, PartialEq, Eq, Drop)]
 pub enum AllocFault {
     /// The own era that was read is above 2^47 - 3.
-    EraSpent { era: u64 },
+    EraSpent {
+        era: u64,
+    },
     /// All 16 own roots are set.
     RootsFull,
     /// Every segment is another's, or has no free block of the class and no page without a class.
@@ -62,10 +64,10 @@ impl Alloc {
     pub fn new(me: Me, refs: u8, plain: &[u64]) -> Result<Alloc, TooLarge>
         requires geometry { GeometryFits me.geometry }
         requires who { me.who < me.geometry.clients }
-        ensures refused { is_err result ≡ true ↔ ((16 < refs) ⊎ (8 < length plain)) }
-        ensures fault { IfErr result (λ e. e ≡ record { refs = refs; plain = length plain }) }
+        ensures refused { is_err result ≡ true ↔ ((16 < refs) ⊎ (8 < length plain.now)) }
+        ensures fault { IfErr result (λ e. e ≡ record { refs = refs; plain = length plain.now }) }
         ensures fresh { IfOk result (λ m. (m.me ≡ me) × (m.point ≡ Era)) }
-        ensures request { IfOk result (λ m. (m.request.refs ≡ refs) × (m.request.count ≡ length plain) × (take (length plain) m.request.plain ≡ plain)) }
+        ensures request { IfOk result (λ m. (m.request.refs ≡ refs) × (m.request.count ≡ length plain.now) × (take (length plain.now) m.request.plain ≡ plain.now)) }
     {
         if refs > 16 || plain.len() > 8 {
             let plain = plain.len();

@@ -1,8 +1,11 @@
 //! The control of an allocation: which word it asks for, and where it goes by the word found.
 
-ghost use Rattle.std.specs.Prelude.{◌≡◌, ◌<◌, ◌≤◌, ◌/◌};
-ghost use Rattle.shm_words.specs.Layout.{GeometryFits};
-ghost use Rattle.shm_alloc.specs.AllocControl.{class_asked, block_of, RequestFits, PointFits, AllocKnows};
+ghost use Rattle.std.specs.Prelude.{◌≡◌, ℕ, ◌+◌, ◌*◌, ◌^◌, ◌<◌, ◌≤◌, ◌/◌, false};
+ghost use Rattle.shm_words.specs.declared.place.Place.TheVariants as place;
+ghost use Rattle.shm_words.specs.declared.redo.Redo.TheVariants as redos;
+ghost use Rattle.shm_words.specs.Layout.{GeometryFits, address};
+ghost use Rattle.shm_words.specs.Redos.{redo_word};
+ghost use Rattle.shm_alloc.specs.AllocControl.{class_asked, header_made, block_of, is_search, RequestFits, SearchFits, PointFits, AllocKnows};
 ghost use Rattle.shm_alloc.specs.AllocControl as control;
 
 use crate::alloc::AllocFault;
@@ -45,11 +48,20 @@ pub enum AllocPoint {
     /// Load the own era.
     Era,
     /// Load a root.
-    Root { era: u64, root: u8 },
+    Root {
+        era: u64,
+        root: u8,
+    },
     /// Load the owner of a segment.
-    Segment { goal: Goal, search: Search },
+    Segment {
+        goal: Goal,
+        search: Search,
+    },
     /// Claim a segment that is nobody's.
-    Claim { goal: Goal, search: Search },
+    Claim {
+        goal: Goal,
+        search: Search,
+    },
     /// Load the class of a page.
     Page {
         goal: Goal,
@@ -70,19 +82,42 @@ pub enum AllocPoint {
         index: u8,
     },
     /// Store the tag.
-    Tag { goal: Goal, block: u32 },
+    Tag {
+        goal: Goal,
+        block: u32,
+    },
     /// Store 0 into a reference word.
-    Reference { goal: Goal, block: u32, index: u8 },
+    Reference {
+        goal: Goal,
+        block: u32,
+        index: u8,
+    },
     /// Store a plain word.
-    Plain { goal: Goal, block: u32, index: u8 },
+    Plain {
+        goal: Goal,
+        block: u32,
+        index: u8,
+    },
     /// Store the redo record.
-    Redo { goal: Goal, block: u32 },
+    Redo {
+        goal: Goal,
+        block: u32,
+    },
     /// Make the block live.
-    Commit { goal: Goal, block: u32 },
+    Commit {
+        goal: Goal,
+        block: u32,
+    },
     /// Store the root.
-    Slot { goal: Goal, block: u32 },
+    Slot {
+        goal: Goal,
+        block: u32,
+    },
     /// Store the next own era.
-    Close { goal: Goal, block: u32 },
+    Close {
+        goal: Goal,
+        block: u32,
+    },
     /// It has answered.
     Over,
 }
@@ -112,7 +147,9 @@ impl Request {
     }
 
     /// The tag of the new block.
-    fn tag(self, author: u8) -> Tag {
+    fn tag(self, author: u8) -> Tag
+        ensures { result ≡ record { refs = self.refs; plain = self.count; author = author; link = 0 } }
+    {
         Tag {
             refs: self.refs,
             plain: self.count,
@@ -194,13 +231,16 @@ impl AllocState {
             } => Ask::Load {
                 at: self.block(search, page, index),
             },
-            AllocPoint::Over => Ask::Load { at: 0 },
             _ => self.ask_for_block(),
         }
     }
 
     /// The word step that comes next once a free block is found.
-    fn ask_for_block(self) -> Ask {
+    fn ask_for_block(self) -> Ask
+        requires knows { AllocKnows self }
+        requires found { is_search self.point ≡ false }
+        ensures { result ≡ control.alloc_ask self }
+    {
         let Me { geometry, who } = self.me;
         match self.point {
             AllocPoint::Tag { block, .. } => Ask::Store {
@@ -217,22 +257,12 @@ impl AllocState {
             },
             AllocPoint::Redo { goal, block } => Ask::Store {
                 at: geometry.redo(who),
-                value: Redo::Up {
-                    slot: geometry.root(who, goal.root),
-                    block,
-                }
-                .pack(),
+                value: self.redo(goal, block),
             },
             AllocPoint::Commit { goal, block } => Ask::Exchange {
                 at: block,
                 from: 0,
-                to: Header {
-                    live: true,
-                    client: who,
-                    count: 1,
-                    era: goal.era,
-                }
-                .pack(),
+                to: self.header(goal),
             },
             AllocPoint::Slot { goal, block } => Ask::Store {
                 at: geometry.root(who, goal.root),
@@ -242,8 +272,36 @@ impl AllocState {
                 at: geometry.era(who, who),
                 value: goal.era + 1,
             },
-            _ => Ask::Load { at: 0 },
+            _ => Ask::Load { at: 0 }, // it has answered
         }
+    }
+
+    /// The redo record of the new block, which the root is to name.
+    fn redo(self, goal: Goal, block: u32) -> u64
+        requires geometry { GeometryFits self.me.geometry }
+        requires who { self.me.who < self.me.geometry.clients }
+        requires root { goal.root < 16 }
+        requires block { block < 2 ^ 20 }
+        ensures { result ≡ redo_word (redos.Up (address self.me.geometry (place.Root self.me.who goal.root)) block) }
+    {
+        let Me { geometry, who } = self.me;
+        let slot = geometry.root(who, goal.root);
+        Redo::Up { slot, block }.pack()
+    }
+
+    /// The header of the new block once it is live.
+    fn header(self, goal: Goal) -> u64
+        requires who { self.me.who < 16 }
+        requires era { goal.era < 2 ^ 47 }
+        ensures { result ≡ header_made self.me.who goal.era }
+    {
+        Header {
+            live: true,
+            client: self.me.who,
+            count: 1,
+            era: goal.era,
+        }
+        .pack()
     }
 
     /// Where it goes by the word that it found.
@@ -275,7 +333,11 @@ impl AllocState {
     }
 
     /// Where it goes once a free block is found.
-    fn next_of_block(self) -> Next {
+    fn next_of_block(self) -> Next
+        requires knows { AllocKnows self }
+        requires found { is_search self.point ≡ false }
+        ensures { (n : ℕ) → result ≡ control.alloc_next self n }
+    {
         let request = self.request;
         match self.point {
             AllocPoint::Tag { goal, block } => {
@@ -294,11 +356,16 @@ impl AllocState {
                 root: goal.root,
                 block,
             })),
-            point => Next::Point(point),
+            point => Next::Point(point), // it has answered
         }
     }
 
-    fn segment_next(self, goal: Goal, search: Search, seen: u64) -> Next {
+    /// Where it goes by the owner of a segment.
+    fn segment_next(self, goal: Goal, search: Search, seen: u64) -> Next
+        requires geometry { GeometryFits self.me.geometry }
+        requires search { SearchFits self.me search 0 }
+        ensures { result ≡ control.segment_next self.me goal search seen }
+    {
         if seen == 0 {
             Next::Point(AllocPoint::Claim { goal, search })
         } else if seen == u64::from(self.me.who) + 1 {
@@ -308,7 +375,13 @@ impl AllocState {
         }
     }
 
-    fn page_next(self, goal: Goal, search: Search, page: u8, seen: u64) -> Next {
+    /// Where it goes by the class of a page.
+    fn page_next(self, goal: Goal, search: Search, page: u8, seen: u64) -> Next
+        requires geometry { GeometryFits self.me.geometry }
+        requires request { RequestFits self.request }
+        requires segment { search.segment < self.me.geometry.segments }
+        ensures { result ≡ control.page_next self.me self.request goal search page seen }
+    {
         if seen == 0 {
             Next::Point(AllocPoint::Class { goal, search, page })
         } else if seen == u64::from(self.request.class()) {
@@ -318,7 +391,15 @@ impl AllocState {
         }
     }
 
-    fn header_next(self, goal: Goal, search: Search, page: u8, index: u8, seen: u64) -> Next {
+    /// Where it goes by the header of a block.
+    fn header_next(self, goal: Goal, search: Search, page: u8, index: u8, seen: u64) -> Next
+        requires geometry { GeometryFits self.me.geometry }
+        requires request { RequestFits self.request }
+        requires search { SearchFits self.me search (32 * page + index) }
+        requires page { page < 16 }
+        requires index { index < 128 / class_asked self.request }
+        ensures { result ≡ control.header_next self.me self.request goal search page index seen }
+    {
         if seen == 0 {
             let block = self.block(search, page, index);
             return Next::Point(AllocPoint::Tag { goal, block });
@@ -340,7 +421,11 @@ impl AllocState {
     }
 
     /// The page has no free block of the class.
-    fn page_over(self, goal: Goal, search: Search, page: u8) -> Next {
+    fn page_over(self, goal: Goal, search: Search, page: u8) -> Next
+        requires geometry { GeometryFits self.me.geometry }
+        requires segment { search.segment < self.me.geometry.segments }
+        ensures { result ≡ control.page_over self.me goal search page }
+    {
         if page < 15 {
             let page = page + 1;
             Next::Point(AllocPoint::Page { goal, search, page })
@@ -350,13 +435,22 @@ impl AllocState {
     }
 
     /// The segment is another's.
-    fn taken(self, goal: Goal, search: Search) -> Next {
+    fn taken(self, goal: Goal, search: Search) -> Next
+        requires geometry { GeometryFits self.me.geometry }
+        requires segment { search.segment < self.me.geometry.segments }
+        requires taken { search.taken ≤ search.segment }
+        ensures { result ≡ control.segment_taken self.me goal search }
+    {
         let taken = search.taken + 1;
         self.segment_over(goal, Search { taken, ..search })
     }
 
     /// The segment has no free block of the class.
-    fn segment_over(self, goal: Goal, search: Search) -> Next {
+    fn segment_over(self, goal: Goal, search: Search) -> Next
+        requires geometry { GeometryFits self.me.geometry }
+        requires segment { search.segment < self.me.geometry.segments }
+        ensures { result ≡ control.segment_over self.me goal search }
+    {
         let segment = search.segment + 1;
         if segment < self.me.geometry.segments() {
             let search = Search { segment, ..search };
@@ -370,7 +464,10 @@ impl AllocState {
     }
 }
 
-fn era_next(seen: u64) -> Next {
+/// Where it goes by the own era.
+fn era_next(seen: u64) -> Next
+    ensures { result ≡ control.era_next seen }
+{
     if seen > (1 << 47) - 3 {
         Next::Answer(Err(AllocFault::EraSpent { era: seen }))
     } else {
@@ -378,7 +475,10 @@ fn era_next(seen: u64) -> Next {
     }
 }
 
-fn root_next(era: u64, root: u8, seen: u64) -> Next {
+/// Where it goes by a root.
+fn root_next(era: u64, root: u8, seen: u64) -> Next
+    ensures { result ≡ control.root_next era root seen }
+{
     if seen == 0 {
         Next::Point(AllocPoint::Segment {
             goal: Goal { era, root },
@@ -396,7 +496,10 @@ fn root_next(era: u64, root: u8, seen: u64) -> Next {
     }
 }
 
-fn first_page(goal: Goal, search: Search) -> Next {
+/// The first page of an own segment.
+fn first_page(goal: Goal, search: Search) -> Next
+    ensures { result ≡ control.first_page goal search }
+{
     Next::Point(AllocPoint::Page {
         goal,
         search,
@@ -404,7 +507,10 @@ fn first_page(goal: Goal, search: Search) -> Next {
     })
 }
 
-fn first_header(goal: Goal, search: Search, page: u8) -> Next {
+/// The first header of a page of the class.
+fn first_header(goal: Goal, search: Search, page: u8) -> Next
+    ensures { result ≡ control.first_header goal search page }
+{
     Next::Point(AllocPoint::Header {
         goal,
         search,

@@ -13,7 +13,11 @@ fn too_large_requests_are_refused(rt: HostRuntime) -> Result<(), Fail> {
     let rows = [(16, 8, false), (17, 0, true), (0, 9, true), (0, 0, false)];
     for (refs, plain, refused) in rows {
         let made = Alloc::new(me, refs, &words[..plain]);
-        assert_eq!(rt; made.err() == Some(TooLarge { refs, plain }), refused, "{refs} {plain}");
+        assert_eq!(rt;
+            made.err() == Some(TooLarge { refs, plain }),
+            refused,
+            "{refs} {plain}"
+        );
     }
     Ok(())
 }
