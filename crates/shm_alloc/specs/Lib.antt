@@ -9,4 +9,5 @@ pub mod AllocLive
 pub mod AllocGoing
 pub mod BlockPlaces
 pub mod AllocKnowing
+pub mod AllocKeeps
 pub mod AllocLaws
