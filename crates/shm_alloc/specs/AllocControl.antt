@@ -184,6 +184,7 @@ alloc_control =
 pub record RequestFits (q : Request) : Type 0 where
   pub refs : q.refs ≤ 16
   pub count : q.count ≤ 8
+  pub small : (i : ℕ) → slice_index q.plain i < 2 ^ 64
 
 pub record GoalFits (g : Goal) : Type 0 where
   pub era : g.era + 3 ≤ 2 ^ 47
