@@ -13,7 +13,7 @@ use Rattle.shm_alloc.specs.declared.point.AllocState.{AllocState}
 use Rattle.shm_alloc.specs.declared.point.Next.{Next}
 use Rattle.shm_alloc.specs.declared.point.Next.TheVariants.{Point, Answer}
 use Rattle.shm_alloc.specs.AllocControl.{class_asked, first_page, first_header, segment_over, segment_taken, page_over, era_next, root_next, segment_next, claim_next, page_next, header_next, plain_from, references_from, alloc_next_at, alloc_next, GoalFits, SearchFits, PointFits, AllocKnows}
-use Rattle.shm_alloc.specs.BlockPlaces.{block_within, blocks_most, blocks_least}
+use Rattle.shm_alloc.specs.BlockPlaces.{block_of_within, blocks_most, blocks_least}
 
 -- where it goes on, the point is in range
 abbrev NextFits : Me → Request → Next → Type 0
@@ -81,7 +81,7 @@ header_fits : (me : Me) (q : Request) (g : Goal) (s : Search) (p i n : ℕ) → 
 header_fits me q g s p i n h =
     let u = h.1.used in
     let m = blocks_most (class_asked q) i (class_is q.refs q.count) h.3 in
-    let b = block_within me q s p i h.1.segment h.2 h.3 in
+    let b = block_of_within me q s p i h.1.segment h.2 h.3 in
     let t : Search = record s { used = s.used + 1 } in
     chosen me q (n == 0) _ _ (λ e. (h.0, b.0, b.1))
     (λ e. chosen me q (nat_lt (i + 1) (128 / class_asked q)) _ _

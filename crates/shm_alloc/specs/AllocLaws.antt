@@ -20,7 +20,7 @@ use Rattle.shm_alloc.specs.declared.point.Next.{Next}
 use Rattle.shm_alloc.specs.declared.point.Next.TheVariants.{Point, Answer}
 use Rattle.shm_alloc.specs.AllocControl.{class_asked, segment_over, page_over, plain_from, references_from, alloc_ask_at, alloc_next_at, alloc_next, point_of, answer_of, is_first, is_over, alloc_control, RequestFits, PointFits}
 use Rattle.shm_alloc.specs.AllocFits.{AllocFits, AllocGives}
-use Rattle.shm_alloc.specs.BlockPlaces.{block_within}
+use Rattle.shm_alloc.specs.BlockPlaces.{block_of_within}
 use Rattle.shm_alloc.specs.AllocKeeps.{alloc_keeps}
 
 -- ---- steady
@@ -117,7 +117,7 @@ ask_inside me q (Claim g s) f l r h e = let z = h.1.segment in place_inside me.g
 ask_inside me q (Page g s p) f l r h e = let y = h.1.segment in let z = h.2 in place_inside me.geometry (place.Page s.segment p) f (grind (arith, nat_tests)) (λ z. cc)
 ask_inside me q (Class g s p) f l r h e = let y = h.1.segment in let z = h.2 in place_inside me.geometry (place.Page s.segment p) f (grind (arith, nat_tests)) (λ z. cc)
 ask_inside me q (Header g s p i) f l r h e =
-    let b = block_within me q s p i h.1.segment h.2 h.3 in
+    let b = block_of_within me q s p i h.1.segment h.2 h.3 in
     let k = class_room q.refs q.count r.refs r.count in
     (omega arith, omega arith)
 ask_inside me q (Tag g b) f l r h e = word_inside me q b 1 r h.1 h.2 (omega arith)

@@ -30,9 +30,9 @@ blocks_least k (inr (inr (inl e))) = subst (λ n. 0 < 128 / n) (sym e) (omega ar
 blocks_least k (inr (inr (inr e))) = subst (λ n. 0 < 128 / n) (sym e) (omega arith)
 
 -- each block of a page lies in the bodies of the pool
-pub block_within : (me : Me) (q : Request) (s : Search) (p i : ℕ) → s.segment < me.geometry.segments → p < 16 → i < 128 / class_asked q
+pub block_of_within : (me : Me) (q : Request) (s : Search) (p i : ℕ) → s.segment < me.geometry.segments → p < 16 → i < 128 / class_asked q
     → (block_of me q s p i + class_asked q ≤ total_of me.geometry) × (bodies me.geometry ≤ block_of me q s p i)
 unfolding address
-block_within me q s p i l m n =
+block_of_within me q s p i l m n =
     let r = room_in_page (class_asked q) i (class_is q.refs q.count) n in
     (omega arith, omega arith)

@@ -1,13 +1,13 @@
 use Rattle.std.proofs.Common.{arith, ◌≡◌, ◌+◌, ◌*◌}
 use Rattle.shm_words.proofs.Placing.{total_most}
 use Rattle.shm_alloc.specs.AllocControl.{block_of}
-use Rattle.shm_alloc.specs.BlockPlaces.{block_within}
+use Rattle.shm_alloc.specs.BlockPlaces.{block_of_within}
 use Rattle.shm_alloc.proofs.point.AllocState.block.Goals as goal
 
 pub overflow_add-result : goal.overflow_add-result
 overflow_add-result c =
     let me = c.args.self.me in
-    let b = block_within me c.args.self.request c.args.search c.args.page c.args.index c.requires.segment c.requires.page c.requires.index in
+    let b = block_of_within me c.args.self.request c.args.search c.args.page c.args.index c.requires.segment c.requires.page c.requires.index in
     let t = total_most me.geometry c.requires.geometry in
     let e : c.body.result + c.from.result * c.from-2.result ≡ block_of me c.args.self.request c.args.search c.args.page c.args.index = grind arith in
     omega arith
