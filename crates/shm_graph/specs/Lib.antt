@@ -23,4 +23,5 @@ pub mod Whole
 pub mod Sound
 pub mod CallEvents
 pub mod Trails
+pub mod Tells
 pub mod Idle
