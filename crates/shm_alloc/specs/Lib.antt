@@ -1,5 +1,6 @@
 pub mod AllocControl
 pub mod AllocTrail
+pub mod AllocEvents
 pub mod AllocFits
 pub mod AllocSearch
 pub mod AllocSearchSegments
@@ -9,5 +10,6 @@ pub mod AllocLive
 pub mod AllocGoing
 pub mod BlockPlaces
 pub mod AllocKnowing
+pub mod AllocTells
 pub mod AllocKeeps
 pub mod AllocLaws
