@@ -2,3 +2,4 @@ pub mod AllocControl
 pub mod AllocTrail
 pub mod AllocFits
 pub mod AllocGoing
+pub mod AllocCounts
