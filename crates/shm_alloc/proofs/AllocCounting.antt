@@ -1,12 +1,12 @@
 -- an allocation that finds no free block answers how many segments of others and how many blocks in use its trail shows
-use Rattle.std.proofs.Common.{◌≡◌, ℕ, zero, suc, ◌+◌, ◌-◌, ◌*◌, ◌/◌, ◌^◌, ◌<◌, ◌≤◌, refl, sym, ap, ◌∙◌, subst, arith, inl, inr, Bool, true, false, []}
+use Rattle.std.proofs.Common.{◌≡◌, ℕ, zero, suc, ◌+◌, ◌-◌, ◌*◌, ◌/◌, ◌^◌, ◌<◌, ◌≤◌, refl, sym, ap, ◌∙◌, subst, arith, inl, inr, Bool, true, false}
 use Rattle.std.specs.Prelude.{◌==◌, nat_lt, if◌then◌else◌, Result, Ok, Err, slice_index}
 use Rattle.std.proofs.lemmas.Bool.{lt-ltb}
 use Rattle.std.proofs.lemmas.Bool.Decides.{nat_tests}
 use Rattle.shm_words.specs.declared.place.Place.{Place}
 use Rattle.shm_words.specs.declared.place.Place.TheVariants as place
 use Rattle.shm_words.specs.declared.redo.Redo.TheVariants as redos
-use Rattle.shm_words.specs.Layout.{GeometryFits, address, place_at, is_in}
+use Rattle.shm_words.specs.Layout.{address, place_at, is_in}
 use Rattle.shm_words.specs.Redos.{redo_word}
 use Rattle.shm_words.specs.Classes.{IsClass}
 use Rattle.shm_words.proofs.Classing.{class_is}
@@ -19,7 +19,7 @@ use Rattle.shm_graph.specs.Asks.{Trail, pair}
 use Rattle.shm_graph.specs.Trails.{Answers, Asked, Chosen}
 use Rattle.shm_count.specs.declared.answer.Made.{Made}
 use Rattle.shm_alloc.specs.declared.alloc.AllocFault.{AllocFault}
-use Rattle.shm_alloc.specs.declared.alloc.AllocFault.TheVariants.{EraSpent, RootsFull, Full}
+use Rattle.shm_alloc.specs.declared.alloc.AllocFault.TheVariants.{EraSpent, Full}
 use Rattle.shm_alloc.specs.declared.point.Request.{Request}
 use Rattle.shm_alloc.specs.AllocControl.{class_asked, tag_asked, header_made}
 use Rattle.shm_alloc.specs.AllocTrail.{AllocTrails, alloc_trail, root_trail, segment_trail, page_trail, header_trail, headers_trail, class_trail, block_trail, reference_trail, plain_trail, live_trail, commit_trail, slot_trail, close_trail}
@@ -30,6 +30,7 @@ abbrev pub Tells : Result Made AllocFault → ℕ → ℕ → Type 0
 Tells (Err (Full taken used)) t u = (taken ≡ t) × (used ≡ u)
 Tells _ t u = Unit {0}
 
+-- the same numbers, told otherwise
 tells_same : (a : Result Made AllocFault) (t t2 u u2 : ℕ) → t ≡ t2 → u ≡ u2 → Tells a t u → Tells a t2 u2
 tells_same a t t2 u u2 e f k = subst (λ (x : ℕ). Tells a x u2) e (subst (λ (x : ℕ). Tells a t x) f k)
 
@@ -38,11 +39,13 @@ module _ (me : Me) where
   abbrev Counts : AllocTrails → ℕ → ℕ → Type 0
   Counts f t u = (tr : Trail) (a : Result Made AllocFault) → f tr a → Tells a (t + taken_in me tr) (u + used_in me tr)
 
+  -- the answer itself, where nothing is asked any more
   counts_full : (t u : ℕ) → Counts (Answers (Err (Full t u))) t u
   counts_full t u tr a k =
       subst (λ (x : Trail). Tells a (t + taken_in me x) (u + used_in me x)) (sym k.0)
       (subst (λ (b : Result Made AllocFault). Tells b (t + 0) (u + 0)) k.1 (omega arith, omega arith))
 
+  -- one pair, and what follows after what it shows
   counts_asked : (k : Ask) (next : ℕ → AllocTrails) (t u : ℕ) → ((n : ℕ) → Counts (next n) (t + taken_by me k n) (u + used_by me k n)) → Counts (Asked k next) t u
   counts_asked k next t u s tr a h =
       let n = h.0 in let rest = h.1.0 in
@@ -53,39 +56,49 @@ module _ (me : Me) where
   counts_at : (f : AllocTrails) (t x u y t2 u2 : ℕ) → t + x ≡ t2 → u + y ≡ u2 → Counts f t2 u2 → Counts f (t + x) (u + y)
   counts_at f t x u y t2 u2 e d s tr a h = tells_same a (t2 + taken_in me tr) (t + x + taken_in me tr) (u2 + used_in me tr) (u + y + used_in me tr) (omega arith) (omega arith) (s tr a h)
 
+  -- the choice between two kinds of trails
   counts_chosen : (b : Bool) (f g : AllocTrails) (t u : ℕ) → (b ≡ true → Counts f t u) → (b ≡ false → Counts g t u) → Counts (Chosen b f g) t u
   counts_chosen true f g t u one other = one refl
   counts_chosen false f g t u one other = other refl
 
   -- ---- the making of a block answers no such numbers
 
+  -- whatever was counted before, the trails answer no other numbers: they answer none
   abbrev Never : AllocTrails → Type 0
   Never f = (t u : ℕ) → Counts f t u
 
+  -- one pair, and what follows
   never_asked : (k : Ask) (next : ℕ → AllocTrails) → ((n : ℕ) → Never (next n)) → Never (Asked k next)
   never_asked k next s t u = counts_asked k next t u (λ n. s n (t + taken_by me k n) (u + used_by me k n))
 
   module _ (q : Request) where
+    -- the own era is the last word
     close_never : (e k b : ℕ) → Never (close_trail me q e k b)
     close_never e k b = never_asked (Store (address me.geometry (place.Era me.who me.who)) (e + 1)) (λ _. Answers (Ok (record { root = k; block = b }))) (λ _ t u tr a h. subst (λ (x : Result Made AllocFault). Tells x (t + taken_in me tr) (u + used_in me tr)) h.1 tt)
 
+    -- the root
     slot_never : (e k b : ℕ) → Never (slot_trail me q e k b)
     slot_never e k b = never_asked (Store (address me.geometry (place.Root me.who k)) b) (λ _. close_trail me q e k b) (λ _. close_never e k b)
 
+    -- the header
     commit_never : (e k b : ℕ) → Never (commit_trail me q e k b)
     commit_never e k b = never_asked (Exchange b 0 (header_made me.who e)) (λ _. slot_trail me q e k b) (λ _. slot_never e k b)
 
+    -- the redo record
     live_never : (e k b : ℕ) → Never (live_trail me q e k b)
     live_never e k b = never_asked (Store (address me.geometry (place.Redo me.who)) (redo_word (redos.Up (address me.geometry (place.Root me.who k)) b))) (λ _. commit_trail me q e k b) (λ _. commit_never e k b)
 
+    -- the plain words
     plain_never : (n i e k b : ℕ) → Never (plain_trail me q n i e k b)
     plain_never zero i e k b = live_never e k b
     plain_never (suc n) i e k b = never_asked (Store (b + 2 + q.refs + i) (slice_index q.plain i)) (λ _. plain_trail me q n (i + 1) e k b) (λ _. plain_never n (i + 1) e k b)
 
+    -- the reference words
     reference_never : (n i e k b : ℕ) → Never (reference_trail me q n i e k b)
     reference_never zero i e k b = plain_never q.count 0 e k b
     reference_never (suc n) i e k b = never_asked (Store (b + 2 + i) 0) (λ _. reference_trail me q n (i + 1) e k b) (λ _. reference_never n (i + 1) e k b)
 
+    -- the tag
     block_never : (e k b : ℕ) → Never (block_trail me q e k b)
     block_never e k b = never_asked (Store (b + 1) (tag_asked q me.who)) (λ _. reference_trail me q q.refs 0 e k b) (λ _. reference_never q.refs 0 e k b)
 
@@ -103,34 +116,40 @@ block_within k i (inr (inl e)) = subst (λ (x : ℕ). i < 128 / x → x * i < 12
 block_within k i (inr (inr (inl e))) = subst (λ (x : ℕ). i < 128 / x → x * i < 128) (sym e) (λ l. omega arith)
 block_within k i (inr (inr (inr e))) = subst (λ (x : ℕ). i < 128 / x → x * i < 128) (sym e) (λ l. omega arith)
 
--- where a test is decided
+-- where a test is true
 if_true : (b : Bool) (x y : ℕ) → b ≡ true → (if b then x else y) ≡ x
 if_true b x y e = ap (λ (c : Bool). if c then x else y) e
 
+-- where a test is false
 if_false : (b : Bool) (x y : ℕ) → b ≡ false → (if b then x else y) ≡ y
 if_false b x y e = ap (λ (c : Bool). if c then x else y) e
 
 -- a load, or an exchange, at a place counts what such a place counts
 module _ (me : Me) (at : ℕ) (q : Place) (e : place_at me.geometry at ≡ q) where
+  -- what a load shows of the owner of a segment
   load_takes : (n : ℕ) → taken_by me (Load at) n ≡ load_taken me.who q n
   load_takes n = ap (λ (x : Place). load_taken me.who x n) e
 
+  -- what a load shows of a block
   load_uses : (n : ℕ) → used_by me (Load at) n ≡ load_used q n
   load_uses n = ap (λ (x : Place). load_used x n) e
 
+  -- what an exchange shows of the owner of a segment
   claim_takes : (from to n : ℕ) → taken_by me (Exchange at from to) n ≡ claim_taken q n
   claim_takes from to n = ap (λ (x : Place). claim_taken x n) e
 
--- t with nothing, or with one, more
+-- nothing is added
 with_none : (t x : ℕ) → x ≡ 0 → t + x ≡ t
 with_none t x e = omega arith
 
+-- one is added
 with_one : (t x : ℕ) → x ≡ 1 → t + x ≡ t + 1
 with_one t x e = omega arith
 
 -- ---- the search counts as it goes
 
-module _ (me : Me) (q : Request) (fits : GeometryFits me.geometry) (who : me.who < me.geometry.clients) where
+module _ (me : Me) (q : Request) (who : me.who < me.geometry.clients) where
+  -- the headers of a page from block i on: each that isn't free counts
   counts_header : (n i s p e k t u : ℕ) (rest : ℕ → AllocTrails) → s < me.geometry.segments → p < 16 → i + n ≤ 128 / class_asked q → ((x : ℕ) → Counts me (rest x) t x)
       → Counts me (header_trail me q n i (address me.geometry (place.Body s p 0)) e k u rest) t u
   counts_header zero i s p e k t u rest l m w c = c u
@@ -147,18 +166,21 @@ module _ (me : Me) (q : Request) (fits : GeometryFits me.geometry) (who : me.who
       (with_one u (used_by me (Load at) x) (load_uses me at (place.Body s p (class_asked q * i)) there x ∙ if_false (x == 0) 0 1 z))
       (counts_header n (i + 1) s p e k t (u + 1) rest l m (omega arith) c)))
 
+  -- all headers of a page
   counts_headers : (s p e k t u : ℕ) (rest : ℕ → AllocTrails) → s < me.geometry.segments → p < 16 → ((x : ℕ) → Counts me (rest x) t x) → Counts me (headers_trail me q s p e k u rest) t u
   counts_headers s p e k t u rest l m c = counts_header (128 / class_asked q) 0 s p e k t u rest l m (omega arith) c
 
-  -- a store counts nothing
+  -- the store of a class counts nothing
   counts_class : (s p e k t u : ℕ) (rest : ℕ → AllocTrails) → s < me.geometry.segments → p < 16 → ((x : ℕ) → Counts me (rest x) t x) → Counts me (class_trail me q s p e k u rest) t u
   counts_class s p e k t u rest l m c =
       counts_asked me (Store (address me.geometry (place.Page s p)) (class_asked q)) (λ _. headers_trail me q s p e k u rest) t u
       (λ x. counts_at me (headers_trail me q s p e k u rest) t 0 u 0 t u (omega arith) (omega arith) (counts_headers s p e k t u rest l m c))
 
+  -- the pool has the page
   page_in : (s p : ℕ) → s < me.geometry.segments → p < 16 → is_in me.geometry (place.Page s p) ≡ true
   page_in s p l m = grind (arith, nat_tests)
 
+  -- the pages of a segment from page p on: their words count nothing
   counts_page : (n p s e k t u : ℕ) (rest : ℕ → AllocTrails) → s < me.geometry.segments → p + n ≤ 16 → ((x : ℕ) → Counts me (rest x) t x) → Counts me (page_trail me q n p s e k u rest) t u
   counts_page zero p s e k t u rest l m c = c u
   counts_page (suc n) p s e k t u rest l m c =
@@ -174,6 +196,7 @@ module _ (me : Me) (q : Request) (fits : GeometryFits me.geometry) (who : me.who
       (counts_chosen me (x == 0) classed (Chosen (x == class_asked q) headed (after u)) t u (λ z. counts_class s p e k t u after l (omega arith) short)
       (λ z. counts_chosen me (x == class_asked q) headed (after u) t u (λ y. counts_headers s p e k t u after l (omega arith) short) (λ y. short u))))
 
+  -- the pool has the segment
   segment_in : (s : ℕ) → s < me.geometry.segments → is_in me.geometry (place.Segment s) ≡ true
   segment_in s l = lt-ltb s me.geometry.segments l
 
@@ -208,6 +231,7 @@ module _ (me : Me) (q : Request) (fits : GeometryFits me.geometry) (who : me.who
       (λ y. counts_at me own t more u uses t u (with_none t more (tells x ∙ (if_false (x == 0) 0 inner z ∙ if_true (x == me.who + 1) 0 1 y))) (none x) c)
       (λ y. counts_at me other t more u uses (t + 1) u (with_one t more (tells x ∙ (if_false (x == 0) 0 inner z ∙ if_false (x == me.who + 1) 0 1 y))) (none x) d)))
 
+  -- the segments from segment s on
   counts_segment : (n s e k t u : ℕ) → s + n ≤ me.geometry.segments → Counts me (segment_trail me q n s e k t u) t u
   counts_segment zero s e k t u l = counts_full me t u
   counts_segment (suc n) s e k t u l =
@@ -220,9 +244,11 @@ module _ (me : Me) (q : Request) (fits : GeometryFits me.geometry) (who : me.who
 
   -- ---- the own era and the roots count nothing
 
+  -- the pool has the root
   root_in : (k : ℕ) → k < 16 → is_in me.geometry (place.Root me.who k) ≡ true
   root_in k l = grind (arith, nat_tests)
 
+  -- the roots from root k on
   counts_root : (n k e : ℕ) → k + n ≤ 16 → Counts me (root_trail me q n k e) 0 0
   counts_root zero k e l = λ tr a h. subst (λ (x : Result Made AllocFault). Tells x (0 + taken_in me tr) (0 + used_in me tr)) h.1 tt
   counts_root (suc n) k e l =
@@ -235,9 +261,11 @@ module _ (me : Me) (q : Request) (fits : GeometryFits me.geometry) (who : me.who
       (with_none 0 (taken_by me (Load at) x) (load_takes me at (place.Root me.who k) there x)) (with_none 0 (used_by me (Load at) x) (load_uses me at (place.Root me.who k) there x))
       (counts_chosen me (x == 0) found on 0 0 (λ z. counts_segment me.geometry.segments 0 e k 0 0 (omega arith)) (λ z. counts_root n (k + 1) e (omega arith))))
 
+  -- the pool has the own era
   era_in : is_in me.geometry (place.Era me.who me.who) ≡ true
   era_in = grind (arith, nat_tests)
 
+  -- a whole trail
   counts_all : Counts me (alloc_trail me q) 0 0
   counts_all =
       let at : ℕ = address me.geometry (place.Era me.who me.who) in
@@ -249,5 +277,5 @@ module _ (me : Me) (q : Request) (fits : GeometryFits me.geometry) (who : me.who
       (λ z tr a h. subst (λ (x : Result Made AllocFault). Tells x (0 + taken_in me tr) (0 + used_in me tr)) h.1 tt) (λ z. counts_root 16 0 e (omega arith))))
 
 -- an allocation that found no free block answers how many segments of others and how many blocks in use its trail shows
-pub alloc_counts : (me : Me) (q : Request) → GeometryFits me.geometry → me.who < me.geometry.clients → (tr : Trail) (taken used : ℕ) → alloc_trail me q tr (Err (Full taken used)) → (taken ≡ taken_in me tr) × (used ≡ used_in me tr)
-alloc_counts me q fits who tr taken used h = let k = counts_all me q fits who tr (Err (Full taken used)) h in (k.0 ∙ omega arith, k.1 ∙ omega arith)
+pub alloc_counts : (me : Me) (q : Request) → me.who < me.geometry.clients → (tr : Trail) (taken used : ℕ) → alloc_trail me q tr (Err (Full taken used)) → (taken ≡ taken_in me tr) × (used ≡ used_in me tr)
+alloc_counts me q who tr taken used h = let k = counts_all me q who tr (Err (Full taken used)) h in (k.0 ∙ omega arith, k.1 ∙ omega arith)

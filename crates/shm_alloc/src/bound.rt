@@ -1,7 +1,6 @@
 //! What the trails of an allocation tell: how many word steps it makes, and why it made no block.
 
 ghost use Rattle.std.specs.Prelude.{◌≡◌, ℕ, ◌<◌, ◌≤◌, Result, Err, length};
-ghost use Rattle.shm_words.specs.Layout.{GeometryFits};
 ghost use Rattle.shm_graph.specs.declared.memo.Memo.{Memo as AMemo};
 ghost use Rattle.shm_graph.specs.Asks.{Trail};
 ghost use Rattle.shm_count.specs.declared.answer.Made.{Made as AMade};
@@ -20,5 +19,5 @@ pub fn alloc_bound()
 
 /// An allocation that found no free block answers how many segments of others its trail shows, by a load that found another's number or an exchange that found somebody's, and how many blocks in use.
 pub fn alloc_trails()
-    ensures { (m : AState) (r0 r : AMemo) (tr : Trail) (taken used : ℕ) → GeometryFits m.me.geometry → m.me.who < m.me.geometry.clients → AllocGives m r0 r tr (Err (Full taken used)) → (taken ≡ taken_in m.me tr) × (used ≡ used_in m.me tr) }
+    ensures { (m : AState) (r0 r : AMemo) (tr : Trail) (taken used : ℕ) → m.me.who < m.me.geometry.clients → AllocGives m r0 r tr (Err (Full taken used)) → (taken ≡ taken_in m.me tr) × (used ≡ used_in m.me tr) }
 {}
