@@ -138,7 +138,7 @@ module _ (me : Me) (q : Request) where
         let on : Short other (16 * 34 + (n * 546 + 29)) = short_more other (n * 546 + 29) (16 * 34 + (n * 546 + 29)) (omega arith) (segment_short n (s + 1) e k (taken + 1) used) in
         let claim : AllocTrails = Asked (Exchange (address me.geometry (place.Segment s)) 0 (me.who + 1)) (λ y. Chosen (y == 0) pages other) in
         let claimed : Short claim (16 * 34 + (n * 546 + 29) + 1) =
-            short_asked (Exchange (address me.geometry (place.Segment s)) 0 (me.who + 1)) (λ y. Chosen (y == 0) pages other) (16 * 34 + (n * 546 + 29)) (λ y. short_chosen (y == 0) pages other (16 * 34 + (n * 546 + 29)) own on) in
+        short_asked (Exchange (address me.geometry (place.Segment s)) 0 (me.who + 1)) (λ y. Chosen (y == 0) pages other) (16 * 34 + (n * 546 + 29)) (λ y. short_chosen (y == 0) pages other (16 * 34 + (n * 546 + 29)) own on) in
         short_more (segment_trail me q (suc n) s e k taken used) (16 * 34 + (n * 546 + 29) + 1 + 1) (suc n * 546 + 29) (omega arith)
         (short_asked (Load (address me.geometry (place.Segment s))) (λ x. Chosen (x == 0) claim (Chosen (x == me.who + 1) pages other)) (16 * 34 + (n * 546 + 29) + 1)
         (λ x. short_chosen (x == 0) claim (Chosen (x == me.who + 1) pages other) (16 * 34 + (n * 546 + 29) + 1) claimed

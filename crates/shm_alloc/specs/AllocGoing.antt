@@ -134,10 +134,18 @@ module _ (me : Me) (q : Request) where
   -- a root
   root_goes : (e k : ℕ) → Goes (Root e k)
   root_goes e k n l rest a t =
-      left (λ f. root_trail me q f k e) (suc (16 - (k + 1))) (16 - k) (sym (one_less 16 k l.1)) (pair (alloc_ask_at me q (Root e k)) n ∷ rest) a
-      (n, (rest, (refl, chosen me q (n == 0) (Point (Segment (record { era = e; root = k }) (record { segment = 0; taken = 0; used = 0 }))) (if nat_lt k 15 then Point (Root e (k + 1)) else Answer (Err RootsFull))
-      (segment_trail me q me.geometry.segments 0 e k 0 0) (root_trail me q (16 - (k + 1)) (k + 1) e)
-      (λ d. left (λ f. segment_trail me q f 0 e k 0 0) (me.geometry.segments - 0) me.geometry.segments (omega arith)) (λ d. after_root e k) rest a t)))
+      left (λ f. root_trail me q f k e) (suc (16 - (k + 1))) (16 - k) (sym (one_less 16 k l.1)) (pair (alloc_ask_at me q (Root e k)) n ∷ rest) a (
+        n,
+        (
+          rest,
+          (
+            refl,
+            chosen me q (n == 0) (Point (Segment (record { era = e; root = k }) (record { segment = 0; taken = 0; used = 0 }))) (if nat_lt k 15 then Point (Root e (k + 1)) else Answer (Err RootsFull))
+                (segment_trail me q me.geometry.segments 0 e k 0 0) (root_trail me q (16 - (k + 1)) (k + 1) e)
+                (λ d. left (λ f. segment_trail me q f 0 e k 0 0) (me.geometry.segments - 0) me.geometry.segments (omega arith)) (λ d. after_root e k) rest a t,
+          ),
+        ),
+      )
 
   -- the pages of an own segment, and what follows
   abbrev own_trail : Goal → Search → AllocTrails
@@ -158,10 +166,18 @@ module _ (me : Me) (q : Request) where
   -- the owner of a segment
   segment_goes : (g : Goal) (s : Search) → Goes (Segment g s)
   segment_goes g s n l rest a t =
-      left (λ f. segment_trail me q f s.segment g.era g.root s.taken s.used) (suc (me.geometry.segments - (s.segment + 1))) (me.geometry.segments - s.segment) (sym (one_less me.geometry.segments s.segment l.1.segment)) (pair (alloc_ask_at me q (Segment g s)) n ∷ rest) a
-      (n, (rest, (refl, chosen me q (n == 0) (Point (Claim g s)) (if n == me.who + 1 then first_page g s else segment_taken me g s)
-      (claim_trail me q g s) (Chosen (n == me.who + 1) (own_trail g s) (taken_trail g s)) (λ d tr b u. u)
-      (λ d. chosen me q (n == me.who + 1) (first_page g s) (segment_taken me g s) (own_trail g s) (taken_trail g s) (λ d2. first_pages g s) (λ d2. after_taken g s)) rest a t)))
+      left (λ f. segment_trail me q f s.segment g.era g.root s.taken s.used) (suc (me.geometry.segments - (s.segment + 1))) (me.geometry.segments - s.segment) (sym (one_less me.geometry.segments s.segment l.1.segment)) (pair (alloc_ask_at me q (Segment g s)) n ∷ rest) a (
+        n,
+        (
+          rest,
+          (
+            refl,
+            chosen me q (n == 0) (Point (Claim g s)) (if n == me.who + 1 then first_page g s else segment_taken me g s)
+                (claim_trail me q g s) (Chosen (n == me.who + 1) (own_trail g s) (taken_trail g s)) (λ d tr b u. u)
+                (λ d. chosen me q (n == me.who + 1) (first_page g s) (segment_taken me g s) (own_trail g s) (taken_trail g s) (λ d2. first_pages g s) (λ d2. after_taken g s)) rest a t,
+          ),
+        ),
+      )
 
   -- the claim of a segment
   claim_goes : (g : Goal) (s : Search) → Goes (Claim g s)
@@ -170,10 +186,18 @@ module _ (me : Me) (q : Request) where
   -- the class of a page
   page_goes : (g : Goal) (s : Search) (p : ℕ) → Goes (Page g s p)
   page_goes g s p n l rest a t =
-      left (λ f. page_trail me q f p s.segment g.era g.root s.used (segments_after me q g s)) (suc (15 - p)) (16 - p) (let below = l.2 in omega arith) (pair (alloc_ask_at me q (Page g s p)) n ∷ rest) a
-      (n, (rest, (refl, chosen me q (n == 0) (Point (Class g s p)) (if n == class_asked q then first_header g s p else page_over me g s p)
-      (class_trail me q s.segment p g.era g.root s.used (pages_after me q g s p)) (Chosen (n == class_asked q) (headers_left g s p 0 (128 / class_asked q)) (pages_after me q g s p s.used)) (λ d tr b u. u)
-      (λ d. chosen me q (n == class_asked q) (first_header g s p) (page_over me g s p) (headers_left g s p 0 (128 / class_asked q)) (pages_after me q g s p s.used) (λ d2. all_headers g s p) (λ d2. after_page g s p)) rest a t)))
+      left (λ f. page_trail me q f p s.segment g.era g.root s.used (segments_after me q g s)) (suc (15 - p)) (16 - p) (let below = l.2 in omega arith) (pair (alloc_ask_at me q (Page g s p)) n ∷ rest) a (
+        n,
+        (
+          rest,
+          (
+            refl,
+            chosen me q (n == 0) (Point (Class g s p)) (if n == class_asked q then first_header g s p else page_over me g s p)
+                (class_trail me q s.segment p g.era g.root s.used (pages_after me q g s p)) (Chosen (n == class_asked q) (headers_left g s p 0 (128 / class_asked q)) (pages_after me q g s p s.used)) (λ d tr b u. u)
+                (λ d. chosen me q (n == class_asked q) (first_header g s p) (page_over me g s p) (headers_left g s p 0 (128 / class_asked q)) (pages_after me q g s p s.used) (λ d2. all_headers g s p) (λ d2. after_page g s p)) rest a t,
+          ),
+        ),
+      )
 
   -- the store of a class
   class_goes : (g : Goal) (s : Search) (p : ℕ) → Goes (Class g s p)
@@ -183,9 +207,17 @@ module _ (me : Me) (q : Request) where
   header_goes : (g : Goal) (s : Search) (p i : ℕ) → Goes (Header g s p i)
   header_goes g s p i n l rest a t =
       let s2 : Search = record s { used = s.used + 1 } in
-      left (headers_left g s p i) (suc (128 / class_asked q - (i + 1))) (128 / class_asked q - i) (sym (one_less (128 / class_asked q) i l.3)) (pair (alloc_ask_at me q (Header g s p i)) n ∷ rest) a
-      (n, (rest, (refl, chosen me q (n == 0) (Point (Tag g (block_of me q s p i))) (header_used me q g s2 p i)
-      (block_trail me q g.era g.root (block_of me q s p i)) (headers_left g s2 p (i + 1) (128 / class_asked q - (i + 1))) (λ d tr b u. u) (λ d. after_header g s2 p i) rest a t)))
+      left (headers_left g s p i) (suc (128 / class_asked q - (i + 1))) (128 / class_asked q - i) (sym (one_less (128 / class_asked q) i l.3)) (pair (alloc_ask_at me q (Header g s p i)) n ∷ rest) a (
+        n,
+        (
+          rest,
+          (
+            refl,
+            chosen me q (n == 0) (Point (Tag g (block_of me q s p i))) (header_used me q g s2 p i)
+                (block_trail me q g.era g.root (block_of me q s p i)) (headers_left g s2 p (i + 1) (128 / class_asked q - (i + 1))) (λ d tr b u. u) (λ d. after_header g s2 p i) rest a t,
+          ),
+        ),
+      )
 
   -- the tag
   tag_goes : (g : Goal) (b : ℕ) → Goes (Tag g b)
