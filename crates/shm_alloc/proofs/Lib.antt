@@ -1,1 +1,2 @@
 pub mod AllocBound
+pub mod AllocCounting

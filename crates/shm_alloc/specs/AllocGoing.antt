@@ -67,38 +67,45 @@ left f m n e tr a t = subst (λ (x : ℕ). f x tr a) e t
 module _ (me : Me) (q : Request) where
   -- ---- the search goes on
 
+  -- after a segment the next one follows, or the refusal
   after_segment : (g : Goal) (s : Search) → IsPart (next_trail me q (segment_over me g s)) (segments_after me q g s s.used)
   after_segment g s =
       either me q (nat_lt (s.segment + 1) me.geometry.segments) (Point (Segment g (record s { segment = s.segment + 1 }))) (Answer (Err (Full s.taken s.used))) (segments_after me q g s s.used)
       (λ e tr a t. t)
       (λ e. left (λ n. segment_trail me q n (s.segment + 1) g.era g.root s.taken s.used) 0 (me.geometry.segments - (s.segment + 1)) (sym (none_left me.geometry.segments (s.segment + 1) (ltb-false (s.segment + 1) me.geometry.segments e))))
 
+  -- after a page the next one follows, or the next segment
   after_page : (g : Goal) (s : Search) (p : ℕ) → IsPart (next_trail me q (page_over me g s p)) (pages_after me q g s p s.used)
   after_page g s p =
       either me q (nat_lt p 15) (Point (Page g s (p + 1))) (segment_over me g s) (pages_after me q g s p s.used)
       (λ e. left (λ n. page_trail me q n (p + 1) s.segment g.era g.root s.used (segments_after me q g s)) (16 - (p + 1)) (15 - p) (omega arith))
       (λ e tr a t. left (λ n. page_trail me q n (p + 1) s.segment g.era g.root s.used (segments_after me q g s)) 0 (15 - p) (sym (none_left 15 p (ltb-false p 15 e))) tr a (after_segment g s tr a t))
 
+  -- n headers of a page from block i on, and what follows
   abbrev headers_left : Goal → Search → ℕ → ℕ → ℕ → AllocTrails
   headers_left g s p i n = header_trail me q n i (address me.geometry (place.Body s.segment p 0)) g.era g.root s.used (pages_after me q g s p)
 
+  -- after a header that isn't free the next one follows, or the next page
   after_header : (g : Goal) (s : Search) (p i : ℕ) → IsPart (next_trail me q (header_used me q g s p i)) (headers_left g s p (i + 1) (128 / class_asked q - (i + 1)))
   after_header g s p i =
       either me q (nat_lt (i + 1) (128 / class_asked q)) (Point (Header g s p (i + 1))) (page_over me g s p) (headers_left g s p (i + 1) (128 / class_asked q - (i + 1)))
       (λ e tr a t. t)
       (λ e tr a t. left (headers_left g s p (i + 1)) 0 (128 / class_asked q - (i + 1)) (sym (none_left (128 / class_asked q) (i + 1) (ltb-false (i + 1) (128 / class_asked q) e))) tr a (after_page g s p tr a t))
 
+  -- all headers are left at the first one
   all_headers : (g : Goal) (s : Search) (p : ℕ) → IsPart (headers_left g s p 0 (128 / class_asked q - 0)) (headers_left g s p 0 (128 / class_asked q))
   all_headers g s p = left (headers_left g s p 0) (128 / class_asked q - 0) (128 / class_asked q) (omega arith)
 
   -- ---- the making goes on
 
+  -- the plain words that are left, and the redo record after them
   after_plain : (g : Goal) (b i : ℕ) → IsPart (point_trail me q (plain_from q g b i)) (plain_trail me q (q.count - i) i g.era g.root b)
   after_plain g b i =
       either_point me q (nat_lt i q.count) (Plain g b i) (Redo g b) (plain_trail me q (q.count - i) i g.era g.root b)
       (λ e tr a t. t)
       (λ e. left (λ n. plain_trail me q n i g.era g.root b) 0 (q.count - i) (sym (none_left q.count i (ltb-false i q.count e))))
 
+  -- the reference words that are left, and the plain words after them
   after_reference : (g : Goal) (b i : ℕ) → IsPart (point_trail me q (references_from q g b i)) (reference_trail me q (q.refs - i) i g.era g.root b)
   after_reference g b i =
       either_point me q (nat_lt i q.refs) (Reference g b i) (plain_from q g b 0) (reference_trail me q (q.refs - i) i g.era g.root b)
@@ -112,6 +119,7 @@ module _ (me : Me) (q : Request) where
   abbrev Goes : AllocPoint → Type 0
   Goes p = (n : ℕ) → PointFits me q p → (rest : Trail) (a : Result Made AllocFault) → next_trail me q (alloc_next_at me q p n) rest a → point_trail me q p (pair (alloc_ask_at me q p) n ∷ rest) a
 
+  -- the own era
   era_goes : Goes Era
   era_goes n l rest a t =
       (n, (rest, (refl, chosen me q (nat_lt (2 ^ 47 - 3) n) (Answer (Err (EraSpent n))) (Point (Root n 0)) (Answers (Err (EraSpent n))) (root_trail me q 16 0 n) (λ e tr b u. u) (λ e tr b u. u) rest a t)))
@@ -123,66 +131,111 @@ module _ (me : Me) (q : Request) where
       (λ d tr a t. t)
       (λ d. let above = ltb-false k 15 d in left (λ n. root_trail me q n (k + 1) e) 0 (16 - (k + 1)) (omega arith))
 
+  -- a root
   root_goes : (e k : ℕ) → Goes (Root e k)
   root_goes e k n l rest a t =
-      left (λ f. root_trail me q f k e) (suc (16 - (k + 1))) (16 - k) (sym (one_less 16 k l.1)) (pair (alloc_ask_at me q (Root e k)) n ∷ rest) a
-      (n, (rest, (refl, chosen me q (n == 0) (Point (Segment (record { era = e; root = k }) (record { segment = 0; taken = 0; used = 0 }))) (if nat_lt k 15 then Point (Root e (k + 1)) else Answer (Err RootsFull))
-      (segment_trail me q me.geometry.segments 0 e k 0 0) (root_trail me q (16 - (k + 1)) (k + 1) e)
-      (λ d. left (λ f. segment_trail me q f 0 e k 0 0) (me.geometry.segments - 0) me.geometry.segments (omega arith)) (λ d. after_root e k) rest a t)))
+      left (λ f. root_trail me q f k e) (suc (16 - (k + 1))) (16 - k) (sym (one_less 16 k l.1)) (pair (alloc_ask_at me q (Root e k)) n ∷ rest) a (
+        n,
+        (
+          rest,
+          (
+            refl,
+            chosen me q (n == 0) (Point (Segment (record { era = e; root = k }) (record { segment = 0; taken = 0; used = 0 }))) (if nat_lt k 15 then Point (Root e (k + 1)) else Answer (Err RootsFull))
+                (segment_trail me q me.geometry.segments 0 e k 0 0) (root_trail me q (16 - (k + 1)) (k + 1) e)
+                (λ d. left (λ f. segment_trail me q f 0 e k 0 0) (me.geometry.segments - 0) me.geometry.segments (omega arith)) (λ d. after_root e k) rest a t,
+          ),
+        ),
+      )
 
-  -- the pages of a segment, and what follows where the segment is another's
+  -- the pages of an own segment, and what follows
   abbrev own_trail : Goal → Search → AllocTrails
   own_trail g s = page_trail me q 16 0 s.segment g.era g.root s.used (segments_after me q g s)
 
+  -- what follows where the segment is another's
   abbrev taken_trail : Goal → Search → AllocTrails
   taken_trail g s = segment_trail me q (me.geometry.segments - (s.segment + 1)) (s.segment + 1) g.era g.root (s.taken + 1) s.used
 
+  -- all pages are left at the first one
   first_pages : (g : Goal) (s : Search) → IsPart (next_trail me q (first_page g s)) (own_trail g s)
   first_pages g s = left (λ n. page_trail me q n 0 s.segment g.era g.root s.used (segments_after me q g s)) (16 - 0) 16 (omega arith)
 
+  -- after a segment that is another's the next one follows
   after_taken : (g : Goal) (s : Search) → IsPart (next_trail me q (segment_taken me g s)) (taken_trail g s)
   after_taken g s = after_segment g (record s { taken = s.taken + 1 })
 
+  -- the owner of a segment
   segment_goes : (g : Goal) (s : Search) → Goes (Segment g s)
   segment_goes g s n l rest a t =
-      left (λ f. segment_trail me q f s.segment g.era g.root s.taken s.used) (suc (me.geometry.segments - (s.segment + 1))) (me.geometry.segments - s.segment) (sym (one_less me.geometry.segments s.segment l.1.segment)) (pair (alloc_ask_at me q (Segment g s)) n ∷ rest) a
-      (n, (rest, (refl, chosen me q (n == 0) (Point (Claim g s)) (if n == me.who + 1 then first_page g s else segment_taken me g s)
-      (claim_trail me q g s) (Chosen (n == me.who + 1) (own_trail g s) (taken_trail g s)) (λ d tr b u. u)
-      (λ d. chosen me q (n == me.who + 1) (first_page g s) (segment_taken me g s) (own_trail g s) (taken_trail g s) (λ d2. first_pages g s) (λ d2. after_taken g s)) rest a t)))
+      left (λ f. segment_trail me q f s.segment g.era g.root s.taken s.used) (suc (me.geometry.segments - (s.segment + 1))) (me.geometry.segments - s.segment) (sym (one_less me.geometry.segments s.segment l.1.segment)) (pair (alloc_ask_at me q (Segment g s)) n ∷ rest) a (
+        n,
+        (
+          rest,
+          (
+            refl,
+            chosen me q (n == 0) (Point (Claim g s)) (if n == me.who + 1 then first_page g s else segment_taken me g s)
+                (claim_trail me q g s) (Chosen (n == me.who + 1) (own_trail g s) (taken_trail g s)) (λ d tr b u. u)
+                (λ d. chosen me q (n == me.who + 1) (first_page g s) (segment_taken me g s) (own_trail g s) (taken_trail g s) (λ d2. first_pages g s) (λ d2. after_taken g s)) rest a t,
+          ),
+        ),
+      )
 
+  -- the claim of a segment
   claim_goes : (g : Goal) (s : Search) → Goes (Claim g s)
   claim_goes g s n l rest a t = (n, (rest, (refl, chosen me q (n == 0) (first_page g s) (segment_taken me g s) (own_trail g s) (taken_trail g s) (λ d. first_pages g s) (λ d. after_taken g s) rest a t)))
 
+  -- the class of a page
   page_goes : (g : Goal) (s : Search) (p : ℕ) → Goes (Page g s p)
   page_goes g s p n l rest a t =
-      left (λ f. page_trail me q f p s.segment g.era g.root s.used (segments_after me q g s)) (suc (15 - p)) (16 - p) (let below = l.2 in omega arith) (pair (alloc_ask_at me q (Page g s p)) n ∷ rest) a
-      (n, (rest, (refl, chosen me q (n == 0) (Point (Class g s p)) (if n == class_asked q then first_header g s p else page_over me g s p)
-      (class_trail me q s.segment p g.era g.root s.used (pages_after me q g s p)) (Chosen (n == class_asked q) (headers_left g s p 0 (128 / class_asked q)) (pages_after me q g s p s.used)) (λ d tr b u. u)
-      (λ d. chosen me q (n == class_asked q) (first_header g s p) (page_over me g s p) (headers_left g s p 0 (128 / class_asked q)) (pages_after me q g s p s.used) (λ d2. all_headers g s p) (λ d2. after_page g s p)) rest a t)))
+      left (λ f. page_trail me q f p s.segment g.era g.root s.used (segments_after me q g s)) (suc (15 - p)) (16 - p) (let below = l.2 in omega arith) (pair (alloc_ask_at me q (Page g s p)) n ∷ rest) a (
+        n,
+        (
+          rest,
+          (
+            refl,
+            chosen me q (n == 0) (Point (Class g s p)) (if n == class_asked q then first_header g s p else page_over me g s p)
+                (class_trail me q s.segment p g.era g.root s.used (pages_after me q g s p)) (Chosen (n == class_asked q) (headers_left g s p 0 (128 / class_asked q)) (pages_after me q g s p s.used)) (λ d tr b u. u)
+                (λ d. chosen me q (n == class_asked q) (first_header g s p) (page_over me g s p) (headers_left g s p 0 (128 / class_asked q)) (pages_after me q g s p s.used) (λ d2. all_headers g s p) (λ d2. after_page g s p)) rest a t,
+          ),
+        ),
+      )
 
+  -- the store of a class
   class_goes : (g : Goal) (s : Search) (p : ℕ) → Goes (Class g s p)
   class_goes g s p n l rest a t = (n, (rest, (refl, all_headers g s p rest a t)))
 
+  -- the header of a block
   header_goes : (g : Goal) (s : Search) (p i : ℕ) → Goes (Header g s p i)
   header_goes g s p i n l rest a t =
       let s2 : Search = record s { used = s.used + 1 } in
-      left (headers_left g s p i) (suc (128 / class_asked q - (i + 1))) (128 / class_asked q - i) (sym (one_less (128 / class_asked q) i l.3)) (pair (alloc_ask_at me q (Header g s p i)) n ∷ rest) a
-      (n, (rest, (refl, chosen me q (n == 0) (Point (Tag g (block_of me q s p i))) (header_used me q g s2 p i)
-      (block_trail me q g.era g.root (block_of me q s p i)) (headers_left g s2 p (i + 1) (128 / class_asked q - (i + 1))) (λ d tr b u. u) (λ d. after_header g s2 p i) rest a t)))
+      left (headers_left g s p i) (suc (128 / class_asked q - (i + 1))) (128 / class_asked q - i) (sym (one_less (128 / class_asked q) i l.3)) (pair (alloc_ask_at me q (Header g s p i)) n ∷ rest) a (
+        n,
+        (
+          rest,
+          (
+            refl,
+            chosen me q (n == 0) (Point (Tag g (block_of me q s p i))) (header_used me q g s2 p i)
+                (block_trail me q g.era g.root (block_of me q s p i)) (headers_left g s2 p (i + 1) (128 / class_asked q - (i + 1))) (λ d tr b u. u) (λ d. after_header g s2 p i) rest a t,
+          ),
+        ),
+      )
 
+  -- the tag
   tag_goes : (g : Goal) (b : ℕ) → Goes (Tag g b)
   tag_goes g b n l rest a t = (n, (rest, (refl, left (λ f. reference_trail me q f 0 g.era g.root b) (q.refs - 0) q.refs (omega arith) rest a (after_reference g b 0 rest a t))))
 
+  -- a reference word
   reference_goes : (g : Goal) (b i : ℕ) → Goes (Reference g b i)
   reference_goes g b i n l rest a t =
       left (λ f. reference_trail me q f i g.era g.root b) (suc (q.refs - (i + 1))) (q.refs - i) (sym (one_less q.refs i l.2)) (pair (alloc_ask_at me q (Reference g b i)) n ∷ rest) a
       (n, (rest, (refl, after_reference g b (i + 1) rest a t)))
 
+  -- a plain word
   plain_goes : (g : Goal) (b i : ℕ) → Goes (Plain g b i)
   plain_goes g b i n l rest a t =
       left (λ f. plain_trail me q f i g.era g.root b) (suc (q.count - (i + 1))) (q.count - i) (sym (one_less q.count i l.2)) (pair (alloc_ask_at me q (Plain g b i)) n ∷ rest) a
       (n, (rest, (refl, after_plain g b (i + 1) rest a t)))
 
+  -- any point
   step_goes : (p : AllocPoint) → Goes p
   step_goes Era = era_goes
   step_goes (Root e k) = root_goes e k

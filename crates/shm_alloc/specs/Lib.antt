@@ -13,3 +13,4 @@ pub mod AllocKnowing
 pub mod AllocTells
 pub mod AllocKeeps
 pub mod AllocLaws
+pub mod AllocCounts

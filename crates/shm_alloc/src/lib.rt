@@ -8,7 +8,7 @@ pub mod bound;
 pub mod point;
 
 pub use alloc::{Alloc, AllocFault, TooLarge};
-pub use bound::alloc_bound;
+pub use bound::{alloc_bound, alloc_trails};
 pub use point::{AllocPoint, AllocState, Goal, Next, Request, Search};
 
 #[cfg(test)]

@@ -2,4 +2,4 @@ use Rattle.shm_alloc.proofs.AllocBound.{alloc_bound}
 use Rattle.shm_alloc.proofs.bound.alloc_bound.Goals as goal
 
 pub returns : goal.returns
-returns c m r0 r tr a fits gives = alloc_bound m.me m.request fits tr a gives.trail
+returns c m r0 r trail a fits gives = alloc_bound m.me m.request fits trail a gives.trail
