@@ -19,6 +19,7 @@ use Rattle.shm_graph.specs.declared.ask.Ask.TheVariants.{Exchange}
 use Rattle.shm_graph.specs.Asks.{Trail}
 use Rattle.shm_graph.specs.Trails.{Asked, Chosen}
 use Rattle.shm_graph.specs.Idle.{IsIdle}
+use Rattle.shm_graph.specs.Tells.{after_all, happens_along}
 use Rattle.shm_graph.specs.Views.{own_word}
 use Rattle.shm_graph.specs.Stores.{class_read, class_told}
 use Rattle.shm_graph.specs.Exchanges.{values_with}
@@ -33,7 +34,8 @@ use Rattle.shm_alloc.specs.declared.point.AllocPoint.TheVariants.{Era, Root, Seg
 use Rattle.shm_alloc.specs.declared.point.AllocState.{AllocState}
 use Rattle.shm_alloc.specs.declared.point.Next.{Next}
 use Rattle.shm_alloc.specs.declared.point.Next.TheVariants.{Point, Answer}
-use Rattle.shm_alloc.specs.AllocControl.{class_asked, tag_asked, block_of, AllocKnows}
+use Rattle.shm_alloc.specs.AllocControl.{class_asked, tag_asked, block_of, AllocKnows, alloc_control}
+use Rattle.shm_alloc.specs.AllocEvents.{alloc_event, alloc_start, events_at, own_events}
 use Rattle.shm_alloc.specs.AllocTrail.{AllocTrails, alloc_trail, root_trail, segment_trail, page_trail, header_trail, block_trail, reference_trail, plain_trail, live_trail, commit_trail, slot_trail, close_trail, class_trail}
 
 -- ---- what the memo shows on the way
@@ -159,13 +161,15 @@ pub record PointHolds (me : Me) (q : Request) (r0 r : Memo) (p : AllocPoint) : T
   pub own : r.own ≡ own_at me p r0.own
   pub has : PointHas me q r0 r p
 
--- it could begin, the memo shows what the point needs, and what was asked is the first part of a trail that goes on from the point
+-- it could begin, the memo shows what the point needs, and what was asked is the first part of a trail that goes on from the point, leads there, and tells of the events up to it
 pub record AllocFits (m : AllocState) (r0 r : Memo) (tr : Trail) : Type 0 where
   pub can : CanAlloc m.me r0
   pub knows : AllocKnows m
   pub begun : m.point ≢ Era → tr ≢ []
   pub holds : PointHolds m.me m.request r0 r m.point
   pub trail : (rest : Trail) (a : Result Made AllocFault) → point_trail m.me m.request m.point rest a → alloc_trail m.me m.request (tr ++ rest) a
+  pub course : after_all alloc_control (alloc_start m) tr ≡ m
+  pub events : happens_along alloc_control alloc_event (alloc_start m) tr ≡ events_at m.me m.point
 
 -- a block was made: it is named by the least empty root, its words are known, and the own era is the next one
 pub record MadeGives (me : Me) (q : Request) (r0 r : Memo) (a : Made) : Type 0 where
@@ -203,7 +207,8 @@ abbrev pub NextHolds : Me → Request → Memo → Memo → Next → Type 0
 NextHolds me q r0 r (Point p) = PointHolds me q r0 r p
 NextHolds me q r0 r (Answer a) = AnswerHolds me q r0 r a
 
--- the identity is between two calls, and its trail is whole
+-- the identity is between two calls, its trail is whole, and its own events are those of the answer
 pub record AllocGives (m : AllocState) (r0 r : Memo) (tr : Trail) (a : Result Made AllocFault) : Type 0 where
   pub holds : AnswerHolds m.me m.request r0 r a
   pub trail : alloc_trail m.me m.request tr a
+  pub events : happens_along alloc_control alloc_event (alloc_start m) tr ≡ own_events m.me a

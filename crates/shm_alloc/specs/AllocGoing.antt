@@ -1,5 +1,6 @@
 -- an allocation goes along its trails: each step is the next pair of a trail from its point
-use Rattle.std.proofs.Common.{◌≡◌, ◌≢◌, ℕ, suc, ◌+◌, ◌-◌, ◌/◌, ◌^◌, ◌<◌, ◌≤◌, refl, sym, subst, arith, Bool, true, false, [], ◌∷◌, ◌++◌, append_assoc}
+use Rattle.std.proofs.Common.{◌≡◌, ◌≢◌, ℕ, suc, ◌+◌, ◌-◌, ◌/◌, ◌^◌, ◌<◌, ◌≤◌, refl, sym, ap, ◌∙◌, subst, arith, Bool, true, false, cond, List, [], ◌∷◌, ◌++◌, append_assoc}
+use Rattle.std.specs.List.{filter}
 use Rattle.std.specs.Prelude.{◌==◌, nat_lt, if◌then◌else◌, Result, Err}
 use Rattle.std.proofs.lemmas.Bool.{ltb-false}
 use Rattle.shm_words.specs.declared.place.Place.TheVariants as place
@@ -9,6 +10,9 @@ use Rattle.shm_graph.specs.declared.memo.Memo.{Memo}
 use Rattle.shm_graph.specs.declared.memo.Seen.{Seen}
 use Rattle.shm_graph.specs.Asks.{Trail, pair}
 use Rattle.shm_graph.specs.Trails.{Answers, Chosen}
+use Rattle.shm_graph.specs.Events.{Event}
+use Rattle.shm_graph.specs.Tells.{is_event, after_all, happens_along}
+use Rattle.shm_graph.proofs.TellsAlong.{after_all-append, happens_along-append}
 use Rattle.shm_count.specs.declared.answer.Made.{Made}
 use Rattle.shm_alloc.specs.declared.alloc.AllocFault.{AllocFault}
 use Rattle.shm_alloc.specs.declared.alloc.AllocFault.TheVariants.{EraSpent, RootsFull, Full}
@@ -20,7 +24,8 @@ use Rattle.shm_alloc.specs.declared.point.AllocPoint.TheVariants.{Era, Root, Seg
 use Rattle.shm_alloc.specs.declared.point.AllocState.{AllocState}
 use Rattle.shm_alloc.specs.declared.point.Next.{Next}
 use Rattle.shm_alloc.specs.declared.point.Next.TheVariants.{Point, Answer}
-use Rattle.shm_alloc.specs.AllocControl.{alloc_ask, alloc_ask_at, alloc_next, alloc_next_at, class_asked, block_of, segment_over, segment_taken, first_page, first_header, page_over, header_used, references_from, plain_from, PointFits, AllocKnows}
+use Rattle.shm_alloc.specs.AllocControl.{alloc_ask, alloc_ask_at, alloc_next, alloc_next_at, class_asked, block_of, segment_over, segment_taken, first_page, first_header, page_over, header_used, references_from, plain_from, point_of, PointFits, AllocKnows, alloc_control}
+use Rattle.shm_alloc.specs.AllocEvents.{alloc_event, alloc_event_at, alloc_start, events_at, own_events}
 use Rattle.shm_alloc.specs.AllocTrail.{AllocTrails, alloc_trail, root_trail, segment_trail, page_trail, header_trail, class_trail, block_trail, reference_trail, plain_trail}
 use Rattle.shm_alloc.specs.AllocFits.{AllocFits, AllocGives, CanAlloc, PointHolds, AnswerHolds, Stays, claim_trail, point_trail, pages_after, segments_after}
 
@@ -268,6 +273,65 @@ ends_in : (tr : Trail) (s : Seen) → (tr ++ s ∷ []) ≢ []
 ends_in [] s e = absurd (cc)
 ends_in (x ∷ tr) s e = absurd (cc)
 
+-- ---- events
+
+-- the events up to a step, with those of the step
+abbrev events_with : Me → AllocPoint → ℕ → List Event
+events_with me p n = events_at me p ++ filter is_event (alloc_event_at me p n ∷ [])
+
+-- the events are those of the next point, or of the answer
+abbrev Told : Me → Next → List Event → Type 0
+Told me (Point p) es = es ≡ events_at me p
+Told me (Answer a) es = es ≡ own_events me a
+
+told_choice : (me : Me) (b : Bool) (x y : Next) (es : List Event) → Told me x es → Told me y es → Told me (cond b x y) es
+told_choice me true x y es f h = f
+told_choice me false x y es f h = h
+
+told_over : (me : Me) (g : Goal) (s : Search) → Told me (segment_over me g s) []
+told_over me g s = told_choice me (nat_lt (s.segment + 1) me.geometry.segments) _ _ [] refl refl
+
+told_page : (me : Me) (g : Goal) (s : Search) (p : ℕ) → Told me (page_over me g s p) []
+told_page me g s p = told_choice me (nat_lt p 15) _ _ [] refl (told_over me g s)
+
+told_plain : (me : Me) (q : Request) (g : Goal) (b i : ℕ) → Told me (Point (plain_from q g b i)) []
+told_plain me q g b i = go (nat_lt i q.count)
+  where
+    go : (x : Bool) → Told me (Point (cond x (Plain g b i) (Redo g b))) []
+    go true = refl
+    go false = refl
+
+told_references : (me : Me) (q : Request) (g : Goal) (b i : ℕ) → Told me (Point (references_from q g b i)) []
+told_references me q g b i = go (nat_lt i q.refs)
+  where
+    go : (x : Bool) → Told me (Point (cond x (Reference g b i) (plain_from q g b 0))) []
+    go true = refl
+    go false = told_plain me q g b 0
+
+told_next : (me : Me) (q : Request) (p : AllocPoint) (n : ℕ) → Told me (alloc_next_at me q p n) (events_with me p n)
+told_next me q Era n = told_choice me (nat_lt (2 ^ 47 - 3) n) _ _ [] refl refl
+told_next me q (Root e k) n = told_choice me (n == 0) _ _ [] refl (told_choice me (nat_lt k 15) _ _ [] refl refl)
+told_next me q (Segment g s) n = told_choice me (n == 0) _ _ [] refl (told_choice me (n == me.who + 1) _ _ [] refl (told_over me g (record s { taken = s.taken + 1 })))
+told_next me q (Claim g s) n = told_choice me (n == 0) _ _ [] refl (told_over me g (record s { taken = s.taken + 1 }))
+told_next me q (Page g s p) n = told_choice me (n == 0) _ _ [] refl (told_choice me (n == class_asked q) _ _ [] refl (told_page me g s p))
+told_next me q (Class g s p) n = refl
+told_next me q (Header g s p i) n = told_choice me (n == 0) _ _ [] refl (told_choice me (nat_lt (i + 1) (128 / class_asked q)) _ _ [] refl (told_page me g (record s { used = s.used + 1 }) p))
+told_next me q (Tag g b) n = told_references me q g b 0
+told_next me q (Reference g b i) n = told_references me q g b (i + 1)
+told_next me q (Plain g b i) n = told_plain me q g b (i + 1)
+told_next me q (Redo g b) n = refl
+told_next me q (Commit g b) n = refl
+told_next me q (Slot g b) n = refl
+told_next me q (Close g b) n = refl
+told_next me q Over n = refl
+
+-- the events of one more pair
+told_more : (m : AllocState) (r0 r : Memo) (tr : Trail) (n : ℕ) → AllocFits m r0 r tr → happens_along alloc_control alloc_event (alloc_start m) (tr ++ pair (alloc_ask m) n ∷ []) ≡ events_with m.me m.point n
+told_more m r0 r tr n fit =
+    happens_along-append alloc_control alloc_event (alloc_start m) tr (pair (alloc_ask m) n)
+    ∙ (ap (λ es. es ++ filter is_event (alloc_event (after_all alloc_control (alloc_start m) tr) n ∷ [])) fit.events
+    ∙ ap (λ (x : AllocState). events_at m.me m.point ++ filter is_event (alloc_event x n ∷ [])) fit.course)
+
 -- an allocation that fits and goes on fits at the next point, where the memo shows what that point needs
 pub fits_goes : (m : AllocState) (r0 r r2 : Memo) (tr : Trail) (n : ℕ) (p : AllocPoint) → AllocFits m r0 r tr → alloc_next m n ≡ Point p → AllocKnows (record m { point = p }) → PointHolds m.me m.request r0 r2 p → AllocFits (record m { point = p }) r0 r2 (tr ++ pair (alloc_ask m) n ∷ [])
 fits_goes m r0 r r2 tr n p fit e knows holds =
@@ -277,11 +341,18 @@ fits_goes m r0 r r2 tr n p fit e knows holds =
       begun = λ _. ends_in tr (pair (alloc_ask m) n);
       holds = holds;
       trail = λ rest a t. subst (λ (x : Trail). alloc_trail m.me m.request x a) (sym (append_assoc tr (pair (alloc_ask m) n ∷ []) rest)) (fit.trail (pair (alloc_ask m) n ∷ rest) a (trail_goes m.me m.request m.point p n fit.knows.point e rest a t));
+      course = after_all-append alloc_control (alloc_start m) tr (pair (alloc_ask m) n) ∙ (ap (λ (x : AllocState). alloc_control.after x n) fit.course ∙ ap (λ (y : Next). record m { point = point_of y }) e);
+      events = told_more m r0 r tr n fit ∙ subst (λ (y : Next). Told m.me y (events_with m.me m.point n)) e (told_next m.me m.request m.point n);
     }
 
 -- an allocation that fits and answers has asked a whole trail
 pub gives_ends : (m : AllocState) (r0 r r2 : Memo) (tr : Trail) (n : ℕ) (a : Result Made AllocFault) → AllocFits m r0 r tr → alloc_next m n ≡ Answer a → AnswerHolds m.me m.request r0 r2 a → AllocGives m r0 r2 (tr ++ pair (alloc_ask m) n ∷ []) a
-gives_ends m r0 r r2 tr n a fit e holds = record { holds = holds; trail = fit.trail (pair (alloc_ask m) n ∷ []) a (trail_ends m.me m.request m.point n a fit.knows.point e) }
+gives_ends m r0 r r2 tr n a fit e holds =
+    record {
+      holds = holds;
+      trail = fit.trail (pair (alloc_ask m) n ∷ []) a (trail_ends m.me m.request m.point n a fit.knows.point e);
+      events = told_more m r0 r tr n fit ∙ subst (λ (y : Next). Told m.me y (events_with m.me m.point n)) e (told_next m.me m.request m.point n);
+    }
 
 -- nothing has changed since the beginning
 stays_first : (r : Memo) → Stays r r
@@ -296,4 +367,6 @@ begins m r e knows can =
       begun = λ other. absurd (other e);
       holds = subst (λ (p : AllocPoint). PointHolds m.me m.request r r p) (sym e) (record { stays = stays_first r; op = can.idle.op; own = refl; has = record { making = can.idle.making; known = refl; values = refl } });
       trail = λ rest a t. subst (λ (p : AllocPoint). point_trail m.me m.request p rest a) e t;
+      course = ap (λ (p : AllocPoint). record m { point = p }) (sym e);
+      events = ap (events_at m.me) (sym e);
     }

@@ -5,10 +5,12 @@
 
 pub mod alloc;
 pub mod bound;
+pub mod events;
 pub mod point;
 
 pub use alloc::{Alloc, AllocFault, TooLarge};
 pub use bound::{alloc_bound, alloc_trails};
+pub use events::{alloc_begins, alloc_events};
 pub use point::{AllocPoint, AllocState, Goal, Next, Request, Search};
 
 #[cfg(test)]

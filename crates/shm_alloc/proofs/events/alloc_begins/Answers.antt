@@ -1,0 +1,5 @@
+use Rattle.shm_alloc.specs.AllocGoing.{begins}
+use Rattle.shm_alloc.proofs.events.alloc_begins.Goals as goal
+
+pub returns : goal.returns
+returns c = begins

@@ -1,0 +1,5 @@
+use Rattle.shm_alloc.specs.AllocTells.{alloc_tells}
+use Rattle.shm_alloc.proofs.events.alloc_events.Goals as goal
+
+pub returns : goal.returns
+returns c = alloc_tells
