@@ -45,3 +45,4 @@ pub mod Reached
 pub mod Roles
 pub mod Claims
 pub mod LoadTold
+pub mod OwnEvents
