@@ -19,11 +19,11 @@ use Rattle.shm_graph.specs.CallEvents.{steps_of_call, events_of, steps_in, event
 use Rattle.shm_graph.proofs.Lists.{account_here, length-accounts_after, length-changed}
 
 -- the memo of another identity
-memo_other : (es : List Account) (c d : ℕ) (e : Account) → c ≢ d → (account_at (slice_set es d e) c).memo ≡ memos_of es c
+pub memo_other : (es : List Account) (c d : ℕ) (e : Account) → c ≢ d → (account_at (slice_set es d e) c).memo ≡ memos_of es c
 memo_other es c d e n = ap (λ (x : Account). x.memo) (get_or-set_other es d c e _ n)
 
 -- the memo of the stepping identity
-memo_here : (es : List Account) (t : Step) (c : ℕ) → t.me.who ≡ c → c < length es → (account_at (slice_set es t.me.who (account_after (account_at es t.me.who) t)) c).memo ≡ memo_after (memos_of es c) t
+pub memo_here : (es : List Account) (t : Step) (c : ℕ) → t.me.who ≡ c → c < length es → (account_at (slice_set es t.me.who (account_after (account_at es t.me.who) t)) c).memo ≡ memo_after (memos_of es c) t
 memo_here es t c e l =
     subst (λ k. (account_at (slice_set es t.me.who (account_after (account_at es t.me.who) t)) k).memo ≡ memo_after (memos_of es k) t) e
     (ap (λ (x : Account). x.memo) (account_here es t.me.who (account_after (account_at es t.me.who) t) (subst (λ k. k < length es) (sym e) l)))

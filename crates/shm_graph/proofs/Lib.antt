@@ -46,3 +46,4 @@ pub mod Roles
 pub mod Claims
 pub mod LoadTold
 pub mod TellsAlong
+pub mod OwnEvents

@@ -1,5 +1,5 @@
 -- what a machine tells of the events of its steps: by its control and the word found, and no memo
-use Rattle.std.specs.Prelude.{◌≡◌, ℕ, Bool, true, false, Option, None, List, [], ◌∷◌}
+use Rattle.std.specs.Prelude.{◌≡◌, ℕ, Bool, true, false, None, List, [], ◌∷◌}
 use Rattle.std.specs.List.{filter}
 use Rattle.shm_graph.specs.declared.spot.Spot.{Spot}
 use Rattle.shm_graph.specs.declared.memo.Memo.{Memo}

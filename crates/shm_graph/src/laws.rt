@@ -19,6 +19,7 @@ ghost use Rattle.shm_graph.specs.Blocks.{classes};
 ghost use Rattle.shm_graph.specs.Views.{View, view};
 ghost use Rattle.shm_graph.specs.Held.{HeldAt};
 ghost use Rattle.shm_graph.specs.Controls.{IsAllowed};
+ghost use Rattle.shm_graph.specs.Events.{Event};
 ghost use Rattle.shm_graph.specs.Asks.{Trail, at_of, words_after, words_set};
 ghost use Rattle.shm_graph.specs.Laws.{Frame, Stands, KeptAt, GoneNow, MayEnd};
 ghost use Rattle.shm_graph.specs.Runs.{Held, State, memos_of, moved, IsMove, Turned, Leads};
@@ -26,6 +27,7 @@ ghost use Rattle.shm_graph.specs.CallEvents.{steps_of_call, events_of, steps_in,
 ghost use Rattle.shm_graph.specs.Sound.{IsSound};
 ghost use Rattle.shm_graph.specs.Clean.{IsClean};
 ghost use Rattle.shm_graph.specs.Whole.{fits_now, gives_now, Inside, Keeps};
+ghost use Rattle.shm_graph.specs.Tells.{Tells, GoesOn, machine_steps, tells_along};
 
 use crate::machine::Machine;
 
@@ -81,4 +83,9 @@ pub fn steps_keep()
 pub fn call_events()
     ensures told { (g : AGeometry) (c : ℕ) (a : State) (ms : List AMove) (b : State) → c < length a.accounts → IsUnbroken c ms → Leads g a ms b → events_in g c a ms ≡ events_of (memos_of a.accounts c) (steps_in c ms) }
     ensures pairs { (g : AGeometry) (c : ℕ) (a : State) (ms : List AMove) (b : State) (me : AMe) (line : List ℕ) (whole : Bool) (tr : Trail) → c < length a.accounts → IsUnbroken c ms → Leads g a ms b → steps_in c ms ≡ steps_of_call me line true whole tr → events_in g c a ms ≡ events_of (memos_of a.accounts c) (steps_of_call me line true whole tr) }
+{}
+
+/// The events of a call of a machine that runs by itself are those that it tells: its control and the words found give them.
+pub fn own_events<M: Machine>()
+    ensures { (does : M → ℕ → Event) → Tells M.control M.fits does → (g : AGeometry) (c : ℕ) (a : State) (ms : List AMove) (b : State) (m : M) (r0 : AMemo) (tr : Trail) → M.control.me m ≡ record { geometry = g; who = c } → c < g.clients → c < length a.accounts → Held g a.words a.accounts → IsUnbroken c ms → Leads g a ms b → fits_now M.control M.fits m r0 (memos_of a.accounts c) → GoesOn M.control m tr → steps_in c ms ≡ machine_steps M.control m tr → events_in g c a ms ≡ tells_along M.control does m tr }
 {}

@@ -16,8 +16,8 @@ pub mod table;
 
 pub use ask::{Ask, Life, Me, Turn};
 pub use laws::{
-    agents_change, call_events, held_state_sound, machine_law, runs_compose, steps_keep,
-    still_state_clean, word_steps,
+    agents_change, call_events, held_state_sound, machine_law, own_events, runs_compose,
+    steps_keep, still_state_clean, word_steps,
 };
 pub use machine::Machine;
 pub use memo::{
