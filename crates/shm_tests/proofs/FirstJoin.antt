@@ -1,10 +1,13 @@
 -- an identity of a pool that nobody has joined may join
-use Rattle.std.proofs.Common.{◌≡◌, ℕ, ◌+◌, ◌<◌, false, refl, sym, ap, ◌∙◌, subst, arith, inl, cond}
+use Rattle.std.proofs.Common.{◌≡◌, ℕ, ◌+◌, ◌<◌, ◌&&◌, Bool, false, refl, sym, ap, ◌∙◌, subst, arith, inl, cond}
+use Rattle.std.proofs.lemmas.Bool.{eq-eqb}
 use Rattle.shm_words.specs.Layout.{GeometryFits}
 use Rattle.shm_graph.specs.declared.ask.Me.{Me}
 use Rattle.shm_graph.specs.declared.memo.Memo.{Memo}
 use Rattle.shm_graph.specs.declared.run.Account.{Account}
 use Rattle.shm_graph.specs.declared.run.Start.{Start}
+use Rattle.shm_graph.specs.declared.spot.Spot.TheVariants.{Era}
+use Rattle.shm_graph.specs.Views.{own_word}
 use Rattle.shm_graph.specs.Asks.{call_before}
 use Rattle.shm_graph.specs.Agents.{acts, entered}
 use Rattle.shm_graph.specs.Runs.{MayBegin, first_account, first_memo}
@@ -15,16 +18,20 @@ use Rattle.shm_plain.specs.Pools.{first_pool, memo_of, readied, MayStep}
 use Rattle.shm_plain.specs.Tracks.{kind_next}
 use Rattle.shm_plain.proofs.Turning.{ready_memo}
 
-memo_first : (s : Start) (c : ℕ) → c < s.geometry.clients → memo_of (first_pool s) c ≡ first_memo s c
+pub memo_first : (s : Start) (c : ℕ) → c < s.geometry.clients → memo_of (first_pool s) c ≡ first_memo s c
 memo_first s c l = let z : 0 + c ≡ c = omega arith in ap (λ (x : Account). x.memo) (at-accounts_from s 0 s.geometry.clients c _ l ∙ ap (first_account s) z)
 
 pub may_first : (s : Start) (c : ℕ) → c < s.geometry.clients → MayStep (first_pool s) c
 may_first s c l = subst (λ (m : Memo). acts m ≡ false → MayBegin (kind_next m) m) (sym (memo_first s c l)) (λ _. inl refl)
 
-ready_first : (s : Start) (c : ℕ) → c < s.geometry.clients → let m = first_memo s c in memo_of (readied (first_pool s) c) c ≡ entered (kind_next m) m
+pub ready_first : (s : Start) (c : ℕ) → c < s.geometry.clients → let m = first_memo s c in memo_of (readied (first_pool s) c) c ≡ entered (kind_next m) m
 ready_first s c l =
     ready_memo (first_pool s) c (subst (λ (n : ℕ). c < n) (sym (length-accounts_from s 0 s.geometry.clients)) l)
     ∙ ap (λ (m : Memo). cond (acts m) m (entered (kind_next m) m)) (memo_first s c l)
+
+-- the own era is the only word that it has stored
+pub first_own_era : (s : Start) (c : ℕ) → own_word (first_memo s c).own (Era c c) ≡ s.first_era
+first_own_era s c = ap (λ (b : Bool). cond (b && b) s.first_era 0) (eq-eqb c c refl)
 
 pub join_fits : (s : Start) (c : ℕ) → GeometryFits s.geometry → c < s.geometry.clients → let r = memo_of (readied (first_pool s) c) c in let me : Me = record { geometry = s.geometry; who = c } in JoinFits (join_fresh me) r r (call_before (is_start (join_fresh me).point) r.call)
 join_fits s c fits l =

@@ -1,1 +1,2 @@
 pub mod FirstJoin
+pub mod RunSteps

@@ -1,8 +1,10 @@
 //! Tests that take several crates: machines on pools.
 #![tactic(auto)]
 
+pub mod driving;
 pub mod joining;
 
+pub use driving::{joined, run};
 pub use joining::{Stepped, step_join};
 
 #[cfg(test)]

@@ -1,6 +1,7 @@
-//! Which words a step changes.
+//! Which words a step changes, and machines that run to their answers.
 
-use crate::step_join;
+use crate::{joined, step_join};
+use shm_graph::Life;
 use shm_words::Geometry;
 use std::test::Fail;
 
@@ -23,5 +24,32 @@ fn a_join_stores_one_word(rt: HostRuntime) -> Result<(), Fail> {
             assert_eq!(rt; after.pool.word(at), word, "{steps} {at}");
         }
     }
+    Ok(())
+}
+
+#[test]
+#[tactic(auto, unfolding(shm_words::specs::Layout::address))]
+fn each_identity_joins(rt: HostRuntime) -> Result<(), Fail> {
+    for (clients, segments) in [(1, 1), (3, 2)] {
+        let geometry = Geometry::new(clients, segments)?;
+        for who in 0..clients {
+            let mut life = Life::of(3);
+            let Some(pool) = joined(rt.alloc(), geometry, 9, false, &mut life, who)? else {
+                panic!(rt; "{clients} {who}")
+            };
+            assert_eq!(rt; life.left, 2, "{clients} {who}");
+            assert_eq!(rt; pool.geometry(), geometry, "{clients} {who}");
+            assert_eq!(rt; pool.word(geometry.status(who)), 1, "{clients} {who}");
+        }
+    }
+    Ok(())
+}
+
+#[test]
+fn nobody_joins_without_a_step(rt: HostRuntime) -> Result<(), Fail> {
+    let mut life = Life::of(0);
+    let pool = joined(rt.alloc(), Geometry::new(3, 2)?, 9, true, &mut life, 1)?;
+    assert!(rt; pool.is_none());
+    assert_eq!(rt; life.left, 0);
     Ok(())
 }

@@ -1,0 +1,195 @@
+-- a machine that goes on, step by step, on a pool in a vector
+use Rattle.std.proofs.Common.{◌≡◌, ◌≢◌, ℕ, ◌+◌, ◌<◌, ◌&&◌, true, false, Bool, cond, List, length, refl, sym, ap, ◌∙◌, subst, arith, inl, inr}
+use Rattle.std.specs.Prelude.{Option, Some, None}
+use Rattle.std.proofs.lemmas.Bool.{cases_eq, true≢false}
+use Rattle.std.proofs.lemmas.List.{get_or-set_same, get_or-set_other, length-append, length-set}
+use Rattle.shm_graph.specs.declared.ask.Turn.{Turn}
+use Rattle.shm_graph.specs.declared.ask.Turn.TheVariants.{More}
+use Rattle.shm_graph.specs.declared.memo.Agent.{Agent}
+use Rattle.shm_graph.specs.declared.memo.Kind.TheVariants.{Recoverer, Client}
+use Rattle.shm_graph.specs.declared.memo.Memo.{Memo}
+use Rattle.shm_graph.specs.declared.memo.Status.{Status as AStatus}
+use Rattle.shm_graph.specs.declared.memo.Status.TheVariants.{Gone}
+use Rattle.shm_graph.specs.declared.memo.Step.{Step}
+use Rattle.shm_graph.specs.declared.run.Account.{Account}
+use Rattle.shm_graph.specs.declared.spot.Spot.{Spot}
+use Rattle.shm_graph.specs.Asks.{Trail, call_before}
+use Rattle.shm_graph.specs.Agents.{acts, entered, is_gone, last_agent, with_last, ended, stepped}
+use Rattle.shm_graph.specs.Changes.{memo_on, asked_spot}
+use Rattle.shm_graph.specs.Laws.{Control, Steady, Back, Outcome, is_died, is_some, turn_of}
+use Rattle.shm_graph.specs.Runs.{MayBegin, account_at, account_after, account_entered, changed, fell_by, memos_of}
+use Rattle.shm_graph.specs.Whole.{fits_now, gives_now}
+use Rattle.shm_graph.proofs.Going.{account_acts-on, account_acts-here, whole_back}
+use Rattle.shm_graph.proofs.MemoSteps.{acts_after, acts-entered, agents_after, ends_agent, last-with_last, memo_agents, with_some}
+use Rattle.shm_plain.specs.Pools.{Pool, IsOf, IsRun, MayStep, memo_of, readied, turn_on, turned}
+use Rattle.shm_plain.specs.Tracks.{kind_next}
+use Rattle.shm_plain.proofs.Turning.{ready_memo}
+
+-- ---- the pool in which an agent of c acts
+
+ready_long : (p : Pool) (c : ℕ) → length (readied p c).accounts ≡ length p.accounts
+ready_long p c = go (acts (memo_of p c))
+  where
+    es' : List Account
+    es' = changed (account_entered (kind_next (memo_of p c))) p.accounts c
+
+    go : (b : Bool) → length (cond b p.accounts es') ≡ length p.accounts
+    go true = refl
+    go false = length-set p.accounts c _
+
+ready_other : (p : Pool) (c d : ℕ) → d ≢ c → memo_of (readied p c) d ≡ memo_of p d
+ready_other p c d n = go (acts (memo_of p c))
+  where
+    es' : List Account
+    es' = changed (account_entered (kind_next (memo_of p c))) p.accounts c
+
+    go : (b : Bool) → memos_of (cond b p.accounts es') d ≡ memo_of p d
+    go true = refl
+    go false = ap (λ (x : Account). x.memo) (get_or-set_other p.accounts c d _ _ n)
+
+ready_acts : (p : Pool) (c : ℕ) → c < length p.accounts → acts (memo_of (readied p c) c) ≡ true
+ready_acts p c l = ap acts (ready_memo p c l) ∙ go (acts (memo_of p c)) refl
+  where
+    go : (b : Bool) → acts (memo_of p c) ≡ b → acts (cond b (memo_of p c) (entered (kind_next (memo_of p c)) (memo_of p c))) ≡ true
+    go true e = e
+    go false e = acts-entered _ (memo_of p c)
+
+-- where one acts already, it is the pool itself
+ready_still : (p : Pool) (c : ℕ) → acts (memo_of p c) ≡ true → memo_of (readied p c) c ≡ memo_of p c
+ready_still p c e = ap (λ (b : Bool). memos_of (cond b p.accounts (changed (account_entered (kind_next (memo_of p c))) p.accounts c)) c) e
+
+-- ---- the agent after a step
+
+gone_is : (s : AStatus) → is_gone s ≡ true → s ≡ Gone
+gone_is Gone e = refl
+gone_is _ e = absurd (true≢false (sym e))
+
+ended_fell : (o : Option Agent) → fell_by (with_some ended o) ≡ false
+ended_fell None = refl
+ended_fell (Some a) = refl
+
+-- where the step of an acting agent ended it, the next one may begin: a client, since the status is gone
+may_after : (m : Memo) (t : Step) (p : Spot) → acts m ≡ true → let m' = memo_on m t p in acts m' ≡ false → MayBegin (kind_next m') m'
+may_after m t p e f = go (is_gone m'.status) t.ends refl refl
+  where
+    m' : Memo
+    m' = memo_on m t p
+
+    after : (b : Bool) → ends_agent m t p ≡ b → acts m' ≡ cond b false (acts m)
+    after b h = acts_after m t p ∙ ap (λ (x : Bool). cond x false (acts m)) h
+
+    fell : ends_agent m t p ≡ true → fell_by (last_agent m'.agents) ≡ false
+    fell h = ap (λ xs. fell_by (last_agent xs)) (memo_agents m t p ∙ ap (λ (b : Bool). agents_after b m.agents) h) ∙ (ap fell_by (last-with_last ended (with_last stepped m.agents)) ∙ ended_fell (last_agent (with_last stepped m.agents)))
+
+    go : (g b : Bool) → is_gone m'.status ≡ g → t.ends ≡ b → MayBegin (kind_next m') m'
+    go true true h i = subst (λ (x : Bool). MayBegin (cond x Recoverer Client) m') (sym (fell (λ j. h j && i j))) (inr (gone_is m'.status h))
+    go true false h i = absurd (true≢false (sym (after false (λ j. h j && i j) ∙ e) ∙ f))
+    go false b h i = absurd (true≢false (sym (after false (λ j. h j && t.ends) ∙ e) ∙ f))
+
+-- ---- what a step answers
+
+goes_on : {A : Type 0} (o : Option A) → turn_of o ≡ More → o ≡ None
+goes_on None e = refl
+goes_on (Some a) e = absurd (cc)
+
+pub lives : {A : Type 0} (u : Turn A) (left : ℕ) → is_died u ≡ false → (left ≡ 0 → is_died u ≡ true) → 0 < left
+lives u left e h =
+    elim (cases_eq left 0) [
+      | inl z ↦ absurd (true≢false (sym (h z) ∙ e))
+      | inr n ↦ omega arith
+    ]
+
+-- ---- machines
+
+module _ {M A : Type 0} (k : Control M A) (fits : M → Memo → Memo → Trail → Type 0) (gives : M → Memo → Memo → Trail → A → Type 0) (c : ℕ) where
+  -- how much its machine has asked of the pool in which an agent of c acts
+  abbrev pub asked : Pool → M → ℕ
+  asked p m = length (call_before (k.fresh m) (memo_of (readied p c) c).call)
+
+  -- steps of c led from the pool p, the machine m and x steps that are left to q, n and y, and none of them was the machine's last
+  pub record Went (p : Pool) (m : M) (x : ℕ) (q : Pool) (n : M) (y : ℕ) : Type 0 where
+    pub of : IsOf q c k n
+    pub may : MayStep q c
+    pub forth : (r0 : Memo) → fits_now k fits m r0 (memo_of (readied p c) c) → fits_now k fits n r0 (memo_of (readied q c) c)
+    pub back : (r0 r : Memo) (a : A) → gives_now gives n r0 r a → gives_now gives m r0 r a
+    pub start : q.start ≡ p.start
+    pub others : (d : ℕ) → d ≢ c → memo_of q d ≡ memo_of p d
+    pub spent : y + asked q n ≡ x + asked p m
+
+  pub went_first : (p : Pool) (m : M) (x : ℕ) → IsOf p c k m → MayStep p c → Went p m x p m x
+  went_first p m x of may = record { of = of; may = may; forth = λ r0 f. f; back = λ r0 r a g. g; start = refl; others = λ d n. refl; spent = refl }
+
+  -- one more step, which led to q' and n'
+  module _ (p : Pool) (m : M) (x : ℕ) (q : Pool) (n : M) (y : ℕ) (went : Went p m x q n y) (q' : Pool) (to : q' ≡ turned (readied q c) (turn_on (readied q c) k n)) (run : IsRun q') where
+    abbrev r : Pool
+    r = readied q c
+
+    abbrev t : Step
+    t = turn_on r k n
+
+    who : t.me.who ≡ c
+    who = ap (λ z. z.who) went.of.0
+
+    long : c < length r.accounts
+    long = subst (λ (z : ℕ). c < z) (sym (subst (λ (z : Pool). IsRun z) to run).held.accounts ∙ length-set r.accounts t.me.who _) went.of.1
+
+    acting : acts (memo_of r c) ≡ true
+    acting = ready_acts q c (subst (λ (z : ℕ). c < z) (ready_long q c) long)
+
+    here : account_at q'.accounts c ≡ account_after (account_at r.accounts c) t
+    here =
+        ap (λ (z : Pool). account_at z.accounts c) to
+        ∙ subst (λ (z : ℕ). account_at (turned r t).accounts z ≡ account_after (account_at r.accounts z) t) who (get_or-set_same r.accounts t.me.who _ _ (subst (λ (z : ℕ). z < length r.accounts) (sym who) long))
+
+    pub went_start : q'.start ≡ p.start
+    went_start = ap (λ (z : Pool). z.start) to ∙ went.start
+
+    pub went_others : (d : ℕ) → d ≢ c → memo_of q' d ≡ memo_of p d
+    went_others d o =
+        ap (λ (z : Pool). memo_of z d) to
+        ∙ (ap (λ (x : Account). x.memo) (get_or-set_other r.accounts t.me.who d _ _ (λ e. o (e ∙ who)))
+        ∙ (ready_other q c d o ∙ went.others d o))
+
+    pub went_acts : (memo_of q' c).status ≢ Gone → acts (memo_of q' c) ≡ true
+    went_acts o = ap (λ (x : Account). acts x.memo) here ∙ (account_acts-here (account_at r.accounts c) t (λ e. o (ap (λ (x : Account). x.memo.status) here ∙ e)) ∙ acting)
+
+    pub went_may : MayStep q' c
+    went_may = subst (λ (x : Memo). acts x ≡ false → MayBegin (kind_next x) x) (sym (ap (λ (x : Account). x.memo) here)) (may_after (memo_of r c) t (asked_spot (memo_of r c) t) acting)
+
+    called : length (memo_of q' c).call ≡ asked q n + 1
+    called = ap (λ (z : Account). length z.memo.call) here ∙ length-append (call_before (k.fresh n) (memo_of r c).call) _
+
+    pub went_spent : (y' : ℕ) → y' + 1 ≡ y → y' + length (memo_of q' c).call ≡ x + asked p m
+    went_spent y' e = let one = called in let so = went.spent in omega arith
+
+    pub went_spent_all : (y' : ℕ) → y' + 1 ≡ y → k.fresh m ≡ true → y' + length (memo_of q' c).call ≡ x
+    went_spent_all y' e fresh =
+        let none : asked p m ≡ 0 = ap (λ (b : Bool). length (call_before b (memo_of (readied p c) c).call)) fresh in
+        let all = went_spent y' e in
+        omega arith
+
+    module _ (n' : M) (learns : (r0 : Memo) → fits_now k fits n r0 (memo_of r c) → Outcome (k.turns n t.seen) (fits_now k fits n' r0 (memo_of q' c)) (gives_now gives n r0 (memo_of q' c))) where
+      -- it was the last one
+      pub went_gives : (a : A) → k.turns n t.seen ≡ Some a → (r0 : Memo) → fits_now k fits m r0 (memo_of (readied p c) c) → gives_now gives m r0 (memo_of q' c) a
+      went_gives a e r0 fit = went.back r0 (memo_of q' c) a (subst (λ (o : Option A). Outcome o (fits_now k fits n' r0 (memo_of q' c)) (gives_now gives n r0 (memo_of q' c))) e (learns r0 (went.forth r0 fit)))
+
+      -- it wasn't
+      pub went_on : Steady k → Back k gives → n' ≡ k.after n t.seen → (u : Turn A) → u ≡ turn_of (k.turns n t.seen) → u ≡ More → (y' : ℕ) → y' + 1 ≡ y → Went p m x q' n' y'
+      went_on steady goes after u is more y' left =
+          let e : k.turns n t.seen ≡ None = goes_on (k.turns n t.seen) (sym is ∙ more) in
+          let stays = steady n t.seen went.of.2 in
+          let going : t.ends ≡ false = stays.ends ∙ ap is_some e in
+          let acts' : acts (memo_of q' c) ≡ true = ap (λ (x : Account). acts x.memo) here ∙ (account_acts-on (account_at r.accounts c) t going ∙ acting) in
+          record {
+            of = subst (λ (z : M). IsOf q' c k z) (sym after) (subst (λ (z : Pool). IsOf z c k (k.after n t.seen)) (sym to) (stays.same_me ∙ went.of.0, went.of.1, going));
+            may = λ f. absurd (true≢false (sym acts' ∙ f));
+            forth = λ r0 fit. subst (λ (z : Memo). fits_now k fits n' r0 z) (sym (ready_still q' c acts'))
+                (subst (λ (o : Option A). Outcome o (fits_now k fits n' r0 (memo_of q' c)) (gives_now gives n r0 (memo_of q' c))) e (learns r0 (went.forth r0 fit)));
+            back = λ r0 s a g. went.back r0 s a (whole_back k gives goes n t.seen went.of.2 e r0 s a (subst (λ (z : M). gives_now gives z r0 s a) after g));
+            start = went_start;
+            others = went_others;
+            spent =
+                let begun : k.fresh n' ≡ false = ap (λ (z : M). k.fresh z) after ∙ stays.started in
+                ap (λ (b : Bool). y' + length (call_before b (memo_of (readied q' c) c).call)) begun
+                ∙ (ap (λ (z : Memo). y' + length z.call) (ready_still q' c acts') ∙ went_spent y' left);
+          }
