@@ -1,0 +1,2 @@
+pub mod StepControl
+pub mod StepTrail

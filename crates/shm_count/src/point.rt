@@ -1,0 +1,260 @@
+//! The control of a count step: which word it asks for, and where it goes by the word found.
+
+use crate::answer::UpFault;
+use shm_graph::{Ask, Me};
+use shm_words::{Header, Redo};
+
+/// What a count step does to the reference word that is its slot.
+#[derive(Clone, Copy, Debug, PartialEq, Eq, Drop)]
+pub enum Aim {
+    /// It is empty, and comes to name the block.
+    Up { block: u32 },
+    /// It names the block, and comes to be empty.
+    Down { block: u32 },
+    /// It names the block before, and comes to name the block after.
+    Change { before: u32, after: u32 },
+}
+
+/// The halves of a change; the other steps have the first one alone.
+#[derive(Clone, Copy, Debug, PartialEq, Eq, Drop)]
+pub enum Part {
+    First,
+    Second,
+}
+
+/// The step that comes next; `era` is the own era of the current half.
+#[derive(Clone, Copy, Debug, PartialEq, Eq, Drop)]
+pub enum StepPoint {
+    /// Load the own era.
+    Era,
+    /// Store the redo record.
+    Redo { era: u64 },
+    /// Load the header of the block.
+    Load { era: u64, part: Part },
+    /// Load the own row for the header's client.
+    Row { era: u64, part: Part, header: u64 },
+    /// Store the header's era in that row.
+    Show { era: u64, part: Part, header: u64 },
+    /// Exchange the header.
+    Exchange { era: u64, part: Part, header: u64 },
+    /// Store the slot.
+    Slot { era: u64, zero: bool },
+    /// Store the next own era.
+    Close { era: u64, part: Part, zero: bool },
+    /// It has answered.
+    Over,
+}
+
+/// The control of a count step; `slot` is an address.
+#[derive(Clone, Copy, Debug, PartialEq, Eq, Drop)]
+pub struct StepState {
+    pub me: Me,
+    pub slot: u32,
+    pub aim: Aim,
+    pub point: StepPoint,
+}
+
+/// Where a count step goes by the word that it found; the answer says whether a count came to 0.
+#[derive(Clone, Copy, Debug, PartialEq, Eq, Drop)]
+pub enum Next {
+    Point(StepPoint),
+    Answer(Result<bool, UpFault>),
+}
+
+impl Aim {
+    /// The greatest own era that leaves room for the step.
+    fn last_era(self) -> u64 {
+        match self {
+            Aim::Change { .. } => (1 << 47) - 4,
+            _ => (1 << 47) - 3,
+        }
+    }
+
+    /// The block whose count changes.
+    fn block(self, part: Part) -> u32 {
+        match (self, part) {
+            (Aim::Up { block } | Aim::Down { block }, _) => block,
+            (Aim::Change { after, .. }, Part::First) => after,
+            (Aim::Change { before, .. }, Part::Second) => before,
+        }
+    }
+
+    /// Whether the count goes up.
+    fn raises(self, part: Part) -> bool {
+        match (self, part) {
+            (Aim::Up { .. }, _) | (Aim::Change { .. }, Part::First) => true,
+            _ => false,
+        }
+    }
+
+    /// What the slot comes to hold.
+    fn value(self) -> u32 {
+        match self {
+            Aim::Up { block } => block,
+            Aim::Down { .. } => 0,
+            Aim::Change { after, .. } => after,
+        }
+    }
+
+    /// The redo record at an era.
+    fn redo(self, slot: u32, era: u64) -> Redo {
+        match self {
+            Aim::Up { block } => Redo::Up { slot, block },
+            Aim::Down { block } => Redo::Down { slot, block },
+            Aim::Change { before, after } => Redo::Change {
+                odd: era % 2 == 1,
+                slot,
+                before,
+                after,
+            },
+        }
+    }
+}
+
+impl StepState {
+    /// The header that the block comes to have.
+    fn new_header(self, era: u64, part: Part, header: u64) -> u64 {
+        let count = Header::unpack(header).count;
+        Header {
+            live: true,
+            client: self.me.who,
+            count: if self.aim.raises(part) {
+                count + 1
+            } else {
+                count.saturating_sub(1)
+            },
+            era,
+        }
+        .pack()
+    }
+
+    /// The address of the own row's word for a client; no header shows a client that the pool hasn't.
+    fn row(self, client: u8) -> u32 {
+        let Me { geometry, who } = self.me;
+        if client < geometry.clients() {
+            geometry.era(who, client)
+        } else {
+            0
+        }
+    }
+
+    /// The word step that comes next.
+    pub fn ask(self) -> Ask {
+        let Me { geometry, who } = self.me;
+        match self.point {
+            StepPoint::Era => Ask::Load {
+                at: geometry.era(who, who),
+            },
+            StepPoint::Redo { era } => Ask::Store {
+                at: geometry.redo(who),
+                value: self.aim.redo(self.slot, era).pack(),
+            },
+            StepPoint::Load { part, .. } => Ask::Load {
+                at: self.aim.block(part),
+            },
+            StepPoint::Row { header, .. } => Ask::Load {
+                at: self.row(Header::unpack(header).client),
+            },
+            StepPoint::Show { header, .. } => {
+                let Header { client, era, .. } = Header::unpack(header);
+                Ask::Store {
+                    at: self.row(client),
+                    value: era,
+                }
+            }
+            StepPoint::Exchange { era, part, header } => Ask::Exchange {
+                at: self.aim.block(part),
+                from: header,
+                to: self.new_header(era, part, header),
+            },
+            StepPoint::Slot { .. } => Ask::Store {
+                at: self.slot,
+                value: u64::from(self.aim.value()),
+            },
+            StepPoint::Close { era, .. } => Ask::Store {
+                at: geometry.era(who, who),
+                value: era + 1,
+            },
+            StepPoint::Over => Ask::Load { at: 0 },
+        }
+    }
+
+    /// Where it goes by the word that it found.
+    pub fn next(self, seen: u64) -> Next {
+        match self.point {
+            StepPoint::Era => self.era_next(seen),
+            StepPoint::Redo { era } => Next::Point(StepPoint::Load {
+                era,
+                part: Part::First,
+            }),
+            StepPoint::Load { era, part } => self.header_next(era, part, seen),
+            StepPoint::Row { era, part, header } => row_next(era, part, header, seen),
+            StepPoint::Show { era, part, header } => {
+                Next::Point(StepPoint::Exchange { era, part, header })
+            }
+            StepPoint::Exchange { era, part, header } => {
+                if seen == header {
+                    self.committed(era, part, header)
+                } else {
+                    self.header_next(era, part, seen)
+                }
+            }
+            StepPoint::Slot { era, zero } => Next::Point(StepPoint::Close {
+                era,
+                part: Part::First,
+                zero,
+            }),
+            StepPoint::Close { era, part, zero } => self.closed(era, part, zero),
+            StepPoint::Over => Next::Point(StepPoint::Over),
+        }
+    }
+
+    fn era_next(self, seen: u64) -> Next {
+        if seen > self.aim.last_era() {
+            Next::Answer(Err(UpFault::EraSpent { era: seen }))
+        } else {
+            Next::Point(StepPoint::Redo { era: seen })
+        }
+    }
+
+    /// Where it goes by the header of its block.
+    fn header_next(self, era: u64, part: Part, header: u64) -> Next {
+        let Header { client, count, .. } = Header::unpack(header);
+        if self.aim.raises(part) && count == 1023 {
+            let block = self.aim.block(part);
+            Next::Answer(Err(UpFault::CountFull { block, count }))
+        } else if client == self.me.who {
+            Next::Point(StepPoint::Exchange { era, part, header })
+        } else {
+            Next::Point(StepPoint::Row { era, part, header })
+        }
+    }
+
+    /// Where it goes once the header is exchanged.
+    fn committed(self, era: u64, part: Part, header: u64) -> Next {
+        let zero = !self.aim.raises(part) && Header::unpack(header).count == 1;
+        Next::Point(match part {
+            Part::First => StepPoint::Slot { era, zero },
+            Part::Second => StepPoint::Close { era, part, zero },
+        })
+    }
+
+    /// Where it goes once the own era is stored.
+    fn closed(self, era: u64, part: Part, zero: bool) -> Next {
+        match (self.aim, part) {
+            (Aim::Change { .. }, Part::First) => Next::Point(StepPoint::Load {
+                era: era + 1,
+                part: Part::Second,
+            }),
+            _ => Next::Answer(Ok(zero)),
+        }
+    }
+}
+
+fn row_next(era: u64, part: Part, header: u64, seen: u64) -> Next {
+    if seen < Header::unpack(header).era {
+        Next::Point(StepPoint::Show { era, part, header })
+    } else {
+        Next::Point(StepPoint::Exchange { era, part, header })
+    }
+}
