@@ -1,5 +1,5 @@
 -- a machine that goes on, step by step, on a pool in a vector
-use Rattle.std.proofs.Common.{◌≡◌, ◌≢◌, ℕ, ◌+◌, ◌<◌, ◌&&◌, true, false, Bool, cond, List, length, refl, sym, ap, ◌∙◌, subst, arith, inl, inr}
+use Rattle.std.proofs.Common.{◌≡◌, ◌≢◌, ℕ, ◌+◌, ◌<◌, ◌&&◌, true, false, Bool, cond, List, [], length, refl, sym, ap, ◌∙◌, subst, arith, inl, inr}
 use Rattle.std.specs.Prelude.{Option, Some, None}
 use Rattle.std.proofs.lemmas.Bool.{cases_eq, true≢false}
 use Rattle.std.proofs.lemmas.List.{get_or-set_same, get_or-set_other, length-append, length-set}
@@ -54,9 +54,12 @@ ready_acts p c l = ap acts (ready_memo p c l) ∙ go (acts (memo_of p c)) refl
     go true e = e
     go false e = acts-entered _ (memo_of p c)
 
--- where one acts already, it is the pool itself
-ready_still : (p : Pool) (c : ℕ) → acts (memo_of p c) ≡ true → memo_of (readied p c) c ≡ memo_of p c
+-- where one acts already, it is the pool itself, and may step
+pub ready_still : (p : Pool) (c : ℕ) → acts (memo_of p c) ≡ true → memo_of (readied p c) c ≡ memo_of p c
 ready_still p c e = ap (λ (b : Bool). memos_of (cond b p.accounts (changed (account_entered (kind_next (memo_of p c))) p.accounts c)) c) e
+
+pub may_acting : (p : Pool) (c : ℕ) → acts (memo_of p c) ≡ true → MayStep p c
+may_acting p c e f = absurd (true≢false (sym e ∙ f))
 
 -- ---- the agent after a step
 
@@ -115,6 +118,12 @@ module _ {M A : Type 0} (k : Control M A) (fits : M → Memo → Memo → Trail 
     pub start : q.start ≡ p.start
     pub others : (d : ℕ) → d ≢ c → memo_of q d ≡ memo_of p d
     pub spent : y + asked q n ≡ x + asked p m
+
+  -- a machine that has made no step fits where it fits the memo of an identity of which an agent acts
+  pub fits_acting : (p : Pool) (m : M) → acts (memo_of p c) ≡ true → k.fresh m ≡ true → fits m (memo_of p c) (memo_of p c) [] → fits_now k fits m (memo_of p c) (memo_of (readied p c) c)
+  fits_acting p m e fresh fit =
+      subst (λ (z : Memo). fits_now k fits m (memo_of p c) z) (sym (ready_still p c e))
+      (subst (λ (b : Bool). fits m (memo_of p c) (memo_of p c) (call_before b (memo_of p c).call)) (sym fresh) fit)
 
   pub went_first : (p : Pool) (m : M) (x : ℕ) → IsOf p c k m → MayStep p c → Went p m x p m x
   went_first p m x of may = record { of = of; may = may; forth = λ r0 f. f; back = λ r0 r a g. g; start = refl; others = λ d n. refl; spent = refl }
@@ -182,7 +191,7 @@ module _ {M A : Type 0} (k : Control M A) (fits : M → Memo → Memo → Trail 
           let acts' : acts (memo_of q' c) ≡ true = ap (λ (x : Account). acts x.memo) here ∙ (account_acts-on (account_at r.accounts c) t going ∙ acting) in
           record {
             of = subst (λ (z : M). IsOf q' c k z) (sym after) (subst (λ (z : Pool). IsOf z c k (k.after n t.seen)) (sym to) (stays.same_me ∙ went.of.0, went.of.1, going));
-            may = λ f. absurd (true≢false (sym acts' ∙ f));
+            may = may_acting q' c acts';
             forth = λ r0 fit. subst (λ (z : Memo). fits_now k fits n' r0 z) (sym (ready_still q' c acts'))
                 (subst (λ (o : Option A). Outcome o (fits_now k fits n' r0 (memo_of q' c)) (gives_now gives n r0 (memo_of q' c))) e (learns r0 (went.forth r0 fit)));
             back = λ r0 s a g. went.back r0 s a (whole_back k gives goes n t.seen went.of.2 e r0 s a (subst (λ (z : M). gives_now gives z r0 s a) after g));
