@@ -13,7 +13,10 @@ use Rattle.shm_count.specs.declared.answer.UpFault.TheVariants.{EraSpent, CountF
 use Rattle.shm_count.specs.declared.point.Aim.{Aim}
 use Rattle.shm_count.specs.declared.point.Aim.TheVariants.{Up, Down, Change}
 use Rattle.shm_count.specs.StepControl.{last_era, block_at, raises, value_after, redo_at, count_after, row_address}
-use Rattle.shm_count.specs.declared.point.Part.TheVariants.{First}
+use Rattle.shm_count.specs.declared.point.Part.{Part}
+use Rattle.shm_count.specs.declared.point.Part.TheVariants.{First, Second}
+use Rattle.shm_count.specs.declared.point.StepPoint.{StepPoint}
+use Rattle.shm_count.specs.declared.point.StepPoint.TheVariants as point
 
 -- the trails of a count step, each with its answer: whether a count came to 0
 abbrev pub StepTrails : Type 1
@@ -77,3 +80,33 @@ module _ (me : Me) where
   step_trail slot x =
       Asked (Load (address me.geometry (place.Era me.who me.who))) (λ e.
       Chosen (nat_lt (last_era x) e) (Answers (Err (EraSpent e))) (redo_trail slot x e))
+
+-- ---- from a point on
+
+-- what follows the exchange of each half
+abbrev pub after_set : Me → ℕ → Aim → ℕ → Part → Bool → StepTrails
+after_set me slot x e First z = slot_trail me slot x e z
+after_set me slot x e Second z = end_trail me e z
+
+-- what follows an exchange that found another header, where it is tried again at most n times
+abbrev pub again_trail : Me → ℕ → Aim → ℕ → Part → ℕ → ℕ → StepTrails
+again_trail me slot x e h zero w = λ tr a. ⊥
+again_trail me slot x e h (suc n) w = set_trail me n (raises x h) (block_at x h) e (after_set me slot x e h) w
+
+-- the trails from a point on
+abbrev pub point_trail : Me → ℕ → Aim → StepPoint → StepTrails
+point_trail me slot x point.Era = step_trail me slot x
+point_trail me slot x (point.Redo e) = redo_trail me slot x e
+point_trail me slot x (point.Load e h) = load_trail me (raises x h) (block_at x h) e (after_set me slot x e h)
+point_trail me slot x (point.Row e h w) = λ tr a. (n : ℕ) × row_trail me (raises x h) (block_at x h) e w (again_trail me slot x e h n) (after_set me slot x e h) tr a
+point_trail me slot x (point.Show e h w) = λ tr a. (n : ℕ) × show_trail me (raises x h) (block_at x h) e w (again_trail me slot x e h n) (after_set me slot x e h) tr a
+point_trail me slot x (point.Exchange e h w) = λ tr a. (n : ℕ) × exchange_trail me (raises x h) (block_at x h) e w (again_trail me slot x e h n) (after_set me slot x e h) tr a
+point_trail me slot x (point.Slot e z) = slot_trail me slot x e z
+point_trail me slot x (point.Close e First z) = close_trail me x e z
+point_trail me slot x (point.Close e Second z) = end_trail me e z
+point_trail me slot x point.Over = λ tr a. ⊥
+
+-- how many word steps a count step takes, but for what is tried again
+abbrev pub steps_of : Aim → ℕ
+steps_of (Change a b) = 13
+steps_of x = 8
