@@ -22,3 +22,5 @@ pub mod HeaderReads
 pub mod BlockReads
 pub mod BodyLoads
 pub mod Covering
+pub mod BeginAt
+pub mod BeginSlots
