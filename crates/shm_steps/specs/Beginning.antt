@@ -6,6 +6,10 @@ use Rattle.shm_graph.specs.declared.memo.Memo.{Memo}
 use Rattle.shm_graph.specs.Views.{own_word}
 use Rattle.shm_graph.specs.Reach.{is_reached}
 use Rattle.shm_steps.specs.Conditions.{IsHere}
+use Rattle.std.specs.Prelude.{◌%◌, ◌<◌, slice_index}
+use Rattle.std.specs.List.{Contains}
+use Rattle.shm_graph.specs.declared.spot.Spot.TheVariants.{Home, Tail, Front, Slot}
+use Rattle.shm_graph.specs.declared.memo.Fact.TheVariants.{Counter}
 
 -- no step is in progress, and the own era leaves room for one that takes it up by less than n
 pub record MayBegin (c : ℕ) (m : Memo) (n : ℕ) : Type 0 where
@@ -20,3 +24,33 @@ pub record MayChange (c : ℕ) (m : Memo) (k a b : ℕ) : Type 0 where
   pub root : own_word m.own (Root c k) ≡ a
   pub other : a ≢ b
   pub source : is_reached c m b ≡ true
+
+-- the own home is empty, and is to have a block in reach
+pub record MaySet (c : ℕ) (m : Memo) (b : ℕ) : Type 0 where
+  pub may : MayBegin c m 3
+  pub empty : own_word m.own (Home c) ≡ 0
+  pub source : is_reached c m b ≡ true
+
+-- a block in reach is to stand in slot k, the next one of the queue to another of the n clients: no block waits there for its tail, and a head that was read leaves room
+pub record MayPut (n c : ℕ) (m : Memo) (i k b : ℕ) : Type 0 where
+  pub may : MayBegin c m 3
+  pub to : i < n
+  pub other : c ≢ i
+  pub next : k ≡ own_word m.own (Tail c i) % 8
+  pub none : slice_index m.unsent i ≡ 0
+  pub read : (y : ℕ) × Contains m.facts (Counter (Front c i) y) × (own_word m.own (Tail c i) < y + 8)
+  pub source : is_reached c m b ≡ true
+
+-- block b is known in slot k of the queue from s, whence it is to be taken
+pub record MayTake (c : ℕ) (m : Memo) (s k b : ℕ) : Type 0 where
+  pub may : MayBegin c m 3
+  pub known : Contains m.known (record { spot = Slot s c k; value = b })
+
+-- block b stands in slot k of the queue to another of the n clients, its tail isn't stored, and it is to go
+pub record MayTakeBack (n c : ℕ) (m : Memo) (i k b : ℕ) : Type 0 where
+  pub may : MayBegin c m 3
+  pub to : i < n
+  pub other : c ≢ i
+  pub next : k ≡ own_word m.own (Tail c i) % 8
+  pub some : b ≢ 0
+  pub unsent : slice_index m.unsent i ≡ b
