@@ -24,3 +24,4 @@ pub mod BodyLoads
 pub mod Covering
 pub mod BeginAt
 pub mod BeginSlots
+pub mod BeginWords

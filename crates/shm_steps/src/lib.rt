@@ -12,7 +12,7 @@ mod preparing;
 mod reading;
 mod unlatching;
 
-pub use beginning::{changes_begin, slots_begin};
+pub use beginning::{changes_begin, slots_begin, words_begin};
 pub use exchanging::header_exchanges;
 pub use laws::slot_stores;
 pub use preparing::preparing_steps;
