@@ -1,5 +1,5 @@
 -- a step begins at any slot that the identity may store
-use Rattle.std.proofs.Common.{◌≡◌, ◌≢◌, ℕ, ◌^◌, ◌<◌, refl, sym, ap, ◌∙◌, subst, arith, true, false, ltb, None, Some, Option, inl, inr}
+use Rattle.std.proofs.Common.{◌≡◌, ◌≢◌, ℕ, ◌^◌, ◌<◌, refl, sym, ap, ◌∙◌, subst, arith, Bool, true, false, ltb, None, Some, Option, inl, inr}
 use Rattle.std.proofs.lemmas.Bool.{cases_eq, eq-eqb, ne_eqb, lt-ltb, cond-true, cond-false}
 use Rattle.shm_words.specs.declared.geometry.Geometry.{Geometry}
 use Rattle.shm_words.specs.declared.redo.Redo.{Redo as ARedo}
@@ -112,6 +112,26 @@ module _ (g : Geometry) (w : Spot → ℕ) (r : ℕ → Memo) (c : ℕ) (h : Hel
   named_fits : (b : ℕ) → IsBlock g (classes w) b → b < 2 ^ 20
   named_fits b a = let x = block_within g (classes w) b a in let y = total_small g h.fits in omega arith
 
+  -- ---- what is begun
+
+  -- the step that a redo word begins at a slot
+  pub up_begun_at : (p : Spot) (b x : ℕ) → SlotHas g w r c p x → is_reached c m b ≡ true → op_begun g c m (redo_word (redos.Up (spot_address g p) b)) ≡ Up Begun p b e
+  up_begun_at p b x s u =
+      ap (op_spelled (word_told g c m) m.making e) (redo_of-word (redos.Up (spot_address g p) b) (slot_fits p s.at, named_fits b (reached_block b u)))
+      ∙ (cond-false (is_block_made m.making b) (Alloc Begun (word_told g c m (spot_address g p)) b e) (Up Begun (word_told g c m (spot_address g p)) b e) (reached_not_made b u)
+      ∙ ap (λ q. Up Begun q b e) s.told)
+
+  pub down_begun_at : (p : Spot) (b : ℕ) → SlotHas g w r c p b → b ≢ 0 → m.op ≡ Nothing → op_begun g c m (redo_word (redos.Down (spot_address g p) b)) ≡ Down Begun p b e
+  down_begun_at p b s some idle =
+      ap (op_spelled (word_told g c m) m.making e) (redo_of-word (redos.Down (spot_address g p) b) (slot_fits p s.at, named_fits b (named_block p b some s idle)))
+      ∙ ap (λ q. Down Begun q b e) s.told
+
+  pub change_begun_at : (p : Spot) (a b : ℕ) (parity : Bool) → SlotHas g w r c p a → a ≢ 0 → m.op ≡ Nothing → is_reached c m b ≡ true
+      → op_begun g c m (redo_word (redos.Change parity (spot_address g p) a b)) ≡ Change (Raising Begun) p a b e
+  change_begun_at p a b parity s some idle u =
+      ap (op_spelled (word_told g c m) m.making e) (redo_of-word (redos.Change parity (spot_address g p) a b) (slot_fits p s.at, named_fits a (named_block p a some s idle), named_fits b (reached_block b u)))
+      ∙ ap (λ q. Change (Raising Begun) q a b e) s.told
+
   -- ---- steps
 
   -- a step begins where its redo word spells it
@@ -145,9 +165,7 @@ module _ (g : Geometry) (w : Spot → ℕ) (r : ℕ → Memo) (c : ℕ) (h : Hel
       let block : IsBlock g (classes w) b = reached_block b u in
       let fits : RedoFits red = (slot_fits p s.at, named_fits b block) in
       begins_at p red (Up Begun p b e) 0 a fits block refl refl refl (record { spelled = redo_of-word red fits; current = era_here; at = s.at; word = s.word }) out refl s
-      (ap (op_spelled (word_told g c m) m.making e) (redo_of-word red fits)
-      ∙ (cond-false (is_block_made m.making b) (Alloc Begun (word_told g c m (spot_address g p)) b e) (Up Begun (word_told g c m (spot_address g p)) b e) (reached_not_made b u)
-      ∙ ap (λ q. Up Begun q b e) s.told))
+      (up_begun_at p b 0 s u)
 
   -- the block of a slot is to go
   pub down_at : (p : Spot) (b : ℕ) → MayBegin c m 3 → SlotHas g w r c p b → b ≢ 0 → is_home p ≡ false
@@ -157,7 +175,7 @@ module _ (g : Geometry) (w : Spot → ℕ) (r : ℕ → Memo) (c : ℕ) (h : Hel
       let block : IsBlock g (classes w) b = named_block p b some s a.idle in
       let fits : RedoFits red = (slot_fits p s.at, named_fits b block) in
       begins_at p red (Down Begun p b e) b a fits block refl refl refl (record { spelled = redo_of-word red fits; current = era_here; at = s.at; word = s.word }) out refl s
-      (ap (op_spelled (word_told g c m) m.making e) (redo_of-word red fits) ∙ ap (λ q. Down Begun q b e) s.told)
+      (down_begun_at p b s some a.idle)
 
   -- a slot is to have another block, which is in reach
   pub change_at : (p : Spot) (a b : ℕ) → MayBegin c m 4 → SlotHas g w r c p a → a ≢ 0 → is_slot p ≡ false → is_home p ≡ false → a ≢ b → is_reached c m b ≡ true
@@ -168,4 +186,4 @@ module _ (g : Geometry) (w : Spot → ℕ) (r : ℕ → Memo) (c : ℕ) (h : Hel
       let after : IsBlock g (classes w) b = reached_block b u in
       let fits : RedoFits red = (slot_fits p s.at, named_fits a before, named_fits b after) in
       begins_at p red (Change (Raising Begun) p a b e) a may fits (before, after) refl refl refl (record { spelled = redo_of-word red fits; current = era_here; at = s.at; word = s.word }) (lane, home, other) refl s
-      (ap (op_spelled (word_told g c m) m.making e) (redo_of-word red fits) ∙ ap (λ q. Change (Raising Begun) q a b e) s.told)
+      (change_begun_at p a b (odd e) s some may.idle u)

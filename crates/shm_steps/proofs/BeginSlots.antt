@@ -31,7 +31,7 @@ module _ (g : Geometry) (w : Spot → ℕ) (r : ℕ → Memo) (c : ℕ) (h : Hel
   m = r c
 
   -- an own root that isn't empty
-  root_has : (k a : ℕ) → a ≢ 0 → own_word m.own (Root c k) ≡ a → SlotHas g w r c (Root c k) a
+  pub root_has : (k a : ℕ) → a ≢ 0 → own_word m.own (Root c k) ≡ a → SlotHas g w r c (Root c k) a
   root_has k a some e =
       let word : w (Root c k) ≡ a = sym (h.mine c l (Root c k) (eq-eqb c c refl)) ∙ e in
       let at : IsAt g (classes w) (Root c k) = h.there (Root c k) (λ z. some (sym word ∙ z)) in
@@ -43,7 +43,7 @@ module _ (g : Geometry) (w : Spot → ℕ) (r : ℕ → Memo) (c : ℕ) (h : Hel
   change_begins_root k a b x = change_at g w r c h l (Root c k) a b x.may (root_has k a x.some x.root) x.some refl refl x.other x.source
 
   -- the own home
-  home_has : own_word m.own (Home c) ≡ 0 → SlotHas g w r c (Home c) 0
+  pub home_has : own_word m.own (Home c) ≡ 0 → SlotHas g w r c (Home c) 0
   home_has e =
       let at : IsAt g (classes w) (Home c) = fixed_is_at g (classes w) (Home c) refl (lt-ltb c g.clients l) in
       record { told = fixed_told g (classes w) c m (Home c) refl at; at = at; holds = refl; word = sym (h.mine c l (Home c) (eq-eqb c c refl)) ∙ e }
@@ -76,7 +76,7 @@ module _ (g : Geometry) (w : Spot → ℕ) (r : ℕ → Memo) (c : ℕ) (h : Hel
       ]
 
   -- the next slot of a queue that has room has the block that waits for its tail
-  tail_has : (i k x : ℕ) → i < g.clients → c ≢ i → m.op ≡ Nothing → k ≡ own_word m.own (Tail c i) % 8 → w (Tail c i) < w (Front c i) + 8 → slice_index m.unsent i ≡ x → SlotHas g w r c (Slot c i k) x
+  pub tail_has : (i k x : ℕ) → i < g.clients → c ≢ i → m.op ≡ Nothing → k ≡ own_word m.own (Tail c i) % 8 → w (Tail c i) < w (Front c i) + 8 → slice_index m.unsent i ≡ x → SlotHas g w r c (Slot c i k) x
   tail_has i k x li o idle next room waits =
       let lane = h.lanes c i l li o in
       let place : k ≡ w (Tail c i) % 8 = next ∙ ap (λ n. n % 8) (tail_here i) in
@@ -108,7 +108,7 @@ module _ (g : Geometry) (w : Spot → ℕ) (r : ℕ → Memo) (c : ℕ) (h : Hel
   -- ---- queues from others
 
   -- the head slot of a queue, where it is known
-  head_has : (s k b : ℕ) → KnownHolds g w (view r) c (record { spot = Slot s c k; value = b }) → SlotHas g w r c (Slot s c k) b
+  pub head_has : (s k b : ℕ) → KnownHolds g w (view r) c (record { spot = Slot s c k; value = b }) → SlotHas g w r c (Slot s c k) b
   head_has s k b a =
       let at : IsAt g (classes w) (Slot s c k) = h.there (Slot s c k) (λ z. a.5 (sym a.6 ∙ z)) in
       record {

@@ -93,7 +93,7 @@ module _ (g : Geometry) (w : Spot → ℕ) (r : ℕ → Memo) (c : ℕ) (h : Hel
       body_is_at g (classes w) d i is class (omega arith)
 
   -- a known reference word that c may store
-  own_word_has : (d i x : ℕ) → IsOwnWord c m d i x → SlotHas g w r c (Body d i) x
+  pub own_word_has : (d i x : ℕ) → IsOwnWord c m d i x → SlotHas g w r c (Body d i) x
   own_word_has d i x a =
       let tag : w (Tag d) ≡ a.tag.0 = (known_here (Tag d) a.tag.0 a.tag.1).0 in
       let holds : Holds w g (view r) c (Body d i) = own_holds d a.tag.0 i tag a.tag.2 a.tag.3 in
