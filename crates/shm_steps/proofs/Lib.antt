@@ -22,3 +22,6 @@ pub mod HeaderReads
 pub mod BlockReads
 pub mod BodyLoads
 pub mod Covering
+pub mod BeginAt
+pub mod BeginSlots
+pub mod BeginWords

@@ -5,3 +5,4 @@ pub mod Raising
 pub mod Lowering
 pub mod Unlatching
 pub mod Reading
+pub mod Beginning

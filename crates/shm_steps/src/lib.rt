@@ -5,12 +5,14 @@
 //! memo is what the memo's change computes.
 #![tactic(auto)]
 
+mod beginning;
 mod exchanging;
 mod laws;
 mod preparing;
 mod reading;
 mod unlatching;
 
+pub use beginning::{changes_begin, slots_begin, words_begin};
 pub use exchanging::header_exchanges;
 pub use laws::slot_stores;
 pub use preparing::preparing_steps;

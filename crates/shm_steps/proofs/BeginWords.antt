@@ -1,0 +1,121 @@
+-- what a memo shows of a step that a redo word begins at a reference word of a block
+use Rattle.std.proofs.Common.{◌≡◌, ℕ, ◌+◌, ◌-◌, ◌/◌, ◌%◌, ◌<◌, refl, sym, ap, ◌∙◌, subst, arith, inl, inr, List, [], ◌∷◌, ◌++◌, map, None, Some}
+use Rattle.std.specs.List.{Contains}
+use Rattle.std.proofs.lemmas.List.Elements.{All-nil, All-cons, All-contains, Contains-append_cases, Contains-append_left, Contains-append_right}
+use Rattle.shm_words.specs.declared.geometry.Geometry.{Geometry}
+use Rattle.shm_words.specs.declared.redo.Redo.TheVariants as redos
+use Rattle.shm_words.specs.Classes.{IsClass}
+use Rattle.shm_words.specs.Layout.{bodies}
+use Rattle.shm_words.specs.Redos.{redo_word}
+use Rattle.shm_words.specs.Tags.{tag_refs, tag_plain, tag_author}
+use Rattle.shm_words.proofs.Classing.{class_room}
+use Rattle.shm_graph.specs.declared.memo.Memo.{Memo}
+use Rattle.shm_graph.specs.declared.memo.Stored.{Stored}
+use Rattle.shm_graph.specs.declared.spot.Spot.{Spot}
+use Rattle.shm_graph.specs.declared.spot.Spot.TheVariants.{Era, Tag, Body}
+use Rattle.shm_graph.specs.Spots.{spot_address, class_at, IsAt}
+use Rattle.shm_graph.specs.Blocks.{classes, headers, IsBlock, IsLive}
+use Rattle.shm_graph.specs.Reach.{reached_blocks}
+use Rattle.shm_graph.specs.Telling.{Claim, bare, tag_claim, tag_claims, Value, roles, shaped, role_claim}
+use Rattle.shm_graph.specs.Views.{view, own_word}
+use Rattle.shm_graph.specs.Held.{HeldAt, odd}
+use Rattle.shm_graph.proofs.Holders.{Holds, held_live_block, reach_counted}
+use Rattle.shm_graph.proofs.KnownChange.{KnownHolds}
+use Rattle.shm_graph.proofs.LoadTold.{told_load}
+use Rattle.shm_graph.proofs.Reached.{reached_here}
+use Rattle.shm_graph.proofs.Spotting.{block_within, body_is_at}
+use Rattle.shm_laws.specs.Steps.{BeginStep}
+use Rattle.shm_steps.specs.OwnWords.{op_begun}
+use Rattle.shm_steps.specs.Reading.{IsCovered}
+use Rattle.shm_steps.specs.Beginning.{IsOwnWord, MayStoreIn, MayFill, MayClear, MayReplace}
+use Rattle.shm_steps.proofs.BeginAt.{SlotHas, up_at, down_at, change_at}
+use Rattle.shm_steps.proofs.Covering.{covers_word}
+
+-- what a tag claims of its block
+abbrev claim_by : ℕ → ℕ → Claim
+claim_by b t = record { block = b; refs = tag_refs t; plain = tag_plain t; author = Some (tag_author t) }
+
+-- a tag that is listed claims that
+listed_claims : (b t : ℕ) (ks : List Stored) → Contains ks (record { spot = Tag b; value = t }) → Contains (tag_claims ks) (claim_by b t)
+listed_claims b t [] h = let l = h.1 in absurd (omega arith)
+listed_claims b t (s ∷ ks) h =
+    elim (Contains-append_cases (s ∷ []) ks (record { spot = Tag b; value = t }) h) [
+      | inl z ↦ Contains-append_left (tag_claim s.spot s.value) (tag_claims ks) (claim_by b t)
+          (subst (λ (k : Stored). Contains (tag_claim k.spot k.value) (claim_by b t)) (sym (only s (record { spot = Tag b; value = t }) z)) (0, omega arith, refl))
+      | inr z ↦ Contains-append_right (tag_claim s.spot s.value) (tag_claims ks) (claim_by b t) (listed_claims b t ks z)
+    ]
+  where
+    only : (x y : Stored) → Contains (x ∷ []) y → x ≡ y
+    only x y h = All-contains (λ z. x ≡ z) (x ∷ []) y (All-cons (λ z. x ≡ z) x [] refl (All-nil (λ z. x ≡ z))) h
+
+-- a word of a block whose tag is listed is covered
+listed_covered : (c : ℕ) (m : Memo) (b i t : ℕ) → Contains m.known (record { spot = Tag b; value = t }) → i < tag_refs t → IsCovered c m (b + 2 + i)
+listed_covered c m b i t h l =
+    let k : Claim = claim_by b t in (
+      k,
+      Contains-append_left ((tag_claims m.known ++ map (role_claim m.latch) (roles m)) ++ map (λ d. shaped None d Value) m.values) (map bare (reached_blocks c m ++ m.dying)) k
+          (Contains-append_left (tag_claims m.known ++ map (role_claim m.latch) (roles m)) (map (λ d. shaped None d Value) m.values) k
+          (Contains-append_left (tag_claims m.known) (map (role_claim m.latch) (roles m)) k (listed_claims b t m.known h))),
+      covers_word k (b + 2 + i) (omega arith) (omega arith),
+    )
+
+-- the address of a word of a block
+word_address : (g : Geometry) (b i : ℕ) → spot_address g (Body b i) ≡ b + 2 + i
+unfolding spot_address
+word_address g b i = refl
+
+module _ (g : Geometry) (w : Spot → ℕ) (r : ℕ → Memo) (c : ℕ) (h : HeldAt g w (view r)) (l : c < g.clients) where
+  -- the memo
+  abbrev m : Memo
+  m = r c
+
+  -- what is known is so
+  known_here : (p : Spot) (x : ℕ) → Contains m.known (record { spot = p; value = x }) → KnownHolds g w (view r) c (record { spot = p; value = x })
+  known_here p x k = All-contains (KnownHolds g w (view r) c) m.known (record { spot = p; value = x }) (h.known c l) k
+
+  -- a block whose reference words c may store is live, and c may store them
+  own_live : (d t : ℕ) → MayStoreIn c m d t → IsLive (headers w) d
+  own_live d t (inl z) = ((h.dying c l).listed d z).0
+  own_live d t (inr z) = (reach_counted g w (view r) h c d l (reached_here g w r h c l d z.2)).0
+
+  own_holds : (d t i : ℕ) → w (Tag d) ≡ t → i < tag_refs t → MayStoreIn c m d t → Holds w g (view r) c (Body d i)
+  own_holds d t i e s (inl z) = let q = (h.dying c l).listed d z in (q.0, subst (λ n. i < tag_refs n) (sym e) s, inl (q.1, q.2))
+  own_holds d t i e s (inr z) = (own_live d t (inr z), subst (λ n. i < tag_refs n) (sym e) s, inr (ap tag_author e ∙ z.1, z.0, reached_here g w r h c l d z.2))
+
+  -- the pool has the reference words of a live block
+  word_is_at : (d i : ℕ) → IsLive (headers w) d → i < tag_refs (w (Tag d)) → IsAt g (classes w) (Body d i)
+  word_is_at d i live s =
+      let is : IsBlock g (classes w) d = held_live_block g w (view r) h d live in
+      let class : IsClass (class_at g (classes w) d) = h.sizes.classes ((d - bodies g) / 2048) ((d - bodies g) / 128 % 16) (block_within g (classes w) d is).2 in
+      let t = h.blocks.tagged d live in
+      let room = class_room (tag_refs (w (Tag d))) (tag_plain (w (Tag d))) t.refs t.plain in
+      let size = t.fits in
+      body_is_at g (classes w) d i is class (omega arith)
+
+  -- a known reference word that c may store
+  pub own_word_has : (d i x : ℕ) → IsOwnWord c m d i x → SlotHas g w r c (Body d i) x
+  own_word_has d i x a =
+      let tag : w (Tag d) ≡ a.tag.0 = (known_here (Tag d) a.tag.0 a.tag.1).0 in
+      let holds : Holds w g (view r) c (Body d i) = own_holds d a.tag.0 i tag a.tag.2 a.tag.3 in
+      let at : IsAt g (classes w) (Body d i) = word_is_at d i holds.0 holds.1 in
+      record {
+        told = told_load g w r h c l (spot_address g (Body d i)) (Body d i) at refl (inr (subst (IsCovered c m) (sym (word_address g d i)) (listed_covered c m d i a.tag.0 a.tag.1 a.tag.2)));
+        at = at;
+        holds = holds;
+        word = (known_here (Body d i) x a.word).0;
+      }
+
+  -- a block in reach is to be put into it
+  pub up_begins_word : (d i b : ℕ) → MayFill c m d i b
+      → BeginStep g w (view r) c (redo_word (redos.Up (spot_address g (Body d i)) b)) (op_begun g c m (redo_word (redos.Up (spot_address g (Body d i)) b)))
+  up_begins_word d i b x = up_at g w r c h l (Body d i) b x.may (own_word_has d i 0 x.word) refl x.source
+
+  -- its block is to go
+  pub down_begins_word : (d i b : ℕ) → MayClear c m d i b
+      → BeginStep g w (view r) c (redo_word (redos.Down (spot_address g (Body d i)) b)) (op_begun g c m (redo_word (redos.Down (spot_address g (Body d i)) b)))
+  down_begins_word d i b x = down_at g w r c h l (Body d i) b x.may (own_word_has d i b x.word) x.some refl
+
+  -- it is to have another block
+  pub change_begins_word : (d i a b : ℕ) → MayReplace c m d i a b
+      → BeginStep g w (view r) c (redo_word (redos.Change (odd (own_word m.own (Era c c))) (spot_address g (Body d i)) a b)) (op_begun g c m (redo_word (redos.Change (odd (own_word m.own (Era c c))) (spot_address g (Body d i)) a b)))
+  change_begins_word d i a b x = change_at g w r c h l (Body d i) a b x.may (own_word_has d i a x.word) x.some refl refl x.other x.source
