@@ -1,2 +1,4 @@
 pub mod StepControl
 pub mod StepTrail
+pub mod StepEvents
+pub mod StepFits

@@ -171,6 +171,12 @@ AimFits me (Up b) = IsInside me b
 AimFits me (Down b) = IsInside me b
 AimFits me (Change a b) = IsInside me a × IsInside me b
 
+-- blocks that a redo record can name
+abbrev pub AimSmall : Aim → Type 0
+AimSmall (Up b) = b < 2 ^ 20
+AimSmall (Down b) = b < 2 ^ 20
+AimSmall (Change a b) = (a < 2 ^ 20) × (b < 2 ^ 20)
+
 -- the half is one of the step's
 abbrev pub PartFits : Aim → Part → Type 0
 PartFits (Change a b) h = Unit {0}
@@ -200,6 +206,6 @@ PointFits me x point.Over = Unit {0}
 pub record StepKnows (m : StepState) : Type 0 where
   pub geometry : GeometryFits m.me.geometry
   pub who : m.me.who < m.me.geometry.clients
-  pub slot : (0 < m.slot) × (m.slot < total_of m.me.geometry)
-  pub aim : AimFits m.me m.aim
+  pub slot : m.slot < 2 ^ 20
+  pub aim : AimSmall m.aim
   pub point : PointFits m.me m.aim m.point

@@ -33,7 +33,7 @@ use Rattle.shm_graph.proofs.Reached.{reached_here}
 use Rattle.shm_graph.proofs.Spotting.{at_below, block_within, same_spot_not}
 use Rattle.shm_laws.specs.Steps.{BeginStep}
 use Rattle.shm_steps.specs.OwnWords.{op_begun}
-use Rattle.shm_steps.specs.Beginning.{MayBegin}
+use Rattle.shm_steps.specs.Beginning.{HasRoom}
 
 -- a memo tells a word outside bodies by its address
 pub fixed_told : (g : Geometry) (class : ℕ → ℕ → ℕ) (c : ℕ) (m : Memo) (p : Spot) → is_in_body p ≡ false → IsAt g class p → word_told g c m (spot_address g p) ≡ p
@@ -135,7 +135,7 @@ module _ (g : Geometry) (w : Spot → ℕ) (r : ℕ → Memo) (c : ℕ) (h : Hel
   -- ---- steps
 
   -- a step begins where its redo word spells it
-  begins_at : (p : Spot) (red : ARedo) (o : Op) (x : ℕ) → MayBegin c m (room_of o) → RedoFits red → Names g (classes w) red → on_of o ≡ None → limbo_of o ≡ 0 → cover_of o ≡ Quiet
+  begins_at : (p : Spot) (red : ARedo) (o : Op) (x : ℕ) → HasRoom c m (room_of o) → RedoFits red → Names g (classes w) red → on_of o ≡ None → limbo_of o ≡ 0 → cover_of o ≡ Quiet
       → OpTie g (classes w) (redo_word red) (w (Era c c)) (words_of w) o → Allowed c o → slot_of o ≡ p → SlotHas g w r c p x → op_begun g c m (redo_word red) ≡ o
       → BeginStep g w (view r) c (redo_word red) (op_begun g c m (redo_word red))
   begins_at p red o x a fits names on limbo quiet tie may slot s begun =
@@ -158,7 +158,7 @@ module _ (g : Geometry) (w : Spot → ℕ) (r : ℕ → Memo) (c : ℕ) (h : Hel
       })
 
   -- a block in reach is to be put into a slot
-  pub up_at : (p : Spot) (b : ℕ) → MayBegin c m 3 → SlotHas g w r c p 0 → is_slot_to c p ≡ false → is_reached c m b ≡ true
+  pub up_at : (p : Spot) (b : ℕ) → HasRoom c m 3 → SlotHas g w r c p 0 → is_slot_to c p ≡ false → is_reached c m b ≡ true
       → BeginStep g w (view r) c (redo_word (redos.Up (spot_address g p) b)) (op_begun g c m (redo_word (redos.Up (spot_address g p) b)))
   up_at p b a s out u =
       let red : ARedo = redos.Up (spot_address g p) b in
@@ -168,7 +168,7 @@ module _ (g : Geometry) (w : Spot → ℕ) (r : ℕ → Memo) (c : ℕ) (h : Hel
       (up_begun_at p b 0 s u)
 
   -- the block of a slot is to go
-  pub down_at : (p : Spot) (b : ℕ) → MayBegin c m 3 → SlotHas g w r c p b → b ≢ 0 → is_home p ≡ false
+  pub down_at : (p : Spot) (b : ℕ) → HasRoom c m 3 → SlotHas g w r c p b → b ≢ 0 → is_home p ≡ false
       → BeginStep g w (view r) c (redo_word (redos.Down (spot_address g p) b)) (op_begun g c m (redo_word (redos.Down (spot_address g p) b)))
   down_at p b a s some out =
       let red : ARedo = redos.Down (spot_address g p) b in
@@ -178,7 +178,7 @@ module _ (g : Geometry) (w : Spot → ℕ) (r : ℕ → Memo) (c : ℕ) (h : Hel
       (down_begun_at p b s some a.idle)
 
   -- a slot is to have another block, which is in reach
-  pub change_at : (p : Spot) (a b : ℕ) → MayBegin c m 4 → SlotHas g w r c p a → a ≢ 0 → is_slot p ≡ false → is_home p ≡ false → a ≢ b → is_reached c m b ≡ true
+  pub change_at : (p : Spot) (a b : ℕ) → HasRoom c m 4 → SlotHas g w r c p a → a ≢ 0 → is_slot p ≡ false → is_home p ≡ false → a ≢ b → is_reached c m b ≡ true
       → BeginStep g w (view r) c (redo_word (redos.Change (odd e) (spot_address g p) a b)) (op_begun g c m (redo_word (redos.Change (odd e) (spot_address g p) a b)))
   change_at p a b may s some lane home other u =
       let red : ARedo = redos.Change (odd e) (spot_address g p) a b in

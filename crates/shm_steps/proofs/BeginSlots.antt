@@ -22,7 +22,7 @@ use Rattle.shm_graph.proofs.Holders.{Holds}
 use Rattle.shm_graph.proofs.KnownChange.{KnownHolds}
 use Rattle.shm_laws.specs.Steps.{BeginStep}
 use Rattle.shm_steps.specs.OwnWords.{op_begun}
-use Rattle.shm_steps.specs.Beginning.{MayChange, MaySet, MayPut, MayTake, MayTakeBack}
+use Rattle.shm_steps.specs.Beginning.{MayReplaceRoot, MaySet, MayPut, MayTake, MayTakeBack}
 use Rattle.shm_steps.proofs.BeginAt.{SlotHas, fixed_told, word_target, up_at, down_at, change_at}
 
 module _ (g : Geometry) (w : Spot → ℕ) (r : ℕ → Memo) (c : ℕ) (h : HeldAt g w (view r)) (l : c < g.clients) where
@@ -38,7 +38,7 @@ module _ (g : Geometry) (w : Spot → ℕ) (r : ℕ → Memo) (c : ℕ) (h : Hel
       record { told = fixed_told g (classes w) c m (Root c k) refl at; at = at; holds = refl; word = word }
 
   -- an own root is to have another block
-  pub change_begins_root : (k a b : ℕ) → MayChange c m k a b
+  pub change_begins_root : (k a b : ℕ) → MayReplaceRoot c m k a b
       → BeginStep g w (view r) c (redo_word (redos.Change (odd (own_word m.own (Era c c))) (spot_address g (Root c k)) a b)) (op_begun g c m (redo_word (redos.Change (odd (own_word m.own (Era c c))) (spot_address g (Root c k)) a b)))
   change_begins_root k a b x = change_at g w r c h l (Root c k) a b x.may (root_has k a x.some x.root) x.some refl refl x.other x.source
 

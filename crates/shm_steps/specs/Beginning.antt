@@ -11,14 +11,14 @@ use Rattle.shm_graph.specs.Reach.{is_reached}
 use Rattle.shm_steps.specs.Conditions.{IsHere}
 
 -- no step is in progress, and the own era leaves room for one that takes it up by less than n
-pub record MayBegin (c : ℕ) (m : Memo) (n : ℕ) : Type 0 where
+pub record HasRoom (c : ℕ) (m : Memo) (n : ℕ) : Type 0 where
   pub here : IsHere m
   pub idle : m.op ≡ Nothing
   pub room : own_word m.own (Era c c) + n ≤ 2 ^ 47
 
 -- root k has block a, and is to have another block, which is in reach
-pub record MayChange (c : ℕ) (m : Memo) (k a b : ℕ) : Type 0 where
-  pub may : MayBegin c m 4
+pub record MayReplaceRoot (c : ℕ) (m : Memo) (k a b : ℕ) : Type 0 where
+  pub may : HasRoom c m 4
   pub some : a ≢ 0
   pub root : own_word m.own (Root c k) ≡ a
   pub other : a ≢ b
@@ -26,13 +26,13 @@ pub record MayChange (c : ℕ) (m : Memo) (k a b : ℕ) : Type 0 where
 
 -- the own home is empty, and is to have a block in reach
 pub record MaySet (c : ℕ) (m : Memo) (b : ℕ) : Type 0 where
-  pub may : MayBegin c m 3
+  pub may : HasRoom c m 3
   pub empty : own_word m.own (Home c) ≡ 0
   pub source : is_reached c m b ≡ true
 
 -- a block in reach is to stand in slot k, the next one of the queue to another of the n clients: no block waits there for its tail, and a head that was read leaves room
 pub record MayPut (n c : ℕ) (m : Memo) (i k b : ℕ) : Type 0 where
-  pub may : MayBegin c m 3
+  pub may : HasRoom c m 3
   pub to : i < n
   pub other : c ≢ i
   pub next : k ≡ own_word m.own (Tail c i) % 8
@@ -42,12 +42,12 @@ pub record MayPut (n c : ℕ) (m : Memo) (i k b : ℕ) : Type 0 where
 
 -- block b is known in slot k of the queue from s, whence it is to be taken
 pub record MayTake (c : ℕ) (m : Memo) (s k b : ℕ) : Type 0 where
-  pub may : MayBegin c m 3
+  pub may : HasRoom c m 3
   pub known : Contains m.known (record { spot = Slot s c k; value = b })
 
 -- block b stands in slot k of the queue to another of the n clients, its tail isn't stored, and it is to go
 pub record MayTakeBack (n c : ℕ) (m : Memo) (i k b : ℕ) : Type 0 where
-  pub may : MayBegin c m 3
+  pub may : HasRoom c m 3
   pub to : i < n
   pub other : c ≢ i
   pub next : k ≡ own_word m.own (Tail c i) % 8
@@ -65,19 +65,19 @@ pub record IsOwnWord (c : ℕ) (m : Memo) (d i x : ℕ) : Type 0 where
 
 -- the word is empty, and is to have a block in reach
 pub record MayFill (c : ℕ) (m : Memo) (d i b : ℕ) : Type 0 where
-  pub may : MayBegin c m 3
+  pub may : HasRoom c m 3
   pub word : IsOwnWord c m d i 0
   pub source : is_reached c m b ≡ true
 
 -- the word has block b, which is to go
 pub record MayClear (c : ℕ) (m : Memo) (d i b : ℕ) : Type 0 where
-  pub may : MayBegin c m 3
+  pub may : HasRoom c m 3
   pub some : b ≢ 0
   pub word : IsOwnWord c m d i b
 
 -- the word has block a, and is to have another block, which is in reach
 pub record MayReplace (c : ℕ) (m : Memo) (d i a b : ℕ) : Type 0 where
-  pub may : MayBegin c m 4
+  pub may : HasRoom c m 4
   pub some : a ≢ 0
   pub word : IsOwnWord c m d i a
   pub other : a ≢ b

@@ -12,11 +12,11 @@ ghost use Rattle.shm_graph.specs.Views.{own_word, view};
 ghost use Rattle.shm_graph.specs.Held.{HeldAt, odd};
 ghost use Rattle.shm_laws.specs.Steps.{BeginStep};
 ghost use Rattle.shm_steps.specs.OwnWords.{op_begun};
-ghost use Rattle.shm_steps.specs.Beginning.{MayChange, MaySet, MayPut, MayTake, MayTakeBack, MayFill, MayClear, MayReplace};
+ghost use Rattle.shm_steps.specs.Beginning.{MayReplaceRoot, MaySet, MayPut, MayTake, MayTakeBack, MayFill, MayClear, MayReplace};
 
 /// A change begins at an own root, which is to have another block.
 pub fn changes_begin()
-    ensures root { (g : AGeometry) (w : ASpot → ℕ) (r : ℕ → AMemo) (c : ℕ) → HeldAt g w (view r) → c < g.clients → (k a b : ℕ) → MayChange c (r c) k a b → BeginStep g w (view r) c (redo_word (Change (odd (own_word (r c).own (Era c c))) (spot_address g (Root c k)) a b)) (op_begun g c (r c) (redo_word (Change (odd (own_word (r c).own (Era c c))) (spot_address g (Root c k)) a b))) }
+    ensures root { (g : AGeometry) (w : ASpot → ℕ) (r : ℕ → AMemo) (c : ℕ) → HeldAt g w (view r) → c < g.clients → (k a b : ℕ) → MayReplaceRoot c (r c) k a b → BeginStep g w (view r) c (redo_word (Change (odd (own_word (r c).own (Era c c))) (spot_address g (Root c k)) a b)) (op_begun g c (r c) (redo_word (Change (odd (own_word (r c).own (Era c c))) (spot_address g (Root c k)) a b))) }
 {}
 
 /// A step begins at the own home, which is to have a block, at the next slot of a queue to another client, which is to have a block or
