@@ -1,3 +1,0 @@
-pub mod AllocControl
-pub mod AllocTrail
-pub mod AllocFits
