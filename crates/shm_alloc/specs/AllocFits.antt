@@ -1,13 +1,11 @@
 -- when an allocation may begin, what its memo shows on the way, and what it leaves
-use Rattle.std.specs.Prelude.{◌≡◌, ◌≢◌, ℕ, ◌+◌, ◌-◌, ◌*◌, ◌/◌, ◌^◌, ◌<◌, ◌≤◌, Bool, true, ◌==◌, nat_lt, if◌then◌else◌, Option, Some, None, Result, Ok, Err, List, [], ◌∷◌, ◌++◌, slice_index}
+use Rattle.std.specs.Prelude.{◌≡◌, ◌≢◌, ℕ, ◌+◌, ◌-◌, ◌/◌, ◌^◌, ◌<◌, ◌≤◌, ◌==◌, Some, None, Result, Ok, Err, List, [], ◌∷◌, ◌++◌, slice_index}
 use Rattle.std.specs.List.{Contains}
 use Rattle.shm_words.specs.declared.place.Place.TheVariants as place
 use Rattle.shm_words.specs.declared.redo.Redo.TheVariants as redos
 use Rattle.shm_words.specs.Layout.{GeometryFits, address}
 use Rattle.shm_words.specs.Redos.{redo_word}
-use Rattle.shm_words.specs.Tags.{tag_refs, tag_plain}
 use Rattle.shm_graph.specs.declared.ask.Me.{Me}
-use Rattle.shm_graph.specs.declared.spot.Spot.{Spot}
 use Rattle.shm_graph.specs.declared.spot.Spot.TheVariants as spot
 use Rattle.shm_graph.specs.declared.memo.Stored.{Stored}
 use Rattle.shm_graph.specs.declared.memo.Making.{Making}
@@ -34,7 +32,7 @@ use Rattle.shm_alloc.specs.declared.point.AllocPoint.TheVariants.{Era, Root, Seg
 use Rattle.shm_alloc.specs.declared.point.AllocState.{AllocState}
 use Rattle.shm_alloc.specs.declared.point.Next.{Next}
 use Rattle.shm_alloc.specs.declared.point.Next.TheVariants.{Point, Answer}
-use Rattle.shm_alloc.specs.AllocControl.{class_asked, tag_asked, block_of, AllocKnows, alloc_control}
+use Rattle.shm_alloc.specs.AllocControl.{class_asked, tag_asked, AllocKnows, alloc_control}
 use Rattle.shm_alloc.specs.AllocEvents.{alloc_event, alloc_start, events_at, own_events}
 use Rattle.shm_alloc.specs.AllocTrail.{AllocTrails, alloc_trail, root_trail, segment_trail, page_trail, header_trail, block_trail, reference_trail, plain_trail, live_trail, commit_trail, slot_trail, close_trail, class_trail}
 

@@ -1,6 +1,5 @@
 -- the event of each step of an allocation is the one that it tells
-use Rattle.std.proofs.Common.{◌≡◌, ◌≢◌, ℕ, ◌+◌, ◌<◌, refl, sym, ap, ◌∙◌, subst, arith, Bool, true, false, cond, eqb, eq-eqb, lt-ltb}
-use Rattle.std.specs.Prelude.{Some}
+use Rattle.std.proofs.Common.{◌≡◌, ℕ, ◌+◌, ◌<◌, refl, sym, ap, ◌∙◌, subst, arith, Bool, true, false, eqb, eq-eqb, lt-ltb}
 use Rattle.std.proofs.lemmas.Bool.{true≢false, and_from, cond-true}
 use Rattle.std.proofs.lemmas.List.Elements.{All-contains}
 use Rattle.shm_words.specs.declared.place.Place.TheVariants as place
@@ -12,7 +11,6 @@ use Rattle.shm_graph.specs.declared.spot.Spot.{Spot}
 use Rattle.shm_graph.specs.declared.spot.Spot.TheVariants as spot
 use Rattle.shm_graph.specs.declared.memo.Memo.{Memo}
 use Rattle.shm_graph.specs.declared.memo.Making.{Making}
-use Rattle.shm_graph.specs.declared.memo.Op.{Op}
 use Rattle.shm_graph.specs.declared.memo.Step.{Step}
 use Rattle.shm_graph.specs.Spots.{spot_at, segment_of}
 use Rattle.shm_graph.specs.Blocks.{classes, IsBlock}
