@@ -52,6 +52,7 @@ then_holds m r0 r x tr n fit h = go (alloc_next m n) refl h
     go (Point p) e z = fits_goes m r0 r x tr n p fit e (knows_after m n fit.knows p e) z
     go (Answer a) e z = gives_ends m r0 r x tr n a fit e z
 
+-- each step of an allocation keeps the invariant, and what comes next holds of the memo
 pub alloc_keeps : Keeps alloc_control AllocFits AllocGives
 alloc_keeps m r0 tr going w r f s fit =
     let k = step_at m.me m.request r0 w r f tr m.point going s (λ z. not_fresh m.me w r f tr s (fit.begun z)) fit.can fit.knows.request fit.knows.point fit.holds in
