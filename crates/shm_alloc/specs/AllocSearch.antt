@@ -1,5 +1,5 @@
 -- the search for a free block: what each step leaves of the memo, and where the search ends
-use Rattle.std.proofs.Common.{◌≡◌, ℕ, ◌+◌, refl, sym, ap, ◌∙◌, subst, arith, false, ltb, List, [], ◌∷◌, ◌++◌, append_assoc}
+use Rattle.std.proofs.Common.{◌≡◌, ℕ, ◌+◌, refl, sym, ap, ◌∙◌, subst, false, ltb, List, [], ◌++◌, append_assoc}
 use Rattle.std.specs.Prelude.{None, Err}
 use Rattle.std.specs.List.{Contains}
 use Rattle.std.proofs.lemmas.List.Elements.{Contains-append_right}
@@ -26,10 +26,6 @@ use Rattle.shm_alloc.specs.declared.point.AllocPoint.TheVariants.{Segment, Page}
 use Rattle.shm_alloc.specs.declared.point.Next.TheVariants.{Point, Answer}
 use Rattle.shm_alloc.specs.AllocControl.{segment_over, page_over}
 use Rattle.shm_alloc.specs.AllocFits.{GoalHas, Stays, Searches, CanAlloc, AnswerHolds, Cause, NextHolds}
-
--- what joins a list is in it
-pub newest : {X : Type 0} (x : X) (xs : List X) → Contains (x ∷ xs) x
-newest x xs = (0, omega arith, refl)
 
 -- ---- what a step of the search leaves of the memo
 

@@ -44,7 +44,8 @@ use Rattle.shm_alloc.specs.declared.point.Next.TheVariants.{Point}
 use Rattle.shm_alloc.specs.AllocControl.{class_asked, block_of, alloc_next_at, first_header, page_over, header_used}
 use Rattle.shm_alloc.specs.AllocFits.{GoalHas, CanAlloc, NextHolds}
 use Rattle.shm_alloc.specs.AllocSteps.{PointKeeps, kept_with, goal_on}
-use Rattle.shm_alloc.specs.AllocSearch.{searched, Looks, Remains, newest, remains, called_facts, called_owned, looks_on, owned_on, page_done, own_same}
+use Rattle.shm_alloc.specs.AllocSearch.{searched, Looks, Remains, remains, called_facts, called_owned, looks_on, owned_on, page_done, own_same}
+use Rattle.shm_laws.proofs.Keep.{newest}
 
 -- ---- the class of a page
 

@@ -33,7 +33,8 @@ use Rattle.shm_alloc.specs.declared.point.Next.TheVariants.{Point, Answer}
 use Rattle.shm_alloc.specs.AllocControl.{RequestFits, PointFits, alloc_next_at, first_page, segment_taken}
 use Rattle.shm_alloc.specs.AllocFits.{GoalHas, CanAlloc, PointHolds, NextHolds}
 use Rattle.shm_alloc.specs.AllocSteps.{KeepsAt, PointKeeps, kept_with, is_here, goal_on}
-use Rattle.shm_alloc.specs.AllocSearch.{searched, Looks, Remains, newest, remains, called_owned, called_searched, looks_on, owned_on, refused, segment_done, own_same}
+use Rattle.shm_alloc.specs.AllocSearch.{searched, Looks, Remains, remains, called_owned, called_searched, looks_on, owned_on, refused, segment_done, own_same}
+use Rattle.shm_laws.proofs.Keep.{newest}
 
 -- an own word that is read is the one that the memo has
 own_read : (me : Me) (w : Spot → ℕ) (r : ℕ → Memo) (f : Frame) (tr : Trail) (r' : Memo) (p : Spot) → Stands me w r f tr → owner_is me.who p ≡ true → Remains (r me.who) r' → own_word r'.own p ≡ w p
