@@ -1,5 +1,5 @@
 -- the control of an allocation: which word it asks for, and where it goes by the word found
-use Rattle.std.specs.Prelude.{◌≡◌, ℕ, ◌+◌, ◌-◌, ◌*◌, ◌/◌, ◌^◌, ◌<◌, ◌≤◌, Bool, true, false, ◌==◌, nat_lt, if◌then◌else◌, Option, Some, None, Result, Ok, Err, List, [], length, slice_index}
+use Rattle.std.specs.Prelude.{ℕ, ◌+◌, ◌-◌, ◌*◌, ◌/◌, ◌^◌, ◌<◌, ◌≤◌, Bool, true, false, ◌==◌, nat_lt, if◌then◌else◌, Option, Some, None, Result, Ok, Err, [], slice_index}
 use Rattle.shm_words.specs.declared.place.Place.TheVariants as place
 use Rattle.shm_words.specs.declared.redo.Redo.TheVariants as redos
 use Rattle.shm_words.specs.Layout.{GeometryFits, address, total_of, bodies}
@@ -25,13 +25,15 @@ use Rattle.shm_alloc.specs.declared.point.Next.TheVariants.{Point, Answer}
 
 -- ---- what is asked for
 
--- the class of the new block, its tag, and its header once it is live
+-- the class of the new block
 abbrev pub class_asked : Request → ℕ
 class_asked q = class_for q.refs q.count
 
+-- its tag, as the identity c writes it
 abbrev pub tag_asked : Request → ℕ → ℕ
 tag_asked q c = tag_word (record { refs = q.refs; plain = q.count; author = c; link = 0 })
 
+-- its header once it is live, as c makes it at era e
 abbrev pub header_made : ℕ → ℕ → ℕ
 header_made c e = header_word (record { live = true; client = c; count = 1; era = e })
 
@@ -41,6 +43,7 @@ block_of me q s p i = address me.geometry (place.Body s.segment p 0) + class_ask
 
 -- ---- the steps
 
+-- the word step that is asked for at a point
 abbrev pub alloc_ask_at : Me → Request → AllocPoint → Ask
 alloc_ask_at me q Era = Load (address me.geometry (place.Era me.who me.who))
 alloc_ask_at me q (Root e k) = Load (address me.geometry (place.Root me.who k))
@@ -58,14 +61,17 @@ alloc_ask_at me q (Slot g b) = Store (address me.geometry (place.Root me.who g.r
 alloc_ask_at me q (Close g b) = Store (address me.geometry (place.Era me.who me.who)) (g.era + 1)
 alloc_ask_at me q Over = Load 0
 
+-- and the one that an allocation asks for
 abbrev pub alloc_ask : AllocState → Ask
 alloc_ask m = alloc_ask_at m.me m.request m.point
 
 -- ---- where the search goes
 
+-- the segment is the own one: its first page is next
 abbrev pub first_page : Goal → Search → Next
 first_page g s = Point (Page g s 0)
 
+-- the page has the class: its first header is next
 abbrev pub first_header : Goal → Search → ℕ → Next
 first_header g s p = Point (Header g s p 0)
 
@@ -83,21 +89,26 @@ segment_taken me g s = segment_over me g (record s { taken = s.taken + 1 })
 abbrev pub page_over : Me → Goal → Search → ℕ → Next
 page_over me g s p = if nat_lt p 15 then Point (Page g s (p + 1)) else segment_over me g s
 
+-- by the own era that was read: it is spent, or the first root is next
 abbrev pub era_next : ℕ → Next
 era_next n = if nat_lt (2 ^ 47 - 3) n then Answer (Err (EraSpent n)) else Point (Root n 0)
 
+-- by the root that was read: it is empty, and the search begins, or the next one is next, or all are set
 abbrev pub root_next : ℕ → ℕ → ℕ → Next
 root_next e k n =
     if n == 0 then Point (Segment (record { era = e; root = k }) (record { segment = 0; taken = 0; used = 0 }))
     else if nat_lt k 15 then Point (Root e (k + 1))
     else Answer (Err RootsFull)
 
+-- by the owner that was read: the segment is nobody's, an own one or another's
 abbrev pub segment_next : Me → Goal → Search → ℕ → Next
 segment_next me g s n = if n == 0 then Point (Claim g s) else if n == me.who + 1 then first_page g s else segment_taken me g s
 
+-- by the owner that the exchange found: the segment is the own one now, or another's
 abbrev pub claim_next : Me → Goal → Search → ℕ → Next
 claim_next me g s n = if n == 0 then first_page g s else segment_taken me g s
 
+-- by the class that was read: the page has none, the one that is asked for, or another
 abbrev pub page_next : Me → Request → Goal → Search → ℕ → ℕ → Next
 page_next me q g s p n = if n == 0 then Point (Class g s p) else if n == class_asked q then first_header g s p else page_over me g s p
 
@@ -105,6 +116,7 @@ page_next me q g s p n = if n == 0 then Point (Class g s p) else if n == class_a
 abbrev pub header_used : Me → Request → Goal → Search → ℕ → ℕ → Next
 header_used me q g s p i = if nat_lt (i + 1) (128 / class_asked q) then Point (Header g s p (i + 1)) else page_over me g s p
 
+-- by the header that was read: the block is free, or it isn't
 abbrev pub header_next : Me → Request → Goal → Search → ℕ → ℕ → ℕ → Next
 header_next me q g s p i n = if n == 0 then Point (Tag g (block_of me q s p i)) else header_used me q g (record s { used = s.used + 1 }) p i
 
@@ -120,6 +132,7 @@ references_from q g b i = if nat_lt i q.refs then Reference g b i else plain_fro
 
 -- ---- all
 
+-- where an allocation goes from a point, by the word found
 abbrev pub alloc_next_at : Me → Request → AllocPoint → ℕ → Next
 alloc_next_at me q Era n = era_next n
 alloc_next_at me q (Root e k) n = root_next e k n
@@ -137,17 +150,21 @@ alloc_next_at me q (Slot g b) n = Point (Close g b)
 alloc_next_at me q (Close g b) n = Answer (Ok (record { root = g.root; block = b }))
 alloc_next_at me q Over n = Point Over
 
+-- and where it goes from the point that it is at
 abbrev pub alloc_next : AllocState → ℕ → Next
 alloc_next m n = alloc_next_at m.me m.request m.point n
 
+-- the point that is next; after an answer it is over
 abbrev pub point_of : Next → AllocPoint
 point_of (Point p) = p
 point_of (Answer a) = Over
 
+-- the answer, if it is one
 abbrev pub answer_of : Next → Option (Result Made AllocFault)
 answer_of (Point p) = None
 answer_of (Answer a) = Some a
 
+-- the point of the first step
 abbrev pub is_first : AllocPoint → Bool
 is_first Era = true
 is_first p = false
@@ -163,10 +180,12 @@ is_search (Class g s p) = true
 is_search (Header g s p i) = true
 is_search p = false
 
+-- the answer was given
 abbrev pub is_over : AllocPoint → Bool
 is_over Over = true
 is_over p = false
 
+-- the control of an allocation
 abbrev pub alloc_control : Control AllocState (Result Made AllocFault)
 alloc_control =
     record {
@@ -181,11 +200,13 @@ alloc_control =
 
 -- ---- what the control keeps in range
 
+-- the request has as many reference words and plain words as a block may have, and its plain words are words
 pub record RequestFits (q : Request) : Type 0 where
   pub refs : q.refs ≤ 16
   pub count : q.count ≤ 8
   pub small : (i : ℕ) → slice_index q.plain i < 2 ^ 64
 
+-- the era leaves room for the two that a step takes, and the root is one of the 16
 pub record GoalFits (g : Goal) : Type 0 where
   pub era : g.era + 3 ≤ 2 ^ 47
   pub root : g.root < 16
@@ -196,6 +217,7 @@ pub record SearchFits (me : Me) (s : Search) (most : ℕ) : Type 0 where
   pub taken : s.taken ≤ s.segment
   pub used : s.used ≤ 512 * s.segment + most
 
+-- what the control keeps in range at a point
 abbrev pub PointFits : Me → Request → AllocPoint → Type 0
 PointFits me q Era = Unit {0}
 PointFits me q (Root e k) = (e + 3 ≤ 2 ^ 47) × (k < 16)
@@ -213,6 +235,7 @@ PointFits me q (Slot g b) = GoalFits g × (b + class_asked q ≤ total_of me.geo
 PointFits me q (Close g b) = GoalFits g × (b + class_asked q ≤ total_of me.geometry) × (bodies me.geometry ≤ b)
 PointFits me q Over = Unit {0}
 
+-- the geometry, the identity, the request and the point are in range
 pub record AllocKnows (m : AllocState) : Type 0 where
   pub geometry : GeometryFits m.me.geometry
   pub who : m.me.who < m.me.geometry.clients

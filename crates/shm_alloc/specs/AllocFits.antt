@@ -1,13 +1,11 @@
 -- when an allocation may begin, what its memo shows on the way, and what it leaves
-use Rattle.std.specs.Prelude.{◌≡◌, ◌≢◌, ℕ, ◌+◌, ◌-◌, ◌*◌, ◌/◌, ◌^◌, ◌<◌, ◌≤◌, Bool, true, ◌==◌, nat_lt, if◌then◌else◌, Option, Some, None, Result, Ok, Err, List, [], ◌∷◌, ◌++◌, slice_index}
+use Rattle.std.specs.Prelude.{◌≡◌, ◌≢◌, ℕ, ◌+◌, ◌-◌, ◌/◌, ◌^◌, ◌<◌, ◌≤◌, ◌==◌, Some, None, Result, Ok, Err, List, [], ◌∷◌, ◌++◌, slice_index}
 use Rattle.std.specs.List.{Contains}
 use Rattle.shm_words.specs.declared.place.Place.TheVariants as place
 use Rattle.shm_words.specs.declared.redo.Redo.TheVariants as redos
 use Rattle.shm_words.specs.Layout.{GeometryFits, address}
 use Rattle.shm_words.specs.Redos.{redo_word}
-use Rattle.shm_words.specs.Tags.{tag_refs, tag_plain}
 use Rattle.shm_graph.specs.declared.ask.Me.{Me}
-use Rattle.shm_graph.specs.declared.spot.Spot.{Spot}
 use Rattle.shm_graph.specs.declared.spot.Spot.TheVariants as spot
 use Rattle.shm_graph.specs.declared.memo.Stored.{Stored}
 use Rattle.shm_graph.specs.declared.memo.Making.{Making}
@@ -34,7 +32,7 @@ use Rattle.shm_alloc.specs.declared.point.AllocPoint.TheVariants.{Era, Root, Seg
 use Rattle.shm_alloc.specs.declared.point.AllocState.{AllocState}
 use Rattle.shm_alloc.specs.declared.point.Next.{Next}
 use Rattle.shm_alloc.specs.declared.point.Next.TheVariants.{Point, Answer}
-use Rattle.shm_alloc.specs.AllocControl.{class_asked, tag_asked, block_of, AllocKnows, alloc_control}
+use Rattle.shm_alloc.specs.AllocControl.{class_asked, tag_asked, AllocKnows, alloc_control}
 use Rattle.shm_alloc.specs.AllocEvents.{alloc_event, alloc_start, events_at, own_events}
 use Rattle.shm_alloc.specs.AllocTrail.{AllocTrails, alloc_trail, root_trail, segment_trail, page_trail, header_trail, block_trail, reference_trail, plain_trail, live_trail, commit_trail, slot_trail, close_trail, class_trail}
 
@@ -54,6 +52,7 @@ pub record IsPrepared (c : ℕ) (q : Request) (b refs plain : ℕ) (k : Making) 
   pub zeros : (j : ℕ) → j < refs → Contains k.words (record { spot = spot.Body b j; value = 0 })
   pub words : (j : ℕ) → j < plain → Contains k.words (record { spot = spot.Body b (q.refs + j); value = slice_index q.plain j })
 
+-- that block is prepared in the memo
 abbrev pub Prepares : ℕ → Request → ℕ → ℕ → ℕ → Memo → Type 0
 Prepares c q b refs plain r = (k : Making) × (r.making ≡ Some k) × IsPrepared c q b refs plain k
 
@@ -65,13 +64,14 @@ Knows c q b r0 r = (k : Making) × (r.known ≡ k.words ++ r0.known) × IsPrepar
 abbrev pub redo_stored : Me → Goal → ℕ → Stored
 redo_stored me g b = record { spot = spot.Redo me.who; value = redo_word (redos.Up (address me.geometry (place.Root me.who g.root)) b) }
 
--- the step in progress, and the own words that are stored
+-- the step in progress at a point
 abbrev pub op_at : ℕ → AllocPoint → Op
 op_at c (Commit g b) = op.Alloc Begun (spot.Root c g.root) b g.era
 op_at c (Slot g b) = op.Alloc Committed (spot.Root c g.root) b g.era
 op_at c (Close g b) = op.Alloc Written (spot.Root c g.root) b g.era
 op_at c p = op.Nothing
 
+-- the own words with those that are stored up to a point
 abbrev pub own_at : Me → AllocPoint → List Stored → List Stored
 own_at me (Commit g b) own = redo_stored me g b ∷ own
 own_at me (Slot g b) own = redo_stored me g b ∷ own
@@ -115,10 +115,11 @@ PointHas me q r0 r (Slot g b) = (r.making ≡ None) × (r.values ≡ values_with
 PointHas me q r0 r (Close g b) = (r.making ≡ None) × (r.values ≡ values_with r0 b (tag_asked q me.who)) × GoalHas me.who r0 g × Knows me.who q b r0 r
 PointHas me q r0 r Over = Unit {0}
 
--- what follows where a segment, or a page of it, has no free block, by how many headers were read
+-- what follows where a segment has no free block, by how many headers were read
 abbrev pub segments_after : Me → Request → Goal → Search → ℕ → AllocTrails
 segments_after me q g s used = segment_trail me q (me.geometry.segments - (s.segment + 1)) (s.segment + 1) g.era g.root s.taken used
 
+-- what follows where a page has no free block: the pages after it, and then the segments
 abbrev pub pages_after : Me → Request → Goal → Search → ℕ → ℕ → AllocTrails
 pages_after me q g s p used = page_trail me q (15 - p) (p + 1) s.segment g.era g.root used (segments_after me q g s)
 
@@ -192,6 +193,7 @@ Cause c r0 (EraSpent e) = (e ≡ own_word r0.own (spot.Era c c)) × (2 ^ 47 - 3 
 Cause c r0 RootsFull = (own_word r0.own (spot.Era c c) ≤ 2 ^ 47 - 3) × ((j : ℕ) → j < 16 → own_word r0.own (spot.Root c j) ≢ 0)
 Cause c r0 (Full taken used) = Unit {0}
 
+-- what an answer says of the memos before and after
 abbrev pub Gives : Me → Request → Memo → Memo → Result Made AllocFault → Type 0
 Gives me q r0 r (Ok a) = MadeGives me q r0 r a
 Gives me q r0 r (Err f) = RefusedGives r0 r × Cause me.who r0 f

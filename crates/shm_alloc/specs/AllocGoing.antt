@@ -284,16 +284,20 @@ abbrev Told : Me → Next → List Event → Type 0
 Told me (Point p) es = es ≡ events_at me p
 Told me (Answer a) es = es ≡ own_events me a
 
+-- where both ways have the events, the one that is taken has them
 told_choice : (me : Me) (b : Bool) (x y : Next) (es : List Event) → Told me x es → Told me y es → Told me (cond b x y) es
 told_choice me true x y es f h = f
 told_choice me false x y es f h = h
 
+-- where a segment is over, there was no event
 told_over : (me : Me) (g : Goal) (s : Search) → Told me (segment_over me g s) []
 told_over me g s = told_choice me (nat_lt (s.segment + 1) me.geometry.segments) _ _ [] refl refl
 
+-- nor where a page is over
 told_page : (me : Me) (g : Goal) (s : Search) (p : ℕ) → Told me (page_over me g s p) []
 told_page me g s p = told_choice me (nat_lt p 15) _ _ [] refl (told_over me g s)
 
+-- nor where so many plain words are stored
 told_plain : (me : Me) (q : Request) (g : Goal) (b i : ℕ) → Told me (Point (plain_from q g b i)) []
 told_plain me q g b i = go (nat_lt i q.count)
   where
@@ -301,6 +305,7 @@ told_plain me q g b i = go (nat_lt i q.count)
     go true = refl
     go false = refl
 
+-- nor where so many reference words are stored
 told_references : (me : Me) (q : Request) (g : Goal) (b i : ℕ) → Told me (Point (references_from q g b i)) []
 told_references me q g b i = go (nat_lt i q.refs)
   where
@@ -308,6 +313,7 @@ told_references me q g b i = go (nat_lt i q.refs)
     go true = refl
     go false = told_plain me q g b 0
 
+-- the events up to a step, with its own, are those of the next point or of the answer
 told_next : (me : Me) (q : Request) (p : AllocPoint) (n : ℕ) → Told me (alloc_next_at me q p n) (events_with me p n)
 told_next me q Era n = told_choice me (nat_lt (2 ^ 47 - 3) n) _ _ [] refl refl
 told_next me q (Root e k) n = told_choice me (n == 0) _ _ [] refl (told_choice me (nat_lt k 15) _ _ [] refl refl)

@@ -1,6 +1,5 @@
 -- each step of an allocation keeps the invariant, and its memo fits again or holds what is answered
-use Rattle.std.proofs.Common.{◌≡◌, ◌≢◌, ℕ, refl, true, false, [], ◌∷◌, ◌++◌}
-use Rattle.std.specs.Prelude.{Result}
+use Rattle.std.proofs.Common.{◌≡◌, ◌≢◌, ℕ, refl, false, [], ◌∷◌, ◌++◌}
 use Rattle.std.proofs.lemmas.Bool.{true≢false}
 use Rattle.shm_graph.specs.declared.ask.Me.{Me}
 use Rattle.shm_graph.specs.declared.spot.Spot.{Spot}
@@ -10,8 +9,6 @@ use Rattle.shm_graph.specs.Blocks.{classes}
 use Rattle.shm_graph.specs.Asks.{Trail, at_of, pair}
 use Rattle.shm_graph.specs.Laws.{Keeps, Then, Frame, Stands, KeptAt, Outcome}
 use Rattle.shm_graph.proofs.KindKeeping.{not_fresh}
-use Rattle.shm_count.specs.declared.answer.Made.{Made}
-use Rattle.shm_alloc.specs.declared.alloc.AllocFault.{AllocFault}
 use Rattle.shm_alloc.specs.declared.point.Request.{Request}
 use Rattle.shm_alloc.specs.declared.point.AllocPoint.{AllocPoint}
 use Rattle.shm_alloc.specs.declared.point.AllocPoint.TheVariants.{Era, Root, Segment, Claim, Page, Class, Header, Tag, Reference, Plain, Redo, Commit, Slot, Close, Over}
@@ -55,6 +52,7 @@ then_holds m r0 r x tr n fit h = go (alloc_next m n) refl h
     go (Point p) e z = fits_goes m r0 r x tr n p fit e (knows_after m n fit.knows p e) z
     go (Answer a) e z = gives_ends m r0 r x tr n a fit e z
 
+-- each step of an allocation keeps the invariant, and what comes next holds of the memo
 pub alloc_keeps : Keeps alloc_control AllocFits AllocGives
 alloc_keeps m r0 tr going w r f s fit =
     let k = step_at m.me m.request r0 w r f tr m.point going s (λ z. not_fresh m.me w r f tr s (fit.begun z)) fit.can fit.knows.request fit.knows.point fit.holds in

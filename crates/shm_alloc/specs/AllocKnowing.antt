@@ -25,9 +25,11 @@ chosen : (me : Me) (q : Request) (b : Bool) (x y : Next) → (b ≡ true → Nex
 chosen me q true x y f h = f refl
 chosen me q false x y f h = h refl
 
+-- after the own era is read, the next point is in range
 era_fits : (me : Me) (q : Request) (n : ℕ) → NextFits me q (era_next n)
 era_fits me q n = chosen me q (nat_lt (2 ^ 47 - 3) n) _ _ (λ e. tt) (λ e. (grind (arith, nat_tests), omega arith))
 
+-- so it is after a root is read
 root_fits : (me : Me) (q : Request) (e k n : ℕ) → GeometryFits me.geometry → PointFits me q (Root e k) → NextFits me q (root_next e k n)
 root_fits me q e k n f h =
     chosen me q (n == 0) _ _
@@ -41,6 +43,7 @@ over_fits me q g s h t u =
     (λ l. (h, record { segment = grind (arith, nat_tests); taken = t; used = omega arith }))
     (λ l. tt)
 
+-- so it is after a segment of another is found
 taken_fits : (me : Me) (q : Request) (g : Goal) (s : Search) → GoalFits g → SearchFits me s 0 → NextFits me q (segment_taken me g s)
 taken_fits me q g s h k = let t = k.taken in let u = k.used in over_fits me q g (record s { taken = s.taken + 1 }) h (omega arith) (omega arith)
 
@@ -57,10 +60,12 @@ page_over_fits me q g s p h k l =
 first_fits : (me : Me) (q : Request) (g : Goal) (s : Search) → GoalFits g → SearchFits me s 0 → NextFits me q (first_page g s)
 first_fits me q g s h k = (h, k, omega arith)
 
+-- so it is after the owner of a segment is read
 segment_fits : (me : Me) (q : Request) (g : Goal) (s : Search) (n : ℕ) → PointFits me q (Segment g s) → NextFits me q (segment_next me g s n)
 segment_fits me q g s n h =
     chosen me q (n == 0) _ _ (λ e. h) (λ e. chosen me q (n == me.who + 1) _ _ (λ u. first_fits me q g s h.0 h.1) (λ u. taken_fits me q g s h.0 h.1))
 
+-- so it is after a segment is exchanged
 claim_fits : (me : Me) (q : Request) (g : Goal) (s : Search) (n : ℕ) → PointFits me q (Claim g s) → NextFits me q (claim_next me g s n)
 claim_fits me q g s n h = chosen me q (n == 0) _ _ (λ e. first_fits me q g s h.0 h.1) (λ e. taken_fits me q g s h.0 h.1)
 
@@ -70,6 +75,7 @@ first_header_fits me q g s p h =
     let u = h.1.used in
     (h.0, record { segment = h.1.segment; taken = h.1.taken; used = omega arith }, h.2, blocks_least (class_asked q) (class_is q.refs q.count))
 
+-- so it is after the class of a page is read
 page_fits : (me : Me) (q : Request) (g : Goal) (s : Search) (p n : ℕ) → PointFits me q (Page g s p) → NextFits me q (page_next me q g s p n)
 page_fits me q g s p n h =
     let u = h.1.used in
@@ -77,6 +83,7 @@ page_fits me q g s p n h =
     (λ e. chosen me q (n == class_asked q) _ _ (λ z. first_header_fits me q g s p h)
     (λ z. page_over_fits me q g s p h.0 (record { segment = h.1.segment; taken = h.1.taken; used = omega arith }) h.2))
 
+-- so it is after a header is read
 header_fits : (me : Me) (q : Request) (g : Goal) (s : Search) (p i n : ℕ) → PointFits me q (Header g s p i) → NextFits me q (header_next me q g s p i n)
 header_fits me q g s p i n h =
     let u = h.1.used in
@@ -92,6 +99,7 @@ header_fits me q g s p i n h =
 abbrev BlockFits : Me → Request → ℕ → Type 0
 BlockFits me q b = (b + class_asked q ≤ total_of me.geometry) × (bodies me.geometry ≤ b)
 
+-- so it is where so many plain words are stored
 plain_fits : (me : Me) (q : Request) (g : Goal) (b i : ℕ) → GoalFits g → BlockFits me q b → PointFits me q (plain_from q g b i)
 plain_fits me q g b i h k = go (nat_lt i q.count) refl
   where
@@ -99,6 +107,7 @@ plain_fits me q g b i h k = go (nat_lt i q.count) refl
     go true e = (h, k.0, grind (arith, nat_tests), k.1)
     go false e = (h, k.0, k.1)
 
+-- so it is where so many reference words are stored
 references_fit : (me : Me) (q : Request) (g : Goal) (b i : ℕ) → GoalFits g → BlockFits me q b → PointFits me q (references_from q g b i)
 references_fit me q g b i h k = go (nat_lt i q.refs) refl
   where
@@ -106,6 +115,7 @@ references_fit me q g b i h k = go (nat_lt i q.refs) refl
     go true e = (h, k.0, grind (arith, nat_tests), k.1)
     go false e = plain_fits me q g b 0 h k
 
+-- so it is after each step
 next_fits : (me : Me) (q : Request) (p : AllocPoint) (n : ℕ) → GeometryFits me.geometry → PointFits me q p → NextFits me q (alloc_next_at me q p n)
 next_fits me q Era n f h = era_fits me q n
 next_fits me q (Root e k) n f h = root_fits me q e k n f h

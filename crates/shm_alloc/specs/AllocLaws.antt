@@ -30,19 +30,24 @@ abbrev GoesOn : Next → Type 0
 GoesOn (Point p) = (is_first p ≡ false) × (is_over p ≡ false)
 GoesOn (Answer a) = Unit {0}
 
+-- where both ways go on, the one that is taken does
 chosen : (b : Bool) (x y : Next) → GoesOn x → GoesOn y → GoesOn (if b then x else y)
 chosen true x y f h = f
 chosen false x y f h = h
 
+-- where a segment is over, it goes on or answers
 over_goes : (me : Me) (g : Goal) (s : Search) → GoesOn (segment_over me g s)
 over_goes me g s = chosen (nat_lt (s.segment + 1) me.geometry.segments) _ _ (refl, refl) tt
 
+-- so it does where a segment is another's
 taken_goes : (me : Me) (g : Goal) (s : Search) → GoesOn (segment_over me g (record s { taken = s.taken + 1 }))
 taken_goes me g s = over_goes me g (record s { taken = s.taken + 1 })
 
+-- so it does where a page is over
 page_goes : (me : Me) (g : Goal) (s : Search) (p : ℕ) → GoesOn (page_over me g s p)
 page_goes me g s p = chosen (nat_lt p 15) _ _ (refl, refl) (over_goes me g s)
 
+-- so it does where so many plain words are stored
 plain_goes : (q : Request) (g : Goal) (b i : ℕ) → GoesOn (Point (plain_from q g b i))
 plain_goes q g b i = go (nat_lt i q.count)
   where
@@ -50,6 +55,7 @@ plain_goes q g b i = go (nat_lt i q.count)
     go true = (refl, refl)
     go false = (refl, refl)
 
+-- so it does where so many reference words are stored
 references_go : (q : Request) (g : Goal) (b i : ℕ) → GoesOn (Point (references_from q g b i))
 references_go q g b i = go (nat_lt i q.refs)
   where
@@ -57,6 +63,7 @@ references_go q g b i = go (nat_lt i q.refs)
     go true = (refl, refl)
     go false = plain_goes q g b 0
 
+-- and after each step, if it isn't over
 goes_on : (me : Me) (q : Request) (p : AllocPoint) (n : ℕ) → is_over p ≡ false → GoesOn (alloc_next_at me q p n)
 goes_on me q Era n e = chosen (nat_lt (2 ^ 47 - 3) n) _ _ tt (refl, refl)
 goes_on me q (Root d k) n e = chosen (n == 0) _ _ (refl, refl) (chosen (nat_lt k 15) _ _ (refl, refl) tt)
@@ -79,6 +86,7 @@ after_next : (x : Next) → GoesOn x → (is_first (point_of x) ≡ false) × (i
 after_next (Point p) h = (h.0, h.1)
 after_next (Answer a) h = (refl, refl)
 
+-- the control of an allocation is steady
 pub alloc_steady : Steady alloc_control
 alloc_steady m n going =
     let h = after_next (alloc_next m n) (goes_on m.me m.request m.point n going) in
@@ -108,6 +116,7 @@ place_inside g (place.Body s p k) f i n = (omega arith, address_below g (place.B
 word_inside : (me : Me) (q : Request) (b i : ℕ) → RequestFits q → b + class_asked q ≤ total_of me.geometry → bodies me.geometry ≤ b → i < 2 + q.refs + q.count → (0 < b + i) × (b + i < total_of me.geometry)
 word_inside me q b i f t l k = let r = class_room q.refs q.count f.refs f.count in (omega arith, omega arith)
 
+-- what is asked for at a point is in the pool
 ask_inside : (me : Me) (q : Request) (p : AllocPoint) → GeometryFits me.geometry → me.who < me.geometry.clients → RequestFits q → PointFits me q p → is_over p ≡ false
     → (0 < at_of (alloc_ask_at me q p)) × (at_of (alloc_ask_at me q p) < total_of me.geometry)
 ask_inside me q Era f l r h e = place_inside me.geometry (place.Era me.who me.who) f (grind (arith, nat_tests)) (λ z. cc)
@@ -129,6 +138,7 @@ ask_inside me q (Slot g b) f l r h e = let z = h.0.root in place_inside me.geome
 ask_inside me q (Close g b) f l r h e = place_inside me.geometry (place.Era me.who me.who) f (grind (arith, nat_tests)) (λ z. cc)
 ask_inside me q Over f l r h e = absurd (true≢false e)
 
+-- each word that an allocation asks for is in the pool
 pub alloc_inside : Inside alloc_control AllocFits
 alloc_inside m r0 r tr l fit going = ask_inside m.me m.request m.point fit.knows.geometry l fit.knows.request fit.knows.point going
 
@@ -140,5 +150,6 @@ alloc_back m n going goes r0 r tr a g = record { holds = g.holds; trail = g.trai
 
 -- ---- all
 
+-- the laws of an allocation
 pub alloc_laws : Laws alloc_control AllocFits AllocGives
 alloc_laws = record { steady = alloc_steady; inside = alloc_inside; back = alloc_back; keeps = alloc_keeps }

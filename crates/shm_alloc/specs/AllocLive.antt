@@ -1,5 +1,5 @@
 -- a block becomes live: what the store of the redo record, the exchange of the header and the stores of the root and the own era keep
-use Rattle.std.proofs.Common.{◌≡◌, ◌≢◌, ℕ, ◌+◌, ◌^◌, ◌<◌, ◌≤◌, refl, sym, ap, ◌∙◌, subst, arith, true, false, ◌&&◌, eqb, List, [], ◌∷◌, ◌++◌, Some, None, inl, inr, cond}
+use Rattle.std.proofs.Common.{◌≡◌, ℕ, ◌+◌, ◌^◌, ◌<◌, ◌≤◌, refl, sym, ap, ◌∙◌, subst, arith, true, false, ◌&&◌, eqb, List, [], ◌∷◌, ◌++◌, Some, None, inl, inr, cond}
 use Rattle.std.specs.List.{All, Contains}
 use Rattle.std.proofs.lemmas.Bool.{cases_Bool, cond-true, cond-false, eq-eqb, lt-ltb, true≢false}
 use Rattle.std.proofs.lemmas.List.Elements.{All-contains, All-head, All-tail}
@@ -53,7 +53,8 @@ use Rattle.shm_alloc.specs.declared.point.Goal.{Goal}
 use Rattle.shm_alloc.specs.declared.point.AllocPoint.TheVariants.{Redo, Commit, Slot, Close}
 use Rattle.shm_alloc.specs.AllocControl.{class_asked, tag_asked, header_made, alloc_next_at}
 use Rattle.shm_alloc.specs.AllocFits.{IsPrepared, PointHolds, NextHolds, redo_stored}
-use Rattle.shm_alloc.specs.AllocMaking.{PointKeeps, at_step, after_step, kept_with, is_here, live_here, stays_after, asked_fits, goal_on}
+use Rattle.shm_alloc.specs.AllocSteps.{PointKeeps, is_here, live_here, goal_on}
+use Rattle.shm_alloc.specs.AllocMaking.{at_step, after_step, kept_going, stays_after, asked_fits}
 
 -- the spot of an own root
 root_spot : (me : Me) (w : Spot → ℕ) (k : ℕ) → me.who < me.geometry.clients → k < 16 → spot_at me.geometry (classes w) (address me.geometry (place.Root me.who k)) ≡ spot.Root me.who k
@@ -84,7 +85,7 @@ redo_step me q r0 w r f tr g b st going can fits point h =
     let begun : op_begun me.geometry c m x ≡ op.Alloc Begun (spot.Root c g.root) b g.era =
     up_begun me.geometry w r c st.held st.who g.root b place redo ∙ (cond-true _ _ _ made ∙ ap (λ y. op.Alloc Begun (spot.Root c g.root) b y) (sym own)) in
     let n' : Memo = after_step me a f 0 m (record (with_own (at_step me a f 0 m) p x) { op = op_begun me.geometry c m x }) in
-    kept_with me w r a f (λ n r'. NextHolds me q r0 r' (alloc_next_at me q (Redo g b) n)) p going e
+    kept_going me w r a f (λ n r'. NextHolds me q r0 r' (alloc_next_at me q (Redo g b) n)) p going e
     (begin_stored me w r f tr at x st going e (root_begins_up me.geometry w r c st.held st.who g.root b add))
     (record {
       stays = stays_after me a f 0 r0 m (record { spot = p; value = x } ∷ m.own) (op_begun me.geometry c m x) m.making m.known m.values m.zeros m.made h.stays;
@@ -151,7 +152,7 @@ commit_step me q r0 w r f tr g b st going can fits point h =
     let known : known_at (spot.Tag b) k.words ≡ Some t = tag_known (λ d. w (spot.Tag d)) (λ d i. w (spot.Body d i)) k.block b k.class t k.words s.stored tag_word words.tag in
     let n : Memo = at_step me a f 0 m in
     let n' : Memo = after_step me a f 0 m (allocated (record n { op = op.Alloc Committed (spot.Root c g.root) b g.era }) b) in
-    kept_with me w r a f (λ n r'. NextHolds me q r0 r' (alloc_next_at me q (Commit g b) n)) p going e
+    kept_going me w r a f (λ n r'. NextHolds me q r0 r' (alloc_next_at me q (Commit g b) n)) p going e
     (allocates me w r f tr b g.root b g.era to t k st going e may)
     (subst (λ y. PointHolds me q r0 (memo_on m (framed me a (record f { fresh = false }) y) p) (Slot g b)) (sym free)
     (subst (λ (o : Op). PointHolds me q r0 (after_step me a f 0 m (committed c n o to)) (Slot g b)) (sym h.op)
@@ -181,7 +182,7 @@ slot_step me q r0 w r f tr g b st going can fits point h =
     let most = total_small me.geometry can.geometry in
     let inside : b + class_asked q ≤ total_of me.geometry = point.1 in
     let n' : Memo = after_step me a f 0 m (record (with_own (at_step me a f 0 m) p b) { op = op_written m.op }) in
-    kept_with me w r a f (λ n r'. NextHolds me q r0 r' (alloc_next_at me q (Slot g b) n)) p going e
+    kept_going me w r a f (λ n r'. NextHolds me q r0 r' (alloc_next_at me q (Slot g b) n)) p going e
     (root_stored me w r f tr at g.root b st going e (record {
       here = is_here me r0 m can h.stays;
       slot = ap slot_of h.op;
@@ -213,7 +214,7 @@ close_step me q r0 w r f tr g b st going can fits point h =
     let before : List Stored = record { spot = spot.Root c g.root; value = b } ∷ redo_stored me g b ∷ r0.own in
     let owns : record { spot = p; value = x } ∷ m.own ≡ record { spot = p; value = own_word r0.own p + 1 } ∷ before = ap (λ o. record { spot = p; value = x } ∷ o) h.own ∙ ap (λ y. record { spot = p; value = y + 1 } ∷ before) h.has.2.era in
     let answer = alloc_next_at me q (Close g b) 0 in
-    kept_with me w r a f (λ n r'. NextHolds me q r0 r' (alloc_next_at me q (Close g b) n)) p going e
+    kept_going me w r a f (λ n r'. NextHolds me q r0 r' (alloc_next_at me q (Close g b) n)) p going e
     (subst (λ y. KeptAt me w r (Store at (y + 1)) f (λ n m. Unit {0}) (spot_at me.geometry (classes w) at)) own
     (era_closed me w r f tr at st going e (record { here = is_here me r0 m can h.stays; op = subst (λ (o : Op). Closes o (op_closed o (own_word m.own p + 1))) (sym h.op) refl })))
     (subst (λ z. NextHolds me q r0 (after_step me a f 0 m z) answer) (sym (cond-true _ (era_stored c n p x) (with_own n p x) (eq-eqb c c refl)))

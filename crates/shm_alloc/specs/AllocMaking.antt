@@ -17,11 +17,10 @@ use Rattle.shm_graph.specs.declared.memo.Making.{Making}
 use Rattle.shm_graph.specs.declared.memo.Memo.{Memo}
 use Rattle.shm_graph.specs.declared.memo.Op.{Op}
 use Rattle.shm_graph.specs.declared.memo.Op.TheVariants as op
-use Rattle.shm_graph.specs.declared.memo.Status.TheVariants as status
 use Rattle.shm_graph.specs.declared.memo.Stored.{Stored}
 use Rattle.shm_graph.specs.Spots.{same_spot, spot_at, class_at, segment_of}
 use Rattle.shm_graph.specs.Blocks.{classes, IsBlock}
-use Rattle.shm_graph.specs.Views.{view, own_word}
+use Rattle.shm_graph.specs.Views.{view}
 use Rattle.shm_graph.specs.Held.{HeldAt, ZeroAt}
 use Rattle.shm_graph.specs.Asks.{Trail, at_of, seen_of}
 use Rattle.shm_graph.specs.Changes.{called, with_call, with_end, memo_on}
@@ -33,46 +32,34 @@ use Rattle.shm_graph.proofs.KindKeeping.{in_frame}
 use Rattle.shm_graph.proofs.Loads.{choice}
 use Rattle.shm_graph.proofs.Spotting.{block_within, tag_spot, body_spot, same_spot_not}
 use Rattle.shm_laws.proofs.Keep.{Contains-filter}
-use Rattle.shm_steps.specs.Conditions.{IsHere}
 use Rattle.shm_steps.proofs.BlockTold.{dying_false}
 use Rattle.shm_steps.proofs.Prepared.{MakingHolds, making_holds, tag_prepares, body_prepares}
 use Rattle.shm_alloc.specs.declared.point.Request.{Request}
 use Rattle.shm_alloc.specs.declared.point.Goal.{Goal}
 use Rattle.shm_alloc.specs.declared.point.AllocPoint.{AllocPoint}
 use Rattle.shm_alloc.specs.declared.point.AllocPoint.TheVariants.{Tag, Reference, Plain, Redo}
-use Rattle.shm_alloc.specs.AllocControl.{class_asked, tag_asked, alloc_ask_at, alloc_next_at, plain_from, references_from, RequestFits, PointFits}
+use Rattle.shm_alloc.specs.AllocControl.{class_asked, tag_asked, alloc_next_at, plain_from, references_from, RequestFits}
+use Rattle.shm_alloc.specs.AllocSteps.{PointKeeps, kept_with, is_here, goal_on}
 use Rattle.shm_alloc.specs.AllocFits.{GoalHas, IsPrepared, Prepares, Stays, CanAlloc, PointHolds, NextHolds}
 
--- ---- what a step owes
+-- ---- a step of the making
 
--- the step at a point keeps the invariant, and then what comes next holds of the memo
-abbrev pub PointKeeps : Me → Request → Memo → (Spot → ℕ) → (ℕ → Memo) → Frame → Trail → AllocPoint → Type 0
-PointKeeps me q r0 w r f tr p =
-    Stands me w r f tr → f.fresh ≡ false → CanAlloc me r0 → RequestFits q → PointFits me q p → PointHolds me q r0 (r me.who) p
-    → KeptAt me w r (alloc_ask_at me q p) f (λ n r'. NextHolds me q r0 r' (alloc_next_at me q p n)) (spot_at me.geometry (classes w) (at_of (alloc_ask_at me q p)))
-
--- the memo at a step that isn't a machine's first, and after it
+-- the memo at a step that isn't a machine's first
 abbrev pub at_step : Me → Ask → Frame → ℕ → Memo → Memo
 at_step me a f n m = called m (framed me a (record f { fresh = false }) n)
 
+-- and after that step
 abbrev pub after_step : Me → Ask → Frame → ℕ → Memo → Memo → Memo
 after_step me a f n m m' = with_end f.ends (with_call (at_step me a f n m) m')
 
--- what holds of the memo after a step that its kind keeps
-pub kept_with : (me : Me) (w : Spot → ℕ) (r : ℕ → Memo) (a : Ask) (f : Frame) (after : ℕ → Memo → Type 0) (p : Spot) → f.fresh ≡ false → spot_at me.geometry (classes w) (at_of a) ≡ p
+-- the law that a kind has of a step that isn't a machine's first, with what holds of the memo after it
+pub kept_going : (me : Me) (w : Spot → ℕ) (r : ℕ → Memo) (a : Ask) (f : Frame) (after : ℕ → Memo → Type 0) (p : Spot) → f.fresh ≡ false → spot_at me.geometry (classes w) (at_of a) ≡ p
     → KeptAt me w r a f (λ n m. Unit {0}) (spot_at me.geometry (classes w) (at_of a))
     → after (seen_of a (w p)) (memo_on (r me.who) (framed me a (record f { fresh = false }) (seen_of a (w p))) p)
     → KeptAt me w r a f after (spot_at me.geometry (classes w) (at_of a))
-kept_with me w r a f after p going e k x =
-    let y : after (seen_of a (w p)) (memo_on (r me.who) (framed me a f (seen_of a (w p))) p) = in_frame (λ h. after (seen_of a (w p)) (memo_on (r me.who) (framed me a h (seen_of a (w p))) p)) f going x in
-    record { told = k.told; step = k.step; fits = subst (λ q. after (seen_of a (w q)) (memo_on (r me.who) (framed me a f (seen_of a (w q))) q)) (sym e) y }
-
--- an identity that can allocate is live, and stays here
-pub live_here : (me : Me) (r0 r : Memo) → CanAlloc me r0 → Stays r0 r → r.status ≡ status.Live
-live_here me r0 r can s = s.status ∙ can.idle.live
-
-pub is_here : (me : Me) (r0 r : Memo) → CanAlloc me r0 → Stays r0 r → IsHere r
-is_here me r0 r can s = let e = live_here me r0 r can s in record { joined = λ z. let u = sym e ∙ z in cc; stays = λ z. let u = sym e ∙ z in cc }
+kept_going me w r a f after p going e k x =
+    kept_with me w r a f after p (spot_at me.geometry (classes w) (at_of a)) e k
+    (in_frame (λ h. after (seen_of a (w p)) (memo_on (r me.who) (framed me a h (seen_of a (w p))) p)) f going x)
 
 -- what stays does so at a step that changes no more than own words, the step in progress, the block that is prepared, and what is known
 pub stays_after : (me : Me) (a : Ask) (f : Frame) (n : ℕ) (r0 m : Memo) (own : List Stored) (o : Op) (making : Option Making) (known : List Stored) (values : List ℕ) (zeros : List Spot) (made : List ℕ) → Stays r0 m
@@ -166,15 +153,6 @@ plain_more c q b i k h =
       ];
     }
 
--- what the memo shows of the goal it shows where the own words are as they were
-pub goal_on : (c : ℕ) (r r' : Memo) (g : Goal) → r'.own ≡ r.own → GoalHas c r g → GoalHas c r' g
-goal_on c r r' g e h =
-    record {
-      era = h.era ∙ ap (λ o. own_word o (spot.Era c c)) (sym e);
-      empty = ap (λ o. own_word o (spot.Root c g.root)) e ∙ h.empty;
-      before = λ j l z. h.before j l (ap (λ o. own_word o (spot.Root c j)) (sym e) ∙ z);
-    }
-
 -- ---- the tag
 
 -- the tag is stored
@@ -193,7 +171,7 @@ tag_step me q r0 w r f tr g b st going can fits point h =
     let k : Making = record { block = b; class = class_told me.geometry m.facts b; words = record { spot = p; value = x } ∷ [] } in
     let n : Memo = record (at_step me a f 0 m) { making = making_with me.geometry m.facts m.making b p x } in
     let n' : Memo = after_step me a f 0 m n in
-    kept_with me w r a f (λ n r'. NextHolds me q r0 r' (alloc_next_at me q (Tag g b) n)) p going e
+    kept_going me w r a f (λ n r'. NextHolds me q r0 r' (alloc_next_at me q (Tag g b) n)) p going e
     (tag_prepares me w r f tr (b + 1) b x st going e
     (inr (record { here = is_here me r0 m can h.stays; idle = h.op; begin = record { none = h.has.0.making; read = h.has.2; told = some }; small = omega arith })))
     (subst (λ (z : Memo). PointHolds me q r0 (after_step me a f 0 m z) (references_from q g b 0)) (sym (cond-false _ _ n free))
@@ -243,7 +221,7 @@ word_step me q r0 w r f tr g b i x refs plain refs' plain' next st going can h r
     let e : spot_at me.geometry (classes w) (b + 2 + i) ≡ p = word_spot me q w r b i refs plain k st.held st.who h.block.1 h.block.2 room in
     let n : Memo = record (at_step me a f 0 m) { making = making_with me.geometry m.facts m.making b p x } in
     let n' : Memo = after_step me a f 0 m n in
-    kept_with me w r a f (λ n r'. PointHolds me q r0 r' next) p going e
+    kept_going me w r a f (λ n r'. PointHolds me q r0 r' next) p going e
     (body_prepares me w r f tr (b + 2 + i) b i x st going e
     (k, record { here = is_here me r0 m can h.stays; idle = h.op; making = h.block.1; of = h.block.2.block; small = small }, (let u : k.class ≡ class_asked q = h.block.2.class in omega arith)))
     (subst (λ (z : Memo). PointHolds me q r0 (after_step me a f 0 m z) next) (sym (cond-false _ _ n (ap (λ o. is_op o && same_spot (slot_of o) p) h.op)))

@@ -1,23 +1,19 @@
 -- the search for a free block: what each step leaves of the memo, and where the search ends
-use Rattle.std.proofs.Common.{◌≡◌, ℕ, ◌+◌, refl, sym, ap, ◌∙◌, subst, arith, false, ltb, List, [], ◌∷◌, ◌++◌, append_assoc}
+use Rattle.std.proofs.Common.{◌≡◌, ℕ, ◌+◌, refl, sym, ap, ◌∙◌, subst, false, ltb, List, [], ◌++◌, append_assoc}
 use Rattle.std.specs.Prelude.{None, Err}
 use Rattle.std.specs.List.{Contains}
 use Rattle.std.proofs.lemmas.List.Elements.{Contains-append_right}
 use Rattle.shm_graph.specs.declared.ask.Ask.{Ask}
 use Rattle.shm_graph.specs.declared.ask.Me.{Me}
-use Rattle.shm_graph.specs.declared.spot.Spot.{Spot}
 use Rattle.shm_graph.specs.declared.spot.Spot.TheVariants as spot
 use Rattle.shm_graph.specs.declared.memo.Stored.{Stored}
 use Rattle.shm_graph.specs.declared.memo.Op.TheVariants as op
 use Rattle.shm_graph.specs.declared.memo.Memo.{Memo}
 use Rattle.shm_graph.specs.declared.memo.Step.{Step}
 use Rattle.shm_graph.specs.Idle.{hold_word}
-use Rattle.shm_graph.specs.Asks.{seen_of, at_of}
-use Rattle.shm_graph.specs.Spots.{spot_at}
-use Rattle.shm_graph.specs.Blocks.{classes}
 use Rattle.shm_graph.specs.Views.{own_word}
-use Rattle.shm_graph.specs.Changes.{called, memo_on}
-use Rattle.shm_graph.specs.Laws.{Frame, framed, KeptAt}
+use Rattle.shm_graph.specs.Changes.{called}
+use Rattle.shm_graph.specs.Laws.{Frame, framed}
 use Rattle.shm_graph.proofs.Calling.{called_part}
 use Rattle.shm_graph.proofs.KindKeeping.{in_frame}
 use Rattle.shm_graph.proofs.Loads.{choice}
@@ -26,30 +22,10 @@ use Rattle.shm_alloc.specs.declared.alloc.AllocFault.TheVariants.{Full}
 use Rattle.shm_alloc.specs.declared.point.Request.{Request}
 use Rattle.shm_alloc.specs.declared.point.Goal.{Goal}
 use Rattle.shm_alloc.specs.declared.point.Search.{Search}
-use Rattle.shm_alloc.specs.declared.point.AllocPoint.{AllocPoint}
 use Rattle.shm_alloc.specs.declared.point.AllocPoint.TheVariants.{Segment, Page}
 use Rattle.shm_alloc.specs.declared.point.Next.TheVariants.{Point, Answer}
-use Rattle.shm_alloc.specs.AllocControl.{alloc_ask_at, alloc_next_at, segment_over, page_over}
+use Rattle.shm_alloc.specs.AllocControl.{segment_over, page_over}
 use Rattle.shm_alloc.specs.AllocFits.{GoalHas, Stays, Searches, CanAlloc, AnswerHolds, Cause, NextHolds}
-
--- ---- a kind's law, and what holds of the memo after its step
-
--- what the step of a point keeps
-abbrev pub KeepsAt : Me → Request → Memo → (Spot → ℕ) → (ℕ → Memo) → Frame → AllocPoint → Type 0
-KeepsAt me q r0 w r f p = KeptAt me w r (alloc_ask_at me q p) f (λ n r'. NextHolds me q r0 r' (alloc_next_at me q p n)) (spot_at me.geometry (classes w) (at_of (alloc_ask_at me q p)))
-
--- the law that a kind has of a step, with what holds of the memo after it
-pub kept_with : (me : Me) (w : Spot → ℕ) (r : ℕ → Memo) (a : Ask) (f : Frame) (after : ℕ → Memo → Type 0) (p q : Spot) → q ≡ p
-    → KeptAt me w r a f (λ n m. Unit {0}) q
-    → after (seen_of a (w p)) (memo_on (r me.who) (framed me a f (seen_of a (w p))) p)
-    → KeptAt me w r a f after q
-kept_with me w r a f after p q e k x =
-    subst (KeptAt me w r a f after) (sym e)
-    (let law = subst (KeptAt me w r a f (λ n m. Unit {0})) e k in record { told = law.told; step = law.step; fits = x })
-
--- what joins a list is in it
-pub newest : {X : Type 0} (x : X) (xs : List X) → Contains (x ∷ xs) x
-newest x xs = (0, omega arith, refl)
 
 -- ---- what a step of the search leaves of the memo
 
@@ -66,10 +42,11 @@ pub record Remains (r r' : Memo) : Type 0 where
 pub called_searched : (m : Memo) (t : Step) → searched (called m t) ≡ searched m
 called_searched m t = called_part searched m t refl refl
 
--- the segments and, but for the first step, the facts are as they were
+-- the own segments at a step are those that the memo had
 pub called_owned : (m : Memo) (t : Step) → (called m t).owned ≡ m.owned
 called_owned m t = called_part (λ (x : Memo). x.owned) m t refl refl
 
+-- and so are the facts, but at a machine's first step
 pub called_facts : (me : Me) (a : Ask) (f : Frame) (n : ℕ) (m : Memo) → f.fresh ≡ false → (called m (framed me a f n)).facts ≡ m.facts
 called_facts me a f n m e = in_frame (λ h. (called m (framed me a h n)).facts ≡ m.facts) f e refl
 
@@ -113,16 +90,6 @@ looks_on r0 r r' h k =
         known = ap (λ (x : Memo). x.known) k.same ∙ h.has.known;
         values = ap (λ (x : Memo). x.values) k.same ∙ h.has.values;
       };
-    }
-
--- the goal is as it was
-pub goal_on : (c : ℕ) (r r' : Memo) (g : Goal) → GoalHas c r g → Remains r r' → GoalHas c r' g
-goal_on c r r' g h k =
-    let e : (p : Spot) → own_word r'.own p ≡ own_word r.own p = λ p. ap (λ (o : List Stored). own_word o p) (own_same r r' k) in
-    record {
-      era = h.era ∙ sym (e (spot.Era c c));
-      empty = e (spot.Root c g.root) ∙ h.empty;
-      before = λ j l z. h.before j l (sym (e (spot.Root c j)) ∙ z);
     }
 
 -- an own segment stays one

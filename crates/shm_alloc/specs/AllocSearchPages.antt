@@ -28,7 +28,7 @@ use Rattle.shm_graph.specs.Agents.{recovers}
 use Rattle.shm_graph.specs.Changes.{called, with_call, with_end, memo_on}
 use Rattle.shm_graph.specs.Readings.{op_refused, raised_by, is_held}
 use Rattle.shm_graph.specs.Stores.{class_read, class_told}
-use Rattle.shm_graph.specs.Laws.{Frame, framed, Stands}
+use Rattle.shm_graph.specs.Laws.{Frame, framed}
 use Rattle.shm_graph.proofs.Calling.{called_part}
 use Rattle.shm_graph.proofs.SpotPlaces.{spot-place, body_spot_at}
 use Rattle.shm_graph.proofs.Loads.{choice}
@@ -41,9 +41,11 @@ use Rattle.shm_alloc.specs.declared.point.Goal.{Goal}
 use Rattle.shm_alloc.specs.declared.point.Search.{Search}
 use Rattle.shm_alloc.specs.declared.point.AllocPoint.TheVariants.{Page, Class, Header, Tag}
 use Rattle.shm_alloc.specs.declared.point.Next.TheVariants.{Point}
-use Rattle.shm_alloc.specs.AllocControl.{class_asked, block_of, RequestFits, PointFits, alloc_next_at, first_header, page_over, header_used}
-use Rattle.shm_alloc.specs.AllocFits.{GoalHas, CanAlloc, PointHolds, NextHolds}
-use Rattle.shm_alloc.specs.AllocSearch.{KeepsAt, searched, Looks, Remains, newest, kept_with, remains, called_facts, called_owned, looks_on, goal_on, owned_on, page_done}
+use Rattle.shm_alloc.specs.AllocControl.{class_asked, block_of, alloc_next_at, first_header, page_over, header_used}
+use Rattle.shm_alloc.specs.AllocFits.{GoalHas, CanAlloc, NextHolds}
+use Rattle.shm_alloc.specs.AllocSteps.{PointKeeps, kept_with, goal_on}
+use Rattle.shm_alloc.specs.AllocSearch.{searched, Looks, Remains, remains, called_facts, called_owned, looks_on, owned_on, page_done, own_same}
+use Rattle.shm_laws.proofs.Keep.{newest}
 
 -- ---- the class of a page
 
@@ -62,7 +64,7 @@ page_found me q r0 r g s p n can h goal mine none some =
     (λ _. page_done me q r0 r g s p can h goal mine))
 
 -- the class of a page is loaded
-pub page_step : (me : Me) (q : Request) (r0 : Memo) (w : Spot → ℕ) (r : ℕ → Memo) (f : Frame) (tr : Trail) (g : Goal) (s : Search) (p : ℕ) → Stands me w r f tr → f.fresh ≡ false → CanAlloc me r0 → RequestFits q → PointFits me q (Page g s p) → PointHolds me q r0 (r me.who) (Page g s p) → KeepsAt me q r0 w r f (Page g s p)
+pub page_step : (me : Me) (q : Request) (r0 : Memo) (w : Spot → ℕ) (r : ℕ → Memo) (f : Frame) (tr : Trail) (g : Goal) (s : Search) (p : ℕ) → PointKeeps me q r0 w r f tr (Page g s p)
 page_step me q r0 w r f tr g s p st going can request fit h =
     let c = me.who in
     let at = address me.geometry (place.Page s.segment p) in
@@ -82,7 +84,7 @@ page_step me q r0 w r f tr g s p st going can request fit h =
     (spot-place me.geometry (classes w) (place.Page s.segment p) (and_from _ _ (lt-ltb s.segment me.geometry.segments fit.1.segment) (lt-ltb p 16 fit.2))) refl tt
     (page_found me q r0 (memo (eqb n 0) own) g s p n can
     (looks_on r0 (r c) (memo (eqb n 0) own) (record { stays = h.stays; op = h.op; own = h.own; has = h.has.0 }) k)
-    (goal_on c (r c) (memo (eqb n 0) own) g h.has.1 k)
+    (goal_on c (r c) (memo (eqb n 0) own) g (own_same (r c) (memo (eqb n 0) own) k) h.has.1)
     (owned_on (r c) (memo (eqb n 0) own) s.segment h.has.2 k)
     (λ z. subst (λ b. Contains (memo b own).zeros x) (sym z) (subst (λ d. Contains (memo true d).zeros x) (sym mine) (newest x m.zeros)))
     (λ z. subst (λ b. class_read (memo b own).facts s.segment p ≡ n) (sym z) (class_first m.facts s.segment p n)))
@@ -90,7 +92,7 @@ page_step me q r0 w r f tr g s p st going can request fit h =
 -- ---- a page gets its class
 
 -- the class that is asked is stored
-pub class_step : (me : Me) (q : Request) (r0 : Memo) (w : Spot → ℕ) (r : ℕ → Memo) (f : Frame) (tr : Trail) (g : Goal) (s : Search) (p : ℕ) → Stands me w r f tr → f.fresh ≡ false → CanAlloc me r0 → RequestFits q → PointFits me q (Class g s p) → PointHolds me q r0 (r me.who) (Class g s p) → KeepsAt me q r0 w r f (Class g s p)
+pub class_step : (me : Me) (q : Request) (r0 : Memo) (w : Spot → ℕ) (r : ℕ → Memo) (f : Frame) (tr : Trail) (g : Goal) (s : Search) (p : ℕ) → PointKeeps me q r0 w r f tr (Class g s p)
 class_step me q r0 w r f tr g s p st going can request fit h =
     let c = me.who in
     let at = address me.geometry (place.Page s.segment p) in
@@ -105,7 +107,7 @@ class_step me q r0 w r f tr g s p st going can request fit h =
       stays = y.stays;
       op = y.op;
       own = y.own;
-      has = (y.has, goal_on c (r c) (memo_on (r c) t x) g h.has.1 k, owned_on (r c) (memo_on (r c) t x) s.segment h.has.2 k, class_first (called (r c) t).facts s.segment p (class_asked q));
+      has = (y.has, goal_on c (r c) (memo_on (r c) t x) g (own_same (r c) (memo_on (r c) t x) k) h.has.1, owned_on (r c) (memo_on (r c) t x) s.segment h.has.2 k, class_first (called (r c) t).facts s.segment p (class_asked q));
     })
 
 -- ---- the blocks of a page
@@ -163,7 +165,7 @@ header_found me q r0 r g s p i n can h goal mine class none told =
     (λ _. page_done me q r0 r g s' p can h goal mine))
 
 -- the header of a block is loaded
-pub header_step : (me : Me) (q : Request) (r0 : Memo) (w : Spot → ℕ) (r : ℕ → Memo) (f : Frame) (tr : Trail) (g : Goal) (s : Search) (p i : ℕ) → Stands me w r f tr → f.fresh ≡ false → CanAlloc me r0 → RequestFits q → PointFits me q (Header g s p i) → PointHolds me q r0 (r me.who) (Header g s p i) → KeepsAt me q r0 w r f (Header g s p i)
+pub header_step : (me : Me) (q : Request) (r0 : Memo) (w : Spot → ℕ) (r : ℕ → Memo) (f : Frame) (tr : Trail) (g : Goal) (s : Search) (p i : ℕ) → PointKeeps me q r0 w r f tr (Header g s p i)
 header_step me q r0 w r f tr g s p i st going can request fit h =
     let c = me.who in
     let k = class_asked q in
@@ -189,7 +191,7 @@ header_step me q r0 w r f tr g s p i st going can request fit h =
     (header_loaded me w r f tr b b st e)
     (header_found me q r0 r' g s p i n can
     (looks_on r0 (r c) r' (record { stays = h.stays; op = h.op; own = h.own; has = h.has.0 }) y)
-    (goal_on c (r c) r' g h.has.1 y)
+    (goal_on c (r c) r' g (own_same (r c) r' y) h.has.1)
     (owned_on (r c) r' s.segment h.has.2 y)
     told
     (λ z. subst (λ d. Contains (cond d (x ∷ m.zeros) m.zeros) x) (sym (and_from (eqb n 0) own z mine)) (newest x m.zeros))

@@ -10,7 +10,6 @@ use Rattle.shm_graph.specs.declared.ask.Me.{Me}
 use Rattle.shm_graph.specs.declared.spot.Spot.{Spot}
 use Rattle.shm_graph.specs.declared.spot.Spot.TheVariants as spot
 use Rattle.shm_graph.specs.declared.memo.Fact.TheVariants.{Counter}
-use Rattle.shm_graph.specs.declared.memo.Status.TheVariants as status
 use Rattle.shm_graph.specs.declared.memo.Memo.{Memo}
 use Rattle.shm_graph.specs.declared.memo.Step.{Step}
 use Rattle.shm_graph.specs.Spots.{spot_at}
@@ -24,7 +23,6 @@ use Rattle.shm_graph.specs.Laws.{Frame, framed, Stands}
 use Rattle.shm_graph.proofs.SpotPlaces.{spot-place}
 use Rattle.shm_graph.proofs.Loads.{choice}
 use Rattle.shm_graph.proofs.LoadKeeping.{load_kept, lost_kept}
-use Rattle.shm_steps.specs.Conditions.{IsHere}
 use Rattle.shm_steps.proofs.PageSteps.{claimed}
 use Rattle.shm_alloc.specs.declared.alloc.AllocFault.TheVariants.{EraSpent, RootsFull}
 use Rattle.shm_alloc.specs.declared.point.Request.{Request}
@@ -34,7 +32,9 @@ use Rattle.shm_alloc.specs.declared.point.AllocPoint.TheVariants.{Era, Root, Seg
 use Rattle.shm_alloc.specs.declared.point.Next.TheVariants.{Point, Answer}
 use Rattle.shm_alloc.specs.AllocControl.{RequestFits, PointFits, alloc_next_at, first_page, segment_taken}
 use Rattle.shm_alloc.specs.AllocFits.{GoalHas, CanAlloc, PointHolds, NextHolds}
-use Rattle.shm_alloc.specs.AllocSearch.{KeepsAt, searched, Looks, Remains, newest, kept_with, remains, called_owned, called_searched, looks_on, goal_on, owned_on, refused, segment_done}
+use Rattle.shm_alloc.specs.AllocSteps.{KeepsAt, PointKeeps, kept_with, is_here, goal_on}
+use Rattle.shm_alloc.specs.AllocSearch.{searched, Looks, Remains, remains, called_owned, called_searched, looks_on, owned_on, refused, segment_done, own_same}
+use Rattle.shm_laws.proofs.Keep.{newest}
 
 -- an own word that is read is the one that the memo has
 own_read : (me : Me) (w : Spot → ℕ) (r : ℕ → Memo) (f : Frame) (tr : Trail) (r' : Memo) (p : Spot) → Stands me w r f tr → owner_is me.who p ≡ true → Remains (r me.who) r' → own_word r'.own p ≡ w p
@@ -94,7 +94,7 @@ root_done me q r0 r e k n can fit h era set here =
     (omega arith, λ j l x. more (eqb-false n 0 z) j (omega arith) (ap (λ o. own_word o (spot.Root c j)) h.own ∙ x))))
 
 -- a root is loaded
-pub root_step : (me : Me) (q : Request) (r0 : Memo) (w : Spot → ℕ) (r : ℕ → Memo) (f : Frame) (tr : Trail) (e k : ℕ) → Stands me w r f tr → f.fresh ≡ false → CanAlloc me r0 → RequestFits q → PointFits me q (Root e k) → PointHolds me q r0 (r me.who) (Root e k) → KeepsAt me q r0 w r f (Root e k)
+pub root_step : (me : Me) (q : Request) (r0 : Memo) (w : Spot → ℕ) (r : ℕ → Memo) (f : Frame) (tr : Trail) (e k : ℕ) → PointKeeps me q r0 w r f tr (Root e k)
 root_step me q r0 w r f tr e k st going can request fit h =
     let c = me.who in
     let at = address me.geometry (place.Root c k) in
@@ -122,7 +122,7 @@ segment_found me q r0 r g s n can h goal mine =
     (λ _. segment_done me q r0 r g (record s { taken = s.taken + 1 }) can h goal))
 
 -- the owner of a segment is loaded
-pub segment_step : (me : Me) (q : Request) (r0 : Memo) (w : Spot → ℕ) (r : ℕ → Memo) (f : Frame) (tr : Trail) (g : Goal) (s : Search) → Stands me w r f tr → f.fresh ≡ false → CanAlloc me r0 → RequestFits q → PointFits me q (Segment g s) → PointHolds me q r0 (r me.who) (Segment g s) → KeepsAt me q r0 w r f (Segment g s)
+pub segment_step : (me : Me) (q : Request) (r0 : Memo) (w : Spot → ℕ) (r : ℕ → Memo) (f : Frame) (tr : Trail) (g : Goal) (s : Search) → PointKeeps me q r0 w r f tr (Segment g s)
 segment_step me q r0 w r f tr g s st going can request fit h =
     let c = me.who in
     let at = address me.geometry (place.Segment s.segment) in
@@ -133,19 +133,13 @@ segment_step me q r0 w r f tr g s st going can request fit h =
     (spot-place me.geometry (classes w) (place.Segment s.segment) (lt-ltb s.segment me.geometry.segments fit.1.segment)) refl tt
     (segment_found me q r0 (memo_on (r c) t p) g s (w p) can
     (looks_on r0 (r c) (memo_on (r c) t p) (record { stays = h.stays; op = h.op; own = h.own; has = h.has.0 }) x)
-    (goal_on c (r c) (memo_on (r c) t p) g h.has.1 x)
+    (goal_on c (r c) (memo_on (r c) t p) g (own_same (r c) (memo_on (r c) t p) x) h.has.1)
     (λ e. owned_on (r c) (memo_on (r c) t p) s.segment ((st.held.segments c st.who).all s.segment e) x))
 
 -- ---- a segment is claimed
 
--- an identity that may allocate is here
-pub is_here : (me : Me) (r0 r : Memo) → CanAlloc me r0 → Looks r0 r → IsHere r
-is_here me r0 r can h =
-    let e : r.status ≡ status.Live = h.stays.status ∙ can.idle.live in
-    record { joined = λ z. cc; stays = λ z. cc }
-
 -- a segment is exchanged
-pub claim_step : (me : Me) (q : Request) (r0 : Memo) (w : Spot → ℕ) (r : ℕ → Memo) (f : Frame) (tr : Trail) (g : Goal) (s : Search) → Stands me w r f tr → f.fresh ≡ false → CanAlloc me r0 → RequestFits q → PointFits me q (Claim g s) → PointHolds me q r0 (r me.who) (Claim g s) → KeepsAt me q r0 w r f (Claim g s)
+pub claim_step : (me : Me) (q : Request) (r0 : Memo) (w : Spot → ℕ) (r : ℕ → Memo) (f : Frame) (tr : Trail) (g : Goal) (s : Search) → PointKeeps me q r0 w r f tr (Claim g s)
 claim_step me q r0 w r f tr g s st going can request fit h =
     let c = me.who in
     let at = address me.geometry (place.Segment s.segment) in
@@ -161,11 +155,11 @@ claim_step me q r0 w r f tr g s st going can request fit h =
     let lost : Remains (r c) (memo false) = remains (r c) t (memo false) refl refl in
     elim (cases_eq (w p) 0) [
       | inl z ↦ kept_with me w r (Exchange at 0 (c + 1)) f after p (spot_at me.geometry (classes w) at) e
-          (claimed me w r f tr at s.segment st going e z (is_here me r0 (r c) can here))
+          (claimed me w r f tr at s.segment st going e z (is_here me r0 (r c) can here.stays))
           (subst Goes (sym (eq-eqb (w p) 0 z))
           (let x = looks_on r0 (r c) (memo true) here won in
-          record { stays = x.stays; op = x.op; own = x.own; has = (x.has, goal_on c (r c) (memo true) g h.has.1 won, newest s.segment m.owned) }))
+          record { stays = x.stays; op = x.op; own = x.own; has = (x.has, goal_on c (r c) (memo true) g (own_same (r c) (memo true) won) h.has.1, newest s.segment m.owned) }))
       | inr z ↦ lost_kept me w r f tr at 0 (c + 1) after p st e refl tt z
           (subst Goes (sym (ne_eqb (w p) 0 z))
-          (segment_done me q r0 (memo false) g (record s { taken = s.taken + 1 }) can (looks_on r0 (r c) (memo false) here lost) (goal_on c (r c) (memo false) g h.has.1 lost)))
+          (segment_done me q r0 (memo false) g (record s { taken = s.taken + 1 }) can (looks_on r0 (r c) (memo false) here lost) (goal_on c (r c) (memo false) g (own_same (r c) (memo false) lost) h.has.1)))
     ]

@@ -1,6 +1,5 @@
 -- the event of each step of an allocation is the one that it tells
-use Rattle.std.proofs.Common.{◌≡◌, ◌≢◌, ℕ, ◌+◌, ◌<◌, refl, sym, ap, ◌∙◌, subst, arith, Bool, true, false, cond, eqb, eq-eqb, lt-ltb}
-use Rattle.std.specs.Prelude.{Some}
+use Rattle.std.proofs.Common.{◌≡◌, ℕ, ◌+◌, ◌<◌, refl, sym, ap, ◌∙◌, subst, arith, false, eqb, eq-eqb, lt-ltb}
 use Rattle.std.proofs.lemmas.Bool.{true≢false, and_from, cond-true}
 use Rattle.std.proofs.lemmas.List.Elements.{All-contains}
 use Rattle.shm_words.specs.declared.place.Place.TheVariants as place
@@ -12,7 +11,6 @@ use Rattle.shm_graph.specs.declared.spot.Spot.{Spot}
 use Rattle.shm_graph.specs.declared.spot.Spot.TheVariants as spot
 use Rattle.shm_graph.specs.declared.memo.Memo.{Memo}
 use Rattle.shm_graph.specs.declared.memo.Making.{Making}
-use Rattle.shm_graph.specs.declared.memo.Op.{Op}
 use Rattle.shm_graph.specs.declared.memo.Step.{Step}
 use Rattle.shm_graph.specs.Spots.{spot_at, segment_of}
 use Rattle.shm_graph.specs.Blocks.{classes, IsBlock}
@@ -23,6 +21,7 @@ use Rattle.shm_graph.specs.Laws.{Frame, framed, Stands, event_by, event_on, even
 use Rattle.shm_graph.specs.Tells.{Tells}
 use Rattle.shm_graph.proofs.SpotPlaces.{spot-place}
 use Rattle.shm_graph.proofs.Spotting.{block_within, tag_spot}
+use Rattle.shm_graph.proofs.LoadTold.{is_head}
 use Rattle.shm_steps.proofs.Prepared.{MakingHolds, making_holds}
 use Rattle.shm_alloc.specs.declared.point.Request.{Request}
 use Rattle.shm_alloc.specs.declared.point.AllocPoint.{AllocPoint}
@@ -31,10 +30,6 @@ use Rattle.shm_alloc.specs.AllocControl.{alloc_ask_at, alloc_control, is_over, R
 use Rattle.shm_alloc.specs.AllocEvents.{alloc_event_at, alloc_event}
 use Rattle.shm_alloc.specs.AllocFits.{PointHolds, IsPrepared, AllocFits}
 use Rattle.shm_alloc.specs.AllocMaking.{word_spot}
-
-abbrev is_head : Spot → Bool
-is_head (spot.Head b) = true
-is_head p = false
 
 -- a step at another word than a header is no event
 elsewhere : (m : Memo) (t : Step) (a : Ask) (p q : Spot) → p ≡ q → is_head q ≡ false → event_by m t a p ≡ Nothing

@@ -2,6 +2,7 @@ pub mod AllocControl
 pub mod AllocTrail
 pub mod AllocEvents
 pub mod AllocFits
+pub mod AllocSteps
 pub mod AllocSearch
 pub mod AllocSearchSegments
 pub mod AllocSearchPages

@@ -40,9 +40,19 @@ pub cover_idle : (o : Op) (p : Spot) → is_op o ≡ false → (y : ℕ) → cov
 cover_idle Nothing p e y = refl
 cover_idle _ p e y = cc
 
+-- where no step covers a word, it is what is covered
 pub covered_none : (n : ℕ) (p : Spot) (x : ℕ) (ps : ℕ → Cover) → ((d : ℕ) → d < n → (y : ℕ) → cover (ps d) p y ≡ y) → covered ps n p x ≡ x
 covered_none zero p x ps h = refl
 covered_none (suc n) p x ps h = h n (omega arith) (covered ps n p x) ∙ covered_none n p x ps (λ d l. h d (omega arith))
+
+-- where only the step of c covers a word, that one decides
+pub covered_alone : (n c : ℕ) (p : Spot) (x : ℕ) (ps : ℕ → Cover) → c < n → ((d : ℕ) → d < n → d ≢ c → (y : ℕ) → cover (ps d) p y ≡ y) → covered ps n p x ≡ cover (ps c) p x
+covered_alone zero c p x ps l h = absurd (omega arith)
+covered_alone (suc n) c p x ps l h =
+    elim (cases_eq n c) [
+      | inl e ↦ ap (λ k. cover (ps k) p (covered ps n p x)) e ∙ ap (cover (ps c) p) (covered_none n p x ps (λ d q. h d (omega arith) (omega arith)))
+      | inr d ↦ h n (omega arith) d (covered ps n p x) ∙ covered_alone n c p x ps (omega arith) (λ k q. h k (omega arith))
+    ]
 
 -- what is covered is the word, or the slot of some step
 covered_by : (n : ℕ) (p : Spot) (x : ℕ) (ops : ℕ → Op) → covered (λ d. cover_of (ops d)) n p x ≢ x → (d : ℕ) × (d < n) × (is_op (ops d) ≡ true) × (slot_of (ops d) ≡ p)

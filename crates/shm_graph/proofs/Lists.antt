@@ -40,8 +40,8 @@ at1_part h f c x d = go (eqb c d)
     go false = refl
 
 -- where the changed value has the same part
-pub at1_same : {S T : Type 0} (h : S → T) (f : ℕ → S) (c : ℕ) (x : S) (d : ℕ) → h x ≡ h (f c) → h (at1 f c x d) ≡ h (f d)
-at1_same {S} h f c x d e =
+pub at1_part_same : {S T : Type 0} (h : S → T) (f : ℕ → S) (c : ℕ) (x : S) (d : ℕ) → h x ≡ h (f c) → h (at1 f c x d) ≡ h (f d)
+at1_part_same {S} h f c x d e =
     elim (cases_eq c d) [
       | inl q ↦ ap h (cond-true _ _ _ (eq-eqb c d q)) ∙ (e ∙ ap (λ k. h (f k)) q)
       | inr n ↦ ap h (at1_other f c x d n)
@@ -112,6 +112,6 @@ account_here es c e l = get_or-set_same es c e _ l
 pub account_part : {T : Type 0} (h : Account → T) (es : List Account) (c : ℕ) (e : Account) (d : ℕ) → h e ≡ h (account_at es c) → h (account_at (slice_set es c e) d) ≡ h (account_at es d)
 account_part h es c e d same =
     elim (cases_lt c (length es)) [
-      | inl l ↦ ap h (account_at-set es c e d l) ∙ at1_same h (account_at es) c e d same
+      | inl l ↦ ap h (account_at-set es c e d l) ∙ at1_part_same h (account_at es) c e d same
       | inr o ↦ ap (λ xs. h (account_at xs d)) (set_past es c e o)
     ]

@@ -99,8 +99,8 @@ module _ (g : Geometry) (w : Spot → ℕ) (v : View) (h : HeldAt g w v) (c : �
       let there = (body_block g (classes w) at b i p).2 in
       (same, omega arith)
 
--- no claim covers a header
-abbrev is_head : Spot → Bool
+-- a spot of a header
+abbrev pub is_head : Spot → Bool
 is_head (Head b) = true
 is_head p = false
 

@@ -52,7 +52,8 @@ in_first earlier ks k b (inr h) =
       | inr e ↦ inr (h.0, e, h.2)
     ]
 
-not_empty : (b : ℕ) → InLooks [] b → ⊥
+-- no block is one of no looks
+pub not_empty : (b : ℕ) → InLooks [] b → ⊥
 not_empty b h = let l = h.1.1 in omega arith
 
 module _ (home : ℕ → ℕ) (body : ℕ → ℕ → ℕ) (author : ℕ → ℕ) (latch : Option ℕ) (named : ℕ → Type 0) where

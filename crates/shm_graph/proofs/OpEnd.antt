@@ -24,7 +24,7 @@ use Rattle.shm_graph.specs.Held.{HeldAt, FactAt, SlotOf, reach_of, named_by, OpT
 use Rattle.shm_graph.proofs.Frames.{at1_all}
 use Rattle.shm_graph.proofs.Spotting.{same_spot_is, same_spot_self}
 use Rattle.shm_graph.proofs.Counting.{cover_slot, cover_idle, covered_none}
-use Rattle.shm_graph.proofs.Holders.{apart_slots}
+use Rattle.shm_graph.proofs.Holders.{apart_slots, Holds}
 
 -- such a step does nothing to the references
 pub uncommitted_quiet : (o : Op) → IsUncommitted o → (cover_of o ≡ Quiet) × (limbo_of o ≡ 0) × (on_of o ≡ None)
@@ -64,9 +64,6 @@ raised g w c r (Up Committed p b x) u e tie = absurd u
 raised g w c r (Up Written p b x) u e tie = absurd u
 raised g w c r _ u e tie = absurd (cc)
 
-abbrev HoldsSlot : (Spot → ℕ) → Geometry → View → ℕ → Spot → Type 0
-HoldsSlot w g v d p = SlotOf d (λ b. header_of (w (Head b))) (λ b. w (Tag b)) (v.latch d) (λ s t. w (Tail s t)) (λ s t. w (Front s t)) (reach_of (targets g w v) (λ s t. w (Tail s t)) (λ s t. w (Front s t)) v.looks d) p
-
 -- while there is room in the queue nobody else has a step there
 next_covered : (g : Geometry) (w : Spot → ℕ) (v : View) (c r : ℕ) → HeldAt g w v → c ≢ r → w (Tail c r) < w (Front c r) + 8 → (d : ℕ) → d < g.clients → c ≢ d → (y : ℕ) → cover (cover_of (v.op d)) (next_slot w c r) y ≡ y
 next_covered g w v c r h apart room d l other y =
@@ -74,11 +71,11 @@ next_covered g w v c r h apart room d l other y =
       | inr n ↦ cover_slot (v.op d) (next_slot w c r) n y
       | inl e ↦ elim (cases_Bool (is_op (v.op d))) [
         | inr n ↦ cover_idle (v.op d) (next_slot w c r) n y
-        | inl o ↦ absurd (nobody (subst (HoldsSlot w g v d) (same_spot_is (slot_of (v.op d)) (next_slot w c r) e) (h.slots d l o)))
+        | inl o ↦ absurd (nobody (subst (Holds w g v d) (same_spot_is (slot_of (v.op d)) (next_slot w c r) e) (h.slots d l o)))
       ]
     ]
   where
-    nobody : HoldsSlot w g v d (next_slot w c r) → ⊥
+    nobody : Holds w g v d (next_slot w c r) → ⊥
     nobody x = elim x.1 [
       | inl z ↦ other z.0
       | inr z ↦ apart_slots (w (Front c r)) (w (Tail c r)) z.2 room (sym z.1)
@@ -87,7 +84,7 @@ next_covered g w v c r h apart room d l other y =
 next_empty : (g : Geometry) (w : Spot → ℕ) (v : View) (c r : ℕ) → HeldAt g w v → c < g.clients → r < g.clients → IsUncommitted (v.op c) → up_slot (v.op c) ≡ next_slot w c r → v.unsent c r ≡ 0
 next_empty g w v c r h lc lr u e =
     let op = raised g w c r (v.op c) u e (h.op c lc) in
-    let mine : HoldsSlot w g v c (next_slot w c r) = subst (HoldsSlot w g v c) op.0 (h.slots c lc op.1) in
+    let mine : Holds w g v c (next_slot w c r) = subst (Holds w g v c) op.0 (h.slots c lc op.1) in
     elim mine.1 [
       | inr z ↦ absurd (mine.0 (sym z.0))
       | inl z ↦

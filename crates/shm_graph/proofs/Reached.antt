@@ -1,7 +1,7 @@
 -- what a memo shows of reach is so: the blocks that it says its identity names or has in reach are those of the targets
-use Rattle.std.proofs.Common.{◌≡◌, ◌≢◌, ℕ, zero, suc, ◌%◌, ◌<◌, refl, sym, ap, ◌∙◌, subst, arith, true, false, not, cond, get_or, ltb, ◌&&◌, inl, inr, ◌⊎◌, List, [], ◌∷◌, ◌++◌, map}
+use Rattle.std.proofs.Common.{◌≡◌, ◌≢◌, ℕ, zero, suc, ◌%◌, ◌<◌, refl, sym, ap, ◌∙◌, subst, true, not, ltb, ◌&&◌, inl, inr, ◌⊎◌, List, [], ◌∷◌, ◌++◌, map}
 use Rattle.std.specs.List.{All, Contains, filter}
-use Rattle.std.proofs.lemmas.Bool.{cases_eq, and_parts, eqb-true, eq-eqb, ltb-true, cond-false, false≢true}
+use Rattle.std.proofs.lemmas.Bool.{and_parts, eqb-true, eq-eqb, ltb-true, false≢true}
 use Rattle.std.proofs.lemmas.List.Elements.{All-nil, All-cons, All-head, All-tail, All-append, All-map, All-contains, All-contains_itself, All-weaker}
 use Rattle.std.proofs.lemmas.Map.Views.{Contains-from_any}
 use Rattle.shm_words.specs.declared.geometry.Geometry.{Geometry}
@@ -10,16 +10,14 @@ use Rattle.shm_graph.specs.declared.spot.Spot.TheVariants.{Home, Root, Tail, Fro
 use Rattle.shm_graph.specs.declared.memo.Stored.{Stored}
 use Rattle.shm_graph.specs.declared.memo.Look.{Look}
 use Rattle.shm_graph.specs.declared.memo.Memo.{Memo}
-use Rattle.shm_graph.specs.Spots.{same_spot, upd}
 use Rattle.shm_graph.specs.Blocks.{classes}
-use Rattle.shm_graph.specs.Ops.{Cover, Quiet, On, cover, cover_of, covered, slot_of}
+use Rattle.shm_graph.specs.Ops.{cover, cover_of, slot_of}
 use Rattle.shm_graph.specs.Views.{View, view, targets, own_word}
 use Rattle.shm_graph.specs.Held.{HeldAt, InLooks, named_by}
 use Rattle.shm_graph.specs.Reach.{shown, roots_below, in_slot, in_slots, not_zero, named_blocks, reached_blocks, is_named, is_reached}
 use Rattle.shm_graph.proofs.Spotting.{same_spot_not}
 use Rattle.shm_graph.proofs.SpotPlaces.{at_is_in}
-use Rattle.shm_graph.proofs.Counting.{cover_slot}
-use Rattle.shm_graph.proofs.HomeTarget.{covered_left}
+use Rattle.shm_graph.proofs.Counting.{cover_slot, covered_alone}
 use Rattle.shm_graph.proofs.Holders.{InReach, one_holder, step_holds}
 use Rattle.shm_graph.proofs.HeadSlot.{IsHead, head_target}
 use Rattle.shm_graph.proofs.KnownChange.{KnownHolds}
@@ -93,38 +91,7 @@ module _ (t : Spot → ℕ) (tail front : ℕ → ℕ → ℕ) (c : ℕ) where
   pub reached_sound : (m : Memo) → Names t tail front c m → (b : ℕ) → is_reached c m b ≡ true → named_by t tail front c b ⊎ InLooks m.looks b
   reached_sound m a b e = All-contains (λ x. named_by t tail front c x ⊎ InLooks m.looks x) (reached_blocks c m) b (blocks_reached m a) (Contains-from_any eqb-true b (reached_blocks c m) e)
 
--- ---- after a step has committed
-
--- the known slots are as they were, but for the slot of the step
-slot_after : (t : Spot → ℕ) (tail front : ℕ → ℕ → ℕ) (c : ℕ) (p : Spot) (x : ℕ) (q : Spot) (y : ℕ) → HeadNamed t tail front c q y → same_spot p q ≡ false → HeadNamed (upd t p x) tail front c q y
-slot_after t tail front c p x (Slot s r k) y h n = (h.0, h.1, h.2, cond-false _ x (t (Slot s c k)) (ap (λ j. same_spot p (Slot s j k)) (sym h.0) ∙ n) ∙ h.3)
-slot_after t tail front c p x q y h n = tt
-
--- the memo n is m with its step committed, which makes p name x: it shows the targets after the step
-pub names_after : (t : Spot → ℕ) (tail front : ℕ → ℕ → ℕ) (c : ℕ) (m n : Memo) (p : Spot) (x : ℕ) → Names t tail front c m → cover_of m.op ≡ Quiet → cover_of n.op ≡ On p x → n.own ≡ m.own
-    → All (λ (s : Stored). HeadNamed t tail front c s.spot s.value) n.known → All (λ (s : Stored). same_spot p s.spot ≡ false) n.known → Names (upd t p x) tail front c n
-names_after t tail front c m n p x a before after own slots others =
-    record {
-      roots = λ k. word (Root c k) (a.roots k);
-      home = word (Home c) a.home;
-      slots = λ k d l. slot_after t tail front c p x (get_or n.known k d).spot (get_or n.known k d).value (slots k d l) (others k d l);
-    }
-  where
-    word : (q : Spot) → shown m q ≡ t q → shown n q ≡ upd t p x q
-    word q e =
-        let old : own_word m.own q ≡ t q = ap (λ z. cover z q (own_word m.own q)) (sym before) ∙ e in
-        ap (λ z. cover z q (own_word n.own q)) after ∙ (ap (λ (ks : List Stored). cond (same_spot p q) x (own_word ks q)) own ∙ ap (cond (same_spot p q) x) old)
-
 -- ---- an own reference word
-
--- where the steps of the others leave a word, the own step decides
-covered_one : (ps : ℕ → Cover) (n c : ℕ) (p : Spot) (x : ℕ) → c < n → ((d : ℕ) → d < n → c ≢ d → (y : ℕ) → cover (ps d) p y ≡ y) → covered ps n p x ≡ cover (ps c) p x
-covered_one ps zero c p x l h = absurd (omega arith)
-covered_one ps (suc n) c p x l h =
-    elim (cases_eq c n) [
-      | inl e ↦ subst (λ d. covered ps (suc d) p x ≡ cover (ps c) p x) e (ap (cover (ps c) p) (covered_left ps c p x (λ d m. h d (omega arith) (λ z. omega arith) x)))
-      | inr o ↦ h n (omega arith) o (covered ps n p x) ∙ covered_one ps n c p x (omega arith) (λ d m. h d (omega arith))
-    ]
 
 -- an own root or the own home
 abbrev pub IsOwnReference : ℕ → Spot → Type 0
@@ -134,19 +101,19 @@ IsOwnReference c p = ⊥
 
 module _ (g : Geometry) (w : Spot → ℕ) (v : View) (h : HeldAt g w v) (c : ℕ) (l : c < g.clients) where
   -- nobody else has a step at it
-  others_leave : (p : Spot) → ((d : ℕ) → d < g.clients → slot_of (v.op d) ≡ p → c ≡ d) → (d : ℕ) → d < g.clients → c ≢ d → (y : ℕ) → cover (cover_of (v.op d)) p y ≡ y
-  others_leave p mine d m n y = cover_slot (v.op d) p (same_spot_not (slot_of (v.op d)) p (λ e. n (mine d m e))) y
+  others_leave : (p : Spot) → ((d : ℕ) → d < g.clients → slot_of (v.op d) ≡ p → c ≡ d) → (d : ℕ) → d < g.clients → d ≢ c → (y : ℕ) → cover (cover_of (v.op d)) p y ≡ y
+  others_leave p mine d m n y = cover_slot (v.op d) p (same_spot_not (slot_of (v.op d)) p (λ e. n (sym (mine d m e)))) y
 
   -- so that it names what the own step gives it
   pub shown_target : (p : Spot) → IsOwnReference c p → targets g w v p ≡ cover (cover_of (v.op c)) p (own_word (v.own c) p)
   shown_target (Root d k) e =
       subst (λ i. targets g w v (Root i k) ≡ cover (cover_of (v.op c)) (Root i k) (own_word (v.own c) (Root i k))) (sym e)
-      (covered_one (λ i. cover_of (v.op i)) g.clients c (Root c k) (w (Root c k)) l
+      (covered_alone g.clients c (Root c k) (w (Root c k)) (λ i. cover_of (v.op i)) l
       (others_leave (Root c k) (λ i m s. one_holder g w v h c i (Root c k) l m refl (step_holds g w v h i (Root c k) m (λ z. cc) s)))
       ∙ ap (cover (cover_of (v.op c)) (Root c k)) (sym (h.mine c l (Root c k) (eq-eqb c c refl))))
   shown_target (Home d) e =
       subst (λ i. targets g w v (Home i) ≡ cover (cover_of (v.op c)) (Home i) (own_word (v.own c) (Home i))) (sym e)
-      (covered_one (λ i. cover_of (v.op i)) g.clients c (Home c) (w (Home c)) l
+      (covered_alone g.clients c (Home c) (w (Home c)) (λ i. cover_of (v.op i)) l
       (others_leave (Home c) (λ i m s. one_holder g w v h c i (Home c) l m refl (step_holds g w v h i (Home c) m (λ z. cc) s)))
       ∙ ap (cover (cover_of (v.op c)) (Home c)) (sym (h.mine c l (Home c) (eq-eqb c c refl))))
   shown_target _ e = absurd e

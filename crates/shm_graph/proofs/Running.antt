@@ -11,7 +11,7 @@ use Rattle.shm_graph.specs.Spots.{see}
 use Rattle.shm_graph.specs.Views.{View, at1, view}
 use Rattle.shm_graph.specs.Held.{HeldAt}
 use Rattle.shm_graph.specs.Runs.{Held, State, moved, IsMove, Turned, Leads, changed, account_after, account_died, account_entered, memos_of, account_at}
-use Rattle.shm_graph.proofs.Lists.{at1_same, memos_of-changed, length-changed, account_part}
+use Rattle.shm_graph.proofs.Lists.{at1_part_same, memos_of-changed, length-changed, account_part}
 
 -- ---- runs
 
@@ -44,7 +44,7 @@ shown m = record m { call = []; over = false; agents = [] }
 -- the view doesn't read the call and the agents
 pub view-at1 : (r : ℕ → Memo) (c : ℕ) (m : Memo) → shown m ≡ shown (r c) → view (at1 r c m) ≡ view r
 view-at1 r c m same =
-    let each : (λ (d : ℕ). shown (at1 r c m d)) ≡ (λ (d : ℕ). shown (r d)) = fun_ext (λ d. at1_same shown r c m d same) in
+    let each : (λ (d : ℕ). shown (at1 r c m d)) ≡ (λ (d : ℕ). shown (r d)) = fun_ext (λ d. at1_part_same shown r c m d same) in
     ap view each
 
 pub held-changed : (g : Geometry) (ws : List ℕ) (es : List Account) (c : ℕ) (f : Account → Account) → Held g ws es → c < g.clients → shown (f (account_at es c)).memo ≡ shown (account_at es c).memo → Held g ws (changed f es c)

@@ -152,6 +152,10 @@ at_below g class p e =
 pub alone : (g : Geometry) (class : ℕ → ℕ → ℕ) (a : ℕ) (p : Spot) → spot_at g class a ≡ p → p ≢ Spare → spot_address g p ≡ a
 alone g class a p e n = ap (spot_address g) (sym e) ∙ address-spot g class a (is_below g class a p e n)
 
+-- and that spot is in the pool
+pub spot_there : (g : Geometry) (class : ℕ → ℕ → ℕ) (a : ℕ) (p : Spot) → spot_at g class a ≡ p → p ≢ Spare → IsAt g class p
+spot_there g class a p e n = ap (spot_at g class) (alone g class a p e n) ∙ e
+
 spot_zero : (g : Geometry) (class : ℕ → ℕ → ℕ) → spot_at g class 0 ≡ Spare
 unfolding spot_at place_at
 spot_zero g class = refl

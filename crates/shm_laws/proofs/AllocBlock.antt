@@ -30,8 +30,9 @@ use Rattle.shm_graph.proofs.Spotting.{same_spot_is, same_spot_self, block_is_at,
 use Rattle.shm_graph.proofs.Holders.{InReach}
 use Rattle.shm_graph.proofs.Lists.{at1_here, at1_other}
 use Rattle.shm_graph.proofs.Frames.{at1_all}
+use Rattle.shm_graph.proofs.Counting.{covered_none}
 use Rattle.shm_laws.proofs.Owns.{mine_other, small_stored, there_stored}
-use Rattle.shm_laws.proofs.Sum.{refs_target, commit_target, covered_none}
+use Rattle.shm_laws.proofs.Sum.{refs_target, commit_target}
 use Rattle.shm_laws.proofs.Keep.{All-kept, era_of_zero, count_of_zero}
 use Rattle.shm_laws.proofs.Exchange.{era_exchange, facts_committed, count_free, count_exchange, named_kept, slot_kept, looks_kept, known_kept, apart}
 use Rattle.shm_laws.proofs.References.{live_some, part_lives, queued_kept, values_kept, made_some, made_kept}

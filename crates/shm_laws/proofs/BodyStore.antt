@@ -7,6 +7,7 @@ use Rattle.shm_words.specs.declared.geometry.Geometry.{Geometry}
 use Rattle.shm_words.specs.declared.header.Header.{Header}
 use Rattle.shm_words.specs.Headers.{header_of}
 use Rattle.shm_words.specs.Tags.{tag_refs, tag_author}
+use Rattle.shm_words.proofs.Words.{live_not_zero}
 use Rattle.shm_graph.specs.declared.spot.Spot.{Spot}
 use Rattle.shm_graph.specs.declared.spot.Spot.TheVariants.{Home, Era, Root, Tail, Front, Slot, Segment, Page, Head, Tag, Body}
 use Rattle.shm_graph.specs.declared.memo.Op.{Op}
@@ -21,7 +22,7 @@ use Rattle.shm_graph.specs.Held.{HeldAt, CountSound, SlotOf, reach_of, named_by,
 use Rattle.shm_graph.proofs.Spotting.{same_spot_self}
 use Rattle.shm_graph.proofs.Holders.{Holds, InReach, reach_counted, one_latch}
 use Rattle.shm_graph.proofs.Frames.{at1_all}
-use Rattle.shm_laws.proofs.Keep.{All-kept, live_word}
+use Rattle.shm_laws.proofs.Keep.{All-kept}
 use Rattle.shm_laws.proofs.Owns.{mine_other, small_stored, there_stored}
 use Rattle.shm_laws.proofs.References.{part_stored, values_kept, queued_kept}
 use Rattle.shm_laws.proofs.Writing.{at_slot, mine_at, on_same, limbo_same, own_same, allowed_same, tails_same, slots_same, ops_same, targets_same}
@@ -139,7 +140,7 @@ body_kept g w v c b i x o h a =
     making d (Some m) y = record { free = y.free; block = y.block; mine = y.mine; sized = y.sized; stored = All-weaker _ _ (λ s. stored s.spot s.value) m.words y.stored }
       where
         apart_b : b ≢ m.block
-        apart_b z = live_word (word b) mine.0 (ap word z ∙ y.free)
+        apart_b z = live_not_zero (word b) mine.0 (ap word z ∙ y.free)
 
         stored : (p : Spot) (z : ℕ) → InBlock tags bodies m.block m.class p z → InBlock tags bodies' m.block m.class p z
         stored (Tag d) z k = k

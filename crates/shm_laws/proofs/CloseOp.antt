@@ -30,8 +30,9 @@ use Rattle.shm_graph.proofs.Spotting.{same_spot_is, same_spot_self}
 use Rattle.shm_graph.proofs.Lists.{at1_here, at1_other}
 use Rattle.shm_graph.proofs.Holders.{one_holder}
 use Rattle.shm_graph.proofs.Frames.{at1_all}
+use Rattle.shm_graph.proofs.Counting.{cover_slot, covered_alone, covered_none}
 use Rattle.shm_laws.proofs.Owns.{mine_stored, small_stored, there_stored}
-use Rattle.shm_laws.proofs.Sum.{cover_slot, covered_alone, covered_none, covered_same}
+use Rattle.shm_laws.proofs.Sum.{covered_same}
 use Rattle.shm_laws.proofs.Exchange.{apart}
 use Rattle.shm_laws.specs.Steps.{CloseStep, close_view, Closes}
 

@@ -1,7 +1,7 @@
 -- what the exchanges of headers have in common
 use Rattle.std.proofs.Common.{◌≡◌, ◌≢◌, ℕ, ◌+◌, ◌%◌, ◌<◌, ◌≤◌, sym, ap, ◌∙◌, arith, true, false, Bool, cond, eqb, subst, inl, inr, ◌⊎◌, List, [], ◌∷◌, Option, Some, None}
-use Rattle.std.specs.List.{All, Contains}
-use Rattle.std.proofs.lemmas.List.Elements.{All-nil, All-cons, All-contains, Contains-append_cases, Contains-push_cases}
+use Rattle.std.specs.List.{Contains}
+use Rattle.std.proofs.lemmas.List.Elements.{All-contains, Contains-append_cases, Contains-push_cases}
 use Rattle.std.proofs.lemmas.Bool.{cases_Bool, cases_eq, true≢false, ne_eqb, false_from_ne_true}
 use Rattle.shm_words.specs.declared.header.Header.{Header}
 use Rattle.shm_words.specs.Headers.{header_of}
@@ -22,7 +22,9 @@ use Rattle.shm_words.specs.Layout.{total_of}
 use Rattle.shm_graph.specs.Ops.{on_of, indegree, cover, cover_of, slot_of, is_op}
 use Rattle.shm_graph.proofs.Spotting.{same_spot_is}
 use Rattle.shm_graph.proofs.Sums.{sum_none}
-use Rattle.shm_laws.proofs.Sum.{degree_step, cover_slot, cover_idle}
+use Rattle.shm_graph.proofs.Counting.{cover_slot, cover_idle}
+use Rattle.shm_graph.proofs.Holders.{looks_targets}
+use Rattle.shm_laws.proofs.Sum.{degree_step}
 
 -- ---- eras
 
@@ -176,22 +178,12 @@ apart d head tag latch tail front reach o p has never y =
       | inl i ↦ cover_slot o p (false_from_ne_true _ (λ e. never (subst (SlotOf d head tag latch tail front reach) (same_spot_is (slot_of o) p e) (has i)))) y
     ]
 
--- what was looked at is a target
-pub looks_targets : (t : Spot → ℕ) (author : ℕ → ℕ) (latch : Option ℕ) (named : ℕ → Type 0) (earlier looks : List Look) → LooksSound (λ a. t (Home a)) (λ b i. t (Body b i)) author latch named earlier looks → All (λ (k : Look). (p : Spot) × (t p ≡ k.block)) looks
-looks_targets t author latch named earlier [] x = All-nil (λ (k : Look). (p : Spot) × (t p ≡ k.block))
-looks_targets t author latch named earlier (k ∷ ks) x = All-cons (λ (k : Look). (p : Spot) × (t p ≡ k.block)) k ks (at k.from x.0) (looks_targets t author latch named (k ∷ earlier) ks x.1)
-  where
-    at : (p : Spot) → LookAt (λ a. t (Home a)) (λ b i. t (Body b i)) author latch (λ b. named b ⊎ InLooks earlier b) p k.block → (p : Spot) × (t p ≡ k.block)
-    at (Home a) y = (Home a, y.2)
-    at (Body b i) y = (Body b i, y.2)
-    at _ y = absurd y
-
 -- a block in reach is a target
 pub reach_target : (t : Spot → ℕ) (tail front : ℕ → ℕ → ℕ) (author : ℕ → ℕ) (latch : Option ℕ) (looks : List Look) (c b : ℕ) → LooksSound (λ a. t (Home a)) (λ b i. t (Body b i)) author latch (named_by t tail front c) [] looks → named_by t tail front c b ⊎ InLooks looks b → (p : Spot) × (t p ≡ b)
 reach_target t tail front author latch looks c b h (inl (n, inl u)) = (Root c u.0, u.1)
 reach_target t tail front author latch looks c b h (inl (n, inr (inl u))) = (Home c, u)
 reach_target t tail front author latch looks c b h (inl (n, inr (inr u))) = (Slot u.0 c (front u.0 c % 8), u.2)
-reach_target t tail front author latch looks c b h (inr u) = let q = All-contains (λ (k : Look). (p : Spot) × (t p ≡ k.block)) looks u.0 (looks_targets t author latch (named_by t tail front c) [] looks h) u.1 in (q.0, q.1 ∙ u.2)
+reach_target t tail front author latch looks c b h (inr u) = let q = All-contains (λ (k : Look). (k.block ≢ 0) × ((p : Spot) × (t p ≡ k.block))) looks u.0 (looks_targets t author latch (named_by t tail front c) [] looks h) u.1 in (q.1.0, q.1.1 ∙ u.2)
 
 -- a target that may change only where nobody looks
 pub looks_through : (t t' : Spot → ℕ) (author : ℕ → ℕ) (latch : Option ℕ) (named named' : ℕ → Type 0)

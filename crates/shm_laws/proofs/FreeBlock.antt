@@ -27,7 +27,8 @@ use Rattle.shm_graph.specs.Stores.{not_block, not_of, is_of}
 use Rattle.shm_laws.proofs.Owns.{mine_other, small_stored, there_stored}
 use Rattle.shm_graph.proofs.Spotting.{block_is_at}
 use Rattle.shm_graph.proofs.Holders.{held_live_not_zero, limbo_counted, reach_counted, target_counted}
-use Rattle.shm_laws.proofs.Sum.{refs_target, covered_none, cover_idle}
+use Rattle.shm_graph.proofs.Counting.{covered_none, cover_idle}
+use Rattle.shm_laws.proofs.Sum.{refs_target}
 use Rattle.shm_laws.proofs.Keep.{live_block, All-kept, Contains-filter, filter_from}
 use Rattle.shm_graph.specs.Tables.{contents_of, HasShape}
 use Rattle.shm_laws.proofs.References.{IsNamed, part_lives, values_kept, made_kept, queued_kept}

@@ -6,6 +6,7 @@ use Rattle.std.proofs.lemmas.Bool.{cases_Bool, cases_eq, true≢false, eqb-true}
 use Rattle.shm_words.specs.Headers.{header_of}
 use Rattle.shm_words.specs.declared.geometry.Geometry.{Geometry}
 use Rattle.shm_words.specs.Tags.{tag_link}
+use Rattle.shm_words.proofs.Words.{live_not_zero}
 use Rattle.shm_graph.specs.declared.spot.Spot.{Spot}
 use Rattle.shm_graph.specs.declared.spot.Spot.TheVariants.{Segment, Page, Head, Tag, Body}
 use Rattle.shm_graph.specs.declared.memo.Making.{Making}
@@ -17,7 +18,6 @@ use Rattle.shm_graph.specs.Events.{graph_of, with_target, IsSame}
 use Rattle.shm_graph.specs.Held.{HeldAt, BlockSound, DyingTie, IsDying, MakingTie, TagSound, ZeroAt}
 use Rattle.shm_graph.proofs.Lists.{at1_here, at1_other}
 use Rattle.shm_graph.proofs.Frames.{at1_all}
-use Rattle.shm_laws.proofs.Keep.{live_word}
 use Rattle.shm_laws.specs.Steps.{dying_after}
 
 module _ (g : Geometry) (w : Spot → ℕ) (v : View) (h : HeldAt g w v) (b to : ℕ) (live : (headers w b).live ≡ true) (counted : (headers w b).count ≢ 0) (now : (header_of to).live ≡ true) where
@@ -50,7 +50,7 @@ module _ (g : Geometry) (w : Spot → ℕ) (v : View) (h : HeldAt g w v) (b to :
 
   -- a free block is another block
   not_free : (i : ℕ) → word i ≡ 0 → b ≢ i
-  not_free i z x = live_word (word b) live (ap word x ∙ z)
+  not_free i z x = live_not_zero (word b) live (ap word x ∙ z)
 
   pub making_stays : (d : ℕ) (x : Option Making) → MakingTie g (classes w) (λ s. w (Segment s)) word (λ i. w (Tag i)) (λ i j. w (Body i j)) d x → MakingTie g (classes w) (λ s. w (Segment s)) (λ i. upd w (Head b) to (Head i)) (λ i. w (Tag i)) (λ i j. w (Body i j)) d x
   making_stays d None y = tt

@@ -6,11 +6,8 @@ use Rattle.std.proofs.lemmas.Grind.{common_steps}
 use Rattle.std.proofs.lemmas.List.Elements.{All-push}
 use Rattle.std.proofs.lemmas.Bool.{cases_lt, cases_Bool, and_parts, and_cases, eqb-true, cond-true}
 use Rattle.shm_graph.specs.Held.{LaneSound}
+use Rattle.shm_graph.proofs.Holders.{apart_slots}
 use Rattle.shm_laws.specs.Steps.{at2}
-
--- a slot of a queue near another one is another
-pub apart_slots : (n m : ℕ) → n < m → m < n + 8 → n % 8 ≢ m % 8
-apart_slots n m l k e = omega arith
 
 -- the block is in the slot at the tail
 pub lane_up : (t t' : ℕ → ℕ) (tail front : ℕ) (sent : List ℕ) (unsent b : ℕ) (received : List ℕ) (untaken : ℕ) → tail < front + 8 → ((k : ℕ) → k ≢ tail % 8 → t' k ≡ t k) → t' (tail % 8) ≡ b → LaneSound t tail front sent unsent received untaken → LaneSound t' tail front sent b received untaken

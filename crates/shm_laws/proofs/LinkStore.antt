@@ -6,6 +6,7 @@ use Rattle.std.proofs.lemmas.List.Elements.{All-cons, All-weaker}
 use Rattle.std.proofs.lemmas.Bool.{eq-eqb, true≢false}
 use Rattle.shm_words.specs.declared.geometry.Geometry.{Geometry}
 use Rattle.shm_words.specs.Headers.{header_of}
+use Rattle.shm_words.proofs.Words.{live_not_zero}
 use Rattle.shm_graph.specs.declared.spot.Spot.{Spot}
 use Rattle.shm_graph.specs.declared.spot.Spot.TheVariants.{Spare, Status, Redo, Hold, Latch, Home, Era, Root, Tail, Front, Slot, Segment, Page, Unused, Head, Tag, Body}
 use Rattle.shm_graph.specs.declared.memo.Making.{Making}
@@ -16,7 +17,7 @@ use Rattle.shm_graph.specs.Events.{Nothing, graph_of, Happens}
 use Rattle.shm_graph.specs.Held.{HeldAt, IsDying, InBlock, MakingTie}
 use Rattle.shm_graph.proofs.Lists.{at1_here, at1_other}
 use Rattle.shm_graph.proofs.Frames.{at1_all, at1_same}
-use Rattle.shm_laws.proofs.Keep.{All-kept, live_word}
+use Rattle.shm_laws.proofs.Keep.{All-kept}
 use Rattle.shm_laws.proofs.BlockWords.{with_blocks, blocks_view, BlocksMay, Old, New, pair_kept, blocks_kept, blocks_quiet}
 use Rattle.shm_laws.specs.Preparing.{LinkStep, link_view}
 use Rattle.shm_graph.specs.Reach.{not_at}
@@ -57,7 +58,7 @@ module _ (g : Geometry) (w : Spot → ℕ) (v : View) (c b x : ℕ) (h : HeldAt 
   making d (Some m) y = record { free = y.free; block = y.block; mine = y.mine; sized = y.sized; stored = All-weaker _ _ (λ s. stored s.spot s.value) m.words y.stored }
     where
       apart : b ≢ m.block
-      apart z = live_word (w (Head b)) dying.0 (ap (λ i. w (Head i)) z ∙ y.free)
+      apart z = live_not_zero (w (Head b)) dying.0 (ap (λ i. w (Head i)) z ∙ y.free)
 
       stored : (p : Spot) (z : ℕ) → InBlock tags bodies m.block m.class p z → InBlock tag bodies m.block m.class p z
       stored (Tag d) z k = (k.0, at1_other tags b x d (λ u. apart (u ∙ k.0)) ∙ k.1)

@@ -20,11 +20,11 @@ use Rattle.shm_graph.specs.Events.{Nothing, graph_of, Happens}
 use Rattle.shm_graph.specs.Held.{HeldAt, reach_of, named_by, KnownAt, LooksSound, TestAt, ValueAt, InLooks}
 use Rattle.shm_graph.specs.Reach.{learnt, not_at}
 use Rattle.shm_laws.proofs.Keep.{All-kept}
-use Rattle.shm_laws.proofs.Sum.{cover_idle, covered_none}
 use Rattle.shm_graph.proofs.Holders.{one_latch, reach_counted}
 use Rattle.shm_graph.specs.Tables.{contents_of}
 use Rattle.shm_laws.proofs.Exchange.{slot_kept, known_kept, apart}
 use Rattle.shm_graph.proofs.Looking.{looks_push}
+use Rattle.shm_graph.proofs.Counting.{cover_idle, covered_none}
 use Rattle.shm_laws.specs.Steps.{LookStep, look_view}
 
 -- a look leaves the graph

@@ -6,6 +6,7 @@ use Rattle.std.proofs.lemmas.List.Elements.{All-nil, All-cons, All-weaker}
 use Rattle.std.proofs.lemmas.Bool.{true≢false, false_from_ne_true}
 use Rattle.shm_words.specs.declared.geometry.Geometry.{Geometry}
 use Rattle.shm_words.specs.Headers.{header_of}
+use Rattle.shm_words.proofs.Words.{live_not_zero}
 use Rattle.shm_graph.specs.declared.spot.Spot.{Spot}
 use Rattle.shm_graph.specs.declared.spot.Spot.TheVariants.{Spare, Status, Redo, Hold, Latch, Home, Era, Root, Tail, Front, Slot, Segment, Page, Unused, Head, Tag, Body}
 use Rattle.shm_graph.specs.declared.memo.Making.{Making}
@@ -17,7 +18,7 @@ use Rattle.shm_graph.specs.Held.{HeldAt, InBlock, MakingTie}
 use Rattle.shm_graph.proofs.Spotting.{same_spot_is}
 use Rattle.shm_graph.proofs.Updating.{upd_here}
 use Rattle.shm_graph.proofs.Frames.{at1_all, at1_same}
-use Rattle.shm_laws.proofs.Keep.{All-kept, live_word}
+use Rattle.shm_laws.proofs.Keep.{All-kept}
 use Rattle.shm_laws.proofs.Owns.{small_stored, there_stored}
 use Rattle.shm_laws.proofs.BlockWords.{with_blocks, blocks_view, BlocksMay, Old, New, known_live, pair_kept, blocks_kept, blocks_quiet}
 use Rattle.shm_laws.specs.Preparing.{IsOf, IsMaking, words_with, PrepareStep, prepare_view}
@@ -55,7 +56,7 @@ module _ (g : Geometry) (w : Spot → ℕ) (v : View) (c b k : ℕ) (p : Spot) (
 
   -- a live block is another
   live_other : (d : ℕ) → (header_of (w (Head d))).live ≡ true → d ≢ b
-  live_other d l z = live_word (w (Head d)) l (ap (λ i. w (Head i)) z ∙ a.free)
+  live_other d l z = live_not_zero (w (Head d)) l (ap (λ i. w (Head i)) z ∙ a.free)
 
   may : BlocksMay g w c tag body
   may =

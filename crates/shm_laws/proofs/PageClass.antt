@@ -24,7 +24,8 @@ use Rattle.shm_graph.specs.Stores.{other_than}
 use Rattle.shm_laws.proofs.Owns.{mine_other, small_stored, there_stored}
 use Rattle.shm_graph.proofs.Spotting.{same_spot_self, alone}
 use Rattle.shm_graph.proofs.PageSpots.{same_page, page_spot, stays_at, page_of_block, is_unused}
-use Rattle.shm_laws.proofs.Sum.{has_place, degree_same, target_not_spare}
+use Rattle.shm_graph.proofs.Counting.{has_place, target_not_spare}
+use Rattle.shm_laws.proofs.Sum.{degree_same}
 use Rattle.shm_laws.proofs.Keep.{live_block, op_moved, redo_moved, All-kept}
 
 pub class_kept : (g : Geometry) (w : Spot → ℕ) (v : View) (c s q k : ℕ) → HeldAt g w v → ClassStep g w v c s q k → HeldAt g (upd w (Page s q) k) (class_view v c s q k)

@@ -17,8 +17,9 @@ use Rattle.shm_graph.specs.Views.{View, at1, targets, limbos}
 use Rattle.shm_graph.specs.Held.{HeldAt, SlotOf, PartTie, ValueAt, MadeAt, reach_of, is_loose}
 use Rattle.shm_graph.proofs.Spotting.{same_spot_is, in_pool, is_at_block}
 use Rattle.shm_graph.proofs.Lists.{at1_here, at1_other}
+use Rattle.shm_graph.proofs.Counting.{has_place, target_not_spare, indegree_has}
 use Rattle.shm_laws.proofs.Keep.{live_block, count_of_zero, All-kept}
-use Rattle.shm_laws.proofs.Sum.{has_place, target_not_spare, indegree_has, degree_step, limbo_step}
+use Rattle.shm_laws.proofs.Sum.{degree_step, limbo_step}
 use Rattle.shm_laws.proofs.Exchange.{reach_target}
 use Rattle.shm_laws.proofs.Parts.{PartKept, part_kept}
 

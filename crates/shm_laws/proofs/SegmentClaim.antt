@@ -1,7 +1,7 @@
 -- the exchange by which a segment becomes the identity's keeps the invariant, and leaves the graph
 use Rattle.std.proofs.Common.{◌≡◌, ℕ, ◌+◌, ◌^◌, ◌<◌, ◌≤◌, refl, ap, ◌∙◌, arith, inl, inr, List, [], ◌∷◌, Option, Some, None}
 use Rattle.std.specs.List.{Contains}
-use Rattle.std.proofs.lemmas.List.Elements.{All-cons, All-weaker, All-contains, All-contains_itself, Contains-push, Contains-append_left, Contains-append_right}
+use Rattle.std.proofs.lemmas.List.Elements.{All-cons, All-weaker, All-contains, All-contains_itself, Contains-append_right}
 use Rattle.std.proofs.lemmas.Bool.{cases_eq, ne_eqb}
 use Rattle.shm_words.specs.declared.geometry.Geometry.{Geometry}
 use Rattle.shm_graph.specs.declared.spot.Spot.{Spot}
@@ -16,15 +16,14 @@ use Rattle.shm_graph.proofs.Frames.{at1_all}
 use Rattle.shm_graph.proofs.Lists.{at1_here, at1_other}
 use Rattle.shm_laws.proofs.Owns.{mine_other, small_stored, there_stored}
 use Rattle.shm_laws.proofs.Quiet.{quiet}
+use Rattle.shm_laws.proofs.Keep.{newest}
 use Rattle.shm_laws.specs.Holding.{ClaimStep, claim_view}
 
--- a list with an element in front has that one and those of the list, and no other
-in_front : (xs : List ℕ) (x : ℕ) → Contains (x ∷ xs) x
-in_front xs x = Contains-append_left (x ∷ []) xs x (Contains-push [] x)
-
+-- what a list has it has with an element in front
 behind : (xs : List ℕ) (x y : ℕ) → Contains xs y → Contains (x ∷ xs) y
 behind xs x y = Contains-append_right (x ∷ []) xs y
 
+-- what holds of the element in front and of each of the list
 each_of : (P : ℕ → Type 0) (xs : List ℕ) (x : ℕ) → P x → ((y : ℕ) → Contains xs y → P y) → (y : ℕ) → Contains (x ∷ xs) y → P y
 each_of P xs x here rest y at = All-contains P (x ∷ xs) y (All-cons P x xs here (All-weaker (Contains xs) P rest xs (All-contains_itself xs))) at
 
@@ -43,7 +42,7 @@ claim_kept g w v c s h a =
       segments = λ d. at1_all (λ (j : ℕ) (x : List ℕ). j < g.clients → SegmentTie segment' j x) v.owned c (s ∷ v.owned c) d
           (λ l. record {
             listed = each_of (λ i. segment' i ≡ c + 1) (v.owned c) s (at1_here segment s (c + 1)) (λ i x. stays c i ((h.segments c l).listed i x));
-            all = λ i. at1_all (λ (j x : ℕ). x ≡ c + 1 → Contains (s ∷ v.owned c) j) segment s (c + 1) i (λ _. in_front (v.owned c) s) (λ _ e. behind (v.owned c) s i ((h.segments c l).all i e));
+            all = λ i. at1_all (λ (j x : ℕ). x ≡ c + 1 → Contains (s ∷ v.owned c) j) segment s (c + 1) i (λ _. newest s (v.owned c)) (λ _ e. behind (v.owned c) s i ((h.segments c l).all i e));
           })
           (λ n l. record {
             listed = λ i x. stays d i ((h.segments d l).listed i x);

@@ -14,7 +14,8 @@ use Rattle.shm_graph.specs.Views.{View, at1, targets}
 use Rattle.shm_graph.specs.Held.{HeldAt, LooksSound, is_home, named_by}
 use Rattle.shm_graph.proofs.Spotting.{same_spot_is}
 use Rattle.shm_graph.proofs.Holders.{Holds, InReach, apart_slots, held_live_not_zero, one_holder, one_latch, target_counted}
-use Rattle.shm_laws.proofs.Sum.{HasTarget, commit_target, covered_alone, refs_target}
+use Rattle.shm_graph.proofs.Counting.{covered_alone}
+use Rattle.shm_laws.proofs.Sum.{HasTarget, commit_target, refs_target}
 use Rattle.shm_laws.proofs.Exchange.{apart, looks_through, named_kept, reach_target}
 use Rattle.shm_laws.proofs.References.{slot_no_home, slot_no_root}
 

@@ -17,7 +17,7 @@ use Rattle.shm_graph.specs.Held.{HeldAt, OpTie, OwnSound, TailSound, Allowed, ro
 use Rattle.shm_graph.proofs.Spotting.{same_spot_is, same_spot_self}
 use Rattle.shm_graph.proofs.Holders.{Holds, one_holder}
 use Rattle.shm_graph.proofs.Frames.{at1_all}
-use Rattle.shm_laws.proofs.Sum.{covered_alone, op_at}
+use Rattle.shm_graph.proofs.Counting.{covered_alone, op_at}
 use Rattle.shm_laws.proofs.Slots.{slot_alone}
 use Rattle.shm_laws.specs.Steps.{Writes}
 

@@ -3,8 +3,6 @@ use Rattle.std.proofs.Common.{◌≡◌, ◌≢◌, ℕ, ◌+◌, ◌<◌, refl,
 use Rattle.std.specs.List.{All, Contains}
 use Rattle.std.proofs.lemmas.Bool.{cases_eq, and_parts, eqb-true, eq-eqb, leb-true, leb-false, or_cases, or_parts, lt-ltb, cond-true, false≢true, true≢false}
 use Rattle.std.proofs.lemmas.List.Elements.{Contains-append_left, Contains-push}
-use Rattle.std.proofs.lemmas.List.Folds.{list_any_at}
-use Rattle.std.proofs.lemmas.Map.Views.{Contains-from_any}
 use Rattle.shm_words.specs.declared.geometry.Geometry.{Geometry}
 use Rattle.shm_words.specs.Tags.{tag_author, tag_refs}
 use Rattle.shm_graph.specs.declared.spot.Spot.{Spot}
@@ -35,6 +33,7 @@ use Rattle.shm_graph.proofs.Loads.{choice}
 use Rattle.shm_graph.proofs.Claims.{entry_value}
 use Rattle.shm_graph.proofs.LoadTold.{claim_here, claim_tag, claim_word}
 use Rattle.shm_steps.specs.Reading.{IsSettled, MayLookBy, MayLook}
+use Rattle.shm_steps.proofs.BlockTold.{dying_listed, dying_true}
 
 -- ---- the word that a look is read from
 
@@ -186,7 +185,7 @@ word_step g w r c b i h l e may = by (claim_of c (r c) (b + 2 + i)) refl may
           elim near [
             | inl u ↦ inl u
             | inr u ↦ elim (or_cases (is_dying (r c) b) (leb k.refs i) y) [
-              | inl d ↦ inl (Contains-from_any eqb-true b (r c).dying d)
+              | inl d ↦ inl (dying_listed (r c) b d)
               | inr z ↦ inr (u, inl (let q = leb-true k.refs i z in omega arith))
             ]
           ],
@@ -196,7 +195,7 @@ word_step g w r c b i h l e may = by (claim_of c (r c) (b + 2 + i)) refl may
         let low : i < tag_refs (w (Tag b)) = (let q = leb-false k.refs i (or_parts (is_dying (r c) b) (leb k.refs i) n).1 in omega arith) in
         let latch : (r c).latch ≡ Some (tag_author (w (Tag b))) = a.2 ∙ ap Some (sym (s.0.author a.0 a.1) ∙ ap (λ j. tag_author (w (Tag j))) x.0) in
         elim near [
-          | inl u ↦ absurd (true≢false (sym (list_any_at (eqb b) (r c).dying u.0 b u.1 (eq-eqb b _ (sym u.2))) ∙ (or_parts (is_dying (r c) b) (leb k.refs i) n).0))
+          | inl u ↦ absurd (true≢false (sym (dying_true (r c) b u) ∙ (or_parts (is_dying (r c) b) (leb k.refs i) n).0))
           | inr u ↦ reference_step g w r c b i h l u low latch (may z)
         ])
         (λ _. same))

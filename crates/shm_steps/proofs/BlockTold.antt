@@ -5,7 +5,7 @@ use Rattle.std.proofs.Math.Bool.{and-false}
 use Rattle.std.proofs.lemmas.Bool.{cases_Bool, and_parts, cond-true, cond-false, eqb-true, ne_eqb, false_from_ne_true}
 use Rattle.std.proofs.lemmas.Cmp.{nat_eq_equiv}
 use Rattle.std.proofs.lemmas.List.Elements.{All-head, All-tail}
-use Rattle.std.proofs.lemmas.Map.Views.{Contains-from_any, list_any-from_Contains, exact_unsigned_eq}
+use Rattle.std.proofs.lemmas.Map.Views.{Contains-from_any, list_any-from_Contains}
 use Rattle.shm_words.specs.declared.geometry.Geometry.{Geometry}
 use Rattle.shm_graph.specs.declared.spot.Spot.{Spot}
 use Rattle.shm_graph.specs.declared.spot.Spot.TheVariants.{Head, Tag, Body}
@@ -30,9 +30,13 @@ use Rattle.shm_graph.proofs.Spotting.{tag_block, body_block}
 pub dying_true : (m : Memo) (b : ℕ) → Contains m.dying b → is_dying m b ≡ true
 dying_true m b x = list_any-from_Contains nat_eq_equiv b m.dying x
 
+-- and one that is found is listed
+pub dying_listed : (m : Memo) (b : ℕ) → is_dying m b ≡ true → Contains m.dying b
+dying_listed m b e = Contains-from_any eqb-true b m.dying e
+
 -- one that isn't listed isn't found
 pub dying_false : (m : Memo) (b : ℕ) → (Contains m.dying b → ⊥) → is_dying m b ≡ false
-dying_false m b n = false_from_ne_true _ (λ e. n (Contains-from_any exact_unsigned_eq b m.dying e))
+dying_false m b n = false_from_ne_true _ (λ e. n (dying_listed m b e))
 
 -- they are blocks
 pub dying_block : (g : Geometry) (w : Spot → ℕ) (r : ℕ → Memo) (c b : ℕ) → HeldAt g w (view r) → c < g.clients → Contains (r c).dying b → IsBlock g (classes w) b

@@ -31,13 +31,14 @@ use Rattle.shm_graph.specs.Exchanges.{committed, exchanged_on, lowered}
 use Rattle.shm_steps.proofs.LowerBlock.{counted_live}
 use Rattle.shm_graph.specs.Ops.{cover_of, is_op, slot_of}
 use Rattle.shm_steps.proofs.Cutting.{cut_slot, cut_sound}
-use Rattle.shm_steps.proofs.Sifting.{dying_listed, dying_more, known_after, values_after}
+use Rattle.shm_steps.proofs.Sifting.{dying_more, known_after, values_after}
 use Rattle.shm_words.specs.Headers.{header_of}
 use Rattle.shm_graph.proofs.KindKeeping.{in_frame, kept_exchange}
 use Rattle.shm_steps.proofs.MemoCommits.{known_lowered, lowered_is}
 use Rattle.shm_graph.specs.Stores.{not_block}
 use Rattle.shm_graph.proofs.MemoParts.{parts, put_parts, put_same}
 use Rattle.shm_steps.proofs.RaiseBlock.{row_shows}
+use Rattle.shm_steps.proofs.BlockTold.{dying_listed}
 use Rattle.shm_laws.proofs.SecondHalf.{second_event, second_kept}
 use Rattle.shm_graph.specs.Spots.{spot_at, upd}
 use Rattle.shm_graph.proofs.BodyTold.{told_exchange}

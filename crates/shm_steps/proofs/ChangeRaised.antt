@@ -34,12 +34,13 @@ use Rattle.shm_graph.specs.Blocks.{classes}
 use Rattle.shm_graph.specs.Exchanges.{committed, exchanged_on}
 use Rattle.std.proofs.lemmas.Bool.{cond-false}
 use Rattle.shm_steps.proofs.Cutting.{cut_slot, cut_sound}
-use Rattle.shm_steps.proofs.Sifting.{dying_listed, known_after, values_after}
+use Rattle.shm_steps.proofs.Sifting.{known_after, values_after}
 use Rattle.shm_words.specs.Headers.{header_of}
 use Rattle.shm_graph.proofs.KindKeeping.{in_frame, kept_exchange}
 use Rattle.shm_steps.proofs.PartsSet.{loose_stays, part_tie}
 use Rattle.shm_graph.specs.Stores.{not_block}
 use Rattle.shm_steps.proofs.MemoCommits.{not_both}
+use Rattle.shm_steps.proofs.BlockTold.{dying_listed}
 use Rattle.shm_graph.specs.Chains.{part_set}
 use Rattle.shm_graph.specs.Spots.{same_spot, spot_at, upd}
 use Rattle.shm_graph.proofs.BodyTold.{told_exchange}

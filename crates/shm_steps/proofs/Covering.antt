@@ -16,6 +16,7 @@ use Rattle.shm_graph.specs.Telling.{Claim, bare, tag_claim, tag_claims, Role, Ot
 use Rattle.shm_graph.proofs.Spotting.{same_spot_is}
 use Rattle.shm_graph.proofs.OpEnd.{uncommitted_quiet}
 use Rattle.shm_steps.specs.Reading.{IsTold, IsCovered, IsSettled, MayLook, MayLookBy}
+use Rattle.shm_steps.proofs.BlockTold.{dying_listed}
 
 -- ---- claims
 
@@ -88,7 +89,7 @@ module _ (c : ℕ) (m : Memo) where
   reached_told b e = block_told b (Contains-append_left (reached_blocks c m) m.dying b (Contains-from_any eqb-true b (reached_blocks c m) e))
 
   pub dying_told : (b : ℕ) → is_dying m b ≡ true → IsTold c m b
-  dying_told b e = block_told b (Contains-append_right (reached_blocks c m) m.dying b (Contains-from_any eqb-true b m.dying e))
+  dying_told b e = block_told b (Contains-append_right (reached_blocks c m) m.dying b (dying_listed m b e))
 
   -- the word of a value block
   pub value_covered : (b : ℕ) → Contains m.values b → IsCovered c m (b + 2)

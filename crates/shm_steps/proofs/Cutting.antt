@@ -1,6 +1,6 @@
 -- the looks that stay once a reference is taken away are sound for the new targets, and the slot's block stays in reach
 use Rattle.shm_graph.specs.declared.spot.Spot.TheVariants.{Body, Front, Head, Home, Root, Slot, Tag, Tail}
-use Rattle.std.proofs.Common.{Bool, List, [], ap, arith, eq-eqb, false, inl, inr, not, refl, subst, sym, true, ℕ, ◌%◌, ◌&&◌, ◌<◌, ◌∙◌, ◌≡◌}
+use Rattle.std.proofs.Common.{Bool, List, [], ap, eq-eqb, false, inl, inr, not, refl, subst, sym, true, ℕ, ◌%◌, ◌&&◌, ◌<◌, ◌∙◌, ◌≡◌}
 use Rattle.shm_words.specs.declared.geometry.Geometry.{Geometry}
 use Rattle.shm_graph.specs.Held.{HeldAt, InLooks, LooksSound, SlotOf, named_by, reach_of}
 use Rattle.shm_graph.proofs.Holders.{Holds, InReach}
@@ -10,6 +10,7 @@ use Rattle.shm_graph.specs.declared.spot.Spot.{Spot}
 use Rattle.shm_graph.specs.Views.{View, targets}
 use Rattle.std.proofs.lemmas.Bool.{and_from, and_parts, cases_Bool, cond-true, not-true}
 use Rattle.shm_graph.proofs.Loads.{choice}
+use Rattle.shm_graph.proofs.Looking.{not_empty}
 use Rattle.shm_graph.specs.Reach.{cut_looks, is_look_from, is_look_of, is_named, upto}
 use Rattle.shm_laws.proofs.LooksCut.{from_named, looks_apart, upto_first, upto_has}
 use Rattle.shm_words.specs.Headers.{header_of}
@@ -67,10 +68,6 @@ module _ (g : Geometry) (w : Spot → ℕ) (v : View) (h : HeldAt g w v) (c : �
           (λ z. tt)
       go _ e = tt
 
-  -- no block is one of no looks
-  in_none : (b : ℕ) → InLooks [] b → ⊥
-  in_none b x = absurd (let z = x.1.1 in omega arith)
-
   -- the block of the slot is named, or one of the looks that stay
   reach_still : (b i : ℕ) → p ≡ Body b i → (is_named c m b ≡ true → named_by t' tail front c b) → InReach w g v c b → reach_of t' tail front (λ d. cut_looks c m (Body b i)) c b
   reach_still b i e shows (inl u) = inl (named_still b i e b u)
@@ -79,7 +76,7 @@ module _ (g : Geometry) (w : Spot → ℕ) (v : View) (h : HeldAt g w v) (c : �
       elim (cases_Bool (is_named c m b)) [
         | inl y ↦ inl (shows y)
         | inr y ↦ elim (cases_Bool (from b i)) [
-          | inl z ↦ inl (named_still b i e b (from_named (λ a. t (Home a)) (λ a j. t (Body a j)) author (v.latch c) (named_by t tail front c) b i [] m.looks (in_none b) z looks_now))
+          | inl z ↦ inl (named_still b i e b (from_named (λ a. t (Home a)) (λ a j. t (Body a j)) author (v.latch c) (named_by t tail front c) b i [] m.looks (not_empty b) z looks_now))
           | inr z ↦ inr (subst (λ ks. InLooks ks b) (sym (cond-true _ _ _ (and_from _ _ (not-false-true (is_named c m b) y) (and_from _ _ (look_any b m.looks x) (not-false-true (from b i) z))))) (upto_has b m.looks x))
         ]
       ]

@@ -20,13 +20,12 @@ use Rattle.shm_graph.proofs.BodyTold.{told_in_body}
 use Rattle.shm_graph.proofs.KindKeeping.{in_frame, kept_from}
 use Rattle.shm_graph.proofs.KnownChange.{KnownHolds}
 use Rattle.shm_graph.proofs.MemoParts.{parts, put_parts, put_same}
-use Rattle.shm_graph.proofs.Spotting.{head_at, tag_block}
+use Rattle.shm_graph.proofs.Spotting.{head_at, tag_block, spot_there}
 use Rattle.shm_laws.specs.Steps.{FreeStep, free_view}
 use Rattle.shm_laws.specs.Preparing.{LinkStep, link_view}
 use Rattle.shm_laws.proofs.FreeBlock.{free_kept, free_event}
 use Rattle.shm_laws.proofs.LinkStore.{link_kept, link_quiet}
 use Rattle.shm_steps.specs.Preparing.{MayFree, MayLink}
-use Rattle.shm_steps.proofs.PageSteps.{spot_there}
 use Rattle.shm_steps.proofs.BlockTold.{dying_true, no_dying_at, stored_freed, stored_linked}
 
 -- a zero-count block is freed

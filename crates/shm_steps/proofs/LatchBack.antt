@@ -27,9 +27,10 @@ use Rattle.shm_laws.proofs.Quiet.{back_quiet}
 use Rattle.shm_graph.specs.Reach.{binds_unlatched, is_at, is_dying, is_free_of_latch, is_latch_of, is_reached, known_at}
 use Rattle.shm_graph.specs.Blocks.{classes}
 use Rattle.shm_graph.specs.Tables.{contents_of}
-use Rattle.shm_steps.proofs.Sifting.{dying_listed, sift_values}
+use Rattle.shm_steps.proofs.Sifting.{sift_values}
 use Rattle.shm_graph.proofs.KindKeeping.{in_frame, kept_from}
 use Rattle.shm_steps.proofs.Naming.{names_same}
+use Rattle.shm_steps.proofs.BlockTold.{dying_listed}
 use Rattle.shm_graph.proofs.MemoParts.{put_same}
 use Rattle.shm_graph.proofs.Spotting.{same_spot_is}
 use Rattle.shm_graph.specs.Spots.{spot_at}

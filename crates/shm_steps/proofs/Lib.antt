@@ -5,6 +5,7 @@ pub mod Prepared
 pub mod Allocated
 pub mod DyingSteps
 pub mod OwnStores
+pub mod Items
 pub mod OwnStoresLanes
 pub mod OwnStoresRedo
 pub mod OwnStoresEra

@@ -33,7 +33,7 @@ use Rattle.std.proofs.lemmas.Bool.{cond-false, true_from_ne_false}
 use Rattle.shm_graph.specs.Tables.{contents_of}
 use Rattle.shm_laws.proofs.Keep.{count_of_zero}
 use Rattle.shm_steps.proofs.Cutting.{cut_slot, cut_sound}
-use Rattle.shm_steps.proofs.Sifting.{dying_listed, dying_more, known_after, untaken_stays, values_after}
+use Rattle.shm_steps.proofs.Sifting.{dying_more, known_after, untaken_stays, values_after}
 use Rattle.shm_words.specs.Headers.{header_of}
 use Rattle.shm_graph.proofs.KindKeeping.{in_frame, kept_exchange}
 use Rattle.shm_steps.proofs.MemoCommits.{known_left, known_lowered, lowered_is, unsent_list, unsent_lowered, untaken_list, untaken_lowered, with_unsent_is, with_untaken_is}
@@ -43,6 +43,7 @@ use Rattle.shm_graph.specs.Stores.{not_block}
 use Rattle.shm_graph.specs.Chains.{part_set}
 use Rattle.shm_graph.proofs.MemoParts.{parts, put_parts, put_same}
 use Rattle.shm_steps.proofs.RaiseBlock.{row_shows}
+use Rattle.shm_steps.proofs.BlockTold.{dying_listed}
 use Rattle.shm_graph.specs.Spots.{same_spot, spot_at, upd}
 use Rattle.std.specs.Prelude.{slice_index}
 use Rattle.shm_graph.proofs.BodyTold.{told_exchange}

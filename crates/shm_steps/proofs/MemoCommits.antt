@@ -1,9 +1,8 @@
 -- the memo of a committed step, part by part
-use Rattle.std.proofs.Common.{◌≡◌, ℕ, zero, suc, refl, sym, ap, ◌∙◌, Bool, true, false, cond, eqb, ◌&&◌, subst, inl, inr, List, [], ◌∷◌, ◌⊎◌}
+use Rattle.std.proofs.Common.{◌≡◌, ℕ, refl, sym, ap, ◌∙◌, Bool, true, false, cond, eqb, ◌&&◌, subst, inl, inr, List, [], ◌∷◌, ◌⊎◌}
 use Rattle.std.specs.Prelude.{slice_index}
 use Rattle.std.specs.List.{filter}
 use Rattle.std.proofs.Math.Path.{fun_ext}
-use Rattle.std.proofs.Math.Dec.{eqb-suc-zero, eqb-zero-suc, eqb-suc-suc}
 use Rattle.std.proofs.lemmas.Bool.{cases_eq, eq-eqb, ne_eqb}
 use Rattle.shm_graph.specs.declared.spot.Spot.{Spot}
 use Rattle.shm_graph.specs.declared.spot.Spot.TheVariants.{Slot}
@@ -14,6 +13,7 @@ use Rattle.shm_graph.specs.Stores.{put, other_than, not_block, not_of}
 use Rattle.shm_graph.specs.Exchanges.{with_unsent, with_untaken, lowered}
 use Rattle.shm_graph.proofs.Frames.{at1_same}
 use Rattle.shm_laws.specs.Steps.{unsent_after, unsent_back, untaken_after, dying_after, not_blocks}
+use Rattle.shm_steps.proofs.Items.{put_at}
 
 -- ---- what becomes of each part
 
@@ -61,22 +61,11 @@ lowered_is n b m = go (eqb n 0)
 
 -- ---- lists that have one item anew
 
--- item i is x, and each other one stays
-pub put_item : (xs : List ℕ) (i x j : ℕ) → slice_index (put 0 xs i x) j ≡ cond (eqb i j) x (slice_index xs j)
-put_item [] zero x zero = refl
-put_item [] zero x (suc j) = rw (eqb-zero-suc j) refl
-put_item [] (suc i) x zero = rw (eqb-suc-zero i) refl
-put_item [] (suc i) x (suc j) = rw (eqb-suc-suc i j) (put_item [] i x j)
-put_item (y ∷ ys) zero x zero = refl
-put_item (y ∷ ys) zero x (suc j) = rw (eqb-zero-suc j) refl
-put_item (y ∷ ys) (suc i) x zero = rw (eqb-suc-zero i) refl
-put_item (y ∷ ys) (suc i) x (suc j) = rw (eqb-suc-suc i j) (put_item ys i x j)
-
 -- the lists of all identities, where item j of c's is x
 set_item : (u : ℕ → ℕ → ℕ) (l : List ℕ) (c j x s r : ℕ) → slice_index l r ≡ u c r → cond (eqb c s && eqb j r) x (u s r) ≡ at1 u c (λ k. slice_index (put 0 l j x) k) s r
 set_item u l c j x s r e =
     elim (cases_eq c s) [
-      | inl q ↦ subst (λ k. cond (eqb c k && eqb j r) x (u k r) ≡ at1 u c (λ i. slice_index (put 0 l j x) i) k r) q (rw (eq-eqb c c refl) (ap (cond (eqb j r) x) (sym e) ∙ sym (put_item l j x r)))
+      | inl q ↦ subst (λ k. cond (eqb c k && eqb j r) x (u k r) ≡ at1 u c (λ i. slice_index (put 0 l j x) i) k r) q (rw (eq-eqb c c refl) (ap (cond (eqb j r) x) (sym e) ∙ sym (put_at 0 l j x r)))
       | inr n ↦ rw (ne_eqb c s n) refl
     ]
 

@@ -1,5 +1,5 @@
 -- the stores of rows and of the own hold word, as machines use them
-use Rattle.std.proofs.Common.{◌≡◌, ◌≢◌, ℕ, ◌≤◌, refl, sym, ap, ◌∙◌, subst, Bool, true, false, [], ◌∷◌, None, Option, cond}
+use Rattle.std.proofs.Common.{◌≡◌, ℕ, ◌≤◌, refl, sym, ap, ◌∙◌, subst, Bool, true, false, [], ◌∷◌, None, Option, cond}
 use Rattle.std.proofs.lemmas.Bool.{eq-eqb, ne_eqb}
 use Rattle.std.proofs.lemmas.List.Elements.{All-nil}
 use Rattle.shm_words.specs.declared.geometry.Geometry.{Geometry}
@@ -9,8 +9,8 @@ use Rattle.shm_graph.specs.declared.memo.Memo.{Memo}
 use Rattle.shm_graph.specs.declared.memo.Test.{Test}
 use Rattle.shm_graph.specs.declared.memo.Status.{Status}
 use Rattle.shm_graph.specs.declared.spot.Spot.{Spot}
-use Rattle.shm_graph.specs.declared.spot.Spot.TheVariants.{Spare, Hold, Era}
-use Rattle.shm_graph.specs.Spots.{spot_at, IsAt}
+use Rattle.shm_graph.specs.declared.spot.Spot.TheVariants.{Hold, Era}
+use Rattle.shm_graph.specs.Spots.{spot_at}
 use Rattle.shm_graph.specs.Blocks.{classes}
 use Rattle.shm_graph.specs.Views.{View, view, at1}
 use Rattle.shm_graph.specs.Asks.{Trail}
@@ -23,20 +23,16 @@ use Rattle.shm_graph.proofs.Frames.{at1_twice}
 use Rattle.shm_graph.proofs.Keeping.{told_fixed}
 use Rattle.shm_graph.proofs.KindKeeping.{in_frame, kept_from}
 use Rattle.shm_graph.proofs.MemoParts.{parts, put_parts, put_same}
-use Rattle.shm_graph.proofs.Spotting.{spot_is_at, is_below}
+use Rattle.shm_graph.proofs.Spotting.{spot_there}
 use Rattle.shm_laws.specs.Steps.{RowStep, row_store_view}
 use Rattle.shm_laws.specs.Holding.{HoldStep, hold_view}
 use Rattle.shm_laws.proofs.Rows as rows
 use Rattle.shm_laws.proofs.Quiet.{row_quiet}
 use Rattle.shm_laws.proofs.HoldStore.{hold_kept, hold_quiet}
-use Rattle.shm_steps.specs.OwnWords.{MayRaise, MayHold}
-
--- the pool has the spot of an address
-pub has_spot : (g : Geometry) (w : Spot → ℕ) (at : ℕ) (p : Spot) → spot_at g (classes w) at ≡ p → p ≢ Spare → IsAt g (classes w) p
-has_spot g w at p e n = subst (IsAt g (classes w)) e (spot_is_at g (classes w) at (is_below g (classes w) at p e n))
+use Rattle.shm_steps.specs.OwnWords.{MayShow, MayHold}
 
 -- the row of another client is stored
-pub row_stored : (me : Me) (w : Spot → ℕ) (r : ℕ → Memo) (f : Frame) (tr : Trail) (at j x : ℕ) → Stands me w r f tr → f.fresh ≡ false → spot_at me.geometry (classes w) at ≡ Era me.who j → MayRaise me.who (r me.who) j x
+pub row_stored : (me : Me) (w : Spot → ℕ) (r : ℕ → Memo) (f : Frame) (tr : Trail) (at j x : ℕ) → Stands me w r f tr → f.fresh ≡ false → spot_at me.geometry (classes w) at ≡ Era me.who j → MayShow me.who (r me.who) j x
     → KeptAt me w r (Store at x) f (λ n m. Unit {0}) (spot_at me.geometry (classes w) at)
 row_stored me w r f tr at j x s going e a =
     let g = me.geometry in
@@ -50,7 +46,7 @@ row_stored me w r f tr at j x s going e a =
       acts = a.here.joined;
       here = a.here.stays;
       other = a.other;
-      place = has_spot g w at p e (λ z. cc);
+      place = spot_there g (classes w) at p e (λ z. cc);
       more = subst (λ y. y ≤ x) (s.held.mine c s.who p (eq-eqb c c refl)) a.more;
       read = a.read;
     } in
@@ -95,7 +91,7 @@ hold_stored me w r f tr at x s e a = subst (KeptAt me w r (Store at x) f (λ n m
           here = λ z. a.here.stays (sym (ap (λ (k : ℕ → Status). k c) st) ∙ z);
           none = subst (λ (k : ℕ → Option ℕ). k c ≡ None) (sym la) a.none;
           most = a.most;
-          place = has_spot g w at (Hold c) e (λ z. cc);
+          place = spot_there g (classes w) at (Hold c) e (λ z. cc);
         }
 
     -- the first step of a machine, and another one

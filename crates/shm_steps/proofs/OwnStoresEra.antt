@@ -1,9 +1,7 @@
 -- the store of the own era, as machines use it: where the step that it closes lowers, the looks are over
 use Rattle.std.proofs.Common.{◌≡◌, ◌≢◌, ℕ, ◌+◌, ◌<◌, refl, sym, ap, ◌∙◌, subst, Bool, true, false, cond, List, [], ◌∷◌, None, inl, inr, ◌⊎◌, eqb}
 use Rattle.std.specs.List.{All, filter}
-use Rattle.std.proofs.lemmas.Bool.{eq-eqb, eqb-true, or_cases, cases_eq, false≢true}
-use Rattle.std.proofs.lemmas.List.Elements.{All-nil, All-cons, All-head, All-tail}
-use Rattle.std.proofs.lemmas.Map.Views.{Contains-from_any}
+use Rattle.std.proofs.lemmas.Bool.{eq-eqb, cases_eq, false≢true}
 use Rattle.shm_words.specs.declared.geometry.Geometry.{Geometry}
 use Rattle.shm_words.specs.Headers.{header_of}
 use Rattle.shm_words.specs.Tags.{tag_author}
@@ -26,7 +24,7 @@ use Rattle.shm_graph.specs.Changes.{called}
 use Rattle.shm_graph.specs.Events.{Nothing as Quietly, graph_of, Happens}
 use Rattle.shm_graph.specs.Held.{HeldAt, KnownAt, ValueAt, SlotOf, LooksSound, Fresh, InLooks, named_by, reach_of}
 use Rattle.shm_graph.specs.Ops.{cover, cover_of, slot_of, is_op}
-use Rattle.shm_graph.specs.Reach.{binds, is_reached, is_dying}
+use Rattle.shm_graph.specs.Reach.{binds, is_reached}
 use Rattle.shm_graph.specs.Stores.{op_closed, is_lowering, without_looks, era_stored, with_own}
 use Rattle.shm_graph.specs.Tables.{contents_of}
 use Rattle.shm_graph.specs.Laws.{Frame, framed, Stands, KeptAt}
@@ -35,13 +33,15 @@ use Rattle.shm_graph.proofs.Keeping.{told_fixed}
 use Rattle.shm_graph.proofs.KindKeeping.{in_frame, kept_from}
 use Rattle.shm_graph.proofs.KnownChange.{KnownHolds, ValueHolds}
 use Rattle.shm_graph.proofs.Lists.{at1_here, at1_other}
-use Rattle.shm_graph.proofs.Loads.{choice}
 use Rattle.shm_graph.proofs.MemoParts.{parts, put_parts, put_same}
 use Rattle.shm_graph.proofs.Reached.{Names, reached_sound, shown_target, all_named}
 use Rattle.shm_laws.specs.Steps.{CloseStep, close_view}
 use Rattle.shm_laws.proofs.CloseOp.{close_kept}
 use Rattle.shm_laws.proofs.Quiet.{close_quiet}
+use Rattle.shm_laws.proofs.Keep.{All-kept}
 use Rattle.shm_steps.specs.OwnWords.{MayClose}
+use Rattle.shm_steps.proofs.Sifting.{sift_known}
+use Rattle.shm_steps.proofs.BlockTold.{dying_listed}
 
 -- ---- the looks of one identity are dropped
 
@@ -110,23 +110,6 @@ looks_dropped g w v c ks vs h idle known values =
     }
 
 -- ---- what stays known
-
--- what holds of each element that the test leaves
-pub All-left : {T : Type 0} (P Q : T → Type 0) (test : T → Bool) (xs : List T) → ((x : T) → P x → test x ≡ true → Q x) → All P xs → All Q (filter test xs)
-All-left P Q test [] f h = All-nil Q
-All-left P Q test (x ∷ xs) f h =
-    let rest = All-left P Q test xs f (All-tail P x xs h) in
-    choice (All Q) (test x) (x ∷ filter test xs) (filter test xs) (λ e. All-cons Q x (filter test xs) (f x (All-head P x xs h) e) rest) (λ e. rest)
-
--- a word that binds is known with the reach that the memo shows
-binds_known : (c : ℕ) (tag : ℕ → ℕ) (body : ℕ → ℕ → ℕ) (slot : ℕ → ℕ → ℕ → ℕ) (tail front : ℕ → ℕ → ℕ) (untaken : ℕ → ℕ) (m : Memo) (reach reach' : ℕ → Type 0) → ((b : ℕ) → is_reached c m b ≡ true → reach' b) → (p : Spot) (x : ℕ)
-    → KnownAt c tag body slot tail front untaken m.latch reach m.dying p x → binds c m p ≡ true → KnownAt c tag body slot tail front untaken m.latch reach' m.dying p x
-binds_known c tag body slot tail front untaken m reach reach' sound (Tag b) x k e =
-    (k.0, elim (or_cases (is_reached c m b) (is_dying m b) e) [ inl u ↦ inr (sound b u) | inr u ↦ inl (Contains-from_any eqb-true b m.dying u) ])
-binds_known c tag body slot tail front untaken m reach reach' sound (Body b i) x k e =
-    (k.0, elim (or_cases (is_reached c m b) (is_dying m b) e) [ inl u ↦ elim k.1 [ inl z ↦ inl z | inr z ↦ inr (sound b u, z.1) ] | inr u ↦ inl (Contains-from_any eqb-true b m.dying u) ])
-binds_known c tag body slot tail front untaken m reach reach' sound (Slot s r i) x k e = k
-binds_known c tag body slot tail front untaken m reach reach' sound _ x k e = absurd k
 
 -- a step that lowers has one half left
 lowered_none : (o : Op) (x : ℕ) → is_lowering o ≡ true → op_closed o x ≡ Nothing
@@ -212,10 +195,10 @@ module _ (me : Me) (w : Spot → ℕ) (r : ℕ → Memo) (f : Frame) (tr : Trail
   dropped_held : is_lowering (r c).op ≡ true → HeldAt g w' (record v' { looks = at1 v.looks c []; known = at1 v.known c ks; values = at1 v.values c vs })
   dropped_held e =
       looks_dropped g w' v' c ks vs closed_held (at1_here v.op c o ∙ lowered_none (r c).op x e)
-      (All-left (KnownHolds g w' v' c) (KnownBy g w' v' c []) (λ (k : Stored). binds c n' k.spot) (r c).known
-      (λ k h t. binds_known c (λ b. w' (Tag b)) (λ b i. w' (Body b i)) (λ i j k. w' (Slot i j k)) (λ i j. w' (Tail i j)) (λ i j. w' (Front i j)) (v'.untaken c) n' (reach_of (targets g w' v') (λ i j. w' (Tail i j)) (λ i j. w' (Front i j)) v'.looks c) (InReachBy w' g v' c []) in_reach k.spot k.value h t)
-      (closed_held.known c s.who))
-      (All-left (ValueHolds g w' v' c) (ValueBy g w' v' c []) (is_reached c n') (r c).values (λ b h t. (h.0, in_reach b t)) (closed_held.values c s.who))
+      (All-kept (KnownHolds g w' v' c) (KnownBy g w' v' c []) (λ (k : Stored). binds c n' k.spot)
+      (λ k t h. sift_known c (λ b. w' (Tag b)) (λ b i. w' (Body b i)) (λ i j k. w' (Slot i j k)) (λ i j. w' (Tail i j)) (λ i j. w' (Front i j)) (v'.untaken c) (v'.untaken c) (v'.latch c) (reach_of (targets g w' v') (λ i j. w' (Tail i j)) (λ i j. w' (Front i j)) v'.looks c) (InReachBy w' g v' c []) (v'.dying c) (v'.dying c) n' in_reach (dying_listed n') (λ b d. d) k.spot k.value (λ i j a e u z none. none) t h)
+      (r c).known (closed_held.known c s.who))
+      (All-kept (ValueHolds g w' v' c) (ValueBy g w' v' c []) (is_reached c n') (λ b t h. (h.0, in_reach b t)) (r c).values (closed_held.values c s.who))
 
   -- a view is that of a memo of c
   abbrev IsMemos : View → Memo → Type 0

@@ -1,9 +1,7 @@
 -- the stores of a tail and of a head, as machines use them
-use Rattle.std.proofs.Common.{◌≡◌, ℕ, zero, suc, ◌+◌, refl, sym, ap, ◌∙◌, subst, false, List, [], ◌∷◌, ◌++◌, None, cond, eqb, inl, inr, ◌⊎◌}
+use Rattle.std.proofs.Common.{◌≡◌, ℕ, ◌+◌, refl, sym, ap, ◌∙◌, subst, false, List, [], ◌∷◌, ◌++◌, None}
 use Rattle.std.specs.Prelude.{slice_index, slice_index_or}
-use Rattle.std.proofs.Math.Path.{fun_ext}
-use Rattle.std.proofs.Math.Dec.{eqb-suc-zero, eqb-zero-suc, eqb-suc-suc}
-use Rattle.std.proofs.lemmas.Bool.{eq-eqb, ne_eqb, cases_eq}
+use Rattle.std.proofs.lemmas.Bool.{eq-eqb}
 use Rattle.shm_graph.specs.declared.ask.Ask.TheVariants.{Store}
 use Rattle.shm_graph.specs.declared.ask.Me.{Me}
 use Rattle.shm_graph.specs.declared.memo.Memo.{Memo}
@@ -20,31 +18,13 @@ use Rattle.shm_graph.specs.Laws.{Frame, Stands, KeptAt}
 use Rattle.shm_graph.proofs.Keeping.{told_fixed}
 use Rattle.shm_graph.proofs.KindKeeping.{in_frame, kept_from}
 use Rattle.shm_graph.proofs.MemoParts.{put_same}
+use Rattle.shm_graph.proofs.Spotting.{spot_there}
 use Rattle.shm_laws.specs.Steps.{TailStep, tail_view, HeadStep, head_view, at2}
 use Rattle.shm_laws.proofs.Tails.{tail_kept}
 use Rattle.shm_laws.proofs.Heads.{head_kept}
 use Rattle.shm_laws.proofs.Quiet.{tail_quiet, head_quiet}
 use Rattle.shm_steps.specs.OwnWords.{MaySend, MayReceive}
-use Rattle.shm_steps.proofs.OwnStores.{has_spot}
-
--- item i of a list is x, and each other one stays
-pub put_at : {T : Type 0} (d : T) (xs : List T) (i : ℕ) (x : T) (j : ℕ) → slice_index_or (put d xs i x) j d ≡ cond (eqb i j) x (slice_index_or xs j d)
-put_at d [] zero x zero = refl
-put_at d [] zero x (suc j) = rw (eqb-zero-suc j) refl
-put_at d [] (suc i) x zero = rw (eqb-suc-zero i) refl
-put_at d [] (suc i) x (suc j) = rw (eqb-suc-suc i j) (put_at d [] i x j)
-put_at d (y ∷ ys) zero x zero = refl
-put_at d (y ∷ ys) zero x (suc j) = rw (eqb-zero-suc j) refl
-put_at d (y ∷ ys) (suc i) x zero = rw (eqb-suc-zero i) refl
-put_at d (y ∷ ys) (suc i) x (suc j) = rw (eqb-suc-suc i j) (put_at d ys i x j)
-
--- one item of one identity's part changes
-pub part_at2 : {T : Type 0} (f : ℕ → ℕ → T) (c r : ℕ) (x : T) (h : ℕ → T) → ((j : ℕ) → h j ≡ cond (eqb r j) x (f c j)) → at1 f c h ≡ at2 f c r x
-part_at2 {T} f c r x h e = fun_ext (λ d. fun_ext (λ j. at d j (cases_eq c d)))
-  where
-    at : (d j : ℕ) → (c ≡ d) ⊎ (c ≡ d → ⊥) → at1 f c h d j ≡ at2 f c r x d j
-    at d j (inl q) = subst (λ k. at1 f c h k j ≡ at2 f c r x k j) q (rw (eq-eqb c c refl) (e j))
-    at d j (inr n) = rw (ne_eqb c d n) refl
+use Rattle.shm_steps.proofs.Items.{put_at, part_at2}
 
 -- the tail of the queue to another client is stored
 pub tail_stored : (me : Me) (w : Spot → ℕ) (r : ℕ → Memo) (f : Frame) (tr : Trail) (at i : ℕ) → Stands me w r f tr → f.fresh ≡ false → spot_at me.geometry (classes w) at ≡ Tail me.who i → MaySend me.geometry.clients me.who (r me.who) i
@@ -64,7 +44,7 @@ tail_stored me w r f tr at i s going e a =
       here = a.here.stays;
       op = a.idle;
       some = a.some;
-      place = has_spot g w at p e (λ z. cc);
+      place = spot_there g (classes w) at p e (λ z. cc);
     } in
     let sends : at1 v.sent c (λ j. slice_index_or (lane_with (r c).sent i (slice_index (r c).unsent i)) j []) ≡ at2 v.sent c i (v.sent c i ++ v.unsent c i ∷ []) =
     part_at2 v.sent c i _ _ (λ j. put_at [] (r c).sent i (v.sent c i ++ v.unsent c i ∷ []) j) in
@@ -99,7 +79,7 @@ head_stored me w r f tr at i s going e a =
       here = a.here.stays;
       op = a.idle;
       some = a.some;
-      place = has_spot g w at p e (λ z. cc);
+      place = spot_there g (classes w) at p e (λ z. cc);
     } in
     let gets : at1 v.received c (λ j. slice_index_or (lane_with (r c).received i (slice_index (r c).untaken i)) j []) ≡ at2 v.received c i (v.received c i ++ v.untaken c i ∷ []) =
     part_at2 v.received c i _ _ (λ j. put_at [] (r c).received i (v.received c i ++ v.untaken c i ∷ []) j) in

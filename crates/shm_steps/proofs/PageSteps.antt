@@ -1,22 +1,21 @@
 -- the steps of segments' words, of pages' classes and of a latch that is taken, as machines use them
-use Rattle.std.proofs.Common.{◌≡◌, ◌≢◌, ℕ, ◌+◌, refl, sym, ap, ◌∙◌, subst, false, ◌∷◌, Some, None, inr}
+use Rattle.std.proofs.Common.{◌≡◌, ℕ, ◌+◌, refl, sym, ap, subst, false, ◌∷◌, Some, None, inr}
 use Rattle.std.specs.List.{filter}
 use Rattle.std.proofs.lemmas.List.Elements.{All-contains}
-use Rattle.shm_words.specs.declared.geometry.Geometry.{Geometry}
 use Rattle.shm_graph.specs.declared.ask.Ask.TheVariants.{Store, Exchange}
 use Rattle.shm_graph.specs.declared.ask.Me.{Me}
 use Rattle.shm_graph.specs.declared.memo.Memo.{Memo}
 use Rattle.shm_graph.specs.declared.memo.Fact.TheVariants.{Class}
 use Rattle.shm_graph.specs.declared.spot.Spot.{Spot}
-use Rattle.shm_graph.specs.declared.spot.Spot.TheVariants.{Spare, Latch, Segment, Page, Head}
-use Rattle.shm_graph.specs.Spots.{spot_at, IsAt}
+use Rattle.shm_graph.specs.declared.spot.Spot.TheVariants.{Latch, Segment, Page, Head}
+use Rattle.shm_graph.specs.Spots.{spot_at}
 use Rattle.shm_graph.specs.Blocks.{classes}
 use Rattle.shm_graph.specs.Views.{View, view, at1}
 use Rattle.shm_graph.specs.Held.{ZeroAt}
 use Rattle.shm_graph.specs.Asks.{Trail}
 use Rattle.shm_graph.specs.Stores.{not_segment, outside_of, other_than}
 use Rattle.shm_graph.specs.Laws.{Frame, Stands, KeptAt}
-use Rattle.shm_graph.proofs.Spotting.{alone}
+use Rattle.shm_graph.proofs.Spotting.{spot_there}
 use Rattle.shm_graph.proofs.Keeping.{told_fixed}
 use Rattle.shm_graph.proofs.KindKeeping.{in_frame, kept_from, kept_exchange}
 use Rattle.shm_graph.proofs.MemoParts.{put_same}
@@ -29,10 +28,6 @@ use Rattle.shm_laws.proofs.Latches.{latch_kept}
 use Rattle.shm_laws.proofs.Quiet.{class_quiet, latch_quiet}
 use Rattle.shm_steps.specs.Conditions.{IsHere}
 use Rattle.shm_steps.specs.Preparing.{MayGive, MayClass, MayLatch}
-
--- a spot that stands at an address is there
-pub spot_there : (g : Geometry) (class : ℕ → ℕ → ℕ) (at : ℕ) (p : Spot) → spot_at g class at ≡ p → p ≢ Spare → IsAt g class p
-spot_there g class at p e n = ap (spot_at g class) (alone g class at p e n) ∙ e
 
 -- a segment that nobody owns becomes the identity's
 pub claimed : (me : Me) (w : Spot → ℕ) (r : ℕ → Memo) (f : Frame) (tr : Trail) (at s : ℕ) → Stands me w r f tr → f.fresh ≡ false → spot_at me.geometry (classes w) at ≡ Segment s → w (Segment s) ≡ 0 → IsHere (r me.who)

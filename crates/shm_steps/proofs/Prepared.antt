@@ -27,14 +27,13 @@ use Rattle.shm_graph.specs.Changes.{called}
 use Rattle.shm_graph.specs.Controls.{Controls}
 use Rattle.shm_graph.specs.Events.{Event, Nothing, graph_of, Happens}
 use Rattle.shm_graph.specs.Laws.{Frame, framed, Stands, KeptAt, event_on}
-use Rattle.shm_graph.proofs.Spotting.{tag_block, body_block, tag_spot, block_within, in_pool}
+use Rattle.shm_graph.proofs.Spotting.{tag_block, body_block, tag_spot, block_within, in_pool, spot_there}
 use Rattle.shm_graph.proofs.BodyTold.{told_in_body}
 use Rattle.shm_graph.proofs.KindKeeping.{in_frame, kept_from}
 use Rattle.shm_graph.proofs.MemoParts.{parts, put_parts, put_same}
 use Rattle.shm_laws.specs.Preparing.{IsMaking, PrepareStep, prepare_view, words_with}
 use Rattle.shm_laws.proofs.MakingStore.{prepare_kept, prepare_quiet}
 use Rattle.shm_steps.specs.Preparing.{MayTag, MayBody}
-use Rattle.shm_steps.proofs.PageSteps.{spot_there}
 use Rattle.shm_steps.proofs.BlockTold.{dying_false, dying_block, no_dying_at, stored_prepared, tag_prepared, body_prepared, class_is_read}
 
 -- ---- what the memo tells of the block

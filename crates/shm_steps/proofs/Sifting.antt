@@ -3,7 +3,6 @@ use Rattle.std.specs.List.{All, Contains, filter}
 use Rattle.shm_laws.proofs.Keep.{All-kept}
 use Rattle.shm_graph.specs.declared.spot.Spot.TheVariants.{Body, Front, Slot, Tag, Tail}
 use Rattle.std.proofs.lemmas.List.Elements.{Contains-append_left}
-use Rattle.std.proofs.lemmas.Map.Views.{Contains-from_any}
 use Rattle.shm_graph.specs.Tables.{Contents, HasShape, contents_of}
 use Rattle.shm_words.specs.declared.geometry.Geometry.{Geometry}
 use Rattle.shm_graph.proofs.Holders.{Holds, InReach}
@@ -42,10 +41,6 @@ sift_known c tag body slot tail front untaken untaken' latch reach reach' dying 
 -- value blocks keep their shape
 pub sift_values : (x x' : Contents) (c : ℕ) (n : Memo) (reach reach' : ℕ → Type 0) → ((b : ℕ) → HasShape x 0 1 b → HasShape x' 0 1 b) → ((b : ℕ) → is_reached c n b ≡ true → reach' b) → (bs : List ℕ) → All (ValueAt x reach) bs → All (ValueAt x' reach') (filter (is_reached c n) bs)
 sift_values x x' c n reach reach' shape hr bs h = All-kept (ValueAt x reach) (ValueAt x' reach') (is_reached c n) (λ b e y. (shape b y.0, hr b e)) bs h
-
--- what the memo lists as dying
-pub dying_listed : (m : Memo) (b : ℕ) → is_dying m b ≡ true → Contains m.dying b
-dying_listed m b e = Contains-from_any eqb-true b m.dying e
 
 -- a dying block stays one where another one joins
 pub dying_more : (n b : ℕ) (bs : List ℕ) (d : ℕ) → Contains bs d → Contains (dying_after n b bs) d

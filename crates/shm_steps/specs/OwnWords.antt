@@ -17,7 +17,7 @@ use Rattle.shm_laws.specs.Steps.{Closes}
 use Rattle.shm_steps.specs.Conditions.{IsHere}
 
 -- the row of another client may show the era x: it grows, and a header that was read shows that client with an era of at least x
-pub record MayRaise (c : ℕ) (m : Memo) (j x : ℕ) : Type 0 where
+pub record MayShow (c : ℕ) (m : Memo) (j x : ℕ) : Type 0 where
   pub here : IsHere m
   pub other : c ≢ j
   pub more : own_word m.own (Era c j) ≤ x

@@ -41,7 +41,7 @@ pub record MayLatch (c : ℕ) (m : Memo) (a : ℕ) : Type 0 where
 -- ---- a free block that is prepared
 
 -- no block is prepared, the header of b was read as 0, and the class of its page was read too, which isn't 0
-pub record MayBegin (g : Geometry) (m : Memo) (b : ℕ) : Type 0 where
+pub record MayStart (g : Geometry) (m : Memo) (b : ℕ) : Type 0 where
   pub none : m.making ≡ None
   pub read : Contains m.zeros (Head b)
   pub told : class_told g m.facts b ≢ 0
@@ -58,7 +58,7 @@ pub record MayPrepare (m : Memo) (b x : ℕ) (k : Making) : Type 0 where
 pub record MayPrepareNew (g : Geometry) (m : Memo) (b x : ℕ) : Type 0 where
   pub here : IsHere m
   pub idle : m.op ≡ Nothing
-  pub begin : MayBegin g m b
+  pub begin : MayStart g m b
   pub small : x < 2 ^ 64
 
 -- the tag of b may be stored

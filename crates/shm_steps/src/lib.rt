@@ -7,18 +7,16 @@
 
 mod beginning;
 mod exchanging;
-mod laws;
+mod own;
 mod preparing;
 mod reading;
 mod unlatching;
+mod writing;
 
 pub use beginning::{changes_begin, slots_begin, words_begin};
 pub use exchanging::header_exchanges;
-pub use laws::slot_stores;
-pub use preparing::preparing_steps;
-
-mod own;
-
 pub use own::{own_stores, root_begins};
+pub use preparing::preparing_steps;
 pub use reading::body_loads;
 pub use unlatching::latch_given_back;
+pub use writing::slot_stores;

@@ -16,13 +16,13 @@ ghost use Rattle.shm_graph.specs.Held.{HeldAt};
 ghost use Rattle.shm_graph.specs.Asks.{Trail};
 ghost use Rattle.shm_graph.specs.Laws.{Frame, Stands, KeptAt};
 ghost use Rattle.shm_laws.specs.Steps.{BeginStep};
-ghost use Rattle.shm_steps.specs.OwnWords.{MayRaise, MayHold, MaySend, MayReceive, MayClose, MayAdd, MayRemove, op_begun};
+ghost use Rattle.shm_steps.specs.OwnWords.{MayShow, MayHold, MaySend, MayReceive, MayClose, MayAdd, MayRemove, op_begun};
 
 /// Own words are stored: the row of another client, the own hold word, which may be a machine's first step, the tail of a queue to
 /// another client and the head of one from another, the own era, which closes a step or half of a change, and the redo word, which begins
 /// a step.
 pub fn own_stores()
-    ensures row { (me : AMe) (w : ASpot → ℕ) (r : ℕ → AMemo) (f : Frame) (tr : Trail) (at j x : ℕ) → Stands me w r f tr → f.fresh ≡ false → spot_at me.geometry (classes w) at ≡ Era me.who j → MayRaise me.who (r me.who) j x → KeptAt me w r (Store at x) f (λ n m. Unit {0}) (spot_at me.geometry (classes w) at) }
+    ensures row { (me : AMe) (w : ASpot → ℕ) (r : ℕ → AMemo) (f : Frame) (tr : Trail) (at j x : ℕ) → Stands me w r f tr → f.fresh ≡ false → spot_at me.geometry (classes w) at ≡ Era me.who j → MayShow me.who (r me.who) j x → KeptAt me w r (Store at x) f (λ n m. Unit {0}) (spot_at me.geometry (classes w) at) }
     ensures hold { (me : AMe) (w : ASpot → ℕ) (r : ℕ → AMemo) (f : Frame) (tr : Trail) (at x : ℕ) → Stands me w r f tr → spot_at me.geometry (classes w) at ≡ Hold me.who → MayHold me.geometry.clients (r me.who) x → KeptAt me w r (Store at x) f (λ n m. Unit {0}) (spot_at me.geometry (classes w) at) }
     ensures tail { (me : AMe) (w : ASpot → ℕ) (r : ℕ → AMemo) (f : Frame) (tr : Trail) (at i : ℕ) → Stands me w r f tr → f.fresh ≡ false → spot_at me.geometry (classes w) at ≡ Tail me.who i → MaySend me.geometry.clients me.who (r me.who) i → KeptAt me w r (Store at (own_word (r me.who).own (Tail me.who i) + 1)) f (λ n m. Unit {0}) (spot_at me.geometry (classes w) at) }
     ensures head { (me : AMe) (w : ASpot → ℕ) (r : ℕ → AMemo) (f : Frame) (tr : Trail) (at i : ℕ) → Stands me w r f tr → f.fresh ≡ false → spot_at me.geometry (classes w) at ≡ Front i me.who → MayReceive me.geometry.clients me.who (r me.who) i → KeptAt me w r (Store at (own_word (r me.who).own (Front i me.who) + 1)) f (λ n m. Unit {0}) (spot_at me.geometry (classes w) at) }

@@ -1,4 +1,4 @@
-//! The laws of the kinds of word step, as machines use them.
+//! The laws of the stores into slots, as machines use them.
 
 ghost use Rattle.std.specs.Prelude.{◌≡◌, ℕ, ◌^◌, ◌<◌, false};
 ghost use Rattle.shm_graph.specs.declared.ask.Ask.TheVariants.{Store};
