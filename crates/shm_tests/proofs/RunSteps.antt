@@ -55,8 +55,19 @@ ready_acts p c l = ap acts (ready_memo p c l) ∙ go (acts (memo_of p c)) refl
     go false e = acts-entered _ (memo_of p c)
 
 -- where one acts already, it is the pool itself
-ready_still : (p : Pool) (c : ℕ) → acts (memo_of p c) ≡ true → memo_of (readied p c) c ≡ memo_of p c
+pub ready_still : (p : Pool) (c : ℕ) → acts (memo_of p c) ≡ true → memo_of (readied p c) c ≡ memo_of p c
 ready_still p c e = ap (λ (b : Bool). memos_of (cond b p.accounts (changed (account_entered (kind_next (memo_of p c))) p.accounts c)) c) e
+
+-- its status is what it was
+pub ready_status : (p : Pool) (c : ℕ) → c < length p.accounts → (memo_of (readied p c) c).status ≡ (memo_of p c).status
+ready_status p c l = ap (λ (m : Memo). m.status) (ready_memo p c l) ∙ go (acts (memo_of p c))
+  where
+    m : Memo
+    m = memo_of p c
+
+    go : (b : Bool) → (cond b m (entered (kind_next m) m)).status ≡ m.status
+    go true = refl
+    go false = refl
 
 -- ---- the agent after a step
 
