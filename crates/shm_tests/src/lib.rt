@@ -10,4 +10,6 @@ pub use driving::{joined, run};
 pub use joining::{Stepped, step_join};
 
 #[cfg(test)]
+mod allocating_tests;
+#[cfg(test)]
 mod tests;
