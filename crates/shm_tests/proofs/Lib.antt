@@ -1,2 +1,3 @@
 pub mod FirstJoin
 pub mod RunSteps
+pub mod Answering

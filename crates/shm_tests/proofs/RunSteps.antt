@@ -61,6 +61,17 @@ ready_still p c e = ap (λ (b : Bool). memos_of (cond b p.accounts (changed (acc
 pub may_acting : (p : Pool) (c : ℕ) → acts (memo_of p c) ≡ true → MayStep p c
 may_acting p c e f = absurd (true≢false (sym e ∙ f))
 
+-- its status is what it was
+pub ready_status : (p : Pool) (c : ℕ) → c < length p.accounts → (memo_of (readied p c) c).status ≡ (memo_of p c).status
+ready_status p c l = ap (λ (m : Memo). m.status) (ready_memo p c l) ∙ go (acts (memo_of p c))
+  where
+    m : Memo
+    m = memo_of p c
+
+    go : (b : Bool) → (cond b m (entered (kind_next m) m)).status ≡ m.status
+    go true = refl
+    go false = refl
+
 -- ---- the agent after a step
 
 gone_is : (s : AStatus) → is_gone s ≡ true → s ≡ Gone
