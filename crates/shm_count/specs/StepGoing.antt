@@ -48,6 +48,18 @@ module _ (me : Me) (slot : ℕ) (x : Aim) where
 
   -- ---- the exchange of a half
 
+  -- the exchange of a half from header w, where it is tried again at most n times
+  abbrev exchange_from : ℕ → Part → ℕ → ℕ → StepTrails
+  exchange_from e h n w = exchange_trail me (raises x h) (block_at x h) e w (again_trail me slot x e h n) (after_set me slot x e h)
+
+  -- the store in the own row, and that exchange
+  abbrev show_from : ℕ → Part → ℕ → ℕ → StepTrails
+  show_from e h n w = show_trail me (raises x h) (block_at x h) e w (again_trail me slot x e h n) (after_set me slot x e h)
+
+  -- the load of the own row, and what follows
+  abbrev row_from : ℕ → Part → ℕ → ℕ → StepTrails
+  row_from e h n w = row_trail me (raises x h) (block_at x h) e w (again_trail me slot x e h n) (after_set me slot x e h)
+
   -- what a header w leads to in a half, where the exchange is tried again at most n times
   abbrev by_header : ℕ → Part → ℕ → ℕ → StepTrails
   by_header e h n w = header_trail me (raises x h) (block_at x h) e w (again_trail me slot x e h n) (after_set me slot x e h)
@@ -66,8 +78,7 @@ module _ (me : Me) (slot : ℕ) (x : Aim) where
   after_header e h w tr a t = let k = go (raises x h && ((header_of w).count == 1023)) ((header_of w).client == me.who) t in (k.0, tries e h k.0 w tr a k.1)
     where
       go : (full own : Bool) → next_trail (if full then Answer (Err (CountFull (block_at x h) (header_of w).count)) else if own then Point (point.Exchange e h w) else Point (point.Row e h w)) tr a
-          → (n : ℕ) × Chosen full (Answers (Err (CountFull (block_at x h) (header_of w).count)))
-              (Chosen own (exchange_trail me (raises x h) (block_at x h) e w (again_trail me slot x e h n) (after_set me slot x e h)) (row_trail me (raises x h) (block_at x h) e w (again_trail me slot x e h n) (after_set me slot x e h))) tr a
+          → (n : ℕ) × Chosen full (Answers (Err (CountFull (block_at x h) (header_of w).count))) (Chosen own (exchange_from e h n w) (row_from e h n w)) tr a
       go true own u = (0, u)
       go false true u = u
       go false false u = u
@@ -91,7 +102,7 @@ module _ (me : Me) (slot : ℕ) (x : Aim) where
   row_goes e h w n rest a t = let k = go (nat_lt n (header_of w).era) t in (k.0, (n, (rest, (refl, k.1))))
     where
       go : (b : Bool) → next_trail (if b then Point (point.Show e h w) else Point (point.Exchange e h w)) rest a
-          → (k : ℕ) × Chosen b (show_trail me (raises x h) (block_at x h) e w (again_trail me slot x e h k) (after_set me slot x e h)) (exchange_trail me (raises x h) (block_at x h) e w (again_trail me slot x e h k) (after_set me slot x e h)) rest a
+          → (k : ℕ) × Chosen b (show_from e h k w) (exchange_from e h k w) rest a
       go true u = u
       go false u = u
 
