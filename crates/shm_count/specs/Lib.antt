@@ -2,3 +2,4 @@ pub mod StepControl
 pub mod StepTrail
 pub mod StepEvents
 pub mod StepFits
+pub mod StepGoing

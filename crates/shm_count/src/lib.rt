@@ -4,7 +4,9 @@
 #![tactic(auto)]
 
 pub mod answer;
+pub mod bound;
 pub mod point;
 
 pub use answer::{EraSpent, Made, UpFault};
+pub use bound::step_bound;
 pub use point::{Aim, Next, Part, StepPoint, StepState};
