@@ -2,3 +2,5 @@ pub mod StepControl
 pub mod StepTrail
 pub mod StepEvents
 pub mod StepFits
+pub mod StepKnowing
+pub mod StepLaws
