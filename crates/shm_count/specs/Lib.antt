@@ -4,3 +4,4 @@ pub mod StepEvents
 pub mod StepFits
 pub mod StepKnowing
 pub mod StepLaws
+pub mod StepMachines

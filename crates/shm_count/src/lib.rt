@@ -5,6 +5,8 @@
 
 pub mod answer;
 pub mod point;
+pub mod step;
 
 pub use answer::{EraSpent, Made, UpFault};
 pub use point::{Aim, Next, Part, StepPoint, StepState};
+pub use step::{StepChange, StepDown, StepUp};

@@ -79,22 +79,22 @@ outcome_more : {A : Type 0} (o : Option A) (P P' : Type 0) (Q Q' : A → Type 0)
 outcome_more None P P' Q Q' f g h = f h
 outcome_more (Some a) P P' Q Q' f g h = g a h
 
+-- it fits, and gives, for some x
+abbrev pub SomeFits : {S X : Type 0} → (X → OnTheWay S) → OnTheWay S
+SomeFits {S} {X} fits m r0 r tr = (x : X) × fits x m r0 r tr
+
+abbrev pub SomeGives : {S A X : Type 0} → (X → AtTheEnd S A) → AtTheEnd S A
+SomeGives {S} {A} {X} gives m r0 r tr a = (x : X) × gives x m r0 r tr a
+
 module _ {S A X : Type 0} (k : Control S A) (fits : X → OnTheWay S) (gives : X → AtTheEnd S A) where
-  -- it fits, and gives, for some x
-  abbrev pub SomeFits : OnTheWay S
-  SomeFits m r0 r tr = (x : X) × fits x m r0 r tr
-
-  abbrev pub SomeGives : AtTheEnd S A
-  SomeGives m r0 r tr a = (x : X) × gives x m r0 r tr a
-
-  some_keeps : ((x : X) → Keeps k (fits x) (gives x)) → Keeps k SomeFits SomeGives
+  some_keeps : ((x : X) → Keeps k (fits x) (gives x)) → Keeps k (SomeFits fits) (SomeGives gives)
   some_keeps h m r0 tr going w r frame s fit =
-      followed (k.me m) w r (k.asks m) frame (Then k (fits fit.0) (gives fit.0) m r0 tr) (Then k SomeFits SomeGives m r0 tr) _
-      (λ n z. outcome_more (k.turns m n) _ _ (gives fit.0 m r0 z (tr ++ pair (k.asks m) n ∷ [])) (SomeGives m r0 z (tr ++ pair (k.asks m) n ∷ [])) (λ q. (fit.0, q)) (λ a q. (fit.0, q)))
+      followed (k.me m) w r (k.asks m) frame (Then k (fits fit.0) (gives fit.0) m r0 tr) (Then k (SomeFits fits) (SomeGives gives) m r0 tr) _
+      (λ n z. outcome_more (k.turns m n) _ _ (gives fit.0 m r0 z (tr ++ pair (k.asks m) n ∷ [])) (SomeGives gives m r0 z (tr ++ pair (k.asks m) n ∷ [])) (λ q. (fit.0, q)) (λ a q. (fit.0, q)))
       (h fit.0 m r0 tr going w r frame s fit.1)
 
   -- the laws for each x are laws for some x
-  pub some_laws : Steady k → ((x : X) → Inside k (fits x)) → ((x : X) → Back k (gives x)) → ((x : X) → Keeps k (fits x) (gives x)) → Laws k SomeFits SomeGives
+  pub some_laws : Steady k → ((x : X) → Inside k (fits x)) → ((x : X) → Back k (gives x)) → ((x : X) → Keeps k (fits x) (gives x)) → Laws k (SomeFits fits) (SomeGives gives)
   some_laws steady inside back keeps =
       record {
         steady = steady;
@@ -105,22 +105,22 @@ module _ {S A X : Type 0} (k : Control S A) (fits : X → OnTheWay S) (gives : X
 
 -- ---- what holds of states that a control doesn't leave
 
+-- it fits, and gives, and is one of the states Q
+abbrev pub AmongFits : {S : Type 0} → (S → Type 0) → OnTheWay S → OnTheWay S
+AmongFits Q fits m r0 r tr = Q m × fits m r0 r tr
+
+abbrev pub AmongGives : {S A : Type 0} → (S → Type 0) → AtTheEnd S A → AtTheEnd S A
+AmongGives Q gives m r0 r tr a = Q m × gives m r0 r tr a
+
 module _ {S A : Type 0} (k : Control S A) (fits : OnTheWay S) (gives : AtTheEnd S A) (Q : S → Type 0) where
-  -- it fits, and gives, and is one of the states
-  abbrev pub AmongFits : OnTheWay S
-  AmongFits m r0 r tr = Q m × fits m r0 r tr
-
-  abbrev pub AmongGives : AtTheEnd S A
-  AmongGives m r0 r tr a = Q m × gives m r0 r tr a
-
-  among_keeps : ((m : S) (n : ℕ) → Q m → Q (k.after m n)) → Keeps k fits gives → Keeps k AmongFits AmongGives
+  among_keeps : ((m : S) (n : ℕ) → Q m → Q (k.after m n)) → Keeps k fits gives → Keeps k (AmongFits Q fits) (AmongGives Q gives)
   among_keeps stays h m r0 tr going w r frame s fit =
-      followed (k.me m) w r (k.asks m) frame (Then k fits gives m r0 tr) (Then k AmongFits AmongGives m r0 tr) _
-      (λ n z. outcome_more (k.turns m n) _ _ (gives m r0 z (tr ++ pair (k.asks m) n ∷ [])) (AmongGives m r0 z (tr ++ pair (k.asks m) n ∷ [])) (λ q. (stays m n fit.0, q)) (λ a q. (fit.0, q)))
+      followed (k.me m) w r (k.asks m) frame (Then k fits gives m r0 tr) (Then k (AmongFits Q fits) (AmongGives Q gives) m r0 tr) _
+      (λ n z. outcome_more (k.turns m n) _ _ (gives m r0 z (tr ++ pair (k.asks m) n ∷ [])) (AmongGives Q gives m r0 z (tr ++ pair (k.asks m) n ∷ [])) (λ q. (stays m n fit.0, q)) (λ a q. (fit.0, q)))
       (h m r0 tr going w r frame s fit.1)
 
   -- laws stay laws among states that no step enters or leaves
-  pub among_laws : ((m : S) (n : ℕ) → Q m → Q (k.after m n)) → ((m : S) (n : ℕ) → Q (k.after m n) → Q m) → Laws k fits gives → Laws k AmongFits AmongGives
+  pub among_laws : ((m : S) (n : ℕ) → Q m → Q (k.after m n)) → ((m : S) (n : ℕ) → Q (k.after m n) → Q m) → Laws k fits gives → Laws k (AmongFits Q fits) (AmongGives Q gives)
   among_laws stays came h =
       record {
         steady = h.steady;
