@@ -6,7 +6,9 @@
 pub mod answer;
 pub mod bound;
 pub mod point;
+pub mod step;
 
 pub use answer::{EraSpent, Made, UpFault};
 pub use bound::step_bound;
 pub use point::{Aim, Next, Part, StepPoint, StepState};
+pub use step::{StepChange, StepDown, StepUp};

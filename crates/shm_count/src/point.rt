@@ -1,5 +1,14 @@
 //! The control of a count step: which word it asks for, and where it goes by the word found.
 
+ghost use Rattle.std.specs.Prelude.{◌≡◌, ◌≢◌, ◌+◌, ◌<◌, ◌≤◌, ◌^◌, true};
+ghost use Rattle.shm_words.specs.Layout.{GeometryFits};
+ghost use Rattle.shm_words.specs.Headers.{header_of};
+ghost use Rattle.shm_words.specs.Redos.{redo_word};
+ghost use Rattle.shm_graph.specs.declared.ask.Ask.TheVariants as asks;
+ghost use Rattle.shm_count.specs.StepControl.{AimSmall, EraFits, PartFits, CountFits, StepKnows};
+ghost use Rattle.shm_count.specs.StepControl as control;
+ghost use Rattle.shm_count.specs.declared.point.StepPoint.TheVariants as point;
+
 use crate::answer::UpFault;
 use shm_graph::{Ask, Me};
 use shm_words::{Header, Redo};
@@ -63,7 +72,9 @@ pub enum Next {
 
 impl Aim {
     /// The greatest own era that leaves room for the step.
-    fn last_era(self) -> u64 {
+    fn last_era(self) -> u64
+        ensures { result ≡ control.last_era self }
+    {
         match self {
             Aim::Change { .. } => (1 << 47) - 4,
             _ => (1 << 47) - 3,
@@ -71,7 +82,9 @@ impl Aim {
     }
 
     /// The block whose count changes.
-    fn block(self, part: Part) -> u32 {
+    fn block(self, part: Part) -> u32
+        ensures { result ≡ control.block_at self part }
+    {
         match (self, part) {
             (Aim::Up { block } | Aim::Down { block }, _) => block,
             (Aim::Change { after, .. }, Part::First) => after,
@@ -80,7 +93,9 @@ impl Aim {
     }
 
     /// Whether the count goes up.
-    fn raises(self, part: Part) -> bool {
+    fn raises(self, part: Part) -> bool
+        ensures { result ≡ control.raises self part }
+    {
         match (self, part) {
             (Aim::Up { .. }, _) | (Aim::Change { .. }, Part::First) => true,
             _ => false,
@@ -88,7 +103,9 @@ impl Aim {
     }
 
     /// What the slot comes to hold.
-    fn value(self) -> u32 {
+    fn value(self) -> u32
+        ensures { result ≡ control.value_after self }
+    {
         match self {
             Aim::Up { block } => block,
             Aim::Down { .. } => 0,
@@ -97,7 +114,9 @@ impl Aim {
     }
 
     /// The redo record at an era.
-    fn redo(self, slot: u32, era: u64) -> Redo {
+    fn redo(self, slot: u32, era: u64) -> Redo
+        ensures { result ≡ control.redo_at self slot era }
+    {
         match self {
             Aim::Up { block } => Redo::Up { slot, block },
             Aim::Down { block } => Redo::Down { slot, block },
@@ -113,23 +132,28 @@ impl Aim {
 
 impl StepState {
     /// The header that the block comes to have.
-    fn new_header(self, era: u64, part: Part, header: u64) -> u64 {
+    fn new_header(self, era: u64, part: Part, header: u64) -> u64
+        requires who { self.me.who < 16 }
+        requires era { era < 2 ^ 47 }
+        requires count { CountFits self.aim part header }
+        ensures { result ≡ control.header_after self.me self.aim era part header }
+    {
         let count = Header::unpack(header).count;
         Header {
             live: true,
             client: self.me.who,
-            count: if self.aim.raises(part) {
-                count + 1
-            } else {
-                count.saturating_sub(1)
-            },
+            count: count_after(self.aim.raises(part), count),
             era,
         }
         .pack()
     }
 
     /// The address of the own row's word for a client; no header shows a client that the pool hasn't.
-    fn row(self, client: u8) -> u32 {
+    fn row(self, client: u8) -> u32
+        requires geometry { GeometryFits self.me.geometry }
+        requires who { self.me.who < self.me.geometry.clients }
+        ensures { result ≡ control.row_address self.me client }
+    {
         let Me { geometry, who } = self.me;
         if client < geometry.clients() {
             geometry.era(who, client)
@@ -138,30 +162,51 @@ impl StepState {
         }
     }
 
+    /// The store of the redo record.
+    fn begin(self, era: u64) -> Ask
+        requires geometry { GeometryFits self.me.geometry }
+        requires who { self.me.who < self.me.geometry.clients }
+        requires slot { self.slot < 2 ^ 20 }
+        requires aim { AimSmall self.aim }
+        ensures { result ≡ control.step_ask_at self.me self.slot self.aim (point.Redo era) }
+    {
+        Ask::Store {
+            at: self.me.geometry.redo(self.me.who),
+            value: self.aim.redo(self.slot, era).pack(),
+        }
+    }
+
+    /// The store of the header's era in the own row.
+    fn show(self, header: u64) -> Ask
+        requires geometry { GeometryFits self.me.geometry }
+        requires who { self.me.who < self.me.geometry.clients }
+        ensures { result ≡ asks.Store (control.row_address self.me (header_of header).client) (header_of header).era }
+    {
+        let Header { client, era, .. } = Header::unpack(header);
+        Ask::Store {
+            at: self.row(client),
+            value: era,
+        }
+    }
+
     /// The word step that comes next.
-    pub fn ask(self) -> Ask {
+    pub fn ask(self) -> Ask
+        requires { StepKnows self }
+        ensures { result ≡ control.step_ask self }
+    {
         let Me { geometry, who } = self.me;
         match self.point {
             StepPoint::Era => Ask::Load {
                 at: geometry.era(who, who),
             },
-            StepPoint::Redo { era } => Ask::Store {
-                at: geometry.redo(who),
-                value: self.aim.redo(self.slot, era).pack(),
-            },
+            StepPoint::Redo { era } => self.begin(era),
             StepPoint::Load { part, .. } => Ask::Load {
                 at: self.aim.block(part),
             },
             StepPoint::Row { header, .. } => Ask::Load {
                 at: self.row(Header::unpack(header).client),
             },
-            StepPoint::Show { header, .. } => {
-                let Header { client, era, .. } = Header::unpack(header);
-                Ask::Store {
-                    at: self.row(client),
-                    value: era,
-                }
-            }
+            StepPoint::Show { header, .. } => self.show(header),
             StepPoint::Exchange { era, part, header } => Ask::Exchange {
                 at: self.aim.block(part),
                 from: header,
@@ -180,7 +225,10 @@ impl StepState {
     }
 
     /// Where it goes by the word that it found.
-    pub fn next(self, seen: u64) -> Next {
+    pub fn next(self, seen: u64) -> Next
+        requires { StepKnows self }
+        ensures { result ≡ control.step_next self seen }
+    {
         match self.point {
             StepPoint::Era => self.era_next(seen),
             StepPoint::Redo { era } => Next::Point(StepPoint::Load {
@@ -209,7 +257,10 @@ impl StepState {
         }
     }
 
-    fn era_next(self, seen: u64) -> Next {
+    /// Where it goes by the own era.
+    fn era_next(self, seen: u64) -> Next
+        ensures { result ≡ control.era_next self.aim seen }
+    {
         if seen > self.aim.last_era() {
             Next::Answer(Err(UpFault::EraSpent { era: seen }))
         } else {
@@ -218,7 +269,9 @@ impl StepState {
     }
 
     /// Where it goes by the header of its block.
-    fn header_next(self, era: u64, part: Part, header: u64) -> Next {
+    fn header_next(self, era: u64, part: Part, header: u64) -> Next
+        ensures { result ≡ control.header_next self.me self.aim era part header }
+    {
         let Header { client, count, .. } = Header::unpack(header);
         if self.aim.raises(part) && count == 1023 {
             let block = self.aim.block(part);
@@ -230,9 +283,18 @@ impl StepState {
         }
     }
 
+    /// Whether the count comes to 0.
+    fn comes_to_zero(self, part: Part, header: u64) -> bool
+        ensures { result ≡ control.comes_to_zero self.aim part header }
+    {
+        !self.aim.raises(part) && Header::unpack(header).count == 1
+    }
+
     /// Where it goes once the header is exchanged.
-    fn committed(self, era: u64, part: Part, header: u64) -> Next {
-        let zero = !self.aim.raises(part) && Header::unpack(header).count == 1;
+    fn committed(self, era: u64, part: Part, header: u64) -> Next
+        ensures { result ≡ control.committed_next self.aim era part header }
+    {
+        let zero = self.comes_to_zero(part, header);
         Next::Point(match part {
             Part::First => StepPoint::Slot { era, zero },
             Part::Second => StepPoint::Close { era, part, zero },
@@ -240,7 +302,10 @@ impl StepState {
     }
 
     /// Where it goes once the own era is stored.
-    fn closed(self, era: u64, part: Part, zero: bool) -> Next {
+    fn closed(self, era: u64, part: Part, zero: bool) -> Next
+        requires { EraFits self.aim era part }
+        ensures { result ≡ control.closed_next self.aim era part zero }
+    {
         match (self.aim, part) {
             (Aim::Change { .. }, Part::First) => Next::Point(StepPoint::Load {
                 era: era + 1,
@@ -251,7 +316,22 @@ impl StepState {
     }
 }
 
-fn row_next(era: u64, part: Part, header: u64, seen: u64) -> Next {
+/// The count after a step up or down.
+fn count_after(up: bool, count: u16) -> u16
+    requires small { count < 1024 }
+    ensures { result ≡ control.count_after up count }
+{
+    if up {
+        count + 1
+    } else {
+        count.saturating_sub(1)
+    }
+}
+
+/// Where it goes by the own row's word for the header's client.
+fn row_next(era: u64, part: Part, header: u64, seen: u64) -> Next
+    ensures { result ≡ control.row_next era part header seen }
+{
     if seen < Header::unpack(header).era {
         Next::Point(StepPoint::Show { era, part, header })
     } else {

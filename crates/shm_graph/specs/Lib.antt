@@ -25,3 +25,4 @@ pub mod CallEvents
 pub mod Trails
 pub mod Tells
 pub mod Idle
+pub mod Mapped

@@ -1,0 +1,174 @@
+//! Count steps as machines: a reference word comes to name a block, comes to be empty, or comes to name another block.
+
+ghost use Rattle.std.specs.Prelude.{◌≡◌, ◌<◌, ◌^◌};
+ghost use Rattle.shm_words.specs.Layout.{GeometryFits};
+ghost use Rattle.shm_count.specs.declared.point.Aim.TheVariants as aims;
+ghost use Rattle.shm_count.specs.declared.point.StepPoint.TheVariants.{Era};
+ghost use Rattle.shm_count.specs.StepControl.{StepKnows, step_next, answer_of, step_control, is_over};
+ghost use Rattle.shm_count.specs.StepMachines as machines;
+
+use crate::answer::{EraSpent, UpFault};
+use crate::point::{Aim, Next, StepPoint, StepState};
+use shm_graph::Me;
+use std::marker::Model;
+
+impl StepState {
+    /// A step for the identity `me` at a slot, before its first word step.
+    fn begins(me: Me, slot: u32, aim: Aim) -> StepState
+        ensures { result ≡ record { me = me; slot = slot; aim = aim; point = Era } }
+    {
+        let point = StepPoint::Era;
+        StepState {
+            me,
+            slot,
+            aim,
+            point,
+        }
+    }
+
+    /// Whether it has answered.
+    fn is_over(&self) -> bool
+        ensures { result ≡ is_over self.now.point }
+    {
+        matches!(self.point, StepPoint::Over)
+    }
+
+    /// Takes the word that was found; its answer, once it is done.
+    fn take(&mut self, seen: u64) -> Option<Result<bool, UpFault>>
+        requires { StepKnows self.old }
+        ensures state { self.new ≡ step_control.after self.old seen }
+        ensures answer { result ≡ answer_of (step_next self.old seen) }
+    {
+        match self.next(seen) {
+            Next::Point(point) => {
+                self.point = point;
+                None
+            }
+            Next::Answer(answer) => {
+                self.point = StepPoint::Over;
+                Some(answer)
+            }
+        }
+    }
+}
+
+/// An empty reference word comes to name a block, whose count goes up.
+#[derive(Drop)]
+pub struct StepUp {
+    state: StepState,
+}
+
+impl Model for StepUp {
+    ghost use Rattle.shm_count.specs.declared.point.StepState.{StepState as AState};
+
+    ghost Value = { AState };
+
+    ghost view = { λ a. a.state };
+
+    ghost use Rattle.shm_count.specs.StepControl.{StepKnows};
+
+    ghost invariant = { λ a. StepKnows a.state };
+}
+
+impl StepUp {
+    /// The step of the identity `me` by which the word at `slot` comes to name `block`.
+    pub fn new(me: Me, slot: u32, block: u32) -> StepUp
+        requires geometry { GeometryFits me.geometry }
+        requires who { me.who < me.geometry.clients }
+        requires slot { slot < 2 ^ 20 }
+        requires block { block < 2 ^ 20 }
+        ensures { result ≡ record { me = me; slot = slot; aim = aims.Up block; point = Era } }
+    {
+        StepUp {
+            state: StepState::begins(me, slot, Aim::Up { block }),
+        }
+    }
+}
+
+/// A reference word that names a block comes to be empty, and the block's count goes down.
+#[derive(Drop)]
+pub struct StepDown {
+    state: StepState,
+}
+
+impl Model for StepDown {
+    ghost use Rattle.shm_count.specs.declared.point.StepState.{StepState as AState};
+
+    ghost Value = { AState };
+
+    ghost view = { λ a. a.state };
+
+    ghost use Rattle.shm_count.specs.StepControl.{StepKnows};
+
+    ghost invariant = { λ a. StepKnows a.state };
+}
+
+impl StepDown {
+    /// The step of the identity `me` by which the word at `slot`, which names `block`, comes to be empty.
+    pub fn new(me: Me, slot: u32, block: u32) -> StepDown
+        requires geometry { GeometryFits me.geometry }
+        requires who { me.who < me.geometry.clients }
+        requires slot { slot < 2 ^ 20 }
+        requires block { block < 2 ^ 20 }
+        ensures { result ≡ record { me = me; slot = slot; aim = aims.Down block; point = Era } }
+    {
+        StepDown {
+            state: StepState::begins(me, slot, Aim::Down { block }),
+        }
+    }
+}
+
+/// A reference word that names a block comes to name another one: its count goes up, and that of the block before goes down.
+#[derive(Drop)]
+pub struct StepChange {
+    state: StepState,
+}
+
+impl Model for StepChange {
+    ghost use Rattle.shm_count.specs.declared.point.StepState.{StepState as AState};
+
+    ghost Value = { AState };
+
+    ghost view = { λ a. a.state };
+
+    ghost use Rattle.shm_count.specs.StepControl.{StepKnows};
+
+    ghost invariant = { λ a. StepKnows a.state };
+}
+
+impl StepChange {
+    /// The step of the identity `me` by which the word at `slot`, which names `before`, comes to name `after`.
+    pub fn new(me: Me, slot: u32, before: u32, after: u32) -> StepChange
+        requires geometry { GeometryFits me.geometry }
+        requires who { me.who < me.geometry.clients }
+        requires slot { slot < 2 ^ 20 }
+        requires before { before < 2 ^ 20 }
+        requires after { after < 2 ^ 20 }
+        ensures { result ≡ record { me = me; slot = slot; aim = aims.Change before after; point = Era } }
+    {
+        StepChange {
+            state: StepState::begins(me, slot, Aim::Change { before, after }),
+        }
+    }
+}
+
+/// What an answer says of a step up: no count comes to 0.
+fn up_answer(answer: Result<bool, UpFault>) -> Result<(), UpFault>
+    ensures { result ≡ machines.up_answer answer }
+{
+    match answer {
+        Ok(_) => Ok(()),
+        Err(fault) => Err(fault),
+    }
+}
+
+/// What an answer says of a step down: no count that goes down is full.
+fn down_answer(answer: Result<bool, UpFault>) -> Result<bool, EraSpent>
+    ensures { result ≡ machines.down_answer answer }
+{
+    match answer {
+        Ok(zero) => Ok(zero),
+        Err(UpFault::EraSpent { era }) => Err(EraSpent { era }),
+        Err(UpFault::CountFull { .. }) => Err(EraSpent { era: 0 }),
+    }
+}
