@@ -1,7 +1,7 @@
 -- a word step joins the call: what of the memo stays, and that the pool still holds
 use Rattle.std.proofs.Common.{◌≡◌, ℕ, ◌<◌, sym, ap, ◌∙◌, subst, Bool, true, false, List, [], ◌∷◌, Option}
 use Rattle.std.specs.Prelude.{None}
-use Rattle.std.proofs.lemmas.List.Elements.{All-nil, All-cons}
+use Rattle.std.proofs.lemmas.List.Elements.{All-nil, All-cons, All-filter}
 use Rattle.shm_words.specs.declared.geometry.Geometry.{Geometry}
 use Rattle.shm_graph.specs.declared.spot.Spot.{Spot}
 use Rattle.shm_graph.specs.declared.memo.Fact.{Fact}
@@ -13,7 +13,8 @@ use Rattle.shm_graph.specs.declared.memo.Agent.{Agent}
 use Rattle.shm_graph.specs.Asks.{call_after}
 use Rattle.shm_graph.specs.Views.{View, view, at1}
 use Rattle.shm_graph.specs.Held.{HeldAt}
-use Rattle.shm_graph.specs.Changes.{called}
+use Rattle.std.specs.List.{filter}
+use Rattle.shm_graph.specs.Changes.{is_lane_count, called}
 use Rattle.shm_graph.specs.Agents.{with_last, stepped}
 use Rattle.shm_graph.proofs.Frames.{at1_twice}
 use Rattle.shm_graph.proofs.Lists.{at1_here}
@@ -45,7 +46,7 @@ pub called_held : (g : Geometry) (w : Spot → ℕ) (r : ℕ → Memo) (c : ℕ)
 called_held g w r c t h l = by t.fresh
   where
     by : (b : Bool) → HeldAt g w (view (at1 r c (called (r c) (record t { fresh = b }))))
-    by true = less_held g w r c [] [] None [] (call_after true (r c).call t.ask t.seen) t.ends (with_last stepped (r c).agents) h (All-nil _) (All-nil _) tt (All-nil _)
+    by true = less_held g w r c (filter is_lane_count (r c).facts) [] None [] (call_after true (r c).call t.ask t.seen) t.ends (with_last stepped (r c).agents) h (All-filter is_lane_count (FactHolds g w (view r)) (r c).facts (h.facts c l)) (All-nil _) tt (All-nil _)
     by false = less_held g w r c (r c).facts (r c).zeros None (r c).made (call_after false (r c).call t.ask t.seen) t.ends (with_last stepped (r c).agents) h (h.facts c l) (h.zeros c l) tt (h.made c l)
 
 -- what keeps the pool whatever the memos keeps it with the memo at a step
@@ -63,7 +64,7 @@ pub fact_held : (g : Geometry) (w : Spot → ℕ) (r : ℕ → Memo) (c : ℕ) (
 fact_held g w r c t k test h l new tests = by t.fresh
   where
     by : (b : Bool) → HeldAt g w (view (at1 r c (record (called (r c) (record t { fresh = b })) { facts = k ∷ (called (r c) (record t { fresh = b })).facts; test = test })))
-    by true = less_held g w r c (k ∷ []) [] test [] (call_after true (r c).call t.ask t.seen) t.ends (with_last stepped (r c).agents) h (All-cons (FactHolds g w (view r)) k [] new (All-nil _)) (All-nil _) tests (All-nil _)
+    by true = less_held g w r c (k ∷ filter is_lane_count (r c).facts) [] test [] (call_after true (r c).call t.ask t.seen) t.ends (with_last stepped (r c).agents) h (All-cons (FactHolds g w (view r)) k (filter is_lane_count (r c).facts) new (All-filter is_lane_count (FactHolds g w (view r)) (r c).facts (h.facts c l))) (All-nil _) tests (All-nil _)
     by false = less_held g w r c (k ∷ (r c).facts) (r c).zeros test (r c).made (call_after false (r c).call t.ask t.seen) t.ends (with_last stepped (r c).agents) h (All-cons (FactHolds g w (view r)) k (r c).facts new (h.facts c l)) (h.zeros c l) tests (h.made c l)
 
 -- one more word read as 0
@@ -72,5 +73,5 @@ pub zero_held : (g : Geometry) (w : Spot → ℕ) (r : ℕ → Memo) (c : ℕ) (
 zero_held g w r c t p h l new = by t.fresh
   where
     by : (b : Bool) → HeldAt g w (view (at1 r c (record (called (r c) (record t { fresh = b })) { zeros = p ∷ (called (r c) (record t { fresh = b })).zeros })))
-    by true = less_held g w r c [] (p ∷ []) None [] (call_after true (r c).call t.ask t.seen) t.ends (with_last stepped (r c).agents) h (All-nil _) (All-cons (ZeroHolds g w c) p [] new (All-nil _)) tt (All-nil _)
+    by true = less_held g w r c (filter is_lane_count (r c).facts) (p ∷ []) None [] (call_after true (r c).call t.ask t.seen) t.ends (with_last stepped (r c).agents) h (All-filter is_lane_count (FactHolds g w (view r)) (r c).facts (h.facts c l)) (All-cons (ZeroHolds g w c) p [] new (All-nil _)) tt (All-nil _)
     by false = less_held g w r c (r c).facts (p ∷ (r c).zeros) None (r c).made (call_after false (r c).call t.ask t.seen) t.ends (with_last stepped (r c).agents) h (h.facts c l) (All-cons (ZeroHolds g w c) p (r c).zeros new (h.zeros c l)) tt (h.made c l)

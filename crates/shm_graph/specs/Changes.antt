@@ -1,6 +1,10 @@
 -- the memo's change by a word step of its identity: a function of the memo and the step
 use Rattle.std.specs.Prelude.{Bool, ◌&&◌, ◌==◌, true, false, if◌then◌else◌, Option, None, []}
+use Rattle.std.specs.List.{filter}
 use Rattle.shm_graph.specs.declared.spot.Spot.{Spot}
+use Rattle.shm_graph.specs.declared.spot.Spot.TheVariants.{Tail, Front}
+use Rattle.shm_graph.specs.declared.memo.Fact.{Fact}
+use Rattle.shm_graph.specs.declared.memo.Fact.TheVariants.{Counter}
 use Rattle.shm_graph.specs.declared.ask.Ask.{Ask}
 use Rattle.shm_graph.specs.declared.ask.Ask.TheVariants.{Load, Store, Exchange}
 use Rattle.shm_graph.specs.declared.memo.Memo.{Memo}
@@ -13,9 +17,15 @@ use Rattle.shm_graph.specs.Readings.{read_on}
 use Rattle.shm_graph.specs.Stores.{stored_on}
 use Rattle.shm_graph.specs.Exchanges.{exchanged_on}
 
--- the memo at a step: one more pair in the call, of which the first step of a machine forgets all, and one more step of the agent
+-- what was read of tails and heads, which only grow
+abbrev pub is_lane_count : Fact → Bool
+is_lane_count (Counter (Tail s r) x) = true
+is_lane_count (Counter (Front s r) x) = true
+is_lane_count k = false
+
+-- the memo at a step: one more pair in the call, of which the first step of a machine forgets all but tails and heads, and one more step of the agent
 abbrev pub forgotten : Memo → Memo
-forgotten m = record m { facts = []; zeros = []; made = [] }
+forgotten m = record m { facts = filter is_lane_count m.facts; zeros = []; made = [] }
 
 abbrev pub called : Memo → Step → Memo
 called m t =

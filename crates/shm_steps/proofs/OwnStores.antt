@@ -1,8 +1,12 @@
 -- the stores of rows and of the own hold word, as machines use them
-use Rattle.std.proofs.Common.{◌≡◌, ℕ, ◌≤◌, refl, sym, ap, ◌∙◌, subst, Bool, true, false, [], ◌∷◌, None, Option, cond}
+use Rattle.std.proofs.Common.{List, ◌≡◌, ℕ, ◌≤◌, refl, sym, ap, ◌∙◌, subst, Bool, true, false, [], ◌∷◌, None, Option, cond}
 use Rattle.std.proofs.lemmas.Bool.{eq-eqb, ne_eqb}
-use Rattle.std.proofs.lemmas.List.Elements.{All-nil}
+use Rattle.std.proofs.lemmas.List.Elements.{All-nil, All-filter}
 use Rattle.shm_words.specs.declared.geometry.Geometry.{Geometry}
+use Rattle.std.specs.List.{filter}
+use Rattle.shm_graph.specs.declared.memo.Fact.{Fact}
+use Rattle.shm_graph.specs.Changes.{is_lane_count}
+use Rattle.shm_graph.proofs.Calls.{FactHolds}
 use Rattle.shm_graph.specs.declared.ask.Ask.TheVariants.{Store}
 use Rattle.shm_graph.specs.declared.ask.Me.{Me}
 use Rattle.shm_graph.specs.declared.memo.Memo.{Memo}
@@ -74,13 +78,17 @@ hold_stored me w r f tr at x s e a = subst (KeptAt me w r (Store at x) f (λ n m
     v : View
     v = view r
 
-    -- the view in which the call so far binds nothing
+    -- what was read of tails and heads
+    counts : List Fact
+    counts = filter is_lane_count (r c).facts
+
+    -- the view in which the call so far binds no more than that
     u : View
-    u = record v { facts = at1 v.facts c []; zeros = at1 v.zeros c []; test = at1 v.test c None; made = at1 v.made c [] }
+    u = record v { facts = at1 v.facts c counts; zeros = at1 v.zeros c []; test = at1 v.test c None; made = at1 v.made c [] }
 
     -- it holds
     held : HeldAt g w u
-    held = call_held g w v c [] [] None [] s.held (All-nil _) (All-nil _) tt (All-nil _)
+    held = call_held g w v c counts [] None [] s.held (All-filter is_lane_count (FactHolds g w v) (r c).facts (s.held.facts c s.who)) (All-nil _) tt (All-nil _)
 
     -- the step is one that stores a hold word, in either view
     step : (y : View) → y.status ≡ v.status → y.latch ≡ v.latch → HoldStep g w y c x
@@ -99,8 +107,8 @@ hold_stored me w r f tr at x s e a = subst (KeptAt me w r (Store at x) f (λ n m
     by true =
         kept_from me w r (Store at x) (record f { fresh = true }) (λ n m. Unit {0}) (Hold c) (hold_view u c x)
         (told_fixed g (classes w) c (r c) (Store at x) (Hold c) e refl)
-        (ap (λ (k : ℕ → Option Test). record v { own = at1 v.own c (record { spot = Hold c; value = x } ∷ v.own c); facts = at1 v.facts c []; zeros = at1 v.zeros c []; test = k; made = at1 v.made c [] }) (at1_twice v.test c None None)
-        ∙ sym (ap (λ (z : View). record z { own = at1 v.own c (record { spot = Hold c; value = x } ∷ v.own c); facts = at1 v.facts c []; zeros = at1 v.zeros c []; test = at1 v.test c None; made = at1 v.made c [] }) (put_same v c)))
+        (ap (λ (k : ℕ → Option Test). record v { own = at1 v.own c (record { spot = Hold c; value = x } ∷ v.own c); facts = at1 v.facts c counts; zeros = at1 v.zeros c []; test = k; made = at1 v.made c [] }) (at1_twice v.test c None None)
+        ∙ sym (ap (λ (z : View). record z { own = at1 v.own c (record { spot = Hold c; value = x } ∷ v.own c); facts = at1 v.facts c counts; zeros = at1 v.zeros c []; test = at1 v.test c None; made = at1 v.made c [] }) (put_same v c)))
         (hold_kept g w u c x held (step u refl refl))
         (hold_quiet g w u c x held (step u refl refl))
         refl tt tt
