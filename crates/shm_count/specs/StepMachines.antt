@@ -14,11 +14,8 @@ use Rattle.shm_count.specs.declared.answer.UpFault.TheVariants as fault
 use Rattle.shm_count.specs.declared.point.Aim.{Aim}
 use Rattle.shm_count.specs.declared.point.Aim.TheVariants.{Up, Down, Change}
 use Rattle.shm_count.specs.declared.point.StepState.{StepState}
-use Rattle.shm_count.specs.declared.point.Next.{Next}
-use Rattle.shm_count.specs.declared.point.Next.TheVariants.{Point, Answer}
-use Rattle.shm_count.specs.StepControl.{step_control, step_next, point_of, StepKnows}
+use Rattle.shm_count.specs.StepControl.{step_control}
 use Rattle.shm_count.specs.StepFits.{StepFits, StepGives, Done, Refused}
-use Rattle.shm_count.specs.StepKnowing.{knows_after}
 use Rattle.shm_count.specs.StepLaws.{step_steady, step_inside, step_back}
 
 -- ---- which of the three it is
@@ -123,15 +120,6 @@ pub down_means : (m : StepState) (r0 r : Memo) (tr : Trail) (b : Result Bool Era
 down_means m r0 r tr b g =
     let p = g.2.1.0 in
     (p, subst (StepGives p m r0 r tr) (down_same p m r0 r tr g.0 g.2.0 g.2.1.1 ∙ ap down_told g.1) g.2.1.1)
-
--- ---- what is kept in range, also at the end
-
-pub knows_next : (m : StepState) (n : ℕ) → StepKnows m → StepKnows (step_control.after m n)
-knows_next m n k = go (step_next m n) refl
-  where
-    go : (y : Next) → step_next m n ≡ y → StepKnows (step_control.after m n)
-    go (Point y) e = subst (λ (z : Next). StepKnows (record m { point = point_of z })) (sym e) (knows_after m n k y e)
-    go (Answer a) e = subst (λ (z : Next). StepKnows (record m { point = point_of z })) (sym e) (record { geometry = k.geometry; who = k.who; slot = k.slot; aim = k.aim; point = tt })
 
 -- ---- the laws, from the one of the steps
 
