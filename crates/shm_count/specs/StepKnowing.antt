@@ -42,6 +42,7 @@ count_fits : (up : Bool) (n : ℕ) → up && (n == 1023) ≡ false → up ≡ tr
 count_fits true n e u = λ z. grind (arith, nat_tests)
 count_fits false n e u = absurd (true≢false (sym u))
 
+-- where it goes by the header of its block is in range
 header_fits : (me : Me) (x : Aim) (e : ℕ) (h : Part) (w : ℕ) → EraFits x e h → PartFits x h → NextFits me x (header_next me x e h w)
 header_fits me x e h w era half =
     chosen me x (raises x h && ((header_of w).count == 1023)) _ _ (λ z. tt)
@@ -49,9 +50,11 @@ header_fits me x e h w era half =
     (λ k. (era, half, count_fits (raises x h) (header_of w).count z))
     (λ k. (era, half, count_fits (raises x h) (header_of w).count z)))
 
+-- where it goes by the own row is in range
 row_fits : (me : Me) (x : Aim) (e : ℕ) (h : Part) (w n : ℕ) → PointFits me x (Row e h w) → NextFits me x (row_next e h w n)
 row_fits me x e h w n k = chosen me x (nat_lt n (header_of w).era) _ _ (λ z. k) (λ z. k)
 
+-- where it goes once the header is exchanged is in range
 committed_fits : (me : Me) (x : Aim) (e : ℕ) (h : Part) (w : ℕ) → EraFits x e h → PartFits x h → NextFits me x (committed_next x e h w)
 committed_fits me x e First w era half = era
 committed_fits me x e Second w era half = (era, half)
@@ -63,6 +66,7 @@ closed_fits me (Down b) e h z era = tt
 closed_fits me (Change a b) e First z era = (omega arith, tt)
 closed_fits me (Change a b) e Second z era = tt
 
+-- where it goes from a point in range is in range
 next_fits : (me : Me) (x : Aim) (y : StepPoint) (n : ℕ) → PointFits me x y → NextFits me x (step_next_at me x y n)
 next_fits me x Era n k = era_fits me x n
 next_fits me x (Redo e) n k = (k, first_part x)

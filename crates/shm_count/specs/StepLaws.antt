@@ -29,23 +29,28 @@ abbrev GoesOn : Next → Type 0
 GoesOn (Point y) = (is_first y ≡ false) × (is_over y ≡ false)
 GoesOn (Answer a) = Unit {0}
 
+-- one of two ways, each of which goes on so
 chosen : (b : Bool) (y z : Next) → GoesOn y → GoesOn z → GoesOn (if b then y else z)
 chosen true y z f h = f
 chosen false y z f h = h
 
+-- by a header it goes on to a later point, or answers
 header_goes : (me : Me) (x : Aim) (e : ℕ) (h : Part) (w : ℕ) → GoesOn (header_next me x e h w)
 header_goes me x e h w = chosen (raises x h && ((header_of w).count == 1023)) _ _ tt (chosen ((header_of w).client == me.who) _ _ (refl, refl) (refl, refl))
 
+-- after an exchange it goes on to a later point
 committed_goes : (x : Aim) (e : ℕ) (h : Part) (w : ℕ) → GoesOn (committed_next x e h w)
 committed_goes x e First w = (refl, refl)
 committed_goes x e Second w = (refl, refl)
 
+-- after an own era it goes on to the second half, or answers
 closed_goes : (x : Aim) (e : ℕ) (h : Part) (z : Bool) → GoesOn (closed_next x e h z)
 closed_goes (Up b) e h z = tt
 closed_goes (Down b) e h z = tt
 closed_goes (Change a b) e First z = (refl, refl)
 closed_goes (Change a b) e Second z = tt
 
+-- from each point but the end it goes on to a later point, or answers
 goes_on : (me : Me) (x : Aim) (y : StepPoint) (n : ℕ) → is_over y ≡ false → GoesOn (step_next_at me x y n)
 goes_on me x Era n e = chosen (nat_lt (last_era x) n) _ _ tt (refl, refl)
 goes_on me x (Redo d) n e = (refl, refl)
@@ -62,6 +67,7 @@ after_next : (y : Next) → GoesOn y → (is_first (point_of y) ≡ false) × (i
 after_next (Point y) h = (h.0, h.1)
 after_next (Answer a) h = (refl, refl)
 
+-- identity and line stay, and it is over once it has answered
 pub step_steady : Steady step_control
 step_steady m n going =
     let h = after_next (step_next m n) (goes_on m.me m.aim m.point n going) in
@@ -92,6 +98,7 @@ block_inside me (Down b) h k = let l = k.0 in (omega arith, k.1)
 block_inside me (Change a b) First k = let l = k.1.0 in (omega arith, k.1.1)
 block_inside me (Change a b) Second k = let l = k.0.0 in (omega arith, k.0.1)
 
+-- what is asked for at a point is a word of the pool
 ask_inside : (me : Me) (slot : ℕ) (x : Aim) (p : Spot) (r0 r : Memo) (y : StepPoint) → GeometryFits me.geometry → me.who < me.geometry.clients → AimFits me x → (0 < slot) × (slot < total_of me.geometry)
     → PointHas me slot x p r0 r y → is_over y ≡ false → (0 < at_of (step_ask_at me slot x y)) × (at_of (step_ask_at me slot x y) < total_of me.geometry)
 ask_inside me slot x p r0 r Era f l k s h e = era_inside me me.who f l l
@@ -104,6 +111,7 @@ ask_inside me slot x p r0 r (Slot d z) f l k s h e = s
 ask_inside me slot x p r0 r (Close d u z) f l k s h e = era_inside me me.who f l l
 ask_inside me slot x p r0 r Over f l k s h e = absurd (true≢false e)
 
+-- a step that fits asks for a word of the pool
 pub step_inside : (p : Spot) → Inside step_control (StepFits p)
 step_inside p m r0 r tr l fit going = ask_inside m.me m.slot m.aim p r0 r m.point fit.knows.geometry l fit.can.blocks fit.can.inside fit.holds.has going
 

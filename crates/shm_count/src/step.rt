@@ -38,6 +38,7 @@ impl StepState {
         requires { StepKnows self.old }
         ensures state { self.new ≡ step_control.after self.old seen }
         ensures answer { result ≡ answer_of (step_next self.old seen) }
+        ensures knows { StepKnows self.new }
     {
         match self.next(seen) {
             Next::Point(point) => {

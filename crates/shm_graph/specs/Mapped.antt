@@ -22,6 +22,7 @@ followed me w r a f after after' p then k = record { told = k.told; step = k.ste
 
 -- ---- answers that are told by f
 
+-- the control that answers what f tells of the answer
 abbrev pub mapped : {S A B : Type 0} → (A → B) → Control S A → Control S B
 mapped f k =
     record {
@@ -53,15 +54,19 @@ outcome_told f None P Q h = h
 outcome_told f (Some a) P Q h = (a, refl, h)
 
 module _ {S A B : Type 0} (f : A → B) (k : Control S A) (fits : OnTheWay S) (gives : AtTheEnd S A) where
+  -- it is steady where the other one is
   pub mapped_steady : Steady k → Steady (mapped f k)
   mapped_steady h m n going = let s = h m n going in record { same_me = s.same_me; same_line = s.same_line; started = s.started; ends = s.ends ∙ some_told f (k.turns m n) }
 
+  -- it asks for words of the pool where the other one does
   pub mapped_inside : Inside k fits → Inside (mapped f k) fits
   mapped_inside h m r0 r tr l fit going = h m r0 r tr l fit going
 
+  -- what its answer says, it says of the machine before a step
   pub mapped_back : Back k gives → Back (mapped f k) (MappedGives f gives)
   mapped_back h m n going goes r0 r tr b g = (g.0, g.1, h m n going (none_told f (k.turns m n) goes) r0 r tr g.0 g.2)
 
+  -- its steps keep the invariant where those of the other one do
   pub mapped_keeps : Keeps k fits gives → Keeps (mapped f k) fits (MappedGives f gives)
   mapped_keeps h m r0 tr going w r frame s fit =
       followed (k.me m) w r (k.asks m) frame (Then k fits gives m r0 tr) (Then (mapped f k) fits (MappedGives f gives) m r0 tr) _
@@ -87,6 +92,7 @@ abbrev pub SomeGives : {S A X : Type 0} → (X → AtTheEnd S A) → AtTheEnd S 
 SomeGives {S} {A} {X} gives m r0 r tr a = (x : X) × gives x m r0 r tr a
 
 module _ {S A X : Type 0} (k : Control S A) (fits : X → OnTheWay S) (gives : X → AtTheEnd S A) where
+  -- steps keep the invariant for some x where they do for each
   some_keeps : ((x : X) → Keeps k (fits x) (gives x)) → Keeps k (SomeFits fits) (SomeGives gives)
   some_keeps h m r0 tr going w r frame s fit =
       followed (k.me m) w r (k.asks m) frame (Then k (fits fit.0) (gives fit.0) m r0 tr) (Then k (SomeFits fits) (SomeGives gives) m r0 tr) _
@@ -113,6 +119,7 @@ abbrev pub AmongGives : {S A : Type 0} → (S → Type 0) → AtTheEnd S A → A
 AmongGives Q gives m r0 r tr a = Q m × gives m r0 r tr a
 
 module _ {S A : Type 0} (k : Control S A) (fits : OnTheWay S) (gives : AtTheEnd S A) (Q : S → Type 0) where
+  -- steps keep the invariant among the states Q
   among_keeps : ((m : S) (n : ℕ) → Q m → Q (k.after m n)) → Keeps k fits gives → Keeps k (AmongFits Q fits) (AmongGives Q gives)
   among_keeps stays h m r0 tr going w r frame s fit =
       followed (k.me m) w r (k.asks m) frame (Then k fits gives m r0 tr) (Then k (AmongFits Q fits) (AmongGives Q gives) m r0 tr) _
