@@ -1,7 +1,7 @@
 -- an allocation that finds no free block answers how many segments of others and how many blocks in use its trail shows
 use Rattle.std.proofs.Common.{◌≡◌, ℕ, zero, suc, ◌+◌, ◌-◌, ◌*◌, ◌/◌, ◌^◌, ◌<◌, ◌≤◌, refl, sym, ap, ◌∙◌, subst, arith, inl, inr, Bool, true, false}
 use Rattle.std.specs.Prelude.{◌==◌, nat_lt, if◌then◌else◌, Result, Ok, Err, slice_index}
-use Rattle.std.proofs.lemmas.Bool.{lt-ltb}
+use Rattle.std.proofs.lemmas.Bool.{lt-ltb, cond-true, cond-false}
 use Rattle.std.proofs.lemmas.Bool.Decides.{nat_tests}
 use Rattle.shm_words.specs.declared.place.Place.{Place}
 use Rattle.shm_words.specs.declared.place.Place.TheVariants as place
@@ -116,14 +116,6 @@ block_within k i (inr (inl e)) = subst (λ (x : ℕ). i < 128 / x → x * i < 12
 block_within k i (inr (inr (inl e))) = subst (λ (x : ℕ). i < 128 / x → x * i < 128) (sym e) (λ l. omega arith)
 block_within k i (inr (inr (inr e))) = subst (λ (x : ℕ). i < 128 / x → x * i < 128) (sym e) (λ l. omega arith)
 
--- where a test is true
-if_true : (b : Bool) (x y : ℕ) → b ≡ true → (if b then x else y) ≡ x
-if_true b x y e = ap (λ (c : Bool). if c then x else y) e
-
--- where a test is false
-if_false : (b : Bool) (x y : ℕ) → b ≡ false → (if b then x else y) ≡ y
-if_false b x y e = ap (λ (c : Bool). if c then x else y) e
-
 -- a load, or an exchange, at a place counts what such a place counts
 module _ (me : Me) (at : ℕ) (q : Place) (e : place_at me.geometry at ≡ q) where
   -- what a load shows of the owner of a segment
@@ -163,7 +155,7 @@ module _ (me : Me) (q : Request) (who : me.who < me.geometry.clients) where
       (λ x. counts_chosen me (x == 0) free on (t + taken_by me (Load at) x) (u + used_by me (Load at) x)
       (λ z. block_never me q e k at (t + taken_by me (Load at) x) (u + used_by me (Load at) x))
       (λ z. counts_at me on t (taken_by me (Load at) x) u (used_by me (Load at) x) t (u + 1) (none x)
-      (with_one u (used_by me (Load at) x) (load_uses me at (place.Body s p (class_asked q * i)) there x ∙ if_false (x == 0) 0 1 z))
+      (with_one u (used_by me (Load at) x) (load_uses me at (place.Body s p (class_asked q * i)) there x ∙ cond-false (x == 0) 0 1 z))
       (counts_header n (i + 1) s p e k t (u + 1) rest l m (omega arith) c)))
 
   -- all headers of a page
@@ -209,8 +201,8 @@ module _ (me : Me) (q : Request) (who : me.who < me.geometry.clients) where
       let there : place_at me.geometry at ≡ place.Segment s = place-address me.geometry (place.Segment s) (segment_in s l) in
       counts_asked me ask (λ y. Chosen (y == 0) own other) t u
       (λ y. counts_chosen me (y == 0) own other (t + taken_by me ask y) (u + used_by me ask y)
-      (λ z. counts_at me own t (taken_by me ask y) u (used_by me ask y) t u (with_none t (taken_by me ask y) (claim_takes me at (place.Segment s) there 0 (me.who + 1) y ∙ if_true (y == 0) 0 1 z)) (omega arith) c)
-      (λ z. counts_at me other t (taken_by me ask y) u (used_by me ask y) (t + 1) u (with_one t (taken_by me ask y) (claim_takes me at (place.Segment s) there 0 (me.who + 1) y ∙ if_false (y == 0) 0 1 z)) (omega arith) d))
+      (λ z. counts_at me own t (taken_by me ask y) u (used_by me ask y) t u (with_none t (taken_by me ask y) (claim_takes me at (place.Segment s) there 0 (me.who + 1) y ∙ cond-true (y == 0) 0 1 z)) (omega arith) c)
+      (λ z. counts_at me other t (taken_by me ask y) u (used_by me ask y) (t + 1) u (with_one t (taken_by me ask y) (claim_takes me at (place.Segment s) there 0 (me.who + 1) y ∙ cond-false (y == 0) 0 1 z)) (omega arith) d))
 
   -- a segment is nobody's, one's own, or another's
   counts_owner : (s t u : ℕ) (claim own other : AllocTrails) → s < me.geometry.segments → Counts me claim t u → Counts me own t u → Counts me other (t + 1) u
@@ -226,10 +218,10 @@ module _ (me : Me) (q : Request) (who : me.who < me.geometry.clients) where
       let uses : ℕ = used_by me (Load at) x in
       let inner : ℕ = if x == me.who + 1 then 0 else 1 in
       counts_chosen me (x == 0) claim (Chosen (x == me.who + 1) own other) (t + more) (u + uses)
-      (λ z. counts_at me claim t more u uses t u (with_none t more (tells x ∙ if_true (x == 0) 0 inner z)) (none x) b)
+      (λ z. counts_at me claim t more u uses t u (with_none t more (tells x ∙ cond-true (x == 0) 0 inner z)) (none x) b)
       (λ z. counts_chosen me (x == me.who + 1) own other (t + more) (u + uses)
-      (λ y. counts_at me own t more u uses t u (with_none t more (tells x ∙ (if_false (x == 0) 0 inner z ∙ if_true (x == me.who + 1) 0 1 y))) (none x) c)
-      (λ y. counts_at me other t more u uses (t + 1) u (with_one t more (tells x ∙ (if_false (x == 0) 0 inner z ∙ if_false (x == me.who + 1) 0 1 y))) (none x) d)))
+      (λ y. counts_at me own t more u uses t u (with_none t more (tells x ∙ (cond-false (x == 0) 0 inner z ∙ cond-true (x == me.who + 1) 0 1 y))) (none x) c)
+      (λ y. counts_at me other t more u uses (t + 1) u (with_one t more (tells x ∙ (cond-false (x == 0) 0 inner z ∙ cond-false (x == me.who + 1) 0 1 y))) (none x) d)))
 
   -- the segments from segment s on
   counts_segment : (n s e k t u : ℕ) → s + n ≤ me.geometry.segments → Counts me (segment_trail me q n s e k t u) t u

@@ -13,6 +13,7 @@ use Rattle.shm_graph.specs.Trails.{Answers, Chosen}
 use Rattle.shm_graph.specs.Events.{Event}
 use Rattle.shm_graph.specs.Tells.{is_event, after_all, happens_along}
 use Rattle.shm_graph.proofs.TellsAlong.{after_all-append, happens_along-append}
+use Rattle.shm_graph.proofs.Loads.{choice}
 use Rattle.shm_count.specs.declared.answer.Made.{Made}
 use Rattle.shm_alloc.specs.declared.alloc.AllocFault.{AllocFault}
 use Rattle.shm_alloc.specs.declared.alloc.AllocFault.TheVariants.{EraSpent, RootsFull, Full}
@@ -55,16 +56,6 @@ chosen : (me : Me) (q : Request) (b : Bool) (x y : Next) (f g : AllocTrails) →
 chosen me q true x y f g one other = one refl
 chosen me q false x y f g one other = other refl
 
--- where to go is chosen, and what follows is the same either way
-either : (me : Me) (q : Request) (b : Bool) (x y : Next) (f : AllocTrails) → (b ≡ true → IsPart (next_trail me q x) f) → (b ≡ false → IsPart (next_trail me q y) f) → IsPart (next_trail me q (if b then x else y)) f
-either me q true x y f one other = one refl
-either me q false x y f one other = other refl
-
--- the next point is chosen, and what follows is the same either way
-either_point : (me : Me) (q : Request) (b : Bool) (x y : AllocPoint) (f : AllocTrails) → (b ≡ true → IsPart (point_trail me q x) f) → (b ≡ false → IsPart (point_trail me q y) f) → IsPart (point_trail me q (if b then x else y)) f
-either_point me q true x y f one other = one refl
-either_point me q false x y f one other = other refl
-
 -- as many as are left
 left : (f : ℕ → AllocTrails) (m n : ℕ) → m ≡ n → IsPart (f m) (f n)
 left f m n e tr a t = subst (λ (x : ℕ). f x tr a) e t
@@ -75,14 +66,14 @@ module _ (me : Me) (q : Request) where
   -- after a segment the next one follows, or the refusal
   after_segment : (g : Goal) (s : Search) → IsPart (next_trail me q (segment_over me g s)) (segments_after me q g s s.used)
   after_segment g s =
-      either me q (nat_lt (s.segment + 1) me.geometry.segments) (Point (Segment g (record s { segment = s.segment + 1 }))) (Answer (Err (Full s.taken s.used))) (segments_after me q g s s.used)
+      choice (λ z. IsPart (next_trail me q z) (segments_after me q g s s.used)) (nat_lt (s.segment + 1) me.geometry.segments) (Point (Segment g (record s { segment = s.segment + 1 }))) (Answer (Err (Full s.taken s.used)))
       (λ e tr a t. t)
       (λ e. left (λ n. segment_trail me q n (s.segment + 1) g.era g.root s.taken s.used) 0 (me.geometry.segments - (s.segment + 1)) (sym (none_left me.geometry.segments (s.segment + 1) (ltb-false (s.segment + 1) me.geometry.segments e))))
 
   -- after a page the next one follows, or the next segment
   after_page : (g : Goal) (s : Search) (p : ℕ) → IsPart (next_trail me q (page_over me g s p)) (pages_after me q g s p s.used)
   after_page g s p =
-      either me q (nat_lt p 15) (Point (Page g s (p + 1))) (segment_over me g s) (pages_after me q g s p s.used)
+      choice (λ z. IsPart (next_trail me q z) (pages_after me q g s p s.used)) (nat_lt p 15) (Point (Page g s (p + 1))) (segment_over me g s)
       (λ e. left (λ n. page_trail me q n (p + 1) s.segment g.era g.root s.used (segments_after me q g s)) (16 - (p + 1)) (15 - p) (omega arith))
       (λ e tr a t. left (λ n. page_trail me q n (p + 1) s.segment g.era g.root s.used (segments_after me q g s)) 0 (15 - p) (sym (none_left 15 p (ltb-false p 15 e))) tr a (after_segment g s tr a t))
 
@@ -93,7 +84,7 @@ module _ (me : Me) (q : Request) where
   -- after a header that isn't free the next one follows, or the next page
   after_header : (g : Goal) (s : Search) (p i : ℕ) → IsPart (next_trail me q (header_used me q g s p i)) (headers_left g s p (i + 1) (128 / class_asked q - (i + 1)))
   after_header g s p i =
-      either me q (nat_lt (i + 1) (128 / class_asked q)) (Point (Header g s p (i + 1))) (page_over me g s p) (headers_left g s p (i + 1) (128 / class_asked q - (i + 1)))
+      choice (λ z. IsPart (next_trail me q z) (headers_left g s p (i + 1) (128 / class_asked q - (i + 1)))) (nat_lt (i + 1) (128 / class_asked q)) (Point (Header g s p (i + 1))) (page_over me g s p)
       (λ e tr a t. t)
       (λ e tr a t. left (headers_left g s p (i + 1)) 0 (128 / class_asked q - (i + 1)) (sym (none_left (128 / class_asked q) (i + 1) (ltb-false (i + 1) (128 / class_asked q) e))) tr a (after_page g s p tr a t))
 
@@ -106,14 +97,14 @@ module _ (me : Me) (q : Request) where
   -- the plain words that are left, and the redo record after them
   after_plain : (g : Goal) (b i : ℕ) → IsPart (point_trail me q (plain_from q g b i)) (plain_trail me q (q.count - i) i g.era g.root b)
   after_plain g b i =
-      either_point me q (nat_lt i q.count) (Plain g b i) (Redo g b) (plain_trail me q (q.count - i) i g.era g.root b)
+      choice (λ z. IsPart (point_trail me q z) (plain_trail me q (q.count - i) i g.era g.root b)) (nat_lt i q.count) (Plain g b i) (Redo g b)
       (λ e tr a t. t)
       (λ e. left (λ n. plain_trail me q n i g.era g.root b) 0 (q.count - i) (sym (none_left q.count i (ltb-false i q.count e))))
 
   -- the reference words that are left, and the plain words after them
   after_reference : (g : Goal) (b i : ℕ) → IsPart (point_trail me q (references_from q g b i)) (reference_trail me q (q.refs - i) i g.era g.root b)
   after_reference g b i =
-      either_point me q (nat_lt i q.refs) (Reference g b i) (plain_from q g b 0) (reference_trail me q (q.refs - i) i g.era g.root b)
+      choice (λ z. IsPart (point_trail me q z) (reference_trail me q (q.refs - i) i g.era g.root b)) (nat_lt i q.refs) (Reference g b i) (plain_from q g b 0)
       (λ e tr a t. t)
       (λ e tr a t. left (λ n. reference_trail me q n i g.era g.root b) 0 (q.refs - i) (sym (none_left q.refs i (ltb-false i q.refs e))) tr a
       (left (λ n. plain_trail me q n 0 g.era g.root b) (q.count - 0) q.count (omega arith) tr a (after_plain g b 0 tr a t)))
@@ -132,7 +123,7 @@ module _ (me : Me) (q : Request) where
   -- the next root, or the refusal after the last one
   after_root : (e k : ℕ) → IsPart (next_trail me q (if nat_lt k 15 then Point (Root e (k + 1)) else Answer (Err RootsFull))) (root_trail me q (16 - (k + 1)) (k + 1) e)
   after_root e k =
-      either me q (nat_lt k 15) (Point (Root e (k + 1))) (Answer (Err RootsFull)) (root_trail me q (16 - (k + 1)) (k + 1) e)
+      choice (λ z. IsPart (next_trail me q z) (root_trail me q (16 - (k + 1)) (k + 1) e)) (nat_lt k 15) (Point (Root e (k + 1))) (Answer (Err RootsFull))
       (λ d tr a t. t)
       (λ d. let above = ltb-false k 15 d in left (λ n. root_trail me q n (k + 1) e) 0 (16 - (k + 1)) (omega arith))
 

@@ -4,6 +4,7 @@ use Rattle.std.proofs.lemmas.Bool.Decides.{nat_tests}
 use Rattle.shm_words.specs.Layout.{GeometryFits, total_of, bodies}
 use Rattle.shm_words.proofs.Classing.{class_is}
 use Rattle.shm_graph.specs.declared.ask.Me.{Me}
+use Rattle.shm_graph.proofs.Loads.{choice}
 use Rattle.shm_alloc.specs.declared.point.Request.{Request}
 use Rattle.shm_alloc.specs.declared.point.Goal.{Goal}
 use Rattle.shm_alloc.specs.declared.point.Search.{Search}
@@ -20,26 +21,21 @@ abbrev NextFits : Me → Request → Next → Type 0
 NextFits me q (Point p) = PointFits me q p
 NextFits me q (Answer a) = Unit {0}
 
--- one of two ways, each in range where it is taken
-chosen : (me : Me) (q : Request) (b : Bool) (x y : Next) → (b ≡ true → NextFits me q x) → (b ≡ false → NextFits me q y) → NextFits me q (if b then x else y)
-chosen me q true x y f h = f refl
-chosen me q false x y f h = h refl
-
 -- after the own era is read, the next point is in range
 era_fits : (me : Me) (q : Request) (n : ℕ) → NextFits me q (era_next n)
-era_fits me q n = chosen me q (nat_lt (2 ^ 47 - 3) n) _ _ (λ e. tt) (λ e. (grind (arith, nat_tests), omega arith))
+era_fits me q n = choice (NextFits me q) (nat_lt (2 ^ 47 - 3) n) _ _ (λ e. tt) (λ e. (grind (arith, nat_tests), omega arith))
 
 -- so it is after a root is read
 root_fits : (me : Me) (q : Request) (e k n : ℕ) → GeometryFits me.geometry → PointFits me q (Root e k) → NextFits me q (root_next e k n)
 root_fits me q e k n f h =
-    chosen me q (n == 0) _ _
+    choice (NextFits me q) (n == 0) _ _
     (λ z. (record { era = h.0; root = h.1 }, record { segment = let l = f.segment in omega arith; taken = omega arith; used = omega arith }))
-    (λ z. chosen me q (nat_lt k 15) _ _ (λ l. (h.0, grind (arith, nat_tests))) (λ l. tt))
+    (λ z. choice (NextFits me q) (nat_lt k 15) _ _ (λ l. (h.0, grind (arith, nat_tests))) (λ l. tt))
 
 -- the next segment, where the last one had so many headers at most
 over_fits : (me : Me) (q : Request) (g : Goal) (s : Search) → GoalFits g → s.taken ≤ s.segment + 1 → s.used ≤ 512 * s.segment + 512 → NextFits me q (segment_over me g s)
 over_fits me q g s h t u =
-    chosen me q (nat_lt (s.segment + 1) me.geometry.segments) _ _
+    choice (NextFits me q) (nat_lt (s.segment + 1) me.geometry.segments) _ _
     (λ l. (h, record { segment = grind (arith, nat_tests); taken = t; used = omega arith }))
     (λ l. tt)
 
@@ -52,7 +48,7 @@ page_over_fits : (me : Me) (q : Request) (g : Goal) (s : Search) (p : ℕ) → G
 page_over_fits me q g s p h k l =
     let t = k.taken in
     let u = k.used in
-    chosen me q (nat_lt p 15) _ _
+    choice (NextFits me q) (nat_lt p 15) _ _
     (λ e. (h, record { segment = k.segment; taken = k.taken; used = omega arith }, grind (arith, nat_tests)))
     (λ e. over_fits me q g s h (omega arith) (omega arith))
 
@@ -63,11 +59,11 @@ first_fits me q g s h k = (h, k, omega arith)
 -- so it is after the owner of a segment is read
 segment_fits : (me : Me) (q : Request) (g : Goal) (s : Search) (n : ℕ) → PointFits me q (Segment g s) → NextFits me q (segment_next me g s n)
 segment_fits me q g s n h =
-    chosen me q (n == 0) _ _ (λ e. h) (λ e. chosen me q (n == me.who + 1) _ _ (λ u. first_fits me q g s h.0 h.1) (λ u. taken_fits me q g s h.0 h.1))
+    choice (NextFits me q) (n == 0) _ _ (λ e. h) (λ e. choice (NextFits me q) (n == me.who + 1) _ _ (λ u. first_fits me q g s h.0 h.1) (λ u. taken_fits me q g s h.0 h.1))
 
 -- so it is after a segment is exchanged
 claim_fits : (me : Me) (q : Request) (g : Goal) (s : Search) (n : ℕ) → PointFits me q (Claim g s) → NextFits me q (claim_next me g s n)
-claim_fits me q g s n h = chosen me q (n == 0) _ _ (λ e. first_fits me q g s h.0 h.1) (λ e. taken_fits me q g s h.0 h.1)
+claim_fits me q g s n h = choice (NextFits me q) (n == 0) _ _ (λ e. first_fits me q g s h.0 h.1) (λ e. taken_fits me q g s h.0 h.1)
 
 -- the first header of a page of the class
 first_header_fits : (me : Me) (q : Request) (g : Goal) (s : Search) (p : ℕ) → PointFits me q (Class g s p) → NextFits me q (first_header g s p)
@@ -79,8 +75,8 @@ first_header_fits me q g s p h =
 page_fits : (me : Me) (q : Request) (g : Goal) (s : Search) (p n : ℕ) → PointFits me q (Page g s p) → NextFits me q (page_next me q g s p n)
 page_fits me q g s p n h =
     let u = h.1.used in
-    chosen me q (n == 0) _ _ (λ e. h)
-    (λ e. chosen me q (n == class_asked q) _ _ (λ z. first_header_fits me q g s p h)
+    choice (NextFits me q) (n == 0) _ _ (λ e. h)
+    (λ e. choice (NextFits me q) (n == class_asked q) _ _ (λ z. first_header_fits me q g s p h)
     (λ z. page_over_fits me q g s p h.0 (record { segment = h.1.segment; taken = h.1.taken; used = omega arith }) h.2))
 
 -- so it is after a header is read
@@ -90,8 +86,8 @@ header_fits me q g s p i n h =
     let m = blocks_most (class_asked q) i (class_is q.refs q.count) h.3 in
     let b = block_of_within me q s p i h.1.segment h.2 h.3 in
     let t : Search = record s { used = s.used + 1 } in
-    chosen me q (n == 0) _ _ (λ e. (h.0, b.0, b.1))
-    (λ e. chosen me q (nat_lt (i + 1) (128 / class_asked q)) _ _
+    choice (NextFits me q) (n == 0) _ _ (λ e. (h.0, b.0, b.1))
+    (λ e. choice (NextFits me q) (nat_lt (i + 1) (128 / class_asked q)) _ _
     (λ l. (h.0, record { segment = h.1.segment; taken = h.1.taken; used = omega arith }, h.2, grind (arith, nat_tests)))
     (λ l. page_over_fits me q g t p h.0 (record { segment = h.1.segment; taken = h.1.taken; used = omega arith }) h.2))
 
