@@ -6,3 +6,4 @@ pub mod StepGoing
 pub mod StepKnowing
 pub mod StepLaws
 pub mod StepMachines
+pub mod StepMemos
