@@ -7,3 +7,4 @@ pub mod StepKnowing
 pub mod StepLaws
 pub mod StepMachines
 pub mod StepMemos
+pub mod StepHeaders

@@ -166,7 +166,7 @@ era_room (Down b) e l = omega arith
 era_room (Change a b) e l = omega arith
 
 -- a step that has begun covers nothing
-begun_quiet : (x : Aim) (p : Spot) (e : ℕ) → cover_of (begun_op x p e) ≡ Quiet
+pub begun_quiet : (x : Aim) (p : Spot) (e : ℕ) → cover_of (begun_op x p e) ≡ Quiet
 begun_quiet (Up b) p e = refl
 begun_quiet (Down b) p e = refl
 begun_quiet (Change a b) p e = refl
