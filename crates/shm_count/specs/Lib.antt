@@ -8,3 +8,5 @@ pub mod StepLaws
 pub mod StepMachines
 pub mod StepMemos
 pub mod StepHeaders
+pub mod StepBeginning
+pub mod StepReading
