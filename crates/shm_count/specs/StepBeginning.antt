@@ -1,12 +1,11 @@
 -- a count step begins at the slot that it could begin at
-use Rattle.std.proofs.Common.{◌≡◌, ◌≢◌, ℕ, ◌+◌, ◌%◌, ◌^◌, ◌<◌, ◌≤◌, refl, sym, ap, ◌∙◌, subst, arith, Bool, true, false, inl, inr, ◌⊎◌, Some}
+use Rattle.std.proofs.Common.{◌≡◌, ◌≢◌, ℕ, ◌+◌, ◌%◌, ◌^◌, ◌<◌, ◌≤◌, refl, sym, ap, ◌∙◌, subst, true, false, inl, inr, ◌⊎◌}
 use Rattle.std.specs.Prelude.{slice_index}
 use Rattle.std.specs.List.{Contains}
 use Rattle.std.proofs.lemmas.Bool.{eq-eqb, ne_eqb}
 use Rattle.std.proofs.lemmas.List.Elements.{All-contains}
 use Rattle.shm_words.specs.declared.geometry.Geometry.{Geometry}
 use Rattle.shm_words.specs.Redos.{redo_word}
-use Rattle.shm_words.specs.Tags.{tag_author}
 use Rattle.shm_graph.specs.declared.spot.Spot.{Spot}
 use Rattle.shm_graph.specs.declared.spot.Spot.TheVariants as spot
 use Rattle.shm_graph.specs.declared.memo.Fact.TheVariants.{Counter}
@@ -20,9 +19,9 @@ use Rattle.shm_graph.specs.Stores.{is_block_made}
 use Rattle.shm_graph.specs.Views.{view, own_word}
 use Rattle.shm_graph.proofs.KnownChange.{KnownHolds}
 use Rattle.shm_laws.specs.Steps.{BeginStep}
-use Rattle.shm_steps.specs.Beginning.{HasRoom, MayReplaceRoot, MaySet, MayPut, MayTake, MayTakeBack, MayStoreIn, IsOwnWord, MayFill, MayClear, MayReplace}
+use Rattle.shm_steps.specs.Beginning.{HasRoom, MayStoreIn, IsOwnWord}
 use Rattle.shm_steps.specs.Conditions.{IsHere}
-use Rattle.shm_steps.specs.OwnWords.{MayAdd, MayRemove, op_begun}
+use Rattle.shm_steps.specs.OwnWords.{op_begun}
 use Rattle.shm_steps.proofs.BeginAt.{SlotHas, fixed_told, up_begun_at, down_begun_at, change_begun_at, up_at, down_at, change_at}
 use Rattle.shm_steps.proofs.BeginSlots.{root_has, home_has, room_left, room_unsent, tail_has, head_has}
 use Rattle.shm_steps.proofs.BeginWords.{own_word_has}

@@ -1,5 +1,5 @@
 -- what a count step keeps up to the exchange: it reads the own era, stores the redo record, reads the header of its block, and shows the header's era in the own row
-use Rattle.std.proofs.Common.{◌≡◌, ◌≢◌, ℕ, ◌+◌, ◌-◌, ◌^◌, ◌<◌, ◌≤◌, refl, sym, ap, ◌∙◌, subst, arith, Bool, true, false, cond, eqb, ltb, ◌&&◌, [], ◌∷◌}
+use Rattle.std.proofs.Common.{◌≡◌, ◌≢◌, ℕ, ◌+◌, ◌<◌, ◌≤◌, refl, sym, ap, ◌∙◌, subst, arith, true, false, eqb, ltb, ◌∷◌}
 use Rattle.std.specs.Prelude.{Err}
 use Rattle.std.specs.List.{Contains}
 use Rattle.std.proofs.lemmas.Bool.{eq-eqb, ne_eqb, and_from, lt-ltb, ltb-true, ltb-false, cond-true, cond-false}
@@ -12,10 +12,8 @@ use Rattle.shm_graph.specs.declared.ask.Ask.TheVariants.{Load, Store}
 use Rattle.shm_graph.specs.declared.ask.Me.{Me}
 use Rattle.shm_graph.specs.declared.spot.Spot.{Spot}
 use Rattle.shm_graph.specs.declared.spot.Spot.TheVariants as spot
-use Rattle.shm_graph.specs.declared.memo.Fact.{Fact}
 use Rattle.shm_graph.specs.declared.memo.Fact.TheVariants.{Header as HeaderRead, Counter}
 use Rattle.shm_graph.specs.declared.memo.Memo.{Memo}
-use Rattle.shm_graph.specs.declared.memo.Op.{Op}
 use Rattle.shm_graph.specs.declared.memo.Step.{Step}
 use Rattle.shm_graph.specs.Agents.{recovers}
 use Rattle.shm_graph.specs.Asks.{Trail, at_of, seen_of}
@@ -23,7 +21,6 @@ use Rattle.shm_graph.specs.Blocks.{classes}
 use Rattle.shm_graph.specs.Changes.{called, with_call, with_end, memo_on}
 use Rattle.shm_graph.specs.Laws.{Frame, framed, Stands, KeptAt}
 use Rattle.shm_graph.specs.Reach.{is_reached}
-use Rattle.shm_graph.specs.Readings.{header_read, op_refused}
 use Rattle.shm_graph.specs.Spots.{spot_at, spot_address}
 use Rattle.shm_graph.specs.Stores.{with_own, era_stored}
 use Rattle.shm_graph.specs.Views.{view, own_word}
@@ -33,7 +30,7 @@ use Rattle.shm_graph.proofs.Loads.{choice}
 use Rattle.shm_graph.proofs.SpotPlaces.{spot-place}
 use Rattle.shm_graph.proofs.Spotting.{same_spot_self}
 use Rattle.shm_laws.specs.Steps.{BeginStep}
-use Rattle.shm_steps.specs.OwnWords.{MayShow, op_begun}
+use Rattle.shm_steps.specs.OwnWords.{op_begun}
 use Rattle.shm_steps.proofs.BodyLoads.{header_loaded}
 use Rattle.shm_steps.proofs.OwnStores.{row_stored}
 use Rattle.shm_steps.proofs.OwnStoresRedo.{redo_stored}
@@ -46,9 +43,9 @@ use Rattle.shm_count.specs.declared.point.StepPoint.{StepPoint}
 use Rattle.shm_count.specs.declared.point.StepPoint.TheVariants.{Era, Redo, Row, Show, Exchange}
 use Rattle.shm_count.specs.declared.point.StepPoint.TheVariants as point
 use Rattle.shm_count.specs.declared.point.Next.TheVariants.{Point, Answer}
-use Rattle.shm_count.specs.StepControl.{last_era, block_at, raises, redo_at, row_address, header_next, step_ask_at, step_next_at, PointFits}
+use Rattle.shm_count.specs.StepControl.{last_era, block_at, redo_at, row_address, step_ask_at, step_next_at, PointFits}
 use Rattle.shm_count.specs.StepFits.{CanStep, core, begun_op, Rows, begun, HasRead, InHalf, PointHolds, NextHolds}
-use Rattle.shm_count.specs.StepMemos.{rows_same, row_raised, recovers_after, called_core, called_facts, era_core, era_facts, header_core, half_then, half_same, half_status, here_same, read_same, era_room}
+use Rattle.shm_count.specs.StepMemos.{rows_same, row_raised, recovers_after, called_core, era_core, era_facts, header_core, half_then, half_same, half_status, here_same, read_same, era_room}
 use Rattle.shm_count.specs.StepHeaders.{half_block, header_has, header_found}
 use Rattle.shm_count.specs.StepBeginning.{HasPut, can_on, begins_here}
 
