@@ -6,3 +6,5 @@ pub mod StepGoing
 pub mod StepKnowing
 pub mod StepLaws
 pub mod StepMachines
+pub mod StepCores
+pub mod StepCommitting
