@@ -92,8 +92,8 @@ is_set me (Down b) p e First q w z =
     refl refl
 is_set me (Change a b) p e First q w z =
     let c = me.who in
-    set_from q (set_memo me (Change a b) p e First q w) (sifted c (cut c p (reparted c (record q { op = op.Change (Raising Committed) p a b e; made = filter (not_block a) (without_made q b) }) p b)))
-    refl refl refl
+    let n : Memo = set_memo me (Change a b) p e First q w in
+    set_from q n n (refl {a = n}) refl refl
 is_set me (Change a b) p e Second q w z =
     let c = me.who in
     let m3 : Memo = cut c p (record q { op = op.Change (Lowering Closed) p a b e; made = without_made q a }) in

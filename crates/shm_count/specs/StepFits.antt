@@ -122,7 +122,7 @@ pub record Rows (c : ℕ) (m m' : Memo) : Type 0 where
 abbrev pub begun : Me → ℕ → Aim → Spot → ℕ → Memo → Memo
 begun me slot x p e m = record m { own = record { spot = spot.Redo me.who; value = redo_word (redo_at x slot e) } ∷ m.own; op = begun_op x p e }
 
--- the memo q at the exchange of the first half, at the own era
+-- the memo q at the exchange of the first half, whose era is the own era before
 abbrev pub AtFirst : Me → ℕ → Aim → Spot → Memo → Memo → ℕ → Type 0
 AtFirst me slot x p r0 q e = (e ≡ own_word r0.own (spot.Era me.who me.who)) × Rows me.who (begun me slot x p e r0) q
 
