@@ -6,5 +6,7 @@ pub mod StepGoing
 pub mod StepKnowing
 pub mod StepLaws
 pub mod StepMachines
+pub mod StepMemos
+pub mod StepHeaders
 pub mod StepCores
 pub mod StepCommitting

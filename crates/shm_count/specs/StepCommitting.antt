@@ -37,9 +37,10 @@ use Rattle.shm_count.specs.declared.point.Part.TheVariants.{First, Second}
 use Rattle.shm_count.specs.declared.point.Part.{Part}
 use Rattle.shm_count.specs.declared.point.Aim.TheVariants.{Change, Down, Up}
 use Rattle.shm_count.specs.declared.point.StepPoint.TheVariants as point
-use Rattle.shm_count.specs.StepCores.{set_op, agent_stays, stored_core, can_slot, IsSet, PointKeeps, still_here, HasSlot, kept_going, IsStepSlot, is_set, is_stored, closed_core, rows_none}
+use Rattle.shm_count.specs.StepCores.{set_op, stored_core, can_slot, IsSet, PointKeeps, HasSlot, kept_going, IsStepSlot, is_set, is_stored, closed_core}
 use Rattle.shm_count.specs.StepFits.{NextHolds, AtFirst, core, set_memo, slot_memo, closed_memo, InHalf, op_of, CanStep, Rows}
 use Rattle.shm_count.specs.StepControl.{AimFits, last_era, step_next_at, PartFits, value_after, EraFits, closed_next, raises}
+use Rattle.shm_count.specs.StepMemos.{recovers_after, era_room, half_status, rows_same, here_same}
 
 -- ---- the step in progress
 
@@ -65,12 +66,6 @@ set_going me x p e h w r held who o = go x h (subst (OpTie me.geometry (classes 
     go (Change a b) Second s = record { era = s.current ∙ sym own; at = s.at }
 
 -- ---- the slot
-
--- an own era that leaves room for the step
-era_most : (x : Aim) (e : ℕ) → EraFits x e First → e ≤ last_era x
-era_most (Up b) e l = omega arith
-era_most (Down b) e l = omega arith
-era_most (Change a b) e l = omega arith
 
 -- a new value is a word
 value_small : (me : Me) (x : Aim) → GeometryFits me.geometry → AimFits me x → value_after x < 2 ^ 64
@@ -116,8 +111,8 @@ slot_step me slot x p r0 w r f tr e z st going can fits h =
     let same : core m ≡ core (set_memo me x p e First q k) = h.has.3 in
     let set : IsSet q (set_memo me x p e First q k) (set_op x p e First) = is_set me x p e First q k (part_first x) in
     let o : m.op ≡ set_op x p e First = ap (λ (y : Memo). y.op) same ∙ set.op in
-    let here : IsHere m = still_here r0 m can.here (ap (λ (y : Memo). y.status) same ∙ (set.status ∙ ap (λ (y : Memo). y.status) first.1.rest)) in
-    let kind : IsStepSlot c p = can_slot me slot x p r0 e can first.0 (era_most x e fits) in
+    let here : IsHere m = here_same r0 m (ap (λ (y : Memo). y.status) same ∙ (set.status ∙ ap (λ (y : Memo). y.status) first.1.rest)) can.here in
+    let kind : IsStepSlot c p = can_slot me slot x p r0 e can first.0 (era_room x e fits) in
     let t : IsGoing me w m p e = set_going me x p e First w r st.held st.who o in
     let i : spot_at me.geometry (classes w) slot ≡ p = ap (spot_at me.geometry (classes w)) can.at ∙ t.at in
     let y : ℕ = value_after x in
@@ -128,42 +123,9 @@ slot_step me slot x p r0 w r f tr e z st going can fits h =
     (slot_written me w r f tr slot y p st going i kind
     (record { here = here; slot = has.1; op = subst (λ (o : Op). Writes o (op_written o) y) (sym o) (set_writes x p e); small = value_small me x can.geometry can.blocks }))
     (record {
-      agent = agent_stays _ m.agents ∙ h.agent;
+      agent = recovers_after m (framed me a (record f { fresh = false }) 0) p ∙ h.agent;
       has = (q, k, first, stored_core me.geometry c p y n (set_memo me x p e First q k) kind has same, h.has.4);
     })
-
--- ---- a half
-
--- the store of the own era begins the second half of a change whose slot is stored, and leaves the status
-first_closes : (me : Me) (p : Spot) (a b e : ℕ) (m : Memo) → m.op ≡ op.Change (Raising Written) p a b e → ((closed_memo me e m).op ≡ op.Change (Lowering Open) p a b (e + 1)) × ((closed_memo me e m).status ≡ m.status)
-first_closes me p a b e m o =
-    let c = me.who in
-    let s : Spot = spot.Era c c in
-    let n : Memo = record (with_own m s (e + 1)) { op = op_closed m.op (e + 1) } in
-    let i : ◌≡◌ {A = Memo} (closed_memo me e m) n = cond-true (eqb c c) (era_stored c m s (e + 1)) (with_own m s (e + 1)) (eq-eqb c c refl) ∙ cond-false (is_lowering m.op) (without_looks c n) n (ap is_lowering o) in
-    (ap (λ (y : Memo). y.op) i ∙ ap (λ y. op_closed y (e + 1)) o, ap (λ (y : Memo). y.status) i)
-
--- at the beginning of a half the step in progress is that of the half, and the status is what it was
-pub half_memo : (me : Me) (slot : ℕ) (x : Aim) (p : Spot) (r0 r : Memo) (e : ℕ) (h : Part) → CanStep me slot x p r0 → EraFits x e h × PartFits x h → InHalf me slot x p r0 r e h → (r.op ≡ op_of x p e h) × (r.status ≡ r0.status)
-half_memo me slot x p r0 r e First can fits (own, rows) = (ap (λ (y : Memo). y.op) rows.rest, ap (λ (y : Memo). y.status) rows.rest)
-half_memo me slot (Up b) p r0 r e Second can fits h = absurd fits.1
-half_memo me slot (Down b) p r0 r e Second can fits h = absurd fits.1
-half_memo me slot (Change a b) p r0 r e Second can fits h =
-    let c = me.who in
-    let x : Aim = Change a b in
-    let d : ℕ = h.0 in
-    let q : Memo = h.2.0 in
-    let k : ℕ = h.2.1 in
-    let first : AtFirst me slot x p r0 q d = h.2.2 in
-    let rows : Rows c (closed_memo me d (slot_memo me x p d q k)) r = h.2.3 in
-    let set : IsSet q (set_memo me x p d First q k) (set_op x p d First) = is_set me x p d First q k tt in
-    let l : e + 3 ≤ 2 ^ 47 = fits.0 in
-    let i : e ≡ d + 1 = h.1 in
-    let kind : IsStepSlot c p = can_slot me slot x p r0 d can first.0 (omega arith) in
-    let stored = is_stored me.geometry c p b (set_memo me x p d First q k) kind (subst (λ (o : Op). (is_op o ≡ true) × (slot_of o ≡ p)) (sym set.op) (set_slot x p d)) in
-    let closed = first_closes me p a b d (slot_memo me x p d q k) (stored.0 ∙ ap op_written set.op) in
-    (ap (λ (y : Memo). y.op) rows.rest ∙ (closed.0 ∙ ap (λ y. op.Change (Lowering Open) p a b y) (sym i)),
-    ap (λ (y : Memo). y.status) rows.rest ∙ (closed.1 ∙ (stored.1 ∙ (set.status ∙ ap (λ (y : Memo). y.status) first.1.rest))))
 
 -- ---- the own era
 
@@ -200,7 +162,7 @@ era_stored_kept me w r f tr e after st going here own closes holds =
     kept_going me w r a f after p going i
     (subst (λ y. KeptAt me w r (Store at (y + 1)) f (λ n m. Unit {0}) (spot_at me.geometry (classes w) at)) (sym own)
     (era_closed me w r f tr at st going i (record { here = here; op = subst (λ y. Closes m.op (op_closed m.op (y + 1))) own closes })))
-    (holds (memo_on m (framed me a (record f { fresh = false }) 0) p) 0 (agent_stays _ m.agents) (closed_core me e n m refl))
+    (holds (memo_on m (framed me a (record f { fresh = false }) 0) p) 0 (recovers_after m (framed me a (record f { fresh = false }) 0) p) (closed_core me e n m refl))
 
 -- the first half is closed: the step is done, or a change goes on with its second half
 pub close_first : (me : Me) (slot : ℕ) (x : Aim) (p : Spot) (r0 : Memo) (w : Spot → ℕ) (r : ℕ → Memo) (f : Frame) (tr : Trail) (e : ℕ) (z : Bool) → PointKeeps me slot x p r0 w r f tr (point.Close e First z)
@@ -212,10 +174,10 @@ close_first me slot x p r0 w r f tr e z st going can fits h =
     let first : AtFirst me slot x p r0 q e = h.has.2 in
     let same : core m ≡ core (slot_memo me x p e q k) = h.has.3 in
     let set : IsSet q (set_memo me x p e First q k) (set_op x p e First) = is_set me x p e First q k fits.1 in
-    let kind : IsStepSlot c p = can_slot me slot x p r0 e can first.0 (era_most x e fits.0) in
+    let kind : IsStepSlot c p = can_slot me slot x p r0 e can first.0 (era_room x e fits.0) in
     let stored = is_stored me.geometry c p (value_after x) (set_memo me x p e First q k) kind (subst (λ (o : Op). (is_op o ≡ true) × (slot_of o ≡ p)) (sym set.op) (set_slot x p e)) in
     let o : m.op ≡ op_written (set_op x p e First) = ap (λ (y : Memo). y.op) same ∙ (stored.0 ∙ ap op_written set.op) in
-    let here : IsHere m = still_here r0 m can.here (ap (λ (y : Memo). y.status) same ∙ (stored.1 ∙ (set.status ∙ ap (λ (y : Memo). y.status) first.1.rest))) in
+    let here : IsHere m = here_same r0 m (ap (λ (y : Memo). y.status) same ∙ (stored.1 ∙ (set.status ∙ ap (λ (y : Memo). y.status) first.1.rest))) can.here in
     era_stored_kept me w r f tr e (λ n r'. NextHolds me slot x p r0 r' (step_next_at me x (point.Close e First z) n)) st going here (written_going me x p e w r st.held st.who o)
     (subst (λ (o : Op). Closes o (op_closed o (e + 1))) (sym o) (closes_set x p e))
     (λ m' n agent i. first_closed x m' q k first (agent ∙ h.agent) (i ∙ closed_core me e m (slot_memo me x p e q k) same) h.has.4)
@@ -223,7 +185,7 @@ close_first me slot x p r0 w r f tr e z st going can fits h =
     first_closed : (x : Aim) (m' q : Memo) (k : ℕ) → AtFirst me slot x p r0 q e → recovers m' ≡ recovers r0 → core m' ≡ core (closed_memo me e (slot_memo me x p e q k)) → z ≡ (not (raises x First) && (eqb (header_of k).count 1)) → NextHolds me slot x p r0 m' (closed_next x e First z)
     first_closed (Up b) m' q k first agent i j = (e, q, k, first, i, j)
     first_closed (Down b) m' q k first agent i j = (e, q, k, first, i, j)
-    first_closed (Change a b) m' q k first agent i j = record { agent = agent; has = (e, refl, (q, k, first, rows_none me.who (closed_memo me e (slot_memo me (Change a b) p e q k)) m' i)) }
+    first_closed (Change a b) m' q k first agent i j = record { agent = agent; has = (e, refl, (q, k, first, rows_same me.who (closed_memo me e (slot_memo me (Change a b) p e q k)) m' i)) }
 
 -- the second half of a change is closed: the step is done
 pub close_second : (me : Me) (slot : ℕ) (x : Aim) (p : Spot) (r0 : Memo) (w : Spot → ℕ) (r : ℕ → Memo) (f : Frame) (tr : Trail) (e : ℕ) (z : Bool) → PointKeeps me slot x p r0 w r f tr (point.Close e Second z)
@@ -239,7 +201,7 @@ close_second me slot (Change a b) p r0 w r f tr e z st going can fits h =
     let same : core m ≡ core (set_memo me x p e Second q k) = h.has.3 in
     let set : IsSet q (set_memo me x p e Second q k) (set_op x p e Second) = is_set me x p e Second q k tt in
     let o : m.op ≡ op.Change (Lowering Closed) p a b e = ap (λ (y : Memo). y.op) same ∙ set.op in
-    let here : IsHere m = still_here r0 m can.here (ap (λ (y : Memo). y.status) same ∙ (set.status ∙ (half_memo me slot x p r0 q e Second can fits half).1)) in
+    let here : IsHere m = here_same r0 m (ap (λ (y : Memo). y.status) same ∙ (set.status ∙ half_status me slot p r0 q e x Second can fits.0 tt half)) can.here in
     era_stored_kept me w r f tr e (λ n r'. NextHolds me slot x p r0 r' (step_next_at me x (point.Close e Second z) n)) st going here (set_going me x p e Second w r st.held st.who o).era
     (subst (λ (o : Op). Closes o (op_closed o (e + 1))) (sym o) refl)
     (λ m' n agent i. (e, q, k, half, i ∙ closed_core me e m (set_memo me x p e Second q k) same, h.has.4))

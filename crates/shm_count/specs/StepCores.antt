@@ -1,5 +1,5 @@
 -- memos by what a count step reads of them: their cores, the steps in progress, and the slots that a step may have
-use Rattle.std.proofs.Common.{◌≡◌, ℕ, ◌+◌, ◌≤◌, refl, sym, ap, ◌∙◌, subst, arith, Bool, true, false, cond, eqb, List, [], ◌∷◌}
+use Rattle.std.proofs.Common.{◌≡◌, ◌≢◌, ℕ, zero, suc, ◌+◌, ◌-◌, ◌^◌, ◌<◌, ◌≤◌, refl, sym, ap, ◌∙◌, subst, arith, Bool, true, false, not, ◌&&◌, cond, eqb, List, [], ◌∷◌, ◌++◌, map, Some, None, inl, inr, ◌⊎◌}
 use Rattle.std.proofs.lemmas.Bool.{cond-true, and_from}
 use Rattle.std.specs.List.{filter}
 use Rattle.shm_words.specs.declared.geometry.Geometry.{Geometry}
@@ -38,20 +38,6 @@ use Rattle.shm_count.specs.declared.point.Aim.{Aim}
 use Rattle.shm_count.specs.declared.point.StepPoint.{StepPoint}
 use Rattle.shm_count.specs.StepFits.{Rows, CanUp, core, CanStep, CanChange, CanAim, set_memo, closed_memo, CanDown, PointHolds, NextHolds}
 use Rattle.shm_count.specs.StepControl.{last_era, header_after, PartFits, PointFits, step_ask_at, step_next_at}
-
--- ---- the agent
-
--- a change that leaves the kinds of agents leaves the kind of the last one
-last_kind : (f : Agent → Agent) → ((a : Agent) → (f a).kind ≡ a.kind) → (xs : List Agent) → recovers_by (last_agent (with_last f xs)) ≡ recovers_by (last_agent xs)
-last_kind f k [] = refl
-last_kind f k (a ∷ []) = ap is_recoverer (k a)
-last_kind f k (a ∷ b ∷ []) = ap is_recoverer (k b)
-last_kind f k (a ∷ b ∷ d ∷ xs) = last_kind f k (b ∷ d ∷ xs)
-
--- a step leaves the agent what it is, whether or not it ends
-pub agent_stays : (z : Bool) (xs : List Agent) → recovers_by (last_agent (cond z (with_last ended (with_last stepped xs)) (with_last stepped xs))) ≡ recovers_by (last_agent xs)
-agent_stays true xs = last_kind ended (λ a. refl) (with_last stepped xs) ∙ last_kind stepped (λ a. refl) xs
-agent_stays false xs = last_kind stepped (λ a. refl) xs
 
 -- ---- steps in progress
 
@@ -187,16 +173,6 @@ closed_own me e m =
 pub closed_core : (me : Me) (e : ℕ) (m n : Memo) → core m ≡ core n → core (closed_memo me e m) ≡ core (closed_memo me e n)
 closed_core me e m n i = closed_own me e m ∙ (ap (λ (y : Memo). core (closed_memo me e y)) i ∙ sym (closed_own me e n))
 
--- a memo of the same core is one where no row was raised
-pub rows_none : (c : ℕ) (m m' : Memo) → core m' ≡ core m → Rows c m m'
-rows_none c m m' e =
-    let own : m'.own ≡ m.own = ap (λ (y : Memo). y.own) e in
-    record {
-      rest = e ∙ ap (λ o. core (record m { own = o })) (sym own);
-      own = λ p z. ap (λ o. own_word o p) own;
-      more = λ j. subst (λ o. own_word m.own (spot.Era c j) ≤ own_word o (spot.Era c j)) (sym own) (omega arith);
-    }
-
 -- ---- what a step owes
 
 -- the step at a point keeps the invariant, and then what comes next holds of the memo
@@ -217,7 +193,3 @@ kept_going me w r a f after p going e k x =
       step = law.step;
       fits = in_frame (λ h. after (seen_of a (w p)) (memo_on (r me.who) (framed me a h (seen_of a (w p))) p)) f going x;
     })
-
--- an identity that was here before the step is here where its status stayed
-pub still_here : (r0 r : Memo) → IsHere r0 → r.status ≡ r0.status → IsHere r
-still_here r0 r h e = record { joined = λ z. h.joined (sym e ∙ z); stays = λ z. h.stays (sym e ∙ z) }

@@ -70,23 +70,27 @@ module _ (g : Geometry) (w : Spot → ℕ) (r : ℕ → Memo) (c : ℕ) (h : Hel
 
   -- ---- what a slot names
 
-  -- no step in progress covers a slot that c may store while it has none
-  held_cover : (p : Spot) → p ≢ Spare → Holds w g (view r) c p → m.op ≡ Nothing → (d : ℕ) → d < g.clients → (y : ℕ) → cover (cover_of (r d).op) p y ≡ y
-  held_cover p n x idle d ld y =
+  -- no step in progress covers a slot that c may store, where that of c covers nothing
+  held_cover : (p : Spot) → p ≢ Spare → Holds w g (view r) c p → cover_of m.op ≡ Quiet → (d : ℕ) → d < g.clients → (y : ℕ) → cover (cover_of (r d).op) p y ≡ y
+  held_cover p n x quiet d ld y =
       elim (cases_eq c d) [
-        | inl z ↦ subst (λ j. cover (cover_of (r j).op) p y ≡ y) z (ap (λ o. cover (cover_of o) p y) idle)
+        | inl z ↦ subst (λ j. cover (cover_of (r j).op) p y ≡ y) z (ap (λ q. cover q p y) quiet)
         | inr o ↦ cover_slot (r d).op p (same_spot_not (slot_of (r d).op) p (λ z. o (one_holder g w (view r) h c d p l ld x (step_holds g w (view r) h d p ld n z)))) y
       ]
 
   -- so that it names its word
-  pub word_target : (p : Spot) → Holds w g (view r) c p → m.op ≡ Nothing → targets g w (view r) p ≡ word_at (words_of w) p
-  word_target (Home a) x idle = covered_none g.clients (Home a) (w (Home a)) (λ d. cover_of (r d).op) (held_cover (Home a) (λ z. cc) x idle)
-  word_target (Root d k) x idle = covered_none g.clients (Root d k) (w (Root d k)) (λ d. cover_of (r d).op) (held_cover (Root d k) (λ z. cc) x idle)
-  word_target (Slot s i k) x idle = covered_none g.clients (Slot s i k) (w (Slot s i k)) (λ d. cover_of (r d).op) (held_cover (Slot s i k) (λ z. cc) x idle)
-  word_target (Body d i) x idle =
+  pub quiet_target : (p : Spot) → Holds w g (view r) c p → cover_of m.op ≡ Quiet → targets g w (view r) p ≡ word_at (words_of w) p
+  quiet_target (Home a) x quiet = covered_none g.clients (Home a) (w (Home a)) (λ d. cover_of (r d).op) (held_cover (Home a) (λ z. cc) x quiet)
+  quiet_target (Root d k) x quiet = covered_none g.clients (Root d k) (w (Root d k)) (λ d. cover_of (r d).op) (held_cover (Root d k) (λ z. cc) x quiet)
+  quiet_target (Slot s i k) x quiet = covered_none g.clients (Slot s i k) (w (Slot s i k)) (λ d. cover_of (r d).op) (held_cover (Slot s i k) (λ z. cc) x quiet)
+  quiet_target (Body d i) x quiet =
       cond-true (ltb i (refs_of (headers w d).live (w (Tag d)))) (covered (λ d. cover_of (r d).op) g.clients (Body d i) (w (Body d i))) 0 (ap (ltb i) (cond-true (headers w d).live _ 0 x.0) ∙ lt-ltb i _ x.1)
-      ∙ covered_none g.clients (Body d i) (w (Body d i)) (λ d. cover_of (r d).op) (held_cover (Body d i) (λ z. cc) x idle)
-  word_target _ x idle = absurd x
+      ∙ covered_none g.clients (Body d i) (w (Body d i)) (λ d. cover_of (r d).op) (held_cover (Body d i) (λ z. cc) x quiet)
+  quiet_target _ x quiet = absurd x
+
+  -- and so it is while c has none
+  pub word_target : (p : Spot) → Holds w g (view r) c p → m.op ≡ Nothing → targets g w (view r) p ≡ word_at (words_of w) p
+  word_target p x idle = quiet_target p x (ap cover_of idle)
 
   -- ---- blocks
 

@@ -1,0 +1,306 @@
+-- what the memo shows on the way of a count step: what stays where a word is read, where a row is raised, and in each half
+use Rattle.std.proofs.Common.{◌≡◌, ◌≢◌, ℕ, zero, suc, ◌+◌, ◌-◌, ◌^◌, ◌≤◌, refl, sym, ap, ◌∙◌, subst, arith, Bool, true, false, not, cond, eqb, leb, ◌&&◌, List, [], ◌∷◌, ◌++◌, map}
+use Rattle.std.specs.List.{Contains, list_any, filter}
+use Rattle.std.proofs.lemmas.Bool.{eq-eqb, ne_eqb, and_from, cond-true, true≢false}
+use Rattle.std.proofs.lemmas.List.Elements.{Contains-append_right}
+use Rattle.shm_graph.specs.declared.ask.Ask.{Ask}
+use Rattle.shm_graph.specs.declared.ask.Ask.TheVariants.{Load}
+use Rattle.shm_graph.specs.declared.ask.Me.{Me}
+use Rattle.shm_graph.specs.declared.spot.Spot.{Spot}
+use Rattle.shm_graph.specs.declared.spot.Spot.TheVariants as spot
+use Rattle.shm_graph.specs.declared.memo.Agent.{Agent}
+use Rattle.shm_graph.specs.declared.memo.Fact.{Fact}
+use Rattle.shm_graph.specs.declared.memo.Fact.TheVariants.{Header as HeaderRead, Counter}
+use Rattle.shm_graph.specs.declared.memo.Half.TheVariants.{Lowering}
+use Rattle.shm_graph.specs.declared.memo.Second.TheVariants.{Open}
+use Rattle.shm_graph.specs.declared.memo.Look.{Look}
+use Rattle.shm_graph.specs.declared.memo.Memo.{Memo}
+use Rattle.shm_graph.specs.declared.memo.Op.{Op}
+use Rattle.shm_graph.specs.declared.memo.Op.TheVariants as op
+use Rattle.shm_graph.specs.declared.memo.Step.{Step}
+use Rattle.shm_graph.specs.declared.memo.Stored.{Stored}
+use Rattle.shm_graph.specs.Agents.{recovers, recovers_by, last_agent, with_last, stepped, ended, is_recoverer, is_gone}
+use Rattle.shm_graph.specs.Changes.{called, test_before, changed_by, with_call, with_end, memo_on}
+use Rattle.shm_graph.specs.Laws.{Frame, framed}
+use Rattle.shm_graph.specs.Ops.{Quiet, cover, cover_of}
+use Rattle.shm_graph.specs.Reach.{shown, roots_below, in_slots, not_zero, is_reached, learnt}
+use Rattle.shm_graph.specs.Readings.{row_read, header_read, op_refused, raised_by, is_held}
+use Rattle.shm_graph.specs.Spots.{same_spot}
+use Rattle.shm_graph.specs.Stores.{with_own, written, op_closed, is_lowering, without_looks, era_stored, making_with}
+use Rattle.shm_graph.specs.Views.{own_word}
+use Rattle.shm_graph.proofs.Calling.{called_part}
+use Rattle.shm_graph.proofs.KindKeeping.{in_frame}
+use Rattle.shm_graph.proofs.Loads.{choice}
+use Rattle.shm_graph.proofs.Spotting.{same_spot_self, same_spot_is, same_spot_not}
+use Rattle.shm_steps.specs.Conditions.{IsHere}
+use Rattle.shm_words.specs.Headers.{header_of}
+use Rattle.shm_words.specs.Redos.{redo_word}
+use Rattle.shm_count.specs.declared.point.Aim.{Aim}
+use Rattle.shm_count.specs.declared.point.Aim.TheVariants.{Up, Down, Change}
+use Rattle.shm_count.specs.declared.point.Part.{Part}
+use Rattle.shm_count.specs.declared.point.Part.TheVariants.{First, Second}
+use Rattle.shm_count.specs.StepControl.{last_era, redo_at, EraFits, PartFits}
+use Rattle.shm_count.specs.StepFits.{CanChange, CanStep, core, begun_op, op_of, is_row, Rows, begun, AtFirst, set_memo, slot_memo, closed_memo, HasRead, InHalf}
+
+-- ---- rows
+
+-- no row was raised where only what the memo has of its call and of its agents differs
+pub rows_same : (c : ℕ) (m m' : Memo) → core m' ≡ core m → Rows c m m'
+rows_same c m m' e =
+    let o : m'.own ≡ m.own = ap (λ (x : Memo). x.own) e in
+    record {
+      rest = e ∙ ap (λ (s : List Stored). core (record m { own = s })) (sym o);
+      own = λ p n. ap (λ (s : List Stored). own_word s p) o;
+      more = λ j. subst (λ (s : List Stored). own_word m.own (spot.Era c j) ≤ own_word s (spot.Era c j)) (sym o) (omega arith);
+    }
+
+-- rows are raised again
+pub rows_then : (c : ℕ) (m m' m'' : Memo) → Rows c m m' → Rows c m' m'' → Rows c m m''
+rows_then c m m' m'' h k =
+    record {
+      rest = k.rest ∙ ap (λ (x : Memo). record x { own = m''.own }) h.rest;
+      own = λ p n. k.own p n ∙ h.own p n;
+      more = λ j. let a = h.more j in let b = k.more j in omega arith;
+    }
+
+-- the word of another identity in the own row is one of the row
+row_is : (c j : ℕ) → c ≢ j → is_row c (spot.Era c j) ≡ true
+row_is c j n = and_from _ _ (eq-eqb c c refl) (ap not (ne_eqb j c (λ z. n (sym z))))
+
+-- and the own era is none
+own_is_none : (c : ℕ) → is_row c (spot.Era c c) ≡ false
+own_is_none c = rw (eq-eqb c c refl) refl
+
+-- a row is raised
+pub row_raised : (c : ℕ) (m m' : Memo) (j v : ℕ) → c ≢ j → own_word m.own (spot.Era c j) ≤ v → core m' ≡ core (with_own m (spot.Era c j) v) → Rows c m m'
+row_raised c m m' j v other more e =
+    rows_then c m (with_own m (spot.Era c j) v) m'
+    (record {
+      rest = refl;
+      own = λ p n. ap (λ b. cond b v (own_word m.own p)) (same_spot_not (spot.Era c j) p (λ z. true≢false (sym (row_is c j other) ∙ (ap (is_row c) z ∙ n))));
+      more = λ i. choice (λ y. own_word m.own (spot.Era c i) ≤ y) (same_spot (spot.Era c j) (spot.Era c i)) v (own_word m.own (spot.Era c i))
+          (λ z. subst (λ s. own_word m.own s ≤ v) (same_spot_is (spot.Era c j) (spot.Era c i) z) more)
+          (λ z. omega arith);
+    })
+    (rows_same c (with_own m (spot.Era c j) v) m' e)
+
+-- ---- the agent
+
+-- the last agent is of the kind that it was of
+recovers_with : (f : Agent → Agent) → ((a : Agent) → (f a).kind ≡ a.kind) → (xs : List Agent) → recovers_by (last_agent (with_last f xs)) ≡ recovers_by (last_agent xs)
+recovers_with f k [] = refl
+recovers_with f k (a ∷ []) = ap is_recoverer (k a)
+recovers_with f k (a ∷ b ∷ []) = ap is_recoverer (k b)
+recovers_with f k (a ∷ b ∷ d ∷ xs) = recovers_with f k (b ∷ d ∷ xs)
+
+-- the agent at a step, and after it, is what it was
+pub recovers_called : (m : Memo) (t : Step) → recovers (called m t) ≡ recovers m
+recovers_called m t = recovers_with stepped (λ a. refl) m.agents
+
+pub recovers_after : (m : Memo) (t : Step) (p : Spot) → recovers (memo_on m t p) ≡ recovers m
+recovers_after m t p =
+    choice (λ (xs : List Agent). recovers_by (last_agent xs) ≡ recovers m) (is_gone (changed_by m t p t.ask).status && t.ends) (with_last ended (called m t).agents) (called m t).agents
+    (λ z. recovers_with ended (λ a. refl) (called m t).agents ∙ recovers_called m t)
+    (λ z. recovers_called m t)
+
+-- ---- what is read
+
+-- the memo at a step has what the memo had
+pub called_core : (m : Memo) (t : Step) → core (called m t) ≡ core m
+called_core m t = called_part core m t refl refl
+
+-- and its facts, but at a machine's first step
+pub called_facts : (me : Me) (a : Ask) (f : Frame) (n : ℕ) (m : Memo) → f.fresh ≡ false → (called m (framed me a f n)).facts ≡ m.facts
+called_facts me a f n m e = in_frame (λ h. (called m (framed me a h n)).facts ≡ m.facts) f e refl
+
+-- an era was read
+pub era_core : (me : Me) (f : Frame) (m : Memo) (at i j n : ℕ) → core (memo_on m (framed me (Load at) f n) (spot.Era i j)) ≡ core m
+era_core me f m at i j n =
+    let t : Step = framed me (Load at) f n in
+    let x : Memo = called m t in
+    choice (λ (y : Memo). core y ≡ core x) (eqb j me.who && not (eqb i me.who)) (row_read me.who x (test_before m t) i n) (record x { facts = Counter (spot.Era i j) n ∷ x.facts }) (λ z. refl) (λ z. refl)
+    ∙ called_core m t
+
+-- what was read before still binds
+pub era_facts : (me : Me) (f : Frame) (m : Memo) (at i j n : ℕ) (k : Fact) → f.fresh ≡ false → Contains m.facts k → Contains (memo_on m (framed me (Load at) f n) (spot.Era i j)).facts k
+era_facts me f m at i j n k going h =
+    let t : Step = framed me (Load at) f n in
+    let x : Memo = called m t in
+    let has : Contains x.facts k = subst (λ (fs : List Fact). Contains fs k) (sym (called_facts me (Load at) f n m going)) h in
+    choice (λ (y : Memo). Contains y.facts k) (eqb j me.who && not (eqb i me.who)) (row_read me.who x (test_before m t) i n) (record x { facts = Counter (spot.Era i j) n ∷ x.facts })
+    (λ z. Contains-append_right (Counter (spot.Era i me.who) n ∷ []) x.facts k has)
+    (λ z. Contains-append_right (Counter (spot.Era i j) n ∷ []) x.facts k has)
+
+-- the step that ends where a header shows a full count, by whether the agent is a recoverer
+abbrev refused_by : Bool → Op → ℕ → ℕ → Op
+refused_by y o b n = cond (not y && (is_held (raised_by o) b && leb 1023 (header_of n).count)) op.Nothing o
+
+-- a header was read, by a load or by an exchange that failed
+pub header_core : (me : Me) (a : Ask) (f : Frame) (m : Memo) (b n : ℕ) (load : Bool)
+    → core (with_end f.ends (with_call (called m (framed me a f n)) (header_read me.geometry me.who load (called m (framed me a f n)) b n))) ≡ core (record m { op = op_refused m b n })
+header_core me a f m b n load =
+    let t : Step = framed me a f n in
+    ap (λ y. core (record (called m t) { op = refused_by y (called m t).op b n })) (recovers_called m t)
+    ∙ ap (λ (x : Memo). record x { op = refused_by (recovers m) x.op b n }) (called_core m t)
+
+-- ---- the halves
+
+-- the halves stay where a word is read, and where a row is raised
+pub half_then : (me : Me) (slot : ℕ) (x : Aim) (p : Spot) (r0 r r' : Memo) (e : ℕ) (h : Part) → Rows me.who r r' → InHalf me slot x p r0 r e h → InHalf me slot x p r0 r' e h
+half_then me slot x p r0 r r' e First k (own, rows) = (own, rows_then me.who (begun me slot x p e r0) r r' rows k)
+half_then me slot x p r0 r r' e Second k (d, next, (q, w, at, rows)) = (d, next, (q, w, at, rows_then me.who (closed_memo me d (slot_memo me x p d q w)) r r' rows k))
+
+pub half_same : (me : Me) (slot : ℕ) (x : Aim) (p : Spot) (r0 r r' : Memo) (e : ℕ) (h : Part) → core r' ≡ core r → InHalf me slot x p r0 r e h → InHalf me slot x p r0 r' e h
+half_same me slot x p r0 r r' e h k = half_then me slot x p r0 r r' e h (rows_same me.who r r' k)
+
+-- what was read before still binds where the facts stay
+pub read_same : (c n : ℕ) (r r' : Memo) (w : ℕ) → (Contains r.facts (HeaderRead w) → Contains r'.facts (HeaderRead w)) → HasRead c n r w → HasRead c n r' w
+read_same c n r r' w stays h = record { fact = stays h.fact; live = h.live; counted = h.counted; client = h.client }
+
+-- ---- the first half
+
+-- the own era leaves room for the step
+pub era_room : (x : Aim) (e : ℕ) → EraFits x e First → e ≤ last_era x
+era_room (Up b) e l = omega arith
+era_room (Down b) e l = omega arith
+era_room (Change a b) e l = omega arith
+
+-- a step that has begun covers nothing
+pub begun_quiet : (x : Aim) (p : Spot) (e : ℕ) → cover_of (begun_op x p e) ≡ Quiet
+begun_quiet (Up b) p e = refl
+begun_quiet (Down b) p e = refl
+begun_quiet (Change a b) p e = refl
+
+-- ---- what is in reach
+
+roots_same : (c : ℕ) (m m' : Memo) → ((k : ℕ) → shown m' (spot.Root c k) ≡ shown m (spot.Root c k)) → (n : ℕ) → roots_below c m' n ≡ roots_below c m n
+roots_same c m m' e zero = refl
+roots_same c m m' e (suc k) = ap (λ y. y ∷ roots_below c m' k) (e k) ∙ ap (λ ys. shown m (spot.Root c k) ∷ ys) (roots_same c m m' e k)
+
+-- the same blocks are in reach where the own reference words, what is known and the looks show the same
+pub reach_same : (c : ℕ) (m m' : Memo) (b : ℕ) → ((k : ℕ) → shown m' (spot.Root c k) ≡ shown m (spot.Root c k)) → shown m' (spot.Home c) ≡ shown m (spot.Home c) → m'.known ≡ m.known → m'.looks ≡ m.looks → is_reached c m' b ≡ is_reached c m b
+reach_same c m m' b roots home known looks =
+    ap (λ xs. list_any (eqb b) (filter not_zero (xs ++ shown m' (spot.Home c) ∷ in_slots m'.known) ++ map (λ (k : Look). k.block) m'.looks)) (roots_same c m m' roots 16)
+    ∙ (ap (λ y. list_any (eqb b) (filter not_zero (roots_below c m 16 ++ y ∷ in_slots m'.known) ++ map (λ (k : Look). k.block) m'.looks)) home
+    ∙ (ap (λ ks. list_any (eqb b) (filter not_zero (roots_below c m 16 ++ shown m (spot.Home c) ∷ in_slots ks) ++ map (λ (k : Look). k.block) m'.looks)) known
+    ∙ ap (λ (ls : List Look). list_any (eqb b) (filter not_zero (roots_below c m 16 ++ shown m (spot.Home c) ∷ in_slots m.known) ++ map (λ (k : Look). k.block) ls)) looks))
+
+-- ---- the slot of a change
+
+-- what the store of the own era makes of a part that the looks and what is known don't show
+pub closed_part : {T : Type 0} (F : Memo → T) (me : Me) (e : ℕ) (m : Memo)
+    → F (without_looks me.who (record (with_own m (spot.Era me.who me.who) (e + 1)) { op = op_closed m.op (e + 1) })) ≡ F (record (with_own m (spot.Era me.who me.who) (e + 1)) { op = op_closed m.op (e + 1) })
+    → F (closed_memo me e m) ≡ F (record (with_own m (spot.Era me.who me.who) (e + 1)) { op = op_closed m.op (e + 1) })
+closed_part F me e m same =
+    let c = me.who in
+    let n : Memo = record (with_own m (spot.Era c c) (e + 1)) { op = op_closed m.op (e + 1) } in
+    ap F (cond-true _ (era_stored c m (spot.Era c c) (e + 1)) (with_own m (spot.Era c c) (e + 1)) (eq-eqb c c refl))
+    ∙ choice (λ (z : Memo). F z ≡ F n) (is_lowering m.op) (without_looks c n) n (λ z. same) (λ z. refl)
+
+-- what the store of a change's slot, an own root or a word of a block, makes of the memo
+module _ (me : Me) (a b : ℕ) (r0 q : Memo) (d w : ℕ) where
+  abbrev slotted : Spot → Memo
+  slotted p = slot_memo me (Change a b) p d q w
+
+  -- the second half is open once the own era is stored
+  slotted_op : (p : Spot) (v : ℕ) → CanChange me.who r0 a b p → op_closed (slotted p).op v ≡ op.Change (Lowering Open) p a b v
+  slotted_op (spot.Root i k) v can = refl
+  slotted_op (spot.Body i k) v can =
+      let s : Memo = set_memo me (Change a b) (spot.Body i k) d First q w in
+      choice (λ (z : Memo). op_closed z.op v ≡ op.Change (Lowering Open) (spot.Body i k) a b v) (same_spot (spot.Body i k) (spot.Body i k))
+      (record (written s) { known = learnt (spot.Body i k) b s.known }) (record s { making = making_with me.geometry s.facts s.making i (spot.Body i k) b }) (λ z. refl) (λ z. refl)
+  slotted_op _ v can = absurd can
+
+  -- the status stays
+  slotted_status : (p : Spot) → CanChange me.who r0 a b p → (slotted p).status ≡ q.status
+  slotted_status (spot.Root i k) can = refl
+  slotted_status (spot.Body i k) can =
+      let s : Memo = set_memo me (Change a b) (spot.Body i k) d First q w in
+      choice (λ (z : Memo). z.status ≡ q.status) (same_spot (spot.Body i k) (spot.Body i k))
+      (record (written s) { known = learnt (spot.Body i k) b s.known }) (record s { making = making_with me.geometry s.facts s.making i (spot.Body i k) b }) (λ z. refl) (λ z. refl)
+  slotted_status _ can = absurd can
+
+  -- and so does the redo word
+  slotted_redo : (p : Spot) → CanChange me.who r0 a b p → own_word (slotted p).own (spot.Redo me.who) ≡ own_word q.own (spot.Redo me.who)
+  slotted_redo (spot.Root i k) can = refl
+  slotted_redo (spot.Body i k) can =
+      let s : Memo = set_memo me (Change a b) (spot.Body i k) d First q w in
+      choice (λ (z : Memo). own_word z.own (spot.Redo me.who) ≡ own_word q.own (spot.Redo me.who)) (same_spot (spot.Body i k) (spot.Body i k))
+      (record (written s) { known = learnt (spot.Body i k) b s.known }) (record s { making = making_with me.geometry s.facts s.making i (spot.Body i k) b }) (λ z. refl) (λ z. refl)
+  slotted_redo _ can = absurd can
+
+-- ---- what each half shows
+
+-- the era of the first half
+abbrev pub first_era : ℕ → Part → ℕ
+first_era e First = e
+first_era e Second = e - 1
+
+module _ (me : Me) (slot : ℕ) (p : Spot) (r0 r : Memo) (e : ℕ) where
+  -- what the memo shows before is what the slot needs
+  pub change_can : (a b : ℕ) → CanStep me slot (Change a b) p r0 → e + 3 ≤ 2 ^ 47 → InHalf me slot (Change a b) p r0 r e Second → CanChange me.who r0 a b p
+  change_can a b can era (d, next, (q, w, (own, first), rows)) = can.can (omega arith)
+
+  -- the step in progress
+  pub half_op : (x : Aim) (h : Part) → CanStep me slot x p r0 → EraFits x e h → PartFits x h → InHalf me slot x p r0 r e h → r.op ≡ op_of x p e h
+  half_op x First can era part (own, rows) = ap (λ (m : Memo). m.op) rows.rest
+  half_op (Change a b) Second can era part (d, next, (q, w, at, rows)) =
+      let s : Memo = slot_memo me (Change a b) p d q w in
+      ap (λ (m : Memo). m.op) rows.rest
+      ∙ (closed_part (λ (m : Memo). m.op) me d s refl
+      ∙ (slotted_op me a b r0 q d w p (d + 1) (change_can a b can era (d, next, (q, w, at, rows)))
+      ∙ ap (λ y. op.Change (Lowering Open) p a b y) (sym next)))
+  half_op (Up b) Second can era part k = absurd part
+  half_op (Down b) Second can era part k = absurd part
+
+  -- the own era
+  pub half_era : (x : Aim) (h : Part) → InHalf me slot x p r0 r e h → own_word r.own (spot.Era me.who me.who) ≡ e
+  half_era x First (own, rows) = rows.own (spot.Era me.who me.who) (own_is_none me.who) ∙ sym own
+  half_era x Second (d, next, (q, w, at, rows)) =
+      let c = me.who in
+      let s : Memo = slot_memo me x p d q w in
+      rows.own (spot.Era c c) (own_is_none c)
+      ∙ (closed_part (λ (m : Memo). own_word m.own (spot.Era c c)) me d s refl
+      ∙ (cond-true (same_spot (spot.Era c c) (spot.Era c c)) (d + 1) (own_word s.own (spot.Era c c)) (same_spot_self (spot.Era c c)) ∙ sym next))
+
+  -- the redo word
+  first_redo : (x : Aim) (q : Memo) (d : ℕ) → AtFirst me slot x p r0 q d → own_word q.own (spot.Redo me.who) ≡ redo_word (redo_at x slot d)
+  first_redo x q d (own, rows) = rows.own (spot.Redo me.who) refl ∙ cond-true (same_spot (spot.Redo me.who) (spot.Redo me.who)) (redo_word (redo_at x slot d)) (own_word r0.own (spot.Redo me.who)) (same_spot_self (spot.Redo me.who))
+
+  pub half_redo : (x : Aim) (h : Part) → CanStep me slot x p r0 → EraFits x e h → PartFits x h → InHalf me slot x p r0 r e h → own_word r.own (spot.Redo me.who) ≡ redo_word (redo_at x slot (first_era e h))
+  half_redo x First can era part k = first_redo x r e k
+  half_redo (Change a b) Second can era part (d, next, (q, w, at, rows)) =
+      let s : Memo = slot_memo me (Change a b) p d q w in
+      let same : d ≡ e - 1 = omega arith in
+      rows.own (spot.Redo me.who) refl
+      ∙ (closed_part (λ (m : Memo). own_word m.own (spot.Redo me.who)) me d s refl
+      ∙ (slotted_redo me a b r0 q d w p (change_can a b can era (d, next, (q, w, at, rows)))
+      ∙ (first_redo (Change a b) q d at ∙ ap (λ y. redo_word (redo_at (Change a b) slot y)) same)))
+  half_redo (Up b) Second can era part k = absurd part
+  half_redo (Down b) Second can era part k = absurd part
+
+  -- the status
+  pub half_status : (x : Aim) (h : Part) → CanStep me slot x p r0 → EraFits x e h → PartFits x h → InHalf me slot x p r0 r e h → r.status ≡ r0.status
+  half_status x First can era part (own, rows) = ap (λ (m : Memo). m.status) rows.rest
+  half_status (Change a b) Second can era part (d, next, (q, w, (own, first), rows)) =
+      let s : Memo = slot_memo me (Change a b) p d q w in
+      ap (λ (m : Memo). m.status) rows.rest
+      ∙ (closed_part (λ (m : Memo). m.status) me d s refl
+      ∙ (slotted_status me a b r0 q d w p (change_can a b can era (d, next, (q, w, (own, first), rows)))
+      ∙ ap (λ (m : Memo). m.status) first.rest))
+  half_status (Up b) Second can era part k = absurd part
+  half_status (Down b) Second can era part k = absurd part
+
+-- an identity that is here is so where its status is the same
+pub here_same : (r r' : Memo) → r'.status ≡ r.status → IsHere r → IsHere r'
+here_same r r' e h = record { joined = λ z. h.joined (sym e ∙ z); stays = λ z. h.stays (sym e ∙ z) }
+
+-- in the first half what is in reach is so as before
+pub first_reach : (me : Me) (slot : ℕ) (x : Aim) (p : Spot) (r0 r : Memo) (e b : ℕ) → r0.op ≡ op.Nothing → AtFirst me slot x p r0 r e → is_reached me.who r b ≡ is_reached me.who r0 b
+first_reach me slot x p r0 r e b idle (own, rows) =
+    let c = me.who in
+    let same : (s : Spot) → is_row c s ≡ false → own_word (begun me slot x p e r0).own s ≡ own_word r0.own s → shown r s ≡ shown r0 s = λ s n k.
+    ap (λ (o : Op). cover (cover_of o) s (own_word r.own s)) (ap (λ (m : Memo). m.op) rows.rest)
+    ∙ (ap (λ y. cover y s (own_word r.own s)) (begun_quiet x p e)
+    ∙ (rows.own s n ∙ (k ∙ ap (λ (o : Op). cover (cover_of o) s (own_word r0.own s)) (sym idle)))) in
+    reach_same c r0 r b (λ k. same (spot.Root c k) refl refl) (same (spot.Home c) refl refl) (ap (λ (m : Memo). m.known) rows.rest) (ap (λ (m : Memo). m.looks) rows.rest)
