@@ -10,3 +10,4 @@ pub mod StepMemos
 pub mod StepHeaders
 pub mod StepCores
 pub mod StepCommitting
+pub mod StepExchanging
