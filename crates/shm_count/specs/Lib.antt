@@ -11,3 +11,4 @@ pub mod StepHeaders
 pub mod StepCores
 pub mod StepCommitting
 pub mod StepExchanging
+pub mod StepTells

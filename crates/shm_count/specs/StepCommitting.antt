@@ -38,7 +38,7 @@ use Rattle.shm_count.specs.declared.point.Part.{Part}
 use Rattle.shm_count.specs.declared.point.Aim.TheVariants.{Change, Down, Up}
 use Rattle.shm_count.specs.declared.point.StepPoint.TheVariants as point
 use Rattle.shm_count.specs.StepCores.{set_op, stored_core, can_slot, IsSet, PointKeeps, HasSlot, kept_going, IsStepSlot, is_set, is_stored, closed_core}
-use Rattle.shm_count.specs.StepFits.{NextHolds, AtFirst, core, set_memo, slot_memo, closed_memo, InHalf, op_of, CanStep, Rows}
+use Rattle.shm_count.specs.StepFits.{NextHolds, AtFirst, core, set_memo, slot_memo, closed_memo, InHalf, op_of, CanStep, Rows, PointHolds}
 use Rattle.shm_count.specs.StepControl.{AimFits, last_era, step_next_at, PartFits, value_after, EraFits, closed_next, raises}
 use Rattle.shm_count.specs.StepMemos.{recovers_after, era_room, half_status, rows_same, here_same}
 
@@ -100,6 +100,21 @@ part_first (Up b) = tt
 part_first (Down b) = tt
 part_first (Change a b) = tt
 
+-- where the slot is to be stored, the step is committed, its slot stands at the address, and it is one that a step may have
+pub record IsSetAt (me : Me) (slot : ℕ) (x : Aim) (p : Spot) (w : Spot → ℕ) (m : Memo) (e : ℕ) : Type 0 where
+  pub place : spot_at me.geometry (classes w) slot ≡ p
+  pub kind : IsStepSlot me.who p
+  pub op : m.op ≡ set_op x p e First
+
+pub slot_set : (me : Me) (slot : ℕ) (x : Aim) (p : Spot) (r0 : Memo) (w : Spot → ℕ) (r : ℕ → Memo) (e : ℕ) (z : Bool) → HeldAt me.geometry w (view r) → me.who < me.geometry.clients → CanStep me slot x p r0 → EraFits x e First → PointHolds me slot x p r0 (r me.who) (point.Slot e z) → IsSetAt me slot x p w (r me.who) e
+slot_set me slot x p r0 w r e z held who can fits h =
+    let o : (r me.who).op ≡ set_op x p e First = ap (λ (y : Memo). y.op) h.has.3 ∙ (is_set me x p e First h.has.0 h.has.1 (part_first x)).op in
+    record {
+      place = ap (spot_at me.geometry (classes w)) can.at ∙ (set_going me x p e First w r held who o).at;
+      kind = can_slot me slot x p r0 e can h.has.2.0 (era_room x e fits);
+      op = o;
+    }
+
 -- the slot is stored
 pub slot_step : (me : Me) (slot : ℕ) (x : Aim) (p : Spot) (r0 : Memo) (w : Spot → ℕ) (r : ℕ → Memo) (f : Frame) (tr : Trail) (e : ℕ) (z : Bool) → PointKeeps me slot x p r0 w r f tr (point.Slot e z)
 slot_step me slot x p r0 w r f tr e z st going can fits h =
@@ -110,21 +125,18 @@ slot_step me slot x p r0 w r f tr e z st going can fits h =
     let first : AtFirst me slot x p r0 q e = h.has.2 in
     let same : core m ≡ core (set_memo me x p e First q k) = h.has.3 in
     let set : IsSet q (set_memo me x p e First q k) (set_op x p e First) = is_set me x p e First q k (part_first x) in
-    let o : m.op ≡ set_op x p e First = ap (λ (y : Memo). y.op) same ∙ set.op in
+    let s : IsSetAt me slot x p w m e = slot_set me slot x p r0 w r e z st.held st.who can fits h in
     let here : IsHere m = here_same r0 m (ap (λ (y : Memo). y.status) same ∙ (set.status ∙ ap (λ (y : Memo). y.status) first.1.rest)) can.here in
-    let kind : IsStepSlot c p = can_slot me slot x p r0 e can first.0 (era_room x e fits) in
-    let t : IsGoing me w m p e = set_going me x p e First w r st.held st.who o in
-    let i : spot_at me.geometry (classes w) slot ≡ p = ap (spot_at me.geometry (classes w)) can.at ∙ t.at in
     let y : ℕ = value_after x in
     let a : Ask = Store slot y in
-    let has : HasSlot m p = subst (λ (o : Op). (is_op o ≡ true) × (slot_of o ≡ p)) (sym o) (set_slot x p e) in
+    let has : HasSlot m p = subst (λ (o : Op). (is_op o ≡ true) × (slot_of o ≡ p)) (sym s.op) (set_slot x p e) in
     let n : Memo = called m (framed me a (record f { fresh = false }) 0) in
-    kept_going me w r a f (λ n r'. NextHolds me slot x p r0 r' (step_next_at me x (point.Slot e z) n)) p going i
-    (slot_written me w r f tr slot y p st going i kind
-    (record { here = here; slot = has.1; op = subst (λ (o : Op). Writes o (op_written o) y) (sym o) (set_writes x p e); small = value_small me x can.geometry can.blocks }))
+    kept_going me w r a f (λ n r'. NextHolds me slot x p r0 r' (step_next_at me x (point.Slot e z) n)) p going s.place
+    (slot_written me w r f tr slot y p st going s.place s.kind
+    (record { here = here; slot = has.1; op = subst (λ (o : Op). Writes o (op_written o) y) (sym s.op) (set_writes x p e); small = value_small me x can.geometry can.blocks }))
     (record {
       agent = recovers_after m (framed me a (record f { fresh = false }) 0) p ∙ h.agent;
-      has = (q, k, first, stored_core me.geometry c p y n (set_memo me x p e First q k) kind has same, h.has.4);
+      has = (q, k, first, stored_core me.geometry c p y n (set_memo me x p e First q k) s.kind has same, h.has.4);
     })
 
 -- ---- the own era
