@@ -1,6 +1,6 @@
 -- the last points of a count step: what the exchange of a header that finds it, the store of the slot and that of the own era keep
-use Rattle.std.proofs.Common.{◌≡◌, ◌≢◌, ℕ, zero, suc, ◌+◌, ◌-◌, ◌^◌, ◌<◌, ◌≤◌, refl, sym, ap, ◌∙◌, subst, arith, Bool, true, false, not, ◌&&◌, cond, eqb, List, [], ◌∷◌, ◌++◌, map, Some, None, inl, inr, ◌⊎◌}
-use Rattle.std.proofs.lemmas.Bool.{eq-eqb, ne_eqb, and_from, lt-ltb, cond-true, cond-false, cases_eq, true≢false, false≢true}
+use Rattle.std.proofs.Common.{◌≡◌, ℕ, ◌+◌, ◌^◌, ◌<◌, refl, sym, ap, ◌∙◌, subst, arith, Bool, true, false, not, ◌&&◌, eqb}
+use Rattle.std.proofs.lemmas.Bool.{eq-eqb, and_from, lt-ltb}
 use Rattle.shm_words.proofs.Placing.{total_small}
 use Rattle.shm_words.specs.Layout.{GeometryFits, total_of, address}
 use Rattle.shm_words.specs.Headers.{header_of}
@@ -11,16 +11,15 @@ use Rattle.shm_graph.specs.declared.spot.Spot.{Spot}
 use Rattle.shm_graph.specs.declared.memo.Memo.{Memo}
 use Rattle.shm_graph.specs.declared.memo.Op.{Op}
 use Rattle.shm_graph.specs.declared.ask.Ask.TheVariants.{Store}
-use Rattle.shm_graph.specs.declared.memo.First.TheVariants.{Written}
-use Rattle.shm_graph.specs.declared.memo.Second.TheVariants.{Closed, Open}
-use Rattle.shm_graph.specs.declared.memo.Half.TheVariants.{Raising, Lowering}
+use Rattle.shm_graph.specs.declared.memo.Second.TheVariants.{Closed}
+use Rattle.shm_graph.specs.declared.memo.Half.TheVariants.{Lowering}
 use Rattle.shm_graph.specs.declared.spot.Spot.TheVariants as spot
 use Rattle.shm_graph.specs.declared.memo.Op.TheVariants as op
 use Rattle.shm_graph.specs.Views.{own_word, view}
 use Rattle.shm_graph.specs.References.{words_of}
 use Rattle.shm_graph.specs.Asks.{Trail}
 use Rattle.shm_graph.specs.Laws.{framed, Stands, KeptAt, Frame}
-use Rattle.shm_graph.specs.Stores.{op_written, op_closed, without_looks, era_stored, is_lowering, with_own}
+use Rattle.shm_graph.specs.Stores.{op_written, op_closed}
 use Rattle.shm_graph.specs.Ops.{is_op, slot_of}
 use Rattle.shm_graph.specs.Held.{HeldAt, OpTie}
 use Rattle.shm_graph.specs.Spots.{spot_at, IsAt}
@@ -38,8 +37,8 @@ use Rattle.shm_count.specs.declared.point.Part.{Part}
 use Rattle.shm_count.specs.declared.point.Aim.TheVariants.{Change, Down, Up}
 use Rattle.shm_count.specs.declared.point.StepPoint.TheVariants as point
 use Rattle.shm_count.specs.StepCores.{set_op, stored_core, can_slot, IsSet, PointKeeps, HasSlot, kept_going, IsStepSlot, is_set, is_stored, closed_core}
-use Rattle.shm_count.specs.StepFits.{NextHolds, AtFirst, core, set_memo, slot_memo, closed_memo, InHalf, op_of, CanStep, Rows, PointHolds}
-use Rattle.shm_count.specs.StepControl.{AimFits, last_era, step_next_at, PartFits, value_after, EraFits, closed_next, raises}
+use Rattle.shm_count.specs.StepFits.{NextHolds, AtFirst, core, set_memo, slot_memo, closed_memo, InHalf, CanStep, PointHolds}
+use Rattle.shm_count.specs.StepControl.{AimFits, step_next_at, PartFits, value_after, EraFits, closed_next, raises}
 use Rattle.shm_count.specs.StepMemos.{recovers_after, era_room, half_status, rows_same, here_same}
 
 -- ---- the step in progress
@@ -53,6 +52,7 @@ pub record IsGoing (me : Me) (w : Spot → ℕ) (m : Memo) (p : Spot) (e : ℕ) 
 own_era : (me : Me) (w : Spot → ℕ) (r : ℕ → Memo) → HeldAt me.geometry w (view r) → me.who < me.geometry.clients → own_word (r me.who).own (spot.Era me.who me.who) ≡ w (spot.Era me.who me.who)
 own_era me w r held who = held.mine me.who who (spot.Era me.who me.who) (eq-eqb me.who me.who refl)
 
+-- so it is for a step that a half committed
 pub set_going : (me : Me) (x : Aim) (p : Spot) (e : ℕ) (h : Part) (w : Spot → ℕ) (r : ℕ → Memo) → HeldAt me.geometry w (view r) → me.who < me.geometry.clients → (r me.who).op ≡ set_op x p e h → IsGoing me w (r me.who) p e
 set_going me x p e h w r held who o = go x h (subst (OpTie me.geometry (classes w) (w (spot.Redo me.who)) (w (spot.Era me.who me.who)) (words_of w)) o (held.op me.who who))
   where
@@ -106,6 +106,7 @@ pub record IsSetAt (me : Me) (slot : ℕ) (x : Aim) (p : Spot) (w : Spot → ℕ
   pub kind : IsStepSlot me.who p
   pub op : m.op ≡ set_op x p e First
 
+-- so it is at that point
 pub slot_set : (me : Me) (slot : ℕ) (x : Aim) (p : Spot) (r0 : Memo) (w : Spot → ℕ) (r : ℕ → Memo) (e : ℕ) (z : Bool) → HeldAt me.geometry w (view r) → me.who < me.geometry.clients → CanStep me slot x p r0 → EraFits x e First → PointHolds me slot x p r0 (r me.who) (point.Slot e z) → IsSetAt me slot x p w (r me.who) e
 slot_set me slot x p r0 w r e z held who can fits h =
     let o : (r me.who).op ≡ set_op x p e First = ap (λ (y : Memo). y.op) h.has.3 ∙ (is_set me x p e First h.has.0 h.has.1 (part_first x)).op in

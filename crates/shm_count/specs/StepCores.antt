@@ -1,13 +1,11 @@
 -- memos by what a count step reads of them: their cores, the steps in progress, and the slots that a step may have
-use Rattle.std.proofs.Common.{◌≡◌, ◌≢◌, ℕ, zero, suc, ◌+◌, ◌-◌, ◌^◌, ◌<◌, ◌≤◌, refl, sym, ap, ◌∙◌, subst, arith, Bool, true, false, not, ◌&&◌, cond, eqb, List, [], ◌∷◌, ◌++◌, map, Some, None, inl, inr, ◌⊎◌}
+use Rattle.std.proofs.Common.{◌≡◌, ℕ, ◌+◌, ◌≤◌, refl, sym, ap, ◌∙◌, subst, Bool, true, false, cond, eqb}
 use Rattle.std.proofs.lemmas.Bool.{cond-true, and_from}
-use Rattle.std.specs.List.{filter}
 use Rattle.shm_words.specs.declared.geometry.Geometry.{Geometry}
 use Rattle.shm_words.specs.Headers.{header_of}
 use Rattle.shm_graph.specs.declared.ask.Ask.{Ask}
 use Rattle.shm_graph.specs.declared.ask.Me.{Me}
 use Rattle.shm_graph.specs.declared.spot.Spot.{Spot}
-use Rattle.shm_graph.specs.declared.memo.Agent.{Agent}
 use Rattle.shm_graph.specs.declared.memo.Memo.{Memo}
 use Rattle.shm_graph.specs.declared.memo.Half.TheVariants.{Lowering, Raising}
 use Rattle.shm_graph.specs.declared.memo.First.TheVariants.{Committed}
@@ -16,11 +14,10 @@ use Rattle.shm_graph.specs.declared.memo.Second.TheVariants.{Closed}
 use Rattle.shm_graph.specs.declared.spot.Spot.TheVariants as spot
 use Rattle.shm_graph.specs.declared.memo.Op.TheVariants as op
 use Rattle.shm_graph.specs.Exchanges.{reparted, cut, without_made, lowered, with_untaken}
-use Rattle.shm_graph.specs.Stores.{op_written, written, stored_on, with_own, era_stored, is_lowering, not_block}
+use Rattle.shm_graph.specs.Stores.{op_written, written, stored_on, with_own, era_stored, is_lowering}
 use Rattle.shm_graph.specs.Spots.{same_spot, spot_at}
 use Rattle.shm_graph.specs.Reach.{learnt, sifted}
 use Rattle.shm_graph.specs.Views.{own_word}
-use Rattle.shm_graph.specs.Agents.{ended, recovers_by, is_recoverer, stepped, last_agent, with_last}
 use Rattle.shm_graph.specs.Ops.{slot_of, is_op}
 use Rattle.shm_graph.specs.Asks.{at_of, Trail, seen_of}
 use Rattle.shm_graph.specs.Changes.{memo_on}
@@ -29,14 +26,13 @@ use Rattle.shm_graph.specs.Blocks.{classes}
 use Rattle.shm_graph.proofs.Spotting.{same_spot_self}
 use Rattle.shm_graph.proofs.KindKeeping.{in_frame}
 use Rattle.shm_laws.specs.Steps.{dying_after}
-use Rattle.shm_steps.specs.Conditions.{IsHere}
 use Rattle.shm_steps.proofs.MemoCommits.{untaken_list, known_left, known_lowered, lowered_is, with_untaken_is, unsent_list, with_unsent_is}
 use Rattle.shm_count.specs.declared.point.Aim.TheVariants.{Down, Change, Up}
 use Rattle.shm_count.specs.declared.point.Part.TheVariants.{First, Second}
 use Rattle.shm_count.specs.declared.point.Part.{Part}
 use Rattle.shm_count.specs.declared.point.Aim.{Aim}
 use Rattle.shm_count.specs.declared.point.StepPoint.{StepPoint}
-use Rattle.shm_count.specs.StepFits.{Rows, CanUp, core, CanStep, CanChange, CanAim, set_memo, closed_memo, CanDown, PointHolds, NextHolds}
+use Rattle.shm_count.specs.StepFits.{CanUp, core, CanStep, CanChange, CanAim, set_memo, closed_memo, CanDown, PointHolds, NextHolds}
 use Rattle.shm_count.specs.StepControl.{last_era, header_after, PartFits, PointFits, step_ask_at, step_next_at}
 
 -- ---- steps in progress
@@ -58,12 +54,13 @@ pub record IsSet (m n : Memo) (o : Op) : Type 0 where
 set_from : (m n n' : Memo) → ◌≡◌ {A = Memo} n n' → n'.status ≡ m.status → n'.own ≡ m.own → IsSet m n n'.op
 set_from m n n' e s o = record { op = ap (λ (y : Memo). y.op) e; status = ap (λ (y : Memo). y.status) e ∙ s; own = ap (λ (y : Memo). y.own) e ∙ o }
 
+-- the exchange of a half makes such a memo
 pub is_set : (me : Me) (x : Aim) (p : Spot) (e : ℕ) (h : Part) (q : Memo) (w : ℕ) → PartFits x h → IsSet q (set_memo me x p e h q w) (set_op x p e h)
 is_set me (Up b) p e First q w z =
     let c = me.who in
     set_from q (set_memo me (Up b) p e First q w) (reparted c (record q { op = op.Up Committed p b e; made = without_made q b; unsent = unsent_list c p b q.unsent }) p b)
     (ap (λ (y : Memo). reparted c y p b) (with_unsent_is c p b (record q { op = op.Up Committed p b e; made = without_made q b })))
-    refl refl
+    (refl {a = q.status}) (refl {a = q.own})
 is_set me (Down b) p e First q w z =
     let c = me.who in
     let m : Memo = record q { op = op.Down Committed p b e; made = without_made q b } in
@@ -71,22 +68,25 @@ is_set me (Down b) p e First q w z =
     let m2 : Memo = record m1 { untaken = untaken_list c p b q.untaken; known = known_left c p q.known } in
     let m3 : Memo = cut c p (reparted c m2 p 0) in
     let n : ℕ = (header_of (header_after me (Down b) e First w)).count in
-    set_from q (set_memo me (Down b) p e First q w) (sifted c (record m3 { dying = dying_after n b m3.dying; known = known_lowered n b m3.known }))
-    (ap (λ (y : Memo). sifted c (lowered n b (cut c p (reparted c (with_untaken c p b y) p 0)))) (with_unsent_is c p 0 m)
-    ∙ (ap (λ (y : Memo). sifted c (lowered n b (cut c p (reparted c y p 0)))) (with_untaken_is c p b m1)
-    ∙ ap (sifted c) (lowered_is n b m3)))
-    refl refl
+    let m4 : Memo = record m3 { dying = dying_after n b m3.dying; known = known_lowered n b m3.known } in
+    let n' : Memo = sifted c m4 in
+    set_from q (set_memo me (Down b) p e First q w) n'
+    (◌∙◌ {c = n'} (ap (λ (y : Memo). sifted c (lowered n b (cut c p (reparted c (with_untaken c p b y) p 0)))) (with_unsent_is c p 0 m))
+    (◌∙◌ {c = n'} (ap (λ (y : Memo). sifted c (lowered n b (cut c p (reparted c y p 0)))) (with_untaken_is c p b m1))
+    (ap (sifted c) {y = m4} (lowered_is n b m3))))
+    (refl {a = q.status}) (refl {a = q.own})
 is_set me (Change a b) p e First q w z =
     let c = me.who in
     let n : Memo = set_memo me (Change a b) p e First q w in
-    set_from q n n (refl {a = n}) refl refl
+    set_from q n n (refl {a = n}) (refl {a = q.status}) (refl {a = q.own})
 is_set me (Change a b) p e Second q w z =
     let c = me.who in
     let m3 : Memo = cut c p (record q { op = op.Change (Lowering Closed) p a b e; made = without_made q a }) in
     let n : ℕ = (header_of (header_after me (Change a b) e Second w)).count in
-    set_from q (set_memo me (Change a b) p e Second q w) (sifted c (record m3 { dying = dying_after n a m3.dying; known = known_lowered n a m3.known }))
-    (ap (sifted c) (lowered_is n a m3))
-    refl refl
+    let m4 : Memo = record m3 { dying = dying_after n a m3.dying; known = known_lowered n a m3.known } in
+    set_from q (set_memo me (Change a b) p e Second q w) (sifted c m4)
+    (ap (sifted c) {y = m4} (lowered_is n a m3))
+    (refl {a = q.status}) (refl {a = q.own})
 is_set me (Up b) p e Second q w z = absurd z
 is_set me (Down b) p e Second q w z = absurd z
 
@@ -100,6 +100,7 @@ IsStepSlot c (spot.Slot s r k) = Unit {0}
 IsStepSlot c (spot.Body b i) = Unit {0}
 IsStepSlot c p = ⊥
 
+-- what the memo shows of the slot before says that it is one, for each kind of step
 up_slot : (n c : ℕ) (m : Memo) (b : ℕ) (p : Spot) → CanUp n c m b p → IsStepSlot c p
 up_slot n c m b (spot.Root d k) y = y.0
 up_slot n c m b (spot.Home d) y = y.0
@@ -170,6 +171,7 @@ closed_own me e m =
     (core_cond (is_lowering m.op) _ _ _ _ refl refl)
     refl
 
+-- so that memos of one core come to one core
 pub closed_core : (me : Me) (e : ℕ) (m n : Memo) → core m ≡ core n → core (closed_memo me e m) ≡ core (closed_memo me e n)
 closed_core me e m n i = closed_own me e m ∙ (ap (λ (y : Memo). core (closed_memo me e y)) i ∙ sym (closed_own me e n))
 

@@ -1,5 +1,5 @@
 -- the event of each step of a count step is the one that it tells
-use Rattle.std.proofs.Common.{◌≡◌, ◌≢◌, ℕ, zero, suc, ◌+◌, ◌-◌, ◌^◌, ◌<◌, ◌≤◌, refl, sym, ap, ◌∙◌, subst, arith, Bool, true, false, not, ◌&&◌, cond, eqb, List, [], ◌∷◌, ◌++◌, map, Some, None, inl, inr, ◌⊎◌}
+use Rattle.std.proofs.Common.{◌≡◌, ℕ, ◌<◌, refl, sym, ap, ◌∙◌, subst, false, cond, eqb}
 use Rattle.std.proofs.lemmas.Bool.{true≢false, and_from, cond-true, lt-ltb}
 use Rattle.shm_words.specs.Layout.{address}
 use Rattle.shm_words.specs.Headers.{header_of}
