@@ -10,3 +10,7 @@ pub mod StepMemos
 pub mod StepHeaders
 pub mod StepBeginning
 pub mod StepReading
+pub mod StepCores
+pub mod StepCommitting
+pub mod StepExchanging
+pub mod StepTells
