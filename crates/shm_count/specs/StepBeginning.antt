@@ -30,15 +30,10 @@ use Rattle.shm_count.specs.declared.point.Aim.{Aim}
 use Rattle.shm_count.specs.declared.point.Aim.TheVariants.{Up, Down, Change}
 use Rattle.shm_count.specs.declared.point.Part.TheVariants.{First}
 use Rattle.shm_count.specs.StepControl.{block_at, raises, redo_at}
-use Rattle.shm_count.specs.StepFits.{CanUp, CanDown, CanChange, CanAim, core, begun_op}
+use Rattle.shm_count.specs.StepFits.{HasPut, CanUp, CanDown, CanChange, CanAim, core, begun_op}
 use Rattle.shm_count.specs.StepMemos.{here_same}
 
 -- ---- what the memo shows of the slot
-
--- of a slot of a queue that is to have a block the memo has read a head that leaves room: it has it in this call
-abbrev pub HasPut : ℕ → Aim → Spot → Memo → Type 0
-HasPut c (Up b) (spot.Slot s i k) m = (y : ℕ) × Contains m.facts (Counter (spot.Front c i) y) × (own_word m.own (spot.Tail c i) < y + 8)
-HasPut c x p m = Unit {0}
 
 module _ (n c : ℕ) (m m' : Memo) (e : core m' ≡ core m) where
   -- what holds of the parts that stay

@@ -11,7 +11,7 @@ use Rattle.shm_graph.specs.declared.ask.Me.{Me}
 use Rattle.shm_graph.specs.declared.spot.Spot.{Spot}
 use Rattle.shm_graph.specs.declared.spot.Spot.TheVariants as spot
 use Rattle.shm_graph.specs.declared.memo.Stored.{Stored}
-use Rattle.shm_graph.specs.declared.memo.Fact.TheVariants.{Header as HeaderRead}
+use Rattle.shm_graph.specs.declared.memo.Fact.TheVariants.{Header as HeaderRead, Counter}
 use Rattle.shm_graph.specs.declared.memo.Memo.{Memo}
 use Rattle.shm_graph.specs.declared.memo.First.TheVariants.{Begun, Committed, Written}
 use Rattle.shm_graph.specs.declared.memo.Second.TheVariants.{Open, Closed}
@@ -72,6 +72,11 @@ CanAim n c m (Up b) p = CanUp n c m b p
 CanAim n c m (Down b) p = CanDown n c m b p
 CanAim n c m (Change a b) p = CanChange c m a b p
 
+-- of a slot of a queue that is to have a block the memo has read a head that leaves room
+abbrev pub HasPut : ℕ → Aim → Spot → Memo → Type 0
+HasPut c (Up b) (spot.Slot s i k) m = (y : ℕ) × Contains m.facts (Counter (spot.Front c i) y) × (own_word m.own (spot.Tail c i) < y + 8)
+HasPut c x p m = Unit {0}
+
 -- no step of the identity is in progress, the slot is the spot p and is c's to change so, and a block that is to be raised is in reach; in a pool for tables the slot is none that a partition is read from, and only a value block is sent
 pub record CanStep (me : Me) (slot : ℕ) (x : Aim) (p : Spot) (r : Memo) : Type 0 where
   pub geometry : GeometryFits me.geometry
@@ -83,6 +88,7 @@ pub record CanStep (me : Me) (slot : ℕ) (x : Aim) (p : Spot) (r : Memo) : Type
   pub inside : (0 < slot) × (slot < total_of me.geometry)
   pub blocks : AimFits me x
   pub can : own_word r.own (spot.Era me.who me.who) ≤ last_era x → CanAim me.geometry.clients me.who r x p
+  pub put : HasPut me.who x p r
   pub reach : raises x First ≡ true → is_reached me.who r (block_at x First) ≡ true
   pub unread : is_read r.part p ≡ false
   pub queued : is_loose r.part ≡ false → is_slot p ≡ true → raises x First ≡ true → Contains r.values (block_at x First)
@@ -154,8 +160,8 @@ InHalf me slot x p r0 r e Second = (d : ℕ) × (e ≡ d + 1) × ((q : Memo) × 
 
 -- what the memo shows at a point
 abbrev pub PointHas : Me → ℕ → Aim → Spot → Memo → Memo → StepPoint → Type 0
-PointHas me slot x p r0 r point.Era = core r ≡ core r0
-PointHas me slot x p r0 r (point.Redo e) = (core r ≡ core r0) × (e ≡ own_word r0.own (spot.Era me.who me.who))
+PointHas me slot x p r0 r point.Era = (core r ≡ core r0) × HasPut me.who x p r
+PointHas me slot x p r0 r (point.Redo e) = (core r ≡ core r0) × (e ≡ own_word r0.own (spot.Era me.who me.who)) × HasPut me.who x p r
 PointHas me slot x p r0 r (point.Load e h) = InHalf me slot x p r0 r e h
 PointHas me slot x p r0 r (point.Row e h w) = InHalf me slot x p r0 r e h × HasRead me.who me.geometry.clients r w × (me.who ≢ (header_of w).client)
 PointHas me slot x p r0 r (point.Show e h w) = InHalf me slot x p r0 r e h × HasRead me.who me.geometry.clients r w × (me.who ≢ (header_of w).client) × (own_word r.own (spot.Era me.who (header_of w).client) ≤ (header_of w).era)

@@ -296,7 +296,7 @@ begins p m r e knows can =
       can = can;
       knows = knows;
       begun = λ other. absurd (other e);
-      holds = subst (λ (y : StepPoint). PointHolds m.me m.slot m.aim p r r y) (sym e) (record { agent = refl; has = refl });
+      holds = subst (λ (y : StepPoint). PointHolds m.me m.slot m.aim p r r y) (sym e) (record { agent = refl; has = (refl, can.put) });
       trail = λ rest a t. subst (λ (y : StepPoint). point_trail m.me m.slot m.aim y rest a) e t;
       course = ap (λ (y : StepPoint). record m { point = y }) (sym e);
       events = ap (events_at m.me m.aim p) (sym e);

@@ -20,7 +20,9 @@ use Rattle.shm_graph.specs.declared.memo.Op.TheVariants as op
 use Rattle.shm_graph.specs.declared.memo.Step.{Step}
 use Rattle.shm_graph.specs.declared.memo.Stored.{Stored}
 use Rattle.shm_graph.specs.Agents.{recovers, recovers_by, last_agent, with_last, stepped, ended, is_recoverer, is_gone}
-use Rattle.shm_graph.specs.Changes.{called, test_before, changed_by, with_call, with_end, memo_on}
+use Rattle.shm_laws.proofs.Keep.{Contains-filter}
+use Rattle.shm_graph.proofs.Calling.{called_by}
+use Rattle.shm_graph.specs.Changes.{is_lane_count, called, test_before, changed_by, with_call, with_end, memo_on}
 use Rattle.shm_graph.specs.Laws.{Frame, framed}
 use Rattle.shm_graph.specs.Ops.{Quiet, cover, cover_of}
 use Rattle.shm_graph.specs.Reach.{shown, roots_below, in_slots, not_zero, is_reached, learnt}
@@ -120,6 +122,20 @@ era_core me f m at i j n =
     let x : Memo = called m t in
     choice (λ (y : Memo). core y ≡ core x) (eqb j me.who && not (eqb i me.who)) (row_read me.who x (test_before m t) i n) (record x { facts = Counter (spot.Era i j) n ∷ x.facts }) (λ z. refl) (λ z. refl)
     ∙ called_core m t
+
+-- what was read of tails and heads outlives the calls, and so each word step
+called_count : (m : Memo) (t : Step) (k : Fact) → is_lane_count k ≡ true → Contains m.facts k → Contains (called m t).facts k
+called_count m t k lane h = called_by (λ (x : Memo). Contains x.facts k) m t (Contains-filter is_lane_count m.facts k h lane) h
+
+pub era_counts : (me : Me) (f : Frame) (m : Memo) (at i j n : ℕ) (k : Fact) → is_lane_count k ≡ true → Contains m.facts k → Contains (memo_on m (framed me (Load at) f n) (spot.Era i j)).facts k
+era_counts me f m at i j n k lane h =
+    let t : Step = framed me (Load at) f n in
+    let x : Memo = called m t in
+    let has : Contains x.facts k = called_count m t k lane h in
+    choice (λ (y : Memo). Contains y.facts k) (eqb j me.who && not (eqb i me.who)) (row_read me.who x (test_before m t) i n) (record x { facts = Counter (spot.Era i j) n ∷ x.facts })
+    (λ z. Contains-append_right (Counter (spot.Era i me.who) n ∷ []) x.facts k has)
+    (λ z. Contains-append_right (Counter (spot.Era i j) n ∷ []) x.facts k has)
+
 
 -- what was read before still binds
 pub era_facts : (me : Me) (f : Frame) (m : Memo) (at i j n : ℕ) (k : Fact) → f.fresh ≡ false → Contains m.facts k → Contains (memo_on m (framed me (Load at) f n) (spot.Era i j)).facts k

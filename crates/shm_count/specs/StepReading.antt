@@ -44,10 +44,10 @@ use Rattle.shm_count.specs.declared.point.StepPoint.TheVariants.{Era, Redo, Row,
 use Rattle.shm_count.specs.declared.point.StepPoint.TheVariants as point
 use Rattle.shm_count.specs.declared.point.Next.TheVariants.{Point, Answer}
 use Rattle.shm_count.specs.StepControl.{last_era, block_at, redo_at, row_address, step_ask_at, step_next_at, PointFits}
-use Rattle.shm_count.specs.StepFits.{CanStep, core, begun_op, Rows, begun, HasRead, InHalf, PointHolds, NextHolds}
-use Rattle.shm_count.specs.StepMemos.{rows_same, row_raised, recovers_after, called_core, era_core, era_facts, header_core, half_then, half_same, half_status, here_same, read_same, era_room}
+use Rattle.shm_count.specs.StepFits.{HasPut, CanStep, core, begun_op, Rows, begun, HasRead, InHalf, PointHolds, NextHolds}
+use Rattle.shm_count.specs.StepMemos.{rows_same, row_raised, recovers_after, called_core, era_core, era_counts, header_core, half_then, half_same, half_status, here_same, read_same, era_room}
 use Rattle.shm_count.specs.StepHeaders.{half_block, header_has, header_found}
-use Rattle.shm_count.specs.StepBeginning.{HasPut, can_on, begins_here}
+use Rattle.shm_count.specs.StepBeginning.{can_on, begins_here}
 
 -- ---- what a step owes
 
@@ -77,27 +77,10 @@ row_same me w r f tr j st = st.held.mine me.who st.who (spot.Era me.who j) (eq-e
 
 -- ---- the own era
 
--- the own era is loaded
-pub era_step : (me : Me) (slot : ℕ) (x : Aim) (p : Spot) (r0 : Memo) (w : Spot → ℕ) (r : ℕ → Memo) (f : Frame) (tr : Trail) → Stands me w r f tr → CanStep me slot x p r0 → PointFits me x Era → PointHolds me slot x p r0 (r me.who) Era → KeepsAt me slot x p r0 w r f Era
-era_step me slot x p r0 w r f tr st can fits h =
-    let c = me.who in
-    let at = address me.geometry (place.Era c c) in
-    let s : Spot = spot.Era c c in
-    let n = w s in
-    let inside = lt-ltb c me.geometry.clients st.who in
-    let m : Memo = memo_on (r c) (framed me (Load at) f n) s in
-    let same : core m ≡ core r0 = era_core me f (r c) at c c n ∙ h.has in
-    let own : n ≡ own_word r0.own s = sym (row_same me w r f tr c st) ∙ ap (λ (y : Memo). own_word y.own s) h.has in
-    load_kept me w r f tr at (λ n r'. NextHolds me slot x p r0 r' (step_next_at me x Era n)) s st
-    (spot-place me.geometry (classes w) (place.Era c c) (and_from _ _ inside inside)) refl tt
-    (choice (NextHolds me slot x p r0 m) (ltb (last_era x) n) (Answer (Err (EraSpent n))) (Point (Redo n))
-    (λ z. (same, own, ltb-true (last_era x) n z))
-    (λ z. record { agent = recovers_after (r c) (framed me (Load at) f n) s ∙ h.agent; has = (same, own) }))
-
--- what was read of a queue still binds, where that isn't a machine's first step
-pub era_put : (me : Me) (x : Aim) (p : Spot) (w : Spot → ℕ) (r : ℕ → Memo) (f : Frame) → f.fresh ≡ false → HasPut me.who x p (r me.who)
+-- what was read of a queue still binds
+era_put : (me : Me) (x : Aim) (p : Spot) (w : Spot → ℕ) (r : ℕ → Memo) (f : Frame) → HasPut me.who x p (r me.who)
     → let at : ℕ = address me.geometry (place.Era me.who me.who) in HasPut me.who x p (memo_on (r me.who) (framed me (Load at) f (w (spot.Era me.who me.who))) (spot.Era me.who me.who))
-era_put me x p w r f going h = go x p h
+era_put me x p w r f h = go x p h
   where
     c : ℕ
     c = me.who
@@ -114,19 +97,36 @@ era_put me x p w r f going h = go x p h
     go : (x : Aim) (p : Spot) → HasPut c x p (r c) → HasPut c x p m
     go (Up b) (spot.Slot s i k) (y, fact, room) = (
       y,
-      era_facts me f (r c) at c c n (Counter (spot.Front c i) y) going fact,
+      era_counts me f (r c) at c c n (Counter (spot.Front c i) y) refl fact,
       subst (λ z. z < y + 8) (sym (ap (λ (z : Memo). own_word z.own (spot.Tail c i)) (era_core me f (r c) at c c n))) room,
     )
     go (Up b) _ h = tt
     go (Down b) p h = tt
     go (Change d b) p h = tt
 
+-- the own era is loaded
+pub era_step : (me : Me) (slot : ℕ) (x : Aim) (p : Spot) (r0 : Memo) (w : Spot → ℕ) (r : ℕ → Memo) (f : Frame) (tr : Trail) → Stands me w r f tr → CanStep me slot x p r0 → PointFits me x Era → PointHolds me slot x p r0 (r me.who) Era → KeepsAt me slot x p r0 w r f Era
+era_step me slot x p r0 w r f tr st can fits h =
+    let c = me.who in
+    let at = address me.geometry (place.Era c c) in
+    let s : Spot = spot.Era c c in
+    let n = w s in
+    let inside = lt-ltb c me.geometry.clients st.who in
+    let m : Memo = memo_on (r c) (framed me (Load at) f n) s in
+    let same : core m ≡ core r0 = era_core me f (r c) at c c n ∙ h.has.0 in
+    let own : n ≡ own_word r0.own s = sym (row_same me w r f tr c st) ∙ ap (λ (y : Memo). own_word y.own s) h.has.0 in
+    load_kept me w r f tr at (λ n r'. NextHolds me slot x p r0 r' (step_next_at me x Era n)) s st
+    (spot-place me.geometry (classes w) (place.Era c c) (and_from _ _ inside inside)) refl tt
+    (choice (NextHolds me slot x p r0 m) (ltb (last_era x) n) (Answer (Err (EraSpent n))) (Point (Redo n))
+    (λ z. (same, own, ltb-true (last_era x) n z))
+    (λ z. record { agent = recovers_after (r c) (framed me (Load at) f n) s ∙ h.agent; has = (same, own, era_put me x p w r f h.has.1) }))
+
 -- ---- the redo record
 
 -- the redo record is stored, which begins the step
-pub redo_step : (me : Me) (slot : ℕ) (x : Aim) (p : Spot) (r0 : Memo) (w : Spot → ℕ) (r : ℕ → Memo) (f : Frame) (tr : Trail) (e : ℕ) → Stands me w r f tr → f.fresh ≡ false → CanStep me slot x p r0 → HasPut me.who x p (r me.who) → PointFits me x (Redo e) → PointHolds me slot x p r0 (r me.who) (Redo e)
+pub redo_step : (me : Me) (slot : ℕ) (x : Aim) (p : Spot) (r0 : Memo) (w : Spot → ℕ) (r : ℕ → Memo) (f : Frame) (tr : Trail) (e : ℕ) → Stands me w r f tr → f.fresh ≡ false → CanStep me slot x p r0 → PointFits me x (Redo e) → PointHolds me slot x p r0 (r me.who) (Redo e)
     → KeepsAt me slot x p r0 w r f (Redo e)
-redo_step me slot x p r0 w r f tr e st going can put fits h =
+redo_step me slot x p r0 w r f tr e st going can fits h =
     let c = me.who in
     let m : Memo = r c in
     let g = me.geometry in
@@ -137,7 +137,7 @@ redo_step me slot x p r0 w r f tr e st going can put fits h =
     let same : core m ≡ core r0 = h.has.0 in
     let own : e ≡ own_word m.own (spot.Era c c) = h.has.1 ∙ sym (ap (λ (y : Memo). own_word y.own (spot.Era c c)) same) in
     let spells : redo_word (redo_at x (spot_address g p) (own_word m.own (spot.Era c c))) ≡ v = ap (λ y. redo_word (redo_at x y (own_word m.own (spot.Era c c)))) (sym can.at) ∙ ap (λ y. redo_word (redo_at x slot y)) (sym own) in
-    let begins = begins_here g w r c st.held st.who x p (can_on g.clients c r0 m same x p put (can.can (subst (λ y. y ≤ last_era x) h.has.1 (era_room x e fits)))) (λ up. ap (λ (y : Memo). is_reached c y (block_at x First)) same ∙ can.reach up) in
+    let begins = begins_here g w r c st.held st.who x p (can_on g.clients c r0 m same x p h.has.2 (can.can (subst (λ y. y ≤ last_era x) h.has.1 (era_room x e fits)))) (λ up. ap (λ (y : Memo). is_reached c y (block_at x First)) same ∙ can.reach up) in
     let began : op_begun g c m v ≡ begun_op x p e = ap (op_begun g c m) (sym spells) ∙ (begins.1 ∙ ap (begun_op x p) (sym own)) in
     let i : spot_at g (classes w) at ≡ s = spot-place g (classes w) (place.Redo c) (lt-ltb c g.clients st.who) in
     let t : Step = framed me a (record f { fresh = false }) 0 in
@@ -188,7 +188,7 @@ row_step me slot x p r0 w r f tr e h w0 st going can fits k =
     let other : c ≢ j = k.has.2 in
     let same : core m' ≡ core m = era_core me f m at c j n in
     let now : InHalf me slot x p r0 m' e h = half_same me slot x p r0 m m' e h same half in
-    let read : HasRead c me.geometry.clients m' w0 = read_same c me.geometry.clients m m' w0 (era_facts me f m at c j n (HeaderRead w0) going) has in
+    let read : HasRead c me.geometry.clients m' w0 = read_same c me.geometry.clients m m' w0 (era_counts me f m at c j n (HeaderRead w0) going) has in
     let agent : recovers m' ≡ recovers r0 = recovers_after m t s ∙ k.agent in
     let own : own_word m'.own s ≡ n = ap (λ (y : Memo). own_word y.own s) same ∙ row_same me w r f tr j st in
     load_kept me w r f tr at (λ n r'. NextHolds me slot x p r0 r' (step_next_at me x (Row e h w0) n)) s st (row_spot me w j st.who has.client) refl tt
