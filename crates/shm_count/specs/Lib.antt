@@ -12,3 +12,5 @@ pub mod StepCores
 pub mod StepCommitting
 pub mod StepExchanging
 pub mod StepTells
+pub mod StepBeginning
+pub mod StepReading

@@ -1,11 +1,9 @@
 -- the block of a half is a live block that is counted, and where a count step goes by the header that it read
-use Rattle.std.proofs.Common.{◌≡◌, ◌≢◌, ℕ, zero, suc, ◌+◌, ◌-◌, ◌^◌, ◌<◌, ◌≤◌, refl, sym, ap, ◌∙◌, subst, arith, Bool, true, false, not, cond, eqb, leb, ◌&&◌, inl, inr, List, [], ◌∷◌, None, Some}
+use Rattle.std.proofs.Common.{◌≡◌, ◌≢◌, ℕ, ◌<◌, refl, sym, ap, ◌∙◌, subst, arith, Bool, true, false, not, cond, eqb, leb, ◌&&◌, ◌∷◌}
 use Rattle.std.specs.Prelude.{Err}
 use Rattle.std.specs.List.{Contains}
-use Rattle.std.proofs.lemmas.Bool.{cases_Bool, eq-eqb, eqb-true, eqb-false, and_parts, and_from, cond-true, cond-false, true≢false, false≢true}
+use Rattle.std.proofs.lemmas.Bool.{eq-eqb, eqb-true, eqb-false, and_parts, and_from, cond-true, true≢false, false≢true}
 use Rattle.std.proofs.lemmas.Bool.Decides.{nat_tests}
-use Rattle.shm_words.specs.declared.geometry.Geometry.{Geometry}
-use Rattle.shm_words.specs.declared.redo.Redo.TheVariants as redos
 use Rattle.shm_words.specs.Headers.{header_of}
 use Rattle.shm_words.specs.Redos.{redo_word}
 use Rattle.shm_graph.specs.declared.ask.Me.{Me}
@@ -15,17 +13,14 @@ use Rattle.shm_graph.specs.declared.memo.Fact.TheVariants.{Header as HeaderRead}
 use Rattle.shm_graph.specs.declared.memo.Memo.{Memo}
 use Rattle.shm_graph.specs.declared.memo.Op.{Op}
 use Rattle.shm_graph.specs.declared.memo.Op.TheVariants as op
-use Rattle.shm_graph.specs.declared.memo.Stored.{Stored}
 use Rattle.shm_graph.specs.Agents.{recovers}
 use Rattle.shm_graph.specs.Blocks.{classes, headers, IsBlock, IsLive}
 use Rattle.shm_graph.specs.Held.{HeldAt, OpTie}
 use Rattle.shm_graph.specs.Ops.{is_op, slot_of, cover_of, limbo_of}
 use Rattle.shm_graph.specs.References.{words_of}
-use Rattle.shm_graph.specs.Reach.{is_reached}
 use Rattle.shm_graph.specs.Readings.{op_refused, raised_by, is_held}
-use Rattle.shm_graph.specs.Stores.{with_own}
-use Rattle.shm_graph.specs.Views.{view, own_word}
-use Rattle.shm_graph.proofs.Holders.{Holds, held_live_not_zero, target_counted, limbo_counted, reach_counted}
+use Rattle.shm_graph.specs.Views.{view}
+use Rattle.shm_graph.proofs.Holders.{Holds, target_counted, limbo_counted, reach_counted}
 use Rattle.shm_graph.proofs.Loads.{choice}
 use Rattle.shm_graph.proofs.Reached.{reached_here}
 use Rattle.shm_graph.proofs.Spotting.{in_pool}
@@ -38,7 +33,7 @@ use Rattle.shm_count.specs.declared.point.Part.TheVariants.{First, Second}
 use Rattle.shm_count.specs.declared.point.StepPoint.TheVariants.{Exchange, Row}
 use Rattle.shm_count.specs.declared.point.Next.TheVariants.{Point, Answer}
 use Rattle.shm_count.specs.StepControl.{block_at, raises, redo_at, header_next, EraFits, PartFits}
-use Rattle.shm_count.specs.StepFits.{CanStep, core, begun_op, op_of, Rows, begun, AtFirst, HasRead, InHalf, Refused, PointHolds, NextHolds}
+use Rattle.shm_count.specs.StepFits.{CanStep, core, begun_op, op_of, Rows, HasRead, InHalf, Refused, NextHolds}
 use Rattle.shm_count.specs.StepMemos.{rows_same, rows_then, half_same, half_op, begun_quiet, first_reach}
 
 -- ---- the block of a half

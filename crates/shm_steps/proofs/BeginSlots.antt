@@ -59,14 +59,14 @@ module _ (g : Geometry) (w : Spot → ℕ) (r : ℕ → Memo) (c : ℕ) (h : Hel
   tail_here i = h.mine c l (Tail c i) (eq-eqb c c refl)
 
   -- where a head that was read leaves room, the queue has room
-  room_left : (i y : ℕ) → Contains m.facts (Counter (Front c i) y) → own_word m.own (Tail c i) < y + 8 → w (Tail c i) < w (Front c i) + 8
+  pub room_left : (i y : ℕ) → Contains m.facts (Counter (Front c i) y) → own_word m.own (Tail c i) < y + 8 → w (Tail c i) < w (Front c i) + 8
   room_left i y k s =
       let most : y ≤ w (Front c i) = All-contains (FactHolds g w (view r)) m.facts (Counter (Front c i) y) (h.facts c l) k in
       let same = tail_here i in
       omega arith
 
   -- where a block waits for its tail, the queue has room
-  room_unsent : (i : ℕ) → i < g.clients → c ≢ i → slice_index m.unsent i ≢ 0 → w (Tail c i) < w (Front c i) + 8
+  pub room_unsent : (i : ℕ) → i < g.clients → c ≢ i → slice_index m.unsent i ≢ 0 → w (Tail c i) < w (Front c i) + 8
   room_unsent i li o n =
       let lane = h.lanes c i l li o in
       let most = lane.room in
