@@ -14,3 +14,4 @@ pub mod StepCores
 pub mod StepCommitting
 pub mod StepExchanging
 pub mod StepTells
+pub mod StepKeeps

@@ -100,7 +100,7 @@ IsStepSlot c (spot.Slot s r k) = Unit {0}
 IsStepSlot c (spot.Body b i) = Unit {0}
 IsStepSlot c p = ⊥
 
--- what the memo shows of the slot before says that it is one, for each kind of step
+-- the slot of a step up is one by what the memo shows of it
 up_slot : (n c : ℕ) (m : Memo) (b : ℕ) (p : Spot) → CanUp n c m b p → IsStepSlot c p
 up_slot n c m b (spot.Root d k) y = y.0
 up_slot n c m b (spot.Home d) y = y.0
@@ -108,17 +108,20 @@ up_slot n c m b (spot.Slot s r k) y = tt
 up_slot n c m b (spot.Body d i) y = tt
 up_slot n c m b _ y = absurd y
 
+-- so is that of a step down
 down_slot : (n c : ℕ) (m : Memo) (b : ℕ) (p : Spot) → CanDown n c m b p → IsStepSlot c p
 down_slot n c m b (spot.Root d k) y = y.0
 down_slot n c m b (spot.Slot s r k) y = tt
 down_slot n c m b (spot.Body d i) y = tt
 down_slot n c m b _ y = absurd y
 
+-- and that of a change
 change_slot : (c : ℕ) (m : Memo) (a b : ℕ) (p : Spot) → CanChange c m a b p → IsStepSlot c p
 change_slot c m a b (spot.Root d k) y = y.0
 change_slot c m a b (spot.Body d i) y = tt
 change_slot c m a b _ y = absurd y
 
+-- so that it is for each step
 aim_slot : (n c : ℕ) (m : Memo) (x : Aim) (p : Spot) → CanAim n c m x p → IsStepSlot c p
 aim_slot n c m (Up b) p y = up_slot n c m b p y
 aim_slot n c m (Down b) p y = down_slot n c m b p y
