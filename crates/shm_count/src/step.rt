@@ -6,10 +6,11 @@ ghost use Rattle.shm_count.specs.declared.point.Aim.TheVariants as aims;
 ghost use Rattle.shm_count.specs.declared.point.StepPoint.TheVariants.{Era};
 ghost use Rattle.shm_count.specs.StepControl.{StepKnows, step_next, answer_of, step_control, is_over};
 ghost use Rattle.shm_count.specs.StepMachines as machines;
+ghost use Rattle.shm_count.specs.StepKeeps.{step_keeps};
 
 use crate::answer::{EraSpent, UpFault};
 use crate::point::{Aim, Next, StepPoint, StepState};
-use shm_graph::Me;
+use shm_graph::{Ask, Machine, Me, Turn};
 use std::marker::Model;
 
 impl StepState {
@@ -86,6 +87,37 @@ impl StepUp {
     }
 }
 
+impl Machine for StepUp {
+    type Answer = Result<(), UpFault>;
+
+    ghost control = { machines.up_control };
+
+    ghost fits = { machines.UpFits };
+
+    ghost gives = { machines.UpGives };
+
+    fn me(&self) -> Me {
+        self.state.me
+    }
+
+    fn finished(&self) -> bool {
+        self.state.is_over()
+    }
+
+    fn ask(&self) -> Ask {
+        self.state.ask()
+    }
+
+    fn take(&mut self, seen: u64) -> Turn<Result<(), UpFault>> {
+        match self.state.take(seen) {
+            None => Turn::More,
+            Some(answer) => Turn::Done(up_answer(answer)),
+        }
+    }
+
+    ghost laws = { machines.up_laws step_keeps };
+}
+
 /// A reference word that names a block comes to be empty, and the block's count goes down.
 #[derive(Drop)]
 pub struct StepDown {
@@ -117,6 +149,37 @@ impl StepDown {
             state: StepState::begins(me, slot, Aim::Down { block }),
         }
     }
+}
+
+impl Machine for StepDown {
+    type Answer = Result<bool, EraSpent>;
+
+    ghost control = { machines.down_control };
+
+    ghost fits = { machines.DownFits };
+
+    ghost gives = { machines.DownGives };
+
+    fn me(&self) -> Me {
+        self.state.me
+    }
+
+    fn finished(&self) -> bool {
+        self.state.is_over()
+    }
+
+    fn ask(&self) -> Ask {
+        self.state.ask()
+    }
+
+    fn take(&mut self, seen: u64) -> Turn<Result<bool, EraSpent>> {
+        match self.state.take(seen) {
+            None => Turn::More,
+            Some(answer) => Turn::Done(down_answer(answer)),
+        }
+    }
+
+    ghost laws = { machines.down_laws step_keeps };
 }
 
 /// A reference word that names a block comes to name another one: its count goes up, and that of the block before goes down.
@@ -151,6 +214,37 @@ impl StepChange {
             state: StepState::begins(me, slot, Aim::Change { before, after }),
         }
     }
+}
+
+impl Machine for StepChange {
+    type Answer = Result<bool, UpFault>;
+
+    ghost control = { step_control };
+
+    ghost fits = { machines.ChangeFits };
+
+    ghost gives = { machines.ChangeGives };
+
+    fn me(&self) -> Me {
+        self.state.me
+    }
+
+    fn finished(&self) -> bool {
+        self.state.is_over()
+    }
+
+    fn ask(&self) -> Ask {
+        self.state.ask()
+    }
+
+    fn take(&mut self, seen: u64) -> Turn<Result<bool, UpFault>> {
+        match self.state.take(seen) {
+            None => Turn::More,
+            Some(answer) => Turn::Done(answer),
+        }
+    }
+
+    ghost laws = { machines.change_laws step_keeps };
 }
 
 /// What an answer says of a step up: no count comes to 0.
