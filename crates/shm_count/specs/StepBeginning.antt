@@ -8,7 +8,6 @@ use Rattle.shm_words.specs.declared.geometry.Geometry.{Geometry}
 use Rattle.shm_words.specs.Redos.{redo_word}
 use Rattle.shm_graph.specs.declared.spot.Spot.{Spot}
 use Rattle.shm_graph.specs.declared.spot.Spot.TheVariants as spot
-use Rattle.shm_graph.specs.declared.memo.Fact.TheVariants.{Counter}
 use Rattle.shm_graph.specs.declared.memo.Memo.{Memo}
 use Rattle.shm_graph.specs.declared.memo.Op.TheVariants as op
 use Rattle.shm_graph.specs.Blocks.{classes}
@@ -54,49 +53,58 @@ module _ (n c : ℕ) (m m' : Memo) (e : core m' ≡ core m) where
       }
 
   up_on : (b : ℕ) (p : Spot) → HasPut c (Up b) p m' → CanUp n c m b p → CanUp n c m' b p
-  up_on b (spot.Root d k) put (own, h) =
-      (own, record {
-        here = is_here h.here;
-        idle = on (λ x. x.op ≡ op.Nothing) h.idle;
-        root = h.root;
-        empty = on (λ x. own_word x.own (spot.Root c k) ≡ 0) h.empty;
-        room = on (λ x. own_word x.own (spot.Era c c) + 3 ≤ 2 ^ 47) h.room;
-        source = on (λ x. (is_block_made x.making b ≡ true) ⊎ (is_reached c x b ≡ true)) h.source;
-      })
+  up_on b (spot.Root d k) put (own, h) = (
+    own,
+    record {
+      here = is_here h.here;
+      idle = on (λ x. x.op ≡ op.Nothing) h.idle;
+      root = h.root;
+      empty = on (λ x. own_word x.own (spot.Root c k) ≡ 0) h.empty;
+      room = on (λ x. own_word x.own (spot.Era c c) + 3 ≤ 2 ^ 47) h.room;
+      source = on (λ x. (is_block_made x.making b ≡ true) ⊎ (is_reached c x b ≡ true)) h.source;
+    },
+  )
   up_on b (spot.Home d) put (own, h) =
       (own, record { may = room_on 3 h.may; empty = on (λ x. own_word x.own (spot.Home c) ≡ 0) h.empty; source = on (λ x. is_reached c x b ≡ true) h.source })
-  up_on b (spot.Slot s i k) put (own, h) =
-      (own, record {
-        may = room_on 3 h.may;
-        to = h.to;
-        other = h.other;
-        next = on (λ x. k ≡ own_word x.own (spot.Tail c i) % 8) h.next;
-        none = on (λ x. slice_index x.unsent i ≡ 0) h.none;
-        read = put;
-        source = on (λ x. is_reached c x b ≡ true) h.source;
-      })
+  up_on b (spot.Slot s i k) put (own, h) = (
+    own,
+    record {
+      may = room_on 3 h.may;
+      to = h.to;
+      other = h.other;
+      next = on (λ x. k ≡ own_word x.own (spot.Tail c i) % 8) h.next;
+      none = on (λ x. slice_index x.unsent i ≡ 0) h.none;
+      read = put;
+      source = on (λ x. is_reached c x b ≡ true) h.source;
+    },
+  )
   up_on b (spot.Body d i) put h = record { may = room_on 3 h.may; word = word_on d i 0 h.word; source = on (λ x. is_reached c x b ≡ true) h.source }
   up_on b _ put h = absurd h
 
   down_on : (b : ℕ) (p : Spot) → CanDown n c m b p → CanDown n c m' b p
-  down_on b (spot.Root d k) (own, h) =
-      (own, record {
-        here = is_here h.here;
-        idle = on (λ x. x.op ≡ op.Nothing) h.idle;
-        some = h.some;
-        root = on (λ x. own_word x.own (spot.Root c k) ≡ b) h.root;
-        room = on (λ x. own_word x.own (spot.Era c c) + 3 ≤ 2 ^ 47) h.room;
-      })
+  down_on b (spot.Root d k) (own, h) = (
+    own,
+    record {
+      here = is_here h.here;
+      idle = on (λ x. x.op ≡ op.Nothing) h.idle;
+      some = h.some;
+      root = on (λ x. own_word x.own (spot.Root c k) ≡ b) h.root;
+      room = on (λ x. own_word x.own (spot.Era c c) + 3 ≤ 2 ^ 47) h.room;
+    },
+  )
   down_on b (spot.Slot s i k) (inl (own, h)) = inl (own, record { may = room_on 3 h.may; known = on (λ x. Contains x.known (record { spot = spot.Slot s c k; value = b })) h.known })
   down_on b (spot.Slot s i k) (inr (own, h)) =
-      inr (own, record {
-        may = room_on 3 h.may;
-        to = h.to;
-        other = h.other;
-        next = on (λ x. k ≡ own_word x.own (spot.Tail c i) % 8) h.next;
-        some = h.some;
-        unsent = on (λ x. slice_index x.unsent i ≡ b) h.unsent;
-      })
+      inr (
+        own,
+        record {
+          may = room_on 3 h.may;
+          to = h.to;
+          other = h.other;
+          next = on (λ x. k ≡ own_word x.own (spot.Tail c i) % 8) h.next;
+          some = h.some;
+          unsent = on (λ x. slice_index x.unsent i ≡ b) h.unsent;
+        },
+      )
   down_on b (spot.Body d i) h = record { may = room_on 3 h.may; some = h.some; word = word_on d i b h.word }
   down_on b _ h = absurd h
 

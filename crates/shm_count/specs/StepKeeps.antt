@@ -1,6 +1,5 @@
 -- each word step of a count step keeps the invariant, and its memo fits again or holds what is answered
 use Rattle.std.proofs.Common.{◌≡◌, ◌≢◌, ℕ, refl, false, [], ◌∷◌, ◌++◌}
-use Rattle.std.specs.Prelude.{Result}
 use Rattle.std.proofs.lemmas.Bool.{true≢false}
 use Rattle.shm_graph.specs.declared.ask.Me.{Me}
 use Rattle.shm_graph.specs.declared.spot.Spot.{Spot}

@@ -136,7 +136,6 @@ era_counts me f m at i j n k lane h =
     (λ z. Contains-append_right (Counter (spot.Era i me.who) n ∷ []) x.facts k has)
     (λ z. Contains-append_right (Counter (spot.Era i j) n ∷ []) x.facts k has)
 
-
 -- what was read before still binds
 pub era_facts : (me : Me) (f : Frame) (m : Memo) (at i j n : ℕ) (k : Fact) → f.fresh ≡ false → Contains m.facts k → Contains (memo_on m (framed me (Load at) f n) (spot.Era i j)).facts k
 era_facts me f m at i j n k going h =

@@ -45,7 +45,7 @@ use Rattle.shm_count.specs.declared.point.StepPoint.TheVariants as point
 use Rattle.shm_count.specs.declared.point.Next.TheVariants.{Point, Answer}
 use Rattle.shm_count.specs.StepControl.{last_era, block_at, redo_at, row_address, step_ask_at, step_next_at, PointFits}
 use Rattle.shm_count.specs.StepFits.{HasPut, CanStep, core, begun_op, Rows, begun, HasRead, InHalf, PointHolds, NextHolds}
-use Rattle.shm_count.specs.StepMemos.{rows_same, row_raised, recovers_after, called_core, era_core, era_counts, header_core, half_then, half_same, half_status, here_same, read_same, era_room}
+use Rattle.shm_count.specs.StepMemos.{rows_same, row_raised, recovers_after, called_core, era_core, era_counts, era_facts, header_core, half_then, half_same, half_status, here_same, read_same, era_room}
 use Rattle.shm_count.specs.StepHeaders.{half_block, header_has, header_found}
 use Rattle.shm_count.specs.StepBeginning.{can_on, begins_here}
 
@@ -188,7 +188,7 @@ row_step me slot x p r0 w r f tr e h w0 st going can fits k =
     let other : c ≢ j = k.has.2 in
     let same : core m' ≡ core m = era_core me f m at c j n in
     let now : InHalf me slot x p r0 m' e h = half_same me slot x p r0 m m' e h same half in
-    let read : HasRead c me.geometry.clients m' w0 = read_same c me.geometry.clients m m' w0 (era_counts me f m at c j n (HeaderRead w0) going) has in
+    let read : HasRead c me.geometry.clients m' w0 = read_same c me.geometry.clients m m' w0 (era_facts me f m at c j n (HeaderRead w0) going) has in
     let agent : recovers m' ≡ recovers r0 = recovers_after m t s ∙ k.agent in
     let own : own_word m'.own s ≡ n = ap (λ (y : Memo). own_word y.own s) same ∙ row_same me w r f tr j st in
     load_kept me w r f tr at (λ n r'. NextHolds me slot x p r0 r' (step_next_at me x (Row e h w0) n)) s st (row_spot me w j st.who has.client) refl tt

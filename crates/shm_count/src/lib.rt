@@ -5,10 +5,15 @@
 
 pub mod answer;
 pub mod bound;
+pub mod events;
 pub mod point;
 pub mod step;
 
 pub use answer::{EraSpent, Made, UpFault};
 pub use bound::step_bound;
+pub use events::{step_begins, step_events};
 pub use point::{Aim, Next, Part, StepPoint, StepState};
 pub use step::{StepChange, StepDown, StepUp};
+
+#[cfg(test)]
+mod tests;

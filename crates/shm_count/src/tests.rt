@@ -154,15 +154,24 @@ fn steps_are_refused(rt: HostRuntime) -> Result<(), Fail> {
         (load(50), 9_367_346_487_442_276_353),
     ];
     let mut up = StepUp::new(me, 8, 50);
-    assert_eq!(rt; answer_of(&mut up, &[(load(6), 140_737_488_355_326)]), Some(Err(spent)));
+    assert_eq!(rt;
+        answer_of(&mut up, &[(load(6), 140_737_488_355_326)]),
+        Some(Err(spent))
+    );
     let mut up = StepUp::new(me, 8, 50);
     assert_eq!(rt; answer_of(&mut up, &read_full), Some(Err(full)));
     let mut down = StepDown::new(me, 7, 50);
     let era = 140_737_488_355_326;
-    assert_eq!(rt; answer_of(&mut down, &[(load(6), era)]), Some(Err(EraSpent { era })));
+    assert_eq!(rt;
+        answer_of(&mut down, &[(load(6), era)]),
+        Some(Err(EraSpent { era }))
+    );
     // a change needs one era more
     let era = 140_737_488_355_325;
     let mut change = StepChange::new(me, 7, 50, 54);
-    assert_eq!(rt; answer_of(&mut change, &[(load(6), era)]), Some(Err(UpFault::EraSpent { era })));
+    assert_eq!(rt;
+        answer_of(&mut change, &[(load(6), era)]),
+        Some(Err(UpFault::EraSpent { era }))
+    );
     Ok(())
 }

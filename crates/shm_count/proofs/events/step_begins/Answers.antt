@@ -1,0 +1,5 @@
+use Rattle.shm_count.specs.StepGoing.{begins}
+use Rattle.shm_count.proofs.events.step_begins.Goals as goal
+
+pub returns : goal.returns
+returns c = begins

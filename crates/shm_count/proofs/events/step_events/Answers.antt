@@ -1,0 +1,5 @@
+use Rattle.shm_count.specs.StepTells.{step_tells}
+use Rattle.shm_count.proofs.events.step_events.Goals as goal
+
+pub returns : goal.returns
+returns c = step_tells
