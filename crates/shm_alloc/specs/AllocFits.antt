@@ -38,8 +38,10 @@ use Rattle.shm_alloc.specs.AllocTrail.{AllocTrails, alloc_trail, root_trail, seg
 
 -- ---- what the memo shows on the way
 
--- the era that was read is the own era, the root is empty, and the roots before it are set
+-- the era that was read is the own era and leaves room for the step, the root is empty, and the roots before it are set
 pub record GoalHas (c : ℕ) (r : Memo) (g : Goal) : Type 0 where
+  pub room : g.era + 3 ≤ 2 ^ 47
+  pub number : g.root < 16
   pub era : g.era ≡ own_word r.own (spot.Era c c)
   pub empty : own_word r.own (spot.Root c g.root) ≡ 0
   pub before : (j : ℕ) → j < g.root → own_word r.own (spot.Root c j) ≢ 0
@@ -172,8 +174,9 @@ pub record AllocFits (m : AllocState) (r0 r : Memo) (tr : Trail) : Type 0 where
   pub course : after_all alloc_control (alloc_start m) tr ≡ m
   pub events : happens_along alloc_control alloc_event (alloc_start m) tr ≡ events_at m.me m.point
 
--- a block was made: it is named by the least empty root, its words are known, and the own era is the next one
+-- a block was made: the own era left room, the block is named by the least empty root, its words are known, and the own era is the next one
 pub record MadeGives (me : Me) (q : Request) (r0 r : Memo) (a : Made) : Type 0 where
+  pub room : own_word r0.own (spot.Era me.who me.who) ≤ 2 ^ 47 - 3
   pub root : a.root < 16
   pub empty : own_word r0.own (spot.Root me.who a.root) ≡ 0
   pub before : (j : ℕ) → j < a.root → own_word r0.own (spot.Root me.who j) ≢ 0
@@ -187,11 +190,11 @@ pub record RefusedGives (r0 r : Memo) : Type 0 where
   pub known : r.known ≡ r0.known
   pub values : r.values ≡ r0.values
 
--- why: the own era is spent, all roots are set, or no segment had a free block, as the trail tells
+-- why: the own era is spent, all roots are set, or neither and no segment had a free block, as the trail tells
 abbrev pub Cause : ℕ → Memo → AllocFault → Type 0
 Cause c r0 (EraSpent e) = (e ≡ own_word r0.own (spot.Era c c)) × (2 ^ 47 - 3 < e)
 Cause c r0 RootsFull = (own_word r0.own (spot.Era c c) ≤ 2 ^ 47 - 3) × ((j : ℕ) → j < 16 → own_word r0.own (spot.Root c j) ≢ 0)
-Cause c r0 (Full taken used) = Unit {0}
+Cause c r0 (Full taken used) = (own_word r0.own (spot.Era c c) ≤ 2 ^ 47 - 3) × ((k : ℕ) × (k < 16) × (own_word r0.own (spot.Root c k) ≡ 0))
 
 -- what an answer says of the memos before and after
 abbrev pub Gives : Me → Request → Memo → Memo → Result Made AllocFault → Type 0

@@ -228,6 +228,7 @@ close_step me q r0 w r f tr g b st going can fits point h =
       };
       stays = stays_after me a f 0 r0 m (record { spot = p; value = x } ∷ m.own) op.Nothing m.making m.known m.values m.zeros m.made h.stays;
       gives = record {
+        room = (let u = h.has.2.room in let v = h.has.2.era in omega arith);
         root = point.0.root;
         empty = h.has.2.empty;
         before = h.has.2.before;

@@ -1,5 +1,5 @@
 -- the search for a free block: what each step leaves of the memo, and where the search ends
-use Rattle.std.proofs.Common.{◌≡◌, ℕ, ◌+◌, refl, sym, ap, ◌∙◌, subst, false, ltb, List, [], ◌++◌, append_assoc}
+use Rattle.std.proofs.Common.{arith, ◌≤◌, ◌<◌, ◌-◌, ◌^◌, ◌≡◌, ℕ, ◌+◌, refl, sym, ap, ◌∙◌, subst, false, ltb, List, [], ◌++◌, append_assoc}
 use Rattle.std.specs.Prelude.{None, Err}
 use Rattle.std.specs.List.{Contains}
 use Rattle.std.proofs.lemmas.List.Elements.{Contains-append_right}
@@ -112,12 +112,19 @@ refused me q r0 r f can h why =
       gives = (record { own = h.own; known = h.has.known; values = h.has.values }, why);
     }
 
+-- where the search ends the era had room and a root was empty
+full_cause : (me : Me) (r0 r : Memo) (g : Goal) → Looks r0 r → GoalHas me.who r g → (own_word r0.own (spot.Era me.who me.who) ≤ 2 ^ 47 - 3) × ((k : ℕ) × (k < 16) × (own_word r0.own (spot.Root me.who k) ≡ 0))
+full_cause me r0 r g h goal =
+    let u = goal.room in
+    let v : g.era ≡ own_word r0.own (spot.Era me.who me.who) = goal.era ∙ ap (λ o. own_word o (spot.Era me.who me.who)) h.own in
+    (omega arith, (g.root, goal.number, ap (λ o. own_word o (spot.Root me.who g.root)) (sym h.own) ∙ goal.empty))
+
 -- the segment is over
 pub segment_done : (me : Me) (q : Request) (r0 r : Memo) (g : Goal) (s : Search) → CanAlloc me r0 → Looks r0 r → GoalHas me.who r g → NextHolds me q r0 r (segment_over me g s)
 segment_done me q r0 r g s can h goal =
     choice (NextHolds me q r0 r) (ltb (s.segment + 1) me.geometry.segments) (Point (Segment g (record s { segment = s.segment + 1 }))) (Answer (Err (Full s.taken s.used)))
     (λ e. record { stays = h.stays; op = h.op; own = h.own; has = (h.has, goal) })
-    (λ e. refused me q r0 r (Full s.taken s.used) can h tt)
+    (λ e. refused me q r0 r (Full s.taken s.used) can h (full_cause me r0 r g h goal))
 
 -- the page is over
 pub page_done : (me : Me) (q : Request) (r0 r : Memo) (g : Goal) (s : Search) (p : ℕ) → CanAlloc me r0 → Looks r0 r → GoalHas me.who r g → Contains r.owned s.segment → NextHolds me q r0 r (page_over me g s p)

@@ -84,7 +84,7 @@ root_done me q r0 r e k n can fit h era set here =
       | inr z ↦ set j (omega arith)
     ] in
     choice (NextHolds me q r0 r) (eqb n 0) (Point (Segment found start)) (cond (ltb k 15) (Point (Root e (k + 1))) (Answer (Err RootsFull)))
-    (λ z. record { stays = h.stays; op = h.op; own = h.own; has = (h.has, record { era = era; empty = here ∙ eqb-true n 0 z; before = set }) })
+    (λ z. record { stays = h.stays; op = h.op; own = h.own; has = (h.has, record { room = fit.0; number = fit.1; era = era; empty = here ∙ eqb-true n 0 z; before = set }) })
     (λ z. choice (NextHolds me q r0 r) (ltb k 15) (Point (Root e (k + 1))) (Answer (Err RootsFull))
     (λ _. record { stays = h.stays; op = h.op; own = h.own; has = (h.has, era, more (eqb-false n 0 z)) })
     (λ y. let last = ltb-false k 15 y in

@@ -53,6 +53,8 @@ is_here me r0 r can s = let e = live_here me r0 r can s in record { joined = λ 
 pub goal_on : (c : ℕ) (r r' : Memo) (g : Goal) → r'.own ≡ r.own → GoalHas c r g → GoalHas c r' g
 goal_on c r r' g e h =
     record {
+      room = h.room;
+      number = h.number;
       era = h.era ∙ ap (λ o. own_word o (spot.Era c c)) (sym e);
       empty = ap (λ o. own_word o (spot.Root c g.root)) e ∙ h.empty;
       before = λ j l z. h.before j l (ap (λ o. own_word o (spot.Root c j)) (sym e) ∙ z);

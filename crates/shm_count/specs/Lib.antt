@@ -1,4 +1,0 @@
-pub mod StepControl
-pub mod StepTrail
-pub mod StepEvents
-pub mod StepFits

@@ -14,12 +14,3 @@ pub struct Made {
     /// The address of the block.
     pub block: u32,
 }
-
-/// Why a block got no reference.
-#[derive(Clone, Copy, Debug, PartialEq, Eq, Drop)]
-pub enum UpFault {
-    /// The own era that was read leaves no room for the step.
-    EraSpent { era: u64 },
-    /// The header that was read shows the greatest count, 1,023.
-    CountFull { block: u32, count: u16 },
-}

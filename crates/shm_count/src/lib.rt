@@ -1,10 +1,6 @@
 //! Count steps: a block gets a reference or loses one.
-//!
-//! A header of last client, era and count that one exchange changes, a matrix of eras and a redo record are those of CXL-SHM (SOSP 2023).
 #![tactic(auto)]
 
 pub mod answer;
-pub mod point;
 
-pub use answer::{EraSpent, Made, UpFault};
-pub use point::{Aim, Next, Part, StepPoint, StepState};
+pub use answer::{EraSpent, Made};
