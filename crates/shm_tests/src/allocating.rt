@@ -28,6 +28,7 @@ pub fn join(pool: &mut PlainPool, who: u8, life: &mut Life) -> bool
     ensures idle { result ≡ true → IsIdle who (memo_of pool.new who) }
     ensures acts { result ≡ true → acts (memo_of pool.new who) ≡ true }
     ensures gives { result ≡ true → JoinGives (join_fresh (record { geometry = pool.old.start.geometry; who = who })) (memo_of (readied pool.old who) who) (memo_of pool.new who) (memo_of pool.new who).call tt }
+    ensures agent { MayStep pool.new who }
     ensures start { pool.new.start ≡ pool.old.start }
     ensures others { (d : ℕ) → d ≢ who → memo_of pool.new d ≡ memo_of pool.old d }
     ensures died { result ≡ false → life.new.left ≡ 0 }
@@ -59,6 +60,7 @@ pub fn allocate(
     ensures gives { IfOk result (λ o. IfSome o (λ a. (m : AState) × IsAsked pool.old.start.geometry who refs plain.now m × AllocGives m (memo_of pool.old who) (memo_of pool.new who) (memo_of pool.new who).call a)) }
     ensures idle { IfOk result (λ o. IfSome o (λ a. IsIdle who (memo_of pool.new who))) }
     ensures acts { IfOk result (λ o. IfSome o (λ a. acts (memo_of pool.new who) ≡ true)) }
+    ensures agent { MayStep pool.new who }
     ensures start { pool.new.start ≡ pool.old.start }
     ensures others { (d : ℕ) → d ≢ who → memo_of pool.new d ≡ memo_of pool.old d }
     ensures died { IfOk result (λ o. IsNone o → life.new.left ≡ 0) }

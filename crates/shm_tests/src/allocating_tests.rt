@@ -68,15 +68,15 @@ fn answers_of_one_client(rt: HostRuntime) -> Result<(), Fail> {
         of(15, 110),
         Err(AllocFault::RootsFull),
     ];
-    // the first era and the answers
-    let rows = [(140_737_488_355_325, &spent[..]), (1, &full[..])];
-    for (first_era, answers) in rows {
+    // the first era, the plain word and the answers
+    let rows = [(140_737_488_355_325, 77, &spent[..]), (1, 1, &full[..])];
+    for (first_era, word, answers) in rows {
         let mut life = Life::of(1000);
         let Some(mut pool) = joined(rt.alloc(), geometry, first_era, false, &mut life, 0)? else {
             panic!(rt; "{first_era}")
         };
         for &expected in answers {
-            let Some(answer) = allocate(&mut pool, 0, 0, &[77], &mut life)? else {
+            let Some(answer) = allocate(&mut pool, 0, 0, &[word], &mut life)? else {
                 panic!(rt; "{first_era}")
             };
             assert_eq!(rt; answer, expected, "{first_era}");
