@@ -9,7 +9,7 @@ use Rattle.shm_graph.specs.Blocks.{classes}
 use Rattle.shm_graph.specs.Asks.{Trail, at_of, pair}
 use Rattle.shm_graph.specs.Laws.{Keeps, Then, Frame, Stands, KeptAt, Outcome}
 use Rattle.shm_graph.proofs.KindKeeping.{not_fresh}
-use Rattle.shm_alloc.specs.declared.point.Request.{Request}
+use Rattle.shm_alloc.specs.declared.request.Request.{Request}
 use Rattle.shm_alloc.specs.declared.point.AllocPoint.{AllocPoint}
 use Rattle.shm_alloc.specs.declared.point.AllocPoint.TheVariants.{Era, Root, Segment, Claim, Page, Class, Header, Tag, Reference, Plain, Redo, Commit, Slot, Close, Over}
 use Rattle.shm_alloc.specs.declared.point.AllocState.{AllocState}

@@ -5,7 +5,7 @@ use Rattle.shm_words.specs.Layout.{GeometryFits, total_of, bodies}
 use Rattle.shm_words.proofs.Classing.{class_is}
 use Rattle.shm_graph.specs.declared.ask.Me.{Me}
 use Rattle.shm_graph.proofs.Loads.{choice}
-use Rattle.shm_alloc.specs.declared.point.Request.{Request}
+use Rattle.shm_alloc.specs.declared.request.Request.{Request}
 use Rattle.shm_alloc.specs.declared.point.Goal.{Goal}
 use Rattle.shm_alloc.specs.declared.point.Search.{Search}
 use Rattle.shm_alloc.specs.declared.point.AllocPoint.{AllocPoint}

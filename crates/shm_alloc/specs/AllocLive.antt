@@ -48,7 +48,7 @@ use Rattle.shm_steps.proofs.OwnStoresEra.{era_closed}
 use Rattle.shm_steps.proofs.OwnStoresRedo.{redo_stored as begin_stored, root_begins_up, root_at, address_fits, block_fits, up_begun}
 use Rattle.shm_steps.proofs.Prepared.{MakingHolds, making_holds}
 use Rattle.shm_steps.proofs.SlotStores.{root_stored}
-use Rattle.shm_alloc.specs.declared.point.Request.{Request}
+use Rattle.shm_alloc.specs.declared.request.Request.{Request}
 use Rattle.shm_alloc.specs.declared.point.Goal.{Goal}
 use Rattle.shm_alloc.specs.declared.point.AllocPoint.TheVariants.{Redo, Commit, Slot, Close}
 use Rattle.shm_alloc.specs.AllocControl.{class_asked, tag_asked, header_made, alloc_next_at}

@@ -34,7 +34,7 @@ use Rattle.shm_graph.proofs.Spotting.{block_within, tag_spot, body_spot, same_sp
 use Rattle.shm_laws.proofs.Keep.{Contains-filter}
 use Rattle.shm_steps.proofs.BlockTold.{dying_false}
 use Rattle.shm_steps.proofs.Prepared.{MakingHolds, making_holds, tag_prepares, body_prepares}
-use Rattle.shm_alloc.specs.declared.point.Request.{Request}
+use Rattle.shm_alloc.specs.declared.request.Request.{Request}
 use Rattle.shm_alloc.specs.declared.point.Goal.{Goal}
 use Rattle.shm_alloc.specs.declared.point.AllocPoint.{AllocPoint}
 use Rattle.shm_alloc.specs.declared.point.AllocPoint.TheVariants.{Tag, Reference, Plain, Redo}

@@ -36,7 +36,7 @@ use Rattle.shm_graph.proofs.LoadKeeping.{load_kept}
 use Rattle.shm_steps.proofs.BlockTold.{class_is_read}
 use Rattle.shm_steps.proofs.BodyLoads.{header_loaded}
 use Rattle.shm_steps.proofs.PageSteps.{class_stored}
-use Rattle.shm_alloc.specs.declared.point.Request.{Request}
+use Rattle.shm_alloc.specs.declared.request.Request.{Request}
 use Rattle.shm_alloc.specs.declared.point.Goal.{Goal}
 use Rattle.shm_alloc.specs.declared.point.Search.{Search}
 use Rattle.shm_alloc.specs.declared.point.AllocPoint.TheVariants.{Page, Class, Header, Tag}

@@ -25,7 +25,7 @@ use Rattle.shm_graph.proofs.Loads.{choice}
 use Rattle.shm_graph.proofs.LoadKeeping.{load_kept, lost_kept}
 use Rattle.shm_steps.proofs.PageSteps.{claimed}
 use Rattle.shm_alloc.specs.declared.alloc.AllocFault.TheVariants.{EraSpent, RootsFull}
-use Rattle.shm_alloc.specs.declared.point.Request.{Request}
+use Rattle.shm_alloc.specs.declared.request.Request.{Request}
 use Rattle.shm_alloc.specs.declared.point.Goal.{Goal}
 use Rattle.shm_alloc.specs.declared.point.Search.{Search}
 use Rattle.shm_alloc.specs.declared.point.AllocPoint.TheVariants.{Era, Root, Segment, Claim}

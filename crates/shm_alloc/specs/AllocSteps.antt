@@ -13,7 +13,7 @@ use Rattle.shm_graph.specs.Views.{own_word}
 use Rattle.shm_graph.specs.Changes.{memo_on}
 use Rattle.shm_graph.specs.Laws.{Frame, framed, Stands, KeptAt}
 use Rattle.shm_steps.specs.Conditions.{IsHere}
-use Rattle.shm_alloc.specs.declared.point.Request.{Request}
+use Rattle.shm_alloc.specs.declared.request.Request.{Request}
 use Rattle.shm_alloc.specs.declared.point.Goal.{Goal}
 use Rattle.shm_alloc.specs.declared.point.AllocPoint.{AllocPoint}
 use Rattle.shm_alloc.specs.AllocControl.{alloc_ask_at, alloc_next_at, RequestFits, PointFits}

@@ -23,7 +23,7 @@ use Rattle.shm_graph.proofs.SpotPlaces.{spot-place}
 use Rattle.shm_graph.proofs.Spotting.{block_within, tag_spot}
 use Rattle.shm_graph.proofs.LoadTold.{is_head}
 use Rattle.shm_steps.proofs.Prepared.{MakingHolds, making_holds}
-use Rattle.shm_alloc.specs.declared.point.Request.{Request}
+use Rattle.shm_alloc.specs.declared.request.Request.{Request}
 use Rattle.shm_alloc.specs.declared.point.AllocPoint.{AllocPoint}
 use Rattle.shm_alloc.specs.declared.point.AllocPoint.TheVariants.{Era, Root, Segment, Claim, Page, Class, Header, Tag, Reference, Plain, Redo, Commit, Slot, Close, Over}
 use Rattle.shm_alloc.specs.AllocControl.{alloc_ask_at, alloc_control, is_over, RequestFits, PointFits}

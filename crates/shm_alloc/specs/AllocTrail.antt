@@ -11,7 +11,7 @@ use Rattle.shm_graph.specs.Trails.{Answers, Asked, Chosen}
 use Rattle.shm_count.specs.declared.answer.Made.{Made}
 use Rattle.shm_alloc.specs.declared.alloc.AllocFault.{AllocFault}
 use Rattle.shm_alloc.specs.declared.alloc.AllocFault.TheVariants.{EraSpent, RootsFull, Full}
-use Rattle.shm_alloc.specs.declared.point.Request.{Request}
+use Rattle.shm_alloc.specs.declared.request.Request.{Request}
 use Rattle.shm_alloc.specs.AllocControl.{class_asked, tag_asked, header_made}
 
 -- the trails of an allocation, each with its answer

@@ -4,7 +4,7 @@ use Rattle.shm_words.specs.Layout.{address, total_of, bodies}
 use Rattle.shm_words.specs.Classes.{IsClass}
 use Rattle.shm_words.proofs.Classing.{class_is}
 use Rattle.shm_graph.specs.declared.ask.Me.{Me}
-use Rattle.shm_alloc.specs.declared.point.Request.{Request}
+use Rattle.shm_alloc.specs.declared.request.Request.{Request}
 use Rattle.shm_alloc.specs.declared.point.Search.{Search}
 use Rattle.shm_alloc.specs.AllocControl.{class_asked, block_of}
 

@@ -7,7 +7,8 @@ ghost use Rattle.shm_alloc.specs.AllocFits.{AllocFits, AllocGives};
 ghost use Rattle.shm_alloc.specs.AllocLaws.{alloc_laws};
 ghost use Rattle.shm_alloc.specs.declared.point.AllocPoint.TheVariants.{Era};
 
-use crate::point::{AllocPoint, AllocState, Next, Request};
+use crate::point::{AllocPoint, AllocState, Next};
+use crate::request::Request;
 use shm_count::Made;
 use shm_graph::{Ask, Machine, Me, Turn};
 use std::marker::Model;

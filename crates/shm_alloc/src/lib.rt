@@ -7,11 +7,13 @@ pub mod alloc;
 pub mod bound;
 pub mod events;
 pub mod point;
+pub mod request;
 
 pub use alloc::{Alloc, AllocFault, TooLarge};
 pub use bound::{alloc_bound, alloc_trails};
 pub use events::{alloc_begins, alloc_events};
-pub use point::{AllocPoint, AllocState, Goal, Next, Request, Search};
+pub use point::{AllocPoint, AllocState, Goal, Next, Search};
+pub use request::Request;
 
 #[cfg(test)]
 mod tests;

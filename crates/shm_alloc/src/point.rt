@@ -9,20 +9,10 @@ ghost use Rattle.shm_alloc.specs.AllocControl.{class_asked, header_made, block_o
 ghost use Rattle.shm_alloc.specs.AllocControl as control;
 
 use crate::alloc::AllocFault;
+use crate::request::Request;
 use shm_count::Made;
 use shm_graph::{Ask, Me};
-use shm_words::{Header, Redo, Tag, class_of};
-
-/// What the new block is to hold.
-#[derive(Clone, Copy, Debug, PartialEq, Eq, Drop)]
-pub struct Request {
-    /// How many reference words, 0 to 16.
-    pub refs: u8,
-    /// How many plain words, 0 to 8.
-    pub count: u8,
-    /// The plain words; those from `count` on mean nothing.
-    pub plain: [u64; 8],
-}
+use shm_words::{Header, Redo};
 
 /// The own era that was read, and the root that is to name the block.
 #[derive(Clone, Copy, Debug, PartialEq, Eq, Drop)]
@@ -135,50 +125,6 @@ pub struct AllocState {
 pub enum Next {
     Point(AllocPoint),
     Answer(Result<Made, AllocFault>),
-}
-
-impl Request {
-    /// The class of the new block.
-    pub fn class(self) -> u8
-        requires { RequestFits self }
-        ensures { result ≡ class_asked self }
-    {
-        class_of(self.refs, self.count)
-    }
-
-    /// The tag of the new block.
-    fn tag(self, author: u8) -> Tag
-        ensures { result ≡ record { refs = self.refs; plain = self.count; author = author; link = 0 } }
-    {
-        Tag {
-            refs: self.refs,
-            plain: self.count,
-            author,
-            link: 0,
-        }
-    }
-
-    /// The step after the tag and `index` reference words are stored.
-    fn references_from(self, goal: Goal, block: u32, index: u8) -> AllocPoint
-        ensures { result ≡ control.references_from self goal block index }
-    {
-        if index < self.refs {
-            AllocPoint::Reference { goal, block, index }
-        } else {
-            self.plain_from(goal, block, 0)
-        }
-    }
-
-    /// The step after the tag, the reference words and `index` plain words are stored.
-    fn plain_from(self, goal: Goal, block: u32, index: u8) -> AllocPoint
-        ensures { result ≡ control.plain_from self goal block index }
-    {
-        if index < self.count {
-            AllocPoint::Plain { goal, block, index }
-        } else {
-            AllocPoint::Redo { goal, block }
-        }
-    }
 }
 
 impl AllocState {
