@@ -16,7 +16,7 @@ use Rattle.shm_graph.specs.declared.memo.Fact.TheVariants.{Header as HeaderRead,
 use Rattle.shm_graph.specs.declared.memo.Memo.{Memo}
 use Rattle.shm_graph.specs.declared.memo.Step.{Step}
 use Rattle.shm_graph.specs.Agents.{recovers}
-use Rattle.shm_graph.specs.Asks.{Trail, at_of, seen_of}
+use Rattle.shm_graph.specs.Asks.{Trail, at_of}
 use Rattle.shm_graph.specs.Blocks.{classes}
 use Rattle.shm_graph.specs.Changes.{called, with_call, with_end, memo_on}
 use Rattle.shm_graph.specs.Laws.{Frame, framed, Stands, KeptAt}
@@ -24,7 +24,6 @@ use Rattle.shm_graph.specs.Reach.{is_reached}
 use Rattle.shm_graph.specs.Spots.{spot_at, spot_address}
 use Rattle.shm_graph.specs.Stores.{with_own, era_stored}
 use Rattle.shm_graph.specs.Views.{view, own_word}
-use Rattle.shm_graph.proofs.KindKeeping.{in_frame}
 use Rattle.shm_graph.proofs.LoadKeeping.{load_kept}
 use Rattle.shm_graph.proofs.Loads.{choice}
 use Rattle.shm_graph.proofs.SpotPlaces.{spot-place}
@@ -47,6 +46,7 @@ use Rattle.shm_count.specs.StepControl.{last_era, block_at, redo_at, row_address
 use Rattle.shm_count.specs.StepFits.{HasPut, CanStep, core, begun_op, Rows, begun, HasRead, InHalf, PointHolds, NextHolds}
 use Rattle.shm_count.specs.StepMemos.{rows_same, row_raised, recovers_after, called_core, era_core, era_counts, era_facts, header_core, half_then, half_same, half_status, here_same, read_same, era_room}
 use Rattle.shm_count.specs.StepHeaders.{half_block, header_has, header_found}
+use Rattle.shm_count.specs.StepCores.{kept_going}
 use Rattle.shm_count.specs.StepBeginning.{can_on, begins_here}
 
 -- ---- what a step owes
@@ -55,18 +55,8 @@ use Rattle.shm_count.specs.StepBeginning.{can_on, begins_here}
 abbrev pub KeepsAt : Me → ℕ → Aim → Spot → Memo → (Spot → ℕ) → (ℕ → Memo) → Frame → StepPoint → Type 0
 KeepsAt me slot x p r0 w r f y = KeptAt me w r (step_ask_at me slot x y) f (λ n r'. NextHolds me slot x p r0 r' (step_next_at me x y n)) (spot_at me.geometry (classes w) (at_of (step_ask_at me slot x y)))
 
--- the law that a kind has of a step that isn't a machine's first, with what holds of the memo after it
-kept_going : (me : Me) (w : Spot → ℕ) (r : ℕ → Memo) (a : Ask) (f : Frame) (after : ℕ → Memo → Type 0) (p : Spot) → f.fresh ≡ false → spot_at me.geometry (classes w) (at_of a) ≡ p
-    → KeptAt me w r a f (λ n m. Unit {0}) (spot_at me.geometry (classes w) (at_of a))
-    → after (seen_of a (w p)) (memo_on (r me.who) (framed me a (record f { fresh = false }) (seen_of a (w p))) p)
-    → KeptAt me w r a f after (spot_at me.geometry (classes w) (at_of a))
-kept_going me w r a f after p going e k x =
-    subst (KeptAt me w r a f after) (sym e)
-    (let law = subst (KeptAt me w r a f (λ n m. Unit {0})) e k in
-    record { told = law.told; step = law.step; fits = in_frame (λ h. after (seen_of a (w p)) (memo_on (r me.who) (framed me a h (seen_of a (w p))) p)) f going x })
-
 -- the spot of a word of the own row
-row_spot : (me : Me) (w : Spot → ℕ) (j : ℕ) → me.who < me.geometry.clients → j < me.geometry.clients → spot_at me.geometry (classes w) (row_address me j) ≡ spot.Era me.who j
+pub row_spot : (me : Me) (w : Spot → ℕ) (j : ℕ) → me.who < me.geometry.clients → j < me.geometry.clients → spot_at me.geometry (classes w) (row_address me j) ≡ spot.Era me.who j
 row_spot me w j l k =
     ap (spot_at me.geometry (classes w)) (cond-true (ltb j me.geometry.clients) (address me.geometry (place.Era me.who j)) 0 (lt-ltb j me.geometry.clients k))
     ∙ spot-place me.geometry (classes w) (place.Era me.who j) (and_from _ _ (lt-ltb me.who me.geometry.clients l) (lt-ltb j me.geometry.clients k))

@@ -1,7 +1,6 @@
 -- the event of each step of a count step is the one that it tells
-use Rattle.std.proofs.Common.{◌≡◌, ℕ, ◌<◌, refl, sym, ap, ◌∙◌, subst, false, cond, eqb}
-use Rattle.std.proofs.lemmas.Bool.{true≢false, and_from, cond-true, lt-ltb}
-use Rattle.shm_words.specs.Layout.{address}
+use Rattle.std.proofs.Common.{◌≡◌, ℕ, refl, sym, ap, ◌∙◌, subst, false, cond, eqb}
+use Rattle.std.proofs.lemmas.Bool.{true≢false, and_from, lt-ltb}
 use Rattle.shm_words.specs.Headers.{header_of}
 use Rattle.shm_words.specs.declared.place.Place.TheVariants as place
 use Rattle.shm_graph.specs.declared.ask.Ask.{Ask}
@@ -25,12 +24,13 @@ use Rattle.shm_count.specs.declared.point.Aim.TheVariants.{Up, Change, Down}
 use Rattle.shm_count.specs.declared.point.Aim.{Aim}
 use Rattle.shm_count.specs.declared.point.Part.TheVariants.{Second, First}
 use Rattle.shm_count.specs.declared.point.StepPoint.TheVariants as point
-use Rattle.shm_count.specs.StepControl.{step_control, is_over, row_address, PartFits, block_at, PointFits, step_ask_at}
+use Rattle.shm_count.specs.StepControl.{step_control, is_over, PartFits, block_at, PointFits, step_ask_at}
 use Rattle.shm_count.specs.StepEvents.{event_of_half, step_event_at, step_event}
 use Rattle.shm_count.specs.StepFits.{StepFits, CanStep, PointHolds, op_of}
 use Rattle.shm_count.specs.StepMemos.{half_op}
 use Rattle.shm_count.specs.StepCommitting.{slot_set}
 use Rattle.shm_count.specs.StepCores.{IsStepSlot}
+use Rattle.shm_count.specs.StepReading.{row_spot}
 use Rattle.shm_count.specs.StepHeaders.{half_block}
 
 -- a step at another word than a header is no event
@@ -65,12 +65,6 @@ half_event me (Change a b) p e First fits = refl
 half_event me (Change a b) p e Second fits = refl
 half_event me (Up b) p e Second fits = absurd fits
 half_event me (Down b) p e Second fits = absurd fits
-
--- the address of an own word of the row
-row_spot : (me : Me) (w : Spot → ℕ) (j : ℕ) → me.who < me.geometry.clients → j < me.geometry.clients → spot_at me.geometry (classes w) (row_address me j) ≡ spot.Era me.who j
-row_spot me w j l k =
-    ap (spot_at me.geometry (classes w)) (cond-true _ (address me.geometry (place.Era me.who j)) 0 (lt-ltb j me.geometry.clients k))
-    ∙ spot-place me.geometry (classes w) (place.Era me.who j) (and_from _ _ (lt-ltb me.who me.geometry.clients l) (lt-ltb j me.geometry.clients k))
 
 -- the event at a point: that of the exchange of the header, which finds it, and otherwise none
 tells_at : (me : Me) (slot : ℕ) (x : Aim) (p : Spot) (r0 : Memo) (w : Spot → ℕ) (r : ℕ → Memo) (f : Frame) (tr : Trail) (y : StepPoint) → Stands me w r f tr → CanStep me slot x p r0 → PointFits me x y → PointHolds me slot x p r0 (r me.who) y → is_over y ≡ false
