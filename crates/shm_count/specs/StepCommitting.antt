@@ -1,5 +1,5 @@
 -- the last points of a count step: what the exchange of a header that finds it, the store of the slot and that of the own era keep
-use Rattle.std.proofs.Common.{◌≡◌, ℕ, ◌+◌, ◌^◌, ◌<◌, refl, sym, ap, ◌∙◌, subst, arith, Bool, true, false, not, ◌&&◌, eqb}
+use Rattle.std.proofs.Common.{◌≡◌, ◌≢◌, ℕ, ◌+◌, ◌^◌, ◌<◌, refl, sym, ap, ◌∙◌, subst, arith, Bool, true, false, not, ◌&&◌, eqb}
 use Rattle.std.proofs.lemmas.Bool.{eq-eqb, and_from, lt-ltb}
 use Rattle.shm_words.proofs.Placing.{total_small}
 use Rattle.shm_words.specs.Layout.{GeometryFits, total_of, address}
@@ -109,7 +109,7 @@ pub record IsSetAt (me : Me) (slot : ℕ) (x : Aim) (p : Spot) (w : Spot → ℕ
 -- so it is at that point
 pub slot_set : (me : Me) (slot : ℕ) (x : Aim) (p : Spot) (r0 : Memo) (w : Spot → ℕ) (r : ℕ → Memo) (e : ℕ) (z : Bool) → HeldAt me.geometry w (view r) → me.who < me.geometry.clients → CanStep me slot x p r0 → EraFits x e First → PointHolds me slot x p r0 (r me.who) (point.Slot e z) → IsSetAt me slot x p w (r me.who) e
 slot_set me slot x p r0 w r e z held who can fits h =
-    let o : (r me.who).op ≡ set_op x p e First = ap (λ (y : Memo). y.op) h.has.3 ∙ (is_set me x p e First h.has.0 h.has.1 (part_first x)).op in
+    let o : (r me.who).op ≡ set_op x p e First = ap (λ (y : Memo). y.op) h.has.4 ∙ (is_set me x p e First h.has.0 h.has.1 (part_first x)).op in
     record {
       place = ap (spot_at me.geometry (classes w)) can.at ∙ (set_going me x p e First w r held who o).at;
       kind = can_slot me slot x p r0 e can h.has.2.0 (era_room x e fits);
@@ -124,7 +124,7 @@ slot_step me slot x p r0 w r f tr e z st going can fits h =
     let q : Memo = h.has.0 in
     let k : ℕ = h.has.1 in
     let first : AtFirst me slot x p r0 q e = h.has.2 in
-    let same : core m ≡ core (set_memo me x p e First q k) = h.has.3 in
+    let same : core m ≡ core (set_memo me x p e First q k) = h.has.4 in
     let set : IsSet q (set_memo me x p e First q k) (set_op x p e First) = is_set me x p e First q k (part_first x) in
     let s : IsSetAt me slot x p w m e = slot_set me slot x p r0 w r e z st.held st.who can fits h in
     let here : IsHere m = here_same r0 m (ap (λ (y : Memo). y.status) same ∙ (set.status ∙ ap (λ (y : Memo). y.status) first.1.rest)) can.here in
@@ -137,7 +137,7 @@ slot_step me slot x p r0 w r f tr e z st going can fits h =
     (record { here = here; slot = has.1; op = subst (λ (o : Op). Writes o (op_written o) y) (sym s.op) (set_writes x p e); small = value_small me x can.geometry can.blocks }))
     (record {
       agent = recovers_after m (framed me a (record f { fresh = false }) 0) p ∙ h.agent;
-      has = (q, k, first, stored_core me.geometry c p y n (set_memo me x p e First q k) s.kind has same, h.has.4);
+      has = (q, k, first, h.has.3, stored_core me.geometry c p y n (set_memo me x p e First q k) s.kind has same, h.has.5);
     })
 
 -- ---- the own era
@@ -185,7 +185,7 @@ close_first me slot x p r0 w r f tr e z st going can fits h =
     let q : Memo = h.has.0 in
     let k : ℕ = h.has.1 in
     let first : AtFirst me slot x p r0 q e = h.has.2 in
-    let same : core m ≡ core (slot_memo me x p e q k) = h.has.3 in
+    let same : core m ≡ core (slot_memo me x p e q k) = h.has.4 in
     let set : IsSet q (set_memo me x p e First q k) (set_op x p e First) = is_set me x p e First q k fits.1 in
     let kind : IsStepSlot c p = can_slot me slot x p r0 e can first.0 (era_room x e fits.0) in
     let stored = is_stored me.geometry c p (value_after x) (set_memo me x p e First q k) kind (subst (λ (o : Op). (is_op o ≡ true) × (slot_of o ≡ p)) (sym set.op) (set_slot x p e)) in
@@ -193,12 +193,12 @@ close_first me slot x p r0 w r f tr e z st going can fits h =
     let here : IsHere m = here_same r0 m (ap (λ (y : Memo). y.status) same ∙ (stored.1 ∙ (set.status ∙ ap (λ (y : Memo). y.status) first.1.rest))) can.here in
     era_stored_kept me w r f tr e (λ n r'. NextHolds me slot x p r0 r' (step_next_at me x (point.Close e First z) n)) st going here (written_going me x p e w r st.held st.who o)
     (subst (λ (o : Op). Closes o (op_closed o (e + 1))) (sym o) (closes_set x p e))
-    (λ m' n agent i. first_closed x m' q k first (agent ∙ h.agent) (i ∙ closed_core me e m (slot_memo me x p e q k) same) h.has.4)
+    (λ m' n agent i. first_closed x m' q k first h.has.3 (agent ∙ h.agent) (i ∙ closed_core me e m (slot_memo me x p e q k) same) h.has.5)
   where
-    first_closed : (x : Aim) (m' q : Memo) (k : ℕ) → AtFirst me slot x p r0 q e → recovers m' ≡ recovers r0 → core m' ≡ core (closed_memo me e (slot_memo me x p e q k)) → z ≡ (not (raises x First) && (eqb (header_of k).count 1)) → NextHolds me slot x p r0 m' (closed_next x e First z)
-    first_closed (Up b) m' q k first agent i j = (e, q, k, first, i, j)
-    first_closed (Down b) m' q k first agent i j = (e, q, k, first, i, j)
-    first_closed (Change a b) m' q k first agent i j = record { agent = agent; has = (e, refl, (q, k, first, rows_same me.who (closed_memo me e (slot_memo me (Change a b) p e q k)) m' i)) }
+    first_closed : (x : Aim) (m' q : Memo) (k : ℕ) → AtFirst me slot x p r0 q e → (header_of k).count ≢ 0 → recovers m' ≡ recovers r0 → core m' ≡ core (closed_memo me e (slot_memo me x p e q k)) → z ≡ (not (raises x First) && (eqb (header_of k).count 1)) → NextHolds me slot x p r0 m' (closed_next x e First z)
+    first_closed (Up b) m' q k first some agent i j = (e, q, k, first, some, i, j)
+    first_closed (Down b) m' q k first some agent i j = (e, q, k, first, some, i, j)
+    first_closed (Change a b) m' q k first some agent i j = record { agent = agent; has = (e, refl, (q, k, first, rows_same me.who (closed_memo me e (slot_memo me (Change a b) p e q k)) m' i)) }
 
 -- the second half of a change is closed: the step is done
 pub close_second : (me : Me) (slot : ℕ) (x : Aim) (p : Spot) (r0 : Memo) (w : Spot → ℕ) (r : ℕ → Memo) (f : Frame) (tr : Trail) (e : ℕ) (z : Bool) → PointKeeps me slot x p r0 w r f tr (point.Close e Second z)
@@ -211,13 +211,13 @@ close_second me slot (Change a b) p r0 w r f tr e z st going can fits h =
     let q : Memo = h.has.0 in
     let k : ℕ = h.has.1 in
     let half : InHalf me slot x p r0 q e Second = h.has.2 in
-    let same : core m ≡ core (set_memo me x p e Second q k) = h.has.3 in
+    let same : core m ≡ core (set_memo me x p e Second q k) = h.has.4 in
     let set : IsSet q (set_memo me x p e Second q k) (set_op x p e Second) = is_set me x p e Second q k tt in
     let o : m.op ≡ op.Change (Lowering Closed) p a b e = ap (λ (y : Memo). y.op) same ∙ set.op in
     let here : IsHere m = here_same r0 m (ap (λ (y : Memo). y.status) same ∙ (set.status ∙ half_status me slot p r0 q e x Second can fits.0 tt half)) can.here in
     era_stored_kept me w r f tr e (λ n r'. NextHolds me slot x p r0 r' (step_next_at me x (point.Close e Second z) n)) st going here (set_going me x p e Second w r st.held st.who o).era
     (subst (λ (o : Op). Closes o (op_closed o (e + 1))) (sym o) refl)
-    (λ m' n agent i. (e, q, k, half, i ∙ closed_core me e m (set_memo me x p e Second q k) same, h.has.4))
+    (λ m' n agent i. (e, q, k, half, h.has.3, i ∙ closed_core me e m (set_memo me x p e Second q k) same, h.has.5))
 
 -- the own era is stored
 pub close_step : (me : Me) (slot : ℕ) (x : Aim) (p : Spot) (r0 : Memo) (w : Spot → ℕ) (r : ℕ → Memo) (f : Frame) (tr : Trail) (e : ℕ) (h : Part) (z : Bool) → PointKeeps me slot x p r0 w r f tr (point.Close e h z)

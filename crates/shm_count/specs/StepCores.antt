@@ -136,7 +136,7 @@ abbrev pub HasSlot : Memo → Spot → Type 0
 HasSlot m p = (is_op m.op ≡ true) × (slot_of m.op ≡ p)
 
 -- in a block it is the store of the step's word
-body_word : (g : Geometry) (c b i v : ℕ) (m : Memo) → HasSlot m (spot.Body b i) → ◌≡◌ {A = Memo} (stored_on g c m (spot.Body b i) v) (record (written m) { known = learnt (spot.Body b i) v m.known })
+pub body_word : (g : Geometry) (c b i v : ℕ) (m : Memo) → HasSlot m (spot.Body b i) → ◌≡◌ {A = Memo} (stored_on g c m (spot.Body b i) v) (record (written m) { known = learnt (spot.Body b i) v m.known })
 body_word g c b i v m h = cond-true _ _ _ (and_from _ _ h.0 (ap (λ q. same_spot q (spot.Body b i)) h.1 ∙ same_spot_self (spot.Body b i)))
 
 -- the store of the slot writes the step, and leaves the status

@@ -4,6 +4,7 @@ use Rattle.std.specs.List.{Contains}
 use Rattle.std.proofs.lemmas.Bool.{eq-eqb, ne_eqb, cases_eq}
 use Rattle.shm_words.specs.Headers.{HeaderFits, header_of}
 use Rattle.shm_words.proofs.Words.{header_word_small, header_of-word, header_fits}
+use Rattle.shm_words.specs.declared.geometry.Geometry.{Geometry}
 use Rattle.shm_words.specs.Layout.{GeometryFits}
 use Rattle.shm_graph.specs.declared.ask.Ask.{Ask}
 use Rattle.shm_graph.specs.declared.ask.Me.{Me}
@@ -21,7 +22,7 @@ use Rattle.shm_graph.specs.Reach.{shown}
 use Rattle.shm_graph.specs.Asks.{Trail}
 use Rattle.shm_graph.specs.Agents.{recovers}
 use Rattle.shm_graph.specs.Blocks.{classes}
-use Rattle.shm_graph.specs.Held.{is_loose}
+use Rattle.shm_graph.specs.Held.{HeldAt, is_loose}
 use Rattle.shm_steps.specs.Raising.{is_read, IsReparted}
 use Rattle.shm_steps.proofs.BodyLoads.{header_lost}
 use Rattle.shm_steps.proofs.RaiseBlock.{block_raised}
@@ -35,11 +36,12 @@ use Rattle.shm_count.specs.declared.point.Part.{Part}
 use Rattle.shm_count.specs.declared.point.Next.{Next}
 use Rattle.shm_count.specs.declared.point.Aim.{Aim}
 use Rattle.shm_count.specs.declared.point.StepPoint.TheVariants as point
-use Rattle.shm_count.specs.StepFits.{core, InHalf, CanStep, HasRead, NextHolds, set_memo, IsShown}
+use Rattle.shm_count.specs.StepFits.{core, InHalf, CanStep, HasRead, NextHolds, set_memo, IsShown, IsDyingWord}
 use Rattle.shm_count.specs.StepMemos.{half_status, first_reach, half_same, header_core, recovers_after, here_same, half_op}
 use Rattle.shm_count.specs.StepControl.{CountFits, EraFits, header_after, PartFits, block_at, committed_next, header_next, count_after, raises, exchange_next}
 use Rattle.shm_count.specs.StepHeaders.{header_has, header_found, half_block}
 use Rattle.shm_count.specs.StepCores.{kept_going, PointKeeps}
+use Rattle.shm_count.specs.DyingBlocks.{dying_reparted}
 
 -- ---- the header that the block comes to have
 
@@ -66,6 +68,11 @@ made_fits me x e h k fits who era count =
 
 -- ---- it is found
 
+-- no partition is read from a word of a zero-count block
+word_reparted : (g : Geometry) (w : Spot → ℕ) (r : ℕ → Memo) (c : ℕ) (x : Aim) (p : Spot) (b : ℕ) (m : Memo) → HeldAt g w (view r) → c < g.clients → (r c).dying ≡ m.dying → IsDyingWord m x p → IsReparted g w (view r) c (r c) p b
+word_reparted g w r c (Down a) (spot.Body d i) b m h l same y = dying_reparted g w r c d h l (subst (λ ds. Contains ds d) (sym same) y) i b
+word_reparted g w r c x p b m h l same y = absurd y
+
 module _ (me : Me) (slot : ℕ) (p : Spot) (r0 : Memo) (w : Spot → ℕ) (r : ℕ → Memo) (f : Frame) (tr : Trail) (e k : ℕ) (st : Stands me w r f tr) (going : f.fresh ≡ false) where
   -- a block is raised, in the first half of a step
   first_part : (x : Aim) → InHalf me slot x p r0 (r me.who) e First → (r me.who).part ≡ r0.part
@@ -74,9 +81,13 @@ module _ (me : Me) (slot : ℕ) (p : Spot) (r0 : Memo) (w : Spot → ℕ) (r : �
   first_values : (x : Aim) → InHalf me slot x p r0 (r me.who) e First → (r me.who).values ≡ r0.values
   first_values x half = ap (λ (y : Memo). y.values) half.1.rest
 
-  -- nothing has to be shown of the partition
+  -- no partition is read from the slot
   unread : (x : Aim) (b : ℕ) → CanStep me slot x p r0 → InHalf me slot x p r0 (r me.who) e First → IsReparted me.geometry w (view r) me.who (r me.who) p b
-  unread x b can half = reparted_unread me.geometry w (view r) me.who (r me.who) p b (ap (λ y. is_read y p) (first_part x half) ∙ can.unread)
+  unread x b can half =
+      elim can.unread [
+        | inl n ↦ reparted_unread me.geometry w (view r) me.who (r me.who) p b (ap (λ y. is_read y p) (first_part x half) ∙ n)
+        | inr d ↦ word_reparted me.geometry w r me.who x p b r0 st.held st.who (ap (λ (y : Memo). y.dying) half.1.rest) d
+      ]
 
   -- a header that is found becomes the one of the step
   exchange_kept : (x : Aim) (h : Part) → CanStep me slot x p r0 → EraFits x e h → PartFits x h → CountFits x h k → InHalf me slot x p r0 (r me.who) e h → HasRead me.who me.geometry.clients (r me.who) k → IsShown me.who (r me.who) k → w (spot.Head (block_at x h)) ≡ k
@@ -142,11 +153,11 @@ module _ (me : Me) (slot : ℕ) (p : Spot) (r0 : Memo) (w : Spot → ℕ) (r : �
   exchange_kept (Down b) Second can era part count half read shown found = absurd part
 
 -- what comes next once it was found, by what the exchange made of the memo
-found_next : (me : Me) (slot : ℕ) (x : Aim) (p : Spot) (r0 q m : Memo) (e k : ℕ) (h : Part) → PartFits x h → recovers m ≡ recovers r0 → InHalf me slot x p r0 q e h → core m ≡ core (set_memo me x p e h q k) → NextHolds me slot x p r0 m (committed_next x e h k)
-found_next me slot x p r0 q m e k First part agent half same = record { agent = agent; has = (q, k, half, same, refl) }
-found_next me slot (Change a b) p r0 q m e k Second part agent half same = record { agent = agent; has = (q, k, half, same, refl) }
-found_next me slot (Up b) p r0 q m e k Second part agent half same = absurd part
-found_next me slot (Down b) p r0 q m e k Second part agent half same = absurd part
+found_next : (me : Me) (slot : ℕ) (x : Aim) (p : Spot) (r0 q m : Memo) (e k : ℕ) (h : Part) → PartFits x h → recovers m ≡ recovers r0 → InHalf me slot x p r0 q e h → (header_of k).count ≢ 0 → core m ≡ core (set_memo me x p e h q k) → NextHolds me slot x p r0 m (committed_next x e h k)
+found_next me slot x p r0 q m e k First part agent half some same = record { agent = agent; has = (q, k, half, some, same, refl) }
+found_next me slot (Change a b) p r0 q m e k Second part agent half some same = record { agent = agent; has = (q, k, half, some, same, refl) }
+found_next me slot (Up b) p r0 q m e k Second part agent half some same = absurd part
+found_next me slot (Down b) p r0 q m e k Second part agent half some same = absurd part
 
 -- ---- the step
 
@@ -204,7 +215,7 @@ exchange_step me slot x p r0 w r f tr e h k st going can fits y = by (cases_eq n
         kept_going me w r a f (λ n r'. NextHolds me slot x p r0 r' (exchange_next me x e h k n)) s going i
         (exchange_kept me slot p r0 w r f tr e k st going x h can fits.0 fits.1 fits.2 half y.has.1 y.has.2 u)
         (subst (λ z. NextHolds me slot x p r0 (left z) (next z)) (sym (eq-eqb n k u))
-        (found_next me slot x p r0 N (left true) e k h fits.1 (subst (λ z. recovers (left z) ≡ recovers r0) (eq-eqb n k u) agent) half_there
+        (found_next me slot x p r0 N (left true) e k h fits.1 (subst (λ z. recovers (left z) ≡ recovers r0) (eq-eqb n k u) agent) half_there y.has.1.counted
         (ap (λ o. core (committed c N o to)) (half_op me slot p r0 m e x h can fits.0 fits.1 half))))
     by (inr u) =
         kept_going me w r a f (λ n r'. NextHolds me slot x p r0 r' (exchange_next me x e h k n)) s going i

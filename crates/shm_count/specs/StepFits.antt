@@ -73,7 +73,12 @@ abbrev pub HasPut : ℕ → Aim → Spot → Memo → Type 0
 HasPut c (Up b) (spot.Slot s i k) m = (y : ℕ) × Contains m.facts (Counter (spot.Front c i) y) × (own_word m.own (spot.Tail c i) < y + 8)
 HasPut c x p m = Unit {0}
 
--- no step of the identity is in progress, the slot is the spot p and is c's to change so, and a block that is to be raised is in reach; in a pool for tables the slot is none that a partition is read from, and only a value block is sent
+-- a step down may take a reference out of a zero-count block, from which no partition is read
+abbrev pub IsDyingWord : Memo → Aim → Spot → Type 0
+IsDyingWord r (Down b) (spot.Body d i) = Contains r.dying d
+IsDyingWord r x p = ⊥
+
+-- no step of the identity is in progress, the slot is the spot p and is c's to change so, and a block that is to be raised is in reach; in a pool for tables the slot is none that a partition is read from, or a word of a zero-count block in a step down, and only a value block is sent
 pub record CanStep (me : Me) (slot : ℕ) (x : Aim) (p : Spot) (r : Memo) : Type 0 where
   pub geometry : GeometryFits me.geometry
   pub who : me.who < me.geometry.clients
@@ -86,7 +91,7 @@ pub record CanStep (me : Me) (slot : ℕ) (x : Aim) (p : Spot) (r : Memo) : Type
   pub can : own_word r.own (spot.Era me.who me.who) ≤ last_era x → CanAim me.geometry.clients me.who r x p
   pub put : HasPut me.who x p r
   pub reach : raises x First ≡ true → is_reached me.who r (block_at x First) ≡ true
-  pub unread : is_read r.part p ≡ false
+  pub unread : (is_read r.part p ≡ false) ⊎ IsDyingWord r x p
   pub queued : is_loose r.part ≡ false → is_slot p ≡ true → raises x First ≡ true → Contains r.values (block_at x First)
 
 -- ---- what the memo shows on the way
@@ -154,7 +159,7 @@ abbrev pub InHalf : Me → ℕ → Aim → Spot → Memo → Memo → ℕ → Pa
 InHalf me slot x p r0 r e First = AtFirst me slot x p r0 r e
 InHalf me slot x p r0 r e Second = (d : ℕ) × (e ≡ d + 1) × ((q : Memo) × (w : ℕ) × AtFirst me slot x p r0 q d × Rows me.who (closed_memo me d (slot_memo me x p d q w)) r)
 
--- what the memo shows at a point
+-- what the memo shows at a point; the header that was exchanged is one of a counted block
 abbrev pub PointHas : Me → ℕ → Aim → Spot → Memo → Memo → StepPoint → Type 0
 PointHas me slot x p r0 r point.Era = (core r ≡ core r0) × HasPut me.who x p r
 PointHas me slot x p r0 r (point.Redo e) = (core r ≡ core r0) × (e ≡ own_word r0.own (spot.Era me.who me.who)) × HasPut me.who x p r
@@ -162,17 +167,17 @@ PointHas me slot x p r0 r (point.Load e h) = InHalf me slot x p r0 r e h
 PointHas me slot x p r0 r (point.Row e h w) = InHalf me slot x p r0 r e h × HasRead me.who me.geometry.clients r w × (me.who ≢ (header_of w).client)
 PointHas me slot x p r0 r (point.Show e h w) = InHalf me slot x p r0 r e h × HasRead me.who me.geometry.clients r w × (me.who ≢ (header_of w).client) × (own_word r.own (spot.Era me.who (header_of w).client) ≤ (header_of w).era)
 PointHas me slot x p r0 r (point.Exchange e h w) = InHalf me slot x p r0 r e h × HasRead me.who me.geometry.clients r w × IsShown me.who r w
-PointHas me slot x p r0 r (point.Slot e z) = (q : Memo) × (w : ℕ) × AtFirst me slot x p r0 q e × (core r ≡ core (set_memo me x p e First q w)) × (z ≡ (not (raises x First) && ((header_of w).count == 1)))
-PointHas me slot x p r0 r (point.Close e First z) = (q : Memo) × (w : ℕ) × AtFirst me slot x p r0 q e × (core r ≡ core (slot_memo me x p e q w)) × (z ≡ (not (raises x First) && ((header_of w).count == 1)))
-PointHas me slot x p r0 r (point.Close e Second z) = (q : Memo) × (w : ℕ) × InHalf me slot x p r0 q e Second × (core r ≡ core (set_memo me x p e Second q w)) × (z ≡ ((header_of w).count == 1))
+PointHas me slot x p r0 r (point.Slot e z) = (q : Memo) × (w : ℕ) × AtFirst me slot x p r0 q e × ((header_of w).count ≢ 0) × (core r ≡ core (set_memo me x p e First q w)) × (z ≡ (not (raises x First) && ((header_of w).count == 1)))
+PointHas me slot x p r0 r (point.Close e First z) = (q : Memo) × (w : ℕ) × AtFirst me slot x p r0 q e × ((header_of w).count ≢ 0) × (core r ≡ core (slot_memo me x p e q w)) × (z ≡ (not (raises x First) && ((header_of w).count == 1)))
+PointHas me slot x p r0 r (point.Close e Second z) = (q : Memo) × (w : ℕ) × InHalf me slot x p r0 q e Second × ((header_of w).count ≢ 0) × (core r ≡ core (set_memo me x p e Second q w)) × (z ≡ ((header_of w).count == 1))
 PointHas me slot x p r0 r point.Over = Unit {0}
 
 -- ---- what it leaves
 
--- the step is done: the memo is what the exchanges, the store of the slot and those of the own era made of the memo before; z says whether the block that was lowered came to 0
+-- the step is done: the memo is what the exchanges, of headers of counted blocks, the store of the slot and those of the own era made of the memo before; z says whether the block that was lowered came to 0
 abbrev pub Done : Me → ℕ → Aim → Spot → Memo → Memo → Bool → Type 0
-Done me slot (Change a b) p r0 r z = (e : ℕ) × (q : Memo) × (w : ℕ) × InHalf me slot (Change a b) p r0 q e Second × (core r ≡ core (closed_memo me e (set_memo me (Change a b) p e Second q w))) × (z ≡ ((header_of w).count == 1))
-Done me slot x p r0 r z = (e : ℕ) × (q : Memo) × (w : ℕ) × AtFirst me slot x p r0 q e × (core r ≡ core (closed_memo me e (slot_memo me x p e q w))) × (z ≡ (not (raises x First) && ((header_of w).count == 1)))
+Done me slot (Change a b) p r0 r z = (e : ℕ) × (q : Memo) × (w : ℕ) × InHalf me slot (Change a b) p r0 q e Second × ((header_of w).count ≢ 0) × (core r ≡ core (closed_memo me e (set_memo me (Change a b) p e Second q w))) × (z ≡ ((header_of w).count == 1))
+Done me slot x p r0 r z = (e : ℕ) × (q : Memo) × (w : ℕ) × AtFirst me slot x p r0 q e × ((header_of w).count ≢ 0) × (core r ≡ core (closed_memo me e (slot_memo me x p e q w))) × (z ≡ (not (raises x First) && ((header_of w).count == 1)))
 
 -- nothing was done: a redo record may stand that names no step in progress, and rows may have been raised
 abbrev pub Refused : Me → Aim → Memo → Memo → UpFault → Type 0
@@ -205,8 +210,9 @@ pub record StepFits (p : Spot) (m : StepState) (r0 r : Memo) (tr : Trail) : Type
   pub course : after_all step_control (step_start m) tr ≡ m
   pub events : happens_along step_control (step_event p) (step_start m) tr ≡ events_at m.me m.aim p m.point
 
--- the step is done, or nothing is; the trail is whole, and the own events are those of the answer
+-- it could begin; the step is done, or nothing is; the trail is whole, and the own events are those of the answer
 pub record StepGives (p : Spot) (m : StepState) (r0 r : Memo) (tr : Trail) (a : Result Bool UpFault) : Type 0 where
+  pub can : CanStep m.me m.slot m.aim p r0
   pub gives : Gives m.me m.slot m.aim p r0 r a
   pub trail : step_trail m.me m.slot m.aim tr a
   pub events : happens_along step_control (step_event p) (step_start m) tr ≡ own_events m.me m.aim p a

@@ -154,7 +154,7 @@ pub trail_ends : (me : Me) (slot : ℕ) (x : Aim) (y : StepPoint) (n : ℕ) (a :
 trail_ends me slot x y n a l e = step_goes me slot x y n [] a (subst (λ (u : Next). next_trail me slot x u [] a) (sym e) (refl, refl))
 
 -- a list that ends in an item isn't empty
-ends_in : (tr : Trail) (s : Seen) → (tr ++ s ∷ []) ≢ []
+pub ends_in : (tr : Trail) (s : Seen) → (tr ++ s ∷ []) ≢ []
 ends_in [] s e = absurd (cc)
 ends_in (x ∷ tr) s e = absurd (cc)
 
@@ -284,6 +284,7 @@ fits_goes p m r0 r r2 tr n y fit e knows holds =
 pub gives_ends : (p : Spot) (m : StepState) (r0 r r2 : Memo) (tr : Trail) (n : ℕ) (a : Result Bool UpFault) → StepFits p m r0 r tr → step_next m n ≡ Answer a → Gives m.me m.slot m.aim p r0 r2 a → StepGives p m r0 r2 (tr ++ pair (step_ask m) n ∷ []) a
 gives_ends p m r0 r r2 tr n a fit e gives =
     record {
+      can = fit.can;
       gives = gives;
       trail = fit.trail (pair (step_ask m) n ∷ []) a (trail_ends m.me m.slot m.aim m.point n a fit.knows.point e);
       events = told_on p m r0 r tr n (Answer a) fit e;

@@ -24,7 +24,7 @@ use Rattle.shm_count.specs.StepExchanging.{exchange_step}
 use Rattle.shm_count.specs.StepCommitting.{slot_step, close_step}
 
 -- the step at a point
-step_at : (me : Me) (slot : ℕ) (x : Aim) (p : Spot) (r0 : Memo) (w : Spot → ℕ) (r : ℕ → Memo) (f : Frame) (tr : Trail) (y : StepPoint) → is_over y ≡ false → Stands me w r f tr → (y ≢ Era → f.fresh ≡ false) → CanStep me slot x p r0 → PointFits me x y → PointHolds me slot x p r0 (r me.who) y
+pub step_at : (me : Me) (slot : ℕ) (x : Aim) (p : Spot) (r0 : Memo) (w : Spot → ℕ) (r : ℕ → Memo) (f : Frame) (tr : Trail) (y : StepPoint) → is_over y ≡ false → Stands me w r f tr → (y ≢ Era → f.fresh ≡ false) → CanStep me slot x p r0 → PointFits me x y → PointHolds me slot x p r0 (r me.who) y
     → KeptAt me w r (step_ask_at me slot x y) f (λ n m. NextHolds me slot x p r0 m (step_next_at me x y n)) (spot_at me.geometry (classes w) (at_of (step_ask_at me slot x y)))
 step_at me slot x p r0 w r f tr Era o s going can l h = era_step me slot x p r0 w r f tr s can l h
 step_at me slot x p r0 w r f tr (Redo e) o s going can l h = redo_step me slot x p r0 w r f tr e s (going (λ z. cc)) can l h

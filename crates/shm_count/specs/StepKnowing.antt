@@ -16,7 +16,7 @@ use Rattle.shm_count.specs.declared.point.Next.TheVariants.{Point, Answer}
 use Rattle.shm_count.specs.StepControl.{raises, era_next, header_next, row_next, committed_next, closed_next, step_next_at, step_next, PartFits, EraFits, PointFits, StepKnows}
 
 -- where it goes on, the point is in range
-abbrev NextFits : Me → Aim → Next → Type 0
+abbrev pub NextFits : Me → Aim → Next → Type 0
 NextFits me x (Point y) = PointFits me x y
 NextFits me x (Answer a) = Unit {0}
 
@@ -67,7 +67,7 @@ closed_fits me (Change a b) e First z era = (omega arith, tt)
 closed_fits me (Change a b) e Second z era = tt
 
 -- where it goes from a point in range is in range
-next_fits : (me : Me) (x : Aim) (y : StepPoint) (n : ℕ) → PointFits me x y → NextFits me x (step_next_at me x y n)
+pub next_fits : (me : Me) (x : Aim) (y : StepPoint) (n : ℕ) → PointFits me x y → NextFits me x (step_next_at me x y n)
 next_fits me x Era n k = era_fits me x n
 next_fits me x (Redo e) n k = (k, first_part x)
 next_fits me x (Load e h) n k = header_fits me x e h n k.0 k.1

@@ -25,7 +25,7 @@ use Rattle.shm_count.specs.StepFits.{PointHas, StepFits, StepGives}
 -- ---- steady
 
 -- where it goes on, the point is neither the first one nor the end
-abbrev GoesOn : Next → Type 0
+abbrev pub GoesOn : Next → Type 0
 GoesOn (Point y) = (is_first y ≡ false) × (is_over y ≡ false)
 GoesOn (Answer a) = Unit {0}
 
@@ -51,7 +51,7 @@ closed_goes (Change a b) e First z = (refl, refl)
 closed_goes (Change a b) e Second z = tt
 
 -- from each point but the end it goes on to a later point, or answers
-goes_on : (me : Me) (x : Aim) (y : StepPoint) (n : ℕ) → is_over y ≡ false → GoesOn (step_next_at me x y n)
+pub goes_on : (me : Me) (x : Aim) (y : StepPoint) (n : ℕ) → is_over y ≡ false → GoesOn (step_next_at me x y n)
 goes_on me x Era n e = chosen (nat_lt (last_era x) n) _ _ tt (refl, refl)
 goes_on me x (Redo d) n e = (refl, refl)
 goes_on me x (Load d h) n e = header_goes me x d h n
@@ -99,7 +99,7 @@ block_inside me (Change a b) First k = let l = k.1.0 in (omega arith, k.1.1)
 block_inside me (Change a b) Second k = let l = k.0.0 in (omega arith, k.0.1)
 
 -- what is asked for at a point is a word of the pool
-ask_inside : (me : Me) (slot : ℕ) (x : Aim) (p : Spot) (r0 r : Memo) (y : StepPoint) → GeometryFits me.geometry → me.who < me.geometry.clients → AimFits me x → (0 < slot) × (slot < total_of me.geometry)
+pub ask_inside : (me : Me) (slot : ℕ) (x : Aim) (p : Spot) (r0 r : Memo) (y : StepPoint) → GeometryFits me.geometry → me.who < me.geometry.clients → AimFits me x → (0 < slot) × (slot < total_of me.geometry)
     → PointHas me slot x p r0 r y → is_over y ≡ false → (0 < at_of (step_ask_at me slot x y)) × (at_of (step_ask_at me slot x y) < total_of me.geometry)
 ask_inside me slot x p r0 r Era f l k s h e = era_inside me me.who f l l
 ask_inside me slot x p r0 r (Redo d) f l k s h e = redo_inside me f l
@@ -119,4 +119,4 @@ step_inside p m r0 r tr l fit going = ask_inside m.me m.slot m.aim p r0 r m.poin
 
 -- what an answer says, it says of the identity, the slot and the aim alone
 pub step_back : (p : Spot) → Back step_control (StepGives p)
-step_back p m n going goes r0 r tr a g = record { gives = g.gives; trail = g.trail; events = g.events }
+step_back p m n going goes r0 r tr a g = record { can = g.can; gives = g.gives; trail = g.trail; events = g.events }

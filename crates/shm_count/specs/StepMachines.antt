@@ -98,7 +98,7 @@ down_told (Err e) = Err (fault.EraSpent e.era)
 
 -- no count comes to 0 where one goes up
 up_zero : (me : Me) (slot : ℕ) (x : Aim) (p : Spot) (r0 r : Memo) (z : Bool) → is_up x ≡ true → Done me slot x p r0 r z → z ≡ false
-up_zero me slot (Up b) p r0 r z u d = d.5
+up_zero me slot (Up b) p r0 r z u d = d.6
 up_zero me slot (Down b) p r0 r z u d = absurd (true≢false (sym u))
 up_zero me slot (Change a b) p r0 r z u d = absurd (true≢false (sym u))
 

@@ -45,7 +45,7 @@ elsewhere m t a p q e n = ap (event_by m t a) e ∙ go a q n
     go (Exchange at from to) x z = refl
 
 -- so is one that is asked for there
-quiet : (me : Me) (w : Spot → ℕ) (r : ℕ → Memo) (f : Frame) (a : Ask) (q : Spot) → spot_at me.geometry (classes w) (at_of a) ≡ q → is_head q ≡ false
+pub quiet : (me : Me) (w : Spot → ℕ) (r : ℕ → Memo) (f : Frame) (a : Ask) (q : Spot) → spot_at me.geometry (classes w) (at_of a) ≡ q → is_head q ≡ false
     → let s = spot_at me.geometry (classes w) (at_of a) in event_on (r me.who) (framed me a f (seen_of a (w s))) s ≡ Nothing
 quiet me w r f a q e n = let s = spot_at me.geometry (classes w) (at_of a) in elsewhere (r me.who) (framed me a f (seen_of a (w s))) a s q e n
 
@@ -67,7 +67,7 @@ half_event me (Up b) p e Second fits = absurd fits
 half_event me (Down b) p e Second fits = absurd fits
 
 -- the event at a point: that of the exchange of the header, which finds it, and otherwise none
-tells_at : (me : Me) (slot : ℕ) (x : Aim) (p : Spot) (r0 : Memo) (w : Spot → ℕ) (r : ℕ → Memo) (f : Frame) (tr : Trail) (y : StepPoint) → Stands me w r f tr → CanStep me slot x p r0 → PointFits me x y → PointHolds me slot x p r0 (r me.who) y → is_over y ≡ false
+pub tells_at : (me : Me) (slot : ℕ) (x : Aim) (p : Spot) (r0 : Memo) (w : Spot → ℕ) (r : ℕ → Memo) (f : Frame) (tr : Trail) (y : StepPoint) → Stands me w r f tr → CanStep me slot x p r0 → PointFits me x y → PointHolds me slot x p r0 (r me.who) y → is_over y ≡ false
     → let a : Ask = step_ask_at me slot x y in let s = spot_at me.geometry (classes w) (at_of a) in event_on (r me.who) (framed me a f (seen_of a (w s))) s ≡ step_event_at me x p y (seen_of a (w s))
 tells_at me slot x p r0 w r f tr point.Era st can fits h o = refl
 tells_at me slot x p r0 w r f tr (point.Redo e) st can fits h o = quiet me w r f (step_ask_at me slot x (point.Redo e)) (spot.Redo me.who) (spot-place me.geometry (classes w) (place.Redo me.who) (lt-ltb me.who me.geometry.clients st.who)) refl

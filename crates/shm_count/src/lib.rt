@@ -6,14 +6,19 @@
 pub mod answer;
 pub mod bound;
 pub mod events;
+pub mod parts;
 pub mod point;
 pub mod step;
+pub mod tear;
+pub mod tear_point;
 
 pub use answer::{EraSpent, Made, UpFault};
-pub use bound::step_bound;
-pub use events::{step_begins, step_events};
-pub use point::{Aim, Next, Part, StepPoint, StepState};
+pub use bound::{step_bound, tear_bound};
+pub use events::{step_begins, step_events, tear_begins, tear_events};
 pub use step::{StepChange, StepDown, StepUp};
+pub use tear::TearDown;
 
+#[cfg(test)]
+mod tear_tests;
 #[cfg(test)]
 mod tests;

@@ -5,29 +5,33 @@ use shm_graph::{Ask, Machine, Me, Turn};
 use shm_words::Geometry;
 use std::test::Fail;
 
-fn load(at: u32) -> Ask {
+pub fn load(at: u32) -> Ask {
     Ask::Load { at }
 }
 
-fn store(at: u32, value: u64) -> Ask {
+pub fn store(at: u32, value: u64) -> Ask {
     Ask::Store { at, value }
 }
 
-fn exchange(at: u32, from: u64, to: u64) -> Ask {
+pub fn exchange(at: u32, from: u64, to: u64) -> Ask {
     Ask::Exchange { at, from, to }
 }
 
-/// Gives a machine the words of these steps, where it asks for them; its answer, once it has one.
-fn answer_of<M: Machine>(machine: &mut M, steps: &[(Ask, u64)]) -> Option<M::Answer> {
+/// Gives a machine the words of these steps, where it asks for them; its answer, where the last step gives it.
+pub fn answer_of<M: Machine>(machine: &mut M, steps: &[(Ask, u64)]) -> Option<M::Answer>
+where
+    M::Answer: Drop,
+{
+    let mut last = None;
     for &(ask, seen) in steps {
         if machine.finished() || machine.ask() != ask {
             return None;
         }
         if let Turn::Done(answer) = machine.take(seen) {
-            return Some(answer);
+            last = Some(answer);
         }
     }
-    None
+    last
 }
 
 // one client, first era 1, which has joined and made block 50 with one plain word in root 0, at address 7
@@ -160,6 +164,18 @@ fn steps_are_refused(rt: HostRuntime) -> Result<(), Fail> {
     );
     let mut up = StepUp::new(me, 8, 50);
     assert_eq!(rt; answer_of(&mut up, &read_full), Some(Err(full)));
+    // a change whose new block has the greatest count
+    let full = UpFault::CountFull {
+        block: 54,
+        count: 1023,
+    };
+    let read_full = [
+        (load(6), 3),
+        (store(2, 8_070_458_228_881_752_118), 0),
+        (load(54), 9_367_346_487_442_276_353),
+    ];
+    let mut change = StepChange::new(me, 7, 50, 54);
+    assert_eq!(rt; answer_of(&mut change, &read_full), Some(Err(full)));
     let mut down = StepDown::new(me, 7, 50);
     let era = 140_737_488_355_326;
     assert_eq!(rt;

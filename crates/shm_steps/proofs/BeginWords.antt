@@ -49,7 +49,7 @@ listed_claims b t (s ∷ ks) h =
     only x y h = All-contains (λ z. x ≡ z) (x ∷ []) y (All-cons (λ z. x ≡ z) x [] refl (All-nil (λ z. x ≡ z))) h
 
 -- a word of a block whose tag is listed is covered
-listed_covered : (c : ℕ) (m : Memo) (b i t : ℕ) → Contains m.known (record { spot = Tag b; value = t }) → i < tag_refs t → IsCovered c m (b + 2 + i)
+pub listed_covered : (c : ℕ) (m : Memo) (b i t : ℕ) → Contains m.known (record { spot = Tag b; value = t }) → i < tag_refs t → IsCovered c m (b + 2 + i)
 listed_covered c m b i t h l =
     let k : Claim = claim_by b t in (
       k,

@@ -1,0 +1,5 @@
+use Rattle.shm_count.specs.TearGoing.{begins}
+use Rattle.shm_count.proofs.events.tear_begins.Goals as goal
+
+pub returns : goal.returns
+returns c = begins

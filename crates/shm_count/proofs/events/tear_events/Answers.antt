@@ -1,0 +1,5 @@
+use Rattle.shm_count.specs.TearTells.{tear_tells}
+use Rattle.shm_count.proofs.events.tear_events.Goals as goal
+
+pub returns : goal.returns
+returns c = tear_tells

@@ -1,0 +1,211 @@
+-- what a step down leaves whose slot is a word of a zero-count block: the block that the word names joins the zero-count blocks or stays counted, and the rest stays
+use Rattle.std.proofs.Common.{◌≡◌, ◌≢◌, ℕ, ◌+◌, ◌-◌, ◌^◌, ◌<◌, ◌≤◌, refl, sym, ap, ◌∙◌, subst, arith, Bool, true, false, not, ◌&&◌, cond, eqb, List, [], ◌∷◌, ◌++◌, append-nil}
+use Rattle.std.specs.Cmp.{nat_eq_equiv}
+use Rattle.std.specs.List.{Contains, filter}
+use Rattle.std.proofs.lemmas.Bool.{eq-eqb, ne_eqb, eqb-true, eqb-false, cond-true, or_right, not-true}
+use Rattle.std.proofs.lemmas.Bool.Decides.{nat_tests}
+use Rattle.std.proofs.lemmas.List.Elements.{Contains-append_right}
+use Rattle.std.proofs.lemmas.Map.Views.{list_any-from_Contains}
+use Rattle.shm_words.specs.Headers.{header_of}
+use Rattle.shm_words.specs.declared.header.Header.{Header}
+use Rattle.shm_words.specs.Redos.{redo_word}
+use Rattle.shm_words.proofs.Words.{header_of-word, header_fits}
+use Rattle.shm_graph.specs.declared.ask.Me.{Me}
+use Rattle.shm_graph.specs.declared.spot.Spot.{Spot}
+use Rattle.shm_graph.specs.declared.spot.Spot.TheVariants.{Redo, Home, Era, Tag, Body}
+use Rattle.shm_graph.specs.declared.memo.First.TheVariants.{Committed}
+use Rattle.shm_graph.specs.declared.memo.Memo.{Memo}
+use Rattle.shm_graph.specs.declared.memo.Op.{Op}
+use Rattle.shm_graph.specs.declared.memo.Op.TheVariants.{Nothing, Down as StepDown}
+use Rattle.shm_graph.specs.declared.memo.Stored.{Stored}
+use Rattle.shm_graph.specs.Chains.{part_set}
+use Rattle.shm_graph.specs.Exchanges.{without_made, reparted, cut}
+use Rattle.shm_graph.specs.Ops.{cover, cover_of}
+use Rattle.shm_graph.specs.Reach.{learnt, not_at, shown, is_reached, is_dying, binds, sifted}
+use Rattle.shm_graph.specs.Spots.{same_spot}
+use Rattle.shm_graph.specs.Stores.{is_of, not_of, with_own, written, stored_on, era_stored}
+use Rattle.shm_graph.specs.Views.{own_word}
+use Rattle.shm_graph.proofs.Loads.{choice}
+use Rattle.shm_graph.proofs.Spotting.{same_spot_is, same_spot_not}
+use Rattle.shm_laws.specs.Steps.{dying_after}
+use Rattle.shm_laws.proofs.Keep.{Contains-filter}
+use Rattle.shm_steps.proofs.MemoCommits.{known_lowered, lowered_is}
+use Rattle.shm_steps.proofs.Sifting.{dying_more}
+use Rattle.shm_count.specs.declared.point.Aim.TheVariants.{Down}
+use Rattle.shm_count.specs.declared.point.Part.TheVariants.{First}
+use Rattle.shm_count.specs.StepControl.{redo_at, header_after}
+use Rattle.shm_count.specs.StepFits.{core, is_row, begun, AtFirst, slot_memo, closed_memo, Done}
+use Rattle.shm_count.specs.StepCores.{body_word}
+use Rattle.shm_count.specs.TearStays.{is_lasting, Knows, IsFound, Lowered}
+
+-- ---- what is known of a zero-count block stays known
+
+-- the block of a word is a zero-count block
+is_dying_here : (m : Memo) (b k : ℕ) → Contains m.dying b → eqb k b ≡ true → is_dying m k ≡ true
+is_dying_here m b k has e = list_any-from_Contains nat_eq_equiv k m.dying (subst (Contains m.dying) (sym (eqb-true k b e)) has)
+
+-- a word of a zero-count block binds
+binds_dying : (c : ℕ) (m : Memo) (b : ℕ) (p : Spot) → Contains m.dying b → is_of b p ≡ true → binds c m p ≡ true
+binds_dying c m b (Tag k) has e = or_right (is_reached c m k) (is_dying m k) (is_dying_here m b k has e)
+binds_dying c m b (Body k j) has e = or_right (is_reached c m k) (is_dying m k) (is_dying_here m b k has e)
+binds_dying c m b _ has e = refl
+
+-- so that it stays known where only what binds stays
+sifted_known : (c : ℕ) (m : Memo) (b : ℕ) (p : Spot) (x : ℕ) → Contains m.dying b → is_of b p ≡ true → Knows m p x → Knows (sifted c m) p x
+sifted_known c m b p x has e k = Contains-filter (λ (s : Stored). binds c m s.spot) m.known (record { spot = p; value = x }) k (binds_dying c m b p has e)
+
+-- a word of one block is none of another
+of_other : (t b : ℕ) (p : Spot) → b ≢ t → is_of b p ≡ true → is_of t p ≡ false
+of_other t b (Tag k) n e = ne_eqb k t (λ z. n (sym (eqb-true k b e) ∙ z))
+of_other t b (Body k j) n e = ne_eqb k t (λ z. n (sym (eqb-true k b e) ∙ z))
+of_other t b _ n e = refl
+
+-- a word of another block stays known where a count comes down
+lowered_known : (n t b : ℕ) (p : Spot) (x : ℕ) (ks : List Stored) → b ≢ t → is_of b p ≡ true → Contains ks (record { spot = p; value = x }) → Contains (known_lowered n t ks) (record { spot = p; value = x })
+lowered_known n t b p x ks other e k =
+    let s : Stored = record { spot = p; value = x } in
+    choice (λ (ys : List Stored). Contains ys s) (eqb n 0) (filter (not_of t) ks) ks
+    (λ z. Contains-filter (not_of t) ks s k (ap not (of_other t b p other e)))
+    (λ z. k)
+
+-- a word stays known where another one is stored
+learnt_known : (q p : Spot) (y x : ℕ) (ks : List Stored) → p ≢ q → Contains ks (record { spot = p; value = x }) → Contains (learnt q y ks) (record { spot = p; value = x })
+learnt_known q p y x ks other k =
+    let s : Stored = record { spot = p; value = x } in
+    Contains-append_right (record { spot = q; value = y } ∷ []) (filter (not_at q) ks) s (Contains-filter (not_at q) ks s k (ap not (same_spot_not q p (λ z. other (sym z)))))
+
+-- ---- the count
+
+-- a count comes to 0 where it was 1
+one_less : (k : ℕ) → k ≢ 0 → eqb (k - 1) 0 ≡ eqb k 1
+one_less k n = grind (arith, nat_tests)
+
+-- the header that is stored shows one reference less
+count_less : (me : Me) (t e w : ℕ) → me.who < 64 → e < 2 ^ 47 → (header_of w).count ≢ 0 → (header_of (header_after me (Down t) e First w)).count ≡ (header_of w).count - 1
+count_less me t e w who era some =
+    let h = header_fits w in
+    let count = h.count in
+    let y : Header = record { live = true; client = me.who; count = (header_of w).count - 1; era = e } in
+    ap (λ (x : Header). x.count) (header_of-word y (record { client = who; count = omega arith; era = era }))
+
+-- the block joins the zero-count blocks or not
+joined : (z : Bool) (t : ℕ) (bs : List ℕ) → cond z (bs ++ t ∷ []) bs ≡ bs ++ cond z (t ∷ []) []
+joined true t bs = refl
+joined false t bs = sym (append-nil bs)
+
+-- ---- the memo that is left
+
+module _ (c d i t e n : ℕ) (q : Memo) where
+  -- the memo once the step is committed, but for what binds no more: the count of block t is n then
+  abbrev lowers : Memo
+  lowers =
+      let m : Memo = cut c (Body d i) (reparted c (record q { op = StepDown Committed (Body d i) t e; made = without_made q t }) (Body d i) 0) in
+      record m { dying = dying_after n t m.dying; known = known_lowered n t m.known }
+
+  -- the memo once the word is stored
+  abbrev clears : Memo
+  clears = let m : Memo = sifted c lowers in record (written m) { known = learnt (Body d i) 0 m.known }
+
+  -- the memo once the own era is stored, but for what binds no more
+  abbrev closes : Memo
+  closes = record (with_own clears (Era c c) (e + 1)) { op = Nothing; looks = [] }
+
+  -- what is known of another zero-count block stays known
+  closes_known : (b : ℕ) (p : Spot) (x : ℕ) → Contains q.dying b → b ≢ t → is_of b p ≡ true → p ≢ Body d i → Knows q p x → Knows (sifted c closes) p x
+  closes_known b p x has other e away k =
+      let more : Contains (dying_after n t q.dying) b = dying_more n t q.dying b has in
+      sifted_known c closes b p x more e
+      (learnt_known (Body d i) p 0 x (sifted c lowers).known away
+      (sifted_known c lowers b p x more e (lowered_known n t b p x q.known other e k)))
+
+  -- and the word is known to be 0
+  closes_cleared : Contains q.dying d → Knows (sifted c closes) (Body d i) 0
+  closes_cleared has = sifted_known c closes d (Body d i) 0 (dying_more n t q.dying d has) (eq-eqb d d refl) (0, omega arith, refl)
+
+-- a step down at a word of a block leaves that memo, without what binds no more
+leaves_is : (me : Me) (d i t e w : ℕ) (q : Memo) → ◌≡◌ {A = Memo} (closed_memo me e (slot_memo me (Down t) (Body d i) e q w)) (sifted me.who (closes me.who d i t e (header_of (header_after me (Down t) e First w)).count q))
+leaves_is me d i t e w q =
+    let c = me.who in
+    let p : Spot = Body d i in
+    let n : ℕ = (header_of (header_after me (Down t) e First w)).count in
+    let m : Memo = cut c p (reparted c (record q { op = StepDown Committed p t e; made = without_made q t }) p 0) in
+    let s : Memo = sifted c (lowers c d i t e n q) in
+    let x : Memo = clears c d i t e n q in
+    ◌∙◌ (ap (λ (y : Memo). closed_memo me e (stored_on me.geometry c (sifted c y) p 0)) {y = lowers c d i t e n q} (lowered_is n t m))
+    (◌∙◌ (ap (closed_memo me e) {y = x} (body_word me.geometry c d i 0 s (refl, refl)))
+    (cond-true (eqb c c) (era_stored c x (Era c c) (e + 1)) (with_own x (Era c c) (e + 1)) (eq-eqb c c refl)))
+
+-- ---- the own words
+
+-- a word that lasts is none of the own row, and not the own redo record
+lasting_not : (c : ℕ) (p : Spot) → is_lasting c p ≡ true → (same_spot (Era c c) p ≡ false) × (is_row c p ≡ false) × (same_spot (Redo c) p ≡ false)
+lasting_not c (Redo j) e = (refl, refl, not-true (eqb c j) e)
+lasting_not c (Era j k) e =
+    let other : eqb c j ≡ false = not-true (eqb c j) e in
+    (ap (λ z. z && eqb c k) other, ap (λ z. z && not (eqb k c)) (ne_eqb j c (λ z. eqb-false c j other (sym z))), refl)
+lasting_not c _ e = (refl, refl, refl)
+
+module _ (me : Me) (slot d i t e w : ℕ) (m q : Memo) (first : AtFirst me slot (Down t) (Body d i) m q e) where
+  -- an own word that lasts is what it was
+  own_stays : (p : Spot) → is_lasting me.who p ≡ true → own_word (with_own q (Era me.who me.who) (e + 1)).own p ≡ own_word m.own p
+  own_stays p l =
+      let not_it = lasting_not me.who p l in
+      let began : own_word (begun me slot (Down t) (Body d i) e m).own p ≡ own_word m.own p = ap (λ z. cond z (redo_word (redo_at (Down t) slot e)) (own_word m.own p)) not_it.2 in
+      ap (λ z. cond z (e + 1) (own_word q.own p)) not_it.0 ∙ (first.1.own p not_it.1 ∙ began)
+
+  -- the words of the own row grow
+  rows_grow : (j : ℕ) → own_word m.own (Era me.who j) ≤ own_word (with_own q (Era me.who me.who) (e + 1)).own (Era me.who j)
+  rows_grow j =
+      let c = me.who in
+      choice (λ y. own_word m.own (Era c j) ≤ y) (same_spot (Era c c) (Era c j)) (e + 1) (own_word q.own (Era c j))
+      (λ z. let own : e ≡ own_word m.own (Era c j) = first.0 ∙ ap (own_word m.own) (same_spot_is (Era c c) (Era c j) z) in omega arith)
+      (λ z. first.1.more j)
+
+  -- the partition stays where none is read from the word
+  part_stays : m.op ≡ Nothing → part_set m.known me.who (shown m (Home me.who)) (Body d i) 0 m.part ≡ m.part → part_set q.known me.who (own_word q.own (Home me.who)) (Body d i) 0 q.part ≡ m.part
+  part_stays idle same =
+      let c = me.who in
+      let p : Spot = Body d i in
+      let home : own_word q.own (Home c) ≡ shown m (Home c) = first.1.own (Home c) refl ∙ ap (λ (o : Op). cover (cover_of o) (Home c) (own_word m.own (Home c))) (sym idle) in
+      ap (λ (y : Memo). part_set y.known c (own_word q.own (Home c)) p 0 y.part) first.1.rest
+      ∙ (ap (λ y. part_set m.known c y p 0 m.part) home ∙ same)
+
+-- ---- all
+
+-- what a step down that is done leaves, where its slot is a word of a zero-count block that names t: t lowered, and the word cleared
+pub down_leaves : (me : Me) (slot d i t : ℕ) (m r : Memo) (z : Bool) → me.who < 64 → own_word m.own (Era me.who me.who) < 2 ^ 47 → m.op ≡ Nothing → Contains m.dying d → IsFound me m d i t → Done me slot (Down t) (Body d i) m r z → Lowered me.who d i t z m r
+down_leaves me slot d i t m r z who era idle has found (e, q, w, first, some, same, spent) =
+    let c = me.who in
+    let n : ℕ = (header_of (header_after me (Down t) e First w)).count in
+    let less : n ≡ (header_of w).count - 1 = count_less me t e w who (subst (λ y. y < 2 ^ 47) (sym first.0) era) some in
+    let f : Memo = sifted c (closes c d i t e n q) in
+    let left : core r ≡ core f = same ∙ ap core {y = f} (leaves_is me d i t e w q) in
+    let b : core q ≡ core (record (begun me slot (Down t) (Body d i) e m) { own = q.own }) = first.1.rest in
+    let dying : q.dying ≡ m.dying = ap (λ (y : Memo). y.dying) b in
+    let known : q.known ≡ m.known = ap (λ (y : Memo). y.known) b in
+    let own : r.own ≡ f.own = ap (λ (y : Memo). y.own) left in
+    record {
+      stays = record {
+        status = ap (λ (y : Memo). y.status) left ∙ ap (λ (y : Memo). y.status) b;
+        op = ap (λ (y : Memo). y.op) left ∙ sym idle;
+        latch = ap (λ (y : Memo). y.latch) left ∙ ap (λ (y : Memo). y.latch) b;
+        making = ap (λ (y : Memo). y.making) left ∙ ap (λ (y : Memo). y.making) b;
+        owned = ap (λ (y : Memo). y.owned) left ∙ ap (λ (y : Memo). y.owned) b;
+        sent = ap (λ (y : Memo). y.sent) left ∙ ap (λ (y : Memo). y.sent) b;
+        unsent = ap (λ (y : Memo). y.unsent) left ∙ ap (λ (y : Memo). y.unsent) b;
+        received = ap (λ (y : Memo). y.received) left ∙ ap (λ (y : Memo). y.received) b;
+        untaken = ap (λ (y : Memo). y.untaken) left ∙ ap (λ (y : Memo). y.untaken) b;
+        part = ap (λ (y : Memo). y.part) left ∙ part_stays me slot d i t e w m q first idle found.part;
+        own = λ p l. ap (λ (s : List Stored). own_word s p) own ∙ own_stays me slot d i t e w m q first p l;
+        rows = λ j. subst (λ (s : List Stored). own_word m.own (Era c j) ≤ own_word s (Era c j)) (sym own) (rows_grow me slot d i t e w m q first j);
+      };
+      dying =
+          ap (λ (y : Memo). y.dying) left
+          ∙ (ap (dying_after n t) dying
+          ∙ (ap (λ y. cond y (m.dying ++ t ∷ []) m.dying) (ap (λ k. eqb k 0) less ∙ (one_less (header_of w).count some ∙ sym spent))
+          ∙ joined z t m.dying));
+      known = λ k in_it other p x of away knows. subst (λ (s : List Stored). Contains s (record { spot = p; value = x })) (sym (ap (λ (y : Memo). y.known) left))
+          (closes_known c d i t e n q k p x (subst (λ s. Contains s k) (sym dying) in_it) other of away (subst (λ (s : List Stored). Contains s (record { spot = p; value = x })) (sym known) knows));
+      cleared = subst (λ (s : List Stored). Contains s (record { spot = Body d i; value = 0 })) (sym (ap (λ (y : Memo). y.known) left))
+          (closes_cleared c d i t e n q (subst (λ s. Contains s d) (sym dying) has));
+    }

@@ -1,0 +1,117 @@
+//! The tear-down of a block whose count came to 0, as a machine.
+
+ghost use Rattle.std.specs.Prelude.{◌≡◌, ◌<◌, ◌^◌};
+ghost use Rattle.shm_words.specs.Layout.{GeometryFits};
+ghost use Rattle.shm_count.specs.declared.tear_point.TearPoint.TheVariants.{Begin};
+ghost use Rattle.shm_count.specs.TearControl.{TearKnows, tear_next, answer_of, tear_control, is_over};
+ghost use Rattle.shm_count.specs.TearFits.{TearFits, TearGives};
+ghost use Rattle.shm_count.specs.TearKeeps.{tear_laws};
+
+use crate::answer::EraSpent;
+use crate::tear_point::{TearNext, TearPoint, TearState};
+use shm_graph::{Ask, Machine, Me, Turn};
+use std::marker::Model;
+
+impl TearState {
+    /// A tear-down of a block for the identity `me`, before its first word step.
+    fn begins(me: Me, block: u32) -> TearState
+        ensures { result ≡ record { me = me; first = block; block = block; point = Begin } }
+    {
+        TearState {
+            me,
+            first: block,
+            block,
+            point: TearPoint::Begin,
+        }
+    }
+
+    /// Whether it has answered.
+    fn is_over(&self) -> bool
+        ensures { result ≡ is_over self.now.point }
+    {
+        matches!(self.point, TearPoint::Over)
+    }
+
+    /// Takes the word that was found; its answer, once it is done.
+    fn take(&mut self, seen: u64) -> Option<Result<(), EraSpent>>
+        requires { TearKnows self.old }
+        ensures state { self.new ≡ tear_control.after self.old seen }
+        ensures answer { result ≡ answer_of (tear_next self.old seen) }
+        ensures knows { TearKnows self.new }
+    {
+        match self.next(seen) {
+            TearNext::Go { block, point } => {
+                self.block = block;
+                self.point = point;
+                None
+            }
+            TearNext::Answer(answer) => {
+                self.point = TearPoint::Over;
+                Some(answer)
+            }
+        }
+    }
+}
+
+/// A block whose count came to 0 is freed, and so is each block whose count comes to 0 by that.
+#[derive(Drop)]
+pub struct TearDown {
+    state: TearState,
+}
+
+impl Model for TearDown {
+    ghost use Rattle.shm_count.specs.declared.tear_point.TearState.{TearState as AState};
+
+    ghost Value = { AState };
+
+    ghost view = { λ a. a.state };
+
+    ghost use Rattle.shm_count.specs.TearControl.{TearKnows};
+
+    ghost invariant = { λ a. TearKnows a.state };
+}
+
+impl TearDown {
+    /// The tear-down of `block` for the identity `me`.
+    pub fn new(me: Me, block: u32) -> TearDown
+        requires geometry { GeometryFits me.geometry }
+        requires who { me.who < me.geometry.clients }
+        requires block { block < 2 ^ 20 }
+        ensures { result ≡ record { me = me; first = block; block = block; point = Begin } }
+    {
+        TearDown {
+            state: TearState::begins(me, block),
+        }
+    }
+}
+
+impl Machine for TearDown {
+    type Answer = Result<(), EraSpent>;
+
+    ghost control = { tear_control };
+
+    ghost fits = { TearFits };
+
+    ghost gives = { TearGives };
+
+    fn me(&self) -> Me {
+        self.state.me
+    }
+
+    fn finished(&self) -> bool {
+        self.state.is_over()
+    }
+
+    fn ask(&self) -> Ask {
+        self.state.ask()
+    }
+
+    fn take(&mut self, seen: u64) -> Turn<Result<(), EraSpent>> {
+        match self.state.take(seen) {
+            None => Turn::More,
+            Some(answer) => Turn::Done(answer),
+        }
+    }
+
+    ghost laws = { tear_laws };
+}
