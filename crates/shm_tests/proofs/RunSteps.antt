@@ -14,13 +14,14 @@ use Rattle.shm_graph.specs.declared.memo.Step.{Step}
 use Rattle.shm_graph.specs.declared.run.Account.{Account}
 use Rattle.shm_graph.specs.declared.spot.Spot.{Spot}
 use Rattle.shm_graph.specs.Asks.{Trail, call_before}
-use Rattle.shm_graph.specs.Agents.{acts, entered, is_gone, last_agent, with_last, ended, stepped}
+use Rattle.shm_graph.specs.Agents.{acts, recovers, entered, is_gone, last_agent, with_last, ended, stepped}
 use Rattle.shm_graph.specs.Changes.{memo_on, asked_spot}
 use Rattle.shm_graph.specs.Laws.{Control, Steady, Back, Outcome, is_died, is_some, turn_of}
 use Rattle.shm_graph.specs.Runs.{MayBegin, account_at, account_after, account_entered, changed, fell_by, memos_of}
 use Rattle.shm_graph.specs.Whole.{fits_now, gives_now}
 use Rattle.shm_graph.proofs.Going.{account_acts-on, account_acts-here, whole_back}
 use Rattle.shm_graph.proofs.MemoSteps.{acts_after, acts-entered, agents_after, ends_agent, last-with_last, memo_agents, with_some}
+use Rattle.shm_count.specs.StepMemos.{recovers_after}
 use Rattle.shm_plain.specs.Pools.{Pool, IsOf, IsRun, MayStep, memo_of, readied, turn_on, turned}
 use Rattle.shm_plain.specs.Tracks.{kind_next}
 use Rattle.shm_plain.proofs.Turning.{ready_memo}
@@ -128,6 +129,7 @@ module _ {M A : Type 0} (k : Control M A) (fits : M → Memo → Memo → Trail 
     pub back : (r0 r : Memo) (a : A) → gives_now gives n r0 r a → gives_now gives m r0 r a
     pub start : q.start ≡ p.start
     pub others : (d : ℕ) → d ≢ c → memo_of q d ≡ memo_of p d
+    pub kind : recovers (memo_of (readied q c) c) ≡ recovers (memo_of (readied p c) c)
     pub spent : y + asked q n ≡ x + asked p m
 
   -- a machine that has made no step fits where it fits the memo of an identity of which an agent acts
@@ -137,7 +139,7 @@ module _ {M A : Type 0} (k : Control M A) (fits : M → Memo → Memo → Trail 
       (subst (λ (b : Bool). fits m (memo_of p c) (memo_of p c) (call_before b (memo_of p c).call)) (sym fresh) fit)
 
   pub went_first : (p : Pool) (m : M) (x : ℕ) → IsOf p c k m → MayStep p c → Went p m x p m x
-  went_first p m x of may = record { of = of; may = may; forth = λ r0 f. f; back = λ r0 r a g. g; start = refl; others = λ d n. refl; spent = refl }
+  went_first p m x of may = record { of = of; may = may; forth = λ r0 f. f; back = λ r0 r a g. g; start = refl; others = λ d n. refl; kind = refl; spent = refl }
 
   -- one more step, which led to q' and n'
   module _ (p : Pool) (m : M) (x : ℕ) (q : Pool) (n : M) (y : ℕ) (went : Went p m x q n y) (q' : Pool) (to : q' ≡ turned (readied q c) (turn_on (readied q c) k n)) (run : IsRun q') where
@@ -176,6 +178,10 @@ module _ {M A : Type 0} (k : Control M A) (fits : M → Memo → Memo → Trail 
     pub went_may : MayStep q' c
     went_may = subst (λ (x : Memo). acts x ≡ false → MayBegin (kind_next x) x) (sym (ap (λ (x : Account). x.memo) here)) (may_after (memo_of r c) t (asked_spot (memo_of r c) t) acting)
 
+    -- its agent is of the kind that it was of
+    pub went_kind : recovers (memo_of q' c) ≡ recovers (memo_of (readied p c) c)
+    went_kind = ap (λ (x : Account). recovers x.memo) here ∙ (recovers_after (memo_of r c) t (asked_spot (memo_of r c) t) ∙ went.kind)
+
     called : length (memo_of q' c).call ≡ asked q n + 1
     called = ap (λ (z : Account). length z.memo.call) here ∙ length-append (call_before (k.fresh n) (memo_of r c).call) _
 
@@ -208,6 +214,7 @@ module _ {M A : Type 0} (k : Control M A) (fits : M → Memo → Memo → Trail 
             back = λ r0 s a g. went.back r0 s a (whole_back k gives goes n t.seen went.of.2 e r0 s a (subst (λ (z : M). gives_now gives z r0 s a) after g));
             start = went_start;
             others = went_others;
+            kind = ap recovers (ready_still q' c acts') ∙ went_kind;
             spent =
                 let begun : k.fresh n' ≡ false = ap (λ (z : M). k.fresh z) after ∙ stays.started in
                 ap (λ (b : Bool). y' + length (call_before b (memo_of (readied q' c) c).call)) begun

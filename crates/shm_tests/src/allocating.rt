@@ -4,13 +4,16 @@ ghost use Rattle.std.specs.Prelude.{◌≡◌, ◌≢◌, ℕ, ◌+◌, ◌<◌,
 ghost use Rattle.shm_words.specs.Layout.{GeometryFits};
 ghost use Rattle.shm_graph.specs.declared.memo.Memo.{Memo};
 ghost use Rattle.shm_graph.specs.declared.memo.Status.TheVariants as status;
-ghost use Rattle.shm_graph.specs.Agents.{acts};
+ghost use Rattle.shm_graph.specs.Agents.{acts, recovers};
+ghost use Rattle.shm_graph.specs.Held.{is_loose};
 ghost use Rattle.shm_graph.specs.Idle.{IsIdle};
 ghost use Rattle.shm_plain.specs.Pools.{IsRun, MayStep, memo_of, readied};
 ghost use Rattle.shm_recover.specs.Joining.{JoinGives, join_fresh};
 ghost use Rattle.shm_alloc.specs.declared.point.AllocState.{AllocState as AState};
 ghost use Rattle.shm_alloc.specs.AllocFits.{AllocGives};
+ghost use Rattle.shm_count.specs.StepControl.{IsInside};
 ghost use Rattle.shm_tests.specs.Allocating.{IsAsked};
+ghost use Rattle.shm_tests.specs.Counting.{AreRootsReached, member, root_word};
 
 use crate::driving::run;
 use shm_alloc::{Alloc, AllocFault, TooLarge};
@@ -60,6 +63,14 @@ pub fn allocate(
     ensures gives { IfOk result (λ o. IfSome o (λ a. (m : AState) × IsAsked pool.old.start.geometry who refs plain.now m × AllocGives m (memo_of pool.old who) (memo_of pool.new who) (memo_of pool.new who).call a)) }
     ensures idle { IfOk result (λ o. IfSome o (λ a. IsIdle who (memo_of pool.new who))) }
     ensures acts { IfOk result (λ o. IfSome o (λ a. acts (memo_of pool.new who) ≡ true)) }
+    ensures number { IfOk result (λ o. IfSome o (λ a. IfOk a (λ made. made.root < 16))) }
+    ensures root { IfOk result (λ o. IfSome o (λ a. IfOk a (λ made. root_word who (memo_of pool.new who) made.root ≡ made.block))) }
+    ensures roots { IfOk result (λ o. IfSome o (λ a. IfOk a (λ made. (k : ℕ) → k ≢ made.root → root_word who (memo_of pool.new who) k ≡ root_word who (memo_of pool.old who) k))) }
+    ensures inside { IfOk result (λ o. IfSome o (λ a. IfOk a (λ made. IsInside (member pool.old.start.geometry who) made.block))) }
+    ensures none_made { IfOk result (λ o. IfSome o (λ a. IfErr a (λ e. (k : ℕ) → root_word who (memo_of pool.new who) k ≡ root_word who (memo_of pool.old who) k))) }
+    ensures client { IfOk result (λ o. IfSome o (λ a. recovers (memo_of pool.new who) ≡ recovers (memo_of pool.old who))) }
+    ensures loose { IfOk result (λ o. IfSome o (λ a. is_loose (memo_of pool.new who).part ≡ is_loose (memo_of pool.old who).part)) }
+    ensures reached { IfOk result (λ o. IfSome o (λ a. AreRootsReached who (memo_of pool.new who))) }
     ensures agent { MayStep pool.new who }
     ensures start { pool.new.start ≡ pool.old.start }
     ensures others { (d : ℕ) → d ≢ who → memo_of pool.new d ≡ memo_of pool.old d }

@@ -2,14 +2,20 @@
 #![tactic(auto)]
 
 pub mod allocating;
+pub mod counting;
 pub mod driving;
 pub mod joining;
+pub mod tearing;
 
 pub use allocating::{allocate, join};
+pub use counting::{change, lower, raise};
 pub use driving::{joined, run};
 pub use joining::{Stepped, step_join};
+pub use tearing::tear_down;
 
 #[cfg(test)]
 mod allocating_tests;
+#[cfg(test)]
+mod counting_tests;
 #[cfg(test)]
 mod tests;

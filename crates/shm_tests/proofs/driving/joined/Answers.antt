@@ -4,10 +4,12 @@ use Rattle.shm_graph.specs.declared.memo.Memo.{Memo}
 use Rattle.shm_graph.specs.declared.memo.Status.TheVariants.{Live, Gone}
 use Rattle.shm_graph.specs.declared.run.Start.{Start}
 use Rattle.shm_graph.specs.declared.spot.Spot.TheVariants.{Era, Root}
-use Rattle.shm_graph.specs.Agents.{entered}
+use Rattle.shm_graph.specs.Agents.{entered, recovers}
 use Rattle.shm_graph.specs.Asks.{Trail, call_before}
-use Rattle.shm_graph.specs.Runs.{first_memo}
+use Rattle.shm_graph.specs.Held.{is_loose}
+use Rattle.shm_graph.specs.Runs.{first_memo, first_part}
 use Rattle.shm_graph.specs.Views.{own_word}
+use Rattle.shm_graph.proofs.MemoSteps.{recovers-entered}
 use Rattle.shm_recover.specs.declared.join.JoinState.{JoinState}
 use Rattle.shm_recover.specs.Joining.{JoinFits, JoinGives, is_start, join_fresh}
 use Rattle.shm_plain.specs.Pools.{Pool, memo_of, readied, MayStep}
@@ -68,6 +70,19 @@ returns-in-Some-clause-era c =
 
 pub returns-in-Some-clause-roots : goal.returns-in-Some-clause-roots
 returns-in-Some-clause-roots c k = ap (λ xs. own_word xs (Root c.args.who k)) (returns-in-Some-clause-gives c).own
+
+pub returns-in-Some-clause-client : goal.returns-in-Some-clause-client
+returns-in-Some-clause-client c =
+    let s : Start = record { geometry = c.args.geometry; first_era = c.args.first_era; tables = c.args.tables } in
+    c.in-Some.ensures.kind
+    ∙ (ap (λ (p : Pool). recovers (memo_of (readied p c.args.who) c.args.who)) c.in_ok-pool.ensures.first
+    ∙ (ap recovers (ready_first s c.args.who c.requires.who) ∙ recovers-entered Client (first_memo s c.args.who)))
+
+pub returns-in-Some-clause-loose : goal.returns-in-Some-clause-loose
+returns-in-Some-clause-loose c single =
+    let s : Start = record { geometry = c.args.geometry; first_era = c.args.first_era; tables = c.args.tables } in
+    let start : c.run.new.pool.start ≡ s = c.in-Some.ensures.start ∙ ap (λ (p : Pool). p.start) c.in_ok-pool.ensures.first in
+    ap is_loose (returns-in-Some-clause-gives c).part ∙ (ap (λ (z : Start). is_loose (first_part z.tables)) start ∙ ap (λ b. is_loose (first_part b)) single)
 
 pub returns-in-Some-clause-spent : goal.returns-in-Some-clause-spent
 returns-in-Some-clause-spent c =
