@@ -10,6 +10,7 @@ use Rattle.shm_graph.specs.declared.ask.Ask.{Ask}
 use Rattle.shm_graph.specs.declared.ask.Ask.TheVariants.{Load, Store, Exchange}
 use Rattle.shm_graph.specs.declared.ask.Me.{Me}
 use Rattle.shm_graph.specs.Laws.{Control}
+use Rattle.shm_count.specs.declared.answer.EraSpent.{EraSpent as AEraSpent}
 use Rattle.shm_count.specs.declared.answer.UpFault.{UpFault}
 use Rattle.shm_count.specs.declared.answer.UpFault.TheVariants.{EraSpent, CountFull}
 use Rattle.shm_count.specs.declared.point.Aim.{Aim}
@@ -134,6 +135,11 @@ step_next m n = step_next_at m.me m.aim m.point n
 abbrev pub point_of : Next → StepPoint
 point_of (Point p) = p
 point_of (Answer a) = point.Over
+
+-- the refusal of a step that takes a reference away: no count that goes down is full
+abbrev pub spent : UpFault → AEraSpent
+spent (EraSpent e) = record { era = e }
+spent (CountFull b n) = record { era = 0 }
 
 abbrev pub answer_of : Next → Option (Result Bool UpFault)
 answer_of (Point p) = None

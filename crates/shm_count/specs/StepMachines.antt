@@ -14,7 +14,7 @@ use Rattle.shm_count.specs.declared.answer.UpFault.TheVariants as fault
 use Rattle.shm_count.specs.declared.point.Aim.{Aim}
 use Rattle.shm_count.specs.declared.point.Aim.TheVariants.{Up, Down, Change}
 use Rattle.shm_count.specs.declared.point.StepState.{StepState}
-use Rattle.shm_count.specs.StepControl.{step_control}
+use Rattle.shm_count.specs.StepControl.{step_control, spent}
 use Rattle.shm_count.specs.StepFits.{StepFits, StepGives, Done, Refused}
 use Rattle.shm_count.specs.StepLaws.{step_steady, step_inside, step_back}
 
@@ -53,8 +53,7 @@ up_answer (Err f) = Err f
 -- of a step down no count is full
 abbrev pub down_answer : Result Bool UpFault → Result Bool EraSpent
 down_answer (Ok z) = Ok z
-down_answer (Err (fault.EraSpent e)) = Err (record { era = e })
-down_answer (Err (fault.CountFull b n)) = Err (record { era = 0 })
+down_answer (Err f) = Err (spent f)
 
 -- the controls of steps up and down
 abbrev pub up_control : Control StepState (Result (Unit {0}) UpFault)

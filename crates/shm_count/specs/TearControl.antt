@@ -9,7 +9,6 @@ use Rattle.shm_graph.specs.declared.ask.Me.{Me}
 use Rattle.shm_graph.specs.Laws.{Control}
 use Rattle.shm_count.specs.declared.answer.EraSpent.{EraSpent}
 use Rattle.shm_count.specs.declared.answer.UpFault.{UpFault}
-use Rattle.shm_count.specs.declared.answer.UpFault.TheVariants as fault
 use Rattle.shm_count.specs.declared.point.Aim.TheVariants as aims
 use Rattle.shm_count.specs.declared.point.StepPoint.{StepPoint}
 use Rattle.shm_count.specs.declared.point.StepPoint.TheVariants as step
@@ -21,7 +20,7 @@ use Rattle.shm_count.specs.declared.tear_point.TearPoint.TheVariants as point
 use Rattle.shm_count.specs.declared.tear_point.TearState.{TearState}
 use Rattle.shm_count.specs.declared.tear_point.TearNext.{TearNext}
 use Rattle.shm_count.specs.declared.tear_point.TearNext.TheVariants.{Go, Answer}
-use Rattle.shm_count.specs.StepControl.{PointFits, step_ask, step_next}
+use Rattle.shm_count.specs.StepControl.{PointFits, step_ask, step_next, spent}
 
 -- ---- words
 
@@ -73,11 +72,6 @@ entered_next b l n = Go b (if (tag_read n).link == l then word_or_free (tag_read
 -- by a reference word
 abbrev pub word_next : ℕ → ATag → ℕ → ℕ → TearNext
 word_next b g i n = Go b (if n % 2 ^ 20 == 0 then word_or_free g (i + 1) else point.Down g i (n % 2 ^ 20) step.Era)
-
--- the refusal of a step down; no count that goes down is full
-abbrev pub spent : UpFault → EraSpent
-spent (fault.EraSpent e) = record { era = e }
-spent (fault.CountFull b n) = record { era = 0 }
 
 -- by what a step down answered
 abbrev pub lowered_next : ℕ → ATag → ℕ → ℕ → Result Bool UpFault → TearNext

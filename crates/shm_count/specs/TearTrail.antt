@@ -13,7 +13,8 @@ use Rattle.shm_count.specs.declared.tear_point.TearPoint.{TearPoint}
 use Rattle.shm_count.specs.declared.tear_point.TearPoint.TheVariants as point
 use Rattle.shm_count.specs.StepTrail.{StepTrails, step_trail}
 use Rattle.shm_count.specs.StepTrail as steps
-use Rattle.shm_count.specs.TearControl.{tag_read, word_address, spent}
+use Rattle.shm_count.specs.StepControl.{spent}
+use Rattle.shm_count.specs.TearControl.{tag_read, word_address}
 
 -- the trails of a tear-down, each with its answer
 abbrev pub TearTrails : Type 1

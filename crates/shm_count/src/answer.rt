@@ -1,4 +1,7 @@
-//! What count steps answer.
+//! What count steps and tear-downs answer.
+
+ghost use Rattle.std.specs.Prelude.{◌≡◌};
+ghost use Rattle.shm_count.specs.StepControl as control;
 
 /// The own era leaves no room for another count step; `era` is the own era that was read.
 #[derive(Clone, Copy, Debug, PartialEq, Eq, Drop)]
@@ -22,4 +25,16 @@ pub enum UpFault {
     EraSpent { era: u64 },
     /// The header that was read shows the greatest count, 1,023.
     CountFull { block: u32, count: u16 },
+}
+
+impl UpFault {
+    /// The refusal of a step that takes a reference away: no count that goes down is full.
+    pub fn spent(self) -> EraSpent
+        ensures { result ≡ control.spent self }
+    {
+        match self {
+            UpFault::EraSpent { era } => EraSpent { era },
+            UpFault::CountFull { .. } => EraSpent { era: 0 },
+        }
+    }
 }

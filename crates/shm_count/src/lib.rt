@@ -1,4 +1,4 @@
-//! Count steps: a block gets a reference or loses one.
+//! Count steps, by which a block gets a reference or loses one, and the tear-down of a block that no reference names any more.
 //!
 //! A header of last client, era and count that one exchange changes, a matrix of eras and a redo record are those of CXL-SHM (SOSP 2023).
 #![tactic(auto)]

@@ -55,6 +55,8 @@ impl StepState {
 }
 
 /// An empty reference word comes to name a block, whose count goes up.
+///
+/// It answers `UpFault` where the own era is above 2^47 - 3 or the block has the greatest count, and then no reference has changed.
 #[derive(Drop)]
 pub struct StepUp {
     state: StepState,
@@ -119,6 +121,8 @@ impl Machine for StepUp {
 }
 
 /// A reference word that names a block comes to be empty, and the block's count goes down.
+///
+/// It answers whether the count came to 0, or `EraSpent` where the own era is above 2^47 - 3, and then nothing has changed.
 #[derive(Drop)]
 pub struct StepDown {
     state: StepState,
@@ -183,6 +187,9 @@ impl Machine for StepDown {
 }
 
 /// A reference word that names a block comes to name another one: its count goes up, and that of the block before goes down.
+///
+/// It answers whether the count of the block before came to 0, or `UpFault` where the own era is above 2^47 - 4 or the block after has
+/// the greatest count, and then no reference has changed.
 #[derive(Drop)]
 pub struct StepChange {
     state: StepState,
@@ -263,7 +270,6 @@ fn down_answer(answer: Result<bool, UpFault>) -> Result<bool, EraSpent>
 {
     match answer {
         Ok(zero) => Ok(zero),
-        Err(UpFault::EraSpent { era }) => Err(EraSpent { era }),
-        Err(UpFault::CountFull { .. }) => Err(EraSpent { era: 0 }),
+        Err(fault) => Err(fault.spent()),
     }
 }

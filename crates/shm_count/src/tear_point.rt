@@ -190,7 +190,7 @@ impl TearState {
                 point: TearPoint::Enter { link: self.block },
             },
             Ok(false) => self.go(word_or_free(tag, index + 1)),
-            Err(fault) => TearNext::Answer(Err(spent(fault))),
+            Err(fault) => TearNext::Answer(Err(fault.spent())),
         }
     }
 }
@@ -240,15 +240,5 @@ fn freed(tag: Tag) -> TearNext
             block: tag.link,
             point: TearPoint::Return,
         }
-    }
-}
-
-/// The refusal of a step down; no count that goes down is full.
-fn spent(fault: UpFault) -> EraSpent
-    ensures { result ≡ control.spent fault }
-{
-    match fault {
-        UpFault::EraSpent { era } => EraSpent { era },
-        UpFault::CountFull { .. } => EraSpent { era: 0 },
     }
 }
