@@ -1,5 +1,5 @@
 -- an allocation goes along its trails: each step is the next pair of a trail from its point
-use Rattle.std.proofs.Common.{◌≡◌, ◌≢◌, ℕ, suc, ◌+◌, ◌-◌, ◌/◌, ◌^◌, ◌<◌, ◌≤◌, refl, sym, ap, ◌∙◌, subst, arith, Bool, true, false, cond, List, [], ◌∷◌, ◌++◌, append_assoc}
+use Rattle.std.proofs.Common.{◌≡◌, ℕ, suc, ◌+◌, ◌-◌, ◌/◌, ◌^◌, ◌<◌, ◌≤◌, refl, sym, ap, ◌∙◌, subst, arith, Bool, true, false, cond, List, [], ◌∷◌, ◌++◌, append_assoc}
 use Rattle.std.specs.List.{filter}
 use Rattle.std.specs.Prelude.{◌==◌, nat_lt, if◌then◌else◌, Result, Err}
 use Rattle.std.proofs.lemmas.Bool.{ltb-false}
@@ -7,7 +7,6 @@ use Rattle.shm_words.specs.declared.place.Place.TheVariants as place
 use Rattle.shm_words.specs.Layout.{address}
 use Rattle.shm_graph.specs.declared.ask.Me.{Me}
 use Rattle.shm_graph.specs.declared.memo.Memo.{Memo}
-use Rattle.shm_graph.specs.declared.memo.Seen.{Seen}
 use Rattle.shm_graph.specs.Asks.{Trail, pair}
 use Rattle.shm_graph.specs.Trails.{Answers, Chosen}
 use Rattle.shm_graph.specs.Events.{Event}
@@ -15,6 +14,7 @@ use Rattle.shm_graph.specs.Tells.{is_event, after_all, happens_along}
 use Rattle.shm_graph.proofs.TellsAlong.{after_all-append, happens_along-append}
 use Rattle.shm_graph.proofs.Loads.{choice}
 use Rattle.shm_count.specs.declared.answer.Made.{Made}
+use Rattle.shm_count.specs.StepGoing.{ends_in}
 use Rattle.shm_alloc.specs.declared.alloc.AllocFault.{AllocFault}
 use Rattle.shm_alloc.specs.declared.alloc.AllocFault.TheVariants.{EraSpent, RootsFull, Full}
 use Rattle.shm_alloc.specs.declared.request.Request.{Request}
@@ -258,11 +258,6 @@ trail_goes me q p p2 n l e rest a t = step_goes me q p n l rest a (subst (λ (x 
 -- a step that leads to an answer is the last one
 pub trail_ends : (me : Me) (q : Request) (p : AllocPoint) (n : ℕ) (a : Result Made AllocFault) → PointFits me q p → alloc_next_at me q p n ≡ Answer a → point_trail me q p (pair (alloc_ask_at me q p) n ∷ []) a
 trail_ends me q p n a l e = step_goes me q p n l [] a (subst (λ (x : Next). next_trail me q x [] a) (sym e) (refl, refl))
-
--- a list that ends in an item isn't empty
-ends_in : (tr : Trail) (s : Seen) → (tr ++ s ∷ []) ≢ []
-ends_in [] s e = absurd (cc)
-ends_in (x ∷ tr) s e = absurd (cc)
 
 -- ---- events
 

@@ -48,13 +48,14 @@ use Rattle.shm_steps.proofs.OwnStoresEra.{era_closed}
 use Rattle.shm_steps.proofs.OwnStoresRedo.{redo_stored as begin_stored, root_begins_up, root_at, address_fits, block_fits, up_begun}
 use Rattle.shm_steps.proofs.Prepared.{MakingHolds, making_holds}
 use Rattle.shm_steps.proofs.SlotStores.{root_stored}
+use Rattle.shm_steps.proofs.KeptAfter.{kept_going}
 use Rattle.shm_alloc.specs.declared.request.Request.{Request}
 use Rattle.shm_alloc.specs.declared.point.Goal.{Goal}
 use Rattle.shm_alloc.specs.declared.point.AllocPoint.TheVariants.{Redo, Commit, Slot, Close}
 use Rattle.shm_alloc.specs.AllocControl.{class_asked, tag_asked, header_made, alloc_next_at}
 use Rattle.shm_alloc.specs.AllocFits.{IsPrepared, PointHolds, NextHolds, redo_stored}
 use Rattle.shm_alloc.specs.AllocSteps.{PointKeeps, is_here, live_here, goal_on}
-use Rattle.shm_alloc.specs.AllocMaking.{at_step, after_step, kept_going, stays_after, asked_fits}
+use Rattle.shm_alloc.specs.AllocMaking.{at_step, after_step, stays_after, asked_fits}
 
 -- the spot of an own root
 root_spot : (me : Me) (w : Spot → ℕ) (k : ℕ) → me.who < me.geometry.clients → k < 16 → spot_at me.geometry (classes w) (address me.geometry (place.Root me.who k)) ≡ spot.Root me.who k

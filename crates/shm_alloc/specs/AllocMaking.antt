@@ -22,24 +22,24 @@ use Rattle.shm_graph.specs.Spots.{same_spot, spot_at, class_at, segment_of}
 use Rattle.shm_graph.specs.Blocks.{classes, IsBlock}
 use Rattle.shm_graph.specs.Views.{view}
 use Rattle.shm_graph.specs.Held.{HeldAt, ZeroAt}
-use Rattle.shm_graph.specs.Asks.{Trail, at_of, seen_of}
-use Rattle.shm_graph.specs.Changes.{called, with_call, with_end, memo_on}
+use Rattle.shm_graph.specs.Asks.{Trail}
+use Rattle.shm_graph.specs.Changes.{called, with_call, with_end}
 use Rattle.shm_graph.specs.Ops.{is_op, slot_of}
 use Rattle.shm_graph.specs.Reach.{is_dying, learnt, not_at}
 use Rattle.shm_graph.specs.Stores.{class_told, making_with}
 use Rattle.shm_graph.specs.Laws.{Frame, framed, Stands, KeptAt}
-use Rattle.shm_graph.proofs.KindKeeping.{in_frame}
 use Rattle.shm_graph.proofs.Loads.{choice}
 use Rattle.shm_graph.proofs.Spotting.{block_within, tag_spot, body_spot, same_spot_not}
 use Rattle.shm_laws.proofs.Keep.{Contains-filter}
 use Rattle.shm_steps.proofs.BlockTold.{dying_false}
 use Rattle.shm_steps.proofs.Prepared.{MakingHolds, making_holds, tag_prepares, body_prepares}
+use Rattle.shm_steps.proofs.KeptAfter.{kept_going}
 use Rattle.shm_alloc.specs.declared.request.Request.{Request}
 use Rattle.shm_alloc.specs.declared.point.Goal.{Goal}
 use Rattle.shm_alloc.specs.declared.point.AllocPoint.{AllocPoint}
 use Rattle.shm_alloc.specs.declared.point.AllocPoint.TheVariants.{Tag, Reference, Plain, Redo}
 use Rattle.shm_alloc.specs.AllocControl.{class_asked, tag_asked, alloc_next_at, plain_from, references_from, RequestFits}
-use Rattle.shm_alloc.specs.AllocSteps.{PointKeeps, kept_with, is_here, goal_on}
+use Rattle.shm_alloc.specs.AllocSteps.{PointKeeps, is_here, goal_on}
 use Rattle.shm_alloc.specs.AllocFits.{GoalHas, IsPrepared, Prepares, Stays, CanAlloc, PointHolds, NextHolds}
 
 -- ---- a step of the making
@@ -51,15 +51,6 @@ at_step me a f n m = called m (framed me a (record f { fresh = false }) n)
 -- and after that step
 abbrev pub after_step : Me → Ask → Frame → ℕ → Memo → Memo → Memo
 after_step me a f n m m' = with_end f.ends (with_call (at_step me a f n m) m')
-
--- the law that a kind has of a step that isn't a machine's first, with what holds of the memo after it
-pub kept_going : (me : Me) (w : Spot → ℕ) (r : ℕ → Memo) (a : Ask) (f : Frame) (after : ℕ → Memo → Type 0) (p : Spot) → f.fresh ≡ false → spot_at me.geometry (classes w) (at_of a) ≡ p
-    → KeptAt me w r a f (λ n m. Unit {0}) (spot_at me.geometry (classes w) (at_of a))
-    → after (seen_of a (w p)) (memo_on (r me.who) (framed me a (record f { fresh = false }) (seen_of a (w p))) p)
-    → KeptAt me w r a f after (spot_at me.geometry (classes w) (at_of a))
-kept_going me w r a f after p going e k x =
-    kept_with me w r a f after p (spot_at me.geometry (classes w) (at_of a)) e k
-    (in_frame (λ h. after (seen_of a (w p)) (memo_on (r me.who) (framed me a h (seen_of a (w p))) p)) f going x)
 
 -- what stays does so at a step that changes no more than own words, the step in progress, the block that is prepared, and what is known
 pub stays_after : (me : Me) (a : Ask) (f : Frame) (n : ℕ) (r0 m : Memo) (own : List Stored) (o : Op) (making : Option Making) (known : List Stored) (values : List ℕ) (zeros : List Spot) (made : List ℕ) → Stays r0 m

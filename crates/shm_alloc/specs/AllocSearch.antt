@@ -3,7 +3,6 @@ use Rattle.std.proofs.Common.{arith, ◌≤◌, ◌<◌, ◌-◌, ◌^◌, ◌�
 use Rattle.std.specs.Prelude.{None, Err}
 use Rattle.std.specs.List.{Contains}
 use Rattle.std.proofs.lemmas.List.Elements.{Contains-append_right}
-use Rattle.shm_graph.specs.declared.ask.Ask.{Ask}
 use Rattle.shm_graph.specs.declared.ask.Me.{Me}
 use Rattle.shm_graph.specs.declared.spot.Spot.TheVariants as spot
 use Rattle.shm_graph.specs.declared.memo.Stored.{Stored}
@@ -13,9 +12,7 @@ use Rattle.shm_graph.specs.declared.memo.Step.{Step}
 use Rattle.shm_graph.specs.Idle.{hold_word}
 use Rattle.shm_graph.specs.Views.{own_word}
 use Rattle.shm_graph.specs.Changes.{called}
-use Rattle.shm_graph.specs.Laws.{Frame, framed}
 use Rattle.shm_graph.proofs.Calling.{called_part}
-use Rattle.shm_graph.proofs.KindKeeping.{in_frame}
 use Rattle.shm_graph.proofs.Loads.{choice}
 use Rattle.shm_alloc.specs.declared.alloc.AllocFault.{AllocFault}
 use Rattle.shm_alloc.specs.declared.alloc.AllocFault.TheVariants.{Full}
@@ -45,10 +42,6 @@ called_searched m t = called_part searched m t refl refl
 -- the own segments at a step are those that the memo had
 pub called_owned : (m : Memo) (t : Step) → (called m t).owned ≡ m.owned
 called_owned m t = called_part (λ (x : Memo). x.owned) m t refl refl
-
--- and so are the facts, but at a machine's first step
-pub called_facts : (me : Me) (a : Ask) (f : Frame) (n : ℕ) (m : Memo) → f.fresh ≡ false → (called m (framed me a f n)).facts ≡ m.facts
-called_facts me a f n m e = in_frame (λ h. (called m (framed me a h n)).facts ≡ m.facts) f e refl
 
 -- a step that changes none of these parts
 pub remains : (m : Memo) (t : Step) (r' : Memo) → searched r' ≡ searched (called m t) → r'.owned ≡ (called m t).owned → Remains m r'

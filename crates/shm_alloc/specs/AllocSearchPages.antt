@@ -36,6 +36,8 @@ use Rattle.shm_graph.proofs.LoadKeeping.{load_kept}
 use Rattle.shm_steps.proofs.BlockTold.{class_is_read}
 use Rattle.shm_steps.proofs.BodyLoads.{header_loaded}
 use Rattle.shm_steps.proofs.PageSteps.{class_stored}
+use Rattle.shm_steps.proofs.KeptAfter.{kept_with}
+use Rattle.shm_count.specs.StepMemos.{called_facts}
 use Rattle.shm_alloc.specs.declared.request.Request.{Request}
 use Rattle.shm_alloc.specs.declared.point.Goal.{Goal}
 use Rattle.shm_alloc.specs.declared.point.Search.{Search}
@@ -43,8 +45,8 @@ use Rattle.shm_alloc.specs.declared.point.AllocPoint.TheVariants.{Page, Class, H
 use Rattle.shm_alloc.specs.declared.point.Next.TheVariants.{Point}
 use Rattle.shm_alloc.specs.AllocControl.{class_asked, block_of, alloc_next_at, first_header, page_over, header_used}
 use Rattle.shm_alloc.specs.AllocFits.{GoalHas, CanAlloc, NextHolds}
-use Rattle.shm_alloc.specs.AllocSteps.{PointKeeps, kept_with, goal_on}
-use Rattle.shm_alloc.specs.AllocSearch.{searched, Looks, Remains, remains, called_facts, called_owned, looks_on, owned_on, page_done, own_same}
+use Rattle.shm_alloc.specs.AllocSteps.{PointKeeps, goal_on}
+use Rattle.shm_alloc.specs.AllocSearch.{searched, Looks, Remains, remains, called_owned, looks_on, owned_on, page_done, own_same}
 use Rattle.shm_laws.proofs.Keep.{newest}
 
 -- ---- the class of a page

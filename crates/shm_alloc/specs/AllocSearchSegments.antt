@@ -24,6 +24,7 @@ use Rattle.shm_graph.proofs.SpotPlaces.{spot-place}
 use Rattle.shm_graph.proofs.Loads.{choice}
 use Rattle.shm_graph.proofs.LoadKeeping.{load_kept, lost_kept}
 use Rattle.shm_steps.proofs.PageSteps.{claimed}
+use Rattle.shm_steps.proofs.KeptAfter.{kept_with}
 use Rattle.shm_alloc.specs.declared.alloc.AllocFault.TheVariants.{EraSpent, RootsFull}
 use Rattle.shm_alloc.specs.declared.request.Request.{Request}
 use Rattle.shm_alloc.specs.declared.point.Goal.{Goal}
@@ -32,7 +33,7 @@ use Rattle.shm_alloc.specs.declared.point.AllocPoint.TheVariants.{Era, Root, Seg
 use Rattle.shm_alloc.specs.declared.point.Next.TheVariants.{Point, Answer}
 use Rattle.shm_alloc.specs.AllocControl.{RequestFits, PointFits, alloc_next_at, first_page, segment_taken}
 use Rattle.shm_alloc.specs.AllocFits.{GoalHas, CanAlloc, PointHolds, NextHolds}
-use Rattle.shm_alloc.specs.AllocSteps.{KeepsAt, PointKeeps, kept_with, is_here, goal_on}
+use Rattle.shm_alloc.specs.AllocSteps.{KeepsAt, PointKeeps, is_here, goal_on}
 use Rattle.shm_alloc.specs.AllocSearch.{searched, Looks, Remains, remains, called_owned, called_searched, looks_on, owned_on, refused, segment_done, own_same}
 use Rattle.shm_laws.proofs.Keep.{newest}
 

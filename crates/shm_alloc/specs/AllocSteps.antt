@@ -1,17 +1,15 @@
 -- what the steps of the search and those of the making share: what a step owes, and what stays
-use Rattle.std.proofs.Common.{◌≡◌, ℕ, sym, ap, ◌∙◌, subst, false}
-use Rattle.shm_graph.specs.declared.ask.Ask.{Ask}
+use Rattle.std.proofs.Common.{◌≡◌, ℕ, sym, ap, ◌∙◌, false}
 use Rattle.shm_graph.specs.declared.ask.Me.{Me}
 use Rattle.shm_graph.specs.declared.spot.Spot.{Spot}
 use Rattle.shm_graph.specs.declared.spot.Spot.TheVariants as spot
 use Rattle.shm_graph.specs.declared.memo.Memo.{Memo}
 use Rattle.shm_graph.specs.declared.memo.Status.TheVariants as status
-use Rattle.shm_graph.specs.Asks.{Trail, seen_of, at_of}
+use Rattle.shm_graph.specs.Asks.{Trail, at_of}
 use Rattle.shm_graph.specs.Spots.{spot_at}
 use Rattle.shm_graph.specs.Blocks.{classes}
 use Rattle.shm_graph.specs.Views.{own_word}
-use Rattle.shm_graph.specs.Changes.{memo_on}
-use Rattle.shm_graph.specs.Laws.{Frame, framed, Stands, KeptAt}
+use Rattle.shm_graph.specs.Laws.{Frame, Stands, KeptAt}
 use Rattle.shm_steps.specs.Conditions.{IsHere}
 use Rattle.shm_alloc.specs.declared.request.Request.{Request}
 use Rattle.shm_alloc.specs.declared.point.Goal.{Goal}
@@ -29,15 +27,6 @@ KeepsAt me q r0 w r f p = KeptAt me w r (alloc_ask_at me q p) f (λ n r'. NextHo
 abbrev pub PointKeeps : Me → Request → Memo → (Spot → ℕ) → (ℕ → Memo) → Frame → Trail → AllocPoint → Type 0
 PointKeeps me q r0 w r f tr p =
     Stands me w r f tr → f.fresh ≡ false → CanAlloc me r0 → RequestFits q → PointFits me q p → PointHolds me q r0 (r me.who) p → KeepsAt me q r0 w r f p
-
--- the law that a kind has of a step, with what holds of the memo after it
-pub kept_with : (me : Me) (w : Spot → ℕ) (r : ℕ → Memo) (a : Ask) (f : Frame) (after : ℕ → Memo → Type 0) (p q : Spot) → q ≡ p
-    → KeptAt me w r a f (λ n m. Unit {0}) q
-    → after (seen_of a (w p)) (memo_on (r me.who) (framed me a f (seen_of a (w p))) p)
-    → KeptAt me w r a f after q
-kept_with me w r a f after p q e k x =
-    subst (KeptAt me w r a f after) (sym e)
-    (let law = subst (KeptAt me w r a f (λ n m. Unit {0})) e k in record { told = law.told; step = law.step; fits = x })
 
 -- ---- what stays
 

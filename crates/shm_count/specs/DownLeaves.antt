@@ -36,7 +36,7 @@ use Rattle.shm_count.specs.declared.point.Part.TheVariants.{First}
 use Rattle.shm_count.specs.StepControl.{redo_at, header_after}
 use Rattle.shm_count.specs.StepFits.{core, is_row, begun, AtFirst, slot_memo, closed_memo, Done}
 use Rattle.shm_count.specs.StepCores.{body_word}
-use Rattle.shm_count.specs.TearStays.{is_lasting, Knows, IsFound, Lowered}
+use Rattle.shm_count.specs.TearMemos.{is_lasting, Knows, IsFound, Lowered}
 
 -- ---- what is known of a zero-count block stays known
 

@@ -30,7 +30,7 @@ use Rattle.shm_graph.specs.Reach.{shown}
 use Rattle.shm_graph.proofs.Counting.{cover_slot, covered_none}
 use Rattle.shm_graph.proofs.Holders.{held_live_block, held_live_not_zero, reach_counted, step_holds, target_counted}
 use Rattle.shm_graph.proofs.HomeTarget.{home_target}
-use Rattle.shm_graph.proofs.Spotting.{block_within, body_spot, in_block, same_spot_not}
+use Rattle.shm_graph.proofs.Spotting.{block_within, body_spot, in_block, tag_spot, same_spot_not}
 use Rattle.shm_laws.proofs.Parts.{PartKept, part_kept}
 use Rattle.shm_steps.specs.Raising.{IsReparted}
 use Rattle.shm_count.specs.StepControl.{IsInside}
@@ -166,6 +166,10 @@ module _ (g : Geometry) (w : Spot → ℕ) (r : ℕ → Memo) (c d : ℕ) (h : H
       let e : (words_of w).refs d ≡ tag_refs (w (Tag d)) = ap (λ z. refs_of z (w (Tag d))) dying_header.0 in
       cond-true (ltb i ((words_of w).refs d)) (covered (λ e. cover_of (r e).op) g.clients (Body d i) (w (Body d i))) 0 (lt-ltb i ((words_of w).refs d) (subst (λ k. i < k) (sym e) low))
       ∙ covered_none g.clients (Body d i) (w (Body d i)) (λ e. cover_of (r e).op) (dying_uncovered idle i)
+
+  -- the spot of its tag
+  pub dying_tag_spot : spot_at g (classes w) (d + 1) ≡ Tag d
+  dying_tag_spot = tag_spot g (classes w) d (held_live_block g w (view r) h d dying_header.0) (live_class g w r h d dying_header.0).0
 
   -- the spot of a reference word of it
   pub dying_spot : (i : ℕ) → i < tag_refs (w (Tag d)) → spot_at g (classes w) (d + 2 + i) ≡ Body d i

@@ -15,13 +15,13 @@ pub mod StepCommitting
 pub mod StepExchanging
 pub mod StepTells
 pub mod StepKeeps
-pub mod TearStays
+pub mod TearMemos
 pub mod TearControl
 pub mod TearTrail
 pub mod TearEvents
 pub mod TearFits
 pub mod TearStacks
-pub mod TearPaying
+pub mod TearBound
 pub mod TearCores
 pub mod TearReading
 pub mod TearWords

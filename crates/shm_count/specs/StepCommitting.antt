@@ -31,12 +31,13 @@ use Rattle.shm_laws.specs.Steps.{Writes, Closes}
 use Rattle.shm_steps.specs.Conditions.{IsHere, MayWrite}
 use Rattle.shm_steps.proofs.SlotStores.{home_stored, queue_stored, body_stored, root_stored}
 use Rattle.shm_steps.proofs.OwnStoresEra.{era_closed}
+use Rattle.shm_steps.proofs.KeptAfter.{kept_going}
 use Rattle.shm_count.specs.declared.point.Aim.{Aim}
 use Rattle.shm_count.specs.declared.point.Part.TheVariants.{First, Second}
 use Rattle.shm_count.specs.declared.point.Part.{Part}
 use Rattle.shm_count.specs.declared.point.Aim.TheVariants.{Change, Down, Up}
 use Rattle.shm_count.specs.declared.point.StepPoint.TheVariants as point
-use Rattle.shm_count.specs.StepCores.{set_op, stored_core, can_slot, IsSet, PointKeeps, HasSlot, kept_going, IsStepSlot, is_set, is_stored, closed_core}
+use Rattle.shm_count.specs.StepCores.{set_op, stored_core, can_slot, IsSet, PointKeeps, HasSlot, IsStepSlot, is_set, is_stored, closed_core}
 use Rattle.shm_count.specs.StepFits.{NextHolds, AtFirst, core, set_memo, slot_memo, closed_memo, InHalf, CanStep, PointHolds}
 use Rattle.shm_count.specs.StepControl.{AimFits, step_next_at, PartFits, value_after, EraFits, closed_next, raises}
 use Rattle.shm_count.specs.StepMemos.{recovers_after, era_room, half_status, rows_same, here_same}

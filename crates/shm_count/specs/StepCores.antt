@@ -3,7 +3,6 @@ use Rattle.std.proofs.Common.{◌≡◌, ℕ, ◌+◌, ◌≤◌, refl, sym, ap,
 use Rattle.std.proofs.lemmas.Bool.{cond-true, and_from}
 use Rattle.shm_words.specs.declared.geometry.Geometry.{Geometry}
 use Rattle.shm_words.specs.Headers.{header_of}
-use Rattle.shm_graph.specs.declared.ask.Ask.{Ask}
 use Rattle.shm_graph.specs.declared.ask.Me.{Me}
 use Rattle.shm_graph.specs.declared.spot.Spot.{Spot}
 use Rattle.shm_graph.specs.declared.memo.Memo.{Memo}
@@ -19,12 +18,10 @@ use Rattle.shm_graph.specs.Spots.{same_spot, spot_at}
 use Rattle.shm_graph.specs.Reach.{learnt, sifted}
 use Rattle.shm_graph.specs.Views.{own_word}
 use Rattle.shm_graph.specs.Ops.{slot_of, is_op}
-use Rattle.shm_graph.specs.Asks.{at_of, Trail, seen_of}
-use Rattle.shm_graph.specs.Changes.{memo_on}
-use Rattle.shm_graph.specs.Laws.{Stands, Frame, framed, KeptAt}
+use Rattle.shm_graph.specs.Asks.{at_of, Trail}
+use Rattle.shm_graph.specs.Laws.{Stands, Frame, KeptAt}
 use Rattle.shm_graph.specs.Blocks.{classes}
 use Rattle.shm_graph.proofs.Spotting.{same_spot_self}
-use Rattle.shm_graph.proofs.KindKeeping.{in_frame}
 use Rattle.shm_laws.specs.Steps.{dying_after}
 use Rattle.shm_steps.proofs.MemoCommits.{untaken_list, known_left, known_lowered, lowered_is, with_untaken_is, unsent_list, with_unsent_is}
 use Rattle.shm_count.specs.declared.point.Aim.TheVariants.{Down, Change, Up}
@@ -185,16 +182,3 @@ abbrev pub PointKeeps : Me → ℕ → Aim → Spot → Memo → (Spot → ℕ) 
 PointKeeps me slot x p r0 w r f tr y =
     Stands me w r f tr → f.fresh ≡ false → CanStep me slot x p r0 → PointFits me x y → PointHolds me slot x p r0 (r me.who) y
     → KeptAt me w r (step_ask_at me slot x y) f (λ n r'. NextHolds me slot x p r0 r' (step_next_at me x y n)) (spot_at me.geometry (classes w) (at_of (step_ask_at me slot x y)))
-
--- the law that a kind has of a step that isn't a machine's first, with what holds of the memo after it
-pub kept_going : (me : Me) (w : Spot → ℕ) (r : ℕ → Memo) (a : Ask) (f : Frame) (after : ℕ → Memo → Type 0) (p : Spot) → f.fresh ≡ false → spot_at me.geometry (classes w) (at_of a) ≡ p
-    → KeptAt me w r a f (λ n m. Unit {0}) (spot_at me.geometry (classes w) (at_of a))
-    → after (seen_of a (w p)) (memo_on (r me.who) (framed me a (record f { fresh = false }) (seen_of a (w p))) p)
-    → KeptAt me w r a f after (spot_at me.geometry (classes w) (at_of a))
-kept_going me w r a f after p going e k x =
-    subst (KeptAt me w r a f after) (sym e)
-    (let law = subst (KeptAt me w r a f (λ n m. Unit {0})) e k in record {
-      told = law.told;
-      step = law.step;
-      fits = in_frame (λ h. after (seen_of a (w p)) (memo_on (r me.who) (framed me a h (seen_of a (w p))) p)) f going x;
-    })

@@ -30,6 +30,7 @@ use Rattle.shm_steps.proofs.ChangeLowered.{change_lowered}
 use Rattle.shm_steps.proofs.PartsSet.{reparted_unread}
 use Rattle.shm_steps.proofs.LowerBlock.{block_lowered}
 use Rattle.shm_steps.proofs.ChangeRaised.{change_raised}
+use Rattle.shm_steps.proofs.KeptAfter.{kept_going}
 use Rattle.shm_count.specs.declared.point.Part.TheVariants.{First, Second}
 use Rattle.shm_count.specs.declared.point.Aim.TheVariants.{Down, Up, Change}
 use Rattle.shm_count.specs.declared.point.Part.{Part}
@@ -40,7 +41,7 @@ use Rattle.shm_count.specs.StepFits.{core, InHalf, CanStep, HasRead, NextHolds, 
 use Rattle.shm_count.specs.StepMemos.{half_status, first_reach, half_same, header_core, recovers_after, here_same, half_op}
 use Rattle.shm_count.specs.StepControl.{CountFits, EraFits, header_after, PartFits, block_at, committed_next, header_next, count_after, raises, exchange_next}
 use Rattle.shm_count.specs.StepHeaders.{header_has, header_found, half_block}
-use Rattle.shm_count.specs.StepCores.{kept_going, PointKeeps}
+use Rattle.shm_count.specs.StepCores.{PointKeeps}
 use Rattle.shm_count.specs.DyingBlocks.{dying_reparted}
 
 -- ---- the header that the block comes to have

@@ -11,7 +11,7 @@ use Rattle.shm_graph.specs.declared.spot.Spot.TheVariants as spot
 use Rattle.shm_graph.specs.declared.memo.Agent.{Agent}
 use Rattle.shm_graph.specs.declared.memo.Fact.{Fact}
 use Rattle.shm_graph.specs.declared.memo.Fact.TheVariants.{Header as HeaderRead, Counter}
-use Rattle.shm_graph.specs.declared.memo.Half.TheVariants.{Lowering}
+use Rattle.shm_graph.specs.declared.memo.Half.TheVariants.{Raising, Lowering}
 use Rattle.shm_graph.specs.declared.memo.Second.TheVariants.{Open}
 use Rattle.shm_graph.specs.declared.memo.Look.{Look}
 use Rattle.shm_graph.specs.declared.memo.Memo.{Memo}
@@ -23,6 +23,7 @@ use Rattle.shm_graph.specs.Agents.{recovers, recovers_by, last_agent, with_last,
 use Rattle.shm_laws.proofs.Keep.{Contains-filter}
 use Rattle.shm_graph.proofs.Calling.{called_by}
 use Rattle.shm_graph.specs.Changes.{is_lane_count, called, test_before, changed_by, with_call, with_end, memo_on}
+use Rattle.shm_graph.specs.Held.{room_of}
 use Rattle.shm_graph.specs.Laws.{Frame, framed}
 use Rattle.shm_graph.specs.Ops.{Quiet, cover, cover_of}
 use Rattle.shm_graph.specs.Reach.{shown, roots_below, in_slots, not_zero, is_reached, learnt}
@@ -185,6 +186,12 @@ pub begun_quiet : (x : Aim) (p : Spot) (e : ℕ) → cover_of (begun_op x p e) �
 begun_quiet (Up b) p e = refl
 begun_quiet (Down b) p e = refl
 begun_quiet (Change a b) p e = refl
+
+-- each own era leaves room for two more
+pub room_least : (o : Op) → 2 ≤ room_of o
+room_least op.Nothing = omega arith
+room_least (op.Change (Raising s) p a b e) = omega arith
+room_least _ = omega arith
 
 -- ---- what is in reach
 

@@ -33,6 +33,7 @@ use Rattle.shm_steps.specs.OwnWords.{op_begun}
 use Rattle.shm_steps.proofs.BodyLoads.{header_loaded}
 use Rattle.shm_steps.proofs.OwnStores.{row_stored}
 use Rattle.shm_steps.proofs.OwnStoresRedo.{redo_stored}
+use Rattle.shm_steps.proofs.KeptAfter.{kept_going}
 use Rattle.shm_count.specs.declared.answer.UpFault.TheVariants.{EraSpent}
 use Rattle.shm_count.specs.declared.point.Aim.{Aim}
 use Rattle.shm_count.specs.declared.point.Aim.TheVariants.{Up, Down, Change}
@@ -46,7 +47,6 @@ use Rattle.shm_count.specs.StepControl.{last_era, block_at, redo_at, row_address
 use Rattle.shm_count.specs.StepFits.{HasPut, CanStep, core, begun_op, Rows, begun, HasRead, InHalf, PointHolds, NextHolds}
 use Rattle.shm_count.specs.StepMemos.{rows_same, row_raised, recovers_after, called_core, era_core, era_counts, era_facts, header_core, half_then, half_same, half_status, here_same, read_same, era_room}
 use Rattle.shm_count.specs.StepHeaders.{half_block, header_has, header_found}
-use Rattle.shm_count.specs.StepCores.{kept_going}
 use Rattle.shm_count.specs.StepBeginning.{can_on, begins_here}
 
 -- ---- what a step owes

@@ -2,12 +2,9 @@
 use Rattle.std.proofs.Common.{◌≡◌, ℕ, ◌+◌, ◌<◌, ◌≤◌, refl, sym, ap, ◌∙◌, subst, arith, true, leb, ltb, ◌||◌, List, ◌∷◌, Option, Some}
 use Rattle.std.specs.List.{Contains, filter}
 use Rattle.std.proofs.lemmas.Bool.{cond-true, ltb-true, ltb-false}
-use Rattle.std.proofs.lemmas.List.Elements.{All-contains}
-use Rattle.shm_words.specs.declared.geometry.Geometry.{Geometry}
 use Rattle.shm_words.specs.declared.tag.Tag.{Tag as ATag}
 use Rattle.shm_graph.specs.declared.ask.Ask.TheVariants.{Load, Store}
 use Rattle.shm_graph.specs.declared.ask.Me.{Me}
-use Rattle.shm_graph.specs.declared.spot.Spot.{Spot}
 use Rattle.shm_graph.specs.declared.spot.Spot.TheVariants.{Era, Head, Tag, Body}
 use Rattle.shm_graph.specs.declared.memo.Stored.{Stored}
 use Rattle.shm_graph.specs.declared.memo.Memo.{Memo}
@@ -15,24 +12,22 @@ use Rattle.shm_graph.specs.Agents.{recovers}
 use Rattle.shm_graph.specs.Asks.{Trail}
 use Rattle.shm_graph.specs.Changes.{called, memo_on}
 use Rattle.shm_graph.specs.Events.{Event}
-use Rattle.shm_graph.specs.Held.{HeldAt}
 use Rattle.shm_graph.specs.Laws.{Frame, framed}
 use Rattle.shm_graph.specs.Reach.{learnt, is_dying}
 use Rattle.shm_graph.specs.Readings.{word_read}
 use Rattle.shm_graph.specs.Stores.{not_of, not_block}
 use Rattle.shm_graph.specs.Telling.{Claim, claim_of}
-use Rattle.shm_graph.specs.Views.{view, own_word}
+use Rattle.shm_graph.specs.Views.{own_word}
 use Rattle.shm_graph.proofs.Calling.{called_part}
-use Rattle.shm_graph.proofs.KnownChange.{KnownHolds}
 use Rattle.shm_graph.proofs.Loads.{choice}
 use Rattle.shm_count.specs.declared.tear_point.TearPoint.{TearPoint}
 use Rattle.shm_count.specs.declared.tear_point.TearPoint.TheVariants as point
 use Rattle.shm_count.specs.StepFits.{core}
 use Rattle.shm_count.specs.StepMemos.{called_core}
 use Rattle.shm_count.specs.TearControl.{word_or_free}
-use Rattle.shm_count.specs.TearEvents.{Visit, Walks}
-use Rattle.shm_count.specs.TearFits.{IsVisited, Linked, IsApart, is_outside, PointShows, IsPaid, TearAt, TearHolds}
-use Rattle.shm_count.specs.TearStays.{Stays, Knows, IsTagged}
+use Rattle.shm_count.specs.TearEvents.{Visit}
+use Rattle.shm_count.specs.TearFits.{Settled, Linked, is_outside, IsPaid, TearHolds}
+use Rattle.shm_count.specs.TearMemos.{Stays, Knows, IsTagged}
 
 -- ---- what stays
 
@@ -119,21 +114,6 @@ free_core me f m b = ap (λ (y : Memo). record y { known = filter (not_of b) y.k
 
 -- ---- what holds at each point
 
--- what holds of a memo at a point, but for what the point itself needs
-pub record Settled (me : Me) (first b k : ℕ) (vs : List Visit) (r0 m : Memo) (es : List Event) : Type 0 where
-  pub agent : recovers m ≡ recovers r0
-  pub stays : Stays me.who r0 m
-  pub visited : IsVisited me m (record { block = b; cleared = k })
-  pub apart : IsApart (record { block = b; cleared = k } ∷ vs)
-  pub others : filter (is_outside (record { block = b; cleared = k } ∷ vs)) m.dying ≡ filter (not_block first) r0.dying
-  pub walks : Walks me.who first es (record { block = b; cleared = k } ∷ vs)
-
-pub settled_of : (me : Me) (first b k : ℕ) (vs : List Visit) (y : TearPoint) (r0 m : Memo) (es : List Event) (tr : Trail) → TearAt me first b k vs y r0 m es tr → Settled me first b k vs r0 m es
-settled_of me first b k vs y r0 m es tr a = record { agent = a.agent; stays = a.stays; visited = a.visited; apart = a.apart; others = a.others; walks = a.walks }
-
-pub at_from : (me : Me) (first b k : ℕ) (vs : List Visit) (y : TearPoint) (r0 m : Memo) (es : List Event) (tr : Trail) → Settled me first b k vs r0 m es → PointShows me b k vs m y → IsPaid (record { block = b; cleared = k } ∷ vs) k y es tr → TearAt me first b k vs y r0 m es tr
-at_from me first b k vs y r0 m es tr s shows paid = record { agent = s.agent; stays = s.stays; visited = s.visited; apart = s.apart; others = s.others; shows = shows; walks = s.walks; paid = paid }
-
 -- the memo has the same zero-count blocks, and the words that are done with are still known to be 0
 pub settled_same : (me : Me) (first b k : ℕ) (vs : List Visit) (r0 m n : Memo) (es : List Event) → Settled me first b k vs r0 m es → Stays me.who m n → n.dying ≡ m.dying → recovers n ≡ recovers m → ((j : ℕ) → j < k → Knows n (Body b j) 0) → Settled me first b k vs r0 n es
 settled_same me first b k vs r0 m n es s stays same agent zeros =
@@ -157,15 +137,6 @@ pub on_words : (me : Me) (first b k i : ℕ) (vs : List Visit) (g : ATag) (r0 m 
     → IsPaid (record { block = b; cleared = k } ∷ vs) k (word_or_free g i) es tr → TearHolds me first r0 b (word_or_free g i) m es tr
 on_words me first b k i vs g r0 m es tr s tag link l paid =
     choice (λ (y : TearPoint). IsPaid (record { block = b; cleared = k } ∷ vs) k y es tr → TearHolds me first r0 b y m es tr) (ltb i g.refs) (point.Word g i) (point.Free g)
-    (λ z p. (k, vs, at_from me first b k vs (point.Word g i) r0 m es tr s (tag, link, ltb-true i g.refs z, l) p))
-    (λ z p. (k, vs, at_from me first b k vs (point.Free g) r0 m es tr s (tag, link, (let u = ltb-false i g.refs z in omega arith)) p))
+    (λ z p. (k, vs, record { settled = s; shows = (tag, link, ltb-true i g.refs z, l); paid = p }))
+    (λ z p. (k, vs, record { settled = s; shows = (tag, link, (let u = ltb-false i g.refs z in omega arith)); paid = p }))
     paid
-
--- ---- what is known
-
--- what is known of a tag or of a word is what it holds
-pub knows_tag : (g : Geometry) (w : Spot → ℕ) (r : ℕ → Memo) (c b x : ℕ) → HeldAt g w (view r) → c < g.clients → Knows (r c) (Tag b) x → w (Tag b) ≡ x
-knows_tag g w r c b x h l k = (All-contains (KnownHolds g w (view r) c) (r c).known (record { spot = Tag b; value = x }) (h.known c l) k).0
-
-pub knows_word : (g : Geometry) (w : Spot → ℕ) (r : ℕ → Memo) (c b i x : ℕ) → HeldAt g w (view r) → c < g.clients → Knows (r c) (Body b i) x → w (Body b i) ≡ x
-knows_word g w r c b i x h l k = (All-contains (KnownHolds g w (view r) c) (r c).known (record { spot = Body b i; value = x }) (h.known c l) k).0

@@ -28,7 +28,7 @@ use Rattle.shm_count.specs.StepEvents.{events_at}
 use Rattle.shm_count.specs.StepFits.{CanStep, PointHolds}
 use Rattle.shm_count.specs.TearControl.{word_address, tear_control, TearKnows}
 use Rattle.shm_count.specs.TearEvents.{tear_event, tear_start, Visit, Walks, frees}
-use Rattle.shm_count.specs.TearStays.{Stays, Knows, IsTagged, IsFound}
+use Rattle.shm_count.specs.TearMemos.{Stays, Knows, IsTagged, IsFound}
 use Rattle.shm_count.specs.TearTrail.{tear_trail, point_trail}
 
 -- ---- when it may begin
@@ -121,15 +121,19 @@ IsPaid vs k y es tr = length tr + left_for vs + due_at k y ≤ 164 * (frees es +
 
 -- ---- on the way
 
--- the memo m shows what the point needs, where it was r0 at the beginning, these are the events before the word that the point is at, and nothing of zero-count blocks changed but for those that are being torn down
-pub record TearAt (me : Me) (first b k : ℕ) (vs : List Visit) (y : TearPoint) (r0 m : Memo) (es : List Event) (tr : Trail) : Type 0 where
+-- of the memo m, which was r0 at the beginning: nothing of zero-count blocks changed but for those that are being torn down, the innermost first with k words done with, and these were the events
+pub record Settled (me : Me) (first b k : ℕ) (vs : List Visit) (r0 m : Memo) (es : List Event) : Type 0 where
   pub agent : recovers m ≡ recovers r0
   pub stays : Stays me.who r0 m
   pub visited : IsVisited me m (record { block = b; cleared = k })
   pub apart : IsApart (record { block = b; cleared = k } ∷ vs)
   pub others : filter (is_outside (record { block = b; cleared = k } ∷ vs)) m.dying ≡ filter (not_block first) r0.dying
-  pub shows : PointShows me b k vs m y
   pub walks : Walks me.who first es (record { block = b; cleared = k } ∷ vs)
+
+-- and it shows what the point needs; es are the events before the word that the point is at
+pub record TearAt (me : Me) (first b k : ℕ) (vs : List Visit) (y : TearPoint) (r0 m : Memo) (es : List Event) (tr : Trail) : Type 0 where
+  pub settled : Settled me first b k vs r0 m es
+  pub shows : PointShows me b k vs m y
   pub paid : IsPaid (record { block = b; cleared = k } ∷ vs) k y es tr
 
 -- at a step down the memo m was so before it

@@ -33,7 +33,7 @@ use Rattle.shm_count.specs.TearEvents.{tear_event, tear_start}
 use Rattle.shm_count.specs.TearFits.{CanTear, TearAt, TearHolds, TearFits, TearLeaves, TearGives, NextHolds}
 use Rattle.shm_count.specs.TearKnowing.{knows_next}
 use Rattle.shm_count.specs.TearCores.{stays_now}
-use Rattle.shm_count.specs.TearPaying.{paid_begin}
+use Rattle.shm_count.specs.TearBound.{paid_begin}
 use Rattle.shm_count.specs.TearStacks.{others_begin, walks_begin}
 
 -- ---- trails
@@ -168,13 +168,15 @@ then_holds m r0 r x tr n fit h = go (tear_next m n) refl h
 begins_at : (me : Me) (b : ℕ) (r : Memo) → CanTear me b r → TearAt me b b 0 [] point.Begin r r [] []
 begins_at me b r can =
     record {
-      agent = refl;
-      stays = stays_now me.who r;
-      visited = record { inside = can.inside; room = can.room; dying = can.dying; most = omega arith; zeros = λ i l. absurd (omega arith) };
-      apart = (refl, tt);
-      others = others_begin b r.dying;
+      settled = record {
+        agent = refl;
+        stays = stays_now me.who r;
+        visited = record { inside = can.inside; room = can.room; dying = can.dying; most = omega arith; zeros = λ i l. absurd (omega arith) };
+        apart = (refl, tt);
+        others = others_begin b r.dying;
+        walks = walks_begin me.who b;
+      };
       shows = (refl, refl);
-      walks = walks_begin me.who b;
       paid = paid_begin b;
     }
 

@@ -167,13 +167,13 @@ word_inside me b i k f s l = subst (λ (z : ℕ). (0 < z) × (z < total_of me.ge
 -- what is asked for at a point is a word of the pool
 ask_inside : (me : Me) (first : ℕ) (r0 r : Memo) (b : ℕ) (es : List Event) (tr : Trail) (y : TearPoint) → GeometryFits me.geometry → me.who < me.geometry.clients → TearHolds me first r0 b y r es tr → IsRunning y → is_over y ≡ false
     → (0 < at_of (tear_ask_at me b y)) × (at_of (tear_ask_at me b y) < total_of me.geometry)
-ask_inside me first r0 r b es tr point.Begin f l h c e = tag_inside me b h.2.visited.room
-ask_inside me first r0 r b es tr (point.Enter k) f l h c e = tag_inside me b h.2.visited.room
-ask_inside me first r0 r b es tr (point.Link g) f l h c e = tag_inside me b h.2.visited.room
+ask_inside me first r0 r b es tr point.Begin f l h c e = tag_inside me b h.2.settled.visited.room
+ask_inside me first r0 r b es tr (point.Enter k) f l h c e = tag_inside me b h.2.settled.visited.room
+ask_inside me first r0 r b es tr (point.Link g) f l h c e = tag_inside me b h.2.settled.visited.room
 ask_inside me first r0 r b es tr (point.Word g i) f l h c e = word_inside me b i g.refs f h.2.shows.0.room h.2.shows.2
 ask_inside me first r0 r b es tr (point.Down g i t y) f l h c e = laws.ask_inside me (word_address b i) (aims.Down t) (Body b i) h.2 r y f l h.6.blocks h.6.inside h.7.has c
-ask_inside me first r0 r b es tr (point.Free g) f l h c e = head_inside me b h.2.visited.inside
-ask_inside me first r0 r b es tr point.Return f l h c e = tag_inside me b h.2.visited.room
+ask_inside me first r0 r b es tr (point.Free g) f l h c e = head_inside me b h.2.settled.visited.inside
+ask_inside me first r0 r b es tr point.Return f l h c e = tag_inside me b h.2.settled.visited.room
 ask_inside me first r0 r b es tr point.Over f l h c e = absurd (true≢false e)
 
 -- a tear-down that fits asks for a word of the pool

@@ -36,14 +36,14 @@ use Rattle.shm_count.specs.StepGoing.{has_part, events_with, Told, told_next}
 use Rattle.shm_count.specs.StepKeeps.{step_at}
 use Rattle.shm_count.specs.StepMemos.{recovers_after}
 use Rattle.shm_count.specs.TearControl.{word_address, word_or_free, down_next, lowered_next, TearPointFits}
-use Rattle.shm_count.specs.TearCores.{stays_then, stays_core, settled_of, at_from, on_words}
+use Rattle.shm_count.specs.TearCores.{stays_then, stays_core, on_words}
 use Rattle.shm_count.specs.TearEvents.{Visit, frees, Walks}
 use Rattle.shm_count.specs.TearFits.{CanTear, IsVisited, Linked, is_outside, TearAt, TearHolds, NextHolds}
 use Rattle.shm_count.specs.DownLeaves.{down_leaves}
-use Rattle.shm_count.specs.TearPaying.{paid_down, paid_kept, paid_fell, paid_refused}
+use Rattle.shm_count.specs.TearBound.{paid_down, paid_kept, paid_fell, paid_refused}
 use Rattle.shm_count.specs.TearReading.{TearKept}
 use Rattle.shm_count.specs.TearStacks.{walks_kept, walks_fell, frees_more, others_entered, outside_other, apart_entered, KeepsBlock, linked_kept, linked_dying, left_dying, keeps_lowered, lowered_knows, lowered_tagged, lowered_dying}
-use Rattle.shm_count.specs.TearStays.{Stays, Knows, IsTagged, IsFound, Lowered}
+use Rattle.shm_count.specs.TearMemos.{Stays, Knows, IsTagged, IsFound, Lowered}
 
 -- one word of a block has one index
 same_index : (b j i : ℕ) → Body b j ≡ Body b i → j ≡ i
@@ -84,7 +84,7 @@ module _ (me : Me) (first : ℕ) (r0 : Memo) (b k : ℕ) (vs : List Visit) (g : 
     vs,
     m,
     es,
-    at_from me first b k vs (point.Down g i t y2) r0 m es tr2 (settled_of me first b k vs (point.Down g i t y) r0 m es tr a) a.shows (paid_down b vs es tr k me slot g i t y y2 n going a.paid e),
+    record { settled = a.settled; shows = a.shows; paid = (paid_down b vs es tr k me slot g i t y y2 n going a.paid e) },
     told,
     may,
     holds,
@@ -97,28 +97,28 @@ module _ (me : Me) (first : ℕ) (r0 : Memo) (b k : ℕ) (vs : List Visit) (g : 
     free_same = ap frees told ∙ frees_more es c (Body b i) t
 
     done_stays : Stays c r0 m2
-    done_stays = stays_then c r0 m m2 a.stays low.stays
+    done_stays = stays_then c r0 m m2 a.settled.stays low.stays
 
     keeps : (d : ℕ) → Contains m.dying d → d ≢ b → KeepsBlock m m2 d
     keeps d h o = keeps_lowered c b i t z m m2 low found.counted d h o
 
     tagged : IsTagged me m2 b g
-    tagged = lowered_tagged c b i t z m m2 low found.counted me g a.visited.dying a.shows.0
+    tagged = lowered_tagged c b i t z m m2 low found.counted me g a.settled.visited.dying a.shows.0
 
     linked : Linked me m2 g.link vs
-    linked = linked_kept me m m2 g.link vs (λ v h. keeps v.block (linked_dying me m g.link vs v a.shows.1 h) (outside_other vs b v a.apart.0 h)) a.shows.1
+    linked = linked_kept me m m2 g.link vs (λ v h. keeps v.block (linked_dying me m g.link vs v a.shows.1 h) (outside_other vs b v a.settled.apart.0 h)) a.shows.1
 
     -- one more word is done with
     visited : IsVisited me m2 (record { block = b; cleared = k + 1 })
     visited =
         record {
-          inside = a.visited.inside;
-          room = a.visited.room;
-          dying = lowered_dying c b i t z m m2 low found.counted b a.visited.dying;
+          inside = a.settled.visited.inside;
+          room = a.settled.visited.room;
+          dying = lowered_dying c b i t z m m2 low found.counted b a.settled.visited.dying;
           most = room;
           zeros = λ j l. elim (cases_eq j i) [
             | inl u ↦ subst (λ x. Knows m2 (Body b x) 0) (sym u) low.cleared
-            | inr u ↦ lowered_knows c b i t z m m2 low found.counted (Body b j) 0 a.visited.dying (eq-eqb b b refl) (λ e. u (same_index b j i e)) (a.visited.zeros j (let e = same in omega arith))
+            | inr u ↦ lowered_knows c b i t z m m2 low found.counted (Body b j) 0 a.settled.visited.dying (eq-eqb b b refl) (λ e. u (same_index b j i e)) (a.settled.visited.zeros j (let e = same in omega arith))
           ];
         }
 
@@ -131,9 +131,9 @@ module _ (me : Me) (first : ℕ) (r0 : Memo) (b k : ℕ) (vs : List Visit) (g : 
         agent = agent;
         stays = done_stays false leads told low;
         visited = visited false leads told low;
-        apart = a.apart;
-        others = ap (filter (is_outside (record { block = b; cleared = k } ∷ vs))) dying ∙ a.others;
-        walks = subst (λ e. Walks c first e (record { block = b; cleared = k + 1 } ∷ vs)) (sym told) (subst (λ j. Walks c first (es ++ event.Down c (Body b j) t ∷ []) (record { block = b; cleared = k + 1 } ∷ vs)) (sym same) (walks_kept c first es b k t vs a.walks));
+        apart = a.settled.apart;
+        others = ap (filter (is_outside (record { block = b; cleared = k } ∷ vs))) dying ∙ a.settled.others;
+        walks = subst (λ e. Walks c first e (record { block = b; cleared = k + 1 } ∷ vs)) (sym told) (subst (λ j. Walks c first (es ++ event.Down c (Body b j) t ∷ []) (record { block = b; cleared = k + 1 } ∷ vs)) (sym same) (walks_kept c first es b k t vs a.settled.walks));
       })
       (tagged false leads told low) (linked false leads told low) (let e = same in omega arith)
       (paid_kept b vs es tr (pair (step_ask_at me slot (aims.Down t) y) n) k me g g i t y n es2 (let u = room in omega arith) a.paid same leads (free_same false leads told low))
@@ -145,17 +145,18 @@ module _ (me : Me) (first : ℕ) (r0 : Memo) (b k : ℕ) (vs : List Visit) (g : 
       let wvs : List Visit = record { block = b; cleared = k + 1 } ∷ vs in (
         0,
         wvs,
-        at_from me first t 0 wvs (point.Enter b) r0 m2 es2 tr2
-            (record {
-              agent = agent;
-              stays = done_stays true leads told low;
-              visited = record { inside = found.inside; room = found.room; dying = here; most = omega arith; zeros = λ j l. absurd (omega arith) };
-              apart = apart_entered b k (k + 1) t vs (λ e. none_of b a.visited.dying (sym e)) (λ v h. none_of v.block (linked_dying me m g.link vs v a.shows.1 h)) a.apart;
-              others = ap (filter (is_outside (record { block = t; cleared = 0 } ∷ wvs))) low.dying ∙ others_entered b k (k + 1) t vs m.dying _ found.counted a.others;
-              walks = subst (λ e. Walks c first e (record { block = t; cleared = 0 } ∷ wvs)) (sym told) (subst (λ j. Walks c first (es ++ event.Down c (Body b j) t ∷ []) (record { block = t; cleared = 0 } ∷ wvs)) (sym same) (walks_fell c first es b k t vs a.walks));
-            })
-            (refl, (refl, visited true leads told low, (g, tagged true leads told low, linked true leads told low)))
-            (paid_fell b vs es tr (pair (step_ask_at me slot (aims.Down t) y) n) k me g i t y n es2 (let u = room in omega arith) a.paid leads (free_same true leads told low)),
+        record {
+          settled = (record {
+            agent = agent;
+            stays = done_stays true leads told low;
+            visited = record { inside = found.inside; room = found.room; dying = here; most = omega arith; zeros = λ j l. absurd (omega arith) };
+            apart = apart_entered b k (k + 1) t vs (λ e. none_of b a.settled.visited.dying (sym e)) (λ v h. none_of v.block (linked_dying me m g.link vs v a.shows.1 h)) a.settled.apart;
+            others = ap (filter (is_outside (record { block = t; cleared = 0 } ∷ wvs))) low.dying ∙ others_entered b k (k + 1) t vs m.dying _ found.counted a.settled.others;
+            walks = subst (λ e. Walks c first e (record { block = t; cleared = 0 } ∷ wvs)) (sym told) (subst (λ j. Walks c first (es ++ event.Down c (Body b j) t ∷ []) (record { block = t; cleared = 0 } ∷ wvs)) (sym same) (walks_fell c first es b k t vs a.settled.walks));
+          });
+          shows = (refl, (refl, visited true leads told low, (g, tagged true leads told low, linked true leads told low)));
+          paid = (paid_fell b vs es tr (pair (step_ask_at me slot (aims.Down t) y) n) k me g i t y n es2 (let u = room in omega arith) a.paid leads (free_same true leads told low));
+        },
       )
 
   -- ---- it is refused
@@ -167,11 +168,11 @@ module _ (me : Me) (first : ℕ) (r0 : Memo) (b k : ℕ) (vs : List Visit) (g : 
       let all : List Visit = record { block = b; cleared = k } ∷ vs in (
         all,
         record {
-          stays = stays_then c r0 m m2 a.stays (stays_core c m m2 m.known m.dying gone.0);
+          stays = stays_then c r0 m m2 a.settled.stays (stays_core c m m2 m.known m.dying gone.0);
           some = λ x. absurd (cc);
-          left = subst (λ (ds : List ℕ). All (λ (v : Visit). Contains ds v.block) all) (sym dying) (All-cons (λ (v : Visit). Contains m.dying v.block) (record { block = b; cleared = k }) vs a.visited.dying (left_dying me m g.link vs a.shows.1));
-          others = ap (filter (is_outside all)) dying ∙ a.others;
-          walks = subst (λ x. Walks c first x all) (sym none) a.walks;
+          left = subst (λ (ds : List ℕ). All (λ (v : Visit). Contains ds v.block) all) (sym dying) (All-cons (λ (v : Visit). Contains m.dying v.block) (record { block = b; cleared = k }) vs a.settled.visited.dying (left_dying me m g.link vs a.shows.1));
+          others = ap (filter (is_outside all)) dying ∙ a.settled.others;
+          walks = subst (λ x. Walks c first x all) (sym none) a.settled.walks;
           bound = paid_refused b vs es tr (pair (step_ask_at me slot (aims.Down t) y) n) k me g i t y n (EraSpent e) es2 a.paid leads (ap frees none);
           spent = gone.1 ∙ sym (ap (λ (x : Memo). own_word x.own (Era c c)) gone.0);
           last = gone.2;
@@ -186,7 +187,7 @@ module _ (me : Me) (first : ℕ) (r0 : Memo) (b k : ℕ) (vs : List Visit) (g : 
   answered (next.Point y2) e told all may h = on_holds y2 e (all ∙ ap (λ x. es ++ x) told) may h
   answered (next.Answer (Ok z)) e told all may h =
       done z e (all ∙ ap (λ x. es ++ x) told)
-      (down_leaves me slot b i t m m2 z (let u = can.geometry.clients in let l = can.who in omega arith) found.era (a.stays.op ∙ can.idle) a.visited.dying found h)
+      (down_leaves me slot b i t m m2 z (let u = can.geometry.clients in let l = can.who in omega arith) found.era (a.settled.stays.op ∙ can.idle) a.settled.visited.dying found h)
     where
       done : (z : Bool) → step_next_at me (aims.Down t) y n ≡ next.Answer (Ok z) → es2 ≡ es ++ event.Down c (Body b i) t ∷ [] → Lowered c b i t z m m2 → NextHolds me first r0 b (lowered_next b g i t (Ok z)) m2 es2 tr2
       done true q o low = fell_holds q o low
@@ -207,7 +208,7 @@ down_step me first r0 b g i t y w r f tr es st going runs can fits (k, vs, m, be
       told = kept.told;
       step = kept.step;
       fits = answered me first r0 b k vs g i t y m m2 before (es ++ filter is_event (step_event_at me (aims.Down t) (Body b i) y n ∷ [])) tr n can runs a
-          (recovers_after (r me.who) (framed me ask f n) s ∙ (holds.agent ∙ a.agent))
+          (recovers_after (r me.who) (framed me ask f n) s ∙ (holds.agent ∙ a.settled.agent))
           (step_next_at me (aims.Down t) y n) refl
           (told_next me (aims.Down t) (Body b i) y n (has_part me (aims.Down t) y fits.3))
           (ap (λ x. x ++ filter is_event (step_event_at me (aims.Down t) (Body b i) y n ∷ [])) all ∙ append_assoc before (events_at me (aims.Down t) (Body b i) y) (filter is_event (step_event_at me (aims.Down t) (Body b i) y n ∷ [])))

@@ -1,47 +1,45 @@
 -- what a tear-down keeps where it loads the tag of a block
-use Rattle.std.proofs.Common.{◌≡◌, ℕ, ◌+◌, ◌≤◌, ◌-◌, ◌/◌, ◌%◌, refl, sym, ap, ◌∙◌, subst, arith, not, List, [], ◌∷◌, ◌++◌, inl, inr}
+use Rattle.std.proofs.Common.{◌≡◌, ℕ, ◌+◌, ◌≤◌, refl, sym, ap, ◌∙◌, subst, arith, List, [], ◌∷◌, ◌++◌, inl, inr}
 use Rattle.std.specs.Prelude.{◌==◌, if◌then◌else◌}
 use Rattle.std.specs.List.{Contains, filter}
 use Rattle.std.proofs.lemmas.Bool.{cases_Bool, eqb-true}
 use Rattle.std.proofs.lemmas.List.{append-nil}
-use Rattle.std.proofs.lemmas.List.Elements.{Contains-append_right}
 use Rattle.shm_words.specs.declared.tag.Tag.{Tag as ATag}
 use Rattle.shm_words.specs.Tags.{tag_word, TagFits}
-use Rattle.shm_words.specs.Layout.{bodies, total_of}
+use Rattle.shm_words.specs.Layout.{total_of}
 use Rattle.shm_words.proofs.Words.{tag_of-word}
-use Rattle.shm_graph.specs.declared.ask.Ask.{Ask}
 use Rattle.shm_graph.specs.declared.ask.Ask.TheVariants.{Load}
 use Rattle.shm_graph.specs.declared.ask.Me.{Me}
 use Rattle.shm_graph.specs.declared.spot.Spot.{Spot}
 use Rattle.shm_graph.specs.declared.spot.Spot.TheVariants.{Tag, Body}
 use Rattle.shm_graph.specs.declared.memo.Memo.{Memo}
-use Rattle.shm_graph.specs.declared.memo.Stored.{Stored}
-use Rattle.shm_graph.specs.Asks.{Trail, at_of, seen_of, pair}
+use Rattle.shm_graph.specs.Asks.{Trail, at_of, pair}
 use Rattle.shm_graph.specs.Blocks.{classes}
 use Rattle.shm_graph.specs.Changes.{memo_on}
 use Rattle.shm_graph.specs.Events.{Event}
 use Rattle.shm_graph.specs.Laws.{Frame, framed, Stands, KeptAt}
-use Rattle.shm_graph.specs.Reach.{not_at, learnt}
+use Rattle.shm_graph.specs.Reach.{learnt}
 use Rattle.shm_graph.specs.Spots.{same_spot, spot_at}
 use Rattle.shm_graph.specs.Tells.{is_event}
 use Rattle.shm_graph.proofs.Loads.{choice}
-use Rattle.shm_graph.proofs.Spotting.{same_spot_is, block_within, tag_spot}
-use Rattle.shm_steps.proofs.BlockTold.{dying_true, dying_block}
+use Rattle.shm_graph.proofs.Spotting.{same_spot_is}
+use Rattle.shm_steps.proofs.BeginWords.{known_here}
+use Rattle.shm_steps.proofs.BlockTold.{dying_true}
 use Rattle.shm_steps.proofs.BodyLoads.{tag_loaded}
 use Rattle.shm_steps.proofs.Covering.{dying_told}
+use Rattle.shm_steps.proofs.KeptAfter.{kept_with}
 use Rattle.shm_count.specs.declared.tear_point.TearPoint.{TearPoint}
 use Rattle.shm_count.specs.declared.tear_point.TearPoint.TheVariants as point
 use Rattle.shm_count.specs.declared.tear_point.TearNext.TheVariants.{Go}
-use Rattle.shm_count.specs.DyingBlocks.{dying_tag}
+use Rattle.shm_count.specs.DyingBlocks.{dying_tag, dying_tag_spot}
 use Rattle.shm_count.specs.StepMemos.{recovers_after}
 use Rattle.shm_count.specs.TearControl.{or_empty, tag_read, word_or_free, entered_next, tear_ask_at, tear_next_at}
-use Rattle.shm_count.specs.TearCores.{stays_core, tag_core, Settled, settled_of, at_from, settled_same, on_words, knows_tag}
+use Rattle.shm_count.specs.TearCores.{stays_core, tag_core, settled_same, on_words}
 use Rattle.shm_count.specs.TearEvents.{Visit, tear_event_at}
-use Rattle.shm_count.specs.TearFits.{Linked, IsPaid, TearHolds, NextHolds}
-use Rattle.shm_count.specs.TearPaying.{paid_entered, paid_returned}
-use Rattle.shm_count.specs.TearStacks.{KeepsBlock, linked_kept, knows_learnt}
-use Rattle.shm_count.specs.TearStays.{Knows, IsTagged}
-use Rattle.shm_laws.proofs.Keep.{Contains-filter}
+use Rattle.shm_count.specs.TearFits.{Settled, Linked, IsPaid, TearHolds, NextHolds}
+use Rattle.shm_count.specs.TearBound.{paid_entered, paid_returned}
+use Rattle.shm_count.specs.TearStacks.{KeepsBlock, linked_kept, knows_learnt, knows_other}
+use Rattle.shm_count.specs.TearMemos.{Knows, IsTagged}
 
 -- ---- what a tear-down owes
 
@@ -51,26 +49,15 @@ TearKept me first r0 b w r f tr es y =
     KeptAt me w r (tear_ask_at me b y) f (λ n m. NextHolds me first r0 b (tear_next_at me b y n) m (es ++ filter is_event (tear_event_at me b y n ∷ [])) (tr ++ pair (tear_ask_at me b y) n ∷ []))
     (spot_at me.geometry (classes w) (at_of (tear_ask_at me b y)))
 
--- the law that a kind has, with what holds of the memo after the step
-pub kept_with : (me : Me) (w : Spot → ℕ) (r : ℕ → Memo) (a : Ask) (f : Frame) (after : ℕ → Memo → Type 0) (p : Spot) → spot_at me.geometry (classes w) (at_of a) ≡ p
-    → KeptAt me w r a f (λ n m. Unit {0}) (spot_at me.geometry (classes w) (at_of a))
-    → after (seen_of a (w p)) (memo_on (r me.who) (framed me a f (seen_of a (w p))) p)
-    → KeptAt me w r a f after (spot_at me.geometry (classes w) (at_of a))
-kept_with me w r a f after p e k x =
-    subst (KeptAt me w r a f after) (sym e)
-    (let law = subst (KeptAt me w r a f (λ n m. Unit {0})) e k in record { told = law.told; step = law.step; fits = x })
-
 -- where a word was read, all that was known is known still
 pub still_known : (m n : Memo) (p : Spot) (x : ℕ) → n.known ≡ learnt p x m.known → ((y : ℕ) → Knows m p y → x ≡ y) → (q : Spot) (y : ℕ) → Knows m q y → Knows n q y
 still_known m n p x e same q y k =
-    subst (λ (ks : List Stored). Contains ks (record { spot = q; value = y })) (sym e)
-    (elim (cases_Bool (same_spot p q)) [
+    elim (cases_Bool (same_spot p q)) [
       | inl z ↦ (let o : p ≡ q = same_spot_is p q z in
           let v : x ≡ y = same y (subst (λ (s : Spot). Knows m s y) (sym o) k) in
-          (0, omega arith, λ i. record { spot = o i; value = v i }))
-      | inr z ↦ Contains-append_right (record { spot = p; value = x } ∷ []) (filter (not_at p) m.known) (record { spot = q; value = y })
-          (Contains-filter (not_at p) m.known (record { spot = q; value = y }) k (ap not z))
-    ])
+          subst (λ (s : Spot). Knows n s y) o (subst (Knows n p) v (knows_learnt m n p x e)))
+      | inr z ↦ knows_other m n p x e q y z k
+    ]
 
 -- so that all that is known of blocks stays
 pub load_keeps : (m n : Memo) (b : ℕ) → n.dying ≡ m.dying → ((q : Spot) (y : ℕ) → Knows m q y → Knows n q y) → KeepsBlock m n b
@@ -82,16 +69,9 @@ tag_is_read n g fits e = ap tag_read e ∙ ap or_empty (tag_of-word g fits)
 
 -- ---- a tag
 
--- the spot of the tag of a zero-count block
-pub tag_there : (me : Me) (w : Spot → ℕ) (r : ℕ → Memo) (f : Frame) (tr : Trail) (b : ℕ) → Stands me w r f tr → Contains (r me.who).dying b → spot_at me.geometry (classes w) (b + 1) ≡ Tag b
-tag_there me w r f tr b st d =
-    let g = me.geometry in
-    let is = dying_block g w r me.who b st.held st.who d in
-    tag_spot g (classes w) b is (st.held.sizes.classes ((b - bodies g) / 2048) ((b - bodies g) / 128 % 16) (block_within g (classes w) b is).2)
-
 -- the load of the tag of a zero-count block
 tag_step : (me : Me) (w : Spot → ℕ) (r : ℕ → Memo) (f : Frame) (tr : Trail) (b : ℕ) → Stands me w r f tr → Contains (r me.who).dying b → KeptAt me w r (Load (b + 1)) f (λ n m. Unit {0}) (spot_at me.geometry (classes w) (b + 1))
-tag_step me w r f tr b st d = tag_loaded me w r f tr (b + 1) b st (tag_there me w r f tr b st d) (dying_told me.who (r me.who) b (dying_true (r me.who) b d))
+tag_step me w r f tr b st d = tag_loaded me w r f tr (b + 1) b st (dying_tag_spot me.geometry w r me.who b st.held st.who d) (dying_told me.who (r me.who) b (dying_true (r me.who) b d))
 
 module _ (me : Me) (first : ℕ) (r0 : Memo) (b k : ℕ) (vs : List Visit) (w : Spot → ℕ) (r : ℕ → Memo) (f : Frame) (tr : Trail) (es : List Event) (st : Stands me w r f tr) (s : Settled me first b k vs r0 (r me.who) es) where
   -- the tag word, the memo before, and the memo once the tag was loaded
@@ -114,7 +94,7 @@ module _ (me : Me) (first : ℕ) (r0 : Memo) (b k : ℕ) (vs : List Visit) (w : 
   same = ap (λ (x : Memo). x.dying) (tag_core me f m (b + 1) b n)
 
   known_still : (q : Spot) (y : ℕ) → Knows m q y → Knows m2 q y
-  known_still = still_known m m2 (Tag b) n learns (λ y k. knows_tag me.geometry w r me.who b y st.held st.who k)
+  known_still = still_known m m2 (Tag b) n learns (λ y k. (known_here me.geometry w r me.who st.held st.who (Tag b) y k).0)
 
   settled : Settled me first b k vs r0 m2 es
   settled =
@@ -139,18 +119,18 @@ module _ (me : Me) (first : ℕ) (r0 : Memo) (b k : ℕ) (vs : List Visit) (w : 
       subst (λ (h : ATag). NextHolds me first r0 b (Go b (if h.link == l then word_or_free h 0 else point.Link (record h { link = l }))) m2 es tr2) (sym (tag_is_read n g x.2 x.1))
       (choice (λ (y : TearPoint). TearHolds me first r0 b y m2 es tr2) (g.link == l) (word_or_free g 0) (point.Link (record g { link = l }))
       (λ z. on_words me first b 0 0 vs g r0 m2 es tr2 s0 t (subst (λ j. Linked me m2 j vs) (sym (eqb-true g.link l z)) (linked l link)) (omega arith) (paid_entered b vs es tr (pair (Load (b + 1)) n) (point.Enter l) g g paid refl refl).0)
-      (λ z. (0, vs, at_from me first b 0 vs (point.Link (record g { link = l })) r0 m2 es tr2 s0 (refl, linked l link, (g, t, refl)) (paid_entered b vs es tr (pair (Load (b + 1)) n) (point.Enter l) g (record g { link = l }) paid refl refl).1)))
+      (λ z. (0, vs, record { settled = s0; shows = (refl, linked l link, (g, t, refl)); paid = (paid_entered b vs es tr (pair (Load (b + 1)) n) (point.Enter l) g (record g { link = l }) paid refl refl).1 })))
 
   -- a block that is come back to: its words come again
   returned : (g : ATag) → IsTagged me m b g → Linked me m g.link vs → IsPaid (record { block = b; cleared = k } ∷ vs) k point.Return es tr → NextHolds me first r0 b (Go b (word_or_free (tag_read n) 0)) m2 es tr2
   returned g t link paid =
-      let e : n ≡ tag_word g = knows_tag me.geometry w r me.who b (tag_word g) st.held st.who t.tag in
+      let e : n ≡ tag_word g = (known_here me.geometry w r me.who st.held st.who (Tag b) (tag_word g) t.tag).0 in
       subst (λ (h : ATag). TearHolds me first r0 b (word_or_free h 0) m2 es tr2) (sym (tag_is_read n g t.fits e))
       (on_words me first b k 0 vs g r0 m2 es tr2 settled (tagged g t.fits e t.room) (linked g.link link) (omega arith) (paid_returned b vs es tr (pair (Load (b + 1)) n) k g paid))
 
   -- the load, with what holds of the memo then
   tag_kept : (after : ℕ → Memo → Type 0) → after n m2 → KeptAt me w r (Load (b + 1)) f after (spot_at me.geometry (classes w) (b + 1))
-  tag_kept after x = kept_with me w r (Load (b + 1)) f after (Tag b) (tag_there me w r f tr b st s.visited.dying) (tag_step me w r f tr b st s.visited.dying) x
+  tag_kept after x = kept_with me w r (Load (b + 1)) f after (Tag b) (spot_at me.geometry (classes w) (b + 1)) (dying_tag_spot me.geometry w r me.who b st.held st.who s.visited.dying) (tag_step me w r f tr b st s.visited.dying) x
 
 -- where no event is added
 pub unchanged : (P : List Event → Type 0) (es : List Event) → P es → P (es ++ [])
@@ -159,7 +139,7 @@ unchanged P es x = subst P (sym (append-nil es)) x
 -- the block that was given is entered
 pub begin_step : (me : Me) (first : ℕ) (r0 : Memo) (b : ℕ) (w : Spot → ℕ) (r : ℕ → Memo) (f : Frame) (tr : Trail) (es : List Event) → Stands me w r f tr → TearHolds me first r0 b point.Begin (r me.who) es tr → TearKept me first r0 b w r f tr es point.Begin
 begin_step me first r0 b w r f tr es st (k, vs, a) =
-    let s = settled_of me first b k vs point.Begin r0 (r me.who) es tr a in
+    let s = a.settled in
     let paid : IsPaid (record { block = b; cleared = 0 } ∷ vs) 0 (point.Enter 0) es tr = subst (λ j. IsPaid (record { block = b; cleared = j } ∷ vs) j (point.Enter 0) es tr) a.shows.0 a.paid in
     tag_kept me first r0 b k vs w r f tr es st s (λ n x. NextHolds me first r0 b (entered_next b 0 n) x (es ++ []) (tr ++ pair (Load (b + 1)) n ∷ []))
     (unchanged (λ e. NextHolds me first r0 b (entered_next b 0 (w (Tag b))) (m2 me first r0 b k vs w r f tr es st s) e (tr2 me first r0 b k vs w r f tr es st s)) es (entered me first r0 b k vs w r f tr es st s 0 a.shows.0 a.shows.1 paid))
@@ -167,7 +147,7 @@ begin_step me first r0 b w r f tr es st (k, vs, a) =
 -- a block whose count came to 0 on the way is entered
 pub enter_step : (me : Me) (first : ℕ) (r0 : Memo) (b l : ℕ) (w : Spot → ℕ) (r : ℕ → Memo) (f : Frame) (tr : Trail) (es : List Event) → Stands me w r f tr → TearHolds me first r0 b (point.Enter l) (r me.who) es tr → TearKept me first r0 b w r f tr es (point.Enter l)
 enter_step me first r0 b l w r f tr es st (k, vs, a) =
-    let s = settled_of me first b k vs (point.Enter l) r0 (r me.who) es tr a in
+    let s = a.settled in
     let paid : IsPaid (record { block = b; cleared = 0 } ∷ vs) 0 (point.Enter l) es tr = subst (λ j. IsPaid (record { block = b; cleared = j } ∷ vs) j (point.Enter l) es tr) a.shows.0 a.paid in
     tag_kept me first r0 b k vs w r f tr es st s (λ n x. NextHolds me first r0 b (entered_next b l n) x (es ++ []) (tr ++ pair (Load (b + 1)) n ∷ []))
     (unchanged (λ e. NextHolds me first r0 b (entered_next b l (w (Tag b))) (m2 me first r0 b k vs w r f tr es st s) e (tr2 me first r0 b k vs w r f tr es st s)) es (entered me first r0 b k vs w r f tr es st s l a.shows.0 a.shows.1 paid))
@@ -175,6 +155,6 @@ enter_step me first r0 b l w r f tr es st (k, vs, a) =
 -- a block is come back to
 pub return_step : (me : Me) (first : ℕ) (r0 : Memo) (b : ℕ) (w : Spot → ℕ) (r : ℕ → Memo) (f : Frame) (tr : Trail) (es : List Event) → Stands me w r f tr → TearHolds me first r0 b point.Return (r me.who) es tr → TearKept me first r0 b w r f tr es point.Return
 return_step me first r0 b w r f tr es st (k, vs, a) =
-    let s = settled_of me first b k vs point.Return r0 (r me.who) es tr a in
+    let s = a.settled in
     tag_kept me first r0 b k vs w r f tr es st s (λ n x. NextHolds me first r0 b (Go b (word_or_free (tag_read n) 0)) x (es ++ []) (tr ++ pair (Load (b + 1)) n ∷ []))
     (unchanged (λ e. NextHolds me first r0 b (Go b (word_or_free (tag_read (w (Tag b))) 0)) (m2 me first r0 b k vs w r f tr es st s) e (tr2 me first r0 b k vs w r f tr es st s)) es (returned me first r0 b k vs w r f tr es st s a.shows.0 a.shows.1 a.shows.2 a.paid))

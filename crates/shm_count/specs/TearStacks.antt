@@ -20,7 +20,7 @@ use Rattle.shm_graph.proofs.Spotting.{same_spot_not}
 use Rattle.shm_laws.proofs.Keep.{newest, Contains-filter}
 use Rattle.shm_count.specs.TearEvents.{Walk, Freed, Kept, Fell, InOrder, events_of, Visit, Walks, freed_by, frees}
 use Rattle.shm_count.specs.TearFits.{IsVisited, Linked, is_visit_of, is_outside, IsApart}
-use Rattle.shm_count.specs.TearStays.{Knows, IsTagged, Lowered}
+use Rattle.shm_count.specs.TearMemos.{Knows, IsTagged, Lowered}
 
 -- ---- walks
 

@@ -27,18 +27,20 @@ use Rattle.shm_steps.specs.Conditions.{IsHere}
 use Rattle.shm_steps.specs.Preparing.{KnowsDying}
 use Rattle.shm_steps.proofs.BlockTold.{dying_true, dying_block}
 use Rattle.shm_steps.proofs.DyingSteps.{frees, links}
+use Rattle.shm_steps.proofs.KeptAfter.{kept_with}
 use Rattle.shm_count.specs.declared.tear_point.TearPoint.TheVariants as point
 use Rattle.shm_count.specs.declared.tear_point.TearNext.TheVariants.{Go, Answer}
 use Rattle.shm_count.specs.StepFits.{core}
 use Rattle.shm_count.specs.StepMemos.{recovers_after, here_same}
 use Rattle.shm_count.specs.TearControl.{word_or_free, freed_next}
-use Rattle.shm_count.specs.TearCores.{stays_then, stays_core, link_core, free_core, Settled, settled_of, at_from, settled_same, on_words}
+use Rattle.shm_count.specs.TearCores.{stays_then, stays_core, link_core, free_core, settled_same, on_words}
 use Rattle.shm_count.specs.TearEvents.{Visit}
-use Rattle.shm_count.specs.TearFits.{CanTear, Linked, is_outside, TearAt, TearHolds, NextHolds}
-use Rattle.shm_count.specs.TearPaying.{paid_linked, paid_freed, paid_done}
-use Rattle.shm_count.specs.TearReading.{TearKept, kept_with, tag_there, unchanged}
+use Rattle.shm_count.specs.TearFits.{Settled, CanTear, Linked, is_outside, TearAt, TearHolds, NextHolds}
+use Rattle.shm_count.specs.TearBound.{paid_linked, paid_freed, paid_done}
+use Rattle.shm_count.specs.TearReading.{TearKept, unchanged}
+use Rattle.shm_count.specs.DyingBlocks.{dying_tag_spot}
 use Rattle.shm_count.specs.TearStacks.{walks_freed, frees_free, others_freed, others_last, outside_other, KeepsBlock, visited_kept, tagged_kept, linked_kept, knows_learnt, keeps_learnt, keeps_freed}
-use Rattle.shm_count.specs.TearStays.{Stays, IsTagged}
+use Rattle.shm_count.specs.TearMemos.{Stays, IsTagged}
 
 -- no step is in progress at the points beside those of a step down
 is_idle : (me : Me) (first : ℕ) (r0 m : Memo) → CanTear me first r0 → Stays me.who r0 m → m.op ≡ op.Nothing
@@ -81,14 +83,14 @@ module _ (me : Me) (first : ℕ) (r0 : Memo) (b : ℕ) (vs : List Visit) (g : AT
 
   link_kept : (after : ℕ → Memo → Type 0) → after 0 m2 → KeptAt me w r (Store (b + 1) x) f after (spot_at me.geometry (classes w) (b + 1))
   link_kept after y =
-      let knows : KnowsDying m b (tag_word h) = record { here = is_here me first r0 m can a.stays; idle = is_idle me first r0 m can a.stays; dying = a.visited.dying; tagged = old.tag } in
-      kept_with me w r (Store (b + 1) x) f after (Tag b) (tag_there me w r f tr b st a.visited.dying)
-      (links me w r f tr (b + 1) b (tag_word h) x st going (tag_there me w r f tr b st a.visited.dying)
+      let knows : KnowsDying m b (tag_word h) = record { here = is_here me first r0 m can a.settled.stays; idle = is_idle me first r0 m can a.settled.stays; dying = a.settled.visited.dying; tagged = old.tag } in
+      kept_with me w r (Store (b + 1) x) f after (Tag b) (spot_at me.geometry (classes w) (b + 1)) (dying_tag_spot me.geometry w r me.who b st.held st.who a.settled.visited.dying)
+      (links me w r f tr (b + 1) b (tag_word h) x st going (dying_tag_spot me.geometry w r me.who b st.held st.who a.settled.visited.dying)
       (record { knows = knows; shape = ap (λ z. tag_word z / 2 ^ 20) new ∙ link_shape h g.link old.fits.link fits.link; small = tag_word_small g fits }))
       y
 
   cored : core m2 ≡ core (record m { known = learnt (Tag b) x m.known })
-  cored = link_core me f m (b + 1) b x (dying_true m b a.visited.dying)
+  cored = link_core me f m (b + 1) b x (dying_true m b a.settled.visited.dying)
 
   learns : m2.known ≡ learnt (Tag b) x m.known
   learns = ap (λ (y : Memo). y.known) cored
@@ -98,12 +100,12 @@ module _ (me : Me) (first : ℕ) (r0 : Memo) (b : ℕ) (vs : List Visit) (g : AT
 
   settled : Settled me first b 0 vs r0 m2 es
   settled =
-      settled_same me first b 0 vs r0 m m2 es (settled_of me first b 0 vs (point.Link g) r0 m es tr a) (stays_core me.who m m2 (learnt (Tag b) x m.known) m.dying cored) same
+      settled_same me first b 0 vs r0 m m2 es a.settled (stays_core me.who m m2 (learnt (Tag b) x m.known) m.dying cored) same
       (recovers_after m (framed me (Store (b + 1) x) f 0) (Tag b))
       (λ j l. absurd (omega arith))
 
   linked : Linked me m2 g.link vs
-  linked = linked_kept me m m2 g.link vs (λ v i. keeps_learnt m m2 (Tag b) x learns v.block same (ne_eqb b v.block (λ e. outside_other vs b v a.apart.0 i (sym e)))) a.shows.1
+  linked = linked_kept me m m2 g.link vs (λ v i. keeps_learnt m m2 (Tag b) x learns v.block same (ne_eqb b v.block (λ e. outside_other vs b v a.settled.apart.0 i (sym e)))) a.shows.1
 
   tagged : IsTagged me m2 b g
   tagged = record { fits = fits; tag = knows_learnt m m2 (Tag b) x learns; room = subst (λ n. b + 2 + n ≤ total_of me.geometry) (sym (ap (λ (z : ATag). z.refs) new)) old.room }
@@ -150,11 +152,11 @@ module _ (me : Me) (first : ℕ) (r0 : Memo) (b k : ℕ) (g : ATag) (w : Spot �
   free_kept vs a after y =
       let t : IsTagged me m' b g = a.shows.0 in
       let l = a.shows.2 in
-      let is = dying_block me.geometry w r me.who b st.held st.who a.visited.dying in
-      let knows : KnowsDying m' b (tag_word g) = record { here = is_here me first r0 m' can a.stays; idle = is_idle me first r0 m' can a.stays; dying = a.visited.dying; tagged = t.tag } in
-      kept_with me w r (Store b 0) f after (Head b) is
+      let is = dying_block me.geometry w r me.who b st.held st.who a.settled.visited.dying in
+      let knows : KnowsDying m' b (tag_word g) = record { here = is_here me first r0 m' can a.settled.stays; idle = is_idle me first r0 m' can a.settled.stays; dying = a.settled.visited.dying; tagged = t.tag } in
+      kept_with me w r (Store b 0) f after (Head b) (spot_at me.geometry (classes w) b) is
       (frees me w r f tr b b (tag_word g) st going is
-      (record { knows = knows; zeros = λ i low. a.visited.zeros i (let q = tag_refs-word g t.fits in omega arith) }))
+      (record { knows = knows; zeros = λ i low. a.settled.visited.zeros i (let q = tag_refs-word g t.fits in omega arith) }))
       y
 
   -- the last block is free
@@ -162,9 +164,9 @@ module _ (me : Me) (first : ℕ) (r0 : Memo) (b k : ℕ) (g : ATag) (w : Spot �
   last_holds a =
       subst (λ z. NextHolds me first r0 b (if z == 0 then Answer (Ok tt) else Go z point.Return) free_memo free_events free_trail) (sym a.shows.1)
       (record {
-        stays = free_stays a.stays;
-        others = frees_dying ∙ others_last b k m'.dying _ a.others;
-        walks = walks_freed me.who first es b k [] a.walks;
+        stays = free_stays a.settled.stays;
+        others = frees_dying ∙ others_last b k m'.dying _ a.settled.others;
+        walks = walks_freed me.who first es b k [] a.settled.walks;
         bound = paid_done b k es free_events tr (pair (Store b 0) 0) g a.paid (frees_free es me.who b);
       })
 
@@ -175,22 +177,23 @@ module _ (me : Me) (first : ℕ) (r0 : Memo) (b k : ℕ) (g : ATag) (w : Spot �
       let o : g.link ≡ v.block = link.0 in
       let some : v.block ≢ 0 = (let u = link.1.inside.0 in λ e. absurd (omega arith)) in
       let keeps : (u : Visit) → u.block ≢ b → KeepsBlock m' free_memo u.block = λ u n. keeps_freed m' free_memo b u.block frees_known frees_dying n in
-      let here : KeepsBlock m' free_memo v.block = keeps v (outside_other (v ∷ vs) b v a.apart.0 (0, omega arith, refl)) in
+      let here : KeepsBlock m' free_memo v.block = keeps v (outside_other (v ∷ vs) b v a.settled.apart.0 (0, omega arith, refl)) in
       subst (λ z. NextHolds me first r0 b (if z == 0 then Answer (Ok tt) else Go z point.Return) free_memo free_events free_trail) (sym o)
       (subst (λ q. NextHolds me first r0 b (if q then Answer (Ok tt) else Go v.block point.Return) free_memo free_events free_trail) (sym (ne_eqb v.block 0 some)) (
         v.cleared,
         vs,
-        at_from me first v.block v.cleared vs point.Return r0 free_memo free_events free_trail
-            (record {
-              agent = recovers_after m' (framed me (Store b 0) f 0) (Head b) ∙ a.agent;
-              stays = free_stays a.stays;
-              visited = visited_kept me m' free_memo v here link.1;
-              apart = a.apart.1;
-              others = ap (filter (is_outside (v ∷ vs))) frees_dying ∙ others_freed b k (v ∷ vs) m'.dying _ a.others;
-              walks = walks_freed me.who first es b k (v ∷ vs) a.walks;
-            })
-            ((link.2).0, tagged_kept me m' free_memo v.block (link.2).0 here (link.2).1, linked_kept me m' free_memo ((link.2).0).link vs (λ u i. keeps u (outside_other (v ∷ vs) b u a.apart.0 (Contains-append_right (v ∷ []) vs u i))) (link.2).2)
-            (paid_freed b vs es tr (pair (Store b 0) 0) k v.block v.cleared g free_events a.paid (frees_free es me.who b) link.1.most),
+        record {
+          settled = (record {
+            agent = recovers_after m' (framed me (Store b 0) f 0) (Head b) ∙ a.settled.agent;
+            stays = free_stays a.settled.stays;
+            visited = visited_kept me m' free_memo v here link.1;
+            apart = a.settled.apart.1;
+            others = ap (filter (is_outside (v ∷ vs))) frees_dying ∙ others_freed b k (v ∷ vs) m'.dying _ a.settled.others;
+            walks = walks_freed me.who first es b k (v ∷ vs) a.settled.walks;
+          });
+          shows = ((link.2).0, tagged_kept me m' free_memo v.block (link.2).0 here (link.2).1, linked_kept me m' free_memo ((link.2).0).link vs (λ u i. keeps u (outside_other (v ∷ vs) b u a.settled.apart.0 (Contains-append_right (v ∷ []) vs u i))) (link.2).2);
+          paid = (paid_freed b vs es tr (pair (Store b 0) 0) k v.block v.cleared g free_events a.paid (frees_free es me.who b) link.1.most);
+        },
       ))
 
   free_holds : (vs : List Visit) (a : TearAt me first b k vs (point.Free g) r0 m' es tr) → NextHolds me first r0 b (freed_next g) free_memo free_events free_trail

@@ -1,10 +1,9 @@
 -- what a tear-down keeps where it loads a reference word
-use Rattle.std.proofs.Common.{◌≡◌, ◌≢◌, ℕ, ◌+◌, ◌%◌, ◌^◌, ◌<◌, ◌≤◌, refl, sym, ap, ◌∙◌, subst, arith, List, [], ◌∷◌, ◌++◌, Option, Some, None, inl, inr}
+use Rattle.std.proofs.Common.{◌≡◌, ◌≢◌, ℕ, ◌+◌, ◌%◌, ◌^◌, ◌<◌, refl, sym, ap, ◌∙◌, subst, arith, List, [], ◌∷◌, ◌++◌, Option, Some, None, inl, inr}
 use Rattle.std.specs.Prelude.{◌==◌, if◌then◌else◌}
 use Rattle.std.specs.List.{Contains}
 use Rattle.std.proofs.lemmas.Bool.{cases_eq, eq-eqb, ne_eqb, true≢false}
 use Rattle.std.proofs.lemmas.List.{append-nil}
-use Rattle.shm_words.specs.declared.geometry.Geometry.{Geometry}
 use Rattle.shm_words.specs.declared.tag.Tag.{Tag as ATag}
 use Rattle.shm_words.specs.Tags.{tag_word, tag_refs}
 use Rattle.shm_words.proofs.Placing.{total_small}
@@ -14,8 +13,6 @@ use Rattle.shm_graph.specs.declared.ask.Me.{Me}
 use Rattle.shm_graph.specs.declared.spot.Spot.{Spot}
 use Rattle.shm_graph.specs.declared.spot.Spot.TheVariants.{Home, Era, Tag, Body}
 use Rattle.shm_graph.specs.declared.memo.Memo.{Memo}
-use Rattle.shm_graph.specs.declared.memo.Half.TheVariants.{Raising}
-use Rattle.shm_graph.specs.declared.memo.Op.{Op}
 use Rattle.shm_graph.specs.declared.memo.Op.TheVariants as op
 use Rattle.shm_graph.specs.declared.memo.Stored.{Stored}
 use Rattle.shm_graph.specs.Asks.{Trail, pair}
@@ -23,49 +20,39 @@ use Rattle.shm_graph.specs.Blocks.{classes}
 use Rattle.shm_graph.specs.Chains.{part_set}
 use Rattle.shm_graph.specs.Changes.{called, memo_on}
 use Rattle.shm_graph.specs.Events.{Event}
-use Rattle.shm_graph.specs.Held.{room_of}
 use Rattle.shm_graph.specs.Laws.{Frame, framed, Stands, KeptAt}
 use Rattle.shm_graph.specs.Ops.{cover, cover_of}
 use Rattle.shm_graph.specs.Reach.{learnt, shown}
-use Rattle.shm_graph.specs.Spots.{spot_at, spot_address}
+use Rattle.shm_graph.specs.Spots.{spot_at}
 use Rattle.shm_graph.specs.Telling.{Claim, claims, claim_of}
 use Rattle.shm_graph.specs.Views.{own_word}
 use Rattle.shm_graph.proofs.Calling.{called_part}
 use Rattle.shm_graph.proofs.LoadTold.{claim_found}
 use Rattle.shm_steps.specs.Conditions.{IsHere}
 use Rattle.shm_steps.specs.Reading.{IsCovered, IsSettled, MayLookBy, MayLook}
-use Rattle.shm_steps.proofs.BeginWords.{listed_covered}
+use Rattle.shm_steps.proofs.BeginWords.{listed_covered, known_here}
+use Rattle.shm_steps.proofs.BeginWords as begin
 use Rattle.shm_steps.proofs.BlockTold.{dying_true}
 use Rattle.shm_steps.proofs.BodyLoads.{word_loaded}
+use Rattle.shm_steps.proofs.KeptAfter.{kept_with}
 use Rattle.shm_count.specs.declared.point.Aim.TheVariants as aims
 use Rattle.shm_count.specs.declared.point.StepPoint.TheVariants as step
 use Rattle.shm_count.specs.declared.tear_point.TearPoint.TheVariants as point
 use Rattle.shm_count.specs.declared.tear_point.TearNext.TheVariants.{Go}
 use Rattle.shm_count.specs.DyingBlocks.{dying_spot, dying_target, dying_part}
 use Rattle.shm_count.specs.StepFits.{core, CanStep}
-use Rattle.shm_count.specs.StepMemos.{recovers_after, here_same}
+use Rattle.shm_count.specs.StepMemos.{room_least, recovers_after, here_same}
 use Rattle.shm_count.specs.TearControl.{word_address, word_or_free, word_next}
-use Rattle.shm_count.specs.TearCores.{stays_core, word_core, Settled, settled_of, at_from, settled_same, on_words, knows_tag, knows_word}
+use Rattle.shm_count.specs.TearCores.{stays_core, word_core, settled_same, on_words}
 use Rattle.shm_count.specs.TearEvents.{Visit}
-use Rattle.shm_count.specs.TearFits.{CanTear, Linked, TearAt, TearHolds, NextHolds}
+use Rattle.shm_count.specs.TearFits.{Settled, CanTear, Linked, TearAt, TearHolds, NextHolds}
 use Rattle.shm_count.specs.TearLaws.{word_address_is}
-use Rattle.shm_count.specs.TearPaying.{paid_again, paid_empty, paid_found}
-use Rattle.shm_count.specs.TearReading.{TearKept, kept_with, still_known, load_keeps, unchanged}
+use Rattle.shm_count.specs.TearBound.{paid_again, paid_empty, paid_found}
+use Rattle.shm_count.specs.TearReading.{TearKept, still_known, load_keeps, unchanged}
 use Rattle.shm_count.specs.TearStacks.{walks_later, knows_learnt, linked_kept, tagged_kept}
-use Rattle.shm_count.specs.TearStays.{Knows, IsTagged, IsFound}
+use Rattle.shm_count.specs.TearMemos.{Knows, IsTagged, IsFound}
 
 -- ---- addresses
-
--- the address of a reference word
-pub body_address : (g : Geometry) (b i : ℕ) → spot_address g (Body b i) ≡ b + 2 + i
-unfolding spot_address
-body_address g b i = refl
-
--- each own era leaves room for two more
-room_least : (o : Op) → 2 ≤ room_of o
-room_least op.Nothing = omega arith
-room_least (op.Change (Raising s) p a b e) = omega arith
-room_least _ = omega arith
 
 -- ---- the load
 
@@ -102,7 +89,7 @@ module _ (me : Me) (first : ℕ) (r0 : Memo) (b k : ℕ) (vs : List Visit) (g : 
   tag = a.shows.0
 
   idle : m.op ≡ op.Nothing
-  idle = a.stays.op ∙ can.idle
+  idle = a.settled.stays.op ∙ can.idle
 
   here : at ≡ b + 2 + i
   here = word_address_is me b i can.geometry (let l = tag.room in let u = a.shows.2 in omega arith)
@@ -111,15 +98,15 @@ module _ (me : Me) (first : ℕ) (r0 : Memo) (b k : ℕ) (vs : List Visit) (g : 
   low = subst (λ z. i < z) (sym (tag_refs-word g tag.fits)) a.shows.2
 
   low_here : i < tag_refs (w (Tag b))
-  low_here = subst (λ z. i < tag_refs z) (sym (knows_tag me.geometry w r c b (tag_word g) st.held st.who tag.tag)) low
+  low_here = subst (λ z. i < tag_refs z) (sym ((known_here me.geometry w r c st.held st.who (Tag b) (tag_word g) tag.tag).0)) low
 
   there : spot_at me.geometry (classes w) at ≡ Body b i
-  there = ap (spot_at me.geometry (classes w)) here ∙ dying_spot me.geometry w r c b st.held st.who a.visited.dying i low_here
+  there = ap (spot_at me.geometry (classes w)) here ∙ dying_spot me.geometry w r c b st.held st.who a.settled.visited.dying i low_here
 
   -- the load, with what holds of the memo then
   word_kept : (after : ℕ → Memo → Type 0) → after n m2 → KeptAt me w r (Load at) f after (spot_at me.geometry (classes w) at)
   word_kept after x =
-      kept_with me w r (Load at) f after (Body b i) there
+      kept_with me w r (Load at) f after (Body b i) (spot_at me.geometry (classes w) at) there
       (word_loaded me w r f tr at b i st there (subst (IsCovered c m) (sym here) (listed_covered c m b i (tag_word g) tag.tag low)) (settled_word m c b i idle))
       x
 
@@ -132,7 +119,7 @@ module _ (me : Me) (first : ℕ) (r0 : Memo) (b k : ℕ) (vs : List Visit) (g : 
       claim_found (b + 2 + i) (claims c N) y.0 y.1 y.2
 
   cored : core m2 ≡ core (record m { known = learnt (Body b i) n m.known })
-  cored = word_core me f m at b i n told.0 (dying_true m b a.visited.dying) told.1
+  cored = word_core me f m at b i n told.0 (dying_true m b a.settled.visited.dying) told.1
 
   learns : m2.known ≡ learnt (Body b i) n m.known
   learns = ap (λ (x : Memo). x.known) cored
@@ -141,13 +128,13 @@ module _ (me : Me) (first : ℕ) (r0 : Memo) (b k : ℕ) (vs : List Visit) (g : 
   same = ap (λ (x : Memo). x.dying) cored
 
   known_still : (q : Spot) (y : ℕ) → Knows m q y → Knows m2 q y
-  known_still = still_known m m2 (Body b i) n learns (λ y h. knows_word me.geometry w r c b i y st.held st.who h)
+  known_still = still_known m m2 (Body b i) n learns (λ y h. (known_here me.geometry w r c st.held st.who (Body b i) y h).0)
 
   settled : Settled me first b k vs r0 m2 es
   settled =
-      settled_same me first b k vs r0 m m2 es (settled_of me first b k vs (point.Word g i) r0 m es tr a) (stays_core c m m2 (learnt (Body b i) n m.known) m.dying cored) same
+      settled_same me first b k vs r0 m m2 es a.settled (stays_core c m m2 (learnt (Body b i) n m.known) m.dying cored) same
       (recovers_after m (framed me (Load at) f n) (Body b i))
-      (λ j l. known_still (Body b j) 0 (a.visited.zeros j l))
+      (λ j l. known_still (Body b j) 0 (a.settled.visited.zeros j l))
 
   linked : Linked me m2 g.link vs
   linked = linked_kept me m m2 g.link vs (λ v _. load_keeps m m2 v.block same known_still) a.shows.1
@@ -198,7 +185,7 @@ module _ (me : Me) (first : ℕ) (r0 : Memo) (b k : ℕ) (vs : List Visit) (g : 
 
   -- it is the next one, for those before are known to be empty
   is_next : n ≢ 0 → i ≡ k
-  is_next some = elim (cases_eq i k) [ inl u ↦ u | inr u ↦ absurd (some (knows_word me.geometry w r c b i 0 st.held st.who (a.visited.zeros i (let l = a.shows.3 in omega arith)))) ]
+  is_next some = elim (cases_eq i k) [ inl u ↦ u | inr u ↦ absurd (some ((known_here me.geometry w r c st.held st.who (Body b i) 0 (a.settled.visited.zeros i (let l = a.shows.3 in omega arith))).0)) ]
 
   room : own_word m2.own (Era c c) < 2 ^ 47
   room =
@@ -210,7 +197,7 @@ module _ (me : Me) (first : ℕ) (r0 : Memo) (b k : ℕ) (vs : List Visit) (g : 
 
   found : n ≢ 0 → IsFound me m2 b i n
   found some =
-      let y = dying_target me.geometry w r c b st.held st.who a.visited.dying idle i low_here some in
+      let y = dying_target me.geometry w r c b st.held st.who a.settled.visited.dying idle i low_here some in
       record {
         some = some;
         inside = y.1;
@@ -218,7 +205,7 @@ module _ (me : Me) (first : ℕ) (r0 : Memo) (b k : ℕ) (vs : List Visit) (g : 
         counted = λ h. y.0 (subst (λ (ds : List ℕ). Contains ds n) same h);
         word = knows_learnt m m2 (Body b i) n learns;
         era = room;
-        part = subst (λ (x : Memo). part_set x.known c (shown x (Home c)) (Body b i) 0 x.part ≡ x.part) (sym cored) (dying_part me.geometry w r c b st.held st.who a.visited.dying idle (learnt (Body b i) n m.known) i 0);
+        part = subst (λ (x : Memo). part_set x.known c (shown x (Home c)) (Body b i) 0 x.part ≡ x.part) (sym cored) (dying_part me.geometry w r c b st.held st.who a.settled.visited.dying idle (learnt (Body b i) n m.known) i 0);
       }
 
   -- the step down may begin
@@ -233,8 +220,8 @@ module _ (me : Me) (first : ℕ) (r0 : Memo) (b k : ℕ) (vs : List Visit) (g : 
         here = is;
         idle = own;
         client = λ e. absurd (true≢false (sym e));
-        at = here ∙ sym (body_address me.geometry b i);
-        inside = (let u = a.visited.inside.0 in let l = tag.room in let z = a.shows.2 in let q = here in (omega arith, omega arith));
+        at = here ∙ sym (begin.word_address me.geometry b i);
+        inside = (let u = a.settled.visited.inside.0 in let l = tag.room in let z = a.shows.2 in let q = here in (omega arith, omega arith));
         blocks = y.inside;
         can = λ l. record {
           may = record { here = is; idle = own; room = omega arith };
@@ -253,7 +240,7 @@ module _ (me : Me) (first : ℕ) (r0 : Memo) (b k : ℕ) (vs : List Visit) (g : 
     vs,
     m2,
     es,
-    at_from me first b k vs (point.Down g i n step.Era) r0 m2 es tr2 settled (tagged, linked, a.shows.2, is_next some, found some) (paid_found b vs es tr (pair (Load at) n) k g g i n a.paid),
+    record { settled = settled; shows = (tagged, linked, a.shows.2, is_next some, found some); paid = (paid_found b vs es tr (pair (Load at) n) k g g i n a.paid) },
     sym (append-nil es),
     may_step some,
     record { agent = refl; has = (refl, tt) },

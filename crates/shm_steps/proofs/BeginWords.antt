@@ -60,7 +60,7 @@ listed_covered c m b i t h l =
     )
 
 -- the address of a word of a block
-word_address : (g : Geometry) (b i : ℕ) → spot_address g (Body b i) ≡ b + 2 + i
+pub word_address : (g : Geometry) (b i : ℕ) → spot_address g (Body b i) ≡ b + 2 + i
 unfolding spot_address
 word_address g b i = refl
 
@@ -70,7 +70,7 @@ module _ (g : Geometry) (w : Spot → ℕ) (r : ℕ → Memo) (c : ℕ) (h : Hel
   m = r c
 
   -- what is known is so
-  known_here : (p : Spot) (x : ℕ) → Contains m.known (record { spot = p; value = x }) → KnownHolds g w (view r) c (record { spot = p; value = x })
+  pub known_here : (p : Spot) (x : ℕ) → Contains m.known (record { spot = p; value = x }) → KnownHolds g w (view r) c (record { spot = p; value = x })
   known_here p x k = All-contains (KnownHolds g w (view r) c) m.known (record { spot = p; value = x }) (h.known c l) k
 
   -- a block whose reference words c may store is live, and c may store them

@@ -26,3 +26,4 @@ pub mod Covering
 pub mod BeginAt
 pub mod BeginSlots
 pub mod BeginWords
+pub mod KeptAfter

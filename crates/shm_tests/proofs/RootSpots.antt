@@ -13,8 +13,6 @@ use Rattle.shm_words.specs.Layout.{GeometryFits, address, is_in}
 use Rattle.shm_words.proofs.Placing.{address_below, address_small, total_small}
 use Rattle.shm_graph.specs.declared.ask.Me.{Me}
 use Rattle.shm_graph.specs.declared.memo.Memo.{Memo}
-use Rattle.shm_graph.specs.declared.memo.Half.TheVariants.{Raising, Lowering}
-use Rattle.shm_graph.specs.declared.memo.Op.{Op}
 use Rattle.shm_graph.specs.declared.memo.Op.TheVariants as op
 use Rattle.shm_graph.specs.declared.memo.Status.TheVariants.{New, Live, Gone}
 use Rattle.shm_graph.specs.declared.spot.Spot.{Spot}
@@ -24,7 +22,7 @@ use Rattle.shm_graph.specs.declared.table.Part.TheVariants.{Loose, Table}
 use Rattle.shm_graph.specs.Agents.{recovers}
 use Rattle.shm_graph.specs.Asks.{Trail}
 use Rattle.shm_graph.specs.Blocks.{classes}
-use Rattle.shm_graph.specs.Held.{HeldAt, OpTie, room_of}
+use Rattle.shm_graph.specs.Held.{HeldAt, OpTie}
 use Rattle.shm_graph.specs.Idle.{IsIdle}
 use Rattle.shm_graph.specs.Ops.{cover, cover_of}
 use Rattle.shm_graph.specs.Reach.{in_slots, is_reached, named_blocks, not_zero, reached_blocks, roots_below, shown}
@@ -43,7 +41,7 @@ use Rattle.shm_count.specs.StepBeginning.{begins_here}
 use Rattle.shm_count.specs.StepControl.{AimFits, AimSmall, IsInside, block_at, last_era, raises, value_after}
 use Rattle.shm_count.specs.StepFits.{CanAim, CanStep, Done, HasPut, StepFits, StepGives, begun_op, closed_memo, set_memo, slot_memo}
 use Rattle.shm_count.specs.StepGoing.{begins}
-use Rattle.shm_count.specs.StepMemos.{closed_part}
+use Rattle.shm_count.specs.StepMemos.{room_least, closed_part}
 use Rattle.shm_tests.specs.Counting.{AreRootsReached, member, root_step}
 use Rattle.shm_tests.proofs.RootMemos.{StepLeft, up_done, down_done, change_done, left_done, left_refused}
 
@@ -147,15 +145,6 @@ roots_reached c m idle k b s some e =
     list_any-from_Contains nat_eq_equiv b (reached_blocks c m) (Contains-append_left (named_blocks c m) _ b named)
 
 -- ---- it is done
-
--- each state leaves the own era room for two more
-room_least : (o : Op) → 2 ≤ room_of o
-room_least op.Nothing = omega arith
-room_least (op.Alloc s p b e) = omega arith
-room_least (op.Up s p b e) = omega arith
-room_least (op.Down s p b e) = omega arith
-room_least (op.Change (Raising s) p a b e) = omega arith
-room_least (op.Change (Lowering s) p a b e) = omega arith
 
 module _ (g : Geometry) (c : ℕ) (l : c < g.clients) where
   abbrev me : Me
