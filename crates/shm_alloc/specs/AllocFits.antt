@@ -1,5 +1,5 @@
 -- when an allocation may begin, what its memo shows on the way, and what it leaves
-use Rattle.std.specs.Prelude.{◌≡◌, ◌≢◌, ℕ, ◌+◌, ◌-◌, ◌/◌, ◌^◌, ◌<◌, ◌≤◌, ◌==◌, Some, None, Result, Ok, Err, List, [], ◌∷◌, ◌++◌, slice_index}
+use Rattle.std.specs.Prelude.{true, ◌≡◌, ◌≢◌, ℕ, ◌+◌, ◌-◌, ◌/◌, ◌^◌, ◌<◌, ◌≤◌, ◌==◌, Some, None, Result, Ok, Err, List, [], ◌∷◌, ◌++◌, slice_index}
 use Rattle.std.specs.List.{Contains}
 use Rattle.shm_words.specs.declared.place.Place.TheVariants as place
 use Rattle.shm_words.specs.declared.redo.Redo.TheVariants as redos
@@ -35,6 +35,7 @@ use Rattle.shm_alloc.specs.declared.point.Next.TheVariants.{Point, Answer}
 use Rattle.shm_alloc.specs.AllocControl.{class_asked, tag_asked, AllocKnows, alloc_control}
 use Rattle.shm_alloc.specs.AllocEvents.{alloc_event, alloc_start, events_at, own_events}
 use Rattle.shm_alloc.specs.AllocTrail.{AllocTrails, alloc_trail, root_trail, segment_trail, page_trail, header_trail, block_trail, reference_trail, plain_trail, live_trail, commit_trail, slot_trail, close_trail, class_trail}
+use Rattle.shm_calls.specs.Grown.{Grows}
 
 -- ---- what the memo shows on the way
 
@@ -113,8 +114,8 @@ PointHas me q r0 r (Reference g b i) = (r.known ≡ r0.known) × (r.values ≡ r
 PointHas me q r0 r (Plain g b i) = (r.known ≡ r0.known) × (r.values ≡ r0.values) × GoalHas me.who r g × Prepares me.who q b q.refs i r
 PointHas me q r0 r (Redo g b) = (r.known ≡ r0.known) × (r.values ≡ r0.values) × GoalHas me.who r g × Prepares me.who q b q.refs q.count r
 PointHas me q r0 r (Commit g b) = (r.known ≡ r0.known) × (r.values ≡ r0.values) × GoalHas me.who r0 g × Prepares me.who q b q.refs q.count r
-PointHas me q r0 r (Slot g b) = (r.making ≡ None) × (r.values ≡ values_with r0 b (tag_asked q me.who)) × GoalHas me.who r0 g × Knows me.who q b r0 r
-PointHas me q r0 r (Close g b) = (r.making ≡ None) × (r.values ≡ values_with r0 b (tag_asked q me.who)) × GoalHas me.who r0 g × Knows me.who q b r0 r
+PointHas me q r0 r (Slot g b) = (r.making ≡ None) × (r.values ≡ values_with r0 b (tag_asked q me.who)) × GoalHas me.who r0 g × Knows me.who q b r0 r × Contains r.made b
+PointHas me q r0 r (Close g b) = (r.making ≡ None) × (r.values ≡ values_with r0 b (tag_asked q me.who)) × GoalHas me.who r0 g × Knows me.who q b r0 r × Contains r.made b
 PointHas me q r0 r Over = Unit {0}
 
 -- what follows where a segment has no free block, by how many headers were read
@@ -169,12 +170,13 @@ pub record AllocFits (m : AllocState) (r0 r : Memo) (tr : Trail) : Type 0 where
   pub can : CanAlloc m.me r0
   pub knows : AllocKnows m
   pub begun : m.point ≢ Era → tr ≢ []
+  pub grows : Grows true r0 r
   pub holds : PointHolds m.me m.request r0 r m.point
   pub trail : (rest : Trail) (a : Result Made AllocFault) → point_trail m.me m.request m.point rest a → alloc_trail m.me m.request (tr ++ rest) a
   pub course : after_all alloc_control (alloc_start m) tr ≡ m
   pub events : happens_along alloc_control alloc_event (alloc_start m) tr ≡ events_at m.me m.point
 
--- a block was made: the own era left room, the block is named by the least empty root, its words are known, and the own era is the next one
+-- a block was made: the own era left room, the block is named by the least empty root, its words are known, it is one that the call made, and the own era is the next one
 pub record MadeGives (me : Me) (q : Request) (r0 r : Memo) (a : Made) : Type 0 where
   pub room : own_word r0.own (spot.Era me.who me.who) ≤ 2 ^ 47 - 3
   pub root : a.root < 16
@@ -183,6 +185,7 @@ pub record MadeGives (me : Me) (q : Request) (r0 r : Memo) (a : Made) : Type 0 w
   pub own : r.own ≡ record { spot = spot.Era me.who me.who; value = own_word r0.own (spot.Era me.who me.who) + 1 } ∷ record { spot = spot.Root me.who a.root; value = a.block } ∷ redo_stored me (record { era = own_word r0.own (spot.Era me.who me.who); root = a.root }) a.block ∷ r0.own
   pub knows : Knows me.who q a.block r0 r
   pub values : r.values ≡ values_with r0 a.block (tag_asked q me.who)
+  pub made : Contains r.made a.block
 
 -- nothing was made: own words and what is known are as they were
 pub record RefusedGives (r0 r : Memo) : Type 0 where
@@ -212,8 +215,9 @@ abbrev pub NextHolds : Me → Request → Memo → Memo → Next → Type 0
 NextHolds me q r0 r (Point p) = PointHolds me q r0 r p
 NextHolds me q r0 r (Answer a) = AnswerHolds me q r0 r a
 
--- the identity is between two calls, its trail is whole, and its own events are those of the answer
+-- the identity is between two calls, its agent is what it was, what was read of tails and heads stays, its trail is whole, and its own events are those of the answer
 pub record AllocGives (m : AllocState) (r0 r : Memo) (tr : Trail) (a : Result Made AllocFault) : Type 0 where
   pub holds : AnswerHolds m.me m.request r0 r a
+  pub grows : Grows true r0 r
   pub trail : alloc_trail m.me m.request tr a
   pub events : happens_along alloc_control alloc_event (alloc_start m) tr ≡ own_events m.me a

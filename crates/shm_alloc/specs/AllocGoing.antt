@@ -29,6 +29,7 @@ use Rattle.shm_alloc.specs.AllocControl.{alloc_ask, alloc_ask_at, alloc_next, al
 use Rattle.shm_alloc.specs.AllocEvents.{alloc_event, alloc_event_at, alloc_start, events_at, own_events}
 use Rattle.shm_alloc.specs.AllocTrail.{AllocTrails, alloc_trail, root_trail, segment_trail, page_trail, header_trail, class_trail, block_trail, reference_trail, plain_trail}
 use Rattle.shm_alloc.specs.AllocFits.{AllocFits, AllocGives, CanAlloc, PointHolds, AnswerHolds, Stays, claim_trail, point_trail, pages_after, segments_after}
+use Rattle.shm_calls.specs.Grown.{Grows, grows_now}
 
 -- ---- the numbers of what is left
 
@@ -325,12 +326,13 @@ told_more m r0 r tr n fit =
     ∙ ap (λ (x : AllocState). events_at m.me m.point ++ filter is_event (alloc_event x n ∷ [])) fit.course)
 
 -- an allocation that fits and goes on fits at the next point, where the memo shows what that point needs
-pub fits_goes : (m : AllocState) (r0 r r2 : Memo) (tr : Trail) (n : ℕ) (p : AllocPoint) → AllocFits m r0 r tr → alloc_next m n ≡ Point p → AllocKnows (record m { point = p }) → PointHolds m.me m.request r0 r2 p → AllocFits (record m { point = p }) r0 r2 (tr ++ pair (alloc_ask m) n ∷ [])
-fits_goes m r0 r r2 tr n p fit e knows holds =
+pub fits_goes : (m : AllocState) (r0 r r2 : Memo) (tr : Trail) (n : ℕ) (p : AllocPoint) → AllocFits m r0 r tr → alloc_next m n ≡ Point p → AllocKnows (record m { point = p }) → Grows true r0 r2 → PointHolds m.me m.request r0 r2 p → AllocFits (record m { point = p }) r0 r2 (tr ++ pair (alloc_ask m) n ∷ [])
+fits_goes m r0 r r2 tr n p fit e knows grows holds =
     record {
       can = fit.can;
       knows = knows;
       begun = λ _. ends_in tr (pair (alloc_ask m) n);
+      grows = grows;
       holds = holds;
       trail = λ rest a t. subst (λ (x : Trail). alloc_trail m.me m.request x a) (sym (append_assoc tr (pair (alloc_ask m) n ∷ []) rest)) (fit.trail (pair (alloc_ask m) n ∷ rest) a (trail_goes m.me m.request m.point p n fit.knows.point e rest a t));
       course = after_all-append alloc_control (alloc_start m) tr (pair (alloc_ask m) n) ∙ (ap (λ (x : AllocState). alloc_control.after x n) fit.course ∙ ap (λ (y : Next). record m { point = point_of y }) e);
@@ -338,9 +340,10 @@ fits_goes m r0 r r2 tr n p fit e knows holds =
     }
 
 -- an allocation that fits and answers has asked a whole trail
-pub gives_ends : (m : AllocState) (r0 r r2 : Memo) (tr : Trail) (n : ℕ) (a : Result Made AllocFault) → AllocFits m r0 r tr → alloc_next m n ≡ Answer a → AnswerHolds m.me m.request r0 r2 a → AllocGives m r0 r2 (tr ++ pair (alloc_ask m) n ∷ []) a
-gives_ends m r0 r r2 tr n a fit e holds =
+pub gives_ends : (m : AllocState) (r0 r r2 : Memo) (tr : Trail) (n : ℕ) (a : Result Made AllocFault) → AllocFits m r0 r tr → alloc_next m n ≡ Answer a → Grows true r0 r2 → AnswerHolds m.me m.request r0 r2 a → AllocGives m r0 r2 (tr ++ pair (alloc_ask m) n ∷ []) a
+gives_ends m r0 r r2 tr n a fit e grows holds =
     record {
+      grows = grows;
       holds = holds;
       trail = fit.trail (pair (alloc_ask m) n ∷ []) a (trail_ends m.me m.request m.point n a fit.knows.point e);
       events = told_more m r0 r tr n fit ∙ subst (λ (y : Next). Told m.me y (events_with m.me m.point n)) e (told_next m.me m.request m.point n);
@@ -357,6 +360,7 @@ begins m r e knows can =
       can = can;
       knows = knows;
       begun = λ other. absurd (other e);
+      grows = grows_now true r;
       holds = subst (λ (p : AllocPoint). PointHolds m.me m.request r r p) (sym e) (record { stays = stays_first r; op = can.idle.op; own = refl; has = record { making = can.idle.making; known = refl; values = refl } });
       trail = λ rest a t. subst (λ (p : AllocPoint). point_trail m.me m.request p rest a) e t;
       course = ap (λ (p : AllocPoint). record m { point = p }) (sym e);

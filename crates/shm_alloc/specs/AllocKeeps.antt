@@ -1,12 +1,12 @@
 -- each step of an allocation keeps the invariant, and its memo fits again or holds what is answered
-use Rattle.std.proofs.Common.{◌≡◌, ◌≢◌, ℕ, refl, false, [], ◌∷◌, ◌++◌}
+use Rattle.std.proofs.Common.{true, ◌≡◌, ◌≢◌, ℕ, refl, false, [], ◌∷◌, ◌++◌}
 use Rattle.std.proofs.lemmas.Bool.{true≢false}
 use Rattle.shm_graph.specs.declared.ask.Me.{Me}
 use Rattle.shm_graph.specs.declared.spot.Spot.{Spot}
 use Rattle.shm_graph.specs.declared.memo.Memo.{Memo}
 use Rattle.shm_graph.specs.Spots.{spot_at}
 use Rattle.shm_graph.specs.Blocks.{classes}
-use Rattle.shm_graph.specs.Asks.{Trail, at_of, pair}
+use Rattle.shm_graph.specs.Asks.{Trail, at_of, pair, seen_of}
 use Rattle.shm_graph.specs.Laws.{Keeps, Then, Frame, Stands, KeptAt, Outcome}
 use Rattle.shm_graph.proofs.KindKeeping.{not_fresh}
 use Rattle.shm_alloc.specs.declared.request.Request.{Request}
@@ -23,6 +23,7 @@ use Rattle.shm_alloc.specs.AllocSearchSegments.{era_step, root_step, segment_ste
 use Rattle.shm_alloc.specs.AllocSearchPages.{page_step, class_step, header_step}
 use Rattle.shm_alloc.specs.AllocMaking.{tag_step, reference_step, plain_step}
 use Rattle.shm_alloc.specs.AllocLive.{redo_step, commit_step, slot_step, close_step}
+use Rattle.shm_calls.specs.Grown.{Grows, grows_more}
 
 -- the step at a point
 step_at : (me : Me) (q : Request) (r0 : Memo) (w : Spot → ℕ) (r : ℕ → Memo) (f : Frame) (tr : Trail) (p : AllocPoint) → is_over p ≡ false → Stands me w r f tr → (p ≢ Era → f.fresh ≡ false) → CanAlloc me r0 → RequestFits q → PointFits me q p → PointHolds me q r0 (r me.who) p
@@ -44,16 +45,17 @@ step_at me q r0 w r f tr (Close g b) o s going can fits l h = close_step me q r0
 step_at me q r0 w r f tr Over o s going can fits l h = absurd (true≢false o)
 
 -- what holds after a step: it fits again, or gives what it answers
-then_holds : (m : AllocState) (r0 r x : Memo) (tr : Trail) (n : ℕ) → AllocFits m r0 r tr → NextHolds m.me m.request r0 x (alloc_next m n) → Then alloc_control AllocFits AllocGives m r0 tr n x
-then_holds m r0 r x tr n fit h = go (alloc_next m n) refl h
+then_holds : (m : AllocState) (r0 r x : Memo) (tr : Trail) (n : ℕ) → AllocFits m r0 r tr → Grows true r0 x → NextHolds m.me m.request r0 x (alloc_next m n) → Then alloc_control AllocFits AllocGives m r0 tr n x
+then_holds m r0 r x tr n fit grows h = go (alloc_next m n) refl h
   where
     go : (y : Next) → alloc_next m n ≡ y → NextHolds m.me m.request r0 x y
         → Outcome (answer_of y) (AllocFits (record m { point = point_of y }) r0 x (tr ++ pair (alloc_ask m) n ∷ [])) (AllocGives m r0 x (tr ++ pair (alloc_ask m) n ∷ []))
-    go (Point p) e z = fits_goes m r0 r x tr n p fit e (knows_after m n fit.knows p e) z
-    go (Answer a) e z = gives_ends m r0 r x tr n a fit e z
+    go (Point p) e z = fits_goes m r0 r x tr n p fit e (knows_after m n fit.knows p e) grows z
+    go (Answer a) e z = gives_ends m r0 r x tr n a fit e grows z
 
 -- each step of an allocation keeps the invariant, and what comes next holds of the memo
 pub alloc_keeps : Keeps alloc_control AllocFits AllocGives
 alloc_keeps m r0 tr going w r f s fit =
     let k = step_at m.me m.request r0 w r f tr m.point going s (λ z. not_fresh m.me w r f tr s (fit.begun z)) fit.can fit.knows.request fit.knows.point fit.holds in
-    record { told = k.told; step = k.step; fits = then_holds m r0 (r m.me.who) _ tr _ fit k.fits }
+    let at : Spot = spot_at m.me.geometry (classes w) (at_of (alloc_ask m)) in
+    record { told = k.told; step = k.step; fits = then_holds m r0 (r m.me.who) _ tr _ fit (grows_more true r0 (r m.me.who) m.me (alloc_ask m) f (seen_of (alloc_ask m) (w at)) at (λ z. absurd (true≢false z)) fit.grows) k.fits }

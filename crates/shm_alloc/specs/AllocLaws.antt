@@ -146,7 +146,7 @@ alloc_inside m r0 r tr l fit going = ask_inside m.me m.request m.point fit.knows
 
 -- what an answer says, it says of the identity and of the request alone
 pub alloc_back : Back alloc_control AllocGives
-alloc_back m n going goes r0 r tr a g = record { holds = g.holds; trail = g.trail; events = g.events }
+alloc_back m n going goes r0 r tr a g = record { holds = g.holds; grows = g.grows; trail = g.trail; events = g.events }
 
 -- ---- all
 

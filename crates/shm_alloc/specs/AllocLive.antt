@@ -166,6 +166,7 @@ commit_step me q r0 w r f tr g b st going can fits point h =
         ap (λ z. values_with m b (or_zero (known_at (spot.Tag b) (words_made z)))) made ∙ (ap (λ z. values_with m b (or_zero z)) known ∙ values_same m r0 b t h.stays.part h.has.1),
         h.has.2,
         (k, ap (λ z. words_made z ++ m.known) made ∙ ap (λ z. k.words ++ z) h.has.0, words),
+        (0, omega arith, refl),
       );
     })))
 
@@ -236,5 +237,6 @@ close_step me q r0 w r f tr g b st going can fits point h =
         own = owns;
         knows = h.has.3;
         values = h.has.1;
+        made = h.has.4;
       };
     })))

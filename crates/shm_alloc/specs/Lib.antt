@@ -15,3 +15,5 @@ pub mod AllocTells
 pub mod AllocKeeps
 pub mod AllocLaws
 pub mod AllocCounts
+pub mod AllocCarrying
+pub mod AllocPart

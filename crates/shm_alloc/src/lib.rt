@@ -6,12 +6,14 @@
 pub mod alloc;
 pub mod bound;
 pub mod events;
+pub mod lasting;
 pub mod point;
 pub mod request;
 
 pub use alloc::{Alloc, AllocFault, TooLarge};
 pub use bound::{alloc_bound, alloc_trails};
 pub use events::{alloc_begins, alloc_events};
+pub use lasting::{alloc_in_call, alloc_lasts};
 pub use point::{AllocPoint, AllocState, Goal, Next, Search};
 pub use request::Request;
 

@@ -1,1 +1,4 @@
 pub mod StepBound
+pub mod RootMemos
+pub mod RootSpots
+pub mod RootLeaves

@@ -1,18 +1,17 @@
 -- what a step down leaves whose slot is a word of a zero-count block: the block that the word names joins the zero-count blocks or stays counted, and the rest stays
-use Rattle.std.proofs.Common.{◌≡◌, ◌≢◌, ℕ, ◌+◌, ◌-◌, ◌^◌, ◌<◌, ◌≤◌, refl, sym, ap, ◌∙◌, subst, arith, Bool, true, false, not, ◌&&◌, cond, eqb, List, [], ◌∷◌, ◌++◌, append-nil}
+use Rattle.std.proofs.Common.{◌≡◌, ◌≢◌, ℕ, ◌+◌, ◌-◌, ◌^◌, ◌<◌, ◌≤◌, refl, sym, ap, ◌∙◌, subst, arith, Bool, true, false, not, cond, eqb, List, [], ◌∷◌, ◌++◌, append-nil}
 use Rattle.std.specs.Cmp.{nat_eq_equiv}
 use Rattle.std.specs.List.{Contains, filter}
-use Rattle.std.proofs.lemmas.Bool.{eq-eqb, ne_eqb, eqb-true, eqb-false, cond-true, or_right, not-true}
+use Rattle.std.proofs.lemmas.Bool.{eq-eqb, ne_eqb, eqb-true, cond-true, or_right}
 use Rattle.std.proofs.lemmas.Bool.Decides.{nat_tests}
 use Rattle.std.proofs.lemmas.List.Elements.{Contains-append_right}
 use Rattle.std.proofs.lemmas.Map.Views.{list_any-from_Contains}
 use Rattle.shm_words.specs.Headers.{header_of}
 use Rattle.shm_words.specs.declared.header.Header.{Header}
-use Rattle.shm_words.specs.Redos.{redo_word}
 use Rattle.shm_words.proofs.Words.{header_of-word, header_fits}
 use Rattle.shm_graph.specs.declared.ask.Me.{Me}
 use Rattle.shm_graph.specs.declared.spot.Spot.{Spot}
-use Rattle.shm_graph.specs.declared.spot.Spot.TheVariants.{Redo, Home, Era, Tag, Body}
+use Rattle.shm_graph.specs.declared.spot.Spot.TheVariants.{Home, Era, Root, Tag, Body}
 use Rattle.shm_graph.specs.declared.memo.First.TheVariants.{Committed}
 use Rattle.shm_graph.specs.declared.memo.Memo.{Memo}
 use Rattle.shm_graph.specs.declared.memo.Op.{Op}
@@ -21,22 +20,23 @@ use Rattle.shm_graph.specs.declared.memo.Stored.{Stored}
 use Rattle.shm_graph.specs.Chains.{part_set}
 use Rattle.shm_graph.specs.Exchanges.{without_made, reparted, cut}
 use Rattle.shm_graph.specs.Ops.{cover, cover_of}
-use Rattle.shm_graph.specs.Reach.{learnt, not_at, shown, is_reached, is_dying, binds, sifted}
-use Rattle.shm_graph.specs.Spots.{same_spot}
+use Rattle.shm_graph.specs.Reach.{learnt, not_at, shown, is_named, is_reached, is_dying, binds, sifted}
 use Rattle.shm_graph.specs.Stores.{is_of, not_of, with_own, written, stored_on, era_stored}
 use Rattle.shm_graph.specs.Views.{own_word}
 use Rattle.shm_graph.proofs.Loads.{choice}
-use Rattle.shm_graph.proofs.Spotting.{same_spot_is, same_spot_not}
+use Rattle.shm_graph.proofs.Spotting.{same_spot_not}
 use Rattle.shm_laws.specs.Steps.{dying_after}
 use Rattle.shm_laws.proofs.Keep.{Contains-filter}
 use Rattle.shm_steps.proofs.MemoCommits.{known_lowered, lowered_is}
 use Rattle.shm_steps.proofs.Sifting.{dying_more}
 use Rattle.shm_count.specs.declared.point.Aim.TheVariants.{Down}
 use Rattle.shm_count.specs.declared.point.Part.TheVariants.{First}
-use Rattle.shm_count.specs.StepControl.{redo_at, header_after}
-use Rattle.shm_count.specs.StepFits.{core, is_row, begun, AtFirst, slot_memo, closed_memo, Done}
+use Rattle.shm_count.specs.StepControl.{header_after}
+use Rattle.shm_count.specs.StepFits.{core, begun, is_row, AtFirst, slot_memo, closed_memo, Done}
 use Rattle.shm_count.specs.StepCores.{body_word}
-use Rattle.shm_count.specs.TearMemos.{is_lasting, Knows, IsFound, Lowered}
+use Rattle.shm_count.specs.Retaining.{slots_learnt, slots_forgotten, slots_sifted, named_same, named_sifted, value_sifted}
+use Rattle.shm_count.specs.StepParts.{own_stays, rows_grow}
+use Rattle.shm_count.specs.TearMemos.{Knows, IsFound, Lowered, is_slot_word}
 
 -- ---- what is known of a zero-count block stays known
 
@@ -68,6 +68,14 @@ lowered_known n t b p x ks other e k =
     (λ z. Contains-filter (not_of t) ks s k (ap not (of_other t b p other e)))
     (λ z. k)
 
+-- and so does each one where it doesn't come to 0
+pub kept_lowered : (n t b : ℕ) (p : Spot) (x : ℕ) (ks : List Stored) → (eqb n 0 ≡ true → b ≢ t) → is_of b p ≡ true → Contains ks (record { spot = p; value = x }) → Contains (known_lowered n t ks) (record { spot = p; value = x })
+kept_lowered n t b p x ks other e k =
+    let s : Stored = record { spot = p; value = x } in
+    choice (λ (ys : List Stored). Contains ys s) (eqb n 0) (filter (not_of t) ks) ks
+    (λ z. Contains-filter (not_of t) ks s k (ap not (of_other t b p (other z) e)))
+    (λ z. k)
+
 -- a word stays known where another one is stored
 learnt_known : (q p : Spot) (y x : ℕ) (ks : List Stored) → p ≢ q → Contains ks (record { spot = p; value = x }) → Contains (learnt q y ks) (record { spot = p; value = x })
 learnt_known q p y x ks other k =
@@ -77,11 +85,11 @@ learnt_known q p y x ks other k =
 -- ---- the count
 
 -- a count comes to 0 where it was 1
-one_less : (k : ℕ) → k ≢ 0 → eqb (k - 1) 0 ≡ eqb k 1
+pub one_less : (k : ℕ) → k ≢ 0 → eqb (k - 1) 0 ≡ eqb k 1
 one_less k n = grind (arith, nat_tests)
 
 -- the header that is stored shows one reference less
-count_less : (me : Me) (t e w : ℕ) → me.who < 64 → e < 2 ^ 47 → (header_of w).count ≢ 0 → (header_of (header_after me (Down t) e First w)).count ≡ (header_of w).count - 1
+pub count_less : (me : Me) (t e w : ℕ) → me.who < 64 → e < 2 ^ 47 → (header_of w).count ≢ 0 → (header_of (header_after me (Down t) e First w)).count ≡ (header_of w).count - 1
 count_less me t e w who era some =
     let h = header_fits w in
     let count = h.count in
@@ -89,7 +97,7 @@ count_less me t e w who era some =
     ap (λ (x : Header). x.count) (header_of-word y (record { client = who; count = omega arith; era = era }))
 
 -- the block joins the zero-count blocks or not
-joined : (z : Bool) (t : ℕ) (bs : List ℕ) → cond z (bs ++ t ∷ []) bs ≡ bs ++ cond z (t ∷ []) []
+pub joined : (z : Bool) (t : ℕ) (bs : List ℕ) → cond z (bs ++ t ∷ []) bs ≡ bs ++ cond z (t ∷ []) []
 joined true t bs = refl
 joined false t bs = sym (append-nil bs)
 
@@ -122,6 +130,13 @@ module _ (c d i t e n : ℕ) (q : Memo) where
   closes_cleared : Contains q.dying d → Knows (sifted c closes) (Body d i) 0
   closes_cleared has = sifted_known c closes d (Body d i) 0 (dying_more n t q.dying d has) (eq-eqb d d refl) (0, omega arith, refl)
 
+  -- what is known of head slots stays known
+  lowers_slots : filter is_slot_word lowers.known ≡ filter is_slot_word q.known
+  lowers_slots = choice (λ (ks : List Stored). filter is_slot_word ks ≡ filter is_slot_word q.known) (eqb n 0) (filter (not_of t) q.known) q.known (λ z. slots_forgotten t q.known) (λ z. refl)
+
+  clears_slots : filter is_slot_word clears.known ≡ filter is_slot_word q.known
+  clears_slots = slots_learnt (Body d i) 0 (sifted c lowers).known refl ∙ (slots_sifted c lowers ∙ lowers_slots)
+
 -- a step down at a word of a block leaves that memo, without what binds no more
 leaves_is : (me : Me) (d i t e w : ℕ) (q : Memo) → ◌≡◌ {A = Memo} (closed_memo me e (slot_memo me (Down t) (Body d i) e q w)) (sifted me.who (closes me.who d i t e (header_of (header_after me (Down t) e First w)).count q))
 leaves_is me d i t e w q =
@@ -135,32 +150,43 @@ leaves_is me d i t e w q =
     (◌∙◌ (ap (closed_memo me e) {y = x} (body_word me.geometry c d i 0 s (refl, refl)))
     (cond-true (eqb c c) (era_stored c x (Era c c) (e + 1)) (with_own x (Era c c) (e + 1)) (eq-eqb c c refl)))
 
--- ---- the own words
+-- ---- what is named
 
--- a word that lasts is none of the own row, and not the own redo record
-lasting_not : (c : ℕ) (p : Spot) → is_lasting c p ≡ true → (same_spot (Era c c) p ≡ false) × (is_row c p ≡ false) × (same_spot (Redo c) p ≡ false)
-lasting_not c (Redo j) e = (refl, refl, not-true (eqb c j) e)
-lasting_not c (Era j k) e =
-    let other : eqb c j ≡ false = not-true (eqb c j) e in
-    (ap (λ z. z && eqb c k) other, ap (λ z. z && not (eqb k c)) (ne_eqb j c (λ z. eqb-false c j other (sym z))), refl)
-lasting_not c _ e = (refl, refl, refl)
+module _ (me : Me) (slot d i t e n : ℕ) (m q : Memo) (first : AtFirst me slot (Down t) (Body d i) m q e) (idle : m.op ≡ Nothing) where
+  abbrev who : ℕ
+  who = me.who
+
+  shown_first : (p : Spot) → is_row who p ≡ false → own_word (begun me slot (Down t) (Body d i) e m).own p ≡ own_word m.own p → own_word q.own p ≡ shown m p
+  shown_first p o k = first.1.own p o ∙ (k ∙ ap (λ (x : Op). cover (cover_of x) p (own_word m.own p)) (sym idle))
+
+  known_first : q.known ≡ m.known
+  known_first = ap (λ (y : Memo). y.known) first.1.rest
+
+  -- the same blocks are named once the step is committed, and once it is closed
+  lowers_named : (b : ℕ) → is_named who (lowers who d i t e n q) b ≡ is_named who m b
+  lowers_named b = named_same who m (lowers who d i t e n q) b (λ k. shown_first (Root who k) refl refl) (shown_first (Home who) refl refl) (lowers_slots who d i t e n q ∙ ap (filter is_slot_word) known_first)
+
+  closes_named : (b : ℕ) → is_named who (closes who d i t e n q) b ≡ is_named who m b
+  closes_named b = named_same who m (closes who d i t e n q) b (λ k. shown_first (Root who k) refl refl) (shown_first (Home who) refl refl) (clears_slots who d i t e n q ∙ ap (filter is_slot_word) known_first)
+
+  -- so that what is known of another block that is named stays known
+  closes_words : (b : ℕ) (p : Spot) (x : ℕ) → is_named who m b ≡ true → b ≢ d → (eqb n 0 ≡ true → b ≢ t) → is_of b p ≡ true → Knows m p x → Knows (sifted who (closes who d i t e n q)) p x
+  closes_words b p x named apart other o k =
+      named_sifted who (closes who d i t e n q) b p x (closes_named b ∙ named) o
+      (learnt_known (Body d i) p 0 x (sifted who (lowers who d i t e n q)).known (λ z. apart (sym (eqb-true d b (sym (ap (is_of b) z) ∙ o))))
+      (named_sifted who (lowers who d i t e n q) b p x (lowers_named b ∙ named) o
+      (kept_lowered n t b p x q.known other o (subst (λ (s : List Stored). Contains s (record { spot = p; value = x })) (sym known_first) k))))
+
+  -- and a value block that is named stays one
+  closes_values : (b : ℕ) → is_named who m b ≡ true → Contains m.values b → Contains (sifted who (closes who d i t e n q)).values b
+  closes_values b named k =
+      value_sifted who (closes who d i t e n q) b (closes_named b ∙ named)
+      (value_sifted who (lowers who d i t e n q) b (lowers_named b ∙ named)
+      (subst (λ (s : List ℕ). Contains s b) (sym (ap (λ (y : Memo). y.values) first.1.rest)) k))
+
+-- ---- the partition
 
 module _ (me : Me) (slot d i t e w : ℕ) (m q : Memo) (first : AtFirst me slot (Down t) (Body d i) m q e) where
-  -- an own word that lasts is what it was
-  own_stays : (p : Spot) → is_lasting me.who p ≡ true → own_word (with_own q (Era me.who me.who) (e + 1)).own p ≡ own_word m.own p
-  own_stays p l =
-      let not_it = lasting_not me.who p l in
-      let began : own_word (begun me slot (Down t) (Body d i) e m).own p ≡ own_word m.own p = ap (λ z. cond z (redo_word (redo_at (Down t) slot e)) (own_word m.own p)) not_it.2 in
-      ap (λ z. cond z (e + 1) (own_word q.own p)) not_it.0 ∙ (first.1.own p not_it.1 ∙ began)
-
-  -- the words of the own row grow
-  rows_grow : (j : ℕ) → own_word m.own (Era me.who j) ≤ own_word (with_own q (Era me.who me.who) (e + 1)).own (Era me.who j)
-  rows_grow j =
-      let c = me.who in
-      choice (λ y. own_word m.own (Era c j) ≤ y) (same_spot (Era c c) (Era c j)) (e + 1) (own_word q.own (Era c j))
-      (λ z. let own : e ≡ own_word m.own (Era c j) = first.0 ∙ ap (own_word m.own) (same_spot_is (Era c c) (Era c j) z) in omega arith)
-      (λ z. first.1.more j)
-
   -- the partition stays where none is read from the word
   part_stays : m.op ≡ Nothing → part_set m.known me.who (shown m (Home me.who)) (Body d i) 0 m.part ≡ m.part → part_set q.known me.who (own_word q.own (Home me.who)) (Body d i) 0 q.part ≡ m.part
   part_stays idle same =
@@ -184,6 +210,7 @@ down_leaves me slot d i t m r z who era idle has found (e, q, w, first, some, sa
     let dying : q.dying ≡ m.dying = ap (λ (y : Memo). y.dying) b in
     let known : q.known ≡ m.known = ap (λ (y : Memo). y.known) b in
     let own : r.own ≡ f.own = ap (λ (y : Memo). y.own) left in
+    let fell : eqb n 0 ≡ z = ap (λ k. eqb k 0) less ∙ (one_less (header_of w).count some ∙ sym spent) in
     record {
       stays = record {
         status = ap (λ (y : Memo). y.status) left ∙ ap (λ (y : Memo). y.status) b;
@@ -196,8 +223,8 @@ down_leaves me slot d i t m r z who era idle has found (e, q, w, first, some, sa
         received = ap (λ (y : Memo). y.received) left ∙ ap (λ (y : Memo). y.received) b;
         untaken = ap (λ (y : Memo). y.untaken) left ∙ ap (λ (y : Memo). y.untaken) b;
         part = ap (λ (y : Memo). y.part) left ∙ part_stays me slot d i t e w m q first idle found.part;
-        own = λ p l. ap (λ (s : List Stored). own_word s p) own ∙ own_stays me slot d i t e w m q first p l;
-        rows = λ j. subst (λ (s : List Stored). own_word m.own (Era c j) ≤ own_word s (Era c j)) (sym own) (rows_grow me slot d i t e w m q first j);
+        own = λ p l. ap (λ (s : List Stored). own_word s p) own ∙ own_stays me slot (Down t) (Body d i) e m q first p l;
+        rows = λ j. subst (λ (s : List Stored). own_word m.own (Era c j) ≤ own_word s (Era c j)) (sym own) (rows_grow me slot (Down t) (Body d i) e m q first j);
       };
       dying =
           ap (λ (y : Memo). y.dying) left
@@ -208,4 +235,9 @@ down_leaves me slot d i t m r z who era idle has found (e, q, w, first, some, sa
           (closes_known c d i t e n q k p x (subst (λ s. Contains s k) (sym dying) in_it) other of away (subst (λ (s : List Stored). Contains s (record { spot = p; value = x })) (sym known) knows));
       cleared = subst (λ (s : List Stored). Contains s (record { spot = Body d i; value = 0 })) (sym (ap (λ (y : Memo). y.known) left))
           (closes_cleared c d i t e n q (subst (λ s. Contains s d) (sym dying) has));
+      looks = ap (λ (y : Memo). y.looks) left;
+      slots = ap (λ (y : Memo). filter is_slot_word y.known) left ∙ (slots_sifted c (closes c d i t e n q) ∙ (clears_slots c d i t e n q ∙ ap (filter is_slot_word) known));
+      words = λ k p x named apart other of knows. subst (λ (s : List Stored). Contains s (record { spot = p; value = x })) (sym (ap (λ (y : Memo). y.known) left))
+          (closes_words me slot d i t e n m q first idle k p x named apart (λ u. other (sym fell ∙ u)) of knows);
+      values = λ k named has. subst (λ (s : List ℕ). Contains s k) (sym (ap (λ (y : Memo). y.values) left)) (closes_values me slot d i t e n m q first idle k named has);
     }

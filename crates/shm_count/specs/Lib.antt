@@ -2,6 +2,7 @@ pub mod StepControl
 pub mod StepTrail
 pub mod StepEvents
 pub mod StepFits
+pub mod StepStatus
 pub mod StepGoing
 pub mod StepKnowing
 pub mod StepLaws
@@ -12,6 +13,7 @@ pub mod StepBeginning
 pub mod StepReading
 pub mod StepCores
 pub mod StepCommitting
+pub mod StepParts
 pub mod StepExchanging
 pub mod StepTells
 pub mod StepKeeps
@@ -28,9 +30,19 @@ pub mod TearWords
 pub mod TearStoring
 pub mod TearLowering
 pub mod DyingBlocks
+pub mod TableSteps
+pub mod Carrying
+pub mod Deciding
+pub mod TableReading
+pub mod Retaining
 pub mod DownLeaves
 pub mod TearKnowing
 pub mod TearLaws
 pub mod TearGoing
 pub mod TearKeeps
 pub mod TearTells
+pub mod Roots
+pub mod StepsAt
+pub mod CountParts
+pub mod MadeSteps
+pub mod StepsFrom

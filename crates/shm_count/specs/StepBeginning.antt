@@ -15,6 +15,7 @@ use Rattle.shm_graph.specs.Held.{HeldAt, is_home, is_slot, is_slot_to, odd}
 use Rattle.shm_graph.specs.Reach.{is_reached}
 use Rattle.shm_graph.specs.Spots.{spot_address, IsAt}
 use Rattle.shm_graph.specs.Stores.{is_block_made}
+use Rattle.shm_graph.specs.Telling.{claims}
 use Rattle.shm_graph.specs.Views.{view, own_word}
 use Rattle.shm_graph.proofs.KnownChange.{KnownHolds}
 use Rattle.shm_laws.specs.Steps.{BeginStep}
@@ -48,7 +49,7 @@ module _ (n c : ℕ) (m m' : Memo) (e : core m' ≡ core m) where
   word_on : (d i x : ℕ) → IsOwnWord c m d i x → IsOwnWord c m' d i x
   word_on d i x h =
       record {
-        tag = (h.tag.0, on (λ y. Contains y.known (record { spot = spot.Tag d; value = h.tag.0 })) h.tag.1, h.tag.2, on (λ y. MayStoreIn c y d h.tag.0) h.tag.3);
+        told = (h.told.0, on (λ y. Contains (claims c y) h.told.0) h.told.1, h.told.2, h.told.3, on (λ y. MayStoreIn c y d h.told.0.author) h.told.4);
         word = on (λ y. Contains y.known (record { spot = spot.Body d i; value = x })) h.word;
       }
 

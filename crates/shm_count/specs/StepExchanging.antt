@@ -24,6 +24,9 @@ use Rattle.shm_graph.specs.Agents.{recovers}
 use Rattle.shm_graph.specs.Blocks.{classes}
 use Rattle.shm_graph.specs.Held.{HeldAt, is_loose}
 use Rattle.shm_steps.specs.Raising.{is_read, IsReparted}
+use Rattle.shm_steps.specs.Reparting.{TableStep, Begins}
+use Rattle.shm_steps.proofs.TableLaws.{begun_reparted}
+use Rattle.shm_graph.specs.declared.memo.Op.{Op}
 use Rattle.shm_steps.proofs.BodyLoads.{header_lost}
 use Rattle.shm_steps.proofs.RaiseBlock.{block_raised}
 use Rattle.shm_steps.proofs.ChangeLowered.{change_lowered}
@@ -37,10 +40,11 @@ use Rattle.shm_count.specs.declared.point.Part.{Part}
 use Rattle.shm_count.specs.declared.point.Next.{Next}
 use Rattle.shm_count.specs.declared.point.Aim.{Aim}
 use Rattle.shm_count.specs.declared.point.StepPoint.TheVariants as point
-use Rattle.shm_count.specs.StepFits.{core, InHalf, CanStep, HasRead, NextHolds, set_memo, IsShown, IsDyingWord}
+use Rattle.shm_count.specs.StepFits.{begun_op, core, InHalf, CanStep, HasRead, NextHolds, set_memo, IsShown, IsDyingWord}
 use Rattle.shm_count.specs.StepMemos.{half_status, first_reach, half_same, header_core, recovers_after, here_same, half_op}
-use Rattle.shm_count.specs.StepControl.{CountFits, EraFits, header_after, PartFits, block_at, committed_next, header_next, count_after, raises, exchange_next}
+use Rattle.shm_count.specs.StepControl.{value_before, value_after, CountFits, EraFits, header_after, PartFits, block_at, committed_next, header_next, count_after, raises, exchange_next}
 use Rattle.shm_count.specs.StepHeaders.{header_has, header_found, half_block}
+use Rattle.shm_count.specs.StepParts.{first_sight}
 use Rattle.shm_count.specs.StepCores.{PointKeeps}
 use Rattle.shm_count.specs.DyingBlocks.{dying_reparted}
 
@@ -82,12 +86,21 @@ module _ (me : Me) (slot : ℕ) (p : Spot) (r0 : Memo) (w : Spot → ℕ) (r : �
   first_values : (x : Aim) → InHalf me slot x p r0 (r me.who) e First → (r me.who).values ≡ r0.values
   first_values x half = ap (λ (y : Memo). y.values) half.1.rest
 
-  -- no partition is read from the slot
-  unread : (x : Aim) (b : ℕ) → CanStep me slot x p r0 → InHalf me slot x p r0 (r me.who) e First → IsReparted me.geometry w (view r) me.who (r me.who) p b
-  unread x b can half =
-      elim can.unread [
-        | inl n ↦ reparted_unread me.geometry w (view r) me.who (r me.who) p b (ap (λ y. is_read y p) (first_part x half) ∙ n)
-        | inr d ↦ word_reparted me.geometry w r me.who x p b r0 st.held st.who (ap (λ (y : Memo). y.dying) half.1.rest) d
+  -- the step that has begun changes the slot's word
+  begins_word : (x : Aim) → Begins (begun_op x p e) p (value_before x) (value_after x)
+  begins_word (Up b) = (refl, refl, refl)
+  begins_word (Down b) = (refl, refl, refl)
+  begins_word (Change a b) = (refl, refl, refl)
+
+  -- the partition that the memo has is the one that the new targets hold
+  part_kept : (x : Aim) → CanStep me slot x p r0 → InHalf me slot x p r0 (r me.who) e First → IsReparted me.geometry w (view r) me.who (r me.who) p (value_after x)
+  part_kept x can half =
+      elim can.part [
+        | inl n ↦ reparted_unread me.geometry w (view r) me.who (r me.who) p (value_after x) (ap (λ y. is_read y p) (first_part x half) ∙ n)
+        | inr (inl d) ↦ word_reparted me.geometry w r me.who x p (value_after x) r0 st.held st.who (ap (λ (y : Memo). y.dying) half.1.rest) d
+        | inr (inr s) ↦ begun_reparted me.geometry w r me.who st.held st.who p (value_before x) (value_after x)
+            (subst (λ (o : Op). Begins o p (value_before x) (value_after x)) (sym (ap (λ (y : Memo). y.op) half.1.rest)) (begins_word x))
+            (subst (λ y. TableStep me.who y p (value_before x) (value_after x)) (sym (first_sight me slot x p r0 (r me.who) e half)) s)
       ]
 
   -- a header that is found becomes the one of the step
@@ -106,7 +119,7 @@ module _ (me : Me) (slot : ℕ) (p : Spot) (r0 : Memo) (w : Spot → ℕ) (r : �
         shows = shown;
         queued = λ l s. subst (λ vs. Contains vs b) (sym (first_values x half)) (can.queued (ap is_loose (sym (first_part x half)) ∙ l) s refl);
       })
-      (unread x b can half) going (half_block me slot p r0 w r e st.held st.who x First can era part half)
+      (part_kept x can half) going (half_block me slot p r0 w r e st.held st.who x First can era part half)
   exchange_kept (Down b) First can era part count half read shown found =
       let x : Aim = Down b in
       let n : ℕ = (header_of k).count - 1 in
@@ -121,7 +134,7 @@ module _ (me : Me) (slot : ℕ) (p : Spot) (r0 : Memo) (w : Spot → ℕ) (r : �
         lower = omega arith;
         shows = shown;
       })
-      (unread x 0 can half) going (half_block me slot p r0 w r e st.held st.who x First can era part half)
+      (part_kept x can half) going (half_block me slot p r0 w r e st.held st.who x First can era part half)
   exchange_kept (Change a b) First can era part count half read shown found =
       let x : Aim = Change a b in
       let made = made_fits me x e First k can.geometry can.who era count in
@@ -134,7 +147,7 @@ module _ (me : Me) (slot : ℕ) (p : Spot) (r0 : Memo) (w : Spot → ℕ) (r : �
         new = header_of-word _ made;
         shows = shown;
       })
-      (unread x b can half) going (half_block me slot p r0 w r e st.held st.who x First can era part half)
+      (part_kept x can half) going (half_block me slot p r0 w r e st.held st.who x First can era part half)
   exchange_kept (Change a b) Second can era part count half read shown found =
       let x : Aim = Change a b in
       let n : ℕ = (header_of k).count - 1 in

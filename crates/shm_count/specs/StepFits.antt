@@ -27,6 +27,7 @@ use Rattle.shm_graph.specs.Tells.{after_all, happens_along}
 use Rattle.shm_steps.specs.OwnWords.{MayAdd, MayRemove}
 use Rattle.shm_steps.specs.Beginning.{MayReplaceRoot, MaySet, MayPut, MayTake, MayTakeBack, MayFill, MayClear, MayReplace}
 use Rattle.shm_steps.specs.Raising.{is_read}
+use Rattle.shm_steps.specs.Reparting.{sight, TableStep}
 use Rattle.shm_count.specs.declared.answer.UpFault.{UpFault}
 use Rattle.shm_count.specs.declared.answer.UpFault.TheVariants.{EraSpent, CountFull}
 use Rattle.shm_count.specs.declared.point.Aim.{Aim}
@@ -38,9 +39,10 @@ use Rattle.shm_count.specs.declared.point.StepPoint.TheVariants as point
 use Rattle.shm_count.specs.declared.point.StepState.{StepState}
 use Rattle.shm_count.specs.declared.point.Next.{Next}
 use Rattle.shm_count.specs.declared.point.Next.TheVariants.{Point, Answer}
-use Rattle.shm_count.specs.StepControl.{last_era, block_at, raises, value_after, redo_at, header_after, step_control, AimFits, StepKnows}
+use Rattle.shm_count.specs.StepControl.{last_era, block_at, raises, value_before, value_after, redo_at, header_after, step_control, AimFits, StepKnows}
 use Rattle.shm_count.specs.StepTrail.{step_trail, point_trail}
 use Rattle.shm_count.specs.StepEvents.{step_event, step_start, events_at, own_events}
+use Rattle.shm_calls.specs.Grown.{Grows}
 
 -- ---- when it may begin
 
@@ -78,7 +80,11 @@ abbrev pub IsDyingWord : Memo → Aim → Spot → Type 0
 IsDyingWord r (Down b) (spot.Body d i) = Contains r.dying d
 IsDyingWord r x p = ⊥
 
--- no step of the identity is in progress, the slot is the spot p and is c's to change so, and a block that is to be raised is in reach; in a pool for tables the slot is none that a partition is read from, or a word of a zero-count block in a step down, and only a value block is sent
+-- what the partition of a memo needs of a step: none is read from the slot, or the slot is a word of a zero-count block in a step down, or the step is one that tables make
+abbrev pub KeepsPart : ℕ → Memo → Aim → Spot → Type 0
+KeepsPart c r x p = (is_read r.part p ≡ false) ⊎ (IsDyingWord r x p ⊎ TableStep c (sight c r) p (value_before x) (value_after x))
+
+-- no step of the identity is in progress, the slot is the spot p and is c's to change so, and a block that is to be raised is in reach; in a pool for tables the partition is the one of the memo's change, and only a value block is sent
 pub record CanStep (me : Me) (slot : ℕ) (x : Aim) (p : Spot) (r : Memo) : Type 0 where
   pub geometry : GeometryFits me.geometry
   pub who : me.who < me.geometry.clients
@@ -91,7 +97,7 @@ pub record CanStep (me : Me) (slot : ℕ) (x : Aim) (p : Spot) (r : Memo) : Type
   pub can : own_word r.own (spot.Era me.who me.who) ≤ last_era x → CanAim me.geometry.clients me.who r x p
   pub put : HasPut me.who x p r
   pub reach : raises x First ≡ true → is_reached me.who r (block_at x First) ≡ true
-  pub unread : (is_read r.part p ≡ false) ⊎ IsDyingWord r x p
+  pub part : KeepsPart me.who r x p
   pub queued : is_loose r.part ≡ false → is_slot p ≡ true → raises x First ≡ true → Contains r.values (block_at x First)
 
 -- ---- what the memo shows on the way
@@ -205,14 +211,17 @@ pub record StepFits (p : Spot) (m : StepState) (r0 r : Memo) (tr : Trail) : Type
   pub can : CanStep m.me m.slot m.aim p r0
   pub knows : StepKnows m
   pub begun : m.point ≢ point.Era → tr ≢ []
+  pub grows : Grows true r0 r
   pub holds : PointHolds m.me m.slot m.aim p r0 r m.point
   pub trail : (rest : Trail) (a : Result Bool UpFault) → point_trail m.me m.slot m.aim m.point rest a → step_trail m.me m.slot m.aim (tr ++ rest) a
   pub course : after_all step_control (step_start m) tr ≡ m
   pub events : happens_along step_control (step_event p) (step_start m) tr ≡ events_at m.me m.aim p m.point
 
--- it could begin; the step is done, or nothing is; the trail is whole, and the own events are those of the answer
+-- it could begin; the agent and the status are what they were, and what was read of tails and heads stays; the step is done, or nothing is; the trail is whole, and the own events are those of the answer
 pub record StepGives (p : Spot) (m : StepState) (r0 r : Memo) (tr : Trail) (a : Result Bool UpFault) : Type 0 where
   pub can : CanStep m.me m.slot m.aim p r0
+  pub grows : Grows true r0 r
+  pub status : r.status ≡ r0.status
   pub gives : Gives m.me m.slot m.aim p r0 r a
   pub trail : step_trail m.me m.slot m.aim tr a
   pub events : happens_along step_control (step_event p) (step_start m) tr ≡ own_events m.me m.aim p a

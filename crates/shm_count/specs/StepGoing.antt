@@ -28,6 +28,8 @@ use Rattle.shm_count.specs.StepControl.{last_era, block_at, raises, step_ask, st
 use Rattle.shm_count.specs.StepTrail.{StepTrails, step_trail, point_trail, redo_trail, header_trail, row_trail, show_trail, exchange_trail, set_trail, after_set, again_trail}
 use Rattle.shm_count.specs.StepEvents.{step_event, step_event_at, step_start, event_of_half, events_before, events_at, own_events}
 use Rattle.shm_count.specs.StepFits.{CanStep, PointHolds, Gives, StepFits, StepGives}
+use Rattle.shm_calls.specs.Grown.{Grows, grows_now}
+use Rattle.shm_count.specs.StepStatus.{gives_status}
 
 -- ---- trails
 
@@ -268,12 +270,13 @@ told_on p m r0 r tr n y fit e =
     subst (Told m.me m.aim p y) (sym (told_more p m r0 r tr n fit)) (subst (λ (z : Next). Told m.me m.aim p z (events_with m.me m.aim p m.point n)) e (told_next m.me m.aim p m.point n (has_part m.me m.aim m.point fit.knows.point)))
 
 -- a count step that fits and goes on fits at the next point, where the memo shows what that point needs
-pub fits_goes : (p : Spot) (m : StepState) (r0 r r2 : Memo) (tr : Trail) (n : ℕ) (y : StepPoint) → StepFits p m r0 r tr → step_next m n ≡ Point y → StepKnows (record m { point = y }) → PointHolds m.me m.slot m.aim p r0 r2 y → StepFits p (record m { point = y }) r0 r2 (tr ++ pair (step_ask m) n ∷ [])
-fits_goes p m r0 r r2 tr n y fit e knows holds =
+pub fits_goes : (p : Spot) (m : StepState) (r0 r r2 : Memo) (tr : Trail) (n : ℕ) (y : StepPoint) → StepFits p m r0 r tr → step_next m n ≡ Point y → StepKnows (record m { point = y }) → Grows true r0 r2 → PointHolds m.me m.slot m.aim p r0 r2 y → StepFits p (record m { point = y }) r0 r2 (tr ++ pair (step_ask m) n ∷ [])
+fits_goes p m r0 r r2 tr n y fit e knows grows holds =
     record {
       can = fit.can;
       knows = knows;
       begun = λ _. ends_in tr (pair (step_ask m) n);
+      grows = grows;
       holds = holds;
       trail = λ rest a t. subst (λ (x : Trail). step_trail m.me m.slot m.aim x a) (sym (append_assoc tr (pair (step_ask m) n ∷ []) rest)) (fit.trail (pair (step_ask m) n ∷ rest) a (trail_goes m.me m.slot m.aim m.point y n fit.knows.point e rest a t));
       course = after_all-append step_control (step_start m) tr (pair (step_ask m) n) ∙ (ap (λ (x : StepState). step_control.after x n) fit.course ∙ ap (λ (z : Next). record m { point = point_of z }) e);
@@ -281,10 +284,12 @@ fits_goes p m r0 r r2 tr n y fit e knows holds =
     }
 
 -- a count step that fits and answers has asked a whole trail
-pub gives_ends : (p : Spot) (m : StepState) (r0 r r2 : Memo) (tr : Trail) (n : ℕ) (a : Result Bool UpFault) → StepFits p m r0 r tr → step_next m n ≡ Answer a → Gives m.me m.slot m.aim p r0 r2 a → StepGives p m r0 r2 (tr ++ pair (step_ask m) n ∷ []) a
-gives_ends p m r0 r r2 tr n a fit e gives =
+pub gives_ends : (p : Spot) (m : StepState) (r0 r r2 : Memo) (tr : Trail) (n : ℕ) (a : Result Bool UpFault) → StepFits p m r0 r tr → step_next m n ≡ Answer a → Grows true r0 r2 → Gives m.me m.slot m.aim p r0 r2 a → StepGives p m r0 r2 (tr ++ pair (step_ask m) n ∷ []) a
+gives_ends p m r0 r r2 tr n a fit e grows gives =
     record {
       can = fit.can;
+      grows = grows;
+      status = gives_status m.me m.slot m.aim p r0 r r2 n m.point a fit.can fit.knows.point fit.holds.has e gives;
       gives = gives;
       trail = fit.trail (pair (step_ask m) n ∷ []) a (trail_ends m.me m.slot m.aim m.point n a fit.knows.point e);
       events = told_on p m r0 r tr n (Answer a) fit e;
@@ -297,6 +302,7 @@ begins p m r e knows can =
       can = can;
       knows = knows;
       begun = λ other. absurd (other e);
+      grows = grows_now true r;
       holds = subst (λ (y : StepPoint). PointHolds m.me m.slot m.aim p r r y) (sym e) (record { agent = refl; has = (refl, can.put) });
       trail = λ rest a t. subst (λ (y : StepPoint). point_trail m.me m.slot m.aim y rest a) e t;
       course = ap (λ (y : StepPoint). record m { point = y }) (sym e);

@@ -1,12 +1,12 @@
 -- each word step of a count step keeps the invariant, and its memo fits again or holds what is answered
-use Rattle.std.proofs.Common.{◌≡◌, ◌≢◌, ℕ, refl, false, [], ◌∷◌, ◌++◌}
+use Rattle.std.proofs.Common.{true, ◌≡◌, ◌≢◌, ℕ, refl, false, [], ◌∷◌, ◌++◌}
 use Rattle.std.proofs.lemmas.Bool.{true≢false}
 use Rattle.shm_graph.specs.declared.ask.Me.{Me}
 use Rattle.shm_graph.specs.declared.spot.Spot.{Spot}
 use Rattle.shm_graph.specs.declared.memo.Memo.{Memo}
 use Rattle.shm_graph.specs.Spots.{spot_at}
 use Rattle.shm_graph.specs.Blocks.{classes}
-use Rattle.shm_graph.specs.Asks.{Trail, at_of, pair}
+use Rattle.shm_graph.specs.Asks.{Trail, at_of, pair, seen_of}
 use Rattle.shm_graph.specs.Laws.{Keeps, Then, Frame, Stands, KeptAt, Outcome}
 use Rattle.shm_graph.proofs.KindKeeping.{not_fresh}
 use Rattle.shm_count.specs.declared.point.Aim.{Aim}
@@ -22,6 +22,7 @@ use Rattle.shm_count.specs.StepGoing.{fits_goes, gives_ends}
 use Rattle.shm_count.specs.StepReading.{era_step, redo_step, load_step, row_step, show_step}
 use Rattle.shm_count.specs.StepExchanging.{exchange_step}
 use Rattle.shm_count.specs.StepCommitting.{slot_step, close_step}
+use Rattle.shm_calls.specs.Grown.{Grows, grows_more}
 
 -- the step at a point
 pub step_at : (me : Me) (slot : ℕ) (x : Aim) (p : Spot) (r0 : Memo) (w : Spot → ℕ) (r : ℕ → Memo) (f : Frame) (tr : Trail) (y : StepPoint) → is_over y ≡ false → Stands me w r f tr → (y ≢ Era → f.fresh ≡ false) → CanStep me slot x p r0 → PointFits me x y → PointHolds me slot x p r0 (r me.who) y
@@ -37,15 +38,16 @@ step_at me slot x p r0 w r f tr (Close e i z) o s going can l h = close_step me 
 step_at me slot x p r0 w r f tr Over o s going can l h = absurd (true≢false o)
 
 -- what holds after a step: it fits again, or gives what it answers
-then_holds : (p : Spot) (m : StepState) (r0 r x : Memo) (tr : Trail) (n : ℕ) → StepFits p m r0 r tr → NextHolds m.me m.slot m.aim p r0 x (step_next m n) → Then step_control (StepFits p) (StepGives p) m r0 tr n x
-then_holds p m r0 r x tr n fit h = go (step_next m n) refl h
+then_holds : (p : Spot) (m : StepState) (r0 r x : Memo) (tr : Trail) (n : ℕ) → StepFits p m r0 r tr → Grows true r0 x → NextHolds m.me m.slot m.aim p r0 x (step_next m n) → Then step_control (StepFits p) (StepGives p) m r0 tr n x
+then_holds p m r0 r x tr n fit grows h = go (step_next m n) refl h
   where
     go : (y : Next) → step_next m n ≡ y → NextHolds m.me m.slot m.aim p r0 x y
         → Outcome (answer_of y) (StepFits p (record m { point = point_of y }) r0 x (tr ++ pair (step_ask m) n ∷ [])) (StepGives p m r0 x (tr ++ pair (step_ask m) n ∷ []))
-    go (Point y) e z = fits_goes p m r0 r x tr n y fit e (knows_after m n fit.knows y e) z
-    go (Answer a) e z = gives_ends p m r0 r x tr n a fit e z
+    go (Point y) e z = fits_goes p m r0 r x tr n y fit e (knows_after m n fit.knows y e) grows z
+    go (Answer a) e z = gives_ends p m r0 r x tr n a fit e grows z
 
 pub step_keeps : (p : Spot) → Keeps step_control (StepFits p) (StepGives p)
 step_keeps p m r0 tr going w r f s fit =
     let k = step_at m.me m.slot m.aim p r0 w r f tr m.point going s (λ z. not_fresh m.me w r f tr s (fit.begun z)) fit.can fit.knows.point fit.holds in
-    record { told = k.told; step = k.step; fits = then_holds p m r0 (r m.me.who) _ tr _ fit k.fits }
+    let at : Spot = spot_at m.me.geometry (classes w) (at_of (step_ask m)) in
+    record { told = k.told; step = k.step; fits = then_holds p m r0 (r m.me.who) _ tr _ fit (grows_more true r0 (r m.me.who) m.me (step_ask m) f (seen_of (step_ask m) (w at)) at (λ z. absurd (true≢false z)) fit.grows) k.fits }

@@ -119,4 +119,4 @@ step_inside p m r0 r tr l fit going = ask_inside m.me m.slot m.aim p r0 r m.poin
 
 -- what an answer says, it says of the identity, the slot and the aim alone
 pub step_back : (p : Spot) → Back step_control (StepGives p)
-step_back p m n going goes r0 r tr a g = record { can = g.can; gives = g.gives; trail = g.trail; events = g.events }
+step_back p m n going goes r0 r tr a g = record { can = g.can; grows = g.grows; status = g.status; gives = g.gives; trail = g.trail; events = g.events }

@@ -102,7 +102,7 @@ up_zero me slot (Down b) p r0 r z u d = absurd (true≢false (sym u))
 up_zero me slot (Change a b) p r0 r z u d = absurd (true≢false (sym u))
 
 -- the answer of a step up tells the whole answer of its control
-up_same : (p : Spot) (m : StepState) (r0 r : Memo) (tr : Trail) (a : Result Bool UpFault) → IsUp m → StepGives p m r0 r tr a → a ≡ up_told (up_answer a)
+pub up_same : (p : Spot) (m : StepState) (r0 r : Memo) (tr : Trail) (a : Result Bool UpFault) → IsUp m → StepGives p m r0 r tr a → a ≡ up_told (up_answer a)
 up_same p m r0 r tr (Ok z) u g = ap (λ (y : Bool). Ok y) (up_zero m.me m.slot m.aim p r0 r z u g.gives)
 up_same p m r0 r tr (Err f) u g = refl
 
@@ -113,7 +113,7 @@ down_full me (Down c) r0 r b n u d = true≢false (sym d.2)
 down_full me (Change a c) r0 r b n u d = true≢false (sym u)
 
 -- the answer of a step down tells the whole answer of its control
-down_same : (p : Spot) (m : StepState) (r0 r : Memo) (tr : Trail) (a : Result Bool UpFault) → IsDown m → StepGives p m r0 r tr a → a ≡ down_told (down_answer a)
+pub down_same : (p : Spot) (m : StepState) (r0 r : Memo) (tr : Trail) (a : Result Bool UpFault) → IsDown m → StepGives p m r0 r tr a → a ≡ down_told (down_answer a)
 down_same p m r0 r tr (Ok z) u g = refl
 down_same p m r0 r tr (Err (fault.EraSpent e)) u g = refl
 down_same p m r0 r tr (Err (fault.CountFull b n)) u g = absurd (down_full m.me m.aim r0 r b n u g.gives)

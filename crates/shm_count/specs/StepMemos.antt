@@ -195,7 +195,7 @@ room_least _ = omega arith
 
 -- ---- what is in reach
 
-roots_same : (c : ℕ) (m m' : Memo) → ((k : ℕ) → shown m' (spot.Root c k) ≡ shown m (spot.Root c k)) → (n : ℕ) → roots_below c m' n ≡ roots_below c m n
+pub roots_same : (c : ℕ) (m m' : Memo) → ((k : ℕ) → shown m' (spot.Root c k) ≡ shown m (spot.Root c k)) → (n : ℕ) → roots_below c m' n ≡ roots_below c m n
 roots_same c m m' e zero = refl
 roots_same c m m' e (suc k) = ap (λ y. y ∷ roots_below c m' k) (e k) ∙ ap (λ ys. shown m (spot.Root c k) ∷ ys) (roots_same c m m' e k)
 

@@ -27,7 +27,8 @@ use Rattle.shm_count.specs.StepMemos.{called_core}
 use Rattle.shm_count.specs.TearControl.{word_or_free}
 use Rattle.shm_count.specs.TearEvents.{Visit}
 use Rattle.shm_count.specs.TearFits.{Settled, Linked, is_outside, IsPaid, TearHolds}
-use Rattle.shm_count.specs.TearMemos.{Stays, Knows, IsTagged}
+use Rattle.shm_count.specs.Retaining.{retains_then}
+use Rattle.shm_count.specs.TearMemos.{Stays, Knows, IsTagged, Retains}
 
 -- ---- what stays
 
@@ -115,11 +116,12 @@ free_core me f m b = ap (λ (y : Memo). record y { known = filter (not_of b) y.k
 -- ---- what holds at each point
 
 -- the memo has the same zero-count blocks, and the words that are done with are still known to be 0
-pub settled_same : (me : Me) (first b k : ℕ) (vs : List Visit) (r0 m n : Memo) (es : List Event) → Settled me first b k vs r0 m es → Stays me.who m n → n.dying ≡ m.dying → recovers n ≡ recovers m → ((j : ℕ) → j < k → Knows n (Body b j) 0) → Settled me first b k vs r0 n es
-settled_same me first b k vs r0 m n es s stays same agent zeros =
+pub settled_same : (me : Me) (first b k : ℕ) (vs : List Visit) (r0 m n : Memo) (es : List Event) → Settled me first b k vs r0 m es → Stays me.who m n → Retains me.who m n → n.dying ≡ m.dying → recovers n ≡ recovers m → ((j : ℕ) → j < k → Knows n (Body b j) 0) → Settled me first b k vs r0 n es
+settled_same me first b k vs r0 m n es s stays retains same agent zeros =
     record {
       agent = agent ∙ s.agent;
       stays = stays_then me.who r0 m n s.stays stays;
+      retains = retains_then me.who r0 m n s.stays s.retains retains;
       visited = record {
         inside = s.visited.inside;
         room = s.visited.room;

@@ -28,8 +28,9 @@ use Rattle.shm_count.specs.StepEvents.{events_at}
 use Rattle.shm_count.specs.StepFits.{CanStep, PointHolds}
 use Rattle.shm_count.specs.TearControl.{word_address, tear_control, TearKnows}
 use Rattle.shm_count.specs.TearEvents.{tear_event, tear_start, Visit, Walks, frees}
-use Rattle.shm_count.specs.TearMemos.{Stays, Knows, IsTagged, IsFound}
+use Rattle.shm_count.specs.TearMemos.{Stays, Retains, Knows, IsTagged, IsFound}
 use Rattle.shm_count.specs.TearTrail.{tear_trail, point_trail}
+use Rattle.shm_calls.specs.Grown.{Grows}
 
 -- ---- when it may begin
 
@@ -125,6 +126,7 @@ IsPaid vs k y es tr = length tr + left_for vs + due_at k y ≤ 164 * (frees es +
 pub record Settled (me : Me) (first b k : ℕ) (vs : List Visit) (r0 m : Memo) (es : List Event) : Type 0 where
   pub agent : recovers m ≡ recovers r0
   pub stays : Stays me.who r0 m
+  pub retains : Retains me.who r0 m
   pub visited : IsVisited me m (record { block = b; cleared = k })
   pub apart : IsApart (record { block = b; cleared = k } ∷ vs)
   pub others : filter (is_outside (record { block = b; cleared = k } ∷ vs)) m.dying ≡ filter (not_block first) r0.dying
@@ -152,20 +154,25 @@ pub record TearFits (m : TearState) (r0 r : Memo) (tr : Trail) : Type 0 where
   pub begun : m.point ≢ point.Begin → tr ≢ []
   pub trail : (rest : Trail) (a : Result (Unit {0}) EraSpent) → point_trail m.me m.block m.point rest a → tear_trail m.me m.first (tr ++ rest) a
   pub course : after_all tear_control (tear_start m) tr ≡ m
+  pub grows : Grows true r0 r
   pub holds : TearHolds m.me m.first r0 m.block m.point r (happens_along tear_control tear_event (tear_start m) tr) tr
 
 -- ---- what it leaves
 
 -- the block is freed, and so is each block whose count came to 0 on the way; the events are those of one walk, with at most 164 word steps for each block
 pub record Torn (me : Me) (first : ℕ) (r0 r : Memo) (es : List Event) (tr : Trail) : Type 0 where
+  pub agent : recovers r ≡ recovers r0
   pub stays : Stays me.who r0 r
+  pub retains : Retains me.who r0 r
   pub others : r.dying ≡ filter (not_block first) r0.dying
   pub walks : Walks me.who first es []
   pub bound : IsWithin (164 * frees es) tr
 
 -- the own era left no room for a step down, and these blocks, the innermost first, are still zero-count blocks: the events are those of a walk that has to go on with them
 pub record TornPartly (me : Me) (first : ℕ) (r0 r : Memo) (es : List Event) (tr : Trail) (era : ℕ) (vs : List Visit) : Type 0 where
+  pub agent : recovers r ≡ recovers r0
   pub stays : Stays me.who r0 r
+  pub retains : Retains me.who r0 r
   pub some : vs ≢ []
   pub left : All (λ v. Contains r.dying v.block) vs
   pub others : filter (is_outside vs) r.dying ≡ filter (not_block first) r0.dying
@@ -183,7 +190,8 @@ abbrev pub NextHolds : Me → ℕ → Memo → ℕ → TearNext → Memo → Lis
 NextHolds me first r0 b (Go d y) r es tr = TearHolds me first r0 d y r es tr
 NextHolds me first r0 b (Answer a) r es tr = TearLeaves me first r0 r es tr a
 
--- the tear-down is done, or part of it is; the trail is whole
+-- the tear-down is done, or part of it is; the agent is what it was, and what was read of tails and heads stays; the trail is whole
 pub record TearGives (m : TearState) (r0 r : Memo) (tr : Trail) (a : Result (Unit {0}) EraSpent) : Type 0 where
   pub leaves : TearLeaves m.me m.first r0 r (happens_along tear_control tear_event (tear_start m) tr) tr a
+  pub grows : Grows true r0 r
   pub trail : tear_trail m.me m.first tr a

@@ -32,9 +32,11 @@ use Rattle.shm_count.specs.TearTrail.{TearTrails, on_trail, link_trail, after_do
 use Rattle.shm_count.specs.TearEvents.{tear_event, tear_start}
 use Rattle.shm_count.specs.TearFits.{CanTear, TearAt, TearHolds, TearFits, TearLeaves, TearGives, NextHolds}
 use Rattle.shm_count.specs.TearKnowing.{knows_next}
+use Rattle.shm_count.specs.Retaining.{retains_now}
 use Rattle.shm_count.specs.TearCores.{stays_now}
 use Rattle.shm_count.specs.TearBound.{paid_begin}
 use Rattle.shm_count.specs.TearStacks.{others_begin, walks_begin}
+use Rattle.shm_calls.specs.Grown.{Grows, grows_now}
 
 -- ---- trails
 
@@ -130,37 +132,39 @@ abbrev pub events_with : TearState → Trail → ℕ → List Event
 events_with m tr n = happens_along tear_control tear_event (tear_start m) tr ++ filter is_event (tear_event m n ∷ [])
 
 -- a tear-down that fits and goes on fits at the next point, where the memo shows what that point needs
-fits_goes : (m : TearState) (r0 r x : Memo) (tr : Trail) (n d : ℕ) (y : TearPoint) → TearFits m r0 r tr → tear_next m n ≡ Go d y → TearHolds m.me m.first r0 d y x (events_with m tr n) (tr ++ pair (tear_ask m) n ∷ [])
+fits_goes : (m : TearState) (r0 r x : Memo) (tr : Trail) (n d : ℕ) (y : TearPoint) → TearFits m r0 r tr → tear_next m n ≡ Go d y → Grows true r0 x → TearHolds m.me m.first r0 d y x (events_with m tr n) (tr ++ pair (tear_ask m) n ∷ [])
     → TearFits (record m { block = d; point = y }) r0 x (tr ++ pair (tear_ask m) n ∷ [])
-fits_goes m r0 r x tr n d y fit e holds =
+fits_goes m r0 r x tr n d y fit e grows holds =
     record {
       can = fit.can;
       knows = knows_next m n d y fit.knows e;
       begun = λ _. going.ends_in tr (pair (tear_ask m) n);
+      grows = grows;
       trail = λ rest a t. subst (λ (z : Trail). tear_trail m.me m.first z a) (sym (append_assoc tr (pair (tear_ask m) n ∷ []) rest)) (fit.trail (pair (tear_ask m) n ∷ rest) a (trail_goes m.me m.block d m.point y n fit.knows.point e rest a t));
       course = after_all-append tear_control (tear_start m) tr (pair (tear_ask m) n) ∙ (ap (λ (z : TearState). tear_control.after z n) fit.course ∙ ap (λ (z : TearNext). record m { block = block_of m.block z; point = point_of z }) e);
       holds = subst (λ (es : List Event). TearHolds m.me m.first r0 d y x es (tr ++ pair (tear_ask m) n ∷ [])) (sym (told_more m tr n fit.course)) holds;
     }
 
 -- a tear-down that fits and answers has asked a whole trail
-gives_ends : (m : TearState) (r0 r x : Memo) (tr : Trail) (n : ℕ) (a : Result (Unit {0}) EraSpent) → TearFits m r0 r tr → tear_next m n ≡ Answer a → TearLeaves m.me m.first r0 x (events_with m tr n) (tr ++ pair (tear_ask m) n ∷ []) a
+gives_ends : (m : TearState) (r0 r x : Memo) (tr : Trail) (n : ℕ) (a : Result (Unit {0}) EraSpent) → TearFits m r0 r tr → tear_next m n ≡ Answer a → Grows true r0 x → TearLeaves m.me m.first r0 x (events_with m tr n) (tr ++ pair (tear_ask m) n ∷ []) a
     → TearGives m r0 x (tr ++ pair (tear_ask m) n ∷ []) a
-gives_ends m r0 r x tr n a fit e leaves =
+gives_ends m r0 r x tr n a fit e grows leaves =
     record {
+      grows = grows;
       leaves = subst (λ (es : List Event). TearLeaves m.me m.first r0 x es (tr ++ pair (tear_ask m) n ∷ []) a) (sym (told_more m tr n fit.course)) leaves;
       trail = fit.trail (pair (tear_ask m) n ∷ []) a (trail_ends m.me m.block m.point n a fit.knows.point e);
     }
 
 -- what holds after a step: it fits again, or gives what it answers
-pub then_holds : (m : TearState) (r0 r x : Memo) (tr : Trail) (n : ℕ) → TearFits m r0 r tr
+pub then_holds : (m : TearState) (r0 r x : Memo) (tr : Trail) (n : ℕ) → TearFits m r0 r tr → Grows true r0 x
     → NextHolds m.me m.first r0 m.block (tear_next m n) x (happens_along tear_control tear_event (tear_start m) tr ++ filter is_event (tear_event m n ∷ [])) (tr ++ pair (tear_ask m) n ∷ [])
     → Then tear_control TearFits TearGives m r0 tr n x
-then_holds m r0 r x tr n fit h = go (tear_next m n) refl h
+then_holds m r0 r x tr n fit grows h = go (tear_next m n) refl h
   where
     go : (z : TearNext) → tear_next m n ≡ z → NextHolds m.me m.first r0 m.block z x (events_with m tr n) (tr ++ pair (tear_ask m) n ∷ [])
         → Outcome (answer_of z) (TearFits (record m { block = block_of m.block z; point = point_of z }) r0 x (tr ++ pair (tear_ask m) n ∷ [])) (TearGives m r0 x (tr ++ pair (tear_ask m) n ∷ []))
-    go (Go d y) e k = fits_goes m r0 r x tr n d y fit e k
-    go (Answer a) e k = gives_ends m r0 r x tr n a fit e k
+    go (Go d y) e k = fits_goes m r0 r x tr n d y fit e grows k
+    go (Answer a) e k = gives_ends m r0 r x tr n a fit e grows k
 
 -- ---- how it begins
 
@@ -171,6 +175,7 @@ begins_at me b r can =
       settled = record {
         agent = refl;
         stays = stays_now me.who r;
+        retains = retains_now me.who r;
         visited = record { inside = can.inside; room = can.room; dying = can.dying; most = omega arith; zeros = λ i l. absurd (omega arith) };
         apart = (refl, tt);
         others = others_begin b r.dying;
@@ -187,6 +192,7 @@ begins m r e q knows can =
       can = can;
       knows = knows;
       begun = λ other. absurd (other e);
+      grows = grows_now true r;
       trail = λ rest a t. subst (λ (d : ℕ). tear_trail m.me d rest a) q (subst (λ (y : TearPoint). point_trail m.me m.block y rest a) e t);
       course = ap (λ (d : ℕ). record m { block = d; point = point.Begin }) (sym q) ∙ ap (λ (y : TearPoint). record m { point = y }) (sym e);
       holds = subst (λ (y : TearPoint). TearHolds m.me m.first r m.block y r [] []) (sym e) (subst (λ (d : ℕ). TearHolds m.me m.first r d point.Begin r [] []) (sym q) (0, [], begins_at m.me m.first r can));

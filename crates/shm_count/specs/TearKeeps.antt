@@ -1,16 +1,19 @@
 -- each word step of a tear-down keeps the invariant, and its memo fits again or holds what is answered
-use Rattle.std.proofs.Common.{◌≡◌, ◌≢◌, ℕ, false, List}
+use Rattle.std.proofs.Common.{true, ◌≡◌, ◌≢◌, ℕ, false, List}
+use Rattle.std.proofs.lemmas.Bool.{true≢false}
 use Rattle.shm_graph.specs.declared.ask.Me.{Me}
 use Rattle.shm_graph.specs.declared.spot.Spot.{Spot}
 use Rattle.shm_graph.specs.declared.memo.Memo.{Memo}
-use Rattle.shm_graph.specs.Asks.{Trail}
+use Rattle.shm_graph.specs.Asks.{Trail, at_of, seen_of}
+use Rattle.shm_graph.specs.Blocks.{classes}
+use Rattle.shm_graph.specs.Spots.{spot_at}
 use Rattle.shm_graph.specs.Events.{Event}
 use Rattle.shm_graph.specs.Laws.{Frame, Stands, Keeps, Laws}
 use Rattle.shm_graph.specs.Tells.{happens_along}
 use Rattle.shm_graph.proofs.KindKeeping.{not_fresh}
 use Rattle.shm_count.specs.declared.tear_point.TearPoint.{TearPoint}
 use Rattle.shm_count.specs.declared.tear_point.TearPoint.TheVariants.{Begin, Enter, Link, Word, Down, Free, Return, Over}
-use Rattle.shm_count.specs.TearControl.{tear_control, TearPointFits}
+use Rattle.shm_count.specs.TearControl.{tear_ask, tear_control, TearPointFits}
 use Rattle.shm_count.specs.TearEvents.{tear_event, tear_start}
 use Rattle.shm_count.specs.TearFits.{CanTear, TearHolds, TearFits, TearGives}
 use Rattle.shm_count.specs.TearGoing.{then_holds}
@@ -19,6 +22,7 @@ use Rattle.shm_count.specs.TearLowering.{down_step}
 use Rattle.shm_count.specs.TearReading.{TearKept, begin_step, enter_step, return_step}
 use Rattle.shm_count.specs.TearStoring.{link_step, free_step}
 use Rattle.shm_count.specs.TearWords.{word_step}
+use Rattle.shm_calls.specs.Grown.{grows_more}
 
 -- the step at a point
 pub tear_at : (me : Me) (first : ℕ) (r0 : Memo) (b : ℕ) (w : Spot → ℕ) (r : ℕ → Memo) (f : Frame) (tr : Trail) (es : List Event) (y : TearPoint) → IsRunning y → Stands me w r f tr → (y ≢ Begin → f.fresh ≡ false) → CanTear me first r0 → TearPointFits me y → TearHolds me first r0 b y (r me.who) es tr
@@ -36,7 +40,8 @@ pub tear_keeps : Keeps tear_control TearFits TearGives
 tear_keeps m r0 tr going w r f s fit =
     let es : List Event = happens_along tear_control tear_event (tear_start m) tr in
     let k = tear_at m.me m.first r0 m.block w r f tr es m.point (fit_runs m r0 (r m.me.who) tr fit) s (λ z. not_fresh m.me w r f tr s (fit.begun z)) fit.can fit.knows.point fit.holds in
-    record { told = k.told; step = k.step; fits = then_holds m r0 (r m.me.who) _ tr _ fit k.fits }
+    let at : Spot = spot_at m.me.geometry (classes w) (at_of (tear_ask m)) in
+    record { told = k.told; step = k.step; fits = then_holds m r0 (r m.me.who) _ tr _ fit (grows_more true r0 (r m.me.who) m.me (tear_ask m) f (seen_of (tear_ask m) (w at)) at (λ z. absurd (true≢false z)) fit.grows) k.fits }
 
 -- the laws of a tear-down
 pub tear_laws : Laws tear_control TearFits TearGives

@@ -29,6 +29,8 @@ use Rattle.shm_count.specs.StepLaws as laws
 use Rattle.shm_count.specs.TearControl.{word_address, tag_read, word_or_free, lowered_next, freed_next, down_next, tear_ask_at, tear_next, tear_next_at, point_of, answer_of, is_begin, is_over, tear_control}
 use Rattle.shm_count.specs.TearEvents.{tear_event, tear_start}
 use Rattle.shm_count.specs.TearFits.{TearHolds, TearFits, TearGives}
+use Rattle.shm_count.specs.TearMemos.{Retains}
+use Rattle.shm_count.specs.declared.answer.EraSpent.{EraSpent}
 
 -- ---- steady
 
@@ -185,4 +187,11 @@ tear_inside m r0 r tr l fit going =
 
 -- what an answer says, it says of the identity and the block that was given alone
 pub tear_back : Back tear_control TearGives
-tear_back m n going goes r0 r tr a g = record { leaves = g.leaves; trail = g.trail }
+tear_back m n going goes r0 r tr a g = record { leaves = g.leaves; grows = g.grows; trail = g.trail }
+
+-- ---- what stays known
+
+-- whatever it answers, head slots, and words and value blocks of blocks that are named
+pub tear_retains : (m : TearState) (r0 r : Memo) (tr : Trail) (a : Result (Unit {0}) EraSpent) → TearGives m r0 r tr a → Retains m.me.who r0 r
+tear_retains m r0 r tr (Ok u) g = g.leaves.retains
+tear_retains m r0 r tr (Err e) g = g.leaves.1.retains

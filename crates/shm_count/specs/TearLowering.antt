@@ -1,5 +1,5 @@
 -- what a tear-down keeps in the step down by which a reference word comes to be empty
-use Rattle.std.proofs.Common.{◌≡◌, ◌≢◌, ℕ, ◌+◌, ◌≤◌, refl, sym, ap, ◌∙◌, subst, arith, Bool, true, false, List, [], ◌∷◌, ◌++◌, append_assoc, inl, inr}
+use Rattle.std.proofs.Common.{◌≡◌, ◌≢◌, ℕ, ◌+◌, ◌≤◌, refl, sym, ap, ◌∙◌, subst, arith, Bool, true, false, cond, List, [], ◌∷◌, ◌++◌, append_assoc, inl, inr}
 use Rattle.std.specs.Prelude.{Ok, Err}
 use Rattle.std.specs.List.{All, Contains, filter}
 use Rattle.std.proofs.lemmas.Bool.{cases_eq, eq-eqb, true≢false}
@@ -11,8 +11,9 @@ use Rattle.shm_graph.specs.declared.ask.Me.{Me}
 use Rattle.shm_graph.specs.declared.spot.Spot.{Spot}
 use Rattle.shm_graph.specs.declared.spot.Spot.TheVariants.{Era, Body}
 use Rattle.shm_graph.specs.declared.memo.Memo.{Memo}
+use Rattle.shm_graph.specs.declared.memo.Stored.{Stored}
 use Rattle.shm_graph.specs.Agents.{recovers}
-use Rattle.shm_graph.specs.Asks.{Trail, at_of, seen_of, pair}
+use Rattle.shm_graph.specs.Asks.{Trail, at_of, seen_of, pair, words_after}
 use Rattle.shm_graph.specs.Blocks.{classes}
 use Rattle.shm_graph.specs.Changes.{memo_on}
 use Rattle.shm_graph.specs.Events.{Event}
@@ -20,7 +21,9 @@ use Rattle.shm_graph.specs.Events as event
 use Rattle.shm_graph.specs.Laws.{Frame, framed, Stands}
 use Rattle.shm_graph.specs.Spots.{spot_at}
 use Rattle.shm_graph.specs.Tells.{is_event}
-use Rattle.shm_graph.specs.Views.{own_word}
+use Rattle.shm_graph.specs.Reach.{is_named}
+use Rattle.shm_graph.specs.Views.{own_word, at1}
+use Rattle.shm_graph.proofs.Lists.{at1_here}
 use Rattle.shm_count.specs.declared.answer.UpFault.{UpFault}
 use Rattle.shm_count.specs.declared.answer.UpFault.TheVariants.{EraSpent, CountFull}
 use Rattle.shm_count.specs.declared.point.Aim.TheVariants as aims
@@ -34,6 +37,7 @@ use Rattle.shm_count.specs.StepFits.{CanStep, core, Done, Refused, PointHolds}
 use Rattle.shm_count.specs.StepFits as fits
 use Rattle.shm_count.specs.StepGoing.{has_part, events_with, Told, told_next}
 use Rattle.shm_count.specs.StepKeeps.{step_at}
+use Rattle.shm_count.specs.Retaining.{named_counted, named_stays, retains_core, retains_then}
 use Rattle.shm_count.specs.StepMemos.{recovers_after}
 use Rattle.shm_count.specs.TearControl.{word_address, word_or_free, down_next, lowered_next, TearPointFits}
 use Rattle.shm_count.specs.TearCores.{stays_then, stays_core, on_words}
@@ -43,7 +47,7 @@ use Rattle.shm_count.specs.DownLeaves.{down_leaves}
 use Rattle.shm_count.specs.TearBound.{paid_down, paid_kept, paid_fell, paid_refused}
 use Rattle.shm_count.specs.TearReading.{TearKept}
 use Rattle.shm_count.specs.TearStacks.{walks_kept, walks_fell, frees_more, others_entered, outside_other, apart_entered, KeepsBlock, linked_kept, linked_dying, left_dying, keeps_lowered, lowered_knows, lowered_tagged, lowered_dying}
-use Rattle.shm_count.specs.TearMemos.{Stays, Knows, IsTagged, IsFound, Lowered}
+use Rattle.shm_count.specs.TearMemos.{Stays, Retains, Knows, IsTagged, IsFound, Lowered}
 
 -- one word of a block has one index
 same_index : (b j i : ℕ) → Body b j ≡ Body b i → j ≡ i
@@ -92,12 +96,27 @@ module _ (me : Me) (first : ℕ) (r0 : Memo) (b k : ℕ) (vs : List Visit) (g : 
 
   -- ---- it is done
 
-  module _ (z : Bool) (leads : step_next_at me (aims.Down t) y n ≡ next.Answer (Ok z)) (told : es2 ≡ es ++ event.Down c (Body b i) t ∷ []) (low : Lowered c b i t z m m2) where
+  module _ (z : Bool) (leads : step_next_at me (aims.Down t) y n ≡ next.Answer (Ok z)) (told : es2 ≡ es ++ event.Down c (Body b i) t ∷ []) (low : Lowered c b i t z m m2) (alive : (d u : ℕ) → is_named c m2 d ≡ true → Contains m2.dying u → d ≢ u) where
     free_same : frees es2 ≡ frees es
     free_same = ap frees told ∙ frees_more es c (Body b i) t
 
     done_stays : Stays c r0 m2
     done_stays = stays_then c r0 m m2 a.settled.stays low.stays
+
+    -- no block that is named is the one that is torn down or the one whose count came to 0
+    done_retains : Retains c r0 m2
+    done_retains =
+        let same : (d : ℕ) → is_named c m2 d ≡ is_named c m d = λ d. named_stays c m m2 d low.stays low.slots in
+        retains_then c r0 m m2 a.settled.stays a.settled.retains
+        (record {
+          looks = inr low.looks;
+          slots = low.slots;
+          words = λ d p x named o h. low.words d p x named
+              (alive d b (same d ∙ named) (lowered_dying c b i t z m m2 low found.counted b a.settled.visited.dying))
+              (λ u. alive d t (same d ∙ named) (subst (λ (ds : List ℕ). Contains ds t) (sym (low.dying ∙ ap (λ y. m.dying ++ cond y (t ∷ []) []) u)) (Contains-append_right m.dying (t ∷ []) t (0, omega arith, refl))))
+              o h;
+          values = low.values;
+        })
 
     keeps : (d : ℕ) → Contains m.dying d → d ≢ b → KeepsBlock m m2 d
     keeps d h o = keeps_lowered c b i t z m m2 low found.counted d h o
@@ -123,24 +142,25 @@ module _ (me : Me) (first : ℕ) (r0 : Memo) (b k : ℕ) (vs : List Visit) (g : 
         }
 
   -- the block keeps other references
-  kept_holds : step_next_at me (aims.Down t) y n ≡ next.Answer (Ok false) → es2 ≡ es ++ event.Down c (Body b i) t ∷ [] → Lowered c b i t false m m2 → TearHolds me first r0 b (word_or_free g (i + 1)) m2 es2 tr2
-  kept_holds leads told low =
+  kept_holds : step_next_at me (aims.Down t) y n ≡ next.Answer (Ok false) → es2 ≡ es ++ event.Down c (Body b i) t ∷ [] → Lowered c b i t false m m2 → ((d u : ℕ) → is_named c m2 d ≡ true → Contains m2.dying u → d ≢ u) → TearHolds me first r0 b (word_or_free g (i + 1)) m2 es2 tr2
+  kept_holds leads told low alive =
       let dying : m2.dying ≡ m.dying = low.dying ∙ append-nil m.dying in
       on_words me first b (k + 1) (i + 1) vs g r0 m2 es2 tr2
       (record {
         agent = agent;
-        stays = done_stays false leads told low;
-        visited = visited false leads told low;
+        stays = done_stays false leads told low alive;
+        retains = done_retains false leads told low alive;
+        visited = visited false leads told low alive;
         apart = a.settled.apart;
         others = ap (filter (is_outside (record { block = b; cleared = k } ∷ vs))) dying ∙ a.settled.others;
         walks = subst (λ e. Walks c first e (record { block = b; cleared = k + 1 } ∷ vs)) (sym told) (subst (λ j. Walks c first (es ++ event.Down c (Body b j) t ∷ []) (record { block = b; cleared = k + 1 } ∷ vs)) (sym same) (walks_kept c first es b k t vs a.settled.walks));
       })
-      (tagged false leads told low) (linked false leads told low) (let e = same in omega arith)
-      (paid_kept b vs es tr (pair (step_ask_at me slot (aims.Down t) y) n) k me g g i t y n es2 (let u = room in omega arith) a.paid same leads (free_same false leads told low))
+      (tagged false leads told low alive) (linked false leads told low alive) (let e = same in omega arith)
+      (paid_kept b vs es tr (pair (step_ask_at me slot (aims.Down t) y) n) k me g g i t y n es2 (let u = room in omega arith) a.paid same leads (free_same false leads told low alive))
 
   -- its count came to 0: it is entered
-  fell_holds : step_next_at me (aims.Down t) y n ≡ next.Answer (Ok true) → es2 ≡ es ++ event.Down c (Body b i) t ∷ [] → Lowered c b i t true m m2 → TearHolds me first r0 t (point.Enter b) m2 es2 tr2
-  fell_holds leads told low =
+  fell_holds : step_next_at me (aims.Down t) y n ≡ next.Answer (Ok true) → es2 ≡ es ++ event.Down c (Body b i) t ∷ [] → Lowered c b i t true m m2 → ((d u : ℕ) → is_named c m2 d ≡ true → Contains m2.dying u → d ≢ u) → TearHolds me first r0 t (point.Enter b) m2 es2 tr2
+  fell_holds leads told low alive =
       let here : Contains m2.dying t = subst (λ (ds : List ℕ). Contains ds t) (sym low.dying) (Contains-append_right m.dying (t ∷ []) t (0, omega arith, refl)) in
       let wvs : List Visit = record { block = b; cleared = k + 1 } ∷ vs in (
         0,
@@ -148,14 +168,15 @@ module _ (me : Me) (first : ℕ) (r0 : Memo) (b k : ℕ) (vs : List Visit) (g : 
         record {
           settled = (record {
             agent = agent;
-            stays = done_stays true leads told low;
+            stays = done_stays true leads told low alive;
+            retains = done_retains true leads told low alive;
             visited = record { inside = found.inside; room = found.room; dying = here; most = omega arith; zeros = λ j l. absurd (omega arith) };
             apart = apart_entered b k (k + 1) t vs (λ e. none_of b a.settled.visited.dying (sym e)) (λ v h. none_of v.block (linked_dying me m g.link vs v a.shows.1 h)) a.settled.apart;
             others = ap (filter (is_outside (record { block = t; cleared = 0 } ∷ wvs))) low.dying ∙ others_entered b k (k + 1) t vs m.dying _ found.counted a.settled.others;
             walks = subst (λ e. Walks c first e (record { block = t; cleared = 0 } ∷ wvs)) (sym told) (subst (λ j. Walks c first (es ++ event.Down c (Body b j) t ∷ []) (record { block = t; cleared = 0 } ∷ wvs)) (sym same) (walks_fell c first es b k t vs a.settled.walks));
           });
-          shows = (refl, (refl, visited true leads told low, (g, tagged true leads told low, linked true leads told low)));
-          paid = (paid_fell b vs es tr (pair (step_ask_at me slot (aims.Down t) y) n) k me g i t y n es2 (let u = room in omega arith) a.paid leads (free_same true leads told low));
+          shows = (refl, (refl, visited true leads told low alive, (g, tagged true leads told low alive, linked true leads told low alive)));
+          paid = (paid_fell b vs es tr (pair (step_ask_at me slot (aims.Down t) y) n) k me g i t y n es2 (let u = room in omega arith) a.paid leads (free_same true leads told low alive));
         },
       )
 
@@ -168,7 +189,10 @@ module _ (me : Me) (first : ℕ) (r0 : Memo) (b k : ℕ) (vs : List Visit) (g : 
       let all : List Visit = record { block = b; cleared = k } ∷ vs in (
         all,
         record {
+          agent = agent;
           stays = stays_then c r0 m m2 a.settled.stays (stays_core c m m2 m.known m.dying gone.0);
+          retains = retains_then c r0 m m2 a.settled.stays a.settled.retains
+              (retains_core c m m2 m.known m.dying gone.0 refl (λ d p x named o h. subst (λ (s : List Stored). Contains s (record { spot = p; value = x })) (sym (ap (λ (y : Memo). y.known) gone.0)) h));
           some = λ x. absurd (cc);
           left = subst (λ (ds : List ℕ). All (λ (v : Visit). Contains ds v.block) all) (sym dying) (All-cons (λ (v : Visit). Contains m.dying v.block) (record { block = b; cleared = k }) vs a.settled.visited.dying (left_dying me m g.link vs a.shows.1));
           others = ap (filter (is_outside all)) dying ∙ a.settled.others;
@@ -182,17 +206,17 @@ module _ (me : Me) (first : ℕ) (r0 : Memo) (b k : ℕ) (vs : List Visit) (g : 
 
   -- ---- all ways
 
-  answered : (z : Next) → step_next_at me (aims.Down t) y n ≡ z → Told me (aims.Down t) (Body b i) z (events_with me (aims.Down t) (Body b i) y n) → es2 ≡ es ++ events_with me (aims.Down t) (Body b i) y n
+  answered : ((d u : ℕ) → is_named c m2 d ≡ true → Contains m2.dying u → d ≢ u) → (z : Next) → step_next_at me (aims.Down t) y n ≡ z → Told me (aims.Down t) (Body b i) z (events_with me (aims.Down t) (Body b i) y n) → es2 ≡ es ++ events_with me (aims.Down t) (Body b i) y n
       → CanStep me slot (aims.Down t) (Body b i) m → fits.NextHolds me slot (aims.Down t) (Body b i) m m2 z → NextHolds me first r0 b (down_next b g i t z) m2 es2 tr2
-  answered (next.Point y2) e told all may h = on_holds y2 e (all ∙ ap (λ x. es ++ x) told) may h
-  answered (next.Answer (Ok z)) e told all may h =
+  answered alive (next.Point y2) e told all may h = on_holds y2 e (all ∙ ap (λ x. es ++ x) told) may h
+  answered alive (next.Answer (Ok z)) e told all may h =
       done z e (all ∙ ap (λ x. es ++ x) told)
       (down_leaves me slot b i t m m2 z (let u = can.geometry.clients in let l = can.who in omega arith) found.era (a.settled.stays.op ∙ can.idle) a.settled.visited.dying found h)
     where
       done : (z : Bool) → step_next_at me (aims.Down t) y n ≡ next.Answer (Ok z) → es2 ≡ es ++ event.Down c (Body b i) t ∷ [] → Lowered c b i t z m m2 → NextHolds me first r0 b (lowered_next b g i t (Ok z)) m2 es2 tr2
-      done true q o low = fell_holds q o low
-      done false q o low = kept_holds q o low
-  answered (next.Answer (Err u)) e told all may h = refused_leaves u e (all ∙ ap (λ x. es ++ x) told) h
+      done true q o low = fell_holds q o low alive
+      done false q o low = kept_holds q o low alive
+  answered alive (next.Answer (Err u)) e told all may h = refused_leaves u e (all ∙ ap (λ x. es ++ x) told) h
 
 -- a word step of a step down
 pub down_step : (me : Me) (first : ℕ) (r0 : Memo) (b : ℕ) (g : ATag) (i t : ℕ) (y : StepPoint) (w : Spot → ℕ) (r : ℕ → Memo) (f : Frame) (tr : Trail) (es : List Event) → Stands me w r f tr → f.fresh ≡ false → is_over y ≡ false → CanTear me first r0 → TearPointFits me (point.Down g i t y)
@@ -209,6 +233,7 @@ down_step me first r0 b g i t y w r f tr es st going runs can fits (k, vs, m, be
       step = kept.step;
       fits = answered me first r0 b k vs g i t y m m2 before (es ++ filter is_event (step_event_at me (aims.Down t) (Body b i) y n ∷ [])) tr n can runs a
           (recovers_after (r me.who) (framed me ask f n) s ∙ (holds.agent ∙ a.settled.agent))
+          (λ d u named dies. named_counted me.geometry (words_after w ask s) (at1 r me.who m2) me.who d u kept.step.held st.who (subst (λ (x : Memo). is_named me.who x d ≡ true) (sym (at1_here r me.who m2)) named) (subst (λ (x : Memo). Contains x.dying u) (sym (at1_here r me.who m2)) dies))
           (step_next_at me (aims.Down t) y n) refl
           (told_next me (aims.Down t) (Body b i) y n (has_part me (aims.Down t) y fits.3))
           (ap (λ x. x ++ filter is_event (step_event_at me (aims.Down t) (Body b i) y n ∷ [])) all ∙ append_assoc before (events_at me (aims.Down t) (Body b i) y) (filter is_event (step_event_at me (aims.Down t) (Body b i) y n ∷ [])))

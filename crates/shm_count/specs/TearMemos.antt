@@ -1,6 +1,6 @@
 -- what a tear-down needs of a memo, and what it leaves of it
-use Rattle.std.specs.Prelude.{◌≡◌, ◌≢◌, ℕ, ◌+◌, ◌^◌, ◌<◌, ◌≤◌, Bool, true, not, ◌==◌, if◌then◌else◌, [], ◌∷◌, ◌++◌}
-use Rattle.std.specs.List.{Contains}
+use Rattle.std.specs.Prelude.{◌≡◌, ◌≢◌, ℕ, ◌+◌, ◌^◌, ◌<◌, ◌≤◌, Bool, true, not, ◌==◌, if◌then◌else◌, [], ◌∷◌, ◌++◌, ◌⊎◌}
+use Rattle.std.specs.List.{Contains, filter}
 use Rattle.shm_words.specs.declared.tag.Tag.{Tag as ATag}
 use Rattle.shm_words.specs.Tags.{tag_word, TagFits}
 use Rattle.shm_words.specs.Layout.{total_of}
@@ -8,8 +8,10 @@ use Rattle.shm_graph.specs.declared.ask.Me.{Me}
 use Rattle.shm_graph.specs.declared.spot.Spot.{Spot}
 use Rattle.shm_graph.specs.declared.spot.Spot.TheVariants.{Redo, Home, Era, Tag, Body}
 use Rattle.shm_graph.specs.declared.memo.Memo.{Memo}
+use Rattle.shm_graph.specs.declared.memo.Stored.{Stored}
+use Rattle.shm_graph.specs.Held.{is_slot}
 use Rattle.shm_graph.specs.Views.{own_word}
-use Rattle.shm_graph.specs.Reach.{shown}
+use Rattle.shm_graph.specs.Reach.{shown, is_named}
 use Rattle.shm_graph.specs.Stores.{is_of}
 use Rattle.shm_graph.specs.Chains.{part_set}
 use Rattle.shm_count.specs.StepControl.{IsInside}
@@ -43,6 +45,24 @@ pub record Stays (c : ℕ) (m r : Memo) : Type 0 where
 abbrev pub Knows : Memo → Spot → ℕ → Type 0
 Knows m p x = Contains m.known (record { spot = p; value = x })
 
+-- a word that is known of a head slot
+abbrev pub is_slot_word : Stored → Bool
+is_slot_word s = is_slot s.spot
+
+-- What stays known: head slots, and the words and the value blocks of blocks that the own roots, the own home and known head slots name. The looks are what they were, or there are none
+pub record Retains (c : ℕ) (m r : Memo) : Type 0 where
+  pub looks : (r.looks ≡ m.looks) ⊎ (r.looks ≡ [])
+  pub slots : filter is_slot_word r.known ≡ filter is_slot_word m.known
+  pub words : (b : ℕ) (p : Spot) (x : ℕ) → is_named c m b ≡ true → is_of b p ≡ true → Knows m p x → Knows r p x
+  pub values : (b : ℕ) → is_named c m b ≡ true → Contains m.values b → Contains r.values b
+
+-- The same of blocks that are named still, where own reference words may have come to be empty
+pub record Remains (c : ℕ) (m r : Memo) : Type 0 where
+  pub looks : (r.looks ≡ m.looks) ⊎ (r.looks ≡ [])
+  pub slots : filter is_slot_word r.known ≡ filter is_slot_word m.known
+  pub words : (b : ℕ) (p : Spot) (x : ℕ) → is_named c r b ≡ true → is_of b p ≡ true → Knows m p x → Knows r p x
+  pub values : (b : ℕ) → is_named c r b ≡ true → Contains m.values b → Contains r.values b
+
 -- the tag of block b is known to be g, whose reference words lie in the pool
 pub record IsTagged (me : Me) (m : Memo) (b : ℕ) (g : ATag) : Type 0 where
   pub fits : TagFits g
@@ -59,9 +79,13 @@ pub record IsFound (me : Me) (m : Memo) (b i t : ℕ) : Type 0 where
   pub era : own_word m.own (Era me.who me.who) < 2 ^ 47
   pub part : part_set m.known me.who (shown m (Home me.who)) (Body b i) 0 m.part ≡ m.part
 
--- what a step down that is done leaves, where its slot is word i of a zero-count block d and names t: t joins the zero-count blocks where its count came to 0; what was known of the others stays known, but that the word is 0 now
+-- What a step down that is done leaves, where its slot is word i of a zero-count block d and names t: t joins the zero-count blocks where its count came to 0; what was known of the others stays known, but that the word is 0 now. The looks are over, and what is known of head slots and of other blocks that are named stays
 pub record Lowered (c d i t : ℕ) (z : Bool) (m r : Memo) : Type 0 where
   pub stays : Stays c m r
   pub dying : r.dying ≡ m.dying ++ (if z then t ∷ [] else [])
   pub known : (b : ℕ) → Contains m.dying b → b ≢ t → (p : Spot) (x : ℕ) → is_of b p ≡ true → p ≢ Body d i → Knows m p x → Knows r p x
   pub cleared : Knows r (Body d i) 0
+  pub looks : r.looks ≡ []
+  pub slots : filter is_slot_word r.known ≡ filter is_slot_word m.known
+  pub words : (b : ℕ) (p : Spot) (x : ℕ) → is_named c m b ≡ true → b ≢ d → (z ≡ true → b ≢ t) → is_of b p ≡ true → Knows m p x → Knows r p x
+  pub values : (b : ℕ) → is_named c m b ≡ true → Contains m.values b → Contains r.values b

@@ -1,8 +1,8 @@
 -- what a tear-down keeps where it stores a link, and where it frees a block
 use Rattle.std.proofs.Common.{◌≡◌, ◌≢◌, ℕ, ◌+◌, ◌/◌, ◌^◌, ◌<◌, ◌≤◌, refl, sym, ap, ◌∙◌, subst, arith, false, List, [], ◌∷◌, ◌++◌}
 use Rattle.std.specs.Prelude.{◌==◌, if◌then◌else◌, Ok}
-use Rattle.std.specs.List.{filter}
-use Rattle.std.proofs.lemmas.Bool.{ne_eqb}
+use Rattle.std.specs.List.{Contains, filter}
+use Rattle.std.proofs.lemmas.Bool.{ne_eqb, eqb-true}
 use Rattle.std.proofs.lemmas.List.Elements.{Contains-append_right}
 use Rattle.shm_words.specs.declared.tag.Tag.{Tag as ATag}
 use Rattle.shm_words.specs.Layout.{total_of}
@@ -22,7 +22,8 @@ use Rattle.shm_graph.specs.Events as event
 use Rattle.shm_graph.specs.Laws.{Frame, framed, Stands, KeptAt}
 use Rattle.shm_graph.specs.Reach.{learnt}
 use Rattle.shm_graph.specs.Spots.{spot_at}
-use Rattle.shm_graph.specs.Stores.{not_of, not_block}
+use Rattle.shm_graph.proofs.Spotting.{same_spot_not}
+use Rattle.shm_graph.specs.Stores.{is_of, not_of, not_block}
 use Rattle.shm_steps.specs.Conditions.{IsHere}
 use Rattle.shm_steps.specs.Preparing.{KnowsDying}
 use Rattle.shm_steps.proofs.BlockTold.{dying_true, dying_block}
@@ -31,6 +32,7 @@ use Rattle.shm_steps.proofs.KeptAfter.{kept_with}
 use Rattle.shm_count.specs.declared.tear_point.TearPoint.TheVariants as point
 use Rattle.shm_count.specs.declared.tear_point.TearNext.TheVariants.{Go, Answer}
 use Rattle.shm_count.specs.StepFits.{core}
+use Rattle.shm_count.specs.Retaining.{retains_core, retains_then, slots_learnt, slots_forgotten, named_counted}
 use Rattle.shm_count.specs.StepMemos.{recovers_after, here_same}
 use Rattle.shm_count.specs.TearControl.{word_or_free, freed_next}
 use Rattle.shm_count.specs.TearCores.{stays_then, stays_core, link_core, free_core, settled_same, on_words}
@@ -39,8 +41,8 @@ use Rattle.shm_count.specs.TearFits.{Settled, CanTear, Linked, is_outside, TearA
 use Rattle.shm_count.specs.TearBound.{paid_linked, paid_freed, paid_done}
 use Rattle.shm_count.specs.TearReading.{TearKept, unchanged}
 use Rattle.shm_count.specs.DyingBlocks.{dying_tag_spot}
-use Rattle.shm_count.specs.TearStacks.{walks_freed, frees_free, others_freed, others_last, outside_other, KeepsBlock, visited_kept, tagged_kept, linked_kept, knows_learnt, keeps_learnt, keeps_freed}
-use Rattle.shm_count.specs.TearMemos.{Stays, IsTagged}
+use Rattle.shm_count.specs.TearStacks.{walks_freed, frees_free, others_freed, others_last, outside_other, KeepsBlock, visited_kept, tagged_kept, linked_kept, knows_learnt, knows_other, keeps_learnt, keeps_freed}
+use Rattle.shm_count.specs.TearMemos.{Stays, Retains, IsTagged}
 
 -- no step is in progress at the points beside those of a step down
 is_idle : (me : Me) (first : ℕ) (r0 m : Memo) → CanTear me first r0 → Stays me.who r0 m → m.op ≡ op.Nothing
@@ -100,7 +102,9 @@ module _ (me : Me) (first : ℕ) (r0 : Memo) (b : ℕ) (vs : List Visit) (g : AT
 
   settled : Settled me first b 0 vs r0 m2 es
   settled =
-      settled_same me first b 0 vs r0 m m2 es a.settled (stays_core me.who m m2 (learnt (Tag b) x m.known) m.dying cored) same
+      settled_same me first b 0 vs r0 m m2 es a.settled (stays_core me.who m m2 (learnt (Tag b) x m.known) m.dying cored)
+      (retains_core me.who m m2 (learnt (Tag b) x m.known) m.dying cored (slots_learnt (Tag b) x m.known refl)
+      (λ d p y named o k. knows_other m m2 (Tag b) x learns p y (same_spot_not (Tag b) p (λ z. named_counted me.geometry w r me.who d b st.held st.who named a.settled.visited.dying (sym (eqb-true b d (ap (is_of d) z ∙ o))))) k)) same
       (recovers_after m (framed me (Store (b + 1) x) f 0) (Tag b))
       (λ j l. absurd (omega arith))
 
@@ -148,6 +152,13 @@ module _ (me : Me) (first : ℕ) (r0 : Memo) (b k : ℕ) (g : ATag) (w : Spot �
   free_stays : Stays me.who r0 m' → Stays me.who r0 free_memo
   free_stays s = stays_then me.who r0 m' free_memo s (stays_core me.who m' free_memo (filter (not_of b) m'.known) (filter (not_block b) m'.dying) (free_core me f m' b))
 
+  -- no block that is named is freed
+  free_retains : Contains m'.dying b → Stays me.who r0 m' → Retains me.who r0 m' → Retains me.who r0 free_memo
+  free_retains dies s x =
+      retains_then me.who r0 m' free_memo s x
+      (retains_core me.who m' free_memo (filter (not_of b) m'.known) (filter (not_block b) m'.dying) (free_core me f m' b) (slots_forgotten b m'.known)
+      (λ d p y named o k. (keeps_freed m' free_memo b d frees_known frees_dying (named_counted me.geometry w r me.who d b st.held st.who named dies)).1 p y o k))
+
   free_kept : (vs : List Visit) (a : TearAt me first b k vs (point.Free g) r0 m' es tr) (after : ℕ → Memo → Type 0) → after 0 free_memo → KeptAt me w r (Store b 0) f after (spot_at me.geometry (classes w) b)
   free_kept vs a after y =
       let t : IsTagged me m' b g = a.shows.0 in
@@ -164,7 +175,9 @@ module _ (me : Me) (first : ℕ) (r0 : Memo) (b k : ℕ) (g : ATag) (w : Spot �
   last_holds a =
       subst (λ z. NextHolds me first r0 b (if z == 0 then Answer (Ok tt) else Go z point.Return) free_memo free_events free_trail) (sym a.shows.1)
       (record {
+        agent = recovers_after m' (framed me (Store b 0) f 0) (Head b) ∙ a.settled.agent;
         stays = free_stays a.settled.stays;
+        retains = free_retains a.settled.visited.dying a.settled.stays a.settled.retains;
         others = frees_dying ∙ others_last b k m'.dying _ a.settled.others;
         walks = walks_freed me.who first es b k [] a.settled.walks;
         bound = paid_done b k es free_events tr (pair (Store b 0) 0) g a.paid (frees_free es me.who b);
@@ -186,6 +199,7 @@ module _ (me : Me) (first : ℕ) (r0 : Memo) (b k : ℕ) (g : ATag) (w : Spot �
           settled = (record {
             agent = recovers_after m' (framed me (Store b 0) f 0) (Head b) ∙ a.settled.agent;
             stays = free_stays a.settled.stays;
+            retains = free_retains a.settled.visited.dying a.settled.stays a.settled.retains;
             visited = visited_kept me m' free_memo v here link.1;
             apart = a.settled.apart.1;
             others = ap (filter (is_outside (v ∷ vs))) frees_dying ∙ others_freed b k (v ∷ vs) m'.dying _ a.settled.others;

@@ -41,6 +41,7 @@ use Rattle.shm_count.specs.declared.tear_point.TearPoint.TheVariants as point
 use Rattle.shm_count.specs.declared.tear_point.TearNext.TheVariants.{Go}
 use Rattle.shm_count.specs.DyingBlocks.{dying_spot, dying_target, dying_part}
 use Rattle.shm_count.specs.StepFits.{core, CanStep}
+use Rattle.shm_count.specs.Retaining.{retains_core, slots_learnt}
 use Rattle.shm_count.specs.StepMemos.{room_least, recovers_after, here_same}
 use Rattle.shm_count.specs.TearControl.{word_address, word_or_free, word_next}
 use Rattle.shm_count.specs.TearCores.{stays_core, word_core, settled_same, on_words}
@@ -132,7 +133,8 @@ module _ (me : Me) (first : ℕ) (r0 : Memo) (b k : ℕ) (vs : List Visit) (g : 
 
   settled : Settled me first b k vs r0 m2 es
   settled =
-      settled_same me first b k vs r0 m m2 es a.settled (stays_core c m m2 (learnt (Body b i) n m.known) m.dying cored) same
+      settled_same me first b k vs r0 m m2 es a.settled (stays_core c m m2 (learnt (Body b i) n m.known) m.dying cored)
+      (retains_core c m m2 (learnt (Body b i) n m.known) m.dying cored (slots_learnt (Body b i) n m.known refl) (λ d p x e o h. known_still p x h)) same
       (recovers_after m (framed me (Load at) f n) (Body b i))
       (λ j l. known_still (Body b j) 0 (a.settled.visited.zeros j l))
 
@@ -157,6 +159,7 @@ module _ (me : Me) (first : ℕ) (r0 : Memo) (b k : ℕ) (vs : List Visit) (g : 
       record {
         agent = s.agent;
         stays = s.stays;
+        retains = s.retains;
         visited = record {
           inside = s.visited.inside;
           room = s.visited.room;
@@ -226,11 +229,11 @@ module _ (me : Me) (first : ℕ) (r0 : Memo) (b k : ℕ) (vs : List Visit) (g : 
         can = λ l. record {
           may = record { here = is; idle = own; room = omega arith };
           some = some;
-          word = record { tag = (tag_word g, tagged.tag, low, inl settled.visited.dying); word = y.word };
+          word = record { told = (begin.claim_by b (tag_word g), begin.listed_told c m2 b (tag_word g) tagged.tag, refl, low, inl settled.visited.dying); word = y.word };
         };
         put = tt;
         reach = λ e. absurd (true≢false (sym e));
-        unread = inr settled.visited.dying;
+        part = inr (inl settled.visited.dying);
         queued = λ l u e. absurd (true≢false (sym e));
       }
 

@@ -6,6 +6,7 @@
 pub mod answer;
 pub mod bound;
 pub mod events;
+pub mod lasting;
 pub mod parts;
 pub mod point;
 pub mod step;
@@ -15,6 +16,7 @@ pub mod tear_point;
 pub use answer::{EraSpent, Made, UpFault};
 pub use bound::{step_bound, tear_bound};
 pub use events::{step_begins, step_events, tear_begins, tear_events};
+pub use lasting::{step_lasts, tear_in_call, tear_lasts, up_of_made};
 pub use step::{StepChange, StepDown, StepUp};
 pub use tear::TearDown;
 

@@ -72,6 +72,7 @@ pub enum Next {
 
 impl Aim {
     /// The greatest own era that leaves room for the step.
+    #[inline(always)]
     fn last_era(self) -> u64
         ensures { result ≡ control.last_era self }
     {
@@ -82,6 +83,7 @@ impl Aim {
     }
 
     /// The block whose count changes.
+    #[inline(always)]
     fn block(self, part: Part) -> u32
         ensures { result ≡ control.block_at self part }
     {
@@ -93,6 +95,7 @@ impl Aim {
     }
 
     /// Whether the count goes up.
+    #[inline(always)]
     fn raises(self, part: Part) -> bool
         ensures { result ≡ control.raises self part }
     {
@@ -103,6 +106,7 @@ impl Aim {
     }
 
     /// What the slot comes to hold.
+    #[inline(always)]
     fn value(self) -> u32
         ensures { result ≡ control.value_after self }
     {
@@ -114,6 +118,7 @@ impl Aim {
     }
 
     /// The redo record at an era.
+    #[inline(always)]
     fn redo(self, slot: u32, era: u64) -> Redo
         ensures { result ≡ control.redo_at self slot era }
     {
@@ -132,6 +137,7 @@ impl Aim {
 
 impl StepState {
     /// The header that the block comes to have.
+    #[inline(always)]
     fn new_header(self, era: u64, part: Part, header: u64) -> u64
         requires who { self.me.who < 16 }
         requires era { era < 2 ^ 47 }
@@ -149,6 +155,7 @@ impl StepState {
     }
 
     /// The address of the own row's word for a client; no header shows a client that the pool hasn't.
+    #[inline(always)]
     fn row(self, client: u8) -> u32
         requires geometry { GeometryFits self.me.geometry }
         requires who { self.me.who < self.me.geometry.clients }
@@ -163,6 +170,7 @@ impl StepState {
     }
 
     /// The store of the redo record.
+    #[inline(always)]
     fn begin(self, era: u64) -> Ask
         requires geometry { GeometryFits self.me.geometry }
         requires who { self.me.who < self.me.geometry.clients }
@@ -177,6 +185,7 @@ impl StepState {
     }
 
     /// The store of the header's era in the own row.
+    #[inline(always)]
     fn show(self, header: u64) -> Ask
         requires geometry { GeometryFits self.me.geometry }
         requires who { self.me.who < self.me.geometry.clients }
@@ -190,6 +199,7 @@ impl StepState {
     }
 
     /// The word step that comes next.
+    #[inline(always)]
     pub fn ask(self) -> Ask
         requires { StepKnows self }
         ensures { result ≡ control.step_ask self }
@@ -225,6 +235,7 @@ impl StepState {
     }
 
     /// Where it goes by the word that it found.
+    #[inline(always)]
     pub fn next(self, seen: u64) -> Next
         requires { StepKnows self }
         ensures { result ≡ control.step_next self seen }
@@ -258,6 +269,7 @@ impl StepState {
     }
 
     /// Where it goes by the own era.
+    #[inline(always)]
     fn era_next(self, seen: u64) -> Next
         ensures { result ≡ control.era_next self.aim seen }
     {
@@ -269,6 +281,7 @@ impl StepState {
     }
 
     /// Where it goes by the header of its block.
+    #[inline(always)]
     fn header_next(self, era: u64, part: Part, header: u64) -> Next
         ensures { result ≡ control.header_next self.me self.aim era part header }
     {
@@ -284,6 +297,7 @@ impl StepState {
     }
 
     /// Whether the count comes to 0.
+    #[inline(always)]
     fn comes_to_zero(self, part: Part, header: u64) -> bool
         ensures { result ≡ control.comes_to_zero self.aim part header }
     {
@@ -291,6 +305,7 @@ impl StepState {
     }
 
     /// Where it goes once the header is exchanged.
+    #[inline(always)]
     fn committed(self, era: u64, part: Part, header: u64) -> Next
         ensures { result ≡ control.committed_next self.aim era part header }
     {
@@ -302,6 +317,7 @@ impl StepState {
     }
 
     /// Where it goes once the own era is stored.
+    #[inline(always)]
     fn closed(self, era: u64, part: Part, zero: bool) -> Next
         requires { EraFits self.aim era part }
         ensures { result ≡ control.closed_next self.aim era part zero }
@@ -317,6 +333,7 @@ impl StepState {
 }
 
 /// The count after a step up or down.
+#[inline(always)]
 fn count_after(up: bool, count: u16) -> u16
     requires small { count < 1024 }
     ensures { result ≡ control.count_after up count }
@@ -329,6 +346,7 @@ fn count_after(up: bool, count: u16) -> u16
 }
 
 /// Where it goes by the own row's word for the header's client.
+#[inline(always)]
 fn row_next(era: u64, part: Part, header: u64, seen: u64) -> Next
     ensures { result ≡ control.row_next era part header seen }
 {

@@ -15,6 +15,7 @@ use std::marker::Model;
 
 impl StepState {
     /// A step for the identity `me` at a slot, before its first word step.
+    #[inline(always)]
     fn begins(me: Me, slot: u32, aim: Aim) -> StepState
         ensures { result ≡ record { me = me; slot = slot; aim = aim; point = Era } }
     {
@@ -28,6 +29,7 @@ impl StepState {
     }
 
     /// Whether it has answered.
+    #[inline(always)]
     fn is_over(&self) -> bool
         ensures { result ≡ is_over self.now.point }
     {
@@ -35,6 +37,7 @@ impl StepState {
     }
 
     /// Takes the word that was found; its answer, once it is done.
+    #[inline(always)]
     fn take(&mut self, seen: u64) -> Option<Result<bool, UpFault>>
         requires { StepKnows self.old }
         ensures state { self.new ≡ step_control.after self.old seen }
@@ -76,6 +79,7 @@ impl Model for StepUp {
 
 impl StepUp {
     /// The step of the identity `me` by which the word at `slot` comes to name `block`.
+    #[inline(always)]
     pub fn new(me: Me, slot: u32, block: u32) -> StepUp
         requires geometry { GeometryFits me.geometry }
         requires who { me.who < me.geometry.clients }
@@ -98,18 +102,22 @@ impl Machine for StepUp {
 
     ghost gives = { machines.UpGives };
 
+    #[inline(always)]
     fn me(&self) -> Me {
         self.state.me
     }
 
+    #[inline(always)]
     fn finished(&self) -> bool {
         self.state.is_over()
     }
 
+    #[inline(always)]
     fn ask(&self) -> Ask {
         self.state.ask()
     }
 
+    #[inline(always)]
     fn take(&mut self, seen: u64) -> Turn<Result<(), UpFault>> {
         match self.state.take(seen) {
             None => Turn::More,
@@ -142,6 +150,7 @@ impl Model for StepDown {
 
 impl StepDown {
     /// The step of the identity `me` by which the word at `slot`, which names `block`, comes to be empty.
+    #[inline(always)]
     pub fn new(me: Me, slot: u32, block: u32) -> StepDown
         requires geometry { GeometryFits me.geometry }
         requires who { me.who < me.geometry.clients }
@@ -164,18 +173,22 @@ impl Machine for StepDown {
 
     ghost gives = { machines.DownGives };
 
+    #[inline(always)]
     fn me(&self) -> Me {
         self.state.me
     }
 
+    #[inline(always)]
     fn finished(&self) -> bool {
         self.state.is_over()
     }
 
+    #[inline(always)]
     fn ask(&self) -> Ask {
         self.state.ask()
     }
 
+    #[inline(always)]
     fn take(&mut self, seen: u64) -> Turn<Result<bool, EraSpent>> {
         match self.state.take(seen) {
             None => Turn::More,
@@ -209,6 +222,7 @@ impl Model for StepChange {
 
 impl StepChange {
     /// The step of the identity `me` by which the word at `slot`, which names `before`, comes to name `after`.
+    #[inline(always)]
     pub fn new(me: Me, slot: u32, before: u32, after: u32) -> StepChange
         requires geometry { GeometryFits me.geometry }
         requires who { me.who < me.geometry.clients }
@@ -232,18 +246,22 @@ impl Machine for StepChange {
 
     ghost gives = { machines.ChangeGives };
 
+    #[inline(always)]
     fn me(&self) -> Me {
         self.state.me
     }
 
+    #[inline(always)]
     fn finished(&self) -> bool {
         self.state.is_over()
     }
 
+    #[inline(always)]
     fn ask(&self) -> Ask {
         self.state.ask()
     }
 
+    #[inline(always)]
     fn take(&mut self, seen: u64) -> Turn<Result<bool, UpFault>> {
         match self.state.take(seen) {
             None => Turn::More,
@@ -255,6 +273,7 @@ impl Machine for StepChange {
 }
 
 /// What an answer says of a step up: no count comes to 0.
+#[inline(always)]
 fn up_answer(answer: Result<bool, UpFault>) -> Result<(), UpFault>
     ensures { result ≡ machines.up_answer answer }
 {
@@ -265,6 +284,7 @@ fn up_answer(answer: Result<bool, UpFault>) -> Result<(), UpFault>
 }
 
 /// What an answer says of a step down: no count that goes down is full.
+#[inline(always)]
 fn down_answer(answer: Result<bool, UpFault>) -> Result<bool, EraSpent>
     ensures { result ≡ machines.down_answer answer }
 {

@@ -14,6 +14,7 @@ use std::marker::Model;
 
 impl TearState {
     /// A tear-down of a block for the identity `me`, before its first word step.
+    #[inline(always)]
     fn begins(me: Me, block: u32) -> TearState
         ensures { result ≡ record { me = me; first = block; block = block; point = Begin } }
     {
@@ -26,6 +27,7 @@ impl TearState {
     }
 
     /// Whether it has answered.
+    #[inline(always)]
     fn is_over(&self) -> bool
         ensures { result ≡ is_over self.now.point }
     {
@@ -33,6 +35,7 @@ impl TearState {
     }
 
     /// Takes the word that was found; its answer, once it is done.
+    #[inline(always)]
     fn take(&mut self, seen: u64) -> Option<Result<(), EraSpent>>
         requires { TearKnows self.old }
         ensures state { self.new ≡ tear_control.after self.old seen }
@@ -77,6 +80,7 @@ impl Model for TearDown {
 
 impl TearDown {
     /// The tear-down of `block`, an address, for the identity `me`, which is the last client of its header.
+    #[inline(always)]
     pub fn new(me: Me, block: u32) -> TearDown
         requires geometry { GeometryFits me.geometry }
         requires who { me.who < me.geometry.clients }
@@ -98,18 +102,22 @@ impl Machine for TearDown {
 
     ghost gives = { TearGives };
 
+    #[inline(always)]
     fn me(&self) -> Me {
         self.state.me
     }
 
+    #[inline(always)]
     fn finished(&self) -> bool {
         self.state.is_over()
     }
 
+    #[inline(always)]
     fn ask(&self) -> Ask {
         self.state.ask()
     }
 
+    #[inline(always)]
     fn take(&mut self, seen: u64) -> Turn<Result<(), EraSpent>> {
         match self.state.take(seen) {
             None => Turn::More,

@@ -65,6 +65,7 @@ pub enum TearNext {
 
 impl TearState {
     /// The step down that takes the reference to `found` out of a reference word of the block.
+    #[inline(always)]
     fn step(self, index: u8, found: u32, point: StepPoint) -> StepState
         requires block { self.block < 2 ^ 20 }
         ensures { result ≡ control.down_state self.me self.block index found point }
@@ -78,6 +79,7 @@ impl TearState {
     }
 
     /// The word step that comes next.
+    #[inline(always)]
     pub fn ask(self) -> Ask
         requires { TearKnows self }
         ensures { result ≡ control.tear_ask self }
@@ -108,6 +110,7 @@ impl TearState {
     }
 
     /// Where it goes by the word that it found.
+    #[inline(always)]
     pub fn next(self, seen: u64) -> TearNext
         requires { TearKnows self }
         ensures { result ≡ control.tear_next self seen }
@@ -138,6 +141,7 @@ impl TearState {
     }
 
     /// It stays at its block.
+    #[inline(always)]
     fn go(self, point: TearPoint) -> TearNext
         ensures { result ≡ control.stay self.block point }
     {
@@ -148,6 +152,7 @@ impl TearState {
     }
 
     /// Where it goes by the tag of a block that is entered from the block `link`, or from none.
+    #[inline(always)]
     fn entered(self, link: u32, seen: u64) -> TearNext
         ensures { result ≡ control.entered_next self.block link seen }
     {
@@ -162,6 +167,7 @@ impl TearState {
     }
 
     /// Where it goes by a reference word.
+    #[inline(always)]
     fn read(self, tag: Tag, index: u8, seen: u64) -> TearNext
         requires index { index < tag.refs }
         ensures { result ≡ control.word_next self.block tag index seen }
@@ -180,6 +186,7 @@ impl TearState {
     }
 
     /// Where it goes by what the step down answered.
+    #[inline(always)]
     fn lowered(self, tag: Tag, index: u8, found: u32, answer: Result<bool, UpFault>) -> TearNext
         requires index { index < tag.refs }
         ensures { result ≡ control.lowered_next self.block tag index found answer }
@@ -196,6 +203,7 @@ impl TearState {
 }
 
 /// The address of a reference word; no block of a pool ends beyond 2^20.
+#[inline(always)]
 fn word_address(block: u32, index: u8) -> u32
     requires block { block < 2 ^ 20 }
     ensures { result ≡ control.word_address block index }
@@ -204,6 +212,7 @@ fn word_address(block: u32, index: u8) -> u32
 }
 
 /// The tag that a word is, or an empty one.
+#[inline(always)]
 fn tag_read(word: u64) -> Tag
     ensures { result ≡ control.tag_read word }
 {
@@ -219,6 +228,7 @@ fn tag_read(word: u64) -> Tag
 }
 
 /// The reference word with this index comes next, and after the last one the header.
+#[inline(always)]
 fn word_or_free(tag: Tag, index: u8) -> TearPoint
     ensures { result ≡ control.word_or_free tag index }
 {
@@ -230,6 +240,7 @@ fn word_or_free(tag: Tag, index: u8) -> TearPoint
 }
 
 /// Where it goes once a block is free: on with the block of its link, if there is one.
+#[inline(always)]
 fn freed(tag: Tag) -> TearNext
     ensures { result ≡ control.freed_next tag }
 {

@@ -64,6 +64,7 @@ call_held g w v c fs zs t bs h facts zeros test made =
       fresh = h.fresh;
       gone = h.gone;
       self_lanes = h.self_lanes;
+      no_queue = h.no_queue;
       tails = h.tails;
       parts = h.parts;
       part = h.part;

@@ -231,6 +231,7 @@ start_held s fits begins =
       };
       gone = λ c l e. cc;
       self_lanes = λ c l. (refl, refl, λ k. no_target s (Slot c c k));
+      no_queue = λ c l r x. (same_everywhere _ r 0, same_everywhere _ r 0);
       tails = λ c r l m. (rw (own_era c l) (omega arith), λ n _. absurd (n (same_everywhere _ r 0)));
       parts = λ c d l m. rw (lt-ltb c g.clients l, lt-ltb d g.clients m) refl;
       part = λ c l. part_tie _ c _ _ (no_target s (Home c));

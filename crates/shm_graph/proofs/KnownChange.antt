@@ -60,6 +60,7 @@ known_held g w v c ks vs h known values =
       fresh = h.fresh;
       gone = h.gone;
       self_lanes = h.self_lanes;
+      no_queue = h.no_queue;
       tails = h.tails;
       parts = h.parts;
       part = h.part;

@@ -118,6 +118,7 @@ look_held g w v c a k h l latched new =
       };
       gone = h.gone;
       self_lanes = h.self_lanes;
+      no_queue = h.no_queue;
       tails = h.tails;
       parts = h.parts;
       part = h.part;

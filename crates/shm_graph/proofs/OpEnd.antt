@@ -165,6 +165,7 @@ op_ended g w v c h l u =
         takes = f.takes;
       };
       self_lanes = subst (λ (t : Spot → ℕ). (d : ℕ) → d < g.clients → IsUnusedLane (tail d d) (front d d) (λ k. t (Slot d d k))) same_targets h.self_lanes;
+      no_queue = h.no_queue;
       tails = λ d r m k. at1_all (λ (i : ℕ) (x : Op). i < g.clients → TailSound i r (w (Era i i)) (tail i r) (v.unsent i r) x) v.op c Nothing d
           (λ n. tails_after g w v c r h n k u) (λ n i. h.tails d r i k) m;
       parts = h.parts;

@@ -76,6 +76,7 @@ forgets_held g w v c h =
           (λ n. h.fresh d);
       gone = h.gone;
       self_lanes = h.self_lanes;
+      no_queue = h.no_queue;
       tails = h.tails;
       parts = h.parts;
       part = h.part;

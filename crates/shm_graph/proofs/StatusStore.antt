@@ -73,6 +73,7 @@ status_held g w v c s h l new gone =
       gone = λ d. at1_all (λ (i : ℕ) (x : AStatus). i < g.clients → x ≡ status.Gone → Gone i (v.own i) (v.op i) (v.latch i) (v.owned i) (v.dying i) (v.unsent i) (v.untaken i))
           v.status c s d (λ m. gone) (λ n. h.gone d);
       self_lanes = h.self_lanes;
+      no_queue = h.no_queue;
       tails = h.tails;
       parts = h.parts;
       part = h.part;

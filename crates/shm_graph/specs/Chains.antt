@@ -49,9 +49,10 @@ chain_set known b i x (e ∷ es) =
     else e ∷ es)
     else e ∷ chain_set known b i x es
 
--- one of the chains changed
+-- one of the chains changed; a chain that isn't listed is empty
 abbrev pub bucket_set : (List Entry → List Entry) → ℕ → List (List Entry) → List (List Entry)
-bucket_set f i [] = []
+bucket_set f zero [] = f [] ∷ []
+bucket_set f (suc i) [] = [] ∷ bucket_set f i []
 bucket_set f zero (es ∷ ess) = f es ∷ ess
 bucket_set f (suc i) (es ∷ ess) = es ∷ bucket_set f i ess
 

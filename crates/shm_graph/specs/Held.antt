@@ -328,6 +328,10 @@ TailSound c r own tail unsent o = (tail + 1 ≤ own) × (unsent ≢ 0 → up_slo
 abbrev pub IsUnusedLane : ℕ → ℕ → (ℕ → ℕ) → Type 0
 IsUnusedLane tail front t = (tail ≡ 0) × (front ≡ 0) × ((k : ℕ) → t k ≡ 0)
 
+-- nothing waits to be sent or received where the pool has no queue: between an identity and itself, or one beyond the clients
+abbrev pub NothingWaits : ℕ → ℕ → (ℕ → ℕ) → (ℕ → ℕ) → Type 0
+NothingWaits n c unsent untaken = (r : ℕ) → (r ≡ c) ⊎ (n ≤ r) → (unsent r ≡ 0) × (untaken r ≡ 0)
+
 -- ---- the invariant
 
 -- what holds between any two word steps, of the words and of the memos
@@ -390,6 +394,8 @@ pub record HeldAt (g : Geometry) (w : Spot → ℕ) (v : View) : Type 0 where
   pub gone : (c : ℕ) → c < g.clients → v.status c ≡ status.Gone → Gone c (v.own c) (v.op c) (v.latch c) (v.owned c) (v.dying c) (v.unsent c) (v.untaken c)
   -- queues from an identity to itself are unused
   pub self_lanes : (c : ℕ) → c < g.clients → IsUnusedLane (w (Tail c c)) (w (Front c c)) (λ k. targets g w v (Slot c c k))
+  -- where there is no queue nothing waits to be sent or received
+  pub no_queue : (c : ℕ) → c < g.clients → NothingWaits g.clients c (v.unsent c) (v.untaken c)
   -- tails stay below the own era, so that they have a successor
   pub tails : (c r : ℕ) → c < g.clients → r < g.clients → TailSound c r (w (Era c c)) (w (Tail c r)) (v.unsent c r) (v.op c)
   -- all parts of a pool for tables are partitions, or none is

@@ -170,6 +170,7 @@ module _ (g : Geometry) (w : Spot → ℕ) (v : View) (c k b e to tag : ℕ) (m 
           | inr n ↦ rw (ne_eqb c d n) (h.gone d l st)
         ];
         self_lanes = subst (λ (t : Spot → ℕ). (d : ℕ) → d < g.clients → IsUnusedLane (tail d d) (front d d) (λ k. t (Slot d d k))) (sym path) h.self_lanes;
+        no_queue = h.no_queue;
         tails = λ d r l lr. at1_all (λ (i : ℕ) (x : Op). i < g.clients → TailSound i r (w (Era i i)) (tail i r) (v.unsent i r) x) v.op c o d
             (λ lc. let q = h.tails c r lc lr in (q.0, λ nz f. q.1 nz (λ z. f (sym (ap up_slot a.op) ∙ z)))) (λ _ ld. h.tails d r ld lr) l;
         parts = h.parts;

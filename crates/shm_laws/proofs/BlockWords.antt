@@ -259,6 +259,7 @@ module _ (g : Geometry) (w : Spot → ℕ) (v : View) (c : ℕ) (tag : ℕ → �
         ];
         gone = h.gone;
         self_lanes = subst (λ (t : Spot → ℕ). (d : ℕ) → d < g.clients → IsUnusedLane (tail d d) (front d d) (λ k. t (Slot d d k))) (sym path) h.self_lanes;
+        no_queue = h.no_queue;
         tails = h.tails;
         parts = h.parts;
         part = subst (λ (t : Spot → ℕ). (d : ℕ) → d < g.clients → PartTie (contents_of w' t) d (t (Home d)) (v.part d)) (sym path)

@@ -70,6 +70,7 @@ body_kept g w v c b i x o h a =
         | inr n ↦ rw (ne_eqb c d n) (h.gone d l st)
       ];
       self_lanes = subst (λ (t : Spot → ℕ). (d : ℕ) → d < g.clients → IsUnusedLane (tail d d) (front d d) (λ k. t (Slot d d k))) (sym path) h.self_lanes;
+      no_queue = h.no_queue;
       tails = tails_same g w v h c x o (Body b i) a.inside a.slot a.op;
       parts = h.parts;
       part = subst (λ (t : Spot → ℕ). (d : ℕ) → d < g.clients → PartTie (contents_of w' t) d (t (Home d)) (v.part d)) (sym path) (λ d l. part_stored g w v h d b i x l mine.1);

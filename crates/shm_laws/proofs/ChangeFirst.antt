@@ -173,6 +173,7 @@ module _ (g : Geometry) (w : Spot → ℕ) (v : View) (c x b e to : ℕ) (p : Sp
           | inr m ↦ rw (ne_eqb c d m) (h.gone d l st)
         ];
         self_lanes = subst (λ (t : Spot → ℕ). (d : ℕ) → d < g.clients → IsUnusedLane (tail d d) (front d d) (λ k. t (Slot d d k))) (sym path) (λ d l. let q = h.self_lanes d l in (q.0, q.1, λ k. lane_apart d d k ∙ q.2 k));
+        no_queue = h.no_queue;
         tails = λ d r l m. at1_all (λ (i : ℕ) (y : Op). i < g.clients → TailSound i r (eras i i) (tail i r) (v.unsent i r) y) v.op c o d
             (λ lc. let q = h.tails c r lc m in (q.0, λ nz f. q.1 nz (λ z. f (sym (ap up_slot a.op) ∙ z)))) (λ _ ld. h.tails d r ld m) l;
         parts = λ d i l m. loose d ∙ (h.parts d i l m ∙ sym (loose i));

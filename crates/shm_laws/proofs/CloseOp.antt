@@ -265,6 +265,7 @@ close_kept g w v c o h a =
         | inr n ↦ rw (ne_eqb c d n) (h.gone d l st)
       ];
       self_lanes = subst (λ (t : Spot → ℕ). (d : ℕ) → d < g.clients → IsUnusedLane (tail d d) (front d d) (λ k. t (Slot d d k))) (sym path) h.self_lanes;
+      no_queue = h.no_queue;
       tails = λ d r l lr. elim (cases_eq c d) [
         | inl x ↦ subst (λ j. TailSound j r (eras' j j) (w (Tail j r)) (v.unsent j r) (v'.op j)) x (subst (λ z. TailSound c r z (w (Tail c r)) (v.unsent c r) (v'.op c)) (sym (raised_here eras c (w (Era c c) + 1))) (let q = (h.tails c r a.inside lr).0 in (omega arith, λ _ _. omega arith)))
         | inr n ↦ subst (λ z. TailSound d r z (w (Tail d r)) (v.unsent d r) (v'.op d)) (sym (raised_other eras c (w (Era c c) + 1) d d n)) (subst (TailSound d r (w (Era d d)) (w (Tail d r)) (v.unsent d r)) (sym (at1_other v.op c o d n)) (h.tails d r l lr))

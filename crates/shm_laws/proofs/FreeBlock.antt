@@ -178,6 +178,7 @@ module _ (g : Geometry) (w : Spot → ℕ) (v : View) (c b tag : ℕ) (h : HeldA
           | inr n ↦ rw (ne_eqb c d n) (h.gone d l st)
         ];
         self_lanes = subst (λ (t : Spot → ℕ). (d : ℕ) → d < g.clients → IsUnusedLane (tail d d) (front d d) (λ k. t (Slot d d k))) (sym path) h.self_lanes;
+        no_queue = h.no_queue;
         tails = h.tails;
         parts = h.parts;
         part = subst (λ (t : Spot → ℕ). (d : ℕ) → d < g.clients → PartTie (contents_of w' t) d (t (Home d)) (v.part d)) (sym path) (λ d l. part_lives g w v h d heads' t l stays (λ _ _ _ _. refl) refl);

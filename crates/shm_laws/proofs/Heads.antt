@@ -68,6 +68,7 @@ head_kept g w v c s h a =
         | inr n ↦ rw (ne_eqb c d n) (let q = h.gone d l st in record { roots = q.roots; hold = q.hold; idle = q.idle; latched = q.latched; segments = q.segments; dyings = q.dyings; sends = λ j. sends d n j ∙ q.sends j; takes = λ j. takes d n j ∙ q.takes j })
       ];
       self_lanes = λ d l. let q = h.self_lanes d l in (q.0, rw (not_self d) q.1, q.2);
+      no_queue = λ d l i y. let q = h.no_queue d l i y in (q.0, untaken_kept d i q.1);
       tails = h.tails;
       parts = h.parts;
       part = h.part;

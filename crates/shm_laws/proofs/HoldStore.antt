@@ -62,6 +62,7 @@ hold_kept g w v c x h a =
         | inr n ↦ rw (ne_eqb c d n) (h.gone d l st)
       ];
       self_lanes = h.self_lanes;
+      no_queue = h.no_queue;
       tails = h.tails;
       parts = h.parts;
       part = h.part;

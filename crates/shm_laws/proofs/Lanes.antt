@@ -1,11 +1,16 @@
 -- queues where one slot's target changes
 use Rattle.std.proofs.Math.Path.{fun_ext}
-use Rattle.std.proofs.Common.{◌≡◌, ◌≢◌, ℕ, ◌+◌, ◌%◌, ◌<◌, ◌≤◌, refl, sym, ap, ◌∙◌, arith, List, [], ◌∷◌, ◌++◌, length, get_or, take, length-append, true, false, eqb, subst, inl, inr, ◌⊎◌, ◌&&◌}
+use Rattle.std.proofs.Common.{◌≡◌, ◌≢◌, ℕ, ◌+◌, ◌%◌, ◌<◌, ◌≤◌, refl, sym, ap, ◌∙◌, arith, List, [], ◌∷◌, ◌++◌, length, get_or, take, length-append, true, false, eqb, ltb, ltb-true, subst, inl, inr, ◌⊎◌, ◌&&◌}
 use Rattle.std.proofs.lemmas.List.{take-append-le}
 use Rattle.std.proofs.lemmas.Grind.{common_steps}
 use Rattle.std.proofs.lemmas.List.Elements.{All-push}
 use Rattle.std.proofs.lemmas.Bool.{cases_lt, cases_Bool, and_parts, and_cases, eqb-true, cond-true}
+use Rattle.shm_words.specs.declared.geometry.Geometry.{Geometry}
+use Rattle.shm_words.specs.Layout.{GeometryFits}
+use Rattle.shm_graph.specs.declared.spot.Spot.TheVariants.{Slot}
+use Rattle.shm_graph.specs.Spots.{IsAt}
 use Rattle.shm_graph.specs.Held.{LaneSound}
+use Rattle.shm_graph.proofs.SpotPlaces.{at_is_in}
 use Rattle.shm_graph.proofs.Holders.{apart_slots}
 use Rattle.shm_laws.specs.Steps.{at2}
 
@@ -63,6 +68,34 @@ other_lane s r k i j l e = elim (and_cases (eqb s i) (eqb r j) e) [
 
 pub this_lane : (s r k i j l : ℕ) → (eqb s i && eqb r j) ≡ true → (eqb s i && (eqb r j && eqb k l)) ≡ eqb k l
 this_lane s r k i j l e = let t = and_parts (eqb s i) (eqb r j) e in rw (t.0, t.1) refl
+
+-- a queue that the pool has is one of two of its clients
+pub lane_clients : (g : Geometry) (class : ℕ → ℕ → ℕ) (s r k : ℕ) → GeometryFits g → IsAt g class (Slot s r k) → (s < g.clients) × (r < g.clients)
+lane_clients g class s r k f at =
+    let e = and_parts (ltb s g.clients) (ltb r g.clients) (and_parts (ltb s g.clients && ltb r g.clients) (ltb k 8) (at_is_in g class (Slot s r k) f at)).0 in
+    (ltb-true s g.clients e.0, ltb-true r g.clients e.1)
+
+-- so it is no queue to its own sender, or to an identity beyond the clients
+pub lane_to : (n s r i j : ℕ) → s ≢ r → r < n → (j ≡ i) ⊎ (n ≤ j) → (eqb s i && eqb r j) ≡ true → ⊥
+lane_to n s r i j apart l y f =
+    let q = and_parts (eqb s i) (eqb r j) f in
+    let sender = eqb-true s i q.0 in
+    let receiver = eqb-true r j q.1 in
+    elim y [
+      | inl e ↦ apart (sender ∙ (sym e ∙ sym receiver))
+      | inr m ↦ absurd (omega arith)
+    ]
+
+-- nor one from its own receiver, or from an identity beyond the clients
+pub lane_from : (n s r i j : ℕ) → s ≢ r → s < n → (i ≡ j) ⊎ (n ≤ i) → (eqb s i && eqb r j) ≡ true → ⊥
+lane_from n s r i j apart l y f =
+    let q = and_parts (eqb s i) (eqb r j) f in
+    let sender = eqb-true s i q.0 in
+    let receiver = eqb-true r j q.1 in
+    elim y [
+      | inl e ↦ apart (sender ∙ (e ∙ sym receiver))
+      | inr m ↦ absurd (omega arith)
+    ]
 
 at_old : (xs : List ℕ) (x n : ℕ) → n < length xs → get_or (xs ++ x ∷ []) n 0 ≡ get_or xs n 0
 at_old xs x n h = grind (arith, common_steps)

@@ -106,6 +106,7 @@ latch_kept g w v c a' h a =
         | inr n ↦ rw (ne_eqb c d n) (h.gone d l st)
       ];
       self_lanes = h.self_lanes;
+      no_queue = h.no_queue;
       tails = h.tails;
       parts = h.parts;
       part = h.part;
@@ -216,6 +217,7 @@ back_kept g w v c a' kept values h a =
         | inr n ↦ rw (ne_eqb c d n) (h.gone d l st)
       ];
       self_lanes = h.self_lanes;
+      no_queue = h.no_queue;
       tails = h.tails;
       parts = h.parts;
       part = h.part;

@@ -52,6 +52,7 @@ fact_kept g w v c f test h lc new window =
       fresh = h.fresh;
       gone = h.gone;
       self_lanes = h.self_lanes;
+      no_queue = h.no_queue;
       tails = h.tails;
       parts = h.parts;
       part = h.part;

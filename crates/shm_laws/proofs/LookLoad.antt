@@ -70,6 +70,7 @@ look_kept g w v c b i h a =
       ];
       gone = h.gone;
       self_lanes = h.self_lanes;
+      no_queue = h.no_queue;
       tails = h.tails;
       parts = h.parts;
       part = h.part;

@@ -1,6 +1,6 @@
 -- the exchange that lowers a live block keeps the invariant, for any slot, and is one event
 use mathlib.Core.Path.{fun_ext}
-use Rattle.std.proofs.Common.{◌≡◌, ◌≢◌, ℕ, ◌+◌, ◌%◌, ◌^◌, ◌<◌, ◌≤◌, refl, sym, ap, ◌∙◌, arith, true, false, Bool, cond, eqb, eq-eqb, subst, inl, inr, ◌&&◌, List, []}
+use Rattle.std.proofs.Common.{◌≡◌, ◌≢◌, ℕ, ◌+◌, ◌%◌, ◌^◌, ◌<◌, ◌≤◌, refl, sym, ap, ◌∙◌, arith, true, false, Bool, cond, eqb, eq-eqb, subst, inl, inr, ◌⊎◌, ◌&&◌, List, []}
 use Rattle.std.specs.List.{All, Contains, filter}
 use Rattle.std.proofs.lemmas.List.Elements.{All-weaker}
 use Rattle.std.proofs.lemmas.Bool.{cases_Bool, cases_eq, true≢false, ne_eqb, eqb-true, and_parts}
@@ -26,7 +26,7 @@ use Rattle.shm_graph.specs.Stores.{not_block}
 use Rattle.shm_laws.specs.Steps.{LowerStep, lower_view, dying_after, unsent_back, untaken_after}
 use Rattle.shm_laws.proofs.Owns.{mine_other, small_stored, there_stored}
 use Rattle.shm_graph.proofs.Spotting.{block_is_at}
-use Rattle.shm_laws.proofs.Lanes.{lane_up, lane_taken, lane_same, other_lane, this_lane}
+use Rattle.shm_laws.proofs.Lanes.{lane_up, lane_taken, lane_same, other_lane, this_lane, lane_clients, lane_from}
 use Rattle.shm_laws.proofs.Keep.{live_block}
 use Rattle.shm_graph.proofs.Holders.{Holds, held_live_not_zero}
 use Rattle.shm_graph.specs.declared.table.Part.{Part}
@@ -116,6 +116,7 @@ module _ (g : Geometry) (w : Spot → ℕ) (v : View) (c b e n to : ℕ) (p : Sp
           | inr m ↦ rw (ne_eqb c d m) (let q = h.gone d l st in record { roots = q.roots; hold = q.hold; idle = q.idle; latched = q.latched; segments = q.segments; dyings = q.dyings; sends = λ r. unsent d m p r ∙ q.sends r; takes = λ r. untaken d m p r ∙ q.takes r })
         ];
         self_lanes = subst (λ (t : Spot → ℕ). (d : ℕ) → d < g.clients → IsUnusedLane (tail d d) (front d d) (λ k. t (Slot d d k))) (sym path) (λ d l. let q = h.self_lanes d l in (q.0, q.1, λ k. none (Slot d d k) (q.2 k)));
+        no_queue = λ d l r y. let q = h.no_queue d l r y in (none_unsent p d r q.0, none_untaken p mine_at op_sound.at d r y q.1);
         tails = λ d r l m. at1_all (λ (i : ℕ) (x : Op). i < g.clients → TailSound i r (eras i i) (tail i r) (v'.unsent i r) x) v.op c o d
             (λ lc. let q = h.tails c r lc m in (q.0, λ nz f. q.1 (less p c r nz) (λ z. f (sym (ap up_slot a.op) ∙ z))))
             (λ _ ld. let q = h.tails d r ld m in (q.0, λ nz f. q.1 (less p d r nz) f)) l;
@@ -240,6 +241,25 @@ module _ (g : Geometry) (w : Spot → ℕ) (v : View) (c b e n to : ℕ) (p : Sp
         | inr x ↦ (let z : eqb j c ≡ false = ne_eqb j c x in rw z refl)
       ]
       untaken d m _ s = refl
+
+      none_unsent : (q : Spot) (d r : ℕ) → v.unsent d r ≡ 0 → unsent_back c q v.unsent d r ≡ 0
+      none_unsent (Slot i j k) d r z = both (eqb i c && (eqb i d && eqb j r))
+        where
+          both : (y : Bool) → cond y 0 (v.unsent d r) ≡ 0
+          both true = refl
+          both false = z
+      none_unsent _ d r z = z
+
+      -- the slot is one of a queue that the pool has, from another identity
+      none_untaken : (q : Spot) → Holds w g v c q → IsAt g class q → (d s : ℕ) → (s ≡ d) ⊎ (g.clients ≤ s) → v.untaken d s ≡ 0 → untaken_after c q b v.untaken d s ≡ 0
+      none_untaken (Slot i j k) x at d s y z = elim (cases_Bool (eqb i s && eqb j d)) [
+        | inl f ↦ absurd (lane_from g.clients i j s d x.0 (lane_clients g class i j k h.fits at).0 y f)
+        | inr f ↦ rw (f, and_false (eqb j c)) z
+      ]
+      none_untaken (Root _ _) x at d s y z = z
+      none_untaken (Home _) x at d s y z = z
+      none_untaken (Body _ _) x at d s y z = z
+      none_untaken _ x at d s y z = absurd x
 
       lane : (q : Spot) → Holds w g v c q → t q ≡ b → (i j : ℕ) → i ≢ j → LaneSound (λ k. t (Slot i j k)) (tail i j) (front i j) (v.sent i j) (v.unsent i j) (v.received j i) (v.untaken j i) → LaneSound (λ k. upd t q 0 (Slot i j k)) (tail i j) (front i j) (v.sent i j) (unsent_back c q v.unsent i j) (v.received j i) (untaken_after c q b v.untaken j i)
       lane (Root _ _) x z i j n l = l

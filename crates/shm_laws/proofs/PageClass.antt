@@ -72,6 +72,7 @@ class_kept g w v c s q k h e =
       fresh = h.fresh;
       gone = h.gone;
       self_lanes = h.self_lanes;
+      no_queue = h.no_queue;
       tails = h.tails;
       parts = h.parts;
       part = h.part;

@@ -1,17 +1,15 @@
--- the store of a committed step into a slot of a queue keeps the invariant, and the graph stays
-use Rattle.std.proofs.Common.{◌≡◌, ◌≢◌, ℕ, ◌%◌, ◌^◌, ◌<◌, refl, sym, ap, ◌∙◌, arith, true, false, ◌&&◌, eq-eqb, ltb, ltb-true, subst, inl, inr, [], Option, None}
+-- the store of a committed step into a slot of a queue, also where it was stored before, keeps the invariant, and the graph stays
+use Rattle.std.proofs.Common.{◌≡◌, ◌≢◌, ℕ, ◌%◌, ◌^◌, ◌<◌, refl, sym, ap, ◌∙◌, arith, true, false, eq-eqb, subst, inl, inr, [], Option, None}
 use Rattle.std.specs.List.{All}
 use Rattle.std.proofs.lemmas.List.Elements.{All-weaker, All-get_or}
-use Rattle.std.proofs.lemmas.Bool.{cases_eq, ne_eqb, cond-true, cond-false, true≢false, false≢true, false_from_ne_true, and_parts}
+use Rattle.std.proofs.lemmas.Bool.{cases_eq, ne_eqb, cond-true, cond-false, true≢false, false≢true, false_from_ne_true}
 use Rattle.shm_words.specs.declared.geometry.Geometry.{Geometry}
 use Rattle.shm_words.specs.declared.header.Header.{Header}
 use Rattle.shm_words.specs.Headers.{header_of}
-use Rattle.shm_words.specs.Layout.{GeometryFits}
 use Rattle.shm_words.specs.Tags.{tag_author}
 use Rattle.shm_graph.specs.declared.spot.Spot.{Spot}
 use Rattle.shm_graph.specs.declared.spot.Spot.TheVariants.{Home, Era, Root, Tail, Front, Slot, Page, Head, Tag, Body}
-use Rattle.shm_graph.specs.declared.memo.First.TheVariants.{Committed}
-use Rattle.shm_graph.specs.declared.memo.Half.TheVariants.{Raising}
+use Rattle.shm_graph.specs.declared.memo.First.TheVariants.{Committed, Written}
 use Rattle.shm_graph.specs.declared.memo.Op.{Op}
 use Rattle.shm_graph.specs.declared.memo.Op.TheVariants.{Alloc, Up, Down, Change}
 use Rattle.shm_graph.specs.declared.memo.Stored.{Stored}
@@ -23,9 +21,9 @@ use Rattle.shm_graph.specs.Events.{Nothing, graph_of, Happens}
 use Rattle.shm_graph.specs.Tables.{contents_of, HasShape}
 use Rattle.shm_graph.specs.Held.{HeldAt, CountSound, SlotOf, reach_of, named_by, FactAt, TestAt, EraSound, KnownAt, LooksSound, LaneSound, IsUnusedLane, PartTie, ValueAt, MadeAt, Allowed, is_loose, is_root, is_slot, is_slot_to}
 use Rattle.shm_graph.proofs.Spotting.{same_spot_self, same_spot_is}
-use Rattle.shm_graph.proofs.SpotPlaces.{at_is_in}
 use Rattle.shm_graph.proofs.Holders.{Holds, apart_slots}
 use Rattle.shm_graph.proofs.Frames.{at1_all}
+use Rattle.shm_laws.proofs.Lanes.{lane_clients}
 use Rattle.shm_laws.proofs.Owns.{mine_other, small_stored, there_stored}
 use Rattle.shm_laws.proofs.Quiet.{quiet}
 use Rattle.shm_laws.proofs.Slots.{slot_names}
@@ -36,23 +34,20 @@ use Rattle.shm_laws.specs.Slotting.{QueueStep, queue_view}
 -- a step whose slot is one of a queue to its own identity takes a block out
 lowers : (c : ℕ) (o o' : Op) (x : ℕ) → Writes o o' x → Allowed c o → is_slot_to c (slot_of o) ≡ true → x ≡ 0
 lowers c (Down Committed p b e) o' x y a n = y.1
-lowers c (Up Committed p b e) o' x y a n = absurd (true≢false (sym n ∙ a))
-lowers c (Alloc Committed p b e) o' x y a n = absurd (no_root p a n)
+lowers c (Down Written p b e) o' x y a n = y.1
+lowers c (Up s p b e) o' x y a n = absurd (true≢false (sym n ∙ a))
+lowers c (Alloc s p b e) o' x y a n = absurd (no_root p a n)
   where
     no_root : (q : Spot) → is_root q ≡ true → is_slot_to c q ≡ true → ⊥
     no_root (Slot i j l) u m = false≢true u
     no_root (Root i j) u m = false≢true m
     no_root _ u m = cc
-lowers c (Change (Raising Committed) p a b e) o' x y z n = absurd (no_slot p z.0 n)
+lowers c (Change h p a b e) o' x y z n = absurd (no_slot p z.0 n)
   where
     no_slot : (q : Spot) → is_slot q ≡ false → is_slot_to c q ≡ true → ⊥
     no_slot (Slot i j l) u m = true≢false u
     no_slot _ u m = cc
 lowers c _ o' x y a n = absurd y
-
--- the sender of a queue that the pool has
-slot_sender : (g : Geometry) (class : ℕ → ℕ → ℕ) (s r k : ℕ) → GeometryFits g → IsAt g class (Slot s r k) → s < g.clients
-slot_sender g class s r k f at = let e = at_is_in g class (Slot s r k) f at in ltb-true s g.clients (and_parts (ltb s g.clients) (ltb r g.clients) (and_parts (ltb s g.clients && ltb r g.clients) (ltb k 8) e).0).0
 
 pub queue_kept : (g : Geometry) (w : Spot → ℕ) (v : View) (c s r k x : ℕ) (o : Op) → HeldAt g w v → QueueStep g w v c s r k x o → HeldAt g (upd w (Slot s r k) x) (queue_view v c o)
 queue_kept g w v c s r k x o h a =
@@ -93,6 +88,7 @@ queue_kept g w v c s r k x o h a =
         | inr n ↦ rw (ne_eqb c d n) (h.gone d l st)
       ];
       self_lanes = subst (λ (t : Spot → ℕ). (d : ℕ) → d < g.clients → IsUnusedLane (tail d d) (front d d) (λ k. t (Slot d d k))) (sym path) h.self_lanes;
+      no_queue = h.no_queue;
       tails = tails_same g w v h c x o (Slot s r k) a.inside a.slot a.op;
       parts = h.parts;
       part = subst (λ (t : Spot → ℕ). (d : ℕ) → d < g.clients → PartTie (contents_of w t) d (t (Home d)) (v.part d)) (sym path) h.part;
@@ -164,7 +160,7 @@ queue_kept g w v c s r k x o h a =
     ]
       where
         sender : i < g.clients
-        sender = slot_sender g class i d (front i d % 8) h.fits (subst (IsAt g class) e (at_slot g w v h c x o (Slot s r k) a.inside a.slot a.op))
+        sender = (lane_clients g class i d (front i d % 8) h.fits (subst (IsAt g class) e (at_slot g w v h c x o (Slot s r k) a.inside a.slot a.op))).0
 
     known_kept : (d : ℕ) → d < g.clients → (p : Spot) (z : ℕ) → KnownAt d tags bodies slot tail front (v.untaken d) (v.latch d) (reach_of t tail front v.looks d) (v.dying d) p z → KnownAt d tags bodies slot' tail front (v.untaken d) (v.latch d) (reach_of t tail front v.looks d) (v.dying d) p z
     known_kept d l (Body e j) z y = y

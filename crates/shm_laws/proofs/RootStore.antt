@@ -60,6 +60,7 @@ root_kept g w v c k x o h a =
         | inr n ↦ rw (ne_eqb c d n) (h.gone d l st)
       ];
       self_lanes = subst (λ (t : Spot → ℕ). (d : ℕ) → d < g.clients → IsUnusedLane (tail d d) (front d d) (λ k. t (Slot d d k))) (sym path) h.self_lanes;
+      no_queue = h.no_queue;
       tails = tails_same g w v h c x o (Root c k) a.inside a.slot a.op;
       parts = h.parts;
       part = subst (λ (t : Spot → ℕ). (d : ℕ) → d < g.clients → PartTie (contents_of w t) d (t (Home d)) (v.part d)) (sym path) h.part;

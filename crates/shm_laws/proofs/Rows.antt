@@ -87,6 +87,7 @@ begin_kept g w v c x o h a =
         | inr n ↦ rw (ne_eqb c d n) (h.gone d l st)
       ];
       self_lanes = subst (λ (t : Spot → ℕ). (d : ℕ) → d < g.clients → IsUnusedLane (tail d d) (front d d) (λ k. t (Slot d d k))) (sym path) h.self_lanes;
+      no_queue = h.no_queue;
       tails = λ d r l m. at1_all (λ (i : ℕ) (k : Op). i < g.clients → TailSound i r (w (Era i i)) (tail i r) (v.unsent i r) k) v.op c o d (λ l. let q = h.tails c r l m in (q.0, λ u _. q.1 u (no_slot r (tail c r % 8)))) (λ n l. h.tails d r l m) l;
       parts = h.parts;
       part = subst (λ (t : Spot → ℕ). (d : ℕ) → d < g.clients → PartTie (contents_of w t) d (t (Home d)) (v.part d)) (sym path) h.part;
@@ -228,6 +229,7 @@ row_stored g w v c j x h a =
         | inr n ↦ rw (ne_eqb c d n) (h.gone d l st)
       ];
       self_lanes = h.self_lanes;
+      no_queue = h.no_queue;
       tails = λ d r l m. subst (λ z. TailSound d r z (tail d r) (v.unsent d r) (v.op d)) (sym (own_same eras c j x d a.other)) (h.tails d r l m);
       parts = h.parts;
       part = h.part;

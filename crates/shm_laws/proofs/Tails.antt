@@ -68,6 +68,7 @@ tail_kept g w v c r h a =
         | inr n ↦ rw (ne_eqb c d n) (let q = h.gone d l st in record { roots = q.roots; hold = q.hold; idle = q.idle; latched = q.latched; segments = q.segments; dyings = q.dyings; sends = λ j. sends d n j ∙ q.sends j; takes = λ j. takes d n j ∙ q.takes j })
       ];
       self_lanes = λ d l. let q = h.self_lanes d l in (rw (not_self d) q.0, q.1, q.2);
+      no_queue = λ d l i y. let q = h.no_queue d l i y in (at2_all (λ d i x. v.unsent d i ≡ 0 → x ≡ 0) v.unsent c r 0 d i (λ _. refl) (λ _ x. x) q.0, q.1);
       tails = λ d i l m. tails d i l m (cases_Bool (eqb c d && eqb r i));
       parts = h.parts;
       part = h.part;

@@ -29,7 +29,7 @@ use Rattle.shm_graph.proofs.Holders.{Holds}
 use Rattle.shm_graph.proofs.Lists.{at1_here}
 use Rattle.shm_graph.proofs.Frames.{at1_all}
 use Rattle.shm_laws.proofs.Owns.{mine_other, small_stored, there_stored}
-use Rattle.shm_laws.proofs.Lanes.{lane_up, lane_same, other_lane, this_lane, no_self}
+use Rattle.shm_laws.proofs.Lanes.{lane_up, lane_same, other_lane, this_lane, no_self, lane_clients, lane_to}
 use Rattle.shm_laws.proofs.Keep.{live_block}
 use Rattle.shm_laws.proofs.Exchange.{era_exchange, facts_committed, count_exchange, named_kept, slot_kept, looks_kept, known_kept}
 use Rattle.shm_laws.proofs.Headers.{lives as headers_live, dying_stays, blocks_stay, making_stays, zero_stays, refs_stay, graph_stays}
@@ -119,6 +119,7 @@ module _ (g : Geometry) (w : Spot → ℕ) (v : View) (c b e to : ℕ) (p : Spot
           | inr n ↦ rw (ne_eqb c d n) (let q = h.gone d l st in record { roots = q.roots; hold = q.hold; idle = q.idle; latched = q.latched; segments = q.segments; dyings = q.dyings; sends = λ r. unsent d n p mine_at not_to r ∙ q.sends r; takes = q.takes })
         ];
         self_lanes = subst (λ (t : Spot → ℕ). (d : ℕ) → d < g.clients → IsUnusedLane (tail d d) (front d d) (λ k. t (Slot d d k))) (sym path) (λ d l. let q = h.self_lanes d l in (q.0, q.1, λ k. self_slot p mine_at d k ∙ q.2 k));
+        no_queue = λ d l r y. let q = h.no_queue d l r y in (none_unsent p mine_at op_sound.at d r y q.0, q.1);
         tails = λ d r l lr. elim (cases_eq c d) [
           | inl x ↦ subst (λ i. TailSound i r (eras i i) (tail i r) (unsent_after p b v.unsent i r) (v'.op i)) x (subst (TailSound c r (eras c c) (tail c r) (unsent_after p b v.unsent c r)) (sym (at1_here v.op c o)) (tail_own p mine_at not_to r (subst (TailSound c r (eras c c) (tail c r) (v.unsent c r)) a.op (h.tails c r a.inside lr))))
           | inr n ↦ rw (unsent d n p mine_at not_to r, ne_eqb c d n) (h.tails d r l lr)
@@ -271,6 +272,17 @@ module _ (g : Geometry) (w : Spot → ℕ) (v : View) (c b e to : ℕ) (p : Spot
       unsent d n (Home i) x y r = refl
       unsent d n (Body i j) x y r = refl
       unsent d n _ x y r = absurd x
+
+      -- the slot is one of a queue that the pool has, to another identity
+      none_unsent : (q : Spot) → Holds w g v c q → IsAt g class q → (d r : ℕ) → (r ≡ d) ⊎ (g.clients ≤ r) → v.unsent d r ≡ 0 → unsent_after q b v.unsent d r ≡ 0
+      none_unsent (Slot s i k) x at d r y z = elim (cases_Bool (eqb s d && eqb i r)) [
+        | inl f ↦ absurd (lane_to g.clients s i d r x.0 (lane_clients g class s i k h.fits at).1 y f)
+        | inr f ↦ rw f z
+      ]
+      none_unsent (Root _ _) x at d r y z = z
+      none_unsent (Home _) x at d r y z = z
+      none_unsent (Body _ _) x at d r y z = z
+      none_unsent _ x at d r y z = absurd x
 
       lane : (q : Spot) → Holds w g v c q → is_slot_to c q ≡ false → t q ≡ 0 → (i j : ℕ) → i ≢ j → LaneSound (λ k. t (Slot i j k)) (tail i j) (front i j) (v.sent i j) (v.unsent i j) (v.received j i) (v.untaken j i) → LaneSound (λ k. upd t q b (Slot i j k)) (tail i j) (front i j) (v.sent i j) (unsent_after q b v.unsent i j) (v.received j i) (v.untaken j i)
       lane (Root _ _) x y z i j n l = l

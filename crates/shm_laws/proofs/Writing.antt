@@ -1,10 +1,11 @@
--- the store of a committed step into its slot: targets, limbos and what is committed stay
+-- the store of a committed step into its slot, also where it was stored before: targets, limbos and what is committed stay
 use Rattle.std.proofs.Math.Path.{fun_ext}
 use Rattle.std.proofs.Common.{◌≡◌, ◌≢◌, ℕ, ◌+◌, ◌^◌, ◌<◌, ◌≤◌, refl, sym, ap, ◌∙◌, true, false, Bool, cond, ltb, subst}
 use Rattle.std.proofs.lemmas.Bool.{false_from_ne_true, cond-true}
 use Rattle.shm_words.specs.declared.geometry.Geometry.{Geometry}
 use Rattle.shm_graph.specs.declared.spot.Spot.{Spot}
 use Rattle.shm_graph.specs.declared.spot.Spot.TheVariants.{Spare, Status, Redo, Hold, Latch, Home, Era, Root, Tail, Front, Slot, Segment, Page, Unused, Head, Tag, Body}
+use Rattle.shm_graph.specs.declared.memo.First.{First}
 use Rattle.shm_graph.specs.declared.memo.First.TheVariants.{Begun, Committed, Written}
 use Rattle.shm_graph.specs.declared.memo.Half.TheVariants.{Raising, Lowering}
 use Rattle.shm_graph.specs.declared.memo.Op.{Op}
@@ -19,7 +20,7 @@ use Rattle.shm_graph.proofs.Holders.{Holds, one_holder}
 use Rattle.shm_graph.proofs.Frames.{at1_all}
 use Rattle.shm_graph.proofs.Counting.{covered_alone, op_at}
 use Rattle.shm_laws.proofs.Slots.{slot_alone}
-use Rattle.shm_laws.specs.Steps.{Writes}
+use Rattle.shm_laws.specs.Steps.{Writes, WritesFrom}
 
 -- what a write leaves
 pub record Same (o o' : Op) (x : ℕ) : Type 0 where
@@ -35,32 +36,38 @@ pub record Same (o o' : Op) (x : ℕ) : Type 0 where
 
 pub written : (o o' : Op) (x : ℕ) → Writes o o' x → Same o o' x
 written (Alloc Committed p b e) o' x (y, z) = record { was = refl; is = subst (λ k. is_op k ≡ true) (sym y) refl; slot = ap slot_of y; up = ap up_slot y; before = ap (On p) (sym z); after = ap cover_of y ∙ ap (On p) (sym z); limbo = ap limbo_of y; on = ap on_of y; room = ap room_of y }
+written (Alloc Written p b e) o' x (y, z) = record { was = refl; is = subst (λ k. is_op k ≡ true) (sym y) refl; slot = ap slot_of y; up = ap up_slot y; before = ap (On p) (sym z); after = ap cover_of y ∙ ap (On p) (sym z); limbo = ap limbo_of y; on = ap on_of y; room = ap room_of y }
 written (Up Committed p b e) o' x (y, z) = record { was = refl; is = subst (λ k. is_op k ≡ true) (sym y) refl; slot = ap slot_of y; up = ap up_slot y; before = ap (On p) (sym z); after = ap cover_of y ∙ ap (On p) (sym z); limbo = ap limbo_of y; on = ap on_of y; room = ap room_of y }
+written (Up Written p b e) o' x (y, z) = record { was = refl; is = subst (λ k. is_op k ≡ true) (sym y) refl; slot = ap slot_of y; up = ap up_slot y; before = ap (On p) (sym z); after = ap cover_of y ∙ ap (On p) (sym z); limbo = ap limbo_of y; on = ap on_of y; room = ap room_of y }
 written (Down Committed p b e) o' x (y, z) = record { was = refl; is = subst (λ k. is_op k ≡ true) (sym y) refl; slot = ap slot_of y; up = ap up_slot y; before = ap (On p) (sym z); after = ap cover_of y ∙ ap (On p) (sym z); limbo = ap limbo_of y; on = ap on_of y; room = ap room_of y }
+written (Down Written p b e) o' x (y, z) = record { was = refl; is = subst (λ k. is_op k ≡ true) (sym y) refl; slot = ap slot_of y; up = ap up_slot y; before = ap (On p) (sym z); after = ap cover_of y ∙ ap (On p) (sym z); limbo = ap limbo_of y; on = ap on_of y; room = ap room_of y }
 written (Change (Raising Committed) p a b e) o' x (y, z) = record { was = refl; is = subst (λ k. is_op k ≡ true) (sym y) refl; slot = ap slot_of y; up = ap up_slot y; before = ap (On p) (sym z); after = ap cover_of y ∙ ap (On p) (sym z); limbo = ap limbo_of y; on = ap on_of y; room = ap room_of y }
+written (Change (Raising Written) p a b e) o' x (y, z) = record { was = refl; is = subst (λ k. is_op k ≡ true) (sym y) refl; slot = ap slot_of y; up = ap up_slot y; before = ap (On p) (sym z); after = ap cover_of y ∙ ap (On p) (sym z); limbo = ap limbo_of y; on = ap on_of y; room = ap room_of y }
 written (Change (Raising Begun) p a b e) o' x y = absurd y
-written (Change (Raising Written) p a b e) o' x y = absurd y
 written (Change (Lowering s) p a b e) o' x y = absurd y
 written (Alloc Begun p b e) o' x y = absurd y
-written (Alloc Written p b e) o' x y = absurd y
 written (Up Begun p b e) o' x y = absurd y
-written (Up Written p b e) o' x y = absurd y
 written (Down Begun p b e) o' x y = absurd y
-written (Down Written p b e) o' x y = absurd y
 written Nothing o' x y = absurd y
 
+-- what was written, and the step that is left
+parts : (s : First) (after : Op) (new : ℕ) (o : Op) (x : ℕ) → WritesFrom s after new o x → (o ≡ after) × (x ≡ new)
+parts Begun after new o x y = absurd y
+parts Committed after new o x y = y
+parts Written after new o x y = y
+
 allowed : (c : ℕ) (o o' : Op) (x : ℕ) → Writes o o' x → Allowed c o → Allowed c o'
-allowed c (Alloc Committed p b e) o' x y a = subst (Allowed c) (sym y.0) a
-allowed c (Up Committed p b e) o' x y a = subst (Allowed c) (sym y.0) a
-allowed c (Down Committed p b e) o' x y a = subst (Allowed c) (sym y.0) a
-allowed c (Change (Raising Committed) p a b e) o' x y z = subst (Allowed c) (sym y.0) z
+allowed c (Alloc s p b e) o' x y a = subst (Allowed c) (sym (parts s _ _ o' x y).0) a
+allowed c (Up s p b e) o' x y a = subst (Allowed c) (sym (parts s _ _ o' x y).0) a
+allowed c (Down s p b e) o' x y a = subst (Allowed c) (sym (parts s _ _ o' x y).0) a
+allowed c (Change (Raising s) p a b e) o' x y z = subst (Allowed c) (sym (parts s _ _ o' x y).0) z
 allowed c _ o' x y a = absurd y
 
 tie : (g : Geometry) (class : ℕ → ℕ → ℕ) (redo own : ℕ) (old new : Words) (o o' : Op) (x : ℕ) → Writes o o' x → word_at new (slot_of o) ≡ x → OpTie g class redo own old o → OpTie g class redo own new o'
-tie g class redo own old new (Alloc Committed p b e) o' x y z h = subst (OpTie g class redo own new) (sym y.0) (record { spelled = h.spelled; current = h.current; at = h.at; word = z ∙ y.1 })
-tie g class redo own old new (Up Committed p b e) o' x y z h = subst (OpTie g class redo own new) (sym y.0) (record { spelled = h.spelled; current = h.current; at = h.at; word = z ∙ y.1 })
-tie g class redo own old new (Down Committed p b e) o' x y z h = subst (OpTie g class redo own new) (sym y.0) (record { spelled = h.spelled; current = h.current; at = h.at; word = z ∙ y.1 })
-tie g class redo own old new (Change (Raising Committed) p a b e) o' x y z h = subst (OpTie g class redo own new) (sym y.0) (record { spelled = h.spelled; current = h.current; at = h.at; word = z ∙ y.1 })
+tie g class redo own old new (Alloc s p b e) o' x y z h = subst (OpTie g class redo own new) (sym (parts s _ _ o' x y).0) (record { spelled = h.spelled; current = h.current; at = h.at; word = z ∙ (parts s _ _ o' x y).1 })
+tie g class redo own old new (Up s p b e) o' x y z h = subst (OpTie g class redo own new) (sym (parts s _ _ o' x y).0) (record { spelled = h.spelled; current = h.current; at = h.at; word = z ∙ (parts s _ _ o' x y).1 })
+tie g class redo own old new (Down s p b e) o' x y z h = subst (OpTie g class redo own new) (sym (parts s _ _ o' x y).0) (record { spelled = h.spelled; current = h.current; at = h.at; word = z ∙ (parts s _ _ o' x y).1 })
+tie g class redo own old new (Change (Raising s) p a b e) o' x y z h = subst (OpTie g class redo own new) (sym (parts s _ _ o' x y).0) (record { spelled = h.spelled; current = h.current; at = h.at; word = z ∙ (parts s _ _ o' x y).1 })
 tie g class redo own old new _ o' x y z h = absurd y
 
 -- a step of another identity, on another word

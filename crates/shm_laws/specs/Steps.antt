@@ -7,6 +7,7 @@ use Rattle.shm_words.specs.declared.geometry.Geometry.{Geometry}
 use Rattle.shm_graph.specs.declared.spot.Spot.{Spot}
 use Rattle.shm_graph.specs.declared.spot.Spot.TheVariants.{Redo, Hold, Latch, Home, Era, Root, Tail, Front, Slot, Page, Head, Tag, Body}
 use Rattle.shm_graph.specs.declared.memo.Status.TheVariants as status
+use Rattle.shm_graph.specs.declared.memo.First.{First}
 use Rattle.shm_graph.specs.declared.memo.First.TheVariants.{Begun, Committed, Written}
 use Rattle.shm_graph.specs.declared.memo.Op.{Op}
 use Rattle.shm_graph.specs.declared.memo.Op.TheVariants.{Nothing, Alloc, Up, Down, Change}
@@ -107,12 +108,18 @@ free_view v c b =
 
 -- ---- the store of a committed op into its slot, a reference word of a block
 
--- the op that is committed has written
+-- an op that is committed, and may have written before, leaves one that has
+abbrev pub WritesFrom : First → Op → ℕ → Op → ℕ → Type 0
+WritesFrom Begun after new o x = ⊥
+WritesFrom Committed after new o x = (o ≡ after) × (x ≡ new)
+WritesFrom Written after new o x = (o ≡ after) × (x ≡ new)
+
+-- the op o that has written x
 abbrev pub Writes : Op → Op → ℕ → Type 0
-Writes (Alloc Committed p b e) o x = (o ≡ Alloc Written p b e) × (x ≡ b)
-Writes (Up Committed p b e) o x = (o ≡ Up Written p b e) × (x ≡ b)
-Writes (Down Committed p b e) o x = (o ≡ Down Written p b e) × (x ≡ 0)
-Writes (Change (Raising Committed) p a b e) o x = (o ≡ Change (Raising Written) p a b e) × (x ≡ b)
+Writes (Alloc s p b e) o x = WritesFrom s (Alloc Written p b e) b o x
+Writes (Up s p b e) o x = WritesFrom s (Up Written p b e) b o x
+Writes (Down s p b e) o x = WritesFrom s (Down Written p b e) 0 o x
+Writes (Change (Raising s) p a b e) o x = WritesFrom s (Change (Raising Written) p a b e) b o x
 Writes _ o x = ⊥
 
 pub record BodyStep (g : Geometry) (v : View) (c b i x : ℕ) (o : Op) : Type 0 where

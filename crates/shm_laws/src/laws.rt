@@ -31,8 +31,8 @@ pub fn own_stores_kept()
     ensures head { (g : AGeometry) (w : ASpot → ℕ) (v : View) (c s : ℕ) → HeldAt g w v → HeadStep g w v c s → HeldAt g (upd w (Front s c) (w (Front s c) + 1)) (head_view v c s (w (Front s c) + 1)) }
 {}
 
-/// Stores of shared words: the new value of a committed step in its root, or in a reference word of a block; a page's class; a
-/// latch that is given back; and the header of a zero-count block that is freed.
+/// Stores of shared words: the new value of a committed step in its root, or in a reference word of a block, for the first time or
+/// again; a page's class; a latch that is given back; and the header of a zero-count block that is freed.
 pub fn shared_stores_kept()
     ensures root { (g : AGeometry) (w : ASpot → ℕ) (v : View) (c k x : ℕ) (o : AnOp) → HeldAt g w v → RootStep g w v c k x o → HeldAt g (upd w (Root c k) x) (root_view v c k x o) }
     ensures body { (g : AGeometry) (w : ASpot → ℕ) (v : View) (c b i x : ℕ) (o : AnOp) → HeldAt g w v → BodyStep g v c b i x o → HeldAt g (upd w (Body b i) x) (body_view v c b i x o) }
@@ -102,7 +102,7 @@ pub fn holding_kept()
     ensures give_quiet { (g : AGeometry) (w : ASpot → ℕ) (v : View) (c s : ℕ) → HeldAt g w v → SegmentBackStep g v c s → Happens g w Nothing (graph_of g w v) (graph_of g (upd w (Segment s) 0) (segment_back_view g v c s)) }
 {}
 
-/// The new value of a committed step is stored in the own home, or in a slot of a queue.
+/// The new value of a committed step is stored in the own home, or in a slot of a queue, for the first time or again.
 pub fn slot_stores_kept()
     ensures home { (g : AGeometry) (w : ASpot → ℕ) (v : View) (c x : ℕ) (o : AnOp) → HeldAt g w v → HomeStep g w v c x o → HeldAt g (upd w (Home c) x) (home_view v c x o) }
     ensures queue { (g : AGeometry) (w : ASpot → ℕ) (v : View) (c s r k x : ℕ) (o : AnOp) → HeldAt g w v → QueueStep g w v c s r k x o → HeldAt g (upd w (Slot s r k) x) (queue_view v c o) }

@@ -1,5 +1,5 @@
 -- what a memo shows of a step that a redo word begins at a reference word of a block
-use Rattle.std.proofs.Common.{◌≡◌, ℕ, ◌+◌, ◌-◌, ◌/◌, ◌%◌, ◌<◌, refl, sym, ap, ◌∙◌, subst, arith, inl, inr, List, [], ◌∷◌, ◌++◌, map, None, Some}
+use Rattle.std.proofs.Common.{◌≡◌, ℕ, ◌+◌, ◌-◌, ◌/◌, ◌%◌, ◌<◌, refl, sym, ap, ◌∙◌, subst, arith, inl, inr, List, [], ◌∷◌, ◌++◌, map, Option, None, Some}
 use Rattle.std.specs.List.{Contains}
 use Rattle.std.proofs.lemmas.List.Elements.{All-nil, All-cons, All-contains, Contains-append_cases, Contains-append_left, Contains-append_right}
 use Rattle.shm_words.specs.declared.geometry.Geometry.{Geometry}
@@ -16,12 +16,13 @@ use Rattle.shm_graph.specs.declared.spot.Spot.TheVariants.{Era, Tag, Body}
 use Rattle.shm_graph.specs.Spots.{spot_address, class_at, IsAt}
 use Rattle.shm_graph.specs.Blocks.{classes, headers, IsBlock, IsLive}
 use Rattle.shm_graph.specs.Reach.{reached_blocks}
-use Rattle.shm_graph.specs.Telling.{Claim, bare, tag_claim, tag_claims, Value, roles, shaped, role_claim}
+use Rattle.shm_graph.specs.Telling.{Claim, bare, tag_claim, tag_claims, Value, roles, shaped, role_claim, claims}
 use Rattle.shm_graph.specs.Views.{view, own_word}
 use Rattle.shm_graph.specs.Held.{HeldAt, odd}
-use Rattle.shm_graph.proofs.Holders.{Holds, held_live_block, reach_counted}
+use Rattle.shm_graph.proofs.Holders.{Holds, held_live_block}
 use Rattle.shm_graph.proofs.KnownChange.{KnownHolds}
 use Rattle.shm_graph.proofs.LoadTold.{told_load}
+use Rattle.shm_graph.proofs.Claims.{ClaimSound, claims_sound}
 use Rattle.shm_graph.proofs.Reached.{reached_here}
 use Rattle.shm_graph.proofs.Spotting.{block_within, body_is_at}
 use Rattle.shm_laws.specs.Steps.{BeginStep}
@@ -32,7 +33,7 @@ use Rattle.shm_steps.proofs.BeginAt.{SlotHas, up_at, down_at, change_at}
 use Rattle.shm_steps.proofs.Covering.{covers_word}
 
 -- what a tag claims of its block
-abbrev claim_by : ℕ → ℕ → Claim
+abbrev pub claim_by : ℕ → ℕ → Claim
 claim_by b t = record { block = b; refs = tag_refs t; plain = tag_plain t; author = Some (tag_author t) }
 
 -- a tag that is listed claims that
@@ -48,16 +49,16 @@ listed_claims b t (s ∷ ks) h =
     only : (x y : Stored) → Contains (x ∷ []) y → x ≡ y
     only x y h = All-contains (λ z. x ≡ z) (x ∷ []) y (All-cons (λ z. x ≡ z) x [] refl (All-nil (λ z. x ≡ z))) h
 
--- a word of a block whose tag is listed is covered
+-- the memo tells of a block whose tag is listed
+pub listed_told : (c : ℕ) (m : Memo) (b t : ℕ) → Contains m.known (record { spot = Tag b; value = t }) → Contains (claims c m) (claim_by b t)
+listed_told c m b t h =
+    Contains-append_left ((tag_claims m.known ++ map (role_claim m.latch) (roles m)) ++ map (λ d. shaped None d Value) m.values) (map bare (reached_blocks c m ++ m.dying)) (claim_by b t)
+    (Contains-append_left (tag_claims m.known ++ map (role_claim m.latch) (roles m)) (map (λ d. shaped None d Value) m.values) (claim_by b t)
+    (Contains-append_left (tag_claims m.known) (map (role_claim m.latch) (roles m)) (claim_by b t) (listed_claims b t m.known h)))
+
+-- so that it covers the reference words
 pub listed_covered : (c : ℕ) (m : Memo) (b i t : ℕ) → Contains m.known (record { spot = Tag b; value = t }) → i < tag_refs t → IsCovered c m (b + 2 + i)
-listed_covered c m b i t h l =
-    let k : Claim = claim_by b t in (
-      k,
-      Contains-append_left ((tag_claims m.known ++ map (role_claim m.latch) (roles m)) ++ map (λ d. shaped None d Value) m.values) (map bare (reached_blocks c m ++ m.dying)) k
-          (Contains-append_left (tag_claims m.known ++ map (role_claim m.latch) (roles m)) (map (λ d. shaped None d Value) m.values) k
-          (Contains-append_left (tag_claims m.known) (map (role_claim m.latch) (roles m)) k (listed_claims b t m.known h))),
-      covers_word k (b + 2 + i) (omega arith) (omega arith),
-    )
+listed_covered c m b i t h l = (claim_by b t, listed_told c m b t h, covers_word (claim_by b t) (b + 2 + i) (omega arith) (omega arith))
 
 -- the address of a word of a block
 pub word_address : (g : Geometry) (b i : ℕ) → spot_address g (Body b i) ≡ b + 2 + i
@@ -73,14 +74,10 @@ module _ (g : Geometry) (w : Spot → ℕ) (r : ℕ → Memo) (c : ℕ) (h : Hel
   pub known_here : (p : Spot) (x : ℕ) → Contains m.known (record { spot = p; value = x }) → KnownHolds g w (view r) c (record { spot = p; value = x })
   known_here p x k = All-contains (KnownHolds g w (view r) c) m.known (record { spot = p; value = x }) (h.known c l) k
 
-  -- a block whose reference words c may store is live, and c may store them
-  own_live : (d t : ℕ) → MayStoreIn c m d t → IsLive (headers w) d
-  own_live d t (inl z) = ((h.dying c l).listed d z).0
-  own_live d t (inr z) = (reach_counted g w (view r) h c d l (reached_here g w r h c l d z.2)).0
-
-  own_holds : (d t i : ℕ) → w (Tag d) ≡ t → i < tag_refs t → MayStoreIn c m d t → Holds w g (view r) c (Body d i)
-  own_holds d t i e s (inl z) = let q = (h.dying c l).listed d z in (q.0, subst (λ n. i < tag_refs n) (sym e) s, inl (q.1, q.2))
-  own_holds d t i e s (inr z) = (own_live d t (inr z), subst (λ n. i < tag_refs n) (sym e) s, inr (ap tag_author e ∙ z.1, z.0, reached_here g w r h c l d z.2))
+  -- c may store the reference words of such a block
+  own_holds : (d i : ℕ) (author : Option ℕ) → IsLive (headers w) d → i < tag_refs (w (Tag d)) → ((a : ℕ) → author ≡ Some a → tag_author (w (Tag d)) ≡ a) → MayStoreIn c m d author → Holds w g (view r) c (Body d i)
+  own_holds d i author live low is (inl z) = let q = (h.dying c l).listed d z in (q.0, low, inl (q.1, q.2))
+  own_holds d i author live low is (inr z) = (live, low, inr (is c z.1, z.0, reached_here g w r h c l d z.2))
 
   -- the pool has the reference words of a live block
   word_is_at : (d i : ℕ) → IsLive (headers w) d → i < tag_refs (w (Tag d)) → IsAt g (classes w) (Body d i)
@@ -95,11 +92,17 @@ module _ (g : Geometry) (w : Spot → ℕ) (r : ℕ → Memo) (c : ℕ) (h : Hel
   -- a known reference word that c may store
   pub own_word_has : (d i x : ℕ) → IsOwnWord c m d i x → SlotHas g w r c (Body d i) x
   own_word_has d i x a =
-      let tag : w (Tag d) ≡ a.tag.0 = (known_here (Tag d) a.tag.0 a.tag.1).0 in
-      let holds : Holds w g (view r) c (Body d i) = own_holds d a.tag.0 i tag a.tag.2 a.tag.3 in
-      let at : IsAt g (classes w) (Body d i) = word_is_at d i holds.0 holds.1 in
+      let k : Claim = a.told.0 in
+      let low : i < k.refs = a.told.3 in
+      let sound : ClaimSound g w (view r) c k = All-contains (ClaimSound g w (view r) c) (claims c m) k (claims_sound g w r h c l) a.told.1 in
+      let of : k.block ≡ d = a.told.2 in
+      let refs : tag_refs (w (Tag d)) ≡ k.refs = ap (λ b. tag_refs (w (Tag b))) (sym of) ∙ (sound.shape (λ z. absurd (omega arith))).0 in
+      let live : IsLive (headers w) d = subst (IsLive (headers w)) of sound.live in
+      let holds : Holds w g (view r) c (Body d i) = own_holds d i k.author live (subst (λ n. i < n) (sym refs) low) (λ b e. ap (λ y. tag_author (w (Tag y))) (sym of) ∙ sound.author b e) a.told.4 in
+      let at : IsAt g (classes w) (Body d i) = word_is_at d i live holds.1 in
       record {
-        told = told_load g w r h c l (spot_address g (Body d i)) (Body d i) at refl (inr (subst (IsCovered c m) (sym (word_address g d i)) (listed_covered c m d i a.tag.0 a.tag.1 a.tag.2)));
+        told = told_load g w r h c l (spot_address g (Body d i)) (Body d i) at refl
+            (inr (subst (IsCovered c m) (sym (word_address g d i)) (k, a.told.1, covers_word k (d + 2 + i) (omega arith) (omega arith))));
         at = at;
         holds = holds;
         word = (known_here (Body d i) x a.word).0;

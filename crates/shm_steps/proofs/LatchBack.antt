@@ -38,7 +38,7 @@ use Rattle.shm_words.specs.Tags.{tag_author, tag_refs}
 use Rattle.shm_graph.proofs.Keeping.{told_fixed}
 
 -- what is known of a word is among what is known
-known_at_has : (q : Spot) (ks : List Stored) (x : ℕ) → known_at q ks ≡ Some x → Contains ks (record { spot = q; value = x })
+pub known_at_has : (q : Spot) (ks : List Stored) (x : ℕ) → known_at q ks ≡ Some x → Contains ks (record { spot = q; value = x })
 known_at_has q [] x e = cc
 known_at_has q (s ∷ ss) x e = go (is_at q s) refl e
     (λ z. Contains-append_right (s ∷ []) ss (record { spot = q; value = x }) (known_at_has q ss x z))

@@ -27,3 +27,14 @@ pub mod BeginAt
 pub mod BeginSlots
 pub mod BeginWords
 pub mod KeptAfter
+pub mod Relinking
+pub mod Repartition
+pub mod Remapping
+pub mod Reparted
+pub mod Walked
+pub mod TableWords
+pub mod TableLaws
+pub mod Reaching
+pub mod Seeking
+pub mod HeldOver
+pub mod UnlatchedValue

@@ -101,6 +101,7 @@ looks_dropped g w v c ks vs h idle known values =
           (λ l n. let q = h.fresh c l n in subst (λ (x : List Look). Fresh c (v.own c) (v.op c) (v.latch c) x (v.making c) (v.owned c) (v.dying c) (v.unsent c) (v.untaken c)) q.looked q) (λ n. h.fresh d);
       gone = h.gone;
       self_lanes = h.self_lanes;
+      no_queue = h.no_queue;
       tails = h.tails;
       parts = h.parts;
       part = h.part;

@@ -1,5 +1,5 @@
 -- the store of a committed step into its slot, as machines use it
-use Rattle.std.proofs.Common.{◌≡◌, ℕ, refl, sym, ap, subst, false, ◌∷◌, None, inl, inr, true, ◌&&◌, ◌∙◌}
+use Rattle.std.proofs.Common.{◌≡◌, ℕ, ◌^◌, ◌<◌, refl, sym, ap, subst, false, ◌∷◌, None, inl, inr, true, ◌&&◌, ◌∙◌}
 use Rattle.shm_graph.specs.declared.ask.Ask.TheVariants.{Store}
 use Rattle.shm_graph.specs.declared.ask.Me.{Me}
 use Rattle.shm_graph.specs.declared.memo.Memo.{Memo}
@@ -9,21 +9,23 @@ use Rattle.shm_graph.specs.Spots.{spot_at, same_spot}
 use Rattle.shm_graph.specs.Blocks.{classes}
 use Rattle.shm_graph.specs.Views.{View, view, at1}
 use Rattle.shm_graph.specs.Asks.{Trail}
-use Rattle.shm_graph.specs.Stores.{op_written}
+use Rattle.shm_graph.specs.Stores.{op_written, stage_written}
 use Rattle.shm_graph.specs.Laws.{Frame, Stands, KeptAt}
 use Rattle.shm_graph.proofs.Keeping.{told_fixed}
 use Rattle.shm_graph.proofs.KindKeeping.{in_frame, kept_from}
 use Rattle.shm_graph.proofs.MemoParts.{put_same, parts, put_parts}
-use Rattle.shm_laws.specs.Steps.{RootStep, root_view, BodyStep, Writes, body_view}
+use Rattle.shm_laws.specs.Steps.{RootStep, root_view, BodyStep, Writes, WritesFrom, body_view}
 use Rattle.shm_laws.proofs.RootStore.{root_kept}
+use Rattle.shm_laws.proofs.Writing.{written}
 use Rattle.shm_laws.proofs.Quiet.{root_quiet, body_quiet}
-use Rattle.shm_steps.specs.Conditions.{MayWrite}
-use Rattle.shm_graph.specs.declared.memo.Op.TheVariants.{Alloc, Change, Down, Up}
-use Rattle.shm_graph.specs.declared.memo.First.TheVariants.{Committed}
+use Rattle.shm_steps.specs.Conditions.{IsHere, MayWrite}
+use Rattle.shm_graph.specs.declared.memo.Op.TheVariants.{Nothing, Alloc, Change, Down, Up}
+use Rattle.shm_graph.specs.declared.memo.First.{First}
+use Rattle.shm_graph.specs.declared.memo.First.TheVariants.{Begun, Committed, Written}
 use Rattle.shm_laws.specs.Slotting.{HomeStep, QueueStep, home_view, queue_view}
-use Rattle.shm_graph.specs.Ops.{On, cover_of, is_op, slot_of}
+use Rattle.shm_graph.specs.Ops.{On, cover_of, cover_from, is_op, slot_of}
 use Rattle.shm_graph.specs.declared.memo.Op.{Op}
-use Rattle.shm_graph.specs.declared.memo.Half.TheVariants.{Raising}
+use Rattle.shm_graph.specs.declared.memo.Half.TheVariants.{Raising, Lowering}
 use Rattle.std.proofs.lemmas.Bool.{and_from, cond-true}
 use Rattle.shm_laws.proofs.BodyStore.{body_kept}
 use Rattle.shm_laws.proofs.HomeStore.{home_kept, home_quiet}
@@ -87,11 +89,27 @@ queue_stored me w r f tr at i j k x s going e a =
 
 -- a step that may write covers its slot
 writes_cover : (o new : Op) (x : ℕ) (p : Spot) → slot_of o ≡ p → Writes o new x → (cover_of o ≡ On p x) × (is_op o ≡ true)
-writes_cover (Alloc Committed q b e) new x p s y = (ap (λ z. On z b) s ∙ ap (On p) (sym y.1), refl)
-writes_cover (Up Committed q b e) new x p s y = (ap (λ z. On z b) s ∙ ap (On p) (sym y.1), refl)
-writes_cover (Down Committed q b e) new x p s y = (ap (λ z. On z 0) s ∙ ap (On p) (sym y.1), refl)
-writes_cover (Change (Raising Committed) q a b e) new x p s y = (ap (λ z. On z b) s ∙ ap (On p) (sym y.1), refl)
-writes_cover _ new x p s y = absurd y
+writes_cover o new x p s y = let q = written o new x y in (q.before ∙ ap (λ z. On z x) s, q.was)
+
+on_is : (q p : Spot) (new x : ℕ) → On q new ≡ On p x → (q ≡ p) × (x ≡ new)
+on_is q p new x e = (cc, cc)
+
+covers_stage : (s : First) (q p : Spot) (new x : ℕ) (o : First → Op) → cover_from s q new ≡ On p x → (q ≡ p) × WritesFrom s (o Written) new (o (stage_written s)) x
+covers_stage Begun q p new x o e = cc
+covers_stage Committed q p new x o e = let k = on_is q p new x e in (k.0, (refl, k.1))
+covers_stage Written q p new x o e = let k = on_is q p new x e in (k.0, (refl, k.1))
+
+covers_write : (o : Op) (p : Spot) (x : ℕ) → cover_of o ≡ On p x → (slot_of o ≡ p) × Writes o (op_written o) x
+covers_write (Alloc s q b e) p x y = covers_stage s q p b x (λ z. Alloc z q b e) y
+covers_write (Up s q b e) p x y = covers_stage s q p b x (λ z. Up z q b e) y
+covers_write (Down s q b e) p x y = covers_stage s q p 0 x (λ z. Down z q b e) y
+covers_write (Change (Raising s) q a b e) p x y = covers_stage s q p b x (λ z. Change (Raising z) q a b e) y
+covers_write (Change (Lowering s) q a b e) p x y = cc
+covers_write Nothing p x y = cc
+
+-- a step that is committed may write, whether or not it has before
+pub may_write : (m : Memo) (p : Spot) (x : ℕ) → IsHere m → cover_of m.op ≡ On p x → x < 2 ^ 64 → MayWrite m p x
+may_write m p x here on small = let q = covers_write m.op p x on in record { here = here; slot = q.0; op = q.1; small = small }
 
 -- a reference word of a block
 pub body_stored : (me : Me) (w : Spot → ℕ) (r : ℕ → Memo) (f : Frame) (tr : Trail) (at b i x : ℕ) → Stands me w r f tr → f.fresh ≡ false → spot_at me.geometry (classes w) at ≡ Body b i → MayWrite (r me.who) (Body b i) x

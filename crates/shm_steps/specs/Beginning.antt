@@ -1,13 +1,13 @@
 -- what a count step that a redo word begins needs of the memo of its identity, for changes and for slots beside roots
-use Rattle.std.specs.Prelude.{◌≡◌, ◌≢◌, ℕ, ◌+◌, ◌%◌, ◌^◌, ◌<◌, ◌≤◌, true, ◌⊎◌, Some, slice_index}
+use Rattle.std.specs.Prelude.{◌≡◌, ◌≢◌, ℕ, ◌+◌, ◌%◌, ◌^◌, ◌<◌, ◌≤◌, true, ◌⊎◌, Option, Some, slice_index}
 use Rattle.std.specs.List.{Contains}
-use Rattle.shm_words.specs.Tags.{tag_refs, tag_author}
-use Rattle.shm_graph.specs.declared.spot.Spot.TheVariants.{Home, Era, Root, Tail, Front, Slot, Tag, Body}
+use Rattle.shm_graph.specs.declared.spot.Spot.TheVariants.{Home, Era, Root, Tail, Front, Slot, Body}
 use Rattle.shm_graph.specs.declared.memo.Fact.TheVariants.{Counter}
 use Rattle.shm_graph.specs.declared.memo.Op.TheVariants.{Nothing}
 use Rattle.shm_graph.specs.declared.memo.Memo.{Memo}
 use Rattle.shm_graph.specs.Views.{own_word}
 use Rattle.shm_graph.specs.Reach.{is_reached}
+use Rattle.shm_graph.specs.Telling.{Claim, claims}
 use Rattle.shm_steps.specs.Conditions.{IsHere}
 
 -- no step is in progress, and the own era leaves room for one that takes it up by less than n
@@ -54,13 +54,13 @@ pub record MayTakeBack (n c : ℕ) (m : Memo) (i k b : ℕ) : Type 0 where
   pub some : b ≢ 0
   pub unsent : slice_index m.unsent i ≡ b
 
--- c may store the reference words of this block: it is a zero-count block of c, or its tag t says that it is c's own, c has it in reach, and holds its own latch
-abbrev pub MayStoreIn : ℕ → Memo → ℕ → ℕ → Type 0
-MayStoreIn c m d t = Contains m.dying d ⊎ ((m.latch ≡ Some c) × (tag_author t ≡ c) × (is_reached c m d ≡ true))
+-- c may store the reference words of this block, whose author is told: it is a zero-count block of c, or it is c's own, c has it in reach, and holds its own latch
+abbrev pub MayStoreIn : ℕ → Memo → ℕ → Option ℕ → Type 0
+MayStoreIn c m d author = Contains m.dying d ⊎ ((m.latch ≡ Some c) × (author ≡ Some c) × (is_reached c m d ≡ true))
 
--- word i of block d is a reference word that c may store, and is x: both the tag and the word are known
+-- word i of block d is a reference word that c may store, and is x: the block's shape is told, by its tag or by what was read of a table, and the word is known
 pub record IsOwnWord (c : ℕ) (m : Memo) (d i x : ℕ) : Type 0 where
-  pub tag : (t : ℕ) × Contains m.known (record { spot = Tag d; value = t }) × (i < tag_refs t) × MayStoreIn c m d t
+  pub told : (k : Claim) × Contains (claims c m) k × (k.block ≡ d) × (i < k.refs) × MayStoreIn c m d k.author
   pub word : Contains m.known (record { spot = Body d i; value = x })
 
 -- the word is empty, and is to have a block in reach

@@ -12,7 +12,7 @@ pub record IsHere (m : Memo) : Type 0 where
   pub joined : m.status ≢ status.New
   pub stays : m.status ≢ status.Gone
 
--- the committed step has this slot, and x as its new value
+-- the step is committed, and may have written before; it has this slot, and x as its new value
 pub record MayWrite (m : Memo) (p : Spot) (x : ℕ) : Type 0 where
   pub here : IsHere m
   pub slot : slot_of m.op ≡ p

@@ -6,3 +6,5 @@ pub mod Lowering
 pub mod Unlatching
 pub mod Reading
 pub mod Beginning
+pub mod Reparting
+pub mod Walking

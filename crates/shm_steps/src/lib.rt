@@ -10,6 +10,7 @@ mod exchanging;
 mod own;
 mod preparing;
 mod reading;
+mod tables;
 mod unlatching;
 mod writing;
 
@@ -18,5 +19,6 @@ pub use exchanging::header_exchanges;
 pub use own::{own_stores, root_begins};
 pub use preparing::preparing_steps;
 pub use reading::body_loads;
+pub use tables::{table_steps, table_walks};
 pub use unlatching::latch_given_back;
 pub use writing::slot_stores;

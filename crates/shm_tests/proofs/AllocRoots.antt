@@ -28,7 +28,7 @@ use Rattle.shm_alloc.specs.declared.point.AllocState.{AllocState}
 use Rattle.shm_alloc.specs.declared.request.Request.{Request}
 use Rattle.shm_alloc.specs.AllocControl.{tag_asked}
 use Rattle.shm_alloc.specs.AllocFits.{AllocGives, MadeGives}
-use Rattle.shm_tests.specs.Counting.{member, root_word}
+use Rattle.shm_count.specs.Roots.{member, root_word}
 
 -- the root of the new block holds it, and each other root what it held
 made_word : (me : Me) (q : Request) (r0 r : Memo) (a : Made) (j : ℕ) → MadeGives me q r0 r a → root_word me.who r j ≡ cond (eqb a.root j) a.block (root_word me.who r0 j)

@@ -1,8 +1,6 @@
 pub mod FirstJoin
 pub mod RunSteps
 pub mod Answering
-pub mod RootMemos
-pub mod RootSpots
 pub mod RootAnswers
 pub mod AllocRoots
 pub mod TearAnswers

@@ -19,9 +19,9 @@ use Rattle.shm_count.specs.declared.answer.EraSpent.{EraSpent}
 use Rattle.shm_count.specs.declared.answer.UpFault.{UpFault}
 use Rattle.shm_count.specs.declared.point.Aim.TheVariants.{Up, Down, Change}
 use Rattle.shm_count.specs.StepMachines.{ChangeGives, DownGives, UpGives, down_means, up_means}
-use Rattle.shm_tests.specs.Counting.{member, root_step, root_word}
-use Rattle.shm_tests.proofs.RootMemos.{StepLeft, dying_change, dying_down}
-use Rattle.shm_tests.proofs.RootSpots.{done_root, left_root}
+use Rattle.shm_count.specs.Roots.{member, root_step, root_word}
+use Rattle.shm_count.proofs.RootMemos.{StepLeft, dying_change, dying_down}
+use Rattle.shm_count.proofs.RootSpots.{done_root, left_root}
 
 -- c had root k of the pool p between two calls, and the pool came to be q
 module _ (p q : Pool) (run : IsRun p) (run' : IsRun q) (start : q.start ≡ p.start) (c k : ℕ) (l : c < p.start.geometry.clients) (s : k < 16) (idle : IsIdle c (memo_of p c)) where

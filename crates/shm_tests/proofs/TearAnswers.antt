@@ -25,8 +25,8 @@ use Rattle.shm_count.specs.TearControl.{tear_control, TearKnows}
 use Rattle.shm_count.specs.TearFits.{CanTear, TearFits, TearGives}
 use Rattle.shm_count.specs.TearGoing.{begins}
 use Rattle.shm_count.specs.TearMemos.{Stays}
-use Rattle.shm_tests.specs.Counting.{member, root_word, tear_of}
-use Rattle.shm_tests.proofs.RootSpots.{is_here}
+use Rattle.shm_count.specs.Roots.{member, root_word, tear_of}
+use Rattle.shm_count.proofs.RootSpots.{is_here}
 use Rattle.shm_tests.proofs.RunSteps.{fits_acting}
 
 -- ---- before

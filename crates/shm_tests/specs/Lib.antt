@@ -1,2 +1,1 @@
 pub mod Allocating
-pub mod Counting

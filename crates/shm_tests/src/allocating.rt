@@ -13,7 +13,7 @@ ghost use Rattle.shm_alloc.specs.declared.point.AllocState.{AllocState as AState
 ghost use Rattle.shm_alloc.specs.AllocFits.{AllocGives};
 ghost use Rattle.shm_count.specs.StepControl.{IsInside};
 ghost use Rattle.shm_tests.specs.Allocating.{IsAsked};
-ghost use Rattle.shm_tests.specs.Counting.{AreRootsReached, member, root_word};
+ghost use Rattle.shm_count.specs.Roots.{AreRootsReached, member, root_word};
 
 use crate::driving::run;
 use shm_alloc::{Alloc, AllocFault, TooLarge};

@@ -12,7 +12,7 @@ ghost use Rattle.shm_plain.specs.Pools.{IsRun, MayStep, memo_of};
 ghost use Rattle.shm_count.specs.declared.point.Aim.TheVariants as aims;
 ghost use Rattle.shm_count.specs.StepControl.{IsInside};
 ghost use Rattle.shm_count.specs.StepMachines.{ChangeGives, DownGives, UpGives};
-ghost use Rattle.shm_tests.specs.Counting.{AreRootsReached, member, root_step, root_word};
+ghost use Rattle.shm_count.specs.Roots.{AreRootsReached, member, root_step, root_word};
 
 use crate::driving::run;
 use shm_count::{EraSpent, StepChange, StepDown, StepUp, UpFault};

@@ -5,6 +5,7 @@ pub mod allocating;
 pub mod counting;
 pub mod driving;
 pub mod joining;
+pub mod leaving;
 pub mod tearing;
 
 pub use allocating::{allocate, join};

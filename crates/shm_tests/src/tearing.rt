@@ -8,7 +8,7 @@ ghost use Rattle.shm_graph.specs.Idle.{IsIdle};
 ghost use Rattle.shm_graph.specs.Stores.{not_block};
 ghost use Rattle.shm_plain.specs.Pools.{IsRun, MayStep, memo_of};
 ghost use Rattle.shm_count.specs.TearFits.{TearGives};
-ghost use Rattle.shm_tests.specs.Counting.{member, root_word, tear_of};
+ghost use Rattle.shm_count.specs.Roots.{member, root_word, tear_of};
 
 use crate::driving::run;
 use shm_count::{EraSpent, TearDown};

@@ -17,10 +17,10 @@ use Rattle.shm_alloc.specs.AllocControl.{AllocKnows, is_first}
 use Rattle.shm_alloc.specs.AllocFits.{AllocFits, AllocGives, CanAlloc}
 use Rattle.shm_alloc.specs.AllocGoing.{begins}
 use Rattle.shm_tests.specs.Allocating.{IsAsked}
-use Rattle.shm_tests.specs.Counting.{AreRootsReached, member, root_word}
+use Rattle.shm_count.specs.Roots.{AreRootsReached, member, root_word}
 use Rattle.shm_tests.proofs.AllocRoots.{alloc_inside, alloc_number, alloc_others, alloc_refused, alloc_root}
 use Rattle.shm_tests.proofs.Answering.{some_both, some_map}
-use Rattle.shm_tests.proofs.RootSpots.{roots_reached}
+use Rattle.shm_count.proofs.RootSpots.{roots_reached}
 use Rattle.shm_tests.proofs.RunSteps.{ready_still}
 use Rattle.shm_tests.proofs.allocating.allocate.Goals.{In_ok-alloc}
 use Rattle.shm_tests.proofs.allocating.allocate.Goals as goal

@@ -21,11 +21,11 @@ use Rattle.shm_count.specs.declared.point.Aim.TheVariants.{Down}
 use Rattle.shm_count.specs.declared.point.StepPoint.TheVariants.{Era}
 use Rattle.shm_count.specs.declared.point.StepState.{StepState}
 use Rattle.shm_count.specs.StepMachines.{DownFits, DownGives, down_control}
-use Rattle.shm_tests.specs.Counting.{AreRootsReached, member, root_step, root_word}
+use Rattle.shm_count.specs.Roots.{AreRootsReached, member, root_step, root_word}
 use Rattle.shm_tests.proofs.Answering.{some_both, some_map}
 use Rattle.shm_tests.proofs.RootAnswers.{down_dying, down_left, err_same, ok_others, ok_root}
-use Rattle.shm_tests.proofs.RootMemos.{StepLeft}
-use Rattle.shm_tests.proofs.RootSpots.{can_root, fits_root, is_here, roots_reached, some_inside}
+use Rattle.shm_count.proofs.RootMemos.{StepLeft}
+use Rattle.shm_count.proofs.RootSpots.{can_root, fits_root, is_here, roots_reached, some_inside}
 use Rattle.shm_tests.proofs.RunSteps.{fits_acting}
 use Rattle.shm_tests.proofs.counting.lower.Goals.{After-new-down, After-run}
 use Rattle.shm_tests.proofs.counting.lower.Goals as goal

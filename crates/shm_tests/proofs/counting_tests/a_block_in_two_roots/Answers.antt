@@ -1,6 +1,6 @@
 use Rattle.std.proofs.Common.{rules, ◌≡◌, ◌∙◌, ap, sym, arith}
 use Rattle.shm_plain.specs.Pools.{memo_of}
-use Rattle.shm_tests.specs.Counting.{root_word}
+use Rattle.shm_count.specs.Roots.{root_word}
 use Rattle.shm_tests.proofs.counting_tests.a_block_in_two_roots.Goals as goal
 
 -- the first root is not the one that was raised

@@ -14,7 +14,7 @@ use Rattle.shm_count.specs.declared.tear_point.TearPoint.TheVariants.{Begin}
 use Rattle.shm_count.specs.declared.tear_point.TearState.{TearState}
 use Rattle.shm_count.specs.TearControl.{tear_control}
 use Rattle.shm_count.specs.TearFits.{TearFits, TearGives}
-use Rattle.shm_tests.specs.Counting.{root_word, tear_of}
+use Rattle.shm_count.specs.Roots.{root_word, tear_of}
 use Rattle.shm_tests.proofs.Answering.{some_both, some_map}
 use Rattle.shm_tests.proofs.TearAnswers.{block_small, tear_fits, tear_freed, tear_idle, tear_roots}
 use Rattle.shm_tests.proofs.tearing.tear_down.Goals.{After-new-tear, After-run}

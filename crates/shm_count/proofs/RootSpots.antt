@@ -42,8 +42,8 @@ use Rattle.shm_count.specs.StepControl.{AimFits, AimSmall, IsInside, block_at, l
 use Rattle.shm_count.specs.StepFits.{CanAim, CanStep, Done, HasPut, StepFits, StepGives, begun_op, closed_memo, set_memo, slot_memo}
 use Rattle.shm_count.specs.StepGoing.{begins}
 use Rattle.shm_count.specs.StepMemos.{room_least, closed_part}
-use Rattle.shm_tests.specs.Counting.{AreRootsReached, member, root_step}
-use Rattle.shm_tests.proofs.RootMemos.{StepLeft, up_done, down_done, change_done, left_done, left_refused}
+use Rattle.shm_count.specs.Roots.{AreRootsReached, member, root_step}
+use Rattle.shm_count.proofs.RootMemos.{StepLeft, up_done, down_done, change_done, left_done, left_refused}
 
 -- ---- it begins
 
@@ -82,16 +82,16 @@ module _ (g : Geometry) (c k : ℕ) (f : GeometryFits g) (l : c < g.clients) (s 
   unfolding address
   root_some = omega arith
 
-  -- a step at a root of an identity between two calls may begin where the memo shows the root to be so
-  pub can_root : (x : Aim) (r : Memo) → IsIdle c r → (raises x First ≡ true → recovers r ≡ false) → AimFits (member g c) x → (own_word r.own (spot.Era c c) ≤ last_era x → CanAim g.clients c r x (spot.Root c k))
+  -- a step at a root may begin where none is in progress and the memo shows the root to be so
+  pub root_can : (x : Aim) (r : Memo) → IsHere r → r.op ≡ op.Nothing → (raises x First ≡ true → recovers r ≡ false) → AimFits (member g c) x → (own_word r.own (spot.Era c c) ≤ last_era x → CanAim g.clients c r x (spot.Root c k))
       → (raises x First ≡ true → is_reached c r (block_at x First) ≡ true) → CanStep (member g c) at x (spot.Root c k) r
   unfolding spot_address
-  can_root x r idle client blocks can reach =
+  root_can x r here idle client blocks can reach =
       record {
         geometry = f;
         who = l;
-        here = is_here c r idle;
-        idle = idle.op;
+        here = here;
+        idle = idle;
         client = client;
         at = refl;
         inside = (root_some, address_below g (place.Root c k) root_in f);
@@ -99,9 +99,14 @@ module _ (g : Geometry) (c k : ℕ) (f : GeometryFits g) (l : c < g.clients) (s 
         can = can;
         put = root_put c x k r;
         reach = reach;
-        unread = inl (root_unread r.part c k);
+        part = inl (root_unread r.part c k);
         queued = λ n is up. absurd (false≢true is);
       }
+
+  -- so it may for an identity between two calls
+  pub can_root : (x : Aim) (r : Memo) → IsIdle c r → (raises x First ≡ true → recovers r ≡ false) → AimFits (member g c) x → (own_word r.own (spot.Era c c) ≤ last_era x → CanAim g.clients c r x (spot.Root c k))
+      → (raises x First ≡ true → is_reached c r (block_at x First) ≡ true) → CanStep (member g c) at x (spot.Root c k) r
+  can_root x r idle client blocks can reach = root_can x r (is_here c r idle) idle.op client blocks can reach
 
   -- and it fits
   pub fits_root : (x : Aim) (r : Memo) → AimFits (member g c) x → CanStep (member g c) at x (spot.Root c k) r → StepFits (spot.Root c k) (root_step g c k x) r r []

@@ -37,7 +37,7 @@ use Rattle.shm_count.specs.StepCores.{is_set, set_op}
 use Rattle.shm_count.specs.StepFits.{AtFirst, Done, Refused, Rows, begun, closed_memo, core, is_row, set_memo, slot_memo}
 use Rattle.shm_count.specs.StepMachines.{is_change}
 use Rattle.shm_count.specs.StepMemos.{closed_part}
-use Rattle.shm_tests.specs.Counting.{root_word}
+use Rattle.shm_count.specs.Roots.{root_word}
 
 -- ---- what a step that is done says of the memo
 

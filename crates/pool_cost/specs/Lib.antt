@@ -1,0 +1,3 @@
+pub mod Watching
+pub mod WatchKeeps
+pub mod Watched

@@ -1,0 +1,203 @@
+-- what is known of pools in a vector is known of the state in which an account stood
+use Rattle.std.proofs.Common.{◌≡◌, ◌≢◌, ℕ, ◌^◌, ◌<◌, Bool, true, false, cond, List, [], refl, sym, ap, ◌∙◌, subst, arith, inl, inr, Result}
+use Rattle.std.specs.Prelude.{Ok, Err, IfOk, slice_index}
+use Rattle.std.specs.List.{Contains}
+use Rattle.std.specs.Result.{is_ok}
+use Rattle.std.proofs.lemmas.Bool.{cond-false, cond-true, eq-eqb, ne_eqb, true≢false}
+use Rattle.shm_words.specs.declared.geometry.Geometry.{Geometry}
+use Rattle.shm_words.specs.declared.place.Place.TheVariants as place
+use Rattle.shm_words.specs.Layout.{GeometryFits, address}
+use Rattle.shm_graph.specs.declared.ask.Me.{Me}
+use Rattle.shm_graph.specs.declared.memo.Memo.{Memo}
+use Rattle.shm_graph.specs.declared.memo.Stored.{Stored}
+use Rattle.shm_graph.specs.declared.run.Account.{Account}
+use Rattle.shm_graph.specs.declared.run.Start.{Start}
+use Rattle.shm_graph.specs.declared.spot.Spot.TheVariants as spot
+use Rattle.shm_graph.specs.Agents.{acts, recovers}
+use Rattle.shm_graph.specs.Asks.{Trail}
+use Rattle.shm_graph.specs.Idle.{IsIdle}
+use Rattle.shm_graph.specs.Laws.{GoneNow}
+use Rattle.shm_graph.specs.Runs.{account_died, account_entered, memos_of}
+use Rattle.shm_graph.specs.declared.memo.Kind.TheVariants.{Client, Recoverer}
+use Rattle.shm_graph.specs.Reach.{is_reached}
+use Rattle.shm_graph.specs.Views.{own_word}
+use Rattle.shm_graph.specs.Whole.{fits_now}
+use Rattle.shm_plain.specs.Pools.{Pool, pool, IsRun, memo_of}
+use Rattle.shm_alloc.specs.declared.alloc.AllocFault.{AllocFault}
+use Rattle.shm_alloc.specs.declared.point.AllocState.{AllocState}
+use Rattle.shm_alloc.specs.AllocFits.{AllocGives}
+use Rattle.shm_count.specs.declared.answer.EraSpent.{EraSpent}
+use Rattle.shm_count.specs.declared.answer.Made.{Made}
+use Rattle.shm_count.specs.declared.answer.UpFault.{UpFault}
+use Rattle.shm_count.specs.declared.point.Aim.TheVariants.{Up, Down}
+use Rattle.shm_count.specs.StepControl.{IsInside}
+use Rattle.shm_count.specs.StepMachines.{DownFits, DownGives, UpFits, UpGives}
+use Rattle.shm_count.specs.TearControl.{tear_control}
+use Rattle.shm_count.specs.TearFits.{TearFits}
+use Rattle.shm_count.specs.Roots.{member, root_step, root_word, tear_of}
+use Rattle.shm_tests.proofs.AllocRoots.{alloc_inside}
+use Rattle.shm_tests.proofs.RootAnswers.{down_dying, down_left, up_left}
+use Rattle.shm_count.proofs.RootMemos.{StepLeft}
+use Rattle.shm_count.proofs.RootSpots.{can_root, fits_root, is_here, some_inside}
+use Rattle.shm_tests.proofs.RunSteps.{ready_still}
+use Rattle.shm_tests.proofs.TearAnswers.{block_small, tear_fits}
+use Rattle.shm_pool.specs.declared.reply.Reply.{Reply}
+use Rattle.shm_pool.specs.declared.reply.Reply.TheVariants.{Done, Died}
+use Rattle.shm_pool.specs.Replies.{IfReply}
+use Rattle.shm_pool.specs.Rules.{Stood}
+use Rattle.shm_pool.specs.Tokens.{IsOut, recovering}
+use Rattle.pool_tests.specs.Quitting.{QuitFits, quit_control, quit_fresh}
+use Rattle.shm_recover.specs.Joining.{IsMember, JoinGives, join_fresh}
+
+module _ (s : Start) (e : Account) (x : Stood s e) where
+  abbrev pub there : Pool
+  there = pool s x.words x.accounts x.turns
+
+  pub there_run : IsRun there
+  there_run = record { held = x.held; leads = x.leads }
+
+  pub there_memo : memo_of there e.who ≡ e.memo
+  there_memo = ap (λ (a : Account). a.memo) x.here.1
+
+-- a block that was allocated lies in the pool
+pub made_inside : (s : Start) (e : Account) → Stood s e → e.who < s.geometry.clients → (m : AllocState) (r0 : Memo) (tr : Trail) → m.me ≡ member s.geometry e.who → (a : Result Made AllocFault) → AllocGives m r0 e.memo tr a → IfOk a (λ y. IsInside (member s.geometry e.who) y.block)
+made_inside s e x l m r0 tr is a h = alloc_inside (there s e x) s e.who m r0 tr (there_run s e x) refl l is a (subst (λ (y : Memo). AllocGives m r0 y tr a) (sym (there_memo s e x)) h)
+
+-- ---- an answer, where there is one
+
+pub reply_map : {A : Type 0} (P Q : A → Type 0) (o : Reply A) → ((a : A) → P a → Q a) → IfReply o P → IfReply o Q
+reply_map P Q Died f h = tt
+reply_map P Q (Done a) f h = f a h
+
+pub reply_both : {A : Type 0} (P Q R : A → Type 0) (o : Reply A) → ((a : A) → P a → Q a → R a) → IfReply o P → IfReply o Q → IfReply o R
+reply_both P Q R Died f h k = tt
+reply_both P Q R (Done a) f h k = f a h k
+
+-- ---- count steps at roots
+
+module _ (s : Start) (e e' : Account) (x : Stood s e) (x' : Stood s e') (same : e'.who ≡ e.who) (k : ℕ) (l : e.who < s.geometry.clients) (small : k < 16) (idle : IsIdle e.who e.memo) where
+  abbrev g : Geometry
+  g = s.geometry
+
+  u : memo_of (there s e x) e.who ≡ e.memo
+  u = there_memo s e x
+
+  v : memo_of (there s e' x') e.who ≡ e'.memo
+  v = ap (λ (c : ℕ). memo_of (there s e' x') c) (sym same) ∙ there_memo s e' x'
+
+  idle' : IsIdle e.who (memo_of (there s e x) e.who)
+  idle' = subst (IsIdle e.who) (sym u) idle
+
+  -- between memos of states is between the accounts that stood there
+  moved : (P : Memo → Memo → Type 0) → P e.memo e'.memo → P (memo_of (there s e x) e.who) (memo_of (there s e' x') e.who)
+  moved P h = subst (λ (m : Memo). P m (memo_of (there s e' x') e.who)) (sym u) (subst (λ (m : Memo). P e.memo m) (sym v) h)
+
+  back : (P : Memo → Memo → Type 0) → P (memo_of (there s e x) e.who) (memo_of (there s e' x') e.who) → P e.memo e'.memo
+  back P h = subst (λ (m : Memo). P m e'.memo) u (subst (λ (m : Memo). P (memo_of (there s e x) e.who) m) v h)
+
+  abbrev pub Left : ℕ → Bool → Memo → Memo → Type 0
+  Left n done m m' = StepLeft (member g e.who) (address g (place.Root e.who k)) k m n done m'
+
+  pub raised : (b : ℕ) (a : Result (Unit {0}) UpFault) → UpGives (root_step g e.who k (Up b)) e.memo e'.memo e'.memo.call a → Left b (is_ok a) e.memo e'.memo
+  raised b a h = back (Left b (is_ok a)) (up_left (there s e x) (there s e' x') (there_run s e x) (there_run s e' x') refl e.who k l small idle' b a (moved (λ m m'. UpGives (root_step g e.who k (Up b)) m m' m'.call a) h))
+
+  pub lowered : (b : ℕ) (a : Result Bool EraSpent) → DownGives (root_step g e.who k (Down b)) e.memo e'.memo e'.memo.call a → Left 0 (is_ok a) e.memo e'.memo
+  lowered b a h = back (Left 0 (is_ok a)) (down_left (there s e x) (there s e' x') (there_run s e x) (there_run s e' x') refl e.who k l small idle' b a (moved (λ m m'. DownGives (root_step g e.who k (Down b)) m m' m'.call a) h))
+
+  pub came_to_zero : (b : ℕ) (a : Result Bool EraSpent) → DownGives (root_step g e.who k (Down b)) e.memo e'.memo e'.memo.call a → IfOk a (λ z. z ≡ true → Contains e'.memo.dying b)
+  came_to_zero b a h = back (λ m m'. IfOk a (λ z. z ≡ true → Contains m'.dying b)) (down_dying (there s e x) (there s e' x') (there_run s e x) (there_run s e' x') refl e.who k l small idle' b a (moved (λ m m'. DownGives (root_step g e.who k (Down b)) m m' m'.call a) h))
+
+  pub root_raised : (a : Result (Unit {0}) UpFault) (b : ℕ) → Left b (is_ok a) e.memo e'.memo → IfOk a (λ t. root_word e'.who e'.memo k ≡ b)
+  root_raised (Err f) b h = tt
+  root_raised (Ok t) b h = subst (λ (c : ℕ). root_word c e'.memo k ≡ b) (sym same) (h.root k ∙ cond-true _ _ _ (eq-eqb k k refl))
+
+  pub root_others : {T E : Type 0} (a : Result T E) (b : ℕ) → Left b (is_ok a) e.memo e'.memo → IfOk a (λ t. (j : ℕ) → j ≢ k → root_word e'.who e'.memo j ≡ root_word e.who e.memo j)
+  root_others (Err f) b h = tt
+  root_others (Ok t) b h = λ j n. subst (λ (c : ℕ). root_word c e'.memo j ≡ root_word e.who e.memo j) (sym same) (h.root j ∙ cond-false _ _ _ (ne_eqb k j (λ q. n (sym q))))
+
+-- a step at a root fits where the memo shows the root to be so
+pub up_fits : (g : Geometry) (c k b : ℕ) (r : Memo) → GeometryFits g → c < g.clients → k < 16 → IsIdle c r → recovers r ≡ false → own_word r.own (spot.Root c k) ≡ 0 → is_reached c r b ≡ true → IsInside (member g c) b → UpFits (root_step g c k (Up b)) r r []
+up_fits g c k b r f l small idle client empty reached inside = (
+  refl,
+  (
+    spot.Root c k,
+    fits_root g c k f l small (Up b) r inside
+        (can_root g c k f l small (Up b) r idle (λ z. client) inside (λ room. (refl, record { here = is_here c r idle; idle = idle.op; root = small; empty = empty; room = omega arith; source = inr reached })) (λ z. reached)),
+  ),
+)
+
+pub down_fits : (g : Geometry) (c k b : ℕ) (r : Memo) → GeometryFits g → c < g.clients → k < 16 → IsIdle c r → recovers r ≡ false → own_word r.own (spot.Root c k) ≡ b → IsInside (member g c) b → DownFits (root_step g c k (Down b)) r r []
+down_fits g c k b r f l small idle client holds inside = (
+  refl,
+  (
+    spot.Root c k,
+    fits_root g c k f l small (Down b) r inside
+        (can_root g c k f l small (Down b) r idle (λ z. client) inside (λ room. (refl, record { here = is_here c r idle; idle = idle.op; some = some_inside g c b inside; root = holds; room = omega arith })) (λ z. absurd (true≢false (sym z)))),
+  ),
+)
+
+-- ---- tear-downs
+
+module _ (s : Start) (e : Account) (x : Stood s e) (b : ℕ) (f : GeometryFits s.geometry) (l : e.who < s.geometry.clients) (idle : IsIdle e.who e.memo) (dying : Contains e.memo.dying b) where
+  t : memo_of (there s e x) e.who ≡ e.memo
+  t = there_memo s e x
+
+  pub tear_small : b < 2 ^ 20
+  tear_small = block_small (there s e x) (there_run s e x) e.who b f l (subst (IsIdle e.who) (sym t) idle) (subst (λ (m : Memo). Contains m.dying b) (sym t) dying)
+
+  pub tears : acts e.memo ≡ true → fits_now tear_control TearFits (tear_of s.geometry e.who b) e.memo e.memo
+  tears act =
+      let p : Pool = there s e x in
+      let act' : acts (memo_of p e.who) ≡ true = subst (λ (m : Memo). acts m ≡ true) (sym t) act in
+      subst (λ (m : Memo). fits_now tear_control TearFits (tear_of s.geometry e.who b) m m) t
+      (subst (λ (m : Memo). fits_now tear_control TearFits (tear_of s.geometry e.who b) (memo_of p e.who) m) (ready_still p e.who act')
+      (tear_fits p (there_run s e x) e.who b f l (subst (IsIdle e.who) (sym t) idle) (subst (λ (m : Memo). Contains m.dying b) (sym t) dying) act'))
+
+-- ---- leaving
+
+-- an identity that is new or gone has nothing to finish
+pub out_gone : (s : Start) (e : Account) → Stood s e → e.who < s.geometry.clients → IsOut e.memo → GoneNow e.who e.memo
+out_gone s e x l out = subst (GoneNow e.who) there (by (subst IsOut (sym there) out))
+  where
+    c : ℕ
+    c = e.who
+
+    there : memos_of x.accounts c ≡ e.memo
+    there = ap (λ (a : Account). a.memo) x.here.1
+
+    by : IsOut (memos_of x.accounts c) → GoneNow c (memos_of x.accounts c)
+    by (inl n) = (let q = x.held.at.fresh c l n in record { roots = λ k. q.words (spot.Root c k) (eq-eqb c c refl) (λ z. cc); hold = q.words (spot.Hold c) (eq-eqb c c refl) (λ z. cc); idle = q.idle; latched = q.latched; segments = q.segments; dyings = q.dyings; sends = q.sends; takes = q.takes })
+    by (inr n) = x.held.at.gone c l n
+
+-- a join leaves it so
+pub joined_gone : (me : Me) (r0 r : Memo) (tr : Trail) → GoneNow me.who r0 → JoinGives (join_fresh me) r0 r tr tt → GoneNow me.who r
+joined_gone me r0 r tr h j =
+    record {
+      roots = λ k. ap (λ (o : List Stored). own_word o (spot.Root me.who k)) j.own ∙ h.roots k;
+      hold = ap (λ (o : List Stored). own_word o (spot.Hold me.who)) j.own ∙ h.hold;
+      idle = j.op ∙ h.idle;
+      latched = j.latch ∙ h.latched;
+      segments = j.owned ∙ h.segments;
+      dyings = j.dying ∙ h.dyings;
+      sends = λ i. ap (λ (xs : List ℕ). slice_index xs i) j.unsent ∙ h.sends i;
+      takes = λ i. ap (λ (xs : List ℕ). slice_index xs i) j.untaken ∙ h.takes i;
+    }
+
+-- and so do the deaths and beginnings of agents
+pub recovering_gone : (e : Account) → GoneNow e.who e.memo → GoneNow e.who (recovering e).memo
+recovering_gone e h = by (acts e.memo)
+  where
+    by : (b : Bool) → GoneNow e.who (account_entered Recoverer (account_died (cond b e (account_entered Client e)))).memo
+    by true = record { roots = h.roots; hold = h.hold; idle = h.idle; latched = h.latched; segments = h.segments; dyings = h.dyings; sends = h.sends; takes = h.takes }
+    by false = record { roots = h.roots; hold = h.hold; idle = h.idle; latched = h.latched; segments = h.segments; dyings = h.dyings; sends = h.sends; takes = h.takes }
+
+pub recovering_who : (e : Account) → (recovering e).who ≡ e.who
+recovering_who e = by (acts e.memo)
+  where
+    by : (b : Bool) → (cond b e (account_entered Client e)).who ≡ e.who
+    by true = refl
+    by false = refl
+
+-- a quit of an identity with nothing to finish fits
+pub quit_fits : (me : Me) (r : Memo) → IsMember me → GoneNow me.who r → fits_now quit_control QuitFits (quit_fresh me) r r
+quit_fits me r member left = record { member = member; left = λ z. left }

@@ -1,0 +1,25 @@
+use Rattle.std.proofs.Common.{◌≡◌, ◌<◌, ℕ, sym, ap, ◌∙◌, subst, Result}
+use Rattle.std.specs.Prelude.{IfOk}
+use Rattle.shm_graph.specs.declared.run.Account.{Account}
+use Rattle.shm_graph.specs.declared.run.Start.{Start}
+use Rattle.shm_alloc.specs.declared.alloc.AllocFault.{AllocFault}
+use Rattle.shm_alloc.specs.AllocFits.{AllocGives}
+use Rattle.shm_count.specs.declared.answer.Made.{Made}
+use Rattle.shm_count.specs.StepControl.{IsInside}
+use Rattle.shm_pool.specs.Rules.{Stood}
+use Rattle.shm_pool.specs.Tokens.{Its}
+use Rattle.pool_tests.specs.Between.{me_now}
+use Rattle.pool_tests.proofs.Standing.{made_inside, reply_map}
+use Rattle.pool_tests.proofs.calls.allocate.Goals as goal
+
+pub returns-clause-inside : goal.returns-clause-inside
+returns-clause-inside c =
+    let s : Start = c.args.client.now.of.start in
+    let e : Account = c.run.new.self.account in
+    let who : e.who ≡ c.args.client.now.account.who = c.run.ensures.same.1 in
+    let stood : Stood s e = subst (λ (z : Start). Stood z e) (ap (λ (n : Its). n.start) c.run.ensures.same.0) c.run.ensures.stood in
+    let below : e.who < s.geometry.clients = subst (λ (n : ℕ). n < s.geometry.clients) (c.client-who.ensures.is ∙ sym who) c.client-who.ensures.below in
+    let sizes = c.new.ensures.geometry ∙ (c.geometry.ensures.is ∙ sym (ap (λ (n : Its). n.start.geometry) c.requires.pool)) in
+    let is = c.in_ok-alloc.ensures.fresh.0 ∙ (λ j. record { geometry = sizes j; who = (c.new.ensures.who ∙ (c.client-who.ensures.is ∙ sym who)) j }) in
+    reply_map (λ (a : Result Made AllocFault). AllocGives c.in_ok-alloc.alloc c.args.client.now.account.memo e.memo e.memo.call a) (λ (a : Result Made AllocFault). IfOk a (λ made. IsInside (me_now c.args.client.now) made.block)) c.run.result
+    (λ a h. made_inside s e stood below c.in_ok-alloc.alloc c.args.client.now.account.memo e.memo.call is a h) c.run.ensures.gives

@@ -1,0 +1,18 @@
+use Rattle.std.proofs.Common.{rules, ◌≡◌, ◌<◌, arith}
+use Rattle.shm_count.proofs.RootSpots.{roots_reached}
+use Rattle.shm_count.specs.Roots.{root_word}
+use Rattle.shm_count.specs.StepControl.{IsInside}
+use Rattle.pool_tests.specs.Between.{IsBetween, me_now}
+use Rattle.pool_tests.proofs.team.work.Goals as goal
+
+-- the root that was found names the block
+pub raise-requires-clause-reached : goal.raise-requires-clause-reached
+raise-requires-clause-reached c =
+    let e = c.allocate.new.client.account in
+    let made = c.in-Ok-Done-Ok.made in
+    let between : IsBetween e = search rules in
+    let low : made.root < 16 = search rules in
+    let holds : root_word e.who e.memo made.root ≡ made.block = search rules in
+    let inside : IsInside (me_now c.args.client.now) made.block = search rules in
+    let least = inside.0 in
+    roots_reached e.who e.memo between.idle.op made.root made.block low (λ z. absurd (omega arith)) holds

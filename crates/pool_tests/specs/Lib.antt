@@ -1,0 +1,3 @@
+pub mod Between
+pub mod Quitting
+pub mod QuitKeeps

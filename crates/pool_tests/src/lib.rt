@@ -1,0 +1,12 @@
+//! Machines on a pool that threads share: what no crate alone can test.
+#![tactic(auto)]
+
+pub mod calls;
+pub mod quit;
+pub mod team;
+
+pub use calls::{allocate, lower, raise, tear_down};
+pub use team::{Team, Visited, both, run_two, visit, work};
+
+#[cfg(test)]
+mod tests;

@@ -1,0 +1,230 @@
+//! What a client does, and two of them on two threads.
+
+ghost use Rattle.std.specs.Prelude.{◌≡◌, ◌≢◌, ℕ, ◌<◌, IfOk, IfErr, IfSome};
+ghost use Rattle.shm_words.specs.Layout.{GeometryFits};
+ghost use Rattle.shm_graph.specs.Runs.{EraFits};
+ghost use Rattle.shm_graph.specs.Laws.{GoneNow};
+ghost use Rattle.shm_pool.specs.Tokens.{AllOf};
+ghost use Rattle.pool_tests.specs.Between.{AllFirst, AreRootsEmpty, IsBetween};
+
+use crate::calls::{allocate, lower, raise, tear_down};
+use crate::quit::Quit;
+use shm_graph::{Life, Me};
+use shm_pool::{Client, Closed, Corpse, Reply, SharedPool, Vacant};
+use shm_words::Geometry;
+use std::alloc::{AllocError, Global};
+use std::thread;
+use std::thread::Threads;
+
+/// Allocates a block, lets a second root name it, empties both roots and frees it; gives the block.
+pub fn work(client: &mut Client, pool: &SharedPool, life: &mut Life) -> Option<u32>
+    requires pool { client.old.of ≡ pool.now }
+    requires between { IsBetween client.old.account }
+    requires roots { AreRootsEmpty client.old.account }
+    ensures same { (client.new.of ≡ client.old.of) × (client.new.account.who ≡ client.old.account.who) }
+{
+    let Ok(Reply::Done(Ok(made))) = allocate(client, pool, 0, &[77], life) else {
+        return None;
+    };
+    let other = if made.root == 0 { 1 } else { 0 };
+    let Reply::Done(Ok(())) = raise(client, pool, other, made.block, life) else {
+        return None;
+    };
+    let Reply::Done(Ok(false)) = lower(client, pool, made.root, made.block, life) else {
+        return None;
+    };
+    let Reply::Done(Ok(true)) = lower(client, pool, other, made.block, life) else {
+        return None;
+    };
+    let Reply::Done(Ok(())) = tear_down(client, pool, made.block, life) else {
+        return None;
+    };
+    Some(made.block)
+}
+
+/// A client that has done its work: the block that it made and freed, and how many word steps it had left.
+#[derive(Drop)]
+pub struct Visited {
+    pub client: Client,
+    pub block: u32,
+    pub left: u64,
+}
+
+/// Joins and works. Where no word step was left, or the work was refused, the corpse comes back.
+pub fn visit(pool: &SharedPool, token: Vacant, steps: u64) -> Result<Visited, Corpse>
+    requires of { token.of ≡ pool.now }
+    requires roots { AreRootsEmpty token.account }
+    ensures ok { IfOk result (λ v. v.client.of ≡ pool.now) }
+    ensures err { IfErr result (λ c. c.of ≡ pool.now) }
+{
+    let mut life = Life::of(steps);
+    let mut client = match token.join(pool, &mut life) {
+        Ok(client) => client,
+        Err(stopped) => return Err(stopped.corpse),
+    };
+    let done = work(&mut client, pool, &mut life);
+    match done {
+        Some(block) => Ok(Visited {
+            client,
+            block,
+            left: life.left,
+        }),
+        None => Err(client.fall()),
+    }
+}
+
+/// Takes the last token.
+pub fn pop_of(pool: &SharedPool, all: &mut Vec<Vacant>) -> Option<Vacant>
+    requires { AllFirst pool.now all.old.items }
+    ensures rest { AllFirst pool.now all.new.items }
+    ensures tokens { AllOf pool.now all.new.items }
+    ensures of { IfSome result (λ t. t.of ≡ pool.now) }
+    ensures roots { IfSome result (λ t. AreRootsEmpty t.account) }
+{
+    let _ = pool;
+    all.pop()
+}
+
+/// Two clients beside each other.
+pub fn both<R: Threads + Sync>(
+    rt: &R,
+    pool: &SharedPool,
+    a: Vacant,
+    b: Vacant,
+    steps: (u64, u64),
+) -> (Result<Visited, Corpse>, Result<Visited, Corpse>)
+    requires of { (a.of ≡ pool.now) × (b.of ≡ pool.now) }
+    requires roots { AreRootsEmpty a.account × AreRootsEmpty b.account }
+{
+    let (first, second) = steps;
+    thread::join(
+        rt,
+        move || visit(pool, a, first),
+        move || visit(pool, b, second),
+    )
+}
+
+/// A pool of two clients that work on two threads, so many word steps each; none where a token is missing.
+pub fn run_two<R: Threads + Sync>(
+    rt: &R,
+    alloc: Global,
+    geometry: Geometry,
+    steps: (u64, u64),
+) -> Result<Option<Team>, AllocError>
+    requires geometry { GeometryFits geometry }
+{
+    let (pool, mut all) = SharedPool::make(alloc, geometry, 1, false)?;
+    let Some(b) = pop_of(&pool, &mut all) else {
+        return Ok(None);
+    };
+    let Some(a) = pop_of(&pool, &mut all) else {
+        return Ok(None);
+    };
+    let (first, second) = both(rt, &pool, a, b, steps);
+    Ok(Some(Team {
+        pool,
+        first,
+        second,
+    }))
+}
+
+/// The pool, and what came of the two clients.
+#[derive(Drop)]
+pub struct Team {
+    pub pool: SharedPool,
+    pub first: Result<Visited, Corpse>,
+    pub second: Result<Visited, Corpse>,
+}
+
+/// Joins and leaves. Where no word step was left, the corpse comes back.
+pub fn pass_by(pool: &SharedPool, token: Vacant, steps: u64) -> Result<Vacant, Corpse>
+    requires of { token.of ≡ pool.now }
+    ensures ok { IfOk result (λ v. v.of ≡ pool.now) }
+    ensures err { IfErr result (λ c. c.of ≡ pool.now) }
+{
+    let who = token.client();
+    let mut life = Life::of(steps);
+    let client = match token.join(pool, &mut life) {
+        Ok(client) => client,
+        Err(stopped) => return Err(stopped.corpse),
+    };
+    let mut quit = Quit::new(Me::new(pool.geometry(), who));
+    match client.leave_by(pool, &mut quit, &mut life) {
+        Ok(token) => Ok(token),
+        Err(stopped) => Err(stopped.corpse),
+    }
+}
+
+/// A corpse that is recovered where nothing is left to finish.
+pub fn bury(pool: &SharedPool, corpse: Corpse, steps: u64) -> Result<Vacant, Corpse>
+    requires of { corpse.of ≡ pool.now }
+    requires left { GoneNow corpse.account.who corpse.account.memo }
+    ensures ok { IfOk result (λ v. v.of ≡ pool.now) }
+    ensures err { IfErr result (λ c. c.of ≡ pool.now) }
+{
+    let who = corpse.client();
+    let mut life = Life::of(steps);
+    let mut quit = Quit::new(Me::new(pool.geometry(), who));
+    match corpse.recover_by(pool, &mut quit, &mut life) {
+        Ok(token) => Ok(token),
+        Err(stopped) => Err(stopped.corpse),
+    }
+}
+
+/// Takes a token back.
+fn put_back(pool: &SharedPool, all: &mut Vec<Vacant>, token: Vacant) -> Result<(), AllocError>
+    requires all { AllOf pool.now all.old.items }
+    requires of { token.of ≡ pool.now }
+    ensures { IfOk result (λ _. AllOf pool.now all.new.items) }
+{
+    let _ = pool;
+    all.push(token)?;
+    Ok(())
+}
+
+/// Two identities pass by beside each other.
+fn pass_two<R: Threads + Sync>(
+    rt: &R,
+    pool: &SharedPool,
+    a: Vacant,
+    b: Vacant,
+    steps: u64,
+) -> (Result<Vacant, Corpse>, Result<Vacant, Corpse>)
+    requires of { (a.of ≡ pool.now) × (b.of ≡ pool.now) }
+    ensures { IfOk result.0 (λ v. v.of ≡ pool.now) × IfOk result.1 (λ v. v.of ≡ pool.now) }
+{
+    thread::join(
+        rt,
+        move || pass_by(pool, a, steps),
+        move || pass_by(pool, b, steps),
+    )
+}
+
+/// A pool that two identities join and leave on two threads, closed; none where one ran out of word steps.
+pub fn pass_and_close<R: Threads + Sync>(
+    rt: &R,
+    alloc: Global,
+    geometry: Geometry,
+    steps: u64,
+) -> Result<Option<Closed>, AllocError>
+    requires geometry { GeometryFits geometry }
+    ensures { IfOk result (λ o. IfSome o (λ c. c.start.geometry ≡ geometry)) }
+{
+    let (pool, mut all) = SharedPool::make(alloc, geometry, 1, false)?;
+    let Some(b) = pop_of(&pool, &mut all) else {
+        return Ok(None);
+    };
+    let Some(a) = pop_of(&pool, &mut all) else {
+        return Ok(None);
+    };
+    let (first, second) = pass_two(rt, &pool, a, b, steps);
+    let Ok(a) = first else {
+        return Ok(None);
+    };
+    let Ok(b) = second else {
+        return Ok(None);
+    };
+    put_back(&pool, &mut all, b)?;
+    put_back(&pool, &mut all, a)?;
+    Ok(pool.close(alloc, all).ok())
+}

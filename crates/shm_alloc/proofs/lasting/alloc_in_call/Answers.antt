@@ -1,0 +1,7 @@
+use Rattle.shm_calls.specs.Grown.{grown_laws}
+use Rattle.shm_alloc.specs.AllocControl.{alloc_control}
+use Rattle.shm_alloc.specs.AllocPart.{alloc_making, alloc_making_laws}
+use Rattle.shm_alloc.proofs.lasting.alloc_in_call.Goals as goal
+
+pub returns : goal.returns
+returns c first = grown_laws first alloc_control (alloc_making first) (alloc_making_laws first)

@@ -1,0 +1,25 @@
+//! What an allocation leaves of its agent, of the status and of the blocks that the call made.
+
+ghost use Rattle.std.specs.Prelude.{◌≡◌, true, Bool, Result, IfOk};
+ghost use Rattle.std.specs.List.{Contains};
+ghost use Rattle.shm_graph.specs.declared.memo.Memo.{Memo as AMemo};
+ghost use Rattle.shm_graph.specs.Asks.{Trail};
+ghost use Rattle.shm_calls.specs.Grown.{Grows, grown};
+ghost use Rattle.shm_calls.specs.Parts.{PartLaws};
+ghost use Rattle.shm_count.specs.declared.answer.Made.{Made as AMade};
+ghost use Rattle.shm_alloc.specs.declared.alloc.AllocFault.{AllocFault as AFault};
+ghost use Rattle.shm_alloc.specs.declared.point.AllocState.{AllocState as AState};
+ghost use Rattle.shm_alloc.specs.AllocControl.{alloc_control};
+ghost use Rattle.shm_alloc.specs.AllocFits.{AllocGives};
+ghost use Rattle.shm_alloc.specs.AllocPart.{alloc_making};
+
+/// Whatever an allocation answers, the status and the agent are what they were, and what was read of tails and heads stays; a block of
+/// which it answers is one that the call made.
+pub fn alloc_lasts()
+    ensures { (m : AState) (r0 r : AMemo) (tr : Trail) (a : Result AMade AFault) → AllocGives m r0 r tr a → (r.status ≡ r0.status) × Grows true r0 r × IfOk a (λ x. Contains r.made x.block) }
+{}
+
+/// An allocation in a larger machine leaves all that was read, and the blocks that the call had made.
+pub fn alloc_in_call()
+    ensures { (first : Bool) → PartLaws first alloc_control (grown first (alloc_making first)) }
+{}

@@ -1,0 +1,5 @@
+use Rattle.shm_calls.specs.Grown.{grows_on}
+use Rattle.shm_calls.proofs.laws.step_grows.Goals as goal
+
+pub returns : goal.returns
+returns c = grows_on

@@ -1,0 +1,15 @@
+pub mod SameAgent
+pub mod Placed
+pub mod Parts
+pub mod Plans
+pub mod CallsControl
+pub mod CallsFit
+pub mod CallsKeep
+pub mod CallsPart
+pub mod Either
+pub mod Words
+pub mod WordSteps
+pub mod CallTells
+pub mod MappedParts
+pub mod Grown
+pub mod MadeStays

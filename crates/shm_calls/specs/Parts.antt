@@ -1,0 +1,52 @@
+-- parts: a machine as larger machines call it, with what it needs at its begin and what it leaves in the end
+use Rattle.std.specs.Prelude.{◌≡◌, ℕ, Bool, List, []}
+use Rattle.shm_graph.specs.declared.ask.Me.{Me}
+use Rattle.shm_graph.specs.declared.spot.Spot.{Spot}
+use Rattle.shm_graph.specs.declared.memo.Memo.{Memo}
+use Rattle.shm_graph.specs.Agents.{recovers}
+use Rattle.shm_graph.specs.Asks.{Trail}
+use Rattle.shm_graph.specs.Events.{Event}
+use Rattle.shm_graph.specs.Held.{HeldAt}
+use Rattle.shm_graph.specs.Laws.{Control}
+use Rattle.shm_graph.specs.Tells.{happens_along, Tells}
+use Rattle.shm_graph.specs.Views.{view}
+use Rattle.shm_calls.specs.Placed.{PlacedLaws}
+
+-- the memo is that of an identity in a held state
+abbrev pub IsHeld : Me → Memo → Type 0
+IsHeld me m = (w : Spot → ℕ) × (r : ℕ → Memo) × HeldAt me.geometry w (view r) × (r me.who ≡ m)
+
+-- of a machine with states S and answers A: on the way, when it fits, what it gives and which events it tells of; and as it is called, what it needs of the memo before its first word step, and what it leaves, by the memo before, the memo now, what was asked, the events and the answer; what is asked is one of its trails
+pub record Part (S A : Type 0) : Type 1 where
+  pub fits : S → Memo → Memo → Trail → Type 0
+  pub gives : S → Memo → Memo → Trail → A → Type 0
+  pub does : S → ℕ → Event
+  pub needs : S → Memo → Type 0
+  pub leaves : S → Memo → Memo → Trail → List Event → A → Type 0
+  pub asks : S → Trail → A → Type 0
+
+module _ {S A : Type 0} (first : Bool) (k : Control S A) (p : Part S A) where
+  -- It keeps the invariant where it may stand and tells of its events; it fits where the memo shows what it needs; and where it answers, in a held state and with the agent that it had, it leaves what it says
+  pub record PartLaws : Type 0 where
+    pub placed : PlacedLaws first k p.fits p.gives
+    pub tells : Tells k p.fits p.does
+    pub begins : (m : S) (r : Memo) → p.needs m r → p.fits m r r []
+    pub ends : (m : S) (rs r : Memo) (t : Trail) (a : A) → p.needs m rs → p.gives m rs r t a → IsHeld (k.me m) r → recovers r ≡ recovers rs → p.leaves m rs r t (happens_along k p.does m t) a
+    pub asked : (m : S) (rs r : Memo) (t : Trail) (a : A) → p.needs m rs → p.gives m rs r t a → p.asks m t a
+
+-- a part that needs more, and leaves less
+abbrev pub weaker : {S A : Type 0} → Part S A → (S → Memo → Type 0) → (S → Memo → Memo → Trail → List Event → A → Type 0) → Part S A
+weaker p needs leaves = record { fits = p.fits; gives = p.gives; does = p.does; needs = needs; leaves = leaves; asks = p.asks }
+
+pub weaker_laws : {S A : Type 0} (first : Bool) (k : Control S A) (p : Part S A) (needs : S → Memo → Type 0) (leaves : S → Memo → Memo → Trail → List Event → A → Type 0)
+    → ((m : S) (r : Memo) → needs m r → p.needs m r)
+    → ((m : S) (rs r : Memo) (t : Trail) (es : List Event) (a : A) → needs m rs → p.leaves m rs r t es a → IsHeld (k.me m) r → recovers r ≡ recovers rs → leaves m rs r t es a)
+    → PartLaws first k p → PartLaws first k (weaker p needs leaves)
+weaker_laws first k p needs leaves more less l =
+    record {
+      placed = l.placed;
+      tells = l.tells;
+      begins = λ m r n. l.begins m r (more m r n);
+      ends = λ m rs r t a n g held same. less m rs r t (happens_along k p.does m t) a n (l.ends m rs r t a (more m rs n) g held same) held same;
+      asked = λ m rs r t a n g. l.asked m rs r t a (more m rs n) g;
+    }

@@ -1,0 +1,77 @@
+//! The machine that makes the calls of a plan.
+
+ghost use Rattle.std.specs.Prelude.{◌≡◌};
+ghost use Rattle.shm_calls.specs.CallsControl.{calls_control, calls_of};
+ghost use Rattle.shm_calls.specs.CallsFit.{CallsFits, CallsGives};
+ghost use Rattle.shm_calls.specs.CallsKeep.{calls_laws};
+
+use crate::plan::Plan;
+use shm_graph::{Ask, Machine, Me, Turn};
+
+/// A plan, and the call that is in progress.
+#[derive(Drop)]
+pub struct Calls<P: Plan> {
+    plan: P,
+    call: P::Call,
+}
+
+impl<P: Plan> Calls<P> {
+    /// The machine of a plan, before its first word step.
+    #[inline(always)]
+    pub fn new(plan: P) -> Calls<P>
+        ensures { result ≡ calls_of P.plan plan }
+    {
+        let call = plan.call();
+        Calls { plan, call }
+    }
+
+    #[inline(always)]
+    fn begin(&mut self)
+        ensures plan { self.new.plan ≡ self.old.plan }
+        ensures call { self.new.call ≡ P.plan.call self.old.plan }
+    {
+        self.call = self.plan.call();
+    }
+}
+
+impl<P: Plan> Machine for Calls<P> {
+    type Answer = P::Answer;
+
+    ghost control = { calls_control P.Call.control P.plan };
+
+    ghost fits = { CallsFits P.Call.control P.plan };
+
+    ghost gives = { CallsGives P.Call.control P.plan };
+
+    #[inline(always)]
+    fn me(&self) -> Me {
+        self.plan.me()
+    }
+
+    #[inline(always)]
+    fn finished(&self) -> bool {
+        self.call.finished()
+    }
+
+    #[inline(always)]
+    fn ask(&self) -> Ask {
+        self.call.ask()
+    }
+
+    #[inline(always)]
+    fn take(&mut self, seen: u64) -> Turn<P::Answer> {
+        match self.call.take(seen) {
+            Turn::Done(answer) => match self.plan.next(answer) {
+                Some(answer) => Turn::Done(answer),
+                None => {
+                    self.begin();
+                    Turn::More
+                }
+            },
+            Turn::More => Turn::More,
+            Turn::Died => Turn::Died,
+        }
+    }
+
+    ghost laws = { calls_laws P.Call.control P.plan P.laws };
+}

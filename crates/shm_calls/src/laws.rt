@@ -1,0 +1,46 @@
+//! What holds of the machine of any plan, and of any word step.
+
+ghost use Rattle.std.specs.Prelude.{◌≡◌, ℕ, Bool, true, false, [], List};
+ghost use Rattle.std.specs.List.{Contains};
+ghost use Rattle.shm_graph.specs.declared.memo.Memo.{Memo as AMemo};
+ghost use Rattle.shm_graph.specs.declared.ask.Ask.{Ask as AnAsk};
+ghost use Rattle.shm_graph.specs.declared.ask.Me.{Me as AMe};
+ghost use Rattle.shm_graph.specs.declared.spot.Spot.{Spot as ASpot};
+ghost use Rattle.shm_graph.specs.Asks.{Trail};
+ghost use Rattle.shm_graph.specs.Changes.{memo_on};
+ghost use Rattle.shm_graph.specs.Laws.{Frame, event_on, framed};
+ghost use Rattle.shm_graph.specs.Tells.{Tells, happens_along};
+ghost use Rattle.shm_calls.specs.Plans.{plan_trail};
+ghost use Rattle.shm_calls.specs.CallsControl.{calls_control, calls_of, calls_does};
+ghost use Rattle.shm_calls.specs.CallsFit.{CallsFits, CallsGives};
+ghost use Rattle.shm_calls.specs.Grown.{Grows};
+ghost use Rattle.shm_calls.specs.MadeStays.{touches};
+ghost use Rattle.shm_calls.specs.Placed.{MayStand};
+
+use crate::plan::Plan;
+
+/// Before its first word step it fits each memo of which what the plan knows before its first call is so.
+pub fn calls_begin<P: Plan>()
+    ensures { (p : P) (r : AMemo) → P.plan.first p ≡ true → P.plan.start p ≡ p → P.plan.knows p r r [] [] → CallsFits P.Call.control P.plan (calls_of P.plan p) r r [] }
+{}
+
+/// The events of its word steps are those that its calls tell of.
+pub fn calls_events<P: Plan>()
+    ensures { Tells (calls_control P.Call.control P.plan) (CallsFits P.Call.control P.plan) (calls_does P.Call.control P.plan) }
+{}
+
+/// What it gives is what the plan leaves, by the events that it tells of; and what it asked is one of the plan's trails.
+pub fn calls_leave<P: Plan>()
+    ensures leaves { (p : P) (r0 r : AMemo) (tr : Trail) (a : P.Answer) → P.plan.start p ≡ p → CallsGives P.Call.control P.plan (calls_of P.plan p) r0 r tr a → P.plan.leaves p r0 r tr (happens_along (calls_control P.Call.control P.plan) (calls_does P.Call.control P.plan) (calls_of P.plan p) tr) a }
+    ensures trail { (p : P) (r0 r : AMemo) (tr : Trail) (a : P.Answer) → P.plan.start p ≡ p → CallsGives P.Call.control P.plan (calls_of P.plan p) r0 r tr a → plan_trail P.plan p tr a }
+{}
+
+/// Each word step leaves its agent what it is, and what was read of tails and heads, and where it isn't a machine's first all that was read.
+pub fn step_grows()
+    ensures { (first : Bool) (m : AMemo) (me : AMe) (a : AnAsk) (f : Frame) (n : ℕ) (p : ASpot) → MayStand first f → Grows first m (memo_on m (framed me a f n) p) }
+{}
+
+/// Where it isn't a machine's first, a block that the call made is so still, unless its event changes the number of references to the block.
+pub fn step_spares()
+    ensures { (m : AMemo) (me : AMe) (a : AnAsk) (f : Frame) (n : ℕ) (p : ASpot) (d : ℕ) → f.fresh ≡ false → touches d (event_on m (framed me a f n) p) ≡ false → Contains m.made d → Contains (memo_on m (framed me a f n) p).made d }
+{}

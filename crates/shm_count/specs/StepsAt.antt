@@ -1,0 +1,69 @@
+-- count steps at a spot that is known, as calls of larger machines: when each fits, what it gives, its laws, and the events that it tells of
+use Rattle.std.proofs.Common.{Bool, ap, ◌∙◌, subst}
+use Rattle.std.specs.Prelude.{Result}
+use Rattle.shm_graph.specs.declared.spot.Spot.{Spot}
+use Rattle.shm_graph.specs.declared.memo.Memo.{Memo}
+use Rattle.shm_graph.specs.Asks.{Trail}
+use Rattle.shm_graph.specs.Laws.{Laws}
+use Rattle.shm_graph.specs.Mapped.{OnTheWay, AtTheEnd, MappedGives, AmongFits, AmongGives, mapped_laws, among_laws}
+use Rattle.shm_graph.specs.Tells.{Tells}
+use Rattle.shm_count.specs.declared.answer.EraSpent.{EraSpent}
+use Rattle.shm_count.specs.declared.answer.UpFault.{UpFault}
+use Rattle.shm_count.specs.declared.point.StepState.{StepState}
+use Rattle.shm_count.specs.StepControl.{step_control}
+use Rattle.shm_count.specs.StepEvents.{step_event}
+use Rattle.shm_count.specs.StepFits.{StepFits, StepGives}
+use Rattle.shm_count.specs.StepKeeps.{step_keeps}
+use Rattle.shm_count.specs.StepLaws.{step_steady, step_inside, step_back}
+use Rattle.shm_count.specs.StepMachines.{IsUp, IsDown, IsChange, up_answer, down_answer, up_control, down_control, up_told, down_told, up_same, down_same}
+use Rattle.shm_count.specs.StepTells.{step_tells}
+
+module _ (p : Spot) where
+  step_laws : Laws step_control (StepFits p) (StepGives p)
+  step_laws = record { steady = step_steady; inside = step_inside p; back = step_back p; keeps = step_keeps p }
+
+  -- a step down at p
+  abbrev pub DownFitsAt : OnTheWay StepState
+  DownFitsAt = AmongFits IsDown (StepFits p)
+
+  abbrev pub DownGivesAt : AtTheEnd StepState (Result Bool EraSpent)
+  DownGivesAt = MappedGives down_answer (AmongGives IsDown (StepGives p))
+
+  pub down_laws_at : Laws down_control DownFitsAt DownGivesAt
+  down_laws_at = mapped_laws down_answer step_control DownFitsAt (AmongGives IsDown (StepGives p)) (among_laws step_control (StepFits p) (StepGives p) IsDown (λ m n q. q) (λ m n q. q) step_laws)
+
+  pub down_tells_at : Tells down_control DownFitsAt (step_event p)
+  down_tells_at m r0 tr w r f going st fit = step_tells p m r0 tr w r f going st fit.1
+
+  -- what it gives by its answer
+  pub down_gave : (m : StepState) (r0 r : Memo) (tr : Trail) (b : Result Bool EraSpent) → DownGivesAt m r0 r tr b → StepGives p m r0 r tr (down_told b)
+  down_gave m r0 r tr b g = subst (StepGives p m r0 r tr) (down_same p m r0 r tr g.0 g.2.0 g.2.1 ∙ ap down_told g.1) g.2.1
+
+  -- a step up at p
+  abbrev pub UpFitsAt : OnTheWay StepState
+  UpFitsAt = AmongFits IsUp (StepFits p)
+
+  abbrev pub UpGivesAt : AtTheEnd StepState (Result (Unit {0}) UpFault)
+  UpGivesAt = MappedGives up_answer (AmongGives IsUp (StepGives p))
+
+  pub up_laws_at : Laws up_control UpFitsAt UpGivesAt
+  up_laws_at = mapped_laws up_answer step_control UpFitsAt (AmongGives IsUp (StepGives p)) (among_laws step_control (StepFits p) (StepGives p) IsUp (λ m n q. q) (λ m n q. q) step_laws)
+
+  pub up_tells_at : Tells up_control UpFitsAt (step_event p)
+  up_tells_at m r0 tr w r f going st fit = step_tells p m r0 tr w r f going st fit.1
+
+  pub up_gave : (m : StepState) (r0 r : Memo) (tr : Trail) (b : Result (Unit {0}) UpFault) → UpGivesAt m r0 r tr b → StepGives p m r0 r tr (up_told b)
+  up_gave m r0 r tr b g = subst (StepGives p m r0 r tr) (up_same p m r0 r tr g.0 g.2.0 g.2.1 ∙ ap up_told g.1) g.2.1
+
+  -- a change at p
+  abbrev pub ChangeFitsAt : OnTheWay StepState
+  ChangeFitsAt = AmongFits IsChange (StepFits p)
+
+  abbrev pub ChangeGivesAt : AtTheEnd StepState (Result Bool UpFault)
+  ChangeGivesAt = AmongGives IsChange (StepGives p)
+
+  pub change_laws_at : Laws step_control ChangeFitsAt ChangeGivesAt
+  change_laws_at = among_laws step_control (StepFits p) (StepGives p) IsChange (λ m n q. q) (λ m n q. q) step_laws
+
+  pub change_tells_at : Tells step_control ChangeFitsAt (step_event p)
+  change_tells_at m r0 tr w r f going st fit = step_tells p m r0 tr w r f going st fit.1

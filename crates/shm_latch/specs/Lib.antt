@@ -1,0 +1,3 @@
+pub mod HoldControl
+pub mod HoldFits
+pub mod HoldLaws

@@ -1,0 +1,13 @@
+pub mod DropControl
+pub mod Lefts
+pub mod Leaving
+pub mod RootParts
+pub mod DropFits
+pub mod DropLaws
+pub mod RootsControl
+pub mod RootsFits
+pub mod RootsLaws
+pub mod LeaveControl
+pub mod LeaveFits
+pub mod LeaveWords
+pub mod LeaveLaws

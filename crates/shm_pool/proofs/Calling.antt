@@ -1,0 +1,189 @@
+-- a call, one step on, at its end and cut off
+use Rattle.std.proofs.Common.{◌≡◌, ℕ, ◌+◌, ◌<◌, Bool, true, false, cond, ◌&&◌, List, [], ◌∷◌, ◌++◌, length, refl, sym, ap, ◌∙◌, subst, arith, length-append}
+use Rattle.std.specs.Prelude.{if◌then◌else◌, Option, Some, None}
+use Rattle.std.proofs.lemmas.List.{append-nil}
+use Rattle.shm_words.specs.declared.geometry.Geometry.{Geometry}
+use Rattle.shm_graph.specs.declared.ask.Me.{Me}
+use Rattle.shm_graph.specs.declared.ask.Turn.{Turn}
+use Rattle.shm_graph.specs.declared.memo.Agent.{Agent}
+use Rattle.shm_graph.specs.declared.memo.Memo.{Memo}
+use Rattle.shm_graph.specs.declared.spot.Spot.{Spot}
+use Rattle.shm_graph.specs.declared.memo.Status.{Status}
+use Rattle.shm_graph.specs.declared.memo.Status.TheVariants.{Gone}
+use Rattle.shm_graph.specs.declared.memo.Step.{Step}
+use Rattle.shm_graph.specs.declared.run.Account.{Account}
+use Rattle.shm_graph.specs.Agents.{acts, ended, is_gone, is_recoverer, last_agent, recovers, recovers_by, stepped, with_last}
+use Rattle.shm_graph.specs.Asks.{call_after}
+use Rattle.shm_graph.specs.Changes.{asked_spot, memo_on}
+use Rattle.shm_graph.specs.Laws.{Control, Steady, step_of, turn_of, is_died, is_done, is_some, Outcome}
+use Rattle.shm_graph.specs.Runs.{account_after, told_by, told_left, begun_by}
+use Rattle.shm_graph.proofs.MemoSteps.{acts_after, acts-on, agents_after, ends_agent, last-with_last, memo_agents, memo_call, memo_over, with_some}
+use Rattle.shm_pool.specs.Rules.{IsOf}
+use Rattle.shm_pool.specs.Calls.{Shown, shown, accounts_by, IsBy, Going, fresh_after, Ending, Calls, Stepped, Ongoing, Tells, acts_still}
+
+-- a step leaves what kind of agent acts
+recovers_with : (f : Agent → Agent) → ((a : Agent) → (f a).kind ≡ a.kind) → (o : Option Agent) → recovers_by (with_some f o) ≡ recovers_by o
+recovers_with f same None = refl
+recovers_with f same (Some a) = ap is_recoverer (same a)
+
+recovers_on : (m : Memo) (t : Step) (p : Spot) → recovers (memo_on m t p) ≡ recovers m
+recovers_on m t p = ap (λ (xs : List Agent). recovers_by (last_agent xs)) (memo_agents m t p) ∙ by (ends_agent m t p)
+  where
+    one : recovers_by (last_agent (with_last stepped m.agents)) ≡ recovers m
+    one = ap recovers_by (last-with_last stepped m.agents) ∙ recovers_with stepped (λ a. refl) (last_agent m.agents)
+
+    by : (b : Bool) → recovers_by (last_agent (agents_after b m.agents)) ≡ recovers m
+    by true = ap recovers_by (last-with_last ended (with_last stepped m.agents)) ∙ (recovers_with ended (λ a. refl) (last_agent (with_last stepped m.agents)) ∙ one)
+    by false = one
+
+pub kind_same : (e : Account) (t : Step) → recovers (account_after e t).memo ≡ recovers e.memo
+kind_same e t = recovers_on e.memo t (asked_spot e.memo t)
+
+-- a machine never answers that its agent died
+pub never_died : {A : Type 0} (o : Option A) → is_died (turn_of o) ≡ false
+never_died None = refl
+never_died (Some a) = refl
+
+accounts_more : (r : Account) (ts : List Step) (t : Step) → accounts_by r (ts ++ t ∷ []) ≡ account_after (accounts_by r ts) t
+accounts_more r [] t = refl
+accounts_more r (u ∷ us) t = accounts_more (account_after r u) us t
+
+going_more : (s : Shown) (fresh : Bool) (ts : List Step) (t : Step) → Going s fresh ts → IsBy s (fresh_after fresh ts) t → t.ends ≡ false → Going s fresh (ts ++ t ∷ [])
+going_more s fresh [] t g by on = (by, on, tt)
+going_more s fresh (u ∷ []) t g by on = (g.0, g.1, (by, on, tt))
+going_more s fresh (u ∷ v ∷ us) t g by on = (g.0, g.1, going_more s false (v ∷ us) t g.2 by on)
+
+fresh_more : (fresh : Bool) (ts : List Step) (t : Step) → fresh_after fresh (ts ++ t ∷ []) ≡ false
+fresh_more fresh [] t = refl
+fresh_more fresh (u ∷ us) t = refl
+
+pub cut : (s : Shown) (r : Account) (s' : Shown) (r' : Account) (before left : ℕ) → Ongoing s r s' r' before left → Calls s r r' false before left
+cut s r s' r' before left o = record {
+  steps = o.steps;
+  last = [];
+  going = o.going;
+  ends = tt;
+  account = o.account ∙ ap (accounts_by r) (sym (append-nil o.steps));
+  life = ap (λ (ts : List Step). left + length ts) (append-nil o.steps) ∙ o.life;
+}
+
+-- whether the agent acts after a step that is not the machine's last, and after one that is
+acts_going : (e : Account) (t : Step) → t.ends ≡ false → acts (account_after e t).memo ≡ acts e.memo
+acts_going e t n = acts-on e.memo t (asked_spot e.memo t) n
+
+acts_over : (e : Account) (t : Step) → t.ends ≡ true → acts e.memo ≡ true → acts (account_after e t).memo ≡ acts_still true (account_after e t).memo
+acts_over e t y acting = acts_after e.memo t (asked_spot e.memo t) ∙ by (is_gone (account_after e t).memo.status) t.ends (acts e.memo) y acting
+  where
+    by : (b d x : Bool) → d ≡ true → x ≡ true → cond (b && d) false x ≡ cond b false true
+    by true d x e f = ap (λ (z : Bool). cond z false x) e
+    by false d x e f = f
+
+module _ {M A : Type 0} (k : Control M A) (fits : M → Memo → Memo → Type 0) (gives : M → Memo → Memo → A → Type 0) (steady : Steady k) where
+  by : (s : Shown) (r : Account) (m : M) (r' r'' : Account) (t : Turn A) (m' : M) (before left : ℕ) → (o : Ongoing s r (shown k m) r' before left) → (x : Stepped k fits gives m r' r'' t m') → IsBy s (fresh_after s.fresh o.steps) (step_of k m x.seen)
+  by s r m r' r'' t m' before left o x = record { me = o.me; line = o.line; first = o.first }
+
+  pub more : (s : Shown) (r : Account) (m : M) (r' r'' : Account) (t : Turn A) (m' : M) (before left left' : ℕ) → k.finished m ≡ false → Ongoing s r (shown k m) r' before left → (x : Stepped k fits gives m r' r'' t m') → k.turns m x.seen ≡ None → left' + 1 ≡ left → Ongoing s r (shown k m') r'' before left'
+  more s r m r' r'' t m' before left left' going o x none down = let u : Step = step_of k m x.seen in let n : ℕ = length o.steps in let l : left + n ≡ before = o.life in let st = steady m x.seen going in record {
+    steps = o.steps ++ u ∷ [];
+    going = going_more s s.fresh o.steps u o.going (by s r m r' r'' t m' before left o x) (st.ends ∙ ap is_some none);
+    account = x.account ∙ (ap (λ (z : Account). account_after z u) o.account ∙ sym (accounts_more r o.steps u));
+    life = omega (arith, length-append o.steps (u ∷ []));
+    me = ap k.me x.next ∙ (st.same_me ∙ o.me);
+    line = ap k.line x.next ∙ (st.same_line ∙ o.line);
+    first = ap k.fresh x.next ∙ (st.started ∙ sym (fresh_more s.fresh o.steps u));
+  }
+
+  pub whole : (s : Shown) (r : Account) (m : M) (r' r'' : Account) (t : Turn A) (m' : M) (before left left' : ℕ) (a : A) → k.finished m ≡ false → Ongoing s r (shown k m) r' before left → (x : Stepped k fits gives m r' r'' t m') → k.turns m x.seen ≡ Some a → left' + 1 ≡ left → Calls s r r'' true before left'
+  whole s r m r' r'' t m' before left left' a going o x some down = let u : Step = step_of k m x.seen in let n : ℕ = length o.steps in let l : left + n ≡ before = o.life in record {
+    steps = o.steps;
+    last = u ∷ [];
+    going = o.going;
+    ends = (by s r m r' r'' t m' before left o x, (steady m x.seen going).ends ∙ ap is_some some);
+    account = x.account ∙ (ap (λ (z : Account). account_after z u) o.account ∙ sym (accounts_more r o.steps u));
+    life = omega (arith, length-append o.steps (u ∷ []));
+  }
+
+  -- a step that goes on leaves an agent that acts, and one that is done leaves one where the status isn't gone
+  pub acts_more : (m : M) (r' r'' : Account) (t : Turn A) (m' : M) → k.finished m ≡ false → acts r'.memo ≡ true → (x : Stepped k fits gives m r' r'' t m') → k.turns m x.seen ≡ None → acts r''.memo ≡ true
+  acts_more m r' r'' t m' going acting x none = ap (λ (z : Account). acts z.memo) x.account ∙ (acts_going r' (step_of k m x.seen) ((steady m x.seen going).ends ∙ ap is_some none) ∙ acting)
+
+  pub acts_done : (m : M) (r' r'' : Account) (t : Turn A) (m' : M) (a : A) → k.finished m ≡ false → acts r'.memo ≡ true → (x : Stepped k fits gives m r' r'' t m') → k.turns m x.seen ≡ Some a → acts r''.memo ≡ acts_still true r''.memo
+  acts_done m r' r'' t m' a going acting x some =
+      let u : Step = step_of k m x.seen in
+      subst (λ (z : Account). acts z.memo ≡ acts_still true z.memo) (sym x.account) (acts_over r' u ((steady m x.seen going).ends ∙ ap is_some some) acting)
+
+  -- after any step
+  pub acts_stepped : (m : M) (r' r'' : Account) (t : Turn A) (m' : M) → k.finished m ≡ false → acts r'.memo ≡ true → (x : Stepped k fits gives m r' r'' t m') → acts r''.memo ≡ acts_still (is_done t) r''.memo
+  acts_stepped m r' r'' t m' going acting x = by (k.turns m x.seen) refl
+    where
+      by : (o : Option A) → k.turns m x.seen ≡ o → acts r''.memo ≡ acts_still (is_done t) r''.memo
+      by None e = subst (λ (y : Turn A). acts r''.memo ≡ acts_still (is_done y) r''.memo) (sym (x.turn ∙ ap turn_of e)) (acts_more m r' r'' t m' going acting x e)
+      by (Some a) e = subst (λ (y : Turn A). acts r''.memo ≡ acts_still (is_done y) r''.memo) (sym (x.turn ∙ ap turn_of e)) (acts_done m r' r'' t m' a going acting x e)
+
+  -- the machine is still of this identity, and not finished
+  pub still_of : (g : Geometry) (m : M) (r' r'' : Account) (t : Turn A) (m' : M) → IsOf g r' k m → (x : Stepped k fits gives m r' r'' t m') → k.turns m x.seen ≡ None → IsOf g r'' k m'
+  still_of g m r' r'' t m' is x none =
+      let st = steady m x.seen is.2 in
+      let w : r''.who ≡ r'.who = ap (λ (z : Account). z.who) x.account in
+      let me : k.me m' ≡ record { geometry = g; who = r'.who } = ap k.me x.next ∙ (st.same_me ∙ is.0) in
+      let lt : r'.who < g.clients = is.1 in (
+        me ∙ ap (λ (z : ℕ). let y : Me = record { geometry = g; who = z } in y) (sym w),
+        subst (λ (z : ℕ). z < g.clients) (sym w) lt,
+        ap k.finished x.next ∙ (st.ends ∙ ap is_some none),
+        acts_more m r' r'' t m' is.2 is.3 x none,
+      )
+
+-- what a step that goes on leaves, and one that is done
+module _ {M A : Type 0} (k : Control M A) (fits : M → Memo → Memo → Type 0) (gives : M → Memo → Memo → A → Type 0) where
+  pub goes_on : (m : M) (r r' : Account) (t : Turn A) (m' : M) (r0 : Memo) → fits m r0 r.memo → (x : Stepped k fits gives m r r' t m') → k.turns m x.seen ≡ None → fits m' r0 r'.memo
+  goes_on m r r' t m' r0 fit x none = subst (λ (z : M). fits z r0 r'.memo) (sym x.next) (subst (λ (o : Option A). Outcome o (fits (k.after m x.seen) r0 r'.memo) (gives m r0 r'.memo)) none (x.suits r0 fit))
+
+  pub is_over : (m : M) (r r' : Account) (t : Turn A) (m' : M) (r0 : Memo) (a : A) → fits m r0 r.memo → (x : Stepped k fits gives m r r' t m') → k.turns m x.seen ≡ Some a → gives m r0 r'.memo a
+  is_over m r r' t m' r0 a fit x some = subst (λ (o : Option A). Outcome o (fits (k.after m x.seen) r0 r'.memo) (gives m r0 r'.memo)) some (x.suits r0 fit)
+
+told_false : (s : Shown) (ts : List Step) (r : Account) → Going s false ts → (accounts_by r ts).told ≡ r.told × ((accounts_by r ts).begun ≡ r.begun)
+told_false s [] r g = (refl, refl)
+told_false s (t ∷ ts) r g =
+    let x = told_false s ts (account_after r t) g.2 in (
+      x.0 ∙ (ap (λ (b : Bool). if b then told_by t.line (call_after t.fresh r.memo.call t.ask t.seen) true (told_left t.fresh r) else told_left t.fresh r) g.1 ∙ ap (λ (b : Bool). told_left b r) g.0.first),
+      x.1 ∙ ap (λ (b : Bool). if b then begun_by t.line r.begun else r.begun) g.0.first,
+    )
+
+-- what the account says of lines before the last step of a whole call
+told_going : (s : Shown) (ts : List Step) (r : Account) → Going s true ts → (told_left (fresh_after true ts) (accounts_by r ts) ≡ told_left true r) × ((if fresh_after true ts then begun_by s.line (accounts_by r ts).begun else (accounts_by r ts).begun) ≡ begun_by s.line r.begun)
+told_going s [] r g = (refl, refl)
+told_going s (t ∷ ts) r g =
+    let x = told_false s ts (account_after r t) g.2 in (
+      x.0 ∙ (ap (λ (b : Bool). if b then told_by t.line (call_after t.fresh r.memo.call t.ask t.seen) true (told_left t.fresh r) else told_left t.fresh r) g.1 ∙ ap (λ (b : Bool). told_left b r) g.0.first),
+      x.1 ∙ (ap (λ (b : Bool). if b then begun_by t.line r.begun else r.begun) g.0.first ∙ ap (λ (l : List ℕ). begun_by l r.begun) g.0.line),
+    )
+
+-- what a whole call of a machine tells and begins
+pub tells : (s : Shown) (r r' : Account) (before left : ℕ) → s.fresh ≡ true → Calls s r r' true before left → Tells s.line r r'
+tells s r r' before left fresh c = go c.last c.ends c.account
+  where
+    going : Going s true c.steps
+    going = subst (λ (b : Bool). Going s b c.steps) fresh c.going
+
+    go : (last : List Step) → Ending s (fresh_after s.fresh c.steps) true last → r' ≡ accounts_by r (c.steps ++ last) → Tells s.line r r'
+    go [] e m = absurd e
+    go (t ∷ u ∷ us) e m = absurd e
+    go (t ∷ []) e m =
+        let old : Account = accounts_by r c.steps in
+        let is : r' ≡ account_after old t = m ∙ accounts_more r c.steps t in
+        let first : t.fresh ≡ fresh_after true c.steps = e.0.first ∙ ap (λ (b : Bool). fresh_after b c.steps) fresh in
+        let x = told_going s c.steps r going in
+        let calls : (account_after old t).memo.call ≡ call_after t.fresh old.memo.call t.ask t.seen = memo_call old.memo t (asked_spot old.memo t) in record {
+          told = ap (λ (z : Account). z.told) is ∙ (ap (λ (b : Bool). if b then told_by t.line (call_after t.fresh old.memo.call t.ask t.seen) true (told_left t.fresh old) else told_left t.fresh old) e.1
+              ∙ ((λ i. told_by (e.0.line i) (sym calls i) true ((ap (λ (b : Bool). told_left b old) first ∙ x.0) i)) ∙ ap (λ (z : Account). told_by s.line z.memo.call true (told_left true r)) (sym is)));
+          begun = ap (λ (z : Account). z.begun) is ∙ ((λ i. if first i then begun_by (e.0.line i) old.begun else old.begun) ∙ x.1);
+          running = ap (λ (z : Account). z.running) is ∙ ap (λ (b : Bool). if b then [] else t.line) e.1;
+          over = ap (λ (z : Account). z.memo.over) is ∙ (memo_over old.memo t (asked_spot old.memo t) ∙ e.1);
+        }
+
+-- where a machine's answer leaves another status than gone, the agent acts
+pub acts_stay : (m : Memo) → is_gone m.status ≡ false → acts m ≡ acts_still true m → acts m ≡ true
+acts_stay m n is = is ∙ ap (λ (b : Bool). cond b false true) n
+
+pub acts_leave : (m : Memo) → m.status ≡ Gone → acts m ≡ acts_still true m → acts m ≡ false
+acts_leave m gone is = is ∙ ap (λ (s : Status). cond (is_gone s) false true) gone

@@ -1,0 +1,6 @@
+pub mod Counts
+pub mod Stepping
+pub mod Calling
+pub mod Opening
+pub mod Ends
+pub mod Changing

@@ -1,0 +1,23 @@
+use Rattle.std.proofs.Common.{◌≡◌, ℕ, ◌<◌, List, map, sym, ap, ◌∙◌, subst, arith}
+use Rattle.atomic_table.specs.Table.{Me as Mine}
+use Rattle.shm_graph.specs.declared.memo.Kind.TheVariants.{Client}
+use Rattle.shm_graph.specs.declared.run.Account.{Account}
+use Rattle.shm_graph.specs.Runs.{account_entered}
+use Rattle.shm_pool.specs.Rules.{Stood, alone, head_account}
+use Rattle.shm_pool.proofs.Stepping.{noted_as, begins, stood_begins}
+use Rattle.shm_pool.proofs.steps.note_client.Goals.{After-load}
+use Rattle.shm_pool.proofs.steps.note_client.Goals as goal
+
+-- the account afterwards
+alone_now : (c : After-load) → alone c.load.new.seat ≡ account_entered Client (alone c.args.place.now)
+alone_now c = ap head_account c.load.ensures.2.0 ∙ ap (λ (m : Mine (Unit {0}) (List Account)). head_account (map (account_entered Client) m.0)) c.requires.table.2
+
+pub load-requires : goal.load-requires
+load-requires c = (
+  c.requires.table.0,
+  subst (λ (n : ℕ). 0 < n) (sym c.requires.table.1) (omega arith),
+  noted_as (account_entered Client) c.args.top.now.key _ _ (alone c.args.place.now) _ c.requires.table.2 (begins Client c.args.top.now.key _ (alone c.args.place.now) c.requires.rests.0 (c.requires.rests.1, c.requires.rests.2)),
+)
+
+pub returns-clause-stood : goal.returns-clause-stood
+returns-clause-stood c = λ s. subst (λ (e : Account). Stood c.args.top.now.key e) (sym (alone_now (goal.at.returns-clause-stood c).After-load)) (stood_begins Client c.args.top.now.key (alone c.args.place.now) c.requires.rests.0 (c.requires.rests.1, c.requires.rests.2) s)

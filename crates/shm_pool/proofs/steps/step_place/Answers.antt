@@ -1,0 +1,33 @@
+use Rattle.shm_graph.specs.Agents.{recovers}
+use Rattle.shm_graph.specs.declared.run.Account.{Account}
+use Rattle.std.proofs.Common.{sym, ap, ◌∙◌, arith, true≢false}
+use Rattle.shm_graph.specs.Laws.{is_died, step_of}
+use Rattle.shm_graph.specs.Whole.{fits_now, gives_now}
+use Rattle.shm_pool.specs.Rules.{alone}
+use Rattle.shm_pool.specs.Calls.{Stepped}
+use Rattle.shm_pool.proofs.Calling.{acts_stepped, kind_same, never_died}
+use Rattle.shm_pool.proofs.steps.step_place.Given.{Over}
+use Rattle.shm_pool.proofs.steps.step_place.Goals.{After-take}
+use Rattle.shm_pool.proofs.steps.step_place.Goals as goal
+
+stepped : (g : Over) (c : After-take g) → let M = g.M.Machine in Stepped M.control (fits_now M.control M.fits) (gives_now M.gives) c.args.m.now (alone c.args.place.now) (alone c.ask_step-seen.new.place) c.take.result c.take.new.self
+stepped g c = let t = c.ask_step-seen.ensures.told in record {
+  seen = c.ask_step-seen.result;
+  account = t.0;
+  next = c.take.ensures.machine;
+  turn = c.take.ensures.turn;
+  suits = t.1;
+}
+
+pub returns-clause-turn : goal.returns-clause-turn
+returns-clause-turn g c = λ h. (omega arith, stepped g (goal.at.returns-clause-turn g c).After-take)
+
+pub returns-clause-stays : goal.returns-clause-stays
+returns-clause-stays g c = λ d. absurd (true≢false (sym d ∙ (ap is_died c.take.ensures.turn ∙ never_died (g.M.Machine.control.turns c.args.m.now c.ask_step-seen.result))))
+
+pub returns-clause-kind : goal.returns-clause-kind
+returns-clause-kind g c = let M = g.M.Machine in ap (λ (e : Account). recovers e.memo) c.ask_step-seen.ensures.told.0 ∙ kind_same (alone c.args.place.now) (step_of M.control c.args.m.now c.ask_step-seen.result)
+
+pub returns-clause-acts : goal.returns-clause-acts
+returns-clause-acts g c = let M = g.M.Machine in
+    acts_stepped M.control (fits_now M.control M.fits) (gives_now M.gives) g.met.M.Machine.laws.steady c.args.m.now (alone c.args.place.now) (alone c.ask_step-seen.new.place) c.take.result c.take.new.self c.requires.me.2 c.requires.me.3 (stepped g (goal.at.returns-clause-acts g c).After-take)

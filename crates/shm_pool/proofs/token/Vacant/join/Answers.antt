@@ -1,0 +1,50 @@
+use Rattle.std.proofs.Common.{◌≡◌, ℕ, ◌<◌, true, false, rules, sym, ap, ◌∙◌, subst, []}
+use Rattle.shm_graph.specs.declared.ask.Me.{Me}
+use Rattle.shm_graph.specs.declared.memo.Kind.TheVariants.{Client}
+use Rattle.shm_graph.specs.declared.memo.Memo.{Memo}
+use Rattle.shm_graph.specs.declared.run.Account.{Account}
+use Rattle.shm_graph.specs.declared.run.Start.{Start}
+use Rattle.shm_graph.specs.Agents.{acts, is_gone, recovers}
+use Rattle.shm_graph.specs.Asks.{call_before}
+use Rattle.shm_graph.specs.Runs.{account_entered}
+use Rattle.shm_graph.proofs.MemoSteps.{acts-entered, recovers-entered}
+use Rattle.shm_recover.specs.declared.join.JoinState.{JoinState}
+use Rattle.shm_recover.specs.Joining.{IsMember, JoinFits, is_over, is_start, join_fresh}
+use Rattle.shm_recover.specs.JoinKeeps.{join_begins}
+use Rattle.shm_pool.specs.Rules.{alone}
+use Rattle.shm_pool.proofs.Calling.{acts_stay}
+use Rattle.shm_pool.specs.Tokens.{Its, Token}
+use Rattle.shm_pool.proofs.token.Vacant.join.Goals.{After-top-2}
+use Rattle.shm_pool.proofs.token.Vacant.join.Goals as goal
+
+-- what the pool was made of is what the token says, and whose account it is stays
+made : (c : After-top-2) → c.self.inside.start ≡ c.top-2.result.now.key
+made c = ap (λ (t : Token). t.of.start) c.self.view_is ∙ (ap (λ (n : Its). n.start) c.requires.pool ∙ sym c.top-2.ensures.1)
+
+pub run_place-requires-clause-me : goal.run_place-requires-clause-me
+run_place-requires-clause-me c =
+    let i = c.self.invariant.0 in
+    let s = made (goal.at.run_place-requires-clause-me c).After-top-2 in
+    let e = c.note_client.ensures.account in
+    let w : c.self.inside.who ≡ (alone c.note_client.new.place).who = i.who ∙ sym (ap (λ (z : Account). z.who) e) in (
+      ap (λ (m : JoinState). m.me) c.new-machine.ensures.state ∙ (λ j. record { geometry = (c.new.ensures.geometry ∙ ap (λ (x : Start). x.geometry) s) j; who = (c.new.ensures.who ∙ w) j }),
+      subst (λ (n : ℕ). n < c.top-2.result.now.key.geometry.clients) w (subst (λ (z : Start). c.self.inside.who < z.geometry.clients) s i.below),
+      ap (λ (m : JoinState). is_over m.point) c.new-machine.ensures.state,
+      ap (λ (z : Account). acts z.memo) e ∙ acts-entered Client (alone c.self.inside.place).memo,
+    )
+
+pub run_place-requires-clause-fits : goal.run_place-requires-clause-fits
+run_place-requires-clause-fits c =
+    let i = c.self.invariant in
+    let me : Me = c.new.result in
+    let member : IsMember me = subst IsMember (sym (λ j. record { geometry = c.new.ensures.geometry j; who = c.new.ensures.who j })) (record { geometry = i.0.fits; who = i.0.below }) in
+    subst (λ (m : JoinState). JoinFits m (alone c.note_client.new.place).memo (alone c.note_client.new.place).memo (call_before (is_start m.point) (alone c.note_client.new.place).memo.call)) (sym c.new-machine.ensures.state)
+    (subst (λ (e : Account). JoinFits (join_fresh me) e.memo e.memo []) (sym c.note_client.ensures.account)
+    (join_begins me (account_entered Client (alone c.self.inside.place)).memo (record { member = member; status = i.1.0 })))
+
+pub invariant_of-result-in-Some : goal.invariant_of-result-in-Some
+invariant_of-result-in-Some c =
+    let m : Memo = (alone c.run_place.new.place).memo in
+    let acting : acts m ≡ true = acts_stay m (ap is_gone c.in-Some.ensures.gives.idle.live) c.in-Some.ensures.acts in
+    let kind : recovers m ≡ false = c.in-Some.ensures.kind ∙ (ap (λ (e : Account). recovers e.memo) c.note_client.ensures.account ∙ recovers-entered Client (alone c.self.inside.place).memo) in
+    (search rules, acting, kind)

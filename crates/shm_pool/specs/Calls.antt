@@ -1,0 +1,92 @@
+-- a step and a whole call in the account of the caller
+use Rattle.std.specs.Prelude.{◌≡◌, ℕ, ◌+◌, Bool, true, false, if◌then◌else◌, List, [], ◌∷◌, ◌++◌, length}
+use Rattle.shm_graph.specs.declared.ask.Me.{Me}
+use Rattle.shm_graph.specs.declared.ask.Turn.{Turn}
+use Rattle.shm_graph.specs.declared.memo.Memo.{Memo}
+use Rattle.shm_graph.specs.declared.run.Account.{Account}
+use Rattle.shm_graph.specs.declared.run.Start.{Start}
+use Rattle.shm_graph.specs.declared.memo.Step.{Step}
+use Rattle.shm_graph.specs.Agents.{is_gone}
+use Rattle.shm_graph.specs.Laws.{Control, step_of, turn_of}
+use Rattle.shm_graph.specs.Runs.{account_after, told_by, told_left, begun_by}
+use Rattle.shm_graph.specs.Whole.{Learns}
+use Rattle.shm_pool.specs.Rules.{Stood}
+
+-- what a machine shows of itself
+pub record Shown : Type 0 where
+  pub me : Me
+  pub line : List ℕ
+  pub fresh : Bool
+
+abbrev pub shown : {M A : Type 0} → Control M A → M → Shown
+shown k m = record { me = k.me m; line = k.line m; fresh = k.fresh m }
+
+-- the account after these steps
+abbrev pub accounts_by : Account → List Step → Account
+accounts_by r [] = r
+accounts_by r (t ∷ ts) = accounts_by (account_after r t) ts
+
+-- the step is one of a machine that shows s, and is its first one or not
+pub record IsBy (s : Shown) (fresh : Bool) (t : Step) : Type 0 where
+  pub me : t.me ≡ s.me
+  pub line : t.line ≡ s.line
+  pub first : t.fresh ≡ fresh
+
+-- steps of a machine that is not finished by them
+abbrev pub Going : Shown → Bool → List Step → Type 0
+Going s fresh [] = Unit {0}
+Going s fresh (t ∷ ts) = IsBy s fresh t × (t.ends ≡ false) × Going s false ts
+
+abbrev pub fresh_after : Bool → List Step → Bool
+fresh_after fresh [] = fresh
+fresh_after fresh (t ∷ ts) = false
+
+-- the last step of a whole call, and nothing of one that was cut off
+abbrev pub Ending : Shown → Bool → Bool → List Step → Type 0
+Ending s fresh true (t ∷ []) = IsBy s fresh t × (t.ends ≡ true)
+Ending s fresh false [] = Unit {0}
+Ending s fresh _ _ = ⊥
+
+-- the steps of a call that takes the account r to r' and left `left` of `before` steps: all but the last of a whole call, or those of one that was cut off
+pub record Calls (s : Shown) (r r' : Account) (over : Bool) (before left : ℕ) : Type 0 where
+  pub steps : List Step
+  pub last : List Step
+  pub going : Going s s.fresh steps
+  pub ends : Ending s (fresh_after s.fresh steps) over last
+  pub account : r' ≡ accounts_by r (steps ++ last)
+  pub life : left + length (steps ++ last) ≡ before
+
+module _ {M A : Type 0} (k : Control M A) (fits : M → Memo → Memo → Type 0) (gives : M → Memo → Memo → A → Type 0) where
+  -- one step: the machine m becomes m' and answers t, and the account r becomes r'
+  pub record Stepped (m : M) (r r' : Account) (t : Turn A) (m' : M) : Type 0 where
+    pub seen : ℕ
+    pub account : r' ≡ account_after r (step_of k m seen)
+    pub next : m' ≡ k.after m seen
+    pub turn : t ≡ turn_of (k.turns m seen)
+    pub suits : Learns k fits gives m seen r.memo r'.memo
+
+-- a call that goes on: the machine showed s at first and shows s' now
+pub record Ongoing (s : Shown) (r : Account) (s' : Shown) (r' : Account) (before left : ℕ) : Type 0 where
+  pub steps : List Step
+  pub going : Going s s.fresh steps
+  pub account : r' ≡ accounts_by r steps
+  pub life : left + length steps ≡ before
+  pub me : s'.me ≡ s.me
+  pub line : s'.line ≡ s.line
+  pub first : s'.fresh ≡ fresh_after s.fresh steps
+
+-- what a whole call of a machine with this line leaves beside the memo
+pub record Tells (line : List ℕ) (r r' : Account) : Type 0 where
+  pub told : r'.told ≡ told_by line r'.memo.call true (told_left true r)
+  pub begun : r'.begun ≡ begun_by line r.begun
+  pub running : r'.running ≡ []
+  pub over : r'.memo.over ≡ true
+
+-- an agent ends where its machine is done and leaves the status gone
+abbrev pub acts_still : Bool → Memo → Bool
+acts_still false m = true
+acts_still true m = if is_gone m.status then false else true
+
+-- whatever such a machine of the identity c answers, it leaves another status than gone
+abbrev pub Stays : {A : Type 0} → Start → ℕ → (Memo → A → Type 0) → Type 0
+Stays {A} s c gives = (e : Account) (a : A) → Stood s e → e.who ≡ c → gives e.memo a → is_gone e.memo.status ≡ false

@@ -1,0 +1,8 @@
+-- why a closing was refused
+use Rattle.std.specs.Prelude.{ℕ}
+use Rattle.shm_pool.specs.declared.closing.CloseCause.{CloseCause}
+use Rattle.shm_pool.specs.declared.closing.CloseCause.TheVariants.{Memory, Missing}
+
+abbrev pub IfMissing : CloseCause → (ℕ → Type 0) → Type 0
+IfMissing (Memory e) P = Unit {0}
+IfMissing (Missing c) P = P c

@@ -1,0 +1,79 @@
+-- the rule of the shared words, and what a seat knows
+use Rattle.std.specs.Prelude.{◌≡◌, ℕ, ◌+◌, ◌<◌, ◌==◌, true, false, if◌then◌else◌, List, [], ◌∷◌, length}
+use Rattle.atomic_table.specs.declared.shared.Seat.{Seat}
+use Rattle.shm_words.specs.declared.geometry.Geometry.{Geometry}
+use Rattle.shm_graph.specs.declared.run.Start.{Start}
+use Rattle.shm_graph.specs.declared.memo.Memo.{Memo}
+use Rattle.shm_graph.specs.declared.run.Account.{Account}
+use Rattle.shm_graph.specs.declared.run.Move.{Move}
+use Rattle.shm_graph.specs.Agents.{acts}
+use Rattle.shm_graph.specs.Asks.{seen_of}
+use Rattle.shm_graph.specs.Laws.{Control, step_of}
+use Rattle.shm_graph.specs.Runs.{Held, Leads, state, first_state, account_at, account_after, first_account}
+use Rattle.shm_graph.specs.Whole.{Learns}
+
+-- how often the identity c stands in a view, and in all views
+abbrev pub count_in : ℕ → List Account → ℕ
+count_in c [] = 0
+count_in c (r ∷ rs) = (if r.who == c then 1 else 0) + count_in c rs
+
+abbrev pub count_by : ℕ → List (List Account) → ℕ
+count_by c [] = 0
+count_by c (v ∷ vs) = count_in c v + count_by c vs
+
+-- the account of its identity among all
+abbrev pub IsAmong : List Account → Account → Type 0
+IsAmong rs r = (r.who < length rs) × (account_at rs r.who ≡ r)
+
+abbrev pub Knows : List Account → List Account → Type 0
+Knows rs [] = Unit {0}
+Knows rs (r ∷ v) = IsAmong rs r × Knows rs v
+
+abbrev pub AllKnow : List Account → List (List Account) → Type 0
+AllKnow rs [] = Unit {0}
+AllKnow rs (v ∷ vs) = Knows rs v × AllKnow rs vs
+
+-- the words are those of a Held state to which a run leads, each view shows accounts of that state, and each identity stands in exactly one view
+pub record Rule (s : Start) (ws : List ℕ) (views : List (List Account)) : Type 0 where
+  pub accounts : List Account
+  pub turns : List Move
+  pub held : Held s.geometry ws accounts
+  pub leads : Leads s.geometry (first_state s) turns (state ws accounts)
+  pub known : AllKnow accounts views
+  pub stands : (c : ℕ) → c < s.geometry.clients → count_by c views ≡ 1
+
+abbrev pub no_account : Account
+no_account = first_account (record { geometry = record { clients = 0; segments = 0 }; first_era = 0; tables = false }) 0
+
+abbrev pub head_account : List Account → Account
+head_account [] = no_account
+head_account (r ∷ rs) = r
+
+-- the account of a seat that answers for one identity
+abbrev pub alone : Seat (Unit {0}) (List Account) → Account
+alone s = head_account s.me.0
+
+abbrev pub IsAlone : Seat (Unit {0}) (List Account) → Type 0
+IsAlone s = s.me ≡ (head_account s.me.0 ∷ [], [])
+
+-- the account is one of a Held state to which a run of a pool leads that was made so: whatever the invariant says of a memo holds of it
+pub record Stood (s : Start) (e : Account) : Type 0 where
+  pub words : List ℕ
+  pub accounts : List Account
+  pub turns : List Move
+  pub held : Held s.geometry words accounts
+  pub leads : Leads s.geometry (first_state s) turns (state words accounts)
+  pub here : IsAmong accounts e
+
+-- the machine is of this identity, whose agent acts, and is not finished
+abbrev pub IsOf : {M A : Type 0} → Geometry → Account → Control M A → M → Type 0
+IsOf g e k m = (k.me m ≡ record { geometry = g; who = e.who }) × (e.who < g.clients) × (k.finished m ≡ false) × (acts e.memo ≡ true)
+
+module _ {M A : Type 0} (k : Control M A) (fits : M → Memo → Memo → Type 0) (gives : M → Memo → Memo → A → Type 0) where
+  -- the account e' after the step of m that was given n
+  abbrev pub Told : Start → M → Account → ℕ → Account → Type 0
+  Told s m e n e' = (e' ≡ account_after e (step_of k m n)) × Learns k fits gives m n e.memo e'.memo × Stood s e'
+
+  -- what is told follows from what the step is
+  abbrev pub Follows : Start → M → Account → ℕ → (List Account → Type 0) → Type 0
+  Follows s m e n says = let e' : Account = account_after e (step_of k m (seen_of (k.asks m) n)) in Learns k fits gives m (seen_of (k.asks m) n) e.memo e'.memo → Stood s e' → says (e' ∷ [])

@@ -1,0 +1,139 @@
+//! One word step of any machine on the table.
+
+ghost use Rattle.std.specs.Prelude.{◌≡◌, ℕ, ◌+◌, ◌<◌, ◌↔◌, [], ◌∷◌, true, false, IfSome, IsNone};
+ghost use Rattle.shm_words.specs.Layout.{total_of};
+ghost use Rattle.shm_graph.specs.declared.memo.Kind.TheVariants.{Client as AClient, Recoverer as ARecoverer};
+ghost use Rattle.shm_graph.specs.declared.memo.Memo.{Memo};
+ghost use Rattle.shm_graph.specs.Agents.{acts, recovers};
+ghost use Rattle.shm_graph.specs.Asks.{seen_of};
+ghost use Rattle.shm_graph.specs.Laws.{is_died, is_done, is_some};
+ghost use Rattle.shm_graph.specs.Runs.{MayBegin, account_died, account_entered};
+ghost use Rattle.shm_graph.specs.Whole.{fits_now, gives_now};
+ghost use Rattle.shm_pool.specs.Rules.{IsOf, IsAlone, Stood, alone, Told, Follows};
+ghost use Rattle.shm_pool.specs.Calls.{Stepped, Calls, Tells, acts_still, shown};
+
+use crate::rule::{ClientBegins, Dies, Place, RecovererBegins, Say, Says, Top};
+use shm_graph::{Ask, Life, Machine, Turn};
+use std::marker::Brand;
+
+fn step_as<U: Say, M: Machine>(top: &Top, place: &mut Place, m: &M) -> u64
+    requires table { (place.old.table_id ≡ top.now.table_id) × (top.now.table_id.words ≡ total_of top.now.key.geometry) × IsAlone place.old }
+    requires me { IsOf top.now.key.geometry (alone place.old) M.control m.now }
+    requires fits { (r0 : Memo) × fits_now M.control M.fits m.now r0 (alone place.old).memo }
+    requires say { (n : ℕ) → Follows M.control (fits_now M.control M.fits) (gives_now M.gives) top.now.key m.now (alone place.old) n (U.then (alone place.old ∷ []) n) }
+    ensures place { (place.new.table_id ≡ place.old.table_id) × (place.new.id ≡ place.old.id) × (place.new.me.1 ≡ []) }
+    ensures told { (n : ℕ) × (result ≡ seen_of (M.control.asks m.now) n) × U.then (alone place.old ∷ []) n place.new.me.0 }
+{
+    match m.ask() {
+        Ask::Load { at } => top.load::<Says<U>>(place, at as usize),
+        Ask::Store { at, value } => {
+            top.store::<Says<U>>(place, at as usize, value);
+            0
+        }
+        Ask::Exchange { at, from, to } => {
+            top.compare_exchange::<Says<U>>(place, at as usize, from, to)
+        }
+    }
+}
+
+/// One word step of a machine. What it found is given to the machine next.
+pub(crate) fn ask_step<M: Machine>(top: &Top, place: &mut Place, m: &M) -> u64
+    requires table { (place.old.table_id ≡ top.now.table_id) × (top.now.table_id.words ≡ total_of top.now.key.geometry) × IsAlone place.old }
+    requires me { IsOf top.now.key.geometry (alone place.old) M.control m.now }
+    requires fits { (r0 : Memo) × fits_now M.control M.fits m.now r0 (alone place.old).memo }
+    ensures place { (place.new.table_id ≡ place.old.table_id) × (place.new.id ≡ place.old.id) × IsAlone place.new }
+    ensures told { Told M.control (fits_now M.control M.fits) (gives_now M.gives) top.now.key m.now (alone place.old) result (alone place.new) }
+{
+    step_as::<Brand, M>(top, place, m)
+}
+
+/// One step of a machine, unless no life is left.
+pub(crate) fn step_place<M: Machine>(
+    top: &Top,
+    place: &mut Place,
+    m: &mut M,
+    life: &mut Life,
+) -> Turn<M::Answer>
+    requires table { (place.old.table_id ≡ top.now.table_id) × (top.now.table_id.words ≡ total_of top.now.key.geometry) × IsAlone place.old }
+    requires me { IsOf top.now.key.geometry (alone place.old) M.control m.old }
+    requires stood { Stood top.now.key (alone place.old) }
+    requires fits { (r0 : Memo) × fits_now M.control M.fits m.old r0 (alone place.old).memo }
+    ensures place { (place.new.table_id ≡ place.old.table_id) × (place.new.id ≡ place.old.id) × IsAlone place.new }
+    ensures stood { Stood top.now.key (alone place.new) }
+    ensures died { is_died result ≡ true ↔ (life.old.left ≡ 0) }
+    ensures stays { is_died result ≡ true → (alone place.new ≡ alone place.old) × (m.new ≡ m.old) × (life.new ≡ life.old) }
+    ensures turn { 0 < life.old.left → (life.new.left + 1 ≡ life.old.left) × Stepped M.control (fits_now M.control M.fits) (gives_now M.gives) m.old (alone place.old) (alone place.new) result m.new }
+    ensures acts { acts (alone place.new).memo ≡ acts_still (is_done result) (alone place.new).memo }
+    ensures who { (alone place.new).who ≡ (alone place.old).who }
+    ensures kind { recovers (alone place.new).memo ≡ recovers (alone place.old).memo }
+{
+    if life.left == 0 {
+        return Turn::Died;
+    }
+    life.left -= 1;
+    let seen = ask_step(top, place, m);
+    m.take(seen)
+}
+
+/// The steps of a machine until it is finished; none where no life is left before.
+pub(crate) fn run_place<M: Machine>(
+    top: &Top,
+    place: &mut Place,
+    m: &mut M,
+    life: &mut Life,
+) -> Option<M::Answer>
+    requires table { (place.old.table_id ≡ top.now.table_id) × (top.now.table_id.words ≡ total_of top.now.key.geometry) × IsAlone place.old }
+    requires me { IsOf top.now.key.geometry (alone place.old) M.control m.old }
+    requires stood { Stood top.now.key (alone place.old) }
+    requires fits { fits_now M.control M.fits m.old (alone place.old).memo (alone place.old).memo }
+    ensures place { (place.new.table_id ≡ place.old.table_id) × (place.new.id ≡ place.old.id) × IsAlone place.new }
+    ensures stood { Stood top.now.key (alone place.new) }
+    ensures call { Calls (shown M.control m.old) (alone place.old) (alone place.new) (is_some result) life.old.left life.new.left }
+    ensures told { M.control.fresh m.old ≡ true → IfSome result (λ _. Tells (M.control.line m.old) (alone place.old) (alone place.new)) }
+    ensures spent { IsNone result → life.new.left ≡ 0 }
+    ensures gives { IfSome result (gives_now M.gives m.old (alone place.old).memo (alone place.new).memo) }
+    ensures acts { acts (alone place.new).memo ≡ acts_still (is_some result) (alone place.new).memo }
+    ensures who { (alone place.new).who ≡ (alone place.old).who }
+    ensures kind { recovers (alone place.new).memo ≡ recovers (alone place.old).memo }
+{
+    'steps: loop {
+        match step_place(top, place, m, life) {
+            Turn::More => {}
+            Turn::Done(answer) => return Some(answer),
+            Turn::Died => return None,
+        }
+    }
+}
+
+/// Notes that the agent is dead, in a load that no life pays for.
+pub(crate) fn note_death(top: &Top, place: &mut Place)
+    requires table { (place.old.table_id ≡ top.now.table_id) × (top.now.table_id.words ≡ total_of top.now.key.geometry) × IsAlone place.old }
+    requires acts { ((alone place.old).who < top.now.key.geometry.clients) × (acts (alone place.old).memo ≡ true) }
+    ensures place { (place.new.table_id ≡ place.old.table_id) × (place.new.id ≡ place.old.id) × IsAlone place.new }
+    ensures stood { Stood top.now.key (alone place.old) → Stood top.now.key (alone place.new) }
+    ensures account { alone place.new ≡ account_died (alone place.old) }
+{
+    top.load::<Dies>(place, 0);
+}
+
+/// Notes that a client begins.
+pub(crate) fn note_client(top: &Top, place: &mut Place)
+    requires table { (place.old.table_id ≡ top.now.table_id) × (top.now.table_id.words ≡ total_of top.now.key.geometry) × IsAlone place.old }
+    requires rests { ((alone place.old).who < top.now.key.geometry.clients) × (acts (alone place.old).memo ≡ false) × MayBegin AClient (alone place.old).memo }
+    ensures place { (place.new.table_id ≡ place.old.table_id) × (place.new.id ≡ place.old.id) × IsAlone place.new }
+    ensures stood { Stood top.now.key (alone place.old) → Stood top.now.key (alone place.new) }
+    ensures account { alone place.new ≡ account_entered AClient (alone place.old) }
+{
+    top.load::<ClientBegins>(place, 0);
+}
+
+/// Notes that a recoverer begins.
+pub(crate) fn note_recoverer(top: &Top, place: &mut Place)
+    requires table { (place.old.table_id ≡ top.now.table_id) × (top.now.table_id.words ≡ total_of top.now.key.geometry) × IsAlone place.old }
+    requires rests { ((alone place.old).who < top.now.key.geometry.clients) × (acts (alone place.old).memo ≡ false) × MayBegin ARecoverer (alone place.old).memo }
+    ensures place { (place.new.table_id ≡ place.old.table_id) × (place.new.id ≡ place.old.id) × IsAlone place.new }
+    ensures stood { Stood top.now.key (alone place.old) → Stood top.now.key (alone place.new) }
+    ensures account { alone place.new ≡ account_entered ARecoverer (alone place.old) }
+{
+    top.load::<RecovererBegins>(place, 0);
+}

@@ -1,0 +1,407 @@
+//! Tokens of one identity each.
+
+ghost use Rattle.std.specs.Prelude.{◌≡◌, [], ◌∷◌, ℕ, ◌+◌, ◌<◌, ◌↔◌, ◌⊎◌, true, false, IfOk, IfErr, is_err};
+ghost use Rattle.shm_words.specs.Layout.{total_of};
+ghost use Rattle.shm_graph.specs.declared.memo.Kind.TheVariants.{Client as AClient};
+ghost use Rattle.shm_graph.specs.declared.memo.Memo.{Memo};
+ghost use Rattle.shm_graph.specs.declared.memo.Status.TheVariants as status;
+ghost use Rattle.shm_graph.specs.Agents.{acts, recovers};
+ghost use Rattle.shm_graph.specs.Laws.{is_died};
+ghost use Rattle.shm_graph.specs.Runs.{account_entered};
+ghost use Rattle.shm_graph.specs.Whole.{fits_now, gives_now};
+ghost use Rattle.shm_recover.specs.Joining.{JoinGives, join_fresh, join_line};
+ghost use Rattle.shm_pool.specs.Rules.{IsAlone, Stood, alone};
+ghost use Rattle.shm_pool.specs.Calls.{Stepped, Calls, Stays, Tells, shown};
+ghost use Rattle.shm_pool.specs.Tokens.{me_of, begun_account, recovering, IsFor, IsFallen, IsOut};
+ghost use Rattle.shm_pool.specs.Replies.{IsLost, IfReply, is_reply};
+
+use crate::pool::SharedPool;
+use crate::reply::Reply;
+use crate::rule::{Place, Top};
+use crate::steps::{note_client, note_death, note_recoverer, run_place, step_place};
+use shm_graph::{Life, Machine, Me, Start, Turn};
+use shm_recover::Join;
+use std::marker::Model;
+
+/// An identity with no agent.
+#[derive(Drop)]
+pub struct Vacant {
+    pub(crate) place: Place,
+    pub(crate) start: Start,
+    pub(crate) who: u8,
+}
+
+impl Model for Vacant {
+    ghost use Rattle.shm_pool.specs.Rules.{alone};
+    ghost use Rattle.shm_pool.specs.Tokens.{Token, token_of, IsSeated, IsStill};
+
+    ghost Value = { Token };
+
+    ghost view = { λ t. token_of t.start t.place };
+
+    ghost invariant = { λ t. IsSeated t.start t.who t.place × IsStill (alone t.place).memo };
+}
+
+/// An identity with a client.
+#[derive(Drop)]
+pub struct Client {
+    place: Place,
+    start: Start,
+    who: u8,
+    dead: bool,
+}
+
+impl Model for Client {
+    ghost use Rattle.std.specs.Prelude.{◌≡◌, true, false};
+    ghost use Rattle.shm_graph.specs.Agents.{acts, recovers};
+    ghost use Rattle.shm_pool.specs.Rules.{alone};
+    ghost use Rattle.shm_pool.specs.Tokens.{Acting, acting_of, IsSeated};
+
+    ghost Value = { Acting };
+
+    ghost view = { λ t. acting_of t.start t.dead t.place };
+
+    ghost invariant = { λ t. IsSeated t.start t.who t.place × (acts (alone t.place).memo ≡ true) × (recovers (alone t.place).memo ≡ false) };
+}
+
+/// An identity whose agent has fallen, or never took a step.
+#[derive(Drop)]
+pub struct Corpse {
+    place: Place,
+    start: Start,
+    who: u8,
+    begun: bool,
+}
+
+impl Model for Corpse {
+    ghost use Rattle.shm_pool.specs.Rules.{alone};
+    ghost use Rattle.shm_pool.specs.Tokens.{Token, token_of, IsSeated, IsFallen};
+
+    ghost Value = { Token };
+
+    ghost view = { λ t. token_of t.start t.place };
+
+    ghost invariant = { λ t. IsSeated t.start t.who t.place × IsFallen t.begun (alone t.place).memo };
+}
+
+/// Why a call that takes a token gave a corpse.
+#[derive(Drop)]
+pub enum Cause {
+    Died,
+}
+
+/// A call that takes a token and was cut off.
+#[derive(Drop)]
+pub struct Stopped {
+    pub corpse: Corpse,
+    pub cause: Cause,
+}
+
+impl Vacant {
+    /// Which identity it is.
+    pub fn client(&self) -> u8
+        ensures is { result ≡ self.now.account.who }
+        ensures below { result < self.now.of.start.geometry.clients }
+        ensures out { IsOut self.now.account.memo }
+        ensures stood { Stood self.now.of.start self.now.account }
+    {
+        self.who
+    }
+
+    /// Makes the identity live, in one word step, and begins its client with it. With no life left no agent begins.
+    ///
+    /// # Errors
+    ///
+    /// `Died` where no life is left.
+    pub fn join(self, pool: &SharedPool, life: &mut Life) -> Result<Client, Stopped>
+        requires pool { self.of ≡ pool.now }
+        ensures same { IfOk result (λ c. (c.of ≡ self.of) × (c.account.who ≡ self.account.who) × (c.dead ≡ false)) }
+        ensures gives { IfOk result (λ c. JoinGives (join_fresh (me_of self.of self.account)) (account_entered AClient self.account).memo c.account.memo c.account.memo.call tt) }
+        ensures stood { IfOk result (λ c. Stood c.of.start c.account) }
+        ensures told { IfOk result (λ c. Tells join_line (account_entered AClient self.account) c.account) }
+        ensures err { IfErr result (λ s. (s.corpse.of ≡ self.of) × (s.corpse.account.who ≡ self.account.who) × (life.new.left ≡ 0)) }
+        ensures unbegun { life.old.left ≡ 0 → IfErr result (λ s. s.corpse.account ≡ self.account) }
+    {
+        let Vacant {
+            mut place,
+            start,
+            who,
+        } = self;
+        if life.left == 0 {
+            return Err(Stopped {
+                corpse: Corpse {
+                    place,
+                    start,
+                    who,
+                    begun: false,
+                },
+                cause: Cause::Died,
+            });
+        }
+        note_client(pool.top(), &mut place);
+        let mut machine = Join::new(Me::new(start.geometry, who));
+        match run_place(pool.top(), &mut place, &mut machine, life) {
+            Some(()) => Ok(Client {
+                place,
+                start,
+                who,
+                dead: false,
+            }),
+            None => Err(Stopped {
+                corpse: Corpse {
+                    place,
+                    start,
+                    who,
+                    begun: true,
+                },
+                cause: Cause::Died,
+            }),
+        }
+    }
+}
+
+impl Client {
+    /// Which identity it is; and its account is one of a state that holds.
+    pub fn client(&self) -> u8
+        ensures is { result ≡ self.now.account.who }
+        ensures below { result < self.now.of.start.geometry.clients }
+        ensures stood { Stood self.now.of.start self.now.account }
+        ensures acts { acts self.now.account.memo ≡ true }
+        ensures kind { recovers self.now.account.memo ≡ false }
+    {
+        self.who
+    }
+
+    /// One word step of a machine, unless no life is left or a call of this client has died.
+    pub fn step<M: Machine>(
+        &mut self,
+        pool: &SharedPool,
+        m: &mut M,
+        life: &mut Life,
+    ) -> Turn<M::Answer>
+        requires pool { self.old.of ≡ pool.now }
+        requires machine { self.old.dead ≡ false → IsFor self.old.of self.old.account M.control m.old }
+        requires fits { self.old.dead ≡ false → (r0 : Memo) × fits_now M.control M.fits m.old r0 self.old.account.memo × Stays self.old.of.start self.old.account.who (gives_now M.gives m.old r0) }
+        ensures same { (self.new.of ≡ self.old.of) × (self.new.account.who ≡ self.old.account.who) }
+        ensures stood { Stood self.new.of.start self.new.account }
+        ensures died { is_died result ≡ true ↔ ((life.old.left ≡ 0) ⊎ (self.old.dead ≡ true)) }
+        ensures stays { is_died result ≡ true → (self.new.account ≡ self.old.account) × (m.new ≡ m.old) × (life.new ≡ life.old) × (self.new.dead ≡ true) }
+        ensures turn { (0 < life.old.left) → (self.old.dead ≡ false) → (life.new.left + 1 ≡ life.old.left) × (self.new.dead ≡ false) × Stepped M.control (fits_now M.control M.fits) (gives_now M.gives) m.old self.old.account self.new.account result m.new }
+    {
+        if self.dead {
+            return Turn::Died;
+        }
+        match step_place(pool.top(), &mut self.place, m, life) {
+            Turn::More => Turn::More,
+            Turn::Done(answer) => Turn::Done(answer),
+            Turn::Died => {
+                self.dead = true;
+                Turn::Died
+            }
+        }
+    }
+
+    /// The steps of a machine until it is finished or no life is left.
+    pub fn run<M: Machine>(
+        &mut self,
+        pool: &SharedPool,
+        m: &mut M,
+        life: &mut Life,
+    ) -> Reply<M::Answer>
+        requires pool { self.old.of ≡ pool.now }
+        requires machine { self.old.dead ≡ false → IsFor self.old.of self.old.account M.control m.old }
+        requires fits { self.old.dead ≡ false → fits_now M.control M.fits m.old self.old.account.memo self.old.account.memo }
+        requires stays { self.old.dead ≡ false → Stays self.old.of.start self.old.account.who (gives_now M.gives m.old self.old.account.memo) }
+        ensures same { (self.new.of ≡ self.old.of) × (self.new.account.who ≡ self.old.account.who) }
+        ensures stood { Stood self.new.of.start self.new.account }
+        ensures died { IsLost result ↔ (self.new.dead ≡ true) }
+        ensures again { self.old.dead ≡ true → IsLost result × (self.new ≡ self.old) × (m.new ≡ m.old) × (life.new ≡ life.old) }
+        ensures spent { self.old.dead ≡ false → IsLost result → life.new.left ≡ 0 }
+        ensures call { self.old.dead ≡ false → Calls (shown M.control m.old) self.old.account self.new.account (is_reply result) life.old.left life.new.left }
+        ensures told { M.control.fresh m.old ≡ true → IfReply result (λ _. Tells (M.control.line m.old) self.old.account self.new.account) }
+        ensures gives { IfReply result (gives_now M.gives m.old self.old.account.memo self.new.account.memo) }
+    {
+        if self.dead {
+            return Reply::Died;
+        }
+        match run_place(pool.top(), &mut self.place, m, life) {
+            Some(answer) => Reply::Done(answer),
+            None => {
+                self.dead = true;
+                Reply::Died
+            }
+        }
+    }
+
+    /// The agent is dead: its death is noted before the next one begins.
+    pub fn fall(self) -> Corpse
+        ensures { (result.of ≡ self.of) × (result.account ≡ self.account) }
+    {
+        let Client {
+            place,
+            start,
+            who,
+            dead: _,
+        } = self;
+        Corpse {
+            place,
+            start,
+            who,
+            begun: true,
+        }
+    }
+
+    /// Runs a machine of which each answer leaves the identity gone, and ends the client with it. A client of which a call has died
+    /// takes no step.
+    ///
+    /// # Errors
+    ///
+    /// `Died` where no life is left, or a call of this client has died.
+    pub fn leave_by<M: Machine>(
+        self,
+        pool: &SharedPool,
+        m: &mut M,
+        life: &mut Life,
+    ) -> Result<Vacant, Stopped>
+    where
+        M::Answer: Drop,
+        requires pool { self.of ≡ pool.now }
+        requires machine { self.dead ≡ false → IsFor self.of self.account M.control m.old }
+        requires fits { self.dead ≡ false → fits_now M.control M.fits m.old self.account.memo self.account.memo }
+        requires leaves { self.dead ≡ false → (r : Memo) (a : _) → gives_now M.gives m.old self.account.memo r a → r.status ≡ status.Gone }
+        ensures same { IfOk result (λ v. (v.of ≡ self.of) × (v.account.who ≡ self.account.who) × (v.account.memo.status ≡ status.Gone)) }
+        ensures told { M.control.fresh m.old ≡ true → IfOk result (λ v. Tells (M.control.line m.old) self.account v.account) }
+        ensures err { IfErr result (λ s. (s.corpse.of ≡ self.of) × (s.corpse.account.who ≡ self.account.who)) }
+        ensures again { self.dead ≡ true → (is_err result ≡ true) × IfErr result (λ s. (s.corpse.account ≡ self.account) × (m.new ≡ m.old) × (life.new ≡ life.old)) }
+        ensures left { IfOk result (λ v. Calls (shown M.control m.old) self.account v.account true life.old.left life.new.left) }
+        ensures cut { self.dead ≡ false → IfErr result (λ s. Calls (shown M.control m.old) self.account s.corpse.account false life.old.left life.new.left × (life.new.left ≡ 0)) }
+    {
+        let Client {
+            mut place,
+            start,
+            who,
+            dead,
+        } = self;
+        if dead {
+            return Err(Stopped {
+                corpse: Corpse {
+                    place,
+                    start,
+                    who,
+                    begun: true,
+                },
+                cause: Cause::Died,
+            });
+        }
+        let Some(_answer) = run_place(pool.top(), &mut place, m, life) else {
+            return Err(Stopped {
+                corpse: Corpse {
+                    place,
+                    start,
+                    who,
+                    begun: true,
+                },
+                cause: Cause::Died,
+            });
+        };
+        Ok(Vacant { place, start, who })
+    }
+}
+
+// An agent that has fallen is dead before the next one begins; where a join began none, a client begins and dies without a step.
+fn note_change(top: &Top, place: &mut Place, begun: bool)
+    requires table { (place.old.table_id ≡ top.now.table_id) × (top.now.table_id.words ≡ total_of top.now.key.geometry) × IsAlone place.old }
+    requires who { (alone place.old).who < top.now.key.geometry.clients }
+    requires fallen { IsFallen begun (alone place.old).memo }
+    ensures place { (place.new.table_id ≡ place.old.table_id) × (place.new.id ≡ place.old.id) × IsAlone place.new }
+    ensures stood { Stood top.now.key (alone place.old) → Stood top.now.key (alone place.new) }
+    ensures account { alone place.new ≡ recovering (alone place.old) }
+    ensures who { (alone place.new).who ≡ (alone place.old).who }
+    ensures acts { acts (alone place.new).memo ≡ true }
+{
+    note_begun(top, place, begun);
+    note_death(top, place);
+    note_recoverer(top, place);
+}
+
+fn note_begun(top: &Top, place: &mut Place, begun: bool)
+    requires table { (place.old.table_id ≡ top.now.table_id) × (top.now.table_id.words ≡ total_of top.now.key.geometry) × IsAlone place.old }
+    requires who { (alone place.old).who < top.now.key.geometry.clients }
+    requires fallen { IsFallen begun (alone place.old).memo }
+    ensures place { (place.new.table_id ≡ place.old.table_id) × (place.new.id ≡ place.old.id) × IsAlone place.new }
+    ensures stood { Stood top.now.key (alone place.old) → Stood top.now.key (alone place.new) }
+    ensures account { alone place.new ≡ begun_account (alone place.old) }
+    ensures acts { acts (alone place.new).memo ≡ true }
+{
+    if begun {
+        return;
+    }
+    note_client(top, place);
+}
+
+impl Corpse {
+    /// Which identity it is; and its account is one of a state that holds.
+    pub fn client(&self) -> u8
+        ensures is { result ≡ self.now.account.who }
+        ensures below { result < self.now.of.start.geometry.clients }
+        ensures stood { Stood self.now.of.start self.now.account }
+    {
+        self.who
+    }
+
+    /// Begins a recoverer and runs a machine of which each answer leaves the identity gone. With no life left no agent begins.
+    ///
+    /// # Errors
+    ///
+    /// `Died` where no life is left.
+    pub fn recover_by<M: Machine>(
+        self,
+        pool: &SharedPool,
+        m: &mut M,
+        life: &mut Life,
+    ) -> Result<Vacant, Stopped>
+    where
+        M::Answer: Drop,
+        requires pool { self.of ≡ pool.now }
+        requires machine { (M.control.me m.old ≡ me_of self.of self.account) × (M.control.finished m.old ≡ false) }
+        requires fits { fits_now M.control M.fits m.old (recovering self.account).memo (recovering self.account).memo }
+        requires leaves { (r : Memo) (a : _) → gives_now M.gives m.old (recovering self.account).memo r a → r.status ≡ status.Gone }
+        ensures same { IfOk result (λ v. (v.of ≡ self.of) × (v.account.who ≡ self.account.who) × (v.account.memo.status ≡ status.Gone)) }
+        ensures told { M.control.fresh m.old ≡ true → IfOk result (λ v. Tells (M.control.line m.old) (recovering self.account) v.account) }
+        ensures err { IfErr result (λ s. (s.corpse.of ≡ self.of) × (s.corpse.account.who ≡ self.account.who)) }
+        ensures left { IfOk result (λ v. Calls (shown M.control m.old) (recovering self.account) v.account true life.old.left life.new.left) }
+        ensures cut { 0 < life.old.left → IfErr result (λ s. Calls (shown M.control m.old) (recovering self.account) s.corpse.account false life.old.left life.new.left × (life.new.left ≡ 0)) }
+        ensures unbegun { life.old.left ≡ 0 → IfErr result (λ s. s.corpse.account ≡ self.account) }
+    {
+        let Corpse {
+            mut place,
+            start,
+            who,
+            begun,
+        } = self;
+        if life.left == 0 {
+            return Err(Stopped {
+                corpse: Corpse {
+                    place,
+                    start,
+                    who,
+                    begun,
+                },
+                cause: Cause::Died,
+            });
+        }
+        note_change(pool.top(), &mut place, begun);
+        let Some(_answer) = run_place(pool.top(), &mut place, m, life) else {
+            return Err(Stopped {
+                corpse: Corpse {
+                    place,
+                    start,
+                    who,
+                    begun: true,
+                },
+                cause: Cause::Died,
+            });
+        };
+        Ok(Vacant { place, start, who })
+    }
+}
