@@ -2,8 +2,11 @@
 #![tactic(auto)]
 
 pub mod join;
+pub mod leave;
+pub mod parts;
 
 pub use join::{Join, JoinPoint, JoinState, join_bound};
+pub use leave::{Leave, Leaving};
 
 #[cfg(test)]
 mod tests;

@@ -1,6 +1,7 @@
-//! What a join asks, in the smallest and in the largest pool.
+//! What a join and a leaving ask.
 
-use crate::Join;
+use crate::{Join, Leave, Leaving};
+use shm_calls::Calls;
 use shm_graph::{Ask, Machine, Me, Turn};
 use shm_words::Geometry;
 use std::test::Fail;
@@ -24,5 +25,33 @@ fn stores_the_status(rt: HostRuntime) -> Result<(), Fail> {
         assert!(rt; join.finished(), "{who}");
         assert_eq!(rt; join.me(), Me { geometry, who }, "{who}");
     }
+    Ok(())
+}
+
+#[test]
+fn leaves_with_a_segment(rt: HostRuntime) -> Result<(), Fail> {
+    let geometry = Geometry::new(1, 1)?;
+    let mut leave: Leave = Calls::new(Leaving::new(Me::new(geometry, 0)));
+    for k in 0..16 {
+        assert!(rt; !leave.finished(), "{k}");
+        assert!(rt; matches!(leave.take(0), Turn::More), "{k}");
+    }
+    let at = geometry.segment(0);
+    let steps = [(Ask::Load { at }, 1), (Ask::Store { at, value: 0 }, 0)];
+    for (ask, seen) in steps {
+        assert!(rt; !leave.finished(), "{seen}");
+        assert_eq!(rt; leave.ask(), ask, "{seen}");
+        assert!(rt; matches!(leave.take(seen), Turn::More), "{seen}");
+    }
+    assert!(rt; !leave.finished());
+    assert_eq!(rt;
+        leave.ask(),
+        Ask::Store {
+            at: geometry.status(0),
+            value: 3
+        }
+    );
+    assert!(rt; matches!(leave.take(0), Turn::Done(Ok(()))));
+    assert!(rt; leave.finished());
     Ok(())
 }

@@ -7,15 +7,15 @@ ghost use Rattle.shm_plain.specs.Pools.{IsRun, MayStep, memo_of};
 ghost use Rattle.shm_calls.specs.CallsControl.{calls_of};
 ghost use Rattle.shm_calls.specs.CallsFit.{CallsGives};
 ghost use Rattle.shm_count.specs.Roots.{member};
-ghost use Rattle.shm_leave.specs.LeaveControl.{leave_parts, leaving};
-ghost use Rattle.shm_leave.specs.LeaveFits.{MayLeave, leave_plan};
+ghost use Rattle.shm_recover.specs.LeaveControl.{leave_parts, leaving};
+ghost use Rattle.shm_recover.specs.LeaveFits.{MayLeave, leave_plan};
 
 use crate::driving::run;
 use shm_calls::Calls;
 use shm_count::EraSpent;
 use shm_graph::{Life, Me};
-use shm_leave::Leaving;
 use shm_plain::PlainPool;
+use shm_recover::Leaving;
 
 /// Lets `who` leave, of which nothing but roots and segments is left to finish; none where no word step was left.
 pub fn leave(pool: &mut PlainPool, who: u8, life: &mut Life) -> Option<Result<(), EraSpent>>

@@ -11,10 +11,10 @@ use Rattle.shm_calls.specs.CallsFit.{CallsFits, CallsGives}
 use Rattle.shm_calls.specs.CallsKeep.{calls_begin}
 use Rattle.shm_count.specs.declared.answer.EraSpent.{EraSpent}
 use Rattle.shm_count.specs.Roots.{member}
-use Rattle.shm_leave.specs.declared.leave.LeaveState.{LeaveState}
-use Rattle.shm_leave.specs.LeaveControl.{LeaveAnswer, LeaveCall, leave_parts, leaving}
-use Rattle.shm_leave.specs.LeaveFits.{leave_plan}
-use Rattle.shm_leave.specs.LeaveLaws.{leave_laws}
+use Rattle.shm_recover.specs.declared.leave.LeaveState.{LeaveState}
+use Rattle.shm_recover.specs.LeaveControl.{LeaveAnswer, LeaveCall, leave_parts, leaving}
+use Rattle.shm_recover.specs.LeaveFits.{leave_plan}
+use Rattle.shm_recover.specs.LeaveLaws.{leave_laws}
 use Rattle.shm_tests.proofs.Answering.{some_map}
 use Rattle.shm_tests.proofs.RunSteps.{fits_acting}
 use Rattle.shm_tests.proofs.leaving.leave.Goals.{After-new-machine, After-run}

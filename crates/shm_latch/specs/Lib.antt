@@ -1,3 +1,0 @@
-pub mod HoldControl
-pub mod HoldFits
-pub mod HoldLaws

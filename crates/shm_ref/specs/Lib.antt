@@ -1,0 +1,12 @@
+pub mod Lefts
+pub mod Leaving
+pub mod RootParts
+pub mod DropControl
+pub mod DropFits
+pub mod DropLaws
+pub mod RootsControl
+pub mod RootsFits
+pub mod RootsLaws
+pub mod HoldControl
+pub mod HoldFits
+pub mod HoldLaws

@@ -1,0 +1,89 @@
+//! All roots of an identity are made empty, and what only they named is freed.
+
+ghost use Rattle.std.specs.Prelude.{◌≡◌, ◌<◌};
+ghost use Rattle.shm_words.specs.Layout.{GeometryFits};
+ghost use Rattle.shm_ref.specs.RootsFits.{roots_plan};
+ghost use Rattle.shm_ref.specs.RootsLaws.{roots_laws};
+
+use crate::drop_root::{DropRoot, Dropping};
+use shm_calls::{Calls, Plan};
+use shm_count::EraSpent;
+use shm_graph::{Machine, Me};
+use std::marker::Model;
+
+/// The control of it: which root comes next.
+#[derive(Clone, Copy, Debug, PartialEq, Eq, Drop)]
+pub struct RootsState {
+    pub me: Me,
+    pub root: u8,
+}
+
+/// The calls by which the 16 roots of an identity come to be empty, one after the other.
+#[derive(Drop)]
+pub struct DroppingRoots {
+    state: RootsState,
+}
+
+impl Model for DroppingRoots {
+    ghost use Rattle.shm_ref.specs.declared.drop_roots.RootsState.{RootsState as AState};
+
+    ghost Value = { AState };
+
+    ghost view = { λ a. a.state };
+
+    ghost use Rattle.shm_ref.specs.RootsControl.{RootsInRange};
+
+    ghost invariant = { λ a. RootsInRange a.state };
+}
+
+/// It answers `EraSpent` where the own era is above 2^47 - 3 at a reference that is to go; the roots after it are then as they were.
+pub type DropRoots = Calls<DroppingRoots>;
+
+impl DroppingRoots {
+    /// The roots of the identity `me`, before the first call.
+    #[inline(always)]
+    pub fn new(me: Me) -> DroppingRoots
+        requires geometry { GeometryFits me.geometry }
+        requires who { me.who < me.geometry.clients }
+        ensures { result ≡ record { me = me; root = 0 } }
+    {
+        DroppingRoots {
+            state: RootsState { me, root: 0 },
+        }
+    }
+}
+
+impl Plan for DroppingRoots {
+    type Call = DropRoot;
+
+    type Answer = Result<(), EraSpent>;
+
+    ghost plan = { roots_plan };
+
+    #[inline(always)]
+    fn me(&self) -> Me {
+        self.state.me
+    }
+
+    #[inline(always)]
+    fn call(&self) -> DropRoot {
+        Calls::new(Dropping::new(self.state.me, self.state.root))
+    }
+
+    #[inline(always)]
+    fn next(&mut self, answer: Result<bool, EraSpent>) -> Option<Result<(), EraSpent>> {
+        match answer {
+            Err(spent) => Some(Err(spent)),
+            Ok(_) => {
+                if self.state.root == 15 {
+                    Some(Ok(()))
+                } else {
+                    self.state.root += 1;
+                    None
+                }
+            }
+        }
+    }
+
+    ghost laws = { roots_laws };
+}

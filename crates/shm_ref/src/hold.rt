@@ -1,0 +1,113 @@
+//! Taking a latch.
+
+ghost use Rattle.std.specs.Prelude.{◌≡◌, ◌<◌};
+ghost use Rattle.shm_words.specs.Layout.{GeometryFits};
+ghost use Rattle.shm_ref.specs.declared.hold.HoldPoint.TheVariants.{Want};
+ghost use Rattle.shm_ref.specs.HoldFits.{hold_plan};
+ghost use Rattle.shm_ref.specs.HoldLaws.{hold_laws};
+
+use shm_calls::{Calls, Plan, Word};
+use shm_graph::{Machine, Me};
+use std::marker::Model;
+
+/// Which word step of it comes next.
+#[derive(Clone, Copy, Debug, PartialEq, Eq, Drop)]
+pub enum HoldPoint {
+    /// The hold word is stored.
+    Want,
+    /// The latch is exchanged.
+    Take,
+    /// The latch is another's, and the hold word is stored as 0.
+    Back,
+}
+
+/// The control of it; `author` is whose latch it is.
+#[derive(Clone, Copy, Debug, PartialEq, Eq, Drop)]
+pub struct HoldState {
+    pub me: Me,
+    pub author: u8,
+    pub point: HoldPoint,
+}
+
+/// The word steps by which an identity takes a latch.
+#[derive(Drop)]
+pub struct Holding {
+    state: HoldState,
+}
+
+impl Model for Holding {
+    ghost use Rattle.shm_ref.specs.declared.hold.HoldState.{HoldState as AState};
+
+    ghost Value = { AState };
+
+    ghost view = { λ a. a.state };
+
+    ghost use Rattle.shm_ref.specs.HoldControl.{HoldInRange};
+
+    ghost invariant = { λ a. HoldInRange a.state };
+}
+
+/// It answers whether the latch was taken; where it was another's nothing has changed.
+pub type Hold = Calls<Holding>;
+
+impl Holding {
+    /// The latch of `author` is to be taken by the identity `me`.
+    pub fn new(me: Me, author: u8) -> Holding
+        requires geometry { GeometryFits me.geometry }
+        requires who { me.who < me.geometry.clients }
+        requires author { author < me.geometry.clients }
+        ensures { result ≡ record { me = me; author = author; point = Want } }
+    {
+        Holding {
+            state: HoldState {
+                me,
+                author,
+                point: HoldPoint::Want,
+            },
+        }
+    }
+}
+
+impl Plan for Holding {
+    type Call = Word;
+
+    type Answer = bool;
+
+    ghost plan = { hold_plan };
+
+    fn me(&self) -> Me {
+        self.state.me
+    }
+
+    fn call(&self) -> Word {
+        let HoldState { me, author, point } = self.state;
+        let hold = me.geometry.hold(me.who);
+        match point {
+            HoldPoint::Want => Word::store(me, hold, u64::from(author) + 1),
+            HoldPoint::Take => {
+                Word::exchange(me, me.geometry.latch(author), 0, u64::from(me.who) + 1)
+            }
+            HoldPoint::Back => Word::store(me, hold, 0),
+        }
+    }
+
+    fn next(&mut self, word: u64) -> Option<bool> {
+        match self.state.point {
+            HoldPoint::Want => {
+                self.state.point = HoldPoint::Take;
+                None
+            }
+            HoldPoint::Take => {
+                if word == 0 {
+                    Some(true)
+                } else {
+                    self.state.point = HoldPoint::Back;
+                    None
+                }
+            }
+            HoldPoint::Back => Some(false),
+        }
+    }
+
+    ghost laws = { hold_laws };
+}

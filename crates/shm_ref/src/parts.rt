@@ -1,0 +1,5 @@
+//! The plans' states, and machines that are no operation by themselves, for machines that are composed of them.
+
+pub use crate::drop_root::{DropPoint, DropState};
+pub use crate::drop_roots::{DropRoots, DroppingRoots, RootsState};
+pub use crate::hold::{HoldPoint, HoldState};
