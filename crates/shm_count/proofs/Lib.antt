@@ -2,3 +2,4 @@ pub mod StepBound
 pub mod RootMemos
 pub mod RootSpots
 pub mod RootLeaves
+pub mod SlotUps

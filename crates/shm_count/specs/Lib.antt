@@ -14,6 +14,7 @@ pub mod StepReading
 pub mod StepCores
 pub mod StepCommitting
 pub mod StepParts
+pub mod SlotLeaves
 pub mod StepExchanging
 pub mod StepTells
 pub mod StepKeeps

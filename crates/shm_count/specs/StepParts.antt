@@ -267,7 +267,7 @@ closed_rest me e m = (
 )
 
 -- an own word that lasts stays in the first half
-first_own : (me : Me) (slot : ℕ) (x : Aim) (p : Spot) (m q : Memo) (e : ℕ) → AtFirst me slot x p m q e → (s : Spot) → is_lasting me.who s ≡ true → own_word q.own s ≡ own_word m.own s
+pub first_own : (me : Me) (slot : ℕ) (x : Aim) (p : Spot) (m q : Memo) (e : ℕ) → AtFirst me slot x p m q e → (s : Spot) → is_lasting me.who s ≡ true → own_word q.own s ≡ own_word m.own s
 first_own me slot x p m q e first s l =
     let not_it = lasting_not me.who s l in
     first.1.own s not_it.1 ∙ ap (λ z. cond z (redo_word (redo_at x slot e)) (own_word m.own s)) not_it.2

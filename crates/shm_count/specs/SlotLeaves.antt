@@ -1,0 +1,69 @@
+-- what a count step leaves of the memo, at each kind of slot
+use Rattle.std.specs.Prelude.{◌≡◌, ◌≢◌, ℕ, ◌+◌, ◌≤◌, Bool, true, if◌then◌else◌, List, [], ◌∷◌, ◌++◌}
+use Rattle.std.specs.List.{Contains, filter}
+use Rattle.shm_graph.specs.declared.spot.Spot.{Spot}
+use Rattle.shm_graph.specs.declared.spot.Spot.TheVariants.{Home, Era, Root, Slot, Body}
+use Rattle.shm_graph.specs.declared.memo.Memo.{Memo}
+use Rattle.shm_graph.specs.declared.memo.Op.TheVariants.{Nothing}
+use Rattle.shm_graph.specs.declared.memo.Stored.{Stored}
+use Rattle.shm_graph.specs.Exchanges.{with_unsent, with_untaken}
+use Rattle.shm_graph.specs.Reach.{learnt}
+use Rattle.shm_graph.specs.Stores.{is_of, put, with_own}
+use Rattle.shm_graph.specs.Views.{own_word}
+use Rattle.shm_steps.specs.Reparting.{sight}
+use Rattle.shm_count.specs.Roots.{rest}
+use Rattle.shm_count.specs.StepFits.{core}
+use Rattle.shm_count.specs.StepParts.{part_after}
+use Rattle.shm_graph.specs.Reach.{is_named}
+use Rattle.shm_count.specs.TearMemos.{is_lasting, is_slot_word, Knows}
+
+-- a slot that a step of c may put a block into: an own root, the own home, a slot of a queue from c, a word of a block
+abbrev pub IsFilled : ℕ → Spot → Type 0
+IsFilled c (Root d k) = d ≡ c
+IsFilled c (Home d) = d ≡ c
+IsFilled c (Slot s r k) = s ≡ c
+IsFilled c (Body b i) = Unit {0}
+IsFilled c p = ⊥
+
+-- the memo with the word x at a slot that is an own word
+abbrev pub slotted : Spot → ℕ → Memo → Memo
+slotted (Root d k) x m = with_own m (Root d k) x
+slotted (Home d) x m = with_own m (Home d) x
+slotted p x m = m
+
+-- what is known, with the word x at a slot that is a word of a block
+abbrev pub known_at : Spot → ℕ → List Stored → List Stored
+known_at (Body b i) x ks = learnt (Body b i) x ks
+known_at p x ks = ks
+
+-- the blocks that wait for a tail to be stored, with b in the slot at the tail
+abbrev pub unsent_at : Spot → ℕ → List ℕ → List ℕ
+unsent_at (Slot s r k) b us = put 0 us r b
+unsent_at p b us = us
+
+-- A step of c put b into the empty slot p: own words that last are what they were, but for the slot; a word of a block is known; a block in a queue waits for its tail; the partition is the one that the slot leads to; the own era is the next one, and nothing else of the memo changed but the redo record and rows, which grew
+pub record Filled (c : ℕ) (p : Spot) (b : ℕ) (m r : Memo) : Type 0 where
+  pub rest : core r ≡ core (record m { own = r.own; known = known_at p b m.known; unsent = unsent_at p b m.unsent; part = part_after c (sight c m) p b })
+  pub own : (s : Spot) → is_lasting c s ≡ true → own_word r.own s ≡ own_word (slotted p b m).own s
+  pub era : own_word r.own (Era c c) ≡ own_word m.own (Era c c) + 1
+  pub rows : (j : ℕ) → own_word m.own (Era c j) ≤ own_word r.own (Era c j)
+
+-- the memo before a step that empties a slot, but for what such a step leaves of the slot itself: the item of a head slot is taken, and what was known of that slot is forgotten; no block waits at a tail
+abbrev pub emptied : ℕ → Spot → ℕ → Memo → Memo
+emptied c p b m = with_untaken c p b (with_unsent c p 0 m)
+
+-- What is left of what m knew, once t lost a reference: the looks are over; what is known of head slots stays, and of blocks that are named still, but for t where its count came to 0
+pub record Sifts (c t : ℕ) (z : Bool) (m r : Memo) : Type 0 where
+  pub looks : r.looks ≡ []
+  pub slots : filter is_slot_word r.known ≡ filter is_slot_word m.known
+  pub words : (b : ℕ) (p : Spot) (x : ℕ) → is_named c r b ≡ true → (z ≡ true → b ≢ t) → is_of b p ≡ true → Knows m p x → Knows r p x
+  pub values : (b : ℕ) → is_named c r b ≡ true → Contains m.values b → Contains r.values b
+
+-- A step of c took t out of the slot p, or put x into its place: own words that last are what they were, but for the slot, and t joins the zero-count blocks where its count came to 0; z says whether it did
+pub record Lost (c : ℕ) (p : Spot) (t x : ℕ) (z : Bool) (m r : Memo) : Type 0 where
+  pub rest : rest r ≡ rest (record (emptied c p t m) { part = part_after c (sight c m) p x })
+  pub op : r.op ≡ Nothing
+  pub own : (s : Spot) → is_lasting c s ≡ true → own_word r.own s ≡ own_word (slotted p x m).own s
+  pub rows : (j : ℕ) → own_word m.own (Era c j) ≤ own_word r.own (Era c j)
+  pub dying : r.dying ≡ m.dying ++ (if z then t ∷ [] else [])
+  pub sifts : Sifts c t z (record (emptied c p t m) { known = known_at p x (emptied c p t m).known }) r
