@@ -3,3 +3,4 @@ pub mod RootMemos
 pub mod RootSpots
 pub mod RootLeaves
 pub mod SlotUps
+pub mod SlotDowns

@@ -1,14 +1,13 @@
 -- what a count step leaves of the memo, at each kind of slot
-use Rattle.std.specs.Prelude.{◌≡◌, ◌≢◌, ℕ, ◌+◌, ◌≤◌, Bool, true, if◌then◌else◌, List, [], ◌∷◌, ◌++◌}
+use Rattle.std.specs.Prelude.{◌≡◌, ◌≢◌, ℕ, ◌+◌, ◌≤◌, Bool, true, false, if◌then◌else◌, List, [], ◌∷◌, ◌++◌}
 use Rattle.std.specs.List.{Contains, filter}
 use Rattle.shm_graph.specs.declared.spot.Spot.{Spot}
 use Rattle.shm_graph.specs.declared.spot.Spot.TheVariants.{Home, Era, Root, Slot, Body}
 use Rattle.shm_graph.specs.declared.memo.Memo.{Memo}
 use Rattle.shm_graph.specs.declared.memo.Op.TheVariants.{Nothing}
 use Rattle.shm_graph.specs.declared.memo.Stored.{Stored}
-use Rattle.shm_graph.specs.Exchanges.{with_unsent, with_untaken}
 use Rattle.shm_graph.specs.Reach.{learnt}
-use Rattle.shm_graph.specs.Stores.{is_of, put, with_own}
+use Rattle.shm_graph.specs.Stores.{is_of, other_than, put, with_own}
 use Rattle.shm_graph.specs.Views.{own_word}
 use Rattle.shm_steps.specs.Reparting.{sight}
 use Rattle.shm_count.specs.Roots.{rest}
@@ -48,9 +47,19 @@ pub record Filled (c : ℕ) (p : Spot) (b : ℕ) (m r : Memo) : Type 0 where
   pub era : own_word r.own (Era c c) ≡ own_word m.own (Era c c) + 1
   pub rows : (j : ℕ) → own_word m.own (Era c j) ≤ own_word r.own (Era c j)
 
--- the memo before a step that empties a slot, but for what such a step leaves of the slot itself: the item of a head slot is taken, and what was known of that slot is forgotten; no block waits at a tail
-abbrev pub emptied : ℕ → Spot → ℕ → Memo → Memo
-emptied c p b m = with_untaken c p b (with_unsent c p 0 m)
+-- a slot that a step of c may take a block out of: an own root, a slot of a queue (the first of one to c where h is true, else the one at the tail of one from c), a word of a block
+abbrev pub IsEmptied : ℕ → Spot → Bool → Type 0
+IsEmptied c (Root d k) h = d ≡ c
+IsEmptied c (Slot s r k) true = (r ≡ c) × (s ≢ c)
+IsEmptied c (Slot s r k) false = (s ≡ c) × (r ≢ c)
+IsEmptied c (Body b i) h = Unit {0}
+IsEmptied c p h = ⊥
+
+-- what a step that empties the slot p leaves of queues: the item of a first slot waits for its head to be stored, and what was known of that slot is forgotten; no block waits at a tail
+abbrev pub emptied : Spot → Bool → ℕ → Memo → Memo
+emptied (Slot s r k) true t m = record m { untaken = put 0 m.untaken s t; known = filter (λ x. other_than (Slot s r k) x.spot) m.known }
+emptied (Slot s r k) false t m = record m { unsent = put 0 m.unsent r 0 }
+emptied p h t m = m
 
 -- What is left of what m knew, once t lost a reference: the looks are over; what is known of head slots stays, and of blocks that are named still, but for t where its count came to 0
 pub record Sifts (c t : ℕ) (z : Bool) (m r : Memo) : Type 0 where
@@ -60,10 +69,10 @@ pub record Sifts (c t : ℕ) (z : Bool) (m r : Memo) : Type 0 where
   pub values : (b : ℕ) → is_named c r b ≡ true → Contains m.values b → Contains r.values b
 
 -- A step of c took t out of the slot p, or put x into its place: own words that last are what they were, but for the slot, and t joins the zero-count blocks where its count came to 0; z says whether it did
-pub record Lost (c : ℕ) (p : Spot) (t x : ℕ) (z : Bool) (m r : Memo) : Type 0 where
-  pub rest : rest r ≡ rest (record (emptied c p t m) { part = part_after c (sight c m) p x })
+pub record Lost (c : ℕ) (p : Spot) (h : Bool) (t x : ℕ) (z : Bool) (m r : Memo) : Type 0 where
+  pub rest : rest r ≡ rest (record (emptied p h t m) { part = part_after c (sight c m) p x })
   pub op : r.op ≡ Nothing
   pub own : (s : Spot) → is_lasting c s ≡ true → own_word r.own s ≡ own_word (slotted p x m).own s
   pub rows : (j : ℕ) → own_word m.own (Era c j) ≤ own_word r.own (Era c j)
   pub dying : r.dying ≡ m.dying ++ (if z then t ∷ [] else [])
-  pub sifts : Sifts c t z (record (emptied c p t m) { known = known_at p x (emptied c p t m).known }) r
+  pub sifts : Sifts c t z (record (emptied p h t m) { known = known_at p x (emptied p h t m).known }) r
