@@ -87,21 +87,18 @@ closes_core me slot b e w q (spot.Slot s r k) i = refl
 closes_core me slot b e w q (spot.Body d k) i = refl
 closes_core me slot b e w q _ i = absurd i
 
--- an own word that is the slot holds the block, and the others that last are what they were
-slotted_own : (c e b : ℕ) (p s : Spot) (m q : Memo) → IsFilled c p → same_spot (spot.Era c c) s ≡ false → own_word q.own s ≡ own_word m.own s
-    → own_word (with_own (slotted p b q) (spot.Era c c) (e + 1)).own s ≡ own_word (slotted p b m).own s
-slotted_own c e b p s m q i other same =
-    ap (λ z. cond z (e + 1) (own_word (slotted p b q).own s)) other ∙ go p i
+-- an own word that is the slot holds the word, and the others that last are what they were
+pub slotted_own : (c e x : ℕ) (p s : Spot) (m q : Memo) → same_spot (spot.Era c c) s ≡ false → own_word q.own s ≡ own_word m.own s
+    → own_word (with_own (slotted p x q) (spot.Era c c) (e + 1)).own s ≡ own_word (slotted p x m).own s
+slotted_own c e x p s m q other same = ap (λ z. cond z (e + 1) (own_word (slotted p x q).own s)) other ∙ go p
   where
-    go : (p2 : Spot) → IsFilled c p2 → own_word (slotted p2 b q).own s ≡ own_word (slotted p2 b m).own s
-    go (spot.Root d k) i2 = ap (cond (same_spot (spot.Root d k) s) b) same
-    go (spot.Home d) i2 = ap (cond (same_spot (spot.Home d) s) b) same
-    go (spot.Slot s2 r k) i2 = same
-    go (spot.Body d k) i2 = same
-    go _ i2 = absurd i2
+    go : (p2 : Spot) → own_word (slotted p2 x q).own s ≡ own_word (slotted p2 x m).own s
+    go (spot.Root d k) = ap (cond (same_spot (spot.Root d k) s) x) same
+    go (spot.Home d) = ap (cond (same_spot (spot.Home d) s) x) same
+    go _ = same
 
 -- a slot is no word of the own row, and the stage of the step is no own word
-closed_row : (c e b j : ℕ) (p : Spot) (q : Memo) → own_word (with_own (written (slotted p b q)) (spot.Era c c) (e + 1)).own (spot.Era c j) ≡ own_word (with_own q (spot.Era c c) (e + 1)).own (spot.Era c j)
+pub closed_row : (c e b j : ℕ) (p : Spot) (q : Memo) → own_word (with_own (written (slotted p b q)) (spot.Era c c) (e + 1)).own (spot.Era c j) ≡ own_word (with_own q (spot.Era c c) (e + 1)).own (spot.Era c j)
 closed_row c e b j (spot.Root d k) q = refl
 closed_row c e b j (spot.Home d) q = refl
 closed_row c e b j _ q = refl
@@ -123,7 +120,7 @@ up_leaves me slot b p m r z i idle (e, q, w, first, some, same, is) =
           ∙ (ap (λ h. core (with_slot c b h p f.own m)) home
           ∙ (ap (λ (o : Op). core (record (with_slot c b (own_word m.own (spot.Home c)) p f.own m) { op = o })) (sym idle)
           ∙ ap (λ (u : List Stored). core (record m { own = u; known = known_at p b m.known; unsent = unsent_at p b m.unsent; part = part_after c (sight c m) p b })) (sym mine)))));
-      own = λ s l. ap (λ (u : List Stored). own_word u s) mine ∙ slotted_own c e b p s m (raised me slot b e w q p) i (lasting_not c s l).0 (first_own me slot (Up b) p m q e first s l);
+      own = λ s l. ap (λ (u : List Stored). own_word u s) mine ∙ slotted_own c e b p s m (raised me slot b e w q p) (lasting_not c s l).0 (first_own me slot (Up b) p m q e first s l);
       era = ap (λ (u : List Stored). own_word u (spot.Era c c)) mine ∙ (cond-true _ _ _ (same_spot_self (spot.Era c c)) ∙ ap (λ y. y + 1) first.0);
       rows = λ j. subst (λ y. own_word m.own (spot.Era c j) ≤ y) (sym (ap (λ (u : List Stored). own_word u (spot.Era c j)) mine ∙ row j)) (rows_grow me slot (Up b) p e m q first j);
     }
