@@ -4,3 +4,4 @@ pub mod RootSpots
 pub mod RootLeaves
 pub mod SlotUps
 pub mod SlotDowns
+pub mod SlotChanges

@@ -42,7 +42,7 @@ use Rattle.shm_count.specs.StepParts.{part_after, lasting_not, first_own, rows_g
 use Rattle.shm_count.specs.TearMemos.{is_lasting, is_slot_word, Knows}
 
 -- what no slot changes
-slotted_op : (p : Spot) (x : ℕ) (m : Memo) → (slotted p x m).op ≡ m.op
+pub slotted_op : (p : Spot) (x : ℕ) (m : Memo) → (slotted p x m).op ≡ m.op
 slotted_op (spot.Root d k) x m = refl
 slotted_op (spot.Home d) x m = refl
 slotted_op _ x m = refl
@@ -74,22 +74,22 @@ emptied_known (spot.Root d k) h t m n e = e
 emptied_known (spot.Body d k) h t m n e = e
 emptied_known _ h t m n e = e
 
-slotted_dying : (p : Spot) (x : ℕ) (m : Memo) → (slotted p x m).dying ≡ m.dying
+pub slotted_dying : (p : Spot) (x : ℕ) (m : Memo) → (slotted p x m).dying ≡ m.dying
 slotted_dying (spot.Root d k) x m = refl
 slotted_dying (spot.Home d) x m = refl
 slotted_dying _ x m = refl
 
-slotted_rest : (p : Spot) (x : ℕ) (m : Memo) → rest (slotted p x m) ≡ rest m
+pub slotted_rest : (p : Spot) (x : ℕ) (m : Memo) → rest (slotted p x m) ≡ rest m
 slotted_rest (spot.Root d k) x m = refl
 slotted_rest (spot.Home d) x m = refl
 slotted_rest _ x m = refl
 
-slotted_values : (p : Spot) (x : ℕ) (m : Memo) → (slotted p x m).values ≡ m.values
+pub slotted_values : (p : Spot) (x : ℕ) (m : Memo) → (slotted p x m).values ≡ m.values
 slotted_values (spot.Root d k) x m = refl
 slotted_values (spot.Home d) x m = refl
 slotted_values _ x m = refl
 
-slotted_known : (p : Spot) (x : ℕ) (m : Memo) → (slotted p x m).known ≡ m.known
+pub slotted_known : (p : Spot) (x : ℕ) (m : Memo) → (slotted p x m).known ≡ m.known
 slotted_known (spot.Root d k) x m = refl
 slotted_known (spot.Home d) x m = refl
 slotted_known _ x m = refl
@@ -130,12 +130,12 @@ emptied_rest (spot.Slot s r k) false t part m n e = ap (λ (u : Memo). rest (rec
 emptied_rest _ h t part m n e = ap (λ (u : Memo). rest (record u { part = part })) e
 
 -- a root and the home hold what the step in progress shows of them
-slotted_root : (c j x : ℕ) (p : Spot) (m q : Memo) → m.own ≡ q.own → own_word (slotted p x m).own (spot.Root c j) ≡ cover (On p x) (spot.Root c j) (own_word q.own (spot.Root c j))
+pub slotted_root : (c j x : ℕ) (p : Spot) (m q : Memo) → m.own ≡ q.own → own_word (slotted p x m).own (spot.Root c j) ≡ cover (On p x) (spot.Root c j) (own_word q.own (spot.Root c j))
 slotted_root c j x (spot.Root d k) m q e = ap (λ (o : List Stored). cond (same_spot (spot.Root d k) (spot.Root c j)) x (own_word o (spot.Root c j))) e
 slotted_root c j x (spot.Home d) m q e = ap (λ (o : List Stored). own_word o (spot.Root c j)) e
 slotted_root c j x _ m q e = ap (λ (o : List Stored). own_word o (spot.Root c j)) e
 
-slotted_home : (c x : ℕ) (p : Spot) (m q : Memo) → m.own ≡ q.own → own_word (slotted p x m).own (spot.Home c) ≡ cover (On p x) (spot.Home c) (own_word q.own (spot.Home c))
+pub slotted_home : (c x : ℕ) (p : Spot) (m q : Memo) → m.own ≡ q.own → own_word (slotted p x m).own (spot.Home c) ≡ cover (On p x) (spot.Home c) (own_word q.own (spot.Home c))
 slotted_home c x (spot.Root d k) m q e = ap (λ (o : List Stored). own_word o (spot.Home c)) e
 slotted_home c x (spot.Home d) m q e = ap (λ (o : List Stored). cond (same_spot (spot.Home d) (spot.Home c)) x (own_word o (spot.Home c))) e
 slotted_home c x _ m q e = ap (λ (o : List Stored). own_word o (spot.Home c)) e

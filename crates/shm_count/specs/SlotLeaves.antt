@@ -55,6 +55,12 @@ IsEmptied c (Slot s r k) false = (s ≡ c) × (r ≢ c)
 IsEmptied c (Body b i) h = Unit {0}
 IsEmptied c p h = ⊥
 
+-- a slot in which a step of c may replace a block: an own root, a word of a block
+abbrev pub IsReplaced : ℕ → Spot → Type 0
+IsReplaced c (Root d k) = d ≡ c
+IsReplaced c (Body b i) = Unit {0}
+IsReplaced c p = ⊥
+
 -- what a step that empties the slot p leaves of queues: the item of a first slot waits for its head to be stored, and what was known of that slot is forgotten; no block waits at a tail
 abbrev pub emptied : Spot → Bool → ℕ → Memo → Memo
 emptied (Slot s r k) true t m = record m { untaken = put 0 m.untaken s t; known = filter (λ x. other_than (Slot s r k) x.spot) m.known }
