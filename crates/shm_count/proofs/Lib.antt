@@ -5,3 +5,4 @@ pub mod RootLeaves
 pub mod SlotUps
 pub mod SlotDowns
 pub mod SlotChanges
+pub mod SlotParts

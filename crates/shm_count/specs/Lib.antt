@@ -14,7 +14,6 @@ pub mod StepReading
 pub mod StepCores
 pub mod StepCommitting
 pub mod StepParts
-pub mod SlotLeaves
 pub mod StepExchanging
 pub mod StepTells
 pub mod StepKeeps
@@ -47,3 +46,4 @@ pub mod StepsAt
 pub mod CountParts
 pub mod MadeSteps
 pub mod StepsFrom
+pub mod SlotLeaves

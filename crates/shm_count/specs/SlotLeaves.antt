@@ -1,5 +1,5 @@
 -- what a count step leaves of the memo, at each kind of slot
-use Rattle.std.specs.Prelude.{◌≡◌, ◌≢◌, ℕ, ◌+◌, ◌≤◌, Bool, true, false, if◌then◌else◌, List, [], ◌∷◌, ◌++◌}
+use Rattle.std.specs.Prelude.{◌≡◌, ◌≢◌, ℕ, ◌+◌, ◌^◌, ◌<◌, ◌≤◌, Bool, true, false, if◌then◌else◌, Result, Ok, Err, List, [], ◌∷◌, ◌++◌}
 use Rattle.std.specs.List.{Contains, filter}
 use Rattle.shm_graph.specs.declared.spot.Spot.{Spot}
 use Rattle.shm_graph.specs.declared.spot.Spot.TheVariants.{Home, Era, Root, Slot, Body}
@@ -10,9 +10,23 @@ use Rattle.shm_graph.specs.Reach.{learnt}
 use Rattle.shm_graph.specs.Stores.{is_of, other_than, put, with_own}
 use Rattle.shm_graph.specs.Views.{own_word}
 use Rattle.shm_steps.specs.Reparting.{sight}
+use Rattle.shm_graph.specs.declared.ask.Me.{Me}
+use Rattle.shm_graph.specs.Asks.{Trail, IsWithin}
+use Rattle.shm_graph.specs.Events.{Event}
+use Rattle.shm_graph.specs.Events as event
+use Rattle.shm_calls.specs.Grown.{Grows}
+use Rattle.shm_count.specs.declared.answer.UpFault.{UpFault}
+use Rattle.shm_count.specs.declared.answer.UpFault.TheVariants.{EraSpent, CountFull}
+use Rattle.shm_count.specs.declared.point.Aim.{Aim}
+use Rattle.shm_count.specs.declared.point.Aim.TheVariants.{Up, Down, Change}
+use Rattle.shm_count.specs.declared.point.Part.TheVariants.{First}
+use Rattle.shm_count.specs.declared.point.StepState.{StepState}
+use Rattle.shm_count.specs.CountParts.{IsStep}
 use Rattle.shm_count.specs.Roots.{rest}
 use Rattle.shm_count.specs.StepFits.{core}
+use Rattle.shm_count.specs.StepControl.{block_at, last_era, raises}
 use Rattle.shm_count.specs.StepParts.{part_after}
+use Rattle.shm_count.specs.StepTrail.{steps_of}
 use Rattle.shm_graph.specs.Reach.{is_named}
 use Rattle.shm_count.specs.TearMemos.{is_lasting, is_slot_word, Knows}
 
@@ -82,3 +96,40 @@ pub record Lost (c : ℕ) (p : Spot) (h : Bool) (t x : ℕ) (z : Bool) (m r : Me
   pub rows : (j : ℕ) → own_word m.own (Era c j) ≤ own_word r.own (Era c j)
   pub dying : r.dying ≡ m.dying ++ (if z then t ∷ [] else [])
   pub sifts : Sifts c t z (record (emptied p h t m) { known = known_at p x (emptied p h t m).known }) r
+
+-- nothing of the memo changed but the redo record and rows, which grew
+pub record Untouched (c : ℕ) (m r : Memo) : Type 0 where
+  pub rest : core r ≡ core (record m { own = r.own })
+  pub own : (s : Spot) → is_lasting c s ≡ true → own_word r.own s ≡ own_word m.own s
+  pub rows : (j : ℕ) → own_word m.own (Era c j) ≤ own_word r.own (Era c j)
+
+-- why nothing was done: the own era leaves no room for the step, or the block that was to be raised has the greatest count
+abbrev pub StepCause : Me → Aim → Memo → UpFault → Type 0
+StepCause me x m (EraSpent e) = (e ≡ own_word m.own (Era me.who me.who)) × (last_era x < e)
+StepCause me x m (CountFull b n) = (n ≡ 1023) × (b ≡ block_at x First) × (raises x First ≡ true)
+
+-- what a step did to the memo and to the graph, by its answer
+abbrev pub StepDid : Me → Aim → Spot → Bool → Memo → Memo → List Event → Result Bool UpFault → Type 0
+StepDid me (Up b) p h m r es (Ok z) = Filled me.who p b m r × (es ≡ event.Up me.who p b ∷ [])
+StepDid me (Down b) p h m r es (Ok z) = Lost me.who p h b 0 z m r × (es ≡ event.Down me.who p b ∷ [])
+StepDid me (Change a b) p h m r es (Ok z) = Lost me.who p h a b z m r × (es ≡ event.ChangeUp me.who p a b ∷ event.ChangeDown me.who a ∷ [])
+StepDid me x p h m r es (Err f) = Untouched me.who m r × StepCause me x m f × (es ≡ [])
+
+-- what a step leaves: it was done or refused; what was read of queues stays, and it took so many word steps at most
+pub record StepLeft (me : Me) (x : Aim) (p : Spot) (h : Bool) (m r : Memo) (t : Trail) (es : List Event) (a : Result Bool UpFault) : Type 0 where
+  pub did : StepDid me x p h m r es a
+  pub status : r.status ≡ m.status
+  pub grows : Grows true m r
+  pub bound : IsWithin (steps_of x) t
+
+-- a slot that the step may be made at; h tells the first slot of a queue from one at a tail
+abbrev pub IsSlotFor : ℕ → Aim → Spot → Bool → Type 0
+IsSlotFor c (Up b) p h = IsFilled c p
+IsSlotFor c (Down b) p h = IsEmptied c p h
+IsSlotFor c (Change a b) p h = IsReplaced c p
+
+-- the step is made and may begin, at such a slot, and the own era is one of a held state
+pub record MayStepAt (p : Spot) (h : Bool) (m : StepState) (r : Memo) : Type 0 where
+  pub step : IsStep p m r
+  pub at : IsSlotFor m.me.who m.aim p h
+  pub era : own_word r.own (Era m.me.who m.me.who) + 1 < 2 ^ 47
