@@ -47,3 +47,8 @@ pub mod CountParts
 pub mod MadeSteps
 pub mod StepsFrom
 pub mod SlotLeaves
+pub mod SlotUps
+pub mod SlotDowns
+pub mod SlotChanges
+pub mod SlotParts
+pub mod StepBound

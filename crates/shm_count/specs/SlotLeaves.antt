@@ -88,14 +88,18 @@ pub record Sifts (c t : ℕ) (z : Bool) (m r : Memo) : Type 0 where
   pub words : (b : ℕ) (p : Spot) (x : ℕ) → is_named c r b ≡ true → (z ≡ true → b ≢ t) → is_of b p ≡ true → Knows m p x → Knows r p x
   pub values : (b : ℕ) → is_named c r b ≡ true → Contains m.values b → Contains r.values b
 
--- A step of c took t out of the slot p, or put x into its place: own words that last are what they were, but for the slot, and t joins the zero-count blocks where its count came to 0; z says whether it did
-pub record Lost (c : ℕ) (p : Spot) (h : Bool) (t x : ℕ) (z : Bool) (m r : Memo) : Type 0 where
+-- A step of c took t out of the slot p, or put x into its place, and nothing else changed but what is known and has been read, the redo record, rows and the zero-count blocks; z says whether the count of t came to 0
+pub record Took (c : ℕ) (p : Spot) (h : Bool) (t x : ℕ) (z : Bool) (m r : Memo) : Type 0 where
   pub rest : rest r ≡ rest (record (emptied p h t m) { part = part_after c (sight c m) p x })
   pub op : r.op ≡ Nothing
   pub own : (s : Spot) → is_lasting c s ≡ true → own_word r.own s ≡ own_word (slotted p x m).own s
   pub rows : (j : ℕ) → own_word m.own (Era c j) ≤ own_word r.own (Era c j)
-  pub dying : r.dying ≡ m.dying ++ (if z then t ∷ [] else [])
   pub sifts : Sifts c t z (record (emptied p h t m) { known = known_at p x (emptied p h t m).known }) r
+
+-- and t joins the zero-count blocks where its count came to 0
+pub record Lost (c : ℕ) (p : Spot) (h : Bool) (t x : ℕ) (z : Bool) (m r : Memo) : Type 0 where
+  pub took : Took c p h t x z m r
+  pub dying : r.dying ≡ m.dying ++ (if z then t ∷ [] else [])
 
 -- nothing of the memo changed but the redo record and rows, which grew
 pub record Untouched (c : ℕ) (m r : Memo) : Type 0 where

@@ -40,7 +40,7 @@ use Rattle.shm_count.specs.StepMachines.{down_control, down_told}
 use Rattle.shm_count.specs.StepMemos.{called_core, room_least}
 use Rattle.shm_count.proofs.RootLeaves.{root_leaves}
 use Rattle.shm_count.proofs.RootSpots.{fits_root, root_can}
-use Rattle.shm_count.proofs.StepBound.{step_bound}
+use Rattle.shm_count.specs.StepBound.{step_bound}
 use Rattle.shm_ref.specs.Lefts.{MayDrop}
 
 -- ---- the load

@@ -33,7 +33,7 @@ use Rattle.shm_count.specs.declared.point.Part.TheVariants.{First}
 use Rattle.shm_count.specs.DownLeaves.{count_less, joined, kept_lowered, one_less}
 use Rattle.shm_count.specs.Retaining.{slots_learnt, slots_forgotten, slots_sifted, named_same, named_sifted, value_sifted}
 use Rattle.shm_count.specs.Roots.{rest}
-use Rattle.shm_count.proofs.SlotUps.{slotted_own, closed_row}
+use Rattle.shm_count.specs.SlotUps.{slotted_own, closed_row}
 use Rattle.shm_count.specs.SlotLeaves.{IsEmptied, emptied, slotted, known_at, Lost, Sifts}
 use Rattle.shm_count.specs.StepControl.{header_after}
 use Rattle.shm_count.specs.StepCores.{body_word}
@@ -217,7 +217,6 @@ module _ (me : Me) (h : Bool) (slot t e w : ℕ) (q : Memo) where
   known_slots (spot.Body d k) ks = slots_learnt (spot.Body d k) 0 ks refl
   known_slots _ ks = refl
 
-
   -- the same blocks are named once the step is committed, and once it is closed
   abbrev mine : Spot → Memo
   mine p = record q { op = op.Down Committed p t e; made = without_made q t }
@@ -281,13 +280,23 @@ down_leaves_at me h slot t p m r z i who era (e, q, w, first, some, same, zero) 
     named_same c r f d (λ j. sym (ap (λ (x : Memo). shown x (spot.Root c j)) left)) (sym (ap (λ (x : Memo). shown x (spot.Home c)) left)) (sym (ap (λ (x : Memo). filter is_slot_word x.known) left)) in
     let kept : (begins me h slot t e w q p).known ≡ (emptied p h t m).known = emptied_known p h t (mine me h slot t e w q p) m known in
     record {
-      rest = ap rest left ∙ (closes_rest me h slot t e w q p i
-          ∙ (ap (λ (u : Memo). rest (record (emptied p h t q) { part = part_set u.known c (cover (On p 0) (spot.Home c) (own_word q.own (spot.Home c))) p 0 u.part })) base
-          ∙ (ap (λ k. rest (record (emptied p h t q) { part = part_set m.known c (cover (On p 0) (spot.Home c) k) p 0 m.part })) home
-          ∙ emptied_rest p h t (part_after c (sight c m) p 0) q m (ap rest base))));
-      op = ap (λ (u : Memo). u.op) left;
-      own = λ s l. ap (λ (u : List Stored). own_word u s) own ∙ slotted_own c e 0 p s m (sifted c (lowers me h slot t e w q p)) (lasting_not c s l).0 (ap (λ (u : List Stored). own_word u s) at_begin ∙ first_own me slot (Down t) p m q e first s l);
-      rows = λ j. subst (λ y. own_word m.own (spot.Era c j) ≤ y) (sym (ap (λ (u : List Stored). own_word u (spot.Era c j)) own ∙ (closed_row c e 0 j p (sifted c (lowers me h slot t e w q p)) ∙ ap (λ (u : List Stored). cond (same_spot (spot.Era c c) (spot.Era c j)) (e + 1) (own_word u (spot.Era c j))) at_begin))) (rows_grow me slot (Down t) p e m q first j);
+      took = record {
+        rest = ap rest left ∙ (closes_rest me h slot t e w q p i
+            ∙ (ap (λ (u : Memo). rest (record (emptied p h t q) { part = part_set u.known c (cover (On p 0) (spot.Home c) (own_word q.own (spot.Home c))) p 0 u.part })) base
+            ∙ (ap (λ k. rest (record (emptied p h t q) { part = part_set m.known c (cover (On p 0) (spot.Home c) k) p 0 m.part })) home
+            ∙ emptied_rest p h t (part_after c (sight c m) p 0) q m (ap rest base))));
+        op = ap (λ (u : Memo). u.op) left;
+        own = λ s l. ap (λ (u : List Stored). own_word u s) own ∙ slotted_own c e 0 p s m (sifted c (lowers me h slot t e w q p)) (lasting_not c s l).0 (ap (λ (u : List Stored). own_word u s) at_begin ∙ first_own me slot (Down t) p m q e first s l);
+        rows = λ j. subst (λ y. own_word m.own (spot.Era c j) ≤ y) (sym (ap (λ (u : List Stored). own_word u (spot.Era c j)) own ∙ (closed_row c e 0 j p (sifted c (lowers me h slot t e w q p)) ∙ ap (λ (u : List Stored). cond (same_spot (spot.Era c c) (spot.Era c j)) (e + 1) (own_word u (spot.Era c j))) at_begin))) (rows_grow me slot (Down t) p e m q first j);
+        sifts = record {
+          looks = ap (λ (y : Memo). y.looks) left;
+          slots = ap (λ (y : Memo). filter is_slot_word y.known) left ∙ (slots_sifted c (closes me h slot t e w q p) ∙ (closes_slots me h slot t e w q p ∙ (ap (filter is_slot_word) kept ∙ sym (known_slots me h slot t e w q p (emptied p h t m).known))));
+          words = λ d s x l other o has. subst (λ (ks : List Stored). Contains ks (record { spot = s; value = x })) (sym (ap (λ (y : Memo). y.known) left))
+              (closes_words me h slot t e w q p d s x (named d ∙ l) (λ u. other (sym fell ∙ u)) o (subst (λ (ks : List Stored). Contains (known_at p 0 ks) (record { spot = s; value = x })) (sym kept) has));
+          values = λ d l has. subst (λ (vs : List ℕ). Contains vs d) (sym (ap (λ (y : Memo). y.values) left))
+              (closes_values me h slot t e w q p d (named d ∙ l) (subst (λ (vs : List ℕ). Contains vs d) (sym (ap (λ (y : Memo). y.values) base)) (subst (λ (vs : List ℕ). Contains vs d) (emptied_values p h t m) has)));
+        };
+      };
       dying =
           ap (λ (y : Memo). y.dying) left
           ∙ (slotted_dying p 0 (sifted c (lowers me h slot t e w q p))
@@ -295,12 +304,4 @@ down_leaves_at me h slot t p m r z i who era (e, q, w, first, some, same, zero) 
           ∙ (ap (λ (y : Memo). dying_after (header_of (header_after me (Down t) e First w)).count t y.dying) base
           ∙ (ap (λ y. cond y (m.dying ++ t ∷ []) m.dying) (ap (λ k. eqb k 0) less ∙ (one_less (header_of w).count some ∙ sym zero))
           ∙ joined z t m.dying))));
-      sifts = record {
-        looks = ap (λ (y : Memo). y.looks) left;
-        slots = ap (λ (y : Memo). filter is_slot_word y.known) left ∙ (slots_sifted c (closes me h slot t e w q p) ∙ (closes_slots me h slot t e w q p ∙ (ap (filter is_slot_word) kept ∙ sym (known_slots me h slot t e w q p (emptied p h t m).known))));
-        words = λ d s x l other o has. subst (λ (ks : List Stored). Contains ks (record { spot = s; value = x })) (sym (ap (λ (y : Memo). y.known) left))
-            (closes_words me h slot t e w q p d s x (named d ∙ l) (λ u. other (sym fell ∙ u)) o (subst (λ (ks : List Stored). Contains (known_at p 0 ks) (record { spot = s; value = x })) (sym kept) has));
-        values = λ d l has. subst (λ (vs : List ℕ). Contains vs d) (sym (ap (λ (y : Memo). y.values) left))
-            (closes_values me h slot t e w q p d (named d ∙ l) (subst (λ (vs : List ℕ). Contains vs d) (sym (ap (λ (y : Memo). y.values) base)) (subst (λ (vs : List ℕ). Contains vs d) (emptied_values p h t m) has)));
-      };
     }

@@ -30,8 +30,8 @@ use Rattle.shm_count.specs.declared.point.Part.TheVariants.{First, Second}
 use Rattle.shm_count.specs.DownLeaves.{count_less, joined, kept_lowered, one_less}
 use Rattle.shm_count.specs.Retaining.{slots_learnt, slots_forgotten, slots_sifted, named_same, named_sifted, value_sifted}
 use Rattle.shm_count.specs.Roots.{rest}
-use Rattle.shm_count.proofs.SlotUps.{slotted_own, closed_row}
-use Rattle.shm_count.proofs.SlotDowns.{known_at_keeps, slotted_rest, slotted_dying, slotted_values, slotted_known, slotted_root, slotted_home}
+use Rattle.shm_count.specs.SlotUps.{slotted_own, closed_row}
+use Rattle.shm_count.specs.SlotDowns.{known_at_keeps, slotted_rest, slotted_dying, slotted_values, slotted_known, slotted_root, slotted_home}
 use Rattle.shm_count.specs.SlotLeaves.{IsReplaced, emptied, slotted, known_at, Lost, Sifts}
 use Rattle.shm_count.specs.StepControl.{header_after}
 use Rattle.shm_count.specs.StepCores.{body_word}
@@ -169,36 +169,38 @@ change_leaves_at me slot a b p h m r z i who era (e, q, w, (d, next, (q0, v, fir
     let before : (x : ℕ) → is_named c o x ≡ is_named c r x = (λ x.
     named_same c r o x (λ j. sym (ap (λ (y : Memo). shown y (spot.Root c j)) left ∙ half.own (spot.Root c j) refl)) (sym (ap (λ (y : Memo). shown y (spot.Home c)) left ∙ half.own (spot.Home c) refl)) (sym slots)) in
     record {
-      rest = ap rest left ∙ (ap rest half.rest ∙ (slotted_rest p b (sifted c (raises me slot a b d v q0 p))
-          ∙ (ap (λ (u : Memo). rest (record u { part = part_set u.known c (cover (On p b) (spot.Home c) (own_word q0.own (spot.Home c))) p b u.part })) base
-          ∙ (ap (λ k. rest (record m { part = part_set m.known c (cover (On p b) (spot.Home c) k) p b m.part })) home
-          ∙ ap (λ (u : Memo). rest (record u { part = part_after c (sight c m) p b })) (sym (emptied_none c p h a m i))))));
-      op = ap (λ (u : Memo). u.op) left;
-      own = λ s l. let y = lasting_not c s l in ap (λ (u : List Stored). own_word u s) own ∙ (ap (λ k. cond k (e + 1) (own_word q.own s)) y.0
-          ∙ (half.own s y.1 ∙ slotted_own c d b p s m (sifted c (raises me slot a b d v q0 p)) y.0 (first_own me slot (Change a b) p m q0 d first s l)));
-      rows = λ j. let grown : own_word m.own (spot.Era c j) ≤ own_word q.own (spot.Era c j) =
-          (let g = rows_grow me slot (Change a b) p d m q0 first j in let u = closed_row c d b j p (sifted c (raises me slot a b d v q0 p)) in let k = half.more j in omega arith) in
-      subst (λ y. own_word m.own (spot.Era c j) ≤ y) (sym (ap (λ (u : List Stored). own_word u (spot.Era c j)) own))
-      (choice (λ y. own_word m.own (spot.Era c j) ≤ y) (same_spot (spot.Era c c) (spot.Era c j)) (e + 1) (own_word q.own (spot.Era c j))
-      (λ u. let mine : d ≡ own_word m.own (spot.Era c j) = first.0 ∙ ap (own_word m.own) (same_spot_is (spot.Era c c) (spot.Era c j) u) in let s = next in omega arith)
-      (λ u. grown));
+      took = record {
+        rest = ap rest left ∙ (ap rest half.rest ∙ (slotted_rest p b (sifted c (raises me slot a b d v q0 p))
+            ∙ (ap (λ (u : Memo). rest (record u { part = part_set u.known c (cover (On p b) (spot.Home c) (own_word q0.own (spot.Home c))) p b u.part })) base
+            ∙ (ap (λ k. rest (record m { part = part_set m.known c (cover (On p b) (spot.Home c) k) p b m.part })) home
+            ∙ ap (λ (u : Memo). rest (record u { part = part_after c (sight c m) p b })) (sym (emptied_none c p h a m i))))));
+        op = ap (λ (u : Memo). u.op) left;
+        own = λ s l. let y = lasting_not c s l in ap (λ (u : List Stored). own_word u s) own ∙ (ap (λ k. cond k (e + 1) (own_word q.own s)) y.0
+            ∙ (half.own s y.1 ∙ slotted_own c d b p s m (sifted c (raises me slot a b d v q0 p)) y.0 (first_own me slot (Change a b) p m q0 d first s l)));
+        rows = λ j. let grown : own_word m.own (spot.Era c j) ≤ own_word q.own (spot.Era c j) =
+            (let g = rows_grow me slot (Change a b) p d m q0 first j in let u = closed_row c d b j p (sifted c (raises me slot a b d v q0 p)) in let k = half.more j in omega arith) in
+            subst (λ y. own_word m.own (spot.Era c j) ≤ y) (sym (ap (λ (u : List Stored). own_word u (spot.Era c j)) own))
+            (choice (λ y. own_word m.own (spot.Era c j) ≤ y) (same_spot (spot.Era c c) (spot.Era c j)) (e + 1) (own_word q.own (spot.Era c j))
+            (λ u. let mine : d ≡ own_word m.own (spot.Era c j) = first.0 ∙ ap (own_word m.own) (same_spot_is (spot.Era c c) (spot.Era c j) u) in let s = next in omega arith)
+            (λ u. grown));
+        sifts = subst (λ (x : Memo). Sifts c a z (record x { known = known_at p b x.known }) r) (sym (emptied_none c p h a m i))
+            (record {
+              looks = ap (λ (y : Memo). y.looks) left;
+              slots = slots ∙ (opens_slots me slot a b d v q0 p ∙ (ap (filter is_slot_word) known ∙ sym (known_slots p b m.known)));
+              words = λ x s y l other is_one has. subst (λ (ks : List Stored). Contains ks (record { spot = s; value = y })) (sym (ap (λ (u : Memo). u.known) left))
+                  (closes_words me a b e w p q x s y (named x ∙ l) (λ u. other (sym fell ∙ u)) is_one
+                  (subst (λ (ks : List Stored). Contains ks (record { spot = s; value = y })) (sym later)
+                  (opens_words me slot a b d v q0 p x s y (before x ∙ l) is_one (subst (λ (ks : List Stored). Contains (known_at p b ks) (record { spot = s; value = y })) (sym known) has))));
+              values = λ x l has. subst (λ (vs : List ℕ). Contains vs x) (sym (ap (λ (u : Memo). u.values) left))
+                  (closes_values me a b e w p q x (named x ∙ l)
+                  (subst (λ (vs : List ℕ). Contains vs x) (sym (ap (λ (u : Memo). u.values) half.rest))
+                  (opens_values me slot a b d v q0 p x (before x ∙ l) (subst (λ (vs : List ℕ). Contains vs x) (sym (ap (λ (u : Memo). u.values) base)) has))));
+            });
+      };
       dying =
           ap (λ (y : Memo). y.dying) left
           ∙ (ap (λ (y : Memo). dying_after (header_of (header_after me (Change a b) e Second w)).count a y.dying) half.rest
           ∙ (ap (dying_after (header_of (header_after me (Change a b) e Second w)).count a) (slotted_dying p b (sifted c (raises me slot a b d v q0 p)))
           ∙ (ap (λ (y : Memo). dying_after (header_of (header_after me (Change a b) e Second w)).count a y.dying) base
           ∙ (ap (λ y. cond y (m.dying ++ a ∷ []) m.dying) fell ∙ joined z a m.dying))));
-      sifts = subst (λ (x : Memo). Sifts c a z (record x { known = known_at p b x.known }) r) (sym (emptied_none c p h a m i))
-          (record {
-            looks = ap (λ (y : Memo). y.looks) left;
-            slots = slots ∙ (opens_slots me slot a b d v q0 p ∙ (ap (filter is_slot_word) known ∙ sym (known_slots p b m.known)));
-            words = λ x s y l other is_one has. subst (λ (ks : List Stored). Contains ks (record { spot = s; value = y })) (sym (ap (λ (u : Memo). u.known) left))
-                (closes_words me a b e w p q x s y (named x ∙ l) (λ u. other (sym fell ∙ u)) is_one
-                (subst (λ (ks : List Stored). Contains ks (record { spot = s; value = y })) (sym later)
-                (opens_words me slot a b d v q0 p x s y (before x ∙ l) is_one (subst (λ (ks : List Stored). Contains (known_at p b ks) (record { spot = s; value = y })) (sym known) has))));
-            values = λ x l has. subst (λ (vs : List ℕ). Contains vs x) (sym (ap (λ (u : Memo). u.values) left))
-                (closes_values me a b e w p q x (named x ∙ l)
-                (subst (λ (vs : List ℕ). Contains vs x) (sym (ap (λ (u : Memo). u.values) half.rest))
-                (opens_values me slot a b d v q0 p x (before x ∙ l) (subst (λ (vs : List ℕ). Contains vs x) (sym (ap (λ (u : Memo). u.values) base)) has))));
-          });
     }

@@ -21,10 +21,10 @@ use Rattle.shm_count.specs.declared.point.Aim.{Aim}
 use Rattle.shm_count.specs.declared.point.Aim.TheVariants.{Up, Down, Change}
 use Rattle.shm_count.specs.declared.point.StepState.{StepState}
 use Rattle.shm_count.specs.CountParts.{IsStep, StepLeaves, down_part, down_part_laws, up_part, up_part_laws, change_part, change_part_laws}
-use Rattle.shm_count.proofs.StepBound.{step_bound}
-use Rattle.shm_count.proofs.SlotUps.{up_leaves}
-use Rattle.shm_count.proofs.SlotDowns.{down_leaves_at}
-use Rattle.shm_count.proofs.SlotChanges.{change_leaves_at}
+use Rattle.shm_count.specs.StepBound.{step_bound}
+use Rattle.shm_count.specs.SlotUps.{up_leaves}
+use Rattle.shm_count.specs.SlotDowns.{down_leaves_at}
+use Rattle.shm_count.specs.SlotChanges.{change_leaves_at}
 use Rattle.shm_count.specs.SlotLeaves.{IsSlotFor, MayStepAt, StepCause, StepDid, StepLeft, Untouched}
 use Rattle.shm_count.specs.StepControl.{step_control}
 use Rattle.shm_count.specs.StepEvents.{own_events}
