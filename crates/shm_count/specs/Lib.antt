@@ -52,3 +52,4 @@ pub mod SlotDowns
 pub mod SlotChanges
 pub mod SlotParts
 pub mod StepBound
+pub mod Lowering
