@@ -1,5 +1,6 @@
 pub mod Spots
 pub mod Blocks
+pub mod Bounds
 pub mod References
 pub mod Clean
 pub mod Tables
