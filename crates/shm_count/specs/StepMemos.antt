@@ -8,7 +8,6 @@ use Rattle.shm_graph.specs.declared.ask.Ask.TheVariants.{Load}
 use Rattle.shm_graph.specs.declared.ask.Me.{Me}
 use Rattle.shm_graph.specs.declared.spot.Spot.{Spot}
 use Rattle.shm_graph.specs.declared.spot.Spot.TheVariants as spot
-use Rattle.shm_graph.specs.declared.memo.Agent.{Agent}
 use Rattle.shm_graph.specs.declared.memo.Fact.{Fact}
 use Rattle.shm_graph.specs.declared.memo.Fact.TheVariants.{Header as HeaderRead, Counter}
 use Rattle.shm_graph.specs.declared.memo.Half.TheVariants.{Raising, Lowering}
@@ -19,10 +18,10 @@ use Rattle.shm_graph.specs.declared.memo.Op.{Op}
 use Rattle.shm_graph.specs.declared.memo.Op.TheVariants as op
 use Rattle.shm_graph.specs.declared.memo.Step.{Step}
 use Rattle.shm_graph.specs.declared.memo.Stored.{Stored}
-use Rattle.shm_graph.specs.Agents.{recovers, recovers_by, last_agent, with_last, stepped, ended, is_recoverer, is_gone}
+use Rattle.shm_graph.specs.Agents.{recovers}
 use Rattle.shm_laws.proofs.Keep.{Contains-filter}
 use Rattle.shm_graph.proofs.Calling.{called_by}
-use Rattle.shm_graph.specs.Changes.{is_lane_count, called, test_before, changed_by, with_call, with_end, memo_on}
+use Rattle.shm_graph.specs.Changes.{is_lane_count, called, test_before, with_call, with_end, memo_on}
 use Rattle.shm_graph.specs.Held.{room_of}
 use Rattle.shm_graph.specs.Laws.{Frame, framed}
 use Rattle.shm_graph.specs.Ops.{Quiet, cover, cover_of}

@@ -22,6 +22,7 @@ pub mod Laws
 pub mod Runs
 pub mod Whole
 pub mod Sound
+pub mod Histories
 pub mod CallEvents
 pub mod Trails
 pub mod Tells

@@ -1,5 +1,5 @@
 -- the rule of the shared words, and what a seat knows
-use Rattle.std.specs.Prelude.{◌≡◌, ℕ, ◌+◌, ◌<◌, ◌==◌, true, false, if◌then◌else◌, List, [], ◌∷◌, length}
+use Rattle.std.specs.Prelude.{◌≡◌, ℕ, ◌+◌, ◌<◌, ◌==◌, true, false, if◌then◌else◌, List, [], ◌∷◌}
 use Rattle.atomic_table.specs.declared.shared.Seat.{Seat}
 use Rattle.shm_words.specs.declared.geometry.Geometry.{Geometry}
 use Rattle.shm_graph.specs.declared.run.Start.{Start}
@@ -9,7 +9,7 @@ use Rattle.shm_graph.specs.declared.run.Move.{Move}
 use Rattle.shm_graph.specs.Agents.{acts}
 use Rattle.shm_graph.specs.Asks.{seen_of}
 use Rattle.shm_graph.specs.Laws.{Control, step_of}
-use Rattle.shm_graph.specs.Runs.{Held, Leads, state, first_state, account_at, account_after, first_account, IsAmong, Stood}
+use Rattle.shm_graph.specs.Runs.{Held, Leads, state, first_state, account_after, first_account, IsAmong, Stood}
 use Rattle.shm_graph.specs.Whole.{Learns}
 
 -- how often the identity c stands in a view, and in all views
