@@ -1,6 +1,6 @@
 //! What a user of a pool may conclude from its states: of any sound state, and of a clean pool.
 
-ghost use Rattle.std.specs.Prelude.{◌≡◌, ◌≢◌, ℕ, ◌+◌, ◌<◌, ◌≤◌, List, Some, slice_index, take};
+ghost use Rattle.std.specs.Prelude.{◌≡◌, ◌≢◌, ℕ, ◌+◌, ◌<◌, ◌≤◌, if◌then◌else◌, List, Some, slice_index, take};
 ghost use Rattle.shm_words.specs.declared.geometry.Geometry.{Geometry as AGeometry};
 ghost use Rattle.shm_words.specs.declared.redo.Redo.TheVariants as redos;
 ghost use Rattle.shm_words.specs.Layout.{GeometryFits, total_of};
@@ -12,7 +12,7 @@ ghost use Rattle.shm_graph.specs.declared.spot.Spot.{Spot as ASpot};
 ghost use Rattle.shm_graph.specs.declared.spot.Spot.TheVariants as spot;
 ghost use Rattle.shm_graph.specs.Spots.{see, spot_at, spot_address};
 ghost use Rattle.shm_graph.specs.Blocks.{IsLive, classes, headers};
-ghost use Rattle.shm_graph.specs.References.{references, references_to};
+ghost use Rattle.shm_graph.specs.References.{reference_count, references, references_to, sum_below};
 ghost use Rattle.shm_graph.specs.Views.{View, targets, limbos, ons};
 ghost use Rattle.shm_graph.specs.Held.{Shown, odd};
 ghost use Rattle.shm_graph.specs.Sound.{IsSound};
@@ -58,10 +58,12 @@ pub fn unused_pages_are_empty()
 {}
 
 /// In a clean pool each live block is named by a word, each word that names anything names a live block, each other block has the
-/// header 0, headers name identities of the pool, and no identity is at work.
+/// header 0, headers name identities of the pool, no identity is at work, and the counts of all live blocks add up to the number of
+/// words that name any.
 pub fn clean_pools()
     ensures named { (g : AGeometry) (w : ASpot → ℕ) → IsClean g w → (b : ℕ) → IsLive (headers w) b → (a : ℕ) × (a < total_of g) × (references w (spot_at g (classes w) a) ≡ b) }
     ensures empty { (g : AGeometry) (w : ASpot → ℕ) → IsClean g w → ((b : ℕ) → w (spot.Head b) ≡ 0) → (p : ASpot) → references w p ≡ 0 }
     ensures headers { (g : AGeometry) (w : ASpot → ℕ) → IsClean g w → (b : ℕ) → w (spot.Head b) ≢ 0 → IsLive (headers w) b × ((headers w b).client < g.clients) }
     ensures joinable { (g : AGeometry) (w : ASpot → ℕ) → IsClean g w → (c : ℕ) → c < g.clients → (w (spot.Status c) ≢ 1) × (w (spot.Status c) ≢ 2) }
+    ensures sum { (g : AGeometry) (ws : List ℕ) → GeometryFits g → IsClean g (see g ws) → reference_count g (classes (see g ws)) (references (see g ws)) ≡ sum_below (total_of g) (λ b. if (headers (see g ws) b).live then (headers (see g ws) b).count else 0) }
 {}
