@@ -17,7 +17,7 @@ use Rattle.shm_graph.specs.Agents.{acts, recovers}
 use Rattle.shm_graph.specs.Asks.{Trail}
 use Rattle.shm_graph.specs.Idle.{IsIdle}
 use Rattle.shm_graph.specs.Laws.{GoneNow}
-use Rattle.shm_graph.specs.Runs.{account_died, account_entered, memos_of}
+use Rattle.shm_graph.specs.Runs.{account_died, account_entered, memos_of, Stood}
 use Rattle.shm_graph.specs.declared.memo.Kind.TheVariants.{Client, Recoverer}
 use Rattle.shm_graph.specs.Reach.{is_reached}
 use Rattle.shm_graph.specs.Views.{own_word}
@@ -44,7 +44,6 @@ use Rattle.shm_tests.proofs.TearAnswers.{block_small, tear_fits}
 use Rattle.shm_pool.specs.declared.reply.Reply.{Reply}
 use Rattle.shm_pool.specs.declared.reply.Reply.TheVariants.{Done, Died}
 use Rattle.shm_pool.specs.Replies.{IfReply}
-use Rattle.shm_pool.specs.Rules.{Stood}
 use Rattle.shm_pool.specs.Tokens.{IsOut, recovering}
 use Rattle.pool_tests.specs.Quitting.{QuitFits, quit_control, quit_fresh}
 use Rattle.shm_recover.specs.Joining.{IsMember, JoinGives, join_fresh}

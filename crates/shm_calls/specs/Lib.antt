@@ -1,4 +1,3 @@
-pub mod SameAgent
 pub mod Placed
 pub mod Parts
 pub mod Plans

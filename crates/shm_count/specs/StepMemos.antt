@@ -8,7 +8,6 @@ use Rattle.shm_graph.specs.declared.ask.Ask.TheVariants.{Load}
 use Rattle.shm_graph.specs.declared.ask.Me.{Me}
 use Rattle.shm_graph.specs.declared.spot.Spot.{Spot}
 use Rattle.shm_graph.specs.declared.spot.Spot.TheVariants as spot
-use Rattle.shm_graph.specs.declared.memo.Agent.{Agent}
 use Rattle.shm_graph.specs.declared.memo.Fact.{Fact}
 use Rattle.shm_graph.specs.declared.memo.Fact.TheVariants.{Header as HeaderRead, Counter}
 use Rattle.shm_graph.specs.declared.memo.Half.TheVariants.{Raising, Lowering}
@@ -19,10 +18,10 @@ use Rattle.shm_graph.specs.declared.memo.Op.{Op}
 use Rattle.shm_graph.specs.declared.memo.Op.TheVariants as op
 use Rattle.shm_graph.specs.declared.memo.Step.{Step}
 use Rattle.shm_graph.specs.declared.memo.Stored.{Stored}
-use Rattle.shm_graph.specs.Agents.{recovers, recovers_by, last_agent, with_last, stepped, ended, is_recoverer, is_gone}
+use Rattle.shm_graph.specs.Agents.{recovers}
 use Rattle.shm_laws.proofs.Keep.{Contains-filter}
 use Rattle.shm_graph.proofs.Calling.{called_by}
-use Rattle.shm_graph.specs.Changes.{is_lane_count, called, test_before, changed_by, with_call, with_end, memo_on}
+use Rattle.shm_graph.specs.Changes.{is_lane_count, called, test_before, with_call, with_end, memo_on}
 use Rattle.shm_graph.specs.Held.{room_of}
 use Rattle.shm_graph.specs.Laws.{Frame, framed}
 use Rattle.shm_graph.specs.Ops.{Quiet, cover, cover_of}
@@ -44,6 +43,7 @@ use Rattle.shm_count.specs.declared.point.Part.{Part}
 use Rattle.shm_count.specs.declared.point.Part.TheVariants.{First, Second}
 use Rattle.shm_count.specs.StepControl.{last_era, redo_at, EraFits, PartFits}
 use Rattle.shm_count.specs.StepFits.{CanChange, CanStep, core, begun_op, op_of, is_row, Rows, begun, AtFirst, set_memo, slot_memo, closed_memo, HasRead, InHalf}
+use Rattle.shm_graph.proofs.MemoSteps.{recovers_called}
 
 -- ---- rows
 
@@ -86,25 +86,6 @@ row_raised c m m' j v other more e =
           (λ z. omega arith);
     })
     (rows_same c (with_own m (spot.Era c j) v) m' e)
-
--- ---- the agent
-
--- the last agent is of the kind that it was of
-recovers_with : (f : Agent → Agent) → ((a : Agent) → (f a).kind ≡ a.kind) → (xs : List Agent) → recovers_by (last_agent (with_last f xs)) ≡ recovers_by (last_agent xs)
-recovers_with f k [] = refl
-recovers_with f k (a ∷ []) = ap is_recoverer (k a)
-recovers_with f k (a ∷ b ∷ []) = ap is_recoverer (k b)
-recovers_with f k (a ∷ b ∷ d ∷ xs) = recovers_with f k (b ∷ d ∷ xs)
-
--- the agent at a step, and after it, is what it was
-pub recovers_called : (m : Memo) (t : Step) → recovers (called m t) ≡ recovers m
-recovers_called m t = recovers_with stepped (λ a. refl) m.agents
-
-pub recovers_after : (m : Memo) (t : Step) (p : Spot) → recovers (memo_on m t p) ≡ recovers m
-recovers_after m t p =
-    choice (λ (xs : List Agent). recovers_by (last_agent xs) ≡ recovers m) (is_gone (changed_by m t p t.ask).status && t.ends) (with_last ended (called m t).agents) (called m t).agents
-    (λ z. recovers_with ended (λ a. refl) (called m t).agents ∙ recovers_called m t)
-    (λ z. recovers_called m t)
 
 -- ---- what is read
 

@@ -38,7 +38,6 @@ use Rattle.shm_count.specs.StepFits as fits
 use Rattle.shm_count.specs.StepGoing.{has_part, events_with, Told, told_next}
 use Rattle.shm_count.specs.StepKeeps.{step_at}
 use Rattle.shm_count.specs.Retaining.{named_counted, named_stays, retains_core, retains_then}
-use Rattle.shm_count.specs.StepMemos.{recovers_after}
 use Rattle.shm_count.specs.TearControl.{word_address, word_or_free, down_next, lowered_next, TearPointFits}
 use Rattle.shm_count.specs.TearCores.{stays_then, stays_core, on_words}
 use Rattle.shm_count.specs.TearEvents.{Visit, frees, Walks}
@@ -48,6 +47,7 @@ use Rattle.shm_count.specs.TearBound.{paid_down, paid_kept, paid_fell, paid_refu
 use Rattle.shm_count.specs.TearReading.{TearKept}
 use Rattle.shm_count.specs.TearStacks.{walks_kept, walks_fell, frees_more, others_entered, outside_other, apart_entered, KeepsBlock, linked_kept, linked_dying, left_dying, keeps_lowered, lowered_knows, lowered_tagged, lowered_dying}
 use Rattle.shm_count.specs.TearMemos.{Stays, Retains, Knows, IsTagged, IsFound, Lowered}
+use Rattle.shm_graph.proofs.MemoSteps.{recovers_on}
 
 -- one word of a block has one index
 same_index : (b j i : ℕ) → Body b j ≡ Body b i → j ≡ i
@@ -232,7 +232,7 @@ down_step me first r0 b g i t y w r f tr es st going runs can fits (k, vs, m, be
       told = kept.told;
       step = kept.step;
       fits = answered me first r0 b k vs g i t y m m2 before (es ++ filter is_event (step_event_at me (aims.Down t) (Body b i) y n ∷ [])) tr n can runs a
-          (recovers_after (r me.who) (framed me ask f n) s ∙ (holds.agent ∙ a.settled.agent))
+          (recovers_on (r me.who) (framed me ask f n) s ∙ (holds.agent ∙ a.settled.agent))
           (λ d u named dies. named_counted me.geometry (words_after w ask s) (at1 r me.who m2) me.who d u kept.step.held st.who (subst (λ (x : Memo). is_named me.who x d ≡ true) (sym (at1_here r me.who m2)) named) (subst (λ (x : Memo). Contains x.dying u) (sym (at1_here r me.who m2)) dies))
           (step_next_at me (aims.Down t) y n) refl
           (told_next me (aims.Down t) (Body b i) y n (has_part me (aims.Down t) y fits.3))

@@ -7,9 +7,9 @@ ghost use Rattle.shm_graph.specs.declared.memo.Memo.{Memo};
 ghost use Rattle.shm_graph.specs.Agents.{acts, recovers};
 ghost use Rattle.shm_graph.specs.Asks.{seen_of};
 ghost use Rattle.shm_graph.specs.Laws.{is_died, is_done, is_some};
-ghost use Rattle.shm_graph.specs.Runs.{MayBegin, account_died, account_entered};
+ghost use Rattle.shm_graph.specs.Runs.{MayBegin, account_died, account_entered, Stood};
 ghost use Rattle.shm_graph.specs.Whole.{fits_now, gives_now};
-ghost use Rattle.shm_pool.specs.Rules.{IsOf, IsAlone, Stood, alone, Told, Follows};
+ghost use Rattle.shm_pool.specs.Rules.{IsOf, IsAlone, alone, Told, Follows};
 ghost use Rattle.shm_pool.specs.Calls.{Stepped, Calls, Tells, acts_still, shown};
 
 use crate::rule::{ClientBegins, Dies, Place, RecovererBegins, Say, Says, Top};

@@ -14,7 +14,3 @@ join_ask me = Store (address me.geometry (place.Status me.who)) 1
 -- all that a join asks, with what it sees
 abbrev pub join_trail : Me → Trail
 join_trail me = pair (join_ask me) 0 ∷ []
-
--- how many word steps a join makes
-abbrev pub join_steps : ℕ
-join_steps = 1

@@ -5,7 +5,7 @@ ghost use Rattle.shm_words.specs.Layout.{GeometryFits};
 ghost use Rattle.shm_graph.specs.declared.memo.Memo.{Memo as AMemo};
 ghost use Rattle.shm_graph.specs.Asks.{Trail, IsWithin};
 ghost use Rattle.shm_recover.specs.declared.join.JoinState.{JoinState as AJoin};
-ghost use Rattle.shm_recover.specs.JoinTrail.{join_steps};
+ghost use Rattle.shm_graph.specs.Bounds.{join_steps};
 ghost use Rattle.shm_recover.specs.Joining.{join_control, join_fresh, JoinFits, JoinGives};
 ghost use Rattle.shm_recover.specs.JoinKeeps.{join_laws};
 

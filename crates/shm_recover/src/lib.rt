@@ -6,7 +6,7 @@ pub mod leave;
 pub mod parts;
 
 pub use join::{Join, JoinPoint, JoinState, join_bound};
-pub use leave::{Leave, Leaving};
+pub use leave::{Leave, Leaving, leave_bound};
 
 #[cfg(test)]
 mod tests;
