@@ -16,9 +16,12 @@ recovers_with f k (a ∷ []) = ap is_recoverer (k a)
 recovers_with f k (a ∷ b ∷ []) = ap is_recoverer (k b)
 recovers_with f k (a ∷ b ∷ d ∷ xs) = recovers_with f k (b ∷ d ∷ xs)
 
+-- the agent at a step, and after it, is what it was
+pub recovers_called : (m : Memo) (t : Step) → recovers (called m t) ≡ recovers m
+recovers_called m t = recovers_with stepped (λ a. refl) m.agents
+
 pub recovers_on : (m : Memo) (t : Step) (p : Spot) → recovers (memo_on m t p) ≡ recovers m
 recovers_on m t p =
-    let called_on : recovers (called m t) ≡ recovers m = recovers_with stepped (λ a. refl) m.agents in
     choice (λ (xs : List Agent). recovers_by (last_agent xs) ≡ recovers m) (is_gone (changed_by m t p t.ask).status && t.ends) (with_last ended (called m t).agents) (called m t).agents
-    (λ z. recovers_with ended (λ a. refl) (called m t).agents ∙ called_on)
-    (λ z. called_on)
+    (λ z. recovers_with ended (λ a. refl) (called m t).agents ∙ recovers_called m t)
+    (λ z. recovers_called m t)

@@ -24,12 +24,14 @@ use Rattle.shm_graph.specs.Blocks.{classes}
 use Rattle.shm_graph.proofs.Spotting.{same_spot_self}
 use Rattle.shm_laws.specs.Steps.{dying_after}
 use Rattle.shm_steps.proofs.MemoCommits.{untaken_list, known_left, known_lowered, lowered_is, with_untaken_is, unsent_list, with_unsent_is}
+use Rattle.shm_steps.proofs.Cores.{core_cond}
 use Rattle.shm_count.specs.declared.point.Aim.TheVariants.{Down, Change, Up}
 use Rattle.shm_count.specs.declared.point.Part.TheVariants.{First, Second}
 use Rattle.shm_count.specs.declared.point.Part.{Part}
 use Rattle.shm_count.specs.declared.point.Aim.{Aim}
 use Rattle.shm_count.specs.declared.point.StepPoint.{StepPoint}
-use Rattle.shm_count.specs.StepFits.{CanUp, core, CanStep, CanChange, CanAim, set_memo, closed_memo, CanDown, PointHolds, NextHolds}
+use Rattle.shm_graph.specs.Core.{core}
+use Rattle.shm_count.specs.StepFits.{CanUp, CanStep, CanChange, CanAim, set_memo, closed_memo, CanDown, PointHolds, NextHolds}
 use Rattle.shm_count.specs.StepControl.{last_era, header_after, PartFits, PointFits, step_ask_at, step_next_at}
 
 -- ---- steps in progress
@@ -145,11 +147,6 @@ is_stored g c (spot.Body b i) v m s h = let e = body_word g c b i v m h in (ap (
 is_stored g c _ v m s h = absurd s
 
 -- ---- cores
-
--- the cores of memos that are chosen alike
-pub core_cond : (z : Bool) (a b a' b' : Memo) → core a ≡ core a' → core b ≡ core b' → core (cond z a b) ≡ core (cond z a' b')
-core_cond true a b a' b' x y = x
-core_cond false a b a' b' x y = y
 
 -- the store of the slot reads no more than the core
 pub stored_core : (g : Geometry) (c : ℕ) (p : Spot) (v : ℕ) (m n : Memo) → IsStepSlot c p → HasSlot m p → core m ≡ core n → core (stored_on g c m p v) ≡ core (stored_on g c n p v)

@@ -40,7 +40,8 @@ use Rattle.shm_count.specs.StepCores.{body_word, is_set, HasSlot}
 use Rattle.shm_graph.specs.declared.memo.Status.{Status as AStatus}
 use Rattle.shm_graph.specs.declared.memo.Making.{Making}
 use Rattle.shm_count.specs.TearMemos.{is_lasting}
-use Rattle.shm_count.specs.StepFits.{AtFirst, Done, core, is_row, begun, set_memo, slot_memo, closed_memo}
+use Rattle.shm_graph.specs.Core.{core}
+use Rattle.shm_count.specs.StepFits.{AtFirst, Done, is_row, begun, set_memo, slot_memo, closed_memo}
 use Rattle.shm_count.specs.StepMemos.{closed_part}
 
 -- the partition after a step at a word, as the memo's change computes it

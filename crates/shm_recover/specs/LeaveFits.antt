@@ -16,7 +16,7 @@ use Rattle.shm_calls.specs.Plans.{Planned}
 use Rattle.shm_calls.specs.Words.{word_part}
 use Rattle.shm_count.specs.declared.answer.EraSpent.{EraSpent}
 use Rattle.shm_count.specs.Roots.{root_word}
-use Rattle.shm_count.specs.StepFits.{core}
+use Rattle.shm_graph.specs.Core.{core}
 use Rattle.shm_count.specs.TearEvents.{Visit, frees}
 use Rattle.shm_recover.specs.declared.leave.LeavePoint.{LeavePoint}
 use Rattle.shm_recover.specs.declared.leave.LeavePoint.TheVariants.{Roots, Look, Give, Status}

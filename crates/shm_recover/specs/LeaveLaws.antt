@@ -21,8 +21,8 @@ use Rattle.shm_calls.specs.Plans.{PlanLaws, PlanStays, IsCall, Follows}
 use Rattle.shm_calls.specs.Words.{word_control, word_part, word_part_laws, WordLeaves}
 use Rattle.shm_count.specs.declared.answer.EraSpent.{EraSpent}
 use Rattle.shm_count.specs.Roots.{root_word}
-use Rattle.shm_count.specs.StepFits.{core}
-use Rattle.shm_count.specs.StepMemos.{here_same}
+use Rattle.shm_graph.specs.Core.{core}
+use Rattle.shm_steps.proofs.Cores.{here_same}
 use Rattle.shm_count.specs.TearEvents.{frees}
 use Rattle.shm_ref.specs.declared.drop_roots.RootsState.{RootsState}
 use Rattle.shm_recover.specs.declared.leave.LeavePoint.{LeavePoint}

@@ -24,8 +24,8 @@ use Rattle.shm_calls.specs.Parts.{IsHeld}
 use Rattle.shm_calls.specs.Words.{IsWord}
 use Rattle.shm_calls.specs.WordSteps.{load_at, word_at}
 use Rattle.shm_count.specs.Roots.{root_word}
-use Rattle.shm_count.specs.StepFits.{core}
-use Rattle.shm_count.specs.StepMemos.{called_core}
+use Rattle.shm_graph.specs.Core.{core}
+use Rattle.shm_steps.proofs.Cores.{called_core}
 use Rattle.shm_recover.specs.declared.leave.LeavePoint.TheVariants.{Look, Give}
 use Rattle.shm_recover.specs.declared.leave.LeavePoint.TheVariants as point
 use Rattle.shm_recover.specs.declared.leave.LeaveState.{LeaveState}

@@ -25,9 +25,9 @@ use Rattle.shm_count.specs.declared.answer.EraSpent.{EraSpent}
 use Rattle.shm_count.specs.CountParts.{tear_part, tear_part_laws}
 use Rattle.shm_count.specs.Roots.{root_word}
 use Rattle.shm_count.specs.StepControl.{IsInside}
-use Rattle.shm_count.specs.StepFits.{core}
+use Rattle.shm_graph.specs.Core.{core}
 use Rattle.shm_count.specs.StepMachines.{down_control}
-use Rattle.shm_count.specs.StepMemos.{here_same}
+use Rattle.shm_steps.proofs.Cores.{here_same}
 use Rattle.shm_count.specs.TearControl.{tear_control}
 use Rattle.shm_count.specs.TearEvents.{Visit, frees}
 use Rattle.shm_count.specs.TearFits.{TearLeaves}

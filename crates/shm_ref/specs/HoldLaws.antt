@@ -23,8 +23,8 @@ use Rattle.shm_steps.proofs.PageSteps.{latched}
 use Rattle.shm_calls.specs.Plans.{PlanLaws, PlanStays, Follows}
 use Rattle.shm_calls.specs.Words.{word_control, word_part_laws, IsWord, WordLeaves}
 use Rattle.shm_calls.specs.WordSteps.{word_at}
-use Rattle.shm_count.specs.StepFits.{core}
-use Rattle.shm_count.specs.StepMemos.{called_core, here_same}
+use Rattle.shm_graph.specs.Core.{core}
+use Rattle.shm_steps.proofs.Cores.{called_core, here_same}
 use Rattle.shm_ref.specs.declared.hold.HoldPoint.{HoldPoint}
 use Rattle.shm_ref.specs.declared.hold.HoldPoint.TheVariants.{Want, Take, Back}
 use Rattle.shm_ref.specs.declared.hold.HoldState.{HoldState}

@@ -35,9 +35,10 @@ use Rattle.shm_count.specs.CountParts.{StepLeaves, down_part, down_part_laws}
 use Rattle.shm_count.specs.DyingBlocks.{live_room}
 use Rattle.shm_count.specs.Roots.{root_step, root_word, RootLowered}
 use Rattle.shm_count.specs.StepControl.{IsInside}
-use Rattle.shm_count.specs.StepFits.{core, CanStep}
+use Rattle.shm_graph.specs.Core.{core}
+use Rattle.shm_count.specs.StepFits.{CanStep}
 use Rattle.shm_count.specs.StepMachines.{down_control, down_told}
-use Rattle.shm_count.specs.StepMemos.{called_core, room_least}
+use Rattle.shm_steps.proofs.Cores.{called_core, room_least}
 use Rattle.shm_count.proofs.RootLeaves.{root_leaves}
 use Rattle.shm_count.proofs.RootSpots.{fits_root, root_can}
 use Rattle.shm_count.proofs.StepBound.{step_bound}

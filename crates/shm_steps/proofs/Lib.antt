@@ -38,3 +38,5 @@ pub mod Reaching
 pub mod Seeking
 pub mod HeldOver
 pub mod UnlatchedValue
+pub mod Cores
+pub mod WordsOwn

@@ -21,7 +21,7 @@ use Rattle.shm_graph.specs.Runs.{MayBegin, account_at, account_after, account_en
 use Rattle.shm_graph.specs.Whole.{fits_now, gives_now}
 use Rattle.shm_graph.proofs.Going.{account_acts-on, account_acts-here, whole_back}
 use Rattle.shm_graph.proofs.MemoSteps.{acts_after, acts-entered, agents_after, ends_agent, last-with_last, memo_agents, with_some}
-use Rattle.shm_count.specs.StepMemos.{recovers_after}
+use Rattle.shm_calls.specs.SameAgent.{recovers_on}
 use Rattle.shm_plain.specs.Pools.{Pool, IsOf, IsRun, MayStep, memo_of, readied, turn_on, turned}
 use Rattle.shm_plain.specs.Tracks.{kind_next}
 use Rattle.shm_plain.proofs.Turning.{ready_memo}
@@ -180,7 +180,7 @@ module _ {M A : Type 0} (k : Control M A) (fits : M → Memo → Memo → Trail 
 
     -- its agent is of the kind that it was of
     pub went_kind : recovers (memo_of q' c) ≡ recovers (memo_of (readied p c) c)
-    went_kind = ap (λ (x : Account). recovers x.memo) here ∙ (recovers_after (memo_of r c) t (asked_spot (memo_of r c) t) ∙ went.kind)
+    went_kind = ap (λ (x : Account). recovers x.memo) here ∙ (recovers_on (memo_of r c) t (asked_spot (memo_of r c) t) ∙ went.kind)
 
     called : length (memo_of q' c).call ≡ asked q n + 1
     called = ap (λ (z : Account). length z.memo.call) here ∙ length-append (call_before (k.fresh n) (memo_of r c).call) _
