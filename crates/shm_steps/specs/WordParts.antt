@@ -1,16 +1,14 @@
 -- what single word steps find, and what they leave of the memo of their identity, one kind after the other
-use Rattle.std.specs.Prelude.{◌≡◌, ◌≢◌, ℕ, ◌+◌, ◌<◌, ◌&&◌, not, ◌==◌, if◌then◌else◌, None, Some, [], ◌∷◌, ◌++◌, slice_index}
+use Rattle.std.specs.Prelude.{◌≡◌, ◌≢◌, ℕ, ◌+◌, true, ◌==◌, if◌then◌else◌, None, Some, [], ◌∷◌, ◌++◌, slice_index}
 use Rattle.std.specs.List.{Contains, filter}
 use Rattle.shm_words.specs.declared.geometry.Geometry.{Geometry}
 use Rattle.shm_graph.specs.declared.spot.Spot.{Spot}
-use Rattle.shm_graph.specs.declared.spot.Spot.TheVariants.{Hold, Home, Era, Root, Tail, Front, Slot, Page, Head, Tag, Body}
-use Rattle.shm_graph.specs.declared.memo.Fact.{Fact}
+use Rattle.shm_graph.specs.declared.spot.Spot.TheVariants.{Hold, Home, Era, Tail, Front, Slot, Page, Head, Tag, Body}
 use Rattle.shm_graph.specs.declared.memo.Fact.TheVariants.{Header as HeaderRead, Counter, Class}
 use Rattle.shm_graph.specs.declared.memo.Memo.{Memo}
 use Rattle.shm_graph.specs.declared.memo.Op.TheVariants.{Nothing}
-use Rattle.shm_graph.specs.declared.memo.Status.{Status}
 use Rattle.shm_graph.specs.declared.memo.Status.TheVariants as status
-use Rattle.shm_graph.specs.Agents.{recovers, with_status}
+use Rattle.shm_graph.specs.Agents.{recovers}
 use Rattle.shm_graph.specs.Core.{core}
 use Rattle.shm_graph.specs.Held.{status_word}
 use Rattle.shm_graph.specs.Laws.{GoneNow}
@@ -18,7 +16,7 @@ use Rattle.shm_graph.specs.Reach.{learnt, unlatched}
 use Rattle.shm_graph.specs.Readings.{op_refused, reference_read, test_from, test_on, valued}
 use Rattle.shm_graph.specs.Spots.{segment_of}
 use Rattle.shm_graph.specs.Stores.{with_own, written, tail_stored, head_stored, not_segment, era_stored}
-use Rattle.shm_graph.specs.Views.{own_word}
+use Rattle.shm_graph.specs.Views.{own_word, owner_is}
 
 -- ---- the form
 
@@ -88,9 +86,9 @@ EraStored c = Makes (λ m. era_stored c m (Era c c) (own_word m.own (Era c c) + 
 
 -- ---- counters: eras of rows, tails and heads
 
--- one is loaded, and joins what was read; `finds` is what the memo shows of it
-abbrev pub CountLoaded : (Memo → ℕ → Type 0) → Spot → Memo → ℕ → Memo → Type 0
-CountLoaded finds p = Leaves finds same_memo (λ m n x. Contains x.facts (Counter p n))
+-- one is loaded, and joins what was read; the memo shows an own one
+abbrev pub CountLoaded : ℕ → Spot → Memo → ℕ → Memo → Type 0
+CountLoaded c p = Leaves (λ m n. owner_is c p ≡ true → own_at p m n) same_memo (λ m n x. Contains x.facts (Counter p n))
 
 -- ---- homes and latches
 
