@@ -63,7 +63,7 @@ era_core me f m at i j n =
     ∙ called_core m t
 
 -- what was read of tails and heads outlives the calls, and so each word step
-called_count : (m : Memo) (t : Step) (k : Fact) → is_lane_count k ≡ true → Contains m.facts k → Contains (called m t).facts k
+pub called_count : (m : Memo) (t : Step) (k : Fact) → is_lane_count k ≡ true → Contains m.facts k → Contains (called m t).facts k
 called_count m t k lane h = called_by (λ (x : Memo). Contains x.facts k) m t (Contains-filter is_lane_count m.facts k h lane) h
 
 pub era_counts : (me : Me) (f : Frame) (m : Memo) (at i j n : ℕ) (k : Fact) → is_lane_count k ≡ true → Contains m.facts k → Contains (memo_on m (framed me (Load at) f n) (spot.Era i j)).facts k

@@ -40,3 +40,5 @@ pub mod HeldOver
 pub mod UnlatchedValue
 pub mod Cores
 pub mod WordsOwn
+pub mod WordsShared
+pub mod WordsQueues

@@ -1,5 +1,5 @@
 -- what single word steps find, and what they leave of the memo of their identity, one kind after the other
-use Rattle.std.specs.Prelude.{◌≡◌, ◌≢◌, ℕ, ◌+◌, true, ◌==◌, if◌then◌else◌, None, Some, [], ◌∷◌, ◌++◌, slice_index}
+use Rattle.std.specs.Prelude.{◌≡◌, ◌≢◌, ℕ, ◌+◌, ◌%◌, ◌<◌, true, ◌==◌, if◌then◌else◌, ◌⊎◌, None, Some, [], ◌∷◌, ◌++◌, slice_index}
 use Rattle.std.specs.List.{Contains, filter}
 use Rattle.shm_words.specs.declared.geometry.Geometry.{Geometry}
 use Rattle.shm_graph.specs.declared.spot.Spot.{Spot}
@@ -131,6 +131,23 @@ abbrev pub PageLoaded : ℕ → ℕ → Memo → ℕ → Memo → Type 0
 PageLoaded s q = Leaves any_word same_memo (λ m n x. (n ≢ 0 → Contains x.facts (Class s q n)) × (n ≡ 0 → Contains m.owned s → Contains x.zeros (Page s q)))
 
 -- ---- queues
+
+-- slot k is the next one of the queue to another of the n clients, no step is in progress, and there is room: a block waits there for its tail, or a head that was read leaves some
+pub record IsTailSlot (n c : ℕ) (m : Memo) (i k : ℕ) : Type 0 where
+  pub to : i < n
+  pub other : c ≢ i
+  pub idle : m.op ≡ Nothing
+  pub next : k ≡ own_word m.own (Tail c i) % 8
+  pub room : (slice_index m.unsent i ≢ 0) ⊎ ((y : ℕ) × Contains m.facts (Counter (Front c i) y) × (own_word m.own (Tail c i) < y + 8))
+
+-- slot k is the head slot of the queue from another of the n clients, no step is in progress, a tail that was read is above the head, and the item isn't taken
+pub record IsHeadSlot (n c : ℕ) (m : Memo) (s k : ℕ) : Type 0 where
+  pub from : s < n
+  pub other : s ≢ c
+  pub idle : m.op ≡ Nothing
+  pub place : k ≡ own_word m.own (Front s c) % 8
+  pub left : slice_index m.untaken s ≡ 0
+  pub some : (y : ℕ) × Contains m.facts (Counter (Tail s c) y) × (own_word m.own (Front s c) < y)
 
 -- the slot at an own tail is loaded: it has the block whose tail isn't stored
 abbrev pub TailSlotLoaded : ℕ → Memo → ℕ → Memo → Type 0
