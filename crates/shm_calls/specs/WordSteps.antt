@@ -39,7 +39,7 @@ module _ (first : Bool) (me : Me) (a : Ask) (after : Memo → ℕ → Memo → T
 
   -- what the step makes of the memo
   abbrev pub Makes : Type 0
-  Makes = (w : Spot → ℕ) (r : ℕ → Memo) (f : Frame) → Stands me w r f [] → r me.who ≡ m → after m (seen_of a (w p)) (memo_on (r me.who) (framed me a f (seen_of a (w p))) p)
+  Makes = (w : Spot → ℕ) (r : ℕ → Memo) (f : Frame) → Stands me w r f [] → MayStand first f → r me.who ≡ m → after m (seen_of a (w p)) (memo_on (r me.who) (framed me a f (seen_of a (w p))) p)
 
   -- it is no event, whatever is found
   abbrev pub NoEvent : Type 0
@@ -49,7 +49,7 @@ module _ (first : Bool) (me : Me) (a : Ask) (after : Memo → ℕ → Memo → T
   kept_there there kind makes w r f st may same =
       let e = there w r f st same in
       let k = subst (KeptAt me w r a f (λ n x. Unit {0})) e (kind w r f st may same) in
-      subst (KeptAt me w r a f (after m)) (sym e) (record { told = k.told; step = k.step; fits = makes w r f st same })
+      subst (KeptAt me w r a f (after m)) (sym e) (record { told = k.told; step = k.step; fits = makes w r f st may same })
 
   quiet_there : IsThere → NoEvent → IsQuiet me a m
   quiet_there there none w r f st same =

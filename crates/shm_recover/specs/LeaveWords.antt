@@ -77,7 +77,7 @@ module _ (m : LeaveState) (r : Memo) where
     pub look_word : (first : Bool) → IsWord first me (leave_ask m Look) (LeaveFound m Look) (record { me = me; ask = leave_ask m Look; over = false }) r
     look_word first =
         load_at first me at (LeaveFound m Look) r (Segment s) segment_there (λ e. cc) refl tt
-        (λ w rs f st same. let tie = st.held.segments c st.who in (
+        (λ w rs f st may same. let tie = st.held.segments c st.who in (
           called_core (rs c) (framed me (ask.Load at) f (w (Segment s))) ∙ ap core same,
           λ e. subst (λ (x : Memo). Contains x.owned s) same (tie.all s e),
           λ n has. n (tie.listed s (subst (λ (x : Memo). Contains x.owned s) (sym same) has)),
@@ -88,7 +88,7 @@ module _ (m : LeaveState) (r : Memo) where
     give_word h has =
         word_at false me (leave_ask m Give) (LeaveFound m Give) r (Segment s) segment_there (λ e. cc) refl
         (λ w rs f st may same. given_up me w rs f [] at s st (may refl) (segment_there (classes w)) (record { here = subst IsHere (sym same) h.may.may.here; idle = ap (λ (x : Memo). x.making) same ∙ h.may.making; owned = subst (λ (x : Memo). Contains x.owned s) (sym same) has }))
-        (λ w rs f st same. let without : Memo → Memo = λ x. core (record x { owned = filter (not_segment s) x.owned }) in
+        (λ w rs f st may same. let without : Memo → Memo = λ x. core (record x { owned = filter (not_segment s) x.owned }) in
         ap without (called_core (rs c) (framed me (ask.Store at 0) f 0)) ∙ ap without same)
 
   module _ (h : IsLeaving me me.geometry.segments r) where
@@ -119,4 +119,4 @@ module _ (m : LeaveState) (r : Memo) where
         let gone : (rs : ℕ → Memo) → rs c ≡ r → GoneNow c (rs c) = λ rs same. subst (GoneNow c) (sym same) all_done in
         word_at first me (leave_ask m point.Status) (LeaveFound m point.Status) r (Status c) status_there (λ e. cc) refl
         (λ w rs f st may same. gone_kept me w rs f [] (address me.geometry (place.Status c)) (λ n x. Unit {0}) st (status_there (classes w)) (gone rs same) tt)
-        (λ w rs f st same. (refl, called_by (GoneNow c) (rs c) (framed me (leave_ask m point.Status) f 0) (gone rs same) (gone rs same)))
+        (λ w rs f st may same. (refl, called_by (GoneNow c) (rs c) (framed me (leave_ask m point.Status) f 0) (gone rs same) (gone rs same)))

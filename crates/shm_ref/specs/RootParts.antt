@@ -67,7 +67,7 @@ module _ (me : Me) (k : ℕ) (l : me.who < me.geometry.clients) (s : k < 16) whe
   pub load_needs : (first : Bool) (m : Memo) → (load_part me k first).needs (record { me = me; ask = ask.Load at; over = false }) m
   load_needs first m =
       load_at first me at (IsFound me k) m (Root c k) root_there (λ e. cc) refl tt
-      (λ w r f st same. (sym (st.held.mine c st.who (Root c k) (eq-eqb c c refl)) ∙ ap (λ (x : Memo). root_word c x k) same, called_core (r c) (framed me (ask.Load at) f (w (Root c k))) ∙ ap core same))
+      (λ w r f st may same. (sym (st.held.mine c st.who (Root c k) (eq-eqb c c refl)) ∙ ap (λ (x : Memo). root_word c x k) same, called_core (r c) (framed me (ask.Load at) f (w (Root c k))) ∙ ap core same))
 
   -- in a held state a root with no step in progress names a counted block of the pool, and the own era is one that a header has room for
   abbrev pub Names : Memo → Type 0

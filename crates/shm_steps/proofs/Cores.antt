@@ -38,7 +38,10 @@ use Rattle.shm_graph.proofs.Spotting.{same_spot_self, same_spot_is, same_spot_no
 use Rattle.shm_steps.specs.Conditions.{IsHere}
 use Rattle.shm_words.specs.Headers.{header_of}
 use Rattle.shm_words.specs.Redos.{redo_word}
+use Rattle.shm_words.specs.declared.geometry.Geometry.{Geometry}
 use Rattle.shm_graph.specs.Core.{core}
+use Rattle.shm_graph.specs.Ops.{is_op, slot_of}
+use Rattle.shm_graph.specs.Stores.{stored_on}
 use Rattle.shm_calls.specs.SameAgent.{recovers_called}
 
 -- the cores of memos that are chosen alike
@@ -118,3 +121,11 @@ reach_same c m m' b roots home known looks =
 -- an identity that is here is so where its status is the same
 pub here_same : (r r' : Memo) → r'.status ≡ r.status → IsHere r → IsHere r'
 here_same r r' e h = record { joined = λ z. h.joined (sym e ∙ z); stays = λ z. h.stays (sym e ∙ z) }
+
+-- the slot is that of the step in progress
+abbrev pub HasSlot : Memo → Spot → Type 0
+HasSlot m p = (is_op m.op ≡ true) × (slot_of m.op ≡ p)
+
+-- in a block it is the store of the step's word
+pub body_word : (g : Geometry) (c b i v : ℕ) (m : Memo) → HasSlot m (spot.Body b i) → ◌≡◌ {A = Memo} (stored_on g c m (spot.Body b i) v) (record (written m) { known = learnt (spot.Body b i) v m.known })
+body_word g c b i v m h = cond-true _ _ _ (and_from _ _ h.0 (ap (λ q. same_spot q (spot.Body b i)) h.1 ∙ same_spot_self (spot.Body b i)))

@@ -42,3 +42,5 @@ pub mod Cores
 pub mod WordsOwn
 pub mod WordsShared
 pub mod WordsQueues
+pub mod WordsBlocks
+pub mod WordsTest

@@ -69,7 +69,7 @@ module _ (first : Bool) (me : Me) (m : Memo) (l : me.who < me.geometry.clients) 
       → IsWord first me (Load (address me.geometry q)) (OwnLoaded p) (word_for me (Load (address me.geometry q))) m
   own_load q p at mine may left =
       load_at first me (address me.geometry q) (OwnLoaded p) m p at.0 at.1 at.2 may
-      (λ w r f st same. let t : Step = framed me (Load (address me.geometry q)) f (w p) in
+      (λ w r f st stands same. let t : Step = framed me (Load (address me.geometry q)) f (w p) in
       record {
         found = sym (st.held.mine c st.who p mine) ∙ ap (λ (x : Memo). own_word x.own p) same;
         left = left (called (r c) t) (test_before (r c) t) (w p) (recovers_called (r c) t ∙ ap recovers same) (at_step r c m t same);
@@ -95,7 +95,7 @@ module _ (first : Bool) (me : Me) (m : Memo) (l : me.who < me.geometry.clients) 
   hold_end may =
       let at : ℕ = address me.geometry (place.Hold c) in
       load_at first me at (HoldLoaded c) m (Hold c) (λ class. spot-place me.geometry class (place.Hold c) (lt-ltb c me.geometry.clients l)) (λ e. cc) refl (λ e same. may e)
-      (λ w r f st same. let t : Step = framed me (Load at) f (w (Hold c)) in let x : Memo = called (r c) t in
+      (λ w r f st stands same. let t : Step = framed me (Load at) f (w (Hold c)) in let x : Memo = called (r c) t in
       record {
         found = sym (st.held.mine c st.who (Hold c) (eq-eqb c c refl)) ∙ ap (λ (y : Memo). own_word y.own (Hold c)) same;
         left =
@@ -116,7 +116,7 @@ module _ (first : Bool) (me : Me) (m : Memo) (l : me.who < me.geometry.clients) 
   era_load i j li lj =
       let at : ℕ = address me.geometry (place.Era i j) in
       load_at first me at (CountLoaded c (Era i j)) m (Era i j) (λ class. spot-place me.geometry class (place.Era i j) (and_from _ _ (lt-ltb i me.geometry.clients li) (lt-ltb j me.geometry.clients lj))) (λ e. cc) refl tt
-      (λ w r f st same. let t : Step = framed me (Load at) f (w (Era i j)) in let x : Memo = called (r c) t in let n : ℕ = w (Era i j) in
+      (λ w r f st stands same. let t : Step = framed me (Load at) f (w (Era i j)) in let x : Memo = called (r c) t in let n : ℕ = w (Era i j) in
       record {
         found = λ mine. sym (st.held.mine c st.who (Era i j) mine) ∙ ap (λ (y : Memo). own_word y.own (Era i j)) same;
         left = choice (λ (y : Memo). core y ≡ core m) (eqb j c && not (eqb i c)) (row_read c x (test_before (r c) t) i n) (record x { facts = Counter (Era i j) n ∷ x.facts }) (λ z. at_step r c m t same) (λ z. at_step r c m t same);
@@ -131,14 +131,14 @@ module _ (first : Bool) (me : Me) (m : Memo) (l : me.who < me.geometry.clients) 
   tail_load s i ls li =
       let at : ℕ = address me.geometry (place.Tail s i) in
       load_at first me at (CountLoaded c (Tail s i)) m (Tail s i) (λ class. spot-place me.geometry class (place.Tail s i) (and_from _ _ (lt-ltb s me.geometry.clients ls) (lt-ltb i me.geometry.clients li))) (λ e. cc) refl tt
-      (λ w r f st same. record { found = λ mine. sym (st.held.mine c st.who (Tail s i) mine) ∙ ap (λ (y : Memo). own_word y.own (Tail s i)) same; left = at_step r c m (framed me (Load at) f (w (Tail s i))) same; read = (0, omega arith, refl) })
+      (λ w r f st stands same. record { found = λ mine. sym (st.held.mine c st.who (Tail s i) mine) ∙ ap (λ (y : Memo). own_word y.own (Tail s i)) same; left = at_step r c m (framed me (Load at) f (w (Tail s i))) same; read = (0, omega arith, refl) })
 
   -- a head
   pub head_load : (s i : ℕ) → s < me.geometry.clients → i < me.geometry.clients → IsWord first me (Load (address me.geometry (place.Head s i))) (CountLoaded c (Front s i)) (word_for me (Load (address me.geometry (place.Head s i)))) m
   head_load s i ls li =
       let at : ℕ = address me.geometry (place.Head s i) in
       load_at first me at (CountLoaded c (Front s i)) m (Front s i) (λ class. spot-place me.geometry class (place.Head s i) (and_from _ _ (lt-ltb s me.geometry.clients ls) (lt-ltb i me.geometry.clients li))) (λ e. cc) refl tt
-      (λ w r f st same. record { found = λ mine. sym (st.held.mine c st.who (Front s i) mine) ∙ ap (λ (y : Memo). own_word y.own (Front s i)) same; left = at_step r c m (framed me (Load at) f (w (Front s i))) same; read = (0, omega arith, refl) })
+      (λ w r f st stands same. record { found = λ mine. sym (st.held.mine c st.who (Front s i) mine) ∙ ap (λ (y : Memo). own_word y.own (Front s i)) same; left = at_step r c m (framed me (Load at) f (w (Front s i))) same; read = (0, omega arith, refl) })
 
   -- ---- stores
 
@@ -150,7 +150,7 @@ module _ (first : Bool) (me : Me) (m : Memo) (l : me.who < me.geometry.clients) 
     pub store_at : KindKept first me ask (Makes F) m p → ((x : Memo) → core x ≡ core m → core (stored_on me.geometry c x p v) ≡ core (F m)) → IsWord first me ask (Makes F) (word_for me ask) m
     store_at kind left =
         word_at first me ask (Makes F) m p at.0 at.1 at.2 kind
-        (λ w r f st same. record { found = tt; left = left (called (r c) (framed me ask f 0)) (at_step r c m (framed me ask f 0) same); read = tt })
+        (λ w r f st stands same. record { found = tt; left = left (called (r c) (framed me ask f 0)) (at_step r c m (framed me ask f 0) same); read = tt })
 
   hold_placed : IsPlaced (place.Hold c) (Hold c)
   hold_placed = (λ class. spot-place me.geometry class (place.Hold c) (lt-ltb c me.geometry.clients l), λ e. cc, refl)
@@ -185,7 +185,7 @@ module _ (first : Bool) (me : Me) (m : Memo) (l : me.who < me.geometry.clients) 
       let gone : (r : ℕ → Memo) → r c ≡ m → GoneNow c (r c) = λ r same. subst (GoneNow c) (sym same) done in
       word_at first me (Store at 3) (GoneStored c) m (Status c) status_placed.0 status_placed.1 status_placed.2
       (λ w r f st may same. gone_kept me w r f [] at (λ n x. Unit {0}) st (status_placed.0 (classes w)) (gone r same) tt)
-      (λ w r f st same. let t : Step = framed me (Store at 3) f 0 in
+      (λ w r f st stands same. let t : Step = framed me (Store at 3) f 0 in
       record { found = tt; left = ap (λ (y : Memo). core (record y { status = status.Gone })) (at_step r c m t same); read = called_by (GoneNow c) (r c) t (gone r same) (gone r same) })
 
   -- the own row, after an own word step

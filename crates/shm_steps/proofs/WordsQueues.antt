@@ -71,7 +71,7 @@ module _ (first : Bool) (me : Me) (m : Memo) (l : me.who < me.geometry.clients) 
       let at : ℕ = address me.geometry (place.Slot c i k) in
       let low : k < 8 = (let e = a.next in omega arith) in
       load_at first me at (TailSlotLoaded i) m (Slot c i k) (slot_there c i k l a.to low) (λ e. cc) refl tt
-      (λ w r f st same. let t : Step = framed me (Load at) f (w (Slot c i k)) in let x : Memo = called (r c) t in let n : ℕ = w (Slot c i k) in
+      (λ w r f st stands same. let t : Step = framed me (Load at) f (w (Slot c i k)) in let x : Memo = called (r c) t in let n : ℕ = w (Slot c i k) in
       record {
         found = tail_word w r st.held i k (subst (λ (y : Memo). IsTailSlot me.geometry.clients c y i k) (sym same) a) ∙ ap (λ (y : Memo). slice_index y.unsent i) same;
         left =
@@ -100,7 +100,7 @@ module _ (first : Bool) (me : Me) (m : Memo) (l : me.who < me.geometry.clients) 
       let at : ℕ = address me.geometry (place.Slot s c k) in
       let low : k < 8 = (let e = a.place in omega arith) in
       load_at first me at (HeadSlotLoaded c s k) m (Slot s c k) (slot_there s c k a.from l low) (λ e. cc) refl tt
-      (λ w r f st same. let t : Step = framed me (Load at) f (w (Slot s c k)) in let x : Memo = called (r c) t in let n : ℕ = w (Slot s c k) in
+      (λ w r f st stands same. let t : Step = framed me (Load at) f (w (Slot s c k)) in let x : Memo = called (r c) t in let n : ℕ = w (Slot s c k) in
       let here : IsHeadSlot me.geometry.clients c (r c) s k = subst (λ (y : Memo). IsHeadSlot me.geometry.clients c y s k) (sym same) a in
       let some : n ≢ 0 = head_word w r st.held s k here in
       let own : own_word x.own (Front s c) ≡ own_word m.own (Front s c) = ap (λ (y : Memo). own_word y.own (Front s c)) (at_step r c m t same) in

@@ -58,7 +58,7 @@ module _ (first : Bool) (me : Me) (m : Memo) (l : me.who < me.geometry.clients) 
     pub latch_load : IsWord first me (Load (address me.geometry (place.Latch a))) (LatchLoaded c a) (word_for me (Load (address me.geometry (place.Latch a)))) m
     latch_load =
         load_at first me (address me.geometry (place.Latch a)) (LatchLoaded c a) m (Latch a) latch_there (λ e. cc) refl tt
-        (λ w r f st same. let tie = st.held.latch c st.who in
+        (λ w r f st stands same. let tie = st.held.latch c st.who in
         record {
           found = (λ e. sym (ap (λ (x : Memo). x.latch) same) ∙ tie.all a e, λ e. (tie.some a (ap (λ (x : Memo). x.latch) same ∙ e)).0);
           left = at_step r c m (framed me (Load (address me.geometry (place.Latch a))) f (w (Latch a))) same;
@@ -75,7 +75,7 @@ module _ (first : Bool) (me : Me) (m : Memo) (l : me.who < me.geometry.clients) 
           | inl e ↦ latched me w r f [] at a st (stands going) (latch_there (classes w)) e (subst (λ (x : Memo). MayLatch c x a) (sym same) may)
           | inr other ↦ lost_kept me w r f [] at 0 (c + 1) (λ n x. Unit {0}) (Latch a) st (latch_there (classes w)) refl tt other tt
         ])
-        (λ w r f st same. let t : Step = framed me ask f (w (Latch a)) in record { found = tt; left = taken f.ends (called (r c) t) (at_step r c m t same) (eqb (w (Latch a)) 0); read = tt })
+        (λ w r f st stands same. let t : Step = framed me ask f (w (Latch a)) in record { found = tt; left = taken f.ends (called (r c) t) (at_step r c m t same) (eqb (w (Latch a)) 0); read = tt })
       where
         taken : (ends : Bool) (x : Memo) → core x ≡ core m → (q : Bool) → core (with_end ends (with_call x (cond q (record x { latch = Some a }) x))) ≡ core (cond q (record m { latch = Some a }) m)
         taken ends x e true = ap (λ (y : Memo). core (record y { latch = Some a })) e
@@ -93,7 +93,7 @@ module _ (first : Bool) (me : Me) (m : Memo) (l : me.who < me.geometry.clients) 
     home_look holds =
         let at : ℕ = address me.geometry (place.Home a) in
         load_at first me at (HomeLooked c a) m (Home a) home_there (λ e. cc) refl tt
-        (λ w r f st same. let t : Step = framed me (Load at) f (w (Home a)) in
+        (λ w r f st stands same. let t : Step = framed me (Load at) f (w (Home a)) in
         record {
           found = λ mine. sym (st.held.mine c st.who (Home a) (eq-eqb c a (sym mine))) ∙ ap (λ (y : Memo). own_word y.own (Home a)) same;
           left = looked (called (r c) t) (at_step r c m t same) (w (Home a)) (eqb (w (Home a)) 0) (ap (λ (y : Memo). is_held y.latch a) (at_step r c m t same) ∙ (ap (λ o. is_held o a) holds ∙ eq-eqb a a refl));
@@ -112,7 +112,7 @@ module _ (first : Bool) (me : Me) (m : Memo) (l : me.who < me.geometry.clients) 
     home_load holds =
         let at : ℕ = address me.geometry (place.Home a) in
         load_at first me at (HomeLoaded c a) m (Home a) home_there (λ e. cc) refl tt
-        (λ w r f st same. let t : Step = framed me (Load at) f (w (Home a)) in let x : Memo = called (r c) t in let n : ℕ = w (Home a) in
+        (λ w r f st stands same. let t : Step = framed me (Load at) f (w (Home a)) in let x : Memo = called (r c) t in let n : ℕ = w (Home a) in
         record {
           found = λ mine. sym (st.held.mine c st.who (Home a) (eq-eqb c a (sym mine))) ∙ ap (λ (y : Memo). own_word y.own (Home a)) same;
           left =
@@ -132,7 +132,7 @@ module _ (first : Bool) (me : Me) (m : Memo) (l : me.who < me.geometry.clients) 
     pub segment_load : IsWord first me (Load (address me.geometry (place.Segment s))) (SegmentLoaded c s) (word_for me (Load (address me.geometry (place.Segment s)))) m
     segment_load =
         load_at first me (address me.geometry (place.Segment s)) (SegmentLoaded c s) m (Segment s) segment_there (λ e. cc) refl tt
-        (λ w r f st same. let tie = st.held.segments c st.who in
+        (λ w r f st stands same. let tie = st.held.segments c st.who in
         record {
           found = (λ e. subst (λ (x : Memo). Contains x.owned s) same (tie.all s e), λ has. tie.listed s (subst (λ (x : Memo). Contains x.owned s) (sym same) has));
           left = at_step r c m (framed me (Load (address me.geometry (place.Segment s))) f (w (Segment s))) same;
@@ -149,7 +149,7 @@ module _ (first : Bool) (me : Me) (m : Memo) (l : me.who < me.geometry.clients) 
           | inl e ↦ claimed me w r f [] at s st (stands going) (segment_there (classes w)) e (subst IsHere (sym same) here)
           | inr other ↦ lost_kept me w r f [] at 0 (c + 1) (λ n x. Unit {0}) (Segment s) st (segment_there (classes w)) refl tt other tt
         ])
-        (λ w r f st same. let t : Step = framed me ask f (w (Segment s)) in record { found = tt; left = taken f.ends (called (r c) t) (at_step r c m t same) (eqb (w (Segment s)) 0); read = tt })
+        (λ w r f st stands same. let t : Step = framed me ask f (w (Segment s)) in record { found = tt; left = taken f.ends (called (r c) t) (at_step r c m t same) (eqb (w (Segment s)) 0); read = tt })
       where
         taken : (ends : Bool) (x : Memo) → core x ≡ core m → (q : Bool) → core (with_end ends (with_call x (cond q (record x { owned = s ∷ x.owned }) x))) ≡ core (cond q (record m { owned = s ∷ m.owned }) m)
         taken ends x e true = ap (λ (y : Memo). core (record y { owned = s ∷ y.owned })) e
@@ -167,7 +167,7 @@ module _ (first : Bool) (me : Me) (m : Memo) (l : me.who < me.geometry.clients) 
     page_load q lq =
         let at : ℕ = address me.geometry (place.Page s q) in
         load_at first me at (PageLoaded s q) m (Page s q) (λ class. spot-place me.geometry class (place.Page s q) (and_from _ _ (lt-ltb s me.geometry.segments ls) (lt-ltb q 16 lq))) (λ e. cc) refl tt
-        (λ w r f st same. let t : Step = framed me (Load at) f (w (Page s q)) in let x : Memo = called (r c) t in let n : ℕ = w (Page s q) in
+        (λ w r f st stands same. let t : Step = framed me (Load at) f (w (Page s q)) in let x : Memo = called (r c) t in let n : ℕ = w (Page s q) in
         record {
           found = tt;
           left =

@@ -1,5 +1,5 @@
 -- what single word steps find, and what they leave of the memo of their identity, one kind after the other
-use Rattle.std.specs.Prelude.{◌≡◌, ◌≢◌, ℕ, ◌+◌, ◌%◌, ◌<◌, true, ◌==◌, if◌then◌else◌, ◌⊎◌, None, Some, [], ◌∷◌, ◌++◌, slice_index}
+use Rattle.std.specs.Prelude.{◌≡◌, ◌≢◌, ℕ, ◌+◌, ◌%◌, ◌<◌, ◌≤◌, true, ◌==◌, if◌then◌else◌, ◌⊎◌, None, Some, [], ◌∷◌, ◌++◌, slice_index}
 use Rattle.std.specs.List.{Contains, filter}
 use Rattle.shm_words.specs.declared.geometry.Geometry.{Geometry}
 use Rattle.shm_graph.specs.declared.spot.Spot.{Spot}
@@ -12,10 +12,11 @@ use Rattle.shm_graph.specs.Agents.{recovers}
 use Rattle.shm_graph.specs.Core.{core}
 use Rattle.shm_graph.specs.Held.{status_word}
 use Rattle.shm_graph.specs.Laws.{GoneNow}
-use Rattle.shm_graph.specs.Reach.{learnt, unlatched}
+use Rattle.shm_graph.specs.Reach.{is_reached, learnt, unlatched}
 use Rattle.shm_graph.specs.Readings.{op_refused, reference_read, test_from, test_on, valued}
 use Rattle.shm_graph.specs.Spots.{segment_of}
 use Rattle.shm_graph.specs.Stores.{with_own, written, tail_stored, head_stored, not_segment, era_stored}
+use Rattle.shm_graph.specs.Telling.{Claim, claims}
 use Rattle.shm_graph.specs.Views.{own_word, owner_is}
 
 -- ---- the form
@@ -167,9 +168,29 @@ HeadStored c i = Makes (λ m. head_stored m (Front i c) i (own_word m.own (Front
 
 -- ---- blocks
 
--- a header is loaded, and joins what was read; in an own segment 0 does too; a step ends that is to raise the block and finds its count full
+-- word i of block b is one after its reference words, as the memo tells it
+abbrev pub IsPlainWord : ℕ → Memo → ℕ → ℕ → Type 0
+IsPlainWord c m b i = (k : Claim) × Contains (claims c m) k × (k.block ≡ b) × (k.refs ≤ i) × (i < k.refs + k.plain)
+
+-- word i of block b is a word of a zero-count block of the identity, as the memo tells it
+abbrev pub IsDyingWord : ℕ → Memo → ℕ → ℕ → Type 0
+IsDyingWord c m b i = Contains m.dying b × ((k : Claim) × Contains (claims c m) k × (k.block ≡ b) × (i < k.refs + k.plain))
+
+-- word i of block b is a reference word, and the latch of the block's author is held, which is told too; the block is in reach
+abbrev pub IsLatchedWord : ℕ → Memo → ℕ → ℕ → Type 0
+IsLatchedWord c m b i = (is_reached c m b ≡ true) × ((k : Claim) × (a : ℕ) × Contains (claims c m) k × (k.block ≡ b) × (i < k.refs) × (k.author ≡ Some a) × (m.latch ≡ Some a))
+
+-- a header joins what was read; in an own segment 0 does too
+abbrev pub HeaderRemains : Geometry → ℕ → Memo → ℕ → Memo → Type 0
+HeaderRemains g b m n x = Contains x.facts (HeaderRead n) × (n ≡ 0 → Contains m.owned (segment_of g b) → Contains x.zeros (Head b))
+
+-- a header is loaded: a step ends that is to raise the block and finds its count full
 abbrev pub HeaderLoaded : Geometry → ℕ → Memo → ℕ → Memo → Type 0
-HeaderLoaded g b = Leaves any_word (λ m n. record m { op = op_refused m b n }) (λ m n x. Contains x.facts (HeaderRead n) × (n ≡ 0 → Contains m.owned (segment_of g b) → Contains x.zeros (Head b)))
+HeaderLoaded g b = Leaves any_word (λ m n. record m { op = op_refused m b n }) (HeaderRemains g b)
+
+-- where no step could end so the memo stays
+abbrev pub HeaderSeen : Geometry → ℕ → Memo → ℕ → Memo → Type 0
+HeaderSeen g b = Leaves any_word same_memo (HeaderRemains g b)
 
 -- a tag, a plain word, or a word of a zero-count block is loaded: it is known
 abbrev pub WordLoaded : Spot → Memo → ℕ → Memo → Type 0
@@ -193,10 +214,10 @@ BodyStored b i v = Makes (λ m. record (written m) { known = learnt (Body b i) v
 
 -- ---- the commit test
 
--- a recoverer loads the header of a block: where it doesn't show the own era the test begins
-abbrev pub TestBegun : ℕ → ℕ → Memo → ℕ → Memo → Type 0
-TestBegun c b = Leaves any_word same_memo (λ m n x. x.test ≡ test_from c (own_word m.own (Era c c)) b n)
+-- a recoverer loads the header of a block: the test begins where the header doesn't show the own era
+abbrev pub TestBegun : Geometry → ℕ → ℕ → Memo → ℕ → Memo → Type 0
+TestBegun g c b = Leaves any_word same_memo (λ m n x. (x.test ≡ test_from c (own_word m.own (Era c c)) b n) × HeaderRemains g b m n x)
 
--- a recoverer loads the row of another identity: where it is the next one and doesn't show the own era the test goes on
-abbrev pub TestGone : ℕ → ℕ → Memo → ℕ → Memo → Type 0
-TestGone c k = Leaves any_word same_memo (λ m n x. x.test ≡ test_on c (own_word m.own (Era c c)) m.test k n)
+-- a recoverer loads the row of another identity: the test goes on where it is the next one and doesn't show the own era
+abbrev pub TestGoesOn : ℕ → ℕ → Memo → ℕ → Memo → Type 0
+TestGoesOn c k = Leaves any_word same_memo (λ m n x. (x.test ≡ test_on c (own_word m.own (Era c c)) m.test k n) × Contains x.facts (Counter (Era k c) n))
