@@ -45,7 +45,7 @@ module _ (first : Bool) (me : Me) (a : Ask) (after : Memo → ℕ → Memo → T
   abbrev pub NoEvent : Type 0
   NoEvent = (x : Memo) (t : Step) → event_by x t a p ≡ Nothing
 
-  kept_there : IsThere → KindKept → Makes → IsKept first me a m (after m)
+  pub kept_there : IsThere → KindKept → Makes → IsKept first me a m (after m)
   kept_there there kind makes w r f st may same =
       let e = there w r f st same in
       let k = subst (KeptAt me w r a f (λ n x. Unit {0})) e (kind w r f st may same) in
