@@ -44,3 +44,4 @@ pub mod WordsShared
 pub mod WordsQueues
 pub mod WordsBlocks
 pub mod WordsTest
+pub mod WordsExchanges

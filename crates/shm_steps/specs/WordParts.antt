@@ -6,10 +6,13 @@ use Rattle.shm_graph.specs.declared.spot.Spot.{Spot}
 use Rattle.shm_graph.specs.declared.spot.Spot.TheVariants.{Hold, Home, Era, Tail, Front, Slot, Page, Head, Tag, Body}
 use Rattle.shm_graph.specs.declared.memo.Fact.TheVariants.{Header as HeaderRead, Counter, Class}
 use Rattle.shm_graph.specs.declared.memo.Memo.{Memo}
+use Rattle.shm_graph.specs.declared.memo.Op.{Op}
 use Rattle.shm_graph.specs.declared.memo.Op.TheVariants.{Nothing}
 use Rattle.shm_graph.specs.declared.memo.Status.TheVariants as status
 use Rattle.shm_graph.specs.Agents.{recovers}
 use Rattle.shm_graph.specs.Core.{core}
+use Rattle.shm_graph.specs.Events.{Event, ChangeDown, Nothing as NoEvent}
+use Rattle.shm_graph.specs.Exchanges.{committed}
 use Rattle.shm_graph.specs.Held.{status_word}
 use Rattle.shm_graph.specs.Laws.{GoneNow}
 use Rattle.shm_graph.specs.Reach.{is_reached, learnt, unlatched}
@@ -211,6 +214,16 @@ SlotStored = Makes written
 
 abbrev pub BodyStored : ℕ → ℕ → ℕ → Memo → ℕ → Memo → Type 0
 BodyStored b i v = Makes (λ m. record (written m) { known = learnt (Body b i) v m.known })
+
+-- ---- the second half of a change
+
+-- the header of the block before is exchanged: the change loses the reference that it holds over, or another header was found, which joins what was read
+abbrev pub FormerLowered : ℕ → Op → ℕ → ℕ → Memo → ℕ → Memo → Type 0
+FormerLowered c o from to = Leaves any_word (λ m n. if n == from then committed c m o to else m) (λ m n x. n ≢ from → Contains x.facts (HeaderRead n))
+
+-- which is the event, where the exchange succeeds
+abbrev pub former_event : ℕ → ℕ → ℕ → ℕ → Event
+former_event c a from n = if n == from then ChangeDown c a else NoEvent
 
 -- ---- the commit test
 
