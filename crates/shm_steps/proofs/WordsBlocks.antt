@@ -1,7 +1,7 @@
 -- word steps at the headers, the tags and the words of blocks as parts: what each needs of the memo
-use Rattle.std.proofs.Common.{◌≡◌, ◌≢◌, ℕ, ◌+◌, ◌-◌, ◌/◌, ◌%◌, ◌<◌, ◌≤◌, refl, sym, ap, ◌∙◌, subst, arith, Bool, true, false, cond, eqb, leb, not, ◌&&◌, ◌||◌, List, [], ◌∷◌, ◌++◌, ◌⊎◌, inl, inr, map, get_or, Option, None, Some}
-use Rattle.std.specs.List.{All, Contains, list_any}
-use Rattle.std.proofs.lemmas.Bool.{and_from, cond-false, cond-true, eq-eqb, le-leb, lt-leb, lt-ltb, or_left, or_right, true≢false}
+use Rattle.std.proofs.Common.{◌≡◌, ◌≢◌, ℕ, ◌+◌, ◌-◌, ◌/◌, ◌%◌, ◌<◌, refl, sym, ap, ◌∙◌, subst, arith, Bool, true, false, cond, eqb, leb, not, ◌&&◌, ◌||◌, List, [], ◌∷◌, ◌++◌, map, get_or, Option, None, Some}
+use Rattle.std.specs.List.{All, Contains}
+use Rattle.std.proofs.lemmas.Bool.{and_from, cond-false, cond-true, eq-eqb, le-leb, lt-leb, lt-ltb, or_left, or_right}
 use Rattle.std.proofs.lemmas.Cmp.{nat_eq_equiv}
 use Rattle.std.proofs.lemmas.List.Elements.{All-append, All-cons, All-contains, All-map, All-nil}
 use Rattle.std.proofs.lemmas.Map.Views.{list_any-from_Contains}
@@ -14,14 +14,13 @@ use Rattle.shm_graph.specs.declared.ask.Ask.TheVariants.{Load, Store}
 use Rattle.shm_graph.specs.declared.ask.Me.{Me}
 use Rattle.shm_graph.specs.declared.spot.Spot.{Spot}
 use Rattle.shm_graph.specs.declared.spot.Spot.TheVariants.{Body, Head, Spare, Tag}
-use Rattle.shm_graph.specs.declared.memo.Fact.TheVariants.{Header as HeaderRead}
 use Rattle.shm_graph.specs.declared.memo.Memo.{Memo}
 use Rattle.shm_graph.specs.declared.memo.Op.{Op}
 use Rattle.shm_graph.specs.declared.memo.Op.TheVariants as op
 use Rattle.shm_graph.specs.declared.memo.Step.{Step}
 use Rattle.shm_graph.specs.declared.memo.Stored.{Stored}
 use Rattle.shm_graph.specs.Agents.{recovers}
-use Rattle.shm_graph.specs.Blocks.{classes, headers, IsBlock, IsLive}
+use Rattle.shm_graph.specs.Blocks.{classes, IsBlock}
 use Rattle.shm_graph.specs.Changes.{called, memo_on}
 use Rattle.shm_graph.specs.Core.{core}
 use Rattle.shm_graph.specs.Held.{HeldAt}
@@ -31,7 +30,7 @@ use Rattle.shm_graph.specs.Reach.{is_dying, is_reached, learnt, reached_blocks}
 use Rattle.shm_graph.specs.Readings.{is_held, is_latched, op_refused, raised_by, reference_read, word_read}
 use Rattle.shm_graph.specs.Spots.{class_at, segment_of, spot_at}
 use Rattle.shm_graph.specs.Stores.{op_written, written}
-use Rattle.shm_graph.specs.Telling.{Claim, Played, Directory, Entry, Other, Role, Value, bare, claim_of, claims, covers, role_claim, roles, shaped, tag_claim, tag_claims, word_of_block}
+use Rattle.shm_graph.specs.Telling.{Claim, Directory, Entry, Other, Role, Value, bare, claim_of, claims, covers, role_claim, roles, shaped, tag_claim, tag_claims, word_of_block}
 use Rattle.shm_graph.specs.Views.{view}
 use Rattle.shm_graph.proofs.Claims.{ClaimSound, claims_sound}
 use Rattle.shm_graph.proofs.Holders.{Holds, held_live_block, reach_counted}

@@ -1,5 +1,5 @@
 -- the exchange of a header in the second half of a change as a part: what it needs of the memo
-use Rattle.std.proofs.Common.{◌≡◌, ◌≢◌, ℕ, ◌<◌, refl, sym, ap, ◌∙◌, subst, arith, Bool, true, false, cond, eqb, leb, not, ◌&&◌, [], inl, inr}
+use Rattle.std.proofs.Common.{◌≡◌, ℕ, ◌<◌, refl, sym, ap, ◌∙◌, subst, arith, Bool, true, false, cond, eqb, leb, not, ◌&&◌, [], inl, inr}
 use Rattle.std.specs.List.{Contains}
 use Rattle.std.proofs.lemmas.Bool.{cases_eq, cond-false, ne_eqb}
 use Rattle.std.proofs.Math.Bool.{and-false}
@@ -20,16 +20,15 @@ use Rattle.shm_graph.specs.declared.memo.Second.TheVariants.{Closed, Open}
 use Rattle.shm_graph.specs.declared.memo.Step.{Step}
 use Rattle.shm_graph.specs.Agents.{recovers}
 use Rattle.shm_graph.specs.Blocks.{classes}
-use Rattle.shm_graph.specs.Changes.{called, memo_on, with_call, with_end}
+use Rattle.shm_graph.specs.Changes.{called}
 use Rattle.shm_graph.specs.Core.{core}
 use Rattle.shm_graph.specs.Events.{Nothing}
-use Rattle.shm_graph.specs.Exchanges.{committed, cut, exchanged_on, lowered, without_made}
-use Rattle.shm_graph.specs.Held.{HeldAt, OpTie}
+use Rattle.shm_graph.specs.Exchanges.{committed, cut, exchanged_on, without_made}
+use Rattle.shm_graph.specs.Held.{OpTie}
 use Rattle.shm_graph.specs.Laws.{event_of, framed}
 use Rattle.shm_graph.specs.References.{words_of}
 use Rattle.shm_graph.specs.Reach.{sifted}
 use Rattle.shm_graph.specs.Readings.{header_read, is_held, op_refused, raised_by}
-use Rattle.shm_graph.specs.Spots.{spot_at}
 use Rattle.shm_calls.specs.EventWords.{IsEventWord, event_in}
 use Rattle.shm_calls.specs.WordSteps.{IsThere}
 use Rattle.shm_laws.specs.Steps.{dying_after}

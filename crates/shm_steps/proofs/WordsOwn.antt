@@ -1,5 +1,5 @@
 -- word steps at own words as parts: what each needs of the memo
-use Rattle.std.proofs.Common.{◌≡◌, ◌≢◌, ℕ, ◌+◌, ◌<◌, ◌≤◌, refl, sym, ap, ◌∙◌, subst, arith, Bool, true, false, not, cond, eqb, ◌&&◌, [], ◌∷◌}
+use Rattle.std.proofs.Common.{◌≡◌, ◌≢◌, ℕ, ◌+◌, ◌<◌, refl, sym, ap, ◌∙◌, subst, arith, Bool, true, false, not, cond, eqb, ◌&&◌, [], ◌∷◌}
 use Rattle.std.specs.Prelude.{None, Option}
 use Rattle.std.specs.List.{Contains}
 use Rattle.std.proofs.lemmas.Bool.{and_from, and_parts, cond-false, cond-true, eq-eqb, eqb-true, lt-ltb, ne_eqb}
@@ -18,15 +18,14 @@ use Rattle.shm_graph.specs.declared.memo.Step.{Step}
 use Rattle.shm_graph.specs.declared.memo.Status.TheVariants as status
 use Rattle.shm_graph.specs.declared.memo.Test.{Test}
 use Rattle.shm_graph.specs.Agents.{recovers}
-use Rattle.shm_graph.specs.Asks.{Trail}
 use Rattle.shm_graph.specs.Blocks.{classes}
-use Rattle.shm_graph.specs.Changes.{called, test_before, memo_on}
+use Rattle.shm_graph.specs.Changes.{called, test_before}
 use Rattle.shm_graph.specs.Core.{core}
 use Rattle.shm_graph.specs.Laws.{GoneNow, KeptAt, MayEnd, framed}
 use Rattle.shm_graph.specs.Ops.{IsUncommitted}
 use Rattle.shm_graph.specs.Readings.{read_on, row_read}
 use Rattle.shm_graph.specs.Spots.{is_in_body, spot_at}
-use Rattle.shm_graph.specs.Stores.{era_stored, is_lowering, stored_on, with_own, written}
+use Rattle.shm_graph.specs.Stores.{era_stored, is_lowering, op_closed, stored_on, with_own, without_looks, written}
 use Rattle.shm_graph.specs.Views.{own_word, owner_is}
 use Rattle.shm_graph.proofs.Calling.{called_by}
 use Rattle.shm_graph.proofs.Keeping.{live_kept}
@@ -35,11 +34,11 @@ use Rattle.shm_graph.proofs.SpotPlaces.{spot-place}
 use Rattle.shm_graph.proofs.StatusKeeping.{dead_kept, gone_kept}
 use Rattle.shm_calls.specs.SameAgent.{recovers_called}
 use Rattle.shm_calls.specs.declared.word.Word.{Word}
-use Rattle.shm_calls.specs.Words.{IsWord}
+use Rattle.shm_calls.specs.Words.{IsWord, word_more}
 use Rattle.shm_calls.specs.WordSteps.{KindKept, load_at, word_at}
 use Rattle.shm_steps.specs.Conditions.{MayWrite}
 use Rattle.shm_steps.specs.OwnWords.{MayShow, MayHold, MayClose}
-use Rattle.shm_steps.specs.WordParts.{OwnLoaded, StatusLoaded, HoldLoaded, HoldStored, LiveStored, DeadStored, GoneStored, RowStored, EraStored, CountLoaded, Makes, NamedStored}
+use Rattle.shm_steps.specs.WordParts.{OwnLoaded, HoldLoaded, HoldStored, LiveStored, DeadStored, GoneStored, RowStored, EraClosed, EraClosedLowering, EraStored, CountLoaded, Makes, NamedStored}
 use Rattle.shm_steps.proofs.Cores.{called_core, core_cond}
 use Rattle.shm_steps.proofs.OwnStores.{hold_stored, row_stored}
 use Rattle.shm_steps.proofs.OwnStoresEra.{era_closed}
@@ -211,6 +210,25 @@ module _ (first : Bool) (me : Me) (m : Memo) (l : me.who < me.geometry.clients) 
       (λ w r f st stands same. subst (λ (x : Memo). KeptAt me w r (Store here (own_word x.own (Era c c) + 1)) f (λ n y. Unit {0}) (spot_at me.geometry (classes w) here)) same
       (era_closed me w r f [] here st (stands going) (at.0 (classes w)) (subst (λ (x : Memo). MayClose x (own_word x.own (Era c c) + 1)) (sym same) may)))
       (λ x e. ap core (cond-true (eqb c c) (era_stored c x (Era c c) v) (with_own x (Era c c) v) (eq-eqb c c refl)) ∙ (era_of_core v x ∙ (ap (λ (y : Memo). core (era_stored c y (Era c c) v)) e ∙ sym (era_of_core v m))))
+
+  -- so of a step that lowers nothing, and of one that lowers
+  abbrev era_ask : Ask
+  era_ask = Store (address me.geometry (place.Era c c)) (own_word m.own (Era c c) + 1)
+
+  abbrev closed : Memo
+  closed = record (with_own m (Era c c) (own_word m.own (Era c c) + 1)) { op = op_closed m.op (own_word m.own (Era c c) + 1) }
+
+  pub era_close : first ≡ false → is_lowering m.op ≡ false → MayClose m (own_word m.own (Era c c) + 1) → IsWord first me era_ask (EraClosed c) (word_for me era_ask) m
+  era_close going lowers may =
+      word_more first me era_ask (EraStored c) (EraClosed c) (word_for me era_ask) m
+      (λ n x h. record { found = tt; left = h.left ∙ ap core (cond-false (is_lowering m.op) (without_looks c closed) closed lowers); read = tt })
+      (era_store going may)
+
+  pub era_close_lowering : first ≡ false → is_lowering m.op ≡ true → MayClose m (own_word m.own (Era c c) + 1) → IsWord first me era_ask (EraClosedLowering c) (word_for me era_ask) m
+  era_close_lowering going lowers may =
+      word_more first me era_ask (EraStored c) (EraClosedLowering c) (word_for me era_ask) m
+      (λ n x h. record { found = tt; left = h.left ∙ ap core (cond-true (is_lowering m.op) (without_looks c closed) closed lowers); read = tt })
+      (era_store going may)
 
   -- the slot of a step in progress: a root, and the home
   pub root_store : first ≡ false → (k v : ℕ) → k < 16 → MayWrite m (Root c k) v → IsWord first me (Store (address me.geometry (place.Root c k)) v) (NamedStored (Root c k) v) (word_for me (Store (address me.geometry (place.Root c k)) v)) m

@@ -1,6 +1,6 @@
 -- the word steps of the commit test as parts: what each needs of the memo
-use Rattle.std.proofs.Common.{◌≡◌, ◌≢◌, ℕ, ◌<◌, refl, sym, ap, ◌∙◌, subst, arith, Bool, true, false, not, cond, eqb, ◌&&◌, List, [], ◌∷◌, Option, None}
-use Rattle.std.specs.List.{Contains, list_any}
+use Rattle.std.proofs.Common.{◌≡◌, ◌≢◌, ℕ, ◌<◌, refl, sym, ap, ◌∙◌, subst, arith, Bool, true, false, not, cond, eqb, ◌&&◌, List, [], ◌∷◌, None}
+use Rattle.std.specs.List.{Contains}
 use Rattle.std.proofs.lemmas.Bool.{and_from, cond-true, eq-eqb, lt-ltb, ne_eqb}
 use Rattle.std.proofs.lemmas.Cmp.{nat_eq_equiv}
 use Rattle.std.proofs.lemmas.Map.Views.{list_any-from_Contains}
@@ -12,18 +12,15 @@ use Rattle.shm_graph.specs.declared.spot.Spot.TheVariants.{Era, Head}
 use Rattle.shm_graph.specs.declared.memo.Fact.TheVariants.{Counter}
 use Rattle.shm_graph.specs.declared.memo.Memo.{Memo}
 use Rattle.shm_graph.specs.declared.memo.Step.{Step}
-use Rattle.shm_graph.specs.declared.memo.Test.{Test}
 use Rattle.shm_graph.specs.Agents.{recovers}
 use Rattle.shm_graph.specs.Changes.{called, test_before}
 use Rattle.shm_graph.specs.Core.{core}
-use Rattle.shm_graph.specs.Laws.{Frame, framed}
+use Rattle.shm_graph.specs.Laws.{framed}
 use Rattle.shm_graph.specs.Readings.{op_refused, row_read, test_from, test_on}
 use Rattle.shm_graph.specs.Spots.{segment_of}
 use Rattle.shm_graph.specs.Views.{own_word}
-use Rattle.shm_graph.proofs.LoadKeeping.{load_kept}
 use Rattle.shm_graph.proofs.SpotPlaces.{spot-place}
 use Rattle.shm_calls.specs.SameAgent.{recovers_called}
-use Rattle.shm_calls.specs.Placed.{MayStand}
 use Rattle.shm_calls.specs.Words.{IsWord}
 use Rattle.shm_calls.specs.WordSteps.{IsThere, load_at, word_in}
 use Rattle.shm_steps.specs.WordParts.{TestBegun, TestGoesOn}
@@ -47,10 +44,12 @@ module _ (first : Bool) (me : Me) (m : Memo) (l : me.who < me.geometry.clients) 
         left = header_core me (Load b) f (r c) b n true ∙ (ap (λ (y : Memo). core (record y { op = op_refused y b n })) same ∙ ap (λ o. core (record m { op = o })) (recoverer_goes_on m b n dead));
         read = (
           ap (λ z. cond z (test_from c (own_word x.own (Era c c)) b n) None) (recovers_called (r c) t ∙ (ap recovers same ∙ dead)) ∙ ap (λ (y : Memo). test_from c (own_word y.own (Era c c)) b n) (at_step r c m t same),
-          ((0, omega arith, refl),
-          λ none has. subst (λ z. Contains (cond z (Head b ∷ x.zeros) x.zeros) (Head b))
-              (sym (and_from _ _ (eq-eqb n 0 none) (list_any-from_Contains nat_eq_equiv (segment_of me.geometry b) x.owned (subst (λ (os : List ℕ). Contains os (segment_of me.geometry b)) (sym (ap (λ (y : Memo). y.owned) (at_step r c m t same))) has))))
-              (0, omega arith, refl)),
+          (
+            (0, omega arith, refl),
+            λ none has. subst (λ z. Contains (cond z (Head b ∷ x.zeros) x.zeros) (Head b))
+                (sym (and_from _ _ (eq-eqb n 0 none) (list_any-from_Contains nat_eq_equiv (segment_of me.geometry b) x.owned (subst (λ (os : List ℕ). Contains os (segment_of me.geometry b)) (sym (ap (λ (y : Memo). y.owned) (at_step r c m t same))) has))))
+                (0, omega arith, refl),
+          ),
         );
       })
 
@@ -69,8 +68,8 @@ module _ (first : Bool) (me : Me) (m : Memo) (l : me.who < me.geometry.clients) 
         left = ap core (cond-true (eqb c c && not (eqb k c)) (row_read c x (test_before (r c) t) k n) other_row row) ∙ at_step r c m t same;
         read = (
           ap (λ (y : Memo). y.test) (cond-true (eqb c c && not (eqb k c)) (row_read c x (test_before (r c) t) k n) other_row row)
-          ∙ (cond-true (recovers x && not (eqb k c)) (test_on c (own_word x.own (Era c c)) (test_before (r c) t) k n) None recovering
-          ∙ (ap (λ o. test_on c (own_word x.own (Era c c)) o k n) before ∙ ap (λ (y : Memo). test_on c (own_word y.own (Era c c)) m.test k n) (at_step r c m t same))),
+              ∙ (cond-true (recovers x && not (eqb k c)) (test_on c (own_word x.own (Era c c)) (test_before (r c) t) k n) None recovering
+              ∙ (ap (λ o. test_on c (own_word x.own (Era c c)) o k n) before ∙ ap (λ (y : Memo). test_on c (own_word y.own (Era c c)) m.test k n) (at_step r c m t same))),
           subst (λ (y : Memo). Contains y.facts (Counter (Era k c) n)) (sym (cond-true (eqb c c && not (eqb k c)) (row_read c x (test_before (r c) t) k n) other_row row)) (0, omega arith, refl),
         );
       })

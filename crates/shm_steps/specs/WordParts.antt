@@ -3,7 +3,7 @@ use Rattle.std.specs.Prelude.{◌≡◌, ◌≢◌, ℕ, ◌+◌, ◌%◌, ◌<�
 use Rattle.std.specs.List.{Contains, filter}
 use Rattle.shm_words.specs.declared.geometry.Geometry.{Geometry}
 use Rattle.shm_graph.specs.declared.spot.Spot.{Spot}
-use Rattle.shm_graph.specs.declared.spot.Spot.TheVariants.{Hold, Home, Era, Tail, Front, Slot, Page, Head, Tag, Body}
+use Rattle.shm_graph.specs.declared.spot.Spot.TheVariants.{Hold, Home, Era, Tail, Front, Slot, Page, Head, Body}
 use Rattle.shm_graph.specs.declared.memo.Fact.TheVariants.{Header as HeaderRead, Counter, Class}
 use Rattle.shm_graph.specs.declared.memo.Memo.{Memo}
 use Rattle.shm_graph.specs.declared.memo.Op.{Op}
@@ -18,7 +18,7 @@ use Rattle.shm_graph.specs.Laws.{GoneNow}
 use Rattle.shm_graph.specs.Reach.{is_reached, learnt, unlatched}
 use Rattle.shm_graph.specs.Readings.{op_refused, reference_read, test_from, test_on, valued}
 use Rattle.shm_graph.specs.Spots.{segment_of}
-use Rattle.shm_graph.specs.Stores.{with_own, written, tail_stored, head_stored, not_segment, era_stored}
+use Rattle.shm_graph.specs.Stores.{with_own, written, tail_stored, head_stored, not_segment, era_stored, op_closed, without_looks}
 use Rattle.shm_graph.specs.Telling.{Claim, claims}
 use Rattle.shm_graph.specs.Views.{own_word, owner_is}
 
@@ -87,6 +87,13 @@ RowStored c j v = Makes (λ m. with_own m (Era c j) v)
 -- the own era is stored, one more: it closes the step in progress, or a half of it
 abbrev pub EraStored : ℕ → Memo → ℕ → Memo → Type 0
 EraStored c = Makes (λ m. era_stored c m (Era c c) (own_word m.own (Era c c) + 1))
+
+-- so where the step lowers nothing, and where it lowers, whose looks are over
+abbrev pub EraClosed : ℕ → Memo → ℕ → Memo → Type 0
+EraClosed c = Makes (λ m. record (with_own m (Era c c) (own_word m.own (Era c c) + 1)) { op = op_closed m.op (own_word m.own (Era c c) + 1) })
+
+abbrev pub EraClosedLowering : ℕ → Memo → ℕ → Memo → Type 0
+EraClosedLowering c = Makes (λ m. without_looks c (record (with_own m (Era c c) (own_word m.own (Era c c) + 1)) { op = op_closed m.op (own_word m.own (Era c c) + 1) }))
 
 -- ---- counters: eras of rows, tails and heads
 
