@@ -32,8 +32,9 @@ use Rattle.shm_steps.proofs.Sifting.{dying_more}
 use Rattle.shm_count.specs.declared.point.Aim.TheVariants.{Down}
 use Rattle.shm_count.specs.declared.point.Part.TheVariants.{First}
 use Rattle.shm_count.specs.StepControl.{header_after}
-use Rattle.shm_count.specs.StepFits.{core, begun, is_row, AtFirst, slot_memo, closed_memo, Done}
-use Rattle.shm_count.specs.StepCores.{body_word}
+use Rattle.shm_graph.specs.Core.{core}
+use Rattle.shm_count.specs.StepFits.{begun, is_row, AtFirst, slot_memo, closed_memo, Done}
+use Rattle.shm_steps.proofs.Cores.{body_word}
 use Rattle.shm_count.specs.Retaining.{slots_learnt, slots_forgotten, slots_sifted, named_same, named_sifted, value_sifted}
 use Rattle.shm_count.specs.StepParts.{own_stays, rows_grow}
 use Rattle.shm_count.specs.TearMemos.{Knows, IsFound, Lowered, is_slot_word}

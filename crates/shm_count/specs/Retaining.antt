@@ -23,8 +23,8 @@ use Rattle.shm_graph.proofs.Reached.{named_here}
 use Rattle.shm_graph.proofs.Spotting.{same_spot_not}
 use Rattle.shm_laws.proofs.Keep.{Contains-filter}
 use Rattle.shm_count.specs.DyingBlocks.{dying_header}
-use Rattle.shm_count.specs.StepFits.{core}
-use Rattle.shm_count.specs.StepMemos.{roots_same}
+use Rattle.shm_graph.specs.Core.{core}
+use Rattle.shm_steps.proofs.Cores.{roots_same}
 use Rattle.shm_count.specs.TearMemos.{Stays, Knows, Retains, is_slot_word, Remains}
 use Rattle.shm_calls.specs.Parts.{IsHeld}
 use Rattle.shm_graph.specs.declared.ask.Me.{Me}

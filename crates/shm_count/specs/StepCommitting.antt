@@ -37,11 +37,14 @@ use Rattle.shm_count.specs.declared.point.Part.TheVariants.{First, Second}
 use Rattle.shm_count.specs.declared.point.Part.{Part}
 use Rattle.shm_count.specs.declared.point.Aim.TheVariants.{Change, Down, Up}
 use Rattle.shm_count.specs.declared.point.StepPoint.TheVariants as point
-use Rattle.shm_count.specs.StepCores.{set_op, stored_core, can_slot, IsSet, PointKeeps, HasSlot, IsStepSlot, is_set, is_stored, closed_core}
-use Rattle.shm_count.specs.StepFits.{NextHolds, AtFirst, core, set_memo, slot_memo, closed_memo, InHalf, CanStep, PointHolds}
+use Rattle.shm_steps.proofs.Cores.{HasSlot}
+use Rattle.shm_count.specs.StepCores.{set_op, stored_core, can_slot, IsSet, PointKeeps, IsStepSlot, is_set, is_stored, closed_core}
+use Rattle.shm_graph.specs.Core.{core}
+use Rattle.shm_count.specs.StepFits.{NextHolds, AtFirst, set_memo, slot_memo, closed_memo, InHalf, CanStep, PointHolds}
 use Rattle.shm_count.specs.StepControl.{AimFits, step_next_at, PartFits, value_after, EraFits, closed_next, raises}
-use Rattle.shm_count.specs.StepMemos.{era_room, half_status, rows_same, here_same}
 use Rattle.shm_graph.proofs.MemoSteps.{recovers_on}
+use Rattle.shm_steps.proofs.Cores.{here_same}
+use Rattle.shm_count.specs.StepMemos.{era_room, half_status, rows_same}
 
 -- ---- the step in progress
 

@@ -40,14 +40,16 @@ use Rattle.shm_count.specs.declared.point.Part.{Part}
 use Rattle.shm_count.specs.declared.point.Next.{Next}
 use Rattle.shm_count.specs.declared.point.Aim.{Aim}
 use Rattle.shm_count.specs.declared.point.StepPoint.TheVariants as point
-use Rattle.shm_count.specs.StepFits.{begun_op, core, InHalf, CanStep, HasRead, NextHolds, set_memo, IsShown, IsDyingWord}
-use Rattle.shm_count.specs.StepMemos.{half_status, first_reach, half_same, header_core, here_same, half_op}
+use Rattle.shm_graph.specs.Core.{core}
+use Rattle.shm_count.specs.StepFits.{begun_op, InHalf, CanStep, HasRead, NextHolds, set_memo, IsShown, IsDyingWord}
+use Rattle.shm_graph.proofs.MemoSteps.{recovers_on}
+use Rattle.shm_steps.proofs.Cores.{header_core, here_same}
+use Rattle.shm_count.specs.StepMemos.{half_status, first_reach, half_same, half_op}
 use Rattle.shm_count.specs.StepControl.{value_before, value_after, CountFits, EraFits, header_after, PartFits, block_at, committed_next, header_next, count_after, raises, exchange_next}
 use Rattle.shm_count.specs.StepHeaders.{header_has, header_found, half_block}
 use Rattle.shm_count.specs.StepParts.{first_sight}
 use Rattle.shm_count.specs.StepCores.{PointKeeps}
 use Rattle.shm_count.specs.DyingBlocks.{dying_reparted}
-use Rattle.shm_graph.proofs.MemoSteps.{recovers_on}
 
 -- ---- the header that the block comes to have
 

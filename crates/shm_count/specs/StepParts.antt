@@ -36,11 +36,13 @@ use Rattle.shm_count.specs.declared.point.Aim.{Aim}
 use Rattle.shm_count.specs.declared.point.Aim.TheVariants.{Up, Down, Change}
 use Rattle.shm_count.specs.declared.point.Part.TheVariants.{First, Second}
 use Rattle.shm_count.specs.StepControl.{redo_at, value_before, value_after, header_after}
-use Rattle.shm_count.specs.StepCores.{body_word, is_set, HasSlot}
+use Rattle.shm_steps.proofs.Cores.{body_word, HasSlot}
+use Rattle.shm_count.specs.StepCores.{is_set}
 use Rattle.shm_graph.specs.declared.memo.Status.{Status as AStatus}
 use Rattle.shm_graph.specs.declared.memo.Making.{Making}
 use Rattle.shm_count.specs.TearMemos.{is_lasting}
-use Rattle.shm_count.specs.StepFits.{AtFirst, Done, core, is_row, begun, set_memo, slot_memo, closed_memo}
+use Rattle.shm_graph.specs.Core.{core}
+use Rattle.shm_count.specs.StepFits.{AtFirst, Done, is_row, begun, set_memo, slot_memo, closed_memo}
 use Rattle.shm_count.specs.StepMemos.{closed_part}
 
 -- the partition after a step at a word, as the memo's change computes it

@@ -22,8 +22,8 @@ use Rattle.shm_graph.proofs.Calling.{called_part}
 use Rattle.shm_graph.proofs.Loads.{choice}
 use Rattle.shm_count.specs.declared.tear_point.TearPoint.{TearPoint}
 use Rattle.shm_count.specs.declared.tear_point.TearPoint.TheVariants as point
-use Rattle.shm_count.specs.StepFits.{core}
-use Rattle.shm_count.specs.StepMemos.{called_core}
+use Rattle.shm_graph.specs.Core.{core}
+use Rattle.shm_steps.proofs.Cores.{called_core}
 use Rattle.shm_count.specs.TearControl.{word_or_free}
 use Rattle.shm_count.specs.TearEvents.{Visit}
 use Rattle.shm_count.specs.TearFits.{Settled, Linked, is_outside, IsPaid, TearHolds}

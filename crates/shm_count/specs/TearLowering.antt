@@ -33,11 +33,13 @@ use Rattle.shm_count.specs.declared.point.Next.TheVariants as next
 use Rattle.shm_count.specs.declared.tear_point.TearPoint.TheVariants as point
 use Rattle.shm_count.specs.StepControl.{step_ask_at, step_next_at, is_over}
 use Rattle.shm_count.specs.StepEvents.{step_event_at, events_at}
-use Rattle.shm_count.specs.StepFits.{CanStep, core, Done, Refused, PointHolds}
+use Rattle.shm_graph.specs.Core.{core}
+use Rattle.shm_count.specs.StepFits.{CanStep, Done, Refused, PointHolds}
 use Rattle.shm_count.specs.StepFits as fits
 use Rattle.shm_count.specs.StepGoing.{has_part, events_with, Told, told_next}
 use Rattle.shm_count.specs.StepKeeps.{step_at}
 use Rattle.shm_count.specs.Retaining.{named_counted, named_stays, retains_core, retains_then}
+use Rattle.shm_graph.proofs.MemoSteps.{recovers_on}
 use Rattle.shm_count.specs.TearControl.{word_address, word_or_free, down_next, lowered_next, TearPointFits}
 use Rattle.shm_count.specs.TearCores.{stays_then, stays_core, on_words}
 use Rattle.shm_count.specs.TearEvents.{Visit, frees, Walks}
@@ -47,7 +49,6 @@ use Rattle.shm_count.specs.TearBound.{paid_down, paid_kept, paid_fell, paid_refu
 use Rattle.shm_count.specs.TearReading.{TearKept}
 use Rattle.shm_count.specs.TearStacks.{walks_kept, walks_fell, frees_more, others_entered, outside_other, apart_entered, KeepsBlock, linked_kept, linked_dying, left_dying, keeps_lowered, lowered_knows, lowered_tagged, lowered_dying}
 use Rattle.shm_count.specs.TearMemos.{Stays, Retains, Knows, IsTagged, IsFound, Lowered}
-use Rattle.shm_graph.proofs.MemoSteps.{recovers_on}
 
 -- one word of a block has one index
 same_index : (b j i : ℕ) → Body b j ≡ Body b i → j ≡ i

@@ -33,6 +33,7 @@ use Rattle.shm_count.specs.declared.tear_point.TearPoint.TheVariants as point
 use Rattle.shm_count.specs.declared.tear_point.TearNext.TheVariants.{Go}
 use Rattle.shm_count.specs.DyingBlocks.{dying_tag, dying_tag_spot}
 use Rattle.shm_count.specs.Retaining.{retains_core, slots_learnt}
+use Rattle.shm_graph.proofs.MemoSteps.{recovers_on}
 use Rattle.shm_count.specs.TearControl.{or_empty, tag_read, word_or_free, entered_next, tear_ask_at, tear_next_at}
 use Rattle.shm_count.specs.TearCores.{stays_core, tag_core, settled_same, on_words}
 use Rattle.shm_count.specs.TearEvents.{Visit, tear_event_at}
@@ -40,7 +41,6 @@ use Rattle.shm_count.specs.TearFits.{Settled, Linked, IsPaid, TearHolds, NextHol
 use Rattle.shm_count.specs.TearBound.{paid_entered, paid_returned}
 use Rattle.shm_count.specs.TearStacks.{KeepsBlock, linked_kept, knows_learnt, knows_other}
 use Rattle.shm_count.specs.TearMemos.{Knows, IsTagged}
-use Rattle.shm_graph.proofs.MemoSteps.{recovers_on}
 
 -- ---- what a tear-down owes
 

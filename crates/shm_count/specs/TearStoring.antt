@@ -31,9 +31,10 @@ use Rattle.shm_steps.proofs.DyingSteps.{frees, links}
 use Rattle.shm_steps.proofs.KeptAfter.{kept_with}
 use Rattle.shm_count.specs.declared.tear_point.TearPoint.TheVariants as point
 use Rattle.shm_count.specs.declared.tear_point.TearNext.TheVariants.{Go, Answer}
-use Rattle.shm_count.specs.StepFits.{core}
+use Rattle.shm_graph.specs.Core.{core}
 use Rattle.shm_count.specs.Retaining.{retains_core, retains_then, slots_learnt, slots_forgotten, named_counted}
-use Rattle.shm_count.specs.StepMemos.{here_same}
+use Rattle.shm_graph.proofs.MemoSteps.{recovers_on}
+use Rattle.shm_steps.proofs.Cores.{here_same}
 use Rattle.shm_count.specs.TearControl.{word_or_free, freed_next}
 use Rattle.shm_count.specs.TearCores.{stays_then, stays_core, link_core, free_core, settled_same, on_words}
 use Rattle.shm_count.specs.TearEvents.{Visit}
@@ -43,7 +44,6 @@ use Rattle.shm_count.specs.TearReading.{TearKept, unchanged}
 use Rattle.shm_count.specs.DyingBlocks.{dying_tag_spot}
 use Rattle.shm_count.specs.TearStacks.{walks_freed, frees_free, others_freed, others_last, outside_other, KeepsBlock, visited_kept, tagged_kept, linked_kept, knows_learnt, knows_other, keeps_learnt, keeps_freed}
 use Rattle.shm_count.specs.TearMemos.{Stays, Retains, IsTagged}
-use Rattle.shm_graph.proofs.MemoSteps.{recovers_on}
 
 -- no step is in progress at the points beside those of a step down
 is_idle : (me : Me) (first : ℕ) (r0 m : Memo) → CanTear me first r0 → Stays me.who r0 m → m.op ≡ op.Nothing

@@ -40,9 +40,11 @@ use Rattle.shm_count.specs.declared.point.StepPoint.TheVariants as step
 use Rattle.shm_count.specs.declared.tear_point.TearPoint.TheVariants as point
 use Rattle.shm_count.specs.declared.tear_point.TearNext.TheVariants.{Go}
 use Rattle.shm_count.specs.DyingBlocks.{dying_spot, dying_target, dying_part}
-use Rattle.shm_count.specs.StepFits.{core, CanStep}
+use Rattle.shm_graph.specs.Core.{core}
+use Rattle.shm_count.specs.StepFits.{CanStep}
 use Rattle.shm_count.specs.Retaining.{retains_core, slots_learnt}
-use Rattle.shm_count.specs.StepMemos.{room_least, here_same}
+use Rattle.shm_graph.proofs.MemoSteps.{recovers_on}
+use Rattle.shm_steps.proofs.Cores.{room_least, here_same}
 use Rattle.shm_count.specs.TearControl.{word_address, word_or_free, word_next}
 use Rattle.shm_count.specs.TearCores.{stays_core, word_core, settled_same, on_words}
 use Rattle.shm_count.specs.TearEvents.{Visit}
@@ -52,7 +54,6 @@ use Rattle.shm_count.specs.TearBound.{paid_again, paid_empty, paid_found}
 use Rattle.shm_count.specs.TearReading.{TearKept, still_known, load_keeps, unchanged}
 use Rattle.shm_count.specs.TearStacks.{walks_later, knows_learnt, linked_kept, tagged_kept}
 use Rattle.shm_count.specs.TearMemos.{Knows, IsTagged, IsFound}
-use Rattle.shm_graph.proofs.MemoSteps.{recovers_on}
 
 -- ---- addresses
 

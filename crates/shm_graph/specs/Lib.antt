@@ -28,3 +28,4 @@ pub mod Trails
 pub mod Tells
 pub mod Idle
 pub mod Mapped
+pub mod Core

@@ -10,13 +10,14 @@ use Rattle.shm_graph.specs.Events.{Event}
 use Rattle.shm_graph.specs.Laws.{GoneNow}
 use Rattle.shm_graph.specs.Stores.{not_segment}
 use Rattle.shm_graph.specs.Views.{own_word}
+use Rattle.shm_steps.specs.WordParts.{GoneStored, SegmentGiven, SegmentLoaded}
 use Rattle.shm_calls.specs.CallsPart.{calls_part}
 use Rattle.shm_calls.specs.Either.{or_part}
 use Rattle.shm_calls.specs.Plans.{Planned}
 use Rattle.shm_calls.specs.Words.{word_part}
 use Rattle.shm_count.specs.declared.answer.EraSpent.{EraSpent}
 use Rattle.shm_count.specs.Roots.{root_word}
-use Rattle.shm_count.specs.StepFits.{core}
+use Rattle.shm_graph.specs.Core.{core}
 use Rattle.shm_count.specs.TearEvents.{Visit, frees}
 use Rattle.shm_recover.specs.declared.leave.LeavePoint.{LeavePoint}
 use Rattle.shm_recover.specs.declared.leave.LeavePoint.TheVariants.{Roots, Look, Give, Status}
@@ -68,10 +69,10 @@ LeaveLeaves m r0 r tr es (Err e) = (vs : List Visit) × RootsStopped (record { m
 
 -- what holds of a memo after the word step at a point, by the word found and the memo before
 abbrev pub LeaveFound : LeaveState → LeavePoint → Memo → ℕ → Memo → Type 0
-LeaveFound m Look r n x = (core x ≡ core r) × (n ≡ m.me.who + 1 → Contains r.owned m.segment) × (n ≢ m.me.who + 1 → Contains r.owned m.segment → ⊥)
-LeaveFound m Give r n x = core x ≡ core (record r { owned = filter (not_segment m.segment) r.owned })
-LeaveFound m Status r n x = (x.status ≡ status.Gone) × GoneNow m.me.who x
-LeaveFound m Roots r n x = ⊥
+LeaveFound m Look = SegmentLoaded m.me.who m.segment
+LeaveFound m Give = SegmentGiven m.segment
+LeaveFound m Status = GoneStored m.me.who
+LeaveFound m Roots = λ r n x. ⊥
 
 abbrev pub leave_plan : Planned LeaveState LeaveCall LeaveAnswer (Result (Unit {0}) EraSpent)
 leave_plan =

@@ -9,10 +9,11 @@ use Rattle.shm_graph.specs.Asks.{Trail}
 use Rattle.shm_graph.specs.Events.{Event}
 use Rattle.shm_graph.specs.Stores.{with_own}
 use Rattle.shm_steps.specs.Conditions.{IsHere}
+use Rattle.shm_steps.specs.WordParts.{HoldStored, LatchTaken}
 use Rattle.shm_calls.specs.declared.word.Word.{Word}
 use Rattle.shm_calls.specs.Plans.{Planned}
 use Rattle.shm_calls.specs.Words.{word_part}
-use Rattle.shm_count.specs.StepFits.{core}
+use Rattle.shm_graph.specs.Core.{core}
 use Rattle.shm_ref.specs.declared.hold.HoldPoint.{HoldPoint}
 use Rattle.shm_ref.specs.declared.hold.HoldPoint.TheVariants.{Want, Take, Back}
 use Rattle.shm_ref.specs.declared.hold.HoldState.{HoldState}
@@ -50,9 +51,9 @@ HoldLeaves m r0 r tr es false = (core r ≡ core (wants m.me.who 0 (wants m.me.w
 
 -- what holds after each word step, by the memo before, the word found and the memo
 abbrev pub HoldFound : HoldState → HoldPoint → Memo → ℕ → Memo → Type 0
-HoldFound m Want r n x = core x ≡ core (wants m.me.who (m.author + 1) r)
-HoldFound m Take r n x = core x ≡ core (if n == 0 then record r { latch = Some m.author } else r)
-HoldFound m Back r n x = core x ≡ core (wants m.me.who 0 r)
+HoldFound m Want = HoldStored m.me.who (m.author + 1)
+HoldFound m Take = LatchTaken m.author
+HoldFound m Back = HoldStored m.me.who 0
 
 abbrev pub hold_plan : Planned HoldState Word ℕ Bool
 hold_plan =

@@ -18,13 +18,14 @@ use Rattle.shm_graph.specs.Views.{own_word}
 use Rattle.shm_graph.proofs.LoadKeeping.{lost_kept}
 use Rattle.shm_graph.proofs.SpotPlaces.{spot-place}
 use Rattle.shm_graph.proofs.Spotting.{same_spot_self}
-use Rattle.shm_steps.proofs.OwnStores.{hold_stored}
-use Rattle.shm_steps.proofs.PageSteps.{latched}
+use Rattle.shm_steps.specs.Conditions.{IsHere}
+use Rattle.shm_steps.proofs.Cores.{here_same}
+use Rattle.shm_steps.proofs.WordsOwn.{hold_store}
+use Rattle.shm_steps.proofs.WordsShared.{latch_take}
 use Rattle.shm_calls.specs.Plans.{PlanLaws, PlanStays, Follows}
 use Rattle.shm_calls.specs.Words.{word_control, word_part_laws, IsWord, WordLeaves}
 use Rattle.shm_calls.specs.WordSteps.{word_at}
-use Rattle.shm_count.specs.StepFits.{core}
-use Rattle.shm_count.specs.StepMemos.{called_core, here_same}
+use Rattle.shm_graph.specs.Core.{core}
 use Rattle.shm_ref.specs.declared.hold.HoldPoint.{HoldPoint}
 use Rattle.shm_ref.specs.declared.hold.HoldPoint.TheVariants.{Want, Take, Back}
 use Rattle.shm_ref.specs.declared.hold.HoldState.{HoldState}
@@ -37,49 +38,29 @@ module _ (m : HoldState) (r0 r : Memo) (may : MayTakeLatch m.me m.author r0) whe
   abbrev c : ℕ
   c = m.me.who
 
-  hold_there : (class : ℕ → ℕ → ℕ) → spot_at m.me.geometry class (address m.me.geometry (place.Hold c)) ≡ Hold c
-  hold_there class = spot-place m.me.geometry class (place.Hold c) (lt-ltb c m.me.geometry.clients may.who)
-
-  latch_there : (class : ℕ → ℕ → ℕ) → spot_at m.me.geometry class (address m.me.geometry (place.Latch m.author)) ≡ Latch m.author
-  latch_there class = spot-place m.me.geometry class (place.Latch m.author) (lt-ltb m.author m.me.geometry.clients may.author)
+  here : (e : core r ≡ core r0) → IsHere r
+  here e = here_same r0 r (ap (λ (x : Memo). x.status) e) may.here
 
   -- the hold word is stored, as the first word step or later
   pub want_word : core r ≡ core r0 → IsWord true m.me (hold_ask m Want) (HoldFound m Want) (hold_call m Want) r
-  want_word same =
-      word_at true m.me (hold_ask m Want) (HoldFound m Want) r (Hold c) hold_there (λ e. cc) refl
-      (λ w rs f st stands at. hold_stored m.me w rs f [] (address m.me.geometry (place.Hold c)) (m.author + 1) st (hold_there (classes w))
-      (record { here = here_same r0 (rs c) (ap (λ (x : Memo). x.status) at ∙ ap (λ (x : Memo). x.status) same) may.here; none = ap (λ (x : Memo). x.latch) at ∙ (ap (λ (x : Memo). x.latch) same ∙ may.none); most = (let l = may.author in omega arith) }))
-      (λ w rs f st at. ap (λ (x : Memo). core (wants c (m.author + 1) x)) (called_core (rs c) (framed m.me (hold_ask m Want) f 0)) ∙ ap (λ (x : Memo). core (wants c (m.author + 1) x)) at)
+  want_word same = hold_store true m.me r may.who (m.author + 1) (record { here = here same; none = ap (λ (x : Memo). x.latch) same ∙ may.none; most = (let l = may.author in omega arith) })
 
   module _ (n : ℕ) (tr : Trail) (es : List Event) (h : IsWanted m.me m.author n r0 r tr es) where
+    wanting : IsHere r
+    wanting = here_same r0 r (ap (λ (x : Memo). x.status) h.same) may.here
+
+    none : r.latch ≡ None
+    none = ap (λ (x : Memo). x.latch) h.same ∙ may.none
+
     -- the latch is exchanged: it was nobody's, or another's
     pub take_word : IsWord false m.me (hold_ask m Take) (HoldFound m Take) (hold_call m Take) r
     take_word =
-        word_at false m.me (hold_ask m Take) (HoldFound m Take) r (Latch m.author) latch_there (λ e. cc) refl
-        (λ w rs f st stands at. elim (cases_eq (w (Latch m.author)) 0) [
-          | inl e ↦ latched m.me w rs f [] (address m.me.geometry (place.Latch m.author)) m.author st (stands refl) (latch_there (classes w)) e
-              (record {
-                here = here_same r0 (rs c) (ap (λ (x : Memo). x.status) at ∙ ap (λ (x : Memo). x.status) h.same) may.here;
-                idle = ap (λ (x : Memo). x.op) at ∙ (ap (λ (x : Memo). x.op) h.same ∙ may.idle);
-                none = ap (λ (x : Memo). x.latch) at ∙ (ap (λ (x : Memo). x.latch) h.same ∙ may.none);
-                wants = ap (λ (x : Memo). own_word x.own (Hold c)) at ∙ (ap (λ (x : Memo). own_word x.own (Hold c)) h.same ∙ cond-true _ _ _ (same_spot_self (Hold c)));
-              })
-          | inr other ↦ lost_kept m.me w rs f [] (address m.me.geometry (place.Latch m.author)) 0 (c + 1) (λ i x. Unit {0}) (Latch m.author) st (latch_there (classes w)) refl tt other tt
-        ])
-        (λ w rs f st at. let t : Step = framed m.me (hold_ask m Take) f (w (Latch m.author)) in found f.ends (called (rs c) t) (called_core (rs c) t ∙ ap core at) (w (Latch m.author) == 0))
-      where
-        found : (ends : Bool) (x : Memo) → core x ≡ core r → (q : Bool)
-            → core (with_end ends (with_call x (if q then record x { latch = Some m.author } else x))) ≡ core (if q then record r { latch = Some m.author } else r)
-        found ends x e true = ap (λ (y : Memo). core (record y { latch = Some m.author })) e
-        found ends x e false = e
+        latch_take false m.me r may.who m.author may.author refl
+        (record { here = wanting; idle = ap (λ (x : Memo). x.op) h.same ∙ may.idle; none = none; wants = ap (λ (x : Memo). own_word x.own (Hold c)) h.same ∙ cond-true _ _ _ (same_spot_self (Hold c)) })
 
     -- the hold word is stored as 0
     pub back_word : IsWord false m.me (hold_ask m Back) (HoldFound m Back) (hold_call m Back) r
-    back_word =
-        word_at false m.me (hold_ask m Back) (HoldFound m Back) r (Hold c) hold_there (λ e. cc) refl
-        (λ w rs f st stands at. hold_stored m.me w rs f [] (address m.me.geometry (place.Hold c)) 0 st (hold_there (classes w))
-        (record { here = here_same r0 (rs c) (ap (λ (x : Memo). x.status) at ∙ ap (λ (x : Memo). x.status) h.same) may.here; none = ap (λ (x : Memo). x.latch) at ∙ (ap (λ (x : Memo). x.latch) h.same ∙ may.none); most = omega arith }))
-        (λ w rs f st at. ap (λ (x : Memo). core (wants c 0 x)) (called_core (rs c) (framed m.me (hold_ask m Back) f 0)) ∙ ap (λ (x : Memo). core (wants c 0 x)) at)
+    back_word = hold_store false m.me r may.who 0 (record { here = wanting; none = none; most = omega arith })
 
 -- ---- the plan
 
@@ -105,12 +86,12 @@ leads : (m : HoldState) (y : HoldPoint) (r0 rs r : Memo) (tr t : Trail) (es ds :
 leads m Want r0 rs r tr t es ds n h w =
     record {
       may = h.0;
-      same = w.found ∙ ap (λ (x : Memo). core (wants m.me.who (m.author + 1) x)) h.1;
+      same = w.found.left ∙ ap (λ (x : Memo). core (wants m.me.who (m.author + 1) x)) h.1;
       none = ap (λ (x : List Event). x ++ ds) h.3 ∙ w.none;
       steps = one_more 0 tr t (ap length h.2) w.one;
     }
-leads m Back r0 rs r tr t es ds n h w = (w.found ∙ ap (λ (x : Memo). core (wants m.me.who 0 x)) h.same, ap (λ (x : List Event). x ++ ds) h.none ∙ w.none, one_more 2 tr t h.steps w.one)
-leads m Take r0 rs r tr t es ds n h w = go (n == 0) w.found
+leads m Back r0 rs r tr t es ds n h w = (w.found.left ∙ ap (λ (x : Memo). core (wants m.me.who 0 x)) h.same, ap (λ (x : List Event). x ++ ds) h.none ∙ w.none, one_more 2 tr t h.steps w.one)
+leads m Take r0 rs r tr t es ds n h w = go (n == 0) w.found.left
   where
     none : es ++ ds ≡ []
     none = ap (λ (x : List Event). x ++ ds) h.none ∙ w.none

@@ -15,9 +15,9 @@ use Rattle.shm_graph.specs.Spots.{same_spot}
 use Rattle.shm_graph.specs.Stores.{not_block}
 use Rattle.shm_graph.specs.Views.{own_word}
 use Rattle.shm_count.specs.Roots.{rest, root_word, RootLowered}
-use Rattle.shm_count.specs.StepFits.{core}
+use Rattle.shm_graph.specs.Core.{core}
 use Rattle.shm_count.specs.TearEvents.{Walks, frees}
-use Rattle.shm_count.specs.StepMemos.{here_same}
+use Rattle.shm_steps.proofs.Cores.{here_same}
 use Rattle.shm_count.specs.TearFits.{is_outside}
 use Rattle.shm_count.specs.TearMemos.{Stays, is_slot_word}
 use Rattle.shm_ref.specs.Lefts.{is_root_of, Left, MayDrop, RootEvents}
