@@ -2,3 +2,5 @@ pub mod StepBound
 pub mod RootMemos
 pub mod RootSpots
 pub mod RootLeaves
+pub mod CallEvents
+pub mod TearWalks

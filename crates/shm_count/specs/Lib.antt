@@ -46,3 +46,4 @@ pub mod StepsAt
 pub mod CountParts
 pub mod MadeSteps
 pub mod StepsFrom
+pub mod Calling
