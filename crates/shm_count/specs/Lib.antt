@@ -47,3 +47,4 @@ pub mod CountParts
 pub mod MadeSteps
 pub mod StepsFrom
 pub mod Calling
+pub mod Refusing
