@@ -11,7 +11,7 @@ use Rattle.shm_laws.proofs.Keep.{newest}
 use Rattle.shm_count.specs.TearEvents.{Walk, Freed, Kept, Fell, InOrder, events_of, Visit, Walks, IsTearing, frees_of}
 
 -- the block itself is freed last
-pub walk_last : (c b : ℕ) (x : Walk) → (before : List Event) × (events_of c b x ≡ before ++ event.Free c b ∷ [])
+walk_last : (c b : ℕ) (x : Walk) → (before : List Event) × (events_of c b x ≡ before ++ event.Free c b ∷ [])
 walk_last c b Freed = ([], refl)
 walk_last c b (Kept i t rest) = let u = walk_last c b rest in (event.Down c (Body b i) t ∷ u.0, ap (λ (es : List Event). event.Down c (Body b i) t ∷ es) u.1)
 walk_last c b (Fell i t inner rest) =
@@ -35,7 +35,7 @@ tearing_in c b d es fs more of (event.Free k a) h = (
 tearing_in c b d es fs more of _ h = absurd h
 
 -- each event of a walk is one of a tear-down
-pub walk_tears : (c b : ℕ) (x : Walk) → All (IsTearing c b (events_of c b x)) (events_of c b x)
+walk_tears : (c b : ℕ) (x : Walk) → All (IsTearing c b (events_of c b x)) (events_of c b x)
 walk_tears c b Freed = All-cons (IsTearing c b (event.Free c b ∷ [])) (event.Free c b) [] (refl, inl refl) (All-nil (IsTearing c b (event.Free c b ∷ [])))
 walk_tears c b (Kept i t rest) =
     let e : Event = event.Down c (Body b i) t in
@@ -61,3 +61,10 @@ walk_stopped c first es [] h = (h.0, h.1, append-nil es ∙ h.2)
 walk_stopped c first es (v ∷ vs) h =
     let u = walk_stopped c first (es ++ event.Free c v.block ∷ []) vs (h Freed tt) in
     (u.0, u.1, sym (append_assoc es (event.Free c v.block ∷ []) (frees_of c vs)) ∙ u.2)
+
+-- so of the events of a tear-down that is done
+pub done_last : (c first : ℕ) (es : List Event) → Walks c first es [] → (before : List Event) × (es ≡ before ++ event.Free c first ∷ [])
+done_last c first es h = let u = walk_last c first h.0 in (u.0, h.2 ∙ u.1)
+
+pub done_tears : (c first : ℕ) (es : List Event) → Walks c first es [] → All (IsTearing c first es) es
+done_tears c first es h = subst (λ (xs : List Event). All (IsTearing c first xs) xs) (sym h.2) (walk_tears c first h.0)
