@@ -1,9 +1,11 @@
-//! What an allocation leaves of its agent, of the status and of the blocks that the call made.
+//! What an allocation leaves of its agent, of the status, of the roots and of the blocks that the call made.
 
-ghost use Rattle.std.specs.Prelude.{◌≡◌, true, Bool, Result, IfOk};
+ghost use Rattle.std.specs.Prelude.{◌≡◌, ◌≢◌, ℕ, ◌<◌, true, Bool, Result, Ok, IfOk};
 ghost use Rattle.std.specs.List.{Contains};
 ghost use Rattle.shm_graph.specs.declared.memo.Memo.{Memo as AMemo};
+ghost use Rattle.shm_graph.specs.declared.spot.Spot.TheVariants.{Root};
 ghost use Rattle.shm_graph.specs.Asks.{Trail};
+ghost use Rattle.shm_graph.specs.Views.{own_word};
 ghost use Rattle.shm_calls.specs.Grown.{Grows, grown};
 ghost use Rattle.shm_calls.specs.Parts.{PartLaws};
 ghost use Rattle.shm_count.specs.declared.answer.Made.{Made as AMade};
@@ -22,4 +24,11 @@ pub fn alloc_lasts()
 /// An allocation in a larger machine leaves all that was read, and the blocks that the call had made.
 pub fn alloc_in_call()
     ensures { (first : Bool) → PartLaws first alloc_control (grown first (alloc_making first)) }
+{}
+
+/// Where an allocation answers a root, it was the least empty one: it names the block now, and all roots below it are set, as they were.
+pub fn alloc_least_root()
+    ensures empty { (m : AState) (r0 r : AMemo) (tr : Trail) (a : AMade) → AllocGives m r0 r tr (Ok a) → own_word r0.own (Root m.me.who a.root) ≡ 0 }
+    ensures named { (m : AState) (r0 r : AMemo) (tr : Trail) (a : AMade) → AllocGives m r0 r tr (Ok a) → own_word r.own (Root m.me.who a.root) ≡ a.block }
+    ensures below { (m : AState) (r0 r : AMemo) (tr : Trail) (a : AMade) → AllocGives m r0 r tr (Ok a) → (j : ℕ) → j < a.root → own_word r.own (Root m.me.who j) ≢ 0 }
 {}

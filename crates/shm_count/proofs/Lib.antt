@@ -1,3 +1,6 @@
 pub mod RootMemos
 pub mod RootSpots
 pub mod RootLeaves
+pub mod CallEvents
+pub mod TearWalks
+pub mod StepRefusing

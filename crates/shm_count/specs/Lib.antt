@@ -53,3 +53,5 @@ pub mod SlotChanges
 pub mod SlotParts
 pub mod StepBound
 pub mod Lowering
+pub mod Calling
+pub mod Refusing
