@@ -4,11 +4,13 @@
 //! which call comes next.
 #![tactic(auto)]
 
+pub mod answer;
 pub mod drop_root;
 pub mod drop_roots;
 pub mod hold;
 pub mod parts;
 
+pub use answer::Busy;
 pub use drop_root::{DropRoot, Dropping};
 pub use hold::{Hold, Holding};
 
