@@ -11,3 +11,4 @@ pub mod AskedParts
 pub mod HoldControl
 pub mod HoldFits
 pub mod HoldLaws
+pub mod Machines
