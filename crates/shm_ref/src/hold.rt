@@ -87,7 +87,10 @@ impl Plan for Holding {
     #[inline(always)]
     fn call(&self) -> Word {
         let HoldState {
-            me, author, point, ..
+            me,
+            author,
+            point,
+            ..
         } = self.state;
         let hold = me.geometry.hold(me.who);
         match point {

@@ -21,4 +21,6 @@ pub use events::{
 pub use hold::{Hold, Holding};
 
 #[cfg(test)]
+mod drop_tests;
+#[cfg(test)]
 mod tests;
