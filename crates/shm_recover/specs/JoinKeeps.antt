@@ -38,7 +38,8 @@ use Rattle.shm_recover.specs.Joining.{IsMember, CanJoin, join_control, join_fres
 pub join_begins : (me : Me) (r : Memo) → CanJoin me r → JoinFits (join_fresh me) r r []
 join_begins me r can = record { can = can; start = λ e. (refl, refl) }
 
-status_spot : (me : Me) (class : ℕ → ℕ → ℕ) → IsMember me → spot_at me.geometry class (address me.geometry (place.Status me.who)) ≡ Status me.who
+-- the address of the status is that of its spot
+pub status_spot : (me : Me) (class : ℕ → ℕ → ℕ) → IsMember me → spot_at me.geometry class (address me.geometry (place.Status me.who)) ≡ Status me.who
 status_spot me class k = spot-place me.geometry class (place.Status me.who) (let l = k.who in grind (arith, nat_tests))
 
 -- an identity that is new or gone has nothing in progress, prepares nothing and holds no latch

@@ -60,9 +60,16 @@ LeaveKnows m Status r0 r tr es = IsLeaving m.me m.me.geometry.segments r × HasL
 
 -- ---- what it leaves
 
+-- nothing is left to finish and the status is gone; the events are those of the roots, and each segment took two word steps at most
+pub record HasGone (me : Me) (r0 r : Memo) (tr : Trail) (es : List Event) : Type 0 where
+  pub status : r.status ≡ status.Gone
+  pub left : GoneNow me.who r
+  pub events : RootsEvents me.who r0 16 es
+  pub bound : IsWithin (2 * me.geometry.segments + 164 * frees es + 145) tr
+
 -- the identity is gone, or the own era left no room for a step down of a root
 abbrev pub LeaveLeaves : LeaveState → Memo → Memo → Trail → List Event → Result (Unit {0}) EraSpent → Type 0
-LeaveLeaves m r0 r tr es (Ok done) = (r.status ≡ status.Gone) × GoneNow m.me.who r × HasLeft m.me (2 * m.me.geometry.segments + 1) r0 tr es
+LeaveLeaves m r0 r tr es (Ok done) = HasGone m.me r0 r tr es
 LeaveLeaves m r0 r tr es (Err e) = (vs : List Visit) × RootsStopped (record { me = m.me; root = 0 }) r0 r tr es e.era vs
 
 -- ---- the plan

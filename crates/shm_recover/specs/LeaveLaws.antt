@@ -28,7 +28,7 @@ use Rattle.shm_ref.specs.declared.drop_roots.RootsState.{RootsState}
 use Rattle.shm_recover.specs.declared.leave.LeavePoint.{LeavePoint}
 use Rattle.shm_recover.specs.declared.leave.LeavePoint.TheVariants.{Roots, Look, Give, Status}
 use Rattle.shm_recover.specs.declared.leave.LeaveState.{LeaveState}
-use Rattle.shm_recover.specs.LeaveControl.{LeaveAnswer, leave_parts, leave_ask, leave_call_at, leave_next, leave_after_word, is_roots, is_last}
+use Rattle.shm_recover.specs.LeaveControl.{LeaveAnswer, leaving, leave_parts, leave_ask, leave_call_at, leave_next, leave_after_word, is_roots, is_last}
 use Rattle.shm_recover.specs.LeaveFits.{MayLeave, IsLeaving, HasLeft, LeaveKnows, LeaveFound, leave_plan}
 use Rattle.shm_recover.specs.LeaveWords.{root_beyond, owned_inside, look_word, give_word, status_word}
 use Rattle.shm_ref.specs.Leaving.{may_still}
@@ -216,11 +216,18 @@ leads m Roots r0 rs r tr t es ds (First (Ok u)) h g held = first_segment (record
 leads m Roots r0 rs r tr t es ds (First (Err e)) h g held = from_start m.me r0 rs r tr t es ds (Err e) h.1 h.2 h.3 g
 leads m Look r0 rs r tr t es ds (Second n) h g held = looked (record m { point = Look }) r0 rs r tr t es ds n h g
 leads m Give r0 rs r tr t es ds (Second n) h g held = given (record m { point = Give }) r0 rs r tr t es ds n h g
-leads m Status r0 rs r tr t es ds (Second n) h g held = (ap (λ (x : Memo). x.status) g.found.left, g.found.read, one_more (record m { point = Status }) r0 rs r tr t es ds (2 * m.me.geometry.segments) (2 * m.me.geometry.segments + 1) (omega arith) g.none g.one h.1)
+leads m Status r0 rs r tr t es ds (Second n) h g held =
+    let left = one_more (record m { point = Status }) r0 rs r tr t es ds (2 * m.me.geometry.segments) (2 * m.me.geometry.segments + 1) (omega arith) g.none g.one h.1 in
+    let bound = left.bound in
+    record { status = ap (λ (x : Memo). x.status) g.found.left; left = g.found.read; events = left.events; bound = omega arith }
 leads m Roots r0 rs r tr t es ds (Second n) h g held = absurd g
 leads m Look r0 rs r tr t es ds (First a) h g held = absurd g
 leads m Give r0 rs r tr t es ds (First a) h g held = absurd g
 leads m Status r0 rs r tr t es ds (First a) h g held = absurd g
+
+-- what is known before the first call
+pub leave_begin : (me : Me) (r : Memo) → MayLeave me r → LeaveKnows (leaving me) Roots r r [] []
+leave_begin me r may = (may, refl, refl, refl, refl)
 
 pub leave_laws : PlanLaws leave_parts leave_plan
 leave_laws =

@@ -7,6 +7,8 @@ pub mod DropLaws
 pub mod RootsControl
 pub mod RootsFits
 pub mod RootsLaws
+pub mod AskedParts
 pub mod HoldControl
 pub mod HoldFits
 pub mod HoldLaws
+pub mod Machines

@@ -20,7 +20,7 @@ use Rattle.shm_ref.specs.DropFits.{Dropped, DropLeaves, drop_plan}
 use Rattle.shm_ref.specs.DropLaws.{drop_laws}
 use Rattle.shm_ref.specs.Leaving.{left_core, left_more, left_then, left_root, left_empty, may_still, frees-append}
 use Rattle.shm_ref.specs.Lefts.{MayDrop, RootEvents, RootsEvents}
-use Rattle.shm_ref.specs.RootsControl.{drop_root, roots_call}
+use Rattle.shm_ref.specs.RootsControl.{drop_root, dropping_roots, roots_call}
 use Rattle.shm_ref.specs.RootsFits.{AreGone, RootsKnows, RootsLeaves, roots_plan}
 
 -- the next root
@@ -95,7 +95,7 @@ leads m r0 rs r tr t es ds (Ok z) h g = go (m.root == 15) (eqb-true m.root 15) (
     go false last more = record { may = h.may; low = (let l = h.low in let n = more refl in omega arith); gone = gone }
 
 -- what is known before the first root
-pub roots_begin : (me : Me) (r : Memo) → MayDrop me r → RootsKnows (record { me = me; root = 0 }) r r [] []
+pub roots_begin : (me : Me) (r : Memo) → MayDrop me r → RootsKnows (dropping_roots me) r r [] []
 roots_begin me r may =
     record {
       may = may;

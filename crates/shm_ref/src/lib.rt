@@ -4,13 +4,23 @@
 //! which call comes next.
 #![tactic(auto)]
 
+pub mod answer;
+pub mod bound;
 pub mod drop_root;
 pub mod drop_roots;
+pub mod events;
 pub mod hold;
 pub mod parts;
 
+pub use answer::Busy;
+pub use bound::{drop_root_bound, hold_bound};
 pub use drop_root::{DropRoot, Dropping};
+pub use events::{
+    drop_root_begins, drop_root_events, drop_root_leaves, hold_begins, hold_events, hold_leaves,
+};
 pub use hold::{Hold, Holding};
 
+#[cfg(test)]
+mod drop_tests;
 #[cfg(test)]
 mod tests;

@@ -53,7 +53,7 @@ returns-clause-gives c = gives (goal.at.returns-clause-gives c).After-run
 
 -- what is left says that the identity is gone
 gone_by : (m : LeaveState) (r0 r : Memo) (a : Result (Unit {0}) EraSpent) → CallsGives leave_parts leave_plan (calls_of leave_plan m) r0 r r.call a → IfOk a (λ u. r.status ≡ Gone)
-gone_by m r0 r (Ok u) g = g.leaves.0
+gone_by m r0 r (Ok u) g = g.leaves.status
 gone_by m r0 r (Err e) g = tt
 
 pub returns-clause-gone : goal.returns-clause-gone
