@@ -9,10 +9,13 @@ use Rattle.shm_graph.specs.declared.memo.Agent.{Agent}
 use Rattle.shm_graph.specs.declared.memo.Kind.TheVariants.{Recoverer, Client}
 use Rattle.shm_graph.specs.declared.memo.Memo.{Memo}
 use Rattle.shm_graph.specs.declared.memo.Status.{Status as AStatus}
-use Rattle.shm_graph.specs.declared.memo.Status.TheVariants.{Gone}
+use Rattle.shm_graph.specs.declared.memo.Status.TheVariants.{Gone, Live}
 use Rattle.shm_graph.specs.declared.memo.Step.{Step}
 use Rattle.shm_graph.specs.declared.run.Account.{Account}
 use Rattle.shm_graph.specs.declared.spot.Spot.{Spot}
+use Rattle.shm_graph.specs.declared.run.Start.{Start}
+use Rattle.shm_graph.specs.Idle.{IsIdle}
+use Rattle.shm_words.specs.Layout.{GeometryFits}
 use Rattle.shm_graph.specs.Asks.{Trail, call_before, pair}
 use Rattle.shm_graph.specs.Agents.{acts, recovers, recovers_by, is_recoverer, entered, is_gone, last_agent, with_last, ended, stepped}
 use Rattle.shm_graph.specs.declared.memo.Seen.{Seen}
@@ -27,7 +30,7 @@ use Rattle.shm_graph.specs.Whole.{fits_now, gives_now}
 use Rattle.shm_graph.proofs.Going.{account_acts-on, account_acts-here, whole_back}
 use Rattle.shm_graph.proofs.MemoSteps.{acts_after, acts-entered, agents_after, ends_agent, last-with_last, memo_agents, with_some}
 use Rattle.shm_plain.specs.Pools.{Pool, pool, IsOf, IsRun, MayStep, memo_of, readied, turn_on, turned}
-use Rattle.shm_plain.specs.Calls.{Ran, Took, words}
+use Rattle.shm_plain.specs.Calls.{IsAtWork, Ran, Took, words}
 use Rattle.shm_plain.specs.Tracks.{kind_next}
 use Rattle.shm_plain.proofs.OwnTurns.{did_none, took_grew}
 use Rattle.shm_plain.proofs.Turning.{ready_memo}
@@ -285,6 +288,7 @@ module _ {M A : Type 0} (k : Control M A) (fits : M → Memo → Memo → Trail 
           acts = λ u. went_acts;
           kind = λ u. went_kind;
           spent = λ u. went_spent y' e;
+          some = λ u. let l = went.spent in omega arith;
           died = λ u. absurd (true≢false u);
         }
 
@@ -353,5 +357,17 @@ module _ {M A : Type 0} (k : Control M A) (fits : M → Memo → Memo → Trail 
         acts = λ u. absurd (true≢false (sym u));
         kind = λ u. absurd (true≢false (sym u));
         spent = λ u. absurd (true≢false (sym u));
+        some = λ u. absurd (true≢false (sym u));
         died = λ u. none;
       }
+
+-- an identity that was at work is so still, where it is between two calls once it has answered
+pub still_working : (c : ℕ) (fresh : Bool) (p q : Pool) (x y : ℕ) → IsAtWork c p → Ran c fresh true p q x y → IsIdle c (memo_of q c) → IsAtWork c q
+still_working c fresh p q x y work ran idle =
+    record {
+      geometry = subst (λ (s : Start). GeometryFits s.geometry) (sym ran.start) work.geometry;
+      who = subst (λ (s : Start). c < s.geometry.clients) (sym ran.start) work.who;
+      idle = idle;
+      acts = ran.acts refl (λ e. let live : Live ≡ Gone = sym idle.live ∙ e in absurd (cc));
+      client = ran.kind refl ∙ (ap recovers (ready_still p c work.acts) ∙ work.client);
+    }

@@ -68,4 +68,5 @@ pub record Ran (c : ℕ) (fresh answered : Bool) (p q : Pool) (x y : ℕ) : Type
   pub acts : answered ≡ true → (memo_of q c).status ≢ Gone → acts (memo_of q c) ≡ true
   pub kind : answered ≡ true → recovers (memo_of q c) ≡ recovers (memo_of (readied p c) c)
   pub spent : answered ≡ true → fresh ≡ true → y + length (memo_of q c).call ≡ x
+  pub some : answered ≡ true → 0 < x
   pub died : answered ≡ false → y ≡ 0
