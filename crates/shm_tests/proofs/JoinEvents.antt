@@ -9,7 +9,7 @@ use Rattle.shm_graph.specs.Blocks.{classes}
 use Rattle.shm_graph.specs.Events.{Event, Nothing}
 use Rattle.shm_graph.specs.Laws.{Control, event_on, framed}
 use Rattle.shm_graph.specs.Tells.{Tells, happens_along}
-use Rattle.shm_graph.proofs.Placed.{spot-place}
+use Rattle.shm_graph.proofs.SpotPlaces.{spot-place}
 use Rattle.shm_recover.specs.declared.join.JoinState.{JoinState}
 use Rattle.shm_recover.specs.Joining.{JoinFits, join_control}
 
