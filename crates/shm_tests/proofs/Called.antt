@@ -14,7 +14,6 @@ use Rattle.shm_plain.specs.Pools.{Pool, IsOf, IsRun, memo_of, readied}
 use Rattle.shm_plain.specs.Calls.{Did, IsAtWork, Ran, Took}
 use Rattle.shm_plain.proofs.Calling.{may_acting, ready_still, still_working}
 use Rattle.shm_plain.proofs.OwnTurns.{called_did}
-use Rattle.shm_tests.proofs.Answering.{some_map}
 
 module _ {M A : Type 0} (k : Control M A) (fits : M → Memo → Memo → Trail → Type 0) (gives : M → Memo → Memo → Trail → A → Type 0) (c : ℕ) (p : Pool) where
   -- what a call says: c had the pool p and the machine m, with x word steps left, and then the pool q, with y left, and this answer

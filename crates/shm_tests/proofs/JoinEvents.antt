@@ -1,8 +1,7 @@
 -- a join is no event
-use Rattle.std.proofs.Common.{◌≡◌, ℕ, List, [], ◌∷◌, refl, ap}
+use Rattle.std.proofs.Common.{◌≡◌, ℕ, [], ◌∷◌, refl, ap}
 use Rattle.std.proofs.lemmas.Bool.{lt-ltb}
 use Rattle.shm_words.specs.declared.place.Place.TheVariants as place
-use Rattle.shm_graph.specs.declared.memo.Memo.{Memo}
 use Rattle.shm_graph.specs.declared.spot.Spot.{Spot}
 use Rattle.shm_graph.specs.Asks.{Trail}
 use Rattle.shm_graph.specs.Blocks.{classes}
@@ -10,7 +9,6 @@ use Rattle.shm_graph.specs.Events.{Event, Nothing}
 use Rattle.shm_graph.specs.Laws.{Control, event_on, framed}
 use Rattle.shm_graph.specs.Tells.{Tells, happens_along}
 use Rattle.shm_graph.proofs.SpotPlaces.{spot-place}
-use Rattle.shm_recover.specs.declared.join.JoinState.{JoinState}
 use Rattle.shm_recover.specs.Joining.{JoinFits, join_control}
 
 -- no event

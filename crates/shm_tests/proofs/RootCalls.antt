@@ -1,5 +1,5 @@
 -- count steps at the roots of an identity at work: when they fit, and what their answers leave
-use Rattle.std.proofs.Common.{◌≡◌, ◌≢◌, ℕ, ◌^◌, ◌<◌, true, refl, ap, subst, sym, arith, inr, [], Result}
+use Rattle.std.proofs.Common.{◌≡◌, ◌≢◌, ℕ, ◌^◌, ◌<◌, true, refl, sym, arith, inr, [], Result}
 use Rattle.std.specs.Prelude.{IfErr, IfOk, IfSome, Option}
 use Rattle.std.specs.Option.{is_some}
 use Rattle.std.specs.Result.{is_ok}

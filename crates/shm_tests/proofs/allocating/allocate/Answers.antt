@@ -4,8 +4,6 @@ use Rattle.shm_count.specs.declared.answer.Made.{Made}
 use Rattle.shm_count.specs.StepControl.{IsInside}
 use Rattle.shm_graph.specs.declared.ask.Me.{Me}
 use Rattle.shm_graph.specs.declared.memo.Memo.{Memo}
-use Rattle.shm_graph.specs.declared.memo.Status.TheVariants.{Live, Gone}
-use Rattle.shm_graph.specs.Agents.{acts, recovers}
 use Rattle.shm_graph.specs.Held.{is_loose}
 use Rattle.shm_graph.specs.Asks.{call_before}
 use Rattle.shm_graph.specs.Idle.{IsIdle}

@@ -7,7 +7,7 @@ use Rattle.shm_graph.specs.declared.ask.Me.{Me}
 use Rattle.shm_graph.specs.declared.memo.Memo.{Memo}
 use Rattle.shm_graph.specs.declared.memo.Status.{Status as AStatus}
 use Rattle.shm_graph.specs.declared.memo.Status.TheVariants.{New, Live, Gone}
-use Rattle.shm_graph.specs.Agents.{acts, entered, is_recoverer, recovers}
+use Rattle.shm_graph.specs.Agents.{entered, is_recoverer, recovers}
 use Rattle.shm_graph.specs.Asks.{Trail, call_before}
 use Rattle.shm_recover.specs.declared.join.JoinState.{JoinState}
 use Rattle.shm_recover.specs.Joining.{JoinFits, JoinGives, is_start, join_control, join_fresh}

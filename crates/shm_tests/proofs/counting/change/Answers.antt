@@ -9,29 +9,26 @@ use Rattle.shm_graph.specs.declared.memo.Memo.{Memo}
 use Rattle.shm_graph.specs.declared.spot.Spot.TheVariants.{Root}
 use Rattle.shm_graph.specs.Events.{Event}
 use Rattle.shm_graph.specs.Events as event
-use Rattle.shm_graph.specs.Mapped.{MappedGives}
 use Rattle.shm_graph.specs.Whole.{fits_now}
 use Rattle.shm_plain.specs.Pools.{memo_of, readied}
 use Rattle.shm_plain.specs.Calls.{Did, Ran}
 use Rattle.shm_plain.proofs.Calling.{fits_acting}
-use Rattle.shm_calls.specs.CallTells.{mapped_events}
-use Rattle.shm_count.specs.declared.answer.EraSpent.{EraSpent}
 use Rattle.shm_count.specs.declared.answer.UpFault.{UpFault}
-use Rattle.shm_count.specs.declared.point.Aim.TheVariants.{Up, Down, Change}
+use Rattle.shm_count.specs.declared.point.Aim.TheVariants.{Change}
 use Rattle.shm_count.specs.declared.point.StepPoint.TheVariants.{Era}
 use Rattle.shm_count.specs.declared.point.StepState.{StepState}
 use Rattle.shm_count.specs.Roots.{member, root_step}
 use Rattle.shm_count.specs.StepControl.{step_control}
 use Rattle.shm_count.specs.StepEvents.{own_events, step_event}
 use Rattle.shm_count.specs.StepFits.{StepFits, StepGives}
-use Rattle.shm_count.specs.StepMachines.{ChangeFits, ChangeGives, DownFits, DownGives, UpFits, UpGives, down_answer, down_control, down_means, down_told, up_answer, up_control, up_means, up_told}
+use Rattle.shm_count.specs.StepMachines.{ChangeFits, ChangeGives}
 use Rattle.shm_count.specs.StepTells.{step_tells}
 use Rattle.shm_tests.specs.Answers.{if_done}
 use Rattle.shm_tests.proofs.Answering.{some_map}
 use Rattle.shm_tests.proofs.Called.{Called, ran_fresh, told_by, works}
-use Rattle.shm_tests.proofs.RootAnswers.{change_dying, change_left, down_dying, down_left, up_left}
-use Rattle.shm_tests.proofs.RootCalls.{Left, RootLeft, change_fits, down_fits, root_left, root_small, up_fits}
-use Rattle.shm_tests.proofs.RootEvents.{events_at_slot, slot_laws, told_laws}
+use Rattle.shm_tests.proofs.RootAnswers.{change_dying, change_left}
+use Rattle.shm_tests.proofs.RootCalls.{Left, RootLeft, change_fits, root_left, root_small}
+use Rattle.shm_tests.proofs.RootEvents.{events_at_slot, slot_laws}
 use Rattle.shm_tests.proofs.counting.change.Goals.{After-new-change, After-call}
 use Rattle.shm_tests.proofs.counting.change.Goals as goal
 

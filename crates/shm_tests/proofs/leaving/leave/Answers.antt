@@ -1,12 +1,9 @@
-use Rattle.std.proofs.Common.{◌≡◌, ◌==◌, ℕ, Bool, true, not, refl, sym, ap, ◌∙◌, subst, List, Result}
+use Rattle.std.proofs.Common.{◌≡◌, refl, sym, ap, ◌∙◌, subst, List, Result}
 use Rattle.std.specs.Prelude.{Ok, Err, IfOk, IfSome}
 use Rattle.shm_graph.specs.declared.ask.Me.{Me}
 use Rattle.shm_graph.specs.declared.memo.Memo.{Memo}
 use Rattle.shm_graph.specs.declared.memo.Status.TheVariants.{Gone}
-use Rattle.shm_graph.specs.declared.spot.Spot.TheVariants.{Hold}
 use Rattle.shm_graph.specs.Events.{Event}
-use Rattle.shm_graph.specs.Held.{is_loose}
-use Rattle.shm_graph.specs.Idle.{IsIdle, hold_word}
 use Rattle.shm_graph.specs.Tells.{happens_along}
 use Rattle.shm_graph.specs.Whole.{fits_now}
 use Rattle.shm_plain.specs.Pools.{memo_of, readied}
@@ -17,8 +14,7 @@ use Rattle.shm_calls.specs.CallsControl.{calls_control, calls_does, calls_of}
 use Rattle.shm_calls.specs.CallsFit.{CallsFits, CallsGives}
 use Rattle.shm_calls.specs.CallsKeep.{calls_begin, calls_tells}
 use Rattle.shm_count.specs.declared.answer.EraSpent.{EraSpent}
-use Rattle.shm_count.specs.Roots.{AreRootsReached, member, root_word}
-use Rattle.shm_count.proofs.RootSpots.{is_here, roots_reached}
+use Rattle.shm_count.specs.Roots.{member}
 use Rattle.shm_recover.specs.declared.leave.LeaveState.{LeaveState}
 use Rattle.shm_recover.specs.LeaveControl.{LeaveAnswer, LeaveCall, leave_parts, leaving}
 use Rattle.shm_recover.specs.LeaveFits.{LeaveLeaves, leave_plan}
