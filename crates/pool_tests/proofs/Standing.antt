@@ -39,7 +39,7 @@ use Rattle.shm_tests.proofs.AllocRoots.{alloc_inside}
 use Rattle.shm_tests.proofs.RootAnswers.{down_dying, down_left, up_left}
 use Rattle.shm_count.proofs.RootMemos.{StepLeft}
 use Rattle.shm_count.proofs.RootSpots.{can_root, fits_root, is_here, some_inside}
-use Rattle.shm_tests.proofs.RunSteps.{ready_still}
+use Rattle.shm_plain.proofs.Calling.{ready_still}
 use Rattle.shm_tests.proofs.TearAnswers.{block_small, tear_fits}
 use Rattle.shm_pool.specs.declared.reply.Reply.{Reply}
 use Rattle.shm_pool.specs.declared.reply.Reply.TheVariants.{Done, Died}

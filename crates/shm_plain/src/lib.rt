@@ -2,6 +2,7 @@
 #![tactic(auto)]
 
 mod act;
+pub mod call;
 pub mod closed;
 pub mod first;
 pub mod pair;

@@ -27,7 +27,7 @@ use Rattle.shm_count.specs.TearGoing.{begins}
 use Rattle.shm_count.specs.TearMemos.{Stays}
 use Rattle.shm_count.specs.Roots.{member, root_word, tear_of}
 use Rattle.shm_count.proofs.RootSpots.{is_here}
-use Rattle.shm_tests.proofs.RunSteps.{fits_acting}
+use Rattle.shm_plain.proofs.Calling.{fits_acting}
 
 -- ---- before
 
