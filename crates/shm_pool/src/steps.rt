@@ -16,6 +16,7 @@ use crate::rule::{ClientBegins, Dies, Place, RecovererBegins, Say, Says, Top};
 use shm_graph::{Ask, Life, Machine, Turn};
 use std::marker::Brand;
 
+#[inline(always)]
 fn step_as<U: Say, M: Machine>(top: &Top, place: &mut Place, m: &M) -> u64
     requires table { (place.old.table_id ≡ top.now.table_id) × (top.now.table_id.words ≡ total_of top.now.key.geometry) × IsAlone place.old }
     requires me { IsOf top.now.key.geometry (alone place.old) M.control m.now }
@@ -37,6 +38,7 @@ fn step_as<U: Say, M: Machine>(top: &Top, place: &mut Place, m: &M) -> u64
 }
 
 /// One word step of a machine. What it found is given to the machine next.
+#[inline(always)]
 pub(crate) fn ask_step<M: Machine>(top: &Top, place: &mut Place, m: &M) -> u64
     requires table { (place.old.table_id ≡ top.now.table_id) × (top.now.table_id.words ≡ total_of top.now.key.geometry) × IsAlone place.old }
     requires me { IsOf top.now.key.geometry (alone place.old) M.control m.now }
@@ -48,6 +50,7 @@ pub(crate) fn ask_step<M: Machine>(top: &Top, place: &mut Place, m: &M) -> u64
 }
 
 /// One step of a machine, unless no life is left.
+#[inline(always)]
 pub(crate) fn step_place<M: Machine>(
     top: &Top,
     place: &mut Place,
@@ -76,6 +79,7 @@ pub(crate) fn step_place<M: Machine>(
 }
 
 /// The steps of a machine until it is finished; none where no life is left before.
+#[inline(always)]
 pub(crate) fn run_place<M: Machine>(
     top: &Top,
     place: &mut Place,

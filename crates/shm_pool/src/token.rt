@@ -173,6 +173,7 @@ impl Client {
     }
 
     /// One word step of a machine, unless no life is left or a call of this client has died.
+    #[inline(always)]
     pub fn step<M: Machine>(
         &mut self,
         pool: &SharedPool,
