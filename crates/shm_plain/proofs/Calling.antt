@@ -113,21 +113,6 @@ may_after m t p e f = go (is_gone m'.status) t.ends refl refl
     go true false h i = absurd (true≢false (sym (after false (λ j. h j && i j) ∙ e) ∙ f))
     go false b h i = absurd (true≢false (sym (after false (λ j. h j && t.ends) ∙ e) ∙ f))
 
--- its agent is of the kind that it was of
-kind_some : (f : Agent → Agent) → ((a : Agent) → (f a).kind ≡ a.kind) → (o : Option Agent) → recovers_by (with_some f o) ≡ recovers_by o
-kind_some f same None = refl
-kind_some f same (Some a) = ap is_recoverer (same a)
-
-kind_with : (f : Agent → Agent) → ((a : Agent) → (f a).kind ≡ a.kind) → (xs : List Agent) → recovers_by (last_agent (with_last f xs)) ≡ recovers_by (last_agent xs)
-kind_with f same xs = ap recovers_by (last-with_last f xs) ∙ kind_some f same (last_agent xs)
-
-kind_after : (m : Memo) (t : Step) (p : Spot) → recovers (memo_on m t p) ≡ recovers m
-kind_after m t p = go (ends_agent m t p)
-  where
-    go : (b : Bool) → recovers_by (last_agent (agents_after b m.agents)) ≡ recovers m
-    go false = kind_with stepped (λ a. refl) m.agents
-    go true = kind_with ended (λ a. refl) (with_last stepped m.agents) ∙ kind_with stepped (λ a. refl) m.agents
-
 -- ---- what a step answers
 
 goes_on : {A : Type 0} (o : Option A) → turn_of o ≡ More → o ≡ None
