@@ -1,5 +1,5 @@
 -- what a join asks
-use Rattle.std.specs.Prelude.{ℕ, [], ◌∷◌}
+use Rattle.std.specs.Prelude.{[], ◌∷◌}
 use Rattle.shm_words.specs.declared.place.Place.TheVariants as place
 use Rattle.shm_words.specs.Layout.{address}
 use Rattle.shm_graph.specs.declared.ask.Ask.{Ask}
