@@ -33,7 +33,6 @@ use Rattle.shm_count.specs.declared.point.Next.TheVariants as next
 use Rattle.shm_count.specs.declared.tear_point.TearPoint.TheVariants as point
 use Rattle.shm_count.specs.StepControl.{step_ask_at, step_next_at, is_over}
 use Rattle.shm_count.specs.StepEvents.{step_event_at, events_at}
-use Rattle.shm_graph.specs.Core.{core}
 use Rattle.shm_count.specs.StepFits.{CanStep, Done, Refused, PointHolds}
 use Rattle.shm_count.specs.StepFits as fits
 use Rattle.shm_count.specs.StepGoing.{has_part, events_with, Told, told_next}

@@ -1,22 +1,14 @@
 -- what is owed of taking a latch
-use Rattle.std.proofs.Common.{◌≡◌, ℕ, ◌+◌, refl, ap, ◌∙◌, arith, Bool, true, false, List, [], ◌++◌, length, inl, inr}
+use Rattle.std.proofs.Common.{◌≡◌, ℕ, ◌+◌, refl, ap, ◌∙◌, arith, Bool, true, false, List, [], ◌++◌, length}
 use Rattle.std.specs.Prelude.{◌==◌, if◌then◌else◌, Some, None}
-use Rattle.std.proofs.lemmas.Bool.{cases_eq, cond-true, lt-ltb}
+use Rattle.std.proofs.lemmas.Bool.{cond-true}
 use Rattle.std.proofs.lemmas.List.{length-append}
-use Rattle.shm_words.specs.declared.place.Place.TheVariants as place
-use Rattle.shm_words.specs.Layout.{address}
-use Rattle.shm_graph.specs.declared.spot.Spot.TheVariants.{Hold, Latch}
+use Rattle.shm_graph.specs.declared.spot.Spot.TheVariants.{Hold}
 use Rattle.shm_graph.specs.declared.memo.Memo.{Memo}
-use Rattle.shm_graph.specs.declared.memo.Step.{Step}
 use Rattle.shm_graph.specs.Asks.{Trail}
-use Rattle.shm_graph.specs.Blocks.{classes}
-use Rattle.shm_graph.specs.Changes.{called, with_call, with_end}
 use Rattle.shm_graph.specs.Events.{Event}
-use Rattle.shm_graph.specs.Laws.{Outcome, framed}
-use Rattle.shm_graph.specs.Spots.{spot_at}
+use Rattle.shm_graph.specs.Laws.{Outcome}
 use Rattle.shm_graph.specs.Views.{own_word}
-use Rattle.shm_graph.proofs.LoadKeeping.{lost_kept}
-use Rattle.shm_graph.proofs.SpotPlaces.{spot-place}
 use Rattle.shm_graph.proofs.Spotting.{same_spot_self}
 use Rattle.shm_steps.specs.Conditions.{IsHere}
 use Rattle.shm_steps.proofs.Cores.{here_same}
@@ -24,7 +16,6 @@ use Rattle.shm_steps.proofs.WordsOwn.{hold_store}
 use Rattle.shm_steps.proofs.WordsShared.{latch_take}
 use Rattle.shm_calls.specs.Plans.{PlanLaws, PlanStays, Follows}
 use Rattle.shm_calls.specs.Words.{word_control, word_part_laws, IsWord, WordLeaves}
-use Rattle.shm_calls.specs.WordSteps.{word_at}
 use Rattle.shm_graph.specs.Core.{core}
 use Rattle.shm_ref.specs.declared.hold.HoldPoint.{HoldPoint}
 use Rattle.shm_ref.specs.declared.hold.HoldPoint.TheVariants.{Want, Take, Back}

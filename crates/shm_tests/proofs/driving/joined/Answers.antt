@@ -66,7 +66,7 @@ pub returns-in-Some-clause-era : goal.returns-in-Some-clause-era
 returns-in-Some-clause-era c =
     let s : Start = record { geometry = c.args.geometry; first_era = c.args.first_era; tables = c.args.tables } in
     let start : c.run.new.pool.start ≡ s = c.in-Some.ensures.start ∙ ap (λ (p : Pool). p.start) c.in_ok-pool.ensures.first in
-    ap (λ xs. own_word xs (Era c.args.who c.args.who)) (returns-in-Some-clause-gives c).own ∙ (first_own_era c.run.new.pool.start c.args.who ∙ ap (λ (z : Start). z.first_era) start)
+    ap (λ (x : Memo). own_word x.own (Era c.args.who c.args.who)) (returns-in-Some-clause-gives c).rest ∙ (first_own_era c.run.new.pool.start c.args.who ∙ ap (λ (z : Start). z.first_era) start)
 
 pub returns-in-Some-clause-roots : goal.returns-in-Some-clause-roots
 returns-in-Some-clause-roots c k = ap (λ xs. own_word xs (Root c.args.who k)) (returns-in-Some-clause-gives c).own
