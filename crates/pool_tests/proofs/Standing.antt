@@ -172,14 +172,14 @@ out_gone s e x l out = subst (GoneNow e.who) there (by (subst IsOut (sym there) 
 pub joined_gone : (me : Me) (r0 r : Memo) (tr : Trail) → GoneNow me.who r0 → JoinGives (join_fresh me) r0 r tr tt → GoneNow me.who r
 joined_gone me r0 r tr h j =
     record {
-      roots = λ k. ap (λ (o : List Stored). own_word o (spot.Root me.who k)) j.own ∙ h.roots k;
-      hold = ap (λ (o : List Stored). own_word o (spot.Hold me.who)) j.own ∙ h.hold;
-      idle = j.op ∙ h.idle;
-      latched = j.latch ∙ h.latched;
-      segments = j.owned ∙ h.segments;
-      dyings = j.dying ∙ h.dyings;
-      sends = λ i. ap (λ (xs : List ℕ). slice_index xs i) j.unsent ∙ h.sends i;
-      takes = λ i. ap (λ (xs : List ℕ). slice_index xs i) j.untaken ∙ h.takes i;
+      roots = λ k. ap (λ (x : Memo). own_word x.own (spot.Root me.who k)) j.rest ∙ h.roots k;
+      hold = ap (λ (x : Memo). own_word x.own (spot.Hold me.who)) j.rest ∙ h.hold;
+      idle = ap (λ (x : Memo). x.op) j.rest ∙ h.idle;
+      latched = ap (λ (x : Memo). x.latch) j.rest ∙ h.latched;
+      segments = ap (λ (x : Memo). x.owned) j.rest ∙ h.segments;
+      dyings = ap (λ (x : Memo). x.dying) j.rest ∙ h.dyings;
+      sends = λ i. ap (λ (x : Memo). slice_index x.unsent i) j.rest ∙ h.sends i;
+      takes = λ i. ap (λ (x : Memo). slice_index x.untaken i) j.rest ∙ h.takes i;
     }
 
 -- and so do the deaths and beginnings of agents

@@ -1,6 +1,5 @@
 -- memos by what a count step reads of them: their cores, the steps in progress, and the slots that a step may have
-use Rattle.std.proofs.Common.{◌≡◌, ℕ, ◌+◌, ◌≤◌, refl, sym, ap, ◌∙◌, subst, Bool, true, false, cond, eqb}
-use Rattle.std.proofs.lemmas.Bool.{cond-true, and_from}
+use Rattle.std.proofs.Common.{◌≡◌, ℕ, ◌+◌, ◌≤◌, refl, sym, ap, ◌∙◌, subst, true, false, eqb}
 use Rattle.shm_words.specs.declared.geometry.Geometry.{Geometry}
 use Rattle.shm_words.specs.Headers.{header_of}
 use Rattle.shm_graph.specs.declared.ask.Me.{Me}
@@ -14,14 +13,13 @@ use Rattle.shm_graph.specs.declared.spot.Spot.TheVariants as spot
 use Rattle.shm_graph.specs.declared.memo.Op.TheVariants as op
 use Rattle.shm_graph.specs.Exchanges.{reparted, cut, without_made, lowered, with_untaken}
 use Rattle.shm_graph.specs.Stores.{op_written, written, stored_on, with_own, era_stored, is_lowering}
-use Rattle.shm_graph.specs.Spots.{same_spot, spot_at}
+use Rattle.shm_graph.specs.Spots.{spot_at}
 use Rattle.shm_graph.specs.Reach.{learnt, sifted}
 use Rattle.shm_graph.specs.Views.{own_word}
 use Rattle.shm_graph.specs.Ops.{slot_of, is_op}
 use Rattle.shm_graph.specs.Asks.{at_of, Trail}
 use Rattle.shm_graph.specs.Laws.{Stands, Frame, KeptAt}
 use Rattle.shm_graph.specs.Blocks.{classes}
-use Rattle.shm_graph.proofs.Spotting.{same_spot_self}
 use Rattle.shm_laws.specs.Steps.{dying_after}
 use Rattle.shm_steps.proofs.MemoCommits.{untaken_list, known_left, known_lowered, lowered_is, with_untaken_is, unsent_list, with_unsent_is}
 use Rattle.shm_steps.proofs.Cores.{HasSlot, body_word, core_cond}

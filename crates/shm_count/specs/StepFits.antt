@@ -1,5 +1,5 @@
 -- when a count step may begin, what its memo shows on the way, and what it leaves
-use Rattle.std.specs.Prelude.{◌≡◌, ◌≢◌, ℕ, ◌+◌, ◌<◌, ◌≤◌, Bool, true, false, ◌&&◌, not, ◌==◌, ◌⊎◌, None, Result, Ok, Err, [], ◌∷◌, ◌++◌}
+use Rattle.std.specs.Prelude.{◌≡◌, ◌≢◌, ℕ, ◌+◌, ◌<◌, ◌≤◌, Bool, true, false, ◌&&◌, not, ◌==◌, ◌⊎◌, Result, Ok, Err, [], ◌∷◌, ◌++◌}
 use Rattle.std.specs.List.{Contains}
 use Rattle.shm_words.specs.Layout.{GeometryFits, total_of}
 use Rattle.shm_words.specs.Headers.{header_of}

@@ -1,43 +1,26 @@
 -- what the memo shows on the way of a count step: what stays where a word is read, where a row is raised, and in each half
-use Rattle.std.proofs.Common.{◌≡◌, ◌≢◌, ℕ, zero, suc, ◌+◌, ◌-◌, ◌^◌, ◌≤◌, refl, sym, ap, ◌∙◌, subst, arith, Bool, true, false, not, cond, eqb, leb, ◌&&◌, List, [], ◌∷◌, ◌++◌, map}
-use Rattle.std.specs.List.{Contains, list_any, filter}
+use Rattle.std.proofs.Common.{◌≡◌, ◌≢◌, ℕ, ◌+◌, ◌-◌, ◌^◌, ◌≤◌, refl, sym, ap, ◌∙◌, subst, arith, true, false, not, cond, List}
+use Rattle.std.specs.List.{Contains}
 use Rattle.std.proofs.lemmas.Bool.{eq-eqb, ne_eqb, and_from, cond-true, true≢false}
-use Rattle.std.proofs.lemmas.List.Elements.{Contains-append_right}
-use Rattle.shm_graph.specs.declared.ask.Ask.{Ask}
-use Rattle.shm_graph.specs.declared.ask.Ask.TheVariants.{Load}
 use Rattle.shm_graph.specs.declared.ask.Me.{Me}
 use Rattle.shm_graph.specs.declared.spot.Spot.{Spot}
 use Rattle.shm_graph.specs.declared.spot.Spot.TheVariants as spot
-use Rattle.shm_graph.specs.declared.memo.Fact.{Fact}
-use Rattle.shm_graph.specs.declared.memo.Fact.TheVariants.{Header as HeaderRead, Counter}
-use Rattle.shm_graph.specs.declared.memo.Half.TheVariants.{Raising, Lowering}
+use Rattle.shm_graph.specs.declared.memo.Fact.TheVariants.{Header as HeaderRead}
+use Rattle.shm_graph.specs.declared.memo.Half.TheVariants.{Lowering}
 use Rattle.shm_graph.specs.declared.memo.Second.TheVariants.{Open}
-use Rattle.shm_graph.specs.declared.memo.Look.{Look}
 use Rattle.shm_graph.specs.declared.memo.Memo.{Memo}
 use Rattle.shm_graph.specs.declared.memo.Op.{Op}
 use Rattle.shm_graph.specs.declared.memo.Op.TheVariants as op
-use Rattle.shm_graph.specs.declared.memo.Step.{Step}
 use Rattle.shm_graph.specs.declared.memo.Stored.{Stored}
-use Rattle.shm_graph.specs.Agents.{recovers}
-use Rattle.shm_laws.proofs.Keep.{Contains-filter}
-use Rattle.shm_graph.proofs.Calling.{called_by}
-use Rattle.shm_graph.specs.Changes.{is_lane_count, called, test_before, with_call, with_end, memo_on}
-use Rattle.shm_graph.specs.Held.{room_of}
-use Rattle.shm_graph.specs.Laws.{Frame, framed}
 use Rattle.shm_graph.specs.Ops.{Quiet, cover, cover_of}
-use Rattle.shm_graph.specs.Reach.{shown, roots_below, in_slots, not_zero, is_reached, learnt}
-use Rattle.shm_graph.specs.Readings.{row_read, header_read, op_refused, raised_by, is_held}
+use Rattle.shm_graph.specs.Reach.{shown, is_reached, learnt}
 use Rattle.shm_graph.specs.Spots.{same_spot}
 use Rattle.shm_graph.specs.Stores.{with_own, written, op_closed, is_lowering, without_looks, era_stored, making_with}
 use Rattle.shm_graph.specs.Views.{own_word}
-use Rattle.shm_graph.proofs.Calling.{called_part}
-use Rattle.shm_graph.proofs.KindKeeping.{in_frame}
 use Rattle.shm_graph.proofs.Loads.{choice}
 use Rattle.shm_graph.proofs.Spotting.{same_spot_self, same_spot_is, same_spot_not}
-use Rattle.shm_steps.specs.Conditions.{IsHere}
-use Rattle.shm_words.specs.Headers.{header_of}
 use Rattle.shm_words.specs.Redos.{redo_word}
-use Rattle.shm_steps.proofs.Cores.{called_core, room_least, roots_same, reach_same, here_same}
+use Rattle.shm_steps.proofs.Cores.{reach_same}
 use Rattle.shm_count.specs.declared.point.Aim.{Aim}
 use Rattle.shm_count.specs.declared.point.Aim.TheVariants.{Up, Down, Change}
 use Rattle.shm_count.specs.declared.point.Part.{Part}

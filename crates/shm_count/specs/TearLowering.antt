@@ -33,7 +33,6 @@ use Rattle.shm_count.specs.declared.point.Next.TheVariants as next
 use Rattle.shm_count.specs.declared.tear_point.TearPoint.TheVariants as point
 use Rattle.shm_count.specs.StepControl.{step_ask_at, step_next_at, is_over}
 use Rattle.shm_count.specs.StepEvents.{step_event_at, events_at}
-use Rattle.shm_graph.specs.Core.{core}
 use Rattle.shm_count.specs.StepFits.{CanStep, Done, Refused, PointHolds}
 use Rattle.shm_count.specs.StepFits as fits
 use Rattle.shm_count.specs.StepGoing.{has_part, events_with, Told, told_next}
@@ -212,7 +211,7 @@ module _ (me : Me) (first : ℕ) (r0 : Memo) (b k : ℕ) (vs : List Visit) (g : 
   answered alive (next.Point y2) e told all may h = on_holds y2 e (all ∙ ap (λ x. es ++ x) told) may h
   answered alive (next.Answer (Ok z)) e told all may h =
       done z e (all ∙ ap (λ x. es ++ x) told)
-      (down_leaves me slot b i t m m2 z (let u = can.geometry.clients in let l = can.who in omega arith) found.era (a.settled.stays.op ∙ can.idle) a.settled.visited.dying found h)
+      (down_leaves me slot b i t m m2 z (let u = can.geometry.clients in let l = can.who in omega arith) found.era (ap (λ (x : Memo). x.op) a.settled.stays.rest ∙ can.idle) a.settled.visited.dying found h)
     where
       done : (z : Bool) → step_next_at me (aims.Down t) y n ≡ next.Answer (Ok z) → es2 ≡ es ++ event.Down c (Body b i) t ∷ [] → Lowered c b i t z m m2 → NextHolds me first r0 b (lowered_next b g i t (Ok z)) m2 es2 tr2
       done true q o low = fell_holds q o low alive

@@ -47,10 +47,10 @@ use Rattle.shm_count.specs.TearMemos.{Stays, Retains, IsTagged}
 
 -- no step is in progress at the points beside those of a step down
 is_idle : (me : Me) (first : ℕ) (r0 m : Memo) → CanTear me first r0 → Stays me.who r0 m → m.op ≡ op.Nothing
-is_idle me first r0 m can stays = stays.op ∙ can.idle
+is_idle me first r0 m can stays = ap (λ (x : Memo). x.op) stays.rest ∙ can.idle
 
 is_here : (me : Me) (first : ℕ) (r0 m : Memo) → CanTear me first r0 → Stays me.who r0 m → IsHere m
-is_here me first r0 m can stays = here_same r0 m stays.status can.here
+is_here me first r0 m can stays = here_same r0 m (ap (λ (x : Memo). x.status) stays.rest) can.here
 
 -- ---- a link
 

@@ -92,7 +92,7 @@ module _ (me : Me) (first : ℕ) (r0 : Memo) (b k : ℕ) (vs : List Visit) (g : 
   tag = a.shows.0
 
   idle : m.op ≡ op.Nothing
-  idle = a.settled.stays.op ∙ can.idle
+  idle = ap (λ (x : Memo). x.op) a.settled.stays.rest ∙ can.idle
 
   here : at ≡ b + 2 + i
   here = word_address_is me b i can.geometry (let l = tag.room in let u = a.shows.2 in omega arith)
@@ -218,7 +218,7 @@ module _ (me : Me) (first : ℕ) (r0 : Memo) (b k : ℕ) (vs : List Visit) (g : 
   may_step some =
       let y = found some in
       let own : m2.op ≡ op.Nothing = ap (λ (x : Memo). x.op) cored ∙ idle in
-      let is : IsHere m2 = here_same r0 m2 settled.stays.status can.here in
+      let is : IsHere m2 = here_same r0 m2 (ap (λ (x : Memo). x.status) settled.stays.rest) can.here in
       record {
         geometry = can.geometry;
         who = st.who;

@@ -1,6 +1,6 @@
 -- a leaving as a plan: what is known before each call, and what is left
-use Rattle.std.specs.Prelude.{◌≡◌, ◌≢◌, ℕ, ◌+◌, ◌*◌, ◌<◌, ◌≤◌, Result, Ok, Err, List, [], slice_index, None}
-use Rattle.std.specs.List.{Contains, filter}
+use Rattle.std.specs.Prelude.{◌≡◌, ℕ, ◌+◌, ◌*◌, ◌<◌, ◌≤◌, Result, Ok, Err, List, [], slice_index, None}
+use Rattle.std.specs.List.{Contains}
 use Rattle.shm_graph.specs.declared.ask.Me.{Me}
 use Rattle.shm_graph.specs.declared.spot.Spot.TheVariants.{Hold}
 use Rattle.shm_graph.specs.declared.memo.Memo.{Memo}
@@ -8,7 +8,6 @@ use Rattle.shm_graph.specs.declared.memo.Status.TheVariants as status
 use Rattle.shm_graph.specs.Asks.{Trail, IsWithin}
 use Rattle.shm_graph.specs.Events.{Event}
 use Rattle.shm_graph.specs.Laws.{GoneNow}
-use Rattle.shm_graph.specs.Stores.{not_segment}
 use Rattle.shm_graph.specs.Views.{own_word}
 use Rattle.shm_steps.specs.WordParts.{GoneStored, SegmentGiven, SegmentLoaded}
 use Rattle.shm_calls.specs.CallsPart.{calls_part}
@@ -17,7 +16,6 @@ use Rattle.shm_calls.specs.Plans.{Planned}
 use Rattle.shm_calls.specs.Words.{word_part}
 use Rattle.shm_count.specs.declared.answer.EraSpent.{EraSpent}
 use Rattle.shm_count.specs.Roots.{root_word}
-use Rattle.shm_graph.specs.Core.{core}
 use Rattle.shm_count.specs.TearEvents.{Visit, frees}
 use Rattle.shm_recover.specs.declared.leave.LeavePoint.{LeavePoint}
 use Rattle.shm_recover.specs.declared.leave.LeavePoint.TheVariants.{Roots, Look, Give, Status}

@@ -1,32 +1,21 @@
 -- the word steps of a leaving: what each needs, and what holds after it
-use Rattle.std.proofs.Common.{◌≡◌, ℕ, ◌<◌, ◌≤◌, refl, sym, ap, ◌∙◌, subst, arith, Bool, false, List, [], ◌∷◌, inl, inr}
-use Rattle.std.specs.List.{Contains, filter}
-use Rattle.std.proofs.lemmas.Bool.{and_parts, cases_eq, eq-eqb, lt-ltb, ltb-true}
-use Rattle.shm_words.specs.declared.place.Place.TheVariants as place
-use Rattle.shm_words.specs.Layout.{address}
-use Rattle.shm_graph.specs.declared.ask.Ask.TheVariants as ask
+use Rattle.std.proofs.Common.{◌≡◌, ℕ, ◌<◌, ◌≤◌, refl, ◌∙◌, subst, arith, Bool, false, List, [], ◌∷◌, inl, inr}
+use Rattle.std.specs.List.{Contains}
+use Rattle.std.proofs.lemmas.Bool.{and_parts, cases_eq, eq-eqb, ltb-true}
 use Rattle.shm_graph.specs.declared.ask.Me.{Me}
 use Rattle.shm_graph.specs.declared.spot.Spot.{Spot}
-use Rattle.shm_graph.specs.declared.spot.Spot.TheVariants.{Status, Root, Segment}
+use Rattle.shm_graph.specs.declared.spot.Spot.TheVariants.{Root, Segment}
 use Rattle.shm_graph.specs.declared.memo.Memo.{Memo}
 use Rattle.shm_graph.specs.Blocks.{classes}
 use Rattle.shm_graph.specs.Held.{HeldAt}
-use Rattle.shm_graph.specs.Laws.{GoneNow, framed}
-use Rattle.shm_graph.specs.Spots.{spot_at}
-use Rattle.shm_graph.specs.Stores.{not_segment}
+use Rattle.shm_graph.specs.Laws.{GoneNow}
 use Rattle.shm_graph.specs.Views.{view}
-use Rattle.shm_graph.proofs.Calling.{called_by}
-use Rattle.shm_graph.proofs.SpotPlaces.{at_is_in, spot-place}
-use Rattle.shm_graph.proofs.StatusKeeping.{gone_kept}
-use Rattle.shm_steps.specs.Conditions.{IsHere}
-use Rattle.shm_steps.proofs.PageSteps.{given_up}
+use Rattle.shm_graph.proofs.SpotPlaces.{at_is_in}
 use Rattle.shm_calls.specs.Parts.{IsHeld}
 use Rattle.shm_calls.specs.Words.{IsWord}
 use Rattle.shm_steps.proofs.WordsOwn.{gone_store}
 use Rattle.shm_steps.proofs.WordsShared.{segment_give, segment_load}
 use Rattle.shm_count.specs.Roots.{root_word}
-use Rattle.shm_graph.specs.Core.{core}
-use Rattle.shm_steps.proofs.Cores.{called_core}
 use Rattle.shm_recover.specs.declared.leave.LeavePoint.TheVariants.{Look, Give}
 use Rattle.shm_recover.specs.declared.leave.LeavePoint.TheVariants as point
 use Rattle.shm_recover.specs.declared.leave.LeaveState.{LeaveState}

@@ -81,14 +81,14 @@ left_lowered c k t z m r h =
 
 -- a tear-down leaves the rest
 pub stays_rest : (c : ℕ) (m r : Memo) → Stays c m r → rest r ≡ rest m
-stays_rest c m r s = rw (s.status, s.latch, s.making, s.owned, s.sent, s.unsent, s.received, s.untaken, s.part) refl
+stays_rest c m r s = ap rest s.rest
 
 -- and what was left before
 pub left_stays : (c : ℕ) (e : ℕ → Bool) (m q r : Memo) → Left c e m q → Stays c q r → Left c e m r
 left_stays c e m q r h s =
     record {
       rest = stays_rest c q r s ∙ h.rest;
-      op = s.op ∙ h.op;
+      op = ap (λ (x : Memo). x.op) s.rest ∙ h.op;
       own = λ p l n. s.own p l ∙ h.own p l n;
       roots = λ j. elim (h.roots j) [ inl u ↦ inl (s.own (Root c j) refl ∙ u) | inr u ↦ inr (s.own (Root c j) refl ∙ u) ];
     }

@@ -2,7 +2,7 @@
 use Rattle.std.proofs.Common.{◌≡◌, ◌≢◌, ℕ, ◌+◌, ◌^◌, ◌<◌, ◌≤◌, refl, sym, ap, ◌∙◌, subst, arith, Bool, false, List, [], ◌∷◌}
 use Rattle.std.specs.Prelude.{◌-◌, Result, Ok, Err}
 use Rattle.std.specs.List.{Contains}
-use Rattle.std.proofs.lemmas.Bool.{and_from, eq-eqb, lt-ltb, true≢false}
+use Rattle.std.proofs.lemmas.Bool.{eq-eqb, true≢false}
 use Rattle.shm_words.specs.declared.place.Place.TheVariants as place
 use Rattle.shm_words.specs.Layout.{address, total_of}
 use Rattle.shm_graph.specs.declared.ask.Ask.TheVariants as ask
@@ -16,13 +16,10 @@ use Rattle.shm_graph.specs.Asks.{Trail, IsWithin}
 use Rattle.shm_graph.specs.Events.{Event}
 use Rattle.shm_graph.specs.Events as event
 use Rattle.shm_graph.specs.Held.{HeldAt}
-use Rattle.shm_graph.specs.Laws.{framed}
 use Rattle.shm_graph.specs.Ops.{cover, cover_of}
-use Rattle.shm_graph.specs.Spots.{spot_at}
 use Rattle.shm_graph.specs.Views.{own_word, view, targets}
 use Rattle.shm_graph.proofs.Holders.{target_counted}
 use Rattle.shm_graph.proofs.Reached.{shown_target}
-use Rattle.shm_graph.proofs.SpotPlaces.{spot-place}
 use Rattle.shm_calls.specs.declared.word.Word.{Word}
 use Rattle.shm_calls.specs.Parts.{IsHeld, Part, PartLaws, weaker, weaker_laws}
 use Rattle.shm_calls.specs.Words.{word_part}
@@ -39,7 +36,7 @@ use Rattle.shm_count.specs.StepControl.{IsInside}
 use Rattle.shm_graph.specs.Core.{core}
 use Rattle.shm_count.specs.StepFits.{CanStep}
 use Rattle.shm_count.specs.StepMachines.{down_control, down_told}
-use Rattle.shm_steps.proofs.Cores.{called_core, room_least}
+use Rattle.shm_steps.proofs.Cores.{room_least}
 use Rattle.shm_count.proofs.RootLeaves.{root_leaves}
 use Rattle.shm_count.proofs.RootSpots.{fits_root, root_can}
 use Rattle.shm_count.specs.StepBound.{step_bound}

@@ -1,7 +1,7 @@
 -- word steps at the headers, the tags and the words of blocks as parts: what each needs of the memo
-use Rattle.std.proofs.Common.{◌≡◌, ◌≢◌, ℕ, ◌+◌, ◌-◌, ◌/◌, ◌%◌, ◌<◌, refl, sym, ap, ◌∙◌, subst, arith, Bool, true, false, cond, eqb, leb, not, ◌&&◌, ◌||◌, List, [], ◌∷◌, ◌++◌, map, get_or, Option, None, Some}
+use Rattle.std.proofs.Common.{◌≡◌, ◌≢◌, ℕ, ◌+◌, ◌-◌, ◌*◌, ◌/◌, ◌%◌, ◌<◌, refl, sym, ap, ◌∙◌, subst, arith, Bool, true, false, cond, eqb, leb, not, ◌&&◌, ◌||◌, List, [], ◌∷◌, ◌++◌, map, get_or, Option, None, Some}
 use Rattle.std.specs.List.{All, Contains}
-use Rattle.std.proofs.lemmas.Bool.{and_from, cond-false, cond-true, eq-eqb, le-leb, lt-leb, lt-ltb, or_left, or_right}
+use Rattle.std.proofs.lemmas.Bool.{and_from, cond-false, cond-true, eq-eqb, le-leb, lt-leb, lt-ltb, ne_eqb, or_left, or_right}
 use Rattle.std.proofs.lemmas.Cmp.{nat_eq_equiv}
 use Rattle.std.proofs.lemmas.List.Elements.{All-append, All-cons, All-contains, All-map, All-nil}
 use Rattle.std.proofs.lemmas.Map.Views.{list_any-from_Contains}
@@ -13,7 +13,8 @@ use Rattle.shm_words.proofs.Classing.{class_room}
 use Rattle.shm_graph.specs.declared.ask.Ask.TheVariants.{Load, Store}
 use Rattle.shm_graph.specs.declared.ask.Me.{Me}
 use Rattle.shm_graph.specs.declared.spot.Spot.{Spot}
-use Rattle.shm_graph.specs.declared.spot.Spot.TheVariants.{Body, Head, Spare, Tag}
+use Rattle.shm_graph.specs.declared.spot.Spot.TheVariants.{Body, Head, Spare, Tag, Unused}
+use Rattle.shm_graph.specs.declared.memo.Fact.TheVariants.{Class}
 use Rattle.shm_graph.specs.declared.memo.Memo.{Memo}
 use Rattle.shm_graph.specs.declared.memo.Op.{Op}
 use Rattle.shm_graph.specs.declared.memo.Op.TheVariants as op
@@ -28,7 +29,9 @@ use Rattle.shm_graph.specs.Laws.{Frame, Stands, framed}
 use Rattle.shm_graph.specs.Ops.{cover, cover_of, is_op, slot_of}
 use Rattle.shm_graph.specs.Reach.{is_dying, is_reached, learnt, reached_blocks}
 use Rattle.shm_graph.specs.Readings.{is_held, is_latched, op_refused, raised_by, reference_read, word_read}
-use Rattle.shm_graph.specs.Spots.{class_at, segment_of, spot_at}
+use Rattle.shm_graph.proofs.Calls.{FactHolds}
+use Rattle.shm_graph.proofs.SpotPlaces.{body_spot_at}
+use Rattle.shm_graph.specs.Spots.{block_spot, class_at, segment_of, spot_at}
 use Rattle.shm_graph.specs.Stores.{op_written, written}
 use Rattle.shm_graph.specs.Telling.{Claim, Directory, Entry, Other, Role, Value, bare, claim_of, claims, covers, role_claim, roles, shaped, tag_claim, tag_claims, word_of_block}
 use Rattle.shm_graph.specs.Views.{view}
@@ -193,6 +196,17 @@ module _ (first : Bool) (me : Me) (m : Memo) (l : me.who < me.geometry.clients) 
 
     pub told_there : IsTold c m b → IsThere first me (Load b) (HeaderLoaded me.geometry b) m (Head b)
     told_there (k, has, of) w r f st same = subst (λ d. spot_at me.geometry (classes w) d ≡ Head d) of (told_block me w r st.held st.who k (subst (λ (x : Memo). Contains (claims c x) k) (sym same) has))
+
+    -- so where it is the one at this place of a page whose class was read
+    pub paged_there : (s q k i : ℕ) → s < me.geometry.segments → q < 16 → i < 128 → b ≡ bodies me.geometry + 2048 * s + 128 * q + i → i % k ≡ 0 → Contains m.facts (Class s q k) → IsThere first me (Load b) (HeaderLoaded me.geometry b) m (Head b)
+    paged_there s q k i ls lq li here first_word has w r f st same =
+        let at : ℕ = bodies me.geometry + 2048 * s + 128 * q + i in
+        let fact = All-contains (FactHolds me.geometry w (view r)) (r c).facts (Class s q k) (st.held.facts c st.who) (subst (λ (x : Memo). Contains x.facts (Class s q k)) (sym same) has) in
+        let is : spot_at me.geometry (classes w) at ≡ Head at =
+        body_spot_at me.geometry (classes w) s q i ls lq li
+        ∙ (ap (λ y. block_spot y at i) fact.1
+        ∙ (cond-false (eqb k 0) (Unused at) _ (ne_eqb k 0 fact.0) ∙ cond-true (eqb (i % k) 0) (Head at) _ (eq-eqb (i % k) 0 first_word))) in
+        subst (λ d. spot_at me.geometry (classes w) d ≡ Head d) (sym here) is
 
   -- ---- tags
 

@@ -21,6 +21,7 @@ use Rattle.shm_graph.specs.Agents.{recovers}
 use Rattle.shm_graph.specs.Blocks.{classes}
 use Rattle.shm_graph.specs.Changes.{called, test_before}
 use Rattle.shm_graph.specs.Core.{core}
+use Rattle.shm_graph.specs.Held.{status_word}
 use Rattle.shm_graph.specs.Laws.{GoneNow, KeptAt, MayEnd, framed}
 use Rattle.shm_graph.specs.Ops.{IsUncommitted}
 use Rattle.shm_graph.specs.Readings.{read_on, row_read}
@@ -38,7 +39,7 @@ use Rattle.shm_calls.specs.Words.{IsWord, word_more}
 use Rattle.shm_calls.specs.WordSteps.{KindKept, load_at, word_at}
 use Rattle.shm_steps.specs.Conditions.{MayWrite}
 use Rattle.shm_steps.specs.OwnWords.{MayShow, MayHold, MayClose}
-use Rattle.shm_steps.specs.WordParts.{OwnLoaded, HoldLoaded, HoldStored, LiveStored, DeadStored, GoneStored, RowStored, EraClosed, EraClosedLowering, EraStored, CountLoaded, Makes, NamedStored}
+use Rattle.shm_steps.specs.WordParts.{OwnLoaded, StatusLoaded, HoldLoaded, HoldStored, LiveStored, DeadStored, GoneStored, RowStored, EraClosed, EraClosedLowering, EraStored, CountLoaded, Makes, NamedStored}
 use Rattle.shm_steps.proofs.Cores.{called_core, core_cond}
 use Rattle.shm_steps.proofs.OwnStores.{hold_stored, row_stored}
 use Rattle.shm_steps.proofs.OwnStoresEra.{era_closed}
@@ -156,6 +157,12 @@ module _ (first : Bool) (me : Me) (m : Memo) (l : me.who < me.geometry.clients) 
 
   status_placed : IsPlaced (place.Status c) (Status c)
   status_placed = (λ class. spot-place me.geometry class (place.Status c) (lt-ltb c me.geometry.clients l), λ e. cc, refl)
+
+  -- the status is loaded
+  pub status_load : IsWord first me (Load (address me.geometry (place.Status c))) StatusLoaded (word_for me (Load (address me.geometry (place.Status c)))) m
+  status_load =
+      load_at first me (address me.geometry (place.Status c)) StatusLoaded m (Status c) status_placed.0 status_placed.1 status_placed.2 tt
+      (λ w r f st stands same. record { found = sym (st.held.state c st.who) ∙ ap (λ (x : Memo). status_word x.status) same; left = at_step r c m (framed me (Load (address me.geometry (place.Status c))) f (w (Status c))) same; read = tt })
 
   -- the hold word, as a first word step too
   pub hold_store : (v : ℕ) → MayHold me.geometry.clients m v → IsWord first me (Store (address me.geometry (place.Hold c)) v) (HoldStored c v) (word_for me (Store (address me.geometry (place.Hold c)) v)) m

@@ -80,10 +80,10 @@ pub tear_idle : (g : Geometry) (c b : ℕ) (r0 r : Memo) (tr : Trail) (a : Resul
 tear_idle g c b r0 r tr a idle h =
     let s = stays_of g c b r0 r tr a h in
     record {
-      live = s.status ∙ idle.live;
-      op = s.op ∙ idle.op;
-      making = s.making ∙ idle.making;
-      hold = s.own (Hold c) refl ∙ (idle.hold ∙ ap hold_word (sym s.latch));
+      live = ap (λ (x : Memo). x.status) s.rest ∙ idle.live;
+      op = ap (λ (x : Memo). x.op) s.rest ∙ idle.op;
+      making = ap (λ (x : Memo). x.making) s.rest ∙ idle.making;
+      hold = s.own (Hold c) refl ∙ (idle.hold ∙ ap hold_word (sym (ap (λ (x : Memo). x.latch) s.rest)));
     }
 
 -- where it is done the block is no zero-count block any more

@@ -112,10 +112,10 @@ returns-in-Some-clause-events c =
 pub returns-in-Some-clause-era : goal.returns-in-Some-clause-era
 returns-in-Some-clause-era c =
     let at = (goal.at.returns-in-Some-clause-era c).In-Some in
-    ap (λ xs. own_word xs (Era c.args.who c.args.who)) (gives at).own ∙ (first_own_era c.call.new.self.start c.args.who ∙ ap (λ (z : Start). z.first_era) (start at))
+    ap (λ (x : Memo). own_word x.own (Era c.args.who c.args.who)) (gives at).rest ∙ (first_own_era c.call.new.self.start c.args.who ∙ ap (λ (z : Start). z.first_era) (start at))
 
 pub returns-in-Some-clause-roots : goal.returns-in-Some-clause-roots
-returns-in-Some-clause-roots c k = ap (λ xs. own_word xs (Root c.args.who k)) (gives (goal.at.returns-in-Some-clause-roots c).In-Some).own
+returns-in-Some-clause-roots c k = ap (λ (x : Memo). own_word x.own (Root c.args.who k)) (gives (goal.at.returns-in-Some-clause-roots c).In-Some).rest
 
 pub returns-in-Some-clause-loose : goal.returns-in-Some-clause-loose
 returns-in-Some-clause-loose c single =
