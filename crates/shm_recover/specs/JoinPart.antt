@@ -1,21 +1,19 @@
 -- a join as a part of larger machines
-use Rattle.std.proofs.Common.{◌≡◌, ℕ, Bool, refl, sym, ap, subst, List, [], ◌∷◌}
+use Rattle.std.proofs.Common.{◌≡◌, ℕ, Bool, refl, sym, ap, subst, List, []}
 use Rattle.shm_words.specs.declared.place.Place.TheVariants as place
 use Rattle.shm_words.specs.Layout.{address}
 use Rattle.shm_graph.specs.declared.ask.Ask.TheVariants.{Store}
 use Rattle.shm_graph.specs.declared.memo.Memo.{Memo}
 use Rattle.shm_graph.specs.declared.spot.Spot.{Spot}
-use Rattle.shm_graph.specs.declared.spot.Spot.TheVariants.{Status}
 use Rattle.shm_graph.specs.Asks.{Trail}
 use Rattle.shm_graph.specs.Blocks.{classes}
 use Rattle.shm_graph.specs.Events.{Event, Nothing}
 use Rattle.shm_graph.specs.Laws.{framed, event_on}
-use Rattle.shm_graph.specs.Spots.{spot_at}
 use Rattle.shm_graph.specs.Tells.{Tells, happens_along}
 use Rattle.shm_calls.specs.Parts.{Part, PartLaws}
 use Rattle.shm_calls.specs.Placed.{placed}
 use Rattle.shm_recover.specs.declared.join.JoinState.{JoinState}
-use Rattle.shm_recover.specs.JoinTrail.{join_ask, join_trail}
+use Rattle.shm_recover.specs.JoinTrail.{join_trail}
 use Rattle.shm_recover.specs.Joining.{CanJoin, JoinFits, JoinGives, join_control, join_fresh}
 use Rattle.shm_recover.specs.JoinKeeps.{join_begins, join_laws, status_spot}
 

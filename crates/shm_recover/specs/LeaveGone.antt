@@ -1,7 +1,6 @@
 -- once it has answered Ok, a leaving left nothing of the identity in the words; and an identity between two calls may leave
-use Rattle.std.proofs.Common.{◌≡◌, ℕ, ◌<◌, sym, ap, ◌∙◌, subst}
+use Rattle.std.proofs.Common.{◌≡◌, ℕ, ◌<◌, sym, ap, ◌∙◌}
 use Rattle.std.specs.Prelude.{slice_index, None, Ok, []}
-use Rattle.std.proofs.lemmas.Bool.{true≢false}
 use Rattle.shm_graph.specs.declared.ask.Me.{Me}
 use Rattle.shm_graph.specs.declared.memo.Memo.{Memo}
 use Rattle.shm_graph.specs.declared.memo.Status.{Status as AStatus}

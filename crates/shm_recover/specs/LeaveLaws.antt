@@ -209,22 +209,6 @@ from_start me r0 rs r tr t es ds a same none quiet g =
     (subst (λ (x : Trail). RootsLeaves p rs r (x ++ t) (es ++ ds) a) (sym none)
     (subst (λ (x : List Event). RootsLeaves p rs r t (x ++ ds) a) (sym quiet) g))
 
--- each call leads on
-leads : (m : LeaveState) (y : LeavePoint) (r0 rs r : Memo) (tr t : Trail) (es ds : List Event) (a : LeaveAnswer) → LeaveKnows (record m { point = y }) y r0 rs tr es → (leave_plan.part (record m { point = y })).leaves (leave_call_at m y) rs r t ds a → IsHeld m.me r
-    → Follows leave_parts leave_plan (record m { point = y }) a r0 r (tr ++ t) (es ++ ds)
-leads m Roots r0 rs r tr t es ds (First (Ok u)) h g held = first_segment (record m { point = Roots }) r0 rs r tr t es ds h.0 h.4 (let y = h.0.may.geometry.segment in omega arith) held (from_start m.me r0 rs r tr t es ds (Ok u) h.1 h.2 h.3 g)
-leads m Roots r0 rs r tr t es ds (First (Err e)) h g held = from_start m.me r0 rs r tr t es ds (Err e) h.1 h.2 h.3 g
-leads m Look r0 rs r tr t es ds (Second n) h g held = looked (record m { point = Look }) r0 rs r tr t es ds n h g
-leads m Give r0 rs r tr t es ds (Second n) h g held = given (record m { point = Give }) r0 rs r tr t es ds n h g
-leads m Status r0 rs r tr t es ds (Second n) h g held =
-    let left = one_more (record m { point = Status }) r0 rs r tr t es ds (2 * m.me.geometry.segments) (2 * m.me.geometry.segments + 1) (omega arith) g.none g.one h.1 in
-    let bound = left.bound in
-    record { status = ap (λ (x : Memo). x.status) g.found.left; left = g.found.read; events = left.events; bound = omega arith }
-leads m Roots r0 rs r tr t es ds (Second n) h g held = absurd g
-leads m Look r0 rs r tr t es ds (First a) h g held = absurd g
-leads m Give r0 rs r tr t es ds (First a) h g held = absurd g
-leads m Status r0 rs r tr t es ds (First a) h g held = absurd g
-
 -- what is known before the first call
 pub leave_begin : (me : Me) (r : Memo) → MayLeave me r → LeaveKnows (leaving me) Roots r r [] []
 leave_begin me r may = (may, refl, refl, refl, refl)
@@ -240,3 +224,19 @@ leave_laws =
       opens = λ m. opens m m.point;
       leads = λ m r0 rs r tr t es ds a h g held same. leads m m.point r0 rs r tr t es ds a h g held;
     }
+  where
+    -- each call leads on
+    leads : (m : LeaveState) (y : LeavePoint) (r0 rs r : Memo) (tr t : Trail) (es ds : List Event) (a : LeaveAnswer) → LeaveKnows (record m { point = y }) y r0 rs tr es → (leave_plan.part (record m { point = y })).leaves (leave_call_at m y) rs r t ds a → IsHeld m.me r
+        → Follows leave_parts leave_plan (record m { point = y }) a r0 r (tr ++ t) (es ++ ds)
+    leads m Roots r0 rs r tr t es ds (First (Ok u)) h g held = first_segment (record m { point = Roots }) r0 rs r tr t es ds h.0 h.4 (let y = h.0.may.geometry.segment in omega arith) held (from_start m.me r0 rs r tr t es ds (Ok u) h.1 h.2 h.3 g)
+    leads m Roots r0 rs r tr t es ds (First (Err e)) h g held = from_start m.me r0 rs r tr t es ds (Err e) h.1 h.2 h.3 g
+    leads m Look r0 rs r tr t es ds (Second n) h g held = looked (record m { point = Look }) r0 rs r tr t es ds n h g
+    leads m Give r0 rs r tr t es ds (Second n) h g held = given (record m { point = Give }) r0 rs r tr t es ds n h g
+    leads m Status r0 rs r tr t es ds (Second n) h g held =
+        let left = one_more (record m { point = Status }) r0 rs r tr t es ds (2 * m.me.geometry.segments) (2 * m.me.geometry.segments + 1) (omega arith) g.none g.one h.1 in
+        let bound = left.bound in
+        record { status = ap (λ (x : Memo). x.status) g.found.left; left = g.found.read; events = left.events; bound = omega arith }
+    leads m Roots r0 rs r tr t es ds (Second n) h g held = absurd g
+    leads m Look r0 rs r tr t es ds (First a) h g held = absurd g
+    leads m Give r0 rs r tr t es ds (First a) h g held = absurd g
+    leads m Status r0 rs r tr t es ds (First a) h g held = absurd g

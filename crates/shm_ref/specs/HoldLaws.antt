@@ -90,14 +90,10 @@ module _ (m : HoldState) (r0 r : Memo) (may : MayTakeLatch m.me m.author r0) whe
 abbrev busy : HoldState → ℕ → HoldState
 busy m n = record m { holder = (n - 1) % 256; point = Back }
 
-stays : (m : HoldState) (y : HoldPoint) (n : ℕ) → PlanStays word_control hold_plan (record m { point = y }) n
-stays m Want n = record { same_me = refl; same_line = refl; same_start = refl; started = λ e. refl }
-stays m Back n = record { same_me = refl; same_line = refl; same_start = refl; started = λ e. absurd (cc) }
-stays m Take n = record { same_me = same (λ (x : HoldState). x.me) refl refl (n == 0); same_line = refl; same_start = same hold_plan.start refl refl (n == 0); started = λ e. same (λ (x : HoldState). is_want x.point) refl refl (n == 0) }
-  where
-    same : {T : Type 0} (f : HoldState → T) {v : T} → f (record m { point = Take }) ≡ v → f (busy m n) ≡ v → (q : Bool) → f (if q then record m { point = Take } else busy m n) ≡ v
-    same f a b true = a
-    same f a b false = b
+-- what both states after an exchange are alike in
+same : (m : HoldState) (n : ℕ) {T : Type 0} (f : HoldState → T) {v : T} → f (record m { point = Take }) ≡ v → f (busy m n) ≡ v → (q : Bool) → f (if q then record m { point = Take } else busy m n) ≡ v
+same m n f a b true = a
+same m n f a b false = b
 
 opens : (m : HoldState) (y : HoldPoint) (r0 r : Memo) (tr : Trail) (es : List Event) → HoldKnows (record m { point = y }) y r0 r tr es → (hold_plan.part (record m { point = y })).needs (hold_call m y) r
 opens m Want r0 r tr es h = want_word (record m { point = Want }) r0 r h.0 (ap core h.1)
@@ -116,37 +112,19 @@ Leaves m y = (hold_part (record m { point = y }) y).leaves (hold_call m y)
 one_more : (a : Ask) (n x : ℕ) (tr u t : Trail) → tr ≡ u → n ≡ x → Asked a (λ y. Answers y) t n → tr ++ t ≡ u ++ pair a x ∷ []
 one_more a n x tr u t before same asked = ap (λ (y : Trail). y ++ t) before ∙ (ap (λ (y : Trail). u ++ y) (one_pair a t n asked) ∙ ap (λ (y : ℕ). u ++ pair a y ∷ []) same)
 
-leads : (m : HoldState) (y : HoldPoint) (r0 rs r : Memo) (tr t : Trail) (es ds : List Event) (n : ℕ) → HoldKnows (record m { point = y }) y r0 rs tr es → Leaves m y rs r t ds n → Follows word_control hold_plan (record m { point = y }) n r0 r (tr ++ t) (es ++ ds)
-leads m Want r0 rs r tr t es ds n h w = (
-  record {
-    may = h.0;
-    same = w.0.found.0 ∙ ap (λ (x : Memo). core (wants m.me.who (m.author + 1) x)) h.1;
-    none = ap (λ (x : List Event). x ++ ds) h.3 ∙ w.0.none;
-  },
-  one_more (hold_ask m.me m.author Want) n 0 tr [] t h.2 w.0.found.1 w.1,
-)
-leads m Back r0 rs r tr t es ds n h w =
-    record {
-      memo = w.0.found.0 ∙ ap (λ (x : Memo). core (wants m.me.who 0 x)) h.0.same;
-      holder = h.1;
-      none = ap (λ (x : List Event). x ++ ds) h.0.none ∙ w.0.none;
-      trail = one_more (hold_ask m.me m.author Back) n 0 tr (pair (hold_ask m.me m.author Want) 0 ∷ pair (hold_ask m.me m.author Take) (m.holder + 1) ∷ []) t h.2 w.0.found.1 w.1;
-    }
-leads m Take r0 rs r tr t es ds n h w = go (n == 0) (eqb-true n 0) (eqb-false n 0) w.0.found.0
-  where
-    none : es ++ ds ≡ []
-    none = ap (λ (x : List Event). x ++ ds) h.0.none ∙ w.0.none
+-- the exchange found nobody's latch, or another's
+took : (m : HoldState) (r0 rs r : Memo) (es : List Event) (tr : Trail) (n : ℕ) → IsWanted m.me m.author r0 rs es → n ≤ m.me.geometry.clients → ((x : ℕ) → n ≡ x → tr ≡ pair (hold_ask m.me m.author Want) 0 ∷ pair (hold_ask m.me m.author Take) x ∷ [])
+    → (q : Bool) → (q ≡ true → n ≡ 0) → (q ≡ false → n ≢ 0) → core r ≡ core (if q then record rs { latch = Some m.author } else rs)
+    → let m2 : HoldState = if q then record m { point = Take } else busy m n in Outcome (if q then Some (Ok tt) else None) (HoldKnows m2 m2.point r0 r tr es) (HoldLeaves (holding m.me m.author) r0 r tr es)
+took m r0 rs r es tr n h most trail true free held found = record { memo = found ∙ ap (λ (x : Memo). core (record x { latch = Some m.author })) h.same; none = h.none; trail = trail 0 (free refl) }
+took m r0 rs r es tr n h most trail false free held found =
+    let few = h.may.geometry.clients in
+    let number = number_of n m.me.geometry.clients (held refl) most (omega arith) in
+    (record { may = h.may; same = found ∙ h.same; none = h.none }, number.0, trail ((n - 1) % 256 + 1) number.1)
 
-    more : (x : ℕ) → n ≡ x → tr ++ t ≡ pair (hold_ask m.me m.author Want) 0 ∷ pair (hold_ask m.me m.author Take) x ∷ []
-    more x same = one_more (hold_ask m.me m.author Take) n x tr (pair (hold_ask m.me m.author Want) 0 ∷ []) t h.1 same w.1
-
-    go : (q : Bool) → (q ≡ true → n ≡ 0) → (q ≡ false → n ≢ 0) → core r ≡ core (if q then record rs { latch = Some m.author } else rs)
-        → let m2 : HoldState = if q then record m { point = Take } else busy m n in Outcome (if q then Some (Ok tt) else None) (HoldKnows m2 m2.point r0 r (tr ++ t) (es ++ ds)) (HoldLeaves (holding m.me m.author) r0 r (tr ++ t) (es ++ ds))
-    go true free held found = record { memo = found ∙ ap (λ (x : Memo). core (record x { latch = Some m.author })) h.0.same; none = none; trail = more 0 (free refl) }
-    go false free held found =
-        let few = h.0.may.geometry.clients in
-        let number = number_of n m.me.geometry.clients (held refl) w.0.found.1 (omega arith) in
-        (record { may = h.0.may; same = found ∙ h.0.same; none = none }, number.0, more ((n - 1) % 256 + 1) number.1)
+-- what was wanted still is, with no more events
+quiet_still : (me : Me) (a : ℕ) (r0 r : Memo) (es ds : List Event) → IsWanted me a r0 r es → ds ≡ [] → IsWanted me a r0 r (es ++ ds)
+quiet_still me a r0 r es ds h e = record { may = h.may; same = h.same; none = ap (λ (x : List Event). x ++ ds) h.none ∙ e }
 
 -- what is known before the first word step
 pub hold_begin : (me : Me) (a : ℕ) (r : Memo) → MayTakeLatch me a r → HoldKnows (holding me a) Want r r [] []
@@ -162,3 +140,29 @@ hold_laws =
       opens = λ m. opens m m.point;
       leads = λ m r0 rs r tr t es ds n h w held same. leads m m.point r0 rs r tr t es ds n h w;
     }
+  where
+    stays : (m : HoldState) (y : HoldPoint) (n : ℕ) → PlanStays word_control hold_plan (record m { point = y }) n
+    stays m Want n = record { same_me = refl; same_line = refl; same_start = refl; started = λ e. refl }
+    stays m Back n = record { same_me = refl; same_line = refl; same_start = refl; started = λ e. absurd (cc) }
+    stays m Take n = record { same_me = same m n (λ (x : HoldState). x.me) refl refl (n == 0); same_line = refl; same_start = same m n hold_plan.start refl refl (n == 0); started = λ e. same m n (λ (x : HoldState). is_want x.point) refl refl (n == 0) }
+
+    leads : (m : HoldState) (y : HoldPoint) (r0 rs r : Memo) (tr t : Trail) (es ds : List Event) (n : ℕ) → HoldKnows (record m { point = y }) y r0 rs tr es → Leaves m y rs r t ds n → Follows word_control hold_plan (record m { point = y }) n r0 r (tr ++ t) (es ++ ds)
+    leads m Want r0 rs r tr t es ds n h w = (
+      record {
+        may = h.0;
+        same = w.0.found.0 ∙ ap (λ (x : Memo). core (wants m.me.who (m.author + 1) x)) h.1;
+        none = ap (λ (x : List Event). x ++ ds) h.3 ∙ w.0.none;
+      },
+      one_more (hold_ask m.me m.author Want) n 0 tr [] t h.2 w.0.found.1 w.1,
+    )
+    leads m Back r0 rs r tr t es ds n h w =
+        record {
+          memo = w.0.found.0 ∙ ap (λ (x : Memo). core (wants m.me.who 0 x)) h.0.same;
+          holder = h.1;
+          none = ap (λ (x : List Event). x ++ ds) h.0.none ∙ w.0.none;
+          trail = one_more (hold_ask m.me m.author Back) n 0 tr (pair (hold_ask m.me m.author Want) 0 ∷ pair (hold_ask m.me m.author Take) (m.holder + 1) ∷ []) t h.2 w.0.found.1 w.1;
+        }
+    leads m Take r0 rs r tr t es ds n h w =
+        took m r0 rs r (es ++ ds) (tr ++ t) n (quiet_still m.me m.author r0 rs es ds h.0 w.0.none) w.0.found.1
+        (λ x e. one_more (hold_ask m.me m.author Take) n x tr (pair (hold_ask m.me m.author Want) 0 ∷ []) t h.1 e w.1)
+        (n == 0) (eqb-true n 0) (eqb-false n 0) w.0.found.0

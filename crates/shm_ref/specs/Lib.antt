@@ -11,4 +11,8 @@ pub mod AskedParts
 pub mod HoldControl
 pub mod HoldFits
 pub mod HoldLaws
+pub mod RootOfFits
+pub mod RootOfLaws
+pub mod ReleaseFits
+pub mod ReleaseLaws
 pub mod Machines

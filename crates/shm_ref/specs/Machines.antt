@@ -15,10 +15,14 @@ use Rattle.shm_count.specs.declared.answer.EraSpent.{EraSpent}
 use Rattle.shm_ref.specs.declared.answer.Busy.{Busy}
 use Rattle.shm_ref.specs.declared.hold.HoldState.{HoldState}
 use Rattle.shm_ref.specs.declared.drop_roots.RootsState.{RootsState}
+use Rattle.shm_ref.specs.declared.release.ReleaseState.{ReleaseState}
+use Rattle.shm_ref.specs.declared.root_of.NamingState.{NamingState}
 use Rattle.shm_ref.specs.DropControl.{dropping, drop_parts}
 use Rattle.shm_ref.specs.DropFits.{drop_plan}
 use Rattle.shm_ref.specs.HoldControl.{holding}
 use Rattle.shm_ref.specs.HoldFits.{hold_plan}
+use Rattle.shm_ref.specs.ReleaseFits.{releasing, release_plan}
+use Rattle.shm_ref.specs.RootOfFits.{naming, naming_plan}
 use Rattle.shm_ref.specs.RootsControl.{RootsCall, drop_root, dropping_roots}
 use Rattle.shm_ref.specs.RootsFits.{roots_plan}
 
@@ -60,3 +64,31 @@ HoldGives me a = CallsGives word_control hold_plan (calls_of hold_plan (holding 
 
 abbrev pub hold_told : Me → ℕ → Trail → List Event
 hold_told me a = happens_along hold (calls_does word_control hold_plan) (calls_of hold_plan (holding me a))
+
+-- ---- what root k names
+
+abbrev pub root_of : Control (Calls NamingState Word ℕ ℕ) ℕ
+root_of = calls_control word_control naming_plan
+
+abbrev pub RootOfFits : Me → ℕ → Memo → Memo → Trail → Type 0
+RootOfFits me k = CallsFits word_control naming_plan (calls_of naming_plan (naming me k))
+
+abbrev pub RootOfGives : Me → ℕ → Memo → Memo → Trail → ℕ → Type 0
+RootOfGives me k = CallsGives word_control naming_plan (calls_of naming_plan (naming me k))
+
+abbrev pub root_of_told : Me → ℕ → Trail → List Event
+root_of_told me k = happens_along root_of (calls_does word_control naming_plan) (calls_of naming_plan (naming me k))
+
+-- ---- giving back the latch that is held
+
+abbrev pub release : Control (Calls ReleaseState Word (Unit {0}) ℕ) (Unit {0})
+release = calls_control word_control release_plan
+
+abbrev pub ReleaseFits : Me → Memo → Memo → Trail → Type 0
+ReleaseFits me = CallsFits word_control release_plan (calls_of release_plan (releasing me))
+
+abbrev pub ReleaseGives : Me → Memo → Memo → Trail → Unit {0} → Type 0
+ReleaseGives me = CallsGives word_control release_plan (calls_of release_plan (releasing me))
+
+abbrev pub release_told : Me → Trail → List Event
+release_told me = happens_along release (calls_does word_control release_plan) (calls_of release_plan (releasing me))

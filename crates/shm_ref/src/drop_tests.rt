@@ -1,8 +1,8 @@
-//! Drops of roots step by step and on the words of a pool, against an independent implementation.
+//! What roots name, and drops of roots, step by step and on the words of a pool, against an independent implementation.
 
 use crate::parts::{DropRoots, DroppingRoots};
 use crate::tests::{exchange, follow, load, store, words_of};
-use crate::{DropRoot, Dropping};
+use crate::{DropRoot, Dropping, Naming, RootOf};
 use shm_calls::Calls;
 use shm_count::EraSpent;
 use shm_graph::Me;
@@ -407,6 +407,80 @@ fn the_roots_after_a_stop_stay(rt: HostRuntime) -> Result<(), Fail> {
             era: 140_737_488_355_326
         }))
     );
+    assert_eq!(rt;
+        words.as_slice(),
+        words_of(rt.alloc(), 2098, &after)?.as_slice()
+    );
+    Ok(())
+}
+
+#[test]
+fn a_root_names_a_block(rt: HostRuntime) -> Result<(), Fail> {
+    let me = Me::new(Geometry::new(1, 1)?, 0);
+    // root 0 names block 50
+    let before = [
+        (1, 1),
+        (2, 2_305_850_705_795_088_434),
+        (6, 2),
+        (7, 50),
+        (33, 1),
+        (34, 4),
+        (50, 9_223_512_774_343_131_137),
+        (51, 67_108_864),
+        (52, 77),
+    ];
+    let steps = [(load(7), 50)];
+    let after = [
+        (1, 1),
+        (2, 2_305_850_705_795_088_434),
+        (6, 2),
+        (7, 50),
+        (33, 1),
+        (34, 4),
+        (50, 9_223_512_774_343_131_137),
+        (51, 67_108_864),
+        (52, 77),
+    ];
+    let mut words = words_of(rt.alloc(), 2098, &before)?;
+    let mut machine: RootOf = Calls::new(Naming::new(me, 0));
+    assert_eq!(rt; follow(&mut machine, &mut words, &steps), Some(50));
+    assert_eq!(rt;
+        words.as_slice(),
+        words_of(rt.alloc(), 2098, &after)?.as_slice()
+    );
+    Ok(())
+}
+
+#[test]
+fn a_root_names_nothing(rt: HostRuntime) -> Result<(), Fail> {
+    let me = Me::new(Geometry::new(1, 1)?, 0);
+    // root 0 names block 50
+    let before = [
+        (1, 1),
+        (2, 2_305_850_705_795_088_434),
+        (6, 2),
+        (7, 50),
+        (33, 1),
+        (34, 4),
+        (50, 9_223_512_774_343_131_137),
+        (51, 67_108_864),
+        (52, 77),
+    ];
+    let steps = [(load(22), 0)];
+    let after = [
+        (1, 1),
+        (2, 2_305_850_705_795_088_434),
+        (6, 2),
+        (7, 50),
+        (33, 1),
+        (34, 4),
+        (50, 9_223_512_774_343_131_137),
+        (51, 67_108_864),
+        (52, 77),
+    ];
+    let mut words = words_of(rt.alloc(), 2098, &before)?;
+    let mut machine: RootOf = Calls::new(Naming::new(me, 15));
+    assert_eq!(rt; follow(&mut machine, &mut words, &steps), Some(0));
     assert_eq!(rt;
         words.as_slice(),
         words_of(rt.alloc(), 2098, &after)?.as_slice()

@@ -17,6 +17,9 @@ ghost use Rattle.shm_ref.specs.HoldControl.{holding};
 ghost use Rattle.shm_ref.specs.HoldFits.{MayTakeLatch, HoldLeaves, hold_plan};
 ghost use Rattle.shm_ref.specs.Lefts.{MayDrop};
 ghost use Rattle.shm_ref.specs.Machines.{DropFits, DropGives, drop_told, drop_roots, RootsFit, RootsGive, roots_told, hold, HoldFits, HoldGives, hold_told};
+ghost use Rattle.shm_ref.specs.Machines.{root_of, RootOfFits, RootOfGives, root_of_told, release, ReleaseFits, ReleaseGives, release_told};
+ghost use Rattle.shm_ref.specs.ReleaseFits.{MayRelease, Released, release_plan, releasing};
+ghost use Rattle.shm_ref.specs.RootOfFits.{Named, naming, naming_plan};
 ghost use Rattle.shm_ref.specs.RootsControl.{drop_root, dropping_roots};
 ghost use Rattle.shm_ref.specs.RootsFits.{RootsLeaves, roots_plan};
 
@@ -67,4 +70,38 @@ pub fn hold_events()
 pub fn hold_leaves()
     ensures leaves { (me : AMe) (a : ℕ) (r0 r : AMemo) (tr : Trail) (b : Result (Unit {0}) ABusy) → HoldGives me a r0 r tr b → HoldLeaves (holding me a) r0 r tr (hold_told me a tr) b }
     ensures trail { (me : AMe) (a : ℕ) (r0 r : AMemo) (tr : Trail) (b : Result (Unit {0}) ABusy) → HoldGives me a r0 r tr b → plan_trail hold_plan (holding me a) tr b }
+{}
+
+/// The giving back of a latch fits each memo of an identity of the pool that is here, with no step in progress and a latch.
+pub fn release_begins()
+    ensures { (me : AMe) (a : ℕ) (r : AMemo) → MayRelease me a r → ReleaseFits me r r [] }
+{}
+
+/// No word step of the giving back of a latch is an event.
+pub fn release_events()
+    ensures tells { Tells release (CallsFits word_control release_plan) (calls_does word_control release_plan) }
+    ensures none { (me : AMe) (r0 r : AMemo) (tr : Trail) → ReleaseGives me r0 r tr tt → release_told me tr ≡ [] }
+{}
+
+/// The latch that was held is given back, the hold word is 0, and the looks are over.
+pub fn release_leaves()
+    ensures leaves { (me : AMe) (r0 r : AMemo) (tr : Trail) → ReleaseGives me r0 r tr tt → Released me r0 r tr (release_told me tr) }
+    ensures trail { (me : AMe) (r0 r : AMemo) (tr : Trail) → ReleaseGives me r0 r tr tt → plan_trail release_plan (releasing me) tr tt }
+{}
+
+/// What a root names may be asked with no step in progress.
+pub fn root_of_begins()
+    ensures { (me : AMe) (k : ℕ) (r : AMemo) → MayDrop me r → k < 16 → RootOfFits me k r r [] }
+{}
+
+/// The one word step of it is no event.
+pub fn root_of_events()
+    ensures tells { Tells root_of (CallsFits word_control naming_plan) (calls_does word_control naming_plan) }
+    ensures none { (me : AMe) (k : ℕ) (r0 r : AMemo) (tr : Trail) (b : ℕ) → RootOfGives me k r0 r tr b → root_of_told me k tr ≡ [] }
+{}
+
+/// It answers what the root names, and nothing else comes of it.
+pub fn root_of_leaves()
+    ensures leaves { (me : AMe) (k : ℕ) (r0 r : AMemo) (tr : Trail) (b : ℕ) → RootOfGives me k r0 r tr b → Named me k r0 r tr (root_of_told me k tr) b }
+    ensures trail { (me : AMe) (k : ℕ) (r0 r : AMemo) (tr : Trail) (b : ℕ) → RootOfGives me k r0 r tr b → plan_trail naming_plan (naming me k) tr b }
 {}

@@ -1,6 +1,6 @@
-//! The taking of latches step by step and on the words of a pool, against an independent implementation.
+//! Latches taken and given back step by step and on the words of a pool, against an independent implementation.
 
-use crate::{Busy, Hold, Holding};
+use crate::{Busy, Hold, Holding, Release, Releasing};
 use shm_calls::Calls;
 use shm_graph::{Ask, Machine, Me, Turn};
 use shm_words::Geometry;
@@ -109,6 +109,23 @@ fn a_latch_that_is_held_is_busy(rt: HostRuntime) -> Result<(), Fail> {
         follow(&mut machine, &mut words, &steps),
         Some(Err(Busy { holder: 2 }))
     );
+    assert_eq!(rt;
+        words.as_slice(),
+        words_of(rt.alloc(), 2228, &after)?.as_slice()
+    );
+    Ok(())
+}
+
+#[test]
+fn a_latch_is_given_back(rt: HostRuntime) -> Result<(), Fail> {
+    let me = Me::new(Geometry::new(3, 1)?, 2);
+    // client 2 holds latch 1
+    let before = [(1, 1), (3, 1), (9, 2), (11, 3), (16, 1), (20, 1), (24, 1)];
+    let steps = [(load(9), 2), (store(11, 0), 0), (store(9, 0), 0)];
+    let after = [(1, 1), (3, 1), (16, 1), (20, 1), (24, 1)];
+    let mut words = words_of(rt.alloc(), 2228, &before)?;
+    let mut machine: Release = Calls::new(Releasing::new(me));
+    assert_eq!(rt; follow(&mut machine, &mut words, &steps), Some(()));
     assert_eq!(rt;
         words.as_slice(),
         words_of(rt.alloc(), 2228, &after)?.as_slice()
