@@ -35,7 +35,7 @@ TornLeaves me p h t x m r (Ok done) = Lost me.who p h t x false m r
 TornLeaves me p h t x m r (Err e) = Took me.who p h t x false m r × ((vs : List Visit) × StoppedAt me m r e.era vs)
 
 -- a block that has joined a list is taken out of it
-without_new : (t : ℕ) (ds : List ℕ) → (Contains ds t → ⊥) → filter (not_block t) (ds ++ t ∷ []) ≡ ds
+pub without_new : (t : ℕ) (ds : List ℕ) → (Contains ds t → ⊥) → filter (not_block t) (ds ++ t ∷ []) ≡ ds
 without_new t [] n = ap (λ z. cond (not z) (t ∷ []) []) (eq-eqb t t refl)
 without_new t (d ∷ ds) n =
     let xs : List ℕ = filter (not_block t) (ds ++ t ∷ []) in
@@ -43,8 +43,8 @@ without_new t (d ∷ ds) n =
     ∙ ap (λ y. d ∷ y) (without_new t ds (λ h. n (Contains-append_right (d ∷ []) ds t h)))
 
 -- a tear-down leaves the rest
-stays_rest : (c : ℕ) (m r : Memo) → Stays c m r → rest r ≡ rest m
-stays_rest c m r s = rw (s.status, s.latch, s.making, s.owned, s.sent, s.unsent, s.received, s.untaken, s.part) refl
+pub stays_rest : (c : ℕ) (m r : Memo) → Stays c m r → rest r ≡ rest m
+stays_rest c m r s = ap rest s.rest
 
 module _ (me : Me) (p : Spot) (h : Bool) (t x : ℕ) (m q r : Memo) (l : me.who < me.geometry.clients) (held : IsHeld me q) (lost : Lost me.who p h t x true m q) where
   -- the block is one of the zero-count blocks then
@@ -59,7 +59,7 @@ module _ (me : Me) (p : Spot) (h : Bool) (t x : ℕ) (m q r : Memo) (l : me.who 
       let named : (b : ℕ) → is_named c r b ≡ true → is_named c q b ≡ true = (λ b y. sym (named_stays c q r b s n.slots) ∙ y) in
       record {
         rest = stays_rest c q r s ∙ lost.took.rest;
-        op = s.op ∙ lost.took.op;
+        op = ap (λ (y : Memo). y.op) s.rest ∙ lost.took.op;
         own = λ u last. s.own u last ∙ lost.took.own u last;
         rows = λ j. let a = lost.took.rows j in let b = s.rows j in omega arith;
         sifts = record {

@@ -34,8 +34,9 @@ use Rattle.shm_count.specs.SlotUps.{slotted_own, closed_row}
 use Rattle.shm_count.specs.SlotDowns.{known_at_keeps, slotted_rest, slotted_dying, slotted_values, slotted_known, slotted_root, slotted_home}
 use Rattle.shm_count.specs.SlotLeaves.{IsReplaced, emptied, slotted, known_at, Lost, Sifts}
 use Rattle.shm_count.specs.StepControl.{header_after}
-use Rattle.shm_count.specs.StepCores.{body_word}
-use Rattle.shm_count.specs.StepFits.{AtFirst, Done, Rows, core, begun, set_memo, slot_memo, closed_memo}
+use Rattle.shm_steps.proofs.Cores.{body_word}
+use Rattle.shm_count.specs.StepFits.{AtFirst, Done, Rows, begun, set_memo, slot_memo, closed_memo}
+use Rattle.shm_graph.specs.Core.{core}
 use Rattle.shm_count.specs.StepParts.{part_after, lasting_not, first_own, rows_grow}
 use Rattle.shm_count.specs.TearMemos.{is_lasting, is_slot_word, Knows}
 

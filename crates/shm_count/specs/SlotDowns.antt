@@ -36,8 +36,9 @@ use Rattle.shm_count.specs.Roots.{rest}
 use Rattle.shm_count.specs.SlotUps.{slotted_own, closed_row}
 use Rattle.shm_count.specs.SlotLeaves.{IsEmptied, emptied, slotted, known_at, Lost, Sifts}
 use Rattle.shm_count.specs.StepControl.{header_after}
-use Rattle.shm_count.specs.StepCores.{body_word}
-use Rattle.shm_count.specs.StepFits.{AtFirst, Done, core, begun, set_memo, slot_memo, closed_memo}
+use Rattle.shm_steps.proofs.Cores.{body_word}
+use Rattle.shm_count.specs.StepFits.{AtFirst, Done, begun, set_memo, slot_memo, closed_memo}
+use Rattle.shm_graph.specs.Core.{core}
 use Rattle.shm_count.specs.StepParts.{part_after, lasting_not, first_own, rows_grow}
 use Rattle.shm_count.specs.TearMemos.{is_lasting, is_slot_word, Knows}
 

@@ -23,7 +23,7 @@ use Rattle.shm_count.specs.declared.point.Part.TheVariants.{First}
 use Rattle.shm_count.specs.declared.point.StepState.{StepState}
 use Rattle.shm_count.specs.CountParts.{IsStep}
 use Rattle.shm_count.specs.Roots.{rest}
-use Rattle.shm_count.specs.StepFits.{core}
+use Rattle.shm_graph.specs.Core.{core}
 use Rattle.shm_count.specs.StepControl.{block_at, last_era, raises}
 use Rattle.shm_count.specs.StepParts.{part_after}
 use Rattle.shm_count.specs.StepTrail.{steps_of}

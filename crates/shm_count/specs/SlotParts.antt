@@ -28,7 +28,8 @@ use Rattle.shm_count.specs.SlotChanges.{change_leaves_at}
 use Rattle.shm_count.specs.SlotLeaves.{IsSlotFor, MayStepAt, StepCause, StepDid, StepLeft, Untouched}
 use Rattle.shm_count.specs.StepControl.{step_control}
 use Rattle.shm_count.specs.StepEvents.{own_events}
-use Rattle.shm_count.specs.StepFits.{Gives, Refused, core}
+use Rattle.shm_count.specs.StepFits.{Gives, Refused}
+use Rattle.shm_graph.specs.Core.{core}
 use Rattle.shm_count.specs.StepMachines.{down_control, up_control, down_told, up_told, IsDown, IsUp, IsChange}
 use Rattle.shm_count.specs.StepParts.{lasting_not}
 use Rattle.shm_count.specs.TearMemos.{is_lasting}

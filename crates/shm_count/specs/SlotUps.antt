@@ -21,8 +21,9 @@ use Rattle.shm_count.specs.declared.point.Aim.TheVariants.{Up}
 use Rattle.shm_count.specs.declared.point.Part.TheVariants.{First}
 use Rattle.shm_count.specs.SlotLeaves.{IsFilled, slotted, known_at, unsent_at, Filled}
 use Rattle.shm_count.specs.StepControl.{header_after}
-use Rattle.shm_count.specs.StepCores.{body_word}
-use Rattle.shm_count.specs.StepFits.{AtFirst, Done, core, begun, set_memo, slot_memo, closed_memo}
+use Rattle.shm_steps.proofs.Cores.{body_word}
+use Rattle.shm_count.specs.StepFits.{AtFirst, Done, begun, set_memo, slot_memo, closed_memo}
+use Rattle.shm_graph.specs.Core.{core}
 use Rattle.shm_count.specs.StepParts.{part_after, lasting_not, first_own, rows_grow}
 use Rattle.shm_count.specs.TearMemos.{is_lasting}
 

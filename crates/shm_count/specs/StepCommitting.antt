@@ -44,7 +44,7 @@ use Rattle.shm_count.specs.StepFits.{NextHolds, AtFirst, set_memo, slot_memo, cl
 use Rattle.shm_count.specs.StepControl.{AimFits, step_next_at, PartFits, value_after, EraFits, closed_next, raises}
 use Rattle.shm_graph.proofs.MemoSteps.{recovers_on}
 use Rattle.shm_steps.proofs.Cores.{here_same}
-use Rattle.shm_count.specs.StepMemos.{era_room, half_status, rows_same}
+use Rattle.shm_count.specs.StepMemos.{era_room, rows_same, half_status}
 
 -- ---- the step in progress
 

@@ -44,7 +44,7 @@ use Rattle.shm_graph.specs.Core.{core}
 use Rattle.shm_count.specs.StepFits.{begun_op, InHalf, CanStep, HasRead, NextHolds, set_memo, IsShown, IsDyingWord}
 use Rattle.shm_graph.proofs.MemoSteps.{recovers_on}
 use Rattle.shm_steps.proofs.Cores.{header_core, here_same}
-use Rattle.shm_count.specs.StepMemos.{half_status, first_reach, half_same, half_op}
+use Rattle.shm_count.specs.StepMemos.{first_reach, half_same, half_status, half_op}
 use Rattle.shm_count.specs.StepControl.{value_before, value_after, CountFits, EraFits, header_after, PartFits, block_at, committed_next, header_next, count_after, raises, exchange_next}
 use Rattle.shm_count.specs.StepHeaders.{header_has, header_found, half_block}
 use Rattle.shm_count.specs.StepParts.{first_sight}

@@ -48,7 +48,7 @@ use Rattle.shm_graph.specs.Core.{core}
 use Rattle.shm_count.specs.StepFits.{HasPut, CanStep, begun_op, Rows, begun, HasRead, InHalf, PointHolds, NextHolds}
 use Rattle.shm_graph.proofs.MemoSteps.{recovers_on}
 use Rattle.shm_steps.proofs.Cores.{called_core, era_core, era_counts, era_facts, header_core, here_same}
-use Rattle.shm_count.specs.StepMemos.{rows_same, row_raised, half_then, half_same, half_status, read_same, era_room}
+use Rattle.shm_count.specs.StepMemos.{rows_same, row_raised, half_then, half_same, read_same, era_room, half_status}
 use Rattle.shm_count.specs.StepHeaders.{half_block, header_has, header_found}
 use Rattle.shm_count.specs.StepBeginning.{can_on, begins_here}
 

@@ -23,6 +23,7 @@ use Rattle.shm_calls.specs.Plans.{PlanLaws, PlanStays, IsCall, Follows}
 use Rattle.shm_calls.specs.Words.{word_control, word_part_laws, WordLeaves}
 use Rattle.shm_count.specs.declared.answer.EraSpent.{EraSpent}
 use Rattle.shm_count.specs.CountParts.{tear_part, tear_part_laws}
+use Rattle.shm_count.specs.Lowering.{without_new}
 use Rattle.shm_count.specs.Roots.{root_word}
 use Rattle.shm_count.specs.StepControl.{IsInside}
 use Rattle.shm_graph.specs.Core.{core}
@@ -36,7 +37,7 @@ use Rattle.shm_ref.specs.declared.drop_root.DropPoint.TheVariants.{Load, Lower, 
 use Rattle.shm_ref.specs.declared.drop_root.DropState.{DropState}
 use Rattle.shm_ref.specs.DropControl.{DropAnswer, drop_parts, root_at, drop_call_at, is_load}
 use Rattle.shm_ref.specs.DropFits.{IsLoaded, IsLowered, DropKnows, DropLeaves, drop_plan}
-use Rattle.shm_ref.specs.Leaving.{without_new, all_outside, left_core, left_lowered, left_stays, lowered_core, may_still, named_events}
+use Rattle.shm_ref.specs.Leaving.{all_outside, left_core, left_lowered, left_stays, lowered_core, may_still, named_events}
 use Rattle.shm_ref.specs.Lefts.{RootEvents}
 use Rattle.shm_steps.specs.WordParts.{OwnLoaded}
 use Rattle.shm_ref.specs.RootParts.{load_needs, load_part, lower_laws, lower_part, LoweredBy, root_names}

@@ -14,6 +14,7 @@ use Rattle.shm_graph.specs.Events as event
 use Rattle.shm_graph.specs.Spots.{same_spot}
 use Rattle.shm_graph.specs.Stores.{not_block}
 use Rattle.shm_graph.specs.Views.{own_word}
+use Rattle.shm_count.specs.Lowering.{stays_rest}
 use Rattle.shm_count.specs.Roots.{rest, root_word, RootLowered}
 use Rattle.shm_graph.specs.Core.{core}
 use Rattle.shm_count.specs.TearEvents.{Walks, frees}
@@ -24,14 +25,6 @@ use Rattle.shm_ref.specs.Lefts.{is_root_of, Left, MayDrop, RootEvents}
 use Rattle.shm_graph.specs.declared.memo.Stored.{Stored}
 
 -- ---- lists
-
--- a block that has joined a list is taken out of it
-pub without_new : (t : ℕ) (ds : List ℕ) → (Contains ds t → ⊥) → filter (not_block t) (ds ++ t ∷ []) ≡ ds
-without_new t [] n = ap (λ z. cond (not z) (t ∷ []) []) (eq-eqb t t refl)
-without_new t (d ∷ ds) n =
-    let xs : List ℕ = filter (not_block t) (ds ++ t ∷ []) in
-    ap (λ z. cond (not z) (d ∷ xs) xs) (ne_eqb t d (λ e. n (0, omega arith, sym e)))
-    ∙ ap (λ y. d ∷ y) (without_new t ds (λ h. n (Contains-append_right (d ∷ []) ds t h)))
 
 -- where no block is torn down all are outside
 pub all_outside : (ds : List ℕ) → filter (is_outside []) ds ≡ ds
@@ -78,10 +71,6 @@ left_lowered c k t z m r h =
         | inr e ↦ inr (h.own (Root c j) refl (right_false (eqb c c) (eqb k j) e))
       ];
     }
-
--- a tear-down leaves the rest
-pub stays_rest : (c : ℕ) (m r : Memo) → Stays c m r → rest r ≡ rest m
-stays_rest c m r s = ap rest s.rest
 
 -- and what was left before
 pub left_stays : (c : ℕ) (e : ℕ → Bool) (m q r : Memo) → Left c e m q → Stays c q r → Left c e m r

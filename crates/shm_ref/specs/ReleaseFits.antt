@@ -15,7 +15,7 @@ use Rattle.shm_calls.specs.declared.word.Word.{Word}
 use Rattle.shm_calls.specs.Parts.{Part}
 use Rattle.shm_calls.specs.Plans.{Planned}
 use Rattle.shm_calls.specs.Words.{word_part}
-use Rattle.shm_count.specs.StepFits.{core}
+use Rattle.shm_graph.specs.Core.{core}
 use Rattle.shm_ref.specs.declared.release.ReleasePoint.{ReleasePoint}
 use Rattle.shm_ref.specs.declared.release.ReleasePoint.TheVariants.{Whose, Give, Back}
 use Rattle.shm_ref.specs.declared.release.ReleaseState.{ReleaseState}

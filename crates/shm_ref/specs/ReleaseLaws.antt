@@ -27,8 +27,9 @@ use Rattle.shm_steps.proofs.OwnStores.{hold_stored}
 use Rattle.shm_calls.specs.Plans.{PlanLaws, PlanStays, Follows}
 use Rattle.shm_calls.specs.Words.{word_control, word_part, word_part_laws, IsWord}
 use Rattle.shm_calls.specs.WordSteps.{load_at, word_at}
-use Rattle.shm_count.specs.StepFits.{core}
-use Rattle.shm_count.specs.StepMemos.{called_core, here_same}
+use Rattle.shm_graph.specs.Core.{core}
+use Rattle.shm_steps.proofs.Cores.{called_core}
+use Rattle.shm_steps.proofs.Cores.{here_same}
 use Rattle.shm_ref.specs.declared.release.ReleasePoint.{ReleasePoint}
 use Rattle.shm_ref.specs.declared.release.ReleasePoint.TheVariants.{Whose, Give, Back}
 use Rattle.shm_ref.specs.declared.release.ReleaseState.{ReleaseState}

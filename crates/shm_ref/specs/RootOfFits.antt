@@ -11,7 +11,7 @@ use Rattle.shm_graph.specs.Events.{Event}
 use Rattle.shm_calls.specs.declared.word.Word.{Word}
 use Rattle.shm_calls.specs.Plans.{Planned}
 use Rattle.shm_count.specs.Roots.{root_word}
-use Rattle.shm_count.specs.StepFits.{core}
+use Rattle.shm_graph.specs.Core.{core}
 use Rattle.shm_ref.specs.declared.root_of.NamingState.{NamingState}
 use Rattle.shm_ref.specs.AskedParts.{asked_part}
 use Rattle.shm_ref.specs.Lefts.{MayDrop}

@@ -9,7 +9,7 @@ use Rattle.shm_calls.specs.Parts.{IsHeld}
 use Rattle.shm_calls.specs.Plans.{PlanLaws, Follows}
 use Rattle.shm_calls.specs.Words.{word_control, word_part_laws}
 use Rattle.shm_count.specs.Roots.{root_word}
-use Rattle.shm_count.specs.StepFits.{core}
+use Rattle.shm_graph.specs.Core.{core}
 use Rattle.shm_ref.specs.declared.root_of.NamingState.{NamingState}
 use Rattle.shm_ref.specs.AskedParts.{asked_part_laws, one_pair}
 use Rattle.shm_ref.specs.RootOfFits.{IsNaming, naming_ask, naming_plan}
