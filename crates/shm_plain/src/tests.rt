@@ -160,10 +160,7 @@ fn each_word_of_one_put(rt: HostRuntime) -> Result<(), Fail> {
 
 #[test]
 fn each_word_of_one_number_put_twice(rt: HostRuntime) -> Result<(), Fail> {
-    let puts = [
-        Pair { key: 5, number: 77 },
-        Pair { key: 6, number: 77 },
-    ];
+    let puts = [Pair { key: 5, number: 77 }, Pair { key: 6, number: 77 }];
     let run = replay_first(rt.alloc(), &puts)?;
     assert_eq!(rt; run.blocks.as_slice(), [50u32, 54].as_slice());
     let rows: [Row; 25] = [
