@@ -245,7 +245,7 @@ module _ {M A : Type 0} (k : Control M A) (fits : M → Memo → Memo → Trail 
         ∙ (ap (λ (ms : List Move). ms ++ Word t ∷ []) went.grew
         ∙ (append_assoc (readied p c).turns (words (machine_steps k m went.trail)) (Word t ∷ [])
         ∙ ap (λ (ms : List Move). (readied p c).turns ++ ms)
-            (ap (λ (z : M). words (machine_steps k m went.trail) ++ Word (step_of k z t.seen) ∷ []) (sym went.course) ∙ sym (words_more k m went.trail x1))))
+        (ap (λ (z : M). words (machine_steps k m went.trail) ++ Word (step_of k z t.seen) ∷ []) (sym went.course) ∙ sym (words_more k m went.trail x1))))
 
     called : (memo_of q' c).call ≡ call_before (k.fresh m) (memo_of (readied p c) c).call ++ asked
     called =

@@ -5,6 +5,7 @@ mod act;
 pub mod call;
 pub mod closed;
 pub mod first;
+pub mod laws;
 pub mod pair;
 pub mod pool;
 mod track;

@@ -22,4 +22,6 @@ mod allocating_tests;
 #[cfg(test)]
 mod counting_tests;
 #[cfg(test)]
+mod dropping_tests;
+#[cfg(test)]
 mod tests;

@@ -144,4 +144,4 @@ returns-clause-events c =
     told_by step_control ChangeFits ChangeGives c.args.who p m q c.args.life.now.left c.call.new.life.left c.call.result (called at) refl
     (StepFits s) (StepGives s) (slot_laws s) (step_event s) (step_tells s) c.geometry-geometry.ensures.run (refl, c.requires.at_work.who, refl) c.requires.at_work.acts (fit (goal.at.After-call at).After-new-change)
     (Gave at) (λ a. Did c.args.who p q (if_done a (events at))) (gave at)
-    (λ a g d. let y = g.1 in subst (λ (es : List Event). Did c.args.who p q es) ( events_at_slot y.0 s m r0 r r.call (a) refl y.1 ∙ done at a) d)
+    (λ a g d. let y = g.1 in subst (λ (es : List Event). Did c.args.who p q es) (events_at_slot y.0 s m r0 r r.call (a) refl y.1 ∙ done at a) d)
