@@ -1,5 +1,5 @@
 -- a count step that is refused as full has read a header that shows the greatest count
-use Rattle.std.proofs.Common.{◌≡◌, ℕ, zero, suc, ◌+◌, refl, sym, subst, Bool, true, false, List, [], ◌∷◌, inl, inr}
+use Rattle.std.proofs.Common.{◌≡◌, ℕ, zero, suc, ◌+◌, refl, sym, subst, Bool, true, false, [], ◌∷◌, inl, inr}
 use Rattle.std.specs.Prelude.{◌⊎◌, ◌==◌, ◌&&◌, not, nat_lt, Result, Ok, Err}
 use Rattle.std.proofs.lemmas.List.Elements.{Contains-append_right}
 use Rattle.shm_words.specs.declared.place.Place.TheVariants as place

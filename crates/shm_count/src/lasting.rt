@@ -19,11 +19,12 @@ ghost use Rattle.shm_count.specs.declared.point.Aim.TheVariants.{Down};
 ghost use Rattle.shm_count.specs.declared.point.Part.TheVariants.{First};
 ghost use Rattle.shm_count.specs.declared.point.StepState.{StepState as AState};
 ghost use Rattle.shm_count.specs.declared.tear_point.TearState.{TearState as ATearState};
-ghost use Rattle.shm_count.specs.MadeSteps.{made_up_part, tear_making};
+ghost use Rattle.shm_count.specs.MadeSteps.{change_making, down_making, made_up_part, tear_making, up_making};
 ghost use Rattle.shm_count.specs.Refusing.{ReadsCount};
 ghost use Rattle.shm_count.specs.StepControl.{last_era, block_at, raises};
 ghost use Rattle.shm_count.specs.StepFits.{StepGives};
-ghost use Rattle.shm_count.specs.StepMachines.{up_control};
+ghost use Rattle.shm_count.specs.StepControl.{step_control};
+ghost use Rattle.shm_count.specs.StepMachines.{down_control, up_control};
 ghost use Rattle.shm_count.specs.TearControl.{tear_control};
 ghost use Rattle.shm_count.specs.TearFits.{TearGives};
 ghost use Rattle.shm_count.specs.TearMemos.{Knows, Retains, is_lasting};
@@ -74,4 +75,11 @@ pub fn tear_in_call()
 /// A step up in a larger machine, at a block that the call made, is not refused as full.
 pub fn up_of_made()
     ensures { (p : ASpot) → PartLaws false up_control (made_up_part p) }
+{}
+
+/// A count step in a larger machine leaves all that was read, and the blocks that the call made, but for those that its events touch.
+pub fn step_in_call()
+    ensures up { (first : Bool) (p : ASpot) → PartLaws first up_control (grown first (up_making p first)) }
+    ensures down { (first : Bool) (p : ASpot) → PartLaws first down_control (grown first (down_making p first)) }
+    ensures change { (first : Bool) (p : ASpot) → PartLaws first step_control (grown first (change_making p first)) }
 {}

@@ -20,8 +20,8 @@ pub use events::{
     tear_own_events, tear_stopped,
 };
 pub use lasting::{
-    root_down_retains, step_lasts, step_refusals, tear_in_call, tear_lasts, tear_retains,
-    up_of_made,
+    root_down_retains, step_in_call, step_lasts, step_refusals, tear_in_call, tear_lasts,
+    tear_retains, up_of_made,
 };
 pub use step::{StepChange, StepDown, StepUp};
 pub use tear::TearDown;

@@ -9,7 +9,6 @@ use Rattle.shm_alloc.specs.AllocGoing.{begins}
 use Rattle.shm_alloc.specs.AllocLaws.{alloc_laws}
 use Rattle.shm_alloc.specs.AllocTells.{alloc_tells}
 use Rattle.shm_graph.specs.Runs.{memos_of}
-use Rattle.std.proofs.Common.{sym}
 use Rattle.shm_alloc.proofs.events.alloc_own_events.Goals as goal
 
 pub returns : goal.returns
