@@ -41,9 +41,7 @@ use Rattle.shm_alloc.specs.AllocFits.{MadeGives}
 use Rattle.shm_words.specs.Layout.{total_of}
 use Rattle.shm_words.specs.Tags.{tag_refs}
 use Rattle.shm_words.proofs.Placing.{total_small}
-use Rattle.shm_graph.specs.Held.{HeldAt}
 use Rattle.shm_graph.specs.Spots.{see}
-use Rattle.shm_graph.specs.Views.{view}
 use Rattle.shm_count.specs.Roots.{member, root_step, root_word, tear_of}
 use Rattle.shm_count.proofs.RootMemos.{StepLeft, dying_down}
 use Rattle.shm_count.proofs.RootSpots.{can_root, done_root, fits_root, is_here, left_root, some_inside}
