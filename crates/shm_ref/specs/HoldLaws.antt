@@ -52,7 +52,7 @@ module _ (m : HoldState) (r0 r : Memo) (may : MayTakeLatch m.me m.author r0) whe
       word_at true m.me (hold_ask m.me m.author Want) (HoldFound m Want) r (Hold c) hold_there (λ e. cc) refl
       (λ w rs f st stands at. hold_stored m.me w rs f [] (address m.me.geometry (place.Hold c)) (m.author + 1) st (hold_there (classes w))
       (record { here = here_same r0 (rs c) (ap (λ (x : Memo). x.status) at ∙ ap (λ (x : Memo). x.status) same) may.here; none = ap (λ (x : Memo). x.latch) at ∙ (ap (λ (x : Memo). x.latch) same ∙ may.none); most = (let l = may.author in omega arith) }))
-      (λ w rs f st at. (ap (λ (x : Memo). core (wants c (m.author + 1) x)) (called_core (rs c) (framed m.me (hold_ask m.me m.author Want) f 0)) ∙ ap (λ (x : Memo). core (wants c (m.author + 1) x)) at, refl))
+      (λ w rs f st stood at. (ap (λ (x : Memo). core (wants c (m.author + 1) x)) (called_core (rs c) (framed m.me (hold_ask m.me m.author Want) f 0)) ∙ ap (λ (x : Memo). core (wants c (m.author + 1) x)) at, refl))
 
   module _ (es : List Event) (h : IsWanted m.me m.author r0 r es) where
     -- the latch is exchanged: it was nobody's, or another's
@@ -69,7 +69,7 @@ module _ (m : HoldState) (r0 r : Memo) (may : MayTakeLatch m.me m.author r0) whe
               })
           | inr other ↦ lost_kept m.me w rs f [] (address m.me.geometry (place.Latch m.author)) 0 (c + 1) (λ i x. Unit {0}) (Latch m.author) st (latch_there (classes w)) refl tt other tt
         ])
-        (λ w rs f st at. let t : Step = framed m.me (hold_ask m.me m.author Take) f (w (Latch m.author)) in (found f.ends (called (rs c) t) (called_core (rs c) t ∙ ap core at) (w (Latch m.author) == 0), st.held.sizes.latches m.author))
+        (λ w rs f st stood at. let t : Step = framed m.me (hold_ask m.me m.author Take) f (w (Latch m.author)) in (found f.ends (called (rs c) t) (called_core (rs c) t ∙ ap core at) (w (Latch m.author) == 0), st.held.sizes.latches m.author))
       where
         found : (ends : Bool) (x : Memo) → core x ≡ core r → (q : Bool)
             → core (with_end ends (with_call x (if q then record x { latch = Some m.author } else x))) ≡ core (if q then record r { latch = Some m.author } else r)
@@ -82,7 +82,7 @@ module _ (m : HoldState) (r0 r : Memo) (may : MayTakeLatch m.me m.author r0) whe
         word_at false m.me (hold_ask m.me m.author Back) (HoldFound m Back) r (Hold c) hold_there (λ e. cc) refl
         (λ w rs f st stands at. hold_stored m.me w rs f [] (address m.me.geometry (place.Hold c)) 0 st (hold_there (classes w))
         (record { here = here_same r0 (rs c) (ap (λ (x : Memo). x.status) at ∙ ap (λ (x : Memo). x.status) h.same) may.here; none = ap (λ (x : Memo). x.latch) at ∙ (ap (λ (x : Memo). x.latch) h.same ∙ may.none); most = omega arith }))
-        (λ w rs f st at. (ap (λ (x : Memo). core (wants c 0 x)) (called_core (rs c) (framed m.me (hold_ask m.me m.author Back) f 0)) ∙ ap (λ (x : Memo). core (wants c 0 x)) at, refl))
+        (λ w rs f st stood at. (ap (λ (x : Memo). core (wants c 0 x)) (called_core (rs c) (framed m.me (hold_ask m.me m.author Back) f 0)) ∙ ap (λ (x : Memo). core (wants c 0 x)) at, refl))
 
 -- ---- the plan
 

@@ -51,7 +51,7 @@ module _ (m : ReleaseState) (a : ℕ) (r0 : Memo) (may : MayRelease m.me a r0) w
   whose_word =
       load_at true m.me (address m.me.geometry (place.Hold c)) (ReleaseFound m Whose) r0 (Hold c) hold_there (λ e. cc) refl
       (λ e f. subst IsUncommitted (sym may.idle) tt)
-      (λ w rs f st at. (
+      (λ w rs f st stood at. (
         found f.ends (called (rs c) (framed m.me (release_ask m.me m.author Whose) f (w (Hold c)))) (called_core (rs c) (framed m.me (release_ask m.me m.author Whose) f (w (Hold c))) ∙ ap core at)
             (recovers (called (rs c) (framed m.me (release_ask m.me m.author Whose) f (w (Hold c)))) && (c == c)),
         λ b e. let tie = ((st.held.latch c st.who).some b (ap (λ (x : Memo). x.latch) at ∙ e)).1 in let most = st.held.sizes.holds c in (tie, omega arith),
@@ -75,7 +75,7 @@ module _ (m : ReleaseState) (a : ℕ) (r0 : Memo) (may : MayRelease m.me a r0) w
           op = ap (λ (x : Memo). x.op) at ∙ (ap (λ (x : Memo). x.op) same ∙ may.idle);
           latch = ap (λ (x : Memo). x.latch) at ∙ (ap (λ (x : Memo). x.latch) same ∙ (may.latch ∙ ap Some mine));
         }))
-        (λ w rs f st at. (ap (λ (x : Memo). core (unlatched c x)) (called_core (rs c) (framed m.me (release_ask m.me m.author Give) f 0)) ∙ ap (λ (x : Memo). core (unlatched c x)) at, refl))
+        (λ w rs f st stood at. (ap (λ (x : Memo). core (unlatched c x)) (called_core (rs c) (framed m.me (release_ask m.me m.author Give) f 0)) ∙ ap (λ (x : Memo). core (unlatched c x)) at, refl))
 
   -- the hold word is stored as 0
   pub back_word : (r : Memo) → core r ≡ core (unlatched c r0) → IsWord false m.me (release_ask m.me m.author Back) (ReleaseFound m Back) (release_call m Back) r
@@ -83,7 +83,7 @@ module _ (m : ReleaseState) (a : ℕ) (r0 : Memo) (may : MayRelease m.me a r0) w
       word_at false m.me (release_ask m.me m.author Back) (ReleaseFound m Back) r (Hold c) hold_there (λ e. cc) refl
       (λ w rs f st stands at. hold_stored m.me w rs f [] (address m.me.geometry (place.Hold c)) 0 st (hold_there (classes w))
       (record { here = here_same r0 (rs c) (ap (λ (x : Memo). x.status) at ∙ ap (λ (x : Memo). x.status) same) may.here; none = ap (λ (x : Memo). x.latch) at ∙ ap (λ (x : Memo). x.latch) same; most = omega arith }))
-      (λ w rs f st at. (ap (λ (x : Memo). core (wants c 0 x)) (called_core (rs c) (framed m.me (release_ask m.me m.author Back) f 0)) ∙ ap (λ (x : Memo). core (wants c 0 x)) at, refl))
+      (λ w rs f st stood at. (ap (λ (x : Memo). core (wants c 0 x)) (called_core (rs c) (framed m.me (release_ask m.me m.author Back) f 0)) ∙ ap (λ (x : Memo). core (wants c 0 x)) at, refl))
 
 -- ---- the plan
 
