@@ -69,7 +69,7 @@ returns-in-Some-clause-era c =
     ap (λ (x : Memo). own_word x.own (Era c.args.who c.args.who)) (returns-in-Some-clause-gives c).rest ∙ (first_own_era c.run.new.pool.start c.args.who ∙ ap (λ (z : Start). z.first_era) start)
 
 pub returns-in-Some-clause-roots : goal.returns-in-Some-clause-roots
-returns-in-Some-clause-roots c k = ap (λ xs. own_word xs (Root c.args.who k)) (returns-in-Some-clause-gives c).own
+returns-in-Some-clause-roots c k = ap (λ (x : Memo). own_word x.own (Root c.args.who k)) (returns-in-Some-clause-gives c).rest
 
 pub returns-in-Some-clause-client : goal.returns-in-Some-clause-client
 returns-in-Some-clause-client c =
@@ -82,7 +82,7 @@ pub returns-in-Some-clause-loose : goal.returns-in-Some-clause-loose
 returns-in-Some-clause-loose c single =
     let s : Start = record { geometry = c.args.geometry; first_era = c.args.first_era; tables = c.args.tables } in
     let start : c.run.new.pool.start ≡ s = c.in-Some.ensures.start ∙ ap (λ (p : Pool). p.start) c.in_ok-pool.ensures.first in
-    ap is_loose (returns-in-Some-clause-gives c).part ∙ (ap (λ (z : Start). is_loose (first_part z.tables)) start ∙ ap (λ b. is_loose (first_part b)) single)
+    ap (λ (x : Memo). is_loose x.part) (returns-in-Some-clause-gives c).rest ∙ (ap (λ (z : Start). is_loose (first_part z.tables)) start ∙ ap (λ b. is_loose (first_part b)) single)
 
 pub returns-in-Some-clause-spent : goal.returns-in-Some-clause-spent
 returns-in-Some-clause-spent c =
