@@ -1,5 +1,5 @@
 -- what is known of pools in a vector is known of the state in which an account stood
-use Rattle.std.proofs.Common.{◌≡◌, ◌≢◌, ℕ, ◌^◌, ◌<◌, Bool, true, false, cond, List, [], refl, sym, ap, ◌∙◌, subst, arith, inl, inr, Result}
+use Rattle.std.proofs.Common.{◌≡◌, ◌≢◌, ℕ, ◌^◌, ◌<◌, Bool, true, false, cond, [], refl, sym, ap, ◌∙◌, subst, arith, inl, inr, Result}
 use Rattle.std.specs.Prelude.{Ok, Err, IfOk, slice_index}
 use Rattle.std.specs.List.{Contains}
 use Rattle.std.specs.Result.{is_ok}
@@ -9,7 +9,6 @@ use Rattle.shm_words.specs.declared.place.Place.TheVariants as place
 use Rattle.shm_words.specs.Layout.{GeometryFits, address}
 use Rattle.shm_graph.specs.declared.ask.Me.{Me}
 use Rattle.shm_graph.specs.declared.memo.Memo.{Memo}
-use Rattle.shm_graph.specs.declared.memo.Stored.{Stored}
 use Rattle.shm_graph.specs.declared.run.Account.{Account}
 use Rattle.shm_graph.specs.declared.run.Start.{Start}
 use Rattle.shm_graph.specs.declared.spot.Spot.TheVariants as spot
