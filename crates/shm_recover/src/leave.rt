@@ -1,15 +1,9 @@
 //! An identity leaves a pool.
 
-ghost use Rattle.std.specs.Prelude.{◌≡◌, ◌<◌, List, Ok};
+ghost use Rattle.std.specs.Prelude.{◌≡◌, ◌<◌};
 ghost use Rattle.shm_words.specs.Layout.{GeometryFits};
-ghost use Rattle.shm_graph.specs.declared.memo.Memo.{Memo as AMemo};
-ghost use Rattle.shm_graph.specs.Asks.{IsWithin, Trail};
-ghost use Rattle.shm_graph.specs.Bounds.{leave_steps};
-ghost use Rattle.shm_graph.specs.Events.{Event};
-ghost use Rattle.shm_count.specs.TearEvents.{frees};
-ghost use Rattle.shm_recover.specs.declared.leave.LeaveState.{LeaveState as AState};
 ghost use Rattle.shm_recover.specs.LeaveControl.{leaving, leave_next};
-ghost use Rattle.shm_recover.specs.LeaveFits.{LeaveLeaves, leave_plan};
+ghost use Rattle.shm_recover.specs.LeaveFits.{leave_plan};
 ghost use Rattle.shm_recover.specs.LeaveLaws.{leave_laws};
 
 use shm_calls::{Calls, Or, Plan, Word};
@@ -146,9 +140,3 @@ impl Plan for Leaving {
 
     ghost laws = { leave_laws };
 }
-
-/// A leaving that is done took at most two word steps for each segment, those of the tear-downs of the blocks that it freed, and 145
-/// more, and three for each exchange that failed.
-pub fn leave_bound()
-    ensures { (m : AState) (r0 r : AMemo) (tr : Trail) (es : List Event) → LeaveLeaves m r0 r tr es (Ok tt) → IsWithin (leave_steps m.me.geometry.segments (frees es)) tr }
-{}

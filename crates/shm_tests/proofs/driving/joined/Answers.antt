@@ -120,7 +120,7 @@ returns-in-Some-clause-roots c k = ap (λ (x : Memo). own_word x.own (Root c.arg
 pub returns-in-Some-clause-loose : goal.returns-in-Some-clause-loose
 returns-in-Some-clause-loose c single =
     let at = (goal.at.returns-in-Some-clause-loose c).In-Some in
-    ap is_loose (gives at).part ∙ (ap (λ (z : Start). is_loose (first_part z.tables)) (start at) ∙ ap (λ b. is_loose (first_part b)) single)
+    ap (λ (x : Memo). is_loose x.part) (gives at).rest ∙ (ap (λ (z : Start). is_loose (first_part z.tables)) (start at) ∙ ap (λ b. is_loose (first_part b)) single)
 
 pub returns-in-Some-clause-spent : goal.returns-in-Some-clause-spent
 returns-in-Some-clause-spent c =
