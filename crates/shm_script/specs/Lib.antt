@@ -1,0 +1,4 @@
+pub mod Logged
+pub mod Ranges
+pub mod Text
+pub mod Values

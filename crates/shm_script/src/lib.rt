@@ -1,0 +1,16 @@
+//! Traces, answers and logs: their types, their one spelling, and the traces of a generator.
+#![tactic(auto)]
+
+mod fault;
+mod line;
+mod log;
+mod printing;
+mod text;
+mod trace;
+
+pub use fault::{ParseStop, TraceFault, TraceKind};
+pub use line::{Item, Line};
+pub use log::{Answer, End, Entry, Log};
+pub use printing::{answer_text, line_text, print};
+pub use text::{push_number, push_text};
+pub use trace::{Script, Trace};
