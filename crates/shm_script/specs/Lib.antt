@@ -1,3 +1,4 @@
+pub mod Drawing
 pub mod Logged
 pub mod Ranges
 pub mod Text

@@ -1,6 +1,7 @@
 //! Traces, answers and logs: their types, their one spelling, and the traces of a generator.
 #![tactic(auto)]
 
+mod draw;
 mod fault;
 mod line;
 mod log;
@@ -8,6 +9,7 @@ mod printing;
 mod text;
 mod trace;
 
+pub use draw::generate;
 pub use fault::{ParseStop, TraceFault, TraceKind};
 pub use line::{Item, Line};
 pub use log::{Answer, End, Entry, Log};
