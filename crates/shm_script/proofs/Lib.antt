@@ -1,2 +1,5 @@
+pub mod Cuts
+pub mod Digits
 pub mod Drawn
 pub mod LinesGiven
+pub mod ManyWords

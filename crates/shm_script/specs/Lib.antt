@@ -1,5 +1,9 @@
 pub mod Drawing
 pub mod Logged
+pub mod Numbers
+pub mod Pieces
 pub mod Ranges
+pub mod RawShapes
+pub mod Shapes
 pub mod Text
 pub mod Values

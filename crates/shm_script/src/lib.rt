@@ -4,8 +4,12 @@
 mod draw;
 mod fault;
 mod line;
+mod line_shape;
 mod log;
+mod number;
+mod pieces;
 mod printing;
+mod raw;
 mod text;
 mod trace;
 
