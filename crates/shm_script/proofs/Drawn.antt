@@ -20,7 +20,7 @@ line_goes_on front c n i x y line all lt one so_far =
     let k : n - i ≡ suc (n - (i + 1)) = omega arith in
     let parts : (line ≡ (drawn_line c x).0) × (y ≡ (drawn_line c x).1) = (ap (λ (p : Line × ℕ). p.0) one, ap (λ (p : Line × ℕ). p.1) one) in
     let step : with_front front (drawn_lines c (n - i) x) ≡ with_front (front ++ line ∷ []) (drawn_lines c (n - (i + 1)) y) =
-        rw (k, parts.0, parts.1) (ap (λ (ls : List Line). (ls, (drawn_lines c (n - (i + 1)) (drawn_line c x).1).1)) (sym (append_assoc front ((drawn_line c x).0 ∷ []) (drawn_lines c (n - (i + 1)) (drawn_line c x).1).0))) in
+    rw (k, parts.0, parts.1) (ap (λ (ls : List Line). (ls, (drawn_lines c (n - (i + 1)) (drawn_line c x).1).1)) (sym (append_assoc front ((drawn_line c x).0 ∷ []) (drawn_lines c (n - (i + 1)) (drawn_line c x).1).0))) in
     sym step ∙ so_far
 
 pub lines_done : (front : List Line) (c n i x : ℕ) (all : List Line × ℕ) → n ≤ i → with_front front (drawn_lines c (n - i) x) ≡ all → (front, x) ≡ all
@@ -38,7 +38,7 @@ script_goes_on front n c x y s all lt one so_far =
     let is : s ≡ (drawn_script n c x).0 = ap (λ (p : Scripted × ℕ). p.0) one in
     let at : y ≡ (drawn_script n c x).1 = ap (λ (p : Scripted × ℕ). p.1) one in
     let step : front ++ drawn_scripts n c (4 - c) x ≡ (front ++ s ∷ []) ++ drawn_scripts n (c + 1) (4 - (c + 1)) y =
-        rw (k, is, at) (sym (append_assoc front ((drawn_script n c x).0 ∷ []) (drawn_scripts n (c + 1) (4 - (c + 1)) (drawn_script n c x).1))) in
+    rw (k, is, at) (sym (append_assoc front ((drawn_script n c x).0 ∷ []) (drawn_scripts n (c + 1) (4 - (c + 1)) (drawn_script n c x).1))) in
     sym step ∙ so_far
 
 pub scripts_done : (front : List Scripted) (n c x : ℕ) (all : List Scripted) → 4 ≤ c → front ++ drawn_scripts n c (4 - c) x ≡ all → front ≡ all

@@ -11,11 +11,11 @@ use Rattle.shm_script.specs.Shapes.{both, given, numbers_of, items_of, item_from
 abbrev pub with_front : {A : Type 0} → List A → Option (List A) → Option (List A)
 with_front front read = given (λ xs. front ++ xs) read
 
-regroup : {A : Type 0} (front : List A) (x : A) (read : Option (List A)) → with_front front (both (λ y ys. y ∷ ys) (Some x) read) ≡ with_front (front ++ x ∷ []) read
+pub regroup : {A : Type 0} (front : List A) (x : A) (read : Option (List A)) → with_front front (both (λ y ys. y ∷ ys) (Some x) read) ≡ with_front (front ++ x ∷ []) read
 regroup front x (Some xs) = ap Some (sym (append_assoc front (x ∷ []) xs))
 regroup front x None = refl
 
-nothing : {A : Type 0} (front : List A) (read : Option (List A)) → with_front front (both (λ y ys. y ∷ ys) None read) ≡ None
+pub nothing : {A : Type 0} (front : List A) (read : Option (List A)) → with_front front (both (λ y ys. y ∷ ys) None read) ≡ None
 nothing front (Some xs) = refl
 nothing front None = refl
 

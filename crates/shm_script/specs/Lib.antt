@@ -1,4 +1,6 @@
+pub mod Drafts
 pub mod Drawing
+pub mod Faults
 pub mod Logged
 pub mod Numbers
 pub mod Pieces

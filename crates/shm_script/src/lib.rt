@@ -3,10 +3,13 @@
 
 mod draw;
 mod fault;
+mod fit;
+mod judge;
 mod line;
 mod line_shape;
 mod log;
 mod number;
+mod parsing;
 mod pieces;
 mod printing;
 mod raw;

@@ -13,7 +13,11 @@ use crate::pieces::split_word;
 pub fn number(word: &[u8]) -> Option<Option<u64>>
     ensures { result ≡ number_of word.now }
 {
-    if has_form(word) { Some(value(word)) } else { None }
+    if has_form(word) {
+        Some(value(word))
+    } else {
+        None
+    }
 }
 
 /// Whether the word is decimal digits without a leading zero, `0` itself apart.

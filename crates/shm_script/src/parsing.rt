@@ -1,0 +1,153 @@
+//! A trace that is read line by line.
+
+ghost use Rattle.std.specs.Prelude.{◌≡◌, [], ℕ, ◌≤◌, ◌+◌, Ok, IfOk, OnOk, MatchResult, length};
+ghost use Rattle.shm_script.specs.Ranges.{IsTrace, IsTraceText};
+ghost use Rattle.shm_script.specs.Text.{text_of};
+ghost use Rattle.shm_script.specs.Values.{Scripted, Traced};
+ghost use Rattle.shm_script.specs.Faults.{fault_of, judged, limit_fault};
+ghost use Rattle.shm_script.specs.Drafts.{Drafted, Stops, StopsAt, all_scripts, draft_after, draft_none, drafted_line, fit_seen, trace_of, traced};
+ghost use Rattle.shm_script.specs.Shapes.{shape_of};
+
+use crate::fault::{ParseStop, TraceFault, TraceKind};
+use crate::fit::{FitLine, Place};
+use crate::judge::{fit_line, is_second, may_stand, too_many};
+use crate::line::{Item, Line};
+use crate::line_shape::line_shape;
+use crate::pieces::cut;
+use crate::raw::RawLine;
+use crate::trace::{Script, Trace};
+use std::alloc::{AllocError, Global};
+use std::marker::Model;
+use std::mem;
+
+/// The most bytes of a trace.
+const MOST_BYTES: usize = 1_048_576;
+
+/// What was read: the scripts that are whole, and the client, the lives and the commands of the one that goes on.
+#[derive(Drop)]
+struct Draft {
+    place: Place,
+    clients: u8,
+    segments: u16,
+    order: Vec<Item>,
+    taken: Vec<u8>,
+    scripts: Vec<Script>,
+    me: u8,
+    life: Vec<u64>,
+    lines: Vec<Line>,
+}
+
+impl Model for Draft {
+    ghost use Rattle.shm_script.specs.Drafts.{Drafted};
+
+    ghost Value = { Drafted };
+
+    ghost view = { λ d. record { seen = record { place = d.place; clients = d.clients; me = d.me; taken = d.taken.items }; segments = d.segments; order = d.order.items; scripts = d.scripts.items; life = d.life.items; lines = d.lines.items } };
+}
+
+/// The fault of this kind at a line.
+fn fault(line: u32, kind: TraceKind) -> ParseStop
+    ensures { result ≡ ParseStop.Fault (record { line = line; kind = kind }) }
+{
+    ParseStop::Fault(TraceFault { line, kind })
+}
+
+impl Draft {
+    /// Nothing is read.
+    fn new(alloc: Global) -> Draft
+        ensures { result ≡ draft_none }
+    {
+        Draft {
+            place: Place::Start,
+            clients: 0,
+            segments: 0,
+            order: Vec::new(alloc),
+            taken: Vec::new(alloc),
+            scripts: Vec::new(alloc),
+            me: 0,
+            life: Vec::new(alloc),
+            lines: Vec::new(alloc),
+        }
+    }
+
+    /// Reads one more line, the `at`-th.
+    fn take(&mut self, alloc: Global, at: u32, line: &[u8]) -> Result<(), ParseStop>
+        ensures ok { OnOk result (drafted_line self.old line.now ≡ Ok self.new) }
+        ensures err { MatchResult result (λ _. Unit {0}) (λ e. StopsAt at e (drafted_line self.old line.now)) }
+    {
+        let fit = self.judge(alloc, at, line)?;
+        self.add(alloc, fit)?;
+        Ok(())
+    }
+
+    /// The line with its numbers in range, where it has no fault.
+    fn judge(&self, alloc: Global, at: u32, line: &[u8]) -> Result<FitLine, ParseStop>
+        ensures { MatchResult result (λ f. judged self.now.seen (shape_of line.now) ≡ Ok (fit_seen f)) (λ e. StopsAt at e (judged self.now.seen (shape_of line.now))) }
+    {
+        let Some(raw) = line_shape(alloc, line)? else {
+            return Err(fault(at, TraceKind::Syntax));
+        };
+        if !may_stand(self.place, &raw) {
+            return Err(fault(at, TraceKind::Syntax));
+        }
+        if too_many(&raw) {
+            return Err(fault(at, TraceKind::Limit));
+        }
+        let Some(fit) = fit_line(alloc, self.clients, self.me, raw)? else {
+            return Err(fault(at, TraceKind::Range));
+        };
+        if is_second(&self.taken, &fit) {
+            return Err(fault(at, TraceKind::Twice));
+        }
+        Ok(fit)
+    }
+
+    /// Adds a line.
+    fn add(&mut self, alloc: Global, line: FitLine) -> Result<(), AllocError>
+        ensures { OnOk result (self.new ≡ draft_after self.old (fit_seen line)) }
+    {
+        match line {
+            FitLine::Pool(clients, segments) => {
+                self.clients = clients;
+                self.segments = segments;
+                self.place = Place::Pool;
+            }
+            FitLine::Order(items) => {
+                self.order = items;
+                self.place = Place::Order;
+            }
+            FitLine::Client(client) => {
+                self.end_script(alloc)?;
+                self.taken.push(client)?;
+                self.me = client;
+                self.place = Place::Client;
+            }
+            FitLine::Life(life) => {
+                self.life = life;
+                self.place = Place::Body;
+            }
+            FitLine::Command(command) => {
+                self.lines.push(command)?;
+                self.place = Place::Body;
+            }
+        }
+        Ok(())
+    }
+
+    /// Puts the script that goes on to those that are whole.
+    fn end_script(&mut self, alloc: Global) -> Result<(), AllocError>
+        ensures { OnOk result (self.new ≡ record self.old { scripts = all_scripts self.old; life = []; lines = [] }) }
+    {
+        let life = mem::replace(&mut self.life, Vec::new(alloc));
+        let lines = mem::replace(&mut self.lines, Vec::new(alloc));
+        if matches!(self.place, Place::Client | Place::Body) {
+            let client = self.me;
+            self.scripts.push(Script {
+                client,
+                life,
+                lines,
+            })?;
+        }
+        Ok(())
+    }
+}
