@@ -1,6 +1,12 @@
 pub mod Cuts
 pub mod Digits
 pub mod Drawn
+pub mod FitTexts
+pub mod Inverts
+pub mod LineTexts
 pub mod LinesGiven
+pub mod Lists
 pub mod ManyFit
 pub mod ManyWords
+pub mod NumberTexts
+pub mod Sound
