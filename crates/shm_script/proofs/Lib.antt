@@ -10,3 +10,5 @@ pub mod ManyFit
 pub mod ManyWords
 pub mod NumberTexts
 pub mod Sound
+pub mod Whole
+pub mod ReadLoop

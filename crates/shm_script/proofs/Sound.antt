@@ -73,7 +73,7 @@ Grows d e text = IsDraft e × (draft_text e ≡ draft_text d ++ ended text)
 abbrev pub head_text : ℕ → ℕ → List Item → List ℕ
 head_text n g order = ended (codes "pool" ++ spaced n ++ spaced g) ++ order_spelled order
 
-pool_grows : (d : Drafted) (n g : ℕ) → IsDraft d → d.seen.place ≡ place.Start → FitRange d.seen.clients d.seen.me (FitPool n g) → Grows d (draft_after d (FitPool n g)) (fit_text (FitPool n g))
+pub pool_grows : (d : Drafted) (n g : ℕ) → IsDraft d → d.seen.place ≡ place.Start → FitRange d.seen.clients d.seen.me (FitPool n g) → Grows d (draft_after d (FitPool n g)) (fit_text (FitPool n g))
 pool_grows d n g h start range =
     let empty = subst (λ p. EmptyAt p d) start h.empty in
     let whole = ended (fit_text (FitPool n g)) in
@@ -91,7 +91,7 @@ pool_grows d n g h start range =
       empty = empty;
     }, text ∙ ap (λ w. w ++ whole) (sym none))
 
-order_grows : (d : Drafted) (items : List Item) → IsDraft d → d.seen.place ≡ place.Pool → FitRange d.seen.clients d.seen.me (FitOrder items) → Grows d (draft_after d (FitOrder items)) (fit_text (FitOrder items))
+pub order_grows : (d : Drafted) (items : List Item) → IsDraft d → d.seen.place ≡ place.Pool → FitRange d.seen.clients d.seen.me (FitOrder items) → Grows d (draft_after d (FitOrder items)) (fit_text (FitOrder items))
 order_grows d items h pool range =
     let empty = subst (λ p. EmptyAt p d) pool h.empty in
     let size = subst (λ p. SizeAt p d.seen.clients d.segments) pool h.size in
@@ -126,7 +126,7 @@ text_there place.Order c d h = refl
 text_there place.Client c d h = refl
 text_there place.Body c d h = refl
 
-client_grows : (d : Drafted) (o : Option ℕ) (c : ℕ) → IsDraft d → may_stand d.seen.place (Client o) ≡ true → is_second d.seen.taken (FitClient c) ≡ false → FitRange d.seen.clients d.seen.me (FitClient c) → Grows d (draft_after d (FitClient c)) (fit_text (FitClient c))
+pub client_grows : (d : Drafted) (o : Option ℕ) (c : ℕ) → IsDraft d → may_stand d.seen.place (Client o) ≡ true → is_second d.seen.taken (FitClient c) ≡ false → FitRange d.seen.clients d.seen.me (FitClient c) → Grows d (draft_after d (FitClient c)) (fit_text (FitClient c))
 client_grows d o c h stands first range =
     let ss = all_scripts d in
     let s : Scripted = record { client = c; life = []; lines = [] } in
@@ -159,7 +159,7 @@ module _ (d : Drafted) (h : IsDraft d) (at : all_scripts d ≡ d.scripts ++ open
       let front = head_text d.seen.clients d.segments d.order in
       text_last front d.scripts (open_script d) t more spelled ∙ ap (λ w. w ++ more) (ap (λ ss. front ++ flat_map script_spelled ss) (sym at) ∙ sym there)
 
-life_grows : (d : Drafted) (life : List ℕ) → IsDraft d → d.seen.place ≡ place.Client → FitRange d.seen.clients d.seen.me (FitLife life) → Grows d (draft_after d (FitLife life)) (fit_text (FitLife life))
+pub life_grows : (d : Drafted) (life : List ℕ) → IsDraft d → d.seen.place ≡ place.Client → FitRange d.seen.clients d.seen.me (FitLife life) → Grows d (draft_after d (FitLife life)) (fit_text (FitLife life))
 life_grows d life h client range =
     let empty = subst (λ p. EmptyAt p d) client h.empty in
     let at : all_scripts d ≡ d.scripts ++ open_script d ∷ [] = ap (λ p. scripts_at p d) client in
@@ -194,7 +194,7 @@ body_there place.Order r d h = absurd cc
 body_there place.Client r d h = (refl, refl)
 body_there place.Body r d h = (refl, refl)
 
-command_grows : (d : Drafted) (r : RawCommand) (line : Line) → IsDraft d → may_stand d.seen.place (Command r) ≡ true → FitRange d.seen.clients d.seen.me (FitCommand line) → Grows d (draft_after d (FitCommand line)) (fit_text (FitCommand line))
+pub command_grows : (d : Drafted) (r : RawCommand) (line : Line) → IsDraft d → may_stand d.seen.place (Command r) ≡ true → FitRange d.seen.clients d.seen.me (FitCommand line) → Grows d (draft_after d (FitCommand line)) (fit_text (FitCommand line))
 command_grows d r line h stands range =
     let there = body_there d.seen.place r d stands in
     let t : Scripted = record { client = d.seen.me; life = d.life; lines = d.lines ++ line ∷ [] } in

@@ -96,3 +96,8 @@ Stops (stop.Fault f) read = read ≡ Err f
 abbrev pub StopsAt : {A : Type 0} → ℕ → ParseStop → Result A TraceKind → Type 0
 StopsAt at (stop.Memory e) read = Unit {0}
 StopsAt at (stop.Fault f) read = (f.line ≡ at) × (read ≡ Err f.kind)
+
+-- an error of parsing: no memory, or this fault
+abbrev pub IsFault : ParseStop → Option TraceFault → Type 0
+IsFault (stop.Memory e) fault = Unit {0}
+IsFault (stop.Fault f) fault = fault ≡ Some f

@@ -19,6 +19,7 @@ mod trace;
 pub use draw::generate;
 pub use fault::{ParseStop, TraceFault, TraceKind};
 pub use line::{Item, Line};
+pub use parsing::parse;
 pub use log::{Answer, End, Entry, Log};
 pub use printing::{answer_text, line_text, print};
 pub use text::{push_number, push_text};

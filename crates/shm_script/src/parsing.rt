@@ -1,11 +1,12 @@
 //! A trace that is read line by line.
 
-ghost use Rattle.std.specs.Prelude.{◌≡◌, [], ℕ, ◌≤◌, ◌+◌, Ok, IfOk, OnOk, MatchResult, length};
+ghost use Rattle.std.specs.Prelude.{◌≡◌, ◌∷◌, [], ℕ, ◌<◌, ◌≤◌, ◌+◌, ◌==◌, Ok, None, IfOk, IfSome, OnOk, MatchOption, MatchResult, count_by, length};
+ghost use Rattle.std.specs.List.{slice_split};
 ghost use Rattle.shm_script.specs.Ranges.{IsTrace, IsTraceText};
 ghost use Rattle.shm_script.specs.Text.{text_of};
 ghost use Rattle.shm_script.specs.Values.{Scripted, Traced};
-ghost use Rattle.shm_script.specs.Faults.{fault_of, judged, limit_fault};
-ghost use Rattle.shm_script.specs.Drafts.{Drafted, Stops, StopsAt, all_scripts, draft_after, draft_none, drafted_line, fit_seen, trace_of, traced};
+ghost use Rattle.shm_script.specs.Faults.{fault_of, judged, limit_fault, may_end};
+ghost use Rattle.shm_script.specs.Drafts.{Drafted, IsFault, Stops, StopsAt, all_scripts, draft_after, draft_none, drafted_line, fit_seen, trace_of, traced};
 ghost use Rattle.shm_script.specs.Shapes.{shape_of};
 
 use crate::fault::{ParseStop, TraceFault, TraceKind};
@@ -150,4 +151,97 @@ impl Draft {
         }
         Ok(())
     }
+}
+
+impl Draft {
+    /// Whether the bytes may end here, with `rest` behind the last line feed.
+    fn may_end(&self, rest: &[u8]) -> bool
+        ensures { result ≡ may_end self.now.seen.place rest.now }
+    {
+        match self.place {
+            Place::Start => false,
+            _ => rest.is_empty(),
+        }
+    }
+
+    /// The trace that was read.
+    fn finish(mut self, alloc: Global) -> Result<Trace, AllocError>
+        requires { IsTrace (traced self) }
+        ensures { IfOk result (λ t. t ≡ traced self) }
+    {
+        self.end_script(alloc)?;
+        let Draft {
+            clients,
+            segments,
+            order,
+            scripts,
+            ..
+        } = self;
+        Ok(Trace {
+            clients,
+            segments,
+            order,
+            scripts,
+        })
+    }
+}
+
+/// The next line and what stands behind it, where a line feed ends it.
+fn split_line(text: &[u8]) -> Option<(&[u8], &[u8])>
+    ensures lines { MatchOption result (slice_split (λ b. b == 10) text.now ≡ text.now ∷ []) (λ x. slice_split (λ b. b == 10) text.now ≡ x.0.now ∷ slice_split (λ b. b == 10) x.1.now) }
+    ensures less { IfSome result (λ x. length x.1.now < length text.now) }
+{
+    let (line, rest) = cut(text, b'\n');
+    match rest {
+        None => None,
+        Some(rest) => Some((line, rest)),
+    }
+}
+
+/// The fault of bytes that are too many: the line of the first one past the limit.
+fn limit(bytes: &[u8]) -> ParseStop
+    requires { 1048576 < length bytes.now }
+    ensures { result ≡ ParseStop.Fault (limit_fault bytes.now) }
+{
+    let (front, _) = bytes.split_at(MOST_BYTES);
+    fault(1 + line_feeds(front) as u32, TraceKind::Limit)
+}
+
+/// How many line feeds there are.
+fn line_feeds(bytes: &[u8]) -> usize
+    ensures count { result ≡ count_by (λ b. b == 10) bytes.now }
+    ensures few { result ≤ length bytes.now }
+{
+    bytes.iter().filter(|b| **b == b'\n').count()
+}
+
+/// The trace of the bytes, or their first fault.
+fn read(alloc: Global, bytes: &[u8]) -> Result<Trace, ParseStop>
+    ensures { MatchResult result (λ t. trace_of bytes.now ≡ Ok t) (λ e. Stops e (trace_of bytes.now)) }
+{
+    if bytes.len() > MOST_BYTES {
+        return Err(limit(bytes));
+    }
+    let mut draft = Draft::new(alloc);
+    let mut at = 1;
+    let mut rest = bytes;
+    while let Some((line, others)) = split_line(rest) {
+        draft.take(alloc, at, line)?;
+        at += 1;
+        rest = others;
+    }
+    if !draft.may_end(rest) {
+        return Err(fault(at, TraceKind::Syntax));
+    }
+    Ok(draft.finish(alloc)?)
+}
+
+/// The trace that the bytes spell.
+///
+/// Where they spell none, the first line that is at fault and what is wrong with it.
+pub fn parse(alloc: Global, bytes: &[u8]) -> Result<Trace, ParseStop>
+    ensures found { IfOk result (λ t. IsTrace t × (bytes.now ≡ text_of t) × (length bytes.now ≤ 1048576)) }
+    ensures fault { MatchResult result (λ _. fault_of bytes.now ≡ None) (λ e. IsFault e (fault_of bytes.now)) }
+{
+    read(alloc, bytes)
 }
