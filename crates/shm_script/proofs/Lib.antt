@@ -12,3 +12,4 @@ pub mod NumberTexts
 pub mod Sound
 pub mod Whole
 pub mod ReadLoop
+pub mod Again

@@ -54,3 +54,6 @@ number_again n h =
 -- what is no digit doesn't stand in a number
 pub decimal_lacks : (byte n : ℕ) → byte < 48 → n < 2 ^ 64 → (i : ℕ) → i < length (decimal n) → get_or (decimal n) i 0 ≡ byte → ⊥
 decimal_lacks byte n low h = not_in_digits own (decimal n) byte (digits_decimal own n h) (λ range. omega (arith, range))
+
+pub decimal_lacks_high : (byte n : ℕ) → 57 < byte → n < 2 ^ 64 → (i : ℕ) → i < length (decimal n) → get_or (decimal n) i 0 ≡ byte → ⊥
+decimal_lacks_high byte n high h = not_in_digits own (decimal n) byte (digits_decimal own n h) (λ range. omega (arith, range))
