@@ -31,19 +31,19 @@ pub record Free (byte : ℕ) (text : List ℕ) : Type 0 where
 no_eq : (a b : ℕ) → (a ≡ b → ⊥) → eqb a b ≡ false
 no_eq a b h = grind (arith, nat_tests)
 
-free_nil : {byte : ℕ} → Free byte []
+pub free_nil : {byte : ℕ} → Free byte []
 free_nil {byte} = record { all = All-nil (λ b. eqb b byte ≡ false) }
 
-free_cons : {byte : ℕ} {text : List ℕ} (b : ℕ) → eqb b byte ≡ false → Free byte text → Free byte (b ∷ text)
+pub free_cons : {byte : ℕ} {text : List ℕ} (b : ℕ) → eqb b byte ≡ false → Free byte text → Free byte (b ∷ text)
 free_cons {byte} {text} b h f = record { all = All-cons (λ x. eqb x byte ≡ false) b text h f.all }
 
 pub free_both : {byte : ℕ} (xs ys : List ℕ) → Free byte xs → Free byte ys → Free byte (xs ++ ys)
 free_both {byte} xs ys f g = record { all = All-append (λ b. eqb b byte ≡ false) xs ys f.all g.all }
 
-free_decimal : (byte n : ℕ) → byte < 48 → n < 2 ^ 64 → Free byte (decimal n)
+pub free_decimal : (byte n : ℕ) → byte < 48 → n < 2 ^ 64 → Free byte (decimal n)
 free_decimal byte n low h = record { all = All-from_get_or (λ b. eqb b byte ≡ false) (decimal n) 0 (λ i inside. no_eq (get_or (decimal n) i 0) byte (decimal_lacks byte n low h i inside)) }
 
-free_colon : (n : ℕ) → n < 2 ^ 64 → Free 58 (decimal n)
+pub free_colon : (n : ℕ) → n < 2 ^ 64 → Free 58 (decimal n)
 free_colon n h = record { all = All-from_get_or (λ b. eqb b 58 ≡ false) (decimal n) 0 (λ i inside. no_eq (get_or (decimal n) i 0) 58 (decimal_lacks_high 58 n (omega arith) h i inside)) }
 
 free_literal : (byte : ℕ) (text : List ℕ) → AllByRecursion (λ b. eqb b byte ≡ false) text → Free byte text
@@ -58,21 +58,21 @@ split_words head [] f h = ap (slice_split (λ b. b == 32)) (append-nil head) ∙
 split_words head (word ∷ words) f h = slice_split_at (λ b. b == 32) head 32 (word ++ blanks words) f.all refl ∙ ap (λ ws. head ∷ ws) (split_words word words h.0 h.1)
 
 -- ---- numbers in range
-below_if : (bound n : ℕ) → n < bound → below bound (Some n) ≡ Some n
+pub below_if : (bound n : ℕ) → n < bound → below bound (Some n) ≡ Some n
 below_if bound n h = let t : ltb n bound ≡ true = grind (arith, nat_tests) in ap (λ b. cond b (Some n) None) t
 
-between_if : (low high n : ℕ) → low ≤ n → n ≤ high → between low high (Some n) ≡ Some n
+pub between_if : (low high n : ℕ) → low ≤ n → n ≤ high → between low high (Some n) ≡ Some n
 between_if low high n l h = let t : (not (ltb n low) && not (ltb high n)) ≡ true = grind (arith, nat_tests) in ap (λ b. cond b (Some n) None) t
 
 other_if : (me clients n : ℕ) → n < clients → n ≢ me → other_than me (below clients (Some n)) ≡ Some n
 other_if me clients n h apart = ap (other_than me) (below_if clients n h) ∙ ap (λ b. cond b None (Some n)) (no_eq n me apart)
 
 -- ---- words of numbers
-one_again : (n : ℕ) → n < 2 ^ 64 → one_of (decimal n ∷ []) ≡ Some (Some n)
+pub one_again : (n : ℕ) → n < 2 ^ 64 → one_of (decimal n ∷ []) ≡ Some (Some n)
 unfolding one_of
 one_again n h = number_again n h
 
-two_again : (a b : ℕ) → a < 2 ^ 64 → b < 2 ^ 64 → two_of (decimal a ∷ decimal b ∷ []) ≡ Some (Some a, Some b)
+pub two_again : (a b : ℕ) → a < 2 ^ 64 → b < 2 ^ 64 → two_of (decimal a ∷ decimal b ∷ []) ≡ Some (Some a, Some b)
 unfolding two_of
 two_again a b h k = rw (number_again a h, one_again b k) refl
 
@@ -162,11 +162,11 @@ line_joined (lines.Copy k a o) = append_assoc (codes "copy" ++ spaced k) (spaced
 line_joined (lines.Send c k) = ap (λ w. codes "send" ++ (spaced c ++ w)) (sym (append-nil (spaced k)))
 line_joined (lines.Recv c k) = ap (λ w. codes "recv" ++ (spaced c ++ w)) (sym (append-nil (spaced k)))
 
-low : (byte : ℕ) → (byte ≡ 10) ⊎ (byte ≡ 32) → byte < 48
+pub low : (byte : ℕ) → (byte ≡ 10) ⊎ (byte ≡ 32) → byte < 48
 low byte (inl e) = omega arith
 low byte (inr e) = omega arith
 
-literal : (byte : ℕ) (text : List ℕ) → (byte ≡ 10) ⊎ (byte ≡ 32) → AllByRecursion (λ b. eqb b 10 ≡ false) text → AllByRecursion (λ b. eqb b 32 ≡ false) text → Free byte text
+pub literal : (byte : ℕ) (text : List ℕ) → (byte ≡ 10) ⊎ (byte ≡ 32) → AllByRecursion (λ b. eqb b 10 ≡ false) text → AllByRecursion (λ b. eqb b 32 ≡ false) text → Free byte text
 literal byte text (inl e) h k = subst (λ b. Free b text) (sym e) (free_literal 10 text h)
 literal byte text (inr e) h k = subst (λ b. Free b text) (sym e) (free_literal 32 text k)
 

@@ -13,3 +13,4 @@ pub mod Sound
 pub mod Whole
 pub mod ReadLoop
 pub mod Again
+pub mod LinesAgain
