@@ -14,3 +14,4 @@ pub mod Whole
 pub mod ReadLoop
 pub mod Again
 pub mod LinesAgain
+pub mod Complete

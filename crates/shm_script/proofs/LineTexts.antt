@@ -74,7 +74,7 @@ rest_is (Some n) rest life h = let g = given_is (λ (ns : List ℕ). n ∷ ns) (
 -- lives
 pub life_text : (words : List (List ℕ)) (numbers : List (Option ℕ)) (left : ℕ) (life : List ℕ) → numbers_of words ≡ Some numbers → life_fit left numbers ≡ Some life → blanks words ≡ flat_map spaced life
 unfolding numbers_of life_fit
-life_text [] numbers left life h k = 
+life_text [] numbers left life h k =
     let none : numbers ≡ [] = cc in
     let e : life_fit left [] ≡ Some life = ap (life_fit left) (sym none) ∙ k in
     let is : life ≡ [] = cc in

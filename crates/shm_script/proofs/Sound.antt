@@ -80,16 +80,18 @@ pool_grows d n g h start range =
     let none : draft_text d ≡ [] = ap (λ p. text_at p d) start in
     let scripts : all_scripts d ≡ [] = ap (λ p. scripts_at p d) start ∙ empty.1 in
     let text : (whole ++ order_spelled d.order) ++ flat_map script_spelled d.scripts ≡ whole =
-        ap (λ os. (whole ++ order_spelled os) ++ flat_map script_spelled d.scripts) empty.0 ∙ ap (λ ss. (whole ++ []) ++ flat_map script_spelled ss) empty.1 ∙ append-nil (whole ++ []) ∙ append-nil whole in
-    (record {
-      size = range;
-      few = h.few;
-      items = subst (λ os. AllByRecursion (ItemFits n) os) (sym empty.0) tt;
-      loose = subst (λ ss. AllByRecursion (LooseFits n) ss) (sym empty.1) tt;
-      apart = subst AreApart (sym empty.1) tt;
-      taken = h.taken ∙ ap (map (λ (s : Scripted). s.client)) (scripts ∙ sym empty.1);
-      empty = empty;
-    }, text ∙ ap (λ w. w ++ whole) (sym none))
+    ap (λ os. (whole ++ order_spelled os) ++ flat_map script_spelled d.scripts) empty.0 ∙ ap (λ ss. (whole ++ []) ++ flat_map script_spelled ss) empty.1 ∙ append-nil (whole ++ []) ∙ append-nil whole in (
+      record {
+        size = range;
+        few = h.few;
+        items = subst (λ os. AllByRecursion (ItemFits n) os) (sym empty.0) tt;
+        loose = subst (λ ss. AllByRecursion (LooseFits n) ss) (sym empty.1) tt;
+        apart = subst AreApart (sym empty.1) tt;
+        taken = h.taken ∙ ap (map (λ (s : Scripted). s.client)) (scripts ∙ sym empty.1);
+        empty = empty;
+      },
+      text ∙ ap (λ w. w ++ whole) (sym none),
+    )
 
 pub order_grows : (d : Drafted) (items : List Item) → IsDraft d → d.seen.place ≡ place.Pool → FitRange d.seen.clients d.seen.me (FitOrder items) → Grows d (draft_after d (FitOrder items)) (fit_text (FitOrder items))
 order_grows d items h pool range =
@@ -100,16 +102,18 @@ order_grows d items h pool range =
     let line = ended (fit_text (FitOrder items)) in
     let before : draft_text d ≡ front = ap (λ p. text_at p d) pool ∙ ap (λ ss. (front ++ order_spelled d.order) ++ flat_map script_spelled ss) (scripts ∙ empty.1) ∙ append-nil (front ++ order_spelled d.order) ∙ ap (λ os. front ++ order_spelled os) empty.0 ∙ append-nil front in
     let behind : (front ++ order_spelled items) ++ flat_map script_spelled d.scripts ≡ front ++ line =
-        ap (λ ss. (front ++ order_spelled items) ++ flat_map script_spelled ss) empty.1 ∙ append-nil (front ++ order_spelled items) ∙ ap (λ w. front ++ w) (order_some items range.0) in
-    (record {
-      size = size;
-      few = range.1;
-      items = range.2;
-      loose = subst (AllByRecursion (LooseFits d.seen.clients)) scripts h.loose;
-      apart = subst AreApart scripts h.apart;
-      taken = h.taken ∙ ap (map (λ (s : Scripted). s.client)) scripts;
-      empty = empty.1;
-    }, behind ∙ ap (λ w. w ++ line) (sym before))
+    ap (λ ss. (front ++ order_spelled items) ++ flat_map script_spelled ss) empty.1 ∙ append-nil (front ++ order_spelled items) ∙ ap (λ w. front ++ w) (order_some items range.0) in (
+      record {
+        size = size;
+        few = range.1;
+        items = range.2;
+        loose = subst (AllByRecursion (LooseFits d.seen.clients)) scripts h.loose;
+        apart = subst AreApart scripts h.apart;
+        taken = h.taken ∙ ap (map (λ (s : Scripted). s.client)) scripts;
+        empty = empty.1;
+      },
+      behind ∙ ap (λ w. w ++ line) (sym before),
+    )
 
 -- a place behind which a client may stand
 size_there : (p : Place) (c : Option ℕ) (n g : ℕ) → may_stand p (Client c) ≡ true → SizeAt p n g → SizeAt place.Client n g
@@ -132,16 +136,18 @@ client_grows d o c h stands first range =
     let s : Scripted = record { client = c; life = []; lines = [] } in
     let apart : AllByRecursion (λ x. x.client ≢ c) ss = not_taken ss c (ap (λ cs. list_any (λ x. x == c) cs) (sym h.taken) ∙ first) in
     let spelled : script_spelled s ≡ client_text c = append-nil (client_text c ++ []) ∙ append-nil (client_text c) in
-    let front = head_text d.seen.clients d.segments d.order in
-    (record {
-      size = size_there d.seen.place o d.seen.clients d.segments stands h.size;
-      few = h.few;
-      items = h.items;
-      loose = all_push (LooseFits d.seen.clients) ss s h.loose (record { client = range; life = tt; sum = omega arith; lines = tt });
-      apart = apart_push ss s h.apart apart;
-      taken = ap (λ cs. cs ++ c ∷ []) h.taken ∙ sym (clients_push ss s);
-      empty = (refl, refl);
-    }, text_push front ss s ∙ ap (λ w. (front ++ flat_map script_spelled ss) ++ w) spelled ∙ ap (λ w. w ++ client_text c) (sym (text_there d.seen.place o d stands)))
+    let front = head_text d.seen.clients d.segments d.order in (
+      record {
+        size = size_there d.seen.place o d.seen.clients d.segments stands h.size;
+        few = h.few;
+        items = h.items;
+        loose = all_push (LooseFits d.seen.clients) ss s h.loose (record { client = range; life = tt; sum = omega arith; lines = tt });
+        apart = apart_push ss s h.apart apart;
+        taken = ap (λ cs. cs ++ c ∷ []) h.taken ∙ sym (clients_push ss s);
+        empty = (refl, refl);
+      },
+      text_push front ss s ∙ ap (λ w. (front ++ flat_map script_spelled ss) ++ w) spelled ∙ ap (λ w. w ++ client_text c) (sym (text_there d.seen.place o d stands)),
+    )
 
 -- the script that goes on gets more text
 module _ (d : Drafted) (h : IsDraft d) (at : all_scripts d ≡ d.scripts ++ open_script d ∷ []) (t : Scripted) (client : d.seen.me ≡ t.client) (fits : LooseFits d.seen.clients (open_script d) → LooseFits d.seen.clients t) where
@@ -168,16 +174,18 @@ life_grows d life h client range =
     let line = ended (fit_text (FitLife life)) in
     let me = client_text d.seen.me in
     let old : script_spelled (open_script d) ≡ me = ap (λ ls. (me ++ life_spelled d.life) ++ flat_map line_ended ls) empty.1 ∙ append-nil (me ++ life_spelled d.life) ∙ ap (λ l. me ++ life_spelled l) empty.0 ∙ append-nil me in
-    let new : script_spelled t ≡ me ++ line = ap (λ ls. (me ++ life_spelled life) ++ flat_map line_ended ls) empty.1 ∙ append-nil (me ++ life_spelled life) ∙ ap (λ w. me ++ w) (life_some life range.0) in
-    (record {
-      size = subst (λ p. SizeAt p d.seen.clients d.segments) client h.size;
-      few = h.few;
-      items = h.items;
-      loose = loose_more d h at t refl fits;
-      apart = apart_more d h at t refl fits;
-      taken = taken_more d h at t refl fits;
-      empty = tt;
-    }, text_more d h at t refl fits line (new ∙ ap (λ w. w ++ line) (sym old)) (ap (λ p. text_at p d) client))
+    let new : script_spelled t ≡ me ++ line = ap (λ ls. (me ++ life_spelled life) ++ flat_map line_ended ls) empty.1 ∙ append-nil (me ++ life_spelled life) ∙ ap (λ w. me ++ w) (life_some life range.0) in (
+      record {
+        size = subst (λ p. SizeAt p d.seen.clients d.segments) client h.size;
+        few = h.few;
+        items = h.items;
+        loose = loose_more d h at t refl fits;
+        apart = apart_more d h at t refl fits;
+        taken = taken_more d h at t refl fits;
+        empty = tt;
+      },
+      text_more d h at t refl fits line (new ∙ ap (λ w. w ++ line) (sym old)) (ap (λ p. text_at p d) client),
+    )
 
 -- a place behind which a command may stand
 body_size : (p : Place) (r : RawCommand) (n g : ℕ) → may_stand p (Command r) ≡ true → SizeAt p n g → SizeAt place.Body n g
@@ -198,13 +206,15 @@ pub command_grows : (d : Drafted) (r : RawCommand) (line : Line) → IsDraft d �
 command_grows d r line h stands range =
     let there = body_there d.seen.place r d stands in
     let t : Scripted = record { client = d.seen.me; life = d.life; lines = d.lines ++ line ∷ [] } in
-    let fits : LooseFits d.seen.clients (open_script d) → LooseFits d.seen.clients t = λ l. record { client = l.client; life = l.life; sum = l.sum; lines = all_push (LineFits d.seen.clients d.seen.me) d.lines line l.lines range } in
-    (record {
-      size = body_size d.seen.place r d.seen.clients d.segments stands h.size;
-      few = h.few;
-      items = h.items;
-      loose = loose_more d h there.1 t refl fits;
-      apart = apart_more d h there.1 t refl fits;
-      taken = taken_more d h there.1 t refl fits;
-      empty = tt;
-    }, text_more d h there.1 t refl fits (line_ended line) (lines_push d.seen.me d.life d.lines line) there.0)
+    let fits : LooseFits d.seen.clients (open_script d) → LooseFits d.seen.clients t = λ l. record { client = l.client; life = l.life; sum = l.sum; lines = all_push (LineFits d.seen.clients d.seen.me) d.lines line l.lines range } in (
+      record {
+        size = body_size d.seen.place r d.seen.clients d.segments stands h.size;
+        few = h.few;
+        items = h.items;
+        loose = loose_more d h there.1 t refl fits;
+        apart = apart_more d h there.1 t refl fits;
+        taken = taken_more d h there.1 t refl fits;
+        empty = tt;
+      },
+      text_more d h there.1 t refl fits (line_ended line) (lines_push d.seen.me d.life d.lines line) there.0,
+    )

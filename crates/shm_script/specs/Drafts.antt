@@ -101,3 +101,8 @@ StopsAt at (stop.Fault f) read = (f.line ≡ at) × (read ≡ Err f.kind)
 abbrev pub IsFault : ParseStop → Option TraceFault → Type 0
 IsFault (stop.Memory e) fault = Unit {0}
 IsFault (stop.Fault f) fault = fault ≡ Some f
+
+-- an error of parsing: no memory
+abbrev pub IsMemory : ParseStop → Type 0
+IsMemory (stop.Memory e) = Unit {0}
+IsMemory (stop.Fault f) = ⊥

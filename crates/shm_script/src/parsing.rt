@@ -1,12 +1,12 @@
 //! A trace that is read line by line.
 
-ghost use Rattle.std.specs.Prelude.{◌≡◌, ◌∷◌, [], ℕ, ◌<◌, ◌≤◌, ◌+◌, ◌==◌, Ok, None, IfOk, IfSome, OnOk, MatchOption, MatchResult, count_by, length};
+ghost use Rattle.std.specs.Prelude.{◌≡◌, ◌∷◌, [], ℕ, List, ◌<◌, ◌≤◌, ◌+◌, ◌==◌, Ok, None, IfOk, IfSome, OnOk, MatchOption, MatchResult, count_by, length};
 ghost use Rattle.std.specs.List.{slice_split};
 ghost use Rattle.shm_script.specs.Ranges.{IsTrace, IsTraceText};
 ghost use Rattle.shm_script.specs.Text.{text_of};
 ghost use Rattle.shm_script.specs.Values.{Scripted, Traced};
 ghost use Rattle.shm_script.specs.Faults.{fault_of, judged, limit_fault, may_end};
-ghost use Rattle.shm_script.specs.Drafts.{Drafted, IsFault, Stops, StopsAt, all_scripts, draft_after, draft_none, drafted_line, fit_seen, trace_of, traced};
+ghost use Rattle.shm_script.specs.Drafts.{Drafted, IsFault, IsMemory, Stops, StopsAt, all_scripts, draft_after, draft_none, drafted_line, fit_seen, trace_of, traced};
 ghost use Rattle.shm_script.specs.Shapes.{shape_of};
 
 use crate::fault::{ParseStop, TraceFault, TraceKind};
@@ -240,8 +240,23 @@ fn read(alloc: Global, bytes: &[u8]) -> Result<Trace, ParseStop>
 ///
 /// Where they spell none, the first line that is at fault and what is wrong with it.
 pub fn parse(alloc: Global, bytes: &[u8]) -> Result<Trace, ParseStop>
+    // What is read is a trace, and the bytes are its one spelling.
     ensures found { IfOk result (λ t. IsTrace t × (bytes.now ≡ text_of t) × (length bytes.now ≤ 1048576)) }
+    // What spells a trace is read as that trace, unless memory runs out.
+    ensures only { (t : Traced) → IsTrace t → length bytes.now ≤ 1048576 → bytes.now ≡ text_of t → MatchResult result (λ r. r ≡ t) IsMemory }
+    // Which fault it is.
     ensures fault { MatchResult result (λ _. fault_of bytes.now ≡ None) (λ e. IsFault e (fault_of bytes.now)) }
 {
     read(alloc, bytes)
 }
+
+/// No two traces have one text.
+pub fn text_is_one_spelling()
+    ensures { (s t : Traced) → IsTrace s → IsTrace t → text_of s ≡ text_of t → s ≡ t }
+{}
+
+/// Bytes have no fault exactly where they are the text of a trace.
+pub fn faults_are_of_no_trace()
+    ensures text { (bytes : List ℕ) → IsTraceText bytes → fault_of bytes ≡ None }
+    ensures fault { (bytes : List ℕ) → fault_of bytes ≡ None → IsTraceText bytes }
+{}
