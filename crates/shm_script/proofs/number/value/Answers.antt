@@ -1,4 +1,4 @@
-use Rattle.std.proofs.Common.{◌≡◌, ◌*◌, ◌+◌, ◌-◌, ◌∙◌, sym, refl, ap, get_or, length, drop, []}
+use Rattle.std.proofs.Common.{◌*◌, ◌+◌, ◌-◌, ◌∙◌, sym, refl, ap, get_or}
 use Rattle.std.proofs.Math.ListN.{drop_of_length-le}
 use Rattle.shm_script.specs.Numbers.{small, value_after}
 use Rattle.shm_script.proofs.Digits.{digit_here, digits_left, value_at}
