@@ -68,7 +68,11 @@ fn time_copy(rt: &HostRuntime, bytes: &[u8]) -> io::Result<Option<u64>> {
     let start = nanos(rt)?;
     let copy = Vec::from_slice(rt.alloc(), bytes)?;
     let time = nanos(rt)?.saturating_sub(start);
-    Ok(if copy.len() == bytes.len() { Some(time) } else { None })
+    Ok(if copy.len() == bytes.len() {
+        Some(time)
+    } else {
+        None
+    })
 }
 
 /// A number of hundredths, as a decimal number.

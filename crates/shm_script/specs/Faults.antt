@@ -133,6 +133,7 @@ seen_after seen (FitCommand line) = record seen { place = place.Body }
 abbrev pub seen_none : Seen
 seen_none = record { place = place.Start; clients = 0; me = 0; taken = [] }
 
+-- a fault of this kind at a line
 abbrev pub fault_at : ℕ → TraceKind → TraceFault
 fault_at line kind = record { line = line; kind = kind }
 
