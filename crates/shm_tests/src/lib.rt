@@ -20,6 +20,8 @@ pub use tearing::tear_down;
 #[cfg(test)]
 mod allocating_tests;
 #[cfg(test)]
+mod closing_tests;
+#[cfg(test)]
 mod counting_tests;
 #[cfg(test)]
 mod dropping_tests;
