@@ -49,6 +49,10 @@ lines_injective (x ∷ xs) (y ∷ ys) hx hy is =
 pub lines_of : (bytes lines : List ℕ) (puts : List Pair) → bytes ≡ head_text ++ lines → IsForm bytes puts → lines ≡ flat_map put_line puts
 lines_of bytes lines puts head form = append_cancel_left head_text lines (flat_map put_line puts) (sym head ∙ form.0)
 
+-- two lists of puts with one trace are one list
+pub puts_same : (bytes : List ℕ) (xs ys : List Pair) → IsForm bytes xs → IsForm bytes ys → xs ≡ ys
+puts_same bytes xs ys fx fy = lines_injective xs ys fx.1.pairs fy.1.pairs (append_cancel_left head_text _ _ (sym fx.0 ∙ fy.0))
+
 -- the puts that were read are those of the trace
 pub puts_are : (bytes lines : List ℕ) (found puts : List Pair) → bytes ≡ head_text ++ lines → lines ≡ flat_map put_line found → All PairFits found → IsForm bytes puts → PutsFit found
 puts_are bytes lines found puts head is fit form =

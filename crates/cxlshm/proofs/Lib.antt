@@ -6,6 +6,7 @@ pub mod FormPut
 pub mod FormWhole
 pub mod TopWords
 pub mod TopReads
+pub mod ProgramWords
 pub mod PoolReading
 pub mod ChainReading
 pub mod TableReading

@@ -1,5 +1,5 @@
 -- what the bytes that were read say of those that the source had left
-use Rattle.std.proofs.Common.{◌≡◌, ℕ, ◌<◌, ◌≤◌, List, [], length, take, drop, sym, ap, ◌∙◌, arith, inl, inr, ◌⊎◌, refl, min, subst}
+use Rattle.std.proofs.Common.{◌≡◌, ℕ, ◌<◌, ◌≤◌, List, [], length, take, drop, sym, ap, ◌∙◌, arith, inl, inr, ◌⊎◌, min, subst}
 use Rattle.std.specs.Prelude.{Option, Some, None}
 use Rattle.std.proofs.lemmas.Bool.{cases_lt}
 use Rattle.std.proofs.lemmas.List.{take_all, length-take, drop_all}
@@ -38,17 +38,7 @@ reads_no_form None after bytes t h = t
 reads_no_form (Some left) after bytes t h = no_form read_limit left bytes after t h
 
 pub replayed : (before after : Option (List ℕ)) (bytes : List ℕ) (finished : Finished) (text : List ℕ) → TakesFront before after read_limit bytes → length bytes < read_limit → RanOn bytes finished text → Replayed before after finished text
-replayed before after bytes finished text t h r =
-    record {
-      puts = r.puts;
-      run = r.run;
-      kept = r.kept;
-      form = (refl, r.form.1);
-      read = subst (ReadsAll before after) r.form.0 (reads_all before after bytes t h);
-      closed = r.closed;
-      first = r.first;
-      report = r.report;
-    }
+replayed before after bytes finished text t h r = record { bytes = bytes; read = reads_all before after bytes t h; ran = r }
 
 pub answered : (before after : Option (List ℕ)) (bytes : List ℕ) (status : ℕ) (finished : Finished) (text : List ℕ) → TakesFront before after read_limit bytes → Answers bytes status finished text
     → ((status ≡ 0) × Replayed before after finished text) ⊎ ((status ≡ 3) × Refused before after finished text)

@@ -6,7 +6,7 @@ use Rattle.shm_plain.specs.declared.pair.Pair.{Pair}
 use Rattle.shm_plain.specs.declared.first.FirstRun.{FirstRun}
 use Rattle.shm_plain.specs.ShutWords.{IsClosed}
 use Rattle.shm_plain.specs.Runs.{IsFirstRun}
-use Rattle.cxlshm.specs.Form.{form_text, IsForm}
+use Rattle.cxlshm.specs.Form.{IsForm}
 use Rattle.cxlshm.specs.Report.{report_of}
 use Rattle.cxlshm.specs.declared.top.Finished.{Finished}
 use Rattle.cxlshm.specs.declared.top.Finished.TheVariants.{Neither, First}
@@ -37,16 +37,21 @@ ReadsNoForm before after =
     ((after ≡ Some []) × ((puts : List Pair) → ¬ (IsForm left puts)))
     ⊎ ((read_limit ≤ length left) × (after ≡ Some (drop read_limit left))))
 
--- A replay was made: the bytes read are the trace of these puts, the closed pool is clean, its map is the fold of the puts with their value blocks, and the text is the report of its words and of the log in which each put was answered `ok`
-pub record Replayed (before after : Option (List ℕ)) (finished : Finished) (text : List ℕ) : Type 0 where
+-- the bytes are the trace of these puts, which were replayed: the closed pool is clean, its map is the fold of the puts with their value blocks, and the text is the report of its words and of the log in which each put was answered `ok`
+pub record RanOn (bytes : List ℕ) (finished : Finished) (text : List ℕ) : Type 0 where
   pub puts : List Pair
   pub run : FirstRun
   pub kept : finished ≡ First run
-  pub form : IsForm (form_text puts) puts
-  pub read : ReadsAll before after (form_text puts)
+  pub form : IsForm bytes puts
   pub closed : IsClosed run.closed
   pub first : IsFirstRun puts run.closed run.blocks.items
   pub report : text ≡ report_of run.closed.geometry (see run.closed.geometry run.closed.words) first.table puts
+
+-- a replay was made of some bytes, which are all that the source had left, where it tells its bytes
+pub record Replayed (before after : Option (List ℕ)) (finished : Finished) (text : List ℕ) : Type 0 where
+  pub bytes : List ℕ
+  pub read : ReadsAll before after bytes
+  pub ran : RanOn bytes finished text
 
 -- the input was refused
 pub record Refused (before after : Option (List ℕ)) (finished : Finished) (text : List ℕ) : Type 0 where
@@ -76,16 +81,6 @@ WritesFront before after IsText = (text : List ℕ) × IsText text × AppendsFro
 -- the statuses that the program ends with
 abbrev pub IsStatus : ℕ → Type 0
 IsStatus s = (s ≡ 0) ⊎ ((s ≡ 2) ⊎ ((s ≡ 3) ⊎ ((s ≡ 4) ⊎ ((s ≡ 5) ⊎ (s ≡ 6)))))
-
--- bytes that are the trace of puts, which were replayed
-pub record RanOn (bytes : List ℕ) (finished : Finished) (text : List ℕ) : Type 0 where
-  pub puts : List Pair
-  pub run : FirstRun
-  pub kept : finished ≡ First run
-  pub form : IsForm bytes puts
-  pub closed : IsClosed run.closed
-  pub first : IsFirstRun puts run.closed run.blocks.items
-  pub report : text ≡ report_of run.closed.geometry (see run.closed.geometry run.closed.words) first.table puts
 
 -- bytes that aren't of the form, or are one more than a trace may have
 abbrev pub IsNoForm : List ℕ → Type 0

@@ -18,6 +18,12 @@ const FOUR_PUTS: &str =
 const FOUR_REPORT: &str =
     "client 0 ended 4\nput 5 77 ok\nput 6 78 ok\nput 23 18446744073709551615 ok\nput 4294967288 0 ok\ntable 4\n0 5 77 v1\n0 6 78 v2\n0 23 18446744073709551615 v3\n0 4294967288 0 v4\nvalue v1 1\nvalue v2 1\nvalue v3 1\nvalue v4 1\nhomes 1\nlive 9 refs 9\n";
 
+/// Two puts of one number, which have a value block each.
+const EQUAL_PUTS: &str = "pool 1 1\nclient 0\nput 5 77\nput 6 77\n";
+
+const EQUAL_REPORT: &str =
+    "client 0 ended 2\nput 5 77 ok\nput 6 77 ok\ntable 2\n0 5 77 v1\n0 6 77 v2\nvalue v1 1\nvalue v2 1\nhomes 1\nlive 5 refs 5\n";
+
 const USAGE: &str = "usage: cxlshm replay\n";
 
 /// A call of the program: the status, and what was written.
@@ -44,7 +50,7 @@ fn run(
 
 #[test]
 fn answers(rt: HostRuntime) -> Result<(), Fail> {
-    let rows: [(&[&str], &str, u8, &str); 9] = [
+    let rows: [(&[&str], &str, u8, &str); 10] = [
         (&["replay"], ONE_PUT, 0, ONE_REPORT),
         (
             &["replay"],
@@ -53,6 +59,7 @@ fn answers(rt: HostRuntime) -> Result<(), Fail> {
             "client 0 ended 0\ntable 0\nhomes 0\nlive 0 refs 0\n",
         ),
         (&["replay"], FOUR_PUTS, 0, FOUR_REPORT),
+        (&["replay"], EQUAL_PUTS, 0, EQUAL_REPORT),
         (
             &["replay"],
             "pool 1 1\nclient 0\nput 5 77\nput 21 78\n",

@@ -1,12 +1,14 @@
 //! The program over a source and a sink.
 
-ghost use Rattle.std.specs.Prelude.{◌≡◌, ◌≢◌, ◌<◌, ◌≤◌, ◌⊎◌, ◌↔◌, map, codes, length, Some, List, ℕ, IfOk, OnErr, OnOk, IsTrue};
+ghost use Rattle.std.specs.Prelude.{◌≡◌, ◌≢◌, ◌<◌, ◌≤◌, ◌⊎◌, ◌↔◌, map, codes, length, Some, List, ℕ, IfOk, OnErr, OnOk, IsTrue, Option, ◌++◌};
 ghost use Rattle.std.specs.String.{string_bytes};
 ghost use Rattle.shm_io.specs.Faults.{Rose, NoFault};
 ghost use Rattle.shm_io.specs.Writing.{Appends, AppendsFront};
 ghost use Rattle.shm_plain.specs.Puts.{PutsFit};
 ghost use Rattle.shm_plain.specs.declared.pair.Pair.{Pair as APair};
+ghost use Rattle.cxlshm.specs.declared.top.Finished.{Finished as AFinished};
 ghost use Rattle.cxlshm.specs.Form.{IsForm, form_text};
+ghost use Rattle.cxlshm.specs.Report.{log_text};
 ghost use Rattle.cxlshm.specs.Outcomes.{accepted, usage_text, refused_text, read_limit, Replayed, Refused, Misused, Decided, Writes, WritesFront, IsStatus, RanOn, Answers};
 
 use crate::form::parse_form;
@@ -92,6 +94,11 @@ pub fn top<S: Source, K: Sink>(
         Err(_) => stopped(6),
     }
 }
+
+/// What is written of the trace of puts that were replayed begins with the log of these very puts.
+pub fn replay_writes_log()
+    ensures { (bytes : List ℕ) (after : Option (List ℕ)) (finished : AFinished) (text : List ℕ) (puts : List APair) → Replayed (Some bytes) after finished text → IsForm bytes puts → (rest : List ℕ) × (text ≡ log_text puts ++ rest) }
+{}
 
 /// Whether the words are accepted: `replay` alone is.
 fn is_accepted(words: &[String]) -> bool

@@ -78,6 +78,7 @@ fn watch_pool(pool: &SharedPool, client: &mut Client, steps: u32) -> Option<u64>
 }
 
 /// Makes the word step that is asked for.
+#[inline(always)]
 fn make_step(words: &[AtomicU64], ask: Ask) -> u64
     requires { at_of ask < length words.now }
 {

@@ -1,5 +1,5 @@
--- what is known of pools in a vector is known of the state in which an account stood
-use Rattle.std.proofs.Common.{◌≡◌, ◌≢◌, ℕ, ◌^◌, ◌<◌, Bool, true, false, cond, List, [], refl, sym, ap, ◌∙◌, subst, arith, inl, inr, Result}
+-- what is known of a held state is known of the one in which an account stood
+use Rattle.std.proofs.Common.{◌≡◌, ◌≢◌, ℕ, ◌+◌, ◌≤◌, ◌^◌, ◌<◌, Bool, true, false, cond, List, [], refl, sym, ap, ◌∙◌, subst, arith, inl, inr, Result}
 use Rattle.std.specs.Prelude.{Ok, Err, IfOk, slice_index}
 use Rattle.std.specs.List.{Contains}
 use Rattle.std.specs.Result.{is_ok}
@@ -9,20 +9,19 @@ use Rattle.shm_words.specs.declared.place.Place.TheVariants as place
 use Rattle.shm_words.specs.Layout.{GeometryFits, address}
 use Rattle.shm_graph.specs.declared.ask.Me.{Me}
 use Rattle.shm_graph.specs.declared.memo.Memo.{Memo}
-use Rattle.shm_graph.specs.declared.memo.Stored.{Stored}
 use Rattle.shm_graph.specs.declared.run.Account.{Account}
 use Rattle.shm_graph.specs.declared.run.Start.{Start}
+use Rattle.shm_graph.specs.declared.spot.Spot.{Spot}
 use Rattle.shm_graph.specs.declared.spot.Spot.TheVariants as spot
 use Rattle.shm_graph.specs.Agents.{acts, recovers}
 use Rattle.shm_graph.specs.Asks.{Trail}
 use Rattle.shm_graph.specs.Idle.{IsIdle}
 use Rattle.shm_graph.specs.Laws.{GoneNow}
-use Rattle.shm_graph.specs.Runs.{account_died, account_entered, memos_of}
+use Rattle.shm_graph.specs.Runs.{account_died, account_entered, memos_of, Stood}
 use Rattle.shm_graph.specs.declared.memo.Kind.TheVariants.{Client, Recoverer}
 use Rattle.shm_graph.specs.Reach.{is_reached}
 use Rattle.shm_graph.specs.Views.{own_word}
 use Rattle.shm_graph.specs.Whole.{fits_now}
-use Rattle.shm_plain.specs.Pools.{Pool, pool, IsRun, memo_of}
 use Rattle.shm_alloc.specs.declared.alloc.AllocFault.{AllocFault}
 use Rattle.shm_alloc.specs.declared.point.AllocState.{AllocState}
 use Rattle.shm_alloc.specs.AllocFits.{AllocGives}
@@ -31,37 +30,37 @@ use Rattle.shm_count.specs.declared.answer.Made.{Made}
 use Rattle.shm_count.specs.declared.answer.UpFault.{UpFault}
 use Rattle.shm_count.specs.declared.point.Aim.TheVariants.{Up, Down}
 use Rattle.shm_count.specs.StepControl.{IsInside}
-use Rattle.shm_count.specs.StepMachines.{DownFits, DownGives, UpFits, UpGives}
-use Rattle.shm_count.specs.TearControl.{tear_control}
-use Rattle.shm_count.specs.TearFits.{TearFits}
+use Rattle.shm_count.specs.StepMachines.{DownFits, DownGives, UpFits, UpGives, down_means, up_means}
+use Rattle.shm_count.specs.TearControl.{tear_control, TearKnows}
+use Rattle.shm_count.specs.TearFits.{CanTear, TearFits}
+use Rattle.shm_count.specs.TearGoing.{begins}
+use Rattle.shm_count.specs.DyingBlocks.{dying_header, live_room}
+use Rattle.shm_alloc.proofs.MadeBlocks.{block_inside}
+use Rattle.shm_alloc.specs.AllocFits.{MadeGives}
+use Rattle.shm_words.specs.Layout.{total_of}
+use Rattle.shm_words.specs.Tags.{tag_refs}
+use Rattle.shm_words.proofs.Placing.{total_small}
+use Rattle.shm_graph.specs.Spots.{see}
 use Rattle.shm_count.specs.Roots.{member, root_step, root_word, tear_of}
-use Rattle.shm_tests.proofs.AllocRoots.{alloc_inside}
-use Rattle.shm_tests.proofs.RootAnswers.{down_dying, down_left, up_left}
-use Rattle.shm_count.proofs.RootMemos.{StepLeft}
-use Rattle.shm_count.proofs.RootSpots.{can_root, fits_root, is_here, some_inside}
-use Rattle.shm_tests.proofs.RunSteps.{ready_still}
-use Rattle.shm_tests.proofs.TearAnswers.{block_small, tear_fits}
+use Rattle.shm_count.proofs.RootMemos.{StepLeft, dying_down}
+use Rattle.shm_count.proofs.RootSpots.{can_root, done_root, fits_root, is_here, left_root, some_inside}
 use Rattle.shm_pool.specs.declared.reply.Reply.{Reply}
 use Rattle.shm_pool.specs.declared.reply.Reply.TheVariants.{Done, Died}
 use Rattle.shm_pool.specs.Replies.{IfReply}
-use Rattle.shm_pool.specs.Rules.{Stood}
 use Rattle.shm_pool.specs.Tokens.{IsOut, recovering}
 use Rattle.pool_tests.specs.Quitting.{QuitFits, quit_control, quit_fresh}
 use Rattle.shm_recover.specs.Joining.{IsMember, JoinGives, join_fresh}
 
-module _ (s : Start) (e : Account) (x : Stood s e) where
-  abbrev pub there : Pool
-  there = pool s x.words x.accounts x.turns
-
-  pub there_run : IsRun there
-  there_run = record { held = x.held; leads = x.leads }
-
-  pub there_memo : memo_of there e.who ≡ e.memo
-  there_memo = ap (λ (a : Account). a.memo) x.here.1
+-- the account's memo in that state
+pub there_memo : (s : Start) (e : Account) (x : Stood s e) → memos_of x.accounts e.who ≡ e.memo
+there_memo s e x = ap (λ (a : Account). a.memo) x.here.1
 
 -- a block that was allocated lies in the pool
 pub made_inside : (s : Start) (e : Account) → Stood s e → e.who < s.geometry.clients → (m : AllocState) (r0 : Memo) (tr : Trail) → m.me ≡ member s.geometry e.who → (a : Result Made AllocFault) → AllocGives m r0 e.memo tr a → IfOk a (λ y. IsInside (member s.geometry e.who) y.block)
-made_inside s e x l m r0 tr is a h = alloc_inside (there s e x) s e.who m r0 tr (there_run s e x) refl l is a (subst (λ (y : Memo). AllocGives m r0 y tr a) (sym (there_memo s e x)) h)
+made_inside s e x l m r0 tr is (Err f) h = tt
+made_inside s e x l m r0 tr is (Ok y) h =
+    block_inside (member s.geometry e.who) m.request r0 y (see s.geometry x.words) (memos_of x.accounts) x.held.at l
+    (subst (λ (k : Memo). MadeGives (member s.geometry e.who) m.request r0 k y) (sym (there_memo s e x)) (subst (λ (k : Me). MadeGives k m.request r0 e.memo y) is h.holds.gives))
 
 -- ---- an answer, where there is one
 
@@ -79,33 +78,68 @@ module _ (s : Start) (e e' : Account) (x : Stood s e) (x' : Stood s e') (same : 
   abbrev g : Geometry
   g = s.geometry
 
-  u : memo_of (there s e x) e.who ≡ e.memo
+  -- the words and the memos of the states
+  abbrev w : Spot → ℕ
+  w = see g x.words
+
+  abbrev w' : Spot → ℕ
+  w' = see g x'.words
+
+  abbrev r : ℕ → Memo
+  r = memos_of x.accounts
+
+  abbrev r' : ℕ → Memo
+  r' = memos_of x'.accounts
+
+  u : r e.who ≡ e.memo
   u = there_memo s e x
 
-  v : memo_of (there s e' x') e.who ≡ e'.memo
-  v = ap (λ (c : ℕ). memo_of (there s e' x') c) (sym same) ∙ there_memo s e' x'
+  v : r' e.who ≡ e'.memo
+  v = ap r' (sym same) ∙ there_memo s e' x'
 
-  idle' : IsIdle e.who (memo_of (there s e x) e.who)
+  idle' : IsIdle e.who (r e.who)
   idle' = subst (IsIdle e.who) (sym u) idle
 
-  -- between memos of states is between the accounts that stood there
-  moved : (P : Memo → Memo → Type 0) → P e.memo e'.memo → P (memo_of (there s e x) e.who) (memo_of (there s e' x') e.who)
-  moved P h = subst (λ (m : Memo). P m (memo_of (there s e' x') e.who)) (sym u) (subst (λ (m : Memo). P e.memo m) (sym v) h)
+  -- what is so of the accounts' memos is so of those of the states, and the other way
+  moved : (P : Memo → Memo → Type 0) → P e.memo e'.memo → P (r e.who) (r' e.who)
+  moved P h = subst (λ (m : Memo). P m (r' e.who)) (sym u) (subst (λ (m : Memo). P e.memo m) (sym v) h)
 
-  back : (P : Memo → Memo → Type 0) → P (memo_of (there s e x) e.who) (memo_of (there s e' x') e.who) → P e.memo e'.memo
-  back P h = subst (λ (m : Memo). P m e'.memo) u (subst (λ (m : Memo). P (memo_of (there s e x) e.who) m) v h)
+  back : (P : Memo → Memo → Type 0) → P (r e.who) (r' e.who) → P e.memo e'.memo
+  back P h = subst (λ (m : Memo). P m e'.memo) u (subst (λ (m : Memo). P (r e.who) m) v h)
 
+  -- the root holds n where the step is done
   abbrev pub Left : ℕ → Bool → Memo → Memo → Type 0
   Left n done m m' = StepLeft (member g e.who) (address g (place.Root e.who k)) k m n done m'
 
+  -- what a step up, a step down at the root left of the memos of the states
+  up_left : (b : ℕ) (a : Result (Unit {0}) UpFault) → UpGives (root_step g e.who k (Up b)) (r e.who) (r' e.who) (r' e.who).call a → Left b (is_ok a) (r e.who) (r' e.who)
+  up_left b (Ok z) h = let y = up_means (root_step g e.who k (Up b)) (r e.who) (r' e.who) (r' e.who).call (Ok z) h in left_root g e.who l k (Up b) y.0 w w' r r' (r' e.who).call (Ok false) small x.held.at x'.held.at idle' y.1
+  up_left b (Err f) h = let y = up_means (root_step g e.who k (Up b)) (r e.who) (r' e.who) (r' e.who).call (Err f) h in left_root g e.who l k (Up b) y.0 w w' r r' (r' e.who).call (Err f) small x.held.at x'.held.at idle' y.1
+
+  down_left : (b : ℕ) (a : Result Bool EraSpent) → DownGives (root_step g e.who k (Down b)) (r e.who) (r' e.who) (r' e.who).call a → Left 0 (is_ok a) (r e.who) (r' e.who)
+  down_left b (Ok z) h = let y = down_means (root_step g e.who k (Down b)) (r e.who) (r' e.who) (r' e.who).call (Ok z) h in left_root g e.who l k (Down b) y.0 w w' r r' (r' e.who).call (Ok z) small x.held.at x'.held.at idle' y.1
+  down_left b (Err f) h = let y = down_means (root_step g e.who k (Down b)) (r e.who) (r' e.who) (r' e.who).call (Err f) h in left_root g e.who l k (Down b) y.0 w w' r r' (r' e.who).call _ small x.held.at x'.held.at idle' y.1
+
+  below : e.who < 64
+  below = let y = x.held.at.fits.clients in omega arith
+
+  -- the block whose count came to 0 is a zero-count block
+  down_dying : (b : ℕ) (a : Result Bool EraSpent) → DownGives (root_step g e.who k (Down b)) (r e.who) (r' e.who) (r' e.who).call a → IfOk a (λ z. z ≡ true → Contains (r' e.who).dying b)
+  down_dying b (Err f) h = tt
+  down_dying b (Ok z) h =
+      λ is. (
+      let y = down_means (root_step g e.who k (Down b)) (r e.who) (r' e.who) (r' e.who).call (Ok true) (subst (λ (t : Bool). DownGives (root_step g e.who k (Down b)) (r e.who) (r' e.who) (r' e.who).call (Ok t)) is h) in
+      let d = done_root g e.who l k (Down b) y.0 w w' r r' (r' e.who).call true small x.held.at x'.held.at y.1 in
+      dying_down (member g e.who) (address g (place.Root e.who k)) k (r e.who) b (r' e.who) below d.0 d.1)
+
   pub raised : (b : ℕ) (a : Result (Unit {0}) UpFault) → UpGives (root_step g e.who k (Up b)) e.memo e'.memo e'.memo.call a → Left b (is_ok a) e.memo e'.memo
-  raised b a h = back (Left b (is_ok a)) (up_left (there s e x) (there s e' x') (there_run s e x) (there_run s e' x') refl e.who k l small idle' b a (moved (λ m m'. UpGives (root_step g e.who k (Up b)) m m' m'.call a) h))
+  raised b a h = back (Left b (is_ok a)) (up_left b a (moved (λ m m'. UpGives (root_step g e.who k (Up b)) m m' m'.call a) h))
 
   pub lowered : (b : ℕ) (a : Result Bool EraSpent) → DownGives (root_step g e.who k (Down b)) e.memo e'.memo e'.memo.call a → Left 0 (is_ok a) e.memo e'.memo
-  lowered b a h = back (Left 0 (is_ok a)) (down_left (there s e x) (there s e' x') (there_run s e x) (there_run s e' x') refl e.who k l small idle' b a (moved (λ m m'. DownGives (root_step g e.who k (Down b)) m m' m'.call a) h))
+  lowered b a h = back (Left 0 (is_ok a)) (down_left b a (moved (λ m m'. DownGives (root_step g e.who k (Down b)) m m' m'.call a) h))
 
   pub came_to_zero : (b : ℕ) (a : Result Bool EraSpent) → DownGives (root_step g e.who k (Down b)) e.memo e'.memo e'.memo.call a → IfOk a (λ z. z ≡ true → Contains e'.memo.dying b)
-  came_to_zero b a h = back (λ m m'. IfOk a (λ z. z ≡ true → Contains m'.dying b)) (down_dying (there s e x) (there s e' x') (there_run s e x) (there_run s e' x') refl e.who k l small idle' b a (moved (λ m m'. DownGives (root_step g e.who k (Down b)) m m' m'.call a) h))
+  came_to_zero b a h = back (λ m m'. IfOk a (λ z. z ≡ true → Contains m'.dying b)) (down_dying b a (moved (λ m m'. DownGives (root_step g e.who k (Down b)) m m' m'.call a) h))
 
   pub root_raised : (a : Result (Unit {0}) UpFault) (b : ℕ) → Left b (is_ok a) e.memo e'.memo → IfOk a (λ t. root_word e'.who e'.memo k ≡ b)
   root_raised (Err f) b h = tt
@@ -139,19 +173,42 @@ down_fits g c k b r f l small idle client holds inside = (
 -- ---- tear-downs
 
 module _ (s : Start) (e : Account) (x : Stood s e) (b : ℕ) (f : GeometryFits s.geometry) (l : e.who < s.geometry.clients) (idle : IsIdle e.who e.memo) (dying : Contains e.memo.dying b) where
-  t : memo_of (there s e x) e.who ≡ e.memo
-  t = there_memo s e x
+  abbrev c : ℕ
+  c = e.who
+
+  abbrev here : Memo
+  here = memos_of x.accounts e.who
+
+  same : here ≡ e.memo
+  same = there_memo s e x
+
+  listed : Contains here.dying b
+  listed = subst (λ (m : Memo). Contains m.dying b) (sym same) dying
+
+  -- the block's words lie in the pool
+  room : IsInside (member s.geometry c) b × (b + 2 + tag_refs (see s.geometry x.words (spot.Tag b)) ≤ total_of s.geometry)
+  room = live_room s.geometry (see s.geometry x.words) (memos_of x.accounts) x.held.at b c (dying_header s.geometry (see s.geometry x.words) (memos_of x.accounts) c b x.held.at l listed).0
 
   pub tear_small : b < 2 ^ 20
-  tear_small = block_small (there s e x) (there_run s e x) e.who b f l (subst (IsIdle e.who) (sym t) idle) (subst (λ (m : Memo). Contains m.dying b) (sym t) dying)
+  tear_small = let y = room.0.1 in let z = total_small s.geometry f in omega arith
+
+  can : CanTear (member s.geometry c) b e.memo
+  can =
+      record {
+        geometry = f;
+        who = l;
+        here = is_here c e.memo idle;
+        idle = idle.op;
+        inside = room.0;
+        room = (let y = room.1 in omega arith);
+        dying = dying;
+      }
+
+  knows : TearKnows (tear_of s.geometry c b)
+  knows = record { geometry = f; who = l; first = tear_small; block = tear_small; point = tt }
 
   pub tears : acts e.memo ≡ true → fits_now tear_control TearFits (tear_of s.geometry e.who b) e.memo e.memo
-  tears act =
-      let p : Pool = there s e x in
-      let act' : acts (memo_of p e.who) ≡ true = subst (λ (m : Memo). acts m ≡ true) (sym t) act in
-      subst (λ (m : Memo). fits_now tear_control TearFits (tear_of s.geometry e.who b) m m) t
-      (subst (λ (m : Memo). fits_now tear_control TearFits (tear_of s.geometry e.who b) (memo_of p e.who) m) (ready_still p e.who act')
-      (tear_fits p (there_run s e x) e.who b f l (subst (IsIdle e.who) (sym t) idle) (subst (λ (m : Memo). Contains m.dying b) (sym t) dying) act'))
+  tears act = begins (tear_of s.geometry c b) e.memo refl refl knows can
 
 -- ---- leaving
 
@@ -173,14 +230,14 @@ out_gone s e x l out = subst (GoneNow e.who) there (by (subst IsOut (sym there) 
 pub joined_gone : (me : Me) (r0 r : Memo) (tr : Trail) → GoneNow me.who r0 → JoinGives (join_fresh me) r0 r tr tt → GoneNow me.who r
 joined_gone me r0 r tr h j =
     record {
-      roots = λ k. ap (λ (o : List Stored). own_word o (spot.Root me.who k)) j.own ∙ h.roots k;
-      hold = ap (λ (o : List Stored). own_word o (spot.Hold me.who)) j.own ∙ h.hold;
-      idle = j.op ∙ h.idle;
-      latched = j.latch ∙ h.latched;
-      segments = j.owned ∙ h.segments;
-      dyings = j.dying ∙ h.dyings;
-      sends = λ i. ap (λ (xs : List ℕ). slice_index xs i) j.unsent ∙ h.sends i;
-      takes = λ i. ap (λ (xs : List ℕ). slice_index xs i) j.untaken ∙ h.takes i;
+      roots = λ k. ap (λ (x : Memo). own_word x.own (spot.Root me.who k)) j.rest ∙ h.roots k;
+      hold = ap (λ (x : Memo). own_word x.own (spot.Hold me.who)) j.rest ∙ h.hold;
+      idle = ap (λ (x : Memo). x.op) j.rest ∙ h.idle;
+      latched = ap (λ (x : Memo). x.latch) j.rest ∙ h.latched;
+      segments = ap (λ (x : Memo). x.owned) j.rest ∙ h.segments;
+      dyings = ap (λ (x : Memo). x.dying) j.rest ∙ h.dyings;
+      sends = λ i. ap (λ (x : Memo). slice_index x.unsent i) j.rest ∙ h.sends i;
+      takes = λ i. ap (λ (x : Memo). slice_index x.untaken i) j.rest ∙ h.takes i;
     }
 
 -- and so do the deaths and beginnings of agents

@@ -1,3 +1,4 @@
 pub mod Between
+pub mod Allocating
 pub mod Quitting
 pub mod QuitKeeps

@@ -10,7 +10,7 @@ ghost use Rattle.shm_count.specs.declared.point.Aim.TheVariants as aims;
 ghost use Rattle.shm_count.specs.StepControl.{IsInside};
 ghost use Rattle.shm_count.specs.StepMachines.{DownGives, UpGives};
 ghost use Rattle.shm_count.specs.TearFits.{TearGives};
-ghost use Rattle.shm_tests.specs.Allocating.{IsAsked};
+ghost use Rattle.pool_tests.specs.Allocating.{IsAsked};
 ghost use Rattle.shm_count.specs.Roots.{AreRootsReached, root_step, root_word, tear_of};
 ghost use Rattle.shm_pool.specs.Replies.{IsLost, IfReply};
 ghost use Rattle.pool_tests.specs.Between.{IsBetween, me_now};

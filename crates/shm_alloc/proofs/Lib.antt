@@ -1,2 +1,3 @@
 pub mod AllocBound
 pub mod AllocCounting
+pub mod MadeBlocks

@@ -325,6 +325,10 @@ told_more m r0 r tr n fit =
     ∙ (ap (λ es. es ++ filter is_event (alloc_event (after_all alloc_control (alloc_start m) tr) n ∷ [])) fit.events
     ∙ ap (λ (x : AllocState). events_at m.me m.point ++ filter is_event (alloc_event x n ∷ [])) fit.course)
 
+-- the events of one more pair are those of where it leads
+told_by : (m : AllocState) (r0 r : Memo) (tr : Trail) (n : ℕ) (y : Next) → AllocFits m r0 r tr → alloc_next m n ≡ y → Told m.me y (happens_along alloc_control alloc_event (alloc_start m) (tr ++ pair (alloc_ask m) n ∷ []))
+told_by m r0 r tr n y fit e = subst (Told m.me y) (sym (told_more m r0 r tr n fit)) (subst (λ (z : Next). Told m.me z (events_with m.me m.point n)) e (told_next m.me m.request m.point n))
+
 -- an allocation that fits and goes on fits at the next point, where the memo shows what that point needs
 pub fits_goes : (m : AllocState) (r0 r r2 : Memo) (tr : Trail) (n : ℕ) (p : AllocPoint) → AllocFits m r0 r tr → alloc_next m n ≡ Point p → AllocKnows (record m { point = p }) → Grows true r0 r2 → PointHolds m.me m.request r0 r2 p → AllocFits (record m { point = p }) r0 r2 (tr ++ pair (alloc_ask m) n ∷ [])
 fits_goes m r0 r r2 tr n p fit e knows grows holds =
@@ -336,7 +340,7 @@ fits_goes m r0 r r2 tr n p fit e knows grows holds =
       holds = holds;
       trail = λ rest a t. subst (λ (x : Trail). alloc_trail m.me m.request x a) (sym (append_assoc tr (pair (alloc_ask m) n ∷ []) rest)) (fit.trail (pair (alloc_ask m) n ∷ rest) a (trail_goes m.me m.request m.point p n fit.knows.point e rest a t));
       course = after_all-append alloc_control (alloc_start m) tr (pair (alloc_ask m) n) ∙ (ap (λ (x : AllocState). alloc_control.after x n) fit.course ∙ ap (λ (y : Next). record m { point = point_of y }) e);
-      events = told_more m r0 r tr n fit ∙ subst (λ (y : Next). Told m.me y (events_with m.me m.point n)) e (told_next m.me m.request m.point n);
+      events = told_by m r0 r tr n (Point p) fit e;
     }
 
 -- an allocation that fits and answers has asked a whole trail
@@ -346,7 +350,7 @@ gives_ends m r0 r r2 tr n a fit e grows holds =
       grows = grows;
       holds = holds;
       trail = fit.trail (pair (alloc_ask m) n ∷ []) a (trail_ends m.me m.request m.point n a fit.knows.point e);
-      events = told_more m r0 r tr n fit ∙ subst (λ (y : Next). Told m.me y (events_with m.me m.point n)) e (told_next m.me m.request m.point n);
+      events = told_by m r0 r tr n (Answer a) fit e;
     }
 
 -- nothing has changed since the beginning

@@ -1,6 +1,6 @@
 -- an allocation as a part of larger machines
 use Rattle.std.proofs.Common.{◌≡◌, Bool, true, refl, sym, ap, ◌∙◌, List}
-use Rattle.std.specs.Prelude.{Result, Ok, Err, IfOk}
+use Rattle.std.specs.Prelude.{Result}
 use Rattle.shm_graph.specs.declared.memo.Memo.{Memo}
 use Rattle.shm_graph.specs.Asks.{Trail}
 use Rattle.shm_graph.specs.Events.{Event}
@@ -21,7 +21,6 @@ use Rattle.shm_alloc.specs.AllocGoing.{begins}
 use Rattle.shm_alloc.specs.AllocLaws.{alloc_laws}
 use Rattle.shm_alloc.specs.AllocTells.{alloc_tells}
 use Rattle.shm_alloc.specs.AllocTrail.{alloc_trail}
-use Rattle.std.specs.List.{Contains}
 
 -- it is made, and may begin
 pub record IsAlloc (m : AllocState) (r : Memo) : Type 0 where
@@ -55,8 +54,3 @@ alloc_making first = making_part alloc_start first alloc_control alloc_part
 
 pub alloc_making_laws : (first : Bool) → PartLaws first alloc_control (alloc_making first)
 alloc_making_laws first = making_laws alloc_start first alloc_control alloc_part (λ m n. refl) (λ m r n. ap (λ (y : AllocPoint). record m { point = y }) (sym n.made)) (alloc_part_laws first)
-
--- a block of which it answers is one that the call made
-pub alloc_made : (m : AllocState) (r0 r : Memo) (tr : Trail) (a : Result Made AllocFault) → AllocGives m r0 r tr a → IfOk a (λ x. Contains r.made x.block)
-alloc_made m r0 r tr (Ok x) g = g.holds.gives.made
-alloc_made m r0 r tr (Err f) g = tt

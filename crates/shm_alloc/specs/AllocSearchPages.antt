@@ -37,7 +37,7 @@ use Rattle.shm_steps.proofs.BlockTold.{class_is_read}
 use Rattle.shm_steps.proofs.BodyLoads.{header_loaded}
 use Rattle.shm_steps.proofs.PageSteps.{class_stored}
 use Rattle.shm_steps.proofs.KeptAfter.{kept_with}
-use Rattle.shm_count.specs.StepMemos.{called_facts}
+use Rattle.shm_steps.proofs.Cores.{called_facts}
 use Rattle.shm_alloc.specs.declared.request.Request.{Request}
 use Rattle.shm_alloc.specs.declared.point.Goal.{Goal}
 use Rattle.shm_alloc.specs.declared.point.Search.{Search}

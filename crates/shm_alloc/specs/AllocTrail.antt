@@ -98,7 +98,3 @@ module _ (me : Me) (q : Request) where
   -- all that an allocation asks
   abbrev pub alloc_trail : AllocTrails
   alloc_trail = Asked (Load (address me.geometry (place.Era me.who me.who))) (λ e. Chosen (nat_lt (2 ^ 47 - 3) e) (Answers (Err (EraSpent e))) (root_trail 16 0 e))
-
--- how many word steps an allocation makes at most in a pool of g segments: per segment its word twice and 16 pages of a class, read and stored, and 32 headers; before that the own era and 16 roots, and in the end a tag, 16 reference words, 8 plain words, the redo record, the header, the root and the own era
-abbrev pub alloc_steps : ℕ → ℕ
-alloc_steps g = 546 * g + 46

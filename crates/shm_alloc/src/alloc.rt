@@ -97,18 +97,22 @@ impl Machine for Alloc {
 
     ghost gives = { AllocGives };
 
+    #[inline(always)]
     fn me(&self) -> Me {
         self.state.me
     }
 
+    #[inline(always)]
     fn finished(&self) -> bool {
         matches!(self.state.point, AllocPoint::Over)
     }
 
+    #[inline(never)]
     fn ask(&self) -> Ask {
         self.state.ask()
     }
 
+    #[inline(never)]
     fn take(&mut self, seen: u64) -> Turn<Result<Made, AllocFault>> {
         match self.state.next(seen) {
             Next::Point(point) => {

@@ -7,7 +7,7 @@ ghost use Rattle.shm_count.specs.declared.answer.Made.{Made as AMade};
 ghost use Rattle.shm_alloc.specs.declared.alloc.AllocFault.{AllocFault as AFault};
 ghost use Rattle.shm_alloc.specs.declared.point.AllocState.{AllocState as AState};
 ghost use Rattle.shm_alloc.specs.AllocControl.{RequestFits};
-ghost use Rattle.shm_alloc.specs.AllocTrail.{alloc_steps};
+ghost use Rattle.shm_graph.specs.Bounds.{alloc_steps};
 ghost use Rattle.shm_alloc.specs.AllocFits.{AllocGives};
 ghost use Rattle.shm_alloc.specs.AllocCounts.{taken_in, used_in};
 ghost use Rattle.shm_alloc.specs.declared.alloc.AllocFault.TheVariants.{Full};

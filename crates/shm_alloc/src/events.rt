@@ -1,13 +1,19 @@
 //! How an allocation begins, and what it does to the graph of references.
 
-ghost use Rattle.std.specs.Prelude.{◌≡◌, []};
+ghost use Rattle.std.specs.Prelude.{◌≡◌, [], List, Result};
 ghost use Rattle.shm_graph.specs.declared.memo.Memo.{Memo as AMemo};
+ghost use Rattle.shm_graph.specs.declared.run.Move.{Move as AMove};
+ghost use Rattle.shm_graph.specs.Asks.{Trail};
+ghost use Rattle.shm_graph.specs.Runs.{State, memos_of};
 ghost use Rattle.shm_graph.specs.Tells.{Tells};
+ghost use Rattle.shm_count.specs.declared.answer.Made.{Made as AMade};
+ghost use Rattle.shm_count.specs.Calling.{IsCall, happened_in};
+ghost use Rattle.shm_alloc.specs.declared.alloc.AllocFault.{AllocFault as AFault};
 ghost use Rattle.shm_alloc.specs.declared.point.AllocPoint.TheVariants.{Era};
 ghost use Rattle.shm_alloc.specs.declared.point.AllocState.{AllocState as AState};
 ghost use Rattle.shm_alloc.specs.AllocControl.{alloc_control, AllocKnows};
-ghost use Rattle.shm_alloc.specs.AllocEvents.{alloc_event};
-ghost use Rattle.shm_alloc.specs.AllocFits.{AllocFits, CanAlloc};
+ghost use Rattle.shm_alloc.specs.AllocEvents.{alloc_event, own_events};
+ghost use Rattle.shm_alloc.specs.AllocFits.{AllocFits, AllocGives, CanAlloc};
 
 /// An allocation that has just been made fits each memo of an identity between two calls.
 pub fn alloc_begins()
@@ -18,4 +24,10 @@ pub fn alloc_begins()
 /// other step is an event.
 pub fn alloc_events()
     ensures { Tells alloc_control AllocFits alloc_event }
+{}
+
+/// In a run of a pool the own events of an allocation that has answered are one: the block answered becomes live in the root answered;
+/// where it is refused there are none.
+pub fn alloc_own_events()
+    ensures { (m : AState) (a : State) (ms : List AMove) (b : State) (r : AMemo) (tr : Trail) (x : Result AMade AFault) → m.point ≡ Era → AllocKnows m → CanAlloc m.me (memos_of a.accounts m.me.who) → IsCall alloc_control m a ms b tr → AllocGives m (memos_of a.accounts m.me.who) r tr x → happened_in m.me a ms ≡ own_events m.me x }
 {}

@@ -1,17 +1,25 @@
-//! What an allocation leaves of its agent, of the status and of the blocks that the call made.
+//! What an allocation leaves of its agent, of the status, of the roots and of the blocks that the call made.
 
-ghost use Rattle.std.specs.Prelude.{◌≡◌, true, Bool, Result, IfOk};
+ghost use Rattle.std.specs.Prelude.{◌≡◌, ◌≢◌, ℕ, ◌<◌, true, false, Bool, List, Result, Ok, IfOk};
 ghost use Rattle.std.specs.List.{Contains};
 ghost use Rattle.shm_graph.specs.declared.memo.Memo.{Memo as AMemo};
+ghost use Rattle.shm_graph.specs.declared.spot.Spot.TheVariants.{Root};
+ghost use Rattle.shm_graph.specs.Agents.{recovers};
 ghost use Rattle.shm_graph.specs.Asks.{Trail};
+ghost use Rattle.shm_graph.specs.Events.{Event};
+ghost use Rattle.shm_graph.specs.Views.{own_word};
 ghost use Rattle.shm_calls.specs.Grown.{Grows, grown};
 ghost use Rattle.shm_calls.specs.Parts.{PartLaws};
 ghost use Rattle.shm_count.specs.declared.answer.Made.{Made as AMade};
+ghost use Rattle.shm_count.specs.declared.point.Aim.TheVariants.{Up};
+ghost use Rattle.shm_count.specs.MadeSteps.{made_up_part};
+ghost use Rattle.shm_count.specs.Roots.{root_step};
+ghost use Rattle.shm_count.specs.StepControl.{IsInside};
 ghost use Rattle.shm_alloc.specs.declared.alloc.AllocFault.{AllocFault as AFault};
 ghost use Rattle.shm_alloc.specs.declared.point.AllocState.{AllocState as AState};
 ghost use Rattle.shm_alloc.specs.AllocControl.{alloc_control};
-ghost use Rattle.shm_alloc.specs.AllocFits.{AllocGives};
-ghost use Rattle.shm_alloc.specs.AllocPart.{alloc_making};
+ghost use Rattle.shm_alloc.specs.AllocFits.{AllocGives, CanAlloc};
+ghost use Rattle.shm_alloc.specs.AllocPart.{AllocLeaves, alloc_making};
 
 /// Whatever an allocation answers, the status and the agent are what they were, and what was read of tails and heads stays; a block of
 /// which it answers is one that the call made.
@@ -22,4 +30,17 @@ pub fn alloc_lasts()
 /// An allocation in a larger machine leaves all that was read, and the blocks that the call had made.
 pub fn alloc_in_call()
     ensures { (first : Bool) → PartLaws first alloc_control (grown first (alloc_making first)) }
+{}
+
+/// Where an allocation answers a root, it was the least empty one: it names the block now, and all roots below it are set, as they were.
+pub fn alloc_least_root()
+    ensures empty { (m : AState) (r0 r : AMemo) (tr : Trail) (a : AMade) → AllocGives m r0 r tr (Ok a) → own_word r0.own (Root m.me.who a.root) ≡ 0 }
+    ensures named { (m : AState) (r0 r : AMemo) (tr : Trail) (a : AMade) → AllocGives m r0 r tr (Ok a) → own_word r.own (Root m.me.who a.root) ≡ a.block }
+    ensures below { (m : AState) (r0 r : AMemo) (tr : Trail) (a : AMade) → AllocGives m r0 r tr (Ok a) → (j : ℕ) → j < a.root → own_word r.own (Root m.me.who j) ≢ 0 }
+{}
+
+/// What an allocation that made a block leaves is all that a step up at another root needs of the memo, where this root is empty and the
+/// identity is a client: the block is in reach, and one that the call made, so that the step is not refused as full.
+pub fn made_may_be_raised()
+    ensures { (m : AState) (r0 r : AMemo) (tr : Trail) (es : List Event) (a : AMade) (k : ℕ) → AllocLeaves m r0 r tr es (Ok a) → CanAlloc m.me r0 → recovers r0 ≡ false → IsInside m.me a.block → k < 16 → own_word r.own (Root m.me.who k) ≡ 0 → (made_up_part (Root m.me.who k)).needs (root_step m.me.geometry m.me.who k (Up a.block)) r }
 {}

@@ -12,8 +12,8 @@ pub mod request;
 
 pub use alloc::{Alloc, AllocFault, TooLarge};
 pub use bound::{alloc_bound, alloc_trails};
-pub use events::{alloc_begins, alloc_events};
-pub use lasting::{alloc_in_call, alloc_lasts};
+pub use events::{alloc_begins, alloc_events, alloc_own_events};
+pub use lasting::{alloc_in_call, alloc_lasts, alloc_least_root, made_may_be_raised};
 pub use point::{AllocPoint, AllocState, Goal, Next, Search};
 pub use request::Request;
 

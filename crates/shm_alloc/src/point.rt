@@ -129,6 +129,7 @@ pub enum Next {
 
 impl AllocState {
     /// The address of a block: its page's place and its place in the page.
+    #[inline(always)]
     fn block(self, search: Search, page: u8, index: u8) -> u32
         requires geometry { GeometryFits self.me.geometry }
         requires request { RequestFits self.request }
@@ -142,6 +143,7 @@ impl AllocState {
     }
 
     /// The word step that comes next.
+    #[inline(always)]
     pub fn ask(self) -> Ask
         requires { AllocKnows self }
         ensures { result ≡ control.alloc_ask self }
@@ -182,6 +184,7 @@ impl AllocState {
     }
 
     /// The word step that comes next once a free block is found.
+    #[inline(always)]
     fn ask_for_block(self) -> Ask
         requires knows { AllocKnows self }
         requires found { is_search self.point ≡ false }
@@ -223,6 +226,7 @@ impl AllocState {
     }
 
     /// The redo record of the new block, which the root is to name.
+    #[inline(always)]
     fn redo(self, goal: Goal, block: u32) -> u64
         requires geometry { GeometryFits self.me.geometry }
         requires who { self.me.who < self.me.geometry.clients }
@@ -236,6 +240,7 @@ impl AllocState {
     }
 
     /// The header of the new block once it is live.
+    #[inline(always)]
     fn header(self, goal: Goal) -> u64
         requires who { self.me.who < 16 }
         requires era { goal.era < 2 ^ 47 }
@@ -251,6 +256,7 @@ impl AllocState {
     }
 
     /// Where it goes by the word that it found.
+    #[inline(always)]
     pub fn next(self, seen: u64) -> Next
         requires { AllocKnows self }
         ensures { result ≡ control.alloc_next self seen }
@@ -279,6 +285,7 @@ impl AllocState {
     }
 
     /// Where it goes once a free block is found.
+    #[inline(always)]
     fn next_of_block(self) -> Next
         requires knows { AllocKnows self }
         requires found { is_search self.point ≡ false }
@@ -307,6 +314,7 @@ impl AllocState {
     }
 
     /// Where it goes by the owner of a segment.
+    #[inline(always)]
     fn segment_next(self, goal: Goal, search: Search, seen: u64) -> Next
         requires geometry { GeometryFits self.me.geometry }
         requires search { SearchFits self.me search 0 }
@@ -322,6 +330,7 @@ impl AllocState {
     }
 
     /// Where it goes by the class of a page.
+    #[inline(always)]
     fn page_next(self, goal: Goal, search: Search, page: u8, seen: u64) -> Next
         requires geometry { GeometryFits self.me.geometry }
         requires request { RequestFits self.request }
@@ -338,6 +347,7 @@ impl AllocState {
     }
 
     /// Where it goes by the header of a block.
+    #[inline(always)]
     fn header_next(self, goal: Goal, search: Search, page: u8, index: u8, seen: u64) -> Next
         requires geometry { GeometryFits self.me.geometry }
         requires request { RequestFits self.request }
@@ -367,6 +377,7 @@ impl AllocState {
     }
 
     /// The page has no free block of the class.
+    #[inline(always)]
     fn page_over(self, goal: Goal, search: Search, page: u8) -> Next
         requires geometry { GeometryFits self.me.geometry }
         requires segment { search.segment < self.me.geometry.segments }
@@ -381,6 +392,7 @@ impl AllocState {
     }
 
     /// The segment is another's.
+    #[inline(always)]
     fn taken(self, goal: Goal, search: Search) -> Next
         requires geometry { GeometryFits self.me.geometry }
         requires segment { search.segment < self.me.geometry.segments }
@@ -392,6 +404,7 @@ impl AllocState {
     }
 
     /// The segment has no free block of the class.
+    #[inline(always)]
     fn segment_over(self, goal: Goal, search: Search) -> Next
         requires geometry { GeometryFits self.me.geometry }
         requires segment { search.segment < self.me.geometry.segments }
@@ -411,6 +424,7 @@ impl AllocState {
 }
 
 /// Where it goes by the own era.
+#[inline(always)]
 fn era_next(seen: u64) -> Next
     ensures { result ≡ control.era_next seen }
 {
@@ -422,6 +436,7 @@ fn era_next(seen: u64) -> Next
 }
 
 /// Where it goes by a root.
+#[inline(always)]
 fn root_next(era: u64, root: u8, seen: u64) -> Next
     ensures { result ≡ control.root_next era root seen }
 {
@@ -443,6 +458,7 @@ fn root_next(era: u64, root: u8, seen: u64) -> Next
 }
 
 /// The first page of an own segment.
+#[inline(always)]
 fn first_page(goal: Goal, search: Search) -> Next
     ensures { result ≡ control.first_page goal search }
 {
@@ -454,6 +470,7 @@ fn first_page(goal: Goal, search: Search) -> Next
 }
 
 /// The first header of a page of the class.
+#[inline(always)]
 fn first_header(goal: Goal, search: Search, page: u8) -> Next
     ensures { result ≡ control.first_header goal search page }
 {

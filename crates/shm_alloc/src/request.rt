@@ -20,6 +20,7 @@ pub struct Request {
 
 impl Request {
     /// The class of the new block.
+    #[inline(always)]
     pub fn class(self) -> u8
         requires { RequestFits self }
         ensures { result ≡ class_asked self }
@@ -28,6 +29,7 @@ impl Request {
     }
 
     /// The tag of the new block.
+    #[inline(always)]
     pub fn tag(self, author: u8) -> Tag
         ensures { result ≡ record { refs = self.refs; plain = self.count; author = author; link = 0 } }
     {
@@ -40,6 +42,7 @@ impl Request {
     }
 
     /// The step after the tag and `index` reference words are stored.
+    #[inline(always)]
     pub fn references_from(self, goal: Goal, block: u32, index: u8) -> AllocPoint
         ensures { result ≡ control.references_from self goal block index }
     {
@@ -51,6 +54,7 @@ impl Request {
     }
 
     /// The step after the tag, the reference words and `index` plain words are stored.
+    #[inline(always)]
     pub fn plain_from(self, goal: Goal, block: u32, index: u8) -> AllocPoint
         ensures { result ≡ control.plain_from self goal block index }
     {

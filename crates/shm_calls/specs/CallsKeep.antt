@@ -25,8 +25,8 @@ use Rattle.shm_calls.specs.Placed.{MayStand}
 use Rattle.shm_calls.specs.Parts.{IsHeld}
 use Rattle.shm_calls.specs.Plans.{Planned, PlanLaws, calls_asked, go_on, plan_trail}
 use Rattle.shm_calls.specs.CallsControl.{calls_control, calls_of, calls_does, calls_start, planned, called_on, answered}
-use Rattle.shm_calls.specs.SameAgent.{recovers_on}
 use Rattle.shm_calls.specs.CallsFit.{CallsFits, CallsGives, PlanGives, call_events, events_so_far}
+use Rattle.shm_graph.proofs.MemoSteps.{recovers_on}
 
 -- ---- lists and bits
 

@@ -38,7 +38,7 @@ use Rattle.shm_graph.proofs.Calling.{called_by}
 use Rattle.shm_graph.proofs.Loads.{choice}
 use Rattle.shm_calls.specs.Parts.{Part, PartLaws}
 use Rattle.shm_calls.specs.Placed.{MayStand, PlacedKeeps}
-use Rattle.shm_calls.specs.SameAgent.{recovers_on}
+use Rattle.shm_graph.proofs.MemoSteps.{recovers_on}
 
 -- ---- what was read stays
 

@@ -1,4 +1,3 @@
-pub mod SameAgent
 pub mod Placed
 pub mod Parts
 pub mod Plans
@@ -9,6 +8,7 @@ pub mod CallsPart
 pub mod Either
 pub mod Words
 pub mod WordSteps
+pub mod EventWords
 pub mod CallTells
 pub mod MappedParts
 pub mod Grown

@@ -133,3 +133,8 @@ module _ (first : Bool) (me : Me) (a : Ask) (after : Memo → ℕ → Memo → T
         ends = λ m rs r t n h g held same. ends m rs r t n h g;
         asked = λ m rs r t n h g. (n, ([], (g.asked, (refl, refl))));
       }
+
+-- what follows from what holds after it holds after it too
+pub word_more : (first : Bool) (me : Me) (a : Ask) (after more : Memo → ℕ → Memo → Type 0) (m : Word) (r : Memo) → ((n : ℕ) (x : Memo) → after r n x → more r n x) → IsWord first me a after m r → IsWord first me a more m r
+word_more first me a after more m r then h =
+    record { made = h.made; inside = h.inside; kept = λ w rs f s may same. let k = h.kept w rs f s may same in record { told = k.told; step = k.step; fits = then _ _ k.fits }; quiet = h.quiet }

@@ -1,4 +1,6 @@
-pub mod StepBound
 pub mod RootMemos
 pub mod RootSpots
 pub mod RootLeaves
+pub mod CallEvents
+pub mod TearWalks
+pub mod StepRefusing

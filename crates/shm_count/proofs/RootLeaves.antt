@@ -23,7 +23,8 @@ use Rattle.shm_count.specs.declared.point.Part.TheVariants.{First}
 use Rattle.shm_count.specs.DownLeaves.{count_less, one_less, joined, kept_lowered}
 use Rattle.shm_count.specs.StepParts.{lasting_not}
 use Rattle.shm_count.specs.StepControl.{header_after}
-use Rattle.shm_count.specs.StepFits.{core, begun, set_memo, slot_memo, closed_memo, Done}
+use Rattle.shm_graph.specs.Core.{core}
+use Rattle.shm_count.specs.StepFits.{begun, set_memo, slot_memo, closed_memo, Done}
 use Rattle.shm_count.specs.StepMemos.{closed_part}
 use Rattle.shm_count.specs.Roots.{rest, RootLowered}
 use Rattle.shm_count.proofs.RootMemos.{op_done, word_done}

@@ -34,7 +34,8 @@ use Rattle.shm_count.specs.declared.point.Part.{Part}
 use Rattle.shm_count.specs.declared.point.Part.TheVariants.{First, Second}
 use Rattle.shm_count.specs.StepControl.{PartFits, header_after, last_era, raises, value_after}
 use Rattle.shm_count.specs.StepCores.{is_set, set_op}
-use Rattle.shm_count.specs.StepFits.{AtFirst, Done, Refused, Rows, begun, closed_memo, core, is_row, set_memo, slot_memo}
+use Rattle.shm_graph.specs.Core.{core}
+use Rattle.shm_count.specs.StepFits.{AtFirst, Done, Refused, Rows, begun, closed_memo, is_row, set_memo, slot_memo}
 use Rattle.shm_count.specs.StepMachines.{is_change}
 use Rattle.shm_count.specs.StepMemos.{closed_part}
 use Rattle.shm_count.specs.Roots.{root_word}

@@ -41,7 +41,8 @@ use Rattle.shm_count.specs.StepBeginning.{begins_here}
 use Rattle.shm_count.specs.StepControl.{AimFits, AimSmall, IsInside, block_at, last_era, raises, value_after}
 use Rattle.shm_count.specs.StepFits.{CanAim, CanStep, Done, HasPut, StepFits, StepGives, begun_op, closed_memo, set_memo, slot_memo}
 use Rattle.shm_count.specs.StepGoing.{begins}
-use Rattle.shm_count.specs.StepMemos.{room_least, closed_part}
+use Rattle.shm_steps.proofs.Cores.{room_least}
+use Rattle.shm_count.specs.StepMemos.{closed_part}
 use Rattle.shm_count.specs.Roots.{AreRootsReached, member, root_step}
 use Rattle.shm_count.proofs.RootMemos.{StepLeft, up_done, down_done, change_done, left_done, left_refused}
 

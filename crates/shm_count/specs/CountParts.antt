@@ -49,7 +49,7 @@ pub record StepLeaves (p : Spot) (m : StepState) (rs r : Memo) (t : Trail) (es :
   pub trail : step_trail m.me m.slot m.aim t a
 
 module _ (p : Spot) where
-  step_left : (m : StepState) (rs r : Memo) (t : Trail) (a : Result Bool UpFault) → m.point ≡ Era → StepGives p m rs r t a → StepLeaves p m rs r t (happens_along step_control (step_event p) m t) a
+  pub step_left : (m : StepState) (rs r : Memo) (t : Trail) (a : Result Bool UpFault) → m.point ≡ Era → StepGives p m rs r t a → StepLeaves p m rs r t (happens_along step_control (step_event p) m t) a
   step_left m rs r t a e g = record { gives = g.gives; grows = g.grows; status = g.status; events = ap (λ y. happens_along step_control (step_event p) (record m { point = y }) t) e ∙ g.events; trail = g.trail }
 
   abbrev pub down_part : Part StepState (Result Bool EraSpent)

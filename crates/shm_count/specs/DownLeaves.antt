@@ -32,8 +32,9 @@ use Rattle.shm_steps.proofs.Sifting.{dying_more}
 use Rattle.shm_count.specs.declared.point.Aim.TheVariants.{Down}
 use Rattle.shm_count.specs.declared.point.Part.TheVariants.{First}
 use Rattle.shm_count.specs.StepControl.{header_after}
-use Rattle.shm_count.specs.StepFits.{core, begun, is_row, AtFirst, slot_memo, closed_memo, Done}
-use Rattle.shm_count.specs.StepCores.{body_word}
+use Rattle.shm_graph.specs.Core.{core}
+use Rattle.shm_count.specs.StepFits.{begun, is_row, AtFirst, slot_memo, closed_memo, Done}
+use Rattle.shm_steps.proofs.Cores.{body_word}
 use Rattle.shm_count.specs.Retaining.{slots_learnt, slots_forgotten, slots_sifted, named_same, named_sifted, value_sifted}
 use Rattle.shm_count.specs.StepParts.{own_stays, rows_grow}
 use Rattle.shm_count.specs.TearMemos.{Knows, IsFound, Lowered, is_slot_word}
@@ -211,18 +212,19 @@ down_leaves me slot d i t m r z who era idle has found (e, q, w, first, some, sa
     let known : q.known ≡ m.known = ap (λ (y : Memo). y.known) b in
     let own : r.own ≡ f.own = ap (λ (y : Memo). y.own) left in
     let fell : eqb n 0 ≡ z = ap (λ k. eqb k 0) less ∙ (one_less (header_of w).count some ∙ sym spent) in
+    let same_status : r.status ≡ m.status = ap (λ (y : Memo). y.status) left ∙ ap (λ (y : Memo). y.status) b in
+    let same_op : r.op ≡ m.op = ap (λ (y : Memo). y.op) left ∙ sym idle in
+    let same_latch : r.latch ≡ m.latch = ap (λ (y : Memo). y.latch) left ∙ ap (λ (y : Memo). y.latch) b in
+    let same_making : r.making ≡ m.making = ap (λ (y : Memo). y.making) left ∙ ap (λ (y : Memo). y.making) b in
+    let same_owned : r.owned ≡ m.owned = ap (λ (y : Memo). y.owned) left ∙ ap (λ (y : Memo). y.owned) b in
+    let same_sent : r.sent ≡ m.sent = ap (λ (y : Memo). y.sent) left ∙ ap (λ (y : Memo). y.sent) b in
+    let same_unsent : r.unsent ≡ m.unsent = ap (λ (y : Memo). y.unsent) left ∙ ap (λ (y : Memo). y.unsent) b in
+    let same_received : r.received ≡ m.received = ap (λ (y : Memo). y.received) left ∙ ap (λ (y : Memo). y.received) b in
+    let same_untaken : r.untaken ≡ m.untaken = ap (λ (y : Memo). y.untaken) left ∙ ap (λ (y : Memo). y.untaken) b in
+    let same_part : r.part ≡ m.part = ap (λ (y : Memo). y.part) left ∙ part_stays me slot d i t e w m q first idle found.part in
     record {
       stays = record {
-        status = ap (λ (y : Memo). y.status) left ∙ ap (λ (y : Memo). y.status) b;
-        op = ap (λ (y : Memo). y.op) left ∙ sym idle;
-        latch = ap (λ (y : Memo). y.latch) left ∙ ap (λ (y : Memo). y.latch) b;
-        making = ap (λ (y : Memo). y.making) left ∙ ap (λ (y : Memo). y.making) b;
-        owned = ap (λ (y : Memo). y.owned) left ∙ ap (λ (y : Memo). y.owned) b;
-        sent = ap (λ (y : Memo). y.sent) left ∙ ap (λ (y : Memo). y.sent) b;
-        unsent = ap (λ (y : Memo). y.unsent) left ∙ ap (λ (y : Memo). y.unsent) b;
-        received = ap (λ (y : Memo). y.received) left ∙ ap (λ (y : Memo). y.received) b;
-        untaken = ap (λ (y : Memo). y.untaken) left ∙ ap (λ (y : Memo). y.untaken) b;
-        part = ap (λ (y : Memo). y.part) left ∙ part_stays me slot d i t e w m q first idle found.part;
+        rest = rw (same_status, same_op, same_latch, same_making, same_owned, same_sent, same_unsent, same_received, same_untaken, same_part) refl;
         own = λ p l. ap (λ (s : List Stored). own_word s p) own ∙ own_stays me slot (Down t) (Body d i) e m q first p l;
         rows = λ j. subst (λ (s : List Stored). own_word m.own (Era c j) ≤ own_word s (Era c j)) (sym own) (rows_grow me slot (Down t) (Body d i) e m q first j);
       };

@@ -46,3 +46,12 @@ pub mod StepsAt
 pub mod CountParts
 pub mod MadeSteps
 pub mod StepsFrom
+pub mod SlotLeaves
+pub mod SlotUps
+pub mod SlotDowns
+pub mod SlotChanges
+pub mod SlotParts
+pub mod StepBound
+pub mod Lowering
+pub mod Calling
+pub mod Refusing

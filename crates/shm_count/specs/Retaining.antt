@@ -23,8 +23,8 @@ use Rattle.shm_graph.proofs.Reached.{named_here}
 use Rattle.shm_graph.proofs.Spotting.{same_spot_not}
 use Rattle.shm_laws.proofs.Keep.{Contains-filter}
 use Rattle.shm_count.specs.DyingBlocks.{dying_header}
-use Rattle.shm_count.specs.StepFits.{core}
-use Rattle.shm_count.specs.StepMemos.{roots_same}
+use Rattle.shm_graph.specs.Core.{core}
+use Rattle.shm_steps.proofs.Cores.{roots_same}
 use Rattle.shm_count.specs.TearMemos.{Stays, Knows, Retains, is_slot_word, Remains}
 use Rattle.shm_calls.specs.Parts.{IsHeld}
 use Rattle.shm_graph.specs.declared.ask.Me.{Me}
@@ -90,7 +90,7 @@ pub named_stays : (c : ℕ) (m n : Memo) (b : ℕ) → Stays c m n → filter is
 named_stays c m n b s slots = named_same c m n b (λ k. word (Root c k) (s.own (Root c k) refl)) (word (Home c) (s.own (Home c) refl)) slots
   where
     word : (p : Spot) → own_word n.own p ≡ own_word m.own p → shown n p ≡ shown m p
-    word p e = ap (λ (o : Op). cover (cover_of o) p (own_word n.own p)) s.op ∙ ap (cover (cover_of m.op) p) e
+    word p e = ap (λ (o : Op). cover (cover_of o) p (own_word n.own p)) (ap (λ (y : Memo). y.op) s.rest) ∙ ap (cover (cover_of m.op) p) e
 
 -- a block that is named is in reach, so that its words bind
 pub named_reached : (c : ℕ) (m : Memo) (b : ℕ) → is_named c m b ≡ true → is_reached c m b ≡ true

@@ -30,8 +30,9 @@ use Rattle.shm_count.specs.declared.point.Aim.{Aim}
 use Rattle.shm_count.specs.declared.point.Aim.TheVariants.{Up, Down, Change}
 use Rattle.shm_count.specs.declared.point.Part.TheVariants.{First}
 use Rattle.shm_count.specs.StepControl.{block_at, raises, redo_at}
-use Rattle.shm_count.specs.StepFits.{HasPut, CanUp, CanDown, CanChange, CanAim, core, begun_op}
-use Rattle.shm_count.specs.StepMemos.{here_same}
+use Rattle.shm_graph.specs.Core.{core}
+use Rattle.shm_count.specs.StepFits.{HasPut, CanUp, CanDown, CanChange, CanAim, begun_op}
+use Rattle.shm_steps.proofs.Cores.{here_same}
 
 -- ---- what the memo shows of the slot
 

@@ -37,10 +37,14 @@ use Rattle.shm_count.specs.declared.point.Part.TheVariants.{First, Second}
 use Rattle.shm_count.specs.declared.point.Part.{Part}
 use Rattle.shm_count.specs.declared.point.Aim.TheVariants.{Change, Down, Up}
 use Rattle.shm_count.specs.declared.point.StepPoint.TheVariants as point
-use Rattle.shm_count.specs.StepCores.{set_op, stored_core, can_slot, IsSet, PointKeeps, HasSlot, IsStepSlot, is_set, is_stored, closed_core}
-use Rattle.shm_count.specs.StepFits.{NextHolds, AtFirst, core, set_memo, slot_memo, closed_memo, InHalf, CanStep, PointHolds}
+use Rattle.shm_steps.proofs.Cores.{HasSlot}
+use Rattle.shm_count.specs.StepCores.{set_op, stored_core, can_slot, IsSet, PointKeeps, IsStepSlot, is_set, is_stored, closed_core}
+use Rattle.shm_graph.specs.Core.{core}
+use Rattle.shm_count.specs.StepFits.{NextHolds, AtFirst, set_memo, slot_memo, closed_memo, InHalf, CanStep, PointHolds}
 use Rattle.shm_count.specs.StepControl.{AimFits, step_next_at, PartFits, value_after, EraFits, closed_next, raises}
-use Rattle.shm_count.specs.StepMemos.{recovers_after, era_room, half_status, rows_same, here_same}
+use Rattle.shm_graph.proofs.MemoSteps.{recovers_on}
+use Rattle.shm_steps.proofs.Cores.{here_same}
+use Rattle.shm_count.specs.StepMemos.{era_room, rows_same, half_status}
 
 -- ---- the step in progress
 
@@ -137,7 +141,7 @@ slot_step me slot x p r0 w r f tr e z st going can fits h =
     (slot_written me w r f tr slot y p st going s.place s.kind
     (record { here = here; slot = has.1; op = subst (λ (o : Op). Writes o (op_written o) y) (sym s.op) (set_writes x p e); small = value_small me x can.geometry can.blocks }))
     (record {
-      agent = recovers_after m (framed me a (record f { fresh = false }) 0) p ∙ h.agent;
+      agent = recovers_on m (framed me a (record f { fresh = false }) 0) p ∙ h.agent;
       has = (q, k, first, h.has.3, stored_core me.geometry c p y n (set_memo me x p e First q k) s.kind has same, h.has.5);
     })
 
@@ -176,7 +180,7 @@ era_stored_kept me w r f tr e after st going here own closes holds =
     kept_going me w r a f after p going i
     (subst (λ y. KeptAt me w r (Store at (y + 1)) f (λ n m. Unit {0}) (spot_at me.geometry (classes w) at)) (sym own)
     (era_closed me w r f tr at st going i (record { here = here; op = subst (λ y. Closes m.op (op_closed m.op (y + 1))) own closes })))
-    (holds (memo_on m (framed me a (record f { fresh = false }) 0) p) 0 (recovers_after m (framed me a (record f { fresh = false }) 0) p) (closed_core me e n m refl))
+    (holds (memo_on m (framed me a (record f { fresh = false }) 0) p) 0 (recovers_on m (framed me a (record f { fresh = false }) 0) p) (closed_core me e n m refl))
 
 -- the first half is closed: the step is done, or a change goes on with its second half
 pub close_first : (me : Me) (slot : ℕ) (x : Aim) (p : Spot) (r0 : Memo) (w : Spot → ℕ) (r : ℕ → Memo) (f : Frame) (tr : Trail) (e : ℕ) (z : Bool) → PointKeeps me slot x p r0 w r f tr (point.Close e First z)

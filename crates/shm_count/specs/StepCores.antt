@@ -1,6 +1,5 @@
 -- memos by what a count step reads of them: their cores, the steps in progress, and the slots that a step may have
-use Rattle.std.proofs.Common.{◌≡◌, ℕ, ◌+◌, ◌≤◌, refl, sym, ap, ◌∙◌, subst, Bool, true, false, cond, eqb}
-use Rattle.std.proofs.lemmas.Bool.{cond-true, and_from}
+use Rattle.std.proofs.Common.{◌≡◌, ℕ, ◌+◌, ◌≤◌, refl, sym, ap, ◌∙◌, subst, true, false, eqb}
 use Rattle.shm_words.specs.declared.geometry.Geometry.{Geometry}
 use Rattle.shm_words.specs.Headers.{header_of}
 use Rattle.shm_graph.specs.declared.ask.Me.{Me}
@@ -14,22 +13,23 @@ use Rattle.shm_graph.specs.declared.spot.Spot.TheVariants as spot
 use Rattle.shm_graph.specs.declared.memo.Op.TheVariants as op
 use Rattle.shm_graph.specs.Exchanges.{reparted, cut, without_made, lowered, with_untaken}
 use Rattle.shm_graph.specs.Stores.{op_written, written, stored_on, with_own, era_stored, is_lowering}
-use Rattle.shm_graph.specs.Spots.{same_spot, spot_at}
+use Rattle.shm_graph.specs.Spots.{spot_at}
 use Rattle.shm_graph.specs.Reach.{learnt, sifted}
 use Rattle.shm_graph.specs.Views.{own_word}
 use Rattle.shm_graph.specs.Ops.{slot_of, is_op}
 use Rattle.shm_graph.specs.Asks.{at_of, Trail}
 use Rattle.shm_graph.specs.Laws.{Stands, Frame, KeptAt}
 use Rattle.shm_graph.specs.Blocks.{classes}
-use Rattle.shm_graph.proofs.Spotting.{same_spot_self}
 use Rattle.shm_laws.specs.Steps.{dying_after}
 use Rattle.shm_steps.proofs.MemoCommits.{untaken_list, known_left, known_lowered, lowered_is, with_untaken_is, unsent_list, with_unsent_is}
+use Rattle.shm_steps.proofs.Cores.{HasSlot, body_word, core_cond}
 use Rattle.shm_count.specs.declared.point.Aim.TheVariants.{Down, Change, Up}
 use Rattle.shm_count.specs.declared.point.Part.TheVariants.{First, Second}
 use Rattle.shm_count.specs.declared.point.Part.{Part}
 use Rattle.shm_count.specs.declared.point.Aim.{Aim}
 use Rattle.shm_count.specs.declared.point.StepPoint.{StepPoint}
-use Rattle.shm_count.specs.StepFits.{CanUp, core, CanStep, CanChange, CanAim, set_memo, closed_memo, CanDown, PointHolds, NextHolds}
+use Rattle.shm_graph.specs.Core.{core}
+use Rattle.shm_count.specs.StepFits.{CanUp, CanStep, CanChange, CanAim, set_memo, closed_memo, CanDown, PointHolds, NextHolds}
 use Rattle.shm_count.specs.StepControl.{last_era, header_after, PartFits, PointFits, step_ask_at, step_next_at}
 
 -- ---- steps in progress
@@ -128,14 +128,6 @@ aim_slot n c m (Change a b) p y = change_slot c m a b p y
 pub can_slot : (me : Me) (slot : ℕ) (x : Aim) (p : Spot) (r0 : Memo) (e : ℕ) → CanStep me slot x p r0 → e ≡ own_word r0.own (spot.Era me.who me.who) → e ≤ last_era x → IsStepSlot me.who p
 can_slot me slot x p r0 e can own l = aim_slot me.geometry.clients me.who r0 x p (can.can (subst (λ y. y ≤ last_era x) own l))
 
--- the slot is that of the step in progress
-abbrev pub HasSlot : Memo → Spot → Type 0
-HasSlot m p = (is_op m.op ≡ true) × (slot_of m.op ≡ p)
-
--- in a block it is the store of the step's word
-pub body_word : (g : Geometry) (c b i v : ℕ) (m : Memo) → HasSlot m (spot.Body b i) → ◌≡◌ {A = Memo} (stored_on g c m (spot.Body b i) v) (record (written m) { known = learnt (spot.Body b i) v m.known })
-body_word g c b i v m h = cond-true _ _ _ (and_from _ _ h.0 (ap (λ q. same_spot q (spot.Body b i)) h.1 ∙ same_spot_self (spot.Body b i)))
-
 -- the store of the slot writes the step, and leaves the status
 pub is_stored : (g : Geometry) (c : ℕ) (p : Spot) (v : ℕ) (m : Memo) → IsStepSlot c p → HasSlot m p → ((stored_on g c m p v).op ≡ op_written m.op) × ((stored_on g c m p v).status ≡ m.status)
 is_stored g c (spot.Root d k) v m s h = (refl, refl)
@@ -145,11 +137,6 @@ is_stored g c (spot.Body b i) v m s h = let e = body_word g c b i v m h in (ap (
 is_stored g c _ v m s h = absurd s
 
 -- ---- cores
-
--- the cores of memos that are chosen alike
-pub core_cond : (z : Bool) (a b a' b' : Memo) → core a ≡ core a' → core b ≡ core b' → core (cond z a b) ≡ core (cond z a' b')
-core_cond true a b a' b' x y = x
-core_cond false a b a' b' x y = y
 
 -- the store of the slot reads no more than the core
 pub stored_core : (g : Geometry) (c : ℕ) (p : Spot) (v : ℕ) (m n : Memo) → IsStepSlot c p → HasSlot m p → core m ≡ core n → core (stored_on g c m p v) ≡ core (stored_on g c n p v)

@@ -40,8 +40,11 @@ use Rattle.shm_count.specs.declared.point.Part.{Part}
 use Rattle.shm_count.specs.declared.point.Next.{Next}
 use Rattle.shm_count.specs.declared.point.Aim.{Aim}
 use Rattle.shm_count.specs.declared.point.StepPoint.TheVariants as point
-use Rattle.shm_count.specs.StepFits.{begun_op, core, InHalf, CanStep, HasRead, NextHolds, set_memo, IsShown, IsDyingWord}
-use Rattle.shm_count.specs.StepMemos.{half_status, first_reach, half_same, header_core, recovers_after, here_same, half_op}
+use Rattle.shm_graph.specs.Core.{core}
+use Rattle.shm_count.specs.StepFits.{begun_op, InHalf, CanStep, HasRead, NextHolds, set_memo, IsShown, IsDyingWord}
+use Rattle.shm_graph.proofs.MemoSteps.{recovers_on}
+use Rattle.shm_steps.proofs.Cores.{header_core, here_same}
+use Rattle.shm_count.specs.StepMemos.{first_reach, half_same, half_status, half_op}
 use Rattle.shm_count.specs.StepControl.{value_before, value_after, CountFits, EraFits, header_after, PartFits, block_at, committed_next, header_next, count_after, raises, exchange_next}
 use Rattle.shm_count.specs.StepHeaders.{header_has, header_found, half_block}
 use Rattle.shm_count.specs.StepParts.{first_sight}
@@ -222,7 +225,7 @@ exchange_step me slot x p r0 w r f tr e h k st going can fits y = by (cases_eq n
     next z = cond z (committed_next x e h k) (header_next me x e h n)
 
     agent : recovers (left (eqb n k)) ≡ recovers r0
-    agent = recovers_after m (framed me a (record f { fresh = false }) n) s ∙ y.agent
+    agent = recovers_on m (framed me a (record f { fresh = false }) n) s ∙ y.agent
 
     by : (n ≡ k) ⊎ (n ≡ k → ⊥) → KeptAt me w r a f (λ n r'. NextHolds me slot x p r0 r' (exchange_next me x e h k n)) (spot_at me.geometry (classes w) b)
     by (inl u) =

@@ -1,5 +1,5 @@
 -- when a count step may begin, what its memo shows on the way, and what it leaves
-use Rattle.std.specs.Prelude.{◌≡◌, ◌≢◌, ℕ, ◌+◌, ◌<◌, ◌≤◌, Bool, true, false, ◌&&◌, not, ◌==◌, ◌⊎◌, None, Result, Ok, Err, [], ◌∷◌, ◌++◌}
+use Rattle.std.specs.Prelude.{◌≡◌, ◌≢◌, ℕ, ◌+◌, ◌<◌, ◌≤◌, Bool, true, false, ◌&&◌, not, ◌==◌, ◌⊎◌, Result, Ok, Err, [], ◌∷◌, ◌++◌}
 use Rattle.std.specs.List.{Contains}
 use Rattle.shm_words.specs.Layout.{GeometryFits, total_of}
 use Rattle.shm_words.specs.Headers.{header_of}
@@ -14,6 +14,7 @@ use Rattle.shm_graph.specs.declared.memo.Second.TheVariants.{Open}
 use Rattle.shm_graph.specs.declared.memo.Half.TheVariants.{Raising, Lowering}
 use Rattle.shm_graph.specs.declared.memo.Op.{Op}
 use Rattle.shm_graph.specs.declared.memo.Op.TheVariants as op
+use Rattle.shm_graph.specs.Core.{core}
 use Rattle.shm_graph.specs.Spots.{spot_address}
 use Rattle.shm_graph.specs.Asks.{Trail}
 use Rattle.shm_graph.specs.Agents.{recovers}
@@ -101,10 +102,6 @@ pub record CanStep (me : Me) (slot : ℕ) (x : Aim) (p : Spot) (r : Memo) : Type
   pub queued : is_loose r.part ≡ false → is_slot p ≡ true → raises x First ≡ true → Contains r.values (block_at x First)
 
 -- ---- what the memo shows on the way
-
--- the memo but what it has of its call and of its agents
-abbrev pub core : Memo → Memo
-core m = record m { facts = []; zeros = []; test = None; made = []; call = []; over = false; agents = [] }
 
 -- the step that the redo record begins, and the one that is in progress in the second half of a change
 abbrev pub begun_op : Aim → Spot → ℕ → Op

@@ -33,8 +33,9 @@ use Rattle.shm_count.specs.declared.point.Part.TheVariants.{First, Second}
 use Rattle.shm_count.specs.declared.point.StepPoint.TheVariants.{Exchange, Row}
 use Rattle.shm_count.specs.declared.point.Next.TheVariants.{Point, Answer}
 use Rattle.shm_count.specs.StepControl.{block_at, raises, redo_at, header_next, EraFits, PartFits}
-use Rattle.shm_count.specs.StepFits.{CanStep, core, begun_op, op_of, Rows, HasRead, InHalf, Refused, NextHolds}
-use Rattle.shm_count.specs.StepMemos.{rows_same, rows_then, half_same, half_op, begun_quiet, first_reach}
+use Rattle.shm_graph.specs.Core.{core}
+use Rattle.shm_count.specs.StepFits.{CanStep, begun_op, op_of, Rows, HasRead, InHalf, Refused, NextHolds}
+use Rattle.shm_count.specs.StepMemos.{rows_same, rows_then, half_same, begun_quiet, first_reach, half_op}
 
 -- ---- the block of a half
 

@@ -1,49 +1,33 @@
 -- what the memo shows on the way of a count step: what stays where a word is read, where a row is raised, and in each half
-use Rattle.std.proofs.Common.{◌≡◌, ◌≢◌, ℕ, zero, suc, ◌+◌, ◌-◌, ◌^◌, ◌≤◌, refl, sym, ap, ◌∙◌, subst, arith, Bool, true, false, not, cond, eqb, leb, ◌&&◌, List, [], ◌∷◌, ◌++◌, map}
-use Rattle.std.specs.List.{Contains, list_any, filter}
+use Rattle.std.proofs.Common.{◌≡◌, ◌≢◌, ℕ, ◌+◌, ◌-◌, ◌^◌, ◌≤◌, refl, sym, ap, ◌∙◌, subst, arith, true, false, not, cond, List}
+use Rattle.std.specs.List.{Contains}
 use Rattle.std.proofs.lemmas.Bool.{eq-eqb, ne_eqb, and_from, cond-true, true≢false}
-use Rattle.std.proofs.lemmas.List.Elements.{Contains-append_right}
-use Rattle.shm_graph.specs.declared.ask.Ask.{Ask}
-use Rattle.shm_graph.specs.declared.ask.Ask.TheVariants.{Load}
 use Rattle.shm_graph.specs.declared.ask.Me.{Me}
 use Rattle.shm_graph.specs.declared.spot.Spot.{Spot}
 use Rattle.shm_graph.specs.declared.spot.Spot.TheVariants as spot
-use Rattle.shm_graph.specs.declared.memo.Agent.{Agent}
-use Rattle.shm_graph.specs.declared.memo.Fact.{Fact}
-use Rattle.shm_graph.specs.declared.memo.Fact.TheVariants.{Header as HeaderRead, Counter}
-use Rattle.shm_graph.specs.declared.memo.Half.TheVariants.{Raising, Lowering}
+use Rattle.shm_graph.specs.declared.memo.Fact.TheVariants.{Header as HeaderRead}
+use Rattle.shm_graph.specs.declared.memo.Half.TheVariants.{Lowering}
 use Rattle.shm_graph.specs.declared.memo.Second.TheVariants.{Open}
-use Rattle.shm_graph.specs.declared.memo.Look.{Look}
 use Rattle.shm_graph.specs.declared.memo.Memo.{Memo}
 use Rattle.shm_graph.specs.declared.memo.Op.{Op}
 use Rattle.shm_graph.specs.declared.memo.Op.TheVariants as op
-use Rattle.shm_graph.specs.declared.memo.Step.{Step}
 use Rattle.shm_graph.specs.declared.memo.Stored.{Stored}
-use Rattle.shm_graph.specs.Agents.{recovers, recovers_by, last_agent, with_last, stepped, ended, is_recoverer, is_gone}
-use Rattle.shm_laws.proofs.Keep.{Contains-filter}
-use Rattle.shm_graph.proofs.Calling.{called_by}
-use Rattle.shm_graph.specs.Changes.{is_lane_count, called, test_before, changed_by, with_call, with_end, memo_on}
-use Rattle.shm_graph.specs.Held.{room_of}
-use Rattle.shm_graph.specs.Laws.{Frame, framed}
 use Rattle.shm_graph.specs.Ops.{Quiet, cover, cover_of}
-use Rattle.shm_graph.specs.Reach.{shown, roots_below, in_slots, not_zero, is_reached, learnt}
-use Rattle.shm_graph.specs.Readings.{row_read, header_read, op_refused, raised_by, is_held}
+use Rattle.shm_graph.specs.Reach.{shown, is_reached, learnt}
 use Rattle.shm_graph.specs.Spots.{same_spot}
 use Rattle.shm_graph.specs.Stores.{with_own, written, op_closed, is_lowering, without_looks, era_stored, making_with}
 use Rattle.shm_graph.specs.Views.{own_word}
-use Rattle.shm_graph.proofs.Calling.{called_part}
-use Rattle.shm_graph.proofs.KindKeeping.{in_frame}
 use Rattle.shm_graph.proofs.Loads.{choice}
 use Rattle.shm_graph.proofs.Spotting.{same_spot_self, same_spot_is, same_spot_not}
-use Rattle.shm_steps.specs.Conditions.{IsHere}
-use Rattle.shm_words.specs.Headers.{header_of}
 use Rattle.shm_words.specs.Redos.{redo_word}
+use Rattle.shm_steps.proofs.Cores.{reach_same}
 use Rattle.shm_count.specs.declared.point.Aim.{Aim}
 use Rattle.shm_count.specs.declared.point.Aim.TheVariants.{Up, Down, Change}
 use Rattle.shm_count.specs.declared.point.Part.{Part}
 use Rattle.shm_count.specs.declared.point.Part.TheVariants.{First, Second}
 use Rattle.shm_count.specs.StepControl.{last_era, redo_at, EraFits, PartFits}
-use Rattle.shm_count.specs.StepFits.{CanChange, CanStep, core, begun_op, op_of, is_row, Rows, begun, AtFirst, set_memo, slot_memo, closed_memo, HasRead, InHalf}
+use Rattle.shm_graph.specs.Core.{core}
+use Rattle.shm_count.specs.StepFits.{CanChange, CanStep, begun_op, op_of, is_row, Rows, begun, AtFirst, set_memo, slot_memo, closed_memo, HasRead, InHalf}
 
 -- ---- rows
 
@@ -87,78 +71,6 @@ row_raised c m m' j v other more e =
     })
     (rows_same c (with_own m (spot.Era c j) v) m' e)
 
--- ---- the agent
-
--- the last agent is of the kind that it was of
-recovers_with : (f : Agent → Agent) → ((a : Agent) → (f a).kind ≡ a.kind) → (xs : List Agent) → recovers_by (last_agent (with_last f xs)) ≡ recovers_by (last_agent xs)
-recovers_with f k [] = refl
-recovers_with f k (a ∷ []) = ap is_recoverer (k a)
-recovers_with f k (a ∷ b ∷ []) = ap is_recoverer (k b)
-recovers_with f k (a ∷ b ∷ d ∷ xs) = recovers_with f k (b ∷ d ∷ xs)
-
--- the agent at a step, and after it, is what it was
-pub recovers_called : (m : Memo) (t : Step) → recovers (called m t) ≡ recovers m
-recovers_called m t = recovers_with stepped (λ a. refl) m.agents
-
-pub recovers_after : (m : Memo) (t : Step) (p : Spot) → recovers (memo_on m t p) ≡ recovers m
-recovers_after m t p =
-    choice (λ (xs : List Agent). recovers_by (last_agent xs) ≡ recovers m) (is_gone (changed_by m t p t.ask).status && t.ends) (with_last ended (called m t).agents) (called m t).agents
-    (λ z. recovers_with ended (λ a. refl) (called m t).agents ∙ recovers_called m t)
-    (λ z. recovers_called m t)
-
--- ---- what is read
-
--- the memo at a step has what the memo had
-pub called_core : (m : Memo) (t : Step) → core (called m t) ≡ core m
-called_core m t = called_part core m t refl refl
-
--- and its facts, but at a machine's first step
-pub called_facts : (me : Me) (a : Ask) (f : Frame) (n : ℕ) (m : Memo) → f.fresh ≡ false → (called m (framed me a f n)).facts ≡ m.facts
-called_facts me a f n m e = in_frame (λ h. (called m (framed me a h n)).facts ≡ m.facts) f e refl
-
--- an era was read
-pub era_core : (me : Me) (f : Frame) (m : Memo) (at i j n : ℕ) → core (memo_on m (framed me (Load at) f n) (spot.Era i j)) ≡ core m
-era_core me f m at i j n =
-    let t : Step = framed me (Load at) f n in
-    let x : Memo = called m t in
-    choice (λ (y : Memo). core y ≡ core x) (eqb j me.who && not (eqb i me.who)) (row_read me.who x (test_before m t) i n) (record x { facts = Counter (spot.Era i j) n ∷ x.facts }) (λ z. refl) (λ z. refl)
-    ∙ called_core m t
-
--- what was read of tails and heads outlives the calls, and so each word step
-called_count : (m : Memo) (t : Step) (k : Fact) → is_lane_count k ≡ true → Contains m.facts k → Contains (called m t).facts k
-called_count m t k lane h = called_by (λ (x : Memo). Contains x.facts k) m t (Contains-filter is_lane_count m.facts k h lane) h
-
-pub era_counts : (me : Me) (f : Frame) (m : Memo) (at i j n : ℕ) (k : Fact) → is_lane_count k ≡ true → Contains m.facts k → Contains (memo_on m (framed me (Load at) f n) (spot.Era i j)).facts k
-era_counts me f m at i j n k lane h =
-    let t : Step = framed me (Load at) f n in
-    let x : Memo = called m t in
-    let has : Contains x.facts k = called_count m t k lane h in
-    choice (λ (y : Memo). Contains y.facts k) (eqb j me.who && not (eqb i me.who)) (row_read me.who x (test_before m t) i n) (record x { facts = Counter (spot.Era i j) n ∷ x.facts })
-    (λ z. Contains-append_right (Counter (spot.Era i me.who) n ∷ []) x.facts k has)
-    (λ z. Contains-append_right (Counter (spot.Era i j) n ∷ []) x.facts k has)
-
--- what was read before still binds
-pub era_facts : (me : Me) (f : Frame) (m : Memo) (at i j n : ℕ) (k : Fact) → f.fresh ≡ false → Contains m.facts k → Contains (memo_on m (framed me (Load at) f n) (spot.Era i j)).facts k
-era_facts me f m at i j n k going h =
-    let t : Step = framed me (Load at) f n in
-    let x : Memo = called m t in
-    let has : Contains x.facts k = subst (λ (fs : List Fact). Contains fs k) (sym (called_facts me (Load at) f n m going)) h in
-    choice (λ (y : Memo). Contains y.facts k) (eqb j me.who && not (eqb i me.who)) (row_read me.who x (test_before m t) i n) (record x { facts = Counter (spot.Era i j) n ∷ x.facts })
-    (λ z. Contains-append_right (Counter (spot.Era i me.who) n ∷ []) x.facts k has)
-    (λ z. Contains-append_right (Counter (spot.Era i j) n ∷ []) x.facts k has)
-
--- the step that ends where a header shows a full count, by whether the agent is a recoverer
-abbrev refused_by : Bool → Op → ℕ → ℕ → Op
-refused_by y o b n = cond (not y && (is_held (raised_by o) b && leb 1023 (header_of n).count)) op.Nothing o
-
--- a header was read, by a load or by an exchange that failed
-pub header_core : (me : Me) (a : Ask) (f : Frame) (m : Memo) (b n : ℕ) (load : Bool)
-    → core (with_end f.ends (with_call (called m (framed me a f n)) (header_read me.geometry me.who load (called m (framed me a f n)) b n))) ≡ core (record m { op = op_refused m b n })
-header_core me a f m b n load =
-    let t : Step = framed me a f n in
-    ap (λ y. core (record (called m t) { op = refused_by y (called m t).op b n })) (recovers_called m t)
-    ∙ ap (λ (x : Memo). record x { op = refused_by (recovers m) x.op b n }) (called_core m t)
-
 -- ---- the halves
 
 -- the halves stay where a word is read, and where a row is raised
@@ -186,26 +98,6 @@ pub begun_quiet : (x : Aim) (p : Spot) (e : ℕ) → cover_of (begun_op x p e) �
 begun_quiet (Up b) p e = refl
 begun_quiet (Down b) p e = refl
 begun_quiet (Change a b) p e = refl
-
--- each own era leaves room for two more
-pub room_least : (o : Op) → 2 ≤ room_of o
-room_least op.Nothing = omega arith
-room_least (op.Change (Raising s) p a b e) = omega arith
-room_least _ = omega arith
-
--- ---- what is in reach
-
-pub roots_same : (c : ℕ) (m m' : Memo) → ((k : ℕ) → shown m' (spot.Root c k) ≡ shown m (spot.Root c k)) → (n : ℕ) → roots_below c m' n ≡ roots_below c m n
-roots_same c m m' e zero = refl
-roots_same c m m' e (suc k) = ap (λ y. y ∷ roots_below c m' k) (e k) ∙ ap (λ ys. shown m (spot.Root c k) ∷ ys) (roots_same c m m' e k)
-
--- the same blocks are in reach where the own reference words, what is known and the looks show the same
-pub reach_same : (c : ℕ) (m m' : Memo) (b : ℕ) → ((k : ℕ) → shown m' (spot.Root c k) ≡ shown m (spot.Root c k)) → shown m' (spot.Home c) ≡ shown m (spot.Home c) → m'.known ≡ m.known → m'.looks ≡ m.looks → is_reached c m' b ≡ is_reached c m b
-reach_same c m m' b roots home known looks =
-    ap (λ xs. list_any (eqb b) (filter not_zero (xs ++ shown m' (spot.Home c) ∷ in_slots m'.known) ++ map (λ (k : Look). k.block) m'.looks)) (roots_same c m m' roots 16)
-    ∙ (ap (λ y. list_any (eqb b) (filter not_zero (roots_below c m 16 ++ y ∷ in_slots m'.known) ++ map (λ (k : Look). k.block) m'.looks)) home
-    ∙ (ap (λ ks. list_any (eqb b) (filter not_zero (roots_below c m 16 ++ shown m (spot.Home c) ∷ in_slots ks) ++ map (λ (k : Look). k.block) m'.looks)) known
-    ∙ ap (λ (ls : List Look). list_any (eqb b) (filter not_zero (roots_below c m 16 ++ shown m (spot.Home c) ∷ in_slots m.known) ++ map (λ (k : Look). k.block) ls)) looks))
 
 -- ---- the slot of a change
 
@@ -312,10 +204,6 @@ module _ (me : Me) (slot : ℕ) (p : Spot) (r0 r : Memo) (e : ℕ) where
       ∙ ap (λ (m : Memo). m.status) first.rest))
   half_status (Up b) Second can era part k = absurd part
   half_status (Down b) Second can era part k = absurd part
-
--- an identity that is here is so where its status is the same
-pub here_same : (r r' : Memo) → r'.status ≡ r.status → IsHere r → IsHere r'
-here_same r r' e h = record { joined = λ z. h.joined (sym e ∙ z); stays = λ z. h.stays (sym e ∙ z) }
 
 -- in the first half what is in reach is so as before
 pub first_reach : (me : Me) (slot : ℕ) (x : Aim) (p : Spot) (r0 r : Memo) (e b : ℕ) → r0.op ≡ op.Nothing → AtFirst me slot x p r0 r e → is_reached me.who r b ≡ is_reached me.who r0 b

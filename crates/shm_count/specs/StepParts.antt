@@ -36,11 +36,13 @@ use Rattle.shm_count.specs.declared.point.Aim.{Aim}
 use Rattle.shm_count.specs.declared.point.Aim.TheVariants.{Up, Down, Change}
 use Rattle.shm_count.specs.declared.point.Part.TheVariants.{First, Second}
 use Rattle.shm_count.specs.StepControl.{redo_at, value_before, value_after, header_after}
-use Rattle.shm_count.specs.StepCores.{body_word, is_set, HasSlot}
+use Rattle.shm_steps.proofs.Cores.{body_word, HasSlot}
+use Rattle.shm_count.specs.StepCores.{is_set}
 use Rattle.shm_graph.specs.declared.memo.Status.{Status as AStatus}
 use Rattle.shm_graph.specs.declared.memo.Making.{Making}
 use Rattle.shm_count.specs.TearMemos.{is_lasting}
-use Rattle.shm_count.specs.StepFits.{AtFirst, Done, core, is_row, begun, set_memo, slot_memo, closed_memo}
+use Rattle.shm_graph.specs.Core.{core}
+use Rattle.shm_count.specs.StepFits.{AtFirst, Done, is_row, begun, set_memo, slot_memo, closed_memo}
 use Rattle.shm_count.specs.StepMemos.{closed_part}
 
 -- the partition after a step at a word, as the memo's change computes it
@@ -267,7 +269,7 @@ closed_rest me e m = (
 )
 
 -- an own word that lasts stays in the first half
-first_own : (me : Me) (slot : ℕ) (x : Aim) (p : Spot) (m q : Memo) (e : ℕ) → AtFirst me slot x p m q e → (s : Spot) → is_lasting me.who s ≡ true → own_word q.own s ≡ own_word m.own s
+pub first_own : (me : Me) (slot : ℕ) (x : Aim) (p : Spot) (m q : Memo) (e : ℕ) → AtFirst me slot x p m q e → (s : Spot) → is_lasting me.who s ≡ true → own_word q.own s ≡ own_word m.own s
 first_own me slot x p m q e first s l =
     let not_it = lasting_not me.who s l in
     first.1.own s not_it.1 ∙ ap (λ z. cond z (redo_word (redo_at x slot e)) (own_word m.own s)) not_it.2

@@ -44,8 +44,11 @@ use Rattle.shm_count.specs.declared.point.StepPoint.TheVariants.{Era, Redo, Row,
 use Rattle.shm_count.specs.declared.point.StepPoint.TheVariants as point
 use Rattle.shm_count.specs.declared.point.Next.TheVariants.{Point, Answer}
 use Rattle.shm_count.specs.StepControl.{last_era, block_at, redo_at, row_address, step_ask_at, step_next_at, PointFits}
-use Rattle.shm_count.specs.StepFits.{HasPut, CanStep, core, begun_op, Rows, begun, HasRead, InHalf, PointHolds, NextHolds}
-use Rattle.shm_count.specs.StepMemos.{rows_same, row_raised, recovers_after, called_core, era_core, era_counts, era_facts, header_core, half_then, half_same, half_status, here_same, read_same, era_room}
+use Rattle.shm_graph.specs.Core.{core}
+use Rattle.shm_count.specs.StepFits.{HasPut, CanStep, begun_op, Rows, begun, HasRead, InHalf, PointHolds, NextHolds}
+use Rattle.shm_graph.proofs.MemoSteps.{recovers_on}
+use Rattle.shm_steps.proofs.Cores.{called_core, era_core, era_counts, era_facts, header_core, here_same}
+use Rattle.shm_count.specs.StepMemos.{rows_same, row_raised, half_then, half_same, read_same, era_room, half_status}
 use Rattle.shm_count.specs.StepHeaders.{half_block, header_has, header_found}
 use Rattle.shm_count.specs.StepBeginning.{can_on, begins_here}
 
@@ -109,7 +112,7 @@ era_step me slot x p r0 w r f tr st can fits h =
     (spot-place me.geometry (classes w) (place.Era c c) (and_from _ _ inside inside)) refl tt
     (choice (NextHolds me slot x p r0 m) (ltb (last_era x) n) (Answer (Err (EraSpent n))) (Point (Redo n))
     (λ z. (same, own, ltb-true (last_era x) n z))
-    (λ z. record { agent = recovers_after (r c) (framed me (Load at) f n) s ∙ h.agent; has = (same, own, era_put me x p w r f h.has.1) }))
+    (λ z. record { agent = recovers_on (r c) (framed me (Load at) f n) s ∙ h.agent; has = (same, own, era_put me x p w r f h.has.1) }))
 
 -- ---- the redo record
 
@@ -137,7 +140,7 @@ redo_step me slot x p r0 w r f tr e st going can fits h =
     ∙ ap (λ o. core (record r0 { own = record { spot = s; value = v } ∷ r0.own; op = o })) began in
     kept_going me w r a f (λ n r'. NextHolds me slot x p r0 r' (step_next_at me x (Redo e) n)) s going i
     (redo_stored me w r f tr at v st going i (subst (λ y. BeginStep g w (view r) c y (op_begun g c m y)) spells begins.0))
-    (record { agent = recovers_after m t s ∙ h.agent; has = (h.has.1, rows_same c (begun me slot x p e r0) m' core_now) })
+    (record { agent = recovers_on m t s ∙ h.agent; has = (h.has.1, rows_same c (begun me slot x p e r0) m' core_now) })
 
 -- ---- the header
 
@@ -157,7 +160,7 @@ load_step me slot x p r0 w r f tr e h st going can fits k =
     let read : HasRead c me.geometry.clients m' n = header_has me slot p r0 w r e st.held st.who x h m' can fits.0 fits.1 k.has (0, omega arith, refl) in
     kept_going me w r a f (λ n r'. NextHolds me slot x p r0 r' (step_next_at me x (point.Load e h) n)) s going i
     (header_loaded me w r f tr b b st i)
-    (header_found me slot p r0 m m' e n x h can fits.0 fits.1 k.agent k.has (recovers_after m t s ∙ k.agent) (header_core me a (record f { fresh = false }) m b n true) read)
+    (header_found me slot p r0 m m' e n x h can fits.0 fits.1 k.agent k.has (recovers_on m t s ∙ k.agent) (header_core me a (record f { fresh = false }) m b n true) read)
 
 -- ---- the own row
 
@@ -179,7 +182,7 @@ row_step me slot x p r0 w r f tr e h w0 st going can fits k =
     let same : core m' ≡ core m = era_core me f m at c j n in
     let now : InHalf me slot x p r0 m' e h = half_same me slot x p r0 m m' e h same half in
     let read : HasRead c me.geometry.clients m' w0 = read_same c me.geometry.clients m m' w0 (era_facts me f m at c j n (HeaderRead w0) going) has in
-    let agent : recovers m' ≡ recovers r0 = recovers_after m t s ∙ k.agent in
+    let agent : recovers m' ≡ recovers r0 = recovers_on m t s ∙ k.agent in
     let own : own_word m'.own s ≡ n = ap (λ (y : Memo). own_word y.own s) same ∙ row_same me w r f tr j st in
     load_kept me w r f tr at (λ n r'. NextHolds me slot x p r0 r' (step_next_at me x (Row e h w0) n)) s st (row_spot me w j st.who has.client) refl tt
     (choice (NextHolds me slot x p r0 m') (ltb n (header_of w0).era) (Point (Show e h w0)) (Point (Exchange e h w0))
@@ -219,6 +222,6 @@ show_step me slot x p r0 w r f tr e h w0 st going can fits k =
       read = (w0, has.fact, has.live, refl, omega arith);
     }))
     (record {
-      agent = recovers_after m t s ∙ k.agent;
+      agent = recovers_on m t s ∙ k.agent;
       has = (half_then me slot x p r0 m m' e h row half, read_same c me.geometry.clients m m' w0 (λ y. stored (λ z. Contains z.facts (HeaderRead w0)) y) has, λ _. omega arith);
     })

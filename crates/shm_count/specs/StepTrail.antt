@@ -7,11 +7,12 @@ use Rattle.shm_words.specs.Redos.{redo_word}
 use Rattle.shm_graph.specs.declared.ask.Ask.TheVariants.{Load, Store, Exchange}
 use Rattle.shm_graph.specs.declared.ask.Me.{Me}
 use Rattle.shm_graph.specs.Asks.{Trail}
+use Rattle.shm_graph.specs.Bounds.{up_steps, down_steps, change_steps}
 use Rattle.shm_graph.specs.Trails.{Answers, Asked, Chosen}
 use Rattle.shm_count.specs.declared.answer.UpFault.{UpFault}
 use Rattle.shm_count.specs.declared.answer.UpFault.TheVariants.{EraSpent, CountFull}
 use Rattle.shm_count.specs.declared.point.Aim.{Aim}
-use Rattle.shm_count.specs.declared.point.Aim.TheVariants.{Change}
+use Rattle.shm_count.specs.declared.point.Aim.TheVariants.{Up, Down, Change}
 use Rattle.shm_count.specs.StepControl.{last_era, block_at, raises, value_after, redo_at, count_after, row_address}
 use Rattle.shm_count.specs.declared.point.Part.{Part}
 use Rattle.shm_count.specs.declared.point.Part.TheVariants.{First, Second}
@@ -108,5 +109,6 @@ point_trail me slot x point.Over = λ tr a. ⊥
 
 -- how many word steps a count step takes, but for what is tried again
 abbrev pub steps_of : Aim → ℕ
-steps_of (Change a b) = 13
-steps_of x = 8
+steps_of (Up b) = up_steps
+steps_of (Down b) = down_steps
+steps_of (Change a b) = change_steps

@@ -28,8 +28,8 @@ use Rattle.shm_steps.specs.Reading.{IsCovered}
 use Rattle.shm_steps.specs.Walking.{Reads}
 use Rattle.shm_steps.proofs.TableWords.{one_more_role, role_new}
 use Rattle.shm_steps.proofs.BlockReads.{told_called}
-use Rattle.shm_count.specs.StepFits.{core}
-use Rattle.shm_count.specs.StepMemos.{called_core}
+use Rattle.shm_graph.specs.Core.{core}
+use Rattle.shm_steps.proofs.Cores.{called_core}
 
 -- ---- under a latch each claim of reference words tells an author
 

@@ -22,8 +22,8 @@ use Rattle.shm_graph.proofs.Calling.{called_part}
 use Rattle.shm_graph.proofs.Loads.{choice}
 use Rattle.shm_count.specs.declared.tear_point.TearPoint.{TearPoint}
 use Rattle.shm_count.specs.declared.tear_point.TearPoint.TheVariants as point
-use Rattle.shm_count.specs.StepFits.{core}
-use Rattle.shm_count.specs.StepMemos.{called_core}
+use Rattle.shm_graph.specs.Core.{core}
+use Rattle.shm_steps.proofs.Cores.{called_core}
 use Rattle.shm_count.specs.TearControl.{word_or_free}
 use Rattle.shm_count.specs.TearEvents.{Visit}
 use Rattle.shm_count.specs.TearFits.{Settled, Linked, is_outside, IsPaid, TearHolds}
@@ -33,35 +33,12 @@ use Rattle.shm_count.specs.TearMemos.{Stays, Knows, IsTagged, Retains}
 -- ---- what stays
 
 pub stays_now : (c : ℕ) (m : Memo) → Stays c m m
-stays_now c m =
-    record {
-      status = refl;
-      op = refl;
-      latch = refl;
-      making = refl;
-      owned = refl;
-      sent = refl;
-      unsent = refl;
-      received = refl;
-      untaken = refl;
-      part = refl;
-      own = λ p e. refl;
-      rows = λ j. omega arith;
-    }
+stays_now c m = record { rest = refl; own = λ p e. refl; rows = λ j. omega arith }
 
 pub stays_then : (c : ℕ) (m n r : Memo) → Stays c m n → Stays c n r → Stays c m r
 stays_then c m n r x y =
     record {
-      status = y.status ∙ x.status;
-      op = y.op ∙ x.op;
-      latch = y.latch ∙ x.latch;
-      making = y.making ∙ x.making;
-      owned = y.owned ∙ x.owned;
-      sent = y.sent ∙ x.sent;
-      unsent = y.unsent ∙ x.unsent;
-      received = y.received ∙ x.received;
-      untaken = y.untaken ∙ x.untaken;
-      part = y.part ∙ x.part;
+      rest = y.rest ∙ ap (λ (z : Memo). record z { own = r.own; dying = r.dying; known = r.known; looks = r.looks; values = r.values }) x.rest;
       own = λ p e. y.own p e ∙ x.own p e;
       rows = λ j. let a = x.rows j in let b = y.rows j in omega arith;
     }
@@ -71,16 +48,7 @@ pub stays_core : (c : ℕ) (m n : Memo) (ks : List Stored) (ds : List ℕ) → c
 stays_core c m n ks ds e =
     let own : n.own ≡ m.own = ap (λ (x : Memo). x.own) e in
     record {
-      status = ap (λ (x : Memo). x.status) e;
-      op = ap (λ (x : Memo). x.op) e;
-      latch = ap (λ (x : Memo). x.latch) e;
-      making = ap (λ (x : Memo). x.making) e;
-      owned = ap (λ (x : Memo). x.owned) e;
-      sent = ap (λ (x : Memo). x.sent) e;
-      unsent = ap (λ (x : Memo). x.unsent) e;
-      received = ap (λ (x : Memo). x.received) e;
-      untaken = ap (λ (x : Memo). x.untaken) e;
-      part = ap (λ (x : Memo). x.part) e;
+      rest = e ∙ sym (ap (λ (z : Memo). core (record m { own = z.own; dying = z.dying; known = z.known; looks = z.looks; values = z.values })) e);
       own = λ p l. ap (λ (s : List Stored). own_word s p) own;
       rows = λ j. subst (λ (s : List Stored). own_word m.own (Era c j) ≤ own_word s (Era c j)) (sym own) (omega arith);
     }

@@ -1,5 +1,6 @@
 -- what a tear-down does to the graph of references
-use Rattle.std.specs.Prelude.{◌≡◌, ℕ, ◌+◌, ◌≤◌, List, [], ◌∷◌, ◌++◌}
+use Rattle.std.specs.Prelude.{◌≡◌, ℕ, ◌+◌, ◌≤◌, ◌⊎◌, List, [], ◌∷◌, ◌++◌, map}
+use Rattle.std.specs.List.{Contains}
 use Rattle.shm_graph.specs.declared.ask.Me.{Me}
 use Rattle.shm_graph.specs.declared.spot.Spot.TheVariants.{Body}
 use Rattle.shm_graph.specs.Events.{Event}
@@ -61,3 +62,13 @@ freed_by x = 0
 abbrev pub frees : List Event → ℕ
 frees [] = 0
 frees (x ∷ es) = freed_by x + frees es
+
+-- One of the events of a tear-down of block b by c: a block that is freed among them loses a reference, or b itself is freed, or a block that lost a reference among them
+abbrev pub IsTearing : ℕ → ℕ → List Event → Event → Type 0
+IsTearing c b es (event.Down k (Body d i) t) = (k ≡ c) × Contains es (event.Free c d)
+IsTearing c b es (event.Free k d) = (k ≡ c) × ((d ≡ b) ⊎ ((e : ℕ) × (i : ℕ) × Contains es (event.Down c (Body e i) d)))
+IsTearing c b es e = ⊥
+
+-- the freeing of each of these blocks
+abbrev pub frees_of : ℕ → List Visit → List Event
+frees_of c vs = map (λ (v : Visit). event.Free c v.block) vs

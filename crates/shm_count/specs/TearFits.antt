@@ -8,6 +8,7 @@ use Rattle.shm_graph.specs.declared.spot.Spot.TheVariants.{Era, Body}
 use Rattle.shm_graph.specs.declared.memo.Memo.{Memo}
 use Rattle.shm_graph.specs.declared.memo.Op.TheVariants as op
 use Rattle.shm_graph.specs.Asks.{Trail, failed, IsWithin}
+use Rattle.shm_graph.specs.Bounds.{tear_steps}
 use Rattle.shm_graph.specs.Agents.{recovers}
 use Rattle.shm_graph.specs.Events.{Event}
 use Rattle.shm_graph.specs.Stores.{not_block}
@@ -166,7 +167,7 @@ pub record Torn (me : Me) (first : ℕ) (r0 r : Memo) (es : List Event) (tr : Tr
   pub retains : Retains me.who r0 r
   pub others : r.dying ≡ filter (not_block first) r0.dying
   pub walks : Walks me.who first es []
-  pub bound : IsWithin (164 * frees es) tr
+  pub bound : IsWithin (tear_steps (frees es)) tr
 
 -- the own era left no room for a step down, and these blocks, the innermost first, are still zero-count blocks: the events are those of a walk that has to go on with them
 pub record TornPartly (me : Me) (first : ℕ) (r0 r : Memo) (es : List Event) (tr : Trail) (era : ℕ) (vs : List Visit) : Type 0 where
@@ -177,7 +178,7 @@ pub record TornPartly (me : Me) (first : ℕ) (r0 r : Memo) (es : List Event) (t
   pub left : All (λ v. Contains r.dying v.block) vs
   pub others : filter (is_outside vs) r.dying ≡ filter (not_block first) r0.dying
   pub walks : Walks me.who first es vs
-  pub bound : IsWithin (164 * (frees es + length vs)) tr
+  pub bound : IsWithin (tear_steps (frees es + length vs)) tr
   pub spent : era ≡ own_word r.own (Era me.who me.who)
   pub last : 2 ^ 47 - 3 < era
 

@@ -33,12 +33,12 @@ use Rattle.shm_count.specs.declared.point.Next.TheVariants as next
 use Rattle.shm_count.specs.declared.tear_point.TearPoint.TheVariants as point
 use Rattle.shm_count.specs.StepControl.{step_ask_at, step_next_at, is_over}
 use Rattle.shm_count.specs.StepEvents.{step_event_at, events_at}
-use Rattle.shm_count.specs.StepFits.{CanStep, core, Done, Refused, PointHolds}
+use Rattle.shm_count.specs.StepFits.{CanStep, Done, Refused, PointHolds}
 use Rattle.shm_count.specs.StepFits as fits
 use Rattle.shm_count.specs.StepGoing.{has_part, events_with, Told, told_next}
 use Rattle.shm_count.specs.StepKeeps.{step_at}
 use Rattle.shm_count.specs.Retaining.{named_counted, named_stays, retains_core, retains_then}
-use Rattle.shm_count.specs.StepMemos.{recovers_after}
+use Rattle.shm_graph.proofs.MemoSteps.{recovers_on}
 use Rattle.shm_count.specs.TearControl.{word_address, word_or_free, down_next, lowered_next, TearPointFits}
 use Rattle.shm_count.specs.TearCores.{stays_then, stays_core, on_words}
 use Rattle.shm_count.specs.TearEvents.{Visit, frees, Walks}
@@ -211,7 +211,7 @@ module _ (me : Me) (first : ℕ) (r0 : Memo) (b k : ℕ) (vs : List Visit) (g : 
   answered alive (next.Point y2) e told all may h = on_holds y2 e (all ∙ ap (λ x. es ++ x) told) may h
   answered alive (next.Answer (Ok z)) e told all may h =
       done z e (all ∙ ap (λ x. es ++ x) told)
-      (down_leaves me slot b i t m m2 z (let u = can.geometry.clients in let l = can.who in omega arith) found.era (a.settled.stays.op ∙ can.idle) a.settled.visited.dying found h)
+      (down_leaves me slot b i t m m2 z (let u = can.geometry.clients in let l = can.who in omega arith) found.era (ap (λ (x : Memo). x.op) a.settled.stays.rest ∙ can.idle) a.settled.visited.dying found h)
     where
       done : (z : Bool) → step_next_at me (aims.Down t) y n ≡ next.Answer (Ok z) → es2 ≡ es ++ event.Down c (Body b i) t ∷ [] → Lowered c b i t z m m2 → NextHolds me first r0 b (lowered_next b g i t (Ok z)) m2 es2 tr2
       done true q o low = fell_holds q o low alive
@@ -232,7 +232,7 @@ down_step me first r0 b g i t y w r f tr es st going runs can fits (k, vs, m, be
       told = kept.told;
       step = kept.step;
       fits = answered me first r0 b k vs g i t y m m2 before (es ++ filter is_event (step_event_at me (aims.Down t) (Body b i) y n ∷ [])) tr n can runs a
-          (recovers_after (r me.who) (framed me ask f n) s ∙ (holds.agent ∙ a.settled.agent))
+          (recovers_on (r me.who) (framed me ask f n) s ∙ (holds.agent ∙ a.settled.agent))
           (λ d u named dies. named_counted me.geometry (words_after w ask s) (at1 r me.who m2) me.who d u kept.step.held st.who (subst (λ (x : Memo). is_named me.who x d ≡ true) (sym (at1_here r me.who m2)) named) (subst (λ (x : Memo). Contains x.dying u) (sym (at1_here r me.who m2)) dies))
           (step_next_at me (aims.Down t) y n) refl
           (told_next me (aims.Down t) (Body b i) y n (has_part me (aims.Down t) y fits.3))

@@ -4,6 +4,7 @@ use Rattle.std.specs.List.{Contains, filter}
 use Rattle.shm_words.specs.declared.tag.Tag.{Tag as ATag}
 use Rattle.shm_words.specs.Tags.{tag_word, TagFits}
 use Rattle.shm_words.specs.Layout.{total_of}
+use Rattle.shm_graph.specs.Core.{core}
 use Rattle.shm_graph.specs.declared.ask.Me.{Me}
 use Rattle.shm_graph.specs.declared.spot.Spot.{Spot}
 use Rattle.shm_graph.specs.declared.spot.Spot.TheVariants.{Redo, Home, Era, Tag, Body}
@@ -26,16 +27,7 @@ is_lasting c p = true
 
 -- nothing of the identity changed but its zero-count blocks, what it knows and has read, its redo record and its row, which grew
 pub record Stays (c : ℕ) (m r : Memo) : Type 0 where
-  pub status : r.status ≡ m.status
-  pub op : r.op ≡ m.op
-  pub latch : r.latch ≡ m.latch
-  pub making : r.making ≡ m.making
-  pub owned : r.owned ≡ m.owned
-  pub sent : r.sent ≡ m.sent
-  pub unsent : r.unsent ≡ m.unsent
-  pub received : r.received ≡ m.received
-  pub untaken : r.untaken ≡ m.untaken
-  pub part : r.part ≡ m.part
+  pub rest : core r ≡ core (record m { own = r.own; dying = r.dying; known = r.known; looks = r.looks; values = r.values })
   pub own : (p : Spot) → is_lasting c p ≡ true → own_word r.own p ≡ own_word m.own p
   pub rows : (j : ℕ) → own_word m.own (Era c j) ≤ own_word r.own (Era c j)
 

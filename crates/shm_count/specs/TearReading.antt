@@ -33,7 +33,7 @@ use Rattle.shm_count.specs.declared.tear_point.TearPoint.TheVariants as point
 use Rattle.shm_count.specs.declared.tear_point.TearNext.TheVariants.{Go}
 use Rattle.shm_count.specs.DyingBlocks.{dying_tag, dying_tag_spot}
 use Rattle.shm_count.specs.Retaining.{retains_core, slots_learnt}
-use Rattle.shm_count.specs.StepMemos.{recovers_after}
+use Rattle.shm_graph.proofs.MemoSteps.{recovers_on}
 use Rattle.shm_count.specs.TearControl.{or_empty, tag_read, word_or_free, entered_next, tear_ask_at, tear_next_at}
 use Rattle.shm_count.specs.TearCores.{stays_core, tag_core, settled_same, on_words}
 use Rattle.shm_count.specs.TearEvents.{Visit, tear_event_at}
@@ -101,7 +101,7 @@ module _ (me : Me) (first : ℕ) (r0 : Memo) (b k : ℕ) (vs : List Visit) (w : 
   settled =
       settled_same me first b k vs r0 m m2 es s (stays_core me.who m m2 (learnt (Tag b) n m.known) m.dying (tag_core me f m (b + 1) b n))
       (retains_core me.who m m2 (learnt (Tag b) n m.known) m.dying (tag_core me f m (b + 1) b n) (slots_learnt (Tag b) n m.known refl) (λ d p x e o k. known_still p x k)) same
-      (recovers_after m (framed me (Load (b + 1)) f n) (Tag b))
+      (recovers_on m (framed me (Load (b + 1)) f n) (Tag b))
       (λ j l. known_still (Body b j) 0 (s.visited.zeros j l))
 
   linked : (l : ℕ) → Linked me m l vs → Linked me m2 l vs

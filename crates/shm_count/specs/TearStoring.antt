@@ -31,9 +31,10 @@ use Rattle.shm_steps.proofs.DyingSteps.{frees, links}
 use Rattle.shm_steps.proofs.KeptAfter.{kept_with}
 use Rattle.shm_count.specs.declared.tear_point.TearPoint.TheVariants as point
 use Rattle.shm_count.specs.declared.tear_point.TearNext.TheVariants.{Go, Answer}
-use Rattle.shm_count.specs.StepFits.{core}
+use Rattle.shm_graph.specs.Core.{core}
 use Rattle.shm_count.specs.Retaining.{retains_core, retains_then, slots_learnt, slots_forgotten, named_counted}
-use Rattle.shm_count.specs.StepMemos.{recovers_after, here_same}
+use Rattle.shm_graph.proofs.MemoSteps.{recovers_on}
+use Rattle.shm_steps.proofs.Cores.{here_same}
 use Rattle.shm_count.specs.TearControl.{word_or_free, freed_next}
 use Rattle.shm_count.specs.TearCores.{stays_then, stays_core, link_core, free_core, settled_same, on_words}
 use Rattle.shm_count.specs.TearEvents.{Visit}
@@ -46,10 +47,10 @@ use Rattle.shm_count.specs.TearMemos.{Stays, Retains, IsTagged}
 
 -- no step is in progress at the points beside those of a step down
 is_idle : (me : Me) (first : ℕ) (r0 m : Memo) → CanTear me first r0 → Stays me.who r0 m → m.op ≡ op.Nothing
-is_idle me first r0 m can stays = stays.op ∙ can.idle
+is_idle me first r0 m can stays = ap (λ (x : Memo). x.op) stays.rest ∙ can.idle
 
 is_here : (me : Me) (first : ℕ) (r0 m : Memo) → CanTear me first r0 → Stays me.who r0 m → IsHere m
-is_here me first r0 m can stays = here_same r0 m stays.status can.here
+is_here me first r0 m can stays = here_same r0 m (ap (λ (x : Memo). x.status) stays.rest) can.here
 
 -- ---- a link
 
@@ -105,7 +106,7 @@ module _ (me : Me) (first : ℕ) (r0 : Memo) (b : ℕ) (vs : List Visit) (g : AT
       settled_same me first b 0 vs r0 m m2 es a.settled (stays_core me.who m m2 (learnt (Tag b) x m.known) m.dying cored)
       (retains_core me.who m m2 (learnt (Tag b) x m.known) m.dying cored (slots_learnt (Tag b) x m.known refl)
       (λ d p y named o k. knows_other m m2 (Tag b) x learns p y (same_spot_not (Tag b) p (λ z. named_counted me.geometry w r me.who d b st.held st.who named a.settled.visited.dying (sym (eqb-true b d (ap (is_of d) z ∙ o))))) k)) same
-      (recovers_after m (framed me (Store (b + 1) x) f 0) (Tag b))
+      (recovers_on m (framed me (Store (b + 1) x) f 0) (Tag b))
       (λ j l. absurd (omega arith))
 
   linked : Linked me m2 g.link vs
@@ -175,7 +176,7 @@ module _ (me : Me) (first : ℕ) (r0 : Memo) (b k : ℕ) (g : ATag) (w : Spot �
   last_holds a =
       subst (λ z. NextHolds me first r0 b (if z == 0 then Answer (Ok tt) else Go z point.Return) free_memo free_events free_trail) (sym a.shows.1)
       (record {
-        agent = recovers_after m' (framed me (Store b 0) f 0) (Head b) ∙ a.settled.agent;
+        agent = recovers_on m' (framed me (Store b 0) f 0) (Head b) ∙ a.settled.agent;
         stays = free_stays a.settled.stays;
         retains = free_retains a.settled.visited.dying a.settled.stays a.settled.retains;
         others = frees_dying ∙ others_last b k m'.dying _ a.settled.others;
@@ -197,7 +198,7 @@ module _ (me : Me) (first : ℕ) (r0 : Memo) (b k : ℕ) (g : ATag) (w : Spot �
         vs,
         record {
           settled = (record {
-            agent = recovers_after m' (framed me (Store b 0) f 0) (Head b) ∙ a.settled.agent;
+            agent = recovers_on m' (framed me (Store b 0) f 0) (Head b) ∙ a.settled.agent;
             stays = free_stays a.settled.stays;
             retains = free_retains a.settled.visited.dying a.settled.stays a.settled.retains;
             visited = visited_kept me m' free_memo v here link.1;

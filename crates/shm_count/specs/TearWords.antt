@@ -40,9 +40,11 @@ use Rattle.shm_count.specs.declared.point.StepPoint.TheVariants as step
 use Rattle.shm_count.specs.declared.tear_point.TearPoint.TheVariants as point
 use Rattle.shm_count.specs.declared.tear_point.TearNext.TheVariants.{Go}
 use Rattle.shm_count.specs.DyingBlocks.{dying_spot, dying_target, dying_part}
-use Rattle.shm_count.specs.StepFits.{core, CanStep}
+use Rattle.shm_graph.specs.Core.{core}
+use Rattle.shm_count.specs.StepFits.{CanStep}
 use Rattle.shm_count.specs.Retaining.{retains_core, slots_learnt}
-use Rattle.shm_count.specs.StepMemos.{room_least, recovers_after, here_same}
+use Rattle.shm_graph.proofs.MemoSteps.{recovers_on}
+use Rattle.shm_steps.proofs.Cores.{room_least, here_same}
 use Rattle.shm_count.specs.TearControl.{word_address, word_or_free, word_next}
 use Rattle.shm_count.specs.TearCores.{stays_core, word_core, settled_same, on_words}
 use Rattle.shm_count.specs.TearEvents.{Visit}
@@ -90,7 +92,7 @@ module _ (me : Me) (first : ℕ) (r0 : Memo) (b k : ℕ) (vs : List Visit) (g : 
   tag = a.shows.0
 
   idle : m.op ≡ op.Nothing
-  idle = a.settled.stays.op ∙ can.idle
+  idle = ap (λ (x : Memo). x.op) a.settled.stays.rest ∙ can.idle
 
   here : at ≡ b + 2 + i
   here = word_address_is me b i can.geometry (let l = tag.room in let u = a.shows.2 in omega arith)
@@ -135,7 +137,7 @@ module _ (me : Me) (first : ℕ) (r0 : Memo) (b k : ℕ) (vs : List Visit) (g : 
   settled =
       settled_same me first b k vs r0 m m2 es a.settled (stays_core c m m2 (learnt (Body b i) n m.known) m.dying cored)
       (retains_core c m m2 (learnt (Body b i) n m.known) m.dying cored (slots_learnt (Body b i) n m.known refl) (λ d p x e o h. known_still p x h)) same
-      (recovers_after m (framed me (Load at) f n) (Body b i))
+      (recovers_on m (framed me (Load at) f n) (Body b i))
       (λ j l. known_still (Body b j) 0 (a.settled.visited.zeros j l))
 
   linked : Linked me m2 g.link vs
@@ -216,7 +218,7 @@ module _ (me : Me) (first : ℕ) (r0 : Memo) (b k : ℕ) (vs : List Visit) (g : 
   may_step some =
       let y = found some in
       let own : m2.op ≡ op.Nothing = ap (λ (x : Memo). x.op) cored ∙ idle in
-      let is : IsHere m2 = here_same r0 m2 settled.stays.status can.here in
+      let is : IsHere m2 = here_same r0 m2 (ap (λ (x : Memo). x.status) settled.stays.rest) can.here in
       record {
         geometry = can.geometry;
         who = st.who;

@@ -1,9 +1,10 @@
 //! How many word steps a count step and a tear-down make.
 
-ghost use Rattle.std.specs.Prelude.{ℕ, ◌*◌, Bool, Result, Ok};
+ghost use Rattle.std.specs.Prelude.{ℕ, Bool, Result, Ok};
 ghost use Rattle.shm_graph.specs.declared.memo.Memo.{Memo as AMemo};
 ghost use Rattle.shm_graph.specs.declared.spot.Spot.{Spot as ASpot};
 ghost use Rattle.shm_graph.specs.Asks.{Trail, IsWithin};
+ghost use Rattle.shm_graph.specs.Bounds.{tear_steps};
 ghost use Rattle.shm_count.specs.declared.answer.UpFault.{UpFault as AFault};
 ghost use Rattle.shm_count.specs.declared.point.StepState.{StepState as AState};
 ghost use Rattle.shm_count.specs.StepFits.{StepGives};
@@ -21,5 +22,5 @@ pub fn step_bound()
 
 /// A tear-down that is done took at most 164 word steps for each block that it freed, and three more for each exchange that failed.
 pub fn tear_bound()
-    ensures { (m : ATearState) (r0 r : AMemo) (tr : Trail) → TearGives m r0 r tr (Ok tt) → IsWithin (164 * frees (happens_along tear_control tear_event (tear_start m) tr)) tr }
+    ensures { (m : ATearState) (r0 r : AMemo) (tr : Trail) → TearGives m r0 r tr (Ok tt) → IsWithin (tear_steps (frees (happens_along tear_control tear_event (tear_start m) tr))) tr }
 {}

@@ -1,21 +1,33 @@
 //! What count steps and tear-downs leave of their agent, of the status and of what is known.
 
-ghost use Rattle.std.specs.Prelude.{◌≡◌, true, false, Bool, Result};
+ghost use Rattle.std.specs.Prelude.{◌≡◌, ◌≢◌, ◌⊎◌, ◌<◌, ◌^◌, ◌++◌, ◌∷◌, [], if◌then◌else◌, ℕ, true, false, Bool, Result, Ok, Err};
+ghost use Rattle.std.specs.List.{Contains};
 ghost use Rattle.shm_graph.specs.declared.memo.Memo.{Memo as AMemo};
 ghost use Rattle.shm_graph.specs.declared.spot.Spot.{Spot as ASpot};
+ghost use Rattle.shm_graph.specs.declared.spot.Spot.TheVariants as spots;
 ghost use Rattle.shm_graph.specs.Asks.{Trail};
+ghost use Rattle.shm_graph.specs.Held.{is_slot};
+ghost use Rattle.shm_graph.specs.Reach.{is_named};
+ghost use Rattle.shm_graph.specs.Stores.{is_of};
+ghost use Rattle.shm_graph.specs.Views.{own_word};
 ghost use Rattle.shm_calls.specs.Grown.{Grows, grown};
 ghost use Rattle.shm_calls.specs.Parts.{PartLaws};
 ghost use Rattle.shm_count.specs.declared.answer.EraSpent.{EraSpent as ASpent};
 ghost use Rattle.shm_count.specs.declared.answer.UpFault.{UpFault as AFault};
+ghost use Rattle.shm_count.specs.declared.answer.UpFault.TheVariants.{EraSpent, CountFull};
+ghost use Rattle.shm_count.specs.declared.point.Aim.TheVariants.{Down};
+ghost use Rattle.shm_count.specs.declared.point.Part.TheVariants.{First};
 ghost use Rattle.shm_count.specs.declared.point.StepState.{StepState as AState};
 ghost use Rattle.shm_count.specs.declared.tear_point.TearState.{TearState as ATearState};
-ghost use Rattle.shm_count.specs.MadeSteps.{made_up_part, tear_making};
+ghost use Rattle.shm_count.specs.MadeSteps.{change_making, down_making, made_up_part, tear_making, up_making};
+ghost use Rattle.shm_count.specs.Refusing.{ReadsCount};
+ghost use Rattle.shm_count.specs.StepControl.{last_era, block_at, raises};
 ghost use Rattle.shm_count.specs.StepFits.{StepGives};
-ghost use Rattle.shm_count.specs.StepMachines.{up_control};
+ghost use Rattle.shm_count.specs.StepControl.{step_control};
+ghost use Rattle.shm_count.specs.StepMachines.{down_control, up_control};
 ghost use Rattle.shm_count.specs.TearControl.{tear_control};
 ghost use Rattle.shm_count.specs.TearFits.{TearGives};
-ghost use Rattle.shm_count.specs.TearMemos.{Retains};
+ghost use Rattle.shm_count.specs.TearMemos.{Knows, Retains, is_lasting};
 
 /// Whatever a count step answers, the status and the agent are what they were, and what was read of tails and heads stays.
 pub fn step_lasts()
@@ -28,6 +40,33 @@ pub fn tear_lasts()
     ensures { (m : ATearState) (r0 r : AMemo) (tr : Trail) (a : Result (Unit {0}) ASpent) → TearGives m r0 r tr a → Retains m.me.who r0 r × Grows true r0 r }
 {}
 
+/// Whatever a tear-down answers, the same blocks are named by the own roots, the own home and known head slots as before, and of these
+/// blocks each word that was known is known, and each value block is one; head slots stay known; the looks are as before, or there are none.
+pub fn tear_retains()
+    ensures named { (m : ATearState) (r0 r : AMemo) (tr : Trail) (a : Result (Unit {0}) ASpent) → TearGives m r0 r tr a → (b : ℕ) → is_named m.me.who r b ≡ is_named m.me.who r0 b }
+    ensures words { (m : ATearState) (r0 r : AMemo) (tr : Trail) (a : Result (Unit {0}) ASpent) → TearGives m r0 r tr a → (b : ℕ) (p : ASpot) (x : ℕ) → is_named m.me.who r0 b ≡ true → is_of b p ≡ true → Knows r0 p x → Knows r p x }
+    ensures values { (m : ATearState) (r0 r : AMemo) (tr : Trail) (a : Result (Unit {0}) ASpent) → TearGives m r0 r tr a → (b : ℕ) → is_named m.me.who r0 b ≡ true → Contains r0.values b → Contains r.values b }
+    ensures slots { (m : ATearState) (r0 r : AMemo) (tr : Trail) (a : Result (Unit {0}) ASpent) → TearGives m r0 r tr a → (p : ASpot) (x : ℕ) → is_slot p ≡ true → Knows r0 p x → Knows r p x }
+    ensures looks { (m : ATearState) (r0 r : AMemo) (tr : Trail) (a : Result (Unit {0}) ASpent) → TearGives m r0 r tr a → (r.looks ≡ r0.looks) ⊎ (r.looks ≡ []) }
+{}
+
+/// A step down that is done at an own root leaves it empty, and its block joins the zero-count blocks where its count came to 0; of the
+/// other blocks that are named still each word that was known is known, and each value block is one; head slots stay known.
+pub fn root_down_retains()
+    ensures root { (k t : ℕ) (m : AState) (r0 r : AMemo) (tr : Trail) (z : Bool) → StepGives (spots.Root m.me.who k) m r0 r tr (Ok z) → m.aim ≡ Down t → own_word r0.own (spots.Era m.me.who m.me.who) < 2 ^ 47 → (own_word r.own (spots.Root m.me.who k) ≡ 0) × (r.dying ≡ r0.dying ++ (if z then t ∷ [] else [])) }
+    ensures words { (k t : ℕ) (m : AState) (r0 r : AMemo) (tr : Trail) (z : Bool) → StepGives (spots.Root m.me.who k) m r0 r tr (Ok z) → m.aim ≡ Down t → own_word r0.own (spots.Era m.me.who m.me.who) < 2 ^ 47 → (b : ℕ) (p : ASpot) (x : ℕ) → is_named m.me.who r b ≡ true → (z ≡ true → b ≢ t) → is_of b p ≡ true → Knows r0 p x → Knows r p x }
+    ensures values { (k t : ℕ) (m : AState) (r0 r : AMemo) (tr : Trail) (z : Bool) → StepGives (spots.Root m.me.who k) m r0 r tr (Ok z) → m.aim ≡ Down t → own_word r0.own (spots.Era m.me.who m.me.who) < 2 ^ 47 → (b : ℕ) → is_named m.me.who r b ≡ true → Contains r0.values b → Contains r.values b }
+    ensures slots { (k t : ℕ) (m : AState) (r0 r : AMemo) (tr : Trail) (z : Bool) → StepGives (spots.Root m.me.who k) m r0 r tr (Ok z) → m.aim ≡ Down t → own_word r0.own (spots.Era m.me.who m.me.who) < 2 ^ 47 → (p : ASpot) (x : ℕ) → is_slot p ≡ true → Knows r0 p x → Knows r p x }
+{}
+
+/// A count step is refused as spent exactly with the own era that leaves no room, and nothing changed; and as full only where it raises
+/// the block, and a header of it that the call read shows 1,023: then but for the redo record and the own row no own word changed.
+pub fn step_refusals()
+    ensures spent { (p : ASpot) (m : AState) (r0 r : AMemo) (tr : Trail) (e : ℕ) → StepGives p m r0 r tr (Err (EraSpent e)) → (e ≡ own_word r0.own (spots.Era m.me.who m.me.who)) × (last_era m.aim < e) × (r.own ≡ r0.own) × (r.known ≡ r0.known) × (r.dying ≡ r0.dying) }
+    ensures full { (p : ASpot) (m : AState) (r0 r : AMemo) (tr : Trail) (b n : ℕ) → StepGives p m r0 r tr (Err (CountFull b n)) → (n ≡ 1023) × (b ≡ block_at m.aim First) × (raises m.aim First ≡ true) × ReadsCount b n tr }
+    ensures stays { (p : ASpot) (m : AState) (r0 r : AMemo) (tr : Trail) (b n : ℕ) → StepGives p m r0 r tr (Err (CountFull b n)) → (r.known ≡ r0.known) × (r.dying ≡ r0.dying) × ((q : ASpot) → is_lasting m.me.who q ≡ true → own_word r.own q ≡ own_word r0.own q) }
+{}
+
 /// A tear-down in a larger machine leaves all that was read, and the blocks that the call made, but for those that its events touch.
 pub fn tear_in_call()
     ensures { (first : Bool) → PartLaws first tear_control (grown first (tear_making first)) }
@@ -36,4 +75,11 @@ pub fn tear_in_call()
 /// A step up in a larger machine, at a block that the call made, is not refused as full.
 pub fn up_of_made()
     ensures { (p : ASpot) → PartLaws false up_control (made_up_part p) }
+{}
+
+/// A count step in a larger machine leaves all that was read, and the blocks that the call made, but for those that its events touch.
+pub fn step_in_call()
+    ensures up { (first : Bool) (p : ASpot) → PartLaws first up_control (grown first (up_making p first)) }
+    ensures down { (first : Bool) (p : ASpot) → PartLaws first down_control (grown first (down_making p first)) }
+    ensures change { (first : Bool) (p : ASpot) → PartLaws first step_control (grown first (change_making p first)) }
 {}

@@ -15,8 +15,14 @@ pub mod tear_point;
 
 pub use answer::{EraSpent, Made, UpFault};
 pub use bound::{step_bound, tear_bound};
-pub use events::{step_begins, step_events, tear_begins, tear_events};
-pub use lasting::{step_lasts, tear_in_call, tear_lasts, up_of_made};
+pub use events::{
+    step_begins, step_events, step_own_events, tear_begins, tear_done, tear_events,
+    tear_own_events, tear_stopped,
+};
+pub use lasting::{
+    root_down_retains, step_in_call, step_lasts, step_refusals, tear_in_call, tear_lasts,
+    tear_retains, up_of_made,
+};
 pub use step::{StepChange, StepDown, StepUp};
 pub use tear::TearDown;
 

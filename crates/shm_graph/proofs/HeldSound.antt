@@ -104,6 +104,7 @@ module _ (g : Geometry) (w : Spot → ℕ) (v : View) (h : HeldAt g w v) where
         dying = h.dying;
         making = h.making;
         blocks = h.blocks;
+        unused = h.unused;
         count = h.count;
         era = h.era;
         op = h.op;

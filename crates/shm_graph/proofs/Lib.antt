@@ -47,3 +47,6 @@ pub mod Claims
 pub mod LoadTold
 pub mod TellsAlong
 pub mod OwnEvents
+pub mod SoundStates
+pub mod CleanPools
+pub mod TurnsTaken

@@ -11,7 +11,7 @@ use Rattle.shm_graph.specs.declared.memo.Memo.{Memo}
 use Rattle.shm_graph.specs.declared.memo.Step.{Step}
 use Rattle.shm_graph.specs.Asks.{call_after}
 use Rattle.shm_graph.specs.Agents.{last_agent, with_last, acts_by, acts, recovers_by, recovers, is_recoverer, stepped, ended, fallen, died, entered, is_gone}
-use Rattle.shm_graph.specs.Changes.{memo_on}
+use Rattle.shm_graph.specs.Changes.{called, memo_on}
 use Rattle.shm_graph.specs.Runs.{fell_by}
 
 -- ---- the call
@@ -105,3 +105,18 @@ acts-entered k m = ap acts_by (last-append m.agents _)
 
 pub recovers-entered : (k : Kind) (m : Memo) → recovers (entered k m) ≡ is_recoverer k
 recovers-entered k m = ap recovers_by (last-append m.agents _)
+
+-- a step leaves its agent of the kind that it was of
+recovers_with : (f : Agent → Agent) → ((a : Agent) → (f a).kind ≡ a.kind) → (o : Option Agent) → recovers_by (with_some f o) ≡ recovers_by o
+recovers_with f same None = refl
+recovers_with f same (Some a) = ap is_recoverer (same a)
+
+pub recovers_called : (m : Memo) (t : Step) → recovers (called m t) ≡ recovers m
+recovers_called m t = ap recovers_by (last-with_last stepped m.agents) ∙ recovers_with stepped (λ a. refl) (last_agent m.agents)
+
+pub recovers_on : (m : Memo) (t : Step) (p : Spot) → recovers (memo_on m t p) ≡ recovers m
+recovers_on m t p = ap (λ (xs : List Agent). recovers_by (last_agent xs)) (memo_agents m t p) ∙ by (ends_agent m t p)
+  where
+    by : (b : Bool) → recovers_by (last_agent (agents_after b m.agents)) ≡ recovers m
+    by true = ap recovers_by (last-with_last ended (with_last stepped m.agents)) ∙ (recovers_with ended (λ a. refl) (last_agent (with_last stepped m.agents)) ∙ recovers_called m t)
+    by false = recovers_called m t

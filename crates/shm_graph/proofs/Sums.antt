@@ -1,5 +1,5 @@
 -- sums in which one term counts, and how many words name a block
-use Rattle.std.proofs.Common.{◌≡◌, ◌≢◌, ℕ, ◌<◌, zero, suc, refl, sym, ap, ◌∙◌, arith, inl, inr}
+use Rattle.std.proofs.Common.{◌≡◌, ◌≢◌, ℕ, ◌+◌, ◌<◌, zero, suc, refl, sym, ap, ◌∙◌, arith, inl, inr}
 use Rattle.std.specs.Prelude.{◌==◌}
 use Rattle.std.proofs.lemmas.Bool.{cases_eq, eq-eqb, ne_eqb}
 use Rattle.shm_words.specs.declared.geometry.Geometry.{Geometry}
@@ -38,3 +38,24 @@ one_hit n t b x l e h =
 pub one_reference : (g : Geometry) (class : ℕ → ℕ → ℕ) (t : Spot → ℕ) (b x : ℕ) → x < total_of g → t (spot_at g class x) ≡ b → ((a : ℕ) → a < total_of g → t (spot_at g class a) ≡ b → a ≡ x) → references_to g class t b ≡ 1
 unfolding references_to
 one_reference g class t b x l e h = one_hit (total_of g) (λ a. t (spot_at g class a)) b x l e h
+
+-- ---- sums of sums
+
+pub sum_each : (n : ℕ) (f h : ℕ → ℕ) → ((a : ℕ) → a < n → f a ≡ h a) → sum_below n f ≡ sum_below n h
+sum_each zero f h e = refl
+sum_each (suc n) f h e =
+    let i = sum_each n f h (λ a l. e a (omega arith)) in
+    let j = e n (omega arith) in
+    omega arith
+
+sum_both : (n : ℕ) (f h : ℕ → ℕ) → sum_below n (λ a. f a + h a) ≡ sum_below n f + sum_below n h
+sum_both zero f h = refl
+sum_both (suc n) f h = let i = sum_both n f h in omega arith
+
+-- the terms of a table, by rows and by columns
+pub sum_swap : (n m : ℕ) (f : ℕ → ℕ → ℕ) → sum_below n (λ a. sum_below m (f a)) ≡ sum_below m (λ b. sum_below n (λ a. f a b))
+sum_swap zero m f = sym (sum_none m (λ b. 0) (λ b l. refl))
+sum_swap (suc n) m f =
+    let i = sum_swap n m f in
+    let j = sum_both m (λ b. sum_below n (λ a. f a b)) (f n) in
+    omega arith

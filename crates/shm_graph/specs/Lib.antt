@@ -1,5 +1,6 @@
 pub mod Spots
 pub mod Blocks
+pub mod Bounds
 pub mod References
 pub mod Clean
 pub mod Tables
@@ -21,8 +22,10 @@ pub mod Laws
 pub mod Runs
 pub mod Whole
 pub mod Sound
+pub mod Histories
 pub mod CallEvents
 pub mod Trails
 pub mod Tells
 pub mod Idle
 pub mod Mapped
+pub mod Core

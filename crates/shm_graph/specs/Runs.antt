@@ -204,3 +204,18 @@ pub record Turned (g : Geometry) (s : State) (m : Move) : Type 0 where
 abbrev pub Leads : Geometry → State → List Move → State → Type 0
 Leads g a [] b = a ≡ b
 Leads g a (m ∷ ms) b = IsMove a m × Turned g a m × Leads g (moved a m) ms b
+
+-- ---- accounts of a run
+
+-- the account of its identity among all
+abbrev pub IsAmong : List Account → Account → Type 0
+IsAmong rs r = (r.who < length rs) × (account_at rs r.who ≡ r)
+
+-- the account is one of a Held state to which a run of a pool leads that was made so: whatever the invariant says of a memo holds of it
+pub record Stood (s : Start) (e : Account) : Type 0 where
+  pub words : List ℕ
+  pub accounts : List Account
+  pub turns : List Move
+  pub held : Held s.geometry words accounts
+  pub leads : Leads s.geometry (first_state s) turns (state words accounts)
+  pub here : IsAmong accounts e

@@ -4,7 +4,7 @@ use Rattle.shm_words.specs.declared.geometry.Geometry.{Geometry}
 use Rattle.shm_words.specs.Headers.{header_of}
 use Rattle.shm_words.specs.Tags.{tag_author}
 use Rattle.shm_graph.specs.declared.spot.Spot.{Spot}
-use Rattle.shm_graph.specs.declared.spot.Spot.TheVariants.{Status, Redo, Hold, Latch, Home, Era, Root, Tail, Front, Slot, Segment, Page, Head, Tag, Body}
+use Rattle.shm_graph.specs.declared.spot.Spot.TheVariants.{Status, Redo, Hold, Latch, Home, Era, Root, Tail, Front, Slot, Segment, Page, Unused, Head, Tag, Body}
 use Rattle.shm_graph.specs.declared.memo.Status.TheVariants as status
 use Rattle.shm_graph.specs.declared.memo.Op.TheVariants.{Nothing}
 use Rattle.shm_graph.specs.References.{words_of}
@@ -24,7 +24,7 @@ pub record IsGone (g : Geometry) (w : Spot → ℕ) (v : View) (c : ℕ) : Type 
   pub sends : (r : ℕ) → r < g.clients → r ≢ c → w (Tail c r) < w (Front c r) + 8 → targets g w v (Slot c r (w (Tail c r) % 8)) ≡ 0
   pub takes : (s : ℕ) → s < g.clients → s ≢ c → w (Front s c) < w (Tail s c) → targets g w v (Slot s c (w (Front s c) % 8)) ≢ 0
 
--- Memos show what the words say; counts are numbers of references; eras are in order; queues agree with what was sent and received; who is gone has nothing left; and no word is two identities' to store
+-- Memos show what the words say; words of pages without a class are 0; counts are numbers of references; eras are in order; queues agree with what was sent and received; who is gone has nothing left; and no word is two identities' to store
 pub record IsSound (g : Geometry) (w : Spot → ℕ) (v : View) : Type 0 where
   pub mine : (c : ℕ) → c < g.clients → (p : Spot) → owner_is c p ≡ true → own_word (v.own c) p ≡ w p
   pub state : (c : ℕ) → c < g.clients → status_word (v.status c) ≡ w (Status c)
@@ -33,6 +33,7 @@ pub record IsSound (g : Geometry) (w : Spot → ℕ) (v : View) : Type 0 where
   pub dying : (c : ℕ) → c < g.clients → DyingTie (λ b. header_of (w (Head b))) c (v.dying c)
   pub making : (c : ℕ) → c < g.clients → MakingTie g (λ s q. w (Page s q)) (λ s. w (Segment s)) (λ b. w (Head b)) (λ b. w (Tag b)) (λ b i. w (Body b i)) c (v.making c)
   pub blocks : BlockSound g (λ s q. w (Page s q)) (λ b. w (Head b)) (λ b. w (Tag b))
+  pub unused : (a : ℕ) → w (Unused a) ≡ 0
   pub count : CountSound g (λ s q. w (Page s q)) (λ b. header_of (w (Head b))) (targets g w v) (limbos v)
   pub era : EraSound g.clients (λ b. header_of (w (Head b))) (λ i j. w (Era i j)) (ons v)
   pub op : (c : ℕ) → c < g.clients → OpTie g (λ s q. w (Page s q)) (w (Redo c)) (w (Era c c)) (words_of w) (v.op c)

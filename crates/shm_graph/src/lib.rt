@@ -6,15 +6,18 @@
 #![tactic(auto)]
 
 pub mod ask;
+pub mod history;
 pub mod laws;
 pub mod machine;
 pub mod memo;
 pub mod run;
+pub mod sound;
 pub mod spot;
 pub mod start;
 pub mod table;
 
 pub use ask::{Ask, Life, Me, Turn};
+pub use history::{agents_begin, runs_are_sound, word_turns};
 pub use laws::{
     agents_change, call_events, held_state_sound, machine_law, own_events, runs_compose,
     steps_keep, still_state_clean, word_steps,
@@ -25,6 +28,10 @@ pub use memo::{
     Stored, Test,
 };
 pub use run::{Account, Move, Start, Told};
+pub use sound::{
+    clean_pools, commitment_is_shown, queues_keep_their_items, redo_tells_the_step,
+    references_are_counted, unused_pages_are_empty,
+};
 pub use spot::Spot;
 pub use start::{first_state_holds, first_words};
 pub use table::{Entry, Part};

@@ -1,8 +1,8 @@
 -- the chains of the first k puts, and that their map is the fold of the puts
-use Rattle.std.proofs.Common.{◌≡◌, ℕ, zero, suc, ◌+◌, ◌*◌, ◌%◌, ◌<◌, ◌≤◌, ◌==◌, refl, sym, ap, ◌∙◌, arith, inl, inr, ◌⊎◌, List, [], ◌∷◌, ◌++◌, length}
-use Rattle.std.specs.Prelude.{if◌then◌else◌, Option, Some, None}
+use Rattle.std.proofs.Common.{◌≡◌, ◌≢◌, ℕ, zero, suc, ◌+◌, ◌*◌, ◌%◌, ◌<◌, ◌≤◌, ◌==◌, refl, sym, ap, ◌∙◌, arith, inl, inr, ◌⊎◌, List, [], ◌∷◌, ◌++◌, length, subst}
+use Rattle.std.specs.Prelude.{if◌then◌else◌, Option, Some, None, slice_index}
 use Rattle.std.proofs.lemmas.Bool.{cases_eq, cond-true, cond-false, eq-eqb, ne_eqb}
-use Rattle.std.proofs.lemmas.List.{length-append}
+use Rattle.std.proofs.lemmas.List.{get_or_append_left, get_or_push, length-append}
 use Rattle.shm_graph.specs.Tables.{find, map_of}
 use Rattle.shm_graph.specs.declared.table.Entry.{Entry}
 use Rattle.shm_plain.specs.declared.pair.Pair.{Pair}
@@ -48,6 +48,24 @@ first_blocks_length (suc n) =
     let e = length-append (first_blocks n) (blocks_of n ∷ []) in
     let i = first_blocks_length n in
     omega arith
+
+-- no two of them are one
+first_block_at : (n i : ℕ) → i < n → slice_index (first_blocks n) i ≡ blocks_of i
+first_block_at zero i l = absurd (omega arith)
+first_block_at (suc n) i l =
+    let long = first_blocks_length n in
+    elim (cases_eq i n) [
+      | inl e ↦ subst (λ (k : ℕ). slice_index (first_blocks (suc n)) k ≡ blocks_of k) (sym e) (get_or_push (first_blocks n) (blocks_of n) 0 n long)
+      | inr o ↦ (let less : i < n = omega arith in get_or_append_left (first_blocks n) (blocks_of n ∷ []) 0 i (omega arith) ∙ first_block_at n i less)
+    ]
+
+pub first_blocks_distinct : (n i j : ℕ) → i < j → j < length (first_blocks n) → slice_index (first_blocks n) i ≢ slice_index (first_blocks n) j
+first_blocks_distinct n i j less within e =
+    let long = first_blocks_length n in
+    let a = first_block_at n i (omega arith) in
+    let b = first_block_at n j (omega arith) in
+    let same : blocks_of i ≡ blocks_of j = sym a ∙ (e ∙ b) in
+    absurd (omega arith)
 
 abbrev stored_of : Pair → ℕ → Stored
 stored_of p b = record { key = p.key; number = p.number; block = b }

@@ -20,3 +20,5 @@ pub mod Housing
 pub mod Linking
 pub mod Running
 pub mod Turning
+pub mod OwnTurns
+pub mod Calling

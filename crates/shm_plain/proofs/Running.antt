@@ -12,7 +12,7 @@ use Rattle.shm_plain.specs.Cells.{Cell, Status, Segment, Value, Entry, Shows, ce
 use Rattle.shm_plain.specs.Steps.{fresh}
 use Rattle.shm_plain.proofs.One.{one_fits, one_from}
 use Rattle.shm_plain.proofs.Celling.{shown_root, shows_same, total_one}
-use Rattle.shm_plain.proofs.Folding.{first_blocks_length}
+use Rattle.shm_plain.proofs.Folding.{first_blocks_distinct, first_blocks_length}
 use Rattle.shm_plain.proofs.Ending.{ended_clean, ended_table}
 
 join_cells : (puts : List Pair) (c : Cell) → upd fresh Status 1 c ≡ after puts 0 c
@@ -53,6 +53,7 @@ first_run d puts g ws bs e c s fit h f =
       clients = c;
       segments = s;
       answered = first_blocks_length (length puts);
+      distinct = first_blocks_distinct (length puts);
       table = t.0;
       is = t.1;
       fold = t.2;

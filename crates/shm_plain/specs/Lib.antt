@@ -8,3 +8,4 @@ pub mod Stages
 pub mod Runs
 pub mod Tracks
 pub mod Pools
+pub mod Calls

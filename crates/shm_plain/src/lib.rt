@@ -2,8 +2,10 @@
 #![tactic(auto)]
 
 mod act;
+pub mod call;
 pub mod closed;
 pub mod first;
+pub mod laws;
 pub mod pair;
 pub mod pool;
 mod track;

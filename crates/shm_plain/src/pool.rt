@@ -90,6 +90,7 @@ impl PlainPool {
     ///
     /// Where no agent of `who` acts one begins before the step: a recoverer after a death, and otherwise a client. Where no life is
     /// left nothing changes, and the answer is `Died`.
+    #[inline(always)]
     pub fn step<M: Machine>(&mut self, who: u8, m: &mut M, life: &mut Life) -> Turn<M::Answer>
         requires me { IsOf self.old who M.control m.old }
         requires agent { MayStep self.old who }
@@ -119,6 +120,7 @@ impl PlainPool {
     }
 
     /// Makes the word step that the machine asks for, and gives what it sees.
+    #[inline(always)]
     fn turn<M: Machine>(&mut self, who: u8, m: &M) -> u64
         requires me { IsOf self.old who M.control m.now }
         requires agent { MayStep self.old who }

@@ -118,3 +118,88 @@ fn a_put_in_each_bucket(rt: HostRuntime) -> Result<(), Fail> {
     }
     Ok(())
 }
+
+/// The words of a closed pool that aren't 0, by address, as an independent implementation of replay leaves them.
+type Row = (usize, u64);
+
+#[test]
+fn each_word_of_one_put(rt: HostRuntime) -> Result<(), Fail> {
+    let run = replay_first(rt.alloc(), &[Pair { key: 5, number: 77 }])?;
+    let rows: [Row; 17] = [
+        (1, 3),
+        (2, 4_611_693_715_061_211_136),
+        (5, 178),
+        (6, 10),
+        (34, 4),
+        (35, 32),
+        (36, 8),
+        (50, 9_223_512_774_343_131_145),
+        (51, 67_108_864),
+        (52, 77),
+        (178, 9_223_512_774_343_131_140),
+        (179, 17_179_869_184),
+        (185, 306),
+        (306, 9_223_512_774_343_131_144),
+        (307, 2_214_592_512),
+        (309, 50),
+        (310, 5),
+    ];
+    assert_eq!(rt; run.closed.words().len(), 2098);
+    let mut next = 0;
+    for at in 0..2098usize {
+        let mut expected = 0;
+        if next < 17 && rows[next].0 == at {
+            expected = rows[next].1;
+            next += 1;
+        }
+        assert_eq!(rt; word(&run, at), expected, "at {at}");
+    }
+    assert_eq!(rt; next, 17);
+    Ok(())
+}
+
+#[test]
+fn each_word_of_one_number_put_twice(rt: HostRuntime) -> Result<(), Fail> {
+    let puts = [Pair { key: 5, number: 77 }, Pair { key: 6, number: 77 }];
+    let run = replay_first(rt.alloc(), &puts)?;
+    assert_eq!(rt; run.blocks.as_slice(), [50u32, 54].as_slice());
+    let rows: [Row; 25] = [
+        (1, 3),
+        (2, 4_611_693_715_065_405_440),
+        (5, 178),
+        (6, 16),
+        (34, 4),
+        (35, 32),
+        (36, 8),
+        (50, 9_223_512_774_343_131_145),
+        (51, 67_108_864),
+        (52, 77),
+        (54, 9_223_512_774_343_131_151),
+        (55, 67_108_864),
+        (56, 77),
+        (178, 9_223_512_774_343_131_140),
+        (179, 17_179_869_184),
+        (185, 306),
+        (186, 314),
+        (306, 9_223_512_774_343_131_144),
+        (307, 2_214_592_512),
+        (309, 50),
+        (310, 5),
+        (314, 9_223_512_774_343_131_150),
+        (315, 2_214_592_512),
+        (317, 54),
+        (318, 6),
+    ];
+    assert_eq!(rt; run.closed.words().len(), 2098);
+    let mut next = 0;
+    for at in 0..2098usize {
+        let mut expected = 0;
+        if next < 25 && rows[next].0 == at {
+            expected = rows[next].1;
+            next += 1;
+        }
+        assert_eq!(rt; word(&run, at), expected, "at {at}");
+    }
+    assert_eq!(rt; next, 25);
+    Ok(())
+}

@@ -62,6 +62,7 @@ pub(crate) fn board(alloc: Global, start: Start) -> Result<(Board, Place), Alloc
 }
 
 /// Changes the view by one load.
+#[inline(always)]
 fn make_change<C: Change>(board: &Board, place: &mut Place)
     requires { (place.old.table_id ≡ board.now.shared.table_id) × (board.now.shared.table_id.words ≡ 1) }
     ensures { (place.new.table_id ≡ place.old.table_id) × (place.new.me.0 ≡ C.to place.old.me.0) × (place.new.me.1 ≡ place.old.me.1) }
@@ -70,6 +71,7 @@ fn make_change<C: Change>(board: &Board, place: &mut Place)
 }
 
 /// Notes the step of a machine that was given `seen`, after the beginning of an agent where none acts.
+#[inline(always)]
 pub(crate) fn note<M: Machine>(board: &Board, place: &mut Place, m: &M, seen: u64)
     requires { (place.old.table_id ≡ board.now.shared.table_id) × (board.now.shared.table_id.words ≡ 1) }
     ensures { (place.new.table_id ≡ place.old.table_id) × (place.new.me.0 ≡ noted (step_of M.control m.now seen) place.old.me.0) × (place.new.me.1 ≡ place.old.me.1) }
@@ -77,6 +79,7 @@ pub(crate) fn note<M: Machine>(board: &Board, place: &mut Place, m: &M, seen: u6
     note_as::<Brand, M>(board, place, m, seen);
 }
 
+#[inline(always)]
 fn note_as<C: Change, M: Machine>(board: &Board, place: &mut Place, _m: &M, _seen: u64)
     requires { (place.old.table_id ≡ board.now.shared.table_id) × (board.now.shared.table_id.words ≡ 1) }
     ensures { (place.new.table_id ≡ place.old.table_id) × (place.new.me.0 ≡ C.to place.old.me.0) × (place.new.me.1 ≡ place.old.me.1) }

@@ -5,37 +5,21 @@ use Rattle.std.proofs.lemmas.List.{append-nil}
 use Rattle.shm_words.specs.declared.geometry.Geometry.{Geometry}
 use Rattle.shm_graph.specs.declared.ask.Me.{Me}
 use Rattle.shm_graph.specs.declared.ask.Turn.{Turn}
-use Rattle.shm_graph.specs.declared.memo.Agent.{Agent}
 use Rattle.shm_graph.specs.declared.memo.Memo.{Memo}
-use Rattle.shm_graph.specs.declared.spot.Spot.{Spot}
 use Rattle.shm_graph.specs.declared.memo.Status.{Status}
 use Rattle.shm_graph.specs.declared.memo.Status.TheVariants.{Gone}
 use Rattle.shm_graph.specs.declared.memo.Step.{Step}
 use Rattle.shm_graph.specs.declared.run.Account.{Account}
-use Rattle.shm_graph.specs.Agents.{acts, ended, is_gone, is_recoverer, last_agent, recovers, recovers_by, stepped, with_last}
+use Rattle.shm_graph.specs.Agents.{acts, is_gone, recovers}
 use Rattle.shm_graph.specs.Asks.{call_after}
-use Rattle.shm_graph.specs.Changes.{asked_spot, memo_on}
+use Rattle.shm_graph.specs.Changes.{asked_spot}
 use Rattle.shm_graph.specs.Laws.{Control, Steady, step_of, turn_of, is_died, is_done, is_some, Outcome}
 use Rattle.shm_graph.specs.Runs.{account_after, told_by, told_left, begun_by}
-use Rattle.shm_graph.proofs.MemoSteps.{acts_after, acts-on, agents_after, ends_agent, last-with_last, memo_agents, memo_call, memo_over, with_some}
+use Rattle.shm_graph.proofs.MemoSteps.{acts_after, acts-on, memo_call, memo_over, recovers_on}
 use Rattle.shm_pool.specs.Rules.{IsOf}
 use Rattle.shm_pool.specs.Calls.{Shown, shown, accounts_by, IsBy, Going, fresh_after, Ending, Calls, Stepped, Ongoing, Tells, acts_still}
 
 -- a step leaves what kind of agent acts
-recovers_with : (f : Agent → Agent) → ((a : Agent) → (f a).kind ≡ a.kind) → (o : Option Agent) → recovers_by (with_some f o) ≡ recovers_by o
-recovers_with f same None = refl
-recovers_with f same (Some a) = ap is_recoverer (same a)
-
-recovers_on : (m : Memo) (t : Step) (p : Spot) → recovers (memo_on m t p) ≡ recovers m
-recovers_on m t p = ap (λ (xs : List Agent). recovers_by (last_agent xs)) (memo_agents m t p) ∙ by (ends_agent m t p)
-  where
-    one : recovers_by (last_agent (with_last stepped m.agents)) ≡ recovers m
-    one = ap recovers_by (last-with_last stepped m.agents) ∙ recovers_with stepped (λ a. refl) (last_agent m.agents)
-
-    by : (b : Bool) → recovers_by (last_agent (agents_after b m.agents)) ≡ recovers m
-    by true = ap recovers_by (last-with_last ended (with_last stepped m.agents)) ∙ (recovers_with ended (λ a. refl) (last_agent (with_last stepped m.agents)) ∙ one)
-    by false = one
-
 pub kind_same : (e : Account) (t : Step) → recovers (account_after e t).memo ≡ recovers e.memo
 kind_same e t = recovers_on e.memo t (asked_spot e.memo t)
 

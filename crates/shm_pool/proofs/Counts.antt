@@ -7,8 +7,8 @@ use mathlib.Core.Logic.{dite}
 use native.Mathlib.Decide.{ℕ_discrete}
 use lib.ListN.{get_elem?}
 use Rattle.shm_graph.specs.declared.run.Account.{Account}
-use Rattle.shm_graph.specs.Runs.{account_at}
-use Rattle.shm_pool.specs.Rules.{count_in, count_by, IsAmong, Knows, AllKnow, no_account}
+use Rattle.shm_graph.specs.Runs.{account_at, IsAmong}
+use Rattle.shm_pool.specs.Rules.{count_in, count_by, Knows, AllKnow, no_account}
 
 abbrev one_if : Bool → ℕ
 one_if b = if b then 1 else 0

@@ -18,10 +18,10 @@ use Rattle.shm_graph.specs.declared.run.Move.TheVariants.{Word, Dies, Begins}
 use Rattle.shm_graph.specs.Agents.{acts}
 use Rattle.shm_graph.specs.Asks.{at_of, seen_of, words_set, word_after}
 use Rattle.shm_graph.specs.Laws.{Control, Outcome, step_of}
-use Rattle.shm_graph.specs.Runs.{Turned, Held, Leads, MayBegin, State, state, first_state, moved, IsMove, accounts_after, account_after, account_at, changed, account_died, account_entered}
+use Rattle.shm_graph.specs.Runs.{Turned, Held, Leads, MayBegin, State, state, first_state, moved, IsMove, accounts_after, account_after, account_at, changed, account_died, account_entered, Stood, IsAmong}
 use Rattle.shm_graph.specs.Whole.{Keeps, Kept, Learns}
 use Rattle.shm_graph.proofs.Running.{Leads-more, turned-dies, turned-begins}
-use Rattle.shm_pool.specs.Rules.{count_in, AllKnow, IsAmong, Rule, Stood, IsOf, Follows}
+use Rattle.shm_pool.specs.Rules.{count_in, AllKnow, Rule, IsOf, Follows}
 use Rattle.shm_pool.proofs.Counts.{count_set, knows_at, known_step, among_set}
 
 module _ {M A : Type 0} (k : Control M A) (fits : M → Memo → Memo → Type 0) (gives : M → Memo → Memo → A → Type 0) (keeps : Keeps k fits gives) where

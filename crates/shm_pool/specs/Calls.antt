@@ -8,9 +8,8 @@ use Rattle.shm_graph.specs.declared.run.Start.{Start}
 use Rattle.shm_graph.specs.declared.memo.Step.{Step}
 use Rattle.shm_graph.specs.Agents.{is_gone}
 use Rattle.shm_graph.specs.Laws.{Control, step_of, turn_of}
-use Rattle.shm_graph.specs.Runs.{account_after, told_by, told_left, begun_by}
+use Rattle.shm_graph.specs.Runs.{account_after, told_by, told_left, begun_by, Stood}
 use Rattle.shm_graph.specs.Whole.{Learns}
-use Rattle.shm_pool.specs.Rules.{Stood}
 
 -- what a machine shows of itself
 pub record Shown : Type 0 where

@@ -1,5 +1,5 @@
 -- the rule of the shared words, and what a seat knows
-use Rattle.std.specs.Prelude.{◌≡◌, ℕ, ◌+◌, ◌<◌, ◌==◌, true, false, if◌then◌else◌, List, [], ◌∷◌, length}
+use Rattle.std.specs.Prelude.{◌≡◌, ℕ, ◌+◌, ◌<◌, ◌==◌, true, false, if◌then◌else◌, List, [], ◌∷◌}
 use Rattle.atomic_table.specs.declared.shared.Seat.{Seat}
 use Rattle.shm_words.specs.declared.geometry.Geometry.{Geometry}
 use Rattle.shm_graph.specs.declared.run.Start.{Start}
@@ -9,7 +9,7 @@ use Rattle.shm_graph.specs.declared.run.Move.{Move}
 use Rattle.shm_graph.specs.Agents.{acts}
 use Rattle.shm_graph.specs.Asks.{seen_of}
 use Rattle.shm_graph.specs.Laws.{Control, step_of}
-use Rattle.shm_graph.specs.Runs.{Held, Leads, state, first_state, account_at, account_after, first_account}
+use Rattle.shm_graph.specs.Runs.{Held, Leads, state, first_state, account_after, first_account, IsAmong, Stood}
 use Rattle.shm_graph.specs.Whole.{Learns}
 
 -- how often the identity c stands in a view, and in all views
@@ -20,10 +20,6 @@ count_in c (r ∷ rs) = (if r.who == c then 1 else 0) + count_in c rs
 abbrev pub count_by : ℕ → List (List Account) → ℕ
 count_by c [] = 0
 count_by c (v ∷ vs) = count_in c v + count_by c vs
-
--- the account of its identity among all
-abbrev pub IsAmong : List Account → Account → Type 0
-IsAmong rs r = (r.who < length rs) × (account_at rs r.who ≡ r)
 
 abbrev pub Knows : List Account → List Account → Type 0
 Knows rs [] = Unit {0}
@@ -55,15 +51,6 @@ alone s = head_account s.me.0
 
 abbrev pub IsAlone : Seat (Unit {0}) (List Account) → Type 0
 IsAlone s = s.me ≡ (head_account s.me.0 ∷ [], [])
-
--- the account is one of a Held state to which a run of a pool leads that was made so: whatever the invariant says of a memo holds of it
-pub record Stood (s : Start) (e : Account) : Type 0 where
-  pub words : List ℕ
-  pub accounts : List Account
-  pub turns : List Move
-  pub held : Held s.geometry words accounts
-  pub leads : Leads s.geometry (first_state s) turns (state words accounts)
-  pub here : IsAmong accounts e
 
 -- the machine is of this identity, whose agent acts, and is not finished
 abbrev pub IsOf : {M A : Type 0} → Geometry → Account → Control M A → M → Type 0

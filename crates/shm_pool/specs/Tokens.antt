@@ -14,8 +14,8 @@ use Rattle.shm_graph.specs.Agents.{acts}
 use Rattle.shm_graph.specs.Clean.{IsClean}
 use Rattle.shm_graph.specs.Spots.{see}
 use Rattle.shm_graph.specs.Laws.{Control}
-use Rattle.shm_graph.specs.Runs.{Held, Leads, state, first_state, first_account, account_at, account_died, account_entered}
-use Rattle.shm_pool.specs.Rules.{alone, IsAlone, Stood, no_account}
+use Rattle.shm_graph.specs.Runs.{Held, Leads, state, first_state, first_account, account_at, account_died, account_entered, Stood}
+use Rattle.shm_pool.specs.Rules.{alone, IsAlone, no_account}
 
 -- which pool it is: its table, and what it was made of
 pub record Its : Type 0 where

@@ -7,15 +7,16 @@ ghost use Rattle.shm_graph.specs.declared.memo.Memo.{Memo};
 ghost use Rattle.shm_graph.specs.Agents.{acts, recovers};
 ghost use Rattle.shm_graph.specs.Asks.{seen_of};
 ghost use Rattle.shm_graph.specs.Laws.{is_died, is_done, is_some};
-ghost use Rattle.shm_graph.specs.Runs.{MayBegin, account_died, account_entered};
+ghost use Rattle.shm_graph.specs.Runs.{MayBegin, account_died, account_entered, Stood};
 ghost use Rattle.shm_graph.specs.Whole.{fits_now, gives_now};
-ghost use Rattle.shm_pool.specs.Rules.{IsOf, IsAlone, Stood, alone, Told, Follows};
+ghost use Rattle.shm_pool.specs.Rules.{IsOf, IsAlone, alone, Told, Follows};
 ghost use Rattle.shm_pool.specs.Calls.{Stepped, Calls, Tells, acts_still, shown};
 
 use crate::rule::{ClientBegins, Dies, Place, RecovererBegins, Say, Says, Top};
 use shm_graph::{Ask, Life, Machine, Turn};
 use std::marker::Brand;
 
+#[inline(always)]
 fn step_as<U: Say, M: Machine>(top: &Top, place: &mut Place, m: &M) -> u64
     requires table { (place.old.table_id ≡ top.now.table_id) × (top.now.table_id.words ≡ total_of top.now.key.geometry) × IsAlone place.old }
     requires me { IsOf top.now.key.geometry (alone place.old) M.control m.now }
@@ -37,6 +38,7 @@ fn step_as<U: Say, M: Machine>(top: &Top, place: &mut Place, m: &M) -> u64
 }
 
 /// One word step of a machine. What it found is given to the machine next.
+#[inline(always)]
 pub(crate) fn ask_step<M: Machine>(top: &Top, place: &mut Place, m: &M) -> u64
     requires table { (place.old.table_id ≡ top.now.table_id) × (top.now.table_id.words ≡ total_of top.now.key.geometry) × IsAlone place.old }
     requires me { IsOf top.now.key.geometry (alone place.old) M.control m.now }
@@ -48,6 +50,7 @@ pub(crate) fn ask_step<M: Machine>(top: &Top, place: &mut Place, m: &M) -> u64
 }
 
 /// One step of a machine, unless no life is left.
+#[inline(always)]
 pub(crate) fn step_place<M: Machine>(
     top: &Top,
     place: &mut Place,
@@ -76,6 +79,7 @@ pub(crate) fn step_place<M: Machine>(
 }
 
 /// The steps of a machine until it is finished; none where no life is left before.
+#[inline(always)]
 pub(crate) fn run_place<M: Machine>(
     top: &Top,
     place: &mut Place,

@@ -7,10 +7,10 @@ ghost use Rattle.shm_graph.specs.declared.memo.Memo.{Memo};
 ghost use Rattle.shm_graph.specs.declared.memo.Status.TheVariants as status;
 ghost use Rattle.shm_graph.specs.Agents.{acts, recovers};
 ghost use Rattle.shm_graph.specs.Laws.{is_died};
-ghost use Rattle.shm_graph.specs.Runs.{account_entered};
+ghost use Rattle.shm_graph.specs.Runs.{account_entered, Stood};
 ghost use Rattle.shm_graph.specs.Whole.{fits_now, gives_now};
 ghost use Rattle.shm_recover.specs.Joining.{JoinGives, join_fresh, join_line};
-ghost use Rattle.shm_pool.specs.Rules.{IsAlone, Stood, alone};
+ghost use Rattle.shm_pool.specs.Rules.{IsAlone, alone};
 ghost use Rattle.shm_pool.specs.Calls.{Stepped, Calls, Stays, Tells, shown};
 ghost use Rattle.shm_pool.specs.Tokens.{me_of, begun_account, recovering, IsFor, IsFallen, IsOut};
 ghost use Rattle.shm_pool.specs.Replies.{IsLost, IfReply, is_reply};
@@ -173,6 +173,7 @@ impl Client {
     }
 
     /// One word step of a machine, unless no life is left or a call of this client has died.
+    #[inline(always)]
     pub fn step<M: Machine>(
         &mut self,
         pool: &SharedPool,

@@ -28,6 +28,8 @@ use Rattle.shm_graph.proofs.Spotting.{in_pool}
 use Rattle.shm_graph.proofs.SpotPlaces.{spot-place}
 use Rattle.shm_graph.proofs.Calling.{called_part}
 use Rattle.shm_graph.proofs.Keeping.{live_kept}
+use Rattle.shm_graph.specs.Core.{core}
+use Rattle.shm_steps.proofs.Cores.{called_core}
 use Rattle.shm_recover.specs.declared.join.JoinPoint.{JoinPoint}
 use Rattle.shm_recover.specs.declared.join.JoinPoint.TheVariants.{Start, Over}
 use Rattle.shm_recover.specs.declared.join.JoinState.{JoinState}
@@ -38,7 +40,8 @@ use Rattle.shm_recover.specs.Joining.{IsMember, CanJoin, join_control, join_fres
 pub join_begins : (me : Me) (r : Memo) → CanJoin me r → JoinFits (join_fresh me) r r []
 join_begins me r can = record { can = can; start = λ e. (refl, refl) }
 
-status_spot : (me : Me) (class : ℕ → ℕ → ℕ) → IsMember me → spot_at me.geometry class (address me.geometry (place.Status me.who)) ≡ Status me.who
+-- the address of the status is that of its spot
+pub status_spot : (me : Me) (class : ℕ → ℕ → ℕ) → IsMember me → spot_at me.geometry class (address me.geometry (place.Status me.who)) ≡ Status me.who
 status_spot me class k = spot-place me.geometry class (place.Status me.who) (let l = k.who in grind (arith, nat_tests))
 
 -- an identity that is new or gone has nothing in progress, prepares nothing and holds no latch
@@ -61,20 +64,7 @@ joined m r0 t e =
         making = called_part (λ (x : Memo). x.making) r0 t refl refl ∙ e.1;
         hold = called_part (λ (x : Memo). own_word x.own (Hold m.me.who)) r0 t refl refl ∙ (e.3 ∙ sym (ap hold_word (called_part (λ (x : Memo). x.latch) r0 t refl refl ∙ e.2)));
       };
-      own = called_part (λ (x : Memo). x.own) r0 t refl refl;
-      op = called_part (λ (x : Memo). x.op) r0 t refl refl;
-      latch = called_part (λ (x : Memo). x.latch) r0 t refl refl;
-      looks = called_part (λ (x : Memo). x.looks) r0 t refl refl;
-      making = called_part (λ (x : Memo). x.making) r0 t refl refl;
-      owned = called_part (λ (x : Memo). x.owned) r0 t refl refl;
-      dying = called_part (λ (x : Memo). x.dying) r0 t refl refl;
-      sent = called_part (λ (x : Memo). x.sent) r0 t refl refl;
-      received = called_part (λ (x : Memo). x.received) r0 t refl refl;
-      unsent = called_part (λ (x : Memo). x.unsent) r0 t refl refl;
-      untaken = called_part (λ (x : Memo). x.untaken) r0 t refl refl;
-      part = called_part (λ (x : Memo). x.part) r0 t refl refl;
-      values = called_part (λ (x : Memo). x.values) r0 t refl refl;
-      known = called_part (λ (x : Memo). x.known) r0 t refl refl;
+      rest = ap (λ (x : Memo). core (record x { status = status.Live })) (called_core r0 t);
       trail = refl;
     }
 

@@ -1,5 +1,5 @@
 -- what a join asks
-use Rattle.std.specs.Prelude.{ℕ, [], ◌∷◌}
+use Rattle.std.specs.Prelude.{[], ◌∷◌}
 use Rattle.shm_words.specs.declared.place.Place.TheVariants as place
 use Rattle.shm_words.specs.Layout.{address}
 use Rattle.shm_graph.specs.declared.ask.Ask.{Ask}
@@ -14,7 +14,3 @@ join_ask me = Store (address me.geometry (place.Status me.who)) 1
 -- all that a join asks, with what it sees
 abbrev pub join_trail : Me → Trail
 join_trail me = pair (join_ask me) 0 ∷ []
-
--- how many word steps a join makes
-abbrev pub join_steps : ℕ
-join_steps = 1

@@ -3,8 +3,9 @@ use Rattle.std.specs.Prelude.{◌≡◌, ℕ, ◌<◌, ◌⊎◌, Bool, true, fa
 use Rattle.shm_words.specs.Layout.{GeometryFits}
 use Rattle.shm_graph.specs.declared.ask.Me.{Me}
 use Rattle.shm_graph.specs.declared.memo.Memo.{Memo}
-use Rattle.shm_graph.specs.declared.memo.Status.TheVariants.{New, Gone}
+use Rattle.shm_graph.specs.declared.memo.Status.TheVariants.{Gone, Live, New}
 use Rattle.shm_graph.specs.Asks.{Trail}
+use Rattle.shm_graph.specs.Core.{core}
 use Rattle.shm_graph.specs.Idle.{IsIdle}
 use Rattle.shm_graph.specs.Laws.{Control}
 use Rattle.shm_recover.specs.declared.join.JoinPoint.{JoinPoint}
@@ -55,21 +56,8 @@ pub record JoinFits (m : JoinState) (r0 r : Memo) (tr : Trail) : Type 0 where
   pub can : CanJoin m.me r0
   pub start : m.point ≡ Start → (r ≡ r0) × (tr ≡ [])
 
--- the identity is between two calls, what it has and has done is as it was, and what was asked is the trail of a join
+-- the identity is between two calls, its status is live and nothing else of its memo changed but for its call, and what was asked is the trail of a join
 pub record JoinGives (m : JoinState) (r0 r : Memo) (tr : Trail) (a : Unit {0}) : Type 0 where
   pub idle : IsIdle m.me.who r
-  pub own : r.own ≡ r0.own
-  pub op : r.op ≡ r0.op
-  pub latch : r.latch ≡ r0.latch
-  pub looks : r.looks ≡ r0.looks
-  pub making : r.making ≡ r0.making
-  pub owned : r.owned ≡ r0.owned
-  pub dying : r.dying ≡ r0.dying
-  pub sent : r.sent ≡ r0.sent
-  pub received : r.received ≡ r0.received
-  pub unsent : r.unsent ≡ r0.unsent
-  pub untaken : r.untaken ≡ r0.untaken
-  pub part : r.part ≡ r0.part
-  pub values : r.values ≡ r0.values
-  pub known : r.known ≡ r0.known
+  pub rest : core r ≡ core (record r0 { status = Live })
   pub trail : tr ≡ join_trail m.me

@@ -1,6 +1,6 @@
 -- a leaving as a plan: what is known before each call, and what is left
-use Rattle.std.specs.Prelude.{◌≡◌, ◌≢◌, ℕ, ◌+◌, ◌*◌, ◌<◌, ◌≤◌, Result, Ok, Err, List, [], slice_index, None}
-use Rattle.std.specs.List.{Contains, filter}
+use Rattle.std.specs.Prelude.{◌≡◌, ℕ, ◌+◌, ◌*◌, ◌<◌, ◌≤◌, Result, Ok, Err, List, [], slice_index, None}
+use Rattle.std.specs.List.{Contains}
 use Rattle.shm_graph.specs.declared.ask.Me.{Me}
 use Rattle.shm_graph.specs.declared.spot.Spot.TheVariants.{Hold}
 use Rattle.shm_graph.specs.declared.memo.Memo.{Memo}
@@ -8,15 +8,14 @@ use Rattle.shm_graph.specs.declared.memo.Status.TheVariants as status
 use Rattle.shm_graph.specs.Asks.{Trail, IsWithin}
 use Rattle.shm_graph.specs.Events.{Event}
 use Rattle.shm_graph.specs.Laws.{GoneNow}
-use Rattle.shm_graph.specs.Stores.{not_segment}
 use Rattle.shm_graph.specs.Views.{own_word}
+use Rattle.shm_steps.specs.WordParts.{GoneStored, SegmentGiven, SegmentLoaded}
 use Rattle.shm_calls.specs.CallsPart.{calls_part}
 use Rattle.shm_calls.specs.Either.{or_part}
 use Rattle.shm_calls.specs.Plans.{Planned}
 use Rattle.shm_calls.specs.Words.{word_part}
 use Rattle.shm_count.specs.declared.answer.EraSpent.{EraSpent}
 use Rattle.shm_count.specs.Roots.{root_word}
-use Rattle.shm_count.specs.StepFits.{core}
 use Rattle.shm_count.specs.TearEvents.{Visit, frees}
 use Rattle.shm_recover.specs.declared.leave.LeavePoint.{LeavePoint}
 use Rattle.shm_recover.specs.declared.leave.LeavePoint.TheVariants.{Roots, Look, Give, Status}
@@ -59,19 +58,26 @@ LeaveKnows m Status r0 r tr es = IsLeaving m.me m.me.geometry.segments r × HasL
 
 -- ---- what it leaves
 
+-- nothing is left to finish and the status is gone; the events are those of the roots, and each segment took two word steps at most
+pub record HasGone (me : Me) (r0 r : Memo) (tr : Trail) (es : List Event) : Type 0 where
+  pub status : r.status ≡ status.Gone
+  pub left : GoneNow me.who r
+  pub events : RootsEvents me.who r0 16 es
+  pub bound : IsWithin (2 * me.geometry.segments + 164 * frees es + 145) tr
+
 -- the identity is gone, or the own era left no room for a step down of a root
 abbrev pub LeaveLeaves : LeaveState → Memo → Memo → Trail → List Event → Result (Unit {0}) EraSpent → Type 0
-LeaveLeaves m r0 r tr es (Ok done) = (r.status ≡ status.Gone) × GoneNow m.me.who r × HasLeft m.me (2 * m.me.geometry.segments + 1) r0 tr es
+LeaveLeaves m r0 r tr es (Ok done) = HasGone m.me r0 r tr es
 LeaveLeaves m r0 r tr es (Err e) = (vs : List Visit) × RootsStopped (record { me = m.me; root = 0 }) r0 r tr es e.era vs
 
 -- ---- the plan
 
 -- what holds of a memo after the word step at a point, by the word found and the memo before
 abbrev pub LeaveFound : LeaveState → LeavePoint → Memo → ℕ → Memo → Type 0
-LeaveFound m Look r n x = (core x ≡ core r) × (n ≡ m.me.who + 1 → Contains r.owned m.segment) × (n ≢ m.me.who + 1 → Contains r.owned m.segment → ⊥)
-LeaveFound m Give r n x = core x ≡ core (record r { owned = filter (not_segment m.segment) r.owned })
-LeaveFound m Status r n x = (x.status ≡ status.Gone) × GoneNow m.me.who x
-LeaveFound m Roots r n x = ⊥
+LeaveFound m Look = SegmentLoaded m.me.who m.segment
+LeaveFound m Give = SegmentGiven m.segment
+LeaveFound m Status = GoneStored m.me.who
+LeaveFound m Roots = λ r n x. ⊥
 
 abbrev pub leave_plan : Planned LeaveState LeaveCall LeaveAnswer (Result (Unit {0}) EraSpent)
 leave_plan =

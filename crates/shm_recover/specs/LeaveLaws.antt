@@ -21,14 +21,14 @@ use Rattle.shm_calls.specs.Plans.{PlanLaws, PlanStays, IsCall, Follows}
 use Rattle.shm_calls.specs.Words.{word_control, word_part, word_part_laws, WordLeaves}
 use Rattle.shm_count.specs.declared.answer.EraSpent.{EraSpent}
 use Rattle.shm_count.specs.Roots.{root_word}
-use Rattle.shm_count.specs.StepFits.{core}
-use Rattle.shm_count.specs.StepMemos.{here_same}
+use Rattle.shm_graph.specs.Core.{core}
+use Rattle.shm_steps.proofs.Cores.{here_same}
 use Rattle.shm_count.specs.TearEvents.{frees}
 use Rattle.shm_ref.specs.declared.drop_roots.RootsState.{RootsState}
 use Rattle.shm_recover.specs.declared.leave.LeavePoint.{LeavePoint}
 use Rattle.shm_recover.specs.declared.leave.LeavePoint.TheVariants.{Roots, Look, Give, Status}
 use Rattle.shm_recover.specs.declared.leave.LeaveState.{LeaveState}
-use Rattle.shm_recover.specs.LeaveControl.{LeaveAnswer, leave_parts, leave_ask, leave_call_at, leave_next, leave_after_word, is_roots, is_last}
+use Rattle.shm_recover.specs.LeaveControl.{LeaveAnswer, leaving, leave_parts, leave_ask, leave_call_at, leave_next, leave_after_word, is_roots, is_last}
 use Rattle.shm_recover.specs.LeaveFits.{MayLeave, IsLeaving, HasLeft, LeaveKnows, LeaveFound, leave_plan}
 use Rattle.shm_recover.specs.LeaveWords.{root_beyond, owned_inside, look_word, give_word, status_word}
 use Rattle.shm_ref.specs.Leaving.{may_still}
@@ -93,8 +93,8 @@ calls m Status = record { me = refl; asks = refl }
 
 opens : (m : LeaveState) (y : LeavePoint) (r0 r : Memo) (tr : Trail) (es : List Event) → LeaveKnows m y r0 r tr es → (leave_plan.part (record m { point = y })).needs (leave_call_at m y) r
 opens m Roots r0 r tr es (h, same, none, quiet, start) = record { made = refl; first = refl; start = refl; knows = roots_begin m.me r (subst (MayDrop m.me) (sym same) h.may) }
-opens m Look r0 r tr es h = look_word m r h.1 false
-opens m Give r0 r tr es h = give_word m r h.1 h.0 h.2
+opens m Look r0 r tr es h = look_word m r h.0 h.1 false
+opens m Give r0 r tr es h = give_word m r h.0 h.1 h.2
 opens m Status r0 r tr es h = status_word m r h.0 false
 
 -- ---- what they lead to
@@ -170,16 +170,16 @@ module _ (m : LeaveState) (r0 rs r : Memo) (tr t : Trail) (es ds : List Event) w
   looked n (h, low, left) w = go (n == c + 1) (eqb-true n (c + 1)) (eqb-false n (c + 1))
     where
       same : core (record r { owned = [] }) ≡ core (record rs { owned = [] })
-      same = ap (λ (x : Memo). record x { owned = [] }) w.found.0
+      same = ap (λ (x : Memo). record x { owned = [] }) w.found.left
 
       owned_same : (i : ℕ) → Contains r.owned i → Contains rs.owned i
-      owned_same i = subst (λ (xs : List ℕ). Contains xs i) (ap (λ (x : Memo). x.owned) w.found.0)
+      owned_same i = subst (λ (xs : List ℕ). Contains xs i) (ap (λ (x : Memo). x.owned) w.found.left)
 
       go : (q : Bool) → (q ≡ true → n ≡ c + 1) → (q ≡ false → n ≢ c + 1) → Next (if q then record m { point = Give } else leave_next m)
       go true mine other = (
         still s s same (λ i has. h.owned i (owned_same i has)) h,
         low,
-        subst (λ (xs : List ℕ). Contains xs s) (sym (ap (λ (x : Memo). x.owned) w.found.0)) (w.found.1 (mine refl)),
+        subst (λ (xs : List ℕ). Contains xs s) (sym (ap (λ (x : Memo). x.owned) w.found.left)) (w.found.found.0 (mine refl)),
         one_more (2 * s) (2 * s + 1) (omega arith) w.none w.one left,
       )
       go false mine other =
@@ -188,14 +188,14 @@ module _ (m : LeaveState) (r0 rs r : Memo) (tr t : Trail) (es ds : List Event) w
           (one_more (2 * s) (2 * (s + 1)) (omega arith) w.none w.one left)
         where
           not_it : n ≢ c + 1 → (i : ℕ) → Contains rs.owned i → i ≢ s
-          not_it o i has e = w.found.2 o (subst (Contains rs.owned) e has)
+          not_it o i has e = o (w.found.found.1 (subst (Contains rs.owned) e has))
 
   -- the segment was given up
   given : (n : ℕ) → LeaveKnows m Give r0 rs tr es → WordLeaves (LeaveFound m Give) (record { me = me; ask = leave_ask m Give; over = false }) rs r t ds n → Next (leave_after_word m Give n)
   given n (h, low, has, left) w =
       goes_on low
-      (still s (s + 1) (ap (λ (x : Memo). record x { owned = [] }) w.found)
-      (λ i has. let y = filter_from (not_segment s) rs.owned i (subst (λ (xs : List ℕ). Contains xs i) (ap (λ (x : Memo). x.owned) w.found) has) in
+      (still s (s + 1) (ap (λ (x : Memo). record x { owned = [] }) w.found.left)
+      (λ i has. let y = filter_from (not_segment s) rs.owned i (subst (λ (xs : List ℕ). Contains xs i) (ap (λ (x : Memo). x.owned) w.found.left) has) in
       let z = h.owned i y.0 in
       let o : s ≢ i = (λ e. true≢false (sym y.1 ∙ ap not (eq-eqb s i e))) in
       (omega arith, z.1)) h)
@@ -209,18 +209,9 @@ from_start me r0 rs r tr t es ds a same none quiet g =
     (subst (λ (x : Trail). RootsLeaves p rs r (x ++ t) (es ++ ds) a) (sym none)
     (subst (λ (x : List Event). RootsLeaves p rs r t (x ++ ds) a) (sym quiet) g))
 
--- each call leads on
-leads : (m : LeaveState) (y : LeavePoint) (r0 rs r : Memo) (tr t : Trail) (es ds : List Event) (a : LeaveAnswer) → LeaveKnows (record m { point = y }) y r0 rs tr es → (leave_plan.part (record m { point = y })).leaves (leave_call_at m y) rs r t ds a → IsHeld m.me r
-    → Follows leave_parts leave_plan (record m { point = y }) a r0 r (tr ++ t) (es ++ ds)
-leads m Roots r0 rs r tr t es ds (First (Ok u)) h g held = first_segment (record m { point = Roots }) r0 rs r tr t es ds h.0 h.4 (let y = h.0.may.geometry.segment in omega arith) held (from_start m.me r0 rs r tr t es ds (Ok u) h.1 h.2 h.3 g)
-leads m Roots r0 rs r tr t es ds (First (Err e)) h g held = from_start m.me r0 rs r tr t es ds (Err e) h.1 h.2 h.3 g
-leads m Look r0 rs r tr t es ds (Second n) h g held = looked (record m { point = Look }) r0 rs r tr t es ds n h g
-leads m Give r0 rs r tr t es ds (Second n) h g held = given (record m { point = Give }) r0 rs r tr t es ds n h g
-leads m Status r0 rs r tr t es ds (Second n) h g held = (g.found.0, g.found.1, one_more (record m { point = Status }) r0 rs r tr t es ds (2 * m.me.geometry.segments) (2 * m.me.geometry.segments + 1) (omega arith) g.none g.one h.1)
-leads m Roots r0 rs r tr t es ds (Second n) h g held = absurd g
-leads m Look r0 rs r tr t es ds (First a) h g held = absurd g
-leads m Give r0 rs r tr t es ds (First a) h g held = absurd g
-leads m Status r0 rs r tr t es ds (First a) h g held = absurd g
+-- what is known before the first call
+pub leave_begin : (me : Me) (r : Memo) → MayLeave me r → LeaveKnows (leaving me) Roots r r [] []
+leave_begin me r may = (may, refl, refl, refl, refl)
 
 pub leave_laws : PlanLaws leave_parts leave_plan
 leave_laws =
@@ -233,3 +224,19 @@ leave_laws =
       opens = λ m. opens m m.point;
       leads = λ m r0 rs r tr t es ds a h g held same. leads m m.point r0 rs r tr t es ds a h g held;
     }
+  where
+    -- each call leads on
+    leads : (m : LeaveState) (y : LeavePoint) (r0 rs r : Memo) (tr t : Trail) (es ds : List Event) (a : LeaveAnswer) → LeaveKnows (record m { point = y }) y r0 rs tr es → (leave_plan.part (record m { point = y })).leaves (leave_call_at m y) rs r t ds a → IsHeld m.me r
+        → Follows leave_parts leave_plan (record m { point = y }) a r0 r (tr ++ t) (es ++ ds)
+    leads m Roots r0 rs r tr t es ds (First (Ok u)) h g held = first_segment (record m { point = Roots }) r0 rs r tr t es ds h.0 h.4 (let y = h.0.may.geometry.segment in omega arith) held (from_start m.me r0 rs r tr t es ds (Ok u) h.1 h.2 h.3 g)
+    leads m Roots r0 rs r tr t es ds (First (Err e)) h g held = from_start m.me r0 rs r tr t es ds (Err e) h.1 h.2 h.3 g
+    leads m Look r0 rs r tr t es ds (Second n) h g held = looked (record m { point = Look }) r0 rs r tr t es ds n h g
+    leads m Give r0 rs r tr t es ds (Second n) h g held = given (record m { point = Give }) r0 rs r tr t es ds n h g
+    leads m Status r0 rs r tr t es ds (Second n) h g held =
+        let left = one_more (record m { point = Status }) r0 rs r tr t es ds (2 * m.me.geometry.segments) (2 * m.me.geometry.segments + 1) (omega arith) g.none g.one h.1 in
+        let bound = left.bound in
+        record { status = ap (λ (x : Memo). x.status) g.found.left; left = g.found.read; events = left.events; bound = omega arith }
+    leads m Roots r0 rs r tr t es ds (Second n) h g held = absurd g
+    leads m Look r0 rs r tr t es ds (First a) h g held = absurd g
+    leads m Give r0 rs r tr t es ds (First a) h g held = absurd g
+    leads m Status r0 rs r tr t es ds (First a) h g held = absurd g

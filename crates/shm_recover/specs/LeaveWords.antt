@@ -1,31 +1,21 @@
 -- the word steps of a leaving: what each needs, and what holds after it
-use Rattle.std.proofs.Common.{◌≡◌, ℕ, ◌<◌, ◌≤◌, refl, sym, ap, ◌∙◌, subst, arith, Bool, false, List, [], ◌∷◌, inl, inr}
-use Rattle.std.specs.List.{Contains, filter}
-use Rattle.std.proofs.lemmas.Bool.{and_parts, cases_eq, eq-eqb, lt-ltb, ltb-true}
-use Rattle.shm_words.specs.declared.place.Place.TheVariants as place
-use Rattle.shm_words.specs.Layout.{address}
-use Rattle.shm_graph.specs.declared.ask.Ask.TheVariants as ask
+use Rattle.std.proofs.Common.{◌≡◌, ℕ, ◌<◌, ◌≤◌, refl, ◌∙◌, subst, arith, Bool, false, List, [], ◌∷◌, inl, inr}
+use Rattle.std.specs.List.{Contains}
+use Rattle.std.proofs.lemmas.Bool.{and_parts, cases_eq, eq-eqb, ltb-true}
 use Rattle.shm_graph.specs.declared.ask.Me.{Me}
 use Rattle.shm_graph.specs.declared.spot.Spot.{Spot}
-use Rattle.shm_graph.specs.declared.spot.Spot.TheVariants.{Status, Root, Segment}
+use Rattle.shm_graph.specs.declared.spot.Spot.TheVariants.{Root, Segment}
 use Rattle.shm_graph.specs.declared.memo.Memo.{Memo}
 use Rattle.shm_graph.specs.Blocks.{classes}
 use Rattle.shm_graph.specs.Held.{HeldAt}
-use Rattle.shm_graph.specs.Laws.{GoneNow, framed}
-use Rattle.shm_graph.specs.Spots.{spot_at}
-use Rattle.shm_graph.specs.Stores.{not_segment}
+use Rattle.shm_graph.specs.Laws.{GoneNow}
 use Rattle.shm_graph.specs.Views.{view}
-use Rattle.shm_graph.proofs.Calling.{called_by}
-use Rattle.shm_graph.proofs.SpotPlaces.{at_is_in, spot-place}
-use Rattle.shm_graph.proofs.StatusKeeping.{gone_kept}
-use Rattle.shm_steps.specs.Conditions.{IsHere}
-use Rattle.shm_steps.proofs.PageSteps.{given_up}
+use Rattle.shm_graph.proofs.SpotPlaces.{at_is_in}
 use Rattle.shm_calls.specs.Parts.{IsHeld}
 use Rattle.shm_calls.specs.Words.{IsWord}
-use Rattle.shm_calls.specs.WordSteps.{load_at, word_at}
+use Rattle.shm_steps.proofs.WordsOwn.{gone_store}
+use Rattle.shm_steps.proofs.WordsShared.{segment_give, segment_load}
 use Rattle.shm_count.specs.Roots.{root_word}
-use Rattle.shm_count.specs.StepFits.{core}
-use Rattle.shm_count.specs.StepMemos.{called_core}
 use Rattle.shm_recover.specs.declared.leave.LeavePoint.TheVariants.{Look, Give}
 use Rattle.shm_recover.specs.declared.leave.LeavePoint.TheVariants as point
 use Rattle.shm_recover.specs.declared.leave.LeaveState.{LeaveState}
@@ -66,35 +56,16 @@ module _ (m : LeaveState) (r : Memo) where
   abbrev s : ℕ
   s = m.segment
 
-  abbrev at : ℕ
-  at = address me.geometry (place.Segment s)
-
-  module _ (l : s < me.geometry.segments) where
-    segment_there : (class : ℕ → ℕ → ℕ) → spot_at me.geometry class at ≡ Segment s
-    segment_there class = spot-place me.geometry class (place.Segment s) (lt-ltb s me.geometry.segments l)
-
-    -- it is loaded
+  module _ (h : IsLeaving me s r) (l : s < me.geometry.segments) where
+    -- a segment's word is loaded
     pub look_word : (first : Bool) → IsWord first me (leave_ask m Look) (LeaveFound m Look) (record { me = me; ask = leave_ask m Look; over = false }) r
-    look_word first =
-        load_at first me at (LeaveFound m Look) r (Segment s) segment_there (λ e. cc) refl tt
-        (λ w rs f st same. let tie = st.held.segments c st.who in (
-          called_core (rs c) (framed me (ask.Load at) f (w (Segment s))) ∙ ap core same,
-          λ e. subst (λ (x : Memo). Contains x.owned s) same (tie.all s e),
-          λ n has. n (tie.listed s (subst (λ (x : Memo). Contains x.owned s) (sym same) has)),
-        ))
+    look_word first = segment_load first me r h.may.may.who s l
 
     -- an own one is given up
-    pub give_word : IsLeaving me s r → Contains r.owned s → IsWord false me (leave_ask m Give) (LeaveFound m Give) (record { me = me; ask = leave_ask m Give; over = false }) r
-    give_word h has =
-        word_at false me (leave_ask m Give) (LeaveFound m Give) r (Segment s) segment_there (λ e. cc) refl
-        (λ w rs f st may same. given_up me w rs f [] at s st (may refl) (segment_there (classes w)) (record { here = subst IsHere (sym same) h.may.may.here; idle = ap (λ (x : Memo). x.making) same ∙ h.may.making; owned = subst (λ (x : Memo). Contains x.owned s) (sym same) has }))
-        (λ w rs f st same. let without : Memo → Memo = λ x. core (record x { owned = filter (not_segment s) x.owned }) in
-        ap without (called_core (rs c) (framed me (ask.Store at 0) f 0)) ∙ ap without same)
+    pub give_word : Contains r.owned s → IsWord false me (leave_ask m Give) (LeaveFound m Give) (record { me = me; ask = leave_ask m Give; over = false }) r
+    give_word has = segment_give false me r h.may.may.who s l refl (record { here = h.may.may.here; idle = h.may.making; owned = has })
 
   module _ (h : IsLeaving me me.geometry.segments r) where
-    status_there : (class : ℕ → ℕ → ℕ) → spot_at me.geometry class (address me.geometry (place.Status c)) ≡ Status c
-    status_there class = spot-place me.geometry class (place.Status c) (lt-ltb c me.geometry.clients h.may.may.who)
-
     none_left : (xs : List ℕ) → ((i : ℕ) → Contains xs i → (me.geometry.segments ≤ i) × (i < me.geometry.segments)) → xs ≡ []
     none_left [] all = refl
     none_left (x ∷ xs) all = let y = all x (0, omega arith, refl) in absurd (omega arith)
@@ -115,8 +86,4 @@ module _ (m : LeaveState) (r : Memo) where
 
     -- the status is stored
     pub status_word : (first : Bool) → IsWord first me (leave_ask m point.Status) (LeaveFound m point.Status) (record { me = me; ask = leave_ask m point.Status; over = false }) r
-    status_word first =
-        let gone : (rs : ℕ → Memo) → rs c ≡ r → GoneNow c (rs c) = λ rs same. subst (GoneNow c) (sym same) all_done in
-        word_at first me (leave_ask m point.Status) (LeaveFound m point.Status) r (Status c) status_there (λ e. cc) refl
-        (λ w rs f st may same. gone_kept me w rs f [] (address me.geometry (place.Status c)) (λ n x. Unit {0}) st (status_there (classes w)) (gone rs same) tt)
-        (λ w rs f st same. (refl, called_by (GoneNow c) (rs c) (framed me (leave_ask m point.Status) f 0) (gone rs same) (gone rs same)))
+    status_word first = gone_store first me r h.may.may.who all_done

@@ -1,7 +1,10 @@
 pub mod JoinTrail
 pub mod Joining
 pub mod JoinKeeps
+pub mod JoinPart
 pub mod LeaveControl
 pub mod LeaveFits
 pub mod LeaveWords
 pub mod LeaveLaws
+pub mod LeaveGone
+pub mod Machines

@@ -5,7 +5,7 @@ ghost use Rattle.shm_words.specs.Layout.{GeometryFits};
 ghost use Rattle.shm_graph.specs.declared.memo.Memo.{Memo as AMemo};
 ghost use Rattle.shm_graph.specs.Asks.{Trail, IsWithin};
 ghost use Rattle.shm_recover.specs.declared.join.JoinState.{JoinState as AJoin};
-ghost use Rattle.shm_recover.specs.JoinTrail.{join_steps};
+ghost use Rattle.shm_graph.specs.Bounds.{join_steps};
 ghost use Rattle.shm_recover.specs.Joining.{join_control, join_fresh, JoinFits, JoinGives};
 ghost use Rattle.shm_recover.specs.JoinKeeps.{join_laws};
 
@@ -48,6 +48,7 @@ impl Model for Join {
 
 impl Join {
     /// A join of the identity `me`, before its first step; its line is the bytes of `join`.
+    #[inline(always)]
     pub fn new(me: Me) -> Join
         requires geometry { GeometryFits me.geometry }
         requires who { me.who < me.geometry.clients }
@@ -77,10 +78,12 @@ impl Machine for Join {
 
     ghost gives = { JoinGives };
 
+    #[inline(always)]
     fn me(&self) -> Me {
         self.state.me
     }
 
+    #[inline(always)]
     fn finished(&self) -> bool {
         match self.state.point {
             JoinPoint::Start => false,
@@ -88,6 +91,7 @@ impl Machine for Join {
         }
     }
 
+    #[inline(always)]
     fn ask(&self) -> Ask {
         let me = self.state.me;
         Ask::Store {
@@ -96,6 +100,7 @@ impl Machine for Join {
         }
     }
 
+    #[inline(always)]
     fn take(&mut self, _seen: u64) -> Turn<()> {
         self.state.point = JoinPoint::Over;
         Turn::Done(())

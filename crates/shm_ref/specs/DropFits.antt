@@ -13,7 +13,7 @@ use Rattle.shm_count.specs.declared.answer.EraSpent.{EraSpent}
 use Rattle.shm_count.specs.declared.point.Aim.TheVariants.{Down}
 use Rattle.shm_count.specs.CountParts.{tear_part}
 use Rattle.shm_count.specs.Roots.{root_step, root_word, RootLowered}
-use Rattle.shm_count.specs.StepFits.{core}
+use Rattle.shm_graph.specs.Core.{core}
 use Rattle.shm_count.specs.TearEvents.{Visit, frees}
 use Rattle.shm_count.specs.TearFits.{CanTear}
 use Rattle.shm_ref.specs.declared.drop_root.DropPoint.{DropPoint}

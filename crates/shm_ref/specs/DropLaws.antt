@@ -23,11 +23,12 @@ use Rattle.shm_calls.specs.Plans.{PlanLaws, PlanStays, IsCall, Follows}
 use Rattle.shm_calls.specs.Words.{word_control, word_part_laws, WordLeaves}
 use Rattle.shm_count.specs.declared.answer.EraSpent.{EraSpent}
 use Rattle.shm_count.specs.CountParts.{tear_part, tear_part_laws}
+use Rattle.shm_count.specs.Lowering.{without_new}
 use Rattle.shm_count.specs.Roots.{root_word}
 use Rattle.shm_count.specs.StepControl.{IsInside}
-use Rattle.shm_count.specs.StepFits.{core}
+use Rattle.shm_graph.specs.Core.{core}
 use Rattle.shm_count.specs.StepMachines.{down_control}
-use Rattle.shm_count.specs.StepMemos.{here_same}
+use Rattle.shm_steps.proofs.Cores.{here_same}
 use Rattle.shm_count.specs.TearControl.{tear_control}
 use Rattle.shm_count.specs.TearEvents.{Visit, frees}
 use Rattle.shm_count.specs.TearFits.{TearLeaves}
@@ -36,9 +37,10 @@ use Rattle.shm_ref.specs.declared.drop_root.DropPoint.TheVariants.{Load, Lower, 
 use Rattle.shm_ref.specs.declared.drop_root.DropState.{DropState}
 use Rattle.shm_ref.specs.DropControl.{DropAnswer, drop_parts, root_at, drop_call_at, is_load}
 use Rattle.shm_ref.specs.DropFits.{IsLoaded, IsLowered, DropKnows, DropLeaves, drop_plan}
-use Rattle.shm_ref.specs.Leaving.{without_new, all_outside, left_core, left_lowered, left_stays, lowered_core, may_still, named_events}
+use Rattle.shm_ref.specs.Leaving.{all_outside, left_core, left_lowered, left_stays, lowered_core, may_still, named_events}
 use Rattle.shm_ref.specs.Lefts.{RootEvents}
-use Rattle.shm_ref.specs.RootParts.{IsFound, load_needs, load_part, lower_laws, lower_part, LoweredBy, root_names}
+use Rattle.shm_steps.specs.WordParts.{OwnLoaded}
+use Rattle.shm_ref.specs.RootParts.{load_needs, load_part, lower_laws, lower_part, LoweredBy, root_names}
 use Rattle.shm_count.specs.Retaining.{held_counted, remains_core, remains_then}
 
 stays : (m : DropState) (b : DropAnswer) → PlanStays drop_parts drop_plan m b
@@ -74,11 +76,11 @@ module _ (m : DropState) (r0 rs r : Memo) (tr t : Trail) (es ds : List Event) (h
   Leads a = Follows drop_parts drop_plan m a r0 r (tr ++ t) (es ++ ds)
 
   -- the root was loaded
-  loaded : (n : ℕ) → DropKnows m Load r0 rs tr es → WordLeaves (IsFound m.me k) (record { me = m.me; ask = ask.Load (root_at m); over = false }) rs r t ds n → Leads (First n)
+  loaded : (n : ℕ) → DropKnows m Load r0 rs tr es → WordLeaves (OwnLoaded (Root m.me.who k)) (record { me = m.me; ask = ask.Load (root_at m); over = false }) rs r t ds n → Leads (First n)
   loaded n (may, low, same, none, quiet) w =
-      let cored : core r ≡ core r0 = w.found.1 ∙ ap core same in
+      let cored : core r ≡ core r0 = w.found.left ∙ ap core same in
       let here : root_word c r k ≡ root_word c r0 k = ap (λ (x : Memo). root_word c x k) cored in
-      let names : root_word c r0 k ≡ n = sym (w.found.0 ∙ ap (λ (x : Memo). root_word c x k) same) in
+      let names : root_word c r0 k ≡ n = sym (w.found.found ∙ ap (λ (x : Memo). root_word c x k) same) in
       let silent : es ++ ds ≡ [] = ap (λ (x : List Event). x ++ ds) quiet ∙ w.none in
       let bound : IsWithin 1 (tr ++ t) = (let e = ap length (ap (λ (x : Trail). x ++ t) none) in let o = w.one in omega arith) in
       let after : ℕ → DropState = λ z. record m { block = z; point = Lower } in
@@ -219,7 +221,7 @@ drop_laws =
       stays = stays;
       calls = λ m. calls m m.point;
       parts = λ m. let first = is_load m.point in
-          or_part_laws first word_control (or_control down_control tear_control) (load_part m.me m.root first) (or_part (lower_part m.me m.root m.block) tear_part) (word_part_laws first m.me (ask.Load (root_at m)) (IsFound m.me m.root))
+          or_part_laws first word_control (or_control down_control tear_control) (load_part m.me m.root first) (or_part (lower_part m.me m.root m.block) tear_part) (word_part_laws first m.me (ask.Load (root_at m)) (OwnLoaded (Root m.me.who m.root)))
           (or_part_laws first down_control tear_control (lower_part m.me m.root m.block) tear_part (lower_laws m.me m.root m.block first) (tear_part_laws first));
       opens = λ m. opens m m.point;
       leads = λ m r0 rs r tr t es ds a h g held same. leads m m.point r0 rs r tr t es ds a h g held;

@@ -14,24 +14,17 @@ use Rattle.shm_graph.specs.Events as event
 use Rattle.shm_graph.specs.Spots.{same_spot}
 use Rattle.shm_graph.specs.Stores.{not_block}
 use Rattle.shm_graph.specs.Views.{own_word}
+use Rattle.shm_count.specs.Lowering.{stays_rest}
 use Rattle.shm_count.specs.Roots.{rest, root_word, RootLowered}
-use Rattle.shm_count.specs.StepFits.{core}
+use Rattle.shm_graph.specs.Core.{core}
 use Rattle.shm_count.specs.TearEvents.{Walks, frees}
-use Rattle.shm_count.specs.StepMemos.{here_same}
+use Rattle.shm_steps.proofs.Cores.{here_same}
 use Rattle.shm_count.specs.TearFits.{is_outside}
 use Rattle.shm_count.specs.TearMemos.{Stays, is_slot_word}
 use Rattle.shm_ref.specs.Lefts.{is_root_of, Left, MayDrop, RootEvents}
 use Rattle.shm_graph.specs.declared.memo.Stored.{Stored}
 
 -- ---- lists
-
--- a block that has joined a list is taken out of it
-pub without_new : (t : ℕ) (ds : List ℕ) → (Contains ds t → ⊥) → filter (not_block t) (ds ++ t ∷ []) ≡ ds
-without_new t [] n = ap (λ z. cond (not z) (t ∷ []) []) (eq-eqb t t refl)
-without_new t (d ∷ ds) n =
-    let xs : List ℕ = filter (not_block t) (ds ++ t ∷ []) in
-    ap (λ z. cond (not z) (d ∷ xs) xs) (ne_eqb t d (λ e. n (0, omega arith, sym e)))
-    ∙ ap (λ y. d ∷ y) (without_new t ds (λ h. n (Contains-append_right (d ∷ []) ds t h)))
 
 -- where no block is torn down all are outside
 pub all_outside : (ds : List ℕ) → filter (is_outside []) ds ≡ ds
@@ -79,16 +72,12 @@ left_lowered c k t z m r h =
       ];
     }
 
--- a tear-down leaves the rest
-pub stays_rest : (c : ℕ) (m r : Memo) → Stays c m r → rest r ≡ rest m
-stays_rest c m r s = rw (s.status, s.latch, s.making, s.owned, s.sent, s.unsent, s.received, s.untaken, s.part) refl
-
 -- and what was left before
 pub left_stays : (c : ℕ) (e : ℕ → Bool) (m q r : Memo) → Left c e m q → Stays c q r → Left c e m r
 left_stays c e m q r h s =
     record {
       rest = stays_rest c q r s ∙ h.rest;
-      op = s.op ∙ h.op;
+      op = ap (λ (x : Memo). x.op) s.rest ∙ h.op;
       own = λ p l n. s.own p l ∙ h.own p l n;
       roots = λ j. elim (h.roots j) [ inl u ↦ inl (s.own (Root c j) refl ∙ u) | inr u ↦ inr (s.own (Root c j) refl ∙ u) ];
     }

@@ -7,6 +7,12 @@ pub mod DropLaws
 pub mod RootsControl
 pub mod RootsFits
 pub mod RootsLaws
+pub mod AskedParts
 pub mod HoldControl
 pub mod HoldFits
 pub mod HoldLaws
+pub mod RootOfFits
+pub mod RootOfLaws
+pub mod ReleaseFits
+pub mod ReleaseLaws
+pub mod Machines

@@ -2,7 +2,7 @@
 use Rattle.std.proofs.Common.{◌≡◌, ◌≢◌, ℕ, ◌+◌, ◌^◌, ◌<◌, ◌≤◌, refl, sym, ap, ◌∙◌, subst, arith, Bool, false, List, [], ◌∷◌}
 use Rattle.std.specs.Prelude.{◌-◌, Result, Ok, Err}
 use Rattle.std.specs.List.{Contains}
-use Rattle.std.proofs.lemmas.Bool.{and_from, eq-eqb, lt-ltb, true≢false}
+use Rattle.std.proofs.lemmas.Bool.{eq-eqb, true≢false}
 use Rattle.shm_words.specs.declared.place.Place.TheVariants as place
 use Rattle.shm_words.specs.Layout.{address, total_of}
 use Rattle.shm_graph.specs.declared.ask.Ask.TheVariants as ask
@@ -16,17 +16,15 @@ use Rattle.shm_graph.specs.Asks.{Trail, IsWithin}
 use Rattle.shm_graph.specs.Events.{Event}
 use Rattle.shm_graph.specs.Events as event
 use Rattle.shm_graph.specs.Held.{HeldAt}
-use Rattle.shm_graph.specs.Laws.{framed}
 use Rattle.shm_graph.specs.Ops.{cover, cover_of}
-use Rattle.shm_graph.specs.Spots.{spot_at}
 use Rattle.shm_graph.specs.Views.{own_word, view, targets}
 use Rattle.shm_graph.proofs.Holders.{target_counted}
 use Rattle.shm_graph.proofs.Reached.{shown_target}
-use Rattle.shm_graph.proofs.SpotPlaces.{spot-place}
 use Rattle.shm_calls.specs.declared.word.Word.{Word}
 use Rattle.shm_calls.specs.Parts.{IsHeld, Part, PartLaws, weaker, weaker_laws}
 use Rattle.shm_calls.specs.Words.{word_part}
-use Rattle.shm_calls.specs.WordSteps.{load_at}
+use Rattle.shm_steps.specs.WordParts.{OwnLoaded}
+use Rattle.shm_steps.proofs.WordsOwn.{root_load}
 use Rattle.shm_count.specs.declared.answer.EraSpent.{EraSpent}
 use Rattle.shm_count.specs.declared.point.Aim.{Aim}
 use Rattle.shm_count.specs.declared.point.Aim.TheVariants.{Down}
@@ -35,38 +33,27 @@ use Rattle.shm_count.specs.CountParts.{StepLeaves, down_part, down_part_laws}
 use Rattle.shm_count.specs.DyingBlocks.{live_room}
 use Rattle.shm_count.specs.Roots.{root_step, root_word, RootLowered}
 use Rattle.shm_count.specs.StepControl.{IsInside}
-use Rattle.shm_count.specs.StepFits.{core, CanStep}
+use Rattle.shm_graph.specs.Core.{core}
+use Rattle.shm_count.specs.StepFits.{CanStep}
 use Rattle.shm_count.specs.StepMachines.{down_control, down_told}
-use Rattle.shm_count.specs.StepMemos.{called_core, room_least}
+use Rattle.shm_steps.proofs.Cores.{room_least}
 use Rattle.shm_count.proofs.RootLeaves.{root_leaves}
 use Rattle.shm_count.proofs.RootSpots.{fits_root, root_can}
-use Rattle.shm_count.proofs.StepBound.{step_bound}
+use Rattle.shm_count.specs.StepBound.{step_bound}
 use Rattle.shm_ref.specs.Lefts.{MayDrop}
 
 -- ---- the load
 
--- what is found is what the memo shows, and nothing else comes of it
-abbrev pub IsFound : Me → ℕ → Memo → ℕ → Memo → Type 0
-IsFound me k m n x = (n ≡ root_word me.who m k) × (core x ≡ core m)
-
 -- the load of root k
 abbrev pub load_part : Me → ℕ → Bool → Part Word ℕ
-load_part me k first = word_part first me (ask.Load (address me.geometry (place.Root me.who k))) (IsFound me k)
+load_part me k first = word_part first me (ask.Load (address me.geometry (place.Root me.who k))) (OwnLoaded (Root me.who k))
 
 module _ (me : Me) (k : ℕ) (l : me.who < me.geometry.clients) (s : k < 16) where
   abbrev c : ℕ
   c = me.who
 
-  abbrev at : ℕ
-  at = address me.geometry (place.Root c k)
-
-  root_there : (class : ℕ → ℕ → ℕ) → spot_at me.geometry class at ≡ Root c k
-  root_there class = spot-place me.geometry class (place.Root c k) (and_from _ _ (lt-ltb c me.geometry.clients l) (lt-ltb k 16 s))
-
-  pub load_needs : (first : Bool) (m : Memo) → (load_part me k first).needs (record { me = me; ask = ask.Load at; over = false }) m
-  load_needs first m =
-      load_at first me at (IsFound me k) m (Root c k) root_there (λ e. cc) refl tt
-      (λ w r f st same. (sym (st.held.mine c st.who (Root c k) (eq-eqb c c refl)) ∙ ap (λ (x : Memo). root_word c x k) same, called_core (r c) (framed me (ask.Load at) f (w (Root c k))) ∙ ap core same))
+  pub load_needs : (first : Bool) (m : Memo) → (load_part me k first).needs (record { me = me; ask = ask.Load (address me.geometry (place.Root me.who k)); over = false }) m
+  load_needs first m = root_load first me m l k s
 
   -- in a held state a root with no step in progress names a counted block of the pool, and the own era is one that a header has room for
   abbrev pub Names : Memo → Type 0

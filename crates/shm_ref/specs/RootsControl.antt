@@ -1,6 +1,7 @@
 -- the control of a drop of all roots
 use Rattle.std.specs.Prelude.{◌+◌, ◌<◌, Bool, ◌==◌, if◌then◌else◌, Option, Some, None, Result, Ok, Err}
 use Rattle.shm_words.specs.Layout.{GeometryFits}
+use Rattle.shm_graph.specs.declared.ask.Me.{Me}
 use Rattle.shm_graph.specs.Laws.{Control}
 use Rattle.shm_calls.specs.declared.calls.Calls.{Calls}
 use Rattle.shm_calls.specs.CallsControl.{calls_control, calls_of}
@@ -17,6 +18,10 @@ RootsCall = Calls DropState DropCall (Result Bool EraSpent) DropAnswer
 -- their control
 abbrev pub drop_root : Control RootsCall (Result Bool EraSpent)
 drop_root = calls_control drop_parts drop_plan
+
+-- before its first call
+abbrev pub dropping_roots : Me → RootsState
+dropping_roots me = record { me = me; root = 0 }
 
 abbrev pub roots_call : RootsState → RootsCall
 roots_call m = calls_of drop_plan (dropping m.me m.root)

@@ -1,5 +1,5 @@
 -- what is owed of a drop of all roots
-use Rattle.std.proofs.Common.{◌≡◌, ℕ, ◌+◌, ◌*◌, ◌≢◌, refl, sym, ◌∙◌, subst, arith, Bool, true, false, List, [], ◌++◌, length, add-one, inl, inr}
+use Rattle.std.proofs.Common.{◌≡◌, ℕ, ◌+◌, ◌*◌, ◌<◌, ◌≢◌, refl, sym, ◌∙◌, subst, arith, Bool, true, false, List, [], ◌++◌, length, add-one, inl, inr}
 use Rattle.std.specs.Prelude.{◌==◌, ◌||◌, nat_lt, if◌then◌else◌, Option, Some, None, Result, Ok, Err}
 use Rattle.std.proofs.lemmas.Bool.{cases_eq, ne_eqb, eqb-true, eqb-false}
 use Rattle.std.proofs.lemmas.Bool.Decides.{nat_tests}
@@ -20,24 +20,22 @@ use Rattle.shm_ref.specs.DropFits.{Dropped, DropLeaves, drop_plan}
 use Rattle.shm_ref.specs.DropLaws.{drop_laws}
 use Rattle.shm_ref.specs.Leaving.{left_core, left_more, left_then, left_root, left_empty, may_still, frees-append}
 use Rattle.shm_ref.specs.Lefts.{MayDrop, RootEvents, RootsEvents}
-use Rattle.shm_ref.specs.RootsControl.{drop_root, roots_call}
+use Rattle.shm_ref.specs.RootsControl.{drop_root, dropping_roots, roots_call}
 use Rattle.shm_ref.specs.RootsFits.{AreGone, RootsKnows, RootsLeaves, roots_plan}
 
 -- the next root
 abbrev on : RootsState → RootsState
 on m = record m { root = m.root + 1 }
 
-stays : (m : RootsState) (b : Result Bool EraSpent) → PlanStays drop_root roots_plan m b
-stays m (Err e) = record { same_me = refl; same_line = refl; same_start = refl; started = λ e. absurd (cc) }
-stays m (Ok z) = record { same_me = same (λ (x : RootsState). x.me) refl (m.root == 15); same_line = refl; same_start = same roots_plan.start refl (m.root == 15); started = later (m.root == 15) }
-  where
-    same : {T : Type 0} (f : RootsState → T) → f (on m) ≡ f m → (q : Bool) → f (if q then m else on m) ≡ f m
-    same f e true = refl
-    same f e false = e
+-- what both states after a root are alike in
+same : (m : RootsState) {T : Type 0} (f : RootsState → T) → f (on m) ≡ f m → (q : Bool) → f (if q then m else on m) ≡ f m
+same m f e true = refl
+same m f e false = e
 
-    later : (q : Bool) → ◌≡◌ {A = Option (Result (Unit {0}) EraSpent)} (if q then Some (Ok tt) else None) None → ((if q then m else on m).root == 0) ≡ false
-    later true e = absurd (cc)
-    later false e = ne_eqb (m.root + 1) 0 (λ z. absurd (omega arith))
+-- where it goes on, it is at a later root
+later : (m : RootsState) (q : Bool) → ◌≡◌ {A = Option (Result (Unit {0}) EraSpent)} (if q then Some (Ok tt) else None) None → ((if q then m else on m).root == 0) ≡ false
+later m true e = absurd (cc)
+later m false e = ne_eqb (m.root + 1) 0 (λ z. absurd (omega arith))
 
 -- a root is dropped from what is known before it
 opens : (m : RootsState) (r0 r : Memo) (tr : Trail) (es : List Event) → RootsKnows m r0 r tr es → MayCall drop_parts drop_plan (roots_call m) r
@@ -82,20 +80,13 @@ module _ (m : RootsState) (r0 rs r : Memo) (tr t : Trail) (es ds : List Event) (
       )
 
 -- a root that was dropped leads on
-leads : (m : RootsState) (r0 rs r : Memo) (tr t : Trail) (es ds : List Event) (b : Result Bool EraSpent) → RootsKnows m r0 rs tr es → DropLeaves (dropping m.me m.root) rs r t ds b → Follows drop_root roots_plan m b r0 r (tr ++ t) (es ++ ds)
-leads m r0 rs r tr t es ds (Err e) h g = stopped m r0 rs r tr t es ds h e g
-leads m r0 rs r tr t es ds (Ok z) h g = go (m.root == 15) (eqb-true m.root 15) (eqb-false m.root 15)
-  where
-    gone : AreGone m.me (m.root + 1) r0 r (tr ++ t) (es ++ ds)
-    gone = one_more m r0 rs r tr t es ds h z g
-
-    go : (q : Bool) → (q ≡ true → m.root ≡ 15) → (q ≡ false → m.root ≢ 15)
-        → Outcome (if q then Some (Ok tt) else None) (RootsKnows (if q then m else on m) r0 r (tr ++ t) (es ++ ds)) (RootsLeaves (record m { root = 0 }) r0 r (tr ++ t) (es ++ ds))
-    go true last more = subst (λ n. AreGone m.me n r0 r (tr ++ t) (es ++ ds)) (let e = last refl in omega arith) gone
-    go false last more = record { may = h.may; low = (let l = h.low in let n = more refl in omega arith); gone = gone }
+went : (m : RootsState) (r0 r : Memo) (tr : Trail) (es : List Event) → MayDrop m.me r0 → m.root < 16 → AreGone m.me (m.root + 1) r0 r tr es → (q : Bool) → (q ≡ true → m.root ≡ 15) → (q ≡ false → m.root ≢ 15)
+    → Outcome (if q then Some (Ok tt) else None) (RootsKnows (if q then m else on m) r0 r tr es) (RootsLeaves (record m { root = 0 }) r0 r tr es)
+went m r0 r tr es may low gone true last more = subst (λ n. AreGone m.me n r0 r tr es) (let e = last refl in omega arith) gone
+went m r0 r tr es may low gone false last more = record { may = may; low = (let n = more refl in omega arith); gone = gone }
 
 -- what is known before the first root
-pub roots_begin : (me : Me) (r : Memo) → MayDrop me r → RootsKnows (record { me = me; root = 0 }) r r [] []
+pub roots_begin : (me : Me) (r : Memo) → MayDrop me r → RootsKnows (dropping_roots me) r r [] []
 roots_begin me r may =
     record {
       may = may;
@@ -112,3 +103,11 @@ roots_laws =
       opens = opens;
       leads = λ m r0 rs r tr t es ds b h g held same. leads m r0 rs r tr t es ds b h g;
     }
+  where
+    stays : (m : RootsState) (b : Result Bool EraSpent) → PlanStays drop_root roots_plan m b
+    stays m (Err e) = record { same_me = refl; same_line = refl; same_start = refl; started = λ e. absurd (cc) }
+    stays m (Ok z) = record { same_me = same m (λ (x : RootsState). x.me) refl (m.root == 15); same_line = refl; same_start = same m roots_plan.start refl (m.root == 15); started = later m (m.root == 15) }
+
+    leads : (m : RootsState) (r0 rs r : Memo) (tr t : Trail) (es ds : List Event) (b : Result Bool EraSpent) → RootsKnows m r0 rs tr es → DropLeaves (dropping m.me m.root) rs r t ds b → Follows drop_root roots_plan m b r0 r (tr ++ t) (es ++ ds)
+    leads m r0 rs r tr t es ds (Err e) h g = stopped m r0 rs r tr t es ds h e g
+    leads m r0 rs r tr t es ds (Ok z) h g = went m r0 r (tr ++ t) (es ++ ds) h.may h.low (one_more m r0 rs r tr t es ds h z g) (m.root == 15) (eqb-true m.root 15) (eqb-false m.root 15)

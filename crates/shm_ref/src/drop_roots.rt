@@ -2,6 +2,7 @@
 
 ghost use Rattle.std.specs.Prelude.{◌≡◌, ◌<◌};
 ghost use Rattle.shm_words.specs.Layout.{GeometryFits};
+ghost use Rattle.shm_ref.specs.RootsControl.{dropping_roots};
 ghost use Rattle.shm_ref.specs.RootsFits.{roots_plan};
 ghost use Rattle.shm_ref.specs.RootsLaws.{roots_laws};
 
@@ -45,7 +46,7 @@ impl DroppingRoots {
     pub fn new(me: Me) -> DroppingRoots
         requires geometry { GeometryFits me.geometry }
         requires who { me.who < me.geometry.clients }
-        ensures { result ≡ record { me = me; root = 0 } }
+        ensures { result ≡ dropping_roots me }
     {
         DroppingRoots {
             state: RootsState { me, root: 0 },

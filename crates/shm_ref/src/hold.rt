@@ -2,10 +2,11 @@
 
 ghost use Rattle.std.specs.Prelude.{◌≡◌, ◌<◌};
 ghost use Rattle.shm_words.specs.Layout.{GeometryFits};
-ghost use Rattle.shm_ref.specs.declared.hold.HoldPoint.TheVariants.{Want};
+ghost use Rattle.shm_ref.specs.HoldControl.{holding};
 ghost use Rattle.shm_ref.specs.HoldFits.{hold_plan};
 ghost use Rattle.shm_ref.specs.HoldLaws.{hold_laws};
 
+use crate::answer::Busy;
 use shm_calls::{Calls, Plan, Word};
 use shm_graph::{Machine, Me};
 use std::marker::Model;
@@ -21,11 +22,12 @@ pub enum HoldPoint {
     Back,
 }
 
-/// The control of it; `author` is whose latch it is.
+/// The control of it; `author` is whose latch it is, and `holder` who was found to hold it.
 #[derive(Clone, Copy, Debug, PartialEq, Eq, Drop)]
 pub struct HoldState {
     pub me: Me,
     pub author: u8,
+    pub holder: u8,
     pub point: HoldPoint,
 }
 
@@ -47,21 +49,23 @@ impl Model for Holding {
     ghost invariant = { λ a. HoldInRange a.state };
 }
 
-/// It answers whether the latch was taken; where it was another's nothing has changed.
+/// It answers `Busy` where the exchange found the latch held; the hold word is then 0 again, and nothing else has changed.
 pub type Hold = Calls<Holding>;
 
 impl Holding {
     /// The latch of `author` is to be taken by the identity `me`.
+    #[inline(always)]
     pub fn new(me: Me, author: u8) -> Holding
         requires geometry { GeometryFits me.geometry }
         requires who { me.who < me.geometry.clients }
         requires author { author < me.geometry.clients }
-        ensures { result ≡ record { me = me; author = author; point = Want } }
+        ensures { result ≡ holding me author }
     {
         Holding {
             state: HoldState {
                 me,
                 author,
+                holder: 0,
                 point: HoldPoint::Want,
             },
         }
@@ -71,16 +75,23 @@ impl Holding {
 impl Plan for Holding {
     type Call = Word;
 
-    type Answer = bool;
+    type Answer = Result<(), Busy>;
 
     ghost plan = { hold_plan };
 
+    #[inline(always)]
     fn me(&self) -> Me {
         self.state.me
     }
 
+    #[inline(always)]
     fn call(&self) -> Word {
-        let HoldState { me, author, point } = self.state;
+        let HoldState {
+            me,
+            author,
+            point,
+            ..
+        } = self.state;
         let hold = me.geometry.hold(me.who);
         match point {
             HoldPoint::Want => Word::store(me, hold, u64::from(author) + 1),
@@ -91,7 +102,8 @@ impl Plan for Holding {
         }
     }
 
-    fn next(&mut self, word: u64) -> Option<bool> {
+    #[inline(always)]
+    fn next(&mut self, word: u64) -> Option<Result<(), Busy>> {
         match self.state.point {
             HoldPoint::Want => {
                 self.state.point = HoldPoint::Take;
@@ -99,13 +111,17 @@ impl Plan for Holding {
             }
             HoldPoint::Take => {
                 if word == 0 {
-                    Some(true)
+                    Some(Ok(()))
                 } else {
+                    self.state.holder = ((word - 1) % 256) as u8;
                     self.state.point = HoldPoint::Back;
                     None
                 }
             }
-            HoldPoint::Back => Some(false),
+            HoldPoint::Back => {
+                let holder = self.state.holder;
+                Some(Err(Busy { holder }))
+            }
         }
     }
 

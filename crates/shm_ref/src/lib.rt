@@ -1,16 +1,32 @@
-//! Latches and roots of an identity: taking a latch, and making a root empty with all that only it names.
+//! Latches and roots of an identity: taking a latch and giving it back, telling what a root names, and making a root empty with all that
+//! only it names.
 //!
 //! Each machine is a plan of calls (`shm_calls`): the type with the operation's name is the machine, and the plan that it is made of says
 //! which call comes next.
 #![tactic(auto)]
 
+pub mod answer;
+pub mod bound;
 pub mod drop_root;
 pub mod drop_roots;
+pub mod events;
 pub mod hold;
 pub mod parts;
+pub mod release;
+pub mod root_of;
 
+pub use answer::Busy;
+pub use bound::{drop_root_bound, hold_bound, release_bound, root_of_bound};
 pub use drop_root::{DropRoot, Dropping};
+pub use events::{
+    drop_root_begins, drop_root_events, drop_root_leaves, hold_begins, hold_events, hold_leaves,
+    release_begins, release_events, release_leaves, root_of_begins, root_of_events, root_of_leaves,
+};
 pub use hold::{Hold, Holding};
+pub use release::{Release, Releasing};
+pub use root_of::{Naming, RootOf};
 
+#[cfg(test)]
+mod drop_tests;
 #[cfg(test)]
 mod tests;

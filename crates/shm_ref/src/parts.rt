@@ -1,5 +1,9 @@
 //! The plans' states, and machines that are no operation by themselves, for machines that are composed of them.
 
+pub use crate::bound::drop_roots_bound;
 pub use crate::drop_root::{DropPoint, DropState};
 pub use crate::drop_roots::{DropRoots, DroppingRoots, RootsState};
+pub use crate::events::{drop_roots_begins, drop_roots_events, drop_roots_leaves};
 pub use crate::hold::{HoldPoint, HoldState};
+pub use crate::release::{ReleasePoint, ReleaseState};
+pub use crate::root_of::NamingState;

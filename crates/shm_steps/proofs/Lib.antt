@@ -38,3 +38,10 @@ pub mod Reaching
 pub mod Seeking
 pub mod HeldOver
 pub mod UnlatchedValue
+pub mod Cores
+pub mod WordsOwn
+pub mod WordsShared
+pub mod WordsQueues
+pub mod WordsBlocks
+pub mod WordsTest
+pub mod WordsExchanges

@@ -8,3 +8,4 @@ pub mod Reading
 pub mod Beginning
 pub mod Reparting
 pub mod Walking
+pub mod WordParts

@@ -8,6 +8,7 @@
 mod beginning;
 mod exchanging;
 mod own;
+mod parts;
 mod preparing;
 mod reading;
 mod tables;
@@ -17,6 +18,7 @@ mod writing;
 pub use beginning::{changes_begin, slots_begin, words_begin};
 pub use exchanging::header_exchanges;
 pub use own::{own_stores, root_begins};
+pub use parts::word_parts;
 pub use preparing::preparing_steps;
 pub use reading::body_loads;
 pub use tables::{table_steps, table_walks};

@@ -1,6 +1,9 @@
 pub mod FirstJoin
-pub mod RunSteps
+pub mod Called
+pub mod RootEvents
+pub mod JoinEvents
 pub mod Answering
 pub mod RootAnswers
+pub mod RootCalls
 pub mod AllocRoots
 pub mod TearAnswers

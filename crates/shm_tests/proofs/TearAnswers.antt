@@ -27,7 +27,7 @@ use Rattle.shm_count.specs.TearGoing.{begins}
 use Rattle.shm_count.specs.TearMemos.{Stays}
 use Rattle.shm_count.specs.Roots.{member, root_word, tear_of}
 use Rattle.shm_count.proofs.RootSpots.{is_here}
-use Rattle.shm_tests.proofs.RunSteps.{fits_acting}
+use Rattle.shm_plain.proofs.Calling.{fits_acting}
 
 -- ---- before
 
@@ -80,10 +80,10 @@ pub tear_idle : (g : Geometry) (c b : ℕ) (r0 r : Memo) (tr : Trail) (a : Resul
 tear_idle g c b r0 r tr a idle h =
     let s = stays_of g c b r0 r tr a h in
     record {
-      live = s.status ∙ idle.live;
-      op = s.op ∙ idle.op;
-      making = s.making ∙ idle.making;
-      hold = s.own (Hold c) refl ∙ (idle.hold ∙ ap hold_word (sym s.latch));
+      live = ap (λ (x : Memo). x.status) s.rest ∙ idle.live;
+      op = ap (λ (x : Memo). x.op) s.rest ∙ idle.op;
+      making = ap (λ (x : Memo). x.making) s.rest ∙ idle.making;
+      hold = s.own (Hold c) refl ∙ (idle.hold ∙ ap hold_word (sym (ap (λ (x : Memo). x.latch) s.rest)));
     }
 
 -- where it is done the block is no zero-count block any more

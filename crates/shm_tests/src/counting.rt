@@ -1,20 +1,20 @@
 //! Count steps at the roots of an identity, on a pool.
 
-ghost use Rattle.std.specs.Prelude.{◌≡◌, ◌≢◌, ℕ, ◌+◌, ◌<◌, true, false, length, IfOk, IfErr, IfSome, IsNone};
+ghost use Rattle.std.specs.Prelude.{◌≡◌, ◌≢◌, ℕ, ◌<◌, true, [], ◌∷◌, IfOk, IfErr, IfSome};
+ghost use Rattle.std.specs.Option.{is_some};
 ghost use Rattle.std.specs.List.{Contains};
-ghost use Rattle.shm_words.specs.Layout.{GeometryFits};
-ghost use Rattle.shm_graph.specs.declared.memo.Memo.{Memo};
-ghost use Rattle.shm_graph.specs.Agents.{acts, recovers};
+ghost use Rattle.shm_graph.specs.declared.spot.Spot.TheVariants.{Root};
+ghost use Rattle.shm_graph.specs.Events.{Up, Down, ChangeUp, ChangeDown};
 ghost use Rattle.shm_graph.specs.Held.{is_loose};
-ghost use Rattle.shm_graph.specs.Idle.{IsIdle};
 ghost use Rattle.shm_graph.specs.Reach.{is_reached};
-ghost use Rattle.shm_plain.specs.Pools.{IsRun, MayStep, memo_of};
+ghost use Rattle.shm_plain.specs.Pools.{memo_of};
+ghost use Rattle.shm_plain.specs.Calls.{Did, IsAtWork, Ran};
 ghost use Rattle.shm_count.specs.declared.point.Aim.TheVariants as aims;
 ghost use Rattle.shm_count.specs.StepControl.{IsInside};
 ghost use Rattle.shm_count.specs.StepMachines.{ChangeGives, DownGives, UpGives};
 ghost use Rattle.shm_count.specs.Roots.{AreRootsReached, member, root_step, root_word};
+ghost use Rattle.shm_tests.specs.Answers.{if_done};
 
-use crate::driving::run;
 use shm_count::{EraSpent, StepChange, StepDown, StepUp, UpFault};
 use shm_graph::{Life, Me};
 use shm_plain::PlainPool;
@@ -27,12 +27,8 @@ pub fn raise(
     block: u32,
     life: &mut Life,
 ) -> Option<Result<(), UpFault>>
-    requires geometry { GeometryFits pool.old.start.geometry }
-    requires who { who < pool.old.start.geometry.clients }
+    requires at_work { IsAtWork who pool.old }
     requires root { root < 16 }
-    requires idle { IsIdle who (memo_of pool.old who) }
-    requires acts { acts (memo_of pool.old who) ≡ true }
-    requires client { recovers (memo_of pool.old who) ≡ false }
     requires empty { root_word who (memo_of pool.old who) root ≡ 0 }
     requires reached { is_reached who (memo_of pool.old who) block ≡ true }
     requires inside { IsInside (member pool.old.start.geometry who) block }
@@ -40,21 +36,15 @@ pub fn raise(
     ensures raised { IfSome result (λ a. IfOk a (λ u. root_word who (memo_of pool.new who) root ≡ block)) }
     ensures roots { IfSome result (λ a. IfOk a (λ u. (k : ℕ) → k ≢ root → root_word who (memo_of pool.new who) k ≡ root_word who (memo_of pool.old who) k)) }
     ensures refused { IfSome result (λ a. IfErr a (λ e. (k : ℕ) → root_word who (memo_of pool.new who) k ≡ root_word who (memo_of pool.old who) k)) }
-    ensures idle { IfSome result (λ a. IsIdle who (memo_of pool.new who)) }
-    ensures acts { IfSome result (λ a. acts (memo_of pool.new who) ≡ true) }
-    ensures client { IfSome result (λ a. recovers (memo_of pool.new who) ≡ false) }
     ensures loose { IfSome result (λ a. is_loose (memo_of pool.new who).part ≡ is_loose (memo_of pool.old who).part) }
     ensures reached { IfSome result (λ a. AreRootsReached who (memo_of pool.new who)) }
-    ensures agent { MayStep pool.new who }
-    ensures start { pool.new.start ≡ pool.old.start }
-    ensures others { (d : ℕ) → d ≢ who → memo_of pool.new d ≡ memo_of pool.old d }
-    ensures died { IsNone result → life.new.left ≡ 0 }
-    ensures spent { IfSome result (λ a. life.new.left + length (memo_of pool.new who).call ≡ life.old.left) }
-    ensures run { IsRun pool.new }
+    ensures at_work { IfSome result (λ a. IsAtWork who pool.new) }
+    ensures ran { Ran who true (is_some result) pool.old pool.new life.old.left life.new.left }
+    ensures events { IfSome result (λ a. Did who pool.old pool.new (if_done a (Up who (Root who root) block ∷ []))) }
 {
     let geometry = pool.geometry();
     let mut up = StepUp::new(Me::new(geometry, who), geometry.root(who, root), block);
-    run(pool, who, &mut up, life)
+    pool.call(who, &mut up, life)
 }
 
 /// Makes root `root` of `who`, which names `block`, empty, and says whether the block's count came to 0; none where no word step was left.
@@ -65,12 +55,8 @@ pub fn lower(
     block: u32,
     life: &mut Life,
 ) -> Option<Result<bool, EraSpent>>
-    requires geometry { GeometryFits pool.old.start.geometry }
-    requires who { who < pool.old.start.geometry.clients }
+    requires at_work { IsAtWork who pool.old }
     requires root { root < 16 }
-    requires idle { IsIdle who (memo_of pool.old who) }
-    requires acts { acts (memo_of pool.old who) ≡ true }
-    requires client { recovers (memo_of pool.old who) ≡ false }
     requires holds { root_word who (memo_of pool.old who) root ≡ block }
     requires inside { IsInside (member pool.old.start.geometry who) block }
     ensures gives { IfSome result (λ a. DownGives (root_step pool.old.start.geometry who root (aims.Down block)) (memo_of pool.old who) (memo_of pool.new who) (memo_of pool.new who).call a) }
@@ -78,21 +64,15 @@ pub fn lower(
     ensures roots { IfSome result (λ a. IfOk a (λ z. (k : ℕ) → k ≢ root → root_word who (memo_of pool.new who) k ≡ root_word who (memo_of pool.old who) k)) }
     ensures dying { IfSome result (λ a. IfOk a (λ z. z ≡ true → Contains (memo_of pool.new who).dying block)) }
     ensures refused { IfSome result (λ a. IfErr a (λ e. (k : ℕ) → root_word who (memo_of pool.new who) k ≡ root_word who (memo_of pool.old who) k)) }
-    ensures idle { IfSome result (λ a. IsIdle who (memo_of pool.new who)) }
-    ensures acts { IfSome result (λ a. acts (memo_of pool.new who) ≡ true) }
-    ensures client { IfSome result (λ a. recovers (memo_of pool.new who) ≡ false) }
     ensures loose { IfSome result (λ a. is_loose (memo_of pool.new who).part ≡ is_loose (memo_of pool.old who).part) }
     ensures reached { IfSome result (λ a. AreRootsReached who (memo_of pool.new who)) }
-    ensures agent { MayStep pool.new who }
-    ensures start { pool.new.start ≡ pool.old.start }
-    ensures others { (d : ℕ) → d ≢ who → memo_of pool.new d ≡ memo_of pool.old d }
-    ensures died { IsNone result → life.new.left ≡ 0 }
-    ensures spent { IfSome result (λ a. life.new.left + length (memo_of pool.new who).call ≡ life.old.left) }
-    ensures run { IsRun pool.new }
+    ensures at_work { IfSome result (λ a. IsAtWork who pool.new) }
+    ensures ran { Ran who true (is_some result) pool.old pool.new life.old.left life.new.left }
+    ensures events { IfSome result (λ a. Did who pool.old pool.new (if_done a (Down who (Root who root) block ∷ []))) }
 {
     let geometry = pool.geometry();
     let mut down = StepDown::new(Me::new(geometry, who), geometry.root(who, root), block);
-    run(pool, who, &mut down, life)
+    pool.call(who, &mut down, life)
 }
 
 /// Makes root `root` of `who`, which names `before`, name `after`, and says whether the count of `before` came to 0; none where no word step was left.
@@ -104,12 +84,8 @@ pub fn change(
     after: u32,
     life: &mut Life,
 ) -> Option<Result<bool, UpFault>>
-    requires geometry { GeometryFits pool.old.start.geometry }
-    requires who { who < pool.old.start.geometry.clients }
+    requires at_work { IsAtWork who pool.old }
     requires root { root < 16 }
-    requires idle { IsIdle who (memo_of pool.old who) }
-    requires acts { acts (memo_of pool.old who) ≡ true }
-    requires client { recovers (memo_of pool.old who) ≡ false }
     requires holds { root_word who (memo_of pool.old who) root ≡ before }
     requires other { before ≢ after }
     requires reached { is_reached who (memo_of pool.old who) after ≡ true }
@@ -120,17 +96,11 @@ pub fn change(
     ensures roots { IfSome result (λ a. IfOk a (λ z. (k : ℕ) → k ≢ root → root_word who (memo_of pool.new who) k ≡ root_word who (memo_of pool.old who) k)) }
     ensures dying { IfSome result (λ a. IfOk a (λ z. z ≡ true → Contains (memo_of pool.new who).dying before)) }
     ensures refused { IfSome result (λ a. IfErr a (λ e. (k : ℕ) → root_word who (memo_of pool.new who) k ≡ root_word who (memo_of pool.old who) k)) }
-    ensures idle { IfSome result (λ a. IsIdle who (memo_of pool.new who)) }
-    ensures acts { IfSome result (λ a. acts (memo_of pool.new who) ≡ true) }
-    ensures client { IfSome result (λ a. recovers (memo_of pool.new who) ≡ false) }
     ensures loose { IfSome result (λ a. is_loose (memo_of pool.new who).part ≡ is_loose (memo_of pool.old who).part) }
     ensures reached { IfSome result (λ a. AreRootsReached who (memo_of pool.new who)) }
-    ensures agent { MayStep pool.new who }
-    ensures start { pool.new.start ≡ pool.old.start }
-    ensures others { (d : ℕ) → d ≢ who → memo_of pool.new d ≡ memo_of pool.old d }
-    ensures died { IsNone result → life.new.left ≡ 0 }
-    ensures spent { IfSome result (λ a. life.new.left + length (memo_of pool.new who).call ≡ life.old.left) }
-    ensures run { IsRun pool.new }
+    ensures at_work { IfSome result (λ a. IsAtWork who pool.new) }
+    ensures ran { Ran who true (is_some result) pool.old pool.new life.old.left life.new.left }
+    ensures events { IfSome result (λ a. Did who pool.old pool.new (if_done a (ChangeUp who (Root who root) before after ∷ ChangeDown who before ∷ []))) }
 {
     let geometry = pool.geometry();
     let mut change = StepChange::new(
@@ -139,5 +109,5 @@ pub fn change(
         before,
         after,
     );
-    run(pool, who, &mut change, life)
+    pool.call(who, &mut change, life)
 }

@@ -4,19 +4,24 @@
 pub mod allocating;
 pub mod counting;
 pub mod driving;
+pub mod dropping;
 pub mod joining;
 pub mod leaving;
 pub mod tearing;
 
 pub use allocating::{allocate, join};
 pub use counting::{change, lower, raise};
-pub use driving::{joined, run};
+pub use driving::joined;
+pub use dropping::drop_root;
 pub use joining::{Stepped, step_join};
+pub use leaving::leave;
 pub use tearing::tear_down;
 
 #[cfg(test)]
 mod allocating_tests;
 #[cfg(test)]
 mod counting_tests;
+#[cfg(test)]
+mod dropping_tests;
 #[cfg(test)]
 mod tests;

@@ -69,6 +69,7 @@ fn watch_pool(pool: &mut PlainPool, steps: u32) -> Option<u64>
 }
 
 /// Makes the word step that is asked for.
+#[inline(always)]
 fn make_step(words: &mut Vec<u64>, ask: Ask) -> u64
     requires { at_of ask < vec_len words.old }
     ensures words { words.new.items ≡ words_set ask words.old.items }

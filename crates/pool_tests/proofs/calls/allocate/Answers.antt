@@ -6,11 +6,11 @@ use Rattle.shm_alloc.specs.declared.alloc.AllocFault.{AllocFault}
 use Rattle.shm_alloc.specs.AllocFits.{AllocGives}
 use Rattle.shm_count.specs.declared.answer.Made.{Made}
 use Rattle.shm_count.specs.StepControl.{IsInside}
-use Rattle.shm_pool.specs.Rules.{Stood}
 use Rattle.shm_pool.specs.Tokens.{Its}
 use Rattle.pool_tests.specs.Between.{me_now}
 use Rattle.pool_tests.proofs.Standing.{made_inside, reply_map}
 use Rattle.pool_tests.proofs.calls.allocate.Goals as goal
+use Rattle.shm_graph.specs.Runs.{Stood}
 
 pub returns-clause-inside : goal.returns-clause-inside
 returns-clause-inside c =

@@ -19,12 +19,12 @@ use Rattle.shm_count.specs.StepMachines.{DownFits, DownGives, down_control}
 use Rattle.shm_count.specs.Roots.{root_step, root_word}
 use Rattle.shm_pool.specs.Calls.{Tells}
 use Rattle.shm_pool.specs.Replies.{IfReply}
-use Rattle.shm_pool.specs.Rules.{Stood}
 use Rattle.shm_pool.specs.Tokens.{Its}
 use Rattle.pool_tests.specs.Between.{IsBetween}
 use Rattle.pool_tests.proofs.Standing.{lowered, root_others, came_to_zero, down_fits, reply_both, reply_map}
 use Rattle.pool_tests.proofs.calls.lower.Goals.{After-root, After-new-down, After-run}
 use Rattle.pool_tests.proofs.calls.lower.Goals as goal
+use Rattle.shm_graph.specs.Runs.{Stood}
 
 -- the pool's sizes and whose the client is, as the token says
 sizes : (c : After-root) → c.geometry-geometry.result ≡ c.args.client.now.of.start.geometry

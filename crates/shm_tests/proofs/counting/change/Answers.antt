@@ -1,136 +1,147 @@
-use Rattle.std.proofs.Common.{◌≡◌, ◌≢◌, ℕ, ◌^◌, ◌<◌, Bool, true, refl, sym, ap, ◌∙◌, subst, arith, Result}
-use Rattle.std.specs.Prelude.{IfOk, IfErr, IfSome}
+use Rattle.std.proofs.Common.{◌≡◌, ◌^◌, ◌<◌, Bool, true, refl, sym, ap, ◌∙◌, subst, List, [], ◌∷◌, Result}
+use Rattle.std.specs.Prelude.{Ok, Err, IfOk, IfSome}
 use Rattle.std.specs.List.{Contains}
-use Rattle.std.specs.Result.{is_ok}
-use Rattle.std.proofs.lemmas.Bool.{and_from, lt-ltb}
+use Rattle.std.specs.Option.{is_some}
 use Rattle.shm_words.specs.declared.geometry.Geometry.{Geometry}
 use Rattle.shm_words.specs.declared.place.Place.TheVariants as place
-use Rattle.shm_words.specs.Layout.{address, is_in}
-use Rattle.shm_words.proofs.Placing.{address_small}
+use Rattle.shm_words.specs.Layout.{address}
 use Rattle.shm_graph.specs.declared.memo.Memo.{Memo}
-use Rattle.shm_graph.specs.declared.memo.Status.TheVariants.{Live, Gone}
 use Rattle.shm_graph.specs.declared.spot.Spot.TheVariants.{Root}
-use Rattle.shm_graph.specs.Agents.{acts}
-use Rattle.shm_graph.specs.Held.{is_loose}
-use Rattle.shm_graph.specs.Idle.{IsIdle}
+use Rattle.shm_graph.specs.Events.{Event}
+use Rattle.shm_graph.specs.Events as event
 use Rattle.shm_graph.specs.Whole.{fits_now}
 use Rattle.shm_plain.specs.Pools.{memo_of, readied}
+use Rattle.shm_plain.specs.Calls.{Did, Ran}
+use Rattle.shm_plain.proofs.Calling.{fits_acting}
 use Rattle.shm_count.specs.declared.answer.UpFault.{UpFault}
-use Rattle.shm_count.specs.declared.point.Aim.{Aim}
 use Rattle.shm_count.specs.declared.point.Aim.TheVariants.{Change}
 use Rattle.shm_count.specs.declared.point.StepPoint.TheVariants.{Era}
 use Rattle.shm_count.specs.declared.point.StepState.{StepState}
+use Rattle.shm_count.specs.Roots.{member, root_step}
 use Rattle.shm_count.specs.StepControl.{step_control}
+use Rattle.shm_count.specs.StepEvents.{own_events, step_event}
+use Rattle.shm_count.specs.StepFits.{StepFits, StepGives}
 use Rattle.shm_count.specs.StepMachines.{ChangeFits, ChangeGives}
-use Rattle.shm_count.specs.Roots.{AreRootsReached, member, root_step, root_word}
-use Rattle.shm_tests.proofs.Answering.{some_both, some_map}
-use Rattle.shm_tests.proofs.RootAnswers.{change_dying, change_left, err_same, ok_others, ok_root}
-use Rattle.shm_count.proofs.RootMemos.{StepLeft}
-use Rattle.shm_count.proofs.RootSpots.{can_root, fits_root, is_here, roots_reached, some_inside}
-use Rattle.shm_tests.proofs.RunSteps.{fits_acting}
-use Rattle.shm_tests.proofs.counting.change.Goals.{After-new-change, After-run}
+use Rattle.shm_count.specs.StepTells.{step_tells}
+use Rattle.shm_tests.specs.Answers.{if_done}
+use Rattle.shm_tests.proofs.Answering.{some_map}
+use Rattle.shm_tests.proofs.Called.{Called, ran_fresh, told_by, works}
+use Rattle.shm_tests.proofs.RootAnswers.{change_dying, change_left}
+use Rattle.shm_tests.proofs.RootCalls.{Left, RootLeft, change_fits, root_left, root_small}
+use Rattle.shm_tests.proofs.RootEvents.{events_at_slot, slot_laws}
+use Rattle.shm_tests.proofs.counting.change.Goals.{After-new-change, After-call}
 use Rattle.shm_tests.proofs.counting.change.Goals as goal
+
+-- the slot is the address of the root
+slot : (c : After-new-change) → c.root.result ≡ address c.args.pool.now.start.geometry (place.Root c.args.who c.args.root)
+slot c = c.root.ensures ∙ ap (λ (x : Geometry). address x (place.Root c.args.who c.args.root)) c.geometry-geometry.ensures.is
 
 pub new-change-requires-clause-slot : goal.new-change-requires-clause-slot
 new-change-requires-clause-slot c =
-    let g : Geometry = c.args.pool.now.start.geometry in
-    let at : c.root.result ≡ address g (place.Root c.args.who c.args.root) = c.root.ensures ∙ ap (λ (x : Geometry). address x (place.Root c.args.who c.args.root)) c.geometry-geometry.ensures.is in
-    let within : is_in g (place.Root c.args.who c.args.root) ≡ true = and_from _ _ (lt-ltb c.args.who g.clients c.requires.who) (lt-ltb c.args.root 16 c.requires.root) in
-    subst (λ n. n < 2 ^ 20) (sym at) (address_small g (place.Root c.args.who c.args.root) within c.requires.geometry)
+    let at : c.root.result ≡ address c.args.pool.now.start.geometry (place.Root c.args.who c.args.root) = c.root.ensures ∙ ap (λ (x : Geometry). address x (place.Root c.args.who c.args.root)) c.geometry-geometry.ensures.is in
+    subst (λ n. n < 2 ^ 20) (sym at) (root_small c.args.pool.now c.args.who c.args.root c.requires.root c.requires.at_work)
 
 -- the machine is the step at the root
-state : (c : After-new-change) → c.new-change.result ≡ root_step c.args.pool.now.start.geometry c.args.who c.args.root (Change c.args.before c.args.after)
+abbrev machine : (c : After-new-change) → StepState
+machine c = root_step c.args.pool.now.start.geometry c.args.who c.args.root (Change c.args.before c.args.after)
+
+state : (c : After-new-change) → c.new-change.result ≡ machine c
 state c =
-    let p = c.args.pool.now in
     let g = c.new.ensures.geometry ∙ c.geometry-geometry.ensures.is in
-    let me : c.new.result ≡ record { geometry = p.start.geometry; who = c.args.who } = (λ i. record { geometry = g i; who = c.new.ensures.who i }) in
-    let at : c.root.result ≡ address p.start.geometry (place.Root c.args.who c.args.root) = c.root.ensures ∙ ap (λ (x : Geometry). address x (place.Root c.args.who c.args.root)) c.geometry-geometry.ensures.is in
-    c.new-change.ensures ∙ (λ i. record { me = me i; slot = at i; aim = Change c.args.before c.args.after; point = Era })
+    let me : c.new.result ≡ member c.args.pool.now.start.geometry c.args.who = (λ i. record { geometry = g i; who = c.new.ensures.who i }) in
+    c.new-change.ensures ∙ (λ i. record { me = me i; slot = slot c i; aim = Change c.args.before c.args.after; point = Era })
 
--- it fits the memo before
-fit : (c : After-new-change) → let r0 : Memo = memo_of c.args.pool.now c.args.who in fits_now step_control ChangeFits c.new-change.result r0 (memo_of (readied c.args.pool.now c.args.who) c.args.who)
-fit c =
-    let p = c.args.pool.now in
-    let r0 : Memo = memo_of p c.args.who in
-    let x : Aim = Change c.args.before c.args.after in
-    let q = c.requires in
-    let can = can_root p.start.geometry c.args.who c.args.root q.geometry q.who q.root x r0 q.idle (λ u. q.client) (q.before_inside, q.after_inside)
-    (λ room. (refl, record { may = record { here = is_here c.args.who r0 q.idle; idle = q.idle.op; room = omega arith }; some = some_inside p.start.geometry c.args.who c.args.before q.before_inside; root = q.holds; other = q.other; source = q.reached }))
-    (λ u. q.reached) in
-    subst (λ (m : StepState). fits_now step_control ChangeFits m r0 (memo_of (readied p c.args.who) c.args.who)) (sym (state c))
-    (fits_acting step_control ChangeFits ChangeGives c.args.who p (root_step p.start.geometry c.args.who c.args.root x) q.acts refl
-    (refl, (Root c.args.who c.args.root, fits_root p.start.geometry c.args.who c.args.root q.geometry q.who q.root x r0 (q.before_inside, q.after_inside) can)))
+-- which fits the memo before
+fit : (c : After-new-change) → let r : Memo = memo_of c.args.pool.now c.args.who in StepFits (Root c.args.who c.args.root) (machine c) r r []
+fit c = change_fits c.args.pool.now c.args.who c.args.root c.requires.root c.requires.at_work c.args.before c.args.after c.requires.holds c.requires.other c.requires.reached c.requires.before_inside c.requires.after_inside
 
-pub run-requires-clause-fits : goal.run-requires-clause-fits
-run-requires-clause-fits c = (memo_of c.args.pool.now c.args.who, fit (goal.at.run-requires-clause-fits c).After-new-change)
+fits : (c : After-new-change) → fits_now step_control ChangeFits (machine c) (memo_of c.args.pool.now c.args.who) (memo_of (readied c.args.pool.now c.args.who) c.args.who)
+fits c = fits_acting step_control ChangeFits ChangeGives c.args.who c.args.pool.now (machine c) c.requires.at_work.acts refl (refl, (Root c.args.who c.args.root, fit c))
 
--- the answer tells of the memos before and after
-gives : (c : After-run) → let p = c.args.pool.now in let r : Memo = memo_of c.run.new.pool c.args.who in IfSome c.run.result (λ a. ChangeGives (root_step p.start.geometry c.args.who c.args.root (Change c.args.before c.args.after)) (memo_of p c.args.who) r r.call a)
-gives c =
-    let at = (goal.at.After-run c).After-new-change in
-    let r0 : Memo = memo_of c.args.pool.now c.args.who in
-    let r : Memo = memo_of c.run.new.pool c.args.who in
-    subst (λ (m : StepState). IfSome c.run.result (λ a. ChangeGives m r0 r r.call a)) (state at) (c.run.ensures.gives r0 (fit at))
+pub call-requires-clause-fits : goal.call-requires-clause-fits
+call-requires-clause-fits c =
+    let at = (goal.at.call-requires-clause-fits c).After-new-change in
+    let r : Memo = memo_of c.args.pool.now c.args.who in
+    (r, subst (λ (m : StepState). fits_now step_control ChangeFits m r (memo_of (readied c.args.pool.now c.args.who) c.args.who)) (sym (state at)) (fits at))
 
-pub returns-clause-gives : goal.returns-clause-gives
-returns-clause-gives c = gives (goal.at.returns-clause-gives c).After-run
+-- what the call says of the step
+called : (c : After-call) → let at = (goal.at.After-call c).After-new-change in Called step_control ChangeFits ChangeGives c.args.who c.args.pool.now (machine at) c.call.new.self c.args.life.now.left c.call.new.life.left c.call.result
+called c =
+    let at = (goal.at.After-call c).After-new-change in
+    subst (λ (m : StepState). Called step_control ChangeFits ChangeGives c.args.who c.args.pool.now m c.call.new.self c.args.life.now.left c.call.new.life.left c.call.result) (state at)
+    (record { gave = c.call.ensures.gives; ran = c.call.ensures.ran; took = c.call.ensures.took; events = c.call.ensures.events })
 
--- what is left, by the answer
-abbrev Left : (c : After-run) → Result Bool UpFault → Type 0
-Left c a = let g : Geometry = c.args.pool.now.start.geometry in StepLeft (member g c.args.who) (address g (place.Root c.args.who c.args.root)) c.args.root (memo_of c.args.pool.now c.args.who) c.args.after (is_ok a) (memo_of c.run.new.pool c.args.who)
+ran : (c : After-call) → Ran c.args.who true (is_some c.call.result) c.args.pool.now c.call.new.self c.args.life.now.left c.call.new.life.left
+ran c = ran_fresh step_control ChangeFits ChangeGives c.args.who c.args.pool.now (machine (goal.at.After-call c).After-new-change) c.call.new.self c.args.life.now.left c.call.new.life.left c.call.result (called c) refl
 
-left : (c : After-run) → IfSome c.run.result (Left c)
+abbrev Gave : (c : After-call) → Result Bool UpFault → Type 0
+Gave c a = let r : Memo = memo_of c.call.new.self c.args.who in ChangeGives (machine (goal.at.After-call c).After-new-change) (memo_of c.args.pool.now c.args.who) r r.call a
+
+gave : (c : After-call) → IfSome c.call.result (Gave c)
+gave c = (called c).gave (memo_of c.args.pool.now c.args.who) (fits (goal.at.After-call c).After-new-change)
+
+-- what is left
+left : (c : After-call) → RootLeft c.args.who c.args.root c.args.after (memo_of c.args.pool.now c.args.who) (memo_of c.call.new.self c.args.who) c.call.result
 left c =
     let p = c.args.pool.now in
-    let q = c.run.new.pool in
-    let r : Memo = memo_of q c.args.who in
-    some_map (λ (a : Result Bool UpFault). ChangeGives (root_step p.start.geometry c.args.who c.args.root (Change c.args.before c.args.after)) (memo_of p c.args.who) r r.call a) (Left c) c.run.result
-    (change_left p q c.geometry-geometry.ensures.run c.run.ensures.run c.run.ensures.start c.args.who c.args.root c.requires.who c.requires.root c.requires.idle c.args.before c.args.after) (gives c)
+    let q = c.call.new.self in
+    let w = c.requires.at_work in
+    let n = ran c in
+    root_left p q c.geometry-geometry.ensures.run c.args.who c.args.root c.requires.root w c.args.life.now.left c.call.new.life.left c.call.result n c.args.after
+    (some_map (Gave c) (Left p q c.geometry-geometry.ensures.run c.args.who c.args.root c.requires.root w c.args.life.now.left c.call.new.life.left c.call.result n c.args.after) c.call.result
+    (change_left p q c.geometry-geometry.ensures.run n.run n.start c.args.who c.args.root w.who c.requires.root w.idle c.args.before c.args.after) (gave c))
+
+pub returns-clause-gives : goal.returns-clause-gives
+returns-clause-gives c = gave (goal.at.returns-clause-gives c).After-call
 
 pub returns-clause-changed : goal.returns-clause-changed
-returns-clause-changed c =
-    let at = (goal.at.returns-clause-changed c).After-run in
-    some_map (Left at) (λ (a : Result Bool UpFault). IfOk a (λ u. root_word c.args.who (memo_of c.run.new.pool c.args.who) c.args.root ≡ c.args.after)) c.run.result
-    (λ a h. ok_root c.args.pool.now c.run.new.pool c.geometry-geometry.ensures.run c.run.ensures.run c.run.ensures.start c.args.who c.args.root c.requires.who c.requires.root c.requires.idle a c.args.after h) (left at)
+returns-clause-changed c = (left (goal.at.returns-clause-changed c).After-call).root
 
 pub returns-clause-roots : goal.returns-clause-roots
-returns-clause-roots c =
-    let at = (goal.at.returns-clause-roots c).After-run in
-    some_map (Left at) (λ (a : Result Bool UpFault). IfOk a (λ u. (k : ℕ) → k ≢ c.args.root → root_word c.args.who (memo_of c.run.new.pool c.args.who) k ≡ root_word c.args.who (memo_of c.args.pool.now c.args.who) k)) c.run.result
-    (λ a h. ok_others c.args.pool.now c.run.new.pool c.geometry-geometry.ensures.run c.run.ensures.run c.run.ensures.start c.args.who c.args.root c.requires.who c.requires.root c.requires.idle a c.args.after h) (left at)
+returns-clause-roots c = (left (goal.at.returns-clause-roots c).After-call).others
 
 pub returns-clause-dying : goal.returns-clause-dying
 returns-clause-dying c =
-    let at = (goal.at.returns-clause-dying c).After-run in
-    let p = c.args.pool.now in
-    let q = c.run.new.pool in
-    let r : Memo = memo_of q c.args.who in
-    some_map (λ (a : Result Bool UpFault). ChangeGives (root_step p.start.geometry c.args.who c.args.root (Change c.args.before c.args.after)) (memo_of p c.args.who) r r.call a) (λ (a : Result Bool UpFault). IfOk a (λ z. z ≡ true → Contains r.dying c.args.before)) c.run.result
-    (change_dying p q c.geometry-geometry.ensures.run c.run.ensures.run c.run.ensures.start c.args.who c.args.root c.requires.who c.requires.root c.requires.idle c.args.before c.args.after) (gives at)
+    let at = (goal.at.returns-clause-dying c).After-call in
+    let n = ran at in
+    some_map (Gave at) (λ (a : Result Bool UpFault). IfOk a (λ z. z ≡ true → Contains (memo_of c.call.new.self c.args.who).dying c.args.before)) c.call.result
+    (change_dying c.args.pool.now c.call.new.self c.geometry-geometry.ensures.run n.run n.start c.args.who c.args.root c.requires.at_work.who c.requires.root c.requires.at_work.idle c.args.before c.args.after) (gave at)
 
 pub returns-clause-refused : goal.returns-clause-refused
-returns-clause-refused c =
-    let at = (goal.at.returns-clause-refused c).After-run in
-    some_map (Left at) (λ (a : Result Bool UpFault). IfErr a (λ e. (k : ℕ) → root_word c.args.who (memo_of c.run.new.pool c.args.who) k ≡ root_word c.args.who (memo_of c.args.pool.now c.args.who) k)) c.run.result
-    (λ a h. err_same c.args.pool.now c.run.new.pool c.geometry-geometry.ensures.run c.run.ensures.run c.run.ensures.start c.args.who c.args.root c.requires.who c.requires.root c.requires.idle a c.args.after h) (left at)
-
-pub returns-clause-idle : goal.returns-clause-idle
-returns-clause-idle c =
-    let at = (goal.at.returns-clause-idle c).After-run in
-    some_map (Left at) (λ a. IsIdle c.args.who (memo_of c.run.new.pool c.args.who)) c.run.result (λ a h. h.idle) (left at)
-
-pub returns-clause-acts : goal.returns-clause-acts
-returns-clause-acts c =
-    let at = (goal.at.returns-clause-acts c).After-run in
-    let r : Memo = memo_of c.run.new.pool c.args.who in
-    some_both (Left at) (λ a. r.status ≢ Gone → acts r ≡ true) (λ a. acts r ≡ true) c.run.result (λ a h f. f (λ e. let live : Live ≡ Gone = sym h.idle.live ∙ e in absurd (cc))) (left at) c.run.ensures.acts
+returns-clause-refused c = (left (goal.at.returns-clause-refused c).After-call).same
 
 pub returns-clause-loose : goal.returns-clause-loose
-returns-clause-loose c =
-    let at = (goal.at.returns-clause-loose c).After-run in
-    some_map (Left at) (λ a. is_loose (memo_of c.run.new.pool c.args.who).part ≡ is_loose (memo_of c.args.pool.now c.args.who).part) c.run.result (λ a h. h.loose) (left at)
+returns-clause-loose c = (left (goal.at.returns-clause-loose c).After-call).loose
 
 pub returns-clause-reached : goal.returns-clause-reached
-returns-clause-reached c =
-    let at = (goal.at.returns-clause-reached c).After-run in
-    some_map (Left at) (λ a. AreRootsReached c.args.who (memo_of c.run.new.pool c.args.who)) c.run.result (λ a h. roots_reached c.args.who (memo_of c.run.new.pool c.args.who) h.idle.op) (left at)
+returns-clause-reached c = (left (goal.at.returns-clause-reached c).After-call).reached
+
+pub returns-clause-at_work : goal.returns-clause-at_work
+returns-clause-at_work c =
+    let at = (goal.at.returns-clause-at_work c).After-call in
+    works step_control ChangeFits ChangeGives c.args.who c.args.pool.now (machine (goal.at.After-call at).After-new-change) c.call.new.self c.args.life.now.left c.call.new.life.left c.call.result (called at) refl c.requires.at_work (left at).idle
+
+pub returns-clause-ran : goal.returns-clause-ran
+returns-clause-ran c = ran (goal.at.returns-clause-ran c).After-call
+
+-- the events by the answer
+abbrev events : (c : After-call) → List Event
+events c = event.ChangeUp c.args.who (Root c.args.who c.args.root) c.args.before c.args.after ∷ event.ChangeDown c.args.who c.args.before ∷ []
+
+done : (c : After-call) (a : Result Bool UpFault) → own_events (member c.args.pool.now.start.geometry c.args.who) (Change c.args.before c.args.after) (Root c.args.who c.args.root) a ≡ if_done a (events c)
+done c (Ok z) = refl
+done c (Err e) = refl
+
+pub returns-clause-events : goal.returns-clause-events
+returns-clause-events c =
+    let at = (goal.at.returns-clause-events c).After-call in
+    let m : StepState = machine (goal.at.After-call at).After-new-change in
+    let p = c.args.pool.now in
+    let q = c.call.new.self in
+    let r0 : Memo = memo_of p c.args.who in
+    let r : Memo = memo_of q c.args.who in
+    let s = Root c.args.who c.args.root in
+    told_by step_control ChangeFits ChangeGives c.args.who p m q c.args.life.now.left c.call.new.life.left c.call.result (called at) refl
+    (StepFits s) (StepGives s) (slot_laws s) (step_event s) (step_tells s) c.geometry-geometry.ensures.run (refl, c.requires.at_work.who, refl) c.requires.at_work.acts (fit (goal.at.After-call at).After-new-change)
+    (Gave at) (λ a. Did c.args.who p q (if_done a (events at))) (gave at)
+    (λ a g d. let y = g.1 in subst (λ (es : List Event). Did c.args.who p q es) (events_at_slot y.0 s m r0 r r.call (a) refl y.1 ∙ done at a) d)

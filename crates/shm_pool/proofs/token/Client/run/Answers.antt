@@ -3,10 +3,11 @@ use Rattle.shm_graph.specs.declared.run.Account.{Account}
 use Rattle.shm_graph.specs.declared.run.Start.{Start}
 use Rattle.shm_graph.specs.Agents.{acts, recovers}
 use Rattle.shm_graph.specs.Whole.{gives_now}
-use Rattle.shm_pool.specs.Rules.{Stood, alone}
+use Rattle.shm_pool.specs.Rules.{alone}
 use Rattle.shm_pool.specs.Tokens.{Acting, Its}
 use Rattle.shm_pool.proofs.Calling.{acts_stay}
 use Rattle.shm_pool.proofs.token.Client.run.Goals as goal
+use Rattle.shm_graph.specs.Runs.{Stood}
 
 pub invariant_of-self : goal.invariant_of-self
 invariant_of-self g c =

@@ -7,11 +7,12 @@ use Rattle.shm_graph.specs.declared.run.Start.{Start}
 use Rattle.shm_graph.specs.Agents.{acts, recovers}
 use Rattle.shm_graph.specs.Whole.{fits_now, gives_now}
 use Rattle.shm_graph.proofs.Composing.{some_of}
-use Rattle.shm_pool.specs.Rules.{Stood, alone}
+use Rattle.shm_pool.specs.Rules.{alone}
 use Rattle.shm_pool.specs.Tokens.{Acting, Its}
 use Rattle.shm_pool.specs.Calls.{Stepped}
 use Rattle.shm_pool.proofs.Calling.{is_over, acts_stay}
 use Rattle.shm_pool.proofs.token.Client.step.Goals as goal
+use Rattle.shm_graph.specs.Runs.{Stood}
 
 pub invariant_of-self-in-Done : goal.invariant_of-self-in-Done
 invariant_of-self-in-Done g c =

@@ -4,12 +4,13 @@ use Rattle.shm_graph.specs.declared.memo.Status.TheVariants.{Gone}
 use Rattle.shm_graph.specs.declared.run.Account.{Account}
 use Rattle.shm_graph.specs.Agents.{acts}
 use Rattle.shm_graph.specs.Whole.{gives_now}
-use Rattle.shm_pool.specs.Rules.{alone, Stood}
+use Rattle.shm_pool.specs.Rules.{alone}
 use Rattle.shm_pool.specs.Tokens.{Its, Token, recovering}
 use Rattle.shm_pool.proofs.Calling.{acts_leave}
 use Rattle.shm_pool.proofs.token.Corpse.recover_by.Given.{Over}
 use Rattle.shm_pool.proofs.token.Corpse.recover_by.Goals.{In-Some}
 use Rattle.shm_pool.proofs.token.Corpse.recover_by.Goals as goal
+use Rattle.shm_graph.specs.Runs.{Stood}
 
 left_gone : (g : Over) (c : In-Some g) → (alone c.run_place.new.place).memo.status ≡ Gone
 left_gone g c =

@@ -1,0 +1,40 @@
+-- a block that was made lies in the pool
+use Rattle.std.proofs.Common.{◌≡◌, ℕ, ◌<◌, sym, subst, List, ◌⊎◌, inl, inr}
+use Rattle.std.specs.List.{Contains}
+use Rattle.std.proofs.lemmas.List.Elements.{All-contains, Contains-append_left}
+use Rattle.shm_words.specs.declared.geometry.Geometry.{Geometry}
+use Rattle.shm_graph.specs.declared.ask.Me.{Me}
+use Rattle.shm_graph.specs.declared.memo.Memo.{Memo}
+use Rattle.shm_graph.specs.declared.memo.Stored.{Stored}
+use Rattle.shm_graph.specs.declared.spot.Spot.{Spot}
+use Rattle.shm_graph.specs.declared.spot.Spot.TheVariants as spot
+use Rattle.shm_graph.specs.Blocks.{classes, headers, IsBlock, IsLive}
+use Rattle.shm_graph.specs.Held.{HeldAt}
+use Rattle.shm_graph.specs.Views.{view}
+use Rattle.shm_graph.proofs.Holders.{InReach, held_live_block, reach_counted}
+use Rattle.shm_graph.proofs.KnownChange.{KnownHolds}
+use Rattle.shm_graph.proofs.Spotting.{block_within}
+use Rattle.shm_count.specs.declared.answer.Made.{Made}
+use Rattle.shm_count.specs.StepControl.{IsInside}
+use Rattle.shm_alloc.specs.declared.request.Request.{Request}
+use Rattle.shm_alloc.specs.AllocControl.{tag_asked}
+use Rattle.shm_alloc.specs.AllocFits.{MadeGives}
+
+-- a block whose tag is known is a block
+tagged_block : (g : Geometry) (w : Spot → ℕ) (r : ℕ → Memo) (c b x : ℕ) → HeldAt g w (view r) → c < g.clients → Contains (r c).known (record { spot = spot.Tag b; value = x }) → IsBlock g (classes w) b
+tagged_block g w r c b x h l known =
+    let k : KnownHolds g w (view r) c (record { spot = spot.Tag b; value = x }) = All-contains (KnownHolds g w (view r) c) (r c).known (record { spot = spot.Tag b; value = x }) (h.known c l) known in
+    held_live_block g w (view r) h b (go k.1)
+  where
+    go : Contains (r c).dying b ⊎ InReach w g (view r) c b → IsLive (headers w) b
+    go (inl d) = ((h.dying c l).listed b d).0
+    go (inr y) = (reach_counted g w (view r) h c b l y).0
+
+-- the new block lies in the pool
+pub block_inside : (me : Me) (q : Request) (r0 : Memo) (a : Made) (w : Spot → ℕ) (r : ℕ → Memo) → HeldAt me.geometry w (view r) → me.who < me.geometry.clients → MadeGives me q r0 (r me.who) a → IsInside me a.block
+block_inside me q r0 a w r held l h =
+    let k = h.knows.0 in
+    let tag = h.knows.2.tag in
+    let known = subst (λ (ks : List Stored). Contains ks (record { spot = spot.Tag a.block; value = tag_asked q me.who })) (sym h.knows.1) (Contains-append_left k.words r0.known _ tag) in
+    let y = block_within me.geometry (classes w) a.block (tagged_block me.geometry w r me.who a.block (tag_asked q me.who) held l known) in
+    (y.0, y.1)

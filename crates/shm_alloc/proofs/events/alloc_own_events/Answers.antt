@@ -1,0 +1,17 @@
+use Rattle.std.proofs.Common.{ap, ◌∙◌}
+use Rattle.shm_graph.specs.Tells.{happens_along}
+use Rattle.shm_count.proofs.CallEvents.{call_tells}
+use Rattle.shm_alloc.specs.declared.point.AllocPoint.{AllocPoint}
+use Rattle.shm_alloc.specs.AllocControl.{alloc_control, is_first}
+use Rattle.shm_alloc.specs.AllocEvents.{alloc_event}
+use Rattle.shm_alloc.specs.AllocFits.{AllocFits, AllocGives}
+use Rattle.shm_alloc.specs.AllocGoing.{begins}
+use Rattle.shm_alloc.specs.AllocLaws.{alloc_laws}
+use Rattle.shm_alloc.specs.AllocTells.{alloc_tells}
+use Rattle.shm_graph.specs.Runs.{memos_of}
+use Rattle.shm_alloc.proofs.events.alloc_own_events.Goals as goal
+
+pub returns : goal.returns
+returns c m a ms b r tr x first knows can call gives =
+    call_tells alloc_control AllocFits AllocGives alloc_laws alloc_event alloc_tells m a ms b tr (ap is_first first) (begins m (memos_of a.accounts m.me.who) first knows can) call
+    ∙ (ap (λ (y : AllocPoint). happens_along alloc_control alloc_event (record m { point = y }) tr) first ∙ gives.events)

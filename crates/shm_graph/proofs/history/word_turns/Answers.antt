@@ -1,0 +1,20 @@
+use Rattle.shm_graph.proofs.TurnsTaken.{turn_others, turn_allocated, turn_raised, turn_changed, turn_freed, turn_rows}
+use Rattle.shm_graph.proofs.history.word_turns.Goals as goal
+
+pub returns-clause-others : goal.returns-clause-others
+returns-clause-others c = turn_others
+
+pub returns-clause-allocated : goal.returns-clause-allocated
+returns-clause-allocated c = turn_allocated
+
+pub returns-clause-raised : goal.returns-clause-raised
+returns-clause-raised c = turn_raised
+
+pub returns-clause-changed : goal.returns-clause-changed
+returns-clause-changed c = turn_changed
+
+pub returns-clause-freed : goal.returns-clause-freed
+returns-clause-freed c = turn_freed
+
+pub returns-clause-rows : goal.returns-clause-rows
+returns-clause-rows c = turn_rows

@@ -1,0 +1,72 @@
+-- calls on a pool: machines of one identity that are stepped until they answer, or until no word step is left
+use Rattle.std.specs.Prelude.{◌≡◌, ◌≢◌, ℕ, ◌+◌, ◌<◌, Bool, true, false, List, [], ◌∷◌, ◌++◌, length}
+use Rattle.std.specs.List.{filter}
+use Rattle.shm_words.specs.Layout.{GeometryFits}
+use Rattle.shm_graph.specs.declared.memo.Status.TheVariants.{Gone}
+use Rattle.shm_graph.specs.declared.memo.Step.{Step}
+use Rattle.shm_graph.specs.declared.run.Move.{Move}
+use Rattle.shm_graph.specs.declared.run.Move.TheVariants.{Word, Dies, Begins}
+use Rattle.shm_graph.specs.Agents.{acts, recovers}
+use Rattle.shm_graph.specs.Asks.{Trail, call_before}
+use Rattle.shm_graph.specs.CallEvents.{events_in}
+use Rattle.shm_graph.specs.Events.{Event}
+use Rattle.shm_graph.specs.Idle.{IsIdle}
+use Rattle.shm_graph.specs.Laws.{Control}
+use Rattle.shm_graph.specs.Runs.{State, state}
+use Rattle.shm_graph.specs.Tells.{GoesOn, is_event, machine_steps}
+use Rattle.shm_plain.specs.Pools.{Pool, IsRun, MayStep, memo_of, readied}
+
+-- the words and accounts of a pool
+abbrev pub state_of : Pool → State
+state_of p = state p.words p.accounts
+
+-- c is one of the pool, and at work as a client, between two calls
+pub record IsAtWork (c : ℕ) (p : Pool) : Type 0 where
+  pub geometry : GeometryFits p.start.geometry
+  pub who : c < p.start.geometry.clients
+  pub idle : IsIdle c (memo_of p c)
+  pub acts : acts (memo_of p c) ≡ true
+  pub client : recovers (memo_of p c) ≡ false
+
+-- ---- turns
+
+-- word steps as turns
+abbrev pub words : List Step → List Move
+words [] = []
+words (t ∷ ts) = Word t ∷ words ts
+
+-- the turns are word steps of c, and beginnings of its agents
+abbrev pub AreOf : ℕ → List Move → Type 0
+AreOf c [] = Unit {0}
+AreOf c (Word t ∷ ms) = (t.me.who ≡ c) × AreOf c ms
+AreOf c (Begins d k ∷ ms) = (d ≡ c) × AreOf c ms
+AreOf c (Dies d ∷ ms) = ⊥
+
+-- The pool p grew to q by turns of c alone, and these are the events among them that change the graph
+pub record Did (c : ℕ) (p q : Pool) (es : List Event) : Type 0 where
+  pub turns : List Move
+  pub grew : q.turns ≡ p.turns ++ turns
+  pub own : AreOf c turns
+  pub events : filter is_event (events_in p.start.geometry c (state_of p) turns) ≡ es
+
+-- The pool p, in which an agent of c acts, grew to q by the steps of the machine m as it asked for this trail, and nothing else
+pub record Took {M A : Type 0} (k : Control M A) (c : ℕ) (p : Pool) (m : M) (q : Pool) : Type 0 where
+  pub trail : Trail
+  pub grew : q.turns ≡ (readied p c).turns ++ words (machine_steps k m trail)
+  pub goes : GoesOn k m trail
+  pub call : (memo_of q c).call ≡ call_before (k.fresh m) (memo_of (readied p c) c).call ++ trail
+
+-- ---- what is left
+
+-- What a call of c leaves of the pool p with x word steps left: the pool q with y left. All is as it was but for c, and an agent of c may step again. Where it answered, its agent acts, unless it left the status gone; is of the kind that it was of; and made a word step for each pair of the call, of which the first was the machine's first where `fresh`
+pub record Ran (c : ℕ) (fresh answered : Bool) (p q : Pool) (x y : ℕ) : Type 0 where
+  pub start : q.start ≡ p.start
+  pub others : (d : ℕ) → d ≢ c → memo_of q d ≡ memo_of p d
+  pub may : MayStep q c
+  pub run : IsRun q
+  pub did : (es : List Event) × Did c p q es
+  pub acts : answered ≡ true → (memo_of q c).status ≢ Gone → acts (memo_of q c) ≡ true
+  pub kind : answered ≡ true → recovers (memo_of q c) ≡ recovers (memo_of (readied p c) c)
+  pub spent : answered ≡ true → fresh ≡ true → y + length (memo_of q c).call ≡ x
+  pub some : answered ≡ true → 0 < x
+  pub died : answered ≡ false → y ≡ 0

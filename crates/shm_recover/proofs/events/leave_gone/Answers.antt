@@ -1,0 +1,5 @@
+use Rattle.shm_recover.specs.LeaveGone.{leave_gone}
+use Rattle.shm_recover.proofs.events.leave_gone.Goals as goal
+
+pub returns : goal.returns
+returns c = leave_gone

@@ -1,0 +1,18 @@
+//! How many word steps a leaving makes.
+
+ghost use Rattle.std.specs.Prelude.{ℕ, ◌+◌, Result, Ok, Err, List, length};
+ghost use Rattle.shm_graph.specs.declared.ask.Me.{Me as AMe};
+ghost use Rattle.shm_graph.specs.declared.memo.Memo.{Memo as AMemo};
+ghost use Rattle.shm_graph.specs.Asks.{Trail, IsWithin};
+ghost use Rattle.shm_graph.specs.Bounds.{leave_steps};
+ghost use Rattle.shm_count.specs.declared.answer.EraSpent.{EraSpent as ASpent};
+ghost use Rattle.shm_count.specs.TearEvents.{Visit, frees};
+ghost use Rattle.shm_ref.specs.Lefts.{Stopped};
+ghost use Rattle.shm_recover.specs.Machines.{LeaveGives, leave_told};
+
+/// A leaving took at most two word steps for each segment, 145, and 164 for each block that it freed or left on the way, and three more
+/// for each exchange that failed.
+pub fn leave_bound()
+    ensures done { (me : AMe) (r0 r : AMemo) (tr : Trail) → LeaveGives me r0 r tr (Ok tt) → IsWithin (leave_steps me.geometry.segments (frees (leave_told me tr))) tr }
+    ensures spent { (me : AMe) (r0 r : AMemo) (tr : Trail) (e : ASpent) → LeaveGives me r0 r tr (Err e) → (vs : List Visit) × Stopped me r0 r e.era vs × IsWithin (leave_steps me.geometry.segments (frees (leave_told me tr) + length vs)) tr }
+{}

@@ -1,0 +1,94 @@
+-- the machines as they are made: when they fit, what they give, and what they tell of their events
+use Rattle.std.specs.Prelude.{ℕ, Bool, Result, List}
+use Rattle.shm_graph.specs.declared.ask.Me.{Me}
+use Rattle.shm_graph.specs.declared.memo.Memo.{Memo}
+use Rattle.shm_graph.specs.Asks.{Trail}
+use Rattle.shm_graph.specs.Events.{Event}
+use Rattle.shm_graph.specs.Laws.{Control}
+use Rattle.shm_graph.specs.Tells.{happens_along}
+use Rattle.shm_calls.specs.declared.calls.Calls.{Calls}
+use Rattle.shm_calls.specs.declared.word.Word.{Word}
+use Rattle.shm_calls.specs.CallsControl.{calls_control, calls_of, calls_does}
+use Rattle.shm_calls.specs.CallsFit.{CallsFits, CallsGives}
+use Rattle.shm_calls.specs.Words.{word_control}
+use Rattle.shm_count.specs.declared.answer.EraSpent.{EraSpent}
+use Rattle.shm_ref.specs.declared.answer.Busy.{Busy}
+use Rattle.shm_ref.specs.declared.hold.HoldState.{HoldState}
+use Rattle.shm_ref.specs.declared.drop_roots.RootsState.{RootsState}
+use Rattle.shm_ref.specs.declared.release.ReleaseState.{ReleaseState}
+use Rattle.shm_ref.specs.declared.root_of.NamingState.{NamingState}
+use Rattle.shm_ref.specs.DropControl.{dropping, drop_parts}
+use Rattle.shm_ref.specs.DropFits.{drop_plan}
+use Rattle.shm_ref.specs.HoldControl.{holding}
+use Rattle.shm_ref.specs.HoldFits.{hold_plan}
+use Rattle.shm_ref.specs.ReleaseFits.{releasing, release_plan}
+use Rattle.shm_ref.specs.RootOfFits.{naming, naming_plan}
+use Rattle.shm_ref.specs.RootsControl.{RootsCall, drop_root, dropping_roots}
+use Rattle.shm_ref.specs.RootsFits.{roots_plan}
+
+-- ---- the drop of root k
+
+abbrev pub DropFits : Me → ℕ → Memo → Memo → Trail → Type 0
+DropFits me k = CallsFits drop_parts drop_plan (calls_of drop_plan (dropping me k))
+
+abbrev pub DropGives : Me → ℕ → Memo → Memo → Trail → Result Bool EraSpent → Type 0
+DropGives me k = CallsGives drop_parts drop_plan (calls_of drop_plan (dropping me k))
+
+abbrev pub drop_told : Me → ℕ → Trail → List Event
+drop_told me k = happens_along drop_root (calls_does drop_parts drop_plan) (calls_of drop_plan (dropping me k))
+
+-- ---- the drop of all roots
+
+abbrev pub drop_roots : Control (Calls RootsState RootsCall (Result (Unit {0}) EraSpent) (Result Bool EraSpent)) (Result (Unit {0}) EraSpent)
+drop_roots = calls_control drop_root roots_plan
+
+abbrev pub RootsFit : Me → Memo → Memo → Trail → Type 0
+RootsFit me = CallsFits drop_root roots_plan (calls_of roots_plan (dropping_roots me))
+
+abbrev pub RootsGive : Me → Memo → Memo → Trail → Result (Unit {0}) EraSpent → Type 0
+RootsGive me = CallsGives drop_root roots_plan (calls_of roots_plan (dropping_roots me))
+
+abbrev pub roots_told : Me → Trail → List Event
+roots_told me = happens_along drop_roots (calls_does drop_root roots_plan) (calls_of roots_plan (dropping_roots me))
+
+-- ---- the taking of the latch of a
+
+abbrev pub hold : Control (Calls HoldState Word (Result (Unit {0}) Busy) ℕ) (Result (Unit {0}) Busy)
+hold = calls_control word_control hold_plan
+
+abbrev pub HoldFits : Me → ℕ → Memo → Memo → Trail → Type 0
+HoldFits me a = CallsFits word_control hold_plan (calls_of hold_plan (holding me a))
+
+abbrev pub HoldGives : Me → ℕ → Memo → Memo → Trail → Result (Unit {0}) Busy → Type 0
+HoldGives me a = CallsGives word_control hold_plan (calls_of hold_plan (holding me a))
+
+abbrev pub hold_told : Me → ℕ → Trail → List Event
+hold_told me a = happens_along hold (calls_does word_control hold_plan) (calls_of hold_plan (holding me a))
+
+-- ---- what root k names
+
+abbrev pub root_of : Control (Calls NamingState Word ℕ ℕ) ℕ
+root_of = calls_control word_control naming_plan
+
+abbrev pub RootOfFits : Me → ℕ → Memo → Memo → Trail → Type 0
+RootOfFits me k = CallsFits word_control naming_plan (calls_of naming_plan (naming me k))
+
+abbrev pub RootOfGives : Me → ℕ → Memo → Memo → Trail → ℕ → Type 0
+RootOfGives me k = CallsGives word_control naming_plan (calls_of naming_plan (naming me k))
+
+abbrev pub root_of_told : Me → ℕ → Trail → List Event
+root_of_told me k = happens_along root_of (calls_does word_control naming_plan) (calls_of naming_plan (naming me k))
+
+-- ---- giving back the latch that is held
+
+abbrev pub release : Control (Calls ReleaseState Word (Unit {0}) ℕ) (Unit {0})
+release = calls_control word_control release_plan
+
+abbrev pub ReleaseFits : Me → Memo → Memo → Trail → Type 0
+ReleaseFits me = CallsFits word_control release_plan (calls_of release_plan (releasing me))
+
+abbrev pub ReleaseGives : Me → Memo → Memo → Trail → Unit {0} → Type 0
+ReleaseGives me = CallsGives word_control release_plan (calls_of release_plan (releasing me))
+
+abbrev pub release_told : Me → Trail → List Event
+release_told me = happens_along release (calls_does word_control release_plan) (calls_of release_plan (releasing me))

@@ -1,0 +1,42 @@
+//! How many word steps machines over latches and roots make.
+
+ghost use Rattle.std.specs.Prelude.{◌≡◌, ℕ, ◌+◌, ◌*◌, Bool, Result, Ok, Err, List, length};
+ghost use Rattle.shm_graph.specs.declared.ask.Me.{Me as AMe};
+ghost use Rattle.shm_graph.specs.declared.memo.Memo.{Memo as AMemo};
+ghost use Rattle.shm_graph.specs.Asks.{Trail, IsWithin};
+ghost use Rattle.shm_count.specs.declared.answer.EraSpent.{EraSpent as ASpent};
+ghost use Rattle.shm_count.specs.TearEvents.{Visit, frees};
+ghost use Rattle.shm_ref.specs.declared.answer.Busy.{Busy as ABusy};
+ghost use Rattle.shm_ref.specs.Lefts.{Stopped};
+ghost use Rattle.shm_ref.specs.Machines.{DropGives, drop_told, RootsGive, roots_told, HoldGives, ReleaseGives, RootOfGives};
+
+/// A drop of a root took at most 9 word steps and 164 for each block that it freed or left on the way, and three more for each exchange
+/// that failed.
+pub fn drop_root_bound()
+    ensures done { (me : AMe) (k : ℕ) (r0 r : AMemo) (tr : Trail) (z : Bool) → DropGives me k r0 r tr (Ok z) → IsWithin (9 + 164 * frees (drop_told me k tr)) tr }
+    ensures spent { (me : AMe) (k : ℕ) (r0 r : AMemo) (tr : Trail) (e : ASpent) → DropGives me k r0 r tr (Err e) → (vs : List Visit) × Stopped me r0 r e.era vs × IsWithin (9 + 164 * (frees (drop_told me k tr) + length vs)) tr }
+{}
+
+/// A drop of all roots took at most 144 word steps and 164 for each block that it freed or left on the way, and three more for each
+/// exchange that failed.
+pub fn drop_roots_bound()
+    ensures done { (me : AMe) (r0 r : AMemo) (tr : Trail) → RootsGive me r0 r tr (Ok tt) → IsWithin (144 + 164 * frees (roots_told me tr)) tr }
+    ensures spent { (me : AMe) (r0 r : AMemo) (tr : Trail) (e : ASpent) → RootsGive me r0 r tr (Err e) → (vs : List Visit) × Stopped me r0 r e.era vs × IsWithin (144 + 164 * (frees (roots_told me tr) + length vs)) tr }
+{}
+
+/// A latch is taken in two word steps, and found held in three.
+pub fn hold_bound()
+    ensures taken { (me : AMe) (a : ℕ) (r0 r : AMemo) (tr : Trail) → HoldGives me a r0 r tr (Ok tt) → length tr ≡ 2 }
+    ensures busy { (me : AMe) (a : ℕ) (r0 r : AMemo) (tr : Trail) (e : ABusy) → HoldGives me a r0 r tr (Err e) → length tr ≡ 3 }
+    ensures within { (me : AMe) (a : ℕ) (r0 r : AMemo) (tr : Trail) (b : Result (Unit {0}) ABusy) → HoldGives me a r0 r tr b → IsWithin 2 tr }
+{}
+
+/// A latch is given back in three word steps.
+pub fn release_bound()
+    ensures { (me : AMe) (r0 r : AMemo) (tr : Trail) → ReleaseGives me r0 r tr tt → length tr ≡ 3 }
+{}
+
+/// What a root names is told in one word step.
+pub fn root_of_bound()
+    ensures { (me : AMe) (k : ℕ) (r0 r : AMemo) (tr : Trail) (b : ℕ) → RootOfGives me k r0 r tr b → length tr ≡ 1 }
+{}

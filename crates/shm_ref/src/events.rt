@@ -1,0 +1,107 @@
+//! When machines over latches and roots may begin, what they do to the graph of references, and what they leave.
+
+ghost use Rattle.std.specs.Prelude.{◌≡◌, ℕ, ◌<◌, Bool, Result, []};
+ghost use Rattle.shm_graph.specs.declared.ask.Me.{Me as AMe};
+ghost use Rattle.shm_graph.specs.declared.memo.Memo.{Memo as AMemo};
+ghost use Rattle.shm_graph.specs.Asks.{Trail};
+ghost use Rattle.shm_graph.specs.Tells.{Tells};
+ghost use Rattle.shm_calls.specs.CallsControl.{calls_does};
+ghost use Rattle.shm_calls.specs.CallsFit.{CallsFits};
+ghost use Rattle.shm_calls.specs.Plans.{plan_trail};
+ghost use Rattle.shm_calls.specs.Words.{word_control};
+ghost use Rattle.shm_count.specs.declared.answer.EraSpent.{EraSpent as ASpent};
+ghost use Rattle.shm_ref.specs.declared.answer.Busy.{Busy as ABusy};
+ghost use Rattle.shm_ref.specs.DropControl.{drop_parts, dropping};
+ghost use Rattle.shm_ref.specs.DropFits.{DropLeaves, drop_plan};
+ghost use Rattle.shm_ref.specs.HoldControl.{holding};
+ghost use Rattle.shm_ref.specs.HoldFits.{MayTakeLatch, HoldLeaves, hold_plan};
+ghost use Rattle.shm_ref.specs.Lefts.{MayDrop};
+ghost use Rattle.shm_ref.specs.Machines.{DropFits, DropGives, drop_told, drop_roots, RootsFit, RootsGive, roots_told, hold, HoldFits, HoldGives, hold_told};
+ghost use Rattle.shm_ref.specs.Machines.{root_of, RootOfFits, RootOfGives, root_of_told, release, ReleaseFits, ReleaseGives, release_told};
+ghost use Rattle.shm_ref.specs.ReleaseFits.{MayRelease, Released, release_plan, releasing};
+ghost use Rattle.shm_ref.specs.RootOfFits.{Named, naming, naming_plan};
+ghost use Rattle.shm_ref.specs.RootsControl.{drop_root, dropping_roots};
+ghost use Rattle.shm_ref.specs.RootsFits.{RootsLeaves, roots_plan};
+
+/// A drop of a root fits each memo of an identity of the pool that is here, with no step in progress.
+pub fn drop_root_begins()
+    ensures { (me : AMe) (k : ℕ) (r : AMemo) → MayDrop me r → k < 16 → DropFits me k r r [] }
+{}
+
+/// The event of each word step of a drop of a root is the one that it tells: the loss of the reference, and those of the tear-down.
+pub fn drop_root_events()
+    ensures { Tells drop_root (CallsFits drop_parts drop_plan) (calls_does drop_parts drop_plan) }
+{}
+
+/// What a drop of a root gives speaks of the events that it tells, and what it asked is one of its trails.
+pub fn drop_root_leaves()
+    ensures leaves { (me : AMe) (k : ℕ) (r0 r : AMemo) (tr : Trail) (a : Result Bool ASpent) → DropGives me k r0 r tr a → DropLeaves (dropping me k) r0 r tr (drop_told me k tr) a }
+    ensures trail { (me : AMe) (k : ℕ) (r0 r : AMemo) (tr : Trail) (a : Result Bool ASpent) → DropGives me k r0 r tr a → plan_trail drop_plan (dropping me k) tr a }
+{}
+
+/// A drop of all roots fits each memo that the drop of one fits.
+pub fn drop_roots_begins()
+    ensures { (me : AMe) (r : AMemo) → MayDrop me r → RootsFit me r r [] }
+{}
+
+/// The event of each word step of a drop of all roots is the one that it tells.
+pub fn drop_roots_events()
+    ensures { Tells drop_roots (CallsFits drop_root roots_plan) (calls_does drop_root roots_plan) }
+{}
+
+/// What a drop of all roots gives speaks of the events that it tells, and what it asked is one of its trails.
+pub fn drop_roots_leaves()
+    ensures leaves { (me : AMe) (r0 r : AMemo) (tr : Trail) (a : Result (Unit {0}) ASpent) → RootsGive me r0 r tr a → RootsLeaves (dropping_roots me) r0 r tr (roots_told me tr) a }
+    ensures trail { (me : AMe) (r0 r : AMemo) (tr : Trail) (a : Result (Unit {0}) ASpent) → RootsGive me r0 r tr a → plan_trail roots_plan (dropping_roots me) tr a }
+{}
+
+/// The taking of a latch fits each memo of an identity of the pool that is here, with no step in progress and no latch.
+pub fn hold_begins()
+    ensures { (me : AMe) (a : ℕ) (r : AMemo) → MayTakeLatch me a r → HoldFits me a r r [] }
+{}
+
+/// No word step of the taking of a latch is an event.
+pub fn hold_events()
+    ensures tells { Tells hold (CallsFits word_control hold_plan) (calls_does word_control hold_plan) }
+    ensures none { (me : AMe) (a : ℕ) (r0 r : AMemo) (tr : Trail) (b : Result (Unit {0}) ABusy) → HoldGives me a r0 r tr b → hold_told me a tr ≡ [] }
+{}
+
+/// The latch is held as the hold word tells, or the holder that is answered is the one that the exchange found, and the hold word is 0.
+pub fn hold_leaves()
+    ensures leaves { (me : AMe) (a : ℕ) (r0 r : AMemo) (tr : Trail) (b : Result (Unit {0}) ABusy) → HoldGives me a r0 r tr b → HoldLeaves (holding me a) r0 r tr (hold_told me a tr) b }
+    ensures trail { (me : AMe) (a : ℕ) (r0 r : AMemo) (tr : Trail) (b : Result (Unit {0}) ABusy) → HoldGives me a r0 r tr b → plan_trail hold_plan (holding me a) tr b }
+{}
+
+/// The giving back of a latch fits each memo of an identity of the pool that is here, with no step in progress and a latch.
+pub fn release_begins()
+    ensures { (me : AMe) (a : ℕ) (r : AMemo) → MayRelease me a r → ReleaseFits me r r [] }
+{}
+
+/// No word step of the giving back of a latch is an event.
+pub fn release_events()
+    ensures tells { Tells release (CallsFits word_control release_plan) (calls_does word_control release_plan) }
+    ensures none { (me : AMe) (r0 r : AMemo) (tr : Trail) → ReleaseGives me r0 r tr tt → release_told me tr ≡ [] }
+{}
+
+/// The latch that was held is given back, the hold word is 0, and the looks are over.
+pub fn release_leaves()
+    ensures leaves { (me : AMe) (r0 r : AMemo) (tr : Trail) → ReleaseGives me r0 r tr tt → Released me r0 r tr (release_told me tr) }
+    ensures trail { (me : AMe) (r0 r : AMemo) (tr : Trail) → ReleaseGives me r0 r tr tt → plan_trail release_plan (releasing me) tr tt }
+{}
+
+/// What a root names may be asked with no step in progress.
+pub fn root_of_begins()
+    ensures { (me : AMe) (k : ℕ) (r : AMemo) → MayDrop me r → k < 16 → RootOfFits me k r r [] }
+{}
+
+/// The one word step of it is no event.
+pub fn root_of_events()
+    ensures tells { Tells root_of (CallsFits word_control naming_plan) (calls_does word_control naming_plan) }
+    ensures none { (me : AMe) (k : ℕ) (r0 r : AMemo) (tr : Trail) (b : ℕ) → RootOfGives me k r0 r tr b → root_of_told me k tr ≡ [] }
+{}
+
+/// It answers what the root names, and nothing else comes of it.
+pub fn root_of_leaves()
+    ensures leaves { (me : AMe) (k : ℕ) (r0 r : AMemo) (tr : Trail) (b : ℕ) → RootOfGives me k r0 r tr b → Named me k r0 r tr (root_of_told me k tr) b }
+    ensures trail { (me : AMe) (k : ℕ) (r0 r : AMemo) (tr : Trail) (b : ℕ) → RootOfGives me k r0 r tr b → plan_trail naming_plan (naming me k) tr b }
+{}

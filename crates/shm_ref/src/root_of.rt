@@ -1,0 +1,79 @@
+//! What a root of an identity names.
+
+ghost use Rattle.std.specs.Prelude.{◌≡◌, ◌<◌};
+ghost use Rattle.shm_words.specs.Layout.{GeometryFits};
+ghost use Rattle.shm_ref.specs.RootOfFits.{naming, naming_plan};
+ghost use Rattle.shm_ref.specs.RootOfLaws.{naming_laws};
+
+use shm_calls::{Calls, Plan, Word};
+use shm_graph::{Machine, Me};
+use std::marker::Model;
+
+/// The control of it.
+#[derive(Clone, Copy, Debug, PartialEq, Eq, Drop)]
+pub struct NamingState {
+    pub me: Me,
+    pub root: u8,
+}
+
+/// The one word step that tells what root `root` of an identity names.
+#[derive(Drop)]
+pub struct Naming {
+    state: NamingState,
+}
+
+impl Model for Naming {
+    ghost use Rattle.shm_ref.specs.declared.root_of.NamingState.{NamingState as AState};
+
+    ghost Value = { AState };
+
+    ghost view = { λ a. a.state };
+
+    ghost use Rattle.shm_ref.specs.RootOfFits.{NamingInRange};
+
+    ghost invariant = { λ a. NamingInRange a.state };
+}
+
+/// It answers the block that the root names, or 0.
+pub type RootOf = Calls<Naming>;
+
+impl Naming {
+    /// Root `root` of the identity `me`, before the word step.
+    #[inline(always)]
+    pub fn new(me: Me, root: u8) -> Naming
+        requires geometry { GeometryFits me.geometry }
+        requires who { me.who < me.geometry.clients }
+        requires root { root < 16 }
+        ensures { result ≡ naming me root }
+    {
+        Naming {
+            state: NamingState { me, root },
+        }
+    }
+}
+
+impl Plan for Naming {
+    type Call = Word;
+
+    type Answer = u32;
+
+    ghost plan = { naming_plan };
+
+    #[inline(always)]
+    fn me(&self) -> Me {
+        self.state.me
+    }
+
+    #[inline(always)]
+    fn call(&self) -> Word {
+        let NamingState { me, root } = self.state;
+        Word::load(me, me.geometry.root(me.who, root))
+    }
+
+    #[inline(always)]
+    fn next(&mut self, word: u64) -> Option<u32> {
+        Some((word % (1 << 20)) as u32)
+    }
+
+    ghost laws = { naming_laws };
+}
