@@ -1,11 +1,9 @@
 //! The report of one client's puts.
 
-ghost use Rattle.std.specs.Prelude.{◌≡◌, ℕ, List, length, IfOk};
+ghost use Rattle.std.specs.Prelude.{◌≡◌, length, IfOk};
 ghost use Rattle.shm_words.specs.Layout.{GeometryFits, total_of};
 ghost use Rattle.shm_graph.specs.Spots.{see};
 ghost use Rattle.shm_graph.specs.Clean.{IsClean};
-ghost use Rattle.shm_graph.specs.Tables.{IsTable};
-ghost use Rattle.shm_graph.specs.declared.table.Entry.{Entry as ATableEntry};
 ghost use Rattle.cxlshm.specs.Report.{IsReport, answered, put_entry, put_log};
 
 use shm_plain::Pair;
@@ -25,7 +23,6 @@ pub fn report_puts(
     requires fits { GeometryFits geometry }
     requires whole { length words.now ≡ total_of geometry }
     requires clean { IsClean geometry (see geometry words.now) }
-    requires table { (table : ℕ → ℕ → List ATableEntry) × IsTable geometry (see geometry words.now) table }
     requires answered { length blocks.now ≡ length puts.now }
     ensures { IfOk result (λ v. IsReport geometry words.now puts.now v.items) }
 {

@@ -1,6 +1,6 @@
 -- entries and chains, read from the words of a pool
 use Rattle.std.proofs.Common.{◌≡◌, ◌≢◌, ℕ, zero, suc, ◌+◌, ◌<◌, ◌≤◌, ◌^◌, List, [], ◌∷◌, ◌++◌, length, map, get_or, take, drop, sym, ap, ◌∙◌, refl, eqb, true, false, inl, inr, subst, add-one, arith}
-use Rattle.std.proofs.lemmas.Bool.{ne_eqb, eqb-true, eq-eqb, false≢true, or_cases}
+use Rattle.std.proofs.lemmas.Bool.{ne_eqb, eqb-true, eq-eqb, false≢true, or_cases, cases_eq}
 use Rattle.std.specs.Ordering.{nat_cmp}
 use Rattle.std.specs.BTreeMap.{insert_entry}
 use Rattle.std.specs.List.{IsDistinct, AllByRecursion, list_any}
@@ -10,6 +10,10 @@ use Rattle.std.proofs.lemmas.Map.Steps.{length-le_from_distinct_below}
 use Rattle.shm_words.specs.declared.geometry.Geometry.{Geometry}
 use Rattle.shm_words.specs.Layout.{total_of}
 use Rattle.shm_words.proofs.Placing.{total_most}
+use Rattle.shm_graph.specs.declared.spot.Spot.{Spot}
+use Rattle.shm_graph.specs.declared.spot.Spot.TheVariants.{Body}
+use Rattle.shm_graph.specs.Spots.{see}
+use Rattle.shm_graph.specs.References.{references}
 use Rattle.shm_graph.specs.Tables.{IsEntry, IsChain}
 use Rattle.shm_graph.specs.declared.table.Entry.{Entry}
 use Rattle.shm_graph.proofs.Reading.{live_below, shape_word, shape_reference}
@@ -20,9 +24,21 @@ use Rattle.shm_report.specs.TableRows.{contents_in, IsEntryAt, ReadsEntry, IsCha
 
 -- ---- entries
 
+-- what a word names lies in the pool
+pub reference_below : (g : Geometry) (ws : List ℕ) (p : Spot) → IsCleanPool g ws → references (see g ws) p < 531793
+reference_below g ws p pool =
+    elim (cases_eq (references (see g ws) p) 0) [
+      | inl e ↦ omega arith
+      | inr n ↦
+          let b = live_below g ws (references (see g ws) p) (pool.clean.targets p n) in
+          let m = total_most g pool.fits in
+          omega arith
+    ]
+
 -- the words of an entry and of its value block
 pub record EntryWords (g : Geometry) (ws : List ℕ) (e : Entry) : Type 0 where
   pub next : (contents_in g ws).refs e.block 0 ≡ get_or ws (e.block + 2) 0
+  pub next_below : (contents_in g ws).refs e.block 0 < 531793
   pub value : get_or ws (e.block + 3) 0 ≡ e.value
   pub key : get_or ws (e.block + 4) 0 ≡ e.key
   pub number : get_or ws (e.value + 2) 0 ≡ e.number
@@ -46,6 +62,7 @@ entry_words g ws c bucket e pool is =
     let a3 : e.value + 2 + 0 ≡ e.value + 2 = omega arith in
     record {
       next = r0 ∙ ap (λ n. get_or ws n 0) a0;
+      next_below = reference_below g ws (Body e.block 0) pool;
       value = ap (λ n. get_or ws n 0) (sym a1) ∙ (sym r1 ∙ is.value);
       key = ap (λ n. get_or ws n 0) (sym a2) ∙ (sym w2.0 ∙ is.key);
       number = ap (λ n. get_or ws n 0) (sym a3) ∙ (sym v0.0 ∙ is.number);
@@ -58,6 +75,7 @@ entry_words g ws c bucket e pool is =
 -- the same words, by the address of the block
 pub record WordsAt (g : Geometry) (ws : List ℕ) (at : ℕ) (e : Entry) : Type 0 where
   pub next : get_or ws (at + 2) 0 ≡ (contents_in g ws).refs e.block 0
+  pub next_below : (contents_in g ws).refs e.block 0 < 531793
   pub value : get_or ws (at + 3) 0 ≡ e.value
   pub key : get_or ws (at + 4) 0 ≡ e.key
   pub number : get_or ws (e.value + 2) 0 ≡ e.number
@@ -70,6 +88,7 @@ words_at g ws at e pool is =
     let w = entry_words g ws is.client is.bucket e pool is.is in
     record {
       next = ap (λ b. get_or ws (b + 2) 0) is.block ∙ sym w.next;
+      next_below = w.next_below;
       value = ap (λ b. get_or ws (b + 3) 0) is.block ∙ w.value;
       key = ap (λ b. get_or ws (b + 4) 0) is.block ∙ w.key;
       number = w.number;
@@ -151,11 +170,6 @@ chain_length g ws at es is =
 pub record Walks (g : Geometry) (ws : List ℕ) (c bucket : ℕ) (es : List Entry) (at n : ℕ) (old new : List (ℕ × (ℕ × ℕ))) : Type 0 where
   pub rest : IsChain (contents_in g ws) c bucket at (drop n es)
   pub added : new ≡ add_entries old (take n es)
-
-pub walk_entry : (g : Geometry) (ws : List ℕ) (c bucket : ℕ) (es : List Entry) (at n : ℕ) (old new : List (ℕ × (ℕ × ℕ))) → Walks g ws c bucket es at n old new → at ≢ 0 → (e : Entry) × IsEntryAt g ws at e
-walk_entry g ws c bucket es at n old new w more =
-    let h = chain_head g ws c bucket at (drop n es) w.rest more in
-    (h.entry, record { client = c; bucket = bucket; block = h.block; is = h.good })
 
 pub walk_step : (g : Geometry) (ws : List ℕ) (c bucket : ℕ) (es : List Entry) (at n : ℕ) (old new newer : List (ℕ × (ℕ × ℕ))) (r : ChainEntry) → Walks g ws c bucket es at n old new → at ≢ 0 → ((e : Entry) → IsEntryAt g ws at e → ReadsEntry g ws r e) → newer ≡ insert_entry nat_cmp new r.key (r.number, r.value) → Walks g ws c bucket es r.next (n + 1) old newer
 walk_step g ws c bucket es at n old new newer r w more reads put =

@@ -114,7 +114,7 @@ place_outside g a r inside e =
 
 -- ---- homes
 
-home_in : (g : Geometry) (c : ℕ) → c < g.clients → is_in g (place.Home c) ≡ true
+pub home_in : (g : Geometry) (c : ℕ) → c < g.clients → is_in g (place.Home c) ≡ true
 home_in g c l = lt-ltb c g.clients l
 
 home_spot : (g : Geometry) (class : ℕ → ℕ → ℕ) (c : ℕ) → c < g.clients → spot_at g class (address g (place.Home c)) ≡ Home c

@@ -12,6 +12,7 @@ use Rattle.shm_graph.specs.declared.table.Entry.{Entry}
 use Rattle.shm_graph.specs.Spots.{see}
 use Rattle.shm_graph.specs.Tables.{IsTable}
 use Rattle.shm_script.specs.Logged.{Logged}
+use Rattle.shm_report.specs.PoolWords.{IsCleanPool}
 use Rattle.shm_report.specs.Logs.{line_end, client_line, log_text}
 
 -- a row of the table as it is printed
@@ -65,9 +66,13 @@ value_lines count n (v ∷ vs) = codes "value v" ++ decimal n ++ codes " " ++ de
 abbrev pub table_line : List Row → List ℕ
 table_line rows = codes "table " ++ decimal (length rows) ++ line_end
 
--- `homes H` and `live L refs F`: how many homes are set, how many blocks are live, and how many words name one
+-- `homes H`, and `live L refs F`
+abbrev pub counts_lines : ℕ → ℕ → ℕ → List ℕ
+counts_lines homes live refs = codes "homes " ++ decimal homes ++ line_end ++ codes "live " ++ decimal live ++ codes " refs " ++ decimal refs ++ line_end
+
+-- how many homes are set, how many blocks are live, and how many words name one
 abbrev pub counts_text : Geometry → (Spot → ℕ) → List ℕ
-counts_text g w = codes "homes " ++ decimal (home_count g w) ++ line_end ++ codes "live " ++ decimal (live_count g w) ++ codes " refs " ++ decimal (reference_count g (classes w) (references w)) ++ line_end
+counts_text g w = counts_lines (home_count g w) (live_count g w) (reference_count g (classes w) (references w))
 
 -- the lines that say what the pool holds, for these rows
 abbrev pub rows_text : Geometry → (Spot → ℕ) → List Row → List ℕ
@@ -89,9 +94,9 @@ report_of g w table logs = flat_map log_text logs ++ table_text g w table
 abbrev pub summary_of : Geometry → (Spot → ℕ) → (ℕ → ℕ → List Entry) → List Logged → List ℕ
 summary_of g w table logs = flat_map client_line logs ++ table_line (rows_below g.clients table) ++ counts_text g w
 
--- the text is the report, or the summary, of these logs and of the table that the words hold
+-- where the words are those of a clean pool, the text is the report, or the summary, of these logs and of the table that they hold
 abbrev pub IsReport : Geometry → List ℕ → List Logged → List ℕ → Type 0
-IsReport g ws logs text = (table : ℕ → ℕ → List Entry) → IsTable g (see g ws) table → text ≡ report_of g (see g ws) table logs
+IsReport g ws logs text = IsCleanPool g ws → (table : ℕ → ℕ → List Entry) → IsTable g (see g ws) table → text ≡ report_of g (see g ws) table logs
 
 abbrev pub IsSummary : Geometry → List ℕ → List Logged → List ℕ → Type 0
-IsSummary g ws logs text = (table : ℕ → ℕ → List Entry) → IsTable g (see g ws) table → text ≡ summary_of g (see g ws) table logs
+IsSummary g ws logs text = IsCleanPool g ws → (table : ℕ → ℕ → List Entry) → IsTable g (see g ws) table → text ≡ summary_of g (see g ws) table logs

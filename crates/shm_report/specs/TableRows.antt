@@ -6,6 +6,7 @@ use Rattle.shm_graph.specs.Spots.{see}
 use Rattle.shm_graph.specs.References.{references}
 use Rattle.shm_graph.specs.Tables.{Contents, contents_of, IsEntry, IsChain, IsTable}
 use Rattle.shm_graph.specs.declared.table.Entry.{Entry}
+use Rattle.shm_report.specs.PoolWords.{IsCleanPool}
 use Rattle.shm_report.specs.Report.{Row}
 use Rattle.shm_report.specs.declared.table_rows.ChainEntry.{ChainEntry}
 use Rattle.shm_report.specs.declared.table_rows.TableRow.{TableRow}
@@ -39,13 +40,9 @@ pub record IsChainAt (g : Geometry) (ws : List ℕ) (at : ℕ) (es : List Entry)
 abbrev pub HoldsTable : Geometry → List ℕ → (ℕ → ℕ → List Entry) → Type 0
 HoldsTable g ws = IsTable g (see g ws)
 
--- the words hold some table
-abbrev pub SomeTable : Geometry → List ℕ → Type 0
-SomeTable g ws = (table : ℕ → ℕ → List Entry) × HoldsTable g ws table
-
--- this is so for each table that the words hold
+-- where the words are those of a clean pool, this is so for each table that they hold
 abbrev pub EachTable : Geometry → List ℕ → ((ℕ → ℕ → List Entry) → Type 0) → Type 0
-EachTable g ws P = (table : ℕ → ℕ → List Entry) → HoldsTable g ws table → P table
+EachTable g ws P = IsCleanPool g ws → (table : ℕ → ℕ → List Entry) → HoldsTable g ws table → P table
 
 -- the row that a row of the program shows
 abbrev pub row_seen : TableRow → Row

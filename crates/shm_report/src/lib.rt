@@ -8,3 +8,8 @@ mod texts;
 mod value_names;
 
 pub use texts::{report, summary};
+
+#[cfg(test)]
+mod tests;
+#[cfg(test)]
+mod vectors;

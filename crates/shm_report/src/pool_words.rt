@@ -1,6 +1,6 @@
 //! What the words of a closed pool say: which of them are references, and how many blocks, references and homes there are.
 
-ghost use Rattle.std.specs.Prelude.{◌≡◌, ◌<◌, ◌≤◌, slice_index, true};
+ghost use Rattle.std.specs.Prelude.{◌≡◌, ◌+◌, ◌^◌, ◌<◌, ◌≤◌, slice_index, true};
 ghost use Rattle.shm_words.specs.Layout.{GeometryFits, total_of, address, is_in};
 ghost use Rattle.shm_graph.specs.Spots.{see, spot_at, spot_of, block_spot, classes_in};
 ghost use Rattle.shm_graph.specs.Blocks.{classes, headers, IsBlock};
@@ -15,6 +15,23 @@ pub fn word(words: &[u64], at: u32) -> u64
     ensures { result ≡ slice_index words.now at }
 {
     words.get(at as usize).copied().unwrap_or(0)
+}
+
+/// The word that stands so far behind an address, and 0 past the end.
+pub fn word_behind(words: &[u64], at: u32, by: u32) -> u64
+    ensures { at + by < 2 ^ 32 → result ≡ slice_index words.now (at + by) }
+{
+    match at.checked_add(by) {
+        Some(place) => word(words, place),
+        None => 0,
+    }
+}
+
+/// That word where it is below 2^32, and otherwise 0.
+pub fn small_behind(words: &[u64], at: u32, by: u32) -> u32
+    ensures { at + by < 2 ^ 32 → slice_index words.now (at + by) < 2 ^ 32 → result ≡ slice_index words.now (at + by) }
+{
+    u32::try_from(word_behind(words, at, by)).unwrap_or(0)
 }
 
 /// What the word at an address is for, by the classes of the pages.
@@ -84,9 +101,9 @@ pub fn header_at(geometry: Geometry, words: &[u64], at: u32) -> Header
 
 // how many reference words a block has
 fn block_refs(geometry: Geometry, words: &[u64], block: u32) -> u8
-    requires pool { IsCleanPool geometry words.now }
+    requires fits { GeometryFits geometry }
     requires is { IsBlock geometry (classes_in geometry words.now) block }
-    ensures { result ≡ (words_of (see geometry words.now)).refs block }
+    ensures { IsCleanPool geometry words.now → result ≡ (words_of (see geometry words.now)).refs block }
 {
     if !Header::unpack(word(words, block)).live {
         return 0;
@@ -99,9 +116,9 @@ fn block_refs(geometry: Geometry, words: &[u64], block: u32) -> u8
 
 /// What the word at an address names where it is a reference word: a block, or 0; another word names nothing.
 pub fn reference_at(geometry: Geometry, words: &[u64], at: u32) -> u64
-    requires pool { IsCleanPool geometry words.now }
+    requires fits { GeometryFits geometry }
     requires range { at < total_of geometry }
-    ensures { result ≡ references (see geometry words.now) (spot_at geometry (classes (see geometry words.now)) at) }
+    ensures { IsCleanPool geometry words.now → result ≡ references (see geometry words.now) (spot_at geometry (classes (see geometry words.now)) at) }
 {
     match spot(geometry, words, at) {
         Spot::Home { .. } | Spot::Root { .. } | Spot::Slot { .. } => word(words, at),
@@ -132,8 +149,8 @@ pub fn live_count(geometry: Geometry, words: &[u64]) -> u32
 
 /// How many words name a block.
 pub fn reference_count(geometry: Geometry, words: &[u64]) -> u32
-    requires { IsCleanPool geometry words.now }
-    ensures { result ≡ reference_count geometry (classes (see geometry words.now)) (references (see geometry words.now)) }
+    requires { GeometryFits geometry }
+    ensures { IsCleanPool geometry words.now → result ≡ reference_count geometry (classes (see geometry words.now)) (references (see geometry words.now)) }
 {
     let mut refs = 0;
     for at in 0..geometry.total() {

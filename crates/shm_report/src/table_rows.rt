@@ -1,14 +1,15 @@
 //! The rows of the table in a closed pool.
 
 ghost use Rattle.std.specs.Prelude.{◌≡◌, ◌<◌, ◌++◌, List, map, IfOk, OnOk};
+ghost use Rattle.shm_words.specs.Layout.{GeometryFits};
 ghost use Rattle.shm_graph.specs.declared.spot.Spot.{Spot as ASpot};
 ghost use Rattle.shm_graph.specs.Spots.{see};
 ghost use Rattle.shm_graph.specs.declared.table.Entry.{Entry};
 ghost use Rattle.shm_report.specs.PoolWords.{IsCleanPool};
 ghost use Rattle.shm_report.specs.Report.{entries_below, add_entries, in_order, row_of, rows_below};
-ghost use Rattle.shm_report.specs.TableRows.{IsEntryAt, ReadsEntry, IsChainAt, SomeTable, EachTable, rows_seen};
+ghost use Rattle.shm_report.specs.TableRows.{IsEntryAt, ReadsEntry, IsChainAt, EachTable, rows_seen};
 
-use crate::pool_words::word;
+use crate::pool_words::{small_behind, word_behind};
 use shm_words::Geometry;
 use std::alloc::{AllocError, Global};
 use std::collections::BTreeMap;
@@ -26,24 +27,21 @@ pub struct TableRow {
 // an entry of a chain, and the block of the entry after it or 0
 #[derive(Clone, Copy, Drop)]
 struct ChainEntry {
-    next: u64,
+    next: u32,
     key: u32,
     number: u64,
     value: u32,
 }
 
 // the entry that has its block at an address
-fn entry_at(geometry: Geometry, words: &[u64], at: u64) -> ChainEntry
-    requires pool { IsCleanPool geometry words.now }
-    requires entry { (e : Entry) × IsEntryAt geometry words.now at e }
-    ensures { (e : Entry) → IsEntryAt geometry words.now at e → ReadsEntry geometry words.now result e }
+fn entry_at(geometry: Geometry, words: &[u64], at: u32) -> ChainEntry
+    ensures { (e : Entry) → IsCleanPool geometry words.now → IsEntryAt geometry words.now at e → ReadsEntry geometry words.now result e }
 {
-    let block = at as u32;
-    let value = word(words, block + 3) as u32;
+    let value = small_behind(words, at, 3);
     ChainEntry {
-        next: word(words, block + 2),
-        key: word(words, block + 4) as u32,
-        number: word(words, value + 2),
+        next: small_behind(words, at, 2),
+        key: small_behind(words, at, 4),
+        number: word_behind(words, value, 2),
         value,
     }
 }
@@ -52,12 +50,10 @@ fn entry_at(geometry: Geometry, words: &[u64], at: u64) -> ChainEntry
 fn add_chain(
     geometry: Geometry,
     words: &[u64],
-    first: u64,
+    first: u32,
     entries: &mut BTreeMap<u32, (u64, u32)>,
 ) -> Result<(), AllocError>
-    requires pool { IsCleanPool geometry words.now }
-    requires chain { (es : List Entry) × IsChainAt geometry words.now first es }
-    ensures { OnOk result ((es : List Entry) → IsChainAt geometry words.now first es → entries.new.entries ≡ add_entries entries.old.entries es) }
+    ensures { OnOk result ((es : List Entry) → IsCleanPool geometry words.now → IsChainAt geometry words.now first es → entries.new.entries ≡ add_entries entries.old.entries es) }
 {
     let mut at = first;
     for _ in 0..words.len() {
@@ -78,15 +74,14 @@ fn partition(
     words: &[u64],
     c: u8,
 ) -> Result<BTreeMap<u32, (u64, u32)>, AllocError>
-    requires pool { IsCleanPool geometry words.now }
+    requires fits { GeometryFits geometry }
     requires client { c < geometry.clients }
-    requires table { SomeTable geometry words.now }
     ensures { IfOk result (λ m. EachTable geometry words.now (λ table. m.entries ≡ in_order (table c))) }
 {
     let mut entries = BTreeMap::new(alloc);
-    let home = word(words, geometry.home(c));
+    let home = small_behind(words, geometry.home(c), 0);
     if home != 0 {
-        add_buckets(geometry, words, c, home as u32, &mut entries)?;
+        add_buckets(geometry, words, c, home, &mut entries)?;
     }
     Ok(entries)
 }
@@ -99,14 +94,16 @@ fn add_buckets(
     home: u32,
     entries: &mut BTreeMap<u32, (u64, u32)>,
 ) -> Result<(), AllocError>
-    requires pool { IsCleanPool geometry words.now }
-    requires client { c < geometry.clients }
-    requires home { (see geometry words.now (ASpot.Home c) ≡ home) × (0 < home) }
-    requires table { SomeTable geometry words.now }
-    ensures { OnOk result (EachTable geometry words.now (λ table. entries.new.entries ≡ add_entries entries.old.entries (entries_below 16 (table c)))) }
+    requires { c < geometry.clients }
+    ensures { OnOk result (see geometry words.now (ASpot.Home c) ≡ home → 0 < home → EachTable geometry words.now (λ table. entries.new.entries ≡ add_entries entries.old.entries (entries_below 16 (table c)))) }
 {
     for bucket in 0..16 {
-        add_chain(geometry, words, word(words, home + 2 + bucket), entries)?;
+        add_chain(
+            geometry,
+            words,
+            small_behind(words, home, 2 + bucket),
+            entries,
+        )?;
     }
     Ok(())
 }
@@ -118,9 +115,8 @@ fn push_rows(
     words: &[u64],
     c: u8,
 ) -> Result<(), AllocError>
-    requires pool { IsCleanPool geometry words.now }
+    requires fits { GeometryFits geometry }
     requires client { c < geometry.clients }
-    requires table { SomeTable geometry words.now }
     ensures { OnOk result (EachTable geometry words.now (λ table. rows_seen rows.new.items ≡ rows_seen rows.old.items ++ map (row_of c) (in_order (table c)))) }
 {
     let entries = partition(*rows.allocator(), geometry, words, c)?;
@@ -141,8 +137,7 @@ pub fn table_rows(
     geometry: Geometry,
     words: &[u64],
 ) -> Result<Vec<TableRow>, AllocError>
-    requires pool { IsCleanPool geometry words.now }
-    requires table { SomeTable geometry words.now }
+    requires { GeometryFits geometry }
     ensures { IfOk result (λ v. EachTable geometry words.now (λ table. rows_seen v.items ≡ rows_below geometry.clients table)) }
 {
     let mut rows = Vec::new(alloc);

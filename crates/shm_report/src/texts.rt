@@ -1,16 +1,13 @@
 //! The report and the summary of a closed pool.
 
-ghost use Rattle.std.specs.Prelude.{◌≡◌, ◌++◌, ◌∷◌, [], ℕ, List, length, codes, eqb, true, IfOk, OnOk};
+ghost use Rattle.std.specs.Prelude.{◌≡◌, ◌++◌, ◌∷◌, [], length, codes, eqb, true, IfOk, OnOk};
 ghost use Rattle.std.specs.List.{flat_map, list_any, AllWithin};
 ghost use Rattle.std.specs.Fmt.{decimal};
-ghost use Rattle.shm_words.specs.Layout.{GeometryFits, total_of};
+ghost use Rattle.shm_words.specs.Layout.{GeometryFits};
 ghost use Rattle.shm_graph.specs.Spots.{see};
 ghost use Rattle.shm_graph.specs.Blocks.{headers};
-ghost use Rattle.shm_graph.specs.Clean.{IsClean};
-ghost use Rattle.shm_graph.specs.Tables.{IsTable};
-ghost use Rattle.shm_graph.specs.declared.table.Entry.{Entry as ATableEntry};
 ghost use Rattle.shm_report.specs.PoolWords.{IsCleanPool};
-ghost use Rattle.shm_report.specs.Report.{IsReport, IsSummary, counts_text, row_line, rows_text, table_line, value_lines};
+ghost use Rattle.shm_report.specs.Report.{IsReport, IsSummary, counts_lines, counts_text, row_line, rows_text, table_line, value_lines};
 ghost use Rattle.shm_report.specs.TableRows.{rows_seen};
 ghost use Rattle.shm_report.specs.ValueNames.{IsNumbered};
 
@@ -32,10 +29,7 @@ pub fn report(
     words: &[u64],
     logs: &[Log],
 ) -> Result<Vec<u8>, AllocError>
-    requires fits { GeometryFits geometry }
-    requires whole { length words.now ≡ total_of geometry }
-    requires clean { IsClean geometry (see geometry words.now) }
-    requires table { (table : ℕ → ℕ → List ATableEntry) × IsTable geometry (see geometry words.now) table }
+    requires { GeometryFits geometry }
     ensures { IfOk result (λ v. IsReport geometry words.now logs.now v.items) }
 {
     let rows = table_rows(alloc, geometry, words)?;
@@ -52,10 +46,7 @@ pub fn summary(
     words: &[u64],
     logs: &[Log],
 ) -> Result<Vec<u8>, AllocError>
-    requires fits { GeometryFits geometry }
-    requires whole { length words.now ≡ total_of geometry }
-    requires clean { IsClean geometry (see geometry words.now) }
-    requires table { (table : ℕ → ℕ → List ATableEntry) × IsTable geometry (see geometry words.now) table }
+    requires { GeometryFits geometry }
     ensures { IfOk result (λ v. IsSummary geometry words.now logs.now v.items) }
 {
     let rows = table_rows(alloc, geometry, words)?;
@@ -82,8 +73,8 @@ fn push_table(
     words: &[u64],
     rows: &[TableRow],
 ) -> Result<(), AllocError>
-    requires { IsCleanPool geometry words.now }
-    ensures { OnOk result (text.new.items ≡ text.old.items ++ rows_text geometry (see geometry words.now) (rows_seen rows.now)) }
+    requires { GeometryFits geometry }
+    ensures { OnOk result (IsCleanPool geometry words.now → text.new.items ≡ text.old.items ++ rows_text geometry (see geometry words.now) (rows_seen rows.now)) }
 {
     let names = ValueNames::of_rows(*text.allocator(), rows)?;
     push_size(text, rows)?;
@@ -140,14 +131,25 @@ fn push_values(
 
 // appends how many homes are set, how many blocks are live, and how many words name one
 fn push_counts(text: &mut Vec<u8>, geometry: Geometry, words: &[u64]) -> Result<(), AllocError>
-    requires { IsCleanPool geometry words.now }
-    ensures { OnOk result (text.new.items ≡ text.old.items ++ counts_text geometry (see geometry words.now)) }
+    requires { GeometryFits geometry }
+    ensures { OnOk result (IsCleanPool geometry words.now → text.new.items ≡ text.old.items ++ counts_text geometry (see geometry words.now)) }
+{
+    let homes = home_count(geometry, words);
+    let live = live_count(geometry, words);
+    let refs = reference_count(geometry, words);
+    push_numbers(text, homes, live, refs)?;
+    Ok(())
+}
+
+// appends these counts
+fn push_numbers(text: &mut Vec<u8>, homes: u32, live: u32, refs: u32) -> Result<(), AllocError>
+    ensures { OnOk result (text.new.items ≡ text.old.items ++ counts_lines homes live refs) }
 {
     push_text(text, "homes ")?;
-    push_number(text, u64::from(home_count(geometry, words)))?;
+    push_number(text, u64::from(homes))?;
     push_text(text, "\nlive ")?;
-    push_number(text, u64::from(live_count(geometry, words)))?;
+    push_number(text, u64::from(live))?;
     push_text(text, " refs ")?;
-    push_number(text, u64::from(reference_count(geometry, words)))?;
+    push_number(text, u64::from(refs))?;
     push_text(text, "\n")
 }
