@@ -46,7 +46,7 @@ era_room me m (w, r, h, same) l idle = subst (λ (x : Memo). x.op ≡ op.Nothing
         omega arith
 
 -- nothing was done
-untouched : (me : Me) (x : Aim) (p : Spot) (h : Bool) (m r : Memo) (f : UpFault) → Refused me x m r f → Untouched me.who m r × StepCause me x m f
+pub untouched : (me : Me) (x : Aim) (p : Spot) (h : Bool) (m r : Memo) (f : UpFault) → Refused me x m r f → Untouched me.who m r × StepCause me x m f
 untouched me x p h m r (fault.EraSpent e) (same, is, late) = (
   record {
     rest = same ∙ ap (λ (o : List Stored). core (record m { own = o })) (sym (ap (λ (u : Memo). u.own) same));
