@@ -60,3 +60,4 @@ pub mod UpRootControl
 pub mod UpRootFits
 pub mod UpRootSteps
 pub mod UpRootLaws
+pub mod UpRootPart

@@ -94,6 +94,7 @@ RootingKnows m Step r0 r tr es = IsLooking m (m.root + 2) r0 r tr es × (root_wo
 
 -- root k was the least empty one and names the block, one step up and nothing else was done
 pub record Rooted (me : Me) (b k : ℕ) (r0 r : Memo) (tr : Trail) (es : List Event) : Type 0 where
+  pub inside : IsInside me b
   pub low : k < 16
   pub empty : root_word me.who r0 k ≡ 0
   pub before : (j : ℕ) → j < k → root_word me.who r0 j ≢ 0

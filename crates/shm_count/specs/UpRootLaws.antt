@@ -1,5 +1,5 @@
 -- what is owed of an up at the least empty root: each call leads on, to the next one or to what is left
-use Rattle.std.proofs.Common.{◌≡◌, ◌≢◌, ℕ, ◌+◌, ◌^◌, ◌<◌, ◌≤◌, refl, sym, ap, ◌∙◌, subst, arith, Bool, true, false, List, [], ◌++◌, length, inl, inr}
+use Rattle.std.proofs.Common.{◌≡◌, ◌≢◌, ℕ, ◌+◌, ◌^◌, ◌<◌, refl, sym, ap, ◌∙◌, subst, arith, Bool, true, false, List, [], ◌++◌, length, inl, inr}
 use Rattle.std.specs.Prelude.{◌-◌, ◌==◌, nat_lt, if◌then◌else◌, Option, Some, None, Result, Ok, Err}
 use Rattle.std.proofs.lemmas.Bool.{cases_eq, eq-eqb, eqb-true, eqb-false, ltb-true, ltb-false}
 use Rattle.std.proofs.lemmas.List.Elements.{Contains-append_right}
@@ -32,12 +32,10 @@ use Rattle.shm_count.specs.declared.up_root.RootingPoint.TheVariants.{Era, Look,
 use Rattle.shm_count.specs.declared.up_root.RootingState.{RootingState}
 use Rattle.shm_count.specs.CountParts.{up_part, up_part_laws}
 use Rattle.shm_count.specs.DyingBlocks.{live_room}
-use Rattle.shm_count.specs.Refusing.{ReadsCount}
 use Rattle.shm_count.specs.Roots.{root_word}
-use Rattle.shm_count.specs.SlotLeaves.{Filled, Untouched}
 use Rattle.shm_count.specs.StepControl.{IsInside}
 use Rattle.shm_count.specs.StepMachines.{up_control}
-use Rattle.shm_count.specs.UpRootControl.{RootingAnswer, era_after, era_turns, is_era, look_after, look_turns, rooting, rooting_ask, rooting_call, rooting_parts}
+use Rattle.shm_count.specs.UpRootControl.{RootingAnswer, is_era, rooting_ask, rooting_call, rooting_parts}
 use Rattle.shm_count.specs.UpRootFits.{IsLooking, MayUpRoot, RootingKnows, TookUp, UpRootLeaves, look_part, rooting_part, rooting_plan, rooting_spot, taken_part}
 use Rattle.shm_count.specs.UpRootSteps.{filled_core, taken_laws, untouched_core}
 
@@ -134,6 +132,7 @@ module _ (m : RootingState) (r0 rs r : Memo) (tr t : Trail) (es ds : List Event)
       let left = h.room in
       let bound = within_more (m.root + 2) 7 tr t h.bound short in
       record {
+        inside = h.inside;
         low = h.low;
         empty = empty;
         before = h.before;

@@ -1,5 +1,5 @@
 -- a step up that is taken up at an own root, as a part
-use Rattle.std.proofs.Common.{◌≡◌, ℕ, ◌+◌, ◌^◌, ◌<◌, ◌≤◌, refl, sym, ap, ◌∙◌, subst, arith, Bool, true, false, List, [], ◌∷◌, inl, inr}
+use Rattle.std.proofs.Common.{◌≡◌, ℕ, ◌+◌, ◌^◌, ◌<◌, ◌≤◌, refl, sym, ap, ◌∙◌, subst, arith, Bool, true, false, List, ◌∷◌, inl, inr}
 use Rattle.std.specs.Prelude.{Result, Ok, Err}
 use Rattle.std.proofs.lemmas.Bool.{and_from, false≢true, lt-ltb}
 use Rattle.shm_words.specs.declared.place.Place.TheVariants as place
@@ -28,7 +28,7 @@ use Rattle.shm_count.specs.SlotLeaves.{Filled, Untouched}
 use Rattle.shm_count.specs.SlotParts.{untouched}
 use Rattle.shm_count.specs.SlotUps.{up_leaves}
 use Rattle.shm_count.specs.StepBound.{redo_bound}
-use Rattle.shm_count.specs.StepControl.{StepKnows, step_control}
+use Rattle.shm_count.specs.StepControl.{step_control}
 use Rattle.shm_count.specs.StepFits.{CanStep}
 use Rattle.shm_count.specs.StepMachines.{up_answer, up_control}
 use Rattle.shm_count.specs.StepParts.{part_after}
