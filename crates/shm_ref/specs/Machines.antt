@@ -12,6 +12,10 @@ use Rattle.shm_calls.specs.CallsControl.{calls_control, calls_of, calls_does}
 use Rattle.shm_calls.specs.CallsFit.{CallsFits, CallsGives}
 use Rattle.shm_calls.specs.Words.{word_control}
 use Rattle.shm_count.specs.declared.answer.EraSpent.{EraSpent}
+use Rattle.shm_count.specs.declared.answer.ShareFault.{ShareFault}
+use Rattle.shm_count.specs.UpRootControl.{rooting, rooting_parts}
+use Rattle.shm_count.specs.UpRootFits.{rooting_plan}
+use Rattle.shm_count.specs.UpRootPart.{up_root}
 use Rattle.shm_ref.specs.declared.answer.Busy.{Busy}
 use Rattle.shm_ref.specs.declared.hold.HoldState.{HoldState}
 use Rattle.shm_ref.specs.declared.drop_roots.RootsState.{RootsState}
@@ -92,3 +96,14 @@ ReleaseGives me = CallsGives word_control release_plan (calls_of release_plan (r
 
 abbrev pub release_told : Me → Trail → List Event
 release_told me = happens_along release (calls_does word_control release_plan) (calls_of release_plan (releasing me))
+
+-- ---- another root for block b
+
+abbrev pub ShareFits : Me → ℕ → Memo → Memo → Trail → Type 0
+ShareFits me b = CallsFits rooting_parts rooting_plan (calls_of rooting_plan (rooting me b))
+
+abbrev pub ShareGives : Me → ℕ → Memo → Memo → Trail → Result ℕ ShareFault → Type 0
+ShareGives me b = CallsGives rooting_parts rooting_plan (calls_of rooting_plan (rooting me b))
+
+abbrev pub share_told : Me → ℕ → Trail → List Event
+share_told me b = happens_along up_root (calls_does rooting_parts rooting_plan) (calls_of rooting_plan (rooting me b))

@@ -4,11 +4,14 @@ ghost use Rattle.std.specs.Prelude.{◌≡◌, ℕ, ◌+◌, ◌*◌, Bool, Resu
 ghost use Rattle.shm_graph.specs.declared.ask.Me.{Me as AMe};
 ghost use Rattle.shm_graph.specs.declared.memo.Memo.{Memo as AMemo};
 ghost use Rattle.shm_graph.specs.Asks.{Trail, IsWithin};
+ghost use Rattle.shm_graph.specs.Bounds.{up_steps};
 ghost use Rattle.shm_count.specs.declared.answer.EraSpent.{EraSpent as ASpent};
+ghost use Rattle.shm_count.specs.declared.answer.ShareFault.{ShareFault as AShareFault};
+ghost use Rattle.shm_count.specs.declared.answer.ShareFault.TheVariants as share;
 ghost use Rattle.shm_count.specs.TearEvents.{Visit, frees};
 ghost use Rattle.shm_ref.specs.declared.answer.Busy.{Busy as ABusy};
 ghost use Rattle.shm_ref.specs.Lefts.{Stopped};
-ghost use Rattle.shm_ref.specs.Machines.{DropGives, drop_told, RootsGive, roots_told, HoldGives, ReleaseGives, RootOfGives};
+ghost use Rattle.shm_ref.specs.Machines.{DropGives, drop_told, RootsGive, roots_told, HoldGives, ReleaseGives, RootOfGives, ShareGives};
 
 /// A drop of a root took at most 9 word steps and 164 for each block that it freed or left on the way, and three more for each exchange
 /// that failed.
@@ -39,4 +42,13 @@ pub fn release_bound()
 /// What a root names is told in one word step.
 pub fn root_of_bound()
     ensures { (me : AMe) (k : ℕ) (r0 r : AMemo) (tr : Trail) (b : ℕ) → RootOfGives me k r0 r tr b → length tr ≡ 1 }
+{}
+
+/// A share into root k took at most k + 9 word steps, one that was refused as spent one, one that found no empty root 17, and none more
+/// than 24, besides three for each exchange that failed.
+pub fn share_bound()
+    ensures done { (me : AMe) (b : ℕ) (r0 r : AMemo) (tr : Trail) (k : ℕ) → ShareGives me b r0 r tr (Ok k) → IsWithin (up_steps + 1 + k) tr }
+    ensures spent { (me : AMe) (b : ℕ) (r0 r : AMemo) (tr : Trail) (e : ℕ) → ShareGives me b r0 r tr (Err (share.EraSpent e)) → IsWithin 1 tr }
+    ensures full { (me : AMe) (b : ℕ) (r0 r : AMemo) (tr : Trail) → ShareGives me b r0 r tr (Err share.RootsFull) → IsWithin 17 tr }
+    ensures within { (me : AMe) (b : ℕ) (r0 r : AMemo) (tr : Trail) (a : Result ℕ AShareFault) → ShareGives me b r0 r tr a → IsWithin (up_steps + 16) tr }
 {}

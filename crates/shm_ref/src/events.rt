@@ -10,6 +10,10 @@ ghost use Rattle.shm_calls.specs.CallsFit.{CallsFits};
 ghost use Rattle.shm_calls.specs.Plans.{plan_trail};
 ghost use Rattle.shm_calls.specs.Words.{word_control};
 ghost use Rattle.shm_count.specs.declared.answer.EraSpent.{EraSpent as ASpent};
+ghost use Rattle.shm_count.specs.declared.answer.ShareFault.{ShareFault as AShareFault};
+ghost use Rattle.shm_count.specs.UpRootControl.{rooting, rooting_parts};
+ghost use Rattle.shm_count.specs.UpRootFits.{MayUpRoot, UpRootLeaves, rooting_plan};
+ghost use Rattle.shm_count.specs.UpRootPart.{up_root};
 ghost use Rattle.shm_ref.specs.declared.answer.Busy.{Busy as ABusy};
 ghost use Rattle.shm_ref.specs.DropControl.{drop_parts, dropping};
 ghost use Rattle.shm_ref.specs.DropFits.{DropLeaves, drop_plan};
@@ -18,6 +22,7 @@ ghost use Rattle.shm_ref.specs.HoldFits.{MayTakeLatch, HoldLeaves, hold_plan};
 ghost use Rattle.shm_ref.specs.Lefts.{MayDrop};
 ghost use Rattle.shm_ref.specs.Machines.{DropFits, DropGives, drop_told, drop_roots, RootsFit, RootsGive, roots_told, hold, HoldFits, HoldGives, hold_told};
 ghost use Rattle.shm_ref.specs.Machines.{root_of, RootOfFits, RootOfGives, root_of_told, release, ReleaseFits, ReleaseGives, release_told};
+ghost use Rattle.shm_ref.specs.Machines.{ShareFits, ShareGives, share_told};
 ghost use Rattle.shm_ref.specs.ReleaseFits.{MayRelease, Released, release_plan, releasing};
 ghost use Rattle.shm_ref.specs.RootOfFits.{Named, naming, naming_plan};
 ghost use Rattle.shm_ref.specs.RootsControl.{drop_root, dropping_roots};
@@ -104,4 +109,20 @@ pub fn root_of_events()
 pub fn root_of_leaves()
     ensures leaves { (me : AMe) (k : ℕ) (r0 r : AMemo) (tr : Trail) (b : ℕ) → RootOfGives me k r0 r tr b → Named me k r0 r tr (root_of_told me k tr) b }
     ensures trail { (me : AMe) (k : ℕ) (r0 r : AMemo) (tr : Trail) (b : ℕ) → RootOfGives me k r0 r tr b → plan_trail naming_plan (naming me k) tr b }
+{}
+
+/// A share fits each memo of a client that is here, with no step in progress, and has the block in reach.
+pub fn share_begins()
+    ensures { (me : AMe) (b : ℕ) (r : AMemo) → MayUpRoot me b r → ShareFits me b r r [] }
+{}
+
+/// The event of each word step of a share is the one that it tells: the reference of the root.
+pub fn share_events()
+    ensures { Tells up_root (CallsFits rooting_parts rooting_plan) (calls_does rooting_parts rooting_plan) }
+{}
+
+/// What a share gives speaks of the events that it tells, and what it asked is one of its trails.
+pub fn share_leaves()
+    ensures leaves { (me : AMe) (b : ℕ) (r0 r : AMemo) (tr : Trail) (a : Result ℕ AShareFault) → ShareGives me b r0 r tr a → UpRootLeaves me b r0 r tr (share_told me b tr) a }
+    ensures trail { (me : AMe) (b : ℕ) (r0 r : AMemo) (tr : Trail) (a : Result ℕ AShareFault) → ShareGives me b r0 r tr a → plan_trail rooting_plan (rooting me b) tr a }
 {}

@@ -1,5 +1,5 @@
-//! Latches and roots of an identity: taking a latch and giving it back, telling what a root names, and making a root empty with all that
-//! only it names.
+//! Latches and roots of an identity: taking a latch and giving it back, telling what a root names, giving a block in reach another root,
+//! and making a root empty with all that only it names.
 //!
 //! Each machine is a plan of calls (`shm_calls`): the type with the operation's name is the machine, and the plan that it is made of says
 //! which call comes next.
@@ -14,19 +14,25 @@ pub mod hold;
 pub mod parts;
 pub mod release;
 pub mod root_of;
+pub mod share;
 
 pub use answer::Busy;
-pub use bound::{drop_root_bound, hold_bound, release_bound, root_of_bound};
+pub use bound::{drop_root_bound, hold_bound, release_bound, root_of_bound, share_bound};
 pub use drop_root::{DropRoot, Dropping};
 pub use events::{
     drop_root_begins, drop_root_events, drop_root_leaves, hold_begins, hold_events, hold_leaves,
     release_begins, release_events, release_leaves, root_of_begins, root_of_events, root_of_leaves,
+    share_begins, share_events, share_leaves,
 };
 pub use hold::{Hold, Holding};
 pub use release::{Release, Releasing};
 pub use root_of::{Naming, RootOf};
+pub use share::{Share, Sharing};
+pub use shm_count::parts::ShareFault;
 
 #[cfg(test)]
 mod drop_tests;
+#[cfg(test)]
+mod share_tests;
 #[cfg(test)]
 mod tests;
