@@ -15,4 +15,7 @@ pub mod RootOfFits
 pub mod RootOfLaws
 pub mod ReleaseFits
 pub mod ReleaseLaws
+pub mod ReadParts
+pub mod HomeFits
+pub mod HomeLaws
 pub mod Machines

@@ -13,7 +13,9 @@ use Rattle.shm_calls.specs.CallsFit.{CallsFits, CallsGives}
 use Rattle.shm_calls.specs.Words.{word_control}
 use Rattle.shm_count.specs.declared.answer.EraSpent.{EraSpent}
 use Rattle.shm_ref.specs.declared.answer.Busy.{Busy}
+use Rattle.shm_ref.specs.declared.answer.NotHeld.{NotHeld}
 use Rattle.shm_ref.specs.declared.hold.HoldState.{HoldState}
+use Rattle.shm_ref.specs.declared.home_of.FindState.{FindState}
 use Rattle.shm_ref.specs.declared.drop_roots.RootsState.{RootsState}
 use Rattle.shm_ref.specs.declared.release.ReleaseState.{ReleaseState}
 use Rattle.shm_ref.specs.declared.root_of.NamingState.{NamingState}
@@ -21,6 +23,7 @@ use Rattle.shm_ref.specs.DropControl.{dropping, drop_parts}
 use Rattle.shm_ref.specs.DropFits.{drop_plan}
 use Rattle.shm_ref.specs.HoldControl.{holding}
 use Rattle.shm_ref.specs.HoldFits.{hold_plan}
+use Rattle.shm_ref.specs.HomeFits.{finding, find_plan}
 use Rattle.shm_ref.specs.ReleaseFits.{releasing, release_plan}
 use Rattle.shm_ref.specs.RootOfFits.{naming, naming_plan}
 use Rattle.shm_ref.specs.RootsControl.{RootsCall, drop_root, dropping_roots}
@@ -92,3 +95,17 @@ ReleaseGives me = CallsGives word_control release_plan (calls_of release_plan (r
 
 abbrev pub release_told : Me → Trail → List Event
 release_told me = happens_along release (calls_does word_control release_plan) (calls_of release_plan (releasing me))
+
+-- ---- what the home of a names
+
+abbrev pub home_of : Control (Calls FindState Word (Result ℕ NotHeld) ℕ) (Result ℕ NotHeld)
+home_of = calls_control word_control find_plan
+
+abbrev pub HomeFits : Me → ℕ → Memo → Memo → Trail → Type 0
+HomeFits me a = CallsFits word_control find_plan (calls_of find_plan (finding me a))
+
+abbrev pub HomeGives : Me → ℕ → Memo → Memo → Trail → Result ℕ NotHeld → Type 0
+HomeGives me a = CallsGives word_control find_plan (calls_of find_plan (finding me a))
+
+abbrev pub home_told : Me → ℕ → Trail → List Event
+home_told me a = happens_along home_of (calls_does word_control find_plan) (calls_of find_plan (finding me a))

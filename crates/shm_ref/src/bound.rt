@@ -7,8 +7,9 @@ ghost use Rattle.shm_graph.specs.Asks.{Trail, IsWithin};
 ghost use Rattle.shm_count.specs.declared.answer.EraSpent.{EraSpent as ASpent};
 ghost use Rattle.shm_count.specs.TearEvents.{Visit, frees};
 ghost use Rattle.shm_ref.specs.declared.answer.Busy.{Busy as ABusy};
+ghost use Rattle.shm_ref.specs.declared.answer.NotHeld.{NotHeld as ANotHeld};
 ghost use Rattle.shm_ref.specs.Lefts.{Stopped};
-ghost use Rattle.shm_ref.specs.Machines.{DropGives, drop_told, RootsGive, roots_told, HoldGives, ReleaseGives, RootOfGives};
+ghost use Rattle.shm_ref.specs.Machines.{DropGives, drop_told, RootsGive, roots_told, HoldGives, ReleaseGives, RootOfGives, HomeGives};
 
 /// A drop of a root took at most 9 word steps and 164 for each block that it freed or left on the way, and three more for each exchange
 /// that failed.
@@ -39,4 +40,10 @@ pub fn release_bound()
 /// What a root names is told in one word step.
 pub fn root_of_bound()
     ensures { (me : AMe) (k : ℕ) (r0 r : AMemo) (tr : Trail) (b : ℕ) → RootOfGives me k r0 r tr b → length tr ≡ 1 }
+{}
+
+/// What a home names is told in two word steps, and that the latch isn't held in one.
+pub fn home_of_bound()
+    ensures found { (me : AMe) (a : ℕ) (r0 r : AMemo) (tr : Trail) (b : ℕ) → HomeGives me a r0 r tr (Ok b) → length tr ≡ 2 }
+    ensures other { (me : AMe) (a : ℕ) (r0 r : AMemo) (tr : Trail) (e : ANotHeld) → HomeGives me a r0 r tr (Err e) → length tr ≡ 1 }
 {}

@@ -15,7 +15,11 @@ ghost use Rattle.shm_ref.specs.DropControl.{drop_parts, dropping};
 ghost use Rattle.shm_ref.specs.DropFits.{DropLeaves, drop_plan};
 ghost use Rattle.shm_ref.specs.HoldControl.{holding};
 ghost use Rattle.shm_ref.specs.HoldFits.{MayTakeLatch, HoldLeaves, hold_plan};
+ghost use Rattle.shm_ref.specs.declared.answer.NotHeld.{NotHeld as ANotHeld};
+ghost use Rattle.shm_ref.specs.HomeFits.{FindLeaves, find_plan, finding};
 ghost use Rattle.shm_ref.specs.Lefts.{MayDrop};
+ghost use Rattle.shm_ref.specs.Machines.{home_of, HomeFits, HomeGives, home_told};
+ghost use Rattle.shm_ref.specs.ReadParts.{MayAsk};
 ghost use Rattle.shm_ref.specs.Machines.{DropFits, DropGives, drop_told, drop_roots, RootsFit, RootsGive, roots_told, hold, HoldFits, HoldGives, hold_told};
 ghost use Rattle.shm_ref.specs.Machines.{root_of, RootOfFits, RootOfGives, root_of_told, release, ReleaseFits, ReleaseGives, release_told};
 ghost use Rattle.shm_ref.specs.ReleaseFits.{MayRelease, Released, release_plan, releasing};
@@ -104,4 +108,22 @@ pub fn root_of_events()
 pub fn root_of_leaves()
     ensures leaves { (me : AMe) (k : ℕ) (r0 r : AMemo) (tr : Trail) (b : ℕ) → RootOfGives me k r0 r tr b → Named me k r0 r tr (root_of_told me k tr) b }
     ensures trail { (me : AMe) (k : ℕ) (r0 r : AMemo) (tr : Trail) (b : ℕ) → RootOfGives me k r0 r tr b → plan_trail naming_plan (naming me k) tr b }
+{}
+
+/// What the home of an author names may be asked with no step in progress, where the hold word names the latch that is held.
+pub fn home_of_begins()
+    ensures { (me : AMe) (a : ℕ) (r : AMemo) → MayAsk me r → a < me.geometry.clients → HomeFits me a r r [] }
+{}
+
+/// No word step of it is an event.
+pub fn home_of_events()
+    ensures tells { Tells home_of (CallsFits word_control find_plan) (calls_does word_control find_plan) }
+    ensures none { (me : AMe) (a : ℕ) (r0 r : AMemo) (tr : Trail) (b : Result ℕ ANotHeld) → HomeGives me a r0 r tr b → home_told me a tr ≡ [] }
+{}
+
+/// The author's latch is held and the answer is what its home names, which the looks have grown by; or the own hold word isn't that of the
+/// author, and nothing changed.
+pub fn home_of_leaves()
+    ensures leaves { (me : AMe) (a : ℕ) (r0 r : AMemo) (tr : Trail) (b : Result ℕ ANotHeld) → HomeGives me a r0 r tr b → FindLeaves (finding me a) r0 r tr (home_told me a tr) b }
+    ensures trail { (me : AMe) (a : ℕ) (r0 r : AMemo) (tr : Trail) (b : Result ℕ ANotHeld) → HomeGives me a r0 r tr b → plan_trail find_plan (finding me a) tr b }
 {}
