@@ -18,4 +18,8 @@ pub mod ReleaseLaws
 pub mod ReadParts
 pub mod HomeFits
 pub mod HomeLaws
+pub mod LookFits
+pub mod LookLaws
+pub mod ReadFits
+pub mod ReadLaws
 pub mod Machines

@@ -13,10 +13,14 @@ use Rattle.shm_calls.specs.CallsFit.{CallsFits, CallsGives}
 use Rattle.shm_calls.specs.Words.{word_control}
 use Rattle.shm_count.specs.declared.answer.EraSpent.{EraSpent}
 use Rattle.shm_ref.specs.declared.answer.Busy.{Busy}
+use Rattle.shm_ref.specs.declared.answer.LookFault.{LookFault}
+use Rattle.shm_ref.specs.declared.answer.NoSuchWord.{NoSuchWord}
 use Rattle.shm_ref.specs.declared.answer.NotHeld.{NotHeld}
 use Rattle.shm_ref.specs.declared.hold.HoldState.{HoldState}
 use Rattle.shm_ref.specs.declared.home_of.FindState.{FindState}
 use Rattle.shm_ref.specs.declared.drop_roots.RootsState.{RootsState}
+use Rattle.shm_ref.specs.declared.look.LookState.{LookState}
+use Rattle.shm_ref.specs.declared.read.ReadState.{ReadState}
 use Rattle.shm_ref.specs.declared.release.ReleaseState.{ReleaseState}
 use Rattle.shm_ref.specs.declared.root_of.NamingState.{NamingState}
 use Rattle.shm_ref.specs.DropControl.{dropping, drop_parts}
@@ -24,6 +28,8 @@ use Rattle.shm_ref.specs.DropFits.{drop_plan}
 use Rattle.shm_ref.specs.HoldControl.{holding}
 use Rattle.shm_ref.specs.HoldFits.{hold_plan}
 use Rattle.shm_ref.specs.HomeFits.{finding, find_plan}
+use Rattle.shm_ref.specs.LookFits.{looking, look_plan}
+use Rattle.shm_ref.specs.ReadFits.{reading, read_plan}
 use Rattle.shm_ref.specs.ReleaseFits.{releasing, release_plan}
 use Rattle.shm_ref.specs.RootOfFits.{naming, naming_plan}
 use Rattle.shm_ref.specs.RootsControl.{RootsCall, drop_root, dropping_roots}
@@ -109,3 +115,31 @@ HomeGives me a = CallsGives word_control find_plan (calls_of find_plan (finding 
 
 abbrev pub home_told : Me → ℕ → Trail → List Event
 home_told me a = happens_along home_of (calls_does word_control find_plan) (calls_of find_plan (finding me a))
+
+-- ---- what reference word k of block b names
+
+abbrev pub look : Control (Calls LookState Word (Result ℕ LookFault) ℕ) (Result ℕ LookFault)
+look = calls_control word_control look_plan
+
+abbrev pub LookFits : Me → ℕ → ℕ → Memo → Memo → Trail → Type 0
+LookFits me b k = CallsFits word_control look_plan (calls_of look_plan (looking me b k))
+
+abbrev pub LookGives : Me → ℕ → ℕ → Memo → Memo → Trail → Result ℕ LookFault → Type 0
+LookGives me b k = CallsGives word_control look_plan (calls_of look_plan (looking me b k))
+
+abbrev pub look_told : Me → ℕ → ℕ → Trail → List Event
+look_told me b k = happens_along look (calls_does word_control look_plan) (calls_of look_plan (looking me b k))
+
+-- ---- plain word k of block b
+
+abbrev pub read : Control (Calls ReadState Word (Result ℕ NoSuchWord) ℕ) (Result ℕ NoSuchWord)
+read = calls_control word_control read_plan
+
+abbrev pub ReadFits : Me → ℕ → ℕ → Memo → Memo → Trail → Type 0
+ReadFits me b k = CallsFits word_control read_plan (calls_of read_plan (reading me b k))
+
+abbrev pub ReadGives : Me → ℕ → ℕ → Memo → Memo → Trail → Result ℕ NoSuchWord → Type 0
+ReadGives me b k = CallsGives word_control read_plan (calls_of read_plan (reading me b k))
+
+abbrev pub read_told : Me → ℕ → ℕ → Trail → List Event
+read_told me b k = happens_along read (calls_does word_control read_plan) (calls_of read_plan (reading me b k))
