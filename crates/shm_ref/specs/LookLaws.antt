@@ -46,8 +46,7 @@ opens m Whose r0 r tr es (x, h) = hold_load false m.me r h.may.read.may.who (λ 
 opens m Reference r0 r tr es (x, h, held) =
     let low = h.low in
     let last = h.tag.last in
-    reference_load false m.me r h.may.read.may.who m.block m.index (omega arith, omega arith)
-    (
+    reference_load false m.me r h.may.read.may.who m.block m.index (omega arith, omega arith) (
       reached_tagged m.me.who m.block x m.block r0 r h.same ∙ h.may.read.reach,
       (record { block = m.block; refs = tag_refs x; plain = tag_plain x; author = Some (tag_author x) }, tag_author x, h.tag.told, refl, h.low, refl, ap (λ (y : Memo). y.latch) h.same ∙ held),
     )

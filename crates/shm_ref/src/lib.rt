@@ -20,13 +20,16 @@ pub mod root_of;
 mod tagged;
 
 pub use answer::{Busy, LookFault, NoSuchWord, NotHeld};
-pub use bound::{drop_root_bound, hold_bound, home_of_bound, look_bound, read_bound, release_bound, root_of_bound};
+pub use bound::{
+    drop_root_bound, hold_bound, home_of_bound, look_bound, read_bound, release_bound,
+    root_of_bound,
+};
 pub use drop_root::{DropRoot, Dropping};
 pub use events::{
     drop_root_begins, drop_root_events, drop_root_leaves, hold_begins, hold_events, hold_leaves,
-    home_of_begins, home_of_events, home_of_leaves,
-    look_begins, look_events, look_leaves, reach_lies, read_begins, read_events, read_leaves,
-    release_begins, release_events, release_leaves, root_of_begins, root_of_events, root_of_leaves,
+    home_of_begins, home_of_events, home_of_leaves, look_begins, look_events, look_leaves,
+    reach_lies, read_begins, read_events, read_leaves, release_begins, release_events,
+    release_leaves, root_of_begins, root_of_events, root_of_leaves,
 };
 pub use hold::{Hold, Holding};
 pub use home_of::{FindingHome, HomeOf};
@@ -37,5 +40,7 @@ pub use root_of::{Naming, RootOf};
 
 #[cfg(test)]
 mod drop_tests;
+#[cfg(test)]
+mod read_tests;
 #[cfg(test)]
 mod tests;
