@@ -1,7 +1,7 @@
 -- what is owed of what the home of an author names
-use Rattle.std.proofs.Common.{◌≡◌, ◌≢◌, ℕ, ◌+◌, ◌%◌, ◌^◌, ◌<◌, ◌≤◌, refl, sym, ap, ◌∙◌, subst, arith, Bool, true, false, eqb, List, [], ◌∷◌, ◌++◌, inl, inr}
+use Rattle.std.proofs.Common.{◌≡◌, ◌≢◌, ℕ, ◌+◌, ◌%◌, ◌^◌, ◌<◌, ◌≤◌, refl, sym, ap, ◌∙◌, subst, Bool, true, false, List, [], ◌∷◌, ◌++◌}
 use Rattle.std.specs.Prelude.{◌==◌, if◌then◌else◌, None, Some, Err}
-use Rattle.std.proofs.lemmas.Bool.{cases_eq, cond-false, eqb-false, eqb-true, ne_eqb, true≢false}
+use Rattle.std.proofs.lemmas.Bool.{cond-false, eqb-false, eqb-true, ne_eqb}
 use Rattle.shm_words.specs.Layout.{total_of}
 use Rattle.shm_graph.specs.declared.ask.Me.{Me}
 use Rattle.shm_graph.specs.declared.spot.Spot.TheVariants.{Hold, Home}
@@ -29,10 +29,6 @@ use Rattle.shm_ref.specs.ReadParts.{MayAsk, latch_by, looked_reached, reached_ro
 pub find_begin : (me : Me) (a : ℕ) (r : Memo) → MayAsk me r → a < me.geometry.clients → FindKnows (finding me a) Whose r r [] []
 find_begin me a r may author = (may, author, refl, refl, refl)
 
-opens : (m : FindState) (y : FindPoint) (r0 r : Memo) (tr : Trail) (es : List Event) → FindKnows (record m { point = y }) y r0 r tr es → (find_plan.part (record m { point = y })).needs (find_call m y) r
-opens m Whose r0 r tr es h = hold_load true m.me r h.0.may.who (λ e. ap (λ (x : Memo). x.op) h.2 ∙ h.0.may.idle)
-opens m Find r0 r tr es h = home_look false m.me r h.may.may.who m.author h.author (ap (λ (x : Memo). x.latch) h.same ∙ h.held)
-
 -- what a word step left, and what it asked
 abbrev Leaves : FindState → FindPoint → Memo → Memo → Trail → List Event → ℕ → Type 0
 Leaves m y = (find_part (record m { point = y }) y).leaves (find_call m y)
@@ -52,6 +48,10 @@ find_laws =
       leads = λ m r0 rs r tr t es ds n h w held same. leads m m.point r0 rs r tr t es ds n h w held;
     }
   where
+    opens : (m : FindState) (y : FindPoint) (r0 r : Memo) (tr : Trail) (es : List Event) → FindKnows (record m { point = y }) y r0 r tr es → (find_plan.part (record m { point = y })).needs (find_call m y) r
+    opens m Whose r0 r tr es h = hold_load true m.me r h.0.may.who (λ e. ap (λ (x : Memo). x.op) h.2 ∙ h.0.may.idle)
+    opens m Find r0 r tr es h = home_look false m.me r h.may.may.who m.author h.author (ap (λ (x : Memo). x.latch) h.same ∙ h.held)
+
     stays : (m : FindState) (y : FindPoint) (n : ℕ) → PlanStays word_control find_plan (record m { point = y }) n
     stays m Whose n = record { same_me = refl; same_line = refl; same_start = refl; started = λ e. refl }
     stays m Find n = record { same_me = refl; same_line = refl; same_start = refl; started = λ e. absurd (cc) }

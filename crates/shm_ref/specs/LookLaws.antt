@@ -10,7 +10,7 @@ use Rattle.shm_graph.specs.declared.ask.Me.{Me}
 use Rattle.shm_graph.specs.declared.spot.Spot.TheVariants.{Body, Hold, Tag}
 use Rattle.shm_graph.specs.declared.memo.Memo.{Memo}
 use Rattle.shm_graph.specs.declared.memo.Stored.{Stored}
-use Rattle.shm_graph.specs.Asks.{Trail, pair}
+use Rattle.shm_graph.specs.Asks.{Trail}
 use Rattle.shm_graph.specs.Core.{core}
 use Rattle.shm_graph.specs.Events.{Event}
 use Rattle.shm_graph.specs.Laws.{Outcome}
@@ -38,20 +38,6 @@ use Rattle.shm_ref.specs.ReadParts.{IsTag, is_tag, latch_by, looked_reached, rea
 pub look_begin : (me : Me) (b k : ℕ) (r : Memo) → MayLook me b r → LookKnows (looking me b k) Shape r r [] []
 look_begin me b k r may = (may, refl, refl, refl)
 
-opens : (m : LookState) (y : LookPoint) (r0 r : Memo) (tr : Trail) (es : List Event) → LookKnows (record m { point = y }) y r0 r tr es → (look_plan.part (record m { point = y })).needs (look_call m y) r
-opens m Shape r0 r tr es h =
-    let room = h.0.read.room in
-    tag_load true m.me r h.0.read.may.who m.block (omega arith, omega arith) (reached_told m.me.who r m.block (ap (λ (x : Memo). is_reached m.me.who x m.block) h.1 ∙ h.0.read.reach))
-opens m Whose r0 r tr es (x, h) = hold_load false m.me r h.may.read.may.who (λ e. ap (λ (y : Memo). y.op) h.same ∙ h.may.read.may.idle)
-opens m Reference r0 r tr es (x, h, held) =
-    let low = h.low in
-    let last = h.tag.last in
-    reference_load false m.me r h.may.read.may.who m.block m.index (omega arith, omega arith) (
-      reached_tagged m.me.who m.block x m.block r0 r h.same ∙ h.may.read.reach,
-      (record { block = m.block; refs = tag_refs x; plain = tag_plain x; author = Some (tag_author x) }, tag_author x, h.tag.told, refl, h.low, refl, ap (λ (y : Memo). y.latch) h.same ∙ held),
-    )
-    (idle_settled r (Body m.block m.index) (ap (λ (y : Memo). y.op) h.same ∙ h.may.read.may.idle))
-
 -- what a word step left, and what it asked
 abbrev Leaves : LookState → LookPoint → Memo → Memo → Trail → List Event → ℕ → Type 0
 Leaves m y = (look_part (record m { point = y }) y).leaves (look_call m y)
@@ -77,6 +63,20 @@ look_laws =
       leads = λ m r0 rs r tr t es ds n h w held same. leads m m.point r0 rs r tr t es ds n h w held;
     }
   where
+    opens : (m : LookState) (y : LookPoint) (r0 r : Memo) (tr : Trail) (es : List Event) → LookKnows (record m { point = y }) y r0 r tr es → (look_plan.part (record m { point = y })).needs (look_call m y) r
+    opens m Shape r0 r tr es h =
+        let room = h.0.read.room in
+        tag_load true m.me r h.0.read.may.who m.block (omega arith, omega arith) (reached_told m.me.who r m.block (ap (λ (x : Memo). is_reached m.me.who x m.block) h.1 ∙ h.0.read.reach))
+    opens m Whose r0 r tr es (x, h) = hold_load false m.me r h.may.read.may.who (λ e. ap (λ (y : Memo). y.op) h.same ∙ h.may.read.may.idle)
+    opens m Reference r0 r tr es (x, h, held) =
+        let low = h.low in
+        let last = h.tag.last in
+        reference_load false m.me r h.may.read.may.who m.block m.index (omega arith, omega arith) (
+          reached_tagged m.me.who m.block x m.block r0 r h.same ∙ h.may.read.reach,
+          (record { block = m.block; refs = tag_refs x; plain = tag_plain x; author = Some (tag_author x) }, tag_author x, h.tag.told, refl, h.low, refl, ap (λ (y : Memo). y.latch) h.same ∙ held),
+        )
+        (idle_settled r (Body m.block m.index) (ap (λ (y : Memo). y.op) h.same ∙ h.may.read.may.idle))
+
     stays : (m : LookState) (y : LookPoint) (n : ℕ) → PlanStays word_control look_plan (record m { point = y }) n
     stays m Shape n = record { same_me = refl; same_line = refl; same_start = refl; started = λ e. refl }
     stays m Whose n = record { same_me = refl; same_line = refl; same_start = refl; started = λ e. refl }

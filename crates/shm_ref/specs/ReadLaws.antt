@@ -1,10 +1,9 @@
 -- what is owed of a plain word of a block
-use Rattle.std.proofs.Common.{◌≡◌, ℕ, ◌+◌, ◌<◌, ◌≤◌, refl, sym, ap, ◌∙◌, subst, arith, Bool, true, false, List, [], ◌∷◌, ◌++◌, Option}
-use Rattle.std.specs.Prelude.{if◌then◌else◌, nat_lt, None, Some, Err, Result}
+use Rattle.std.proofs.Common.{◌≡◌, ℕ, ◌+◌, ◌<◌, ◌≤◌, refl, sym, ap, ◌∙◌, subst, arith, Bool, true, false, List, [], ◌∷◌, ◌++◌}
+use Rattle.std.specs.Prelude.{if◌then◌else◌, nat_lt, None, Some, Err}
 use Rattle.std.specs.List.{Contains}
 use Rattle.std.proofs.lemmas.Bool.{ltb-false, ltb-true}
 use Rattle.shm_words.specs.declared.tag.Tag.{Tag as ATag}
-use Rattle.shm_words.specs.Layout.{total_of}
 use Rattle.shm_words.specs.Tags.{tag_plain, tag_refs}
 use Rattle.shm_graph.specs.declared.ask.Me.{Me}
 use Rattle.shm_graph.specs.declared.spot.Spot.TheVariants.{Body, Tag}
@@ -22,29 +21,16 @@ use Rattle.shm_calls.specs.Parts.{IsHeld}
 use Rattle.shm_calls.specs.Plans.{PlanLaws, PlanStays, Follows}
 use Rattle.shm_calls.specs.Words.{word_control, word_part, word_part_laws}
 use Rattle.shm_count.specs.TearControl.{tag_read}
-use Rattle.shm_ref.specs.declared.answer.NoSuchWord.{NoSuchWord}
 use Rattle.shm_ref.specs.declared.read.ReadPoint.{ReadPoint}
 use Rattle.shm_ref.specs.declared.read.ReadPoint.TheVariants.{Shape, Plain}
 use Rattle.shm_ref.specs.declared.read.ReadState.{ReadState}
 use Rattle.shm_ref.specs.AskedParts.{asked_part_laws, one_more}
-use Rattle.shm_ref.specs.ReadFits.{HasNoWord, IsReading, ReadFound, ReadKnows, ReadLeaves, is_shape, read_ask, read_call, read_part, read_plan, reading}
+use Rattle.shm_ref.specs.ReadFits.{IsReading, ReadFound, ReadKnows, ReadLeaves, is_shape, read_ask, read_call, read_part, read_plan, reading}
 use Rattle.shm_ref.specs.ReadParts.{IsTag, MayRead, is_tag, tagged}
 
 -- what is known before the first word step
 pub read_begin : (me : Me) (b k : ℕ) (r : Memo) → MayRead me b r → ReadKnows (reading me b k) Shape r r [] []
 read_begin me b k r may = (may, refl, refl, refl)
-
-opens : (m : ReadState) (y : ReadPoint) (r0 r : Memo) (tr : Trail) (es : List Event) → ReadKnows (record m { point = y }) y r0 r tr es → (read_plan.part (record m { point = y })).needs (read_call m y) r
-opens m Shape r0 r tr es h =
-    let room = h.0.room in
-    tag_load true m.me r h.0.may.who m.block (omega arith, omega arith) (reached_told m.me.who r m.block (ap (λ (x : Memo). is_reached m.me.who x m.block) h.1 ∙ h.0.reach))
-opens m Plain r0 r tr es (x, h) =
-    let refs = h.refs in
-    let low = h.low in
-    let last = h.tag.last in
-    plain_load false m.me r h.may.may.who m.block (m.refs + m.index) (omega arith, omega arith)
-    (record { block = m.block; refs = tag_refs x; plain = tag_plain x; author = _ }, h.tag.told, refl, omega arith, omega arith)
-    (idle_settled r (Body m.block (m.refs + m.index)) (ap (λ (y : Memo). y.op) h.same ∙ h.may.may.idle))
 
 -- what a word step left, and what it asked
 abbrev Leaves : ReadState → ReadPoint → Memo → Memo → Trail → List Event → ℕ → Type 0
@@ -65,6 +51,18 @@ read_laws =
       leads = λ m r0 rs r tr t es ds n h w held same. leads m m.point r0 rs r tr t es ds n h w held;
     }
   where
+    opens : (m : ReadState) (y : ReadPoint) (r0 r : Memo) (tr : Trail) (es : List Event) → ReadKnows (record m { point = y }) y r0 r tr es → (read_plan.part (record m { point = y })).needs (read_call m y) r
+    opens m Shape r0 r tr es h =
+        let room = h.0.room in
+        tag_load true m.me r h.0.may.who m.block (omega arith, omega arith) (reached_told m.me.who r m.block (ap (λ (x : Memo). is_reached m.me.who x m.block) h.1 ∙ h.0.reach))
+    opens m Plain r0 r tr es (x, h) =
+        let refs = h.refs in
+        let low = h.low in
+        let last = h.tag.last in
+        plain_load false m.me r h.may.may.who m.block (m.refs + m.index) (omega arith, omega arith)
+        (record { block = m.block; refs = tag_refs x; plain = tag_plain x; author = _ }, h.tag.told, refl, omega arith, omega arith)
+        (idle_settled r (Body m.block (m.refs + m.index)) (ap (λ (y : Memo). y.op) h.same ∙ h.may.may.idle))
+
     stays : (m : ReadState) (y : ReadPoint) (n : ℕ) → PlanStays word_control read_plan (record m { point = y }) n
     stays m Shape n = record { same_me = refl; same_line = refl; same_start = refl; started = λ e. refl }
     stays m Plain n = record { same_me = refl; same_line = refl; same_start = refl; started = λ e. absurd (cc) }

@@ -1,5 +1,5 @@
 -- reading under a latch and in reach: when it may begin, and what a tag that was read tells
-use Rattle.std.proofs.Common.{◌≡◌, ◌≢◌, ℕ, ◌+◌, ◌^◌, ◌<◌, ◌≤◌, ◌%◌, refl, sym, ap, ◌∙◌, subst, arith, Bool, true, false, eqb, ◌||◌, inl, inr, List, [], ◌∷◌, ◌++◌, map, Option, None, Some}
+use Rattle.std.proofs.Common.{◌≡◌, ◌≢◌, ℕ, ◌+◌, ◌^◌, ◌<◌, ◌≤◌, ◌%◌, refl, sym, ap, ◌∙◌, subst, arith, true, false, eqb, ◌||◌, inl, inr, List, [], ◌∷◌, ◌++◌, map, Option, None, Some}
 use Rattle.std.specs.List.{Contains, filter, list_any}
 use Rattle.std.proofs.lemmas.Bool.{cases_eq, cond-true, eq-eqb, or_left, or_right}
 use Rattle.std.proofs.lemmas.List.Folds.{list_any-append}
@@ -14,11 +14,10 @@ use Rattle.shm_graph.specs.declared.memo.Look.{Look}
 use Rattle.shm_graph.specs.declared.memo.Memo.{Memo}
 use Rattle.shm_graph.specs.declared.memo.Stored.{Stored}
 use Rattle.shm_graph.specs.Core.{core}
-use Rattle.shm_graph.specs.Held.{HeldAt}
 use Rattle.shm_graph.specs.Idle.{hold_word}
 use Rattle.shm_graph.specs.Reach.{is_reached, known_at, learnt, named_blocks, not_at}
 use Rattle.shm_graph.specs.Spots.{same_spot}
-use Rattle.shm_graph.specs.Telling.{Claim, claims}
+use Rattle.shm_graph.specs.Telling.{claims}
 use Rattle.shm_graph.specs.Views.{own_word, view}
 use Rattle.shm_graph.proofs.Holders.{reach_counted}
 use Rattle.shm_graph.proofs.Reached.{reached_here}
