@@ -22,4 +22,5 @@ pub mod LookFits
 pub mod LookLaws
 pub mod ReadFits
 pub mod ReadLaws
+pub mod OnlyRead
 pub mod Machines

@@ -26,6 +26,7 @@ ghost use Rattle.shm_ref.specs.Lefts.{MayDrop};
 ghost use Rattle.shm_ref.specs.LookFits.{LookLeaves, MayLook, look_plan, looking};
 ghost use Rattle.shm_ref.specs.Machines.{look, LookFits, LookGives, look_told, read, ReadFits, ReadGives, read_told};
 ghost use Rattle.shm_ref.specs.Machines.{home_of, HomeFits, HomeGives, home_told};
+ghost use Rattle.shm_ref.specs.OnlyRead.{OnlyRead};
 ghost use Rattle.shm_ref.specs.ReadFits.{ReadLeaves, read_plan, reading};
 ghost use Rattle.shm_ref.specs.ReadParts.{MayAsk, MayRead};
 ghost use Rattle.shm_ref.specs.Machines.{DropFits, DropGives, drop_told, drop_roots, RootsFit, RootsGive, roots_told, hold, HoldFits, HoldGives, hold_told};
@@ -174,4 +175,17 @@ pub fn read_leaves()
 /// In a state that holds a block in reach lies in the pool, so that its words may be read.
 pub fn reach_lies()
     ensures { (me : AMe) (b : ℕ) (r : AMemo) → me.who < me.geometry.clients → IsHeld me r → is_reached me.who r b ≡ true → b + 2 ≤ total_of me.geometry }
+{}
+
+/// Whatever a home, a reference word or a plain word that is asked for answers, nothing but words was read.
+pub fn reads_only()
+    ensures home { (me : AMe) (a : ℕ) (r0 r : AMemo) (tr : Trail) (b : Result ℕ ANotHeld) → HomeGives me a r0 r tr b → OnlyRead r0 r }
+    ensures look { (me : AMe) (b k : ℕ) (r0 r : AMemo) (tr : Trail) (a : Result ℕ ALookFault) → LookGives me b k r0 r tr a → OnlyRead r0 r }
+    ensures read { (me : AMe) (b k : ℕ) (r0 r : AMemo) (tr : Trail) (a : Result ℕ ANoSuchWord) → ReadGives me b k r0 r tr a → OnlyRead r0 r }
+{}
+
+/// So reading may go on, and what was in reach is.
+pub fn reading_goes_on()
+    ensures asks { (me : AMe) (r0 r : AMemo) → OnlyRead r0 r → MayAsk me r0 → MayAsk me r }
+    ensures reach { (me : AMe) (b : ℕ) (r0 r : AMemo) → OnlyRead r0 r → MayRead me b r0 → MayRead me b r }
 {}

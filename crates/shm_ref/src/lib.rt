@@ -28,8 +28,8 @@ pub use drop_root::{DropRoot, Dropping};
 pub use events::{
     drop_root_begins, drop_root_events, drop_root_leaves, hold_begins, hold_events, hold_leaves,
     home_of_begins, home_of_events, home_of_leaves, look_begins, look_events, look_leaves,
-    reach_lies, read_begins, read_events, read_leaves, release_begins, release_events,
-    release_leaves, root_of_begins, root_of_events, root_of_leaves,
+    reach_lies, read_begins, read_events, read_leaves, reading_goes_on, reads_only, release_begins,
+    release_events, release_leaves, root_of_begins, root_of_events, root_of_leaves,
 };
 pub use hold::{Hold, Holding};
 pub use home_of::{FindingHome, HomeOf};
