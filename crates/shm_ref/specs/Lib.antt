@@ -15,4 +15,12 @@ pub mod RootOfFits
 pub mod RootOfLaws
 pub mod ReleaseFits
 pub mod ReleaseLaws
+pub mod ReadParts
+pub mod HomeFits
+pub mod HomeLaws
+pub mod LookFits
+pub mod LookLaws
+pub mod ReadFits
+pub mod ReadLaws
+pub mod OnlyRead
 pub mod Machines

@@ -5,5 +5,8 @@ pub use crate::drop_root::{DropPoint, DropState};
 pub use crate::drop_roots::{DropRoots, DroppingRoots, RootsState};
 pub use crate::events::{drop_roots_begins, drop_roots_events, drop_roots_leaves};
 pub use crate::hold::{HoldPoint, HoldState};
+pub use crate::home_of::{FindPoint, FindState};
+pub use crate::look::{LookPoint, LookState};
+pub use crate::read::{ReadPoint, ReadState};
 pub use crate::release::{ReleasePoint, ReleaseState};
 pub use crate::root_of::NamingState;
