@@ -15,4 +15,9 @@ pub mod RootOfFits
 pub mod RootOfLaws
 pub mod ReleaseFits
 pub mod ReleaseLaws
+pub mod CountedBlocks
+pub mod CoreLeaves
+pub mod HomeParts
+pub mod SetHomeFits
+pub mod SetHomeLaws
 pub mod Machines

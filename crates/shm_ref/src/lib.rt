@@ -14,8 +14,9 @@ pub mod hold;
 pub mod parts;
 pub mod release;
 pub mod root_of;
+pub mod set_home;
 
-pub use answer::Busy;
+pub use answer::{Busy, HomeFault, SetFault};
 pub use bound::{drop_root_bound, hold_bound, release_bound, root_of_bound};
 pub use drop_root::{DropRoot, Dropping};
 pub use events::{
@@ -25,6 +26,7 @@ pub use events::{
 pub use hold::{Hold, Holding};
 pub use release::{Release, Releasing};
 pub use root_of::{Naming, RootOf};
+pub use set_home::{Homing, SetHome};
 
 #[cfg(test)]
 mod drop_tests;
