@@ -20,4 +20,9 @@ pub mod CoreLeaves
 pub mod HomeParts
 pub mod SetHomeFits
 pub mod SetHomeLaws
+pub mod SetRefControl
+pub mod SetRefMemos
+pub mod SetRefFits
+pub mod SetRefSteps
+pub mod SetRefLaws
 pub mod Machines

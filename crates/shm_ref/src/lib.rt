@@ -15,6 +15,7 @@ pub mod parts;
 pub mod release;
 pub mod root_of;
 pub mod set_home;
+pub mod set_ref;
 
 pub use answer::{Busy, HomeFault, SetFault};
 pub use bound::{drop_root_bound, hold_bound, release_bound, root_of_bound};
@@ -27,6 +28,7 @@ pub use hold::{Hold, Holding};
 pub use release::{Release, Releasing};
 pub use root_of::{Naming, RootOf};
 pub use set_home::{Homing, SetHome};
+pub use set_ref::{SetRef, Setting};
 
 #[cfg(test)]
 mod drop_tests;
