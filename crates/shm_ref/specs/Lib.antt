@@ -25,4 +25,5 @@ pub mod SetRefMemos
 pub mod SetRefFits
 pub mod SetRefSteps
 pub mod SetRefLaws
+pub mod SetMachines
 pub mod Machines

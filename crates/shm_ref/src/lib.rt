@@ -16,6 +16,7 @@ pub mod release;
 pub mod root_of;
 pub mod set_home;
 pub mod set_ref;
+pub mod setting;
 
 pub use answer::{Busy, HomeFault, SetFault};
 pub use bound::{drop_root_bound, hold_bound, release_bound, root_of_bound};
@@ -29,6 +30,10 @@ pub use release::{Release, Releasing};
 pub use root_of::{Naming, RootOf};
 pub use set_home::{Homing, SetHome};
 pub use set_ref::{SetRef, Setting};
+pub use setting::{
+    set_home_begins, set_home_bound, set_home_events, set_home_leaves, set_ref_begins,
+    set_ref_bound, set_ref_events, set_ref_leaves,
+};
 
 #[cfg(test)]
 mod drop_tests;

@@ -7,3 +7,5 @@ pub use crate::events::{drop_roots_begins, drop_roots_events, drop_roots_leaves}
 pub use crate::hold::{HoldPoint, HoldState};
 pub use crate::release::{ReleasePoint, ReleaseState};
 pub use crate::root_of::NamingState;
+pub use crate::set_home::{HomePoint, HomeState};
+pub use crate::set_ref::{SetPoint, SetState};
