@@ -227,7 +227,7 @@ module _ (m : SetState) (r0 rs r : Memo) (tr t : Trail) (es ds : List Event) (he
       let q = reached_counted m.me h.may.who r n held (ap (λ (x : Memo). is_reached c x n) cored ∙ seen_block b k u n r0 c some) in
       (q.0, q.1, λ x. q.2 (subst (λ (xs : List ℕ). Contains xs n) (sym dying) x))) in
       let total = total_small m.me.geometry h.may.geometry in
-      let small : n % 2 ^ 20 ≡ n = elim (cases_eq n 0) [ | inl e ↦ omega arith | inr some ↦ (let l = (counted some).0.1 in omega arith) ] in
+      let small : n % 2 ^ 20 ≡ n = elim (cases_eq n 0) [ inl e ↦ omega arith | inr some ↦ (let l = (counted some).0.1 in omega arith) ] in
       let Next : ℕ → SetPoint → SetState = λ z y. record m { before = z; point = y } in
       let goes : ℕ → Type 0 = λ z. Outcome (if z == m.to then Some (Ok tt) else None) (Knows (Next z (step_point z m.to)) (step_point z m.to)) Left in
       subst goes (sym small)
@@ -278,21 +278,20 @@ module _ (m : SetState) (r0 rs r : Memo) (tr t : Trail) (es ds : List Event) (he
     -- it lost the old block
     taken : (y : SetPoint) (z : Bool) → m.before ≢ 0 → Lost c p false m.before m.to z rs r → ds ≡ taken_events c p m.before m.to → IsWithin change_steps t
         → Outcome (lowered_turns z) (Knows (lowered_after (At y) z) (lowered_after (At y) z).point) Left
-    taken y true some lost told short =
-        (
-          u,
-          record {
-            may = h.may;
-            read = h.read;
-            some = some;
-            other = h.other;
-            counted = h.counted some;
-            lost = lost_word seen rs r h.same c b k m.before m.to true lost;
-            holds = held;
-            told = ap (λ (x : List Event). x ++ ds) h.none ∙ told;
-            bound = within_more 3 change_steps tr t h.bound short;
-          },
-        )
+    taken y true some lost told short = (
+      u,
+      record {
+        may = h.may;
+        read = h.read;
+        some = some;
+        other = h.other;
+        counted = h.counted some;
+        lost = lost_word seen rs r h.same c b k m.before m.to true lost;
+        holds = held;
+        told = ap (λ (x : List Event). x ++ ds) h.none ∙ told;
+        bound = within_more 3 change_steps tr t h.bound short;
+      },
+    )
     taken y false some lost told short =
         let bound = within_more 3 change_steps tr t h.bound short in
         record {
@@ -377,10 +376,10 @@ set_laws =
       parts = λ m. let first = is_tag m.point in
           let p : Spot = spot.Body m.block m.word in
           or_part_laws first word_control (or_control (or_control up_control down_control) (or_control step_control tear_control)) (set_word_part m m.point) (or_part (or_part (up_slot_part p false) (down_slot_part p false)) (or_part (change_slot_part p false) tear_part))
-              (word_part_laws first m.me (set_ask m m.point) (set_found m m.point))
-              (or_part_laws first (or_control up_control down_control) (or_control step_control tear_control) (or_part (up_slot_part p false) (down_slot_part p false)) (or_part (change_slot_part p false) tear_part)
-              (or_part_laws first up_control down_control (up_slot_part p false) (down_slot_part p false) (up_slot_laws p false first) (down_slot_laws p false first))
-              (or_part_laws first step_control tear_control (change_slot_part p false) tear_part (change_slot_laws p false first) (tear_part_laws first)));
+          (word_part_laws first m.me (set_ask m m.point) (set_found m m.point))
+          (or_part_laws first (or_control up_control down_control) (or_control step_control tear_control) (or_part (up_slot_part p false) (down_slot_part p false)) (or_part (change_slot_part p false) tear_part)
+          (or_part_laws first up_control down_control (up_slot_part p false) (down_slot_part p false) (up_slot_laws p false first) (down_slot_laws p false first))
+          (or_part_laws first step_control tear_control (change_slot_part p false) tear_part (change_slot_laws p false first) (tear_part_laws first)));
       opens = λ m. set_opens m m.point;
       leads = λ m r0 rs r tr t es ds a h g held same. leads m m.point r0 rs r tr t es ds a h g held same;
     }

@@ -63,8 +63,7 @@ look_needs m t r0 r tr es h =
     let c = m.me.who in
     let b = m.block in
     let known : Contains r.known (record { spot = spot.Tag b; value = t }) = subst (λ (ks : List Stored). Contains ks (record { spot = spot.Tag b; value = t })) (sym (ap (λ (x : Memo). x.known) h.same)) (0, omega arith, refl) in
-    reference_load false m.me r h.may.who b m.word h.inside
-    (
+    reference_load false m.me r h.may.who b m.word h.inside (
       ap (λ (x : Memo). is_reached c x b) h.same ∙ tag_reached c b t b r0 h.may.reach,
       (claim_by b t, c, listed_told c r b t known, refl, h.tag.low, ap Some h.tag.author, ap (λ (x : Memo). x.latch) h.same ∙ h.may.latch h.held),
     )

@@ -36,6 +36,14 @@ pub use setting::{
 };
 
 #[cfg(test)]
+mod chain_tests;
+#[cfg(test)]
 mod drop_tests;
+#[cfg(test)]
+mod set_home_tests;
+#[cfg(test)]
+mod set_ref_tests;
+#[cfg(test)]
+mod set_refusal_tests;
 #[cfg(test)]
 mod tests;

@@ -138,7 +138,11 @@ impl SetState {
                 } else {
                     SetPoint::Change
                 };
-                if before == self.to { Some(Ok(())) } else { None }
+                if before == self.to {
+                    Some(Ok(()))
+                } else {
+                    None
+                }
             }
         }
     }
