@@ -1,15 +1,15 @@
 -- what is owed of setting the own home
-use Rattle.std.proofs.Common.{◌≡◌, ◌≢◌, ℕ, ◌+◌, ◌%◌, ◌^◌, ◌<◌, ◌≤◌, refl, sym, ap, ◌∙◌, subst, arith, Bool, true, false, not, ◌&&◌, List, [], ◌∷◌, ◌++◌, inl, inr, length}
+use Rattle.std.proofs.Common.{◌≡◌, ℕ, ◌%◌, ◌^◌, ◌<◌, refl, sym, ap, ◌∙◌, subst, arith, true, false, not, ◌&&◌, List, [], ◌∷◌, ◌++◌, inl, inr, length}
 use Rattle.std.specs.Prelude.{◌==◌, if◌then◌else◌, Some, None, Result, Ok, Err}
-use Rattle.std.proofs.lemmas.Bool.{and_parts, cases_eq, lt-ltb, ne_eqb, true≢false, false≢true}
+use Rattle.std.proofs.lemmas.Bool.{and_parts, cases_eq, lt-ltb, ne_eqb, false≢true}
 use Rattle.shm_words.specs.declared.place.Place.TheVariants as place
-use Rattle.shm_words.specs.Layout.{GeometryFits, address, is_in, total_of}
+use Rattle.shm_words.specs.Layout.{GeometryFits, address, is_in}
 use Rattle.shm_words.proofs.Placing.{address_below, address_small, total_small}
 use Rattle.shm_graph.specs.declared.ask.Ask.TheVariants as ask
 use Rattle.shm_graph.specs.declared.ask.Me.{Me}
 use Rattle.shm_graph.specs.declared.memo.Memo.{Memo}
 use Rattle.shm_graph.specs.declared.memo.Op.TheVariants.{Nothing}
-use Rattle.shm_graph.specs.declared.spot.Spot.TheVariants.{Era, Home}
+use Rattle.shm_graph.specs.declared.spot.Spot.TheVariants.{Home}
 use Rattle.shm_graph.specs.Agents.{recovers}
 use Rattle.shm_graph.specs.Asks.{Trail, IsWithin}
 use Rattle.shm_graph.specs.Core.{core}
@@ -42,7 +42,7 @@ use Rattle.shm_ref.specs.declared.set_home.HomeState.{HomeState}
 use Rattle.shm_ref.specs.CoreLeaves.{cause_core, filled_home, untouched_core}
 use Rattle.shm_ref.specs.CountedBlocks.{reached_counted}
 use Rattle.shm_ref.specs.HomeParts.{OwnHomeRead, home_address, home_needs, home_part}
-use Rattle.shm_ref.specs.SetHomeFits.{HomeAnswer, HomeKnows, HomeLeaves, IsHomeless, MaySetHome, home_call_at, home_fault, home_parts, home_plan, is_load}
+use Rattle.shm_ref.specs.SetHomeFits.{HomeAnswer, HomeKnows, HomeLeaves, IsHomeless, MaySetHome, home_call_at, home_parts, home_plan, is_load}
 
 -- ---- the step up
 

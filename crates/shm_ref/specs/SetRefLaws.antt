@@ -1,5 +1,5 @@
 -- what is owed of setting a reference word of an own block
-use Rattle.std.proofs.Common.{◌≡◌, ◌≢◌, ℕ, zero, suc, ◌+◌, ◌*◌, ◌%◌, ◌^◌, ◌<◌, ◌≤◌, refl, sym, ap, ◌∙◌, subst, arith, Bool, true, false, List, [], ◌∷◌, ◌++◌, append-nil, inl, inr, ◌⊎◌, length}
+use Rattle.std.proofs.Common.{◌≡◌, ◌≢◌, ℕ, zero, suc, ◌+◌, ◌%◌, ◌^◌, ◌≤◌, refl, sym, ap, ◌∙◌, subst, arith, Bool, true, false, List, [], ◌∷◌, ◌++◌, append-nil, inl, inr, length}
 use Rattle.std.specs.Prelude.{◌==◌, nat_le, if◌then◌else◌, Some, None, Result, Ok, Err}
 use Rattle.std.specs.List.{Contains, filter}
 use Rattle.std.proofs.lemmas.Bool.{cases_eq, cases_lt, eq-eqb, false≢true, le-leb, lt-leb, ne_eqb}
@@ -43,18 +43,18 @@ use Rattle.shm_count.specs.SlotParts.{change_slot_laws, change_slot_part, down_s
 use Rattle.shm_count.specs.StepControl.{IsInside, block_at, raises, step_control}
 use Rattle.shm_count.specs.StepMachines.{down_control, down_told, up_control, up_told}
 use Rattle.shm_count.specs.TearControl.{tear_control}
-use Rattle.shm_count.specs.TearEvents.{Visit, Walks, frees}
+use Rattle.shm_count.specs.TearEvents.{frees}
 use Rattle.shm_count.specs.TearFits.{TearLeaves}
 use Rattle.shm_ref.specs.declared.answer.SetFault.{SetFault}
 use Rattle.shm_ref.specs.declared.answer.SetFault.TheVariants as fault
 use Rattle.shm_ref.specs.declared.set_ref.SetPoint.{SetPoint}
 use Rattle.shm_ref.specs.declared.set_ref.SetPoint.TheVariants.{Tag, Held, Look, Raise, Lower, Change, Tear}
 use Rattle.shm_ref.specs.declared.set_ref.SetState.{SetState}
-use Rattle.shm_ref.specs.CoreLeaves.{cause_core, filled_word, lost_word, untouched_core}
+use Rattle.shm_ref.specs.CoreLeaves.{filled_word, lost_word, untouched_core}
 use Rattle.shm_ref.specs.CountedBlocks.{reached_counted}
 use Rattle.shm_ref.specs.Leaving.{frees-append}
 use Rattle.shm_ref.specs.SetRefControl.{SetAnswer, is_tag, lowered_after, lowered_turns, set_ask, set_call_at, set_fault, set_parts, step_point}
-use Rattle.shm_ref.specs.SetRefFits.{IsFallen, IsLooked, IsOwnRef, IsRead, RefSet, SetDid, SetKnows, SetLeaves, SetRefused, SetSpent, aim_of, set_found, set_plan, set_word_part, taken_events}
+use Rattle.shm_ref.specs.SetRefFits.{IsLooked, IsRead, SetKnows, SetLeaves, aim_of, set_found, set_plan, set_word_part, taken_events}
 use Rattle.shm_ref.specs.SetRefFits.SetDid.{Kept, Raised, Taken}
 use Rattle.shm_ref.specs.SetRefFits.SetSpent.{AtStep, AtTear}
 use Rattle.shm_ref.specs.SetRefMemos.{reference_core, seen_block, seen_dying, seen_op, seen_own, tag_seen, word_seen}

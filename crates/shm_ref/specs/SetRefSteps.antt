@@ -1,5 +1,5 @@
 -- the calls of setting a reference word of an own block may be made: its loads, its count steps, and the tear-down
-use Rattle.std.proofs.Common.{◌≡◌, ◌≢◌, ℕ, ◌+◌, ◌^◌, ◌<◌, ◌≤◌, refl, sym, ap, ◌∙◌, subst, arith, Bool, true, false, List, inl, inr}
+use Rattle.std.proofs.Common.{◌≡◌, ◌≢◌, ℕ, ◌+◌, ◌^◌, ◌<◌, ◌≤◌, refl, sym, ap, ◌∙◌, subst, arith, true, false, List, inl, inr}
 use Rattle.std.specs.Prelude.{Some}
 use Rattle.std.specs.List.{Contains}
 use Rattle.std.proofs.lemmas.Bool.{false≢true, true≢false}
@@ -12,9 +12,7 @@ use Rattle.shm_graph.specs.declared.spot.Spot.{Spot}
 use Rattle.shm_graph.specs.declared.spot.Spot.TheVariants as spot
 use Rattle.shm_graph.specs.declared.table.Part.{Part}
 use Rattle.shm_graph.specs.declared.table.Part.TheVariants.{Loose, Table}
-use Rattle.shm_graph.specs.Agents.{recovers}
 use Rattle.shm_graph.specs.Asks.{Trail}
-use Rattle.shm_graph.specs.Core.{core}
 use Rattle.shm_graph.specs.Events.{Event}
 use Rattle.shm_graph.specs.Held.{is_loose}
 use Rattle.shm_graph.specs.Reach.{is_reached}
@@ -34,14 +32,14 @@ use Rattle.shm_count.specs.declared.point.StepPoint.TheVariants.{Era}
 use Rattle.shm_count.specs.Lowering.{dies}
 use Rattle.shm_count.specs.SlotLeaves.{IsSlotFor, MayStepAt}
 use Rattle.shm_count.specs.StepControl.{AimFits, AimSmall, IsInside, block_at, last_era, raises}
-use Rattle.shm_count.specs.StepFits.{CanAim, CanStep, HasPut}
+use Rattle.shm_count.specs.StepFits.{CanAim, HasPut}
 use Rattle.shm_count.specs.TearFits.{CanTear}
 use Rattle.shm_ref.specs.declared.set_ref.SetPoint.{SetPoint}
 use Rattle.shm_ref.specs.declared.set_ref.SetPoint.TheVariants.{Tag, Held, Look, Raise, Lower, Change as ToChange, Tear}
 use Rattle.shm_ref.specs.declared.set_ref.SetState.{SetState}
 use Rattle.shm_ref.specs.SetRefControl.{set_ask, set_call_at}
 use Rattle.shm_ref.specs.SetRefFits.{IsFallen, IsLatched, IsLooked, IsTagged, MaySetRef, SetKnows, set_plan, set_word_part}
-use Rattle.shm_ref.specs.SetRefMemos.{seen_dying, seen_latch, seen_op, seen_part, seen_reached, seen_status, seen_tag, seen_word, tag_reached, tag_seen, word_seen}
+use Rattle.shm_ref.specs.SetRefMemos.{seen_latch, seen_op, seen_part, seen_reached, seen_status, seen_tag, seen_word, tag_reached, word_seen}
 
 -- ---- the loads
 
