@@ -4,7 +4,7 @@ use Rattle.std.specs.List.{Contains, filter}
 use Rattle.shm_graph.specs.declared.ask.Me.{Me}
 use Rattle.shm_graph.specs.declared.memo.Memo.{Memo}
 use Rattle.shm_graph.specs.declared.memo.Stored.{Stored}
-use Rattle.shm_graph.specs.declared.spot.Spot.TheVariants.{Body, Era, Home}
+use Rattle.shm_graph.specs.declared.spot.Spot.TheVariants.{Body, Era, Home, Root}
 use Rattle.shm_graph.specs.Core.{core}
 use Rattle.shm_graph.specs.Reach.{learnt}
 use Rattle.shm_graph.specs.Stores.{with_own}
@@ -14,9 +14,19 @@ use Rattle.shm_count.specs.declared.answer.UpFault.{UpFault}
 use Rattle.shm_count.specs.declared.answer.UpFault.TheVariants.{CountFull, EraSpent}
 use Rattle.shm_count.specs.declared.point.Aim.{Aim}
 use Rattle.shm_count.specs.Roots.{rest}
-use Rattle.shm_count.specs.SlotLeaves.{Filled, Lost, StepCause, Untouched}
+use Rattle.shm_count.specs.SlotLeaves.{Filled, Lost, Sifts, StepCause, Untouched}
 use Rattle.shm_count.specs.StepParts.{part_after}
 use Rattle.shm_count.specs.TearMemos.{is_slot_word}
+
+-- what stays of what a memo knows depends on what it knows, and on its value blocks
+sifts_of : (c t : ℕ) (z : Bool) (a b r : Memo) → a.known ≡ b.known → a.values ≡ b.values → Sifts c t z a r → Sifts c t z b r
+sifts_of c t z a b r known values k =
+    record {
+      looks = k.looks;
+      slots = k.slots ∙ ap (filter is_slot_word) known;
+      words = λ d s y l other o has. k.words d s y l other o (subst (λ (ks : List Stored). Contains ks (record { spot = s; value = y })) (sym known) has);
+      values = λ d l has. k.values d l (subst (λ (vs : List ℕ). Contains vs d) (sym values) has);
+    }
 
 module _ (m q r : Memo) (same : core q ≡ core m) where
   -- the own home was filled
@@ -42,19 +52,27 @@ module _ (m q r : Memo) (same : core q ≡ core m) where
   -- a word of a block lost a reference
   pub lost_word : (c d i t x : ℕ) (z : Bool) → Lost c (Body d i) false t x z q r → Lost c (Body d i) false t x z m r
   lost_word c d i t x z h =
-      let k = h.took.sifts in
       record {
         took = record {
           rest = h.took.rest ∙ ap (λ (y : Memo). rest (record y { part = part_after c (sight c y) (Body d i) x })) same;
           op = h.took.op;
           own = λ s l. h.took.own s l ∙ ap (λ (y : Memo). own_word y.own s) same;
           rows = λ j. subst (λ (y : Memo). own_word y.own (Era c j) ≤ own_word r.own (Era c j)) same (h.took.rows j);
-          sifts = record {
-            looks = k.looks;
-            slots = k.slots ∙ ap (λ (y : Memo). filter is_slot_word (learnt (Body d i) x y.known)) same;
-            words = λ b s y l other o has. k.words b s y l other o (subst (λ (ks : List Stored). Contains ks (record { spot = s; value = y })) (sym (ap (λ (u : Memo). learnt (Body d i) x u.known) same)) has);
-            values = λ b l has. k.values b l (subst (λ (vs : List ℕ). Contains vs b) (sym (ap (λ (u : Memo). u.values) same)) has);
-          };
+          sifts = sifts_of c t z (record q { known = learnt (Body d i) x q.known }) (record m { known = learnt (Body d i) x m.known }) r (ap (λ (y : Memo). learnt (Body d i) x y.known) same) (ap (λ (y : Memo). y.values) same) h.took.sifts;
+        };
+        dying = h.dying ∙ ap (λ (y : Memo). y.dying ++ cond z (t ∷ []) []) same;
+      }
+
+  -- an own root did
+  pub lost_root : (c k t x : ℕ) (z : Bool) → Lost c (Root c k) false t x z q r → Lost c (Root c k) false t x z m r
+  lost_root c k t x z h =
+      record {
+        took = record {
+          rest = h.took.rest ∙ ap (λ (y : Memo). rest (record y { part = part_after c (sight c y) (Root c k) x })) same;
+          op = h.took.op;
+          own = λ s l. h.took.own s l ∙ ap (λ (y : Memo). own_word (with_own y (Root c k) x).own s) same;
+          rows = λ j. subst (λ (y : Memo). own_word y.own (Era c j) ≤ own_word r.own (Era c j)) same (h.took.rows j);
+          sifts = sifts_of c t z q m r (ap (λ (y : Memo). y.known) same) (ap (λ (y : Memo). y.values) same) h.took.sifts;
         };
         dying = h.dying ∙ ap (λ (y : Memo). y.dying ++ cond z (t ∷ []) []) same;
       }

@@ -1,7 +1,7 @@
 -- what is owed of setting a reference word of an own block
 use Rattle.std.proofs.Common.{◌≡◌, ◌≢◌, ℕ, zero, suc, ◌+◌, ◌%◌, ◌^◌, ◌≤◌, refl, sym, ap, ◌∙◌, subst, arith, Bool, true, false, List, [], ◌∷◌, ◌++◌, append-nil, inl, inr, length}
 use Rattle.std.specs.Prelude.{◌==◌, nat_le, if◌then◌else◌, Some, None, Result, Ok, Err}
-use Rattle.std.specs.List.{Contains, filter}
+use Rattle.std.specs.List.{Contains}
 use Rattle.std.proofs.lemmas.Bool.{cases_eq, cases_lt, eq-eqb, false≢true, le-leb, lt-leb, ne_eqb}
 use Rattle.shm_words.proofs.Placing.{total_small}
 use Rattle.shm_words.specs.Layout.{total_of}
@@ -19,7 +19,6 @@ use Rattle.shm_graph.specs.Events.{Event}
 use Rattle.shm_graph.specs.Events as event
 use Rattle.shm_graph.specs.Laws.{Outcome}
 use Rattle.shm_graph.specs.Reach.{is_reached}
-use Rattle.shm_graph.specs.Stores.{not_block}
 use Rattle.shm_graph.specs.Views.{own_word}
 use Rattle.shm_calls.specs.declared.or.Or.TheVariants.{First, Second}
 use Rattle.shm_calls.specs.CallTells.{within_more}
@@ -37,7 +36,7 @@ use Rattle.shm_count.specs.declared.point.Aim.{Aim}
 use Rattle.shm_count.specs.declared.point.Aim.TheVariants as aims
 use Rattle.shm_count.specs.declared.point.Part.TheVariants.{First as Half}
 use Rattle.shm_count.specs.CountParts.{tear_part, tear_part_laws}
-use Rattle.shm_count.specs.Lowering.{StoppedAt, torn_leaves, without_new}
+use Rattle.shm_count.specs.Lowering.{torn_leaves}
 use Rattle.shm_count.specs.SlotLeaves.{Lost, StepCause, StepLeft, Untouched}
 use Rattle.shm_count.specs.SlotParts.{change_slot_laws, change_slot_part, down_slot_laws, down_slot_part, era_room, up_slot_laws, up_slot_part}
 use Rattle.shm_count.specs.StepControl.{IsInside, block_at, raises, step_control}
@@ -52,7 +51,7 @@ use Rattle.shm_ref.specs.declared.set_ref.SetPoint.TheVariants.{Tag, Held, Look,
 use Rattle.shm_ref.specs.declared.set_ref.SetState.{SetState}
 use Rattle.shm_ref.specs.CoreLeaves.{filled_word, lost_word, untouched_core}
 use Rattle.shm_ref.specs.CountedBlocks.{reached_counted}
-use Rattle.shm_ref.specs.Leaving.{frees-append}
+use Rattle.shm_ref.specs.Leaving.{frees-append, stopped_at}
 use Rattle.shm_ref.specs.SetRefControl.{SetAnswer, is_tag, lowered_after, lowered_turns, set_ask, set_call_at, set_fault, set_parts, step_point}
 use Rattle.shm_ref.specs.SetRefFits.{IsLooked, IsRead, SetKnows, SetLeaves, aim_of, set_found, set_plan, set_word_part, taken_events}
 use Rattle.shm_ref.specs.SetRefFits.SetDid.{Kept, Raised, Taken}
@@ -339,7 +338,7 @@ module _ (m : SetState) (r0 rs r : Memo) (tr t : Trail) (es ds : List Event) (he
           let bound = within_more (3 + change_steps) (tear_steps (frees ds + length vs)) tr t h.bound y.bound in
           let seen : Memo = word_seen b k u m.before r0 in
           let took = (torn_leaves m.me p false m.before m.to seen rs r h.may.who h.holds h.lost counted ds t (Err e) (vs, y)).0 in
-          let stopped : StoppedAt m.me seen r e.era vs = record { left = y.left; others = y.others ∙ (ap (filter (not_block m.before)) h.lost.dying ∙ without_new m.before seen.dying counted); spent = y.last } in
+          let stopped = stopped_at m.me m.before seen rs r ds t e.era vs h.lost.dying counted y in
           record { left = vs; stays = AtTear u m.before h.read h.some h.other took stopped ds told y.walks; bound = omega arith }
 
 -- each call leads on
