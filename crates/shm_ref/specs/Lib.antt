@@ -23,4 +23,15 @@ pub mod LookLaws
 pub mod ReadFits
 pub mod ReadLaws
 pub mod OnlyRead
+pub mod CountedBlocks
+pub mod CoreLeaves
+pub mod HomeParts
+pub mod SetHomeFits
+pub mod SetHomeLaws
+pub mod SetRefControl
+pub mod SetRefMemos
+pub mod SetRefFits
+pub mod SetRefSteps
+pub mod SetRefLaws
+pub mod SetMachines
 pub mod Machines

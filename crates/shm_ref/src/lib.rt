@@ -1,5 +1,6 @@
-//! Latches, looks and roots of an identity: taking a latch and giving it back, reading what a root, a home, a reference word or a plain
-//! word holds, giving a block in reach another root, and making a root empty with all that only it names.
+//! Latches, looks, roots and references of an identity: taking a latch and giving it back, reading what a root, a home, a reference word
+//! or a plain word holds, giving a block in reach another root, setting the own home and the references of own blocks, and making a root
+//! empty with all that only it names.
 //!
 //! Each machine is a plan of calls (`shm_calls`): the type with the operation's name is the machine, and the plan that it is made of says
 //! which call comes next.
@@ -17,10 +18,13 @@ pub mod parts;
 pub mod read;
 pub mod release;
 pub mod root_of;
+pub mod set_home;
+pub mod set_ref;
+pub mod setting;
 pub mod share;
 mod tagged;
 
-pub use answer::{Busy, LookFault, NoSuchWord, NotHeld};
+pub use answer::{Busy, HomeFault, LookFault, NoSuchWord, NotHeld, SetFault};
 pub use bound::{
     drop_root_bound, hold_bound, home_of_bound, look_bound, read_bound, release_bound,
     root_of_bound, share_bound,
@@ -39,13 +43,27 @@ pub use look::{Look, Looking};
 pub use read::{Read, Reading};
 pub use release::{Release, Releasing};
 pub use root_of::{Naming, RootOf};
+pub use set_home::{Homing, SetHome};
+pub use set_ref::{SetRef, Setting};
+pub use setting::{
+    set_home_begins, set_home_bound, set_home_events, set_home_leaves, set_ref_begins,
+    set_ref_bound, set_ref_events, set_ref_leaves,
+};
 pub use share::{Share, Sharing};
 pub use shm_count::parts::ShareFault;
 
 #[cfg(test)]
+mod chain_tests;
+#[cfg(test)]
 mod drop_tests;
 #[cfg(test)]
 mod read_tests;
+#[cfg(test)]
+mod set_home_tests;
+#[cfg(test)]
+mod set_ref_tests;
+#[cfg(test)]
+mod set_refusal_tests;
 #[cfg(test)]
 mod share_tests;
 #[cfg(test)]

@@ -10,3 +10,5 @@ pub use crate::look::{LookPoint, LookState};
 pub use crate::read::{ReadPoint, ReadState};
 pub use crate::release::{ReleasePoint, ReleaseState};
 pub use crate::root_of::NamingState;
+pub use crate::set_home::{HomePoint, HomeState};
+pub use crate::set_ref::{SetPoint, SetState};
