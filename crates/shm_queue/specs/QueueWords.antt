@@ -1,0 +1,104 @@
+-- word steps at queues with what the invariant says of the word, and what a held state shows of tails, heads and blocks in reach
+use Rattle.std.proofs.Common.{◌≡◌, ◌≢◌, ℕ, ◌+◌, ◌^◌, ◌<◌, ◌≤◌, refl, sym, ap, ◌∙◌, subst, arith, Bool, true, [], inl, inr, ◌⊎◌}
+use Rattle.std.specs.List.{Contains}
+use Rattle.std.proofs.lemmas.Bool.{and_from, eq-eqb, lt-ltb}
+use Rattle.shm_words.specs.declared.place.Place.TheVariants as place
+use Rattle.shm_words.specs.Layout.{address, total_of}
+use Rattle.shm_graph.specs.declared.ask.Ask.TheVariants.{Load}
+use Rattle.shm_graph.specs.declared.ask.Me.{Me}
+use Rattle.shm_graph.specs.declared.spot.Spot.{Spot}
+use Rattle.shm_graph.specs.declared.spot.Spot.TheVariants.{Era, Front, Tail}
+use Rattle.shm_graph.specs.declared.memo.Fact.TheVariants.{Counter}
+use Rattle.shm_graph.specs.declared.memo.Memo.{Memo}
+use Rattle.shm_graph.specs.Held.{HeldAt}
+use Rattle.shm_graph.specs.Laws.{framed}
+use Rattle.shm_graph.specs.Reach.{is_reached}
+use Rattle.shm_graph.specs.Views.{own_word, view}
+use Rattle.shm_graph.proofs.Holders.{reach_counted}
+use Rattle.shm_graph.proofs.Reached.{reached_here}
+use Rattle.shm_graph.proofs.SpotPlaces.{spot-place}
+use Rattle.shm_calls.specs.Parts.{IsHeld}
+use Rattle.shm_calls.specs.Words.{IsWord}
+use Rattle.shm_calls.specs.WordSteps.{load_at}
+use Rattle.shm_steps.specs.WordParts.{Leaves, same_memo}
+use Rattle.shm_steps.proofs.WordsOwn.{at_step, word_for}
+use Rattle.shm_count.specs.DyingBlocks.{live_room}
+use Rattle.shm_count.specs.StepControl.{IsInside}
+
+-- ---- loads of heads and tails
+
+-- the head of a queue to another is loaded: it is at most 8 below the own tail, and joins what was read
+abbrev pub HeadSeen : ℕ → ℕ → Memo → ℕ → Memo → Type 0
+HeadSeen c i = Leaves (λ m n. (n ≤ own_word m.own (Tail c i)) × (own_word m.own (Tail c i) ≤ n + 8)) same_memo (λ m n x. Contains x.facts (Counter (Front c i) n))
+
+-- the tail of a queue from another is loaded: it isn't below the own head, and joins what was read
+abbrev pub TailSeen : ℕ → ℕ → Memo → ℕ → Memo → Type 0
+TailSeen c s = Leaves (λ m n. own_word m.own (Front s c) ≤ n) same_memo (λ m n x. Contains x.facts (Counter (Tail s c) n))
+
+module _ (first : Bool) (me : Me) (m : Memo) (l : me.who < me.geometry.clients) where
+  abbrev c : ℕ
+  c = me.who
+
+  pub head_seen : (i : ℕ) → i < me.geometry.clients → c ≢ i → IsWord first me (Load (address me.geometry (place.Head c i))) (HeadSeen c i) (word_for me (Load (address me.geometry (place.Head c i)))) m
+  head_seen i li other =
+      let at : ℕ = address me.geometry (place.Head c i) in
+      load_at first me at (HeadSeen c i) m (Front c i) (λ class. spot-place me.geometry class (place.Head c i) (and_from _ _ (lt-ltb c me.geometry.clients l) (lt-ltb i me.geometry.clients li))) (λ e. cc) refl tt
+      (λ w r f st stands same.
+      let lane = st.held.lanes c i l li other in
+      let own : own_word m.own (Tail c i) ≡ w (Tail c i) = ap (λ (y : Memo). own_word y.own (Tail c i)) (sym same) ∙ st.held.mine c l (Tail c i) (eq-eqb c c refl) in
+      record {
+        found = ((let o = lane.order in omega arith), (let o = lane.room in omega arith));
+        left = at_step r c m (framed me (Load at) f (w (Front c i))) same;
+        read = (0, omega arith, refl);
+      })
+
+  pub tail_seen : (s : ℕ) → s < me.geometry.clients → s ≢ c → IsWord first me (Load (address me.geometry (place.Tail s c))) (TailSeen c s) (word_for me (Load (address me.geometry (place.Tail s c)))) m
+  tail_seen s ls other =
+      let at : ℕ = address me.geometry (place.Tail s c) in
+      load_at first me at (TailSeen c s) m (Tail s c) (λ class. spot-place me.geometry class (place.Tail s c) (and_from _ _ (lt-ltb s me.geometry.clients ls) (lt-ltb c me.geometry.clients l))) (λ e. cc) refl tt
+      (λ w r f st stands same.
+      let lane = st.held.lanes s c ls l other in
+      let own : own_word m.own (Front s c) ≡ w (Front s c) = ap (λ (y : Memo). own_word y.own (Front s c)) (sym same) ∙ st.held.mine c l (Front s c) (eq-eqb c c refl) in
+      record {
+        found = (let o = lane.order in omega arith);
+        left = at_step r c m (framed me (Load at) f (w (Tail s c))) same;
+        read = (0, omega arith, refl);
+      })
+
+-- ---- what a held state shows
+
+module _ (me : Me) (l : me.who < me.geometry.clients) where
+  -- tails and heads have a successor
+  tail_at : (i : ℕ) → i < me.geometry.clients → (w : Spot → ℕ) (r : ℕ → Memo) → HeldAt me.geometry w (view r) → own_word (r me.who).own (Tail me.who i) + 1 < 2 ^ 64
+  tail_at i li w r h =
+      let own : own_word (r me.who).own (Tail me.who i) ≡ w (Tail me.who i) = h.mine me.who l (Tail me.who i) (eq-eqb me.who me.who refl) in
+      let most = (h.tails me.who i l li).0 in
+      let small = h.small (Era me.who me.who) in
+      omega arith
+
+  pub tail_small : (i : ℕ) (m : Memo) → i < me.geometry.clients → IsHeld me m → own_word m.own (Tail me.who i) + 1 < 2 ^ 64
+  tail_small i m li (w, r, h, same) = subst (λ (x : Memo). own_word x.own (Tail me.who i) + 1 < 2 ^ 64) same (tail_at i li w r h)
+
+  head_at : (s : ℕ) → s < me.geometry.clients → s ≢ me.who → (w : Spot → ℕ) (r : ℕ → Memo) → HeldAt me.geometry w (view r) → own_word (r me.who).own (Front s me.who) + 1 < 2 ^ 64
+  head_at s ls other w r h =
+      let own : own_word (r me.who).own (Front s me.who) ≡ w (Front s me.who) = h.mine me.who l (Front s me.who) (eq-eqb me.who me.who refl) in
+      let order = (h.lanes s me.who ls l other).order in
+      let most = (h.tails s me.who ls l).0 in
+      let small = h.small (Era s s) in
+      omega arith
+
+  pub head_small : (s : ℕ) (m : Memo) → s < me.geometry.clients → s ≢ me.who → IsHeld me m → own_word m.own (Front s me.who) + 1 < 2 ^ 64
+  head_small s m ls other (w, r, h, same) = subst (λ (x : Memo). own_word x.own (Front s me.who) + 1 < 2 ^ 64) same (head_at s ls other w r h)
+
+  -- a block in reach is a counted block of the pool
+  abbrev pub IsReachable : ℕ → Memo → Type 0
+  IsReachable b m = IsInside me b × (b + 2 ≤ total_of me.geometry) × (Contains m.dying b → ⊥)
+
+  reach_at : (b : ℕ) (w : Spot → ℕ) (r : ℕ → Memo) → HeldAt me.geometry w (view r) → is_reached me.who (r me.who) b ≡ true → IsReachable b (r me.who)
+  reach_at b w r h reach =
+      let counted = reach_counted me.geometry w (view r) h me.who b l (reached_here me.geometry w r h me.who l b reach) in
+      let room = live_room me.geometry w r h b me.who counted.0 in
+      (room.0, (let q = room.1 in omega arith), λ y. counted.1 ((h.dying me.who l).listed b y).1)
+
+  pub reach_inside : (b : ℕ) (m : Memo) → IsHeld me m → is_reached me.who m b ≡ true → IsReachable b m
+  reach_inside b m (w, r, h, same) = subst (λ (x : Memo). is_reached me.who x b ≡ true → IsReachable b x) same (reach_at b w r h)

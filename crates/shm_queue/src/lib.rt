@@ -1,0 +1,17 @@
+//! Queues between identities: a block is sent to another identity, taken out of a queue, and all queues to an identity are drained.
+//!
+//! Each machine is a plan of calls (`shm_calls`): the type with the operation's name is the machine, and the plan that it is made of says
+//! which call comes next.
+#![tactic(auto)]
+
+pub mod answer;
+pub mod parts;
+pub mod send;
+pub mod take;
+
+pub use answer::{SendFault, TakeFault};
+pub use send::{Send, Sending};
+pub use take::{Take, Taking};
+
+#[cfg(test)]
+mod tests;

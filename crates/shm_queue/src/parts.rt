@@ -1,0 +1,4 @@
+//! The plans' states, for machines that are composed of them.
+
+pub use crate::send::{SendPoint, SendState};
+pub use crate::take::{TakePoint, TakeState};
