@@ -6,3 +6,5 @@ pub mod SendFits
 pub mod SendLaws
 pub mod TakeControl
 pub mod TakeFits
+pub mod TakeMemos
+pub mod TakeLaws

@@ -8,7 +8,7 @@ use Rattle.shm_words.specs.Layout.{GeometryFits, address, is_in, total_of}
 use Rattle.shm_words.proofs.Placing.{address_small, total_small}
 use Rattle.shm_graph.specs.declared.ask.Me.{Me}
 use Rattle.shm_graph.specs.declared.spot.Spot.{Spot}
-use Rattle.shm_graph.specs.declared.spot.Spot.TheVariants.{Era, Front, Slot, Tail}
+use Rattle.shm_graph.specs.declared.spot.Spot.TheVariants.{Era, Front, Slot, Spare, Tail}
 use Rattle.shm_graph.specs.declared.memo.Fact.TheVariants.{Counter}
 use Rattle.shm_graph.specs.declared.memo.Memo.{Memo}
 use Rattle.shm_graph.specs.declared.memo.Op.TheVariants.{Nothing}
@@ -54,6 +54,14 @@ same_part c t s i k x = go t.part refl
     go : (part : Part) → t.part ≡ part → part_after c t (Slot s i k) x ≡ t.part
     go Loose e = ap (λ (q : Part). part_after c (record t { part = q }) (Slot s i k) x) e ∙ sym e
     go (Table chains) e = ap (λ (q : Part). part_after c (record t { part = q }) (Slot s i k) x) e ∙ sym e
+
+-- so no step at the spare word changes one
+pub spare_part : (c : ℕ) (t : Sight) (x : ℕ) → part_after c t Spare x ≡ t.part
+spare_part c t x = go t.part refl
+  where
+    go : (part : Part) → t.part ≡ part → part_after c t Spare x ≡ t.part
+    go Loose e = ap (λ (q : Part). part_after c (record t { part = q }) Spare x) e ∙ sym e
+    go (Table chains) e = ap (λ (q : Part). part_after c (record t { part = q }) Spare x) e ∙ sym e
 
 -- ---- slots
 

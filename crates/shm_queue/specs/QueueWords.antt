@@ -7,20 +7,23 @@ use Rattle.shm_words.specs.Layout.{address, total_of}
 use Rattle.shm_graph.specs.declared.ask.Ask.TheVariants.{Load}
 use Rattle.shm_graph.specs.declared.ask.Me.{Me}
 use Rattle.shm_graph.specs.declared.spot.Spot.{Spot}
-use Rattle.shm_graph.specs.declared.spot.Spot.TheVariants.{Era, Front, Tail}
+use Rattle.shm_graph.specs.declared.spot.Spot.TheVariants.{Era, Front, Slot, Tail}
 use Rattle.shm_graph.specs.declared.memo.Fact.TheVariants.{Counter}
 use Rattle.shm_graph.specs.declared.memo.Memo.{Memo}
+use Rattle.shm_graph.specs.declared.memo.Op.TheVariants.{Nothing}
 use Rattle.shm_graph.specs.Held.{HeldAt}
 use Rattle.shm_graph.specs.Laws.{framed}
 use Rattle.shm_graph.specs.Reach.{is_reached}
 use Rattle.shm_graph.specs.Views.{own_word, view}
-use Rattle.shm_graph.proofs.Holders.{reach_counted}
+use Rattle.shm_graph.proofs.Holders.{Holds, reach_counted, target_counted}
 use Rattle.shm_graph.proofs.Reached.{reached_here}
 use Rattle.shm_graph.proofs.SpotPlaces.{spot-place}
 use Rattle.shm_calls.specs.Parts.{IsHeld}
 use Rattle.shm_calls.specs.Words.{IsWord}
 use Rattle.shm_calls.specs.WordSteps.{load_at}
 use Rattle.shm_steps.specs.WordParts.{Leaves, same_memo}
+use Rattle.shm_steps.proofs.BeginAt.{word_target}
+use Rattle.shm_steps.proofs.BeginWords.{known_here}
 use Rattle.shm_steps.proofs.WordsOwn.{at_step, word_for}
 use Rattle.shm_count.specs.DyingBlocks.{live_room}
 use Rattle.shm_count.specs.StepControl.{IsInside}
@@ -99,6 +102,19 @@ module _ (me : Me) (l : me.who < me.geometry.clients) where
       let counted = reach_counted me.geometry w (view r) h me.who b l (reached_here me.geometry w r h me.who l b reach) in
       let room = live_room me.geometry w r h b me.who counted.0 in
       (room.0, (let q = room.1 in omega arith), λ y. counted.1 ((h.dying me.who l).listed b y).1)
+
+  -- and so is an item that is known in a head slot, with no step in progress
+  item_at : (s k b : ℕ) (w : Spot → ℕ) (r : ℕ → Memo) → HeldAt me.geometry w (view r) → (r me.who).op ≡ Nothing → Contains (r me.who).known (record { spot = Slot s me.who k; value = b }) → IsReachable b (r me.who)
+  item_at s k b w r h idle has =
+      let c = me.who in
+      let known = known_here me.geometry w r c h l (Slot s c k) b has in
+      let holds : Holds w me.geometry (view r) c (Slot s c k) = (known.1, inr (refl, known.2, known.3)) in
+      let counted = target_counted me.geometry w (view r) h (Slot s c k) b known.5 (word_target me.geometry w r c h l (Slot s c k) holds idle ∙ known.6) in
+      let room = live_room me.geometry w r h b c counted.0 in
+      (room.0, (let q = room.1 in omega arith), λ y. counted.1 ((h.dying c l).listed b y).1)
+
+  pub item_inside : (s k b : ℕ) (m : Memo) → IsHeld me m → m.op ≡ Nothing → Contains m.known (record { spot = Slot s me.who k; value = b }) → IsReachable b m
+  item_inside s k b m (w, r, h, same) = subst (λ (x : Memo). x.op ≡ Nothing → Contains x.known (record { spot = Slot s me.who k; value = b }) → IsReachable b x) same (item_at s k b w r h)
 
   pub reach_inside : (b : ℕ) (m : Memo) → IsHeld me m → is_reached me.who m b ≡ true → IsReachable b m
   reach_inside b m (w, r, h, same) = subst (λ (x : Memo). is_reached me.who x b ≡ true → IsReachable b x) same (reach_at b w r h)

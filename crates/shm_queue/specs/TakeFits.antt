@@ -24,7 +24,7 @@ use Rattle.shm_steps.specs.Conditions.{IsHere}
 use Rattle.shm_steps.specs.WordParts.{CountLoaded, HeadSlotLoaded, HeadStored, IsHeadSlot}
 use Rattle.shm_calls.specs.declared.word.Word.{Word}
 use Rattle.shm_calls.specs.Either.{or_part}
-use Rattle.shm_calls.specs.Parts.{Part}
+use Rattle.shm_calls.specs.Parts.{IsHeld, Part}
 use Rattle.shm_calls.specs.Plans.{Planned}
 use Rattle.shm_calls.specs.Words.{word_part}
 use Rattle.shm_count.specs.declared.answer.EraSpent.{EraSpent as ASpent}
@@ -108,6 +108,7 @@ pub record IsReceived (me : Me) (s n b : ℕ) (r0 r : Memo) (tr : Trail) (es : L
   pub head : n ≡ own_word r0.own (spot.Front s me.who)
   pub counted : Contains r0.dying b → ⊥
   pub lost : Lost me.who spot.Spare false b 0 true (taken_memo me.who s n b r0) r
+  pub held : IsHeld me r
   pub can : CanTear me b r
   pub told : es ≡ event.Down me.who (spot.Slot s me.who (n % 8)) b ∷ []
   pub bound : IsWithin 12 tr
@@ -145,7 +146,6 @@ pub record TakeDone (me : Me) (s : ℕ) (r0 r : Memo) (tr : Trail) (es : List Ev
   pub block : ℕ
   pub some : block ≢ 0
   pub received : Received me.who s place block r0 r
-  pub status : r.status ≡ r0.status
   pub dying : r.dying ≡ r0.dying
   pub events : TakeEvents me.who s place block es
   pub bound : IsWithin (12 + tear_steps (frees es)) tr
@@ -172,7 +172,6 @@ pub record TakeStopped (me : Me) (s : ℕ) (r0 r : Memo) (tr : Trail) (es : List
   pub block : ℕ
   pub some : block ≢ 0
   pub received : Received me.who s place block r0 r
-  pub status : r.status ≡ r0.status
   pub after : List Event
   pub told : es ≡ event.Down me.who (spot.Slot s me.who (place % 8)) block ∷ after
   pub left : List Visit
