@@ -8,3 +8,4 @@ pub mod TakeControl
 pub mod TakeFits
 pub mod TakeMemos
 pub mod TakeLaws
+pub mod Machines

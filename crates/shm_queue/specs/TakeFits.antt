@@ -159,9 +159,11 @@ pub record TakeEmpty (me : Me) (s n : ℕ) (r0 r : Memo) (tr : Trail) (es : List
   pub bound : IsWithin 2 tr
 
 -- the step down was refused: nothing was done, but that the item is known
-pub record NotTaken (me : Me) (s : ℕ) (r0 r : Memo) (tr : Trail) (es : List Event) : Type 0 where
+pub record NotTaken (me : Me) (s : ℕ) (r0 r : Memo) (tr : Trail) (es : List Event) (era : ℕ) : Type 0 where
   pub place : ℕ
   pub block : ℕ
+  pub at : place ≡ own_word r0.own (spot.Front s me.who)
+  pub spent : era ≡ own_word r0.own (spot.Era me.who me.who)
   pub untouched : Untouched me.who (slot_memo me.who s place block r0) r
   pub none : es ≡ []
   pub bound : IsWithin 11 tr
@@ -181,7 +183,7 @@ pub record TakeStopped (me : Me) (s : ℕ) (r0 r : Memo) (tr : Trail) (es : List
 
 abbrev pub TakeRefused : TakeState → Memo → Memo → Trail → List Event → TakeFault → Type 0
 TakeRefused m r0 r tr es (Empty n) = TakeEmpty m.me m.from n r0 r tr es
-TakeRefused m r0 r tr es (EraSpent e) = (2 ^ 47 - 3 < e) × (NotTaken m.me m.from r0 r tr es ⊎ TakeStopped m.me m.from r0 r tr es e)
+TakeRefused m r0 r tr es (EraSpent e) = (2 ^ 47 - 3 < e) × (NotTaken m.me m.from r0 r tr es e ⊎ TakeStopped m.me m.from r0 r tr es e)
 
 abbrev pub TakeLeaves : TakeState → Memo → Memo → Trail → List Event → Result (Unit {0}) TakeFault → Type 0
 TakeLeaves m r0 r tr es (Ok done) = TakeDone m.me m.from r0 r tr es

@@ -192,7 +192,7 @@ module _ (m : TakeState) (r0 rs r : Memo) (tr t : Trail) (es ds : List Event) (h
       }
   lowered (Err e) h g = (
     g.did.1.1,
-    inl (record { place = m.at; block = m.block; untouched = untouched_core c (slot_memo c s m.at m.block r0) rs r h.left g.did.0; none = ap (λ (x : List Event). x ++ ds) h.none ∙ g.did.2; bound = within_more 3 8 tr t h.bound g.bound }),
+    inl (record { place = m.at; block = m.block; at = h.head; spent = g.did.1.0 ∙ ap (λ (x : Memo). own_word x.own (spot.Era c c)) h.left; untouched = untouched_core c (slot_memo c s m.at m.block r0) rs r h.left g.did.0; none = ap (λ (x : List Event). x ++ ds) h.none ∙ g.did.2; bound = within_more 3 8 tr t h.bound g.bound }),
   )
 
   -- the head is stored: the item is taken, or the block is to be torn down
