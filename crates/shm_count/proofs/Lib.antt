@@ -3,4 +3,3 @@ pub mod RootSpots
 pub mod RootLeaves
 pub mod CallEvents
 pub mod TearWalks
-pub mod StepRefusing

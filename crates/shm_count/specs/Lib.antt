@@ -55,3 +55,9 @@ pub mod StepBound
 pub mod Lowering
 pub mod Calling
 pub mod Refusing
+pub mod StepRefusing
+pub mod UpRootControl
+pub mod UpRootFits
+pub mod UpRootSteps
+pub mod UpRootLaws
+pub mod UpRootPart

@@ -1,18 +1,17 @@
 -- count steps at each kind of slot as parts, by what they leave of the memo
-use Rattle.std.proofs.Common.{◌≡◌, ℕ, ◌+◌, ◌^◌, ◌<◌, ◌≤◌, refl, sym, ap, ◌∙◌, subst, arith, Bool, true, false, cond, List, []}
+use Rattle.std.proofs.Common.{◌≡◌, ◌+◌, ◌^◌, ◌<◌, ◌≤◌, refl, sym, ap, ◌∙◌, subst, arith, Bool, cond, List}
 use Rattle.std.specs.Prelude.{Result, Ok, Err}
 use Rattle.std.proofs.lemmas.Bool.{eq-eqb}
-use Rattle.shm_words.specs.Layout.{GeometryFits}
 use Rattle.shm_graph.specs.declared.ask.Me.{Me}
 use Rattle.shm_graph.specs.declared.spot.Spot.{Spot}
 use Rattle.shm_graph.specs.declared.spot.Spot.TheVariants as spot
 use Rattle.shm_graph.specs.declared.memo.Memo.{Memo}
 use Rattle.shm_graph.specs.declared.memo.Op.TheVariants as op
-use Rattle.shm_graph.specs.Asks.{Trail, IsWithin}
+use Rattle.shm_graph.specs.Asks.{Trail}
 use Rattle.shm_graph.specs.Events.{Event}
 use Rattle.shm_graph.specs.declared.memo.Stored.{Stored}
-use Rattle.shm_graph.specs.Held.{HeldAt, room_of}
-use Rattle.shm_graph.specs.Views.{view, own_word}
+use Rattle.shm_graph.specs.Held.{room_of}
+use Rattle.shm_graph.specs.Views.{own_word}
 use Rattle.shm_calls.specs.Parts.{IsHeld, Part, PartLaws, weaker, weaker_laws}
 use Rattle.shm_count.specs.declared.answer.EraSpent.{EraSpent}
 use Rattle.shm_count.specs.declared.answer.UpFault.{UpFault}
@@ -20,7 +19,7 @@ use Rattle.shm_count.specs.declared.answer.UpFault.TheVariants as fault
 use Rattle.shm_count.specs.declared.point.Aim.{Aim}
 use Rattle.shm_count.specs.declared.point.Aim.TheVariants.{Up, Down, Change}
 use Rattle.shm_count.specs.declared.point.StepState.{StepState}
-use Rattle.shm_count.specs.CountParts.{IsStep, StepLeaves, down_part, down_part_laws, up_part, up_part_laws, change_part, change_part_laws}
+use Rattle.shm_count.specs.CountParts.{StepLeaves, down_part, down_part_laws, up_part, up_part_laws, change_part, change_part_laws}
 use Rattle.shm_count.specs.StepBound.{step_bound}
 use Rattle.shm_count.specs.SlotUps.{up_leaves}
 use Rattle.shm_count.specs.SlotDowns.{down_leaves_at}
@@ -32,7 +31,6 @@ use Rattle.shm_count.specs.StepFits.{Gives, Refused}
 use Rattle.shm_graph.specs.Core.{core}
 use Rattle.shm_count.specs.StepMachines.{down_control, up_control, down_told, up_told, IsDown, IsUp, IsChange}
 use Rattle.shm_count.specs.StepParts.{lasting_not}
-use Rattle.shm_count.specs.TearMemos.{is_lasting}
 
 -- in a held state in which no step of an identity is in progress its own era leaves room for two in a header
 pub era_room : (me : Me) (m : Memo) → IsHeld me m → me.who < me.geometry.clients → m.op ≡ op.Nothing → own_word m.own (spot.Era me.who me.who) + 1 < 2 ^ 47
@@ -46,7 +44,7 @@ era_room me m (w, r, h, same) l idle = subst (λ (x : Memo). x.op ≡ op.Nothing
         omega arith
 
 -- nothing was done
-untouched : (me : Me) (x : Aim) (p : Spot) (h : Bool) (m r : Memo) (f : UpFault) → Refused me x m r f → Untouched me.who m r × StepCause me x m f
+pub untouched : (me : Me) (x : Aim) (p : Spot) (h : Bool) (m r : Memo) (f : UpFault) → Refused me x m r f → Untouched me.who m r × StepCause me x m f
 untouched me x p h m r (fault.EraSpent e) (same, is, late) = (
   record {
     rest = same ∙ ap (λ (o : List Stored). core (record m { own = o })) (sym (ap (λ (u : Memo). u.own) same));

@@ -143,3 +143,7 @@ pub step_bound : (me : Me) (slot : ℕ) (x : Aim) (tr : Trail) (a : Result Bool 
 step_bound me slot (Up b) = all_within me slot (Up b)
 step_bound me slot (Down b) = all_within me slot (Down b)
 step_bound me slot (Change a b) = all_within me slot (Change a b)
+
+-- a step up takes at most 7 from its redo record on
+pub redo_bound : (me : Me) (slot b e : ℕ) (tr : Trail) (a : Result Bool UpFault) → redo_trail me slot (Up b) e tr a → IsWithin 7 tr
+redo_bound me slot b e = redo_within me slot (Up b) e

@@ -18,6 +18,17 @@ pub struct Made {
     pub block: u32,
 }
 
+/// Why a block got no root.
+#[derive(Clone, Copy, Debug, PartialEq, Eq, Drop)]
+pub enum ShareFault {
+    /// The own era that was read leaves no room for the step.
+    EraSpent { era: u64 },
+    /// Each of the 16 own roots names a block.
+    RootsFull,
+    /// The header that was read shows the greatest count, 1,023.
+    CountFull { block: u32, count: u16 },
+}
+
 /// Why a block got no reference.
 #[derive(Clone, Copy, Debug, PartialEq, Eq, Drop)]
 pub enum UpFault {

@@ -12,6 +12,7 @@ pub mod point;
 pub mod step;
 pub mod tear;
 pub mod tear_point;
+pub mod up_root;
 
 pub use answer::{EraSpent, Made, UpFault};
 pub use bound::{step_bound, tear_bound};

@@ -1,9 +1,9 @@
 //! Count steps as machines: a reference word comes to name a block, comes to be empty, or comes to name another block.
 
-ghost use Rattle.std.specs.Prelude.{◌≡◌, ◌<◌, ◌^◌};
+ghost use Rattle.std.specs.Prelude.{◌≡◌, ◌+◌, ◌<◌, ◌≤◌, ◌^◌};
 ghost use Rattle.shm_words.specs.Layout.{GeometryFits};
 ghost use Rattle.shm_count.specs.declared.point.Aim.TheVariants as aims;
-ghost use Rattle.shm_count.specs.declared.point.StepPoint.TheVariants.{Era};
+ghost use Rattle.shm_count.specs.declared.point.StepPoint.TheVariants.{Era, Redo};
 ghost use Rattle.shm_count.specs.StepControl.{StepKnows, step_next, answer_of, step_control, is_over};
 ghost use Rattle.shm_count.specs.StepMachines as machines;
 ghost use Rattle.shm_count.specs.StepKeeps.{step_keeps};
@@ -89,6 +89,28 @@ impl StepUp {
     {
         StepUp {
             state: StepState::begins(me, slot, Aim::Up { block }),
+        }
+    }
+
+    /// The same step from its redo record on, once `era` was found to be the own era and to leave room for it.
+    #[inline(always)]
+    pub fn taken_up(me: Me, slot: u32, block: u32, era: u64) -> StepUp
+        requires geometry { GeometryFits me.geometry }
+        requires who { me.who < me.geometry.clients }
+        requires slot { slot < 2 ^ 20 }
+        requires block { block < 2 ^ 20 }
+        requires era { era + 3 ≤ 2 ^ 47 }
+        ensures { result ≡ record { me = me; slot = slot; aim = aims.Up block; point = Redo era } }
+    {
+        let aim = Aim::Up { block };
+        let point = StepPoint::Redo { era };
+        StepUp {
+            state: StepState {
+                me,
+                slot,
+                aim,
+                point,
+            },
         }
     }
 }

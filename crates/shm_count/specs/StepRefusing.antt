@@ -111,7 +111,8 @@ module _ (me : Me) where
   slot_reads : (slot : ℕ) (x : Aim) (e : ℕ) (z : Bool) → Reads (slot_trail me slot x e z)
   slot_reads slot x e z = reads_asked (Store slot (value_after x)) (λ _. close_trail me x e z) (λ _. close_reads x e z)
 
-  redo_reads : (slot : ℕ) (x : Aim) (e : ℕ) → Reads (redo_trail me slot x e)
+  -- from the redo record on
+  pub redo_reads : (slot : ℕ) (x : Aim) (e : ℕ) → Reads (redo_trail me slot x e)
   redo_reads slot x e =
       reads_asked (Store (address me.geometry (place.Redo me.who)) (redo_word (redo_at x slot e))) (λ _. load_trail me (raises x First) (block_at x First) e (slot_trail me slot x e))
       (λ _. load_reads (raises x First) (block_at x First) e (slot_trail me slot x e) (λ z. slot_reads slot x e z))
