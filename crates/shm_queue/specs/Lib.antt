@@ -7,5 +7,6 @@ pub mod SendLaws
 pub mod TakeControl
 pub mod TakeFits
 pub mod TakeMemos
+pub mod HeadReads
 pub mod TakeLaws
 pub mod Machines

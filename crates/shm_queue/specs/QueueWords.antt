@@ -2,6 +2,7 @@
 use Rattle.std.proofs.Common.{◌≡◌, ◌≢◌, ℕ, ◌+◌, ◌^◌, ◌<◌, ◌≤◌, refl, sym, ap, ◌∙◌, subst, arith, Bool, true, [], inl, inr, ◌⊎◌}
 use Rattle.std.specs.List.{Contains}
 use Rattle.std.proofs.lemmas.Bool.{and_from, eq-eqb, lt-ltb}
+use Rattle.std.proofs.lemmas.List.Elements.{All-contains}
 use Rattle.shm_words.specs.declared.place.Place.TheVariants as place
 use Rattle.shm_words.specs.Layout.{address, total_of}
 use Rattle.shm_graph.specs.declared.ask.Ask.TheVariants.{Load}
@@ -15,6 +16,7 @@ use Rattle.shm_graph.specs.Held.{HeldAt}
 use Rattle.shm_graph.specs.Laws.{framed}
 use Rattle.shm_graph.specs.Reach.{is_reached}
 use Rattle.shm_graph.specs.Views.{own_word, view}
+use Rattle.shm_graph.proofs.Calls.{FactHolds}
 use Rattle.shm_graph.proofs.Holders.{Holds, reach_counted, target_counted}
 use Rattle.shm_graph.proofs.Reached.{reached_here}
 use Rattle.shm_graph.proofs.SpotPlaces.{spot-place}
@@ -34,9 +36,9 @@ use Rattle.shm_count.specs.StepControl.{IsInside}
 abbrev pub HeadSeen : ℕ → ℕ → Memo → ℕ → Memo → Type 0
 HeadSeen c i = Leaves (λ m n. (n ≤ own_word m.own (Tail c i)) × (own_word m.own (Tail c i) ≤ n + 8)) same_memo (λ m n x. Contains x.facts (Counter (Front c i) n))
 
--- the tail of a queue from another is loaded: it isn't below the own head, and joins what was read
+-- the tail of a queue from another is loaded: it isn't below the own head nor below a tail that was read, and joins what was read
 abbrev pub TailSeen : ℕ → ℕ → Memo → ℕ → Memo → Type 0
-TailSeen c s = Leaves (λ m n. own_word m.own (Front s c) ≤ n) same_memo (λ m n x. Contains x.facts (Counter (Tail s c) n))
+TailSeen c s = Leaves (λ m n. (own_word m.own (Front s c) ≤ n) × ((y : ℕ) → Contains m.facts (Counter (Tail s c) y) → y ≤ n)) same_memo (λ m n x. Contains x.facts (Counter (Tail s c) n))
 
 module _ (first : Bool) (me : Me) (m : Memo) (l : me.who < me.geometry.clients) where
   abbrev c : ℕ
@@ -63,7 +65,7 @@ module _ (first : Bool) (me : Me) (m : Memo) (l : me.who < me.geometry.clients) 
       let lane = st.held.lanes s c ls l other in
       let own : own_word m.own (Front s c) ≡ w (Front s c) = ap (λ (y : Memo). own_word y.own (Front s c)) (sym same) ∙ st.held.mine c l (Front s c) (eq-eqb c c refl) in
       record {
-        found = (let o = lane.order in omega arith);
+        found = ((let o = lane.order in omega arith), λ y has. All-contains (FactHolds me.geometry w (view r)) (r c).facts (Counter (Tail s c) y) (st.held.facts c l) (subst (λ (x : Memo). Contains x.facts (Counter (Tail s c) y)) (sym same) has));
         left = at_step r c m (framed me (Load at) f (w (Tail s c))) same;
         read = (0, omega arith, refl);
       })

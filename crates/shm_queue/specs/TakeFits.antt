@@ -24,6 +24,7 @@ use Rattle.shm_steps.specs.Conditions.{IsHere}
 use Rattle.shm_steps.specs.WordParts.{CountLoaded, HeadSlotLoaded, HeadStored, IsHeadSlot}
 use Rattle.shm_calls.specs.declared.word.Word.{Word}
 use Rattle.shm_calls.specs.Either.{or_part}
+use Rattle.shm_calls.specs.Grown.{Grows, grown}
 use Rattle.shm_calls.specs.Parts.{IsHeld, Part}
 use Rattle.shm_calls.specs.Plans.{Planned}
 use Rattle.shm_calls.specs.Words.{word_part}
@@ -74,6 +75,7 @@ taken_memo c s n b m = head_stored (emptied (spot.Slot s c (n % 8)) true b (slot
 pub record IsHeadRead (me : Me) (s n k : ℕ) (r0 r : Memo) (tr : Trail) (es : List Event) : Type 0 where
   pub may : MayTakeFrom me s r0
   pub same : core r ≡ core r0
+  pub grows : Grows true r0 r
   pub head : n ≡ own_word r0.own (spot.Front s me.who)
   pub none : es ≡ []
   pub bound : IsWithin k tr
@@ -85,6 +87,8 @@ pub record IsItemRead (me : Me) (s n b : ℕ) (r0 r : Memo) (tr : Trail) (es : L
   pub head : n ≡ own_word r0.own (spot.Front s me.who)
   pub room : b + 2 ≤ total_of me.geometry
   pub counted : Contains r0.dying b → ⊥
+  pub some : (y : ℕ) × Contains r.facts (Counter (spot.Tail s me.who) y) × (n < y)
+  pub grows : Grows true r0 r
   pub can : MayTakeAt me s (n % 8) b r
   pub none : es ≡ []
   pub bound : IsWithin 3 tr
@@ -155,6 +159,7 @@ pub record TakeEmpty (me : Me) (s n : ℕ) (r0 r : Memo) (tr : Trail) (es : List
   pub same : core r ≡ core r0
   pub head : n ≡ own_word r0.own (spot.Front s me.who)
   pub read : Contains r.facts (Counter (spot.Tail s me.who) n)
+  pub least : (y : ℕ) → Contains r0.facts (Counter (spot.Tail s me.who) y) → y ≤ n
   pub none : es ≡ []
   pub bound : IsWithin 2 tr
 
@@ -205,7 +210,7 @@ TakeFound m Store = HeadStored m.me.who m.from
 TakeFound m y = CountLoaded m.me.who (spot.Front m.from m.me.who)
 
 abbrev pub take_part : TakeState → TakePoint → Part TakeCall TakeAnswer
-take_part m y = or_part (word_part (is_head y) m.me (take_ask m y) (TakeFound m y)) (or_part (down_slot_part (spot.Slot m.from m.me.who (m.at % 8)) true) tear_part)
+take_part m y = grown (is_head y) (or_part (word_part (is_head y) m.me (take_ask m y) (TakeFound m y)) (or_part (down_slot_part (spot.Slot m.from m.me.who (m.at % 8)) true) tear_part))
 
 abbrev pub take_plan : Planned TakeState TakeCall TakeAnswer (Result (Unit {0}) TakeFault)
 take_plan =

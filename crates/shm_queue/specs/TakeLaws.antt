@@ -31,6 +31,7 @@ use Rattle.shm_steps.proofs.WordsQueues.{head_slot_load, head_store}
 use Rattle.shm_calls.specs.declared.or.Or.TheVariants.{First, Second}
 use Rattle.shm_calls.specs.CallTells.{within_more}
 use Rattle.shm_calls.specs.Either.{or_control, or_part, or_part_laws}
+use Rattle.shm_calls.specs.Grown.{Grows, grown_laws}
 use Rattle.shm_calls.specs.Parts.{IsHeld}
 use Rattle.shm_calls.specs.Plans.{PlanLaws, PlanStays, IsCall, Follows}
 use Rattle.shm_calls.specs.Words.{word_control, word_part, word_part_laws, IsWord, WordLeaves}
@@ -48,6 +49,7 @@ use Rattle.shm_queue.specs.declared.answer.TakeFault.TheVariants.{Empty, EraSpen
 use Rattle.shm_queue.specs.declared.take.TakePoint.{TakePoint}
 use Rattle.shm_queue.specs.declared.take.TakePoint.TheVariants.{Head, Tail, Slot, Lower, Store, Tear}
 use Rattle.shm_queue.specs.declared.take.TakeState.{TakeState}
+use Rattle.shm_queue.specs.HeadReads.{has_item, head_read, is_empty, item_read}
 use Rattle.shm_queue.specs.QueueSteps.{put_here, take_may}
 use Rattle.shm_queue.specs.QueueWords.{TailSeen, head_small, item_inside, tail_seen}
 use Rattle.shm_queue.specs.SendLaws.{untouched_core}
@@ -107,71 +109,19 @@ module _ (m : TakeState) (r0 rs r : Memo) (tr t : Trail) (es ds : List Event) (h
   Leads y a = Follows take_parts take_plan (record m { point = y }) a r0 r (tr ++ t) (es ++ ds)
 
   -- the tail was read: the queue is empty, or it has an item
-  looked : (n : ℕ) → IsHeadRead m.me s m.at 1 r0 rs tr es → WordLeaves (TailSeen c s) (record { me = m.me; ask = take_ask m Tail; over = false }) rs r t ds n → Leads Tail (First n)
-  looked n h w = go (n == m.at) (eqb-true n m.at) (eqb-false n m.at)
+  looked : (n : ℕ) → IsHeadRead m.me s m.at 1 r0 rs tr es → WordLeaves (TailSeen c s) (record { me = m.me; ask = take_ask m Tail; over = false }) rs r t ds n → Grows false rs r → Leads Tail (First n)
+  looked n h w grows = go (n == m.at) (eqb-true n m.at) (eqb-false n m.at)
     where
-      same : core r ≡ core r0
-      same = w.found.left ∙ h.same
-
-      silent : es ++ ds ≡ []
-      silent = ap (λ (x : List Event). x ++ ds) h.none ∙ w.none
-
-      bound : IsWithin 2 (tr ++ t)
-      bound = let one : IsWithin 1 t = (let o = w.one in omega arith) in within_more 1 1 tr t h.bound one
-
       go : (q : Bool) → (q ≡ true → n ≡ m.at) → (q ≡ false → n ≢ m.at)
           → Outcome (if q then Some (Err (Empty m.at)) else None) (TakeKnows (record m { point = Slot }) Slot r0 r (tr ++ t) (es ++ ds)) (TakeLeaves (taking m.me s) r0 r (tr ++ t) (es ++ ds))
-      go true is other = record { same = same; head = h.head; read = subst (λ y. Contains r.facts (Counter (spot.Tail s c) y)) (is refl) w.found.read; none = silent; bound = bound }
-      go false is other =
-          let may = h.may in
-          let own : own_word r.own (spot.Front s c) ≡ m.at = ap (λ (x : Memo). own_word x.own (spot.Front s c)) same ∙ sym h.head in
-          let before : own_word rs.own (spot.Front s c) ≡ m.at = ap (λ (x : Memo). own_word x.own (spot.Front s c)) h.same ∙ sym h.head in
-          let above : own_word r.own (spot.Front s c) < n = (let e = other refl in let f = w.found.found in omega arith) in (
-            record { may = may; same = same; head = h.head; none = silent; bound = bound },
-            record {
-              from = may.from;
-              other = may.other;
-              idle = ap (λ (x : Memo). x.op) same ∙ may.idle;
-              place = ap (λ y. y % 8) (sym own);
-              left = ap (λ (x : Memo). slice_index x.untaken s) same ∙ may.none;
-              some = (n, w.found.read, above);
-            },
-          )
+      go true is other = is_empty m.me s m.at r0 rs r tr t es ds (record { me = m.me; ask = take_ask m Tail; over = false }) n h w grows (is refl)
+      go false is other = has_item m.me s m.at r0 rs r tr t es ds (record { me = m.me; ask = take_ask m Tail; over = false }) n h w grows (other refl)
 
   -- the item was read
-  found : (n : ℕ) → TakeKnows (record m { point = Slot }) Slot r0 rs tr es → WordLeaves (HeadSlotLoaded c s (m.at % 8)) (record { me = m.me; ask = take_ask m Slot; over = false }) rs r t ds n → Leads Slot (First n)
-  found n (h, at) w =
-      let may = h.may in
-      let left : core r ≡ core (slot_memo c s m.at n r0) = w.found.left ∙ ap (λ (x : Memo). core (record x { known = learnt (spot.Slot s c (m.at % 8)) n x.known; values = valued x.part n x.values })) h.same in
-      let idle = ap (λ (x : Memo). x.op) left ∙ may.idle in
-      let known : Contains r.known (record { spot = spot.Slot s c (m.at % 8); value = n }) = subst (λ (ks : List Stored). Contains ks (record { spot = spot.Slot s c (m.at % 8); value = n })) (sym (ap (λ (x : Memo). x.known) left)) (0, omega arith, refl) in
-      let item = item_inside m.me may.who s (m.at % 8) n r held idle known in
-      let total = total_small m.me.geometry may.geometry in
-      let last = item.0.1 in
-      let small : n % 2 ^ 20 ≡ n = omega arith in
-      let one : IsWithin 1 t = (let o = w.one in omega arith) in
-      subst (λ b. IsItemRead m.me s m.at b r0 r (tr ++ t) (es ++ ds)) (sym small)
-      (record {
-        may = may;
-        left = left;
-        head = h.head;
-        room = item.1;
-        counted = λ has. item.2 (subst (λ (xs : List ℕ). Contains xs n) (sym (ap (λ (x : Memo). x.dying) left)) has);
-        can = record {
-          geometry = may.geometry;
-          who = may.who;
-          here = here_same r0 r (ap (λ (x : Memo). x.status) left) may.here;
-          idle = idle;
-          from = may.from;
-          other = may.other;
-          low = omega arith;
-          known = known;
-          inside = item.0;
-          era = era_room m.me r held may.who idle;
-        };
-        none = ap (λ (x : List Event). x ++ ds) h.none ∙ w.none;
-        bound = within_more 2 1 tr t h.bound one;
-      })
+  found : (n : ℕ) → TakeKnows (record m { point = Slot }) Slot r0 rs tr es → WordLeaves (HeadSlotLoaded c s (m.at % 8)) (record { me = m.me; ask = take_ask m Slot; over = false }) rs r t ds n → Grows false rs r → Leads Slot (First n)
+  found n h w grows =
+      let item = item_read m.me s m.at r0 rs r tr t es ds held (record { me = m.me; ask = take_ask m Slot; over = false }) n h.0 h.1 w grows in
+      subst (λ b. IsItemRead m.me s m.at b r0 r (tr ++ t) (es ++ ds)) (sym item.0) item.1
 
   -- the slot is empty, or nothing was done
   lowered : (a : Result Bool ASpent) → IsItemRead m.me s m.at m.block r0 rs tr es → StepLeft m.me (aims.Down m.block) (spot.Slot s c (m.at % 8)) true rs r t ds (down_told a) → Leads Lower (Second (First a))
@@ -280,27 +230,20 @@ module _ (m : TakeState) (r0 rs r : Memo) (tr t : Trail) (es ds : List Event) (h
 
 leads : (m : TakeState) (y : TakePoint) (r0 rs r : Memo) (tr t : Trail) (es ds : List Event) (a : TakeAnswer) → TakeKnows (record m { point = y }) y r0 rs tr es → (take_part m y).leaves (take_call_at m y) rs r t ds a → IsHeld m.me r
     → Follows take_parts take_plan (record m { point = y }) a r0 r (tr ++ t) (es ++ ds)
-leads m Head r0 rs r tr t es ds (First n) (may, same, none, quiet) w held =
-    record {
-      may = may;
-      same = w.found.left ∙ ap core same;
-      head = w.found.found (eq-eqb m.me.who m.me.who refl) ∙ ap (λ (x : Memo). own_word x.own (spot.Front m.from m.me.who)) same;
-      none = ap (λ (x : List Event). x ++ ds) quiet ∙ w.none;
-      bound = (let e = ap length (ap (λ (x : Trail). x ++ t) none) in let o = w.one in omega arith);
-    }
-leads m Tail r0 rs r tr t es ds (First n) h w held = looked m r0 rs r tr t es ds held n h w
-leads m Slot r0 rs r tr t es ds (First n) h w held = found m r0 rs r tr t es ds held n h w
-leads m Lower r0 rs r tr t es ds (Second (First a)) h g held = lowered m r0 rs r tr t es ds held a h g
-leads m Store r0 rs r tr t es ds (First n) h w held = let one : IsWithin 1 t = (let o = w.one in omega arith) in stored m r0 rs r tr t es ds held m.last h (w.found.left, w.none, one)
-leads m Tear r0 rs r tr t es ds (Second (Second a)) h g held = torn m r0 rs r tr t es ds held a h g
-leads m Head r0 rs r tr t es ds (Second a) h g held = absurd g
-leads m Tail r0 rs r tr t es ds (Second a) h g held = absurd g
-leads m Slot r0 rs r tr t es ds (Second a) h g held = absurd g
-leads m Store r0 rs r tr t es ds (Second a) h g held = absurd g
-leads m Lower r0 rs r tr t es ds (First n) h g held = absurd g
-leads m Tear r0 rs r tr t es ds (First n) h g held = absurd g
-leads m Lower r0 rs r tr t es ds (Second (Second a)) h g held = absurd g
-leads m Tear r0 rs r tr t es ds (Second (First a)) h g held = absurd g
+leads m Head r0 rs r tr t es ds (First n) (may, same, none, quiet) (w, grows) held = head_read m.me m.from r0 rs r tr t es ds (record { me = m.me; ask = take_ask m Head; over = false }) n may same none quiet w grows
+leads m Tail r0 rs r tr t es ds (First n) h (w, grows) held = looked m r0 rs r tr t es ds held n h w grows
+leads m Slot r0 rs r tr t es ds (First n) h (w, grows) held = found m r0 rs r tr t es ds held n h w grows
+leads m Lower r0 rs r tr t es ds (Second (First a)) h (g, grows) held = lowered m r0 rs r tr t es ds held a h g
+leads m Store r0 rs r tr t es ds (First n) h (w, grows) held = let one : IsWithin 1 t = (let o = w.one in omega arith) in stored m r0 rs r tr t es ds held m.last h (w.found.left, w.none, one)
+leads m Tear r0 rs r tr t es ds (Second (Second a)) h (g, grows) held = torn m r0 rs r tr t es ds held a h g
+leads m Head r0 rs r tr t es ds (Second a) h g held = absurd g.0
+leads m Tail r0 rs r tr t es ds (Second a) h g held = absurd g.0
+leads m Slot r0 rs r tr t es ds (Second a) h g held = absurd g.0
+leads m Store r0 rs r tr t es ds (Second a) h g held = absurd g.0
+leads m Lower r0 rs r tr t es ds (First n) h g held = absurd g.0
+leads m Tear r0 rs r tr t es ds (First n) h g held = absurd g.0
+leads m Lower r0 rs r tr t es ds (Second (Second a)) h g held = absurd g.0
+leads m Tear r0 rs r tr t es ds (Second (First a)) h g held = absurd g.0
 
 pub take_laws : PlanLaws take_parts take_plan
 take_laws =
@@ -308,8 +251,9 @@ take_laws =
       stays = λ m. stays m m.point;
       calls = λ m. calls m m.point;
       parts = λ m. let first = is_head m.point in let p = spot.Slot m.from m.me.who (m.at % 8) in
-          or_part_laws first word_control (or_control down_control tear_control) (word_part first m.me (take_ask m m.point) (TakeFound m m.point)) (or_part (down_slot_part p true) tear_part) (word_part_laws first m.me (take_ask m m.point) (TakeFound m m.point))
-          (or_part_laws first down_control tear_control (down_slot_part p true) tear_part (down_slot_laws p true first) (tear_part_laws first));
+          grown_laws first take_parts (or_part (word_part first m.me (take_ask m m.point) (TakeFound m m.point)) (or_part (down_slot_part p true) tear_part))
+          (or_part_laws first word_control (or_control down_control tear_control) (word_part first m.me (take_ask m m.point) (TakeFound m m.point)) (or_part (down_slot_part p true) tear_part) (word_part_laws first m.me (take_ask m m.point) (TakeFound m m.point))
+          (or_part_laws first down_control tear_control (down_slot_part p true) tear_part (down_slot_laws p true first) (tear_part_laws first)));
       opens = λ m. opens m m.point;
       leads = λ m r0 rs r tr t es ds a h g held agent. leads m m.point r0 rs r tr t es ds a h g held;
     }
