@@ -9,4 +9,7 @@ pub mod TakeFits
 pub mod TakeMemos
 pub mod HeadReads
 pub mod TakeLaws
+pub mod PeekControl
+pub mod PeekFits
+pub mod PeekLaws
 pub mod Machines

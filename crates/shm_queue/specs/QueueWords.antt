@@ -1,25 +1,30 @@
 -- word steps at queues with what the invariant says of the word, and what a held state shows of tails, heads and blocks in reach
-use Rattle.std.proofs.Common.{◌≡◌, ◌≢◌, ℕ, ◌+◌, ◌^◌, ◌<◌, ◌≤◌, refl, sym, ap, ◌∙◌, subst, arith, Bool, true, [], inl, inr, ◌⊎◌}
+use Rattle.std.proofs.Common.{◌≡◌, ◌≢◌, ℕ, ◌+◌, ◌^◌, ◌<◌, ◌≤◌, refl, sym, ap, ◌∙◌, subst, arith, Bool, true, not, eqb, zero, suc, List, [], ◌∷◌, ◌++◌, map, inl, inr}
 use Rattle.std.specs.List.{Contains}
-use Rattle.std.proofs.lemmas.Bool.{and_from, eq-eqb, lt-ltb}
-use Rattle.std.proofs.lemmas.List.Elements.{All-contains}
+use Rattle.std.proofs.lemmas.Bool.{and_from, eq-eqb, lt-ltb, ne_eqb}
+use Rattle.std.proofs.lemmas.List.Elements.{All-contains, Contains-append_left, Contains-append_right}
+use Rattle.std.proofs.lemmas.Map.Views.{list_any-from_Contains}
+use Rattle.std.specs.Cmp.{nat_eq_equiv}
 use Rattle.shm_words.specs.declared.place.Place.TheVariants as place
 use Rattle.shm_words.specs.Layout.{address, total_of}
 use Rattle.shm_graph.specs.declared.ask.Ask.TheVariants.{Load}
 use Rattle.shm_graph.specs.declared.ask.Me.{Me}
 use Rattle.shm_graph.specs.declared.spot.Spot.{Spot}
-use Rattle.shm_graph.specs.declared.spot.Spot.TheVariants.{Era, Front, Slot, Tail}
+use Rattle.shm_graph.specs.declared.spot.Spot.TheVariants.{Era, Front, Home, Slot, Tail}
 use Rattle.shm_graph.specs.declared.memo.Fact.TheVariants.{Counter}
 use Rattle.shm_graph.specs.declared.memo.Memo.{Memo}
 use Rattle.shm_graph.specs.declared.memo.Op.TheVariants.{Nothing}
 use Rattle.shm_graph.specs.Held.{HeldAt}
 use Rattle.shm_graph.specs.Laws.{framed}
-use Rattle.shm_graph.specs.Reach.{is_reached}
+use Rattle.shm_graph.specs.declared.memo.Look.{Look}
+use Rattle.shm_graph.specs.declared.memo.Stored.{Stored}
+use Rattle.shm_graph.specs.Reach.{in_slot, in_slots, is_reached, named_blocks, not_zero, reached_blocks, roots_below, shown}
 use Rattle.shm_graph.specs.Views.{own_word, view}
 use Rattle.shm_graph.proofs.Calls.{FactHolds}
 use Rattle.shm_graph.proofs.Holders.{Holds, reach_counted, target_counted}
 use Rattle.shm_graph.proofs.Reached.{reached_here}
 use Rattle.shm_graph.proofs.SpotPlaces.{spot-place}
+use Rattle.shm_laws.proofs.Keep.{Contains-filter}
 use Rattle.shm_calls.specs.Parts.{IsHeld}
 use Rattle.shm_calls.specs.Words.{IsWord}
 use Rattle.shm_calls.specs.WordSteps.{load_at}
@@ -69,6 +74,22 @@ module _ (first : Bool) (me : Me) (m : Memo) (l : me.who < me.geometry.clients) 
         left = at_step r c m (framed me (Load at) f (w (Tail s c))) same;
         read = (0, omega arith, refl);
       })
+
+-- ---- what is known of a head slot
+
+-- the item of a head slot that is known is listed
+in_slots_has : (s i k b : ℕ) (ks : List Stored) → Contains ks (record { spot = Slot s i k; value = b }) → Contains (in_slots ks) b
+in_slots_has s i k b [] (n, l, e) = absurd (omega arith)
+in_slots_has s i k b (y ∷ ys) (zero, l, e) = subst (λ (z : Stored). Contains (in_slot z.spot z.value ++ in_slots ys) b) (sym e) (0, omega arith, refl)
+in_slots_has s i k b (y ∷ ys) (suc n, l, e) = Contains-append_right (in_slot y.spot y.value) (in_slots ys) b (in_slots_has s i k b ys (n, omega arith, e))
+
+-- so that it is in reach
+pub item_reached : (c s k b : ℕ) (m : Memo) → b ≢ 0 → Contains m.known (record { spot = Slot s c k; value = b }) → is_reached c m b ≡ true
+item_reached c s k b m some known =
+    let all : List ℕ = roots_below c m 16 ++ shown m (Home c) ∷ in_slots m.known in
+    let listed : Contains all b = Contains-append_right (roots_below c m 16) (shown m (Home c) ∷ in_slots m.known) b (Contains-append_right (shown m (Home c) ∷ []) (in_slots m.known) b (in_slots_has s c k b m.known known)) in
+    list_any-from_Contains nat_eq_equiv b (reached_blocks c m)
+    (Contains-append_left (named_blocks c m) (map (λ (x : Look). x.block) m.looks) b (Contains-filter not_zero all b listed (ap not (ne_eqb b 0 some))))
 
 -- ---- what a held state shows
 

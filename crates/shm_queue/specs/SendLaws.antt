@@ -54,7 +54,7 @@ use Rattle.shm_queue.specs.SendFits.{MaySendTo, IsTailRead, IsPut, Sent, SendDon
 -- ---- memos
 
 -- a step up after what leaves the core
-filled_core : (c : ℕ) (p : Spot) (b : ℕ) (m q r : Memo) → core q ≡ core m → Filled c p b q r → Filled c p b m r
+pub filled_core : (c : ℕ) (p : Spot) (b : ℕ) (m q r : Memo) → core q ≡ core m → Filled c p b q r → Filled c p b m r
 filled_core c p b m q r same h =
     record {
       rest = h.rest ∙ ap (λ (x : Memo). core (record x { own = r.own; known = known_at p b x.known; unsent = unsent_at p b x.unsent; part = part_after c (sight c x) p b })) same;

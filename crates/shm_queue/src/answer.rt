@@ -3,6 +3,7 @@
 ghost use Rattle.std.specs.Prelude.{◌≡◌};
 ghost use Rattle.shm_queue.specs.Answers as answers;
 
+use shm_count::parts::ShareFault;
 use shm_count::{EraSpent, UpFault};
 
 /// Why a block wasn't sent.
@@ -25,6 +26,19 @@ pub enum TakeFault {
     EraSpent { era: u64 },
 }
 
+/// Why an item got no root.
+#[derive(Clone, Copy, Debug, PartialEq, Eq, Drop)]
+pub enum PeekFault {
+    /// The tail that was read is the own head.
+    Empty { at: u64 },
+    /// The own era that was read leaves no room for the step.
+    EraSpent { era: u64 },
+    /// Each of the 16 own roots names a block.
+    RootsFull,
+    /// The header that was read shows the greatest count, 1,023.
+    CountFull { block: u32, count: u16 },
+}
+
 impl SendFault {
     /// Why a block that was to be sent got no reference.
     #[inline(always)]
@@ -45,5 +59,19 @@ impl TakeFault {
         ensures { result ≡ answers.take_fault spent }
     {
         TakeFault::EraSpent { era: spent.era }
+    }
+}
+
+impl PeekFault {
+    /// Why an item that was read got no root.
+    #[inline(always)]
+    pub fn of(fault: ShareFault) -> PeekFault
+        ensures { result ≡ answers.peek_fault fault }
+    {
+        match fault {
+            ShareFault::EraSpent { era } => PeekFault::EraSpent { era },
+            ShareFault::RootsFull => PeekFault::RootsFull,
+            ShareFault::CountFull { block, count } => PeekFault::CountFull { block, count },
+        }
     }
 }

@@ -8,14 +8,16 @@ pub mod answer;
 pub mod bound;
 pub mod events;
 pub mod parts;
+pub mod peek;
 pub mod send;
 pub mod take;
 
-pub use answer::{SendFault, TakeFault};
+pub use answer::{PeekFault, SendFault, TakeFault};
 pub use bound::{send_bound, take_bound};
 pub use events::{
     send_begins, send_events, send_leaves, take_begins, take_events, take_leaves,
 };
+pub use peek::{Peek, Peeking};
 pub use send::{Send, Sending};
 pub use take::{Take, Taking};
 
