@@ -12,4 +12,8 @@ pub mod TakeLaws
 pub mod PeekControl
 pub mod PeekFits
 pub mod PeekLaws
+pub mod DrainControl
+pub mod DrainFits
+pub mod DrainItems
+pub mod DrainLaws
 pub mod Machines

@@ -31,6 +31,7 @@ use Rattle.shm_calls.specs.WordSteps.{load_at}
 use Rattle.shm_steps.specs.WordParts.{Leaves, same_memo}
 use Rattle.shm_steps.proofs.BeginAt.{word_target}
 use Rattle.shm_steps.proofs.BeginWords.{known_here}
+use Rattle.shm_steps.proofs.Cores.{room_least}
 use Rattle.shm_steps.proofs.WordsOwn.{at_step, word_for}
 use Rattle.shm_count.specs.DyingBlocks.{live_room}
 use Rattle.shm_count.specs.StepControl.{IsInside}
@@ -105,16 +106,20 @@ module _ (me : Me) (l : me.who < me.geometry.clients) where
   pub tail_small : (i : ℕ) (m : Memo) → i < me.geometry.clients → IsHeld me m → own_word m.own (Tail me.who i) + 1 < 2 ^ 64
   tail_small i m li (w, r, h, same) = subst (λ (x : Memo). own_word x.own (Tail me.who i) + 1 < 2 ^ 64) same (tail_at i li w r h)
 
-  head_at : (s : ℕ) → s < me.geometry.clients → s ≢ me.who → (w : Spot → ℕ) (r : ℕ → Memo) → HeldAt me.geometry w (view r) → own_word (r me.who).own (Front s me.who) + 1 < 2 ^ 64
+  head_at : (s : ℕ) → s < me.geometry.clients → s ≢ me.who → (w : Spot → ℕ) (r : ℕ → Memo) → HeldAt me.geometry w (view r) → own_word (r me.who).own (Front s me.who) < 2 ^ 47
   head_at s ls other w r h =
       let own : own_word (r me.who).own (Front s me.who) ≡ w (Front s me.who) = h.mine me.who l (Front s me.who) (eq-eqb me.who me.who refl) in
       let order = (h.lanes s me.who ls l other).order in
       let most = (h.tails s me.who ls l).0 in
-      let small = h.small (Era s s) in
+      let room = (h.own s ls).room in
+      let least = room_least (r s).op in
       omega arith
 
+  pub head_low : (s : ℕ) (m : Memo) → s < me.geometry.clients → s ≢ me.who → IsHeld me m → own_word m.own (Front s me.who) < 2 ^ 47
+  head_low s m ls other (w, r, h, same) = subst (λ (x : Memo). own_word x.own (Front s me.who) < 2 ^ 47) same (head_at s ls other w r h)
+
   pub head_small : (s : ℕ) (m : Memo) → s < me.geometry.clients → s ≢ me.who → IsHeld me m → own_word m.own (Front s me.who) + 1 < 2 ^ 64
-  head_small s m ls other (w, r, h, same) = subst (λ (x : Memo). own_word x.own (Front s me.who) + 1 < 2 ^ 64) same (head_at s ls other w r h)
+  head_small s m ls other held = let low = head_low s m ls other held in omega arith
 
   -- a block in reach is a counted block of the pool
   abbrev pub IsReachable : ℕ → Memo → Type 0

@@ -1,14 +1,15 @@
 //! How many word steps machines over queues make.
 
-ghost use Rattle.std.specs.Prelude.{ℕ, ◌+◌, Result, Ok, Err, List, length};
+ghost use Rattle.std.specs.Prelude.{ℕ, ◌+◌, ◌⊎◌, Result, Ok, Err, length};
 ghost use Rattle.shm_graph.specs.declared.ask.Me.{Me as AMe};
 ghost use Rattle.shm_graph.specs.declared.memo.Memo.{Memo as AMemo};
 ghost use Rattle.shm_graph.specs.Asks.{Trail, IsWithin};
 ghost use Rattle.shm_graph.specs.Bounds.{tear_steps};
-ghost use Rattle.shm_count.specs.TearEvents.{Visit, frees};
+ghost use Rattle.shm_count.specs.TearEvents.{frees};
 ghost use Rattle.shm_queue.specs.declared.answer.SendFault.{SendFault as ASendFault};
 ghost use Rattle.shm_queue.specs.declared.answer.TakeFault.TheVariants.{Empty as IsEmpty, EraSpent as IsSpent};
 ghost use Rattle.shm_queue.specs.Machines.{SendGives, TakeGives, take_told};
+ghost use Rattle.shm_queue.specs.TakeFits.{TakeStopped};
 
 /// A send took at most 11 word steps, and three more for each exchange that failed.
 pub fn send_bound()
@@ -20,5 +21,5 @@ pub fn send_bound()
 pub fn take_bound()
     ensures done { (me : AMe) (s : ℕ) (r0 r : AMemo) (tr : Trail) → TakeGives me s r0 r tr (Ok tt) → IsWithin (12 + tear_steps (frees (take_told me s tr))) tr }
     ensures empty { (me : AMe) (s n : ℕ) (r0 r : AMemo) (tr : Trail) → TakeGives me s r0 r tr (Err (IsEmpty n)) → IsWithin 2 tr }
-    ensures spent { (me : AMe) (s e : ℕ) (r0 r : AMemo) (tr : Trail) → TakeGives me s r0 r tr (Err (IsSpent e)) → (vs : List Visit) × IsWithin (12 + tear_steps (frees (take_told me s tr) + length vs)) tr }
+    ensures spent { (me : AMe) (s e : ℕ) (r0 r : AMemo) (tr : Trail) → TakeGives me s r0 r tr (Err (IsSpent e)) → IsWithin 11 tr ⊎ ((t : TakeStopped me s r0 r tr (take_told me s tr) e) × IsWithin (12 + tear_steps (frees (take_told me s tr) + length t.left)) tr) }
 {}

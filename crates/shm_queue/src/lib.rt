@@ -6,6 +6,7 @@
 
 pub mod answer;
 pub mod bound;
+pub mod drain;
 pub mod events;
 pub mod parts;
 pub mod peek;
@@ -14,6 +15,7 @@ pub mod take;
 
 pub use answer::{PeekFault, SendFault, TakeFault};
 pub use bound::{send_bound, take_bound};
+pub use drain::{Drain, Draining};
 pub use events::{
     send_begins, send_events, send_leaves, take_begins, take_events, take_leaves,
 };
