@@ -1,0 +1,8 @@
+use Rattle.shm_calls.specs.CallsKeep.{calls_tells}
+use Rattle.shm_queue.specs.SendControl.{send_parts}
+use Rattle.shm_queue.specs.SendFits.{send_plan}
+use Rattle.shm_queue.specs.SendLaws.{send_laws}
+use Rattle.shm_queue.proofs.events.send_events.Goals as goal
+
+pub returns : goal.returns
+returns c = calls_tells send_parts send_plan send_laws

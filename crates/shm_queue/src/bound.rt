@@ -1,0 +1,25 @@
+//! How many word steps machines over queues make.
+
+ghost use Rattle.std.specs.Prelude.{ℕ, ◌+◌, ◌⊎◌, Result, Ok, Err, length};
+ghost use Rattle.shm_graph.specs.declared.ask.Me.{Me as AMe};
+ghost use Rattle.shm_graph.specs.declared.memo.Memo.{Memo as AMemo};
+ghost use Rattle.shm_graph.specs.Asks.{Trail, IsWithin};
+ghost use Rattle.shm_graph.specs.Bounds.{tear_steps};
+ghost use Rattle.shm_count.specs.TearEvents.{frees};
+ghost use Rattle.shm_queue.specs.declared.answer.SendFault.{SendFault as ASendFault};
+ghost use Rattle.shm_queue.specs.declared.answer.TakeFault.TheVariants.{Empty as IsEmpty, EraSpent as IsSpent};
+ghost use Rattle.shm_queue.specs.Machines.{SendGives, TakeGives, take_told};
+ghost use Rattle.shm_queue.specs.TakeFits.{TakeStopped};
+
+/// A send took at most 11 word steps, and three more for each exchange that failed.
+pub fn send_bound()
+    ensures { (me : AMe) (i b : ℕ) (r0 r : AMemo) (tr : Trail) (a : Result ℕ ASendFault) → SendGives me i b r0 r tr a → IsWithin 11 tr }
+{}
+
+/// A take took at most 12 word steps and 164 for each block that it freed or left on the way, and three more for each exchange that
+/// failed; one of an empty queue took two.
+pub fn take_bound()
+    ensures done { (me : AMe) (s : ℕ) (r0 r : AMemo) (tr : Trail) → TakeGives me s r0 r tr (Ok tt) → IsWithin (12 + tear_steps (frees (take_told me s tr))) tr }
+    ensures empty { (me : AMe) (s n : ℕ) (r0 r : AMemo) (tr : Trail) → TakeGives me s r0 r tr (Err (IsEmpty n)) → IsWithin 2 tr }
+    ensures spent { (me : AMe) (s e : ℕ) (r0 r : AMemo) (tr : Trail) → TakeGives me s r0 r tr (Err (IsSpent e)) → IsWithin 11 tr ⊎ ((t : TakeStopped me s r0 r tr (take_told me s tr) e) × IsWithin (12 + tear_steps (frees (take_told me s tr) + length t.left)) tr) }
+{}

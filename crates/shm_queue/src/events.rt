@@ -1,0 +1,49 @@
+//! When machines over queues may begin, what they do to the graph of references, and what they leave.
+
+ghost use Rattle.std.specs.Prelude.{◌≡◌, ℕ, Result, []};
+ghost use Rattle.shm_graph.specs.declared.ask.Me.{Me as AMe};
+ghost use Rattle.shm_graph.specs.declared.memo.Memo.{Memo as AMemo};
+ghost use Rattle.shm_graph.specs.Asks.{Trail};
+ghost use Rattle.shm_graph.specs.Tells.{Tells};
+ghost use Rattle.shm_calls.specs.CallsControl.{calls_does};
+ghost use Rattle.shm_calls.specs.CallsFit.{CallsFits};
+ghost use Rattle.shm_calls.specs.Plans.{plan_trail};
+ghost use Rattle.shm_queue.specs.declared.answer.SendFault.{SendFault as ASendFault};
+ghost use Rattle.shm_queue.specs.declared.answer.TakeFault.{TakeFault as ATakeFault};
+ghost use Rattle.shm_queue.specs.Machines.{send, SendFits, SendGives, send_told, take, TakeFits, TakeGives, take_told};
+ghost use Rattle.shm_queue.specs.SendControl.{send_parts, sending};
+ghost use Rattle.shm_queue.specs.SendFits.{MaySendTo, SendLeaves, send_plan};
+ghost use Rattle.shm_queue.specs.TakeControl.{take_parts, taking};
+ghost use Rattle.shm_queue.specs.TakeFits.{MayTakeFrom, TakeLeaves, take_plan};
+
+/// A send fits each memo of a client that is here, with no step in progress, the block in reach and nothing unsent in the queue.
+pub fn send_begins()
+    ensures { (me : AMe) (i b : ℕ) (r : AMemo) → MaySendTo me i b r → SendFits me i b r r [] }
+{}
+
+/// The event of each word step of a send is the one that it tells: the slot at the tail comes to name the block.
+pub fn send_events()
+    ensures { Tells send (CallsFits send_parts send_plan) (calls_does send_parts send_plan) }
+{}
+
+/// What a send gives speaks of the events that it tells, and what it asked is one of its trails.
+pub fn send_leaves()
+    ensures leaves { (me : AMe) (i b : ℕ) (r0 r : AMemo) (tr : Trail) (a : Result ℕ ASendFault) → SendGives me i b r0 r tr a → SendLeaves (sending me i b) r0 r tr (send_told me i b tr) a }
+    ensures trail { (me : AMe) (i b : ℕ) (r0 r : AMemo) (tr : Trail) (a : Result ℕ ASendFault) → SendGives me i b r0 r tr a → plan_trail send_plan (sending me i b) tr a }
+{}
+
+/// A take fits each memo of an identity that is here, with no step in progress and nothing untaken in the queue.
+pub fn take_begins()
+    ensures { (me : AMe) (s : ℕ) (r : AMemo) → MayTakeFrom me s r → TakeFits me s r r [] }
+{}
+
+/// The event of each word step of a take is the one that it tells: the loss of the reference, and those of the tear-down.
+pub fn take_events()
+    ensures { Tells take (CallsFits take_parts take_plan) (calls_does take_parts take_plan) }
+{}
+
+/// What a take gives speaks of the events that it tells, and what it asked is one of its trails.
+pub fn take_leaves()
+    ensures leaves { (me : AMe) (s : ℕ) (r0 r : AMemo) (tr : Trail) (a : Result (Unit {0}) ATakeFault) → TakeGives me s r0 r tr a → TakeLeaves (taking me s) r0 r tr (take_told me s tr) a }
+    ensures trail { (me : AMe) (s : ℕ) (r0 r : AMemo) (tr : Trail) (a : Result (Unit {0}) ATakeFault) → TakeGives me s r0 r tr a → plan_trail take_plan (taking me s) tr a }
+{}

@@ -1,0 +1,27 @@
+//! Queues between identities: a block is sent to another identity, taken out of a queue, and all queues to an identity are drained.
+//!
+//! Each machine is a plan of calls (`shm_calls`): the type with the operation's name is the machine, and the plan that it is made of says
+//! which call comes next.
+#![tactic(auto)]
+
+pub mod answer;
+pub mod bound;
+pub mod drain;
+pub mod events;
+pub mod parts;
+pub mod peek;
+pub mod send;
+pub mod take;
+
+pub use answer::{PeekFault, SendFault, TakeFault};
+pub use bound::{send_bound, take_bound};
+pub use drain::{Drain, Draining};
+pub use events::{
+    send_begins, send_events, send_leaves, take_begins, take_events, take_leaves,
+};
+pub use peek::{Peek, Peeking};
+pub use send::{Send, Sending};
+pub use take::{Take, Taking};
+
+#[cfg(test)]
+mod tests;

@@ -1,0 +1,155 @@
+//! The first item of a queue from another identity comes to have a root.
+
+ghost use Rattle.std.specs.Prelude.{◌≡◌, ◌<◌};
+ghost use Rattle.shm_words.specs.Layout.{GeometryFits};
+ghost use Rattle.shm_queue.specs.PeekControl.{peeking, after_word, turns_word};
+ghost use Rattle.shm_queue.specs.PeekFits.{peek_plan};
+ghost use Rattle.shm_queue.specs.PeekLaws.{peek_laws};
+
+use crate::answer::PeekFault;
+use shm_calls::{Calls, Or, Plan, Word};
+use shm_count::Made;
+use shm_count::parts::{Rooting, ShareFault, UpRoot};
+use shm_graph::{Machine, Me};
+use std::marker::Model;
+
+/// Which call of it comes next.
+#[derive(Clone, Copy, Debug, PartialEq, Eq, Drop)]
+pub enum PeekPoint {
+    /// The own head is loaded.
+    Head,
+    /// The tail is loaded.
+    Tail,
+    /// The slot at the head is loaded.
+    Slot,
+    /// The least empty root comes to name the block.
+    Share,
+}
+
+/// The control of it; `at` is the own head that was read, and `block` the item there.
+#[derive(Clone, Copy, Debug, PartialEq, Eq, Drop)]
+pub struct PeekState {
+    pub me: Me,
+    pub from: u8,
+    pub at: u64,
+    pub block: u32,
+    pub point: PeekPoint,
+}
+
+/// The calls by which the first item of a queue comes to have a root.
+#[derive(Drop)]
+pub struct Peeking {
+    state: PeekState,
+}
+
+impl Model for Peeking {
+    ghost use Rattle.shm_queue.specs.declared.peek.PeekState.{PeekState as AState};
+
+    ghost Value = { AState };
+
+    ghost view = { λ a. a.state };
+
+    ghost use Rattle.shm_queue.specs.PeekControl.{PeekInRange};
+
+    ghost invariant = { λ a. PeekInRange a.state };
+}
+
+/// It answers the root and the item, `Empty` where the queue has no item, or why the item got no root.
+pub type Peek = Calls<Peeking>;
+
+impl Peeking {
+    /// The first item of the queue from the identity `from` to the identity `me`, before the first call.
+    #[inline(always)]
+    pub fn new(me: Me, from: u8) -> Peeking
+        requires geometry { GeometryFits me.geometry }
+        requires who { me.who < me.geometry.clients }
+        requires from { from < me.geometry.clients }
+        ensures { result ≡ peeking me from }
+    {
+        Peeking {
+            state: PeekState {
+                me,
+                from,
+                at: 0,
+                block: 0,
+                point: PeekPoint::Head,
+            },
+        }
+    }
+
+    #[inline(always)]
+    fn seen(&mut self, word: u64) -> Option<Result<Made, PeekFault>>
+        ensures state { self.new ≡ after_word self.old self.old.point word }
+        ensures answer { result ≡ turns_word self.old self.old.point word }
+    {
+        match self.state.point {
+            PeekPoint::Head => {
+                self.state.at = word;
+                self.state.point = PeekPoint::Tail;
+                None
+            }
+            PeekPoint::Tail => {
+                let at = self.state.at;
+                self.state.point = PeekPoint::Slot;
+                if word == at {
+                    Some(Err(PeekFault::Empty { at }))
+                } else {
+                    None
+                }
+            }
+            PeekPoint::Slot | PeekPoint::Share => {
+                self.state.block = (word % (1 << 20)) as u32;
+                self.state.point = PeekPoint::Share;
+                None
+            }
+        }
+    }
+}
+
+impl Plan for Peeking {
+    type Call = Or<Word, UpRoot>;
+
+    type Answer = Result<Made, PeekFault>;
+
+    ghost plan = { peek_plan };
+
+    #[inline(always)]
+    fn me(&self) -> Me {
+        self.state.me
+    }
+
+    #[inline(always)]
+    fn call(&self) -> Or<Word, UpRoot> {
+        let PeekState {
+            me,
+            from,
+            at,
+            block,
+            point,
+        } = self.state;
+        let pool = me.geometry;
+        match point {
+            PeekPoint::Head => Or::First(Word::load(me, pool.head(from, me.who))),
+            PeekPoint::Tail => Or::First(Word::load(me, pool.tail(from, me.who))),
+            PeekPoint::Slot => {
+                let slot = pool.slot(from, me.who, (at % 8) as u8);
+                Or::First(Word::load(me, slot))
+            }
+            PeekPoint::Share => Or::Second(Calls::new(Rooting::new(me, block))),
+        }
+    }
+
+    #[inline(always)]
+    fn next(&mut self, answer: Or<u64, Result<u8, ShareFault>>) -> Option<Result<Made, PeekFault>> {
+        match answer {
+            Or::First(word) => self.seen(word),
+            Or::Second(Ok(root)) => {
+                let block = self.state.block;
+                Some(Ok(Made { root, block }))
+            }
+            Or::Second(Err(fault)) => Some(Err(PeekFault::of(fault))),
+        }
+    }
+
+    ghost laws = { peek_laws };
+}
