@@ -54,9 +54,9 @@ pub reference_reads : (b i : ℕ) (m : Memo) (n : ℕ) (x : Memo) → ReferenceL
 reference_reads b i m n x h =
     elim (cases_eq n 0) [
       | inl e ↦ (
-          word_reads m x b i n (h.left ∙ ap core {y = record m { known = learnt (Body b i) n m.known }} (cond-true (eqb n 0) _ _ (eq-eqb n 0 e))),
-          λ some. absurd (some e),
-        )
+        word_reads m x b i n (h.left ∙ ap core {y = record m { known = learnt (Body b i) n m.known }} (cond-true (eqb n 0) _ _ (eq-eqb n 0 e))),
+        λ some. absurd (some e),
+      )
       | inr some ↦ (let u = look_reads m x b i n some (h.left ∙ ap core {y = record m { looks = m.looks ++ record { block = n; from = Body b i } ∷ []; known = learnt (Body b i) n m.known; values = values_read m b i n }} (cond-false (eqb n 0) _ _ (ne_eqb n 0 some))) in
           (u.0, λ _. u.1))
     ]
@@ -90,11 +90,11 @@ word_held first me a after more m r leads h =
       made = h.made;
       inside = h.inside;
       kept = λ w rs f s may same. let k = h.kept w rs f s may same in
-      record {
-        told = k.told;
-        step = k.step;
-        fits = leads w rs f s same (seen_of a (w (spot_at me.geometry (classes w) (at_of a)))) (memo_on (rs me.who) (framed me a f (seen_of a (w (spot_at me.geometry (classes w) (at_of a))))) (spot_at me.geometry (classes w) (at_of a))) k.fits k.step.held;
-      };
+          record {
+            told = k.told;
+            step = k.step;
+            fits = leads w rs f s same (seen_of a (w (spot_at me.geometry (classes w) (at_of a)))) (memo_on (rs me.who) (framed me a f (seen_of a (w (spot_at me.geometry (classes w) (at_of a))))) (spot_at me.geometry (classes w) (at_of a))) k.fits k.step.held;
+          };
       quiet = h.quiet;
     }
 

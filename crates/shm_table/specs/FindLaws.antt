@@ -92,8 +92,8 @@ begun me m r home key n l (w, rs, h, same) idle latch table own =
     (λ d. d ≢ 0 → role_in (roles m) d ≡ Directory → Reads m r d (key % 16) n → (n ≢ 0 → r.looks ≡ m.looks ++ record { block = n; from = Body d (key % 16) } ∷ []) → IsSeeking me.who r key n (Body d (key % 16)) n [] (chain_in r.part (key % 16))) own
     (subst
     (λ (x : Memo). own_word m.own (Home me.who) ≢ 0 → role_in (roles m) (own_word m.own (Home me.who)) ≡ Directory → Reads m x (own_word m.own (Home me.who)) (key % 16) n
-        → (n ≢ 0 → x.looks ≡ m.looks ++ record { block = n; from = Body (own_word m.own (Home me.who)) (key % 16) } ∷ [])
-        → IsSeeking me.who x key n (Body (own_word m.own (Home me.who)) (key % 16)) n [] (chain_in x.part (key % 16))) same
+    → (n ≢ 0 → x.looks ≡ m.looks ++ record { block = n; from = Body (own_word m.own (Home me.who)) (key % 16) } ∷ [])
+    → IsSeeking me.who x key n (Body (own_word m.own (Home me.who)) (key % 16)) n [] (chain_in x.part (key % 16))) same
     (λ some role reads look. seek_first me.geometry w rs me.who h l m key n idle latch table some role reads look))
 
 -- ---- what follows each word step
@@ -148,8 +148,7 @@ module _ (m : FindState) (r0 rs r : Memo) (tr t : Trail) (es ds : List Event) (n
         let reads : OnlyReads r0 r = from_home here in
         let is : IsIn r Directory n = home_in rs r a n (ap (λ (y : Memo). y.looks) left) (table_of m.me a r0 r h.0 reads) in
         let room : n + 17 < total_of m.me.geometry = directory_room m.me r n h.0.who held is in
-        let total = total_small m.me.geometry h.0.geometry in
-        (
+        let total = total_small m.me.geometry h.0.geometry in (
           record {
             may = h.0;
             reads = reads;
@@ -197,8 +196,7 @@ module _ (m : FindState) (r0 rs r : Memo) (tr t : Trail) (es ds : List Event) (n
         let u = reference_reads m.home (m.key % 16) rs n r w.0.found in
         let is : IsIn r AnEntry n = look_in rs r m.home (m.key % 16) n Directory (table_of m.me a r0 rs h.may h.reads) u.0.part h.here.0 (u.1 some) in
         let room : n + 4 < total_of m.me.geometry = entry_room m.me r n h.may.who held is in
-        let total = total_small m.me.geometry h.may.geometry in
-        (
+        let total = total_small m.me.geometry h.may.geometry in (
           (
             [],
             record {
@@ -256,8 +254,7 @@ module _ (m : FindState) (r0 rs r : Memo) (tr t : Trail) (es ds : List Event) (n
 
     key_other : n ≢ m.key → Goes (record m { point = point.Key }) point.Key 0 r0 r (tr ++ t) (es ++ ds)
     key_other other =
-        let h = k.1 in
-        (
+        let h = k.1 in (
           k.0,
           n,
           record {
@@ -327,8 +324,7 @@ module _ (m : FindState) (r0 rs r : Memo) (tr t : Trail) (es ds : List Event) (n
         let u = reference_reads m.entry 0 rs n r w.0.found.0 in
         let is : IsIn r AnEntry n = look_in rs r m.entry 0 n AnEntry (table_of m.me a r0 rs h.may h.reads) u.0.part h.here.0 (u.1 some) in
         let room : n + 4 < total_of m.me.geometry = entry_room m.me r n h.may.who held is in
-        let total = total_small m.me.geometry h.may.geometry in
-        (
+        let total = total_small m.me.geometry h.may.geometry in (
           (
             all,
             record {

@@ -95,8 +95,7 @@ pub look_in : (m x : Memo) (d i n : ℕ) (role : Role) → is_loose m.part ≡ f
 look_in m x d i n role table part is looks =
     let before : roles m ≡ roles_from [] m.looks = cond-false (is_loose m.part) [] (roles_from [] m.looks) table in
     let all : roles x ≡ record { block = n; role = role_read (role_in (roles_from [] m.looks) d) i } ∷ roles_from [] m.looks =
-    cond-false (is_loose x.part) [] (roles_from [] x.looks) (ap is_loose part ∙ table) ∙ (ap (roles_from []) looks ∙ one_more_role [] m.looks (record { block = n; from = Body d i })) in
-    (
+    cond-false (is_loose x.part) [] (roles_from [] x.looks) (ap is_loose part ∙ table) ∙ (ap (roles_from []) looks ∙ one_more_role [] m.looks (record { block = n; from = Body d i })) in (
       ap (λ ps. role_in ps n) all ∙ (role_new (record { block = n; role = role_read (role_in (roles_from [] m.looks) d) i }) (roles_from [] m.looks) ∙ ap (λ u. role_read u i) (ap (λ ps. role_in ps d) (sym before) ∙ is)),
       ap (λ (ls : List Look). list_any (eqb n) (map (λ (k : Look). k.block) ls)) looks ∙ last_looked m.looks (record { block = n; from = Body d i }),
     )

@@ -135,11 +135,19 @@ impl Plan for Finding {
     #[inline(always)]
     fn next(&mut self, word: u64) -> Option<Found> {
         let block = (word % (1 << 20)) as u32;
+        let FindState {
+            key,
+            home,
+            first,
+            entry,
+            ..
+        } = self.state;
         match self.state.point {
             FindPoint::Home => {
                 self.state.home = block;
                 self.state.point = FindPoint::Bucket;
-                if block == 0 {
+                let none = block == 0;
+                if none {
                     Some(Found::Absent { home: 0, first: 0 })
                 } else {
                     None
@@ -148,11 +156,11 @@ impl Plan for Finding {
             FindPoint::Bucket => {
                 self.state.first = block;
                 self.state.entry = block;
-                self.state.before = self.state.home;
-                self.state.word = (self.state.key % 16) as u8;
+                self.state.before = home;
+                self.state.word = (key % 16) as u8;
                 self.state.point = FindPoint::Key;
-                if block == 0 {
-                    let home = self.state.home;
+                let empty = block == 0;
+                if empty {
                     Some(Found::Absent { home, first: 0 })
                 } else {
                     None
@@ -160,30 +168,26 @@ impl Plan for Finding {
             }
             FindPoint::Key => {
                 self.state.point = FindPoint::Next;
-                let FindState {
-                    key,
-                    entry,
-                    before,
-                    word: lead,
-                    ..
-                } = self.state;
-                if word == u64::from(key) {
+                let before = self.state.before;
+                let word_there = self.state.word;
+                let same = word == u64::from(key);
+                if same {
                     Some(Found::At {
                         entry,
                         before,
-                        word: lead,
+                        word: word_there,
                     })
                 } else {
                     None
                 }
             }
             FindPoint::Next => {
-                self.state.before = self.state.entry;
+                self.state.before = entry;
                 self.state.word = 0;
                 self.state.entry = block;
                 self.state.point = FindPoint::Key;
-                if block == 0 {
-                    let FindState { home, first, .. } = self.state;
+                let ended = block == 0;
+                if ended {
                     Some(Found::Absent { home, first })
                 } else {
                     None

@@ -8,3 +8,5 @@ pub mod bound;
 pub mod events;
 pub mod find;
 pub mod parts;
+#[cfg(test)]
+mod tests;
