@@ -16,4 +16,7 @@ pub mod DrainControl
 pub mod DrainFits
 pub mod DrainItems
 pub mod DrainLaws
+pub mod ReceiveControl
+pub mod ReceiveFits
+pub mod ReceiveLaws
 pub mod Machines
