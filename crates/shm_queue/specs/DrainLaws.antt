@@ -57,8 +57,8 @@ next_sender : (c s : ℕ) → s ≢ c → (next_from c s ≢ c) × (s < next_fro
 next_sender c s other = go (s + 1 == c) (eqb-true (s + 1) c) (eqb-false (s + 1) c)
   where
     go : (q : Bool) → (q ≡ true → s + 1 ≡ c) → (q ≡ false → (s + 1) ≢ c) → let f : ℕ = if q then s + 2 else s + 1 in (f ≢ c) × (s < f) × (f ≤ s + 2) × ((j : ℕ) → j < f → j ≢ c → (j < s) ⊎ (j ≡ s))
-    go true is n = let e = is refl in (λ z. absurd (omega arith), omega arith, omega arith, λ j l o. elim (cases_eq j s) [ | inl k ↦ inr k | inr k ↦ inl (omega arith) ])
-    go false is n = let e = n refl in (e, omega arith, omega arith, λ j l o. elim (cases_eq j s) [ | inl k ↦ inr k | inr k ↦ inl (omega arith) ])
+    go true is n = let e = is refl in (λ z. absurd (omega arith), omega arith, omega arith, λ j l o. elim (cases_eq j s) [ inl k ↦ inr k | inr k ↦ inl (omega arith) ])
+    go false is n = let e = n refl in (e, omega arith, omega arith, λ j l o. elim (cases_eq j s) [ inl k ↦ inr k | inr k ↦ inl (omega arith) ])
 
 -- ---- turning to a sender
 

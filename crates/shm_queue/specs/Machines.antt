@@ -16,12 +16,15 @@ use Rattle.shm_queue.specs.declared.answer.SendFault.{SendFault}
 use Rattle.shm_queue.specs.declared.answer.TakeFault.{TakeFault}
 use Rattle.shm_queue.specs.declared.drain.DrainState.{DrainState}
 use Rattle.shm_queue.specs.declared.peek.PeekState.{PeekState}
+use Rattle.shm_queue.specs.declared.receive.ReceiveState.{ReceiveState}
 use Rattle.shm_queue.specs.declared.send.SendState.{SendState}
 use Rattle.shm_queue.specs.declared.take.TakeState.{TakeState}
 use Rattle.shm_queue.specs.DrainControl.{DrainCall, DrainAnswer, drain_parts, draining}
 use Rattle.shm_queue.specs.DrainFits.{drain_plan}
 use Rattle.shm_queue.specs.PeekControl.{PeekCall, PeekAnswer, peek_parts, peeking}
 use Rattle.shm_queue.specs.PeekFits.{peek_plan}
+use Rattle.shm_queue.specs.ReceiveControl.{ReceiveCall, ReceiveAnswer, receive_parts, receiving}
+use Rattle.shm_queue.specs.ReceiveFits.{receive_plan}
 use Rattle.shm_queue.specs.SendControl.{SendCall, SendAnswer, send_parts, sending}
 use Rattle.shm_queue.specs.SendFits.{send_plan}
 use Rattle.shm_queue.specs.TakeControl.{TakeCall, TakeAnswer, take_parts, taking}
@@ -82,3 +85,17 @@ DrainGives me = CallsGives drain_parts drain_plan (calls_of drain_plan (draining
 
 abbrev pub drain_told : Me → Trail → List Event
 drain_told me = happens_along drain (calls_does drain_parts drain_plan) (calls_of drain_plan (draining me))
+
+-- ---- what is received from s
+
+abbrev pub receive : Control (Calls ReceiveState ReceiveCall (Result Made PeekFault) ReceiveAnswer) (Result Made PeekFault)
+receive = calls_control receive_parts receive_plan
+
+abbrev pub ReceiveFits : Me → ℕ → Memo → Memo → Trail → Type 0
+ReceiveFits me s = CallsFits receive_parts receive_plan (calls_of receive_plan (receiving me s))
+
+abbrev pub ReceiveGives : Me → ℕ → Memo → Memo → Trail → Result Made PeekFault → Type 0
+ReceiveGives me s = CallsGives receive_parts receive_plan (calls_of receive_plan (receiving me s))
+
+abbrev pub receive_told : Me → ℕ → Trail → List Event
+receive_told me s = happens_along receive (calls_does receive_parts receive_plan) (calls_of receive_plan (receiving me s))

@@ -1,5 +1,5 @@
 -- what is owed of a receive: the peek leads on to the take, or to what is left
-use Rattle.std.proofs.Common.{◌≡◌, ℕ, ◌+◌, ◌<◌, ◌≤◌, refl, sym, ap, ◌∙◌, subst, arith, Bool, true, false, List, [], ◌∷◌, ◌++◌, inl, inr}
+use Rattle.std.proofs.Common.{◌≡◌, ℕ, ◌+◌, ◌<◌, ◌≤◌, refl, sym, ap, ◌∙◌, subst, arith, Bool, true, false, List, [], ◌∷◌, ◌++◌, length, inl, inr}
 use Rattle.std.specs.Prelude.{Result, Ok, Err, slice_index}
 use Rattle.shm_graph.specs.declared.spot.Spot.TheVariants as spot
 use Rattle.shm_graph.specs.declared.memo.Memo.{Memo}
@@ -102,7 +102,22 @@ module _ (m : ReceiveState) (r0 rs r : Memo) (tr t : Trail) (es ds : List Event)
       let head : own_word rs.own (spot.Front m.from m.me.who) ≡ h.1.0 = p.filled.own (spot.Front m.from m.me.who) refl ∙ sym p.at in
       let same = g.head in
       absurd (omega arith)
-  taken (Err (fault.EraSpent e)) h g = inr (record { block = m.block; root = m.root; look = peeked h; spent = g.0; refused = g.1 })
+  taken (Err (fault.EraSpent e)) h g =
+      let p = h.1.1 in
+      let low = p.low in
+      let quiet : frees es ≡ 0 = ap frees p.events ∙ omega arith in
+      let f = frees_append es ds in
+      inr
+      (record {
+        block = m.block;
+        root = m.root;
+        look = peeked h;
+        spent = g.0;
+        refused = elim g.1 [
+          | inl n ↦ inl (n, (let bound = within_more (12 + m.root) 11 tr t p.bound n.bound in omega arith))
+          | inr n ↦ inr (n, (let bound = within_more (12 + m.root) (12 + tear_steps (frees ds + length n.left)) tr t p.bound n.bound in omega arith))
+        ];
+      })
 
 leads : (m : ReceiveState) (y : ReceivePoint) (r0 rs r : Memo) (tr t : Trail) (es ds : List Event) (a : ReceiveAnswer) → ReceiveKnows (record m { point = y }) y r0 rs tr es → (receive_part y).leaves (receive_call_at m y) rs r t ds a
     → Follows receive_parts receive_plan (record m { point = y }) a r0 r (tr ++ t) (es ++ ds)

@@ -10,7 +10,7 @@ ghost use Rattle.shm_count.specs.declared.answer.Made.{Made as AMade};
 ghost use Rattle.shm_queue.specs.declared.answer.PeekFault.{PeekFault as APeekFault};
 ghost use Rattle.shm_queue.specs.declared.answer.SendFault.{SendFault as ASendFault};
 ghost use Rattle.shm_queue.specs.declared.answer.TakeFault.TheVariants.{Empty as IsEmpty, EraSpent as IsSpent};
-ghost use Rattle.shm_queue.specs.Machines.{DrainGives, drain_told, PeekGives, SendGives, TakeGives, take_told};
+ghost use Rattle.shm_queue.specs.Machines.{DrainGives, drain_told, PeekGives, ReceiveGives, receive_told, SendGives, TakeGives, take_told};
 ghost use Rattle.shm_queue.specs.TakeFits.{TakeStopped};
 
 /// A send took at most 11 word steps, and three more for each exchange that failed.
@@ -26,13 +26,18 @@ pub fn take_bound()
     ensures spent { (me : AMe) (s e : ℕ) (r0 r : AMemo) (tr : Trail) → TakeGives me s r0 r tr (Err (IsSpent e)) → IsWithin 11 tr ⊎ ((t : TakeStopped me s r0 r tr (take_told me s tr) e) × IsWithin (12 + tear_steps (frees (take_told me s tr) + length t.left)) tr) }
 {}
 
-/// A peek took at most 28 word steps, and three more for each exchange that failed.
+/// A peek took at most 27 word steps, and three more for each exchange that failed.
 pub fn peek_bound()
-    ensures { (me : AMe) (s : ℕ) (r0 r : AMemo) (tr : Trail) (a : Result AMade APeekFault) → PeekGives me s r0 r tr a → IsWithin 28 tr }
+    ensures { (me : AMe) (s : ℕ) (r0 r : AMemo) (tr : Trail) (a : Result AMade APeekFault) → PeekGives me s r0 r tr a → IsWithin 27 tr }
 {}
 
 /// A drain in a pool of n clients took at most 12 word steps for each item that it took, 164 for each block that it freed, 2 n and 4 more,
 /// and three more for each exchange that failed. Where a take was refused that one counts as an item, and the blocks that it left as freed.
 pub fn drain_bound()
     ensures done { (me : AMe) (n : ℕ) (r0 r : AMemo) (tr : Trail) → DrainGives me r0 r tr (Ok n) → IsWithin (drain_steps me.geometry.clients n (frees (drain_told me tr))) tr }
+{}
+
+/// A receive that is done took at most 39 word steps and 164 for each block that it freed, and three more for each exchange that failed.
+pub fn receive_bound()
+    ensures { (me : AMe) (s : ℕ) (r0 r : AMemo) (tr : Trail) (made : AMade) → ReceiveGives me s r0 r tr (Ok made) → IsWithin (39 + tear_steps (frees (receive_told me s tr))) tr }
 {}

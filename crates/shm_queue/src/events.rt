@@ -19,6 +19,9 @@ ghost use Rattle.shm_queue.specs.Machines.{drain, DrainFits, DrainGives, drain_t
 ghost use Rattle.shm_queue.specs.Machines.{send, SendFits, SendGives, send_told, take, TakeFits, TakeGives, take_told};
 ghost use Rattle.shm_queue.specs.PeekControl.{peek_parts, peeking};
 ghost use Rattle.shm_queue.specs.PeekFits.{MayPeekFrom, PeekLeaves, peek_plan};
+ghost use Rattle.shm_queue.specs.Machines.{receive, ReceiveFits, ReceiveGives, receive_told};
+ghost use Rattle.shm_queue.specs.ReceiveControl.{receive_parts, receiving};
+ghost use Rattle.shm_queue.specs.ReceiveFits.{ReceiveLeaves, receive_plan};
 ghost use Rattle.shm_queue.specs.SendControl.{send_parts, sending};
 ghost use Rattle.shm_queue.specs.SendFits.{MaySendTo, SendLeaves, send_plan};
 ghost use Rattle.shm_queue.specs.TakeControl.{take_parts, taking};
@@ -86,4 +89,20 @@ pub fn drain_events()
 pub fn drain_leaves()
     ensures leaves { (me : AMe) (r0 r : AMemo) (tr : Trail) (a : Result ℕ ASpent) → DrainGives me r0 r tr a → DrainLeaves (draining me) r0 r tr (drain_told me tr) a }
     ensures trail { (me : AMe) (r0 r : AMemo) (tr : Trail) (a : Result ℕ ASpent) → DrainGives me r0 r tr a → plan_trail drain_plan (draining me) tr a }
+{}
+
+/// A receive fits each memo that a peek fits.
+pub fn receive_begins()
+    ensures { (me : AMe) (s : ℕ) (r : AMemo) → MayPeekFrom me s r → ReceiveFits me s r r [] }
+{}
+
+/// The event of each word step of a receive is the one that it tells: those of the peek and of the take.
+pub fn receive_events()
+    ensures { Tells receive (CallsFits receive_parts receive_plan) (calls_does receive_parts receive_plan) }
+{}
+
+/// What a receive gives speaks of the events that it tells, and what it asked is one of its trails.
+pub fn receive_leaves()
+    ensures leaves { (me : AMe) (s : ℕ) (r0 r : AMemo) (tr : Trail) (a : Result AMade APeekFault) → ReceiveGives me s r0 r tr a → ReceiveLeaves (receiving me s) r0 r tr (receive_told me s tr) a }
+    ensures trail { (me : AMe) (s : ℕ) (r0 r : AMemo) (tr : Trail) (a : Result AMade APeekFault) → ReceiveGives me s r0 r tr a → plan_trail receive_plan (receiving me s) tr a }
 {}

@@ -15,11 +15,12 @@ pub mod send;
 pub mod take;
 
 pub use answer::{PeekFault, SendFault, TakeFault};
-pub use bound::{drain_bound, peek_bound, send_bound, take_bound};
+pub use bound::{drain_bound, peek_bound, receive_bound, send_bound, take_bound};
 pub use drain::{Drain, Draining};
 pub use events::{
-    drain_begins, drain_events, drain_leaves, peek_begins, peek_events, peek_leaves, send_begins,
-    send_events, send_leaves, take_begins, take_events, take_leaves,
+    drain_begins, drain_events, drain_leaves, peek_begins, peek_events, peek_leaves,
+    receive_begins, receive_events, receive_leaves, send_begins, send_events, send_leaves,
+    take_begins, take_events, take_leaves,
 };
 pub use peek::{Peek, Peeking};
 pub use receive::{Receive, Receiving};

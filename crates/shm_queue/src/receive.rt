@@ -90,7 +90,10 @@ impl Plan for Receiving {
     #[inline(always)]
     fn call(&self) -> Or<Peek, Take> {
         let ReceiveState {
-            me, from, point, ..
+            me,
+            from,
+            point,
+            ..
         } = self.state;
         match point {
             ReceivePoint::Look => Or::First(Calls::new(Peeking::new(me, from))),
