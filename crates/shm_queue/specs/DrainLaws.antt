@@ -239,7 +239,7 @@ module _ (m : DrainState) (r0 rs r : Memo) (tr t : Trail) (es ds : List Event) (
         last = t;
         spent = spent;
         refused = elim g [
-          | inl n ↦ inl (n, (let bound = within_more (12 * length h.items + 2 * m.from + tear_steps (frees es) + 1) 11 tr t h.bound n.bound in omega arith))
+          | inl n ↦ inl (n, (let bound = within_more (12 * length h.items + 2 * m.from + tear_steps (frees es) + 1) 4 tr t h.bound n.bound in omega arith))
           | inr n ↦ inr (n, (let bound = within_more (12 * length h.items + 2 * m.from + tear_steps (frees es) + 1) (12 + tear_steps (frees ds + length n.left)) tr t h.bound n.bound in omega arith))
         ];
       }

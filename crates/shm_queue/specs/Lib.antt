@@ -4,6 +4,7 @@ pub mod QueueSteps
 pub mod SendControl
 pub mod SendFits
 pub mod SendLaws
+pub mod Refusals
 pub mod TakeControl
 pub mod TakeFits
 pub mod TakeMemos

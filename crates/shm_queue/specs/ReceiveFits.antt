@@ -53,7 +53,7 @@ pub record ReceiveStopped (me : Me) (s : ℕ) (r0 r : Memo) (tr : Trail) (es : L
   pub root : ℕ
   pub look : IsPeeked me s block root r0 tr es
   pub spent : 2 ^ 47 - 3 < era
-  pub refused : (NotTaken me s look.q r look.next look.after era × IsWithin 38 tr) ⊎ ((t : TakeStopped me s look.q r look.next look.after era) × IsWithin (39 + tear_steps (frees es + length t.left)) tr)
+  pub refused : (NotTaken me s look.q r look.next look.after era × IsWithin 31 tr) ⊎ ((t : TakeStopped me s look.q r look.next look.after era) × IsWithin (39 + tear_steps (frees es + length t.left)) tr)
 
 abbrev pub ReceiveRefused : ReceiveState → Memo → Memo → Trail → List Event → PeekFault → Type 0
 ReceiveRefused m r0 r tr es (EraSpent e) = PeekRefused (peeking m.me m.from) r0 r tr es (EraSpent e) ⊎ ReceiveStopped m.me m.from r0 r tr es e

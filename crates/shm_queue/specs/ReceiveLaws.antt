@@ -114,7 +114,7 @@ module _ (m : ReceiveState) (r0 rs r : Memo) (tr t : Trail) (es ds : List Event)
         look = peeked h;
         spent = g.0;
         refused = elim g.1 [
-          | inl n ↦ inl (n, (let bound = within_more (12 + m.root) 11 tr t p.bound n.bound in omega arith))
+          | inl n ↦ inl (n, (let bound = within_more (12 + m.root) 4 tr t p.bound n.bound in omega arith))
           | inr n ↦ inr (n, (let bound = within_more (12 + m.root) (12 + tear_steps (frees ds + length n.left)) tr t p.bound n.bound in omega arith))
         ];
       })

@@ -19,11 +19,11 @@ pub fn send_bound()
 {}
 
 /// A take took at most 12 word steps and 164 for each block that it freed or left on the way, and three more for each exchange that
-/// failed; one of an empty queue took two.
+/// failed; one of an empty queue took two, and one that was refused before the item was taken four.
 pub fn take_bound()
     ensures done { (me : AMe) (s : ℕ) (r0 r : AMemo) (tr : Trail) → TakeGives me s r0 r tr (Ok tt) → IsWithin (12 + tear_steps (frees (take_told me s tr))) tr }
     ensures empty { (me : AMe) (s n : ℕ) (r0 r : AMemo) (tr : Trail) → TakeGives me s r0 r tr (Err (IsEmpty n)) → IsWithin 2 tr }
-    ensures spent { (me : AMe) (s e : ℕ) (r0 r : AMemo) (tr : Trail) → TakeGives me s r0 r tr (Err (IsSpent e)) → IsWithin 11 tr ⊎ ((t : TakeStopped me s r0 r tr (take_told me s tr) e) × IsWithin (12 + tear_steps (frees (take_told me s tr) + length t.left)) tr) }
+    ensures spent { (me : AMe) (s e : ℕ) (r0 r : AMemo) (tr : Trail) → TakeGives me s r0 r tr (Err (IsSpent e)) → IsWithin 4 tr ⊎ ((t : TakeStopped me s r0 r tr (take_told me s tr) e) × IsWithin (12 + tear_steps (frees (take_told me s tr) + length t.left)) tr) }
 {}
 
 /// A peek took at most 27 word steps, and three more for each exchange that failed.
@@ -32,7 +32,7 @@ pub fn peek_bound()
 {}
 
 /// A drain in a pool of n clients took at most 12 word steps for each item that it took, 164 for each block that it freed, 2 n and 4 more,
-/// and three more for each exchange that failed. Where a take was refused that one counts as an item, and the blocks that it left as freed.
+/// and three more for each exchange that failed.
 pub fn drain_bound()
     ensures done { (me : AMe) (n : ℕ) (r0 r : AMemo) (tr : Trail) → DrainGives me r0 r tr (Ok n) → IsWithin (drain_steps me.geometry.clients n (frees (drain_told me tr))) tr }
 {}
