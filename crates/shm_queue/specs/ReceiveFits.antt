@@ -1,5 +1,5 @@
 -- a receive as a plan: what is known before each call, and what is left
-use Rattle.std.specs.Prelude.{◌≡◌, ℕ, ◌+◌, ◌-◌, ◌^◌, ◌<◌, ◌≤◌, true, false, ◌⊎◌, Result, Ok, Err, List, [], ◌++◌, length}
+use Rattle.std.specs.Prelude.{◌≡◌, ℕ, ◌+◌, ◌-◌, ◌^◌, ◌<◌, ◌⊎◌, Result, Ok, Err, List, [], ◌++◌, length}
 use Rattle.shm_graph.specs.declared.ask.Me.{Me}
 use Rattle.shm_graph.specs.declared.memo.Memo.{Memo}
 use Rattle.shm_graph.specs.Asks.{Trail, IsWithin}
@@ -13,7 +13,7 @@ use Rattle.shm_calls.specs.Plans.{Planned}
 use Rattle.shm_count.specs.declared.answer.Made.{Made}
 use Rattle.shm_count.specs.TearEvents.{frees}
 use Rattle.shm_queue.specs.declared.answer.PeekFault.{PeekFault}
-use Rattle.shm_queue.specs.declared.answer.PeekFault.TheVariants.{Empty, EraSpent, RootsFull, CountFull}
+use Rattle.shm_queue.specs.declared.answer.PeekFault.TheVariants.{EraSpent}
 use Rattle.shm_queue.specs.declared.receive.ReceivePoint.{ReceivePoint}
 use Rattle.shm_queue.specs.declared.receive.ReceivePoint.TheVariants.{Look, Item}
 use Rattle.shm_queue.specs.declared.receive.ReceiveState.{ReceiveState}

@@ -1,9 +1,9 @@
 -- what is owed of a receive: the peek leads on to the take, or to what is left
-use Rattle.std.proofs.Common.{◌≡◌, ℕ, ◌+◌, ◌<◌, ◌≤◌, refl, sym, ap, ◌∙◌, subst, arith, Bool, true, false, List, [], ◌∷◌, ◌++◌, length, inl, inr}
+use Rattle.std.proofs.Common.{◌≡◌, ◌+◌, refl, sym, ap, ◌∙◌, subst, arith, List, ◌++◌, length, inl, inr}
 use Rattle.std.specs.Prelude.{Result, Ok, Err, slice_index}
 use Rattle.shm_graph.specs.declared.spot.Spot.TheVariants as spot
 use Rattle.shm_graph.specs.declared.memo.Memo.{Memo}
-use Rattle.shm_graph.specs.Asks.{Trail, IsWithin}
+use Rattle.shm_graph.specs.Asks.{Trail}
 use Rattle.shm_graph.specs.Bounds.{tear_steps}
 use Rattle.shm_graph.specs.Events.{Event}
 use Rattle.shm_graph.specs.Views.{own_word}
@@ -26,12 +26,12 @@ use Rattle.shm_queue.specs.declared.receive.ReceiveState.{ReceiveState}
 use Rattle.shm_queue.specs.DrainControl.{take_control}
 use Rattle.shm_queue.specs.DrainItems.{frees_append}
 use Rattle.shm_queue.specs.PeekControl.{peek_parts, peeking}
-use Rattle.shm_queue.specs.PeekFits.{MayPeekFrom, Peeked, PeekLeaves, PeekRefused, peek_plan}
+use Rattle.shm_queue.specs.PeekFits.{MayPeekFrom, PeekLeaves, PeekRefused, peek_plan}
 use Rattle.shm_queue.specs.PeekLaws.{peek_laws}
 use Rattle.shm_queue.specs.ReceiveControl.{ReceiveAnswer, receive_call_at, receive_parts, is_look, peek_control}
 use Rattle.shm_queue.specs.ReceiveFits.{ReceiveKnows, ReceiveRefused, IsPeeked, receive_part, receive_plan}
 use Rattle.shm_queue.specs.TakeControl.{take_parts, taking}
-use Rattle.shm_queue.specs.TakeFits.{MayTakeFrom, TakeLeaves, take_plan}
+use Rattle.shm_queue.specs.TakeFits.{TakeLeaves, take_plan}
 use Rattle.shm_queue.specs.TakeLaws.{take_laws}
 
 stays : (m : ReceiveState) (b : ReceiveAnswer) → PlanStays receive_parts receive_plan m b

@@ -1,23 +1,20 @@
 -- a step down that is refused for want of eras makes one word step
-use Rattle.std.proofs.Common.{◌≡◌, ℕ, zero, suc, refl, ap, ◌∙◌, arith, Bool, true, false, List, [], ◌∷◌, length}
-use Rattle.std.specs.Prelude.{◌&&◌, ◌==◌, nat_lt, Result, Ok, Err}
+use Rattle.std.proofs.Common.{◌≡◌, ℕ, zero, suc, ap, ◌∙◌, arith, Bool, true, false, length}
+use Rattle.std.specs.Prelude.{◌==◌, nat_lt, Result, Ok, Err}
 use Rattle.shm_words.specs.Headers.{header_of}
-use Rattle.shm_graph.specs.declared.ask.Ask.{Ask}
 use Rattle.shm_graph.specs.declared.ask.Me.{Me}
 use Rattle.shm_graph.specs.declared.spot.Spot.{Spot}
-use Rattle.shm_graph.specs.Asks.{Trail, pair}
-use Rattle.shm_graph.specs.Trails.{Answers, Asked, Chosen}
+use Rattle.shm_graph.specs.Asks.{Trail}
+use Rattle.shm_graph.specs.Trails.{Answers, Chosen}
 use Rattle.shm_calls.specs.Parts.{Part, PartLaws}
 use Rattle.shm_count.specs.declared.answer.EraSpent.{EraSpent as ASpent}
-use Rattle.shm_count.specs.declared.answer.UpFault.{UpFault}
 use Rattle.shm_count.specs.declared.answer.UpFault.TheVariants.{EraSpent, CountFull}
 use Rattle.shm_count.specs.declared.point.Aim.TheVariants.{Down}
-use Rattle.shm_count.specs.declared.point.Part.TheVariants.{First}
 use Rattle.shm_count.specs.declared.point.StepState.{StepState}
 use Rattle.shm_count.specs.SlotParts.{down_slot_part, down_slot_laws}
 use Rattle.shm_count.specs.StepControl.{last_era}
 use Rattle.shm_count.specs.StepMachines.{down_control, down_told}
-use Rattle.shm_count.specs.StepTrail.{StepTrails, end_trail, exchange_trail, header_trail, redo_trail, row_trail, set_trail, show_trail, slot_trail, step_trail}
+use Rattle.shm_count.specs.StepTrail.{StepTrails, exchange_trail, header_trail, redo_trail, row_trail, set_trail, show_trail, slot_trail, step_trail}
 
 -- ---- the trail
 

@@ -1,5 +1,5 @@
 -- a take as a plan: what is known before each call, and what is left
-use Rattle.std.specs.Prelude.{◌≡◌, ◌≢◌, ℕ, ◌+◌, ◌*◌, ◌-◌, ◌%◌, ◌^◌, ◌<◌, ◌≤◌, ◌⊎◌, Bool, true, false, Result, Ok, Err, List, [], ◌∷◌, length, slice_index}
+use Rattle.std.specs.Prelude.{◌≡◌, ◌≢◌, ℕ, ◌+◌, ◌-◌, ◌%◌, ◌^◌, ◌<◌, ◌≤◌, ◌⊎◌, Bool, true, false, Result, Ok, Err, List, [], ◌∷◌, length, slice_index}
 use Rattle.std.specs.List.{Contains, filter}
 use Rattle.shm_words.specs.Layout.{GeometryFits, total_of}
 use Rattle.shm_graph.specs.declared.ask.Ask.{Ask}
@@ -22,13 +22,11 @@ use Rattle.shm_graph.specs.Stores.{head_stored, lane_with, other_than}
 use Rattle.shm_graph.specs.Views.{own_word}
 use Rattle.shm_steps.specs.Conditions.{IsHere}
 use Rattle.shm_steps.specs.WordParts.{CountLoaded, HeadSlotLoaded, HeadStored, IsHeadSlot}
-use Rattle.shm_calls.specs.declared.word.Word.{Word}
 use Rattle.shm_calls.specs.Either.{or_part}
 use Rattle.shm_calls.specs.Grown.{Grows, grown}
 use Rattle.shm_calls.specs.Parts.{IsHeld, Part}
 use Rattle.shm_calls.specs.Plans.{Planned}
 use Rattle.shm_calls.specs.Words.{word_part}
-use Rattle.shm_count.specs.declared.answer.EraSpent.{EraSpent as ASpent}
 use Rattle.shm_count.specs.CountParts.{tear_part}
 use Rattle.shm_count.specs.Lowering.{StoppedAt}
 use Rattle.shm_count.specs.Roots.{rest}

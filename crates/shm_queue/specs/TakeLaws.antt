@@ -1,30 +1,22 @@
 -- what is owed of a take: each call leads on, to the next one or to what is left
-use Rattle.std.proofs.Common.{◌≡◌, ◌≢◌, ℕ, ◌+◌, ◌*◌, ◌%◌, ◌^◌, ◌<◌, ◌≤◌, refl, sym, ap, ◌∙◌, subst, arith, Bool, true, false, List, [], ◌∷◌, ◌++◌, append-nil, length, inl, inr}
+use Rattle.std.proofs.Common.{◌≡◌, ◌≢◌, ℕ, ◌+◌, ◌%◌, ◌^◌, ◌<◌, refl, sym, ap, ◌∙◌, subst, arith, Bool, true, false, List, [], ◌∷◌, ◌++◌, append-nil, length, inl, inr}
 use Rattle.std.specs.Prelude.{◌==◌, if◌then◌else◌, Some, None, Result, Ok, Err, slice_index}
 use Rattle.std.specs.List.{Contains, filter}
 use Rattle.std.proofs.Math.Nat.{mod-eq_of_lt}
-use Rattle.std.proofs.lemmas.Bool.{eq-eqb, eqb-false, eqb-true}
+use Rattle.std.proofs.lemmas.Bool.{eqb-false, eqb-true}
 use Rattle.std.proofs.lemmas.List.Elements.{Contains-push}
-use Rattle.shm_words.proofs.Placing.{total_small}
 use Rattle.shm_graph.specs.declared.ask.Ask.TheVariants as ask
-use Rattle.shm_graph.specs.declared.ask.Me.{Me}
 use Rattle.shm_graph.specs.declared.spot.Spot.TheVariants as spot
-use Rattle.shm_graph.specs.declared.memo.Fact.TheVariants.{Counter}
 use Rattle.shm_graph.specs.declared.memo.Memo.{Memo}
-use Rattle.shm_graph.specs.declared.memo.Op.TheVariants.{Nothing}
-use Rattle.shm_graph.specs.declared.memo.Stored.{Stored}
-use Rattle.shm_graph.specs.Agents.{recovers}
 use Rattle.shm_graph.specs.Asks.{Trail, IsWithin}
 use Rattle.shm_graph.specs.Bounds.{tear_steps}
 use Rattle.shm_graph.specs.Core.{core}
 use Rattle.shm_graph.specs.Events.{Event}
 use Rattle.shm_graph.specs.Events as event
 use Rattle.shm_graph.specs.Laws.{Outcome}
-use Rattle.shm_graph.specs.Reach.{learnt}
-use Rattle.shm_graph.specs.Readings.{valued}
 use Rattle.shm_graph.specs.Stores.{head_stored, not_block}
 use Rattle.shm_graph.specs.Views.{own_word}
-use Rattle.shm_steps.specs.WordParts.{CountLoaded, HeadSlotLoaded, HeadStored}
+use Rattle.shm_steps.specs.WordParts.{HeadSlotLoaded}
 use Rattle.shm_steps.proofs.Cores.{here_same}
 use Rattle.shm_steps.proofs.WordsOwn.{head_load}
 use Rattle.shm_steps.proofs.WordsQueues.{head_slot_load, head_store}
@@ -39,24 +31,23 @@ use Rattle.shm_count.specs.declared.answer.EraSpent.{EraSpent as ASpent}
 use Rattle.shm_count.specs.declared.point.Aim.TheVariants as aims
 use Rattle.shm_count.specs.CountParts.{tear_part, tear_part_laws}
 use Rattle.shm_count.specs.Lowering.{torn_leaves, without_new}
-use Rattle.shm_count.specs.SlotLeaves.{Lost, StepLeft}
-use Rattle.shm_count.specs.SlotParts.{era_room}
+use Rattle.shm_count.specs.SlotLeaves.{StepLeft}
 use Rattle.shm_count.specs.StepMachines.{down_control, down_told}
 use Rattle.shm_count.specs.StepTrail.{step_trail}
 use Rattle.shm_count.specs.TearControl.{tear_control}
 use Rattle.shm_count.specs.TearEvents.{frees}
 use Rattle.shm_count.specs.TearFits.{TearLeaves}
-use Rattle.shm_queue.specs.declared.answer.TakeFault.TheVariants.{Empty, EraSpent}
+use Rattle.shm_queue.specs.declared.answer.TakeFault.TheVariants.{Empty}
 use Rattle.shm_queue.specs.declared.take.TakePoint.{TakePoint}
 use Rattle.shm_queue.specs.declared.take.TakePoint.TheVariants.{Head, Tail, Slot, Lower, Store, Tear}
 use Rattle.shm_queue.specs.declared.take.TakeState.{TakeState}
 use Rattle.shm_queue.specs.HeadReads.{has_item, head_read, is_empty, item_read}
 use Rattle.shm_queue.specs.QueueSteps.{put_here, take_may}
-use Rattle.shm_queue.specs.QueueWords.{TailSeen, head_small, item_inside, tail_seen}
+use Rattle.shm_queue.specs.QueueWords.{TailSeen, head_small, tail_seen}
 use Rattle.shm_queue.specs.Refusals.{lower_laws, lower_part, spent_one}
 use Rattle.shm_queue.specs.SendLaws.{untouched_core}
 use Rattle.shm_queue.specs.TakeControl.{TakeAnswer, take_parts, taking, head_at, slot_at, take_call_at, is_head}
-use Rattle.shm_queue.specs.TakeFits.{MayTakeFrom, IsHeadRead, IsItemRead, IsOut, IsReceived, TakeKnows, TakeLeaves, TakeFound, slot_memo, taken_memo, take_ask, take_part, take_plan}
+use Rattle.shm_queue.specs.TakeFits.{IsHeadRead, IsItemRead, IsOut, IsReceived, TakeKnows, TakeLeaves, TakeFound, slot_memo, taken_memo, take_ask, take_part, take_plan}
 use Rattle.shm_queue.specs.TakeMemos.{lost_core, lost_stored, received_of}
 
 stays : (m : TakeState) (y : TakePoint) (b : TakeAnswer) → PlanStays take_parts take_plan (record m { point = y }) b
