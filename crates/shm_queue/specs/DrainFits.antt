@@ -1,5 +1,5 @@
 -- a drain as a plan: what is known before each call, and what is left
-use Rattle.std.specs.Prelude.{◌≡◌, ◌≢◌, ℕ, ◌+◌, ◌*◌, ◌-◌, ◌^◌, ◌<◌, ◌≤◌, ◌==◌, if◌then◌else◌, ◌⊎◌, Bool, true, false, Result, Ok, Err, List, [], ◌∷◌, ◌++◌, length, slice_index, slice_index_or}
+use Rattle.std.specs.Prelude.{◌≡◌, ◌≢◌, ℕ, ◌+◌, ◌*◌, ◌-◌, ◌^◌, ◌<◌, ◌≤◌, ◌==◌, if◌then◌else◌, ◌⊎◌, true, false, Result, Ok, Err, List, [], ◌∷◌, ◌++◌, length, slice_index, slice_index_or}
 use Rattle.std.specs.List.{Contains}
 use Rattle.shm_words.specs.Layout.{GeometryFits}
 use Rattle.shm_graph.specs.declared.ask.Me.{Me}
@@ -115,7 +115,7 @@ pub record DrainStopped (me : Me) (r0 r : Memo) (tr : Trail) (es : List Event) (
   pub split : es ≡ before ++ after
   pub last : Trail
   pub spent : 2 ^ 47 - 3 < era
-  pub refused : (NotTaken me from q r last after era × IsWithin (drain_steps me.geometry.clients (length items + 1) (frees es)) tr) ⊎ ((t : TakeStopped me from q r last after era) × IsWithin (drain_steps me.geometry.clients (length items + 1) (frees es + length t.left)) tr)
+  pub refused : (NotTaken me from q r last after era × IsWithin (drain_steps me.geometry.clients (length items) (frees es)) tr) ⊎ ((t : TakeStopped me from q r last after era) × IsWithin (drain_steps me.geometry.clients (length items + 1) (frees es + length t.left)) tr)
 
 abbrev pub DrainLeaves : DrainState → Memo → Memo → Trail → List Event → Result ℕ EraSpent → Type 0
 DrainLeaves m r0 r tr es (Ok n) = DrainDone m.me n r0 r tr es

@@ -1,12 +1,11 @@
 -- what is owed of a drain: each call leads on, to the next one or to what is left
-use Rattle.std.proofs.Common.{◌≡◌, ◌≢◌, ℕ, ◌+◌, ◌*◌, ◌%◌, ◌^◌, ◌<◌, ◌≤◌, ◌⊎◌, refl, sym, ap, ◌∙◌, subst, arith, append-nil, Bool, true, false, List, [], ◌∷◌, ◌++◌, length, inl, inr}
-use Rattle.std.specs.Prelude.{◌==◌, nat_lt, if◌then◌else◌, Option, Some, None, Result, Ok, Err, slice_index}
+use Rattle.std.proofs.Common.{◌≡◌, ◌≢◌, ℕ, ◌+◌, ◌*◌, ◌^◌, ◌<◌, ◌≤◌, ◌⊎◌, refl, sym, ap, ◌∙◌, subst, arith, append-nil, Bool, true, false, List, [], ◌∷◌, ◌++◌, length, inl, inr}
+use Rattle.std.specs.Prelude.{◌==◌, nat_lt, if◌then◌else◌, Option, Some, None, Result, Ok, Err}
 use Rattle.std.specs.List.{Contains}
 use Rattle.std.proofs.Math.Nat.{mod-eq_of_lt}
 use Rattle.std.proofs.lemmas.Bool.{cases_eq, eqb-false, eqb-true}
 use Rattle.std.proofs.lemmas.Bool.Decides.{nat_tests}
 use Rattle.std.proofs.lemmas.List.{length-append}
-use Rattle.shm_graph.specs.declared.ask.Me.{Me}
 use Rattle.shm_graph.specs.declared.spot.Spot.TheVariants.{Front, Tail}
 use Rattle.shm_graph.specs.declared.memo.Fact.TheVariants.{Counter}
 use Rattle.shm_graph.specs.declared.memo.Memo.{Memo}
@@ -29,7 +28,6 @@ use Rattle.shm_calls.specs.Plans.{PlanLaws, PlanStays, IsCall, Follows}
 use Rattle.shm_calls.specs.Words.{word_control, word_part, word_part_laws, WordLeaves}
 use Rattle.shm_count.specs.declared.answer.EraSpent.{EraSpent}
 use Rattle.shm_count.specs.TearEvents.{frees}
-use Rattle.shm_queue.specs.declared.answer.TakeFault.{TakeFault}
 use Rattle.shm_queue.specs.declared.answer.TakeFault.TheVariants as fault
 use Rattle.shm_queue.specs.declared.drain.DrainPoint.{DrainPoint}
 use Rattle.shm_queue.specs.declared.drain.DrainPoint.TheVariants.{Status, Item}
@@ -39,7 +37,7 @@ use Rattle.shm_queue.specs.DrainFits.{AreEmpty, Drained, DrainKnows, DrainLeaves
 use Rattle.shm_queue.specs.DrainItems.{drained_core, drained_more, drained_none, events_more, frees_append, same_head}
 use Rattle.shm_queue.specs.QueueWords.{head_low}
 use Rattle.shm_queue.specs.TakeControl.{take_parts, taking}
-use Rattle.shm_queue.specs.TakeFits.{MayTakeFrom, TakeDone, TakeEmpty, TakeLeaves, TakeRefused, take_plan}
+use Rattle.shm_queue.specs.TakeFits.{MayTakeFrom, TakeDone, TakeEmpty, TakeRefused, take_plan}
 use Rattle.shm_queue.specs.TakeLaws.{take_laws}
 
 -- ---- senders
@@ -57,8 +55,8 @@ next_sender : (c s : ℕ) → s ≢ c → (next_from c s ≢ c) × (s < next_fro
 next_sender c s other = go (s + 1 == c) (eqb-true (s + 1) c) (eqb-false (s + 1) c)
   where
     go : (q : Bool) → (q ≡ true → s + 1 ≡ c) → (q ≡ false → (s + 1) ≢ c) → let f : ℕ = if q then s + 2 else s + 1 in (f ≢ c) × (s < f) × (f ≤ s + 2) × ((j : ℕ) → j < f → j ≢ c → (j < s) ⊎ (j ≡ s))
-    go true is n = let e = is refl in (λ z. absurd (omega arith), omega arith, omega arith, λ j l o. elim (cases_eq j s) [ | inl k ↦ inr k | inr k ↦ inl (omega arith) ])
-    go false is n = let e = n refl in (e, omega arith, omega arith, λ j l o. elim (cases_eq j s) [ | inl k ↦ inr k | inr k ↦ inl (omega arith) ])
+    go true is n = let e = is refl in (λ z. absurd (omega arith), omega arith, omega arith, λ j l o. elim (cases_eq j s) [ inl k ↦ inr k | inr k ↦ inl (omega arith) ])
+    go false is n = let e = n refl in (e, omega arith, omega arith, λ j l o. elim (cases_eq j s) [ inl k ↦ inr k | inr k ↦ inl (omega arith) ])
 
 -- ---- turning to a sender
 
@@ -239,7 +237,7 @@ module _ (m : DrainState) (r0 rs r : Memo) (tr t : Trail) (es ds : List Event) (
         last = t;
         spent = spent;
         refused = elim g [
-          | inl n ↦ inl (n, (let bound = within_more (12 * length h.items + 2 * m.from + tear_steps (frees es) + 1) 11 tr t h.bound n.bound in omega arith))
+          | inl n ↦ inl (n, (let bound = within_more (12 * length h.items + 2 * m.from + tear_steps (frees es) + 1) 4 tr t h.bound n.bound in omega arith))
           | inr n ↦ inr (n, (let bound = within_more (12 * length h.items + 2 * m.from + tear_steps (frees es) + 1) (12 + tear_steps (frees ds + length n.left)) tr t h.bound n.bound in omega arith))
         ];
       }

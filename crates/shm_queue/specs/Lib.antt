@@ -4,6 +4,7 @@ pub mod QueueSteps
 pub mod SendControl
 pub mod SendFits
 pub mod SendLaws
+pub mod Refusals
 pub mod TakeControl
 pub mod TakeFits
 pub mod TakeMemos
@@ -16,4 +17,7 @@ pub mod DrainControl
 pub mod DrainFits
 pub mod DrainItems
 pub mod DrainLaws
+pub mod ReceiveControl
+pub mod ReceiveFits
+pub mod ReceiveLaws
 pub mod Machines

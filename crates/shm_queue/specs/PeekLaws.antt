@@ -1,18 +1,14 @@
 -- what is owed of a peek: each call leads on, to the next one or to what is left
-use Rattle.std.proofs.Common.{◌≡◌, ◌≢◌, ℕ, ◌+◌, ◌%◌, ◌^◌, ◌<◌, ◌≤◌, refl, sym, ap, ◌∙◌, subst, arith, Bool, true, false, List, [], ◌∷◌, ◌++◌}
+use Rattle.std.proofs.Common.{◌≡◌, ◌≢◌, ℕ, ◌+◌, ◌%◌, ◌≤◌, refl, sym, ap, ◌∙◌, subst, arith, Bool, true, false, List, [], ◌++◌}
 use Rattle.std.specs.Prelude.{◌==◌, if◌then◌else◌, Some, None, Result, Ok, Err}
-use Rattle.std.specs.List.{Contains}
 use Rattle.std.proofs.lemmas.Bool.{eqb-false, eqb-true}
-use Rattle.shm_graph.specs.declared.ask.Me.{Me}
 use Rattle.shm_graph.specs.declared.spot.Spot.TheVariants as spot
 use Rattle.shm_graph.specs.declared.memo.Fact.TheVariants.{Counter}
 use Rattle.shm_graph.specs.declared.memo.Memo.{Memo}
 use Rattle.shm_graph.specs.declared.memo.Stored.{Stored}
-use Rattle.shm_graph.specs.Agents.{recovers}
 use Rattle.shm_graph.specs.Asks.{Trail, IsWithin}
 use Rattle.shm_graph.specs.Core.{core}
 use Rattle.shm_graph.specs.Events.{Event}
-use Rattle.shm_graph.specs.Events as event
 use Rattle.shm_graph.specs.Laws.{Outcome}
 use Rattle.shm_graph.specs.Views.{own_word}
 use Rattle.shm_steps.specs.WordParts.{HeadSlotLoaded}
@@ -35,12 +31,12 @@ use Rattle.shm_queue.specs.declared.answer.PeekFault.TheVariants.{Empty}
 use Rattle.shm_queue.specs.declared.peek.PeekPoint.{PeekPoint}
 use Rattle.shm_queue.specs.declared.peek.PeekPoint.TheVariants.{Head, Tail, Slot, Share}
 use Rattle.shm_queue.specs.declared.peek.PeekState.{PeekState}
-use Rattle.shm_queue.specs.HeadReads.{grows_later, has_item, head_read, is_empty, item_read}
+use Rattle.shm_queue.specs.HeadReads.{has_item, head_read, is_empty, item_read}
 use Rattle.shm_queue.specs.PeekControl.{PeekAnswer, peek_parts, peeking, peek_call_at, is_head}
-use Rattle.shm_queue.specs.PeekFits.{MayPeekFrom, NotPeeked, PeekKnows, PeekLeaves, PeekFound, peek_ask, peek_part, peek_plan}
+use Rattle.shm_queue.specs.PeekFits.{NotPeeked, PeekKnows, PeekLeaves, PeekFound, peek_ask, peek_part, peek_plan}
 use Rattle.shm_queue.specs.QueueWords.{TailSeen, item_reached, tail_seen}
 use Rattle.shm_queue.specs.SendLaws.{filled_core, untouched_core}
-use Rattle.shm_queue.specs.TakeFits.{IsHeadRead, IsItemRead, slot_memo}
+use Rattle.shm_queue.specs.TakeFits.{IsItemRead, slot_memo}
 
 -- nothing was touched where the core is the same
 untouched_now : (c : ℕ) (m r : Memo) → core r ≡ core m → Untouched c m r

@@ -1,5 +1,5 @@
 -- count steps at slots of queues: when they may begin, and what their slots leave of partitions and of lists
-use Rattle.std.proofs.Common.{◌≡◌, ◌≢◌, ℕ, ◌+◌, ◌%◌, ◌^◌, ◌<◌, ◌≤◌, refl, sym, ap, ◌∙◌, subst, arith, Bool, true, false, List, inl, inr}
+use Rattle.std.proofs.Common.{◌≡◌, ◌≢◌, ℕ, ◌+◌, ◌%◌, ◌^◌, ◌<◌, refl, sym, ap, ◌∙◌, arith, true, false, List, inl}
 use Rattle.std.specs.Prelude.{slice_index}
 use Rattle.std.specs.List.{Contains}
 use Rattle.std.proofs.lemmas.Bool.{and_from, cond-true, eq-eqb, lt-ltb, true≢false}
@@ -7,7 +7,6 @@ use Rattle.shm_words.specs.declared.place.Place.TheVariants as place
 use Rattle.shm_words.specs.Layout.{GeometryFits, address, is_in, total_of}
 use Rattle.shm_words.proofs.Placing.{address_small, total_small}
 use Rattle.shm_graph.specs.declared.ask.Me.{Me}
-use Rattle.shm_graph.specs.declared.spot.Spot.{Spot}
 use Rattle.shm_graph.specs.declared.spot.Spot.TheVariants.{Era, Front, Slot, Spare, Tail}
 use Rattle.shm_graph.specs.declared.memo.Fact.TheVariants.{Counter}
 use Rattle.shm_graph.specs.declared.memo.Memo.{Memo}
@@ -17,7 +16,7 @@ use Rattle.shm_graph.specs.declared.table.Part.TheVariants.{Loose, Table}
 use Rattle.shm_graph.specs.Agents.{recovers}
 use Rattle.shm_graph.specs.Held.{is_loose}
 use Rattle.shm_graph.specs.Reach.{is_reached}
-use Rattle.shm_graph.specs.Spots.{spot_address, spot_at}
+use Rattle.shm_graph.specs.Spots.{spot_address}
 use Rattle.shm_graph.specs.Stores.{put}
 use Rattle.shm_graph.specs.Views.{own_word}
 use Rattle.shm_graph.proofs.SpotPlaces.{spot-place}
@@ -26,7 +25,6 @@ use Rattle.shm_steps.specs.Conditions.{IsHere}
 use Rattle.shm_steps.specs.Raising.{is_read}
 use Rattle.shm_steps.specs.Reparting.{Sight}
 use Rattle.shm_steps.proofs.Items.{put_at}
-use Rattle.shm_count.specs.declared.point.Aim.{Aim}
 use Rattle.shm_count.specs.declared.point.Aim.TheVariants.{Up, Down}
 use Rattle.shm_count.specs.declared.point.StepPoint.TheVariants as point
 use Rattle.shm_count.specs.declared.point.StepState.{StepState}

@@ -1,5 +1,5 @@
 -- a send as a plan: what is known before each call, and what is left
-use Rattle.std.specs.Prelude.{◌≡◌, ◌≢◌, ℕ, ◌+◌, ◌-◌, ◌%◌, ◌^◌, ◌<◌, ◌≤◌, Bool, true, false, Result, Ok, Err, List, [], ◌∷◌, slice_index}
+use Rattle.std.specs.Prelude.{◌≡◌, ◌≢◌, ℕ, ◌+◌, ◌-◌, ◌%◌, ◌^◌, ◌<◌, ◌≤◌, true, false, Result, Ok, Err, List, [], ◌∷◌, slice_index}
 use Rattle.std.specs.List.{Contains}
 use Rattle.shm_words.specs.Layout.{GeometryFits}
 use Rattle.shm_graph.specs.declared.ask.Ask.{Ask}
@@ -21,7 +21,6 @@ use Rattle.shm_graph.specs.Stores.{lane_with}
 use Rattle.shm_graph.specs.Views.{own_word}
 use Rattle.shm_steps.specs.Conditions.{IsHere}
 use Rattle.shm_steps.specs.WordParts.{CountLoaded, TailStored}
-use Rattle.shm_calls.specs.declared.word.Word.{Word}
 use Rattle.shm_calls.specs.Either.{or_part}
 use Rattle.shm_calls.specs.Parts.{Part}
 use Rattle.shm_calls.specs.Plans.{Planned}

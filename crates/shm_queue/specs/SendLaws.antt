@@ -1,16 +1,13 @@
 -- what is owed of a send: each call leads on, to the next one or to what is left
-use Rattle.std.proofs.Common.{◌≡◌, ◌≢◌, ℕ, ◌+◌, ◌%◌, ◌^◌, ◌<◌, ◌≤◌, refl, sym, ap, ◌∙◌, subst, arith, Bool, true, false, cond, eqb, List, [], ◌∷◌, ◌++◌, length, inl, inr}
+use Rattle.std.proofs.Common.{◌≡◌, ◌≢◌, ℕ, ◌+◌, ◌%◌, ◌^◌, ◌<◌, ◌≤◌, refl, sym, ap, ◌∙◌, subst, arith, Bool, true, false, List, [], ◌∷◌, ◌++◌, length, inl, inr}
 use Rattle.std.specs.Prelude.{◌-◌, ◌==◌, if◌then◌else◌, Some, None, Result, Ok, Err, slice_index}
 use Rattle.std.specs.List.{Contains}
 use Rattle.std.proofs.Math.Nat.{mod-eq_of_lt}
 use Rattle.std.proofs.lemmas.Bool.{cases_eq, cond-false, cond-true, eq-eqb, eqb-false, eqb-true, ne_eqb}
 use Rattle.shm_graph.specs.declared.ask.Ask.TheVariants as ask
-use Rattle.shm_graph.specs.declared.ask.Me.{Me}
 use Rattle.shm_graph.specs.declared.spot.Spot.{Spot}
 use Rattle.shm_graph.specs.declared.spot.Spot.TheVariants as spot
-use Rattle.shm_graph.specs.declared.memo.Fact.TheVariants.{Counter}
 use Rattle.shm_graph.specs.declared.memo.Memo.{Memo}
-use Rattle.shm_graph.specs.declared.memo.Stored.{Stored}
 use Rattle.shm_graph.specs.declared.table.Part.{Part}
 use Rattle.shm_graph.specs.Agents.{recovers}
 use Rattle.shm_graph.specs.Asks.{Trail, IsWithin}
@@ -20,11 +17,10 @@ use Rattle.shm_graph.specs.Events as event
 use Rattle.shm_graph.specs.Held.{is_loose}
 use Rattle.shm_graph.specs.Laws.{Outcome}
 use Rattle.shm_graph.specs.Reach.{is_reached}
-use Rattle.shm_graph.specs.Stores.{lane_with, put, tail_stored}
+use Rattle.shm_graph.specs.Stores.{lane_with, tail_stored}
 use Rattle.shm_graph.specs.Views.{own_word}
 use Rattle.shm_graph.proofs.Spotting.{same_spot_self}
 use Rattle.shm_steps.specs.Reparting.{sight}
-use Rattle.shm_steps.specs.WordParts.{CountLoaded, TailStored}
 use Rattle.shm_steps.proofs.Cores.{here_same}
 use Rattle.shm_steps.proofs.Items.{put_at}
 use Rattle.shm_steps.proofs.WordsOwn.{tail_load}
@@ -46,10 +42,10 @@ use Rattle.shm_queue.specs.declared.answer.SendFault.TheVariants.{QueueFull}
 use Rattle.shm_queue.specs.declared.send.SendPoint.{SendPoint}
 use Rattle.shm_queue.specs.declared.send.SendPoint.TheVariants.{Tail, Head, Up, Store}
 use Rattle.shm_queue.specs.declared.send.SendState.{SendState}
-use Rattle.shm_queue.specs.QueueSteps.{MayPutAt, put_here, put_may, same_part}
+use Rattle.shm_queue.specs.QueueSteps.{put_here, put_may, same_part}
 use Rattle.shm_queue.specs.QueueWords.{HeadSeen, head_seen, reach_inside, tail_small}
 use Rattle.shm_queue.specs.SendControl.{SendAnswer, send_parts, sending, tail_at, send_call_at, is_tail}
-use Rattle.shm_queue.specs.SendFits.{MaySendTo, IsTailRead, IsPut, Sent, SendDone, SendKnows, SendLeaves, SendFound, send_ask, send_part, send_plan}
+use Rattle.shm_queue.specs.SendFits.{IsTailRead, IsPut, Sent, SendKnows, SendLeaves, SendFound, send_ask, send_part, send_plan}
 
 -- ---- memos
 

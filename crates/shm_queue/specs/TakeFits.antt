@@ -1,5 +1,5 @@
 -- a take as a plan: what is known before each call, and what is left
-use Rattle.std.specs.Prelude.{◌≡◌, ◌≢◌, ℕ, ◌+◌, ◌*◌, ◌-◌, ◌%◌, ◌^◌, ◌<◌, ◌≤◌, ◌⊎◌, Bool, true, false, Result, Ok, Err, List, [], ◌∷◌, length, slice_index}
+use Rattle.std.specs.Prelude.{◌≡◌, ◌≢◌, ℕ, ◌+◌, ◌-◌, ◌%◌, ◌^◌, ◌<◌, ◌≤◌, ◌⊎◌, Bool, true, false, Result, Ok, Err, List, [], ◌∷◌, length, slice_index}
 use Rattle.std.specs.List.{Contains, filter}
 use Rattle.shm_words.specs.Layout.{GeometryFits, total_of}
 use Rattle.shm_graph.specs.declared.ask.Ask.{Ask}
@@ -22,18 +22,15 @@ use Rattle.shm_graph.specs.Stores.{head_stored, lane_with, other_than}
 use Rattle.shm_graph.specs.Views.{own_word}
 use Rattle.shm_steps.specs.Conditions.{IsHere}
 use Rattle.shm_steps.specs.WordParts.{CountLoaded, HeadSlotLoaded, HeadStored, IsHeadSlot}
-use Rattle.shm_calls.specs.declared.word.Word.{Word}
 use Rattle.shm_calls.specs.Either.{or_part}
 use Rattle.shm_calls.specs.Grown.{Grows, grown}
 use Rattle.shm_calls.specs.Parts.{IsHeld, Part}
 use Rattle.shm_calls.specs.Plans.{Planned}
 use Rattle.shm_calls.specs.Words.{word_part}
-use Rattle.shm_count.specs.declared.answer.EraSpent.{EraSpent as ASpent}
 use Rattle.shm_count.specs.CountParts.{tear_part}
 use Rattle.shm_count.specs.Lowering.{StoppedAt}
 use Rattle.shm_count.specs.Roots.{rest}
 use Rattle.shm_count.specs.SlotLeaves.{Lost, Sifts, Untouched, emptied}
-use Rattle.shm_count.specs.SlotParts.{down_slot_part}
 use Rattle.shm_count.specs.StepControl.{IsInside}
 use Rattle.shm_count.specs.TearEvents.{Visit, Walks, frees}
 use Rattle.shm_count.specs.TearFits.{CanTear}
@@ -45,6 +42,7 @@ use Rattle.shm_queue.specs.declared.take.TakePoint.TheVariants.{Head, Tail, Slot
 use Rattle.shm_queue.specs.declared.take.TakeState.{TakeState}
 use Rattle.shm_queue.specs.QueueSteps.{MayTakeAt}
 use Rattle.shm_queue.specs.QueueWords.{TailSeen}
+use Rattle.shm_queue.specs.Refusals.{lower_part}
 use Rattle.shm_queue.specs.TakeControl.{TakeCall, TakeAnswer, tail_at, head_at, slot_at, take_call_at, take_after, take_turns, is_head}
 
 -- ---- when it may begin
@@ -171,7 +169,7 @@ pub record NotTaken (me : Me) (s : ℕ) (r0 r : Memo) (tr : Trail) (es : List Ev
   pub spent : era ≡ own_word r0.own (spot.Era me.who me.who)
   pub untouched : Untouched me.who (slot_memo me.who s place block r0) r
   pub none : es ≡ []
-  pub bound : IsWithin 11 tr
+  pub bound : IsWithin 4 tr
 
 -- a step down of the tear-down was refused: the item is taken, and these blocks are zero-count blocks still
 pub record TakeStopped (me : Me) (s : ℕ) (r0 r : Memo) (tr : Trail) (es : List Event) (era : ℕ) : Type 0 where
@@ -210,7 +208,7 @@ TakeFound m Store = HeadStored m.me.who m.from
 TakeFound m y = CountLoaded m.me.who (spot.Front m.from m.me.who)
 
 abbrev pub take_part : TakeState → TakePoint → Part TakeCall TakeAnswer
-take_part m y = grown (is_head y) (or_part (word_part (is_head y) m.me (take_ask m y) (TakeFound m y)) (or_part (down_slot_part (spot.Slot m.from m.me.who (m.at % 8)) true) tear_part))
+take_part m y = grown (is_head y) (or_part (word_part (is_head y) m.me (take_ask m y) (TakeFound m y)) (or_part (lower_part (spot.Slot m.from m.me.who (m.at % 8))) tear_part))
 
 abbrev pub take_plan : Planned TakeState TakeCall TakeAnswer (Result (Unit {0}) TakeFault)
 take_plan =

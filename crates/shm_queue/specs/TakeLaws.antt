@@ -1,30 +1,22 @@
 -- what is owed of a take: each call leads on, to the next one or to what is left
-use Rattle.std.proofs.Common.{◌≡◌, ◌≢◌, ℕ, ◌+◌, ◌*◌, ◌%◌, ◌^◌, ◌<◌, ◌≤◌, refl, sym, ap, ◌∙◌, subst, arith, Bool, true, false, List, [], ◌∷◌, ◌++◌, append-nil, length, inl, inr}
+use Rattle.std.proofs.Common.{◌≡◌, ◌≢◌, ℕ, ◌+◌, ◌%◌, ◌^◌, ◌<◌, refl, sym, ap, ◌∙◌, subst, arith, Bool, true, false, List, [], ◌∷◌, ◌++◌, append-nil, length, inl, inr}
 use Rattle.std.specs.Prelude.{◌==◌, if◌then◌else◌, Some, None, Result, Ok, Err, slice_index}
 use Rattle.std.specs.List.{Contains, filter}
 use Rattle.std.proofs.Math.Nat.{mod-eq_of_lt}
-use Rattle.std.proofs.lemmas.Bool.{eq-eqb, eqb-false, eqb-true}
+use Rattle.std.proofs.lemmas.Bool.{eqb-false, eqb-true}
 use Rattle.std.proofs.lemmas.List.Elements.{Contains-push}
-use Rattle.shm_words.proofs.Placing.{total_small}
 use Rattle.shm_graph.specs.declared.ask.Ask.TheVariants as ask
-use Rattle.shm_graph.specs.declared.ask.Me.{Me}
 use Rattle.shm_graph.specs.declared.spot.Spot.TheVariants as spot
-use Rattle.shm_graph.specs.declared.memo.Fact.TheVariants.{Counter}
 use Rattle.shm_graph.specs.declared.memo.Memo.{Memo}
-use Rattle.shm_graph.specs.declared.memo.Op.TheVariants.{Nothing}
-use Rattle.shm_graph.specs.declared.memo.Stored.{Stored}
-use Rattle.shm_graph.specs.Agents.{recovers}
 use Rattle.shm_graph.specs.Asks.{Trail, IsWithin}
 use Rattle.shm_graph.specs.Bounds.{tear_steps}
 use Rattle.shm_graph.specs.Core.{core}
 use Rattle.shm_graph.specs.Events.{Event}
 use Rattle.shm_graph.specs.Events as event
 use Rattle.shm_graph.specs.Laws.{Outcome}
-use Rattle.shm_graph.specs.Reach.{learnt}
-use Rattle.shm_graph.specs.Readings.{valued}
 use Rattle.shm_graph.specs.Stores.{head_stored, not_block}
 use Rattle.shm_graph.specs.Views.{own_word}
-use Rattle.shm_steps.specs.WordParts.{CountLoaded, HeadSlotLoaded, HeadStored}
+use Rattle.shm_steps.specs.WordParts.{HeadSlotLoaded}
 use Rattle.shm_steps.proofs.Cores.{here_same}
 use Rattle.shm_steps.proofs.WordsOwn.{head_load}
 use Rattle.shm_steps.proofs.WordsQueues.{head_slot_load, head_store}
@@ -39,22 +31,23 @@ use Rattle.shm_count.specs.declared.answer.EraSpent.{EraSpent as ASpent}
 use Rattle.shm_count.specs.declared.point.Aim.TheVariants as aims
 use Rattle.shm_count.specs.CountParts.{tear_part, tear_part_laws}
 use Rattle.shm_count.specs.Lowering.{torn_leaves, without_new}
-use Rattle.shm_count.specs.SlotLeaves.{Lost, StepLeft}
-use Rattle.shm_count.specs.SlotParts.{down_slot_part, down_slot_laws, era_room}
+use Rattle.shm_count.specs.SlotLeaves.{StepLeft}
 use Rattle.shm_count.specs.StepMachines.{down_control, down_told}
+use Rattle.shm_count.specs.StepTrail.{step_trail}
 use Rattle.shm_count.specs.TearControl.{tear_control}
 use Rattle.shm_count.specs.TearEvents.{frees}
 use Rattle.shm_count.specs.TearFits.{TearLeaves}
-use Rattle.shm_queue.specs.declared.answer.TakeFault.TheVariants.{Empty, EraSpent}
+use Rattle.shm_queue.specs.declared.answer.TakeFault.TheVariants.{Empty}
 use Rattle.shm_queue.specs.declared.take.TakePoint.{TakePoint}
 use Rattle.shm_queue.specs.declared.take.TakePoint.TheVariants.{Head, Tail, Slot, Lower, Store, Tear}
 use Rattle.shm_queue.specs.declared.take.TakeState.{TakeState}
 use Rattle.shm_queue.specs.HeadReads.{has_item, head_read, is_empty, item_read}
 use Rattle.shm_queue.specs.QueueSteps.{put_here, take_may}
-use Rattle.shm_queue.specs.QueueWords.{TailSeen, head_small, item_inside, tail_seen}
+use Rattle.shm_queue.specs.QueueWords.{TailSeen, head_small, tail_seen}
+use Rattle.shm_queue.specs.Refusals.{lower_laws, lower_part, spent_one}
 use Rattle.shm_queue.specs.SendLaws.{untouched_core}
-use Rattle.shm_queue.specs.TakeControl.{TakeAnswer, after_word, take_parts, taking, head_at, take_call_at, is_head}
-use Rattle.shm_queue.specs.TakeFits.{MayTakeFrom, IsHeadRead, IsItemRead, IsOut, IsReceived, TakeKnows, TakeLeaves, TakeFound, slot_memo, taken_memo, take_ask, take_part, take_plan}
+use Rattle.shm_queue.specs.TakeControl.{TakeAnswer, take_parts, taking, head_at, slot_at, take_call_at, is_head}
+use Rattle.shm_queue.specs.TakeFits.{IsHeadRead, IsItemRead, IsOut, IsReceived, TakeKnows, TakeLeaves, TakeFound, slot_memo, taken_memo, take_ask, take_part, take_plan}
 use Rattle.shm_queue.specs.TakeMemos.{lost_core, lost_stored, received_of}
 
 stays : (m : TakeState) (y : TakePoint) (b : TakeAnswer) → PlanStays take_parts take_plan (record m { point = y }) b
@@ -124,8 +117,8 @@ module _ (m : TakeState) (r0 rs r : Memo) (tr t : Trail) (es ds : List Event) (h
       subst (λ b. IsItemRead m.me s m.at b r0 r (tr ++ t) (es ++ ds)) (sym item.0) item.1
 
   -- the slot is empty, or nothing was done
-  lowered : (a : Result Bool ASpent) → IsItemRead m.me s m.at m.block r0 rs tr es → StepLeft m.me (aims.Down m.block) (spot.Slot s c (m.at % 8)) true rs r t ds (down_told a) → Leads Lower (Second (First a))
-  lowered (Ok z) h g =
+  lowered : (a : Result Bool ASpent) → IsItemRead m.me s m.at m.block r0 rs tr es → StepLeft m.me (aims.Down m.block) (spot.Slot s c (m.at % 8)) true rs r t ds (down_told a) → step_trail m.me (slot_at m) (aims.Down m.block) t (down_told a) → Leads Lower (Second (First a))
+  lowered (Ok z) h g asked =
       let lost = lost_core c s (m.at % 8) m.block z (slot_memo c s m.at m.block r0) rs r h.left g.did.0 in
       let own : own_word r.own (spot.Front s c) ≡ m.at = lost.took.own (spot.Front s c) refl ∙ sym h.head in
       record {
@@ -140,10 +133,19 @@ module _ (m : TakeState) (r0 rs r : Memo) (tr t : Trail) (es ds : List Event) (h
         told = ap (λ (x : List Event). x ++ ds) h.none ∙ g.did.1;
         bound = within_more 3 8 tr t h.bound g.bound;
       }
-  lowered (Err e) h g = (
-    g.did.1.1,
-    inl (record { place = m.at; block = m.block; at = h.head; spent = g.did.1.0 ∙ ap (λ (x : Memo). own_word x.own (spot.Era c c)) h.left; untouched = untouched_core c (slot_memo c s m.at m.block r0) rs r h.left g.did.0; none = ap (λ (x : List Event). x ++ ds) h.none ∙ g.did.2; bound = within_more 3 8 tr t h.bound g.bound }),
-  )
+  lowered (Err e) h g asked =
+      let one : IsWithin 1 t = (let l = spent_one m.me (slot_at m) m.block t e.era asked in omega arith) in (
+        g.did.1.1,
+        inl (record {
+          place = m.at;
+          block = m.block;
+          at = h.head;
+          spent = g.did.1.0 ∙ ap (λ (x : Memo). own_word x.own (spot.Era c c)) h.left;
+          untouched = untouched_core c (slot_memo c s m.at m.block r0) rs r h.left g.did.0;
+          none = ap (λ (x : List Event). x ++ ds) h.none ∙ g.did.2;
+          bound = within_more 3 1 tr t h.bound one;
+        }),
+      )
 
   -- the head is stored: the item is taken, or the block is to be torn down
   stored : (z : Bool) → IsOut m.me s m.at m.block z r0 rs tr es → (w : (core r ≡ core (head_stored rs (spot.Front s c) s (own_word rs.own (spot.Front s c) + 1))) × (ds ≡ []) × IsWithin 1 t)
@@ -233,7 +235,7 @@ leads : (m : TakeState) (y : TakePoint) (r0 rs r : Memo) (tr t : Trail) (es ds :
 leads m Head r0 rs r tr t es ds (First n) (may, same, none, quiet) (w, grows) held = head_read m.me m.from r0 rs r tr t es ds (record { me = m.me; ask = take_ask m Head; over = false }) n may same none quiet w grows
 leads m Tail r0 rs r tr t es ds (First n) h (w, grows) held = looked m r0 rs r tr t es ds held n h w grows
 leads m Slot r0 rs r tr t es ds (First n) h (w, grows) held = found m r0 rs r tr t es ds held n h w grows
-leads m Lower r0 rs r tr t es ds (Second (First a)) h (g, grows) held = lowered m r0 rs r tr t es ds held a h g
+leads m Lower r0 rs r tr t es ds (Second (First a)) h ((g, asked), grows) held = lowered m r0 rs r tr t es ds held a h g asked
 leads m Store r0 rs r tr t es ds (First n) h (w, grows) held = let one : IsWithin 1 t = (let o = w.one in omega arith) in stored m r0 rs r tr t es ds held m.last h (w.found.left, w.none, one)
 leads m Tear r0 rs r tr t es ds (Second (Second a)) h (g, grows) held = torn m r0 rs r tr t es ds held a h g
 leads m Head r0 rs r tr t es ds (Second a) h g held = absurd g.0
@@ -251,9 +253,9 @@ take_laws =
       stays = λ m. stays m m.point;
       calls = λ m. calls m m.point;
       parts = λ m. let first = is_head m.point in let p = spot.Slot m.from m.me.who (m.at % 8) in
-          grown_laws first take_parts (or_part (word_part first m.me (take_ask m m.point) (TakeFound m m.point)) (or_part (down_slot_part p true) tear_part))
-          (or_part_laws first word_control (or_control down_control tear_control) (word_part first m.me (take_ask m m.point) (TakeFound m m.point)) (or_part (down_slot_part p true) tear_part) (word_part_laws first m.me (take_ask m m.point) (TakeFound m m.point))
-          (or_part_laws first down_control tear_control (down_slot_part p true) tear_part (down_slot_laws p true first) (tear_part_laws first)));
+          grown_laws first take_parts (or_part (word_part first m.me (take_ask m m.point) (TakeFound m m.point)) (or_part (lower_part p) tear_part))
+          (or_part_laws first word_control (or_control down_control tear_control) (word_part first m.me (take_ask m m.point) (TakeFound m m.point)) (or_part (lower_part p) tear_part) (word_part_laws first m.me (take_ask m m.point) (TakeFound m m.point))
+          (or_part_laws first down_control tear_control (lower_part p) tear_part (lower_laws p first) (tear_part_laws first)));
       opens = λ m. opens m m.point;
       leads = λ m r0 rs r tr t es ds a h g held agent. leads m m.point r0 rs r tr t es ds a h g held;
     }

@@ -1,5 +1,5 @@
 -- what is left of a memo once an item was taken: the step down at its slot, and the store of the head
-use Rattle.std.proofs.Common.{◌≡◌, ◌≢◌, ℕ, ◌+◌, ◌%◌, ◌≤◌, refl, sym, ap, ◌∙◌, subst, arith, Bool, true, false, not, cond, eqb, List, [], ◌∷◌, ◌++◌, inl, inr}
+use Rattle.std.proofs.Common.{◌≡◌, ℕ, ◌+◌, ◌%◌, ◌≤◌, refl, sym, ap, ◌∙◌, subst, Bool, true, false, not, cond, List, [], ◌∷◌, ◌++◌, inl, inr}
 use Rattle.std.specs.Prelude.{slice_index}
 use Rattle.std.specs.List.{Contains, filter}
 use Rattle.std.proofs.lemmas.Bool.{cases_eq, cond-false, cond-true, eq-eqb, ne_eqb}
@@ -11,10 +11,10 @@ use Rattle.shm_graph.specs.declared.memo.Stored.{Stored}
 use Rattle.shm_graph.specs.declared.table.Part.{Part}
 use Rattle.shm_graph.specs.Core.{core}
 use Rattle.shm_graph.specs.Held.{is_loose}
-use Rattle.shm_graph.specs.Reach.{is_named, learnt, not_at}
+use Rattle.shm_graph.specs.Reach.{is_named, learnt}
 use Rattle.shm_graph.specs.Readings.{valued}
 use Rattle.shm_graph.specs.Spots.{same_spot}
-use Rattle.shm_graph.specs.Stores.{head_stored, is_of, lane_with, other_than, put}
+use Rattle.shm_graph.specs.Stores.{head_stored, lane_with, other_than, put}
 use Rattle.shm_graph.specs.Views.{own_word}
 use Rattle.shm_graph.proofs.Spotting.{same_spot_self}
 use Rattle.shm_steps.specs.Reparting.{sight}
@@ -22,7 +22,7 @@ use Rattle.shm_steps.proofs.Items.{put_at}
 use Rattle.shm_count.specs.Roots.{rest}
 use Rattle.shm_count.specs.SlotLeaves.{Lost, Sifts, Took, emptied}
 use Rattle.shm_count.specs.StepParts.{part_after}
-use Rattle.shm_count.specs.TearMemos.{Knows, is_lasting, is_slot_word}
+use Rattle.shm_count.specs.TearMemos.{is_lasting, is_slot_word}
 use Rattle.shm_queue.specs.QueueSteps.{put_here, same_part, spare_part}
 use Rattle.shm_queue.specs.TakeFits.{Received, slot_memo, taken_memo}
 

@@ -4,11 +4,13 @@ ghost use Rattle.std.specs.Prelude.{ℕ, ◌+◌, ◌⊎◌, Result, Ok, Err, le
 ghost use Rattle.shm_graph.specs.declared.ask.Me.{Me as AMe};
 ghost use Rattle.shm_graph.specs.declared.memo.Memo.{Memo as AMemo};
 ghost use Rattle.shm_graph.specs.Asks.{Trail, IsWithin};
-ghost use Rattle.shm_graph.specs.Bounds.{tear_steps};
+ghost use Rattle.shm_graph.specs.Bounds.{drain_steps, tear_steps};
 ghost use Rattle.shm_count.specs.TearEvents.{frees};
+ghost use Rattle.shm_count.specs.declared.answer.Made.{Made as AMade};
+ghost use Rattle.shm_queue.specs.declared.answer.PeekFault.{PeekFault as APeekFault};
 ghost use Rattle.shm_queue.specs.declared.answer.SendFault.{SendFault as ASendFault};
 ghost use Rattle.shm_queue.specs.declared.answer.TakeFault.TheVariants.{Empty as IsEmpty, EraSpent as IsSpent};
-ghost use Rattle.shm_queue.specs.Machines.{SendGives, TakeGives, take_told};
+ghost use Rattle.shm_queue.specs.Machines.{DrainGives, drain_told, PeekGives, ReceiveGives, receive_told, SendGives, TakeGives, take_told};
 ghost use Rattle.shm_queue.specs.TakeFits.{TakeStopped};
 
 /// A send took at most 11 word steps, and three more for each exchange that failed.
@@ -17,9 +19,25 @@ pub fn send_bound()
 {}
 
 /// A take took at most 12 word steps and 164 for each block that it freed or left on the way, and three more for each exchange that
-/// failed; one of an empty queue took two.
+/// failed; one of an empty queue took two, and one that was refused before the item was taken four.
 pub fn take_bound()
     ensures done { (me : AMe) (s : ℕ) (r0 r : AMemo) (tr : Trail) → TakeGives me s r0 r tr (Ok tt) → IsWithin (12 + tear_steps (frees (take_told me s tr))) tr }
     ensures empty { (me : AMe) (s n : ℕ) (r0 r : AMemo) (tr : Trail) → TakeGives me s r0 r tr (Err (IsEmpty n)) → IsWithin 2 tr }
-    ensures spent { (me : AMe) (s e : ℕ) (r0 r : AMemo) (tr : Trail) → TakeGives me s r0 r tr (Err (IsSpent e)) → IsWithin 11 tr ⊎ ((t : TakeStopped me s r0 r tr (take_told me s tr) e) × IsWithin (12 + tear_steps (frees (take_told me s tr) + length t.left)) tr) }
+    ensures spent { (me : AMe) (s e : ℕ) (r0 r : AMemo) (tr : Trail) → TakeGives me s r0 r tr (Err (IsSpent e)) → IsWithin 4 tr ⊎ ((t : TakeStopped me s r0 r tr (take_told me s tr) e) × IsWithin (12 + tear_steps (frees (take_told me s tr) + length t.left)) tr) }
+{}
+
+/// A peek took at most 27 word steps, and three more for each exchange that failed.
+pub fn peek_bound()
+    ensures { (me : AMe) (s : ℕ) (r0 r : AMemo) (tr : Trail) (a : Result AMade APeekFault) → PeekGives me s r0 r tr a → IsWithin 27 tr }
+{}
+
+/// A drain in a pool of n clients took at most 12 word steps for each item that it took, 164 for each block that it freed, 2 n and 4 more,
+/// and three more for each exchange that failed.
+pub fn drain_bound()
+    ensures done { (me : AMe) (n : ℕ) (r0 r : AMemo) (tr : Trail) → DrainGives me r0 r tr (Ok n) → IsWithin (drain_steps me.geometry.clients n (frees (drain_told me tr))) tr }
+{}
+
+/// A receive that is done took at most 39 word steps and 164 for each block that it freed, and three more for each exchange that failed.
+pub fn receive_bound()
+    ensures { (me : AMe) (s : ℕ) (r0 r : AMemo) (tr : Trail) (made : AMade) → ReceiveGives me s r0 r tr (Ok made) → IsWithin (39 + tear_steps (frees (receive_told me s tr))) tr }
 {}

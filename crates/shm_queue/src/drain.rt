@@ -100,7 +100,10 @@ impl Plan for Draining {
     #[inline(always)]
     fn call(&self) -> Or<Word, Take> {
         let DrainState {
-            me, from, point, ..
+            me,
+            from,
+            point,
+            ..
         } = self.state;
         match point {
             DrainPoint::Status => Or::First(Word::load(me, me.geometry.status(me.who))),

@@ -10,18 +10,24 @@ pub mod drain;
 pub mod events;
 pub mod parts;
 pub mod peek;
+pub mod receive;
 pub mod send;
 pub mod take;
 
 pub use answer::{PeekFault, SendFault, TakeFault};
-pub use bound::{send_bound, take_bound};
+pub use bound::{drain_bound, peek_bound, receive_bound, send_bound, take_bound};
 pub use drain::{Drain, Draining};
 pub use events::{
-    send_begins, send_events, send_leaves, take_begins, take_events, take_leaves,
+    drain_begins, drain_events, drain_leaves, peek_begins, peek_events, peek_leaves,
+    receive_begins, receive_events, receive_leaves, send_begins, send_events, send_leaves,
+    take_begins, take_events, take_leaves,
 };
 pub use peek::{Peek, Peeking};
+pub use receive::{Receive, Receiving};
 pub use send::{Send, Sending};
 pub use take::{Take, Taking};
 
+#[cfg(test)]
+mod take_tests;
 #[cfg(test)]
 mod tests;
