@@ -1,27 +1,21 @@
 -- The spelling of a line is told as that line again.
-use Rattle.std.proofs.Common.{◌≡◌, ◌≢◌, ℕ, zero, suc, ◌+◌, ◌-◌, ◌^◌, ◌<◌, ◌≤◌, Bool, true, false, not, ◌&&◌, cond, ltb, eqb, List, [], ◌∷◌, ◌++◌, length, get_or, map, sum, Option, Some, None, codes, refl, sym, ap, subst, ◌∙◌, arith, append_assoc, rules, ◌⊎◌, inl, inr}
+use Rattle.std.proofs.Common.{◌≡◌, ◌≢◌, ℕ, ◌^◌, ◌<◌, ◌≤◌, true, false, not, ◌&&◌, cond, ltb, eqb, List, [], ◌∷◌, ◌++◌, get_or, Option, Some, None, codes, refl, sym, ap, subst, ◌∙◌, arith, append_assoc, rules, ◌⊎◌, inl, inr}
 use Rattle.std.specs.Prelude.{◌==◌}
 use Rattle.std.specs.Fmt.{decimal}
-use Rattle.std.specs.List.{All, AllByRecursion, flat_map, slice_split}
+use Rattle.std.specs.List.{All, AllByRecursion, slice_split}
 use Rattle.std.proofs.lemmas.Bool.Decides.{nat_tests}
 use Rattle.std.proofs.lemmas.List.{append-nil}
 use Rattle.std.proofs.lemmas.List.Elements.{All-nil, All-cons, All-append, All-from_get_or, All-from_recursion}
-use Rattle.std.proofs.lemmas.List.Concat.{flat_map-cons}
-use Rattle.std.proofs.lemmas.List.Sums.{sum_by-cons}
 use Rattle.std.proofs.lemmas.List.Splits.{slice_split_at, slice_split_none}
 use Rattle.shm_script.specs.declared.line.Line.{Line}
 use Rattle.shm_script.specs.declared.line.Line.TheVariants as lines
-use Rattle.shm_script.specs.declared.line.Item.{Item}
-use Rattle.shm_script.specs.declared.raw.RawItem.{RawItem}
 use Rattle.shm_script.specs.declared.raw.RawCommand.{RawCommand}
 use Rattle.shm_script.specs.declared.raw.RawCommand.TheVariants as raw
-use Rattle.shm_script.specs.Text.{spaced, line_spelled, item_spelled, turns_spelled}
-use Rattle.shm_script.specs.Ranges.{LineFits, ItemFits, IsLife}
-use Rattle.shm_script.specs.Numbers.{number_of}
-use Rattle.shm_script.specs.Shapes.{Shape, Pool, Order, Client, Life, Command, both, given, one_of, two_of, three_of, numbers_of, items_of, item_from, command_of, shape_by, shape_from, shape_of}
-use Rattle.shm_script.specs.Faults.{Fit, FitPool, FitOrder, FitClient, FitLife, FitCommand, between, below, key_of, other_than, turns_fit, items_fit, life_fit, before_rest, command_fit, fit_of, too_many}
-use Rattle.shm_script.proofs.LineTexts.{blanks, fit_text}
-use Rattle.shm_script.proofs.FitTexts.{FitRange}
+use Rattle.shm_script.specs.Text.{spaced, line_spelled}
+use Rattle.shm_script.specs.Ranges.{LineFits}
+use Rattle.shm_script.specs.Shapes.{Command, given, one_of, two_of, three_of, command_of, shape_by, shape_from}
+use Rattle.shm_script.specs.Faults.{between, below, other_than, command_fit}
+use Rattle.shm_script.proofs.LineTexts.{blanks}
 use Rattle.shm_script.proofs.NumberTexts.{number_again, decimal_lacks, decimal_lacks_high}
 
 -- the byte doesn't stand in the text

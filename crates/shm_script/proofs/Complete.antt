@@ -1,5 +1,5 @@
 -- The spelling of a trace is read as that trace again.
-use Rattle.std.proofs.Common.{◌≡◌, ◌≢◌, ℕ, suc, ◌+◌, ◌^◌, ◌<◌, ◌≤◌, Bool, true, false, ◌||◌, not, cond, ltb, eqb, List, [], ◌∷◌, ◌++◌, length, map, sum, ◌⊎◌, inl, inr, Option, Some, None, Result, Ok, Err, MatchResult, refl, sym, ap, subst, ◌∙◌, arith, append_assoc}
+use Rattle.std.proofs.Common.{◌≡◌, ◌≢◌, ℕ, ◌+◌, ◌^◌, ◌≤◌, Bool, true, false, ◌||◌, cond, eqb, List, [], ◌∷◌, ◌++◌, length, sum, ◌⊎◌, inl, inr, None, Result, Ok, Err, MatchResult, refl, sym, ap, subst, ◌∙◌, arith, append_assoc}
 use Rattle.std.specs.Prelude.{◌==◌}
 use Rattle.std.specs.List.{AllByRecursion, flat_map, list_any, slice_split}
 use Rattle.std.proofs.lemmas.Bool.Decides.{nat_tests}
@@ -17,8 +17,7 @@ use Rattle.shm_script.specs.declared.fault.ParseStop.TheVariants as stop
 use Rattle.shm_script.specs.Values.{Scripted, Traced}
 use Rattle.shm_script.specs.Ranges.{LineFits, ItemFits, IsLife, ScriptFits, AreApart, IsTrace, IsTraceText}
 use Rattle.shm_script.specs.Text.{ended, line_ended, order_spelled, life_spelled, script_spelled, text_of}
-use Rattle.shm_script.specs.Shapes.{Shape, Client, Command}
-use Rattle.shm_script.specs.Faults.{Seen, Fit, FitPool, FitOrder, FitClient, FitLife, FitCommand, may_stand, is_second, may_end, fault_at, fault_of}
+use Rattle.shm_script.specs.Faults.{Fit, FitPool, FitOrder, FitClient, FitLife, FitCommand, may_stand, is_second, may_end, fault_at, fault_of}
 use Rattle.shm_script.specs.Drafts.{IsMemory, Stops, Drafted, draft_none, all_scripts, scripts_at, open_script, draft_after, drafted, drafted_line, traced, read_or, reading, trace_of}
 use Rattle.shm_script.proofs.LineTexts.{fit_text}
 use Rattle.shm_script.proofs.FitTexts.{FitRange}

@@ -1,28 +1,23 @@
 -- What was read is a trace, and its text is what was read.
-use Rattle.std.proofs.Common.{◌≡◌, ◌≢◌, ℕ, ◌+◌, ◌^◌, ◌<◌, ◌≤◌, Bool, true, false, not, cond, ltb, List, [], ◌∷◌, ◌++◌, length, map, sum, Option, Some, None, Result, Ok, Err, codes, refl, sym, ap, subst, ◌∙◌, arith, append_assoc, length-append, inl, inr}
+use Rattle.std.proofs.Common.{◌≡◌, ◌≢◌, ℕ, ◌^◌, ◌<◌, ◌≤◌, true, false, List, [], ◌∷◌, ◌++◌, length, map, sum, Option, codes, refl, sym, ap, subst, ◌∙◌, arith}
 use Rattle.std.specs.Prelude.{◌==◌}
-use Rattle.std.specs.List.{AllByRecursion, flat_map, list_any, slice_split, join_with_byte}
+use Rattle.std.specs.List.{AllByRecursion, flat_map, list_any}
 use Rattle.std.proofs.lemmas.List.{append-nil}
-use Rattle.std.proofs.lemmas.List.Splits.{join_with_byte-slice_split}
 use Rattle.shm_script.specs.declared.line.Line.{Line}
 use Rattle.shm_script.specs.declared.line.Item.{Item}
 use Rattle.shm_script.specs.declared.raw.RawCommand.{RawCommand}
 use Rattle.shm_script.specs.declared.fit.Place.{Place}
 use Rattle.shm_script.specs.declared.fit.Place.TheVariants as place
-use Rattle.shm_script.specs.declared.fault.TraceKind.{TraceKind}
-use Rattle.shm_script.specs.declared.fault.TraceKind.TheVariants.{Syntax}
-use Rattle.shm_script.specs.declared.fault.TraceFault.{TraceFault}
-use Rattle.shm_script.specs.Values.{Scripted, Traced}
-use Rattle.shm_script.specs.Ranges.{LineFits, ItemFits, IsLife, ScriptFits, AreApart, IsTrace}
-use Rattle.shm_script.specs.Text.{spaced, ended, line_ended, line_spelled, item_spelled, order_spelled, life_spelled, script_spelled, text_of}
-use Rattle.shm_script.specs.Shapes.{Shape, Pool, Order, Client, Life, Command, shape_of}
-use Rattle.shm_script.specs.Faults.{Seen, Fit, FitPool, FitOrder, FitClient, FitLife, FitCommand, between, below, items_fit, life_fit, command_fit, fit_of, may_stand, is_second, judged, fault_at, may_end}
-use Rattle.shm_script.specs.Drafts.{Drafted, draft_none, open_script, scripts_at, all_scripts, draft_after, drafted, drafted_line, traced, read_or, reading}
+use Rattle.shm_script.specs.Values.{Scripted}
+use Rattle.shm_script.specs.Ranges.{LineFits, ItemFits, IsLife, AreApart}
+use Rattle.shm_script.specs.Text.{spaced, ended, line_ended, order_spelled, life_spelled, script_spelled, text_of}
+use Rattle.shm_script.specs.Shapes.{Client, Command}
+use Rattle.shm_script.specs.Faults.{FitPool, FitOrder, FitClient, FitLife, FitCommand, may_stand, is_second}
+use Rattle.shm_script.specs.Drafts.{Drafted, draft_none, open_script, scripts_at, all_scripts, draft_after, traced}
 use Rattle.shm_script.proofs.LinesGiven.{order_some, life_some}
-use Rattle.shm_script.proofs.Inverts.{given_is, both_is}
-use Rattle.shm_script.proofs.FitTexts.{FitRange, Spelled, IsJudged, judged_is, either}
+use Rattle.shm_script.proofs.FitTexts.{FitRange}
 use Rattle.shm_script.proofs.LineTexts.{fit_text}
-use Rattle.shm_script.proofs.Lists.{all_push, all_last, apart_push, apart_last, clients_last, clients_push, not_taken, text_last, text_push, client_text, lines_push, few_in_all}
+use Rattle.shm_script.proofs.Lists.{all_push, all_last, apart_push, apart_last, clients_last, clients_push, not_taken, text_last, text_push, client_text, lines_push}
 
 -- the text that was read
 abbrev pub text_at : Place → Drafted → List ℕ

@@ -1,5 +1,5 @@
 -- The first faulty line of bytes that are no trace, and what is wrong with it.
-use Rattle.std.specs.Prelude.{ℕ, ◌+◌, ◌-◌, ◌^◌, Bool, true, false, ◌&&◌, ◌||◌, not, List, [], ◌∷◌, ◌++◌, length, take, count_by, Option, Some, None, Result, Ok, Err, nat_lt, ◌==◌, if◌then◌else◌}
+use Rattle.std.specs.Prelude.{ℕ, ◌+◌, ◌-◌, ◌^◌, Bool, true, false, ◌&&◌, not, List, [], ◌∷◌, ◌++◌, length, take, count_by, Option, Some, None, Result, Ok, Err, nat_lt, ◌==◌, if◌then◌else◌}
 use Rattle.std.specs.List.{list_any, slice_split}
 use Rattle.shm_script.specs.declared.line.Line.{Line}
 use Rattle.shm_script.specs.declared.line.Line.TheVariants as lines
@@ -133,6 +133,7 @@ seen_after seen (FitCommand line) = record seen { place = place.Body }
 abbrev pub seen_none : Seen
 seen_none = record { place = place.Start; clients = 0; me = 0; taken = [] }
 
+-- a fault of this kind at a line
 abbrev pub fault_at : ℕ → TraceKind → TraceFault
 fault_at line kind = record { line = line; kind = kind }
 

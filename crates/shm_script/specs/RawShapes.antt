@@ -1,5 +1,5 @@
 -- The shapes of lines that are kept in memory.
-use Rattle.std.specs.Prelude.{Option, Some, None}
+use Rattle.std.specs.Prelude.{Option}
 use Rattle.shm_script.specs.declared.raw.RawLine.{RawLine}
 use Rattle.shm_script.specs.declared.raw.RawLine.TheVariants as raw
 use Rattle.shm_script.specs.Shapes.{Shape, Pool, Order, Client, Life, Command, given}

@@ -1,6 +1,6 @@
 //! Traces drawn from a sequence of numbers.
 
-ghost use Rattle.std.specs.Prelude.{◌≡◌, ℕ, ◌+◌, ◌*◌, ◌^◌, ◌%◌, ◌<◌, ◌≤◌, IfOk};
+ghost use Rattle.std.specs.Prelude.{◌≡◌, ℕ, ◌+◌, ◌*◌, ◌%◌, ◌<◌, ◌≤◌, IfOk};
 ghost use Rattle.shm_script.specs.Drawing.{drawn_as, drawn_life, drawn_line, drawn_lines, drawn_script, drawn_trace, first, next, other_client};
 
 use crate::line::Line;

@@ -1,6 +1,6 @@
 //! Where a line may stand, and whether its numbers are in range.
 
-ghost use Rattle.std.specs.Prelude.{◌≡◌, ◌==◌, ◌^◌, ◌≤◌, None, IfOk, MatchOption};
+ghost use Rattle.std.specs.Prelude.{◌≡◌, ◌==◌, ◌^◌, None, IfOk, MatchOption};
 ghost use Rattle.std.specs.List.{list_any};
 ghost use Rattle.shm_script.specs.Faults.{below, between, command_fit, fit_of, is_second, items_fit, key_of, life_fit, may_stand, other_than, too_many, turns_fit};
 ghost use Rattle.shm_script.specs.RawShapes.{shape_seen};

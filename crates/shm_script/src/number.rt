@@ -1,54 +1,44 @@
 //! Numbers of a line, of any size.
 
-ghost use Rattle.std.specs.Prelude.{◌≡◌, ℕ, ◌+◌, ◌*◌, ◌<◌, IsTrue};
+ghost use Rattle.std.specs.Prelude.{◌≡◌, ℕ, ◌+◌, ◌*◌, ◌<◌, if◌then◌else◌, not};
 ghost use Rattle.std.specs.Str.{all_ascii_digits};
-ghost use Rattle.shm_script.specs.Numbers.{is_numeral, number_of, small, value_after};
+ghost use Rattle.shm_script.specs.Numbers.{leads_well, number_of, small, value_after};
 ghost use Rattle.shm_script.specs.Pieces.{pieces_left};
 ghost use Rattle.shm_script.specs.Shapes.{one_of, two_of, three_of};
 
 use crate::pieces::split_word;
 
 /// The number that the word spells, where it spells one; `None` inside from 2^64 on.
-#[tactic(auto, unfolding(crate::specs::Numbers::number_of))]
+#[tactic(auto, unfolding(crate::specs::Numbers::number_of), using(crate::proofs::Digits::number_by))]
 pub fn number(word: &[u8]) -> Option<Option<u64>>
     ensures { result ≡ number_of word.now }
 {
-    if has_form(word) {
-        Some(value(word))
-    } else {
+    if has_leading_zero(word) {
         None
+    } else {
+        value(word)
     }
 }
 
-/// Whether the word is decimal digits without a leading zero, `0` itself apart.
-fn has_form(word: &[u8]) -> bool
-    ensures { result ≡ is_numeral word.now }
+/// Whether the word is empty, or goes on behind a first zero.
+fn has_leading_zero(word: &[u8]) -> bool
+    ensures { result ≡ not (leads_well word.now) }
 {
-    are_digits(word) && (word.len() == 1 || (!word.is_empty() && word[0] != b'0'))
+    word.len() != 1 && (word.is_empty() || word[0] == b'0')
 }
 
-/// Whether the word has digits only.
-fn are_digits(word: &[u8]) -> bool
-    ensures { result ≡ all_ascii_digits word.now }
-{
-    for byte in word {
-        if !byte.is_ascii_digit() {
-            return false;
-        }
-    }
-    true
-}
-
-/// The value of digits, where it is below 2^64.
-fn value(word: &[u8]) -> Option<u64>
-    requires { IsTrue (all_ascii_digits word.now) }
-    ensures { result ≡ small (value_after 0 word.now) }
+/// The value of digits, where there is nothing else; `None` inside from 2^64 on.
+fn value(word: &[u8]) -> Option<Option<u64>>
+    ensures { result ≡ (if all_ascii_digits word.now then Some (small (value_after 0 word.now)) else None) }
 {
     let mut value = Some(0);
     for byte in word {
+        if !byte.is_ascii_digit() {
+            return None;
+        }
         value = push_digit(value, *byte - b'0');
     }
-    value
+    Some(value)
 }
 
 /// The value with one more digit.

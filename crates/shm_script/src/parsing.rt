@@ -1,10 +1,10 @@
 //! A trace that is read line by line.
 
-ghost use Rattle.std.specs.Prelude.{◌≡◌, ◌∷◌, [], ℕ, List, ◌<◌, ◌≤◌, ◌+◌, ◌==◌, Ok, None, IfOk, IfSome, OnOk, MatchOption, MatchResult, count_by, length};
+ghost use Rattle.std.specs.Prelude.{◌≡◌, ◌∷◌, [], ℕ, List, ◌<◌, ◌≤◌, ◌+◌, ◌==◌, Ok, None, IfErr, IfOk, IfSome, OnOk, MatchOption, MatchResult, count_by, length};
 ghost use Rattle.std.specs.List.{slice_split};
 ghost use Rattle.shm_script.specs.Ranges.{IsTrace, IsTraceText};
 ghost use Rattle.shm_script.specs.Text.{text_of};
-ghost use Rattle.shm_script.specs.Values.{Scripted, Traced};
+ghost use Rattle.shm_script.specs.Values.{Traced};
 ghost use Rattle.shm_script.specs.Faults.{fault_of, judged, limit_fault, may_end};
 ghost use Rattle.shm_script.specs.Drafts.{Drafted, IsFault, IsMemory, Stops, StopsAt, all_scripts, draft_after, draft_none, drafted_line, fit_seen, trace_of, traced};
 ghost use Rattle.shm_script.specs.Shapes.{shape_of};
@@ -74,7 +74,7 @@ impl Draft {
     /// Reads one more line, the `at`-th.
     fn take(&mut self, alloc: Global, at: u32, line: &[u8]) -> Result<(), ParseStop>
         ensures ok { OnOk result (drafted_line self.old line.now ≡ Ok self.new) }
-        ensures err { MatchResult result (λ _. Unit {0}) (λ e. StopsAt at e (drafted_line self.old line.now)) }
+        ensures err { IfErr result (λ e. StopsAt at e (drafted_line self.old line.now)) }
     {
         let fit = self.judge(alloc, at, line)?;
         self.add(alloc, fit)?;

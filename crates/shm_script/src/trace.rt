@@ -38,3 +38,14 @@ impl Model for Trace {
 
     ghost invariant = { λ t. IsTrace (record { clients = t.clients; segments = t.segments; order = t.order.items; scripts = t.scripts.items }) };
 }
+
+impl Trace {
+    ghost use Rattle.shm_script.specs.Ranges.{IsTrace as IsInGrammar};
+
+    /// The trace is in the ranges of the grammar.
+    pub fn in_grammar(&self)
+        ensures { IsInGrammar self.now }
+    {
+        let _ = &self.order;
+    }
+}

@@ -1,7 +1,6 @@
-use Rattle.std.proofs.Common.{◌≡◌, ◌++◌, List, [], ap, subst, sym}
+use Rattle.std.proofs.Common.{◌≡◌, List, [], ap}
 use Rattle.shm_script.specs.Values.{Scripted, Traced}
-use Rattle.shm_script.specs.Ranges.{IsTrace}
-use Rattle.shm_script.specs.Drawing.{drawn_scripts, drawn_trace, first}
+use Rattle.shm_script.specs.Drawing.{drawn_scripts, first}
 use Rattle.shm_script.proofs.Drawn.{script_goes_on, scripts_done, trace_fits}
 use Rattle.shm_script.proofs.draw.generate.Goals as goal
 
