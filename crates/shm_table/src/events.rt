@@ -1,17 +1,23 @@
 //! When machines over tables may begin, what they do to the graph of references, and what they leave.
 
-ghost use Rattle.std.specs.Prelude.{◌≡◌, ℕ, []};
+ghost use Rattle.std.specs.Prelude.{◌≡◌, ℕ, ◌<◌, Some, None, []};
 ghost use Rattle.shm_graph.specs.declared.ask.Me.{Me as AMe};
 ghost use Rattle.shm_graph.specs.declared.memo.Memo.{Memo as AMemo};
+ghost use Rattle.shm_graph.specs.declared.spot.Spot.{Spot as ASpot};
 ghost use Rattle.shm_graph.specs.Asks.{Trail};
+ghost use Rattle.shm_graph.specs.Held.{HeldAt};
 ghost use Rattle.shm_graph.specs.Tells.{Tells};
+ghost use Rattle.shm_graph.specs.Views.{view};
+ghost use Rattle.shm_steps.specs.Reparting.{map_in};
 ghost use Rattle.shm_calls.specs.CallsControl.{calls_does};
 ghost use Rattle.shm_calls.specs.CallsFit.{CallsFits};
 ghost use Rattle.shm_calls.specs.Plans.{plan_trail};
 ghost use Rattle.shm_calls.specs.Words.{word_control};
 ghost use Rattle.shm_table.specs.declared.find.Found.{Found as AFound};
+ghost use Rattle.shm_table.specs.declared.find.Found.TheVariants.{Absent, At};
 ghost use Rattle.shm_table.specs.FindControl.{finding};
 ghost use Rattle.shm_table.specs.FindFits.{MayFind, FindLeaves, find_plan};
+ghost use Rattle.shm_table.specs.FindTells.{HasKey};
 ghost use Rattle.shm_table.specs.Machines.{find, FindFits, FindGives, find_told};
 
 /// A search for a key in the table of an author fits each memo of an identity of a pool for tables that is here, with no step in progress and
@@ -31,4 +37,12 @@ pub fn find_events()
 pub fn find_leaves()
     ensures leaves { (me : AMe) (a key : ℕ) (r0 r : AMemo) (tr : Trail) (b : AFound) → FindGives me a key r0 r tr b → FindLeaves (finding me a key) r0 r tr (find_told me a key tr) b }
     ensures trail { (me : AMe) (a key : ℕ) (r0 r : AMemo) (tr : Trail) (b : AFound) → FindGives me a key r0 r tr b → plan_trail find_plan (finding me a key) tr b }
+{}
+
+/// In the own table the answer says whether its map has the key; and in each state that holds with the memo that is left, the map of the
+/// author has the key at the entry that was found.
+pub fn find_tells()
+    ensures absent { (me : AMe) (a key : ℕ) (r0 r : AMemo) (tr : Trail) (home first : ℕ) → a ≡ me.who → FindGives me a key r0 r tr (Absent home first) → map_in r0.part key ≡ None }
+    ensures found { (me : AMe) (a key : ℕ) (r0 r : AMemo) (tr : Trail) (entry before word : ℕ) → a ≡ me.who → FindGives me a key r0 r tr (At entry before word) → (n : ℕ) × (v : ℕ) × (map_in r0.part key ≡ Some (n, v)) }
+    ensures author { (me : AMe) (a key : ℕ) (r0 r : AMemo) (tr : Trail) (entry before word : ℕ) → FindGives me a key r0 r tr (At entry before word) → me.who < me.geometry.clients → (w : ASpot → ℕ) (rs : ℕ → AMemo) → HeldAt me.geometry w (view rs) → rs me.who ≡ r → HasKey (rs a).part key entry }
 {}
