@@ -256,7 +256,7 @@ module _ (m : FindState) (r0 rs r : Memo) (tr t : Trail) (es ds : List Event) (n
           table = table_of m.me a r0 r h.may key_reads;
           here = key_in;
           look = here_key.looked (record { block = m.home; from = Home a }) h.look;
-          chain = chain_kept rs r m.home (m.key % 16) k.0 m.entry here_key h.chain;
+          chain = chain_kept rs r m.home (m.key % 16) k.0 m.entry here_key.known here_key.looked h.chain;
           room = h.room;
           known = subst (λ x. IsKnown (sight c r) (Body m.entry 2) x) e key_known;
           own = λ q. let o = k.3 q in let u = w.0.found.1 m.first (Body m.before m.word) o.0 o.1 o.2 o.3 in (m.first, o.0, o.1, o.2, u.kept, u.key_is refl ∙ e);
@@ -275,7 +275,7 @@ module _ (m : FindState) (r0 rs r : Memo) (tr t : Trail) (es ds : List Event) (n
             some = h.some;
             here = key_in;
             look = here_key.looked (record { block = m.home; from = Home a }) h.look;
-            chain = chain_kept rs r m.home (m.key % 16) k.0 m.entry here_key h.chain;
+            chain = chain_kept rs r m.home (m.key % 16) k.0 m.entry here_key.known here_key.looked h.chain;
             room = h.room;
             others = h.others;
             first = h.first;
@@ -348,7 +348,7 @@ module _ (m : FindState) (r0 rs r : Memo) (tr t : Trail) (es ds : List Event) (n
               some = some;
               here = is;
               look = here_next.looked (record { block = m.home; from = Home a }) h.look;
-              chain = chain_more r m.home (m.key % 16) k.0 (record { block = m.entry; key = k.1 }) n (chain_kept rs r m.home (m.key % 16) k.0 m.entry here_next h.chain) (here_next.known (record { spot = Body m.entry 2; value = k.1 }) k.4)
+              chain = chain_more r m.home (m.key % 16) k.0 (record { block = m.entry; key = k.1 }) n (chain_kept rs r m.home (m.key % 16) k.0 m.entry here_next.known here_next.looked h.chain) (here_next.known (record { spot = Body m.entry 2; value = k.1 }) k.4)
                   (look_made rs r (Body m.entry 0) n (u.1 some));
               room = room;
               others = all_others;

@@ -132,10 +132,11 @@ entry_room me r b l held here = let k = told_inside me r (shaped r.latch b AnEnt
 
 -- ---- the chain that was read
 
--- it stays read
-pub chain_kept : (r x : Memo) (d i : ℕ) (ps : List Passed) (at : ℕ) → OnlyReads r x → IsChainRead r d i ps at → IsChainRead x d i ps at
-chain_kept r x d i [] at reads h = reads.looked (record { block = at; from = Body d i }) h
-chain_kept r x d i (p ∷ ps) at reads h = (reads.looked (record { block = p.block; from = Body d i }) h.0, reads.known (record { spot = Body p.block 2; value = p.key }) h.1, chain_kept r x p.block 0 ps at reads h.2)
+-- it stays read where more is known and looked at
+pub chain_kept : (r x : Memo) (d i : ℕ) (ps : List Passed) (at : ℕ) → ((s : Stored) → Contains r.known s → Contains x.known s) → ((k : Look) → Contains r.looks k → Contains x.looks k) → IsChainRead r d i ps at → IsChainRead x d i ps at
+chain_kept r x d i [] at known looked h = looked (record { block = at; from = Body d i }) h
+chain_kept r x d i (p ∷ ps) at known looked h =
+    (looked (record { block = p.block; from = Body d i }) h.0, known (record { spot = Body p.block 2; value = p.key }) h.1, chain_kept r x p.block 0 ps at known looked h.2)
 
 -- and one more entry is passed
 pub chain_more : (r : Memo) (d i : ℕ) (ps : List Passed) (p : Passed) (n : ℕ) → IsChainRead r d i ps p.block → Contains r.known (record { spot = Body p.block 2; value = p.key }) → IsLook r (Body p.block 0) n → IsChainRead r d i (ps ++ p ∷ []) n
