@@ -1,4 +1,4 @@
--- what a closed pool is: its sizes and its words
+-- what the closed pool of a replay is: its sizes and its words
 use Rattle.std.specs.Prelude.{ℕ, List}
 use Rattle.shm_words.specs.declared.geometry.Geometry.{Geometry}
 

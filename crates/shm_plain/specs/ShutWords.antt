@@ -1,4 +1,4 @@
--- the words of a closed pool are all there and clean
+-- the words of the closed pool of a replay are all there and clean
 use Rattle.std.specs.Prelude.{◌≡◌, length}
 use Rattle.shm_words.specs.Layout.{GeometryFits, total_of}
 use Rattle.shm_graph.specs.Spots.{see}

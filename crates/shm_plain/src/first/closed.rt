@@ -1,11 +1,11 @@
-//! A pool that was closed.
+//! What a replay of one client's puts closes.
 
 use shm_words::Geometry;
 use std::marker::Model;
 
 /// The words of a pool that was closed: nobody is at work on it, and each count is the number of references.
 ///
-/// Only a pool's own closing makes one.
+/// Only the end of a replay makes one.
 #[derive(Drop)]
 pub struct FirstClosed {
     geometry: Geometry,

@@ -1,10 +1,10 @@
-use Rattle.std.proofs.Common.{◌≡◌, ℕ, ◌<◌, sym, ap, ◌∙◌, subst, refl, arith, rules, true}
+use Rattle.std.proofs.Common.{◌≡◌, ◌<◌, sym, ap, ◌∙◌, subst, refl, arith, rules, true}
 use Rattle.shm_words.specs.declared.geometry.Geometry.{Geometry}
 use Rattle.shm_graph.specs.declared.memo.Memo.{Memo}
 use Rattle.shm_graph.specs.declared.run.Start.{Start}
 use Rattle.shm_count.specs.Roots.{member}
 use Rattle.shm_recover.specs.LeaveFits.{MayLeave}
-use Rattle.shm_plain.specs.Pools.{memo_of, readied}
+use Rattle.shm_plain.specs.Pools.{memo_of}
 use Rattle.shm_tests.proofs.Passing.{may_leave, ready_new}
 use Rattle.shm_tests.proofs.closing_tests.a_pool_is_closed.Goals as goal
 
