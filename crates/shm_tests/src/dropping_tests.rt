@@ -22,7 +22,10 @@ fn words_of_drops(rt: HostRuntime) -> Result<(), Fail> {
     // whether the root named a block, and the word steps of the drop
     for (named, steps) in [(true, 10), (false, 1)] {
         let before = life.left;
-        assert_eq!(rt; drop_root(&mut pool, 0, 1, &mut life), Some(Ok(named)));
+        let Some(answer) = drop_root(&mut pool, 0, 1, &mut life) else {
+            panic!(rt; "no step was left")
+        };
+        assert_eq!(rt; answer, Ok(named));
         assert_eq!(rt; before.wrapping_sub(life.left), steps, "{named}");
     }
     for at in 0..2098u32 {
