@@ -1,4 +1,4 @@
-use Rattle.std.proofs.Common.{◌≡◌, ◌+◌, ◌^◌, ◌<◌, ap, ◌∙◌, sym, get_or, arith}
+use Rattle.std.proofs.Common.{◌≡◌, ◌+◌, ap, ◌∙◌, get_or, arith}
 use Rattle.shm_report.proofs.ChainReading.{words_at}
 use Rattle.shm_report.proofs.table_rows.entry_at.Goals as goal
 
