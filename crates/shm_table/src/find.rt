@@ -1,8 +1,9 @@
 //! Looking for the entry of a key in a table.
 
-ghost use Rattle.std.specs.Prelude.{◌≡◌, ◌+◌, ◌^◌, ◌<◌};
+ghost use Rattle.std.specs.Prelude.{◌≡◌, ◌+◌, ◌^◌, ◌<◌, if◌then◌else◌, Some, None};
 ghost use Rattle.shm_words.specs.Layout.{GeometryFits};
-ghost use Rattle.shm_table.specs.FindControl.{finding};
+ghost use Rattle.shm_table.specs.declared.find.Found.TheVariants.{At};
+ghost use Rattle.shm_table.specs.FindControl.{finding, find_goes, find_answers, FindInRange};
 ghost use Rattle.shm_table.specs.FindFits.{find_plan};
 ghost use Rattle.shm_table.specs.FindLaws.{find_laws};
 
@@ -76,6 +77,84 @@ fn word_of(block: u32, word: u8) -> u32
     block + 2 + u32::from(word)
 }
 
+/// An answer, where it is one.
+#[inline(always)]
+fn answer_if(is: bool, found: Found) -> Option<Found>
+    ensures { result ≡ if is then Some found else None }
+{
+    if is { Some(found) } else { None }
+}
+
+/// The entry has the key, and this word leads to it.
+#[inline(always)]
+fn at(entry: u32, before: u32, word: u8) -> Found
+    ensures { result ≡ At entry before word }
+{
+    Found::At {
+        entry,
+        before,
+        word,
+    }
+}
+
+/// Where it goes, by the block that the word names which was found.
+#[inline(always)]
+fn goes(mut state: FindState, block: u32) -> FindState
+    requires range { FindInRange state }
+    requires block { block < 2 ^ 20 }
+    ensures state { result ≡ find_goes state state.point block }
+    ensures range { FindInRange result }
+{
+    match state.point {
+        FindPoint::Home => {
+            state.home = block;
+            state.point = FindPoint::Bucket;
+        }
+        FindPoint::Bucket => {
+            state.first = block;
+            state.entry = block;
+            state.before = state.home;
+            state.word = (state.key % 16) as u8;
+            state.point = FindPoint::Key;
+        }
+        FindPoint::Key => {
+            state.point = FindPoint::Next;
+        }
+        FindPoint::Next => {
+            state.before = state.entry;
+            state.word = 0;
+            state.entry = block;
+            state.point = FindPoint::Key;
+        }
+    }
+    state
+}
+
+/// What it answers, by the word that was found and the block that it names.
+#[inline(always)]
+fn answers(state: FindState, seen: u64, block: u32) -> Option<Found>
+    ensures { result ≡ find_answers state state.point seen block }
+{
+    let FindState {
+        key,
+        home,
+        first,
+        entry,
+        before,
+        word,
+        ..
+    } = state;
+    match state.point {
+        FindPoint::Home => answer_if(block == 0, Found::Absent { home: 0, first: 0 }),
+        FindPoint::Bucket => answer_if(block == 0, Found::Absent { home, first: 0 }),
+        FindPoint::Key => {
+            let same = seen == u64::from(key);
+            answer_if(same, at(entry, before, word))
+        }
+        FindPoint::Next => answer_if(block == 0, Found::Absent { home, first }),
+    }
+}
+
 impl Finding {
     /// The key `key` is to be looked for in the table of `author`.
     #[inline(always)]
@@ -134,66 +213,10 @@ impl Plan for Finding {
 
     #[inline(always)]
     fn next(&mut self, word: u64) -> Option<Found> {
+        let state = self.state;
         let block = (word % (1 << 20)) as u32;
-        let FindState {
-            key,
-            home,
-            first,
-            entry,
-            ..
-        } = self.state;
-        match self.state.point {
-            FindPoint::Home => {
-                self.state.home = block;
-                self.state.point = FindPoint::Bucket;
-                let none = block == 0;
-                if none {
-                    Some(Found::Absent { home: 0, first: 0 })
-                } else {
-                    None
-                }
-            }
-            FindPoint::Bucket => {
-                self.state.first = block;
-                self.state.entry = block;
-                self.state.before = home;
-                self.state.word = (key % 16) as u8;
-                self.state.point = FindPoint::Key;
-                let empty = block == 0;
-                if empty {
-                    Some(Found::Absent { home, first: 0 })
-                } else {
-                    None
-                }
-            }
-            FindPoint::Key => {
-                self.state.point = FindPoint::Next;
-                let before = self.state.before;
-                let word_there = self.state.word;
-                let same = word == u64::from(key);
-                if same {
-                    Some(Found::At {
-                        entry,
-                        before,
-                        word: word_there,
-                    })
-                } else {
-                    None
-                }
-            }
-            FindPoint::Next => {
-                self.state.before = entry;
-                self.state.word = 0;
-                self.state.entry = block;
-                self.state.point = FindPoint::Key;
-                let ended = block == 0;
-                if ended {
-                    Some(Found::Absent { home, first })
-                } else {
-                    None
-                }
-            }
-        }
+        self.state = goes(state, block);
+        answers(state, word, block)
     }
 
     ghost laws = { find_laws };
