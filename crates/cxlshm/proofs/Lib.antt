@@ -7,7 +7,4 @@ pub mod FormWhole
 pub mod TopWords
 pub mod TopReads
 pub mod ProgramWords
-pub mod PoolReading
-pub mod ChainReading
-pub mod TableReading
-pub mod ValueNaming
+pub mod PutLogs

@@ -5,14 +5,10 @@
 
 mod command;
 mod form;
-mod pool_words;
-mod report;
-mod table_rows;
+mod puts;
 #[cfg(test)]
 mod tests;
-mod text;
 mod top;
-mod value_names;
 
 use command::{exit_code, program_words};
 use shm_io::{StdSink, StdSource};

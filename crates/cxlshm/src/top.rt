@@ -12,7 +12,7 @@ ghost use Rattle.cxlshm.specs.Report.{log_text};
 ghost use Rattle.cxlshm.specs.Outcomes.{accepted, usage_text, refused_text, read_limit, Replayed, Refused, Misused, Decided, Writes, WritesFront, IsStatus, RanOn, Answers};
 
 use crate::form::parse_form;
-use crate::report::report;
+use crate::puts::report_puts;
 use shm_io::{ReadStop, Sink, Source, read_to_limit, write_all};
 use shm_plain::{FirstRun, Pair, replay_first};
 use std::alloc::{AllocError, Global};
@@ -162,7 +162,13 @@ fn replay(alloc: Global, puts: &[Pair]) -> Result<Reply, AllocError>
     ensures run { IfOk result (λ r. RanOn (form_text puts.now) r.finished r.text.items) }
 {
     let run = replay_first(alloc, puts)?;
-    let text = report(alloc, run.closed.geometry(), run.closed.words(), puts)?;
+    let text = report_puts(
+        alloc,
+        run.closed.geometry(),
+        run.closed.words(),
+        puts,
+        run.blocks.as_slice(),
+    )?;
     Ok(Reply {
         status: 0,
         text,

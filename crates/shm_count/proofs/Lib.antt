@@ -3,3 +3,4 @@ pub mod RootSpots
 pub mod RootLeaves
 pub mod CallEvents
 pub mod TearWalks
+pub mod UpRootPart

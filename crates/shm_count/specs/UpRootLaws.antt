@@ -125,9 +125,9 @@ module _ (m : RootingState) (r0 rs r : Memo) (tr t : Trail) (es ds : List Event)
       let low = h.low in
       record { may = h.may; inside = h.inside; low = omega arith; same = same; agent = agent; era = h.era; room = h.room; before = more_set n h is some; none = none; bound = omega arith }
 
-  -- the step was made, or refused
-  stepped : (a : Result (Unit {0}) UpFault) → RootingKnows (record m { point = Step }) Step r0 rs tr es → TookUp c m.root m.block rs r t ds a × IsWithin 7 t → Follows rooting_parts rooting_plan (record m { point = Step }) (Second a) r0 r (tr ++ t) (es ++ ds)
-  stepped (Ok done) (h, empty) ((filled, told), short) =
+  -- the step was made
+  made : RootingKnows (record m { point = Step }) Step r0 rs tr es → TookUp c m.root m.block rs r t ds (Ok tt) × IsWithin 7 t → UpRootLeaves m.me m.block r0 r (tr ++ t) (es ++ ds) (Ok m.root)
+  made (h, empty) ((filled, told), short) =
       let own = h.era in
       let left = h.room in
       let bound = within_more (m.root + 2) 7 tr t h.bound short in
@@ -141,8 +141,10 @@ module _ (m : RootingState) (r0 rs r : Memo) (tr t : Trail) (es ds : List Event)
         events = ap (λ (x : List Event). x ++ ds) h.none ∙ told;
         bound = omega arith;
       }
-  stepped (Err (EraSpent e)) (h, empty) (g, short) = absurd g
-  stepped (Err (CountFull d n)) (h, empty) ((block, full, read, untouched, none), short) =
+
+  -- or refused
+  counted : (d n : ℕ) → RootingKnows (record m { point = Step }) Step r0 rs tr es → TookUp c m.root m.block rs r t ds (Err (CountFull d n)) × IsWithin 7 t → UpRootLeaves m.me m.block r0 r (tr ++ t) (es ++ ds) (Err (share.CountFull d n))
+  counted d n (h, empty) ((block, full, read, untouched, none), short) =
       let own = h.era in
       let left = h.room in
       let low = h.low in
@@ -273,7 +275,9 @@ rooting_laws =
         → Follows rooting_parts rooting_plan (record m { point = y }) a r0 r (tr ++ t) (es ++ ds)
     leads m Era r0 rs r tr t es ds (First n) h g held agent = by_era m r0 rs r tr t es ds n h g held agent
     leads m Look r0 rs r tr t es ds (First n) h g held agent = by_root m r0 rs r tr t es ds n h g agent
-    leads m Step r0 rs r tr t es ds (Second a) h g held agent = stepped (record m { point = Step }) r0 rs r tr t es ds a h g
+    leads m Step r0 rs r tr t es ds (Second (Ok done)) h g held agent = made (record m { point = Step }) r0 rs r tr t es ds h g
+    leads m Step r0 rs r tr t es ds (Second (Err (EraSpent e))) h g held agent = absurd g.0
+    leads m Step r0 rs r tr t es ds (Second (Err (CountFull d n))) h g held agent = counted (record m { point = Step }) r0 rs r tr t es ds d n h g
     leads m Era r0 rs r tr t es ds (Second a) h g held agent = absurd g
     leads m Look r0 rs r tr t es ds (Second a) h g held agent = absurd g
     leads m Step r0 rs r tr t es ds (First n) h g held agent = absurd g

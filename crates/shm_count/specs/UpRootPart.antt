@@ -14,15 +14,15 @@ use Rattle.shm_graph.proofs.Spotting.{same_spot_self}
 use Rattle.shm_steps.proofs.Reaching.{root_reached}
 use Rattle.shm_calls.specs.declared.calls.Calls.{Calls}
 use Rattle.shm_calls.specs.CallsControl.{calls_control, calls_of}
-use Rattle.shm_calls.specs.CallsPart.{MayCall, calls_part, calls_part_laws}
-use Rattle.shm_calls.specs.Parts.{Part, PartLaws}
+use Rattle.shm_calls.specs.CallsPart.{MayCall, calls_part}
+use Rattle.shm_calls.specs.Parts.{Part}
 use Rattle.shm_count.specs.declared.answer.ShareFault.{ShareFault}
 use Rattle.shm_count.specs.declared.answer.ShareFault.TheVariants.{EraSpent, RootsFull, CountFull}
 use Rattle.shm_count.specs.declared.up_root.RootingState.{RootingState}
 use Rattle.shm_count.specs.Roots.{root_word}
 use Rattle.shm_count.specs.UpRootControl.{RootingAnswer, RootingCall, rooting, rooting_parts}
 use Rattle.shm_count.specs.UpRootFits.{MayUpRoot, Rooted, UpRootLeaves, rooting_plan}
-use Rattle.shm_count.specs.UpRootLaws.{rooting_begin, rooting_laws}
+use Rattle.shm_count.specs.UpRootLaws.{rooting_begin}
 
 -- its states, and its control
 abbrev pub RootingCalls : Type 0
@@ -31,12 +31,9 @@ RootingCalls = Calls RootingState RootingCall (Result ℕ ShareFault) RootingAns
 abbrev pub up_root : Control RootingCalls (Result ℕ ShareFault)
 up_root = calls_control rooting_parts rooting_plan
 
--- the part; what it leaves is UpRootLeaves
+-- the part, whose laws stand in proofs/UpRootPart.antt; what it leaves is UpRootLeaves
 abbrev pub up_root_part : Part RootingCalls (Result ℕ ShareFault)
 up_root_part = calls_part rooting_parts rooting_plan
-
-pub up_root_laws : (first : Bool) → PartLaws first up_root up_root_part
-up_root_laws first = calls_part_laws rooting_parts rooting_plan rooting_laws first
 
 -- it may be called where a block in reach is to have a root
 pub may_up_root : (me : Me) (b : ℕ) (r : Memo) → MayUpRoot me b r → MayCall rooting_parts rooting_plan (calls_of rooting_plan (rooting me b)) r

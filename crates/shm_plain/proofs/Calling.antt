@@ -17,7 +17,7 @@ use Rattle.shm_graph.specs.declared.run.Start.{Start}
 use Rattle.shm_graph.specs.Idle.{IsIdle}
 use Rattle.shm_words.specs.Layout.{GeometryFits}
 use Rattle.shm_graph.specs.Asks.{Trail, call_before, pair}
-use Rattle.shm_graph.specs.Agents.{acts, recovers, recovers_by, is_recoverer, entered, is_gone, last_agent, with_last, ended, stepped}
+use Rattle.shm_graph.specs.Agents.{acts, recovers, entered, is_gone, last_agent, with_last, ended, stepped}
 use Rattle.shm_graph.specs.declared.memo.Seen.{Seen}
 use Rattle.shm_graph.specs.declared.run.Move.{Move}
 use Rattle.shm_graph.specs.declared.run.Move.TheVariants.{Word, Begins}

@@ -22,3 +22,4 @@ pub mod Running
 pub mod Turning
 pub mod OwnTurns
 pub mod Calling
+pub mod Stilling

@@ -9,3 +9,4 @@ pub mod Runs
 pub mod Tracks
 pub mod Pools
 pub mod Calls
+pub mod Closings

@@ -4,7 +4,7 @@ use Rattle.shm_words.specs.Layout.{GeometryFits, total_of}
 use Rattle.shm_graph.specs.Spots.{see}
 use Rattle.shm_graph.specs.Clean.{IsClean}
 use Rattle.shm_plain.specs.Shut.{Shut}
-use Rattle.shm_plain.specs.declared.closed.PlainClosed.TheInside.{Inside}
+use Rattle.shm_plain.specs.declared.first.closed.FirstClosed.TheInside.{Inside}
 
 abbrev pub shut_of : Inside → Shut
 shut_of a = record { geometry = a.geometry; words = a.words.items }

@@ -1,54 +1,71 @@
-//! A pool that was closed.
+//! Closing a pool.
 
+ghost use Rattle.std.specs.Prelude.{◌≡◌, ◌↔◌, true};
+ghost use Rattle.shm_plain.specs.Closings.{IsEnd, IsStill};
+
+use crate::pool::PlainPool;
 use shm_words::Geometry;
 use std::marker::Model;
 
-/// The words of a pool that was closed: nobody is at work on it, and each count is the number of references.
+/// A pool that was closed: nobody is at work on it, and each count is the number of references.
 ///
-/// Only a pool's own closing makes one.
+/// Only `PlainPool::close` makes one. Contracts see what they saw of the pool, with the turns that led to its words.
 #[derive(Drop)]
 pub struct PlainClosed {
-    geometry: Geometry,
-    words: Vec<u64>,
+    pool: PlainPool,
 }
 
 impl Model for PlainClosed {
-    ghost use Rattle.shm_plain.specs.Shut.{Shut};
+    ghost use Rattle.shm_plain.specs.Pools.{Pool};
+    ghost use Rattle.shm_plain.specs.Closings.{IsEnd};
 
-    ghost Value = { Shut };
+    ghost Value = { Pool };
 
-    ghost use Rattle.shm_plain.specs.ShutWords.{shut_of, IsShut};
+    ghost view = { λ c. c.pool };
 
-    ghost view = { shut_of };
-
-    ghost invariant = { IsShut };
+    ghost invariant = { λ c. IsEnd c.pool };
 }
 
 impl PlainClosed {
-    ghost use Rattle.std.specs.Prelude.{◌≡◌};
-    ghost use Rattle.shm_plain.specs.ShutWords.{IsClosed};
-
     /// The sizes of the pool.
     pub fn geometry(&self) -> Geometry
-        ensures is { result ≡ self.now.geometry }
-        ensures closed { IsClosed self.now }
+        ensures is { result ≡ self.now.start.geometry }
+        ensures end { IsEnd self.now }
     {
-        self.geometry
+        self.pool.geometry()
     }
 
     /// The words of the pool, by address.
     pub fn words(&self) -> &[u64]
         ensures is { result.now ≡ self.now.words }
-        ensures closed { IsClosed self.now }
+        ensures end { IsEnd self.now }
     {
-        self.words.as_slice()
+        self.pool.words()
+    }
+}
+
+impl PlainPool {
+    /// Whether each identity is one that nobody has joined or that is gone, as the words of the statuses say.
+    pub fn is_still(&self) -> bool
+        ensures { result ≡ true ↔ IsStill self.now }
+    {
+        let geometry = self.geometry();
+        for who in 0..geometry.clients() {
+            let status = self.word(geometry.status(who));
+            if status != 0 && status != 3 {
+                return false;
+            }
+        }
+        true
     }
 
-    /// The words of a pool that is clean.
-    pub(crate) fn of(geometry: Geometry, words: Vec<u64>) -> PlainClosed
-        requires { IsClosed (record { geometry = geometry; words = words.items }) }
-        ensures { result ≡ record { geometry = geometry; words = words.items } }
+    /// The pool, closed. It takes no memory and changes no word.
+    pub fn close(self) -> PlainClosed
+        requires { IsStill self }
+        ensures is { result ≡ self }
+        ensures end { IsEnd result }
     {
-        PlainClosed { geometry, words }
+        self.geometry();
+        PlainClosed { pool: self }
     }
 }

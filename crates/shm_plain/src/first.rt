@@ -6,12 +6,14 @@ ghost use Rattle.shm_plain.specs.Runs.{IsFirstRun};
 ghost use Rattle.shm_plain.specs.ShutWords.{IsClosed};
 
 mod blocks;
+pub mod closed;
 mod counts;
 mod places;
 mod pool;
 mod put;
 
-use crate::{Pair, PlainClosed};
+use crate::Pair;
+pub use closed::FirstClosed;
 use pool::FirstPool;
 use std::alloc::{AllocError, Global};
 
@@ -19,7 +21,7 @@ use std::alloc::{AllocError, Global};
 #[derive(Drop)]
 pub struct FirstRun {
     /// The pool, closed after the client has left.
-    pub closed: PlainClosed,
+    pub closed: FirstClosed,
     /// The addresses of the value blocks, one for each put, in order.
     pub blocks: Vec<u32>,
 }

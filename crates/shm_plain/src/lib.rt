@@ -11,7 +11,7 @@ pub mod pool;
 mod track;
 
 pub use closed::PlainClosed;
-pub use first::{FirstRun, replay_first};
+pub use first::{FirstClosed, FirstRun, replay_first};
 pub use pair::Pair;
 pub use pool::PlainPool;
 

@@ -86,6 +86,13 @@ impl PlainPool {
         self.words[at as usize]
     }
 
+    /// The words, by address.
+    pub(crate) fn words(&self) -> &[u64]
+        ensures { result.now ≡ self.now.words }
+    {
+        self.words.as_slice()
+    }
+
     /// One word step of a machine that works for `who`.
     ///
     /// Where no agent of `who` acts one begins before the step: a recoverer after a death, and otherwise a client. Where no life is

@@ -17,6 +17,7 @@ pub record Shown : Type 0 where
   pub line : List ℕ
   pub fresh : Bool
 
+-- what a machine shows of itself
 abbrev pub shown : {M A : Type 0} → Control M A → M → Shown
 shown k m = record { me = k.me m; line = k.line m; fresh = k.fresh m }
 
@@ -36,6 +37,7 @@ abbrev pub Going : Shown → Bool → List Step → Type 0
 Going s fresh [] = Unit {0}
 Going s fresh (t ∷ ts) = IsBy s fresh t × (t.ends ≡ false) × Going s false ts
 
+-- whether the next step is the machine's first one still
 abbrev pub fresh_after : Bool → List Step → Bool
 fresh_after fresh [] = fresh
 fresh_after fresh (t ∷ ts) = false

@@ -12,19 +12,22 @@ use Rattle.shm_graph.specs.Laws.{Control, step_of}
 use Rattle.shm_graph.specs.Runs.{Held, Leads, state, first_state, account_after, first_account, IsAmong, Stood}
 use Rattle.shm_graph.specs.Whole.{Learns}
 
--- how often the identity c stands in a view, and in all views
+-- how often the identity c stands in a view
 abbrev pub count_in : ℕ → List Account → ℕ
 count_in c [] = 0
 count_in c (r ∷ rs) = (if r.who == c then 1 else 0) + count_in c rs
 
+-- in all views
 abbrev pub count_by : ℕ → List (List Account) → ℕ
 count_by c [] = 0
 count_by c (v ∷ vs) = count_in c v + count_by c vs
 
+-- each account of a view is one of these
 abbrev pub Knows : List Account → List Account → Type 0
 Knows rs [] = Unit {0}
 Knows rs (r ∷ v) = IsAmong rs r × Knows rs v
 
+-- and each account of each view
 abbrev pub AllKnow : List Account → List (List Account) → Type 0
 AllKnow rs [] = Unit {0}
 AllKnow rs (v ∷ vs) = Knows rs v × AllKnow rs vs
@@ -38,9 +41,11 @@ pub record Rule (s : Start) (ws : List ℕ) (views : List (List Account)) : Type
   pub known : AllKnow accounts views
   pub stands : (c : ℕ) → c < s.geometry.clients → count_by c views ≡ 1
 
+-- an account of no pool, where a list has none
 abbrev pub no_account : Account
 no_account = first_account (record { geometry = record { clients = 0; segments = 0 }; first_era = 0; tables = false }) 0
 
+-- the first account of a view
 abbrev pub head_account : List Account → Account
 head_account [] = no_account
 head_account (r ∷ rs) = r
@@ -49,6 +54,7 @@ head_account (r ∷ rs) = r
 abbrev pub alone : Seat (Unit {0}) (List Account) → Account
 alone s = head_account s.me.0
 
+-- the seat answers for one identity, and nothing is left to note
 abbrev pub IsAlone : Seat (Unit {0}) (List Account) → Type 0
 IsAlone s = s.me ≡ (head_account s.me.0 ∷ [], [])
 

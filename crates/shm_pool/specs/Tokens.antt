@@ -33,6 +33,7 @@ pub record Acting : Type 0 where
   pub account : Account
   pub dead : Bool
 
+-- the pool of this table
 abbrev pub its : TableId → Start → Its
 its t s = record { table = t; start = s }
 
@@ -57,9 +58,11 @@ begun_account e = if acts e.memo then e else account_entered Client e
 abbrev pub recovering : Account → Account
 recovering e = account_entered Recoverer (account_died (begun_account e))
 
+-- the token of a seat
 abbrev pub token_of : Start → Seat (Unit {0}) (List Account) → Token
 token_of start s = record { of = its s.table_id start; account = alone s }
 
+-- and that of a client
 abbrev pub acting_of : Start → Bool → Seat (Unit {0}) (List Account) → Acting
 acting_of start dead s = record { of = its s.table_id start; account = alone s; dead = dead }
 
@@ -71,6 +74,7 @@ pub record IsSeated (start : Start) (c : ℕ) (s : Seat (Unit {0}) (List Account
   pub fits : GeometryFits start.geometry
   pub stood : Stood start (alone s)
 
+-- the identity of an account, in its pool
 abbrev pub me_of : Its → Account → Me
 me_of p r = record { geometry = p.start.geometry; who = r.who }
 
@@ -78,6 +82,7 @@ me_of p r = record { geometry = p.start.geometry; who = r.who }
 abbrev pub IsFor : {M A : Type 0} → Its → Account → Control M A → M → Type 0
 IsFor p r k m = (k.me m ≡ me_of p r) × (k.finished m ≡ false) × (k.fresh m ≡ true → r.memo.over ≡ true)
 
+-- the token of identity c as it is made
 abbrev pub token_first : Its → ℕ → Token
 token_first p c = record { of = p; account = first_account p.start c }
 
@@ -86,14 +91,17 @@ abbrev pub first_tokens : Its → ℕ → ℕ → List Token
 first_tokens p c zero = []
 first_tokens p c (suc n) = token_first p c ∷ first_tokens p (suc c) n
 
+-- all tokens are of this pool
 abbrev pub AllOf : Its → List Token → Type 0
 AllOf p [] = Unit {0}
 AllOf p (t ∷ ts) = (t.of ≡ p) × AllOf p ts
 
+-- the accounts of tokens
 abbrev pub accounts_of : List Token → List Account
 accounts_of [] = []
 accounts_of (t ∷ ts) = t.account ∷ accounts_of ts
 
+-- no agent acts for any of these
 abbrev pub AllStill : List Account → Type 0
 AllStill [] = Unit {0}
 AllStill (r ∷ rs) = IsStill r.memo × AllStill rs
@@ -108,6 +116,7 @@ abbrev pub by_who : ℕ → ℕ → List Account → List Account
 by_who c zero rs = []
 by_who c (suc n) rs = find c rs ∷ by_who (suc c) n rs
 
+-- the first view
 abbrev pub head_view : List (List Account) → List Account
 head_view [] = []
 head_view (v ∷ vs) = v
@@ -118,6 +127,7 @@ pub record End : Type 0 where
   pub words : List ℕ
   pub accounts : List Account
 
+-- the closed pool with these words and accounts
 abbrev pub end_of : Start → List ℕ → List Account → End
 end_of s ws rs = record { start = s; words = ws; accounts = rs }
 

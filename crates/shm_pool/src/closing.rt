@@ -13,12 +13,16 @@ use atomic_table::Closed;
 use shm_words::Geometry;
 use std::alloc::{AllocError, Global};
 
+/// Why a closing was refused.
 #[derive(Drop)]
 pub enum CloseCause {
+    /// There was no memory for the words.
     Memory(AllocError),
+    /// An identity's token isn't in the list; this is the least such identity.
     Missing { client: u8 },
 }
 
+/// Whether the token of this identity is in the list.
 fn has(all: &[Vacant], client: u8) -> bool
     ensures yes { result ≡ true → 1 ≤ count_in client (accounts_of all.now) }
     ensures no { result ≡ false → count_in client (accounts_of all.now) ≡ 0 }

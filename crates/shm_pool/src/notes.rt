@@ -45,12 +45,14 @@ impl<C: Kept> Play<(), View> for Keeps<C> {
     ghost then = { λ step before n now. (now.0 ≡ C.list) × (now.1 ≡ before.1) };
 }
 
+/// A table of one word for what a call accounts for.
 pub(crate) fn board(alloc: Global) -> Result<(Board, Place), AllocError>
     ensures { IfOk result (λ b. (b.0.shared.table_id.words ≡ 1) × (b.1.table_id ≡ b.0.shared.table_id) × (b.1.me.1 ≡ [])) }
 {
     Table::of_words(alloc, &[0], &())
 }
 
+/// Notes in the own seat what `C` keeps.
 fn keep_as<C: Kept>(board: &Board, note: &mut Place, _seat: &Place, _clients: u8)
     requires { (note.old.table_id ≡ board.now.shared.table_id) × (board.now.shared.table_id.words ≡ 1) }
     ensures { (note.new.me.0 ≡ C.list) × (note.new.me.1 ≡ note.old.me.1) }

@@ -54,6 +54,7 @@ impl Model for Closed {
     ghost invariant = { λ c. IsEnd c.start c.words.items (head_view c.badge.views) };
 }
 
+/// A closing that was refused: the pool and the tokens as they were, and why.
 #[derive(Drop)]
 pub struct CloseStop {
     pub pool: SharedPool,
@@ -62,12 +63,14 @@ pub struct CloseStop {
 }
 
 impl Closed {
+    /// The sizes of the pool.
     pub fn geometry(&self) -> Geometry
         ensures { result ≡ self.now.start.geometry }
     {
         self.start.geometry
     }
 
+    /// All words, in the order of their addresses.
     pub fn words(&self) -> &[u64]
         ensures words { result.now ≡ self.now.words }
         ensures end { IsEnd self.now.start self.now.words self.now.accounts }
@@ -132,6 +135,7 @@ impl SharedPool {
         }
     }
 
+    /// Puts what the tokens account for in order; the words are the last ones.
     fn finish(self, all: Vec<Vacant>, mut words: Vec<u64>, board: &Board, note: Place) -> Closed
         requires of { AllOf self all.items }
         requires all { (c : ℕ) → c < self.start.geometry.clients → 1 ≤ count_in c (accounts_of all.items) }

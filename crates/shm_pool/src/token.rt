@@ -325,6 +325,7 @@ fn note_change(top: &Top, place: &mut Place, begun: bool)
     note_recoverer(top, place);
 }
 
+/// Notes that a client has begun, where a join with no life left began none.
 fn note_begun(top: &Top, place: &mut Place, begun: bool)
     requires table { (place.old.table_id ≡ top.now.table_id) × (top.now.table_id.words ≡ total_of top.now.key.geometry) × IsAlone place.old }
     requires who { (alone place.old).who < top.now.key.geometry.clients }

@@ -1,5 +1,5 @@
 -- a part that leaves what it asked, besides what it leaves
-use Rattle.std.proofs.Common.{◌≡◌, ℕ, Bool, ap, ◌∙◌, [], ◌∷◌}
+use Rattle.std.proofs.Common.{◌≡◌, ℕ, Bool, ap, ◌∙◌, [], ◌∷◌, ◌++◌}
 use Rattle.shm_graph.specs.declared.ask.Ask.{Ask}
 use Rattle.shm_graph.specs.Asks.{Trail, pair}
 use Rattle.shm_graph.specs.Laws.{Control}
@@ -23,3 +23,7 @@ asked_part_laws first k p l =
 -- one word step asks one pair
 pub one_pair : (a : Ask) (t : Trail) (n : ℕ) → Asked a (λ x. Answers x) t n → t ≡ pair a n ∷ []
 one_pair a t n (x, (rest, (e, (none, same)))) = e ∙ (ap (λ (y : Trail). pair a x ∷ y) none ∙ ap (λ (y : ℕ). pair a y ∷ []) same)
+
+-- one pair more
+pub one_more : (a : Ask) (n x : ℕ) (tr u t : Trail) → tr ≡ u → n ≡ x → Asked a (λ y. Answers y) t n → tr ++ t ≡ u ++ pair a x ∷ []
+one_more a n x tr u t before same asked = ap (λ (y : Trail). y ++ t) before ∙ (ap (λ (y : Trail). u ++ y) (one_pair a t n asked) ∙ ap (λ (y : ℕ). u ++ pair a y ∷ []) same)

@@ -1,18 +1,22 @@
 -- a drop of a root as a plan: what is known before each call, and what is left
-use Rattle.std.specs.Prelude.{◌≡◌, ◌≢◌, ℕ, ◌+◌, ◌*◌, ◌<◌, ◌≤◌, Bool, true, not, ◌==◌, Result, Ok, Err, List, [], ◌∷◌, length}
+use Rattle.std.specs.Prelude.{◌≡◌, ◌≢◌, ℕ, ◌+◌, ◌*◌, ◌^◌, ◌<◌, ◌≤◌, Bool, true, false, not, ◌==◌, Result, Ok, Err, List, [], ◌∷◌, length}
 use Rattle.std.specs.List.{Contains}
 use Rattle.shm_words.specs.Layout.{total_of}
-use Rattle.shm_graph.specs.declared.spot.Spot.TheVariants.{Root}
+use Rattle.shm_graph.specs.declared.spot.Spot.TheVariants.{Era, Root}
 use Rattle.shm_graph.specs.declared.memo.Memo.{Memo}
 use Rattle.shm_graph.specs.Asks.{Trail, IsWithin}
 use Rattle.shm_graph.specs.Events.{Event}
 use Rattle.shm_graph.specs.Events as event
+use Rattle.shm_graph.specs.Views.{own_word}
 use Rattle.shm_calls.specs.Either.{or_part}
+use Rattle.shm_calls.specs.Parts.{IsHeld}
 use Rattle.shm_calls.specs.Plans.{Planned}
 use Rattle.shm_count.specs.declared.answer.EraSpent.{EraSpent}
-use Rattle.shm_count.specs.declared.point.Aim.TheVariants.{Down}
 use Rattle.shm_count.specs.CountParts.{tear_part}
-use Rattle.shm_count.specs.Roots.{root_step, root_word, RootLowered}
+use Rattle.shm_count.specs.Roots.{root_word}
+use Rattle.shm_count.specs.SlotLeaves.{Lost}
+use Rattle.shm_count.specs.SlotParts.{down_slot_part}
+use Rattle.shm_count.specs.StepControl.{IsInside}
 use Rattle.shm_graph.specs.Core.{core}
 use Rattle.shm_count.specs.TearEvents.{Visit, frees}
 use Rattle.shm_count.specs.TearFits.{CanTear}
@@ -21,18 +25,22 @@ use Rattle.shm_ref.specs.declared.drop_root.DropPoint.TheVariants.{Load, Lower, 
 use Rattle.shm_ref.specs.declared.drop_root.DropState.{DropState}
 use Rattle.shm_ref.specs.DropControl.{DropCall, DropAnswer, drop_call_at, drop_after, drop_turns, is_load}
 use Rattle.shm_ref.specs.Lefts.{Left, MayDrop, RootEvents, Stopped}
-use Rattle.shm_ref.specs.RootParts.{load_part, lower_part, MayLower}
+use Rattle.shm_ref.specs.RootParts.{load_part}
 use Rattle.shm_count.specs.TearMemos.{Remains}
 
 -- ---- on the way
 
--- the root is known to name the block, and nothing was done yet
+-- the root is known to name the block, a counted one of the pool, and nothing was done yet
 pub record IsLoaded (m : DropState) (r0 r : Memo) (tr : Trail) (es : List Event) : Type 0 where
+  pub may : MayDrop m.me r0
+  pub low : m.root < 16
   pub same : core r ≡ core r0
   pub names : root_word m.me.who r0 m.root ≡ m.block
+  pub some : m.block ≢ 0
+  pub inside : IsInside m.me m.block
   pub room : m.block + 2 ≤ total_of m.me.geometry
   pub counted : Contains r0.dying m.block → ⊥
-  pub lower : MayLower m.me m.root m.block (root_step m.me.geometry m.me.who m.root (Down m.block)) r
+  pub era : own_word r.own (Era m.me.who m.me.who) + 1 < 2 ^ 47
   pub none : es ≡ []
   pub bound : IsWithin 1 tr
 
@@ -41,8 +49,8 @@ pub record IsLowered (m : DropState) (r0 r : Memo) (tr : Trail) (es : List Event
   pub names : root_word m.me.who r0 m.root ≡ m.block
   pub some : m.block ≢ 0
   pub counted : Contains r0.dying m.block → ⊥
-  pub lowered : RootLowered m.me.who m.root m.block true r0 r
-  pub remains : Remains m.me.who r0 r
+  pub lost : Lost m.me.who (Root m.me.who m.root) false m.block 0 true r0 r
+  pub holds : IsHeld m.me r
   pub can : CanTear m.me m.block r
   pub told : es ≡ event.Down m.me.who (Root m.me.who m.root) m.block ∷ []
   pub bound : IsWithin 9 tr
@@ -87,7 +95,7 @@ drop_plan =
       call = λ m. drop_call_at m m.point;
       after = drop_after;
       turns = drop_turns;
-      part = λ m. or_part (load_part m.me m.root (is_load m.point)) (or_part (lower_part m.me m.root m.block) tear_part);
+      part = λ m. or_part (load_part m.me m.root (is_load m.point)) (or_part (down_slot_part (Root m.me.who m.root) false) tear_part);
       knows = λ m. DropKnows m m.point;
       leaves = DropLeaves;
     }

@@ -1,20 +1,18 @@
 -- what is owed of a drop of a root: each call leads on, to the next one or to what is left
-use Rattle.std.proofs.Common.{◌≡◌, ℕ, ◌+◌, ◌*◌, ◌%◌, ◌^◌, ◌≤◌, refl, sym, ap, ◌∙◌, subst, arith, Bool, true, false, not, List, [], ◌∷◌, ◌++◌, append-nil, inl, inr, length}
+use Rattle.std.proofs.Common.{◌≡◌, ◌≢◌, ℕ, ◌+◌, ◌*◌, ◌%◌, ◌^◌, ◌≤◌, refl, sym, ap, ◌∙◌, subst, arith, Bool, true, false, not, List, [], ◌∷◌, ◌++◌, append-nil, inl, inr, ◌⊎◌, length}
 use Rattle.std.specs.Prelude.{◌==◌, if◌then◌else◌, Some, None, Result, Ok, Err}
-use Rattle.std.specs.List.{Contains, filter}
-use Rattle.std.proofs.lemmas.Bool.{cases_eq, ne_eqb, false≢true}
-use Rattle.std.proofs.lemmas.List.Elements.{All-nil, Contains-push}
+use Rattle.std.specs.List.{Contains}
+use Rattle.std.proofs.lemmas.Bool.{cases_eq, ne_eqb}
+use Rattle.std.proofs.lemmas.List.Elements.{All-nil}
 use Rattle.shm_words.proofs.Placing.{total_small}
 use Rattle.shm_words.specs.Layout.{total_of}
 use Rattle.shm_graph.specs.declared.ask.Ask.TheVariants as ask
 use Rattle.shm_graph.specs.declared.spot.Spot.TheVariants.{Root}
 use Rattle.shm_graph.specs.declared.memo.Memo.{Memo}
-use Rattle.shm_graph.specs.declared.memo.Op.TheVariants.{Nothing}
 use Rattle.shm_graph.specs.Asks.{Trail, IsWithin}
 use Rattle.shm_graph.specs.Events.{Event}
 use Rattle.shm_graph.specs.Events as event
 use Rattle.shm_graph.specs.Laws.{Outcome}
-use Rattle.shm_graph.specs.Stores.{not_block}
 use Rattle.shm_calls.specs.declared.or.Or.TheVariants.{First, Second}
 use Rattle.shm_calls.specs.CallTells.{within_more}
 use Rattle.shm_calls.specs.Either.{or_control, or_part, or_part_laws}
@@ -23,25 +21,29 @@ use Rattle.shm_calls.specs.Plans.{PlanLaws, PlanStays, IsCall, Follows}
 use Rattle.shm_calls.specs.Words.{word_control, word_part_laws, WordLeaves}
 use Rattle.shm_count.specs.declared.answer.EraSpent.{EraSpent}
 use Rattle.shm_count.specs.CountParts.{tear_part, tear_part_laws}
-use Rattle.shm_count.specs.Lowering.{without_new}
+use Rattle.shm_count.specs.Lowering.{dies, torn_leaves}
+use Rattle.shm_count.specs.SlotLeaves.{Lost, StepLeft}
+use Rattle.shm_count.specs.SlotParts.{down_slot_laws, down_slot_part, era_room}
 use Rattle.shm_count.specs.Roots.{root_word}
 use Rattle.shm_count.specs.StepControl.{IsInside}
 use Rattle.shm_graph.specs.Core.{core}
-use Rattle.shm_count.specs.StepMachines.{down_control}
+use Rattle.shm_count.specs.StepMachines.{down_control, down_told}
 use Rattle.shm_steps.proofs.Cores.{here_same}
 use Rattle.shm_count.specs.TearControl.{tear_control}
-use Rattle.shm_count.specs.TearEvents.{Visit, frees}
+use Rattle.shm_count.specs.declared.point.Aim.TheVariants.{Down}
+use Rattle.shm_count.specs.TearEvents.{Visit, Walks, frees}
 use Rattle.shm_count.specs.TearFits.{TearLeaves}
 use Rattle.shm_ref.specs.declared.drop_root.DropPoint.{DropPoint}
 use Rattle.shm_ref.specs.declared.drop_root.DropPoint.TheVariants.{Load, Lower, Tear}
 use Rattle.shm_ref.specs.declared.drop_root.DropState.{DropState}
 use Rattle.shm_ref.specs.DropControl.{DropAnswer, drop_parts, root_at, drop_call_at, is_load}
-use Rattle.shm_ref.specs.DropFits.{IsLoaded, IsLowered, DropKnows, DropLeaves, drop_plan}
-use Rattle.shm_ref.specs.Leaving.{all_outside, left_core, left_lowered, left_stays, lowered_core, may_still, named_events}
+use Rattle.shm_ref.specs.DropFits.{Dropped, IsLoaded, IsLowered, DropKnows, DropLeaves, drop_plan}
+use Rattle.shm_ref.specs.CoreLeaves.{lost_root, untouched_core}
+use Rattle.shm_ref.specs.Leaving.{all_outside, left_core, left_took, left_untouched, may_still, named_events, remains_took, remains_untouched, root_took, stopped_at}
 use Rattle.shm_ref.specs.Lefts.{RootEvents}
 use Rattle.shm_steps.specs.WordParts.{OwnLoaded}
-use Rattle.shm_ref.specs.RootParts.{load_needs, load_part, lower_laws, lower_part, LoweredBy, root_names}
-use Rattle.shm_count.specs.Retaining.{held_counted, remains_core, remains_then}
+use Rattle.shm_ref.specs.RootParts.{load_needs, load_part, lower_needs, root_names}
+use Rattle.shm_count.specs.Retaining.{remains_core}
 
 stays : (m : DropState) (b : DropAnswer) → PlanStays drop_parts drop_plan m b
 stays m (First n) = record { same_me = refl; same_line = refl; same_start = refl; started = λ e. refl }
@@ -58,7 +60,9 @@ calls m Tear = record { me = refl; asks = refl }
 
 opens : (m : DropState) (y : DropPoint) (r0 r : Memo) (tr : Trail) (es : List Event) → DropKnows (record m { point = y }) y r0 r tr es → (drop_plan.part (record m { point = y })).needs (drop_call_at m y) r
 opens m Load r0 r tr es h = load_needs m.me m.root h.0.who h.1 true r
-opens m Lower r0 r tr es h = h.lower
+opens m Lower r0 r tr es h =
+    let may = may_still m.me (λ j. false) r0 r h.may (left_core m.me.who (λ j. false) r0 r h.may.idle h.same) in
+    (refl, lower_needs m.me m.root m.block r may h.low (ap (λ (x : Memo). root_word m.me.who x m.root) h.same ∙ h.names) h.some h.inside h.era)
 opens m Tear r0 r tr es h = record { made = refl; can = h.can }
 
 module _ (m : DropState) (r0 rs r : Memo) (tr t : Trail) (es ds : List Event) (held : IsHeld m.me r) where
@@ -106,61 +110,68 @@ module _ (m : DropState) (r0 rs r : Memo) (tr t : Trail) (es ds : List Event) (h
             subst (λ z. Outcome (if z == 0 then Some (Ok false) else None) (IsLoaded (after z) r0 r (tr ++ t) (es ++ ds)) left) (sym small)
             (subst (λ z. Outcome (if z then Some (Ok false) else None) (IsLoaded (after n) r0 r (tr ++ t) (es ++ ds)) left) (sym (ne_eqb n 0 some))
             (record {
+              may = may;
+              low = low;
               same = cored;
               names = names;
+              some = some;
+              inside = subst (IsInside m.me) e y.0;
               room = subst (λ x. x + 2 ≤ total_of m.me.geometry) e y.1;
               counted = λ h. y.2 (subst (λ (xs : List ℕ). Contains xs (root_word c r k)) (sym (ap (λ (x : Memo). x.dying) cored)) (subst (Contains r0.dying) (sym e) h));
-              lower = record { made = refl; may = may_still m.me (λ j. false) r0 r may (left_core c (λ j. false) r0 r may.idle cored); low = low; names = e; some = some; inside = subst (IsInside m.me) e y.0; era = y.3 };
+              era = era_room m.me r held may.who idle;
               none = silent;
               bound = bound;
             }))
             )
       ]
 
+  -- the root is empty, and the zero-count blocks are those before
+  dropped : (x : List Event) → root_word c r0 k ≡ b → b ≢ 0 → Lost c (Root c k) false b 0 false r0 r → es ++ ds ≡ event.Down c (Root c k) b ∷ x → (x ≡ []) ⊎ Walks c b x [] → IsWithin (9 + 164 * frees (es ++ ds)) (tr ++ t)
+      → Dropped (record m { block = 0; point = Load }) r0 r (tr ++ t) (es ++ ds) true
+  dropped x names some lost told walk bound =
+      record {
+        left = left_took c k b false r0 r lost.took;
+        remains = remains_took c k b r0 r lost.took;
+        root = root_took c k b false r0 r lost.took;
+        dying = lost.dying ∙ append-nil r0.dying;
+        named = ap not (sym (ne_eqb (root_word c r0 k) 0 (λ e. some (sym names ∙ e))));
+        events = subst (λ y. RootEvents c k y (es ++ ds)) (sym names) (named_events c k b (es ++ ds) x some told walk);
+        bound = bound;
+      }
+
   -- the root was lowered, from what was known
-  lowered : (a : Result Bool EraSpent) → IsLoaded m r0 rs tr es → LoweredBy c k b rs r ds a × IsWithin 8 t → Leads (Second (First a))
-  lowered (Ok true) h ((low, told), short) =
-      let y = lowered_core c k b true r0 rs r h.same low in
-      let dies : Contains r.dying b = subst (λ (xs : List ℕ). Contains xs b) (sym y.dying) (Contains-push r0.dying b) in
+  lowered : (a : Result Bool EraSpent) → IsLoaded m r0 rs tr es → StepLeft m.me (Down b) (Root c k) false rs r t ds (down_told a) → Leads (Second (First a))
+  lowered (Ok true) h s =
+      let lost = lost_root r0 rs r h.same c k b 0 true s.did.0 in
       record {
         names = h.names;
-        some = h.lower.some;
+        some = h.some;
         counted = h.counted;
-        lowered = y;
-        remains = record { looks = inr y.looks; slots = y.slots; words = λ d p x named o has. y.words d p x named (λ _. held_counted m.me r held h.lower.may.who d b named dies) o has; values = y.values };
+        lost = lost;
+        holds = held;
         can = record {
-          geometry = h.lower.may.geometry;
-          who = h.lower.may.who;
-          here = here_same rs r (ap (λ (x : Memo). x.status) low.rest) h.lower.may.here;
-          idle = y.op;
-          inside = h.lower.inside;
+          geometry = h.may.geometry;
+          who = h.may.who;
+          here = here_same r0 r (ap (λ (x : Memo). x.status) lost.took.rest) h.may.here;
+          idle = lost.took.op;
+          inside = h.inside;
           room = h.room;
-          dying = dies;
+          dying = dies m.me (Root c k) false b 0 r0 r r h.may.who held lost;
         };
-        told = ap (λ (x : List Event). x ++ ds) h.none ∙ told;
-        bound = within_more 1 8 tr t h.bound short;
+        told = ap (λ (x : List Event). x ++ ds) h.none ∙ s.did.1;
+        bound = within_more 1 8 tr t h.bound s.bound;
       }
-  lowered (Ok false) h ((low, told), short) =
-      let y = lowered_core c k b false r0 rs r h.same low in
-      let bound = within_more 1 8 tr t h.bound short in
-      record {
-        left = left_lowered c k b false r0 r y;
-        remains = record { looks = inr y.looks; slots = y.slots; words = λ d p x named o has. y.words d p x named (λ u. absurd (false≢true u)) o has; values = y.values };
-        root = y.root;
-        dying = y.dying ∙ append-nil r0.dying;
-        named = ap not (sym (ne_eqb (root_word c r0 k) 0 (λ e. h.lower.some (sym h.names ∙ e))));
-        events = subst (λ x. RootEvents c k x (es ++ ds)) (sym h.names) (named_events c k b (es ++ ds) [] h.lower.some (ap (λ (x : List Event). x ++ ds) h.none ∙ told) (inl refl));
-        bound = omega arith;
-      }
-  lowered (Err e) h ((same, told, spent), short) =
-      let bound = within_more 1 8 tr t h.bound short in
-      let cored : core r ≡ core r0 = same ∙ h.same in
-      let idle : r0.op ≡ Nothing = sym (ap (λ (x : Memo). x.op) h.same) ∙ h.lower.may.idle in (
+  lowered (Ok false) h s =
+      let bound = within_more 1 8 tr t h.bound s.bound in
+      dropped [] h.names h.some (lost_root r0 rs r h.same c k b 0 false s.did.0) (ap (λ (x : List Event). x ++ ds) h.none ∙ s.did.1) (inl refl) (omega arith)
+  lowered (Err e) h s =
+      let bound = within_more 1 8 tr t h.bound s.bound in
+      let same = untouched_core r0 rs r h.same c s.did.0 in (
         [],
         record {
-          left = left_core c (λ j. k == j) r0 r idle cored;
-          remains = remains_core c r0 r cored;
-          stopped = record { left = All-nil (λ (v : Visit). Contains r.dying v.block); others = all_outside r.dying ∙ ap (λ (x : Memo). x.dying) cored; spent = spent };
+          left = left_untouched c (λ j. k == j) r0 r h.may.idle same;
+          remains = remains_untouched c r0 r same;
+          stopped = record { left = All-nil (λ (v : Visit). Contains r.dying v.block); others = all_outside r.dying ∙ ap (λ (x : Memo). x.dying) same.rest; spent = s.did.1.1 };
           bound = omega arith;
         },
       )
@@ -175,30 +186,20 @@ module _ (m : DropState) (r0 rs r : Memo) (tr t : Trail) (es ds : List Event) (h
       same_frees : frees (es ++ ds) ≡ frees ds
       same_frees = ap frees told ∙ omega arith
 
-      others : filter (not_block b) rs.dying ≡ r0.dying
-      others = ap (filter (not_block b)) h.lowered.dying ∙ without_new b r0.dying h.counted
-
       go : (a : Result (Unit {0}) EraSpent) → TearLeaves m.me b rs r ds t a → Leads (Second (Second a))
       go (Ok done) y =
           let f = same_frees in
           let bound = within_more 9 (164 * frees ds) tr t h.bound y.bound in
-          record {
-            left = left_stays c (λ j. k == j) r0 rs r (left_lowered c k b true r0 rs h.lowered) y.stays;
-            remains = remains_then c r0 rs r h.remains y.stays y.retains;
-            root = y.stays.own (Root c k) refl ∙ h.lowered.root;
-            dying = y.others ∙ others;
-            named = ap not (sym (ne_eqb (root_word c r0 k) 0 (λ e. h.some (sym h.names ∙ e))));
-            events = subst (λ x. RootEvents c k x (es ++ ds)) (sym h.names) (named_events c k b (es ++ ds) ds h.some told (inr y.walks));
-            bound = omega arith;
-          }
+          dropped ds h.names h.some (torn_leaves m.me (Root c k) false b 0 r0 rs r h.can.who h.holds h.lost h.counted ds t (Ok done) y) told (inr y.walks) (omega arith)
       go (Err e) (vs, y) =
           let f = same_frees in
-          let bound = within_more 9 (164 * (frees ds + length vs)) tr t h.bound y.bound in (
+          let bound = within_more 9 (164 * (frees ds + length vs)) tr t h.bound y.bound in
+          let took = (torn_leaves m.me (Root c k) false b 0 r0 rs r h.can.who h.holds h.lost h.counted ds t (Err e) (vs, y)).0 in (
             vs,
             record {
-              left = left_stays c (λ j. k == j) r0 rs r (left_lowered c k b true r0 rs h.lowered) y.stays;
-              remains = remains_then c r0 rs r h.remains y.stays y.retains;
-              stopped = record { left = y.left; others = y.others ∙ others; spent = y.last };
+              left = left_took c k b false r0 r took;
+              remains = remains_took c k b r0 r took;
+              stopped = stopped_at m.me b r0 rs r ds t e.era vs h.lost.dying h.counted y;
               bound = omega arith;
             },
           )
@@ -221,8 +222,8 @@ drop_laws =
       stays = stays;
       calls = λ m. calls m m.point;
       parts = λ m. let first = is_load m.point in
-          or_part_laws first word_control (or_control down_control tear_control) (load_part m.me m.root first) (or_part (lower_part m.me m.root m.block) tear_part) (word_part_laws first m.me (ask.Load (root_at m)) (OwnLoaded (Root m.me.who m.root)))
-          (or_part_laws first down_control tear_control (lower_part m.me m.root m.block) tear_part (lower_laws m.me m.root m.block first) (tear_part_laws first));
+          or_part_laws first word_control (or_control down_control tear_control) (load_part m.me m.root first) (or_part (down_slot_part (Root m.me.who m.root) false) tear_part) (word_part_laws first m.me (ask.Load (root_at m)) (OwnLoaded (Root m.me.who m.root)))
+          (or_part_laws first down_control tear_control (down_slot_part (Root m.me.who m.root) false) tear_part (down_slot_laws (Root m.me.who m.root) false first) (tear_part_laws first));
       opens = λ m. opens m m.point;
       leads = λ m r0 rs r tr t es ds a h g held same. leads m m.point r0 rs r tr t es ds a h g held;
     }

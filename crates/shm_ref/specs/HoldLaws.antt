@@ -2,9 +2,7 @@
 use Rattle.std.proofs.Common.{◌≡◌, ◌≢◌, ℕ, ◌+◌, ◌%◌, ◌<◌, ◌≤◌, refl, ap, ◌∙◌, arith, Bool, true, false, List, [], ◌∷◌, ◌++◌, inl, inr}
 use Rattle.std.specs.Prelude.{◌-◌, ◌==◌, if◌then◌else◌, Some, None, Ok}
 use Rattle.std.proofs.lemmas.Bool.{cases_eq, cond-true, eqb-true, eqb-false, lt-ltb}
-use Rattle.shm_graph.specs.declared.ask.Ask.{Ask}
 use Rattle.shm_graph.specs.declared.ask.Me.{Me}
-use Rattle.shm_graph.specs.Trails.{Answers, Asked}
 use Rattle.shm_words.specs.declared.place.Place.TheVariants as place
 use Rattle.shm_words.specs.Layout.{address}
 use Rattle.shm_graph.specs.declared.spot.Spot.TheVariants.{Hold, Latch}
@@ -30,7 +28,7 @@ use Rattle.shm_steps.proofs.Cores.{called_core, here_same}
 use Rattle.shm_ref.specs.declared.hold.HoldPoint.{HoldPoint}
 use Rattle.shm_ref.specs.declared.hold.HoldPoint.TheVariants.{Want, Take, Back}
 use Rattle.shm_ref.specs.declared.hold.HoldState.{HoldState}
-use Rattle.shm_ref.specs.AskedParts.{asked_part_laws, one_pair}
+use Rattle.shm_ref.specs.AskedParts.{asked_part_laws, one_more}
 use Rattle.shm_ref.specs.HoldControl.{holding, hold_ask, hold_call, is_want}
 use Rattle.shm_ref.specs.HoldFits.{MayTakeLatch, IsWanted, wants, HoldKnows, HoldLeaves, HoldFound, hold_part, hold_plan}
 
@@ -107,10 +105,6 @@ number_of n k some most few = (omega arith, omega arith)
 -- what a word step left, and what it asked
 abbrev Leaves : HoldState → HoldPoint → Memo → Memo → Trail → List Event → ℕ → Type 0
 Leaves m y = (hold_part (record m { point = y }) y).leaves (hold_call m y)
-
--- one pair more
-one_more : (a : Ask) (n x : ℕ) (tr u t : Trail) → tr ≡ u → n ≡ x → Asked a (λ y. Answers y) t n → tr ++ t ≡ u ++ pair a x ∷ []
-one_more a n x tr u t before same asked = ap (λ (y : Trail). y ++ t) before ∙ (ap (λ (y : Trail). u ++ y) (one_pair a t n asked) ∙ ap (λ (y : ℕ). u ++ pair a y ∷ []) same)
 
 -- the exchange found nobody's latch, or another's
 took : (m : HoldState) (r0 rs r : Memo) (es : List Event) (tr : Trail) (n : ℕ) → IsWanted m.me m.author r0 rs es → n ≤ m.me.geometry.clients → ((x : ℕ) → n ≡ x → tr ≡ pair (hold_ask m.me m.author Want) 0 ∷ pair (hold_ask m.me m.author Take) x ∷ [])

@@ -1,26 +1,33 @@
--- how memos come to leave roots: by what leaves the core, by a step down at a root, and by a tear-down
-use Rattle.std.proofs.Common.{◌≡◌, ◌≢◌, ℕ, zero, suc, ◌+◌, refl, sym, ap, ◌∙◌, subst, arith, Bool, true, false, not, cond, eqb, ◌&&◌, List, [], ◌∷◌, ◌++◌, inl, inr}
+-- how memos come to leave roots: by what leaves the core, and by a step down at a root, with or without a tear-down after it
+use Rattle.std.proofs.Common.{◌≡◌, ◌≢◌, ℕ, zero, suc, ◌+◌, refl, sym, ap, ◌∙◌, subst, arith, Bool, true, false, cond, eqb, ◌&&◌, List, [], ◌∷◌, ◌++◌, inl, inr}
 use Rattle.std.specs.Prelude.{◌==◌, ◌||◌, ◌⊎◌}
 use Rattle.std.specs.List.{Contains, filter}
-use Rattle.std.proofs.lemmas.Bool.{cases_Bool, eq-eqb, ne_eqb, eqb-true}
-use Rattle.std.proofs.lemmas.List.Elements.{Contains-append_right}
+use Rattle.std.proofs.lemmas.Bool.{and_from, cases_Bool, eq-eqb, false≢true}
 use Rattle.shm_graph.specs.declared.ask.Me.{Me}
 use Rattle.shm_graph.specs.declared.spot.Spot.{Spot}
-use Rattle.shm_graph.specs.declared.spot.Spot.TheVariants.{Root}
+use Rattle.shm_graph.specs.declared.spot.Spot.TheVariants.{Home, Root}
 use Rattle.shm_graph.specs.declared.memo.Memo.{Memo}
 use Rattle.shm_graph.specs.declared.memo.Op.TheVariants.{Nothing}
 use Rattle.shm_graph.specs.Events.{Event}
 use Rattle.shm_graph.specs.Events as event
+use Rattle.shm_graph.specs.declared.table.Part.{Part}
+use Rattle.shm_graph.specs.declared.table.Part.TheVariants.{Loose, Table}
+use Rattle.shm_graph.specs.Asks.{Trail}
+use Rattle.shm_graph.specs.Chains.{part_set}
+use Rattle.shm_graph.specs.Ops.{cover}
+use Rattle.shm_graph.specs.Ops.Cover.{On}
 use Rattle.shm_graph.specs.Spots.{same_spot}
 use Rattle.shm_graph.specs.Stores.{not_block}
+use Rattle.shm_graph.proofs.Spotting.{same_spot_self}
 use Rattle.shm_graph.specs.Views.{own_word}
-use Rattle.shm_count.specs.Lowering.{stays_rest}
-use Rattle.shm_count.specs.Roots.{rest, root_word, RootLowered}
+use Rattle.shm_count.specs.Lowering.{StoppedAt, without_new}
+use Rattle.shm_count.specs.Roots.{rest, root_word}
+use Rattle.shm_count.specs.SlotLeaves.{Took, Untouched}
 use Rattle.shm_graph.specs.Core.{core}
-use Rattle.shm_count.specs.TearEvents.{Walks, frees}
+use Rattle.shm_count.specs.TearEvents.{Visit, Walks, frees}
 use Rattle.shm_steps.proofs.Cores.{here_same}
-use Rattle.shm_count.specs.TearFits.{is_outside}
-use Rattle.shm_count.specs.TearMemos.{Stays, is_slot_word}
+use Rattle.shm_count.specs.TearFits.{TornPartly, is_outside}
+use Rattle.shm_count.specs.TearMemos.{Remains, is_slot_word}
 use Rattle.shm_ref.specs.Lefts.{is_root_of, Left, MayDrop, RootEvents}
 use Rattle.shm_graph.specs.declared.memo.Stored.{Stored}
 
@@ -60,41 +67,41 @@ other_root c k (Root d j) e = e
 other_root c k _ e = refl
 
 -- a step down emptied a root
-pub left_lowered : (c k t : ℕ) (z : Bool) (m r : Memo) → RootLowered c k t z m r → Left c (λ j. k == j) m r
-left_lowered c k t z m r h =
+pub left_took : (c k t : ℕ) (z : Bool) (m r : Memo) → Took c (Root c k) false t 0 z m r → Left c (λ j. k == j) m r
+left_took c k t z m r h =
     record {
-      rest = h.rest;
+      rest = h.rest ∙ ap (λ (x : Part). rest (record m { part = x })) (no_part m.known c (cover (On (Root c k) 0) (Home c) (own_word m.own (Home c))) k m.part);
       op = h.op;
-      own = λ p l n. h.own p l (other_root c k p n);
+      own = λ p l n. h.own p l ∙ ap (λ z. cond z 0 (own_word m.own p)) (other_root c k p n);
       roots = λ j. elim (cases_Bool (eqb k j)) [
-        | inl e ↦ inl (subst (λ i. root_word c r i ≡ 0) (eqb-true k j e) h.root)
-        | inr e ↦ inr (h.own (Root c j) refl (right_false (eqb c c) (eqb k j) e))
+        | inl e ↦ inl (h.own (Root c j) refl ∙ ap (λ z. cond z 0 (own_word m.own (Root c j))) (and_from (eqb c c) (eqb k j) (eq-eqb c c refl) e))
+        | inr e ↦ inr (h.own (Root c j) refl ∙ ap (λ z. cond z 0 (own_word m.own (Root c j))) (right_false (eqb c c) (eqb k j) e))
       ];
     }
+  where
+    no_part : (ks : List Stored) (c home k : ℕ) (part : Part) → part_set ks c home (Root c k) 0 part ≡ part
+    no_part ks c home k Loose = refl
+    no_part ks c home k (Table chains) = refl
 
--- and what was left before
-pub left_stays : (c : ℕ) (e : ℕ → Bool) (m q r : Memo) → Left c e m q → Stays c q r → Left c e m r
-left_stays c e m q r h s =
-    record {
-      rest = stays_rest c q r s ∙ h.rest;
-      op = ap (λ (x : Memo). x.op) s.rest ∙ h.op;
-      own = λ p l n. s.own p l ∙ h.own p l n;
-      roots = λ j. elim (h.roots j) [ inl u ↦ inl (s.own (Root c j) refl ∙ u) | inr u ↦ inr (s.own (Root c j) refl ∙ u) ];
-    }
+-- so that it is empty
+pub root_took : (c k t : ℕ) (z : Bool) (m r : Memo) → Took c (Root c k) false t 0 z m r → root_word c r k ≡ 0
+root_took c k t z m r h = h.own (Root c k) refl ∙ ap (λ z. cond z 0 (own_word m.own (Root c k))) (same_spot_self (Root c k))
 
--- a step down after what leaves the core
-pub lowered_core : (c k t : ℕ) (z : Bool) (m q r : Memo) → core q ≡ core m → RootLowered c k t z q r → RootLowered c k t z m r
-lowered_core c k t z m q r same h =
+-- a step down was refused
+pub left_untouched : (c : ℕ) (e : ℕ → Bool) (m r : Memo) → m.op ≡ Nothing → Untouched c m r → Left c e m r
+left_untouched c e m r idle h = record { rest = ap rest h.rest; op = ap (λ (x : Memo). x.op) h.rest ∙ idle; own = λ p l n. h.own p l; roots = λ j. inr (h.own (Root c j) refl) }
+
+-- what stays known then
+pub remains_took : (c k t : ℕ) (m r : Memo) → Took c (Root c k) false t 0 false m r → Remains c m r
+remains_took c k t m r h = let s = h.sifts in record { looks = inr s.looks; slots = s.slots; words = λ b p x l o has. s.words b p x l (λ u. absurd (false≢true u)) o has; values = s.values }
+
+pub remains_untouched : (c : ℕ) (m r : Memo) → Untouched c m r → Remains c m r
+remains_untouched c m r h =
     record {
-      rest = h.rest ∙ ap rest same;
-      op = h.op;
-      own = λ p l n. h.own p l n ∙ ap (λ (x : Memo). own_word x.own p) same;
-      root = h.root;
-      dying = h.dying ∙ ap (λ (x : Memo). x.dying ++ cond z (t ∷ []) []) same;
-      looks = h.looks;
-      slots = h.slots ∙ ap (λ (x : Memo). filter is_slot_word x.known) same;
-      words = λ b p x named other o has. h.words b p x named other o (subst (λ (s : List Stored). Contains s (record { spot = p; value = x })) (sym (ap (λ (y : Memo). y.known) same)) has);
-      values = λ b named has. h.values b named (subst (λ (s : List ℕ). Contains s b) (sym (ap (λ (y : Memo). y.values) same)) has);
+      looks = inl (ap (λ (x : Memo). x.looks) h.rest);
+      slots = ap (λ (x : Memo). filter is_slot_word x.known) h.rest;
+      words = λ b p x l o has. subst (λ (ks : List Stored). Contains ks (record { spot = p; value = x })) (sym (ap (λ (y : Memo). y.known) h.rest)) has;
+      values = λ b l has. subst (λ (vs : List ℕ). Contains vs b) (sym (ap (λ (y : Memo). y.values) h.rest)) has;
     }
 
 -- ---- several steps
@@ -141,6 +148,10 @@ left_none c e m idle = left_core c e m m idle refl
 -- it may be gone on
 pub may_still : (me : Me) (e : ℕ → Bool) (m r : Memo) → MayDrop me m → Left me.who e m r → MayDrop me r
 may_still me e m r may h = record { geometry = may.geometry; who = may.who; here = here_same m r (ap (λ (x : Memo). x.status) h.rest) may.here; idle = h.op }
+
+-- a tear-down of a block whose count came to 0 was stopped
+pub stopped_at : (me : Me) (t : ℕ) (m q r : Memo) (es : List Event) (tr : Trail) (era : ℕ) (vs : List Visit) → q.dying ≡ m.dying ++ t ∷ [] → (Contains m.dying t → ⊥) → TornPartly me t q r es tr era vs → StoppedAt me m r era vs
+stopped_at me t m q r es tr era vs dying counted y = record { left = y.left; others = y.others ∙ (ap (filter (not_block t)) dying ∙ without_new t m.dying counted); spent = y.last }
 
 -- ---- events
 

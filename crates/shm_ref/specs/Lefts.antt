@@ -1,6 +1,5 @@
 -- what is left of a memo once roots of its identity came to be empty
-use Rattle.std.specs.Prelude.{◌≡◌, ℕ, zero, suc, ◌-◌, ◌^◌, ◌<◌, ◌⊎◌, Bool, true, false, ◌&&◌, ◌==◌, List, [], ◌∷◌, ◌++◌}
-use Rattle.std.specs.List.{All, Contains, filter}
+use Rattle.std.specs.Prelude.{◌≡◌, ℕ, zero, suc, ◌<◌, ◌⊎◌, Bool, true, false, ◌&&◌, ◌==◌, List, [], ◌∷◌, ◌++◌}
 use Rattle.shm_words.specs.Layout.{GeometryFits}
 use Rattle.shm_graph.specs.declared.ask.Me.{Me}
 use Rattle.shm_graph.specs.declared.spot.Spot.{Spot}
@@ -11,9 +10,9 @@ use Rattle.shm_graph.specs.Events.{Event}
 use Rattle.shm_graph.specs.Events as event
 use Rattle.shm_graph.specs.Views.{own_word}
 use Rattle.shm_steps.specs.Conditions.{IsHere}
+use Rattle.shm_count.specs.Lowering.{StoppedAt}
 use Rattle.shm_count.specs.Roots.{rest, root_word}
 use Rattle.shm_count.specs.TearEvents.{Visit, Walks}
-use Rattle.shm_count.specs.TearFits.{is_outside}
 use Rattle.shm_count.specs.TearMemos.{is_lasting}
 
 -- a root of c among those that may come to be empty
@@ -41,10 +40,8 @@ RootEvents c k zero es = es ≡ []
 RootEvents c k x es = (ds : List Event) × (es ≡ event.Down c (Root c k) x ∷ ds) × ((ds ≡ []) ⊎ Walks c x ds [])
 
 -- the own era left no room for a step down: these blocks joined the zero-count blocks, and are still there
-pub record Stopped (me : Me) (m r : Memo) (era : ℕ) (vs : List Visit) : Type 0 where
-  pub left : All (λ v. Contains r.dying v.block) vs
-  pub others : filter (is_outside vs) r.dying ≡ m.dying
-  pub spent : 2 ^ 47 - 3 < era
+abbrev pub Stopped : Me → Memo → Memo → ℕ → List Visit → Type 0
+Stopped = StoppedAt
 
 -- the events of the first n roots, one after the other, which held what the memo says
 abbrev pub RootsEvents : ℕ → Memo → ℕ → List Event → Type 0

@@ -12,15 +12,28 @@ use Rattle.shm_calls.specs.CallsControl.{calls_control, calls_of, calls_does}
 use Rattle.shm_calls.specs.CallsFit.{CallsFits, CallsGives}
 use Rattle.shm_calls.specs.Words.{word_control}
 use Rattle.shm_count.specs.declared.answer.EraSpent.{EraSpent}
+use Rattle.shm_count.specs.declared.answer.ShareFault.{ShareFault}
+use Rattle.shm_count.specs.UpRootControl.{rooting, rooting_parts}
+use Rattle.shm_count.specs.UpRootFits.{rooting_plan}
+use Rattle.shm_count.specs.UpRootPart.{up_root}
 use Rattle.shm_ref.specs.declared.answer.Busy.{Busy}
+use Rattle.shm_ref.specs.declared.answer.LookFault.{LookFault}
+use Rattle.shm_ref.specs.declared.answer.NoSuchWord.{NoSuchWord}
+use Rattle.shm_ref.specs.declared.answer.NotHeld.{NotHeld}
 use Rattle.shm_ref.specs.declared.hold.HoldState.{HoldState}
+use Rattle.shm_ref.specs.declared.home_of.FindState.{FindState}
 use Rattle.shm_ref.specs.declared.drop_roots.RootsState.{RootsState}
+use Rattle.shm_ref.specs.declared.look.LookState.{LookState}
+use Rattle.shm_ref.specs.declared.read.ReadState.{ReadState}
 use Rattle.shm_ref.specs.declared.release.ReleaseState.{ReleaseState}
 use Rattle.shm_ref.specs.declared.root_of.NamingState.{NamingState}
 use Rattle.shm_ref.specs.DropControl.{dropping, drop_parts}
 use Rattle.shm_ref.specs.DropFits.{drop_plan}
 use Rattle.shm_ref.specs.HoldControl.{holding}
 use Rattle.shm_ref.specs.HoldFits.{hold_plan}
+use Rattle.shm_ref.specs.HomeFits.{finding, find_plan}
+use Rattle.shm_ref.specs.LookFits.{looking, look_plan}
+use Rattle.shm_ref.specs.ReadFits.{reading, read_plan}
 use Rattle.shm_ref.specs.ReleaseFits.{releasing, release_plan}
 use Rattle.shm_ref.specs.RootOfFits.{naming, naming_plan}
 use Rattle.shm_ref.specs.RootsControl.{RootsCall, drop_root, dropping_roots}
@@ -92,3 +105,56 @@ ReleaseGives me = CallsGives word_control release_plan (calls_of release_plan (r
 
 abbrev pub release_told : Me → Trail → List Event
 release_told me = happens_along release (calls_does word_control release_plan) (calls_of release_plan (releasing me))
+
+-- ---- another root for block b
+
+abbrev pub ShareFits : Me → ℕ → Memo → Memo → Trail → Type 0
+ShareFits me b = CallsFits rooting_parts rooting_plan (calls_of rooting_plan (rooting me b))
+
+abbrev pub ShareGives : Me → ℕ → Memo → Memo → Trail → Result ℕ ShareFault → Type 0
+ShareGives me b = CallsGives rooting_parts rooting_plan (calls_of rooting_plan (rooting me b))
+
+abbrev pub share_told : Me → ℕ → Trail → List Event
+share_told me b = happens_along up_root (calls_does rooting_parts rooting_plan) (calls_of rooting_plan (rooting me b))
+
+-- ---- what the home of a names
+
+abbrev pub home_of : Control (Calls FindState Word (Result ℕ NotHeld) ℕ) (Result ℕ NotHeld)
+home_of = calls_control word_control find_plan
+
+abbrev pub HomeFits : Me → ℕ → Memo → Memo → Trail → Type 0
+HomeFits me a = CallsFits word_control find_plan (calls_of find_plan (finding me a))
+
+abbrev pub HomeGives : Me → ℕ → Memo → Memo → Trail → Result ℕ NotHeld → Type 0
+HomeGives me a = CallsGives word_control find_plan (calls_of find_plan (finding me a))
+
+abbrev pub home_told : Me → ℕ → Trail → List Event
+home_told me a = happens_along home_of (calls_does word_control find_plan) (calls_of find_plan (finding me a))
+
+-- ---- what reference word k of block b names
+
+abbrev pub look : Control (Calls LookState Word (Result ℕ LookFault) ℕ) (Result ℕ LookFault)
+look = calls_control word_control look_plan
+
+abbrev pub LookFits : Me → ℕ → ℕ → Memo → Memo → Trail → Type 0
+LookFits me b k = CallsFits word_control look_plan (calls_of look_plan (looking me b k))
+
+abbrev pub LookGives : Me → ℕ → ℕ → Memo → Memo → Trail → Result ℕ LookFault → Type 0
+LookGives me b k = CallsGives word_control look_plan (calls_of look_plan (looking me b k))
+
+abbrev pub look_told : Me → ℕ → ℕ → Trail → List Event
+look_told me b k = happens_along look (calls_does word_control look_plan) (calls_of look_plan (looking me b k))
+
+-- ---- plain word k of block b
+
+abbrev pub read : Control (Calls ReadState Word (Result ℕ NoSuchWord) ℕ) (Result ℕ NoSuchWord)
+read = calls_control word_control read_plan
+
+abbrev pub ReadFits : Me → ℕ → ℕ → Memo → Memo → Trail → Type 0
+ReadFits me b k = CallsFits word_control read_plan (calls_of read_plan (reading me b k))
+
+abbrev pub ReadGives : Me → ℕ → ℕ → Memo → Memo → Trail → Result ℕ NoSuchWord → Type 0
+ReadGives me b k = CallsGives word_control read_plan (calls_of read_plan (reading me b k))
+
+abbrev pub read_told : Me → ℕ → ℕ → Trail → List Event
+read_told me b k = happens_along read (calls_does word_control read_plan) (calls_of read_plan (reading me b k))

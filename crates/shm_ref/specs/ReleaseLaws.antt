@@ -1,18 +1,17 @@
 -- what is owed of giving back a latch
-use Rattle.std.proofs.Common.{◌≡◌, ℕ, ◌+◌, ◌%◌, ◌<◌, refl, sym, ap, ◌∙◌, subst, arith, Bool, true, false, List, [], ◌∷◌, ◌++◌}
+use Rattle.std.proofs.Common.{◌≡◌, ℕ, ◌+◌, ◌%◌, ◌<◌, refl, sym, ap, ◌∙◌, subst, arith, Bool, true, false, List, [], ◌++◌}
 use Rattle.std.specs.Prelude.{◌-◌, ◌&&◌, ◌==◌, if◌then◌else◌, Some}
 use Rattle.std.proofs.Math.Nat.{mod-eq_of_lt}
 use Rattle.std.proofs.lemmas.Bool.{lt-ltb}
 use Rattle.shm_words.specs.declared.place.Place.TheVariants as place
 use Rattle.shm_words.specs.Layout.{address}
-use Rattle.shm_graph.specs.declared.ask.Ask.{Ask}
 use Rattle.shm_graph.specs.declared.ask.Me.{Me}
 use Rattle.shm_graph.specs.declared.spot.Spot.TheVariants.{Hold, Latch}
 use Rattle.shm_graph.specs.declared.memo.Memo.{Memo}
 use Rattle.shm_graph.specs.declared.memo.Op.{Op}
 use Rattle.shm_graph.specs.declared.memo.Op.TheVariants.{Nothing}
 use Rattle.shm_graph.specs.Agents.{recovers}
-use Rattle.shm_graph.specs.Asks.{Trail, pair}
+use Rattle.shm_graph.specs.Asks.{Trail}
 use Rattle.shm_graph.specs.Blocks.{classes}
 use Rattle.shm_graph.specs.Changes.{called, with_call, with_end}
 use Rattle.shm_graph.specs.Events.{Event}
@@ -20,7 +19,6 @@ use Rattle.shm_graph.specs.Laws.{framed}
 use Rattle.shm_graph.specs.Ops.{IsUncommitted}
 use Rattle.shm_graph.specs.Reach.{unlatched}
 use Rattle.shm_graph.specs.Spots.{spot_at}
-use Rattle.shm_graph.specs.Trails.{Answers, Asked}
 use Rattle.shm_graph.proofs.SpotPlaces.{spot-place}
 use Rattle.shm_steps.proofs.LatchBack.{latch_back}
 use Rattle.shm_steps.proofs.OwnStores.{hold_stored}
@@ -33,7 +31,7 @@ use Rattle.shm_steps.proofs.Cores.{here_same}
 use Rattle.shm_ref.specs.declared.release.ReleasePoint.{ReleasePoint}
 use Rattle.shm_ref.specs.declared.release.ReleasePoint.TheVariants.{Whose, Give, Back}
 use Rattle.shm_ref.specs.declared.release.ReleaseState.{ReleaseState}
-use Rattle.shm_ref.specs.AskedParts.{asked_part_laws, one_pair}
+use Rattle.shm_ref.specs.AskedParts.{asked_part_laws, one_more}
 use Rattle.shm_ref.specs.HoldFits.{wants}
 use Rattle.shm_ref.specs.ReleaseFits.{releasing, release_ask, release_call, is_whose, MayRelease, IsReleasing, whose_trail, given_trail, ReleaseKnows, ReleaseFound, release_part, release_plan}
 
@@ -100,10 +98,6 @@ opens m Back r0 r tr es h = back_word (record m { point = Back }) m.author r0 h.
 -- whose latch it is, from the hold word
 author_of : (n a k : ℕ) → n ≡ a + 1 → a < k → (n - 1) % k ≡ a
 author_of n a k e l = let less : n - 1 ≡ a = omega arith in ap (λ x. x % k) less ∙ mod-eq_of_lt l
-
--- one pair more
-one_more : (a : Ask) (n x : ℕ) (tr u t : Trail) → tr ≡ u → n ≡ x → Asked a (λ y. Answers y) t n → tr ++ t ≡ u ++ pair a x ∷ []
-one_more a n x tr u t before same asked = ap (λ (y : Trail). y ++ t) before ∙ (ap (λ (y : Trail). u ++ y) (one_pair a t n asked) ∙ ap (λ (y : ℕ). u ++ pair a y ∷ []) same)
 
 -- what a word step left, and what it asked
 abbrev Leaves : ReleaseState → ReleasePoint → Memo → Memo → Trail → List Event → ℕ → Type 0

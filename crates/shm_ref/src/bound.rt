@@ -4,11 +4,17 @@ ghost use Rattle.std.specs.Prelude.{◌≡◌, ℕ, ◌+◌, ◌*◌, Bool, Resu
 ghost use Rattle.shm_graph.specs.declared.ask.Me.{Me as AMe};
 ghost use Rattle.shm_graph.specs.declared.memo.Memo.{Memo as AMemo};
 ghost use Rattle.shm_graph.specs.Asks.{Trail, IsWithin};
+ghost use Rattle.shm_graph.specs.Bounds.{up_steps};
 ghost use Rattle.shm_count.specs.declared.answer.EraSpent.{EraSpent as ASpent};
+ghost use Rattle.shm_count.specs.declared.answer.ShareFault.{ShareFault as AShareFault};
+ghost use Rattle.shm_count.specs.declared.answer.ShareFault.TheVariants as share;
 ghost use Rattle.shm_count.specs.TearEvents.{Visit, frees};
 ghost use Rattle.shm_ref.specs.declared.answer.Busy.{Busy as ABusy};
+ghost use Rattle.shm_ref.specs.declared.answer.LookFault.TheVariants.{NoSuchRef, NotHeld};
+ghost use Rattle.shm_ref.specs.declared.answer.NoSuchWord.{NoSuchWord as ANoSuchWord};
+ghost use Rattle.shm_ref.specs.declared.answer.NotHeld.{NotHeld as ANotHeld};
 ghost use Rattle.shm_ref.specs.Lefts.{Stopped};
-ghost use Rattle.shm_ref.specs.Machines.{DropGives, drop_told, RootsGive, roots_told, HoldGives, ReleaseGives, RootOfGives};
+ghost use Rattle.shm_ref.specs.Machines.{DropGives, drop_told, RootsGive, roots_told, HoldGives, ReleaseGives, RootOfGives, ShareGives, HomeGives, LookGives, ReadGives};
 
 /// A drop of a root took at most 9 word steps and 164 for each block that it freed or left on the way, and three more for each exchange
 /// that failed.
@@ -39,4 +45,31 @@ pub fn release_bound()
 /// What a root names is told in one word step.
 pub fn root_of_bound()
     ensures { (me : AMe) (k : ℕ) (r0 r : AMemo) (tr : Trail) (b : ℕ) → RootOfGives me k r0 r tr b → length tr ≡ 1 }
+{}
+
+/// A share into root k took at most k + 9 word steps, one that was refused as spent one, one that found no empty root 17, and none more
+/// than 24, besides three for each exchange that failed.
+pub fn share_bound()
+    ensures done { (me : AMe) (b : ℕ) (r0 r : AMemo) (tr : Trail) (k : ℕ) → ShareGives me b r0 r tr (Ok k) → IsWithin (up_steps + 1 + k) tr }
+    ensures spent { (me : AMe) (b : ℕ) (r0 r : AMemo) (tr : Trail) (e : ℕ) → ShareGives me b r0 r tr (Err (share.EraSpent e)) → IsWithin 1 tr }
+    ensures full { (me : AMe) (b : ℕ) (r0 r : AMemo) (tr : Trail) → ShareGives me b r0 r tr (Err share.RootsFull) → IsWithin 17 tr }
+    ensures within { (me : AMe) (b : ℕ) (r0 r : AMemo) (tr : Trail) (a : Result ℕ AShareFault) → ShareGives me b r0 r tr a → IsWithin (up_steps + 16) tr }
+
+/// What a home names is told in two word steps, and that the latch isn't held in one.
+pub fn home_of_bound()
+    ensures found { (me : AMe) (a : ℕ) (r0 r : AMemo) (tr : Trail) (b : ℕ) → HomeGives me a r0 r tr (Ok b) → length tr ≡ 2 }
+    ensures other { (me : AMe) (a : ℕ) (r0 r : AMemo) (tr : Trail) (e : ANotHeld) → HomeGives me a r0 r tr (Err e) → length tr ≡ 1 }
+{}
+
+/// What a reference word names is told in three word steps, that the latch isn't held in two, and that there is no such word in one.
+pub fn look_bound()
+    ensures found { (me : AMe) (b k : ℕ) (r0 r : AMemo) (tr : Trail) (v : ℕ) → LookGives me b k r0 r tr (Ok v) → length tr ≡ 3 }
+    ensures other { (me : AMe) (b k : ℕ) (r0 r : AMemo) (tr : Trail) → LookGives me b k r0 r tr (Err NotHeld) → length tr ≡ 2 }
+    ensures none { (me : AMe) (b k n : ℕ) (r0 r : AMemo) (tr : Trail) → LookGives me b k r0 r tr (Err (NoSuchRef n)) → length tr ≡ 1 }
+{}
+
+/// A plain word is read in two word steps, and that there is none is told in one.
+pub fn read_bound()
+    ensures found { (me : AMe) (b k : ℕ) (r0 r : AMemo) (tr : Trail) (v : ℕ) → ReadGives me b k r0 r tr (Ok v) → length tr ≡ 2 }
+    ensures none { (me : AMe) (b k : ℕ) (r0 r : AMemo) (tr : Trail) (e : ANoSuchWord) → ReadGives me b k r0 r tr (Err e) → length tr ≡ 1 }
 {}

@@ -7,3 +7,4 @@ pub mod RootAnswers
 pub mod RootCalls
 pub mod AllocRoots
 pub mod TearAnswers
+pub mod Passing

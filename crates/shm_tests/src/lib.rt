@@ -7,6 +7,7 @@ pub mod driving;
 pub mod dropping;
 pub mod joining;
 pub mod leaving;
+pub mod sharing;
 pub mod tearing;
 
 pub use allocating::{allocate, join};
@@ -15,13 +16,18 @@ pub use driving::joined;
 pub use dropping::drop_root;
 pub use joining::{Stepped, step_join};
 pub use leaving::leave;
+pub use sharing::share;
 pub use tearing::tear_down;
 
 #[cfg(test)]
 mod allocating_tests;
 #[cfg(test)]
+mod closing_tests;
+#[cfg(test)]
 mod counting_tests;
 #[cfg(test)]
 mod dropping_tests;
+#[cfg(test)]
+mod sharing_tests;
 #[cfg(test)]
 mod tests;

@@ -5,7 +5,7 @@ ghost use Rattle.shm_plain.specs.Cells.{Cell, Shows, cell_at, upd, word_count};
 ghost use Rattle.shm_plain.specs.Steps.{fresh};
 ghost use Rattle.shm_plain.specs.ShutWords.{IsClosed};
 
-use crate::PlainClosed;
+use super::closed::FirstClosed;
 use shm_words::Geometry;
 use std::alloc::{AllocError, Global};
 
@@ -73,10 +73,10 @@ impl FirstPool {
     }
 
     /// The pool, closed.
-    pub fn close(self) -> PlainClosed
+    pub fn close(self) -> FirstClosed
         requires { IsClosed (record { geometry = self.geometry; words = self.words.items }) }
         ensures { result ≡ record { geometry = self.geometry; words = self.words.items } }
     {
-        PlainClosed::of(self.geometry, self.words)
+        FirstClosed::of(self.geometry, self.words)
     }
 }

@@ -1,9 +1,6 @@
 use Rattle.std.proofs.Common.{refl}
 use Rattle.cxlshm.proofs.top.replay.Goals as goal
 
-pub report-requires-clause-table : goal.report-requires-clause-table
-report-requires-clause-table c = rw (c.geometry.ensures.is, c.words.ensures.is) (c.in_ok-run.ensures.run.table, c.in_ok-run.ensures.run.is)
-
 pub returns-clause-run : goal.returns-clause-run
 returns-clause-run c =
     record {

@@ -2,7 +2,8 @@ use Rattle.std.proofs.Common.{◌++◌, List, ℕ, ap, ◌∙◌, sym, subst}
 use Rattle.shm_graph.specs.Spots.{see}
 use Rattle.shm_plain.specs.declared.pair.Pair.{Pair}
 use Rattle.cxlshm.specs.Form.{IsForm}
-use Rattle.cxlshm.specs.Report.{log_text, table_text}
+use Rattle.shm_report.specs.Report.{table_text}
+use Rattle.cxlshm.specs.Report.{log_text}
 use Rattle.cxlshm.proofs.FormWhole.{puts_same}
 use Rattle.cxlshm.proofs.top.replay_writes_log.Goals as goal
 

@@ -1,8 +1,0 @@
-use Rattle.std.proofs.Common.{◌≡◌, ◌++◌, take}
-use Rattle.std.specs.List.{flat_map}
-use Rattle.cxlshm.specs.Report.{row_line}
-use Rattle.cxlshm.specs.TableRows.{rows_seen}
-use Rattle.cxlshm.proofs.report.push_rows.Given as goal
-
-abbrev pub invariant-loop-row : goal.invariant-loop-row
-invariant-loop-row l = l.text.items ≡ l.initial.text.items ++ flat_map (row_line l.names.blocks.items) (rows_seen (take l.row-index l.rows))

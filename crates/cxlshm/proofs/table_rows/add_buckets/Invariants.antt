@@ -1,7 +1,0 @@
-use Rattle.std.proofs.Common.{◌≡◌}
-use Rattle.cxlshm.specs.Report.{add_entries, entries_below}
-use Rattle.cxlshm.specs.TableRows.{EachTable}
-use Rattle.cxlshm.proofs.table_rows.add_buckets.Given as goal
-
-abbrev pub invariant-loop-bucket : goal.invariant-loop-bucket
-invariant-loop-bucket l = EachTable l.geometry l.words (λ table. l.entries.entries ≡ add_entries l.initial.entries.entries (entries_below l.bucket (table l.c)))

@@ -1,8 +1,0 @@
-use Rattle.std.proofs.Common.{List}
-use Rattle.shm_graph.specs.declared.table.Entry.{Entry}
-use Rattle.cxlshm.specs.TableRows.{IsChainAt}
-use Rattle.cxlshm.proofs.ChainReading.{Walks}
-use Rattle.cxlshm.proofs.table_rows.add_chain.Given as goal
-
-abbrev pub invariant-loop : goal.invariant-loop
-invariant-loop l = (es : List Entry) (chain : IsChainAt l.geometry l.words l.first es) → Walks l.geometry l.words chain.client chain.bucket es l.at l.counter l.initial.entries.entries l.entries.entries

@@ -1,9 +1,0 @@
-use Rattle.std.proofs.Common.{◌++◌, map, ap, ◌∙◌, sym}
-use Rattle.std.proofs.lemmas.List.{append-nil}
-use Rattle.cxlshm.specs.Report.{row_of}
-use Rattle.cxlshm.specs.TableRows.{rows_seen}
-use Rattle.cxlshm.proofs.table_rows.push_rows.Goals as goal
-
-pub returns : goal.returns
-returns c = λ table holds.
-    sym (append-nil (rows_seen c.loop-key.rows.items)) ∙ (ap (λ rest. rows_seen c.loop-key.rows.items ++ map (row_of c.args.c) rest) (sym c.in-None.ensures.steps.0) ∙ c.loop-key.invariant table holds)

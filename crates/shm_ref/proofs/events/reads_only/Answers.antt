@@ -1,0 +1,15 @@
+use Rattle.shm_ref.specs.HomeFits.{finding}
+use Rattle.shm_ref.specs.LookFits.{looking}
+use Rattle.shm_ref.specs.Machines.{home_told, look_told, read_told}
+use Rattle.shm_ref.specs.OnlyRead.{home_reads, look_reads, read_reads}
+use Rattle.shm_ref.specs.ReadFits.{reading}
+use Rattle.shm_ref.proofs.events.reads_only.Goals as goal
+
+pub returns-clause-home : goal.returns-clause-home
+returns-clause-home c me a r0 r ts b h = home_reads (finding me a) r0 r ts (home_told me a ts) b h.leaves
+
+pub returns-clause-look : goal.returns-clause-look
+returns-clause-look c me b k r0 r ts a h = look_reads (looking me b k) r0 r ts (look_told me b k ts) a h.leaves
+
+pub returns-clause-read : goal.returns-clause-read
+returns-clause-read c me b k r0 r ts a h = read_reads (reading me b k) r0 r ts (read_told me b k ts) a h.leaves

@@ -1,0 +1,107 @@
+//! The home of an author, read under the author's latch.
+
+ghost use Rattle.std.specs.Prelude.{◌≡◌, ◌<◌};
+ghost use Rattle.shm_words.specs.Layout.{GeometryFits};
+ghost use Rattle.shm_ref.specs.HomeFits.{finding, find_plan};
+ghost use Rattle.shm_ref.specs.HomeLaws.{find_laws};
+
+use crate::answer::NotHeld;
+use shm_calls::{Calls, Plan, Word};
+use shm_graph::{Machine, Me};
+use std::marker::Model;
+
+/// Which word step of it comes next.
+#[derive(Clone, Copy, Debug, PartialEq, Eq, Drop)]
+pub enum FindPoint {
+    /// The hold word is loaded.
+    Whose,
+    /// The author's home is loaded.
+    Find,
+}
+
+/// The control of it.
+#[derive(Clone, Copy, Debug, PartialEq, Eq, Drop)]
+pub struct FindState {
+    pub me: Me,
+    pub author: u8,
+    pub point: FindPoint,
+}
+
+/// The word steps that tell what the home of `author` names.
+#[derive(Drop)]
+pub struct FindingHome {
+    state: FindState,
+}
+
+impl Model for FindingHome {
+    ghost use Rattle.shm_ref.specs.declared.home_of.FindState.{FindState as AState};
+
+    ghost Value = { AState };
+
+    ghost view = { λ a. a.state };
+
+    ghost use Rattle.shm_ref.specs.HomeFits.{FindInRange};
+
+    ghost invariant = { λ a. FindInRange a.state };
+}
+
+/// It answers the block that the home names, or 0; a block that it answers may be read while the latch is held.
+pub type HomeOf = Calls<FindingHome>;
+
+impl FindingHome {
+    /// The home of `author` for the identity `me`, before the first word step.
+    #[inline(always)]
+    pub fn new(me: Me, author: u8) -> FindingHome
+        requires geometry { GeometryFits me.geometry }
+        requires who { me.who < me.geometry.clients }
+        requires author { author < me.geometry.clients }
+        ensures { result ≡ finding me author }
+    {
+        FindingHome {
+            state: FindState {
+                me,
+                author,
+                point: FindPoint::Whose,
+            },
+        }
+    }
+}
+
+impl Plan for FindingHome {
+    type Call = Word;
+
+    type Answer = Result<u32, NotHeld>;
+
+    ghost plan = { find_plan };
+
+    #[inline(always)]
+    fn me(&self) -> Me {
+        self.state.me
+    }
+
+    #[inline(always)]
+    fn call(&self) -> Word {
+        let FindState { me, author, point } = self.state;
+        match point {
+            FindPoint::Whose => Word::load(me, me.geometry.hold(me.who)),
+            FindPoint::Find => Word::load(me, me.geometry.home(author)),
+        }
+    }
+
+    #[inline(always)]
+    fn next(&mut self, word: u64) -> Option<Result<u32, NotHeld>> {
+        match self.state.point {
+            FindPoint::Whose => {
+                self.state.point = FindPoint::Find;
+                if word == u64::from(self.state.author) + 1 {
+                    None
+                } else {
+                    Some(Err(NotHeld))
+                }
+            }
+            FindPoint::Find => Some(Ok((word % (1 << 20)) as u32)),
+        }
+    }
+
+    ghost laws = { find_laws };
+}

@@ -1,0 +1,4 @@
+pub mod PoolReading
+pub mod ChainReading
+pub mod TableReading
+pub mod ValueNaming

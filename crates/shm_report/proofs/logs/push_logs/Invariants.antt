@@ -1,0 +1,7 @@
+use Rattle.std.proofs.Common.{◌≡◌, ◌++◌, take}
+use Rattle.std.specs.List.{flat_map}
+use Rattle.shm_report.specs.Logs.{log_text}
+use Rattle.shm_report.proofs.logs.push_logs.Given as goal
+
+abbrev pub invariant-loop-log : goal.invariant-loop-log
+invariant-loop-log l = l.text.items ≡ l.initial.text.items ++ flat_map log_text (take l.log-index l.logs)

@@ -1,0 +1,5 @@
+pub mod Logs
+pub mod PoolWords
+pub mod Report
+pub mod TableRows
+pub mod ValueNames

@@ -1,0 +1,15 @@
+//! The text of a closed pool: the logs of its clients, and then what its words hold.
+#![tactic(auto)]
+
+mod logs;
+mod pool_words;
+mod table_rows;
+mod texts;
+mod value_names;
+
+pub use texts::{report, summary};
+
+#[cfg(test)]
+mod tests;
+#[cfg(test)]
+mod vectors;

@@ -1,0 +1,252 @@
+//! What the words of a closed pool say: which of them are references, and how many blocks, references and homes there are.
+
+ghost use Rattle.std.specs.Prelude.{◌≡◌, ◌+◌, ◌^◌, ◌<◌, ◌≤◌, slice_index, true};
+ghost use Rattle.shm_words.specs.Layout.{GeometryFits, total_of, address, is_in};
+ghost use Rattle.shm_graph.specs.Spots.{see, spot_at, spot_of, block_spot, classes_in};
+ghost use Rattle.shm_graph.specs.Blocks.{classes, headers, IsBlock};
+ghost use Rattle.shm_graph.specs.References.{words_of, references, live_count, reference_count, home_count};
+ghost use Rattle.shm_report.specs.PoolWords.{IsCleanPool};
+
+use shm_graph::Spot;
+use shm_words::{Geometry, Header, Place, Tag};
+
+/// The word at an address, and 0 past the end.
+pub fn word(words: &[u64], at: u32) -> u64
+    ensures { result ≡ slice_index words.now at }
+{
+    words.get(at as usize).copied().unwrap_or(0)
+}
+
+/// The word that stands so far behind an address, and 0 past the end.
+pub fn word_behind(words: &[u64], at: u32, by: u32) -> u64
+    ensures { at + by < 2 ^ 32 → result ≡ slice_index words.now (at + by) }
+{
+    match at.checked_add(by) {
+        Some(place) => word(words, place),
+        None => 0,
+    }
+}
+
+/// That word where it is below 2^32, and otherwise 0.
+pub fn small_behind(words: &[u64], at: u32, by: u32) -> u32
+    ensures { at + by < 2 ^ 32 → slice_index words.now (at + by) < 2 ^ 32 → result ≡ slice_index words.now (at + by) }
+{
+    u32::try_from(word_behind(words, at, by)).unwrap_or(0)
+}
+
+/// What the word at an address is for, by the classes of the pages.
+pub fn spot(geometry: Geometry, words: &[u64], at: u32) -> Spot
+    requires { GeometryFits geometry }
+    ensures { result ≡ spot_at geometry (classes_in geometry words.now) at }
+{
+    match geometry.place(at) {
+        Some(place) => spot_of(geometry, words, at, place),
+        None => Spot::Spare,
+    }
+}
+
+// what the word of a place is for
+fn spot_of(geometry: Geometry, words: &[u64], at: u32, place: Place) -> Spot
+    requires fits { GeometryFits geometry }
+    requires within { is_in geometry place ≡ true }
+    requires address { address geometry place ≡ at }
+    ensures { result ≡ spot_of (classes_in geometry words.now) at place }
+{
+    match place {
+        Place::Spare => Spot::Spare,
+        Place::Status { c } => Spot::Status { c },
+        Place::Redo { c } => Spot::Redo { c },
+        Place::Hold { c } => Spot::Hold { c },
+        Place::Latch { c } => Spot::Latch { c },
+        Place::Home { c } => Spot::Home { c },
+        Place::Era { i, j } => Spot::Era { i, j },
+        Place::Root { c, k } => Spot::Root { c, k },
+        Place::Tail { s, r } => Spot::Tail { s, r },
+        Place::Head { s, r } => Spot::Front { s, r },
+        Place::Slot { s, r, k } => Spot::Slot { s, r, k },
+        Place::Segment { g } => Spot::Segment { g },
+        Place::Page { g, p } => Spot::Page { g, p },
+        Place::Body { g, p, k } => block_spot(word(words, geometry.page(g, p)), at, k),
+    }
+}
+
+// the word `k` of a page of this class
+fn block_spot(class: u64, at: u32, k: u8) -> Spot
+    requires { k ≤ at }
+    ensures { result ≡ block_spot class at k }
+{
+    if class == 0 {
+        return Spot::Unused { a: at };
+    }
+    match u64::from(k) % class {
+        0 => Spot::Head { b: at },
+        1 => Spot::Tag { b: at - 1 },
+        i => Spot::Body {
+            b: at - i as u32,
+            i: (i - 2) as u8,
+        },
+    }
+}
+
+/// The header of the block that begins at an address; where none begins, that of a free block.
+pub fn header_at(geometry: Geometry, words: &[u64], at: u32) -> Header
+    requires { GeometryFits geometry }
+    ensures { result ≡ headers (see geometry words.now) at }
+{
+    match spot(geometry, words, at) {
+        Spot::Head { b } => Header::unpack(word(words, b)),
+        _ => Header::unpack(0),
+    }
+}
+
+// how many reference words a block has
+fn block_refs(geometry: Geometry, words: &[u64], block: u32) -> u8
+    requires fits { GeometryFits geometry }
+    requires is { IsBlock geometry (classes_in geometry words.now) block }
+    ensures { IsCleanPool geometry words.now → result ≡ (words_of (see geometry words.now)).refs block }
+{
+    if !Header::unpack(word(words, block)).live {
+        return 0;
+    }
+    match Tag::unpack(word(words, block + 1)) {
+        Some(tag) => tag.refs,
+        None => 0,
+    }
+}
+
+/// What the word at an address names where it is a reference word: a block, or 0; another word names nothing.
+pub fn reference_at(geometry: Geometry, words: &[u64], at: u32) -> u64
+    requires fits { GeometryFits geometry }
+    requires range { at < total_of geometry }
+    ensures { IsCleanPool geometry words.now → result ≡ references (see geometry words.now) (spot_at geometry (classes (see geometry words.now)) at) }
+{
+    match spot(geometry, words, at) {
+        Spot::Home { .. } | Spot::Root { .. } | Spot::Slot { .. } => word(words, at),
+        Spot::Body { b, i } => {
+            if i < block_refs(geometry, words, b) {
+                word(words, at)
+            } else {
+                0
+            }
+        }
+        _ => 0,
+    }
+}
+
+/// How many blocks are live.
+pub fn live_count(geometry: Geometry, words: &[u64]) -> u32
+    requires { GeometryFits geometry }
+    ensures { result ≡ live_count geometry (see geometry words.now) }
+{
+    let mut live = 0;
+    for at in 0..geometry.total() {
+        if header_at(geometry, words, at).live {
+            live += 1;
+        }
+    }
+    live
+}
+
+/// How many words name a block.
+pub fn reference_count(geometry: Geometry, words: &[u64]) -> u32
+    requires { GeometryFits geometry }
+    ensures { IsCleanPool geometry words.now → result ≡ reference_count geometry (classes (see geometry words.now)) (references (see geometry words.now)) }
+{
+    let mut refs = 0;
+    for at in 0..geometry.total() {
+        if reference_at(geometry, words, at) != 0 {
+            refs += 1;
+        }
+    }
+    refs
+}
+
+/// How many homes are set.
+pub fn home_count(geometry: Geometry, words: &[u64]) -> u32
+    requires { GeometryFits geometry }
+    ensures { result ≡ home_count geometry (see geometry words.now) }
+{
+    let mut homes = 0;
+    for c in 0..geometry.clients() {
+        if word(words, geometry.home(c)) != 0 {
+            homes += 1;
+        }
+    }
+    homes
+}
+
+#[cfg(test)]
+mod tests {
+    use super::*;
+    use std::alloc::{AllocError, Global};
+    use std::test::Fail;
+
+    fn tag(refs: u8, plain: u8) -> u64
+        requires refs { refs ≤ 16 }
+        requires plain { plain ≤ 8 }
+    {
+        Tag {
+            refs,
+            plain,
+            author: 0,
+            link: 0,
+        }
+        .pack()
+    }
+
+    // one client and one segment: a value block of 4 words, a directory of 32 and an entry of 8
+    fn pool(alloc: Global) -> Result<Vec<u64>, AllocError> {
+        let header = Header {
+            live: true,
+            client: 0,
+            count: 1,
+            era: 9,
+        }
+        .pack();
+        let mut words = vec![in alloc; 0u64; 2098]?;
+        for (at, word) in [
+            (5, 178),
+            (34, 4),
+            (35, 32),
+            (36, 8),
+            (50, header),
+            (51, tag(0, 1)),
+            (52, 77),
+            (178, header),
+            (179, tag(16, 0)),
+            (185, 306),
+            (306, header),
+            (307, tag(2, 1)),
+            (309, 50),
+            (310, 5),
+        ] {
+            if let Some(slot) = words.get_mut(at) {
+                *slot = word;
+            }
+        }
+        Ok(words)
+    }
+
+    #[test]
+    fn reads_a_pool(rt: HostRuntime) -> Result<(), Fail> {
+        let words = pool(rt.alloc())?;
+        let words = words.as_slice();
+        let geometry = Geometry::new(1, 1).expect(&rt, "one client and one segment");
+        for (at, wanted) in [
+            (5, Spot::Home { c: 0 }),
+            (50, Spot::Head { b: 50 }),
+            (54, Spot::Head { b: 54 }),
+            (179, Spot::Tag { b: 178 }),
+            (185, Spot::Body { b: 178, i: 5 }),
+            (434, Spot::Unused { a: 434 }),
+            (2098, Spot::Spare),
+        ] {
+            assert_eq!(rt; spot(geometry, words, at), wanted, "at {at}");
+        }
+        assert_eq!(rt; header_at(geometry, words, 50).count, 1);
+        assert!(rt; !header_at(geometry, words, 54).live);
+        assert_eq!(rt; live_count(geometry, words), 3);
+        assert_eq!(rt; home_count(geometry, words), 1);
+        Ok(())
+    }
+}

@@ -1,0 +1,17 @@
+pub mod Cuts
+pub mod Digits
+pub mod Drawn
+pub mod FitTexts
+pub mod Inverts
+pub mod LineTexts
+pub mod LinesGiven
+pub mod Lists
+pub mod ManyFit
+pub mod ManyWords
+pub mod NumberTexts
+pub mod Sound
+pub mod Whole
+pub mod ReadLoop
+pub mod Again
+pub mod LinesAgain
+pub mod Complete

@@ -1,0 +1,11 @@
+pub mod Drafts
+pub mod Drawing
+pub mod Faults
+pub mod Logged
+pub mod Numbers
+pub mod Pieces
+pub mod Ranges
+pub mod RawShapes
+pub mod Shapes
+pub mod Text
+pub mod Values

@@ -1,0 +1,17 @@
+-- Scripts and traces without where they lie in memory.
+use Rattle.std.specs.Prelude.{ℕ, List}
+use Rattle.shm_script.specs.declared.line.Line.{Line}
+use Rattle.shm_script.specs.declared.line.Item.{Item}
+
+-- what a client does: the lives of its agents, and its commands
+pub record Scripted : Type 0 where
+  pub client : ℕ
+  pub life : List ℕ
+  pub lines : List Line
+
+-- the size of a pool, an order of turns, and scripts
+pub record Traced : Type 0 where
+  pub clients : ℕ
+  pub segments : ℕ
+  pub order : List Item
+  pub scripts : List Scripted

@@ -1,0 +1,51 @@
+//! Scripts and traces.
+
+use crate::line::{Item, Line};
+use std::marker::Model;
+
+/// What a client does: the lives of its agents, where any are given, and its commands.
+#[derive(Debug, Drop)]
+pub struct Script {
+    pub client: u8,
+    pub life: Vec<u64>,
+    pub lines: Vec<Line>,
+}
+
+impl Model for Script {
+    ghost use Rattle.shm_script.specs.Values.{Scripted};
+
+    ghost Value = { Scripted };
+
+    ghost view = { λ s. record { client = s.client; life = s.life.items; lines = s.lines.items } };
+}
+
+/// The size of a pool, an order of turns, and at most one script for each client, in the ranges of the grammar.
+#[derive(Debug, Drop)]
+pub struct Trace {
+    pub clients: u8,
+    pub segments: u16,
+    pub order: Vec<Item>,
+    pub scripts: Vec<Script>,
+}
+
+impl Model for Trace {
+    ghost use Rattle.shm_script.specs.Values.{Traced};
+    ghost use Rattle.shm_script.specs.Ranges.{IsTrace};
+
+    ghost Value = { Traced };
+
+    ghost view = { λ t. record { clients = t.clients; segments = t.segments; order = t.order.items; scripts = t.scripts.items } };
+
+    ghost invariant = { λ t. IsTrace (record { clients = t.clients; segments = t.segments; order = t.order.items; scripts = t.scripts.items }) };
+}
+
+impl Trace {
+    ghost use Rattle.shm_script.specs.Ranges.{IsTrace as IsInGrammar};
+
+    /// The trace is in the ranges of the grammar.
+    pub fn in_grammar(&self)
+        ensures { IsInGrammar self.now }
+    {
+        let _ = &self.order;
+    }
+}

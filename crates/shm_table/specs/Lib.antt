@@ -1,0 +1,7 @@
+pub mod FindControl
+pub mod EntryReads
+pub mod FindFits
+pub mod FindReads
+pub mod FindLaws
+pub mod FindBound
+pub mod Machines

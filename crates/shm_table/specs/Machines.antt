@@ -1,0 +1,31 @@
+-- the machines as they are made: when they fit, what they give, and what they tell of their events
+use Rattle.std.specs.Prelude.{ℕ, List}
+use Rattle.shm_graph.specs.declared.ask.Me.{Me}
+use Rattle.shm_graph.specs.declared.memo.Memo.{Memo}
+use Rattle.shm_graph.specs.Asks.{Trail}
+use Rattle.shm_graph.specs.Events.{Event}
+use Rattle.shm_graph.specs.Laws.{Control}
+use Rattle.shm_graph.specs.Tells.{happens_along}
+use Rattle.shm_calls.specs.declared.calls.Calls.{Calls}
+use Rattle.shm_calls.specs.declared.word.Word.{Word}
+use Rattle.shm_calls.specs.CallsControl.{calls_control, calls_of, calls_does}
+use Rattle.shm_calls.specs.CallsFit.{CallsFits, CallsGives}
+use Rattle.shm_calls.specs.Words.{word_control}
+use Rattle.shm_table.specs.declared.find.FindState.{FindState}
+use Rattle.shm_table.specs.declared.find.Found.{Found}
+use Rattle.shm_table.specs.FindControl.{finding}
+use Rattle.shm_table.specs.FindFits.{find_plan}
+
+-- ---- the search for a key in the table of a
+
+abbrev pub find : Control (Calls FindState Word Found ℕ) Found
+find = calls_control word_control find_plan
+
+abbrev pub FindFits : Me → ℕ → ℕ → Memo → Memo → Trail → Type 0
+FindFits me a key = CallsFits word_control find_plan (calls_of find_plan (finding me a key))
+
+abbrev pub FindGives : Me → ℕ → ℕ → Memo → Memo → Trail → Found → Type 0
+FindGives me a key = CallsGives word_control find_plan (calls_of find_plan (finding me a key))
+
+abbrev pub find_told : Me → ℕ → ℕ → Trail → List Event
+find_told me a key = happens_along find (calls_does word_control find_plan) (calls_of find_plan (finding me a key))

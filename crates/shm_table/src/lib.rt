@@ -1,0 +1,12 @@
+//! Tables: looking for a key in the table of an identity.
+//!
+//! Each machine is a plan of calls (`shm_calls`): the type with the operation's name is the machine, and the plan that it is made of says
+//! which call comes next.
+#![tactic(auto)]
+
+pub mod bound;
+pub mod events;
+pub mod find;
+pub mod parts;
+#[cfg(test)]
+mod tests;
