@@ -1,5 +1,5 @@
 -- an up at the least empty root as a part of larger machines
-use Rattle.std.proofs.Common.{◌≡◌, ◌≢◌, ℕ, ◌+◌, refl, ap, ◌∙◌, arith, Bool, true, List}
+use Rattle.std.proofs.Common.{◌≡◌, ◌≢◌, ℕ, ◌+◌, refl, ap, ◌∙◌, arith, true, List}
 use Rattle.std.specs.Prelude.{Result, Ok, Err}
 use Rattle.std.proofs.lemmas.Bool.{cond-true}
 use Rattle.shm_graph.specs.declared.ask.Me.{Me}

@@ -25,7 +25,8 @@ use Rattle.shm_count.specs.declared.answer.ShareFault.{ShareFault}
 use Rattle.shm_count.specs.declared.answer.ShareFault.TheVariants as share
 use Rattle.shm_count.specs.SlotLeaves.{Untouched}
 use Rattle.shm_count.specs.UpRootFits.{MayUpRoot, UpRootLeaves}
-use Rattle.shm_count.specs.UpRootPart.{may_up_root, up_root, up_root_laws, up_root_part}
+use Rattle.shm_count.specs.UpRootPart.{may_up_root, up_root, up_root_part}
+use Rattle.shm_count.proofs.UpRootPart.{up_root_laws}
 use Rattle.shm_queue.specs.declared.answer.PeekFault.TheVariants.{Empty}
 use Rattle.shm_queue.specs.declared.peek.PeekPoint.{PeekPoint}
 use Rattle.shm_queue.specs.declared.peek.PeekPoint.TheVariants.{Head, Tail, Slot, Share}

@@ -107,92 +107,16 @@ opens m Raise r0 r tr es h =
       },
     )
 
-module _ (m : HomeState) (r0 rs r : Memo) (tr t : Trail) (es ds : List Event) (held : IsHeld m.me r) (agent : recovers r ≡ recovers rs) where
-  abbrev c : ℕ
-  c = m.me.who
+-- an empty home that was read leaves the memo
+home_empty : (x : Memo) (a : ℕ) → core (home_read x a 0) ≡ core x
+home_empty x a = choice (λ (y : Memo). core y ≡ core x) (is_held x.latch a && false) (record x { looks = x.looks ++ record { block = 0; from = Home a } ∷ [] }) x (λ e. absurd (false≢true (and_parts (is_held x.latch a) false e).1)) (λ e. refl)
 
-  abbrev b : ℕ
-  b = m.block
+-- and any home leaves the step in progress and the own words
+read_op : (r0 : Memo) (c n : ℕ) → (home_read r0 c n).op ≡ r0.op
+read_op r0 c n = choice (λ (y : Memo). y.op ≡ r0.op) (is_held r0.latch c && not (n == 0)) (record r0 { looks = r0.looks ++ record { block = n; from = Home c } ∷ [] }) r0 (λ e. refl) (λ e. refl)
 
-  -- what is known before the next call, or what is left
-  abbrev Leads : HomeAnswer → Type 0
-  Leads a = Follows home_parts home_plan m a r0 r (tr ++ t) (es ++ ds)
-
-  -- an empty home that was read leaves the memo
-  home_empty : (x : Memo) (a : ℕ) → core (home_read x a 0) ≡ core x
-  home_empty x a = choice (λ (y : Memo). core y ≡ core x) (is_held x.latch a && false) (record x { looks = x.looks ++ record { block = 0; from = Home a } ∷ [] }) x (λ e. absurd (false≢true (and_parts (is_held x.latch a) false e).1)) (λ e. refl)
-
-  -- the home was loaded
-  loaded : (n : ℕ) → HomeKnows m Load r0 rs tr es → WordLeaves (OwnHomeRead c) (record { me = m.me; ask = ask.Load (home_address m.me); over = false }) rs r t ds n → Leads (First n)
-  loaded n (may, begun, none, quiet) w =
-      let names : n ≡ own_word r0.own (Home c) = w.found.found ∙ ap (λ (x : Memo). own_word x.own (Home c)) begun in
-      let cored : core r ≡ core (home_read r0 c n) = w.found.left ∙ ap (λ (x : Memo). core (home_read x c n)) begun in
-      let silent : es ++ ds ≡ [] = ap (λ (x : List Event). x ++ ds) quiet ∙ w.none in
-      let bound : IsWithin 1 (tr ++ t) = (let e = ap length (ap (λ (x : Trail). x ++ t) none) in let o = w.one in omega arith) in
-      let left = HomeLeaves (record m { point = Load }) r0 r (tr ++ t) (es ++ ds) in
-      let next = IsHomeless m.me b r0 r (tr ++ t) (es ++ ds) in
-      elim (cases_eq n 0) [
-        | inl e ↦ (
-            let same : core r ≡ core r0 = cored ∙ (ap (λ z. core (home_read r0 c z)) e ∙ home_empty r0 c) in
-            subst (λ z. Outcome (if z == 0 then None else Some (Err (HomeSet (z % 2 ^ 20)))) next left) (sym e)
-            (record {
-              may = may;
-              same = same;
-              client = agent ∙ (ap recovers begun ∙ may.client);
-              empty = sym names ∙ e;
-              era = era_room m.me r held may.who (ap (λ (x : Memo). x.op) same ∙ may.idle);
-              none = silent;
-              bound = bound;
-            })
-            )
-        | inr some ↦ (
-            let idle : r.op ≡ Nothing = ap (λ (x : Memo). x.op) cored ∙ (read_op n ∙ may.idle) in
-            let here : own_word r.own (Home c) ≡ n = ap (λ (x : Memo). own_word x.own (Home c)) cored ∙ (read_home n ∙ sym names) in
-            let counted = reached_counted m.me may.who r n held (home_reached c r n idle here some) in
-            let inside = counted.0.1 in
-            let total = total_small m.me.geometry may.geometry in
-            let small : n % 2 ^ 20 ≡ n = omega arith in
-            subst (λ z. Outcome (if z then None else Some (Err (HomeSet (n % 2 ^ 20)))) next left) (sym (ne_eqb n 0 some))
-            (subst (λ z. left (Err (HomeSet z))) (sym small)
-            (record { stays = (names, some, cored); none = silent; bound = omega arith }))
-            )
-      ]
-    where
-      read_op : (n : ℕ) → (home_read r0 c n).op ≡ r0.op
-      read_op n = choice (λ (y : Memo). y.op ≡ r0.op) (is_held r0.latch c && not (n == 0)) (record r0 { looks = r0.looks ++ record { block = n; from = Home c } ∷ [] }) r0 (λ e. refl) (λ e. refl)
-
-      read_home : (n : ℕ) → own_word (home_read r0 c n).own (Home c) ≡ own_word r0.own (Home c)
-      read_home n = choice (λ (y : Memo). own_word y.own (Home c) ≡ own_word r0.own (Home c)) (is_held r0.latch c && not (n == 0)) (record r0 { looks = r0.looks ++ record { block = n; from = Home c } ∷ [] }) r0 (λ e. refl) (λ e. refl)
-
-  -- the step up was made, or refused
-  raised : (a : Result (Unit {0}) UpFault) → IsHomeless m.me b r0 rs tr es → StepLeft m.me (Up b) (Home c) false rs r t ds (up_told a) → Leads (Second a)
-  raised (Ok done) h s =
-      record {
-        empty = h.empty;
-        filled = filled_home r0 rs r h.same c b s.did.0;
-        events = ap (λ (x : List Event). x ++ ds) h.none ∙ s.did.1;
-        bound = within_more 1 8 tr t h.bound s.bound;
-      }
-  raised (Err (EraSpent e)) h s =
-      record {
-        stays = (h.empty, untouched_core r0 rs r h.same c s.did.0, cause_core r0 rs r h.same m.me (Up b) (EraSpent e) s.did.1);
-        none = ap (λ (x : List Event). x ++ ds) h.none ∙ s.did.2;
-        bound = within_more 1 8 tr t h.bound s.bound;
-      }
-  raised (Err (CountFull d n)) h s =
-      record {
-        stays = (h.empty, untouched_core r0 rs r h.same c s.did.0, cause_core r0 rs r h.same m.me (Up b) (CountFull d n) s.did.1);
-        none = ap (λ (x : List Event). x ++ ds) h.none ∙ s.did.2;
-        bound = within_more 1 8 tr t h.bound s.bound;
-      }
-
--- each call leads on
-leads : (m : HomeState) (y : HomePoint) (r0 rs r : Memo) (tr t : Trail) (es ds : List Event) (a : HomeAnswer) → HomeKnows (record m { point = y }) y r0 rs tr es → (home_plan.part (record m { point = y })).leaves (home_call_at m y) rs r t ds a → IsHeld m.me r → recovers r ≡ recovers rs
-    → Follows home_parts home_plan (record m { point = y }) a r0 r (tr ++ t) (es ++ ds)
-leads m Load r0 rs r tr t es ds (First n) h g held agent = loaded (record m { point = Load }) r0 rs r tr t es ds held agent n h g
-leads m Raise r0 rs r tr t es ds (Second a) h g held agent = raised (record m { point = Raise }) r0 rs r tr t es ds held agent a h g
-leads m Load r0 rs r tr t es ds (Second a) h g held agent = absurd g
-leads m Raise r0 rs r tr t es ds (First n) h g held agent = absurd g
+read_home : (r0 : Memo) (c n : ℕ) → own_word (home_read r0 c n).own (Home c) ≡ own_word r0.own (Home c)
+read_home r0 c n = choice (λ (y : Memo). own_word y.own (Home c) ≡ own_word r0.own (Home c)) (is_held r0.latch c && not (n == 0)) (record r0 { looks = r0.looks ++ record { block = n; from = Home c } ∷ [] }) r0 (λ e. refl) (λ e. refl)
 
 pub home_laws : PlanLaws home_parts home_plan
 home_laws =
@@ -204,3 +128,70 @@ home_laws =
       opens = λ m. opens m m.point;
       leads = λ m r0 rs r tr t es ds a h g held same. leads m m.point r0 rs r tr t es ds a h g held same;
     }
+  where
+    -- the home was loaded
+    loaded : (m : HomeState) (r0 rs r : Memo) (tr t : Trail) (es ds : List Event) → IsHeld m.me r → recovers r ≡ recovers rs → (n : ℕ) → HomeKnows m Load r0 rs tr es → WordLeaves (OwnHomeRead m.me.who) (record { me = m.me; ask = ask.Load (home_address m.me); over = false }) rs r t ds n → Follows home_parts home_plan m (First n) r0 r (tr ++ t) (es ++ ds)
+    loaded m r0 rs r tr t es ds held agent n (may, begun, none, quiet) w =
+        let c = m.me.who in
+        let names : n ≡ own_word r0.own (Home c) = w.found.found ∙ ap (λ (x : Memo). own_word x.own (Home c)) begun in
+        let cored : core r ≡ core (home_read r0 c n) = w.found.left ∙ ap (λ (x : Memo). core (home_read x c n)) begun in
+        let silent : es ++ ds ≡ [] = ap (λ (x : List Event). x ++ ds) quiet ∙ w.none in
+        let bound : IsWithin 1 (tr ++ t) = (let e = ap length (ap (λ (x : Trail). x ++ t) none) in let o = w.one in omega arith) in
+        let left = HomeLeaves (record m { point = Load }) r0 r (tr ++ t) (es ++ ds) in
+        let next = IsHomeless m.me m.block r0 r (tr ++ t) (es ++ ds) in
+        elim (cases_eq n 0) [
+          | inl e ↦ (
+              let same : core r ≡ core r0 = cored ∙ (ap (λ z. core (home_read r0 c z)) e ∙ home_empty r0 c) in
+              subst (λ z. Outcome (if z == 0 then None else Some (Err (HomeSet (z % 2 ^ 20)))) next left) (sym e)
+              (record {
+                may = may;
+                same = same;
+                client = agent ∙ (ap recovers begun ∙ may.client);
+                empty = sym names ∙ e;
+                era = era_room m.me r held may.who (ap (λ (x : Memo). x.op) same ∙ may.idle);
+                none = silent;
+                bound = bound;
+              })
+              )
+          | inr some ↦ (
+              let idle : r.op ≡ Nothing = ap (λ (x : Memo). x.op) cored ∙ (read_op r0 c n ∙ may.idle) in
+              let here : own_word r.own (Home c) ≡ n = ap (λ (x : Memo). own_word x.own (Home c)) cored ∙ (read_home r0 c n ∙ sym names) in
+              let counted = reached_counted m.me may.who r n held (home_reached c r n idle here some) in
+              let inside = counted.0.1 in
+              let total = total_small m.me.geometry may.geometry in
+              let small : n % 2 ^ 20 ≡ n = omega arith in
+              subst (λ z. Outcome (if z then None else Some (Err (HomeSet (n % 2 ^ 20)))) next left) (sym (ne_eqb n 0 some))
+              (subst (λ z. left (Err (HomeSet z))) (sym small)
+              (record { stays = (names, some, cored); none = silent; bound = omega arith }))
+              )
+        ]
+
+    -- the step up was made, or refused
+    raised : (m : HomeState) (r0 rs r : Memo) (tr t : Trail) (es ds : List Event) → IsHeld m.me r → recovers r ≡ recovers rs → (a : Result (Unit {0}) UpFault) → IsHomeless m.me m.block r0 rs tr es → StepLeft m.me (Up m.block) (Home m.me.who) false rs r t ds (up_told a) → Follows home_parts home_plan m (Second a) r0 r (tr ++ t) (es ++ ds)
+    raised m r0 rs r tr t es ds held agent (Ok done) h s =
+        record {
+          empty = h.empty;
+          filled = filled_home r0 rs r h.same m.me.who m.block s.did.0;
+          events = ap (λ (x : List Event). x ++ ds) h.none ∙ s.did.1;
+          bound = within_more 1 8 tr t h.bound s.bound;
+        }
+    raised m r0 rs r tr t es ds held agent (Err (EraSpent e)) h s =
+        record {
+          stays = (h.empty, untouched_core r0 rs r h.same m.me.who s.did.0, cause_core r0 rs r h.same m.me (Up m.block) (EraSpent e) s.did.1);
+          none = ap (λ (x : List Event). x ++ ds) h.none ∙ s.did.2;
+          bound = within_more 1 8 tr t h.bound s.bound;
+        }
+    raised m r0 rs r tr t es ds held agent (Err (CountFull d n)) h s =
+        record {
+          stays = (h.empty, untouched_core r0 rs r h.same m.me.who s.did.0, cause_core r0 rs r h.same m.me (Up m.block) (CountFull d n) s.did.1);
+          none = ap (λ (x : List Event). x ++ ds) h.none ∙ s.did.2;
+          bound = within_more 1 8 tr t h.bound s.bound;
+        }
+
+    -- each call leads on
+    leads : (m : HomeState) (y : HomePoint) (r0 rs r : Memo) (tr t : Trail) (es ds : List Event) (a : HomeAnswer) → HomeKnows (record m { point = y }) y r0 rs tr es → (home_plan.part (record m { point = y })).leaves (home_call_at m y) rs r t ds a → IsHeld m.me r → recovers r ≡ recovers rs
+        → Follows home_parts home_plan (record m { point = y }) a r0 r (tr ++ t) (es ++ ds)
+    leads m Load r0 rs r tr t es ds (First n) h g held agent = loaded (record m { point = Load }) r0 rs r tr t es ds held agent n h g
+    leads m Raise r0 rs r tr t es ds (Second a) h g held agent = raised (record m { point = Raise }) r0 rs r tr t es ds held agent a h g
+    leads m Load r0 rs r tr t es ds (Second a) h g held agent = absurd g
+    leads m Raise r0 rs r tr t es ds (First n) h g held agent = absurd g

@@ -54,6 +54,7 @@ pub fn share_bound()
     ensures spent { (me : AMe) (b : ℕ) (r0 r : AMemo) (tr : Trail) (e : ℕ) → ShareGives me b r0 r tr (Err (share.EraSpent e)) → IsWithin 1 tr }
     ensures full { (me : AMe) (b : ℕ) (r0 r : AMemo) (tr : Trail) → ShareGives me b r0 r tr (Err share.RootsFull) → IsWithin 17 tr }
     ensures within { (me : AMe) (b : ℕ) (r0 r : AMemo) (tr : Trail) (a : Result ℕ AShareFault) → ShareGives me b r0 r tr a → IsWithin (up_steps + 16) tr }
+{}
 
 /// What a home names is told in two word steps, and that the latch isn't held in one.
 pub fn home_of_bound()

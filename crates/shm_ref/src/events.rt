@@ -138,6 +138,7 @@ pub fn share_events()
 pub fn share_leaves()
     ensures leaves { (me : AMe) (b : ℕ) (r0 r : AMemo) (tr : Trail) (a : Result ℕ AShareFault) → ShareGives me b r0 r tr a → UpRootLeaves me b r0 r tr (share_told me b tr) a }
     ensures trail { (me : AMe) (b : ℕ) (r0 r : AMemo) (tr : Trail) (a : Result ℕ AShareFault) → ShareGives me b r0 r tr a → plan_trail rooting_plan (rooting me b) tr a }
+{}
 
 /// What the home of an author names may be asked with no step in progress, where the hold word names the latch that is held.
 pub fn home_of_begins()

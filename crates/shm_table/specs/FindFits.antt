@@ -3,7 +3,9 @@ use Rattle.std.specs.Prelude.{◌≡◌, ◌≢◌, ℕ, ◌+◌, ◌%◌, ◌<�
 use Rattle.std.specs.List.{All, Contains}
 use Rattle.shm_words.specs.Layout.{GeometryFits, total_of}
 use Rattle.shm_graph.specs.declared.ask.Me.{Me}
+use Rattle.shm_graph.specs.declared.spot.Spot.{Spot}
 use Rattle.shm_graph.specs.declared.spot.Spot.TheVariants.{Home, Body}
+use Rattle.shm_graph.specs.declared.memo.Look.{Look}
 use Rattle.shm_graph.specs.declared.memo.Memo.{Memo}
 use Rattle.shm_graph.specs.declared.memo.Op.TheVariants.{Nothing}
 use Rattle.shm_graph.specs.declared.memo.Stored.{Stored}
@@ -43,10 +45,20 @@ pub record MayFind (me : Me) (a : ℕ) (r : Memo) : Type 0 where
   pub latch : r.latch ≡ Some a
   pub table : is_loose r.part ≡ false
 
--- nothing of the memo changed but that more words are known, and what is looked at
+-- nothing of the memo changed but that more words are known, and more blocks are looked at
 pub record OnlyReads (r0 r : Memo) : Type 0 where
   pub memo : core r ≡ core (record r0 { looks = r.looks; known = r.known })
   pub known : (s : Stored) → Contains r0.known s → Contains r.known s
+  pub looked : (k : Look) → Contains r0.looks k → Contains r.looks k
+
+-- a block was read from this word under the latch
+abbrev pub IsLook : Memo → Spot → ℕ → Type 0
+IsLook r p b = Contains r.looks (record { block = b; from = p })
+
+-- so were these entries and the block after them, from word i of block d on, and the keys of these entries are known
+abbrev pub IsChainRead : Memo → ℕ → ℕ → List Passed → ℕ → Type 0
+IsChainRead r d i [] at = IsLook r (Body d i) at
+IsChainRead r d i (p ∷ ps) at = IsLook r (Body d i) p.block × Contains r.known (record { spot = Body p.block 2; value = p.key }) × IsChainRead r p.block 0 ps at
 
 -- ---- on the way
 
@@ -61,6 +73,7 @@ pub record IsAtBucket (m : FindState) (r0 r : Memo) (tr : Trail) (es : List Even
   pub none : es ≡ []
   pub some : m.home ≢ 0
   pub here : IsIn r Directory m.home
+  pub look : IsLook r (Home m.author) m.home
   pub room : m.home + 17 < total_of m.me.geometry
   pub own : m.author ≡ m.me.who → own_word r.own (Home m.me.who) ≡ m.home
   pub trail : tr ≡ pair (home_ask m.me m.author) m.home ∷ []
@@ -77,6 +90,8 @@ pub record IsAtEntry (m : FindState) (ps : List Passed) (r0 r : Memo) (es : List
   pub directory : m.home ≢ 0
   pub some : m.entry ≢ 0
   pub here : IsIn r AnEntry m.entry
+  pub look : IsLook r (Home m.author) m.home
+  pub chain : IsChainRead r m.home (m.key % 16) ps m.entry
   pub room : m.entry + 4 < total_of m.me.geometry
   pub others : AreOthers m.key ps
   pub first : m.first ≡ begin_of ps m.entry
@@ -88,7 +103,7 @@ FindKnows m point.Home r0 r tr es = MayFind m.me m.author r0 × (r ≡ r0) × (t
 FindKnows m point.Bucket r0 r tr es = IsAtBucket m r0 r tr es
 FindKnows m point.Key r0 r tr es = (ps : List Passed) × IsAtEntry m ps r0 r es × (tr ≡ walk_trail m.me m.author m.key m.home ps m.entry)
     × (m.author ≡ m.me.who → (xs : List Entry) × (e : Entry) × (ys : List Entry) × IsOwnWalk m r xs e ys)
-FindKnows m point.Next r0 r tr es = (ps : List Passed) × (x : ℕ) × IsAtEntry m ps r0 r es × (x ≢ m.key) × (tr ≡ walk_trail m.me m.author m.key m.home ps m.entry ++ pair (word_ask m.entry 2) x ∷ [])
+FindKnows m point.Next r0 r tr es = (ps : List Passed) × (x : ℕ) × IsAtEntry m ps r0 r es × (x ≢ m.key) × IsKnown (sight m.me.who r) (Body m.entry 2) x × (tr ≡ walk_trail m.me m.author m.key m.home ps m.entry ++ pair (word_ask m.entry 2) x ∷ [])
     × (m.author ≡ m.me.who → (xs : List Entry) × (e : Entry) × (ys : List Entry) × IsOwnWalk m r xs e ys × (e.key ≢ m.key))
 
 -- ---- what it leaves
@@ -118,7 +133,11 @@ pub record IsFound (me : Me) (a key entry before word : ℕ) (r0 r : Memo) (tr :
   pub led : Body before word ≡ led_from home (key % 16) passed
   pub trail : tr ≡ walk_trail me a key home passed entry ++ pair (word_ask entry 2) key ∷ []
   pub some : entry ≢ 0
+  pub latch : r.latch ≡ Some a
+  pub table : is_loose r.part ≡ false
   pub here : IsIn r AnEntry entry
+  pub look : IsLook r (Home a) home
+  pub chain : IsChainRead r home (key % 16) passed entry
   pub room : entry + 4 < total_of me.geometry
   pub known : IsKnown (sight me.who r) (Body entry 2) key
   pub own : a ≡ me.who → (first : ℕ) × (xs : List Entry) × (e : Entry) × (ys : List Entry) × IsSeeking me.who r key first (Body before word) entry xs (e ∷ ys) × (e.key ≡ key)

@@ -3,7 +3,7 @@ use Rattle.std.proofs.Common.{◌≡◌, ◌≢◌, ℕ, ◌+◌, ◌%◌, ◌^�
 use Rattle.std.specs.Prelude.{None, Some, ◌==◌, if◌then◌else◌}
 use Rattle.std.specs.List.{Contains}
 use Rattle.std.proofs.lemmas.Bool.{cases_eq, cond-false, cond-true, eq-eqb, ne_eqb}
-use Rattle.std.proofs.lemmas.List.Elements.{All-append, All-cons, All-nil}
+use Rattle.std.proofs.lemmas.List.Elements.{Contains-append_left, All-append, All-cons, All-nil}
 use Rattle.shm_words.specs.Layout.{total_of}
 use Rattle.shm_words.proofs.Placing.{total_small}
 use Rattle.shm_graph.specs.declared.ask.Me.{Me}
@@ -38,7 +38,7 @@ use Rattle.shm_table.specs.declared.find.Found.TheVariants.{Absent, At}
 use Rattle.shm_table.specs.EntryReads.{entry_load, key_load, reference_reads}
 use Rattle.shm_table.specs.FindControl.{Passed, begin_of, find_ask, find_call, find_goes, finding, home_ask, is_home, walk_trail, word_ask}
 use Rattle.shm_table.specs.FindFits.{AreOthers, FindFinds, FindKnows, FindLeaves, IsAtBucket, MayFind, OnlyReads, find_part, find_plan}
-use Rattle.shm_table.specs.FindReads.{at_entry, begin_more, by_block, directory_latched, directory_room, directory_values, entry_latched, entry_plain, entry_room, home_in, led_more, look_in, next_values, one_more, reads_by, reads_more, reference_only, stays_in, walk_more, word_only}
+use Rattle.shm_table.specs.FindReads.{chain_kept, chain_more, look_made, at_entry, begin_more, by_block, directory_latched, directory_room, directory_values, entry_latched, entry_plain, entry_room, home_in, led_more, look_in, next_values, one_more, reads_by, reads_more, reference_only, stays_in, walk_more, word_only}
 
 -- ---- the plan
 
@@ -129,7 +129,7 @@ module _ (m : FindState) (r0 rs r : Memo) (tr t : Trail) (es ds : List Event) (n
 
     no_home : n ≡ 0 → L (Absent 0 0)
     no_home e =
-        let here : OnlyReads rs r = reads_by rs r rs.looks rs.known (w.0.found.left ∙ ap core {y = rs} (cond-true (eqb n 0) _ _ (eq-eqb n 0 e))) (λ s k. k) in
+        let here : OnlyReads rs r = reads_by rs r rs.looks rs.known (w.0.found.left ∙ ap core {y = rs} (cond-true (eqb n 0) _ _ (eq-eqb n 0 e))) (λ s k. k) (λ s k. k) in
         let reads : OnlyReads r0 r = from_home here in
         record {
           reads = reads;
@@ -144,7 +144,7 @@ module _ (m : FindState) (r0 rs r : Memo) (tr t : Trail) (es ds : List Event) (n
     some_home some =
         let left : core r ≡ core (record rs { looks = rs.looks ++ record { block = n; from = Home a } ∷ [] }) =
         w.0.found.left ∙ ap core {y = record rs { looks = rs.looks ++ record { block = n; from = Home a } ∷ [] }} (cond-false (eqb n 0) _ _ (ne_eqb n 0 some)) in
-        let here : OnlyReads rs r = reads_by rs r (rs.looks ++ record { block = n; from = Home a } ∷ []) rs.known left (λ s k. k) in
+        let here : OnlyReads rs r = reads_by rs r (rs.looks ++ record { block = n; from = Home a } ∷ []) rs.known left (λ s k. k) (λ k q. Contains-append_left rs.looks (record { block = n; from = Home a } ∷ []) k q) in
         let reads : OnlyReads r0 r = from_home here in
         let is : IsIn r Directory n = home_in rs r a n (ap (λ (y : Memo). y.looks) left) (table_of m.me a r0 r h.0 reads) in
         let room : n + 17 < total_of m.me.geometry = directory_room m.me r n h.0.who held is in
@@ -155,6 +155,7 @@ module _ (m : FindState) (r0 rs r : Memo) (tr t : Trail) (es ds : List Event) (n
             none = ap (λ (x : List Event). x ++ ds) h.3 ∙ w.0.none;
             some = some;
             here = is;
+            look = look_made rs r (Home a) n (ap (λ (y : Memo). y.looks) left);
             room = room;
             own = own_home here;
             trail = one_more (home_ask m.me a) n n tr [] t h.2 refl w.1;
@@ -206,6 +207,8 @@ module _ (m : FindState) (r0 rs r : Memo) (tr t : Trail) (es ds : List Event) (n
               directory = h.some;
               some = some;
               here = is;
+              look = here_bucket.looked (record { block = m.home; from = Home a }) h.look;
+              chain = look_made rs r (Body m.home (m.key % 16)) n (u.1 some);
               room = room;
               others = All-nil (λ (p : Passed). p.key ≢ m.key);
               first = refl;
@@ -230,6 +233,9 @@ module _ (m : FindState) (r0 rs r : Memo) (tr t : Trail) (es ds : List Event) (n
     key_in : IsIn r AnEntry m.entry
     key_in = stays_in rs r AnEntry m.entry (ap (λ (y : Memo). y.looks) w.0.found.0.left) (ap (λ (y : Memo). y.part) w.0.found.0.left) k.1.here
 
+    key_known : IsKnown (sight c r) (Body m.entry 2) n
+    key_known = subst (λ ks. Contains ks (record { spot = Body m.entry 2; value = n })) (sym (ap (λ (y : Memo). y.known) w.0.found.0.left)) (learnt_here (Body m.entry 2) n rs.known)
+
     key_trail : (x : ℕ) → n ≡ x → tr ++ t ≡ walk_trail m.me a m.key m.home k.0 m.entry ++ pair (word_ask m.entry 2) x ∷ []
     key_trail x e = one_more (word_ask m.entry 2) n x tr (walk_trail m.me a m.key m.home k.0 m.entry) t k.2 e w.1
 
@@ -246,9 +252,13 @@ module _ (m : FindState) (r0 rs r : Memo) (tr t : Trail) (es ds : List Event) (n
           led = h.led;
           trail = key_trail m.key e;
           some = h.some;
+          latch = latch_of m.me a r0 r h.may key_reads;
+          table = table_of m.me a r0 r h.may key_reads;
           here = key_in;
+          look = here_key.looked (record { block = m.home; from = Home a }) h.look;
+          chain = chain_kept rs r m.home (m.key % 16) k.0 m.entry here_key.known here_key.looked h.chain;
           room = h.room;
-          known = subst (λ x. IsKnown (sight c r) (Body m.entry 2) x) e (subst (λ ks. Contains ks (record { spot = Body m.entry 2; value = n })) (sym (ap (λ (y : Memo). y.known) w.0.found.0.left)) (learnt_here (Body m.entry 2) n rs.known));
+          known = subst (λ x. IsKnown (sight c r) (Body m.entry 2) x) e key_known;
           own = λ q. let o = k.3 q in let u = w.0.found.1 m.first (Body m.before m.word) o.0 o.1 o.2 o.3 in (m.first, o.0, o.1, o.2, u.kept, u.key_is refl ∙ e);
         }
 
@@ -264,6 +274,8 @@ module _ (m : FindState) (r0 rs r : Memo) (tr t : Trail) (es ds : List Event) (n
             directory = h.directory;
             some = h.some;
             here = key_in;
+            look = here_key.looked (record { block = m.home; from = Home a }) h.look;
+            chain = chain_kept rs r m.home (m.key % 16) k.0 m.entry here_key.known here_key.looked h.chain;
             room = h.room;
             others = h.others;
             first = h.first;
@@ -271,6 +283,7 @@ module _ (m : FindState) (r0 rs r : Memo) (tr t : Trail) (es ds : List Event) (n
             own = λ q. home_same c rs r here_key ∙ h.own q;
           },
           other,
+          key_known,
           key_trail n refl,
           λ q. let o = k.3 q in let u = w.0.found.1 m.first (Body m.before m.word) o.0 o.1 o.2 o.3 in (o.0, o.1, o.2, u.kept, λ z. other (sym (u.key_is refl) ∙ z)),
         )
@@ -299,12 +312,12 @@ module _ (m : FindState) (r0 rs r : Memo) (tr t : Trail) (es ds : List Event) (n
     next_trail : (x : ℕ) → n ≡ x → tr ++ t ≡ walk_trail m.me a m.key m.home all x
     next_trail x e =
         let walk : Trail = walk_trail m.me a m.key m.home k.0 m.entry in
-        one_more (word_ask m.entry 0) n x tr (walk ++ pair (word_ask m.entry 2) k.1 ∷ []) t k.4 e w.1
+        one_more (word_ask m.entry 0) n x tr (walk ++ pair (word_ask m.entry 2) k.1 ∷ []) t k.5 e w.1
         ∙ (append_assoc walk (pair (word_ask m.entry 2) k.1 ∷ []) (pair (word_ask m.entry 0) x ∷ [])
         ∙ sym (walk_more m.me a m.key m.home k.0 (record { block = m.entry; key = k.1 }) x))
 
     next_walk : a ≡ c → (xs : List Entry) × (ys : List Entry) × IsSeeking c r m.key m.first (Body m.entry 0) n xs ys
-    next_walk q = let o = k.5 q in (o.0 ++ o.1 ∷ [], o.2, (w.0.found.1 m.first (Body m.before m.word) o.0 o.1 o.2 o.3).next refl o.4)
+    next_walk q = let o = k.6 q in (o.0 ++ o.1 ∷ [], o.2, (w.0.found.1 m.first (Body m.before m.word) o.0 o.1 o.2 o.3).next refl o.4)
 
     no_next : n ≡ 0 → L (Absent m.home m.first)
     no_next e =
@@ -334,6 +347,9 @@ module _ (m : FindState) (r0 rs r : Memo) (tr t : Trail) (es ds : List Event) (n
               directory = h.directory;
               some = some;
               here = is;
+              look = here_next.looked (record { block = m.home; from = Home a }) h.look;
+              chain = chain_more r m.home (m.key % 16) k.0 (record { block = m.entry; key = k.1 }) n (chain_kept rs r m.home (m.key % 16) k.0 m.entry here_next.known here_next.looked h.chain) (here_next.known (record { spot = Body m.entry 2; value = k.1 }) k.4)
+                  (look_made rs r (Body m.entry 0) n (u.1 some));
               room = room;
               others = all_others;
               first = first_of n;

@@ -3,6 +3,7 @@ use Rattle.std.proofs.Common.{◌≡◌, ◌≢◌, ℕ, ◌+◌, ◌%◌, ◌^�
 use Rattle.std.specs.Prelude.{None, Some, ◌==◌, if◌then◌else◌}
 use Rattle.std.specs.List.{Contains, list_any}
 use Rattle.std.proofs.lemmas.Bool.{cases_Bool, cases_eq, cond-false, cond-true, eq-eqb, false≢true, ne_eqb, or_left, or_right}
+use Rattle.std.proofs.lemmas.List.Elements.{Contains-append_left, Contains-push}
 use Rattle.shm_words.specs.Layout.{total_of}
 use Rattle.shm_graph.specs.declared.ask.Ask.{Ask}
 use Rattle.shm_graph.specs.declared.ask.Me.{Me}
@@ -35,21 +36,22 @@ use Rattle.shm_count.specs.TableReading.{home_role}
 use Rattle.shm_ref.specs.AskedParts.{one_pair}
 use Rattle.shm_table.specs.declared.find.Found.{Found}
 use Rattle.shm_table.specs.FindControl.{Passed, begin_of, home_ask, led_from, passed_trail, walk_trail, word_ask}
-use Rattle.shm_table.specs.FindFits.{OnlyReads}
+use Rattle.shm_table.specs.FindFits.{IsChainRead, IsLook, OnlyReads}
 
 -- ---- memos of which only the looks and what is known differ
 
 -- so where they do
-pub reads_by : (r x : Memo) (l : List Look) (k : List Stored) → core x ≡ core (record r { looks = l; known = k }) → ((s : Stored) → Contains r.known s → Contains k s) → OnlyReads r x
-reads_by r x l k e known =
+pub reads_by : (r x : Memo) (l : List Look) (k : List Stored) → core x ≡ core (record r { looks = l; known = k }) → ((s : Stored) → Contains r.known s → Contains k s) → ((j : Look) → Contains r.looks j → Contains l j) → OnlyReads r x
+reads_by r x l k e known looked =
     record {
       memo = e ∙ ap (λ (y : Memo). core (record r { looks = y.looks; known = y.known })) (sym e);
       known = λ s h. subst (λ ks. Contains ks s) (sym (ap (λ (y : Memo). y.known) e)) (known s h);
+      looked = λ j h. subst (λ ks. Contains ks j) (sym (ap (λ (y : Memo). y.looks) e)) (looked j h);
     }
 
 -- one after the other
 pub reads_more : (r0 r x : Memo) → OnlyReads r0 r → OnlyReads r x → OnlyReads r0 x
-reads_more r0 r x a b = record { memo = b.memo ∙ ap (λ (y : Memo). core (record y { looks = x.looks; known = x.known })) a.memo; known = λ s h. b.known s (a.known s h) }
+reads_more r0 r x a b = record { memo = b.memo ∙ ap (λ (y : Memo). core (record y { looks = x.looks; known = x.known })) a.memo; known = λ s h. b.known s (a.known s h); looked = λ k h. b.looked k (a.looked k h) }
 
 -- what is known of a word is what is found, so it stays known once the word is learnt
 learnt_keeps : (p : Spot) (m : Memo) (n : ℕ) → as_known p m n → (s : Stored) → Contains m.known s → Contains (learnt p n m.known) s
@@ -63,17 +65,17 @@ learnt_keeps p m n found s h = elim (cases_Bool (same_spot p s.spot)) [
 
 -- what a load of a word leaves is that
 pub word_only : (p : Spot) (m : Memo) (n : ℕ) (x : Memo) → WordLoaded p m n x → OnlyReads m x
-word_only p m n x h = reads_by m x m.looks (learnt p n m.known) h.left (learnt_keeps p m n h.found)
+word_only p m n x h = reads_by m x m.looks (learnt p n m.known) h.left (learnt_keeps p m n h.found) (λ k q. q)
 
 pub reference_only : (b i : ℕ) (m : Memo) (n : ℕ) (x : Memo) → ReferenceLoaded b i m n x → values_read m b i n ≡ m.values → OnlyReads m x
 reference_only b i m n x h same =
     elim (cases_eq n 0) [
-      | inl e ↦ reads_by m x m.looks (learnt (Body b i) n m.known) (h.left ∙ ap core {y = record m { known = learnt (Body b i) n m.known }} (cond-true (eqb n 0) _ _ (eq-eqb n 0 e))) (learnt_keeps (Body b i) m n h.found)
+      | inl e ↦ reads_by m x m.looks (learnt (Body b i) n m.known) (h.left ∙ ap core {y = record m { known = learnt (Body b i) n m.known }} (cond-true (eqb n 0) _ _ (eq-eqb n 0 e))) (learnt_keeps (Body b i) m n h.found) (λ k q. q)
       | inr some ↦ reads_by m x (m.looks ++ record { block = n; from = Body b i } ∷ []) (learnt (Body b i) n m.known)
           (h.left
           ∙ (ap core {y = record m { looks = m.looks ++ record { block = n; from = Body b i } ∷ []; known = learnt (Body b i) n m.known; values = values_read m b i n }} (cond-false (eqb n 0) _ _ (ne_eqb n 0 some))
           ∙ ap (λ vs. core (record m { looks = m.looks ++ record { block = n; from = Body b i } ∷ []; known = learnt (Body b i) n m.known; values = vs })) same))
-          (learnt_keeps (Body b i) m n h.found)
+          (learnt_keeps (Body b i) m n h.found) (λ k q. Contains-append_left m.looks (record { block = n; from = Body b i } ∷ []) k q)
     ]
 
 -- no word of a directory, and no next word, is read as the value of an entry
@@ -127,6 +129,23 @@ directory_room me r b l held here = let k = told_inside me r (shaped r.latch b D
 
 pub entry_room : (me : Me) (r : Memo) (b : ℕ) → me.who < me.geometry.clients → IsHeld me r → IsIn r AnEntry b → b + 4 < total_of me.geometry
 entry_room me r b l held here = let k = told_inside me r (shaped r.latch b AnEntry) l held (role_told me.who r b AnEntry here.0 (λ z. cc)) in omega arith
+
+-- ---- the chain that was read
+
+-- it stays read where more is known and looked at
+pub chain_kept : (r x : Memo) (d i : ℕ) (ps : List Passed) (at : ℕ) → ((s : Stored) → Contains r.known s → Contains x.known s) → ((k : Look) → Contains r.looks k → Contains x.looks k) → IsChainRead r d i ps at → IsChainRead x d i ps at
+chain_kept r x d i [] at known looked h = looked (record { block = at; from = Body d i }) h
+chain_kept r x d i (p ∷ ps) at known looked h =
+    (looked (record { block = p.block; from = Body d i }) h.0, known (record { spot = Body p.block 2; value = p.key }) h.1, chain_kept r x p.block 0 ps at known looked h.2)
+
+-- and one more entry is passed
+pub chain_more : (r : Memo) (d i : ℕ) (ps : List Passed) (p : Passed) (n : ℕ) → IsChainRead r d i ps p.block → Contains r.known (record { spot = Body p.block 2; value = p.key }) → IsLook r (Body p.block 0) n → IsChainRead r d i (ps ++ p ∷ []) n
+chain_more r d i [] p n h known look = (h, known, look)
+chain_more r d i (q ∷ ps) p n h known look = (h.0, h.1, chain_more r q.block 0 ps p n h.2 known look)
+
+-- a look that was made last
+pub look_made : (m x : Memo) (p : Spot) (n : ℕ) → x.looks ≡ m.looks ++ record { block = n; from = p } ∷ [] → IsLook x p n
+look_made m x p n e = subst (λ ks. Contains ks (record { block = n; from = p })) (sym e) (Contains-push m.looks (record { block = n; from = p }))
 
 -- ---- trails
 

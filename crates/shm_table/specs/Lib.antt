@@ -4,4 +4,5 @@ pub mod FindFits
 pub mod FindReads
 pub mod FindLaws
 pub mod FindBound
+pub mod FindTells
 pub mod Machines

@@ -1,17 +1,27 @@
 //! When machines over tables may begin, what they do to the graph of references, and what they leave.
 
-ghost use Rattle.std.specs.Prelude.{◌≡◌, ℕ, []};
+ghost use Rattle.std.specs.Prelude.{◌≡◌, ℕ, ◌<◌, Some, None, []};
 ghost use Rattle.shm_graph.specs.declared.ask.Me.{Me as AMe};
 ghost use Rattle.shm_graph.specs.declared.memo.Memo.{Memo as AMemo};
+ghost use Rattle.std.specs.List.{Contains};
+ghost use Rattle.shm_graph.specs.declared.memo.Look.{Look as ALook};
+ghost use Rattle.shm_graph.specs.declared.memo.Stored.{Stored as AStored};
+ghost use Rattle.shm_graph.specs.declared.spot.Spot.{Spot as ASpot};
+ghost use Rattle.shm_graph.specs.declared.spot.Spot.TheVariants.{Body};
 ghost use Rattle.shm_graph.specs.Asks.{Trail};
+ghost use Rattle.shm_graph.specs.Held.{HeldAt};
 ghost use Rattle.shm_graph.specs.Tells.{Tells};
+ghost use Rattle.shm_graph.specs.Views.{view};
+ghost use Rattle.shm_steps.specs.Reparting.{map_in};
 ghost use Rattle.shm_calls.specs.CallsControl.{calls_does};
 ghost use Rattle.shm_calls.specs.CallsFit.{CallsFits};
 ghost use Rattle.shm_calls.specs.Plans.{plan_trail};
 ghost use Rattle.shm_calls.specs.Words.{word_control};
 ghost use Rattle.shm_table.specs.declared.find.Found.{Found as AFound};
+ghost use Rattle.shm_table.specs.declared.find.Found.TheVariants.{Absent, At};
 ghost use Rattle.shm_table.specs.FindControl.{finding};
-ghost use Rattle.shm_table.specs.FindFits.{MayFind, FindLeaves, find_plan};
+ghost use Rattle.shm_table.specs.FindFits.{IsLook, MayFind, FindLeaves, find_plan};
+ghost use Rattle.shm_table.specs.FindTells.{HasKey, HasRead};
 ghost use Rattle.shm_table.specs.Machines.{find, FindFits, FindGives, find_told};
 
 /// A search for a key in the table of an author fits each memo of an identity of a pool for tables that is here, with no step in progress and
@@ -31,4 +41,19 @@ pub fn find_events()
 pub fn find_leaves()
     ensures leaves { (me : AMe) (a key : ℕ) (r0 r : AMemo) (tr : Trail) (b : AFound) → FindGives me a key r0 r tr b → FindLeaves (finding me a key) r0 r tr (find_told me a key tr) b }
     ensures trail { (me : AMe) (a key : ℕ) (r0 r : AMemo) (tr : Trail) (b : AFound) → FindGives me a key r0 r tr b → plan_trail find_plan (finding me a key) tr b }
+{}
+
+/// In the own table the answer says whether its map has the key; and in any table a chain was read up to the entry that was found.
+pub fn find_tells()
+    ensures absent { (me : AMe) (a key : ℕ) (r0 r : AMemo) (tr : Trail) (home first : ℕ) → a ≡ me.who → FindGives me a key r0 r tr (Absent home first) → map_in r0.part key ≡ None }
+    ensures found { (me : AMe) (a key : ℕ) (r0 r : AMemo) (tr : Trail) (entry before word : ℕ) → a ≡ me.who → FindGives me a key r0 r tr (At entry before word) → (n : ℕ) × (v : ℕ) × (map_in r0.part key ≡ Some (n, v)) }
+    ensures read { (me : AMe) (a key : ℕ) (r0 r : AMemo) (tr : Trail) (entry before word : ℕ) → FindGives me a key r0 r tr (At entry before word) → HasRead a r key entry }
+{}
+
+/// That a chain was read up to an entry stays so while the latch is held and more is read. In each state that holds with such a memo the
+/// author's partition has the key at that entry; and once the entry's value word was read and its number is known, the author's map has them.
+pub fn read_tells()
+    ensures stays { (a key entry : ℕ) (r x : AMemo) → x.latch ≡ r.latch → x.part ≡ r.part → ((s : AStored) → Contains r.known s → Contains x.known s) → ((k : ALook) → Contains r.looks k → Contains x.looks k) → HasRead a r key entry → HasRead a x key entry }
+    ensures has { (me : AMe) (a key entry : ℕ) (r : AMemo) → HasRead a r key entry → me.who < me.geometry.clients → (w : ASpot → ℕ) (rs : ℕ → AMemo) → HeldAt me.geometry w (view rs) → rs me.who ≡ r → HasKey (rs a).part key entry }
+    ensures map { (me : AMe) (a key entry v n : ℕ) (r : AMemo) → HasRead a r key entry → IsLook r (Body entry 1) v → Contains r.known (record { spot = Body v 0; value = n }) → me.who < me.geometry.clients → (w : ASpot → ℕ) (rs : ℕ → AMemo) → HeldAt me.geometry w (view rs) → rs me.who ≡ r → map_in (rs a).part key ≡ Some (n, v) }
 {}

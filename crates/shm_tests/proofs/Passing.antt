@@ -1,21 +1,20 @@
 -- an identity that joined a pool that it hadn't joined before may leave it
-use Rattle.std.proofs.Common.{◌≡◌, ℕ, ◌+◌, ◌<◌, ◌⊎◌, refl, sym, ap, ◌∙◌, subst, inl, false, cond, length}
+use Rattle.std.proofs.Common.{◌≡◌, ℕ, ◌<◌, ap, ◌∙◌, subst, cond, length}
 use Rattle.std.specs.Prelude.{slice_index}
 use Rattle.shm_words.specs.declared.geometry.Geometry.{Geometry}
 use Rattle.shm_words.specs.Layout.{GeometryFits}
 use Rattle.shm_graph.specs.declared.memo.Kind.TheVariants.{Client}
 use Rattle.shm_graph.specs.declared.memo.Memo.{Memo}
-use Rattle.shm_graph.specs.declared.memo.Status.TheVariants.{New, Gone}
 use Rattle.shm_graph.specs.declared.run.Start.{Start}
 use Rattle.shm_graph.specs.Agents.{acts, entered}
 use Rattle.shm_graph.specs.Asks.{Trail}
-use Rattle.shm_graph.specs.Runs.{MayBegin, first_memo}
+use Rattle.shm_graph.specs.Runs.{first_memo}
 use Rattle.shm_graph.proofs.FirstHeld.{same_everywhere}
 use Rattle.shm_count.specs.Roots.{member}
 use Rattle.shm_recover.specs.Joining.{JoinGives, join_fresh}
 use Rattle.shm_recover.specs.LeaveFits.{MayLeave}
 use Rattle.shm_recover.specs.LeaveGone.{idle_may_leave}
-use Rattle.shm_plain.specs.Pools.{Pool, memo_of, readied, MayStep}
+use Rattle.shm_plain.specs.Pools.{Pool, memo_of, readied}
 use Rattle.shm_plain.specs.Tracks.{kind_next}
 use Rattle.shm_plain.proofs.Turning.{ready_memo}
 
