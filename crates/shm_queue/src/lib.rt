@@ -28,6 +28,12 @@ pub use send::{Send, Sending};
 pub use take::{Take, Taking};
 
 #[cfg(test)]
+mod drain_tests;
+#[cfg(test)]
+mod peek_tests;
+#[cfg(test)]
+mod receive_tests;
+#[cfg(test)]
 mod take_tests;
 #[cfg(test)]
 mod tests;
