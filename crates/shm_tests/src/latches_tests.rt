@@ -10,6 +10,45 @@ use shm_words::Geometry;
 use std::test::Fail;
 
 #[test]
+fn a_latch_that_another_client_holds(rt: HostRuntime) -> Result<(), Fail> {
+    let mut life = Life::of(7);
+    let Some(mut pool) = joined(rt.alloc(), Geometry::new(2, 2)?, 1, false, &mut life, 1)? else {
+        panic!(rt; "no join")
+    };
+    let Some(Ok(())) = hold(&mut pool, 1, 0, &mut life) else {
+        panic!(rt; "no latch")
+    };
+    assert!(rt; join(&mut pool, 0, &mut life));
+    let Some(answer) = hold(&mut pool, 0, 0, &mut life) else {
+        panic!(rt; "no step was left")
+    };
+    assert_eq!(rt; answer, Err(Busy { holder: 1 }));
+    assert_eq!(rt; life.left, 0);
+    assert_eq!(rt; pool.word(5), 0);
+    Ok(())
+}
+
+#[test]
+fn a_home_is_set_once(rt: HostRuntime) -> Result<(), Fail> {
+    let mut life = Life::of(200);
+    let Some(mut pool) = joined(rt.alloc(), Geometry::new(2, 2)?, 1, false, &mut life, 0)? else {
+        panic!(rt; "no join")
+    };
+    let Some(Ok(made)) = allocate(&mut pool, 0, 0, &[77], &mut life)? else {
+        panic!(rt; "no block")
+    };
+    assert_eq!(rt; made.block, 121);
+    let Some(Ok(())) = set_home(&mut pool, 0, made.block, &mut life) else {
+        panic!(rt; "no home")
+    };
+    let Some(again) = set_home(&mut pool, 0, made.block, &mut life) else {
+        panic!(rt; "no step was left")
+    };
+    assert_eq!(rt; again, Err(HomeFault::HomeSet { block: 121 }));
+    Ok(())
+}
+
+#[test]
 fn a_block_that_another_client_finds(rt: HostRuntime) -> Result<(), Fail> {
     let mut life = Life::of(200);
     let Some(mut pool) = joined(rt.alloc(), Geometry::new(2, 2)?, 1, false, &mut life, 0)? else {
@@ -18,9 +57,14 @@ fn a_block_that_another_client_finds(rt: HostRuntime) -> Result<(), Fail> {
     let Some(Ok(made)) = allocate(&mut pool, 0, 0, &[77], &mut life)? else {
         panic!(rt; "no block")
     };
-    let block = made.block;
-    assert_eq!(rt; block, 121);
-    let Some(Ok(())) = set_home(&mut pool, 0, block, &mut life) else {
+    assert_eq!(rt;
+        made,
+        Made {
+            root: 0,
+            block: 121
+        }
+    );
+    let Some(Ok(())) = set_home(&mut pool, 0, made.block, &mut life) else {
         panic!(rt; "no home")
     };
     assert!(rt; join(&mut pool, 1, &mut life));
@@ -30,11 +74,6 @@ fn a_block_that_another_client_finds(rt: HostRuntime) -> Result<(), Fail> {
     let Some(Ok(())) = hold(&mut pool, 1, 0, &mut life) else {
         panic!(rt; "no latch")
     };
-    let Some(Err(busy)) = hold(&mut pool, 0, 0, &mut life) else {
-        panic!(rt; "two hold it")
-    };
-    assert_eq!(rt; busy, Busy { holder: 1 });
-    assert_eq!(rt; pool.word(5), 0);
     let Some(Ok(found)) = home_of(&mut pool, 1, 0, &mut life) else {
         panic!(rt; "not found")
     };
@@ -43,10 +82,10 @@ fn a_block_that_another_client_finds(rt: HostRuntime) -> Result<(), Fail> {
         panic!(rt; "no step was left")
     };
     assert_eq!(rt; word, Ok(77));
-    let Some(word) = read(&mut pool, 1, found, 1, &mut life) else {
+    let Some(none) = read(&mut pool, 1, found, 1, &mut life) else {
         panic!(rt; "no step was left")
     };
-    assert_eq!(rt; word, Err(NoSuchWord { plain: 1 }));
+    assert_eq!(rt; none, Err(NoSuchWord { plain: 1 }));
     let Some(named) = look(&mut pool, 1, found, 0, &mut life) else {
         panic!(rt; "no step was left")
     };
@@ -55,23 +94,15 @@ fn a_block_that_another_client_finds(rt: HostRuntime) -> Result<(), Fail> {
         panic!(rt; "no root")
     };
     assert_eq!(rt; root, 0);
-    assert!(rt; release(&mut pool, 1, &mut life).is_some());
+    let Some(()) = release(&mut pool, 1, &mut life) else {
+        panic!(rt; "the latch stays")
+    };
     let Some(dropped) = drop_root(&mut pool, 1, 1, &mut life) else {
         panic!(rt; "no step was left")
     };
     assert_eq!(rt; dropped, Ok(false));
     assert_eq!(rt; root_of(&mut pool, 1, 0, &mut life), Some(121));
-    for (at, word) in [
-        (121, 9_367_909_437_395_697_665),
-        (13, 2),
-        (14, 2),
-        (31, 121),
-    ] {
-        assert_eq!(rt; pool.word(at), word, "{at}");
-    }
-    let Some(again) = set_home(&mut pool, 0, block, &mut life) else {
-        panic!(rt; "no step was left")
-    };
-    assert_eq!(rt; again, Err(HomeFault::HomeSet { block: 121 }));
+    assert_eq!(rt; pool.word(121), 9_367_909_437_395_697_665);
+    assert_eq!(rt; (pool.word(13), pool.word(14), pool.word(31)), (2, 2, 121));
     Ok(())
 }

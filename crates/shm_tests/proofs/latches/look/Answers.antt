@@ -72,7 +72,7 @@ module _ (m : LookState) (r0 r : Memo) (tr : Trail) (es : List Event) where
   reached_by (Err NotHeld) h = tt
 
   unread_by : (a : Result ℕ LookFault) → LookLeaves m r0 r tr es a → unread r ≡ unread r0
-  unread_by (Ok b) h = 
+  unread_by (Ok b) h =
       let m0 : Memo = tagged m.block h.x r0 in
       ap unread h.memo
       ∙ choice (λ (x : Memo). unread x ≡ unread r0) (b == 0) (record m0 { known = learnt (Body m.block m.index) b m0.known })

@@ -47,17 +47,21 @@ state c =
 knows : (c : After-new-machine) → let r : Memo = memo_of c.args.pool.now c.args.who in HomeKnows (plan c) Load r r [] []
 knows c =
     let work = c.requires.at_work in
-    let r : Memo = memo_of c.args.pool.now c.args.who in
-    (record {
-      geometry = work.geometry;
-      who = work.who;
-      here = is_here c.args.who r work.idle;
-      idle = work.idle.op;
-      client = work.client;
-      inside = reached_inside c.args.pool.now c.args.who work c.geometry-geometry.ensures.run c.args.block c.requires.reached;
-      reach = c.requires.reached;
-      part = c.requires.part;
-    }, refl, refl, refl)
+    let r : Memo = memo_of c.args.pool.now c.args.who in (
+      record {
+        geometry = work.geometry;
+        who = work.who;
+        here = is_here c.args.who r work.idle;
+        idle = work.idle.op;
+        client = work.client;
+        inside = reached_inside c.args.pool.now c.args.who work c.geometry-geometry.ensures.run c.args.block c.requires.reached;
+        reach = c.requires.reached;
+        part = c.requires.part;
+      },
+      refl,
+      refl,
+      refl,
+    )
 
 pub new-requires-2-clause-block : goal.new-requires-2-clause-block
 new-requires-2-clause-block c = reached_small c.args.pool.now c.args.who c.requires.at_work c.geometry-geometry.ensures.run c.args.block c.requires.reached
