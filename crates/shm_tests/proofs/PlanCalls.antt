@@ -1,5 +1,5 @@
 -- calls of a plan on a pool in which its identity is at work
-use Rattle.std.proofs.Common.{◌≡◌, ℕ, ◌+◌, ◌^◌, ◌<◌, ◌≤◌, ◌&&◌, Bool, true, refl, sym, ap, ◌∙◌, subst, arith, List, []}
+use Rattle.std.proofs.Common.{◌≡◌, ℕ, ◌+◌, ◌^◌, ◌<◌, ◌≤◌, ◌&&◌, true, sym, ap, ◌∙◌, subst, arith, List, []}
 use Rattle.std.specs.Prelude.{Option, IfSome}
 use Rattle.std.specs.Option.{is_some}
 use Rattle.shm_words.specs.declared.geometry.Geometry.{Geometry}

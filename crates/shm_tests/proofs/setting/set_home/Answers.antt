@@ -1,5 +1,5 @@
 use Rattle.std.proofs.Common.{◌≡◌, ℕ, ◌&&◌, ◌==◌, refl, sym, ap, ◌∙◌, not, List, [], ◌∷◌, ◌++◌, Result}
-use Rattle.std.specs.Prelude.{Ok, Err, IfOk, IfErr, IfSome}
+use Rattle.std.specs.Prelude.{Ok, Err, IfOk, IfErr}
 use Rattle.std.proofs.lemmas.Bool.{cond-true}
 use Rattle.shm_graph.specs.declared.ask.Me.{Me}
 use Rattle.shm_graph.specs.declared.memo.Memo.{Memo}
