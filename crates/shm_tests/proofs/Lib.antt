@@ -8,3 +8,5 @@ pub mod RootCalls
 pub mod AllocRoots
 pub mod TearAnswers
 pub mod Passing
+pub mod PlanCalls
+pub mod JoinLatch

@@ -6,7 +6,9 @@ pub mod counting;
 pub mod driving;
 pub mod dropping;
 pub mod joining;
+pub mod latches;
 pub mod leaving;
+pub mod setting;
 pub mod sharing;
 pub mod tearing;
 
@@ -15,7 +17,9 @@ pub use counting::{change, lower, raise};
 pub use driving::joined;
 pub use dropping::drop_root;
 pub use joining::{Stepped, step_join};
+pub use latches::{hold, home_of, look, read, release, root_of};
 pub use leaving::leave;
+pub use setting::set_home;
 pub use sharing::share;
 pub use tearing::tear_down;
 
@@ -27,6 +31,8 @@ mod closing_tests;
 mod counting_tests;
 #[cfg(test)]
 mod dropping_tests;
+#[cfg(test)]
+mod latches_tests;
 #[cfg(test)]
 mod sharing_tests;
 #[cfg(test)]
