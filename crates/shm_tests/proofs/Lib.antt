@@ -8,3 +8,4 @@ pub mod RootCalls
 pub mod AllocRoots
 pub mod TearAnswers
 pub mod Passing
+pub mod QueueAnswers

@@ -7,6 +7,7 @@ pub mod driving;
 pub mod dropping;
 pub mod joining;
 pub mod leaving;
+pub mod queues;
 pub mod sharing;
 pub mod tearing;
 
@@ -16,6 +17,7 @@ pub use driving::joined;
 pub use dropping::drop_root;
 pub use joining::{Stepped, step_join};
 pub use leaving::leave;
+pub use queues::send;
 pub use sharing::share;
 pub use tearing::tear_down;
 
