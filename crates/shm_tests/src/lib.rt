@@ -17,7 +17,7 @@ pub use driving::joined;
 pub use dropping::drop_root;
 pub use joining::{Stepped, step_join};
 pub use leaving::leave;
-pub use queues::send;
+pub use queues::{drain, receive, send};
 pub use sharing::share;
 pub use tearing::tear_down;
 
