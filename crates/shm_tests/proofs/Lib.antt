@@ -9,3 +9,4 @@ pub mod AllocRoots
 pub mod TearAnswers
 pub mod Passing
 pub mod QueueAnswers
+pub mod QueueReady

@@ -30,6 +30,8 @@ mod counting_tests;
 #[cfg(test)]
 mod dropping_tests;
 #[cfg(test)]
+mod queues_tests;
+#[cfg(test)]
 mod sharing_tests;
 #[cfg(test)]
 mod tests;
