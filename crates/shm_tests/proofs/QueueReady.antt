@@ -1,26 +1,25 @@
 -- identities that may send, receive and leave: how they come to be so, and stay so
-use Rattle.std.proofs.Common.{◌≡◌, ◌≢◌, ℕ, ◌<◌, Bool, true, false, sym, ap, ◌∙◌, subst, cond, length, Result}
+use Rattle.std.proofs.Common.{◌≡◌, ◌≢◌, ℕ, ◌<◌, Bool, false, sym, ap, ◌∙◌, subst, Result}
 use Rattle.std.specs.Prelude.{◌==◌, slice_index}
 use Rattle.std.proofs.lemmas.Bool.{true≢false}
 use Rattle.shm_words.specs.declared.geometry.Geometry.{Geometry}
+use Rattle.shm_words.specs.Layout.{GeometryFits}
 use Rattle.shm_graph.specs.declared.memo.Kind.TheVariants.{Client}
 use Rattle.shm_graph.specs.declared.memo.Memo.{Memo}
 use Rattle.shm_graph.specs.declared.run.Start.{Start}
 use Rattle.shm_graph.specs.Agents.{acts, entered, recovers}
 use Rattle.shm_graph.specs.Asks.{Trail}
-use Rattle.shm_graph.specs.Core.{core}
 use Rattle.shm_graph.specs.Held.{is_loose}
 use Rattle.shm_graph.specs.Idle.{IsIdle}
 use Rattle.shm_graph.specs.Runs.{first_memo}
 use Rattle.shm_graph.proofs.FirstHeld.{same_everywhere}
-use Rattle.shm_words.specs.Layout.{GeometryFits}
 use Rattle.shm_plain.specs.Calls.{IsAtWork, Ran}
 use Rattle.shm_plain.specs.Pools.{Pool, memo_of}
+use Rattle.shm_count.specs.declared.answer.Made.{Made}
+use Rattle.shm_count.specs.Roots.{member}
 use Rattle.shm_alloc.specs.declared.alloc.AllocFault.{AllocFault}
 use Rattle.shm_alloc.specs.declared.point.AllocState.{AllocState}
 use Rattle.shm_alloc.specs.AllocFits.{AllocGives}
-use Rattle.shm_count.specs.declared.answer.Made.{Made}
-use Rattle.shm_count.specs.Roots.{member}
 use Rattle.shm_recover.specs.Joining.{JoinGives, join_fresh}
 use Rattle.shm_recover.specs.LeaveFits.{MayLeave}
 use Rattle.shm_recover.specs.LeaveGone.{idle_may_leave}

@@ -30,7 +30,13 @@ fn two_clients(rt: &impl Abort, alloc: Global, life: &mut Life) -> Result<PlainP
     let Some(Ok(made)) = allocate(&mut pool, 0, 0, &[77], life)? else {
         panic!(rt; "no block")
     };
-    assert_eq!(rt; made, Made { root: 0, block: 104 });
+    assert_eq!(rt;
+        made,
+        Made {
+            root: 0,
+            block: 104
+        }
+    );
     assert!(rt; join(&mut pool, 1, life), "the second join");
     Ok(pool)
 }
@@ -73,7 +79,13 @@ fn empty(rt: &impl Abort, pool: &mut PlainPool, life: &mut Life)
     let Some(Ok(made)) = receive(pool, 1, 0, life) else {
         panic!(rt; "no item")
     };
-    assert_eq!(rt; made, Made { root: 0, block: 104 });
+    assert_eq!(rt;
+        made,
+        Made {
+            root: 0,
+            block: 104
+        }
+    );
     assert_eq!(rt; Header::unpack(pool.word(104)).count, 9);
     let Some(Ok(taken)) = drain(pool, 1, life) else {
         panic!(rt; "a drain")

@@ -1,12 +1,10 @@
-use Rattle.std.proofs.Common.{◌≡◌, ◌≢◌, ◌<◌, ◌++◌, [], length, ℕ, refl, sym, ap, ◌∙◌, subst, List, Result}
-use Rattle.std.specs.Prelude.{Ok, Err, IfOk, IfErr, IfSome, slice_index_or}
+use Rattle.std.proofs.Common.{◌≡◌, ◌++◌, [], length, ℕ, refl, sym, ap, ◌∙◌, subst, List, Result}
+use Rattle.std.specs.Prelude.{IfOk, IfSome, slice_index_or}
 use Rattle.shm_graph.specs.declared.ask.Me.{Me}
 use Rattle.shm_graph.specs.declared.memo.Memo.{Memo}
 use Rattle.shm_graph.specs.Events.{Event}
 use Rattle.shm_graph.specs.Idle.{IsIdle}
-use Rattle.shm_graph.specs.Stores.{lane_with}
 use Rattle.shm_graph.specs.Tells.{happens_along}
-use Rattle.shm_graph.specs.Views.{own_word}
 use Rattle.shm_graph.specs.Whole.{fits_now}
 use Rattle.shm_plain.specs.Pools.{memo_of, readied}
 use Rattle.shm_plain.specs.Calls.{Did}
@@ -15,9 +13,9 @@ use Rattle.shm_calls.specs.declared.calls.Calls.{Calls}
 use Rattle.shm_calls.specs.CallsControl.{calls_does, calls_of}
 use Rattle.shm_calls.specs.CallsFit.{CallsFits, CallsGives}
 use Rattle.shm_calls.specs.CallsKeep.{calls_begin, calls_tells}
+use Rattle.shm_count.specs.declared.answer.EraSpent.{EraSpent}
 use Rattle.shm_count.specs.Roots.{AreRootsReached, member, root_word}
 use Rattle.shm_count.proofs.RootSpots.{is_here, roots_reached}
-use Rattle.shm_count.specs.declared.answer.EraSpent.{EraSpent}
 use Rattle.shm_queue.specs.declared.drain.DrainState.{DrainState}
 use Rattle.shm_queue.specs.Machines as machine
 use Rattle.shm_queue.specs.DrainControl.{DrainAnswer, DrainCall, drain_parts, draining}

@@ -1,5 +1,5 @@
 use Rattle.std.proofs.Common.{◌≡◌, ℕ, refl, sym, ap, ◌∙◌, subst, List, Result}
-use Rattle.std.specs.Prelude.{Ok, Err, IfOk, IfErr, IfSome}
+use Rattle.std.specs.Prelude.{IfOk, IfErr, IfSome}
 use Rattle.shm_graph.specs.declared.ask.Me.{Me}
 use Rattle.shm_graph.specs.declared.memo.Memo.{Memo}
 use Rattle.shm_graph.specs.declared.spot.Spot.TheVariants.{Tail}
