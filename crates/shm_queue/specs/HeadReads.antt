@@ -105,6 +105,7 @@ module _ (me : Me) (s : ℕ) where
             head = h.head;
             room = item.1;
             counted = λ has. item.2 (subst (λ (xs : List ℕ). Contains xs n) (sym (ap (λ (x : Memo). x.dying) left)) has);
+            known = λ y has. w.found.found.1 y (subst (λ (ks : List Stored). Contains ks (record { spot = spot.Slot s c (at % 8); value = y })) (sym (ap (λ (x : Memo). x.known) h.same)) has);
             some = (slot.some.0, later.counts (Counter (spot.Tail s c) slot.some.0) refl slot.some.1, (let o = slot.some.2 in omega arith));
             grows = grows_then true r0 rs r h.grows later;
             can = record {

@@ -41,10 +41,11 @@ pub record IsPeeked (me : Me) (s b k : ℕ) (r0 : Memo) (tr : Trail) (es : List 
   pub split : es ≡ before ++ after
   pub peeked : Peeked me s place b k r0 q first before
 
--- the item has root k, and then it was taken
+-- the item has root k, and then that item was taken
 pub record ReceiveDone (me : Me) (s b k : ℕ) (r0 r : Memo) (tr : Trail) (es : List Event) : Type 0 where
   pub look : IsPeeked me s b k r0 tr es
   pub taken : TakeDone me s look.q r look.next look.after
+  pub item : taken.block ≡ b
   pub bound : IsWithin (39 + tear_steps (frees es)) tr
 
 -- the item has a root, and the take was refused

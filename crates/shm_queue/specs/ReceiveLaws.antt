@@ -1,8 +1,10 @@
 -- what is owed of a receive: the peek leads on to the take, or to what is left
-use Rattle.std.proofs.Common.{◌≡◌, ◌+◌, refl, sym, ap, ◌∙◌, subst, arith, List, ◌++◌, length, inl, inr}
+use Rattle.std.proofs.Common.{◌≡◌, ℕ, ◌+◌, ◌%◌, refl, sym, ap, ◌∙◌, subst, arith, List, ◌++◌, length, inl, inr}
 use Rattle.std.specs.Prelude.{Result, Ok, Err, slice_index}
+use Rattle.std.specs.List.{Contains}
 use Rattle.shm_graph.specs.declared.spot.Spot.TheVariants as spot
 use Rattle.shm_graph.specs.declared.memo.Memo.{Memo}
+use Rattle.shm_graph.specs.declared.memo.Stored.{Stored}
 use Rattle.shm_graph.specs.Asks.{Trail}
 use Rattle.shm_graph.specs.Bounds.{tear_steps}
 use Rattle.shm_graph.specs.Events.{Event}
@@ -86,6 +88,15 @@ module _ (m : ReceiveState) (r0 rs r : Memo) (tr t : Trail) (es ds : List Event)
   abbrev peeked : ReceiveKnows (record m { point = Item }) Item r0 rs tr es → IsPeeked m.me m.from m.block m.root r0 (tr ++ t) (es ++ ds)
   peeked h = record { q = rs; place = h.1.0; first = tr; next = t; asked = refl; before = es; after = ds; split = refl; peeked = h.1.1 }
 
+  -- its slot is known, and is the one at the head
+  item_known : (h : ReceiveKnows (record m { point = Item }) Item r0 rs tr es) → (n : ℕ) → n ≡ own_word rs.own (spot.Front m.from m.me.who) → Contains rs.known (record { spot = spot.Slot m.from m.me.who (n % 8); value = m.block })
+  item_known h n at =
+      let p = h.1.1 in
+      let place : h.1.0 ≡ n = p.at ∙ (sym (p.filled.own (spot.Front m.from m.me.who) refl) ∙ sym at) in
+      let here : Contains rs.known (record { spot = spot.Slot m.from m.me.who (h.1.0 % 8); value = m.block }) =
+      subst (λ (ks : List Stored). Contains ks (record { spot = spot.Slot m.from m.me.who (h.1.0 % 8); value = m.block })) (sym (ap (λ (x : Memo). x.known) p.filled.rest)) (0, omega arith, refl) in
+      subst (λ y. Contains rs.known (record { spot = spot.Slot m.from m.me.who (y % 8); value = m.block })) place here
+
   -- the item is taken, or not
   taken : (a : Result (Unit {0}) TakeFault) → ReceiveKnows (record m { point = Item }) Item r0 rs tr es → TakeLeaves (taking m.me m.from) rs r t ds a → Leads Item (Second a)
   taken (Ok done) h g =
@@ -94,7 +105,7 @@ module _ (m : ReceiveState) (r0 rs r : Memo) (tr t : Trail) (es ds : List Event)
       let quiet : frees es ≡ 0 = ap frees p.events ∙ omega arith in
       let f = frees_append es ds in
       let bound = within_more (12 + m.root) (12 + tear_steps (frees ds)) tr t p.bound g.bound in
-      record { look = peeked h; taken = g; bound = omega arith }
+      record { look = peeked h; taken = g; item = g.known m.block (item_known h g.place g.received.place); bound = omega arith }
   taken (Err (fault.Empty n)) h g =
       let p = h.1.1 in
       let least = g.least p.some.0 p.some.1 in

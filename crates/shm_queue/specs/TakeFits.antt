@@ -21,7 +21,7 @@ use Rattle.shm_graph.specs.Spots.{same_spot}
 use Rattle.shm_graph.specs.Stores.{head_stored, lane_with, other_than}
 use Rattle.shm_graph.specs.Views.{own_word}
 use Rattle.shm_steps.specs.Conditions.{IsHere}
-use Rattle.shm_steps.specs.WordParts.{CountLoaded, HeadSlotLoaded, HeadStored, IsHeadSlot}
+use Rattle.shm_steps.specs.WordParts.{CountLoaded, HeadSlotLoaded, HeadStored, IsHeadSlot, as_known}
 use Rattle.shm_calls.specs.Either.{or_part}
 use Rattle.shm_calls.specs.Grown.{Grows, grown}
 use Rattle.shm_calls.specs.Parts.{IsHeld, Part}
@@ -78,13 +78,14 @@ pub record IsHeadRead (me : Me) (s n k : ℕ) (r0 r : Memo) (tr : Trail) (es : L
   pub none : es ≡ []
   pub bound : IsWithin k tr
 
--- the item was read from the head slot: it is a counted block of the pool
+-- the item was read from the head slot: it is a counted block of the pool, and what was known of that slot
 pub record IsItemRead (me : Me) (s n b : ℕ) (r0 r : Memo) (tr : Trail) (es : List Event) : Type 0 where
   pub may : MayTakeFrom me s r0
   pub left : core r ≡ core (slot_memo me.who s n b r0)
   pub head : n ≡ own_word r0.own (spot.Front s me.who)
   pub room : b + 2 ≤ total_of me.geometry
   pub counted : Contains r0.dying b → ⊥
+  pub known : as_known (spot.Slot s me.who (n % 8)) r0 b
   pub some : (y : ℕ) × Contains r.facts (Counter (spot.Tail s me.who) y) × (n < y)
   pub grows : Grows true r0 r
   pub can : MayTakeAt me s (n % 8) b r
@@ -98,6 +99,7 @@ pub record IsOut (me : Me) (s n b : ℕ) (z : Bool) (r0 r : Memo) (tr : Trail) (
   pub small : n + 1 < 2 ^ 64
   pub room : b + 2 ≤ total_of me.geometry
   pub counted : Contains r0.dying b → ⊥
+  pub known : as_known (spot.Slot s me.who (n % 8)) r0 b
   pub inside : IsInside me b
   pub here : IsHere r
   pub lost : Lost me.who (spot.Slot s me.who (n % 8)) true b 0 z (slot_memo me.who s n b r0) r
@@ -109,6 +111,7 @@ pub record IsReceived (me : Me) (s n b : ℕ) (r0 r : Memo) (tr : Trail) (es : L
   pub may : MayTakeFrom me s r0
   pub head : n ≡ own_word r0.own (spot.Front s me.who)
   pub counted : Contains r0.dying b → ⊥
+  pub known : as_known (spot.Slot s me.who (n % 8)) r0 b
   pub lost : Lost me.who spot.Spare false b 0 true (taken_memo me.who s n b r0) r
   pub held : IsHeld me r
   pub can : CanTear me b r
@@ -142,11 +145,12 @@ pub record TakeEvents (c s n b : ℕ) (es : List Event) : Type 0 where
   pub told : es ≡ event.Down c (spot.Slot s c (n % 8)) b ∷ after
   pub walks : (after ≡ []) ⊎ Walks c b after []
 
--- the item is taken, with those events, and the zero-count blocks are those before
+-- the item, which is what was known of its slot, is taken, with those events, and the zero-count blocks are those before
 pub record TakeDone (me : Me) (s : ℕ) (r0 r : Memo) (tr : Trail) (es : List Event) : Type 0 where
   pub place : ℕ
   pub block : ℕ
   pub some : block ≢ 0
+  pub known : as_known (spot.Slot s me.who (place % 8)) r0 block
   pub received : Received me.who s place block r0 r
   pub dying : r.dying ≡ r0.dying
   pub events : TakeEvents me.who s place block es
@@ -176,6 +180,7 @@ pub record TakeStopped (me : Me) (s : ℕ) (r0 r : Memo) (tr : Trail) (es : List
   pub place : ℕ
   pub block : ℕ
   pub some : block ≢ 0
+  pub known : as_known (spot.Slot s me.who (place % 8)) r0 block
   pub received : Received me.who s place block r0 r
   pub after : List Event
   pub told : es ≡ event.Down me.who (spot.Slot s me.who (place % 8)) block ∷ after

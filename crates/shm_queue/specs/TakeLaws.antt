@@ -127,6 +127,7 @@ module _ (m : TakeState) (r0 rs r : Memo) (tr t : Trail) (es ds : List Event) (h
         small = subst (λ y. y + 1 < 2 ^ 64) own (head_small m.me h.may.who s r h.may.from h.may.other held);
         room = h.room;
         counted = h.counted;
+        known = h.known;
         inside = h.can.inside;
         here = here_same rs r g.status h.can.here;
         lost = lost;
@@ -156,6 +157,7 @@ module _ (m : TakeState) (r0 rs r : Memo) (tr t : Trail) (es ds : List Event) (h
         may = h.may;
         head = h.head;
         counted = h.counted;
+        known = h.known;
         lost = lost;
         held = held;
         can = record {
@@ -179,6 +181,7 @@ module _ (m : TakeState) (r0 rs r : Memo) (tr t : Trail) (es ds : List Event) (h
         place = m.at;
         block = m.block;
         some = λ e. absurd (omega arith);
+        known = h.known;
         received = received_of c s m.at m.block r0 r h.may.none h.head lost.took;
         dying = lost.dying ∙ append-nil r0.dying;
         events = record { after = []; told = told; walks = inl refl };
@@ -205,6 +208,7 @@ module _ (m : TakeState) (r0 rs r : Memo) (tr t : Trail) (es ds : List Event) (h
             place = m.at;
             block = m.block;
             some = λ e. absurd (omega arith);
+            known = h.known;
             received = received_of c s m.at m.block r0 r h.may.none h.head lost.took;
             dying = lost.dying ∙ append-nil r0.dying;
             events = record { after = ds; told = told; walks = inr y.walks };
@@ -220,6 +224,7 @@ module _ (m : TakeState) (r0 rs r : Memo) (tr t : Trail) (es ds : List Event) (h
               place = m.at;
               block = m.block;
               some = λ z. absurd (omega arith);
+              known = h.known;
               received = received_of c s m.at m.block r0 r h.may.none h.head lost.0;
               after = ds;
               told = told;

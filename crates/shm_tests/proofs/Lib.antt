@@ -10,3 +10,5 @@ pub mod TearAnswers
 pub mod Passing
 pub mod PlanCalls
 pub mod JoinLatch
+pub mod QueueAnswers
+pub mod QueueReady

@@ -1,2 +1,3 @@
 pub mod Allocating
 pub mod Answers
+pub mod Queues

@@ -8,6 +8,7 @@ pub mod dropping;
 pub mod joining;
 pub mod latches;
 pub mod leaving;
+pub mod queues;
 pub mod setting;
 pub mod sharing;
 pub mod tearing;
@@ -19,6 +20,7 @@ pub use dropping::drop_root;
 pub use joining::{Stepped, step_join};
 pub use latches::{hold, home_of, look, read, release, root_of};
 pub use leaving::leave;
+pub use queues::{drain, receive, send};
 pub use setting::set_home;
 pub use sharing::share;
 pub use tearing::tear_down;
@@ -33,6 +35,8 @@ mod counting_tests;
 mod dropping_tests;
 #[cfg(test)]
 mod latches_tests;
+#[cfg(test)]
+mod queues_tests;
 #[cfg(test)]
 mod sharing_tests;
 #[cfg(test)]

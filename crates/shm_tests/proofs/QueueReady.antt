@@ -1,0 +1,89 @@
+-- identities that may send, receive and leave: how they come to be so, and stay so
+use Rattle.std.proofs.Common.{◌≡◌, ◌≢◌, ℕ, ◌<◌, Bool, false, sym, ap, ◌∙◌, subst, Result}
+use Rattle.std.specs.Prelude.{◌==◌, slice_index}
+use Rattle.std.proofs.lemmas.Bool.{true≢false}
+use Rattle.shm_words.specs.declared.geometry.Geometry.{Geometry}
+use Rattle.shm_words.specs.Layout.{GeometryFits}
+use Rattle.shm_graph.specs.declared.memo.Kind.TheVariants.{Client}
+use Rattle.shm_graph.specs.declared.memo.Memo.{Memo}
+use Rattle.shm_graph.specs.declared.run.Start.{Start}
+use Rattle.shm_graph.specs.Agents.{acts, entered, recovers}
+use Rattle.shm_graph.specs.Asks.{Trail}
+use Rattle.shm_graph.specs.Held.{is_loose}
+use Rattle.shm_graph.specs.Idle.{IsIdle}
+use Rattle.shm_graph.specs.Runs.{first_memo}
+use Rattle.shm_graph.proofs.FirstHeld.{same_everywhere}
+use Rattle.shm_plain.specs.Calls.{IsAtWork, Ran}
+use Rattle.shm_plain.specs.Pools.{Pool, memo_of}
+use Rattle.shm_count.specs.declared.answer.Made.{Made}
+use Rattle.shm_count.specs.Roots.{member}
+use Rattle.shm_alloc.specs.declared.alloc.AllocFault.{AllocFault}
+use Rattle.shm_alloc.specs.declared.point.AllocState.{AllocState}
+use Rattle.shm_alloc.specs.AllocFits.{AllocGives}
+use Rattle.shm_recover.specs.Joining.{JoinGives, join_fresh}
+use Rattle.shm_recover.specs.LeaveFits.{MayLeave}
+use Rattle.shm_recover.specs.LeaveGone.{idle_may_leave}
+use Rattle.shm_tests.specs.Queues.{IsClear, IsReady, LeavesQueues}
+
+-- once it has joined a pool for the first time
+pub clear_join : (s : Start) (g : Geometry) (c : ℕ) (m0 m : Memo) (tr : Trail) → s.tables ≡ false → m0 ≡ entered Client (first_memo s c) → JoinGives (join_fresh (member g c)) m0 m tr tt → IsClear m
+clear_join s g c m0 m tr single e gives =
+    let x = subst (λ (z : Memo). JoinGives (join_fresh (member g c)) z m tr tt) e gives in
+    record {
+      loose = ap (λ (z : Memo). is_loose z.part) x.rest ∙ ap (λ (b : Bool). is_loose (first_memo (record s { tables = b }) c).part) single;
+      latch = ap (λ (z : Memo). z.latch) x.rest;
+      dying = ap (λ (z : Memo). z.dying) x.rest;
+      unsent = λ i. ap (λ (z : Memo). slice_index z.unsent i) x.rest ∙ same_everywhere s.geometry.clients i 0;
+      untaken = λ i. ap (λ (z : Memo). slice_index z.untaken i) x.rest ∙ same_everywhere s.geometry.clients i 0;
+    }
+
+pub clear_alloc : (x : AllocState) (r0 r : Memo) (tr : Trail) (a : Result Made AllocFault) → AllocGives x r0 r tr a → IsClear r0 → IsClear r
+clear_alloc x r0 r tr a g h =
+    let s = g.holds.stays in
+    record {
+      loose = ap is_loose s.part ∙ h.loose;
+      latch = s.latch ∙ h.latch;
+      dying = s.dying ∙ h.dying;
+      unsent = λ j. ap (λ y. slice_index y j) s.unsent ∙ h.unsent j;
+      untaken = λ j. ap (λ y. slice_index y j) s.untaken ∙ h.untaken j;
+    }
+
+-- a call on a queue leaves it ready
+pub ready_after : (c : ℕ) (p q : Pool) → IsReady c p → IsAtWork c q → LeavesQueues (memo_of p c) (memo_of q c) → (memo_of q c).dying ≡ (memo_of p c).dying → IsReady c q
+ready_after c p q h work left dying =
+    record {
+      work = work;
+      clear = record {
+        loose = left.loose ∙ h.clear.loose;
+        latch = left.latch ∙ h.clear.latch;
+        dying = dying ∙ h.clear.dying;
+        unsent = λ j. left.unsent j ∙ h.clear.unsent j;
+        untaken = λ j. left.untaken j ∙ h.clear.untaken j;
+      };
+    }
+
+-- and so does a call of another identity
+pub ready_other : (c d : ℕ) (fresh answered : Bool) (p q : Pool) (x y : ℕ) → IsReady c p → c ≢ d → Ran d fresh answered p q x y → IsReady c q
+ready_other c d fresh answered p q x y h n ran =
+    let same = ran.others c n in
+    record {
+      work = record {
+        geometry = subst (λ (s : Start). GeometryFits s.geometry) (sym ran.start) h.work.geometry;
+        who = subst (λ (s : Start). c < s.geometry.clients) (sym ran.start) h.work.who;
+        idle = subst (λ (m : Memo). IsIdle c m) (sym same) h.work.idle;
+        acts = ap acts same ∙ h.work.acts;
+        client = ap recovers same ∙ h.work.client;
+      };
+      clear = subst IsClear (sym same) h.clear;
+    }
+
+pub ready_may_leave : (c : ℕ) (p : Pool) → IsReady c p → MayLeave (member p.start.geometry c) (memo_of p c)
+ready_may_leave c p h =
+    idle_may_leave (member p.start.geometry c) (memo_of p c) (record { geometry = h.work.geometry; who = h.work.who }) h.work.idle h.clear.latch h.clear.dying h.clear.unsent h.clear.untaken
+
+-- the sender isn't the receiver
+pub zero_not_one : ◌≢◌ {A = ℕ} 0 1
+zero_not_one e = absurd (true≢false (ap (λ n. n == 0) e))
+
+pub one_not_zero : ◌≢◌ {A = ℕ} 1 0
+one_not_zero e = zero_not_one (sym e)
