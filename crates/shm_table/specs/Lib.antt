@@ -1,3 +1,5 @@
+pub mod Answers
+pub mod Staying
 pub mod FindControl
 pub mod EntryReads
 pub mod FindFits

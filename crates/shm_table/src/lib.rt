@@ -4,6 +4,7 @@
 //! which call comes next.
 #![tactic(auto)]
 
+pub mod answer;
 pub mod bound;
 pub mod events;
 pub mod find;

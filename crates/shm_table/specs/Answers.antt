@@ -1,0 +1,20 @@
+-- what machines over tables answer where a call of theirs was refused
+use Rattle.shm_alloc.specs.declared.alloc.AllocFault.{AllocFault}
+use Rattle.shm_alloc.specs.declared.alloc.AllocFault.TheVariants as alloc
+use Rattle.shm_count.specs.declared.answer.EraSpent.{EraSpent}
+use Rattle.shm_count.specs.declared.answer.UpFault.{UpFault}
+use Rattle.shm_count.specs.declared.answer.UpFault.TheVariants as up
+use Rattle.shm_table.specs.declared.answer.PutFault.{PutFault}
+use Rattle.shm_table.specs.declared.answer.PutFault.TheVariants.{EraSpent as Spent, RootsFull, Full, CountFull}
+
+abbrev pub made_fault : AllocFault → PutFault
+made_fault (alloc.EraSpent e) = Spent e
+made_fault alloc.RootsFull = RootsFull
+made_fault (alloc.Full s b) = Full s b
+
+abbrev pub raised_fault : UpFault → PutFault
+raised_fault (up.EraSpent e) = Spent e
+raised_fault (up.CountFull b n) = CountFull b n
+
+abbrev pub spent_fault : EraSpent → PutFault
+spent_fault e = Spent e.era
