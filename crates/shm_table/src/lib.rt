@@ -8,6 +8,8 @@ pub mod answer;
 pub mod bound;
 pub mod events;
 pub mod find;
+pub mod locate;
 pub mod parts;
 #[cfg(test)]
 mod tests;
+pub mod unlatch;
