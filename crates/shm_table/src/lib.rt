@@ -9,5 +9,6 @@ pub mod bound;
 pub mod events;
 pub mod find;
 pub mod parts;
+pub mod staying;
 #[cfg(test)]
 mod tests;
