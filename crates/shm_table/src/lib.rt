@@ -10,6 +10,7 @@ pub mod events;
 pub mod find;
 pub mod locate;
 pub mod parts;
+pub mod staying;
 #[cfg(test)]
 mod tests;
 pub mod unlatch;
