@@ -7,4 +7,14 @@ pub mod FindReads
 pub mod FindLaws
 pub mod FindBound
 pub mod FindTells
+pub mod StayingLaws
+pub mod StayingSteps
+pub mod ValueReads
+pub mod EntrySteps
+pub mod ReplaceControl
+pub mod ReplaceFits
+pub mod ReplaceLaws
+pub mod UnlinkControl
+pub mod UnlinkFits
+pub mod UnlinkLaws
 pub mod Machines

@@ -9,5 +9,14 @@ pub mod bound;
 pub mod events;
 pub mod find;
 pub mod parts;
+pub mod replace;
+pub mod unlink;
+
+#[cfg(test)]
+mod entry_tests;
+#[cfg(test)]
+mod replace_tests;
 #[cfg(test)]
 mod tests;
+#[cfg(test)]
+mod unlink_tests;
