@@ -3,12 +3,12 @@ pub mod Staying
 pub mod FindControl
 pub mod EntryReads
 pub mod FindFits
+pub mod StayingLaws
+pub mod StayingSteps
 pub mod FindReads
 pub mod FindLaws
 pub mod FindBound
 pub mod FindTells
-pub mod StayingLaws
-pub mod StayingSteps
 pub mod ValueReads
 pub mod EntrySteps
 pub mod ReplaceControl

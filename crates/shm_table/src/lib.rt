@@ -10,6 +10,7 @@ pub mod events;
 pub mod find;
 pub mod parts;
 pub mod replace;
+pub mod staying;
 pub mod unlink;
 
 #[cfg(test)]
