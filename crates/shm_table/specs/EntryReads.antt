@@ -130,3 +130,15 @@ module _ (me : Me) (m : Memo) (l : me.who < me.geometry.clients) (idle : m.op �
         over_load w rs 2 n x st.held same held (word_reads m x b 2 n left.left) (λ e. absurd (no_more m.looks (record { block = n; from = Body b 2 }) (sym (ap (λ (y : Memo). y.looks) left.left) ∙ e))) (λ z. absurd (omega arith)),
       ))
       (plain_load first me m l b 2 inside word (idle_settled m (Body b 2) idle))
+
+-- so it is of the walk for each key
+abbrev pub EntryReads : Me → ℕ → ℕ → Memo → ℕ → Memo → Type 0
+EntryReads me b j r n x = ReferenceLoaded b j r n x × ((key : ℕ) → EntryRead me.who key b j r n x)
+
+-- the next word or the value word, where the key isn't told
+pub entry_loads : (me : Me) (m : Memo) → me.who < me.geometry.clients → m.op ≡ Nothing → (b : ℕ) (first : Bool) (j : ℕ) → j < 2 → (0 < b + 2 + j) × (b + 2 + j < total_of me.geometry) → IsLatchedWord me.who m b j
+    → IsWord first me (Load (b + 2 + j)) (EntryReads me b j) (word_for me (Load (b + 2 + j))) m
+entry_loads me m l idle b first j low inside word =
+    word_held first me (Load (b + 2 + j)) (ReferenceLoaded b j) (EntryReads me b j) (word_for me (Load (b + 2 + j))) m
+    (λ w rs f st same n x left held. let u = reference_reads b j m n x left in (left, λ key. over_load me m l idle key b w rs j n x st.held same held u.0 (λ _. low) (λ _. u.1)))
+    (reference_load first me m l b j inside word (idle_settled m (Body b j) idle))

@@ -15,4 +15,12 @@ pub mod UnlatchLaws
 pub mod LocateControl
 pub mod LocateFits
 pub mod LocateLaws
+pub mod ValueReads
+pub mod EntrySteps
+pub mod ReplaceControl
+pub mod ReplaceFits
+pub mod ReplaceLaws
+pub mod UnlinkControl
+pub mod UnlinkFits
+pub mod UnlinkLaws
 pub mod Machines

@@ -10,7 +10,16 @@ pub mod events;
 pub mod find;
 pub mod locate;
 pub mod parts;
+pub mod replace;
 pub mod staying;
+pub mod unlatch;
+pub mod unlink;
+
+#[cfg(test)]
+mod entry_tests;
+#[cfg(test)]
+mod replace_tests;
 #[cfg(test)]
 mod tests;
-pub mod unlatch;
+#[cfg(test)]
+mod unlink_tests;

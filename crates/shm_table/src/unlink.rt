@@ -1,0 +1,188 @@
+//! An entry of the own table goes: the word that leads to it comes to name the next entry or none, and what only the entry named is freed
+//! with it.
+
+ghost use Rattle.std.specs.Prelude.{◌≡◌, ◌%◌, ◌^◌, ◌+◌, ◌<◌};
+ghost use Rattle.shm_words.specs.Layout.{GeometryFits};
+ghost use Rattle.shm_table.specs.UnlinkControl as control;
+ghost use Rattle.shm_table.specs.UnlinkControl.{unlinking};
+ghost use Rattle.shm_table.specs.UnlinkFits.{unlink_plan};
+ghost use Rattle.shm_table.specs.UnlinkLaws.{unlink_laws};
+
+use shm_calls::{Calls, Or, Plan, Word};
+use shm_count::{EraSpent, StepChange, StepDown, TearDown, UpFault};
+use shm_graph::{Machine, Me};
+use std::marker::Model;
+
+/// Which call of it comes next.
+#[derive(Clone, Copy, Debug, PartialEq, Eq, Drop)]
+pub enum UnlinkPoint {
+    /// The next word of the entry is loaded.
+    Look,
+    /// The word that leads to the entry, which is the last one, comes to be empty.
+    Lower,
+    /// The word that leads to the entry comes to name the next one.
+    Change,
+    /// The entry, whose count came to 0, is torn down.
+    Tear,
+}
+
+/// The control of it: word `word` of block `before` leads to `entry`, and `next` is what the entry's next word was found to name.
+#[derive(Clone, Copy, Debug, PartialEq, Eq, Drop)]
+pub struct UnlinkState {
+    pub me: Me,
+    pub entry: u32,
+    pub before: u32,
+    pub word: u8,
+    pub next: u32,
+    pub point: UnlinkPoint,
+}
+
+/// Its calls: a word step, a step down, a change, and a tear-down.
+pub type UnlinkCall = Or<Word, Or<StepDown, Or<StepChange, TearDown>>>;
+
+/// What its calls answer.
+pub type UnlinkAnswer =
+    Or<u64, Or<Result<bool, EraSpent>, Or<Result<bool, UpFault>, Result<(), EraSpent>>>>;
+
+/// The calls by which an entry of the own table is taken out of its chain.
+#[derive(Drop)]
+pub struct Unlinking {
+    state: UnlinkState,
+}
+
+impl Model for Unlinking {
+    ghost use Rattle.shm_table.specs.declared.unlink.UnlinkState.{UnlinkState as AState};
+
+    ghost Value = { AState };
+
+    ghost view = { λ a. a.state };
+
+    ghost use Rattle.shm_table.specs.UnlinkControl.{UnlinkInRange};
+
+    ghost invariant = { λ a. UnlinkInRange a.state };
+}
+
+/// It answers an `UpFault` where the word stays what it was; a tear-down that is refused leaves blocks behind, and changes no answer.
+pub type Unlink = Calls<Unlinking>;
+
+/// The address of a word of a block, after its header and its tag.
+#[inline(always)]
+fn slot_of(block: u32, word: u8) -> u32
+    requires block { block < 2 ^ 20 }
+    ensures address { result ≡ (block + 2 + word) % 2 ^ 20 }
+    ensures small { result < 2 ^ 20 }
+{
+    (block + 2 + u32::from(word)) % (1 << 20)
+}
+
+/// The refusal of a step down.
+#[inline(always)]
+fn refused(spent: EraSpent) -> UpFault
+    ensures { result ≡ control.spent_fault spent }
+{
+    UpFault::EraSpent { era: spent.era }
+}
+
+impl Unlinking {
+    /// The entry `entry`, to which word `word` of block `before` leads, is to go.
+    #[inline(always)]
+    pub fn new(me: Me, entry: u32, before: u32, word: u8) -> Unlinking
+        requires geometry { GeometryFits me.geometry }
+        requires who { me.who < me.geometry.clients }
+        requires entry { entry < 2 ^ 20 }
+        requires before { before < 2 ^ 20 }
+        ensures { result ≡ unlinking me entry before word }
+    {
+        Unlinking {
+            state: UnlinkState {
+                me,
+                entry,
+                before,
+                word,
+                next: 0,
+                point: UnlinkPoint::Look,
+            },
+        }
+    }
+}
+
+impl UnlinkState {
+    /// Where it goes, by the word that was found.
+    #[inline(always)]
+    fn found(&mut self, word: u64)
+        ensures state { self.new ≡ control.found_after self.old word }
+    {
+        let next = (word % (1 << 20)) as u32;
+        self.next = next;
+        self.point = if next == 0 {
+            UnlinkPoint::Lower
+        } else {
+            UnlinkPoint::Change
+        };
+    }
+
+    /// Where it goes, and what it answers, once the entry lost a reference: `zero` says whether its count came to 0.
+    #[inline(always)]
+    fn lowered(&mut self, zero: bool) -> Option<Result<(), UpFault>>
+        ensures state { self.new ≡ control.lowered_after self.old zero }
+        ensures answer { result ≡ control.lowered_turns zero }
+    {
+        if zero {
+            self.point = UnlinkPoint::Tear;
+            None
+        } else {
+            Some(Ok(()))
+        }
+    }
+}
+
+impl Plan for Unlinking {
+    type Call = UnlinkCall;
+
+    type Answer = Result<(), UpFault>;
+
+    ghost plan = { unlink_plan };
+
+    #[inline(always)]
+    fn me(&self) -> Me {
+        self.state.me
+    }
+
+    #[inline(always)]
+    fn call(&self) -> UnlinkCall {
+        let UnlinkState {
+            me,
+            entry,
+            before,
+            word,
+            next,
+            point,
+        } = self.state;
+        let slot = slot_of(before, word);
+        match point {
+            UnlinkPoint::Look => Or::First(Word::load(me, entry + 2)),
+            UnlinkPoint::Lower => Or::Second(Or::First(StepDown::new(me, slot, entry))),
+            UnlinkPoint::Change => {
+                Or::Second(Or::Second(Or::First(StepChange::new(me, slot, entry, next))))
+            }
+            UnlinkPoint::Tear => Or::Second(Or::Second(Or::Second(TearDown::new(me, entry)))),
+        }
+    }
+
+    #[inline(always)]
+    fn next(&mut self, answer: UnlinkAnswer) -> Option<Result<(), UpFault>> {
+        match answer {
+            Or::First(word) => {
+                self.state.found(word);
+                None
+            }
+            Or::Second(Or::First(Ok(zero))) => self.state.lowered(zero),
+            Or::Second(Or::First(Err(spent))) => Some(Err(refused(spent))),
+            Or::Second(Or::Second(Or::First(Ok(zero)))) => self.state.lowered(zero),
+            Or::Second(Or::Second(Or::First(Err(fault)))) => Some(Err(fault)),
+            Or::Second(Or::Second(Or::Second(_))) => Some(Ok(())),
+        }
+    }
+
+    ghost laws = { unlink_laws };
+}
