@@ -7,4 +7,7 @@ pub mod FindReads
 pub mod FindLaws
 pub mod FindBound
 pub mod FindTells
+pub mod EnterControl
+pub mod EnterFits
+pub mod EnterLaws
 pub mod Machines
