@@ -1,16 +1,17 @@
 -- what machines over tables leave of the memo before them
-use Rattle.std.specs.Prelude.{◌≡◌, ◌≢◌, ℕ, ◌^◌, ◌-◌, ◌<◌, ◌≤◌, ◌==◌, ◌⊎◌, Bool, true, false, if◌then◌else◌, Some, None}
-use Rattle.std.specs.List.{filter}
+use Rattle.std.specs.Prelude.{◌≡◌, ◌≢◌, ℕ, ◌+◌, ◌^◌, ◌-◌, ◌<◌, ◌≤◌, ◌==◌, ◌⊎◌, Bool, true, false, if◌then◌else◌, Some, None}
 use Rattle.shm_graph.specs.declared.ask.Me.{Me}
 use Rattle.shm_graph.specs.declared.memo.Memo.{Memo}
 use Rattle.shm_graph.specs.declared.spot.Spot.{Spot}
 use Rattle.shm_graph.specs.declared.spot.Spot.TheVariants.{Era, Hold, Home, Root}
-use Rattle.shm_graph.specs.Held.{is_loose}
+use Rattle.shm_graph.specs.Core.{core}
+use Rattle.shm_graph.specs.Held.{is_loose, is_slot}
 use Rattle.shm_graph.specs.Idle.{IsIdle}
+use Rattle.shm_graph.specs.Spots.{same_spot}
 use Rattle.shm_graph.specs.Views.{own_word}
 use Rattle.shm_steps.specs.Reparting.{sight, map_in, IsValue}
 use Rattle.shm_count.specs.Roots.{root_word}
-use Rattle.shm_count.specs.TearMemos.{is_lasting, is_slot_word}
+use Rattle.shm_count.specs.TearMemos.{is_lasting, Knows}
 use Rattle.shm_table.specs.declared.answer.PutFault.{PutFault}
 use Rattle.shm_table.specs.declared.answer.PutFault.TheVariants.{EraSpent, RootsFull, Full, CountFull}
 
@@ -34,8 +35,16 @@ pub record Keeps (c : ℕ) (m r : Memo) : Type 0 where
   pub own : (p : Spot) → is_lasting c p ≡ true → is_set p ≡ false → own_word r.own p ≡ own_word m.own p
   pub era : own_word m.own (Era c c) ≤ own_word r.own (Era c c)
   pub roots : (j : ℕ) → (root_word c r j ≡ root_word c m j) ⊎ (root_word c m j ≡ 0)
-  pub slots : filter is_slot_word r.known ≡ filter is_slot_word m.known
+  pub slots : (p : Spot) (x : ℕ) → is_slot p ≡ true → Knows m p x → Knows r p x
   pub values : (k v n : ℕ) → k < 16 → v ≢ 0 → root_word c m k ≡ v → IsValue (sight c m) v n → IsValue (sight c r) v n
+
+-- ---- a latch that is taken
+
+-- The latch of a is held, as the hold word tells, and nothing else changed
+pub record Latched (c a : ℕ) (m r : Memo) : Type 0 where
+  pub memo : core r ≡ core (record m { own = r.own; latch = Some a })
+  pub hold : own_word r.own (Hold c) ≡ a + 1
+  pub own : (p : Spot) → same_spot (Hold c) p ≡ false → own_word r.own p ≡ own_word m.own p
 
 -- ---- the own map
 
