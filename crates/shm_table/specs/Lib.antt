@@ -3,6 +3,8 @@ pub mod Staying
 pub mod FindControl
 pub mod EntryReads
 pub mod FindFits
+pub mod StayingLaws
+pub mod StayingSteps
 pub mod FindReads
 pub mod FindLaws
 pub mod FindBound

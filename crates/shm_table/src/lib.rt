@@ -14,5 +14,6 @@ mod enter_tests;
 pub mod events;
 pub mod find;
 pub mod parts;
+pub mod staying;
 #[cfg(test)]
 mod tests;
