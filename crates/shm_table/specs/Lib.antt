@@ -23,4 +23,7 @@ pub mod ReplaceLaws
 pub mod UnlinkControl
 pub mod UnlinkFits
 pub mod UnlinkLaws
+pub mod EnterControl
+pub mod EnterFits
+pub mod EnterLaws
 pub mod Machines

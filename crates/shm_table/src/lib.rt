@@ -6,6 +6,11 @@
 
 pub mod answer;
 pub mod bound;
+pub mod enter;
+#[cfg(test)]
+mod enter_spent_tests;
+#[cfg(test)]
+mod enter_tests;
 pub mod events;
 pub mod find;
 pub mod locate;

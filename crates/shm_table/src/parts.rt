@@ -1,6 +1,7 @@
 //! The plans' states, and machines that are no operation by themselves, for machines that are composed of them.
 
 pub use crate::bound::find_bound;
+pub use crate::enter::{Enter, EnterPoint, EnterState, Entered, Entering};
 pub use crate::events::{find_begins, find_events, find_leaves, find_tells, read_tells};
 pub use crate::find::{Find, FindPoint, FindState, Finding, Found};
 pub use crate::replace::{Replace, ReplacePoint, ReplaceState, Replacing};
