@@ -11,5 +11,7 @@ pub mod FindBound
 pub mod FindTells
 pub mod EnterControl
 pub mod EnterFits
+pub mod EnterSteps
+pub mod EnterMemos
 pub mod EnterLaws
 pub mod Machines
