@@ -168,7 +168,7 @@ module _ (m : EnterState) (r0 rs r : Memo) (tr t : Trail) (es ds : List Event) (
       let within = within_more (alloc_steps m.me.geometry.segments + up_steps) up_steps tr t bound s.bound in
       let here = subst (λ x. IsMade m.me m.key m.value n m.home m.first m.root m.entry x m.value r0 rs) (sym none) h in
       let events = some_more (valued_events c m.root m.entry m.value) (event.Up c (spot_of Link) m.entry ∷ []) told s.did.1 ∙ sym (linked_first c m.root m.entry m.value m.home m.key m.first none) in
-      λ x is. link_on m.me m.key m.value n m.home m.first m.root m.entry r0 rs r here held x (tr ++ t) (es ++ ds) is s.did.0 events (omega arith)
+      link_on m.me m.key m.value n m.home m.first m.root m.entry r0 rs r here held (tr ++ t) (es ++ ds) s.did.0 events (omega arith)
   linked (Err f) (none, (n, h), told, bound) s =
       let within = within_more (alloc_steps m.me.geometry.segments + up_steps) up_steps tr t bound s.bound in
       refused 0 m.value n (aims.Up m.entry) (spot_of Link) f h s (inr (inl (none_more (valued_events c m.root m.entry m.value) told s.did.2))) (omega arith)
@@ -178,7 +178,7 @@ module _ (m : EnterState) (r0 rs r : Memo) (tr t : Trail) (es ds : List Event) (
   changed (Ok z) (some, (n, h), told, bound) s =
       let within = within_more (alloc_steps m.me.geometry.segments + 2 * up_steps) change_steps tr t bound s.bound in
       let events = some_more (followed_events c m.root m.entry m.value m.first) (event.ChangeUp c (spot_of Change) m.first m.entry ∷ event.ChangeDown c m.first ∷ []) told s.did.1 ∙ sym (linked_before c m.root m.entry m.value m.home m.key m.first some) in
-      λ x is. change_on m.me m.key m.value n m.home m.first m.root m.entry r0 rs r h held z s.did.0 x (tr ++ t) (es ++ ds) some is events (omega arith)
+      change_on m.me m.key m.value n m.home m.first m.root m.entry r0 rs r h held z s.did.0 (tr ++ t) (es ++ ds) some events (omega arith)
   changed (Err f) (some, (n, h), told, bound) s =
       let within = within_more (alloc_steps m.me.geometry.segments + 2 * up_steps) change_steps tr t bound s.bound in
       refused m.first m.value n (aims.Change m.first m.entry) (spot_of Change) f h s (inr (inr (some, none_more (followed_events c m.root m.entry m.value m.first) told s.did.2))) (omega arith)

@@ -131,12 +131,12 @@ module _ (me : Me) (key v n home first k b : ℕ) (r0 rs r : Memo) (h : IsMade m
   apart = first_apart me rs h.holds h.may.who h.keeps.idle h.client key first k b first v h.vacant h.coming
 
   -- what follows of a step that put the entry into the word of the bucket
-  linked_by : (x : ℕ) (tr : Trail) (es : List Event) → IsValue (sight me.who r0) v x → Keeps me.who rs r → r.latch ≡ rs.latch → own_word r.own (spot.Home me.who) ≡ own_word rs.own (spot.Home me.who)
+  linked_by : (tr : Trail) (es : List Event) → Keeps me.who rs r → r.latch ≡ rs.latch → own_word r.own (spot.Home me.who) ≡ own_word rs.own (spot.Home me.who)
       → r.part ≡ part_after me.who (sight me.who rs) (spot.Body home (key % 16)) b → ((j : ℕ) → root_word me.who r j ≡ root_word me.who rs j) → r.dying ≡ rs.dying
-      → es ≡ linked_events me.who k b v home key first → IsWithin (enter_steps me.geometry.segments) tr → IsLinked me key v x home first k r0 r tr es
-  linked_by x tr es number keeps latch same_home part roots dying told bound =
+      → es ≡ linked_events me.who k b v home key first → IsWithin (enter_steps me.geometry.segments) tr → IsLinked me key v home first k r0 r tr es
+  linked_by tr es keeps latch same_home part roots dying told bound =
       let at : spot.Body home (key % 16) ≡ spot.Body (own_word rs.own (spot.Home me.who)) (key % 16) = ap (λ d. spot.Body d (key % 16)) (sym h.directory) in
-      let step : TableStep me.who (sight me.who rs) (spot.Body home (key % 16)) first b = Links key v x at h.coming.entry h.coming.next_is h.coming.value_is (value_number me key v n home first k b first v r0 rs h x number) in
+      let step : (x : ℕ) → IsValue (sight me.who r0) v x → TableStep me.who (sight me.who rs) (spot.Body home (key % 16)) first b = (λ x number. Links key v x at h.coming.entry h.coming.next_is h.coming.value_is (value_number me key v n home first k b first v r0 rs h x number)) in
       record {
         entry = b;
         some = h.coming.root.2;
@@ -148,16 +148,16 @@ module _ (me : Me) (key v n home first k b : ℕ) (r0 rs r : Memo) (h : IsMade m
         root = roots k ∙ h.coming.root.1;
         others = λ j z. roots j ∙ h.others j z;
         dying = dying ∙ h.dying;
-        map = λ j. map_word me rs r home (key % 16) first b h.holds h.may.who h.keeps.idle.op h.vacant.table bucket apart part step j ∙ ap (cond (eqb key j) (Some (x, v))) (h.map j);
+        map = λ x number j. map_word me rs r home (key % 16) first b h.holds h.may.who h.keeps.idle.op h.vacant.table bucket apart part (step x number) j ∙ ap (cond (eqb key j) (Some (x, v))) (h.map j);
         events = told;
         bound = bound;
       }
 
   -- an empty bucket came to name it
-  pub link_on : (x : ℕ) (tr : Trail) (es : List Event) → IsValue (sight me.who r0) v x → Filled me.who (spot.Body home (key % 16)) b rs r → es ≡ linked_events me.who k b v home key first → IsWithin (enter_steps me.geometry.segments) tr → IsLinked me key v x home first k r0 r tr es
-  link_on x tr es number a told bound =
+  pub link_on : (tr : Trail) (es : List Event) → Filled me.who (spot.Body home (key % 16)) b rs r → es ≡ linked_events me.who k b v home key first → IsWithin (enter_steps me.geometry.segments) tr → IsLinked me key v home first k r0 r tr es
+  link_on tr es a told bound =
       let (latch, same_home, part, cleared) = filled_else me.who home (key % 16) b rs r a in
-      linked_by x tr es number (keeps_filled me rs r home (key % 16) b first h.keeps.idle h.holds h.may.who bucket a) latch same_home part cleared.roots cleared.dying told bound
+      linked_by tr es (keeps_filled me rs r home (key % 16) b first h.keeps.idle h.holds h.may.who bucket a) latch same_home part cleared.roots cleared.dying told bound
 
   -- ---- or one that names the entry that was the first one, whose count doesn't come to 0
 
@@ -186,10 +186,10 @@ module _ (me : Me) (key v n home first k b : ℕ) (r0 rs r : Memo) (h : IsMade m
         go false e = refl
         go true e = absurd (named_counted me r b 0 first held h.may.who a.took.op next_own some (subst (λ (ds : List ℕ). Contains ds first) (sym e) (Contains-push rs.dying first)))
 
-    pub change_on : (x : ℕ) (tr : Trail) (es : List Event) → first ≢ 0 → IsValue (sight me.who r0) v x → es ≡ linked_events me.who k b v home key first → IsWithin (enter_steps me.geometry.segments) tr → IsLinked me key v x home first k r0 r tr es
-    change_on x tr es some number told bound =
+    pub change_on : (tr : Trail) (es : List Event) → first ≢ 0 → es ≡ linked_events me.who k b v home key first → IsWithin (enter_steps me.geometry.segments) tr → IsLinked me key v home first k r0 r tr es
+    change_on tr es some told bound =
         let (latch, same_home, part, roots) = took_else me.who home (key % 16) first b false z rs r a.took in
-        linked_by x tr es number (keeps_lost me rs r home (key % 16) first b first false h.keeps.idle h.holds h.may.who bucket z held a) latch same_home part roots
+        linked_by tr es (keeps_lost me rs r home (key % 16) first b first false h.keeps.idle h.holds h.may.who bucket z held a) latch same_home part roots
         (a.dying ∙ (ap (λ y. rs.dying ++ cond y (first ∷ []) []) (not_lost some) ∙ append-nil rs.dying)) told bound
 
 -- ---- a count step was refused
