@@ -98,8 +98,8 @@ EnterKnows m Change r0 r tr es = (m.first ≢ 0) × IsOnTheWay m m.first m.value
 
 -- ---- what it leaves
 
--- the entry begins the chain of its bucket, and root k, which was empty, names it too
-pub record IsLinked (me : Me) (key v n home first k : ℕ) (m r : Memo) (tr : Trail) (es : List Event) : Type 0 where
+-- the entry begins the chain of its bucket, and root k, which was empty, names it too; the key has the value block and its number now
+pub record IsLinked (me : Me) (key v home first k : ℕ) (m r : Memo) (tr : Trail) (es : List Event) : Type 0 where
   pub entry : ℕ
   pub some : entry ≢ 0
   pub keeps : Keeps me.who m r
@@ -110,7 +110,7 @@ pub record IsLinked (me : Me) (key v n home first k : ℕ) (m r : Memo) (tr : Tr
   pub root : root_word me.who r k ≡ entry
   pub others : (j : ℕ) → j ≢ k → root_word me.who r j ≡ root_word me.who m j
   pub dying : r.dying ≡ m.dying
-  pub map : MapSet key n v m r
+  pub map : (n : ℕ) → IsValue (sight me.who m) v n → MapSet key n v m r
   pub events : es ≡ linked_events me.who k entry v home key first
   pub bound : IsWithin (enter_steps me.geometry.segments) tr
 
@@ -147,7 +147,7 @@ pub record IsUnmade (me : Me) (home : ℕ) (m r : Memo) (tr : Trail) (es : List 
   pub bound : IsWithin (alloc_steps me.geometry.segments) tr
 
 abbrev pub EnterLeaves : EnterState → Memo → Memo → Trail → List Event → Entered → Type 0
-EnterLeaves m r0 r tr es (Linked k) = (n : ℕ) → IsValue (sight m.me.who r0) m.value n → IsLinked m.me m.key m.value n m.home m.first k r0 r tr es
+EnterLeaves m r0 r tr es (Linked k) = IsLinked m.me m.key m.value m.home m.first k r0 r tr es
 EnterLeaves m r0 r tr es (Unlinked k f) = IsUnlinked m.me m.key m.value m.home m.first k r0 r tr es f
 EnterLeaves m r0 r tr es (Unmade f) = IsUnmade m.me m.home r0 r tr es f
 

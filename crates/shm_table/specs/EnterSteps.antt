@@ -1,6 +1,6 @@
 -- the calls of a new entry may be made: the allocation, and each count step
-use Rattle.std.proofs.Common.{◌≡◌, ◌≢◌, ℕ, zero, suc, ◌+◌, ◌%◌, ◌^◌, ◌<◌, refl, sym, ap, ◌∙◌, subst, arith, true, false, List, [], ◌∷◌, slice_index}
-use Rattle.shm_words.specs.Layout.{total_of}
+use Rattle.std.proofs.Common.{◌≡◌, ◌≢◌, ℕ, zero, suc, ◌+◌, ◌%◌, ◌^◌, ◌<◌, refl, sym, ap, ◌∙◌, subst, arith, true, false, List, [], ◌∷◌, inl, inr, slice_index}
+use Rattle.std.proofs.lemmas.Bool.{cases_eq}
 use Rattle.shm_words.proofs.Placing.{total_small}
 use Rattle.shm_graph.specs.declared.ask.Me.{Me}
 use Rattle.shm_graph.specs.declared.memo.Memo.{Memo}
@@ -12,6 +12,7 @@ use Rattle.shm_graph.specs.Agents.{recovers}
 use Rattle.shm_graph.specs.Asks.{Trail}
 use Rattle.shm_graph.specs.Events.{Event}
 use Rattle.shm_graph.specs.Idle.{IsIdle}
+use Rattle.shm_graph.specs.Ops.{cover_of}
 use Rattle.shm_graph.specs.Reach.{is_reached}
 use Rattle.shm_graph.specs.Spots.{spot_address}
 use Rattle.shm_graph.specs.Views.{own_word}
@@ -23,16 +24,16 @@ use Rattle.shm_steps.specs.Walking.{IsComing, IsVacant}
 use Rattle.shm_steps.proofs.BeginWords.{word_address}
 use Rattle.shm_steps.proofs.Reaching.{home_reached, root_reached}
 use Rattle.shm_steps.proofs.TableWords.{directory_word, tagged_word}
+use Rattle.shm_steps.proofs.Walked.{first_other, new_not_home}
 use Rattle.shm_count.specs.declared.point.Aim.{Aim}
 use Rattle.shm_count.specs.declared.point.Aim.TheVariants.{Up, Change as ToChange}
 use Rattle.shm_count.specs.declared.point.StepPoint.TheVariants.{Era}
-use Rattle.shm_count.specs.Carrying.{link_fills, link_replaces, next_fills, value_fills}
+use Rattle.shm_count.specs.Carrying.{link_fills, link_replaces, next_filled, next_fills, value_filled, value_fills}
 use Rattle.shm_count.specs.Roots.{root_word}
 use Rattle.shm_count.specs.SlotLeaves.{MayStepAt}
 use Rattle.shm_count.specs.SlotParts.{era_room}
-use Rattle.shm_count.specs.StepControl.{IsInside}
 use Rattle.shm_count.specs.StepFits.{CanStep}
-use Rattle.shm_alloc.specs.declared.request.Request.{Request}
+use Rattle.shm_count.specs.StepParts.{Raised}
 use Rattle.shm_alloc.specs.AllocControl.{RequestFits}
 use Rattle.shm_table.specs.declared.enter.EnterPoint.{EnterPoint}
 use Rattle.shm_table.specs.declared.enter.EnterPoint.TheVariants.{Make, Value, Next, Link, Change}
@@ -131,10 +132,39 @@ module _ (me : Me) (r : Memo) (held : IsHeld me r) (who : me.who < me.geometry.c
       (subst (Shows (λ x. IsValue (sight me.who x) value n → Links (ToChange first b) x)) same
       (λ here quiet user free comes is. link_replaces me w rs h who here quiet user key first free k b next value comes n e some is)) number)
 
-  -- ---- a count step
+  -- the first entry isn't the new one, which isn't the directory
+  pub first_apart : first ≢ b
+  first_apart e =
+      let (w, rs, h, same) = held in
+      elim (cases_eq first 0) [
+        | inl none ↦ coming.root.2 (sym e ∙ none)
+        | inr some ↦ shown (λ x. first ≢ b)
+            (subst (Shows (λ x. first ≢ b)) same (λ here quiet user free comes. first_other me.geometry w rs me.who h who (ap cover_of quiet) free.table key first b free.some free.word comes.entry some)) e
+      ]
 
-  small_inside : (d : ℕ) → IsInside me d → (fits : total_of me.geometry < 2 ^ 20) → d < 2 ^ 20
-  small_inside d inside fits = let l = inside.1 in omega arith
+  pub home_apart : home ≢ b
+  home_apart e =
+      let (w, rs, h, same) = held in
+      shown (λ x. b ≢ own_word x.own (spot.Home me.who))
+      (subst (Shows (λ x. b ≢ own_word x.own (spot.Home me.who))) same (λ here quiet user free comes. new_not_home me.geometry w rs me.who h who (ap cover_of quiet) free.table b key comes.entry)) (sym e)
+
+  -- ---- once a word was filled
+
+  pub value_then : (v : ℕ) (x : Memo) → value ≡ 0 → v ≢ 0 → Raised me.who (spot.Body b 1) v r x → IsVacant me.who x key first × IsComing me.who x k b key next v
+  value_then v x none some raised =
+      let (w, rs, h, same) = held in
+      shown (λ y. Raised me.who (spot.Body b 1) v y x → IsVacant me.who x key first × IsComing me.who x k b key next v)
+      (subst (Shows (λ y. Raised me.who (spot.Body b 1) v y x → IsVacant me.who x key first × IsComing me.who x k b key next v)) same
+      (λ here quiet user free comes a. value_filled me w rs h who here quiet user key first free k b next value comes v x none some a)) raised
+
+  pub next_then : (x : Memo) → next ≡ 0 → first ≢ 0 → Raised me.who (spot.Body b 0) first r x → IsVacant me.who x key first × IsComing me.who x k b key first value
+  next_then x none some raised =
+      let (w, rs, h, same) = held in
+      shown (λ y. Raised me.who (spot.Body b 0) first y x → IsVacant me.who x key first × IsComing me.who x k b key first value)
+      (subst (Shows (λ y. Raised me.who (spot.Body b 0) first y x → IsVacant me.who x key first × IsComing me.who x k b key first value)) same
+      (λ here quiet user free comes a. next_filled me w rs h who here quiet user key first free k b next value comes x none some a)) raised
+
+  -- ---- a count step
 
   pub may_up : (d i to : ℕ) → CanStep me (d + 2 + i) (Up to) (spot.Body d i) r → MayStepAt (spot.Body d i) false (record { me = me; slot = d + 2 + i; aim = Up to; point = Era }) r
   may_up d i to can =

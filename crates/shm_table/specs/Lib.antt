@@ -25,5 +25,7 @@ pub mod UnlinkFits
 pub mod UnlinkLaws
 pub mod EnterControl
 pub mod EnterFits
+pub mod EnterSteps
+pub mod EnterMemos
 pub mod EnterLaws
 pub mod Machines
