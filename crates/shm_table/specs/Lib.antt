@@ -28,4 +28,11 @@ pub mod EnterFits
 pub mod EnterSteps
 pub mod EnterMemos
 pub mod EnterLaws
+pub mod OpenControl
+pub mod OpenFits
+pub mod OpenLaws
+pub mod PutRootControl
+pub mod PutRootFits
+pub mod PutRootSteps
+pub mod PutRootLaws
 pub mod Machines

@@ -18,7 +18,7 @@ use Rattle.shm_steps.specs.Reparting.{sight, map_in, IsValue}
 use Rattle.shm_calls.specs.declared.or.Or.TheVariants.{First, Second}
 use Rattle.shm_calls.specs.CallTells.{within_more}
 use Rattle.shm_calls.specs.CallsPart.{calls_part, calls_part_laws}
-use Rattle.shm_calls.specs.Either.{or_part, or_part_laws}
+use Rattle.shm_calls.specs.Either.{or_control, or_part, or_part_laws}
 use Rattle.shm_calls.specs.Parts.{IsHeld, PartLaws}
 use Rattle.shm_calls.specs.Plans.{PlanLaws, PlanStays, IsCall, Follows}
 use Rattle.shm_calls.specs.Words.{word_control}
@@ -100,8 +100,8 @@ opens m Locate r0 r tr es (h, root, fault, bound) =
       start = refl;
       knows = locate_begin m.me m.me.who m.key r (record { geometry = b.geometry; who = b.who; author = b.who; idle = h.keeps.idle; none = h.latched; table = h.keeps.loose ∙ b.table });
     }
-opens m Replace r0 r tr es (h, root, searched, n, before, word, may) = record { made = refl; first = refl; start = refl; knows = ((m.key, n, before, word, may), refl, refl, refl) }
-opens m Enter r0 r tr es (h, root, fault, searched, n, may) = record { made = refl; first = refl; start = refl; knows = ((n, may), refl, refl, refl) }
+opens m Replace r0 r tr es (h, root, searched, (n, before, word, may)) = record { made = refl; first = refl; start = refl; knows = ((m.key, n, before, word, may), refl, refl, refl) }
+opens m Enter r0 r tr es (h, root, fault, searched, (n, may)) = record { made = refl; first = refl; start = refl; knows = ((n, may), refl, refl, refl) }
 opens m Unlatch r0 r tr es h =
     let b = h.may.2 in
     record {
@@ -121,6 +121,10 @@ opens m Drop r0 r tr es (k, is, h) =
     }
 
 -- ---- what is left
+
+-- no zero-count block is
+nobody : List Visit
+nobody = []
 
 -- the key has the block
 done_of : (m : PutRootState) (r0 r : Memo) (tr : Trail) (es : List Event) → IsSettled (record m { root = None; refused = None; point = Drop }) None (settled_steps m.me.geometry.segments + 2) r0 r tr es → PutRootDone m.me m.key m.value r0 r tr es
@@ -227,7 +231,7 @@ module _ (m : PutRootState) (r0 rs r : Memo) (tr t : Trail) (es ds : List Event)
 
   -- the entry that was found has the block, or not
   replaced : (a : Result (Unit {0}) PutFault) → PutRootKnows (record m { point = Replace }) Replace r0 rs tr es → ReplaceLeaves (replacing m.me m.entry m.value) rs r t ds a → Goes Replace (Second (First (First a)))
-  replaced (Ok done) (h, root, searched, n, before, word, may) w =
+  replaced (Ok done) (h, root, searched, (n, before, word, may)) w =
       let quiet = frees_append es ds in
       let k = searched.keys in
       record {
@@ -255,7 +259,7 @@ module _ (m : PutRootState) (r0 rs r : Memo) (tr t : Trail) (es ds : List Event)
       other_number : (i : ℕ) → IsValue (sight c rs) m.value i → MayReplace m.me m.key m.value i m.entry before word rs
       other_number i v =
           record { geometry = may.geometry; who = may.who; idle = may.idle; client = may.client; found = may.found; some = may.some; room = may.room; here = may.here; value = v; named = may.named; block = may.block }
-  replaced (Err f) (h, root, searched, n, before, word, may) w =
+  replaced (Err f) (h, root, searched, (n, before, word, may)) w =
       let quiet = frees_append es ds in
       let none : frees ds ≡ 0 = ap frees w.none in
       let k = searched.keys in
@@ -270,15 +274,15 @@ module _ (m : PutRootState) (r0 rs r : Memo) (tr t : Trail) (es ds : List Event)
         map = subst (λ (o : Option ℕ). MapSo m.me m.key m.value r0 r (es ++ ds) o (Some f)) (sym root) (same_more r0 rs r h.map w.map, cause_before m.me r0 rs r f h.cleared w.cause, cleared);
         keys = k;
         search = search_more m.me c m.key k tr t searched.search;
-        left = [];
+        left = nobody;
         dying = All-nil (λ (x : Visit). Contains r.dying x.block);
-        alone = subst (λ (o : Option ℕ). IfSome o (λ k. [] {Visit} ≡ [])) (sym root) tt;
+        alone = subst (λ (o : Option ℕ). IfSome o (λ k. nobody ≡ [])) (sym root) tt;
         bound = let y = within_more (searched_steps g + 2 * k + tear_steps (frees es)) (1 + change_steps) tr t searched.bound w.bound in omega arith;
       }
 
   -- a new entry is linked, or not
   entered : (b : Entered) → PutRootKnows (record m { point = Enter }) Enter r0 rs tr es → EnterLeaves (entering m.me m.key m.value m.home m.first) rs r t ds b → Goes Enter (Second (First (Second b)))
-  entered (Linked j) (h, root, fault, searched, n, may) w =
+  entered (Linked j) (h, root, fault, searched, (n, may)) w =
       let x : IsLinked m.me m.key m.value n m.home m.first j rs r t ds = w n may.value in
       let quiet = frees_append es ds in
       let low = x.low in
@@ -297,7 +301,7 @@ module _ (m : PutRootState) (r0 rs r : Memo) (tr t : Trail) (es ds : List Event)
         );
         keys = k;
         search = search_more m.me c m.key k tr t searched.search;
-        left = [];
+        left = nobody;
         dying = All-nil (λ (x : Visit). Contains r.dying x.block);
         alone = refl;
         bound = let y = within_more (searched_steps g + 2 * k + tear_steps (frees es)) (enter_steps g) tr t searched.bound x.bound in omega arith;
@@ -312,7 +316,7 @@ module _ (m : PutRootState) (r0 rs r : Memo) (tr t : Trail) (es ds : List Event)
         told,
         subst (λ d. Decides c m.key d m.value (event.ChangeUp c (Body m.home (m.key % 16)) (suc y) e)) (sym at) (Leading (suc y) e),
       )
-  entered (Unlinked j f) (h, root, fault, searched, n, may) x =
+  entered (Unlinked j f) (h, root, fault, searched, (n, may)) x =
       let quiet = frees_append es ds in
       let low = x.low in
       let small : j ≡ j % 16 = omega arith in
@@ -327,12 +331,12 @@ module _ (m : PutRootState) (r0 rs r : Memo) (tr t : Trail) (es ds : List Event)
         map = (same_more r0 rs r h.map x.map, cause_before m.me r0 rs r f h.cleared x.cause);
         keys = k;
         search = search_more m.me c m.key k tr t searched.search;
-        left = [];
+        left = nobody;
         dying = All-nil (λ (x : Visit). Contains r.dying x.block);
         alone = refl;
         bound = let y = within_more (searched_steps g + 2 * k + tear_steps (frees es)) (enter_steps g) tr t searched.bound x.bound in omega arith;
       }
-  entered (Unmade f) (h, root, fault, searched, n, may) x =
+  entered (Unmade f) (h, root, fault, searched, (n, may)) x =
       let quiet = frees_append es ds in
       let k = searched.keys in
       let cleared = cleared_more c r0 rs r h.cleared x.cleared in
@@ -346,9 +350,9 @@ module _ (m : PutRootState) (r0 rs r : Memo) (tr t : Trail) (es ds : List Event)
         map = subst (λ (o : Option ℕ). MapSo m.me m.key m.value r0 r (es ++ ds) o (Some f)) (sym root) (same_more r0 rs r h.map x.map, cause_before m.me r0 rs r f h.cleared x.cause, cleared);
         keys = k;
         search = search_more m.me c m.key k tr t searched.search;
-        left = [];
+        left = nobody;
         dying = All-nil (λ (x : Visit). Contains r.dying x.block);
-        alone = subst (λ (o : Option ℕ). IfSome o (λ k. [] {Visit} ≡ [])) (sym root) tt;
+        alone = subst (λ (o : Option ℕ). IfSome o (λ k. nobody ≡ [])) (sym root) tt;
         bound = let y = within_more (searched_steps g + 2 * k + tear_steps (frees es)) (enter_steps g) tr t searched.bound x.bound in omega arith;
       }
 
@@ -397,7 +401,7 @@ module _ (m : PutRootState) (r0 rs r : Memo) (tr t : Trail) (es ds : List Event)
     unlatched_so : (o : Option ℕ) (f : Option PutFault) → IsSettled (record m { root = o; refused = f; point = Unlatch }) (Some c) (settled_steps g) r0 rs tr es
         → Follows put_root_parts put_root_plan (record m { root = o; refused = f; point = Unlatch }) (Second (Second (First tt))) r0 r (tr ++ t) (es ++ ds)
     unlatched_so (Some k) f h = (k, refl, freed (Some k) f h)
-    unlatched_so None None h = let y = freed None None h in done_of m r0 r (tr ++ t) (es ++ ds) None y
+    unlatched_so None None h = let y = freed None None h in done_of m r0 r (tr ++ t) (es ++ ds) y
     unlatched_so None (Some f) h = let y = freed None (Some f) h in refused_of m r0 r (tr ++ t) (es ++ ds) f y
 
   -- the root of the new entry is dropped, or stays
@@ -439,7 +443,7 @@ module _ (m : PutRootState) (r0 rs r : Memo) (tr t : Trail) (es ds : List Event)
         ended = inl (cleared_so k z w h.roots);
         keys = h.keys;
         search = search_more m.me c m.key h.keys tr t h.search;
-        left = [];
+        left = nobody;
         dying = All-nil (λ (x : Visit). Contains r.dying x.block);
         bound = let y = within_more (settled_steps g + 2 + 2 * h.keys + tear_steps (frees es + length h.left)) (9 + 164 * frees ds) tr t h.bound w.bound in omega arith;
       }
@@ -456,7 +460,7 @@ module _ (m : PutRootState) (r0 rs r : Memo) (tr t : Trail) (es ds : List Event)
         cleared = inl (cleared_so k z w h.roots);
         keys = h.keys;
         search = inr (search_more m.me c m.key h.keys tr t h.search);
-        left = [];
+        left = nobody;
         bound = let y = within_more (settled_steps g + 2 + 2 * h.keys + tear_steps (frees es + length h.left)) (9 + 164 * frees ds) tr t h.bound w.bound in omega arith;
       }
   dropped_so k None (Err e) h (vs, w) =

@@ -7,19 +7,21 @@
 pub mod answer;
 pub mod bound;
 pub mod enter;
-#[cfg(test)]
-mod enter_spent_tests;
-#[cfg(test)]
-mod enter_tests;
 pub mod events;
 pub mod find;
 pub mod locate;
+pub mod open_table;
 pub mod parts;
+pub mod put_root;
 pub mod replace;
 pub mod staying;
 pub mod unlatch;
 pub mod unlink;
 
+#[cfg(test)]
+mod enter_spent_tests;
+#[cfg(test)]
+mod enter_tests;
 #[cfg(test)]
 mod entry_tests;
 #[cfg(test)]
