@@ -10,3 +10,7 @@ pub mod FindLaws
 pub mod FindBound
 pub mod FindTells
 pub mod Machines
+pub mod OpenControl
+pub mod OpenFits
+pub mod OpenLaws
+pub mod OpenMachine

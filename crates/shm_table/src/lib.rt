@@ -8,7 +8,13 @@ pub mod answer;
 pub mod bound;
 pub mod events;
 pub mod find;
+pub mod open_table;
+#[cfg(test)]
+mod open_tests;
+pub mod opening;
 pub mod parts;
 pub mod staying;
+#[cfg(test)]
+mod stepping;
 #[cfg(test)]
 mod tests;

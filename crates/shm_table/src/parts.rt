@@ -3,3 +3,4 @@
 pub use crate::bound::find_bound;
 pub use crate::events::{find_begins, find_events, find_leaves, find_tells, read_tells};
 pub use crate::find::{Find, FindPoint, FindState, Finding, Found};
+pub use crate::open_table::{OpenPoint, OpenState, OpenTable, Opening};
