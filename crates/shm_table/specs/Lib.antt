@@ -36,3 +36,4 @@ pub mod PutRootFits
 pub mod PutRootSteps
 pub mod PutRootLaws
 pub mod Machines
+pub mod OpenMachine

@@ -2,7 +2,6 @@
 use Rattle.std.proofs.Common.{◌≡◌, ◌≢◌, ℕ, zero, suc, ◌+◌, ◌*◌, ◌%◌, ◌^◌, ◌<◌, ◌≤◌, refl, sym, ap, ◌∙◌, subst, arith, Bool, true, false, append-nil, List, [], ◌∷◌, ◌++◌, Option, Some, None, inl, inr, ◌⊎◌}
 use Rattle.std.specs.Prelude.{Result, Ok, Err, IfSome, length}
 use Rattle.std.specs.List.{All, Contains}
-use Rattle.std.proofs.lemmas.Bool.{cases_eq}
 use Rattle.std.proofs.lemmas.List.Elements.{All-nil}
 use Rattle.shm_graph.specs.declared.ask.Me.{Me}
 use Rattle.shm_graph.specs.declared.memo.Memo.{Memo}
@@ -52,12 +51,12 @@ use Rattle.shm_table.specs.OpenLaws.{open_laws}
 use Rattle.shm_table.specs.PutRootControl.{PutRootAnswer, enter_control, entered_after, is_open, located_after, open_control, put_root_call, root_or, put_root_parts, replace_control}
 use Rattle.shm_table.specs.PutRootFits.{Decides, HasSearch, IsDecided, IsEraSpent, IsPutting, IsSettled, MapSo, MayPut, PutRootDone, PutRootKnows, PutRootRefused, RootsSo, put_root_part, put_root_plan, opened_steps, searched_steps, settled_steps}
 use Rattle.shm_table.specs.PutRootFits.Decides.{Begins, Leads as Leading, Replaces}
-use Rattle.shm_table.specs.PutRootSteps.{cause_before, decided_after, decided_more, frees_append, located_absent, located_at, located_putting, located_searched, same_more, same_part, search_more, set_after, set_then}
+use Rattle.shm_table.specs.PutRootSteps.{decided_after, decided_more, frees_append, located_absent, located_at, located_putting, located_searched, same_more, same_part, search_more, set_after, set_then}
 use Rattle.shm_table.specs.ReplaceControl.{replace_parts, replacing}
 use Rattle.shm_table.specs.ReplaceFits.{MayReplace, ReplaceLeaves, replace_plan}
 use Rattle.shm_table.specs.ReplaceLaws.{replace_laws}
 use Rattle.shm_table.specs.Staying.{Cleared, Ended, Keeps, MapSet, PutCause, SameMap}
-use Rattle.shm_table.specs.StayingLaws.{cause_later, cleared_more, dropped_else, ended_drop, keeps_drop, keeps_more, keeps_unlatched, left_by, root_kept, spent_drop, spent_later, unlatched_else}
+use Rattle.shm_table.specs.StayingLaws.{cause_before, cause_later, cleared_drop, cleared_more, dropped_else, ended_drop, keeps_drop, keeps_more, keeps_unlatched, left_by, root_kept, spent_drop, spent_later, unlatched_else}
 use Rattle.shm_table.specs.UnlatchFits.{MayUnlatch, Unlatched, unlatch_control, unlatch_plan, unlatching}
 use Rattle.shm_table.specs.UnlatchLaws.{unlatch_laws}
 use Rattle.shm_table.specs.ValueReads.{idle_here}
@@ -208,10 +207,10 @@ module _ (m : PutRootState) (r0 rs r : Memo) (tr t : Trail) (es ds : List Event)
             bound = let y = w.bound in omega arith;
           }
         where
-          left_so : (f : PutFault) → OpenLeft c r0 r ds w.visits f → Cleared c r0 r ⊎ IsEraSpent f
-          left_so f (NotMade f2 cleared home none all) = inl cleared
-          left_so f (Unnamed e k d has home told all) = inr tt
-          left_so f (Undropped e k d free some home others fs told) = inr tt
+          left_so : (f : PutFault) → OpenLeft m.me r0 r ds w.visits f → Cleared c r0 r ⊎ IsEraSpent f
+          left_so f (NotMade a is cleared home none all) = inl cleared
+          left_so f (Unnamed e is k d has home told all) = inr (subst IsEraSpent (sym is) tt)
+          left_so f (Undropped e is k d free some home others stopped fs told) = inr (subst IsEraSpent (sym is) tt)
 
   -- the latch is taken, and the key was looked for
   located : (b : Found) → PutRootKnows (record m { point = Locate }) Locate r0 rs tr es → Located m.me c m.key rs r t ds b → Goes Locate (First (Second b))
@@ -271,7 +270,7 @@ module _ (m : PutRootState) (r0 rs r : Memo) (tr t : Trail) (es ds : List Event)
         latched = w.latch ∙ h.latched;
         home = λ e. h.home (sym w.home ∙ e);
         roots = subst (RootsSo c r0 r) (sym root) (inl cleared);
-        map = subst (λ (o : Option ℕ). MapSo m.me m.key m.value r0 r (es ++ ds) o (Some f)) (sym root) (same_more r0 rs r h.map w.map, cause_before m.me r0 rs r f h.cleared w.cause, cleared);
+        map = subst (λ (o : Option ℕ). MapSo m.me m.key m.value r0 r (es ++ ds) o (Some f)) (sym root) (same_more r0 rs r h.map w.map, cause_before m.me r0 rs r f h.cleared.roots w.cause, cleared);
         keys = k;
         search = search_more m.me c m.key k tr t searched.search;
         left = nobody;
@@ -328,7 +327,7 @@ module _ (m : PutRootState) (r0 rs r : Memo) (tr t : Trail) (es ds : List Event)
         latched = x.latch ∙ h.latched;
         home = λ e. h.home (may.directory ∙ (sym x.directory ∙ e));
         roots = subst (λ i. RootsSo c r0 r (Some i)) small (low, sym (h.cleared.roots j) ∙ x.empty, (λ i o. x.others i (λ z. o (sym z)) ∙ h.cleared.roots i), x.dying ∙ h.cleared.dying);
-        map = (same_more r0 rs r h.map x.map, cause_before m.me r0 rs r f h.cleared x.cause);
+        map = (same_more r0 rs r h.map x.map, cause_before m.me r0 rs r f h.cleared.roots x.cause);
         keys = k;
         search = search_more m.me c m.key k tr t searched.search;
         left = nobody;
@@ -347,7 +346,7 @@ module _ (m : PutRootState) (r0 rs r : Memo) (tr t : Trail) (es ds : List Event)
         latched = x.latch ∙ h.latched;
         home = λ e. h.home (may.directory ∙ (sym x.directory ∙ e));
         roots = subst (RootsSo c r0 r) (sym root) (inl cleared);
-        map = subst (λ (o : Option ℕ). MapSo m.me m.key m.value r0 r (es ++ ds) o (Some f)) (sym root) (same_more r0 rs r h.map x.map, cause_before m.me r0 rs r f h.cleared x.cause, cleared);
+        map = subst (λ (o : Option ℕ). MapSo m.me m.key m.value r0 r (es ++ ds) o (Some f)) (sym root) (same_more r0 rs r h.map x.map, cause_before m.me r0 rs r f h.cleared.roots x.cause, cleared);
         keys = k;
         search = search_more m.me c m.key k tr t searched.search;
         left = nobody;
@@ -419,14 +418,7 @@ module _ (m : PutRootState) (r0 rs r : Memo) (tr t : Trail) (es ds : List Event)
     ended_so y = ended_drop (dropping m.me k) r0 rs r t ds a y.1 y.2 y.3 w
 
   cleared_so : (k : ℕ) (z : Bool) → DropLeaves (dropping m.me k) rs r t ds (Ok z) → RootsSo c r0 rs (Some k) → Cleared c r0 r
-  cleared_so k z w y =
-      record {
-        roots = λ j. elim (cases_eq k j) [
-          | inl e ↦ subst (λ i. root_word c r i ≡ root_word c r0 i) e (w.root ∙ sym y.1)
-          | inr e ↦ (else_dropped k (Ok z) w).3 j e ∙ y.2 j e
-        ];
-        dying = w.dying ∙ y.3;
-      }
+  cleared_so k z w y = cleared_drop (dropping m.me k) r0 rs r t ds z y.1 y.2 y.3 w
 
   dropped_so : (k : ℕ) (f : Option PutFault) (a : Result Bool EraSpent) → IsSettled (record m { root = Some k; refused = f; point = Drop }) None (settled_steps g + 2) r0 rs tr es → DropLeaves (dropping m.me k) rs r t ds a
       → Follows put_root_parts put_root_plan (record m { root = Some k; refused = f; point = Drop }) (Second (Second (Second a))) r0 r (tr ++ t) (es ++ ds)

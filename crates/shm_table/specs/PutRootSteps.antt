@@ -27,8 +27,6 @@ use Rattle.shm_calls.specs.Parts.{IsHeld}
 use Rattle.shm_count.specs.Roots.{root_word}
 use Rattle.shm_count.specs.TearEvents.{Visit, frees}
 use Rattle.shm_ref.specs.CountedBlocks.{reached_counted}
-use Rattle.shm_table.specs.declared.answer.PutFault.{PutFault}
-use Rattle.shm_table.specs.declared.answer.PutFault.TheVariants as fault
 use Rattle.shm_table.specs.declared.find.Found.{Found}
 use Rattle.shm_table.specs.declared.find.Found.TheVariants.{Absent, At}
 use Rattle.shm_table.specs.EnterFits.{MayEnter, IsLinked, IsUnlinked, IsUnmade, link_events}
@@ -58,13 +56,6 @@ same_more m x r a b k = b k ∙ a k
 
 pub same_part : (m r : Memo) → r.part ≡ m.part → SameMap m r
 same_part m r e k = ap (λ p. map_in p k) e
-
--- a refusal after nothing changed has the same reason
-pub cause_before : (me : Me) (m x r : Memo) (f : PutFault) → Cleared me.who m x → PutCause me x r f → PutCause me m r f
-cause_before me m x r (fault.EraSpent e) a c = c
-cause_before me m x r fault.RootsFull a c = λ j l z. c j l (a.roots j ∙ z)
-cause_before me m x r (fault.Full s b) a c = (c.0, c.1, sym (a.roots c.0) ∙ c.2)
-cause_before me m x r (fault.CountFull b n) a c = c
 
 -- a search stays a part of what was asked
 pub search_more : (me : Me) (a key n : ℕ) (tr t : Trail) → HasSearch me a key n tr → HasSearch me a key n (tr ++ t)

@@ -11,6 +11,7 @@ pub mod events;
 pub mod find;
 pub mod locate;
 pub mod open_table;
+pub mod opening;
 pub mod parts;
 pub mod put_root;
 pub mod replace;
@@ -25,7 +26,11 @@ mod enter_tests;
 #[cfg(test)]
 mod entry_tests;
 #[cfg(test)]
+mod open_tests;
+#[cfg(test)]
 mod replace_tests;
+#[cfg(test)]
+mod stepping;
 #[cfg(test)]
 mod tests;
 #[cfg(test)]

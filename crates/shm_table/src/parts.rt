@@ -4,5 +4,6 @@ pub use crate::bound::find_bound;
 pub use crate::enter::{Enter, EnterPoint, EnterState, Entered, Entering};
 pub use crate::events::{find_begins, find_events, find_leaves, find_tells, read_tells};
 pub use crate::find::{Find, FindPoint, FindState, Finding, Found};
+pub use crate::open_table::{OpenPoint, OpenState, OpenTable, Opening};
 pub use crate::replace::{Replace, ReplacePoint, ReplaceState, Replacing};
 pub use crate::unlink::{Unlink, UnlinkPoint, UnlinkState, Unlinking};
