@@ -1,5 +1,5 @@
 -- the control of putting a value block into the own table: which call comes next, and where it goes by what that call answered
-use Rattle.std.specs.Prelude.{ℕ, ◌+◌, ◌%◌, ◌^◌, ◌<◌, nat_lt, Bool, true, false, if◌then◌else◌, Option, Some, None, IfSome, Result, Ok, Err}
+use Rattle.std.specs.Prelude.{ℕ, ◌+◌, ◌-◌, ◌%◌, ◌^◌, ◌<◌, nat_lt, Bool, true, false, if◌then◌else◌, Option, Some, None, IfSome, Result, Ok, Err}
 use Rattle.shm_words.specs.Layout.{GeometryFits}
 use Rattle.shm_graph.specs.declared.ask.Me.{Me}
 use Rattle.shm_graph.specs.Laws.{Control}
@@ -82,7 +82,7 @@ put_root_call m point.Drop = Second (Second (Second (calls_of drop_plan (droppin
 
 -- a directory that lies in a pool
 abbrev pub home_of : ℕ → ℕ
-home_of b = if nat_lt (b + 17) (2 ^ 20) then b else 0
+home_of b = if nat_lt b (2 ^ 20 - 17) then b else 0
 
 -- by where the key is
 abbrev pub located_after : PutRootState → Found → PutRootState

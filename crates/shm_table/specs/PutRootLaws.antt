@@ -9,7 +9,7 @@ use Rattle.shm_graph.specs.declared.spot.Spot.TheVariants.{Body, Home}
 use Rattle.shm_graph.specs.declared.spot.Spot.TheVariants as spot
 use Rattle.shm_graph.specs.Agents.{recovers}
 use Rattle.shm_graph.specs.Asks.{Trail, IsWithin}
-use Rattle.shm_graph.specs.Bounds.{change_steps, tear_steps}
+use Rattle.shm_graph.specs.Bounds.{alloc_steps, change_steps, tear_steps}
 use Rattle.shm_graph.specs.Events.{Event}
 use Rattle.shm_graph.specs.Events as event
 use Rattle.shm_graph.specs.Views.{own_word}
@@ -39,7 +39,7 @@ use Rattle.shm_table.specs.declared.put_root.PutRootPoint.TheVariants.{Open, Loc
 use Rattle.shm_table.specs.declared.put_root.PutRootState.{PutRootState}
 use Rattle.shm_table.specs.Answers.{spent_fault}
 use Rattle.shm_table.specs.EnterControl.{enter_parts, entering}
-use Rattle.shm_table.specs.EnterFits.{EnterLeaves, IsLinked, enter_plan, enter_steps, link_events}
+use Rattle.shm_table.specs.EnterFits.{EnterLeaves, enter_plan, enter_steps, link_events}
 use Rattle.shm_table.specs.EnterLaws.{enter_laws}
 use Rattle.shm_table.specs.LocateControl.{locate_parts, locating}
 use Rattle.shm_table.specs.LocateFits.{Located, MayLocate, locate_control, locate_plan}
@@ -122,7 +122,7 @@ opens m Drop r0 r tr es (k, is, h) =
 -- ---- what is left
 
 -- no zero-count block is
-nobody : List Visit
+abbrev nobody : List Visit
 nobody = []
 
 -- the key has the block
@@ -281,8 +281,7 @@ module _ (m : PutRootState) (r0 rs r : Memo) (tr t : Trail) (es ds : List Event)
 
   -- a new entry is linked, or not
   entered : (b : Entered) → PutRootKnows (record m { point = Enter }) Enter r0 rs tr es → EnterLeaves (entering m.me m.key m.value m.home m.first) rs r t ds b → Goes Enter (Second (First (Second b)))
-  entered (Linked j) (h, root, fault, searched, (n, may)) w =
-      let x : IsLinked m.me m.key m.value n m.home m.first j rs r t ds = w n may.value in
+  entered (Linked j) (h, root, fault, searched, (n, may)) x =
       let quiet = frees_append es ds in
       let low = x.low in
       let small : j ≡ j % 16 = omega arith in
@@ -295,7 +294,7 @@ module _ (m : PutRootState) (r0 rs r : Memo) (tr t : Trail) (es ds : List Event)
         home = λ e. h.home (may.directory ∙ (sym x.directory ∙ e));
         roots = subst (λ i. RootsSo c r0 r (Some i)) small (low, sym (h.cleared.roots j) ∙ x.empty, (λ i o. x.others i (λ z. o (sym z)) ∙ h.cleared.roots i), x.dying ∙ h.cleared.dying);
         map = subst (λ f. MapSo m.me m.key m.value r0 r (es ++ ds) (Some (j % 16)) f) (sym fault) (
-          (λ i v. let l = w i (h.keeps.values h.may.1 m.value i h.may.2.low h.may.2.some h.may.2.root v) in set_after m.key i m.value r0 rs r h.map l.map),
+          (λ i v. set_after m.key i m.value r0 rs r h.map (x.map i (h.keeps.values h.may.1 m.value i h.may.2.low h.may.2.some h.may.2.root v))),
           inl (decided_after c m.key (own_word r.own (Home c)) m.value es ds (linked m.first x.entry x.directory x.events)),
         );
         keys = k;
@@ -352,7 +351,7 @@ module _ (m : PutRootState) (r0 rs r : Memo) (tr t : Trail) (es ds : List Event)
         left = nobody;
         dying = All-nil (λ (x : Visit). Contains r.dying x.block);
         alone = subst (λ (o : Option ℕ). IfSome o (λ k. nobody ≡ [])) (sym root) tt;
-        bound = let y = within_more (searched_steps g + 2 * k + tear_steps (frees es)) (enter_steps g) tr t searched.bound x.bound in omega arith;
+        bound = let y = within_more (searched_steps g + 2 * k + tear_steps (frees es)) (alloc_steps g) tr t searched.bound x.bound in omega arith;
       }
 
   -- the latch is given back

@@ -1,5 +1,5 @@
 -- putting a value block into the own table: what follows each call
-use Rattle.std.proofs.Common.{◌≡◌, ◌≢◌, ℕ, zero, suc, ◌+◌, ◌*◌, ◌%◌, ◌^◌, ◌<◌, refl, sym, ap, ◌∙◌, subst, arith, Bool, true, false, append_assoc, append-nil, List, [], ◌∷◌, ◌++◌, Option, Some, None, inl, inr, ◌⊎◌}
+use Rattle.std.proofs.Common.{◌≡◌, ◌≢◌, ℕ, zero, suc, ◌+◌, ◌-◌, ◌*◌, ◌%◌, ◌^◌, ◌<◌, refl, sym, ap, ◌∙◌, subst, arith, Bool, true, false, append_assoc, append-nil, List, [], ◌∷◌, ◌++◌, Option, Some, None, inl, inr, ◌⊎◌}
 use Rattle.std.specs.Prelude.{Result, Ok, Err, IfSome, ◌==◌, if◌then◌else◌, length}
 use Rattle.std.specs.List.{All, Contains}
 use Rattle.std.proofs.lemmas.Bool.{cond-true, lt-ltb}
@@ -166,7 +166,7 @@ located_absent me key v r0 rs r t es ds home first held agent h w =
     let vacant : IsVacant me.who r key first = w.found.vacant refl (λ e. putting.home (here ∙ e)) in
     let role : role_in (roles r) home ≡ Directory = ap (role_in (roles r)) (sym here) ∙ vacant.role in
     let inside = told_inside me r (shaped r.latch home Directory) may.who held (role_told me.who r home Directory role (λ z. cc)) in
-    let low : home ≡ home_of home = sym (cond-true _ _ _ (lt-ltb (home + 17) (2 ^ 20) (omega arith))) in
+    let low : home ≡ home_of home = sym (cond-true _ _ _ (lt-ltb home (2 ^ 20 - 17) (omega arith))) in
     let small : first ≡ first % 2 ^ 20 = elim (is_zero first) [
       | inl e ↦ omega arith
       | inr some ↦ (let l = (reached_counted me may.who r first held (look_reached me.who r first (vacant.next some))).0.1 in omega arith)

@@ -107,6 +107,14 @@ impl PuttingRoot {
     }
 }
 
+/// A directory that lies in a pool.
+#[inline(always)]
+fn home_of(block: u32) -> u32
+    ensures { result ≡ control.home_of block }
+{
+    if block < (1 << 20) - 17 { block } else { 0 }
+}
+
 impl PutRootState {
     /// Where it goes once the key was looked for.
     #[inline(always)]
@@ -115,12 +123,12 @@ impl PutRootState {
     {
         match found {
             Found::At { entry, .. } => {
-                self.entry = entry;
+                self.entry = entry % (1 << 20);
                 self.point = PutRootPoint::Replace;
             }
             Found::Absent { home, first } => {
-                self.home = home;
-                self.first = first;
+                self.home = home_of(home);
+                self.first = first % (1 << 20);
                 self.point = PutRootPoint::Enter;
             }
         }
@@ -133,9 +141,9 @@ impl PutRootState {
     {
         self.point = PutRootPoint::Unlatch;
         match entered {
-            Entered::Linked { root } => self.root = Some(root),
+            Entered::Linked { root } => self.root = Some(root % 16),
             Entered::Unlinked { root, fault } => {
-                self.root = Some(root);
+                self.root = Some(root % 16);
                 self.refused = Some(fault);
             }
             Entered::Unmade { fault } => self.refused = Some(fault),
