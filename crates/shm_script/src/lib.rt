@@ -1,6 +1,7 @@
 //! Traces, answers and logs: their types, their one spelling, and the traces of a generator.
 #![tactic(auto)]
 
+mod commands;
 mod draw;
 mod fault;
 mod fit;
