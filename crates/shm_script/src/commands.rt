@@ -16,7 +16,9 @@ const MOST_BEFORE: u64 = (u64::MAX - 9) / 10;
 /// A command at the front of a text, and what stands behind its line feed.
 #[inline(always)]
 pub fn next_command(clients: u8, me: u8, text: &[u8]) -> Option<(Line, &[u8])>
-    ensures { IfSome result (λ x. IsNext clients me text.now x.0 x.1.now) }
+    ensures next { IfSome result (λ x. IsNext clients me text.now x.0 x.1.now) }
+    // A client's number fits a byte.
+    ensures few { clients < 256 }
 {
     let (line, rest) = match text {
         [b'p', b'u', b't', rest @ ..] => put(clients, me, rest)?,

@@ -1,4 +1,4 @@
-use Rattle.std.proofs.Common.{◌+◌, ◌*◌, arith}
+use Rattle.std.proofs.Common.{arith}
 use Rattle.shm_script.proofs.NextCommands.{first_digit, next_digit}
 use Rattle.shm_script.proofs.commands.digits.Goals as goal
 
