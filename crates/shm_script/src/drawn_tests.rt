@@ -1,7 +1,7 @@
 //! Drawn traces that are printed, read and printed again.
 
 use super::*;
-use crate::drawn::DRAWN;
+use crate::drawn_vectors::DRAWN;
 use std::test::*;
 
 /// The FNV-1a checksum of the bytes, of 64 bits.
@@ -48,6 +48,7 @@ fn sums(rt: HostRuntime) {
 #[test]
 fn draws_prints_and_reads(rt: HostRuntime) -> Result<(), Fail> {
     for (start, size, length, sum) in DRAWN {
+        assert!(rt; 1 <= size && size <= 4_000);
         let drawn = generate(rt.alloc(), start, size)?;
         let text = print(rt.alloc(), &drawn)?;
         assert_eq!(rt; text.len(), length);

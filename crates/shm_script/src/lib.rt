@@ -27,9 +27,9 @@ pub use text::{push_number, push_text};
 pub use trace::{Script, Trace};
 
 #[cfg(test)]
-mod drawn;
-#[cfg(test)]
 mod drawn_tests;
+#[cfg(test)]
+mod drawn_vectors;
 #[cfg(test)]
 mod tests;
 #[cfg(test)]
