@@ -54,7 +54,7 @@ pub reads_more : (r0 r x : Memo) → OnlyReads r0 r → OnlyReads r x → OnlyRe
 reads_more r0 r x a b = record { memo = b.memo ∙ ap (λ (y : Memo). core (record y { looks = x.looks; known = x.known })) a.memo; known = λ s h. b.known s (a.known s h); looked = λ k h. b.looked k (a.looked k h) }
 
 -- what is known of a word is what is found, so it stays known once the word is learnt
-learnt_keeps : (p : Spot) (m : Memo) (n : ℕ) → as_known p m n → (s : Stored) → Contains m.known s → Contains (learnt p n m.known) s
+pub learnt_keeps : (p : Spot) (m : Memo) (n : ℕ) → as_known p m n → (s : Stored) → Contains m.known s → Contains (learnt p n m.known) s
 learnt_keeps p m n found s h = elim (cases_Bool (same_spot p s.spot)) [
   | inl y ↦ (let q : p ≡ s.spot = same_spot_is p s.spot y in
       let v : n ≡ s.value = found s.value (subst (λ (u : Spot). Contains m.known (record { spot = u; value = s.value })) (sym q) h) in

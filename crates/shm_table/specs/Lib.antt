@@ -13,4 +13,8 @@ pub mod UnlatchLaws
 pub mod LocateControl
 pub mod LocateFits
 pub mod LocateLaws
+pub mod GetControl
+pub mod GetFits
+pub mod GetReads
+pub mod GetLaws
 pub mod Machines

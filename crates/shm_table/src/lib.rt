@@ -8,6 +8,7 @@ pub mod answer;
 pub mod bound;
 pub mod events;
 pub mod find;
+pub mod get;
 pub mod locate;
 pub mod parts;
 #[cfg(test)]
