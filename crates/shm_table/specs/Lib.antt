@@ -17,4 +17,7 @@ pub mod GetControl
 pub mod GetFits
 pub mod GetReads
 pub mod GetLaws
+pub mod GetBound
+pub mod GetTells
+pub mod ReadMachines
 pub mod Machines

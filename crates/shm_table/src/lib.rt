@@ -11,6 +11,7 @@ pub mod find;
 pub mod get;
 pub mod locate;
 pub mod parts;
+pub mod reading;
 #[cfg(test)]
 mod tests;
 pub mod unlatch;
