@@ -1,4 +1,4 @@
-//! Tables: looking for a key in the table of an identity.
+//! Tables: looking for a key in the table of an identity, and reading what it has there.
 //!
 //! Each machine is a plan of calls (`shm_calls`): the type with the operation's name is the machine, and the plan that it is made of says
 //! which call comes next.
@@ -12,6 +12,14 @@ pub mod get;
 pub mod locate;
 pub mod parts;
 pub mod reading;
+pub mod unlatch;
+
+pub use get::{Get, Getting, Valued};
+pub use reading::{get_begins, get_bound, get_events, get_leaves, get_tells};
+
+#[cfg(test)]
+mod entry_tests;
+#[cfg(test)]
+mod get_tests;
 #[cfg(test)]
 mod tests;
-pub mod unlatch;

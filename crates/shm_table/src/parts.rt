@@ -3,3 +3,10 @@
 pub use crate::bound::find_bound;
 pub use crate::events::{find_begins, find_events, find_leaves, find_tells, read_tells};
 pub use crate::find::{Find, FindPoint, FindState, Finding, Found};
+pub use crate::get::{GetPoint, GetState};
+pub use crate::locate::{Locate, LocatePoint, LocateState, Locating};
+pub use crate::reading::{
+    locate_begins, locate_bound, locate_events, locate_leaves, locate_tells, unlatch_begins,
+    unlatch_bound, unlatch_events, unlatch_leaves,
+};
+pub use crate::unlatch::{Unlatch, UnlatchPoint, UnlatchState, Unlatching};
