@@ -1,5 +1,5 @@
 -- how many word steps taking a latch and looking for a key take, and reading what a key has: by the number of the entries whose key was read
-use Rattle.std.proofs.Common.{◌≡◌, ◌≢◌, ℕ, ◌+◌, ◌*◌, refl, sym, ap, ◌∙◌, subst, arith, List, [], ◌∷◌, ◌++◌, length, length-append, inl, inr}
+use Rattle.std.proofs.Common.{◌≡◌, ℕ, ◌+◌, ◌*◌, refl, sym, ap, subst, arith, List, [], ◌∷◌, ◌++◌, length, length-append, inl, inr}
 use Rattle.std.specs.Prelude.{Option, Some, None}
 use Rattle.shm_graph.specs.declared.ask.Me.{Me}
 use Rattle.shm_graph.specs.declared.memo.Memo.{Memo}
@@ -7,7 +7,7 @@ use Rattle.shm_graph.specs.Asks.{Trail, pair, IsWithin}
 use Rattle.shm_graph.specs.Events.{Event}
 use Rattle.shm_calls.specs.CallTells.{within_more}
 use Rattle.shm_table.specs.declared.find.Found.{Found}
-use Rattle.shm_table.specs.declared.find.Found.TheVariants.{Absent, At}
+use Rattle.shm_table.specs.declared.find.Found.TheVariants.{Absent}
 use Rattle.shm_table.specs.declared.get.Valued.{Valued}
 use Rattle.shm_table.specs.FindBound.{IsWhole, find_within, keys_read, passed_length}
 use Rattle.shm_table.specs.FindControl.{Passed, walk_trail, word_ask}

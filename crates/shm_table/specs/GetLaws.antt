@@ -1,6 +1,6 @@
 -- what is owed of reading what a key has
-use Rattle.std.proofs.Common.{◌≡◌, ◌≢◌, ℕ, ◌+◌, ◌%◌, ◌^◌, ◌<◌, refl, sym, ap, ◌∙◌, subst, arith, true, false, append_assoc, append-nil, List, [], ◌∷◌, ◌++◌}
-use Rattle.std.specs.Prelude.{None, Some}
+use Rattle.std.proofs.Common.{◌≡◌, ◌≢◌, ℕ, ◌+◌, ◌%◌, ◌^◌, ◌<◌, refl, sym, ap, ◌∙◌, subst, arith, false, append_assoc, append-nil, List, [], ◌∷◌, ◌++◌}
+use Rattle.std.specs.Prelude.{Some}
 use Rattle.std.specs.List.{Contains}
 use Rattle.shm_words.specs.Layout.{total_of}
 use Rattle.shm_words.proofs.Placing.{total_small}
@@ -12,6 +12,7 @@ use Rattle.shm_graph.specs.declared.spot.Spot.TheVariants.{Body}
 use Rattle.shm_graph.specs.Asks.{Trail, pair}
 use Rattle.shm_graph.specs.Events.{Event}
 use Rattle.shm_graph.specs.Held.{is_loose}
+use Rattle.shm_graph.specs.Trails.{Answers, Asked}
 use Rattle.shm_graph.specs.Telling.{Entry as AnEntry, Value as AValue, shaped}
 use Rattle.shm_calls.specs.declared.or.Or.TheVariants.{First, Second}
 use Rattle.shm_calls.specs.CallsPart.{calls_part, calls_part_laws}
@@ -21,9 +22,8 @@ use Rattle.shm_calls.specs.Plans.{PlanLaws, PlanStays, IsCall, Follows}
 use Rattle.shm_calls.specs.Words.{word_control, word_part, word_part_laws}
 use Rattle.shm_steps.specs.Reparting.{map_in}
 use Rattle.shm_steps.specs.Walking.{IsIn}
-use Rattle.shm_steps.specs.WordParts.{IsPlainWord}
+use Rattle.shm_steps.specs.WordParts.{IsPlainWord, ReferenceLoaded, WordLoaded}
 use Rattle.shm_steps.proofs.Covering.{role_told}
-use Rattle.shm_steps.proofs.Reaching.{look_reached}
 use Rattle.shm_steps.proofs.Seeking.{learnt_here}
 use Rattle.shm_steps.proofs.WordsBlocks.{idle_settled, plain_load, reference_load, told_inside}
 use Rattle.shm_ref.specs.AskedParts.{asked_part_laws, one_pair}
@@ -37,7 +37,7 @@ use Rattle.shm_table.specs.FindControl.{word_ask}
 use Rattle.shm_table.specs.FindReads.{entry_latched, look_in, look_made}
 use Rattle.shm_table.specs.FindTells.{absent_tells, author_maps, entry_value, has_read, read_kept}
 use Rattle.shm_table.specs.GetControl.{GetAnswer, get_ask, get_call, get_parts, getting, is_search}
-use Rattle.shm_table.specs.GetFits.{GetFound, GetKnows, GetLeaves, IsAt, IsNowhere, IsReading, IsTold, found_trail, get_part, get_plan, get_word_part, number_trail, value_trail}
+use Rattle.shm_table.specs.GetFits.{GetFound, GetKnows, GotNone, GotSome, IsAt, IsNowhere, IsReading, IsTold, found_trail, get_part, get_plan, get_word_part, number_trail, value_trail}
 use Rattle.shm_table.specs.GetReads.{ReadsMore, reads_on, reference_more, searched, visited, word_more}
 use Rattle.shm_table.specs.LocateControl.{locate_parts}
 use Rattle.shm_table.specs.LocateFits.{Located, MayLocate, locate_control, locate_plan}
@@ -75,15 +75,6 @@ may_unlatch me a r0 r h =
       latch = latch_of me a r0 r h;
     }
 
-opens : (m : GetState) (y : GetPoint) (r0 r : Memo) (tr : Trail) (es : List Event) → GetKnows (record m { point = y }) y r0 r tr es → (get_part (record m { point = y }) y).needs (get_call m y) r
-opens m Search r0 r tr es h = record { made = refl; first = refl; start = refl; knows = locate_begin m.me m.author m.key r (subst (MayLocate m.me m.author) (sym h.1) h.0) }
-opens m Value r0 r tr es (h, here, room) =
-    reference_load false m.me r h.reading.may.who m.entry 1 (omega arith, omega arith) (entry_latched m.me.who m.author r m.entry 1 (latch_of m.me m.author r0 r h.reading) here (omega arith)) (idle_settled r (Body m.entry 1) (idle_of m.me m.author r0 r h.reading))
-opens m Number r0 r tr es (h, look, here, room) =
-    plain_load false m.me r h.reading.may.who m.block 0 (omega arith, omega arith) (value_plain m.me.who r m.block here) (idle_settled r (Body m.block 0) (idle_of m.me m.author r0 r h.reading))
-opens m Missing r0 r tr es h = record { made = refl; first = refl; start = refl; knows = unlatch_begin m.me m.author r (may_unlatch m.me m.author r0 r h.reading) }
-opens m Known r0 r tr es h = record { made = refl; first = refl; start = refl; knows = unlatch_begin m.me m.author r (may_unlatch m.me m.author r0 r h.0.reading) }
-
 -- ---- what follows each call
 
 -- the map of the own table has what was read
@@ -99,54 +90,58 @@ module _ (m : GetState) (r0 rs r : Memo) (tr t : Trail) (es ds : List Event) (he
   abbrev a : ℕ
   a = m.author
 
-  abbrev At_point : GetPoint → GetState
-  At_point y = record m { point = y }
-
-  -- what is known before the next call, or what is left
-  abbrev Leads : GetPoint → GetAnswer → Type 0
-  Leads y b = Follows get_parts get_plan (record m { point = y }) b r0 r (tr ++ t) (es ++ ds)
-
   -- ---- the search
 
-  found : (b : Found) → GetKnows (At_point Search) Search r0 rs tr es → Located m.me a m.key rs r t ds b → Leads Search (First b)
-  found b (may, same, none, quiet) left =
-      subst (λ (u : Trail). Follows get_parts get_plan (At_point Search) (First b) r0 r (u ++ t) (es ++ ds)) (sym none)
-      (subst (λ (u : List Event). Follows get_parts get_plan (At_point Search) (First b) r0 r t (u ++ ds)) (sym quiet) (go b (subst (λ (x : Memo). Located m.me a m.key x r t ds b) same left)))
-    where
-      go : (b : Found) → Located m.me a m.key r0 r t ds b → Follows get_parts get_plan (At_point Search) (First b) r0 r t ds
-      go (Absent home first) w =
+  module _ (h : GetKnows (record m { point = Search }) Search r0 rs tr es) where
+    -- what holds of the memo before and of nothing asked holds
+    begun : (X : Trail → List Event → Type 0) → X t ds → X (tr ++ t) (es ++ ds)
+    begun X x = subst (λ (u : Trail). X (u ++ t) (es ++ ds)) (sym h.2) (subst (λ (u : List Event). X t (u ++ ds)) (sym h.3) x)
+
+    before_it : (b : Found) → Located m.me a m.key rs r t ds b → Located m.me a m.key r0 r t ds b
+    before_it b w = subst (λ (x : Memo). Located m.me a m.key x r t ds b) h.1 w
+
+    -- no entry has the key
+    nowhere : (home first : ℕ) → Located m.me a m.key rs r t ds (Absent home first) → IsNowhere m.me a m.key r0 r (tr ++ t) (es ++ ds)
+    nowhere home first located =
+        let w = before_it (Absent home first) located in
+        begun (IsNowhere m.me a m.key r0 r)
+        (record {
+          reading = searched m.me a r0 w.latched r h.0 w.took w.found.reads held;
+          none = w.none;
+          before = w.before;
+          bound = w.bound;
+          walk = w.after;
+          home = home;
+          first = first;
+          ends = w.found.ends;
+          trail = w.trail;
+          absent = λ q. ap (λ (x : Memo). map_in x.part m.key) (sym w.took.memo) ∙ absent_tells m.me a m.key home first w.latched r w.after ds w.found q;
+        })
+
+    -- this one has it
+    at_entry : (entry before word : ℕ) → Located m.me a m.key rs r t ds (At entry before word) → GetKnows (record m { entry = entry % 2 ^ 20; point = Value }) Value r0 r (tr ++ t) (es ++ ds)
+    at_entry entry before word located =
+        let w = before_it (At entry before word) located in
+        let f = w.found in
+        let room = f.room in
+        let total = total_small m.me.geometry h.0.geometry in
+        let small : entry % 2 ^ 20 ≡ entry = omega arith in
+        subst (λ (e : ℕ). GetKnows (record m { entry = e; point = Value }) Value r0 r (tr ++ t) (es ++ ds)) (sym small)
+        (begun (GetKnows (record m { entry = entry; point = Value }) Value r0 r) (
           record {
-            reading = searched m.me a r0 w.latched r may w.took w.found.reads held;
+            reading = searched m.me a r0 w.latched r h.0 w.took f.reads held;
+            has = has_read m.me a m.key entry before word w.latched r w.after ds f;
             none = w.none;
             before = w.before;
             bound = w.bound;
-            walk = w.after;
-            home = home;
-            first = first;
-            ends = w.found.ends;
-            trail = w.trail;
-            absent = λ q. ap (λ (x : Memo). map_in x.part m.key) (sym w.took.memo) ∙ absent_tells m.me a m.key home first w.latched r w.after ds w.found q;
-          }
-      go (At entry before word) w =
-          let f = w.found in
-          let room = f.room in
-          let total = total_small m.me.geometry may.geometry in
-          let small : entry % 2 ^ 20 ≡ entry = omega arith in
-          subst (λ (e : ℕ). GetKnows (record m { entry = e; point = Value }) Value r0 r t ds) (sym small) (
-            record {
-              reading = searched m.me a r0 w.latched r may w.took f.reads held;
-              has = has_read m.me a m.key entry before word w.latched r w.after ds f;
-              none = w.none;
-              before = w.before;
-              bound = w.bound;
-              home = f.home;
-              passed = f.passed;
-              others = f.others;
-              trail = w.trail ∙ ap (λ (x : Trail). w.before ++ x) (f.trail ∙ sym (append-nil (found_trail m.me a m.key f.home f.passed entry)));
-            },
-            f.here,
-            f.room,
-          )
+            home = f.home;
+            passed = f.passed;
+            others = f.others;
+            trail = w.trail ∙ ap (λ (x : Trail). w.before ++ x) (f.trail ∙ sym (append-nil (found_trail m.me a m.key f.home f.passed entry)));
+          },
+          f.here,
+          f.room,
+        ))
 
   -- ---- the loads
 
@@ -165,15 +160,12 @@ module _ (m : GetState) (r0 rs r : Memo) (tr t : Trail) (es ds : List Event) (he
         trail = asked_more h.before (found_trail m.me a m.key h.home h.passed m.entry) seen tr t u h.trail asked;
       }
 
-  -- what a load left, and what it asked
-  abbrev Loaded : GetPoint → ℕ → Type 0
-  Loaded y n = (get_word_part (At_point y) y).leaves (record { me = m.me; ask = get_ask m y; over = false }) rs r t ds n
-
-  value_read : (n : ℕ) → GetKnows (At_point Value) Value r0 rs tr es → Loaded Value n → Leads Value (Second (First n))
-  value_read n (h, here, room) (w, asked) =
-      let more = reference_more m.entry 1 rs n r w.found in
-      let reads = reference_reads m.entry 1 rs n r w.found in
-      let next = read_more [] (value_trail m.entry n) h more w.none (one_pair (word_ask m.entry 1) t n asked) in
+  -- the value word names a block
+  value_read : (n : ℕ) → GetKnows (record m { point = Value }) Value r0 rs tr es → ReferenceLoaded m.entry 1 rs n r → ds ≡ [] → Asked (word_ask m.entry 1) (λ x. Answers x) t n → GetKnows (record m { block = n % 2 ^ 20; point = Number }) Number r0 r (tr ++ t) (es ++ ds)
+  value_read n (h, here, room) left none asked =
+      let more = reference_more m.entry 1 rs n r left in
+      let reads = reference_reads m.entry 1 rs n r left in
+      let next = read_more [] (value_trail m.entry n) h more none (one_pair (word_ask m.entry 1) t n asked) in
       let known : Contains r.known (record { spot = Body m.entry 1; value = n }) = subst (λ (ks : List Stored). Contains ks (record { spot = Body m.entry 1; value = n })) (sym reads.0.known) (learnt_here (Body m.entry 1) n rs.known) in
       let some : n ≢ 0 = entry_value m.me a m.key m.entry n r next.has (idle_of m.me a r0 r next.reading) known h.reading.may.who held in
       let looks = reads.1 some in
@@ -183,22 +175,23 @@ module _ (m : GetState) (r0 rs r : Memo) (tr t : Trail) (es ds : List Event) (he
       let small : n % 2 ^ 20 ≡ n = omega arith in
       subst (λ (b : ℕ). GetKnows (record m { block = b; point = Number }) Number r0 r (tr ++ t) (es ++ ds)) (sym small) (next, look_made rs r (Body m.entry 1) n looks, is, inside)
 
-  number_read : (n : ℕ) → GetKnows (At_point Number) Number r0 rs tr es → Loaded Number n → Leads Number (Second (First n))
-  number_read n (h, look, here, room) (w, asked) =
-      let more = word_more (Body m.block 0) rs n r w.found in
-      let next = read_more (value_trail m.entry m.block) (pair (word_ask m.block 0) n ∷ []) h more w.none (one_pair (word_ask m.block 0) t n asked) in (
+  -- its number is known
+  number_read : (n : ℕ) → GetKnows (record m { point = Number }) Number r0 rs tr es → WordLoaded (Body m.block 0) rs n r → ds ≡ [] → Asked (word_ask m.block 0) (λ x. Answers x) t n → GetKnows (record m { number = n; point = Known }) Known r0 r (tr ++ t) (es ++ ds)
+  number_read n (h, look, here, room) left none asked =
+      let more = word_more (Body m.block 0) rs n r left in
+      let next = read_more (value_trail m.entry m.block) (pair (word_ask m.block 0) n ∷ []) h more none (one_pair (word_ask m.block 0) t n asked) in (
         next,
         record {
           has = next.has;
           look = more.looked (record { block = m.block; from = Body m.entry 1 }) look;
-          number = subst (λ (ks : List Stored). Contains ks (record { spot = Body m.block 0; value = n })) (sym (ap (λ (x : Memo). x.known) w.found.left)) (learnt_here (Body m.block 0) n rs.known);
+          number = subst (λ (ks : List Stored). Contains ks (record { spot = Body m.block 0; value = n })) (sym (ap (λ (x : Memo). x.known) left.left)) (learnt_here (Body m.block 0) n rs.known);
         },
       )
 
   -- ---- the latch is given back
 
-  missing : (done : Unit {0}) → GetKnows (At_point Missing) Missing r0 rs tr es → Unlatched m.me a rs r t ds → Leads Missing (Second (Second done))
-  missing done h w =
+  missing : IsNowhere m.me a m.key r0 rs tr es → Unlatched m.me a rs r t ds → GotNone m.me a m.key r0 r (tr ++ t) (es ++ ds)
+  missing h w =
       record {
         visited = visited m.me a r0 rs r t ds h.reading w;
         none = ap (λ (x : List Event). x ++ ds) h.none ∙ w.none;
@@ -212,8 +205,8 @@ module _ (m : GetState) (r0 rs r : Memo) (tr t : Trail) (es ds : List Event) (he
         absent = h.absent;
       }
 
-  known : (done : Unit {0}) → GetKnows (At_point Known) Known r0 rs tr es → Unlatched m.me a rs r t ds → Leads Known (Second (Second done))
-  known done (h, told) w =
+  known : GetKnows (record m { point = Known }) Known r0 rs tr es → Unlatched m.me a rs r t ds → GotSome m.me a m.key m.number m.block r0 r (tr ++ t) (es ++ ds)
+  known (h, told) w =
       record {
         visited = visited m.me a r0 rs r t ds h.reading w;
         none = ap (λ (x : List Event). x ++ ds) h.none ∙ w.none;
@@ -269,13 +262,23 @@ get_laws =
     calls m Missing = record { me = refl; asks = refl }
     calls m Known = record { me = refl; asks = refl }
 
+    opens : (m : GetState) (y : GetPoint) (r0 r : Memo) (tr : Trail) (es : List Event) → GetKnows (record m { point = y }) y r0 r tr es → (get_part (record m { point = y }) y).needs (get_call m y) r
+    opens m Search r0 r tr es h = record { made = refl; first = refl; start = refl; knows = locate_begin m.me m.author m.key r (subst (MayLocate m.me m.author) (sym h.1) h.0) }
+    opens m Value r0 r tr es (h, here, room) =
+        reference_load false m.me r h.reading.may.who m.entry 1 (omega arith, omega arith) (entry_latched m.me.who m.author r m.entry 1 (latch_of m.me m.author r0 r h.reading) here (omega arith)) (idle_settled r (Body m.entry 1) (idle_of m.me m.author r0 r h.reading))
+    opens m Number r0 r tr es (h, look, here, room) =
+        plain_load false m.me r h.reading.may.who m.block 0 (omega arith, omega arith) (value_plain m.me.who r m.block here) (idle_settled r (Body m.block 0) (idle_of m.me m.author r0 r h.reading))
+    opens m Missing r0 r tr es h = record { made = refl; first = refl; start = refl; knows = unlatch_begin m.me m.author r (may_unlatch m.me m.author r0 r h.reading) }
+    opens m Known r0 r tr es h = record { made = refl; first = refl; start = refl; knows = unlatch_begin m.me m.author r (may_unlatch m.me m.author r0 r h.0.reading) }
+
     leads : (m : GetState) (y : GetPoint) (r0 rs r : Memo) (tr t : Trail) (es ds : List Event) (b : GetAnswer) → GetKnows (record m { point = y }) y r0 rs tr es → (get_part (record m { point = y }) y).leaves (get_call m y) rs r t ds b → IsHeld m.me r
         → Follows get_parts get_plan (record m { point = y }) b r0 r (tr ++ t) (es ++ ds)
-    leads m Search r0 rs r tr t es ds (First b) h g held = found m r0 rs r tr t es ds held b h g
-    leads m Value r0 rs r tr t es ds (Second (First n)) h g held = value_read m r0 rs r tr t es ds held n h g
-    leads m Number r0 rs r tr t es ds (Second (First n)) h g held = number_read m r0 rs r tr t es ds held n h g
-    leads m Missing r0 rs r tr t es ds (Second (Second done)) h g held = missing m r0 rs r tr t es ds held done h g
-    leads m Known r0 rs r tr t es ds (Second (Second done)) h g held = known m r0 rs r tr t es ds held done h g
+    leads m Search r0 rs r tr t es ds (First (Absent home first)) h g held = nowhere m r0 rs r tr t es ds held h home first g
+    leads m Search r0 rs r tr t es ds (First (At entry before word)) h g held = at_entry m r0 rs r tr t es ds held h entry before word g
+    leads m Value r0 rs r tr t es ds (Second (First n)) h g held = value_read m r0 rs r tr t es ds held n h g.0.found g.0.none g.1
+    leads m Number r0 rs r tr t es ds (Second (First n)) h g held = number_read m r0 rs r tr t es ds held n h g.0.found g.0.none g.1
+    leads m Missing r0 rs r tr t es ds (Second (Second done)) h g held = missing m r0 rs r tr t es ds held h g
+    leads m Known r0 rs r tr t es ds (Second (Second done)) h g held = known m r0 rs r tr t es ds held h g
     leads m Search r0 rs r tr t es ds (Second b) h g held = absurd g
     leads m Value r0 rs r tr t es ds (First b) h g held = absurd g
     leads m Value r0 rs r tr t es ds (Second (Second b)) h g held = absurd g

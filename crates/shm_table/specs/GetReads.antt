@@ -1,6 +1,6 @@
 -- what reading under a latch leaves of a memo, and what is left once the latch is given back
-use Rattle.std.proofs.Common.{◌≡◌, ◌≢◌, ℕ, ◌+◌, ◌<◌, ◌≤◌, refl, sym, ap, ◌∙◌, subst, arith, Bool, true, eqb, ◌&&◌, List, [], ◌∷◌, ◌++◌, inl, inr}
-use Rattle.std.specs.Prelude.{None, Option, Some}
+use Rattle.std.proofs.Common.{◌≡◌, ◌≢◌, ℕ, ◌<◌, refl, sym, ap, ◌∙◌, subst, arith, Bool, true, eqb, ◌&&◌, List, [], ◌∷◌, ◌++◌, inl, inr}
+use Rattle.std.specs.Prelude.{None, Some}
 use Rattle.std.specs.List.{Contains}
 use Rattle.std.proofs.lemmas.Bool.{cases_Bool, cases_eq, cond-false, cond-true, eq-eqb, false≢true, ne_eqb}
 use Rattle.std.proofs.lemmas.List.Elements.{Contains-append_left, Contains-append_right}
@@ -10,12 +10,12 @@ use Rattle.shm_graph.specs.declared.memo.Memo.{Memo}
 use Rattle.shm_graph.specs.declared.memo.Op.TheVariants.{Nothing}
 use Rattle.shm_graph.specs.declared.memo.Stored.{Stored}
 use Rattle.shm_graph.specs.declared.spot.Spot.{Spot}
-use Rattle.shm_graph.specs.declared.spot.Spot.TheVariants.{Body, Era, Hold, Root, Slot, Tag}
+use Rattle.shm_graph.specs.declared.spot.Spot.TheVariants.{Body, Era, Hold, Root, Tag}
 use Rattle.shm_graph.specs.Asks.{Trail}
 use Rattle.shm_graph.specs.Core.{core}
 use Rattle.shm_graph.specs.Events.{Event}
 use Rattle.shm_graph.specs.Held.{is_loose, is_slot}
-use Rattle.shm_graph.specs.Idle.{IsIdle, hold_word}
+use Rattle.shm_graph.specs.Idle.{hold_word}
 use Rattle.shm_graph.specs.Reach.{binds_unlatched, is_latch_of, learnt, unlatched}
 use Rattle.shm_graph.specs.Readings.{is_entry, valued, values_read}
 use Rattle.shm_graph.specs.Spots.{same_spot}
@@ -34,7 +34,7 @@ use Rattle.shm_table.specs.FindFits.{OnlyReads}
 use Rattle.shm_table.specs.FindReads.{learnt_keeps, word_only}
 use Rattle.shm_table.specs.GetFits.{IsReading, Visited}
 use Rattle.shm_table.specs.LocateFits.{MayLocate}
-use Rattle.shm_table.specs.Staying.{Cleared, Keeps, Latched}
+use Rattle.shm_table.specs.Staying.{Keeps, Latched}
 use Rattle.shm_table.specs.UnlatchFits.{Unlatched}
 
 -- ---- reading

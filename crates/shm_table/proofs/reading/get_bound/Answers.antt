@@ -1,4 +1,4 @@
-use Rattle.std.proofs.Common.{ℕ, ◌+◌, ◌*◌, arith, List, length}
+use Rattle.std.proofs.Common.{arith}
 use Rattle.std.specs.Prelude.{Some, None}
 use Rattle.shm_table.specs.GetBound.{found_within, missing_within}
 use Rattle.shm_table.specs.ReadMachines.{get_told}
