@@ -31,9 +31,16 @@ pub mod EnterLaws
 pub mod OpenControl
 pub mod OpenFits
 pub mod OpenLaws
+pub mod GetControl
+pub mod GetFits
+pub mod GetReads
+pub mod GetLaws
+pub mod GetBound
+pub mod GetTells
 pub mod PutRootControl
 pub mod PutRootFits
 pub mod PutRootSteps
 pub mod PutRootLaws
+pub mod ReadMachines
 pub mod Machines
 pub mod OpenMachine

@@ -1,4 +1,4 @@
-//! Tables: looking for a key in the table of an identity.
+//! Tables: looking for a key in the table of an identity, and reading what it has there.
 //!
 //! Each machine is a plan of calls (`shm_calls`): the type with the operation's name is the machine, and the plan that it is made of says
 //! which call comes next.
@@ -9,11 +9,13 @@ pub mod bound;
 pub mod enter;
 pub mod events;
 pub mod find;
+pub mod get;
 pub mod locate;
 pub mod open_table;
 pub mod opening;
 pub mod parts;
 pub mod put_root;
+pub mod reading;
 pub mod replace;
 pub mod staying;
 pub mod unlatch;
@@ -26,6 +28,8 @@ mod enter_tests;
 #[cfg(test)]
 mod entry_tests;
 #[cfg(test)]
+mod get_tests;
+#[cfg(test)]
 mod open_tests;
 #[cfg(test)]
 mod replace_tests;
@@ -35,3 +39,6 @@ mod stepping;
 mod tests;
 #[cfg(test)]
 mod unlink_tests;
+
+pub use get::{Get, Getting, Valued};
+pub use reading::{get_begins, get_bound, get_events, get_leaves, get_tells};

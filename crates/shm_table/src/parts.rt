@@ -1,9 +1,17 @@
 //! The plans' states, and machines that are no operation by themselves, for machines that are composed of them.
 
+    locate_begins, locate_bound, locate_events, locate_leaves, locate_tells, unlatch_begins,
+    unlatch_bound, unlatch_events, unlatch_leaves,
+};
+
 pub use crate::bound::find_bound;
 pub use crate::enter::{Enter, EnterPoint, EnterState, Entered, Entering};
 pub use crate::events::{find_begins, find_events, find_leaves, find_tells, read_tells};
 pub use crate::find::{Find, FindPoint, FindState, Finding, Found};
+pub use crate::get::{GetPoint, GetState};
+pub use crate::locate::{Locate, LocatePoint, LocateState, Locating};
 pub use crate::open_table::{OpenPoint, OpenState, OpenTable, Opening};
+pub use crate::reading::{
 pub use crate::replace::{Replace, ReplacePoint, ReplaceState, Replacing};
+pub use crate::unlatch::{Unlatch, UnlatchPoint, UnlatchState, Unlatching};
 pub use crate::unlink::{Unlink, UnlinkPoint, UnlinkState, Unlinking};
