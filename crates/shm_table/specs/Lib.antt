@@ -9,6 +9,12 @@ pub mod FindReads
 pub mod FindLaws
 pub mod FindBound
 pub mod FindTells
+pub mod LatchGiving
+pub mod UnlatchFits
+pub mod UnlatchLaws
+pub mod LocateControl
+pub mod LocateFits
+pub mod LocateLaws
 pub mod ValueReads
 pub mod EntrySteps
 pub mod ReplaceControl

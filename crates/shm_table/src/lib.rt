@@ -8,9 +8,11 @@ pub mod answer;
 pub mod bound;
 pub mod events;
 pub mod find;
+pub mod locate;
 pub mod parts;
 pub mod replace;
 pub mod staying;
+pub mod unlatch;
 pub mod unlink;
 
 #[cfg(test)]
