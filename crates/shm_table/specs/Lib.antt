@@ -23,4 +23,7 @@ pub mod ReplaceLaws
 pub mod UnlinkControl
 pub mod UnlinkFits
 pub mod UnlinkLaws
+pub mod DelControl
+pub mod DelFits
+pub mod DelLaws
 pub mod Machines

@@ -6,6 +6,7 @@
 
 pub mod answer;
 pub mod bound;
+pub mod del;
 pub mod events;
 pub mod find;
 pub mod locate;
