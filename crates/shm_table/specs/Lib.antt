@@ -26,4 +26,6 @@ pub mod UnlinkLaws
 pub mod DelControl
 pub mod DelFits
 pub mod DelLaws
+pub mod DelBound
+pub mod ChangeMachines
 pub mod Machines

@@ -6,6 +6,7 @@
 
 pub mod answer;
 pub mod bound;
+pub mod changes;
 pub mod del;
 pub mod events;
 pub mod find;
@@ -15,6 +16,9 @@ pub mod replace;
 pub mod staying;
 pub mod unlatch;
 pub mod unlink;
+
+pub use changes::{del_begins, del_bound, del_events, del_leaves};
+pub use del::{Del, DelAnswer, Deleting};
 
 #[cfg(test)]
 mod entry_tests;

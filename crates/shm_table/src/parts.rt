@@ -1,6 +1,11 @@
 //! The plans' states, and machines that are no operation by themselves, for machines that are composed of them.
 
 pub use crate::bound::find_bound;
+pub use crate::changes::{
+    replace_begins, replace_bound, replace_events, replace_leaves, unlink_begins, unlink_bound,
+    unlink_events, unlink_leaves,
+};
+pub use crate::del::{DelPoint, DelState};
 pub use crate::events::{find_begins, find_events, find_leaves, find_tells, read_tells};
 pub use crate::find::{Find, FindPoint, FindState, Finding, Found};
 pub use crate::replace::{Replace, ReplacePoint, ReplaceState, Replacing};
