@@ -21,10 +21,16 @@ pub use changes::{del_begins, del_bound, del_events, del_leaves};
 pub use del::{Del, DelAnswer, Deleting};
 
 #[cfg(test)]
+mod del_edge_tests;
+#[cfg(test)]
+mod del_tests;
+#[cfg(test)]
 mod entry_tests;
 #[cfg(test)]
 mod replace_tests;
 #[cfg(test)]
 mod tests;
+#[cfg(test)]
+mod unlink_refusal_tests;
 #[cfg(test)]
 mod unlink_tests;
