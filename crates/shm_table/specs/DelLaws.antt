@@ -54,20 +54,6 @@ use Rattle.shm_table.specs.UnlinkFits.{MayUnlink, NotUnlinked, Unlinked, UnlinkC
 use Rattle.shm_table.specs.UnlinkLaws.{unlink_laws}
 use Rattle.shm_table.specs.ValueReads.{idle_here}
 
--- ---- the plan
-
-stays : (m : DelState) (y : DelPoint) (a : DelCallAnswer) → PlanStays del_parts del_plan (record m { point = y }) a
-stays m y (First (Absent home first)) = record { same_me = refl; same_line = refl; same_start = refl; started = λ e. refl }
-stays m y (First (At entry before word)) = record { same_me = refl; same_line = refl; same_start = refl; started = λ e. refl }
-stays m y (Second (First (Ok done))) = record { same_me = refl; same_line = refl; same_start = refl; started = λ e. refl }
-stays m y (Second (First (Err f))) = record { same_me = refl; same_line = refl; same_start = refl; started = λ e. refl }
-stays m y (Second (Second done)) = record { same_me = refl; same_line = refl; same_start = refl; started = λ e. absurd (cc) }
-
-calls : (m : DelState) (y : DelPoint) → IsCall del_parts del_plan (record m { point = y })
-calls m Search = record { me = refl; asks = refl }
-calls m Cut = record { me = refl; asks = refl }
-calls m Back = record { me = refl; asks = refl }
-
 -- ---- the search
 
 module _ (me : Me) (key : ℕ) (r0 r : Memo) (tr : Trail) (es : List Event) (b : Found) (may : MayDel me r0) (h : Located me me.who key r0 r tr es b) where
@@ -296,50 +282,26 @@ module _ (me : Me) (key : ℕ) (r0 rs r : Memo) (tr t : Trail) (es ds : List Eve
             bound = let w = within_more (18 + 2 * keys_read d.searched.read (At d.entry d.before d.word)) 2 tr t d.bound two in omega arith;
           }
 
--- ---- all of them
+-- the search answered: what is so then
+searched_absent : (me : Me) (key home first : ℕ) (r0 rs r : Memo) (tr t : Trail) (es ds : List Event) (a : DelAnswer) → MayDel me r0 × (a ≡ Missing) × (rs ≡ r0) × (tr ≡ []) × (es ≡ []) → Located me me.who key rs r t ds (Absent home first) → IsHeld me r → IsSettled me key r0 r (tr ++ t) (es ++ ds) a
+searched_absent me key home first r0 rs r tr t es ds a (may, answer, same, none, quiet) g held =
+    subst (λ (u : Trail). IsSettled me key r0 r (u ++ t) (es ++ ds) a) (sym none)
+    (subst (λ (u : List Event). IsSettled me key r0 r t (u ++ ds) a) (sym quiet)
+    (subst (IsSettled me key r0 r t ds) (sym answer) (missing me key home first r0 r t ds may (subst (λ (x : Memo). Located me me.who key x r t ds (Absent home first)) same g) held)))
 
-opens : (m : DelState) (y : DelPoint) (r0 r : Memo) (tr : Trail) (es : List Event) → DelKnows (record m { point = y }) y r0 r tr es → del_part.needs (del_call_at m y) r
-opens m Search r0 r tr es (may, answer, same, none, quiet) =
-    let now : MayDel m.me r = subst (MayDel m.me) (sym same) may in
-    record { made = refl; first = refl; start = refl; knows = locate_begin m.me m.me.who m.key r (record { geometry = now.geometry; who = now.who; author = now.who; idle = now.idle; none = now.none; table = now.table }) }
-opens m Cut r0 r tr es h = record { made = refl; first = refl; start = refl; knows = ((m.key, found_unlinks m.me m.key m.entry m.before m.word r0 r tr es h), refl, refl, refl) }
-opens m Back r0 r tr es h =
-    record {
-      made = refl;
-      first = refl;
-      start = refl;
-      knows = unlatch_begin m.me m.me.who r (record { geometry = h.may.geometry; who = h.may.who; author = h.may.who; here = idle_here m.me.who r h.idle; idle = h.idle.op; latch = h.latch });
-    }
+searched_at : (me : Me) (key entry before word : ℕ) (r0 rs r : Memo) (tr t : Trail) (es ds : List Event) (a : DelAnswer) → MayDel me r0 × (a ≡ Missing) × (rs ≡ r0) × (tr ≡ []) × (es ≡ []) → Located me me.who key rs r t ds (At entry before word) → IsHeld me r → recovers r ≡ recovers rs
+    → IsLocated me key (entry % 2 ^ 20) (before % 2 ^ 20) word r0 r (tr ++ t) (es ++ ds)
+searched_at me key entry before word r0 rs r tr t es ds a (may, answer, same, none, quiet) g held agent =
+    let h : Located me me.who key r0 r t ds (At entry before word) = subst (λ (x : Memo). Located me me.who key x r t ds (At entry before word)) same g in
+    let small = found_small me key entry before word r0 r t ds may h held in
+    let low : entry % 2 ^ 20 ≡ entry = (let s = small.0 in omega arith) in
+    let near : before % 2 ^ 20 ≡ before = (let s = small.1 in omega arith) in
+    subst (λ (u : Trail). IsLocated me key (entry % 2 ^ 20) (before % 2 ^ 20) word r0 r (u ++ t) (es ++ ds)) (sym none)
+    (subst (λ (u : List Event). IsLocated me key (entry % 2 ^ 20) (before % 2 ^ 20) word r0 r t (u ++ ds)) (sym quiet)
+    (subst (λ x. IsLocated me key x (before % 2 ^ 20) word r0 r t ds) (sym low)
+    (subst (λ x. IsLocated me key entry x word r0 r t ds) (sym near) (record { may = may; located = h; client = agent ∙ (ap recovers same ∙ may.client) }))))
 
--- the search answered
-searched_on : (m : DelState) (r0 rs r : Memo) (tr t : Trail) (es ds : List Event) (b : Found) → DelKnows (record m { point = Search }) Search r0 rs tr es → Located m.me m.me.who m.key rs r t ds b → IsHeld m.me r → recovers r ≡ recovers rs
-    → Follows del_parts del_plan (record m { point = Search }) (First b) r0 r (tr ++ t) (es ++ ds)
-searched_on m r0 rs r tr t es ds b (may, answer, same, none, quiet) g held agent =
-    subst (λ (u : Trail). Follows del_parts del_plan (record m { point = Search }) (First b) r0 r (u ++ t) (es ++ ds)) (sym none)
-    (subst (λ (u : List Event). Follows del_parts del_plan (record m { point = Search }) (First b) r0 r t (u ++ ds)) (sym quiet)
-    (go b (subst (λ (x : Memo). Located m.me m.me.who m.key x r t ds b) same g)))
-  where
-    go : (b : Found) → Located m.me m.me.who m.key r0 r t ds b → Follows del_parts del_plan (record m { point = Search }) (First b) r0 r t ds
-    go (Absent home first) h = subst (IsSettled m.me m.key r0 r t ds) (sym answer) (missing m.me m.key home first r0 r t ds may h held)
-    go (At entry before word) h =
-        let small = found_small m.me m.key entry before word r0 r t ds may h held in
-        let low : entry % 2 ^ 20 ≡ entry = (let s = small.0 in omega arith) in
-        let near : before % 2 ^ 20 ≡ before = (let s = small.1 in omega arith) in
-        subst (λ x. IsLocated m.me m.key x (before % 2 ^ 20) word r0 r t ds) (sym low)
-        (subst (λ x. IsLocated m.me m.key entry x word r0 r t ds) (sym near) (record { may = may; located = h; client = agent ∙ (ap recovers same ∙ may.client) }))
-
--- each call leads on
-leads : (m : DelState) (y : DelPoint) (r0 rs r : Memo) (tr t : Trail) (es ds : List Event) (a : DelCallAnswer) → DelKnows (record m { point = y }) y r0 rs tr es → del_part.leaves (del_call_at m y) rs r t ds a → IsHeld m.me r → recovers r ≡ recovers rs
-    → Follows del_parts del_plan (record m { point = y }) a r0 r (tr ++ t) (es ++ ds)
-leads m Search r0 rs r tr t es ds (First b) h g held agent = searched_on m r0 rs r tr t es ds b h g held agent
-leads m Cut r0 rs r tr t es ds (Second (First (Ok done))) h g held agent = cut_done m.me m.key m.entry m.before m.word r0 rs r tr t es ds h held g
-leads m Cut r0 rs r tr t es ds (Second (First (Err f))) h g held agent = cut_refused m.me m.key m.entry m.before m.word r0 rs r tr t es ds h held f g
-leads m Back r0 rs r tr t es ds (Second (Second done)) h g held agent = given m.me m.key r0 rs r tr t es ds g m.answer h
-leads m Search r0 rs r tr t es ds (Second a) h g held agent = absurd g
-leads m Cut r0 rs r tr t es ds (First b) h g held agent = absurd g
-leads m Cut r0 rs r tr t es ds (Second (Second done)) h g held agent = absurd g
-leads m Back r0 rs r tr t es ds (First b) h g held agent = absurd g
-leads m Back r0 rs r tr t es ds (Second (First a)) h g held agent = absurd g
+-- ---- the plan
 
 -- what is known before the first call
 pub del_begin : (me : Me) (key : ℕ) (r : Memo) → MayDel me r → DelKnows (deleting me key) Search r r [] []
@@ -356,3 +318,42 @@ del_laws =
       opens = λ m. opens m m.point;
       leads = λ m r0 rs r tr t es ds a h g held agent. leads m m.point r0 rs r tr t es ds a h g held agent;
     }
+  where
+    stays : (m : DelState) (y : DelPoint) (a : DelCallAnswer) → PlanStays del_parts del_plan (record m { point = y }) a
+    stays m y (First (Absent home first)) = record { same_me = refl; same_line = refl; same_start = refl; started = λ e. refl }
+    stays m y (First (At entry before word)) = record { same_me = refl; same_line = refl; same_start = refl; started = λ e. refl }
+    stays m y (Second (First (Ok done))) = record { same_me = refl; same_line = refl; same_start = refl; started = λ e. refl }
+    stays m y (Second (First (Err f))) = record { same_me = refl; same_line = refl; same_start = refl; started = λ e. refl }
+    stays m y (Second (Second done)) = record { same_me = refl; same_line = refl; same_start = refl; started = λ e. absurd (cc) }
+
+    calls : (m : DelState) (y : DelPoint) → IsCall del_parts del_plan (record m { point = y })
+    calls m Search = record { me = refl; asks = refl }
+    calls m Cut = record { me = refl; asks = refl }
+    calls m Back = record { me = refl; asks = refl }
+
+    opens : (m : DelState) (y : DelPoint) (r0 r : Memo) (tr : Trail) (es : List Event) → DelKnows (record m { point = y }) y r0 r tr es → del_part.needs (del_call_at m y) r
+    opens m Search r0 r tr es (may, answer, same, none, quiet) =
+        let now : MayDel m.me r = subst (MayDel m.me) (sym same) may in
+        record { made = refl; first = refl; start = refl; knows = locate_begin m.me m.me.who m.key r (record { geometry = now.geometry; who = now.who; author = now.who; idle = now.idle; none = now.none; table = now.table }) }
+    opens m Cut r0 r tr es h = record { made = refl; first = refl; start = refl; knows = ((m.key, found_unlinks m.me m.key m.entry m.before m.word r0 r tr es h), refl, refl, refl) }
+    opens m Back r0 r tr es h =
+        record {
+          made = refl;
+          first = refl;
+          start = refl;
+          knows = unlatch_begin m.me m.me.who r (record { geometry = h.may.geometry; who = h.may.who; author = h.may.who; here = idle_here m.me.who r h.idle; idle = h.idle.op; latch = h.latch });
+        }
+
+    -- each call leads on
+    leads : (m : DelState) (y : DelPoint) (r0 rs r : Memo) (tr t : Trail) (es ds : List Event) (a : DelCallAnswer) → DelKnows (record m { point = y }) y r0 rs tr es → del_part.leaves (del_call_at m y) rs r t ds a → IsHeld m.me r → recovers r ≡ recovers rs
+        → Follows del_parts del_plan (record m { point = y }) a r0 r (tr ++ t) (es ++ ds)
+    leads m Search r0 rs r tr t es ds (First (Absent home first)) h g held agent = searched_absent m.me m.key home first r0 rs r tr t es ds m.answer h g held
+    leads m Search r0 rs r tr t es ds (First (At entry before word)) h g held agent = searched_at m.me m.key entry before word r0 rs r tr t es ds m.answer h g held agent
+    leads m Cut r0 rs r tr t es ds (Second (First (Ok done))) h g held agent = cut_done m.me m.key m.entry m.before m.word r0 rs r tr t es ds h held g
+    leads m Cut r0 rs r tr t es ds (Second (First (Err f))) h g held agent = cut_refused m.me m.key m.entry m.before m.word r0 rs r tr t es ds h held f g
+    leads m Back r0 rs r tr t es ds (Second (Second done)) h g held agent = given m.me m.key r0 rs r tr t es ds g m.answer h
+    leads m Search r0 rs r tr t es ds (Second a) h g held agent = absurd g
+    leads m Cut r0 rs r tr t es ds (First b) h g held agent = absurd g
+    leads m Cut r0 rs r tr t es ds (Second (Second done)) h g held agent = absurd g
+    leads m Back r0 rs r tr t es ds (First b) h g held agent = absurd g
+    leads m Back r0 rs r tr t es ds (Second (First a)) h g held agent = absurd g
