@@ -37,10 +37,15 @@ pub mod GetReads
 pub mod GetLaws
 pub mod GetBound
 pub mod GetTells
+pub mod DelControl
+pub mod DelFits
+pub mod DelLaws
+pub mod DelBound
 pub mod PutRootControl
 pub mod PutRootFits
 pub mod PutRootSteps
 pub mod PutRootLaws
 pub mod ReadMachines
+pub mod ChangeMachines
 pub mod Machines
 pub mod OpenMachine

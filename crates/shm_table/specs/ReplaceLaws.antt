@@ -33,14 +33,13 @@ use Rattle.shm_count.specs.declared.point.Aim.TheVariants as aims
 use Rattle.shm_count.specs.CountParts.{tear_part, tear_part_laws}
 use Rattle.shm_count.specs.Lowering.{dies, torn_leaves}
 use Rattle.shm_count.specs.Roots.{root_word}
-use Rattle.shm_count.specs.SlotLeaves.{Lost, StepCause, StepLeft, Took, Untouched}
+use Rattle.shm_count.specs.SlotLeaves.{Lost, StepCause, Took, Untouched}
 use Rattle.shm_count.specs.SlotParts.{change_slot_laws, change_slot_part}
 use Rattle.shm_count.specs.StepControl.{IsInside, step_control}
 use Rattle.shm_count.specs.TearControl.{tear_control}
 use Rattle.shm_count.specs.TearEvents.{Visit, frees}
 use Rattle.shm_count.specs.TearFits.{TearLeaves}
 use Rattle.shm_ref.specs.CountedBlocks.{reached_counted}
-use Rattle.shm_ref.specs.Leaving.{frees-append}
 use Rattle.shm_table.specs.declared.answer.PutFault.{PutFault}
 use Rattle.shm_table.specs.declared.replace.ReplacePoint.{ReplacePoint}
 use Rattle.shm_table.specs.declared.replace.ReplacePoint.TheVariants.{Look, Change, Tear}
@@ -50,51 +49,12 @@ use Rattle.shm_table.specs.EntryReads.{EntryReads, entry_loads, reference_reads}
 use Rattle.shm_table.specs.EntrySteps.{ValueSteps, value_steps, word_step}
 use Rattle.shm_table.specs.FindControl.{word_ask}
 use Rattle.shm_table.specs.FindReads.{entry_latched, look_in}
-use Rattle.shm_table.specs.ReplaceControl.{ReplaceAnswer, is_look, lowered_after, lowered_turns, replace_call_at, replace_parts, replacing}
-use Rattle.shm_table.specs.ReplaceFits.{IsFallen, IsSeen, IsTorn, MayBegin, MayReplace, Replaced, ReplaceKnows, ReplaceLeaves, changed_events, look_part, replace_plan}
-use Rattle.shm_table.specs.Staying.{Ended, Keeps, MapSet}
-use Rattle.shm_table.specs.StayingLaws.{keeps_more, keeps_untouched}
+use Rattle.shm_table.specs.ReplaceControl.{ReplaceAnswer, is_look, replace_call_at, replace_parts, replacing}
+use Rattle.shm_table.specs.ReplaceFits.{IsFallen, IsFullOf, IsSeen, IsTorn, MayBegin, MayReplace, NotReplaced, Replaced, ReplaceKnows, ReplaceLeaves, changed_events, look_part, replace_plan}
+use Rattle.shm_table.specs.Staying.{Ended, Keeps}
+use Rattle.shm_table.specs.StayingLaws.{keeps_more, keeps_untouched, raised_cause}
 use Rattle.shm_table.specs.StayingSteps.{keeps_took}
 use Rattle.shm_table.specs.ValueReads.{ReadsMore, idle_here, keeps_reads, reads_more_by}
-
--- ---- the plan
-
-stays : (m : ReplaceState) (y : ReplacePoint) (a : ReplaceAnswer) → PlanStays replace_parts replace_plan (record m { point = y }) a
-stays m y (First n) = record { same_me = refl; same_line = refl; same_start = refl; started = λ e. refl }
-stays m y (Second (First (Ok true))) = record { same_me = refl; same_line = refl; same_start = refl; started = λ e. refl }
-stays m y (Second (First (Ok false))) = record { same_me = refl; same_line = refl; same_start = refl; started = λ e. absurd (cc) }
-stays m y (Second (First (Err f))) = record { same_me = refl; same_line = refl; same_start = refl; started = λ e. absurd (cc) }
-stays m y (Second (Second a)) = record { same_me = refl; same_line = refl; same_start = refl; started = λ e. absurd (cc) }
-
-calls : (m : ReplaceState) (y : ReplacePoint) → IsCall replace_parts replace_plan (record m { point = y })
-calls m Look = record { me = refl; asks = refl }
-calls m Change = record { me = refl; asks = refl }
-calls m Tear = record { me = refl; asks = refl }
-
--- ---- before each call
-
-opens : (m : ReplaceState) (y : ReplacePoint) (r0 r : Memo) (tr : Trail) (es : List Event) → ReplaceKnows (record m { point = y }) y r0 r tr es → (replace_plan.part (record m { point = y })).needs (replace_call_at m y) r
-opens m Look r0 r tr es (begun, same, none, quiet) =
-    let may : MayReplace m.me begun.0 m.to begun.1 m.entry begun.2 begun.3 r = subst (MayReplace m.me begun.0 m.to begun.1 m.entry begun.2 begun.3) (sym same) begun.4 in
-    let room = may.room in
-    entry_loads m.me r may.who may.idle.op m.entry true 1 (omega arith) (omega arith, omega arith) (entry_latched m.me.who m.me.who r m.entry 1 may.found.4.latch may.here (omega arith))
-opens m Change r0 r tr es (seen, none, bound) = (refl, seen.step)
-opens m Tear r0 r tr es h =
-    let seen = h.seen in
-    let may = seen.begun.4 in
-    let keeps = keeps_reads m.me.who r0 h.memo may.idle seen.reads in
-    record {
-      made = refl;
-      can = record {
-        geometry = may.geometry;
-        who = may.who;
-        here = here_same h.memo r (ap (λ (x : Memo). x.status) h.lost.took.rest) (idle_here m.me.who h.memo keeps.idle);
-        idle = h.lost.took.op;
-        inside = seen.inside;
-        room = seen.room;
-        dying = dies m.me (Body m.entry 1) false m.before m.to h.memo r r may.who h.holds h.lost;
-      };
-    }
 
 -- ---- the value word was read
 
@@ -133,7 +93,6 @@ module _ (me : Me) (b v n : ℕ) (r0 r : Memo) (begun : MayBegin me b v r0) (fou
   -- another one than it is to have
   seen_of : n ≢ v → IsSeen me b v n r0 r
   seen_of other =
-      let root = (keeps.roots may.named.0) in
       let reach = root_reached me.who r v may.named.0 may.named.1 keeps.idle.op (ap (λ (x : Memo). root_word me.who x may.named.0) reads.memo ∙ may.named.2) may.block in
       record {
         begun = begun;
@@ -201,142 +160,113 @@ module _ (me : Me) (b v old : ℕ) (r0 q r : Memo) (seen : IsSeen me b v old r0 
 
 -- ---- what follows each call
 
-module _ (m : ReplaceState) (r0 rs r : Memo) (tr t : Trail) (es ds : List Event) (held : IsHeld m.me r) (agent : recovers r ≡ recovers rs) where
-  abbrev c : ℕ
-  c = m.me.who
+-- by whether the block that was read is the one
+by_target : (n to : ℕ) (A : Type 0) (a : A) (K : ℕ → Type 0) (L : A → Type 0) → n < 2 ^ 20 → (n ≢ to → K n) → (n ≡ to → L a) → Outcome (if n % 2 ^ 20 == to then Some a else None) (K (n % 2 ^ 20)) L
+by_target n to A a K L low other same =
+    let small : n % 2 ^ 20 ≡ n = omega arith in
+    subst (λ z. Outcome (if z == to then Some a else None) (K z) L) (sym small)
+    (elim (cases_eq n to) [
+      | inl e ↦ subst (λ z. Outcome (if z then Some a else None) (K n) L) (sym (eq-eqb n to e)) (same e)
+      | inr o ↦ subst (λ z. Outcome (if z then Some a else None) (K n) L) (sym (ne_eqb n to o)) (other o)
+    ])
 
-  abbrev p : Spot
-  p = Body m.entry 1
+module _ (me : Me) (b v old : ℕ) (r0 rs r : Memo) (tr t : Trail) (es ds : List Event) (held : IsHeld me r) (agent : recovers r ≡ recovers rs) where
+  -- ---- the load
 
-  -- the plan at a point
-  abbrev At : ReplacePoint → ReplaceState
-  At y = record m { point = y }
+  module _ (n : ℕ) (h : MayBegin me b v r0 × (rs ≡ r0) × (tr ≡ []) × (es ≡ [])) (w : WordLeaves (EntryReads me b 1) (record { me = me; ask = word_ask b 1; over = false }) rs r t ds n) where
+    found : EntryReads me b 1 r0 n r
+    found = subst (λ (x : Memo). EntryReads me b 1 x n r) h.1 w.found
 
-  -- what is known before the next call, or what is left
-  abbrev Leads : ReplacePoint → ReplaceAnswer → Type 0
-  Leads y a = Follows replace_parts replace_plan (At y) a r0 r (tr ++ t) (es ++ ds)
+    client : recovers r ≡ false
+    client = agent ∙ (ap recovers h.1 ∙ h.0.4.client)
 
-  abbrev Left : Result (Unit {0}) PutFault → Type 0
-  Left = ReplaceLeaves (replacing m.me m.entry m.to) r0 r (tr ++ t) (es ++ ds)
+    silent : es ++ ds ≡ []
+    silent = ap (λ (x : List Event). x ++ ds) h.3 ∙ w.none
 
-  silent : es ≡ [] → ds ≡ [] → es ++ ds ≡ []
-  silent e d = ap (λ (x : List Event). x ++ ds) e ∙ d
+    one : IsWithin 1 (tr ++ t)
+    one = let e = ap length (ap (λ (x : Trail). x ++ t) h.2) in let o = w.one in omega arith
 
-  looked : (n : ℕ) → ReplaceKnows (At Look) Look r0 rs tr es → WordLeaves (EntryReads m.me m.entry 1) (record { me = m.me; ask = word_ask m.entry 1; over = false }) rs r t ds n → Leads Look (First n)
-  looked n (begun, same, none, quiet) w =
-      let found : EntryReads m.me m.entry 1 r0 n r = subst (λ (x : Memo). EntryReads m.me m.entry 1 x n r) same w.found in
-      let client : recovers r ≡ false = agent ∙ (ap recovers same ∙ begun.4.client) in
-      let bound : IsWithin 1 (tr ++ t) = (let e = ap length (ap (λ (x : Trail). x ++ t) none) in let o = w.one in omega arith) in
-      let total = total_small m.me.geometry begun.4.geometry in
-      let low = (counted m.me m.entry m.to n r0 r begun found held client).0.1 in
-      let small : n % 2 ^ 20 ≡ n = omega arith in
-      let next : ℕ → Type 0 = λ z. ReplaceKnows (record m { before = z; point = Change }) Change r0 r (tr ++ t) (es ++ ds) in
-      subst (λ z. Outcome (if z == m.to then Some (Ok tt) else None) (next z) Left) (sym small)
-      (elim (cases_eq n m.to) [
-        | inl e ↦ subst (λ z. Outcome (if z then Some (Ok tt) else None) (next n) Left) (sym (eq-eqb n m.to e)) (kept m.me m.entry m.to n r0 r begun found held client e (tr ++ t) (es ++ ds) (silent quiet w.none) bound)
-        | inr other ↦ subst (λ z. Outcome (if z then Some (Ok tt) else None) (next n) Left) (sym (ne_eqb n m.to other)) (seen_of m.me m.entry m.to n r0 r begun found held client other, silent quiet w.none, bound)
-      ])
+    look_small : n < 2 ^ 20
+    look_small = let total = total_small me.geometry h.0.4.geometry in let low = (counted me b v n r0 r h.0 found held client).0.1 in omega arith
 
-  -- the change was refused
-  refused : (f : UpFault) → ReplaceKnows (At Change) Change r0 rs tr es → Untouched c rs r × StepCause m.me (aims.Change m.before m.to) rs f × (ds ≡ []) → IsWithin change_steps t → Left (Err (raised_fault f))
-  refused f (seen, quiet, bound) (same, cause, none) short = by f cause
-    where
-      reads : ReadsMore r0 rs
-      reads = seen.reads
+    look_other : n ≢ v → IsSeen me b v n r0 r × (es ++ ds ≡ []) × IsWithin 1 (tr ++ t)
+    look_other other = (seen_of me b v n r0 r h.0 found held client other, silent, one)
 
-      before : Keeps c r0 rs
-      before = keeps_reads c r0 rs seen.begun.4.idle reads
+    look_same : n ≡ v → Replaced me v b r0 r (tr ++ t) (es ++ ds)
+    look_same e = kept me b v n r0 r h.0 found held client e (tr ++ t) (es ++ ds) silent one
 
-      all : Keeps c r0 r
-      all = keeps_more c r0 rs r before (keeps_untouched c rs r before.idle same)
+  -- ---- the change
 
-      within : IsWithin (1 + change_steps) (tr ++ t)
-      within = within_more 1 change_steps tr t bound short
+  module _ (seen : IsSeen me b v old r0 rs) (quiet : es ≡ []) (bound : IsWithin 1 tr) where
+    so_far : ReadsMore r0 rs
+    so_far = seen.reads
 
-      era : own_word rs.own (Era c c) ≤ own_word r.own (Era c c)
-      era = same.rows c
+    none_yet : (xs : List Event) → ds ≡ xs → es ++ ds ≡ xs
+    none_yet xs e = ap (λ (x : List Event). x ++ ds) quiet ∙ e
 
-      by : (f : UpFault) → StepCause m.me (aims.Change m.before m.to) rs f → Left (Err (raised_fault f))
-      by (EraSpent e) (is, late) =
-          record {
-            keeps = all;
-            latch = ap (λ (x : Memo). x.latch) same.rest ∙ ap (λ (x : Memo). x.latch) reads.memo;
-            home = same.own (Home c) refl ∙ ap (λ (x : Memo). own_word x.own (Home c)) reads.memo;
-            cleared = record { roots = λ j. same.own (Root c j) refl ∙ ap (λ (x : Memo). root_word c x j) reads.memo; dying = ap (λ (x : Memo). x.dying) same.rest ∙ ap (λ (x : Memo). x.dying) reads.memo };
-            map = λ k. ap (λ (x : Memo). map_in x.part k) same.rest ∙ ap (λ (x : Memo). map_in x.part k) reads.memo;
-            cause = (late, (let u = era in omega arith));
-            full = tt;
-            none = silent quiet none;
-            bound = within;
-          }
-      by (CountFull d n) (full, is, up) =
-          record {
-            keeps = all;
-            latch = ap (λ (x : Memo). x.latch) same.rest ∙ ap (λ (x : Memo). x.latch) reads.memo;
-            home = same.own (Home c) refl ∙ ap (λ (x : Memo). own_word x.own (Home c)) reads.memo;
-            cleared = record { roots = λ j. same.own (Root c j) refl ∙ ap (λ (x : Memo). root_word c x j) reads.memo; dying = ap (λ (x : Memo). x.dying) same.rest ∙ ap (λ (x : Memo). x.dying) reads.memo };
-            map = λ k. ap (λ (x : Memo). map_in x.part k) same.rest ∙ ap (λ (x : Memo). map_in x.part k) reads.memo;
-            cause = full;
-            full = is;
-            none = silent quiet none;
-            bound = within;
-          }
+    -- it was refused
+    refused : (f : UpFault) → Untouched me.who rs r × StepCause me (aims.Change old v) rs f × (ds ≡ []) → IsWithin change_steps t → NotReplaced me v r0 r (tr ++ t) (es ++ ds) (raised_fault f)
+    refused f (same, cause, none) short =
+        let c = me.who in
+        let before : Keeps c r0 rs = keeps_reads c r0 rs seen.begun.4.idle so_far in
+        record {
+          keeps = keeps_more c r0 rs r before (keeps_untouched c rs r before.idle same);
+          latch = ap (λ (x : Memo). x.latch) same.rest ∙ ap (λ (x : Memo). x.latch) so_far.memo;
+          home = same.own (Home c) refl ∙ ap (λ (x : Memo). own_word x.own (Home c)) so_far.memo;
+          cleared = record { roots = λ j. same.own (Root c j) refl ∙ ap (λ (x : Memo). root_word c x j) so_far.memo; dying = ap (λ (x : Memo). x.dying) same.rest ∙ ap (λ (x : Memo). x.dying) so_far.memo };
+          map = λ k. ap (λ (x : Memo). map_in x.part k) same.rest ∙ ap (λ (x : Memo). map_in x.part k) so_far.memo;
+          cause = raised_cause me (aims.Change old v) r0 rs r f same cause;
+          full = full_of f cause;
+          none = none_yet [] none;
+          bound = within_more 1 change_steps tr t bound short;
+        }
+      where
+        full_of : (f : UpFault) → StepCause me (aims.Change old v) rs f → IsFullOf v (raised_fault f)
+        full_of (EraSpent e) h = tt
+        full_of (CountFull d n) h = h.1
 
-  -- it was made
-  changed : (a : Result Bool UpFault) → ReplaceKnows (At Change) Change r0 rs tr es → StepLeft m.me (aims.Change m.before m.to) p false rs r t ds a → Leads Change (Second (First a))
-  changed (Ok true) (seen, quiet, bound) s =
-      record { memo = rs; seen = seen; lost = s.did.0; holds = held; told = ap (λ (x : List Event). x ++ ds) quiet ∙ s.did.1; bound = within_more 1 change_steps tr t bound s.bound }
-  changed (Ok false) (seen, quiet, bound) s =
-      let within = within_more 1 change_steps tr t bound s.bound in
-      let reads : ReadsMore r0 rs = seen.reads in
-      replaced m.me m.entry m.to m.before r0 rs r seen s.did.0.took (tr ++ t) (es ++ ds) [] [] (All-nil (λ (x : Visit). Contains r.dying x.block))
-      (inl (record { roots = roots_same m.me m.entry m.to m.before r0 rs r seen s.did.0.took; dying = s.did.0.dying ∙ (append-nil rs.dying ∙ ap (λ (x : Memo). x.dying) reads.memo) }))
-      (ap (λ (x : List Event). x ++ ds) quiet ∙ s.did.1) (inl (refl, refl)) (omega arith)
-  changed (Err f) h s = refused f h s.did s.bound
+    -- the count of the old block came to 0, or it didn't
+    fell : Lost me.who (Body b 1) false old v true rs r → ds ≡ changed_events me.who b old v [] → IsWithin change_steps t → IsFallen me b v old r0 r (tr ++ t) (es ++ ds)
+    fell lost told short = record { memo = rs; seen = seen; lost = lost; holds = held; told = none_yet (changed_events me.who b old v []) told; bound = within_more 1 change_steps tr t bound short }
 
-  -- the old block was torn down
-  torn : (a : Result (Unit {0}) ASpent) → ReplaceKnows (At Tear) Tear r0 rs tr es → TearLeaves m.me m.before rs r ds t a → Leads Tear (Second (Second a))
+    lowered : Lost me.who (Body b 1) false old v false rs r → ds ≡ changed_events me.who b old v [] → IsWithin change_steps t → Replaced me v b r0 r (tr ++ t) (es ++ ds)
+    lowered lost told short =
+        let within = within_more 1 change_steps tr t bound short in
+        replaced me b v old r0 rs r seen lost.took (tr ++ t) (es ++ ds) [] [] (All-nil (λ (x : Visit). Contains r.dying x.block))
+        (inl (record { roots = roots_same me b v old r0 rs r seen lost.took; dying = lost.dying ∙ (append-nil rs.dying ∙ ap (λ (x : Memo). x.dying) so_far.memo) }))
+        (none_yet (changed_events me.who b old v []) told) (inl (refl, refl)) (omega arith)
+
+  -- ---- the tear-down
+
+  torn : (a : Result (Unit {0}) ASpent) → IsFallen me b v old r0 rs tr es → TearLeaves me old rs r ds t a → Replaced me v b r0 r (tr ++ t) (es ++ ds)
   torn a h left = go a left
     where
-      seen : IsSeen m.me m.entry m.to m.before r0 h.memo
+      seen : IsSeen me b v old r0 h.memo
       seen = h.seen
 
-      reads : ReadsMore r0 h.memo
-      reads = seen.reads
-
-      told : es ++ ds ≡ changed_events c m.entry m.before m.to ds
+      told : es ++ ds ≡ changed_events me.who b old v ds
       told = ap (λ (x : List Event). x ++ ds) h.told
 
       same_frees : frees (es ++ ds) ≡ frees ds
       same_frees = ap frees told ∙ omega arith
 
-      go : (a : Result (Unit {0}) ASpent) → TearLeaves m.me m.before rs r ds t a → Leads Tear (Second (Second a))
+      go : (a : Result (Unit {0}) ASpent) → TearLeaves me old rs r ds t a → Replaced me v b r0 r (tr ++ t) (es ++ ds)
       go (Ok done) y =
           let f = same_frees in
           let within = within_more (1 + change_steps) (tear_steps (frees ds)) tr t h.bound y.bound in
-          let lost = torn_leaves m.me p false m.before m.to h.memo rs r seen.begun.4.who h.holds h.lost seen.counted ds t (Ok done) y in
-          replaced m.me m.entry m.to m.before r0 h.memo r seen lost.took (tr ++ t) (es ++ ds) ds [] (All-nil (λ (x : Visit). Contains r.dying x.block))
-          (inl (record { roots = roots_same m.me m.entry m.to m.before r0 h.memo r seen lost.took; dying = lost.dying ∙ (append-nil h.memo.dying ∙ ap (λ (x : Memo). x.dying) reads.memo) }))
+          let lost = torn_leaves me (Body b 1) false old v h.memo rs r seen.begun.4.who h.holds h.lost seen.counted ds t (Ok done) y in
+          replaced me b v old r0 h.memo r seen lost.took (tr ++ t) (es ++ ds) ds [] (All-nil (λ (x : Visit). Contains r.dying x.block))
+          (inl (record { roots = roots_same me b v old r0 h.memo r seen lost.took; dying = lost.dying ∙ (append-nil h.memo.dying ∙ ap (λ (x : Memo). x.dying) seen.reads.memo) }))
           told (inr y.walks) (omega arith)
       go (Err e) (vs, y) =
           let f = same_frees in
           let within = within_more (1 + change_steps) (tear_steps (frees ds + length vs)) tr t h.bound y.bound in
-          let took = (torn_leaves m.me p false m.before m.to h.memo rs r seen.begun.4.who h.holds h.lost seen.counted ds t (Err e) (vs, y)).0 in
+          let took = (torn_leaves me (Body b 1) false old v h.memo rs r seen.begun.4.who h.holds h.lost seen.counted ds t (Err e) (vs, y)).0 in
           let late = y.last in
           let is = y.spent in
-          replaced m.me m.entry m.to m.before r0 h.memo r seen took (tr ++ t) (es ++ ds) ds vs y.left (inr (e.era, (omega arith, omega arith))) told (inr y.walks) (omega arith)
+          replaced me b v old r0 h.memo r seen took (tr ++ t) (es ++ ds) ds vs y.left (inr (e.era, (omega arith, omega arith))) told (inr y.walks) (omega arith)
 
--- each call leads on
-leads : (m : ReplaceState) (y : ReplacePoint) (r0 rs r : Memo) (tr t : Trail) (es ds : List Event) (a : ReplaceAnswer) → ReplaceKnows (record m { point = y }) y r0 rs tr es → (replace_plan.part (record m { point = y })).leaves (replace_call_at m y) rs r t ds a → IsHeld m.me r → recovers r ≡ recovers rs
-    → Follows replace_parts replace_plan (record m { point = y }) a r0 r (tr ++ t) (es ++ ds)
-leads m Look r0 rs r tr t es ds (First n) h g held agent = looked m r0 rs r tr t es ds held agent n h g
-leads m Change r0 rs r tr t es ds (Second (First a)) h g held agent = changed m r0 rs r tr t es ds held agent a h g
-leads m Tear r0 rs r tr t es ds (Second (Second a)) h g held agent = torn m r0 rs r tr t es ds held agent a h g
-leads m Look r0 rs r tr t es ds (Second a) h g held agent = absurd g
-leads m Change r0 rs r tr t es ds (First n) h g held agent = absurd g
-leads m Change r0 rs r tr t es ds (Second (Second a)) h g held agent = absurd g
-leads m Tear r0 rs r tr t es ds (First n) h g held agent = absurd g
-leads m Tear r0 rs r tr t es ds (Second (First a)) h g held agent = absurd g
+-- ---- the plan
 
 pub replace_laws : PlanLaws replace_parts replace_plan
 replace_laws =
@@ -350,3 +280,56 @@ replace_laws =
       opens = λ m. opens m m.point;
       leads = λ m r0 rs r tr t es ds a h g held same. leads m m.point r0 rs r tr t es ds a h g held same;
     }
+  where
+    stays : (m : ReplaceState) (y : ReplacePoint) (a : ReplaceAnswer) → PlanStays replace_parts replace_plan (record m { point = y }) a
+    stays m y (First n) = record { same_me = refl; same_line = refl; same_start = refl; started = λ e. refl }
+    stays m y (Second (First (Ok true))) = record { same_me = refl; same_line = refl; same_start = refl; started = λ e. refl }
+    stays m y (Second (First (Ok false))) = record { same_me = refl; same_line = refl; same_start = refl; started = λ e. absurd (cc) }
+    stays m y (Second (First (Err f))) = record { same_me = refl; same_line = refl; same_start = refl; started = λ e. absurd (cc) }
+    stays m y (Second (Second a)) = record { same_me = refl; same_line = refl; same_start = refl; started = λ e. absurd (cc) }
+
+    calls : (m : ReplaceState) (y : ReplacePoint) → IsCall replace_parts replace_plan (record m { point = y })
+    calls m Look = record { me = refl; asks = refl }
+    calls m Change = record { me = refl; asks = refl }
+    calls m Tear = record { me = refl; asks = refl }
+
+    opens : (m : ReplaceState) (y : ReplacePoint) (r0 r : Memo) (tr : Trail) (es : List Event) → ReplaceKnows (record m { point = y }) y r0 r tr es → (replace_plan.part (record m { point = y })).needs (replace_call_at m y) r
+    opens m Look r0 r tr es (begun, same, none, quiet) =
+        let may : MayReplace m.me begun.0 m.to begun.1 m.entry begun.2 begun.3 r = subst (MayReplace m.me begun.0 m.to begun.1 m.entry begun.2 begun.3) (sym same) begun.4 in
+        let room = may.room in
+        entry_loads m.me r may.who may.idle.op m.entry true 1 (omega arith) (omega arith, omega arith) (entry_latched m.me.who m.me.who r m.entry 1 may.found.4.latch may.here (omega arith))
+    opens m Change r0 r tr es (seen, none, bound) = (refl, seen.step)
+    opens m Tear r0 r tr es h =
+        let seen = h.seen in
+        let may = seen.begun.4 in
+        let keeps = keeps_reads m.me.who r0 h.memo may.idle seen.reads in
+        record {
+          made = refl;
+          can = record {
+            geometry = may.geometry;
+            who = may.who;
+            here = here_same h.memo r (ap (λ (x : Memo). x.status) h.lost.took.rest) (idle_here m.me.who h.memo keeps.idle);
+            idle = h.lost.took.op;
+            inside = seen.inside;
+            room = seen.room;
+            dying = dies m.me (Body m.entry 1) false m.before m.to h.memo r r may.who h.holds h.lost;
+          };
+        }
+
+    -- each call leads on
+    leads : (m : ReplaceState) (y : ReplacePoint) (r0 rs r : Memo) (tr t : Trail) (es ds : List Event) (a : ReplaceAnswer) → ReplaceKnows (record m { point = y }) y r0 rs tr es → (replace_plan.part (record m { point = y })).leaves (replace_call_at m y) rs r t ds a → IsHeld m.me r → recovers r ≡ recovers rs
+        → Follows replace_parts replace_plan (record m { point = y }) a r0 r (tr ++ t) (es ++ ds)
+    leads m Look r0 rs r tr t es ds (First n) h g held agent =
+        by_target n m.to (Result (Unit {0}) PutFault) (Ok tt) (λ z. ReplaceKnows (record m { before = z; point = Change }) Change r0 r (tr ++ t) (es ++ ds)) (ReplaceLeaves (replacing m.me m.entry m.to) r0 r (tr ++ t) (es ++ ds))
+        (look_small m.me m.entry m.to m.before r0 rs r tr t es ds held agent n h g)
+        (look_other m.me m.entry m.to m.before r0 rs r tr t es ds held agent n h g)
+        (look_same m.me m.entry m.to m.before r0 rs r tr t es ds held agent n h g)
+    leads m Change r0 rs r tr t es ds (Second (First (Ok true))) (seen, quiet, bound) g held agent = fell m.me m.entry m.to m.before r0 rs r tr t es ds held agent seen quiet bound g.did.0 g.did.1 g.bound
+    leads m Change r0 rs r tr t es ds (Second (First (Ok false))) (seen, quiet, bound) g held agent = lowered m.me m.entry m.to m.before r0 rs r tr t es ds held agent seen quiet bound g.did.0 g.did.1 g.bound
+    leads m Change r0 rs r tr t es ds (Second (First (Err f))) (seen, quiet, bound) g held agent = refused m.me m.entry m.to m.before r0 rs r tr t es ds held agent seen quiet bound f g.did g.bound
+    leads m Tear r0 rs r tr t es ds (Second (Second a)) h g held agent = torn m.me m.entry m.to m.before r0 rs r tr t es ds held agent a h g
+    leads m Look r0 rs r tr t es ds (Second a) h g held agent = absurd g
+    leads m Change r0 rs r tr t es ds (First n) h g held agent = absurd g
+    leads m Change r0 rs r tr t es ds (Second (Second a)) h g held agent = absurd g
+    leads m Tear r0 rs r tr t es ds (First n) h g held agent = absurd g
+    leads m Tear r0 rs r tr t es ds (Second (First a)) h g held agent = absurd g

@@ -12,9 +12,12 @@ use Rattle.shm_graph.specs.Bounds.{change_steps, tear_steps}
 use Rattle.shm_graph.specs.Events.{Event}
 use Rattle.shm_graph.specs.Events as event
 use Rattle.shm_graph.specs.Idle.{IsIdle}
+use Rattle.shm_graph.specs.Laws.{Control}
 use Rattle.shm_graph.specs.Telling.{Entry as AnEntry}
 use Rattle.shm_graph.specs.Views.{own_word}
+use Rattle.shm_calls.specs.declared.calls.Calls.{Calls}
 use Rattle.shm_calls.specs.declared.word.Word.{Word}
+use Rattle.shm_calls.specs.CallsControl.{calls_control}
 use Rattle.shm_calls.specs.Either.{or_part}
 use Rattle.shm_calls.specs.Parts.{IsHeld, Part}
 use Rattle.shm_calls.specs.Plans.{Planned}
@@ -41,7 +44,7 @@ use Rattle.shm_table.specs.EntryReads.{EntryReads}
 use Rattle.shm_table.specs.FindControl.{word_ask}
 use Rattle.shm_table.specs.ReplaceFits.{IsTorn}
 use Rattle.shm_table.specs.Staying.{Cleared, Ended, IsSpent, Keeps, MapCut, SameMap}
-use Rattle.shm_table.specs.UnlinkControl.{UnlinkAnswer, UnlinkCall, is_look, unlink_after, unlink_call_at, unlink_turns, unlinking}
+use Rattle.shm_table.specs.UnlinkControl.{UnlinkAnswer, UnlinkCall, is_look, unlink_after, unlink_call_at, unlink_parts, unlink_turns, unlinking}
 use Rattle.shm_table.specs.ValueReads.{ReadsMore}
 
 -- ---- when it may begin
@@ -160,3 +163,10 @@ unlink_plan =
       knows = λ m. UnlinkKnows m m.point;
       leaves = UnlinkLeaves;
     }
+
+-- it as a call of larger machines, and its control
+abbrev pub UnlinkCalls : Type 0
+UnlinkCalls = Calls UnlinkState UnlinkCall (Result (Unit {0}) UpFault) UnlinkAnswer
+
+abbrev pub unlink_control : Control UnlinkCalls (Result (Unit {0}) UpFault)
+unlink_control = calls_control unlink_parts unlink_plan

@@ -12,10 +12,9 @@ use Rattle.shm_graph.specs.declared.spot.Spot.{Spot}
 use Rattle.shm_graph.specs.declared.spot.Spot.TheVariants.{Body, Era, Home, Root}
 use Rattle.shm_graph.specs.Agents.{recovers}
 use Rattle.shm_graph.specs.Asks.{Trail, IsWithin}
-use Rattle.shm_graph.specs.Bounds.{change_steps, tear_steps}
+use Rattle.shm_graph.specs.Bounds.{change_steps, down_steps, tear_steps}
 use Rattle.shm_graph.specs.Events.{Event}
 use Rattle.shm_graph.specs.Events as event
-use Rattle.shm_graph.specs.Laws.{Outcome}
 use Rattle.shm_graph.specs.Telling.{Entry as AnEntry}
 use Rattle.shm_graph.specs.Views.{own_word}
 use Rattle.shm_calls.specs.declared.or.Or.TheVariants.{First, Second}
@@ -35,10 +34,10 @@ use Rattle.shm_count.specs.declared.point.Aim.TheVariants as aims
 use Rattle.shm_count.specs.CountParts.{tear_part, tear_part_laws}
 use Rattle.shm_count.specs.Lowering.{dies, torn_leaves}
 use Rattle.shm_count.specs.Roots.{root_word}
-use Rattle.shm_count.specs.SlotLeaves.{Lost, StepCause, StepLeft, Took, Untouched}
+use Rattle.shm_count.specs.SlotLeaves.{Lost, StepCause, Took, Untouched}
 use Rattle.shm_count.specs.SlotParts.{change_slot_laws, change_slot_part, down_slot_laws, down_slot_part}
 use Rattle.shm_count.specs.StepControl.{IsInside, last_era, step_control}
-use Rattle.shm_count.specs.StepMachines.{down_control, down_told}
+use Rattle.shm_count.specs.StepMachines.{down_control}
 use Rattle.shm_count.specs.TearControl.{tear_control}
 use Rattle.shm_count.specs.TearEvents.{Visit, frees}
 use Rattle.shm_count.specs.TearFits.{TearLeaves}
@@ -54,61 +53,9 @@ use Rattle.shm_table.specs.ReplaceFits.{IsTorn}
 use Rattle.shm_table.specs.Staying.{Ended, Keeps}
 use Rattle.shm_table.specs.StayingLaws.{keeps_more, keeps_untouched}
 use Rattle.shm_table.specs.StayingSteps.{keeps_took}
-use Rattle.shm_table.specs.UnlinkControl.{UnlinkAnswer, is_look, lowered_after, lowered_turns, step_point, unlink_call_at, unlink_parts, unlinking}
-use Rattle.shm_table.specs.UnlinkFits.{IsFallen, IsSeen, MayBegin, MayUnlink, Unlinked, UnlinkCause, UnlinkKnows, UnlinkLeaves, link_events, look_part, unlink_plan}
+use Rattle.shm_table.specs.UnlinkControl.{UnlinkAnswer, is_look, step_point, unlink_call_at, unlink_parts, unlinking}
+use Rattle.shm_table.specs.UnlinkFits.{IsFallen, IsSeen, MayBegin, MayUnlink, NotUnlinked, Unlinked, UnlinkCause, UnlinkKnows, link_events, look_part, unlink_plan}
 use Rattle.shm_table.specs.ValueReads.{ReadsMore, idle_here, keeps_reads, reads_more_by}
-
--- ---- the plan
-
--- where it goes after the load isn't back to it
-not_look : (n : ℕ) → is_look (step_point n) ≡ false
-not_look n = choose (n == 0)
-  where
-    choose : (z : Bool) → is_look (if z then Lower else Change) ≡ false
-    choose true = refl
-    choose false = refl
-
-stays : (m : UnlinkState) (y : UnlinkPoint) (a : UnlinkAnswer) → PlanStays unlink_parts unlink_plan (record m { point = y }) a
-stays m y (First n) = record { same_me = refl; same_line = refl; same_start = refl; started = λ e. not_look (n % 2 ^ 20) }
-stays m y (Second (First (Ok true))) = record { same_me = refl; same_line = refl; same_start = refl; started = λ e. refl }
-stays m y (Second (First (Ok false))) = record { same_me = refl; same_line = refl; same_start = refl; started = λ e. absurd (cc) }
-stays m y (Second (First (Err s))) = record { same_me = refl; same_line = refl; same_start = refl; started = λ e. absurd (cc) }
-stays m y (Second (Second (First (Ok true)))) = record { same_me = refl; same_line = refl; same_start = refl; started = λ e. refl }
-stays m y (Second (Second (First (Ok false)))) = record { same_me = refl; same_line = refl; same_start = refl; started = λ e. absurd (cc) }
-stays m y (Second (Second (First (Err f)))) = record { same_me = refl; same_line = refl; same_start = refl; started = λ e. absurd (cc) }
-stays m y (Second (Second (Second a))) = record { same_me = refl; same_line = refl; same_start = refl; started = λ e. absurd (cc) }
-
-calls : (m : UnlinkState) (y : UnlinkPoint) → IsCall unlink_parts unlink_plan (record m { point = y })
-calls m Look = record { me = refl; asks = refl }
-calls m Lower = record { me = refl; asks = refl }
-calls m Change = record { me = refl; asks = refl }
-calls m Tear = record { me = refl; asks = refl }
-
--- ---- before each call
-
-opens : (m : UnlinkState) (y : UnlinkPoint) (r0 r : Memo) (tr : Trail) (es : List Event) → UnlinkKnows (record m { point = y }) y r0 r tr es → (unlink_plan.part (record m { point = y })).needs (unlink_call_at m y) r
-opens m Look r0 r tr es (begun, same, none, quiet) =
-    let may : MayUnlink m.me begun.0 m.entry m.before m.word r = subst (MayUnlink m.me begun.0 m.entry m.before m.word) (sym same) begun.1 in
-    let room = may.room in
-    entry_loads m.me r may.who may.idle.op m.entry true 0 (omega arith) (omega arith, omega arith) (entry_latched m.me.who m.me.who r m.entry 0 may.found.4.latch may.here (omega arith))
-opens m Lower r0 r tr es (last, seen, none, bound) = (refl, seen.last last)
-opens m Change r0 r tr es (more, seen, none, bound) = (refl, seen.goes more)
-opens m Tear r0 r tr es h =
-    let seen = h.seen in
-    let may = seen.begun.1 in
-    let keeps = keeps_reads m.me.who r0 h.memo may.idle seen.reads in
-    record {
-      made = refl;
-      can = record {
-        geometry = may.geometry;
-        who = may.who;
-        here = here_same h.memo r (ap (λ (x : Memo). x.status) h.lost.took.rest) (idle_here m.me.who h.memo keeps.idle);
-        idle = h.lost.took.op;
-        inside = seen.inside;
-        room = seen.room;
-        dying = dies m.me (Body m.before m.word) false m.entry m.next h.memo r r may.who h.holds h.lost;
-      };
-    }
 
 -- ---- the next word was read
 
@@ -204,139 +151,132 @@ frees_link c b d i (suc n) es = omega arith
 
 -- ---- what follows each call
 
-module _ (m : UnlinkState) (r0 rs r : Memo) (tr t : Trail) (es ds : List Event) (held : IsHeld m.me r) (agent : recovers r ≡ recovers rs) where
-  abbrev c : ℕ
-  c = m.me.who
+-- by whether the block that was read is none
+by_next : (n : ℕ) (K : ℕ → UnlinkPoint → Type 0) → n < 2 ^ 20 → (n ≡ 0 → K n Lower) → (n ≢ 0 → K n Change) → K (n % 2 ^ 20) (if n % 2 ^ 20 == 0 then Lower else Change)
+by_next n K low none some =
+    let small : n % 2 ^ 20 ≡ n = omega arith in
+    subst (λ z. K z (if z == 0 then Lower else Change)) (sym small)
+    (elim (cases_eq n 0) [
+      | inl e ↦ subst (λ z. K n (if z then Lower else Change)) (sym (eq-eqb n 0 e)) (none e)
+      | inr o ↦ subst (λ z. K n (if z then Lower else Change)) (sym (ne_eqb n 0 o)) (some o)
+    ])
 
-  abbrev p : Spot
-  p = Body m.before m.word
+module _ (me : Me) (b d i next : ℕ) (r0 rs r : Memo) (tr t : Trail) (es ds : List Event) (held : IsHeld me r) (agent : recovers r ≡ recovers rs) where
+  -- ---- the load
 
-  -- the plan at a point
-  abbrev At : UnlinkPoint → UnlinkState
-  At y = record m { point = y }
+  module _ (n : ℕ) (h : MayBegin me b d i r0 × (rs ≡ r0) × (tr ≡ []) × (es ≡ [])) (w : WordLeaves (EntryReads me b 0) (record { me = me; ask = word_ask b 0; over = false }) rs r t ds n) where
+    found : EntryReads me b 0 r0 n r
+    found = subst (λ (x : Memo). EntryReads me b 0 x n r) h.1 w.found
 
-  abbrev Seen : Memo → Type 0
-  Seen = IsSeen m.me m.entry m.before m.word m.next r0
+    client : recovers r ≡ false
+    client = agent ∙ (ap recovers h.1 ∙ h.0.1.client)
 
-  -- what is known before the next call, or what is left
-  abbrev Leads : UnlinkPoint → UnlinkAnswer → Type 0
-  Leads y a = Follows unlink_parts unlink_plan (At y) a r0 r (tr ++ t) (es ++ ds)
+    look_small : n < 2 ^ 20
+    look_small = next_small me b d i n r0 r h.0 found held client
 
-  abbrev Left : Result (Unit {0}) UpFault → Type 0
-  Left = UnlinkLeaves (unlinking m.me m.entry m.before m.word) r0 r (tr ++ t) (es ++ ds)
+    look_seen : IsSeen me b d i n r0 r × (es ++ ds ≡ []) × IsWithin 1 (tr ++ t)
+    look_seen = (seen_of me b d i n r0 r h.0 found held client, ap (λ (x : List Event). x ++ ds) h.3 ∙ w.none, (let e = ap length (ap (λ (x : Trail). x ++ t) h.2) in let o = w.one in omega arith))
 
-  silent : es ≡ [] → ds ≡ [] → es ++ ds ≡ []
-  silent e d = ap (λ (x : List Event). x ++ ds) e ∙ d
+  -- ---- the step
 
-  looked : (n : ℕ) → UnlinkKnows (At Look) Look r0 rs tr es → WordLeaves (EntryReads m.me m.entry 0) (record { me = m.me; ask = word_ask m.entry 0; over = false }) rs r t ds n → Leads Look (First n)
-  looked n (begun, same, none, quiet) w =
-      let found : EntryReads m.me m.entry 0 r0 n r = subst (λ (x : Memo). EntryReads m.me m.entry 0 x n r) same w.found in
-      let client : recovers r ≡ false = agent ∙ (ap recovers same ∙ begun.1.client) in
-      let bound : IsWithin 1 (tr ++ t) = (let e = ap length (ap (λ (x : Trail). x ++ t) none) in let o = w.one in omega arith) in
-      let low = next_small m.me m.entry m.before m.word n r0 r begun found held client in
-      let small : n % 2 ^ 20 ≡ n = omega arith in
-      let seen = seen_of m.me m.entry m.before m.word n r0 r begun found held client in
-      let next : ℕ → UnlinkPoint → Type 0 = λ z y. UnlinkKnows (record m { next = z; point = y }) y r0 r (tr ++ t) (es ++ ds) in
-      subst (λ z. next z (step_point z)) (sym small)
-      (elim (cases_eq n 0) [
-        | inl e ↦ subst (λ z. next n (if z then Lower else Change)) (sym (eq-eqb n 0 e)) (e, seen, silent quiet w.none, bound)
-        | inr more ↦ subst (λ z. next n (if z then Lower else Change)) (sym (ne_eqb n 0 more)) (more, seen, silent quiet w.none, bound)
-      ])
+  module _ (seen : IsSeen me b d i next r0 rs) (quiet : es ≡ []) (bound : IsWithin 1 tr) where
+    so_far : ReadsMore r0 rs
+    so_far = seen.reads
 
-  -- the step was refused
-  module _ (seen : Seen rs) (quiet : es ≡ []) (bound : IsWithin 1 tr) where
-    refused : (x : Aim) → 2 ^ 47 < last_era x + 5 → (f : UpFault) → Untouched c rs r × StepCause m.me x rs f × (ds ≡ []) → IsWithin change_steps t → Left (Err f)
+    none_yet : (xs : List Event) → ds ≡ xs → es ++ ds ≡ xs
+    none_yet xs e = ap (λ (x : List Event). x ++ ds) quiet ∙ e
+
+    -- it was refused
+    refused : (x : Aim) → 2 ^ 47 < last_era x + 5 → (f : UpFault) → Untouched me.who rs r × StepCause me x rs f × (ds ≡ []) → IsWithin change_steps t → NotUnlinked me r0 r (tr ++ t) (es ++ ds) f
     refused x last f (same, cause, none) short =
-        let reads : ReadsMore r0 rs = seen.reads in
-        let before : Keeps c r0 rs = keeps_reads c r0 rs seen.begun.1.idle reads in
+        let c = me.who in
+        let before : Keeps c r0 rs = keeps_reads c r0 rs seen.begun.1.idle so_far in
         record {
           keeps = keeps_more c r0 rs r before (keeps_untouched c rs r before.idle same);
-          latch = ap (λ (y : Memo). y.latch) same.rest ∙ ap (λ (y : Memo). y.latch) reads.memo;
-          home = same.own (Home c) refl ∙ ap (λ (y : Memo). own_word y.own (Home c)) reads.memo;
-          cleared = record { roots = λ j. same.own (Root c j) refl ∙ ap (λ (y : Memo). root_word c y j) reads.memo; dying = ap (λ (y : Memo). y.dying) same.rest ∙ ap (λ (y : Memo). y.dying) reads.memo };
-          map = λ k. ap (λ (y : Memo). map_in y.part k) same.rest ∙ ap (λ (y : Memo). map_in y.part k) reads.memo;
+          latch = ap (λ (y : Memo). y.latch) same.rest ∙ ap (λ (y : Memo). y.latch) so_far.memo;
+          home = same.own (Home c) refl ∙ ap (λ (y : Memo). own_word y.own (Home c)) so_far.memo;
+          cleared = record { roots = λ j. same.own (Root c j) refl ∙ ap (λ (y : Memo). root_word c y j) so_far.memo; dying = ap (λ (y : Memo). y.dying) same.rest ∙ ap (λ (y : Memo). y.dying) so_far.memo };
+          map = λ k. ap (λ (y : Memo). map_in y.part k) same.rest ∙ ap (λ (y : Memo). map_in y.part k) so_far.memo;
           cause = by f cause;
-          none = silent quiet none;
+          none = none_yet [] none;
           bound = within_more 1 change_steps tr t bound short;
         }
       where
-        by : (f : UpFault) → StepCause m.me x rs f → UnlinkCause m.me r f
-        by (EraSpent e) (is, late) = (let l = last in omega arith, let u = same.rows c in omega arith)
-        by (CountFull d n) (full, is, up) = full
+        by : (f : UpFault) → StepCause me x rs f → UnlinkCause me r f
+        by (EraSpent e) (is, late) = (let l = last in omega arith, let u = same.rows me.who in omega arith)
+        by (CountFull k n) (full, is, up) = full
 
-    -- the entry lost the reference
-    taken : (y : UnlinkPoint) (z : Bool) → Lost c p false m.entry m.next z rs r → ds ≡ link_events c m.entry m.before m.word m.next [] → IsWithin change_steps t
-        → Outcome (lowered_turns z) (UnlinkKnows (lowered_after (At y) z) (lowered_after (At y) z).point r0 r (tr ++ t) (es ++ ds)) Left
-    taken y true lost told short = record { memo = rs; seen = seen; lost = lost; holds = held; told = ap (λ (x : List Event). x ++ ds) quiet ∙ told; bound = within_more 1 change_steps tr t bound short }
-    taken y false lost told short =
+    -- the count of the entry came to 0, or it didn't
+    fell : Lost me.who (Body d i) false b next true rs r → ds ≡ link_events me.who b d i next [] → IsWithin change_steps t → IsFallen me b d i next r0 r (tr ++ t) (es ++ ds)
+    fell lost told short = record { memo = rs; seen = seen; lost = lost; holds = held; told = none_yet (link_events me.who b d i next []) told; bound = within_more 1 change_steps tr t bound short }
+
+    lowered : Lost me.who (Body d i) false b next false rs r → ds ≡ link_events me.who b d i next [] → IsWithin change_steps t → Unlinked me b d i r0 r (tr ++ t) (es ++ ds)
+    lowered lost told short =
         let within = within_more 1 change_steps tr t bound short in
-        let reads : ReadsMore r0 rs = seen.reads in
-        unlinked m.me m.entry m.before m.word m.next r0 rs r seen lost.took (tr ++ t) (es ++ ds) [] [] (All-nil (λ (x : Visit). Contains r.dying x.block))
-        (inl (record { roots = roots_same m.me m.entry m.before m.word m.next r0 rs r seen lost.took; dying = lost.dying ∙ (append-nil rs.dying ∙ ap (λ (x : Memo). x.dying) reads.memo) }))
-        (ap (λ (x : List Event). x ++ ds) quiet ∙ told) (inl (refl, refl)) (omega arith)
+        unlinked me b d i next r0 rs r seen lost.took (tr ++ t) (es ++ ds) [] [] (All-nil (λ (x : Visit). Contains r.dying x.block))
+        (inl (record { roots = roots_same me b d i next r0 rs r seen lost.took; dying = lost.dying ∙ (append-nil rs.dying ∙ ap (λ (x : Memo). x.dying) so_far.memo) }))
+        (none_yet (link_events me.who b d i next []) told) (inl (refl, refl)) (omega arith)
 
-  lowered : (a : Result Bool ASpent) → UnlinkKnows (At Lower) Lower r0 rs tr es → StepLeft m.me (aims.Down m.entry) p false rs r t ds (down_told a) → Leads Lower (Second (First a))
-  lowered (Ok z) (last, seen, quiet, bound) s =
-      let short = s.bound in
-      taken seen quiet bound Lower z (subst (λ x. Lost c p false m.entry x z rs r) (sym last) s.did.0) (s.did.1 ∙ sym (events_last c m.entry m.before m.word m.next [] last)) (omega arith)
-  lowered (Err e) (last, seen, quiet, bound) s = let short = s.bound in refused seen quiet bound (aims.Down m.entry) (omega arith) (EraSpent e.era) s.did (omega arith)
+    -- where it is the last one
+    module _ (last : next ≡ 0) where
+      no_next : (z : Bool) → Lost me.who (Body d i) false b 0 z rs r → Lost me.who (Body d i) false b next z rs r
+      no_next z lost = subst (λ x. Lost me.who (Body d i) false b x z rs r) (sym last) lost
 
-  changed : (a : Result Bool UpFault) → UnlinkKnows (At Change) Change r0 rs tr es → StepLeft m.me (aims.Change m.entry m.next) p false rs r t ds a → Leads Change (Second (Second (First a)))
-  changed (Ok z) (more, seen, quiet, bound) s = taken seen quiet bound Change z s.did.0 (s.did.1 ∙ sym (events_more c m.entry m.before m.word m.next [] more)) s.bound
-  changed (Err f) (more, seen, quiet, bound) s = refused seen quiet bound (aims.Change m.entry m.next) (omega arith) f s.did s.bound
+      last_told : ds ≡ event.Down me.who (Body d i) b ∷ [] → ds ≡ link_events me.who b d i next []
+      last_told told = told ∙ sym (events_last me.who b d i next [] last)
 
-  -- the entry was torn down
-  torn : (a : Result (Unit {0}) ASpent) → UnlinkKnows (At Tear) Tear r0 rs tr es → TearLeaves m.me m.entry rs r ds t a → Leads Tear (Second (Second (Second a)))
+      last_fell : Lost me.who (Body d i) false b 0 true rs r → ds ≡ event.Down me.who (Body d i) b ∷ [] → IsWithin down_steps t → IsFallen me b d i next r0 r (tr ++ t) (es ++ ds)
+      last_fell lost told short = fell (no_next true lost) (last_told told) (omega arith)
+
+      last_lowered : Lost me.who (Body d i) false b 0 false rs r → ds ≡ event.Down me.who (Body d i) b ∷ [] → IsWithin down_steps t → Unlinked me b d i r0 r (tr ++ t) (es ++ ds)
+      last_lowered lost told short = lowered (no_next false lost) (last_told told) (omega arith)
+
+    last_refused : (e : ℕ) → Untouched me.who rs r × StepCause me (aims.Down b) rs (EraSpent e) × (ds ≡ []) → IsWithin down_steps t → NotUnlinked me r0 r (tr ++ t) (es ++ ds) (EraSpent e)
+    last_refused e did short = refused (aims.Down b) (omega arith) (EraSpent e) did (omega arith)
+
+    -- or there is a next one
+    module _ (more : next ≢ 0) where
+      more_told : ds ≡ event.ChangeUp me.who (Body d i) b next ∷ event.ChangeDown me.who b ∷ [] → ds ≡ link_events me.who b d i next []
+      more_told told = told ∙ sym (events_more me.who b d i next [] more)
+
+    more_refused : (f : UpFault) → Untouched me.who rs r × StepCause me (aims.Change b next) rs f × (ds ≡ []) → IsWithin change_steps t → NotUnlinked me r0 r (tr ++ t) (es ++ ds) f
+    more_refused f did short = refused (aims.Change b next) (omega arith) f did short
+
+  -- ---- the tear-down
+
+  torn : (a : Result (Unit {0}) ASpent) → IsFallen me b d i next r0 rs tr es → TearLeaves me b rs r ds t a → Unlinked me b d i r0 r (tr ++ t) (es ++ ds)
   torn a h left = go a left
     where
-      seen : Seen h.memo
+      seen : IsSeen me b d i next r0 h.memo
       seen = h.seen
 
-      reads : ReadsMore r0 h.memo
-      reads = seen.reads
-
-      told : es ++ ds ≡ link_events c m.entry m.before m.word m.next ds
-      told = ap (λ (x : List Event). x ++ ds) h.told ∙ link_more m.next
+      told : es ++ ds ≡ link_events me.who b d i next ds
+      told = ap (λ (x : List Event). x ++ ds) h.told ∙ link_more next
         where
-          link_more : (n : ℕ) → link_events c m.entry m.before m.word n [] ++ ds ≡ link_events c m.entry m.before m.word n ds
+          link_more : (n : ℕ) → link_events me.who b d i n [] ++ ds ≡ link_events me.who b d i n ds
           link_more zero = refl
           link_more (suc n) = refl
 
       same_frees : frees (es ++ ds) ≡ frees ds
-      same_frees = ap frees told ∙ frees_link c m.entry m.before m.word m.next ds
+      same_frees = ap frees told ∙ frees_link me.who b d i next ds
 
-      go : (a : Result (Unit {0}) ASpent) → TearLeaves m.me m.entry rs r ds t a → Leads Tear (Second (Second (Second a)))
+      go : (a : Result (Unit {0}) ASpent) → TearLeaves me b rs r ds t a → Unlinked me b d i r0 r (tr ++ t) (es ++ ds)
       go (Ok done) y =
           let f = same_frees in
           let within = within_more (1 + change_steps) (tear_steps (frees ds)) tr t h.bound y.bound in
-          let lost = torn_leaves m.me p false m.entry m.next h.memo rs r seen.begun.1.who h.holds h.lost seen.counted ds t (Ok done) y in
-          unlinked m.me m.entry m.before m.word m.next r0 h.memo r seen lost.took (tr ++ t) (es ++ ds) ds [] (All-nil (λ (x : Visit). Contains r.dying x.block))
-          (inl (record { roots = roots_same m.me m.entry m.before m.word m.next r0 h.memo r seen lost.took; dying = lost.dying ∙ (append-nil h.memo.dying ∙ ap (λ (x : Memo). x.dying) reads.memo) }))
+          let lost = torn_leaves me (Body d i) false b next h.memo rs r seen.begun.1.who h.holds h.lost seen.counted ds t (Ok done) y in
+          unlinked me b d i next r0 h.memo r seen lost.took (tr ++ t) (es ++ ds) ds [] (All-nil (λ (x : Visit). Contains r.dying x.block))
+          (inl (record { roots = roots_same me b d i next r0 h.memo r seen lost.took; dying = lost.dying ∙ (append-nil h.memo.dying ∙ ap (λ (x : Memo). x.dying) seen.reads.memo) }))
           told (inr y.walks) (omega arith)
       go (Err e) (vs, y) =
           let f = same_frees in
           let within = within_more (1 + change_steps) (tear_steps (frees ds + length vs)) tr t h.bound y.bound in
-          let took = (torn_leaves m.me p false m.entry m.next h.memo rs r seen.begun.1.who h.holds h.lost seen.counted ds t (Err e) (vs, y)).0 in
+          let took = (torn_leaves me (Body d i) false b next h.memo rs r seen.begun.1.who h.holds h.lost seen.counted ds t (Err e) (vs, y)).0 in
           let late = y.last in
           let is = y.spent in
-          unlinked m.me m.entry m.before m.word m.next r0 h.memo r seen took (tr ++ t) (es ++ ds) ds vs y.left (inr (e.era, (omega arith, omega arith))) told (inr y.walks) (omega arith)
+          unlinked me b d i next r0 h.memo r seen took (tr ++ t) (es ++ ds) ds vs y.left (inr (e.era, (omega arith, omega arith))) told (inr y.walks) (omega arith)
 
--- each call leads on
-leads : (m : UnlinkState) (y : UnlinkPoint) (r0 rs r : Memo) (tr t : Trail) (es ds : List Event) (a : UnlinkAnswer) → UnlinkKnows (record m { point = y }) y r0 rs tr es → (unlink_plan.part (record m { point = y })).leaves (unlink_call_at m y) rs r t ds a → IsHeld m.me r → recovers r ≡ recovers rs
-    → Follows unlink_parts unlink_plan (record m { point = y }) a r0 r (tr ++ t) (es ++ ds)
-leads m Look r0 rs r tr t es ds (First n) h g held agent = looked m r0 rs r tr t es ds held agent n h g
-leads m Lower r0 rs r tr t es ds (Second (First a)) h g held agent = lowered m r0 rs r tr t es ds held agent a h g
-leads m Change r0 rs r tr t es ds (Second (Second (First a))) h g held agent = changed m r0 rs r tr t es ds held agent a h g
-leads m Tear r0 rs r tr t es ds (Second (Second (Second a))) h g held agent = torn m r0 rs r tr t es ds held agent a h g
-leads m Look r0 rs r tr t es ds (Second a) h g held agent = absurd g
-leads m Lower r0 rs r tr t es ds (First n) h g held agent = absurd g
-leads m Lower r0 rs r tr t es ds (Second (Second a)) h g held agent = absurd g
-leads m Change r0 rs r tr t es ds (First n) h g held agent = absurd g
-leads m Change r0 rs r tr t es ds (Second (First a)) h g held agent = absurd g
-leads m Change r0 rs r tr t es ds (Second (Second (Second a))) h g held agent = absurd g
-leads m Tear r0 rs r tr t es ds (First n) h g held agent = absurd g
-leads m Tear r0 rs r tr t es ds (Second (First a)) h g held agent = absurd g
-leads m Tear r0 rs r tr t es ds (Second (Second (First a))) h g held agent = absurd g
+-- ---- the plan
 
 pub unlink_laws : PlanLaws unlink_parts unlink_plan
 unlink_laws =
@@ -351,3 +291,76 @@ unlink_laws =
       opens = λ m. opens m m.point;
       leads = λ m r0 rs r tr t es ds a h g held same. leads m m.point r0 rs r tr t es ds a h g held same;
     }
+  where
+    -- where it goes after the load isn't back to it
+    not_look : (n : ℕ) → is_look (step_point n) ≡ false
+    not_look n = choose (n == 0)
+      where
+        choose : (z : Bool) → is_look (if z then Lower else Change) ≡ false
+        choose true = refl
+        choose false = refl
+
+    stays : (m : UnlinkState) (y : UnlinkPoint) (a : UnlinkAnswer) → PlanStays unlink_parts unlink_plan (record m { point = y }) a
+    stays m y (First n) = record { same_me = refl; same_line = refl; same_start = refl; started = λ e. not_look (n % 2 ^ 20) }
+    stays m y (Second (First (Ok true))) = record { same_me = refl; same_line = refl; same_start = refl; started = λ e. refl }
+    stays m y (Second (First (Ok false))) = record { same_me = refl; same_line = refl; same_start = refl; started = λ e. absurd (cc) }
+    stays m y (Second (First (Err s))) = record { same_me = refl; same_line = refl; same_start = refl; started = λ e. absurd (cc) }
+    stays m y (Second (Second (First (Ok true)))) = record { same_me = refl; same_line = refl; same_start = refl; started = λ e. refl }
+    stays m y (Second (Second (First (Ok false)))) = record { same_me = refl; same_line = refl; same_start = refl; started = λ e. absurd (cc) }
+    stays m y (Second (Second (First (Err f)))) = record { same_me = refl; same_line = refl; same_start = refl; started = λ e. absurd (cc) }
+    stays m y (Second (Second (Second a))) = record { same_me = refl; same_line = refl; same_start = refl; started = λ e. absurd (cc) }
+
+    calls : (m : UnlinkState) (y : UnlinkPoint) → IsCall unlink_parts unlink_plan (record m { point = y })
+    calls m Look = record { me = refl; asks = refl }
+    calls m Lower = record { me = refl; asks = refl }
+    calls m Change = record { me = refl; asks = refl }
+    calls m Tear = record { me = refl; asks = refl }
+
+    opens : (m : UnlinkState) (y : UnlinkPoint) (r0 r : Memo) (tr : Trail) (es : List Event) → UnlinkKnows (record m { point = y }) y r0 r tr es → (unlink_plan.part (record m { point = y })).needs (unlink_call_at m y) r
+    opens m Look r0 r tr es (begun, same, none, quiet) =
+        let may : MayUnlink m.me begun.0 m.entry m.before m.word r = subst (MayUnlink m.me begun.0 m.entry m.before m.word) (sym same) begun.1 in
+        let room = may.room in
+        entry_loads m.me r may.who may.idle.op m.entry true 0 (omega arith) (omega arith, omega arith) (entry_latched m.me.who m.me.who r m.entry 0 may.found.4.latch may.here (omega arith))
+    opens m Lower r0 r tr es (last, seen, none, bound) = (refl, seen.last last)
+    opens m Change r0 r tr es (more, seen, none, bound) = (refl, seen.goes more)
+    opens m Tear r0 r tr es h =
+        let seen = h.seen in
+        let may = seen.begun.1 in
+        let keeps = keeps_reads m.me.who r0 h.memo may.idle seen.reads in
+        record {
+          made = refl;
+          can = record {
+            geometry = may.geometry;
+            who = may.who;
+            here = here_same h.memo r (ap (λ (x : Memo). x.status) h.lost.took.rest) (idle_here m.me.who h.memo keeps.idle);
+            idle = h.lost.took.op;
+            inside = seen.inside;
+            room = seen.room;
+            dying = dies m.me (Body m.before m.word) false m.entry m.next h.memo r r may.who h.holds h.lost;
+          };
+        }
+
+    -- each call leads on
+    leads : (m : UnlinkState) (y : UnlinkPoint) (r0 rs r : Memo) (tr t : Trail) (es ds : List Event) (a : UnlinkAnswer) → UnlinkKnows (record m { point = y }) y r0 rs tr es → (unlink_plan.part (record m { point = y })).leaves (unlink_call_at m y) rs r t ds a → IsHeld m.me r → recovers r ≡ recovers rs
+        → Follows unlink_parts unlink_plan (record m { point = y }) a r0 r (tr ++ t) (es ++ ds)
+    leads m Look r0 rs r tr t es ds (First n) h g held agent =
+        let seen = look_seen m.me m.entry m.before m.word m.next r0 rs r tr t es ds held agent n h g in
+        by_next n (λ z y. UnlinkKnows (record m { next = z; point = y }) y r0 r (tr ++ t) (es ++ ds)) (look_small m.me m.entry m.before m.word m.next r0 rs r tr t es ds held agent n h g) (λ e. (e, seen.0, seen.1, seen.2)) (λ o. (o, seen.0, seen.1, seen.2))
+    leads m Lower r0 rs r tr t es ds (Second (First (Ok true))) (last, seen, quiet, bound) g held agent = last_fell m.me m.entry m.before m.word m.next r0 rs r tr t es ds held agent seen quiet bound last g.did.0 g.did.1 g.bound
+    leads m Lower r0 rs r tr t es ds (Second (First (Ok false))) (last, seen, quiet, bound) g held agent = last_lowered m.me m.entry m.before m.word m.next r0 rs r tr t es ds held agent seen quiet bound last g.did.0 g.did.1 g.bound
+    leads m Lower r0 rs r tr t es ds (Second (First (Err e))) (last, seen, quiet, bound) g held agent = last_refused m.me m.entry m.before m.word m.next r0 rs r tr t es ds held agent seen quiet bound e.era g.did g.bound
+    leads m Change r0 rs r tr t es ds (Second (Second (First (Ok true)))) (more, seen, quiet, bound) g held agent =
+        fell m.me m.entry m.before m.word m.next r0 rs r tr t es ds held agent seen quiet bound g.did.0 (more_told m.me m.entry m.before m.word m.next r0 rs r tr t es ds held agent seen quiet bound more g.did.1) g.bound
+    leads m Change r0 rs r tr t es ds (Second (Second (First (Ok false)))) (more, seen, quiet, bound) g held agent =
+        lowered m.me m.entry m.before m.word m.next r0 rs r tr t es ds held agent seen quiet bound g.did.0 (more_told m.me m.entry m.before m.word m.next r0 rs r tr t es ds held agent seen quiet bound more g.did.1) g.bound
+    leads m Change r0 rs r tr t es ds (Second (Second (First (Err f)))) (more, seen, quiet, bound) g held agent = more_refused m.me m.entry m.before m.word m.next r0 rs r tr t es ds held agent seen quiet bound f g.did g.bound
+    leads m Tear r0 rs r tr t es ds (Second (Second (Second a))) h g held agent = torn m.me m.entry m.before m.word m.next r0 rs r tr t es ds held agent a h g
+    leads m Look r0 rs r tr t es ds (Second a) h g held agent = absurd g
+    leads m Lower r0 rs r tr t es ds (First n) h g held agent = absurd g
+    leads m Lower r0 rs r tr t es ds (Second (Second a)) h g held agent = absurd g
+    leads m Change r0 rs r tr t es ds (First n) h g held agent = absurd g
+    leads m Change r0 rs r tr t es ds (Second (First a)) h g held agent = absurd g
+    leads m Change r0 rs r tr t es ds (Second (Second (Second a))) h g held agent = absurd g
+    leads m Tear r0 rs r tr t es ds (First n) h g held agent = absurd g
+    leads m Tear r0 rs r tr t es ds (Second (First a)) h g held agent = absurd g
+    leads m Tear r0 rs r tr t es ds (Second (Second (First a))) h g held agent = absurd g

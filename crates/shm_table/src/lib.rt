@@ -6,6 +6,8 @@
 
 pub mod answer;
 pub mod bound;
+pub mod changes;
+pub mod del;
 pub mod enter;
 pub mod events;
 pub mod find;
@@ -21,6 +23,10 @@ pub mod staying;
 pub mod unlatch;
 pub mod unlink;
 
+#[cfg(test)]
+mod del_edge_tests;
+#[cfg(test)]
+mod del_tests;
 #[cfg(test)]
 mod enter_spent_tests;
 #[cfg(test)]
@@ -38,7 +44,11 @@ mod stepping;
 #[cfg(test)]
 mod tests;
 #[cfg(test)]
+mod unlink_refusal_tests;
+#[cfg(test)]
 mod unlink_tests;
 
+pub use changes::{del_begins, del_bound, del_events, del_leaves};
+pub use del::{Del, DelAnswer, Deleting};
 pub use get::{Get, Getting, Valued};
 pub use reading::{get_begins, get_bound, get_events, get_leaves, get_tells};

@@ -4,7 +4,13 @@
     unlatch_bound, unlatch_events, unlatch_leaves,
 };
 
+    replace_begins, replace_bound, replace_events, replace_leaves, unlink_begins, unlink_bound,
+    unlink_events, unlink_leaves,
+};
+
 pub use crate::bound::find_bound;
+pub use crate::changes::{
+pub use crate::del::{DelPoint, DelState};
 pub use crate::enter::{Enter, EnterPoint, EnterState, Entered, Entering};
 pub use crate::events::{find_begins, find_events, find_leaves, find_tells, read_tells};
 pub use crate::find::{Find, FindPoint, FindState, Finding, Found};

@@ -43,11 +43,17 @@ fn an_entry_has_another_value(rt: HostRuntime) -> Result<(), Fail> {
         (load(6), 11),
         (store(2, 8_070_790_281_393_340_470), 0),
         (load(54), 9_223_512_774_343_131_146),
-        (exchange(54, 9_223_512_774_343_131_146, 9_223_653_511_831_486_475), 9_223_512_774_343_131_146),
+        (
+            exchange(54, 9_223_512_774_343_131_146, 9_223_653_511_831_486_475),
+            9_223_512_774_343_131_146,
+        ),
         (store(309, 54), 0),
         (store(6, 12), 0),
         (load(50), 9_223_512_774_343_131_145),
-        (exchange(50, 9_223_512_774_343_131_145, 9_223_372_036_854_775_820), 9_223_512_774_343_131_145),
+        (
+            exchange(50, 9_223_512_774_343_131_145, 9_223_372_036_854_775_820),
+            9_223_512_774_343_131_145,
+        ),
         (store(6, 13), 0),
         (load(51), 67_108_864),
         (store(50, 0), 0),
@@ -95,13 +101,14 @@ fn an_entry_has_that_value(rt: HostRuntime) -> Result<(), Fail> {
         (309, 50),
         (310, 5),
     ];
-    let steps = [
-        (load(309), 50),
-    ];
+    let steps = [(load(309), 50)];
     let mut words = words_of(rt.alloc(), 2098, &before)?;
     let mut machine: Replace = Calls::new(Replacing::new(me, 306, 50));
     assert_eq!(rt; follow(&mut machine, &mut words, &steps), Some(Ok(())));
-    assert_eq!(rt; words.as_slice(), words_of(rt.alloc(), 2098, &before)?.as_slice());
+    assert_eq!(rt;
+        words.as_slice(),
+        words_of(rt.alloc(), 2098, &before)?.as_slice()
+    );
     Ok(())
 }
 
@@ -155,13 +162,19 @@ fn a_value_that_another_names_stays(rt: HostRuntime) -> Result<(), Fail> {
         (load(11), 11),
         (store(3, 8_070_868_346_793_361_533), 0),
         (load(125), 9_223_512_774_343_131_146),
-        (exchange(125, 9_223_512_774_343_131_146, 9_223_653_511_831_486_475), 9_223_512_774_343_131_146),
+        (
+            exchange(125, 9_223_512_774_343_131_146, 9_223_653_511_831_486_475),
+            9_223_512_774_343_131_146,
+        ),
         (store(380, 125), 0),
         (store(11, 12), 0),
         (load(121), 9_367_768_699_907_342_345),
         (load(12), 0),
         (store(12, 9), 0),
-        (exchange(121, 9_367_768_699_907_342_345, 9_223_512_774_343_131_148), 9_367_768_699_907_342_345),
+        (
+            exchange(121, 9_367_768_699_907_342_345, 9_223_512_774_343_131_148),
+            9_367_768_699_907_342_345,
+        ),
         (store(11, 13), 0),
     ];
     let changes = [
@@ -211,14 +224,19 @@ fn no_era_is_left_for_a_change(rt: HostRuntime) -> Result<(), Fail> {
         (309, 50),
         (310, 5),
     ];
-    let steps = [
-        (load(309), 50),
-        (load(6), 140_737_488_355_325),
-    ];
+    let steps = [(load(309), 50), (load(6), 140_737_488_355_325)];
     let mut words = words_of(rt.alloc(), 2098, &before)?;
     let mut machine: Replace = Calls::new(Replacing::new(me, 306, 54));
-    assert_eq!(rt; follow(&mut machine, &mut words, &steps), Some(Err(PutFault::EraSpent { era: 140_737_488_355_325 })));
-    assert_eq!(rt; words.as_slice(), words_of(rt.alloc(), 2098, &before)?.as_slice());
+    assert_eq!(rt;
+        follow(&mut machine, &mut words, &steps),
+        Some(Err(PutFault::EraSpent {
+            era: 140_737_488_355_325
+        }))
+    );
+    assert_eq!(rt;
+        words.as_slice(),
+        words_of(rt.alloc(), 2098, &before)?.as_slice()
+    );
     Ok(())
 }
 
@@ -265,12 +283,16 @@ fn a_full_block_is_not_taken(rt: HostRuntime) -> Result<(), Fail> {
         (store(3, 8_070_868_346_793_361_533), 0),
         (load(125), 9_367_346_487_442_276_368),
     ];
-    let changes = [
-        (3, 8_070_868_346_793_361_533),
-    ];
+    let changes = [(3, 8_070_868_346_793_361_533)];
     let mut words = words_of(rt.alloc(), 4217, &before)?;
     let mut machine: Replace = Calls::new(Replacing::new(me, 377, 125));
-    assert_eq!(rt; follow(&mut machine, &mut words, &steps), Some(Err(PutFault::CountFull { block: 125, count: 1023 })));
+    assert_eq!(rt;
+        follow(&mut machine, &mut words, &steps),
+        Some(Err(PutFault::CountFull {
+            block: 125,
+            count: 1023
+        }))
+    );
     let mut after = words_of(rt.alloc(), 4217, &before)?;
     put_words(&mut after, &changes);
     assert_eq!(rt; words.as_slice(), after.as_slice());

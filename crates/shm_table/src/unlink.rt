@@ -41,8 +41,10 @@ pub struct UnlinkState {
 pub type UnlinkCall = Or<Word, Or<StepDown, Or<StepChange, TearDown>>>;
 
 /// What its calls answer.
-pub type UnlinkAnswer =
-    Or<u64, Or<Result<bool, EraSpent>, Or<Result<bool, UpFault>, Result<(), EraSpent>>>>;
+pub type UnlinkAnswer = Or<
+    u64,
+    Or<Result<bool, EraSpent>, Or<Result<bool, UpFault>, Result<(), EraSpent>>>,
+>;
 
 /// The calls by which an entry of the own table is taken out of its chain.
 #[derive(Drop)]

@@ -1,0 +1,8 @@
+use Rattle.shm_calls.specs.CallsKeep.{calls_tells}
+use Rattle.shm_table.specs.UnlinkControl.{unlink_parts}
+use Rattle.shm_table.specs.UnlinkFits.{unlink_plan}
+use Rattle.shm_table.specs.UnlinkLaws.{unlink_laws}
+use Rattle.shm_table.proofs.changes.unlink_events.Goals as goal
+
+pub returns : goal.returns
+returns c = calls_tells unlink_parts unlink_plan unlink_laws

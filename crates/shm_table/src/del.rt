@@ -1,0 +1,184 @@
+//! A key of the own table is removed.
+
+ghost use Rattle.std.specs.Prelude.{◌≡◌, ◌%◌, ◌^◌, ◌<◌};
+ghost use Rattle.shm_words.specs.Layout.{GeometryFits};
+ghost use Rattle.shm_table.specs.DelControl as control;
+ghost use Rattle.shm_table.specs.DelControl.{deleting};
+ghost use Rattle.shm_table.specs.DelFits.{del_plan};
+ghost use Rattle.shm_table.specs.DelLaws.{del_laws};
+
+use crate::find::Found;
+use crate::locate::{Locate, Locating};
+use crate::unlatch::{Unlatch, Unlatching};
+use crate::unlink::{Unlink, Unlinking};
+use shm_calls::{Calls, Or, Plan};
+use shm_count::UpFault;
+use shm_graph::{Machine, Me};
+use std::marker::Model;
+
+/// What became of a key that was to be removed.
+#[derive(Clone, Copy, Debug, PartialEq, Eq, Drop)]
+pub enum DelAnswer {
+    /// The table has it no more.
+    Removed,
+    /// The table didn't have it.
+    Missing,
+    /// The table has it still, since the count step was refused.
+    Refused(UpFault),
+}
+
+/// Which call of it comes next.
+#[derive(Clone, Copy, Debug, PartialEq, Eq, Drop)]
+pub enum DelPoint {
+    /// The own latch is taken and the entry looked for.
+    Search,
+    /// The entry goes.
+    Cut,
+    /// The latch is given back.
+    Back,
+}
+
+/// The control of it: word `word` of block `before` leads to `entry`, where one was found, and then `answer` is what it will answer.
+#[derive(Clone, Copy, Debug, PartialEq, Eq, Drop)]
+pub struct DelState {
+    pub me: Me,
+    pub key: u32,
+    pub entry: u32,
+    pub before: u32,
+    pub word: u8,
+    pub answer: DelAnswer,
+    pub point: DelPoint,
+}
+
+/// Its calls: a search under the latch, the taking out of an entry, and the giving back of the latch.
+pub type DelCall = Or<Locate, Or<Unlink, Unlatch>>;
+
+/// The calls by which a key of the own table is removed.
+#[derive(Drop)]
+pub struct Deleting {
+    state: DelState,
+}
+
+impl Model for Deleting {
+    ghost use Rattle.shm_table.specs.declared.del.DelState.{DelState as AState};
+
+    ghost Value = { AState };
+
+    ghost view = { λ a. a.state };
+
+    ghost use Rattle.shm_table.specs.DelControl.{DelInRange};
+
+    ghost invariant = { λ a. DelInRange a.state };
+}
+
+/// It answers whether the key is gone, was missing, or is there still because a count step was refused.
+pub type Del = Calls<Deleting>;
+
+impl Deleting {
+    /// The key `key` of the own table is to be removed.
+    #[inline(always)]
+    pub fn new(me: Me, key: u32) -> Deleting
+        requires geometry { GeometryFits me.geometry }
+        requires who { me.who < me.geometry.clients }
+        ensures { result ≡ deleting me key }
+    {
+        Deleting {
+            state: DelState {
+                me,
+                key,
+                entry: 0,
+                before: 0,
+                word: 0,
+                answer: DelAnswer::Missing,
+                point: DelPoint::Search,
+            },
+        }
+    }
+}
+
+impl DelState {
+    /// Where it goes, by what the search found.
+    #[inline(always)]
+    fn found(&mut self, found: Found)
+        ensures state { self.new ≡ control.found_after self.old found }
+    {
+        match found {
+            Found::Absent { .. } => {
+                self.point = DelPoint::Back;
+            }
+            Found::At {
+                entry,
+                before,
+                word,
+            } => {
+                self.entry = entry % (1 << 20);
+                self.before = before % (1 << 20);
+                self.word = word;
+                self.point = DelPoint::Cut;
+            }
+        }
+    }
+
+    /// Where it goes once the entry is gone, or is there still.
+    #[inline(always)]
+    fn cut(&mut self, done: Result<(), UpFault>)
+        ensures state { self.new ≡ control.cut_after self.old done }
+    {
+        self.answer = match done {
+            Ok(()) => DelAnswer::Removed,
+            Err(fault) => DelAnswer::Refused(fault),
+        };
+        self.point = DelPoint::Back;
+    }
+}
+
+impl Plan for Deleting {
+    type Call = DelCall;
+
+    type Answer = DelAnswer;
+
+    ghost plan = { del_plan };
+
+    #[inline(always)]
+    fn me(&self) -> Me {
+        self.state.me
+    }
+
+    #[inline(always)]
+    fn call(&self) -> DelCall {
+        let DelState {
+            me,
+            key,
+            entry,
+            before,
+            word,
+            point,
+            ..
+        } = self.state;
+        match point {
+            DelPoint::Search => Or::First(Calls::new(Locating::new(me, me.who, key))),
+            DelPoint::Cut => {
+                let cut = Unlinking::new(me, entry, before, word);
+                Or::Second(Or::First(Calls::new(cut)))
+            }
+            DelPoint::Back => Or::Second(Or::Second(Calls::new(Unlatching::new(me, me.who)))),
+        }
+    }
+
+    #[inline(always)]
+    fn next(&mut self, answer: Or<Found, Or<Result<(), UpFault>, ()>>) -> Option<DelAnswer> {
+        match answer {
+            Or::First(found) => {
+                self.state.found(found);
+                None
+            }
+            Or::Second(Or::First(done)) => {
+                self.state.cut(done);
+                None
+            }
+            Or::Second(Or::Second(())) => Some(self.state.answer),
+        }
+    }
+
+    ghost laws = { del_laws };
+}
