@@ -1,12 +1,10 @@
 -- the calls of a new entry may be made: the allocation, and each count step
-use Rattle.std.proofs.Common.{◌≡◌, ◌≢◌, ℕ, zero, suc, ◌+◌, ◌%◌, ◌^◌, ◌<◌, refl, sym, ap, ◌∙◌, subst, arith, true, false, List, [], ◌∷◌, inl, inr, slice_index}
+use Rattle.std.proofs.Common.{◌≡◌, ◌≢◌, ℕ, zero, suc, ◌+◌, ◌%◌, ◌^◌, ◌<◌, refl, sym, ap, ◌∙◌, subst, arith, true, false, List, inl, inr, slice_index}
 use Rattle.std.proofs.lemmas.Bool.{cases_eq}
 use Rattle.shm_words.proofs.Placing.{total_small}
 use Rattle.shm_graph.specs.declared.ask.Me.{Me}
 use Rattle.shm_graph.specs.declared.memo.Memo.{Memo}
 use Rattle.shm_graph.specs.declared.memo.Op.TheVariants.{Nothing}
-use Rattle.shm_graph.specs.declared.memo.Status.TheVariants as status
-use Rattle.shm_graph.specs.declared.spot.Spot.{Spot}
 use Rattle.shm_graph.specs.declared.spot.Spot.TheVariants as spot
 use Rattle.shm_graph.specs.Agents.{recovers}
 use Rattle.shm_graph.specs.Asks.{Trail}
@@ -213,20 +211,28 @@ enter_opens m Make r0 r tr es ((n, may), same, none, quiet) =
       can = record { geometry = my.geometry; who = my.who; idle = my.idle };
     }
 enter_opens m Value r0 r tr es ((n, h), told, bound) =
-    let me = m.me in
-    (refl, may_up me r h.holds h.may.who h.keeps.idle h.client m.key m.first m.root m.entry 0 0 h.vacant h.coming m.entry 1 m.value
-    (value_can me r h.holds h.may.who h.keeps.idle h.client m.key m.first m.root m.entry 0 0 h.vacant h.coming m.value refl (value_reached me m.key m.value n m.home m.first m.root m.entry 0 0 r0 r h)))
+    let me = m.me in (
+      refl,
+      may_up me r h.holds h.may.who h.keeps.idle h.client m.key m.first m.root m.entry 0 0 h.vacant h.coming m.entry 1 m.value
+          (value_can me r h.holds h.may.who h.keeps.idle h.client m.key m.first m.root m.entry 0 0 h.vacant h.coming m.value refl (value_reached me m.key m.value n m.home m.first m.root m.entry 0 0 r0 r h)),
+    )
 enter_opens m Next r0 r tr es (some, (n, h), told, bound) =
-    let me = m.me in
-    (refl, may_up me r h.holds h.may.who h.keeps.idle h.client m.key m.first m.root m.entry 0 m.value h.vacant h.coming m.entry 0 m.first
-    (next_can me r h.holds h.may.who h.keeps.idle h.client m.key m.first m.root m.entry 0 m.value h.vacant h.coming refl some))
+    let me = m.me in (
+      refl,
+      may_up me r h.holds h.may.who h.keeps.idle h.client m.key m.first m.root m.entry 0 m.value h.vacant h.coming m.entry 0 m.first
+          (next_can me r h.holds h.may.who h.keeps.idle h.client m.key m.first m.root m.entry 0 m.value h.vacant h.coming refl some),
+    )
 enter_opens m Link r0 r tr es (none, (n, h), told, bound) =
     let me = m.me in
-    let can = link_can me r h.holds h.may.who h.keeps.idle h.client m.key m.first m.root m.entry 0 m.value h.vacant h.coming n (sym none) none (value_number me m.key m.value n m.home m.first m.root m.entry 0 m.value r0 r h n h.may.value) in
-    (refl, may_up me r h.holds h.may.who h.keeps.idle h.client m.key m.first m.root m.entry 0 m.value h.vacant h.coming m.home (m.key % 16) m.entry
-    (subst (λ d. CanStep me (d + 2 + m.key % 16) (Up m.entry) (spot.Body d (m.key % 16)) r) h.directory can))
+    let can = link_can me r h.holds h.may.who h.keeps.idle h.client m.key m.first m.root m.entry 0 m.value h.vacant h.coming n (sym none) none (value_number me m.key m.value n m.home m.first m.root m.entry 0 m.value r0 r h n h.may.value) in (
+      refl,
+      may_up me r h.holds h.may.who h.keeps.idle h.client m.key m.first m.root m.entry 0 m.value h.vacant h.coming m.home (m.key % 16) m.entry
+          (subst (λ d. CanStep me (d + 2 + m.key % 16) (Up m.entry) (spot.Body d (m.key % 16)) r) h.directory can),
+    )
 enter_opens m Change r0 r tr es (some, (n, h), told, bound) =
     let me = m.me in
-    let can = change_can me r h.holds h.may.who h.keeps.idle h.client m.key m.first m.root m.entry m.first m.value h.vacant h.coming n refl some (value_number me m.key m.value n m.home m.first m.root m.entry m.first m.value r0 r h n h.may.value) in
-    (refl, may_change me r h.holds h.may.who h.keeps.idle h.client m.key m.first m.root m.entry m.first m.value h.vacant h.coming m.home (m.key % 16) m.first m.entry
-    (subst (λ d. CanStep me (d + 2 + m.key % 16) (ToChange m.first m.entry) (spot.Body d (m.key % 16)) r) h.directory can))
+    let can = change_can me r h.holds h.may.who h.keeps.idle h.client m.key m.first m.root m.entry m.first m.value h.vacant h.coming n refl some (value_number me m.key m.value n m.home m.first m.root m.entry m.first m.value r0 r h n h.may.value) in (
+      refl,
+      may_change me r h.holds h.may.who h.keeps.idle h.client m.key m.first m.root m.entry m.first m.value h.vacant h.coming m.home (m.key % 16) m.first m.entry
+          (subst (λ d. CanStep me (d + 2 + m.key % 16) (ToChange m.first m.entry) (spot.Body d (m.key % 16)) r) h.directory can),
+    )
