@@ -78,7 +78,7 @@ enter_call_at m y = up_of m (enter_block m y) (enter_word m y) (enter_to m y)
 abbrev pub entry_of : ℕ → ℕ
 entry_of b = if nat_lt b (2 ^ 20 - 3) then b else 0
 
--- after the value word: an entry that is to be followed by others names the first of them, another one is linked
+-- after the value word: where the bucket is empty the entry is linked, otherwise it names the first one
 abbrev pub valued_point : ℕ → EnterPoint
 valued_point first = if first == 0 then Link else Next
 

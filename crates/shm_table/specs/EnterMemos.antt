@@ -1,5 +1,5 @@
 -- the memo of a new entry from call to call: once it is made, once a word of it is filled, once it is linked, and where a step is refused
-use Rattle.std.proofs.Common.{◌≡◌, ◌≢◌, ℕ, ◌+◌, ◌%◌, ◌^◌, ◌<◌, refl, sym, ap, ◌∙◌, subst, arith, Bool, true, false, cond, eqb, append-nil, List, [], ◌∷◌, ◌++◌}
+use Rattle.std.proofs.Common.{◌≡◌, ◌≢◌, ℕ, ◌%◌, ◌<◌, refl, sym, ap, ◌∙◌, subst, arith, Bool, true, false, cond, eqb, append-nil, List, [], ◌∷◌, ◌++◌, slice_index}
 use Rattle.std.specs.Prelude.{if◌then◌else◌, Some, Ok, Err}
 use Rattle.std.specs.List.{Contains}
 use Rattle.std.proofs.lemmas.Bool.{eq-eqb}
@@ -35,11 +35,11 @@ use Rattle.shm_count.specs.StepControl.{IsInside}
 use Rattle.shm_count.specs.StepParts.{Raised, part_after}
 use Rattle.shm_count.specs.TearMemos.{Knows}
 use Rattle.shm_alloc.specs.declared.alloc.AllocFault.{AllocFault}
+use Rattle.shm_alloc.specs.declared.request.Request.{Request}
 use Rattle.shm_alloc.specs.AllocCarrying.{made_comes}
 use Rattle.shm_alloc.specs.AllocFits.{AnswerHolds}
 use Rattle.shm_alloc.proofs.MadeBlocks.{block_inside}
 use Rattle.shm_table.specs.Answers.{made_fault, raised_fault}
-use Rattle.shm_table.specs.EnterControl.{entry_request}
 use Rattle.shm_table.specs.EnterFits.{IsHalfMade, IsLinked, IsMade, IsUnlinked, IsUnmade, MayEnter, enter_steps, linked_events}
 use Rattle.shm_table.specs.EnterSteps.{bucket_own, entry_own, first_apart, home_apart, next_then, value_number, value_then}
 use Rattle.shm_table.specs.Staying.{Keeps}
@@ -48,25 +48,26 @@ use Rattle.shm_table.specs.StayingSteps.{filled_else, keeps_filled, keeps_lost, 
 
 -- ---- the block was made
 
-made_some : (me : Me) (key : ℕ) (r0 r : Memo) (a : Made) → IsHeld me r → me.who < me.geometry.clients → AnswerHolds me (entry_request key) r0 r (Ok a) → a.block ≢ 0
-made_some me key r0 r a (w, rs, h, same) who holds e =
-    let inside : IsInside me a.block = block_inside me (entry_request key) r0 a w rs h who (subst (λ (x : Memo). AnswerHolds me (entry_request key) r0 x (Ok a)) (sym same) holds).gives in
+made_some : (me : Me) (q : Request) (r0 r : Memo) (a : Made) → IsHeld me r → me.who < me.geometry.clients → AnswerHolds me q r0 r (Ok a) → a.block ≢ 0
+made_some me q r0 r a (w, rs, h, same) who holds e =
+    let inside : IsInside me a.block = block_inside me q r0 a w rs h who (subst (λ (x : Memo). AnswerHolds me q r0 x (Ok a)) (sym same) holds).gives in
     let low = inside.0 in
     absurd (omega arith)
 
-pub made_on : (me : Me) (key v n home first : ℕ) (r0 r : Memo) (a : Made) → MayEnter me key v n home first r0 → IsHeld me r → recovers r ≡ recovers r0 → AnswerHolds me (entry_request key) r0 r (Ok a) → IsMade me key v n home first a.root a.block 0 0 r0 r
-made_on me key v n home first r0 r a may held agent holds =
+-- with the words of an entry of the key
+pub made_on : (me : Me) (q : Request) (key v n home first : ℕ) (r0 r : Memo) (a : Made) → q.refs ≡ 2 → q.count ≡ 1 → slice_index q.plain 0 ≡ key → MayEnter me key v n home first r0 → IsHeld me r → recovers r ≡ recovers r0 → AnswerHolds me q r0 r (Ok a) → IsMade me key v n home first a.root a.block 0 0 r0 r
+made_on me q key v n home first r0 r a refs count plain may held agent holds =
     let small : me.who < 64 = (let u = may.geometry.clients in let l = may.who in omega arith) in
-    let comes = made_comes me (entry_request key) r0 r a holds small key first may.vacant refl refl refl may.small (made_some me key r0 r a held may.who holds) in
+    let comes = made_comes me q r0 r a holds small key first may.vacant refs count plain may.small (made_some me q r0 r a held may.who holds) in
     record {
       may = may;
       holds = held;
       client = agent ∙ may.client;
-      keeps = keeps_made me (entry_request key) r0 r (Ok a) small holds;
+      keeps = keeps_made me q r0 r (Ok a) small holds;
       latch = holds.stays.latch;
-      directory = made_home me (entry_request key) r0 r a holds ∙ may.directory;
+      directory = made_home me q r0 r a holds ∙ may.directory;
       empty = holds.gives.empty;
-      others = λ j n. made_others me (entry_request key) r0 r a holds j (λ e. n (sym e));
+      others = λ j n. made_others me q r0 r a holds j (λ e. n (sym e));
       dying = holds.stays.dying;
       map = same_map r0 r holds.stays.part;
       vacant = comes.0;
@@ -217,17 +218,17 @@ unlinked_on me key v n home first k b next value r0 rs r tr es x f h left cause 
 
 -- ---- no block was made
 
-pub unmade_on : (me : Me) (key v n home first : ℕ) (r0 r : Memo) (tr : Trail) (f : AllocFault) → MayEnter me key v n home first r0 → AnswerHolds me (entry_request key) r0 r (Err f) → IsWithin (alloc_steps me.geometry.segments) tr → IsUnmade me home r0 r tr [] (made_fault f)
-unmade_on me key v n home first r0 r tr f may holds bound =
+pub unmade_on : (me : Me) (q : Request) (key v n home first : ℕ) (r0 r : Memo) (tr : Trail) (f : AllocFault) → MayEnter me key v n home first r0 → AnswerHolds me q r0 r (Err f) → IsWithin (alloc_steps me.geometry.segments) tr → IsUnmade me home r0 r tr [] (made_fault f)
+unmade_on me q key v n home first r0 r tr f may holds bound =
     let small : me.who < 64 = (let u = may.geometry.clients in let l = may.who in omega arith) in
-    let rests = rests_unmade me (entry_request key) r0 r f holds in
+    let rests = rests_unmade me q r0 r f holds in
     record {
-      keeps = keeps_made me (entry_request key) r0 r (Err f) small holds;
+      keeps = keeps_made me q r0 r (Err f) small holds;
       latch = rests.latch;
       directory = rests.home ∙ may.directory;
       cleared = rests.cleared;
       map = same_map r0 r rests.part;
-      cause = made_cause me (entry_request key) r0 r f holds;
+      cause = made_cause me q r0 r f holds;
       none = refl;
       bound = bound;
     }

@@ -1,16 +1,12 @@
--- the calls of a new entry may be made: the allocation, and each count step
-use Rattle.std.proofs.Common.{◌≡◌, ◌≢◌, ℕ, zero, suc, ◌+◌, ◌%◌, ◌^◌, ◌<◌, refl, sym, ap, ◌∙◌, subst, arith, true, false, List, [], ◌∷◌, inl, inr, slice_index}
+-- the count steps of a new entry may be made
+use Rattle.std.proofs.Common.{◌≡◌, ◌≢◌, ℕ, ◌+◌, ◌%◌, ◌<◌, refl, sym, ap, ◌∙◌, subst, arith, true, false, inl, inr}
 use Rattle.std.proofs.lemmas.Bool.{cases_eq}
 use Rattle.shm_words.proofs.Placing.{total_small}
 use Rattle.shm_graph.specs.declared.ask.Me.{Me}
 use Rattle.shm_graph.specs.declared.memo.Memo.{Memo}
 use Rattle.shm_graph.specs.declared.memo.Op.TheVariants.{Nothing}
-use Rattle.shm_graph.specs.declared.memo.Status.TheVariants as status
-use Rattle.shm_graph.specs.declared.spot.Spot.{Spot}
 use Rattle.shm_graph.specs.declared.spot.Spot.TheVariants as spot
 use Rattle.shm_graph.specs.Agents.{recovers}
-use Rattle.shm_graph.specs.Asks.{Trail}
-use Rattle.shm_graph.specs.Events.{Event}
 use Rattle.shm_graph.specs.Idle.{IsIdle}
 use Rattle.shm_graph.specs.Ops.{cover_of}
 use Rattle.shm_graph.specs.Reach.{is_reached}
@@ -34,30 +30,8 @@ use Rattle.shm_count.specs.SlotLeaves.{MayStepAt}
 use Rattle.shm_count.specs.SlotParts.{era_room}
 use Rattle.shm_count.specs.StepFits.{CanStep}
 use Rattle.shm_count.specs.StepParts.{Raised}
-use Rattle.shm_alloc.specs.AllocControl.{RequestFits}
-use Rattle.shm_table.specs.declared.enter.EnterPoint.{EnterPoint}
-use Rattle.shm_table.specs.declared.enter.EnterPoint.TheVariants.{Make, Value, Next, Link, Change}
-use Rattle.shm_table.specs.declared.enter.EnterState.{EnterState}
-use Rattle.shm_table.specs.EnterControl.{enter_call_at, entry_request}
-use Rattle.shm_table.specs.EnterFits.{EnterKnows, IsMade, MayEnter, enter_part}
+use Rattle.shm_table.specs.EnterFits.{IsMade}
 use Rattle.shm_table.specs.StayingLaws.{root_kept}
-
--- ---- the allocation
-
--- the key is a word, and so are the zeros after it
-words_small : (key i : ℕ) → key < 2 ^ 32 → slice_index (entry_request key).plain i < 2 ^ 64
-words_small key zero small = omega arith
-words_small key (suc zero) small = omega arith
-words_small key (suc (suc zero)) small = omega arith
-words_small key (suc (suc (suc zero))) small = omega arith
-words_small key (suc (suc (suc (suc zero)))) small = omega arith
-words_small key (suc (suc (suc (suc (suc zero))))) small = omega arith
-words_small key (suc (suc (suc (suc (suc (suc zero)))))) small = omega arith
-words_small key (suc (suc (suc (suc (suc (suc (suc zero))))))) small = omega arith
-words_small key (suc (suc (suc (suc (suc (suc (suc (suc i)))))))) small = omega arith
-
-pub request_fits : (key : ℕ) → key < 2 ^ 32 → RequestFits (entry_request key)
-request_fits key small = record { refs = omega arith; count = omega arith; small = λ i. words_small key i small }
 
 -- ---- what the memo shows
 
@@ -202,31 +176,25 @@ module _ (me : Me) (key v n home first k b next value : ℕ) (r0 r : Memo) (h : 
   pub value_number : (x : ℕ) → IsValue (sight me.who r0) v x → IsValue (sight me.who r) v x
   value_number x is = let (j, low, root) = h.may.named in h.keeps.values j v x low h.may.some root is
 
--- ---- all of them
+  -- a count step that fills a word
+  pub may_fill : (d i to : ℕ) → CanStep me (d + 2 + i) (Up to) (spot.Body d i) r → MayStepAt (spot.Body d i) false (record { me = me; slot = d + 2 + i; aim = Up to; point = Era }) r
+  may_fill = may_up me r h.holds h.may.who h.keeps.idle h.client key first k b next value h.vacant h.coming
 
-pub enter_opens : (m : EnterState) (y : EnterPoint) (r0 r : Memo) (tr : Trail) (es : List Event) → EnterKnows (record m { point = y }) y r0 r tr es → (enter_part (record m { point = y }) y).needs (enter_call_at m y) r
-enter_opens m Make r0 r tr es ((n, may), same, none, quiet) =
-    let my : MayEnter m.me m.key m.value n m.home m.first r = subst (MayEnter m.me m.key m.value n m.home m.first) (sym same) may in
-    record {
-      made = refl;
-      knows = record { geometry = my.geometry; who = my.who; request = request_fits m.key my.small; point = tt };
-      can = record { geometry = my.geometry; who = my.who; idle = my.idle };
-    }
-enter_opens m Value r0 r tr es ((n, h), told, bound) =
-    let me = m.me in
-    (refl, may_up me r h.holds h.may.who h.keeps.idle h.client m.key m.first m.root m.entry 0 0 h.vacant h.coming m.entry 1 m.value
-    (value_can me r h.holds h.may.who h.keeps.idle h.client m.key m.first m.root m.entry 0 0 h.vacant h.coming m.value refl (value_reached me m.key m.value n m.home m.first m.root m.entry 0 0 r0 r h)))
-enter_opens m Next r0 r tr es (some, (n, h), told, bound) =
-    let me = m.me in
-    (refl, may_up me r h.holds h.may.who h.keeps.idle h.client m.key m.first m.root m.entry 0 m.value h.vacant h.coming m.entry 0 m.first
-    (next_can me r h.holds h.may.who h.keeps.idle h.client m.key m.first m.root m.entry 0 m.value h.vacant h.coming refl some))
-enter_opens m Link r0 r tr es (none, (n, h), told, bound) =
-    let me = m.me in
-    let can = link_can me r h.holds h.may.who h.keeps.idle h.client m.key m.first m.root m.entry 0 m.value h.vacant h.coming n (sym none) none (value_number me m.key m.value n m.home m.first m.root m.entry 0 m.value r0 r h n h.may.value) in
-    (refl, may_up me r h.holds h.may.who h.keeps.idle h.client m.key m.first m.root m.entry 0 m.value h.vacant h.coming m.home (m.key % 16) m.entry
-    (subst (λ d. CanStep me (d + 2 + m.key % 16) (Up m.entry) (spot.Body d (m.key % 16)) r) h.directory can))
-enter_opens m Change r0 r tr es (some, (n, h), told, bound) =
-    let me = m.me in
-    let can = change_can me r h.holds h.may.who h.keeps.idle h.client m.key m.first m.root m.entry m.first m.value h.vacant h.coming n refl some (value_number me m.key m.value n m.home m.first m.root m.entry m.first m.value r0 r h n h.may.value) in
-    (refl, may_change me r h.holds h.may.who h.keeps.idle h.client m.key m.first m.root m.entry m.first m.value h.vacant h.coming m.home (m.key % 16) m.first m.entry
-    (subst (λ d. CanStep me (d + 2 + m.key % 16) (ToChange m.first m.entry) (spot.Body d (m.key % 16)) r) h.directory can))
+-- ---- the count steps
+
+module _ (me : Me) (key v n home first k b : ℕ) (r0 r : Memo) where
+  pub value_needs : IsMade me key v n home first k b 0 0 r0 r → MayStepAt (spot.Body b 1) false (record { me = me; slot = b + 2 + 1; aim = Up v; point = Era }) r
+  value_needs h = may_fill me key v n home first k b 0 0 r0 r h b 1 v (value_can me r h.holds h.may.who h.keeps.idle h.client key first k b 0 0 h.vacant h.coming v refl (value_reached me key v n home first k b 0 0 r0 r h))
+
+  pub next_needs : first ≢ 0 → IsMade me key v n home first k b 0 v r0 r → MayStepAt (spot.Body b 0) false (record { me = me; slot = b + 2 + 0; aim = Up first; point = Era }) r
+  next_needs some h = may_fill me key v n home first k b 0 v r0 r h b 0 first (next_can me r h.holds h.may.who h.keeps.idle h.client key first k b 0 v h.vacant h.coming refl some)
+
+  pub link_needs : first ≡ 0 → IsMade me key v n home first k b 0 v r0 r → MayStepAt (spot.Body home (key % 16)) false (record { me = me; slot = home + 2 + key % 16; aim = Up b; point = Era }) r
+  link_needs none h =
+      let can = link_can me r h.holds h.may.who h.keeps.idle h.client key first k b 0 v h.vacant h.coming n (sym none) none (value_number me key v n home first k b 0 v r0 r h n h.may.value) in
+      may_fill me key v n home first k b 0 v r0 r h home (key % 16) b (subst (λ d. CanStep me (d + 2 + key % 16) (Up b) (spot.Body d (key % 16)) r) h.directory can)
+
+  pub change_needs : first ≢ 0 → IsMade me key v n home first k b first v r0 r → MayStepAt (spot.Body home (key % 16)) false (record { me = me; slot = home + 2 + key % 16; aim = ToChange first b; point = Era }) r
+  change_needs some h =
+      let can = change_can me r h.holds h.may.who h.keeps.idle h.client key first k b first v h.vacant h.coming n refl some (value_number me key v n home first k b first v r0 r h n h.may.value) in
+      may_change me r h.holds h.may.who h.keeps.idle h.client key first k b first v h.vacant h.coming home (key % 16) first b (subst (λ d. CanStep me (d + 2 + key % 16) (ToChange first b) (spot.Body d (key % 16)) r) h.directory can)

@@ -101,6 +101,17 @@ fn entry_at(block: u32) -> u32
     if block < (1 << 20) - 3 { block } else { 0 }
 }
 
+/// What comes after the value word: where the bucket is empty the entry is linked, otherwise it names the first one.
+#[inline(always)]
+fn after_value(first: u32) -> EnterPoint
+    ensures { result ≡ control.valued_point first }
+{
+    match first {
+        0 => EnterPoint::Link,
+        _ => EnterPoint::Next,
+    }
+}
+
 impl Entering {
     /// The key `key`, which the own table doesn't have, is to have the value block `value`: the bucket in the directory `home` names
     /// `first`, or none where it is 0.
@@ -150,11 +161,7 @@ impl EnterState {
         let root = self.root;
         match self.point {
             EnterPoint::Value => {
-                self.point = if self.first == 0 {
-                    EnterPoint::Link
-                } else {
-                    EnterPoint::Next
-                };
+                self.point = after_value(self.first);
                 None
             }
             EnterPoint::Next => {
