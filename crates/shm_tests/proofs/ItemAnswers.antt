@@ -3,6 +3,7 @@ use Rattle.std.proofs.Common.{◌≡◌, ◌≢◌, ℕ, zero, suc, ◌+◌, ◌
 use Rattle.std.specs.List.{Contains}
 use Rattle.std.specs.Prelude.{Ok, Err, IfOk, IfErr, slice_index_or}
 use Rattle.std.proofs.lemmas.Bool.{cond-false, cond-true, eq-eqb}
+use Rattle.std.proofs.lemmas.List.{append_cancel_left}
 use Rattle.shm_graph.specs.declared.memo.Memo.{Memo}
 use Rattle.shm_graph.specs.declared.spot.Spot.TheVariants.{Front, Root, Slot}
 use Rattle.shm_graph.specs.Asks.{Trail}
@@ -37,6 +38,14 @@ taken_first p q s c b run ls lc other same taken =
     let received : received_of q s c ≡ received_of p s c ++ b ∷ [] =
     ap (λ rs. slice_index_or rs s []) taken ∙ (put_at [] (memo_of p c).received s (received_of p s c ++ b ∷ []) s ∙ cond-true _ _ _ (eq-eqb s s refl)) in
     (x.0, ap (λ (m : Memo). slice_index_or m.sent c []) (sym same) ∙ (x.1 ∙ (ap (λ xs. xs ++ x.0) received ∙ append_assoc (received_of p s c) (b ∷ []) x.0)))
+
+-- no two items are the first one
+pub one_first : (p : Pool) (s c b d : ℕ) → IsFirst p s c b → IsFirst p s c d → b ≡ d
+one_first p s c b d x y = ap head_of (append_cancel_left (received_of p s c) (b ∷ x.0) (d ∷ y.0) (sym x.1 ∙ y.1))
+  where
+    head_of : List ℕ → ℕ
+    head_of [] = 0
+    head_of (z ∷ zs) = z
 
 -- ---- a look
 

@@ -82,22 +82,43 @@ fn fill_and_drain(rt: &impl Abort, pool: &mut PlainPool, life: &mut Life, head: 
     assert_eq!(rt; answer, Err(TakeFault::Empty { at: tail }));
 }
 
+/// 0 sends its block to 1, as the items of these places.
+fn put_all(rt: &impl Abort, pool: &mut PlainPool, life: &mut Life, from: u64, to: u64)
+    requires sender { HasBlock 0 104 pool.old }
+    requires receiver { IsReady 1 pool.old }
+    ensures sender { HasBlock 0 104 pool.new }
+    ensures receiver { IsReady 1 pool.new }
+    ensures start { pool.new.start ≡ pool.old.start }
+{
+    for place in from..to {
+        put(rt, pool, life, place);
+    }
+}
+
+/// An item is put at the end of the queue, in which 3 wait, and the first one is taken, so many times.
+fn go_round(rt: &impl Abort, pool: &mut PlainPool, life: &mut Life, times: u64)
+    requires sender { HasBlock 0 104 pool.old }
+    requires receiver { IsReady 1 pool.old }
+    requires inside { 104 < total_of pool.old.start.geometry }
+    ensures sender { HasBlock 0 104 pool.new }
+    ensures receiver { IsReady 1 pool.new }
+    ensures start { pool.new.start ≡ pool.old.start }
+{
+    for head in 0..times {
+        put(rt, pool, life, head.wrapping_add(3));
+        has_words(rt, pool, head, 4);
+        get(rt, pool, life);
+        has_words(rt, pool, head.wrapping_add(1), 3);
+    }
+}
+
 #[test]
 fn a_queue_comes_round(rt: HostRuntime) -> Result<(), Fail> {
     let mut life = Life::of(2000);
     let mut pool = two_clients(&rt, rt.alloc(), &mut life)?;
-    for place in 0..3u64 {
-        put(&rt, &mut pool, &mut life, place);
-    }
-    for head in 0..30u64 {
-        put(&rt, &mut pool, &mut life, head + 3);
-        has_words(&rt, &pool, head, 4);
-        get(&rt, &mut pool, &mut life);
-        has_words(&rt, &pool, head + 1, 3);
-    }
-    for place in 33..38u64 {
-        put(&rt, &mut pool, &mut life, place);
-    }
+    put_all(&rt, &mut pool, &mut life, 0, 3);
+    go_round(&rt, &mut pool, &mut life, 30);
+    put_all(&rt, &mut pool, &mut life, 33, 38);
     fill_and_drain(&rt, &mut pool, &mut life, 30);
     Ok(())
 }
@@ -126,6 +147,17 @@ fn cross(rt: &impl Abort, pool: &mut PlainPool, life: &mut Life, place: u64)
     };
 }
 
+/// They do so as often as this.
+fn cross_all(rt: &impl Abort, pool: &mut PlainPool, life: &mut Life, times: u64)
+    requires first { HasBlock 0 104 pool.old }
+    requires second { HasBlock 1 104 pool.old }
+    ensures start { pool.new.start ≡ pool.old.start }
+{
+    for place in 0..times {
+        cross(rt, pool, life, place);
+    }
+}
+
 #[test]
 fn two_identities_send_to_one_another(rt: HostRuntime) -> Result<(), Fail> {
     let mut life = Life::of(2000);
@@ -141,9 +173,7 @@ fn two_identities_send_to_one_another(rt: HostRuntime) -> Result<(), Fail> {
             block: 104
         }
     );
-    for place in 0..20u64 {
-        cross(&rt, &mut pool, &mut life, place);
-    }
+    cross_all(&rt, &mut pool, &mut life, 20);
     // tail and head of both queues, and a count of the two roots
     assert_eq!(rt; (pool.word(57), pool.word(58)), (21, 21));
     assert_eq!(rt; (pool.word(67), pool.word(68)), (20, 20));
