@@ -1,5 +1,5 @@
 -- what is left of the memo by what a look at the first item of a queue and a take answer, and which item that is
-use Rattle.std.proofs.Common.{◌≡◌, ◌≢◌, ℕ, zero, suc, ◌+◌, ◌%◌, ◌<◌, refl, sym, ap, ◌∙◌, subst, arith, true, List, [], ◌∷◌, ◌++◌, append_assoc, inl, inr, ◌⊎◌, Result}
+use Rattle.std.proofs.Common.{◌≡◌, ◌≢◌, ℕ, zero, ◌+◌, ◌%◌, ◌<◌, refl, sym, ap, ◌∙◌, subst, arith, List, [], ◌∷◌, ◌++◌, append_assoc, inl, inr, ◌⊎◌, Result}
 use Rattle.std.specs.List.{Contains}
 use Rattle.std.specs.Prelude.{Ok, Err, IfOk, IfErr, slice_index_or}
 use Rattle.std.proofs.lemmas.Bool.{cond-false, cond-true, eq-eqb}
@@ -15,9 +15,9 @@ use Rattle.shm_graph.proofs.Spotting.{same_spot_self}
 use Rattle.shm_steps.proofs.Items.{put_at}
 use Rattle.shm_count.specs.declared.answer.Made.{Made}
 use Rattle.shm_count.specs.Roots.{root_word}
-use Rattle.shm_plain.specs.Lanes.{IsFirst, received_of, sent_of}
+use Rattle.shm_plain.specs.Lanes.{IsFirst, received_of}
 use Rattle.shm_plain.specs.Pools.{Pool, IsRun, memo_of}
-use Rattle.shm_plain.proofs.Lanes.{items_wait, known_first}
+use Rattle.shm_plain.proofs.Lanes.{items_wait}
 use Rattle.shm_queue.specs.declared.answer.PeekFault.{PeekFault}
 use Rattle.shm_queue.specs.declared.answer.PeekFault.TheVariants as peek_fault
 use Rattle.shm_queue.specs.declared.answer.TakeFault.{TakeFault}

@@ -1,5 +1,5 @@
-use Rattle.std.proofs.Common.{◌≡◌, ◌≢◌, ◌+◌, ◌<◌, ℕ, refl, sym, ap, ◌∙◌, subst, List, [], inl, inr, ◌⊎◌, Result}
-use Rattle.std.specs.Prelude.{Ok, Err, IfOk, IfErr, IfSome}
+use Rattle.std.proofs.Common.{◌≡◌, ◌+◌, ◌<◌, ℕ, refl, sym, ap, ◌∙◌, subst, List, [], inl, inr, ◌⊎◌, Result}
+use Rattle.std.specs.Prelude.{Ok, Err, IfOk, IfErr}
 use Rattle.shm_graph.specs.declared.ask.Me.{Me}
 use Rattle.shm_graph.specs.declared.memo.Memo.{Memo}
 use Rattle.shm_graph.specs.declared.run.Start.{Start}
@@ -8,8 +8,7 @@ use Rattle.shm_graph.specs.Core.{core}
 use Rattle.shm_graph.specs.Events.{Event}
 use Rattle.shm_graph.specs.Tells.{happens_along}
 use Rattle.shm_graph.specs.Views.{own_word}
-use Rattle.shm_plain.specs.Calls.{Did, Ran}
-use Rattle.shm_plain.specs.Lanes.{IsFirst}
+use Rattle.shm_plain.specs.Calls.{Did}
 use Rattle.shm_plain.specs.Pools.{memo_of}
 use Rattle.shm_calls.specs.CallsControl.{calls_control, calls_does, calls_of}
 use Rattle.shm_count.specs.Roots.{AreRootsReached, member, root_word}
