@@ -354,5 +354,8 @@ still_working c fresh p q x y work ran idle =
       who = subst (λ (s : Start). c < s.geometry.clients) (sym ran.start) work.who;
       idle = idle;
       acts = ran.acts refl (λ e. let live : Live ≡ Gone = sym idle.live ∙ e in absurd (cc));
-      client = ran.kind refl ∙ (ap recovers (ready_still p c work.acts) ∙ work.client);
     }
+
+-- and of the kind that it was of
+pub still_kind : (c : ℕ) (fresh : Bool) (p q : Pool) (x y : ℕ) → IsAtWork c p → Ran c fresh true p q x y → recovers (memo_of q c) ≡ recovers (memo_of p c)
+still_kind c fresh p q x y work ran = ran.kind refl ∙ ap recovers (ready_still p c work.acts)

@@ -3,7 +3,7 @@ use Rattle.std.proofs.Common.{◌≡◌, ℕ, ◌<◌, Bool, true, [], refl, sym
 use Rattle.std.specs.Prelude.{Option, Some, None, IfSome}
 use Rattle.std.specs.Option.{is_some}
 use Rattle.shm_graph.specs.declared.memo.Memo.{Memo}
-use Rattle.shm_graph.specs.Agents.{acts}
+use Rattle.shm_graph.specs.Agents.{acts, recovers}
 use Rattle.shm_graph.specs.Asks.{Trail, call_before}
 use Rattle.shm_graph.specs.Events.{Event}
 use Rattle.shm_graph.specs.Idle.{IsIdle}
@@ -12,7 +12,7 @@ use Rattle.shm_graph.specs.Tells.{Tells, happens_along}
 use Rattle.shm_graph.specs.Whole.{fits_now, gives_now}
 use Rattle.shm_plain.specs.Pools.{Pool, IsOf, IsRun, memo_of, readied}
 use Rattle.shm_plain.specs.Calls.{Did, IsAtWork, Ran, Took}
-use Rattle.shm_plain.proofs.Calling.{may_acting, ready_still, still_working}
+use Rattle.shm_plain.proofs.Calling.{may_acting, ready_still, still_kind, still_working}
 use Rattle.shm_plain.proofs.OwnTurns.{called_did}
 
 module _ {M A : Type 0} (k : Control M A) (fits : M → Memo → Memo → Trail → Type 0) (gives : M → Memo → Memo → Trail → A → Type 0) (c : ℕ) (p : Pool) where
@@ -52,3 +52,11 @@ module _ {M A : Type 0} (k : Control M A) (fits : M → Memo → Memo → Trail 
         go : (u : Option A) → Ran c true (is_some u) p q x y → IfSome u (λ a. IsIdle c (memo_of q c)) → IfSome u (λ a. IsAtWork c q)
         go None ran h = tt
         go (Some a) ran h = still_working c true p q x y work ran h
+
+    -- of the kind that it was of
+    pub kept : IsAtWork c p → IfSome o (λ a. recovers (memo_of q c) ≡ recovers (memo_of p c))
+    kept work = go o ran_fresh
+      where
+        go : (u : Option A) → Ran c true (is_some u) p q x y → IfSome u (λ a. recovers (memo_of q c) ≡ recovers (memo_of p c))
+        go None ran = tt
+        go (Some a) ran = still_kind c true p q x y work ran

@@ -8,6 +8,7 @@ use Rattle.shm_words.proofs.Placing.{total_small}
 use Rattle.shm_graph.specs.declared.ask.Me.{Me}
 use Rattle.shm_graph.specs.declared.memo.Memo.{Memo}
 use Rattle.shm_graph.specs.declared.spot.Spot.TheVariants.{Hold}
+use Rattle.shm_graph.specs.Agents.{recovers}
 use Rattle.shm_graph.specs.Core.{core}
 use Rattle.shm_graph.specs.Events.{Event}
 use Rattle.shm_graph.specs.Held.{HeldAt}
@@ -37,7 +38,7 @@ use Rattle.shm_ref.specs.Lefts.{MayDrop}
 use Rattle.shm_ref.specs.OnlyRead.{OnlyRead}
 use Rattle.shm_ref.specs.ReadParts.{MayAsk, MayRead}
 use Rattle.shm_tests.proofs.Answering.{some_map}
-use Rattle.shm_tests.proofs.Called.{Called, ran_fresh, told, works}
+use Rattle.shm_tests.proofs.Called.{Called, kept, ran_fresh, told, works}
 
 -- ---- before
 
@@ -108,6 +109,7 @@ PlanGave k q c p s p2 a = let r : Memo = memo_of p2 c in CallsGives k q (calls_o
 pub record Answered {S C A B : Type 0} (k : Control C B) (q : Planned S C B A) (c : ℕ) (p : Pool) (s : S) (p2 : Pool) (x y : ℕ) (o : Option A) : Type 1 where
   pub gives : IfSome o (PlanGave k q c p s p2)
   pub ran : Ran c true (is_some o) p p2 x y
+  pub kind : IfSome o (λ a. recovers (memo_of p2 c) ≡ recovers (memo_of p c))
   -- what follows from it
   pub follows : (P : A → Type 0) → ((a : A) → PlanGave k q c p s p2 a → P a) → IfSome o P
   -- between two calls, where each answer leaves it so, and with the events that each answer tells of
@@ -140,6 +142,7 @@ module _ {S C A B : Type 0} (k : Control C B) (q : Planned S C B A) (laws : Plan
         record {
           gives = gave;
           ran = ran_fresh (calls_control k q) (CallsFits k q) (CallsGives k q) c p (calls_of q s) p2 x y o called fresh;
+          kind = kept (calls_control k q) (CallsFits k q) (CallsGives k q) c p (calls_of q s) p2 x y o called fresh work;
           follows = λ P f. some_map (PlanGave k q c p s p2) P o f gave;
           works = λ f. works (calls_control k q) (CallsFits k q) (CallsGives k q) c p (calls_of q s) p2 x y o called fresh work (some_map (PlanGave k q c p s p2) (λ a. IsIdle c (memo_of p2 c)) o f gave);
           did = λ es f. told (calls_control k q) (CallsFits k q) (CallsGives k q) c p (calls_of q s) p2 x y o called fresh (calls_does k q) (calls_tells k q laws)

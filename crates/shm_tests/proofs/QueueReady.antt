@@ -49,10 +49,11 @@ clear_alloc x r0 r tr a g h =
     }
 
 -- a call on a queue leaves it ready
-pub ready_after : (c : ℕ) (p q : Pool) → IsReady c p → IsAtWork c q → LeavesQueues (memo_of p c) (memo_of q c) → (memo_of q c).dying ≡ (memo_of p c).dying → IsReady c q
-ready_after c p q h work left dying =
+pub ready_after : (c : ℕ) (p q : Pool) → IsReady c p → IsAtWork c q → recovers (memo_of q c) ≡ recovers (memo_of p c) → LeavesQueues (memo_of p c) (memo_of q c) → (memo_of q c).dying ≡ (memo_of p c).dying → IsReady c q
+ready_after c p q h work kind left dying =
     record {
       work = work;
+      client = kind ∙ h.client;
       clear = record {
         loose = left.loose ∙ h.clear.loose;
         latch = left.latch ∙ h.clear.latch;
@@ -72,14 +73,14 @@ ready_other c d fresh answered p q x y h n ran =
         who = subst (λ (s : Start). c < s.geometry.clients) (sym ran.start) h.work.who;
         idle = subst (λ (m : Memo). IsIdle c m) (sym same) h.work.idle;
         acts = ap acts same ∙ h.work.acts;
-        client = ap recovers same ∙ h.work.client;
       };
+      client = ap recovers same ∙ h.client;
       clear = subst IsClear (sym same) h.clear;
     }
 
 -- and so it is of an identity whose first root names a block
-pub has_after : (c b : ℕ) (p q : Pool) → HasBlock c b p → IsAtWork c q → LeavesQueues (memo_of p c) (memo_of q c) → (memo_of q c).dying ≡ (memo_of p c).dying → root_word c (memo_of q c) 0 ≡ root_word c (memo_of p c) 0 → AreRootsReached c (memo_of q c) → HasBlock c b q
-has_after c b p q h work left dying root reached = record { ready = ready_after c p q h.ready work left dying; root = root ∙ h.root; reached = reached }
+pub has_after : (c b : ℕ) (p q : Pool) → HasBlock c b p → IsAtWork c q → recovers (memo_of q c) ≡ recovers (memo_of p c) → LeavesQueues (memo_of p c) (memo_of q c) → (memo_of q c).dying ≡ (memo_of p c).dying → root_word c (memo_of q c) 0 ≡ root_word c (memo_of p c) 0 → AreRootsReached c (memo_of q c) → HasBlock c b q
+has_after c b p q h work kind left dying root reached = record { ready = ready_after c p q h.ready work kind left dying; root = root ∙ h.root; reached = reached }
 
 pub has_other : (c b d : ℕ) (fresh answered : Bool) (p q : Pool) (x y : ℕ) → HasBlock c b p → c ≢ d → Ran d fresh answered p q x y → HasBlock c b q
 has_other c b d fresh answered p q x y h n ran =

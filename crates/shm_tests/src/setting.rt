@@ -1,8 +1,9 @@
 //! The home of an identity on a pool.
 
-ghost use Rattle.std.specs.Prelude.{◌≡◌, ℕ, true, [], ◌∷◌, IfOk, IfErr, IfSome};
+ghost use Rattle.std.specs.Prelude.{◌≡◌, ℕ, false, true, [], ◌∷◌, IfOk, IfErr, IfSome};
 ghost use Rattle.std.specs.Option.{is_some};
 ghost use Rattle.shm_graph.specs.declared.spot.Spot.TheVariants.{Home};
+ghost use Rattle.shm_graph.specs.Agents.{recovers};
 ghost use Rattle.shm_graph.specs.Events.{Up};
 ghost use Rattle.shm_graph.specs.Held.{is_loose};
 ghost use Rattle.shm_graph.specs.Reach.{is_reached};
@@ -28,6 +29,7 @@ pub fn set_home(
     life: &mut Life,
 ) -> Option<Result<(), HomeFault>>
     requires at_work { IsAtWork who pool.old }
+    requires client { recovers (memo_of pool.old who) ≡ false }
     requires reached { is_reached who (memo_of pool.old who) block ≡ true }
     requires part { own_word (memo_of pool.old who).own (Home who) ≡ 0 → KeepsPart who (memo_of pool.old who) (aims.Up block) (Home who) }
     ensures gives { IfSome result (λ a. SetHomeGives (member pool.old.start.geometry who) block (memo_of pool.old who) (memo_of pool.new who) (memo_of pool.new who).call a) }
@@ -39,6 +41,7 @@ pub fn set_home(
     ensures loose { IfSome result (λ a. is_loose (memo_of pool.new who).part ≡ is_loose (memo_of pool.old who).part) }
     ensures reached { IfSome result (λ a. AreRootsReached who (memo_of pool.new who)) }
     ensures at_work { IfSome result (λ a. IsAtWork who pool.new) }
+    ensures kind { IfSome result (λ a. recovers (memo_of pool.new who) ≡ recovers (memo_of pool.old who)) }
     ensures ran { Ran who true (is_some result) pool.old pool.new life.old.left life.new.left }
     ensures events { IfSome result (λ a. Did who pool.old pool.new (if_done a (Up who (Home who) block ∷ []))) }
 {

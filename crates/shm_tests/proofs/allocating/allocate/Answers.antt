@@ -24,7 +24,7 @@ use Rattle.shm_tests.specs.Allocating.{IsAsked}
 use Rattle.shm_count.specs.Roots.{AreRootsReached, member, root_word}
 use Rattle.shm_tests.proofs.AllocRoots.{alloc_inside, alloc_number, alloc_others, alloc_refused, alloc_root}
 use Rattle.shm_tests.proofs.Answering.{some_map}
-use Rattle.shm_tests.proofs.Called.{Called, ran_fresh, told, works}
+use Rattle.shm_tests.proofs.Called.{Called, kept, ran_fresh, told, works}
 use Rattle.shm_count.proofs.RootSpots.{roots_reached}
 use Rattle.shm_plain.proofs.Calling.{ready_still}
 use Rattle.shm_tests.proofs.allocating.allocate.Goals.{In_ok-alloc, After-call}
@@ -132,6 +132,11 @@ pub returns-clause-at_work : goal.returns-clause-at_work
 returns-clause-at_work c =
     let at = (goal.at.returns-clause-at_work c).After-call in
     works alloc_control AllocFits AllocGives c.args.who c.args.pool.now c.in_ok-alloc.alloc c.call.new.self c.args.life.now.left c.call.new.life.left c.call.result (called at) (fresh at) c.requires.at_work (idle at)
+
+pub returns-clause-kind : goal.returns-clause-kind
+returns-clause-kind c =
+    let at = (goal.at.returns-clause-kind c).After-call in
+    kept alloc_control AllocFits AllocGives c.args.who c.args.pool.now c.in_ok-alloc.alloc c.call.new.self c.args.life.now.left c.call.new.life.left c.call.result (called at) (fresh at) c.requires.at_work
 
 pub returns-clause-ran : goal.returns-clause-ran
 returns-clause-ran c = ran (goal.at.returns-clause-ran c).After-call

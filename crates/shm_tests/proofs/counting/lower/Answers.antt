@@ -27,7 +27,7 @@ use Rattle.shm_count.specs.StepMachines.{DownFits, DownGives, down_answer, down_
 use Rattle.shm_count.specs.StepTells.{step_tells}
 use Rattle.shm_tests.specs.Answers.{if_done}
 use Rattle.shm_tests.proofs.Answering.{some_map}
-use Rattle.shm_tests.proofs.Called.{Called, ran_fresh, told_by, works}
+use Rattle.shm_tests.proofs.Called.{Called, kept, ran_fresh, told_by, works}
 use Rattle.shm_tests.proofs.RootAnswers.{down_dying, down_left}
 use Rattle.shm_tests.proofs.RootCalls.{Left, RootLeft, down_fits, root_left, root_small}
 use Rattle.shm_tests.proofs.RootEvents.{events_at_slot, told_laws}
@@ -122,6 +122,11 @@ pub returns-clause-at_work : goal.returns-clause-at_work
 returns-clause-at_work c =
     let at = (goal.at.returns-clause-at_work c).After-call in
     works down_control DownFits DownGives c.args.who c.args.pool.now (machine (goal.at.After-call at).After-new-down) c.call.new.self c.args.life.now.left c.call.new.life.left c.call.result (called at) refl c.requires.at_work (left at).idle
+
+pub returns-clause-kind : goal.returns-clause-kind
+returns-clause-kind c =
+    let at = (goal.at.returns-clause-kind c).After-call in
+    kept down_control DownFits DownGives c.args.who c.args.pool.now (machine (goal.at.After-call at).After-new-down) c.call.new.self c.args.life.now.left c.call.new.life.left c.call.result (called at) refl c.requires.at_work
 
 pub returns-clause-ran : goal.returns-clause-ran
 returns-clause-ran c = ran (goal.at.returns-clause-ran c).After-call

@@ -26,7 +26,7 @@ use Rattle.shm_count.specs.StepMachines.{UpFits, UpGives, up_answer, up_control,
 use Rattle.shm_count.specs.StepTells.{step_tells}
 use Rattle.shm_tests.specs.Answers.{if_done}
 use Rattle.shm_tests.proofs.Answering.{some_map}
-use Rattle.shm_tests.proofs.Called.{Called, ran_fresh, told_by, works}
+use Rattle.shm_tests.proofs.Called.{Called, kept, ran_fresh, told_by, works}
 use Rattle.shm_tests.proofs.RootAnswers.{up_left}
 use Rattle.shm_tests.proofs.RootCalls.{Left, RootLeft, root_left, root_small, up_fits}
 use Rattle.shm_tests.proofs.RootEvents.{events_at_slot, told_laws}
@@ -54,7 +54,7 @@ state c =
 
 -- which fits the memo before
 fit : (c : After-new-up) → let r : Memo = memo_of c.args.pool.now c.args.who in StepFits (Root c.args.who c.args.root) (machine c) r r []
-fit c = up_fits c.args.pool.now c.args.who c.args.root c.requires.root c.requires.at_work c.args.block c.requires.empty c.requires.reached c.requires.inside
+fit c = up_fits c.args.pool.now c.args.who c.args.root c.requires.root c.requires.at_work c.args.block c.requires.client c.requires.empty c.requires.reached c.requires.inside
 
 fits : (c : After-new-up) → fits_now up_control UpFits (machine c) (memo_of c.args.pool.now c.args.who) (memo_of (readied c.args.pool.now c.args.who) c.args.who)
 fits c = fits_acting up_control UpFits UpGives c.args.who c.args.pool.now (machine c) c.requires.at_work.acts refl (refl, (Root c.args.who c.args.root, fit c))
@@ -114,6 +114,11 @@ pub returns-clause-at_work : goal.returns-clause-at_work
 returns-clause-at_work c =
     let at = (goal.at.returns-clause-at_work c).After-call in
     works up_control UpFits UpGives c.args.who c.args.pool.now (machine (goal.at.After-call at).After-new-up) c.call.new.self c.args.life.now.left c.call.new.life.left c.call.result (called at) refl c.requires.at_work (left at).idle
+
+pub returns-clause-kind : goal.returns-clause-kind
+returns-clause-kind c =
+    let at = (goal.at.returns-clause-kind c).After-call in
+    kept up_control UpFits UpGives c.args.who c.args.pool.now (machine (goal.at.After-call at).After-new-up) c.call.new.self c.args.life.now.left c.call.new.life.left c.call.result (called at) refl c.requires.at_work
 
 pub returns-clause-ran : goal.returns-clause-ran
 returns-clause-ran c = ran (goal.at.returns-clause-ran c).After-call

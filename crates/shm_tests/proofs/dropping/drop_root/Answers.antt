@@ -26,7 +26,7 @@ use Rattle.shm_ref.specs.DropLaws.{drop_laws}
 use Rattle.shm_ref.specs.Lefts.{Left}
 use Rattle.shm_ref.specs.Leaving.{left_root}
 use Rattle.shm_tests.proofs.Answering.{some_map}
-use Rattle.shm_tests.proofs.Called.{Called, ran_fresh, told, works}
+use Rattle.shm_tests.proofs.Called.{Called, kept, ran_fresh, told, works}
 use Rattle.shm_tests.proofs.dropping.drop_root.Goals.{After-new-machine, After-call}
 use Rattle.shm_tests.proofs.dropping.drop_root.Goals as goal
 
@@ -148,6 +148,11 @@ returns-clause-at_work c =
       making = ap (λ (x : Memo). x.making) h.rest ∙ idle.making;
       hold = h.own (Hold c.args.who) refl refl ∙ (idle.hold ∙ ap (λ (x : Memo). hold_word x.latch) (sym h.rest));
     }))
+
+pub returns-clause-kind : goal.returns-clause-kind
+returns-clause-kind c =
+    let at = (goal.at.returns-clause-kind c).After-call in
+    kept (calls_control drop_parts drop_plan) (CallsFits drop_parts drop_plan) (CallsGives drop_parts drop_plan) c.args.who c.args.pool.now (calls_of drop_plan (plan (goal.at.After-call at).After-new-machine)) c.call.new.self c.args.life.now.left c.call.new.life.left c.call.result (called at) refl c.requires.at_work
 
 pub returns-clause-ran : goal.returns-clause-ran
 returns-clause-ran c =

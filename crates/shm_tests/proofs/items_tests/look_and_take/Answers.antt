@@ -14,8 +14,8 @@ pub returns-clause-receiver : goal.returns-clause-receiver
 returns-clause-receiver g c =
     let first = c.in-Some-Ok.ensures in
     let second = c.in-Some-Ok-take in
-    let looked : IsReady 1 c.peek.new.pool = ready_after 1 c.args.pool.now c.peek.new.pool c.requires.receiver first.at_work first.left first.stays.1 in
-    ready_after 1 c.peek.new.pool c.take.new.pool looked second.ensures.at_work second.ensures.left (rw second.field-0-is at second.ensures.dying)
+    let looked : IsReady 1 c.peek.new.pool = ready_after 1 c.args.pool.now c.peek.new.pool c.requires.receiver first.at_work first.kind first.left first.stays.1 in
+    ready_after 1 c.peek.new.pool c.take.new.pool looked second.ensures.at_work second.ensures.kind second.ensures.left (rw second.field-0-is at second.ensures.dying)
 
 pub returns-clause-taken : goal.returns-clause-taken
 returns-clause-taken g c =

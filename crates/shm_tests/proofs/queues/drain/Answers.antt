@@ -23,7 +23,7 @@ use Rattle.shm_queue.specs.DrainFits.{AreEmpty, DrainLeaves, Taken, blocks_from,
 use Rattle.shm_queue.specs.DrainLaws.{drain_laws}
 use Rattle.shm_tests.specs.Queues.{LeavesQueues}
 use Rattle.shm_tests.proofs.Answering.{some_map}
-use Rattle.shm_tests.proofs.Called.{Called, ran_fresh, told, works}
+use Rattle.shm_tests.proofs.Called.{Called, kept, ran_fresh, told, works}
 use Rattle.shm_tests.proofs.QueueAnswers.{LeavesIdle, drain_dying, drain_empty, drain_leaves_idle, drain_received, drain_roots}
 use Rattle.shm_tests.proofs.queues.drain.Goals.{After-new-machine, After-call}
 use Rattle.shm_tests.proofs.queues.drain.Goals as goal
@@ -135,6 +135,11 @@ returns-clause-at_work c =
     let at = (goal.at.returns-clause-at_work c).After-call in
     works machine.drain (CallsFits drain_parts drain_plan) (CallsGives drain_parts drain_plan) c.args.who c.args.pool.now (calls_of drain_plan (plan (goal.at.After-call at).After-new-machine)) c.call.new.self c.args.life.now.left c.call.new.life.left c.call.result (called at) refl c.requires.at_work
     (left at (λ a. IsIdle c.args.who (memo_of c.call.new.self c.args.who)) (λ h a. h.idle c.requires.at_work.idle))
+
+pub returns-clause-kind : goal.returns-clause-kind
+returns-clause-kind c =
+    let at = (goal.at.returns-clause-kind c).After-call in
+    kept machine.drain (CallsFits drain_parts drain_plan) (CallsGives drain_parts drain_plan) c.args.who c.args.pool.now (calls_of drain_plan (plan (goal.at.After-call at).After-new-machine)) c.call.new.self c.args.life.now.left c.call.new.life.left c.call.result (called at) refl c.requires.at_work
 
 pub returns-clause-ran : goal.returns-clause-ran
 returns-clause-ran c =

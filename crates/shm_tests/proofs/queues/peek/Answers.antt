@@ -44,7 +44,7 @@ knows : (c : After-new-machine) → let r : Memo = memo_of c.args.pool.now c.arg
 knows c =
     let work = c.requires.at_work in
     let r : Memo = memo_of c.args.pool.now c.args.who in
-    (record { take = record { geometry = work.geometry; who = work.who; here = is_here c.args.who r work.idle; idle = work.idle.op; from = c.requires.from; other = c.requires.other; none = c.requires.none }; client = work.client }, refl, refl, refl)
+    (record { take = record { geometry = work.geometry; who = work.who; here = is_here c.args.who r work.idle; idle = work.idle.op; from = c.requires.from; other = c.requires.other; none = c.requires.none }; client = c.requires.client }, refl, refl, refl)
 
 pub call-requires-clause-fits : goal.call-requires-clause-fits
 call-requires-clause-fits c =
@@ -66,6 +66,9 @@ returns-clause-gives c = (called (goal.at.returns-clause-gives c).After-call).gi
 
 pub returns-clause-ran : goal.returns-clause-ran
 returns-clause-ran c = (called (goal.at.returns-clause-ran c).After-call).ran
+
+pub returns-clause-kind : goal.returns-clause-kind
+returns-clause-kind c = (called (goal.at.returns-clause-kind c).After-call).kind
 
 pub returns-clause-number : goal.returns-clause-number
 returns-clause-number c =

@@ -30,7 +30,7 @@ use Rattle.shm_queue.specs.ReceiveFits.{ReceiveLeaves, receive_plan}
 use Rattle.shm_queue.specs.ReceiveLaws.{receive_laws}
 use Rattle.shm_tests.specs.Queues.{LeavesQueues, if_empty}
 use Rattle.shm_tests.proofs.Answering.{some_map}
-use Rattle.shm_tests.proofs.Called.{Called, ran_fresh, told, works}
+use Rattle.shm_tests.proofs.Called.{Called, kept, ran_fresh, told, works}
 use Rattle.shm_tests.proofs.ItemAnswers.{taken_first}
 use Rattle.shm_tests.proofs.QueueAnswers.{LeavesIdle, receive_dying, receive_empty, receive_leaves_idle, receive_named, receive_number, receive_received, receive_roots}
 use Rattle.shm_tests.proofs.queues.receive.Goals.{After-new-machine, After-call}
@@ -56,7 +56,7 @@ fits c =
     let work = c.requires.at_work in
     fits_acting machine.receive (CallsFits receive_parts receive_plan) (CallsGives receive_parts receive_plan) c.args.who p (calls_of receive_plan (plan c)) work.acts refl
     (calls_begin receive_parts receive_plan receive_laws (plan c) (memo_of p c.args.who) refl refl
-    (record { take = record { geometry = work.geometry; who = work.who; here = is_here c.args.who (memo_of p c.args.who) work.idle; idle = work.idle.op; from = c.requires.from; other = c.requires.other; none = c.requires.none }; client = work.client }, refl, refl, refl))
+    (record { take = record { geometry = work.geometry; who = work.who; here = is_here c.args.who (memo_of p c.args.who) work.idle; idle = work.idle.op; from = c.requires.from; other = c.requires.other; none = c.requires.none }; client = c.requires.client }, refl, refl, refl))
 
 pub call-requires-clause-fits : goal.call-requires-clause-fits
 call-requires-clause-fits c =
@@ -175,6 +175,11 @@ returns-clause-at_work c =
     let at = (goal.at.returns-clause-at_work c).After-call in
     works machine.receive (CallsFits receive_parts receive_plan) (CallsGives receive_parts receive_plan) c.args.who c.args.pool.now (calls_of receive_plan (plan (goal.at.After-call at).After-new-machine)) c.call.new.self c.args.life.now.left c.call.new.life.left c.call.result (called at) refl c.requires.at_work
     (left at (λ a. IsIdle c.args.who (memo_of c.call.new.self c.args.who)) (λ h a. h.idle c.requires.at_work.idle))
+
+pub returns-clause-kind : goal.returns-clause-kind
+returns-clause-kind c =
+    let at = (goal.at.returns-clause-kind c).After-call in
+    kept machine.receive (CallsFits receive_parts receive_plan) (CallsGives receive_parts receive_plan) c.args.who c.args.pool.now (calls_of receive_plan (plan (goal.at.After-call at).After-new-machine)) c.call.new.self c.args.life.now.left c.call.new.life.left c.call.result (called at) refl c.requires.at_work
 
 pub returns-clause-ran : goal.returns-clause-ran
 returns-clause-ran c =

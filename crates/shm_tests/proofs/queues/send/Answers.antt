@@ -26,7 +26,7 @@ use Rattle.shm_queue.specs.SendFits.{SendLeaves, send_plan}
 use Rattle.shm_queue.specs.SendLaws.{send_laws}
 use Rattle.shm_tests.specs.Queues.{LeavesQueues}
 use Rattle.shm_tests.proofs.Answering.{some_map}
-use Rattle.shm_tests.proofs.Called.{Called, ran_fresh, told, works}
+use Rattle.shm_tests.proofs.Called.{Called, kept, ran_fresh, told, works}
 use Rattle.shm_tests.proofs.QueueAnswers.{LeavesIdle, send_dying, send_leaves_idle, send_place, send_refused, send_roots, send_sent}
 use Rattle.shm_tests.proofs.queues.send.Goals.{After-new-machine, After-call}
 use Rattle.shm_tests.proofs.queues.send.Goals as goal
@@ -51,7 +51,7 @@ fits c =
     let work = c.requires.at_work in
     fits_acting machine.send (CallsFits send_parts send_plan) (CallsGives send_parts send_plan) c.args.who p (calls_of send_plan (plan c)) work.acts refl
     (calls_begin send_parts send_plan send_laws (plan c) (memo_of p c.args.who) refl refl
-    (record { geometry = work.geometry; who = work.who; here = is_here c.args.who (memo_of p c.args.who) work.idle; idle = work.idle.op; client = work.client; to = c.requires.to; other = c.requires.other; reach = c.requires.reached; value = c.requires.value; none = c.requires.none }, refl, refl, refl))
+    (record { geometry = work.geometry; who = work.who; here = is_here c.args.who (memo_of p c.args.who) work.idle; idle = work.idle.op; client = c.requires.client; to = c.requires.to; other = c.requires.other; reach = c.requires.reached; value = c.requires.value; none = c.requires.none }, refl, refl, refl))
 
 pub call-requires-clause-fits : goal.call-requires-clause-fits
 call-requires-clause-fits c =
@@ -143,6 +143,11 @@ returns-clause-at_work c =
     let at = (goal.at.returns-clause-at_work c).After-call in
     works machine.send (CallsFits send_parts send_plan) (CallsGives send_parts send_plan) c.args.who c.args.pool.now (calls_of send_plan (plan (goal.at.After-call at).After-new-machine)) c.call.new.self c.args.life.now.left c.call.new.life.left c.call.result (called at) refl c.requires.at_work
     (left at (λ a. IsIdle c.args.who (memo_of c.call.new.self c.args.who)) (λ h a. h.idle c.requires.at_work.idle))
+
+pub returns-clause-kind : goal.returns-clause-kind
+returns-clause-kind c =
+    let at = (goal.at.returns-clause-kind c).After-call in
+    kept machine.send (CallsFits send_parts send_plan) (CallsGives send_parts send_plan) c.args.who c.args.pool.now (calls_of send_plan (plan (goal.at.After-call at).After-new-machine)) c.call.new.self c.args.life.now.left c.call.new.life.left c.call.result (called at) refl c.requires.at_work
 
 pub returns-clause-ran : goal.returns-clause-ran
 returns-clause-ran c =

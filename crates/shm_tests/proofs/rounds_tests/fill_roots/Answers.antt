@@ -7,7 +7,7 @@ loop-root-preserved g c =
     let put = c.put.ensures in
     let item = c.in-Some-Ok in (
       has_other 0 104 1 _ _ _ _ _ _ put.sender zero_not_one c.receive.ensures.ran,
-      ready_after 1 c.put.new.pool c.receive.new.pool put.receiver item.ensures.at_work item.ensures.left (rw item.field-0-is at item.ensures.dying),
+      ready_after 1 c.put.new.pool c.receive.new.pool put.receiver item.ensures.at_work item.ensures.kind item.ensures.left (rw item.field-0-is at item.ensures.dying),
       c.receive.ensures.ran.start ∙ (put.start ∙ c.loop-root.invariant.2),
     )
 
@@ -17,4 +17,4 @@ get-requires-clause-sender g c = has_other 0 104 1 _ _ _ _ _ _ c.put-2.ensures.s
 pub get-requires-clause-receiver : goal.get-requires-clause-receiver
 get-requires-clause-receiver g c =
     let said = c.in-Some.ensures in
-    ready_after 1 c.put-2.new.pool c.peek.new.pool c.put-2.ensures.receiver said.at_work said.left said.stays.1
+    ready_after 1 c.put-2.new.pool c.peek.new.pool c.put-2.ensures.receiver said.at_work said.kind said.left said.stays.1

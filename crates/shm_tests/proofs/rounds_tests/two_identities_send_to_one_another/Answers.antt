@@ -15,7 +15,7 @@ cross_all-requires-clause-second g c =
     let block : item.made.block ≡ 104 = search rules in
     let named : root_word 1 (memo_of q 1) item.made.root ≡ item.made.block = search rules in
     record {
-      ready = ready_after 1 c.put.new.pool q c.put.ensures.receiver item.ensures.at_work item.ensures.left (rw item.field-0-is at item.ensures.dying);
+      ready = ready_after 1 c.put.new.pool q c.put.ensures.receiver item.ensures.at_work item.ensures.kind item.ensures.left (rw item.field-0-is at item.ensures.dying);
       root = ap (root_word 1 (memo_of q 1)) (sym first) ∙ (named ∙ block);
       reached = item.ensures.reached;
     }

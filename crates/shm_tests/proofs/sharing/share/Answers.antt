@@ -26,7 +26,7 @@ use Rattle.shm_count.specs.UpRootFits.{UpRootLeaves, rooting_plan}
 use Rattle.shm_count.specs.UpRootLaws.{rooting_begin, rooting_laws}
 use Rattle.shm_count.specs.UpRootPart.{RootingCalls, rooted_root, up_root}
 use Rattle.shm_tests.proofs.Answering.{some_map}
-use Rattle.shm_tests.proofs.Called.{Called, ran_fresh, told, works}
+use Rattle.shm_tests.proofs.Called.{Called, kept, ran_fresh, told, works}
 use Rattle.shm_tests.proofs.sharing.share.Goals.{After-new-machine, After-call}
 use Rattle.shm_tests.proofs.sharing.share.Goals as goal
 
@@ -48,7 +48,7 @@ fits c =
     fits_acting up_root (CallsFits rooting_parts rooting_plan) (CallsGives rooting_parts rooting_plan) c.args.who p (calls_of rooting_plan (plan c)) work.acts refl
     (calls_begin rooting_parts rooting_plan rooting_laws (plan c) (memo_of p c.args.who) refl refl
     (rooting_begin (plan c) (memo_of p c.args.who) refl
-    (record { geometry = work.geometry; who = work.who; here = is_here c.args.who (memo_of p c.args.who) work.idle; idle = work.idle.op; client = work.client; reach = c.requires.reached })))
+    (record { geometry = work.geometry; who = work.who; here = is_here c.args.who (memo_of p c.args.who) work.idle; idle = work.idle.op; client = c.requires.client; reach = c.requires.reached })))
 
 pub call-requires-clause-fits : goal.call-requires-clause-fits
 call-requires-clause-fits c =
@@ -146,6 +146,11 @@ pub returns-clause-at_work : goal.returns-clause-at_work
 returns-clause-at_work c =
     let at = (goal.at.returns-clause-at_work c).After-call in
     works up_root (CallsFits rooting_parts rooting_plan) (CallsGives rooting_parts rooting_plan) c.args.who c.args.pool.now (calls_of rooting_plan (plan (goal.at.After-call at).After-new-machine)) c.call.new.self c.args.life.now.left c.call.new.life.left c.call.result (called at) refl c.requires.at_work (idle at)
+
+pub returns-clause-kind : goal.returns-clause-kind
+returns-clause-kind c =
+    let at = (goal.at.returns-clause-kind c).After-call in
+    kept up_root (CallsFits rooting_parts rooting_plan) (CallsGives rooting_parts rooting_plan) c.args.who c.args.pool.now (calls_of rooting_plan (plan (goal.at.After-call at).After-new-machine)) c.call.new.self c.args.life.now.left c.call.new.life.left c.call.result (called at) refl c.requires.at_work
 
 pub returns-clause-ran : goal.returns-clause-ran
 returns-clause-ran c =

@@ -14,7 +14,7 @@ use Rattle.shm_count.specs.TearControl.{tear_control}
 use Rattle.shm_count.specs.TearFits.{TearFits, TearGives, TearLeaves}
 use Rattle.shm_count.specs.Roots.{root_word, tear_of}
 use Rattle.shm_tests.proofs.Answering.{some_map}
-use Rattle.shm_tests.proofs.Called.{Called, ran_fresh, told, works}
+use Rattle.shm_tests.proofs.Called.{Called, kept, ran_fresh, told, works}
 use Rattle.shm_graph.specs.Events.{Event}
 use Rattle.shm_graph.specs.Tells.{happens_along}
 use Rattle.shm_plain.specs.Calls.{Did}
@@ -90,6 +90,11 @@ returns-clause-at_work c =
     let r : Memo = memo_of c.call.new.self c.args.who in
     works tear_control TearFits TearGives c.args.who p (machine (goal.at.After-call at).After-new-tear) c.call.new.self c.args.life.now.left c.call.new.life.left c.call.result (called at) refl c.requires.at_work
     (follows at (λ a. IsIdle c.args.who r) (λ a g. tear_idle p.start.geometry c.args.who c.args.block (memo_of p c.args.who) r r.call a c.requires.at_work.idle g))
+
+pub returns-clause-kind : goal.returns-clause-kind
+returns-clause-kind c =
+    let at = (goal.at.returns-clause-kind c).After-call in
+    kept tear_control TearFits TearGives c.args.who c.args.pool.now (machine (goal.at.After-call at).After-new-tear) c.call.new.self c.args.life.now.left c.call.new.life.left c.call.result (called at) refl c.requires.at_work
 
 pub returns-clause-ran : goal.returns-clause-ran
 returns-clause-ran c =
