@@ -1,7 +1,8 @@
 use Rattle.std.proofs.Common.{◌≡◌, ◌≢◌, ◌<◌, ℕ, refl, sym, ap, ◌∙◌, subst, List, Result}
-use Rattle.std.specs.Prelude.{IfOk, IfErr, IfSome}
+use Rattle.std.specs.Prelude.{Ok, Err, IfOk, IfErr, IfSome}
 use Rattle.shm_graph.specs.declared.ask.Me.{Me}
 use Rattle.shm_graph.specs.declared.memo.Memo.{Memo}
+use Rattle.shm_graph.specs.declared.run.Start.{Start}
 use Rattle.shm_graph.specs.declared.spot.Spot.TheVariants.{Front}
 use Rattle.shm_graph.specs.Events.{Event}
 use Rattle.shm_graph.specs.Idle.{IsIdle}
@@ -12,6 +13,7 @@ use Rattle.shm_graph.specs.Whole.{fits_now}
 use Rattle.shm_graph.specs.Core.{core}
 use Rattle.shm_plain.specs.Pools.{memo_of, readied}
 use Rattle.shm_plain.specs.Calls.{Did}
+use Rattle.shm_plain.specs.Lanes.{IsFirst}
 use Rattle.shm_plain.proofs.Calling.{fits_acting}
 use Rattle.shm_calls.specs.declared.calls.Calls.{Calls}
 use Rattle.shm_calls.specs.CallsControl.{calls_does, calls_of}
@@ -29,6 +31,7 @@ use Rattle.shm_queue.specs.ReceiveLaws.{receive_laws}
 use Rattle.shm_tests.specs.Queues.{LeavesQueues, if_empty}
 use Rattle.shm_tests.proofs.Answering.{some_map}
 use Rattle.shm_tests.proofs.Called.{Called, kept, ran_fresh, told, works}
+use Rattle.shm_tests.proofs.ItemAnswers.{taken_first}
 use Rattle.shm_tests.proofs.QueueAnswers.{LeavesIdle, receive_dying, receive_empty, receive_leaves_idle, receive_named, receive_number, receive_received, receive_roots}
 use Rattle.shm_tests.proofs.queues.receive.Goals.{After-new-machine, After-call}
 use Rattle.shm_tests.proofs.queues.receive.Goals as goal
@@ -108,6 +111,22 @@ returns-clause-received c =
     let r : Memo = memo_of c.call.new.self c.args.who in
     follows at (λ a. IfOk a (λ made. r.received ≡ lane_with r0.received c.args.from made.block))
     (receive_received (plan (goal.at.After-call at).After-new-machine) r0 r r.call (events at))
+
+-- which was the first one
+first_by : (c : After-call) (a : Result Made PeekFault) → IfOk a (λ made. (memo_of c.call.new.self c.args.who).received ≡ lane_with (memo_of c.args.pool.now c.args.who).received c.args.from made.block) → IfOk a (λ made. IsFirst c.args.pool.now c.args.from c.args.who made.block)
+first_by c (Ok made) e =
+    let ran = c.call.ensures.ran in
+    let inside : (d : ℕ) → d < c.args.pool.now.start.geometry.clients → d < c.call.new.self.start.geometry.clients = (λ d l. subst (λ (s : Start). d < s.geometry.clients) (sym ran.start) l) in
+    taken_first c.args.pool.now c.call.new.self c.args.from c.args.who made.block ran.run (inside c.args.from c.requires.from) (inside c.args.who c.requires.at_work.who) c.requires.other (ran.others c.args.from c.requires.other) e
+first_by c (Err f) e = tt
+
+pub returns-clause-first : goal.returns-clause-first
+returns-clause-first c =
+    let at = (goal.at.returns-clause-first c).After-call in
+    let r0 : Memo = memo_of c.args.pool.now c.args.who in
+    let r : Memo = memo_of c.call.new.self c.args.who in
+    follows at (λ a. IfOk a (λ made. IsFirst c.args.pool.now c.args.from c.args.who made.block))
+    (λ a h. first_by at a (receive_received (plan (goal.at.After-call at).After-new-machine) r0 r r.call (events at) a h))
 
 pub returns-clause-empty : goal.returns-clause-empty
 returns-clause-empty c =
