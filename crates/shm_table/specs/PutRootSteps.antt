@@ -62,6 +62,9 @@ pub search_more : (me : Me) (a key n : ℕ) (tr t : Trail) → HasSearch me a ke
 search_more me a key n tr t (before, middle, after, split, found) =
     (before, middle, after ++ t, ap (λ (u : Trail). u ++ t) split ∙ (append_assoc before (middle ++ after) t ∙ ap (λ (u : Trail). before ++ u) (append_assoc middle after t)), found)
 
+pub search_before : (me : Me) (a key n : ℕ) (tr t : Trail) → HasSearch me a key n t → HasSearch me a key n (tr ++ t)
+search_before me a key n tr t (before, middle, after, split, found) = (tr ++ before, middle, after, ap (λ (u : Trail). tr ++ u) split ∙ sym (append_assoc tr before (middle ++ after)), found)
+
 -- the blocks that are freed by one list of events and by another
 pub frees_append : (es ds : List Event) → frees (es ++ ds) ≡ frees es + frees ds
 frees_append [] ds = omega arith
