@@ -86,6 +86,21 @@ impl Alloc {
             state: AllocState { me, request, point },
         })
     }
+
+    /// An allocation for the identity `me` of a block that holds what `request` says.
+    #[inline(always)]
+    pub fn asked(me: Me, request: Request) -> Alloc
+        requires geometry { GeometryFits me.geometry }
+        requires who { me.who < me.geometry.clients }
+        requires refs { request.refs ≤ 16 }
+        requires count { request.count ≤ 8 }
+        ensures { result ≡ record { me = me; request = request; point = Era } }
+    {
+        let point = AllocPoint::Era;
+        Alloc {
+            state: AllocState { me, request, point },
+        }
+    }
 }
 
 impl Machine for Alloc {

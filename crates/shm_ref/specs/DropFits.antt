@@ -72,11 +72,12 @@ pub record Dropped (m : DropState) (r0 r : Memo) (tr : Trail) (es : List Event) 
   pub events : RootEvents m.me.who m.root (root_word m.me.who r0 m.root) es
   pub bound : IsWithin (9 + 164 * frees es) tr
 
--- the own era left no room for a step down
+-- the own era left no room for a step down, and is at least the one that was read
 pub record DropStopped (m : DropState) (r0 r : Memo) (tr : Trail) (es : List Event) (era : ℕ) (vs : List Visit) : Type 0 where
   pub left : Left m.me.who (λ j. m.root == j) r0 r
   pub remains : Remains m.me.who r0 r
   pub stopped : Stopped m.me r0 r era vs
+  pub most : era ≤ own_word r.own (Era m.me.who m.me.who)
   pub bound : IsWithin (9 + 164 * (frees es + length vs)) tr
 
 abbrev pub DropLeaves : DropState → Memo → Memo → Trail → List Event → Result Bool EraSpent → Type 0

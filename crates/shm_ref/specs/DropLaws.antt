@@ -172,6 +172,7 @@ module _ (m : DropState) (r0 rs r : Memo) (tr t : Trail) (es ds : List Event) (h
           left = left_untouched c (λ j. k == j) r0 r h.may.idle same;
           remains = remains_untouched c r0 r same;
           stopped = record { left = All-nil (λ (v : Visit). Contains r.dying v.block); others = all_outside r.dying ∙ ap (λ (x : Memo). x.dying) same.rest; spent = s.did.1.1 };
+          most = let u = s.did.1.0 in let v = s.did.0.rows c in omega arith;
           bound = omega arith;
         },
       )
@@ -200,6 +201,7 @@ module _ (m : DropState) (r0 rs r : Memo) (tr t : Trail) (es ds : List Event) (h
               left = left_took c k b false r0 r took;
               remains = remains_took c k b r0 r took;
               stopped = stopped_at m.me b r0 rs r ds t e.era vs h.lost.dying h.counted y;
+              most = let u = y.spent in omega arith;
               bound = omega arith;
             },
           )

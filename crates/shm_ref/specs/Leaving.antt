@@ -5,7 +5,7 @@ use Rattle.std.specs.List.{Contains, filter}
 use Rattle.std.proofs.lemmas.Bool.{and_from, cases_Bool, eq-eqb, false≢true}
 use Rattle.shm_graph.specs.declared.ask.Me.{Me}
 use Rattle.shm_graph.specs.declared.spot.Spot.{Spot}
-use Rattle.shm_graph.specs.declared.spot.Spot.TheVariants.{Home, Root}
+use Rattle.shm_graph.specs.declared.spot.Spot.TheVariants.{Era, Home, Root}
 use Rattle.shm_graph.specs.declared.memo.Memo.{Memo}
 use Rattle.shm_graph.specs.declared.memo.Op.TheVariants.{Nothing}
 use Rattle.shm_graph.specs.Events.{Event}
@@ -59,6 +59,7 @@ left_core c e m r idle same =
       op = ap (λ (x : Memo). x.op) same ∙ idle;
       own = λ p l n. ap (λ (x : Memo). own_word x.own p) same;
       roots = λ j. inr (ap (λ (x : Memo). root_word c x j) same);
+      rows = λ j. let u = ap (λ (x : Memo). own_word x.own (Era c j)) same in omega arith;
     }
 
 -- no root but the one
@@ -77,6 +78,7 @@ left_took c k t z m r h =
         | inl e ↦ inl (h.own (Root c j) refl ∙ ap (λ z. cond z 0 (own_word m.own (Root c j))) (and_from (eqb c c) (eqb k j) (eq-eqb c c refl) e))
         | inr e ↦ inr (h.own (Root c j) refl ∙ ap (λ z. cond z 0 (own_word m.own (Root c j))) (right_false (eqb c c) (eqb k j) e))
       ];
+      rows = h.rows;
     }
   where
     no_part : (ks : List Stored) (c home k : ℕ) (part : Part) → part_set ks c home (Root c k) 0 part ≡ part
@@ -89,7 +91,7 @@ root_took c k t z m r h = h.own (Root c k) refl ∙ ap (λ z. cond z 0 (own_word
 
 -- a step down was refused
 pub left_untouched : (c : ℕ) (e : ℕ → Bool) (m r : Memo) → m.op ≡ Nothing → Untouched c m r → Left c e m r
-left_untouched c e m r idle h = record { rest = ap rest h.rest; op = ap (λ (x : Memo). x.op) h.rest ∙ idle; own = λ p l n. h.own p l; roots = λ j. inr (h.own (Root c j) refl) }
+left_untouched c e m r idle h = record { rest = ap rest h.rest; op = ap (λ (x : Memo). x.op) h.rest ∙ idle; own = λ p l n. h.own p l; roots = λ j. inr (h.own (Root c j) refl); rows = h.rows }
 
 -- what stays known then
 pub remains_took : (c k t : ℕ) (m r : Memo) → Took c (Root c k) false t 0 false m r → Remains c m r
@@ -117,7 +119,7 @@ fewer_roots c d e _ fewer h = refl
 
 -- more roots may have come to be empty
 pub left_more : (c : ℕ) (d e : ℕ → Bool) (m r : Memo) → ((j : ℕ) → e j ≡ false → d j ≡ false) → Left c d m r → Left c e m r
-left_more c d e m r fewer h = record { rest = h.rest; op = h.op; own = λ p l n. h.own p l (fewer_roots c d e p fewer n); roots = h.roots }
+left_more c d e m r fewer h = record { rest = h.rest; op = h.op; own = λ p l n. h.own p l (fewer_roots c d e p fewer n); roots = h.roots; rows = h.rows }
 
 no_root_either : (c : ℕ) (d e : ℕ → Bool) (p : Spot) → is_root_of c (λ j. d j || e j) p ≡ false → (is_root_of c d p ≡ false) × (is_root_of c e p ≡ false)
 no_root_either c d e (Root i j) h = each_false (c == i) (d j) (e j) h
@@ -131,6 +133,7 @@ left_then c d e m q r h i =
       op = i.op;
       own = λ p l n. let y = no_root_either c d e p n in i.own p l y.1 ∙ h.own p l y.0;
       roots = λ j. elim (i.roots j) [ inl u ↦ inl u | inr u ↦ elim (h.roots j) [ inl x ↦ inl (u ∙ x) | inr x ↦ inr (u ∙ x) ] ];
+      rows = λ j. let a = h.rows j in let b = i.rows j in omega arith;
     }
 
 -- a root that isn't among them is what it was

@@ -1,9 +1,9 @@
 -- what is left of a memo once roots of its identity came to be empty
-use Rattle.std.specs.Prelude.{◌≡◌, ℕ, zero, suc, ◌<◌, ◌⊎◌, Bool, true, false, ◌&&◌, ◌==◌, List, [], ◌∷◌, ◌++◌}
+use Rattle.std.specs.Prelude.{◌≡◌, ℕ, zero, suc, ◌<◌, ◌≤◌, ◌⊎◌, Bool, true, false, ◌&&◌, ◌==◌, List, [], ◌∷◌, ◌++◌}
 use Rattle.shm_words.specs.Layout.{GeometryFits}
 use Rattle.shm_graph.specs.declared.ask.Me.{Me}
 use Rattle.shm_graph.specs.declared.spot.Spot.{Spot}
-use Rattle.shm_graph.specs.declared.spot.Spot.TheVariants.{Root}
+use Rattle.shm_graph.specs.declared.spot.Spot.TheVariants.{Era, Root}
 use Rattle.shm_graph.specs.declared.memo.Memo.{Memo}
 use Rattle.shm_graph.specs.declared.memo.Op.TheVariants.{Nothing}
 use Rattle.shm_graph.specs.Events.{Event}
@@ -20,12 +20,13 @@ abbrev pub is_root_of : ℕ → (ℕ → Bool) → Spot → Bool
 is_root_of c e (Root d j) = (c == d) && e j
 is_root_of c e p = false
 
--- roots among e came to be empty, no step is in progress, and nothing else of the identity changed but its zero-count blocks, what it knows and has read, its redo record and its row
+-- roots among e came to be empty, no step is in progress, and nothing else of the identity changed but its zero-count blocks, what it knows and has read, its redo record and its row, which grew
 pub record Left (c : ℕ) (e : ℕ → Bool) (m r : Memo) : Type 0 where
   pub rest : rest r ≡ rest m
   pub op : r.op ≡ Nothing
   pub own : (p : Spot) → is_lasting c p ≡ true → is_root_of c e p ≡ false → own_word r.own p ≡ own_word m.own p
   pub roots : (j : ℕ) → (root_word c r j ≡ 0) ⊎ (root_word c r j ≡ root_word c m j)
+  pub rows : (j : ℕ) → own_word m.own (Era c j) ≤ own_word r.own (Era c j)
 
 -- no step is in progress, so that roots of it may be dropped
 pub record MayDrop (me : Me) (m : Memo) : Type 0 where

@@ -3,6 +3,8 @@ pub mod Staying
 pub mod FindControl
 pub mod EntryReads
 pub mod FindFits
+pub mod StayingLaws
+pub mod StayingSteps
 pub mod FindReads
 pub mod FindLaws
 pub mod FindBound
@@ -21,3 +23,7 @@ pub mod GetBound
 pub mod GetTells
 pub mod ReadMachines
 pub mod Machines
+pub mod OpenControl
+pub mod OpenFits
+pub mod OpenLaws
+pub mod OpenMachine

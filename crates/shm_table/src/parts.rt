@@ -5,6 +5,7 @@ pub use crate::events::{find_begins, find_events, find_leaves, find_tells, read_
 pub use crate::find::{Find, FindPoint, FindState, Finding, Found};
 pub use crate::get::{GetPoint, GetState};
 pub use crate::locate::{Locate, LocatePoint, LocateState, Locating};
+pub use crate::open_table::{OpenPoint, OpenState, OpenTable, Opening};
 pub use crate::reading::{
     locate_begins, locate_bound, locate_events, locate_leaves, locate_tells, unlatch_begins,
     unlatch_bound, unlatch_events, unlatch_leaves,

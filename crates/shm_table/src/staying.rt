@@ -1,0 +1,27 @@
+//! What machines over tables keep of a memo, and what the steps of tables make of the own map.
+
+ghost use Rattle.std.specs.Prelude.{◌≡◌, ◌≢◌, ℕ, ◌<◌, false};
+ghost use Rattle.shm_graph.specs.declared.ask.Me.{Me as AMe};
+ghost use Rattle.shm_graph.specs.declared.memo.Memo.{Memo as AMemo};
+ghost use Rattle.shm_graph.specs.declared.memo.Op.TheVariants.{Nothing};
+ghost use Rattle.shm_graph.specs.declared.spot.Spot.TheVariants.{Home, Body};
+ghost use Rattle.shm_graph.specs.Held.{is_loose};
+ghost use Rattle.shm_graph.specs.Idle.{IsIdle};
+ghost use Rattle.shm_graph.specs.Views.{own_word};
+ghost use Rattle.shm_steps.specs.Beginning.{IsOwnWord};
+ghost use Rattle.shm_steps.specs.Reparting.{sight, map_in, map_after, TableStep};
+ghost use Rattle.shm_calls.specs.Parts.{IsHeld};
+ghost use Rattle.shm_count.specs.StepParts.{part_after};
+ghost use Rattle.shm_table.specs.Staying.{Keeps};
+
+/// Where nothing is done all is kept, and what one part after another keeps both keep.
+pub fn keeps_on()
+    ensures none { (c : ℕ) (m : AMemo) → IsIdle c m → Keeps c m m }
+    ensures more { (c : ℕ) (m x r : AMemo) → Keeps c m x → Keeps c x r → Keeps c m r }
+{}
+
+/// A count step at a word from which the own partition is read makes of the own map what its kind tells.
+pub fn map_steps()
+    ensures word { (me : AMe) (m r : AMemo) (d i old new : ℕ) → IsHeld me m → me.who < me.geometry.clients → m.op ≡ Nothing → is_loose m.part ≡ false → IsOwnWord me.who m d i old → old ≢ new → r.part ≡ part_after me.who (sight me.who m) (Body d i) new → (s : TableStep me.who (sight me.who m) (Body d i) old new) (k : ℕ) → map_in r.part k ≡ map_after me.who (sight me.who m) (Body d i) old new s (map_in m.part) k }
+    ensures home { (me : AMe) (m r : AMemo) (new : ℕ) → IsHeld me m → me.who < me.geometry.clients → m.op ≡ Nothing → is_loose m.part ≡ false → own_word m.own (Home me.who) ≡ 0 → new ≢ 0 → r.part ≡ part_after me.who (sight me.who m) (Home me.who) new → (s : TableStep me.who (sight me.who m) (Home me.who) 0 new) (k : ℕ) → map_in r.part k ≡ map_after me.who (sight me.who m) (Home me.who) 0 new s (map_in m.part) k }
+{}
