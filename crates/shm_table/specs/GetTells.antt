@@ -9,6 +9,7 @@ use Rattle.shm_graph.specs.Events.{Event}
 use Rattle.shm_graph.specs.Held.{HeldAt}
 use Rattle.shm_graph.specs.Views.{view}
 use Rattle.shm_calls.specs.declared.calls.Calls.{Calls}
+use Rattle.shm_calls.specs.declared.or.Or.TheVariants.{Second}
 use Rattle.shm_calls.specs.CallsControl.{calls_of}
 use Rattle.shm_calls.specs.CallsFit.{CallsFits}
 use Rattle.shm_calls.specs.Words.{word_control}
@@ -18,7 +19,7 @@ use Rattle.shm_table.specs.declared.get.GetPoint.TheVariants.{Known}
 use Rattle.shm_table.specs.declared.get.GetState.{GetState}
 use Rattle.shm_table.specs.declared.get.Valued.{Valued}
 use Rattle.shm_table.specs.FindTells.{HasRead, absent_tells, author_maps, found_tells, has_read}
-use Rattle.shm_table.specs.GetControl.{GetAnswer, GetCall, get_call, get_parts}
+use Rattle.shm_table.specs.GetControl.{GetAnswer, GetCall, get_parts}
 use Rattle.shm_table.specs.GetFits.{GetKnows, IsAt, IsTold, get_plan, number_trail}
 use Rattle.shm_table.specs.LocateFits.{Located}
 use Rattle.shm_table.specs.UnlatchFits.{UnlatchCalls, unlatch_plan, unlatching}
@@ -41,7 +42,7 @@ located_read me a key entry before word r0 r tr es h = has_read me a key entry b
 -- the machine is about to give back the latch, once the number is known
 pub record IsReady (m : Calls GetState GetCall (Option Valued) GetAnswer) : Type 0 where
   pub point : m.plan.point ≡ Known
-  pub call : m.call ≡ get_call m.plan Known
+  pub call : m.call ≡ Second (Second (calls_of unlatch_plan (unlatching m.plan.me m.plan.author)))
 
 -- what is known at that point
 known_at : (m : GetState) (r0 r : Memo) (tr : Trail) (es : List Event) → m.point ≡ Known → GetKnows m m.point r0 r tr es → IsAt m.me m.author m.key m.entry (number_trail m.entry m.block m.number) r0 r tr es × IsTold m.author m.key m.entry m.number m.block r
@@ -59,7 +60,7 @@ pub ready_told : (m : Calls GetState GetCall (Option Valued) GetAnswer) (r0 r : 
     → (m.plan.me.who < m.plan.me.geometry.clients) × IsTold m.plan.author m.plan.key m.plan.entry m.plan.number m.plan.block r
 ready_told m r0 r tr fit ready =
     let k = known_at m.plan r0 fit.rs fit.before fit.es ready.point fit.knows in
-    let same : r ≡ fit.rs = begun (subst (λ y. (get_plan.part (record m.plan { point = y })).fits (get_call m.plan Known) fit.rs r fit.t) ready.point (subst (λ (c : GetCall). (get_plan.part m.plan).fits c fit.rs r fit.t) ready.call fit.fits)) in
+    let same : r ≡ fit.rs = begun (subst (λ y. (get_plan.part (record m.plan { point = y })).fits (Second (Second (calls_of unlatch_plan (unlatching m.plan.me m.plan.author)))) fit.rs r fit.t) ready.point (subst (λ (c : GetCall). (get_plan.part m.plan).fits c fit.rs r fit.t) ready.call fit.fits)) in
     (k.0.reading.may.who, subst (IsTold m.plan.author m.plan.key m.plan.entry m.plan.number m.plan.block) (sym same) k.1)
   where
     begun : CallsFits word_control unlatch_plan (calls_of unlatch_plan (unlatching m.plan.me m.plan.author)) fit.rs r fit.t → r ≡ fit.rs

@@ -13,6 +13,7 @@ pub use crate::get::{GetPoint, GetState};
 pub use crate::locate::{Locate, LocatePoint, LocateState, Locating};
 pub use crate::open_table::{OpenPoint, OpenState, OpenTable, Opening};
 pub use crate::put_root::{PutRoot, PutRootPoint, PutRootState, PuttingRoot};
+pub use crate::open_table::{OpenPoint, OpenState, OpenTable, Opening};
 pub use crate::reading::{
     locate_begins, locate_bound, locate_events, locate_leaves, locate_tells, unlatch_begins,
     unlatch_bound, unlatch_events, unlatch_leaves,
@@ -20,3 +21,6 @@ pub use crate::reading::{
 pub use crate::replace::{Replace, ReplacePoint, ReplaceState, Replacing};
 pub use crate::unlatch::{Unlatch, UnlatchPoint, UnlatchState, Unlatching};
 pub use crate::unlink::{Unlink, UnlinkPoint, UnlinkState, Unlinking};
+pub use crate::open_table::{OpenPoint, OpenState, OpenTable, Opening};
+>>>>>>>>> Temporary merge branch 2
+=======
