@@ -1,4 +1,4 @@
-//! Tables: looking for a key in the table of an identity, and a new entry of a key in the own one.
+//! Tables: looking for a key in the table of an identity.
 //!
 //! Each machine is a plan of calls (`shm_calls`): the type with the operation's name is the machine, and the plan that it is made of says
 //! which call comes next.
