@@ -1,6 +1,6 @@
 -- what is owed of a new entry: each call leads on to the next one, or to what is left
 use Rattle.std.proofs.Common.{◌≡◌, ◌≢◌, ℕ, zero, suc, ◌+◌, ◌-◌, ◌*◌, ◌%◌, ◌^◌, ◌≤◌, refl, sym, ap, ◌∙◌, subst, arith, Bool, true, false, List, [], ◌∷◌, ◌++◌, append-nil, eqb, inl, inr, slice_index, ◌<◌}
-use Rattle.std.specs.Prelude.{if◌then◌else◌, Result, Ok, Err}
+use Rattle.std.specs.Prelude.{Result, Ok, Err}
 use Rattle.std.proofs.lemmas.Bool.{cases_eq, cond-true, eq-eqb, lt-ltb, ne_eqb}
 use Rattle.shm_words.proofs.Placing.{total_small}
 use Rattle.shm_graph.specs.declared.memo.Memo.{Memo}
