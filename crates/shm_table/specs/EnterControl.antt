@@ -79,8 +79,12 @@ abbrev pub entry_of : ℕ → ℕ
 entry_of b = if nat_lt b (2 ^ 20 - 3) then b else 0
 
 -- after the value word: where the bucket is empty the entry is linked, otherwise it names the first one
+abbrev pub valued_by : Bool → EnterPoint
+valued_by true = Link
+valued_by false = Next
+
 abbrev pub valued_point : ℕ → EnterPoint
-valued_point first = if first == 0 then Link else Next
+valued_point first = valued_by (first == 0)
 
 abbrev pub raised_after : EnterState → EnterPoint → EnterState
 raised_after m Value = record m { point = valued_point m.first }

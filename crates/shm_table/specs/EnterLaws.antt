@@ -1,6 +1,6 @@
 -- what is owed of a new entry: each call leads on to the next one, or to what is left
-use Rattle.std.proofs.Common.{◌≡◌, ◌≢◌, ℕ, zero, suc, ◌+◌, ◌-◌, ◌*◌, ◌%◌, ◌^◌, ◌≤◌, refl, sym, ap, ◌∙◌, subst, arith, Bool, false, List, [], ◌∷◌, ◌++◌, append-nil, inl, inr, slice_index, ◌<◌}
-use Rattle.std.specs.Prelude.{if◌then◌else◌, Result, Ok, Err}
+use Rattle.std.proofs.Common.{◌≡◌, ◌≢◌, ℕ, zero, suc, ◌+◌, ◌-◌, ◌*◌, ◌%◌, ◌^◌, ◌≤◌, refl, sym, ap, ◌∙◌, subst, arith, Bool, true, false, List, [], ◌∷◌, ◌++◌, append-nil, eqb, inl, inr, slice_index, ◌<◌}
+use Rattle.std.specs.Prelude.{Result, Ok, Err}
 use Rattle.std.proofs.lemmas.Bool.{cases_eq, cond-true, eq-eqb, lt-ltb, ne_eqb}
 use Rattle.shm_words.proofs.Placing.{total_small}
 use Rattle.shm_graph.specs.declared.memo.Memo.{Memo}
@@ -36,7 +36,7 @@ use Rattle.shm_table.specs.declared.enter.EnterPoint.{EnterPoint}
 use Rattle.shm_table.specs.declared.enter.EnterPoint.TheVariants.{Make, Value, Next, Link, Change}
 use Rattle.shm_table.specs.declared.enter.EnterState.{EnterState}
 use Rattle.shm_table.specs.Answers.{made_fault, raised_fault}
-use Rattle.shm_table.specs.EnterControl.{EnterAnswer, enter_call_at, enter_parts, enter_spot, entry_of, entry_request, is_make, valued_point}
+use Rattle.shm_table.specs.EnterControl.{EnterAnswer, enter_call_at, enter_parts, enter_spot, entry_of, entry_request, is_make, valued_by, valued_point}
 use Rattle.shm_table.specs.EnterFits.{EnterKnows, EnterLeaves, IsHalfMade, IsMade, IsUnlinked, MayEnter, enter_part, enter_plan, enter_steps, followed_events, linked_events, made_events, valued_events}
 use Rattle.shm_table.specs.EnterMemos.{change_on, link_on, made_on, next_on, unlinked_on, unmade_on, value_on}
 use Rattle.shm_table.specs.EnterSteps.{change_needs, link_needs, next_needs, value_needs}
@@ -184,33 +184,6 @@ enter_laws =
       leads = λ m r0 rs r tr t es ds a h g held agent. leads m m.point r0 rs r tr t es ds a h g held agent;
     }
   where
-    -- the entry is linked next, or its next word is filled
-    not_make : (first : ℕ) → is_make (valued_point first) ≡ false
-    not_make first =
-        elim (cases_eq first 0) [
-          | inl e ↦ ap (λ z. is_make (if z then Link else Next)) (eq-eqb first 0 e)
-          | inr some ↦ ap (λ z. is_make (if z then Link else Next)) (ne_eqb first 0 some)
-        ]
-
-    stays : (m : EnterState) (y : EnterPoint) (a : EnterAnswer) → PlanStays enter_parts enter_plan (record m { point = y }) a
-    stays m y (First (Ok made)) = record { same_me = refl; same_line = refl; same_start = refl; started = λ e. refl }
-    stays m y (First (Err f)) = record { same_me = refl; same_line = refl; same_start = refl; started = λ e. absurd (cc) }
-    stays m Make (Second (First (Ok u))) = record { same_me = refl; same_line = refl; same_start = refl; started = λ e. absurd (cc) }
-    stays m Value (Second (First (Ok u))) = record { same_me = refl; same_line = refl; same_start = refl; started = λ e. not_make m.first }
-    stays m Next (Second (First (Ok u))) = record { same_me = refl; same_line = refl; same_start = refl; started = λ e. refl }
-    stays m Link (Second (First (Ok u))) = record { same_me = refl; same_line = refl; same_start = refl; started = λ e. absurd (cc) }
-    stays m Change (Second (First (Ok u))) = record { same_me = refl; same_line = refl; same_start = refl; started = λ e. absurd (cc) }
-    stays m y (Second (First (Err f))) = record { same_me = refl; same_line = refl; same_start = refl; started = λ e. absurd (cc) }
-    stays m y (Second (Second (Ok z))) = record { same_me = refl; same_line = refl; same_start = refl; started = λ e. absurd (cc) }
-    stays m y (Second (Second (Err f))) = record { same_me = refl; same_line = refl; same_start = refl; started = λ e. absurd (cc) }
-
-    calls : (m : EnterState) (y : EnterPoint) → IsCall enter_parts enter_plan (record m { point = y })
-    calls m Make = record { me = refl; asks = refl }
-    calls m Value = record { me = refl; asks = refl }
-    calls m Next = record { me = refl; asks = refl }
-    calls m Link = record { me = refl; asks = refl }
-    calls m Change = record { me = refl; asks = refl }
-
     -- ---- what is asked for
 
     -- the key is a word, and so are the zeros after it
@@ -247,8 +220,8 @@ enter_laws =
         → EnterKnows (record m { point = valued_point m.first }) (valued_point m.first) r0 r tr es
     valued_on m r0 r tr es (empty, others) =
         elim (cases_eq m.first 0) [
-          | inl e ↦ subst (λ z. EnterKnows (record m { point = if z then Link else Next }) (if z then Link else Next) r0 r tr es) (sym (eq-eqb m.first 0 e)) (empty e)
-          | inr some ↦ subst (λ z. EnterKnows (record m { point = if z then Link else Next }) (if z then Link else Next) r0 r tr es) (sym (ne_eqb m.first 0 some)) (others some)
+          | inl e ↦ subst (λ z. EnterKnows (record m { point = valued_by z }) (valued_by z) r0 r tr es) (sym (eq-eqb m.first 0 e)) (empty e)
+          | inr some ↦ subst (λ z. EnterKnows (record m { point = valued_by z }) (valued_by z) r0 r tr es) (sym (ne_eqb m.first 0 some)) (others some)
         ]
 
     leads : (m : EnterState) (y : EnterPoint) (r0 rs r : Memo) (tr t : Trail) (es ds : List Event) (a : EnterAnswer) → EnterKnows (record m { point = y }) y r0 rs tr es → (enter_part (record m { point = y }) y).leaves (enter_call_at m y) rs r t ds a → IsHeld m.me r → recovers r ≡ recovers rs
@@ -278,3 +251,28 @@ enter_laws =
     leads m Link r0 rs r tr t es ds (Second (Second a)) h g held agent = absurd g
     leads m Change r0 rs r tr t es ds (First a) h g held agent = absurd g
     leads m Change r0 rs r tr t es ds (Second (First a)) h g held agent = absurd g
+
+    -- ---- the same plan goes on
+
+    not_make : (z : Bool) → is_make (valued_by z) ≡ false
+    not_make true = refl
+    not_make false = refl
+
+    stays : (m : EnterState) (y : EnterPoint) (a : EnterAnswer) → PlanStays enter_parts enter_plan (record m { point = y }) a
+    stays m y (First (Ok x)) = record { same_me = refl; same_line = refl; same_start = refl; started = λ e. refl }
+    stays m y (First (Err f)) = record { same_me = refl; same_line = refl; same_start = refl; started = λ e. absurd (cc) }
+    stays m Make (Second (First (Ok u))) = record { same_me = refl; same_line = refl; same_start = refl; started = λ e. absurd (cc) }
+    stays m Value (Second (First (Ok u))) = record { same_me = refl; same_line = refl; same_start = refl; started = λ e. not_make (eqb m.first 0) }
+    stays m Next (Second (First (Ok u))) = record { same_me = refl; same_line = refl; same_start = refl; started = λ e. refl }
+    stays m Link (Second (First (Ok u))) = record { same_me = refl; same_line = refl; same_start = refl; started = λ e. absurd (cc) }
+    stays m Change (Second (First (Ok u))) = record { same_me = refl; same_line = refl; same_start = refl; started = λ e. absurd (cc) }
+    stays m y (Second (First (Err f))) = record { same_me = refl; same_line = refl; same_start = refl; started = λ e. absurd (cc) }
+    stays m y (Second (Second (Ok z))) = record { same_me = refl; same_line = refl; same_start = refl; started = λ e. absurd (cc) }
+    stays m y (Second (Second (Err f))) = record { same_me = refl; same_line = refl; same_start = refl; started = λ e. absurd (cc) }
+
+    calls : (m : EnterState) (y : EnterPoint) → IsCall enter_parts enter_plan (record m { point = y })
+    calls m Make = record { me = refl; asks = refl }
+    calls m Value = record { me = refl; asks = refl }
+    calls m Next = record { me = refl; asks = refl }
+    calls m Link = record { me = refl; asks = refl }
+    calls m Change = record { me = refl; asks = refl }
