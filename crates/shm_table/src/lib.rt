@@ -1,9 +1,4 @@
-//! Tables: looking for a key in the table of an identity, and reading what it has there.
-//! Tables: looking for a key in the table of an identity, and opening a table.
-//! Tables: looking for a key in the table of an identity, and opening a table.
->>>>>>>>> Temporary merge branch 2
-=======
-//! Tables: looking for a key in the table of an identity, reading what it has there, and opening a table.
+//! Tables: looking for a key, reading what it has, removing it, and the parts of which commands that put are made.
 //!
 //! Each machine is a plan of calls (`shm_calls`): the type with the operation's name is the machine, and the plan that it is made of says
 //! which call comes next.
