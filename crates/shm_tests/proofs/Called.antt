@@ -5,7 +5,7 @@ use Rattle.std.specs.Option.{is_some}
 use Rattle.shm_words.specs.Layout.{GeometryFits}
 use Rattle.shm_graph.specs.declared.memo.Memo.{Memo}
 use Rattle.shm_graph.specs.Agents.{acts, recovers}
-use Rattle.shm_graph.specs.Asks.{Trail, call_before}
+use Rattle.shm_graph.specs.Asks.{Trail}
 use Rattle.shm_graph.specs.Events.{Event}
 use Rattle.shm_graph.specs.Idle.{IsIdle}
 use Rattle.shm_graph.specs.Laws.{Control, Laws}
@@ -13,7 +13,7 @@ use Rattle.shm_graph.specs.Tells.{Tells, happens_along}
 use Rattle.shm_graph.specs.Whole.{fits_now, gives_now}
 use Rattle.shm_plain.specs.Pools.{Pool, IsOf, IsRun, memo_of, readied}
 use Rattle.shm_plain.specs.Calls.{Did, IsAtWork, Ran, Took}
-use Rattle.shm_plain.proofs.Calling.{fits_acting, may_acting, ready_still, still_kind, still_working}
+use Rattle.shm_plain.proofs.Calling.{fits_acting, may_acting, still_kind, still_working}
 use Rattle.shm_plain.proofs.OwnTurns.{called_did}
 use Rattle.shm_tests.proofs.Answering.{some_map}
 

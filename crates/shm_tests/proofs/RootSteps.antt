@@ -28,7 +28,7 @@ use Rattle.shm_count.specs.Roots.{AreRootsReached, member, root_step, root_word}
 use Rattle.shm_count.specs.StepControl.{step_control, value_after}
 use Rattle.shm_count.specs.StepEvents.{own_events, step_event}
 use Rattle.shm_count.specs.StepFits.{StepFits, StepGives}
-use Rattle.shm_count.specs.StepMachines.{ChangeFits, ChangeGives, DownFits, DownGives, UpFits, UpGives, down_answer, down_control, down_means, down_told, up_answer, up_control, up_means, up_told}
+use Rattle.shm_count.specs.StepMachines.{ChangeGives, DownGives, UpGives, down_answer, down_control, down_means, down_told, up_answer, up_control, up_means, up_told}
 use Rattle.shm_count.specs.StepTells.{step_tells}
 use Rattle.shm_count.proofs.RootMemos.{StepLeft}
 use Rattle.shm_count.proofs.RootSpots.{roots_reached}

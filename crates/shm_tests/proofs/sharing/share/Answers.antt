@@ -4,10 +4,8 @@ use Rattle.shm_graph.specs.declared.ask.Me.{Me}
 use Rattle.shm_graph.specs.declared.memo.Memo.{Memo}
 use Rattle.shm_graph.specs.declared.spot.Spot.TheVariants.{Hold}
 use Rattle.shm_graph.specs.Asks.{Trail}
-use Rattle.shm_graph.specs.Core.{core}
 use Rattle.shm_graph.specs.Events.{Event}
 use Rattle.shm_graph.specs.Idle.{IsIdle, hold_word}
-use Rattle.shm_graph.specs.Views.{own_word}
 use Rattle.shm_plain.specs.Pools.{memo_of}
 use Rattle.shm_plain.specs.Calls.{Did}
 use Rattle.shm_calls.specs.CallsControl.{calls_of}
