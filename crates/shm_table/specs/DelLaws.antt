@@ -1,6 +1,6 @@
 -- what is owed of removing a key of the own table
-use Rattle.std.proofs.Common.{◌≡◌, ℕ, ◌+◌, ◌*◌, ◌%◌, ◌^◌, ◌<◌, ◌≤◌, refl, sym, ap, ◌∙◌, subst, arith, true, false, append_assoc, append-nil, length, List, [], ◌∷◌, ◌++◌, inl, inr}
-use Rattle.std.specs.Prelude.{◌==◌, if◌then◌else◌, None, Some, Result, Ok, Err}
+use Rattle.std.proofs.Common.{◌≡◌, ℕ, ◌+◌, ◌*◌, ◌%◌, ◌^◌, ◌<◌, ◌≤◌, refl, sym, ap, ◌∙◌, subst, arith, append_assoc, append-nil, length, List, [], ◌∷◌, ◌++◌, inl, inr}
+use Rattle.std.specs.Prelude.{◌==◌, if◌then◌else◌, None, Some, Ok, Err}
 use Rattle.std.specs.List.{All, Contains}
 use Rattle.shm_words.specs.Layout.{total_of}
 use Rattle.shm_words.proofs.Placing.{total_small}
@@ -12,7 +12,6 @@ use Rattle.shm_graph.specs.Agents.{recovers}
 use Rattle.shm_graph.specs.Asks.{Trail, IsWithin}
 use Rattle.shm_graph.specs.Bounds.{change_steps, tear_steps}
 use Rattle.shm_graph.specs.Events.{Event}
-use Rattle.shm_graph.specs.Idle.{IsIdle}
 use Rattle.shm_graph.specs.Views.{own_word}
 use Rattle.shm_calls.specs.declared.or.Or.TheVariants.{First, Second}
 use Rattle.shm_calls.specs.CallTells.{within_more}
@@ -29,7 +28,6 @@ use Rattle.shm_steps.proofs.WordsBlocks.{told_inside}
 use Rattle.shm_count.specs.declared.answer.UpFault.{UpFault}
 use Rattle.shm_count.specs.declared.answer.UpFault.TheVariants.{CountFull, EraSpent}
 use Rattle.shm_count.specs.declared.point.Aim.{Aim}
-use Rattle.shm_count.specs.Roots.{root_word}
 use Rattle.shm_count.specs.SlotLeaves.{StepCause}
 use Rattle.shm_count.specs.TearEvents.{Visit, frees}
 use Rattle.shm_table.specs.declared.del.DelAnswer.{DelAnswer}
@@ -48,10 +46,10 @@ use Rattle.shm_table.specs.LocateControl.{locate_parts}
 use Rattle.shm_table.specs.LocateFits.{Located, locate_control, locate_plan}
 use Rattle.shm_table.specs.LocateLaws.{find_only, locate_begin, locate_laws}
 use Rattle.shm_table.specs.Staying.{Cleared, Ended, Keeps}
-use Rattle.shm_table.specs.StayingLaws.{Rests, cleared_more, keeps_latched, keeps_more, keeps_read, keeps_unlatched, latched_else, rests_read, same_map, spent_later, unlatched_else}
+use Rattle.shm_table.specs.StayingLaws.{cleared_more, keeps_latched, keeps_more, keeps_read, keeps_unlatched, latched_else, rests_read, same_map, spent_later, unlatched_else}
 use Rattle.shm_table.specs.UnlatchFits.{Unlatched, unlatch_control, unlatch_plan}
 use Rattle.shm_table.specs.UnlatchLaws.{unlatch_begin, unlatch_laws}
-use Rattle.shm_table.specs.UnlinkControl.{unlink_parts, unlinking}
+use Rattle.shm_table.specs.UnlinkControl.{unlink_parts}
 use Rattle.shm_table.specs.UnlinkFits.{MayUnlink, NotUnlinked, Unlinked, UnlinkCause, UnlinkEvents, link_aim, unlink_control, unlink_plan}
 use Rattle.shm_table.specs.UnlinkLaws.{unlink_laws}
 use Rattle.shm_table.specs.ValueReads.{idle_here}

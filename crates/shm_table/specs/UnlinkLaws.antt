@@ -1,15 +1,14 @@
 -- what is owed of taking an entry out of its chain
-use Rattle.std.proofs.Common.{◌≡◌, ◌≢◌, ℕ, zero, suc, ◌+◌, ◌%◌, ◌^◌, ◌<◌, ◌≤◌, refl, sym, ap, ◌∙◌, subst, arith, Bool, true, false, List, [], ◌∷◌, ◌++◌, append-nil, inl, inr, length}
-use Rattle.std.specs.Prelude.{◌==◌, if◌then◌else◌, Some, None, Result, Ok, Err}
+use Rattle.std.proofs.Common.{◌≡◌, ◌≢◌, ℕ, zero, suc, ◌+◌, ◌%◌, ◌^◌, ◌<◌, refl, sym, ap, ◌∙◌, subst, arith, Bool, true, false, List, [], ◌∷◌, ◌++◌, append-nil, inl, inr, length}
+use Rattle.std.specs.Prelude.{◌==◌, if◌then◌else◌, None, Result, Ok, Err}
 use Rattle.std.specs.List.{All, Contains}
 use Rattle.std.proofs.lemmas.Bool.{cases_eq, eq-eqb, ne_eqb}
 use Rattle.std.proofs.lemmas.List.Elements.{All-nil}
 use Rattle.shm_words.proofs.Placing.{total_small}
-use Rattle.shm_words.specs.Layout.{total_of}
 use Rattle.shm_graph.specs.declared.ask.Me.{Me}
 use Rattle.shm_graph.specs.declared.memo.Memo.{Memo}
 use Rattle.shm_graph.specs.declared.spot.Spot.{Spot}
-use Rattle.shm_graph.specs.declared.spot.Spot.TheVariants.{Body, Era, Home, Root}
+use Rattle.shm_graph.specs.declared.spot.Spot.TheVariants.{Body, Home, Root}
 use Rattle.shm_graph.specs.Agents.{recovers}
 use Rattle.shm_graph.specs.Asks.{Trail, IsWithin}
 use Rattle.shm_graph.specs.Bounds.{change_steps, down_steps, tear_steps}
@@ -23,7 +22,7 @@ use Rattle.shm_calls.specs.Either.{or_control, or_part, or_part_laws}
 use Rattle.shm_calls.specs.Parts.{IsHeld}
 use Rattle.shm_calls.specs.Plans.{PlanLaws, PlanStays, IsCall, Follows}
 use Rattle.shm_calls.specs.Words.{word_control, word_part_laws, WordLeaves}
-use Rattle.shm_steps.specs.Reparting.{sight, map_in}
+use Rattle.shm_steps.specs.Reparting.{map_in}
 use Rattle.shm_steps.proofs.Cores.{here_same}
 use Rattle.shm_steps.proofs.Reaching.{look_reached}
 use Rattle.shm_count.specs.declared.answer.EraSpent.{EraSpent as ASpent}
@@ -36,7 +35,7 @@ use Rattle.shm_count.specs.Lowering.{dies, torn_leaves}
 use Rattle.shm_count.specs.Roots.{root_word}
 use Rattle.shm_count.specs.SlotLeaves.{Lost, StepCause, Took, Untouched}
 use Rattle.shm_count.specs.SlotParts.{change_slot_laws, change_slot_part, down_slot_laws, down_slot_part}
-use Rattle.shm_count.specs.StepControl.{IsInside, last_era, step_control}
+use Rattle.shm_count.specs.StepControl.{last_era, step_control}
 use Rattle.shm_count.specs.StepMachines.{down_control}
 use Rattle.shm_count.specs.TearControl.{tear_control}
 use Rattle.shm_count.specs.TearEvents.{Visit, frees}
@@ -53,7 +52,7 @@ use Rattle.shm_table.specs.ReplaceFits.{IsTorn}
 use Rattle.shm_table.specs.Staying.{Ended, Keeps}
 use Rattle.shm_table.specs.StayingLaws.{keeps_more, keeps_untouched}
 use Rattle.shm_table.specs.StayingSteps.{keeps_took}
-use Rattle.shm_table.specs.UnlinkControl.{UnlinkAnswer, is_look, step_point, unlink_call_at, unlink_parts, unlinking}
+use Rattle.shm_table.specs.UnlinkControl.{UnlinkAnswer, is_look, step_point, unlink_call_at, unlink_parts}
 use Rattle.shm_table.specs.UnlinkFits.{IsFallen, IsSeen, MayBegin, MayUnlink, NotUnlinked, Unlinked, UnlinkCause, UnlinkKnows, link_aim, link_events, look_part, unlink_plan}
 use Rattle.shm_table.specs.ValueReads.{ReadsMore, cause_read, idle_here, keeps_reads, reads_more_by}
 
