@@ -1,5 +1,5 @@
 -- the machines that change the own table at an entry, as they are made: when they fit, what they give, and what they tell of their events
-use Rattle.std.specs.Prelude.{ℕ, Bool, Result, List}
+use Rattle.std.specs.Prelude.{ℕ, Result, List}
 use Rattle.shm_graph.specs.declared.ask.Me.{Me}
 use Rattle.shm_graph.specs.declared.memo.Memo.{Memo}
 use Rattle.shm_graph.specs.Asks.{Trail}

@@ -37,7 +37,7 @@ use Rattle.shm_table.specs.LocateFits.{Located, locate_plan}
 use Rattle.shm_table.specs.Staying.{Cleared, Ended, Keeps, MapCut, SameMap}
 use Rattle.shm_table.specs.UnlatchFits.{unlatch_plan}
 use Rattle.shm_table.specs.UnlinkControl.{unlink_parts}
-use Rattle.shm_table.specs.UnlinkFits.{UnlinkCause, UnlinkEvents, unlink_plan}
+use Rattle.shm_table.specs.UnlinkFits.{UnlinkCause, UnlinkEvents, UnlinkRefusal, unlink_plan}
 
 -- ---- when it may begin
 
@@ -104,6 +104,7 @@ pub record NotDeleted (me : Me) (key steps : ℕ) (m r : Memo) (tr : Trail) (es 
   pub cleared : Cleared me.who m r
   pub map : SameMap m r
   pub cause : UnlinkCause me r f
+  pub refusal : UnlinkRefusal me entry m f
   pub none : es ≡ []
   pub bound : IsWithin (steps + 2 * keys_read searched.read (At entry before word)) tr
 

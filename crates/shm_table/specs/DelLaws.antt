@@ -1,6 +1,6 @@
 -- what is owed of removing a key of the own table
-use Rattle.std.proofs.Common.{◌≡◌, ℕ, ◌+◌, ◌*◌, ◌%◌, ◌^◌, ◌<◌, ◌≤◌, refl, sym, ap, ◌∙◌, subst, arith, true, false, append_assoc, append-nil, length, List, [], ◌∷◌, ◌++◌, inl, inr}
-use Rattle.std.specs.Prelude.{◌==◌, if◌then◌else◌, None, Some, Result, Ok, Err}
+use Rattle.std.proofs.Common.{◌≡◌, ℕ, ◌+◌, ◌*◌, ◌%◌, ◌^◌, ◌<◌, ◌≤◌, refl, sym, ap, ◌∙◌, subst, arith, append_assoc, append-nil, length, List, [], ◌∷◌, ◌++◌, inl, inr}
+use Rattle.std.specs.Prelude.{◌==◌, if◌then◌else◌, None, Some, Ok, Err}
 use Rattle.std.specs.List.{All, Contains}
 use Rattle.shm_words.specs.Layout.{total_of}
 use Rattle.shm_words.proofs.Placing.{total_small}
@@ -12,7 +12,6 @@ use Rattle.shm_graph.specs.Agents.{recovers}
 use Rattle.shm_graph.specs.Asks.{Trail, IsWithin}
 use Rattle.shm_graph.specs.Bounds.{change_steps, tear_steps}
 use Rattle.shm_graph.specs.Events.{Event}
-use Rattle.shm_graph.specs.Idle.{IsIdle}
 use Rattle.shm_graph.specs.Views.{own_word}
 use Rattle.shm_calls.specs.declared.or.Or.TheVariants.{First, Second}
 use Rattle.shm_calls.specs.CallTells.{within_more}
@@ -28,7 +27,8 @@ use Rattle.shm_steps.proofs.Walked.{walk_has}
 use Rattle.shm_steps.proofs.WordsBlocks.{told_inside}
 use Rattle.shm_count.specs.declared.answer.UpFault.{UpFault}
 use Rattle.shm_count.specs.declared.answer.UpFault.TheVariants.{CountFull, EraSpent}
-use Rattle.shm_count.specs.Roots.{root_word}
+use Rattle.shm_count.specs.declared.point.Aim.{Aim}
+use Rattle.shm_count.specs.SlotLeaves.{StepCause}
 use Rattle.shm_count.specs.TearEvents.{Visit, frees}
 use Rattle.shm_table.specs.declared.del.DelAnswer.{DelAnswer}
 use Rattle.shm_table.specs.declared.del.DelAnswer.TheVariants.{Removed, Missing, Refused}
@@ -46,11 +46,11 @@ use Rattle.shm_table.specs.LocateControl.{locate_parts}
 use Rattle.shm_table.specs.LocateFits.{Located, locate_control, locate_plan}
 use Rattle.shm_table.specs.LocateLaws.{find_only, locate_begin, locate_laws}
 use Rattle.shm_table.specs.Staying.{Cleared, Ended, Keeps}
-use Rattle.shm_table.specs.StayingLaws.{Rests, cleared_more, keeps_latched, keeps_more, keeps_read, keeps_unlatched, latched_else, rests_read, same_map, spent_later, unlatched_else}
+use Rattle.shm_table.specs.StayingLaws.{cleared_more, keeps_latched, keeps_more, keeps_read, keeps_unlatched, latched_else, rests_read, same_map, spent_later, unlatched_else}
 use Rattle.shm_table.specs.UnlatchFits.{Unlatched, unlatch_control, unlatch_plan}
 use Rattle.shm_table.specs.UnlatchLaws.{unlatch_begin, unlatch_laws}
-use Rattle.shm_table.specs.UnlinkControl.{unlink_parts, unlinking}
-use Rattle.shm_table.specs.UnlinkFits.{MayUnlink, NotUnlinked, Unlinked, UnlinkCause, UnlinkEvents, UnlinkLeaves, unlink_control, unlink_plan}
+use Rattle.shm_table.specs.UnlinkControl.{unlink_parts}
+use Rattle.shm_table.specs.UnlinkFits.{MayUnlink, NotUnlinked, Unlinked, UnlinkCause, UnlinkEvents, link_aim, unlink_control, unlink_plan}
 use Rattle.shm_table.specs.UnlinkLaws.{unlink_laws}
 use Rattle.shm_table.specs.ValueReads.{idle_here}
 
@@ -89,6 +89,13 @@ module _ (me : Me) (key : ℕ) (r0 r : Memo) (tr : Trail) (es : List Event) (b :
 
   within : IsWithin (4 + 2 * keys_read short.0 b) tr
   within = subst (IsWithin (4 + 2 * keys_read short.0 b)) (sym h.trail) (let w = within_more 2 (2 + 2 * keys_read short.0 b) h.before h.after h.bound short.2 in omega arith)
+
+-- why a count step is refused that follows
+cause_before : (me : Me) (key : ℕ) (x : Aim) (r0 r : Memo) (tr : Trail) (es : List Event) (b : Found) (f : UpFault) → MayDel me r0 → Located me me.who key r0 r tr es b → StepCause me x r f → StepCause me x r0 f
+cause_before me key x r0 r tr es b (EraSpent e) may h (is, late) =
+    let same : own_word r.own (Era me.who me.who) ≡ own_word h.latched.own (Era me.who me.who) = ap (λ (y : Memo). own_word y.own (Era me.who me.who)) (reads me key r0 r tr es b may h).memo in
+    (is ∙ (same ∙ h.took.own (Era me.who me.who) refl), late)
+cause_before me key x r0 r tr es b (CountFull d n) may h cause = cause
 
 -- no entry has the key
 missing : (me : Me) (key home first : ℕ) (r0 r : Memo) (tr : Trail) (es : List Event) → MayDel me r0 → Located me me.who key r0 r tr es (Absent home first) → IsHeld me r → IsSettled me key r0 r tr es Missing
@@ -181,7 +188,7 @@ module _ (me : Me) (key entry before word : ℕ) (r0 rs r : Memo) (tr t : Trail)
         };
       }
 
-  cut_refused : (f : UpFault) → NotUnlinked me rs r t ds f → IsSettled me key r0 r (tr ++ t) (es ++ ds) (Refused f)
+  cut_refused : (f : UpFault) → NotUnlinked me entry rs r t ds f → IsSettled me key r0 r (tr ++ t) (es ++ ds) (Refused f)
   cut_refused f u =
       let part = found_part me key r0 rs tr es b h.may h.located in
       record {
@@ -200,6 +207,7 @@ module _ (me : Me) (key entry before word : ℕ) (r0 rs r : Memo) (tr t : Trail)
           cleared = cleared_more me.who r0 rs r (found_cleared me key r0 rs tr es b h.may h.located) u.cleared;
           map = λ k. u.map k ∙ ap (λ (x : TablePart). map_in x k) part;
           cause = u.cause;
+          refusal = (u.refusal.0, cause_before me key (link_aim entry u.refusal.0) r0 rs tr es b f h.may h.located u.refusal.1);
           none = quiet ∙ u.none;
           bound = let w = within_more (4 + 2 * keys_read looked.read b) (1 + change_steps) tr t (within me key r0 rs tr es b h.may h.located) u.bound in omega arith;
         };
@@ -278,6 +286,7 @@ module _ (me : Me) (key : ℕ) (r0 rs r : Memo) (tr t : Trail) (es ds : List Eve
             cleared = cleared_more me.who r0 rs r d.cleared As.3;
             map = λ k. ap (λ (x : TablePart). map_in x k) As.2 ∙ d.map k;
             cause = cause_still f later.era d.cause;
+            refusal = d.refusal;
             none = silent ∙ d.none;
             bound = let w = within_more (18 + 2 * keys_read d.searched.read (At d.entry d.before d.word)) 2 tr t d.bound two in omega arith;
           }

@@ -2,15 +2,13 @@
 use Rattle.std.proofs.Common.{◌≡◌, ◌≢◌, ℕ, ◌+◌, ◌%◌, ◌^◌, ◌<◌, refl, sym, ap, ◌∙◌, subst, arith, true, false, List, ◌∷◌, inl, inr}
 use Rattle.std.specs.Prelude.{◌==◌, if◌then◌else◌, Some, None}
 use Rattle.std.proofs.lemmas.Bool.{cases_eq}
-use Rattle.std.proofs.lemmas.List.Elements.{All-contains}
-use Rattle.shm_words.specs.Layout.{GeometryFits, total_of}
-use Rattle.shm_words.specs.Tags.{tag_refs}
+use Rattle.shm_words.specs.Layout.{GeometryFits}
 use Rattle.shm_words.proofs.Placing.{total_small}
 use Rattle.shm_graph.specs.declared.ask.Me.{Me}
 use Rattle.shm_graph.specs.declared.memo.Memo.{Memo}
 use Rattle.shm_graph.specs.declared.memo.Op.TheVariants.{Nothing}
 use Rattle.shm_graph.specs.declared.spot.Spot.{Spot}
-use Rattle.shm_graph.specs.declared.spot.Spot.TheVariants.{Body, Tag}
+use Rattle.shm_graph.specs.declared.spot.Spot.TheVariants.{Body}
 use Rattle.shm_graph.specs.declared.table.Entry.{Entry}
 use Rattle.shm_graph.specs.Agents.{recovers}
 use Rattle.shm_graph.specs.Held.{HeldAt}
@@ -18,7 +16,6 @@ use Rattle.shm_graph.specs.Ops.{cover_of}
 use Rattle.shm_graph.specs.Reach.{is_reached}
 use Rattle.shm_graph.specs.Spots.{spot_address}
 use Rattle.shm_graph.specs.Views.{view}
-use Rattle.shm_graph.proofs.KnownChange.{ValueHolds}
 use Rattle.shm_calls.specs.Parts.{IsHeld}
 use Rattle.shm_steps.specs.Beginning.{IsOwnWord}
 use Rattle.shm_steps.specs.Conditions.{IsHere}

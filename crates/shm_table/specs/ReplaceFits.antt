@@ -22,20 +22,21 @@ use Rattle.shm_calls.specs.Words.{word_part}
 use Rattle.shm_steps.specs.Beginning.{IsOwnWord}
 use Rattle.shm_steps.specs.Reparting.{sight, map_in, IsValue}
 use Rattle.shm_steps.specs.Walking.{IsIn, IsSeeking}
+use Rattle.shm_count.specs.declared.answer.UpFault.{UpFault}
 use Rattle.shm_count.specs.declared.point.Aim.TheVariants as aims
 use Rattle.shm_count.specs.declared.point.StepPoint.TheVariants.{Era}
 use Rattle.shm_count.specs.CountParts.{tear_part}
 use Rattle.shm_count.specs.Roots.{root_word}
-use Rattle.shm_count.specs.SlotLeaves.{Lost, MayStepAt}
+use Rattle.shm_count.specs.SlotLeaves.{Lost, MayStepAt, StepCause}
 use Rattle.shm_count.specs.SlotParts.{change_slot_part}
 use Rattle.shm_count.specs.StepControl.{IsInside}
 use Rattle.shm_count.specs.StepParts.{part_after}
 use Rattle.shm_count.specs.TearEvents.{Visit, Walks, frees}
 use Rattle.shm_table.specs.declared.answer.PutFault.{PutFault}
-use Rattle.shm_table.specs.declared.answer.PutFault.TheVariants.{CountFull}
 use Rattle.shm_table.specs.declared.replace.ReplacePoint.{ReplacePoint}
 use Rattle.shm_table.specs.declared.replace.ReplacePoint.TheVariants.{Look, Change, Tear}
 use Rattle.shm_table.specs.declared.replace.ReplaceState.{ReplaceState}
+use Rattle.shm_table.specs.Answers.{raised_fault}
 use Rattle.shm_table.specs.EntryReads.{EntryReads}
 use Rattle.shm_table.specs.FindControl.{word_ask}
 use Rattle.shm_table.specs.ReplaceControl.{ReplaceAnswer, ReplaceCall, is_look, replace_after, replace_call_at, replace_turns, replacing}
@@ -119,10 +120,9 @@ pub record Replaced (me : Me) (v entry : ℕ) (m r : Memo) (tr : Trail) (es : Li
   pub events : ReplaceEvents me entry v m es left
   pub bound : IsWithin (1 + change_steps + tear_steps (frees es + length left)) tr
 
--- a full count is that of this block
-abbrev pub IsFullOf : ℕ → PutFault → Type 0
-IsFullOf v (CountFull d n) = d ≡ v
-IsFullOf v f = Unit {0}
+-- and why exactly: the own era that was read leaves no room for the change, or the header of the new block that was read is full
+abbrev pub ReplaceRefusal : Me → ℕ → Memo → PutFault → Type 0
+ReplaceRefusal me v m f = (old : ℕ) × (g : UpFault) × (f ≡ raised_fault g) × StepCause me (aims.Change old v) m g
 
 -- the change was refused, and nothing was done
 pub record NotReplaced (me : Me) (v : ℕ) (m r : Memo) (tr : Trail) (es : List Event) (f : PutFault) : Type 0 where
@@ -132,7 +132,7 @@ pub record NotReplaced (me : Me) (v : ℕ) (m r : Memo) (tr : Trail) (es : List 
   pub cleared : Cleared me.who m r
   pub map : SameMap m r
   pub cause : PutCause me m r f
-  pub full : IsFullOf v f
+  pub refusal : ReplaceRefusal me v m f
   pub none : es ≡ []
   pub bound : IsWithin (1 + change_steps) tr
 

@@ -1,5 +1,5 @@
 -- what is owed of giving an entry another value block
-use Rattle.std.proofs.Common.{◌≡◌, ◌≢◌, ℕ, ◌+◌, ◌%◌, ◌^◌, ◌<◌, ◌≤◌, refl, sym, ap, ◌∙◌, subst, arith, Bool, true, false, List, [], ◌∷◌, ◌++◌, append-nil, inl, inr, length}
+use Rattle.std.proofs.Common.{◌≡◌, ◌≢◌, ℕ, ◌+◌, ◌%◌, ◌^◌, ◌<◌, ◌≤◌, refl, sym, ap, ◌∙◌, subst, arith, true, false, List, [], ◌++◌, append-nil, inl, inr, length}
 use Rattle.std.specs.Prelude.{◌==◌, if◌then◌else◌, Some, None, Result, Ok, Err}
 use Rattle.std.specs.List.{All, Contains}
 use Rattle.std.proofs.lemmas.Bool.{cases_eq, eq-eqb, ne_eqb}
@@ -9,7 +9,7 @@ use Rattle.shm_words.specs.Layout.{total_of}
 use Rattle.shm_graph.specs.declared.ask.Me.{Me}
 use Rattle.shm_graph.specs.declared.memo.Memo.{Memo}
 use Rattle.shm_graph.specs.declared.spot.Spot.{Spot}
-use Rattle.shm_graph.specs.declared.spot.Spot.TheVariants.{Body, Era, Home, Root}
+use Rattle.shm_graph.specs.declared.spot.Spot.TheVariants.{Body, Home, Root}
 use Rattle.shm_graph.specs.Agents.{recovers}
 use Rattle.shm_graph.specs.Asks.{Trail, IsWithin}
 use Rattle.shm_graph.specs.Bounds.{change_steps, tear_steps}
@@ -28,7 +28,6 @@ use Rattle.shm_steps.proofs.Cores.{here_same}
 use Rattle.shm_steps.proofs.Reaching.{look_reached, root_reached}
 use Rattle.shm_count.specs.declared.answer.EraSpent.{EraSpent as ASpent}
 use Rattle.shm_count.specs.declared.answer.UpFault.{UpFault}
-use Rattle.shm_count.specs.declared.answer.UpFault.TheVariants.{CountFull, EraSpent}
 use Rattle.shm_count.specs.declared.point.Aim.TheVariants as aims
 use Rattle.shm_count.specs.CountParts.{tear_part, tear_part_laws}
 use Rattle.shm_count.specs.Lowering.{dies, torn_leaves}
@@ -50,11 +49,11 @@ use Rattle.shm_table.specs.EntrySteps.{ValueSteps, value_steps, word_step}
 use Rattle.shm_table.specs.FindControl.{word_ask}
 use Rattle.shm_table.specs.FindReads.{entry_latched, look_in}
 use Rattle.shm_table.specs.ReplaceControl.{ReplaceAnswer, is_look, replace_call_at, replace_parts, replacing}
-use Rattle.shm_table.specs.ReplaceFits.{IsFallen, IsFullOf, IsSeen, IsTorn, MayBegin, MayReplace, NotReplaced, Replaced, ReplaceKnows, ReplaceLeaves, changed_events, look_part, replace_plan}
+use Rattle.shm_table.specs.ReplaceFits.{IsFallen, IsSeen, IsTorn, MayBegin, MayReplace, NotReplaced, Replaced, ReplaceKnows, ReplaceLeaves, changed_events, look_part, replace_plan}
 use Rattle.shm_table.specs.Staying.{Ended, Keeps}
 use Rattle.shm_table.specs.StayingLaws.{keeps_more, keeps_untouched, raised_cause}
 use Rattle.shm_table.specs.StayingSteps.{keeps_took}
-use Rattle.shm_table.specs.ValueReads.{ReadsMore, idle_here, keeps_reads, reads_more_by}
+use Rattle.shm_table.specs.ValueReads.{ReadsMore, cause_read, idle_here, keeps_reads, reads_more_by}
 
 -- ---- the value word was read
 
@@ -216,14 +215,10 @@ module _ (me : Me) (b v old : ℕ) (r0 rs r : Memo) (tr t : Trail) (es ds : List
           cleared = record { roots = λ j. same.own (Root c j) refl ∙ ap (λ (x : Memo). root_word c x j) so_far.memo; dying = ap (λ (x : Memo). x.dying) same.rest ∙ ap (λ (x : Memo). x.dying) so_far.memo };
           map = λ k. ap (λ (x : Memo). map_in x.part k) same.rest ∙ ap (λ (x : Memo). map_in x.part k) so_far.memo;
           cause = raised_cause me (aims.Change old v) r0 rs r f same cause;
-          full = full_of f cause;
+          refusal = (old, f, refl, cause_read me (aims.Change old v) r0 rs f so_far cause);
           none = none_yet [] none;
           bound = within_more 1 change_steps tr t bound short;
         }
-      where
-        full_of : (f : UpFault) → StepCause me (aims.Change old v) rs f → IsFullOf v (raised_fault f)
-        full_of (EraSpent e) h = tt
-        full_of (CountFull d n) h = h.1
 
     -- the count of the old block came to 0, or it didn't
     fell : Lost me.who (Body b 1) false old v true rs r → ds ≡ changed_events me.who b old v [] → IsWithin change_steps t → IsFallen me b v old r0 r (tr ++ t) (es ++ ds)

@@ -1,5 +1,5 @@
 -- taking an entry of the own table out of its chain as a plan: when it may begin, what is known before each call, and what is left
-use Rattle.std.specs.Prelude.{◌≡◌, ◌≢◌, ℕ, zero, suc, ◌+◌, ◌%◌, ◌^◌, ◌<◌, ◌≤◌, ◌==◌, ◌⊎◌, if◌then◌else◌, true, false, Some, None, Result, Ok, Err, List, [], ◌∷◌, length}
+use Rattle.std.specs.Prelude.{◌≡◌, ◌≢◌, ℕ, zero, suc, ◌+◌, ◌%◌, ◌^◌, ◌<◌, ◌≤◌, ◌==◌, if◌then◌else◌, true, false, Some, None, Result, Ok, Err, List, [], ◌∷◌, length}
 use Rattle.std.specs.List.{All, Contains}
 use Rattle.shm_words.specs.Layout.{GeometryFits, total_of}
 use Rattle.shm_graph.specs.declared.ask.Me.{Me}
@@ -32,7 +32,7 @@ use Rattle.shm_count.specs.declared.point.Aim.TheVariants as aims
 use Rattle.shm_count.specs.declared.point.StepPoint.TheVariants.{Era}
 use Rattle.shm_count.specs.CountParts.{tear_part}
 use Rattle.shm_count.specs.Roots.{root_word}
-use Rattle.shm_count.specs.SlotLeaves.{Lost, MayStepAt}
+use Rattle.shm_count.specs.SlotLeaves.{Lost, MayStepAt, StepCause}
 use Rattle.shm_count.specs.SlotParts.{change_slot_part, down_slot_part}
 use Rattle.shm_count.specs.StepControl.{IsInside}
 use Rattle.shm_count.specs.StepParts.{part_after}
@@ -128,20 +128,25 @@ abbrev pub UnlinkCause : Me → Memo → UpFault → Type 0
 UnlinkCause me r (EraSpent e) = IsSpent me.who e r
 UnlinkCause me r (CountFull b n) = n ≡ 1023
 
+-- and that exactly: of the step by which the word loses the entry, the own era that was read leaves no room for it, or the next entry's header that was read is full
+abbrev pub UnlinkRefusal : Me → ℕ → Memo → UpFault → Type 0
+UnlinkRefusal me entry m f = (next : ℕ) × StepCause me (link_aim entry next) m f
+
 -- the step was refused, and nothing was done
-pub record NotUnlinked (me : Me) (m r : Memo) (tr : Trail) (es : List Event) (f : UpFault) : Type 0 where
+pub record NotUnlinked (me : Me) (entry : ℕ) (m r : Memo) (tr : Trail) (es : List Event) (f : UpFault) : Type 0 where
   pub keeps : Keeps me.who m r
   pub latch : r.latch ≡ m.latch
   pub home : own_word r.own (Home me.who) ≡ own_word m.own (Home me.who)
   pub cleared : Cleared me.who m r
   pub map : SameMap m r
   pub cause : UnlinkCause me r f
+  pub refusal : UnlinkRefusal me entry m f
   pub none : es ≡ []
   pub bound : IsWithin (1 + change_steps) tr
 
 abbrev pub UnlinkLeaves : UnlinkState → Memo → Memo → Trail → List Event → Result (Unit {0}) UpFault → Type 0
 UnlinkLeaves m r0 r tr es (Ok done) = Unlinked m.me m.entry m.before m.word r0 r tr es
-UnlinkLeaves m r0 r tr es (Err f) = NotUnlinked m.me r0 r tr es f
+UnlinkLeaves m r0 r tr es (Err f) = NotUnlinked m.me m.entry r0 r tr es f
 
 -- ---- the plan
 

@@ -1,15 +1,14 @@
 -- what is owed of taking an entry out of its chain
-use Rattle.std.proofs.Common.{◌≡◌, ◌≢◌, ℕ, zero, suc, ◌+◌, ◌%◌, ◌^◌, ◌<◌, ◌≤◌, refl, sym, ap, ◌∙◌, subst, arith, Bool, true, false, List, [], ◌∷◌, ◌++◌, append-nil, inl, inr, length}
-use Rattle.std.specs.Prelude.{◌==◌, if◌then◌else◌, Some, None, Result, Ok, Err}
+use Rattle.std.proofs.Common.{◌≡◌, ◌≢◌, ℕ, zero, suc, ◌+◌, ◌%◌, ◌^◌, ◌<◌, refl, sym, ap, ◌∙◌, subst, arith, Bool, true, false, List, [], ◌∷◌, ◌++◌, append-nil, inl, inr, length}
+use Rattle.std.specs.Prelude.{◌==◌, if◌then◌else◌, None, Result, Ok, Err}
 use Rattle.std.specs.List.{All, Contains}
 use Rattle.std.proofs.lemmas.Bool.{cases_eq, eq-eqb, ne_eqb}
 use Rattle.std.proofs.lemmas.List.Elements.{All-nil}
 use Rattle.shm_words.proofs.Placing.{total_small}
-use Rattle.shm_words.specs.Layout.{total_of}
 use Rattle.shm_graph.specs.declared.ask.Me.{Me}
 use Rattle.shm_graph.specs.declared.memo.Memo.{Memo}
 use Rattle.shm_graph.specs.declared.spot.Spot.{Spot}
-use Rattle.shm_graph.specs.declared.spot.Spot.TheVariants.{Body, Era, Home, Root}
+use Rattle.shm_graph.specs.declared.spot.Spot.TheVariants.{Body, Home, Root}
 use Rattle.shm_graph.specs.Agents.{recovers}
 use Rattle.shm_graph.specs.Asks.{Trail, IsWithin}
 use Rattle.shm_graph.specs.Bounds.{change_steps, down_steps, tear_steps}
@@ -23,7 +22,7 @@ use Rattle.shm_calls.specs.Either.{or_control, or_part, or_part_laws}
 use Rattle.shm_calls.specs.Parts.{IsHeld}
 use Rattle.shm_calls.specs.Plans.{PlanLaws, PlanStays, IsCall, Follows}
 use Rattle.shm_calls.specs.Words.{word_control, word_part_laws, WordLeaves}
-use Rattle.shm_steps.specs.Reparting.{sight, map_in}
+use Rattle.shm_steps.specs.Reparting.{map_in}
 use Rattle.shm_steps.proofs.Cores.{here_same}
 use Rattle.shm_steps.proofs.Reaching.{look_reached}
 use Rattle.shm_count.specs.declared.answer.EraSpent.{EraSpent as ASpent}
@@ -36,7 +35,7 @@ use Rattle.shm_count.specs.Lowering.{dies, torn_leaves}
 use Rattle.shm_count.specs.Roots.{root_word}
 use Rattle.shm_count.specs.SlotLeaves.{Lost, StepCause, Took, Untouched}
 use Rattle.shm_count.specs.SlotParts.{change_slot_laws, change_slot_part, down_slot_laws, down_slot_part}
-use Rattle.shm_count.specs.StepControl.{IsInside, last_era, step_control}
+use Rattle.shm_count.specs.StepControl.{last_era, step_control}
 use Rattle.shm_count.specs.StepMachines.{down_control}
 use Rattle.shm_count.specs.TearControl.{tear_control}
 use Rattle.shm_count.specs.TearEvents.{Visit, frees}
@@ -53,9 +52,9 @@ use Rattle.shm_table.specs.ReplaceFits.{IsTorn}
 use Rattle.shm_table.specs.Staying.{Ended, Keeps}
 use Rattle.shm_table.specs.StayingLaws.{keeps_more, keeps_untouched}
 use Rattle.shm_table.specs.StayingSteps.{keeps_took}
-use Rattle.shm_table.specs.UnlinkControl.{UnlinkAnswer, is_look, step_point, unlink_call_at, unlink_parts, unlinking}
-use Rattle.shm_table.specs.UnlinkFits.{IsFallen, IsSeen, MayBegin, MayUnlink, NotUnlinked, Unlinked, UnlinkCause, UnlinkKnows, link_events, look_part, unlink_plan}
-use Rattle.shm_table.specs.ValueReads.{ReadsMore, idle_here, keeps_reads, reads_more_by}
+use Rattle.shm_table.specs.UnlinkControl.{UnlinkAnswer, is_look, step_point, unlink_call_at, unlink_parts}
+use Rattle.shm_table.specs.UnlinkFits.{IsFallen, IsSeen, MayBegin, MayUnlink, NotUnlinked, Unlinked, UnlinkCause, UnlinkKnows, link_aim, link_events, look_part, unlink_plan}
+use Rattle.shm_table.specs.ValueReads.{ReadsMore, cause_read, idle_here, keeps_reads, reads_more_by}
 
 -- ---- the next word was read
 
@@ -144,6 +143,14 @@ events_more : (c b d i next : ℕ) (es : List Event) → next ≢ 0 → link_eve
 events_more c b d i zero es some = absurd (some refl)
 events_more c b d i (suc n) es some = refl
 
+-- and the step itself
+aim_last : (b next : ℕ) → next ≡ 0 → aims.Down b ≡ link_aim b next
+aim_last b next e = sym (ap (link_aim b) e)
+
+aim_more : (b next : ℕ) → next ≢ 0 → aims.Change b next ≡ link_aim b next
+aim_more b zero some = absurd (some refl)
+aim_more b (suc n) some = refl
+
 -- no block is freed by it
 frees_link : (c b d i next : ℕ) (es : List Event) → frees (link_events c b d i next es) ≡ frees es
 frees_link c b d i zero es = omega arith
@@ -187,8 +194,8 @@ module _ (me : Me) (b d i next : ℕ) (r0 rs r : Memo) (tr t : Trail) (es ds : L
     none_yet xs e = ap (λ (x : List Event). x ++ ds) quiet ∙ e
 
     -- it was refused
-    refused : (x : Aim) → 2 ^ 47 < last_era x + 5 → (f : UpFault) → Untouched me.who rs r × StepCause me x rs f × (ds ≡ []) → IsWithin change_steps t → NotUnlinked me r0 r (tr ++ t) (es ++ ds) f
-    refused x last f (same, cause, none) short =
+    refused : (x : Aim) → x ≡ link_aim b next → 2 ^ 47 < last_era x + 5 → (f : UpFault) → Untouched me.who rs r × StepCause me x rs f × (ds ≡ []) → IsWithin change_steps t → NotUnlinked me b r0 r (tr ++ t) (es ++ ds) f
+    refused x is_step last f (same, cause, none) short =
         let c = me.who in
         let before : Keeps c r0 rs = keeps_reads c r0 rs seen.begun.1.idle so_far in
         record {
@@ -198,6 +205,7 @@ module _ (me : Me) (b d i next : ℕ) (r0 rs r : Memo) (tr t : Trail) (es ds : L
           cleared = record { roots = λ j. same.own (Root c j) refl ∙ ap (λ (y : Memo). root_word c y j) so_far.memo; dying = ap (λ (y : Memo). y.dying) same.rest ∙ ap (λ (y : Memo). y.dying) so_far.memo };
           map = λ k. ap (λ (y : Memo). map_in y.part k) same.rest ∙ ap (λ (y : Memo). map_in y.part k) so_far.memo;
           cause = by f cause;
+          refusal = (next, subst (λ (y : Aim). StepCause me y r0 f) is_step (cause_read me x r0 rs f so_far cause));
           none = none_yet [] none;
           bound = within_more 1 change_steps tr t bound short;
         }
@@ -231,16 +239,16 @@ module _ (me : Me) (b d i next : ℕ) (r0 rs r : Memo) (tr t : Trail) (es ds : L
       last_lowered : Lost me.who (Body d i) false b 0 false rs r → ds ≡ event.Down me.who (Body d i) b ∷ [] → IsWithin down_steps t → Unlinked me b d i r0 r (tr ++ t) (es ++ ds)
       last_lowered lost told short = lowered (no_next false lost) (last_told told) (omega arith)
 
-    last_refused : (e : ℕ) → Untouched me.who rs r × StepCause me (aims.Down b) rs (EraSpent e) × (ds ≡ []) → IsWithin down_steps t → NotUnlinked me r0 r (tr ++ t) (es ++ ds) (EraSpent e)
-    last_refused e did short = refused (aims.Down b) (omega arith) (EraSpent e) did (omega arith)
+      last_refused : (e : ℕ) → Untouched me.who rs r × StepCause me (aims.Down b) rs (EraSpent e) × (ds ≡ []) → IsWithin down_steps t → NotUnlinked me b r0 r (tr ++ t) (es ++ ds) (EraSpent e)
+      last_refused e did short = refused (aims.Down b) (aim_last b next last) (omega arith) (EraSpent e) did (omega arith)
 
     -- or there is a next one
     module _ (more : next ≢ 0) where
       more_told : ds ≡ event.ChangeUp me.who (Body d i) b next ∷ event.ChangeDown me.who b ∷ [] → ds ≡ link_events me.who b d i next []
       more_told told = told ∙ sym (events_more me.who b d i next [] more)
 
-    more_refused : (f : UpFault) → Untouched me.who rs r × StepCause me (aims.Change b next) rs f × (ds ≡ []) → IsWithin change_steps t → NotUnlinked me r0 r (tr ++ t) (es ++ ds) f
-    more_refused f did short = refused (aims.Change b next) (omega arith) f did short
+      more_refused : (f : UpFault) → Untouched me.who rs r × StepCause me (aims.Change b next) rs f × (ds ≡ []) → IsWithin change_steps t → NotUnlinked me b r0 r (tr ++ t) (es ++ ds) f
+      more_refused f did short = refused (aims.Change b next) (aim_more b next more) (omega arith) f did short
 
   -- ---- the tear-down
 
@@ -348,12 +356,12 @@ unlink_laws =
         by_next n (λ z y. UnlinkKnows (record m { next = z; point = y }) y r0 r (tr ++ t) (es ++ ds)) (look_small m.me m.entry m.before m.word m.next r0 rs r tr t es ds held agent n h g) (λ e. (e, seen.0, seen.1, seen.2)) (λ o. (o, seen.0, seen.1, seen.2))
     leads m Lower r0 rs r tr t es ds (Second (First (Ok true))) (last, seen, quiet, bound) g held agent = last_fell m.me m.entry m.before m.word m.next r0 rs r tr t es ds held agent seen quiet bound last g.did.0 g.did.1 g.bound
     leads m Lower r0 rs r tr t es ds (Second (First (Ok false))) (last, seen, quiet, bound) g held agent = last_lowered m.me m.entry m.before m.word m.next r0 rs r tr t es ds held agent seen quiet bound last g.did.0 g.did.1 g.bound
-    leads m Lower r0 rs r tr t es ds (Second (First (Err e))) (last, seen, quiet, bound) g held agent = last_refused m.me m.entry m.before m.word m.next r0 rs r tr t es ds held agent seen quiet bound e.era g.did g.bound
+    leads m Lower r0 rs r tr t es ds (Second (First (Err e))) (last, seen, quiet, bound) g held agent = last_refused m.me m.entry m.before m.word m.next r0 rs r tr t es ds held agent seen quiet bound last e.era g.did g.bound
     leads m Change r0 rs r tr t es ds (Second (Second (First (Ok true)))) (more, seen, quiet, bound) g held agent =
         fell m.me m.entry m.before m.word m.next r0 rs r tr t es ds held agent seen quiet bound g.did.0 (more_told m.me m.entry m.before m.word m.next r0 rs r tr t es ds held agent seen quiet bound more g.did.1) g.bound
     leads m Change r0 rs r tr t es ds (Second (Second (First (Ok false)))) (more, seen, quiet, bound) g held agent =
         lowered m.me m.entry m.before m.word m.next r0 rs r tr t es ds held agent seen quiet bound g.did.0 (more_told m.me m.entry m.before m.word m.next r0 rs r tr t es ds held agent seen quiet bound more g.did.1) g.bound
-    leads m Change r0 rs r tr t es ds (Second (Second (First (Err f)))) (more, seen, quiet, bound) g held agent = more_refused m.me m.entry m.before m.word m.next r0 rs r tr t es ds held agent seen quiet bound f g.did g.bound
+    leads m Change r0 rs r tr t es ds (Second (Second (First (Err f)))) (more, seen, quiet, bound) g held agent = more_refused m.me m.entry m.before m.word m.next r0 rs r tr t es ds held agent seen quiet bound more f g.did g.bound
     leads m Tear r0 rs r tr t es ds (Second (Second (Second a))) h g held agent = torn m.me m.entry m.before m.word m.next r0 rs r tr t es ds held agent a h g
     leads m Look r0 rs r tr t es ds (Second a) h g held agent = absurd g
     leads m Lower r0 rs r tr t es ds (First n) h g held agent = absurd g

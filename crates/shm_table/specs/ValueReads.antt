@@ -4,6 +4,7 @@ use Rattle.std.specs.Prelude.{◌==◌, if◌then◌else◌}
 use Rattle.std.specs.List.{Contains}
 use Rattle.std.proofs.lemmas.Bool.{cases_eq, cond-false, cond-true, eq-eqb, ne_eqb}
 use Rattle.std.proofs.lemmas.List.Elements.{Contains-append_left, Contains-append_right}
+use Rattle.shm_graph.specs.declared.ask.Me.{Me}
 use Rattle.shm_graph.specs.declared.memo.Look.{Look}
 use Rattle.shm_graph.specs.declared.memo.Memo.{Memo}
 use Rattle.shm_graph.specs.declared.memo.Stored.{Stored}
@@ -18,7 +19,11 @@ use Rattle.shm_graph.specs.Telling.{role_in, roles}
 use Rattle.shm_graph.specs.Views.{own_word}
 use Rattle.shm_steps.specs.Conditions.{IsHere}
 use Rattle.shm_steps.specs.WordParts.{ReferenceLoaded}
+use Rattle.shm_count.specs.declared.answer.UpFault.{UpFault}
+use Rattle.shm_count.specs.declared.answer.UpFault.TheVariants.{CountFull, EraSpent}
+use Rattle.shm_count.specs.declared.point.Aim.{Aim}
 use Rattle.shm_count.specs.Roots.{root_word}
+use Rattle.shm_count.specs.SlotLeaves.{StepCause}
 use Rattle.shm_table.specs.FindReads.{learnt_keeps}
 use Rattle.shm_table.specs.Staying.{Keeps}
 
@@ -78,3 +83,8 @@ keeps_reads c m r idle h =
 -- and is here
 pub idle_here : (c : ℕ) (r : Memo) → IsIdle c r → IsHere r
 idle_here c r idle = record { joined = λ e. (let z : status.Live ≡ status.New = sym idle.live ∙ e in cc); stays = λ e. (let z : status.Live ≡ status.Gone = sym idle.live ∙ e in cc) }
+
+-- why a count step is refused that follows
+pub cause_read : (me : Me) (x : Aim) (m r : Memo) (f : UpFault) → ReadsMore m r → StepCause me x r f → StepCause me x m f
+cause_read me x m r (EraSpent e) h (is, late) = (is ∙ ap (λ (y : Memo). own_word y.own (Era me.who me.who)) h.memo, late)
+cause_read me x m r (CountFull b n) h cause = cause

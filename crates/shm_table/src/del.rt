@@ -1,6 +1,6 @@
 //! A key of the own table is removed.
 
-ghost use Rattle.std.specs.Prelude.{◌≡◌, ◌%◌, ◌^◌, ◌<◌};
+ghost use Rattle.std.specs.Prelude.{◌≡◌, ◌%◌, ◌<◌};
 ghost use Rattle.shm_words.specs.Layout.{GeometryFits};
 ghost use Rattle.shm_table.specs.DelControl as control;
 ghost use Rattle.shm_table.specs.DelControl.{deleting};
