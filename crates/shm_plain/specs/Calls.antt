@@ -20,7 +20,7 @@ use Rattle.shm_plain.specs.Pools.{Pool, IsRun, MayStep, memo_of, readied}
 abbrev pub state_of : Pool → State
 state_of p = state p.words p.accounts
 
--- c is one of the pool, and at work between two calls, as a client or in recovery
+-- c is one of the pool, and between two calls, and an agent of it acts, a client or a recoverer
 pub record IsAtWork (c : ℕ) (p : Pool) : Type 0 where
   pub geometry : GeometryFits p.start.geometry
   pub who : c < p.start.geometry.clients

@@ -1,8 +1,5 @@
--- count steps at the roots of an identity at work: when they fit, and what their answers leave
-use Rattle.std.proofs.Common.{◌≡◌, ◌≢◌, ℕ, ◌^◌, ◌<◌, false, true, refl, sym, arith, inr, [], Result}
-use Rattle.std.specs.Prelude.{IfErr, IfOk, IfSome, Option}
-use Rattle.std.specs.Option.{is_some}
-use Rattle.std.specs.Result.{is_ok}
+-- count steps at the roots of an identity at work: when they fit
+use Rattle.std.proofs.Common.{◌≡◌, ◌≢◌, ℕ, ◌^◌, ◌<◌, false, true, refl, sym, arith, inr, []}
 use Rattle.std.proofs.lemmas.Bool.{and_from, lt-ltb, true≢false}
 use Rattle.shm_words.specs.declared.geometry.Geometry.{Geometry}
 use Rattle.shm_words.specs.declared.place.Place.TheVariants as place
@@ -11,21 +8,14 @@ use Rattle.shm_words.proofs.Placing.{address_small}
 use Rattle.shm_graph.specs.declared.memo.Memo.{Memo}
 use Rattle.shm_graph.specs.declared.spot.Spot.TheVariants.{Root}
 use Rattle.shm_graph.specs.Agents.{recovers}
-use Rattle.shm_graph.specs.Held.{is_loose}
-use Rattle.shm_graph.specs.Idle.{IsIdle}
 use Rattle.shm_graph.specs.Reach.{is_reached}
-use Rattle.shm_plain.specs.Pools.{Pool, IsRun, memo_of}
-use Rattle.shm_plain.specs.Calls.{IsAtWork, Ran}
+use Rattle.shm_plain.specs.Pools.{Pool, memo_of}
+use Rattle.shm_plain.specs.Calls.{IsAtWork}
 use Rattle.shm_count.specs.declared.point.Aim.TheVariants.{Up, Down, Change}
-use Rattle.shm_count.specs.Roots.{AreRootsReached, member, root_step, root_word}
+use Rattle.shm_count.specs.Roots.{member, root_step, root_word}
 use Rattle.shm_count.specs.StepControl.{IsInside}
 use Rattle.shm_count.specs.StepFits.{StepFits}
-use Rattle.shm_count.proofs.RootMemos.{StepLeft}
-use Rattle.shm_count.proofs.RootSpots.{can_root, fits_root, is_here, roots_reached, some_inside}
-use Rattle.shm_tests.proofs.Answering.{some_map}
-use Rattle.shm_tests.proofs.RootAnswers.{err_same, ok_others, ok_root}
-
--- ---- before
+use Rattle.shm_count.proofs.RootSpots.{can_root, fits_root, is_here, some_inside}
 
 module _ (p : Pool) (c k : ℕ) (s : k < 16) (work : IsAtWork c p) where
   abbrev g : Geometry
@@ -58,35 +48,3 @@ module _ (p : Pool) (c k : ℕ) (s : k < 16) (work : IsAtWork c p) where
       (can_root g c k work.geometry work.who s (Change a b) r work.idle (λ u. client) (inside, within)
       (λ room. (refl, record { may = record { here = is_here c r work.idle; idle = work.idle.op; room = omega arith }; some = some_inside g c a inside; root = holds; other = other; source = reached }))
       (λ u. reached))
-
--- ---- after
-
--- what is left of root k, which holds v where the step is done, and of the identity
-pub record RootLeft {T E : Type 0} (c k v : ℕ) (r0 r : Memo) (o : Option (Result T E)) : Type 0 where
-  pub root : IfSome o (λ a. IfOk a (λ u. root_word c r k ≡ v))
-  pub others : IfSome o (λ a. IfOk a (λ u. (j : ℕ) → j ≢ k → root_word c r j ≡ root_word c r0 j))
-  pub same : IfSome o (λ a. IfErr a (λ e. (j : ℕ) → root_word c r j ≡ root_word c r0 j))
-  pub idle : IfSome o (λ a. IsIdle c r)
-  pub loose : IfSome o (λ a. is_loose r.part ≡ is_loose r0.part)
-  pub reached : IfSome o (λ a. AreRootsReached c r)
-
-module _ {T E : Type 0} (p q : Pool) (run : IsRun p) (c k : ℕ) (s : k < 16) (work : IsAtWork c p) (x y : ℕ) (o : Option (Result T E)) (ran : Ran c true (is_some o) p q x y) (v : ℕ) where
-  abbrev r0 : Memo
-  r0 = memo_of p c
-
-  abbrev r1 : Memo
-  r1 = memo_of q c
-
-  abbrev pub Left : Result T E → Type 0
-  Left a = let g : Geometry = p.start.geometry in StepLeft (member g c) (address g (place.Root c k)) k r0 v (is_ok a) r1
-
-  pub root_left : IfSome o Left → RootLeft c k v r0 r1 o
-  root_left left =
-      record {
-        root = some_map Left (λ a. IfOk a (λ u. root_word c r1 k ≡ v)) o (λ a h. ok_root p q run ran.run ran.start c k work.who s work.idle a v h) left;
-        others = some_map Left (λ a. IfOk a (λ u. (j : ℕ) → j ≢ k → root_word c r1 j ≡ root_word c r0 j)) o (λ a h. ok_others p q run ran.run ran.start c k work.who s work.idle a v h) left;
-        same = some_map Left (λ a. IfErr a (λ e. (j : ℕ) → root_word c r1 j ≡ root_word c r0 j)) o (λ a h. err_same p q run ran.run ran.start c k work.who s work.idle a v h) left;
-        idle = some_map Left (λ a. IsIdle c r1) o (λ a h. h.idle) left;
-        loose = some_map Left (λ a. is_loose r1.part ≡ is_loose r0.part) o (λ a h. h.loose) left;
-        reached = some_map Left (λ a. AreRootsReached c r1) o (λ a h. roots_reached c r1 h.idle.op) left;
-      }

@@ -22,10 +22,8 @@ use Rattle.shm_queue.specs.TakeFits.{TakeKnows, TakeLeaves, take_plan}
 use Rattle.shm_queue.specs.TakeLaws.{take_laws}
 use Rattle.shm_graph.specs.Stores.{lane_with}
 use Rattle.shm_tests.specs.Queues.{IsLeft, IsTaken, LeavesQueues, if_none, if_spent}
-use Rattle.shm_tests.proofs.Answering.{some_both}
 use Rattle.shm_tests.proofs.ItemAnswers.{take_dying, take_empty, take_head, take_leaves_idle, take_roots, take_spent, take_taken, taken_first}
-use Rattle.shm_tests.proofs.PlanCalls.{Answered, PlanGave, answered, plan_fits}
-use Rattle.shm_tests.proofs.QueueAnswers.{LeavesIdle}
+use Rattle.shm_tests.proofs.PlanCalls.{Answered, answered, plan_fits}
 use Rattle.shm_tests.proofs.queues.take.Goals.{After-new-machine, After-call}
 use Rattle.shm_tests.proofs.queues.take.Goals as goal
 
@@ -134,25 +132,21 @@ returns-clause-spent c =
     let at = (goal.at.returns-clause-spent c).After-call in
     (called at).follows (λ a. IfErr a (λ e. if_spent e (IsLeft (memo_of c.args.pool.now c.args.who) (memo_of c.call.new.self c.args.who) ⊎ IsTaken c.args.pool.now c.args.from c.args.who (memo_of c.call.new.self c.args.who)))) (λ a g. spent_by at a g.leaves)
 
--- whatever is answered, the identity is between two calls
-left : (c : After-call) (a : Result (Unit {0}) TakeFault) → PlanGave take_parts take_plan c.args.who c.args.pool.now (machine c) c.call.new.self a → LeavesIdle c.args.who (memo_of c.args.pool.now c.args.who) (memo_of c.call.new.self c.args.who)
-left c a g = take_leaves_idle (machine c) _ _ _ _ a g.leaves
-
 pub returns-clause-left : goal.returns-clause-left
 returns-clause-left c =
     let at = (goal.at.returns-clause-left c).After-call in
-    (called at).follows (λ a. LeavesQueues (memo_of c.args.pool.now c.args.who) (memo_of c.call.new.self c.args.who)) (λ a g. (left at a g).left)
+    (called at).follows (λ a. LeavesQueues (memo_of c.args.pool.now c.args.who) (memo_of c.call.new.self c.args.who)) (λ a g. (take_leaves_idle (machine at) _ _ _ _ a g.leaves).left)
 
 pub returns-clause-reached : goal.returns-clause-reached
 returns-clause-reached c =
     let at = (goal.at.returns-clause-reached c).After-call in
     let r : Memo = memo_of c.call.new.self c.args.who in
-    (called at).follows (λ a. AreRootsReached c.args.who r) (λ a g. roots_reached c.args.who r ((left at a g).idle c.requires.at_work.idle).op)
+    (called at).follows (λ a. AreRootsReached c.args.who r) (λ a g. roots_reached c.args.who r ((take_leaves_idle (machine at) _ _ _ _ a g.leaves).idle c.requires.at_work.idle).op)
 
 pub returns-clause-at_work : goal.returns-clause-at_work
 returns-clause-at_work c =
     let at = (goal.at.returns-clause-at_work c).After-call in
-    (called at).works (λ a g. (left at a g).idle c.requires.at_work.idle)
+    (called at).works (λ a g. (take_leaves_idle (machine at) _ _ _ _ a g.leaves).idle c.requires.at_work.idle)
 
 pub returns-clause-events : goal.returns-clause-events
 returns-clause-events c =
@@ -160,6 +154,4 @@ returns-clause-events c =
     let p = c.args.pool.now in
     let q = c.call.new.self in
     let r : Memo = memo_of q c.args.who in
-    let es : List Event = happens_along (calls_control take_parts take_plan) (calls_does take_parts take_plan) (calls_of take_plan (machine at)) r.call in
-    some_both (PlanGave take_parts take_plan c.args.who p (machine at) q) (λ a. Did c.args.who p q es) (λ a. (fs : List Event) × Did c.args.who p q fs × TakeLeaves (machine at) (memo_of p c.args.who) r r.call fs a) c.call.result
-    (λ a g d. (es, d, g.leaves)) (called at).gives ((called at).did (λ a. es) (λ a g. refl))
+    (called at).told (λ a. (es : List Event) × Did c.args.who p q es × TakeLeaves (machine at) (memo_of p c.args.who) r r.call es a) (λ a g d. (_, d, g.leaves))

@@ -1,6 +1,5 @@
 use Rattle.std.proofs.Common.{ap}
 use Rattle.shm_graph.specs.declared.memo.Memo.{Memo}
-use Rattle.shm_plain.specs.Pools.{memo_of}
 use Rattle.shm_tests.specs.Queues.{IsReady}
 use Rattle.shm_tests.proofs.QueueReady.{ready_after, ready_other, zero_not_one}
 use Rattle.shm_tests.proofs.queues_tests.empty.Goals as goal

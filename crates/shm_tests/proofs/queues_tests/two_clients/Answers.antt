@@ -7,7 +7,7 @@ use Rattle.shm_graph.specs.Runs.{first_memo}
 use Rattle.shm_plain.specs.Tracks.{kind_next}
 use Rattle.shm_plain.specs.Calls.{IsAtWork}
 use Rattle.shm_plain.specs.Pools.{memo_of}
-use Rattle.shm_tests.specs.Queues.{IsClear, IsReady}
+use Rattle.shm_tests.specs.Queues.{IsClear}
 use Rattle.shm_tests.proofs.Passing.{ready_new}
 use Rattle.shm_tests.proofs.QueueReady.{clear_alloc, clear_join, ready_other, zero_not_one, one_not_zero}
 use Rattle.shm_tests.proofs.queues_tests.two_clients.Goals as goal
