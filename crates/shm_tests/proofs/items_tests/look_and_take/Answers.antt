@@ -1,4 +1,4 @@
-use Rattle.std.proofs.Common.{◌≡◌, ◌∙◌, rules}
+use Rattle.std.proofs.Common.{◌∙◌, rules}
 use Rattle.shm_graph.specs.Stores.{lane_with}
 use Rattle.shm_plain.specs.Lanes.{IsFirst}
 use Rattle.shm_plain.specs.Pools.{memo_of}

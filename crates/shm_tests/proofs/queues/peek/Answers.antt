@@ -25,7 +25,6 @@ use Rattle.shm_queue.specs.PeekLaws.{peek_laws}
 use Rattle.shm_tests.specs.Queues.{IsLeft, LeavesQueues, if_empty}
 use Rattle.shm_tests.proofs.ItemAnswers.{peek_empty, peek_head, peek_kept, peek_known, peek_leaves_idle, peek_named, peek_number, peek_roots, peek_stays}
 use Rattle.shm_tests.proofs.PlanCalls.{Answered, answered, plan_fits}
-use Rattle.shm_tests.proofs.QueueAnswers.{LeavesIdle}
 use Rattle.shm_tests.proofs.queues.peek.Goals.{After-new-machine, After-call}
 use Rattle.shm_tests.proofs.queues.peek.Goals as goal
 
@@ -136,25 +135,21 @@ returns-clause-first c =
     let at = (goal.at.returns-clause-first c).After-call in
     (called at).follows (λ a. IfOk a (λ made. IsFirst c.call.new.self c.args.from c.args.who made.block)) (λ a g. first_by at a g.leaves)
 
--- whatever is answered, the identity is between two calls
-left : (c : After-call) (a : Result Made PeekFault) → PeekLeaves (machine c) (memo_of c.args.pool.now c.args.who) (memo_of c.call.new.self c.args.who) (memo_of c.call.new.self c.args.who).call (told c) a → LeavesIdle c.args.who (memo_of c.args.pool.now c.args.who) (memo_of c.call.new.self c.args.who)
-left c a g = peek_leaves_idle (machine c) _ _ _ _ a g
-
 pub returns-clause-left : goal.returns-clause-left
 returns-clause-left c =
     let at = (goal.at.returns-clause-left c).After-call in
-    (called at).follows (λ a. LeavesQueues (memo_of c.args.pool.now c.args.who) (memo_of c.call.new.self c.args.who)) (λ a g. (left at a g.leaves).left)
+    (called at).follows (λ a. LeavesQueues (memo_of c.args.pool.now c.args.who) (memo_of c.call.new.self c.args.who)) (λ a g. (peek_leaves_idle (machine at) _ _ _ _ a g.leaves).left)
 
 pub returns-clause-reached : goal.returns-clause-reached
 returns-clause-reached c =
     let at = (goal.at.returns-clause-reached c).After-call in
     let r : Memo = memo_of c.call.new.self c.args.who in
-    (called at).follows (λ a. AreRootsReached c.args.who r) (λ a g. roots_reached c.args.who r ((left at a g.leaves).idle c.requires.at_work.idle).op)
+    (called at).follows (λ a. AreRootsReached c.args.who r) (λ a g. roots_reached c.args.who r ((peek_leaves_idle (machine at) _ _ _ _ a g.leaves).idle c.requires.at_work.idle).op)
 
 pub returns-clause-at_work : goal.returns-clause-at_work
 returns-clause-at_work c =
     let at = (goal.at.returns-clause-at_work c).After-call in
-    (called at).works (λ a g. (left at a g.leaves).idle c.requires.at_work.idle)
+    (called at).works (λ a g. (peek_leaves_idle (machine at) _ _ _ _ a g.leaves).idle c.requires.at_work.idle)
 
 pub returns-clause-events : goal.returns-clause-events
 returns-clause-events c =

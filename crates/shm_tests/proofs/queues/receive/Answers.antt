@@ -86,7 +86,7 @@ returns-clause-received c =
 -- which was the first one
 first_by : (c : After-call) (a : Result Made PeekFault) → IfOk a (λ made. (memo_of c.call.new.self c.args.who).received ≡ lane_with (memo_of c.args.pool.now c.args.who).received c.args.from made.block) → IfOk a (λ made. IsFirst c.args.pool.now c.args.from c.args.who made.block)
 first_by c (Ok made) e =
-    let ran = c.call.ensures.ran in
+    let ran = (called c).ran in
     let inside : (d : ℕ) → d < c.args.pool.now.start.geometry.clients → d < c.call.new.self.start.geometry.clients = (λ d l. subst (λ (s : Start). d < s.geometry.clients) (sym ran.start) l) in
     taken_first c.args.pool.now c.call.new.self c.args.from c.args.who made.block ran.run (inside c.args.from c.requires.from) (inside c.args.who c.requires.at_work.who) c.requires.other (ran.others c.args.from c.requires.other) e
 first_by c (Err f) e = tt

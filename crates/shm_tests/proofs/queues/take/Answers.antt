@@ -24,7 +24,6 @@ use Rattle.shm_graph.specs.Stores.{lane_with}
 use Rattle.shm_tests.specs.Queues.{IsLeft, IsTaken, LeavesQueues, if_none, if_spent}
 use Rattle.shm_tests.proofs.ItemAnswers.{take_dying, take_empty, take_head, take_leaves_idle, take_roots, take_spent, take_taken, taken_first}
 use Rattle.shm_tests.proofs.PlanCalls.{Answered, answered, plan_fits}
-use Rattle.shm_tests.proofs.QueueAnswers.{LeavesIdle}
 use Rattle.shm_tests.proofs.queues.take.Goals.{After-new-machine, After-call}
 use Rattle.shm_tests.proofs.queues.take.Goals as goal
 
@@ -133,25 +132,21 @@ returns-clause-spent c =
     let at = (goal.at.returns-clause-spent c).After-call in
     (called at).follows (λ a. IfErr a (λ e. if_spent e (IsLeft (memo_of c.args.pool.now c.args.who) (memo_of c.call.new.self c.args.who) ⊎ IsTaken c.args.pool.now c.args.from c.args.who (memo_of c.call.new.self c.args.who)))) (λ a g. spent_by at a g.leaves)
 
--- whatever is answered, the identity is between two calls
-left : (c : After-call) (a : Result (Unit {0}) TakeFault) → TakeLeaves (machine c) (memo_of c.args.pool.now c.args.who) (memo_of c.call.new.self c.args.who) (memo_of c.call.new.self c.args.who).call (told c) a → LeavesIdle c.args.who (memo_of c.args.pool.now c.args.who) (memo_of c.call.new.self c.args.who)
-left c a g = take_leaves_idle (machine c) _ _ _ _ a g
-
 pub returns-clause-left : goal.returns-clause-left
 returns-clause-left c =
     let at = (goal.at.returns-clause-left c).After-call in
-    (called at).follows (λ a. LeavesQueues (memo_of c.args.pool.now c.args.who) (memo_of c.call.new.self c.args.who)) (λ a g. (left at a g.leaves).left)
+    (called at).follows (λ a. LeavesQueues (memo_of c.args.pool.now c.args.who) (memo_of c.call.new.self c.args.who)) (λ a g. (take_leaves_idle (machine at) _ _ _ _ a g.leaves).left)
 
 pub returns-clause-reached : goal.returns-clause-reached
 returns-clause-reached c =
     let at = (goal.at.returns-clause-reached c).After-call in
     let r : Memo = memo_of c.call.new.self c.args.who in
-    (called at).follows (λ a. AreRootsReached c.args.who r) (λ a g. roots_reached c.args.who r ((left at a g.leaves).idle c.requires.at_work.idle).op)
+    (called at).follows (λ a. AreRootsReached c.args.who r) (λ a g. roots_reached c.args.who r ((take_leaves_idle (machine at) _ _ _ _ a g.leaves).idle c.requires.at_work.idle).op)
 
 pub returns-clause-at_work : goal.returns-clause-at_work
 returns-clause-at_work c =
     let at = (goal.at.returns-clause-at_work c).After-call in
-    (called at).works (λ a g. (left at a g.leaves).idle c.requires.at_work.idle)
+    (called at).works (λ a g. (take_leaves_idle (machine at) _ _ _ _ a g.leaves).idle c.requires.at_work.idle)
 
 pub returns-clause-events : goal.returns-clause-events
 returns-clause-events c =

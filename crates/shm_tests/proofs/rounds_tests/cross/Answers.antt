@@ -1,4 +1,4 @@
-use Rattle.std.proofs.Common.{◌≡◌, ◌<◌, arith}
+use Rattle.std.proofs.Common.{arith}
 use Rattle.shm_tests.specs.Queues.{HasBlock}
 use Rattle.shm_tests.proofs.QueueReady.{has_after, has_other, one_not_zero, zero_not_one}
 use Rattle.shm_tests.proofs.rounds_tests.cross.Goals as goal
