@@ -12,3 +12,4 @@ pub mod PlanCalls
 pub mod JoinLatch
 pub mod QueueAnswers
 pub mod QueueReady
+pub mod SetAnswers

@@ -21,7 +21,7 @@ pub use joining::{Stepped, step_join};
 pub use latches::{hold, home_of, look, read, release, root_of};
 pub use leaving::leave;
 pub use queues::{drain, receive, send};
-pub use setting::set_home;
+pub use setting::{set_home, set_ref};
 pub use sharing::share;
 pub use tearing::tear_down;
 
@@ -37,6 +37,8 @@ mod dropping_tests;
 mod latches_tests;
 #[cfg(test)]
 mod queues_tests;
+#[cfg(test)]
+mod setting_tests;
 #[cfg(test)]
 mod sharing_tests;
 #[cfg(test)]
