@@ -6,6 +6,7 @@ ghost use Rattle.shm_words.specs.Layout.{GeometryFits};
 ghost use Rattle.shm_graph.specs.Runs.{EraFits};
 ghost use Rattle.shm_plain.specs.Calls.{IsAtWork};
 ghost use Rattle.shm_plain.specs.Pools.{memo_of};
+ghost use Rattle.shm_tests.specs.Queues.{IsReady};
 ghost use Rattle.shm_tests.specs.Setting.{IsBuilding};
 
 use crate::{allocate, drop_root, hold, joined, release, root_of, set_ref};
@@ -25,7 +26,29 @@ struct Link {
     to: u8,
 }
 
-/// A pool that the one client has joined, of which it holds the latch, with new blocks in its first roots: their reference words and plain words.
+/// A pool that the one client has joined, with new blocks in its first roots: their reference words and plain words.
+fn making(
+    rt: &impl Abort,
+    alloc: Global,
+    first_era: u64,
+    blocks: &[(u8, &[u64])],
+    life: &mut Life,
+) -> Result<PlainPool, Fail>
+    requires era { EraFits first_era }
+    ensures ready { IfOk result (λ p. IsReady 0 p) }
+{
+    let Some(mut pool) = joined(alloc, Geometry::new(1, 1)?, first_era, false, life, 0)? else {
+        panic!(rt; "no join")
+    };
+    for &(refs, plain) in blocks {
+        let Some(Ok(_)) = allocate(&mut pool, 0, refs, plain, life)? else {
+            panic!(rt; "no block")
+        };
+    }
+    Ok(pool)
+}
+
+/// The same pool, with the own latch held.
 fn holding(
     rt: &impl Abort,
     alloc: Global,
@@ -37,14 +60,7 @@ fn holding(
     ensures building { IfOk result (λ p. IsBuilding 0 p) }
     ensures latch { IfOk result (λ p. (memo_of p 0).latch ≡ Some 0) }
 {
-    let Some(mut pool) = joined(alloc, Geometry::new(1, 1)?, first_era, false, life, 0)? else {
-        panic!(rt; "no join")
-    };
-    for &(refs, plain) in blocks {
-        let Some(Ok(_)) = allocate(&mut pool, 0, refs, plain, life)? else {
-            panic!(rt; "no block")
-        };
-    }
+    let mut pool = making(rt, alloc, first_era, blocks, life)?;
     let Some(Ok(())) = hold(&mut pool, 0, 0, life) else {
         panic!(rt; "no latch")
     };
@@ -279,7 +295,14 @@ fn what_another_root_names_stays(rt: HostRuntime) -> Result<(), Fail> {
 #[test]
 fn a_word_is_set_changed_and_emptied(rt: HostRuntime) -> Result<(), Fail> {
     let mut life = Life::of(200);
-    let mut pool = holding(&rt, rt.alloc(), 1, &[(2, &[]), (0, &[5])], &mut life)?;
+    let mut pool = making(&rt, rt.alloc(), 1, &[(2, &[]), (0, &[5])], &mut life)?;
+    assert_eq!(rt;
+        tie(&rt, &mut pool, of(0, 0, 1), &mut life),
+        Err(SetFault::NotHeld)
+    );
+    let Some(Ok(())) = hold(&mut pool, 0, 0, &mut life) else {
+        panic!(rt; "no latch")
+    };
     assert_eq!(rt;
         tie(&rt, &mut pool, of(0, 2, 1), &mut life),
         Err(SetFault::NoSuchRef { refs: 2 })
@@ -325,13 +348,6 @@ fn a_word_is_set_changed_and_emptied(rt: HostRuntime) -> Result<(), Fail> {
         (56, 5),
     ];
     has_words(&rt, &pool, &emptied);
-    let Some(()) = release(&mut pool, 0, &mut life) else {
-        panic!(rt; "the latch stays")
-    };
-    assert_eq!(rt;
-        tie(&rt, &mut pool, of(0, 0, 0), &mut life),
-        Err(SetFault::NotHeld)
-    );
     Ok(())
 }
 
