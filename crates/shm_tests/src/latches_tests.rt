@@ -91,10 +91,11 @@ fn a_block_that_another_client_finds(rt: HostRuntime) -> Result<(), Fail> {
         panic!(rt; "no step was left")
     };
     assert_eq!(rt; named, Err(LookFault::NoSuchRef { refs: 0 }));
-    let Some(set) = set_ref(&mut pool, 1, found, 0, 0, &mut life) else {
-        panic!(rt; "no step was left")
+    let Some(Err(SetFault::NotAuthor { author })) = set_ref(&mut pool, 1, found, 0, 0, &mut life)
+    else {
+        panic!(rt; "the block of another is set")
     };
-    assert_eq!(rt; set, Err(SetFault::NotAuthor { author: 0 }));
+    assert_eq!(rt; author, 0);
     let Some(Ok(root)) = share(&mut pool, 1, found, &mut life) else {
         panic!(rt; "no root")
     };
