@@ -5,6 +5,7 @@ pub mod JoinEvents
 pub mod Answering
 pub mod RootAnswers
 pub mod RootCalls
+pub mod RootSteps
 pub mod AllocRoots
 pub mod TearAnswers
 pub mod Passing

@@ -49,10 +49,11 @@ clear_alloc x r0 r tr a g h =
     }
 
 -- a call on a queue leaves it ready
-pub ready_after : (c : ℕ) (p q : Pool) → IsReady c p → IsAtWork c q → LeavesQueues (memo_of p c) (memo_of q c) → (memo_of q c).dying ≡ (memo_of p c).dying → IsReady c q
-ready_after c p q h work left dying =
+pub ready_after : (c : ℕ) (p q : Pool) → IsReady c p → IsAtWork c q → recovers (memo_of q c) ≡ recovers (memo_of p c) → LeavesQueues (memo_of p c) (memo_of q c) → (memo_of q c).dying ≡ (memo_of p c).dying → IsReady c q
+ready_after c p q h work kind left dying =
     record {
       work = work;
+      client = kind ∙ h.client;
       clear = record {
         loose = left.loose ∙ h.clear.loose;
         latch = left.latch ∙ h.clear.latch;
@@ -72,8 +73,8 @@ ready_other c d fresh answered p q x y h n ran =
         who = subst (λ (s : Start). c < s.geometry.clients) (sym ran.start) h.work.who;
         idle = subst (λ (m : Memo). IsIdle c m) (sym same) h.work.idle;
         acts = ap acts same ∙ h.work.acts;
-        client = ap recovers same ∙ h.work.client;
       };
+      client = ap recovers same ∙ h.client;
       clear = subst IsClear (sym same) h.clear;
     }
 

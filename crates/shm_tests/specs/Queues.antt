@@ -1,6 +1,7 @@
 -- what calls on queues leave
-use Rattle.std.specs.Prelude.{◌≡◌, ℕ, true, None, [], slice_index}
+use Rattle.std.specs.Prelude.{◌≡◌, ℕ, false, true, None, [], slice_index}
 use Rattle.shm_graph.specs.declared.memo.Memo.{Memo}
+use Rattle.shm_graph.specs.Agents.{recovers}
 use Rattle.shm_graph.specs.Held.{is_loose}
 use Rattle.shm_plain.specs.Calls.{IsAtWork}
 use Rattle.shm_plain.specs.Pools.{Pool, memo_of}
@@ -27,7 +28,8 @@ pub record IsClear (m : Memo) : Type 0 where
   pub unsent : (j : ℕ) → slice_index m.unsent j ≡ 0
   pub untaken : (j : ℕ) → slice_index m.untaken j ≡ 0
 
--- so it is with c, which is between two calls: each call on a queue may begin, and the identity may leave
+-- so it is with c, which is between two calls and a client: each call on a queue may begin, and the identity may leave
 pub record IsReady (c : ℕ) (p : Pool) : Type 0 where
   pub work : IsAtWork c p
+  pub client : recovers (memo_of p c) ≡ false
   pub clear : IsClear (memo_of p c)

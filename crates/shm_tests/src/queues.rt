@@ -4,6 +4,7 @@ ghost use Rattle.std.specs.Prelude.{◌≡◌, ◌≢◌, ℕ, ◌+◌, ◌<◌,
 ghost use Rattle.std.specs.List.{Contains};
 ghost use Rattle.std.specs.Option.{is_some};
 ghost use Rattle.shm_graph.specs.declared.spot.Spot.TheVariants.{Front, Tail};
+ghost use Rattle.shm_graph.specs.Agents.{recovers};
 ghost use Rattle.shm_graph.specs.Core.{core};
 ghost use Rattle.shm_graph.specs.Events.{Event};
 ghost use Rattle.shm_graph.specs.Held.{is_loose};
@@ -37,6 +38,7 @@ pub fn send(
     life: &mut Life,
 ) -> Option<Result<u64, SendFault>>
     requires at_work { IsAtWork who pool.old }
+    requires client { recovers (memo_of pool.old who) ≡ false }
     requires to { to < pool.old.start.geometry.clients }
     requires other { who ≢ to }
     requires block { block < 2 ^ 20 }
@@ -52,6 +54,7 @@ pub fn send(
     ensures roots { IfSome result (λ a. (k : ℕ) → root_word who (memo_of pool.new who) k ≡ root_word who (memo_of pool.old who) k) }
     ensures reached { IfSome result (λ a. AreRootsReached who (memo_of pool.new who)) }
     ensures at_work { IfSome result (λ a. IsAtWork who pool.new) }
+    ensures kind { IfSome result (λ a. recovers (memo_of pool.new who) ≡ recovers (memo_of pool.old who)) }
     ensures ran { Ran who true (is_some result) pool.old pool.new life.old.left life.new.left }
     ensures events { IfSome result (λ a. (es : List Event) × Did who pool.old pool.new es × SendLeaves (sending (member pool.old.start.geometry who) to block) (memo_of pool.old who) (memo_of pool.new who) (memo_of pool.new who).call es a) }
 {
@@ -69,6 +72,7 @@ pub fn receive(
     life: &mut Life,
 ) -> Option<Result<Made, PeekFault>>
     requires at_work { IsAtWork who pool.old }
+    requires client { recovers (memo_of pool.old who) ≡ false }
     requires from { from < pool.old.start.geometry.clients }
     requires other { from ≢ who }
     requires none { slice_index (memo_of pool.old who).untaken from ≡ 0 }
@@ -82,6 +86,7 @@ pub fn receive(
     ensures roots { IfSome result (λ a. IfOk a (λ made. (k : ℕ) → k ≢ made.root → root_word who (memo_of pool.new who) k ≡ root_word who (memo_of pool.old who) k)) }
     ensures reached { IfSome result (λ a. AreRootsReached who (memo_of pool.new who)) }
     ensures at_work { IfSome result (λ a. IsAtWork who pool.new) }
+    ensures kind { IfSome result (λ a. recovers (memo_of pool.new who) ≡ recovers (memo_of pool.old who)) }
     ensures ran { Ran who true (is_some result) pool.old pool.new life.old.left life.new.left }
     ensures events { IfSome result (λ a. (es : List Event) × Did who pool.old pool.new es × ReceiveLeaves (receiving (member pool.old.start.geometry who) from) (memo_of pool.old who) (memo_of pool.new who) (memo_of pool.new who).call es a) }
 {
@@ -102,6 +107,7 @@ pub fn drain(pool: &mut PlainPool, who: u8, life: &mut Life) -> Option<Result<u6
     ensures roots { IfSome result (λ a. (k : ℕ) → root_word who (memo_of pool.new who) k ≡ root_word who (memo_of pool.old who) k) }
     ensures reached { IfSome result (λ a. AreRootsReached who (memo_of pool.new who)) }
     ensures at_work { IfSome result (λ a. IsAtWork who pool.new) }
+    ensures kind { IfSome result (λ a. recovers (memo_of pool.new who) ≡ recovers (memo_of pool.old who)) }
     ensures ran { Ran who true (is_some result) pool.old pool.new life.old.left life.new.left }
     ensures events { IfSome result (λ a. (es : List Event) × Did who pool.old pool.new es × DrainLeaves (draining (member pool.old.start.geometry who)) (memo_of pool.old who) (memo_of pool.new who) (memo_of pool.new who).call es a) }
 {

@@ -1,8 +1,9 @@
 //! The home of an identity, and reference words of its blocks, on a pool.
 
-ghost use Rattle.std.specs.Prelude.{◌≡◌, ◌≢◌, ℕ, true, List, [], ◌∷◌, Some, IfOk, IfErr, IfSome};
+ghost use Rattle.std.specs.Prelude.{◌≡◌, ◌≢◌, ℕ, false, true, List, [], ◌∷◌, Some, IfOk, IfErr, IfSome};
 ghost use Rattle.std.specs.Option.{is_some};
 ghost use Rattle.shm_graph.specs.declared.spot.Spot.TheVariants.{Body, Home};
+ghost use Rattle.shm_graph.specs.Agents.{recovers};
 ghost use Rattle.shm_graph.specs.Events.{Event, Up};
 ghost use Rattle.shm_graph.specs.Held.{is_loose};
 ghost use Rattle.shm_graph.specs.Reach.{is_named, is_reached};
@@ -33,6 +34,7 @@ pub fn set_home(
     life: &mut Life,
 ) -> Option<Result<(), HomeFault>>
     requires at_work { IsAtWork who pool.old }
+    requires client { recovers (memo_of pool.old who) ≡ false }
     requires reached { is_reached who (memo_of pool.old who) block ≡ true }
     requires part { own_word (memo_of pool.old who).own (Home who) ≡ 0 → KeepsPart who (memo_of pool.old who) (aims.Up block) (Home who) }
     ensures gives { IfSome result (λ a. SetHomeGives (member pool.old.start.geometry who) block (memo_of pool.old who) (memo_of pool.new who) (memo_of pool.new who).call a) }
@@ -44,6 +46,7 @@ pub fn set_home(
     ensures loose { IfSome result (λ a. is_loose (memo_of pool.new who).part ≡ is_loose (memo_of pool.old who).part) }
     ensures reached { IfSome result (λ a. AreRootsReached who (memo_of pool.new who)) }
     ensures at_work { IfSome result (λ a. IsAtWork who pool.new) }
+    ensures kind { IfSome result (λ a. recovers (memo_of pool.new who) ≡ recovers (memo_of pool.old who)) }
     ensures ran { Ran who true (is_some result) pool.old pool.new life.old.left life.new.left }
     ensures events { IfSome result (λ a. Did who pool.old pool.new (if_done a (Up who (Home who) block ∷ []))) }
 {
@@ -63,6 +66,7 @@ pub fn set_ref(
     life: &mut Life,
 ) -> Option<Result<(), SetFault>>
     requires at_work { IsAtWork who pool.old }
+    requires client { recovers (memo_of pool.old who) ≡ false }
     requires loose { is_loose (memo_of pool.old who).part ≡ true }
     requires reached { is_reached who (memo_of pool.old who) block ≡ true }
     requires target { target ≢ 0 → is_reached who (memo_of pool.old who) target ≡ true }
@@ -75,6 +79,7 @@ pub fn set_ref(
     ensures roots { IfSome result (λ a. (k : ℕ) → root_word who (memo_of pool.new who) k ≡ root_word who (memo_of pool.old who) k) }
     ensures reached { IfSome result (λ a. AreRootsReached who (memo_of pool.new who)) }
     ensures at_work { IfSome result (λ a. IsAtWork who pool.new) }
+    ensures kind { IfSome result (λ a. recovers (memo_of pool.new who) ≡ recovers (memo_of pool.old who)) }
     ensures ran { Ran who true (is_some result) pool.old pool.new life.old.left life.new.left }
     ensures events { IfSome result (λ a. (es : List Event) × Did who pool.old pool.new es × SetLeaves (setting (member pool.old.start.geometry who) block index target) (memo_of pool.old who) (memo_of pool.new who) (memo_of pool.new who).call es a) }
 {

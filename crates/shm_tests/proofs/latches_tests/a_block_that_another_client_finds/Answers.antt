@@ -2,7 +2,7 @@ use Rattle.std.proofs.Common.{◌≡◌, ◌<◌, ◌∙◌, ap, arith, rules, f
 use Rattle.shm_graph.specs.declared.memo.Kind.TheVariants.{Client}
 use Rattle.shm_graph.specs.declared.memo.Memo.{Memo}
 use Rattle.shm_graph.specs.declared.run.Start.{Start}
-use Rattle.shm_graph.specs.Agents.{acts}
+use Rattle.shm_graph.specs.Agents.{acts, recovers}
 use Rattle.shm_graph.specs.Reach.{is_reached}
 use Rattle.shm_graph.specs.Runs.{first_memo}
 use Rattle.shm_plain.specs.Pools.{memo_of}
@@ -12,16 +12,6 @@ use Rattle.shm_tests.proofs.JoinLatch.{clear_joining, none_joining}
 use Rattle.shm_tests.proofs.latches_tests.a_block_that_another_client_finds.Goals as goal
 
 -- nobody had joined as client 1 before
-pub home_of-requires-clause-at_work : goal.home_of-requires-clause-at_work
-home_of-requires-clause-at_work g c =
-    let others = rw c.in-Some.is at c.in_ok-pool.ensures.others in
-    let first : memo_of c.set_home.new.pool 1 ≡ first_memo c.in-Some.pool.start 1 =
-    c.set_home.ensures.ran.others 1 (omega arith) ∙ (c.in_ok-made.ensures.ran.others 1 (omega arith) ∙ others 1 (omega (arith, c.in_ok-new.ensures.sizes.0)) (omega arith)) in
-    let joins : c.join.result ≡ true = search rules in
-    let idle : acts (memo_of c.set_home.new.pool 1) ≡ false = ap acts first in
-    let next : kind_next (memo_of c.set_home.new.pool 1) ≡ Client = ap (λ (m : Memo). kind_next m) first in
-    c.join.ensures.at_work joins idle next
-
 pub hold-requires-clause-none : goal.hold-requires-clause-none
 hold-requires-clause-none g c =
     let q = c.set_home.new.pool in
@@ -75,3 +65,27 @@ share-requires-clause-reached g c =
     let other = c.in-Some-Err-NotAuthor in
     let told = rw other.field-0-0-is at (rw other.field-0-is at other.ensures.refused) in
     told.4 c.in-Some-Ok-home_of.found looked
+
+-- and the agent is a client's
+pub set_ref-requires-clause-client : goal.set_ref-requires-clause-client
+set_ref-requires-clause-client g c =
+    let others = rw c.in-Some.is at c.in_ok-pool.ensures.others in
+    let first : memo_of c.set_home.new.pool 1 ≡ first_memo c.in-Some.pool.start 1 =
+    c.set_home.ensures.ran.others 1 (omega arith) ∙ (c.in_ok-made.ensures.ran.others 1 (omega arith) ∙ others 1 (omega (arith, c.in_ok-new.ensures.sizes.0)) (omega arith)) in
+    let joins : c.join.result ≡ true = search rules in
+    let idle : acts (memo_of c.set_home.new.pool 1) ≡ false = ap acts first in
+    let next : kind_next (memo_of c.set_home.new.pool 1) ≡ Client = ap (λ (m : Memo). kind_next m) first in
+    let client : recovers (memo_of c.join.new.pool 1) ≡ false = c.join.ensures.client joins idle next in
+    c.in-Some-look.ensures.kind ∙ (c.in-Some-read-2.ensures.kind ∙ (c.in-Some-read.ensures.kind ∙ (c.in-Some-Ok-home_of.ensures.kind ∙ (c.in-Some-Ok-hold.ensures.kind ∙ (c.in-Some-Err.ensures.kind ∙ client)))))
+
+pub share-requires-clause-client : goal.share-requires-clause-client
+share-requires-clause-client g c =
+    let others = rw c.in-Some.is at c.in_ok-pool.ensures.others in
+    let first : memo_of c.set_home.new.pool 1 ≡ first_memo c.in-Some.pool.start 1 =
+    c.set_home.ensures.ran.others 1 (omega arith) ∙ (c.in_ok-made.ensures.ran.others 1 (omega arith) ∙ others 1 (omega (arith, c.in_ok-new.ensures.sizes.0)) (omega arith)) in
+    let joins : c.join.result ≡ true = search rules in
+    let idle : acts (memo_of c.set_home.new.pool 1) ≡ false = ap acts first in
+    let next : kind_next (memo_of c.set_home.new.pool 1) ≡ Client = ap (λ (m : Memo). kind_next m) first in
+    let client : recovers (memo_of c.join.new.pool 1) ≡ false = c.join.ensures.client joins idle next in
+    c.in-Some-Err-NotAuthor.ensures.kind
+    ∙ (c.in-Some-look.ensures.kind ∙ (c.in-Some-read-2.ensures.kind ∙ (c.in-Some-read.ensures.kind ∙ (c.in-Some-Ok-home_of.ensures.kind ∙ (c.in-Some-Ok-hold.ensures.kind ∙ (c.in-Some-Err.ensures.kind ∙ client))))))

@@ -7,10 +7,9 @@ use Rattle.shm_graph.specs.declared.memo.Memo.{Memo}
 use Rattle.shm_graph.specs.declared.spot.Spot.TheVariants.{Body}
 use Rattle.shm_graph.specs.Events.{Event}
 use Rattle.shm_graph.specs.Reach.{is_named}
-use Rattle.shm_graph.specs.Tells.{happens_along}
 use Rattle.shm_plain.specs.Calls.{Did}
 use Rattle.shm_plain.specs.Pools.{memo_of}
-use Rattle.shm_calls.specs.CallsControl.{calls_control, calls_does, calls_of}
+use Rattle.shm_calls.specs.CallsControl.{calls_of}
 use Rattle.shm_count.specs.Roots.{AreRootsReached, member, root_word}
 use Rattle.shm_count.specs.TearMemos.{Knows}
 use Rattle.shm_count.proofs.RootSpots.{is_here, roots_reached}
@@ -22,8 +21,7 @@ use Rattle.shm_ref.specs.SetRefFits.{SetKnows, SetLeaves, set_plan}
 use Rattle.shm_ref.specs.SetRefLaws.{set_laws}
 use Rattle.shm_tests.specs.Queues.{LeavesQueues}
 use Rattle.shm_tests.specs.Setting.{SetTold}
-use Rattle.shm_tests.proofs.Answering.{some_both}
-use Rattle.shm_tests.proofs.PlanCalls.{Answered, PlanGave, answered, may_read, plan_fits, reached_inside, reached_small}
+use Rattle.shm_tests.proofs.PlanCalls.{Answered, answered, may_read, plan_fits, reached_inside, reached_small}
 use Rattle.shm_tests.proofs.SetAnswers.{latch_is, set_dying, set_held, set_known, set_lasts, set_told}
 use Rattle.shm_tests.proofs.setting.set_ref.Goals.{After-new-machine, After-call}
 use Rattle.shm_tests.proofs.setting.set_ref.Goals as goal
@@ -48,7 +46,7 @@ knows c =
         who = work.who;
         here = is_here c.args.who r work.idle;
         idle = work.idle.op;
-        client = work.client;
+        client = c.requires.client;
         loose = c.requires.loose;
         room = (may_read p c.args.who work c.geometry-geometry.ensures.run c.args.block c.requires.reached).room;
         reach = c.requires.reached;
@@ -93,6 +91,9 @@ returns-clause-gives c = (called (goal.at.returns-clause-gives c).After-call).gi
 
 pub returns-clause-ran : goal.returns-clause-ran
 returns-clause-ran c = (called (goal.at.returns-clause-ran c).After-call).ran
+
+pub returns-clause-kind : goal.returns-clause-kind
+returns-clause-kind c = (called (goal.at.returns-clause-kind c).After-call).kind
 
 pub returns-clause-held : goal.returns-clause-held
 returns-clause-held c =
@@ -139,10 +140,4 @@ returns-clause-at_work c =
 pub returns-clause-events : goal.returns-clause-events
 returns-clause-events c =
     let at = (goal.at.returns-clause-events c).After-call in
-    let s : SetState = machine at in
-    let p = c.args.pool.now in
-    let q = c.call.new.self in
-    let r : Memo = memo_of q c.args.who in
-    let events : List Event = happens_along (calls_control set_parts set_plan) (calls_does set_parts set_plan) (calls_of set_plan s) r.call in
-    some_both (λ (a : Result (Unit {0}) SetFault). Did c.args.who p q events) (PlanGave set_parts set_plan c.args.who p s q) (λ a. (es : List Event) × Did c.args.who p q es × SetLeaves s (memo_of p c.args.who) r r.call es a)
-    c.call.result (λ a d g. (events, d, g.leaves)) ((called at).did (λ a. events) (λ a g. refl)) (called at).gives
+    (called at).told (λ a. (es : List Event) × Did c.args.who c.args.pool.now c.call.new.self es × SetLeaves (setting (member c.args.pool.now.start.geometry c.args.who) c.args.block c.args.index c.args.target) (memo_of c.args.pool.now c.args.who) (memo_of c.call.new.self c.args.who) (memo_of c.call.new.self c.args.who).call es a) (λ a g d. (_, d, g.leaves))
