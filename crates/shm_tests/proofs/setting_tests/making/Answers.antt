@@ -1,4 +1,4 @@
-use Rattle.std.proofs.Common.{ap, refl, rules, false}
+use Rattle.std.proofs.Common.{◌≡◌, ap, refl, rules, false}
 use Rattle.shm_graph.specs.declared.run.Start.{Start}
 use Rattle.shm_graph.specs.Agents.{recovers}
 use Rattle.shm_plain.specs.Calls.{IsAtWork}
