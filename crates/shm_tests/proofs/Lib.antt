@@ -14,3 +14,4 @@ pub mod JoinLatch
 pub mod QueueAnswers
 pub mod QueueReady
 pub mod ItemAnswers
+pub mod SetAnswers

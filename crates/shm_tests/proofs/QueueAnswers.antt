@@ -52,7 +52,7 @@ root_part c t k x = go t.part refl
 
 module _ (c : ℕ) (m r : Memo) where
   -- nothing of the memo changed but words that are no hold word
-  own_leaves : core r ≡ core (record m { own = r.own }) → own_word r.own (Hold c) ≡ own_word m.own (Hold c) → LeavesIdle c m r
+  pub own_leaves : core r ≡ core (record m { own = r.own }) → own_word r.own (Hold c) ≡ own_word m.own (Hold c) → LeavesIdle c m r
   own_leaves h own =
       record {
         idle = λ idle. record {
@@ -132,7 +132,7 @@ module _ (c : ℕ) (m r : Memo) where
   take_leaves s n b t = lanes_leaves (lane_with m.received s b) t.rest t.op (t.own (Hold c) refl refl) t.untaken
 
 -- one after the other
-leaves_then : (c : ℕ) (m q r : Memo) → LeavesIdle c m q → LeavesIdle c q r → LeavesIdle c m r
+pub leaves_then : (c : ℕ) (m q r : Memo) → LeavesIdle c m q → LeavesIdle c q r → LeavesIdle c m r
 leaves_then c m q r a b =
     record {
       idle = λ idle. b.idle (a.idle idle);

@@ -21,7 +21,7 @@ pub use joining::{Stepped, step_join};
 pub use latches::{hold, home_of, look, read, release, root_of};
 pub use leaving::leave;
 pub use queues::{drain, peek, receive, send, take};
-pub use setting::set_home;
+pub use setting::{set_home, set_ref};
 pub use sharing::share;
 pub use tearing::tear_down;
 
@@ -41,6 +41,8 @@ mod latches_tests;
 mod queues_tests;
 #[cfg(test)]
 mod rounds_tests;
+#[cfg(test)]
+mod setting_tests;
 #[cfg(test)]
 mod sharing_tests;
 #[cfg(test)]
