@@ -1,6 +1,7 @@
 //! Drains step by step and on the words of a pool, against an independent implementation.
 
-use crate::tests::{exchange, follow, load, store, words_of};
+use crate::tests::Step::{Exchange, Load, Store};
+use crate::tests::{Run, runs};
 use crate::{Drain, Draining};
 use shm_calls::Calls;
 use shm_count::EraSpent;
@@ -8,11 +9,10 @@ use shm_graph::Me;
 use shm_words::Geometry;
 use std::test::Fail;
 
-#[test]
-fn all_queues_are_drained(rt: HostRuntime) -> Result<(), Fail> {
-    let me = Me::new(Geometry::new(3, 2)?, 1);
-    // two items from client 0, whose root 0 names the block, and one from client 2, which the queue alone names
-    let before = [
+/// Two items from client 0, whose root 0 names the block, and one from client 2, which the queue alone names.
+const ALL_QUEUES_ARE_DRAINED: Run = Run {
+    total: 4293,
+    before: &[
         (1, 1),
         (2, 1),
         (3, 1),
@@ -37,60 +37,51 @@ fn all_queues_are_drained(rt: HostRuntime) -> Result<(), Fail> {
         (2245, 9_511_743_150_494_842_883),
         (2246, 69_206_016),
         (2247, 77),
-    ];
-    let steps = [
-        (load(2), 1),
-        (load(84), 0),
-        (load(83), 2),
-        (load(85), 197),
-        (load(20), 1),
-        (store(5, 4_611_779_477_122_318_336), 0),
-        (load(197), 9_223_794_249_319_841_795),
-        (load(19), 0),
-        (store(19, 3), 0),
-        (
-            exchange(197, 9_223_794_249_319_841_795, 9_367_768_699_907_342_337),
-            9_223_794_249_319_841_795,
-        ),
-        (store(85, 0), 0),
-        (store(20, 2), 0),
-        (store(84, 1), 0),
-        (load(84), 1),
-        (load(83), 2),
-        (load(86), 197),
-        (load(20), 2),
-        (store(5, 4_611_780_576_633_946_112), 0),
-        (load(197), 9_367_768_699_907_342_337),
-        (
-            exchange(197, 9_367_768_699_907_342_337, 9_367_627_962_418_987_010),
-            9_367_768_699_907_342_337,
-        ),
-        (store(86, 0), 0),
-        (store(20, 3), 0),
-        (store(84, 2), 0),
-        (load(84), 2),
-        (load(83), 2),
-        (load(144), 0),
-        (load(143), 1),
-        (load(145), 2245),
-        (load(20), 3),
-        (store(5, 4_611_845_449_967_468_544), 0),
-        (load(2245), 9_511_743_150_494_842_883),
-        (load(21), 0),
-        (store(21, 3), 0),
-        (
-            exchange(2245, 9_511_743_150_494_842_883, 9_367_487_224_930_631_683),
-            9_511_743_150_494_842_883,
-        ),
-        (store(145, 0), 0),
-        (store(20, 4), 0),
-        (store(144, 1), 0),
-        (load(2246), 69_206_016),
-        (store(2245, 0), 0),
-        (load(144), 1),
-        (load(143), 1),
-    ];
-    let after = [
+    ],
+    steps: &[
+        Load(2, 1),
+        Load(84, 0),
+        Load(83, 2),
+        Load(85, 197),
+        Load(20, 1),
+        Store(5, 4_611_779_477_122_318_336),
+        Load(197, 9_223_794_249_319_841_795),
+        Load(19, 0),
+        Store(19, 3),
+        Exchange(197, 9_223_794_249_319_841_795, 9_367_768_699_907_342_337),
+        Store(85, 0),
+        Store(20, 2),
+        Store(84, 1),
+        Load(84, 1),
+        Load(83, 2),
+        Load(86, 197),
+        Load(20, 2),
+        Store(5, 4_611_780_576_633_946_112),
+        Load(197, 9_367_768_699_907_342_337),
+        Exchange(197, 9_367_768_699_907_342_337, 9_367_627_962_418_987_010),
+        Store(86, 0),
+        Store(20, 3),
+        Store(84, 2),
+        Load(84, 2),
+        Load(83, 2),
+        Load(144, 0),
+        Load(143, 1),
+        Load(145, 2245),
+        Load(20, 3),
+        Store(5, 4_611_845_449_967_468_544),
+        Load(2245, 9_511_743_150_494_842_883),
+        Load(21, 0),
+        Store(21, 3),
+        Exchange(2245, 9_511_743_150_494_842_883, 9_367_487_224_930_631_683),
+        Store(145, 0),
+        Store(20, 4),
+        Store(144, 1),
+        Load(2246, 69_206_016),
+        Store(2245, 0),
+        Load(144, 1),
+        Load(143, 1),
+    ],
+    after: &[
         (1, 1),
         (2, 1),
         (3, 1),
@@ -116,22 +107,21 @@ fn all_queues_are_drained(rt: HostRuntime) -> Result<(), Fail> {
         (199, 77),
         (2246, 69_206_016),
         (2247, 77),
-    ];
-    let mut words = words_of(rt.alloc(), 4293, &before)?;
-    let mut machine: Drain = Calls::new(Draining::new(me));
-    assert_eq!(rt; follow(&mut machine, &mut words, &steps), Some(Ok(3)));
-    assert_eq!(rt;
-        words.as_slice(),
-        words_of(rt.alloc(), 4293, &after)?.as_slice()
-    );
+    ],
+};
+
+#[test]
+fn all_queues_are_drained(rt: HostRuntime) -> Result<(), Fail> {
+    let me = Me::new(Geometry::new(3, 2)?, 1);
+    let machine: Drain = Calls::new(Draining::new(me));
+    assert!(rt; runs(rt.alloc(), machine, &ALL_QUEUES_ARE_DRAINED, Ok(3))?);
     Ok(())
 }
 
-#[test]
-fn a_drain_stops_where_no_era_is_left(rt: HostRuntime) -> Result<(), Fail> {
-    let me = Me::new(Geometry::new(3, 2)?, 1);
-    // one step is left of three
-    let before = [
+/// One step is left of three.
+const A_DRAIN_STOPS_WHERE_NO_ERA_IS_LEFT: Run = Run {
+    total: 4293,
+    before: &[
         (1, 1),
         (2, 1),
         (3, 1),
@@ -156,30 +146,27 @@ fn a_drain_stops_where_no_era_is_left(rt: HostRuntime) -> Result<(), Fail> {
         (2245, 9_511_743_150_494_842_883),
         (2246, 69_206_016),
         (2247, 77),
-    ];
-    let steps = [
-        (load(2), 1),
-        (load(84), 0),
-        (load(83), 2),
-        (load(85), 197),
-        (load(20), 140_737_488_355_325),
-        (store(5, 4_611_779_477_122_318_336), 0),
-        (load(197), 9_223_794_249_319_841_795),
-        (load(19), 0),
-        (store(19, 3), 0),
-        (
-            exchange(197, 9_223_794_249_319_841_795, 9_367_909_437_395_697_661),
-            9_223_794_249_319_841_795,
-        ),
-        (store(85, 0), 0),
-        (store(20, 140_737_488_355_326), 0),
-        (store(84, 1), 0),
-        (load(84), 1),
-        (load(83), 2),
-        (load(86), 197),
-        (load(20), 140_737_488_355_326),
-    ];
-    let after = [
+    ],
+    steps: &[
+        Load(2, 1),
+        Load(84, 0),
+        Load(83, 2),
+        Load(85, 197),
+        Load(20, 140_737_488_355_325),
+        Store(5, 4_611_779_477_122_318_336),
+        Load(197, 9_223_794_249_319_841_795),
+        Load(19, 0),
+        Store(19, 3),
+        Exchange(197, 9_223_794_249_319_841_795, 9_367_909_437_395_697_661),
+        Store(85, 0),
+        Store(20, 140_737_488_355_326),
+        Store(84, 1),
+        Load(84, 1),
+        Load(83, 2),
+        Load(86, 197),
+        Load(20, 140_737_488_355_326),
+    ],
+    after: &[
         (1, 1),
         (2, 1),
         (3, 1),
@@ -206,35 +193,38 @@ fn a_drain_stops_where_no_era_is_left(rt: HostRuntime) -> Result<(), Fail> {
         (2245, 9_511_743_150_494_842_883),
         (2246, 69_206_016),
         (2247, 77),
-    ];
-    let mut words = words_of(rt.alloc(), 4293, &before)?;
-    let mut machine: Drain = Calls::new(Draining::new(me));
-    assert_eq!(rt;
-        follow(&mut machine, &mut words, &steps),
-        Some(Err(EraSpent {
-            era: 140_737_488_355_326
-        }))
-    );
-    assert_eq!(rt;
-        words.as_slice(),
-        words_of(rt.alloc(), 4293, &after)?.as_slice()
+    ],
+};
+
+#[test]
+fn a_drain_stops_where_no_era_is_left(rt: HostRuntime) -> Result<(), Fail> {
+    let me = Me::new(Geometry::new(3, 2)?, 1);
+    let machine: Drain = Calls::new(Draining::new(me));
+    assert!(rt;
+        runs(
+            rt.alloc(),
+            machine,
+            &A_DRAIN_STOPS_WHERE_NO_ERA_IS_LEFT,
+            Err(EraSpent {
+                era: 140_737_488_355_326
+            })
+        )?
     );
     Ok(())
 }
 
+/// One client.
+const ONE_CLIENT_ALONE_HAS_NO_QUEUE: Run = Run {
+    total: 2098,
+    before: &[(1, 1), (6, 1)],
+    steps: &[Load(1, 1)],
+    after: &[(1, 1), (6, 1)],
+};
+
 #[test]
 fn one_client_alone_has_no_queue(rt: HostRuntime) -> Result<(), Fail> {
     let me = Me::new(Geometry::new(1, 1)?, 0);
-    // one client
-    let before = [(1, 1), (6, 1)];
-    let steps = [(load(1), 1)];
-    let after = [(1, 1), (6, 1)];
-    let mut words = words_of(rt.alloc(), 2098, &before)?;
-    let mut machine: Drain = Calls::new(Draining::new(me));
-    assert_eq!(rt; follow(&mut machine, &mut words, &steps), Some(Ok(0)));
-    assert_eq!(rt;
-        words.as_slice(),
-        words_of(rt.alloc(), 2098, &after)?.as_slice()
-    );
+    let machine: Drain = Calls::new(Draining::new(me));
+    assert!(rt; runs(rt.alloc(), machine, &ONE_CLIENT_ALONE_HAS_NO_QUEUE, Ok(0))?);
     Ok(())
 }

@@ -1,6 +1,7 @@
 //! Receives step by step and on the words of a pool, against an independent implementation.
 
-use crate::tests::{exchange, follow, load, store, words_of};
+use crate::tests::Step::{Exchange, Load, Store};
+use crate::tests::{Run, runs};
 use crate::{PeekFault, Receive, Receiving};
 use shm_calls::Calls;
 use shm_count::Made;
@@ -8,55 +9,57 @@ use shm_graph::Me;
 use shm_words::Geometry;
 use std::test::Fail;
 
+/// Nothing was sent.
+const AN_EMPTY_QUEUE_GIVES_NO_ITEM: Run = Run {
+    total: 2152,
+    before: &[
+        (1, 1),
+        (2, 1),
+        (3, 2_305_859_501_888_110_696),
+        (11, 2),
+        (14, 1),
+        (15, 104),
+        (87, 1),
+        (88, 4),
+        (104, 9_223_512_774_343_131_137),
+        (105, 67_108_864),
+        (106, 77),
+    ],
+    steps: &[Load(58, 0), Load(57, 0)],
+    after: &[
+        (1, 1),
+        (2, 1),
+        (3, 2_305_859_501_888_110_696),
+        (11, 2),
+        (14, 1),
+        (15, 104),
+        (87, 1),
+        (88, 4),
+        (104, 9_223_512_774_343_131_137),
+        (105, 67_108_864),
+        (106, 77),
+    ],
+};
+
 #[test]
 fn an_empty_queue_gives_no_item(rt: HostRuntime) -> Result<(), Fail> {
     let me = Me::new(Geometry::new(2, 1)?, 1);
-    // nothing was sent
-    let before = [
-        (1, 1),
-        (2, 1),
-        (3, 2_305_859_501_888_110_696),
-        (11, 2),
-        (14, 1),
-        (15, 104),
-        (87, 1),
-        (88, 4),
-        (104, 9_223_512_774_343_131_137),
-        (105, 67_108_864),
-        (106, 77),
-    ];
-    let steps = [(load(58), 0), (load(57), 0)];
-    let after = [
-        (1, 1),
-        (2, 1),
-        (3, 2_305_859_501_888_110_696),
-        (11, 2),
-        (14, 1),
-        (15, 104),
-        (87, 1),
-        (88, 4),
-        (104, 9_223_512_774_343_131_137),
-        (105, 67_108_864),
-        (106, 77),
-    ];
-    let mut words = words_of(rt.alloc(), 2152, &before)?;
-    let mut machine: Receive = Calls::new(Receiving::new(me, 0));
-    assert_eq!(rt;
-        follow(&mut machine, &mut words, &steps),
-        Some(Err(PeekFault::Empty { at: 0 }))
-    );
-    assert_eq!(rt;
-        words.as_slice(),
-        words_of(rt.alloc(), 2152, &after)?.as_slice()
+    let machine: Receive = Calls::new(Receiving::new(me, 0));
+    assert!(rt;
+        runs(
+            rt.alloc(),
+            machine,
+            &AN_EMPTY_QUEUE_GIVES_NO_ITEM,
+            Err(PeekFault::Empty { at: 0 })
+        )?
     );
     Ok(())
 }
 
-#[test]
-fn an_item_is_received(rt: HostRuntime) -> Result<(), Fail> {
-    let me = Me::new(Geometry::new(2, 1)?, 1);
-    // client 0 sent a block
-    let before = [
+/// Client 0 sent a block.
+const AN_ITEM_IS_RECEIVED: Run = Run {
+    total: 2152,
+    before: &[
         (1, 1),
         (2, 1),
         (3, 2_305_907_880_399_732_840),
@@ -70,38 +73,32 @@ fn an_item_is_received(rt: HostRuntime) -> Result<(), Fail> {
         (104, 9_223_653_511_831_486_466),
         (105, 67_108_864),
         (106, 77),
-    ];
-    let steps = [
-        (load(58), 0),
-        (load(57), 1),
-        (load(59), 104),
-        (load(14), 1),
-        (load(31), 0),
-        (store(4, 2_305_877_094_074_155_112), 0),
-        (load(104), 9_223_653_511_831_486_466),
-        (load(13), 0),
-        (store(13, 2), 0),
-        (
-            exchange(104, 9_223_653_511_831_486_466, 9_367_909_437_395_697_665),
-            9_223_653_511_831_486_466,
-        ),
-        (store(31, 104), 0),
-        (store(14, 2), 0),
-        (load(58), 0),
-        (load(57), 1),
-        (load(59), 104),
-        (load(14), 2),
-        (store(4, 4_611_750_889_722_478_592), 0),
-        (load(104), 9_367_909_437_395_697_665),
-        (
-            exchange(104, 9_367_909_437_395_697_665, 9_367_768_699_907_342_338),
-            9_367_909_437_395_697_665,
-        ),
-        (store(59, 0), 0),
-        (store(14, 3), 0),
-        (store(58, 1), 0),
-    ];
-    let after = [
+    ],
+    steps: &[
+        Load(58, 0),
+        Load(57, 1),
+        Load(59, 104),
+        Load(14, 1),
+        Load(31, 0),
+        Store(4, 2_305_877_094_074_155_112),
+        Load(104, 9_223_653_511_831_486_466),
+        Load(13, 0),
+        Store(13, 2),
+        Exchange(104, 9_223_653_511_831_486_466, 9_367_909_437_395_697_665),
+        Store(31, 104),
+        Store(14, 2),
+        Load(58, 0),
+        Load(57, 1),
+        Load(59, 104),
+        Load(14, 2),
+        Store(4, 4_611_750_889_722_478_592),
+        Load(104, 9_367_909_437_395_697_665),
+        Exchange(104, 9_367_909_437_395_697_665, 9_367_768_699_907_342_338),
+        Store(59, 0),
+        Store(14, 3),
+        Store(58, 1),
+    ],
+    after: &[
         (1, 1),
         (2, 1),
         (3, 2_305_907_880_399_732_840),
@@ -118,28 +115,31 @@ fn an_item_is_received(rt: HostRuntime) -> Result<(), Fail> {
         (104, 9_367_768_699_907_342_338),
         (105, 67_108_864),
         (106, 77),
-    ];
-    let mut words = words_of(rt.alloc(), 2152, &before)?;
-    let mut machine: Receive = Calls::new(Receiving::new(me, 0));
-    assert_eq!(rt;
-        follow(&mut machine, &mut words, &steps),
-        Some(Ok(Made {
-            root: 0,
-            block: 104
-        }))
-    );
-    assert_eq!(rt;
-        words.as_slice(),
-        words_of(rt.alloc(), 2152, &after)?.as_slice()
+    ],
+};
+
+#[test]
+fn an_item_is_received(rt: HostRuntime) -> Result<(), Fail> {
+    let me = Me::new(Geometry::new(2, 1)?, 1);
+    let machine: Receive = Calls::new(Receiving::new(me, 0));
+    assert!(rt;
+        runs(
+            rt.alloc(),
+            machine,
+            &AN_ITEM_IS_RECEIVED,
+            Ok(Made {
+                root: 0,
+                block: 104
+            })
+        )?
     );
     Ok(())
 }
 
-#[test]
-fn an_item_has_a_root_and_stays_where_no_era_is_left(rt: HostRuntime) -> Result<(), Fail> {
-    let me = Me::new(Geometry::new(2, 1)?, 1);
-    // one step is left: the root is set, and the item stays
-    let before = [
+/// One step is left: the root is set, and the item stays.
+const AN_ITEM_HAS_A_ROOT_AND_STAYS_WHERE_NO_ERA_IS_LEFT: Run = Run {
+    total: 2152,
+    before: &[
         (1, 1),
         (2, 1),
         (3, 2_305_907_880_399_732_840),
@@ -153,29 +153,26 @@ fn an_item_has_a_root_and_stays_where_no_era_is_left(rt: HostRuntime) -> Result<
         (104, 9_223_653_511_831_486_466),
         (105, 67_108_864),
         (106, 77),
-    ];
-    let steps = [
-        (load(58), 0),
-        (load(57), 1),
-        (load(59), 104),
-        (load(14), 140_737_488_355_325),
-        (load(31), 0),
-        (store(4, 2_305_877_094_074_155_112), 0),
-        (load(104), 9_223_653_511_831_486_466),
-        (load(13), 0),
-        (store(13, 2), 0),
-        (
-            exchange(104, 9_223_653_511_831_486_466, 9_368_050_174_884_052_989),
-            9_223_653_511_831_486_466,
-        ),
-        (store(31, 104), 0),
-        (store(14, 140_737_488_355_326), 0),
-        (load(58), 0),
-        (load(57), 1),
-        (load(59), 104),
-        (load(14), 140_737_488_355_326),
-    ];
-    let after = [
+    ],
+    steps: &[
+        Load(58, 0),
+        Load(57, 1),
+        Load(59, 104),
+        Load(14, 140_737_488_355_325),
+        Load(31, 0),
+        Store(4, 2_305_877_094_074_155_112),
+        Load(104, 9_223_653_511_831_486_466),
+        Load(13, 0),
+        Store(13, 2),
+        Exchange(104, 9_223_653_511_831_486_466, 9_368_050_174_884_052_989),
+        Store(31, 104),
+        Store(14, 140_737_488_355_326),
+        Load(58, 0),
+        Load(57, 1),
+        Load(59, 104),
+        Load(14, 140_737_488_355_326),
+    ],
+    after: &[
         (1, 1),
         (2, 1),
         (3, 2_305_907_880_399_732_840),
@@ -192,18 +189,22 @@ fn an_item_has_a_root_and_stays_where_no_era_is_left(rt: HostRuntime) -> Result<
         (104, 9_368_050_174_884_052_989),
         (105, 67_108_864),
         (106, 77),
-    ];
-    let mut words = words_of(rt.alloc(), 2152, &before)?;
-    let mut machine: Receive = Calls::new(Receiving::new(me, 0));
-    assert_eq!(rt;
-        follow(&mut machine, &mut words, &steps),
-        Some(Err(PeekFault::EraSpent {
-            era: 140_737_488_355_326
-        }))
-    );
-    assert_eq!(rt;
-        words.as_slice(),
-        words_of(rt.alloc(), 2152, &after)?.as_slice()
+    ],
+};
+
+#[test]
+fn an_item_has_a_root_and_stays_where_no_era_is_left(rt: HostRuntime) -> Result<(), Fail> {
+    let me = Me::new(Geometry::new(2, 1)?, 1);
+    let machine: Receive = Calls::new(Receiving::new(me, 0));
+    assert!(rt;
+        runs(
+            rt.alloc(),
+            machine,
+            &AN_ITEM_HAS_A_ROOT_AND_STAYS_WHERE_NO_ERA_IS_LEFT,
+            Err(PeekFault::EraSpent {
+                era: 140_737_488_355_326
+            })
+        )?
     );
     Ok(())
 }

@@ -1,22 +1,68 @@
 //! Sends step by step and on the words of a pool, against an independent implementation.
 
 use crate::{Send, SendFault, Sending};
+use Step::{Exchange, Load, Lost, Store};
 use shm_calls::Calls;
 use shm_graph::{Ask, Machine, Me, Turn};
 use shm_words::Geometry;
 use std::alloc::{AllocError, Global};
 use std::test::Fail;
 
-pub fn load(at: u32) -> Ask {
-    Ask::Load { at }
+/// A word step, with the word that it finds.
+#[derive(Clone, Copy, Drop)]
+pub enum Step {
+    /// A load of the word at an address, and that word.
+    Load(u32, u64),
+    /// A store of a value.
+    Store(u32, u64),
+    /// An exchange of one value for another, which finds the one.
+    Exchange(u32, u64, u64),
+    /// An exchange that finds another word.
+    Lost(u32, u64, u64, u64),
 }
 
-pub fn store(at: u32, value: u64) -> Ask {
-    Ask::Store { at, value }
+impl Step {
+    /// What is asked.
+    pub fn ask(self) -> Ask {
+        match self {
+            Load(at, _) => Ask::Load { at },
+            Store(at, value) => Ask::Store { at, value },
+            Exchange(at, from, to) | Lost(at, from, to, _) => Ask::Exchange { at, from, to },
+        }
+    }
+
+    /// The word that is found, for a store 0.
+    pub fn found(self) -> u64 {
+        match self {
+            Load(_, found) | Exchange(_, found, _) | Lost(_, _, _, found) => found,
+            Store(..) => 0,
+        }
+    }
 }
 
-pub fn exchange(at: u32, from: u64, to: u64) -> Ask {
-    Ask::Exchange { at, from, to }
+/// A run of a machine on a pool of `total` words: words before it, its steps, and words after it; at all other addresses are 0.
+pub struct Run {
+    pub total: usize,
+    pub before: &'static [(usize, u64)],
+    pub steps: &'static [Step],
+    pub after: &'static [(usize, u64)],
+}
+
+/// Whether a machine makes this run, and answers so with its last step.
+pub fn runs<M: Machine>(
+    alloc: Global,
+    mut machine: M,
+    run: &Run,
+    wanted: M::Answer,
+) -> Result<bool, AllocError>
+where
+    M: Drop,
+    M::Answer: Drop + PartialEq,
+{
+    let mut words = words_of(alloc, run.total, run.before)?;
+    let answer = follow(&mut machine, &mut words, run.steps);
+    let after = words_of(alloc, run.total, run.after)?;
+    Ok(answer == Some(wanted) && words.as_slice() == after.as_slice())
 }
 
 /// The words of a pool of `total` words: these, and 0 at all other addresses.
@@ -58,18 +104,19 @@ pub fn make(words: &mut Vec<u64>, ask: Ask) -> Option<u64> {
 pub fn follow<M: Machine>(
     machine: &mut M,
     words: &mut Vec<u64>,
-    steps: &[(Ask, u64)],
+    steps: &[Step],
 ) -> Option<M::Answer>
 where
     M::Answer: Drop,
 {
     let mut last = None;
-    for &(ask, found) in steps {
+    for step in steps {
+        let ask = step.ask();
         if last.is_some() || machine.finished() || machine.ask() != ask {
             return None;
         }
         let seen = make(words, ask)?;
-        if seen != found {
+        if seen != step.found() {
             return None;
         }
         if let Turn::Done(answer) = machine.take(seen) {
@@ -79,11 +126,10 @@ where
     last
 }
 
-#[test]
-fn a_block_is_sent(rt: HostRuntime) -> Result<(), Fail> {
-    let me = Me::new(Geometry::new(2, 1)?, 0);
-    // root 0 of client 0 names the block, and nothing was sent
-    let before = [
+/// Root 0 of client 0 names the block, and nothing was sent.
+const A_BLOCK_IS_SENT: Run = Run {
+    total: 2152,
+    before: &[
         (1, 1),
         (2, 1),
         (3, 2_305_859_501_888_110_696),
@@ -95,22 +141,19 @@ fn a_block_is_sent(rt: HostRuntime) -> Result<(), Fail> {
         (104, 9_223_512_774_343_131_137),
         (105, 67_108_864),
         (106, 77),
-    ];
-    let steps = [
-        (load(57), 0),
-        (load(58), 0),
-        (load(11), 2),
-        (store(3, 2_305_907_880_399_732_840), 0),
-        (load(104), 9_223_512_774_343_131_137),
-        (
-            exchange(104, 9_223_512_774_343_131_137, 9_223_653_511_831_486_466),
-            9_223_512_774_343_131_137,
-        ),
-        (store(59, 104), 0),
-        (store(11, 3), 0),
-        (store(57, 1), 0),
-    ];
-    let after = [
+    ],
+    steps: &[
+        Load(57, 0),
+        Load(58, 0),
+        Load(11, 2),
+        Store(3, 2_305_907_880_399_732_840),
+        Load(104, 9_223_512_774_343_131_137),
+        Exchange(104, 9_223_512_774_343_131_137, 9_223_653_511_831_486_466),
+        Store(59, 104),
+        Store(11, 3),
+        Store(57, 1),
+    ],
+    after: &[
         (1, 1),
         (2, 1),
         (3, 2_305_907_880_399_732_840),
@@ -124,84 +167,86 @@ fn a_block_is_sent(rt: HostRuntime) -> Result<(), Fail> {
         (104, 9_223_653_511_831_486_466),
         (105, 67_108_864),
         (106, 77),
-    ];
-    let mut words = words_of(rt.alloc(), 2152, &before)?;
-    let mut machine: Send = Calls::new(Sending::new(me, 1, 104));
-    assert_eq!(rt; follow(&mut machine, &mut words, &steps), Some(Ok(0)));
-    assert_eq!(rt;
-        words.as_slice(),
-        words_of(rt.alloc(), 2152, &after)?.as_slice()
-    );
+    ],
+};
+
+#[test]
+fn a_block_is_sent(rt: HostRuntime) -> Result<(), Fail> {
+    let me = Me::new(Geometry::new(2, 1)?, 0);
+    let machine: Send = Calls::new(Sending::new(me, 1, 104));
+    assert!(rt; runs(rt.alloc(), machine, &A_BLOCK_IS_SENT, Ok(0))?);
     Ok(())
 }
+
+/// 8 blocks were sent, and none was taken.
+const A_FULL_QUEUE_TAKES_NO_BLOCK: Run = Run {
+    total: 2152,
+    before: &[
+        (1, 1),
+        (2, 1),
+        (3, 2_305_915_576_981_127_272),
+        (11, 10),
+        (14, 1),
+        (15, 104),
+        (57, 8),
+        (59, 104),
+        (60, 104),
+        (61, 104),
+        (62, 104),
+        (63, 104),
+        (64, 104),
+        (65, 104),
+        (66, 104),
+        (87, 1),
+        (88, 4),
+        (104, 9_224_638_674_249_973_769),
+        (105, 67_108_864),
+        (106, 77),
+    ],
+    steps: &[Load(57, 8), Load(58, 0)],
+    after: &[
+        (1, 1),
+        (2, 1),
+        (3, 2_305_915_576_981_127_272),
+        (11, 10),
+        (14, 1),
+        (15, 104),
+        (57, 8),
+        (59, 104),
+        (60, 104),
+        (61, 104),
+        (62, 104),
+        (63, 104),
+        (64, 104),
+        (65, 104),
+        (66, 104),
+        (87, 1),
+        (88, 4),
+        (104, 9_224_638_674_249_973_769),
+        (105, 67_108_864),
+        (106, 77),
+    ],
+};
 
 #[test]
 fn a_full_queue_takes_no_block(rt: HostRuntime) -> Result<(), Fail> {
     let me = Me::new(Geometry::new(2, 1)?, 0);
-    // 8 blocks were sent, and none was taken
-    let before = [
-        (1, 1),
-        (2, 1),
-        (3, 2_305_915_576_981_127_272),
-        (11, 10),
-        (14, 1),
-        (15, 104),
-        (57, 8),
-        (59, 104),
-        (60, 104),
-        (61, 104),
-        (62, 104),
-        (63, 104),
-        (64, 104),
-        (65, 104),
-        (66, 104),
-        (87, 1),
-        (88, 4),
-        (104, 9_224_638_674_249_973_769),
-        (105, 67_108_864),
-        (106, 77),
-    ];
-    let steps = [(load(57), 8), (load(58), 0)];
-    let after = [
-        (1, 1),
-        (2, 1),
-        (3, 2_305_915_576_981_127_272),
-        (11, 10),
-        (14, 1),
-        (15, 104),
-        (57, 8),
-        (59, 104),
-        (60, 104),
-        (61, 104),
-        (62, 104),
-        (63, 104),
-        (64, 104),
-        (65, 104),
-        (66, 104),
-        (87, 1),
-        (88, 4),
-        (104, 9_224_638_674_249_973_769),
-        (105, 67_108_864),
-        (106, 77),
-    ];
-    let mut words = words_of(rt.alloc(), 2152, &before)?;
-    let mut machine: Send = Calls::new(Sending::new(me, 1, 104));
-    assert_eq!(rt;
-        follow(&mut machine, &mut words, &steps),
-        Some(Err(SendFault::QueueFull { head: 0, tail: 8 }))
-    );
-    assert_eq!(rt;
-        words.as_slice(),
-        words_of(rt.alloc(), 2152, &after)?.as_slice()
+    let machine: Send = Calls::new(Sending::new(me, 1, 104));
+    assert!(rt;
+        runs(
+            rt.alloc(),
+            machine,
+            &A_FULL_QUEUE_TAKES_NO_BLOCK,
+            Err(SendFault::QueueFull { head: 0, tail: 8 })
+        )?
     );
     Ok(())
 }
 
-#[test]
-fn an_eighth_block_is_sent(rt: HostRuntime) -> Result<(), Fail> {
-    let me = Me::new(Geometry::new(2, 1)?, 0);
-    // 7 blocks were sent, and none was taken
-    let before = [
+/// 7 blocks were sent, and none was taken.
+const AN_EIGHTH_BLOCK_IS_SENT: Run = Run {
+    total: 2152,
+    before: &[
         (1, 1),
         (2, 1),
         (3, 2_305_914_477_469_499_496),
@@ -221,22 +266,19 @@ fn an_eighth_block_is_sent(rt: HostRuntime) -> Result<(), Fail> {
         (104, 9_224_497_936_761_618_440),
         (105, 67_108_864),
         (106, 77),
-    ];
-    let steps = [
-        (load(57), 7),
-        (load(58), 0),
-        (load(11), 9),
-        (store(3, 2_305_915_576_981_127_272), 0),
-        (load(104), 9_224_497_936_761_618_440),
-        (
-            exchange(104, 9_224_497_936_761_618_440, 9_224_638_674_249_973_769),
-            9_224_497_936_761_618_440,
-        ),
-        (store(66, 104), 0),
-        (store(11, 10), 0),
-        (store(57, 8), 0),
-    ];
-    let after = [
+    ],
+    steps: &[
+        Load(57, 7),
+        Load(58, 0),
+        Load(11, 9),
+        Store(3, 2_305_915_576_981_127_272),
+        Load(104, 9_224_497_936_761_618_440),
+        Exchange(104, 9_224_497_936_761_618_440, 9_224_638_674_249_973_769),
+        Store(66, 104),
+        Store(11, 10),
+        Store(57, 8),
+    ],
+    after: &[
         (1, 1),
         (2, 1),
         (3, 2_305_915_576_981_127_272),
@@ -257,72 +299,70 @@ fn an_eighth_block_is_sent(rt: HostRuntime) -> Result<(), Fail> {
         (104, 9_224_638_674_249_973_769),
         (105, 67_108_864),
         (106, 77),
-    ];
-    let mut words = words_of(rt.alloc(), 2152, &before)?;
-    let mut machine: Send = Calls::new(Sending::new(me, 1, 104));
-    assert_eq!(rt; follow(&mut machine, &mut words, &steps), Some(Ok(7)));
-    assert_eq!(rt;
-        words.as_slice(),
-        words_of(rt.alloc(), 2152, &after)?.as_slice()
-    );
+    ],
+};
+
+#[test]
+fn an_eighth_block_is_sent(rt: HostRuntime) -> Result<(), Fail> {
+    let me = Me::new(Geometry::new(2, 1)?, 0);
+    let machine: Send = Calls::new(Sending::new(me, 1, 104));
+    assert!(rt; runs(rt.alloc(), machine, &AN_EIGHTH_BLOCK_IS_SENT, Ok(7))?);
     Ok(())
 }
+
+/// The own era leaves no room for a step.
+const A_BLOCK_STAYS_WHERE_NO_ERA_IS_LEFT: Run = Run {
+    total: 2152,
+    before: &[
+        (1, 1),
+        (2, 1),
+        (3, 2_305_859_501_888_110_696),
+        (11, 140_737_488_355_326),
+        (14, 1),
+        (15, 104),
+        (87, 1),
+        (88, 4),
+        (104, 9_223_512_774_343_131_137),
+        (105, 67_108_864),
+        (106, 77),
+    ],
+    steps: &[Load(57, 0), Load(58, 0), Load(11, 140_737_488_355_326)],
+    after: &[
+        (1, 1),
+        (2, 1),
+        (3, 2_305_859_501_888_110_696),
+        (11, 140_737_488_355_326),
+        (14, 1),
+        (15, 104),
+        (87, 1),
+        (88, 4),
+        (104, 9_223_512_774_343_131_137),
+        (105, 67_108_864),
+        (106, 77),
+    ],
+};
 
 #[test]
 fn a_block_stays_where_no_era_is_left(rt: HostRuntime) -> Result<(), Fail> {
     let me = Me::new(Geometry::new(2, 1)?, 0);
-    // the own era leaves no room for a step
-    let before = [
-        (1, 1),
-        (2, 1),
-        (3, 2_305_859_501_888_110_696),
-        (11, 140_737_488_355_326),
-        (14, 1),
-        (15, 104),
-        (87, 1),
-        (88, 4),
-        (104, 9_223_512_774_343_131_137),
-        (105, 67_108_864),
-        (106, 77),
-    ];
-    let steps = [
-        (load(57), 0),
-        (load(58), 0),
-        (load(11), 140_737_488_355_326),
-    ];
-    let after = [
-        (1, 1),
-        (2, 1),
-        (3, 2_305_859_501_888_110_696),
-        (11, 140_737_488_355_326),
-        (14, 1),
-        (15, 104),
-        (87, 1),
-        (88, 4),
-        (104, 9_223_512_774_343_131_137),
-        (105, 67_108_864),
-        (106, 77),
-    ];
-    let mut words = words_of(rt.alloc(), 2152, &before)?;
-    let mut machine: Send = Calls::new(Sending::new(me, 1, 104));
-    assert_eq!(rt;
-        follow(&mut machine, &mut words, &steps),
-        Some(Err(SendFault::EraSpent {
-            era: 140_737_488_355_326
-        }))
-    );
-    assert_eq!(rt;
-        words.as_slice(),
-        words_of(rt.alloc(), 2152, &after)?.as_slice()
+    let machine: Send = Calls::new(Sending::new(me, 1, 104));
+    assert!(rt;
+        runs(
+            rt.alloc(),
+            machine,
+            &A_BLOCK_STAYS_WHERE_NO_ERA_IS_LEFT,
+            Err(SendFault::EraSpent {
+                era: 140_737_488_355_326
+            })
+        )?
     );
     Ok(())
 }
 
-#[test]
-fn a_block_with_the_greatest_count_stays(rt: HostRuntime) -> Result<(), Fail> {
-    let me = Me::new(Geometry::new(2, 1)?, 0);
-    // the header of the block shows the count 1,023
-    let before = [
+/// The header of the block shows the count 1,023.
+const A_BLOCK_WITH_THE_GREATEST_COUNT_STAYS: Run = Run {
+    total: 2152,
+    before: &[
         (1, 1),
         (2, 1),
         (3, 2_305_859_501_888_110_696),
@@ -334,15 +374,15 @@ fn a_block_with_the_greatest_count_stays(rt: HostRuntime) -> Result<(), Fail> {
         (104, 9_367_346_487_442_276_353),
         (105, 67_108_864),
         (106, 77),
-    ];
-    let steps = [
-        (load(57), 0),
-        (load(58), 0),
-        (load(11), 2),
-        (store(3, 2_305_907_880_399_732_840), 0),
-        (load(104), 9_367_346_487_442_276_353),
-    ];
-    let after = [
+    ],
+    steps: &[
+        Load(57, 0),
+        Load(58, 0),
+        Load(11, 2),
+        Store(3, 2_305_907_880_399_732_840),
+        Load(104, 9_367_346_487_442_276_353),
+    ],
+    after: &[
         (1, 1),
         (2, 1),
         (3, 2_305_907_880_399_732_840),
@@ -354,19 +394,23 @@ fn a_block_with_the_greatest_count_stays(rt: HostRuntime) -> Result<(), Fail> {
         (104, 9_367_346_487_442_276_353),
         (105, 67_108_864),
         (106, 77),
-    ];
-    let mut words = words_of(rt.alloc(), 2152, &before)?;
-    let mut machine: Send = Calls::new(Sending::new(me, 1, 104));
-    assert_eq!(rt;
-        follow(&mut machine, &mut words, &steps),
-        Some(Err(SendFault::CountFull {
-            block: 104,
-            count: 1023
-        }))
-    );
-    assert_eq!(rt;
-        words.as_slice(),
-        words_of(rt.alloc(), 2152, &after)?.as_slice()
+    ],
+};
+
+#[test]
+fn a_block_with_the_greatest_count_stays(rt: HostRuntime) -> Result<(), Fail> {
+    let me = Me::new(Geometry::new(2, 1)?, 0);
+    let machine: Send = Calls::new(Sending::new(me, 1, 104));
+    assert!(rt;
+        runs(
+            rt.alloc(),
+            machine,
+            &A_BLOCK_WITH_THE_GREATEST_COUNT_STAYS,
+            Err(SendFault::CountFull {
+                block: 104,
+                count: 1023
+            })
+        )?
     );
     Ok(())
 }
