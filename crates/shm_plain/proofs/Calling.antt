@@ -346,13 +346,16 @@ module _ {M A : Type 0} (k : Control M A) (fits : M → Memo → Memo → Trail 
         died = λ u. none;
       }
 
--- an identity that was at work is so still, where it is between two calls once it has answered
-pub still_working : (c : ℕ) (fresh : Bool) (p q : Pool) (x y : ℕ) → IsAtWork c p → Ran c fresh true p q x y → IsIdle c (memo_of q c) → IsAtWork c q
-still_working c fresh p q x y work ran idle =
+-- an identity of which an agent acts is at work, where it is between two calls once it has answered
+pub still_working : (c : ℕ) (fresh : Bool) (p q : Pool) (x y : ℕ) → GeometryFits p.start.geometry → c < p.start.geometry.clients → Ran c fresh true p q x y → IsIdle c (memo_of q c) → IsAtWork c q
+still_working c fresh p q x y geometry who ran idle =
     record {
-      geometry = subst (λ (s : Start). GeometryFits s.geometry) (sym ran.start) work.geometry;
-      who = subst (λ (s : Start). c < s.geometry.clients) (sym ran.start) work.who;
+      geometry = subst (λ (s : Start). GeometryFits s.geometry) (sym ran.start) geometry;
+      who = subst (λ (s : Start). c < s.geometry.clients) (sym ran.start) who;
       idle = idle;
       acts = ran.acts refl (λ e. let live : Live ≡ Gone = sym idle.live ∙ e in absurd (cc));
-      client = ran.kind refl ∙ (ap recovers (ready_still p c work.acts) ∙ work.client);
     }
+
+-- and its agent is of the kind that it was of
+pub still_kind : (c : ℕ) (fresh : Bool) (p q : Pool) (x y : ℕ) → acts (memo_of p c) ≡ true → Ran c fresh true p q x y → recovers (memo_of q c) ≡ recovers (memo_of p c)
+still_kind c fresh p q x y act ran = ran.kind refl ∙ ap recovers (ready_still p c act)

@@ -23,3 +23,4 @@ pub mod Turning
 pub mod OwnTurns
 pub mod Calling
 pub mod Stilling
+pub mod Lanes

@@ -20,13 +20,12 @@ use Rattle.shm_plain.specs.Pools.{Pool, IsRun, MayStep, memo_of, readied}
 abbrev pub state_of : Pool → State
 state_of p = state p.words p.accounts
 
--- c is one of the pool, and at work as a client, between two calls
+-- c is one of the pool, and between two calls, and an agent of it acts, a client or a recoverer
 pub record IsAtWork (c : ℕ) (p : Pool) : Type 0 where
   pub geometry : GeometryFits p.start.geometry
   pub who : c < p.start.geometry.clients
   pub idle : IsIdle c (memo_of p c)
   pub acts : acts (memo_of p c) ≡ true
-  pub client : recovers (memo_of p c) ≡ false
 
 -- ---- turns
 

@@ -10,3 +10,4 @@ pub mod Tracks
 pub mod Pools
 pub mod Calls
 pub mod Closings
+pub mod Lanes

@@ -1,9 +1,10 @@
 //! What holds of each pool, and of each replay of one client.
 
-ghost use Rattle.std.specs.Prelude.{◌≡◌, ◌≢◌, ℕ, ◌<◌, List, length, ◌∷◌, ◌++◌, slice_index};
+ghost use Rattle.std.specs.Prelude.{◌≡◌, ◌≢◌, ℕ, ◌<◌, ◌≤◌, List, length, ◌∷◌, ◌++◌, slice_index};
 ghost use Rattle.shm_graph.specs.declared.memo.Step.{Step as AStep};
 ghost use Rattle.shm_graph.specs.declared.run.Move.{Move as AMove};
 ghost use Rattle.shm_graph.specs.declared.run.Move.TheVariants.{Word};
+ghost use Rattle.shm_graph.specs.declared.spot.Spot.TheVariants.{Front, Tail};
 ghost use Rattle.shm_graph.specs.declared.table.Entry.{Entry as AnEntry};
 ghost use Rattle.shm_graph.specs.Asks.{at_of};
 ghost use Rattle.shm_graph.specs.Events.{Happens, graph_of};
@@ -12,9 +13,11 @@ ghost use Rattle.shm_graph.specs.Runs.{State, IsMove, Leads, first_state, memos_
 ghost use Rattle.shm_graph.specs.Sound.{IsSound};
 ghost use Rattle.shm_graph.specs.Spots.{classes_in, see, spot_at};
 ghost use Rattle.shm_graph.specs.Tables.{IsTable, map_of};
-ghost use Rattle.shm_graph.specs.Views.{view};
+ghost use Rattle.shm_graph.specs.Views.{own_word, view};
 ghost use Rattle.shm_plain.specs.declared.pair.Pair.{Pair as APair};
 ghost use Rattle.shm_plain.specs.Folds.{fold_of, log_of};
+ghost use Rattle.shm_plain.specs.Lanes.{Wait, received_of, sent_of};
+ghost use Rattle.shm_plain.specs.Pools.{memo_of};
 ghost use Rattle.shm_plain.specs.Runs.{IsFirstRun};
 ghost use Rattle.shm_plain.specs.Shut.{Shut as AShut};
 
@@ -26,6 +29,16 @@ pub fn turns_of_pool(pool: &PlainPool)
     ensures now { IsSound pool.now.start.geometry (see pool.now.start.geometry pool.now.words) (view (memos_of pool.now.accounts)) }
     ensures states { (before after : List AMove) (m : AMove) → pool.now.turns ≡ before ++ m ∷ after → (s : State) × Leads pool.now.start.geometry (first_state pool.now.start) before s × IsMove s m × IsSound pool.now.start.geometry (see pool.now.start.geometry (moved s m).words) (view (memos_of (moved s m).accounts)) }
     ensures events { (before after : List AMove) (t : AStep) → pool.now.turns ≡ before ++ Word t ∷ after → (s : State) × Leads pool.now.start.geometry (first_state pool.now.start) before s × (let g = pool.now.start.geometry in let p = spot_at g (classes_in g s.words) (at_of t.ask) in let s2 = moved s (Word t) in Happens g (see g s.words) (event_on (memos_of s.accounts t.me.who) t p) (graph_of g (see g s.words) (view (memos_of s.accounts))) (graph_of g (see g s2.words) (view (memos_of s2.accounts)))) }
+{
+    pool.geometry();
+}
+
+/// In a pool what each identity received from another one is a front of what that one sent to it, and at most 8 items wait. The head of
+/// their queue says how many were received, and the tail how many were sent.
+pub fn queues_of_pool(pool: &PlainPool)
+    ensures front { (s c : ℕ) → s < pool.now.start.geometry.clients → c < pool.now.start.geometry.clients → s ≢ c → (items : List ℕ) × Wait pool.now s c items × (length items ≤ 8) }
+    ensures head { (s c : ℕ) → s < pool.now.start.geometry.clients → c < pool.now.start.geometry.clients → s ≢ c → own_word (memo_of pool.now c).own (Front s c) ≡ length (received_of pool.now s c) }
+    ensures tail { (s c : ℕ) → s < pool.now.start.geometry.clients → c < pool.now.start.geometry.clients → s ≢ c → own_word (memo_of pool.now s).own (Tail s c) ≡ length (sent_of pool.now s c) }
 {
     pool.geometry();
 }

@@ -1,6 +1,7 @@
 //! The own home set step by step and on the words of a pool, against an independent implementation.
 
-use crate::tests::{exchange, follow, load, store, words_of};
+use crate::tests::Step::{Exchange, Load, Store};
+use crate::tests::{Run, runs};
 use crate::{HomeFault, Homing, SetHome};
 use shm_calls::Calls;
 use shm_graph::Me;
@@ -9,11 +10,10 @@ use std::test::Fail;
 
 // one client, which has joined: home at 5, own era at 6, roots from 7, redo record at 2, segment at 33 and pages from 34
 
-#[test]
-fn an_empty_home_is_set(rt: HostRuntime) -> Result<(), Fail> {
-    let me = Me::new(Geometry::new(1, 1)?, 0);
-    // root 0 names block 50
-    let before = [
+/// Root 0 names block 50.
+const AN_EMPTY_HOME_IS_SET: Run = Run {
+    total: 2098,
+    before: &[
         (1, 1),
         (2, 2_305_850_705_795_088_434),
         (6, 2),
@@ -23,20 +23,17 @@ fn an_empty_home_is_set(rt: HostRuntime) -> Result<(), Fail> {
         (50, 9_223_512_774_343_131_137),
         (51, 67_108_864),
         (52, 77),
-    ];
-    let steps = [
-        (load(5), 0),
-        (load(6), 2),
-        (store(2, 2_305_848_506_771_832_882), 0),
-        (load(50), 9_223_512_774_343_131_137),
-        (
-            exchange(50, 9_223_512_774_343_131_137, 9_223_653_511_831_486_466),
-            9_223_512_774_343_131_137,
-        ),
-        (store(5, 50), 0),
-        (store(6, 3), 0),
-    ];
-    let after = [
+    ],
+    steps: &[
+        Load(5, 0),
+        Load(6, 2),
+        Store(2, 2_305_848_506_771_832_882),
+        Load(50, 9_223_512_774_343_131_137),
+        Exchange(50, 9_223_512_774_343_131_137, 9_223_653_511_831_486_466),
+        Store(5, 50),
+        Store(6, 3),
+    ],
+    after: &[
         (1, 1),
         (2, 2_305_848_506_771_832_882),
         (5, 50),
@@ -47,106 +44,111 @@ fn an_empty_home_is_set(rt: HostRuntime) -> Result<(), Fail> {
         (50, 9_223_653_511_831_486_466),
         (51, 67_108_864),
         (52, 77),
-    ];
-    let mut words = words_of(rt.alloc(), 2098, &before)?;
-    let mut machine: SetHome = Calls::new(Homing::new(me, 50));
-    assert_eq!(rt; follow(&mut machine, &mut words, &steps), Some(Ok(())));
-    assert_eq!(rt;
-        words.as_slice(),
-        words_of(rt.alloc(), 2098, &after)?.as_slice()
-    );
+    ],
+};
+
+#[test]
+fn an_empty_home_is_set(rt: HostRuntime) -> Result<(), Fail> {
+    let me = Me::new(Geometry::new(1, 1)?, 0);
+    let machine: SetHome = Calls::new(Homing::new(me, 50));
+    assert!(rt; runs(rt.alloc(), machine, &AN_EMPTY_HOME_IS_SET, Ok(()))?);
     Ok(())
 }
+
+/// Root 0 and the home name block 50.
+const A_HOME_THAT_IS_SET_STAYS: Run = Run {
+    total: 2098,
+    before: &[
+        (1, 1),
+        (2, 2_305_848_506_771_832_882),
+        (5, 50),
+        (6, 3),
+        (7, 50),
+        (33, 1),
+        (34, 4),
+        (50, 9_223_653_511_831_486_466),
+        (51, 67_108_864),
+        (52, 77),
+    ],
+    steps: &[Load(5, 50)],
+    after: &[
+        (1, 1),
+        (2, 2_305_848_506_771_832_882),
+        (5, 50),
+        (6, 3),
+        (7, 50),
+        (33, 1),
+        (34, 4),
+        (50, 9_223_653_511_831_486_466),
+        (51, 67_108_864),
+        (52, 77),
+    ],
+};
 
 #[test]
 fn a_home_that_is_set_stays(rt: HostRuntime) -> Result<(), Fail> {
     let me = Me::new(Geometry::new(1, 1)?, 0);
-    // root 0 and the home name block 50
-    let before = [
-        (1, 1),
-        (2, 2_305_848_506_771_832_882),
-        (5, 50),
-        (6, 3),
-        (7, 50),
-        (33, 1),
-        (34, 4),
-        (50, 9_223_653_511_831_486_466),
-        (51, 67_108_864),
-        (52, 77),
-    ];
-    let steps = [(load(5), 50)];
-    let after = [
-        (1, 1),
-        (2, 2_305_848_506_771_832_882),
-        (5, 50),
-        (6, 3),
-        (7, 50),
-        (33, 1),
-        (34, 4),
-        (50, 9_223_653_511_831_486_466),
-        (51, 67_108_864),
-        (52, 77),
-    ];
-    let mut words = words_of(rt.alloc(), 2098, &before)?;
-    let mut machine: SetHome = Calls::new(Homing::new(me, 50));
-    assert_eq!(rt;
-        follow(&mut machine, &mut words, &steps),
-        Some(Err(HomeFault::HomeSet { block: 50 }))
-    );
-    assert_eq!(rt;
-        words.as_slice(),
-        words_of(rt.alloc(), 2098, &after)?.as_slice()
+    let machine: SetHome = Calls::new(Homing::new(me, 50));
+    assert!(rt;
+        runs(
+            rt.alloc(),
+            machine,
+            &A_HOME_THAT_IS_SET_STAYS,
+            Err(HomeFault::HomeSet { block: 50 })
+        )?
     );
     Ok(())
 }
+
+/// One count step was left, and block 50 was made by it.
+const A_HOME_STAYS_WHERE_NO_ERA_IS_LEFT: Run = Run {
+    total: 2098,
+    before: &[
+        (1, 1),
+        (2, 2_305_850_705_795_088_434),
+        (6, 140_737_488_355_326),
+        (7, 50),
+        (33, 1),
+        (34, 4),
+        (50, 9_223_653_511_831_486_461),
+        (51, 67_108_864),
+        (52, 7),
+    ],
+    steps: &[Load(5, 0), Load(6, 140_737_488_355_326)],
+    after: &[
+        (1, 1),
+        (2, 2_305_850_705_795_088_434),
+        (6, 140_737_488_355_326),
+        (7, 50),
+        (33, 1),
+        (34, 4),
+        (50, 9_223_653_511_831_486_461),
+        (51, 67_108_864),
+        (52, 7),
+    ],
+};
 
 #[test]
 fn a_home_stays_where_no_era_is_left(rt: HostRuntime) -> Result<(), Fail> {
     let me = Me::new(Geometry::new(1, 1)?, 0);
-    // one count step was left, and block 50 was made by it
-    let before = [
-        (1, 1),
-        (2, 2_305_850_705_795_088_434),
-        (6, 140_737_488_355_326),
-        (7, 50),
-        (33, 1),
-        (34, 4),
-        (50, 9_223_653_511_831_486_461),
-        (51, 67_108_864),
-        (52, 7),
-    ];
-    let steps = [(load(5), 0), (load(6), 140_737_488_355_326)];
-    let after = [
-        (1, 1),
-        (2, 2_305_850_705_795_088_434),
-        (6, 140_737_488_355_326),
-        (7, 50),
-        (33, 1),
-        (34, 4),
-        (50, 9_223_653_511_831_486_461),
-        (51, 67_108_864),
-        (52, 7),
-    ];
-    let mut words = words_of(rt.alloc(), 2098, &before)?;
-    let mut machine: SetHome = Calls::new(Homing::new(me, 50));
-    assert_eq!(rt;
-        follow(&mut machine, &mut words, &steps),
-        Some(Err(HomeFault::EraSpent {
-            era: 140_737_488_355_326
-        }))
-    );
-    assert_eq!(rt;
-        words.as_slice(),
-        words_of(rt.alloc(), 2098, &after)?.as_slice()
+    let machine: SetHome = Calls::new(Homing::new(me, 50));
+    assert!(rt;
+        runs(
+            rt.alloc(),
+            machine,
+            &A_HOME_STAYS_WHERE_NO_ERA_IS_LEFT,
+            Err(HomeFault::EraSpent {
+                era: 140_737_488_355_326
+            })
+        )?
     );
     Ok(())
 }
 
-#[test]
-fn a_home_stays_where_the_count_is_full(rt: HostRuntime) -> Result<(), Fail> {
-    let me = Me::new(Geometry::new(1, 1)?, 0);
-    // block 50 has the greatest count
-    let before = [
+/// Block 50 has the greatest count.
+const A_HOME_STAYS_WHERE_THE_COUNT_IS_FULL: Run = Run {
+    total: 2098,
+    before: &[
         (1, 1),
         (2, 2_305_850_705_795_088_434),
         (6, 2),
@@ -156,14 +158,14 @@ fn a_home_stays_where_the_count_is_full(rt: HostRuntime) -> Result<(), Fail> {
         (50, 9_367_346_487_442_276_353),
         (51, 67_108_864),
         (52, 7),
-    ];
-    let steps = [
-        (load(5), 0),
-        (load(6), 2),
-        (store(2, 2_305_848_506_771_832_882), 0),
-        (load(50), 9_367_346_487_442_276_353),
-    ];
-    let after = [
+    ],
+    steps: &[
+        Load(5, 0),
+        Load(6, 2),
+        Store(2, 2_305_848_506_771_832_882),
+        Load(50, 9_367_346_487_442_276_353),
+    ],
+    after: &[
         (1, 1),
         (2, 2_305_848_506_771_832_882),
         (6, 2),
@@ -173,19 +175,23 @@ fn a_home_stays_where_the_count_is_full(rt: HostRuntime) -> Result<(), Fail> {
         (50, 9_367_346_487_442_276_353),
         (51, 67_108_864),
         (52, 7),
-    ];
-    let mut words = words_of(rt.alloc(), 2098, &before)?;
-    let mut machine: SetHome = Calls::new(Homing::new(me, 50));
-    assert_eq!(rt;
-        follow(&mut machine, &mut words, &steps),
-        Some(Err(HomeFault::CountFull {
-            block: 50,
-            count: 1_023
-        }))
-    );
-    assert_eq!(rt;
-        words.as_slice(),
-        words_of(rt.alloc(), 2098, &after)?.as_slice()
+    ],
+};
+
+#[test]
+fn a_home_stays_where_the_count_is_full(rt: HostRuntime) -> Result<(), Fail> {
+    let me = Me::new(Geometry::new(1, 1)?, 0);
+    let machine: SetHome = Calls::new(Homing::new(me, 50));
+    assert!(rt;
+        runs(
+            rt.alloc(),
+            machine,
+            &A_HOME_STAYS_WHERE_THE_COUNT_IS_FULL,
+            Err(HomeFault::CountFull {
+                block: 50,
+                count: 1_023
+            })
+        )?
     );
     Ok(())
 }

@@ -1,34 +1,34 @@
 //! Shares step by step and on the words of a pool, against an independent implementation.
 
-use crate::tests::{exchange, follow, load, store, words_of};
+use crate::tests::Step::{Exchange, Load, Lost, Store};
+use crate::tests::{Run, Step, runs};
 use crate::{Share, ShareFault, Sharing};
 use shm_calls::Calls;
-use shm_graph::{Ask, Machine, Me, Turn};
+use shm_graph::{Machine, Me, Turn};
 use shm_words::Geometry;
 use std::test::Fail;
 
 /// Gives a machine the words of these steps, where it asks for them; its answer, where the last step gives it.
-fn answer_of<M: Machine>(machine: &mut M, steps: &[(Ask, u64)]) -> Option<M::Answer>
+fn answer_of<M: Machine>(machine: &mut M, steps: &[Step]) -> Option<M::Answer>
 where
     M::Answer: Drop,
 {
     let mut last = None;
-    for &(ask, seen) in steps {
-        if machine.finished() || machine.ask() != ask {
+    for step in steps {
+        if machine.finished() || machine.ask() != step.ask() {
             return None;
         }
-        if let Turn::Done(answer) = machine.take(seen) {
+        if let Turn::Done(answer) = machine.take(step.found()) {
             last = Some(answer);
         }
     }
     last
 }
 
-#[test]
-fn the_least_empty_root_comes_to_name_a_block(rt: HostRuntime) -> Result<(), Fail> {
-    let me = Me::new(Geometry::new(2, 2)?, 1);
-    // client 0's home names its block, whose last client it is; client 1 holds latch 0, and its roots 0 and 2 name blocks
-    let before = [
+/// Client 0's home names its block, whose last client it is; client 1 holds latch 0, and its roots 0 and 2 name blocks.
+const THE_LEAST_EMPTY_ROOT_COMES_TO_NAME_A_BLOCK: Run = Run {
+    total: 4217,
+    before: &[
         (1, 1),
         (2, 1),
         (3, 2_305_852_904_818_344_057),
@@ -56,23 +56,20 @@ fn the_least_empty_root_comes_to_name_a_block(rt: HostRuntime) -> Result<(), Fai
         (2177, 9_367_627_962_418_987_011),
         (2178, 68_157_440),
         (2179, 7),
-    ];
-    let steps = [
-        (load(14), 5),
-        (load(31), 2169),
-        (load(32), 0),
-        (store(4, 2_305_878_193_585_782_905), 0),
-        (load(121), 9_223_653_511_831_486_466),
-        (load(13), 0),
-        (store(13, 2), 0),
-        (
-            exchange(121, 9_223_653_511_831_486_466, 9_367_909_437_395_697_669),
-            9_223_653_511_831_486_466,
-        ),
-        (store(32, 121), 0),
-        (store(14, 6), 0),
-    ];
-    let after = [
+    ],
+    steps: &[
+        Load(14, 5),
+        Load(31, 2169),
+        Load(32, 0),
+        Store(4, 2_305_878_193_585_782_905),
+        Load(121, 9_223_653_511_831_486_466),
+        Load(13, 0),
+        Store(13, 2),
+        Exchange(121, 9_223_653_511_831_486_466, 9_367_909_437_395_697_669),
+        Store(32, 121),
+        Store(14, 6),
+    ],
+    after: &[
         (1, 1),
         (2, 1),
         (3, 2_305_852_904_818_344_057),
@@ -102,139 +99,149 @@ fn the_least_empty_root_comes_to_name_a_block(rt: HostRuntime) -> Result<(), Fai
         (2177, 9_367_627_962_418_987_011),
         (2178, 68_157_440),
         (2179, 7),
-    ];
-    let mut words = words_of(rt.alloc(), 4217, &before)?;
-    let mut machine: Share = Calls::new(Sharing::new(me, 121));
-    assert_eq!(rt; follow(&mut machine, &mut words, &steps), Some(Ok(1)));
-    assert_eq!(rt;
-        words.as_slice(),
-        words_of(rt.alloc(), 4217, &after)?.as_slice()
+    ],
+};
+
+#[test]
+fn the_least_empty_root_comes_to_name_a_block(rt: HostRuntime) -> Result<(), Fail> {
+    let me = Me::new(Geometry::new(2, 2)?, 1);
+    let machine: Share = Calls::new(Sharing::new(me, 121));
+    assert!(rt;
+        runs(
+            rt.alloc(),
+            machine,
+            &THE_LEAST_EMPTY_ROOT_COMES_TO_NAME_A_BLOCK,
+            Ok(1)
+        )?
     );
     Ok(())
 }
+
+/// Client 0 gives its block another root before the first exchange of client 1.
+const A_LOST_EXCHANGE_IS_TRIED_AGAIN: [Step; 12] = [
+    Load(14, 1),
+    Load(31, 0),
+    Store(4, 2_305_877_094_074_155_129),
+    Load(121, 9_223_653_511_831_486_466),
+    Load(13, 0),
+    Store(13, 2),
+    Lost(
+        121,
+        9_223_653_511_831_486_466,
+        9_367_909_437_395_697_665,
+        9_223_794_249_319_841_795,
+    ),
+    Load(13, 2),
+    Store(13, 3),
+    Exchange(121, 9_223_794_249_319_841_795, 9_368_050_174_884_052_993),
+    Store(31, 121),
+    Store(14, 2),
+];
 
 #[test]
 fn a_lost_exchange_is_tried_again(rt: HostRuntime) -> Result<(), Fail> {
     let me = Me::new(Geometry::new(2, 2)?, 1);
-    // client 0 gives its block another root before the first exchange of client 1
-    let steps = [
-        (load(14), 1),
-        (load(31), 0),
-        (store(4, 2_305_877_094_074_155_129), 0),
-        (load(121), 9_223_653_511_831_486_466),
-        (load(13), 0),
-        (store(13, 2), 0),
-        (
-            exchange(121, 9_223_653_511_831_486_466, 9_367_909_437_395_697_665),
-            9_223_794_249_319_841_795,
-        ),
-        (load(13), 2),
-        (store(13, 3), 0),
-        (
-            exchange(121, 9_223_794_249_319_841_795, 9_368_050_174_884_052_993),
-            9_223_794_249_319_841_795,
-        ),
-        (store(31, 121), 0),
-        (store(14, 2), 0),
-    ];
     let mut machine: Share = Calls::new(Sharing::new(me, 121));
-    assert_eq!(rt; answer_of(&mut machine, &steps), Some(Ok(0)));
+    let answer = answer_of(&mut machine, &A_LOST_EXCHANGE_IS_TRIED_AGAIN);
+    assert!(rt; answer == Some(Ok(0)));
     Ok(())
 }
+
+/// All 16 roots name block 50.
+const NO_ROOT_IS_EMPTY: Run = Run {
+    total: 2098,
+    before: &[
+        (1, 1),
+        (2, 2_305_867_198_469_505_074),
+        (6, 17),
+        (7, 50),
+        (8, 50),
+        (9, 50),
+        (10, 50),
+        (11, 50),
+        (12, 50),
+        (13, 50),
+        (14, 50),
+        (15, 50),
+        (16, 50),
+        (17, 50),
+        (18, 50),
+        (19, 50),
+        (20, 50),
+        (21, 50),
+        (22, 50),
+        (33, 1),
+        (34, 4),
+        (50, 9_225_623_836_668_461_072),
+        (51, 67_108_864),
+        (52, 77),
+    ],
+    steps: &[
+        Load(6, 17),
+        Load(7, 50),
+        Load(8, 50),
+        Load(9, 50),
+        Load(10, 50),
+        Load(11, 50),
+        Load(12, 50),
+        Load(13, 50),
+        Load(14, 50),
+        Load(15, 50),
+        Load(16, 50),
+        Load(17, 50),
+        Load(18, 50),
+        Load(19, 50),
+        Load(20, 50),
+        Load(21, 50),
+        Load(22, 50),
+    ],
+    after: &[
+        (1, 1),
+        (2, 2_305_867_198_469_505_074),
+        (6, 17),
+        (7, 50),
+        (8, 50),
+        (9, 50),
+        (10, 50),
+        (11, 50),
+        (12, 50),
+        (13, 50),
+        (14, 50),
+        (15, 50),
+        (16, 50),
+        (17, 50),
+        (18, 50),
+        (19, 50),
+        (20, 50),
+        (21, 50),
+        (22, 50),
+        (33, 1),
+        (34, 4),
+        (50, 9_225_623_836_668_461_072),
+        (51, 67_108_864),
+        (52, 77),
+    ],
+};
 
 #[test]
 fn no_root_is_empty(rt: HostRuntime) -> Result<(), Fail> {
     let me = Me::new(Geometry::new(1, 1)?, 0);
-    // all 16 roots name block 50
-    let before = [
-        (1, 1),
-        (2, 2_305_867_198_469_505_074),
-        (6, 17),
-        (7, 50),
-        (8, 50),
-        (9, 50),
-        (10, 50),
-        (11, 50),
-        (12, 50),
-        (13, 50),
-        (14, 50),
-        (15, 50),
-        (16, 50),
-        (17, 50),
-        (18, 50),
-        (19, 50),
-        (20, 50),
-        (21, 50),
-        (22, 50),
-        (33, 1),
-        (34, 4),
-        (50, 9_225_623_836_668_461_072),
-        (51, 67_108_864),
-        (52, 77),
-    ];
-    let steps = [
-        (load(6), 17),
-        (load(7), 50),
-        (load(8), 50),
-        (load(9), 50),
-        (load(10), 50),
-        (load(11), 50),
-        (load(12), 50),
-        (load(13), 50),
-        (load(14), 50),
-        (load(15), 50),
-        (load(16), 50),
-        (load(17), 50),
-        (load(18), 50),
-        (load(19), 50),
-        (load(20), 50),
-        (load(21), 50),
-        (load(22), 50),
-    ];
-    let after = [
-        (1, 1),
-        (2, 2_305_867_198_469_505_074),
-        (6, 17),
-        (7, 50),
-        (8, 50),
-        (9, 50),
-        (10, 50),
-        (11, 50),
-        (12, 50),
-        (13, 50),
-        (14, 50),
-        (15, 50),
-        (16, 50),
-        (17, 50),
-        (18, 50),
-        (19, 50),
-        (20, 50),
-        (21, 50),
-        (22, 50),
-        (33, 1),
-        (34, 4),
-        (50, 9_225_623_836_668_461_072),
-        (51, 67_108_864),
-        (52, 77),
-    ];
-    let mut words = words_of(rt.alloc(), 2098, &before)?;
-    let mut machine: Share = Calls::new(Sharing::new(me, 50));
-    assert_eq!(rt;
-        follow(&mut machine, &mut words, &steps),
-        Some(Err(ShareFault::RootsFull))
-    );
-    assert_eq!(rt;
-        words.as_slice(),
-        words_of(rt.alloc(), 2098, &after)?.as_slice()
+    let machine: Share = Calls::new(Sharing::new(me, 50));
+    assert!(rt;
+        runs(
+            rt.alloc(),
+            machine,
+            &NO_ROOT_IS_EMPTY,
+            Err(ShareFault::RootsFull)
+        )?
     );
     Ok(())
 }
 
-#[test]
-fn the_last_root_is_empty(rt: HostRuntime) -> Result<(), Fail> {
-    let me = Me::new(Geometry::new(1, 1)?, 0);
-    // roots 0 to 14 name block 50
-    let before = [
+/// Roots 0 to 14 name block 50.
+const THE_LAST_ROOT_IS_EMPTY: Run = Run {
+    total: 2098,
+    before: &[
         (1, 1),
         (2, 4_611_710_207_735_627_776),
         (6, 18),
@@ -258,35 +265,32 @@ fn the_last_root_is_empty(rt: HostRuntime) -> Result<(), Fail> {
         (50, 9_225_483_099_180_105_745),
         (51, 67_108_864),
         (52, 77),
-    ];
-    let steps = [
-        (load(6), 18),
-        (load(7), 50),
-        (load(8), 50),
-        (load(9), 50),
-        (load(10), 50),
-        (load(11), 50),
-        (load(12), 50),
-        (load(13), 50),
-        (load(14), 50),
-        (load(15), 50),
-        (load(16), 50),
-        (load(17), 50),
-        (load(18), 50),
-        (load(19), 50),
-        (load(20), 50),
-        (load(21), 50),
-        (load(22), 0),
-        (store(2, 2_305_867_198_469_505_074), 0),
-        (load(50), 9_225_483_099_180_105_745),
-        (
-            exchange(50, 9_225_483_099_180_105_745, 9_225_623_836_668_461_074),
-            9_225_483_099_180_105_745,
-        ),
-        (store(22, 50), 0),
-        (store(6, 19), 0),
-    ];
-    let after = [
+    ],
+    steps: &[
+        Load(6, 18),
+        Load(7, 50),
+        Load(8, 50),
+        Load(9, 50),
+        Load(10, 50),
+        Load(11, 50),
+        Load(12, 50),
+        Load(13, 50),
+        Load(14, 50),
+        Load(15, 50),
+        Load(16, 50),
+        Load(17, 50),
+        Load(18, 50),
+        Load(19, 50),
+        Load(20, 50),
+        Load(21, 50),
+        Load(22, 0),
+        Store(2, 2_305_867_198_469_505_074),
+        Load(50, 9_225_483_099_180_105_745),
+        Exchange(50, 9_225_483_099_180_105_745, 9_225_623_836_668_461_074),
+        Store(22, 50),
+        Store(6, 19),
+    ],
+    after: &[
         (1, 1),
         (2, 2_305_867_198_469_505_074),
         (6, 19),
@@ -311,64 +315,66 @@ fn the_last_root_is_empty(rt: HostRuntime) -> Result<(), Fail> {
         (50, 9_225_623_836_668_461_074),
         (51, 67_108_864),
         (52, 77),
-    ];
-    let mut words = words_of(rt.alloc(), 2098, &before)?;
-    let mut machine: Share = Calls::new(Sharing::new(me, 50));
-    assert_eq!(rt; follow(&mut machine, &mut words, &steps), Some(Ok(15)));
-    assert_eq!(rt;
-        words.as_slice(),
-        words_of(rt.alloc(), 2098, &after)?.as_slice()
-    );
+    ],
+};
+
+#[test]
+fn the_last_root_is_empty(rt: HostRuntime) -> Result<(), Fail> {
+    let me = Me::new(Geometry::new(1, 1)?, 0);
+    let machine: Share = Calls::new(Sharing::new(me, 50));
+    assert!(rt; runs(rt.alloc(), machine, &THE_LAST_ROOT_IS_EMPTY, Ok(15))?);
     Ok(())
 }
+
+/// The own era is 2^47 - 2.
+const THE_OWN_ERA_IS_SPENT: Run = Run {
+    total: 2098,
+    before: &[
+        (1, 1),
+        (2, 2_305_850_705_795_088_434),
+        (6, 140_737_488_355_326),
+        (7, 50),
+        (33, 1),
+        (34, 4),
+        (50, 9_223_653_511_831_486_461),
+        (51, 67_108_864),
+        (52, 77),
+    ],
+    steps: &[Load(6, 140_737_488_355_326)],
+    after: &[
+        (1, 1),
+        (2, 2_305_850_705_795_088_434),
+        (6, 140_737_488_355_326),
+        (7, 50),
+        (33, 1),
+        (34, 4),
+        (50, 9_223_653_511_831_486_461),
+        (51, 67_108_864),
+        (52, 77),
+    ],
+};
 
 #[test]
 fn the_own_era_is_spent(rt: HostRuntime) -> Result<(), Fail> {
     let me = Me::new(Geometry::new(1, 1)?, 0);
-    // the own era is 2^47 - 2
-    let before = [
-        (1, 1),
-        (2, 2_305_850_705_795_088_434),
-        (6, 140_737_488_355_326),
-        (7, 50),
-        (33, 1),
-        (34, 4),
-        (50, 9_223_653_511_831_486_461),
-        (51, 67_108_864),
-        (52, 77),
-    ];
-    let steps = [(load(6), 140_737_488_355_326)];
-    let after = [
-        (1, 1),
-        (2, 2_305_850_705_795_088_434),
-        (6, 140_737_488_355_326),
-        (7, 50),
-        (33, 1),
-        (34, 4),
-        (50, 9_223_653_511_831_486_461),
-        (51, 67_108_864),
-        (52, 77),
-    ];
-    let mut words = words_of(rt.alloc(), 2098, &before)?;
-    let mut machine: Share = Calls::new(Sharing::new(me, 50));
-    assert_eq!(rt;
-        follow(&mut machine, &mut words, &steps),
-        Some(Err(ShareFault::EraSpent {
-            era: 140_737_488_355_326
-        }))
-    );
-    assert_eq!(rt;
-        words.as_slice(),
-        words_of(rt.alloc(), 2098, &after)?.as_slice()
+    let machine: Share = Calls::new(Sharing::new(me, 50));
+    assert!(rt;
+        runs(
+            rt.alloc(),
+            machine,
+            &THE_OWN_ERA_IS_SPENT,
+            Err(ShareFault::EraSpent {
+                era: 140_737_488_355_326
+            })
+        )?
     );
     Ok(())
 }
 
-#[test]
-fn the_own_era_has_room(rt: HostRuntime) -> Result<(), Fail> {
-    let me = Me::new(Geometry::new(1, 1)?, 0);
-    // the own era is 2^47 - 3
-    let before = [
+/// The own era is 2^47 - 3.
+const THE_OWN_ERA_HAS_ROOM: Run = Run {
+    total: 2098,
+    before: &[
         (1, 1),
         (2, 2_305_850_705_795_088_434),
         (6, 140_737_488_355_325),
@@ -378,21 +384,18 @@ fn the_own_era_has_room(rt: HostRuntime) -> Result<(), Fail> {
         (50, 9_223_653_511_831_486_460),
         (51, 67_108_864),
         (52, 77),
-    ];
-    let steps = [
-        (load(6), 140_737_488_355_325),
-        (load(7), 50),
-        (load(8), 0),
-        (store(2, 2_305_851_805_306_716_210), 0),
-        (load(50), 9_223_653_511_831_486_460),
-        (
-            exchange(50, 9_223_653_511_831_486_460, 9_223_794_249_319_841_789),
-            9_223_653_511_831_486_460,
-        ),
-        (store(8, 50), 0),
-        (store(6, 140_737_488_355_326), 0),
-    ];
-    let after = [
+    ],
+    steps: &[
+        Load(6, 140_737_488_355_325),
+        Load(7, 50),
+        Load(8, 0),
+        Store(2, 2_305_851_805_306_716_210),
+        Load(50, 9_223_653_511_831_486_460),
+        Exchange(50, 9_223_653_511_831_486_460, 9_223_794_249_319_841_789),
+        Store(8, 50),
+        Store(6, 140_737_488_355_326),
+    ],
+    after: &[
         (1, 1),
         (2, 2_305_851_805_306_716_210),
         (6, 140_737_488_355_326),
@@ -403,22 +406,21 @@ fn the_own_era_has_room(rt: HostRuntime) -> Result<(), Fail> {
         (50, 9_223_794_249_319_841_789),
         (51, 67_108_864),
         (52, 77),
-    ];
-    let mut words = words_of(rt.alloc(), 2098, &before)?;
-    let mut machine: Share = Calls::new(Sharing::new(me, 50));
-    assert_eq!(rt; follow(&mut machine, &mut words, &steps), Some(Ok(1)));
-    assert_eq!(rt;
-        words.as_slice(),
-        words_of(rt.alloc(), 2098, &after)?.as_slice()
-    );
+    ],
+};
+
+#[test]
+fn the_own_era_has_room(rt: HostRuntime) -> Result<(), Fail> {
+    let me = Me::new(Geometry::new(1, 1)?, 0);
+    let machine: Share = Calls::new(Sharing::new(me, 50));
+    assert!(rt; runs(rt.alloc(), machine, &THE_OWN_ERA_HAS_ROOM, Ok(1))?);
     Ok(())
 }
 
-#[test]
-fn the_count_is_full(rt: HostRuntime) -> Result<(), Fail> {
-    let me = Me::new(Geometry::new(1, 1)?, 0);
-    // block 50 has the greatest count
-    let before = [
+/// Block 50 has the greatest count.
+const THE_COUNT_IS_FULL: Run = Run {
+    total: 2098,
+    before: &[
         (1, 1),
         (2, 2_305_850_705_795_088_434),
         (6, 2),
@@ -428,15 +430,15 @@ fn the_count_is_full(rt: HostRuntime) -> Result<(), Fail> {
         (50, 9_367_346_487_442_276_353),
         (51, 67_108_864),
         (52, 77),
-    ];
-    let steps = [
-        (load(6), 2),
-        (load(7), 50),
-        (load(8), 0),
-        (store(2, 2_305_851_805_306_716_210), 0),
-        (load(50), 9_367_346_487_442_276_353),
-    ];
-    let after = [
+    ],
+    steps: &[
+        Load(6, 2),
+        Load(7, 50),
+        Load(8, 0),
+        Store(2, 2_305_851_805_306_716_210),
+        Load(50, 9_367_346_487_442_276_353),
+    ],
+    after: &[
         (1, 1),
         (2, 2_305_851_805_306_716_210),
         (6, 2),
@@ -446,19 +448,23 @@ fn the_count_is_full(rt: HostRuntime) -> Result<(), Fail> {
         (50, 9_367_346_487_442_276_353),
         (51, 67_108_864),
         (52, 77),
-    ];
-    let mut words = words_of(rt.alloc(), 2098, &before)?;
-    let mut machine: Share = Calls::new(Sharing::new(me, 50));
-    assert_eq!(rt;
-        follow(&mut machine, &mut words, &steps),
-        Some(Err(ShareFault::CountFull {
-            block: 50,
-            count: 1023
-        }))
-    );
-    assert_eq!(rt;
-        words.as_slice(),
-        words_of(rt.alloc(), 2098, &after)?.as_slice()
+    ],
+};
+
+#[test]
+fn the_count_is_full(rt: HostRuntime) -> Result<(), Fail> {
+    let me = Me::new(Geometry::new(1, 1)?, 0);
+    let machine: Share = Calls::new(Sharing::new(me, 50));
+    assert!(rt;
+        runs(
+            rt.alloc(),
+            machine,
+            &THE_COUNT_IS_FULL,
+            Err(ShareFault::CountFull {
+                block: 50,
+                count: 1023
+            })
+        )?
     );
     Ok(())
 }

@@ -122,7 +122,7 @@ LineSmall (lines.Copy k a o) = Small k × Small a × Small o
 LineSmall (lines.Send c k) = Small c × Small k
 LineSmall (lines.Recv c k) = Small c × Small k
 
-pub line_small : (clients me : ℕ) (line : Line) → clients ≤ 16 → LineFits clients me line → LineSmall line
+pub line_small : (clients me : ℕ) (line : Line) → clients < 256 → LineFits clients me line → LineSmall line
 line_small clients me (lines.Put k n) few h = (omega (arith, h.0), h.1)
 line_small clients me (lines.Del k) few h = omega (arith, h)
 line_small clients me (lines.Get a k) few h = (omega (arith, h.0), omega (arith, h.1))

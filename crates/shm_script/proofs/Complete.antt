@@ -1,5 +1,5 @@
 -- The spelling of a trace is read as that trace again.
-use Rattle.std.proofs.Common.{◌≡◌, ◌≢◌, ℕ, ◌+◌, ◌^◌, ◌≤◌, Bool, true, false, ◌||◌, cond, eqb, List, [], ◌∷◌, ◌++◌, length, sum, ◌⊎◌, inl, inr, None, Result, Ok, Err, MatchResult, refl, sym, ap, subst, ◌∙◌, arith, append_assoc}
+use Rattle.std.proofs.Common.{◌≡◌, ◌≢◌, ℕ, ◌+◌, ◌^◌, ◌<◌, ◌≤◌, Bool, true, false, ◌||◌, cond, eqb, List, [], ◌∷◌, ◌++◌, length, sum, ◌⊎◌, inl, inr, None, Result, Ok, Err, MatchResult, refl, sym, ap, subst, ◌∙◌, arith, append_assoc}
 use Rattle.std.specs.Prelude.{◌==◌}
 use Rattle.std.specs.List.{AllByRecursion, flat_map, list_any, slice_split}
 use Rattle.std.proofs.lemmas.Bool.Decides.{nat_tests}
@@ -43,17 +43,18 @@ then_more d e f a b h k at rest =
     (two.0, ap (λ t. reading d at (cut t)) (append_assoc a b rest) ∙ one.1 ∙ two.1)
 
 -- a line that fits
-line_reaches : (d : Drafted) (fit : Fit) → d.seen.clients ≤ 16 → FitRange d.seen.clients d.seen.me fit → may_stand d.seen.place (fit_raw fit) ≡ true → is_second d.seen.taken fit ≡ false → Reaches d (ended (fit_text fit)) (draft_after d fit)
-line_reaches d fit few range stands second at rest =
+pub line_goes : (d : Drafted) (at : ℕ) (fit : Fit) (rest : List ℕ) → d.seen.clients < 256 → FitRange d.seen.clients d.seen.me fit → may_stand d.seen.place (fit_raw fit) ≡ true → is_second d.seen.taken fit ≡ false → reading d at (cut (ended (fit_text fit) ++ rest)) ≡ reading (draft_after d fit) (at + 1) (cut rest)
+line_goes d at fit rest few range stands second =
     let line = fit_text fit in
     let free = line_one d.seen.clients d.seen.me fit few range in
-    let is : drafted_line d line ≡ Ok (draft_after d fit) = ap (drafted d) (judged_again d.seen fit few range stands second) in (
-      at + 1,
-      ap (λ t. reading d at (cut t)) (append_assoc line (10 ∷ []) rest)
-          ∙ ap (reading d at) (slice_split_at (λ b. b == 10) line 10 rest free.all refl)
-          ∙ reading_more d at line (λ b. b == 10) rest
-          ∙ ap (λ r. read_or at r (λ e. reading e (at + 1) (cut rest))) is,
-    )
+    let is : drafted_line d line ≡ Ok (draft_after d fit) = ap (drafted d) (judged_again d.seen fit few range stands second) in
+    ap (λ t. reading d at (cut t)) (append_assoc line (10 ∷ []) rest)
+    ∙ ap (reading d at) (slice_split_at (λ b. b == 10) line 10 rest free.all refl)
+    ∙ reading_more d at line (λ b. b == 10) rest
+    ∙ ap (λ r. read_or at r (λ e. reading e (at + 1) (cut rest))) is
+
+line_reaches : (d : Drafted) (fit : Fit) → d.seen.clients < 256 → FitRange d.seen.clients d.seen.me fit → may_stand d.seen.place (fit_raw fit) ≡ true → is_second d.seen.taken fit ≡ false → Reaches d (ended (fit_text fit)) (draft_after d fit)
+line_reaches d fit few range stands second at rest = (at + 1, line_goes d at fit rest few range stands second)
 
 -- the pool's line
 pool_reaches : (n g : ℕ) → FitRange 0 0 (FitPool n g) → Reaches draft_none (ended (fit_text (FitPool n g))) (draft_after draft_none (FitPool n g))
@@ -64,7 +65,7 @@ abbrev order_after : Drafted → List Item → Drafted
 order_after d [] = d
 order_after d (i ∷ items) = draft_after d (FitOrder (i ∷ items))
 
-order_reaches : (d : Drafted) (items : List Item) → d.seen.clients ≤ 16 → d.seen.place ≡ place.Pool → length items ≤ 1000 → AllByRecursion (ItemFits d.seen.clients) items → Reaches d (order_spelled items) (order_after d items)
+order_reaches : (d : Drafted) (items : List Item) → d.seen.clients < 256 → d.seen.place ≡ place.Pool → length items ≤ 1000 → AllByRecursion (ItemFits d.seen.clients) items → Reaches d (order_spelled items) (order_after d items)
 order_reaches d [] few there many h = stays d
 order_reaches d (i ∷ items) few there many h = line_reaches d (FitOrder (i ∷ items)) few (omega arith, many, h) (ap (λ p. may_stand p (fit_raw (FitOrder (i ∷ items)))) there) refl
 
@@ -97,7 +98,7 @@ same_place : (ls : List Line) → place_behind place.Body ls ≡ place.Body
 same_place [] = refl
 same_place (line ∷ ls) = refl
 
-lines_reach : (d : Drafted) (p : Place) (life : List ℕ) (before ls : List Line) → d.seen.clients ≤ 16 → GoesOn p → AllByRecursion (LineFits d.seen.clients d.seen.me) ls → Reaches (set_last d p life before) (flat_map line_ended ls) (set_last d (place_behind p ls) life (before ++ ls))
+lines_reach : (d : Drafted) (p : Place) (life : List ℕ) (before ls : List Line) → d.seen.clients < 256 → GoesOn p → AllByRecursion (LineFits d.seen.clients d.seen.me) ls → Reaches (set_last d p life before) (flat_map line_ended ls) (set_last d (place_behind p ls) life (before ++ ls))
 lines_reach d p life before [] few on h = subst (λ xs. Reaches (set_last d p life before) [] (set_last d p life xs)) (sym (append-nil before)) (stays (set_last d p life before))
 lines_reach d p life before (line ∷ ls) few on h =
     let one = line_reaches (set_last d p life before) (FitCommand line) few h.0 (command_stands p line on) refl in
@@ -115,7 +116,7 @@ life_goes : (life : List ℕ) → GoesOn (life_place life)
 life_goes [] = tt
 life_goes (n ∷ life) = tt
 
-life_reaches : (d : Drafted) (life : List ℕ) → d.seen.clients ≤ 16 → FitRange d.seen.clients d.seen.me (FitLife life) ⊎ (life ≡ []) → Reaches (set_last d place.Client [] []) (life_spelled life) (set_last d (life_place life) life [])
+life_reaches : (d : Drafted) (life : List ℕ) → d.seen.clients < 256 → FitRange d.seen.clients d.seen.me (FitLife life) ⊎ (life ≡ []) → Reaches (set_last d place.Client [] []) (life_spelled life) (set_last d (life_place life) life [])
 life_reaches d [] few h = stays (set_last d place.Client [] [])
 life_reaches d (n ∷ life) few (inl h) = line_reaches (set_last d place.Client [] []) (FitLife (n ∷ life)) few h refl refl
 life_reaches d (n ∷ life) few (inr h) = absurd cc
@@ -147,7 +148,7 @@ client_stands place.Order c h = refl
 client_stands place.Client c h = refl
 client_stands place.Body c h = refl
 
-script_reaches : (d : Drafted) (s : Scripted) → d.seen.clients ≤ 16 → IsBegun d.seen.place → ScriptFits d.seen.clients s → is_second d.seen.taken (FitClient s.client) ≡ false → Reaches d (script_spelled s) (script_after d s)
+script_reaches : (d : Drafted) (s : Scripted) → d.seen.clients < 256 → IsBegun d.seen.place → ScriptFits d.seen.clients s → is_second d.seen.taken (FitClient s.client) ≡ false → Reaches d (script_spelled s) (script_after d s)
 script_reaches d s few there h first =
     let e = begun d s.client in
     let one = line_reaches d (FitClient s.client) few h.client (client_stands d.seen.place s.client there) first in
@@ -203,7 +204,7 @@ record Ended (d : Drafted) (ss : List Scripted) : Type 0 where
   begun_there : IsBegun behind.seen.place
   is : traced behind ≡ record { clients = d.seen.clients; segments = d.segments; order = d.order; scripts = all_scripts d ++ ss }
 
-scripts_reach : (ss : List Scripted) (d : Drafted) → d.seen.clients ≤ 16 → IsBegun d.seen.place → AllByRecursion (ScriptFits d.seen.clients) ss → AreApart ss → AreFirst d.seen.taken ss → Ended d ss
+scripts_reach : (ss : List Scripted) (d : Drafted) → d.seen.clients < 256 → IsBegun d.seen.place → AllByRecursion (ScriptFits d.seen.clients) ss → AreApart ss → AreFirst d.seen.taken ss → Ended d ss
 scripts_reach [] d few there h apart first = record { behind = d; reaches = stays d; begun_there = there; is = ap (with_scripts d) (sym (append-nil (all_scripts d))) }
 scripts_reach (s ∷ ss) d few there h apart first =
     let e = script_after d s in
@@ -236,16 +237,16 @@ head_reaches : (t : Traced) → IsTrace t → Reaches draft_none (ended (fit_tex
 head_reaches t h =
     let d = draft_after draft_none (FitPool t.clients t.segments) in
     then_more draft_none d (order_after d t.order) (ended (fit_text (FitPool t.clients t.segments))) (order_spelled t.order)
-    (pool_reaches t.clients t.segments (h.some_client, h.few_clients, h.some_segment, h.few_segments)) (order_reaches d t.order h.few_clients refl h.few_items h.items)
+    (pool_reaches t.clients t.segments (h.some_client, h.few_clients, h.some_segment, h.few_segments)) (order_reaches d t.order (omega (arith, h.few_clients)) refl h.few_items h.items)
 
-ended_by : (n g : ℕ) (items : List Item) (ss : List Scripted) → n ≤ 16 → AllByRecursion (ScriptFits n) ss → AreApart ss → (e : Drafted) × Reaches (order_after (draft_after draft_none (FitPool n g)) items) (flat_map script_spelled ss) e × IsBegun e.seen.place × (traced e ≡ record { clients = n; segments = g; order = items; scripts = ss })
+ended_by : (n g : ℕ) (items : List Item) (ss : List Scripted) → n < 256 → AllByRecursion (ScriptFits n) ss → AreApart ss → (e : Drafted) × Reaches (order_after (draft_after draft_none (FitPool n g)) items) (flat_map script_spelled ss) e × IsBegun e.seen.place × (traced e ≡ record { clients = n; segments = g; order = items; scripts = ss })
 ended_by n g [] ss few h apart = let r = scripts_reach ss (draft_after draft_none (FitPool n g)) few tt h apart (first_of_all ss) in (r.behind, r.reaches, r.begun_there, r.is)
 ended_by n g (i ∷ items) ss few h apart = let r = scripts_reach ss (draft_after (draft_after draft_none (FitPool n g)) (FitOrder (i ∷ items))) few tt h apart (first_of_all ss) in (r.behind, r.reaches, r.begun_there, r.is)
 
 -- the lines of a trace are read as that trace
 reading_again : (t : Traced) → IsTrace t → reading draft_none 1 (cut (text_of t)) ≡ Ok t
 reading_again t h =
-    let e = ended_by t.clients t.segments t.order t.scripts h.few_clients h.scripts h.apart in
+    let e = ended_by t.clients t.segments t.order t.scripts (omega (arith, h.few_clients)) h.scripts h.apart in
     let d = order_after (draft_after draft_none (FitPool t.clients t.segments)) t.order in
     let front = ended (fit_text (FitPool t.clients t.segments)) ++ order_spelled t.order in
     let whole = then_more draft_none d e.0 front (flat_map script_spelled t.scripts) (head_reaches t h) e.1 in

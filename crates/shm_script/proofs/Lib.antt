@@ -15,3 +15,4 @@ pub mod ReadLoop
 pub mod Again
 pub mod LinesAgain
 pub mod Complete
+pub mod NextCommands

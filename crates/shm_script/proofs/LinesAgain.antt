@@ -81,7 +81,7 @@ turns_free : (byte t : ℕ) → IsGap byte → t ≤ 100000 → Free byte (turns
 turns_free byte zero b h = free_nil
 turns_free byte (suc t) b h = free_cons 58 (not_colon byte b) (free_decimal byte (suc t) (low byte b) (omega arith))
 
-items_free : (byte clients : ℕ) (items : List Item) → IsGap byte → clients ≤ 16 → AllByRecursion (ItemFits clients) items → AllByRecursion (Free byte) (map item_word items)
+items_free : (byte clients : ℕ) (items : List Item) → IsGap byte → clients < 256 → AllByRecursion (ItemFits clients) items → AllByRecursion (Free byte) (map item_word items)
 items_free byte clients [] b few h = tt
 items_free byte clients (i ∷ items) b few h = (free_both (decimal i.client) (turns_spelled i.turns) (free_decimal byte i.client (low byte b) (omega (arith, h.0.0))) (turns_free byte i.turns b h.0.1), items_free byte clients items b few h.1)
 
@@ -89,7 +89,7 @@ numbers_free : (byte : ℕ) (life : List ℕ) → IsGap byte → AllByRecursion 
 numbers_free byte [] b h = tt
 numbers_free byte (n ∷ life) b h = (free_decimal byte n (low byte b) (omega (arith, h.0.1)), numbers_free byte life b h.1)
 
-fit_free : (byte clients me : ℕ) (fit : Fit) → IsGap byte → clients ≤ 16 → FitRange clients me fit → Free byte (fit_head fit) × AllByRecursion (Free byte) (fit_words fit)
+fit_free : (byte clients me : ℕ) (fit : Fit) → IsGap byte → clients < 256 → FitRange clients me fit → Free byte (fit_head fit) × AllByRecursion (Free byte) (fit_words fit)
 fit_free byte clients me (FitPool n g) b few h = (literal byte (codes "pool") b (search rules) (search rules), (free_decimal byte n (low byte b) (omega (arith, h.1)), (free_decimal byte g (low byte b) (omega (arith, h.3)), tt)))
 fit_free byte clients me (FitOrder items) b few h = (literal byte (codes "order") b (search rules) (search rules), items_free byte clients items b few h.2)
 fit_free byte clients me (FitClient c) b few h = (literal byte (codes "client") b (search rules) (search rules), (free_decimal byte c (low byte b) (omega (arith, h)), tt))
@@ -101,7 +101,7 @@ blank_free [] h = free_nil
 blank_free (word ∷ words) h = free_both (32 ∷ word) (blanks words) (free_cons 32 refl h.0) (blank_free words h.1)
 
 -- no line feed stands in a line
-pub line_one : (clients me : ℕ) (fit : Fit) → clients ≤ 16 → FitRange clients me fit → Free 10 (fit_text fit)
+pub line_one : (clients me : ℕ) (fit : Fit) → clients < 256 → FitRange clients me fit → Free 10 (fit_text fit)
 line_one clients me fit few h =
     let f = fit_free 10 clients me fit (inl refl) few h in
     subst (Free 10) (sym (fit_joined fit)) (free_both (fit_head fit) (blanks (fit_words fit)) f.0 (blank_free (fit_words fit) f.1))
@@ -123,12 +123,12 @@ item_by c (suc t) h k =
     ap item_from (slice_split_at (λ b. b == 58) (decimal c) 58 (decimal (suc t)) (free_colon c h).all refl ∙ ap (λ ws. decimal c ∷ ws) (slice_split_none (λ b. b == 58) (decimal (suc t)) (free_colon (suc t) small).all))
     ∙ rw (number_again c h, number_again (suc t) small) refl
 
-items_again : (clients : ℕ) (items : List Item) → clients ≤ 16 → AllByRecursion (ItemFits clients) items → items_of (map item_word items) ≡ Some (map raw_item items)
+items_again : (clients : ℕ) (items : List Item) → clients < 256 → AllByRecursion (ItemFits clients) items → items_of (map item_word items) ≡ Some (map raw_item items)
 unfolding items_of
 items_again clients [] few h = refl
 items_again clients (i ∷ items) few h = rw (item_by i.client i.turns (omega (arith, h.0.0)) h.0.1, items_again clients items few h.1) refl
 
-fit_shaped : (clients me : ℕ) (fit : Fit) → clients ≤ 16 → FitRange clients me fit → shape_from (fit_head fit ∷ fit_words fit) ≡ Some (fit_raw fit)
+fit_shaped : (clients me : ℕ) (fit : Fit) → clients < 256 → FitRange clients me fit → shape_from (fit_head fit ∷ fit_words fit) ≡ Some (fit_raw fit)
 unfolding shape_from shape_by
 fit_shaped clients me (FitPool n g) few h = ap (given (λ (n : Option ℕ × Option ℕ). Pool n.0 n.1)) (two_again n g (omega (arith, h.1)) (omega (arith, h.3)))
 fit_shaped clients me (FitOrder []) few h = absurd (omega (arith, h.0))
@@ -138,7 +138,7 @@ fit_shaped clients me (FitLife []) few h = absurd (omega (arith, h.0))
 fit_shaped clients me (FitLife (n ∷ life)) few h = ap (given Life) (numbers_again (n ∷ life) h.1)
 fit_shaped clients me (FitCommand line) few h = line_shaped line (line_small clients me line few h)
 
-fit_told : (clients me : ℕ) (fit : Fit) → clients ≤ 16 → FitRange clients me fit → shape_of (fit_text fit) ≡ Some (fit_raw fit)
+fit_told : (clients me : ℕ) (fit : Fit) → clients < 256 → FitRange clients me fit → shape_of (fit_text fit) ≡ Some (fit_raw fit)
 fit_told clients me fit few h =
     let f = fit_free 32 clients me fit (inr refl) few h in
     ap shape_of (fit_joined fit) ∙ ap shape_from (split_words (fit_head fit) (fit_words fit) f.0 f.1) ∙ fit_shaped clients me fit few h
@@ -184,6 +184,6 @@ by_parts : (seen : Seen) (shape : Shape) (fit : Fit) → may_stand seen.place sh
 by_parts seen shape fit stands few fits second = rw (stands, few, fits, second) refl
 
 -- a line in its one spelling is judged to fit
-pub judged_again : (seen : Seen) (fit : Fit) → seen.clients ≤ 16 → FitRange seen.clients seen.me fit → may_stand seen.place (fit_raw fit) ≡ true → is_second seen.taken fit ≡ false → judged seen (shape_of (fit_text fit)) ≡ Ok fit
+pub judged_again : (seen : Seen) (fit : Fit) → seen.clients < 256 → FitRange seen.clients seen.me fit → may_stand seen.place (fit_raw fit) ≡ true → is_second seen.taken fit ≡ false → judged seen (shape_of (fit_text fit)) ≡ Ok fit
 judged_again seen fit few range stands second =
     ap (judged seen) (fit_told seen.clients seen.me fit few range) ∙ by_parts seen (fit_raw fit) fit stands (fit_few seen.clients seen.me fit range) (fit_in seen.clients seen.me fit range) second

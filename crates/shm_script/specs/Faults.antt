@@ -42,6 +42,12 @@ may_stand place.Client (Command command) = true
 may_stand place.Body (Command command) = true
 may_stand _ _ = false
 
+-- behind such a line a command may stand
+abbrev pub takes_commands : Place → Bool
+takes_commands place.Client = true
+takes_commands place.Body = true
+takes_commands _ = false
+
 -- an order of more than 1,000 items
 abbrev pub too_many : Shape → Bool
 too_many (Order items) = nat_lt 1000 (length items)

@@ -1,11 +1,11 @@
 -- The ranges of a trace's numbers.
-use Rattle.std.specs.Prelude.{◌≡◌, ◌≢◌, ℕ, ◌^◌, ◌<◌, ◌≤◌, List, [], ◌∷◌, length, sum}
+use Rattle.std.specs.Prelude.{◌≡◌, ◌≢◌, ℕ, ◌^◌, ◌<◌, ◌≤◌, List, [], ◌∷◌, ◌++◌, length, sum}
 use Rattle.std.specs.List.{AllByRecursion}
 use Rattle.shm_script.specs.declared.line.Line.{Line}
 use Rattle.shm_script.specs.declared.line.Line.TheVariants.{Put, Del, Get, Copy, Send, Recv}
 use Rattle.shm_script.specs.declared.line.Item.{Item}
 use Rattle.shm_script.specs.Values.{Scripted, Traced}
-use Rattle.shm_script.specs.Text.{text_of}
+use Rattle.shm_script.specs.Text.{line_spelled, line_ended, text_of}
 
 -- the numbers of a command of the client `me`: clients that there are, another one in a queue, and keys of 32 bits
 abbrev pub LineFits : ℕ → ℕ → Line → Type 0
@@ -15,6 +15,14 @@ LineFits clients me (Get author key) = (author < clients) × (key < 2 ^ 32)
 LineFits clients me (Copy key author other) = (key < 2 ^ 32) × (author < clients) × (other < 2 ^ 32)
 LineFits clients me (Send to key) = (to < clients) × (to ≢ me) × (key < 2 ^ 32)
 LineFits clients me (Recv from key) = (from < clients) × (from ≢ me) × (key < 2 ^ 32)
+
+-- a word and a text are a command in range and what stands behind it
+abbrev pub IsCommand : ℕ → ℕ → List ℕ → List ℕ → Line → List ℕ → Type 0
+IsCommand clients me word text line rest = (word ++ text ≡ line_spelled line ++ rest) × LineFits clients me line
+
+-- a text is the line of a command in range and what stands behind it
+abbrev pub IsNext : ℕ → ℕ → List ℕ → Line → List ℕ → Type 0
+IsNext clients me text line rest = (text ≡ line_ended line ++ rest) × LineFits clients me line
 
 -- an item of a client that there is, with at most 100,000 turns
 abbrev pub ItemFits : ℕ → Item → Type 0

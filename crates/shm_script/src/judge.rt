@@ -2,7 +2,7 @@
 
 ghost use Rattle.std.specs.Prelude.{◌≡◌, ◌==◌, ◌^◌, None, IfOk, MatchOption};
 ghost use Rattle.std.specs.List.{list_any};
-ghost use Rattle.shm_script.specs.Faults.{below, between, command_fit, fit_of, is_second, items_fit, key_of, life_fit, may_stand, other_than, too_many, turns_fit};
+ghost use Rattle.shm_script.specs.Faults.{below, between, command_fit, fit_of, is_second, items_fit, key_of, life_fit, may_stand, other_than, takes_commands, too_many, turns_fit};
 ghost use Rattle.shm_script.specs.RawShapes.{shape_seen};
 ghost use Rattle.shm_script.specs.Drafts.{fit_seen};
 ghost use Rattle.shm_script.specs.Shapes.{given};
@@ -32,6 +32,13 @@ pub fn may_stand(place: Place, line: &RawLine) -> bool
         RawLine::Life(_) => matches!(place, Place::Client),
         RawLine::Command(_) => matches!(place, Place::Client | Place::Body),
     }
+}
+
+/// Whether a command may stand behind a line of this kind.
+pub fn takes_commands(place: Place) -> bool
+    ensures { result ≡ takes_commands place }
+{
+    matches!(place, Place::Client | Place::Body)
 }
 
 /// Whether the line is an order of too many items.

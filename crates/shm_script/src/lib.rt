@@ -1,6 +1,7 @@
 //! Traces, answers and logs: their types, their one spelling, and the traces of a generator.
 #![tactic(auto)]
 
+mod commands;
 mod draw;
 mod fault;
 mod fit;
@@ -25,6 +26,10 @@ pub use printing::{answer_text, line_text, print};
 pub use text::{push_number, push_text};
 pub use trace::{Script, Trace};
 
+#[cfg(test)]
+mod drawn_tests;
+#[cfg(test)]
+mod drawn_vectors;
 #[cfg(test)]
 mod tests;
 #[cfg(test)]

@@ -1,17 +1,18 @@
 //! A trace that is read line by line.
 
-ghost use Rattle.std.specs.Prelude.{◌≡◌, ◌∷◌, [], ℕ, List, ◌<◌, ◌≤◌, ◌+◌, ◌==◌, Ok, None, IfErr, IfOk, IfSome, OnOk, MatchOption, MatchResult, count_by, length};
+ghost use Rattle.std.specs.Prelude.{◌≡◌, ◌∷◌, [], ℕ, List, ◌<◌, ◌≤◌, ◌+◌, ◌^◌, ◌==◌, Ok, None, IfErr, IfOk, IfSome, OnOk, MatchOption, MatchResult, count_by, length};
 ghost use Rattle.std.specs.List.{slice_split};
 ghost use Rattle.shm_script.specs.Ranges.{IsTrace, IsTraceText};
 ghost use Rattle.shm_script.specs.Text.{text_of};
 ghost use Rattle.shm_script.specs.Values.{Traced};
-ghost use Rattle.shm_script.specs.Faults.{fault_of, judged, limit_fault, may_end};
-ghost use Rattle.shm_script.specs.Drafts.{Drafted, IsFault, IsMemory, Stops, StopsAt, all_scripts, draft_after, draft_none, drafted_line, fit_seen, trace_of, traced};
+ghost use Rattle.shm_script.specs.Faults.{FitCommand, fault_of, judged, limit_fault, may_end};
+ghost use Rattle.shm_script.specs.Drafts.{Drafted, IsFault, IsMemory, Stops, StopsAt, all_scripts, draft_after, draft_none, drafted_line, fit_seen, reading, trace_of, traced};
 ghost use Rattle.shm_script.specs.Shapes.{shape_of};
 
+use crate::commands::next_command;
 use crate::fault::{ParseStop, TraceFault, TraceKind};
 use crate::fit::{FitLine, Place};
-use crate::judge::{fit_line, is_second, may_stand, too_many};
+use crate::judge::{fit_line, is_second, may_stand, takes_commands, too_many};
 use crate::line::{Item, Line};
 use crate::line_shape::line_shape;
 use crate::pieces::cut;
@@ -127,11 +128,18 @@ impl Draft {
                 self.life = life;
                 self.place = Place::Body;
             }
-            FitLine::Command(command) => {
-                self.lines.push(command)?;
-                self.place = Place::Body;
-            }
+            FitLine::Command(command) => self.add_command(command)?,
         }
+        Ok(())
+    }
+
+    /// Adds a command.
+    #[inline(always)]
+    fn add_command(&mut self, line: Line) -> Result<(), AllocError>
+        ensures { OnOk result (self.new ≡ draft_after self.old (FitCommand line)) }
+    {
+        self.lines.push(line)?;
+        self.place = Place::Body;
         Ok(())
     }
 
@@ -154,6 +162,40 @@ impl Draft {
 }
 
 impl Draft {
+    /// Reads the command that comes next, where one pass tells it; gives what stands behind its line.
+    #[inline(always)]
+    fn take_command<'a>(&mut self, text: &'a [u8]) -> Result<Option<&'a [u8]>, AllocError>
+        ensures read { IfOk result (λ o. MatchOption o (self.new ≡ self.old) (λ rest. (at : ℕ) → reading self.old at (slice_split (λ b. b == 10) text.now) ≡ reading self.new (at + 1) (slice_split (λ b. b == 10) rest.now))) }
+        ensures less { IfOk result (λ o. IfSome o (λ rest. length rest.now < length text.now)) }
+    {
+        if !takes_commands(self.place) {
+            return Ok(None);
+        }
+        let Some((line, rest)) = next_command(self.clients, self.me, text) else {
+            return Ok(None);
+        };
+        self.add_command(line)?;
+        Ok(Some(rest))
+    }
+
+    /// Reads commands from the `at`-th line on, as far as one pass tells them; gives the line that comes then, and the text from there on.
+    fn take_commands<'a>(
+        &mut self,
+        mut at: u32,
+        text: &'a [u8],
+    ) -> Result<(u32, &'a [u8]), AllocError>
+        requires few { at + length text.now < 2 ^ 32 }
+        ensures read { IfOk result (λ x. reading self.new x.0 (slice_split (λ b. b == 10) x.1.now) ≡ reading self.old at (slice_split (λ b. b == 10) text.now)) }
+        ensures small { IfOk result (λ x. (x.0 + length x.1.now ≤ at + length text.now) × (length x.1.now ≤ length text.now)) }
+    {
+        let mut rest = text;
+        while let Some(others) = self.take_command(rest)? {
+            at += 1;
+            rest = others;
+        }
+        Ok((at, rest))
+    }
+
     /// Whether the bytes may end here, with `rest` behind the last line feed.
     fn may_end(&self, rest: &[u8]) -> bool
         ensures { result ≡ may_end self.now.seen.place rest.now }
@@ -227,8 +269,7 @@ fn read(alloc: Global, bytes: &[u8]) -> Result<Trace, ParseStop>
     let mut rest = bytes;
     while let Some((line, others)) = split_line(rest) {
         draft.take(alloc, at, line)?;
-        at += 1;
-        rest = others;
+        (at, rest) = draft.take_commands(at + 1, others)?;
     }
     if !draft.may_end(rest) {
         return Err(fault(at, TraceKind::Syntax));

@@ -1,9 +1,11 @@
--- what machines over tables answer where a call of theirs was refused
+-- what machines over tables answer where a call of theirs was refused, and what commands do
 use Rattle.shm_alloc.specs.declared.alloc.AllocFault.{AllocFault}
 use Rattle.shm_alloc.specs.declared.alloc.AllocFault.TheVariants as alloc
 use Rattle.shm_count.specs.declared.answer.EraSpent.{EraSpent}
 use Rattle.shm_count.specs.declared.answer.UpFault.{UpFault}
 use Rattle.shm_count.specs.declared.answer.UpFault.TheVariants as up
+use Rattle.shm_script.specs.declared.log.Answer.{Answer}
+use Rattle.shm_script.specs.declared.log.Answer.TheVariants as answer
 use Rattle.shm_table.specs.declared.answer.PutFault.{PutFault}
 use Rattle.shm_table.specs.declared.answer.PutFault.TheVariants.{EraSpent as Spent, RootsFull, Full, CountFull}
 
@@ -18,3 +20,10 @@ raised_fault (up.CountFull b n) = CountFull b n
 
 abbrev pub spent_fault : EraSpent → PutFault
 spent_fault e = Spent e.era
+
+-- what a command answers that was refused so
+abbrev pub fault_answer : PutFault → Answer
+fault_answer (Spent e) = answer.EraSpent e
+fault_answer RootsFull = answer.RootsFull
+fault_answer (Full s b) = answer.Full s b
+fault_answer (CountFull b n) = answer.CountFull b n

@@ -21,7 +21,7 @@ keys_read ps (Absent home first) = length ps
 keys_read ps (At entry before word) = length ps + 1
 
 -- two for each entry that was passed
-passed_length : (ps : List Passed) (at : ℕ) → length (passed_trail ps at) ≡ 2 * length ps
+pub passed_length : (ps : List Passed) (at : ℕ) → length (passed_trail ps at) ≡ 2 * length ps
 passed_length [] at = refl
 passed_length (p ∷ ps) at = let k = passed_length ps at in omega arith
 

@@ -1,14 +1,15 @@
 -- what a search for a key says of maps: of the own partition, and in a held state of that of the author
-use Rattle.std.proofs.Common.{◌≡◌, ◌≢◌, ℕ, ◌%◌, ◌<◌, refl, sym, ap, ◌∙◌, subst, arith, false, List, [], ◌∷◌, ◌++◌, Option, Some, None}
+use Rattle.std.proofs.Common.{◌≡◌, ◌≢◌, ℕ, ◌%◌, ◌<◌, refl, sym, ap, ◌∙◌, subst, arith, false, ltb, List, [], ◌∷◌, ◌++◌, Option, Some, None, inl, inr}
 use Rattle.std.specs.Prelude.{◌⊎◌}
 use Rattle.std.specs.List.{All, Contains}
-use Rattle.std.proofs.lemmas.Bool.{true≢false}
+use Rattle.std.proofs.lemmas.Bool.{cases_eq, cond-true, lt-ltb, true≢false}
 use Rattle.std.proofs.lemmas.List.Elements.{All-cons, All-contains, All-head, All-nil, All-tail}
 use Rattle.shm_words.specs.declared.geometry.Geometry.{Geometry}
-use Rattle.shm_words.specs.Tags.{tag_author}
+use Rattle.shm_words.specs.Tags.{tag_author, tag_refs}
 use Rattle.shm_graph.specs.declared.ask.Me.{Me}
 use Rattle.shm_graph.specs.declared.memo.Look.{Look}
 use Rattle.shm_graph.specs.declared.memo.Memo.{Memo}
+use Rattle.shm_graph.specs.declared.memo.Op.TheVariants.{Nothing}
 use Rattle.shm_graph.specs.declared.memo.Stored.{Stored}
 use Rattle.shm_graph.specs.declared.spot.Spot.{Spot}
 use Rattle.shm_graph.specs.declared.spot.Spot.TheVariants.{Home, Tail, Front, Tag, Body}
@@ -18,9 +19,15 @@ use Rattle.shm_graph.specs.declared.table.Part.TheVariants.{Loose, Table}
 use Rattle.shm_graph.specs.Asks.{Trail}
 use Rattle.shm_graph.specs.Events.{Event}
 use Rattle.shm_graph.specs.Held.{HeldAt, InLooks, LookAt, LooksSound, PartTie, is_loose, named_by}
+use Rattle.shm_graph.specs.Ops.{cover, cover_of, covered, slot_of}
+use Rattle.shm_graph.specs.References.{refs_of, words_of}
 use Rattle.shm_graph.specs.Tables.{Contents, contents_of, IsChain, IsEntry, IsPartition, find}
 use Rattle.shm_graph.specs.Views.{targets, view}
+use Rattle.shm_graph.proofs.Counting.{cover_slot, covered_none}
+use Rattle.shm_graph.proofs.Holders.{InReach, held_live_not_zero, one_latch, reach_counted, step_holds}
 use Rattle.shm_graph.proofs.Roles.{latch_inside}
+use Rattle.shm_graph.proofs.Spotting.{same_spot_not}
+use Rattle.shm_calls.specs.Parts.{IsHeld}
 use Rattle.shm_steps.specs.Reparting.{chain_in, map_in}
 use Rattle.shm_steps.proofs.Reparted.{body_so}
 use Rattle.shm_steps.proofs.Relinking.{found_here, found_joined, not_found}
@@ -79,6 +86,11 @@ read_kept a key entry r x latch part known looked f =
       others = f.others;
       known = known (record { spot = Body entry 2; value = key }) f.known;
     }
+
+-- the entry at its end is a look
+chain_last : (r : Memo) (d i : ℕ) (ps : List Passed) (at : ℕ) → IsChainRead r d i ps at → (p : Spot) × IsLook r p at
+chain_last r d i [] at h = (Body d i, h)
+chain_last r d i (p ∷ ps) at h = chain_last r p.block 0 ps at h.2
 
 -- what was read from a word is what it names
 look_so : (t : Spot → ℕ) (author : ℕ → ℕ) (latch : Option ℕ) (reach : ℕ → Type 0) (p : Spot) (b : ℕ) → LookAt (λ d. t (Home d)) (λ d i. t (Body d i)) author latch reach p b → (b ≢ 0) × (t p ≡ b)
@@ -167,6 +179,34 @@ module _ (g : Geometry) (w : Spot → ℕ) (r : ℕ → Memo) (c a key : ℕ) (h
       let number : s.e.number ≡ n = sym s.entry.number ∙ (ap (λ b. w (Body b 0)) value ∙ body_so g w r c h l v 0 n known) in
       map_so entry s ∙ (ap (λ k. Some (k, s.e.value)) number ∙ ap (λ k. Some (n, k)) value)
 
+  -- a reference word of a block of the author that is in reach is what it names, where no own step is about to store it
+  named_word : (b i : ℕ) → InReach w g (view r) c b → tag_author (w (Tag b)) ≡ a → i < tag_refs (w (Tag b)) → (r c).op ≡ Nothing → t (Body b i) ≡ w (Body b i)
+  named_word b i reach author low idle =
+      let counted = reach_counted g w (view r) h c b l reach in
+      let refs : (words_of w).refs b ≡ tag_refs (w (Tag b)) = ap (λ y. refs_of y (w (Tag b))) counted.0 in
+      cond-true (ltb i ((words_of w).refs b)) (covered (λ d. cover_of (r d).op) g.clients (Body b i) (w (Body b i))) 0 (lt-ltb i ((words_of w).refs b) (subst (λ k. i < k) (sym refs) low))
+      ∙ covered_none g.clients (Body b i) (w (Body b i)) (λ d. cover_of (r d).op)
+      (λ d ld y. elim (cases_eq c d) [
+        | inl s ↦ ap (λ o. cover o (Body b i) y) (ap (λ j. cover_of (r j).op) (sym s) ∙ ap cover_of idle)
+        | inr n ↦ cover_slot (r d).op (Body b i)
+            (same_spot_not (slot_of (r d).op) (Body b i)
+            (λ s. elim (step_holds g w (view r) h d (Body b i) ld (λ q. cc) s).2 [
+              | inl u ↦ counted.1 u.0
+              | inr u ↦ n (one_latch g w (view r) h c d a l ld latch (u.1 ∙ ap Some (sym u.0 ∙ author)))
+            ])) y
+      ])
+
+  -- the value word of the entry names a block
+  value_named : (entry n : ℕ) → HasRead a (r c) key entry → (r c).op ≡ Nothing → Contains (r c).known (record { spot = Body entry 1; value = n }) → n ≢ 0
+  value_named entry n f idle known none =
+      let s = bucket_so entry f in
+      let k = chain_last (r c) f.home (key % 16) f.passed entry f.chain in
+      let refs : tag_refs (w (Tag entry)) ≡ 2 = subst (λ b. tag_refs (w (Tag b)) ≡ 2) s.block s.entry.shape.names in
+      let author : tag_author (w (Tag entry)) ≡ a = subst (λ b. tag_author (w (Tag b)) ≡ a) s.block s.entry.author in
+      let named : t (Body entry 1) ≡ n = named_word entry 1 (inr (record { block = entry; from = k.0 }, k.1, refl)) author (omega arith) idle ∙ body_so g w r c h l entry 1 n known in
+      let value : s.e.value ≡ n = sym s.entry.value ∙ (ap (λ b. t (Body b 1)) s.block ∙ named) in
+      held_live_not_zero g w (view r) h s.e.value s.entry.holds.live (value ∙ none)
+
 -- in a held state with such a memo the author's partition has the key at that entry
 pub author_has : (me : Me) (a key entry : ℕ) (r : Memo) → HasRead a r key entry → me.who < me.geometry.clients → (w : Spot → ℕ) (rs : ℕ → Memo) → HeldAt me.geometry w (view rs) → rs me.who ≡ r → HasKey (rs a).part key entry
 author_has me a key entry r f l w rs h same =
@@ -179,3 +219,10 @@ pub author_maps : (me : Me) (a key entry v n : ℕ) (r : Memo) → HasRead a r k
 author_maps me a key entry v n r f look known l w rs h same =
     let here : HasRead a (rs me.who) key entry = subst (λ (x : Memo). HasRead a x key entry) (sym same) f in
     value_so me.geometry w rs me.who a key h l here.latch here.table entry v n here (subst (λ (x : Memo). IsLook x (Body entry 1) v) (sym same) look) (subst (λ (x : Memo). Contains x.known (record { spot = Body v 0; value = n })) (sym same) known)
+
+-- in a held state its value word, once it is known, names a block
+pub entry_value : (me : Me) (a key entry n : ℕ) (r : Memo) → HasRead a r key entry → r.op ≡ Nothing → Contains r.known (record { spot = Body entry 1; value = n }) → me.who < me.geometry.clients → IsHeld me r → n ≢ 0
+entry_value me a key entry n r f idle known l (w, rs, h, same) =
+    subst (λ (x : Memo). HasRead a x key entry → x.op ≡ Nothing → Contains x.known (record { spot = Body entry 1; value = n }) → n ≢ 0) same
+    (λ f idle known. value_named me.geometry w rs me.who a key h l f.latch f.table entry n f idle known)
+    f idle known

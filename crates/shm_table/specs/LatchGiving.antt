@@ -1,5 +1,6 @@
 -- the store that gives a latch back, in any step of a machine: also in its first one, which forgets what the calls before have read
 use Rattle.std.proofs.Common.{◌≡◌, ℕ, List, [], Bool, true, false, None, sym, ap, ◌∙◌, subst, refl}
+use Rattle.std.specs.Prelude.{Option}
 use Rattle.std.specs.List.{filter}
 use Rattle.std.proofs.lemmas.List.Elements.{All-nil, All-filter}
 use Rattle.shm_words.specs.declared.geometry.Geometry.{Geometry}
@@ -11,7 +12,6 @@ use Rattle.shm_graph.specs.declared.memo.Fact.{Fact}
 use Rattle.shm_graph.specs.declared.memo.Memo.{Memo}
 use Rattle.shm_graph.specs.declared.memo.Stored.{Stored}
 use Rattle.shm_graph.specs.declared.memo.Test.{Test}
-use Rattle.std.specs.Prelude.{Option}
 use Rattle.shm_graph.specs.Asks.{Trail}
 use Rattle.shm_graph.specs.Blocks.{classes}
 use Rattle.shm_graph.specs.Changes.{is_lane_count}

@@ -21,7 +21,7 @@ use Rattle.shm_calls.specs.Words.{word_control}
 use Rattle.shm_ref.specs.HoldFits.{hold_plan}
 use Rattle.shm_table.specs.declared.find.Found.{Found}
 use Rattle.shm_table.specs.declared.locate.LocatePoint.{LocatePoint}
-use Rattle.shm_table.specs.declared.locate.LocatePoint.TheVariants.{Take, Again, Search}
+use Rattle.shm_table.specs.declared.locate.LocatePoint.TheVariants.{Take, Search}
 use Rattle.shm_table.specs.declared.locate.LocateState.{LocateState}
 use Rattle.shm_table.specs.FindControl.{finding}
 use Rattle.shm_table.specs.FindFits.{FindLeaves, find_plan}

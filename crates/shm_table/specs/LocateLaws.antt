@@ -1,10 +1,9 @@
 -- what is owed of taking a latch and looking for a key
-use Rattle.std.proofs.Common.{◌≡◌, ℕ, ◌+◌, ◌*◌, refl, sym, ap, ◌∙◌, subst, arith, true, false, cond, eqb, append-nil, List, [], ◌∷◌, ◌++◌, length, inl, inr}
-use Rattle.std.specs.Prelude.{None, Some, Result, Ok, Err}
+use Rattle.std.proofs.Common.{◌≡◌, ℕ, ◌+◌, refl, sym, ap, ◌∙◌, subst, arith, cond, List, [], ◌∷◌, ◌++◌, length, inl, inr}
+use Rattle.std.specs.Prelude.{Some, Result, Ok, Err}
 use Rattle.std.proofs.lemmas.Bool.{cases_Bool, cond-false, cond-true, ne_eqb}
 use Rattle.shm_graph.specs.declared.ask.Me.{Me}
 use Rattle.shm_graph.specs.declared.memo.Memo.{Memo}
-use Rattle.shm_graph.specs.declared.memo.Status.{Status}
 use Rattle.shm_graph.specs.declared.memo.Status.TheVariants as status
 use Rattle.shm_graph.specs.declared.memo.Stored.{Stored}
 use Rattle.shm_graph.specs.declared.spot.Spot.{Spot}
@@ -20,7 +19,7 @@ use Rattle.shm_graph.proofs.Spotting.{same_spot_is, same_spot_self}
 use Rattle.shm_steps.specs.Conditions.{IsHere}
 use Rattle.shm_calls.specs.declared.or.Or.TheVariants.{First, Second}
 use Rattle.shm_calls.specs.CallTells.{within_more}
-use Rattle.shm_calls.specs.CallsPart.{MayCall, calls_part, calls_part_laws}
+use Rattle.shm_calls.specs.CallsPart.{calls_part, calls_part_laws}
 use Rattle.shm_calls.specs.Either.{or_part_laws}
 use Rattle.shm_calls.specs.Plans.{PlanLaws, PlanStays, IsCall, Follows}
 use Rattle.shm_calls.specs.Words.{word_control}
@@ -75,11 +74,6 @@ may_find me a r0 r tr es h =
       latch = ap (λ (x : Memo). x.latch) h.took.memo;
       table = ap (λ (x : Memo). is_loose x.part) h.took.memo ∙ h.may.table;
     }
-
-opens : (m : LocateState) (y : LocatePoint) (r0 r : Memo) (tr : Trail) (es : List Event) → LocateKnows (record m { point = y }) y r0 r tr es → locate_part.needs (locate_call m y) r
-opens m Take r0 r tr es h = record { made = refl; first = refl; start = refl; knows = hold_begin m.me m.author r (may_take m.me m.author r0 r tr es h) }
-opens m Again r0 r tr es h = record { made = refl; first = refl; start = refl; knows = hold_begin m.me m.author r (may_take m.me m.author r0 r tr es h) }
-opens m Search r0 r tr es h = record { made = refl; first = refl; start = refl; knows = find_begin m.me m.author m.key r (may_find m.me m.author r0 r tr es h) }
 
 -- ---- a try
 
@@ -175,6 +169,11 @@ locate_laws =
     calls m Take = record { me = refl; asks = refl }
     calls m Again = record { me = refl; asks = refl }
     calls m Search = record { me = refl; asks = refl }
+
+    opens : (m : LocateState) (y : LocatePoint) (r0 r : Memo) (tr : Trail) (es : List Event) → LocateKnows (record m { point = y }) y r0 r tr es → locate_part.needs (locate_call m y) r
+    opens m Take r0 r tr es h = record { made = refl; first = refl; start = refl; knows = hold_begin m.me m.author r (may_take m.me m.author r0 r tr es h) }
+    opens m Again r0 r tr es h = record { made = refl; first = refl; start = refl; knows = hold_begin m.me m.author r (may_take m.me m.author r0 r tr es h) }
+    opens m Search r0 r tr es h = record { made = refl; first = refl; start = refl; knows = find_begin m.me m.author m.key r (may_find m.me m.author r0 r tr es h) }
 
     -- after a try
     tried : (m : LocateState) (y : LocatePoint) (r0 rs r : Memo) (tr t : Trail) (es ds : List Event) (b : Result (Unit {0}) Busy) → IsTrying m.me m.author r0 rs tr es → HoldLeaves (holding m.me m.author) rs r t ds b

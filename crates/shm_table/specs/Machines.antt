@@ -11,8 +11,12 @@ use Rattle.shm_calls.specs.declared.word.Word.{Word}
 use Rattle.shm_calls.specs.CallsControl.{calls_control, calls_of, calls_does}
 use Rattle.shm_calls.specs.CallsFit.{CallsFits, CallsGives}
 use Rattle.shm_calls.specs.Words.{word_control}
+use Rattle.shm_table.specs.declared.enter.Entered.{Entered}
+use Rattle.shm_table.specs.declared.enter.EnterState.{EnterState}
 use Rattle.shm_table.specs.declared.find.FindState.{FindState}
 use Rattle.shm_table.specs.declared.find.Found.{Found}
+use Rattle.shm_table.specs.EnterControl.{EnterAnswer, EnterCall, enter_parts, entering}
+use Rattle.shm_table.specs.EnterFits.{enter_plan}
 use Rattle.shm_table.specs.FindControl.{finding}
 use Rattle.shm_table.specs.FindFits.{find_plan}
 
@@ -29,3 +33,17 @@ FindGives me a key = CallsGives word_control find_plan (calls_of find_plan (find
 
 abbrev pub find_told : Me → ℕ → ℕ → Trail → List Event
 find_told me a key = happens_along find (calls_does word_control find_plan) (calls_of find_plan (finding me a key))
+
+-- ---- a new entry of a key, with the value block v, in the directory `home`, before the entry `first`
+
+abbrev pub enter : Control (Calls EnterState EnterCall Entered EnterAnswer) Entered
+enter = calls_control enter_parts enter_plan
+
+abbrev pub EnterFits : Me → ℕ → ℕ → ℕ → ℕ → Memo → Memo → Trail → Type 0
+EnterFits me key v home first = CallsFits enter_parts enter_plan (calls_of enter_plan (entering me key v home first))
+
+abbrev pub EnterGives : Me → ℕ → ℕ → ℕ → ℕ → Memo → Memo → Trail → Entered → Type 0
+EnterGives me key v home first = CallsGives enter_parts enter_plan (calls_of enter_plan (entering me key v home first))
+
+abbrev pub enter_told : Me → ℕ → ℕ → ℕ → ℕ → Trail → List Event
+enter_told me key v home first = happens_along enter (calls_does enter_parts enter_plan) (calls_of enter_plan (entering me key v home first))

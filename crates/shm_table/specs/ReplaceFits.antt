@@ -105,7 +105,7 @@ IsTorn c b torn vs = ((torn ≡ []) × (vs ≡ [])) ⊎ Walks c b torn vs
 
 -- the entry had the value block, or it had another one, which lost that reference
 abbrev pub ReplaceEvents : Me → ℕ → ℕ → Memo → List Event → List Visit → Type 0
-ReplaceEvents me entry v m es vs = ((es ≡ []) × (vs ≡ [])) ⊎ ((old : ℕ) × (torn : List Event) × (old ≢ v) × ((key n before word : ℕ) → MayReplace me key v n entry before word m → (a : ℕ) × (map_in m.part key ≡ Some (a, old))) × (es ≡ changed_events me.who entry old v torn) × IsTorn me.who old torn vs)
+ReplaceEvents me entry v m es vs = ((es ≡ []) × (vs ≡ []) × ((key n before word : ℕ) → MayReplace me key v n entry before word m → map_in m.part key ≡ Some (n, v))) ⊎ ((old : ℕ) × (torn : List Event) × (old ≢ v) × ((key n before word : ℕ) → MayReplace me key v n entry before word m → (a : ℕ) × (map_in m.part key ≡ Some (a, old))) × (es ≡ changed_events me.who entry old v torn) × IsTorn me.who old torn vs)
 
 -- The key of the entry has the value block and its number, and no other key changed. The block that it had before is torn down where nothing else names it; where that was stopped, `left` are the blocks that are zero-count blocks still
 pub record Replaced (me : Me) (v entry : ℕ) (m r : Memo) (tr : Trail) (es : List Event) : Type 0 where

@@ -119,7 +119,7 @@ module _ (me : Me) (b v n : ℕ) (r0 r : Memo) (begun : MayBegin me b v r0) (fou
         left = [];
         dying = All-nil (λ (x : Visit). Contains r.dying x.block);
         ended = inl (record { roots = λ j. ap (λ (x : Memo). root_word me.who x j) reads.memo; dying = ap (λ (x : Memo). x.dying) reads.memo });
-        events = inl (none, refl);
+        events = inl (none, refl, λ key k d i h. ap (λ (x : Memo). map_in x.part key) (sym reads.memo) ∙ (steps key k d i h).same v k is (number key k d i h));
         bound = omega arith;
       }
     where

@@ -413,16 +413,20 @@ module _ (d : DropState) (m x r : Memo) (tr : Trail) (es : List Event) where
   pub keeps_drop : (a : Result Bool EraSpent) → Keeps d.me.who m x → root_word d.me.who m d.root ≡ 0 → DropLeaves d x r tr es a → Keeps d.me.who m r
   keeps_drop a k empty h = let y = left_by a h in keeps_dropped d.me.who d.root m x r k empty y.0 y.1
 
-  -- roots and zero-count blocks are as they were before the root was set, or the own era was spent
-  pub ended_drop : (a : Result Bool EraSpent) → root_word d.me.who m d.root ≡ 0 → ((j : ℕ) → d.root ≢ j → root_word d.me.who x j ≡ root_word d.me.who m j) → x.dying ≡ m.dying → DropLeaves d x r tr es a → Ended d.me.who m r
-  ended_drop (Ok z) empty others dying h =
-      inl (record {
+  -- roots and zero-count blocks are as they were before the root was set
+  pub cleared_drop : (z : Bool) → root_word d.me.who m d.root ≡ 0 → ((j : ℕ) → d.root ≢ j → root_word d.me.who x j ≡ root_word d.me.who m j) → x.dying ≡ m.dying → DropLeaves d x r tr es (Ok z) → Cleared d.me.who m r
+  cleared_drop z empty others dying h =
+      record {
         roots = λ j. elim (cases_Bool (eqb d.root j)) [
           | inl e ↦ subst (λ i. root_word d.me.who r i ≡ root_word d.me.who m i) (eqb-true d.root j e) (h.root ∙ sym empty)
           | inr n ↦ left_root d.me.who (λ i. d.root == i) x r j h.left n ∙ others j (λ e. false≢true (sym n ∙ eq-eqb d.root j e))
         ];
         dying = h.dying ∙ dying;
-      })
+      }
+
+  -- or the own era was spent
+  pub ended_drop : (a : Result Bool EraSpent) → root_word d.me.who m d.root ≡ 0 → ((j : ℕ) → d.root ≢ j → root_word d.me.who x j ≡ root_word d.me.who m j) → x.dying ≡ m.dying → DropLeaves d x r tr es a → Ended d.me.who m r
+  ended_drop (Ok z) empty others dying h = inl (cleared_drop z empty others dying h)
   ended_drop (Err e) empty others dying (vs, h) = inr (e.era, (let u = h.stopped.spent in omega arith, h.most))
 
   pub spent_drop : (e : EraSpent) → DropLeaves d x r tr es (Err e) → IsSpent d.me.who e.era r
@@ -439,6 +443,13 @@ cause_later me m x r (Spent e) l h = spent_later me.who e x r l h
 cause_later me m x r RootsFull l h = h
 cause_later me m x r (Full s b) l h = h
 cause_later me m x r (CountFull b n) l h = h
+
+-- where the roots before it were the same
+pub cause_before : (me : Me) (m x r : Memo) (f : PutFault) → ((j : ℕ) → root_word me.who x j ≡ root_word me.who m j) → PutCause me x r f → PutCause me m r f
+cause_before me m x r (Spent e) same h = h
+cause_before me m x r RootsFull same h = λ j l z. h j l (same j ∙ z)
+cause_before me m x r (Full s b) same h = (h.0, h.1, sym (same h.0) ∙ h.2)
+cause_before me m x r (CountFull b n) same h = h
 
 pub made_cause : (me : Me) (q : Request) (m r : Memo) (f : AllocFault) → AnswerHolds me q m r (Err f) → PutCause me m r (made_fault f)
 made_cause me q m r (alloc.EraSpent e) h = let y = h.gives.1.0 in let z = h.gives.1.1 in let u = ap (λ (ss : List Stored). own_word ss (Era me.who me.who)) h.gives.0.own in (omega arith, omega arith)

@@ -1,5 +1,5 @@
 -- what is owed of giving back a latch of which it is known whose it is
-use Rattle.std.proofs.Common.{◌≡◌, ℕ, ◌+◌, ◌<◌, refl, sym, ap, ◌∙◌, subst, arith, true, false, List, [], ◌++◌}
+use Rattle.std.proofs.Common.{◌≡◌, ℕ, refl, ap, ◌∙◌, arith, true, false, List, [], ◌++◌}
 use Rattle.std.proofs.lemmas.Bool.{lt-ltb}
 use Rattle.shm_words.specs.declared.place.Place.TheVariants as place
 use Rattle.shm_words.specs.Layout.{address}
@@ -61,10 +61,6 @@ module _ (m : UnlatchState) (r0 r : Memo) (may : MayUnlatch m.me m.author r0) wh
 
 -- ---- the plan
 
-opens : (m : UnlatchState) (y : UnlatchPoint) (r0 r : Memo) (tr : Trail) (es : List Event) → UnlatchKnows (record m { point = y }) y r0 r tr es → (unlatch_plan.part (record m { point = y })).needs (unlatch_call m y) r
-opens m Give r0 r tr es h = give_word (record m { point = Give }) r0 r h.0 h.1
-opens m Back r0 r tr es h = back_word (record m { point = Back }) r0 r h.may h.same
-
 -- what a word step left, and what it asked
 abbrev Leaves : UnlatchState → UnlatchPoint → Memo → Memo → Trail → List Event → ℕ → Type 0
 Leaves m y = (unlatch_part (record m { point = y }) y).leaves (unlatch_call m y)
@@ -87,6 +83,10 @@ unlatch_laws =
     stays : (m : UnlatchState) (y : UnlatchPoint) (n : ℕ) → PlanStays word_control unlatch_plan (record m { point = y }) n
     stays m Give n = record { same_me = refl; same_line = refl; same_start = refl; started = λ e. refl }
     stays m Back n = record { same_me = refl; same_line = refl; same_start = refl; started = λ e. absurd (cc) }
+
+    opens : (m : UnlatchState) (y : UnlatchPoint) (r0 r : Memo) (tr : Trail) (es : List Event) → UnlatchKnows (record m { point = y }) y r0 r tr es → (unlatch_plan.part (record m { point = y })).needs (unlatch_call m y) r
+    opens m Give r0 r tr es h = give_word (record m { point = Give }) r0 r h.0 h.1
+    opens m Back r0 r tr es h = back_word (record m { point = Back }) r0 r h.may h.same
 
     leads : (m : UnlatchState) (y : UnlatchPoint) (r0 rs r : Memo) (tr t : Trail) (es ds : List Event) (n : ℕ) → UnlatchKnows (record m { point = y }) y r0 rs tr es → Leaves m y rs r t ds n → Follows word_control unlatch_plan (record m { point = y }) n r0 r (tr ++ t) (es ++ ds)
     leads m Give r0 rs r tr t es ds n h w =

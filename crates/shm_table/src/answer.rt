@@ -5,6 +5,7 @@ ghost use Rattle.shm_table.specs.Answers as answers;
 
 use shm_alloc::AllocFault;
 use shm_count::{EraSpent, UpFault};
+use shm_script::Answer;
 
 /// Why a value block didn't come into the table.
 #[derive(Clone, Copy, Debug, PartialEq, Eq, Drop)]
@@ -49,5 +50,18 @@ impl PutFault {
         ensures { result ≡ answers.spent_fault spent }
     {
         PutFault::EraSpent { era: spent.era }
+    }
+
+    /// What a command answers that was refused so.
+    #[inline(always)]
+    pub fn answer(self) -> Answer
+        ensures { result ≡ answers.fault_answer self }
+    {
+        match self {
+            PutFault::EraSpent { era } => Answer::EraSpent { era },
+            PutFault::RootsFull => Answer::RootsFull,
+            PutFault::Full { segments, blocks } => Answer::Full { segments, blocks },
+            PutFault::CountFull { block, count } => Answer::CountFull { block, count },
+        }
     }
 }

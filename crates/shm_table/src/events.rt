@@ -17,12 +17,17 @@ ghost use Rattle.shm_calls.specs.CallsControl.{calls_does};
 ghost use Rattle.shm_calls.specs.CallsFit.{CallsFits};
 ghost use Rattle.shm_calls.specs.Plans.{plan_trail};
 ghost use Rattle.shm_calls.specs.Words.{word_control};
+ghost use Rattle.shm_table.specs.declared.enter.Entered.{Entered as AnEntered};
+ghost use Rattle.shm_table.specs.declared.enter.Entered.TheVariants.{Linked, Unlinked, Unmade};
 ghost use Rattle.shm_table.specs.declared.find.Found.{Found as AFound};
 ghost use Rattle.shm_table.specs.declared.find.Found.TheVariants.{Absent, At};
+ghost use Rattle.shm_table.specs.EnterControl.{enter_parts, entering};
+ghost use Rattle.shm_table.specs.EnterFits.{EnterLeaves, IsHalfMade, MayEnter, enter_plan, linked_events};
 ghost use Rattle.shm_table.specs.FindControl.{finding};
 ghost use Rattle.shm_table.specs.FindFits.{IsLook, MayFind, FindLeaves, find_plan};
 ghost use Rattle.shm_table.specs.FindTells.{HasKey, HasRead};
-ghost use Rattle.shm_table.specs.Machines.{find, FindFits, FindGives, find_told};
+ghost use Rattle.shm_table.specs.Machines.{enter, EnterFits, EnterGives, enter_told, find, FindFits, FindGives, find_told};
+ghost use Rattle.shm_table.specs.declared.answer.PutFault.{PutFault as AFault};
 
 /// A search for a key in the table of an author fits each memo of an identity of a pool for tables that is here, with no step in progress and
 /// with the latch of the author.
@@ -56,4 +61,27 @@ pub fn read_tells()
     ensures stays { (a key entry : ℕ) (r x : AMemo) → x.latch ≡ r.latch → x.part ≡ r.part → ((s : AStored) → Contains r.known s → Contains x.known s) → ((k : ALook) → Contains r.looks k → Contains x.looks k) → HasRead a r key entry → HasRead a x key entry }
     ensures has { (me : AMe) (a key entry : ℕ) (r : AMemo) → HasRead a r key entry → me.who < me.geometry.clients → (w : ASpot → ℕ) (rs : ℕ → AMemo) → HeldAt me.geometry w (view rs) → rs me.who ≡ r → HasKey (rs a).part key entry }
     ensures map { (me : AMe) (a key entry v n : ℕ) (r : AMemo) → HasRead a r key entry → IsLook r (Body entry 1) v → Contains r.known (record { spot = Body v 0; value = n }) → me.who < me.geometry.clients → (w : ASpot → ℕ) (rs : ℕ → AMemo) → HeldAt me.geometry w (view rs) → rs me.who ≡ r → map_in (rs a).part key ≡ Some (n, v) }
+{}
+
+/// A new entry fits each memo of a client between two calls, under the own latch, whose table has no entry of the key and of which a root
+/// names the value block, where its number is known.
+pub fn enter_begins()
+    ensures { (me : AMe) (key v n home first : ℕ) (r : AMemo) → MayEnter me key v n home first r → EnterFits me key v home first r r [] }
+{}
+
+/// Its events are those that it tells. Where the entry was linked, they are its allocation, the steps up of its value word and its next
+/// word, and the step at the bucket, by which no count comes to 0; where it wasn't, those of the steps that were done; where no block was
+/// made, none.
+pub fn enter_events()
+    ensures tells { Tells enter (CallsFits enter_parts enter_plan) (calls_does enter_parts enter_plan) }
+    ensures linked { (me : AMe) (key v home first k : ℕ) (r0 r : AMemo) (tr : Trail) → EnterGives me key v home first r0 r tr (Linked k) → (b : ℕ) × (enter_told me key v home first tr ≡ linked_events me.who k b v home key first) }
+    ensures unlinked { (me : AMe) (key v home first k : ℕ) (r0 r : AMemo) (tr : Trail) (f : AFault) → EnterGives me key v home first r0 r tr (Unlinked k f) → (b : ℕ) × IsHalfMade me.who k b v first (enter_told me key v home first tr) }
+    ensures unmade { (me : AMe) (key v home first : ℕ) (r0 r : AMemo) (tr : Trail) (f : AFault) → EnterGives me key v home first r0 r tr (Unmade f) → enter_told me key v home first tr ≡ [] }
+{}
+
+/// The own map has the value block and its number at the key, and is as before at all others; or it is as before, and the refusal says why.
+/// A root that was empty names the entry where it was made, and nothing else that machines over tables leave has changed.
+pub fn enter_leaves()
+    ensures leaves { (me : AMe) (key v home first : ℕ) (r0 r : AMemo) (tr : Trail) (b : AnEntered) → EnterGives me key v home first r0 r tr b → EnterLeaves (entering me key v home first) r0 r tr (enter_told me key v home first tr) b }
+    ensures trail { (me : AMe) (key v home first : ℕ) (r0 r : AMemo) (tr : Trail) (b : AnEntered) → EnterGives me key v home first r0 r tr b → plan_trail enter_plan (entering me key v home first) tr b }
 {}

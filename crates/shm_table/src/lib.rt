@@ -1,4 +1,4 @@
-//! Tables: looking for a key in the table of an identity.
+//! Tables: looking for a key, reading what it has, removing it, and the parts of which commands that put are made.
 //!
 //! Each machine is a plan of calls (`shm_calls`): the type with the operation's name is the machine, and the plan that it is made of says
 //! which call comes next.
@@ -8,29 +8,47 @@ pub mod answer;
 pub mod bound;
 pub mod changes;
 pub mod del;
+pub mod enter;
 pub mod events;
 pub mod find;
+pub mod get;
 pub mod locate;
+pub mod open_table;
+pub mod opening;
 pub mod parts;
+pub mod put_root;
+pub mod reading;
 pub mod replace;
 pub mod staying;
 pub mod unlatch;
 pub mod unlink;
-
-pub use changes::{del_begins, del_bound, del_events, del_leaves};
-pub use del::{Del, DelAnswer, Deleting};
 
 #[cfg(test)]
 mod del_edge_tests;
 #[cfg(test)]
 mod del_tests;
 #[cfg(test)]
+mod enter_spent_tests;
+#[cfg(test)]
+mod enter_tests;
+#[cfg(test)]
 mod entry_tests;
 #[cfg(test)]
+mod get_tests;
+#[cfg(test)]
+mod open_tests;
+#[cfg(test)]
 mod replace_tests;
+#[cfg(test)]
+mod stepping;
 #[cfg(test)]
 mod tests;
 #[cfg(test)]
 mod unlink_refusal_tests;
 #[cfg(test)]
 mod unlink_tests;
+
+pub use changes::{del_begins, del_bound, del_events, del_leaves};
+pub use del::{Del, DelAnswer, Deleting};
+pub use get::{Get, Getting, Valued};
+pub use reading::{get_begins, get_bound, get_events, get_leaves, get_tells};

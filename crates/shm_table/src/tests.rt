@@ -53,7 +53,7 @@ const TABLE: [(usize, u64); 40] = [
 ];
 
 /// The words of that pool.
-fn table(alloc: Global) -> Result<Vec<u64>, AllocError> {
+pub fn table(alloc: Global) -> Result<Vec<u64>, AllocError> {
     let mut words = vec![in alloc; 0u64; 2228]?;
     for (at, word) in TABLE {
         if let Some(place) = words.get_mut(at) {

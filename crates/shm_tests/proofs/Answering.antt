@@ -8,10 +8,6 @@ pub some_map : {A : Type 0} (P Q : A → Type 0) (o : Option A) → ((a : A) →
 some_map P Q None f h = tt
 some_map P Q (Some a) f h = f a h
 
-pub some_both : {A : Type 0} (P Q R : A → Type 0) (o : Option A) → ((a : A) → P a → Q a → R a) → IfSome o P → IfSome o Q → IfSome o R
-some_both P Q R None f h k = tt
-some_both P Q R (Some a) f h k = f a h k
-
 -- of an answer that says only that it is there
 pub of_done : (P : Unit {0} → Type 0) (o : Option (Unit {0})) → is_some o ≡ true → IfSome o P → P tt
 of_done P None e h = absurd (true≢false (sym e))

@@ -5,6 +5,7 @@ pub mod JoinEvents
 pub mod Answering
 pub mod RootAnswers
 pub mod RootCalls
+pub mod RootSteps
 pub mod AllocRoots
 pub mod TearAnswers
 pub mod Passing
@@ -12,3 +13,5 @@ pub mod PlanCalls
 pub mod JoinLatch
 pub mod QueueAnswers
 pub mod QueueReady
+pub mod ItemAnswers
+pub mod SetAnswers

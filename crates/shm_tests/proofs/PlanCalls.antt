@@ -1,7 +1,6 @@
 -- calls of a plan on a pool in which its identity is at work
-use Rattle.std.proofs.Common.{◌≡◌, ℕ, ◌+◌, ◌^◌, ◌<◌, ◌≤◌, ◌&&◌, true, sym, ap, ◌∙◌, subst, arith, List, []}
-use Rattle.std.specs.Prelude.{Option, IfSome}
-use Rattle.std.specs.Option.{is_some}
+use Rattle.std.proofs.Common.{◌≡◌, ℕ, ◌+◌, ◌^◌, ◌<◌, ◌≤◌, ◌&&◌, true, sym, ap, ◌∙◌, arith, []}
+use Rattle.std.specs.Prelude.{Option}
 use Rattle.shm_words.specs.declared.geometry.Geometry.{Geometry}
 use Rattle.shm_words.specs.Layout.{total_of}
 use Rattle.shm_words.proofs.Placing.{total_small}
@@ -9,21 +8,18 @@ use Rattle.shm_graph.specs.declared.ask.Me.{Me}
 use Rattle.shm_graph.specs.declared.memo.Memo.{Memo}
 use Rattle.shm_graph.specs.declared.spot.Spot.TheVariants.{Hold}
 use Rattle.shm_graph.specs.Core.{core}
-use Rattle.shm_graph.specs.Events.{Event}
 use Rattle.shm_graph.specs.Held.{HeldAt}
 use Rattle.shm_graph.specs.Idle.{IsIdle, hold_word}
 use Rattle.shm_graph.specs.Laws.{Control}
 use Rattle.shm_graph.specs.Reach.{is_reached}
 use Rattle.shm_graph.specs.Runs.{memos_of}
 use Rattle.shm_graph.specs.Spots.{see}
-use Rattle.shm_graph.specs.Tells.{happens_along}
 use Rattle.shm_graph.specs.Views.{own_word, view}
 use Rattle.shm_graph.specs.Whole.{fits_now}
 use Rattle.shm_graph.proofs.Holders.{reach_counted}
 use Rattle.shm_graph.proofs.Reached.{reached_here}
 use Rattle.shm_plain.specs.Pools.{Pool, IsRun, memo_of, readied}
-use Rattle.shm_plain.specs.Calls.{Did, IsAtWork, Ran}
-use Rattle.shm_plain.proofs.Calling.{fits_acting}
+use Rattle.shm_plain.specs.Calls.{IsAtWork}
 use Rattle.shm_calls.specs.declared.calls.Calls.{Calls}
 use Rattle.shm_calls.specs.CallsControl.{calls_control, calls_does, calls_of}
 use Rattle.shm_calls.specs.CallsFit.{CallsFits, CallsGives}
@@ -36,8 +32,7 @@ use Rattle.shm_count.proofs.RootSpots.{is_here}
 use Rattle.shm_ref.specs.Lefts.{MayDrop}
 use Rattle.shm_ref.specs.OnlyRead.{OnlyRead}
 use Rattle.shm_ref.specs.ReadParts.{MayAsk, MayRead}
-use Rattle.shm_tests.proofs.Answering.{some_map}
-use Rattle.shm_tests.proofs.Called.{Called, ran_fresh, told, works}
+use Rattle.shm_tests.proofs.Called.{Answered as CallAnswered, Called, answered as call_answered, call_fits}
 
 -- ---- before
 
@@ -100,48 +95,17 @@ idle_read c m r s e h =
 
 -- ---- the call
 
--- what the machine of the plan s gives, from the pool p to p2
-abbrev pub PlanGave : {S C A B : Type 0} → Control C B → Planned S C B A → ℕ → Pool → S → Pool → A → Type 0
-PlanGave k q c p s p2 a = let r : Memo = memo_of p2 c in CallsGives k q (calls_of q s) (memo_of p c) r r.call a
-
--- what a call leaves of the pool p, by what the machine of the plan s gives: the pool p2, with this answer
-pub record Answered {S C A B : Type 0} (k : Control C B) (q : Planned S C B A) (c : ℕ) (p : Pool) (s : S) (p2 : Pool) (x y : ℕ) (o : Option A) : Type 1 where
-  pub gives : IfSome o (PlanGave k q c p s p2)
-  pub ran : Ran c true (is_some o) p p2 x y
-  -- what follows from it
-  pub follows : (P : A → Type 0) → ((a : A) → PlanGave k q c p s p2 a → P a) → IfSome o P
-  -- between two calls, where each answer leaves it so, and with the events that each answer tells of
-  pub works : ((a : A) → PlanGave k q c p s p2 a → IsIdle c (memo_of p2 c)) → IfSome o (λ a. IsAtWork c p2)
-  pub did : (es : A → List Event) → ((a : A) → PlanGave k q c p s p2 a → happens_along (calls_control k q) (calls_does k q) (calls_of q s) (memo_of p2 c).call ≡ es a) → IfSome o (λ a. Did c p p2 (es a))
+-- what a call of the plan s leaves of the pool p: the pool p2, with this answer
+abbrev pub Answered : {S C A B : Type 0} → Control C B → Planned S C B A → ℕ → Pool → S → Pool → ℕ → ℕ → Option A → Type 1
+Answered k q c p s p2 x y o = CallAnswered (calls_control k q) (CallsGives k q) (calls_does k q) c p (calls_of q s) p2 x y o
 
 module _ {S C A B : Type 0} (k : Control C B) (q : Planned S C B A) (laws : PlanLaws k q) (c : ℕ) (p : Pool) (work : IsAtWork c p) (s : S) (first : q.first s ≡ true) (start : q.start s ≡ s) (fresh : (q.first s && k.fresh (q.call s)) ≡ true) (knows : let r : Memo = memo_of p c in q.knows s r r [] []) (m : Calls S C A B) (is : m ≡ calls_of q s) where
-  abbrev Whole : Type 0
-  Whole = Calls S C A B
-
-  abbrev r0 : Memo
-  r0 = memo_of p c
-
   -- the machine fits where what is known before the first call is so
-  fits_now_of : fits_now (calls_control k q) (CallsFits k q) (calls_of q s) r0 (memo_of (readied p c) c)
-  fits_now_of = fits_acting (calls_control k q) (CallsFits k q) (CallsGives k q) c p (calls_of q s) work.acts fresh (calls_begin k q laws s r0 first start knows)
+  begins : CallsFits k q (calls_of q s) (memo_of p c) (memo_of p c) []
+  begins = calls_begin k q laws s (memo_of p c) first start knows
 
   pub plan_fits : (r : Memo) × fits_now (calls_control k q) (CallsFits k q) m r (memo_of (readied p c) c)
-  plan_fits = (r0, subst (λ (n : Whole). fits_now (calls_control k q) (CallsFits k q) n r0 (memo_of (readied p c) c)) (sym is) fits_now_of)
+  plan_fits = call_fits (calls_control k q) (CallsFits k q) (CallsGives k q) c p work.geometry work.who work.acts (calls_of q s) fresh begins m is
 
-  module _ (p2 : Pool) (x y : ℕ) (o : Option A) (call : Called (calls_control k q) (CallsFits k q) (CallsGives k q) c p m p2 x y o) where
-    called : Called (calls_control k q) (CallsFits k q) (CallsGives k q) c p (calls_of q s) p2 x y o
-    called = subst (λ (n : Whole). Called (calls_control k q) (CallsFits k q) (CallsGives k q) c p n p2 x y o) is call
-
-    gave : IfSome o (PlanGave k q c p s p2)
-    gave = called.gave r0 fits_now_of
-
-    pub answered : Answered k q c p s p2 x y o
-    answered =
-        record {
-          gives = gave;
-          ran = ran_fresh (calls_control k q) (CallsFits k q) (CallsGives k q) c p (calls_of q s) p2 x y o called fresh;
-          follows = λ P f. some_map (PlanGave k q c p s p2) P o f gave;
-          works = λ f. works (calls_control k q) (CallsFits k q) (CallsGives k q) c p (calls_of q s) p2 x y o called fresh work (some_map (PlanGave k q c p s p2) (λ a. IsIdle c (memo_of p2 c)) o f gave);
-          did = λ es f. told (calls_control k q) (CallsFits k q) (CallsGives k q) c p (calls_of q s) p2 x y o called fresh (calls_does k q) (calls_tells k q laws)
-              (PlanGave k q c p s p2) (λ a. Did c p p2 (es a)) gave (λ a g d. subst (Did c p p2) (f a g) d);
-        }
+  pub answered : (p2 : Pool) (x y : ℕ) (o : Option A) → Called (calls_control k q) (CallsFits k q) (CallsGives k q) c p m p2 x y o → Answered k q c p s p2 x y o
+  answered p2 x y o call = call_answered (calls_control k q) (CallsFits k q) (CallsGives k q) c p work.geometry work.who work.acts (calls_of q s) fresh begins m is p2 x y o call (calls_does k q) (calls_tells k q laws)

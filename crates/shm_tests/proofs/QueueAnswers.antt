@@ -52,7 +52,7 @@ root_part c t k x = go t.part refl
 
 module _ (c : ℕ) (m r : Memo) where
   -- nothing of the memo changed but words that are no hold word
-  own_leaves : core r ≡ core (record m { own = r.own }) → own_word r.own (Hold c) ≡ own_word m.own (Hold c) → LeavesIdle c m r
+  pub own_leaves : core r ≡ core (record m { own = r.own }) → own_word r.own (Hold c) ≡ own_word m.own (Hold c) → LeavesIdle c m r
   own_leaves h own =
       record {
         idle = λ idle. record {
@@ -69,7 +69,7 @@ module _ (c : ℕ) (m r : Memo) where
         };
       }
 
-  same_leaves : core r ≡ core m → LeavesIdle c m r
+  pub same_leaves : core r ≡ core m → LeavesIdle c m r
   same_leaves h = own_leaves (λ i. record (h i) { own = r.own }) (ap (λ (x : Memo). own_word x.own (Hold c)) h)
 
   -- nothing changed but what was received
@@ -91,7 +91,7 @@ module _ (c : ℕ) (m r : Memo) where
       }
 
   -- a root came to name the item that was read
-  peek_leaves : (me : Me) (s n b k : ℕ) (tr : Trail) (es : List Event) → me.who ≡ c → Peeked me s n b k m r tr es → LeavesIdle c m r
+  pub peek_leaves : (me : Me) (s n b k : ℕ) (tr : Trail) (es : List Event) → me.who ≡ c → Peeked me s n b k m r tr es → LeavesIdle c m r
   peek_leaves me s n b k tr es is p =
       let h = p.filled.rest in
       let own : own_word r.own (Hold c) ≡ own_word m.own (Hold c) = subst (λ d. own_word r.own (Hold d) ≡ own_word m.own (Hold d)) is (p.filled.own (Hold me.who) refl) in
@@ -111,7 +111,7 @@ module _ (c : ℕ) (m r : Memo) where
       }
 
   -- the item is known, and nothing else was done
-  known_leaves : (s n b : ℕ) → Untouched c (slot_memo c s n b m) r → LeavesIdle c m r
+  pub known_leaves : (s n b : ℕ) → Untouched c (slot_memo c s n b m) r → LeavesIdle c m r
   known_leaves s n b u =
       record {
         idle = λ idle. record {
@@ -128,11 +128,11 @@ module _ (c : ℕ) (m r : Memo) where
         };
       }
 
-  take_leaves : (s n b : ℕ) → Received c s n b m r → LeavesIdle c m r
+  pub take_leaves : (s n b : ℕ) → Received c s n b m r → LeavesIdle c m r
   take_leaves s n b t = lanes_leaves (lane_with m.received s b) t.rest t.op (t.own (Hold c) refl refl) t.untaken
 
 -- one after the other
-leaves_then : (c : ℕ) (m q r : Memo) → LeavesIdle c m q → LeavesIdle c q r → LeavesIdle c m r
+pub leaves_then : (c : ℕ) (m q r : Memo) → LeavesIdle c m q → LeavesIdle c q r → LeavesIdle c m r
 leaves_then c m q r a b =
     record {
       idle = λ idle. b.idle (a.idle idle);
@@ -201,7 +201,7 @@ and_right : (a b : Bool) → b ≡ false → (a && b) ≡ false
 and_right true b e = e
 and_right false b e = refl
 
-other_root : (c k j : ℕ) → j ≢ k → same_spot (Root c k) (Root c j) ≡ false
+pub other_root : (c k j : ℕ) → j ≢ k → same_spot (Root c k) (Root c j) ≡ false
 other_root c k j n = and_right (c == c) (k == j) (ne_eqb k j (λ e. n (sym e)))
 
 module _ (m : ReceiveState) (r0 r : Memo) (tr : Trail) (es : List Event) where

@@ -16,14 +16,14 @@ use Rattle.shm_graph.proofs.FirstHeld.{same_everywhere}
 use Rattle.shm_plain.specs.Calls.{IsAtWork, Ran}
 use Rattle.shm_plain.specs.Pools.{Pool, memo_of}
 use Rattle.shm_count.specs.declared.answer.Made.{Made}
-use Rattle.shm_count.specs.Roots.{member}
+use Rattle.shm_count.specs.Roots.{AreRootsReached, member, root_word}
 use Rattle.shm_alloc.specs.declared.alloc.AllocFault.{AllocFault}
 use Rattle.shm_alloc.specs.declared.point.AllocState.{AllocState}
 use Rattle.shm_alloc.specs.AllocFits.{AllocGives}
 use Rattle.shm_recover.specs.Joining.{JoinGives, join_fresh}
 use Rattle.shm_recover.specs.LeaveFits.{MayLeave}
 use Rattle.shm_recover.specs.LeaveGone.{idle_may_leave}
-use Rattle.shm_tests.specs.Queues.{IsClear, IsReady, LeavesQueues}
+use Rattle.shm_tests.specs.Queues.{HasBlock, IsClear, IsReady, LeavesQueues}
 
 -- once it has joined a pool for the first time
 pub clear_join : (s : Start) (g : Geometry) (c : ℕ) (m0 m : Memo) (tr : Trail) → s.tables ≡ false → m0 ≡ entered Client (first_memo s c) → JoinGives (join_fresh (member g c)) m0 m tr tt → IsClear m
@@ -49,10 +49,11 @@ clear_alloc x r0 r tr a g h =
     }
 
 -- a call on a queue leaves it ready
-pub ready_after : (c : ℕ) (p q : Pool) → IsReady c p → IsAtWork c q → LeavesQueues (memo_of p c) (memo_of q c) → (memo_of q c).dying ≡ (memo_of p c).dying → IsReady c q
-ready_after c p q h work left dying =
+pub ready_after : (c : ℕ) (p q : Pool) → IsReady c p → IsAtWork c q → recovers (memo_of q c) ≡ recovers (memo_of p c) → LeavesQueues (memo_of p c) (memo_of q c) → (memo_of q c).dying ≡ (memo_of p c).dying → IsReady c q
+ready_after c p q h work kind left dying =
     record {
       work = work;
+      client = kind ∙ h.client;
       clear = record {
         loose = left.loose ∙ h.clear.loose;
         latch = left.latch ∙ h.clear.latch;
@@ -72,9 +73,22 @@ ready_other c d fresh answered p q x y h n ran =
         who = subst (λ (s : Start). c < s.geometry.clients) (sym ran.start) h.work.who;
         idle = subst (λ (m : Memo). IsIdle c m) (sym same) h.work.idle;
         acts = ap acts same ∙ h.work.acts;
-        client = ap recovers same ∙ h.work.client;
       };
+      client = ap recovers same ∙ h.client;
       clear = subst IsClear (sym same) h.clear;
+    }
+
+-- and so it is of an identity whose first root names a block
+pub has_after : (c b : ℕ) (p q : Pool) → HasBlock c b p → IsAtWork c q → recovers (memo_of q c) ≡ recovers (memo_of p c) → LeavesQueues (memo_of p c) (memo_of q c) → (memo_of q c).dying ≡ (memo_of p c).dying → root_word c (memo_of q c) 0 ≡ root_word c (memo_of p c) 0 → AreRootsReached c (memo_of q c) → HasBlock c b q
+has_after c b p q h work kind left dying root reached = record { ready = ready_after c p q h.ready work kind left dying; root = root ∙ h.root; reached = reached }
+
+pub has_other : (c b d : ℕ) (fresh answered : Bool) (p q : Pool) (x y : ℕ) → HasBlock c b p → c ≢ d → Ran d fresh answered p q x y → HasBlock c b q
+has_other c b d fresh answered p q x y h n ran =
+    let same = ran.others c n in
+    record {
+      ready = ready_other c d fresh answered p q x y h.ready n ran;
+      root = ap (λ (m : Memo). root_word c m 0) same ∙ h.root;
+      reached = subst (λ (m : Memo). AreRootsReached c m) (sym same) h.reached;
     }
 
 pub ready_may_leave : (c : ℕ) (p : Pool) → IsReady c p → MayLeave (member p.start.geometry c) (memo_of p c)

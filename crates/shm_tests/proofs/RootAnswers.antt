@@ -1,5 +1,5 @@
 -- what the answers of count steps at roots say of a pool
-use Rattle.std.proofs.Common.{◌≡◌, ◌≢◌, ℕ, ◌<◌, refl, sym, ◌∙◌, subst, arith, Bool, true, false, Result}
+use Rattle.std.proofs.Common.{◌≡◌, ◌≢◌, ℕ, ◌<◌, refl, sym, ◌∙◌, subst, arith, Bool, true, Result}
 use Rattle.std.specs.Prelude.{Ok, Err, IfOk, IfErr}
 use Rattle.std.specs.List.{Contains}
 use Rattle.std.specs.Result.{is_ok}
@@ -9,6 +9,7 @@ use Rattle.shm_words.specs.declared.place.Place.TheVariants as place
 use Rattle.shm_words.specs.Layout.{address}
 use Rattle.shm_graph.specs.declared.memo.Memo.{Memo}
 use Rattle.shm_graph.specs.declared.run.Start.{Start}
+use Rattle.shm_graph.specs.declared.spot.Spot.{Spot}
 use Rattle.shm_graph.specs.Held.{HeldAt}
 use Rattle.shm_graph.specs.Idle.{IsIdle}
 use Rattle.shm_graph.specs.Runs.{memos_of}
@@ -17,9 +18,12 @@ use Rattle.shm_graph.specs.Views.{view}
 use Rattle.shm_plain.specs.Pools.{Pool, IsRun, memo_of}
 use Rattle.shm_count.specs.declared.answer.EraSpent.{EraSpent}
 use Rattle.shm_count.specs.declared.answer.UpFault.{UpFault}
-use Rattle.shm_count.specs.declared.point.Aim.TheVariants.{Up, Down, Change}
-use Rattle.shm_count.specs.StepMachines.{ChangeGives, DownGives, UpGives, down_means, up_means}
+use Rattle.shm_count.specs.declared.point.Aim.{Aim}
+use Rattle.shm_count.specs.declared.point.Aim.TheVariants.{Down, Change}
+use Rattle.shm_count.specs.StepMachines.{ChangeGives, DownGives, down_means}
 use Rattle.shm_count.specs.Roots.{member, root_step, root_word}
+use Rattle.shm_count.specs.StepControl.{value_after}
+use Rattle.shm_count.specs.StepFits.{StepGives}
 use Rattle.shm_count.proofs.RootMemos.{StepLeft, dying_change, dying_down}
 use Rattle.shm_count.proofs.RootSpots.{done_root, left_root}
 
@@ -43,20 +47,9 @@ module _ (p q : Pool) (run : IsRun p) (run' : IsRun q) (start : q.start ≡ p.st
   small : c < 64
   small = let y = held.fits.clients in omega arith
 
-  -- the root holds v where the step is done
-  abbrev pub Left : ℕ → Bool → Type 0
-  Left v done = StepLeft (member g c) (address g (place.Root c k)) k r0 v done r
-
-  pub up_left : (b : ℕ) (a : Result (Unit {0}) UpFault) → UpGives (root_step g c k (Up b)) r0 r r.call a → Left b (is_ok a)
-  up_left b (Ok t) h = let y = up_means (root_step g c k (Up b)) r0 r r.call (Ok t) h in left_root g c l k (Up b) y.0 (see g p.words) (see g q.words) (memos_of p.accounts) (memos_of q.accounts) r.call (Ok false) s held held' idle y.1
-  up_left b (Err f) h = let y = up_means (root_step g c k (Up b)) r0 r r.call (Err f) h in left_root g c l k (Up b) y.0 (see g p.words) (see g q.words) (memos_of p.accounts) (memos_of q.accounts) r.call (Err f) s held held' idle y.1
-
-  pub down_left : (b : ℕ) (a : Result Bool EraSpent) → DownGives (root_step g c k (Down b)) r0 r r.call a → Left 0 (is_ok a)
-  down_left b (Ok z) h = let y = down_means (root_step g c k (Down b)) r0 r r.call (Ok z) h in left_root g c l k (Down b) y.0 (see g p.words) (see g q.words) (memos_of p.accounts) (memos_of q.accounts) r.call (Ok z) s held held' idle y.1
-  down_left b (Err f) h = let y = down_means (root_step g c k (Down b)) r0 r r.call (Err f) h in left_root g c l k (Down b) y.0 (see g p.words) (see g q.words) (memos_of p.accounts) (memos_of q.accounts) r.call _ s held held' idle y.1
-
-  pub change_left : (b d : ℕ) (a : Result Bool UpFault) → ChangeGives (root_step g c k (Change b d)) r0 r r.call a → Left d (is_ok a)
-  change_left b d a h = left_root g c l k (Change b d) h.1.0 (see g p.words) (see g q.words) (memos_of p.accounts) (memos_of q.accounts) r.call a s held held' idle h.1.1
+  -- what is left of the root, which holds the new word where the step is done
+  pub root_left : (x : Aim) (y : Spot) (a : Result Bool UpFault) → StepGives y (root_step g c k x) r0 r r.call a → StepLeft (member g c) (address g (place.Root c k)) k r0 (value_after x) (is_ok a) r
+  root_left x y a h = left_root g c l k x y (see g p.words) (see g q.words) (memos_of p.accounts) (memos_of q.accounts) r.call a s held held' idle h
 
   -- the block whose count came to 0 is a zero-count block
   pub down_dying : (b : ℕ) (a : Result Bool EraSpent) → DownGives (root_step g c k (Down b)) r0 r r.call a → IfOk a (λ z. z ≡ true → Contains r.dying b)
@@ -75,15 +68,19 @@ module _ (p q : Pool) (run : IsRun p) (run' : IsRun q) (start : q.start ≡ p.st
       let x = done_root g c l k (Change b d) y.1.0 (see g p.words) (see g q.words) (memos_of p.accounts) (memos_of q.accounts) r.call true s held held' y.1.1 in
       dying_change (member g c) (address g (place.Root c k)) k r0 b d r small x.0 x.1)
 
-  -- the root after a step that is done, the others, and all roots where none is
-  pub ok_root : {T E : Type 0} (a : Result T E) (v : ℕ) → Left v (is_ok a) → IfOk a (λ u. root_word c r k ≡ v)
-  ok_root (Ok u) v h = h.root k ∙ cond-true _ _ _ (eq-eqb k k refl)
-  ok_root (Err e) v h = tt
+-- the root after a step that is done, the others, and all roots where none is
+module _ {T E : Type 0} (g : Geometry) (c k v : ℕ) (r0 r : Memo) where
+  abbrev Left : Result T E → Type 0
+  Left a = StepLeft (member g c) (address g (place.Root c k)) k r0 v (is_ok a) r
 
-  pub ok_others : {T E : Type 0} (a : Result T E) (v : ℕ) → Left v (is_ok a) → IfOk a (λ u. (j : ℕ) → j ≢ k → root_word c r j ≡ root_word c r0 j)
-  ok_others (Ok u) v h = λ j n. h.root j ∙ cond-false _ _ _ (ne_eqb k j (λ e. n (sym e)))
-  ok_others (Err e) v h = tt
+  pub ok_root : (a : Result T E) → Left a → IfOk a (λ u. root_word c r k ≡ v)
+  ok_root (Ok u) h = h.root k ∙ cond-true _ _ _ (eq-eqb k k refl)
+  ok_root (Err e) h = tt
 
-  pub err_same : {T E : Type 0} (a : Result T E) (v : ℕ) → Left v (is_ok a) → IfErr a (λ e. (j : ℕ) → root_word c r j ≡ root_word c r0 j)
-  err_same (Ok u) v h = tt
-  err_same (Err e) v h = λ j. h.root j
+  pub ok_others : (a : Result T E) → Left a → IfOk a (λ u. (j : ℕ) → j ≢ k → root_word c r j ≡ root_word c r0 j)
+  ok_others (Ok u) h = λ j n. h.root j ∙ cond-false _ _ _ (ne_eqb k j (λ e. n (sym e)))
+  ok_others (Err e) h = tt
+
+  pub err_same : (a : Result T E) → Left a → IfErr a (λ e. (j : ℕ) → root_word c r j ≡ root_word c r0 j)
+  err_same (Ok u) h = tt
+  err_same (Err e) h = λ j. h.root j

@@ -1,5 +1,5 @@
 -- a tear-down on a pool: when it fits, and what its answer says of the roots
-use Rattle.std.proofs.Common.{◌≡◌, ℕ, ◌+◌, ◌^◌, ◌<◌, ◌≤◌, true, sym, ap, ◌∙◌, refl, arith, Result}
+use Rattle.std.proofs.Common.{◌≡◌, ℕ, ◌+◌, ◌^◌, ◌<◌, ◌≤◌, sym, ap, ◌∙◌, refl, arith, [], Result}
 use Rattle.std.specs.Prelude.{Ok, Err, IfOk}
 use Rattle.std.specs.List.{Contains, filter}
 use Rattle.shm_words.specs.declared.geometry.Geometry.{Geometry}
@@ -8,7 +8,6 @@ use Rattle.shm_words.specs.Tags.{tag_refs}
 use Rattle.shm_words.proofs.Placing.{total_small}
 use Rattle.shm_graph.specs.declared.memo.Memo.{Memo}
 use Rattle.shm_graph.specs.declared.spot.Spot.TheVariants.{Hold, Root, Tag}
-use Rattle.shm_graph.specs.Agents.{acts}
 use Rattle.shm_graph.specs.Asks.{Trail}
 use Rattle.shm_graph.specs.Held.{HeldAt}
 use Rattle.shm_graph.specs.Idle.{IsIdle, hold_word}
@@ -16,18 +15,16 @@ use Rattle.shm_graph.specs.Runs.{memos_of}
 use Rattle.shm_graph.specs.Spots.{see}
 use Rattle.shm_graph.specs.Stores.{not_block}
 use Rattle.shm_graph.specs.Views.{view}
-use Rattle.shm_graph.specs.Whole.{fits_now}
-use Rattle.shm_plain.specs.Pools.{Pool, IsRun, memo_of, readied}
+use Rattle.shm_plain.specs.Pools.{Pool, IsRun, memo_of}
 use Rattle.shm_count.specs.declared.answer.EraSpent.{EraSpent}
 use Rattle.shm_count.specs.DyingBlocks.{dying_header, live_room}
 use Rattle.shm_count.specs.StepControl.{IsInside}
-use Rattle.shm_count.specs.TearControl.{tear_control, TearKnows}
+use Rattle.shm_count.specs.TearControl.{TearKnows}
 use Rattle.shm_count.specs.TearFits.{CanTear, TearFits, TearGives}
 use Rattle.shm_count.specs.TearGoing.{begins}
 use Rattle.shm_count.specs.TearMemos.{Stays}
 use Rattle.shm_count.specs.Roots.{member, root_word, tear_of}
 use Rattle.shm_count.proofs.RootSpots.{is_here}
-use Rattle.shm_plain.proofs.Calling.{fits_acting}
 
 -- ---- before
 
@@ -60,9 +57,9 @@ module _ (p : Pool) (run : IsRun p) (c b : ℕ) (f : GeometryFits p.start.geomet
   knows : TearKnows (tear_of g c b)
   knows = record { geometry = f; who = l; first = block_small; block = block_small; point = tt }
 
-  -- the tear-down fits the memo of an identity of which an agent acts
-  pub tear_fits : acts (memo_of p c) ≡ true → fits_now tear_control TearFits (tear_of g c b) (memo_of p c) (memo_of (readied p c) c)
-  tear_fits act = fits_acting tear_control TearFits TearGives c p (tear_of g c b) act refl (begins (tear_of g c b) (memo_of p c) refl refl knows can)
+  -- the tear-down fits the memo
+  pub tear_fits : TearFits (tear_of g c b) (memo_of p c) (memo_of p c) []
+  tear_fits = begins (tear_of g c b) (memo_of p c) refl refl knows can
 
 -- ---- after
 

@@ -1,3 +1,4 @@
 pub mod Allocating
 pub mod Answers
 pub mod Queues
+pub mod Setting

@@ -5,9 +5,8 @@ ghost use Rattle.std.specs.Option.{is_some};
 ghost use Rattle.shm_words.specs.Layout.{GeometryFits};
 ghost use Rattle.shm_graph.specs.declared.memo.Kind.TheVariants.{Client};
 ghost use Rattle.shm_graph.specs.declared.memo.Status.TheVariants as status;
-ghost use Rattle.shm_graph.specs.Agents.{acts};
+ghost use Rattle.shm_graph.specs.Agents.{acts, recovers};
 ghost use Rattle.shm_graph.specs.Held.{is_loose};
-ghost use Rattle.shm_graph.specs.Idle.{IsIdle};
 ghost use Rattle.shm_plain.specs.Pools.{MayStep, memo_of, readied};
 ghost use Rattle.shm_plain.specs.Calls.{Did, IsAtWork, Ran};
 ghost use Rattle.shm_plain.specs.Tracks.{kind_next};
@@ -32,9 +31,8 @@ pub fn join(pool: &mut PlainPool, who: u8, life: &mut Life) -> bool
     requires status { ((memo_of pool.old who).status ≡ status.New) ⊎ ((memo_of pool.old who).status ≡ status.Gone) }
     requires agent { MayStep pool.old who }
     ensures gives { result ≡ true → JoinGives (join_fresh (record { geometry = pool.old.start.geometry; who = who })) (memo_of (readied pool.old who) who) (memo_of pool.new who) (memo_of pool.new who).call tt }
-    ensures idle { result ≡ true → IsIdle who (memo_of pool.new who) }
-    ensures acts { result ≡ true → acts (memo_of pool.new who) ≡ true }
-    ensures at_work { result ≡ true → acts (memo_of pool.old who) ≡ false → kind_next (memo_of pool.old who) ≡ Client → IsAtWork who pool.new }
+    ensures at_work { result ≡ true → IsAtWork who pool.new }
+    ensures client { result ≡ true → acts (memo_of pool.old who) ≡ false → kind_next (memo_of pool.old who) ≡ Client → recovers (memo_of pool.new who) ≡ false }
     ensures spent { result ≡ true → life.new.left + 1 ≡ life.old.left }
     ensures ran { Ran who true result pool.old pool.new life.old.left life.new.left }
     ensures events { result ≡ true → Did who pool.old pool.new [] }
@@ -67,6 +65,7 @@ pub fn allocate(
     ensures loose { IfOk result (λ o. IfSome o (λ a. is_loose (memo_of pool.new who).part ≡ is_loose (memo_of pool.old who).part)) }
     ensures reached { IfOk result (λ o. IfSome o (λ a. AreRootsReached who (memo_of pool.new who))) }
     ensures at_work { IfOk result (λ o. IfSome o (λ a. IsAtWork who pool.new)) }
+    ensures kind { IfOk result (λ o. IfSome o (λ a. recovers (memo_of pool.new who) ≡ recovers (memo_of pool.old who))) }
     ensures ran { IfOk result (λ o. Ran who true (is_some o) pool.old pool.new life.old.left life.new.left) }
     ensures events { IfOk result (λ o. IfSome o (λ a. Did who pool.old pool.new (own_events (member pool.old.start.geometry who) a))) }
 {

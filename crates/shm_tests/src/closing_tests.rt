@@ -1,7 +1,8 @@
-//! A pool that two identities join and leave, and that is closed then.
+//! Pools that are closed: one that two identities join and leave, and one that nobody joined.
 
 use crate::{join, joined, leave};
 use shm_graph::Life;
+use shm_plain::PlainPool;
 use shm_words::Geometry;
 use std::test::Fail;
 
@@ -25,5 +26,21 @@ fn a_pool_is_closed(rt: HostRuntime) -> Result<(), Fail> {
         assert_eq!(rt; closed.words().get(at), Some(&expected), "{at}");
     }
     assert_eq!(rt; closed.words().iter().filter(|word| **word != 0).count(), 4);
+    Ok(())
+}
+
+#[test]
+fn a_pool_that_nobody_joined_is_closed(rt: HostRuntime) -> Result<(), Fail> {
+    let geometry = Geometry::new(3, 2)?;
+    let pool = PlainPool::make(rt.alloc(), geometry, 9, true)?;
+    assert!(rt; pool.is_still());
+    let closed = pool.close();
+    assert_eq!(rt; closed.geometry(), geometry);
+    assert_eq!(rt; closed.words().len(), 4293);
+    // the own eras of the three identities
+    for at in [16usize, 20, 24] {
+        assert_eq!(rt; closed.words().get(at), Some(&9), "{at}");
+    }
+    assert_eq!(rt; closed.words().iter().filter(|word| **word != 0).count(), 3);
     Ok(())
 }

@@ -1,9 +1,10 @@
 //! Count steps at the roots of an identity, on a pool.
 
-ghost use Rattle.std.specs.Prelude.{◌≡◌, ◌≢◌, ℕ, ◌<◌, true, [], ◌∷◌, IfOk, IfErr, IfSome};
+ghost use Rattle.std.specs.Prelude.{◌≡◌, ◌≢◌, ℕ, ◌<◌, false, true, [], ◌∷◌, IfOk, IfErr, IfSome};
 ghost use Rattle.std.specs.Option.{is_some};
 ghost use Rattle.std.specs.List.{Contains};
 ghost use Rattle.shm_graph.specs.declared.spot.Spot.TheVariants.{Root};
+ghost use Rattle.shm_graph.specs.Agents.{recovers};
 ghost use Rattle.shm_graph.specs.Events.{Up, Down, ChangeUp, ChangeDown};
 ghost use Rattle.shm_graph.specs.Held.{is_loose};
 ghost use Rattle.shm_graph.specs.Reach.{is_reached};
@@ -28,6 +29,7 @@ pub fn raise(
     life: &mut Life,
 ) -> Option<Result<(), UpFault>>
     requires at_work { IsAtWork who pool.old }
+    requires client { recovers (memo_of pool.old who) ≡ false }
     requires root { root < 16 }
     requires empty { root_word who (memo_of pool.old who) root ≡ 0 }
     requires reached { is_reached who (memo_of pool.old who) block ≡ true }
@@ -39,6 +41,7 @@ pub fn raise(
     ensures loose { IfSome result (λ a. is_loose (memo_of pool.new who).part ≡ is_loose (memo_of pool.old who).part) }
     ensures reached { IfSome result (λ a. AreRootsReached who (memo_of pool.new who)) }
     ensures at_work { IfSome result (λ a. IsAtWork who pool.new) }
+    ensures kind { IfSome result (λ a. recovers (memo_of pool.new who) ≡ recovers (memo_of pool.old who)) }
     ensures ran { Ran who true (is_some result) pool.old pool.new life.old.left life.new.left }
     ensures events { IfSome result (λ a. Did who pool.old pool.new (if_done a (Up who (Root who root) block ∷ []))) }
 {
@@ -67,6 +70,7 @@ pub fn lower(
     ensures loose { IfSome result (λ a. is_loose (memo_of pool.new who).part ≡ is_loose (memo_of pool.old who).part) }
     ensures reached { IfSome result (λ a. AreRootsReached who (memo_of pool.new who)) }
     ensures at_work { IfSome result (λ a. IsAtWork who pool.new) }
+    ensures kind { IfSome result (λ a. recovers (memo_of pool.new who) ≡ recovers (memo_of pool.old who)) }
     ensures ran { Ran who true (is_some result) pool.old pool.new life.old.left life.new.left }
     ensures events { IfSome result (λ a. Did who pool.old pool.new (if_done a (Down who (Root who root) block ∷ []))) }
 {
@@ -85,6 +89,7 @@ pub fn change(
     life: &mut Life,
 ) -> Option<Result<bool, UpFault>>
     requires at_work { IsAtWork who pool.old }
+    requires client { recovers (memo_of pool.old who) ≡ false }
     requires root { root < 16 }
     requires holds { root_word who (memo_of pool.old who) root ≡ before }
     requires other { before ≢ after }
@@ -99,6 +104,7 @@ pub fn change(
     ensures loose { IfSome result (λ a. is_loose (memo_of pool.new who).part ≡ is_loose (memo_of pool.old who).part) }
     ensures reached { IfSome result (λ a. AreRootsReached who (memo_of pool.new who)) }
     ensures at_work { IfSome result (λ a. IsAtWork who pool.new) }
+    ensures kind { IfSome result (λ a. recovers (memo_of pool.new who) ≡ recovers (memo_of pool.old who)) }
     ensures ran { Ran who true (is_some result) pool.old pool.new life.old.left life.new.left }
     ensures events { IfSome result (λ a. Did who pool.old pool.new (if_done a (ChangeUp who (Root who root) before after ∷ ChangeDown who before ∷ []))) }
 {

@@ -4,7 +4,7 @@ ghost use Rattle.std.specs.Prelude.{◌≡◌, ◌≢◌, ℕ, ◌+◌, ◌<◌,
 ghost use Rattle.shm_words.specs.Layout.{GeometryFits};
 ghost use Rattle.shm_graph.specs.declared.spot.Spot.TheVariants.{Era, Root};
 ghost use Rattle.shm_graph.specs.declared.memo.Kind.TheVariants.{Client};
-ghost use Rattle.shm_graph.specs.Agents.{entered};
+ghost use Rattle.shm_graph.specs.Agents.{entered, recovers};
 ghost use Rattle.shm_graph.specs.Held.{is_loose};
 ghost use Rattle.shm_graph.specs.Runs.{EraFits, first_memo};
 ghost use Rattle.shm_graph.specs.Views.{own_word};
@@ -40,6 +40,7 @@ pub fn joined(
     ensures spent { IfOk result (λ o. IfSome o (λ p. life.new.left + 1 ≡ life.old.left)) }
     ensures run { IfOk result (λ o. IfSome o IsRun) }
     ensures at_work { IfOk result (λ o. IfSome o (λ p. IsAtWork who p)) }
+    ensures client { IfOk result (λ o. IfSome o (λ p. recovers (memo_of p who) ≡ false)) }
     ensures ran { IfOk result (λ o. IfSome o (λ p. Ran who true true (first_pool p.start) p life.old.left life.new.left)) }
     ensures events { IfOk result (λ o. IfSome o (λ p. Did who (first_pool p.start) p [])) }
 {

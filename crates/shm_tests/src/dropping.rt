@@ -2,6 +2,7 @@
 
 ghost use Rattle.std.specs.Prelude.{◌≡◌, ◌≢◌, ◌==◌, ℕ, ◌<◌, true, not, List, IfOk, IfSome};
 ghost use Rattle.std.specs.Option.{is_some};
+ghost use Rattle.shm_graph.specs.Agents.{recovers};
 ghost use Rattle.shm_graph.specs.Events.{Event};
 ghost use Rattle.shm_graph.specs.Held.{is_loose};
 ghost use Rattle.shm_plain.specs.Pools.{memo_of};
@@ -35,6 +36,7 @@ pub fn drop_root(
     ensures loose { IfSome result (λ a. is_loose (memo_of pool.new who).part ≡ is_loose (memo_of pool.old who).part) }
     ensures reached { IfSome result (λ a. AreRootsReached who (memo_of pool.new who)) }
     ensures at_work { IfSome result (λ a. IsAtWork who pool.new) }
+    ensures kind { IfSome result (λ a. recovers (memo_of pool.new who) ≡ recovers (memo_of pool.old who)) }
     ensures ran { Ran who true (is_some result) pool.old pool.new life.old.left life.new.left }
     ensures events { IfSome result (λ a. (es : List Event) × Did who pool.old pool.new es × DropLeaves (dropping (member pool.old.start.geometry who) root) (memo_of pool.old who) (memo_of pool.new who) (memo_of pool.new who).call es a) }
 {

@@ -2,6 +2,7 @@
 
 ghost use Rattle.std.specs.Prelude.{◌≡◌, ◌≢◌, ℕ, ◌<◌, true, [], None, Some, IfOk, IfErr, IfSome};
 ghost use Rattle.std.specs.Option.{is_some};
+ghost use Rattle.shm_graph.specs.Agents.{recovers};
 ghost use Rattle.shm_graph.specs.Core.{core};
 ghost use Rattle.shm_graph.specs.Held.{is_loose};
 ghost use Rattle.shm_graph.specs.Reach.{is_reached};
@@ -31,6 +32,7 @@ pub fn hold(pool: &mut PlainPool, who: u8, author: u8, life: &mut Life) -> Optio
     ensures reaches { IfSome result (λ a. (b : ℕ) → is_reached who (memo_of pool.new who) b ≡ is_reached who (memo_of pool.old who) b) }
     ensures loose { IfSome result (λ a. is_loose (memo_of pool.new who).part ≡ is_loose (memo_of pool.old who).part) }
     ensures at_work { IfSome result (λ a. IsAtWork who pool.new) }
+    ensures kind { IfSome result (λ a. recovers (memo_of pool.new who) ≡ recovers (memo_of pool.old who)) }
     ensures ran { Ran who true (is_some result) pool.old pool.new life.old.left life.new.left }
     ensures events { IfSome result (λ a. Did who pool.old pool.new []) }
 {
@@ -50,6 +52,7 @@ pub fn release(pool: &mut PlainPool, who: u8, life: &mut Life) -> Option<()>
     ensures loose { IfSome result (λ a. is_loose (memo_of pool.new who).part ≡ is_loose (memo_of pool.old who).part) }
     ensures reached { IfSome result (λ a. AreRootsReached who (memo_of pool.new who)) }
     ensures at_work { IfSome result (λ a. IsAtWork who pool.new) }
+    ensures kind { IfSome result (λ a. recovers (memo_of pool.new who) ≡ recovers (memo_of pool.old who)) }
     ensures ran { Ran who true (is_some result) pool.old pool.new life.old.left life.new.left }
     ensures events { IfSome result (λ a. Did who pool.old pool.new []) }
 {
@@ -75,6 +78,7 @@ pub fn home_of(
     ensures stays { IfSome result (λ a. (b : ℕ) → is_reached who (memo_of pool.old who) b ≡ true → is_reached who (memo_of pool.new who) b ≡ true) }
     ensures loose { IfSome result (λ a. is_loose (memo_of pool.new who).part ≡ is_loose (memo_of pool.old who).part) }
     ensures at_work { IfSome result (λ a. IsAtWork who pool.new) }
+    ensures kind { IfSome result (λ a. recovers (memo_of pool.new who) ≡ recovers (memo_of pool.old who)) }
     ensures ran { Ran who true (is_some result) pool.old pool.new life.old.left life.new.left }
     ensures events { IfSome result (λ a. Did who pool.old pool.new []) }
 {
@@ -91,6 +95,7 @@ pub fn root_of(pool: &mut PlainPool, who: u8, root: u8, life: &mut Life) -> Opti
     ensures names { IfSome result (λ b. b ≡ root_word who (memo_of pool.old who) root) }
     ensures same { IfSome result (λ b. core (memo_of pool.new who) ≡ core (memo_of pool.old who)) }
     ensures at_work { IfSome result (λ b. IsAtWork who pool.new) }
+    ensures kind { IfSome result (λ b. recovers (memo_of pool.new who) ≡ recovers (memo_of pool.old who)) }
     ensures ran { Ran who true (is_some result) pool.old pool.new life.old.left life.new.left }
     ensures events { IfSome result (λ b. Did who pool.old pool.new []) }
 {
@@ -114,6 +119,7 @@ pub fn read(
     ensures stays { IfSome result (λ a. (b : ℕ) → is_reached who (memo_of pool.old who) b ≡ true → is_reached who (memo_of pool.new who) b ≡ true) }
     ensures loose { IfSome result (λ a. is_loose (memo_of pool.new who).part ≡ is_loose (memo_of pool.old who).part) }
     ensures at_work { IfSome result (λ a. IsAtWork who pool.new) }
+    ensures kind { IfSome result (λ a. recovers (memo_of pool.new who) ≡ recovers (memo_of pool.old who)) }
     ensures ran { Ran who true (is_some result) pool.old pool.new life.old.left life.new.left }
     ensures events { IfSome result (λ a. Did who pool.old pool.new []) }
 {
@@ -138,6 +144,7 @@ pub fn look(
     ensures stays { IfSome result (λ a. (b : ℕ) → is_reached who (memo_of pool.old who) b ≡ true → is_reached who (memo_of pool.new who) b ≡ true) }
     ensures loose { IfSome result (λ a. is_loose (memo_of pool.new who).part ≡ is_loose (memo_of pool.old who).part) }
     ensures at_work { IfSome result (λ a. IsAtWork who pool.new) }
+    ensures kind { IfSome result (λ a. recovers (memo_of pool.new who) ≡ recovers (memo_of pool.old who)) }
     ensures ran { Ran who true (is_some result) pool.old pool.new life.old.left life.new.left }
     ensures events { IfSome result (λ a. Did who pool.old pool.new []) }
 {

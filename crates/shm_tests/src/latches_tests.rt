@@ -1,11 +1,12 @@
 //! What is answered under latches on a pool, and which words that leaves, as an independent implementation has them.
 
 use crate::{
-    allocate, drop_root, hold, home_of, join, joined, look, read, release, root_of, set_home, share,
+    allocate, drop_root, hold, home_of, join, joined, look, read, release, root_of, set_home,
+    set_ref, share,
 };
 use shm_count::Made;
 use shm_graph::Life;
-use shm_ref::{Busy, HomeFault, LookFault, NoSuchWord, NotHeld};
+use shm_ref::{Busy, HomeFault, LookFault, NoSuchWord, NotHeld, SetFault};
 use shm_words::Geometry;
 use std::test::Fail;
 
@@ -90,6 +91,11 @@ fn a_block_that_another_client_finds(rt: HostRuntime) -> Result<(), Fail> {
         panic!(rt; "no step was left")
     };
     assert_eq!(rt; named, Err(LookFault::NoSuchRef { refs: 0 }));
+    let Some(Err(SetFault::NotAuthor { author })) = set_ref(&mut pool, 1, found, 0, 0, &mut life)
+    else {
+        panic!(rt; "the block of another is set")
+    };
+    assert_eq!(rt; author, 0);
     let Some(Ok(root)) = share(&mut pool, 1, found, &mut life) else {
         panic!(rt; "no root")
     };

@@ -20,8 +20,8 @@ pub use dropping::drop_root;
 pub use joining::{Stepped, step_join};
 pub use latches::{hold, home_of, look, read, release, root_of};
 pub use leaving::leave;
-pub use queues::{drain, receive, send};
-pub use setting::set_home;
+pub use queues::{drain, peek, receive, send, take};
+pub use setting::{set_home, set_ref};
 pub use sharing::share;
 pub use tearing::tear_down;
 
@@ -34,9 +34,15 @@ mod counting_tests;
 #[cfg(test)]
 mod dropping_tests;
 #[cfg(test)]
+mod items_tests;
+#[cfg(test)]
 mod latches_tests;
 #[cfg(test)]
 mod queues_tests;
+#[cfg(test)]
+mod rounds_tests;
+#[cfg(test)]
+mod setting_tests;
 #[cfg(test)]
 mod sharing_tests;
 #[cfg(test)]

@@ -17,7 +17,11 @@ use std::process::Abort;
 use std::test::Fail;
 
 /// A pool that 0 and 1 have joined, in which root 0 of 0 names a block.
-fn two_clients(rt: &impl Abort, alloc: Global, life: &mut Life) -> Result<PlainPool, Fail>
+pub(crate) fn two_clients(
+    rt: &impl Abort,
+    alloc: Global,
+    life: &mut Life,
+) -> Result<PlainPool, Fail>
     ensures sender { IfOk result (λ p. IsReady 0 p) }
     ensures receiver { IfOk result (λ p. IsReady 1 p) }
     ensures root { IfOk result (λ p. root_word 0 (memo_of p 0) 0 ≡ 104) }

@@ -1,7 +1,8 @@
 //! Shares of blocks on a pool.
 
-ghost use Rattle.std.specs.Prelude.{◌≡◌, ℕ, ◌<◌, ◌^◌, true, List, IfOk, IfSome};
+ghost use Rattle.std.specs.Prelude.{◌≡◌, ℕ, ◌<◌, ◌^◌, false, true, List, IfOk, IfSome};
 ghost use Rattle.std.specs.Option.{is_some};
+ghost use Rattle.shm_graph.specs.Agents.{recovers};
 ghost use Rattle.shm_graph.specs.Events.{Event};
 ghost use Rattle.shm_graph.specs.Reach.{is_reached};
 ghost use Rattle.shm_plain.specs.Pools.{memo_of};
@@ -23,6 +24,7 @@ pub fn share(
     life: &mut Life,
 ) -> Option<Result<u8, ShareFault>>
     requires at_work { IsAtWork who pool.old }
+    requires client { recovers (memo_of pool.old who) ≡ false }
     requires block { block < 2 ^ 20 }
     requires reached { is_reached who (memo_of pool.old who) block ≡ true }
     ensures gives { IfSome result (λ a. ShareGives (member pool.old.start.geometry who) block (memo_of pool.old who) (memo_of pool.new who) (memo_of pool.new who).call a) }
@@ -30,6 +32,7 @@ pub fn share(
     ensures named { IfSome result (λ a. IfOk a (λ k. root_word who (memo_of pool.new who) k ≡ block)) }
     ensures reached { IfSome result (λ a. AreRootsReached who (memo_of pool.new who)) }
     ensures at_work { IfSome result (λ a. IsAtWork who pool.new) }
+    ensures kind { IfSome result (λ a. recovers (memo_of pool.new who) ≡ recovers (memo_of pool.old who)) }
     ensures ran { Ran who true (is_some result) pool.old pool.new life.old.left life.new.left }
     ensures events { IfSome result (λ a. (es : List Event) × Did who pool.old pool.new es × UpRootLeaves (member pool.old.start.geometry who) block (memo_of pool.old who) (memo_of pool.new who) (memo_of pool.new who).call es a) }
 {

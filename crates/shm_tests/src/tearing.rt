@@ -3,6 +3,7 @@
 ghost use Rattle.std.specs.Prelude.{◌≡◌, ℕ, true, List, IfOk, IfSome};
 ghost use Rattle.std.specs.Option.{is_some};
 ghost use Rattle.std.specs.List.{Contains, filter};
+ghost use Rattle.shm_graph.specs.Agents.{recovers};
 ghost use Rattle.shm_graph.specs.Events.{Event};
 ghost use Rattle.shm_graph.specs.Stores.{not_block};
 ghost use Rattle.shm_plain.specs.Pools.{memo_of};
@@ -27,6 +28,7 @@ pub fn tear_down(
     ensures freed { IfSome result (λ a. IfOk a (λ u. (memo_of pool.new who).dying ≡ filter (not_block block) (memo_of pool.old who).dying)) }
     ensures roots { IfSome result (λ a. (k : ℕ) → root_word who (memo_of pool.new who) k ≡ root_word who (memo_of pool.old who) k) }
     ensures at_work { IfSome result (λ a. IsAtWork who pool.new) }
+    ensures kind { IfSome result (λ a. recovers (memo_of pool.new who) ≡ recovers (memo_of pool.old who)) }
     ensures ran { Ran who true (is_some result) pool.old pool.new life.old.left life.new.left }
     ensures events { IfSome result (λ a. (es : List Event) × Did who pool.old pool.new es × TearLeaves (member pool.old.start.geometry who) block (memo_of pool.old who) (memo_of pool.new who) es (memo_of pool.new who).call a) }
 {

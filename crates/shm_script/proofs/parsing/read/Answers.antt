@@ -15,8 +15,8 @@ returns-in_err-take c =
 
 pub loop-line-preserved : goal.loop-line-preserved
 loop-line-preserved c = record {
-  read = take_goes c.loop-line.draft c.loop-line.at c.in-Some.line.now c.loop-line.rest.now c.in-Some.others.now (reading draft_none 1 (slice_split (λ b. b == 10) c.args.bytes.now)) c.in-Some.ensures.lines c.loop-line.invariant.read c.take.new.self c.in_ok-take.ensures.ok;
-  small = omega (arith, c.in-Some.ensures.less, c.loop-line.invariant.small);
+  read = c.in_ok-at.ensures.read ∙ take_goes c.loop-line.draft c.loop-line.at c.in-Some.line.now c.loop-line.rest.now c.in-Some.others.now (reading draft_none 1 (slice_split (λ b. b == 10) c.args.bytes.now)) c.in-Some.ensures.lines c.loop-line.invariant.read c.take.new.self c.in_ok-take.ensures.ok;
+  small = omega (arith, c.in_ok-at.ensures.small.0, c.in-Some.ensures.less, c.loop-line.invariant.small);
 }
 
 pub returns-then-not-may_end : goal.returns-then-not-may_end

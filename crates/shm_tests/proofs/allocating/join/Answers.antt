@@ -63,26 +63,24 @@ pub returns-clause-ran : goal.returns-clause-ran
 returns-clause-ran c =
     subst (λ (b : Bool). Ran c.args.who true b c.args.pool.now c.call.new.self c.args.life.now.left c.call.new.life.left) (sym c.is_some.ensures) (ran (goal.at.returns-clause-ran c).After-call)
 
-pub returns-clause-idle : goal.returns-clause-idle
-returns-clause-idle c e = (returns-clause-gives c e).idle
-
-pub returns-clause-acts : goal.returns-clause-acts
-returns-clause-acts c e = (returns-clause-ran c).acts e (λ g. let live : Live ≡ Gone = sym (returns-clause-idle c e).live ∙ g in absurd (cc))
-
 pub returns-clause-at_work : goal.returns-clause-at_work
-returns-clause-at_work c e none kind =
-    let p = c.args.pool.now in
+returns-clause-at_work c e =
     let n = returns-clause-ran c in
-    let long : c.args.who < length p.accounts = subst (λ n. c.args.who < n) (sym c.geometry.ensures.run.held.accounts) c.requires.who in
-    let m : Memo = memo_of p c.args.who in
+    let idle = (returns-clause-gives c e).idle in
     record {
       geometry = subst (λ (s : Start). GeometryFits s.geometry) (sym n.start) c.requires.geometry;
       who = subst (λ (s : Start). c.args.who < s.geometry.clients) (sym n.start) c.requires.who;
-      idle = returns-clause-idle c e;
-      acts = returns-clause-acts c e;
-      client = n.kind e ∙ (ap recovers (ready_memo p c.args.who long)
-          ∙ (ap (λ (b : Bool). recovers (cond b m (entered (kind_next m) m))) none ∙ (recovers-entered (kind_next m) m ∙ ap is_recoverer kind)));
+      idle = idle;
+      acts = n.acts e (λ g. let live : Live ≡ Gone = sym idle.live ∙ g in absurd (cc));
     }
+
+pub returns-clause-client : goal.returns-clause-client
+returns-clause-client c e none kind =
+    let p = c.args.pool.now in
+    let long : c.args.who < length p.accounts = subst (λ n. c.args.who < n) (sym c.geometry.ensures.run.held.accounts) c.requires.who in
+    let m : Memo = memo_of p c.args.who in
+    (returns-clause-ran c).kind e ∙ (ap recovers (ready_memo p c.args.who long)
+    ∙ (ap (λ (b : Bool). recovers (cond b m (entered (kind_next m) m))) none ∙ (recovers-entered (kind_next m) m ∙ ap is_recoverer kind)))
 
 pub returns-clause-spent : goal.returns-clause-spent
 returns-clause-spent c e =

@@ -1,36 +1,21 @@
-use Rattle.std.proofs.Common.{◌≡◌, ◌^◌, ◌<◌, Bool, true, refl, sym, ap, ◌∙◌, subst, List, [], ◌∷◌, Result}
-use Rattle.std.specs.Prelude.{Ok, Err, IfOk, IfSome}
+use Rattle.std.proofs.Common.{◌≡◌, ◌^◌, ◌<◌, true, refl, sym, ap, ◌∙◌, subst, []}
+use Rattle.std.specs.Prelude.{IfOk}
 use Rattle.std.specs.List.{Contains}
-use Rattle.std.specs.Option.{is_some}
 use Rattle.shm_words.specs.declared.geometry.Geometry.{Geometry}
 use Rattle.shm_words.specs.declared.place.Place.TheVariants as place
 use Rattle.shm_words.specs.Layout.{address}
 use Rattle.shm_graph.specs.declared.memo.Memo.{Memo}
 use Rattle.shm_graph.specs.declared.spot.Spot.TheVariants.{Root}
-use Rattle.shm_graph.specs.Events.{Event}
-use Rattle.shm_graph.specs.Events as event
-use Rattle.shm_graph.specs.Mapped.{MappedGives}
-use Rattle.shm_graph.specs.Whole.{fits_now}
-use Rattle.shm_plain.specs.Pools.{memo_of, readied}
-use Rattle.shm_plain.specs.Calls.{Did, Ran}
-use Rattle.shm_plain.proofs.Calling.{fits_acting}
-use Rattle.shm_calls.specs.CallTells.{mapped_events}
-use Rattle.shm_count.specs.declared.answer.EraSpent.{EraSpent}
+use Rattle.shm_plain.specs.Pools.{memo_of}
 use Rattle.shm_count.specs.declared.point.Aim.TheVariants.{Down}
 use Rattle.shm_count.specs.declared.point.StepPoint.TheVariants.{Era}
 use Rattle.shm_count.specs.declared.point.StepState.{StepState}
 use Rattle.shm_count.specs.Roots.{member, root_step}
-use Rattle.shm_count.specs.StepControl.{step_control}
-use Rattle.shm_count.specs.StepEvents.{own_events, step_event}
-use Rattle.shm_count.specs.StepFits.{StepFits, StepGives}
-use Rattle.shm_count.specs.StepMachines.{DownFits, DownGives, down_answer, down_control, down_means, down_told}
-use Rattle.shm_count.specs.StepTells.{step_tells}
-use Rattle.shm_tests.specs.Answers.{if_done}
-use Rattle.shm_tests.proofs.Answering.{some_map}
-use Rattle.shm_tests.proofs.Called.{Called, ran_fresh, told_by, works}
-use Rattle.shm_tests.proofs.RootAnswers.{down_dying, down_left}
-use Rattle.shm_tests.proofs.RootCalls.{Left, RootLeft, down_fits, root_left, root_small}
-use Rattle.shm_tests.proofs.RootEvents.{events_at_slot, told_laws}
+use Rattle.shm_count.specs.StepFits.{StepFits}
+use Rattle.shm_count.specs.StepMachines.{DownFits, DownGives, down_control}
+use Rattle.shm_tests.proofs.RootAnswers.{down_dying}
+use Rattle.shm_tests.proofs.RootCalls.{down_fits, root_small}
+use Rattle.shm_tests.proofs.RootSteps.{RootStep, lowering, root_stepped, step_fits}
 use Rattle.shm_tests.proofs.counting.lower.Goals.{After-new-down, After-call}
 use Rattle.shm_tests.proofs.counting.lower.Goals as goal
 
@@ -57,93 +42,50 @@ state c =
 fit : (c : After-new-down) → let r : Memo = memo_of c.args.pool.now c.args.who in StepFits (Root c.args.who c.args.root) (machine c) r r []
 fit c = down_fits c.args.pool.now c.args.who c.args.root c.requires.root c.requires.at_work c.args.block c.requires.holds c.requires.inside
 
-fits : (c : After-new-down) → fits_now down_control DownFits (machine c) (memo_of c.args.pool.now c.args.who) (memo_of (readied c.args.pool.now c.args.who) c.args.who)
-fits c = fits_acting down_control DownFits DownGives c.args.who c.args.pool.now (machine c) c.requires.at_work.acts refl (refl, (Root c.args.who c.args.root, fit c))
-
 pub call-requires-clause-fits : goal.call-requires-clause-fits
 call-requires-clause-fits c =
     let at = (goal.at.call-requires-clause-fits c).After-new-down in
-    let r : Memo = memo_of c.args.pool.now c.args.who in
-    (r, subst (λ (m : StepState). fits_now down_control DownFits m r (memo_of (readied c.args.pool.now c.args.who) c.args.who)) (sym (state at)) (fits at))
+    step_fits down_control DownFits DownGives lowering c.args.pool.now c.geometry-geometry.ensures.run c.args.who c.args.root c.requires.root c.requires.at_work (Down c.args.block) (fit at) (refl, (Root c.args.who c.args.root, fit at)) c.new-down.result (state at)
 
--- what the call says of the step
-called : (c : After-call) → let at = (goal.at.After-call c).After-new-down in Called down_control DownFits DownGives c.args.who c.args.pool.now (machine at) c.call.new.self c.args.life.now.left c.call.new.life.left c.call.result
-called c =
+-- what the call leaves
+stepped : (c : After-call) → RootStep down_control DownGives c.args.who c.args.root (Down c.args.block) c.args.pool.now c.call.new.self c.args.life.now.left c.call.new.life.left c.call.result
+stepped c =
     let at = (goal.at.After-call c).After-new-down in
-    subst (λ (m : StepState). Called down_control DownFits DownGives c.args.who c.args.pool.now m c.call.new.self c.args.life.now.left c.call.new.life.left c.call.result) (state at)
-    (record { gave = c.call.ensures.gives; ran = c.call.ensures.ran; took = c.call.ensures.took; events = c.call.ensures.events })
-
-ran : (c : After-call) → Ran c.args.who true (is_some c.call.result) c.args.pool.now c.call.new.self c.args.life.now.left c.call.new.life.left
-ran c = ran_fresh down_control DownFits DownGives c.args.who c.args.pool.now (machine (goal.at.After-call c).After-new-down) c.call.new.self c.args.life.now.left c.call.new.life.left c.call.result (called c) refl
-
-abbrev Gave : (c : After-call) → Result Bool EraSpent → Type 0
-Gave c a = let r : Memo = memo_of c.call.new.self c.args.who in DownGives (machine (goal.at.After-call c).After-new-down) (memo_of c.args.pool.now c.args.who) r r.call a
-
-gave : (c : After-call) → IfSome c.call.result (Gave c)
-gave c = (called c).gave (memo_of c.args.pool.now c.args.who) (fits (goal.at.After-call c).After-new-down)
-
--- what is left
-left : (c : After-call) → RootLeft c.args.who c.args.root 0 (memo_of c.args.pool.now c.args.who) (memo_of c.call.new.self c.args.who) c.call.result
-left c =
-    let p = c.args.pool.now in
-    let q = c.call.new.self in
-    let w = c.requires.at_work in
-    let n = ran c in
-    root_left p q c.geometry-geometry.ensures.run c.args.who c.args.root c.requires.root w c.args.life.now.left c.call.new.life.left c.call.result n 0
-    (some_map (Gave c) (Left p q c.geometry-geometry.ensures.run c.args.who c.args.root c.requires.root w c.args.life.now.left c.call.new.life.left c.call.result n 0) c.call.result
-    (down_left p q c.geometry-geometry.ensures.run n.run n.start c.args.who c.args.root w.who c.requires.root w.idle c.args.block) (gave c))
+    root_stepped down_control DownFits DownGives lowering c.args.pool.now c.geometry-geometry.ensures.run c.args.who c.args.root c.requires.root c.requires.at_work (Down c.args.block) (fit at) (refl, (Root c.args.who c.args.root, fit at)) c.new-down.result (state at)
+    c.call.new.self c.args.life.now.left c.call.new.life.left c.call.result (record { gave = c.call.ensures.gives; ran = c.call.ensures.ran; took = c.call.ensures.took; events = c.call.ensures.events })
 
 pub returns-clause-gives : goal.returns-clause-gives
-returns-clause-gives c = gave (goal.at.returns-clause-gives c).After-call
+returns-clause-gives c = (stepped (goal.at.returns-clause-gives c).After-call).step.gives
 
 pub returns-clause-emptied : goal.returns-clause-emptied
-returns-clause-emptied c = (left (goal.at.returns-clause-emptied c).After-call).root
+returns-clause-emptied c = (stepped (goal.at.returns-clause-emptied c).After-call).root
 
 pub returns-clause-roots : goal.returns-clause-roots
-returns-clause-roots c = (left (goal.at.returns-clause-roots c).After-call).others
+returns-clause-roots c = (stepped (goal.at.returns-clause-roots c).After-call).others
 
 pub returns-clause-dying : goal.returns-clause-dying
 returns-clause-dying c =
-    let at = (goal.at.returns-clause-dying c).After-call in
-    let n = ran at in
-    some_map (Gave at) (λ (a : Result Bool EraSpent). IfOk a (λ z. z ≡ true → Contains (memo_of c.call.new.self c.args.who).dying c.args.block)) c.call.result
-    (down_dying c.args.pool.now c.call.new.self c.geometry-geometry.ensures.run n.run n.start c.args.who c.args.root c.requires.at_work.who c.requires.root c.requires.at_work.idle c.args.block) (gave at)
+    let left = (stepped (goal.at.returns-clause-dying c).After-call).step in
+    left.follows (λ a. IfOk a (λ z. z ≡ true → Contains (memo_of c.call.new.self c.args.who).dying c.args.block))
+    (down_dying c.args.pool.now c.call.new.self c.geometry-geometry.ensures.run left.ran.run left.ran.start c.args.who c.args.root c.requires.at_work.who c.requires.root c.requires.at_work.idle c.args.block)
 
 pub returns-clause-refused : goal.returns-clause-refused
-returns-clause-refused c = (left (goal.at.returns-clause-refused c).After-call).same
+returns-clause-refused c = (stepped (goal.at.returns-clause-refused c).After-call).same
 
 pub returns-clause-loose : goal.returns-clause-loose
-returns-clause-loose c = (left (goal.at.returns-clause-loose c).After-call).loose
+returns-clause-loose c = (stepped (goal.at.returns-clause-loose c).After-call).loose
 
 pub returns-clause-reached : goal.returns-clause-reached
-returns-clause-reached c = (left (goal.at.returns-clause-reached c).After-call).reached
+returns-clause-reached c = (stepped (goal.at.returns-clause-reached c).After-call).reached
 
 pub returns-clause-at_work : goal.returns-clause-at_work
-returns-clause-at_work c =
-    let at = (goal.at.returns-clause-at_work c).After-call in
-    works down_control DownFits DownGives c.args.who c.args.pool.now (machine (goal.at.After-call at).After-new-down) c.call.new.self c.args.life.now.left c.call.new.life.left c.call.result (called at) refl c.requires.at_work (left at).idle
+returns-clause-at_work c = (stepped (goal.at.returns-clause-at_work c).After-call).works
+
+pub returns-clause-kind : goal.returns-clause-kind
+returns-clause-kind c = (stepped (goal.at.returns-clause-kind c).After-call).step.kind
 
 pub returns-clause-ran : goal.returns-clause-ran
-returns-clause-ran c = ran (goal.at.returns-clause-ran c).After-call
-
--- the events by the answer
-abbrev events : (c : After-call) → List Event
-events c = event.Down c.args.who (Root c.args.who c.args.root) c.args.block ∷ []
-
-done : (c : After-call) (a : Result Bool EraSpent) → own_events (member c.args.pool.now.start.geometry c.args.who) (Down c.args.block) (Root c.args.who c.args.root) (down_told a) ≡ if_done a (events c)
-done c (Ok z) = refl
-done c (Err e) = refl
+returns-clause-ran c = (stepped (goal.at.returns-clause-ran c).After-call).step.ran
 
 pub returns-clause-events : goal.returns-clause-events
-returns-clause-events c =
-    let at = (goal.at.returns-clause-events c).After-call in
-    let m : StepState = machine (goal.at.After-call at).After-new-down in
-    let p = c.args.pool.now in
-    let q = c.call.new.self in
-    let r0 : Memo = memo_of p c.args.who in
-    let r : Memo = memo_of q c.args.who in
-    let s = Root c.args.who c.args.root in
-    told_by down_control DownFits DownGives c.args.who p m q c.args.life.now.left c.call.new.life.left c.call.result (called at) refl
-    (StepFits s) (MappedGives down_answer (StepGives s)) (told_laws down_answer s) (step_event s) (step_tells s) c.geometry-geometry.ensures.run (refl, c.requires.at_work.who, refl) c.requires.at_work.acts (fit (goal.at.After-call at).After-new-down)
-    (Gave at) (λ a. Did c.args.who p q (if_done a (events at))) (gave at)
-    (λ a g d. let y = down_means m r0 r r.call a g in subst (λ (es : List Event). Did c.args.who p q es) (mapped_events down_answer step_control (step_event s) m r.call ∙ events_at_slot y.0 s m r0 r r.call (down_told a) refl y.1 ∙ done at a) d)
+returns-clause-events c = (stepped (goal.at.returns-clause-events c).After-call).events

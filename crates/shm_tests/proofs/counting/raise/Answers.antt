@@ -1,35 +1,18 @@
-use Rattle.std.proofs.Common.{◌≡◌, ◌^◌, ◌<◌, true, refl, sym, ap, ◌∙◌, subst, List, [], ◌∷◌, Result}
-use Rattle.std.specs.Prelude.{Ok, Err, IfSome}
-use Rattle.std.specs.Option.{is_some}
+use Rattle.std.proofs.Common.{◌≡◌, ◌^◌, ◌<◌, refl, sym, ap, ◌∙◌, subst, []}
 use Rattle.shm_words.specs.declared.geometry.Geometry.{Geometry}
 use Rattle.shm_words.specs.declared.place.Place.TheVariants as place
 use Rattle.shm_words.specs.Layout.{address}
 use Rattle.shm_graph.specs.declared.memo.Memo.{Memo}
 use Rattle.shm_graph.specs.declared.spot.Spot.TheVariants.{Root}
-use Rattle.shm_graph.specs.Events.{Event}
-use Rattle.shm_graph.specs.Events as event
-use Rattle.shm_graph.specs.Mapped.{MappedGives}
-use Rattle.shm_graph.specs.Whole.{fits_now}
-use Rattle.shm_plain.specs.Pools.{memo_of, readied}
-use Rattle.shm_plain.specs.Calls.{Did, Ran}
-use Rattle.shm_plain.proofs.Calling.{fits_acting}
-use Rattle.shm_calls.specs.CallTells.{mapped_events}
-use Rattle.shm_count.specs.declared.answer.UpFault.{UpFault}
+use Rattle.shm_plain.specs.Pools.{memo_of}
 use Rattle.shm_count.specs.declared.point.Aim.TheVariants.{Up}
 use Rattle.shm_count.specs.declared.point.StepPoint.TheVariants.{Era}
 use Rattle.shm_count.specs.declared.point.StepState.{StepState}
 use Rattle.shm_count.specs.Roots.{member, root_step}
-use Rattle.shm_count.specs.StepControl.{step_control}
-use Rattle.shm_count.specs.StepEvents.{own_events, step_event}
-use Rattle.shm_count.specs.StepFits.{StepFits, StepGives}
-use Rattle.shm_count.specs.StepMachines.{UpFits, UpGives, up_answer, up_control, up_means, up_told}
-use Rattle.shm_count.specs.StepTells.{step_tells}
-use Rattle.shm_tests.specs.Answers.{if_done}
-use Rattle.shm_tests.proofs.Answering.{some_map}
-use Rattle.shm_tests.proofs.Called.{Called, ran_fresh, told_by, works}
-use Rattle.shm_tests.proofs.RootAnswers.{up_left}
-use Rattle.shm_tests.proofs.RootCalls.{Left, RootLeft, root_left, root_small, up_fits}
-use Rattle.shm_tests.proofs.RootEvents.{events_at_slot, told_laws}
+use Rattle.shm_count.specs.StepFits.{StepFits}
+use Rattle.shm_count.specs.StepMachines.{UpFits, UpGives, up_control}
+use Rattle.shm_tests.proofs.RootCalls.{root_small, up_fits}
+use Rattle.shm_tests.proofs.RootSteps.{RootStep, raising, root_stepped, step_fits}
 use Rattle.shm_tests.proofs.counting.raise.Goals.{After-new-up, After-call}
 use Rattle.shm_tests.proofs.counting.raise.Goals as goal
 
@@ -54,88 +37,46 @@ state c =
 
 -- which fits the memo before
 fit : (c : After-new-up) → let r : Memo = memo_of c.args.pool.now c.args.who in StepFits (Root c.args.who c.args.root) (machine c) r r []
-fit c = up_fits c.args.pool.now c.args.who c.args.root c.requires.root c.requires.at_work c.args.block c.requires.empty c.requires.reached c.requires.inside
-
-fits : (c : After-new-up) → fits_now up_control UpFits (machine c) (memo_of c.args.pool.now c.args.who) (memo_of (readied c.args.pool.now c.args.who) c.args.who)
-fits c = fits_acting up_control UpFits UpGives c.args.who c.args.pool.now (machine c) c.requires.at_work.acts refl (refl, (Root c.args.who c.args.root, fit c))
+fit c = up_fits c.args.pool.now c.args.who c.args.root c.requires.root c.requires.at_work c.args.block c.requires.client c.requires.empty c.requires.reached c.requires.inside
 
 pub call-requires-clause-fits : goal.call-requires-clause-fits
 call-requires-clause-fits c =
     let at = (goal.at.call-requires-clause-fits c).After-new-up in
-    let r : Memo = memo_of c.args.pool.now c.args.who in
-    (r, subst (λ (m : StepState). fits_now up_control UpFits m r (memo_of (readied c.args.pool.now c.args.who) c.args.who)) (sym (state at)) (fits at))
+    step_fits up_control UpFits UpGives raising c.args.pool.now c.geometry-geometry.ensures.run c.args.who c.args.root c.requires.root c.requires.at_work (Up c.args.block) (fit at) (refl, (Root c.args.who c.args.root, fit at)) c.new-up.result (state at)
 
--- what the call says of the step
-called : (c : After-call) → let at = (goal.at.After-call c).After-new-up in Called up_control UpFits UpGives c.args.who c.args.pool.now (machine at) c.call.new.self c.args.life.now.left c.call.new.life.left c.call.result
-called c =
+-- what the call leaves
+stepped : (c : After-call) → RootStep up_control UpGives c.args.who c.args.root (Up c.args.block) c.args.pool.now c.call.new.self c.args.life.now.left c.call.new.life.left c.call.result
+stepped c =
     let at = (goal.at.After-call c).After-new-up in
-    subst (λ (m : StepState). Called up_control UpFits UpGives c.args.who c.args.pool.now m c.call.new.self c.args.life.now.left c.call.new.life.left c.call.result) (state at)
-    (record { gave = c.call.ensures.gives; ran = c.call.ensures.ran; took = c.call.ensures.took; events = c.call.ensures.events })
-
-ran : (c : After-call) → Ran c.args.who true (is_some c.call.result) c.args.pool.now c.call.new.self c.args.life.now.left c.call.new.life.left
-ran c = ran_fresh up_control UpFits UpGives c.args.who c.args.pool.now (machine (goal.at.After-call c).After-new-up) c.call.new.self c.args.life.now.left c.call.new.life.left c.call.result (called c) refl
-
-abbrev Gave : (c : After-call) → Result (Unit {0}) UpFault → Type 0
-Gave c a = let r : Memo = memo_of c.call.new.self c.args.who in UpGives (machine (goal.at.After-call c).After-new-up) (memo_of c.args.pool.now c.args.who) r r.call a
-
-gave : (c : After-call) → IfSome c.call.result (Gave c)
-gave c = (called c).gave (memo_of c.args.pool.now c.args.who) (fits (goal.at.After-call c).After-new-up)
-
--- what is left
-left : (c : After-call) → RootLeft c.args.who c.args.root c.args.block (memo_of c.args.pool.now c.args.who) (memo_of c.call.new.self c.args.who) c.call.result
-left c =
-    let p = c.args.pool.now in
-    let q = c.call.new.self in
-    let w = c.requires.at_work in
-    let n = ran c in
-    root_left p q c.geometry-geometry.ensures.run c.args.who c.args.root c.requires.root w c.args.life.now.left c.call.new.life.left c.call.result n c.args.block
-    (some_map (Gave c) (Left p q c.geometry-geometry.ensures.run c.args.who c.args.root c.requires.root w c.args.life.now.left c.call.new.life.left c.call.result n c.args.block) c.call.result
-    (up_left p q c.geometry-geometry.ensures.run n.run n.start c.args.who c.args.root w.who c.requires.root w.idle c.args.block) (gave c))
+    root_stepped up_control UpFits UpGives raising c.args.pool.now c.geometry-geometry.ensures.run c.args.who c.args.root c.requires.root c.requires.at_work (Up c.args.block) (fit at) (refl, (Root c.args.who c.args.root, fit at)) c.new-up.result (state at)
+    c.call.new.self c.args.life.now.left c.call.new.life.left c.call.result (record { gave = c.call.ensures.gives; ran = c.call.ensures.ran; took = c.call.ensures.took; events = c.call.ensures.events })
 
 pub returns-clause-gives : goal.returns-clause-gives
-returns-clause-gives c = gave (goal.at.returns-clause-gives c).After-call
+returns-clause-gives c = (stepped (goal.at.returns-clause-gives c).After-call).step.gives
 
 pub returns-clause-raised : goal.returns-clause-raised
-returns-clause-raised c = (left (goal.at.returns-clause-raised c).After-call).root
+returns-clause-raised c = (stepped (goal.at.returns-clause-raised c).After-call).root
 
 pub returns-clause-roots : goal.returns-clause-roots
-returns-clause-roots c = (left (goal.at.returns-clause-roots c).After-call).others
+returns-clause-roots c = (stepped (goal.at.returns-clause-roots c).After-call).others
 
 pub returns-clause-refused : goal.returns-clause-refused
-returns-clause-refused c = (left (goal.at.returns-clause-refused c).After-call).same
+returns-clause-refused c = (stepped (goal.at.returns-clause-refused c).After-call).same
 
 pub returns-clause-loose : goal.returns-clause-loose
-returns-clause-loose c = (left (goal.at.returns-clause-loose c).After-call).loose
+returns-clause-loose c = (stepped (goal.at.returns-clause-loose c).After-call).loose
 
 pub returns-clause-reached : goal.returns-clause-reached
-returns-clause-reached c = (left (goal.at.returns-clause-reached c).After-call).reached
+returns-clause-reached c = (stepped (goal.at.returns-clause-reached c).After-call).reached
 
 pub returns-clause-at_work : goal.returns-clause-at_work
-returns-clause-at_work c =
-    let at = (goal.at.returns-clause-at_work c).After-call in
-    works up_control UpFits UpGives c.args.who c.args.pool.now (machine (goal.at.After-call at).After-new-up) c.call.new.self c.args.life.now.left c.call.new.life.left c.call.result (called at) refl c.requires.at_work (left at).idle
+returns-clause-at_work c = (stepped (goal.at.returns-clause-at_work c).After-call).works
+
+pub returns-clause-kind : goal.returns-clause-kind
+returns-clause-kind c = (stepped (goal.at.returns-clause-kind c).After-call).step.kind
 
 pub returns-clause-ran : goal.returns-clause-ran
-returns-clause-ran c = ran (goal.at.returns-clause-ran c).After-call
-
--- the events by the answer
-abbrev events : (c : After-call) → List Event
-events c = event.Up c.args.who (Root c.args.who c.args.root) c.args.block ∷ []
-
-done : (c : After-call) (a : Result (Unit {0}) UpFault) → own_events (member c.args.pool.now.start.geometry c.args.who) (Up c.args.block) (Root c.args.who c.args.root) (up_told a) ≡ if_done a (events c)
-done c (Ok z) = refl
-done c (Err e) = refl
+returns-clause-ran c = (stepped (goal.at.returns-clause-ran c).After-call).step.ran
 
 pub returns-clause-events : goal.returns-clause-events
-returns-clause-events c =
-    let at = (goal.at.returns-clause-events c).After-call in
-    let m : StepState = machine (goal.at.After-call at).After-new-up in
-    let p = c.args.pool.now in
-    let q = c.call.new.self in
-    let r0 : Memo = memo_of p c.args.who in
-    let r : Memo = memo_of q c.args.who in
-    let s = Root c.args.who c.args.root in
-    told_by up_control UpFits UpGives c.args.who p m q c.args.life.now.left c.call.new.life.left c.call.result (called at) refl
-    (StepFits s) (MappedGives up_answer (StepGives s)) (told_laws up_answer s) (step_event s) (step_tells s) c.geometry-geometry.ensures.run (refl, c.requires.at_work.who, refl) c.requires.at_work.acts (fit (goal.at.After-call at).After-new-up)
-    (Gave at) (λ a. Did c.args.who p q (if_done a (events at))) (gave at)
-    (λ a g d. let y = up_means m r0 r r.call a g in subst (λ (es : List Event). Did c.args.who p q es) (mapped_events up_answer step_control (step_event s) m r.call ∙ events_at_slot y.0 s m r0 r r.call (up_told a) refl y.1 ∙ done at a) d)
+returns-clause-events c = (stepped (goal.at.returns-clause-events c).After-call).events

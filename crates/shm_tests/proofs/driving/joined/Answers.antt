@@ -83,7 +83,6 @@ returns-in-Some-clause-run c = c.in-Some.ensures.ran.run
 
 pub returns-in-Some-clause-at_work : goal.returns-in-Some-clause-at_work
 returns-in-Some-clause-at_work c =
-    let s : Start = record { geometry = c.args.geometry; first_era = c.args.first_era; tables = c.args.tables } in
     let at = (goal.at.returns-in-Some-clause-at_work c).In-Some in
     let n = ran at in
     let idle = (gives at).idle in
@@ -92,10 +91,14 @@ returns-in-Some-clause-at_work c =
       who = subst (λ (z : Start). c.args.who < z.geometry.clients) (sym (start at)) c.requires.who;
       idle = idle;
       acts = n.acts refl (λ e. let live : Live ≡ Gone = sym idle.live ∙ e in absurd (cc));
-      client = n.kind refl
-          ∙ (ap (λ (p : Pool). recovers (memo_of (readied p c.args.who) c.args.who)) c.in_ok-pool.ensures.first
-          ∙ (ap recovers (ready_first s c.args.who c.requires.who) ∙ recovers-entered Client (first_memo s c.args.who)));
     }
+
+pub returns-in-Some-clause-client : goal.returns-in-Some-clause-client
+returns-in-Some-clause-client c =
+    let s : Start = record { geometry = c.args.geometry; first_era = c.args.first_era; tables = c.args.tables } in
+    (ran (goal.at.returns-in-Some-clause-client c).In-Some).kind refl
+    ∙ (ap (λ (p : Pool). recovers (memo_of (readied p c.args.who) c.args.who)) c.in_ok-pool.ensures.first
+    ∙ (ap recovers (ready_first s c.args.who c.requires.who) ∙ recovers-entered Client (first_memo s c.args.who)))
 
 pub returns-in-Some-clause-ran : goal.returns-in-Some-clause-ran
 returns-in-Some-clause-ran c =

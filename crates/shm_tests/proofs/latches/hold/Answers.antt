@@ -64,6 +64,9 @@ returns-clause-gives c = (called (goal.at.returns-clause-gives c).After-call).gi
 pub returns-clause-ran : goal.returns-clause-ran
 returns-clause-ran c = (called (goal.at.returns-clause-ran c).After-call).ran
 
+pub returns-clause-kind : goal.returns-clause-kind
+returns-clause-kind c = (called (goal.at.returns-clause-kind c).After-call).kind
+
 -- what each answer says
 module _ (m : HoldState) (r0 r : Memo) (tr : Trail) (es : List Event) where
   held_by : (a : Result (Unit {0}) Busy) → HoldLeaves m r0 r tr es a → IfOk a (λ u. r.latch ≡ Some m.author)

@@ -59,6 +59,9 @@ returns-clause-gives c = (called (goal.at.returns-clause-gives c).After-call).gi
 pub returns-clause-ran : goal.returns-clause-ran
 returns-clause-ran c = (called (goal.at.returns-clause-ran c).After-call).ran
 
+pub returns-clause-kind : goal.returns-clause-kind
+returns-clause-kind c = (called (goal.at.returns-clause-kind c).After-call).kind
+
 -- what each answer says
 module _ (m : FindState) (r0 r : Memo) (tr : Trail) (es : List Event) where
   held_by : (a : Result ℕ NotHeld) → FindLeaves m r0 r tr es a → IfOk a (λ b. r0.latch ≡ Some m.author)

@@ -70,6 +70,9 @@ returns-clause-gives c = (called (goal.at.returns-clause-gives c).After-call).gi
 pub returns-clause-ran : goal.returns-clause-ran
 returns-clause-ran c = (called (goal.at.returns-clause-ran c).After-call).ran
 
+pub returns-clause-kind : goal.returns-clause-kind
+returns-clause-kind c = (called (goal.at.returns-clause-kind c).After-call).kind
+
 -- what is left of the memo
 idle_by : (c : ℕ) (r0 r : Memo) → IsIdle c r0 → r.latch ≡ None → core r ≡ core (wants c 0 (unlatched c r0)) → IsIdle c r
 idle_by c r0 r idle none e =

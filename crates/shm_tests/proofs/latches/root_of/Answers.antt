@@ -48,6 +48,9 @@ returns-clause-gives c = (called (goal.at.returns-clause-gives c).After-call).gi
 pub returns-clause-ran : goal.returns-clause-ran
 returns-clause-ran c = (called (goal.at.returns-clause-ran c).After-call).ran
 
+pub returns-clause-kind : goal.returns-clause-kind
+returns-clause-kind c = (called (goal.at.returns-clause-kind c).After-call).kind
+
 pub returns-clause-names : goal.returns-clause-names
 returns-clause-names c =
     let at = (goal.at.returns-clause-names c).After-call in

@@ -1,25 +1,12 @@
-use Rattle.std.proofs.Common.{◌≡◌, ◌<◌, ◌∙◌, sym, ap, subst, arith, rules, false, true}
-use Rattle.shm_graph.specs.declared.memo.Kind.TheVariants.{Client}
-use Rattle.shm_graph.specs.declared.memo.Memo.{Memo}
+use Rattle.std.proofs.Common.{◌≡◌, ◌<◌, ◌∙◌, ap, arith, rules, true}
 use Rattle.shm_graph.specs.declared.run.Start.{Start}
-use Rattle.shm_graph.specs.Agents.{acts}
 use Rattle.shm_graph.specs.Runs.{first_memo}
 use Rattle.shm_plain.specs.Pools.{memo_of}
-use Rattle.shm_plain.specs.Tracks.{kind_next}
 use Rattle.shm_count.specs.Roots.{member}
 use Rattle.shm_tests.proofs.JoinLatch.{none_joining}
 use Rattle.shm_tests.proofs.latches_tests.a_latch_that_another_client_holds.Goals as goal
 
 -- nobody had joined as client 0 before
-pub hold-requires-2-clause-at_work : goal.hold-requires-2-clause-at_work
-hold-requires-2-clause-at_work g c =
-    let others = rw c.in-Some.is at c.in_ok-pool.ensures.others in
-    let first : memo_of c.hold.new.pool 0 ≡ first_memo c.in-Some.pool.start 0 = c.hold.ensures.ran.others 0 (omega arith) ∙ others 0 (omega (arith, c.in_ok-new.ensures.sizes.0)) (omega arith) in
-    let joins : c.join.result ≡ true = search rules in
-    let idle : acts (memo_of c.hold.new.pool 0) ≡ false = ap acts first in
-    let next : kind_next (memo_of c.hold.new.pool 0) ≡ Client = ap (λ (m : Memo). kind_next m) first in
-    c.join.ensures.at_work joins idle next
-
 pub hold-requires-2-clause-none : goal.hold-requires-2-clause-none
 hold-requires-2-clause-none g c =
     let q = c.hold.new.pool in

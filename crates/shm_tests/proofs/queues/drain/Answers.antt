@@ -1,30 +1,21 @@
-use Rattle.std.proofs.Common.{◌≡◌, ◌++◌, [], length, ℕ, refl, sym, ap, ◌∙◌, subst, List, Result}
-use Rattle.std.specs.Prelude.{IfOk, IfSome, slice_index_or}
+use Rattle.std.proofs.Common.{◌≡◌, ◌++◌, [], length, ℕ, refl, ap, ◌∙◌, List}
+use Rattle.std.specs.Prelude.{IfOk, slice_index_or}
 use Rattle.shm_graph.specs.declared.ask.Me.{Me}
 use Rattle.shm_graph.specs.declared.memo.Memo.{Memo}
 use Rattle.shm_graph.specs.Events.{Event}
-use Rattle.shm_graph.specs.Idle.{IsIdle}
-use Rattle.shm_graph.specs.Tells.{happens_along}
-use Rattle.shm_graph.specs.Whole.{fits_now}
-use Rattle.shm_plain.specs.Pools.{memo_of, readied}
+use Rattle.shm_plain.specs.Pools.{memo_of}
 use Rattle.shm_plain.specs.Calls.{Did}
-use Rattle.shm_plain.proofs.Calling.{fits_acting}
-use Rattle.shm_calls.specs.declared.calls.Calls.{Calls}
-use Rattle.shm_calls.specs.CallsControl.{calls_does, calls_of}
-use Rattle.shm_calls.specs.CallsFit.{CallsFits, CallsGives}
-use Rattle.shm_calls.specs.CallsKeep.{calls_begin, calls_tells}
-use Rattle.shm_count.specs.declared.answer.EraSpent.{EraSpent}
+use Rattle.shm_calls.specs.CallsControl.{calls_of}
 use Rattle.shm_count.specs.Roots.{AreRootsReached, member, root_word}
 use Rattle.shm_count.proofs.RootSpots.{is_here, roots_reached}
+use Rattle.shm_queue.specs.declared.drain.DrainPoint.TheVariants.{Status}
 use Rattle.shm_queue.specs.declared.drain.DrainState.{DrainState}
-use Rattle.shm_queue.specs.Machines as machine
-use Rattle.shm_queue.specs.DrainControl.{DrainAnswer, DrainCall, drain_parts, draining}
-use Rattle.shm_queue.specs.DrainFits.{AreEmpty, DrainLeaves, Taken, blocks_from, drain_plan}
+use Rattle.shm_queue.specs.DrainControl.{drain_parts, draining}
+use Rattle.shm_queue.specs.DrainFits.{AreEmpty, DrainKnows, DrainLeaves, Taken, blocks_from, drain_plan}
 use Rattle.shm_queue.specs.DrainLaws.{drain_laws}
 use Rattle.shm_tests.specs.Queues.{LeavesQueues}
-use Rattle.shm_tests.proofs.Answering.{some_map}
-use Rattle.shm_tests.proofs.Called.{Called, ran_fresh, told, works}
-use Rattle.shm_tests.proofs.QueueAnswers.{LeavesIdle, drain_dying, drain_empty, drain_leaves_idle, drain_received, drain_roots}
+use Rattle.shm_tests.proofs.PlanCalls.{Answered, answered, plan_fits}
+use Rattle.shm_tests.proofs.QueueAnswers.{drain_dying, drain_empty, drain_leaves_idle, drain_received, drain_roots}
 use Rattle.shm_tests.proofs.queues.drain.Goals.{After-new-machine, After-call}
 use Rattle.shm_tests.proofs.queues.drain.Goals as goal
 
@@ -32,123 +23,78 @@ use Rattle.shm_tests.proofs.queues.drain.Goals as goal
 abbrev plan : (c : After-new-machine) → DrainState
 plan c = draining (member c.args.pool.now.start.geometry c.args.who)
 
-abbrev Whole : Type 0
-Whole = Calls DrainState DrainCall (Result ℕ EraSpent) DrainAnswer
-
 state : (c : After-new-machine) → c.new-machine.result ≡ calls_of drain_plan (plan c)
 state c =
     let g = c.new.ensures.geometry ∙ c.geometry-geometry.ensures.is in
     let me : c.new.result ≡ member c.args.pool.now.start.geometry c.args.who = (λ i. record { geometry = g i; who = c.new.ensures.who i }) in
     c.new-machine.ensures ∙ ap (λ (x : DrainState). calls_of drain_plan x) (c.new-2.ensures ∙ ap (λ (x : Me). draining x) me)
 
--- which fits the memo before
-fits : (c : After-new-machine) → fits_now machine.drain (CallsFits drain_parts drain_plan) (calls_of drain_plan (plan c)) (memo_of c.args.pool.now c.args.who) (memo_of (readied c.args.pool.now c.args.who) c.args.who)
-fits c =
-    let p = c.args.pool.now in
+knows : (c : After-new-machine) → let r : Memo = memo_of c.args.pool.now c.args.who in DrainKnows (plan c) Status r r [] []
+knows c =
     let work = c.requires.at_work in
-    fits_acting machine.drain (CallsFits drain_parts drain_plan) (CallsGives drain_parts drain_plan) c.args.who p (calls_of drain_plan (plan c)) work.acts refl
-    (calls_begin drain_parts drain_plan drain_laws (plan c) (memo_of p c.args.who) refl refl
-    (record { geometry = work.geometry; who = work.who; here = is_here c.args.who (memo_of p c.args.who) work.idle; idle = work.idle.op; none = c.requires.none }, refl, refl, refl, refl))
+    let r : Memo = memo_of c.args.pool.now c.args.who in
+    (record { geometry = work.geometry; who = work.who; here = is_here c.args.who r work.idle; idle = work.idle.op; none = c.requires.none }, refl, refl, refl, refl)
 
 pub call-requires-clause-fits : goal.call-requires-clause-fits
 call-requires-clause-fits c =
     let at = (goal.at.call-requires-clause-fits c).After-new-machine in
-    let r : Memo = memo_of c.args.pool.now c.args.who in
-    (r, subst (λ (m : Whole). fits_now machine.drain (CallsFits drain_parts drain_plan) m r (memo_of (readied c.args.pool.now c.args.who) c.args.who)) (sym (state at)) (fits at))
+    plan_fits drain_parts drain_plan drain_laws c.args.who c.args.pool.now c.requires.at_work (plan at) refl refl refl (knows at) c.new-machine.result (state at)
 
--- what the call says of it
-called : (c : After-call) → let at = (goal.at.After-call c).After-new-machine in Called machine.drain (CallsFits drain_parts drain_plan) (CallsGives drain_parts drain_plan) c.args.who c.args.pool.now (calls_of drain_plan (plan at)) c.call.new.self c.args.life.now.left c.call.new.life.left c.call.result
+-- what the call leaves
+abbrev machine : (c : After-call) → DrainState
+machine c = plan (goal.at.After-call c).After-new-machine
+
+called : (c : After-call) → Answered drain_parts drain_plan c.args.who c.args.pool.now (machine c) c.call.new.self c.args.life.now.left c.call.new.life.left c.call.result
 called c =
     let at = (goal.at.After-call c).After-new-machine in
-    subst (λ (m : Whole). Called machine.drain (CallsFits drain_parts drain_plan) (CallsGives drain_parts drain_plan) c.args.who c.args.pool.now m c.call.new.self c.args.life.now.left c.call.new.life.left c.call.result) (state at)
+    answered drain_parts drain_plan drain_laws c.args.who c.args.pool.now c.requires.at_work (plan at) refl refl refl (knows at) c.new-machine.result (state at) c.call.new.self c.args.life.now.left c.call.new.life.left c.call.result
     (record { gave = c.call.ensures.gives; ran = c.call.ensures.ran; took = c.call.ensures.took; events = c.call.ensures.events })
 
-abbrev Gave : (c : After-call) → Result ℕ EraSpent → Type 0
-Gave c a = let r : Memo = memo_of c.call.new.self c.args.who in CallsGives drain_parts drain_plan (calls_of drain_plan (plan (goal.at.After-call c).After-new-machine)) (memo_of c.args.pool.now c.args.who) r r.call a
-
-gave : (c : After-call) → IfSome c.call.result (Gave c)
-gave c = (called c).gave (memo_of c.args.pool.now c.args.who) (fits (goal.at.After-call c).After-new-machine)
-
--- the events that it tells
-abbrev events : (c : After-call) → List Event
-events c = happens_along machine.drain (calls_does drain_parts drain_plan) (calls_of drain_plan (plan (goal.at.After-call c).After-new-machine)) (memo_of c.call.new.self c.args.who).call
-
--- and so of what follows from what is left
-follows : (c : After-call) (P : Result ℕ EraSpent → Type 0) → ((a : Result ℕ EraSpent) → DrainLeaves (plan (goal.at.After-call c).After-new-machine) (memo_of c.args.pool.now c.args.who) (memo_of c.call.new.self c.args.who) (memo_of c.call.new.self c.args.who).call (events c) a → P a) → IfSome c.call.result P
-follows c P h = some_map (Gave c) P c.call.result (λ a g. h a g.leaves) (gave c)
-
 pub returns-clause-gives : goal.returns-clause-gives
-returns-clause-gives c = gave (goal.at.returns-clause-gives c).After-call
+returns-clause-gives c = (called (goal.at.returns-clause-gives c).After-call).gives
+
+pub returns-clause-ran : goal.returns-clause-ran
+returns-clause-ran c = (called (goal.at.returns-clause-ran c).After-call).ran
+
+pub returns-clause-kind : goal.returns-clause-kind
+returns-clause-kind c = (called (goal.at.returns-clause-kind c).After-call).kind
 
 pub returns-clause-received : goal.returns-clause-received
 returns-clause-received c =
     let at = (goal.at.returns-clause-received c).After-call in
-    let r0 : Memo = memo_of c.args.pool.now c.args.who in
-    let r : Memo = memo_of c.call.new.self c.args.who in
-    follows at (λ a. IfOk a (λ n. (xs : List Taken) × (n ≡ length xs) × ((s : ℕ) → slice_index_or r.received s [] ≡ slice_index_or r0.received s [] ++ blocks_from s xs)))
-    (drain_received (plan (goal.at.After-call at).After-new-machine) r0 r r.call (events at))
+    (called at).follows (λ a. IfOk a (λ n. (xs : List Taken) × (n ≡ length xs) × ((s : ℕ) → slice_index_or (memo_of c.call.new.self c.args.who).received s [] ≡ slice_index_or (memo_of c.args.pool.now c.args.who).received s [] ++ blocks_from s xs))) (λ a g. drain_received (machine at) _ _ _ _ a g.leaves)
 
 pub returns-clause-empty : goal.returns-clause-empty
 returns-clause-empty c =
     let at = (goal.at.returns-clause-empty c).After-call in
-    let r0 : Memo = memo_of c.args.pool.now c.args.who in
-    let r : Memo = memo_of c.call.new.self c.args.who in
-    follows at (λ a. IfOk a (λ n. AreEmpty (member c.args.pool.now.start.geometry c.args.who) c.args.pool.now.start.geometry.clients r))
-    (drain_empty (plan (goal.at.After-call at).After-new-machine) r0 r r.call (events at))
+    (called at).follows (λ a. IfOk a (λ n. AreEmpty (member c.args.pool.now.start.geometry c.args.who) c.args.pool.now.start.geometry.clients (memo_of c.call.new.self c.args.who))) (λ a g. drain_empty (machine at) _ _ _ _ a g.leaves)
 
 pub returns-clause-dying : goal.returns-clause-dying
 returns-clause-dying c =
     let at = (goal.at.returns-clause-dying c).After-call in
-    let r0 : Memo = memo_of c.args.pool.now c.args.who in
-    let r : Memo = memo_of c.call.new.self c.args.who in
-    follows at (λ a. IfOk a (λ n. r.dying ≡ r0.dying))
-    (drain_dying (plan (goal.at.After-call at).After-new-machine) r0 r r.call (events at))
+    (called at).follows (λ a. IfOk a (λ n. (memo_of c.call.new.self c.args.who).dying ≡ (memo_of c.args.pool.now c.args.who).dying)) (λ a g. drain_dying (machine at) _ _ _ _ a g.leaves)
 
 pub returns-clause-roots : goal.returns-clause-roots
 returns-clause-roots c =
     let at = (goal.at.returns-clause-roots c).After-call in
-    let r0 : Memo = memo_of c.args.pool.now c.args.who in
-    let r : Memo = memo_of c.call.new.self c.args.who in
-    follows at (λ a. (k : ℕ) → root_word c.args.who r k ≡ root_word c.args.who r0 k)
-    (drain_roots (plan (goal.at.After-call at).After-new-machine) r0 r r.call (events at))
-
--- whatever is answered, the identity is between two calls
-left : (c : After-call) (P : Result ℕ EraSpent → Type 0) → (LeavesIdle c.args.who (memo_of c.args.pool.now c.args.who) (memo_of c.call.new.self c.args.who) → (a : Result ℕ EraSpent) → P a) → IfSome c.call.result P
-left c P f =
-    let r0 : Memo = memo_of c.args.pool.now c.args.who in
-    let r : Memo = memo_of c.call.new.self c.args.who in
-    follows c P (λ a h. f (drain_leaves_idle (plan (goal.at.After-call c).After-new-machine) r0 r r.call (events c) a h) a)
+    (called at).follows (λ a. (k : ℕ) → root_word c.args.who (memo_of c.call.new.self c.args.who) k ≡ root_word c.args.who (memo_of c.args.pool.now c.args.who) k) (λ a g. drain_roots (machine at) _ _ _ _ a g.leaves)
 
 pub returns-clause-left : goal.returns-clause-left
 returns-clause-left c =
     let at = (goal.at.returns-clause-left c).After-call in
-    left at (λ a. LeavesQueues (memo_of c.args.pool.now c.args.who) (memo_of c.call.new.self c.args.who)) (λ h a. h.left)
+    (called at).follows (λ a. LeavesQueues (memo_of c.args.pool.now c.args.who) (memo_of c.call.new.self c.args.who)) (λ a g. (drain_leaves_idle (machine at) _ _ _ _ a g.leaves).left)
 
 pub returns-clause-reached : goal.returns-clause-reached
 returns-clause-reached c =
     let at = (goal.at.returns-clause-reached c).After-call in
-    let r : Memo = memo_of c.call.new.self c.args.who in
-    left at (λ a. AreRootsReached c.args.who r) (λ h a. roots_reached c.args.who r (h.idle c.requires.at_work.idle).op)
+    (called at).follows (λ a. AreRootsReached c.args.who (memo_of c.call.new.self c.args.who)) (λ a g. roots_reached c.args.who (memo_of c.call.new.self c.args.who) ((drain_leaves_idle (machine at) _ _ _ _ a g.leaves).idle c.requires.at_work.idle).op)
 
 pub returns-clause-at_work : goal.returns-clause-at_work
 returns-clause-at_work c =
     let at = (goal.at.returns-clause-at_work c).After-call in
-    works machine.drain (CallsFits drain_parts drain_plan) (CallsGives drain_parts drain_plan) c.args.who c.args.pool.now (calls_of drain_plan (plan (goal.at.After-call at).After-new-machine)) c.call.new.self c.args.life.now.left c.call.new.life.left c.call.result (called at) refl c.requires.at_work
-    (left at (λ a. IsIdle c.args.who (memo_of c.call.new.self c.args.who)) (λ h a. h.idle c.requires.at_work.idle))
-
-pub returns-clause-ran : goal.returns-clause-ran
-returns-clause-ran c =
-    let at = (goal.at.returns-clause-ran c).After-call in
-    ran_fresh machine.drain (CallsFits drain_parts drain_plan) (CallsGives drain_parts drain_plan) c.args.who c.args.pool.now (calls_of drain_plan (plan (goal.at.After-call at).After-new-machine)) c.call.new.self c.args.life.now.left c.call.new.life.left c.call.result (called at) refl
+    (called at).works (λ a g. (drain_leaves_idle (machine at) _ _ _ _ a g.leaves).idle c.requires.at_work.idle)
 
 pub returns-clause-events : goal.returns-clause-events
 returns-clause-events c =
     let at = (goal.at.returns-clause-events c).After-call in
-    let s : DrainState = plan (goal.at.After-call at).After-new-machine in
-    let p = c.args.pool.now in
-    let q = c.call.new.self in
-    let r : Memo = memo_of q c.args.who in
-    told machine.drain (CallsFits drain_parts drain_plan) (CallsGives drain_parts drain_plan) c.args.who p (calls_of drain_plan s) q c.args.life.now.left c.call.new.life.left c.call.result (called at) refl
-    (calls_does drain_parts drain_plan) (calls_tells drain_parts drain_plan drain_laws)
-    (Gave at) (λ a. (es : List Event) × Did c.args.who p q es × DrainLeaves s (memo_of p c.args.who) r r.call es a) (gave at)
-    (λ a g d. (events at, d, g.leaves))
+    (called at).told (λ a. (es : List Event) × Did c.args.who c.args.pool.now c.call.new.self es × DrainLeaves (draining (member c.args.pool.now.start.geometry c.args.who)) (memo_of c.args.pool.now c.args.who) (memo_of c.call.new.self c.args.who) (memo_of c.call.new.self c.args.who).call es a) (λ a g d. (_, d, g.leaves))

@@ -1,6 +1,5 @@
 use Rattle.std.proofs.Common.{ap}
 use Rattle.shm_graph.specs.declared.memo.Memo.{Memo}
-use Rattle.shm_plain.specs.Pools.{memo_of}
 use Rattle.shm_tests.specs.Queues.{IsReady}
 use Rattle.shm_tests.proofs.QueueReady.{ready_after, ready_other, zero_not_one}
 use Rattle.shm_tests.proofs.queues_tests.empty.Goals as goal
@@ -9,8 +8,8 @@ pub receive-requires-2-clause-none : goal.receive-requires-2-clause-none
 receive-requires-2-clause-none g c =
     let first = c.in-Some-Ok in
     let second = c.in-Some-Ok-drain in
-    let taken : IsReady 1 c.receive.new.pool = ready_after 1 c.args.pool.now c.receive.new.pool c.requires.receiver first.ensures.at_work first.ensures.left (rw first.field-0-is at first.ensures.dying) in
-    let drained : IsReady 1 c.drain.new.pool = ready_after 1 c.receive.new.pool c.drain.new.pool taken second.ensures.at_work second.ensures.left (rw second.field-0-is at second.ensures.dying) in
+    let taken : IsReady 1 c.receive.new.pool = ready_after 1 c.args.pool.now c.receive.new.pool c.requires.receiver first.ensures.at_work first.ensures.kind first.ensures.left (rw first.field-0-is at first.ensures.dying) in
+    let drained : IsReady 1 c.drain.new.pool = ready_after 1 c.receive.new.pool c.drain.new.pool taken second.ensures.at_work second.ensures.kind second.ensures.left (rw second.field-0-is at second.ensures.dying) in
     drained.clear.untaken 0
 
 pub returns-clause-sender : goal.returns-clause-sender
@@ -24,7 +23,7 @@ returns-clause-receiver g c =
     let first = c.in-Some-Ok in
     let second = c.in-Some-Ok-drain in
     let third = c.in-Some-Err-Empty in
-    let taken : IsReady 1 c.receive.new.pool = ready_after 1 c.args.pool.now c.receive.new.pool c.requires.receiver first.ensures.at_work first.ensures.left (rw first.field-0-is at first.ensures.dying) in
-    let drained : IsReady 1 c.drain.new.pool = ready_after 1 c.receive.new.pool c.drain.new.pool taken second.ensures.at_work second.ensures.left (rw second.field-0-is at second.ensures.dying) in
+    let taken : IsReady 1 c.receive.new.pool = ready_after 1 c.args.pool.now c.receive.new.pool c.requires.receiver first.ensures.at_work first.ensures.kind first.ensures.left (rw first.field-0-is at first.ensures.dying) in
+    let drained : IsReady 1 c.drain.new.pool = ready_after 1 c.receive.new.pool c.drain.new.pool taken second.ensures.at_work second.ensures.kind second.ensures.left (rw second.field-0-is at second.ensures.dying) in
     let none = rw third.field-0-0-is at (rw third.field-0-is at third.ensures.empty) in
-    ready_after 1 c.drain.new.pool c.receive-2.new.pool drained third.ensures.at_work third.ensures.left (ap (λ (x : Memo). x.dying) none.1)
+    ready_after 1 c.drain.new.pool c.receive-2.new.pool drained third.ensures.at_work third.ensures.kind third.ensures.left (ap (λ (x : Memo). x.dying) none.1)

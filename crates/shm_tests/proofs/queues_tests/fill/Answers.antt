@@ -10,7 +10,7 @@ loop-place-init g c =
     let same = c.receive.ensures.ran.others 0 zero_not_one in
     let quiet = rw none.field-0-0-is at (rw none.field-0-is at none.ensures.empty) in (
       ready_other 0 1 _ _ _ _ _ _ c.requires.sender zero_not_one c.receive.ensures.ran,
-      ready_after 1 c.args.pool.now c.receive.new.pool c.requires.receiver none.ensures.at_work none.ensures.left (ap (λ (x : Memo). x.dying) quiet.1),
+      ready_after 1 c.args.pool.now c.receive.new.pool c.requires.receiver none.ensures.at_work none.ensures.kind none.ensures.left (ap (λ (x : Memo). x.dying) quiet.1),
       ap (λ (m : Memo). root_word 0 m 0) same ∙ c.requires.root,
       subst (λ (m : Memo). AreRootsReached 0 m) (sym same) c.requires.reached,
       c.receive.ensures.ran.start,
@@ -20,7 +20,7 @@ pub loop-place-preserved : goal.loop-place-preserved
 loop-place-preserved g c =
     let kept = c.loop-place.invariant in
     let said = c.in-Some.ensures in (
-      ready_after 0 c.loop-place.pool c.send.new.pool kept.0 said.at_work said.left said.dying,
+      ready_after 0 c.loop-place.pool c.send.new.pool kept.0 said.at_work said.kind said.left said.dying,
       ready_other 1 0 _ _ _ _ _ _ kept.1 one_not_zero c.send.ensures.ran,
       said.roots 0 ∙ kept.2,
       said.reached,

@@ -1,13 +1,13 @@
-use Rattle.std.proofs.Common.{◌≡◌, ◌<◌, sym, ap, ◌∙◌, subst, refl, arith, rules, true, length}
+use Rattle.std.proofs.Common.{◌≡◌, ◌<◌, sym, ap, ◌∙◌, subst, refl, arith, rules, false, true, length}
 use Rattle.shm_graph.specs.declared.memo.Memo.{Memo}
 use Rattle.shm_graph.specs.declared.run.Start.{Start}
 use Rattle.shm_count.specs.Roots.{AreRootsReached, root_word}
-use Rattle.shm_graph.specs.Agents.{acts}
+use Rattle.shm_graph.specs.Agents.{acts, recovers}
 use Rattle.shm_graph.specs.Runs.{first_memo}
 use Rattle.shm_plain.specs.Tracks.{kind_next}
 use Rattle.shm_plain.specs.Calls.{IsAtWork}
 use Rattle.shm_plain.specs.Pools.{memo_of}
-use Rattle.shm_tests.specs.Queues.{IsClear, IsReady}
+use Rattle.shm_tests.specs.Queues.{IsClear}
 use Rattle.shm_tests.proofs.Passing.{ready_new}
 use Rattle.shm_tests.proofs.QueueReady.{clear_alloc, clear_join, ready_other, zero_not_one, one_not_zero}
 use Rattle.shm_tests.proofs.queues_tests.two_clients.Goals as goal
@@ -22,7 +22,8 @@ returns-clause-sender g c =
     let gives = rw c.in-Some-Ok.is at c.in_ok-made.ensures.gives in
     let clear : IsClear (memo_of p 0) = clear_join p.start c.in_ok-new.field-0 0 _ (memo_of p 0) (memo_of p 0).call (ap (λ (z : Start). z.tables) s) refl joins in
     let work : IsAtWork 0 q = search rules in
-    ready_other 0 1 _ _ _ _ _ _ (record { work = work; clear = clear_alloc gives.0 (memo_of p 0) (memo_of q 0) (memo_of q 0).call _ gives.2 clear }) zero_not_one c.join.ensures.ran
+    let client : recovers (memo_of q 0) ≡ false = search rules in
+    ready_other 0 1 _ _ _ _ _ _ (record { work = work; client = client; clear = clear_alloc gives.0 (memo_of p 0) (memo_of q 0) (memo_of q 0).call _ gives.2 clear }) zero_not_one c.join.ensures.ran
 
 pub returns-clause-receiver : goal.returns-clause-receiver
 returns-clause-receiver g c =
@@ -37,7 +38,8 @@ returns-clause-receiver g c =
     let low : 1 < length q.accounts = rw ran.run.held.accounts (rw ran.start (rw here n)) in
     let new : memo_of q 1 ≡ first_memo p.start 1 = ran.others 1 one_not_zero ∙ others 1 n one_not_zero in
     record {
-      work = c.join.ensures.at_work joins (ap acts new) (ap kind_next new);
+      work = c.join.ensures.at_work joins;
+      client = c.join.ensures.client joins (ap acts new) (ap kind_next new);
       clear = clear_join p.start q.start.geometry 1 _ (memo_of c.join.new.pool 1) (memo_of c.join.new.pool 1).call (ap (λ (z : Start). z.tables) s) (ready_new p.start 1 q low new) (c.join.ensures.gives joins);
     }
 

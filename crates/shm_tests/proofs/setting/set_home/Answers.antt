@@ -53,7 +53,7 @@ knows c =
         who = work.who;
         here = is_here c.args.who r work.idle;
         idle = work.idle.op;
-        client = work.client;
+        client = c.requires.client;
         inside = reached_inside c.args.pool.now c.args.who work c.geometry-geometry.ensures.run c.args.block c.requires.reached;
         reach = c.requires.reached;
         part = c.requires.part;
@@ -86,6 +86,9 @@ returns-clause-gives c = (called (goal.at.returns-clause-gives c).After-call).gi
 
 pub returns-clause-ran : goal.returns-clause-ran
 returns-clause-ran c = (called (goal.at.returns-clause-ran c).After-call).ran
+
+pub returns-clause-kind : goal.returns-clause-kind
+returns-clause-kind c = (called (goal.at.returns-clause-kind c).After-call).kind
 
 -- what is left of the memo, whatever is answered; the home is h
 record Lasts (c h : ℕ) (m r : Memo) : Type 0 where

@@ -1,25 +1,20 @@
-use Rattle.std.proofs.Common.{◌≡◌, ℕ, refl, sym, ap, ◌∙◌, subst, List, Result}
-use Rattle.std.specs.Prelude.{IfOk, IfSome}
+use Rattle.std.proofs.Common.{◌≡◌, ℕ, refl, ap, ◌∙◌, List, []}
+use Rattle.std.specs.Prelude.{IfOk}
 use Rattle.std.specs.List.{filter}
 use Rattle.shm_graph.specs.declared.ask.Me.{Me}
 use Rattle.shm_graph.specs.declared.memo.Memo.{Memo}
-use Rattle.shm_graph.specs.Idle.{IsIdle}
+use Rattle.shm_graph.specs.Events.{Event}
 use Rattle.shm_graph.specs.Stores.{not_block}
-use Rattle.shm_graph.specs.Whole.{fits_now}
-use Rattle.shm_plain.specs.Pools.{memo_of, readied}
-use Rattle.shm_count.specs.declared.answer.EraSpent.{EraSpent}
+use Rattle.shm_plain.specs.Pools.{memo_of}
+use Rattle.shm_plain.specs.Calls.{Did}
 use Rattle.shm_count.specs.declared.tear_point.TearPoint.TheVariants.{Begin}
 use Rattle.shm_count.specs.declared.tear_point.TearState.{TearState}
 use Rattle.shm_count.specs.TearControl.{tear_control}
-use Rattle.shm_count.specs.TearFits.{TearFits, TearGives, TearLeaves}
-use Rattle.shm_count.specs.Roots.{root_word, tear_of}
-use Rattle.shm_tests.proofs.Answering.{some_map}
-use Rattle.shm_tests.proofs.Called.{Called, ran_fresh, told, works}
-use Rattle.shm_graph.specs.Events.{Event}
-use Rattle.shm_graph.specs.Tells.{happens_along}
-use Rattle.shm_plain.specs.Calls.{Did}
 use Rattle.shm_count.specs.TearEvents.{tear_event}
+use Rattle.shm_count.specs.TearFits.{TearFits, TearGives, TearLeaves}
 use Rattle.shm_count.specs.TearTells.{tear_tells}
+use Rattle.shm_count.specs.Roots.{root_word, tear_of}
+use Rattle.shm_tests.proofs.Called.{Answered, answered, call_fits}
 use Rattle.shm_tests.proofs.TearAnswers.{block_small, tear_fits, tear_freed, tear_idle, tear_roots}
 use Rattle.shm_tests.proofs.tearing.tear_down.Goals.{After-new-tear, After-call}
 use Rattle.shm_tests.proofs.tearing.tear_down.Goals as goal
@@ -38,71 +33,47 @@ state c =
     c.new-tear.ensures ∙ ap (λ (x : Me). record { me = x; first = c.args.block; block = c.args.block; point = Begin }) me
 
 -- which fits the memo before
-fits : (c : After-new-tear) → fits_now tear_control TearFits (machine c) (memo_of c.args.pool.now c.args.who) (memo_of (readied c.args.pool.now c.args.who) c.args.who)
-fits c =
-    let w = c.requires.at_work in
-    tear_fits c.args.pool.now c.geometry-geometry.ensures.run c.args.who c.args.block w.geometry w.who w.idle c.requires.dying w.acts
+fit : (c : After-new-tear) → let r : Memo = memo_of c.args.pool.now c.args.who in TearFits (machine c) r r []
+fit c = let w = c.requires.at_work in tear_fits c.args.pool.now c.geometry-geometry.ensures.run c.args.who c.args.block w.geometry w.who w.idle c.requires.dying
 
 pub call-requires-clause-fits : goal.call-requires-clause-fits
 call-requires-clause-fits c =
     let at = (goal.at.call-requires-clause-fits c).After-new-tear in
-    let r : Memo = memo_of c.args.pool.now c.args.who in
-    (r, subst (λ (m : TearState). fits_now tear_control TearFits m r (memo_of (readied c.args.pool.now c.args.who) c.args.who)) (sym (state at)) (fits at))
+    call_fits tear_control TearFits TearGives c.args.who c.args.pool.now c.requires.at_work.geometry c.requires.at_work.who c.requires.at_work.acts (machine at) refl (fit at) c.new-tear.result (state at)
 
--- what the call says of it
-called : (c : After-call) → let at = (goal.at.After-call c).After-new-tear in Called tear_control TearFits TearGives c.args.who c.args.pool.now (machine at) c.call.new.self c.args.life.now.left c.call.new.life.left c.call.result
+-- what the call leaves
+called : (c : After-call) → let at = (goal.at.After-call c).After-new-tear in Answered tear_control TearGives tear_event c.args.who c.args.pool.now (machine at) c.call.new.self c.args.life.now.left c.call.new.life.left c.call.result
 called c =
     let at = (goal.at.After-call c).After-new-tear in
-    subst (λ (m : TearState). Called tear_control TearFits TearGives c.args.who c.args.pool.now m c.call.new.self c.args.life.now.left c.call.new.life.left c.call.result) (state at)
+    answered tear_control TearFits TearGives c.args.who c.args.pool.now c.requires.at_work.geometry c.requires.at_work.who c.requires.at_work.acts (machine at) refl (fit at) c.new-tear.result (state at) c.call.new.self c.args.life.now.left c.call.new.life.left c.call.result
     (record { gave = c.call.ensures.gives; ran = c.call.ensures.ran; took = c.call.ensures.took; events = c.call.ensures.events })
-
-abbrev Gave : (c : After-call) → Result (Unit {0}) EraSpent → Type 0
-Gave c a = let r : Memo = memo_of c.call.new.self c.args.who in TearGives (machine (goal.at.After-call c).After-new-tear) (memo_of c.args.pool.now c.args.who) r r.call a
-
-gave : (c : After-call) → IfSome c.call.result (Gave c)
-gave c = (called c).gave (memo_of c.args.pool.now c.args.who) (fits (goal.at.After-call c).After-new-tear)
-
--- and so of what follows from it
-follows : (c : After-call) (P : Result (Unit {0}) EraSpent → Type 0) → ((a : Result (Unit {0}) EraSpent) → Gave c a → P a) → IfSome c.call.result P
-follows c P h = some_map (Gave c) P c.call.result h (gave c)
+    tear_event tear_tells
 
 pub returns-clause-gives : goal.returns-clause-gives
-returns-clause-gives c = gave (goal.at.returns-clause-gives c).After-call
+returns-clause-gives c = (called (goal.at.returns-clause-gives c).After-call).gives
+
+pub returns-clause-ran : goal.returns-clause-ran
+returns-clause-ran c = (called (goal.at.returns-clause-ran c).After-call).ran
+
+pub returns-clause-kind : goal.returns-clause-kind
+returns-clause-kind c = (called (goal.at.returns-clause-kind c).After-call).kind
 
 pub returns-clause-freed : goal.returns-clause-freed
 returns-clause-freed c =
-    let p = c.args.pool.now in
-    let r : Memo = memo_of c.call.new.self c.args.who in
-    follows (goal.at.returns-clause-freed c).After-call (λ a. IfOk a (λ u. r.dying ≡ filter (not_block c.args.block) (memo_of p c.args.who).dying))
-    (λ a g. tear_freed p.start.geometry c.args.who c.args.block (memo_of p c.args.who) r r.call a g)
+    let at = (goal.at.returns-clause-freed c).After-call in
+    (called at).follows (λ a. IfOk a (λ u. (memo_of c.call.new.self c.args.who).dying ≡ filter (not_block c.args.block) (memo_of c.args.pool.now c.args.who).dying)) (λ a g. tear_freed c.args.pool.now.start.geometry c.args.who c.args.block (memo_of c.args.pool.now c.args.who) (memo_of c.call.new.self c.args.who) (memo_of c.call.new.self c.args.who).call a g)
 
 pub returns-clause-roots : goal.returns-clause-roots
 returns-clause-roots c =
-    let p = c.args.pool.now in
-    let r : Memo = memo_of c.call.new.self c.args.who in
-    follows (goal.at.returns-clause-roots c).After-call (λ a. (k : ℕ) → root_word c.args.who r k ≡ root_word c.args.who (memo_of p c.args.who) k)
-    (λ a g. tear_roots p.start.geometry c.args.who c.args.block (memo_of p c.args.who) r r.call a g)
+    let at = (goal.at.returns-clause-roots c).After-call in
+    (called at).follows (λ a. (k : ℕ) → root_word c.args.who (memo_of c.call.new.self c.args.who) k ≡ root_word c.args.who (memo_of c.args.pool.now c.args.who) k) (λ a g. tear_roots c.args.pool.now.start.geometry c.args.who c.args.block (memo_of c.args.pool.now c.args.who) (memo_of c.call.new.self c.args.who) (memo_of c.call.new.self c.args.who).call a g)
 
 pub returns-clause-at_work : goal.returns-clause-at_work
 returns-clause-at_work c =
     let at = (goal.at.returns-clause-at_work c).After-call in
-    let p = c.args.pool.now in
-    let r : Memo = memo_of c.call.new.self c.args.who in
-    works tear_control TearFits TearGives c.args.who p (machine (goal.at.After-call at).After-new-tear) c.call.new.self c.args.life.now.left c.call.new.life.left c.call.result (called at) refl c.requires.at_work
-    (follows at (λ a. IsIdle c.args.who r) (λ a g. tear_idle p.start.geometry c.args.who c.args.block (memo_of p c.args.who) r r.call a c.requires.at_work.idle g))
-
-pub returns-clause-ran : goal.returns-clause-ran
-returns-clause-ran c =
-    let at = (goal.at.returns-clause-ran c).After-call in
-    ran_fresh tear_control TearFits TearGives c.args.who c.args.pool.now (machine (goal.at.After-call at).After-new-tear) c.call.new.self c.args.life.now.left c.call.new.life.left c.call.result (called at) refl
+    (called at).works (λ a g. tear_idle c.args.pool.now.start.geometry c.args.who c.args.block (memo_of c.args.pool.now c.args.who) (memo_of c.call.new.self c.args.who) (memo_of c.call.new.self c.args.who).call a c.requires.at_work.idle g)
 
 pub returns-clause-events : goal.returns-clause-events
 returns-clause-events c =
     let at = (goal.at.returns-clause-events c).After-call in
-    let m : TearState = machine (goal.at.After-call at).After-new-tear in
-    let p = c.args.pool.now in
-    let q = c.call.new.self in
-    let r : Memo = memo_of q c.args.who in
-    told tear_control TearFits TearGives c.args.who p m q c.args.life.now.left c.call.new.life.left c.call.result (called at) refl tear_event tear_tells
-    (Gave at) (λ a. (es : List Event) × Did c.args.who p q es × TearLeaves m.me c.args.block (memo_of p c.args.who) r es r.call a) (gave at)
-    (λ a g d. (happens_along tear_control tear_event m r.call, d, g.leaves))
+    (called at).told (λ a. (es : List Event) × Did c.args.who c.args.pool.now c.call.new.self es × TearLeaves (machine (goal.at.After-call at).After-new-tear).me c.args.block (memo_of c.args.pool.now c.args.who) (memo_of c.call.new.self c.args.who) es (memo_of c.call.new.self c.args.who).call a) (λ a g d. (_, d, g.leaves))

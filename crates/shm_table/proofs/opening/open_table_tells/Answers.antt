@@ -1,0 +1,28 @@
+use Rattle.std.proofs.Common.{◌≡◌, ℕ}
+use Rattle.shm_graph.specs.declared.ask.Me.{Me}
+use Rattle.shm_graph.specs.declared.memo.Memo.{Memo}
+use Rattle.shm_graph.specs.Events.{Event}
+use Rattle.std.specs.Prelude.{List}
+use Rattle.shm_count.specs.TearEvents.{Visit}
+use Rattle.shm_alloc.specs.declared.alloc.AllocFault.{AllocFault}
+use Rattle.shm_alloc.specs.declared.alloc.AllocFault.TheVariants.{EraSpent, RootsFull, Full}
+use Rattle.shm_table.specs.declared.answer.PutFault.TheVariants.{CountFull}
+use Rattle.shm_table.specs.Answers.{made_fault}
+use Rattle.shm_table.specs.OpenFits.{OpenLeft}
+use Rattle.shm_table.specs.OpenFits.OpenLeft.{Undropped, Unmade, Unnamed}
+use Rattle.shm_table.specs.OpenMachine.{open_told}
+use Rattle.shm_table.proofs.opening.open_table_tells.Goals as goal
+
+-- no allocation is refused since a count is full
+not_full : (a : AllocFault) (b n : ℕ) → CountFull b n ≡ made_fault a → ⊥
+not_full (EraSpent e) b n is = cc
+not_full RootsFull b n is = cc
+not_full (Full s u) b n is = cc
+
+never : (me : Me) (r0 r : Memo) (es : List Event) (vs : List Visit) (b n : ℕ) → OpenLeft me r0 r es vs (CountFull b n) → ⊥
+never me r0 r es vs b n (Unmade a is cleared home none all) = not_full a b n is
+never me r0 r es vs b n (Unnamed e is k d has home told all) = cc
+never me r0 r es vs b n (Undropped e is k d free some home others stopped ds told) = cc
+
+pub returns-clause-room : goal.returns-clause-room
+returns-clause-room c me r0 r tr b n h = never me r0 r (open_told me tr) h.leaves.visits b n h.leaves.left

@@ -1,0 +1,14 @@
+use Rattle.shm_table.specs.GetTells.{ready_maps, ready_told}
+use Rattle.shm_table.proofs.reading.get_tells.Goals as goal
+
+pub returns-clause-missing : goal.returns-clause-missing
+returns-clause-missing c me a key r0 r tr q h = h.leaves.absent q
+
+pub returns-clause-found : goal.returns-clause-found
+returns-clause-found c me a key r0 r tr x q h = h.leaves.has q
+
+pub returns-clause-told : goal.returns-clause-told
+returns-clause-told c m r0 r tr fit ready = (ready_told m r0 r tr fit ready).1
+
+pub returns-clause-map : goal.returns-clause-map
+returns-clause-map c m r0 r tr fit ready w rs held same = ready_maps m r0 r tr fit ready w rs held same

@@ -1,0 +1,12 @@
+use Rattle.shm_table.specs.GetTells.{located_absent, located_found, located_read}
+use Rattle.shm_table.specs.ReadMachines.{locate_told}
+use Rattle.shm_table.proofs.reading.locate_tells.Goals as goal
+
+pub returns-clause-absent : goal.returns-clause-absent
+returns-clause-absent c me a key r0 r tr home first q h = located_absent me a key home first r0 r tr (locate_told me a key tr) q h.leaves
+
+pub returns-clause-found : goal.returns-clause-found
+returns-clause-found c me a key r0 r tr entry before word q h = located_found me a key entry before word r0 r tr (locate_told me a key tr) q h.leaves
+
+pub returns-clause-read : goal.returns-clause-read
+returns-clause-read c me a key r0 r tr entry before word h = located_read me a key entry before word r0 r tr (locate_told me a key tr) h.leaves

@@ -1,0 +1,188 @@
+//! What a key has in the table of an author.
+
+ghost use Rattle.std.specs.Prelude.{◌≡◌, ◌<◌, ◌+◌, ◌^◌};
+ghost use Rattle.shm_words.specs.Layout.{GeometryFits};
+ghost use Rattle.shm_table.specs.GetControl as control;
+ghost use Rattle.shm_table.specs.GetFits.{get_plan};
+ghost use Rattle.shm_table.specs.GetLaws.{get_laws};
+
+use crate::find::Found;
+use crate::locate::{Locate, Locating};
+use crate::unlatch::{Unlatch, Unlatching};
+use shm_calls::{Calls, Or, Plan, Word};
+use shm_graph::{Machine, Me};
+use std::marker::Model;
+
+/// Which call of it comes next.
+#[derive(Clone, Copy, Debug, PartialEq, Eq, Drop)]
+pub enum GetPoint {
+    /// The latch is taken and the entry looked for.
+    Search,
+    /// The value word of the entry is loaded.
+    Value,
+    /// The number of its value block is loaded.
+    Number,
+    /// No entry has the key: the latch is given back.
+    Missing,
+    /// The number is known: the latch is given back.
+    Known,
+}
+
+/// What a key has: a number, and the value block that holds it.
+#[derive(Clone, Copy, Debug, PartialEq, Eq, Drop)]
+pub struct Valued {
+    pub number: u64,
+    pub block: u32,
+}
+
+/// The control of it: the entry that was found, its value block and that block's number.
+#[derive(Clone, Copy, Debug, PartialEq, Eq, Drop)]
+pub struct GetState {
+    pub me: Me,
+    pub author: u8,
+    pub key: u32,
+    pub entry: u32,
+    pub block: u32,
+    pub number: u64,
+    pub point: GetPoint,
+}
+
+/// The calls by which an identity reads what a key has in the table of an author.
+#[derive(Drop)]
+pub struct Getting {
+    state: GetState,
+}
+
+impl Model for Getting {
+    ghost use Rattle.shm_table.specs.declared.get.GetState.{GetState as AState};
+
+    ghost Value = { AState };
+
+    ghost view = { λ a. a.state };
+
+    ghost use Rattle.shm_table.specs.GetControl.{GetInRange};
+
+    ghost invariant = { λ a. GetInRange a.state };
+}
+
+/// It answers what the key has, or none where no entry has the key. The latch is given back then.
+pub type Get = Calls<Getting>;
+
+/// The address of the first word of a block after its header and its tag, or of one more.
+#[inline(always)]
+fn word_of(block: u32, word: u32) -> u32
+    requires block { block < 2 ^ 20 }
+    requires word { word < 2 }
+    ensures { result ≡ block + 2 + word }
+{
+    block + 2 + word
+}
+
+impl Getting {
+    /// What the key `key` has in the table of `author` is to be read.
+    #[inline(always)]
+    pub fn new(me: Me, author: u8, key: u32) -> Getting
+        requires geometry { GeometryFits me.geometry }
+        requires who { me.who < me.geometry.clients }
+        requires author { author < me.geometry.clients }
+        ensures { result ≡ control.getting me author key }
+    {
+        Getting {
+            state: GetState {
+                me,
+                author,
+                key,
+                entry: 0,
+                block: 0,
+                number: 0,
+                point: GetPoint::Search,
+            },
+        }
+    }
+}
+
+impl GetState {
+    /// Where it goes by the word that was loaded.
+    #[inline(always)]
+    fn read(&mut self, word: u64)
+        ensures { self.new ≡ control.read_after self.old self.old.point word }
+    {
+        match self.point {
+            GetPoint::Value => {
+                self.block = (word % (1 << 20)) as u32;
+                self.point = GetPoint::Number;
+            }
+            _ => {
+                self.number = word;
+                self.point = GetPoint::Known;
+            }
+        }
+    }
+
+    /// What it answers once the latch is given back.
+    #[inline(always)]
+    fn answer(&self) -> Option<Valued>
+        ensures { result ≡ control.get_answer self.now self.now.point }
+    {
+        let GetState { number, block, .. } = *self;
+        match self.point {
+            GetPoint::Known => Some(Valued { number, block }),
+            _ => None,
+        }
+    }
+}
+
+impl Plan for Getting {
+    type Call = Or<Locate, Or<Word, Unlatch>>;
+
+    type Answer = Option<Valued>;
+
+    ghost plan = { get_plan };
+
+    #[inline(always)]
+    fn me(&self) -> Me {
+        self.state.me
+    }
+
+    #[inline(always)]
+    fn call(&self) -> Or<Locate, Or<Word, Unlatch>> {
+        let GetState {
+            me,
+            author,
+            key,
+            entry,
+            block,
+            point,
+            ..
+        } = self.state;
+        match point {
+            GetPoint::Search => Or::First(Calls::new(Locating::new(me, author, key))),
+            GetPoint::Value => Or::Second(Or::First(Word::load(me, word_of(entry, 1)))),
+            GetPoint::Number => Or::Second(Or::First(Word::load(me, word_of(block, 0)))),
+            GetPoint::Missing => { Or::Second(Or::Second(Calls::new(Unlatching::new(me, author)))) }
+            GetPoint::Known => Or::Second(Or::Second(Calls::new(Unlatching::new(me, author)))),
+        }
+    }
+
+    #[inline(always)]
+    fn next(&mut self, answer: Or<Found, Or<u64, ()>>) -> Option<Option<Valued>> {
+        match answer {
+            Or::First(Found::At { entry, .. }) => {
+                self.state.entry = entry % (1 << 20);
+                self.state.point = GetPoint::Value;
+                None
+            }
+            Or::First(Found::Absent { .. }) => {
+                self.state.point = GetPoint::Missing;
+                None
+            }
+            Or::Second(Or::First(word)) => {
+                self.state.read(word);
+                None
+            }
+            Or::Second(Or::Second(())) => Some(self.state.answer()),
+        }
+    }
+
+    ghost laws = { get_laws };
+}

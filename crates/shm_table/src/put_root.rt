@@ -1,0 +1,255 @@
+//! A value block that a root names comes into the own table, at a key.
+
+ghost use Rattle.std.specs.Prelude.{◌≡◌, ◌<◌, ◌^◌};
+ghost use Rattle.shm_words.specs.Layout.{GeometryFits};
+ghost use Rattle.shm_table.specs.PutRootControl as control;
+ghost use Rattle.shm_table.specs.PutRootControl.{putting_root};
+ghost use Rattle.shm_table.specs.PutRootFits.{put_root_plan};
+ghost use Rattle.shm_table.specs.PutRootLaws.{put_root_laws};
+
+use crate::answer::PutFault;
+use crate::enter::{Enter, Entered, Entering};
+use crate::find::Found;
+use crate::locate::{Locate, Locating};
+use crate::open_table::{OpenTable, Opening};
+use crate::replace::{Replace, Replacing};
+use crate::unlatch::{Unlatch, Unlatching};
+use shm_calls::{Calls, Or, Plan};
+use shm_count::EraSpent;
+use shm_graph::{Machine, Me};
+use shm_ref::{DropRoot, Dropping};
+use std::marker::Model;
+
+/// Which call of it comes next.
+#[derive(Clone, Copy, Debug, PartialEq, Eq, Drop)]
+pub enum PutRootPoint {
+    /// The own home comes to name a directory, where it names none.
+    Open,
+    /// The own latch is taken, and the key is looked for.
+    Locate,
+    /// The entry that was found comes to have the value block.
+    Replace,
+    /// A new entry comes to have it.
+    Enter,
+    /// The latch is given back.
+    Unlatch,
+    /// The root of the new entry is dropped.
+    Drop,
+}
+
+/// The control of it: `value` is to be at `key`. `entry` is the entry that was found, or the directory is `home` and its bucket's first entry
+/// `first`; `root` is that of a new entry, and `refused` is why it came to nothing.
+#[derive(Clone, Copy, Debug, PartialEq, Eq, Drop)]
+pub struct PutRootState {
+    pub me: Me,
+    pub key: u32,
+    pub value: u32,
+    pub home: u32,
+    pub first: u32,
+    pub entry: u32,
+    pub root: Option<u8>,
+    pub refused: Option<PutFault>,
+    pub point: PutRootPoint,
+}
+
+/// Its calls.
+pub type PutRootCall = Or<Or<OpenTable, Locate>, Or<Or<Replace, Enter>, Or<Unlatch, DropRoot>>>;
+
+/// What its calls answer.
+pub type PutRootAnswer = Or<
+    Or<Result<(), PutFault>, Found>,
+    Or<Or<Result<(), PutFault>, Entered>, Or<(), Result<bool, EraSpent>>>,
+>;
+
+/// The calls by which a value block comes into the own table.
+#[derive(Drop)]
+pub struct PuttingRoot {
+    state: PutRootState,
+}
+
+impl Model for PuttingRoot {
+    ghost use Rattle.shm_table.specs.declared.put_root.PutRootState.{PutRootState as AState};
+
+    ghost Value = { AState };
+
+    ghost view = { λ a. a.state };
+
+    ghost use Rattle.shm_table.specs.PutRootControl.{PutRootInRange};
+
+    ghost invariant = { λ a. PutRootInRange a.state };
+}
+
+/// It answers why the key hasn't the value block: from the step on by which it has it, no refusal changes the answer.
+pub type PutRoot = Calls<PuttingRoot>;
+
+impl PuttingRoot {
+    /// The value block `value`, which a root of `me` names, is to be at `key` in the table of `me`.
+    #[inline(always)]
+    pub fn new(me: Me, key: u32, value: u32) -> PuttingRoot
+        requires geometry { GeometryFits me.geometry }
+        requires who { me.who < me.geometry.clients }
+        requires value { value < 2 ^ 20 }
+        ensures { result ≡ putting_root me key value }
+    {
+        PuttingRoot {
+            state: PutRootState {
+                me,
+                key,
+                value,
+                home: 0,
+                first: 0,
+                entry: 0,
+                root: None,
+                refused: None,
+                point: PutRootPoint::Open,
+            },
+        }
+    }
+}
+
+/// A directory that lies in a pool.
+#[inline(always)]
+fn home_of(block: u32) -> u32
+    ensures { result ≡ control.home_of block }
+{
+    if block < (1 << 20) - 17 { block } else { 0 }
+}
+
+impl PutRootState {
+    /// Where it goes once the key was looked for.
+    #[inline(always)]
+    fn located(&mut self, found: Found)
+        ensures { self.new ≡ control.located_after self.old found }
+    {
+        match found {
+            Found::At { entry, .. } => {
+                self.entry = entry % (1 << 20);
+                self.point = PutRootPoint::Replace;
+            }
+            Found::Absent { home, first } => {
+                self.home = home_of(home);
+                self.first = first % (1 << 20);
+                self.point = PutRootPoint::Enter;
+            }
+        }
+    }
+
+    /// Where it goes once a new entry was to be linked.
+    #[inline(always)]
+    fn entered(&mut self, entered: Entered)
+        ensures { self.new ≡ control.entered_after self.old entered }
+    {
+        self.point = PutRootPoint::Unlatch;
+        match entered {
+            Entered::Linked { root } => self.root = Some(root % 16),
+            Entered::Unlinked { root, fault } => {
+                self.root = Some(root % 16);
+                self.refused = Some(fault);
+            }
+            Entered::Unmade { fault } => self.refused = Some(fault),
+        }
+    }
+
+    /// What it answers where nothing more was refused.
+    #[inline(always)]
+    fn answer(self) -> Result<(), PutFault>
+        ensures { result ≡ control.put_answer self.refused }
+    {
+        match self.refused {
+            None => Ok(()),
+            Some(fault) => Err(fault),
+        }
+    }
+
+    /// What it answers where the root of the entry couldn't be dropped.
+    #[inline(always)]
+    fn stuck(self, spent: EraSpent) -> Result<(), PutFault>
+        ensures { result ≡ control.stuck_answer self.refused spent }
+    {
+        match self.refused {
+            None => Ok(()),
+            Some(_) => Err(PutFault::spent(spent)),
+        }
+    }
+}
+
+impl Plan for PuttingRoot {
+    type Call = PutRootCall;
+
+    type Answer = Result<(), PutFault>;
+
+    ghost plan = { put_root_plan };
+
+    #[inline(always)]
+    fn me(&self) -> Me {
+        self.state.me
+    }
+
+    #[inline(always)]
+    fn call(&self) -> PutRootCall {
+        let PutRootState {
+            me,
+            key,
+            value,
+            home,
+            first,
+            entry,
+            root,
+            point,
+            ..
+        } = self.state;
+        match point {
+            PutRootPoint::Open => Or::First(Or::First(Calls::new(Opening::new(me)))),
+            PutRootPoint::Locate => Or::First(Or::Second(Calls::new(Locating::new(me, me.who, key)))),
+            PutRootPoint::Replace => {
+                Or::Second(Or::First(Or::First(Calls::new(Replacing::new(me, entry, value)))))
+            }
+            PutRootPoint::Enter => Or::Second(Or::First(Or::Second(Calls::new(Entering::new(
+                me, key, value, home, first,
+            ))))),
+            PutRootPoint::Unlatch => {
+                Or::Second(Or::Second(Or::First(Calls::new(Unlatching::new(me, me.who)))))
+            }
+            PutRootPoint::Drop => Or::Second(Or::Second(Or::Second(Calls::new(Dropping::new(
+                me,
+                root.unwrap_or(0),
+            ))))),
+        }
+    }
+
+    #[inline(always)]
+    fn next(&mut self, answer: PutRootAnswer) -> Option<Result<(), PutFault>> {
+        match answer {
+            Or::First(Or::First(Ok(()))) => {
+                self.state.point = PutRootPoint::Locate;
+                None
+            }
+            Or::First(Or::First(Err(fault))) => Some(Err(fault)),
+            Or::First(Or::Second(found)) => {
+                self.state.located(found);
+                None
+            }
+            Or::Second(Or::First(Or::First(done))) => {
+                self.state.refused = done.err();
+                self.state.point = PutRootPoint::Unlatch;
+                None
+            }
+            Or::Second(Or::First(Or::Second(entered))) => {
+                self.state.entered(entered);
+                None
+            }
+            Or::Second(Or::Second(Or::First(()))) => {
+                self.state.point = PutRootPoint::Drop;
+                if self.state.root.is_some() {
+                    None
+                } else {
+                    Some(self.state.answer())
+                }
+            }
+            Or::Second(Or::Second(Or::Second(Ok(_)))) => Some(self.state.answer()),
+            Or::Second(Or::Second(Or::Second(Err(spent)))) => Some(self.state.stuck(spent)),
+        }
+    }
+
+    ghost laws = { put_root_laws };
+}
