@@ -45,7 +45,9 @@ pub mod PutRootControl
 pub mod PutRootFits
 pub mod PutRootSteps
 pub mod PutRootLaws
+pub mod PutRootBound
 pub mod ReadMachines
 pub mod ChangeMachines
 pub mod Machines
 pub mod OpenMachine
+pub mod PutMachines

@@ -182,6 +182,7 @@ pub record PutRootRefused (me : Me) (key v : ℕ) (r0 r : Memo) (tr : Trail) (es
   pub keys : ℕ
   pub search : (keys ≡ 0) ⊎ HasSearch me me.who key keys tr
   pub left : List Visit
+  pub dying : All (λ (x : Visit). Contains r.dying x.block) left
   pub bound : IsWithin (put_root_steps me.geometry.segments + 2 * keys + tear_steps (frees es + length left)) tr
 
 abbrev pub PutRootLeaves : PutRootState → Memo → Memo → Trail → List Event → Result (Unit {0}) PutFault → Type 0

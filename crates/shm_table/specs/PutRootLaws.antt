@@ -157,6 +157,7 @@ refused_of m r0 r tr es f h =
       keys = h.keys;
       search = inr h.search;
       left = h.left;
+      dying = h.dying;
       bound = omega arith;
     }
 
@@ -204,6 +205,7 @@ module _ (m : PutRootState) (r0 rs r : Memo) (tr t : Trail) (es ds : List Event)
             keys = 0;
             search = inl refl;
             left = w.visits;
+            dying = dying_so f w.left;
             bound = let y = w.bound in omega arith;
           }
         where
@@ -211,6 +213,11 @@ module _ (m : PutRootState) (r0 rs r : Memo) (tr t : Trail) (es ds : List Event)
           left_so f (NotMade a is cleared home none all) = inl cleared
           left_so f (Unnamed e is k d has home told all) = inr (subst IsEraSpent (sym is) tt)
           left_so f (Undropped e is k d free some home others stopped fs told) = inr (subst IsEraSpent (sym is) tt)
+
+          dying_so : (f : PutFault) → OpenLeft m.me r0 r ds w.visits f → All (λ (x : Visit). Contains r.dying x.block) w.visits
+          dying_so f (NotMade a is cleared home none all) = subst (All (λ (x : Visit). Contains r.dying x.block)) (sym all) (All-nil (λ (x : Visit). Contains r.dying x.block))
+          dying_so f (Unnamed e is k d has home told all) = subst (All (λ (x : Visit). Contains r.dying x.block)) (sym all) (All-nil (λ (x : Visit). Contains r.dying x.block))
+          dying_so f (Undropped e is k d free some home others stopped fs told) = stopped.left
 
   -- the latch is taken, and the key was looked for
   located : (b : Found) → PutRootKnows (record m { point = Locate }) Locate r0 rs tr es → Located m.me c m.key rs r t ds b → Goes Locate (First (Second b))
@@ -452,6 +459,7 @@ module _ (m : PutRootState) (r0 rs r : Memo) (tr t : Trail) (es ds : List Event)
         keys = h.keys;
         search = inr (search_more m.me c m.key h.keys tr t h.search);
         left = nobody;
+        dying = All-nil (λ (x : Visit). Contains r.dying x.block);
         bound = let y = within_more (settled_steps g + 2 + 2 * h.keys + tear_steps (frees es + length h.left)) (9 + 164 * frees ds) tr t h.bound w.bound in omega arith;
       }
   dropped_so k None (Err e) h (vs, w) =
@@ -484,6 +492,7 @@ module _ (m : PutRootState) (r0 rs r : Memo) (tr t : Trail) (es ds : List Event)
         keys = h.keys;
         search = inr (search_more m.me c m.key h.keys tr t h.search);
         left = vs;
+        dying = w.stopped.left;
         bound = let y = within_more (settled_steps g + 2 + 2 * h.keys + tear_steps (frees es + length h.left)) (9 + 164 * (frees ds + length vs)) tr t h.bound w.bound in omega arith;
       }
 

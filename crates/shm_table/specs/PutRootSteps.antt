@@ -143,19 +143,19 @@ located_at me key v r0 rs r t es ds entry before word held agent h w =
     let small : entry ≡ entry % 2 ^ 20 = omega arith in (
       h.may.0,
       subst (λ b. MayReplace me key v h.may.0 b before word r) small
-      (record {
-        geometry = may.geometry;
-        who = may.who;
-        idle = w.idle;
-        client = agent ∙ h.client;
-        found = w.found.own refl;
-        some = w.found.some;
-        room = w.found.room;
-        here = w.found.here;
-        value = value me key v r0 rs r t es ds (At entry before word) held agent h w;
-        named = named me key v r0 rs r t es ds (At entry before word) held agent h w;
-        block = may.some;
-      }),
+          (record {
+            geometry = may.geometry;
+            who = may.who;
+            idle = w.idle;
+            client = agent ∙ h.client;
+            found = w.found.own refl;
+            some = w.found.some;
+            room = w.found.room;
+            here = w.found.here;
+            value = value me key v r0 rs r t es ds (At entry before word) held agent h w;
+            named = named me key v r0 rs r t es ds (At entry before word) held agent h w;
+            block = may.some;
+          }),
     )
 
 -- no entry has the key
@@ -176,19 +176,19 @@ located_absent me key v r0 rs r t es ds home first held agent h w =
     ] in (
       h.may.0,
       subst (λ d. MayEnter me key v h.may.0 d (first % 2 ^ 20) r) low
-      (subst (λ b. MayEnter me key v h.may.0 home b r) small
-      (record {
-        geometry = may.geometry;
-        who = may.who;
-        idle = w.idle;
-        client = agent ∙ h.client;
-        vacant = vacant;
-        directory = here;
-        small = may.small;
-        some = may.some;
-        named = named me key v r0 rs r t es ds (Absent home first) held agent h w;
-        value = value me key v r0 rs r t es ds (Absent home first) held agent h w;
-      })),
+          (subst (λ b. MayEnter me key v h.may.0 home b r) small
+          (record {
+            geometry = may.geometry;
+            who = may.who;
+            idle = w.idle;
+            client = agent ∙ h.client;
+            vacant = vacant;
+            directory = here;
+            small = may.small;
+            some = may.some;
+            named = named me key v r0 rs r t es ds (Absent home first) held agent h w;
+            value = value me key v r0 rs r t es ds (Absent home first) held agent h w;
+          })),
     )
   where
     is_zero : (n : ℕ) → (n ≡ 0) ⊎ (n ≢ 0)

@@ -79,3 +79,48 @@ where
     }
     last
 }
+
+/// Kinds of listed steps: a load with the word found, a store with the word put, an exchange with both, which doesn't fail.
+pub const LOAD: u8 = 0;
+
+pub const STORE: u8 = 1;
+
+pub const EXCHANGE: u8 = 2;
+
+/// A listed step, and the word that it finds.
+fn listed(step: (u8, u32, u64, u64)) -> (Ask, u64) {
+    let (kind, at, word, to) = step;
+    if kind == LOAD {
+        (load(at), word)
+    } else if kind == STORE {
+        (store(at, word), 0)
+    } else {
+        (exchange(at, word, to), word)
+    }
+}
+
+/// As `follow`, where the steps are listed.
+pub fn follow_listed<M: Machine>(
+    machine: &mut M,
+    words: &mut Vec<u64>,
+    steps: &[(u8, u32, u64, u64)],
+) -> Option<M::Answer>
+where
+    M::Answer: Drop,
+{
+    let mut last = None;
+    for &step in steps {
+        let (ask, found) = listed(step);
+        if last.is_some() || machine.finished() || machine.ask() != ask {
+            return None;
+        }
+        let seen = make(words, ask)?;
+        if seen != found {
+            return None;
+        }
+        if let Turn::Done(answer) = machine.take(seen) {
+            last = Some(answer);
+        }
+    }
+    last
+}

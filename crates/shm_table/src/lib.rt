@@ -8,41 +8,47 @@ pub mod answer;
 pub mod bound;
 pub mod changes;
 pub mod del;
-pub mod enter;
-pub mod events;
-pub mod find;
-pub mod get;
-pub mod locate;
-pub mod open_table;
-pub mod opening;
-pub mod parts;
-pub mod put_root;
-pub mod reading;
-pub mod replace;
-pub mod staying;
-pub mod unlatch;
-pub mod unlink;
-
 #[cfg(test)]
 mod del_edge_tests;
 #[cfg(test)]
 mod del_tests;
+pub mod enter;
 #[cfg(test)]
 mod enter_spent_tests;
 #[cfg(test)]
 mod enter_tests;
 #[cfg(test)]
 mod entry_tests;
+pub mod events;
+pub mod find;
+pub mod get;
 #[cfg(test)]
 mod get_tests;
+pub mod locate;
+pub mod open_table;
 #[cfg(test)]
 mod open_tests;
+pub mod opening;
+pub mod parts;
+pub mod put_root;
+#[cfg(test)]
+mod put_root_refusal_tests;
+#[cfg(test)]
+mod put_root_tests;
+#[cfg(test)]
+mod put_root_there_tests;
+pub mod putting;
+pub mod reading;
+pub mod replace;
 #[cfg(test)]
 mod replace_tests;
+pub mod staying;
 #[cfg(test)]
 mod stepping;
 #[cfg(test)]
 mod tests;
+pub mod unlatch;
+pub mod unlink;
 #[cfg(test)]
 mod unlink_refusal_tests;
 #[cfg(test)]

@@ -7,8 +7,10 @@ pub use crate::changes::{
 };
 pub use crate::del::{DelPoint, DelState};
 pub use crate::enter::{Enter, EnterPoint, EnterState, Entered, Entering};
-pub use crate::events::{enter_begins, enter_events, enter_leaves};
-pub use crate::events::{find_begins, find_events, find_leaves, find_tells, read_tells};
+pub use crate::events::{
+    enter_begins, enter_events, enter_leaves, find_begins, find_events, find_leaves, find_tells,
+    read_tells,
+};
 pub use crate::find::{Find, FindPoint, FindState, Finding, Found};
 pub use crate::get::{GetPoint, GetState};
 pub use crate::locate::{Locate, LocatePoint, LocateState, Locating};
@@ -17,6 +19,7 @@ pub use crate::opening::{
     open_table_begins, open_table_bound, open_table_events, open_table_leaves, open_table_tells,
 };
 pub use crate::put_root::{PutRoot, PutRootPoint, PutRootState, PuttingRoot};
+pub use crate::putting::{put_root_begins, put_root_bound, put_root_events, put_root_leaves};
 pub use crate::reading::{
     locate_begins, locate_bound, locate_events, locate_leaves, locate_tells, unlatch_begins,
     unlatch_bound, unlatch_events, unlatch_leaves,

@@ -200,7 +200,9 @@ impl Plan for PuttingRoot {
         } = self.state;
         match point {
             PutRootPoint::Open => Or::First(Or::First(Calls::new(Opening::new(me)))),
-            PutRootPoint::Locate => Or::First(Or::Second(Calls::new(Locating::new(me, me.who, key)))),
+            PutRootPoint::Locate => Or::First(Or::Second(Calls::new(Locating::new(
+                me, me.who, key,
+            )))),
             PutRootPoint::Replace => {
                 Or::Second(Or::First(Or::First(Calls::new(Replacing::new(me, entry, value)))))
             }

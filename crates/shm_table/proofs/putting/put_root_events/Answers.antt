@@ -1,0 +1,8 @@
+use Rattle.shm_calls.specs.CallsKeep.{calls_tells}
+use Rattle.shm_table.specs.PutRootControl.{put_root_parts}
+use Rattle.shm_table.specs.PutRootFits.{put_root_plan}
+use Rattle.shm_table.specs.PutRootLaws.{put_root_laws}
+use Rattle.shm_table.proofs.putting.put_root_events.Goals as goal
+
+pub returns : goal.returns
+returns c = calls_tells put_root_parts put_root_plan put_root_laws

@@ -1,0 +1,31 @@
+-- the machine by which a value block comes into the own table, as it is made: when it fits, what it gives, and what it tells of its events
+use Rattle.std.specs.Prelude.{ℕ, Result, List}
+use Rattle.shm_graph.specs.declared.ask.Me.{Me}
+use Rattle.shm_graph.specs.declared.memo.Memo.{Memo}
+use Rattle.shm_graph.specs.Asks.{Trail}
+use Rattle.shm_graph.specs.Events.{Event}
+use Rattle.shm_graph.specs.Laws.{Control}
+use Rattle.shm_graph.specs.Tells.{happens_along}
+use Rattle.shm_calls.specs.declared.calls.Calls.{Calls}
+use Rattle.shm_calls.specs.CallsControl.{calls_control, calls_of, calls_does}
+use Rattle.shm_calls.specs.CallsFit.{CallsFits, CallsGives}
+use Rattle.shm_table.specs.declared.answer.PutFault.{PutFault}
+use Rattle.shm_table.specs.declared.put_root.PutRootState.{PutRootState}
+use Rattle.shm_table.specs.PutRootControl.{PutRootAnswer, PutRootCall, put_root_parts, putting_root}
+use Rattle.shm_table.specs.PutRootFits.{put_root_plan}
+
+-- its states, and its control
+abbrev pub PutRootCalls : Type 0
+PutRootCalls = Calls PutRootState PutRootCall (Result (Unit {0}) PutFault) PutRootAnswer
+
+abbrev pub put_root : Control PutRootCalls (Result (Unit {0}) PutFault)
+put_root = calls_control put_root_parts put_root_plan
+
+abbrev pub PutRootFits : Me → ℕ → ℕ → Memo → Memo → Trail → Type 0
+PutRootFits me key v = CallsFits put_root_parts put_root_plan (calls_of put_root_plan (putting_root me key v))
+
+abbrev pub PutRootGives : Me → ℕ → ℕ → Memo → Memo → Trail → Result (Unit {0}) PutFault → Type 0
+PutRootGives me key v = CallsGives put_root_parts put_root_plan (calls_of put_root_plan (putting_root me key v))
+
+abbrev pub put_root_told : Me → ℕ → ℕ → Trail → List Event
+put_root_told me key v = happens_along put_root (calls_does put_root_parts put_root_plan) (calls_of put_root_plan (putting_root me key v))
