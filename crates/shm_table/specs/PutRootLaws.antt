@@ -40,21 +40,18 @@ use Rattle.shm_table.specs.declared.put_root.PutRootState.{PutRootState}
 use Rattle.shm_table.specs.Answers.{spent_fault}
 use Rattle.shm_table.specs.EnterControl.{enter_parts, entering}
 use Rattle.shm_table.specs.EnterFits.{EnterLeaves, enter_plan, enter_steps, link_events}
-use Rattle.shm_table.specs.EnterLaws.{enter_laws}
 use Rattle.shm_table.specs.LocateControl.{locate_parts, locating}
 use Rattle.shm_table.specs.LocateFits.{Located, MayLocate, locate_control, locate_plan}
-use Rattle.shm_table.specs.LocateLaws.{locate_begin, locate_laws}
+use Rattle.shm_table.specs.LocateLaws.{locate_begin}
 use Rattle.shm_table.specs.OpenControl.{open_parts, opening}
 use Rattle.shm_table.specs.OpenFits.{MayOpen, OpenLeaves, OpenLeft, open_plan}
 use Rattle.shm_table.specs.OpenFits.OpenLeft.{Unmade as NotMade, Unnamed, Undropped}
-use Rattle.shm_table.specs.OpenLaws.{open_laws}
 use Rattle.shm_table.specs.PutRootControl.{PutRootAnswer, enter_control, entered_after, is_open, located_after, open_control, put_root_call, root_or, put_root_parts, replace_control}
 use Rattle.shm_table.specs.PutRootFits.{Decides, HasSearch, IsDecided, IsEraSpent, IsPutting, IsSettled, MapSo, MayPut, PutRootDone, PutRootKnows, PutRootRefused, RootsSo, put_root_part, put_root_plan, opened_steps, searched_steps, settled_steps}
 use Rattle.shm_table.specs.PutRootFits.Decides.{Begins, Leads as Leading, Replaces}
 use Rattle.shm_table.specs.PutRootSteps.{decided_after, decided_more, frees_append, located_absent, located_at, located_putting, located_searched, same_more, same_part, search_more, set_after, set_then}
 use Rattle.shm_table.specs.ReplaceControl.{replace_parts, replacing}
 use Rattle.shm_table.specs.ReplaceFits.{MayReplace, ReplaceLeaves, replace_plan}
-use Rattle.shm_table.specs.ReplaceLaws.{replace_laws}
 use Rattle.shm_table.specs.Staying.{Cleared, Ended, Keeps, MapSet, PutCause, SameMap}
 use Rattle.shm_table.specs.StayingLaws.{cause_before, cause_later, cleared_drop, cleared_more, dropped_else, ended_drop, keeps_drop, keeps_more, keeps_unlatched, left_by, root_kept, spent_drop, spent_later, unlatched_else}
 use Rattle.shm_table.specs.UnlatchFits.{MayUnlatch, Unlatched, unlatch_control, unlatch_plan, unlatching}
@@ -524,23 +521,26 @@ leads m Drop r0 rs r tr t es ds (First b) held agent h w = absurd w
 leads m Drop r0 rs r tr t es ds (Second (First b)) held agent h w = absurd w
 leads m Drop r0 rs r tr t es ds (Second (Second (First b))) held agent h w = absurd w
 
--- each call is a part
-parts : (first : Bool) → PartLaws first put_root_parts put_root_part
-parts first =
-    or_part_laws first (or_control open_control locate_control) (or_control (or_control replace_control enter_control) (or_control unlatch_control drop_root))
-    (or_part (calls_part open_parts open_plan) (calls_part locate_parts locate_plan))
-    (or_part (or_part (calls_part replace_parts replace_plan) (calls_part enter_parts enter_plan)) (or_part (calls_part word_control unlatch_plan) (calls_part drop_parts drop_plan)))
-    (or_part_laws first open_control locate_control (calls_part open_parts open_plan) (calls_part locate_parts locate_plan) (calls_part_laws open_parts open_plan open_laws first) (calls_part_laws locate_parts locate_plan locate_laws first))
-    (or_part_laws first (or_control replace_control enter_control) (or_control unlatch_control drop_root) (or_part (calls_part replace_parts replace_plan) (calls_part enter_parts enter_plan)) (or_part (calls_part word_control unlatch_plan) (calls_part drop_parts drop_plan))
-    (or_part_laws first replace_control enter_control (calls_part replace_parts replace_plan) (calls_part enter_parts enter_plan) (calls_part_laws replace_parts replace_plan replace_laws first) (calls_part_laws enter_parts enter_plan enter_laws first))
-    (or_part_laws first unlatch_control drop_root (calls_part word_control unlatch_plan) (calls_part drop_parts drop_plan) (calls_part_laws word_control unlatch_plan unlatch_laws first) (calls_part_laws drop_parts drop_plan drop_laws first)))
+-- ---- the plan's laws, by those of the machines that it calls
 
-pub put_root_laws : PlanLaws put_root_parts put_root_plan
-put_root_laws =
-    record {
-      stays = stays;
-      calls = λ m. calls m m.point;
-      parts = λ m. parts (is_open m.point);
-      opens = λ m. opens m m.point;
-      leads = λ m r0 rs r tr t es ds b h w held agent. leads m m.point r0 rs r tr t es ds b held agent h w;
-    }
+module _ (opening_laws : PlanLaws open_parts open_plan) (locate : PlanLaws locate_parts locate_plan) (replace : PlanLaws replace_parts replace_plan) (enter : PlanLaws enter_parts enter_plan) where
+  -- each call is a part
+  parts : (first : Bool) → PartLaws first put_root_parts put_root_part
+  parts first =
+      or_part_laws first (or_control open_control locate_control) (or_control (or_control replace_control enter_control) (or_control unlatch_control drop_root))
+      (or_part (calls_part open_parts open_plan) (calls_part locate_parts locate_plan))
+      (or_part (or_part (calls_part replace_parts replace_plan) (calls_part enter_parts enter_plan)) (or_part (calls_part word_control unlatch_plan) (calls_part drop_parts drop_plan)))
+      (or_part_laws first open_control locate_control (calls_part open_parts open_plan) (calls_part locate_parts locate_plan) (calls_part_laws open_parts open_plan opening_laws first) (calls_part_laws locate_parts locate_plan locate first))
+      (or_part_laws first (or_control replace_control enter_control) (or_control unlatch_control drop_root) (or_part (calls_part replace_parts replace_plan) (calls_part enter_parts enter_plan)) (or_part (calls_part word_control unlatch_plan) (calls_part drop_parts drop_plan))
+      (or_part_laws first replace_control enter_control (calls_part replace_parts replace_plan) (calls_part enter_parts enter_plan) (calls_part_laws replace_parts replace_plan replace first) (calls_part_laws enter_parts enter_plan enter first))
+      (or_part_laws first unlatch_control drop_root (calls_part word_control unlatch_plan) (calls_part drop_parts drop_plan) (calls_part_laws word_control unlatch_plan unlatch_laws first) (calls_part_laws drop_parts drop_plan drop_laws first)))
+
+  pub put_root_laws : PlanLaws put_root_parts put_root_plan
+  put_root_laws =
+      record {
+        stays = stays;
+        calls = λ m. calls m m.point;
+        parts = λ m. parts (is_open m.point);
+        opens = λ m. opens m m.point;
+        leads = λ m r0 rs r tr t es ds b h w held agent. leads m m.point r0 rs r tr t es ds b held agent h w;
+      }

@@ -5,7 +5,11 @@ ghost use Rattle.shm_words.specs.Layout.{GeometryFits};
 ghost use Rattle.shm_table.specs.PutRootControl as control;
 ghost use Rattle.shm_table.specs.PutRootControl.{putting_root};
 ghost use Rattle.shm_table.specs.PutRootFits.{put_root_plan};
+ghost use Rattle.shm_table.specs.EnterLaws.{enter_laws};
+ghost use Rattle.shm_table.specs.LocateLaws.{locate_laws};
+ghost use Rattle.shm_table.specs.OpenLaws.{open_laws};
 ghost use Rattle.shm_table.specs.PutRootLaws.{put_root_laws};
+ghost use Rattle.shm_table.specs.ReplaceLaws.{replace_laws};
 
 use crate::answer::PutFault;
 use crate::enter::{Enter, Entered, Entering};
@@ -253,5 +257,5 @@ impl Plan for PuttingRoot {
         }
     }
 
-    ghost laws = { put_root_laws };
+    ghost laws = { put_root_laws open_laws locate_laws replace_laws enter_laws };
 }

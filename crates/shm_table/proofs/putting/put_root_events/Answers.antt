@@ -1,8 +1,12 @@
 use Rattle.shm_calls.specs.CallsKeep.{calls_tells}
 use Rattle.shm_table.specs.PutRootControl.{put_root_parts}
 use Rattle.shm_table.specs.PutRootFits.{put_root_plan}
+use Rattle.shm_table.specs.EnterLaws.{enter_laws}
+use Rattle.shm_table.specs.LocateLaws.{locate_laws}
+use Rattle.shm_table.specs.OpenLaws.{open_laws}
 use Rattle.shm_table.specs.PutRootLaws.{put_root_laws}
+use Rattle.shm_table.specs.ReplaceLaws.{replace_laws}
 use Rattle.shm_table.proofs.putting.put_root_events.Goals as goal
 
 pub returns : goal.returns
-returns c = calls_tells put_root_parts put_root_plan put_root_laws
+returns c = calls_tells put_root_parts put_root_plan (put_root_laws open_laws locate_laws replace_laws enter_laws)
