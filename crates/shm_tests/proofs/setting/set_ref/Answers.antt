@@ -1,4 +1,4 @@
-use Rattle.std.proofs.Common.{◌≡◌, ◌≢◌, ℕ, zero, suc, ◌+◌, ◌^◌, ◌<◌, ◌≤◌, refl, sym, ap, ◌∙◌, subst, true, arith, List, [], Result}
+use Rattle.std.proofs.Common.{◌≡◌, ◌≢◌, ℕ, zero, suc, ◌+◌, ◌^◌, ◌<◌, ◌≤◌, refl, sym, ap, ◌∙◌, subst, true, arith, List, []}
 use Rattle.std.specs.Prelude.{Some, IfOk, IfErr}
 use Rattle.shm_words.specs.declared.geometry.Geometry.{Geometry}
 use Rattle.shm_words.specs.Layout.{total_of}
@@ -13,7 +13,6 @@ use Rattle.shm_calls.specs.CallsControl.{calls_of}
 use Rattle.shm_count.specs.Roots.{AreRootsReached, member, root_word}
 use Rattle.shm_count.specs.TearMemos.{Knows}
 use Rattle.shm_count.proofs.RootSpots.{is_here, roots_reached}
-use Rattle.shm_ref.specs.declared.answer.SetFault.{SetFault}
 use Rattle.shm_ref.specs.declared.set_ref.SetPoint.TheVariants.{Tag}
 use Rattle.shm_ref.specs.declared.set_ref.SetState.{SetState}
 use Rattle.shm_ref.specs.SetRefControl.{set_parts, setting}
