@@ -45,9 +45,6 @@ pub mod PutRootControl
 pub mod PutRootFits
 pub mod PutRootSteps
 pub mod PutRootLaws
-pub mod PutControl
-pub mod PutFits
-pub mod PutLaws
 pub mod ReadMachines
 pub mod ChangeMachines
 pub mod Machines

@@ -17,7 +17,6 @@ pub mod locate;
 pub mod open_table;
 pub mod opening;
 pub mod parts;
-pub mod put;
 pub mod put_root;
 pub mod reading;
 pub mod replace;
@@ -52,6 +51,5 @@ mod unlink_tests;
 
 pub use changes::{del_begins, del_bound, del_events, del_leaves};
 pub use del::{Del, DelAnswer, Deleting};
-pub use put::{Put, Putting};
 pub use get::{Get, Getting, Valued};
 pub use reading::{get_begins, get_bound, get_events, get_leaves, get_tells};

@@ -12,7 +12,6 @@ pub use crate::find::{Find, FindPoint, FindState, Finding, Found};
 pub use crate::get::{GetPoint, GetState};
 pub use crate::locate::{Locate, LocatePoint, LocateState, Locating};
 pub use crate::open_table::{OpenPoint, OpenState, OpenTable, Opening};
-pub use crate::put::{PutPoint, PutState};
 pub use crate::put_root::{PutRoot, PutRootPoint, PutRootState, PuttingRoot};
 pub use crate::reading::{
     locate_begins, locate_bound, locate_events, locate_leaves, locate_tells, unlatch_begins,
