@@ -8,9 +8,12 @@
 pub mod answer;
 pub mod bound;
 pub mod changes;
+pub mod copy;
+pub mod copying;
 pub mod del;
 pub mod enter;
 pub mod events;
+pub mod fetch;
 pub mod find;
 pub mod get;
 pub mod locate;
@@ -25,6 +28,10 @@ pub mod unlatch;
 pub mod unlink;
 
 #[cfg(test)]
+mod copy_refusal_tests;
+#[cfg(test)]
+mod copy_tests;
+#[cfg(test)]
 mod del_edge_tests;
 #[cfg(test)]
 mod del_tests;
@@ -34,6 +41,8 @@ mod enter_spent_tests;
 mod enter_tests;
 #[cfg(test)]
 mod entry_tests;
+#[cfg(test)]
+mod fetch_tests;
 #[cfg(test)]
 mod get_tests;
 #[cfg(test)]
@@ -50,6 +59,8 @@ mod unlink_refusal_tests;
 mod unlink_tests;
 
 pub use changes::{del_begins, del_bound, del_events, del_leaves};
+pub use copy::{CopyKey, Copying};
+pub use copying::{copy_begins, copy_bound, copy_events, copy_leaves};
 pub use del::{Del, DelAnswer, Deleting};
 pub use get::{Get, Getting, Valued};
 pub use reading::{get_begins, get_bound, get_events, get_leaves, get_tells};
