@@ -45,14 +45,10 @@ pub mod PutRootControl
 pub mod PutRootFits
 pub mod PutRootSteps
 pub mod PutRootLaws
-pub mod Commands
 pub mod FetchControl
 pub mod FetchFits
 pub mod FetchSteps
 pub mod FetchLaws
-pub mod CopyControl
-pub mod CopyFits
-pub mod CopyLaws
 pub mod CopyMachines
 pub mod ReadMachines
 pub mod ChangeMachines

@@ -192,8 +192,12 @@ impl Plan for Fetching {
             FetchPoint::Search => Or::First(Calls::new(Locating::new(me, author, key))),
             FetchPoint::Value => Or::Second(Or::First(Word::load(me, word_of(entry, 1)))),
             FetchPoint::Number => Or::Second(Or::First(Word::load(me, word_of(block, 0)))),
-            FetchPoint::Share => Or::Second(Or::Second(Or::First(Calls::new(Rooting::new(me, block))))),
-            FetchPoint::Give => Or::Second(Or::Second(Or::Second(Calls::new(Unlatching::new(me, author))))),
+            FetchPoint::Share => Or::Second(Or::Second(Or::First(Calls::new(Rooting::new(
+                me, block,
+            ))))),
+            FetchPoint::Give => Or::Second(Or::Second(Or::Second(Calls::new(Unlatching::new(
+                me, author,
+            ))))),
         }
     }
 

@@ -105,7 +105,10 @@ fn a_missing_key_gets_no_root(rt: HostRuntime) -> Result<(), Fail> {
         (store(11, 0), 0),
         (store(9, 0), 0),
     ];
-    assert_eq!(rt; follow(&mut machine, &mut words, &steps), Some(Fetched::Missing));
+    assert_eq!(rt;
+        follow(&mut machine, &mut words, &steps),
+        Some(Fetched::Missing)
+    );
     assert_eq!(rt; words.as_slice(), free_table(rt.alloc())?.as_slice());
     Ok(())
 }

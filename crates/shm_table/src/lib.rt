@@ -8,59 +8,51 @@
 pub mod answer;
 pub mod bound;
 pub mod changes;
-pub mod copy;
 pub mod copying;
 pub mod del;
-pub mod enter;
-pub mod events;
-pub mod fetch;
-pub mod find;
-pub mod get;
-pub mod locate;
-pub mod open_table;
-pub mod opening;
-pub mod parts;
-pub mod put_root;
-pub mod reading;
-pub mod replace;
-pub mod staying;
-pub mod unlatch;
-pub mod unlink;
-
-#[cfg(test)]
-mod copy_refusal_tests;
-#[cfg(test)]
-mod copy_tests;
 #[cfg(test)]
 mod del_edge_tests;
 #[cfg(test)]
 mod del_tests;
+pub mod enter;
 #[cfg(test)]
 mod enter_spent_tests;
 #[cfg(test)]
 mod enter_tests;
 #[cfg(test)]
 mod entry_tests;
+pub mod events;
+pub mod fetch;
 #[cfg(test)]
 mod fetch_tests;
+pub mod find;
+pub mod get;
 #[cfg(test)]
 mod get_tests;
+pub mod locate;
+pub mod open_table;
 #[cfg(test)]
 mod open_tests;
+pub mod opening;
+pub mod parts;
+pub mod put_root;
+pub mod reading;
+pub mod replace;
 #[cfg(test)]
 mod replace_tests;
+pub mod staying;
 #[cfg(test)]
 mod stepping;
 #[cfg(test)]
 mod tests;
+pub mod unlatch;
+pub mod unlink;
 #[cfg(test)]
 mod unlink_refusal_tests;
 #[cfg(test)]
 mod unlink_tests;
 
 pub use changes::{del_begins, del_bound, del_events, del_leaves};
-pub use copy::{CopyKey, Copying};
-pub use copying::{copy_begins, copy_bound, copy_events, copy_leaves};
 pub use del::{Del, DelAnswer, Deleting};
 pub use get::{Get, Getting, Valued};
 pub use reading::{get_begins, get_bound, get_events, get_leaves, get_tells};

@@ -1,9 +1,0 @@
-use Rattle.std.proofs.Common.{refl}
-use Rattle.shm_calls.specs.CallsKeep.{calls_begin}
-use Rattle.shm_table.specs.CopyControl.{copy_parts, copying}
-use Rattle.shm_table.specs.CopyFits.{copy_plan}
-use Rattle.shm_table.specs.CopyLaws.{copy_begin, copy_laws}
-use Rattle.shm_table.proofs.copying.copy_begins.Goals as goal
-
-pub returns : goal.returns
-returns c me key a other r may = calls_begin copy_parts copy_plan copy_laws (copying me key a other) r refl refl (copy_begin me key a other r may)
