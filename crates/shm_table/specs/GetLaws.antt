@@ -48,23 +48,23 @@ use Rattle.shm_table.specs.UnlatchLaws.{unlatch_begin, unlatch_laws}
 -- ---- what each call needs
 
 -- a value block's number is a plain word of it
-value_plain : (c : ℕ) (r : Memo) (b : ℕ) → IsIn r AValue b → IsPlainWord c r b 0
+pub value_plain : (c : ℕ) (r : Memo) (b : ℕ) → IsIn r AValue b → IsPlainWord c r b 0
 value_plain c r b here = (shaped r.latch b AValue, role_told c r b AValue here.0 (λ z. cc), refl, omega arith, omega arith)
 
-value_room : (me : Me) (r : Memo) (b : ℕ) → me.who < me.geometry.clients → IsHeld me r → IsIn r AValue b → b + 2 < total_of me.geometry
+pub value_room : (me : Me) (r : Memo) (b : ℕ) → me.who < me.geometry.clients → IsHeld me r → IsIn r AValue b → b + 2 < total_of me.geometry
 value_room me r b l held here = let k = told_inside me r (shaped r.latch b AValue) l held (role_told me.who r b AValue here.0 (λ z. cc)) in omega arith
 
 -- of the memo under the latch
-latch_of : (me : Me) (a : ℕ) (r0 r : Memo) → IsReading me a r0 r → r.latch ≡ Some a
+pub latch_of : (me : Me) (a : ℕ) (r0 r : Memo) → IsReading me a r0 r → r.latch ≡ Some a
 latch_of me a r0 r h = ap (λ (x : Memo). x.latch) h.memo
 
-idle_of : (me : Me) (a : ℕ) (r0 r : Memo) → IsReading me a r0 r → r.op ≡ Nothing
+pub idle_of : (me : Me) (a : ℕ) (r0 r : Memo) → IsReading me a r0 r → r.op ≡ Nothing
 idle_of me a r0 r h = ap (λ (x : Memo). x.op) h.memo ∙ h.may.idle.op
 
-table_of : (me : Me) (a : ℕ) (r0 r : Memo) → IsReading me a r0 r → is_loose r.part ≡ false
+pub table_of : (me : Me) (a : ℕ) (r0 r : Memo) → IsReading me a r0 r → is_loose r.part ≡ false
 table_of me a r0 r h = ap (λ (x : Memo). is_loose x.part) h.memo ∙ h.may.table
 
-may_unlatch : (me : Me) (a : ℕ) (r0 r : Memo) → IsReading me a r0 r → MayUnlatch me a r
+pub may_unlatch : (me : Me) (a : ℕ) (r0 r : Memo) → IsReading me a r0 r → MayUnlatch me a r
 may_unlatch me a r0 r h =
     record {
       geometry = h.may.geometry;
@@ -78,7 +78,7 @@ may_unlatch me a r0 r h =
 -- ---- what follows each call
 
 -- the map of the own table has what was read
-told_own : (me : Me) (a key entry n v : ℕ) (r : Memo) → me.who < me.geometry.clients → IsHeld me r → IsTold a key entry n v r → a ≡ me.who → map_in r.part key ≡ Some (n, v)
+pub told_own : (me : Me) (a key entry n v : ℕ) (r : Memo) → me.who < me.geometry.clients → IsHeld me r → IsTold a key entry n v r → a ≡ me.who → map_in r.part key ≡ Some (n, v)
 told_own me a key entry n v r l (w, rs, h, same) told own =
     ap (λ (x : Memo). map_in x.part key) (sym same) ∙ (ap (λ d. map_in (rs d).part key) (sym own) ∙ author_maps me a key entry v n r told.has told.look told.number l w rs h same)
 
@@ -101,7 +101,7 @@ module _ (m : GetState) (r0 rs r : Memo) (tr t : Trail) (es ds : List Event) (he
     before_it b w = subst (λ (x : Memo). Located m.me a m.key x r t ds b) h.1 w
 
     -- no entry has the key
-    nowhere : (home first : ℕ) → Located m.me a m.key rs r t ds (Absent home first) → IsNowhere m.me a m.key r0 r (tr ++ t) (es ++ ds)
+    pub nowhere : (home first : ℕ) → Located m.me a m.key rs r t ds (Absent home first) → IsNowhere m.me a m.key r0 r (tr ++ t) (es ++ ds)
     nowhere home first located =
         let w = before_it (Absent home first) located in
         begun (IsNowhere m.me a m.key r0 r)
@@ -119,7 +119,7 @@ module _ (m : GetState) (r0 rs r : Memo) (tr t : Trail) (es ds : List Event) (he
         })
 
     -- this one has it
-    at_entry : (entry before word : ℕ) → Located m.me a m.key rs r t ds (At entry before word) → GetKnows (record m { entry = entry % 2 ^ 20; point = Value }) Value r0 r (tr ++ t) (es ++ ds)
+    pub at_entry : (entry before word : ℕ) → Located m.me a m.key rs r t ds (At entry before word) → GetKnows (record m { entry = entry % 2 ^ 20; point = Value }) Value r0 r (tr ++ t) (es ++ ds)
     at_entry entry before word located =
         let w = before_it (At entry before word) located in
         let f = w.found in
@@ -161,7 +161,7 @@ module _ (m : GetState) (r0 rs r : Memo) (tr t : Trail) (es ds : List Event) (he
       }
 
   -- the value word names a block
-  value_read : (n : ℕ) → GetKnows (record m { point = Value }) Value r0 rs tr es → ReferenceLoaded m.entry 1 rs n r → ds ≡ [] → Asked (word_ask m.entry 1) (λ x. Answers x) t n → GetKnows (record m { block = n % 2 ^ 20; point = Number }) Number r0 r (tr ++ t) (es ++ ds)
+  pub value_read : (n : ℕ) → GetKnows (record m { point = Value }) Value r0 rs tr es → ReferenceLoaded m.entry 1 rs n r → ds ≡ [] → Asked (word_ask m.entry 1) (λ x. Answers x) t n → GetKnows (record m { block = n % 2 ^ 20; point = Number }) Number r0 r (tr ++ t) (es ++ ds)
   value_read n (h, here, room) left none asked =
       let more = reference_more m.entry 1 rs n r left in
       let reads = reference_reads m.entry 1 rs n r left in
@@ -176,7 +176,7 @@ module _ (m : GetState) (r0 rs r : Memo) (tr t : Trail) (es ds : List Event) (he
       subst (λ (b : ℕ). GetKnows (record m { block = b; point = Number }) Number r0 r (tr ++ t) (es ++ ds)) (sym small) (next, look_made rs r (Body m.entry 1) n looks, is, inside)
 
   -- its number is known
-  number_read : (n : ℕ) → GetKnows (record m { point = Number }) Number r0 rs tr es → WordLoaded (Body m.block 0) rs n r → ds ≡ [] → Asked (word_ask m.block 0) (λ x. Answers x) t n → GetKnows (record m { number = n; point = Known }) Known r0 r (tr ++ t) (es ++ ds)
+  pub number_read : (n : ℕ) → GetKnows (record m { point = Number }) Number r0 rs tr es → WordLoaded (Body m.block 0) rs n r → ds ≡ [] → Asked (word_ask m.block 0) (λ x. Answers x) t n → GetKnows (record m { number = n; point = Known }) Known r0 r (tr ++ t) (es ++ ds)
   number_read n (h, look, here, room) left none asked =
       let more = word_more (Body m.block 0) rs n r left in
       let next = read_more (value_trail m.entry m.block) (pair (word_ask m.block 0) n ∷ []) h more none (one_pair (word_ask m.block 0) t n asked) in (
@@ -190,7 +190,7 @@ module _ (m : GetState) (r0 rs r : Memo) (tr t : Trail) (es ds : List Event) (he
 
   -- ---- the latch is given back
 
-  missing : IsNowhere m.me a m.key r0 rs tr es → Unlatched m.me a rs r t ds → GotNone m.me a m.key r0 r (tr ++ t) (es ++ ds)
+  pub missing : IsNowhere m.me a m.key r0 rs tr es → Unlatched m.me a rs r t ds → GotNone m.me a m.key r0 r (tr ++ t) (es ++ ds)
   missing h w =
       record {
         visited = visited m.me a r0 rs r t ds h.reading w;

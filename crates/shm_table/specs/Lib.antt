@@ -46,6 +46,11 @@ pub mod PutRootFits
 pub mod PutRootSteps
 pub mod PutRootLaws
 pub mod PutRootBound
+pub mod FetchControl
+pub mod FetchFits
+pub mod FetchSteps
+pub mod FetchLaws
+pub mod CopyMachines
 pub mod ReadMachines
 pub mod ChangeMachines
 pub mod Machines

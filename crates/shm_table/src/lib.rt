@@ -7,6 +7,7 @@
 pub mod answer;
 pub mod bound;
 pub mod changes;
+pub mod copying;
 pub mod del;
 #[cfg(test)]
 mod del_edge_tests;
@@ -22,6 +23,9 @@ mod entry_tests;
 pub mod events;
 pub mod find;
 pub mod get;
+pub mod fetch;
+#[cfg(test)]
+mod fetch_tests;
 #[cfg(test)]
 mod get_tests;
 pub mod locate;

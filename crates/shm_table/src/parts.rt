@@ -5,12 +5,14 @@ pub use crate::changes::{
     replace_begins, replace_bound, replace_events, replace_leaves, unlink_begins, unlink_bound,
     unlink_events, unlink_leaves,
 };
+pub use crate::copying::{fetch_begins, fetch_bound, fetch_events, fetch_leaves};
 pub use crate::del::{DelPoint, DelState};
 pub use crate::enter::{Enter, EnterPoint, EnterState, Entered, Entering};
 pub use crate::events::{
     enter_begins, enter_events, enter_leaves, find_begins, find_events, find_leaves, find_tells,
     read_tells,
 };
+pub use crate::fetch::{Fetch, FetchPoint, FetchState, Fetched, Fetching};
 pub use crate::find::{Find, FindPoint, FindState, Finding, Found};
 pub use crate::get::{GetPoint, GetState};
 pub use crate::locate::{Locate, LocatePoint, LocateState, Locating};

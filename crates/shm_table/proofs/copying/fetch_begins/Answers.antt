@@ -1,0 +1,9 @@
+use Rattle.std.proofs.Common.{refl}
+use Rattle.shm_calls.specs.CallsKeep.{calls_begin}
+use Rattle.shm_table.specs.FetchControl.{fetch_parts, fetching}
+use Rattle.shm_table.specs.FetchFits.{fetch_plan}
+use Rattle.shm_table.specs.FetchLaws.{fetch_begin, fetch_laws}
+use Rattle.shm_table.proofs.copying.fetch_begins.Goals as goal
+
+pub returns : goal.returns
+returns c me a key r may = calls_begin fetch_parts fetch_plan fetch_laws (fetching me a key) r refl refl (fetch_begin me a key r may)

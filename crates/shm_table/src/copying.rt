@@ -1,0 +1,44 @@
+//! When what a key has may come to have a root; what that does to the graph of references, what it leaves, and how many word steps it
+//! takes.
+
+ghost use Rattle.std.specs.Prelude.{◌≡◌, ℕ, ◌+◌, ◌*◌, Some, []};
+ghost use Rattle.shm_graph.specs.declared.ask.Me.{Me as AMe};
+ghost use Rattle.shm_graph.specs.declared.memo.Memo.{Memo as AMemo};
+ghost use Rattle.shm_graph.specs.Asks.{Trail, IsWithin};
+ghost use Rattle.shm_graph.specs.Tells.{Tells};
+ghost use Rattle.shm_calls.specs.CallsControl.{calls_does};
+ghost use Rattle.shm_calls.specs.CallsFit.{CallsFits};
+ghost use Rattle.shm_calls.specs.Plans.{plan_trail};
+ghost use Rattle.shm_steps.specs.Reparting.{map_in};
+ghost use Rattle.shm_table.specs.declared.answer.PutFault.{PutFault as APutFault};
+ghost use Rattle.shm_table.specs.declared.fetch.Fetched.{Fetched as AFetched};
+ghost use Rattle.shm_table.specs.declared.fetch.Fetched.TheVariants as fetched;
+ghost use Rattle.shm_table.specs.CopyMachines.{FetchFits, FetchGives, fetch_control, fetch_told};
+ghost use Rattle.shm_table.specs.FetchControl.{fetch_parts, fetching};
+ghost use Rattle.shm_table.specs.FetchFits.{FetchLeaves, MayFetch, fetch_plan, fetch_steps};
+ghost use Rattle.shm_table.specs.PutRootFits.{HasSearch};
+
+/// The reading of what a key has, with a root, fits each memo of a client between two calls, in a pool for tables, with no latch.
+pub fn fetch_begins()
+    ensures { (me : AMe) (a key : ℕ) (r : AMemo) → MayFetch me a r → FetchFits me a key r r [] }
+{}
+
+/// The event of each word step of it is the one that it tells.
+pub fn fetch_events()
+    ensures { Tells fetch_control (CallsFits fetch_parts fetch_plan) (calls_does fetch_parts fetch_plan) }
+{}
+
+/// A root that was empty names the value block, whose number is known, and nothing else changed; or nothing did, since no entry has the key,
+/// or for the reason that is answered. No latch is held. In the own table the map has the number and the value block at the key.
+pub fn fetch_leaves()
+    ensures leaves { (me : AMe) (a key : ℕ) (r0 r : AMemo) (tr : Trail) (b : AFetched) → FetchGives me a key r0 r tr b → FetchLeaves (fetching me a key) r0 r tr (fetch_told me a key tr) b }
+    ensures trail { (me : AMe) (a key : ℕ) (r0 r : AMemo) (tr : Trail) (b : AFetched) → FetchGives me a key r0 r tr b → plan_trail fetch_plan (fetching me a key) tr b }
+    ensures has { (me : AMe) (a key k v n : ℕ) (r0 r : AMemo) (tr : Trail) → a ≡ me.who → FetchGives me a key r0 r tr (fetched.Rooted k v n) → map_in r0.part key ≡ Some (n, v) }
+{}
+
+/// Where an entry has the key it takes at most 32 word steps, and 2 for each key that it read.
+pub fn fetch_bound()
+    ensures rooted { (me : AMe) (a key k v n : ℕ) (r0 r : AMemo) (tr : Trail) → FetchGives me a key r0 r tr (fetched.Rooted k v n) → (keys : ℕ) × HasSearch me a key keys tr × IsWithin (fetch_steps + 2 * keys) tr }
+    ensures refused { (me : AMe) (a key : ℕ) (f : APutFault) (r0 r : AMemo) (tr : Trail) → FetchGives me a key r0 r tr (fetched.Refused f) → (keys : ℕ) × HasSearch me a key keys tr × IsWithin (fetch_steps + 2 * keys) tr }
+    ensures steps { fetch_steps ≡ 32 }
+{}
