@@ -21,11 +21,11 @@ mod enter_tests;
 #[cfg(test)]
 mod entry_tests;
 pub mod events;
-pub mod find;
-pub mod get;
 pub mod fetch;
 #[cfg(test)]
 mod fetch_tests;
+pub mod find;
+pub mod get;
 #[cfg(test)]
 mod get_tests;
 pub mod locate;
