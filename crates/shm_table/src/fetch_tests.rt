@@ -131,15 +131,46 @@ fn a_spent_era_gives_no_root(rt: HostRuntime) -> Result<(), Fail> {
 fn full_roots_give_no_root(rt: HostRuntime) -> Result<(), Fail> {
     let me = Me::new(Geometry::new(3, 1)?, 2);
     let mut words = free_table(rt.alloc())?;
-    let mut steps = [(load(24), 1); 17];
-    let mut k = 0u32;
-    while k < 16 {
-        put_words(&mut words, &[(57 + k as usize, 188)]);
-        if let Some(step) = steps.get_mut(1 + k as usize) {
-            *step = (load(57 + k), 188);
-        }
-        k += 1;
-    }
+    put_words(
+        &mut words,
+        &[
+            (57, 188),
+            (58, 188),
+            (59, 188),
+            (60, 188),
+            (61, 188),
+            (62, 188),
+            (63, 188),
+            (64, 188),
+            (65, 188),
+            (66, 188),
+            (67, 188),
+            (68, 188),
+            (69, 188),
+            (70, 188),
+            (71, 188),
+            (72, 188),
+        ],
+    );
+    let steps = [
+        (load(24), 1),
+        (load(57), 188),
+        (load(58), 188),
+        (load(59), 188),
+        (load(60), 188),
+        (load(61), 188),
+        (load(62), 188),
+        (load(63), 188),
+        (load(64), 188),
+        (load(65), 188),
+        (load(66), 188),
+        (load(67), 188),
+        (load(68), 188),
+        (load(69), 188),
+        (load(70), 188),
+        (load(71), 188),
+        (load(72), 188),
+    ];
     let mut machine: Fetch = Calls::new(Fetching::new(me, 1, 5));
     assert_eq!(rt;
         fetched(&mut machine, &mut words, &steps),
