@@ -46,6 +46,9 @@ pub mod PutRootFits
 pub mod PutRootSteps
 pub mod PutRootLaws
 pub mod PutRootBound
+pub mod PutControl
+pub mod PutFits
+pub mod PutLaws
 pub mod FetchControl
 pub mod FetchFits
 pub mod FetchSteps

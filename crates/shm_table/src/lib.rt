@@ -34,6 +34,7 @@ pub mod open_table;
 mod open_tests;
 pub mod opening;
 pub mod parts;
+pub mod put;
 pub mod put_root;
 #[cfg(test)]
 mod put_root_refusal_tests;
@@ -60,5 +61,6 @@ mod unlink_tests;
 
 pub use changes::{del_begins, del_bound, del_events, del_leaves};
 pub use del::{Del, DelAnswer, Deleting};
+pub use put::{Put, Putting};
 pub use get::{Get, Getting, Valued};
 pub use reading::{get_begins, get_bound, get_events, get_leaves, get_tells};
