@@ -49,6 +49,7 @@ pub mod PutRootBound
 pub mod PutControl
 pub mod PutFits
 pub mod PutLaws
+pub mod PutBound
 pub mod FetchControl
 pub mod FetchFits
 pub mod FetchSteps

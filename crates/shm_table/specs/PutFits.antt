@@ -102,6 +102,7 @@ pub record IsPut (me : Me) (key n k b : ℕ) (f : Option PutFault) (r0 r : Memo)
   pub keys : ℕ
   pub search : (keys ≡ 0) ⊎ HasSearch me me.who key keys tr
   pub left : List Visit
+  pub dying : All (λ (x : Visit). Contains r.dying x.block) left
   pub bound : IsWithin (alloc_steps me.geometry.segments + put_root_steps me.geometry.segments + 2 * keys + tear_steps (frees es + length left)) tr
 
 abbrev pub PutKnows : PutState → PutPoint → Memo → Memo → Trail → List Event → Type 0
@@ -127,6 +128,7 @@ pub record Stored (me : Me) (key n b : ℕ) (r0 r : Memo) (tr : Trail) (es : Lis
   pub keys : ℕ
   pub search : (keys ≡ 0) ⊎ HasSearch me me.who key keys tr
   pub left : List Visit
+  pub dying : All (λ (x : Visit). Contains r.dying x.block) left
   pub bound : IsWithin (put_steps me.geometry.segments + 2 * keys + tear_steps (frees es + length left)) tr
 
 -- it was refused: the map, the latches and the queues are as before, and so are roots and zero-count blocks, unless the own era was spent
@@ -139,6 +141,7 @@ pub record NotStored (me : Me) (key : ℕ) (r0 r : Memo) (tr : Trail) (es : List
   pub keys : ℕ
   pub search : (keys ≡ 0) ⊎ HasSearch me me.who key keys tr
   pub left : List Visit
+  pub dying : All (λ (x : Visit). Contains r.dying x.block) left
   pub bound : IsWithin (put_steps me.geometry.segments + 2 * keys + tear_steps (frees es + length left)) tr
 
 abbrev pub PutLeaves : PutState → Memo → Memo → Trail → List Event → Answer → Type 0

@@ -1,14 +1,15 @@
 -- what is owed of a put
 use Rattle.std.proofs.Common.{◌≡◌, ◌≢◌, ℕ, zero, suc, length-append, ◌+◌, ◌*◌, ◌%◌, ◌^◌, ◌<◌, ◌≤◌, refl, sym, ap, ◌∙◌, subst, arith, Bool, true, false, eqb, ◌&&◌, List, [], ◌∷◌, ◌++◌, slice_index, Option, Some, None, inl, inr, ◌⊎◌}
 use Rattle.std.specs.Prelude.{Result, Ok, Err, length}
-use Rattle.std.specs.List.{Contains}
+use Rattle.std.specs.List.{All, Contains}
 use Rattle.std.proofs.lemmas.Bool.{cond-false, cond-true, eq-eqb, and_from}
-use Rattle.std.proofs.lemmas.List.Elements.{Contains-append_left}
+use Rattle.std.proofs.lemmas.List.Elements.{All-append, All-nil, All-weaker, Contains-append_left}
 use Rattle.shm_words.specs.Layout.{total_of}
 use Rattle.shm_words.specs.Tags.{tag_plain, tag_refs, TagFits}
 use Rattle.shm_words.specs.declared.tag.Tag.{Tag as ATag}
 use Rattle.shm_words.proofs.Placing.{total_small}
 use Rattle.shm_words.proofs.Words.{tag_plain-word, tag_refs-word}
+use Rattle.shm_laws.proofs.Keep.{filter_from}
 use Rattle.shm_graph.specs.declared.ask.Me.{Me}
 use Rattle.shm_graph.specs.declared.memo.Making.{Making}
 use Rattle.shm_graph.specs.declared.memo.Memo.{Memo}
@@ -44,9 +45,11 @@ use Rattle.shm_count.specs.declared.answer.Made.{Made}
 use Rattle.shm_count.specs.Roots.{root_word}
 use Rattle.shm_count.specs.StepControl.{IsInside}
 use Rattle.shm_count.specs.TearEvents.{Visit, frees}
+use Rattle.shm_count.specs.TearFits.{is_outside}
 use Rattle.shm_ref.specs.DropControl.{drop_parts, dropping}
 use Rattle.shm_ref.specs.DropFits.{DropLeaves, drop_plan}
 use Rattle.shm_ref.specs.DropLaws.{drop_laws}
+use Rattle.shm_ref.specs.Lefts.{Stopped}
 use Rattle.shm_ref.specs.RootsControl.{drop_root}
 use Rattle.shm_script.specs.declared.log.Answer.{Answer}
 use Rattle.shm_table.specs.declared.answer.PutFault.{PutFault}
@@ -185,6 +188,13 @@ not_stored m r0 r tr es fault.RootsFull h = h
 not_stored m r0 r tr es (fault.Full s b) h = h
 not_stored m r0 r tr es (fault.CountFull b n) h = h
 
+-- what a tear-down left before is left still where one more was stopped
+left_too : (me : Me) (m r : Memo) (us vs : List Visit) (era : ℕ) → All (λ (x : Visit). Contains m.dying x.block) us → Stopped me m r era vs → All (λ (x : Visit). Contains r.dying x.block) (us ++ vs)
+left_too me m r us vs era h w =
+    let still = λ (x : Visit) (y : Contains m.dying x.block). (filter_from (is_outside vs) r.dying x.block (subst (λ (xs : List ℕ). Contains xs x.block) (sym w.others) y)).0 in
+    let before = All-weaker (λ (x : Visit). Contains m.dying x.block) (λ (x : Visit). Contains r.dying x.block) still us h in
+    All-append (λ (x : Visit). Contains r.dying x.block) us vs before w.left
+
 -- ---- what follows each call
 
 module _ (m : PutState) (r0 rs r : Memo) (tr t : Trail) (es ds : List Event) (held : IsHeld m.me r) (agent : recovers r ≡ recovers rs) where
@@ -251,6 +261,7 @@ module _ (m : PutState) (r0 rs r : Memo) (tr t : Trail) (es ds : List Event) (he
             keys = 0;
             search = inl refl;
             left = [];
+            dying = All-nil (λ (x : Visit). Contains r.dying x.block);
             bound = omega arith;
           })
 
@@ -279,6 +290,7 @@ module _ (m : PutState) (r0 rs r : Memo) (tr t : Trail) (es ds : List Event) (he
         keys = w.keys;
         search = inr (search_before m.me c m.key w.keys tr t w.search);
         left = w.left;
+        dying = w.dying;
         bound = omega arith;
       }
   put (Err f) h w =
@@ -297,6 +309,7 @@ module _ (m : PutState) (r0 rs r : Memo) (tr t : Trail) (es ds : List Event) (he
         keys = w.keys;
         search = elim w.search [ inl y ↦ inl y | inr y ↦ inr (search_before m.me c m.key w.keys tr t y) ];
         left = w.left;
+        dying = w.dying;
         bound = omega arith;
       }
 
@@ -332,6 +345,7 @@ module _ (m : PutState) (r0 rs r : Memo) (tr t : Trail) (es ds : List Event) (he
         keys = h.keys;
         search = elim h.search [ inl y ↦ inl y | inr y ↦ inr (search_more m.me c m.key h.keys tr t y) ];
         left = h.left;
+        dying = subst (λ (xs : List ℕ). All (λ (x : Visit). Contains xs x.block) h.left) (sym w.dying) h.dying;
         bound = omega arith;
       }
   dropped None (Err e) h (vs, w) =
@@ -350,6 +364,7 @@ module _ (m : PutState) (r0 rs r : Memo) (tr t : Trail) (es ds : List Event) (he
         keys = h.keys;
         search = elim h.search [ inl y ↦ inl y | inr y ↦ inr (search_more m.me c m.key h.keys tr t y) ];
         left = h.left ++ vs;
+        dying = left_too m.me rs r h.left vs e.era h.dying w.stopped;
         bound = omega arith;
       }
   dropped (Some f) (Ok z) h w =
@@ -366,6 +381,7 @@ module _ (m : PutState) (r0 rs r : Memo) (tr t : Trail) (es ds : List Event) (he
         keys = h.keys;
         search = elim h.search [ inl y ↦ inl y | inr y ↦ inr (search_more m.me c m.key h.keys tr t y) ];
         left = h.left;
+        dying = subst (λ (xs : List ℕ). All (λ (x : Visit). Contains xs x.block) h.left) (sym w.dying) h.dying;
         bound = omega arith;
       })
     where
@@ -385,6 +401,7 @@ module _ (m : PutState) (r0 rs r : Memo) (tr t : Trail) (es ds : List Event) (he
         keys = h.keys;
         search = elim h.search [ inl y ↦ inl y | inr y ↦ inr (search_more m.me c m.key h.keys tr t y) ];
         left = h.left ++ vs;
+        dying = left_too m.me rs r h.left vs e.era h.dying w.stopped;
         bound = omega arith;
       }
 

@@ -2,7 +2,7 @@
 
 use crate::answer::PutFault;
 use crate::entry_tests::{EXCHANGE, LOAD, STORE, follow_listed, put_words, words_of};
-use crate::parts::{PutRoot};
+use crate::parts::PutRoot;
 use shm_calls::Calls;
 use shm_graph::Me;
 use shm_words::Geometry;

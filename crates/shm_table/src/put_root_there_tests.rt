@@ -1,7 +1,7 @@
 //! Value blocks put at a key that is there, step by step and on the words of a pool, against an independent implementation.
 
 use crate::entry_tests::{EXCHANGE, LOAD, STORE, follow_listed, put_words, words_of};
-use crate::parts::{PutRoot};
+use crate::parts::PutRoot;
 use shm_calls::Calls;
 use shm_graph::Me;
 use shm_words::Geometry;
