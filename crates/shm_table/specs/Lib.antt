@@ -46,6 +46,10 @@ pub mod PutRootFits
 pub mod PutRootSteps
 pub mod PutRootLaws
 pub mod PutRootBound
+pub mod PutControl
+pub mod PutFits
+pub mod PutLaws
+pub mod PutBound
 pub mod FetchControl
 pub mod FetchFits
 pub mod FetchSteps

@@ -61,6 +61,10 @@ PutRootCall = Or (Or OpenCalls LocateCalls) (Or (Or ReplaceCalls EnterCalls) (Or
 abbrev pub PutRootAnswer : Type 0
 PutRootAnswer = Or (Or (Result (Unit {0}) PutFault) Found) (Or (Or (Result (Unit {0}) PutFault) Entered) (Or (Unit {0}) (Result Bool EraSpent)))
 
+-- it as a call of larger machines
+abbrev pub PutRootCalls : Type 0
+PutRootCalls = Calls PutRootState PutRootCall (Result (Unit {0}) PutFault) PutRootAnswer
+
 -- before its first call
 abbrev pub putting_root : Me → ℕ → ℕ → PutRootState
 putting_root me key v = record { me = me; key = key; value = v; home = 0; first = 0; entry = 0; root = None; refused = None; point = point.Open }

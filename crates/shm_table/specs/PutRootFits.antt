@@ -15,6 +15,8 @@ use Rattle.shm_graph.specs.Held.{is_loose}
 use Rattle.shm_graph.specs.Idle.{IsIdle}
 use Rattle.shm_graph.specs.Telling.{Entry as AnEntry}
 use Rattle.shm_graph.specs.Views.{own_word}
+use Rattle.shm_graph.specs.Laws.{Control}
+use Rattle.shm_calls.specs.CallsControl.{calls_control}
 use Rattle.shm_calls.specs.CallsPart.{calls_part}
 use Rattle.shm_calls.specs.Either.{or_part}
 use Rattle.shm_calls.specs.Parts.{IsHeld, Part}
@@ -40,7 +42,7 @@ use Rattle.shm_table.specs.LocateControl.{locate_parts}
 use Rattle.shm_table.specs.LocateFits.{locate_plan}
 use Rattle.shm_table.specs.OpenControl.{open_parts}
 use Rattle.shm_table.specs.OpenFits.{open_plan}
-use Rattle.shm_table.specs.PutRootControl.{PutRootAnswer, PutRootCall, is_open, put_root_after, put_root_call, put_root_turns, putting_root}
+use Rattle.shm_table.specs.PutRootControl.{PutRootAnswer, PutRootCall, PutRootCalls, put_root_parts, is_open, put_root_after, put_root_call, put_root_turns, putting_root}
 use Rattle.shm_table.specs.ReplaceControl.{replace_parts}
 use Rattle.shm_table.specs.ReplaceFits.{MayReplace, replace_plan}
 use Rattle.shm_table.specs.Staying.{Cleared, Ended, Keeps, MapSet, PutCause, SameMap}
@@ -210,3 +212,7 @@ put_root_plan =
       knows = λ m. PutRootKnows m m.point;
       leaves = PutRootLeaves;
     }
+
+-- its control
+abbrev pub put_root_control : Control PutRootCalls (Result (Unit {0}) PutFault)
+put_root_control = calls_control put_root_parts put_root_plan

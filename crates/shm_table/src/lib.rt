@@ -34,6 +34,7 @@ pub mod open_table;
 mod open_tests;
 pub mod opening;
 pub mod parts;
+pub mod put;
 pub mod put_root;
 #[cfg(test)]
 mod put_root_refusal_tests;
@@ -41,6 +42,8 @@ mod put_root_refusal_tests;
 mod put_root_tests;
 #[cfg(test)]
 mod put_root_there_tests;
+#[cfg(test)]
+mod put_tests;
 pub mod putting;
 pub mod reading;
 pub mod replace;
@@ -61,4 +64,6 @@ mod unlink_tests;
 pub use changes::{del_begins, del_bound, del_events, del_leaves};
 pub use del::{Del, DelAnswer, Deleting};
 pub use get::{Get, Getting, Valued};
+pub use put::{Put, Putting};
+pub use putting::{put_begins, put_bound, put_events, put_leaves};
 pub use reading::{get_begins, get_bound, get_events, get_leaves, get_tells};

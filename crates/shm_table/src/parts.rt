@@ -20,6 +20,7 @@ pub use crate::open_table::{OpenPoint, OpenState, OpenTable, Opening};
 pub use crate::opening::{
     open_table_begins, open_table_bound, open_table_events, open_table_leaves, open_table_tells,
 };
+pub use crate::put::{PutPoint, PutState};
 pub use crate::put_root::{PutRoot, PutRootPoint, PutRootState, PuttingRoot};
 pub use crate::putting::{put_root_begins, put_root_bound, put_root_events, put_root_leaves};
 pub use crate::reading::{

@@ -3,8 +3,11 @@
 ghost use Rattle.std.specs.Prelude.{◌≡◌, ◌<◌, ◌^◌};
 ghost use Rattle.shm_words.specs.Layout.{GeometryFits};
 ghost use Rattle.shm_table.specs.PutRootControl as control;
-ghost use Rattle.shm_table.specs.PutRootControl.{putting_root};
-ghost use Rattle.shm_table.specs.PutRootFits.{put_root_plan};
+ghost use Rattle.shm_calls.specs.CallsControl.{calls_of};
+ghost use Rattle.shm_calls.specs.CallsFit.{CallsFits, CallsGives};
+ghost use Rattle.shm_calls.specs.CallsKeep.{calls_laws};
+ghost use Rattle.shm_table.specs.PutRootControl.{put_root_parts, putting_root};
+ghost use Rattle.shm_table.specs.PutRootFits.{put_root_control, put_root_plan};
 ghost use Rattle.shm_table.specs.EnterLaws.{enter_laws};
 ghost use Rattle.shm_table.specs.LocateLaws.{locate_laws};
 ghost use Rattle.shm_table.specs.OpenLaws.{open_laws};
@@ -20,7 +23,7 @@ use crate::replace::{Replace, Replacing};
 use crate::unlatch::{Unlatch, Unlatching};
 use shm_calls::{Calls, Or, Plan};
 use shm_count::EraSpent;
-use shm_graph::{Machine, Me};
+use shm_graph::{Ask, Machine, Me, Turn};
 use shm_ref::{DropRoot, Dropping};
 use std::marker::Model;
 
@@ -83,8 +86,67 @@ impl Model for PuttingRoot {
     ghost invariant = { λ a. PutRootInRange a.state };
 }
 
-/// It answers why the key hasn't the value block: from the step on by which it has it, no refusal changes the answer.
-pub type PutRoot = Calls<PuttingRoot>;
+/// The machine that makes them. It answers why the key hasn't the value block: from the step on by which it has it, no refusal changes the
+/// answer.
+#[derive(Drop)]
+pub struct PutRoot {
+    calls: Calls<PuttingRoot>,
+}
+
+impl Model for PutRoot {
+    ghost use Rattle.shm_table.specs.PutRootControl.{PutRootCalls};
+
+    ghost Value = { PutRootCalls };
+
+    ghost view = { λ a. a.calls };
+}
+
+impl PutRoot {
+    /// The value block `value`, which a root of `me` names, is to be at `key` in the table of `me`.
+    #[inline(always)]
+    pub fn new(me: Me, key: u32, value: u32) -> PutRoot
+        requires geometry { GeometryFits me.geometry }
+        requires who { me.who < me.geometry.clients }
+        requires value { value < 2 ^ 20 }
+        ensures { result ≡ calls_of put_root_plan (putting_root me key value) }
+    {
+        PutRoot {
+            calls: Calls::new(PuttingRoot::new(me, key, value)),
+        }
+    }
+}
+
+impl Machine for PutRoot {
+    type Answer = Result<(), PutFault>;
+
+    ghost control = { put_root_control };
+
+    ghost fits = { CallsFits put_root_parts put_root_plan };
+
+    ghost gives = { CallsGives put_root_parts put_root_plan };
+
+    #[inline(always)]
+    fn me(&self) -> Me {
+        self.calls.me()
+    }
+
+    #[inline(always)]
+    fn finished(&self) -> bool {
+        self.calls.finished()
+    }
+
+    #[inline(always)]
+    fn ask(&self) -> Ask {
+        self.calls.ask()
+    }
+
+    #[inline(always)]
+    fn take(&mut self, seen: u64) -> Turn<Result<(), PutFault>> {
+        self.calls.take(seen)
+    }
+
+    ghost laws = { calls_laws put_root_parts put_root_plan (put_root_laws open_laws locate_laws replace_laws enter_laws) };
+}
 
 impl PuttingRoot {
     /// The value block `value`, which a root of `me` names, is to be at `key` in the table of `me`.

@@ -2,7 +2,7 @@
 
 use crate::answer::PutFault;
 use crate::entry_tests::{EXCHANGE, LOAD, STORE, follow_listed, put_words, words_of};
-use crate::parts::{PutRoot, PuttingRoot};
+use crate::parts::PutRoot;
 use shm_calls::Calls;
 use shm_graph::Me;
 use shm_words::Geometry;
@@ -97,7 +97,7 @@ fn a_full_value_block_is_refused(rt: HostRuntime) -> Result<(), Fail> {
     let mut words = words_of(rt.alloc(), 2098, &FULL_BEFORE)?;
     let mut after = words_of(rt.alloc(), 2098, &FULL_BEFORE)?;
     put_words(&mut after, &FULL_CHANGES);
-    let mut machine: PutRoot = Calls::new(PuttingRoot::new(me, 6, 54));
+    let mut machine: PutRoot = PutRoot::new(me, 6, 54);
     assert_eq!(rt;
         follow_listed(&mut machine, &mut words, &FULL_STEPS),
         Some(Err(PutFault::CountFull {
@@ -186,7 +186,7 @@ fn no_root_is_empty_for_the_entry(rt: HostRuntime) -> Result<(), Fail> {
     let mut words = words_of(rt.alloc(), 2098, &ROOTS_BEFORE)?;
     let mut after = words_of(rt.alloc(), 2098, &ROOTS_BEFORE)?;
     put_words(&mut after, &ROOTS_CHANGES);
-    let mut machine: PutRoot = Calls::new(PuttingRoot::new(me, 6, 54));
+    let mut machine: PutRoot = PutRoot::new(me, 6, 54);
     assert_eq!(rt;
         follow_listed(&mut machine, &mut words, &ROOTS_STEPS),
         Some(Err(PutFault::RootsFull))
@@ -253,7 +253,7 @@ fn no_root_is_empty_for_the_directory(rt: HostRuntime) -> Result<(), Fail> {
     let mut words = words_of(rt.alloc(), 2098, &UNOPENED_BEFORE)?;
     let mut after = words_of(rt.alloc(), 2098, &UNOPENED_BEFORE)?;
     put_words(&mut after, &UNOPENED_CHANGES);
-    let mut machine: PutRoot = Calls::new(PuttingRoot::new(me, 6, 50));
+    let mut machine: PutRoot = PutRoot::new(me, 6, 50);
     assert_eq!(rt;
         follow_listed(&mut machine, &mut words, &UNOPENED_STEPS),
         Some(Err(PutFault::RootsFull))
@@ -358,7 +358,7 @@ fn no_era_is_left_for_the_root_of_the_entry(rt: HostRuntime) -> Result<(), Fail>
     let mut words = words_of(rt.alloc(), 2098, &ENDED_BEFORE)?;
     let mut after = words_of(rt.alloc(), 2098, &ENDED_BEFORE)?;
     put_words(&mut after, &ENDED_CHANGES);
-    let mut machine: PutRoot = Calls::new(PuttingRoot::new(me, 6, 54));
+    let mut machine: PutRoot = PutRoot::new(me, 6, 54);
     assert_eq!(rt;
         follow_listed(&mut machine, &mut words, &ENDED_STEPS),
         Some(Ok(()))
@@ -439,7 +439,7 @@ fn no_era_is_left_for_the_entry(rt: HostRuntime) -> Result<(), Fail> {
     let mut words = words_of(rt.alloc(), 2098, &SPENT_BEFORE)?;
     let mut after = words_of(rt.alloc(), 2098, &SPENT_BEFORE)?;
     put_words(&mut after, &SPENT_CHANGES);
-    let mut machine: PutRoot = Calls::new(PuttingRoot::new(me, 6, 54));
+    let mut machine: PutRoot = PutRoot::new(me, 6, 54);
     assert_eq!(rt;
         follow_listed(&mut machine, &mut words, &SPENT_STEPS),
         Some(Err(PutFault::EraSpent {

@@ -1,7 +1,7 @@
 //! Keys put where none was, step by step and on the words of a pool, against an independent implementation.
 
 use crate::entry_tests::{EXCHANGE, LOAD, STORE, follow_listed, put_words, words_of};
-use crate::parts::{PutRoot, PuttingRoot};
+use crate::parts::PutRoot;
 use shm_calls::Calls;
 use shm_graph::Me;
 use shm_words::Geometry;
@@ -159,7 +159,7 @@ fn the_first_key_makes_a_directory(rt: HostRuntime) -> Result<(), Fail> {
     let mut words = words_of(rt.alloc(), 2098, &FIRST_BEFORE)?;
     let mut after = words_of(rt.alloc(), 2098, &FIRST_BEFORE)?;
     put_words(&mut after, &FIRST_CHANGES);
-    let mut machine: PutRoot = Calls::new(PuttingRoot::new(me, 5, 50));
+    let mut machine: PutRoot = PutRoot::new(me, 5, 50);
     assert_eq!(rt;
         follow_listed(&mut machine, &mut words, &FIRST_STEPS),
         Some(Ok(()))
@@ -273,7 +273,7 @@ fn a_key_of_an_empty_bucket_is_put(rt: HostRuntime) -> Result<(), Fail> {
     let mut words = words_of(rt.alloc(), 2098, &BARE_BEFORE)?;
     let mut after = words_of(rt.alloc(), 2098, &BARE_BEFORE)?;
     put_words(&mut after, &BARE_CHANGES);
-    let mut machine: PutRoot = Calls::new(PuttingRoot::new(me, 6, 54));
+    let mut machine: PutRoot = PutRoot::new(me, 6, 54);
     assert_eq!(rt;
         follow_listed(&mut machine, &mut words, &BARE_STEPS),
         Some(Ok(()))
@@ -410,7 +410,7 @@ fn a_key_of_a_bucket_with_an_entry_is_put(rt: HostRuntime) -> Result<(), Fail> {
     let mut words = words_of(rt.alloc(), 2098, &TAKEN_BEFORE)?;
     let mut after = words_of(rt.alloc(), 2098, &TAKEN_BEFORE)?;
     put_words(&mut after, &TAKEN_CHANGES);
-    let mut machine: PutRoot = Calls::new(PuttingRoot::new(me, 21, 54));
+    let mut machine: PutRoot = PutRoot::new(me, 21, 54);
     assert_eq!(rt;
         follow_listed(&mut machine, &mut words, &TAKEN_STEPS),
         Some(Ok(()))

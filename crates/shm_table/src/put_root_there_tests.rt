@@ -1,7 +1,7 @@
 //! Value blocks put at a key that is there, step by step and on the words of a pool, against an independent implementation.
 
 use crate::entry_tests::{EXCHANGE, LOAD, STORE, follow_listed, put_words, words_of};
-use crate::parts::{PutRoot, PuttingRoot};
+use crate::parts::PutRoot;
 use shm_calls::Calls;
 use shm_graph::Me;
 use shm_words::Geometry;
@@ -84,7 +84,7 @@ fn a_key_that_is_there_has_another_block(rt: HostRuntime) -> Result<(), Fail> {
     let mut words = words_of(rt.alloc(), 2098, &FREED_BEFORE)?;
     let mut after = words_of(rt.alloc(), 2098, &FREED_BEFORE)?;
     put_words(&mut after, &FREED_CHANGES);
-    let mut machine: PutRoot = Calls::new(PuttingRoot::new(me, 5, 54));
+    let mut machine: PutRoot = PutRoot::new(me, 5, 54);
     assert_eq!(rt;
         follow_listed(&mut machine, &mut words, &FREED_STEPS),
         Some(Ok(()))
@@ -166,7 +166,7 @@ fn a_block_that_a_root_names_stays(rt: HostRuntime) -> Result<(), Fail> {
     let mut words = words_of(rt.alloc(), 2098, &KEPT_BEFORE)?;
     let mut after = words_of(rt.alloc(), 2098, &KEPT_BEFORE)?;
     put_words(&mut after, &KEPT_CHANGES);
-    let mut machine: PutRoot = Calls::new(PuttingRoot::new(me, 5, 54));
+    let mut machine: PutRoot = PutRoot::new(me, 5, 54);
     assert_eq!(rt;
         follow_listed(&mut machine, &mut words, &KEPT_STEPS),
         Some(Ok(()))
@@ -219,7 +219,7 @@ fn a_key_that_has_the_block_keeps_it(rt: HostRuntime) -> Result<(), Fail> {
     let mut words = words_of(rt.alloc(), 2098, &SAME_BEFORE)?;
     let mut after = words_of(rt.alloc(), 2098, &SAME_BEFORE)?;
     put_words(&mut after, &SAME_CHANGES);
-    let mut machine: PutRoot = Calls::new(PuttingRoot::new(me, 5, 50));
+    let mut machine: PutRoot = PutRoot::new(me, 5, 50);
     assert_eq!(rt;
         follow_listed(&mut machine, &mut words, &SAME_STEPS),
         Some(Ok(()))

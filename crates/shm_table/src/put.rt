@@ -1,0 +1,183 @@
+//! A key of the own table comes to have a number, in a value block of its own.
+
+ghost use Rattle.std.specs.Prelude.{◌≡◌, ◌<◌, ◌≤◌};
+ghost use Rattle.shm_words.specs.Layout.{GeometryFits};
+ghost use Rattle.shm_table.specs.PutControl as control;
+ghost use Rattle.shm_table.specs.PutControl.{putting};
+ghost use Rattle.shm_table.specs.PutFits.{put_plan};
+ghost use Rattle.shm_table.specs.EnterLaws.{enter_laws};
+ghost use Rattle.shm_table.specs.LocateLaws.{locate_laws};
+ghost use Rattle.shm_table.specs.OpenLaws.{open_laws};
+ghost use Rattle.shm_table.specs.PutLaws.{put_laws};
+ghost use Rattle.shm_table.specs.PutRootLaws.{put_root_laws};
+ghost use Rattle.shm_table.specs.ReplaceLaws.{replace_laws};
+
+use crate::answer::PutFault;
+use crate::put_root::PutRoot;
+use shm_alloc::{Alloc, AllocFault, Request};
+use shm_calls::{Calls, Or, Plan};
+use shm_count::{EraSpent, Made};
+use shm_graph::{Machine, Me};
+use shm_ref::{DropRoot, Dropping};
+use shm_script::Answer;
+use std::marker::Model;
+
+/// Which call of it comes next.
+#[derive(Clone, Copy, Debug, PartialEq, Eq, Drop)]
+pub enum PutPoint {
+    /// A value block is made.
+    Make,
+    /// The key comes to have it.
+    Put,
+    /// Its root is dropped.
+    Drop,
+}
+
+/// The control of it: `block` is the value block and `root` its root; `refused` is why the key hasn't got it.
+#[derive(Clone, Copy, Debug, PartialEq, Eq, Drop)]
+pub struct PutState {
+    pub me: Me,
+    pub key: u32,
+    pub number: u64,
+    pub root: u8,
+    pub block: u32,
+    pub refused: Option<PutFault>,
+    pub point: PutPoint,
+}
+
+/// Its calls.
+pub type PutCall = Or<Alloc, Or<PutRoot, DropRoot>>;
+
+/// What its calls answer.
+pub type PutAnswer = Or<Result<Made, AllocFault>, Or<Result<(), PutFault>, Result<bool, EraSpent>>>;
+
+/// The calls by which a key comes to have a number.
+#[derive(Drop)]
+pub struct Putting {
+    state: PutState,
+}
+
+impl Model for Putting {
+    ghost use Rattle.shm_table.specs.declared.put.PutState.{PutState as AState};
+
+    ghost Value = { AState };
+
+    ghost view = { λ a. a.state };
+
+    ghost use Rattle.shm_table.specs.PutControl.{PutInRange};
+
+    ghost invariant = { λ a. PutInRange a.state };
+}
+
+/// It answers the value block that the key has, or why it hasn't got one: from the step on by which it has it, no refusal changes the answer.
+pub type Put = Calls<Putting>;
+
+/// A block with the words of a value block, of which the number is the plain one.
+#[inline(always)]
+fn value(number: u64) -> Request
+    ensures { result ≡ control.value_request number }
+{
+    Request {
+        refs: 0,
+        count: 1,
+        plain: [number, 0, 0, 0, 0, 0, 0, 0],
+    }
+}
+
+/// What it answers.
+#[inline(always)]
+fn answer(block: u32, refused: Option<PutFault>) -> Answer
+    ensures { result ≡ control.put_answer block refused }
+{
+    match refused {
+        None => Answer::Stored { block },
+        Some(fault) => fault.answer(),
+    }
+}
+
+/// What it answers where the root of the value block couldn't be dropped.
+#[inline(always)]
+fn stuck(block: u32, refused: Option<PutFault>, spent: EraSpent) -> Answer
+    ensures { result ≡ control.stuck_answer block refused spent }
+{
+    match refused {
+        None => Answer::Stored { block },
+        Some(_) => PutFault::spent(spent).answer(),
+    }
+}
+
+impl Putting {
+    /// `key` is to have `number` in the table of `me`.
+    #[inline(always)]
+    pub fn new(me: Me, key: u32, number: u64) -> Putting
+        requires geometry { GeometryFits me.geometry }
+        requires who { me.who < me.geometry.clients }
+        ensures { result ≡ putting me key number }
+    {
+        Putting {
+            state: PutState {
+                me,
+                key,
+                number,
+                root: 0,
+                block: 0,
+                refused: None,
+                point: PutPoint::Make,
+            },
+        }
+    }
+}
+
+impl Plan for Putting {
+    type Call = PutCall;
+
+    type Answer = Answer;
+
+    ghost plan = { put_plan };
+
+    #[inline(always)]
+    fn me(&self) -> Me {
+        self.state.me
+    }
+
+    #[inline(always)]
+    fn call(&self) -> PutCall {
+        let PutState {
+            me,
+            key,
+            number,
+            root,
+            block,
+            point,
+            ..
+        } = self.state;
+        match point {
+            PutPoint::Make => Or::First(Alloc::asked(me, value(number))),
+            PutPoint::Put => Or::Second(Or::First(PutRoot::new(me, key, block))),
+            PutPoint::Drop => Or::Second(Or::Second(Calls::new(Dropping::new(me, root)))),
+        }
+    }
+
+    #[inline(always)]
+    fn next(&mut self, given: PutAnswer) -> Option<Answer> {
+        let PutState { block, refused, .. } = self.state;
+        match given {
+            Or::First(Ok(made)) => {
+                self.state.root = made.root % 16;
+                self.state.block = made.block % (1 << 20);
+                self.state.point = PutPoint::Put;
+                None
+            }
+            Or::First(Err(fault)) => Some(PutFault::made(fault).answer()),
+            Or::Second(Or::First(done)) => {
+                self.state.refused = done.err();
+                self.state.point = PutPoint::Drop;
+                None
+            }
+            Or::Second(Or::Second(Ok(_))) => Some(answer(block, refused)),
+            Or::Second(Or::Second(Err(spent))) => Some(stuck(block, refused, spent)),
+        }
+    }
+
+    ghost laws = { put_laws (put_root_laws open_laws locate_laws replace_laws enter_laws) };
+}
