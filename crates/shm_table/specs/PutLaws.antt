@@ -56,7 +56,8 @@ use Rattle.shm_table.specs.declared.put.PutPoint.TheVariants.{Make, Put, Drop}
 use Rattle.shm_table.specs.declared.put.PutState.{PutState}
 use Rattle.shm_table.specs.Answers.{fault_answer, made_fault, spent_fault}
 use Rattle.shm_table.specs.PutControl.{PutAnswer, is_make, put_call_at, put_parts, value_request}
-use Rattle.shm_table.specs.PutFits.{CommandCause, HasValue, IsPut, MayCommand, NotStored, PutKnows, PutLeaves, RestSo, Stored, ValueSo, put_part, put_plan}
+use Rattle.shm_table.specs.Commands.{CommandCause, MayCommand, RestSo, ValueSo, cause_put, cause_then}
+use Rattle.shm_table.specs.PutFits.{HasValue, IsPut, NotStored, PutKnows, PutLeaves, Stored, put_part, put_plan}
 use Rattle.shm_table.specs.PutRootControl.{put_root_parts, putting_root}
 use Rattle.shm_table.specs.PutRootFits.{HasSearch, IsDecided, IsEraSpent, MayPut, PutRootLeaves, put_root_control, put_root_plan, put_root_steps}
 use Rattle.shm_table.specs.PutRootSteps.{decided_after, decided_more, frees_append, same_more, same_part, search_before, search_more, set_after, set_then}
@@ -162,19 +163,6 @@ cause_made : (me : Me) (m r : Memo) (f : AllocFault) → PutCause me m r (made_f
 cause_made me m r (alloc_fault.EraSpent e) h = h
 cause_made me m r alloc_fault.RootsFull h = (0, λ j l n. h j l)
 cause_made me m r (alloc_fault.Full s b) h = h
-
--- and why the key hasn't got it, where root k was empty before
-cause_put : (me : Me) (k : ℕ) (m x r : Memo) (f : PutFault) → k < 16 → root_word me.who m k ≡ 0 → ((j : ℕ) → k ≢ j → root_word me.who x j ≡ root_word me.who m j) → PutCause me x r f → CommandCause me m r f
-cause_put me k m x r (fault.EraSpent e) low empty others h = h
-cause_put me k m x r fault.RootsFull low empty others h = (k, λ j l n z. h j l (others j n ∙ z))
-cause_put me k m x r (fault.Full s b) low empty others h = (k, low, empty)
-cause_put me k m x r (fault.CountFull b n) low empty others h = h
-
-cause_then : (me : Me) (m x r : Memo) (f : PutFault) → own_word x.own (spot.Era me.who me.who) ≤ own_word r.own (spot.Era me.who me.who) → CommandCause me m x f → CommandCause me m r f
-cause_then me m x r (fault.EraSpent e) era h = spent_later me.who e x r era h
-cause_then me m x r fault.RootsFull era h = h
-cause_then me m x r (fault.Full s b) era h = h
-cause_then me m x r (fault.CountFull b n) era h = h
 
 -- ---- answers
 
