@@ -1,15 +1,14 @@
 -- what is owed of a copy
-use Rattle.std.proofs.Common.{◌≡◌, ◌≢◌, ℕ, length-append, ◌+◌, ◌*◌, ◌%◌, ◌^◌, ◌<◌, ◌≤◌, refl, sym, ap, ◌∙◌, subst, arith, Bool, true, false, List, [], ◌∷◌, ◌++◌, Option, Some, None, inl, inr, ◌⊎◌}
+use Rattle.std.proofs.Common.{◌≡◌, ◌≢◌, ℕ, length-append, ◌+◌, ◌*◌, ◌%◌, ◌^◌, ◌≤◌, refl, sym, ap, ◌∙◌, subst, arith, Bool, List, [], ◌++◌, Option, Some, None, inl, inr, ◌⊎◌}
 use Rattle.std.specs.Prelude.{Result, Ok, Err, length}
 use Rattle.shm_graph.specs.declared.ask.Me.{Me}
 use Rattle.shm_graph.specs.declared.memo.Memo.{Memo}
 use Rattle.shm_graph.specs.declared.spot.Spot.TheVariants.{Home, Root}
 use Rattle.shm_graph.specs.declared.spot.Spot.TheVariants as spot
 use Rattle.shm_graph.specs.Agents.{recovers}
-use Rattle.shm_graph.specs.Asks.{Trail, IsWithin}
+use Rattle.shm_graph.specs.Asks.{Trail}
 use Rattle.shm_graph.specs.Bounds.{tear_steps}
 use Rattle.shm_graph.specs.Events.{Event}
-use Rattle.shm_graph.specs.Events as event
 use Rattle.shm_graph.specs.Views.{own_word}
 use Rattle.shm_calls.specs.declared.or.Or.TheVariants.{First, Second}
 use Rattle.shm_calls.specs.CallTells.{within_more}
@@ -19,12 +18,11 @@ use Rattle.shm_calls.specs.Parts.{IsHeld, PartLaws}
 use Rattle.shm_calls.specs.Plans.{PlanLaws, PlanStays, IsCall, Follows}
 use Rattle.shm_count.specs.declared.answer.EraSpent.{EraSpent}
 use Rattle.shm_count.specs.Roots.{root_word}
-use Rattle.shm_count.specs.TearEvents.{Visit, frees}
+use Rattle.shm_count.specs.TearEvents.{frees}
 use Rattle.shm_ref.specs.DropControl.{drop_parts, dropping}
 use Rattle.shm_ref.specs.DropFits.{DropLeaves, drop_plan}
 use Rattle.shm_ref.specs.DropLaws.{drop_laws}
 use Rattle.shm_ref.specs.RootsControl.{drop_root}
-use Rattle.shm_script.specs.declared.log.Answer.{Answer}
 use Rattle.shm_table.specs.declared.answer.PutFault.{PutFault}
 use Rattle.shm_table.specs.declared.answer.PutFault.TheVariants as fault
 use Rattle.shm_table.specs.declared.copy.CopyPoint.{CopyPoint}
@@ -32,17 +30,17 @@ use Rattle.shm_table.specs.declared.copy.CopyPoint.TheVariants.{Fetch, Put, Drop
 use Rattle.shm_table.specs.declared.copy.CopyState.{CopyState}
 use Rattle.shm_table.specs.declared.fetch.Fetched.{Fetched}
 use Rattle.shm_table.specs.declared.fetch.Fetched.TheVariants as fetched
-use Rattle.shm_table.specs.Answers.{fault_answer, spent_fault}
+use Rattle.shm_table.specs.Answers.{fault_answer}
 use Rattle.shm_table.specs.CopyControl.{CopyAnswer, copy_call_at, copy_parts, copying, fetch_control, is_fetch}
-use Rattle.shm_table.specs.CopyFits.{Copied, CopyKnows, CopyLeaves, IsCopied, IsSource, MayCopy, NotCopied, copy_part, copy_plan, copy_steps}
+use Rattle.shm_table.specs.CopyFits.{CopyKnows, CopyLeaves, IsCopied, IsSource, MayCopy, NotCopied, copy_part, copy_plan}
 use Rattle.shm_table.specs.FetchControl.{fetch_parts, fetching}
 use Rattle.shm_table.specs.FetchFits.{FetchLeaves, IsRooted, MayFetch, fetch_plan, fetch_steps}
 use Rattle.shm_table.specs.FetchLaws.{fetch_begin}
-use Rattle.shm_table.specs.Commands.{CommandCause, MayCommand, RestSo, ValueSo, cause_put, cause_then}
+use Rattle.shm_table.specs.Commands.{CommandCause, RestSo, cause_put, cause_then}
 use Rattle.shm_table.specs.PutRootControl.{put_root_parts, putting_root}
-use Rattle.shm_table.specs.PutRootFits.{HasSearch, IsDecided, IsEraSpent, MayPut, PutRootLeaves, put_root_control, put_root_plan, put_root_steps}
+use Rattle.shm_table.specs.PutRootFits.{IsDecided, IsEraSpent, PutRootLeaves, put_root_control, put_root_plan, put_root_steps}
 use Rattle.shm_table.specs.PutRootSteps.{decided_after, decided_more, frees_append, same_more, same_part, search_before, search_more, set_after, set_then}
-use Rattle.shm_table.specs.Staying.{Cleared, Ended, IsSpent, Keeps, MapSet, PutCause, SameMap}
+use Rattle.shm_table.specs.Staying.{Cleared, Ended, PutCause, SameMap}
 use Rattle.shm_table.specs.StayingLaws.{cleared_drop, dropped_else, keeps_drop, keeps_more, left_by, spent_drop, spent_later}
 use Rattle.shm_table.specs.ValueReads.{idle_here}
 

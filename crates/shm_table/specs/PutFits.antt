@@ -1,6 +1,5 @@
 -- a put as a plan: when it may begin, what is known before each call, and what is left
-use Rattle.std.specs.Prelude.{◌≡◌, ◌≢◌, ℕ, ◌+◌, ◌*◌, ◌^◌, ◌<◌, ◌⊎◌, false, Option, Some, None, Result, Ok, Err, List, [], ◌∷◌, length}
-use Rattle.std.specs.List.{All, Contains}
+use Rattle.std.specs.Prelude.{◌≡◌, ◌≢◌, ℕ, ◌+◌, ◌*◌, ◌^◌, ◌<◌, ◌⊎◌, false, Option, Some, None, List, [], ◌∷◌, length}
 use Rattle.shm_graph.specs.declared.ask.Me.{Me}
 use Rattle.shm_graph.specs.declared.memo.Memo.{Memo}
 use Rattle.shm_graph.specs.declared.spot.Spot.TheVariants.{Home}
@@ -31,7 +30,7 @@ use Rattle.shm_table.specs.Commands.{CommandCause, MayCommand, RestSo, ValueSo}
 use Rattle.shm_table.specs.PutControl.{PutAnswer, PutCall, is_make, put_after, put_call_at, put_turns, putting}
 use Rattle.shm_table.specs.PutRootControl.{put_root_parts}
 use Rattle.shm_table.specs.PutRootFits.{HasSearch, IsDecided, IsEraSpent, put_root_plan, put_root_steps}
-use Rattle.shm_table.specs.Staying.{Cleared, Ended, IsSpent, Keeps, MapSet, SameMap}
+use Rattle.shm_table.specs.Staying.{Cleared, Ended, Keeps, MapSet, SameMap}
 
 -- ---- on the way
 

@@ -4,7 +4,6 @@ use Rattle.std.specs.Prelude.{Result, Ok, Err, length}
 use Rattle.std.specs.List.{Contains}
 use Rattle.std.proofs.lemmas.Bool.{cond-false, cond-true, eq-eqb, and_from}
 use Rattle.std.proofs.lemmas.List.Elements.{Contains-append_left}
-use Rattle.shm_words.specs.Layout.{total_of}
 use Rattle.shm_words.specs.Tags.{tag_plain, tag_refs, TagFits}
 use Rattle.shm_words.specs.declared.tag.Tag.{Tag as ATag}
 use Rattle.shm_words.proofs.Placing.{total_small}
@@ -12,18 +11,16 @@ use Rattle.shm_words.proofs.Words.{tag_plain-word, tag_refs-word}
 use Rattle.shm_graph.specs.declared.ask.Me.{Me}
 use Rattle.shm_graph.specs.declared.memo.Making.{Making}
 use Rattle.shm_graph.specs.declared.memo.Memo.{Memo}
-use Rattle.shm_graph.specs.declared.memo.Stored.{Stored as Word}
 use Rattle.shm_graph.specs.declared.spot.Spot.TheVariants.{Body, Home}
 use Rattle.shm_graph.specs.declared.spot.Spot.TheVariants as spot
 use Rattle.shm_graph.specs.Agents.{recovers}
-use Rattle.shm_graph.specs.Asks.{Trail, IsWithin}
+use Rattle.shm_graph.specs.Asks.{Trail}
 use Rattle.shm_graph.specs.Bounds.{alloc_steps, tear_steps}
 use Rattle.shm_graph.specs.Events.{Event}
-use Rattle.shm_graph.specs.Events as event
 use Rattle.shm_graph.specs.Held.{is_loose}
 use Rattle.shm_graph.specs.Readings.{valued}
 use Rattle.shm_graph.specs.Views.{own_word}
-use Rattle.shm_steps.specs.Reparting.{sight, map_in, IsValue}
+use Rattle.shm_steps.specs.Reparting.{sight, IsValue}
 use Rattle.shm_calls.specs.declared.or.Or.TheVariants.{First, Second}
 use Rattle.shm_calls.specs.CallTells.{within_more}
 use Rattle.shm_calls.specs.CallsPart.{calls_part, calls_part_laws}
@@ -43,26 +40,25 @@ use Rattle.shm_count.specs.declared.answer.EraSpent.{EraSpent}
 use Rattle.shm_count.specs.declared.answer.Made.{Made}
 use Rattle.shm_count.specs.Roots.{root_word}
 use Rattle.shm_count.specs.StepControl.{IsInside}
-use Rattle.shm_count.specs.TearEvents.{Visit, frees}
+use Rattle.shm_count.specs.TearEvents.{frees}
 use Rattle.shm_ref.specs.DropControl.{drop_parts, dropping}
 use Rattle.shm_ref.specs.DropFits.{DropLeaves, drop_plan}
 use Rattle.shm_ref.specs.DropLaws.{drop_laws}
 use Rattle.shm_ref.specs.RootsControl.{drop_root}
-use Rattle.shm_script.specs.declared.log.Answer.{Answer}
 use Rattle.shm_table.specs.declared.answer.PutFault.{PutFault}
 use Rattle.shm_table.specs.declared.answer.PutFault.TheVariants as fault
 use Rattle.shm_table.specs.declared.put.PutPoint.{PutPoint}
 use Rattle.shm_table.specs.declared.put.PutPoint.TheVariants.{Make, Put, Drop}
 use Rattle.shm_table.specs.declared.put.PutState.{PutState}
-use Rattle.shm_table.specs.Answers.{fault_answer, made_fault, spent_fault}
+use Rattle.shm_table.specs.Answers.{fault_answer, made_fault}
 use Rattle.shm_table.specs.PutControl.{PutAnswer, is_make, put_call_at, put_parts, value_request}
-use Rattle.shm_table.specs.Commands.{CommandCause, MayCommand, RestSo, ValueSo, cause_put, cause_then}
-use Rattle.shm_table.specs.PutFits.{HasValue, IsPut, NotStored, PutKnows, PutLeaves, Stored, put_part, put_plan}
+use Rattle.shm_table.specs.Commands.{CommandCause, MayCommand, RestSo, cause_put, cause_then}
+use Rattle.shm_table.specs.PutFits.{HasValue, IsPut, NotStored, PutKnows, PutLeaves, put_part, put_plan}
 use Rattle.shm_table.specs.PutRootControl.{put_root_parts, putting_root}
-use Rattle.shm_table.specs.PutRootFits.{HasSearch, IsDecided, IsEraSpent, MayPut, PutRootLeaves, put_root_control, put_root_plan, put_root_steps}
+use Rattle.shm_table.specs.PutRootFits.{IsDecided, IsEraSpent, PutRootLeaves, put_root_control, put_root_plan, put_root_steps}
 use Rattle.shm_table.specs.PutRootSteps.{decided_after, decided_more, frees_append, same_more, same_part, search_before, search_more, set_after, set_then}
-use Rattle.shm_table.specs.Staying.{Cleared, Ended, IsSpent, Keeps, MapSet, PutCause, SameMap}
-use Rattle.shm_table.specs.StayingLaws.{cleared_drop, dropped_else, keeps_drop, keeps_made, keeps_more, keeps_self, left_by, made_cause, made_home, made_others, made_root, rests_unmade, spent_drop, spent_later}
+use Rattle.shm_table.specs.Staying.{Cleared, Ended, PutCause, SameMap}
+use Rattle.shm_table.specs.StayingLaws.{cleared_drop, dropped_else, keeps_drop, keeps_made, keeps_more, left_by, made_cause, made_others, made_root, rests_unmade, spent_drop, spent_later}
 use Rattle.shm_table.specs.ValueReads.{idle_here}
 
 -- ---- the plan
