@@ -46,6 +46,7 @@ pub mod PutRootFits
 pub mod PutRootSteps
 pub mod PutRootLaws
 pub mod PutRootBound
+pub mod Commands
 pub mod PutControl
 pub mod PutFits
 pub mod PutLaws
@@ -54,6 +55,9 @@ pub mod FetchControl
 pub mod FetchFits
 pub mod FetchSteps
 pub mod FetchLaws
+pub mod CopyControl
+pub mod CopyFits
+pub mod CopyLaws
 pub mod CopyMachines
 pub mod ReadMachines
 pub mod ChangeMachines

@@ -1,7 +1,5 @@
 -- a put as a plan: when it may begin, what is known before each call, and what is left
-use Rattle.std.specs.Prelude.{◌≡◌, ◌≢◌, ℕ, ◌+◌, ◌*◌, ◌^◌, ◌<◌, ◌⊎◌, false, Option, Some, None, Result, Ok, Err, List, [], ◌∷◌, length}
-use Rattle.std.specs.List.{All, Contains}
-use Rattle.shm_words.specs.Layout.{GeometryFits}
+use Rattle.std.specs.Prelude.{◌≡◌, ◌≢◌, ℕ, ◌+◌, ◌*◌, ◌^◌, ◌<◌, ◌⊎◌, false, Option, Some, None, List, [], ◌∷◌, length}
 use Rattle.shm_graph.specs.declared.ask.Me.{Me}
 use Rattle.shm_graph.specs.declared.memo.Memo.{Memo}
 use Rattle.shm_graph.specs.declared.spot.Spot.TheVariants.{Home}
@@ -10,8 +8,6 @@ use Rattle.shm_graph.specs.Asks.{Trail, IsWithin}
 use Rattle.shm_graph.specs.Bounds.{alloc_steps, tear_steps}
 use Rattle.shm_graph.specs.Events.{Event}
 use Rattle.shm_graph.specs.Events as event
-use Rattle.shm_graph.specs.Held.{is_loose}
-use Rattle.shm_graph.specs.Idle.{IsIdle}
 use Rattle.shm_graph.specs.Views.{own_word}
 use Rattle.shm_calls.specs.CallsPart.{calls_part}
 use Rattle.shm_calls.specs.Either.{or_part}
@@ -30,31 +26,11 @@ use Rattle.shm_table.specs.declared.answer.PutFault.TheVariants.{EraSpent, Roots
 use Rattle.shm_table.specs.declared.put.PutPoint.{PutPoint}
 use Rattle.shm_table.specs.declared.put.PutPoint.TheVariants.{Make, Put, Drop}
 use Rattle.shm_table.specs.declared.put.PutState.{PutState}
+use Rattle.shm_table.specs.Commands.{CommandCause, MayCommand, RestSo, ValueSo}
 use Rattle.shm_table.specs.PutControl.{PutAnswer, PutCall, is_make, put_after, put_call_at, put_turns, putting}
 use Rattle.shm_table.specs.PutRootControl.{put_root_parts}
 use Rattle.shm_table.specs.PutRootFits.{HasSearch, IsDecided, IsEraSpent, put_root_plan, put_root_steps}
-use Rattle.shm_table.specs.Staying.{Cleared, Ended, IsSpent, Keeps, MapSet, SameMap}
-
--- ---- when it may begin
-
--- between two calls of a client, in a pool for tables, with no latch
-pub record MayCommand (me : Me) (key : ℕ) (r : Memo) : Type 0 where
-  pub geometry : GeometryFits me.geometry
-  pub who : me.who < me.geometry.clients
-  pub idle : IsIdle me.who r
-  pub client : recovers r ≡ false
-  pub none : r.latch ≡ None
-  pub table : is_loose r.part ≡ false
-  pub small : key < 2 ^ 32
-
--- ---- why it is refused
-
--- why a command that gives a block a root and then an entry was refused: the own era was spent; all roots but at most one were set; some root was empty; a count was full
-abbrev pub CommandCause : Me → Memo → Memo → PutFault → Type 0
-CommandCause me m r (EraSpent e) = IsSpent me.who e r
-CommandCause me m r RootsFull = (k : ℕ) × ((j : ℕ) → j < 16 → k ≢ j → root_word me.who m j ≢ 0)
-CommandCause me m r (Full s b) = (k : ℕ) × (k < 16) × (root_word me.who m k ≡ 0)
-CommandCause me m r (CountFull b n) = n ≡ 1023
+use Rattle.shm_table.specs.Staying.{Cleared, Ended, Keeps, MapSet, SameMap}
 
 -- ---- on the way
 
@@ -74,20 +50,6 @@ pub record HasValue (me : Me) (key n k b : ℕ) (r0 r : Memo) (tr : Trail) (es :
   pub value : IsValue (sight me.who r) b n
   pub told : es ≡ event.Alloc me.who k b ∷ []
   pub bound : IsWithin (alloc_steps me.geometry.segments) tr
-
--- the key has the value block, by such an event; or it was refused for this reason
-abbrev pub ValueSo : Me → ℕ → ℕ → ℕ → Memo → Memo → List Event → Option PutFault → Type 0
-ValueSo me key n b r0 r es None = MapSet key n b r0 r × (own_word r.own (Home me.who) ≢ 0) × (IsDecided me.who key (own_word r.own (Home me.who)) b es ⊎ ((i : ℕ) × (map_in r0.part key ≡ Some (i, b))))
-ValueSo me key n b r0 r es (Some f) = SameMap r0 r × CommandCause me r0 r f
-
--- but for root k the roots and the zero-count blocks are as they were
-abbrev pub AllButRoot : ℕ → ℕ → Memo → Memo → Type 0
-AllButRoot c k m r = ((j : ℕ) → k ≢ j → root_word c r j ≡ root_word c m j) × (r.dying ≡ m.dying)
-
--- they are so, or the own era was spent
-abbrev pub RestSo : ℕ → ℕ → Memo → Memo → Option PutFault → Type 0
-RestSo c k m r None = AllButRoot c k m r ⊎ ((e : ℕ) × IsSpent c e r)
-RestSo c k m r (Some f) = AllButRoot c k m r ⊎ IsEraSpent f
 
 -- it is settled whether the key has it, and root k names it still; f is why not
 pub record IsPut (me : Me) (key n k b : ℕ) (f : Option PutFault) (r0 r : Memo) (tr : Trail) (es : List Event) : Type 0 where

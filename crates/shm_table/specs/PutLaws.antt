@@ -13,18 +13,16 @@ use Rattle.shm_laws.proofs.Keep.{filter_from}
 use Rattle.shm_graph.specs.declared.ask.Me.{Me}
 use Rattle.shm_graph.specs.declared.memo.Making.{Making}
 use Rattle.shm_graph.specs.declared.memo.Memo.{Memo}
-use Rattle.shm_graph.specs.declared.memo.Stored.{Stored as Word}
 use Rattle.shm_graph.specs.declared.spot.Spot.TheVariants.{Body, Home}
 use Rattle.shm_graph.specs.declared.spot.Spot.TheVariants as spot
 use Rattle.shm_graph.specs.Agents.{recovers}
-use Rattle.shm_graph.specs.Asks.{Trail, IsWithin}
+use Rattle.shm_graph.specs.Asks.{Trail}
 use Rattle.shm_graph.specs.Bounds.{alloc_steps, tear_steps}
 use Rattle.shm_graph.specs.Events.{Event}
-use Rattle.shm_graph.specs.Events as event
 use Rattle.shm_graph.specs.Held.{is_loose}
 use Rattle.shm_graph.specs.Readings.{valued}
 use Rattle.shm_graph.specs.Views.{own_word}
-use Rattle.shm_steps.specs.Reparting.{sight, map_in, IsValue}
+use Rattle.shm_steps.specs.Reparting.{sight, IsValue}
 use Rattle.shm_calls.specs.declared.or.Or.TheVariants.{First, Second}
 use Rattle.shm_calls.specs.CallTells.{within_more}
 use Rattle.shm_calls.specs.CallsPart.{calls_part, calls_part_laws}
@@ -51,20 +49,20 @@ use Rattle.shm_ref.specs.DropFits.{DropLeaves, drop_plan}
 use Rattle.shm_ref.specs.DropLaws.{drop_laws}
 use Rattle.shm_ref.specs.Lefts.{Stopped}
 use Rattle.shm_ref.specs.RootsControl.{drop_root}
-use Rattle.shm_script.specs.declared.log.Answer.{Answer}
 use Rattle.shm_table.specs.declared.answer.PutFault.{PutFault}
 use Rattle.shm_table.specs.declared.answer.PutFault.TheVariants as fault
 use Rattle.shm_table.specs.declared.put.PutPoint.{PutPoint}
 use Rattle.shm_table.specs.declared.put.PutPoint.TheVariants.{Make, Put, Drop}
 use Rattle.shm_table.specs.declared.put.PutState.{PutState}
-use Rattle.shm_table.specs.Answers.{fault_answer, made_fault, spent_fault}
+use Rattle.shm_table.specs.Answers.{fault_answer, made_fault}
 use Rattle.shm_table.specs.PutControl.{PutAnswer, is_make, put_call_at, put_parts, value_request}
-use Rattle.shm_table.specs.PutFits.{CommandCause, HasValue, IsPut, MayCommand, NotStored, PutKnows, PutLeaves, RestSo, Stored, ValueSo, put_part, put_plan}
+use Rattle.shm_table.specs.Commands.{CommandCause, MayCommand, RestSo, cause_put, cause_then}
+use Rattle.shm_table.specs.PutFits.{HasValue, IsPut, NotStored, PutKnows, PutLeaves, put_part, put_plan}
 use Rattle.shm_table.specs.PutRootControl.{put_root_parts, putting_root}
-use Rattle.shm_table.specs.PutRootFits.{HasSearch, IsDecided, IsEraSpent, MayPut, PutRootLeaves, put_root_control, put_root_plan, put_root_steps}
+use Rattle.shm_table.specs.PutRootFits.{IsDecided, IsEraSpent, PutRootLeaves, put_root_control, put_root_plan, put_root_steps}
 use Rattle.shm_table.specs.PutRootSteps.{decided_after, decided_more, frees_append, same_more, same_part, search_before, search_more, set_after, set_then}
-use Rattle.shm_table.specs.Staying.{Cleared, Ended, IsSpent, Keeps, MapSet, PutCause, SameMap}
-use Rattle.shm_table.specs.StayingLaws.{cleared_drop, dropped_else, keeps_drop, keeps_made, keeps_more, keeps_self, left_by, made_cause, made_home, made_others, made_root, rests_unmade, spent_drop, spent_later}
+use Rattle.shm_table.specs.Staying.{Cleared, Ended, PutCause, SameMap}
+use Rattle.shm_table.specs.StayingLaws.{cleared_drop, dropped_else, keeps_drop, keeps_made, keeps_more, left_by, made_cause, made_others, made_root, rests_unmade, spent_drop, spent_later}
 use Rattle.shm_table.specs.ValueReads.{idle_here}
 
 -- ---- the plan
@@ -165,19 +163,6 @@ cause_made : (me : Me) (m r : Memo) (f : AllocFault) → PutCause me m r (made_f
 cause_made me m r (alloc_fault.EraSpent e) h = h
 cause_made me m r alloc_fault.RootsFull h = (0, λ j l n. h j l)
 cause_made me m r (alloc_fault.Full s b) h = h
-
--- and why the key hasn't got it, where root k was empty before
-cause_put : (me : Me) (k : ℕ) (m x r : Memo) (f : PutFault) → k < 16 → root_word me.who m k ≡ 0 → ((j : ℕ) → k ≢ j → root_word me.who x j ≡ root_word me.who m j) → PutCause me x r f → CommandCause me m r f
-cause_put me k m x r (fault.EraSpent e) low empty others h = h
-cause_put me k m x r fault.RootsFull low empty others h = (k, λ j l n z. h j l (others j n ∙ z))
-cause_put me k m x r (fault.Full s b) low empty others h = (k, low, empty)
-cause_put me k m x r (fault.CountFull b n) low empty others h = h
-
-cause_then : (me : Me) (m x r : Memo) (f : PutFault) → own_word x.own (spot.Era me.who me.who) ≤ own_word r.own (spot.Era me.who me.who) → CommandCause me m x f → CommandCause me m r f
-cause_then me m x r (fault.EraSpent e) era h = spent_later me.who e x r era h
-cause_then me m x r fault.RootsFull era h = h
-cause_then me m x r (fault.Full s b) era h = h
-cause_then me m x r (fault.CountFull b n) era h = h
 
 -- ---- answers
 

@@ -1,22 +1,29 @@
-//! When what a key has may come to have a root; what that does to the graph of references, what it leaves, and how many word steps it
-//! takes.
+//! When what a key has may come to have a root, and another key may come to have it; what that does to the graph of references and to the
+//! map, what it leaves, and how many word steps it takes.
 
-ghost use Rattle.std.specs.Prelude.{◌≡◌, ℕ, ◌+◌, ◌*◌, Some, []};
+ghost use Rattle.std.specs.Prelude.{◌≡◌, ℕ, ◌+◌, ◌*◌, Some, [], List, length};
 ghost use Rattle.shm_graph.specs.declared.ask.Me.{Me as AMe};
 ghost use Rattle.shm_graph.specs.declared.memo.Memo.{Memo as AMemo};
 ghost use Rattle.shm_graph.specs.Asks.{Trail, IsWithin};
+ghost use Rattle.shm_graph.specs.Bounds.{tear_steps};
 ghost use Rattle.shm_graph.specs.Tells.{Tells};
 ghost use Rattle.shm_calls.specs.CallsControl.{calls_does};
 ghost use Rattle.shm_calls.specs.CallsFit.{CallsFits};
 ghost use Rattle.shm_calls.specs.Plans.{plan_trail};
+ghost use Rattle.shm_count.specs.TearEvents.{Visit, frees};
 ghost use Rattle.shm_steps.specs.Reparting.{map_in};
+ghost use Rattle.shm_script.specs.declared.log.Answer.{Answer as AnAnswer};
+ghost use Rattle.shm_script.specs.declared.log.Answer.TheVariants as answer;
 ghost use Rattle.shm_table.specs.declared.answer.PutFault.{PutFault as APutFault};
 ghost use Rattle.shm_table.specs.declared.fetch.Fetched.{Fetched as AFetched};
 ghost use Rattle.shm_table.specs.declared.fetch.Fetched.TheVariants as fetched;
-ghost use Rattle.shm_table.specs.CopyMachines.{FetchFits, FetchGives, fetch_control, fetch_told};
+ghost use Rattle.shm_table.specs.CopyControl.{copy_parts, copying, fetch_control};
+ghost use Rattle.shm_table.specs.CopyFits.{CopyLeaves, MayCopy, copy_plan, copy_steps};
+ghost use Rattle.shm_table.specs.CopyMachines.{CopyFits, CopyGives, FetchFits, FetchGives, copy_control, copy_told, fetch_told};
 ghost use Rattle.shm_table.specs.FetchControl.{fetch_parts, fetching};
 ghost use Rattle.shm_table.specs.FetchFits.{FetchLeaves, MayFetch, fetch_plan, fetch_steps};
 ghost use Rattle.shm_table.specs.PutRootFits.{HasSearch};
+ghost use Rattle.shm_table.specs.Staying.{SameMap};
 
 /// The reading of what a key has, with a root, fits each memo of a client between two calls, in a pool for tables, with no latch.
 pub fn fetch_begins()
@@ -41,4 +48,29 @@ pub fn fetch_bound()
     ensures rooted { (me : AMe) (a key k v n : ℕ) (r0 r : AMemo) (tr : Trail) → FetchGives me a key r0 r tr (fetched.Rooted k v n) → (keys : ℕ) × HasSearch me a key keys tr × IsWithin (fetch_steps + 2 * keys) tr }
     ensures refused { (me : AMe) (a key : ℕ) (f : APutFault) (r0 r : AMemo) (tr : Trail) → FetchGives me a key r0 r tr (fetched.Refused f) → (keys : ℕ) × HasSearch me a key keys tr × IsWithin (fetch_steps + 2 * keys) tr }
     ensures steps { fetch_steps ≡ 32 }
+{}
+
+/// A copy fits each memo of a client between two calls, in a pool for tables, with no latch.
+pub fn copy_begins()
+    ensures { (me : AMe) (key a other : ℕ) (r : AMemo) → MayCopy me key a r → CopyFits me key a other r r [] }
+{}
+
+/// The event of each word step of it is the one that it tells.
+pub fn copy_events()
+    ensures { Tells copy_control (CallsFits copy_parts copy_plan) (calls_does copy_parts copy_plan) }
+{}
+
+/// The key has the value block that the other key has, with its number, and no other key changed; or the other key is missing, or the
+/// refusal says why the key hasn't got it, and the map is as before. No latch is held.
+pub fn copy_leaves()
+    ensures leaves { (me : AMe) (key a other : ℕ) (r0 r : AMemo) (tr : Trail) (b : AnAnswer) → CopyGives me key a other r0 r tr b → CopyLeaves (copying me key a other) r0 r tr (copy_told me key a other tr) b }
+    ensures trail { (me : AMe) (key a other : ℕ) (r0 r : AMemo) (tr : Trail) (b : AnAnswer) → CopyGives me key a other r0 r tr b → plan_trail copy_plan (copying me key a other) tr b }
+    ensures has { (me : AMe) (key a other n v : ℕ) (r0 r : AMemo) (tr : Trail) → a ≡ me.who → CopyGives me key a other r0 r tr (answer.Value n v) → map_in r0.part other ≡ Some (n, v) }
+{}
+
+/// A copy took at most the word steps of a put without its value block, 32 more, 2 for each key that it read in both tables, and 164 for
+/// each block that it freed or left on the way.
+pub fn copy_bound()
+    ensures { (me : AMe) (key a other n v : ℕ) (r0 r : AMemo) (tr : Trail) → CopyGives me key a other r0 r tr (answer.Value n v)
+        → (read : ℕ) × (keys : ℕ) × (vs : List Visit) × HasSearch me a other read tr × IsWithin (copy_steps me.geometry.segments + 2 * read + 2 * keys + tear_steps (frees (copy_told me key a other tr) + length vs)) tr }
 {}

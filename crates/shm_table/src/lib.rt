@@ -7,6 +7,11 @@
 pub mod answer;
 pub mod bound;
 pub mod changes;
+pub mod copy;
+#[cfg(test)]
+mod copy_refusal_tests;
+#[cfg(test)]
+mod copy_tests;
 pub mod copying;
 pub mod del;
 #[cfg(test)]
@@ -62,6 +67,8 @@ mod unlink_refusal_tests;
 mod unlink_tests;
 
 pub use changes::{del_begins, del_bound, del_events, del_leaves};
+pub use copy::{CopyKey, Copying};
+pub use copying::{copy_begins, copy_bound, copy_events, copy_leaves};
 pub use del::{Del, DelAnswer, Deleting};
 pub use get::{Get, Getting, Valued};
 pub use put::{Put, Putting};

@@ -5,6 +5,7 @@ pub use crate::changes::{
     replace_begins, replace_bound, replace_events, replace_leaves, unlink_begins, unlink_bound,
     unlink_events, unlink_leaves,
 };
+pub use crate::copy::{CopyPoint, CopyState};
 pub use crate::copying::{fetch_begins, fetch_bound, fetch_events, fetch_leaves};
 pub use crate::del::{DelPoint, DelState};
 pub use crate::enter::{Enter, EnterPoint, EnterState, Entered, Entering};

@@ -1,0 +1,15 @@
+use Rattle.std.proofs.Common.{refl}
+use Rattle.shm_calls.specs.CallsKeep.{calls_begin}
+use Rattle.shm_table.specs.CopyControl.{copy_parts, copying}
+use Rattle.shm_table.specs.CopyFits.{copy_plan}
+use Rattle.shm_table.specs.CopyLaws.{copy_begin, copy_laws}
+use Rattle.shm_table.specs.EnterLaws.{enter_laws}
+use Rattle.shm_table.specs.FetchLaws.{fetch_laws}
+use Rattle.shm_table.specs.LocateLaws.{locate_laws}
+use Rattle.shm_table.specs.OpenLaws.{open_laws}
+use Rattle.shm_table.specs.PutRootLaws.{put_root_laws}
+use Rattle.shm_table.specs.ReplaceLaws.{replace_laws}
+use Rattle.shm_table.proofs.copying.copy_begins.Goals as goal
+
+pub returns : goal.returns
+returns c me key a other r may = calls_begin copy_parts copy_plan (copy_laws fetch_laws (put_root_laws open_laws locate_laws replace_laws enter_laws)) (copying me key a other) r refl refl (copy_begin me key a other r may)

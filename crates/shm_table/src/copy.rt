@@ -1,0 +1,203 @@
+//! A key of the own table comes to have what a key has in the table of an author.
+
+ghost use Rattle.std.specs.Prelude.{◌≡◌, ◌<◌, ◌≤◌};
+ghost use Rattle.shm_words.specs.Layout.{GeometryFits};
+ghost use Rattle.shm_table.specs.CopyControl as control;
+ghost use Rattle.shm_table.specs.CopyControl.{copying};
+ghost use Rattle.shm_table.specs.CopyFits.{copy_plan};
+ghost use Rattle.shm_table.specs.CopyLaws.{copy_laws};
+ghost use Rattle.shm_table.specs.EnterLaws.{enter_laws};
+ghost use Rattle.shm_table.specs.FetchLaws.{fetch_laws};
+ghost use Rattle.shm_table.specs.LocateLaws.{locate_laws};
+ghost use Rattle.shm_table.specs.OpenLaws.{open_laws};
+ghost use Rattle.shm_table.specs.PutRootLaws.{put_root_laws};
+ghost use Rattle.shm_table.specs.ReplaceLaws.{replace_laws};
+
+use crate::answer::PutFault;
+use crate::fetch::{Fetch, Fetched, Fetching};
+use crate::put_root::PutRoot;
+use shm_calls::{Calls, Or, Plan};
+use shm_count::EraSpent;
+use shm_graph::{Machine, Me};
+use shm_ref::{DropRoot, Dropping};
+use shm_script::Answer;
+use std::marker::Model;
+
+/// Which call of it comes next.
+#[derive(Clone, Copy, Debug, PartialEq, Eq, Drop)]
+pub enum CopyPoint {
+    /// What the other key has is read, and its value block comes to have a root.
+    Fetch,
+    /// The key comes to have it.
+    Put,
+    /// Its root is dropped.
+    Drop,
+}
+
+/// The control of it: `block` is the value block, `number` its number and `root` its root; `refused` is why the key hasn't got it.
+#[derive(Clone, Copy, Debug, PartialEq, Eq, Drop)]
+pub struct CopyState {
+    pub me: Me,
+    pub key: u32,
+    pub author: u8,
+    pub other: u32,
+    pub root: u8,
+    pub block: u32,
+    pub number: u64,
+    pub refused: Option<PutFault>,
+    pub point: CopyPoint,
+}
+
+/// Its calls.
+pub type CopyCall = Or<Fetch, Or<PutRoot, DropRoot>>;
+
+/// What its calls answer.
+pub type CopyAnswer = Or<Fetched, Or<Result<(), PutFault>, Result<bool, EraSpent>>>;
+
+/// The calls by which a key comes to have what another one has.
+#[derive(Drop)]
+pub struct Copying {
+    state: CopyState,
+}
+
+impl Model for Copying {
+    ghost use Rattle.shm_table.specs.declared.copy.CopyState.{CopyState as AState};
+
+    ghost Value = { AState };
+
+    ghost view = { λ a. a.state };
+
+    ghost use Rattle.shm_table.specs.CopyControl.{CopyInRange};
+
+    ghost invariant = { λ a. CopyInRange a.state };
+}
+
+/// It answers the value block that both keys have, and its number; or that the other key is missing, or why the key hasn't got the value
+/// block: from the step on by which it has it, no refusal changes the answer.
+pub type CopyKey = Calls<Copying>;
+
+/// What it answers.
+#[inline(always)]
+fn answer(number: u64, block: u32, refused: Option<PutFault>) -> Answer
+    ensures { result ≡ control.copy_answer number block refused }
+{
+    match refused {
+        None => Answer::Value { number, block },
+        Some(fault) => fault.answer(),
+    }
+}
+
+/// What it answers where the root of the value block couldn't be dropped.
+#[inline(always)]
+fn stuck(number: u64, block: u32, refused: Option<PutFault>, spent: EraSpent) -> Answer
+    ensures { result ≡ control.stuck_answer number block refused spent }
+{
+    match refused {
+        None => Answer::Value { number, block },
+        Some(_) => PutFault::spent(spent).answer(),
+    }
+}
+
+impl Copying {
+    /// `key` is to have in the table of `me` what `other` has in that of `author`.
+    #[inline(always)]
+    pub fn new(me: Me, key: u32, author: u8, other: u32) -> Copying
+        requires geometry { GeometryFits me.geometry }
+        requires who { me.who < me.geometry.clients }
+        requires author { author < me.geometry.clients }
+        ensures { result ≡ copying me key author other }
+    {
+        Copying {
+            state: CopyState {
+                me,
+                key,
+                author,
+                other,
+                root: 0,
+                block: 0,
+                number: 0,
+                refused: None,
+                point: CopyPoint::Fetch,
+            },
+        }
+    }
+}
+
+impl CopyState {
+    /// Where it goes by what was fetched.
+    #[inline(always)]
+    fn fetched(&mut self, fetched: Fetched) -> Option<Answer>
+        ensures state { self.new ≡ control.fetched_after self.old fetched }
+        ensures answer { result ≡ control.fetched_turns fetched }
+    {
+        match fetched {
+            Fetched::Missing => Some(Answer::Missing),
+            Fetched::Refused(fault) => Some(fault.answer()),
+            Fetched::Rooted {
+                root,
+                block,
+                number,
+            } => {
+                self.root = root % 16;
+                self.block = block % (1 << 20);
+                self.number = number;
+                self.point = CopyPoint::Put;
+                None
+            }
+        }
+    }
+}
+
+impl Plan for Copying {
+    type Call = CopyCall;
+
+    type Answer = Answer;
+
+    ghost plan = { copy_plan };
+
+    #[inline(always)]
+    fn me(&self) -> Me {
+        self.state.me
+    }
+
+    #[inline(always)]
+    fn call(&self) -> CopyCall {
+        let CopyState {
+            me,
+            key,
+            author,
+            other,
+            root,
+            block,
+            point,
+            ..
+        } = self.state;
+        match point {
+            CopyPoint::Fetch => Or::First(Calls::new(Fetching::new(me, author, other))),
+            CopyPoint::Put => Or::Second(Or::First(PutRoot::new(me, key, block))),
+            CopyPoint::Drop => Or::Second(Or::Second(Calls::new(Dropping::new(me, root)))),
+        }
+    }
+
+    #[inline(always)]
+    fn next(&mut self, given: CopyAnswer) -> Option<Answer> {
+        let CopyState {
+            number,
+            block,
+            refused,
+            ..
+        } = self.state;
+        match given {
+            Or::First(fetched) => self.state.fetched(fetched),
+            Or::Second(Or::First(done)) => {
+                self.state.refused = done.err();
+                self.state.point = CopyPoint::Drop;
+                None
+            }
+            Or::Second(Or::Second(Ok(_))) => Some(answer(number, block, refused)),
+            Or::Second(Or::Second(Err(spent))) => Some(stuck(number, block, refused, spent)),
+        }
+    }
+
+    ghost laws = { copy_laws fetch_laws (put_root_laws open_laws locate_laws replace_laws enter_laws) };
+}
