@@ -1,5 +1,7 @@
 -- what commands that bring a value block into the own table share: when they may begin, why they are refused, and what is settled before its root is dropped
-use Rattle.std.proofs.Common.{◌≡◌, ◌≢◌, ℕ, ◌^◌, ◌<◌, ◌≤◌, ◌∙◌, ◌⊎◌, false, Option, Some, None, List}
+use Rattle.std.proofs.Common.{◌≡◌, ◌≢◌, ℕ, ◌^◌, ◌<◌, ◌≤◌, ◌∙◌, ◌⊎◌, sym, subst, false, Option, Some, None, List, ◌++◌}
+use Rattle.std.specs.List.{All, Contains}
+use Rattle.std.proofs.lemmas.List.Elements.{All-append, All-weaker}
 use Rattle.shm_words.specs.Layout.{GeometryFits}
 use Rattle.shm_graph.specs.declared.ask.Me.{Me}
 use Rattle.shm_graph.specs.declared.memo.Memo.{Memo}
@@ -11,7 +13,11 @@ use Rattle.shm_graph.specs.Held.{is_loose}
 use Rattle.shm_graph.specs.Idle.{IsIdle}
 use Rattle.shm_graph.specs.Views.{own_word}
 use Rattle.shm_steps.specs.Reparting.{map_in}
+use Rattle.shm_laws.proofs.Keep.{filter_from}
 use Rattle.shm_count.specs.Roots.{root_word}
+use Rattle.shm_count.specs.TearEvents.{Visit}
+use Rattle.shm_count.specs.TearFits.{is_outside}
+use Rattle.shm_ref.specs.Lefts.{Stopped}
 use Rattle.shm_table.specs.declared.answer.PutFault.{PutFault}
 use Rattle.shm_table.specs.declared.answer.PutFault.TheVariants.{EraSpent, RootsFull, Full, CountFull}
 use Rattle.shm_table.specs.declared.answer.PutFault.TheVariants as fault
@@ -65,3 +71,10 @@ cause_then me m x r (fault.EraSpent e) era h = spent_later me.who e x r era h
 cause_then me m x r fault.RootsFull era h = h
 cause_then me m x r (fault.Full s b) era h = h
 cause_then me m x r (fault.CountFull b n) era h = h
+
+-- what a tear-down left before is left still where one more was stopped
+pub left_too : (me : Me) (m r : Memo) (us vs : List Visit) (era : ℕ) → All (λ (x : Visit). Contains m.dying x.block) us → Stopped me m r era vs → All (λ (x : Visit). Contains r.dying x.block) (us ++ vs)
+left_too me m r us vs era h w =
+    let still = λ (x : Visit) (y : Contains m.dying x.block). (filter_from (is_outside vs) r.dying x.block (subst (λ (xs : List ℕ). Contains xs x.block) (sym w.others) y)).0 in
+    let before = All-weaker (λ (x : Visit). Contains m.dying x.block) (λ (x : Visit). Contains r.dying x.block) still us h in
+    All-append (λ (x : Visit). Contains r.dying x.block) us vs before w.left

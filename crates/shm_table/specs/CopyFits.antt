@@ -1,5 +1,6 @@
 -- a copy as a plan: when it may begin, what is known before each call, and what is left
 use Rattle.std.specs.Prelude.{◌≡◌, ◌≢◌, ℕ, ◌+◌, ◌*◌, ◌<◌, ◌⊎◌, Option, Some, None, List, [], ◌∷◌, length}
+use Rattle.std.specs.List.{All, Contains}
 use Rattle.shm_graph.specs.declared.ask.Me.{Me}
 use Rattle.shm_graph.specs.declared.memo.Memo.{Memo}
 use Rattle.shm_graph.specs.declared.spot.Spot.TheVariants.{Home, Root}
@@ -66,6 +67,7 @@ pub record IsCopied (me : Me) (key a other n k b : ℕ) (f : Option PutFault) (r
   pub keys : ℕ
   pub search : (keys ≡ 0) ⊎ HasSearch me me.who key keys tr
   pub left : List Visit
+  pub dying : All (λ (x : Visit). Contains r.dying x.block) left
   pub bound : IsWithin (fetch_steps + 2 * source.read + put_root_steps me.geometry.segments + 2 * keys + tear_steps (frees es + length left)) tr
 
 abbrev pub CopyKnows : CopyState → CopyPoint → Memo → Memo → Trail → List Event → Type 0
@@ -92,6 +94,7 @@ pub record Copied (me : Me) (key a other n b : ℕ) (r0 r : Memo) (tr : Trail) (
   pub keys : ℕ
   pub search : (keys ≡ 0) ⊎ HasSearch me me.who key keys tr
   pub left : List Visit
+  pub dying : All (λ (x : Visit). Contains r.dying x.block) left
   pub bound : IsWithin (copy_steps me.geometry.segments + 2 * source.read + 2 * keys + tear_steps (frees es + length left)) tr
 
 -- it was refused: the map, the latches and the queues are as before, and so are roots and zero-count blocks, unless the own era was spent
@@ -106,6 +109,7 @@ pub record NotCopied (me : Me) (key a other : ℕ) (r0 r : Memo) (tr : Trail) (e
   pub keys : ℕ
   pub search : (keys ≡ 0) ⊎ HasSearch me me.who key keys tr
   pub left : List Visit
+  pub dying : All (λ (x : Visit). Contains r.dying x.block) left
   pub bound : IsWithin (copy_steps me.geometry.segments + 2 * read + 2 * keys + tear_steps (frees es + length left)) tr
 
 abbrev pub CopyLeaves : CopyState → Memo → Memo → Trail → List Event → Answer → Type 0

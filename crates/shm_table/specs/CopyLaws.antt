@@ -1,6 +1,8 @@
 -- what is owed of a copy
 use Rattle.std.proofs.Common.{◌≡◌, ◌≢◌, ℕ, length-append, ◌+◌, ◌*◌, ◌%◌, ◌^◌, ◌≤◌, refl, sym, ap, ◌∙◌, subst, arith, Bool, List, [], ◌++◌, Option, Some, None, inl, inr, ◌⊎◌}
 use Rattle.std.specs.Prelude.{Result, Ok, Err, length}
+use Rattle.std.specs.List.{All, Contains}
+use Rattle.std.proofs.lemmas.List.Elements.{All-nil}
 use Rattle.shm_graph.specs.declared.ask.Me.{Me}
 use Rattle.shm_graph.specs.declared.memo.Memo.{Memo}
 use Rattle.shm_graph.specs.declared.spot.Spot.TheVariants.{Home, Root}
@@ -18,7 +20,7 @@ use Rattle.shm_calls.specs.Parts.{IsHeld, PartLaws}
 use Rattle.shm_calls.specs.Plans.{PlanLaws, PlanStays, IsCall, Follows}
 use Rattle.shm_count.specs.declared.answer.EraSpent.{EraSpent}
 use Rattle.shm_count.specs.Roots.{root_word}
-use Rattle.shm_count.specs.TearEvents.{frees}
+use Rattle.shm_count.specs.TearEvents.{Visit, frees}
 use Rattle.shm_ref.specs.DropControl.{drop_parts, dropping}
 use Rattle.shm_ref.specs.DropFits.{DropLeaves, drop_plan}
 use Rattle.shm_ref.specs.DropLaws.{drop_laws}
@@ -36,7 +38,7 @@ use Rattle.shm_table.specs.CopyFits.{CopyKnows, CopyLeaves, IsCopied, IsSource, 
 use Rattle.shm_table.specs.FetchControl.{fetch_parts, fetching}
 use Rattle.shm_table.specs.FetchFits.{FetchLeaves, IsRooted, MayFetch, fetch_plan, fetch_steps}
 use Rattle.shm_table.specs.FetchLaws.{fetch_begin}
-use Rattle.shm_table.specs.Commands.{CommandCause, RestSo, cause_put, cause_then}
+use Rattle.shm_table.specs.Commands.{CommandCause, RestSo, cause_put, cause_then, left_too}
 use Rattle.shm_table.specs.PutRootControl.{put_root_parts, putting_root}
 use Rattle.shm_table.specs.PutRootFits.{IsDecided, IsEraSpent, PutRootLeaves, put_root_control, put_root_plan, put_root_steps}
 use Rattle.shm_table.specs.PutRootSteps.{decided_after, decided_more, frees_append, same_more, same_part, search_before, search_more, set_after, set_then}
@@ -160,6 +162,7 @@ module _ (m : CopyState) (r0 rs r : Memo) (tr t : Trail) (es ds : List Event) (h
             keys = 0;
             search = inl refl;
             left = [];
+            dying = All-nil (λ (x : Visit). Contains r.dying x.block);
             bound = omega arith;
           })
       go (fetched.Rooted k b n) w =
@@ -201,6 +204,7 @@ module _ (m : CopyState) (r0 rs r : Memo) (tr t : Trail) (es ds : List Event) (h
         keys = w.keys;
         search = inr (search_before m.me c m.key w.keys tr t w.search);
         left = w.left;
+        dying = w.dying;
         bound = omega arith;
       }
   put (Err f) (may, h) w =
@@ -220,6 +224,7 @@ module _ (m : CopyState) (r0 rs r : Memo) (tr t : Trail) (es ds : List Event) (h
         keys = w.keys;
         search = elim w.search [ inl y ↦ inl y | inr y ↦ inr (search_before m.me c m.key w.keys tr t y) ];
         left = w.left;
+        dying = w.dying;
         bound = omega arith;
       }
 
@@ -256,6 +261,7 @@ module _ (m : CopyState) (r0 rs r : Memo) (tr t : Trail) (es ds : List Event) (h
         keys = h.keys;
         search = elim h.search [ inl y ↦ inl y | inr y ↦ inr (search_more m.me c m.key h.keys tr t y) ];
         left = h.left;
+        dying = subst (λ (xs : List ℕ). All (λ (x : Visit). Contains xs x.block) h.left) (sym w.dying) h.dying;
         bound = omega arith;
       }
   dropped None (Err e) h (vs, w) =
@@ -275,6 +281,7 @@ module _ (m : CopyState) (r0 rs r : Memo) (tr t : Trail) (es ds : List Event) (h
         keys = h.keys;
         search = elim h.search [ inl y ↦ inl y | inr y ↦ inr (search_more m.me c m.key h.keys tr t y) ];
         left = h.left ++ vs;
+        dying = left_too m.me rs r h.left vs e.era h.dying w.stopped;
         bound = omega arith;
       }
   dropped (Some f) (Ok z) h w =
@@ -293,6 +300,7 @@ module _ (m : CopyState) (r0 rs r : Memo) (tr t : Trail) (es ds : List Event) (h
         keys = h.keys;
         search = elim h.search [ inl y ↦ inl y | inr y ↦ inr (search_more m.me c m.key h.keys tr t y) ];
         left = h.left;
+        dying = subst (λ (xs : List ℕ). All (λ (x : Visit). Contains xs x.block) h.left) (sym w.dying) h.dying;
         bound = omega arith;
       })
     where
@@ -314,6 +322,7 @@ module _ (m : CopyState) (r0 rs r : Memo) (tr t : Trail) (es ds : List Event) (h
         keys = h.keys;
         search = elim h.search [ inl y ↦ inl y | inr y ↦ inr (search_more m.me c m.key h.keys tr t y) ];
         left = h.left ++ vs;
+        dying = left_too m.me rs r h.left vs e.era h.dying w.stopped;
         bound = omega arith;
       }
 

@@ -3,13 +3,12 @@ use Rattle.std.proofs.Common.{◌≡◌, ◌≢◌, ℕ, zero, suc, length-appen
 use Rattle.std.specs.Prelude.{Result, Ok, Err, length}
 use Rattle.std.specs.List.{All, Contains}
 use Rattle.std.proofs.lemmas.Bool.{cond-false, cond-true, eq-eqb, and_from}
-use Rattle.std.proofs.lemmas.List.Elements.{All-append, All-nil, All-weaker, Contains-append_left}
+use Rattle.std.proofs.lemmas.List.Elements.{All-nil, Contains-append_left}
 use Rattle.shm_words.specs.Layout.{total_of}
 use Rattle.shm_words.specs.Tags.{tag_plain, tag_refs, TagFits}
 use Rattle.shm_words.specs.declared.tag.Tag.{Tag as ATag}
 use Rattle.shm_words.proofs.Placing.{total_small}
 use Rattle.shm_words.proofs.Words.{tag_plain-word, tag_refs-word}
-use Rattle.shm_laws.proofs.Keep.{filter_from}
 use Rattle.shm_graph.specs.declared.ask.Me.{Me}
 use Rattle.shm_graph.specs.declared.memo.Making.{Making}
 use Rattle.shm_graph.specs.declared.memo.Memo.{Memo}
@@ -43,11 +42,9 @@ use Rattle.shm_count.specs.declared.answer.Made.{Made}
 use Rattle.shm_count.specs.Roots.{root_word}
 use Rattle.shm_count.specs.StepControl.{IsInside}
 use Rattle.shm_count.specs.TearEvents.{Visit, frees}
-use Rattle.shm_count.specs.TearFits.{is_outside}
 use Rattle.shm_ref.specs.DropControl.{drop_parts, dropping}
 use Rattle.shm_ref.specs.DropFits.{DropLeaves, drop_plan}
 use Rattle.shm_ref.specs.DropLaws.{drop_laws}
-use Rattle.shm_ref.specs.Lefts.{Stopped}
 use Rattle.shm_ref.specs.RootsControl.{drop_root}
 use Rattle.shm_table.specs.declared.answer.PutFault.{PutFault}
 use Rattle.shm_table.specs.declared.answer.PutFault.TheVariants as fault
@@ -56,7 +53,7 @@ use Rattle.shm_table.specs.declared.put.PutPoint.TheVariants.{Make, Put, Drop}
 use Rattle.shm_table.specs.declared.put.PutState.{PutState}
 use Rattle.shm_table.specs.Answers.{fault_answer, made_fault}
 use Rattle.shm_table.specs.PutControl.{PutAnswer, is_make, put_call_at, put_parts, value_request}
-use Rattle.shm_table.specs.Commands.{CommandCause, MayCommand, RestSo, cause_put, cause_then}
+use Rattle.shm_table.specs.Commands.{CommandCause, MayCommand, RestSo, cause_put, cause_then, left_too}
 use Rattle.shm_table.specs.PutFits.{HasValue, IsPut, NotStored, PutKnows, PutLeaves, put_part, put_plan}
 use Rattle.shm_table.specs.PutRootControl.{put_root_parts, putting_root}
 use Rattle.shm_table.specs.PutRootFits.{IsDecided, IsEraSpent, PutRootLeaves, put_root_control, put_root_plan, put_root_steps}
@@ -172,13 +169,6 @@ not_stored m r0 r tr es (fault.EraSpent e) h = h
 not_stored m r0 r tr es fault.RootsFull h = h
 not_stored m r0 r tr es (fault.Full s b) h = h
 not_stored m r0 r tr es (fault.CountFull b n) h = h
-
--- what a tear-down left before is left still where one more was stopped
-left_too : (me : Me) (m r : Memo) (us vs : List Visit) (era : ℕ) → All (λ (x : Visit). Contains m.dying x.block) us → Stopped me m r era vs → All (λ (x : Visit). Contains r.dying x.block) (us ++ vs)
-left_too me m r us vs era h w =
-    let still = λ (x : Visit) (y : Contains m.dying x.block). (filter_from (is_outside vs) r.dying x.block (subst (λ (xs : List ℕ). Contains xs x.block) (sym w.others) y)).0 in
-    let before = All-weaker (λ (x : Visit). Contains m.dying x.block) (λ (x : Visit). Contains r.dying x.block) still us h in
-    All-append (λ (x : Visit). Contains r.dying x.block) us vs before w.left
 
 -- ---- what follows each call
 

@@ -2,6 +2,7 @@
 //! map, what it leaves, and how many word steps it takes.
 
 ghost use Rattle.std.specs.Prelude.{◌≡◌, ℕ, ◌+◌, ◌*◌, Some, [], List, length};
+ghost use Rattle.std.specs.List.{All, Contains};
 ghost use Rattle.shm_graph.specs.declared.ask.Me.{Me as AMe};
 ghost use Rattle.shm_graph.specs.declared.memo.Memo.{Memo as AMemo};
 ghost use Rattle.shm_graph.specs.Asks.{Trail, IsWithin};
@@ -72,5 +73,5 @@ pub fn copy_leaves()
 /// each block that it freed or left on the way.
 pub fn copy_bound()
     ensures { (me : AMe) (key a other n v : ℕ) (r0 r : AMemo) (tr : Trail) → CopyGives me key a other r0 r tr (answer.Value n v)
-        → (read : ℕ) × (keys : ℕ) × (vs : List Visit) × HasSearch me a other read tr × IsWithin (copy_steps me.geometry.segments + 2 * read + 2 * keys + tear_steps (frees (copy_told me key a other tr) + length vs)) tr }
+        → (read : ℕ) × (keys : ℕ) × (vs : List Visit) × HasSearch me a other read tr × All (λ (x : Visit). Contains r.dying x.block) vs × IsWithin (copy_steps me.geometry.segments + 2 * read + 2 * keys + tear_steps (frees (copy_told me key a other tr) + length vs)) tr }
 {}
