@@ -43,7 +43,7 @@ pub record LeavesIdle (c : ℕ) (m r : Memo) : Type 0 where
   pub left : LeavesQueues m r
 
 -- no partition is read from a root
-root_part : (c : ℕ) (t : Sight) (k x : ℕ) → part_after c t (Root c k) x ≡ t.part
+pub root_part : (c : ℕ) (t : Sight) (k x : ℕ) → part_after c t (Root c k) x ≡ t.part
 root_part c t k x = go t.part refl
   where
     go : (part : Part) → t.part ≡ part → part_after c t (Root c k) x ≡ t.part

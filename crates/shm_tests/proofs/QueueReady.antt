@@ -9,6 +9,7 @@ use Rattle.shm_graph.specs.declared.memo.Memo.{Memo}
 use Rattle.shm_graph.specs.declared.run.Start.{Start}
 use Rattle.shm_graph.specs.Agents.{acts, entered, recovers}
 use Rattle.shm_graph.specs.Asks.{Trail}
+use Rattle.shm_graph.specs.Core.{core}
 use Rattle.shm_graph.specs.Held.{is_loose}
 use Rattle.shm_graph.specs.Idle.{IsIdle}
 use Rattle.shm_graph.specs.Runs.{first_memo}
@@ -23,7 +24,7 @@ use Rattle.shm_alloc.specs.AllocFits.{AllocGives}
 use Rattle.shm_recover.specs.Joining.{JoinGives, join_fresh}
 use Rattle.shm_recover.specs.LeaveFits.{MayLeave}
 use Rattle.shm_recover.specs.LeaveGone.{idle_may_leave}
-use Rattle.shm_tests.specs.Queues.{HasBlock, IsClear, IsReady, LeavesQueues}
+use Rattle.shm_tests.specs.Queues.{HasBlock, IsClear, IsQuiet, IsReady, LeavesQueues, LeavesWaiting}
 
 -- once it has joined a pool for the first time
 pub clear_join : (s : Start) (g : Geometry) (c : ℕ) (m0 m : Memo) (tr : Trail) → s.tables ≡ false → m0 ≡ entered Client (first_memo s c) → JoinGives (join_fresh (member g c)) m0 m tr tt → IsClear m
@@ -47,6 +48,27 @@ clear_alloc x r0 r tr a g h =
       unsent = λ j. ap (λ y. slice_index y j) s.unsent ∙ h.unsent j;
       untaken = λ j. ap (λ y. slice_index y j) s.untaken ∙ h.untaken j;
     }
+
+-- the core says what waits
+pub core_waits : (m r : Memo) → core r ≡ core m → LeavesWaiting m r
+core_waits m r e =
+    record {
+      dying = ap (λ (x : Memo). x.dying) e;
+      unsent = λ j. ap (λ (x : Memo). slice_index x.unsent j) e;
+      untaken = λ j. ap (λ (x : Memo). slice_index x.untaken j) e;
+    }
+
+-- nothing waits still
+pub quiet_after : (m r : Memo) → LeavesWaiting m r → IsQuiet m → IsQuiet r
+quiet_after m r left h =
+    record {
+      dying = left.dying ∙ h.dying;
+      unsent = λ j. left.unsent j ∙ h.unsent j;
+      untaken = λ j. left.untaken j ∙ h.untaken j;
+    }
+
+pub clear_quiet : (m : Memo) → IsClear m → IsQuiet m
+clear_quiet m h = record { dying = h.dying; unsent = h.unsent; untaken = h.untaken }
 
 -- a call on a queue leaves it ready
 pub ready_after : (c : ℕ) (p q : Pool) → IsReady c p → IsAtWork c q → recovers (memo_of q c) ≡ recovers (memo_of p c) → LeavesQueues (memo_of p c) (memo_of q c) → (memo_of q c).dying ≡ (memo_of p c).dying → IsReady c q

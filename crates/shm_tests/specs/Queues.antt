@@ -20,6 +20,18 @@ pub record LeavesQueues (m r : Memo) : Type 0 where
   pub untaken : (j : ℕ) → slice_index r.untaken j ≡ slice_index m.untaken j
   pub loose : is_loose r.part ≡ is_loose m.part
 
+-- the same blocks wait for a tail and the same items for a head, and the same zero-count blocks are left
+pub record LeavesWaiting (m r : Memo) : Type 0 where
+  pub dying : r.dying ≡ m.dying
+  pub unsent : (j : ℕ) → slice_index r.unsent j ≡ slice_index m.unsent j
+  pub untaken : (j : ℕ) → slice_index r.untaken j ≡ slice_index m.untaken j
+
+-- no count came to 0, and no block waits for a tail and no item for a head
+pub record IsQuiet (m : Memo) : Type 0 where
+  pub dying : m.dying ≡ []
+  pub unsent : (j : ℕ) → slice_index m.unsent j ≡ 0
+  pub untaken : (j : ℕ) → slice_index m.untaken j ≡ 0
+
 -- this holds where the queue was empty, of the place that was answered
 abbrev pub if_empty : PeekFault → (ℕ → Type 0) → Type 0
 if_empty (Empty n) P = P n

@@ -4,7 +4,6 @@ ghost use Rattle.std.specs.Prelude.{◌≡◌, ◌≢◌, ◌==◌, ℕ, ◌<◌
 ghost use Rattle.std.specs.Option.{is_some};
 ghost use Rattle.shm_graph.specs.Agents.{recovers};
 ghost use Rattle.shm_graph.specs.Events.{Event};
-ghost use Rattle.shm_graph.specs.Held.{is_loose};
 ghost use Rattle.shm_plain.specs.Pools.{memo_of};
 ghost use Rattle.shm_plain.specs.Calls.{Did, IsAtWork, Ran};
 ghost use Rattle.shm_calls.specs.CallsControl.{calls_of};
@@ -12,6 +11,7 @@ ghost use Rattle.shm_calls.specs.CallsFit.{CallsGives};
 ghost use Rattle.shm_count.specs.Roots.{AreRootsReached, member, root_word};
 ghost use Rattle.shm_ref.specs.DropControl.{drop_parts, dropping};
 ghost use Rattle.shm_ref.specs.DropFits.{DropLeaves, drop_plan};
+ghost use Rattle.shm_tests.specs.Queues.{LeavesQueues};
 
 use shm_calls::Calls;
 use shm_count::EraSpent;
@@ -33,7 +33,7 @@ pub fn drop_root(
     ensures named { IfSome result (λ a. IfOk a (λ z. z ≡ not (root_word who (memo_of pool.old who) root == 0))) }
     ensures dying { IfSome result (λ a. IfOk a (λ z. (memo_of pool.new who).dying ≡ (memo_of pool.old who).dying)) }
     ensures roots { IfSome result (λ a. (k : ℕ) → k ≢ root → root_word who (memo_of pool.new who) k ≡ root_word who (memo_of pool.old who) k) }
-    ensures loose { IfSome result (λ a. is_loose (memo_of pool.new who).part ≡ is_loose (memo_of pool.old who).part) }
+    ensures left { IfSome result (λ a. LeavesQueues (memo_of pool.old who) (memo_of pool.new who)) }
     ensures reached { IfSome result (λ a. AreRootsReached who (memo_of pool.new who)) }
     ensures at_work { IfSome result (λ a. IsAtWork who pool.new) }
     ensures kind { IfSome result (λ a. recovers (memo_of pool.new who) ≡ recovers (memo_of pool.old who)) }

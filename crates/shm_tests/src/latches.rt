@@ -11,6 +11,7 @@ ghost use Rattle.shm_plain.specs.Calls.{Did, IsAtWork, Ran};
 ghost use Rattle.shm_count.specs.Roots.{AreRootsReached, member, root_word};
 ghost use Rattle.shm_ref.specs.Machines.{HoldGives, HomeGives, LookGives, ReadGives, ReleaseGives, RootOfGives};
 ghost use Rattle.shm_ref.specs.OnlyRead.{OnlyRead};
+ghost use Rattle.shm_tests.specs.Queues.{LeavesWaiting};
 
 use shm_calls::Calls;
 use shm_graph::{Life, Me};
@@ -31,6 +32,7 @@ pub fn hold(pool: &mut PlainPool, who: u8, author: u8, life: &mut Life) -> Optio
     ensures roots { IfSome result (λ a. (k : ℕ) → root_word who (memo_of pool.new who) k ≡ root_word who (memo_of pool.old who) k) }
     ensures reaches { IfSome result (λ a. (b : ℕ) → is_reached who (memo_of pool.new who) b ≡ is_reached who (memo_of pool.old who) b) }
     ensures loose { IfSome result (λ a. is_loose (memo_of pool.new who).part ≡ is_loose (memo_of pool.old who).part) }
+    ensures waiting { IfSome result (λ a. LeavesWaiting (memo_of pool.old who) (memo_of pool.new who)) }
     ensures at_work { IfSome result (λ a. IsAtWork who pool.new) }
     ensures kind { IfSome result (λ a. recovers (memo_of pool.new who) ≡ recovers (memo_of pool.old who)) }
     ensures ran { Ran who true (is_some result) pool.old pool.new life.old.left life.new.left }
@@ -50,6 +52,7 @@ pub fn release(pool: &mut PlainPool, who: u8, life: &mut Life) -> Option<()>
     ensures looks { IfSome result (λ a. (memo_of pool.new who).looks ≡ []) }
     ensures roots { IfSome result (λ a. (k : ℕ) → root_word who (memo_of pool.new who) k ≡ root_word who (memo_of pool.old who) k) }
     ensures loose { IfSome result (λ a. is_loose (memo_of pool.new who).part ≡ is_loose (memo_of pool.old who).part) }
+    ensures waiting { IfSome result (λ a. LeavesWaiting (memo_of pool.old who) (memo_of pool.new who)) }
     ensures reached { IfSome result (λ a. AreRootsReached who (memo_of pool.new who)) }
     ensures at_work { IfSome result (λ a. IsAtWork who pool.new) }
     ensures kind { IfSome result (λ a. recovers (memo_of pool.new who) ≡ recovers (memo_of pool.old who)) }

@@ -38,6 +38,8 @@ mod items_tests;
 #[cfg(test)]
 mod latches_tests;
 #[cfg(test)]
+mod leaving_tests;
+#[cfg(test)]
 mod queues_tests;
 #[cfg(test)]
 mod rounds_tests;

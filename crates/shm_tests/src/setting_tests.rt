@@ -4,9 +4,8 @@
 ghost use Rattle.std.specs.Prelude.{◌≡◌, ◌<◌, Some, IfOk};
 ghost use Rattle.shm_words.specs.Layout.{GeometryFits};
 ghost use Rattle.shm_graph.specs.Runs.{EraFits};
-ghost use Rattle.shm_plain.specs.Calls.{IsAtWork};
 ghost use Rattle.shm_plain.specs.Pools.{memo_of};
-ghost use Rattle.shm_tests.specs.Queues.{IsReady};
+ghost use Rattle.shm_tests.specs.Queues.{IsQuiet, IsReady};
 ghost use Rattle.shm_tests.specs.Setting.{IsBuilding};
 
 use crate::{allocate, drop_root, hold, joined, release, root_of, set_ref};
@@ -20,7 +19,7 @@ use std::test::Fail;
 
 /// A reference word of the block that a root names is to name the block that another root names.
 #[derive(Clone, Copy, Drop)]
-struct Link {
+pub(crate) struct Link {
     from: u8,
     index: u8,
     to: u8,
@@ -59,6 +58,7 @@ fn holding(
     requires era { EraFits first_era }
     ensures building { IfOk result (λ p. IsBuilding 0 p) }
     ensures latch { IfOk result (λ p. (memo_of p 0).latch ≡ Some 0) }
+    ensures quiet { IfOk result (λ p. IsQuiet (memo_of p 0)) }
 {
     let mut pool = making(rt, alloc, first_era, blocks, life)?;
     let Some(Ok(())) = hold(&mut pool, 0, 0, life) else {
@@ -74,6 +74,7 @@ fn tie(rt: &impl Abort, pool: &mut PlainPool, link: Link, life: &mut Life) -> Re
     requires to { link.to < 16 }
     ensures building { IsBuilding 0 pool.new }
     ensures latch { (memo_of pool.new 0).latch ≡ (memo_of pool.old 0).latch }
+    ensures quiet { IfOk result (λ u. IsQuiet (memo_of pool.old 0) → IsQuiet (memo_of pool.new 0)) }
 {
     let Some(block) = root_of(pool, 0, link.from, life) else {
         panic!(rt; "no step was left")
@@ -89,7 +90,7 @@ fn tie(rt: &impl Abort, pool: &mut PlainPool, link: Link, life: &mut Life) -> Re
 }
 
 /// The words of the pool are these, and 0 at all other addresses.
-fn has_words(rt: &impl Abort, pool: &PlainPool, words: &[(u32, u64)])
+pub(crate) fn has_words(rt: &impl Abort, pool: &PlainPool, words: &[(u32, u64)])
     requires geometry { GeometryFits pool.now.start.geometry }
 {
     for at in 0..pool.geometry().total() {
@@ -103,39 +104,45 @@ fn has_words(rt: &impl Abort, pool: &PlainPool, words: &[(u32, u64)])
     }
 }
 
-/// Blocks that are made, linked under the own latch, and go with root 0.
+/// Blocks that are made and linked under the own latch, and go with root 0 or as their client leaves.
 #[derive(Clone, Copy, Drop)]
-struct Tree<'a> {
-    blocks: &'a [(u8, &'a [u64])],
-    links: &'a [Link],
-    /// The roots that are dropped before root 0.
-    drops: &'a [u8],
-    /// The words before root 0 is dropped, and after.
-    built: &'a [(u32, u64)],
-    after: &'a [(u32, u64)],
-    /// The word steps of the last drop.
-    steps: u64,
+pub(crate) struct Tree<'a> {
+    pub(crate) blocks: &'a [(u8, &'a [u64])],
+    pub(crate) links: &'a [Link],
+    /// The roots that are dropped first.
+    pub(crate) drops: &'a [u8],
+    /// The words before the blocks go, and after.
+    pub(crate) built: &'a [(u32, u64)],
+    pub(crate) after: &'a [(u32, u64)],
+    /// The word steps with which they go.
+    pub(crate) steps: u64,
 }
 
-/// Makes the blocks of a tree, links them under the own latch, and drops all roots but root 0.
-fn grow(rt: &impl Abort, alloc: Global, tree: Tree, life: &mut Life) -> Result<PlainPool, Fail>
-    ensures work { IfOk result (λ p. IsAtWork 0 p) }
+/// Makes the blocks of a tree, links them under the own latch, and drops the roots that are to go first.
+pub(crate) fn grow(
+    rt: &impl Abort,
+    alloc: Global,
+    tree: Tree,
+    life: &mut Life,
+) -> Result<PlainPool, Fail>
+    ensures ready { IfOk result (λ p. IsReady 0 p) }
 {
     let mut pool = holding(rt, alloc, 1, tree.blocks, life)?;
     for &one in tree.links {
         assert!(rt; one.from < 16);
         assert!(rt; one.to < 16);
-        assert_eq!(rt; tie(rt, &mut pool, one, life), Ok(()));
+        let Ok(()) = tie(rt, &mut pool, one, life) else {
+            panic!(rt; "a word isn't set")
+        };
     }
     let Some(()) = release(&mut pool, 0, life) else {
         panic!(rt; "the latch stays")
     };
     for &root in tree.drops {
         assert!(rt; root < 16);
-        let Some(dropped) = drop_root(&mut pool, 0, root, life) else {
-            panic!(rt; "no step was left")
+        let Some(Ok(true)) = drop_root(&mut pool, 0, root, life) else {
+            panic!(rt; "{root}")
         };
-        assert_eq!(rt; dropped, Ok(true), "{root}");
     }
     Ok(pool)
 }
@@ -156,7 +163,7 @@ fn goes(rt: &impl Abort, alloc: Global, tree: Tree) -> Result<(), Fail> {
 }
 
 /// A link, as a row of a test has it.
-fn of(from: u8, index: u8, to: u8) -> Link
+pub(crate) fn of(from: u8, index: u8, to: u8) -> Link
     ensures { result ≡ record { from = from; index = index; to = to } }
 {
     Link { from, index, to }

@@ -10,6 +10,7 @@ ghost use Rattle.shm_plain.specs.Calls.{Did, IsAtWork, Ran};
 ghost use Rattle.shm_count.specs.Roots.{AreRootsReached, member, root_word};
 ghost use Rattle.shm_count.specs.UpRootFits.{UpRootLeaves};
 ghost use Rattle.shm_ref.specs.Machines.{ShareGives};
+ghost use Rattle.shm_tests.specs.Queues.{LeavesQueues};
 
 use shm_calls::Calls;
 use shm_graph::{Life, Me};
@@ -30,6 +31,8 @@ pub fn share(
     ensures gives { IfSome result (λ a. ShareGives (member pool.old.start.geometry who) block (memo_of pool.old who) (memo_of pool.new who) (memo_of pool.new who).call a) }
     ensures number { IfSome result (λ a. IfOk a (λ k. k < 16)) }
     ensures named { IfSome result (λ a. IfOk a (λ k. root_word who (memo_of pool.new who) k ≡ block)) }
+    ensures left { IfSome result (λ a. LeavesQueues (memo_of pool.old who) (memo_of pool.new who)) }
+    ensures dying { IfSome result (λ a. (memo_of pool.new who).dying ≡ (memo_of pool.old who).dying) }
     ensures reached { IfSome result (λ a. AreRootsReached who (memo_of pool.new who)) }
     ensures at_work { IfSome result (λ a. IsAtWork who pool.new) }
     ensures kind { IfSome result (λ a. recovers (memo_of pool.new who) ≡ recovers (memo_of pool.old who)) }

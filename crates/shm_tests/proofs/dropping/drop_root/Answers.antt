@@ -1,6 +1,6 @@
 use Rattle.std.proofs.lemmas.Bool.{ne_eqb}
 use Rattle.std.proofs.Common.{◌≡◌, ◌≢◌, ◌==◌, ℕ, Bool, not, refl, sym, ap, ◌∙◌, List, [], Result}
-use Rattle.std.specs.Prelude.{Ok, Err, IfOk}
+use Rattle.std.specs.Prelude.{Ok, Err, IfOk, slice_index}
 use Rattle.shm_graph.specs.declared.ask.Me.{Me}
 use Rattle.shm_graph.specs.declared.memo.Memo.{Memo}
 use Rattle.shm_graph.specs.declared.spot.Spot.TheVariants.{Hold}
@@ -21,6 +21,7 @@ use Rattle.shm_ref.specs.DropFits.{DropKnows, DropLeaves, drop_plan}
 use Rattle.shm_ref.specs.DropLaws.{drop_laws}
 use Rattle.shm_ref.specs.Lefts.{Left}
 use Rattle.shm_ref.specs.Leaving.{left_root}
+use Rattle.shm_tests.specs.Queues.{LeavesQueues}
 use Rattle.shm_tests.proofs.PlanCalls.{Answered, answered, may_drop, plan_fits}
 use Rattle.shm_tests.proofs.dropping.drop_root.Goals.{After-new-machine, After-call}
 use Rattle.shm_tests.proofs.dropping.drop_root.Goals as goal
@@ -91,6 +92,15 @@ idle_by c k r0 r idle h =
       hold = h.own (Hold c) refl refl ∙ (idle.hold ∙ ap (λ (x : Memo). hold_word x.latch) (sym h.rest));
     }
 
+queues_by : (c : ℕ) (e : ℕ → Bool) (r0 r : Memo) → Left c e r0 r → LeavesQueues r0 r
+queues_by c e r0 r h =
+    record {
+      latch = ap (λ (x : Memo). x.latch) h.rest;
+      unsent = λ j. ap (λ (x : Memo). slice_index x.unsent j) h.rest;
+      untaken = λ j. ap (λ (x : Memo). slice_index x.untaken j) h.rest;
+      loose = ap (λ (x : Memo). is_loose x.part) h.rest;
+    }
+
 pub returns-clause-emptied : goal.returns-clause-emptied
 returns-clause-emptied c =
     let at = (goal.at.returns-clause-emptied c).After-call in
@@ -111,10 +121,10 @@ returns-clause-roots c =
     let at = (goal.at.returns-clause-roots c).After-call in
     (called at).follows (λ a. (k : ℕ) → k ≢ c.args.root → root_word c.args.who (memo_of c.call.new.self c.args.who) k ≡ root_word c.args.who (memo_of c.args.pool.now c.args.who) k) (λ a g. λ k n. left_root c.args.who (λ j. c.args.root == j) (memo_of c.args.pool.now c.args.who) (memo_of c.call.new.self c.args.who) k (left_by (machine at) _ _ _ _ a g.leaves) (ne_eqb c.args.root k (λ e. n (sym e))))
 
-pub returns-clause-loose : goal.returns-clause-loose
-returns-clause-loose c =
-    let at = (goal.at.returns-clause-loose c).After-call in
-    (called at).follows (λ a. is_loose (memo_of c.call.new.self c.args.who).part ≡ is_loose (memo_of c.args.pool.now c.args.who).part) (λ a g. ap (λ (x : Memo). is_loose x.part) (left_by (machine at) _ _ _ _ a g.leaves).rest)
+pub returns-clause-left : goal.returns-clause-left
+returns-clause-left c =
+    let at = (goal.at.returns-clause-left c).After-call in
+    (called at).follows (λ a. LeavesQueues (memo_of c.args.pool.now c.args.who) (memo_of c.call.new.self c.args.who)) (λ a g. queues_by c.args.who (λ j. c.args.root == j) (memo_of c.args.pool.now c.args.who) (memo_of c.call.new.self c.args.who) (left_by (machine at) _ _ _ _ a g.leaves))
 
 pub returns-clause-reached : goal.returns-clause-reached
 returns-clause-reached c =

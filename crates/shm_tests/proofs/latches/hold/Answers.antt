@@ -23,6 +23,8 @@ use Rattle.shm_ref.specs.declared.hold.HoldState.{HoldState}
 use Rattle.shm_ref.specs.HoldControl.{holding}
 use Rattle.shm_ref.specs.HoldFits.{HoldKnows, HoldLeaves, hold_plan, wants}
 use Rattle.shm_ref.specs.HoldLaws.{hold_begin, hold_laws}
+use Rattle.shm_tests.specs.Queues.{LeavesWaiting}
+use Rattle.shm_tests.proofs.QueueReady.{core_waits}
 use Rattle.shm_tests.proofs.latches.hold.Goals.{After-new-machine, After-call}
 use Rattle.shm_tests.proofs.latches.hold.Goals as goal
 
@@ -93,6 +95,10 @@ module _ (m : HoldState) (r0 r : Memo) (tr : Trail) (es : List Event) where
   loose_by (Ok u) h = ap (λ (x : Memo). is_loose x.part) h.memo
   loose_by (Err e) h = ap (λ (x : Memo). is_loose x.part) h.memo
 
+  waits_by : (a : Result (Unit {0}) Busy) → HoldLeaves m r0 r tr es a → LeavesWaiting r0 r
+  waits_by (Ok u) h = core_waits (record (wants m.me.who (m.author + 1) r0) { latch = Some m.author }) r h.memo
+  waits_by (Err e) h = core_waits (wants m.me.who 0 (wants m.me.who (m.author + 1) r0)) r h.memo
+
   idle_by : (a : Result (Unit {0}) Busy) → IsIdle m.me.who r0 → r0.latch ≡ None → HoldLeaves m r0 r tr es a → IsIdle m.me.who r
   idle_by (Ok u) idle none h =
       idle_core m.me.who (record (wants m.me.who (m.author + 1) r0) { latch = Some m.author }) r h.memo
@@ -134,6 +140,11 @@ pub returns-clause-loose : goal.returns-clause-loose
 returns-clause-loose c =
     let at = (goal.at.returns-clause-loose c).After-call in
     (called at).follows (λ a. is_loose (memo_of c.call.new.self c.args.who).part ≡ is_loose (memo_of c.args.pool.now c.args.who).part) (λ a g. loose_by (machine at) _ _ _ _ a g.leaves)
+
+pub returns-clause-waiting : goal.returns-clause-waiting
+returns-clause-waiting c =
+    let at = (goal.at.returns-clause-waiting c).After-call in
+    (called at).follows (λ a. LeavesWaiting (memo_of c.args.pool.now c.args.who) (memo_of c.call.new.self c.args.who)) (λ a g. waits_by (machine at) _ _ _ _ a g.leaves)
 
 pub returns-clause-at_work : goal.returns-clause-at_work
 returns-clause-at_work c =

@@ -23,6 +23,8 @@ use Rattle.shm_ref.specs.HoldFits.{wants}
 use Rattle.shm_ref.specs.ReleaseLaws.{release_begin, release_laws}
 use Rattle.std.specs.Option.{is_some}
 use Rattle.std.proofs.lemmas.Bool.{true≢false}
+use Rattle.shm_tests.specs.Queues.{LeavesWaiting}
+use Rattle.shm_tests.proofs.QueueReady.{core_waits}
 use Rattle.shm_tests.proofs.latches.release.Goals.{After-new-machine, After-call}
 use Rattle.shm_tests.proofs.latches.release.Goals as goal
 
@@ -98,6 +100,13 @@ pub returns-clause-loose : goal.returns-clause-loose
 returns-clause-loose c =
     let at = (goal.at.returns-clause-loose c).After-call in
     (called at).follows (λ a. is_loose (memo_of c.call.new.self c.args.who).part ≡ is_loose (memo_of c.args.pool.now c.args.who).part) (λ a g. ap (λ (x : Memo). is_loose x.part) g.leaves.memo)
+
+pub returns-clause-waiting : goal.returns-clause-waiting
+returns-clause-waiting c =
+    let at = (goal.at.returns-clause-waiting c).After-call in
+    let r0 : Memo = memo_of c.args.pool.now c.args.who in
+    let r : Memo = memo_of c.call.new.self c.args.who in
+    (called at).follows (λ a. LeavesWaiting r0 r) (λ a g. core_waits (wants c.args.who 0 (unlatched c.args.who r0)) r g.leaves.memo)
 
 pub returns-clause-reached : goal.returns-clause-reached
 returns-clause-reached c =

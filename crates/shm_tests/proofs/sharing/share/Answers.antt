@@ -1,10 +1,11 @@
 use Rattle.std.proofs.Common.{◌≡◌, ◌<◌, ℕ, refl, sym, ap, ◌∙◌, List, [], Result}
-use Rattle.std.specs.Prelude.{Ok, Err, IfOk}
+use Rattle.std.specs.Prelude.{Ok, Err, IfOk, slice_index}
 use Rattle.shm_graph.specs.declared.ask.Me.{Me}
 use Rattle.shm_graph.specs.declared.memo.Memo.{Memo}
 use Rattle.shm_graph.specs.declared.spot.Spot.TheVariants.{Hold}
 use Rattle.shm_graph.specs.Asks.{Trail}
 use Rattle.shm_graph.specs.Events.{Event}
+use Rattle.shm_graph.specs.Held.{is_loose}
 use Rattle.shm_graph.specs.Idle.{IsIdle, hold_word}
 use Rattle.shm_plain.specs.Pools.{memo_of}
 use Rattle.shm_plain.specs.Calls.{Did}
@@ -19,7 +20,10 @@ use Rattle.shm_count.specs.UpRootControl.{rooting, rooting_parts}
 use Rattle.shm_count.specs.UpRootFits.{RootingKnows, UpRootLeaves, rooting_plan}
 use Rattle.shm_count.specs.UpRootLaws.{rooting_begin, rooting_laws}
 use Rattle.shm_count.specs.UpRootPart.{rooted_root}
+use Rattle.shm_steps.specs.Reparting.{sight}
+use Rattle.shm_tests.specs.Queues.{LeavesQueues}
 use Rattle.shm_tests.proofs.PlanCalls.{Answered, answered, idle_core, plan_fits}
+use Rattle.shm_tests.proofs.QueueAnswers.{own_leaves, root_part, same_leaves}
 use Rattle.shm_tests.proofs.sharing.share.Goals.{After-new-machine, After-call}
 use Rattle.shm_tests.proofs.sharing.share.Goals as goal
 
@@ -92,6 +96,25 @@ module _ (me : Me) (b : ℕ) (r0 r : Memo) (tr : Trail) (es : List Event) where
         hold = h.untouched.own (Hold me.who) refl ∙ (idle.hold ∙ ap (λ (x : Memo). hold_word x.latch) (sym h.untouched.rest));
       }
 
+  -- what waits, the latch and the kind of pool
+  queues_by : (a : Result ℕ ShareFault) → UpRootLeaves me b r0 r tr es a → LeavesQueues r0 r
+  queues_by (Ok k) h =
+      record {
+        latch = ap (λ (x : Memo). x.latch) h.filled.rest;
+        unsent = λ j. ap (λ (x : Memo). slice_index x.unsent j) h.filled.rest;
+        untaken = λ j. ap (λ (x : Memo). slice_index x.untaken j) h.filled.rest;
+        loose = ap (λ (x : Memo). is_loose x.part) h.filled.rest ∙ ap is_loose (root_part me.who (sight me.who r0) k b);
+      }
+  queues_by (Err (EraSpent e)) h = (same_leaves me.who r0 r h.same).left
+  queues_by (Err RootsFull) h = (same_leaves me.who r0 r h.same).left
+  queues_by (Err (CountFull d n)) h = (own_leaves me.who r0 r h.untouched.rest (h.untouched.own (Hold me.who) refl)).left
+
+  dying_by : (a : Result ℕ ShareFault) → UpRootLeaves me b r0 r tr es a → r.dying ≡ r0.dying
+  dying_by (Ok k) h = ap (λ (x : Memo). x.dying) h.filled.rest
+  dying_by (Err (EraSpent e)) h = ap (λ (x : Memo). x.dying) h.same
+  dying_by (Err RootsFull) h = ap (λ (x : Memo). x.dying) h.same
+  dying_by (Err (CountFull d n)) h = ap (λ (x : Memo). x.dying) h.untouched.rest
+
 pub returns-clause-number : goal.returns-clause-number
 returns-clause-number c =
     let at = (goal.at.returns-clause-number c).After-call in
@@ -101,6 +124,16 @@ pub returns-clause-named : goal.returns-clause-named
 returns-clause-named c =
     let at = (goal.at.returns-clause-named c).After-call in
     (called at).follows (λ a. IfOk a (λ k. root_word c.args.who (memo_of c.call.new.self c.args.who) k ≡ c.args.block)) (λ a g. named_by (machine at).me c.args.block _ _ _ _ a g.leaves)
+
+pub returns-clause-left : goal.returns-clause-left
+returns-clause-left c =
+    let at = (goal.at.returns-clause-left c).After-call in
+    (called at).follows (λ a. LeavesQueues (memo_of c.args.pool.now c.args.who) (memo_of c.call.new.self c.args.who)) (λ a g. queues_by (machine at).me c.args.block _ _ _ _ a g.leaves)
+
+pub returns-clause-dying : goal.returns-clause-dying
+returns-clause-dying c =
+    let at = (goal.at.returns-clause-dying c).After-call in
+    (called at).follows (λ a. (memo_of c.call.new.self c.args.who).dying ≡ (memo_of c.args.pool.now c.args.who).dying) (λ a g. dying_by (machine at).me c.args.block _ _ _ _ a g.leaves)
 
 pub returns-clause-reached : goal.returns-clause-reached
 returns-clause-reached c =

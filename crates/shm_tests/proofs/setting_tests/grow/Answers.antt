@@ -1,0 +1,23 @@
+use Rattle.std.proofs.Common.{◌∙◌}
+use Rattle.shm_tests.specs.Queues.{IsQuiet}
+use Rattle.shm_plain.specs.Pools.{memo_of}
+use Rattle.shm_tests.proofs.QueueReady.{quiet_after, ready_after}
+use Rattle.shm_tests.proofs.setting_tests.grow.Goals as goal
+
+-- the latch is given back, and nothing waits
+pub loop-root-init : goal.loop-root-init
+loop-root-init g c =
+    let kept = c.loop-one.invariant in
+    let said = c.in-Some.ensures in
+    let quiet : IsQuiet (memo_of c.release.new.pool 0) = quiet_after _ _ said.waiting kept.2 in
+    record {
+      work = said.at_work;
+      client = said.kind ∙ kept.0.client;
+      clear = record { loose = said.loose ∙ kept.0.loose; latch = said.none; dying = quiet.dying; unsent = quiet.unsent; untaken = quiet.untaken };
+    }
+
+-- and so it is after a drop
+pub loop-root-preserved : goal.loop-root-preserved
+loop-root-preserved g c =
+    let said = c.in-Some-Ok-true.ensures in
+    ready_after 0 c.loop-root.pool c.drop_root.new.pool c.loop-root.invariant said.at_work said.kind said.left said.dying
