@@ -19,7 +19,7 @@ use Rattle.shm_count.specs.declared.answer.UpFault.TheVariants as fault
 use Rattle.shm_count.specs.declared.point.Aim.{Aim}
 use Rattle.shm_count.specs.declared.point.Aim.TheVariants.{Up, Down, Change}
 use Rattle.shm_count.specs.declared.point.StepState.{StepState}
-use Rattle.shm_count.specs.CountParts.{StepLeaves, down_part, down_part_laws, up_part, up_part_laws, change_part, change_part_laws}
+use Rattle.shm_count.specs.CountParts.{down_part, down_part_laws, up_part, up_part_laws, change_part, change_part_laws}
 use Rattle.shm_count.specs.StepBound.{step_bound}
 use Rattle.shm_count.specs.SlotUps.{up_leaves}
 use Rattle.shm_count.specs.SlotDowns.{down_leaves_at}
@@ -65,9 +65,9 @@ untouched me x p h m r (fault.CountFull b n) (full, is, up, (v, rows)) = (
 -- ---- the parts
 
 module _ (p : Spot) (h : Bool) where
-  -- what a step leaves that left this, in the words of its slot
-  left_at : (m : StepState) (rs r : Memo) (t : Trail) (es : List Event) (a : Result Bool UpFault) → MayStepAt p h m rs → StepLeaves p m rs r t es a → StepLeft m.me m.aim p h rs r t es a
-  left_at m rs r t es a n s = record { did = go m.aim a refl s.gives s.events; status = s.status; grows = s.grows; bound = step_bound m.me m.slot m.aim t a s.trail }
+  -- what a step did that gave this, in the words of its slot
+  did_at : (m : StepState) (rs r : Memo) (es : List Event) (a : Result Bool UpFault) → MayStepAt p h m rs → Gives m.me m.slot m.aim p rs r a → es ≡ own_events m.me m.aim p a → StepDid m.me m.aim p h rs r es a
+  did_at m rs r es a n gives events = go m.aim a refl gives events
     where
       small : m.me.who < 64
       small = let u = n.step.can.geometry.clients in let l = n.step.can.who in omega arith
@@ -86,7 +86,7 @@ module _ (p : Spot) (h : Bool) where
   pub up_slot_laws : (first : Bool) → PartLaws first up_control up_slot_part
   up_slot_laws first =
       weaker_laws first up_control (up_part p) (λ m r. IsUp m × MayStepAt p h m r) (λ m rs r t es a. StepLeft m.me m.aim p h rs r t es (up_told a))
-      (λ m r n. (n.0, n.1.step)) (λ m rs r t es a n s held same. left_at m rs r t es (up_told a) n.1 s) (up_part_laws p first)
+      (λ m r n. (n.0, n.1.step)) (λ m rs r t es a n s held same. record { did = did_at m rs r es (up_told a) n.1 s.gives s.events; status = s.status; grows = s.grows; bound = step_bound m.me m.slot m.aim t (up_told a) s.trail }) (up_part_laws p first)
 
   abbrev pub down_slot_part : Part StepState (Result Bool EraSpent)
   down_slot_part = weaker (down_part p) (λ m r. IsDown m × MayStepAt p h m r) (λ m rs r t es a. StepLeft m.me m.aim p h rs r t es (down_told a))
@@ -94,7 +94,7 @@ module _ (p : Spot) (h : Bool) where
   pub down_slot_laws : (first : Bool) → PartLaws first down_control down_slot_part
   down_slot_laws first =
       weaker_laws first down_control (down_part p) (λ m r. IsDown m × MayStepAt p h m r) (λ m rs r t es a. StepLeft m.me m.aim p h rs r t es (down_told a))
-      (λ m r n. (n.0, n.1.step)) (λ m rs r t es a n s held same. left_at m rs r t es (down_told a) n.1 s) (down_part_laws p first)
+      (λ m r n. (n.0, n.1.step)) (λ m rs r t es a n s held same. record { did = did_at m rs r es (down_told a) n.1 s.gives s.events; status = s.status; grows = s.grows; bound = step_bound m.me m.slot m.aim t (down_told a) s.trail }) (down_part_laws p first)
 
   abbrev pub change_slot_part : Part StepState (Result Bool UpFault)
   change_slot_part = weaker (change_part p) (λ m r. IsChange m × MayStepAt p h m r) (λ m rs r t es a. StepLeft m.me m.aim p h rs r t es a)
@@ -102,4 +102,4 @@ module _ (p : Spot) (h : Bool) where
   pub change_slot_laws : (first : Bool) → PartLaws first step_control change_slot_part
   change_slot_laws first =
       weaker_laws first step_control (change_part p) (λ m r. IsChange m × MayStepAt p h m r) (λ m rs r t es a. StepLeft m.me m.aim p h rs r t es a)
-      (λ m r n. (n.0, n.1.step)) (λ m rs r t es a n s held same. left_at m rs r t es a n.1 s) (change_part_laws p first)
+      (λ m r n. (n.0, n.1.step)) (λ m rs r t es a n s held same. record { did = did_at m rs r es a n.1 s.gives s.events; status = s.status; grows = s.grows; bound = step_bound m.me m.slot m.aim t a s.trail }) (change_part_laws p first)

@@ -1,10 +1,11 @@
 //! How many word steps a count step and a tear-down make.
 
-ghost use Rattle.std.specs.Prelude.{ℕ, Bool, Result, Ok};
+ghost use Rattle.std.specs.Prelude.{ℕ, ◌+◌, Bool, List, length, Result, Ok, Err};
 ghost use Rattle.shm_graph.specs.declared.memo.Memo.{Memo as AMemo};
 ghost use Rattle.shm_graph.specs.declared.spot.Spot.{Spot as ASpot};
 ghost use Rattle.shm_graph.specs.Asks.{Trail, IsWithin};
 ghost use Rattle.shm_graph.specs.Bounds.{tear_steps};
+ghost use Rattle.shm_count.specs.declared.answer.EraSpent.{EraSpent as ASpent};
 ghost use Rattle.shm_count.specs.declared.answer.UpFault.{UpFault as AFault};
 ghost use Rattle.shm_count.specs.declared.point.StepState.{StepState as AState};
 ghost use Rattle.shm_count.specs.StepFits.{StepGives};
@@ -12,15 +13,17 @@ ghost use Rattle.shm_graph.specs.Tells.{happens_along};
 ghost use Rattle.shm_count.specs.declared.tear_point.TearState.{TearState as ATearState};
 ghost use Rattle.shm_count.specs.StepTrail.{steps_of};
 ghost use Rattle.shm_count.specs.TearControl.{tear_control};
-ghost use Rattle.shm_count.specs.TearEvents.{frees, tear_event, tear_start};
-ghost use Rattle.shm_count.specs.TearFits.{TearGives};
+ghost use Rattle.shm_count.specs.TearEvents.{Visit, frees, tear_event, tear_start};
+ghost use Rattle.shm_count.specs.TearFits.{TearGives, TornPartly};
 
 /// Whatever a count step answers, it took at most 8 word steps, a change at most 13, and three more for each exchange that failed.
 pub fn step_bound()
     ensures { (p : ASpot) (m : AState) (r0 r : AMemo) (tr : Trail) (a : Result Bool AFault) → StepGives p m r0 r tr a → IsWithin (steps_of m.aim) tr }
 {}
 
-/// A tear-down that is done took at most 164 word steps for each block that it freed, and three more for each exchange that failed.
+/// A tear-down took at most 164 word steps for each block that it freed, or left as a zero-count block where it was refused, and three more
+/// for each exchange that failed.
 pub fn tear_bound()
-    ensures { (m : ATearState) (r0 r : AMemo) (tr : Trail) → TearGives m r0 r tr (Ok tt) → IsWithin (tear_steps (frees (happens_along tear_control tear_event (tear_start m) tr))) tr }
+    ensures done { (m : ATearState) (r0 r : AMemo) (tr : Trail) → TearGives m r0 r tr (Ok tt) → IsWithin (tear_steps (frees (happens_along tear_control tear_event (tear_start m) tr))) tr }
+    ensures spent { (m : ATearState) (r0 r : AMemo) (tr : Trail) (e : ASpent) → TearGives m r0 r tr (Err e) → let es = happens_along tear_control tear_event (tear_start m) tr in (vs : List Visit) × TornPartly m.me m.first r0 r es tr e.era vs × IsWithin (tear_steps (frees es + length vs)) tr }
 {}

@@ -38,7 +38,6 @@ use Rattle.shm_queue.specs.DrainItems.{drained_core, drained_more, drained_none,
 use Rattle.shm_queue.specs.QueueWords.{head_low}
 use Rattle.shm_queue.specs.TakeControl.{take_parts, taking}
 use Rattle.shm_queue.specs.TakeFits.{MayTakeFrom, TakeDone, TakeEmpty, TakeRefused, take_plan}
-use Rattle.shm_queue.specs.TakeLaws.{take_laws}
 
 -- ---- senders
 
@@ -251,14 +250,17 @@ leads m Item r0 rs r tr t es ds (Second (Err (fault.EraSpent e))) h (g, grows) h
 leads m Status r0 rs r tr t es ds (Second a) h g held = absurd g.0
 leads m Item r0 rs r tr t es ds (First n) h g held = absurd g.0
 
-pub drain_laws : PlanLaws drain_parts drain_plan
-drain_laws =
-    record {
-      stays = stays;
-      calls = λ m. calls m m.point;
-      parts = λ m. let first = is_status m.point in
-          grown_laws first drain_parts (or_part (word_part first m.me (drain_ask m) StatusLoaded) (calls_part take_parts take_plan))
-          (or_part_laws first word_control take_control (word_part first m.me (drain_ask m) StatusLoaded) (calls_part take_parts take_plan) (word_part_laws first m.me (drain_ask m) StatusLoaded) (calls_part_laws take_parts take_plan take_laws first));
-      opens = λ m. opens m m.point;
-      leads = λ m r0 rs r tr t es ds a h g held agent. leads m m.point r0 rs r tr t es ds a h g held;
-    }
+-- ---- the plan's laws, by those of the take that it calls
+
+module _ (takes : PlanLaws take_parts take_plan) where
+  pub drain_laws : PlanLaws drain_parts drain_plan
+  drain_laws =
+      record {
+        stays = stays;
+        calls = λ m. calls m m.point;
+        parts = λ m. let first = is_status m.point in
+            grown_laws first drain_parts (or_part (word_part first m.me (drain_ask m) StatusLoaded) (calls_part take_parts take_plan))
+            (or_part_laws first word_control take_control (word_part first m.me (drain_ask m) StatusLoaded) (calls_part take_parts take_plan) (word_part_laws first m.me (drain_ask m) StatusLoaded) (calls_part_laws take_parts take_plan takes first));
+        opens = λ m. opens m m.point;
+        leads = λ m r0 rs r tr t es ds a h g held agent. leads m m.point r0 rs r tr t es ds a h g held;
+      }

@@ -29,12 +29,10 @@ use Rattle.shm_queue.specs.DrainControl.{take_control}
 use Rattle.shm_queue.specs.DrainItems.{frees_append}
 use Rattle.shm_queue.specs.PeekControl.{peek_parts, peeking}
 use Rattle.shm_queue.specs.PeekFits.{MayPeekFrom, PeekLeaves, PeekRefused, peek_plan}
-use Rattle.shm_queue.specs.PeekLaws.{peek_laws}
 use Rattle.shm_queue.specs.ReceiveControl.{ReceiveAnswer, receive_call_at, receive_parts, is_look, peek_control}
 use Rattle.shm_queue.specs.ReceiveFits.{ReceiveKnows, ReceiveRefused, IsPeeked, receive_part, receive_plan}
 use Rattle.shm_queue.specs.TakeControl.{take_parts, taking}
 use Rattle.shm_queue.specs.TakeFits.{TakeLeaves, take_plan}
-use Rattle.shm_queue.specs.TakeLaws.{take_laws}
 
 stays : (m : ReceiveState) (b : ReceiveAnswer) → PlanStays receive_parts receive_plan m b
 stays m (First (Ok made)) = record { same_me = refl; same_line = refl; same_start = refl; started = λ e. refl }
@@ -137,14 +135,17 @@ leads m Item r0 rs r tr t es ds (Second a) h (g, grows) = taken m r0 rs r tr t e
 leads m Look r0 rs r tr t es ds (Second a) h g = absurd g.0
 leads m Item r0 rs r tr t es ds (First a) h g = absurd g.0
 
-pub receive_laws : PlanLaws receive_parts receive_plan
-receive_laws =
-    record {
-      stays = stays;
-      calls = λ m. calls m m.point;
-      parts = λ m. let first = is_look m.point in
-          grown_laws first receive_parts (or_part (calls_part peek_parts peek_plan) (calls_part take_parts take_plan))
-          (or_part_laws first peek_control take_control (calls_part peek_parts peek_plan) (calls_part take_parts take_plan) (calls_part_laws peek_parts peek_plan peek_laws first) (calls_part_laws take_parts take_plan take_laws first));
-      opens = λ m. opens m m.point;
-      leads = λ m r0 rs r tr t es ds a h g held agent. leads m m.point r0 rs r tr t es ds a h g;
-    }
+-- ---- the plan's laws, by those of the machines that it calls
+
+module _ (peeks : PlanLaws peek_parts peek_plan) (takes : PlanLaws take_parts take_plan) where
+  pub receive_laws : PlanLaws receive_parts receive_plan
+  receive_laws =
+      record {
+        stays = stays;
+        calls = λ m. calls m m.point;
+        parts = λ m. let first = is_look m.point in
+            grown_laws first receive_parts (or_part (calls_part peek_parts peek_plan) (calls_part take_parts take_plan))
+            (or_part_laws first peek_control take_control (calls_part peek_parts peek_plan) (calls_part take_parts take_plan) (calls_part_laws peek_parts peek_plan peeks first) (calls_part_laws take_parts take_plan takes first));
+        opens = λ m. opens m m.point;
+        leads = λ m r0 rs r tr t es ds a h g held agent. leads m m.point r0 rs r tr t es ds a h g;
+      }

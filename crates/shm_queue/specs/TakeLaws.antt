@@ -41,13 +41,14 @@ use Rattle.shm_queue.specs.declared.answer.TakeFault.TheVariants.{Empty}
 use Rattle.shm_queue.specs.declared.take.TakePoint.{TakePoint}
 use Rattle.shm_queue.specs.declared.take.TakePoint.TheVariants.{Head, Tail, Slot, Lower, Store, Tear}
 use Rattle.shm_queue.specs.declared.take.TakeState.{TakeState}
+use Rattle.shm_queue.specs.Answers.{take_fault}
 use Rattle.shm_queue.specs.HeadReads.{has_item, head_read, is_empty, item_read}
 use Rattle.shm_queue.specs.QueueSteps.{put_here, take_may}
 use Rattle.shm_queue.specs.QueueWords.{TailSeen, head_small, tail_seen}
 use Rattle.shm_queue.specs.Refusals.{lower_laws, lower_part, spent_one}
 use Rattle.shm_queue.specs.SendLaws.{untouched_core}
 use Rattle.shm_queue.specs.TakeControl.{TakeAnswer, take_parts, taking, head_at, slot_at, take_call_at, is_head}
-use Rattle.shm_queue.specs.TakeFits.{IsHeadRead, IsItemRead, IsOut, IsReceived, TakeKnows, TakeLeaves, TakeFound, slot_memo, taken_memo, take_ask, take_part, take_plan}
+use Rattle.shm_queue.specs.TakeFits.{IsHeadRead, IsItemRead, IsOut, IsReceived, TakeKnows, TakeLeaves, TakeFound, TakeRefused, slot_memo, taken_memo, take_ask, take_part, take_plan}
 use Rattle.shm_queue.specs.TakeMemos.{lost_core, lost_stored, received_of}
 
 stays : (m : TakeState) (y : TakePoint) (b : TakeAnswer) → PlanStays take_parts take_plan (record m { point = y }) b
@@ -111,14 +112,14 @@ module _ (m : TakeState) (r0 rs r : Memo) (tr t : Trail) (es ds : List Event) (h
       go false is other = has_item m.me s m.at r0 rs r tr t es ds (record { me = m.me; ask = take_ask m Tail; over = false }) n h w grows (other refl)
 
   -- the item was read
-  found : (n : ℕ) → TakeKnows (record m { point = Slot }) Slot r0 rs tr es → WordLeaves (HeadSlotLoaded c s (m.at % 8)) (record { me = m.me; ask = take_ask m Slot; over = false }) rs r t ds n → Grows false rs r → Leads Slot (First n)
+  found : (n : ℕ) → TakeKnows (record m { point = Slot }) Slot r0 rs tr es → WordLeaves (HeadSlotLoaded c s (m.at % 8)) (record { me = m.me; ask = take_ask m Slot; over = false }) rs r t ds n → Grows false rs r → IsItemRead m.me s m.at (n % 2 ^ 20) r0 r (tr ++ t) (es ++ ds)
   found n h w grows =
       let item = item_read m.me s m.at r0 rs r tr t es ds held (record { me = m.me; ask = take_ask m Slot; over = false }) n h.0 h.1 w grows in
       subst (λ b. IsItemRead m.me s m.at b r0 r (tr ++ t) (es ++ ds)) (sym item.0) item.1
 
-  -- the slot is empty, or nothing was done
-  lowered : (a : Result Bool ASpent) → IsItemRead m.me s m.at m.block r0 rs tr es → StepLeft m.me (aims.Down m.block) (spot.Slot s c (m.at % 8)) true rs r t ds (down_told a) → step_trail m.me (slot_at m) (aims.Down m.block) t (down_told a) → Leads Lower (Second (First a))
-  lowered (Ok z) h g asked =
+  -- the slot is empty
+  lowered : (z : Bool) → IsItemRead m.me s m.at m.block r0 rs tr es → StepLeft m.me (aims.Down m.block) (spot.Slot s c (m.at % 8)) true rs r t ds (Ok z) → IsOut m.me s m.at m.block z r0 r (tr ++ t) (es ++ ds)
+  lowered z h g =
       let lost = lost_core c s (m.at % 8) m.block z (slot_memo c s m.at m.block r0) rs r h.left g.did.0 in
       let own : own_word r.own (spot.Front s c) ≡ m.at = lost.took.own (spot.Front s c) refl ∙ sym h.head in
       record {
@@ -134,7 +135,10 @@ module _ (m : TakeState) (r0 rs r : Memo) (tr t : Trail) (es ds : List Event) (h
         told = ap (λ (x : List Event). x ++ ds) h.none ∙ g.did.1;
         bound = within_more 3 8 tr t h.bound g.bound;
       }
-  lowered (Err e) h g asked =
+
+  -- or nothing was done
+  unlowered : (e : ASpent) → IsItemRead m.me s m.at m.block r0 rs tr es → StepLeft m.me (aims.Down m.block) (spot.Slot s c (m.at % 8)) true rs r t ds (down_told (Err e)) → step_trail m.me (slot_at m) (aims.Down m.block) t (down_told (Err e)) → TakeRefused (taking m.me s) r0 r (tr ++ t) (es ++ ds) (take_fault e)
+  unlowered e h g asked =
       let one : IsWithin 1 t = (let l = spent_one m.me (slot_at m) m.block t e.era asked in omega arith) in (
         g.did.1.1,
         inl (record {
@@ -235,23 +239,6 @@ module _ (m : TakeState) (r0 rs r : Memo) (tr t : Trail) (es ds : List Event) (h
             }),
           )
 
-leads : (m : TakeState) (y : TakePoint) (r0 rs r : Memo) (tr t : Trail) (es ds : List Event) (a : TakeAnswer) → TakeKnows (record m { point = y }) y r0 rs tr es → (take_part m y).leaves (take_call_at m y) rs r t ds a → IsHeld m.me r
-    → Follows take_parts take_plan (record m { point = y }) a r0 r (tr ++ t) (es ++ ds)
-leads m Head r0 rs r tr t es ds (First n) (may, same, none, quiet) (w, grows) held = head_read m.me m.from r0 rs r tr t es ds (record { me = m.me; ask = take_ask m Head; over = false }) n may same none quiet w grows
-leads m Tail r0 rs r tr t es ds (First n) h (w, grows) held = looked m r0 rs r tr t es ds held n h w grows
-leads m Slot r0 rs r tr t es ds (First n) h (w, grows) held = found m r0 rs r tr t es ds held n h w grows
-leads m Lower r0 rs r tr t es ds (Second (First a)) h ((g, asked), grows) held = lowered m r0 rs r tr t es ds held a h g asked
-leads m Store r0 rs r tr t es ds (First n) h (w, grows) held = let one : IsWithin 1 t = (let o = w.one in omega arith) in stored m r0 rs r tr t es ds held m.last h (w.found.left, w.none, one)
-leads m Tear r0 rs r tr t es ds (Second (Second a)) h (g, grows) held = torn m r0 rs r tr t es ds held a h g
-leads m Head r0 rs r tr t es ds (Second a) h g held = absurd g.0
-leads m Tail r0 rs r tr t es ds (Second a) h g held = absurd g.0
-leads m Slot r0 rs r tr t es ds (Second a) h g held = absurd g.0
-leads m Store r0 rs r tr t es ds (Second a) h g held = absurd g.0
-leads m Lower r0 rs r tr t es ds (First n) h g held = absurd g.0
-leads m Tear r0 rs r tr t es ds (First n) h g held = absurd g.0
-leads m Lower r0 rs r tr t es ds (Second (Second a)) h g held = absurd g.0
-leads m Tear r0 rs r tr t es ds (Second (First a)) h g held = absurd g.0
-
 pub take_laws : PlanLaws take_parts take_plan
 take_laws =
     record {
@@ -264,3 +251,22 @@ take_laws =
       opens = λ m. opens m m.point;
       leads = λ m r0 rs r tr t es ds a h g held agent. leads m m.point r0 rs r tr t es ds a h g held;
     }
+  where
+    -- each call leads on
+    leads : (m : TakeState) (y : TakePoint) (r0 rs r : Memo) (tr t : Trail) (es ds : List Event) (a : TakeAnswer) → TakeKnows (record m { point = y }) y r0 rs tr es → (take_part m y).leaves (take_call_at m y) rs r t ds a → IsHeld m.me r
+        → Follows take_parts take_plan (record m { point = y }) a r0 r (tr ++ t) (es ++ ds)
+    leads m Head r0 rs r tr t es ds (First n) (may, same, none, quiet) (w, grows) held = head_read m.me m.from r0 rs r tr t es ds (record { me = m.me; ask = take_ask m Head; over = false }) n may same none quiet w grows
+    leads m Tail r0 rs r tr t es ds (First n) h (w, grows) held = looked m r0 rs r tr t es ds held n h w grows
+    leads m Slot r0 rs r tr t es ds (First n) h (w, grows) held = found m r0 rs r tr t es ds held n h w grows
+    leads m Lower r0 rs r tr t es ds (Second (First (Ok z))) h ((g, asked), grows) held = lowered m r0 rs r tr t es ds held z h g
+    leads m Lower r0 rs r tr t es ds (Second (First (Err e))) h ((g, asked), grows) held = unlowered m r0 rs r tr t es ds held e h g asked
+    leads m Store r0 rs r tr t es ds (First n) h (w, grows) held = let one : IsWithin 1 t = (let o = w.one in omega arith) in stored m r0 rs r tr t es ds held m.last h (w.found.left, w.none, one)
+    leads m Tear r0 rs r tr t es ds (Second (Second a)) h (g, grows) held = torn m r0 rs r tr t es ds held a h g
+    leads m Head r0 rs r tr t es ds (Second a) h g held = absurd g.0
+    leads m Tail r0 rs r tr t es ds (Second a) h g held = absurd g.0
+    leads m Slot r0 rs r tr t es ds (Second a) h g held = absurd g.0
+    leads m Store r0 rs r tr t es ds (Second a) h g held = absurd g.0
+    leads m Lower r0 rs r tr t es ds (First n) h g held = absurd g.0
+    leads m Tear r0 rs r tr t es ds (First n) h g held = absurd g.0
+    leads m Lower r0 rs r tr t es ds (Second (Second a)) h g held = absurd g.0
+    leads m Tear r0 rs r tr t es ds (Second (First a)) h g held = absurd g.0

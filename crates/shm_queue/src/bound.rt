@@ -6,11 +6,15 @@ ghost use Rattle.shm_graph.specs.declared.memo.Memo.{Memo as AMemo};
 ghost use Rattle.shm_graph.specs.Asks.{Trail, IsWithin};
 ghost use Rattle.shm_graph.specs.Bounds.{drain_steps, tear_steps};
 ghost use Rattle.shm_count.specs.TearEvents.{frees};
+ghost use Rattle.shm_count.specs.declared.answer.EraSpent.{EraSpent as ASpent};
 ghost use Rattle.shm_count.specs.declared.answer.Made.{Made as AMade};
 ghost use Rattle.shm_queue.specs.declared.answer.PeekFault.{PeekFault as APeekFault};
+ghost use Rattle.shm_queue.specs.declared.answer.PeekFault.TheVariants.{CountFull as IsCounted, Empty as IsNone, EraSpent as IsLate, RootsFull as AreFull};
 ghost use Rattle.shm_queue.specs.declared.answer.SendFault.{SendFault as ASendFault};
 ghost use Rattle.shm_queue.specs.declared.answer.TakeFault.TheVariants.{Empty as IsEmpty, EraSpent as IsSpent};
+ghost use Rattle.shm_queue.specs.DrainFits.{DrainStopped};
 ghost use Rattle.shm_queue.specs.Machines.{DrainGives, drain_told, PeekGives, ReceiveGives, receive_told, SendGives, TakeGives, take_told};
+ghost use Rattle.shm_queue.specs.ReceiveFits.{ReceiveStopped};
 ghost use Rattle.shm_queue.specs.TakeFits.{TakeStopped};
 
 /// A send took at most 11 word steps, and three more for each exchange that failed.
@@ -31,13 +35,19 @@ pub fn peek_bound()
     ensures { (me : AMe) (s : ℕ) (r0 r : AMemo) (tr : Trail) (a : Result AMade APeekFault) → PeekGives me s r0 r tr a → IsWithin 27 tr }
 {}
 
-/// A drain in a pool of n clients took at most 12 word steps for each item that it took, 164 for each block that it freed, 2 n and 4 more,
-/// and three more for each exchange that failed.
+/// A drain in a pool of n clients took at most 12 word steps for each item that it took, 164 for each block that it freed or left on the way,
+/// 2 n and 4 more, and three more for each exchange that failed. Where a take was refused in its tear-down, its item counts too.
 pub fn drain_bound()
     ensures done { (me : AMe) (n : ℕ) (r0 r : AMemo) (tr : Trail) → DrainGives me r0 r tr (Ok n) → IsWithin (drain_steps me.geometry.clients n (frees (drain_told me tr))) tr }
+    ensures spent { (me : AMe) (r0 r : AMemo) (tr : Trail) (e : ASpent) → DrainGives me r0 r tr (Err e) → (d : DrainStopped me r0 r tr (drain_told me tr) e.era) × (IsWithin (drain_steps me.geometry.clients (length d.items) (frees (drain_told me tr))) tr ⊎ ((t : TakeStopped me d.from d.q r d.last d.after e.era) × IsWithin (drain_steps me.geometry.clients (length d.items + 1) (frees (drain_told me tr) + length t.left)) tr)) }
 {}
 
-/// A receive that is done took at most 39 word steps and 164 for each block that it freed, and three more for each exchange that failed.
+/// A receive took at most 39 word steps and 164 for each block that it freed or left on the way, and three more for each exchange that failed;
+/// one of an empty queue took two, one whose peek was refused 27, and one whose take was refused before the item was taken 31.
 pub fn receive_bound()
     ensures { (me : AMe) (s : ℕ) (r0 r : AMemo) (tr : Trail) (made : AMade) → ReceiveGives me s r0 r tr (Ok made) → IsWithin (39 + tear_steps (frees (receive_told me s tr))) tr }
+    ensures empty { (me : AMe) (s n : ℕ) (r0 r : AMemo) (tr : Trail) → ReceiveGives me s r0 r tr (Err (IsNone n)) → IsWithin 2 tr }
+    ensures full { (me : AMe) (s : ℕ) (r0 r : AMemo) (tr : Trail) → ReceiveGives me s r0 r tr (Err AreFull) → IsWithin 27 tr }
+    ensures counted { (me : AMe) (s b n : ℕ) (r0 r : AMemo) (tr : Trail) → ReceiveGives me s r0 r tr (Err (IsCounted b n)) → IsWithin 27 tr }
+    ensures spent { (me : AMe) (s e : ℕ) (r0 r : AMemo) (tr : Trail) → ReceiveGives me s r0 r tr (Err (IsLate e)) → IsWithin 27 tr ⊎ ((d : ReceiveStopped me s r0 r tr (receive_told me s tr) e) × (IsWithin 31 tr ⊎ ((t : TakeStopped me s d.look.q r d.look.next d.look.after e) × IsWithin (39 + tear_steps (frees (receive_told me s tr) + length t.left)) tr))) }
 {}

@@ -5,6 +5,7 @@ ghost use Rattle.shm_words.specs.Layout.{GeometryFits};
 ghost use Rattle.shm_queue.specs.DrainControl.{draining, turned, turned_answer};
 ghost use Rattle.shm_queue.specs.DrainFits.{drain_plan};
 ghost use Rattle.shm_queue.specs.DrainLaws.{drain_laws};
+ghost use Rattle.shm_queue.specs.TakeLaws.{take_laws};
 
 use crate::answer::TakeFault;
 use crate::take::{Take, Taking};
@@ -139,5 +140,5 @@ impl Plan for Draining {
         }
     }
 
-    ghost laws = { drain_laws };
+    ghost laws = { drain_laws take_laws };
 }

@@ -4,7 +4,9 @@ ghost use Rattle.std.specs.Prelude.{◌≡◌, ◌<◌};
 ghost use Rattle.shm_words.specs.Layout.{GeometryFits};
 ghost use Rattle.shm_queue.specs.ReceiveControl.{receiving};
 ghost use Rattle.shm_queue.specs.ReceiveFits.{receive_plan};
+ghost use Rattle.shm_queue.specs.PeekLaws.{peek_laws};
 ghost use Rattle.shm_queue.specs.ReceiveLaws.{receive_laws};
+ghost use Rattle.shm_queue.specs.TakeLaws.{take_laws};
 
 use crate::answer::{PeekFault, TakeFault};
 use crate::peek::{Peek, Peeking};
@@ -121,5 +123,5 @@ impl Plan for Receiving {
         }
     }
 
-    ghost laws = { receive_laws };
+    ghost laws = { receive_laws peek_laws take_laws };
 }

@@ -23,6 +23,8 @@ use Rattle.shm_count.specs.declared.answer.EraSpent.{EraSpent}
 use Rattle.shm_count.specs.Roots.{root_word}
 use Rattle.shm_graph.specs.Core.{core}
 use Rattle.shm_steps.proofs.Cores.{here_same}
+use Rattle.shm_steps.proofs.WordsOwn.{gone_store}
+use Rattle.shm_steps.proofs.WordsShared.{segment_give, segment_load}
 use Rattle.shm_count.specs.TearEvents.{frees}
 use Rattle.shm_ref.specs.declared.drop_roots.RootsState.{RootsState}
 use Rattle.shm_recover.specs.declared.leave.LeavePoint.{LeavePoint}
@@ -30,7 +32,7 @@ use Rattle.shm_recover.specs.declared.leave.LeavePoint.TheVariants.{Roots, Look,
 use Rattle.shm_recover.specs.declared.leave.LeaveState.{LeaveState}
 use Rattle.shm_recover.specs.LeaveControl.{LeaveAnswer, leaving, leave_parts, leave_ask, leave_call_at, leave_next, leave_after_word, is_roots, is_last}
 use Rattle.shm_recover.specs.LeaveFits.{MayLeave, IsLeaving, HasLeft, LeaveKnows, LeaveFound, leave_plan}
-use Rattle.shm_recover.specs.LeaveWords.{root_beyond, owned_inside, look_word, give_word, status_word}
+use Rattle.shm_recover.specs.LeaveWords.{all_done, root_beyond, owned_inside}
 use Rattle.shm_ref.specs.Leaving.{may_still}
 use Rattle.shm_ref.specs.Lefts.{MayDrop}
 use Rattle.shm_ref.specs.RootsControl.{drop_root}
@@ -74,28 +76,11 @@ later m Look n e = go (n == m.me.who + 1) (next_later m)
     go true h = refl
     go false h = h
 
-stays : (m : LeaveState) (b : LeaveAnswer) → PlanStays leave_parts leave_plan m b
-stays m (First (Ok u)) = record { same_me = refl; same_line = refl; same_start = refl; started = λ e. refl }
-stays m (First (Err e)) = record { same_me = refl; same_line = refl; same_start = refl; started = λ e. absurd (cc) }
-stays m (Second n) = record { same_me = word_same (λ (x : LeaveState). x.me) m m.point n (λ s y. refl); same_line = refl; same_start = word_same leave_plan.start m m.point n (λ s y. refl); started = started (is_last m.point) (later m m.point n) }
-  where
-    started : (q : Bool) → (q ≡ false → is_roots (leave_after_word m m.point n).point ≡ false) → ◌≡◌ {A = Option (Result (Unit {0}) EraSpent)} (if q then Some (Ok tt) else None) None → is_roots (leave_after_word m m.point n).point ≡ false
-    started true h e = absurd (cc)
-    started false h e = h refl
-
 calls : (m : LeaveState) (y : LeavePoint) → IsCall leave_parts leave_plan (record m { point = y })
 calls m Roots = record { me = refl; asks = refl }
 calls m Look = record { me = refl; asks = refl }
 calls m Give = record { me = refl; asks = refl }
 calls m Status = record { me = refl; asks = refl }
-
--- ---- what the calls need
-
-opens : (m : LeaveState) (y : LeavePoint) (r0 r : Memo) (tr : Trail) (es : List Event) → LeaveKnows m y r0 r tr es → (leave_plan.part (record m { point = y })).needs (leave_call_at m y) r
-opens m Roots r0 r tr es (h, same, none, quiet, start) = record { made = refl; first = refl; start = refl; knows = roots_begin m.me r (subst (MayDrop m.me) (sym same) h.may) }
-opens m Look r0 r tr es h = look_word m r h.0 h.1 false
-opens m Give r0 r tr es h = give_word m r h.0 h.1 h.2
-opens m Status r0 r tr es h = status_word m r h.0 false
 
 -- ---- what they lead to
 
@@ -225,6 +210,22 @@ leave_laws =
       leads = λ m r0 rs r tr t es ds a h g held same. leads m m.point r0 rs r tr t es ds a h g held;
     }
   where
+    stays : (m : LeaveState) (b : LeaveAnswer) → PlanStays leave_parts leave_plan m b
+    stays m (First (Ok u)) = record { same_me = refl; same_line = refl; same_start = refl; started = λ e. refl }
+    stays m (First (Err e)) = record { same_me = refl; same_line = refl; same_start = refl; started = λ e. absurd (cc) }
+    stays m (Second n) = record { same_me = word_same (λ (x : LeaveState). x.me) m m.point n (λ s y. refl); same_line = refl; same_start = word_same leave_plan.start m m.point n (λ s y. refl); started = started (is_last m.point) (later m m.point n) }
+      where
+        started : (q : Bool) → (q ≡ false → is_roots (leave_after_word m m.point n).point ≡ false) → ◌≡◌ {A = Option (Result (Unit {0}) EraSpent)} (if q then Some (Ok tt) else None) None → is_roots (leave_after_word m m.point n).point ≡ false
+        started true h e = absurd (cc)
+        started false h e = h refl
+
+    -- what the calls need
+    opens : (m : LeaveState) (y : LeavePoint) (r0 r : Memo) (tr : Trail) (es : List Event) → LeaveKnows m y r0 r tr es → (leave_plan.part (record m { point = y })).needs (leave_call_at m y) r
+    opens m Roots r0 r tr es (h, same, none, quiet, start) = record { made = refl; first = refl; start = refl; knows = roots_begin m.me r (subst (MayDrop m.me) (sym same) h.may) }
+    opens m Look r0 r tr es h = segment_load false m.me r h.0.may.may.who m.segment h.1
+    opens m Give r0 r tr es h = segment_give false m.me r h.0.may.may.who m.segment h.1 refl (record { here = h.0.may.may.here; idle = h.0.may.making; owned = h.2 })
+    opens m Status r0 r tr es h = gone_store false m.me r h.0.may.may.who (all_done m.me r h.0)
+
     -- each call leads on
     leads : (m : LeaveState) (y : LeavePoint) (r0 rs r : Memo) (tr t : Trail) (es ds : List Event) (a : LeaveAnswer) → LeaveKnows (record m { point = y }) y r0 rs tr es → (leave_plan.part (record m { point = y })).leaves (leave_call_at m y) rs r t ds a → IsHeld m.me r
         → Follows leave_parts leave_plan (record m { point = y }) a r0 r (tr ++ t) (es ++ ds)

@@ -1,5 +1,5 @@
--- the word steps of a leaving: what each needs, and what holds after it
-use Rattle.std.proofs.Common.{◌≡◌, ℕ, ◌<◌, ◌≤◌, refl, ◌∙◌, subst, arith, Bool, false, List, [], ◌∷◌, inl, inr}
+-- what a held state shows of roots and segments, and that nothing is left to finish once they are gone
+use Rattle.std.proofs.Common.{◌≡◌, ℕ, ◌<◌, ◌≤◌, refl, ◌∙◌, subst, arith, List, [], ◌∷◌, inl, inr}
 use Rattle.std.specs.List.{Contains}
 use Rattle.std.proofs.lemmas.Bool.{and_parts, cases_eq, eq-eqb, ltb-true}
 use Rattle.shm_graph.specs.declared.ask.Me.{Me}
@@ -12,15 +12,8 @@ use Rattle.shm_graph.specs.Laws.{GoneNow}
 use Rattle.shm_graph.specs.Views.{view}
 use Rattle.shm_graph.proofs.SpotPlaces.{at_is_in}
 use Rattle.shm_calls.specs.Parts.{IsHeld}
-use Rattle.shm_calls.specs.Words.{IsWord}
-use Rattle.shm_steps.proofs.WordsOwn.{gone_store}
-use Rattle.shm_steps.proofs.WordsShared.{segment_give, segment_load}
 use Rattle.shm_count.specs.Roots.{root_word}
-use Rattle.shm_recover.specs.declared.leave.LeavePoint.TheVariants.{Look, Give}
-use Rattle.shm_recover.specs.declared.leave.LeavePoint.TheVariants as point
-use Rattle.shm_recover.specs.declared.leave.LeaveState.{LeaveState}
-use Rattle.shm_recover.specs.LeaveControl.{leave_ask}
-use Rattle.shm_recover.specs.LeaveFits.{IsLeaving, LeaveFound}
+use Rattle.shm_recover.specs.LeaveFits.{IsLeaving}
 
 -- ---- words that no pool has
 
@@ -44,46 +37,23 @@ module _ (me : Me) (l : me.who < me.geometry.clients) where
   pub owned_inside : (m : Memo) (i : ℕ) → IsHeld me m → Contains m.owned i → i < me.geometry.segments
   owned_inside m i (w, r, h, same) = subst (λ (x : Memo). Contains x.owned i → i < me.geometry.segments) same (owned_at w r i h)
 
--- ---- the word steps
+-- ---- once roots and segments are gone
 
-module _ (m : LeaveState) (r : Memo) where
-  abbrev me : Me
-  me = m.me
+module _ (me : Me) (r : Memo) (h : IsLeaving me me.geometry.segments r) where
+  none_left : (xs : List ℕ) → ((i : ℕ) → Contains xs i → (me.geometry.segments ≤ i) × (i < me.geometry.segments)) → xs ≡ []
+  none_left [] all = refl
+  none_left (x ∷ xs) all = let y = all x (0, omega arith, refl) in absurd (omega arith)
 
-  abbrev c : ℕ
-  c = m.me.who
-
-  abbrev s : ℕ
-  s = m.segment
-
-  module _ (h : IsLeaving me s r) (l : s < me.geometry.segments) where
-    -- a segment's word is loaded
-    pub look_word : (first : Bool) → IsWord first me (leave_ask m Look) (LeaveFound m Look) (record { me = me; ask = leave_ask m Look; over = false }) r
-    look_word first = segment_load first me r h.may.may.who s l
-
-    -- an own one is given up
-    pub give_word : Contains r.owned s → IsWord false me (leave_ask m Give) (LeaveFound m Give) (record { me = me; ask = leave_ask m Give; over = false }) r
-    give_word has = segment_give false me r h.may.may.who s l refl (record { here = h.may.may.here; idle = h.may.making; owned = has })
-
-  module _ (h : IsLeaving me me.geometry.segments r) where
-    none_left : (xs : List ℕ) → ((i : ℕ) → Contains xs i → (me.geometry.segments ≤ i) × (i < me.geometry.segments)) → xs ≡ []
-    none_left [] all = refl
-    none_left (x ∷ xs) all = let y = all x (0, omega arith, refl) in absurd (omega arith)
-
-    -- nothing is left to finish
-    pub all_done : GoneNow c r
-    all_done =
-        record {
-          roots = h.roots;
-          hold = h.may.hold;
-          idle = h.may.may.idle;
-          latched = h.may.latch;
-          segments = none_left r.owned h.owned;
-          dyings = h.may.dying;
-          sends = h.may.sends;
-          takes = h.may.takes;
-        }
-
-    -- the status is stored
-    pub status_word : (first : Bool) → IsWord first me (leave_ask m point.Status) (LeaveFound m point.Status) (record { me = me; ask = leave_ask m point.Status; over = false }) r
-    status_word first = gone_store first me r h.may.may.who all_done
+  -- nothing is left to finish
+  pub all_done : GoneNow me.who r
+  all_done =
+      record {
+        roots = h.roots;
+        hold = h.may.hold;
+        idle = h.may.may.idle;
+        latched = h.may.latch;
+        segments = none_left r.owned h.owned;
+        dyings = h.may.dying;
+        sends = h.may.sends;
+        takes = h.may.takes;
+      }

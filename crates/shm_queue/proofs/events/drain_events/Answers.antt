@@ -2,7 +2,8 @@ use Rattle.shm_calls.specs.CallsKeep.{calls_tells}
 use Rattle.shm_queue.specs.DrainControl.{drain_parts}
 use Rattle.shm_queue.specs.DrainFits.{drain_plan}
 use Rattle.shm_queue.specs.DrainLaws.{drain_laws}
+use Rattle.shm_queue.specs.TakeLaws.{take_laws}
 use Rattle.shm_queue.proofs.events.drain_events.Goals as goal
 
 pub returns : goal.returns
-returns c = calls_tells drain_parts drain_plan drain_laws
+returns c = calls_tells drain_parts drain_plan (drain_laws take_laws)

@@ -13,6 +13,7 @@ use Rattle.shm_queue.specs.declared.drain.DrainState.{DrainState}
 use Rattle.shm_queue.specs.DrainControl.{drain_parts, draining}
 use Rattle.shm_queue.specs.DrainFits.{AreEmpty, DrainKnows, DrainLeaves, Taken, blocks_from, drain_plan}
 use Rattle.shm_queue.specs.DrainLaws.{drain_laws}
+use Rattle.shm_queue.specs.TakeLaws.{take_laws}
 use Rattle.shm_tests.specs.Queues.{LeavesQueues}
 use Rattle.shm_tests.proofs.PlanCalls.{Answered, answered, plan_fits}
 use Rattle.shm_tests.proofs.QueueAnswers.{drain_dying, drain_empty, drain_leaves_idle, drain_received, drain_roots}
@@ -38,7 +39,7 @@ knows c =
 pub call-requires-clause-fits : goal.call-requires-clause-fits
 call-requires-clause-fits c =
     let at = (goal.at.call-requires-clause-fits c).After-new-machine in
-    plan_fits drain_parts drain_plan drain_laws c.args.who c.args.pool.now c.requires.at_work (plan at) refl refl refl (knows at) c.new-machine.result (state at)
+    plan_fits drain_parts drain_plan (drain_laws take_laws) c.args.who c.args.pool.now c.requires.at_work (plan at) refl refl refl (knows at) c.new-machine.result (state at)
 
 -- what the call leaves
 abbrev machine : (c : After-call) → DrainState
@@ -47,7 +48,7 @@ machine c = plan (goal.at.After-call c).After-new-machine
 called : (c : After-call) → Answered drain_parts drain_plan c.args.who c.args.pool.now (machine c) c.call.new.self c.args.life.now.left c.call.new.life.left c.call.result
 called c =
     let at = (goal.at.After-call c).After-new-machine in
-    answered drain_parts drain_plan drain_laws c.args.who c.args.pool.now c.requires.at_work (plan at) refl refl refl (knows at) c.new-machine.result (state at) c.call.new.self c.args.life.now.left c.call.new.life.left c.call.result
+    answered drain_parts drain_plan (drain_laws take_laws) c.args.who c.args.pool.now c.requires.at_work (plan at) refl refl refl (knows at) c.new-machine.result (state at) c.call.new.self c.args.life.now.left c.call.new.life.left c.call.result
     (record { gave = c.call.ensures.gives; ran = c.call.ensures.ran; took = c.call.ensures.took; events = c.call.ensures.events })
 
 pub returns-clause-gives : goal.returns-clause-gives

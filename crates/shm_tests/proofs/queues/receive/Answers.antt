@@ -20,7 +20,9 @@ use Rattle.shm_queue.specs.declared.receive.ReceivePoint.TheVariants.{Look}
 use Rattle.shm_queue.specs.declared.receive.ReceiveState.{ReceiveState}
 use Rattle.shm_queue.specs.ReceiveControl.{receive_parts, receiving}
 use Rattle.shm_queue.specs.ReceiveFits.{ReceiveKnows, ReceiveLeaves, receive_plan}
+use Rattle.shm_queue.specs.PeekLaws.{peek_laws}
 use Rattle.shm_queue.specs.ReceiveLaws.{receive_laws}
+use Rattle.shm_queue.specs.TakeLaws.{take_laws}
 use Rattle.shm_tests.specs.Queues.{LeavesQueues, if_empty}
 use Rattle.shm_tests.proofs.ItemAnswers.{taken_first}
 use Rattle.shm_tests.proofs.PlanCalls.{Answered, answered, plan_fits}
@@ -47,7 +49,7 @@ knows c =
 pub call-requires-clause-fits : goal.call-requires-clause-fits
 call-requires-clause-fits c =
     let at = (goal.at.call-requires-clause-fits c).After-new-machine in
-    plan_fits receive_parts receive_plan receive_laws c.args.who c.args.pool.now c.requires.at_work (plan at) refl refl refl (knows at) c.new-machine.result (state at)
+    plan_fits receive_parts receive_plan (receive_laws peek_laws take_laws) c.args.who c.args.pool.now c.requires.at_work (plan at) refl refl refl (knows at) c.new-machine.result (state at)
 
 -- what the call leaves
 abbrev machine : (c : After-call) → ReceiveState
@@ -56,7 +58,7 @@ machine c = plan (goal.at.After-call c).After-new-machine
 called : (c : After-call) → Answered receive_parts receive_plan c.args.who c.args.pool.now (machine c) c.call.new.self c.args.life.now.left c.call.new.life.left c.call.result
 called c =
     let at = (goal.at.After-call c).After-new-machine in
-    answered receive_parts receive_plan receive_laws c.args.who c.args.pool.now c.requires.at_work (plan at) refl refl refl (knows at) c.new-machine.result (state at) c.call.new.self c.args.life.now.left c.call.new.life.left c.call.result
+    answered receive_parts receive_plan (receive_laws peek_laws take_laws) c.args.who c.args.pool.now c.requires.at_work (plan at) refl refl refl (knows at) c.new-machine.result (state at) c.call.new.self c.args.life.now.left c.call.new.life.left c.call.result
     (record { gave = c.call.ensures.gives; ran = c.call.ensures.ran; took = c.call.ensures.took; events = c.call.ensures.events })
 
 pub returns-clause-gives : goal.returns-clause-gives
