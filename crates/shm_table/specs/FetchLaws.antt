@@ -318,25 +318,6 @@ opens m Share r0 r tr es ((h, told), on, client, value, reach) =
     (record { geometry = h.reading.may.geometry; who = h.reading.may.who; here = idle_here m.me.who r on.idle; idle = on.idle.op; client = on.client; reach = reach })
 opens m Give r0 r tr es h = record { made = refl; first = refl; start = refl; knows = unlatch_begin m.me m.author r (gives m m.outcome r0 r tr es h) }
 
-leads : (m : FetchState) (y : FetchPoint) (r0 rs r : Memo) (tr t : Trail) (es ds : List Event) (b : FetchAnswer) → IsHeld m.me r → recovers r ≡ recovers rs → FetchKnows (record m { point = y }) y r0 rs tr es
-    → (fetch_part (record m { point = y }) y).leaves (fetch_call m y) rs r t ds b → Follows fetch_parts fetch_plan (record m { point = y }) b r0 r (tr ++ t) (es ++ ds)
-leads m Search r0 rs r tr t es ds (First b) held agent h g = searched_found m r0 rs r tr t es ds held agent b h g
-leads m Value r0 rs r tr t es ds (Second (First n)) held agent h g = value_found m r0 rs r tr t es ds held agent n h g.0.found g.0.none g.1
-leads m Number r0 rs r tr t es ds (Second (First n)) held agent h g = number_found m r0 rs r tr t es ds held agent n h g.0.found g.0.none g.1
-leads m Share r0 rs r tr t es ds (Second (Second (First b))) held agent h g = shared m r0 rs r tr t es ds held agent h b g
-leads m Give r0 rs r tr t es ds (Second (Second (Second done))) held agent h g = given m r0 rs r tr t es ds held agent m.outcome h g
-leads m Search r0 rs r tr t es ds (Second b) held agent h g = absurd g
-leads m Value r0 rs r tr t es ds (First b) held agent h g = absurd g
-leads m Value r0 rs r tr t es ds (Second (Second b)) held agent h g = absurd g
-leads m Number r0 rs r tr t es ds (First b) held agent h g = absurd g
-leads m Number r0 rs r tr t es ds (Second (Second b)) held agent h g = absurd g
-leads m Share r0 rs r tr t es ds (First b) held agent h g = absurd g
-leads m Share r0 rs r tr t es ds (Second (First b)) held agent h g = absurd g
-leads m Share r0 rs r tr t es ds (Second (Second (Second b))) held agent h g = absurd g
-leads m Give r0 rs r tr t es ds (First b) held agent h g = absurd g
-leads m Give r0 rs r tr t es ds (Second (First b)) held agent h g = absurd g
-leads m Give r0 rs r tr t es ds (Second (Second (First b))) held agent h g = absurd g
-
 -- what is known before the first call
 pub fetch_begin : (me : Me) (a key : ℕ) (r : Memo) → MayFetch me a r → FetchKnows (fetching me a key) Search r r [] []
 fetch_begin me a key r may = (may, refl, refl, refl)
@@ -357,3 +338,23 @@ fetch_laws =
       opens = λ m. opens m m.point;
       leads = λ m r0 rs r tr t es ds b h g held agent. leads m m.point r0 rs r tr t es ds b held agent h g;
     }
+  where
+    -- each call leads on
+    leads : (m : FetchState) (y : FetchPoint) (r0 rs r : Memo) (tr t : Trail) (es ds : List Event) (b : FetchAnswer) → IsHeld m.me r → recovers r ≡ recovers rs → FetchKnows (record m { point = y }) y r0 rs tr es
+        → (fetch_part (record m { point = y }) y).leaves (fetch_call m y) rs r t ds b → Follows fetch_parts fetch_plan (record m { point = y }) b r0 r (tr ++ t) (es ++ ds)
+    leads m Search r0 rs r tr t es ds (First b) held agent h g = searched_found m r0 rs r tr t es ds held agent b h g
+    leads m Value r0 rs r tr t es ds (Second (First n)) held agent h g = value_found m r0 rs r tr t es ds held agent n h g.0.found g.0.none g.1
+    leads m Number r0 rs r tr t es ds (Second (First n)) held agent h g = number_found m r0 rs r tr t es ds held agent n h g.0.found g.0.none g.1
+    leads m Share r0 rs r tr t es ds (Second (Second (First b))) held agent h g = shared m r0 rs r tr t es ds held agent h b g
+    leads m Give r0 rs r tr t es ds (Second (Second (Second done))) held agent h g = given m r0 rs r tr t es ds held agent m.outcome h g
+    leads m Search r0 rs r tr t es ds (Second b) held agent h g = absurd g
+    leads m Value r0 rs r tr t es ds (First b) held agent h g = absurd g
+    leads m Value r0 rs r tr t es ds (Second (Second b)) held agent h g = absurd g
+    leads m Number r0 rs r tr t es ds (First b) held agent h g = absurd g
+    leads m Number r0 rs r tr t es ds (Second (Second b)) held agent h g = absurd g
+    leads m Share r0 rs r tr t es ds (First b) held agent h g = absurd g
+    leads m Share r0 rs r tr t es ds (Second (First b)) held agent h g = absurd g
+    leads m Share r0 rs r tr t es ds (Second (Second (Second b))) held agent h g = absurd g
+    leads m Give r0 rs r tr t es ds (First b) held agent h g = absurd g
+    leads m Give r0 rs r tr t es ds (Second (First b)) held agent h g = absurd g
+    leads m Give r0 rs r tr t es ds (Second (Second (First b))) held agent h g = absurd g
