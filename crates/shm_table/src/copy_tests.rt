@@ -1,11 +1,10 @@
 //! Copies of what a key has, step by step and on the words of a pool, against an independent implementation.
 
-use crate::stepping::Step::{Exchange, Load, Store};
-use crate::stepping::{Run, runs_over};
-use crate::tests::TABLE;
 use crate::{CopyKey, Copying};
 use shm_calls::Calls;
 use shm_graph::Me;
+use shm_runs::Step::{Exchange, Load, Store};
+use shm_runs::{Run, TABLE, runs_over};
 use shm_script::Answer;
 use shm_words::Geometry;
 use std::test::Fail;

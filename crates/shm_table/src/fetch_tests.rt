@@ -2,11 +2,10 @@
 
 use crate::answer::PutFault;
 use crate::parts::{Fetch, Fetched, Fetching};
-use crate::stepping::Step::{Exchange, Load, Store};
-use crate::stepping::{Run, runs_over};
-use crate::tests::TABLE;
 use shm_calls::Calls;
 use shm_graph::Me;
+use shm_runs::Step::{Exchange, Load, Store};
+use shm_runs::{Run, TABLE, runs_over};
 use shm_words::Geometry;
 use std::test::Fail;
 

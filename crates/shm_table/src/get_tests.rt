@@ -2,12 +2,11 @@
 //! implementation.
 
 use crate::parts::{Found, Locate, Locating, Unlatch, Unlatching};
-use crate::stepping::Step::{Exchange, Load, Lost, Others, Store};
-use crate::stepping::{Run, runs_over};
-use crate::tests::TABLE;
 use crate::{Get, Getting, Valued};
 use shm_calls::Calls;
 use shm_graph::Me;
+use shm_runs::Step::{Exchange, Load, Lost, Others, Store};
+use shm_runs::{Run, TABLE, runs_over};
 use shm_words::Geometry;
 use std::test::Fail;
 

@@ -54,8 +54,6 @@ pub mod replace;
 mod replace_tests;
 pub mod staying;
 #[cfg(test)]
-mod stepping;
-#[cfg(test)]
 mod tests;
 pub mod unlatch;
 pub mod unlink;

@@ -2,10 +2,10 @@
 
 use crate::answer::PutFault;
 use crate::parts::{OpenTable, Opening};
-use crate::stepping::Step::{Exchange, Load, Store};
-use crate::stepping::{Run, runs};
 use shm_calls::Calls;
 use shm_graph::Me;
+use shm_runs::Step::{Exchange, Load, Store};
+use shm_runs::{Run, runs};
 use shm_words::Geometry;
 use std::test::Fail;
 

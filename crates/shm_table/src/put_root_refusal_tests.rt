@@ -2,9 +2,9 @@
 
 use crate::answer::PutFault;
 use crate::parts::PutRoot;
-use crate::stepping::Step::{Exchange, Load, Store};
-use crate::stepping::{Run, runs};
 use shm_graph::Me;
+use shm_runs::Step::{Exchange, Load, Store};
+use shm_runs::{Run, runs};
 use shm_words::Geometry;
 use std::test::Fail;
 

@@ -2,10 +2,10 @@
 //! implementation.
 
 use crate::put::{Put, Putting};
-use crate::stepping::Step::{Exchange, Load, Store};
-use crate::stepping::{Run, runs};
 use shm_calls::Calls;
 use shm_graph::Me;
+use shm_runs::Step::{Exchange, Load, Store};
+use shm_runs::{Run, runs};
 use shm_script::Answer;
 use shm_words::Geometry;
 use std::test::Fail;

@@ -1,55 +1,12 @@
 //! Searches for a key step by step on the words of a pool, against an independent implementation.
 
 use crate::parts::{Find, Finding, Found};
-use crate::stepping::Step::Load;
-use crate::stepping::{Run, runs_over};
 use shm_calls::Calls;
 use shm_graph::Me;
+use shm_runs::Step::Load;
+use shm_runs::{Run, TABLE, runs_over};
 use shm_words::Geometry;
 use std::test::Fail;
-
-/// The words that aren't 0 of a pool of three clients, in which client 1 has put the keys 37, 21 and 5, all of one bucket, and nobody holds
-/// a latch.
-pub const TABLE: [(usize, u64); 38] = [
-    (1, 1),
-    (2, 1),
-    (3, 1),
-    (5, 4_611_731_098_601_259_008),
-    (14, 308),
-    (16, 1),
-    (20, 26),
-    (24, 1),
-    (163, 2),
-    (164, 4),
-    (165, 32),
-    (166, 8),
-    (180, 9_367_627_962_418_987_017),
-    (181, 68_157_440),
-    (182, 72),
-    (184, 9_367_627_962_418_987_025),
-    (185, 68_157_440),
-    (186, 71),
-    (188, 9_367_627_962_418_987_033),
-    (189, 68_157_440),
-    (190, 70),
-    (308, 9_367_627_962_418_987_012),
-    (309, 17_180_917_760),
-    (315, 452),
-    (436, 9_367_627_962_418_987_023),
-    (437, 2_215_641_088),
-    (439, 180),
-    (440, 37),
-    (444, 9_367_627_962_418_987_031),
-    (445, 2_215_641_088),
-    (446, 436),
-    (447, 184),
-    (448, 21),
-    (452, 9_367_627_962_418_987_032),
-    (453, 2_215_641_088),
-    (454, 444),
-    (455, 188),
-    (456, 5),
-];
 
 /// Client 2 holds latch 1.
 const THE_FIRST_ENTRY_IS_FOUND: Run = Run {

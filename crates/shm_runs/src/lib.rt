@@ -1,6 +1,10 @@
-//! Runs of machines on the words of a pool, for tests: each test names a run, and one function goes through it.
+//! Runs of machines on the words of a pool, for tests: a test names a run as a constant, and one function goes through it.
+#![tactic(auto)]
+
+mod pools;
 
 use Step::{Exchange, Load, Lost, Others, Store};
+pub use pools::TABLE;
 use shm_graph::{Ask, Machine, Turn};
 use std::alloc::{AllocError, Global};
 
