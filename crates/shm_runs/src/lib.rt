@@ -25,7 +25,7 @@ pub enum Step {
 
 impl Step {
     /// What is asked.
-    fn ask(self) -> Ask {
+    pub fn ask(self) -> Ask {
         match self {
             Load(at, _) => Ask::Load { at },
             Store(at, value) | Others(at, value) => Ask::Store { at, value },
@@ -34,7 +34,7 @@ impl Step {
     }
 
     /// The word that is found, for a store 0.
-    fn found(self) -> u64 {
+    pub fn found(self) -> u64 {
         match self {
             Load(_, found) | Exchange(_, found, _) | Lost(_, _, _, found) => found,
             Store(..) | Others(..) => 0,
@@ -51,7 +51,7 @@ pub struct Run {
 }
 
 /// Puts these words.
-fn put_words(words: &mut Vec<u64>, some: &[(usize, u64)]) {
+pub fn put_words(words: &mut Vec<u64>, some: &[(usize, u64)]) {
     for &(at, word) in some {
         if let Some(place) = words.get_mut(at) {
             *place = word;
@@ -59,8 +59,19 @@ fn put_words(words: &mut Vec<u64>, some: &[(usize, u64)]) {
     }
 }
 
+/// The words of a pool of `total` words: these, and 0 at all other addresses.
+pub fn words_of(
+    alloc: Global,
+    total: usize,
+    some: &[(usize, u64)],
+) -> Result<Vec<u64>, AllocError> {
+    let mut words = vec![in alloc; 0u64; total]?;
+    put_words(&mut words, some);
+    Ok(words)
+}
+
 /// Makes a word step; the word that was found, for a store 0.
-fn make(words: &mut Vec<u64>, ask: Ask) -> Option<u64> {
+pub fn make(words: &mut Vec<u64>, ask: Ask) -> Option<u64> {
     match ask {
         Ask::Load { at } => words.get(at as usize).copied(),
         Ask::Store { at, value } => {
@@ -95,7 +106,11 @@ where
 }
 
 /// Runs a machine on the words; its answer, where it makes these steps and finds these words, and answers with the last one.
-fn follow<M: Machine>(machine: &mut M, words: &mut Vec<u64>, steps: &[Step]) -> Option<M::Answer>
+pub fn follow<M: Machine>(
+    machine: &mut M,
+    words: &mut Vec<u64>,
+    steps: &[Step],
+) -> Option<M::Answer>
 where
     M::Answer: Drop,
 {
@@ -125,8 +140,7 @@ where
     M: Drop,
     M::Answer: Drop + PartialEq,
 {
-    let mut words = vec![in alloc; 0u64; run.total]?;
-    put_words(&mut words, under);
+    let mut words = words_of(alloc, run.total, under)?;
     put_words(&mut words, run.before);
     let mut after = words.as_slice().to_vec(alloc)?;
     put_words(&mut after, run.changes);
