@@ -16,6 +16,3 @@ pub use events::{alloc_begins, alloc_events, alloc_own_events};
 pub use lasting::{alloc_in_call, alloc_lasts, alloc_least_root, made_may_be_raised};
 pub use point::{AllocPoint, AllocState, Goal, Next, Search};
 pub use request::Request;
-
-#[cfg(test)]
-mod tests;

@@ -26,8 +26,3 @@ pub use lasting::{
 };
 pub use step::{StepChange, StepDown, StepUp};
 pub use tear::TearDown;
-
-#[cfg(test)]
-mod tear_tests;
-#[cfg(test)]
-mod tests;

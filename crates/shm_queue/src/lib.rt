@@ -26,14 +26,3 @@ pub use peek::{Peek, Peeking};
 pub use receive::{Receive, Receiving};
 pub use send::{Send, Sending};
 pub use take::{Take, Taking};
-
-#[cfg(test)]
-mod drain_tests;
-#[cfg(test)]
-mod peek_tests;
-#[cfg(test)]
-mod receive_tests;
-#[cfg(test)]
-mod take_tests;
-#[cfg(test)]
-mod tests;

@@ -11,6 +11,3 @@ pub use bound::leave_bound;
 pub use events::{leave_begins, leave_events, leave_gone, leave_leaves};
 pub use join::{Join, JoinPoint, JoinState, join_bound};
 pub use leave::{Leave, Leaving};
-
-#[cfg(test)]
-mod tests;

@@ -51,20 +51,3 @@ pub use setting::{
 };
 pub use share::{Share, Sharing};
 pub use shm_count::parts::ShareFault;
-
-#[cfg(test)]
-mod chain_tests;
-#[cfg(test)]
-mod drop_tests;
-#[cfg(test)]
-mod read_tests;
-#[cfg(test)]
-mod set_home_tests;
-#[cfg(test)]
-mod set_ref_tests;
-#[cfg(test)]
-mod set_refusal_tests;
-#[cfg(test)]
-mod share_tests;
-#[cfg(test)]
-mod tests;

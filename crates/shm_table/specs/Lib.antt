@@ -44,6 +44,7 @@ pub mod DelBound
 pub mod PutRootControl
 pub mod PutRootFits
 pub mod PutRootSteps
+pub mod PutRootLeads
 pub mod PutRootLaws
 pub mod PutRootBound
 pub mod Commands

@@ -1,5 +1,5 @@
 -- how many word steps it takes that a key comes to have a number
-use Rattle.std.proofs.Common.{ℕ, ◌+◌, ◌*◌, ◌<◌, arith, List}
+use Rattle.std.proofs.Common.{ℕ, ◌+◌, ◌*◌, arith, List}
 use Rattle.shm_graph.specs.declared.ask.Me.{Me}
 use Rattle.shm_graph.specs.declared.memo.Memo.{Memo}
 use Rattle.shm_graph.specs.Asks.{Trail}

@@ -1,20 +1,15 @@
 -- putting a value block into the own table: what follows each call
-use Rattle.std.proofs.Common.{◌≡◌, ◌≢◌, ℕ, zero, suc, ◌+◌, ◌-◌, ◌*◌, ◌%◌, ◌^◌, ◌<◌, refl, sym, ap, ◌∙◌, subst, arith, Bool, true, false, append_assoc, append-nil, List, [], ◌∷◌, ◌++◌, Option, Some, None, inl, inr, ◌⊎◌}
-use Rattle.std.specs.Prelude.{Result, Ok, Err, IfSome, ◌==◌, if◌then◌else◌, length}
-use Rattle.std.specs.List.{All, Contains}
+use Rattle.std.proofs.Common.{◌≡◌, ◌≢◌, ℕ, zero, suc, ◌+◌, ◌-◌, ◌*◌, ◌%◌, ◌^◌, ◌<◌, refl, sym, ap, ◌∙◌, subst, arith, append_assoc, append-nil, List, [], ◌∷◌, ◌++◌, Some, None, inl, inr, ◌⊎◌}
+use Rattle.std.specs.Prelude.{◌==◌, if◌then◌else◌}
 use Rattle.std.proofs.lemmas.Bool.{cond-true, lt-ltb}
-use Rattle.std.proofs.lemmas.List.Elements.{All-nil}
-use Rattle.shm_words.specs.Layout.{total_of}
 use Rattle.shm_words.proofs.Placing.{total_small}
 use Rattle.shm_graph.specs.declared.ask.Me.{Me}
 use Rattle.shm_graph.specs.declared.memo.Memo.{Memo}
-use Rattle.shm_graph.specs.declared.spot.Spot.TheVariants.{Body, Home}
+use Rattle.shm_graph.specs.declared.spot.Spot.TheVariants.{Home}
 use Rattle.shm_graph.specs.Agents.{recovers}
 use Rattle.shm_graph.specs.Asks.{Trail, IsWithin}
 use Rattle.shm_graph.specs.Bounds.{tear_steps}
-use Rattle.shm_graph.specs.Core.{core}
 use Rattle.shm_graph.specs.Events.{Event}
-use Rattle.shm_graph.specs.Events as event
 use Rattle.shm_graph.specs.Telling.{Directory, role_in, roles, shaped}
 use Rattle.shm_graph.specs.Views.{own_word}
 use Rattle.shm_steps.specs.Reparting.{sight, map_in, IsValue}
@@ -25,21 +20,19 @@ use Rattle.shm_steps.proofs.Covering.{role_told}
 use Rattle.shm_calls.specs.CallTells.{within_more}
 use Rattle.shm_calls.specs.Parts.{IsHeld}
 use Rattle.shm_count.specs.Roots.{root_word}
-use Rattle.shm_count.specs.TearEvents.{Visit, frees}
+use Rattle.shm_count.specs.TearEvents.{frees}
 use Rattle.shm_ref.specs.CountedBlocks.{reached_counted}
 use Rattle.shm_table.specs.declared.find.Found.{Found}
 use Rattle.shm_table.specs.declared.find.Found.TheVariants.{Absent, At}
-use Rattle.shm_table.specs.EnterFits.{MayEnter, IsLinked, IsUnlinked, IsUnmade, link_events}
+use Rattle.shm_table.specs.EnterFits.{MayEnter}
 use Rattle.shm_table.specs.FindBound.{find_within, keys_read}
-use Rattle.shm_table.specs.FindFits.{FindLeaves, OnlyReads}
-use Rattle.shm_table.specs.FindControl.{finding}
+use Rattle.shm_table.specs.FindFits.{OnlyReads}
 use Rattle.shm_table.specs.LocateFits.{Located}
 use Rattle.shm_table.specs.LocateLaws.{find_only}
 use Rattle.shm_table.specs.PutRootControl.{home_of}
-use Rattle.shm_table.specs.PutRootFits.{Decides, HasSearch, IsDecided, IsPutting, IsSearched, MayPut, MayPutRoot}
-use Rattle.shm_table.specs.PutRootFits.Decides.{Begins, Leads}
+use Rattle.shm_table.specs.PutRootFits.{HasSearch, IsDecided, IsPutting, IsSearched, MayPutRoot}
 use Rattle.shm_table.specs.ReplaceFits.{MayReplace}
-use Rattle.shm_table.specs.Staying.{Cleared, Ended, Keeps, MapSet, PutCause, SameMap}
+use Rattle.shm_table.specs.Staying.{Cleared, Keeps, MapSet, SameMap}
 use Rattle.shm_table.specs.StayingLaws.{cleared_more, keeps_latched, keeps_more, keeps_read, latched_else, rests_read, root_kept}
 
 -- ---- maps, causes and searches

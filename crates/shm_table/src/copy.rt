@@ -1,6 +1,6 @@
 //! A key of the own table comes to have what a key has in the table of an author.
 
-ghost use Rattle.std.specs.Prelude.{◌≡◌, ◌<◌, ◌≤◌};
+ghost use Rattle.std.specs.Prelude.{◌≡◌, ◌<◌};
 ghost use Rattle.shm_words.specs.Layout.{GeometryFits};
 ghost use Rattle.shm_table.specs.CopyControl as control;
 ghost use Rattle.shm_table.specs.CopyControl.{copying};

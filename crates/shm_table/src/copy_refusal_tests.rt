@@ -1,134 +1,122 @@
 //! Copies that are refused, step by step and on the words of a pool, against an independent implementation.
 
-use crate::entry_tests::{exchange, follow, load, put_words, store};
-use crate::tests::table;
 use crate::{CopyKey, Copying};
 use shm_calls::Calls;
-use shm_graph::{Ask, Me};
+use shm_graph::Me;
+use shm_runs::Step::{Exchange, Load, Store};
+use shm_runs::{Run, TABLE, runs_over};
 use shm_script::Answer;
 use shm_words::Geometry;
-use std::alloc::{AllocError, Global};
 use std::test::Fail;
 
-/// The words of a pool of three clients, in which client 1 has put the keys 37, 21 and 5, all of one bucket, and nobody holds a latch.
-fn free_table(alloc: Global) -> Result<Vec<u64>, AllocError> {
-    let mut words = table(alloc)?;
-    put_words(&mut words, &[(9, 0), (11, 0)]);
-    Ok(words)
-}
-
-/// Whether a machine makes these steps on the words of that pool, in which these words are others, then answers so, and leaves these words
-/// others.
-fn copied(
-    alloc: Global,
-    mut machine: CopyKey,
-    before: &[(usize, u64)],
-    steps: &[(Ask, u64)],
-    answer: Answer,
-    others: &[(usize, u64)],
-) -> Result<bool, AllocError> {
-    let mut words = free_table(alloc)?;
-    put_words(&mut words, before);
-    if follow(&mut machine, &mut words, steps) != Some(answer) {
-        return Ok(false);
-    }
-    let mut after = free_table(alloc)?;
-    put_words(&mut after, before);
-    put_words(&mut after, others);
-    Ok(words.as_slice() == after.as_slice())
-}
+/// Client 1 has the only segment.
+const NO_SEGMENT_IS_FREE: Run = Run {
+    total: 2228,
+    before: &[],
+    steps: &[
+        Store(9, 2),
+        Exchange(11, 0, 3),
+        Load(14, 308),
+        Load(315, 452),
+        Load(456, 5),
+        Load(455, 188),
+        Load(190, 70),
+        Load(24, 1),
+        Load(57, 0),
+        Store(6, 2_305_905_681_376_477_372),
+        Load(188, 9_367_627_962_418_987_033),
+        Load(23, 0),
+        Store(23, 25),
+        Exchange(188, 9_367_627_962_418_987_033, 9_511_883_887_983_198_209),
+        Store(57, 188),
+        Store(24, 2),
+        Store(11, 0),
+        Store(9, 0),
+        Load(15, 0),
+        Load(24, 2),
+        Load(57, 188),
+        Load(58, 0),
+        Load(163, 2),
+        Load(57, 188),
+        Load(24, 2),
+        Store(6, 4_611_748_690_787_303_424),
+        Load(188, 9_511_883_887_983_198_209),
+        Exchange(188, 9_511_883_887_983_198_209, 9_511_743_150_494_842_882),
+        Store(57, 0),
+        Store(24, 3),
+    ],
+    changes: &[
+        (6, 4_611_748_690_787_303_424),
+        (23, 25),
+        (24, 3),
+        (188, 9_511_743_150_494_842_882),
+    ],
+};
 
 #[test]
 fn no_segment_is_free(rt: HostRuntime) -> Result<(), Fail> {
     let me = Me::new(Geometry::new(3, 1)?, 2);
-    let machine = Calls::new(Copying::new(me, 6, 1, 5));
-    let before = [];
-    let steps = [
-        (store(9, 2), 0),
-        (exchange(11, 0, 3), 0),
-        (load(14), 308),
-        (load(315), 452),
-        (load(456), 5),
-        (load(455), 188),
-        (load(190), 70),
-        (load(24), 1),
-        (load(57), 0),
-        (store(6, 2305905681376477372), 0),
-        (load(188), 9367627962418987033),
-        (load(23), 0),
-        (store(23, 25), 0),
-        (
-            exchange(188, 9367627962418987033, 9511883887983198209),
-            9367627962418987033,
-        ),
-        (store(57, 188), 0),
-        (store(24, 2), 0),
-        (store(11, 0), 0),
-        (store(9, 0), 0),
-        (load(15), 0),
-        (load(24), 2),
-        (load(57), 188),
-        (load(58), 0),
-        (load(163), 2),
-        (load(57), 188),
-        (load(24), 2),
-        (store(6, 4611748690787303424), 0),
-        (load(188), 9511883887983198209),
-        (
-            exchange(188, 9511883887983198209, 9511743150494842882),
-            9511883887983198209,
-        ),
-        (store(57, 0), 0),
-        (store(24, 3), 0),
-    ];
-    let others = [
-        (6, 4611748690787303424),
-        (23, 25),
-        (24, 3),
-        (188, 9511743150494842882),
-    ];
-    let answer = Answer::Full {
-        segments: 1,
-        blocks: 0,
-    };
-    assert!(rt; copied(rt.alloc(), machine, &before, &steps, answer, &others)?);
+    let machine: CopyKey = Calls::new(Copying::new(me, 6, 1, 5));
+    assert!(rt;
+        runs_over(
+            rt.alloc(),
+            &TABLE,
+            machine,
+            &NO_SEGMENT_IS_FREE,
+            Answer::Full {
+                segments: 1,
+                blocks: 0
+            }
+        )?
+    );
     Ok(())
 }
+
+/// The count of the value block is 1,023.
+const A_FULL_COUNT_IS_NOT_RAISED: Run = Run {
+    total: 2228,
+    before: &[(188, 9_511_461_675_518_132_249)],
+    steps: &[
+        Store(9, 2),
+        Exchange(11, 0, 3),
+        Load(14, 308),
+        Load(315, 452),
+        Load(456, 5),
+        Load(455, 188),
+        Load(190, 70),
+        Load(24, 1),
+        Load(57, 0),
+        Store(6, 2_305_905_681_376_477_372),
+        Load(188, 9_511_461_675_518_132_249),
+        Store(11, 0),
+        Store(9, 0),
+    ],
+    changes: &[(6, 2_305_905_681_376_477_372)],
+};
 
 #[test]
 fn a_full_count_is_not_raised(rt: HostRuntime) -> Result<(), Fail> {
     let me = Me::new(Geometry::new(3, 1)?, 2);
-    let machine = Calls::new(Copying::new(me, 6, 1, 5));
-    let before = [(188, 9511461675518132249)];
-    let steps = [
-        (store(9, 2), 0),
-        (exchange(11, 0, 3), 0),
-        (load(14), 308),
-        (load(315), 452),
-        (load(456), 5),
-        (load(455), 188),
-        (load(190), 70),
-        (load(24), 1),
-        (load(57), 0),
-        (store(6, 2305905681376477372), 0),
-        (load(188), 9511461675518132249),
-        (store(11, 0), 0),
-        (store(9, 0), 0),
-    ];
-    let others = [(6, 2305905681376477372)];
-    let answer = Answer::CountFull {
-        block: 188,
-        count: 1023,
-    };
-    assert!(rt; copied(rt.alloc(), machine, &before, &steps, answer, &others)?);
+    let machine: CopyKey = Calls::new(Copying::new(me, 6, 1, 5));
+    assert!(rt;
+        runs_over(
+            rt.alloc(),
+            &TABLE,
+            machine,
+            &A_FULL_COUNT_IS_NOT_RAISED,
+            Answer::CountFull {
+                block: 188,
+                count: 1023
+            }
+        )?
+    );
     Ok(())
 }
 
-#[test]
-fn no_root_is_empty(rt: HostRuntime) -> Result<(), Fail> {
-    let me = Me::new(Geometry::new(3, 1)?, 2);
-    let machine = Calls::new(Copying::new(me, 6, 1, 5));
-    let before = [
+/// Each root of client 2 names another value block.
+const NO_ROOT_IS_EMPTY: Run = Run {
+    total: 2228,
+    before: &[
         (57, 184),
         (58, 184),
         (59, 184),
@@ -145,46 +133,58 @@ fn no_root_is_empty(rt: HostRuntime) -> Result<(), Fail> {
         (70, 184),
         (71, 184),
         (72, 184),
-    ];
-    let steps = [
-        (store(9, 2), 0),
-        (exchange(11, 0, 3), 0),
-        (load(14), 308),
-        (load(315), 452),
-        (load(456), 5),
-        (load(455), 188),
-        (load(190), 70),
-        (load(24), 1),
-        (load(57), 184),
-        (load(58), 184),
-        (load(59), 184),
-        (load(60), 184),
-        (load(61), 184),
-        (load(62), 184),
-        (load(63), 184),
-        (load(64), 184),
-        (load(65), 184),
-        (load(66), 184),
-        (load(67), 184),
-        (load(68), 184),
-        (load(69), 184),
-        (load(70), 184),
-        (load(71), 184),
-        (load(72), 184),
-        (store(11, 0), 0),
-        (store(9, 0), 0),
-    ];
-    let others = [];
-    let answer = Answer::RootsFull;
-    assert!(rt; copied(rt.alloc(), machine, &before, &steps, answer, &others)?);
+    ],
+    steps: &[
+        Store(9, 2),
+        Exchange(11, 0, 3),
+        Load(14, 308),
+        Load(315, 452),
+        Load(456, 5),
+        Load(455, 188),
+        Load(190, 70),
+        Load(24, 1),
+        Load(57, 184),
+        Load(58, 184),
+        Load(59, 184),
+        Load(60, 184),
+        Load(61, 184),
+        Load(62, 184),
+        Load(63, 184),
+        Load(64, 184),
+        Load(65, 184),
+        Load(66, 184),
+        Load(67, 184),
+        Load(68, 184),
+        Load(69, 184),
+        Load(70, 184),
+        Load(71, 184),
+        Load(72, 184),
+        Store(11, 0),
+        Store(9, 0),
+    ],
+    changes: &[],
+};
+
+#[test]
+fn no_root_is_empty(rt: HostRuntime) -> Result<(), Fail> {
+    let me = Me::new(Geometry::new(3, 1)?, 2);
+    let machine: CopyKey = Calls::new(Copying::new(me, 6, 1, 5));
+    assert!(rt;
+        runs_over(
+            rt.alloc(),
+            &TABLE,
+            machine,
+            &NO_ROOT_IS_EMPTY,
+            Answer::RootsFull
+        )?
+    );
     Ok(())
 }
 
-#[test]
-fn one_root_is_empty(rt: HostRuntime) -> Result<(), Fail> {
-    let me = Me::new(Geometry::new(3, 1)?, 2);
-    let machine = Calls::new(Copying::new(me, 6, 1, 5));
-    let before = [
+/// Each root of client 2 but the last one names another value block.
+const ONE_ROOT_IS_EMPTY: Run = Run {
+    total: 2228,
+    before: &[
         (57, 184),
         (58, 184),
         (59, 184),
@@ -200,151 +200,179 @@ fn one_root_is_empty(rt: HostRuntime) -> Result<(), Fail> {
         (69, 184),
         (70, 184),
         (71, 184),
-    ];
-    let steps = [
-        (store(9, 2), 0),
-        (exchange(11, 0, 3), 0),
-        (load(14), 308),
-        (load(315), 452),
-        (load(456), 5),
-        (load(455), 188),
-        (load(190), 70),
-        (load(24), 1),
-        (load(57), 184),
-        (load(58), 184),
-        (load(59), 184),
-        (load(60), 184),
-        (load(61), 184),
-        (load(62), 184),
-        (load(63), 184),
-        (load(64), 184),
-        (load(65), 184),
-        (load(66), 184),
-        (load(67), 184),
-        (load(68), 184),
-        (load(69), 184),
-        (load(70), 184),
-        (load(71), 184),
-        (load(72), 0),
-        (store(6, 2305922174050894012), 0),
-        (load(188), 9367627962418987033),
-        (load(23), 0),
-        (store(23, 25), 0),
-        (
-            exchange(188, 9367627962418987033, 9511883887983198209),
-            9367627962418987033,
-        ),
-        (store(72, 188), 0),
-        (store(24, 2), 0),
-        (store(11, 0), 0),
-        (store(9, 0), 0),
-        (load(15), 0),
-        (load(24), 2),
-        (load(57), 184),
-        (load(58), 184),
-        (load(59), 184),
-        (load(60), 184),
-        (load(61), 184),
-        (load(62), 184),
-        (load(63), 184),
-        (load(64), 184),
-        (load(65), 184),
-        (load(66), 184),
-        (load(67), 184),
-        (load(68), 184),
-        (load(69), 184),
-        (load(70), 184),
-        (load(71), 184),
-        (load(72), 188),
-        (load(72), 188),
-        (load(24), 2),
-        (store(6, 4611765183461720064), 0),
-        (load(188), 9511883887983198209),
-        (
-            exchange(188, 9511883887983198209, 9511743150494842882),
-            9511883887983198209,
-        ),
-        (store(72, 0), 0),
-        (store(24, 3), 0),
-    ];
-    let others = [
-        (6, 4611765183461720064),
+    ],
+    steps: &[
+        Store(9, 2),
+        Exchange(11, 0, 3),
+        Load(14, 308),
+        Load(315, 452),
+        Load(456, 5),
+        Load(455, 188),
+        Load(190, 70),
+        Load(24, 1),
+        Load(57, 184),
+        Load(58, 184),
+        Load(59, 184),
+        Load(60, 184),
+        Load(61, 184),
+        Load(62, 184),
+        Load(63, 184),
+        Load(64, 184),
+        Load(65, 184),
+        Load(66, 184),
+        Load(67, 184),
+        Load(68, 184),
+        Load(69, 184),
+        Load(70, 184),
+        Load(71, 184),
+        Load(72, 0),
+        Store(6, 2_305_922_174_050_894_012),
+        Load(188, 9_367_627_962_418_987_033),
+        Load(23, 0),
+        Store(23, 25),
+        Exchange(188, 9_367_627_962_418_987_033, 9_511_883_887_983_198_209),
+        Store(72, 188),
+        Store(24, 2),
+        Store(11, 0),
+        Store(9, 0),
+        Load(15, 0),
+        Load(24, 2),
+        Load(57, 184),
+        Load(58, 184),
+        Load(59, 184),
+        Load(60, 184),
+        Load(61, 184),
+        Load(62, 184),
+        Load(63, 184),
+        Load(64, 184),
+        Load(65, 184),
+        Load(66, 184),
+        Load(67, 184),
+        Load(68, 184),
+        Load(69, 184),
+        Load(70, 184),
+        Load(71, 184),
+        Load(72, 188),
+        Load(72, 188),
+        Load(24, 2),
+        Store(6, 4_611_765_183_461_720_064),
+        Load(188, 9_511_883_887_983_198_209),
+        Exchange(188, 9_511_883_887_983_198_209, 9_511_743_150_494_842_882),
+        Store(72, 0),
+        Store(24, 3),
+    ],
+    changes: &[
+        (6, 4_611_765_183_461_720_064),
         (23, 25),
         (24, 3),
-        (188, 9511743150494842882),
-    ];
-    let answer = Answer::RootsFull;
-    assert!(rt; copied(rt.alloc(), machine, &before, &steps, answer, &others)?);
+        (188, 9_511_743_150_494_842_882),
+    ],
+};
+
+#[test]
+fn one_root_is_empty(rt: HostRuntime) -> Result<(), Fail> {
+    let me = Me::new(Geometry::new(3, 1)?, 2);
+    let machine: CopyKey = Calls::new(Copying::new(me, 6, 1, 5));
+    assert!(rt;
+        runs_over(
+            rt.alloc(),
+            &TABLE,
+            machine,
+            &ONE_ROOT_IS_EMPTY,
+            Answer::RootsFull
+        )?
+    );
     Ok(())
 }
+
+/// The own era of client 2 is 2^47 - 2.
+const NO_ERA_IS_LEFT_FOR_THE_ROOT: Run = Run {
+    total: 2228,
+    before: &[(24, 140_737_488_355_326)],
+    steps: &[
+        Store(9, 2),
+        Exchange(11, 0, 3),
+        Load(14, 308),
+        Load(315, 452),
+        Load(456, 5),
+        Load(455, 188),
+        Load(190, 70),
+        Load(24, 140_737_488_355_326),
+        Store(11, 0),
+        Store(9, 0),
+    ],
+    changes: &[],
+};
 
 #[test]
 fn no_era_is_left_for_the_root(rt: HostRuntime) -> Result<(), Fail> {
     let me = Me::new(Geometry::new(3, 1)?, 2);
-    let machine = Calls::new(Copying::new(me, 6, 1, 5));
-    let before = [(24, 140737488355326)];
-    let steps = [
-        (store(9, 2), 0),
-        (exchange(11, 0, 3), 0),
-        (load(14), 308),
-        (load(315), 452),
-        (load(456), 5),
-        (load(455), 188),
-        (load(190), 70),
-        (load(24), 140737488355326),
-        (store(11, 0), 0),
-        (store(9, 0), 0),
-    ];
-    let others = [];
-    let answer = Answer::EraSpent {
-        era: 140737488355326,
-    };
-    assert!(rt; copied(rt.alloc(), machine, &before, &steps, answer, &others)?);
+    let machine: CopyKey = Calls::new(Copying::new(me, 6, 1, 5));
+    assert!(rt;
+        runs_over(
+            rt.alloc(),
+            &TABLE,
+            machine,
+            &NO_ERA_IS_LEFT_FOR_THE_ROOT,
+            Answer::EraSpent {
+                era: 140_737_488_355_326
+            }
+        )?
+    );
     Ok(())
 }
+
+/// The own era of client 2 is 2^47 - 3.
+const NO_ERA_IS_LEFT_AFTER_THE_ROOT: Run = Run {
+    total: 2228,
+    before: &[(24, 140_737_488_355_325)],
+    steps: &[
+        Store(9, 2),
+        Exchange(11, 0, 3),
+        Load(14, 308),
+        Load(315, 452),
+        Load(456, 5),
+        Load(455, 188),
+        Load(190, 70),
+        Load(24, 140_737_488_355_325),
+        Load(57, 0),
+        Store(6, 2_305_905_681_376_477_372),
+        Load(188, 9_367_627_962_418_987_033),
+        Load(23, 0),
+        Store(23, 25),
+        Exchange(188, 9_367_627_962_418_987_033, 9_512_024_625_471_553_533),
+        Store(57, 188),
+        Store(24, 140_737_488_355_326),
+        Store(11, 0),
+        Store(9, 0),
+        Load(15, 0),
+        Load(24, 140_737_488_355_326),
+        Load(57, 188),
+        Load(24, 140_737_488_355_326),
+    ],
+    changes: &[
+        (6, 2_305_905_681_376_477_372),
+        (23, 25),
+        (24, 140_737_488_355_326),
+        (57, 188),
+        (188, 9_512_024_625_471_553_533),
+    ],
+};
 
 #[test]
 fn no_era_is_left_after_the_root(rt: HostRuntime) -> Result<(), Fail> {
     let me = Me::new(Geometry::new(3, 1)?, 2);
-    let machine = Calls::new(Copying::new(me, 6, 1, 5));
-    let before = [(24, 140737488355325)];
-    let steps = [
-        (store(9, 2), 0),
-        (exchange(11, 0, 3), 0),
-        (load(14), 308),
-        (load(315), 452),
-        (load(456), 5),
-        (load(455), 188),
-        (load(190), 70),
-        (load(24), 140737488355325),
-        (load(57), 0),
-        (store(6, 2305905681376477372), 0),
-        (load(188), 9367627962418987033),
-        (load(23), 0),
-        (store(23, 25), 0),
-        (
-            exchange(188, 9367627962418987033, 9512024625471553533),
-            9367627962418987033,
-        ),
-        (store(57, 188), 0),
-        (store(24, 140737488355326), 0),
-        (store(11, 0), 0),
-        (store(9, 0), 0),
-        (load(15), 0),
-        (load(24), 140737488355326),
-        (load(57), 188),
-        (load(24), 140737488355326),
-    ];
-    let others = [
-        (6, 2305905681376477372),
-        (23, 25),
-        (24, 140737488355326),
-        (57, 188),
-        (188, 9512024625471553533),
-    ];
-    let answer = Answer::EraSpent {
-        era: 140737488355326,
-    };
-    assert!(rt; copied(rt.alloc(), machine, &before, &steps, answer, &others)?);
+    let machine: CopyKey = Calls::new(Copying::new(me, 6, 1, 5));
+    assert!(rt;
+        runs_over(
+            rt.alloc(),
+            &TABLE,
+            machine,
+            &NO_ERA_IS_LEFT_AFTER_THE_ROOT,
+            Answer::EraSpent {
+                era: 140_737_488_355_326
+            }
+        )?
+    );
     Ok(())
 }

@@ -24,7 +24,6 @@ ghost use Rattle.shm_table.specs.CopyMachines.{CopyFits, CopyGives, FetchFits, F
 ghost use Rattle.shm_table.specs.FetchControl.{fetch_parts, fetching};
 ghost use Rattle.shm_table.specs.FetchFits.{FetchLeaves, MayFetch, fetch_plan, fetch_steps};
 ghost use Rattle.shm_table.specs.PutRootFits.{HasSearch};
-ghost use Rattle.shm_table.specs.Staying.{SameMap};
 
 /// The reading of what a key has, with a root, fits each memo of a client between two calls, in a pool for tables, with no latch.
 pub fn fetch_begins()

@@ -1,18 +1,21 @@
 //! Keys removed at the end of a bucket and with the last eras, and keys that are missing or stay, against an independent implementation.
 
-use crate::entry_tests::{exchange, follow, load, put_words, store, words_of};
 use crate::{Del, DelAnswer, Deleting};
 use shm_calls::Calls;
 use shm_count::UpFault;
 use shm_graph::Me;
+use shm_runs::Step::{Exchange, Load, Store};
+use shm_runs::{Run, TABLE, runs};
 use shm_words::Geometry;
 use std::test::Fail;
 
-#[test]
-fn the_last_key_of_a_bucket_is_removed(rt: HostRuntime) -> Result<(), Fail> {
-    let me = Me::new(Geometry::new(1, 1)?, 0);
-    // the bucket has the keys 37, 21 and 5
-    let before = [
+// one client, which has joined: redo record at 2, hold word at 3, latch at 4, home at 5, own era at 6, roots from 7, segment at 33 and pages
+// from 34
+
+/// The bucket has the keys 37, 21 and 5.
+const THE_LAST_KEY_OF_A_BUCKET_IS_REMOVED: Run = Run {
+    total: 2098,
+    before: &[
         (1, 1),
         (2, 4_611_693_715_069_599_744),
         (5, 178),
@@ -47,50 +50,44 @@ fn the_last_key_of_a_bucket_is_removed(rt: HostRuntime) -> Result<(), Fail> {
         (324, 314),
         (325, 58),
         (326, 37),
-    ];
-    let steps = [
-        (store(3, 1), 0),
-        (exchange(4, 0, 1), 0),
-        (load(5), 178),
-        (load(185), 322),
-        (load(326), 37),
-        (load(324), 314),
-        (load(318), 21),
-        (load(316), 306),
-        (load(310), 5),
-        (load(308), 0),
-        (load(6), 26),
-        (store(2, 4_612_033_464_422_629_376), 0),
-        (load(306), 9_223_512_774_343_131_151),
-        (
-            exchange(306, 9_223_512_774_343_131_151, 9_223_372_036_854_775_834),
-            9_223_512_774_343_131_151,
-        ),
-        (store(316, 0), 0),
-        (store(6, 27), 0),
-        (load(307), 2_214_592_512),
-        (load(308), 0),
-        (load(309), 50),
-        (load(6), 27),
-        (store(2, 4_612_025_767_572_799_488), 0),
-        (load(50), 9_223_512_774_343_131_145),
-        (
-            exchange(50, 9_223_512_774_343_131_145, 9_223_372_036_854_775_835),
-            9_223_512_774_343_131_145,
-        ),
-        (store(309, 0), 0),
-        (store(6, 28), 0),
-        (load(51), 67_108_864),
-        (store(51, 67_109_170), 0),
-        (store(50, 0), 0),
-        (load(307), 2_214_592_512),
-        (load(308), 0),
-        (load(309), 0),
-        (store(306, 0), 0),
-        (store(4, 0), 0),
-        (store(3, 0), 0),
-    ];
-    let changes = [
+    ],
+    steps: &[
+        Store(3, 1),
+        Exchange(4, 0, 1),
+        Load(5, 178),
+        Load(185, 322),
+        Load(326, 37),
+        Load(324, 314),
+        Load(318, 21),
+        Load(316, 306),
+        Load(310, 5),
+        Load(308, 0),
+        Load(6, 26),
+        Store(2, 4_612_033_464_422_629_376),
+        Load(306, 9_223_512_774_343_131_151),
+        Exchange(306, 9_223_512_774_343_131_151, 9_223_372_036_854_775_834),
+        Store(316, 0),
+        Store(6, 27),
+        Load(307, 2_214_592_512),
+        Load(308, 0),
+        Load(309, 50),
+        Load(6, 27),
+        Store(2, 4_612_025_767_572_799_488),
+        Load(50, 9_223_512_774_343_131_145),
+        Exchange(50, 9_223_512_774_343_131_145, 9_223_372_036_854_775_835),
+        Store(309, 0),
+        Store(6, 28),
+        Load(51, 67_108_864),
+        Store(51, 67_109_170),
+        Store(50, 0),
+        Load(307, 2_214_592_512),
+        Load(308, 0),
+        Load(309, 0),
+        Store(306, 0),
+        Store(4, 0),
+        Store(3, 0),
+    ],
+    changes: &[
         (2, 4_612_025_767_572_799_488),
         (6, 28),
         (50, 0),
@@ -98,24 +95,28 @@ fn the_last_key_of_a_bucket_is_removed(rt: HostRuntime) -> Result<(), Fail> {
         (306, 0),
         (309, 0),
         (316, 0),
-    ];
-    let mut words = words_of(rt.alloc(), 2098, &before)?;
-    let mut machine: Del = Calls::new(Deleting::new(me, 5));
-    assert_eq!(rt;
-        follow(&mut machine, &mut words, &steps),
-        Some(DelAnswer::Removed)
+    ],
+};
+
+#[test]
+fn the_last_key_of_a_bucket_is_removed(rt: HostRuntime) -> Result<(), Fail> {
+    let me = Me::new(Geometry::new(1, 1)?, 0);
+    let machine: Del = Calls::new(Deleting::new(me, 5));
+    assert!(rt;
+        runs(
+            rt.alloc(),
+            machine,
+            &THE_LAST_KEY_OF_A_BUCKET_IS_REMOVED,
+            DelAnswer::Removed
+        )?
     );
-    let mut after = words_of(rt.alloc(), 2098, &before)?;
-    put_words(&mut after, &changes);
-    assert_eq!(rt; words.as_slice(), after.as_slice());
     Ok(())
 }
 
-#[test]
-fn another_key_of_the_bucket_is_missing(rt: HostRuntime) -> Result<(), Fail> {
-    let me = Me::new(Geometry::new(1, 1)?, 0);
-    // the bucket has the keys 21 and 5
-    let before = [
+/// The bucket has the keys 21 and 5.
+const ANOTHER_KEY_OF_THE_BUCKET_IS_MISSING: Run = Run {
+    total: 2098,
+    before: &[
         (1, 1),
         (2, 4_611_693_715_065_405_440),
         (5, 178),
@@ -142,62 +143,70 @@ fn another_key_of_the_bucket_is_missing(rt: HostRuntime) -> Result<(), Fail> {
         (316, 306),
         (317, 54),
         (318, 21),
-    ];
-    let steps = [
-        (store(3, 1), 0),
-        (exchange(4, 0, 1), 0),
-        (load(5), 178),
-        (load(185), 314),
-        (load(318), 21),
-        (load(316), 306),
-        (load(310), 5),
-        (load(308), 0),
-        (store(4, 0), 0),
-        (store(3, 0), 0),
-    ];
-    let mut words = words_of(rt.alloc(), 2098, &before)?;
-    let mut machine: Del = Calls::new(Deleting::new(me, 53));
-    assert_eq!(rt;
-        follow(&mut machine, &mut words, &steps),
-        Some(DelAnswer::Missing)
-    );
-    assert_eq!(rt;
-        words.as_slice(),
-        words_of(rt.alloc(), 2098, &before)?.as_slice()
+    ],
+    steps: &[
+        Store(3, 1),
+        Exchange(4, 0, 1),
+        Load(5, 178),
+        Load(185, 314),
+        Load(318, 21),
+        Load(316, 306),
+        Load(310, 5),
+        Load(308, 0),
+        Store(4, 0),
+        Store(3, 0),
+    ],
+    changes: &[],
+};
+
+#[test]
+fn another_key_of_the_bucket_is_missing(rt: HostRuntime) -> Result<(), Fail> {
+    let me = Me::new(Geometry::new(1, 1)?, 0);
+    let machine: Del = Calls::new(Deleting::new(me, 53));
+    assert!(rt;
+        runs(
+            rt.alloc(),
+            machine,
+            &ANOTHER_KEY_OF_THE_BUCKET_IS_MISSING,
+            DelAnswer::Missing
+        )?
     );
     Ok(())
 }
+
+/// There is no directory.
+const A_KEY_OF_NO_TABLE_IS_MISSING: Run = Run {
+    total: 2098,
+    before: &[(1, 1), (6, 1)],
+    steps: &[
+        Store(3, 1),
+        Exchange(4, 0, 1),
+        Load(5, 0),
+        Store(4, 0),
+        Store(3, 0),
+    ],
+    changes: &[],
+};
 
 #[test]
 fn a_key_of_no_table_is_missing(rt: HostRuntime) -> Result<(), Fail> {
     let me = Me::new(Geometry::new(1, 1)?, 0);
-    // there is no directory
-    let before = [(1, 1), (6, 1)];
-    let steps = [
-        (store(3, 1), 0),
-        (exchange(4, 0, 1), 0),
-        (load(5), 0),
-        (store(4, 0), 0),
-        (store(3, 0), 0),
-    ];
-    let mut words = words_of(rt.alloc(), 2098, &before)?;
-    let mut machine: Del = Calls::new(Deleting::new(me, 5));
-    assert_eq!(rt;
-        follow(&mut machine, &mut words, &steps),
-        Some(DelAnswer::Missing)
-    );
-    assert_eq!(rt;
-        words.as_slice(),
-        words_of(rt.alloc(), 2098, &before)?.as_slice()
+    let machine: Del = Calls::new(Deleting::new(me, 5));
+    assert!(rt;
+        runs(
+            rt.alloc(),
+            machine,
+            &A_KEY_OF_NO_TABLE_IS_MISSING,
+            DelAnswer::Missing
+        )?
     );
     Ok(())
 }
 
-#[test]
-fn a_key_stays_where_no_era_is_left(rt: HostRuntime) -> Result<(), Fail> {
-    let me = Me::new(Geometry::new(1, 1)?, 0);
-    // the own era leaves room for no step
-    let before = [
+/// The own era leaves room for no step.
+const A_KEY_STAYS_WHERE_NO_ERA_IS_LEFT: Run = Run {
+    total: 2098,
+    before: &[
         (1, 1),
         (2, 4_611_693_715_061_211_136),
         (5, 178),
@@ -216,38 +225,42 @@ fn a_key_stays_where_no_era_is_left(rt: HostRuntime) -> Result<(), Fail> {
         (307, 2_214_592_512),
         (309, 50),
         (310, 5),
-    ];
-    let steps = [
-        (store(3, 1), 0),
-        (exchange(4, 0, 1), 0),
-        (load(5), 178),
-        (load(185), 306),
-        (load(310), 5),
-        (load(308), 0),
-        (load(6), 140_737_488_355_326),
-        (store(4, 0), 0),
-        (store(3, 0), 0),
-    ];
-    let mut words = words_of(rt.alloc(), 2098, &before)?;
-    let mut machine: Del = Calls::new(Deleting::new(me, 5));
-    assert_eq!(rt;
-        follow(&mut machine, &mut words, &steps),
-        Some(DelAnswer::Refused(UpFault::EraSpent {
-            era: 140_737_488_355_326
-        }))
-    );
-    assert_eq!(rt;
-        words.as_slice(),
-        words_of(rt.alloc(), 2098, &before)?.as_slice()
+    ],
+    steps: &[
+        Store(3, 1),
+        Exchange(4, 0, 1),
+        Load(5, 178),
+        Load(185, 306),
+        Load(310, 5),
+        Load(308, 0),
+        Load(6, 140_737_488_355_326),
+        Store(4, 0),
+        Store(3, 0),
+    ],
+    changes: &[],
+};
+
+#[test]
+fn a_key_stays_where_no_era_is_left(rt: HostRuntime) -> Result<(), Fail> {
+    let me = Me::new(Geometry::new(1, 1)?, 0);
+    let machine: Del = Calls::new(Deleting::new(me, 5));
+    assert!(rt;
+        runs(
+            rt.alloc(),
+            machine,
+            &A_KEY_STAYS_WHERE_NO_ERA_IS_LEFT,
+            DelAnswer::Refused(UpFault::EraSpent {
+                era: 140_737_488_355_326
+            })
+        )?
     );
     Ok(())
 }
 
-#[test]
-fn a_key_stays_before_a_full_entry(rt: HostRuntime) -> Result<(), Fail> {
-    let me = Me::new(Geometry::new(1, 1)?, 0);
-    // the next entry has the greatest count
-    let before = [
+/// The next entry has the greatest count.
+const A_KEY_STAYS_BEFORE_A_FULL_ENTRY: Run = Run {
+    total: 2098,
+    before: &[
         (1, 1),
         (2, 4_611_693_715_065_405_440),
         (5, 178),
@@ -274,41 +287,45 @@ fn a_key_stays_before_a_full_entry(rt: HostRuntime) -> Result<(), Fail> {
         (316, 306),
         (317, 54),
         (318, 21),
-    ];
-    let steps = [
-        (store(3, 1), 0),
-        (exchange(4, 0, 1), 0),
-        (load(5), 178),
-        (load(185), 314),
-        (load(318), 21),
-        (load(316), 306),
-        (load(6), 18),
-        (store(2, 6_917_732_437_621_473_586), 0),
-        (load(306), 9_367_346_487_442_276_367),
-        (store(4, 0), 0),
-        (store(3, 0), 0),
-    ];
-    let changes = [(2, 6_917_732_437_621_473_586)];
-    let mut words = words_of(rt.alloc(), 2098, &before)?;
-    let mut machine: Del = Calls::new(Deleting::new(me, 21));
-    assert_eq!(rt;
-        follow(&mut machine, &mut words, &steps),
-        Some(DelAnswer::Refused(UpFault::CountFull {
-            block: 306,
-            count: 1023
-        }))
+    ],
+    steps: &[
+        Store(3, 1),
+        Exchange(4, 0, 1),
+        Load(5, 178),
+        Load(185, 314),
+        Load(318, 21),
+        Load(316, 306),
+        Load(6, 18),
+        Store(2, 6_917_732_437_621_473_586),
+        Load(306, 9_367_346_487_442_276_367),
+        Store(4, 0),
+        Store(3, 0),
+    ],
+    changes: &[(2, 6_917_732_437_621_473_586)],
+};
+
+#[test]
+fn a_key_stays_before_a_full_entry(rt: HostRuntime) -> Result<(), Fail> {
+    let me = Me::new(Geometry::new(1, 1)?, 0);
+    let machine: Del = Calls::new(Deleting::new(me, 21));
+    assert!(rt;
+        runs(
+            rt.alloc(),
+            machine,
+            &A_KEY_STAYS_BEFORE_A_FULL_ENTRY,
+            DelAnswer::Refused(UpFault::CountFull {
+                block: 306,
+                count: 1023
+            })
+        )?
     );
-    let mut after = words_of(rt.alloc(), 2098, &before)?;
-    put_words(&mut after, &changes);
-    assert_eq!(rt; words.as_slice(), after.as_slice());
     Ok(())
 }
 
-#[test]
-fn a_key_is_removed_with_the_last_era(rt: HostRuntime) -> Result<(), Fail> {
-    let me = Me::new(Geometry::new(1, 1)?, 0);
-    // the own era leaves room for one step down
-    let before = [
+/// The own era leaves room for one step down.
+const A_KEY_IS_REMOVED_WITH_THE_LAST_ERA: Run = Run {
+    total: 2098,
+    before: &[
         (1, 1),
         (2, 4_611_693_715_061_211_136),
         (5, 178),
@@ -327,44 +344,46 @@ fn a_key_is_removed_with_the_last_era(rt: HostRuntime) -> Result<(), Fail> {
         (307, 2_214_592_512),
         (309, 50),
         (310, 5),
-    ];
-    let steps = [
-        (store(3, 1), 0),
-        (exchange(4, 0, 1), 0),
-        (load(5), 178),
-        (load(185), 306),
-        (load(310), 5),
-        (load(308), 0),
-        (load(6), 140_737_488_355_325),
-        (store(2, 4_611_889_428_399_390_720), 0),
-        (load(306), 9_223_653_511_831_486_459),
-        (
-            exchange(306, 9_223_653_511_831_486_459, 9_223_512_774_343_131_133),
-            9_223_653_511_831_486_459,
-        ),
-        (store(185, 0), 0),
-        (store(6, 140_737_488_355_326), 0),
-        (load(307), 2_214_592_512),
-        (load(308), 0),
-        (load(309), 50),
-        (load(6), 140_737_488_355_326),
-        (store(4, 0), 0),
-        (store(3, 0), 0),
-    ];
-    let changes = [
+    ],
+    steps: &[
+        Store(3, 1),
+        Exchange(4, 0, 1),
+        Load(5, 178),
+        Load(185, 306),
+        Load(310, 5),
+        Load(308, 0),
+        Load(6, 140_737_488_355_325),
+        Store(2, 4_611_889_428_399_390_720),
+        Load(306, 9_223_653_511_831_486_459),
+        Exchange(306, 9_223_653_511_831_486_459, 9_223_512_774_343_131_133),
+        Store(185, 0),
+        Store(6, 140_737_488_355_326),
+        Load(307, 2_214_592_512),
+        Load(308, 0),
+        Load(309, 50),
+        Load(6, 140_737_488_355_326),
+        Store(4, 0),
+        Store(3, 0),
+    ],
+    changes: &[
         (2, 4_611_889_428_399_390_720),
         (6, 140_737_488_355_326),
         (185, 0),
         (306, 9_223_512_774_343_131_133),
-    ];
-    let mut words = words_of(rt.alloc(), 2098, &before)?;
-    let mut machine: Del = Calls::new(Deleting::new(me, 5));
-    assert_eq!(rt;
-        follow(&mut machine, &mut words, &steps),
-        Some(DelAnswer::Removed)
+    ],
+};
+
+#[test]
+fn a_key_is_removed_with_the_last_era(rt: HostRuntime) -> Result<(), Fail> {
+    let me = Me::new(Geometry::new(1, 1)?, 0);
+    let machine: Del = Calls::new(Deleting::new(me, 5));
+    assert!(rt;
+        runs(
+            rt.alloc(),
+            machine,
+            &A_KEY_IS_REMOVED_WITH_THE_LAST_ERA,
+            DelAnswer::Removed
+        )?
     );
-    let mut after = words_of(rt.alloc(), 2098, &before)?;
-    put_words(&mut after, &changes);
-    assert_eq!(rt; words.as_slice(), after.as_slice());
     Ok(())
 }

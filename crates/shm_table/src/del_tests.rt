@@ -1,17 +1,20 @@
 //! Keys removed, step by step and on the words of a pool, against an independent implementation.
 
-use crate::entry_tests::{exchange, follow, load, put_words, store, words_of};
 use crate::{Del, DelAnswer, Deleting};
 use shm_calls::Calls;
 use shm_graph::Me;
+use shm_runs::Step::{Exchange, Load, Store};
+use shm_runs::{Run, runs};
 use shm_words::Geometry;
 use std::test::Fail;
 
-#[test]
-fn the_only_key_is_removed(rt: HostRuntime) -> Result<(), Fail> {
-    let me = Me::new(Geometry::new(1, 1)?, 0);
-    // the table has the key 5 alone
-    let before = [
+// one client, which has joined: redo record at 2, hold word at 3, latch at 4, home at 5, own era at 6, roots from 7, segment at 33 and pages
+// from 34
+
+/// The table has the key 5 alone.
+const THE_ONLY_KEY_IS_REMOVED: Run = Run {
+    total: 2098,
+    before: &[
         (1, 1),
         (2, 4_611_693_715_065_405_440),
         (5, 178),
@@ -32,46 +35,40 @@ fn the_only_key_is_removed(rt: HostRuntime) -> Result<(), Fail> {
         (307, 2_214_592_512),
         (309, 54),
         (310, 5),
-    ];
-    let steps = [
-        (store(3, 1), 0),
-        (exchange(4, 0, 1), 0),
-        (load(5), 178),
-        (load(185), 306),
-        (load(310), 5),
-        (load(308), 0),
-        (load(6), 14),
-        (store(2, 4_611_889_428_399_390_720), 0),
-        (load(306), 9_223_512_774_343_131_144),
-        (
-            exchange(306, 9_223_512_774_343_131_144, 9_223_372_036_854_775_822),
-            9_223_512_774_343_131_144,
-        ),
-        (store(185, 0), 0),
-        (store(6, 15), 0),
-        (load(307), 2_214_592_512),
-        (load(308), 0),
-        (load(309), 54),
-        (load(6), 15),
-        (store(2, 4_612_025_767_576_993_792), 0),
-        (load(54), 9_223_512_774_343_131_149),
-        (
-            exchange(54, 9_223_512_774_343_131_149, 9_223_372_036_854_775_823),
-            9_223_512_774_343_131_149,
-        ),
-        (store(309, 0), 0),
-        (store(6, 16), 0),
-        (load(55), 67_108_864),
-        (store(55, 67_109_170), 0),
-        (store(54, 0), 0),
-        (load(307), 2_214_592_512),
-        (load(308), 0),
-        (load(309), 0),
-        (store(306, 0), 0),
-        (store(4, 0), 0),
-        (store(3, 0), 0),
-    ];
-    let changes = [
+    ],
+    steps: &[
+        Store(3, 1),
+        Exchange(4, 0, 1),
+        Load(5, 178),
+        Load(185, 306),
+        Load(310, 5),
+        Load(308, 0),
+        Load(6, 14),
+        Store(2, 4_611_889_428_399_390_720),
+        Load(306, 9_223_512_774_343_131_144),
+        Exchange(306, 9_223_512_774_343_131_144, 9_223_372_036_854_775_822),
+        Store(185, 0),
+        Store(6, 15),
+        Load(307, 2_214_592_512),
+        Load(308, 0),
+        Load(309, 54),
+        Load(6, 15),
+        Store(2, 4_612_025_767_576_993_792),
+        Load(54, 9_223_512_774_343_131_149),
+        Exchange(54, 9_223_512_774_343_131_149, 9_223_372_036_854_775_823),
+        Store(309, 0),
+        Store(6, 16),
+        Load(55, 67_108_864),
+        Store(55, 67_109_170),
+        Store(54, 0),
+        Load(307, 2_214_592_512),
+        Load(308, 0),
+        Load(309, 0),
+        Store(306, 0),
+        Store(4, 0),
+        Store(3, 0),
+    ],
+    changes: &[
         (2, 4_612_025_767_576_993_792),
         (6, 16),
         (54, 0),
@@ -79,24 +76,28 @@ fn the_only_key_is_removed(rt: HostRuntime) -> Result<(), Fail> {
         (185, 0),
         (306, 0),
         (309, 0),
-    ];
-    let mut words = words_of(rt.alloc(), 2098, &before)?;
-    let mut machine: Del = Calls::new(Deleting::new(me, 5));
-    assert_eq!(rt;
-        follow(&mut machine, &mut words, &steps),
-        Some(DelAnswer::Removed)
+    ],
+};
+
+#[test]
+fn the_only_key_is_removed(rt: HostRuntime) -> Result<(), Fail> {
+    let me = Me::new(Geometry::new(1, 1)?, 0);
+    let machine: Del = Calls::new(Deleting::new(me, 5));
+    assert!(rt;
+        runs(
+            rt.alloc(),
+            machine,
+            &THE_ONLY_KEY_IS_REMOVED,
+            DelAnswer::Removed
+        )?
     );
-    let mut after = words_of(rt.alloc(), 2098, &before)?;
-    put_words(&mut after, &changes);
-    assert_eq!(rt; words.as_slice(), after.as_slice());
     Ok(())
 }
 
-#[test]
-fn a_removed_key_is_missing(rt: HostRuntime) -> Result<(), Fail> {
-    let me = Me::new(Geometry::new(1, 1)?, 0);
-    // the table had the key 5
-    let before = [
+/// The table had the key 5.
+const A_REMOVED_KEY_IS_MISSING: Run = Run {
+    total: 2098,
+    before: &[
         (1, 1),
         (2, 4_612_025_767_576_993_792),
         (5, 178),
@@ -113,33 +114,37 @@ fn a_removed_key_is_missing(rt: HostRuntime) -> Result<(), Fail> {
         (179, 17_179_869_184),
         (307, 2_214_592_512),
         (310, 5),
-    ];
-    let steps = [
-        (store(3, 1), 0),
-        (exchange(4, 0, 1), 0),
-        (load(5), 178),
-        (load(185), 0),
-        (store(4, 0), 0),
-        (store(3, 0), 0),
-    ];
-    let mut words = words_of(rt.alloc(), 2098, &before)?;
-    let mut machine: Del = Calls::new(Deleting::new(me, 5));
-    assert_eq!(rt;
-        follow(&mut machine, &mut words, &steps),
-        Some(DelAnswer::Missing)
-    );
-    assert_eq!(rt;
-        words.as_slice(),
-        words_of(rt.alloc(), 2098, &before)?.as_slice()
+    ],
+    steps: &[
+        Store(3, 1),
+        Exchange(4, 0, 1),
+        Load(5, 178),
+        Load(185, 0),
+        Store(4, 0),
+        Store(3, 0),
+    ],
+    changes: &[],
+};
+
+#[test]
+fn a_removed_key_is_missing(rt: HostRuntime) -> Result<(), Fail> {
+    let me = Me::new(Geometry::new(1, 1)?, 0);
+    let machine: Del = Calls::new(Deleting::new(me, 5));
+    assert!(rt;
+        runs(
+            rt.alloc(),
+            machine,
+            &A_REMOVED_KEY_IS_MISSING,
+            DelAnswer::Missing
+        )?
     );
     Ok(())
 }
 
-#[test]
-fn a_value_that_another_names_stays(rt: HostRuntime) -> Result<(), Fail> {
-    let me = Me::new(Geometry::new(2, 2)?, 0);
-    // an entry of client 1 names the value block too
-    let before = [
+/// An entry of client 1 names the value block too.
+const A_VALUE_THAT_ANOTHER_NAMES_STAYS: Run = Run {
+    total: 4217,
+    before: &[
         (1, 1),
         (2, 1),
         (3, 4_611_702_511_228_682_240),
@@ -173,42 +178,36 @@ fn a_value_that_another_names_stays(rt: HostRuntime) -> Result<(), Fail> {
         (2298, 2_215_641_088),
         (2300, 121),
         (2301, 9),
-    ];
-    let steps = [
-        (store(5, 1), 0),
-        (exchange(7, 0, 1), 0),
-        (load(9), 249),
-        (load(256), 377),
-        (load(381), 5),
-        (load(379), 0),
-        (load(11), 10),
-        (store(3, 4_611_967_493_799_411_712), 0),
-        (load(377), 9_223_512_774_343_131_144),
-        (
-            exchange(377, 9_223_512_774_343_131_144, 9_223_372_036_854_775_818),
-            9_223_512_774_343_131_144,
-        ),
-        (store(256, 0), 0),
-        (store(11, 11), 0),
-        (load(378), 2_214_592_512),
-        (load(379), 0),
-        (load(380), 121),
-        (load(11), 11),
-        (store(3, 4_612_103_832_972_820_480), 0),
-        (load(121), 9_367_768_699_907_342_345),
-        (load(12), 0),
-        (store(12, 9), 0),
-        (
-            exchange(121, 9_367_768_699_907_342_345, 9_223_512_774_343_131_147),
-            9_367_768_699_907_342_345,
-        ),
-        (store(380, 0), 0),
-        (store(11, 12), 0),
-        (store(377, 0), 0),
-        (store(7, 0), 0),
-        (store(5, 0), 0),
-    ];
-    let changes = [
+    ],
+    steps: &[
+        Store(5, 1),
+        Exchange(7, 0, 1),
+        Load(9, 249),
+        Load(256, 377),
+        Load(381, 5),
+        Load(379, 0),
+        Load(11, 10),
+        Store(3, 4_611_967_493_799_411_712),
+        Load(377, 9_223_512_774_343_131_144),
+        Exchange(377, 9_223_512_774_343_131_144, 9_223_372_036_854_775_818),
+        Store(256, 0),
+        Store(11, 11),
+        Load(378, 2_214_592_512),
+        Load(379, 0),
+        Load(380, 121),
+        Load(11, 11),
+        Store(3, 4_612_103_832_972_820_480),
+        Load(121, 9_367_768_699_907_342_345),
+        Load(12, 0),
+        Store(12, 9),
+        Exchange(121, 9_367_768_699_907_342_345, 9_223_512_774_343_131_147),
+        Store(380, 0),
+        Store(11, 12),
+        Store(377, 0),
+        Store(7, 0),
+        Store(5, 0),
+    ],
+    changes: &[
         (3, 4_612_103_832_972_820_480),
         (11, 12),
         (12, 9),
@@ -216,24 +215,28 @@ fn a_value_that_another_names_stays(rt: HostRuntime) -> Result<(), Fail> {
         (256, 0),
         (377, 0),
         (380, 0),
-    ];
-    let mut words = words_of(rt.alloc(), 4217, &before)?;
-    let mut machine: Del = Calls::new(Deleting::new(me, 5));
-    assert_eq!(rt;
-        follow(&mut machine, &mut words, &steps),
-        Some(DelAnswer::Removed)
+    ],
+};
+
+#[test]
+fn a_value_that_another_names_stays(rt: HostRuntime) -> Result<(), Fail> {
+    let me = Me::new(Geometry::new(2, 2)?, 0);
+    let machine: Del = Calls::new(Deleting::new(me, 5));
+    assert!(rt;
+        runs(
+            rt.alloc(),
+            machine,
+            &A_VALUE_THAT_ANOTHER_NAMES_STAYS,
+            DelAnswer::Removed
+        )?
     );
-    let mut after = words_of(rt.alloc(), 4217, &before)?;
-    put_words(&mut after, &changes);
-    assert_eq!(rt; words.as_slice(), after.as_slice());
     Ok(())
 }
 
-#[test]
-fn the_first_key_of_a_bucket_is_removed(rt: HostRuntime) -> Result<(), Fail> {
-    let me = Me::new(Geometry::new(1, 1)?, 0);
-    // the bucket has the keys 37, 21 and 5
-    let before = [
+/// The bucket has the keys 37, 21 and 5.
+const THE_FIRST_KEY_OF_A_BUCKET_IS_REMOVED: Run = Run {
+    total: 2098,
+    before: &[
         (1, 1),
         (2, 4_611_693_715_069_599_744),
         (5, 178),
@@ -268,61 +271,49 @@ fn the_first_key_of_a_bucket_is_removed(rt: HostRuntime) -> Result<(), Fail> {
         (324, 314),
         (325, 58),
         (326, 37),
-    ];
-    let steps = [
-        (store(3, 1), 0),
-        (exchange(4, 0, 1), 0),
-        (load(5), 178),
-        (load(185), 322),
-        (load(326), 37),
-        (load(324), 314),
-        (load(6), 26),
-        (store(2, 6_917_732_437_629_862_202), 0),
-        (load(314), 9_223_512_774_343_131_159),
-        (
-            exchange(314, 9_223_512_774_343_131_159, 9_223_653_511_831_486_490),
-            9_223_512_774_343_131_159,
-        ),
-        (store(185, 314), 0),
-        (store(6, 27), 0),
-        (load(322), 9_223_512_774_343_131_160),
-        (
-            exchange(322, 9_223_512_774_343_131_160, 9_223_372_036_854_775_835),
-            9_223_512_774_343_131_160,
-        ),
-        (store(6, 28), 0),
-        (load(323), 2_214_592_512),
-        (load(324), 314),
-        (load(6), 28),
-        (store(2, 4_612_042_260_524_040_192), 0),
-        (load(314), 9_223_653_511_831_486_490),
-        (
-            exchange(314, 9_223_653_511_831_486_490, 9_223_512_774_343_131_164),
-            9_223_653_511_831_486_490,
-        ),
-        (store(324, 0), 0),
-        (store(6, 29), 0),
-        (load(325), 58),
-        (load(6), 29),
-        (store(2, 4_612_043_359_767_232_512), 0),
-        (load(58), 9_223_512_774_343_131_161),
-        (
-            exchange(58, 9_223_512_774_343_131_161, 9_223_372_036_854_775_837),
-            9_223_512_774_343_131_161,
-        ),
-        (store(325, 0), 0),
-        (store(6, 30), 0),
-        (load(59), 67_108_864),
-        (store(59, 67_109_186), 0),
-        (store(58, 0), 0),
-        (load(323), 2_214_592_512),
-        (load(324), 0),
-        (load(325), 0),
-        (store(322, 0), 0),
-        (store(4, 0), 0),
-        (store(3, 0), 0),
-    ];
-    let changes = [
+    ],
+    steps: &[
+        Store(3, 1),
+        Exchange(4, 0, 1),
+        Load(5, 178),
+        Load(185, 322),
+        Load(326, 37),
+        Load(324, 314),
+        Load(6, 26),
+        Store(2, 6_917_732_437_629_862_202),
+        Load(314, 9_223_512_774_343_131_159),
+        Exchange(314, 9_223_512_774_343_131_159, 9_223_653_511_831_486_490),
+        Store(185, 314),
+        Store(6, 27),
+        Load(322, 9_223_512_774_343_131_160),
+        Exchange(322, 9_223_512_774_343_131_160, 9_223_372_036_854_775_835),
+        Store(6, 28),
+        Load(323, 2_214_592_512),
+        Load(324, 314),
+        Load(6, 28),
+        Store(2, 4_612_042_260_524_040_192),
+        Load(314, 9_223_653_511_831_486_490),
+        Exchange(314, 9_223_653_511_831_486_490, 9_223_512_774_343_131_164),
+        Store(324, 0),
+        Store(6, 29),
+        Load(325, 58),
+        Load(6, 29),
+        Store(2, 4_612_043_359_767_232_512),
+        Load(58, 9_223_512_774_343_131_161),
+        Exchange(58, 9_223_512_774_343_131_161, 9_223_372_036_854_775_837),
+        Store(325, 0),
+        Store(6, 30),
+        Load(59, 67_108_864),
+        Store(59, 67_109_186),
+        Store(58, 0),
+        Load(323, 2_214_592_512),
+        Load(324, 0),
+        Load(325, 0),
+        Store(322, 0),
+        Store(4, 0),
+        Store(3, 0),
+    ],
+    changes: &[
         (2, 4_612_043_359_767_232_512),
         (6, 30),
         (58, 0),
@@ -332,24 +323,28 @@ fn the_first_key_of_a_bucket_is_removed(rt: HostRuntime) -> Result<(), Fail> {
         (322, 0),
         (324, 0),
         (325, 0),
-    ];
-    let mut words = words_of(rt.alloc(), 2098, &before)?;
-    let mut machine: Del = Calls::new(Deleting::new(me, 37));
-    assert_eq!(rt;
-        follow(&mut machine, &mut words, &steps),
-        Some(DelAnswer::Removed)
+    ],
+};
+
+#[test]
+fn the_first_key_of_a_bucket_is_removed(rt: HostRuntime) -> Result<(), Fail> {
+    let me = Me::new(Geometry::new(1, 1)?, 0);
+    let machine: Del = Calls::new(Deleting::new(me, 37));
+    assert!(rt;
+        runs(
+            rt.alloc(),
+            machine,
+            &THE_FIRST_KEY_OF_A_BUCKET_IS_REMOVED,
+            DelAnswer::Removed
+        )?
     );
-    let mut after = words_of(rt.alloc(), 2098, &before)?;
-    put_words(&mut after, &changes);
-    assert_eq!(rt; words.as_slice(), after.as_slice());
     Ok(())
 }
 
-#[test]
-fn a_key_between_others_is_removed(rt: HostRuntime) -> Result<(), Fail> {
-    let me = Me::new(Geometry::new(1, 1)?, 0);
-    // the bucket has the keys 37, 21 and 5
-    let before = [
+/// The bucket has the keys 37, 21 and 5.
+const A_KEY_BETWEEN_OTHERS_IS_REMOVED: Run = Run {
+    total: 2098,
+    before: &[
         (1, 1),
         (2, 4_611_693_715_069_599_744),
         (5, 178),
@@ -384,63 +379,51 @@ fn a_key_between_others_is_removed(rt: HostRuntime) -> Result<(), Fail> {
         (324, 314),
         (325, 58),
         (326, 37),
-    ];
-    let steps = [
-        (store(3, 1), 0),
-        (exchange(4, 0, 1), 0),
-        (load(5), 178),
-        (load(185), 322),
-        (load(326), 37),
-        (load(324), 314),
-        (load(318), 21),
-        (load(316), 306),
-        (load(6), 26),
-        (store(2, 6_917_885_269_737_734_450), 0),
-        (load(306), 9_223_512_774_343_131_151),
-        (
-            exchange(306, 9_223_512_774_343_131_151, 9_223_653_511_831_486_490),
-            9_223_512_774_343_131_151,
-        ),
-        (store(324, 306), 0),
-        (store(6, 27), 0),
-        (load(314), 9_223_512_774_343_131_159),
-        (
-            exchange(314, 9_223_512_774_343_131_159, 9_223_372_036_854_775_835),
-            9_223_512_774_343_131_159,
-        ),
-        (store(6, 28), 0),
-        (load(315), 2_214_592_512),
-        (load(316), 306),
-        (load(6), 28),
-        (store(2, 4_612_033_464_422_629_376), 0),
-        (load(306), 9_223_653_511_831_486_490),
-        (
-            exchange(306, 9_223_653_511_831_486_490, 9_223_512_774_343_131_164),
-            9_223_653_511_831_486_490,
-        ),
-        (store(316, 0), 0),
-        (store(6, 29), 0),
-        (load(317), 54),
-        (load(6), 29),
-        (store(2, 4_612_034_563_670_016_000), 0),
-        (load(54), 9_223_512_774_343_131_153),
-        (
-            exchange(54, 9_223_512_774_343_131_153, 9_223_372_036_854_775_837),
-            9_223_512_774_343_131_153,
-        ),
-        (store(317, 0), 0),
-        (store(6, 30), 0),
-        (load(55), 67_108_864),
-        (store(55, 67_109_178), 0),
-        (store(54, 0), 0),
-        (load(315), 2_214_592_512),
-        (load(316), 0),
-        (load(317), 0),
-        (store(314, 0), 0),
-        (store(4, 0), 0),
-        (store(3, 0), 0),
-    ];
-    let changes = [
+    ],
+    steps: &[
+        Store(3, 1),
+        Exchange(4, 0, 1),
+        Load(5, 178),
+        Load(185, 322),
+        Load(326, 37),
+        Load(324, 314),
+        Load(318, 21),
+        Load(316, 306),
+        Load(6, 26),
+        Store(2, 6_917_885_269_737_734_450),
+        Load(306, 9_223_512_774_343_131_151),
+        Exchange(306, 9_223_512_774_343_131_151, 9_223_653_511_831_486_490),
+        Store(324, 306),
+        Store(6, 27),
+        Load(314, 9_223_512_774_343_131_159),
+        Exchange(314, 9_223_512_774_343_131_159, 9_223_372_036_854_775_835),
+        Store(6, 28),
+        Load(315, 2_214_592_512),
+        Load(316, 306),
+        Load(6, 28),
+        Store(2, 4_612_033_464_422_629_376),
+        Load(306, 9_223_653_511_831_486_490),
+        Exchange(306, 9_223_653_511_831_486_490, 9_223_512_774_343_131_164),
+        Store(316, 0),
+        Store(6, 29),
+        Load(317, 54),
+        Load(6, 29),
+        Store(2, 4_612_034_563_670_016_000),
+        Load(54, 9_223_512_774_343_131_153),
+        Exchange(54, 9_223_512_774_343_131_153, 9_223_372_036_854_775_837),
+        Store(317, 0),
+        Store(6, 30),
+        Load(55, 67_108_864),
+        Store(55, 67_109_178),
+        Store(54, 0),
+        Load(315, 2_214_592_512),
+        Load(316, 0),
+        Load(317, 0),
+        Store(314, 0),
+        Store(4, 0),
+        Store(3, 0),
+    ],
+    changes: &[
         (2, 4_612_034_563_670_016_000),
         (6, 30),
         (54, 0),
@@ -450,15 +433,20 @@ fn a_key_between_others_is_removed(rt: HostRuntime) -> Result<(), Fail> {
         (316, 0),
         (317, 0),
         (324, 306),
-    ];
-    let mut words = words_of(rt.alloc(), 2098, &before)?;
-    let mut machine: Del = Calls::new(Deleting::new(me, 21));
-    assert_eq!(rt;
-        follow(&mut machine, &mut words, &steps),
-        Some(DelAnswer::Removed)
+    ],
+};
+
+#[test]
+fn a_key_between_others_is_removed(rt: HostRuntime) -> Result<(), Fail> {
+    let me = Me::new(Geometry::new(1, 1)?, 0);
+    let machine: Del = Calls::new(Deleting::new(me, 21));
+    assert!(rt;
+        runs(
+            rt.alloc(),
+            machine,
+            &A_KEY_BETWEEN_OTHERS_IS_REMOVED,
+            DelAnswer::Removed
+        )?
     );
-    let mut after = words_of(rt.alloc(), 2098, &before)?;
-    put_words(&mut after, &changes);
-    assert_eq!(rt; words.as_slice(), after.as_slice());
     Ok(())
 }

@@ -3,88 +3,19 @@
 use crate::answer::PutFault;
 use crate::parts::{Enter, Entered, Entering};
 use shm_calls::Calls;
-use shm_graph::{Ask, Machine, Me, Turn};
+use shm_graph::Me;
+use shm_runs::Step::{Exchange, Load, Store};
+use shm_runs::{Run, runs};
 use shm_words::Geometry;
-use std::alloc::{AllocError, Global};
 use std::test::Fail;
 
-pub fn load(at: u32) -> Ask {
-    Ask::Load { at }
-}
+// one client, which has joined: redo record at 2, hold word at 3, latch at 4, home at 5, own era at 6, roots from 7, segment at 33 and pages
+// from 34
 
-pub fn store(at: u32, value: u64) -> Ask {
-    Ask::Store { at, value }
-}
-
-pub fn exchange(at: u32, from: u64, to: u64) -> Ask {
-    Ask::Exchange { at, from, to }
-}
-
-/// The words of a pool of `total` words: these, and 0 at all other addresses.
-pub fn words_of(
-    alloc: Global,
-    total: usize,
-    some: &[(usize, u64)],
-) -> Result<Vec<u64>, AllocError> {
-    let mut words = vec![in alloc; 0u64; total]?;
-    for &(at, word) in some {
-        if let Some(place) = words.get_mut(at) {
-            *place = word;
-        }
-    }
-    Ok(words)
-}
-
-/// Makes a word step; the word that was found, for a store 0.
-pub fn make(words: &mut Vec<u64>, ask: Ask) -> Option<u64> {
-    match ask {
-        Ask::Load { at } => words.get(at as usize).copied(),
-        Ask::Store { at, value } => {
-            let word = words.get_mut(at as usize)?;
-            *word = value;
-            Some(0)
-        }
-        Ask::Exchange { at, from, to } => {
-            let word = words.get_mut(at as usize)?;
-            let found = *word;
-            if found == from {
-                *word = to;
-            }
-            Some(found)
-        }
-    }
-}
-
-/// Runs a machine on the words; its answer, where it makes these steps and finds these words, and answers with the last one.
-pub fn follow<M: Machine>(
-    machine: &mut M,
-    words: &mut Vec<u64>,
-    steps: &[(Ask, u64)],
-) -> Option<M::Answer>
-where
-    M::Answer: Drop,
-{
-    let mut last = None;
-    for &(ask, found) in steps {
-        if last.is_some() || machine.finished() || machine.ask() != ask {
-            return None;
-        }
-        let seen = make(words, ask)?;
-        if seen != found {
-            return None;
-        }
-        if let Turn::Done(answer) = machine.take(seen) {
-            last = Some(answer);
-        }
-    }
-    last
-}
-
-#[test]
-fn an_empty_bucket_names_the_entry(rt: HostRuntime) -> Result<(), Fail> {
-    let me = Me::new(Geometry::new(1, 1)?, 0);
-    // the directory is empty, root 0 names the value block, and the own latch is held
-    let before = [
+/// The directory is empty, root 0 names the value block, and the own latch is held.
+const AN_EMPTY_BUCKET_NAMES_THE_ENTRY: Run = Run {
+    total: 2098,
+    before: &[
         (1, 1),
         (2, 4_611_694_814_707_056_640),
         (3, 1),
@@ -100,59 +31,71 @@ fn an_empty_bucket_names_the_entry(rt: HostRuntime) -> Result<(), Fail> {
         (52, 77),
         (178, 9_223_512_774_343_131_139),
         (179, 17_179_869_184),
-    ];
-    let steps = [
-        (load(6), 4),
-        (load(7), 50),
-        (load(8), 0),
-        (load(33), 1),
-        (load(34), 4),
-        (load(35), 32),
-        (load(36), 0),
-        (store(36, 8), 0),
-        (load(306), 0),
-        (store(307, 2_214_592_512), 0),
-        (store(308, 0), 0),
-        (store(309, 0), 0),
-        (store(310, 5), 0),
-        (store(2, 2_305_851_805_306_716_466), 0),
-        (exchange(306, 0, 9_223_512_774_343_131_140), 0),
-        (store(8, 306), 0),
-        (store(6, 5), 0),
-        (load(6), 5),
-        (store(2, 2_306_182_758_306_676_786), 0),
-        (load(50), 9_223_512_774_343_131_136),
-        (
-            exchange(50, 9_223_512_774_343_131_136, 9_223_653_511_831_486_469),
-            9_223_512_774_343_131_136,
-        ),
-        (store(309, 50), 0),
-        (store(6, 6), 0),
-        (load(6), 6),
-        (store(2, 2_306_046_418_864_832_818), 0),
-        (load(306), 9_223_512_774_343_131_140),
-        (
-            exchange(306, 9_223_512_774_343_131_140, 9_223_653_511_831_486_470),
-            9_223_512_774_343_131_140,
-        ),
-        (store(185, 306), 0),
-        (store(6, 7), 0),
-    ];
-    let mut words = words_of(rt.alloc(), 2098, &before)?;
-    let mut machine: Enter = Calls::new(Entering::new(me, 5, 50, 178, 0));
-    assert_eq!(rt;
-        follow(&mut machine, &mut words, &steps),
-        Some(Entered::Linked { root: 1 })
+    ],
+    steps: &[
+        Load(6, 4),
+        Load(7, 50),
+        Load(8, 0),
+        Load(33, 1),
+        Load(34, 4),
+        Load(35, 32),
+        Load(36, 0),
+        Store(36, 8),
+        Load(306, 0),
+        Store(307, 2_214_592_512),
+        Store(308, 0),
+        Store(309, 0),
+        Store(310, 5),
+        Store(2, 2_305_851_805_306_716_466),
+        Exchange(306, 0, 9_223_512_774_343_131_140),
+        Store(8, 306),
+        Store(6, 5),
+        Load(6, 5),
+        Store(2, 2_306_182_758_306_676_786),
+        Load(50, 9_223_512_774_343_131_136),
+        Exchange(50, 9_223_512_774_343_131_136, 9_223_653_511_831_486_469),
+        Store(309, 50),
+        Store(6, 6),
+        Load(6, 6),
+        Store(2, 2_306_046_418_864_832_818),
+        Load(306, 9_223_512_774_343_131_140),
+        Exchange(306, 9_223_512_774_343_131_140, 9_223_653_511_831_486_470),
+        Store(185, 306),
+        Store(6, 7),
+    ],
+    changes: &[
+        (2, 2_306_046_418_864_832_818),
+        (6, 7),
+        (8, 306),
+        (36, 8),
+        (50, 9_223_653_511_831_486_469),
+        (185, 306),
+        (306, 9_223_653_511_831_486_470),
+        (307, 2_214_592_512),
+        (309, 50),
+        (310, 5),
+    ],
+};
+
+#[test]
+fn an_empty_bucket_names_the_entry(rt: HostRuntime) -> Result<(), Fail> {
+    let me = Me::new(Geometry::new(1, 1)?, 0);
+    let machine: Enter = Calls::new(Entering::new(me, 5, 50, 178, 0));
+    assert!(rt;
+        runs(
+            rt.alloc(),
+            machine,
+            &AN_EMPTY_BUCKET_NAMES_THE_ENTRY,
+            Entered::Linked { root: 1 }
+        )?
     );
-    assert_eq!(rt; words.get(185).copied(), Some(306));
     Ok(())
 }
 
-#[test]
-fn the_entry_comes_before_others(rt: HostRuntime) -> Result<(), Fail> {
-    let me = Me::new(Geometry::new(1, 1)?, 0);
-    // the bucket has keys 5 and 37
-    let before = [
+/// The bucket has keys 5 and 37.
+const THE_ENTRY_COMES_BEFORE_OTHERS: Run = Run {
+    total: 2098,
+    before: &[
         (1, 1),
         (2, 2_305_850_705_795_088_442),
         (3, 1),
@@ -185,75 +128,82 @@ fn the_entry_comes_before_others(rt: HostRuntime) -> Result<(), Fail> {
         (316, 306),
         (317, 54),
         (318, 5),
-    ];
-    let steps = [
-        (load(6), 18),
-        (load(7), 58),
-        (load(8), 0),
-        (load(33), 1),
-        (load(34), 4),
-        (load(35), 32),
-        (load(36), 8),
-        (load(306), 9_223_512_774_343_131_150),
-        (load(314), 9_223_512_774_343_131_151),
-        (load(322), 0),
-        (store(323, 2_214_592_512), 0),
-        (store(324, 0), 0),
-        (store(325, 0), 0),
-        (store(326, 21), 0),
-        (store(2, 2_305_851_805_306_716_482), 0),
-        (exchange(322, 0, 9_223_512_774_343_131_154), 0),
-        (store(8, 322), 0),
-        (store(6, 19), 0),
-        (load(6), 19),
-        (store(2, 2_306_200_350_492_721_210), 0),
-        (load(58), 9_223_512_774_343_131_153),
-        (
-            exchange(58, 9_223_512_774_343_131_153, 9_223_653_511_831_486_483),
-            9_223_512_774_343_131_153,
-        ),
-        (store(325, 58), 0),
-        (store(6, 20), 0),
-        (load(6), 20),
-        (store(2, 2_306_199_250_981_093_690), 0),
-        (load(314), 9_223_512_774_343_131_151),
-        (
-            exchange(314, 9_223_512_774_343_131_151, 9_223_653_511_831_486_484),
-            9_223_512_774_343_131_151,
-        ),
-        (store(324, 314), 0),
-        (store(6, 21), 0),
-        (load(6), 21),
-        (store(2, 8_070_653_942_228_320_578), 0),
-        (load(322), 9_223_512_774_343_131_154),
-        (
-            exchange(322, 9_223_512_774_343_131_154, 9_223_653_511_831_486_485),
-            9_223_512_774_343_131_154,
-        ),
-        (store(185, 322), 0),
-        (store(6, 22), 0),
-        (load(314), 9_223_653_511_831_486_484),
-        (
-            exchange(314, 9_223_653_511_831_486_484, 9_223_512_774_343_131_158),
-            9_223_653_511_831_486_484,
-        ),
-        (store(6, 23), 0),
-    ];
-    let mut words = words_of(rt.alloc(), 2098, &before)?;
-    let mut machine: Enter = Calls::new(Entering::new(me, 21, 58, 178, 314));
-    assert_eq!(rt;
-        follow(&mut machine, &mut words, &steps),
-        Some(Entered::Linked { root: 1 })
+    ],
+    steps: &[
+        Load(6, 18),
+        Load(7, 58),
+        Load(8, 0),
+        Load(33, 1),
+        Load(34, 4),
+        Load(35, 32),
+        Load(36, 8),
+        Load(306, 9_223_512_774_343_131_150),
+        Load(314, 9_223_512_774_343_131_151),
+        Load(322, 0),
+        Store(323, 2_214_592_512),
+        Store(324, 0),
+        Store(325, 0),
+        Store(326, 21),
+        Store(2, 2_305_851_805_306_716_482),
+        Exchange(322, 0, 9_223_512_774_343_131_154),
+        Store(8, 322),
+        Store(6, 19),
+        Load(6, 19),
+        Store(2, 2_306_200_350_492_721_210),
+        Load(58, 9_223_512_774_343_131_153),
+        Exchange(58, 9_223_512_774_343_131_153, 9_223_653_511_831_486_483),
+        Store(325, 58),
+        Store(6, 20),
+        Load(6, 20),
+        Store(2, 2_306_199_250_981_093_690),
+        Load(314, 9_223_512_774_343_131_151),
+        Exchange(314, 9_223_512_774_343_131_151, 9_223_653_511_831_486_484),
+        Store(324, 314),
+        Store(6, 21),
+        Load(6, 21),
+        Store(2, 8_070_653_942_228_320_578),
+        Load(322, 9_223_512_774_343_131_154),
+        Exchange(322, 9_223_512_774_343_131_154, 9_223_653_511_831_486_485),
+        Store(185, 322),
+        Store(6, 22),
+        Load(314, 9_223_653_511_831_486_484),
+        Exchange(314, 9_223_653_511_831_486_484, 9_223_512_774_343_131_158),
+        Store(6, 23),
+    ],
+    changes: &[
+        (2, 8_070_653_942_228_320_578),
+        (6, 23),
+        (8, 322),
+        (58, 9_223_653_511_831_486_483),
+        (185, 322),
+        (314, 9_223_512_774_343_131_158),
+        (322, 9_223_653_511_831_486_485),
+        (323, 2_214_592_512),
+        (324, 314),
+        (325, 58),
+        (326, 21),
+    ],
+};
+
+#[test]
+fn the_entry_comes_before_others(rt: HostRuntime) -> Result<(), Fail> {
+    let me = Me::new(Geometry::new(1, 1)?, 0);
+    let machine: Enter = Calls::new(Entering::new(me, 21, 58, 178, 314));
+    assert!(rt;
+        runs(
+            rt.alloc(),
+            machine,
+            &THE_ENTRY_COMES_BEFORE_OTHERS,
+            Entered::Linked { root: 1 }
+        )?
     );
-    assert_eq!(rt; words.get(185).copied(), Some(322));
     Ok(())
 }
 
-#[test]
-fn all_roots_are_set(rt: HostRuntime) -> Result<(), Fail> {
-    let me = Me::new(Geometry::new(1, 1)?, 0);
-    // each own root names a block
-    let before = [
+/// Each own root names a block.
+const ALL_ROOTS_ARE_SET: Run = Run {
+    total: 2098,
+    before: &[
         (1, 1),
         (2, 4_611_694_814_707_056_640),
         (3, 1),
@@ -284,42 +234,50 @@ fn all_roots_are_set(rt: HostRuntime) -> Result<(), Fail> {
         (52, 77),
         (178, 9_223_512_774_343_131_139),
         (179, 17_179_869_184),
-    ];
-    let steps = [
-        (load(6), 4),
-        (load(7), 50),
-        (load(8), 50),
-        (load(9), 50),
-        (load(10), 50),
-        (load(11), 50),
-        (load(12), 50),
-        (load(13), 50),
-        (load(14), 50),
-        (load(15), 50),
-        (load(16), 50),
-        (load(17), 50),
-        (load(18), 50),
-        (load(19), 50),
-        (load(20), 50),
-        (load(21), 50),
-        (load(22), 50),
-    ];
-    let mut words = words_of(rt.alloc(), 2098, &before)?;
-    let mut machine: Enter = Calls::new(Entering::new(me, 5, 50, 178, 0));
-    assert_eq!(rt;
-        follow(&mut machine, &mut words, &steps),
-        Some(Entered::Unmade {
-            fault: PutFault::RootsFull
-        })
+    ],
+    steps: &[
+        Load(6, 4),
+        Load(7, 50),
+        Load(8, 50),
+        Load(9, 50),
+        Load(10, 50),
+        Load(11, 50),
+        Load(12, 50),
+        Load(13, 50),
+        Load(14, 50),
+        Load(15, 50),
+        Load(16, 50),
+        Load(17, 50),
+        Load(18, 50),
+        Load(19, 50),
+        Load(20, 50),
+        Load(21, 50),
+        Load(22, 50),
+    ],
+    changes: &[],
+};
+
+#[test]
+fn all_roots_are_set(rt: HostRuntime) -> Result<(), Fail> {
+    let me = Me::new(Geometry::new(1, 1)?, 0);
+    let machine: Enter = Calls::new(Entering::new(me, 5, 50, 178, 0));
+    assert!(rt;
+        runs(
+            rt.alloc(),
+            machine,
+            &ALL_ROOTS_ARE_SET,
+            Entered::Unmade {
+                fault: PutFault::RootsFull
+            }
+        )?
     );
     Ok(())
 }
 
-#[test]
-fn no_block_is_free(rt: HostRuntime) -> Result<(), Fail> {
-    let me = Me::new(Geometry::new(1, 1)?, 0);
-    // each page is of another class
-    let before = [
+/// Each page is of another class.
+const NO_BLOCK_IS_FREE: Run = Run {
+    total: 2098,
+    before: &[
         (1, 1),
         (2, 4_611_694_814_707_056_640),
         (3, 1),
@@ -349,48 +307,56 @@ fn no_block_is_free(rt: HostRuntime) -> Result<(), Fail> {
         (52, 77),
         (178, 9_223_512_774_343_131_139),
         (179, 17_179_869_184),
-    ];
-    let steps = [
-        (load(6), 4),
-        (load(7), 50),
-        (load(8), 0),
-        (load(33), 1),
-        (load(34), 4),
-        (load(35), 32),
-        (load(36), 4),
-        (load(37), 4),
-        (load(38), 4),
-        (load(39), 4),
-        (load(40), 4),
-        (load(41), 4),
-        (load(42), 4),
-        (load(43), 4),
-        (load(44), 4),
-        (load(45), 4),
-        (load(46), 4),
-        (load(47), 4),
-        (load(48), 4),
-        (load(49), 4),
-    ];
-    let mut words = words_of(rt.alloc(), 2098, &before)?;
-    let mut machine: Enter = Calls::new(Entering::new(me, 5, 50, 178, 0));
-    assert_eq!(rt;
-        follow(&mut machine, &mut words, &steps),
-        Some(Entered::Unmade {
-            fault: PutFault::Full {
-                segments: 0,
-                blocks: 0
+    ],
+    steps: &[
+        Load(6, 4),
+        Load(7, 50),
+        Load(8, 0),
+        Load(33, 1),
+        Load(34, 4),
+        Load(35, 32),
+        Load(36, 4),
+        Load(37, 4),
+        Load(38, 4),
+        Load(39, 4),
+        Load(40, 4),
+        Load(41, 4),
+        Load(42, 4),
+        Load(43, 4),
+        Load(44, 4),
+        Load(45, 4),
+        Load(46, 4),
+        Load(47, 4),
+        Load(48, 4),
+        Load(49, 4),
+    ],
+    changes: &[],
+};
+
+#[test]
+fn no_block_is_free(rt: HostRuntime) -> Result<(), Fail> {
+    let me = Me::new(Geometry::new(1, 1)?, 0);
+    let machine: Enter = Calls::new(Entering::new(me, 5, 50, 178, 0));
+    assert!(rt;
+        runs(
+            rt.alloc(),
+            machine,
+            &NO_BLOCK_IS_FREE,
+            Entered::Unmade {
+                fault: PutFault::Full {
+                    segments: 0,
+                    blocks: 0
+                }
             }
-        })
+        )?
     );
     Ok(())
 }
 
-#[test]
-fn the_value_block_has_the_greatest_count(rt: HostRuntime) -> Result<(), Fail> {
-    let me = Me::new(Geometry::new(1, 1)?, 0);
-    // the count of the value block is 1,023
-    let before = [
+/// The count of the value block is 1,023.
+const THE_VALUE_BLOCK_HAS_THE_GREATEST_COUNT: Run = Run {
+    total: 2098,
+    before: &[
         (1, 1),
         (2, 4_611_694_814_707_056_640),
         (3, 1),
@@ -406,40 +372,57 @@ fn the_value_block_has_the_greatest_count(rt: HostRuntime) -> Result<(), Fail> {
         (52, 77),
         (178, 9_223_512_774_343_131_139),
         (179, 17_179_869_184),
-    ];
-    let steps = [
-        (load(6), 4),
-        (load(7), 50),
-        (load(8), 0),
-        (load(33), 1),
-        (load(34), 4),
-        (load(35), 32),
-        (load(36), 0),
-        (store(36, 8), 0),
-        (load(306), 0),
-        (store(307, 2_214_592_512), 0),
-        (store(308, 0), 0),
-        (store(309, 0), 0),
-        (store(310, 5), 0),
-        (store(2, 2_305_851_805_306_716_466), 0),
-        (exchange(306, 0, 9_223_512_774_343_131_140), 0),
-        (store(8, 306), 0),
-        (store(6, 5), 0),
-        (load(6), 5),
-        (store(2, 2_306_182_758_306_676_786), 0),
-        (load(50), 9_367_346_487_442_276_352),
-    ];
-    let mut words = words_of(rt.alloc(), 2098, &before)?;
-    let mut machine: Enter = Calls::new(Entering::new(me, 5, 50, 178, 0));
-    assert_eq!(rt;
-        follow(&mut machine, &mut words, &steps),
-        Some(Entered::Unlinked {
-            root: 1,
-            fault: PutFault::CountFull {
-                block: 50,
-                count: 1023
+    ],
+    steps: &[
+        Load(6, 4),
+        Load(7, 50),
+        Load(8, 0),
+        Load(33, 1),
+        Load(34, 4),
+        Load(35, 32),
+        Load(36, 0),
+        Store(36, 8),
+        Load(306, 0),
+        Store(307, 2_214_592_512),
+        Store(308, 0),
+        Store(309, 0),
+        Store(310, 5),
+        Store(2, 2_305_851_805_306_716_466),
+        Exchange(306, 0, 9_223_512_774_343_131_140),
+        Store(8, 306),
+        Store(6, 5),
+        Load(6, 5),
+        Store(2, 2_306_182_758_306_676_786),
+        Load(50, 9_367_346_487_442_276_352),
+    ],
+    changes: &[
+        (2, 2_306_182_758_306_676_786),
+        (6, 5),
+        (8, 306),
+        (36, 8),
+        (306, 9_223_512_774_343_131_140),
+        (307, 2_214_592_512),
+        (310, 5),
+    ],
+};
+
+#[test]
+fn the_value_block_has_the_greatest_count(rt: HostRuntime) -> Result<(), Fail> {
+    let me = Me::new(Geometry::new(1, 1)?, 0);
+    let machine: Enter = Calls::new(Entering::new(me, 5, 50, 178, 0));
+    assert!(rt;
+        runs(
+            rt.alloc(),
+            machine,
+            &THE_VALUE_BLOCK_HAS_THE_GREATEST_COUNT,
+            Entered::Unlinked {
+                root: 1,
+                fault: PutFault::CountFull {
+                    block: 50,
+                    count: 1023
+                }
             }
-        })
+        )?
     );
     Ok(())
 }

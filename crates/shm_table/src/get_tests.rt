@@ -1,180 +1,243 @@
 //! Latches given back, latches taken for a search, and reads of what a key has, step by step on the words of a pool, against an independent
 //! implementation.
 
-use crate::entry_tests::{exchange, follow, load, put_words, store};
 use crate::parts::{Found, Locate, Locating, Unlatch, Unlatching};
-use crate::tests::table;
 use crate::{Get, Getting, Valued};
 use shm_calls::Calls;
 use shm_graph::Me;
+use shm_runs::Step::{Exchange, Load, Lost, Others, Store};
+use shm_runs::{Run, TABLE, runs_over};
 use shm_words::Geometry;
-use std::alloc::{AllocError, Global};
 use std::test::Fail;
 
-/// The words of a pool of three clients, in which client 1 has put the keys 37, 21 and 5, all of one bucket, and nobody holds a latch.
-fn free_table(alloc: Global) -> Result<Vec<u64>, AllocError> {
-    let mut words = table(alloc)?;
-    put_words(&mut words, &[(9, 0), (11, 0)]);
-    Ok(words)
-}
+/// Client 2 holds latch 1.
+const A_LATCH_IS_GIVEN_BACK: Run = Run {
+    total: 2228,
+    before: &[(9, 2), (11, 3)],
+    steps: &[Store(11, 0), Store(9, 0)],
+    changes: &[(9, 0), (11, 0)],
+};
 
 #[test]
 fn a_latch_is_given_back(rt: HostRuntime) -> Result<(), Fail> {
     let me = Me::new(Geometry::new(3, 1)?, 2);
-    // client 2 holds latch 1
-    let mut words = table(rt.alloc())?;
-    let mut machine: Unlatch = Calls::new(Unlatching::new(me, 1));
-    let steps = [(store(11, 0), 0), (store(9, 0), 0)];
-    assert_eq!(rt; follow(&mut machine, &mut words, &steps), Some(()));
-    assert_eq!(rt; words.as_slice(), free_table(rt.alloc())?.as_slice());
+    let machine: Unlatch = Calls::new(Unlatching::new(me, 1));
+    assert!(rt; runs_over(rt.alloc(), &TABLE, machine, &A_LATCH_IS_GIVEN_BACK, ())?);
     Ok(())
 }
+
+/// Client 1 holds its own latch, and gives it back in the end.
+const A_LATCH_THAT_IS_HELD_IS_TRIED_AGAIN: Run = Run {
+    total: 2228,
+    before: &[(8, 2), (11, 2)],
+    steps: &[
+        Store(9, 2),
+        Lost(11, 0, 3, 2),
+        Store(9, 0),
+        Store(9, 2),
+        Lost(11, 0, 3, 2),
+        Store(9, 0),
+        Others(8, 0),
+        Others(11, 0),
+        Store(9, 2),
+        Exchange(11, 0, 3),
+        Load(14, 308),
+        Load(315, 452),
+        Load(456, 5),
+    ],
+    changes: &[(8, 0), (9, 2), (11, 3)],
+};
 
 #[test]
 fn a_latch_that_is_held_is_tried_again(rt: HostRuntime) -> Result<(), Fail> {
     let me = Me::new(Geometry::new(3, 1)?, 2);
-    let mut words = free_table(rt.alloc())?;
-    let mut machine: Locate = Calls::new(Locating::new(me, 1, 5));
-    // client 1 holds its own latch
-    put_words(&mut words, &[(8, 2), (11, 2)]);
-    let tries = [
-        (store(9, 2), 0),
-        (exchange(11, 0, 3), 2),
-        (store(9, 0), 0),
-        (store(9, 2), 0),
-        (exchange(11, 0, 3), 2),
-        (store(9, 0), 0),
-    ];
-    assert_eq!(rt; follow(&mut machine, &mut words, &tries), None);
-    // it gives it back
-    put_words(&mut words, &[(8, 0), (11, 0)]);
-    let steps = [
-        (store(9, 2), 0),
-        (exchange(11, 0, 3), 0),
-        (load(14), 308),
-        (load(315), 452),
-        (load(456), 5),
-    ];
-    assert_eq!(rt;
-        follow(&mut machine, &mut words, &steps),
-        Some(Found::At {
-            entry: 452,
-            before: 308,
-            word: 5
-        })
+    let machine: Locate = Calls::new(Locating::new(me, 1, 5));
+    assert!(rt;
+        runs_over(
+            rt.alloc(),
+            &TABLE,
+            machine,
+            &A_LATCH_THAT_IS_HELD_IS_TRIED_AGAIN,
+            Found::At {
+                entry: 452,
+                before: 308,
+                word: 5
+            }
+        )?
     );
-    assert_eq!(rt; words.as_slice(), table(rt.alloc())?.as_slice());
     Ok(())
 }
+
+/// Nobody holds a latch.
+const A_KEY_OF_ANOTHER_TABLE_IS_READ: Run = Run {
+    total: 2228,
+    before: &[],
+    steps: &[
+        Store(9, 2),
+        Exchange(11, 0, 3),
+        Load(14, 308),
+        Load(315, 452),
+        Load(456, 5),
+        Load(455, 188),
+        Load(190, 70),
+        Store(11, 0),
+        Store(9, 0),
+    ],
+    changes: &[],
+};
 
 #[test]
 fn a_key_of_another_table_is_read(rt: HostRuntime) -> Result<(), Fail> {
     let me = Me::new(Geometry::new(3, 1)?, 2);
-    let mut words = free_table(rt.alloc())?;
-    let mut machine: Get = Calls::new(Getting::new(me, 1, 5));
-    let steps = [
-        (store(9, 2), 0),
-        (exchange(11, 0, 3), 0),
-        (load(14), 308),
-        (load(315), 452),
-        (load(456), 5),
-        (load(455), 188),
-        (load(190), 70),
-        (store(11, 0), 0),
-        (store(9, 0), 0),
-    ];
-    assert_eq!(rt;
-        follow(&mut machine, &mut words, &steps),
-        Some(Some(Valued {
-            number: 70,
-            block: 188
-        }))
+    let machine: Get = Calls::new(Getting::new(me, 1, 5));
+    assert!(rt;
+        runs_over(
+            rt.alloc(),
+            &TABLE,
+            machine,
+            &A_KEY_OF_ANOTHER_TABLE_IS_READ,
+            Some(Valued {
+                number: 70,
+                block: 188
+            })
+        )?
     );
-    assert_eq!(rt; words.as_slice(), free_table(rt.alloc())?.as_slice());
     Ok(())
 }
+
+/// Nobody holds a latch.
+const A_KEY_OF_THE_OWN_TABLE_IS_READ: Run = Run {
+    total: 2228,
+    before: &[],
+    steps: &[
+        Store(8, 2),
+        Exchange(11, 0, 2),
+        Load(14, 308),
+        Load(315, 452),
+        Load(456, 5),
+        Load(454, 444),
+        Load(448, 21),
+        Load(447, 184),
+        Load(186, 71),
+        Store(11, 0),
+        Store(8, 0),
+    ],
+    changes: &[],
+};
 
 #[test]
 fn a_key_of_the_own_table_is_read(rt: HostRuntime) -> Result<(), Fail> {
     let me = Me::new(Geometry::new(3, 1)?, 1);
-    let mut words = free_table(rt.alloc())?;
-    let mut machine: Get = Calls::new(Getting::new(me, 1, 21));
-    let steps = [
-        (store(8, 2), 0),
-        (exchange(11, 0, 2), 0),
-        (load(14), 308),
-        (load(315), 452),
-        (load(456), 5),
-        (load(454), 444),
-        (load(448), 21),
-        (load(447), 184),
-        (load(186), 71),
-        (store(11, 0), 0),
-        (store(8, 0), 0),
-    ];
-    assert_eq!(rt;
-        follow(&mut machine, &mut words, &steps),
-        Some(Some(Valued {
-            number: 71,
-            block: 184
-        }))
+    let machine: Get = Calls::new(Getting::new(me, 1, 21));
+    assert!(rt;
+        runs_over(
+            rt.alloc(),
+            &TABLE,
+            machine,
+            &A_KEY_OF_THE_OWN_TABLE_IS_READ,
+            Some(Valued {
+                number: 71,
+                block: 184
+            })
+        )?
     );
     Ok(())
 }
 
+/// Nobody holds a latch.
+const A_KEY_THAT_NO_ENTRY_HAS_IS_MISSING: Run = Run {
+    total: 2228,
+    before: &[],
+    steps: &[
+        Store(9, 2),
+        Exchange(11, 0, 3),
+        Load(14, 308),
+        Load(315, 452),
+        Load(456, 5),
+        Load(454, 444),
+        Load(448, 21),
+        Load(446, 436),
+        Load(440, 37),
+        Load(438, 0),
+        Store(11, 0),
+        Store(9, 0),
+    ],
+    changes: &[],
+};
+
 #[test]
 fn a_key_that_no_entry_has_is_missing(rt: HostRuntime) -> Result<(), Fail> {
     let me = Me::new(Geometry::new(3, 1)?, 2);
-    let mut words = free_table(rt.alloc())?;
-    let mut machine: Get = Calls::new(Getting::new(me, 1, 53));
-    let steps = [
-        (store(9, 2), 0),
-        (exchange(11, 0, 3), 0),
-        (load(14), 308),
-        (load(315), 452),
-        (load(456), 5),
-        (load(454), 444),
-        (load(448), 21),
-        (load(446), 436),
-        (load(440), 37),
-        (load(438), 0),
-        (store(11, 0), 0),
-        (store(9, 0), 0),
-    ];
-    assert_eq!(rt; follow(&mut machine, &mut words, &steps), Some(None));
-    assert_eq!(rt; words.as_slice(), free_table(rt.alloc())?.as_slice());
+    let machine: Get = Calls::new(Getting::new(me, 1, 53));
+    assert!(rt;
+        runs_over(
+            rt.alloc(),
+            &TABLE,
+            machine,
+            &A_KEY_THAT_NO_ENTRY_HAS_IS_MISSING,
+            None
+        )?
+    );
     Ok(())
 }
+
+/// Nobody holds a latch.
+const A_KEY_OF_AN_EMPTY_BUCKET_IS_MISSING: Run = Run {
+    total: 2228,
+    before: &[],
+    steps: &[
+        Store(9, 2),
+        Exchange(11, 0, 3),
+        Load(14, 308),
+        Load(316, 0),
+        Store(11, 0),
+        Store(9, 0),
+    ],
+    changes: &[],
+};
 
 #[test]
 fn a_key_of_an_empty_bucket_is_missing(rt: HostRuntime) -> Result<(), Fail> {
     let me = Me::new(Geometry::new(3, 1)?, 2);
-    let mut words = free_table(rt.alloc())?;
-    let mut machine: Get = Calls::new(Getting::new(me, 1, 6));
-    let steps = [
-        (store(9, 2), 0),
-        (exchange(11, 0, 3), 0),
-        (load(14), 308),
-        (load(316), 0),
-        (store(11, 0), 0),
-        (store(9, 0), 0),
-    ];
-    assert_eq!(rt; follow(&mut machine, &mut words, &steps), Some(None));
+    let machine: Get = Calls::new(Getting::new(me, 1, 6));
+    assert!(rt;
+        runs_over(
+            rt.alloc(),
+            &TABLE,
+            machine,
+            &A_KEY_OF_AN_EMPTY_BUCKET_IS_MISSING,
+            None
+        )?
+    );
     Ok(())
 }
+
+/// Nobody holds a latch.
+const A_KEY_IS_MISSING_WITHOUT_A_DIRECTORY: Run = Run {
+    total: 2228,
+    before: &[],
+    steps: &[
+        Store(9, 1),
+        Exchange(10, 0, 3),
+        Load(13, 0),
+        Store(10, 0),
+        Store(9, 0),
+    ],
+    changes: &[],
+};
 
 #[test]
 fn a_key_is_missing_without_a_directory(rt: HostRuntime) -> Result<(), Fail> {
     let me = Me::new(Geometry::new(3, 1)?, 2);
-    let mut words = free_table(rt.alloc())?;
-    let mut machine: Get = Calls::new(Getting::new(me, 0, 5));
-    let steps = [
-        (store(9, 1), 0),
-        (exchange(10, 0, 3), 0),
-        (load(13), 0),
-        (store(10, 0), 0),
-        (store(9, 0), 0),
-    ];
-    assert_eq!(rt; follow(&mut machine, &mut words, &steps), Some(None));
+    let machine: Get = Calls::new(Getting::new(me, 0, 5));
+    assert!(rt;
+        runs_over(
+            rt.alloc(),
+            &TABLE,
+            machine,
+            &A_KEY_IS_MISSING_WITHOUT_A_DIRECTORY,
+            None
+        )?
+    );
     Ok(())
 }

@@ -23,8 +23,6 @@ pub mod enter;
 mod enter_spent_tests;
 #[cfg(test)]
 mod enter_tests;
-#[cfg(test)]
-mod entry_tests;
 pub mod events;
 pub mod fetch;
 #[cfg(test)]
@@ -55,8 +53,6 @@ pub mod replace;
 #[cfg(test)]
 mod replace_tests;
 pub mod staying;
-#[cfg(test)]
-mod stepping;
 #[cfg(test)]
 mod tests;
 pub mod unlatch;

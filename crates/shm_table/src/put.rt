@@ -1,6 +1,6 @@
 //! A key of the own table comes to have a number, in a value block of its own.
 
-ghost use Rattle.std.specs.Prelude.{◌≡◌, ◌<◌, ◌≤◌};
+ghost use Rattle.std.specs.Prelude.{◌≡◌, ◌<◌};
 ghost use Rattle.shm_words.specs.Layout.{GeometryFits};
 ghost use Rattle.shm_table.specs.PutControl as control;
 ghost use Rattle.shm_table.specs.PutControl.{putting};

@@ -1,18 +1,21 @@
 //! Entries that come to have another value block, step by step and on the words of a pool, against an independent implementation.
 
 use crate::answer::PutFault;
-use crate::entry_tests::{exchange, follow, load, put_words, store, words_of};
 use crate::parts::{Replace, Replacing};
 use shm_calls::Calls;
 use shm_graph::Me;
+use shm_runs::Step::{Exchange, Load, Store};
+use shm_runs::{Run, runs};
 use shm_words::Geometry;
 use std::test::Fail;
 
-#[test]
-fn an_entry_has_another_value(rt: HostRuntime) -> Result<(), Fail> {
-    let me = Me::new(Geometry::new(1, 1)?, 0);
-    // entry 306 has the value block 50 of number 77, and root 0 names block 54 of number 78
-    let before = [
+// one client, which has joined: redo record at 2, hold word at 3, latch at 4, home at 5, own era at 6, roots from 7, segment at 33 and pages
+// from 34
+
+/// Entry 306 has the value block 50 of number 77, and root 0 names block 54 of number 78.
+const AN_ENTRY_HAS_ANOTHER_VALUE: Run = Run {
+    total: 2098,
+    before: &[
         (1, 1),
         (2, 2_305_850_705_795_088_438),
         (3, 1),
@@ -37,48 +40,42 @@ fn an_entry_has_another_value(rt: HostRuntime) -> Result<(), Fail> {
         (307, 2_214_592_512),
         (309, 50),
         (310, 5),
-    ];
-    let steps = [
-        (load(309), 50),
-        (load(6), 11),
-        (store(2, 8_070_790_281_393_340_470), 0),
-        (load(54), 9_223_512_774_343_131_146),
-        (
-            exchange(54, 9_223_512_774_343_131_146, 9_223_653_511_831_486_475),
-            9_223_512_774_343_131_146,
-        ),
-        (store(309, 54), 0),
-        (store(6, 12), 0),
-        (load(50), 9_223_512_774_343_131_145),
-        (
-            exchange(50, 9_223_512_774_343_131_145, 9_223_372_036_854_775_820),
-            9_223_512_774_343_131_145,
-        ),
-        (store(6, 13), 0),
-        (load(51), 67_108_864),
-        (store(50, 0), 0),
-    ];
-    let changes = [
+    ],
+    steps: &[
+        Load(309, 50),
+        Load(6, 11),
+        Store(2, 8_070_790_281_393_340_470),
+        Load(54, 9_223_512_774_343_131_146),
+        Exchange(54, 9_223_512_774_343_131_146, 9_223_653_511_831_486_475),
+        Store(309, 54),
+        Store(6, 12),
+        Load(50, 9_223_512_774_343_131_145),
+        Exchange(50, 9_223_512_774_343_131_145, 9_223_372_036_854_775_820),
+        Store(6, 13),
+        Load(51, 67_108_864),
+        Store(50, 0),
+    ],
+    changes: &[
         (2, 8_070_790_281_393_340_470),
         (6, 13),
         (50, 0),
         (54, 9_223_653_511_831_486_475),
         (309, 54),
-    ];
-    let mut words = words_of(rt.alloc(), 2098, &before)?;
-    let mut machine: Replace = Calls::new(Replacing::new(me, 306, 54));
-    assert_eq!(rt; follow(&mut machine, &mut words, &steps), Some(Ok(())));
-    let mut after = words_of(rt.alloc(), 2098, &before)?;
-    put_words(&mut after, &changes);
-    assert_eq!(rt; words.as_slice(), after.as_slice());
+    ],
+};
+
+#[test]
+fn an_entry_has_another_value(rt: HostRuntime) -> Result<(), Fail> {
+    let me = Me::new(Geometry::new(1, 1)?, 0);
+    let machine: Replace = Calls::new(Replacing::new(me, 306, 54));
+    assert!(rt; runs(rt.alloc(), machine, &AN_ENTRY_HAS_ANOTHER_VALUE, Ok(()))?);
     Ok(())
 }
 
-#[test]
-fn an_entry_has_that_value(rt: HostRuntime) -> Result<(), Fail> {
-    let me = Me::new(Geometry::new(1, 1)?, 0);
-    // entry 306 has the value block 50, which root 0 names too
-    let before = [
+/// Entry 306 has the value block 50, which root 0 names too.
+const AN_ENTRY_HAS_THAT_VALUE: Run = Run {
+    total: 2098,
+    before: &[
         (1, 1),
         (2, 2_305_850_705_795_088_434),
         (3, 1),
@@ -100,23 +97,23 @@ fn an_entry_has_that_value(rt: HostRuntime) -> Result<(), Fail> {
         (307, 2_214_592_512),
         (309, 50),
         (310, 5),
-    ];
-    let steps = [(load(309), 50)];
-    let mut words = words_of(rt.alloc(), 2098, &before)?;
-    let mut machine: Replace = Calls::new(Replacing::new(me, 306, 50));
-    assert_eq!(rt; follow(&mut machine, &mut words, &steps), Some(Ok(())));
-    assert_eq!(rt;
-        words.as_slice(),
-        words_of(rt.alloc(), 2098, &before)?.as_slice()
-    );
+    ],
+    steps: &[Load(309, 50)],
+    changes: &[],
+};
+
+#[test]
+fn an_entry_has_that_value(rt: HostRuntime) -> Result<(), Fail> {
+    let me = Me::new(Geometry::new(1, 1)?, 0);
+    let machine: Replace = Calls::new(Replacing::new(me, 306, 50));
+    assert!(rt; runs(rt.alloc(), machine, &AN_ENTRY_HAS_THAT_VALUE, Ok(()))?);
     Ok(())
 }
 
-#[test]
-fn a_value_that_another_names_stays(rt: HostRuntime) -> Result<(), Fail> {
-    let me = Me::new(Geometry::new(2, 2)?, 0);
-    // an entry of client 1 names the value block of entry 377 too
-    let before = [
+/// An entry of client 1 names the value block of entry 377 too.
+const A_VALUE_THAT_ANOTHER_NAMES_STAYS: Run = Run {
+    total: 4217,
+    before: &[
         (1, 1),
         (2, 1),
         (3, 2_305_859_501_888_110_717),
@@ -156,49 +153,50 @@ fn a_value_that_another_names_stays(rt: HostRuntime) -> Result<(), Fail> {
         (2298, 2_215_641_088),
         (2300, 121),
         (2301, 9),
-    ];
-    let steps = [
-        (load(380), 121),
-        (load(11), 11),
-        (store(3, 8_070_868_346_793_361_533), 0),
-        (load(125), 9_223_512_774_343_131_146),
-        (
-            exchange(125, 9_223_512_774_343_131_146, 9_223_653_511_831_486_475),
-            9_223_512_774_343_131_146,
-        ),
-        (store(380, 125), 0),
-        (store(11, 12), 0),
-        (load(121), 9_367_768_699_907_342_345),
-        (load(12), 0),
-        (store(12, 9), 0),
-        (
-            exchange(121, 9_367_768_699_907_342_345, 9_223_512_774_343_131_148),
-            9_367_768_699_907_342_345,
-        ),
-        (store(11, 13), 0),
-    ];
-    let changes = [
+    ],
+    steps: &[
+        Load(380, 121),
+        Load(11, 11),
+        Store(3, 8_070_868_346_793_361_533),
+        Load(125, 9_223_512_774_343_131_146),
+        Exchange(125, 9_223_512_774_343_131_146, 9_223_653_511_831_486_475),
+        Store(380, 125),
+        Store(11, 12),
+        Load(121, 9_367_768_699_907_342_345),
+        Load(12, 0),
+        Store(12, 9),
+        Exchange(121, 9_367_768_699_907_342_345, 9_223_512_774_343_131_148),
+        Store(11, 13),
+    ],
+    changes: &[
         (3, 8_070_868_346_793_361_533),
         (11, 13),
         (12, 9),
         (121, 9_223_512_774_343_131_148),
         (125, 9_223_653_511_831_486_475),
         (380, 125),
-    ];
-    let mut words = words_of(rt.alloc(), 4217, &before)?;
-    let mut machine: Replace = Calls::new(Replacing::new(me, 377, 125));
-    assert_eq!(rt; follow(&mut machine, &mut words, &steps), Some(Ok(())));
-    let mut after = words_of(rt.alloc(), 4217, &before)?;
-    put_words(&mut after, &changes);
-    assert_eq!(rt; words.as_slice(), after.as_slice());
+    ],
+};
+
+#[test]
+fn a_value_that_another_names_stays(rt: HostRuntime) -> Result<(), Fail> {
+    let me = Me::new(Geometry::new(2, 2)?, 0);
+    let machine: Replace = Calls::new(Replacing::new(me, 377, 125));
+    assert!(rt;
+        runs(
+            rt.alloc(),
+            machine,
+            &A_VALUE_THAT_ANOTHER_NAMES_STAYS,
+            Ok(())
+        )?
+    );
     Ok(())
 }
 
-#[test]
-fn no_era_is_left_for_a_change(rt: HostRuntime) -> Result<(), Fail> {
-    let me = Me::new(Geometry::new(1, 1)?, 0);
-    // the own era leaves room for no change
-    let before = [
+/// The own era leaves room for no change.
+const NO_ERA_IS_LEFT_FOR_A_CHANGE: Run = Run {
+    total: 2098,
+    before: &[
         (1, 1),
         (2, 2_305_850_705_795_088_438),
         (3, 1),
@@ -223,28 +221,32 @@ fn no_era_is_left_for_a_change(rt: HostRuntime) -> Result<(), Fail> {
         (307, 2_214_592_512),
         (309, 50),
         (310, 5),
-    ];
-    let steps = [(load(309), 50), (load(6), 140_737_488_355_325)];
-    let mut words = words_of(rt.alloc(), 2098, &before)?;
-    let mut machine: Replace = Calls::new(Replacing::new(me, 306, 54));
-    assert_eq!(rt;
-        follow(&mut machine, &mut words, &steps),
-        Some(Err(PutFault::EraSpent {
-            era: 140_737_488_355_325
-        }))
-    );
-    assert_eq!(rt;
-        words.as_slice(),
-        words_of(rt.alloc(), 2098, &before)?.as_slice()
+    ],
+    steps: &[Load(309, 50), Load(6, 140_737_488_355_325)],
+    changes: &[],
+};
+
+#[test]
+fn no_era_is_left_for_a_change(rt: HostRuntime) -> Result<(), Fail> {
+    let me = Me::new(Geometry::new(1, 1)?, 0);
+    let machine: Replace = Calls::new(Replacing::new(me, 306, 54));
+    assert!(rt;
+        runs(
+            rt.alloc(),
+            machine,
+            &NO_ERA_IS_LEFT_FOR_A_CHANGE,
+            Err(PutFault::EraSpent {
+                era: 140_737_488_355_325
+            })
+        )?
     );
     Ok(())
 }
 
-#[test]
-fn a_full_block_is_not_taken(rt: HostRuntime) -> Result<(), Fail> {
-    let me = Me::new(Geometry::new(2, 2)?, 0);
-    // block 125 has the greatest count, and root 0 names it
-    let before = [
+/// Block 125 has the greatest count, and root 0 names it.
+const A_FULL_BLOCK_IS_NOT_TAKEN: Run = Run {
+    total: 4217,
+    before: &[
         (1, 1),
         (2, 1),
         (3, 2_305_859_501_888_110_717),
@@ -276,25 +278,30 @@ fn a_full_block_is_not_taken(rt: HostRuntime) -> Result<(), Fail> {
         (386, 2_214_592_512),
         (388, 125),
         (389, 7),
-    ];
-    let steps = [
-        (load(380), 121),
-        (load(11), 17),
-        (store(3, 8_070_868_346_793_361_533), 0),
-        (load(125), 9_367_346_487_442_276_368),
-    ];
-    let changes = [(3, 8_070_868_346_793_361_533)];
-    let mut words = words_of(rt.alloc(), 4217, &before)?;
-    let mut machine: Replace = Calls::new(Replacing::new(me, 377, 125));
-    assert_eq!(rt;
-        follow(&mut machine, &mut words, &steps),
-        Some(Err(PutFault::CountFull {
-            block: 125,
-            count: 1023
-        }))
+    ],
+    steps: &[
+        Load(380, 121),
+        Load(11, 17),
+        Store(3, 8_070_868_346_793_361_533),
+        Load(125, 9_367_346_487_442_276_368),
+    ],
+    changes: &[(3, 8_070_868_346_793_361_533)],
+};
+
+#[test]
+fn a_full_block_is_not_taken(rt: HostRuntime) -> Result<(), Fail> {
+    let me = Me::new(Geometry::new(2, 2)?, 0);
+    let machine: Replace = Calls::new(Replacing::new(me, 377, 125));
+    assert!(rt;
+        runs(
+            rt.alloc(),
+            machine,
+            &A_FULL_BLOCK_IS_NOT_TAKEN,
+            Err(PutFault::CountFull {
+                block: 125,
+                count: 1023
+            })
+        )?
     );
-    let mut after = words_of(rt.alloc(), 4217, &before)?;
-    put_words(&mut after, &changes);
-    assert_eq!(rt; words.as_slice(), after.as_slice());
     Ok(())
 }

@@ -1,17 +1,20 @@
 //! Entries that are taken out of their chains, step by step and on the words of a pool, against an independent implementation.
 
-use crate::entry_tests::{exchange, follow, load, put_words, store, words_of};
 use crate::parts::{Unlink, Unlinking};
 use shm_calls::Calls;
 use shm_graph::Me;
+use shm_runs::Step::{Exchange, Load, Store};
+use shm_runs::{Run, runs};
 use shm_words::Geometry;
 use std::test::Fail;
 
-#[test]
-fn the_only_entry_goes(rt: HostRuntime) -> Result<(), Fail> {
-    let me = Me::new(Geometry::new(1, 1)?, 0);
-    // word 5 of the directory 178 leads to entry 306, after which there is none
-    let before = [
+// one client, which has joined: redo record at 2, hold word at 3, latch at 4, home at 5, own era at 6, roots from 7, segment at 33 and pages
+// from 34
+
+/// Word 5 of the directory 178 leads to entry 306, after which there is none.
+const THE_ONLY_ENTRY_GOES: Run = Run {
+    total: 2098,
+    before: &[
         (1, 1),
         (2, 4_611_693_715_061_211_136),
         (3, 1),
@@ -32,39 +35,33 @@ fn the_only_entry_goes(rt: HostRuntime) -> Result<(), Fail> {
         (307, 2_214_592_512),
         (309, 50),
         (310, 5),
-    ];
-    let steps = [
-        (load(308), 0),
-        (load(6), 10),
-        (store(2, 4_611_889_428_399_390_720), 0),
-        (load(306), 9_223_512_774_343_131_144),
-        (
-            exchange(306, 9_223_512_774_343_131_144, 9_223_372_036_854_775_818),
-            9_223_512_774_343_131_144,
-        ),
-        (store(185, 0), 0),
-        (store(6, 11), 0),
-        (load(307), 2_214_592_512),
-        (load(308), 0),
-        (load(309), 50),
-        (load(6), 11),
-        (store(2, 4_612_025_767_572_799_488), 0),
-        (load(50), 9_223_512_774_343_131_145),
-        (
-            exchange(50, 9_223_512_774_343_131_145, 9_223_372_036_854_775_819),
-            9_223_512_774_343_131_145,
-        ),
-        (store(309, 0), 0),
-        (store(6, 12), 0),
-        (load(51), 67_108_864),
-        (store(51, 67_109_170), 0),
-        (store(50, 0), 0),
-        (load(307), 2_214_592_512),
-        (load(308), 0),
-        (load(309), 0),
-        (store(306, 0), 0),
-    ];
-    let changes = [
+    ],
+    steps: &[
+        Load(308, 0),
+        Load(6, 10),
+        Store(2, 4_611_889_428_399_390_720),
+        Load(306, 9_223_512_774_343_131_144),
+        Exchange(306, 9_223_512_774_343_131_144, 9_223_372_036_854_775_818),
+        Store(185, 0),
+        Store(6, 11),
+        Load(307, 2_214_592_512),
+        Load(308, 0),
+        Load(309, 50),
+        Load(6, 11),
+        Store(2, 4_612_025_767_572_799_488),
+        Load(50, 9_223_512_774_343_131_145),
+        Exchange(50, 9_223_512_774_343_131_145, 9_223_372_036_854_775_819),
+        Store(309, 0),
+        Store(6, 12),
+        Load(51, 67_108_864),
+        Store(51, 67_109_170),
+        Store(50, 0),
+        Load(307, 2_214_592_512),
+        Load(308, 0),
+        Load(309, 0),
+        Store(306, 0),
+    ],
+    changes: &[
         (2, 4_612_025_767_572_799_488),
         (6, 12),
         (50, 0),
@@ -72,21 +69,21 @@ fn the_only_entry_goes(rt: HostRuntime) -> Result<(), Fail> {
         (185, 0),
         (306, 0),
         (309, 0),
-    ];
-    let mut words = words_of(rt.alloc(), 2098, &before)?;
-    let mut machine: Unlink = Calls::new(Unlinking::new(me, 306, 178, 5));
-    assert_eq!(rt; follow(&mut machine, &mut words, &steps), Some(Ok(())));
-    let mut after = words_of(rt.alloc(), 2098, &before)?;
-    put_words(&mut after, &changes);
-    assert_eq!(rt; words.as_slice(), after.as_slice());
+    ],
+};
+
+#[test]
+fn the_only_entry_goes(rt: HostRuntime) -> Result<(), Fail> {
+    let me = Me::new(Geometry::new(1, 1)?, 0);
+    let machine: Unlink = Calls::new(Unlinking::new(me, 306, 178, 5));
+    assert!(rt; runs(rt.alloc(), machine, &THE_ONLY_ENTRY_GOES, Ok(()))?);
     Ok(())
 }
 
-#[test]
-fn the_first_entry_goes(rt: HostRuntime) -> Result<(), Fail> {
-    let me = Me::new(Geometry::new(1, 1)?, 0);
-    // word 5 of the directory 178 leads to entry 322, after which there are two more
-    let before = [
+/// Word 5 of the directory 178 leads to entry 322, after which there are two more.
+const THE_FIRST_ENTRY_GOES: Run = Run {
+    total: 2098,
+    before: &[
         (1, 1),
         (2, 4_611_693_715_069_599_744),
         (3, 1),
@@ -123,54 +120,42 @@ fn the_first_entry_goes(rt: HostRuntime) -> Result<(), Fail> {
         (324, 314),
         (325, 58),
         (326, 37),
-    ];
-    let steps = [
-        (load(324), 314),
-        (load(6), 26),
-        (store(2, 6_917_732_437_629_862_202), 0),
-        (load(314), 9_223_512_774_343_131_159),
-        (
-            exchange(314, 9_223_512_774_343_131_159, 9_223_653_511_831_486_490),
-            9_223_512_774_343_131_159,
-        ),
-        (store(185, 314), 0),
-        (store(6, 27), 0),
-        (load(322), 9_223_512_774_343_131_160),
-        (
-            exchange(322, 9_223_512_774_343_131_160, 9_223_372_036_854_775_835),
-            9_223_512_774_343_131_160,
-        ),
-        (store(6, 28), 0),
-        (load(323), 2_214_592_512),
-        (load(324), 314),
-        (load(6), 28),
-        (store(2, 4_612_042_260_524_040_192), 0),
-        (load(314), 9_223_653_511_831_486_490),
-        (
-            exchange(314, 9_223_653_511_831_486_490, 9_223_512_774_343_131_164),
-            9_223_653_511_831_486_490,
-        ),
-        (store(324, 0), 0),
-        (store(6, 29), 0),
-        (load(325), 58),
-        (load(6), 29),
-        (store(2, 4_612_043_359_767_232_512), 0),
-        (load(58), 9_223_512_774_343_131_161),
-        (
-            exchange(58, 9_223_512_774_343_131_161, 9_223_372_036_854_775_837),
-            9_223_512_774_343_131_161,
-        ),
-        (store(325, 0), 0),
-        (store(6, 30), 0),
-        (load(59), 67_108_864),
-        (store(59, 67_109_186), 0),
-        (store(58, 0), 0),
-        (load(323), 2_214_592_512),
-        (load(324), 0),
-        (load(325), 0),
-        (store(322, 0), 0),
-    ];
-    let changes = [
+    ],
+    steps: &[
+        Load(324, 314),
+        Load(6, 26),
+        Store(2, 6_917_732_437_629_862_202),
+        Load(314, 9_223_512_774_343_131_159),
+        Exchange(314, 9_223_512_774_343_131_159, 9_223_653_511_831_486_490),
+        Store(185, 314),
+        Store(6, 27),
+        Load(322, 9_223_512_774_343_131_160),
+        Exchange(322, 9_223_512_774_343_131_160, 9_223_372_036_854_775_835),
+        Store(6, 28),
+        Load(323, 2_214_592_512),
+        Load(324, 314),
+        Load(6, 28),
+        Store(2, 4_612_042_260_524_040_192),
+        Load(314, 9_223_653_511_831_486_490),
+        Exchange(314, 9_223_653_511_831_486_490, 9_223_512_774_343_131_164),
+        Store(324, 0),
+        Store(6, 29),
+        Load(325, 58),
+        Load(6, 29),
+        Store(2, 4_612_043_359_767_232_512),
+        Load(58, 9_223_512_774_343_131_161),
+        Exchange(58, 9_223_512_774_343_131_161, 9_223_372_036_854_775_837),
+        Store(325, 0),
+        Store(6, 30),
+        Load(59, 67_108_864),
+        Store(59, 67_109_186),
+        Store(58, 0),
+        Load(323, 2_214_592_512),
+        Load(324, 0),
+        Load(325, 0),
+        Store(322, 0),
+    ],
+    changes: &[
         (2, 4_612_043_359_767_232_512),
         (6, 30),
         (58, 0),
@@ -180,21 +165,21 @@ fn the_first_entry_goes(rt: HostRuntime) -> Result<(), Fail> {
         (322, 0),
         (324, 0),
         (325, 0),
-    ];
-    let mut words = words_of(rt.alloc(), 2098, &before)?;
-    let mut machine: Unlink = Calls::new(Unlinking::new(me, 322, 178, 5));
-    assert_eq!(rt; follow(&mut machine, &mut words, &steps), Some(Ok(())));
-    let mut after = words_of(rt.alloc(), 2098, &before)?;
-    put_words(&mut after, &changes);
-    assert_eq!(rt; words.as_slice(), after.as_slice());
+    ],
+};
+
+#[test]
+fn the_first_entry_goes(rt: HostRuntime) -> Result<(), Fail> {
+    let me = Me::new(Geometry::new(1, 1)?, 0);
+    let machine: Unlink = Calls::new(Unlinking::new(me, 322, 178, 5));
+    assert!(rt; runs(rt.alloc(), machine, &THE_FIRST_ENTRY_GOES, Ok(()))?);
     Ok(())
 }
 
-#[test]
-fn an_entry_between_others_goes(rt: HostRuntime) -> Result<(), Fail> {
-    let me = Me::new(Geometry::new(1, 1)?, 0);
-    // entry 322 leads to entry 314, after which there is one more
-    let before = [
+/// Entry 322 leads to entry 314, after which there is one more.
+const AN_ENTRY_BETWEEN_OTHERS_GOES: Run = Run {
+    total: 2098,
+    before: &[
         (1, 1),
         (2, 4_611_693_715_069_599_744),
         (3, 1),
@@ -231,54 +216,42 @@ fn an_entry_between_others_goes(rt: HostRuntime) -> Result<(), Fail> {
         (324, 314),
         (325, 58),
         (326, 37),
-    ];
-    let steps = [
-        (load(316), 306),
-        (load(6), 26),
-        (store(2, 6_917_885_269_737_734_450), 0),
-        (load(306), 9_223_512_774_343_131_151),
-        (
-            exchange(306, 9_223_512_774_343_131_151, 9_223_653_511_831_486_490),
-            9_223_512_774_343_131_151,
-        ),
-        (store(324, 306), 0),
-        (store(6, 27), 0),
-        (load(314), 9_223_512_774_343_131_159),
-        (
-            exchange(314, 9_223_512_774_343_131_159, 9_223_372_036_854_775_835),
-            9_223_512_774_343_131_159,
-        ),
-        (store(6, 28), 0),
-        (load(315), 2_214_592_512),
-        (load(316), 306),
-        (load(6), 28),
-        (store(2, 4_612_033_464_422_629_376), 0),
-        (load(306), 9_223_653_511_831_486_490),
-        (
-            exchange(306, 9_223_653_511_831_486_490, 9_223_512_774_343_131_164),
-            9_223_653_511_831_486_490,
-        ),
-        (store(316, 0), 0),
-        (store(6, 29), 0),
-        (load(317), 54),
-        (load(6), 29),
-        (store(2, 4_612_034_563_670_016_000), 0),
-        (load(54), 9_223_512_774_343_131_153),
-        (
-            exchange(54, 9_223_512_774_343_131_153, 9_223_372_036_854_775_837),
-            9_223_512_774_343_131_153,
-        ),
-        (store(317, 0), 0),
-        (store(6, 30), 0),
-        (load(55), 67_108_864),
-        (store(55, 67_109_178), 0),
-        (store(54, 0), 0),
-        (load(315), 2_214_592_512),
-        (load(316), 0),
-        (load(317), 0),
-        (store(314, 0), 0),
-    ];
-    let changes = [
+    ],
+    steps: &[
+        Load(316, 306),
+        Load(6, 26),
+        Store(2, 6_917_885_269_737_734_450),
+        Load(306, 9_223_512_774_343_131_151),
+        Exchange(306, 9_223_512_774_343_131_151, 9_223_653_511_831_486_490),
+        Store(324, 306),
+        Store(6, 27),
+        Load(314, 9_223_512_774_343_131_159),
+        Exchange(314, 9_223_512_774_343_131_159, 9_223_372_036_854_775_835),
+        Store(6, 28),
+        Load(315, 2_214_592_512),
+        Load(316, 306),
+        Load(6, 28),
+        Store(2, 4_612_033_464_422_629_376),
+        Load(306, 9_223_653_511_831_486_490),
+        Exchange(306, 9_223_653_511_831_486_490, 9_223_512_774_343_131_164),
+        Store(316, 0),
+        Store(6, 29),
+        Load(317, 54),
+        Load(6, 29),
+        Store(2, 4_612_034_563_670_016_000),
+        Load(54, 9_223_512_774_343_131_153),
+        Exchange(54, 9_223_512_774_343_131_153, 9_223_372_036_854_775_837),
+        Store(317, 0),
+        Store(6, 30),
+        Load(55, 67_108_864),
+        Store(55, 67_109_178),
+        Store(54, 0),
+        Load(315, 2_214_592_512),
+        Load(316, 0),
+        Load(317, 0),
+        Store(314, 0),
+    ],
+    changes: &[
         (2, 4_612_034_563_670_016_000),
         (6, 30),
         (54, 0),
@@ -288,21 +261,21 @@ fn an_entry_between_others_goes(rt: HostRuntime) -> Result<(), Fail> {
         (316, 0),
         (317, 0),
         (324, 306),
-    ];
-    let mut words = words_of(rt.alloc(), 2098, &before)?;
-    let mut machine: Unlink = Calls::new(Unlinking::new(me, 314, 322, 0));
-    assert_eq!(rt; follow(&mut machine, &mut words, &steps), Some(Ok(())));
-    let mut after = words_of(rt.alloc(), 2098, &before)?;
-    put_words(&mut after, &changes);
-    assert_eq!(rt; words.as_slice(), after.as_slice());
+    ],
+};
+
+#[test]
+fn an_entry_between_others_goes(rt: HostRuntime) -> Result<(), Fail> {
+    let me = Me::new(Geometry::new(1, 1)?, 0);
+    let machine: Unlink = Calls::new(Unlinking::new(me, 314, 322, 0));
+    assert!(rt; runs(rt.alloc(), machine, &AN_ENTRY_BETWEEN_OTHERS_GOES, Ok(()))?);
     Ok(())
 }
 
-#[test]
-fn the_last_entry_goes(rt: HostRuntime) -> Result<(), Fail> {
-    let me = Me::new(Geometry::new(1, 1)?, 0);
-    // entry 314 leads to entry 306, after which there is none
-    let before = [
+/// Entry 314 leads to entry 306, after which there is none.
+const THE_LAST_ENTRY_GOES: Run = Run {
+    total: 2098,
+    before: &[
         (1, 1),
         (2, 4_611_693_715_069_599_744),
         (3, 1),
@@ -339,39 +312,33 @@ fn the_last_entry_goes(rt: HostRuntime) -> Result<(), Fail> {
         (324, 314),
         (325, 58),
         (326, 37),
-    ];
-    let steps = [
-        (load(308), 0),
-        (load(6), 26),
-        (store(2, 4_612_033_464_422_629_376), 0),
-        (load(306), 9_223_512_774_343_131_151),
-        (
-            exchange(306, 9_223_512_774_343_131_151, 9_223_372_036_854_775_834),
-            9_223_512_774_343_131_151,
-        ),
-        (store(316, 0), 0),
-        (store(6, 27), 0),
-        (load(307), 2_214_592_512),
-        (load(308), 0),
-        (load(309), 50),
-        (load(6), 27),
-        (store(2, 4_612_025_767_572_799_488), 0),
-        (load(50), 9_223_512_774_343_131_145),
-        (
-            exchange(50, 9_223_512_774_343_131_145, 9_223_372_036_854_775_835),
-            9_223_512_774_343_131_145,
-        ),
-        (store(309, 0), 0),
-        (store(6, 28), 0),
-        (load(51), 67_108_864),
-        (store(51, 67_109_170), 0),
-        (store(50, 0), 0),
-        (load(307), 2_214_592_512),
-        (load(308), 0),
-        (load(309), 0),
-        (store(306, 0), 0),
-    ];
-    let changes = [
+    ],
+    steps: &[
+        Load(308, 0),
+        Load(6, 26),
+        Store(2, 4_612_033_464_422_629_376),
+        Load(306, 9_223_512_774_343_131_151),
+        Exchange(306, 9_223_512_774_343_131_151, 9_223_372_036_854_775_834),
+        Store(316, 0),
+        Store(6, 27),
+        Load(307, 2_214_592_512),
+        Load(308, 0),
+        Load(309, 50),
+        Load(6, 27),
+        Store(2, 4_612_025_767_572_799_488),
+        Load(50, 9_223_512_774_343_131_145),
+        Exchange(50, 9_223_512_774_343_131_145, 9_223_372_036_854_775_835),
+        Store(309, 0),
+        Store(6, 28),
+        Load(51, 67_108_864),
+        Store(51, 67_109_170),
+        Store(50, 0),
+        Load(307, 2_214_592_512),
+        Load(308, 0),
+        Load(309, 0),
+        Store(306, 0),
+    ],
+    changes: &[
         (2, 4_612_025_767_572_799_488),
         (6, 28),
         (50, 0),
@@ -379,12 +346,13 @@ fn the_last_entry_goes(rt: HostRuntime) -> Result<(), Fail> {
         (306, 0),
         (309, 0),
         (316, 0),
-    ];
-    let mut words = words_of(rt.alloc(), 2098, &before)?;
-    let mut machine: Unlink = Calls::new(Unlinking::new(me, 306, 314, 0));
-    assert_eq!(rt; follow(&mut machine, &mut words, &steps), Some(Ok(())));
-    let mut after = words_of(rt.alloc(), 2098, &before)?;
-    put_words(&mut after, &changes);
-    assert_eq!(rt; words.as_slice(), after.as_slice());
+    ],
+};
+
+#[test]
+fn the_last_entry_goes(rt: HostRuntime) -> Result<(), Fail> {
+    let me = Me::new(Geometry::new(1, 1)?, 0);
+    let machine: Unlink = Calls::new(Unlinking::new(me, 306, 314, 0));
+    assert!(rt; runs(rt.alloc(), machine, &THE_LAST_ENTRY_GOES, Ok(()))?);
     Ok(())
 }

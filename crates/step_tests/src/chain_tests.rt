@@ -1,9 +1,9 @@
 //! A chain of three blocks that is built under the own latch and goes with the last root, against an independent implementation.
 
-use crate::tests::{make, words_of};
-use crate::{DropRoot, Dropping, Hold, Holding, Release, Releasing, SetRef, Setting};
 use shm_calls::Calls;
 use shm_graph::{Machine, Me, Turn};
+use shm_ref::{DropRoot, Dropping, Hold, Holding, Release, Releasing, SetRef, Setting};
+use shm_runs::{make, words_of};
 use shm_words::Geometry;
 use std::test::Fail;
 

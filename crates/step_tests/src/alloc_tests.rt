@@ -1,6 +1,6 @@
 //! What an allocation refuses at once, and what one asks step by step.
 
-use crate::{Alloc, TooLarge};
+use shm_alloc::{Alloc, TooLarge};
 use shm_count::Made;
 use shm_graph::{Ask, Machine, Me, Turn};
 use shm_words::Geometry;

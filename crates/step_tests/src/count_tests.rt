@@ -1,6 +1,6 @@
 //! What count steps ask step by step, against an independent implementation.
 
-use crate::{EraSpent, StepChange, StepDown, StepUp, UpFault};
+use shm_count::{EraSpent, StepChange, StepDown, StepUp, UpFault};
 use shm_graph::{Ask, Machine, Me, Turn};
 use shm_words::Geometry;
 use std::test::Fail;

@@ -1,7 +1,7 @@
 //! Tear-downs step by step and on the words of a pool, against an independent implementation.
 
-use crate::tests::{answer_of, exchange, load, store};
-use crate::{EraSpent, TearDown};
+use crate::count_tests::{answer_of, exchange, load, store};
+use shm_count::{EraSpent, TearDown};
 use shm_graph::{Ask, Machine, Me, Turn};
 use shm_words::Geometry;
 use std::alloc::{AllocError, Global};

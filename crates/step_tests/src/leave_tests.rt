@@ -1,9 +1,9 @@
 //! A join and a leaving, step by step and on the words of a pool, against an independent implementation.
 
-use crate::{Join, Leave, Leaving};
 use shm_calls::Calls;
 use shm_count::EraSpent;
 use shm_graph::{Ask, Machine, Me, Turn};
+use shm_recover::{Join, Leave, Leaving};
 use shm_words::Geometry;
 use std::alloc::{AllocError, Global};
 use std::test::Fail;

@@ -2,11 +2,11 @@
 
 ghost use Rattle.std.specs.Prelude.{◌<◌, ◌^◌};
 
-use crate::tests::Step::Load;
-use crate::tests::{Step, follow, words_of};
-use crate::{FindingHome, HomeOf, Look, LookFault, Looking, NoSuchWord, NotHeld, Read, Reading};
 use shm_calls::Calls;
 use shm_graph::Me;
+use shm_ref::{FindingHome, HomeOf, Look, LookFault, Looking, NoSuchWord, NotHeld, Read, Reading};
+use shm_runs::Step::Load;
+use shm_runs::{Step, follow, words_of};
 use shm_words::Geometry;
 use std::alloc::{AllocError, Global};
 use std::test::Fail;
