@@ -1,6 +1,6 @@
 -- identities that may send, receive and leave: how they come to be so, and stay so
 use Rattle.std.proofs.Common.{◌≡◌, ◌≢◌, ℕ, ◌<◌, Bool, false, sym, ap, ◌∙◌, subst, Result}
-use Rattle.std.specs.Prelude.{◌==◌, slice_index}
+use Rattle.std.specs.Prelude.{◌==◌, Ok, Err, IfOk, slice_index}
 use Rattle.std.proofs.lemmas.Bool.{true≢false}
 use Rattle.shm_words.specs.declared.geometry.Geometry.{Geometry}
 use Rattle.shm_words.specs.Layout.{GeometryFits}
@@ -58,6 +58,12 @@ core_waits m r e =
       untaken = λ j. ap (λ (x : Memo). slice_index x.untaken j) e;
     }
 
+-- and what has the core of a memo in which the same waits
+pub waits_by : (m q r : Memo) → LeavesWaiting m q → core r ≡ core q → LeavesWaiting m r
+waits_by m q r h e =
+    let x = core_waits q r e in
+    record { dying = x.dying ∙ h.dying; unsent = λ j. x.unsent j ∙ h.unsent j; untaken = λ j. x.untaken j ∙ h.untaken j }
+
 -- nothing waits still
 pub quiet_after : (m r : Memo) → LeavesWaiting m r → IsQuiet m → IsQuiet r
 quiet_after m r left h =
@@ -69,6 +75,11 @@ quiet_after m r left h =
 
 pub clear_quiet : (m : Memo) → IsClear m → IsQuiet m
 clear_quiet m h = record { dying = h.dying; unsent = h.unsent; untaken = h.untaken }
+
+-- a word of a block was set, or that was refused
+pub quiet_set : {T E : Type 0} (m q r : Memo) (a : Result T E) → core q ≡ core m → LeavesQueues q r → IfOk a (λ u. r.dying ≡ q.dying) → IfOk a (λ u. IsQuiet m → IsQuiet r)
+quiet_set m q r (Ok u) same left dying = λ h. quiet_after q r (record { dying = dying; unsent = left.unsent; untaken = left.untaken }) (quiet_after m q (core_waits m q same) h)
+quiet_set m q r (Err e) same left dying = tt
 
 -- a call on a queue leaves it ready
 pub ready_after : (c : ℕ) (p q : Pool) → IsReady c p → IsAtWork c q → recovers (memo_of q c) ≡ recovers (memo_of p c) → LeavesQueues (memo_of p c) (memo_of q c) → (memo_of q c).dying ≡ (memo_of p c).dying → IsReady c q

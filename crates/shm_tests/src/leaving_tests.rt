@@ -132,7 +132,10 @@ fn fill_roots(rt: &impl Abort, pool: &mut PlainPool, life: &mut Life)
             panic!(rt; "no step was left")
         };
         assert!(rt; 0 < block && block < 1 << 20, "an empty root");
-        assert_eq!(rt; share(pool, 0, block, life), Some(Ok(place)));
+        let Some(Ok(root)) = share(pool, 0, block, life) else {
+            panic!(rt; "no root")
+        };
+        assert_eq!(rt; root, place);
     }
 }
 

@@ -140,9 +140,10 @@ pub(crate) fn grow(
     };
     for &root in tree.drops {
         assert!(rt; root < 16);
-        let Some(Ok(true)) = drop_root(&mut pool, 0, root, life) else {
-            panic!(rt; "{root}")
+        let Some(Ok(named)) = drop_root(&mut pool, 0, root, life) else {
+            panic!(rt; "not dropped")
         };
+        assert!(rt; named, "{root}");
     }
     Ok(pool)
 }

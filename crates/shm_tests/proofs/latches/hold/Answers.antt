@@ -24,7 +24,7 @@ use Rattle.shm_ref.specs.HoldControl.{holding}
 use Rattle.shm_ref.specs.HoldFits.{HoldKnows, HoldLeaves, hold_plan, wants}
 use Rattle.shm_ref.specs.HoldLaws.{hold_begin, hold_laws}
 use Rattle.shm_tests.specs.Queues.{LeavesWaiting}
-use Rattle.shm_tests.proofs.QueueReady.{core_waits}
+use Rattle.shm_tests.proofs.QueueReady.{waits_by}
 use Rattle.shm_tests.proofs.latches.hold.Goals.{After-new-machine, After-call}
 use Rattle.shm_tests.proofs.latches.hold.Goals as goal
 
@@ -95,9 +95,9 @@ module _ (m : HoldState) (r0 r : Memo) (tr : Trail) (es : List Event) where
   loose_by (Ok u) h = ap (λ (x : Memo). is_loose x.part) h.memo
   loose_by (Err e) h = ap (λ (x : Memo). is_loose x.part) h.memo
 
-  waits_by : (a : Result (Unit {0}) Busy) → HoldLeaves m r0 r tr es a → LeavesWaiting r0 r
-  waits_by (Ok u) h = core_waits (record (wants m.me.who (m.author + 1) r0) { latch = Some m.author }) r h.memo
-  waits_by (Err e) h = core_waits (wants m.me.who 0 (wants m.me.who (m.author + 1) r0)) r h.memo
+  waiting_by : (a : Result (Unit {0}) Busy) → HoldLeaves m r0 r tr es a → LeavesWaiting r0 r
+  waiting_by (Ok u) h = waits_by r0 (record (wants m.me.who (m.author + 1) r0) { latch = Some m.author }) r (record { dying = refl; unsent = λ j. refl; untaken = λ j. refl }) h.memo
+  waiting_by (Err e) h = waits_by r0 (wants m.me.who 0 (wants m.me.who (m.author + 1) r0)) r (record { dying = refl; unsent = λ j. refl; untaken = λ j. refl }) h.memo
 
   idle_by : (a : Result (Unit {0}) Busy) → IsIdle m.me.who r0 → r0.latch ≡ None → HoldLeaves m r0 r tr es a → IsIdle m.me.who r
   idle_by (Ok u) idle none h =
@@ -144,7 +144,7 @@ returns-clause-loose c =
 pub returns-clause-waiting : goal.returns-clause-waiting
 returns-clause-waiting c =
     let at = (goal.at.returns-clause-waiting c).After-call in
-    (called at).follows (λ a. LeavesWaiting (memo_of c.args.pool.now c.args.who) (memo_of c.call.new.self c.args.who)) (λ a g. waits_by (machine at) _ _ _ _ a g.leaves)
+    (called at).follows (λ a. LeavesWaiting (memo_of c.args.pool.now c.args.who) (memo_of c.call.new.self c.args.who)) (λ a g. waiting_by (machine at) _ _ _ _ a g.leaves)
 
 pub returns-clause-at_work : goal.returns-clause-at_work
 returns-clause-at_work c =

@@ -24,7 +24,7 @@ use Rattle.shm_ref.specs.ReleaseLaws.{release_begin, release_laws}
 use Rattle.std.specs.Option.{is_some}
 use Rattle.std.proofs.lemmas.Bool.{true≢false}
 use Rattle.shm_tests.specs.Queues.{LeavesWaiting}
-use Rattle.shm_tests.proofs.QueueReady.{core_waits}
+use Rattle.shm_tests.proofs.QueueReady.{waits_by}
 use Rattle.shm_tests.proofs.latches.release.Goals.{After-new-machine, After-call}
 use Rattle.shm_tests.proofs.latches.release.Goals as goal
 
@@ -106,7 +106,7 @@ returns-clause-waiting c =
     let at = (goal.at.returns-clause-waiting c).After-call in
     let r0 : Memo = memo_of c.args.pool.now c.args.who in
     let r : Memo = memo_of c.call.new.self c.args.who in
-    (called at).follows (λ a. LeavesWaiting r0 r) (λ a g. core_waits (wants c.args.who 0 (unlatched c.args.who r0)) r g.leaves.memo)
+    (called at).follows (λ a. LeavesWaiting r0 r) (λ a g. waits_by r0 (wants c.args.who 0 (unlatched c.args.who r0)) r (record { dying = refl; unsent = λ j. refl; untaken = λ j. refl }) g.leaves.memo)
 
 pub returns-clause-reached : goal.returns-clause-reached
 returns-clause-reached c =

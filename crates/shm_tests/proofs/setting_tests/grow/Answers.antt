@@ -19,5 +19,5 @@ loop-root-init g c =
 -- and so it is after a drop
 pub loop-root-preserved : goal.loop-root-preserved
 loop-root-preserved g c =
-    let said = c.in-Some-Ok-true.ensures in
-    ready_after 0 c.loop-root.pool c.drop_root.new.pool c.loop-root.invariant said.at_work said.kind said.left said.dying
+    let said = c.in-Some-Ok in
+    ready_after 0 c.loop-root.pool c.drop_root.new.pool c.loop-root.invariant said.ensures.at_work said.ensures.kind said.ensures.left (rw said.field-0-is at said.ensures.dying)
