@@ -23,6 +23,3 @@ pub use sink::Sink;
 pub use source::Source;
 pub use standard::{StdSink, StdSource};
 pub use writing::write_all;
-
-#[cfg(test)]
-mod tests;

@@ -14,6 +14,3 @@ pub use closed::PlainClosed;
 pub use first::{FirstClosed, FirstRun, replay_first};
 pub use pair::Pair;
 pub use pool::PlainPool;
-
-#[cfg(test)]
-mod tests;

@@ -128,6 +128,24 @@ where
     last
 }
 
+/// Whether a machine makes these steps, is given their words, and answers so with the last one. There are no words of a pool here.
+pub fn answers<M: Machine>(mut machine: M, steps: &[Step], wanted: M::Answer) -> bool
+where
+    M: Drop,
+    M::Answer: Drop + PartialEq,
+{
+    let mut last = None;
+    for step in steps {
+        if last.is_some() || machine.finished() || machine.ask() != step.ask() {
+            return false;
+        }
+        if let Turn::Done(answer) = machine.take(step.found()) {
+            last = Some(answer);
+        }
+    }
+    last == Some(wanted)
+}
+
 /// Whether a machine makes this run, and answers so with its last step; at addresses that the run doesn't name are these words, or 0.
 pub fn runs_over<M: Machine>(
     alloc: Global,

@@ -25,12 +25,3 @@ pub use parsing::{faults_are_of_no_trace, parse, text_is_one_spelling};
 pub use printing::{answer_text, line_text, print};
 pub use text::{push_number, push_text};
 pub use trace::{Script, Trace};
-
-#[cfg(test)]
-mod drawn_tests;
-#[cfg(test)]
-mod drawn_vectors;
-#[cfg(test)]
-mod tests;
-#[cfg(test)]
-mod vectors;

@@ -8,59 +8,25 @@ pub mod answer;
 pub mod bound;
 pub mod changes;
 pub mod copy;
-#[cfg(test)]
-mod copy_refusal_tests;
-#[cfg(test)]
-mod copy_tests;
 pub mod copying;
 pub mod del;
-#[cfg(test)]
-mod del_edge_tests;
-#[cfg(test)]
-mod del_tests;
 pub mod enter;
-#[cfg(test)]
-mod enter_spent_tests;
-#[cfg(test)]
-mod enter_tests;
 pub mod events;
 pub mod fetch;
-#[cfg(test)]
-mod fetch_tests;
 pub mod find;
 pub mod get;
-#[cfg(test)]
-mod get_tests;
 pub mod locate;
 pub mod open_table;
-#[cfg(test)]
-mod open_tests;
 pub mod opening;
 pub mod parts;
 pub mod put;
 pub mod put_root;
-#[cfg(test)]
-mod put_root_refusal_tests;
-#[cfg(test)]
-mod put_root_tests;
-#[cfg(test)]
-mod put_root_there_tests;
-#[cfg(test)]
-mod put_tests;
 pub mod putting;
 pub mod reading;
 pub mod replace;
-#[cfg(test)]
-mod replace_tests;
 pub mod staying;
-#[cfg(test)]
-mod tests;
 pub mod unlatch;
 pub mod unlink;
-#[cfg(test)]
-mod unlink_refusal_tests;
-#[cfg(test)]
-mod unlink_tests;
 
 pub use changes::{del_begins, del_bound, del_events, del_leaves};
 pub use copy::{CopyKey, Copying};

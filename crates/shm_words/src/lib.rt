@@ -11,8 +11,6 @@ pub mod layout;
 pub mod place;
 pub mod redo;
 pub mod tag;
-#[cfg(test)]
-mod tests;
 
 pub use class::class_of;
 pub use geometry::{BadGeometry, Geometry};

@@ -1,29 +1,12 @@
 //! Shares step by step and on the words of a pool, against an independent implementation.
 
 use shm_calls::Calls;
-use shm_graph::{Machine, Me, Turn};
+use shm_graph::Me;
 use shm_ref::{Share, ShareFault, Sharing};
 use shm_runs::Step::{Exchange, Load, Lost, Store};
-use shm_runs::{Run, Step, runs};
+use shm_runs::{Run, Step, answers, runs};
 use shm_words::Geometry;
 use std::test::Fail;
-
-/// Gives a machine the words of these steps, where it asks for them; its answer, where the last step gives it.
-fn answer_of<M: Machine>(machine: &mut M, steps: &[Step]) -> Option<M::Answer>
-where
-    M::Answer: Drop,
-{
-    let mut last = None;
-    for step in steps {
-        if machine.finished() || machine.ask() != step.ask() {
-            return None;
-        }
-        if let Turn::Done(answer) = machine.take(step.found()) {
-            last = Some(answer);
-        }
-    }
-    last
-}
 
 /// Client 0's home names its block, whose last client it is; client 1 holds latch 0, and its roots 0 and 2 name blocks.
 const THE_LEAST_EMPTY_ROOT_COMES_TO_NAME_A_BLOCK: Run = Run {
@@ -117,9 +100,8 @@ const A_LOST_EXCHANGE_IS_TRIED_AGAIN: [Step; 12] = [
 #[test]
 fn a_lost_exchange_is_tried_again(rt: HostRuntime) -> Result<(), Fail> {
     let me = Me::new(Geometry::new(2, 2)?, 1);
-    let mut machine: Share = Calls::new(Sharing::new(me, 121));
-    let answer = answer_of(&mut machine, &A_LOST_EXCHANGE_IS_TRIED_AGAIN);
-    assert!(rt; answer == Some(Ok(0)));
+    let machine: Share = Calls::new(Sharing::new(me, 121));
+    assert!(rt; answers(machine, &A_LOST_EXCHANGE_IS_TRIED_AGAIN, Ok(0)));
     Ok(())
 }
 

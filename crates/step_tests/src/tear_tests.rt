@@ -1,43 +1,152 @@
 //! Tear-downs step by step and on the words of a pool, against an independent implementation.
 
-use crate::count_tests::{answer_of, exchange, load, store};
 use shm_count::{EraSpent, TearDown};
-use shm_graph::{Ask, Machine, Me, Turn};
+use shm_graph::{Machine, Me, Turn};
+use shm_runs::Step::{Exchange, Load, Store};
+use shm_runs::{Step, answers, make, words_of};
 use shm_words::Geometry;
-use std::alloc::{AllocError, Global};
+use std::alloc::Global;
 use std::test::Fail;
 
 // one client, which has joined: own era at 6, roots from 7, redo record at 2, segment at 33 and pages from 34
 
-/// The words of the pool: these, and 0 at all other addresses.
-fn words_of(alloc: Global, some: &[(usize, u64)]) -> Result<Vec<u64>, AllocError> {
-    let mut words = vec![in alloc; 0u64; 2098]?;
-    for &(at, word) in some {
-        if let Some(place) = words.get_mut(at) {
-            *place = word;
-        }
-    }
-    Ok(words)
+/// Block 50 has one plain word.
+const A_BLOCK_WITHOUT_REFERENCES_IS_FREED: [Step; 2] = [Load(51, 67_108_864), Store(50, 0)];
+
+#[test]
+fn a_block_without_references_is_freed(rt: HostRuntime) -> Result<(), Fail> {
+    let me = Me::new(Geometry::new(1, 1)?, 0);
+    assert!(rt;
+        answers(
+            TearDown::new(me, 50),
+            &A_BLOCK_WITHOUT_REFERENCES_IS_FREED,
+            Ok(())
+        )
+    );
+    Ok(())
 }
 
-/// Makes a word step; the word that was found, for a store 0.
-fn make(words: &mut Vec<u64>, ask: Ask) -> Option<u64> {
-    match ask {
-        Ask::Load { at } => words.get(at as usize).copied(),
-        Ask::Store { at, value } => {
-            let word = words.get_mut(at as usize)?;
-            *word = value;
-            Some(0)
-        }
-        Ask::Exchange { at, from, to } => {
-            let word = words.get_mut(at as usize)?;
-            let found = *word;
-            if found == from {
-                *word = to;
-            }
-            Some(found)
-        }
-    }
+/// Block 50 names 178, 182 and 178, block 178 names 182 and nothing, block 182 has one plain word.
+const BLOCKS_ARE_FREED_AFTER_WHAT_THEY_NAME: [Step; 43] = [
+    Load(51, 3_221_225_472),
+    Load(52, 178),
+    Load(6, 11),
+    Store(2, 4_611_743_193_218_678_784),
+    Load(178, 9_223_653_511_831_486_472),
+    Exchange(178, 9_223_653_511_831_486_472, 9_223_512_774_343_131_147),
+    Store(52, 0),
+    Store(6, 12),
+    Load(53, 182),
+    Load(6, 12),
+    Store(2, 4_611_744_292_734_500_864),
+    Load(182, 9_223_653_511_831_486_473),
+    Exchange(182, 9_223_653_511_831_486_473, 9_223_512_774_343_131_148),
+    Store(53, 0),
+    Store(6, 13),
+    Load(54, 178),
+    Load(6, 13),
+    Store(2, 4_611_745_392_241_934_336),
+    Load(178, 9_223_512_774_343_131_147),
+    Exchange(178, 9_223_512_774_343_131_147, 9_223_372_036_854_775_821),
+    Store(54, 0),
+    Store(6, 14),
+    Load(179, 2_147_483_648),
+    Store(179, 2_147_483_698),
+    Load(180, 182),
+    Load(6, 14),
+    Store(2, 4_611_883_930_711_228_416),
+    Load(182, 9_223_512_774_343_131_148),
+    Exchange(182, 9_223_512_774_343_131_148, 9_223_372_036_854_775_822),
+    Store(180, 0),
+    Store(6, 15),
+    Load(183, 67_108_864),
+    Store(183, 67_109_042),
+    Store(182, 0),
+    Load(179, 2_147_483_698),
+    Load(180, 0),
+    Load(181, 0),
+    Store(178, 0),
+    Load(51, 3_221_225_472),
+    Load(52, 0),
+    Load(53, 0),
+    Load(54, 0),
+    Store(50, 0),
+];
+
+#[test]
+fn blocks_are_freed_after_what_they_name(rt: HostRuntime) -> Result<(), Fail> {
+    let me = Me::new(Geometry::new(1, 1)?, 0);
+    assert!(rt;
+        answers(
+            TearDown::new(me, 50),
+            &BLOCKS_ARE_FREED_AFTER_WHAT_THEY_NAME,
+            Ok(())
+        )
+    );
+    Ok(())
+}
+
+/// An agent died after it had linked 178 to 50; 178 is torn down by itself.
+const A_STALE_LINK_IS_WRITTEN_OVER: [Step; 16] = [
+    Load(179, 2_147_483_698),
+    Store(179, 2_147_483_648),
+    Load(180, 182),
+    Load(6, 14),
+    Store(2, 4_611_883_930_711_228_416),
+    Load(182, 9_223_512_774_343_131_148),
+    Exchange(182, 9_223_512_774_343_131_148, 9_223_372_036_854_775_822),
+    Store(180, 0),
+    Store(6, 15),
+    Load(183, 67_108_864),
+    Store(183, 67_109_042),
+    Store(182, 0),
+    Load(179, 2_147_483_648),
+    Load(180, 0),
+    Load(181, 0),
+    Store(178, 0),
+];
+
+#[test]
+fn a_stale_link_is_written_over(rt: HostRuntime) -> Result<(), Fail> {
+    let me = Me::new(Geometry::new(1, 1)?, 0);
+    assert!(rt;
+        answers(
+            TearDown::new(me, 178),
+            &A_STALE_LINK_IS_WRITTEN_OVER,
+            Ok(())
+        )
+    );
+    Ok(())
+}
+
+/// The own era was spent after 178 had been linked to 50.
+const A_STALE_LINK_GOES_WHERE_NO_ERA_IS_LEFT: [Step; 4] = [
+    Load(179, 2_147_483_698),
+    Store(179, 2_147_483_648),
+    Load(180, 182),
+    Load(6, 140_737_488_355_326),
+];
+
+#[test]
+fn a_stale_link_goes_where_no_era_is_left(rt: HostRuntime) -> Result<(), Fail> {
+    let me = Me::new(Geometry::new(1, 1)?, 0);
+    assert!(rt;
+        answers(
+            TearDown::new(me, 178),
+            &A_STALE_LINK_GOES_WHERE_NO_ERA_IS_LEFT,
+            Err(EraSpent {
+                era: 140_737_488_355_326
+            })
+        )
+    );
+    Ok(())
+}
+
+/// A tear-down of block 50: words before it, how many word steps it makes, and words after it; at all other addresses are 0.
+struct Tree {
+    before: &'static [(usize, u64)],
+    steps: u32,
+    after: &'static [(usize, u64)],
 }
 
 /// Runs a machine on the words, for 100 word steps at most; its answer, and how many it made.
@@ -54,137 +163,18 @@ fn run<M: Machine>(machine: &mut M, words: &mut Vec<u64>) -> Option<(M::Answer, 
     None
 }
 
-#[test]
-fn a_block_without_references_is_freed(rt: HostRuntime) -> Result<(), Fail> {
-    let me = Me::new(Geometry::new(1, 1)?, 0);
-    // block 50 has one plain word
-    let steps = [(load(51), 67_108_864), (store(50, 0), 0)];
-    let mut tear = TearDown::new(me, 50);
-    assert_eq!(rt; answer_of(&mut tear, &steps), Some(Ok(())));
-    Ok(())
+/// Whether a tear-down goes so.
+fn tears(alloc: Global, tree: &Tree, wanted: Result<(), EraSpent>) -> Result<bool, Fail> {
+    let mut words = words_of(alloc, 2098, tree.before)?;
+    let mut tear = TearDown::new(Me::new(Geometry::new(1, 1)?, 0), 50);
+    let answer = run(&mut tear, &mut words);
+    let after = words_of(alloc, 2098, tree.after)?;
+    Ok(answer == Some((wanted, tree.steps)) && words.as_slice() == after.as_slice())
 }
 
-#[test]
-fn blocks_are_freed_after_what_they_name(rt: HostRuntime) -> Result<(), Fail> {
-    let me = Me::new(Geometry::new(1, 1)?, 0);
-    // block 50 names 178, 182 and 178, block 178 names 182 and nothing, block 182 has one plain word
-    let steps = [
-        (load(51), 3_221_225_472),
-        (load(52), 178),
-        (load(6), 11),
-        (store(2, 4_611_743_193_218_678_784), 0),
-        (load(178), 9_223_653_511_831_486_472),
-        (
-            exchange(178, 9_223_653_511_831_486_472, 9_223_512_774_343_131_147),
-            9_223_653_511_831_486_472,
-        ),
-        (store(52, 0), 0),
-        (store(6, 12), 0),
-        (load(53), 182),
-        (load(6), 12),
-        (store(2, 4_611_744_292_734_500_864), 0),
-        (load(182), 9_223_653_511_831_486_473),
-        (
-            exchange(182, 9_223_653_511_831_486_473, 9_223_512_774_343_131_148),
-            9_223_653_511_831_486_473,
-        ),
-        (store(53, 0), 0),
-        (store(6, 13), 0),
-        (load(54), 178),
-        (load(6), 13),
-        (store(2, 4_611_745_392_241_934_336), 0),
-        (load(178), 9_223_512_774_343_131_147),
-        (
-            exchange(178, 9_223_512_774_343_131_147, 9_223_372_036_854_775_821),
-            9_223_512_774_343_131_147,
-        ),
-        (store(54, 0), 0),
-        (store(6, 14), 0),
-        (load(179), 2_147_483_648),
-        (store(179, 2_147_483_698), 0),
-        (load(180), 182),
-        (load(6), 14),
-        (store(2, 4_611_883_930_711_228_416), 0),
-        (load(182), 9_223_512_774_343_131_148),
-        (
-            exchange(182, 9_223_512_774_343_131_148, 9_223_372_036_854_775_822),
-            9_223_512_774_343_131_148,
-        ),
-        (store(180, 0), 0),
-        (store(6, 15), 0),
-        (load(183), 67_108_864),
-        (store(183, 67_109_042), 0),
-        (store(182, 0), 0),
-        (load(179), 2_147_483_698),
-        (load(180), 0),
-        (load(181), 0),
-        (store(178, 0), 0),
-        (load(51), 3_221_225_472),
-        (load(52), 0),
-        (load(53), 0),
-        (load(54), 0),
-        (store(50, 0), 0),
-    ];
-    let mut tear = TearDown::new(me, 50);
-    assert_eq!(rt; answer_of(&mut tear, &steps), Some(Ok(())));
-    Ok(())
-}
-
-#[test]
-fn a_stale_link_is_written_over(rt: HostRuntime) -> Result<(), Fail> {
-    let me = Me::new(Geometry::new(1, 1)?, 0);
-    // an agent died after it had linked 178 to 50; 178 is torn down by itself
-    let steps = [
-        (load(179), 2_147_483_698),
-        (store(179, 2_147_483_648), 0),
-        (load(180), 182),
-        (load(6), 14),
-        (store(2, 4_611_883_930_711_228_416), 0),
-        (load(182), 9_223_512_774_343_131_148),
-        (
-            exchange(182, 9_223_512_774_343_131_148, 9_223_372_036_854_775_822),
-            9_223_512_774_343_131_148,
-        ),
-        (store(180, 0), 0),
-        (store(6, 15), 0),
-        (load(183), 67_108_864),
-        (store(183, 67_109_042), 0),
-        (store(182, 0), 0),
-        (load(179), 2_147_483_648),
-        (load(180), 0),
-        (load(181), 0),
-        (store(178, 0), 0),
-    ];
-    let mut tear = TearDown::new(me, 178);
-    assert_eq!(rt; answer_of(&mut tear, &steps), Some(Ok(())));
-    Ok(())
-}
-
-#[test]
-fn a_stale_link_goes_where_no_era_is_left(rt: HostRuntime) -> Result<(), Fail> {
-    let me = Me::new(Geometry::new(1, 1)?, 0);
-    // the own era was spent after 178 had been linked to 50
-    let steps = [
-        (load(179), 2_147_483_698),
-        (store(179, 2_147_483_648), 0),
-        (load(180), 182),
-        (load(6), 140_737_488_355_326),
-    ];
-    let mut tear = TearDown::new(me, 178);
-    assert_eq!(rt;
-        answer_of(&mut tear, &steps),
-        Some(Err(EraSpent {
-            era: 140_737_488_355_326
-        }))
-    );
-    Ok(())
-}
-
-#[test]
-fn what_a_root_names_stays(rt: HostRuntime) -> Result<(), Fail> {
-    let me = Me::new(Geometry::new(1, 1)?, 0);
-    // block 50 names 178, 182 and 178, block 178 names 182 and nothing, and root 2 names 182
-    let before = [
+/// Block 50 names 178, 182 and 178, block 178 names 182 and nothing, and root 2 names 182.
+const WHAT_A_ROOT_NAMES_STAYS: Tree = Tree {
+    before: &[
         (1, 1),
         (2, 4_611_693_715_061_211_136),
         (6, 10),
@@ -203,8 +193,9 @@ fn what_a_root_names_stays(rt: HostRuntime) -> Result<(), Fail> {
         (182, 9_223_794_249_319_841_799),
         (183, 67_108_864),
         (184, 77),
-    ];
-    let after = [
+    ],
+    steps: 38,
+    after: &[
         (1, 1),
         (2, 4_611_883_930_711_228_416),
         (6, 14),
@@ -217,19 +208,18 @@ fn what_a_root_names_stays(rt: HostRuntime) -> Result<(), Fail> {
         (182, 9_223_512_774_343_131_149),
         (183, 67_108_864),
         (184, 77),
-    ];
-    let mut words = words_of(rt.alloc(), &before)?;
-    let mut tear = TearDown::new(me, 50);
-    assert_eq!(rt; run(&mut tear, &mut words), Some((Ok(()), 38)));
-    assert_eq!(rt; words.as_slice(), words_of(rt.alloc(), &after)?.as_slice());
+    ],
+};
+
+#[test]
+fn what_a_root_names_stays(rt: HostRuntime) -> Result<(), Fail> {
+    assert!(rt; tears(rt.alloc(), &WHAT_A_ROOT_NAMES_STAYS, Ok(()))?);
     Ok(())
 }
 
-#[test]
-fn a_whole_tree_goes(rt: HostRuntime) -> Result<(), Fail> {
-    let me = Me::new(Geometry::new(1, 1)?, 0);
-    // block 50 names 178, 182 and 178, block 178 names 182 and nothing
-    let before = [
+/// Block 50 names 178, 182 and 178, block 178 names 182 and nothing.
+const A_WHOLE_TREE_GOES: Tree = Tree {
+    before: &[
         (1, 1),
         (2, 4_611_693_715_061_211_136),
         (6, 11),
@@ -247,8 +237,9 @@ fn a_whole_tree_goes(rt: HostRuntime) -> Result<(), Fail> {
         (182, 9_223_653_511_831_486_473),
         (183, 67_108_864),
         (184, 77),
-    ];
-    let after = [
+    ],
+    steps: 43,
+    after: &[
         (1, 1),
         (2, 4_611_883_930_711_228_416),
         (6, 15),
@@ -259,19 +250,18 @@ fn a_whole_tree_goes(rt: HostRuntime) -> Result<(), Fail> {
         (179, 2_147_483_698),
         (183, 67_109_042),
         (184, 77),
-    ];
-    let mut words = words_of(rt.alloc(), &before)?;
-    let mut tear = TearDown::new(me, 50);
-    assert_eq!(rt; run(&mut tear, &mut words), Some((Ok(()), 43)));
-    assert_eq!(rt; words.as_slice(), words_of(rt.alloc(), &after)?.as_slice());
+    ],
+};
+
+#[test]
+fn a_whole_tree_goes(rt: HostRuntime) -> Result<(), Fail> {
+    assert!(rt; tears(rt.alloc(), &A_WHOLE_TREE_GOES, Ok(()))?);
     Ok(())
 }
 
-#[test]
-fn a_tree_stays_where_eras_end(rt: HostRuntime) -> Result<(), Fail> {
-    let me = Me::new(Geometry::new(1, 1)?, 0);
-    // the same tree; two count steps are left, so the second reference to 178 stays
-    let before = [
+/// The same tree; two count steps are left, so the second reference to 178 stays.
+const A_TREE_STAYS_WHERE_ERAS_END: Tree = Tree {
+    before: &[
         (1, 1),
         (2, 4_611_693_715_061_211_136),
         (6, 140_737_488_355_324),
@@ -289,8 +279,9 @@ fn a_tree_stays_where_eras_end(rt: HostRuntime) -> Result<(), Fail> {
         (182, 9_223_794_249_319_841_786),
         (183, 67_108_864),
         (184, 77),
-    ];
-    let after = [
+    ],
+    steps: 17,
+    after: &[
         (1, 1),
         (2, 4_611_744_292_734_500_864),
         (6, 140_737_488_355_326),
@@ -306,27 +297,26 @@ fn a_tree_stays_where_eras_end(rt: HostRuntime) -> Result<(), Fail> {
         (182, 9_223_653_511_831_486_461),
         (183, 67_108_864),
         (184, 77),
-    ];
-    let mut words = words_of(rt.alloc(), &before)?;
-    let mut tear = TearDown::new(me, 50);
-    assert_eq!(rt;
-        run(&mut tear, &mut words),
-        Some((
+    ],
+};
+
+#[test]
+fn a_tree_stays_where_eras_end(rt: HostRuntime) -> Result<(), Fail> {
+    assert!(rt;
+        tears(
+            rt.alloc(),
+            &A_TREE_STAYS_WHERE_ERAS_END,
             Err(EraSpent {
                 era: 140_737_488_355_326
-            }),
-            17
-        ))
+            })
+        )?
     );
-    assert_eq!(rt; words.as_slice(), words_of(rt.alloc(), &after)?.as_slice());
     Ok(())
 }
 
-#[test]
-fn a_linked_block_stays_where_eras_end(rt: HostRuntime) -> Result<(), Fail> {
-    let me = Me::new(Geometry::new(1, 1)?, 0);
-    // three count steps are left: 178 has come to 0 and is linked to 50
-    let before = [
+/// Three count steps are left: 178 has come to 0 and is linked to 50.
+const A_LINKED_BLOCK_STAYS_WHERE_ERAS_END: Tree = Tree {
+    before: &[
         (1, 1),
         (2, 4_611_693_715_061_211_136),
         (6, 140_737_488_355_323),
@@ -344,8 +334,9 @@ fn a_linked_block_stays_where_eras_end(rt: HostRuntime) -> Result<(), Fail> {
         (182, 9_223_794_249_319_841_785),
         (183, 67_108_864),
         (184, 77),
-    ];
-    let after = [
+    ],
+    steps: 26,
+    after: &[
         (1, 1),
         (2, 4_611_745_392_241_934_336),
         (6, 140_737_488_355_326),
@@ -360,18 +351,19 @@ fn a_linked_block_stays_where_eras_end(rt: HostRuntime) -> Result<(), Fail> {
         (182, 9_223_653_511_831_486_460),
         (183, 67_108_864),
         (184, 77),
-    ];
-    let mut words = words_of(rt.alloc(), &before)?;
-    let mut tear = TearDown::new(me, 50);
-    assert_eq!(rt;
-        run(&mut tear, &mut words),
-        Some((
+    ],
+};
+
+#[test]
+fn a_linked_block_stays_where_eras_end(rt: HostRuntime) -> Result<(), Fail> {
+    assert!(rt;
+        tears(
+            rt.alloc(),
+            &A_LINKED_BLOCK_STAYS_WHERE_ERAS_END,
             Err(EraSpent {
                 era: 140_737_488_355_326
-            }),
-            26
-        ))
+            })
+        )?
     );
-    assert_eq!(rt; words.as_slice(), words_of(rt.alloc(), &after)?.as_slice());
     Ok(())
 }

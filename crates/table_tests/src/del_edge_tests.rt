@@ -1,11 +1,11 @@
 //! Keys removed at the end of a bucket and with the last eras, and keys that are missing or stay, against an independent implementation.
 
-use crate::{Del, DelAnswer, Deleting};
 use shm_calls::Calls;
 use shm_count::UpFault;
 use shm_graph::Me;
 use shm_runs::Step::{Exchange, Load, Store};
 use shm_runs::{Run, TABLE, runs};
+use shm_table::{Del, DelAnswer, Deleting};
 use shm_words::Geometry;
 use std::test::Fail;
 

@@ -1,11 +1,11 @@
 //! Entries that come to have another value block, step by step and on the words of a pool, against an independent implementation.
 
-use crate::answer::PutFault;
-use crate::parts::{Replace, Replacing};
 use shm_calls::Calls;
 use shm_graph::Me;
 use shm_runs::Step::{Exchange, Load, Store};
 use shm_runs::{Run, runs};
+use shm_table::answer::PutFault;
+use shm_table::parts::{Replace, Replacing};
 use shm_words::Geometry;
 use std::test::Fail;
 

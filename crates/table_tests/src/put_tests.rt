@@ -1,12 +1,12 @@
 //! Keys that come to have numbers, and two puts that are refused, step by step and on the words of a pool, against an independent
 //! implementation.
 
-use crate::put::{Put, Putting};
 use shm_calls::Calls;
 use shm_graph::Me;
 use shm_runs::Step::{Exchange, Load, Store};
 use shm_runs::{Run, runs};
 use shm_script::Answer;
+use shm_table::put::{Put, Putting};
 use shm_words::Geometry;
 use std::test::Fail;
 

@@ -1,7 +1,7 @@
 //! Traces that are read and printed, texts that are refused, and traces that are drawn.
 
-use super::*;
 use crate::vectors::{REFUSED, TRACES};
+use shm_script::*;
 use std::test::*;
 
 /// The most bytes of a trace.

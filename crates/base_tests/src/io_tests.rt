@@ -1,5 +1,5 @@
 //! Worked rows over memory, and one call of each standard side.
-use crate::{
+use shm_io::{
     Failed, MemorySink, MemorySource, ReadStop, Sink, Source, StdSink, StdSource, read_to_limit,
     write_all,
 };

@@ -1,11 +1,11 @@
 //! Reads of what a key has, with a root of its own, step by step on the words of a pool, against an independent implementation.
 
-use crate::answer::PutFault;
-use crate::parts::{Fetch, Fetched, Fetching};
 use shm_calls::Calls;
 use shm_graph::Me;
 use shm_runs::Step::{Exchange, Load, Store};
 use shm_runs::{Run, TABLE, runs_over};
+use shm_table::answer::PutFault;
+use shm_table::parts::{Fetch, Fetched, Fetching};
 use shm_words::Geometry;
 use std::test::Fail;
 

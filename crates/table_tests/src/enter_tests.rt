@@ -1,11 +1,11 @@
 //! Entries made and linked step by step, against an independent implementation.
 
-use crate::answer::PutFault;
-use crate::parts::{Enter, Entered, Entering};
 use shm_calls::Calls;
 use shm_graph::Me;
 use shm_runs::Step::{Exchange, Load, Store};
 use shm_runs::{Run, runs};
+use shm_table::answer::PutFault;
+use shm_table::parts::{Enter, Entered, Entering};
 use shm_words::Geometry;
 use std::test::Fail;
 

@@ -1,10 +1,10 @@
 //! Keys removed, step by step and on the words of a pool, against an independent implementation.
 
-use crate::{Del, DelAnswer, Deleting};
 use shm_calls::Calls;
 use shm_graph::Me;
 use shm_runs::Step::{Exchange, Load, Store};
 use shm_runs::{Run, runs};
+use shm_table::{Del, DelAnswer, Deleting};
 use shm_words::Geometry;
 use std::test::Fail;
 

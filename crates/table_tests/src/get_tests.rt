@@ -1,12 +1,12 @@
 //! Latches given back, latches taken for a search, and reads of what a key has, step by step on the words of a pool, against an independent
 //! implementation.
 
-use crate::parts::{Found, Locate, Locating, Unlatch, Unlatching};
-use crate::{Get, Getting, Valued};
 use shm_calls::Calls;
 use shm_graph::Me;
 use shm_runs::Step::{Exchange, Load, Lost, Others, Store};
 use shm_runs::{Run, TABLE, runs_over};
+use shm_table::parts::{Found, Locate, Locating, Unlatch, Unlatching};
+use shm_table::{Get, Getting, Valued};
 use shm_words::Geometry;
 use std::test::Fail;
 

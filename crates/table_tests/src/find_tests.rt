@@ -1,10 +1,10 @@
 //! Searches for a key step by step on the words of a pool, against an independent implementation.
 
-use crate::parts::{Find, Finding, Found};
 use shm_calls::Calls;
 use shm_graph::Me;
 use shm_runs::Step::Load;
 use shm_runs::{Run, TABLE, runs_over};
+use shm_table::parts::{Find, Finding, Found};
 use shm_words::Geometry;
 use std::test::Fail;
 

@@ -1,9 +1,9 @@
 //! Value blocks put at a key that is there, step by step and on the words of a pool, against an independent implementation.
 
-use crate::parts::PutRoot;
 use shm_graph::Me;
 use shm_runs::Step::{Exchange, Load, Store};
 use shm_runs::{Run, runs};
+use shm_table::parts::PutRoot;
 use shm_words::Geometry;
 use std::test::Fail;
 

@@ -1,6 +1,6 @@
 //! Tables of words and of addresses that were worked out apart from this crate.
 
-use crate::{BadGeometry, Geometry, Header, Place, Redo, Tag, class_of};
+use shm_words::{BadGeometry, Geometry, Header, Place, Redo, Tag, class_of};
 use std::test::Fail;
 
 #[test]

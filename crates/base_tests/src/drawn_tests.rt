@@ -1,7 +1,7 @@
 //! Drawn traces that are printed, read and printed again.
 
-use super::*;
 use crate::drawn_vectors::DRAWN;
+use shm_script::*;
 use std::test::*;
 
 /// The FNV-1a checksum of the bytes, of 64 bits.

@@ -1,10 +1,10 @@
 //! Puts that are refused, and one whose root stays, step by step and on the words of a pool, against an independent implementation.
 
-use crate::answer::PutFault;
-use crate::parts::PutRoot;
 use shm_graph::Me;
 use shm_runs::Step::{Exchange, Load, Store};
 use shm_runs::{Run, runs};
+use shm_table::answer::PutFault;
+use shm_table::parts::PutRoot;
 use shm_words::Geometry;
 use std::test::Fail;
 

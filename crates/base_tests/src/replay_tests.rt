@@ -1,6 +1,6 @@
 //! Worked rows of one client's puts.
 
-use crate::{FirstRun, Pair, replay_first};
+use shm_plain::{FirstRun, Pair, replay_first};
 use shm_words::Header;
 use std::test::Fail;
 

@@ -1,11 +1,11 @@
 //! Copies that are refused, step by step and on the words of a pool, against an independent implementation.
 
-use crate::{CopyKey, Copying};
 use shm_calls::Calls;
 use shm_graph::Me;
 use shm_runs::Step::{Exchange, Load, Store};
 use shm_runs::{Run, TABLE, runs_over};
 use shm_script::Answer;
+use shm_table::{CopyKey, Copying};
 use shm_words::Geometry;
 use std::test::Fail;
 

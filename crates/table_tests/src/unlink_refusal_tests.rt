@@ -1,11 +1,11 @@
 //! Entries that stay in their chains, or go with the last era, against an independent implementation.
 
-use crate::parts::{Unlink, Unlinking};
 use shm_calls::Calls;
 use shm_count::UpFault;
 use shm_graph::Me;
 use shm_runs::Step::{Exchange, Load, Store};
 use shm_runs::{Run, runs};
+use shm_table::parts::{Unlink, Unlinking};
 use shm_words::Geometry;
 use std::test::Fail;
 
