@@ -11,7 +11,7 @@ use Rattle.shm_calls.specs.CallsControl.{calls_control, calls_of, calls_does}
 use Rattle.shm_calls.specs.CallsFit.{CallsFits, CallsGives}
 use Rattle.shm_count.specs.declared.answer.UpFault.{UpFault}
 use Rattle.shm_table.specs.declared.answer.PutFault.{PutFault}
-use Rattle.shm_table.specs.declared.del.DelAnswer.{DelAnswer}
+use Rattle.shm_script.specs.declared.log.Answer.{Answer}
 use Rattle.shm_table.specs.declared.del.DelState.{DelState}
 use Rattle.shm_table.specs.declared.replace.ReplaceState.{ReplaceState}
 use Rattle.shm_table.specs.DelControl.{DelCall, DelCallAnswer, del_parts, deleting}
@@ -48,13 +48,13 @@ unlink_told me entry before word = happens_along unlink_control (calls_does unli
 
 -- ---- the key is to be removed
 
-abbrev pub del : Control (Calls DelState DelCall DelAnswer DelCallAnswer) DelAnswer
+abbrev pub del : Control (Calls DelState DelCall Answer DelCallAnswer) Answer
 del = calls_control del_parts del_plan
 
 abbrev pub DelFits : Me → ℕ → Memo → Memo → Trail → Type 0
 DelFits me key = CallsFits del_parts del_plan (calls_of del_plan (deleting me key))
 
-abbrev pub DelGives : Me → ℕ → Memo → Memo → Trail → DelAnswer → Type 0
+abbrev pub DelGives : Me → ℕ → Memo → Memo → Trail → Answer → Type 0
 DelGives me key = CallsGives del_parts del_plan (calls_of del_plan (deleting me key))
 
 abbrev pub del_told : Me → ℕ → Trail → List Event

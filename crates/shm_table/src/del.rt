@@ -7,6 +7,7 @@ ghost use Rattle.shm_table.specs.DelControl.{deleting};
 ghost use Rattle.shm_table.specs.DelFits.{del_plan};
 ghost use Rattle.shm_table.specs.DelLaws.{del_laws};
 
+use crate::answer::PutFault;
 use crate::find::Found;
 use crate::locate::{Locate, Locating};
 use crate::unlatch::{Unlatch, Unlatching};
@@ -14,18 +15,8 @@ use crate::unlink::{Unlink, Unlinking};
 use shm_calls::{Calls, Or, Plan};
 use shm_count::UpFault;
 use shm_graph::{Machine, Me};
+use shm_script::Answer;
 use std::marker::Model;
-
-/// What became of a key that was to be removed.
-#[derive(Clone, Copy, Debug, PartialEq, Eq, Drop)]
-pub enum DelAnswer {
-    /// The table has it no more.
-    Removed,
-    /// The table didn't have it.
-    Missing,
-    /// The table has it still, since the count step was refused.
-    Refused(UpFault),
-}
 
 /// Which call of it comes next.
 #[derive(Clone, Copy, Debug, PartialEq, Eq, Drop)]
@@ -46,7 +37,7 @@ pub struct DelState {
     pub entry: u32,
     pub before: u32,
     pub word: u8,
-    pub answer: DelAnswer,
+    pub answer: Answer,
     pub point: DelPoint,
 }
 
@@ -71,7 +62,7 @@ impl Model for Deleting {
     ghost invariant = { λ a. DelInRange a.state };
 }
 
-/// It answers whether the key is gone, was missing, or is there still because a count step was refused.
+/// It answers that the key is gone, that it was missing, or why the count step was refused, and then it is there still.
 pub type Del = Calls<Deleting>;
 
 impl Deleting {
@@ -89,7 +80,7 @@ impl Deleting {
                 entry: 0,
                 before: 0,
                 word: 0,
-                answer: DelAnswer::Missing,
+                answer: Answer::Missing,
                 point: DelPoint::Search,
             },
         }
@@ -125,8 +116,8 @@ impl DelState {
         ensures state { self.new ≡ control.cut_after self.old done }
     {
         self.answer = match done {
-            Ok(()) => DelAnswer::Removed,
-            Err(fault) => DelAnswer::Refused(fault),
+            Ok(()) => Answer::Ok,
+            Err(fault) => PutFault::raised(fault).answer(),
         };
         self.point = DelPoint::Back;
     }
@@ -135,7 +126,7 @@ impl DelState {
 impl Plan for Deleting {
     type Call = DelCall;
 
-    type Answer = DelAnswer;
+    type Answer = Answer;
 
     ghost plan = { del_plan };
 
@@ -166,7 +157,7 @@ impl Plan for Deleting {
     }
 
     #[inline(always)]
-    fn next(&mut self, answer: Or<Found, Or<Result<(), UpFault>, ()>>) -> Option<DelAnswer> {
+    fn next(&mut self, answer: Or<Found, Or<Result<(), UpFault>, ()>>) -> Option<Answer> {
         match answer {
             Or::First(found) => {
                 self.state.found(found);

@@ -1,10 +1,10 @@
 //! Keys removed at the end of a bucket and with the last eras, and keys that are missing or stay, against an independent implementation.
 
 use crate::entry_tests::{exchange, follow, load, put_words, store, words_of};
-use crate::{Del, DelAnswer, Deleting};
+use crate::{Del, Deleting};
 use shm_calls::Calls;
-use shm_count::UpFault;
 use shm_graph::Me;
+use shm_script::Answer;
 use shm_words::Geometry;
 use std::test::Fail;
 
@@ -103,7 +103,7 @@ fn the_last_key_of_a_bucket_is_removed(rt: HostRuntime) -> Result<(), Fail> {
     let mut machine: Del = Calls::new(Deleting::new(me, 5));
     assert_eq!(rt;
         follow(&mut machine, &mut words, &steps),
-        Some(DelAnswer::Removed)
+        Some(Answer::Ok)
     );
     let mut after = words_of(rt.alloc(), 2098, &before)?;
     put_words(&mut after, &changes);
@@ -159,7 +159,7 @@ fn another_key_of_the_bucket_is_missing(rt: HostRuntime) -> Result<(), Fail> {
     let mut machine: Del = Calls::new(Deleting::new(me, 53));
     assert_eq!(rt;
         follow(&mut machine, &mut words, &steps),
-        Some(DelAnswer::Missing)
+        Some(Answer::Missing)
     );
     assert_eq!(rt;
         words.as_slice(),
@@ -184,7 +184,7 @@ fn a_key_of_no_table_is_missing(rt: HostRuntime) -> Result<(), Fail> {
     let mut machine: Del = Calls::new(Deleting::new(me, 5));
     assert_eq!(rt;
         follow(&mut machine, &mut words, &steps),
-        Some(DelAnswer::Missing)
+        Some(Answer::Missing)
     );
     assert_eq!(rt;
         words.as_slice(),
@@ -232,9 +232,9 @@ fn a_key_stays_where_no_era_is_left(rt: HostRuntime) -> Result<(), Fail> {
     let mut machine: Del = Calls::new(Deleting::new(me, 5));
     assert_eq!(rt;
         follow(&mut machine, &mut words, &steps),
-        Some(DelAnswer::Refused(UpFault::EraSpent {
+        Some(Answer::EraSpent {
             era: 140_737_488_355_326
-        }))
+        })
     );
     assert_eq!(rt;
         words.as_slice(),
@@ -293,10 +293,10 @@ fn a_key_stays_before_a_full_entry(rt: HostRuntime) -> Result<(), Fail> {
     let mut machine: Del = Calls::new(Deleting::new(me, 21));
     assert_eq!(rt;
         follow(&mut machine, &mut words, &steps),
-        Some(DelAnswer::Refused(UpFault::CountFull {
+        Some(Answer::CountFull {
             block: 306,
             count: 1023
-        }))
+        })
     );
     let mut after = words_of(rt.alloc(), 2098, &before)?;
     put_words(&mut after, &changes);
@@ -361,7 +361,7 @@ fn a_key_is_removed_with_the_last_era(rt: HostRuntime) -> Result<(), Fail> {
     let mut machine: Del = Calls::new(Deleting::new(me, 5));
     assert_eq!(rt;
         follow(&mut machine, &mut words, &steps),
-        Some(DelAnswer::Removed)
+        Some(Answer::Ok)
     );
     let mut after = words_of(rt.alloc(), 2098, &before)?;
     put_words(&mut after, &changes);

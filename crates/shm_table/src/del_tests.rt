@@ -1,9 +1,10 @@
 //! Keys removed, step by step and on the words of a pool, against an independent implementation.
 
 use crate::entry_tests::{exchange, follow, load, put_words, store, words_of};
-use crate::{Del, DelAnswer, Deleting};
+use crate::{Del, Deleting};
 use shm_calls::Calls;
 use shm_graph::Me;
+use shm_script::Answer;
 use shm_words::Geometry;
 use std::test::Fail;
 
@@ -84,7 +85,7 @@ fn the_only_key_is_removed(rt: HostRuntime) -> Result<(), Fail> {
     let mut machine: Del = Calls::new(Deleting::new(me, 5));
     assert_eq!(rt;
         follow(&mut machine, &mut words, &steps),
-        Some(DelAnswer::Removed)
+        Some(Answer::Ok)
     );
     let mut after = words_of(rt.alloc(), 2098, &before)?;
     put_words(&mut after, &changes);
@@ -126,7 +127,7 @@ fn a_removed_key_is_missing(rt: HostRuntime) -> Result<(), Fail> {
     let mut machine: Del = Calls::new(Deleting::new(me, 5));
     assert_eq!(rt;
         follow(&mut machine, &mut words, &steps),
-        Some(DelAnswer::Missing)
+        Some(Answer::Missing)
     );
     assert_eq!(rt;
         words.as_slice(),
@@ -221,7 +222,7 @@ fn a_value_that_another_names_stays(rt: HostRuntime) -> Result<(), Fail> {
     let mut machine: Del = Calls::new(Deleting::new(me, 5));
     assert_eq!(rt;
         follow(&mut machine, &mut words, &steps),
-        Some(DelAnswer::Removed)
+        Some(Answer::Ok)
     );
     let mut after = words_of(rt.alloc(), 4217, &before)?;
     put_words(&mut after, &changes);
@@ -337,7 +338,7 @@ fn the_first_key_of_a_bucket_is_removed(rt: HostRuntime) -> Result<(), Fail> {
     let mut machine: Del = Calls::new(Deleting::new(me, 37));
     assert_eq!(rt;
         follow(&mut machine, &mut words, &steps),
-        Some(DelAnswer::Removed)
+        Some(Answer::Ok)
     );
     let mut after = words_of(rt.alloc(), 2098, &before)?;
     put_words(&mut after, &changes);
@@ -455,7 +456,7 @@ fn a_key_between_others_is_removed(rt: HostRuntime) -> Result<(), Fail> {
     let mut machine: Del = Calls::new(Deleting::new(me, 21));
     assert_eq!(rt;
         follow(&mut machine, &mut words, &steps),
-        Some(DelAnswer::Removed)
+        Some(Answer::Ok)
     );
     let mut after = words_of(rt.alloc(), 2098, &before)?;
     put_words(&mut after, &changes);

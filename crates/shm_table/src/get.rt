@@ -11,6 +11,7 @@ use crate::locate::{Locate, Locating};
 use crate::unlatch::{Unlatch, Unlatching};
 use shm_calls::{Calls, Or, Plan, Word};
 use shm_graph::{Machine, Me};
+use shm_script::Answer;
 use std::marker::Model;
 
 /// Which call of it comes next.
@@ -26,13 +27,6 @@ pub enum GetPoint {
     Missing,
     /// The number is known: the latch is given back.
     Known,
-}
-
-/// What a key has: a number, and the value block that holds it.
-#[derive(Clone, Copy, Debug, PartialEq, Eq, Drop)]
-pub struct Valued {
-    pub number: u64,
-    pub block: u32,
 }
 
 /// The control of it: the entry that was found, its value block and that block's number.
@@ -65,7 +59,7 @@ impl Model for Getting {
     ghost invariant = { λ a. GetInRange a.state };
 }
 
-/// It answers what the key has, or none where no entry has the key. The latch is given back then.
+/// It answers what the key has, a number and the value block that holds it, or that no entry has the key. The latch is given back then.
 pub type Get = Calls<Getting>;
 
 /// The address of the first word of a block after its header and its tag, or of one more.
@@ -121,13 +115,13 @@ impl GetState {
 
     /// What it answers once the latch is given back.
     #[inline(always)]
-    fn answer(&self) -> Option<Valued>
+    fn answer(&self) -> Answer
         ensures { result ≡ control.get_answer self.now self.now.point }
     {
         let GetState { number, block, .. } = *self;
         match self.point {
-            GetPoint::Known => Some(Valued { number, block }),
-            _ => None,
+            GetPoint::Known => Answer::Value { number, block },
+            _ => Answer::Missing,
         }
     }
 }
@@ -135,7 +129,7 @@ impl GetState {
 impl Plan for Getting {
     type Call = Or<Locate, Or<Word, Unlatch>>;
 
-    type Answer = Option<Valued>;
+    type Answer = Answer;
 
     ghost plan = { get_plan };
 
@@ -165,7 +159,7 @@ impl Plan for Getting {
     }
 
     #[inline(always)]
-    fn next(&mut self, answer: Or<Found, Or<u64, ()>>) -> Option<Option<Valued>> {
+    fn next(&mut self, answer: Or<Found, Or<u64, ()>>) -> Option<Answer> {
         match answer {
             Or::First(Found::At { entry, .. }) => {
                 self.state.entry = entry % (1 << 20);

@@ -4,9 +4,10 @@
 use crate::entry_tests::{exchange, follow, load, put_words, store};
 use crate::parts::{Found, Locate, Locating, Unlatch, Unlatching};
 use crate::tests::table;
-use crate::{Get, Getting, Valued};
+use crate::{Get, Getting};
 use shm_calls::Calls;
 use shm_graph::Me;
+use shm_script::Answer;
 use shm_words::Geometry;
 use std::alloc::{AllocError, Global};
 use std::test::Fail;
@@ -85,10 +86,10 @@ fn a_key_of_another_table_is_read(rt: HostRuntime) -> Result<(), Fail> {
     ];
     assert_eq!(rt;
         follow(&mut machine, &mut words, &steps),
-        Some(Some(Valued {
+        Some(Answer::Value {
             number: 70,
             block: 188
-        }))
+        })
     );
     assert_eq!(rt; words.as_slice(), free_table(rt.alloc())?.as_slice());
     Ok(())
@@ -114,10 +115,10 @@ fn a_key_of_the_own_table_is_read(rt: HostRuntime) -> Result<(), Fail> {
     ];
     assert_eq!(rt;
         follow(&mut machine, &mut words, &steps),
-        Some(Some(Valued {
+        Some(Answer::Value {
             number: 71,
             block: 184
-        }))
+        })
     );
     Ok(())
 }
@@ -141,7 +142,7 @@ fn a_key_that_no_entry_has_is_missing(rt: HostRuntime) -> Result<(), Fail> {
         (store(11, 0), 0),
         (store(9, 0), 0),
     ];
-    assert_eq!(rt; follow(&mut machine, &mut words, &steps), Some(None));
+    assert_eq!(rt; follow(&mut machine, &mut words, &steps), Some(Answer::Missing));
     assert_eq!(rt; words.as_slice(), free_table(rt.alloc())?.as_slice());
     Ok(())
 }
@@ -159,7 +160,7 @@ fn a_key_of_an_empty_bucket_is_missing(rt: HostRuntime) -> Result<(), Fail> {
         (store(11, 0), 0),
         (store(9, 0), 0),
     ];
-    assert_eq!(rt; follow(&mut machine, &mut words, &steps), Some(None));
+    assert_eq!(rt; follow(&mut machine, &mut words, &steps), Some(Answer::Missing));
     Ok(())
 }
 
@@ -175,6 +176,6 @@ fn a_key_is_missing_without_a_directory(rt: HostRuntime) -> Result<(), Fail> {
         (store(10, 0), 0),
         (store(9, 0), 0),
     ];
-    assert_eq!(rt; follow(&mut machine, &mut words, &steps), Some(None));
+    assert_eq!(rt; follow(&mut machine, &mut words, &steps), Some(Answer::Missing));
     Ok(())
 }
