@@ -1,5 +1,5 @@
 -- the machines that change the own table at an entry, as they are made: when they fit, what they give, and what they tell of their events
-use Rattle.std.specs.Prelude.{ℕ, Result, List}
+use Rattle.std.specs.Prelude.{ℕ, Bool, Result, List}
 use Rattle.shm_graph.specs.declared.ask.Me.{Me}
 use Rattle.shm_graph.specs.declared.memo.Memo.{Memo}
 use Rattle.shm_graph.specs.Asks.{Trail}
@@ -23,13 +23,13 @@ use Rattle.shm_table.specs.UnlinkFits.{unlink_control, unlink_plan}
 
 -- ---- the value block of an entry is to be v
 
-abbrev pub replace : Control (Calls ReplaceState ReplaceCall (Result (Unit {0}) PutFault) ReplaceAnswer) (Result (Unit {0}) PutFault)
+abbrev pub replace : Control (Calls ReplaceState ReplaceCall (Result Bool PutFault) ReplaceAnswer) (Result Bool PutFault)
 replace = calls_control replace_parts replace_plan
 
 abbrev pub ReplaceFits : Me → ℕ → ℕ → Memo → Memo → Trail → Type 0
 ReplaceFits me entry v = CallsFits replace_parts replace_plan (calls_of replace_plan (replacing me entry v))
 
-abbrev pub ReplaceGives : Me → ℕ → ℕ → Memo → Memo → Trail → Result (Unit {0}) PutFault → Type 0
+abbrev pub ReplaceGives : Me → ℕ → ℕ → Memo → Memo → Trail → Result Bool PutFault → Type 0
 ReplaceGives me entry v = CallsGives replace_parts replace_plan (calls_of replace_plan (replacing me entry v))
 
 abbrev pub replace_told : Me → ℕ → ℕ → Trail → List Event

@@ -233,7 +233,7 @@ module _ (m : PutRootState) (r0 rs r : Memo) (tr t : Trail) (es ds : List Event)
   )
 
   -- the entry that was found has the block, or not
-  replaced : (a : Result (Unit {0}) PutFault) → PutRootKnows (record m { point = Replace }) Replace r0 rs tr es → ReplaceLeaves (replacing m.me m.entry m.value) rs r t ds a → Goes Replace (Second (First (First a)))
+  replaced : (a : Result Bool PutFault) → PutRootKnows (record m { point = Replace }) Replace r0 rs tr es → ReplaceLeaves (replacing m.me m.entry m.value) rs r t ds a → Goes Replace (Second (First (First a)))
   replaced (Ok done) (h, root, searched, (n, before, word, may)) w =
       let quiet = frees_append es ds in
       let k = searched.keys in

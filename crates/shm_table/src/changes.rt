@@ -1,7 +1,7 @@
 //! When an entry of the own table may have another value block or go, and a key be removed; what that does to the graph of references and
 //! to the map, what it leaves, and how many word steps it takes.
 
-ghost use Rattle.std.specs.Prelude.{ℕ, ◌+◌, ◌*◌, Result, Ok, Err, [], List, length};
+ghost use Rattle.std.specs.Prelude.{ℕ, ◌+◌, ◌*◌, Bool, Result, Ok, Err, [], List, length};
 ghost use Rattle.shm_graph.specs.declared.ask.Me.{Me as AMe};
 ghost use Rattle.shm_graph.specs.declared.memo.Memo.{Memo as AMemo};
 ghost use Rattle.shm_graph.specs.Asks.{Trail, IsWithin};
@@ -36,13 +36,13 @@ pub fn replace_events()
 
 /// The key has the value block and its number, and no other key changed; or nothing was done, and the refusal says why.
 pub fn replace_leaves()
-    ensures leaves { (me : AMe) (entry v : ℕ) (r0 r : AMemo) (tr : Trail) (a : Result (Unit {0}) APutFault) → ReplaceGives me entry v r0 r tr a → ReplaceLeaves (replacing me entry v) r0 r tr (replace_told me entry v tr) a }
-    ensures trail { (me : AMe) (entry v : ℕ) (r0 r : AMemo) (tr : Trail) (a : Result (Unit {0}) APutFault) → ReplaceGives me entry v r0 r tr a → plan_trail replace_plan (replacing me entry v) tr a }
+    ensures leaves { (me : AMe) (entry v : ℕ) (r0 r : AMemo) (tr : Trail) (a : Result Bool APutFault) → ReplaceGives me entry v r0 r tr a → ReplaceLeaves (replacing me entry v) r0 r tr (replace_told me entry v tr) a }
+    ensures trail { (me : AMe) (entry v : ℕ) (r0 r : AMemo) (tr : Trail) (a : Result Bool APutFault) → ReplaceGives me entry v r0 r tr a → plan_trail replace_plan (replacing me entry v) tr a }
 {}
 
 /// It takes at most 14 word steps, and 164 for each block that it freed or left on the way.
 pub fn replace_bound()
-    ensures done { (me : AMe) (entry v : ℕ) (r0 r : AMemo) (tr : Trail) → ReplaceGives me entry v r0 r tr (Ok tt) → (vs : List Visit) × ReplaceEvents me entry v r0 (replace_told me entry v tr) vs × IsWithin (1 + change_steps + tear_steps (frees (replace_told me entry v tr) + length vs)) tr }
+    ensures done { (me : AMe) (entry v : ℕ) (r0 r : AMemo) (tr : Trail) (z : Bool) → ReplaceGives me entry v r0 r tr (Ok z) → (vs : List Visit) × ReplaceEvents me entry v r0 (replace_told me entry v tr) vs × IsWithin (1 + change_steps + tear_steps (frees (replace_told me entry v tr) + length vs)) tr }
     ensures refused { (me : AMe) (entry v : ℕ) (r0 r : AMemo) (tr : Trail) (f : APutFault) → ReplaceGives me entry v r0 r tr (Err f) → IsWithin (1 + change_steps) tr }
 {}
 

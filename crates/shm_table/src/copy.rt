@@ -34,7 +34,8 @@ pub enum CopyPoint {
     Drop,
 }
 
-/// The control of it: `block` is the value block, `number` its number and `root` its root; `refused` is why the key hasn't got it.
+/// The control of it: `block` is the value block, `number` its number and `root` its root; `decided`
+/// says whether the key came to have it, and `refused` is why it hasn't got it.
 #[derive(Clone, Copy, Debug, PartialEq, Eq, Drop)]
 pub struct CopyState {
     pub me: Me,
@@ -44,6 +45,7 @@ pub struct CopyState {
     pub root: u8,
     pub block: u32,
     pub number: u64,
+    pub decided: bool,
     pub refused: Option<PutFault>,
     pub point: CopyPoint,
 }
@@ -52,7 +54,7 @@ pub struct CopyState {
 pub type CopyCall = Or<Fetch, Or<PutRoot, DropRoot>>;
 
 /// What its calls answer.
-pub type CopyAnswer = Or<Fetched, Or<Result<(), PutFault>, Result<bool, EraSpent>>>;
+pub type CopyAnswer = Or<Fetched, Or<Result<bool, PutFault>, Result<bool, EraSpent>>>;
 
 /// The calls by which a key comes to have what another one has.
 #[derive(Drop)]
@@ -116,6 +118,7 @@ impl Copying {
                 root: 0,
                 block: 0,
                 number: 0,
+                decided: false,
                 refused: None,
                 point: CopyPoint::Fetch,
             },
@@ -190,6 +193,7 @@ impl Plan for Copying {
         match given {
             Or::First(fetched) => self.state.fetched(fetched),
             Or::Second(Or::First(done)) => {
+                self.state.decided = matches!(done, Ok(true));
                 self.state.refused = done.err();
                 self.state.point = CopyPoint::Drop;
                 None

@@ -33,7 +33,8 @@ pub enum PutPoint {
     Drop,
 }
 
-/// The control of it: `block` is the value block and `root` its root; `refused` is why the key hasn't got it.
+/// The control of it: `block` is the value block and `root` its root; `decided` says whether the
+/// key came to have it, and `refused` is why it hasn't got it.
 #[derive(Clone, Copy, Debug, PartialEq, Eq, Drop)]
 pub struct PutState {
     pub me: Me,
@@ -41,6 +42,7 @@ pub struct PutState {
     pub number: u64,
     pub root: u8,
     pub block: u32,
+    pub decided: bool,
     pub refused: Option<PutFault>,
     pub point: PutPoint,
 }
@@ -49,7 +51,7 @@ pub struct PutState {
 pub type PutCall = Or<Alloc, Or<PutRoot, DropRoot>>;
 
 /// What its calls answer.
-pub type PutAnswer = Or<Result<Made, AllocFault>, Or<Result<(), PutFault>, Result<bool, EraSpent>>>;
+pub type PutAnswer = Or<Result<Made, AllocFault>, Or<Result<bool, PutFault>, Result<bool, EraSpent>>>;
 
 /// The calls by which a key comes to have a number.
 #[derive(Drop)]
@@ -121,6 +123,7 @@ impl Putting {
                 number,
                 root: 0,
                 block: 0,
+                decided: false,
                 refused: None,
                 point: PutPoint::Make,
             },
@@ -170,6 +173,7 @@ impl Plan for Putting {
             }
             Or::First(Err(fault)) => Some(PutFault::made(fault).answer()),
             Or::Second(Or::First(done)) => {
+                self.state.decided = matches!(done, Ok(true));
                 self.state.refused = done.err();
                 self.state.point = PutPoint::Drop;
                 None

@@ -361,7 +361,7 @@ fn no_era_is_left_for_the_root_of_the_entry(rt: HostRuntime) -> Result<(), Fail>
     let mut machine: PutRoot = PutRoot::new(me, 6, 54);
     assert_eq!(rt;
         follow_listed(&mut machine, &mut words, &ENDED_STEPS),
-        Some(Ok(()))
+        Some(Ok(true))
     );
     assert_eq!(rt; words.as_slice(), after.as_slice());
     Ok(())

@@ -162,7 +162,7 @@ fn the_first_key_makes_a_directory(rt: HostRuntime) -> Result<(), Fail> {
     let mut machine: PutRoot = PutRoot::new(me, 5, 50);
     assert_eq!(rt;
         follow_listed(&mut machine, &mut words, &FIRST_STEPS),
-        Some(Ok(()))
+        Some(Ok(true))
     );
     assert_eq!(rt; words.as_slice(), after.as_slice());
     Ok(())
@@ -276,7 +276,7 @@ fn a_key_of_an_empty_bucket_is_put(rt: HostRuntime) -> Result<(), Fail> {
     let mut machine: PutRoot = PutRoot::new(me, 6, 54);
     assert_eq!(rt;
         follow_listed(&mut machine, &mut words, &BARE_STEPS),
-        Some(Ok(()))
+        Some(Ok(true))
     );
     assert_eq!(rt; words.as_slice(), after.as_slice());
     Ok(())
@@ -413,7 +413,7 @@ fn a_key_of_a_bucket_with_an_entry_is_put(rt: HostRuntime) -> Result<(), Fail> {
     let mut machine: PutRoot = PutRoot::new(me, 21, 54);
     assert_eq!(rt;
         follow_listed(&mut machine, &mut words, &TAKEN_STEPS),
-        Some(Ok(()))
+        Some(Ok(true))
     );
     assert_eq!(rt; words.as_slice(), after.as_slice());
     Ok(())

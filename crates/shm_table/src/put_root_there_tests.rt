@@ -87,7 +87,7 @@ fn a_key_that_is_there_has_another_block(rt: HostRuntime) -> Result<(), Fail> {
     let mut machine: PutRoot = PutRoot::new(me, 5, 54);
     assert_eq!(rt;
         follow_listed(&mut machine, &mut words, &FREED_STEPS),
-        Some(Ok(()))
+        Some(Ok(true))
     );
     assert_eq!(rt; words.as_slice(), after.as_slice());
     Ok(())
@@ -169,7 +169,7 @@ fn a_block_that_a_root_names_stays(rt: HostRuntime) -> Result<(), Fail> {
     let mut machine: PutRoot = PutRoot::new(me, 5, 54);
     assert_eq!(rt;
         follow_listed(&mut machine, &mut words, &KEPT_STEPS),
-        Some(Ok(()))
+        Some(Ok(true))
     );
     assert_eq!(rt; words.as_slice(), after.as_slice());
     Ok(())
@@ -222,7 +222,7 @@ fn a_key_that_has_the_block_keeps_it(rt: HostRuntime) -> Result<(), Fail> {
     let mut machine: PutRoot = PutRoot::new(me, 5, 50);
     assert_eq!(rt;
         follow_listed(&mut machine, &mut words, &SAME_STEPS),
-        Some(Ok(()))
+        Some(Ok(false))
     );
     assert_eq!(rt; words.as_slice(), after.as_slice());
     Ok(())

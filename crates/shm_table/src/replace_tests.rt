@@ -67,7 +67,7 @@ fn an_entry_has_another_value(rt: HostRuntime) -> Result<(), Fail> {
     ];
     let mut words = words_of(rt.alloc(), 2098, &before)?;
     let mut machine: Replace = Calls::new(Replacing::new(me, 306, 54));
-    assert_eq!(rt; follow(&mut machine, &mut words, &steps), Some(Ok(())));
+    assert_eq!(rt; follow(&mut machine, &mut words, &steps), Some(Ok(true)));
     let mut after = words_of(rt.alloc(), 2098, &before)?;
     put_words(&mut after, &changes);
     assert_eq!(rt; words.as_slice(), after.as_slice());
@@ -104,7 +104,7 @@ fn an_entry_has_that_value(rt: HostRuntime) -> Result<(), Fail> {
     let steps = [(load(309), 50)];
     let mut words = words_of(rt.alloc(), 2098, &before)?;
     let mut machine: Replace = Calls::new(Replacing::new(me, 306, 50));
-    assert_eq!(rt; follow(&mut machine, &mut words, &steps), Some(Ok(())));
+    assert_eq!(rt; follow(&mut machine, &mut words, &steps), Some(Ok(false)));
     assert_eq!(rt;
         words.as_slice(),
         words_of(rt.alloc(), 2098, &before)?.as_slice()
@@ -187,7 +187,7 @@ fn a_value_that_another_names_stays(rt: HostRuntime) -> Result<(), Fail> {
     ];
     let mut words = words_of(rt.alloc(), 4217, &before)?;
     let mut machine: Replace = Calls::new(Replacing::new(me, 377, 125));
-    assert_eq!(rt; follow(&mut machine, &mut words, &steps), Some(Ok(())));
+    assert_eq!(rt; follow(&mut machine, &mut words, &steps), Some(Ok(true)));
     let mut after = words_of(rt.alloc(), 4217, &before)?;
     put_words(&mut after, &changes);
     assert_eq!(rt; words.as_slice(), after.as_slice());
