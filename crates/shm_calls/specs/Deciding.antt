@@ -46,6 +46,10 @@ pub decides_where : {S A : Type 0} (k : Control S A) (z : Bool) (decided : S →
 decides_where k true decided deciding says h = record { goes = λ m n e. h.goes m n e; ends = λ m n a e. h.ends m n a e }
 decides_where k false decided deciding says h = record { goes = λ m n e. refl; ends = λ m n a e. refl }
 
+-- a machine whose answers tell it in another way
+pub decides_told : {S A : Type 0} (k : Control S A) (decided : S → Bool) (deciding : S → ℕ → Bool) (says says' : A → Bool) → ((a : A) → says' a ≡ says a) → Decides k decided deciding says → Decides k decided deciding says'
+decides_told k decided deciding says says' same h = record { goes = λ m n e. h.goes m n e; ends = λ m n a e. same a ∙ h.ends m n a e }
+
 -- ---- answers that are told by f
 
 untold_none : {A B : Type 0} (f : A → B) (o : Option A) → option_map f o ≡ None → o ≡ None
