@@ -42,7 +42,7 @@ del_call_at m Back = Second (Second (calls_of unlatch_plan (unlatching m.me m.me
 
 -- by what the search found
 abbrev pub found_after : DelState → Found → DelState
-found_after m (Absent home first) = record m { point = Back }
+found_after m (Absent home first) = record m { answer = answer.Missing; point = Back }
 found_after m (At entry before word) = record m { entry = entry % 2 ^ 20; before = before % 2 ^ 20; word = word; point = Cut }
 
 -- once the entry is gone, or is there still

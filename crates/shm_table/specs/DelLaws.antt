@@ -99,7 +99,7 @@ cause_before me key x r0 r tr es b (EraSpent e) may h (is, late) =
 cause_before me key x r0 r tr es b (CountFull d n) may h cause = cause
 
 -- no entry has the key
-missing : (me : Me) (key home first : ℕ) (r0 r : Memo) (tr : Trail) (es : List Event) → MayDel me r0 → Located me me.who key r0 r tr es (Absent home first) → IsHeld me r → IsSettled me key r0 r tr es Missing
+missing : (me : Me) (key home first : ℕ) (r0 r : Memo) (tr : Trail) (es : List Event) → MayDel me r0 → Located me me.who key r0 r tr es (Absent home first) → IsHeld me r → IsSettled me key r0 r tr es answer.Missing
 missing me key home first r0 r tr es may h held =
     let part = found_part me key r0 r tr es (Absent home first) may h in
     record {
@@ -303,11 +303,11 @@ module _ (me : Me) (key : ℕ) (r0 rs r : Memo) (tr t : Trail) (es ds : List Eve
       go a d = absurd d
 
 -- the search answered: what is so then
-searched_absent : (me : Me) (key home first : ℕ) (r0 rs r : Memo) (tr t : Trail) (es ds : List Event) (a : Answer) → MayDel me r0 × (a ≡ answer.Missing) × (rs ≡ r0) × (tr ≡ []) × (es ≡ []) → Located me me.who key rs r t ds (Absent home first) → IsHeld me r → IsSettled me key r0 r (tr ++ t) (es ++ ds) a
+searched_absent : (me : Me) (key home first : ℕ) (r0 rs r : Memo) (tr t : Trail) (es ds : List Event) (a : Answer) → MayDel me r0 × (a ≡ answer.Missing) × (rs ≡ r0) × (tr ≡ []) × (es ≡ []) → Located me me.who key rs r t ds (Absent home first) → IsHeld me r → IsSettled me key r0 r (tr ++ t) (es ++ ds) answer.Missing
 searched_absent me key home first r0 rs r tr t es ds a (may, said, same, none, quiet) g held =
-    subst (λ (u : Trail). IsSettled me key r0 r (u ++ t) (es ++ ds) a) (sym none)
-    (subst (λ (u : List Event). IsSettled me key r0 r t (u ++ ds) a) (sym quiet)
-    (subst (IsSettled me key r0 r t ds) (sym said) (missing me key home first r0 r t ds may (subst (λ (x : Memo). Located me me.who key x r t ds (Absent home first)) same g) held)))
+    subst (λ (u : Trail). IsSettled me key r0 r (u ++ t) (es ++ ds) answer.Missing) (sym none)
+    (subst (λ (u : List Event). IsSettled me key r0 r t (u ++ ds) answer.Missing) (sym quiet)
+    (missing me key home first r0 r t ds may (subst (λ (x : Memo). Located me me.who key x r t ds (Absent home first)) same g) held))
 
 searched_at : (me : Me) (key entry before word : ℕ) (r0 rs r : Memo) (tr t : Trail) (es ds : List Event) (a : Answer) → MayDel me r0 × (a ≡ answer.Missing) × (rs ≡ r0) × (tr ≡ []) × (es ≡ []) → Located me me.who key rs r t ds (At entry before word) → IsHeld me r → recovers r ≡ recovers rs
     → IsLocated me key (entry % 2 ^ 20) (before % 2 ^ 20) word r0 r (tr ++ t) (es ++ ds)

@@ -64,3 +64,5 @@ pub mod ChangeMachines
 pub mod Machines
 pub mod OpenMachine
 pub mod PutMachines
+pub mod Effects
+pub mod EffectLaws

@@ -104,7 +104,7 @@ decided_of (Err f) = false
 
 -- by whether a new entry was linked
 abbrev pub entered_after : PutRootState → Entered → PutRootState
-entered_after m (Linked k) = record m { root = Some (k % 16); decided = true; point = point.Unlatch }
+entered_after m (Linked k) = record m { root = Some (k % 16); decided = true; refused = None; point = point.Unlatch }
 entered_after m (Unlinked k f) = record m { root = Some (k % 16); refused = Some f; point = point.Unlatch }
 entered_after m (Unmade f) = record m { refused = Some f; point = point.Unlatch }
 

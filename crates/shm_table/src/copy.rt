@@ -2,6 +2,7 @@
 
 ghost use Rattle.std.specs.Prelude.{◌≡◌, ◌<◌, ◌≤◌};
 ghost use Rattle.shm_words.specs.Layout.{GeometryFits};
+ghost use Rattle.shm_table.specs.Effects.{copy_effect};
 ghost use Rattle.shm_table.specs.CopyControl as control;
 ghost use Rattle.shm_table.specs.CopyControl.{copying};
 ghost use Rattle.shm_table.specs.CopyFits.{copy_plan};
@@ -14,8 +15,9 @@ ghost use Rattle.shm_table.specs.PutRootLaws.{put_root_laws};
 ghost use Rattle.shm_table.specs.ReplaceLaws.{replace_laws};
 
 use crate::answer::PutFault;
+use crate::effect::{Deciding, Effect};
 use crate::fetch::{Fetch, Fetched, Fetching};
-use crate::put_root::PutRoot;
+use crate::put_root::{PutRoot, settled};
 use shm_calls::{Calls, Or, Plan};
 use shm_count::EraSpent;
 use shm_graph::{Machine, Me};
@@ -204,4 +206,29 @@ impl Plan for Copying {
     }
 
     ghost laws = { copy_laws fetch_laws (put_root_laws open_laws locate_laws replace_laws enter_laws) };
+}
+
+impl Effect for CopyKey {
+    ghost effect = { copy_effect };
+
+    #[inline(always)]
+    fn effect(&self) -> Option<Answer> {
+        let CopyState {
+            number,
+            block,
+            decided,
+            refused,
+            ..
+        } = self.plan().state;
+        let decided = match self.call() {
+            Or::First(_) => false,
+            Or::Second(Or::First(put)) => put.decided(),
+            Or::Second(Or::Second(_)) => settled(decided, refused),
+        };
+        if decided {
+            Some(Answer::Value { number, block })
+        } else {
+            None
+        }
+    }
 }

@@ -2,12 +2,14 @@
 
 ghost use Rattle.std.specs.Prelude.{◌≡◌, ◌%◌, ◌<◌};
 ghost use Rattle.shm_words.specs.Layout.{GeometryFits};
+ghost use Rattle.shm_table.specs.Effects.{del_effect, is_removed};
 ghost use Rattle.shm_table.specs.DelControl as control;
 ghost use Rattle.shm_table.specs.DelControl.{deleting};
 ghost use Rattle.shm_table.specs.DelFits.{del_plan};
 ghost use Rattle.shm_table.specs.DelLaws.{del_laws};
 
 use crate::answer::PutFault;
+use crate::effect::{Deciding, Effect};
 use crate::find::Found;
 use crate::locate::{Locate, Locating};
 use crate::unlatch::{Unlatch, Unlatching};
@@ -95,6 +97,7 @@ impl DelState {
     {
         match found {
             Found::Absent { .. } => {
+                self.answer = Answer::Missing;
                 self.point = DelPoint::Back;
             }
             Found::At {
@@ -172,4 +175,30 @@ impl Plan for Deleting {
     }
 
     ghost laws = { del_laws };
+}
+
+/// Whether the entry was taken out.
+#[inline(always)]
+fn is_removed(answer: Answer) -> bool
+    ensures { result ≡ is_removed answer }
+{
+    match answer {
+        Answer::Ok => true,
+        _ => false,
+    }
+}
+
+impl Effect for Del {
+    ghost effect = { del_effect };
+
+    #[inline(always)]
+    fn effect(&self) -> Option<Answer> {
+        let DelState { answer, .. } = self.plan().state;
+        let decided = match self.call() {
+            Or::First(_) => false,
+            Or::Second(Or::First(cut)) => cut.decided(),
+            Or::Second(Or::Second(_)) => is_removed(answer),
+        };
+        if decided { Some(Answer::Ok) } else { None }
+    }
 }

@@ -101,10 +101,7 @@ fn the_last_key_of_a_bucket_is_removed(rt: HostRuntime) -> Result<(), Fail> {
     ];
     let mut words = words_of(rt.alloc(), 2098, &before)?;
     let mut machine: Del = Calls::new(Deleting::new(me, 5));
-    assert_eq!(rt;
-        follow(&mut machine, &mut words, &steps),
-        Some(Answer::Ok)
-    );
+    assert_eq!(rt; follow(&mut machine, &mut words, &steps), Some(Answer::Ok));
     let mut after = words_of(rt.alloc(), 2098, &before)?;
     put_words(&mut after, &changes);
     assert_eq!(rt; words.as_slice(), after.as_slice());
@@ -359,10 +356,7 @@ fn a_key_is_removed_with_the_last_era(rt: HostRuntime) -> Result<(), Fail> {
     ];
     let mut words = words_of(rt.alloc(), 2098, &before)?;
     let mut machine: Del = Calls::new(Deleting::new(me, 5));
-    assert_eq!(rt;
-        follow(&mut machine, &mut words, &steps),
-        Some(Answer::Ok)
-    );
+    assert_eq!(rt; follow(&mut machine, &mut words, &steps), Some(Answer::Ok));
     let mut after = words_of(rt.alloc(), 2098, &before)?;
     put_words(&mut after, &changes);
     assert_eq!(rt; words.as_slice(), after.as_slice());

@@ -83,10 +83,7 @@ fn the_only_key_is_removed(rt: HostRuntime) -> Result<(), Fail> {
     ];
     let mut words = words_of(rt.alloc(), 2098, &before)?;
     let mut machine: Del = Calls::new(Deleting::new(me, 5));
-    assert_eq!(rt;
-        follow(&mut machine, &mut words, &steps),
-        Some(Answer::Ok)
-    );
+    assert_eq!(rt; follow(&mut machine, &mut words, &steps), Some(Answer::Ok));
     let mut after = words_of(rt.alloc(), 2098, &before)?;
     put_words(&mut after, &changes);
     assert_eq!(rt; words.as_slice(), after.as_slice());
@@ -220,10 +217,7 @@ fn a_value_that_another_names_stays(rt: HostRuntime) -> Result<(), Fail> {
     ];
     let mut words = words_of(rt.alloc(), 4217, &before)?;
     let mut machine: Del = Calls::new(Deleting::new(me, 5));
-    assert_eq!(rt;
-        follow(&mut machine, &mut words, &steps),
-        Some(Answer::Ok)
-    );
+    assert_eq!(rt; follow(&mut machine, &mut words, &steps), Some(Answer::Ok));
     let mut after = words_of(rt.alloc(), 4217, &before)?;
     put_words(&mut after, &changes);
     assert_eq!(rt; words.as_slice(), after.as_slice());
@@ -336,10 +330,7 @@ fn the_first_key_of_a_bucket_is_removed(rt: HostRuntime) -> Result<(), Fail> {
     ];
     let mut words = words_of(rt.alloc(), 2098, &before)?;
     let mut machine: Del = Calls::new(Deleting::new(me, 37));
-    assert_eq!(rt;
-        follow(&mut machine, &mut words, &steps),
-        Some(Answer::Ok)
-    );
+    assert_eq!(rt; follow(&mut machine, &mut words, &steps), Some(Answer::Ok));
     let mut after = words_of(rt.alloc(), 2098, &before)?;
     put_words(&mut after, &changes);
     assert_eq!(rt; words.as_slice(), after.as_slice());
@@ -454,10 +445,7 @@ fn a_key_between_others_is_removed(rt: HostRuntime) -> Result<(), Fail> {
     ];
     let mut words = words_of(rt.alloc(), 2098, &before)?;
     let mut machine: Del = Calls::new(Deleting::new(me, 21));
-    assert_eq!(rt;
-        follow(&mut machine, &mut words, &steps),
-        Some(Answer::Ok)
-    );
+    assert_eq!(rt; follow(&mut machine, &mut words, &steps), Some(Answer::Ok));
     let mut after = words_of(rt.alloc(), 2098, &before)?;
     put_words(&mut after, &changes);
     assert_eq!(rt; words.as_slice(), after.as_slice());

@@ -2,10 +2,12 @@
 
 ghost use Rattle.std.specs.Prelude.{◌≡◌, ◌<◌, ◌+◌, ◌^◌};
 ghost use Rattle.shm_words.specs.Layout.{GeometryFits};
+ghost use Rattle.shm_table.specs.Effects.{get_effect};
 ghost use Rattle.shm_table.specs.GetControl as control;
 ghost use Rattle.shm_table.specs.GetFits.{get_plan};
 ghost use Rattle.shm_table.specs.GetLaws.{get_laws};
 
+use crate::effect::Effect;
 use crate::find::Found;
 use crate::locate::{Locate, Locating};
 use crate::unlatch::{Unlatch, Unlatching};
@@ -179,4 +181,13 @@ impl Plan for Getting {
     }
 
     ghost laws = { get_laws };
+}
+
+impl Effect for Get {
+    ghost effect = { get_effect };
+
+    #[inline(always)]
+    fn effect(&self) -> Option<Answer> {
+        None
+    }
 }

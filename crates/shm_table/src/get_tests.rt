@@ -142,7 +142,10 @@ fn a_key_that_no_entry_has_is_missing(rt: HostRuntime) -> Result<(), Fail> {
         (store(11, 0), 0),
         (store(9, 0), 0),
     ];
-    assert_eq!(rt; follow(&mut machine, &mut words, &steps), Some(Answer::Missing));
+    assert_eq!(rt;
+        follow(&mut machine, &mut words, &steps),
+        Some(Answer::Missing)
+    );
     assert_eq!(rt; words.as_slice(), free_table(rt.alloc())?.as_slice());
     Ok(())
 }
@@ -160,7 +163,10 @@ fn a_key_of_an_empty_bucket_is_missing(rt: HostRuntime) -> Result<(), Fail> {
         (store(11, 0), 0),
         (store(9, 0), 0),
     ];
-    assert_eq!(rt; follow(&mut machine, &mut words, &steps), Some(Answer::Missing));
+    assert_eq!(rt;
+        follow(&mut machine, &mut words, &steps),
+        Some(Answer::Missing)
+    );
     Ok(())
 }
 
@@ -176,6 +182,9 @@ fn a_key_is_missing_without_a_directory(rt: HostRuntime) -> Result<(), Fail> {
         (store(10, 0), 0),
         (store(9, 0), 0),
     ];
-    assert_eq!(rt; follow(&mut machine, &mut words, &steps), Some(Answer::Missing));
+    assert_eq!(rt;
+        follow(&mut machine, &mut words, &steps),
+        Some(Answer::Missing)
+    );
     Ok(())
 }

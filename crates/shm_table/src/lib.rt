@@ -18,6 +18,8 @@ pub mod del;
 mod del_edge_tests;
 #[cfg(test)]
 mod del_tests;
+pub mod effect;
+pub mod effects;
 pub mod enter;
 #[cfg(test)]
 mod enter_spent_tests;
@@ -70,6 +72,8 @@ pub use changes::{del_begins, del_bound, del_events, del_leaves};
 pub use copy::{CopyKey, Copying};
 pub use copying::{copy_begins, copy_bound, copy_events, copy_leaves};
 pub use del::{Del, Deleting};
+pub use effect::Effect;
+pub use effects::{commands_foretell, parts_decide};
 pub use get::{Get, Getting};
 pub use put::{Put, Putting};
 pub use putting::{put_begins, put_bound, put_events, put_leaves};

@@ -2,6 +2,7 @@
 
 ghost use Rattle.std.specs.Prelude.{◌≡◌, ◌<◌, ◌≤◌};
 ghost use Rattle.shm_words.specs.Layout.{GeometryFits};
+ghost use Rattle.shm_table.specs.Effects.{put_effect};
 ghost use Rattle.shm_table.specs.PutControl as control;
 ghost use Rattle.shm_table.specs.PutControl.{putting};
 ghost use Rattle.shm_table.specs.PutFits.{put_plan};
@@ -13,7 +14,8 @@ ghost use Rattle.shm_table.specs.PutRootLaws.{put_root_laws};
 ghost use Rattle.shm_table.specs.ReplaceLaws.{replace_laws};
 
 use crate::answer::PutFault;
-use crate::put_root::PutRoot;
+use crate::effect::{Deciding, Effect};
+use crate::put_root::{PutRoot, settled};
 use shm_alloc::{Alloc, AllocFault, Request};
 use shm_calls::{Calls, Or, Plan};
 use shm_count::{EraSpent, Made};
@@ -51,7 +53,10 @@ pub struct PutState {
 pub type PutCall = Or<Alloc, Or<PutRoot, DropRoot>>;
 
 /// What its calls answer.
-pub type PutAnswer = Or<Result<Made, AllocFault>, Or<Result<bool, PutFault>, Result<bool, EraSpent>>>;
+pub type PutAnswer = Or<
+    Result<Made, AllocFault>,
+    Or<Result<bool, PutFault>, Result<bool, EraSpent>>,
+>;
 
 /// The calls by which a key comes to have a number.
 #[derive(Drop)]
@@ -184,4 +189,28 @@ impl Plan for Putting {
     }
 
     ghost laws = { put_laws (put_root_laws open_laws locate_laws replace_laws enter_laws) };
+}
+
+impl Effect for Put {
+    ghost effect = { put_effect };
+
+    #[inline(always)]
+    fn effect(&self) -> Option<Answer> {
+        let PutState {
+            block,
+            decided,
+            refused,
+            ..
+        } = self.plan().state;
+        let decided = match self.call() {
+            Or::First(_) => false,
+            Or::Second(Or::First(put)) => put.decided(),
+            Or::Second(Or::Second(_)) => settled(decided, refused),
+        };
+        if decided {
+            Some(Answer::Stored { block })
+        } else {
+            None
+        }
+    }
 }

@@ -2,6 +2,7 @@
 
 ghost use Rattle.std.specs.Prelude.{◌≡◌, ◌<◌, ◌^◌};
 ghost use Rattle.shm_words.specs.Layout.{GeometryFits};
+ghost use Rattle.shm_table.specs.Effects.{put_root_decided, settled};
 ghost use Rattle.shm_table.specs.PutRootControl as control;
 ghost use Rattle.shm_calls.specs.CallsControl.{calls_of};
 ghost use Rattle.shm_calls.specs.CallsFit.{CallsFits, CallsGives};
@@ -15,6 +16,7 @@ ghost use Rattle.shm_table.specs.PutRootLaws.{put_root_laws};
 ghost use Rattle.shm_table.specs.ReplaceLaws.{replace_laws};
 
 use crate::answer::PutFault;
+use crate::effect::Deciding;
 use crate::enter::{Enter, Entered, Entering};
 use crate::find::Found;
 use crate::locate::{Locate, Locating};
@@ -212,6 +214,7 @@ impl PutRootState {
             Entered::Linked { root } => {
                 self.root = Some(root % 16);
                 self.decided = true;
+                self.refused = None;
             }
             Entered::Unlinked { root, fault } => {
                 self.root = Some(root % 16);
@@ -326,4 +329,35 @@ impl Plan for PuttingRoot {
     }
 
     ghost laws = { put_root_laws open_laws locate_laws replace_laws enter_laws };
+}
+
+/// Whether the deciding step was made: where it was refused it wasn't.
+#[inline(always)]
+pub(crate) fn settled(decided: bool, refused: Option<PutFault>) -> bool
+    ensures { result ≡ settled decided refused }
+{
+    match refused {
+        None => decided,
+        Some(_) => false,
+    }
+}
+
+impl Deciding for PutRoot {
+    ghost decided = { put_root_decided };
+
+    /// The entry's other value decides, or the new entry.
+    #[inline(always)]
+    fn decided(&self) -> bool {
+        let PutRootState {
+            decided,
+            refused,
+            ..
+        } = self.calls.plan().state;
+        match self.calls.call() {
+            Or::First(_) => false,
+            Or::Second(Or::First(Or::First(replace))) => replace.decided(),
+            Or::Second(Or::First(Or::Second(enter))) => enter.decided(),
+            Or::Second(Or::Second(_)) => settled(decided, refused),
+        }
+    }
 }

@@ -2,12 +2,14 @@
 
 ghost use Rattle.std.specs.Prelude.{◌≡◌, ◌%◌, ◌^◌, ◌+◌, ◌<◌};
 ghost use Rattle.shm_words.specs.Layout.{GeometryFits};
+ghost use Rattle.shm_table.specs.Effects.{replace_decided};
 ghost use Rattle.shm_table.specs.ReplaceControl as control;
 ghost use Rattle.shm_table.specs.ReplaceControl.{replacing};
 ghost use Rattle.shm_table.specs.ReplaceFits.{replace_plan};
 ghost use Rattle.shm_table.specs.ReplaceLaws.{replace_laws};
 
 use crate::answer::PutFault;
+use crate::effect::Deciding;
 use shm_calls::{Calls, Or, Plan, Word};
 use shm_count::{EraSpent, StepChange, TearDown, UpFault};
 use shm_graph::{Machine, Me};
@@ -159,4 +161,18 @@ impl Plan for Replacing {
     }
 
     ghost laws = { replace_laws };
+}
+
+impl Deciding for Replace {
+    ghost decided = { replace_decided };
+
+    /// The change decides, and a tear-down comes after it.
+    #[inline(always)]
+    fn decided(&self) -> bool {
+        match self.call() {
+            Or::First(_) => false,
+            Or::Second(Or::First(change)) => change.exchanged(),
+            Or::Second(Or::Second(_)) => true,
+        }
+    }
 }
