@@ -14,7 +14,7 @@ use Rattle.shm_table.specs.declared.answer.PutFault.{PutFault}
 use Rattle.shm_script.specs.declared.log.Answer.{Answer}
 use Rattle.shm_table.specs.declared.del.DelState.{DelState}
 use Rattle.shm_table.specs.declared.replace.ReplaceState.{ReplaceState}
-use Rattle.shm_table.specs.DelControl.{DelCall, DelCallAnswer, del_parts, deleting}
+use Rattle.shm_table.specs.DelControl.{DelCalls, DelCall, DelCallAnswer, del_parts, deleting}
 use Rattle.shm_table.specs.DelFits.{del_plan}
 use Rattle.shm_table.specs.ReplaceControl.{ReplaceAnswer, ReplaceCall, replace_parts, replacing}
 use Rattle.shm_table.specs.ReplaceFits.{replace_plan}
@@ -48,7 +48,7 @@ unlink_told me entry before word = happens_along unlink_control (calls_does unli
 
 -- ---- the key is to be removed
 
-abbrev pub del : Control (Calls DelState DelCall Answer DelCallAnswer) Answer
+abbrev pub del : Control DelCalls Answer
 del = calls_control del_parts del_plan
 
 abbrev pub DelFits : Me → ℕ → Memo → Memo → Trail → Type 0

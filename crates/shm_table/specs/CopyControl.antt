@@ -42,6 +42,10 @@ CopyCall = Or FetchCalls (Or PutRootCalls RootsCall)
 abbrev pub CopyAnswer : Type 0
 CopyAnswer = Or Fetched (Or (Result Bool PutFault) (Result Bool EraSpent))
 
+-- its states
+abbrev pub CopyCalls : Type 0
+CopyCalls = Calls CopyState CopyCall Answer CopyAnswer
+
 -- before its first call
 abbrev pub copying : Me → ℕ → ℕ → ℕ → CopyState
 copying me key a other = record { me = me; key = key; author = a; other = other; root = 0; block = 0; number = 0; decided = false; refused = None; point = point.Fetch }

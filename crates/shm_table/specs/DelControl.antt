@@ -3,6 +3,7 @@ use Rattle.std.specs.Prelude.{ℕ, ◌%◌, ◌^◌, ◌<◌, Bool, true, false,
 use Rattle.shm_words.specs.Layout.{GeometryFits}
 use Rattle.shm_graph.specs.declared.ask.Me.{Me}
 use Rattle.shm_graph.specs.Laws.{Control}
+use Rattle.shm_calls.specs.declared.calls.Calls.{Calls}
 use Rattle.shm_calls.specs.declared.or.Or.{Or}
 use Rattle.shm_calls.specs.declared.or.Or.TheVariants.{First, Second}
 use Rattle.shm_calls.specs.CallsControl.{calls_of}
@@ -28,6 +29,10 @@ DelCall = Or LocateCalls (Or UnlinkCalls UnlatchCalls)
 
 abbrev pub DelCallAnswer : Type 0
 DelCallAnswer = Or Found (Or (Result (Unit {0}) UpFault) (Unit {0}))
+
+-- its states
+abbrev pub DelCalls : Type 0
+DelCalls = Calls DelState DelCall Answer DelCallAnswer
 
 -- before its first call
 abbrev pub deleting : Me → ℕ → DelState

@@ -18,11 +18,11 @@ use Rattle.shm_table.specs.declared.put.PutState.{PutState}
 use Rattle.shm_table.specs.declared.put_root.PutRootState.{PutRootState}
 use Rattle.shm_table.specs.declared.replace.ReplaceState.{ReplaceState}
 use Rattle.shm_table.specs.declared.unlink.UnlinkState.{UnlinkState}
-use Rattle.shm_table.specs.CopyControl.{CopyAnswer, CopyCall}
-use Rattle.shm_table.specs.DelControl.{DelCall, DelCallAnswer}
+use Rattle.shm_table.specs.CopyControl.{CopyCalls, CopyAnswer, CopyCall}
+use Rattle.shm_table.specs.DelControl.{DelCalls, DelCall, DelCallAnswer}
 use Rattle.shm_table.specs.EnterControl.{EnterAnswer, EnterCall}
-use Rattle.shm_table.specs.GetControl.{GetAnswer, GetCall}
-use Rattle.shm_table.specs.PutControl.{PutAnswer, PutCall}
+use Rattle.shm_table.specs.GetControl.{GetCalls, GetAnswer, GetCall}
+use Rattle.shm_table.specs.PutControl.{PutCalls, PutAnswer, PutCall}
 use Rattle.shm_table.specs.PutRootControl.{EnterCalls, PutRootAnswer, PutRootCall, PutRootCalls, ReplaceCalls, decided_of}
 use Rattle.shm_table.specs.ReplaceControl.{ReplaceAnswer, ReplaceCall}
 use Rattle.shm_table.specs.UnlinkControl.{UnlinkAnswer, UnlinkCall}
@@ -112,7 +112,7 @@ put_by m = either (λ c n. false) (either (λ c. put_root_by c.plan c.call) (λ 
 abbrev pub put_says : PutState → PutAnswer → Bool
 put_says m = either (λ a. false) (either decided_of (λ a. settled m.decided m.refused))
 
-abbrev pub put_effect : Calls PutState PutCall Answer PutAnswer → Option Answer
+abbrev pub put_effect : PutCalls → Option Answer
 put_effect m = where_decided (put_at m.plan m.call) (answer.Stored m.plan.block)
 
 abbrev pub copy_at : CopyState → CopyCall → Bool
@@ -124,7 +124,7 @@ copy_by m = either (λ c n. false) (either (λ c. put_root_by c.plan c.call) (λ
 abbrev pub copy_says : CopyState → CopyAnswer → Bool
 copy_says m = either (λ a. false) (either decided_of (λ a. settled m.decided m.refused))
 
-abbrev pub copy_effect : Calls CopyState CopyCall Answer CopyAnswer → Option Answer
+abbrev pub copy_effect : CopyCalls → Option Answer
 copy_effect m = where_decided (copy_at m.plan m.call) (answer.Value m.plan.number m.plan.block)
 
 -- the entry was taken out
@@ -141,9 +141,9 @@ del_by m = either (λ c n. false) (either (λ c. unlink_by c.plan c.call) (λ c 
 abbrev pub del_says : DelState → DelCallAnswer → Bool
 del_says m = either (λ a. false) (either is_ok (λ a. is_removed m.answer))
 
-abbrev pub del_effect : Calls DelState DelCall Answer DelCallAnswer → Option Answer
+abbrev pub del_effect : DelCalls → Option Answer
 del_effect m = where_decided (del_at m.plan m.call) answer.Ok
 
 -- reading what a key has decides nothing
-abbrev pub get_effect : Calls GetState GetCall Answer GetAnswer → Option Answer
+abbrev pub get_effect : GetCalls → Option Answer
 get_effect m = None

@@ -4,6 +4,7 @@ use Rattle.shm_words.specs.Layout.{GeometryFits}
 use Rattle.shm_graph.specs.declared.ask.Ask.{Ask}
 use Rattle.shm_graph.specs.declared.ask.Me.{Me}
 use Rattle.shm_graph.specs.Laws.{Control}
+use Rattle.shm_calls.specs.declared.calls.Calls.{Calls}
 use Rattle.shm_calls.specs.declared.or.Or.{Or}
 use Rattle.shm_calls.specs.declared.or.Or.TheVariants.{First, Second}
 use Rattle.shm_calls.specs.declared.word.Word.{Word}
@@ -28,6 +29,10 @@ GetCall = Or LocateCalls (Or Word UnlatchCalls)
 
 abbrev pub GetAnswer : Type 0
 GetAnswer = Or Found (Or ℕ (Unit {0}))
+
+-- its states
+abbrev pub GetCalls : Type 0
+GetCalls = Calls GetState GetCall Answer GetAnswer
 
 -- before its first call
 abbrev pub getting : Me → ℕ → ℕ → GetState

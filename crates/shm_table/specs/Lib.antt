@@ -66,3 +66,5 @@ pub mod OpenMachine
 pub mod PutMachines
 pub mod Effects
 pub mod EffectLaws
+pub mod CommandControl
+pub mod CommandLaws

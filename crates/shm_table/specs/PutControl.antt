@@ -3,6 +3,7 @@ use Rattle.std.specs.Prelude.{ℕ, ◌%◌, ◌^◌, ◌<◌, Bool, true, false,
 use Rattle.shm_words.specs.Layout.{GeometryFits}
 use Rattle.shm_graph.specs.declared.ask.Me.{Me}
 use Rattle.shm_graph.specs.Laws.{Control}
+use Rattle.shm_calls.specs.declared.calls.Calls.{Calls}
 use Rattle.shm_calls.specs.declared.or.Or.{Or}
 use Rattle.shm_calls.specs.declared.or.Or.TheVariants.{First, Second}
 use Rattle.shm_calls.specs.CallsControl.{calls_of}
@@ -38,6 +39,10 @@ PutAnswer = Or (Result Made AllocFault) (Or (Result Bool PutFault) (Result Bool 
 -- a block with the words of a value block, of which the number is the plain one
 abbrev pub value_request : ℕ → Request
 value_request n = record { refs = 0; count = 1; plain = n ∷ 0 ∷ 0 ∷ 0 ∷ 0 ∷ 0 ∷ 0 ∷ 0 ∷ [] }
+
+-- its states
+abbrev pub PutCalls : Type 0
+PutCalls = Calls PutState PutCall Answer PutAnswer
 
 -- before its first call
 abbrev pub putting : Me → ℕ → ℕ → PutState

@@ -13,7 +13,7 @@ use Rattle.shm_table.specs.declared.answer.PutFault.{PutFault}
 use Rattle.shm_script.specs.declared.log.Answer.{Answer}
 use Rattle.shm_table.specs.declared.put.PutState.{PutState}
 use Rattle.shm_table.specs.declared.put_root.PutRootState.{PutRootState}
-use Rattle.shm_table.specs.PutControl.{PutAnswer, PutCall, put_parts, putting}
+use Rattle.shm_table.specs.PutControl.{PutCalls, PutAnswer, PutCall, put_parts, putting}
 use Rattle.shm_table.specs.PutFits.{put_plan}
 use Rattle.shm_table.specs.PutRootControl.{PutRootAnswer, PutRootCall, put_root_parts, putting_root}
 use Rattle.shm_table.specs.PutRootFits.{put_root_plan}
@@ -37,7 +37,7 @@ put_root_told me key v = happens_along put_root (calls_does put_root_parts put_r
 
 -- ---- a key comes to have a number
 
-abbrev pub put : Control (Calls PutState PutCall Answer PutAnswer) Answer
+abbrev pub put : Control PutCalls Answer
 put = calls_control put_parts put_plan
 
 abbrev pub PutFits : Me → ℕ → ℕ → Memo → Memo → Trail → Type 0

@@ -13,7 +13,7 @@ use Rattle.shm_calls.specs.Words.{word_control}
 use Rattle.shm_script.specs.declared.log.Answer.{Answer}
 use Rattle.shm_table.specs.declared.find.Found.{Found}
 use Rattle.shm_table.specs.declared.get.GetState.{GetState}
-use Rattle.shm_table.specs.GetControl.{GetAnswer, GetCall, get_parts, getting}
+use Rattle.shm_table.specs.GetControl.{GetCalls, GetAnswer, GetCall, get_parts, getting}
 use Rattle.shm_table.specs.GetFits.{get_plan}
 use Rattle.shm_table.specs.LocateControl.{locate_parts, locating}
 use Rattle.shm_table.specs.LocateFits.{locate_control, locate_plan}
@@ -43,7 +43,7 @@ locate_told me a key = happens_along locate_control (calls_does locate_parts loc
 
 -- ---- what a key has in the table of a
 
-abbrev pub get : Control (Calls GetState GetCall Answer GetAnswer) Answer
+abbrev pub get : Control GetCalls Answer
 get = calls_control get_parts get_plan
 
 abbrev pub GetFits : Me → ℕ → ℕ → Memo → Memo → Trail → Type 0

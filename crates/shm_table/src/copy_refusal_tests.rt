@@ -1,9 +1,8 @@
 //! Copies that are refused, step by step and on the words of a pool, against an independent implementation.
 
+use crate::CopyKey;
 use crate::entry_tests::{exchange, follow, load, put_words, store};
 use crate::tests::table;
-use crate::{CopyKey, Copying};
-use shm_calls::Calls;
 use shm_graph::{Ask, Me};
 use shm_script::Answer;
 use shm_words::Geometry;
@@ -41,7 +40,7 @@ fn copied(
 #[test]
 fn no_segment_is_free(rt: HostRuntime) -> Result<(), Fail> {
     let me = Me::new(Geometry::new(3, 1)?, 2);
-    let machine = Calls::new(Copying::new(me, 6, 1, 5));
+    let machine = CopyKey::new(me, 6, 1, 5);
     let before = [];
     let steps = [
         (store(9, 2), 0),
@@ -98,7 +97,7 @@ fn no_segment_is_free(rt: HostRuntime) -> Result<(), Fail> {
 #[test]
 fn a_full_count_is_not_raised(rt: HostRuntime) -> Result<(), Fail> {
     let me = Me::new(Geometry::new(3, 1)?, 2);
-    let machine = Calls::new(Copying::new(me, 6, 1, 5));
+    let machine = CopyKey::new(me, 6, 1, 5);
     let before = [(188, 9511461675518132249)];
     let steps = [
         (store(9, 2), 0),
@@ -127,7 +126,7 @@ fn a_full_count_is_not_raised(rt: HostRuntime) -> Result<(), Fail> {
 #[test]
 fn no_root_is_empty(rt: HostRuntime) -> Result<(), Fail> {
     let me = Me::new(Geometry::new(3, 1)?, 2);
-    let machine = Calls::new(Copying::new(me, 6, 1, 5));
+    let machine = CopyKey::new(me, 6, 1, 5);
     let before = [
         (57, 184),
         (58, 184),
@@ -183,7 +182,7 @@ fn no_root_is_empty(rt: HostRuntime) -> Result<(), Fail> {
 #[test]
 fn one_root_is_empty(rt: HostRuntime) -> Result<(), Fail> {
     let me = Me::new(Geometry::new(3, 1)?, 2);
-    let machine = Calls::new(Copying::new(me, 6, 1, 5));
+    let machine = CopyKey::new(me, 6, 1, 5);
     let before = [
         (57, 184),
         (58, 184),
@@ -281,7 +280,7 @@ fn one_root_is_empty(rt: HostRuntime) -> Result<(), Fail> {
 #[test]
 fn no_era_is_left_for_the_root(rt: HostRuntime) -> Result<(), Fail> {
     let me = Me::new(Geometry::new(3, 1)?, 2);
-    let machine = Calls::new(Copying::new(me, 6, 1, 5));
+    let machine = CopyKey::new(me, 6, 1, 5);
     let before = [(24, 140737488355326)];
     let steps = [
         (store(9, 2), 0),
@@ -306,7 +305,7 @@ fn no_era_is_left_for_the_root(rt: HostRuntime) -> Result<(), Fail> {
 #[test]
 fn no_era_is_left_after_the_root(rt: HostRuntime) -> Result<(), Fail> {
     let me = Me::new(Geometry::new(3, 1)?, 2);
-    let machine = Calls::new(Copying::new(me, 6, 1, 5));
+    let machine = CopyKey::new(me, 6, 1, 5);
     let before = [(24, 140737488355325)];
     let steps = [
         (store(9, 2), 0),

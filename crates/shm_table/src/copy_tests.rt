@@ -1,9 +1,8 @@
 //! Copies of what a key has, step by step and on the words of a pool, against an independent implementation.
 
+use crate::CopyKey;
 use crate::entry_tests::{exchange, follow, load, put_words, store};
 use crate::tests::table;
-use crate::{CopyKey, Copying};
-use shm_calls::Calls;
 use shm_graph::{Ask, Me};
 use shm_script::Answer;
 use shm_words::Geometry;
@@ -41,7 +40,7 @@ fn copied(
 #[test]
 fn a_key_of_another_table_is_copied_into_an_empty_one(rt: HostRuntime) -> Result<(), Fail> {
     let me = Me::new(Geometry::new(3, 1)?, 2);
-    let machine = Calls::new(Copying::new(me, 6, 1, 5));
+    let machine = CopyKey::new(me, 6, 1, 5);
     let before = [(163, 0)];
     let steps = [
         (store(9, 2), 0),
@@ -207,7 +206,7 @@ fn another_key_of_the_same_table_comes_to_have_the_value_block(
     rt: HostRuntime,
 ) -> Result<(), Fail> {
     let me = Me::new(Geometry::new(3, 1)?, 1);
-    let machine = Calls::new(Copying::new(me, 21, 1, 5));
+    let machine = CopyKey::new(me, 21, 1, 5);
     let before = [];
     let steps = [
         (store(8, 2), 0),
@@ -280,7 +279,7 @@ fn another_key_of_the_same_table_comes_to_have_the_value_block(
 #[test]
 fn a_key_copied_to_itself_keeps_its_value_block(rt: HostRuntime) -> Result<(), Fail> {
     let me = Me::new(Geometry::new(3, 1)?, 1);
-    let machine = Calls::new(Copying::new(me, 5, 1, 5));
+    let machine = CopyKey::new(me, 5, 1, 5);
     let before = [];
     let steps = [
         (store(8, 2), 0),
@@ -334,7 +333,7 @@ fn a_key_copied_to_itself_keeps_its_value_block(rt: HostRuntime) -> Result<(), F
 #[test]
 fn a_missing_key_is_not_copied(rt: HostRuntime) -> Result<(), Fail> {
     let me = Me::new(Geometry::new(3, 1)?, 2);
-    let machine = Calls::new(Copying::new(me, 6, 1, 53));
+    let machine = CopyKey::new(me, 6, 1, 53);
     let before = [];
     let steps = [
         (store(9, 2), 0),

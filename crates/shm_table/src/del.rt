@@ -2,21 +2,25 @@
 
 ghost use Rattle.std.specs.Prelude.{◌≡◌, ◌%◌, ◌<◌};
 ghost use Rattle.shm_words.specs.Layout.{GeometryFits};
+ghost use Rattle.shm_calls.specs.CallsControl.{calls_control, calls_of};
+ghost use Rattle.shm_calls.specs.CallsFit.{CallsFits, CallsGives};
+ghost use Rattle.shm_calls.specs.CallsKeep.{calls_laws};
 ghost use Rattle.shm_table.specs.Effects.{del_effect, is_removed};
 ghost use Rattle.shm_table.specs.DelControl as control;
+ghost use Rattle.shm_table.specs.DelControl.{del_parts};
 ghost use Rattle.shm_table.specs.DelControl.{deleting};
 ghost use Rattle.shm_table.specs.DelFits.{del_plan};
 ghost use Rattle.shm_table.specs.DelLaws.{del_laws};
 
 use crate::answer::PutFault;
-use crate::effect::{Deciding, Effect};
+use crate::effect::Deciding;
 use crate::find::Found;
 use crate::locate::{Locate, Locating};
 use crate::unlatch::{Unlatch, Unlatching};
 use crate::unlink::{Unlink, Unlinking};
 use shm_calls::{Calls, Or, Plan};
 use shm_count::UpFault;
-use shm_graph::{Machine, Me};
+use shm_graph::{Ask, Machine, Me, Turn};
 use shm_script::Answer;
 use std::marker::Model;
 
@@ -65,7 +69,78 @@ impl Model for Deleting {
 }
 
 /// It answers that the key is gone, that it was missing, or why the count step was refused, and then it is there still.
-pub type Del = Calls<Deleting>;
+#[derive(Drop)]
+pub struct Del {
+    calls: Calls<Deleting>,
+}
+
+impl Model for Del {
+    ghost use Rattle.shm_table.specs.DelControl.{DelCalls};
+
+    ghost Value = { DelCalls };
+
+    ghost view = { λ a. a.calls };
+}
+
+impl Del {
+    /// The key `key` of the own table is to be removed.
+    #[inline(always)]
+    pub fn new(me: Me, key: u32) -> Del
+        requires geometry { GeometryFits me.geometry }
+        requires who { me.who < me.geometry.clients }
+        ensures { result ≡ calls_of del_plan (deleting me key) }
+    {
+        Del {
+            calls: Calls::new(Deleting::new(me, key)),
+        }
+    }
+
+    /// What it will answer, where its deciding step was made; otherwise none.
+    #[inline(always)]
+    pub fn effect(&self) -> Option<Answer>
+        ensures { result ≡ del_effect self.now }
+    {
+        let DelState { answer, .. } = self.calls.plan().state;
+        let decided = match self.calls.call() {
+            Or::First(_) => false,
+            Or::Second(Or::First(cut)) => cut.decided(),
+            Or::Second(Or::Second(_)) => is_removed(answer),
+        };
+        if decided { Some(Answer::Ok) } else { None }
+    }
+}
+
+impl Machine for Del {
+    type Answer = Answer;
+
+    ghost control = { calls_control del_parts del_plan };
+
+    ghost fits = { CallsFits del_parts del_plan };
+
+    ghost gives = { CallsGives del_parts del_plan };
+
+    #[inline(always)]
+    fn me(&self) -> Me {
+        self.calls.me()
+    }
+
+    #[inline(always)]
+    fn finished(&self) -> bool {
+        self.calls.finished()
+    }
+
+    #[inline(always)]
+    fn ask(&self) -> Ask {
+        self.calls.ask()
+    }
+
+    #[inline(always)]
+    fn take(&mut self, seen: u64) -> Turn<Answer> {
+        self.calls.take(seen)
+    }
+
+    ghost laws = { calls_laws del_parts del_plan del_laws };
+}
 
 impl Deleting {
     /// The key `key` of the own table is to be removed.
@@ -185,20 +260,5 @@ fn is_removed(answer: Answer) -> bool
     match answer {
         Answer::Ok => true,
         _ => false,
-    }
-}
-
-impl Effect for Del {
-    ghost effect = { del_effect };
-
-    #[inline(always)]
-    fn effect(&self) -> Option<Answer> {
-        let DelState { answer, .. } = self.plan().state;
-        let decided = match self.call() {
-            Or::First(_) => false,
-            Or::Second(Or::First(cut)) => cut.decided(),
-            Or::Second(Or::Second(_)) => is_removed(answer),
-        };
-        if decided { Some(Answer::Ok) } else { None }
     }
 }

@@ -1,8 +1,7 @@
 //! Keys removed at the end of a bucket and with the last eras, and keys that are missing or stay, against an independent implementation.
 
+use crate::Del;
 use crate::entry_tests::{exchange, follow, load, put_words, store, words_of};
-use crate::{Del, Deleting};
-use shm_calls::Calls;
 use shm_graph::Me;
 use shm_script::Answer;
 use shm_words::Geometry;
@@ -100,7 +99,7 @@ fn the_last_key_of_a_bucket_is_removed(rt: HostRuntime) -> Result<(), Fail> {
         (316, 0),
     ];
     let mut words = words_of(rt.alloc(), 2098, &before)?;
-    let mut machine: Del = Calls::new(Deleting::new(me, 5));
+    let mut machine = Del::new(me, 5);
     assert_eq!(rt; follow(&mut machine, &mut words, &steps), Some(Answer::Ok));
     let mut after = words_of(rt.alloc(), 2098, &before)?;
     put_words(&mut after, &changes);
@@ -153,7 +152,7 @@ fn another_key_of_the_bucket_is_missing(rt: HostRuntime) -> Result<(), Fail> {
         (store(3, 0), 0),
     ];
     let mut words = words_of(rt.alloc(), 2098, &before)?;
-    let mut machine: Del = Calls::new(Deleting::new(me, 53));
+    let mut machine = Del::new(me, 53);
     assert_eq!(rt;
         follow(&mut machine, &mut words, &steps),
         Some(Answer::Missing)
@@ -178,7 +177,7 @@ fn a_key_of_no_table_is_missing(rt: HostRuntime) -> Result<(), Fail> {
         (store(3, 0), 0),
     ];
     let mut words = words_of(rt.alloc(), 2098, &before)?;
-    let mut machine: Del = Calls::new(Deleting::new(me, 5));
+    let mut machine = Del::new(me, 5);
     assert_eq!(rt;
         follow(&mut machine, &mut words, &steps),
         Some(Answer::Missing)
@@ -226,7 +225,7 @@ fn a_key_stays_where_no_era_is_left(rt: HostRuntime) -> Result<(), Fail> {
         (store(3, 0), 0),
     ];
     let mut words = words_of(rt.alloc(), 2098, &before)?;
-    let mut machine: Del = Calls::new(Deleting::new(me, 5));
+    let mut machine = Del::new(me, 5);
     assert_eq!(rt;
         follow(&mut machine, &mut words, &steps),
         Some(Answer::EraSpent {
@@ -287,7 +286,7 @@ fn a_key_stays_before_a_full_entry(rt: HostRuntime) -> Result<(), Fail> {
     ];
     let changes = [(2, 6_917_732_437_621_473_586)];
     let mut words = words_of(rt.alloc(), 2098, &before)?;
-    let mut machine: Del = Calls::new(Deleting::new(me, 21));
+    let mut machine = Del::new(me, 21);
     assert_eq!(rt;
         follow(&mut machine, &mut words, &steps),
         Some(Answer::CountFull {
@@ -355,7 +354,7 @@ fn a_key_is_removed_with_the_last_era(rt: HostRuntime) -> Result<(), Fail> {
         (306, 9_223_512_774_343_131_133),
     ];
     let mut words = words_of(rt.alloc(), 2098, &before)?;
-    let mut machine: Del = Calls::new(Deleting::new(me, 5));
+    let mut machine = Del::new(me, 5);
     assert_eq!(rt; follow(&mut machine, &mut words, &steps), Some(Answer::Ok));
     let mut after = words_of(rt.alloc(), 2098, &before)?;
     put_words(&mut after, &changes);

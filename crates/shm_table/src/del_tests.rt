@@ -1,8 +1,7 @@
 //! Keys removed, step by step and on the words of a pool, against an independent implementation.
 
+use crate::Del;
 use crate::entry_tests::{exchange, follow, load, put_words, store, words_of};
-use crate::{Del, Deleting};
-use shm_calls::Calls;
 use shm_graph::Me;
 use shm_script::Answer;
 use shm_words::Geometry;
@@ -82,7 +81,7 @@ fn the_only_key_is_removed(rt: HostRuntime) -> Result<(), Fail> {
         (309, 0),
     ];
     let mut words = words_of(rt.alloc(), 2098, &before)?;
-    let mut machine: Del = Calls::new(Deleting::new(me, 5));
+    let mut machine = Del::new(me, 5);
     assert_eq!(rt; follow(&mut machine, &mut words, &steps), Some(Answer::Ok));
     let mut after = words_of(rt.alloc(), 2098, &before)?;
     put_words(&mut after, &changes);
@@ -121,7 +120,7 @@ fn a_removed_key_is_missing(rt: HostRuntime) -> Result<(), Fail> {
         (store(3, 0), 0),
     ];
     let mut words = words_of(rt.alloc(), 2098, &before)?;
-    let mut machine: Del = Calls::new(Deleting::new(me, 5));
+    let mut machine = Del::new(me, 5);
     assert_eq!(rt;
         follow(&mut machine, &mut words, &steps),
         Some(Answer::Missing)
@@ -216,7 +215,7 @@ fn a_value_that_another_names_stays(rt: HostRuntime) -> Result<(), Fail> {
         (380, 0),
     ];
     let mut words = words_of(rt.alloc(), 4217, &before)?;
-    let mut machine: Del = Calls::new(Deleting::new(me, 5));
+    let mut machine = Del::new(me, 5);
     assert_eq!(rt; follow(&mut machine, &mut words, &steps), Some(Answer::Ok));
     let mut after = words_of(rt.alloc(), 4217, &before)?;
     put_words(&mut after, &changes);
@@ -329,7 +328,7 @@ fn the_first_key_of_a_bucket_is_removed(rt: HostRuntime) -> Result<(), Fail> {
         (325, 0),
     ];
     let mut words = words_of(rt.alloc(), 2098, &before)?;
-    let mut machine: Del = Calls::new(Deleting::new(me, 37));
+    let mut machine = Del::new(me, 37);
     assert_eq!(rt; follow(&mut machine, &mut words, &steps), Some(Answer::Ok));
     let mut after = words_of(rt.alloc(), 2098, &before)?;
     put_words(&mut after, &changes);
@@ -444,7 +443,7 @@ fn a_key_between_others_is_removed(rt: HostRuntime) -> Result<(), Fail> {
         (324, 306),
     ];
     let mut words = words_of(rt.alloc(), 2098, &before)?;
-    let mut machine: Del = Calls::new(Deleting::new(me, 21));
+    let mut machine = Del::new(me, 21);
     assert_eq!(rt; follow(&mut machine, &mut words, &steps), Some(Answer::Ok));
     let mut after = words_of(rt.alloc(), 2098, &before)?;
     put_words(&mut after, &changes);

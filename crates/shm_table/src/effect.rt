@@ -1,9 +1,6 @@
-//! Whether the deciding step of a machine was made, and what a command will answer from then on.
+//! Whether the deciding step of a machine was made.
 
-ghost use Rattle.std.specs.Prelude.{◌≡◌, Bool, Option};
-ghost use Rattle.shm_script.specs.declared.log.Answer.{Answer as AnAnswer};
-
-use shm_script::Answer;
+ghost use Rattle.std.specs.Prelude.{◌≡◌, Bool};
 
 /// A machine of which one step decides: from it on no refusal is answered.
 pub trait Deciding {
@@ -12,13 +9,4 @@ pub trait Deciding {
     /// Whether the deciding step was made.
     fn decided(&self) -> bool
         ensures { result ≡ decided self.now };
-}
-
-/// A command on a table.
-pub trait Effect {
-    ghost effect: { Self → Option AnAnswer };
-
-    /// What it will answer, where its deciding step was made.
-    fn effect(&self) -> Option<Answer>
-        ensures { result ≡ effect self.now };
 }

@@ -2,17 +2,20 @@
 
 ghost use Rattle.std.specs.Prelude.{◌≡◌, ◌<◌, ◌+◌, ◌^◌};
 ghost use Rattle.shm_words.specs.Layout.{GeometryFits};
+ghost use Rattle.shm_calls.specs.CallsControl.{calls_control, calls_of};
+ghost use Rattle.shm_calls.specs.CallsFit.{CallsFits, CallsGives};
+ghost use Rattle.shm_calls.specs.CallsKeep.{calls_laws};
 ghost use Rattle.shm_table.specs.Effects.{get_effect};
 ghost use Rattle.shm_table.specs.GetControl as control;
+ghost use Rattle.shm_table.specs.GetControl.{get_parts};
 ghost use Rattle.shm_table.specs.GetFits.{get_plan};
 ghost use Rattle.shm_table.specs.GetLaws.{get_laws};
 
-use crate::effect::Effect;
 use crate::find::Found;
 use crate::locate::{Locate, Locating};
 use crate::unlatch::{Unlatch, Unlatching};
 use shm_calls::{Calls, Or, Plan, Word};
-use shm_graph::{Machine, Me};
+use shm_graph::{Ask, Machine, Me, Turn};
 use shm_script::Answer;
 use std::marker::Model;
 
@@ -62,7 +65,73 @@ impl Model for Getting {
 }
 
 /// It answers what the key has, a number and the value block that holds it, or that no entry has the key. The latch is given back then.
-pub type Get = Calls<Getting>;
+#[derive(Drop)]
+pub struct Get {
+    calls: Calls<Getting>,
+}
+
+impl Model for Get {
+    ghost use Rattle.shm_table.specs.GetControl.{GetCalls};
+
+    ghost Value = { GetCalls };
+
+    ghost view = { λ a. a.calls };
+}
+
+impl Get {
+    /// What the key `key` has in the table of `author` is to be read.
+    #[inline(always)]
+    pub fn new(me: Me, author: u8, key: u32) -> Get
+        requires geometry { GeometryFits me.geometry }
+        requires who { me.who < me.geometry.clients }
+        requires author { author < me.geometry.clients }
+        ensures { result ≡ calls_of get_plan (getting me author key) }
+    {
+        Get {
+            calls: Calls::new(Getting::new(me, author, key)),
+        }
+    }
+
+    /// What it will answer, where its deciding step was made; otherwise none.
+    #[inline(always)]
+    pub fn effect(&self) -> Option<Answer>
+        ensures { result ≡ get_effect self.now }
+    {
+        None
+    }
+}
+
+impl Machine for Get {
+    type Answer = Answer;
+
+    ghost control = { calls_control get_parts get_plan };
+
+    ghost fits = { CallsFits get_parts get_plan };
+
+    ghost gives = { CallsGives get_parts get_plan };
+
+    #[inline(always)]
+    fn me(&self) -> Me {
+        self.calls.me()
+    }
+
+    #[inline(always)]
+    fn finished(&self) -> bool {
+        self.calls.finished()
+    }
+
+    #[inline(always)]
+    fn ask(&self) -> Ask {
+        self.calls.ask()
+    }
+
+    #[inline(always)]
+    fn take(&mut self, seen: u64) -> Turn<Answer> {
+        self.calls.take(seen)
+    }
+
+    ghost laws = { calls_laws get_parts get_plan get_laws };
+}
 
 /// The address of the first word of a block after its header and its tag, or of one more.
 #[inline(always)]
@@ -181,13 +250,4 @@ impl Plan for Getting {
     }
 
     ghost laws = { get_laws };
-}
-
-impl Effect for Get {
-    ghost effect = { get_effect };
-
-    #[inline(always)]
-    fn effect(&self) -> Option<Answer> {
-        None
-    }
 }

@@ -1,10 +1,10 @@
 //! Latches given back, latches taken for a search, and reads of what a key has, step by step on the words of a pool, against an independent
 //! implementation.
 
+use crate::Get;
 use crate::entry_tests::{exchange, follow, load, put_words, store};
 use crate::parts::{Found, Locate, Locating, Unlatch, Unlatching};
 use crate::tests::table;
-use crate::{Get, Getting};
 use shm_calls::Calls;
 use shm_graph::Me;
 use shm_script::Answer;
@@ -72,7 +72,7 @@ fn a_latch_that_is_held_is_tried_again(rt: HostRuntime) -> Result<(), Fail> {
 fn a_key_of_another_table_is_read(rt: HostRuntime) -> Result<(), Fail> {
     let me = Me::new(Geometry::new(3, 1)?, 2);
     let mut words = free_table(rt.alloc())?;
-    let mut machine: Get = Calls::new(Getting::new(me, 1, 5));
+    let mut machine = Get::new(me, 1, 5);
     let steps = [
         (store(9, 2), 0),
         (exchange(11, 0, 3), 0),
@@ -99,7 +99,7 @@ fn a_key_of_another_table_is_read(rt: HostRuntime) -> Result<(), Fail> {
 fn a_key_of_the_own_table_is_read(rt: HostRuntime) -> Result<(), Fail> {
     let me = Me::new(Geometry::new(3, 1)?, 1);
     let mut words = free_table(rt.alloc())?;
-    let mut machine: Get = Calls::new(Getting::new(me, 1, 21));
+    let mut machine = Get::new(me, 1, 21);
     let steps = [
         (store(8, 2), 0),
         (exchange(11, 0, 2), 0),
@@ -127,7 +127,7 @@ fn a_key_of_the_own_table_is_read(rt: HostRuntime) -> Result<(), Fail> {
 fn a_key_that_no_entry_has_is_missing(rt: HostRuntime) -> Result<(), Fail> {
     let me = Me::new(Geometry::new(3, 1)?, 2);
     let mut words = free_table(rt.alloc())?;
-    let mut machine: Get = Calls::new(Getting::new(me, 1, 53));
+    let mut machine = Get::new(me, 1, 53);
     let steps = [
         (store(9, 2), 0),
         (exchange(11, 0, 3), 0),
@@ -154,7 +154,7 @@ fn a_key_that_no_entry_has_is_missing(rt: HostRuntime) -> Result<(), Fail> {
 fn a_key_of_an_empty_bucket_is_missing(rt: HostRuntime) -> Result<(), Fail> {
     let me = Me::new(Geometry::new(3, 1)?, 2);
     let mut words = free_table(rt.alloc())?;
-    let mut machine: Get = Calls::new(Getting::new(me, 1, 6));
+    let mut machine = Get::new(me, 1, 6);
     let steps = [
         (store(9, 2), 0),
         (exchange(11, 0, 3), 0),
@@ -174,7 +174,7 @@ fn a_key_of_an_empty_bucket_is_missing(rt: HostRuntime) -> Result<(), Fail> {
 fn a_key_is_missing_without_a_directory(rt: HostRuntime) -> Result<(), Fail> {
     let me = Me::new(Geometry::new(3, 1)?, 2);
     let mut words = free_table(rt.alloc())?;
-    let mut machine: Get = Calls::new(Getting::new(me, 0, 5));
+    let mut machine = Get::new(me, 0, 5);
     let steps = [
         (store(9, 1), 0),
         (exchange(10, 0, 3), 0),

@@ -7,6 +7,7 @@
 pub mod answer;
 pub mod bound;
 pub mod changes;
+pub mod command;
 pub mod copy;
 #[cfg(test)]
 mod copy_refusal_tests;
@@ -19,6 +20,8 @@ mod del_edge_tests;
 #[cfg(test)]
 mod del_tests;
 pub mod effect;
+#[cfg(test)]
+mod effect_tests;
 pub mod effects;
 pub mod enter;
 #[cfg(test)]
@@ -69,11 +72,14 @@ mod unlink_refusal_tests;
 mod unlink_tests;
 
 pub use changes::{del_begins, del_bound, del_events, del_leaves};
+pub use command::Command;
 pub use copy::{CopyKey, Copying};
 pub use copying::{copy_begins, copy_bound, copy_events, copy_leaves};
 pub use del::{Del, Deleting};
-pub use effect::Effect;
-pub use effects::{commands_foretell, parts_decide};
+pub use effects::{
+    command_begins, command_events, command_foretells, command_leaves, commands_foretell,
+    parts_decide,
+};
 pub use get::{Get, Getting};
 pub use put::{Put, Putting};
 pub use putting::{put_begins, put_bound, put_events, put_leaves};

@@ -2,8 +2,12 @@
 
 ghost use Rattle.std.specs.Prelude.{◌≡◌, ◌<◌, ◌≤◌};
 ghost use Rattle.shm_words.specs.Layout.{GeometryFits};
+ghost use Rattle.shm_calls.specs.CallsControl.{calls_control, calls_of};
+ghost use Rattle.shm_calls.specs.CallsFit.{CallsFits, CallsGives};
+ghost use Rattle.shm_calls.specs.CallsKeep.{calls_laws};
 ghost use Rattle.shm_table.specs.Effects.{put_effect};
 ghost use Rattle.shm_table.specs.PutControl as control;
+ghost use Rattle.shm_table.specs.PutControl.{put_parts};
 ghost use Rattle.shm_table.specs.PutControl.{putting};
 ghost use Rattle.shm_table.specs.PutFits.{put_plan};
 ghost use Rattle.shm_table.specs.EnterLaws.{enter_laws};
@@ -14,12 +18,12 @@ ghost use Rattle.shm_table.specs.PutRootLaws.{put_root_laws};
 ghost use Rattle.shm_table.specs.ReplaceLaws.{replace_laws};
 
 use crate::answer::PutFault;
-use crate::effect::{Deciding, Effect};
+use crate::effect::Deciding;
 use crate::put_root::{PutRoot, settled};
 use shm_alloc::{Alloc, AllocFault, Request};
 use shm_calls::{Calls, Or, Plan};
 use shm_count::{EraSpent, Made};
-use shm_graph::{Machine, Me};
+use shm_graph::{Ask, Machine, Me, Turn};
 use shm_ref::{DropRoot, Dropping};
 use shm_script::Answer;
 use std::marker::Model;
@@ -77,7 +81,87 @@ impl Model for Putting {
 }
 
 /// It answers the value block that the key has, or why it hasn't got one: from the step on by which it has it, no refusal changes the answer.
-pub type Put = Calls<Putting>;
+#[derive(Drop)]
+pub struct Put {
+    calls: Calls<Putting>,
+}
+
+impl Model for Put {
+    ghost use Rattle.shm_table.specs.PutControl.{PutCalls};
+
+    ghost Value = { PutCalls };
+
+    ghost view = { λ a. a.calls };
+}
+
+impl Put {
+    /// `key` is to have `number` in the table of `me`.
+    #[inline(always)]
+    pub fn new(me: Me, key: u32, number: u64) -> Put
+        requires geometry { GeometryFits me.geometry }
+        requires who { me.who < me.geometry.clients }
+        ensures { result ≡ calls_of put_plan (putting me key number) }
+    {
+        Put {
+            calls: Calls::new(Putting::new(me, key, number)),
+        }
+    }
+
+    /// What it will answer, where its deciding step was made; otherwise none.
+    #[inline(always)]
+    pub fn effect(&self) -> Option<Answer>
+        ensures { result ≡ put_effect self.now }
+    {
+        let PutState {
+            block,
+            decided,
+            refused,
+            ..
+        } = self.calls.plan().state;
+        let decided = match self.calls.call() {
+            Or::First(_) => false,
+            Or::Second(Or::First(put)) => put.decided(),
+            Or::Second(Or::Second(_)) => settled(decided, refused),
+        };
+        if decided {
+            Some(Answer::Stored { block })
+        } else {
+            None
+        }
+    }
+}
+
+impl Machine for Put {
+    type Answer = Answer;
+
+    ghost control = { calls_control put_parts put_plan };
+
+    ghost fits = { CallsFits put_parts put_plan };
+
+    ghost gives = { CallsGives put_parts put_plan };
+
+    #[inline(always)]
+    fn me(&self) -> Me {
+        self.calls.me()
+    }
+
+    #[inline(always)]
+    fn finished(&self) -> bool {
+        self.calls.finished()
+    }
+
+    #[inline(always)]
+    fn ask(&self) -> Ask {
+        self.calls.ask()
+    }
+
+    #[inline(always)]
+    fn take(&mut self, seen: u64) -> Turn<Answer> {
+        self.calls.take(seen)
+    }
+
+    ghost laws = { calls_laws put_parts put_plan (put_laws (put_root_laws open_laws locate_laws replace_laws enter_laws)) };
+}
 
 /// A block with the words of a value block, of which the number is the plain one.
 #[inline(always)]
@@ -189,28 +273,4 @@ impl Plan for Putting {
     }
 
     ghost laws = { put_laws (put_root_laws open_laws locate_laws replace_laws enter_laws) };
-}
-
-impl Effect for Put {
-    ghost effect = { put_effect };
-
-    #[inline(always)]
-    fn effect(&self) -> Option<Answer> {
-        let PutState {
-            block,
-            decided,
-            refused,
-            ..
-        } = self.plan().state;
-        let decided = match self.call() {
-            Or::First(_) => false,
-            Or::Second(Or::First(put)) => put.decided(),
-            Or::Second(Or::Second(_)) => settled(decided, refused),
-        };
-        if decided {
-            Some(Answer::Stored { block })
-        } else {
-            None
-        }
-    }
 }

@@ -1,9 +1,8 @@
 //! Keys that come to have numbers, and two puts that are refused, step by step and on the words of a pool, against an independent
 //! implementation.
 
+use crate::Put;
 use crate::entry_tests::{EXCHANGE, LOAD, STORE, follow_listed, put_words, words_of};
-use crate::put::{Put, Putting};
-use shm_calls::Calls;
 use shm_graph::Me;
 use shm_script::Answer;
 use shm_words::Geometry;
@@ -180,7 +179,7 @@ fn a_first_key_comes_to_have_a_number(rt: HostRuntime) -> Result<(), Fail> {
     let mut words = words_of(rt.alloc(), 2098, &FIRST_BEFORE)?;
     let mut after = words_of(rt.alloc(), 2098, &FIRST_BEFORE)?;
     put_words(&mut after, &FIRST_CHANGES);
-    let mut machine: Put = Calls::new(Putting::new(me, 5, 77));
+    let mut machine = Put::new(me, 5, 77);
     assert_eq!(rt;
         follow_listed(&mut machine, &mut words, &FIRST_STEPS),
         Some(Answer::Stored { block: 50 })
@@ -285,7 +284,7 @@ fn a_key_that_is_there_has_another_number(rt: HostRuntime) -> Result<(), Fail> {
     let mut words = words_of(rt.alloc(), 2098, &THERE_BEFORE)?;
     let mut after = words_of(rt.alloc(), 2098, &THERE_BEFORE)?;
     put_words(&mut after, &THERE_CHANGES);
-    let mut machine: Put = Calls::new(Putting::new(me, 5, 78));
+    let mut machine = Put::new(me, 5, 78);
     assert_eq!(rt;
         follow_listed(&mut machine, &mut words, &THERE_STEPS),
         Some(Answer::Stored { block: 54 })
@@ -361,7 +360,7 @@ fn no_root_is_empty_for_the_value_block(rt: HostRuntime) -> Result<(), Fail> {
     let mut words = words_of(rt.alloc(), 2098, &ROOTS_BEFORE)?;
     let mut after = words_of(rt.alloc(), 2098, &ROOTS_BEFORE)?;
     put_words(&mut after, &ROOTS_CHANGES);
-    let mut machine: Put = Calls::new(Putting::new(me, 6, 78));
+    let mut machine = Put::new(me, 6, 78);
     assert_eq!(rt;
         follow_listed(&mut machine, &mut words, &ROOTS_STEPS),
         Some(Answer::RootsFull)
@@ -489,7 +488,7 @@ fn a_value_block_without_an_entry_is_freed(rt: HostRuntime) -> Result<(), Fail> 
     let mut words = words_of(rt.alloc(), 2098, &FREED_BEFORE)?;
     let mut after = words_of(rt.alloc(), 2098, &FREED_BEFORE)?;
     put_words(&mut after, &FREED_CHANGES);
-    let mut machine: Put = Calls::new(Putting::new(me, 6, 78));
+    let mut machine = Put::new(me, 6, 78);
     assert_eq!(rt;
         follow_listed(&mut machine, &mut words, &FREED_STEPS),
         Some(Answer::RootsFull)
