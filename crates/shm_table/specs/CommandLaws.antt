@@ -1,5 +1,5 @@
 -- the laws of a command of a line, by those of the commands
-use Rattle.std.proofs.Common.{◌≡◌, ℕ, false, subst, []}
+use Rattle.std.proofs.Common.{◌≡◌, ℕ, subst, []}
 use Rattle.std.specs.Prelude.{Some}
 use Rattle.shm_graph.specs.declared.ask.Me.{Me}
 use Rattle.shm_graph.specs.declared.memo.Memo.{Memo}
@@ -12,20 +12,17 @@ use Rattle.shm_calls.specs.declared.or.Or.TheVariants.{First, Second}
 use Rattle.shm_calls.specs.CallsControl.{calls_does, calls_of}
 use Rattle.shm_calls.specs.CallsFit.{CallsFits, CallsGives}
 use Rattle.shm_calls.specs.CallsKeep.{calls_laws, calls_tells}
-use Rattle.shm_calls.specs.Deciding.{Foretells, either, mapped_foretells, or_foretells}
 use Rattle.shm_calls.specs.Either.{OrFits, OrGives, or_control, or_does, or_laws, or_tells}
 use Rattle.shm_calls.specs.Plans.{PlanLaws}
 use Rattle.shm_script.specs.declared.line.Line.TheVariants as line
 use Rattle.shm_script.specs.declared.log.Answer.{Answer}
 use Rattle.shm_table.specs.ChangeMachines.{DelGives, del}
-use Rattle.shm_table.specs.CommandControl.{CommandCall, CommandFits, CommandGives, OneGives, command_by, command_control, command_does, command_effect, command_of, command_parts, given}
+use Rattle.shm_table.specs.CommandControl.{CommandCall, CommandFits, CommandGives, OneGives, command_control, command_does, command_of, command_parts, given}
 use Rattle.shm_table.specs.CopyControl.{copy_parts, copying}
 use Rattle.shm_table.specs.CopyFits.{copy_plan}
 use Rattle.shm_table.specs.CopyMachines.{CopyGives, copy_control}
 use Rattle.shm_table.specs.DelControl.{del_parts, deleting}
 use Rattle.shm_table.specs.DelFits.{del_plan}
-use Rattle.shm_table.specs.EffectLaws.{copy_foretells, del_foretells, get_foretells, put_foretells}
-use Rattle.shm_table.specs.Effects.{copy_by, copy_effect, del_by, del_effect, get_effect, put_by, put_effect}
 use Rattle.shm_table.specs.GetControl.{get_parts, getting}
 use Rattle.shm_table.specs.GetFits.{get_plan}
 use Rattle.shm_table.specs.PutControl.{put_parts, putting}
@@ -94,13 +91,3 @@ gets_give me a key m r0 r tr b e g = go (this (λ c. CommandGives c r0 r tr b) (
     go (Second (Second c), i, h) = subst (GetGives me a key r0 r tr) i h
     go (Second (First c), i, h) = absurd h
     go (First c, i, h) = absurd h
-
--- ---- what it will answer
-
-pub command_foretells : Foretells command_control (λ a. a) command_effect command_by
-command_foretells =
-    mapped_foretells given command_parts (λ a. a) command_effect command_by
-    (or_foretells (or_control put copy_control) (or_control del get) (either (λ a. a) (λ a. a)) (either (λ a. a) (λ a. a)) (either put_effect copy_effect) (either del_effect get_effect)
-    (either (λ c n. put_by c.plan c.call n) (λ c n. copy_by c.plan c.call n)) (either (λ c n. del_by c.plan c.call n) (λ c n. false))
-    (or_foretells put copy_control (λ a. a) (λ a. a) put_effect copy_effect (λ c n. put_by c.plan c.call n) (λ c n. copy_by c.plan c.call n) put_foretells copy_foretells)
-    (or_foretells del get (λ a. a) (λ a. a) del_effect get_effect (λ c n. del_by c.plan c.call n) (λ c n. false) del_foretells get_foretells))

@@ -65,6 +65,5 @@ pub mod Machines
 pub mod OpenMachine
 pub mod PutMachines
 pub mod Effects
-pub mod EffectLaws
 pub mod CommandControl
 pub mod CommandLaws

@@ -85,7 +85,7 @@ impl Get {
         requires geometry { GeometryFits me.geometry }
         requires who { me.who < me.geometry.clients }
         requires author { author < me.geometry.clients }
-        ensures { result ≡ calls_of get_plan (getting me author key) }
+        ensures { result ≡ calls_of get_plan (control.getting me author key) }
     {
         Get {
             calls: Calls::new(Getting::new(me, author, key)),

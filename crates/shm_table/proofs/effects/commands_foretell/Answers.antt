@@ -1,4 +1,4 @@
-use Rattle.shm_table.specs.EffectLaws.{copy_foretells, del_foretells, get_foretells, put_foretells}
+use Rattle.shm_table.proofs.EffectLaws.{copy_foretells, del_foretells, get_foretells, put_foretells}
 use Rattle.shm_table.proofs.effects.commands_foretell.Goals as goal
 
 pub returns-clause-put : goal.returns-clause-put

@@ -1,4 +1,4 @@
-use Rattle.shm_table.specs.EffectLaws.{enter_decides, put_root_decides, replace_decides, unlink_decides}
+use Rattle.shm_table.proofs.EffectLaws.{enter_decides, put_root_decides, replace_decides, unlink_decides}
 use Rattle.shm_table.proofs.effects.parts_decide.Goals as goal
 
 pub returns-clause-replace : goal.returns-clause-replace

@@ -3,7 +3,7 @@ use Rattle.std.proofs.Common.{◌≡◌, ℕ, ◌%◌, ◌^◌, Bool, true, fals
 use Rattle.std.specs.Prelude.{◌&&◌, ◌==◌, if◌then◌else◌, is_ok, Option, Some, None, Result, Ok, Err}
 use Rattle.shm_calls.specs.declared.or.Or.TheVariants.{First, Second}
 use Rattle.shm_calls.specs.CallsControl.{calls_control}
-use Rattle.shm_calls.specs.Deciding.{Decides, Foretells, PlanDecides, calls_decides, calls_foretell, decides_where, either, keeps_decided, or_decides}
+use Rattle.shm_calls.specs.Deciding.{Decides, Foretells, PlanDecides, calls_decides, calls_foretell, decides_where, either, keeps_decided, mapped_foretells, or_decides, or_foretells}
 use Rattle.shm_calls.specs.Either.{or_control}
 use Rattle.shm_calls.specs.Words.{word_control}
 use Rattle.shm_count.specs.declared.answer.EraSpent.{EraSpent as AnEraSpent}
@@ -35,9 +35,12 @@ use Rattle.shm_table.specs.declared.unlink.UnlinkPoint.{UnlinkPoint}
 use Rattle.shm_table.specs.declared.unlink.UnlinkPoint.TheVariants as unlink
 use Rattle.shm_table.specs.declared.unlink.UnlinkState.{UnlinkState}
 use Rattle.shm_table.specs.Answers.{fault_answer, made_fault, raised_fault}
+use Rattle.shm_table.specs.ChangeMachines.{del}
+use Rattle.shm_table.specs.CommandControl.{command_by, command_control, command_effect, command_parts, given}
 use Rattle.shm_table.specs.CopyControl.{CopyAnswer, copy_parts, fetch_control}
 use Rattle.shm_table.specs.CopyControl as copying
 use Rattle.shm_table.specs.CopyFits.{copy_plan}
+use Rattle.shm_table.specs.CopyMachines.{copy_control}
 use Rattle.shm_table.specs.DelControl.{DelCallAnswer, del_parts}
 use Rattle.shm_table.specs.DelFits.{del_plan}
 use Rattle.shm_table.specs.Effects.{copy_at, copy_by, copy_effect, copy_says, del_at, del_by, del_effect, del_says, enter_at, enter_by, enter_decided, enter_says, get_effect, is_linked, is_removed, links, put_at, put_by, put_effect, put_root_at, put_root_by, put_root_decided, put_root_says, put_says, replace_at, replace_by, replace_decided, replace_says, settled, unlink_at, unlink_by, unlink_decided, unlink_says}
@@ -49,8 +52,10 @@ use Rattle.shm_table.specs.LocateFits.{locate_control}
 use Rattle.shm_table.specs.PutControl.{PutAnswer, put_parts}
 use Rattle.shm_table.specs.PutControl as putting
 use Rattle.shm_table.specs.PutFits.{put_plan}
+use Rattle.shm_table.specs.PutMachines.{put}
 use Rattle.shm_table.specs.PutRootControl.{PutRootAnswer, decided_of, enter_control, fault_of, freed_turns, open_control, put_answer, put_root_parts, replace_control, stuck_answer}
 use Rattle.shm_table.specs.PutRootFits.{put_root_control, put_root_plan}
+use Rattle.shm_table.specs.ReadMachines.{get}
 use Rattle.shm_table.specs.ReplaceControl.{ReplaceAnswer, replace_parts}
 use Rattle.shm_table.specs.ReplaceFits.{replace_plan}
 use Rattle.shm_table.specs.UnlatchFits.{unlatch_control}
@@ -339,3 +344,13 @@ del_foretells = calls_foretell del_parts del_plan del_at del_by del_says (λ a. 
 
 pub get_foretells : Foretells (calls_control get_parts get_plan) (λ a. a) get_effect (λ m n. false)
 get_foretells = record { goes = λ m n e. refl; stays = λ m n x i e. cc; answers = λ m n x a i e. cc }
+
+-- ---- a command of a line
+
+pub command_foretells : Foretells command_control (λ a. a) command_effect command_by
+command_foretells =
+    mapped_foretells given command_parts (λ a. a) command_effect command_by
+    (or_foretells (or_control put copy_control) (or_control del get) (either (λ a. a) (λ a. a)) (either (λ a. a) (λ a. a)) (either put_effect copy_effect) (either del_effect get_effect)
+    (either (λ c n. put_by c.plan c.call n) (λ c n. copy_by c.plan c.call n)) (either (λ c n. del_by c.plan c.call n) (λ c n. false))
+    (or_foretells put copy_control (λ a. a) (λ a. a) put_effect copy_effect (λ c n. put_by c.plan c.call n) (λ c n. copy_by c.plan c.call n) put_foretells copy_foretells)
+    (or_foretells del get (λ a. a) (λ a. a) del_effect get_effect (λ c n. del_by c.plan c.call n) (λ c n. false) del_foretells get_foretells))
