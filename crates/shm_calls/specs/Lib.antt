@@ -13,3 +13,4 @@ pub mod CallTells
 pub mod MappedParts
 pub mod Grown
 pub mod MadeStays
+pub mod Deciding

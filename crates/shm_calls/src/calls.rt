@@ -25,6 +25,22 @@ impl<P: Plan> Calls<P> {
         Calls { plan, call }
     }
 
+    /// The plan, which knows what the calls before the one in progress answered.
+    #[inline(always)]
+    pub fn plan(&self) -> &P
+        ensures { result.now ≡ self.now.plan }
+    {
+        &self.plan
+    }
+
+    /// The call in progress.
+    #[inline(always)]
+    pub fn call(&self) -> &P::Call
+        ensures { result.now ≡ self.now.call }
+    {
+        &self.call
+    }
+
     #[inline(always)]
     fn begin(&mut self)
         ensures plan { self.new.plan ≡ self.old.plan }

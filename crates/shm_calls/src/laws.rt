@@ -1,6 +1,6 @@
 //! What holds of the machine of any plan, and of any word step.
 
-ghost use Rattle.std.specs.Prelude.{◌≡◌, ℕ, Bool, true, false, [], List};
+ghost use Rattle.std.specs.Prelude.{◌≡◌, ◌||◌, ℕ, Bool, true, false, Option, Some, [], List};
 ghost use Rattle.std.specs.List.{Contains};
 ghost use Rattle.shm_graph.specs.declared.memo.Memo.{Memo as AMemo};
 ghost use Rattle.shm_graph.specs.declared.ask.Ask.{Ask as AnAsk};
@@ -8,16 +8,18 @@ ghost use Rattle.shm_graph.specs.declared.ask.Me.{Me as AMe};
 ghost use Rattle.shm_graph.specs.declared.spot.Spot.{Spot as ASpot};
 ghost use Rattle.shm_graph.specs.Asks.{Trail};
 ghost use Rattle.shm_graph.specs.Changes.{memo_on};
-ghost use Rattle.shm_graph.specs.Laws.{Frame, event_on, framed};
-ghost use Rattle.shm_graph.specs.Tells.{Tells, happens_along};
+ghost use Rattle.shm_graph.specs.Laws.{Frame, event_on, framed, is_some};
+ghost use Rattle.shm_graph.specs.Tells.{Tells, after_all, happens_along};
 ghost use Rattle.shm_calls.specs.Plans.{plan_trail};
 ghost use Rattle.shm_calls.specs.CallsControl.{calls_control, calls_of, calls_does};
 ghost use Rattle.shm_calls.specs.CallsFit.{CallsFits, CallsGives};
+ghost use Rattle.shm_calls.specs.Deciding.{Foretells, PlanForetells, StillRuns, calls_deciding, calls_effect, is_decided_along};
 ghost use Rattle.shm_calls.specs.Grown.{Grows};
 ghost use Rattle.shm_calls.specs.MadeStays.{touches};
 ghost use Rattle.shm_calls.specs.Placed.{MayStand};
 
 use crate::plan::Plan;
+use shm_graph::Machine;
 
 /// Before its first word step it fits each memo of which what the plan knows before its first call is so.
 pub fn calls_begin<P: Plan>()
@@ -43,4 +45,17 @@ pub fn step_grows()
 /// Where it isn't a machine's first, a block that the call made is so still, unless its event changes the number of references to the block.
 pub fn step_spares()
     ensures { (m : AMemo) (me : AMe) (a : AnAsk) (f : Frame) (n : ℕ) (p : ASpot) (d : ℕ) → f.fresh ≡ false → touches d (event_on m (framed me a f n) p) ≡ false → Contains m.made d → Contains (memo_on m (framed me a f n) p).made d }
+{}
+
+/// Where the calls of a plan tell of its deciding step, and what it will answer stays from that step on, the machine foretells its answer.
+pub fn calls_foretell<P: Plan>()
+    ensures { (decided : P → P.Call → Bool) (deciding : P → P.Call → ℕ → Bool) (says : P → P.Call.Answer → Bool) (will : P → P.Answer) → PlanForetells P.Call.control P.plan decided deciding says P.Answer (λ a. a) will → Foretells (calls_control P.Call.control P.plan) (λ a. a) (calls_effect P.Call.control P.plan decided deciding says will) (calls_deciding P.Call.control P.plan decided deciding says) }
+{}
+
+/// A machine that foretells its answer shows it exactly from the deciding step on, and the answer is what any state before it showed, whatever
+/// words are found.
+pub fn foretold_answers<M: Machine>()
+    ensures shown { (effect : M → Option M.Answer) (deciding : M → ℕ → Bool) → Foretells M.control (λ a. a) effect deciding → (m : M) (tr : Trail) → StillRuns M.control m tr → is_some (effect (after_all M.control m tr)) ≡ (is_some (effect m) || is_decided_along M.control deciding m tr) }
+    ensures stays { (effect : M → Option M.Answer) (deciding : M → ℕ → Bool) → Foretells M.control (λ a. a) effect deciding → (m : M) (tr : Trail) (x : M.Answer) → StillRuns M.control m tr → effect m ≡ Some x → effect (after_all M.control m tr) ≡ Some x }
+    ensures answers { (effect : M → Option M.Answer) (deciding : M → ℕ → Bool) → Foretells M.control (λ a. a) effect deciding → (m : M) (tr : Trail) (n : ℕ) (x a : M.Answer) → StillRuns M.control m tr → effect m ≡ Some x → M.control.turns (after_all M.control m tr) n ≡ Some a → a ≡ x }
 {}

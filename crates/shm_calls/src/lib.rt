@@ -11,7 +11,10 @@ pub mod plan;
 pub mod word;
 
 pub use calls::Calls;
-pub use laws::{calls_begin, calls_events, calls_leave, step_grows, step_spares};
+pub use laws::{
+    calls_begin, calls_events, calls_foretell, calls_leave, foretold_answers, step_grows,
+    step_spares,
+};
 pub use or::Or;
 pub use plan::Plan;
 pub use word::Word;

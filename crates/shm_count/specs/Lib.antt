@@ -7,6 +7,8 @@ pub mod StepGoing
 pub mod StepKnowing
 pub mod StepLaws
 pub mod StepMachines
+pub mod StepExchanged
+pub mod StepDecides
 pub mod StepMemos
 pub mod StepHeaders
 pub mod StepBeginning

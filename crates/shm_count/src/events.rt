@@ -1,6 +1,6 @@
 //! How a count step and a tear-down begin, and what they do to the graph of references.
 
-ghost use Rattle.std.specs.Prelude.{◌≡◌, ◌≢◌, ℕ, ◌-◌, ◌^◌, ◌<◌, [], ◌∷◌, ◌++◌, Bool, List, Result, Ok, Err};
+ghost use Rattle.std.specs.Prelude.{◌≡◌, ◌≢◌, ℕ, ◌-◌, ◌^◌, ◌<◌, [], ◌∷◌, ◌++◌, Bool, List, Result, Ok, Err, is_ok};
 ghost use Rattle.std.specs.List.{All, Contains};
 ghost use Rattle.shm_graph.specs.declared.ask.Me.{Me as AMe};
 ghost use Rattle.shm_graph.specs.declared.memo.Memo.{Memo as AMemo};
@@ -22,7 +22,9 @@ ghost use Rattle.shm_count.specs.declared.point.StepPoint.TheVariants.{Era};
 ghost use Rattle.shm_count.specs.declared.point.StepState.{StepState as AState};
 ghost use Rattle.shm_count.specs.declared.tear_point.TearPoint.TheVariants.{Begin};
 ghost use Rattle.shm_count.specs.declared.tear_point.TearState.{TearState as ATear};
+ghost use Rattle.shm_calls.specs.Deciding.{Decides};
 ghost use Rattle.shm_count.specs.StepControl.{step_control, StepKnows};
+ghost use Rattle.shm_count.specs.StepExchanged.{step_exchanged, step_exchanging};
 ghost use Rattle.shm_count.specs.StepEvents.{step_event, own_events};
 ghost use Rattle.shm_count.specs.StepFits.{StepFits, CanStep};
 ghost use Rattle.shm_count.specs.TearControl.{tear_control, TearKnows};
@@ -76,4 +78,12 @@ pub fn tear_done()
 pub fn tear_stopped()
     ensures walk { (me : AMe) (first : ℕ) (r0 r : AMemo) (es : List Event) (tr : Trail) (e : ASpent) → TearLeaves me first r0 r es tr (Err e) → (vs : List Visit) × (vs ≢ []) × All (λ v. Contains r.dying v.block) vs × ((x : Walk) × InOrder 0 x × (es ++ frees_of me.who vs ≡ events_of me.who first x)) }
     ensures spent { (me : AMe) (first : ℕ) (r0 r : AMemo) (es : List Event) (tr : Trail) (e : ASpent) → TearLeaves me first r0 r es tr (Err e) → (e.era ≡ own_word r.own (spots.Era me.who me.who)) × (2 ^ 47 - 3 < e.era) }
+{}
+
+/// What a count step answers is decided by its exchange, of a change by that of its first half: from then on it is done, whatever words are found,
+/// and before it a step that ends is refused.
+pub fn steps_decide()
+    ensures up { Decides up_control step_exchanged step_exchanging is_ok }
+    ensures down { Decides down_control step_exchanged step_exchanging is_ok }
+    ensures change { Decides step_control step_exchanged step_exchanging is_ok }
 {}

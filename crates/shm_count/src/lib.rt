@@ -17,7 +17,7 @@ pub mod up_root;
 pub use answer::{EraSpent, Made, UpFault};
 pub use bound::{step_bound, tear_bound};
 pub use events::{
-    step_begins, step_events, step_own_events, tear_begins, tear_done, tear_events,
+    step_begins, step_events, step_own_events, steps_decide, tear_begins, tear_done, tear_events,
     tear_own_events, tear_stopped,
 };
 pub use lasting::{

@@ -7,6 +7,7 @@ ghost use Rattle.shm_words.specs.Redos.{redo_word};
 ghost use Rattle.shm_graph.specs.declared.ask.Ask.TheVariants as asks;
 ghost use Rattle.shm_count.specs.StepControl.{AimSmall, EraFits, PartFits, CountFits, StepKnows};
 ghost use Rattle.shm_count.specs.StepControl as control;
+ghost use Rattle.shm_count.specs.StepExchanged as exchanging;
 ghost use Rattle.shm_count.specs.declared.point.StepPoint.TheVariants as point;
 
 use crate::answer::UpFault;
@@ -101,6 +102,17 @@ impl Aim {
     {
         match (self, part) {
             (Aim::Up { .. }, _) | (Aim::Change { .. }, Part::First) => true,
+            _ => false,
+        }
+    }
+
+    /// Whether a half is the second one of a change.
+    #[inline(always)]
+    fn is_second(self, part: Part) -> bool
+        ensures { result ≡ exchanging.is_second self part }
+    {
+        match (self, part) {
+            (Aim::Change { .. }, Part::Second) => true,
             _ => false,
         }
     }
@@ -265,6 +277,21 @@ impl StepState {
             }),
             StepPoint::Close { era, part, zero } => self.closed(era, part, zero),
             StepPoint::Over => Next::Point(StepPoint::Over),
+        }
+    }
+
+    /// Whether its exchange was made, of a change that of the first half: from then on no refusal is answered.
+    #[inline(always)]
+    pub fn exchanged(self) -> bool
+        ensures { result ≡ exchanging.step_exchanged self }
+    {
+        match self.point {
+            StepPoint::Era | StepPoint::Redo { .. } | StepPoint::Over => false,
+            StepPoint::Load { part, .. }
+            | StepPoint::Row { part, .. }
+            | StepPoint::Show { part, .. }
+            | StepPoint::Exchange { part, .. } => self.aim.is_second(part),
+            StepPoint::Slot { .. } | StepPoint::Close { .. } => true,
         }
     }
 

@@ -5,6 +5,7 @@ ghost use Rattle.shm_words.specs.Layout.{GeometryFits};
 ghost use Rattle.shm_count.specs.declared.point.Aim.TheVariants as aims;
 ghost use Rattle.shm_count.specs.declared.point.StepPoint.TheVariants.{Era, Redo};
 ghost use Rattle.shm_count.specs.StepControl.{StepKnows, step_next, answer_of, step_control, is_over};
+ghost use Rattle.shm_count.specs.StepExchanged.{step_exchanged};
 ghost use Rattle.shm_count.specs.StepMachines as machines;
 ghost use Rattle.shm_count.specs.StepKeeps.{step_keeps};
 
@@ -113,6 +114,14 @@ impl StepUp {
             },
         }
     }
+
+    /// Whether its exchange was made.
+    #[inline(always)]
+    pub fn exchanged(&self) -> bool
+        ensures { result ≡ step_exchanged self.now }
+    {
+        self.state.exchanged()
+    }
 }
 
 impl Machine for StepUp {
@@ -183,6 +192,14 @@ impl StepDown {
         StepDown {
             state: StepState::begins(me, slot, Aim::Down { block }),
         }
+    }
+
+    /// Whether its exchange was made.
+    #[inline(always)]
+    pub fn exchanged(&self) -> bool
+        ensures { result ≡ step_exchanged self.now }
+    {
+        self.state.exchanged()
     }
 }
 
@@ -256,6 +273,14 @@ impl StepChange {
         StepChange {
             state: StepState::begins(me, slot, Aim::Change { before, after }),
         }
+    }
+
+    /// Whether its exchange was made, that of its first half.
+    #[inline(always)]
+    pub fn exchanged(&self) -> bool
+        ensures { result ≡ step_exchanged self.now }
+    {
+        self.state.exchanged()
     }
 }
 

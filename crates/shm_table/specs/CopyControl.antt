@@ -24,7 +24,7 @@ use Rattle.shm_table.specs.declared.fetch.Fetched.TheVariants.{Missing, Refused,
 use Rattle.shm_table.specs.Answers.{fault_answer, spent_fault}
 use Rattle.shm_table.specs.FetchControl.{FetchAnswer, FetchCall, fetch_parts, fetching}
 use Rattle.shm_table.specs.FetchFits.{fetch_plan}
-use Rattle.shm_table.specs.PutRootControl.{PutRootCalls, fault_of, putting_root}
+use Rattle.shm_table.specs.PutRootControl.{PutRootCalls, decided_of, fault_of, putting_root}
 use Rattle.shm_table.specs.PutRootFits.{put_root_control, put_root_plan}
 
 -- ---- its calls
@@ -40,11 +40,15 @@ abbrev pub CopyCall : Type 0
 CopyCall = Or FetchCalls (Or PutRootCalls RootsCall)
 
 abbrev pub CopyAnswer : Type 0
-CopyAnswer = Or Fetched (Or (Result (Unit {0}) PutFault) (Result Bool EraSpent))
+CopyAnswer = Or Fetched (Or (Result Bool PutFault) (Result Bool EraSpent))
+
+-- its states
+abbrev pub CopyCalls : Type 0
+CopyCalls = Calls CopyState CopyCall Answer CopyAnswer
 
 -- before its first call
 abbrev pub copying : Me → ℕ → ℕ → ℕ → CopyState
-copying me key a other = record { me = me; key = key; author = a; other = other; root = 0; block = 0; number = 0; refused = None; point = point.Fetch }
+copying me key a other = record { me = me; key = key; author = a; other = other; root = 0; block = 0; number = 0; decided = false; refused = None; point = point.Fetch }
 
 abbrev pub copy_call_at : CopyState → CopyPoint → CopyCall
 copy_call_at m point.Fetch = First (calls_of fetch_plan (fetching m.me m.author m.other))
@@ -75,7 +79,7 @@ fetched_turns (Rooted k b n) = None
 
 abbrev pub copy_after : CopyState → CopyAnswer → CopyState
 copy_after m (First a) = fetched_after m a
-copy_after m (Second (First done)) = record m { refused = fault_of done; point = point.Drop }
+copy_after m (Second (First done)) = record m { decided = decided_of done; refused = fault_of done; point = point.Drop }
 copy_after m (Second (Second a)) = m
 
 abbrev pub copy_turns : CopyState → CopyAnswer → Option Answer

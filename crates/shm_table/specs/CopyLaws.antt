@@ -179,7 +179,7 @@ module _ (m : CopyState) (r0 rs r : Memo) (tr t : Trail) (es ds : List Event) (h
   source h = record { entry = h.entry; q = h.q; reading = h.reading; told = h.told; has = h.has; read = h.keys; searched = h.search }
 
   -- the key has it, or not
-  put : (a : Result (Unit {0}) PutFault) → CopyKnows (record m { point = Put }) Put r0 rs tr es → PutRootLeaves (putting_root m.me m.key m.block) rs r t ds a → Goes Put (Second (First a))
+  put : (a : Result Bool PutFault) → CopyKnows (record m { point = Put }) Put r0 rs tr es → PutRootLeaves (putting_root m.me m.key m.block) rs r t ds a → Goes Put (Second (First a))
   put (Ok done) (may, h) w =
       let quiet = frees_append es ds in
       let none : frees es ≡ 0 = ap frees h.events in

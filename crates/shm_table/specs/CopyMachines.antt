@@ -12,7 +12,7 @@ use Rattle.shm_calls.specs.CallsFit.{CallsFits, CallsGives}
 use Rattle.shm_script.specs.declared.log.Answer.{Answer}
 use Rattle.shm_table.specs.declared.copy.CopyState.{CopyState}
 use Rattle.shm_table.specs.declared.fetch.Fetched.{Fetched}
-use Rattle.shm_table.specs.CopyControl.{CopyAnswer, CopyCall, copy_parts, copying, fetch_control}
+use Rattle.shm_table.specs.CopyControl.{CopyCalls, CopyAnswer, CopyCall, copy_parts, copying, fetch_control}
 use Rattle.shm_table.specs.CopyFits.{copy_plan}
 use Rattle.shm_table.specs.FetchControl.{fetch_parts, fetching}
 use Rattle.shm_table.specs.FetchFits.{fetch_plan}
@@ -30,7 +30,7 @@ fetch_told me a key = happens_along fetch_control (calls_does fetch_parts fetch_
 
 -- ---- a key is to have what another one has in the table of a
 
-abbrev pub copy_control : Control (Calls CopyState CopyCall Answer CopyAnswer) Answer
+abbrev pub copy_control : Control CopyCalls Answer
 copy_control = calls_control copy_parts copy_plan
 
 abbrev pub CopyFits : Me → ℕ → ℕ → ℕ → Memo → Memo → Trail → Type 0

@@ -19,10 +19,11 @@ use Rattle.shm_calls.specs.Plans.{Planned}
 use Rattle.shm_calls.specs.Words.{word_control}
 use Rattle.shm_steps.specs.Reparting.{map_in}
 use Rattle.shm_count.specs.declared.answer.UpFault.{UpFault}
+use Rattle.shm_count.specs.declared.answer.UpFault.TheVariants.{CountFull, EraSpent}
 use Rattle.shm_count.specs.Roots.{root_word}
 use Rattle.shm_count.specs.TearEvents.{Visit, frees}
-use Rattle.shm_table.specs.declared.del.DelAnswer.{DelAnswer}
-use Rattle.shm_table.specs.declared.del.DelAnswer.TheVariants.{Removed, Missing, Refused}
+use Rattle.shm_script.specs.declared.log.Answer.{Answer}
+use Rattle.shm_script.specs.declared.log.Answer.TheVariants as answer
 use Rattle.shm_table.specs.declared.del.DelPoint.{DelPoint}
 use Rattle.shm_table.specs.declared.del.DelPoint.TheVariants.{Search, Cut, Back}
 use Rattle.shm_table.specs.declared.del.DelState.{DelState}
@@ -109,10 +110,12 @@ pub record NotDeleted (me : Me) (key steps : ℕ) (m r : Memo) (tr : Trail) (es 
   pub bound : IsWithin (steps + 2 * keys_read searched.read (At entry before word)) tr
 
 -- the number says how many word steps there were at most, besides those for keys that were read and blocks that were torn down
-abbrev pub DelSays : Me → ℕ → ℕ → Memo → Memo → Trail → List Event → DelAnswer → Type 0
-DelSays me key steps m r tr es Removed = Deleted me key steps m r tr es
-DelSays me key steps m r tr es Missing = WasMissing me key steps m r tr es
-DelSays me key steps m r tr es (Refused f) = NotDeleted me key steps m r tr es f
+abbrev pub DelSays : Me → ℕ → ℕ → Memo → Memo → Trail → List Event → Answer → Type 0
+DelSays me key steps m r tr es answer.Ok = Deleted me key steps m r tr es
+DelSays me key steps m r tr es answer.Missing = WasMissing me key steps m r tr es
+DelSays me key steps m r tr es (answer.EraSpent e) = NotDeleted me key steps m r tr es (EraSpent e)
+DelSays me key steps m r tr es (answer.CountFull b n) = NotDeleted me key steps m r tr es (CountFull b n)
+DelSays me key steps m r tr es a = ⊥
 
 -- ---- on the way
 
@@ -123,7 +126,7 @@ pub record IsLocated (me : Me) (key entry before word : ℕ) (r0 r : Memo) (tr :
   pub client : recovers r ≡ false
 
 -- the latch is held, and the rest is done
-pub record IsSettled (me : Me) (key : ℕ) (r0 r : Memo) (tr : Trail) (es : List Event) (a : DelAnswer) : Type 0 where
+pub record IsSettled (me : Me) (key : ℕ) (r0 r : Memo) (tr : Trail) (es : List Event) (a : Answer) : Type 0 where
   pub may : MayDel me r0
   pub idle : IsIdle me.who r
   pub latch : r.latch ≡ Some me.who
@@ -131,14 +134,14 @@ pub record IsSettled (me : Me) (key : ℕ) (r0 r : Memo) (tr : Trail) (es : List
   pub says : DelSays me key 18 r0 r tr es a
 
 abbrev pub DelKnows : DelState → DelPoint → Memo → Memo → Trail → List Event → Type 0
-DelKnows m Search r0 r tr es = MayDel m.me r0 × (m.answer ≡ Missing) × (r ≡ r0) × (tr ≡ []) × (es ≡ [])
+DelKnows m Search r0 r tr es = MayDel m.me r0 × (m.answer ≡ answer.Missing) × (r ≡ r0) × (tr ≡ []) × (es ≡ [])
 DelKnows m Cut r0 r tr es = IsLocated m.me m.key m.entry m.before m.word r0 r tr es
 DelKnows m Back r0 r tr es = IsSettled m.me m.key r0 r tr es m.answer
 
 -- ---- what it leaves
 
 -- no latch is held
-abbrev pub DelLeaves : DelState → Memo → Memo → Trail → List Event → DelAnswer → Type 0
+abbrev pub DelLeaves : DelState → Memo → Memo → Trail → List Event → Answer → Type 0
 DelLeaves m r0 r tr es a = (r.latch ≡ None) × DelSays m.me m.key 20 r0 r tr es a
 
 -- ---- the plan
@@ -146,7 +149,7 @@ DelLeaves m r0 r tr es a = (r.latch ≡ None) × DelSays m.me m.key 20 r0 r tr e
 abbrev pub del_part : Part DelCall DelCallAnswer
 del_part = or_part (calls_part locate_parts locate_plan) (or_part (calls_part unlink_parts unlink_plan) (calls_part word_control unlatch_plan))
 
-abbrev pub del_plan : Planned DelState DelCall DelCallAnswer DelAnswer
+abbrev pub del_plan : Planned DelState DelCall DelCallAnswer Answer
 del_plan =
     record {
       me = λ m. m.me;

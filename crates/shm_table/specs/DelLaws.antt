@@ -30,15 +30,16 @@ use Rattle.shm_count.specs.declared.answer.UpFault.TheVariants.{CountFull, EraSp
 use Rattle.shm_count.specs.declared.point.Aim.{Aim}
 use Rattle.shm_count.specs.SlotLeaves.{StepCause}
 use Rattle.shm_count.specs.TearEvents.{Visit, frees}
-use Rattle.shm_table.specs.declared.del.DelAnswer.{DelAnswer}
-use Rattle.shm_table.specs.declared.del.DelAnswer.TheVariants.{Removed, Missing, Refused}
+use Rattle.shm_script.specs.declared.log.Answer.{Answer}
+use Rattle.shm_script.specs.declared.log.Answer.TheVariants as answer
 use Rattle.shm_table.specs.declared.del.DelPoint.{DelPoint}
 use Rattle.shm_table.specs.declared.del.DelPoint.TheVariants.{Search, Cut, Back}
 use Rattle.shm_table.specs.declared.del.DelState.{DelState}
 use Rattle.shm_table.specs.declared.find.Found.{Found}
 use Rattle.shm_table.specs.declared.find.Found.TheVariants.{Absent, At}
 use Rattle.shm_table.specs.DelControl.{DelCallAnswer, del_call_at, del_parts, deleting, is_search}
-use Rattle.shm_table.specs.DelFits.{DelKnows, DelSays, IsLocated, IsSearched, IsSettled, MayDel, del_part, del_plan}
+use Rattle.shm_table.specs.DelFits.{DelKnows, DelSays, IsLocated, IsSearched, IsSettled, MayDel, NotDeleted, del_part, del_plan}
+use Rattle.shm_table.specs.Answers.{fault_answer, raised_fault}
 use Rattle.shm_table.specs.FindBound.{IsWhole, find_within, keys_read}
 use Rattle.shm_table.specs.FindControl.{Passed}
 use Rattle.shm_table.specs.FindFits.{OnlyReads}
@@ -98,7 +99,7 @@ cause_before me key x r0 r tr es b (EraSpent e) may h (is, late) =
 cause_before me key x r0 r tr es b (CountFull d n) may h cause = cause
 
 -- no entry has the key
-missing : (me : Me) (key home first : ℕ) (r0 r : Memo) (tr : Trail) (es : List Event) → MayDel me r0 → Located me me.who key r0 r tr es (Absent home first) → IsHeld me r → IsSettled me key r0 r tr es Missing
+missing : (me : Me) (key home first : ℕ) (r0 r : Memo) (tr : Trail) (es : List Event) → MayDel me r0 → Located me me.who key r0 r tr es (Absent home first) → IsHeld me r → IsSettled me key r0 r tr es answer.Missing
 missing me key home first r0 r tr es may h held =
     let part = found_part me key r0 r tr es (Absent home first) may h in
     record {
@@ -142,6 +143,11 @@ found_unlinks me key entry before word r0 r tr es h =
     let f = h.located.found in
     record { geometry = h.may.geometry; who = h.may.who; idle = h.located.idle; client = h.client; found = f.own refl; some = f.some; room = f.room; here = f.here }
 
+-- so the answer says that the count step was refused
+says_refused : (me : Me) (key steps : ℕ) (m r : Memo) (tr : Trail) (es : List Event) (f : UpFault) → NotDeleted me key steps m r tr es f → DelSays me key steps m r tr es (fault_answer (raised_fault f))
+says_refused me key steps m r tr es (EraSpent e) h = h
+says_refused me key steps m r tr es (CountFull b n) h = h
+
 module _ (me : Me) (key entry before word : ℕ) (r0 rs r : Memo) (tr t : Trail) (es ds : List Event) (h : IsLocated me key entry before word r0 rs tr es) (held : IsHeld me r) where
   abbrev b : Found
   b = At entry before word
@@ -161,7 +167,7 @@ module _ (me : Me) (key entry before word : ℕ) (r0 rs r : Memo) (tr t : Trail)
   quiet : es ++ ds ≡ ds
   quiet = ap (λ (x : List Event). x ++ ds) h.located.none
 
-  cut_done : Unlinked me entry before word rs r t ds → IsSettled me key r0 r (tr ++ t) (es ++ ds) Removed
+  cut_done : Unlinked me entry before word rs r t ds → IsSettled me key r0 r (tr ++ t) (es ++ ds) answer.Ok
   cut_done u =
       let part = found_part me key r0 rs tr es b h.may h.located in
       let cleared = found_cleared me key r0 rs tr es b h.may h.located in
@@ -188,7 +194,7 @@ module _ (me : Me) (key entry before word : ℕ) (r0 rs r : Memo) (tr t : Trail)
         };
       }
 
-  cut_refused : (f : UpFault) → NotUnlinked me entry rs r t ds f → IsSettled me key r0 r (tr ++ t) (es ++ ds) (Refused f)
+  cut_refused : (f : UpFault) → NotUnlinked me entry rs r t ds f → IsSettled me key r0 r (tr ++ t) (es ++ ds) (fault_answer (raised_fault f))
   cut_refused f u =
       let part = found_part me key r0 rs tr es b h.may h.located in
       record {
@@ -196,7 +202,7 @@ module _ (me : Me) (key entry before word : ℕ) (r0 rs r : Memo) (tr t : Trail)
         idle = u.keeps.idle;
         latch = u.latch ∙ found_latch me key r0 rs tr es b h.may h.located;
         holds = held;
-        says = record {
+        says = says_refused me key 18 r0 r (tr ++ t) (es ++ ds) f (record {
           entry = entry;
           before = before;
           word = word;
@@ -210,7 +216,7 @@ module _ (me : Me) (key entry before word : ℕ) (r0 rs r : Memo) (tr t : Trail)
           refusal = (u.refusal.0, cause_before me key (link_aim entry u.refusal.0) r0 rs tr es b f h.may h.located u.refusal.1);
           none = quiet ∙ u.none;
           bound = let w = within_more (4 + 2 * keys_read looked.read b) (1 + change_steps) tr t (within me key r0 rs tr es b h.may h.located) u.bound in omega arith;
-        };
+        });
       }
 
 -- ---- the latch is given back
@@ -236,45 +242,14 @@ module _ (me : Me) (key : ℕ) (r0 rs r : Memo) (tr t : Trail) (es ds : List Eve
   ended_still : own_word rs.own (Era me.who me.who) ≤ own_word r.own (Era me.who me.who) → Ended me.who r0 rs → Ended me.who r0 r
   ended_still grew h = elim h [ inl y ↦ inl (cleared_more me.who r0 rs r y As.3) | inr y ↦ inr (y.0, spent_later me.who y.0 rs r grew y.1) ]
 
-  given : (a : DelAnswer) → IsSettled me key r0 rs tr es a → (r.latch ≡ None) × DelSays me key 20 r0 r (tr ++ t) (es ++ ds) a
+  given : (a : Answer) → IsSettled me key r0 rs tr es a → (r.latch ≡ None) × DelSays me key 20 r0 r (tr ++ t) (es ++ ds) a
   given a h = (g.latch, go a h.says)
     where
       later : Keeps me.who rs r
       later = keeps_unlatched me rs r h.idle h.holds h.may.who g.memo
 
-      go : (a : DelAnswer) → DelSays me key 18 r0 rs tr es a → DelSays me key 20 r0 r (tr ++ t) (es ++ ds) a
-      go Removed d =
-          record {
-            entry = d.entry;
-            before = d.before;
-            word = d.word;
-            searched = still (At d.entry d.before d.word) d.searched;
-            keeps = keeps_more me.who r0 rs r d.keeps later;
-            home = As.1 ∙ d.home;
-            roots = λ j. As.3.roots j ∙ d.roots j;
-            was = d.was;
-            map = λ k. ap (λ (x : TablePart). map_in x k) As.2 ∙ d.map k;
-            left = d.left;
-            dying = subst (λ (xs : List ℕ). All (λ (x : Visit). Contains xs x.block) d.left) (sym As.3.dying) d.dying;
-            ended = ended_still later.era d.ended;
-            events = subst (λ (x : List Event). UnlinkEvents me d.entry d.before d.word x d.left) (sym silent) d.events;
-            bound = let f = ap frees silent in let w = within_more (18 + 2 * keys_read d.searched.read (At d.entry d.before d.word) + tear_steps (frees es + length d.left)) 2 tr t d.bound two in omega arith;
-          }
-      go Missing d =
-          record {
-            directory = d.directory;
-            first = d.first;
-            searched = still (Absent d.directory d.first) d.searched;
-            ends = d.ends;
-            absent = d.absent;
-            keeps = keeps_more me.who r0 rs r d.keeps later;
-            home = As.1 ∙ d.home;
-            cleared = cleared_more me.who r0 rs r d.cleared As.3;
-            map = λ k. ap (λ (x : TablePart). map_in x k) As.2 ∙ d.map k;
-            none = silent ∙ d.none;
-            bound = let w = within_more (18 + 2 * keys_read d.searched.read (Absent d.directory d.first)) 2 tr t d.bound two in omega arith;
-          }
-      go (Refused f) d =
+      refused : (f : UpFault) → NotDeleted me key 18 r0 rs tr es f → NotDeleted me key 20 r0 r (tr ++ t) (es ++ ds) f
+      refused f d =
           record {
             entry = d.entry;
             before = d.before;
@@ -291,16 +266,52 @@ module _ (me : Me) (key : ℕ) (r0 rs r : Memo) (tr t : Trail) (es ds : List Eve
             bound = let w = within_more (18 + 2 * keys_read d.searched.read (At d.entry d.before d.word)) 2 tr t d.bound two in omega arith;
           }
 
--- the search answered: what is so then
-searched_absent : (me : Me) (key home first : ℕ) (r0 rs r : Memo) (tr t : Trail) (es ds : List Event) (a : DelAnswer) → MayDel me r0 × (a ≡ Missing) × (rs ≡ r0) × (tr ≡ []) × (es ≡ []) → Located me me.who key rs r t ds (Absent home first) → IsHeld me r → IsSettled me key r0 r (tr ++ t) (es ++ ds) a
-searched_absent me key home first r0 rs r tr t es ds a (may, answer, same, none, quiet) g held =
-    subst (λ (u : Trail). IsSettled me key r0 r (u ++ t) (es ++ ds) a) (sym none)
-    (subst (λ (u : List Event). IsSettled me key r0 r t (u ++ ds) a) (sym quiet)
-    (subst (IsSettled me key r0 r t ds) (sym answer) (missing me key home first r0 r t ds may (subst (λ (x : Memo). Located me me.who key x r t ds (Absent home first)) same g) held)))
+      go : (a : Answer) → DelSays me key 18 r0 rs tr es a → DelSays me key 20 r0 r (tr ++ t) (es ++ ds) a
+      go answer.Ok d =
+          record {
+            entry = d.entry;
+            before = d.before;
+            word = d.word;
+            searched = still (At d.entry d.before d.word) d.searched;
+            keeps = keeps_more me.who r0 rs r d.keeps later;
+            home = As.1 ∙ d.home;
+            roots = λ j. As.3.roots j ∙ d.roots j;
+            was = d.was;
+            map = λ k. ap (λ (x : TablePart). map_in x k) As.2 ∙ d.map k;
+            left = d.left;
+            dying = subst (λ (xs : List ℕ). All (λ (x : Visit). Contains xs x.block) d.left) (sym As.3.dying) d.dying;
+            ended = ended_still later.era d.ended;
+            events = subst (λ (x : List Event). UnlinkEvents me d.entry d.before d.word x d.left) (sym silent) d.events;
+            bound = let f = ap frees silent in let w = within_more (18 + 2 * keys_read d.searched.read (At d.entry d.before d.word) + tear_steps (frees es + length d.left)) 2 tr t d.bound two in omega arith;
+          }
+      go answer.Missing d =
+          record {
+            directory = d.directory;
+            first = d.first;
+            searched = still (Absent d.directory d.first) d.searched;
+            ends = d.ends;
+            absent = d.absent;
+            keeps = keeps_more me.who r0 rs r d.keeps later;
+            home = As.1 ∙ d.home;
+            cleared = cleared_more me.who r0 rs r d.cleared As.3;
+            map = λ k. ap (λ (x : TablePart). map_in x k) As.2 ∙ d.map k;
+            none = silent ∙ d.none;
+            bound = let w = within_more (18 + 2 * keys_read d.searched.read (Absent d.directory d.first)) 2 tr t d.bound two in omega arith;
+          }
+      go (answer.EraSpent e) d = refused (EraSpent e) d
+      go (answer.CountFull b n) d = refused (CountFull b n) d
+      go a d = absurd d
 
-searched_at : (me : Me) (key entry before word : ℕ) (r0 rs r : Memo) (tr t : Trail) (es ds : List Event) (a : DelAnswer) → MayDel me r0 × (a ≡ Missing) × (rs ≡ r0) × (tr ≡ []) × (es ≡ []) → Located me me.who key rs r t ds (At entry before word) → IsHeld me r → recovers r ≡ recovers rs
+-- the search answered: what is so then
+searched_absent : (me : Me) (key home first : ℕ) (r0 rs r : Memo) (tr t : Trail) (es ds : List Event) (a : Answer) → MayDel me r0 × (a ≡ answer.Missing) × (rs ≡ r0) × (tr ≡ []) × (es ≡ []) → Located me me.who key rs r t ds (Absent home first) → IsHeld me r → IsSettled me key r0 r (tr ++ t) (es ++ ds) answer.Missing
+searched_absent me key home first r0 rs r tr t es ds a (may, said, same, none, quiet) g held =
+    subst (λ (u : Trail). IsSettled me key r0 r (u ++ t) (es ++ ds) answer.Missing) (sym none)
+    (subst (λ (u : List Event). IsSettled me key r0 r t (u ++ ds) answer.Missing) (sym quiet)
+    (missing me key home first r0 r t ds may (subst (λ (x : Memo). Located me me.who key x r t ds (Absent home first)) same g) held))
+
+searched_at : (me : Me) (key entry before word : ℕ) (r0 rs r : Memo) (tr t : Trail) (es ds : List Event) (a : Answer) → MayDel me r0 × (a ≡ answer.Missing) × (rs ≡ r0) × (tr ≡ []) × (es ≡ []) → Located me me.who key rs r t ds (At entry before word) → IsHeld me r → recovers r ≡ recovers rs
     → IsLocated me key (entry % 2 ^ 20) (before % 2 ^ 20) word r0 r (tr ++ t) (es ++ ds)
-searched_at me key entry before word r0 rs r tr t es ds a (may, answer, same, none, quiet) g held agent =
+searched_at me key entry before word r0 rs r tr t es ds a (may, said, same, none, quiet) g held agent =
     let h : Located me me.who key r0 r t ds (At entry before word) = subst (λ (x : Memo). Located me me.who key x r t ds (At entry before word)) same g in
     let small = found_small me key entry before word r0 r t ds may h held in
     let low : entry % 2 ^ 20 ≡ entry = (let s = small.0 in omega arith) in
@@ -341,7 +352,7 @@ del_laws =
     calls m Back = record { me = refl; asks = refl }
 
     opens : (m : DelState) (y : DelPoint) (r0 r : Memo) (tr : Trail) (es : List Event) → DelKnows (record m { point = y }) y r0 r tr es → del_part.needs (del_call_at m y) r
-    opens m Search r0 r tr es (may, answer, same, none, quiet) =
+    opens m Search r0 r tr es (may, said, same, none, quiet) =
         let now : MayDel m.me r = subst (MayDel m.me) (sym same) may in
         record { made = refl; first = refl; start = refl; knows = locate_begin m.me m.me.who m.key r (record { geometry = now.geometry; who = now.who; author = now.who; idle = now.idle; none = now.none; table = now.table }) }
     opens m Cut r0 r tr es h = record { made = refl; first = refl; start = refl; knows = ((m.key, found_unlinks m.me m.key m.entry m.before m.word r0 r tr es h), refl, refl, refl) }

@@ -1,14 +1,14 @@
 -- how many word steps taking a latch and looking for a key take, and reading what a key has: by the number of the entries whose key was read
 use Rattle.std.proofs.Common.{◌≡◌, ℕ, ◌+◌, ◌*◌, refl, sym, ap, subst, arith, List, [], ◌∷◌, ◌++◌, length, length-append, inl, inr}
-use Rattle.std.specs.Prelude.{Option, Some, None}
 use Rattle.shm_graph.specs.declared.ask.Me.{Me}
 use Rattle.shm_graph.specs.declared.memo.Memo.{Memo}
 use Rattle.shm_graph.specs.Asks.{Trail, pair, IsWithin}
 use Rattle.shm_graph.specs.Events.{Event}
 use Rattle.shm_calls.specs.CallTells.{within_more}
+use Rattle.shm_script.specs.declared.log.Answer.{Answer}
+use Rattle.shm_script.specs.declared.log.Answer.TheVariants as answer
 use Rattle.shm_table.specs.declared.find.Found.{Found}
 use Rattle.shm_table.specs.declared.find.Found.TheVariants.{Absent}
-use Rattle.shm_table.specs.declared.get.Valued.{Valued}
 use Rattle.shm_table.specs.FindBound.{IsWhole, find_within, keys_read, passed_length}
 use Rattle.shm_table.specs.FindControl.{Passed, walk_trail, word_ask}
 use Rattle.shm_table.specs.FindFits.{EndsNowhere}
@@ -31,14 +31,15 @@ locate_within me a key r0 r tr es b h =
 -- ---- what a key has
 
 -- besides these, the two loads where the entry was found, and the giving back of the latch
-abbrev pub GetAsked : Me → ℕ → ℕ → List Passed → Trail → Option Valued → Type 0
-GetAsked me a key ps tr None = (before : Trail) × (walk : Trail) × (home : ℕ) × (first : ℕ) × (tr ≡ before ++ (walk ++ unlatch_trail me a)) × IsWithin 2 before × IsWhole me a key ps walk (Absent home first)
-GetAsked me a key ps tr (Some x) = (before : Trail) × (home : ℕ) × (entry : ℕ) × (tr ≡ before ++ (found_trail me a key home ps entry ++ (number_trail entry x.block x.number ++ unlatch_trail me a))) × IsWithin 2 before
+abbrev pub GetAsked : Me → ℕ → ℕ → List Passed → Trail → Answer → Type 0
+GetAsked me a key ps tr answer.Missing = (before : Trail) × (walk : Trail) × (home : ℕ) × (first : ℕ) × (tr ≡ before ++ (walk ++ unlatch_trail me a)) × IsWithin 2 before × IsWhole me a key ps walk (Absent home first)
+GetAsked me a key ps tr (answer.Value n v) = (before : Trail) × (home : ℕ) × (entry : ℕ) × (tr ≡ before ++ (found_trail me a key home ps entry ++ (number_trail entry v n ++ unlatch_trail me a))) × IsWithin 2 before
+GetAsked me a key ps tr b = ⊥
 
 -- how many keys were read
-abbrev pub keys_got : List Passed → Option Valued → ℕ
-keys_got ps None = length ps
-keys_got ps (Some x) = length ps + 1
+abbrev pub keys_got : List Passed → Answer → ℕ
+keys_got ps (answer.Value n v) = length ps + 1
+keys_got ps b = length ps
 
 -- a whole chain, or no home
 nowhere_whole : (me : Me) (a key home first : ℕ) (walk : Trail) → EndsNowhere me a key home first walk → (ps : List Passed) × IsWhole me a key ps walk (Absent home first) × IsWithin (2 + 2 * length ps) walk
@@ -48,14 +49,14 @@ nowhere_whole me a key home first walk (inr (some, (ps, others, begins, e))) =
     let k = passed_length ps 0 in
     (ps, inr (some, e), omega arith)
 
-pub missing_within : (me : Me) (a key : ℕ) (r0 r : Memo) (tr : Trail) (es : List Event) → GotNone me a key r0 r tr es → (ps : List Passed) × GetAsked me a key ps tr None × IsWithin (6 + 2 * length ps) tr
+pub missing_within : (me : Me) (a key : ℕ) (r0 r : Memo) (tr : Trail) (es : List Event) → GotNone me a key r0 r tr es → (ps : List Passed) × GetAsked me a key ps tr answer.Missing × IsWithin (6 + 2 * length ps) tr
 missing_within me a key r0 r tr es h =
     let f = nowhere_whole me a key h.home h.first h.walk h.ends in
     let walked : IsWithin (2 + 2 * length f.0 + 2) (h.walk ++ unlatch_trail me a) = within_more (2 + 2 * length f.0) 2 h.walk (unlatch_trail me a) f.2 (omega arith) in
     let all : IsWithin (2 + (2 + 2 * length f.0 + 2)) (h.before ++ (h.walk ++ unlatch_trail me a)) = within_more 2 (2 + 2 * length f.0 + 2) h.before (h.walk ++ unlatch_trail me a) h.bound walked in
     (f.0, (h.before, h.walk, h.home, h.first, h.trail, h.bound, f.1), subst (IsWithin (6 + 2 * length f.0)) (sym h.trail) (omega arith))
 
-pub found_within : (me : Me) (a key n v : ℕ) (r0 r : Memo) (tr : Trail) (es : List Event) → GotSome me a key n v r0 r tr es → (ps : List Passed) × GetAsked me a key ps tr (Some (record { number = n; block = v })) × IsWithin (9 + 2 * length ps) tr
+pub found_within : (me : Me) (a key n v : ℕ) (r0 r : Memo) (tr : Trail) (es : List Event) → GotSome me a key n v r0 r tr es → (ps : List Passed) × GetAsked me a key ps tr (answer.Value n v) × IsWithin (9 + 2 * length ps) tr
 found_within me a key n v r0 r tr es h =
     let ps : List Passed = h.passed in
     let k = passed_length ps h.entry in

@@ -4,18 +4,20 @@ use Rattle.shm_words.specs.Layout.{GeometryFits}
 use Rattle.shm_graph.specs.declared.ask.Ask.{Ask}
 use Rattle.shm_graph.specs.declared.ask.Me.{Me}
 use Rattle.shm_graph.specs.Laws.{Control}
+use Rattle.shm_calls.specs.declared.calls.Calls.{Calls}
 use Rattle.shm_calls.specs.declared.or.Or.{Or}
 use Rattle.shm_calls.specs.declared.or.Or.TheVariants.{First, Second}
 use Rattle.shm_calls.specs.declared.word.Word.{Word}
 use Rattle.shm_calls.specs.CallsControl.{calls_of}
 use Rattle.shm_calls.specs.Either.{or_control}
 use Rattle.shm_calls.specs.Words.{word_control}
+use Rattle.shm_script.specs.declared.log.Answer.{Answer}
+use Rattle.shm_script.specs.declared.log.Answer.TheVariants as answer
 use Rattle.shm_table.specs.declared.find.Found.{Found}
 use Rattle.shm_table.specs.declared.find.Found.TheVariants.{Absent, At}
 use Rattle.shm_table.specs.declared.get.GetPoint.{GetPoint}
 use Rattle.shm_table.specs.declared.get.GetPoint.TheVariants.{Search, Value, Number, Missing, Known}
 use Rattle.shm_table.specs.declared.get.GetState.{GetState}
-use Rattle.shm_table.specs.declared.get.Valued.{Valued}
 use Rattle.shm_table.specs.FindControl.{word_ask}
 use Rattle.shm_table.specs.LocateControl.{locating}
 use Rattle.shm_table.specs.LocateFits.{LocateCalls, locate_control, locate_plan}
@@ -27,6 +29,10 @@ GetCall = Or LocateCalls (Or Word UnlatchCalls)
 
 abbrev pub GetAnswer : Type 0
 GetAnswer = Or Found (Or ℕ (Unit {0}))
+
+-- its states
+abbrev pub GetCalls : Type 0
+GetCalls = Calls GetState GetCall Answer GetAnswer
 
 -- before its first call
 abbrev pub getting : Me → ℕ → ℕ → GetState
@@ -55,11 +61,11 @@ get_after m (Second (First n)) = read_after m m.point n
 get_after m (Second (Second done)) = m
 
 -- what it answers once the latch is given back
-abbrev pub get_answer : GetState → GetPoint → Option Valued
-get_answer m Known = Some (record { number = m.number; block = m.block })
-get_answer m y = None
+abbrev pub get_answer : GetState → GetPoint → Answer
+get_answer m Known = answer.Value m.number m.block
+get_answer m y = answer.Missing
 
-abbrev pub get_turns : GetState → GetAnswer → Option (Option Valued)
+abbrev pub get_turns : GetState → GetAnswer → Option Answer
 get_turns m (Second (Second done)) = Some (get_answer m m.point)
 get_turns m _ = None
 

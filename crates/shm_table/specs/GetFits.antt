@@ -23,10 +23,11 @@ use Rattle.shm_steps.specs.Reparting.{map_in}
 use Rattle.shm_steps.specs.Walking.{IsIn}
 use Rattle.shm_steps.specs.WordParts.{ReferenceLoaded, WordLoaded}
 use Rattle.shm_ref.specs.AskedParts.{asked_part}
+use Rattle.shm_script.specs.declared.log.Answer.{Answer}
+use Rattle.shm_script.specs.declared.log.Answer.TheVariants as answer
 use Rattle.shm_table.specs.declared.get.GetPoint.{GetPoint}
 use Rattle.shm_table.specs.declared.get.GetPoint.TheVariants.{Search, Value, Number, Missing, Known}
 use Rattle.shm_table.specs.declared.get.GetState.{GetState}
-use Rattle.shm_table.specs.declared.get.Valued.{Valued}
 use Rattle.shm_table.specs.FindControl.{Passed, walk_trail, word_ask}
 use Rattle.shm_table.specs.FindFits.{AreOthers, EndsNowhere, IsLook}
 use Rattle.shm_table.specs.FindTells.{HasRead}
@@ -135,9 +136,10 @@ pub record GotSome (me : Me) (a key n v : ℕ) (m r : Memo) (tr : Trail) (es : L
   pub told : IsTold a key entry n v q
   pub has : a ≡ me.who → map_in m.part key ≡ Some (n, v)
 
-abbrev pub GetLeaves : GetState → Memo → Memo → Trail → List Event → Option Valued → Type 0
-GetLeaves m r0 r tr es None = GotNone m.me m.author m.key r0 r tr es
-GetLeaves m r0 r tr es (Some x) = GotSome m.me m.author m.key x.number x.block r0 r tr es
+abbrev pub GetLeaves : GetState → Memo → Memo → Trail → List Event → Answer → Type 0
+GetLeaves m r0 r tr es (answer.Value n v) = GotSome m.me m.author m.key n v r0 r tr es
+GetLeaves m r0 r tr es answer.Missing = GotNone m.me m.author m.key r0 r tr es
+GetLeaves m r0 r tr es a = ⊥
 
 -- ---- the plan
 
@@ -153,7 +155,7 @@ get_word_part m y = asked_part (word_part (is_search y) m.me (get_ask m y) (GetF
 abbrev pub get_part : GetState → GetPoint → Part GetCall GetAnswer
 get_part m y = or_part (calls_part locate_parts locate_plan) (or_part (get_word_part m y) (calls_part word_control unlatch_plan))
 
-abbrev pub get_plan : Planned GetState GetCall GetAnswer (Option Valued)
+abbrev pub get_plan : Planned GetState GetCall GetAnswer Answer
 get_plan =
     record {
       me = λ m. m.me;

@@ -1,6 +1,6 @@
 -- what a latch that was taken and a search say of maps, and reading what a key has: of the own map, and in a held state of that of the author
 use Rattle.std.proofs.Common.{◌≡◌, ℕ, ◌<◌, refl, sym, ap, ◌∙◌, subst}
-use Rattle.std.specs.Prelude.{Option, Some, None, List}
+use Rattle.std.specs.Prelude.{Some, None, List}
 use Rattle.shm_graph.specs.declared.ask.Me.{Me}
 use Rattle.shm_graph.specs.declared.memo.Memo.{Memo}
 use Rattle.shm_graph.specs.declared.spot.Spot.{Spot}
@@ -14,12 +14,12 @@ use Rattle.shm_calls.specs.CallsControl.{calls_of}
 use Rattle.shm_calls.specs.CallsFit.{CallsFits}
 use Rattle.shm_calls.specs.Words.{word_control}
 use Rattle.shm_steps.specs.Reparting.{map_in}
+use Rattle.shm_script.specs.declared.log.Answer.{Answer}
 use Rattle.shm_table.specs.declared.find.Found.TheVariants.{Absent, At}
 use Rattle.shm_table.specs.declared.get.GetPoint.TheVariants.{Known}
 use Rattle.shm_table.specs.declared.get.GetState.{GetState}
-use Rattle.shm_table.specs.declared.get.Valued.{Valued}
 use Rattle.shm_table.specs.FindTells.{HasRead, absent_tells, author_maps, found_tells, has_read}
-use Rattle.shm_table.specs.GetControl.{GetAnswer, GetCall, get_parts}
+use Rattle.shm_table.specs.GetControl.{GetCalls, GetAnswer, GetCall, get_parts}
 use Rattle.shm_table.specs.GetFits.{GetKnows, IsAt, IsTold, get_plan, number_trail}
 use Rattle.shm_table.specs.LocateFits.{Located}
 use Rattle.shm_table.specs.UnlatchFits.{UnlatchCalls, unlatch_plan, unlatching}
@@ -40,7 +40,7 @@ located_read me a key entry before word r0 r tr es h = has_read me a key entry b
 -- ---- what a key has
 
 -- the machine is about to give back the latch, once the number is known
-pub record IsReady (m : Calls GetState GetCall (Option Valued) GetAnswer) : Type 0 where
+pub record IsReady (m : GetCalls) : Type 0 where
   pub point : m.plan.point ≡ Known
   pub call : m.call ≡ Second (Second (calls_of unlatch_plan (unlatching m.plan.me m.plan.author)))
 
@@ -56,7 +56,7 @@ not_begun me a u r0 r t e fit = go (subst (λ (x : UnlatchCalls). CallsFits word
     go f = f.fits.same ∙ f.knows.1
 
 -- then the memo shows the chain, the value word and the number
-pub ready_told : (m : Calls GetState GetCall (Option Valued) GetAnswer) (r0 r : Memo) (tr : Trail) → CallsFits get_parts get_plan m r0 r tr → IsReady m
+pub ready_told : (m : GetCalls) (r0 r : Memo) (tr : Trail) → CallsFits get_parts get_plan m r0 r tr → IsReady m
     → (m.plan.me.who < m.plan.me.geometry.clients) × IsTold m.plan.author m.plan.key m.plan.entry m.plan.number m.plan.block r
 ready_told m r0 r tr fit ready =
     let k = known_at m.plan r0 fit.rs fit.before fit.es ready.point fit.knows in
@@ -67,7 +67,7 @@ ready_told m r0 r tr fit ready =
     begun f = not_begun m.plan.me m.plan.author (calls_of unlatch_plan (unlatching m.plan.me m.plan.author)) fit.rs r fit.t refl f
 
 -- and in each held state with that memo the author's map has the number and the value block at the key
-pub ready_maps : (m : Calls GetState GetCall (Option Valued) GetAnswer) (r0 r : Memo) (tr : Trail) → CallsFits get_parts get_plan m r0 r tr → IsReady m
+pub ready_maps : (m : GetCalls) (r0 r : Memo) (tr : Trail) → CallsFits get_parts get_plan m r0 r tr → IsReady m
     → (w : Spot → ℕ) (rs : ℕ → Memo) → HeldAt m.plan.me.geometry w (view rs) → rs m.plan.me.who ≡ r → map_in (rs m.plan.author).part m.plan.key ≡ Some (m.plan.number, m.plan.block)
 ready_maps m r0 r tr fit ready w rs h same =
     let k = ready_told m r0 r tr fit ready in

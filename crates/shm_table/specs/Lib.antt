@@ -65,3 +65,6 @@ pub mod ChangeMachines
 pub mod Machines
 pub mod OpenMachine
 pub mod PutMachines
+pub mod Effects
+pub mod CommandControl
+pub mod CommandLaws

@@ -3,6 +3,7 @@ use Rattle.std.specs.Prelude.{ℕ, ◌%◌, ◌^◌, ◌<◌, Bool, true, false,
 use Rattle.shm_words.specs.Layout.{GeometryFits}
 use Rattle.shm_graph.specs.declared.ask.Me.{Me}
 use Rattle.shm_graph.specs.Laws.{Control}
+use Rattle.shm_calls.specs.declared.calls.Calls.{Calls}
 use Rattle.shm_calls.specs.declared.or.Or.{Or}
 use Rattle.shm_calls.specs.declared.or.Or.TheVariants.{First, Second}
 use Rattle.shm_calls.specs.CallsControl.{calls_of}
@@ -24,7 +25,7 @@ use Rattle.shm_table.specs.declared.put.PutState.{PutState}
 use Rattle.shm_script.specs.declared.log.Answer.{Answer}
 use Rattle.shm_script.specs.declared.log.Answer.TheVariants.{Stored}
 use Rattle.shm_table.specs.Answers.{fault_answer, made_fault, spent_fault}
-use Rattle.shm_table.specs.PutRootControl.{PutRootCalls, fault_of, putting_root}
+use Rattle.shm_table.specs.PutRootControl.{PutRootCalls, decided_of, fault_of, putting_root}
 use Rattle.shm_table.specs.PutRootFits.{put_root_control, put_root_plan}
 
 -- ---- its calls
@@ -33,15 +34,19 @@ abbrev pub PutCall : Type 0
 PutCall = Or AllocState (Or PutRootCalls RootsCall)
 
 abbrev pub PutAnswer : Type 0
-PutAnswer = Or (Result Made AllocFault) (Or (Result (Unit {0}) PutFault) (Result Bool EraSpent))
+PutAnswer = Or (Result Made AllocFault) (Or (Result Bool PutFault) (Result Bool EraSpent))
 
 -- a block with the words of a value block, of which the number is the plain one
 abbrev pub value_request : ℕ → Request
 value_request n = record { refs = 0; count = 1; plain = n ∷ 0 ∷ 0 ∷ 0 ∷ 0 ∷ 0 ∷ 0 ∷ 0 ∷ [] }
 
+-- its states
+abbrev pub PutCalls : Type 0
+PutCalls = Calls PutState PutCall Answer PutAnswer
+
 -- before its first call
 abbrev pub putting : Me → ℕ → ℕ → PutState
-putting me key n = record { me = me; key = key; number = n; root = 0; block = 0; refused = None; point = point.Make }
+putting me key n = record { me = me; key = key; number = n; root = 0; block = 0; decided = false; refused = None; point = point.Make }
 
 abbrev pub put_call_at : PutState → PutPoint → PutCall
 put_call_at m point.Make = First (record { me = m.me; request = value_request m.number; point = alloc.Era })
@@ -62,7 +67,7 @@ stuck_answer b (Some f) e = fault_answer (spent_fault e)
 abbrev pub put_after : PutState → PutAnswer → PutState
 put_after m (First (Ok made)) = record m { root = made.root % 16; block = made.block % 2 ^ 20; point = point.Put }
 put_after m (First (Err f)) = m
-put_after m (Second (First done)) = record m { refused = fault_of done; point = point.Drop }
+put_after m (Second (First done)) = record m { decided = decided_of done; refused = fault_of done; point = point.Drop }
 put_after m (Second (Second a)) = m
 
 abbrev pub put_turns : PutState → PutAnswer → Option Answer

@@ -240,7 +240,7 @@ module _ (m : PutState) (r0 rs r : Memo) (tr t : Trail) (es ds : List Event) (he
           })
 
   -- the key has it, or not
-  put : (a : Result (Unit {0}) PutFault) → PutKnows (record m { point = Put }) Put r0 rs tr es → PutRootLeaves (putting_root m.me m.key m.block) rs r t ds a → Goes Put (Second (First a))
+  put : (a : Result Bool PutFault) → PutKnows (record m { point = Put }) Put r0 rs tr es → PutRootLeaves (putting_root m.me m.key m.block) rs r t ds a → Goes Put (Second (First a))
   put (Ok done) h w =
       let quiet = frees_append es ds in
       let none : frees es ≡ 0 = ap frees h.told in

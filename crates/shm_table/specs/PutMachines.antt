@@ -1,5 +1,5 @@
 -- the machines by which a value block comes into the own table, and a key to have a number, as they are made: when they fit, what they give, and what they tell of their events
-use Rattle.std.specs.Prelude.{ℕ, Result, List}
+use Rattle.std.specs.Prelude.{ℕ, Bool, Result, List}
 use Rattle.shm_graph.specs.declared.ask.Me.{Me}
 use Rattle.shm_graph.specs.declared.memo.Memo.{Memo}
 use Rattle.shm_graph.specs.Asks.{Trail}
@@ -13,7 +13,7 @@ use Rattle.shm_table.specs.declared.answer.PutFault.{PutFault}
 use Rattle.shm_script.specs.declared.log.Answer.{Answer}
 use Rattle.shm_table.specs.declared.put.PutState.{PutState}
 use Rattle.shm_table.specs.declared.put_root.PutRootState.{PutRootState}
-use Rattle.shm_table.specs.PutControl.{PutAnswer, PutCall, put_parts, putting}
+use Rattle.shm_table.specs.PutControl.{PutCalls, PutAnswer, PutCall, put_parts, putting}
 use Rattle.shm_table.specs.PutFits.{put_plan}
 use Rattle.shm_table.specs.PutRootControl.{PutRootAnswer, PutRootCall, put_root_parts, putting_root}
 use Rattle.shm_table.specs.PutRootFits.{put_root_plan}
@@ -21,15 +21,15 @@ use Rattle.shm_table.specs.PutRootFits.{put_root_plan}
 -- ---- a value block comes into the own table: its states, and its control
 
 abbrev pub PutRootCalls : Type 0
-PutRootCalls = Calls PutRootState PutRootCall (Result (Unit {0}) PutFault) PutRootAnswer
+PutRootCalls = Calls PutRootState PutRootCall (Result Bool PutFault) PutRootAnswer
 
-abbrev pub put_root : Control PutRootCalls (Result (Unit {0}) PutFault)
+abbrev pub put_root : Control PutRootCalls (Result Bool PutFault)
 put_root = calls_control put_root_parts put_root_plan
 
 abbrev pub PutRootFits : Me → ℕ → ℕ → Memo → Memo → Trail → Type 0
 PutRootFits me key v = CallsFits put_root_parts put_root_plan (calls_of put_root_plan (putting_root me key v))
 
-abbrev pub PutRootGives : Me → ℕ → ℕ → Memo → Memo → Trail → Result (Unit {0}) PutFault → Type 0
+abbrev pub PutRootGives : Me → ℕ → ℕ → Memo → Memo → Trail → Result Bool PutFault → Type 0
 PutRootGives me key v = CallsGives put_root_parts put_root_plan (calls_of put_root_plan (putting_root me key v))
 
 abbrev pub put_root_told : Me → ℕ → ℕ → Trail → List Event
@@ -37,7 +37,7 @@ put_root_told me key v = happens_along put_root (calls_does put_root_parts put_r
 
 -- ---- a key comes to have a number
 
-abbrev pub put : Control (Calls PutState PutCall Answer PutAnswer) Answer
+abbrev pub put : Control PutCalls Answer
 put = calls_control put_parts put_plan
 
 abbrev pub PutFits : Me → ℕ → ℕ → Memo → Memo → Trail → Type 0

@@ -1,5 +1,5 @@
 -- how many word steps a put takes: by the keys that were read, and the blocks that were torn down or left on the way
-use Rattle.std.proofs.Common.{◌≡◌, ℕ, ◌+◌, ◌*◌, arith, inr, ◌⊎◌, List, length}
+use Rattle.std.proofs.Common.{◌≡◌, ℕ, ◌+◌, ◌*◌, arith, Bool, inr, ◌⊎◌, List, length}
 use Rattle.std.specs.Prelude.{Result, Ok, Err}
 use Rattle.std.specs.List.{All, Contains}
 use Rattle.shm_graph.specs.declared.ask.Me.{Me}
@@ -20,7 +20,7 @@ IsPutShort me key steps r tr es = (k : ℕ) × ((k ≡ 0) ⊎ HasSearch me me.wh
 abbrev pub own_steps : ℕ → ℕ → ℕ → ℕ
 own_steps g k t = put_root_steps g + 2 * k + tear_steps t
 
-pub put_root_short : (me : Me) (key v : ℕ) (r0 r : Memo) (tr : Trail) (es : List Event) (a : Result (Unit {0}) PutFault) → PutRootLeaves (putting_root me key v) r0 r tr es a → IsPutShort me key (own_steps me.geometry.segments) r tr es
+pub put_root_short : (me : Me) (key v : ℕ) (r0 r : Memo) (tr : Trail) (es : List Event) (a : Result Bool PutFault) → PutRootLeaves (putting_root me key v) r0 r tr es a → IsPutShort me key (own_steps me.geometry.segments) r tr es
 put_root_short me key v r0 r tr es (Ok done) h = (h.keys, inr h.search, h.left, h.dying, h.bound)
 put_root_short me key v r0 r tr es (Err f) h = (h.keys, h.search, h.left, h.dying, h.bound)
 

@@ -43,9 +43,9 @@ abbrev pub open_control : Control OpenCalls (Result (Unit {0}) PutFault)
 open_control = calls_control open_parts open_plan
 
 abbrev pub ReplaceCalls : Type 0
-ReplaceCalls = Calls ReplaceState ReplaceCall (Result (Unit {0}) PutFault) ReplaceAnswer
+ReplaceCalls = Calls ReplaceState ReplaceCall (Result Bool PutFault) ReplaceAnswer
 
-abbrev pub replace_control : Control ReplaceCalls (Result (Unit {0}) PutFault)
+abbrev pub replace_control : Control ReplaceCalls (Result Bool PutFault)
 replace_control = calls_control replace_parts replace_plan
 
 abbrev pub EnterCalls : Type 0
@@ -59,15 +59,15 @@ abbrev pub PutRootCall : Type 0
 PutRootCall = Or (Or OpenCalls LocateCalls) (Or (Or ReplaceCalls EnterCalls) (Or UnlatchCalls RootsCall))
 
 abbrev pub PutRootAnswer : Type 0
-PutRootAnswer = Or (Or (Result (Unit {0}) PutFault) Found) (Or (Or (Result (Unit {0}) PutFault) Entered) (Or (Unit {0}) (Result Bool EraSpent)))
+PutRootAnswer = Or (Or (Result (Unit {0}) PutFault) Found) (Or (Or (Result Bool PutFault) Entered) (Or (Unit {0}) (Result Bool EraSpent)))
 
 -- it as a call of larger machines
 abbrev pub PutRootCalls : Type 0
-PutRootCalls = Calls PutRootState PutRootCall (Result (Unit {0}) PutFault) PutRootAnswer
+PutRootCalls = Calls PutRootState PutRootCall (Result Bool PutFault) PutRootAnswer
 
 -- before its first call
 abbrev pub putting_root : Me → ℕ → ℕ → PutRootState
-putting_root me key v = record { me = me; key = key; value = v; home = 0; first = 0; entry = 0; root = None; refused = None; point = point.Open }
+putting_root me key v = record { me = me; key = key; value = v; home = 0; first = 0; entry = 0; root = None; decided = false; refused = None; point = point.Open }
 
 -- the root of a new entry
 abbrev pub root_or : Option ℕ → ℕ
@@ -93,48 +93,52 @@ abbrev pub located_after : PutRootState → Found → PutRootState
 located_after m (At entry before word) = record m { entry = entry % 2 ^ 20; point = point.Replace }
 located_after m (Absent home first) = record m { home = home_of home; first = first % 2 ^ 20; point = point.Enter }
 
--- by why the entry hasn't the block
-abbrev pub fault_of : Result (Unit {0}) PutFault → Option PutFault
-fault_of (Ok done) = None
+-- by why the entry hasn't the block, and by whether it came to have it
+abbrev pub fault_of : Result Bool PutFault → Option PutFault
+fault_of (Ok z) = None
 fault_of (Err f) = Some f
+
+abbrev pub decided_of : Result Bool PutFault → Bool
+decided_of (Ok z) = z
+decided_of (Err f) = false
 
 -- by whether a new entry was linked
 abbrev pub entered_after : PutRootState → Entered → PutRootState
-entered_after m (Linked k) = record m { root = Some (k % 16); point = point.Unlatch }
+entered_after m (Linked k) = record m { root = Some (k % 16); decided = true; refused = None; point = point.Unlatch }
 entered_after m (Unlinked k f) = record m { root = Some (k % 16); refused = Some f; point = point.Unlatch }
 entered_after m (Unmade f) = record m { refused = Some f; point = point.Unlatch }
 
 -- what it answers where nothing more was refused, and where the root of the new entry stays
-abbrev pub put_answer : Option PutFault → Result (Unit {0}) PutFault
-put_answer None = Ok tt
-put_answer (Some f) = Err f
+abbrev pub put_answer : Bool → Option PutFault → Result Bool PutFault
+put_answer z None = Ok z
+put_answer z (Some f) = Err f
 
-abbrev pub stuck_answer : Option PutFault → EraSpent → Result (Unit {0}) PutFault
-stuck_answer None e = Ok tt
-stuck_answer (Some f) e = Err (spent_fault e)
+abbrev pub stuck_answer : Bool → Option PutFault → EraSpent → Result Bool PutFault
+stuck_answer z None e = Ok z
+stuck_answer z (Some f) e = Err (spent_fault e)
 
 -- once the latch is given back
-abbrev pub freed_turns : PutRootState → Option ℕ → Option (Result (Unit {0}) PutFault)
-freed_turns m None = Some (put_answer m.refused)
+abbrev pub freed_turns : PutRootState → Option ℕ → Option (Result Bool PutFault)
+freed_turns m None = Some (put_answer m.decided m.refused)
 freed_turns m (Some k) = None
 
 abbrev pub put_root_after : PutRootState → PutRootAnswer → PutRootState
 put_root_after m (First (First (Ok done))) = record m { point = point.Locate }
 put_root_after m (First (First (Err f))) = m
 put_root_after m (First (Second found)) = located_after m found
-put_root_after m (Second (First (First done))) = record m { refused = fault_of done; point = point.Unlatch }
+put_root_after m (Second (First (First done))) = record m { decided = decided_of done; refused = fault_of done; point = point.Unlatch }
 put_root_after m (Second (First (Second entered))) = entered_after m entered
 put_root_after m (Second (Second (First done))) = record m { point = point.Drop }
 put_root_after m (Second (Second (Second a))) = m
 
-abbrev pub put_root_turns : PutRootState → PutRootAnswer → Option (Result (Unit {0}) PutFault)
+abbrev pub put_root_turns : PutRootState → PutRootAnswer → Option (Result Bool PutFault)
 put_root_turns m (First (First (Ok done))) = None
 put_root_turns m (First (First (Err f))) = Some (Err f)
 put_root_turns m (First (Second found)) = None
 put_root_turns m (Second (First a)) = None
 put_root_turns m (Second (Second (First done))) = freed_turns m m.root
-put_root_turns m (Second (Second (Second (Ok z)))) = Some (put_answer m.refused)
-put_root_turns m (Second (Second (Second (Err e)))) = Some (stuck_answer m.refused e)
+put_root_turns m (Second (Second (Second (Ok z)))) = Some (put_answer m.decided m.refused)
+put_root_turns m (Second (Second (Second (Err e)))) = Some (stuck_answer m.decided m.refused e)
 
 abbrev pub is_open : PutRootPoint → Bool
 is_open point.Open = true

@@ -184,7 +184,7 @@ pub record PutRootRefused (me : Me) (key v : ℕ) (r0 r : Memo) (tr : Trail) (es
   pub dying : All (λ (x : Visit). Contains r.dying x.block) left
   pub bound : IsWithin (put_root_steps me.geometry.segments + 2 * keys + tear_steps (frees es + length left)) tr
 
-abbrev pub PutRootLeaves : PutRootState → Memo → Memo → Trail → List Event → Result (Unit {0}) PutFault → Type 0
+abbrev pub PutRootLeaves : PutRootState → Memo → Memo → Trail → List Event → Result Bool PutFault → Type 0
 PutRootLeaves m r0 r tr es (Ok done) = PutRootDone m.me m.key m.value r0 r tr es
 PutRootLeaves m r0 r tr es (Err f) = PutRootRefused m.me m.key m.value r0 r tr es f
 
@@ -195,7 +195,7 @@ put_root_part =
     or_part (or_part (calls_part open_parts open_plan) (calls_part locate_parts locate_plan))
     (or_part (or_part (calls_part replace_parts replace_plan) (calls_part enter_parts enter_plan)) (or_part (calls_part word_control unlatch_plan) (calls_part drop_parts drop_plan)))
 
-abbrev pub put_root_plan : Planned PutRootState PutRootCall PutRootAnswer (Result (Unit {0}) PutFault)
+abbrev pub put_root_plan : Planned PutRootState PutRootCall PutRootAnswer (Result Bool PutFault)
 put_root_plan =
     record {
       me = λ m. m.me;
@@ -211,5 +211,5 @@ put_root_plan =
     }
 
 -- its control
-abbrev pub put_root_control : Control PutRootCalls (Result (Unit {0}) PutFault)
+abbrev pub put_root_control : Control PutRootCalls (Result Bool PutFault)
 put_root_control = calls_control put_root_parts put_root_plan

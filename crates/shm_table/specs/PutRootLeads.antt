@@ -163,7 +163,7 @@ module _ (m : PutRootState) (r0 rs r : Memo) (tr t : Trail) (es ds : List Event)
   )
 
   -- the entry that was found has the block, or not
-  pub replaced : (a : Result (Unit {0}) PutFault) → PutRootKnows (record m { point = Replace }) Replace r0 rs tr es → ReplaceLeaves (replacing m.me m.entry m.value) rs r t ds a → Goes Replace (Second (First (First a)))
+  pub replaced : (a : Result Bool PutFault) → PutRootKnows (record m { point = Replace }) Replace r0 rs tr es → ReplaceLeaves (replacing m.me m.entry m.value) rs r t ds a → Goes Replace (Second (First (First a)))
   replaced (Ok done) (h, root, searched, (n, before, word, may)) w =
       let quiet = frees_append es ds in
       let k = searched.keys in
@@ -227,7 +227,7 @@ module _ (m : PutRootState) (r0 rs r : Memo) (tr t : Trail) (es ds : List Event)
         latched = x.latch ∙ h.latched;
         home = λ e. h.home (may.directory ∙ (sym x.directory ∙ e));
         roots = subst (λ i. RootsSo c r0 r (Some i)) small (low, sym (h.cleared.roots j) ∙ x.empty, (λ i o. x.others i (λ z. o (sym z)) ∙ h.cleared.roots i), x.dying ∙ h.cleared.dying);
-        map = subst (λ f. MapSo m.me m.key m.value r0 r (es ++ ds) (Some (j % 16)) f) (sym fault) (
+        map = (
           (λ i v. set_after m.key i m.value r0 rs r h.map (x.map i (h.keeps.values h.may.1 m.value i h.may.2.low h.may.2.some h.may.2.root v))),
           inl (decided_after c m.key (own_word r.own (Home c)) m.value es ds (linked m.first x.entry x.directory x.events)),
         );

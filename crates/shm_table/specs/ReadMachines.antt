@@ -1,5 +1,5 @@
 -- the machines that only read a table as they are made: when they fit, what they give, and what they tell of their events
-use Rattle.std.specs.Prelude.{ℕ, Option, List}
+use Rattle.std.specs.Prelude.{ℕ, List}
 use Rattle.shm_graph.specs.declared.ask.Me.{Me}
 use Rattle.shm_graph.specs.declared.memo.Memo.{Memo}
 use Rattle.shm_graph.specs.Asks.{Trail}
@@ -10,10 +10,10 @@ use Rattle.shm_calls.specs.declared.calls.Calls.{Calls}
 use Rattle.shm_calls.specs.CallsControl.{calls_control, calls_of, calls_does}
 use Rattle.shm_calls.specs.CallsFit.{CallsFits, CallsGives}
 use Rattle.shm_calls.specs.Words.{word_control}
+use Rattle.shm_script.specs.declared.log.Answer.{Answer}
 use Rattle.shm_table.specs.declared.find.Found.{Found}
 use Rattle.shm_table.specs.declared.get.GetState.{GetState}
-use Rattle.shm_table.specs.declared.get.Valued.{Valued}
-use Rattle.shm_table.specs.GetControl.{GetAnswer, GetCall, get_parts, getting}
+use Rattle.shm_table.specs.GetControl.{GetCalls, GetAnswer, GetCall, get_parts, getting}
 use Rattle.shm_table.specs.GetFits.{get_plan}
 use Rattle.shm_table.specs.LocateControl.{locate_parts, locating}
 use Rattle.shm_table.specs.LocateFits.{locate_control, locate_plan}
@@ -43,13 +43,13 @@ locate_told me a key = happens_along locate_control (calls_does locate_parts loc
 
 -- ---- what a key has in the table of a
 
-abbrev pub get : Control (Calls GetState GetCall (Option Valued) GetAnswer) (Option Valued)
+abbrev pub get : Control GetCalls Answer
 get = calls_control get_parts get_plan
 
 abbrev pub GetFits : Me → ℕ → ℕ → Memo → Memo → Trail → Type 0
 GetFits me a key = CallsFits get_parts get_plan (calls_of get_plan (getting me a key))
 
-abbrev pub GetGives : Me → ℕ → ℕ → Memo → Memo → Trail → Option Valued → Type 0
+abbrev pub GetGives : Me → ℕ → ℕ → Memo → Memo → Trail → Answer → Type 0
 GetGives me a key = CallsGives get_parts get_plan (calls_of get_plan (getting me a key))
 
 abbrev pub get_told : Me → ℕ → ℕ → Trail → List Event

@@ -42,32 +42,32 @@ replace_call_at m Tear = Second (Second (record { me = m.me; first = m.before; b
 
 -- ---- where it goes
 
--- by the word that was found
+-- by the word that was found; it answers whether the entry came to have the value block, or had it already
 abbrev pub found_after : ReplaceState → ℕ → ReplaceState
 found_after m n = record m { before = n % 2 ^ 20; point = Change }
 
-abbrev pub found_turns : ReplaceState → ℕ → Option (Result (Unit {0}) PutFault)
-found_turns m n = if n % 2 ^ 20 == m.to then Some (Ok tt) else None
+abbrev pub found_turns : ReplaceState → ℕ → Option (Result Bool PutFault)
+found_turns m n = if n % 2 ^ 20 == m.to then Some (Ok false) else None
 
 -- by whether the count of the old block came to 0
 abbrev pub lowered_after : ReplaceState → Bool → ReplaceState
 lowered_after m true = record m { point = Tear }
 lowered_after m false = m
 
-abbrev pub lowered_turns : Bool → Option (Result (Unit {0}) PutFault)
+abbrev pub lowered_turns : Bool → Option (Result Bool PutFault)
 lowered_turns true = None
-lowered_turns false = Some (Ok tt)
+lowered_turns false = Some (Ok true)
 
 abbrev pub replace_after : ReplaceState → ReplaceAnswer → ReplaceState
 replace_after m (First n) = found_after m n
 replace_after m (Second (First (Ok z))) = lowered_after m z
 replace_after m _ = m
 
-abbrev pub replace_turns : ReplaceState → ReplaceAnswer → Option (Result (Unit {0}) PutFault)
+abbrev pub replace_turns : ReplaceState → ReplaceAnswer → Option (Result Bool PutFault)
 replace_turns m (First n) = found_turns m n
 replace_turns m (Second (First (Ok z))) = lowered_turns z
 replace_turns m (Second (First (Err f))) = Some (Err (raised_fault f))
-replace_turns m (Second (Second a)) = Some (Ok tt)
+replace_turns m (Second (Second a)) = Some (Ok true)
 
 abbrev pub is_look : ReplacePoint → Bool
 is_look Look = true

@@ -1,5 +1,5 @@
 -- giving an entry of the own table another value block as a plan: when it may begin, what is known before each call, and what is left
-use Rattle.std.specs.Prelude.{◌≡◌, ◌≢◌, ℕ, ◌+◌, ◌%◌, ◌^◌, ◌<◌, ◌≤◌, ◌==◌, ◌⊎◌, if◌then◌else◌, true, false, Some, Result, Ok, Err, List, [], ◌∷◌, length}
+use Rattle.std.specs.Prelude.{◌≡◌, ◌≢◌, ℕ, ◌+◌, ◌%◌, ◌^◌, ◌<◌, ◌≤◌, ◌==◌, ◌⊎◌, if◌then◌else◌, Bool, true, false, Some, Result, Ok, Err, List, [], ◌∷◌, length}
 use Rattle.std.specs.List.{All, Contains}
 use Rattle.shm_words.specs.Layout.{GeometryFits, total_of}
 use Rattle.shm_graph.specs.declared.ask.Me.{Me}
@@ -136,7 +136,7 @@ pub record NotReplaced (me : Me) (v : ℕ) (m r : Memo) (tr : Trail) (es : List 
   pub none : es ≡ []
   pub bound : IsWithin (1 + change_steps) tr
 
-abbrev pub ReplaceLeaves : ReplaceState → Memo → Memo → Trail → List Event → Result (Unit {0}) PutFault → Type 0
+abbrev pub ReplaceLeaves : ReplaceState → Memo → Memo → Trail → List Event → Result Bool PutFault → Type 0
 ReplaceLeaves m r0 r tr es (Ok done) = Replaced m.me m.to m.entry r0 r tr es
 ReplaceLeaves m r0 r tr es (Err f) = NotReplaced m.me m.to r0 r tr es f
 
@@ -146,7 +146,7 @@ ReplaceLeaves m r0 r tr es (Err f) = NotReplaced m.me m.to r0 r tr es f
 abbrev pub look_part : ReplaceState → ReplacePoint → Part Word ℕ
 look_part m y = word_part (is_look y) m.me (word_ask m.entry 1) (EntryReads m.me m.entry 1)
 
-abbrev pub replace_plan : Planned ReplaceState ReplaceCall ReplaceAnswer (Result (Unit {0}) PutFault)
+abbrev pub replace_plan : Planned ReplaceState ReplaceCall ReplaceAnswer (Result Bool PutFault)
 replace_plan =
     record {
       me = λ m. m.me;

@@ -1,5 +1,5 @@
 -- what is owed of giving an entry another value block
-use Rattle.std.proofs.Common.{◌≡◌, ◌≢◌, ℕ, ◌+◌, ◌%◌, ◌^◌, ◌<◌, ◌≤◌, refl, sym, ap, ◌∙◌, subst, arith, true, false, List, [], ◌++◌, append-nil, inl, inr, length}
+use Rattle.std.proofs.Common.{◌≡◌, ◌≢◌, ℕ, ◌+◌, ◌%◌, ◌^◌, ◌<◌, ◌≤◌, refl, sym, ap, ◌∙◌, subst, arith, Bool, true, false, List, [], ◌++◌, append-nil, inl, inr, length}
 use Rattle.std.specs.Prelude.{◌==◌, if◌then◌else◌, Some, None, Result, Ok, Err}
 use Rattle.std.specs.List.{All, Contains}
 use Rattle.std.proofs.lemmas.Bool.{cases_eq, eq-eqb, ne_eqb}
@@ -315,7 +315,7 @@ replace_laws =
     leads : (m : ReplaceState) (y : ReplacePoint) (r0 rs r : Memo) (tr t : Trail) (es ds : List Event) (a : ReplaceAnswer) → ReplaceKnows (record m { point = y }) y r0 rs tr es → (replace_plan.part (record m { point = y })).leaves (replace_call_at m y) rs r t ds a → IsHeld m.me r → recovers r ≡ recovers rs
         → Follows replace_parts replace_plan (record m { point = y }) a r0 r (tr ++ t) (es ++ ds)
     leads m Look r0 rs r tr t es ds (First n) h g held agent =
-        by_target n m.to (Result (Unit {0}) PutFault) (Ok tt) (λ z. ReplaceKnows (record m { before = z; point = Change }) Change r0 r (tr ++ t) (es ++ ds)) (ReplaceLeaves (replacing m.me m.entry m.to) r0 r (tr ++ t) (es ++ ds))
+        by_target n m.to (Result Bool PutFault) (Ok false) (λ z. ReplaceKnows (record m { before = z; point = Change }) Change r0 r (tr ++ t) (es ++ ds)) (ReplaceLeaves (replacing m.me m.entry m.to) r0 r (tr ++ t) (es ++ ds))
         (look_small m.me m.entry m.to m.before r0 rs r tr t es ds held agent n h g)
         (look_other m.me m.entry m.to m.before r0 rs r tr t es ds held agent n h g)
         (look_same m.me m.entry m.to m.before r0 rs r tr t es ds held agent n h g)

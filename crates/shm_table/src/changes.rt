@@ -1,7 +1,7 @@
 //! When an entry of the own table may have another value block or go, and a key be removed; what that does to the graph of references and
 //! to the map, what it leaves, and how many word steps it takes.
 
-ghost use Rattle.std.specs.Prelude.{ℕ, ◌+◌, ◌*◌, Result, Ok, Err, [], List, length};
+ghost use Rattle.std.specs.Prelude.{ℕ, ◌+◌, ◌*◌, Bool, Result, Ok, Err, [], List, length};
 ghost use Rattle.shm_graph.specs.declared.ask.Me.{Me as AMe};
 ghost use Rattle.shm_graph.specs.declared.memo.Memo.{Memo as AMemo};
 ghost use Rattle.shm_graph.specs.Asks.{Trail, IsWithin};
@@ -13,7 +13,7 @@ ghost use Rattle.shm_calls.specs.Plans.{plan_trail};
 ghost use Rattle.shm_count.specs.declared.answer.UpFault.{UpFault as AUpFault};
 ghost use Rattle.shm_count.specs.TearEvents.{Visit, frees};
 ghost use Rattle.shm_table.specs.declared.answer.PutFault.{PutFault as APutFault};
-ghost use Rattle.shm_table.specs.declared.del.DelAnswer.{DelAnswer as ADelAnswer};
+ghost use Rattle.shm_script.specs.declared.log.Answer.{Answer as AnAnswer};
 ghost use Rattle.shm_table.specs.ChangeMachines.{DelFits, DelGives, ReplaceFits, ReplaceGives, UnlinkFits, UnlinkGives, del, del_told, replace, replace_told, unlink_told};
 ghost use Rattle.shm_table.specs.DelBound.{IsShort};
 ghost use Rattle.shm_table.specs.DelControl.{del_parts, deleting};
@@ -36,13 +36,13 @@ pub fn replace_events()
 
 /// The key has the value block and its number, and no other key changed; or nothing was done, and the refusal says why.
 pub fn replace_leaves()
-    ensures leaves { (me : AMe) (entry v : ℕ) (r0 r : AMemo) (tr : Trail) (a : Result (Unit {0}) APutFault) → ReplaceGives me entry v r0 r tr a → ReplaceLeaves (replacing me entry v) r0 r tr (replace_told me entry v tr) a }
-    ensures trail { (me : AMe) (entry v : ℕ) (r0 r : AMemo) (tr : Trail) (a : Result (Unit {0}) APutFault) → ReplaceGives me entry v r0 r tr a → plan_trail replace_plan (replacing me entry v) tr a }
+    ensures leaves { (me : AMe) (entry v : ℕ) (r0 r : AMemo) (tr : Trail) (a : Result Bool APutFault) → ReplaceGives me entry v r0 r tr a → ReplaceLeaves (replacing me entry v) r0 r tr (replace_told me entry v tr) a }
+    ensures trail { (me : AMe) (entry v : ℕ) (r0 r : AMemo) (tr : Trail) (a : Result Bool APutFault) → ReplaceGives me entry v r0 r tr a → plan_trail replace_plan (replacing me entry v) tr a }
 {}
 
 /// It takes at most 14 word steps, and 164 for each block that it freed or left on the way.
 pub fn replace_bound()
-    ensures done { (me : AMe) (entry v : ℕ) (r0 r : AMemo) (tr : Trail) → ReplaceGives me entry v r0 r tr (Ok tt) → (vs : List Visit) × ReplaceEvents me entry v r0 (replace_told me entry v tr) vs × IsWithin (1 + change_steps + tear_steps (frees (replace_told me entry v tr) + length vs)) tr }
+    ensures done { (me : AMe) (entry v : ℕ) (r0 r : AMemo) (tr : Trail) (z : Bool) → ReplaceGives me entry v r0 r tr (Ok z) → (vs : List Visit) × ReplaceEvents me entry v r0 (replace_told me entry v tr) vs × IsWithin (1 + change_steps + tear_steps (frees (replace_told me entry v tr) + length vs)) tr }
     ensures refused { (me : AMe) (entry v : ℕ) (r0 r : AMemo) (tr : Trail) (f : APutFault) → ReplaceGives me entry v r0 r tr (Err f) → IsWithin (1 + change_steps) tr }
 {}
 
@@ -82,13 +82,13 @@ pub fn del_events()
 /// The key was there and is gone, and no other key changed; or it wasn't there, or the refusal says why it is there still, and the map is
 /// as before. No latch is held.
 pub fn del_leaves()
-    ensures leaves { (me : AMe) (key : ℕ) (r0 r : AMemo) (tr : Trail) (a : ADelAnswer) → DelGives me key r0 r tr a → DelLeaves (deleting me key) r0 r tr (del_told me key tr) a }
-    ensures trail { (me : AMe) (key : ℕ) (r0 r : AMemo) (tr : Trail) (a : ADelAnswer) → DelGives me key r0 r tr a → plan_trail del_plan (deleting me key) tr a }
+    ensures leaves { (me : AMe) (key : ℕ) (r0 r : AMemo) (tr : Trail) (a : AnAnswer) → DelGives me key r0 r tr a → DelLeaves (deleting me key) r0 r tr (del_told me key tr) a }
+    ensures trail { (me : AMe) (key : ℕ) (r0 r : AMemo) (tr : Trail) (a : AnAnswer) → DelGives me key r0 r tr a → plan_trail del_plan (deleting me key) tr a }
 {}
 
 /// It takes at most 20 word steps, 2 for each key that it read, and 164 for each block that it freed or left on the way; that is within what
 /// a command may take.
 pub fn del_bound()
-    ensures own { (me : AMe) (key : ℕ) (r0 r : AMemo) (tr : Trail) (a : ADelAnswer) → DelGives me key r0 r tr a → IsShort me key (λ k t. 20 + 2 * k + tear_steps t) r tr (del_told me key tr) }
-    ensures command { (me : AMe) (key : ℕ) (r0 r : AMemo) (tr : Trail) (a : ADelAnswer) → DelGives me key r0 r tr a → IsShort me key (command_steps me.geometry.segments) r tr (del_told me key tr) }
+    ensures own { (me : AMe) (key : ℕ) (r0 r : AMemo) (tr : Trail) (a : AnAnswer) → DelGives me key r0 r tr a → IsShort me key (λ k t. 20 + 2 * k + tear_steps t) r tr (del_told me key tr) }
+    ensures command { (me : AMe) (key : ℕ) (r0 r : AMemo) (tr : Trail) (a : AnAnswer) → DelGives me key r0 r tr a → IsShort me key (command_steps me.geometry.segments) r tr (del_told me key tr) }
 {}

@@ -2,7 +2,12 @@
 
 ghost use Rattle.std.specs.Prelude.{◌≡◌, ◌<◌};
 ghost use Rattle.shm_words.specs.Layout.{GeometryFits};
+ghost use Rattle.shm_calls.specs.CallsControl.{calls_control, calls_of};
+ghost use Rattle.shm_calls.specs.CallsFit.{CallsFits, CallsGives};
+ghost use Rattle.shm_calls.specs.CallsKeep.{calls_laws};
+ghost use Rattle.shm_table.specs.Effects.{copy_effect};
 ghost use Rattle.shm_table.specs.CopyControl as control;
+ghost use Rattle.shm_table.specs.CopyControl.{copy_parts};
 ghost use Rattle.shm_table.specs.CopyControl.{copying};
 ghost use Rattle.shm_table.specs.CopyFits.{copy_plan};
 ghost use Rattle.shm_table.specs.CopyLaws.{copy_laws};
@@ -14,11 +19,12 @@ ghost use Rattle.shm_table.specs.PutRootLaws.{put_root_laws};
 ghost use Rattle.shm_table.specs.ReplaceLaws.{replace_laws};
 
 use crate::answer::PutFault;
+use crate::effect::Deciding;
 use crate::fetch::{Fetch, Fetched, Fetching};
-use crate::put_root::PutRoot;
+use crate::put_root::{PutRoot, settled};
 use shm_calls::{Calls, Or, Plan};
 use shm_count::EraSpent;
-use shm_graph::{Machine, Me};
+use shm_graph::{Ask, Machine, Me, Turn};
 use shm_ref::{DropRoot, Dropping};
 use shm_script::Answer;
 use std::marker::Model;
@@ -34,7 +40,8 @@ pub enum CopyPoint {
     Drop,
 }
 
-/// The control of it: `block` is the value block, `number` its number and `root` its root; `refused` is why the key hasn't got it.
+/// The control of it: `block` is the value block, `number` its number and `root` its root; `decided`
+/// says whether the key came to have it, and `refused` is why it hasn't got it.
 #[derive(Clone, Copy, Debug, PartialEq, Eq, Drop)]
 pub struct CopyState {
     pub me: Me,
@@ -44,6 +51,7 @@ pub struct CopyState {
     pub root: u8,
     pub block: u32,
     pub number: u64,
+    pub decided: bool,
     pub refused: Option<PutFault>,
     pub point: CopyPoint,
 }
@@ -52,7 +60,7 @@ pub struct CopyState {
 pub type CopyCall = Or<Fetch, Or<PutRoot, DropRoot>>;
 
 /// What its calls answer.
-pub type CopyAnswer = Or<Fetched, Or<Result<(), PutFault>, Result<bool, EraSpent>>>;
+pub type CopyAnswer = Or<Fetched, Or<Result<bool, PutFault>, Result<bool, EraSpent>>>;
 
 /// The calls by which a key comes to have what another one has.
 #[derive(Drop)]
@@ -74,7 +82,89 @@ impl Model for Copying {
 
 /// It answers the value block that both keys have, and its number; or that the other key is missing, or why the key hasn't got the value
 /// block: from the step on by which it has it, no refusal changes the answer.
-pub type CopyKey = Calls<Copying>;
+#[derive(Drop)]
+pub struct CopyKey {
+    calls: Calls<Copying>,
+}
+
+impl Model for CopyKey {
+    ghost use Rattle.shm_table.specs.CopyControl.{CopyCalls};
+
+    ghost Value = { CopyCalls };
+
+    ghost view = { λ a. a.calls };
+}
+
+impl CopyKey {
+    /// `key` is to have in the table of `me` what `other` has in that of `author`.
+    #[inline(always)]
+    pub fn new(me: Me, key: u32, author: u8, other: u32) -> CopyKey
+        requires geometry { GeometryFits me.geometry }
+        requires who { me.who < me.geometry.clients }
+        requires author { author < me.geometry.clients }
+        ensures { result ≡ calls_of copy_plan (copying me key author other) }
+    {
+        CopyKey {
+            calls: Calls::new(Copying::new(me, key, author, other)),
+        }
+    }
+
+    /// What it will answer, where its deciding step was made; otherwise none.
+    #[inline(always)]
+    pub fn effect(&self) -> Option<Answer>
+        ensures { result ≡ copy_effect self.now }
+    {
+        let CopyState {
+            number,
+            block,
+            decided,
+            refused,
+            ..
+        } = self.calls.plan().state;
+        let decided = match self.calls.call() {
+            Or::First(_) => false,
+            Or::Second(Or::First(put)) => put.decided(),
+            Or::Second(Or::Second(_)) => settled(decided, refused),
+        };
+        if decided {
+            Some(Answer::Value { number, block })
+        } else {
+            None
+        }
+    }
+}
+
+impl Machine for CopyKey {
+    type Answer = Answer;
+
+    ghost control = { calls_control copy_parts copy_plan };
+
+    ghost fits = { CallsFits copy_parts copy_plan };
+
+    ghost gives = { CallsGives copy_parts copy_plan };
+
+    #[inline(always)]
+    fn me(&self) -> Me {
+        self.calls.me()
+    }
+
+    #[inline(always)]
+    fn finished(&self) -> bool {
+        self.calls.finished()
+    }
+
+    #[inline(always)]
+    fn ask(&self) -> Ask {
+        self.calls.ask()
+    }
+
+    #[inline(always)]
+    fn take(&mut self, seen: u64) -> Turn<Answer> {
+        self.calls.take(seen)
+    }
+
+    ghost laws = { calls_laws copy_parts copy_plan (copy_laws fetch_laws (put_root_laws open_laws locate_laws replace_laws enter_laws)) };
+}
 
 /// What it answers.
 #[inline(always)]
@@ -116,6 +206,7 @@ impl Copying {
                 root: 0,
                 block: 0,
                 number: 0,
+                decided: false,
                 refused: None,
                 point: CopyPoint::Fetch,
             },
@@ -190,6 +281,7 @@ impl Plan for Copying {
         match given {
             Or::First(fetched) => self.state.fetched(fetched),
             Or::Second(Or::First(done)) => {
+                self.state.decided = matches!(done, Ok(true));
                 self.state.refused = done.err();
                 self.state.point = CopyPoint::Drop;
                 None

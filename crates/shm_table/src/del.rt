@@ -2,30 +2,27 @@
 
 ghost use Rattle.std.specs.Prelude.{◌≡◌, ◌%◌, ◌<◌};
 ghost use Rattle.shm_words.specs.Layout.{GeometryFits};
+ghost use Rattle.shm_calls.specs.CallsControl.{calls_control, calls_of};
+ghost use Rattle.shm_calls.specs.CallsFit.{CallsFits, CallsGives};
+ghost use Rattle.shm_calls.specs.CallsKeep.{calls_laws};
+ghost use Rattle.shm_table.specs.Effects.{del_effect, is_removed};
 ghost use Rattle.shm_table.specs.DelControl as control;
+ghost use Rattle.shm_table.specs.DelControl.{del_parts};
 ghost use Rattle.shm_table.specs.DelControl.{deleting};
 ghost use Rattle.shm_table.specs.DelFits.{del_plan};
 ghost use Rattle.shm_table.specs.DelLaws.{del_laws};
 
+use crate::answer::PutFault;
+use crate::effect::Deciding;
 use crate::find::Found;
 use crate::locate::{Locate, Locating};
 use crate::unlatch::{Unlatch, Unlatching};
 use crate::unlink::{Unlink, Unlinking};
 use shm_calls::{Calls, Or, Plan};
 use shm_count::UpFault;
-use shm_graph::{Machine, Me};
+use shm_graph::{Ask, Machine, Me, Turn};
+use shm_script::Answer;
 use std::marker::Model;
-
-/// What became of a key that was to be removed.
-#[derive(Clone, Copy, Debug, PartialEq, Eq, Drop)]
-pub enum DelAnswer {
-    /// The table has it no more.
-    Removed,
-    /// The table didn't have it.
-    Missing,
-    /// The table has it still, since the count step was refused.
-    Refused(UpFault),
-}
 
 /// Which call of it comes next.
 #[derive(Clone, Copy, Debug, PartialEq, Eq, Drop)]
@@ -46,7 +43,7 @@ pub struct DelState {
     pub entry: u32,
     pub before: u32,
     pub word: u8,
-    pub answer: DelAnswer,
+    pub answer: Answer,
     pub point: DelPoint,
 }
 
@@ -71,8 +68,79 @@ impl Model for Deleting {
     ghost invariant = { λ a. DelInRange a.state };
 }
 
-/// It answers whether the key is gone, was missing, or is there still because a count step was refused.
-pub type Del = Calls<Deleting>;
+/// It answers that the key is gone, that it was missing, or why the count step was refused, and then it is there still.
+#[derive(Drop)]
+pub struct Del {
+    calls: Calls<Deleting>,
+}
+
+impl Model for Del {
+    ghost use Rattle.shm_table.specs.DelControl.{DelCalls};
+
+    ghost Value = { DelCalls };
+
+    ghost view = { λ a. a.calls };
+}
+
+impl Del {
+    /// The key `key` of the own table is to be removed.
+    #[inline(always)]
+    pub fn new(me: Me, key: u32) -> Del
+        requires geometry { GeometryFits me.geometry }
+        requires who { me.who < me.geometry.clients }
+        ensures { result ≡ calls_of del_plan (deleting me key) }
+    {
+        Del {
+            calls: Calls::new(Deleting::new(me, key)),
+        }
+    }
+
+    /// What it will answer, where its deciding step was made; otherwise none.
+    #[inline(always)]
+    pub fn effect(&self) -> Option<Answer>
+        ensures { result ≡ del_effect self.now }
+    {
+        let DelState { answer, .. } = self.calls.plan().state;
+        let decided = match self.calls.call() {
+            Or::First(_) => false,
+            Or::Second(Or::First(cut)) => cut.decided(),
+            Or::Second(Or::Second(_)) => is_removed(answer),
+        };
+        if decided { Some(Answer::Ok) } else { None }
+    }
+}
+
+impl Machine for Del {
+    type Answer = Answer;
+
+    ghost control = { calls_control del_parts del_plan };
+
+    ghost fits = { CallsFits del_parts del_plan };
+
+    ghost gives = { CallsGives del_parts del_plan };
+
+    #[inline(always)]
+    fn me(&self) -> Me {
+        self.calls.me()
+    }
+
+    #[inline(always)]
+    fn finished(&self) -> bool {
+        self.calls.finished()
+    }
+
+    #[inline(always)]
+    fn ask(&self) -> Ask {
+        self.calls.ask()
+    }
+
+    #[inline(always)]
+    fn take(&mut self, seen: u64) -> Turn<Answer> {
+        self.calls.take(seen)
+    }
+
+    ghost laws = { calls_laws del_parts del_plan del_laws };
+}
 
 impl Deleting {
     /// The key `key` of the own table is to be removed.
@@ -89,7 +157,7 @@ impl Deleting {
                 entry: 0,
                 before: 0,
                 word: 0,
-                answer: DelAnswer::Missing,
+                answer: Answer::Missing,
                 point: DelPoint::Search,
             },
         }
@@ -104,6 +172,7 @@ impl DelState {
     {
         match found {
             Found::Absent { .. } => {
+                self.answer = Answer::Missing;
                 self.point = DelPoint::Back;
             }
             Found::At {
@@ -125,8 +194,8 @@ impl DelState {
         ensures state { self.new ≡ control.cut_after self.old done }
     {
         self.answer = match done {
-            Ok(()) => DelAnswer::Removed,
-            Err(fault) => DelAnswer::Refused(fault),
+            Ok(()) => Answer::Ok,
+            Err(fault) => PutFault::raised(fault).answer(),
         };
         self.point = DelPoint::Back;
     }
@@ -135,7 +204,7 @@ impl DelState {
 impl Plan for Deleting {
     type Call = DelCall;
 
-    type Answer = DelAnswer;
+    type Answer = Answer;
 
     ghost plan = { del_plan };
 
@@ -166,7 +235,7 @@ impl Plan for Deleting {
     }
 
     #[inline(always)]
-    fn next(&mut self, answer: Or<Found, Or<Result<(), UpFault>, ()>>) -> Option<DelAnswer> {
+    fn next(&mut self, answer: Or<Found, Or<Result<(), UpFault>, ()>>) -> Option<Answer> {
         match answer {
             Or::First(found) => {
                 self.state.found(found);
@@ -181,4 +250,15 @@ impl Plan for Deleting {
     }
 
     ghost laws = { del_laws };
+}
+
+/// Whether the entry was taken out.
+#[inline(always)]
+fn is_removed(answer: Answer) -> bool
+    ensures { result ≡ is_removed answer }
+{
+    match answer {
+        Answer::Ok => true,
+        _ => false,
+    }
 }

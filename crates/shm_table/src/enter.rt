@@ -2,12 +2,14 @@
 
 ghost use Rattle.std.specs.Prelude.{◌≡◌, ◌+◌, ◌<◌, ◌^◌};
 ghost use Rattle.shm_words.specs.Layout.{GeometryFits};
+ghost use Rattle.shm_table.specs.Effects.{enter_decided, links};
 ghost use Rattle.shm_table.specs.EnterControl as control;
 ghost use Rattle.shm_table.specs.EnterControl.{entering, entry_of, entry_request};
 ghost use Rattle.shm_table.specs.EnterFits.{enter_plan};
 ghost use Rattle.shm_table.specs.EnterLaws.{enter_laws};
 
 use crate::answer::PutFault;
+use crate::effect::Deciding;
 use shm_alloc::{Alloc, AllocFault, Request};
 use shm_calls::{Calls, Or, Plan};
 use shm_count::{Made, StepChange, StepUp, UpFault};
@@ -237,4 +239,31 @@ impl Plan for Entering {
     }
 
     ghost laws = { enter_laws };
+}
+
+impl EnterPoint {
+    /// Whether a step up is the one at the bucket, and not one at the own words of the entry.
+    #[inline(always)]
+    fn links(self) -> bool
+        ensures { result ≡ links self }
+    {
+        match self {
+            EnterPoint::Value | EnterPoint::Next => false,
+            _ => true,
+        }
+    }
+}
+
+impl Deciding for Enter {
+    ghost decided = { enter_decided };
+
+    /// The step at the bucket decides.
+    #[inline(always)]
+    fn decided(&self) -> bool {
+        match self.call() {
+            Or::First(_) => false,
+            Or::Second(Or::First(up)) => self.plan().state.point.links() && up.exchanged(),
+            Or::Second(Or::Second(change)) => change.exchanged(),
+        }
+    }
 }

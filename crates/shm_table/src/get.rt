@@ -2,7 +2,12 @@
 
 ghost use Rattle.std.specs.Prelude.{◌≡◌, ◌<◌, ◌+◌, ◌^◌};
 ghost use Rattle.shm_words.specs.Layout.{GeometryFits};
+ghost use Rattle.shm_calls.specs.CallsControl.{calls_control, calls_of};
+ghost use Rattle.shm_calls.specs.CallsFit.{CallsFits, CallsGives};
+ghost use Rattle.shm_calls.specs.CallsKeep.{calls_laws};
+ghost use Rattle.shm_table.specs.Effects.{get_effect};
 ghost use Rattle.shm_table.specs.GetControl as control;
+ghost use Rattle.shm_table.specs.GetControl.{get_parts};
 ghost use Rattle.shm_table.specs.GetFits.{get_plan};
 ghost use Rattle.shm_table.specs.GetLaws.{get_laws};
 
@@ -10,7 +15,8 @@ use crate::find::Found;
 use crate::locate::{Locate, Locating};
 use crate::unlatch::{Unlatch, Unlatching};
 use shm_calls::{Calls, Or, Plan, Word};
-use shm_graph::{Machine, Me};
+use shm_graph::{Ask, Machine, Me, Turn};
+use shm_script::Answer;
 use std::marker::Model;
 
 /// Which call of it comes next.
@@ -26,13 +32,6 @@ pub enum GetPoint {
     Missing,
     /// The number is known: the latch is given back.
     Known,
-}
-
-/// What a key has: a number, and the value block that holds it.
-#[derive(Clone, Copy, Debug, PartialEq, Eq, Drop)]
-pub struct Valued {
-    pub number: u64,
-    pub block: u32,
 }
 
 /// The control of it: the entry that was found, its value block and that block's number.
@@ -65,8 +64,74 @@ impl Model for Getting {
     ghost invariant = { λ a. GetInRange a.state };
 }
 
-/// It answers what the key has, or none where no entry has the key. The latch is given back then.
-pub type Get = Calls<Getting>;
+/// It answers what the key has, a number and the value block that holds it, or that no entry has the key. The latch is given back then.
+#[derive(Drop)]
+pub struct Get {
+    calls: Calls<Getting>,
+}
+
+impl Model for Get {
+    ghost use Rattle.shm_table.specs.GetControl.{GetCalls};
+
+    ghost Value = { GetCalls };
+
+    ghost view = { λ a. a.calls };
+}
+
+impl Get {
+    /// What the key `key` has in the table of `author` is to be read.
+    #[inline(always)]
+    pub fn new(me: Me, author: u8, key: u32) -> Get
+        requires geometry { GeometryFits me.geometry }
+        requires who { me.who < me.geometry.clients }
+        requires author { author < me.geometry.clients }
+        ensures { result ≡ calls_of get_plan (control.getting me author key) }
+    {
+        Get {
+            calls: Calls::new(Getting::new(me, author, key)),
+        }
+    }
+
+    /// What it will answer, where its deciding step was made; otherwise none.
+    #[inline(always)]
+    pub fn effect(&self) -> Option<Answer>
+        ensures { result ≡ get_effect self.now }
+    {
+        None
+    }
+}
+
+impl Machine for Get {
+    type Answer = Answer;
+
+    ghost control = { calls_control get_parts get_plan };
+
+    ghost fits = { CallsFits get_parts get_plan };
+
+    ghost gives = { CallsGives get_parts get_plan };
+
+    #[inline(always)]
+    fn me(&self) -> Me {
+        self.calls.me()
+    }
+
+    #[inline(always)]
+    fn finished(&self) -> bool {
+        self.calls.finished()
+    }
+
+    #[inline(always)]
+    fn ask(&self) -> Ask {
+        self.calls.ask()
+    }
+
+    #[inline(always)]
+    fn take(&mut self, seen: u64) -> Turn<Answer> {
+        self.calls.take(seen)
+    }
+
+    ghost laws = { calls_laws get_parts get_plan get_laws };
+}
 
 /// The address of the first word of a block after its header and its tag, or of one more.
 #[inline(always)]
@@ -121,13 +186,13 @@ impl GetState {
 
     /// What it answers once the latch is given back.
     #[inline(always)]
-    fn answer(&self) -> Option<Valued>
+    fn answer(&self) -> Answer
         ensures { result ≡ control.get_answer self.now self.now.point }
     {
         let GetState { number, block, .. } = *self;
         match self.point {
-            GetPoint::Known => Some(Valued { number, block }),
-            _ => None,
+            GetPoint::Known => Answer::Value { number, block },
+            _ => Answer::Missing,
         }
     }
 }
@@ -135,7 +200,7 @@ impl GetState {
 impl Plan for Getting {
     type Call = Or<Locate, Or<Word, Unlatch>>;
 
-    type Answer = Option<Valued>;
+    type Answer = Answer;
 
     ghost plan = { get_plan };
 
@@ -165,7 +230,7 @@ impl Plan for Getting {
     }
 
     #[inline(always)]
-    fn next(&mut self, answer: Or<Found, Or<u64, ()>>) -> Option<Option<Valued>> {
+    fn next(&mut self, answer: Or<Found, Or<u64, ()>>) -> Option<Answer> {
         match answer {
             Or::First(Found::At { entry, .. }) => {
                 self.state.entry = entry % (1 << 20);

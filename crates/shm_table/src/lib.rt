@@ -7,9 +7,12 @@
 pub mod answer;
 pub mod bound;
 pub mod changes;
+pub mod command;
 pub mod copy;
 pub mod copying;
 pub mod del;
+pub mod effect;
+pub mod effects;
 pub mod enter;
 pub mod events;
 pub mod fetch;
@@ -29,10 +32,15 @@ pub mod unlatch;
 pub mod unlink;
 
 pub use changes::{del_begins, del_bound, del_events, del_leaves};
+pub use command::Command;
 pub use copy::{CopyKey, Copying};
 pub use copying::{copy_begins, copy_bound, copy_events, copy_leaves};
-pub use del::{Del, DelAnswer, Deleting};
-pub use get::{Get, Getting, Valued};
+pub use del::{Del, Deleting};
+pub use effects::{
+    command_begins, command_events, command_foretells, command_leaves, commands_foretell,
+    parts_decide,
+};
+pub use get::{Get, Getting};
 pub use put::{Put, Putting};
 pub use putting::{put_begins, put_bound, put_events, put_leaves};
 pub use reading::{get_begins, get_bound, get_events, get_leaves, get_tells};

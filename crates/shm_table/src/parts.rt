@@ -8,6 +8,7 @@ pub use crate::changes::{
 pub use crate::copy::{CopyPoint, CopyState};
 pub use crate::copying::{fetch_begins, fetch_bound, fetch_events, fetch_leaves};
 pub use crate::del::{DelPoint, DelState};
+pub use crate::effect::Deciding;
 pub use crate::enter::{Enter, EnterPoint, EnterState, Entered, Entering};
 pub use crate::events::{
     enter_begins, enter_events, enter_leaves, find_begins, find_events, find_leaves, find_tells,

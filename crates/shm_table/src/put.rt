@@ -2,7 +2,12 @@
 
 ghost use Rattle.std.specs.Prelude.{◌≡◌, ◌<◌};
 ghost use Rattle.shm_words.specs.Layout.{GeometryFits};
+ghost use Rattle.shm_calls.specs.CallsControl.{calls_control, calls_of};
+ghost use Rattle.shm_calls.specs.CallsFit.{CallsFits, CallsGives};
+ghost use Rattle.shm_calls.specs.CallsKeep.{calls_laws};
+ghost use Rattle.shm_table.specs.Effects.{put_effect};
 ghost use Rattle.shm_table.specs.PutControl as control;
+ghost use Rattle.shm_table.specs.PutControl.{put_parts};
 ghost use Rattle.shm_table.specs.PutControl.{putting};
 ghost use Rattle.shm_table.specs.PutFits.{put_plan};
 ghost use Rattle.shm_table.specs.EnterLaws.{enter_laws};
@@ -13,11 +18,12 @@ ghost use Rattle.shm_table.specs.PutRootLaws.{put_root_laws};
 ghost use Rattle.shm_table.specs.ReplaceLaws.{replace_laws};
 
 use crate::answer::PutFault;
-use crate::put_root::PutRoot;
+use crate::effect::Deciding;
+use crate::put_root::{PutRoot, settled};
 use shm_alloc::{Alloc, AllocFault, Request};
 use shm_calls::{Calls, Or, Plan};
 use shm_count::{EraSpent, Made};
-use shm_graph::{Machine, Me};
+use shm_graph::{Ask, Machine, Me, Turn};
 use shm_ref::{DropRoot, Dropping};
 use shm_script::Answer;
 use std::marker::Model;
@@ -33,7 +39,8 @@ pub enum PutPoint {
     Drop,
 }
 
-/// The control of it: `block` is the value block and `root` its root; `refused` is why the key hasn't got it.
+/// The control of it: `block` is the value block and `root` its root; `decided` says whether the
+/// key came to have it, and `refused` is why it hasn't got it.
 #[derive(Clone, Copy, Debug, PartialEq, Eq, Drop)]
 pub struct PutState {
     pub me: Me,
@@ -41,6 +48,7 @@ pub struct PutState {
     pub number: u64,
     pub root: u8,
     pub block: u32,
+    pub decided: bool,
     pub refused: Option<PutFault>,
     pub point: PutPoint,
 }
@@ -49,7 +57,10 @@ pub struct PutState {
 pub type PutCall = Or<Alloc, Or<PutRoot, DropRoot>>;
 
 /// What its calls answer.
-pub type PutAnswer = Or<Result<Made, AllocFault>, Or<Result<(), PutFault>, Result<bool, EraSpent>>>;
+pub type PutAnswer = Or<
+    Result<Made, AllocFault>,
+    Or<Result<bool, PutFault>, Result<bool, EraSpent>>,
+>;
 
 /// The calls by which a key comes to have a number.
 #[derive(Drop)]
@@ -70,7 +81,87 @@ impl Model for Putting {
 }
 
 /// It answers the value block that the key has, or why it hasn't got one: from the step on by which it has it, no refusal changes the answer.
-pub type Put = Calls<Putting>;
+#[derive(Drop)]
+pub struct Put {
+    calls: Calls<Putting>,
+}
+
+impl Model for Put {
+    ghost use Rattle.shm_table.specs.PutControl.{PutCalls};
+
+    ghost Value = { PutCalls };
+
+    ghost view = { λ a. a.calls };
+}
+
+impl Put {
+    /// `key` is to have `number` in the table of `me`.
+    #[inline(always)]
+    pub fn new(me: Me, key: u32, number: u64) -> Put
+        requires geometry { GeometryFits me.geometry }
+        requires who { me.who < me.geometry.clients }
+        ensures { result ≡ calls_of put_plan (putting me key number) }
+    {
+        Put {
+            calls: Calls::new(Putting::new(me, key, number)),
+        }
+    }
+
+    /// What it will answer, where its deciding step was made; otherwise none.
+    #[inline(always)]
+    pub fn effect(&self) -> Option<Answer>
+        ensures { result ≡ put_effect self.now }
+    {
+        let PutState {
+            block,
+            decided,
+            refused,
+            ..
+        } = self.calls.plan().state;
+        let decided = match self.calls.call() {
+            Or::First(_) => false,
+            Or::Second(Or::First(put)) => put.decided(),
+            Or::Second(Or::Second(_)) => settled(decided, refused),
+        };
+        if decided {
+            Some(Answer::Stored { block })
+        } else {
+            None
+        }
+    }
+}
+
+impl Machine for Put {
+    type Answer = Answer;
+
+    ghost control = { calls_control put_parts put_plan };
+
+    ghost fits = { CallsFits put_parts put_plan };
+
+    ghost gives = { CallsGives put_parts put_plan };
+
+    #[inline(always)]
+    fn me(&self) -> Me {
+        self.calls.me()
+    }
+
+    #[inline(always)]
+    fn finished(&self) -> bool {
+        self.calls.finished()
+    }
+
+    #[inline(always)]
+    fn ask(&self) -> Ask {
+        self.calls.ask()
+    }
+
+    #[inline(always)]
+    fn take(&mut self, seen: u64) -> Turn<Answer> {
+        self.calls.take(seen)
+    }
+
+    ghost laws = { calls_laws put_parts put_plan (put_laws (put_root_laws open_laws locate_laws replace_laws enter_laws)) };
+}
 
 /// A block with the words of a value block, of which the number is the plain one.
 #[inline(always)]
@@ -121,6 +212,7 @@ impl Putting {
                 number,
                 root: 0,
                 block: 0,
+                decided: false,
                 refused: None,
                 point: PutPoint::Make,
             },
@@ -170,6 +262,7 @@ impl Plan for Putting {
             }
             Or::First(Err(fault)) => Some(PutFault::made(fault).answer()),
             Or::Second(Or::First(done)) => {
+                self.state.decided = matches!(done, Ok(true));
                 self.state.refused = done.err();
                 self.state.point = PutPoint::Drop;
                 None

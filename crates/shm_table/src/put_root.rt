@@ -2,6 +2,7 @@
 
 ghost use Rattle.std.specs.Prelude.{◌≡◌, ◌<◌, ◌^◌};
 ghost use Rattle.shm_words.specs.Layout.{GeometryFits};
+ghost use Rattle.shm_table.specs.Effects.{put_root_decided, settled};
 ghost use Rattle.shm_table.specs.PutRootControl as control;
 ghost use Rattle.shm_calls.specs.CallsControl.{calls_of};
 ghost use Rattle.shm_calls.specs.CallsFit.{CallsFits, CallsGives};
@@ -15,6 +16,7 @@ ghost use Rattle.shm_table.specs.PutRootLaws.{put_root_laws};
 ghost use Rattle.shm_table.specs.ReplaceLaws.{replace_laws};
 
 use crate::answer::PutFault;
+use crate::effect::Deciding;
 use crate::enter::{Enter, Entered, Entering};
 use crate::find::Found;
 use crate::locate::{Locate, Locating};
@@ -45,7 +47,7 @@ pub enum PutRootPoint {
 }
 
 /// The control of it: `value` is to be at `key`. `entry` is the entry that was found, or the directory is `home` and its bucket's first entry
-/// `first`; `root` is that of a new entry, and `refused` is why it came to nothing.
+/// `first`; `root` is that of a new entry, `decided` says whether the key came to have the block, and `refused` is why it came to nothing.
 #[derive(Clone, Copy, Debug, PartialEq, Eq, Drop)]
 pub struct PutRootState {
     pub me: Me,
@@ -55,6 +57,7 @@ pub struct PutRootState {
     pub first: u32,
     pub entry: u32,
     pub root: Option<u8>,
+    pub decided: bool,
     pub refused: Option<PutFault>,
     pub point: PutRootPoint,
 }
@@ -65,7 +68,7 @@ pub type PutRootCall = Or<Or<OpenTable, Locate>, Or<Or<Replace, Enter>, Or<Unlat
 /// What its calls answer.
 pub type PutRootAnswer = Or<
     Or<Result<(), PutFault>, Found>,
-    Or<Or<Result<(), PutFault>, Entered>, Or<(), Result<bool, EraSpent>>>,
+    Or<Or<Result<bool, PutFault>, Entered>, Or<(), Result<bool, EraSpent>>>,
 >;
 
 /// The calls by which a value block comes into the own table.
@@ -86,8 +89,8 @@ impl Model for PuttingRoot {
     ghost invariant = { λ a. PutRootInRange a.state };
 }
 
-/// The machine that makes them. It answers why the key hasn't the value block: from the step on by which it has it, no refusal changes the
-/// answer.
+/// The machine that makes them. It answers whether the key came to have the value block, or had it already, or why it hasn't got it: from the
+/// step on by which it has it, no refusal changes the answer.
 #[derive(Drop)]
 pub struct PutRoot {
     calls: Calls<PuttingRoot>,
@@ -117,7 +120,7 @@ impl PutRoot {
 }
 
 impl Machine for PutRoot {
-    type Answer = Result<(), PutFault>;
+    type Answer = Result<bool, PutFault>;
 
     ghost control = { put_root_control };
 
@@ -141,7 +144,7 @@ impl Machine for PutRoot {
     }
 
     #[inline(always)]
-    fn take(&mut self, seen: u64) -> Turn<Result<(), PutFault>> {
+    fn take(&mut self, seen: u64) -> Turn<Result<bool, PutFault>> {
         self.calls.take(seen)
     }
 
@@ -166,6 +169,7 @@ impl PuttingRoot {
                 first: 0,
                 entry: 0,
                 root: None,
+                decided: false,
                 refused: None,
                 point: PutRootPoint::Open,
             },
@@ -207,7 +211,11 @@ impl PutRootState {
     {
         self.point = PutRootPoint::Unlatch;
         match entered {
-            Entered::Linked { root } => self.root = Some(root % 16),
+            Entered::Linked { root } => {
+                self.root = Some(root % 16);
+                self.decided = true;
+                self.refused = None;
+            }
             Entered::Unlinked { root, fault } => {
                 self.root = Some(root % 16);
                 self.refused = Some(fault);
@@ -218,22 +226,22 @@ impl PutRootState {
 
     /// What it answers where nothing more was refused.
     #[inline(always)]
-    fn answer(self) -> Result<(), PutFault>
-        ensures { result ≡ control.put_answer self.refused }
+    fn answer(self) -> Result<bool, PutFault>
+        ensures { result ≡ control.put_answer self.decided self.refused }
     {
         match self.refused {
-            None => Ok(()),
+            None => Ok(self.decided),
             Some(fault) => Err(fault),
         }
     }
 
     /// What it answers where the root of the entry couldn't be dropped.
     #[inline(always)]
-    fn stuck(self, spent: EraSpent) -> Result<(), PutFault>
-        ensures { result ≡ control.stuck_answer self.refused spent }
+    fn stuck(self, spent: EraSpent) -> Result<bool, PutFault>
+        ensures { result ≡ control.stuck_answer self.decided self.refused spent }
     {
         match self.refused {
-            None => Ok(()),
+            None => Ok(self.decided),
             Some(_) => Err(PutFault::spent(spent)),
         }
     }
@@ -242,7 +250,7 @@ impl PutRootState {
 impl Plan for PuttingRoot {
     type Call = PutRootCall;
 
-    type Answer = Result<(), PutFault>;
+    type Answer = Result<bool, PutFault>;
 
     ghost plan = { put_root_plan };
 
@@ -286,7 +294,7 @@ impl Plan for PuttingRoot {
     }
 
     #[inline(always)]
-    fn next(&mut self, answer: PutRootAnswer) -> Option<Result<(), PutFault>> {
+    fn next(&mut self, answer: PutRootAnswer) -> Option<Result<bool, PutFault>> {
         match answer {
             Or::First(Or::First(Ok(()))) => {
                 self.state.point = PutRootPoint::Locate;
@@ -298,6 +306,7 @@ impl Plan for PuttingRoot {
                 None
             }
             Or::Second(Or::First(Or::First(done))) => {
+                self.state.decided = matches!(done, Ok(true));
                 self.state.refused = done.err();
                 self.state.point = PutRootPoint::Unlatch;
                 None
@@ -320,4 +329,35 @@ impl Plan for PuttingRoot {
     }
 
     ghost laws = { put_root_laws open_laws locate_laws replace_laws enter_laws };
+}
+
+/// Whether the deciding step was made: where it was refused it wasn't.
+#[inline(always)]
+pub(crate) fn settled(decided: bool, refused: Option<PutFault>) -> bool
+    ensures { result ≡ settled decided refused }
+{
+    match refused {
+        None => decided,
+        Some(_) => false,
+    }
+}
+
+impl Deciding for PutRoot {
+    ghost decided = { put_root_decided };
+
+    /// The entry's other value decides, or the new entry.
+    #[inline(always)]
+    fn decided(&self) -> bool {
+        let PutRootState {
+            decided,
+            refused,
+            ..
+        } = self.calls.plan().state;
+        match self.calls.call() {
+            Or::First(_) => false,
+            Or::Second(Or::First(Or::First(replace))) => replace.decided(),
+            Or::Second(Or::First(Or::Second(enter))) => enter.decided(),
+            Or::Second(Or::Second(_)) => settled(decided, refused),
+        }
+    }
 }

@@ -1,7 +1,7 @@
 //! When a value block may come into the own table, and a key to have a number, what that does to the graph of references and to the map,
 //! what it leaves, and how many word steps it takes.
 
-ghost use Rattle.std.specs.Prelude.{ℕ, ◌+◌, ◌*◌, ◌^◌, ◌<◌, Result, []};
+ghost use Rattle.std.specs.Prelude.{ℕ, ◌+◌, ◌*◌, ◌^◌, ◌<◌, Bool, Result, []};
 ghost use Rattle.shm_graph.specs.declared.ask.Me.{Me as AMe};
 ghost use Rattle.shm_graph.specs.declared.memo.Memo.{Memo as AMemo};
 ghost use Rattle.shm_graph.specs.Asks.{Trail};
@@ -34,15 +34,15 @@ pub fn put_root_events()
 /// The key has the value block and its number, and no other key changed; or the refusal says why it hasn't, and the map is as before. No
 /// latch is held.
 pub fn put_root_leaves()
-    ensures leaves { (me : AMe) (key v : ℕ) (r0 r : AMemo) (tr : Trail) (a : Result (Unit {0}) AFault) → PutRootGives me key v r0 r tr a → PutRootLeaves (putting_root me key v) r0 r tr (put_root_told me key v tr) a }
-    ensures trail { (me : AMe) (key v : ℕ) (r0 r : AMemo) (tr : Trail) (a : Result (Unit {0}) AFault) → PutRootGives me key v r0 r tr a → plan_trail put_root_plan (putting_root me key v) tr a }
+    ensures leaves { (me : AMe) (key v : ℕ) (r0 r : AMemo) (tr : Trail) (a : Result Bool AFault) → PutRootGives me key v r0 r tr a → PutRootLeaves (putting_root me key v) r0 r tr (put_root_told me key v tr) a }
+    ensures trail { (me : AMe) (key v : ℕ) (r0 r : AMemo) (tr : Trail) (a : Result Bool AFault) → PutRootGives me key v r0 r tr a → plan_trail put_root_plan (putting_root me key v) tr a }
 {}
 
 /// It takes at most the word steps of its calls, 2 for each key that it read, and 164 for each block that it freed or left on the way; that
 /// is within what a command may take.
 pub fn put_root_bound()
-    ensures own { (me : AMe) (key v : ℕ) (r0 r : AMemo) (tr : Trail) (a : Result (Unit {0}) AFault) → PutRootGives me key v r0 r tr a → IsPutShort me key (λ k t. put_root_steps me.geometry.segments + 2 * k + tear_steps t) r tr (put_root_told me key v tr) }
-    ensures command { (me : AMe) (key v : ℕ) (r0 r : AMemo) (tr : Trail) (a : Result (Unit {0}) AFault) → PutRootGives me key v r0 r tr a → IsPutShort me key (command_steps me.geometry.segments) r tr (put_root_told me key v tr) }
+    ensures own { (me : AMe) (key v : ℕ) (r0 r : AMemo) (tr : Trail) (a : Result Bool AFault) → PutRootGives me key v r0 r tr a → IsPutShort me key (λ k t. put_root_steps me.geometry.segments + 2 * k + tear_steps t) r tr (put_root_told me key v tr) }
+    ensures command { (me : AMe) (key v : ℕ) (r0 r : AMemo) (tr : Trail) (a : Result Bool AFault) → PutRootGives me key v r0 r tr a → IsPutShort me key (command_steps me.geometry.segments) r tr (put_root_told me key v tr) }
 {}
 
 /// That a key is to have a number fits each memo of a client between two calls, in a pool for tables, with no latch.

@@ -1,7 +1,7 @@
 //! When machines that read a table may begin, that they do nothing to the graph of references, what they leave, and how many word steps
 //! they make.
 
-ghost use Rattle.std.specs.Prelude.{◌≡◌, ℕ, ◌+◌, ◌*◌, Option, Some, None, List, [], length};
+ghost use Rattle.std.specs.Prelude.{◌≡◌, ℕ, ◌+◌, ◌*◌, Some, None, List, [], length};
 ghost use Rattle.shm_graph.specs.declared.ask.Me.{Me as AMe};
 ghost use Rattle.shm_graph.specs.declared.memo.Memo.{Memo as AMemo};
 ghost use Rattle.shm_graph.specs.declared.spot.Spot.{Spot as ASpot};
@@ -16,10 +16,11 @@ ghost use Rattle.shm_calls.specs.CallsFit.{CallsFits};
 ghost use Rattle.shm_calls.specs.Plans.{plan_trail};
 ghost use Rattle.shm_calls.specs.Words.{word_control};
 ghost use Rattle.shm_steps.specs.Reparting.{map_in};
+ghost use Rattle.shm_script.specs.declared.log.Answer.{Answer as AnAnswer};
+ghost use Rattle.shm_script.specs.declared.log.Answer.TheVariants as answer;
 ghost use Rattle.shm_table.specs.declared.find.Found.{Found as AFound};
 ghost use Rattle.shm_table.specs.declared.find.Found.TheVariants.{Absent, At};
 ghost use Rattle.shm_table.specs.declared.get.GetState.{GetState as AGetState};
-ghost use Rattle.shm_table.specs.declared.get.Valued.{Valued as AValued};
 ghost use Rattle.shm_table.specs.FindBound.{keys_read};
 ghost use Rattle.shm_table.specs.FindControl.{Passed};
 ghost use Rattle.shm_table.specs.FindTells.{HasRead};
@@ -92,29 +93,29 @@ pub fn get_begins()
 /// No word step of it is an event.
 pub fn get_events()
     ensures tells { Tells get (CallsFits get_parts get_plan) (calls_does get_parts get_plan) }
-    ensures none { (me : AMe) (a key : ℕ) (r0 r : AMemo) (tr : Trail) (b : Option AValued) → GetGives me a key r0 r tr b → get_told me a key tr ≡ [] }
+    ensures none { (me : AMe) (a key : ℕ) (r0 r : AMemo) (tr : Trail) (b : AnAnswer) → GetGives me a key r0 r tr b → get_told me a key tr ≡ [] }
 {}
 
 /// But for what is known the memo is as before, with no latch and no look; and what was answered is what was read.
 pub fn get_leaves()
-    ensures leaves { (me : AMe) (a key : ℕ) (r0 r : AMemo) (tr : Trail) (b : Option AValued) → GetGives me a key r0 r tr b → GetLeaves (getting me a key) r0 r tr (get_told me a key tr) b }
-    ensures trail { (me : AMe) (a key : ℕ) (r0 r : AMemo) (tr : Trail) (b : Option AValued) → GetGives me a key r0 r tr b → plan_trail get_plan (getting me a key) tr b }
+    ensures leaves { (me : AMe) (a key : ℕ) (r0 r : AMemo) (tr : Trail) (b : AnAnswer) → GetGives me a key r0 r tr b → GetLeaves (getting me a key) r0 r tr (get_told me a key tr) b }
+    ensures trail { (me : AMe) (a key : ℕ) (r0 r : AMemo) (tr : Trail) (b : AnAnswer) → GetGives me a key r0 r tr b → plan_trail get_plan (getting me a key) tr b }
 {}
 
 /// In the own table the answer is what the map has at the key. In any table a machine that is about to give back the latch, once the number
 /// is known, has a memo that shows the chain up to the entry, its value word and the number: in each state that holds with that memo they are
 /// what the author's map has at the key.
 pub fn get_tells()
-    ensures missing { (me : AMe) (a key : ℕ) (r0 r : AMemo) (tr : Trail) → a ≡ me.who → GetGives me a key r0 r tr None → map_in r0.part key ≡ None }
-    ensures found { (me : AMe) (a key : ℕ) (r0 r : AMemo) (tr : Trail) (x : AValued) → a ≡ me.who → GetGives me a key r0 r tr (Some x) → map_in r0.part key ≡ Some (x.number, x.block) }
-    ensures told { (m : ACalls AGetState GetCall (Option AValued) GetAnswer) (r0 r : AMemo) (tr : Trail) → CallsFits get_parts get_plan m r0 r tr → IsReady m → IsTold m.plan.author m.plan.key m.plan.entry m.plan.number m.plan.block r }
-    ensures map { (m : ACalls AGetState GetCall (Option AValued) GetAnswer) (r0 r : AMemo) (tr : Trail) → CallsFits get_parts get_plan m r0 r tr → IsReady m → (w : ASpot → ℕ) (rs : ℕ → AMemo) → HeldAt m.plan.me.geometry w (view rs) → rs m.plan.me.who ≡ r → map_in (rs m.plan.author).part m.plan.key ≡ Some (m.plan.number, m.plan.block) }
+    ensures missing { (me : AMe) (a key : ℕ) (r0 r : AMemo) (tr : Trail) → a ≡ me.who → GetGives me a key r0 r tr answer.Missing → map_in r0.part key ≡ None }
+    ensures found { (me : AMe) (a key : ℕ) (r0 r : AMemo) (tr : Trail) (n v : ℕ) → a ≡ me.who → GetGives me a key r0 r tr (answer.Value n v) → map_in r0.part key ≡ Some (n, v) }
+    ensures told { (m : ACalls AGetState GetCall AnAnswer GetAnswer) (r0 r : AMemo) (tr : Trail) → CallsFits get_parts get_plan m r0 r tr → IsReady m → IsTold m.plan.author m.plan.key m.plan.entry m.plan.number m.plan.block r }
+    ensures map { (m : ACalls AGetState GetCall AnAnswer GetAnswer) (r0 r : AMemo) (tr : Trail) → CallsFits get_parts get_plan m r0 r tr → IsReady m → (w : ASpot → ℕ) (rs : ℕ → AMemo) → HeldAt m.plan.me.geometry w (view rs) → rs m.plan.me.who ≡ r → map_in (rs m.plan.author).part m.plan.key ≡ Some (m.plan.number, m.plan.block) }
 {}
 
 /// Where the key was missing it took at most 6 word steps, and 2 for each entry whose key it read; otherwise 7 and so many; and three more for
 /// each exchange that failed.
 pub fn get_bound()
-    ensures missing { (me : AMe) (a key : ℕ) (r0 r : AMemo) (tr : Trail) → GetGives me a key r0 r tr None → (ps : List Passed) × GetAsked me a key ps tr None × IsWithin (6 + 2 * keys_got ps None) tr }
-    ensures found { (me : AMe) (a key : ℕ) (r0 r : AMemo) (tr : Trail) (x : AValued) → GetGives me a key r0 r tr (Some x) → (ps : List Passed) × GetAsked me a key ps tr (Some x) × IsWithin (7 + 2 * keys_got ps (Some x)) tr }
-    ensures within { (me : AMe) (a key : ℕ) (r0 r : AMemo) (tr : Trail) (b : Option AValued) → GetGives me a key r0 r tr b → (ps : List Passed) × GetAsked me a key ps tr b × IsWithin (command_steps me.geometry.segments (keys_got ps b) 0) tr }
+    ensures missing { (me : AMe) (a key : ℕ) (r0 r : AMemo) (tr : Trail) → GetGives me a key r0 r tr answer.Missing → (ps : List Passed) × GetAsked me a key ps tr answer.Missing × IsWithin (6 + 2 * keys_got ps answer.Missing) tr }
+    ensures found { (me : AMe) (a key : ℕ) (r0 r : AMemo) (tr : Trail) (n v : ℕ) → GetGives me a key r0 r tr (answer.Value n v) → (ps : List Passed) × GetAsked me a key ps tr (answer.Value n v) × IsWithin (7 + 2 * keys_got ps (answer.Value n v)) tr }
+    ensures within { (me : AMe) (a key : ℕ) (r0 r : AMemo) (tr : Trail) (b : AnAnswer) → GetGives me a key r0 r tr b → (ps : List Passed) × GetAsked me a key ps tr b × IsWithin (command_steps me.geometry.segments (keys_got ps b) 0) tr }
 {}

@@ -2,12 +2,14 @@
 
 ghost use Rattle.std.specs.Prelude.{◌≡◌, ◌%◌, ◌^◌, ◌+◌, ◌<◌};
 ghost use Rattle.shm_words.specs.Layout.{GeometryFits};
+ghost use Rattle.shm_table.specs.Effects.{replace_decided};
 ghost use Rattle.shm_table.specs.ReplaceControl as control;
 ghost use Rattle.shm_table.specs.ReplaceControl.{replacing};
 ghost use Rattle.shm_table.specs.ReplaceFits.{replace_plan};
 ghost use Rattle.shm_table.specs.ReplaceLaws.{replace_laws};
 
 use crate::answer::PutFault;
+use crate::effect::Deciding;
 use shm_calls::{Calls, Or, Plan, Word};
 use shm_count::{EraSpent, StepChange, TearDown, UpFault};
 use shm_graph::{Machine, Me};
@@ -58,7 +60,8 @@ impl Model for Replacing {
     ghost invariant = { λ a. ReplaceInRange a.state };
 }
 
-/// It answers a `PutFault` where the change was refused; a tear-down that is refused leaves blocks behind, and changes no answer.
+/// It answers whether the entry came to have the value block, or had it already, and a `PutFault` where the change was refused; a tear-down
+/// that is refused leaves blocks behind, and changes no answer.
 pub type Replace = Calls<Replacing>;
 
 impl Replacing {
@@ -86,7 +89,7 @@ impl Replacing {
 impl ReplaceState {
     /// Where it goes, and what it answers, by the word that was found.
     #[inline(always)]
-    fn found(&mut self, word: u64) -> Option<Result<(), PutFault>>
+    fn found(&mut self, word: u64) -> Option<Result<bool, PutFault>>
         ensures state { self.new ≡ control.found_after self.old word }
         ensures answer { result ≡ control.found_turns self.old word }
     {
@@ -94,7 +97,7 @@ impl ReplaceState {
         self.before = before;
         self.point = ReplacePoint::Change;
         if before == self.to {
-            Some(Ok(()))
+            Some(Ok(false))
         } else {
             None
         }
@@ -102,7 +105,7 @@ impl ReplaceState {
 
     /// Where it goes, and what it answers, once the old block lost a reference: `zero` says whether its count came to 0.
     #[inline(always)]
-    fn lowered(&mut self, zero: bool) -> Option<Result<(), PutFault>>
+    fn lowered(&mut self, zero: bool) -> Option<Result<bool, PutFault>>
         ensures state { self.new ≡ control.lowered_after self.old zero }
         ensures answer { result ≡ control.lowered_turns zero }
     {
@@ -110,7 +113,7 @@ impl ReplaceState {
             self.point = ReplacePoint::Tear;
             None
         } else {
-            Some(Ok(()))
+            Some(Ok(true))
         }
     }
 }
@@ -118,7 +121,7 @@ impl ReplaceState {
 impl Plan for Replacing {
     type Call = ReplaceCall;
 
-    type Answer = Result<(), PutFault>;
+    type Answer = Result<bool, PutFault>;
 
     ghost plan = { replace_plan };
 
@@ -148,14 +151,28 @@ impl Plan for Replacing {
     }
 
     #[inline(always)]
-    fn next(&mut self, answer: ReplaceAnswer) -> Option<Result<(), PutFault>> {
+    fn next(&mut self, answer: ReplaceAnswer) -> Option<Result<bool, PutFault>> {
         match answer {
             Or::First(word) => self.state.found(word),
             Or::Second(Or::First(Ok(zero))) => self.state.lowered(zero),
             Or::Second(Or::First(Err(fault))) => Some(Err(PutFault::raised(fault))),
-            Or::Second(Or::Second(_)) => Some(Ok(())),
+            Or::Second(Or::Second(_)) => Some(Ok(true)),
         }
     }
 
     ghost laws = { replace_laws };
+}
+
+impl Deciding for Replace {
+    ghost decided = { replace_decided };
+
+    /// The change decides, and a tear-down comes after it.
+    #[inline(always)]
+    fn decided(&self) -> bool {
+        match self.call() {
+            Or::First(_) => false,
+            Or::Second(Or::First(change)) => change.exchanged(),
+            Or::Second(Or::Second(_)) => true,
+        }
+    }
 }

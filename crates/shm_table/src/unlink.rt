@@ -3,11 +3,13 @@
 
 ghost use Rattle.std.specs.Prelude.{◌≡◌, ◌%◌, ◌^◌, ◌+◌, ◌<◌};
 ghost use Rattle.shm_words.specs.Layout.{GeometryFits};
+ghost use Rattle.shm_table.specs.Effects.{unlink_decided};
 ghost use Rattle.shm_table.specs.UnlinkControl as control;
 ghost use Rattle.shm_table.specs.UnlinkControl.{unlinking};
 ghost use Rattle.shm_table.specs.UnlinkFits.{unlink_plan};
 ghost use Rattle.shm_table.specs.UnlinkLaws.{unlink_laws};
 
+use crate::effect::Deciding;
 use shm_calls::{Calls, Or, Plan, Word};
 use shm_count::{EraSpent, StepChange, StepDown, TearDown, UpFault};
 use shm_graph::{Machine, Me};
@@ -187,4 +189,19 @@ impl Plan for Unlinking {
     }
 
     ghost laws = { unlink_laws };
+}
+
+impl Deciding for Unlink {
+    ghost decided = { unlink_decided };
+
+    /// The step at the word that leads to the entry decides, and a tear-down comes after it.
+    #[inline(always)]
+    fn decided(&self) -> bool {
+        match self.call() {
+            Or::First(_) => false,
+            Or::Second(Or::First(down)) => down.exchanged(),
+            Or::Second(Or::Second(Or::First(change))) => change.exchanged(),
+            Or::Second(Or::Second(Or::Second(_))) => true,
+        }
+    }
 }

@@ -1,11 +1,10 @@
 //! Copies that are refused, step by step and on the words of a pool, against an independent implementation.
 
-use shm_calls::Calls;
 use shm_graph::Me;
 use shm_runs::Step::{Exchange, Load, Store};
 use shm_runs::{Run, TABLE, runs_over};
 use shm_script::Answer;
-use shm_table::{CopyKey, Copying};
+use shm_table::CopyKey;
 use shm_words::Geometry;
 use std::test::Fail;
 
@@ -56,7 +55,7 @@ const NO_SEGMENT_IS_FREE: Run = Run {
 #[test]
 fn no_segment_is_free(rt: HostRuntime) -> Result<(), Fail> {
     let me = Me::new(Geometry::new(3, 1)?, 2);
-    let machine: CopyKey = Calls::new(Copying::new(me, 6, 1, 5));
+    let machine = CopyKey::new(me, 6, 1, 5);
     assert!(rt;
         runs_over(
             rt.alloc(),
@@ -97,7 +96,7 @@ const A_FULL_COUNT_IS_NOT_RAISED: Run = Run {
 #[test]
 fn a_full_count_is_not_raised(rt: HostRuntime) -> Result<(), Fail> {
     let me = Me::new(Geometry::new(3, 1)?, 2);
-    let machine: CopyKey = Calls::new(Copying::new(me, 6, 1, 5));
+    let machine = CopyKey::new(me, 6, 1, 5);
     assert!(rt;
         runs_over(
             rt.alloc(),
@@ -168,7 +167,7 @@ const NO_ROOT_IS_EMPTY: Run = Run {
 #[test]
 fn no_root_is_empty(rt: HostRuntime) -> Result<(), Fail> {
     let me = Me::new(Geometry::new(3, 1)?, 2);
-    let machine: CopyKey = Calls::new(Copying::new(me, 6, 1, 5));
+    let machine = CopyKey::new(me, 6, 1, 5);
     assert!(rt;
         runs_over(
             rt.alloc(),
@@ -272,7 +271,7 @@ const ONE_ROOT_IS_EMPTY: Run = Run {
 #[test]
 fn one_root_is_empty(rt: HostRuntime) -> Result<(), Fail> {
     let me = Me::new(Geometry::new(3, 1)?, 2);
-    let machine: CopyKey = Calls::new(Copying::new(me, 6, 1, 5));
+    let machine = CopyKey::new(me, 6, 1, 5);
     assert!(rt;
         runs_over(
             rt.alloc(),
@@ -307,7 +306,7 @@ const NO_ERA_IS_LEFT_FOR_THE_ROOT: Run = Run {
 #[test]
 fn no_era_is_left_for_the_root(rt: HostRuntime) -> Result<(), Fail> {
     let me = Me::new(Geometry::new(3, 1)?, 2);
-    let machine: CopyKey = Calls::new(Copying::new(me, 6, 1, 5));
+    let machine = CopyKey::new(me, 6, 1, 5);
     assert!(rt;
         runs_over(
             rt.alloc(),
@@ -362,7 +361,7 @@ const NO_ERA_IS_LEFT_AFTER_THE_ROOT: Run = Run {
 #[test]
 fn no_era_is_left_after_the_root(rt: HostRuntime) -> Result<(), Fail> {
     let me = Me::new(Geometry::new(3, 1)?, 2);
-    let machine: CopyKey = Calls::new(Copying::new(me, 6, 1, 5));
+    let machine = CopyKey::new(me, 6, 1, 5);
     assert!(rt;
         runs_over(
             rt.alloc(),

@@ -1,11 +1,10 @@
 //! Copies of what a key has, step by step and on the words of a pool, against an independent implementation.
 
-use shm_calls::Calls;
 use shm_graph::Me;
 use shm_runs::Step::{Exchange, Load, Store};
 use shm_runs::{Run, TABLE, runs_over};
 use shm_script::Answer;
-use shm_table::{CopyKey, Copying};
+use shm_table::CopyKey;
 use shm_words::Geometry;
 use std::test::Fail;
 
@@ -148,7 +147,7 @@ const A_KEY_OF_ANOTHER_TABLE_IS_COPIED_INTO_AN_EMPTY_ONE: Run = Run {
 #[test]
 fn a_key_of_another_table_is_copied_into_an_empty_one(rt: HostRuntime) -> Result<(), Fail> {
     let me = Me::new(Geometry::new(3, 1)?, 2);
-    let machine: CopyKey = Calls::new(Copying::new(me, 6, 1, 5));
+    let machine = CopyKey::new(me, 6, 1, 5);
     assert!(rt;
         runs_over(
             rt.alloc(),
@@ -228,7 +227,7 @@ fn another_key_of_the_same_table_comes_to_have_the_value_block(
     rt: HostRuntime,
 ) -> Result<(), Fail> {
     let me = Me::new(Geometry::new(3, 1)?, 1);
-    let machine: CopyKey = Calls::new(Copying::new(me, 21, 1, 5));
+    let machine = CopyKey::new(me, 21, 1, 5);
     assert!(rt;
         runs_over(
             rt.alloc(),
@@ -288,7 +287,7 @@ const A_KEY_COPIED_TO_ITSELF_KEEPS_ITS_VALUE_BLOCK: Run = Run {
 #[test]
 fn a_key_copied_to_itself_keeps_its_value_block(rt: HostRuntime) -> Result<(), Fail> {
     let me = Me::new(Geometry::new(3, 1)?, 1);
-    let machine: CopyKey = Calls::new(Copying::new(me, 5, 1, 5));
+    let machine = CopyKey::new(me, 5, 1, 5);
     assert!(rt;
         runs_over(
             rt.alloc(),
@@ -328,7 +327,7 @@ const A_MISSING_KEY_IS_NOT_COPIED: Run = Run {
 #[test]
 fn a_missing_key_is_not_copied(rt: HostRuntime) -> Result<(), Fail> {
     let me = Me::new(Geometry::new(3, 1)?, 2);
-    let machine: CopyKey = Calls::new(Copying::new(me, 6, 1, 53));
+    let machine = CopyKey::new(me, 6, 1, 53);
     assert!(rt;
         runs_over(
             rt.alloc(),

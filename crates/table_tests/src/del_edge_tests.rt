@@ -1,11 +1,10 @@
 //! Keys removed at the end of a bucket and with the last eras, and keys that are missing or stay, against an independent implementation.
 
-use shm_calls::Calls;
-use shm_count::UpFault;
 use shm_graph::Me;
 use shm_runs::Step::{Exchange, Load, Store};
 use shm_runs::{Run, TABLE, runs};
-use shm_table::{Del, DelAnswer, Deleting};
+use shm_script::Answer;
+use shm_table::Del;
 use shm_words::Geometry;
 use std::test::Fail;
 
@@ -101,13 +100,13 @@ const THE_LAST_KEY_OF_A_BUCKET_IS_REMOVED: Run = Run {
 #[test]
 fn the_last_key_of_a_bucket_is_removed(rt: HostRuntime) -> Result<(), Fail> {
     let me = Me::new(Geometry::new(1, 1)?, 0);
-    let machine: Del = Calls::new(Deleting::new(me, 5));
+    let machine = Del::new(me, 5);
     assert!(rt;
         runs(
             rt.alloc(),
             machine,
             &THE_LAST_KEY_OF_A_BUCKET_IS_REMOVED,
-            DelAnswer::Removed
+            Answer::Ok
         )?
     );
     Ok(())
@@ -162,13 +161,13 @@ const ANOTHER_KEY_OF_THE_BUCKET_IS_MISSING: Run = Run {
 #[test]
 fn another_key_of_the_bucket_is_missing(rt: HostRuntime) -> Result<(), Fail> {
     let me = Me::new(Geometry::new(1, 1)?, 0);
-    let machine: Del = Calls::new(Deleting::new(me, 53));
+    let machine = Del::new(me, 53);
     assert!(rt;
         runs(
             rt.alloc(),
             machine,
             &ANOTHER_KEY_OF_THE_BUCKET_IS_MISSING,
-            DelAnswer::Missing
+            Answer::Missing
         )?
     );
     Ok(())
@@ -191,13 +190,13 @@ const A_KEY_OF_NO_TABLE_IS_MISSING: Run = Run {
 #[test]
 fn a_key_of_no_table_is_missing(rt: HostRuntime) -> Result<(), Fail> {
     let me = Me::new(Geometry::new(1, 1)?, 0);
-    let machine: Del = Calls::new(Deleting::new(me, 5));
+    let machine = Del::new(me, 5);
     assert!(rt;
         runs(
             rt.alloc(),
             machine,
             &A_KEY_OF_NO_TABLE_IS_MISSING,
-            DelAnswer::Missing
+            Answer::Missing
         )?
     );
     Ok(())
@@ -243,15 +242,15 @@ const A_KEY_STAYS_WHERE_NO_ERA_IS_LEFT: Run = Run {
 #[test]
 fn a_key_stays_where_no_era_is_left(rt: HostRuntime) -> Result<(), Fail> {
     let me = Me::new(Geometry::new(1, 1)?, 0);
-    let machine: Del = Calls::new(Deleting::new(me, 5));
+    let machine = Del::new(me, 5);
     assert!(rt;
         runs(
             rt.alloc(),
             machine,
             &A_KEY_STAYS_WHERE_NO_ERA_IS_LEFT,
-            DelAnswer::Refused(UpFault::EraSpent {
+            Answer::EraSpent {
                 era: 140_737_488_355_326
-            })
+            }
         )?
     );
     Ok(())
@@ -307,16 +306,16 @@ const A_KEY_STAYS_BEFORE_A_FULL_ENTRY: Run = Run {
 #[test]
 fn a_key_stays_before_a_full_entry(rt: HostRuntime) -> Result<(), Fail> {
     let me = Me::new(Geometry::new(1, 1)?, 0);
-    let machine: Del = Calls::new(Deleting::new(me, 21));
+    let machine = Del::new(me, 21);
     assert!(rt;
         runs(
             rt.alloc(),
             machine,
             &A_KEY_STAYS_BEFORE_A_FULL_ENTRY,
-            DelAnswer::Refused(UpFault::CountFull {
+            Answer::CountFull {
                 block: 306,
                 count: 1023
-            })
+            }
         )?
     );
     Ok(())
@@ -376,13 +375,13 @@ const A_KEY_IS_REMOVED_WITH_THE_LAST_ERA: Run = Run {
 #[test]
 fn a_key_is_removed_with_the_last_era(rt: HostRuntime) -> Result<(), Fail> {
     let me = Me::new(Geometry::new(1, 1)?, 0);
-    let machine: Del = Calls::new(Deleting::new(me, 5));
+    let machine = Del::new(me, 5);
     assert!(rt;
         runs(
             rt.alloc(),
             machine,
             &A_KEY_IS_REMOVED_WITH_THE_LAST_ERA,
-            DelAnswer::Removed
+            Answer::Ok
         )?
     );
     Ok(())

@@ -1,10 +1,10 @@
 //! Keys removed, step by step and on the words of a pool, against an independent implementation.
 
-use shm_calls::Calls;
 use shm_graph::Me;
 use shm_runs::Step::{Exchange, Load, Store};
 use shm_runs::{Run, runs};
-use shm_table::{Del, DelAnswer, Deleting};
+use shm_script::Answer;
+use shm_table::Del;
 use shm_words::Geometry;
 use std::test::Fail;
 
@@ -82,13 +82,13 @@ const THE_ONLY_KEY_IS_REMOVED: Run = Run {
 #[test]
 fn the_only_key_is_removed(rt: HostRuntime) -> Result<(), Fail> {
     let me = Me::new(Geometry::new(1, 1)?, 0);
-    let machine: Del = Calls::new(Deleting::new(me, 5));
+    let machine = Del::new(me, 5);
     assert!(rt;
         runs(
             rt.alloc(),
             machine,
             &THE_ONLY_KEY_IS_REMOVED,
-            DelAnswer::Removed
+            Answer::Ok
         )?
     );
     Ok(())
@@ -129,13 +129,13 @@ const A_REMOVED_KEY_IS_MISSING: Run = Run {
 #[test]
 fn a_removed_key_is_missing(rt: HostRuntime) -> Result<(), Fail> {
     let me = Me::new(Geometry::new(1, 1)?, 0);
-    let machine: Del = Calls::new(Deleting::new(me, 5));
+    let machine = Del::new(me, 5);
     assert!(rt;
         runs(
             rt.alloc(),
             machine,
             &A_REMOVED_KEY_IS_MISSING,
-            DelAnswer::Missing
+            Answer::Missing
         )?
     );
     Ok(())
@@ -221,13 +221,13 @@ const A_VALUE_THAT_ANOTHER_NAMES_STAYS: Run = Run {
 #[test]
 fn a_value_that_another_names_stays(rt: HostRuntime) -> Result<(), Fail> {
     let me = Me::new(Geometry::new(2, 2)?, 0);
-    let machine: Del = Calls::new(Deleting::new(me, 5));
+    let machine = Del::new(me, 5);
     assert!(rt;
         runs(
             rt.alloc(),
             machine,
             &A_VALUE_THAT_ANOTHER_NAMES_STAYS,
-            DelAnswer::Removed
+            Answer::Ok
         )?
     );
     Ok(())
@@ -329,13 +329,13 @@ const THE_FIRST_KEY_OF_A_BUCKET_IS_REMOVED: Run = Run {
 #[test]
 fn the_first_key_of_a_bucket_is_removed(rt: HostRuntime) -> Result<(), Fail> {
     let me = Me::new(Geometry::new(1, 1)?, 0);
-    let machine: Del = Calls::new(Deleting::new(me, 37));
+    let machine = Del::new(me, 37);
     assert!(rt;
         runs(
             rt.alloc(),
             machine,
             &THE_FIRST_KEY_OF_A_BUCKET_IS_REMOVED,
-            DelAnswer::Removed
+            Answer::Ok
         )?
     );
     Ok(())
@@ -439,13 +439,13 @@ const A_KEY_BETWEEN_OTHERS_IS_REMOVED: Run = Run {
 #[test]
 fn a_key_between_others_is_removed(rt: HostRuntime) -> Result<(), Fail> {
     let me = Me::new(Geometry::new(1, 1)?, 0);
-    let machine: Del = Calls::new(Deleting::new(me, 21));
+    let machine = Del::new(me, 21);
     assert!(rt;
         runs(
             rt.alloc(),
             machine,
             &A_KEY_BETWEEN_OTHERS_IS_REMOVED,
-            DelAnswer::Removed
+            Answer::Ok
         )?
     );
     Ok(())

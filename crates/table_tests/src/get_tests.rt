@@ -6,7 +6,8 @@ use shm_graph::Me;
 use shm_runs::Step::{Exchange, Load, Lost, Others, Store};
 use shm_runs::{Run, TABLE, runs_over};
 use shm_table::parts::{Found, Locate, Locating, Unlatch, Unlatching};
-use shm_table::{Get, Getting, Valued};
+use shm_script::Answer;
+use shm_table::Get;
 use shm_words::Geometry;
 use std::test::Fail;
 
@@ -89,17 +90,17 @@ const A_KEY_OF_ANOTHER_TABLE_IS_READ: Run = Run {
 #[test]
 fn a_key_of_another_table_is_read(rt: HostRuntime) -> Result<(), Fail> {
     let me = Me::new(Geometry::new(3, 1)?, 2);
-    let machine: Get = Calls::new(Getting::new(me, 1, 5));
+    let machine = Get::new(me, 1, 5);
     assert!(rt;
         runs_over(
             rt.alloc(),
             &TABLE,
             machine,
             &A_KEY_OF_ANOTHER_TABLE_IS_READ,
-            Some(Valued {
+            Answer::Value {
                 number: 70,
                 block: 188
-            })
+            }
         )?
     );
     Ok(())
@@ -128,17 +129,17 @@ const A_KEY_OF_THE_OWN_TABLE_IS_READ: Run = Run {
 #[test]
 fn a_key_of_the_own_table_is_read(rt: HostRuntime) -> Result<(), Fail> {
     let me = Me::new(Geometry::new(3, 1)?, 1);
-    let machine: Get = Calls::new(Getting::new(me, 1, 21));
+    let machine = Get::new(me, 1, 21);
     assert!(rt;
         runs_over(
             rt.alloc(),
             &TABLE,
             machine,
             &A_KEY_OF_THE_OWN_TABLE_IS_READ,
-            Some(Valued {
+            Answer::Value {
                 number: 71,
                 block: 184
-            })
+            }
         )?
     );
     Ok(())
@@ -168,14 +169,14 @@ const A_KEY_THAT_NO_ENTRY_HAS_IS_MISSING: Run = Run {
 #[test]
 fn a_key_that_no_entry_has_is_missing(rt: HostRuntime) -> Result<(), Fail> {
     let me = Me::new(Geometry::new(3, 1)?, 2);
-    let machine: Get = Calls::new(Getting::new(me, 1, 53));
+    let machine = Get::new(me, 1, 53);
     assert!(rt;
         runs_over(
             rt.alloc(),
             &TABLE,
             machine,
             &A_KEY_THAT_NO_ENTRY_HAS_IS_MISSING,
-            None
+            Answer::Missing
         )?
     );
     Ok(())
@@ -199,14 +200,14 @@ const A_KEY_OF_AN_EMPTY_BUCKET_IS_MISSING: Run = Run {
 #[test]
 fn a_key_of_an_empty_bucket_is_missing(rt: HostRuntime) -> Result<(), Fail> {
     let me = Me::new(Geometry::new(3, 1)?, 2);
-    let machine: Get = Calls::new(Getting::new(me, 1, 6));
+    let machine = Get::new(me, 1, 6);
     assert!(rt;
         runs_over(
             rt.alloc(),
             &TABLE,
             machine,
             &A_KEY_OF_AN_EMPTY_BUCKET_IS_MISSING,
-            None
+            Answer::Missing
         )?
     );
     Ok(())
@@ -229,14 +230,14 @@ const A_KEY_IS_MISSING_WITHOUT_A_DIRECTORY: Run = Run {
 #[test]
 fn a_key_is_missing_without_a_directory(rt: HostRuntime) -> Result<(), Fail> {
     let me = Me::new(Geometry::new(3, 1)?, 2);
-    let machine: Get = Calls::new(Getting::new(me, 0, 5));
+    let machine = Get::new(me, 0, 5);
     assert!(rt;
         runs_over(
             rt.alloc(),
             &TABLE,
             machine,
             &A_KEY_IS_MISSING_WITHOUT_A_DIRECTORY,
-            None
+            Answer::Missing
         )?
     );
     Ok(())

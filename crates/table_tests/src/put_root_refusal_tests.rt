@@ -346,7 +346,7 @@ fn no_era_is_left_for_the_root_of_the_entry(rt: HostRuntime) -> Result<(), Fail>
             rt.alloc(),
             machine,
             &NO_ERA_IS_LEFT_FOR_THE_ROOT_OF_THE_ENTRY,
-            Ok(())
+            Ok(true)
         )?
     );
     Ok(())

@@ -137,7 +137,7 @@ fn the_first_key_makes_a_directory(rt: HostRuntime) -> Result<(), Fail> {
             rt.alloc(),
             machine,
             &THE_FIRST_KEY_MAKES_A_DIRECTORY,
-            Ok(())
+            Ok(true)
         )?
     );
     Ok(())
@@ -236,7 +236,7 @@ fn a_key_of_an_empty_bucket_is_put(rt: HostRuntime) -> Result<(), Fail> {
             rt.alloc(),
             machine,
             &A_KEY_OF_AN_EMPTY_BUCKET_IS_PUT,
-            Ok(())
+            Ok(true)
         )?
     );
     Ok(())
@@ -348,7 +348,7 @@ fn a_key_of_a_bucket_with_an_entry_is_put(rt: HostRuntime) -> Result<(), Fail> {
             rt.alloc(),
             machine,
             &A_KEY_OF_A_BUCKET_WITH_AN_ENTRY_IS_PUT,
-            Ok(())
+            Ok(true)
         )?
     );
     Ok(())

@@ -77,7 +77,7 @@ fn a_key_that_is_there_has_another_block(rt: HostRuntime) -> Result<(), Fail> {
             rt.alloc(),
             machine,
             &A_KEY_THAT_IS_THERE_HAS_ANOTHER_BLOCK,
-            Ok(())
+            Ok(true)
         )?
     );
     Ok(())
@@ -149,7 +149,7 @@ fn a_block_that_a_root_names_stays(rt: HostRuntime) -> Result<(), Fail> {
             rt.alloc(),
             machine,
             &A_BLOCK_THAT_A_ROOT_NAMES_STAYS,
-            Ok(())
+            Ok(true)
         )?
     );
     Ok(())
@@ -202,7 +202,7 @@ fn a_key_that_has_the_block_keeps_it(rt: HostRuntime) -> Result<(), Fail> {
             rt.alloc(),
             machine,
             &A_KEY_THAT_HAS_THE_BLOCK_KEEPS_IT,
-            Ok(())
+            Ok(false)
         )?
     );
     Ok(())

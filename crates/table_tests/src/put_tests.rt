@@ -1,12 +1,11 @@
 //! Keys that come to have numbers, and two puts that are refused, step by step and on the words of a pool, against an independent
 //! implementation.
 
-use shm_calls::Calls;
 use shm_graph::Me;
 use shm_runs::Step::{Exchange, Load, Store};
 use shm_runs::{Run, runs};
 use shm_script::Answer;
-use shm_table::put::{Put, Putting};
+use shm_table::Put;
 use shm_words::Geometry;
 use std::test::Fail;
 
@@ -148,7 +147,7 @@ const A_FIRST_KEY_COMES_TO_HAVE_A_NUMBER: Run = Run {
 #[test]
 fn a_first_key_comes_to_have_a_number(rt: HostRuntime) -> Result<(), Fail> {
     let me = Me::new(Geometry::new(1, 1)?, 0);
-    let machine: Put = Calls::new(Putting::new(me, 5, 77));
+    let machine = Put::new(me, 5, 77);
     assert!(rt;
         runs(
             rt.alloc(),
@@ -238,7 +237,7 @@ const A_KEY_THAT_IS_THERE_HAS_ANOTHER_NUMBER: Run = Run {
 #[test]
 fn a_key_that_is_there_has_another_number(rt: HostRuntime) -> Result<(), Fail> {
     let me = Me::new(Geometry::new(1, 1)?, 0);
-    let machine: Put = Calls::new(Putting::new(me, 5, 78));
+    let machine = Put::new(me, 5, 78);
     assert!(rt;
         runs(
             rt.alloc(),
@@ -314,7 +313,7 @@ const NO_ROOT_IS_EMPTY_FOR_THE_VALUE_BLOCK: Run = Run {
 #[test]
 fn no_root_is_empty_for_the_value_block(rt: HostRuntime) -> Result<(), Fail> {
     let me = Me::new(Geometry::new(1, 1)?, 0);
-    let machine: Put = Calls::new(Putting::new(me, 6, 78));
+    let machine = Put::new(me, 6, 78);
     assert!(rt;
         runs(
             rt.alloc(),
@@ -437,7 +436,7 @@ const A_VALUE_BLOCK_WITHOUT_AN_ENTRY_IS_FREED: Run = Run {
 #[test]
 fn a_value_block_without_an_entry_is_freed(rt: HostRuntime) -> Result<(), Fail> {
     let me = Me::new(Geometry::new(1, 1)?, 0);
-    let machine: Put = Calls::new(Putting::new(me, 6, 78));
+    let machine = Put::new(me, 6, 78);
     assert!(rt;
         runs(
             rt.alloc(),

@@ -68,7 +68,7 @@ const AN_ENTRY_HAS_ANOTHER_VALUE: Run = Run {
 fn an_entry_has_another_value(rt: HostRuntime) -> Result<(), Fail> {
     let me = Me::new(Geometry::new(1, 1)?, 0);
     let machine: Replace = Calls::new(Replacing::new(me, 306, 54));
-    assert!(rt; runs(rt.alloc(), machine, &AN_ENTRY_HAS_ANOTHER_VALUE, Ok(()))?);
+    assert!(rt; runs(rt.alloc(), machine, &AN_ENTRY_HAS_ANOTHER_VALUE, Ok(true))?);
     Ok(())
 }
 
@@ -106,7 +106,7 @@ const AN_ENTRY_HAS_THAT_VALUE: Run = Run {
 fn an_entry_has_that_value(rt: HostRuntime) -> Result<(), Fail> {
     let me = Me::new(Geometry::new(1, 1)?, 0);
     let machine: Replace = Calls::new(Replacing::new(me, 306, 50));
-    assert!(rt; runs(rt.alloc(), machine, &AN_ENTRY_HAS_THAT_VALUE, Ok(()))?);
+    assert!(rt; runs(rt.alloc(), machine, &AN_ENTRY_HAS_THAT_VALUE, Ok(false))?);
     Ok(())
 }
 
@@ -187,7 +187,7 @@ fn a_value_that_another_names_stays(rt: HostRuntime) -> Result<(), Fail> {
             rt.alloc(),
             machine,
             &A_VALUE_THAT_ANOTHER_NAMES_STAYS,
-            Ok(())
+            Ok(true)
         )?
     );
     Ok(())

@@ -1,5 +1,5 @@
-use Rattle.std.specs.Prelude.{Some, None}
 use Rattle.shm_calls.specs.CallsKeep.{calls_tells}
+use Rattle.shm_script.specs.declared.log.Answer.TheVariants as answer
 use Rattle.shm_table.specs.GetControl.{get_parts}
 use Rattle.shm_table.specs.GetFits.{get_plan}
 use Rattle.shm_table.specs.GetLaws.{get_laws}
@@ -9,5 +9,6 @@ pub returns-clause-tells : goal.returns-clause-tells
 returns-clause-tells c = calls_tells get_parts get_plan get_laws
 
 pub returns-clause-none : goal.returns-clause-none
-returns-clause-none c me a key r0 r tr None h = h.leaves.none
-returns-clause-none c me a key r0 r tr (Some x) h = h.leaves.none
+returns-clause-none c me a key r0 r tr answer.Missing h = h.leaves.none
+returns-clause-none c me a key r0 r tr (answer.Value n v) h = h.leaves.none
+returns-clause-none c me a key r0 r tr b h = absurd h.leaves

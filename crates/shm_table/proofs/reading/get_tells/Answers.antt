@@ -5,7 +5,7 @@ pub returns-clause-missing : goal.returns-clause-missing
 returns-clause-missing c me a key r0 r tr q h = h.leaves.absent q
 
 pub returns-clause-found : goal.returns-clause-found
-returns-clause-found c me a key r0 r tr x q h = h.leaves.has q
+returns-clause-found c me a key r0 r tr n v q h = h.leaves.has q
 
 pub returns-clause-told : goal.returns-clause-told
 returns-clause-told c m r0 r tr fit ready = (ready_told m r0 r tr fit ready).1

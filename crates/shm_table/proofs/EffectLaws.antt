@@ -1,0 +1,356 @@
+-- each state of a command after its deciding step shows what it will answer, and no state before that step shows anything
+use Rattle.std.proofs.Common.{◌≡◌, ℕ, ◌%◌, ◌^◌, Bool, true, false, refl, sym, ap, ◌∙◌}
+use Rattle.std.specs.Prelude.{◌&&◌, ◌==◌, if◌then◌else◌, is_ok, Option, Some, None, Result, Ok, Err}
+use Rattle.shm_calls.specs.declared.or.Or.TheVariants.{First, Second}
+use Rattle.shm_calls.specs.CallsControl.{calls_control}
+use Rattle.shm_calls.specs.Deciding.{Decides, Foretells, PlanDecides, calls_decides, calls_foretell, decides_where, either, keeps_decided, mapped_foretells, or_decides, or_foretells}
+use Rattle.shm_calls.specs.Either.{or_control}
+use Rattle.shm_calls.specs.Words.{word_control}
+use Rattle.shm_count.specs.declared.answer.EraSpent.{EraSpent as AnEraSpent}
+use Rattle.shm_count.specs.declared.answer.UpFault.{UpFault}
+use Rattle.shm_count.specs.declared.answer.UpFault.TheVariants.{CountFull, EraSpent}
+use Rattle.shm_count.specs.StepControl.{step_control}
+use Rattle.shm_count.specs.StepDecides.{down_decides, step_decides, up_decides}
+use Rattle.shm_count.specs.StepExchanged.{step_exchanged, step_exchanging}
+use Rattle.shm_count.specs.StepMachines.{down_control, up_control}
+use Rattle.shm_count.specs.TearControl.{tear_control}
+use Rattle.shm_alloc.specs.AllocControl.{alloc_control}
+use Rattle.shm_ref.specs.RootsControl.{drop_root}
+use Rattle.shm_script.specs.declared.log.Answer.{Answer}
+use Rattle.shm_script.specs.declared.log.Answer.TheVariants as answer
+use Rattle.shm_table.specs.declared.answer.PutFault.{PutFault}
+use Rattle.shm_table.specs.declared.copy.CopyState.{CopyState}
+use Rattle.shm_table.specs.declared.del.DelState.{DelState}
+use Rattle.shm_table.specs.declared.enter.Entered.{Entered}
+use Rattle.shm_table.specs.declared.enter.Entered.TheVariants.{Linked, Unlinked, Unmade}
+use Rattle.shm_table.specs.declared.enter.EnterPoint.{EnterPoint}
+use Rattle.shm_table.specs.declared.enter.EnterPoint.TheVariants as enter
+use Rattle.shm_table.specs.declared.enter.EnterState.{EnterState}
+use Rattle.shm_table.specs.declared.find.Found.TheVariants.{Absent, At}
+use Rattle.shm_table.specs.declared.fetch.Fetched.TheVariants.{Missing, Refused, Rooted}
+use Rattle.shm_table.specs.declared.put.PutState.{PutState}
+use Rattle.shm_table.specs.declared.put_root.PutRootState.{PutRootState}
+use Rattle.shm_table.specs.declared.replace.ReplaceState.{ReplaceState}
+use Rattle.shm_table.specs.declared.unlink.UnlinkPoint.{UnlinkPoint}
+use Rattle.shm_table.specs.declared.unlink.UnlinkPoint.TheVariants as unlink
+use Rattle.shm_table.specs.declared.unlink.UnlinkState.{UnlinkState}
+use Rattle.shm_table.specs.Answers.{fault_answer, made_fault, raised_fault}
+use Rattle.shm_table.specs.ChangeMachines.{del}
+use Rattle.shm_table.specs.CommandControl.{command_by, command_control, command_effect, command_parts, given}
+use Rattle.shm_table.specs.CopyControl.{CopyAnswer, copy_parts, fetch_control}
+use Rattle.shm_table.specs.CopyControl as copying
+use Rattle.shm_table.specs.CopyFits.{copy_plan}
+use Rattle.shm_table.specs.CopyMachines.{copy_control}
+use Rattle.shm_table.specs.DelControl.{DelCallAnswer, del_parts}
+use Rattle.shm_table.specs.DelFits.{del_plan}
+use Rattle.shm_table.specs.Effects.{copy_at, copy_by, copy_effect, copy_says, del_at, del_by, del_effect, del_says, enter_at, enter_by, enter_decided, enter_says, get_effect, is_linked, is_removed, links, put_at, put_by, put_effect, put_root_at, put_root_by, put_root_decided, put_root_says, put_says, replace_at, replace_by, replace_decided, replace_says, settled, unlink_at, unlink_by, unlink_decided, unlink_says}
+use Rattle.shm_table.specs.EnterControl.{EnterAnswer, enter_call_at, enter_parts, raised_after, raised_turns, valued_by}
+use Rattle.shm_table.specs.EnterFits.{enter_plan}
+use Rattle.shm_table.specs.GetControl.{get_parts}
+use Rattle.shm_table.specs.GetFits.{get_plan}
+use Rattle.shm_table.specs.LocateFits.{locate_control}
+use Rattle.shm_table.specs.PutControl.{PutAnswer, put_parts}
+use Rattle.shm_table.specs.PutControl as putting
+use Rattle.shm_table.specs.PutFits.{put_plan}
+use Rattle.shm_table.specs.PutMachines.{put}
+use Rattle.shm_table.specs.PutRootControl.{PutRootAnswer, decided_of, enter_control, fault_of, freed_turns, open_control, put_answer, put_root_parts, replace_control, stuck_answer}
+use Rattle.shm_table.specs.PutRootFits.{put_root_control, put_root_plan}
+use Rattle.shm_table.specs.ReadMachines.{get}
+use Rattle.shm_table.specs.ReplaceControl.{ReplaceAnswer, replace_parts}
+use Rattle.shm_table.specs.ReplaceFits.{replace_plan}
+use Rattle.shm_table.specs.UnlatchFits.{unlatch_control}
+use Rattle.shm_table.specs.UnlinkControl.{UnlinkAnswer, unlink_call_at, unlink_parts}
+use Rattle.shm_table.specs.UnlinkFits.{unlink_control, unlink_plan}
+
+-- what is told of an answer is told of the one that it is
+same_told : {A : Type 0} (tells : A → Bool) (x a : A) → Some x ≡ Some a → tells a ≡ tells x
+same_told {A} tells x a e = let i : a ≡ x = cc in ap tells i
+
+-- ---- an entry has another value block
+
+replace_calls : (m : ReplaceState) → Decides replace_parts (replace_at m) (replace_by m) (replace_says m)
+replace_calls m =
+    or_decides word_control (or_control step_control tear_control) (λ c. false) (either step_exchanged (λ c. true)) (λ c n. false) (either step_exchanging (λ c n. false)) (λ n. false) (either is_ok (λ a. true))
+    (keeps_decided word_control false)
+    (or_decides step_control tear_control step_exchanged (λ c. true) step_exchanging (λ c n. false) is_ok (λ a. true) step_decides (keeps_decided tear_control true))
+
+pub replace_decides : Decides replace_control replace_decided (λ m n. replace_by m.plan m.call n) decided_of
+replace_decides = calls_decides replace_parts replace_plan replace_at replace_by replace_says decided_of (record { calls = replace_calls; goes = goes }) ends
+  where
+    goes : (m : ReplaceState) (b : ReplaceAnswer) → replace_plan.turns m b ≡ None → replace_at (replace_plan.after m b) (replace_plan.call (replace_plan.after m b)) ≡ replace_says m b
+    goes m (First n) e = refl
+    goes m (Second (First (Ok true))) e = refl
+    goes m (Second (First (Ok false))) e = cc
+    goes m (Second (First (Err f))) e = cc
+    goes m (Second (Second a)) e = cc
+
+    there : (t : Bool) (a : Result Bool PutFault) → (if t then Some (Ok false) else None) ≡ Some a → decided_of a ≡ false
+    there true a e = same_told decided_of (Ok false) a e
+    there false a e = cc
+
+    ends : (m : ReplaceState) (b : ReplaceAnswer) (a : Result Bool PutFault) → replace_plan.turns m b ≡ Some a → decided_of a ≡ replace_says m b
+    ends m (First n) a e = there (n % 2 ^ 20 == m.to) a e
+    ends m (Second (First (Ok true))) a e = cc
+    ends m (Second (First (Ok false))) a e = same_told decided_of (Ok true) a e
+    ends m (Second (First (Err f))) a e = same_told decided_of (Err (raised_fault f)) a e
+    ends m (Second (Second b)) a e = same_told decided_of (Ok true) a e
+
+-- ---- a new entry begins the chain of its bucket
+
+enter_calls : (m : EnterState) → Decides enter_parts (enter_at m) (enter_by m) (enter_says m)
+enter_calls m =
+    or_decides alloc_control (or_control up_control step_control) (λ c. false) (either (λ c. links m.point && step_exchanged c) step_exchanged) (λ c n. false) (either (λ c n. links m.point && step_exchanging c n) step_exchanging) (λ a. false) (either (λ a. links m.point && is_ok a) is_ok)
+    (keeps_decided alloc_control false)
+    (or_decides up_control step_control (λ c. links m.point && step_exchanged c) step_exchanged (λ c n. links m.point && step_exchanging c n) step_exchanging (λ a. links m.point && is_ok a) is_ok
+    (decides_where up_control (links m.point) step_exchanged step_exchanging is_ok up_decides) step_decides)
+
+pub enter_decides : Decides enter_control enter_decided (λ m n. enter_by m.plan m.call n) is_linked
+enter_decides = calls_decides enter_parts enter_plan enter_at enter_by enter_says is_linked (record { calls = enter_calls; goes = goes }) ends
+  where
+    -- once a word has come to name a block
+    valued : (m : EnterState) (t : Bool) → enter_at (record m { point = valued_by t }) (enter_call_at (record m { point = valued_by t }) (valued_by t)) ≡ false
+    valued m true = refl
+    valued m false = refl
+
+    raised : (m : EnterState) (y : EnterPoint) → raised_turns m y ≡ None → enter_at (raised_after m y) (enter_call_at (raised_after m y) (raised_after m y).point) ≡ (links y && true)
+    raised m enter.Value e = valued m (m.first == 0)
+    raised m enter.Next e = refl
+    raised m y e = cc
+
+    goes : (m : EnterState) (b : EnterAnswer) → enter_plan.turns m b ≡ None → enter_at (enter_plan.after m b) (enter_plan.call (enter_plan.after m b)) ≡ enter_says m b
+    goes m (First (Ok made)) e = refl
+    goes m (First (Err f)) e = cc
+    goes m (Second (First (Ok done))) e = raised m m.point e
+    goes m (Second (First (Err f))) e = cc
+    goes m (Second (Second (Ok z))) e = cc
+    goes m (Second (Second (Err f))) e = cc
+
+    raised_ends : (m : EnterState) (y : EnterPoint) (a : Entered) → raised_turns m y ≡ Some a → is_linked a ≡ (links y && true)
+    raised_ends m enter.Value a e = cc
+    raised_ends m enter.Next a e = cc
+    raised_ends m y a e = same_told is_linked (Linked m.root) a e
+
+    no_link : (z : Bool) → (z && false) ≡ false
+    no_link true = refl
+    no_link false = refl
+
+    ends : (m : EnterState) (b : EnterAnswer) (a : Entered) → enter_plan.turns m b ≡ Some a → is_linked a ≡ enter_says m b
+    ends m (First (Ok made)) a e = cc
+    ends m (First (Err f)) a e = same_told is_linked (Unmade (made_fault f)) a e
+    ends m (Second (First (Ok done))) a e = raised_ends m m.point a e
+    ends m (Second (First (Err f))) a e = same_told is_linked (Unlinked m.root (raised_fault f)) a e ∙ sym (no_link (links m.point))
+    ends m (Second (Second (Ok z))) a e = same_told is_linked (Linked m.root) a e
+    ends m (Second (Second (Err f))) a e = same_told is_linked (Unlinked m.root (raised_fault f)) a e
+
+-- ---- an entry is taken out
+
+unlink_calls : (m : UnlinkState) → Decides unlink_parts (unlink_at m) (unlink_by m) (unlink_says m)
+unlink_calls m =
+    or_decides word_control (or_control down_control (or_control step_control tear_control)) (λ c. false) (either step_exchanged (either step_exchanged (λ c. true))) (λ c n. false) (either step_exchanging (either step_exchanging (λ c n. false))) (λ n. false) (either is_ok (either is_ok (λ a. true)))
+    (keeps_decided word_control false)
+    (or_decides down_control (or_control step_control tear_control) step_exchanged (either step_exchanged (λ c. true)) step_exchanging (either step_exchanging (λ c n. false)) is_ok (either is_ok (λ a. true))
+    down_decides
+    (or_decides step_control tear_control step_exchanged (λ c. true) step_exchanging (λ c n. false) is_ok (λ a. true) step_decides (keeps_decided tear_control true)))
+
+pub unlink_decides : Decides unlink_control unlink_decided (λ m n. unlink_by m.plan m.call n) is_ok
+unlink_decides = calls_decides unlink_parts unlink_plan unlink_at unlink_by unlink_says is_ok (record { calls = unlink_calls; goes = goes }) ends
+  where
+    looked : (m : UnlinkState) (t : Bool) → let y : UnlinkPoint = if t then unlink.Lower else unlink.Change in unlink_at m (unlink_call_at m y) ≡ false
+    looked m true = refl
+    looked m false = refl
+
+    goes : (m : UnlinkState) (b : UnlinkAnswer) → unlink_plan.turns m b ≡ None → unlink_at (unlink_plan.after m b) (unlink_plan.call (unlink_plan.after m b)) ≡ unlink_says m b
+    goes m (First n) e = looked (unlink_plan.after m (First n)) (n % 2 ^ 20 == 0)
+    goes m (Second (First (Ok true))) e = refl
+    goes m (Second (First (Ok false))) e = cc
+    goes m (Second (First (Err f))) e = cc
+    goes m (Second (Second (First (Ok true)))) e = refl
+    goes m (Second (Second (First (Ok false)))) e = cc
+    goes m (Second (Second (First (Err f)))) e = cc
+    goes m (Second (Second (Second a))) e = cc
+
+    ends : (m : UnlinkState) (b : UnlinkAnswer) (a : Result (Unit {0}) UpFault) → unlink_plan.turns m b ≡ Some a → is_ok a ≡ unlink_says m b
+    ends m (First n) a e = cc
+    ends m (Second (First (Ok true))) a e = cc
+    ends m (Second (First (Ok false))) a e = same_told is_ok (Ok tt) a e
+    ends m (Second (First (Err f))) a e = same_told is_ok (Err (EraSpent f.era)) a e
+    ends m (Second (Second (First (Ok true)))) a e = cc
+    ends m (Second (Second (First (Ok false)))) a e = same_told is_ok (Ok tt) a e
+    ends m (Second (Second (First (Err f)))) a e = same_told is_ok (Err f) a e
+    ends m (Second (Second (Second b))) a e = same_told is_ok (Ok tt) a e
+
+-- ---- a value block comes into the own table
+
+put_root_calls : (m : PutRootState) → Decides put_root_parts (put_root_at m) (put_root_by m) (put_root_says m)
+put_root_calls m =
+    or_decides (or_control open_control locate_control) (or_control (or_control replace_control enter_control) (or_control unlatch_control drop_root))
+    (λ c. false) (either (either replace_decided enter_decided) (λ c. settled m.decided m.refused)) (λ c n. false) (either (either (λ c. replace_by c.plan c.call) (λ c. enter_by c.plan c.call)) (λ c n. false)) (λ a. false) (either (either decided_of is_linked) (λ a. settled m.decided m.refused))
+    (keeps_decided (or_control open_control locate_control) false)
+    (or_decides (or_control replace_control enter_control) (or_control unlatch_control drop_root)
+    (either replace_decided enter_decided) (λ c. settled m.decided m.refused) (either (λ c. replace_by c.plan c.call) (λ c. enter_by c.plan c.call)) (λ c n. false) (either decided_of is_linked) (λ a. settled m.decided m.refused)
+    (or_decides replace_control enter_control replace_decided enter_decided (λ c. replace_by c.plan c.call) (λ c. enter_by c.plan c.call) decided_of is_linked replace_decides enter_decides)
+    (keeps_decided (or_control unlatch_control drop_root) (settled m.decided m.refused)))
+
+pub put_root_decides : Decides put_root_control put_root_decided (λ m n. put_root_by m.plan m.call n) decided_of
+put_root_decides = calls_decides put_root_parts put_root_plan put_root_at put_root_by put_root_says decided_of (record { calls = put_root_calls; goes = goes }) ends
+  where
+    goes : (m : PutRootState) (b : PutRootAnswer) → put_root_plan.turns m b ≡ None → put_root_at (put_root_plan.after m b) (put_root_plan.call (put_root_plan.after m b)) ≡ put_root_says m b
+    goes m (First (First (Ok done))) e = refl
+    goes m (First (First (Err f))) e = cc
+    goes m (First (Second (At entry before word))) e = refl
+    goes m (First (Second (Absent home first))) e = refl
+    goes m (Second (First (First (Ok z)))) e = refl
+    goes m (Second (First (First (Err f)))) e = refl
+    goes m (Second (First (Second (Linked k)))) e = refl
+    goes m (Second (First (Second (Unlinked k f)))) e = refl
+    goes m (Second (First (Second (Unmade f)))) e = refl
+    goes m (Second (Second (First done))) e = refl
+    goes m (Second (Second (Second (Ok z)))) e = cc
+    goes m (Second (Second (Second (Err x)))) e = cc
+
+    answers : (z : Bool) (f : Option PutFault) → decided_of (put_answer z f) ≡ settled z f
+    answers z None = refl
+    answers z (Some f) = refl
+
+    freed_ends : (m : PutRootState) (o : Option ℕ) (a : Result Bool PutFault) → freed_turns m o ≡ Some a → decided_of a ≡ settled m.decided m.refused
+    freed_ends m None a e = same_told decided_of (put_answer m.decided m.refused) a e ∙ answers m.decided m.refused
+    freed_ends m (Some k) a e = cc
+
+    stuck : (z : Bool) (f : Option PutFault) (x : AnEraSpent) → decided_of (stuck_answer z f x) ≡ settled z f
+    stuck z None x = refl
+    stuck z (Some f) x = refl
+
+    ends : (m : PutRootState) (b : PutRootAnswer) (a : Result Bool PutFault) → put_root_plan.turns m b ≡ Some a → decided_of a ≡ put_root_says m b
+    ends m (First (First (Ok done))) a e = cc
+    ends m (First (First (Err f))) a e = same_told decided_of (Err f) a e
+    ends m (First (Second found)) a e = cc
+    ends m (Second (First b)) a e = cc
+    ends m (Second (Second (First done))) a e = freed_ends m m.root a e
+    ends m (Second (Second (Second (Ok z)))) a e = same_told decided_of (put_answer m.decided m.refused) a e ∙ answers m.decided m.refused
+    ends m (Second (Second (Second (Err x)))) a e = same_told decided_of (stuck_answer m.decided m.refused x) a e ∙ stuck m.decided m.refused x
+
+-- ---- a put
+
+-- after the call of PutRoot what it told stays
+told_settled : (a : Result Bool PutFault) → settled (decided_of a) (fault_of a) ≡ decided_of a
+told_settled (Ok z) = refl
+told_settled (Err f) = refl
+
+put_calls : (m : PutState) → Decides put_parts (put_at m) (put_by m) (put_says m)
+put_calls m =
+    or_decides alloc_control (or_control put_root_control drop_root) (λ c. false) (either put_root_decided (λ c. settled m.decided m.refused)) (λ c n. false) (either (λ c. put_root_by c.plan c.call) (λ c n. false)) (λ a. false) (either decided_of (λ a. settled m.decided m.refused))
+    (keeps_decided alloc_control false)
+    (or_decides put_root_control drop_root put_root_decided (λ c. settled m.decided m.refused) (λ c. put_root_by c.plan c.call) (λ c n. false) decided_of (λ a. settled m.decided m.refused) put_root_decides (keeps_decided drop_root (settled m.decided m.refused)))
+
+pub put_foretells : Foretells (calls_control put_parts put_plan) (λ a. a) put_effect (λ m n. put_by m.plan m.call n)
+put_foretells = calls_foretell put_parts put_plan put_at put_by put_says (λ a. a) (λ m. answer.Stored m.block) (record { decides = record { calls = put_calls; goes = goes }; same = same; ends = ends })
+  where
+    goes : (m : PutState) (b : PutAnswer) → put_plan.turns m b ≡ None → put_at (put_plan.after m b) (put_plan.call (put_plan.after m b)) ≡ put_says m b
+    goes m (First (Ok made)) e = refl
+    goes m (First (Err f)) e = cc
+    goes m (Second (First done)) e = told_settled done
+    goes m (Second (Second (Ok z))) e = cc
+    goes m (Second (Second (Err x))) e = cc
+
+    same : (m : PutState) (b : PutAnswer) → put_says m b ≡ true → put_plan.turns m b ≡ None → answer.Stored (put_plan.after m b).block ≡ answer.Stored m.block
+    same m (First a) d e = cc
+    same m (Second (First done)) d e = refl
+    same m (Second (Second a)) d e = refl
+
+    given : (z : Bool) (f : Option PutFault) (b : ℕ) → settled z f ≡ true → putting.put_answer b f ≡ answer.Stored b
+    given z None b d = refl
+    given z (Some f) b d = cc
+
+    stuck : (z : Bool) (f : Option PutFault) (b : ℕ) (x : AnEraSpent) → settled z f ≡ true → putting.stuck_answer b f x ≡ answer.Stored b
+    stuck z None b x d = refl
+    stuck z (Some f) b x d = cc
+
+    ends : (m : PutState) (b : PutAnswer) (a : Answer) → put_says m b ≡ true → put_plan.turns m b ≡ Some a → a ≡ answer.Stored m.block
+    ends m (First b) a d e = cc
+    ends m (Second (First done)) a d e = cc
+    ends m (Second (Second (Ok z))) a d e = let i : a ≡ putting.put_answer m.block m.refused = cc in i ∙ given m.decided m.refused m.block d
+    ends m (Second (Second (Err x))) a d e = let i : a ≡ putting.stuck_answer m.block m.refused x = cc in i ∙ stuck m.decided m.refused m.block x d
+
+-- ---- a copy
+
+copy_calls : (m : CopyState) → Decides copy_parts (copy_at m) (copy_by m) (copy_says m)
+copy_calls m =
+    or_decides fetch_control (or_control put_root_control drop_root) (λ c. false) (either put_root_decided (λ c. settled m.decided m.refused)) (λ c n. false) (either (λ c. put_root_by c.plan c.call) (λ c n. false)) (λ a. false) (either decided_of (λ a. settled m.decided m.refused))
+    (keeps_decided fetch_control false)
+    (or_decides put_root_control drop_root put_root_decided (λ c. settled m.decided m.refused) (λ c. put_root_by c.plan c.call) (λ c n. false) decided_of (λ a. settled m.decided m.refused) put_root_decides (keeps_decided drop_root (settled m.decided m.refused)))
+
+pub copy_foretells : Foretells (calls_control copy_parts copy_plan) (λ a. a) copy_effect (λ m n. copy_by m.plan m.call n)
+copy_foretells = calls_foretell copy_parts copy_plan copy_at copy_by copy_says (λ a. a) (λ m. answer.Value m.number m.block) (record { decides = record { calls = copy_calls; goes = goes }; same = same; ends = ends })
+  where
+    goes : (m : CopyState) (b : CopyAnswer) → copy_plan.turns m b ≡ None → copy_at (copy_plan.after m b) (copy_plan.call (copy_plan.after m b)) ≡ copy_says m b
+    goes m (First Missing) e = cc
+    goes m (First (Refused f)) e = cc
+    goes m (First (Rooted k b n)) e = refl
+    goes m (Second (First done)) e = told_settled done
+    goes m (Second (Second (Ok z))) e = cc
+    goes m (Second (Second (Err x))) e = cc
+
+    same : (m : CopyState) (b : CopyAnswer) → copy_says m b ≡ true → copy_plan.turns m b ≡ None → answer.Value (copy_plan.after m b).number (copy_plan.after m b).block ≡ answer.Value m.number m.block
+    same m (First a) d e = cc
+    same m (Second (First done)) d e = refl
+    same m (Second (Second a)) d e = refl
+
+    given : (z : Bool) (f : Option PutFault) (n b : ℕ) → settled z f ≡ true → copying.copy_answer n b f ≡ answer.Value n b
+    given z None n b d = refl
+    given z (Some f) n b d = cc
+
+    stuck : (z : Bool) (f : Option PutFault) (n b : ℕ) (x : AnEraSpent) → settled z f ≡ true → copying.stuck_answer n b f x ≡ answer.Value n b
+    stuck z None n b x d = refl
+    stuck z (Some f) n b x d = cc
+
+    ends : (m : CopyState) (b : CopyAnswer) (a : Answer) → copy_says m b ≡ true → copy_plan.turns m b ≡ Some a → a ≡ answer.Value m.number m.block
+    ends m (First b) a d e = cc
+    ends m (Second (First done)) a d e = cc
+    ends m (Second (Second (Ok z))) a d e = let i : a ≡ copying.copy_answer m.number m.block m.refused = cc in i ∙ given m.decided m.refused m.number m.block d
+    ends m (Second (Second (Err x))) a d e = let i : a ≡ copying.stuck_answer m.number m.block m.refused x = cc in i ∙ stuck m.decided m.refused m.number m.block x d
+
+-- ---- a removal
+
+del_calls : (m : DelState) → Decides del_parts (del_at m) (del_by m) (del_says m)
+del_calls m =
+    or_decides locate_control (or_control unlink_control unlatch_control) (λ c. false) (either unlink_decided (λ c. is_removed m.answer)) (λ c n. false) (either (λ c. unlink_by c.plan c.call) (λ c n. false)) (λ a. false) (either is_ok (λ a. is_removed m.answer))
+    (keeps_decided locate_control false)
+    (or_decides unlink_control unlatch_control unlink_decided (λ c. is_removed m.answer) (λ c. unlink_by c.plan c.call) (λ c n. false) is_ok (λ a. is_removed m.answer) unlink_decides (keeps_decided unlatch_control (is_removed m.answer)))
+
+pub del_foretells : Foretells (calls_control del_parts del_plan) (λ a. a) del_effect (λ m n. del_by m.plan m.call n)
+del_foretells = calls_foretell del_parts del_plan del_at del_by del_says (λ a. a) (λ m. answer.Ok) (record { decides = record { calls = del_calls; goes = goes }; same = λ m b d e. refl; ends = ends })
+  where
+    refused : (f : UpFault) → is_removed (fault_answer (raised_fault f)) ≡ false
+    refused (EraSpent e) = refl
+    refused (CountFull b n) = refl
+
+    goes : (m : DelState) (b : DelCallAnswer) → del_plan.turns m b ≡ None → del_at (del_plan.after m b) (del_plan.call (del_plan.after m b)) ≡ del_says m b
+    goes m (First (Absent home first)) e = refl
+    goes m (First (At entry before word)) e = refl
+    goes m (Second (First (Ok done))) e = refl
+    goes m (Second (First (Err f))) e = refused f
+    goes m (Second (Second done)) e = cc
+
+    is_gone : (a : Answer) → is_removed a ≡ true → a ≡ answer.Ok
+    is_gone answer.Ok d = refl
+    is_gone a d = cc
+
+    ends : (m : DelState) (b : DelCallAnswer) (a : Answer) → del_says m b ≡ true → del_plan.turns m b ≡ Some a → a ≡ answer.Ok
+    ends m (First found) a d e = cc
+    ends m (Second (First done)) a d e = cc
+    ends m (Second (Second done)) a d e = let i : a ≡ m.answer = cc in i ∙ is_gone m.answer d
+
+-- ---- reading what a key has
+
+pub get_foretells : Foretells (calls_control get_parts get_plan) (λ a. a) get_effect (λ m n. false)
+get_foretells = record { goes = λ m n e. refl; stays = λ m n x i e. cc; answers = λ m n x a i e. cc }
+
+-- ---- a command of a line
+
+pub command_foretells : Foretells command_control (λ a. a) command_effect command_by
+command_foretells =
+    mapped_foretells given command_parts (λ a. a) command_effect command_by
+    (or_foretells (or_control put copy_control) (or_control del get) (either (λ a. a) (λ a. a)) (either (λ a. a) (λ a. a)) (either put_effect copy_effect) (either del_effect get_effect)
+    (either (λ c n. put_by c.plan c.call n) (λ c n. copy_by c.plan c.call n)) (either (λ c n. del_by c.plan c.call n) (λ c n. false))
+    (or_foretells put copy_control (λ a. a) (λ a. a) put_effect copy_effect (λ c n. put_by c.plan c.call n) (λ c n. copy_by c.plan c.call n) put_foretells copy_foretells)
+    (or_foretells del get (λ a. a) (λ a. a) del_effect get_effect (λ c n. del_by c.plan c.call n) (λ c n. false) del_foretells get_foretells))

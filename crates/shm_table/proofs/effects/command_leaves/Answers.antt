@@ -1,0 +1,14 @@
+use Rattle.shm_table.specs.CommandLaws.{copies_give, dels_give, gets_give, puts_give}
+use Rattle.shm_table.proofs.effects.command_leaves.Goals as goal
+
+pub returns-clause-put : goal.returns-clause-put
+returns-clause-put c = puts_give
+
+pub returns-clause-copy : goal.returns-clause-copy
+returns-clause-copy c = copies_give
+
+pub returns-clause-del : goal.returns-clause-del
+returns-clause-del c = dels_give
+
+pub returns-clause-get : goal.returns-clause-get
+returns-clause-get c = gets_give

@@ -1,0 +1,129 @@
+//! A command on a table, by the line of a script that tells it.
+
+ghost use Rattle.std.specs.Prelude.{◌≡◌, ◌<◌, Some};
+ghost use Rattle.shm_words.specs.Layout.{GeometryFits};
+ghost use Rattle.shm_table.specs.CommandControl as control;
+ghost use Rattle.shm_table.specs.CommandControl.{CommandFits, CommandGives, MayStand, command_control, command_effect, command_of};
+ghost use Rattle.shm_table.specs.CommandLaws.{command_laws};
+ghost use Rattle.shm_table.specs.CopyLaws.{copy_laws};
+ghost use Rattle.shm_table.specs.DelLaws.{del_laws};
+ghost use Rattle.shm_table.specs.EnterLaws.{enter_laws};
+ghost use Rattle.shm_table.specs.FetchLaws.{fetch_laws};
+ghost use Rattle.shm_table.specs.GetLaws.{get_laws};
+ghost use Rattle.shm_table.specs.LocateLaws.{locate_laws};
+ghost use Rattle.shm_table.specs.OpenLaws.{open_laws};
+ghost use Rattle.shm_table.specs.PutLaws.{put_laws};
+ghost use Rattle.shm_table.specs.PutRootLaws.{put_root_laws};
+ghost use Rattle.shm_table.specs.ReplaceLaws.{replace_laws};
+
+use crate::copy::CopyKey;
+use crate::del::Del;
+use crate::get::Get;
+use crate::put::Put;
+use shm_calls::Or;
+use shm_graph::{Ask, Machine, Me, Turn};
+use shm_script::{Answer, Line};
+use std::marker::Model;
+
+/// One of the commands.
+type One = Or<Or<Put, CopyKey>, Or<Del, Get>>;
+
+/// A command: it answers what a script is told of it.
+#[derive(Drop)]
+pub struct Command {
+    one: One,
+}
+
+impl Model for Command {
+    ghost use Rattle.shm_table.specs.CommandControl.{CommandCall};
+
+    ghost Value = { CommandCall };
+
+    ghost view = { λ a. a.one };
+}
+
+/// What the one of them answers.
+#[inline(always)]
+fn given(answer: Or<Or<Answer, Answer>, Or<Answer, Answer>>) -> Answer
+    ensures { result ≡ control.given answer }
+{
+    match answer {
+        Or::First(Or::First(answer) | Or::Second(answer)) => answer,
+        Or::Second(Or::First(answer) | Or::Second(answer)) => answer,
+    }
+}
+
+impl Command {
+    /// The command of a line, for the identity `me`. A send and a receive aren't made yet.
+    #[inline(always)]
+    pub fn new(me: Me, line: &Line) -> Command
+        requires geometry { GeometryFits me.geometry }
+        requires who { me.who < me.geometry.clients }
+        requires line { MayStand me line.now }
+        ensures { command_of me line.now ≡ Some result }
+    {
+        let one = match *line {
+            Line::Put { key, number } => Or::First(Or::First(Put::new(me, key, number))),
+            Line::Copy { key, author, other } => {
+                Or::First(Or::Second(CopyKey::new(me, key, author, other)))
+            }
+            Line::Del { key } => Or::Second(Or::First(Del::new(me, key))),
+            Line::Get { author, key } => Or::Second(Or::Second(Get::new(me, author, key))),
+            Line::Send { .. } | Line::Recv { .. } => unreachable!(),
+        };
+        Command { one }
+    }
+
+    /// What it will answer, where its deciding step was made; otherwise none.
+    ///
+    /// Of a put and a copy that step is the exchange that raises the new entry for its bucket, or, where an entry has the key, the new value
+    /// block for the entry; of a removal the first exchange for the word that leads to the entry. A reading has none, nor has a copy of the
+    /// value block that the key has.
+    #[inline(always)]
+    pub fn effect(&self) -> Option<Answer>
+        ensures { result ≡ command_effect self.now }
+    {
+        match &self.one {
+            Or::First(Or::First(put)) => put.effect(),
+            Or::First(Or::Second(copy)) => copy.effect(),
+            Or::Second(Or::First(del)) => del.effect(),
+            Or::Second(Or::Second(get)) => get.effect(),
+        }
+    }
+}
+
+impl Machine for Command {
+    type Answer = Answer;
+
+    ghost control = { command_control };
+
+    ghost fits = { CommandFits };
+
+    ghost gives = { CommandGives };
+
+    #[inline(always)]
+    fn me(&self) -> Me {
+        self.one.me()
+    }
+
+    #[inline(always)]
+    fn finished(&self) -> bool {
+        self.one.finished()
+    }
+
+    #[inline(always)]
+    fn ask(&self) -> Ask {
+        self.one.ask()
+    }
+
+    #[inline(always)]
+    fn take(&mut self, seen: u64) -> Turn<Answer> {
+        match self.one.take(seen) {
+            Turn::Done(answer) => Turn::Done(given(answer)),
+            Turn::More => Turn::More,
+            Turn::Died => Turn::Died,
+        }
+    }
+
+    ghost laws = { command_laws (put_laws (put_root_laws open_laws locate_laws replace_laws enter_laws)) (copy_laws fetch_laws (put_root_laws open_laws locate_laws replace_laws enter_laws)) del_laws get_laws };
+}
