@@ -27,6 +27,7 @@ mod enter_tests;
 mod entry_tests;
 pub mod events;
 pub mod fetch;
+pub mod fetch_head;
 #[cfg(test)]
 mod fetch_tests;
 pub mod find;
@@ -51,12 +52,17 @@ mod put_root_there_tests;
 mod put_tests;
 pub mod putting;
 pub mod reading;
+pub mod receiving;
+pub mod recv;
+#[cfg(test)]
+mod recv_tests;
 pub mod replace;
 #[cfg(test)]
 mod replace_tests;
 pub mod staying;
 #[cfg(test)]
 mod stepping;
+pub mod take_head;
 #[cfg(test)]
 mod tests;
 pub mod unlatch;
@@ -74,3 +80,5 @@ pub use get::{Get, Getting, Valued};
 pub use put::{Put, Putting};
 pub use putting::{put_begins, put_bound, put_events, put_leaves};
 pub use reading::{get_begins, get_bound, get_events, get_leaves, get_tells};
+pub use receiving::{recv_begins, recv_bound, recv_events, recv_leaves};
+pub use recv::{ReceivingKey, RecvKey};

@@ -14,6 +14,9 @@ pub use crate::events::{
     read_tells,
 };
 pub use crate::fetch::{Fetch, FetchPoint, FetchState, Fetched, Fetching};
+pub use crate::fetch_head::{
+    FetchHead, FetchHeadPoint, FetchHeadState, FetchedHead, FetchingHead,
+};
 pub use crate::find::{Find, FindPoint, FindState, Finding, Found};
 pub use crate::get::{GetPoint, GetState};
 pub use crate::locate::{Locate, LocatePoint, LocateState, Locating};
@@ -28,6 +31,12 @@ pub use crate::reading::{
     locate_begins, locate_bound, locate_events, locate_leaves, locate_tells, unlatch_begins,
     unlatch_bound, unlatch_events, unlatch_leaves,
 };
+pub use crate::receiving::{
+    fetch_head_begins, fetch_head_bound, fetch_head_events, fetch_head_leaves, take_head_begins,
+    take_head_bound, take_head_events, take_head_leaves,
+};
+pub use crate::recv::{RecvPoint, RecvState};
 pub use crate::replace::{Replace, ReplacePoint, ReplaceState, Replacing};
+pub use crate::take_head::{TakeHead, TakeHeadPoint, TakeHeadState, TakingHead};
 pub use crate::unlatch::{Unlatch, UnlatchPoint, UnlatchState, Unlatching};
 pub use crate::unlink::{Unlink, UnlinkPoint, UnlinkState, Unlinking};
