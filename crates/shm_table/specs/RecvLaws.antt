@@ -221,36 +221,36 @@ module _ (m : RecvState) (r0 rs r : Memo) (tr t : Trail) (es ds : List Event) (h
       let none : frees es ≡ 0 = ap frees h.events in
       let b = within_more fetch_head_steps (put_root_steps g + 2 * w.keys + tear_steps (frees ds + length w.left)) tr t h.bound w.bound in (
         refl,
-          record {
-            may = may;
-            latch = w.latch;
-            low = h.low;
-            empty = h.empty;
-            rest = elim w.ended [ inl y ↦ inl ((λ j n. y.roots j ∙ h.others j n), y.dying ∙ h.dying) | inr y ↦ inr y ];
-            value = (
-              set_after m.key m.number m.block r0 rs r h.map (w.map m.number h.value),
-              w.home,
-              elim w.decided [
-                | inl d ↦ inl (decided_after c m.key (own_word r.own (spot.Home c)) m.block es ds d)
-                | inr d ↦ inr (d.0, sym (h.map m.key) ∙ d.1)
-              ],
-            );
-            made = (ds, ap (λ (u : List Event). u ++ ds) h.events);
-            q = h.q;
-            source = h.source;
-            keys = w.keys;
-            search = inr (search_before m.me c m.key w.keys tr t w.search);
-            left = w.left;
-            dying = w.dying;
-            bound = omega arith;
-          },
-          record {
-            keeps = keeps_more c r0 rs r h.keeps w.keeps;
-            holds = held;
-            root = root_kept c rs r m.root m.block w.keeps h.source.some h.root;
-            some = h.source.some;
-            known = w.keeps.slots (spot.Slot s c (m.at % 8)) m.block refl h.known;
-          },
+        record {
+          may = may;
+          latch = w.latch;
+          low = h.low;
+          empty = h.empty;
+          rest = elim w.ended [ inl y ↦ inl ((λ j n. y.roots j ∙ h.others j n), y.dying ∙ h.dying) | inr y ↦ inr y ];
+          value = (
+            set_after m.key m.number m.block r0 rs r h.map (w.map m.number h.value),
+            w.home,
+            elim w.decided [
+              | inl d ↦ inl (decided_after c m.key (own_word r.own (spot.Home c)) m.block es ds d)
+              | inr d ↦ inr (d.0, sym (h.map m.key) ∙ d.1)
+            ],
+          );
+          made = (ds, ap (λ (u : List Event). u ++ ds) h.events);
+          q = h.q;
+          source = h.source;
+          keys = w.keys;
+          search = inr (search_before m.me c m.key w.keys tr t w.search);
+          left = w.left;
+          dying = w.dying;
+          bound = omega arith;
+        },
+        record {
+          keeps = keeps_more c r0 rs r h.keeps w.keeps;
+          holds = held;
+          root = root_kept c rs r m.root m.block w.keeps h.source.some h.root;
+          some = h.source.some;
+          known = w.keeps.slots (spot.Slot s c (m.at % 8)) m.block refl h.known;
+        },
       )
   put (Err f) (may, h) w =
       let quiet = frees_append es ds in

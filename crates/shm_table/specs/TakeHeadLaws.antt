@@ -156,18 +156,18 @@ opens m Lower r0 r tr es (may0, same, none, quiet) =
     let may = subst (MayTakeHead m.me m.from m.at m.block) (sym same) may0 in (
       refl,
       take_may m.me m.from (m.at % 8) m.block r
-      (record {
-        geometry = may.geometry;
-        who = may.who;
-        here = idle_here m.me.who r may.idle;
-        idle = may.idle.op;
-        from = may.from;
-        other = may.other;
-        low = omega arith;
-        known = may.known;
-        inside = (item_inside m.me may.who m.from (m.at % 8) m.block r may.holds may.idle.op may.known).0;
-        era = era_room m.me r may.holds may.who may.idle.op;
-      }),
+          (record {
+            geometry = may.geometry;
+            who = may.who;
+            here = idle_here m.me.who r may.idle;
+            idle = may.idle.op;
+            from = may.from;
+            other = may.other;
+            low = omega arith;
+            known = may.known;
+            inside = (item_inside m.me may.who m.from (m.at % 8) m.block r may.holds may.idle.op may.known).0;
+            era = era_room m.me r may.holds may.who may.idle.op;
+          }),
     )
 opens m Store r0 r tr es h = store_word m r0 r tr es h
 
@@ -178,15 +178,15 @@ module _ (m : TakeHeadState) (r0 rs r : Memo) (tr t : Trail) (es ds : List Event
   abbrev s : ℕ
   s = m.from
 
-  abbrev p : Spot
-  p = spot.Slot s c (m.at % 8)
+  abbrev slot : Spot
+  slot = spot.Slot s c (m.at % 8)
 
   -- what is known before the next call, or what is left
   abbrev Goes : TakeHeadPoint → TakeHeadAnswer → Type 0
   Goes y b = Follows take_head_parts take_head_plan (record m { point = y }) b r0 r (tr ++ t) (es ++ ds)
 
   -- a root names the item still, so that its count didn't come to 0
-  not_lost : (z : Bool) → MayTakeHead m.me s m.at m.block rs → Lost c p true m.block 0 z rs r → z ≡ false
+  not_lost : (z : Bool) → MayTakeHead m.me s m.at m.block rs → Lost c slot true m.block 0 z rs r → z ≡ false
   not_lost z may lost = go z lost.dying
     where
       named : is_named c r m.block ≡ true
@@ -197,21 +197,21 @@ module _ (m : TakeHeadState) (r0 rs r : Memo) (tr t : Trail) (es ds : List Event
       go true e = absurd (held_counted m.me r held may.who m.block m.block named (subst (λ (xs : List ℕ). Contains xs m.block) (sym e) (Contains-push rs.dying m.block)) refl)
 
   -- the slot is empty, or nothing was done
-  lowered : (a : Result Bool EraSpent) → TakeHeadKnows (record m { point = Lower }) Lower r0 rs tr es → StepLeft m.me (aims.Down m.block) p true rs r t ds (down_told a) → Goes Lower (Second a)
+  lowered : (a : Result Bool EraSpent) → TakeHeadKnows (record m { point = Lower }) Lower r0 rs tr es → StepLeft m.me (aims.Down m.block) slot true rs r t ds (down_told a) → Goes Lower (Second a)
   lowered a (may0, same, none, quiet) g =
       subst (λ (x : Memo). Follows take_head_parts take_head_plan (record m { point = Lower }) (Second a) x r (tr ++ t) (es ++ ds)) same
       (subst (λ (u : Trail). Follows take_head_parts take_head_plan (record m { point = Lower }) (Second a) rs r (u ++ t) (es ++ ds)) (sym none)
       (subst (λ (u : List Event). Follows take_head_parts take_head_plan (record m { point = Lower }) (Second a) rs r t (u ++ ds)) (sym quiet)
       (go a (subst (MayTakeHead m.me s m.at m.block) (sym same) may0) g)))
     where
-      go : (a : Result Bool EraSpent) → MayTakeHead m.me s m.at m.block rs → StepLeft m.me (aims.Down m.block) p true rs r t ds (down_told a) → Follows take_head_parts take_head_plan (record m { point = Lower }) (Second a) rs r t ds
+      go : (a : Result Bool EraSpent) → MayTakeHead m.me s m.at m.block rs → StepLeft m.me (aims.Down m.block) slot true rs r t ds (down_told a) → Follows take_head_parts take_head_plan (record m { point = Lower }) (Second a) rs r t ds
       go (Ok z) may g =
           let own : own_word r.own (spot.Front s c) ≡ m.at = g.did.0.took.own (spot.Front s c) refl ∙ sym may.place in
           record {
             may = may;
             small = subst (λ y. y + 1 < 2 ^ 64) own (head_small m.me may.who s r may.from may.other held);
             here = here_same rs r g.status (idle_here c rs may.idle);
-            lost = subst (λ y. Lost c p true m.block 0 y rs r) (not_lost z may g.did.0) g.did.0;
+            lost = subst (λ y. Lost c slot true m.block 0 y rs r) (not_lost z may g.did.0) g.did.0;
             told = g.did.1;
             bound = g.bound;
           }
@@ -231,7 +231,7 @@ module _ (m : TakeHeadState) (r0 rs r : Memo) (tr t : Trail) (es ds : List Event
       record {
         keeps = keeps_passed c s m.at m.block r0 rs r h.may.idle h.lost w.found.left;
         rests = rests_passed c s m.at m.block r0 rs r h.may.idle h.lost w.found.left;
-        told = ap (λ (x : List Event). x ++ ds) h.told ∙ ap (λ (x : List Event). event.Down c p m.block ∷ x) w.none;
+        told = ap (λ (x : List Event). x ++ ds) h.told ∙ ap (λ (x : List Event). event.Down c slot m.block ∷ x) w.none;
         bound = within_more 8 1 tr t h.bound one;
       }
 

@@ -33,7 +33,9 @@ pub enum FetchHeadPoint {
 #[derive(Clone, Copy, Debug, PartialEq, Eq, Drop)]
 pub enum FetchedHead {
     /// The queue has no item: its head and its tail are this.
-    Empty { at: u64 },
+    Empty {
+        at: u64,
+    },
     /// The value block got no root.
     Refused(PutFault),
     /// The root names the value block at the head, which holds the number; the head is `at`.
@@ -180,7 +182,10 @@ impl Plan for FetchingHead {
     #[inline(always)]
     fn next(&mut self, answer: FetchHeadAnswer) -> Option<FetchedHead> {
         let FetchHeadState {
-            at, block, number, ..
+            at,
+            block,
+            number,
+            ..
         } = self.state;
         match answer {
             Or::First(word) => self.state.read(word),

@@ -55,6 +55,10 @@ pub mod reading;
 pub mod receiving;
 pub mod recv;
 #[cfg(test)]
+mod recv_refusal_tests;
+#[cfg(test)]
+mod recv_spent_tests;
+#[cfg(test)]
 mod recv_tests;
 pub mod replace;
 #[cfg(test)]

@@ -1,42 +1,108 @@
 //! The plans' states, and machines that are no operation by themselves, for machines that are composed of them.
 
-pub use crate::bound::{enter_bound, find_bound};
-pub use crate::changes::{
-    replace_begins, replace_bound, replace_events, replace_leaves, unlink_begins, unlink_bound,
-    unlink_events, unlink_leaves,
-};
-pub use crate::copy::{CopyPoint, CopyState};
-pub use crate::copying::{fetch_begins, fetch_bound, fetch_events, fetch_leaves};
-pub use crate::del::{DelPoint, DelState};
-pub use crate::enter::{Enter, EnterPoint, EnterState, Entered, Entering};
-pub use crate::events::{
-    enter_begins, enter_events, enter_leaves, find_begins, find_events, find_leaves, find_tells,
-    read_tells,
-};
-pub use crate::fetch::{Fetch, FetchPoint, FetchState, Fetched, Fetching};
-pub use crate::fetch_head::{
-    FetchHead, FetchHeadPoint, FetchHeadState, FetchedHead, FetchingHead,
-};
-pub use crate::find::{Find, FindPoint, FindState, Finding, Found};
-pub use crate::get::{GetPoint, GetState};
-pub use crate::locate::{Locate, LocatePoint, LocateState, Locating};
-pub use crate::open_table::{OpenPoint, OpenState, OpenTable, Opening};
-pub use crate::opening::{
-    open_table_begins, open_table_bound, open_table_events, open_table_leaves, open_table_tells,
-};
-pub use crate::put::{PutPoint, PutState};
-pub use crate::put_root::{PutRoot, PutRootPoint, PutRootState, PuttingRoot};
-pub use crate::putting::{put_root_begins, put_root_bound, put_root_events, put_root_leaves};
-pub use crate::reading::{
-    locate_begins, locate_bound, locate_events, locate_leaves, locate_tells, unlatch_begins,
-    unlatch_bound, unlatch_events, unlatch_leaves,
-};
-pub use crate::receiving::{
-    fetch_head_begins, fetch_head_bound, fetch_head_events, fetch_head_leaves, take_head_begins,
-    take_head_bound, take_head_events, take_head_leaves,
-};
-pub use crate::recv::{RecvPoint, RecvState};
-pub use crate::replace::{Replace, ReplacePoint, ReplaceState, Replacing};
-pub use crate::take_head::{TakeHead, TakeHeadPoint, TakeHeadState, TakingHead};
-pub use crate::unlatch::{Unlatch, UnlatchPoint, UnlatchState, Unlatching};
-pub use crate::unlink::{Unlink, UnlinkPoint, UnlinkState, Unlinking};
+pub use crate::bound::enter_bound;
+pub use crate::bound::find_bound;
+pub use crate::changes::replace_begins;
+pub use crate::changes::replace_bound;
+pub use crate::changes::replace_events;
+pub use crate::changes::replace_leaves;
+pub use crate::changes::unlink_begins;
+pub use crate::changes::unlink_bound;
+pub use crate::changes::unlink_events;
+pub use crate::changes::unlink_leaves;
+pub use crate::copy::CopyPoint;
+pub use crate::copy::CopyState;
+pub use crate::copying::fetch_begins;
+pub use crate::copying::fetch_bound;
+pub use crate::copying::fetch_events;
+pub use crate::copying::fetch_leaves;
+pub use crate::del::DelPoint;
+pub use crate::del::DelState;
+pub use crate::enter::Enter;
+pub use crate::enter::EnterPoint;
+pub use crate::enter::EnterState;
+pub use crate::enter::Entered;
+pub use crate::enter::Entering;
+pub use crate::events::enter_begins;
+pub use crate::events::enter_events;
+pub use crate::events::enter_leaves;
+pub use crate::events::find_begins;
+pub use crate::events::find_events;
+pub use crate::events::find_leaves;
+pub use crate::events::find_tells;
+pub use crate::events::read_tells;
+pub use crate::fetch::Fetch;
+pub use crate::fetch::FetchPoint;
+pub use crate::fetch::FetchState;
+pub use crate::fetch::Fetched;
+pub use crate::fetch::Fetching;
+pub use crate::fetch_head::FetchHead;
+pub use crate::fetch_head::FetchHeadPoint;
+pub use crate::fetch_head::FetchHeadState;
+pub use crate::fetch_head::FetchedHead;
+pub use crate::fetch_head::FetchingHead;
+pub use crate::find::Find;
+pub use crate::find::FindPoint;
+pub use crate::find::FindState;
+pub use crate::find::Finding;
+pub use crate::find::Found;
+pub use crate::get::GetPoint;
+pub use crate::get::GetState;
+pub use crate::locate::Locate;
+pub use crate::locate::LocatePoint;
+pub use crate::locate::LocateState;
+pub use crate::locate::Locating;
+pub use crate::open_table::OpenPoint;
+pub use crate::open_table::OpenState;
+pub use crate::open_table::OpenTable;
+pub use crate::open_table::Opening;
+pub use crate::opening::open_table_begins;
+pub use crate::opening::open_table_bound;
+pub use crate::opening::open_table_events;
+pub use crate::opening::open_table_leaves;
+pub use crate::opening::open_table_tells;
+pub use crate::put::PutPoint;
+pub use crate::put::PutState;
+pub use crate::put_root::PutRoot;
+pub use crate::put_root::PutRootPoint;
+pub use crate::put_root::PutRootState;
+pub use crate::put_root::PuttingRoot;
+pub use crate::putting::put_root_begins;
+pub use crate::putting::put_root_bound;
+pub use crate::putting::put_root_events;
+pub use crate::putting::put_root_leaves;
+pub use crate::reading::locate_begins;
+pub use crate::reading::locate_bound;
+pub use crate::reading::locate_events;
+pub use crate::reading::locate_leaves;
+pub use crate::reading::locate_tells;
+pub use crate::reading::unlatch_begins;
+pub use crate::reading::unlatch_bound;
+pub use crate::reading::unlatch_events;
+pub use crate::reading::unlatch_leaves;
+pub use crate::receiving::fetch_head_begins;
+pub use crate::receiving::fetch_head_bound;
+pub use crate::receiving::fetch_head_events;
+pub use crate::receiving::fetch_head_leaves;
+pub use crate::receiving::take_head_begins;
+pub use crate::receiving::take_head_bound;
+pub use crate::receiving::take_head_events;
+pub use crate::receiving::take_head_leaves;
+pub use crate::recv::RecvPoint;
+pub use crate::recv::RecvState;
+pub use crate::replace::Replace;
+pub use crate::replace::ReplacePoint;
+pub use crate::replace::ReplaceState;
+pub use crate::replace::Replacing;
+pub use crate::take_head::TakeHead;
+pub use crate::take_head::TakeHeadPoint;
+pub use crate::take_head::TakeHeadState;
+pub use crate::take_head::TakingHead;
+pub use crate::unlatch::Unlatch;
+pub use crate::unlatch::UnlatchPoint;
+pub use crate::unlatch::UnlatchState;
+pub use crate::unlatch::Unlatching;
+pub use crate::unlink::Unlink;
+pub use crate::unlink::UnlinkPoint;
+pub use crate::unlink::UnlinkState;
+pub use crate::unlink::Unlinking;

@@ -57,8 +57,10 @@ pub struct RecvState {
 pub type RecvCall = Or<Or<FetchHead, TakeHead>, Or<PutRoot, DropRoot>>;
 
 /// What its calls answer.
-pub type RecvAnswer =
-    Or<Or<FetchedHead, Result<(), EraSpent>>, Or<Result<(), PutFault>, Result<bool, EraSpent>>>;
+pub type RecvAnswer = Or<
+    Or<FetchedHead, Result<(), EraSpent>>,
+    Or<Result<(), PutFault>, Result<bool, EraSpent>>,
+>;
 
 /// The calls by which a key comes to have the value block at the head of a queue.
 #[derive(Drop)]
