@@ -1,5 +1,5 @@
 -- what is owed of giving the value block at the head of a queue a root
-use Rattle.std.proofs.Common.{◌≡◌, ◌≢◌, ℕ, ◌+◌, ◌%◌, ◌^◌, ◌<◌, ◌≤◌, refl, sym, ap, ◌∙◌, subst, arith, Bool, true, false, List, [], ◌∷◌, ◌++◌, inl}
+use Rattle.std.proofs.Common.{◌≡◌, ◌≢◌, ℕ, ◌+◌, ◌%◌, ◌<◌, refl, sym, ap, ◌∙◌, subst, arith, Bool, true, false, List, [], ◌∷◌, ◌++◌, inl}
 use Rattle.std.specs.Prelude.{◌==◌, if◌then◌else◌, Some, None, Result, Ok, Err}
 use Rattle.std.specs.List.{Contains}
 use Rattle.std.proofs.lemmas.Bool.{cond-false, eqb-false, eqb-true}
@@ -31,7 +31,6 @@ use Rattle.shm_calls.specs.Grown.{Grows, grown_laws}
 use Rattle.shm_calls.specs.Parts.{IsHeld}
 use Rattle.shm_calls.specs.Plans.{PlanLaws, PlanStays, IsCall, Follows}
 use Rattle.shm_calls.specs.Words.{word_control, word_part, word_part_laws, WordLeaves}
-use Rattle.shm_steps.specs.Reparting.{sight, IsValue}
 use Rattle.shm_steps.specs.WordParts.{HeadSlotLoaded, WordLoaded}
 use Rattle.shm_steps.proofs.Covering.{value_told}
 use Rattle.shm_steps.proofs.WordsBlocks.{idle_settled, plain_load, told_inside}
@@ -45,7 +44,7 @@ use Rattle.shm_count.specs.UpRootPart.{may_up_root, rooted_root, up_root, up_roo
 use Rattle.shm_count.proofs.UpRootPart.{up_root_laws}
 use Rattle.shm_queue.specs.HeadReads.{has_item, head_read, is_empty, item_read}
 use Rattle.shm_queue.specs.QueueWords.{TailSeen, item_reached, tail_seen}
-use Rattle.shm_queue.specs.TakeFits.{IsHeadRead, IsItemRead}
+use Rattle.shm_queue.specs.TakeFits.{IsItemRead}
 use Rattle.shm_table.specs.declared.answer.PutFault.{PutFault}
 use Rattle.shm_table.specs.declared.answer.PutFault.TheVariants.{EraSpent, RootsFull, CountFull}
 use Rattle.shm_table.specs.declared.fetch_head.FetchHeadPoint.{FetchHeadPoint}

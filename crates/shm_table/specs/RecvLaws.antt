@@ -1,5 +1,5 @@
 -- what is owed of a receive into a table
-use Rattle.std.proofs.Common.{◌≡◌, ◌≢◌, ℕ, length-append, ◌+◌, ◌*◌, ◌%◌, ◌^◌, ◌<◌, ◌≤◌, refl, sym, ap, ◌∙◌, subst, arith, Bool, List, [], ◌∷◌, ◌++◌, Option, Some, None, inl, inr, ◌⊎◌}
+use Rattle.std.proofs.Common.{◌≡◌, ◌≢◌, ℕ, length-append, ◌+◌, ◌*◌, ◌%◌, ◌^◌, ◌<◌, ◌≤◌, refl, sym, ap, ◌∙◌, subst, arith, Bool, List, [], ◌++◌, Option, Some, None, inl, inr, ◌⊎◌}
 use Rattle.std.specs.Prelude.{Result, Ok, Err, length, slice_index}
 use Rattle.std.specs.List.{All, Contains}
 use Rattle.std.proofs.lemmas.Bool.{cases_eq, cond-false, cond-true, eq-eqb, ne_eqb}
@@ -7,7 +7,6 @@ use Rattle.std.proofs.lemmas.List.Elements.{All-nil, Contains-append_left, Conta
 use Rattle.shm_graph.specs.declared.ask.Me.{Me}
 use Rattle.shm_graph.specs.declared.memo.Memo.{Memo}
 use Rattle.shm_graph.specs.declared.spot.Spot.TheVariants as spot
-use Rattle.shm_graph.specs.Agents.{recovers}
 use Rattle.shm_graph.specs.Asks.{Trail, IsWithin}
 use Rattle.shm_graph.specs.Bounds.{tear_steps}
 use Rattle.shm_graph.specs.Events.{Event}
@@ -22,7 +21,6 @@ use Rattle.shm_calls.specs.CallsPart.{calls_part, calls_part_laws}
 use Rattle.shm_calls.specs.Either.{or_control, or_part, or_part_laws}
 use Rattle.shm_calls.specs.Parts.{IsHeld, PartLaws}
 use Rattle.shm_calls.specs.Plans.{PlanLaws, PlanStays, IsCall, Follows}
-use Rattle.shm_steps.specs.Reparting.{map_in}
 use Rattle.shm_steps.proofs.Items.{put_at}
 use Rattle.shm_count.specs.declared.answer.EraSpent.{EraSpent}
 use Rattle.shm_count.specs.Roots.{root_word}
@@ -44,12 +42,12 @@ use Rattle.shm_table.specs.Commands.{CommandCause, RestSo, cause_put, cause_then
 use Rattle.shm_table.specs.FetchHeadControl.{fetch_head_parts, fetching_head}
 use Rattle.shm_table.specs.FetchHeadFits.{FetchHeadLeaves, IsHeadRooted, MayFetchHead, fetch_head_plan, fetch_head_steps}
 use Rattle.shm_table.specs.FetchHeadLaws.{fetch_head_begin}
-use Rattle.shm_table.specs.PutRootControl.{put_root_parts, putting_root}
-use Rattle.shm_table.specs.PutRootFits.{IsDecided, IsEraSpent, PutRootLeaves, put_root_control, put_root_plan, put_root_steps}
+use Rattle.shm_table.specs.PutRootControl.{put_root_parts}
+use Rattle.shm_table.specs.PutRootFits.{IsDecided, PutRootDone, PutRootRefused, put_root_control, put_root_plan, put_root_steps}
 use Rattle.shm_table.specs.PutRootSteps.{decided_after, decided_more, frees_append, same_more, same_part, search_before, search_more, set_after, set_then}
 use Rattle.shm_table.specs.RecvControl.{RecvAnswer, fetch_head_control, is_fetch, receiving_key, recv_call_at, recv_parts, take_head_control}
 use Rattle.shm_table.specs.RecvFits.{IsPassed, IsPutIn, IsWaiting, ItemSo, ItemTaken, MayRecv, NotReceivedIn, RecvKnows, RecvLeaves, put_in_steps, recv_part, recv_plan}
-use Rattle.shm_table.specs.Staying.{Cleared, Ended, IsSpent, Keeps, PutCause, SameMap}
+use Rattle.shm_table.specs.Staying.{Ended, IsSpent, Keeps, PutCause, SameMap}
 use Rattle.shm_table.specs.StayingLaws.{Rests, cleared_drop, dropped_else, keeps_drop, keeps_more, keeps_untouched, left_by, rests_untouched, root_kept, spent_drop, spent_later}
 use Rattle.shm_table.specs.TakeHeadControl.{take_head_parts, taking_head}
 use Rattle.shm_table.specs.TakeHeadFits.{MayTakeHead, TakeHeadLeaves, passed_memo, take_head_plan, take_head_steps}
@@ -214,9 +212,9 @@ module _ (m : RecvState) (r0 rs r : Memo) (tr t : Trail) (es ds : List Event) (h
           let at : k ≡ k % 16 = omega arith in
           (may, subst (λ i. IsHeadRooted m.me s i (b % 2 ^ 20) v n r0 r t ds) at (subst (λ d. IsHeadRooted m.me s k d v n r0 r t ds) is w))
 
-  -- the key has the value block, or not
-  put : (a : Result (Unit {0}) PutFault) → RecvKnows (record m { point = Put }) Put r0 rs tr es → PutRootLeaves (putting_root m.me m.key m.block) rs r t ds a → Goes Put (Second (First a))
-  put (Ok done) (may, h) w =
+  -- the key has the value block
+  put_in : RecvKnows (record m { point = Put }) Put r0 rs tr es → PutRootDone m.me m.key m.block rs r t ds → RecvKnows (record m { refused = None; point = Take }) Take r0 r (tr ++ t) (es ++ ds)
+  put_in (may, h) w =
       let quiet = frees_append es ds in
       let none : frees es ≡ 0 = ap frees h.events in
       let b = within_more fetch_head_steps (put_root_steps g + 2 * w.keys + tear_steps (frees ds + length w.left)) tr t h.bound w.bound in (
@@ -252,7 +250,10 @@ module _ (m : RecvState) (r0 rs r : Memo) (tr t : Trail) (es ds : List Event) (h
           known = w.keeps.slots (spot.Slot s c (m.at % 8)) m.block refl h.known;
         },
       )
-  put (Err f) (may, h) w =
+
+  -- or it was refused it, and the queue is as before
+  put_refused : (f : PutFault) → RecvKnows (record m { point = Put }) Put r0 rs tr es → PutRootRefused m.me m.key m.block rs r t ds f → RecvKnows (record m { refused = Some f; point = Drop }) Drop r0 r (tr ++ t) (es ++ ds)
+  put_refused f (may, h) w =
       let quiet = frees_append es ds in
       let none : frees es ≡ 0 = ap frees h.events in
       let b = within_more fetch_head_steps (put_root_steps g + 2 * w.keys + tear_steps (frees ds + length w.left)) tr t h.bound w.bound in (
@@ -309,7 +310,7 @@ module _ (m : RecvState) (r0 rs r : Memo) (tr t : Trail) (es ds : List Event) (h
       }
 
   -- the head is taken, or the item stays in the queue
-  took : (a : Result (Unit {0}) EraSpent) → RecvKnows (record m { point = Take }) Take r0 rs tr es → TakeHeadLeaves (taking_head m.me s m.at m.block) rs r t ds a → Goes Take (First (Second a))
+  took : (a : Result (Unit {0}) EraSpent) → RecvKnows (record m { point = Take }) Take r0 rs tr es → TakeHeadLeaves (taking_head m.me s m.at m.block) rs r t ds a → RecvKnows (record m { point = Drop }) Drop r0 r (tr ++ t) (es ++ ds)
   took a (none, p, h) w =
       subst
       (λ (f : Option PutFault). IsPutIn m.me s m.key m.at m.block m.number m.root (put_in_steps g + take_head_steps) f r0 r (tr ++ t) (es ++ ds) × ItemSo m.me s m.at m.block r0 r (es ++ ds) f) (sym none)
@@ -487,7 +488,8 @@ module _ (fetches : PlanLaws fetch_head_parts fetch_head_plan) (takes : PlanLaws
           → Follows recv_parts recv_plan (record m { point = y }) b r0 r (tr ++ t) (es ++ ds)
       leads m Fetch r0 rs r tr t es ds (First (First a)) held h w = got m r0 rs r tr t es ds held a h w
       leads m Take r0 rs r tr t es ds (First (Second a)) held h w = took m r0 rs r tr t es ds held a h w
-      leads m Put r0 rs r tr t es ds (Second (First a)) held h w = put m r0 rs r tr t es ds held a h w
+      leads m Put r0 rs r tr t es ds (Second (First (Ok done))) held h w = put_in m r0 rs r tr t es ds held h w
+      leads m Put r0 rs r tr t es ds (Second (First (Err f))) held h w = put_refused m r0 rs r tr t es ds held f h w
       leads m Drop r0 rs r tr t es ds (Second (Second a)) held h w = dropped m r0 rs r tr t es ds held m.refused a h w
       leads m Fetch r0 rs r tr t es ds (First (Second b)) held h w = absurd w
       leads m Fetch r0 rs r tr t es ds (Second b) held h w = absurd w

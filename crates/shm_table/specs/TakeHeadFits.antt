@@ -1,6 +1,5 @@
 -- taking an item that is known as a plan: when it may begin, what is known before each call, and what is left
 use Rattle.std.specs.Prelude.{◌≡◌, ◌≢◌, ℕ, ◌+◌, ◌%◌, ◌^◌, ◌<◌, true, false, Result, Ok, Err, List, [], ◌∷◌, slice_index}
-use Rattle.std.specs.List.{Contains}
 use Rattle.shm_words.specs.Layout.{GeometryFits}
 use Rattle.shm_graph.specs.declared.ask.Me.{Me}
 use Rattle.shm_graph.specs.declared.memo.Memo.{Memo}

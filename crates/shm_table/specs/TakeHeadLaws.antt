@@ -1,5 +1,5 @@
 -- what is owed of taking an item that is known
-use Rattle.std.proofs.Common.{◌≡◌, ◌≢◌, ℕ, ◌+◌, ◌%◌, ◌^◌, ◌<◌, ◌≤◌, refl, sym, ap, ◌∙◌, subst, arith, Bool, true, false, cond, append-nil, List, [], ◌∷◌, ◌++◌, inl, inr}
+use Rattle.std.proofs.Common.{◌≡◌, ◌≢◌, ℕ, ◌+◌, ◌%◌, ◌^◌, ◌<◌, ◌≤◌, refl, sym, ap, ◌∙◌, subst, arith, Bool, true, false, cond, append-nil, List, [], ◌∷◌, ◌++◌, inl}
 use Rattle.std.specs.Prelude.{Result, Ok, Err, slice_index}
 use Rattle.std.specs.List.{Contains, filter}
 use Rattle.std.proofs.Math.Nat.{mod-eq_of_lt}
@@ -43,14 +43,13 @@ use Rattle.shm_count.specs.StepMachines.{down_control, down_told}
 use Rattle.shm_count.specs.TearMemos.{is_lasting, is_slot_word}
 use Rattle.shm_queue.specs.QueueSteps.{put_here, same_part as queue_part, take_may}
 use Rattle.shm_queue.specs.QueueWords.{head_small, item_inside}
-use Rattle.shm_table.specs.declared.answer.PutFault.TheVariants.{EraSpent as Spent}
 use Rattle.shm_table.specs.declared.take_head.TakeHeadPoint.{TakeHeadPoint}
 use Rattle.shm_table.specs.declared.take_head.TakeHeadPoint.TheVariants.{Lower, Store}
 use Rattle.shm_table.specs.declared.take_head.TakeHeadState.{TakeHeadState}
 use Rattle.shm_table.specs.Staying.{Keeps}
 use Rattle.shm_table.specs.StayingLaws.{Rests, keeps_rest, raised_cause, root_named}
 use Rattle.shm_table.specs.TakeHeadControl.{TakeHeadAnswer, head_at, is_lower, take_head_ask, take_head_call, take_head_parts, taking_head}
-use Rattle.shm_table.specs.TakeHeadFits.{HeadLeft, HeadTaken, IsLowered, MayTakeHead, TakeHeadKnows, TakeHeadLeaves, passed_memo, take_head_part, take_head_plan}
+use Rattle.shm_table.specs.TakeHeadFits.{IsLowered, MayTakeHead, TakeHeadKnows, passed_memo, take_head_part, take_head_plan}
 use Rattle.shm_table.specs.ValueReads.{idle_here}
 
 -- ---- the item is received
