@@ -22,7 +22,8 @@ use Rattle.shm_table.specs.declared.recv.RecvPoint.{RecvPoint}
 use Rattle.shm_table.specs.declared.recv.RecvPoint.TheVariants as point
 use Rattle.shm_table.specs.declared.recv.RecvState.{RecvState}
 use Rattle.shm_table.specs.declared.take_head.TakeHeadState.{TakeHeadState}
-use Rattle.shm_table.specs.Answers.{fault_answer, spent_fault}
+use Rattle.shm_table.specs.Answers.{fault_answer}
+use Rattle.shm_table.specs.CopyControl.{copy_answer, stuck_answer}
 use Rattle.shm_table.specs.FetchHeadControl.{FetchHeadAnswer, FetchHeadCall, fetch_head_parts, fetching_head}
 use Rattle.shm_table.specs.FetchHeadFits.{fetch_head_plan}
 use Rattle.shm_table.specs.PutRootControl.{PutRootCalls, putting_root}
@@ -63,15 +64,6 @@ recv_call_at m point.Drop = Second (Second (calls_of drop_plan (dropping m.me m.
 
 -- ---- where it goes
 
--- what it answers, and what where the root of the value block stays
-abbrev pub recv_answer : ℕ → ℕ → Option PutFault → Answer
-recv_answer n b None = answer.Value n b
-recv_answer n b (Some f) = fault_answer f
-
-abbrev pub stuck_answer : ℕ → ℕ → Option PutFault → EraSpent → Answer
-stuck_answer n b None e = answer.Value n b
-stuck_answer n b (Some f) e = fault_answer (spent_fault e)
-
 -- by what was fetched
 abbrev pub fetched_after : RecvState → FetchedHead → RecvState
 fetched_after m (Empty n) = m
@@ -98,7 +90,7 @@ abbrev pub recv_turns : RecvState → RecvAnswer → Option Answer
 recv_turns m (First (First a)) = fetched_turns a
 recv_turns m (First (Second a)) = None
 recv_turns m (Second (First done)) = None
-recv_turns m (Second (Second (Ok z))) = Some (recv_answer m.number m.block m.refused)
+recv_turns m (Second (Second (Ok z))) = Some (copy_answer m.number m.block m.refused)
 recv_turns m (Second (Second (Err e))) = Some (stuck_answer m.number m.block m.refused e)
 
 abbrev pub is_fetch : RecvPoint → Bool

@@ -38,7 +38,7 @@ use Rattle.shm_table.specs.declared.recv.RecvPoint.{RecvPoint}
 use Rattle.shm_table.specs.declared.recv.RecvPoint.TheVariants.{Fetch, Put, Take, Drop}
 use Rattle.shm_table.specs.declared.recv.RecvState.{RecvState}
 use Rattle.shm_table.specs.Answers.{fault_answer}
-use Rattle.shm_table.specs.Commands.{CommandCause, RestSo, cause_put, cause_then, left_too}
+use Rattle.shm_table.specs.Commands.{RestSo, cause_fetch, cause_put, cause_then, left_too}
 use Rattle.shm_table.specs.FetchHeadControl.{fetch_head_parts, fetching_head}
 use Rattle.shm_table.specs.FetchHeadFits.{FetchHeadLeaves, IsHeadRooted, MayFetchHead, fetch_head_plan, fetch_head_steps}
 use Rattle.shm_table.specs.FetchHeadLaws.{fetch_head_begin}
@@ -47,7 +47,7 @@ use Rattle.shm_table.specs.PutRootFits.{IsDecided, PutRootDone, PutRootRefused, 
 use Rattle.shm_table.specs.PutRootSteps.{decided_after, decided_more, frees_append, same_more, same_part, search_before, search_more, set_after, set_then}
 use Rattle.shm_table.specs.RecvControl.{RecvAnswer, fetch_head_control, is_fetch, receiving_key, recv_call_at, recv_parts, take_head_control}
 use Rattle.shm_table.specs.RecvFits.{IsPassed, IsPutIn, IsWaiting, ItemSo, ItemTaken, MayRecv, NotReceivedIn, RecvKnows, RecvLeaves, put_in_steps, recv_part, recv_plan}
-use Rattle.shm_table.specs.Staying.{Ended, IsSpent, Keeps, PutCause, SameMap}
+use Rattle.shm_table.specs.Staying.{Ended, IsSpent, Keeps, SameMap}
 use Rattle.shm_table.specs.StayingLaws.{Rests, cleared_drop, dropped_else, keeps_drop, keeps_more, keeps_untouched, left_by, rests_untouched, root_kept, spent_drop, spent_later}
 use Rattle.shm_table.specs.TakeHeadControl.{take_head_parts, taking_head}
 use Rattle.shm_table.specs.TakeHeadFits.{MayTakeHead, TakeHeadLeaves, passed_memo, take_head_plan, take_head_steps}
@@ -157,13 +157,6 @@ not_received m r0 r tr es (fault.EraSpent e) h = h
 not_received m r0 r tr es fault.RootsFull h = h
 not_received m r0 r tr es (fault.Full s b) h = h
 not_received m r0 r tr es (fault.CountFull b n) h = h
-
--- why the value block got no root
-cause_fetch : (me : Me) (m r : Memo) (f : PutFault) → PutCause me m r f → CommandCause me m r f
-cause_fetch me m r (fault.EraSpent e) h = h
-cause_fetch me m r fault.RootsFull h = (0, λ j l n. h j l)
-cause_fetch me m r (fault.Full s b) h = h
-cause_fetch me m r (fault.CountFull b n) h = h
 
 -- ---- what follows each call
 

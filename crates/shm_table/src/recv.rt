@@ -15,6 +15,7 @@ ghost use Rattle.shm_table.specs.ReplaceLaws.{replace_laws};
 ghost use Rattle.shm_table.specs.TakeHeadLaws.{take_head_laws};
 
 use crate::answer::PutFault;
+use crate::copy::{answer, stuck};
 use crate::fetch_head::{FetchHead, FetchedHead, FetchingHead};
 use crate::put_root::PutRoot;
 use crate::take_head::{TakeHead, TakingHead};
@@ -83,28 +84,6 @@ impl Model for ReceivingKey {
 /// It answers the value block that the key has, and its number; or that the queue is empty, or why the key hasn't got the value block: from
 /// the step on by which it has it, no refusal changes the answer.
 pub type RecvKey = Calls<ReceivingKey>;
-
-/// What it answers.
-#[inline(always)]
-fn answer(number: u64, block: u32, refused: Option<PutFault>) -> Answer
-    ensures { result ≡ control.recv_answer number block refused }
-{
-    match refused {
-        None => Answer::Value { number, block },
-        Some(fault) => fault.answer(),
-    }
-}
-
-/// What it answers where the root of the value block couldn't be dropped.
-#[inline(always)]
-fn stuck(number: u64, block: u32, refused: Option<PutFault>, spent: EraSpent) -> Answer
-    ensures { result ≡ control.stuck_answer number block refused spent }
-{
-    match refused {
-        None => Answer::Value { number, block },
-        Some(_) => PutFault::spent(spent).answer(),
-    }
-}
 
 impl ReceivingKey {
     /// `key` is to have in the table of `me` the value block at the head of the queue from `from`.
