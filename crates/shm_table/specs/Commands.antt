@@ -58,6 +58,13 @@ RestSo c k m r (Some f) = AllButRoot c k m r ⊎ IsEraSpent f
 
 -- ---- why
 
+-- why it got no root, and no entry
+pub cause_fetch : (me : Me) (m r : Memo) (f : PutFault) → PutCause me m r f → CommandCause me m r f
+cause_fetch me m r (fault.EraSpent e) h = h
+cause_fetch me m r fault.RootsFull h = (0, λ j l n. h j l)
+cause_fetch me m r (fault.Full s b) h = h
+cause_fetch me m r (fault.CountFull b n) h = h
+
 -- why the key hasn't got it, where root k was empty before
 pub cause_put : (me : Me) (k : ℕ) (m x r : Memo) (f : PutFault) → k < 16 → root_word me.who m k ≡ 0 → ((j : ℕ) → k ≢ j → root_word me.who x j ≡ root_word me.who m j) → PutCause me x r f → CommandCause me m r f
 cause_put me k m x r (fault.EraSpent e) low empty others h = h

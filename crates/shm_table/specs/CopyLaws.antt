@@ -38,7 +38,7 @@ use Rattle.shm_table.specs.CopyFits.{CopyKnows, CopyLeaves, IsCopied, IsSource, 
 use Rattle.shm_table.specs.FetchControl.{fetch_parts, fetching}
 use Rattle.shm_table.specs.FetchFits.{FetchLeaves, IsRooted, MayFetch, fetch_plan, fetch_steps}
 use Rattle.shm_table.specs.FetchLaws.{fetch_begin}
-use Rattle.shm_table.specs.Commands.{CommandCause, RestSo, cause_put, cause_then, left_too}
+use Rattle.shm_table.specs.Commands.{RestSo, cause_fetch, cause_put, cause_then, left_too}
 use Rattle.shm_table.specs.PutRootControl.{put_root_parts, putting_root}
 use Rattle.shm_table.specs.PutRootFits.{IsDecided, IsEraSpent, PutRootLeaves, put_root_control, put_root_plan, put_root_steps}
 use Rattle.shm_table.specs.PutRootSteps.{decided_after, decided_more, frees_append, same_more, same_part, search_before, search_more, set_after, set_then}
@@ -114,13 +114,6 @@ not_copied m r0 r tr es (fault.EraSpent e) h = h
 not_copied m r0 r tr es fault.RootsFull h = h
 not_copied m r0 r tr es (fault.Full s b) h = h
 not_copied m r0 r tr es (fault.CountFull b n) h = h
-
--- why the value block got no root
-cause_fetch : (me : Me) (m r : Memo) (f : PutFault) → PutCause me m r f → CommandCause me m r f
-cause_fetch me m r (fault.EraSpent e) h = h
-cause_fetch me m r fault.RootsFull h = (0, λ j l n. h j l)
-cause_fetch me m r (fault.Full s b) h = h
-cause_fetch me m r (fault.CountFull b n) h = h
 
 -- the reading stays a part of what was asked
 abbrev source_more : (me : Me) (a other n v : ℕ) (r0 : Memo) (tr t : Trail) → IsSource me a other n v r0 tr → IsSource me a other n v r0 (tr ++ t)

@@ -60,6 +60,17 @@ pub mod CopyControl
 pub mod CopyFits
 pub mod CopyLaws
 pub mod CopyMachines
+pub mod FetchHeadControl
+pub mod FetchHeadFits
+pub mod FetchHeadLaws
+pub mod TakeHeadControl
+pub mod TakeHeadFits
+pub mod TakeHeadLaws
+pub mod RecvControl
+pub mod RecvFits
+pub mod RecvLaws
+pub mod RecvBound
+pub mod RecvMachines
 pub mod ReadMachines
 pub mod ChangeMachines
 pub mod Machines

@@ -168,7 +168,7 @@ impl Machine for CopyKey {
 
 /// What it answers.
 #[inline(always)]
-fn answer(number: u64, block: u32, refused: Option<PutFault>) -> Answer
+pub fn answer(number: u64, block: u32, refused: Option<PutFault>) -> Answer
     ensures { result ≡ control.copy_answer number block refused }
 {
     match refused {
@@ -179,7 +179,7 @@ fn answer(number: u64, block: u32, refused: Option<PutFault>) -> Answer
 
 /// What it answers where the root of the value block couldn't be dropped.
 #[inline(always)]
-fn stuck(number: u64, block: u32, refused: Option<PutFault>, spent: EraSpent) -> Answer
+pub fn stuck(number: u64, block: u32, refused: Option<PutFault>, spent: EraSpent) -> Answer
     ensures { result ≡ control.stuck_answer number block refused spent }
 {
     match refused {

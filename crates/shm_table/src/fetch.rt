@@ -96,7 +96,7 @@ fn word_of(block: u32, word: u32) -> u32
 
 /// Why a block got no root.
 #[inline(always)]
-fn shared(fault: ShareFault) -> PutFault
+pub fn shared(fault: ShareFault) -> PutFault
     ensures { result ≡ control.shared_fault fault }
 {
     match fault {

@@ -33,6 +33,12 @@ mod put_root_there_tests;
 #[cfg(test)]
 mod put_tests;
 #[cfg(test)]
+mod recv_refusal_tests;
+#[cfg(test)]
+mod recv_spent_tests;
+#[cfg(test)]
+mod recv_tests;
+#[cfg(test)]
 mod replace_tests;
 #[cfg(test)]
 mod unlink_refusal_tests;

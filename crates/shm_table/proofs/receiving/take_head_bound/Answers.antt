@@ -1,0 +1,6 @@
+use Rattle.shm_table.specs.RecvBound.{take_head_short}
+use Rattle.shm_table.specs.RecvMachines.{take_head_told}
+use Rattle.shm_table.proofs.receiving.take_head_bound.Goals as goal
+
+pub returns-clause-within : goal.returns-clause-within
+returns-clause-within c me s n b r0 r tr a h = take_head_short me s n b r0 r tr (take_head_told me s n b tr) a h.leaves

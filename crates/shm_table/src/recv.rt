@@ -1,0 +1,215 @@
+//! A key of the own table comes to have the value block at the head of a queue from another identity, and then the head is taken.
+
+ghost use Rattle.std.specs.Prelude.{◌≡◌, ◌<◌};
+ghost use Rattle.shm_words.specs.Layout.{GeometryFits};
+ghost use Rattle.shm_table.specs.RecvControl as control;
+ghost use Rattle.shm_table.specs.RecvControl.{receiving_key};
+ghost use Rattle.shm_table.specs.RecvFits.{recv_plan};
+ghost use Rattle.shm_table.specs.RecvLaws.{recv_laws};
+ghost use Rattle.shm_table.specs.EnterLaws.{enter_laws};
+ghost use Rattle.shm_table.specs.FetchHeadLaws.{fetch_head_laws};
+ghost use Rattle.shm_table.specs.LocateLaws.{locate_laws};
+ghost use Rattle.shm_table.specs.OpenLaws.{open_laws};
+ghost use Rattle.shm_table.specs.PutRootLaws.{put_root_laws};
+ghost use Rattle.shm_table.specs.ReplaceLaws.{replace_laws};
+ghost use Rattle.shm_table.specs.TakeHeadLaws.{take_head_laws};
+
+use crate::answer::PutFault;
+use crate::copy::{answer, stuck};
+use crate::fetch_head::{FetchHead, FetchedHead, FetchingHead};
+use crate::put_root::PutRoot;
+use crate::take_head::{TakeHead, TakingHead};
+use shm_calls::{Calls, Or, Plan};
+use shm_count::EraSpent;
+use shm_graph::{Machine, Me};
+use shm_ref::{DropRoot, Dropping};
+use shm_script::Answer;
+use std::marker::Model;
+
+/// Which call of it comes next.
+#[derive(Clone, Copy, Debug, PartialEq, Eq, Drop)]
+pub enum RecvPoint {
+    /// The head of the queue is read, and its value block comes to have a root.
+    Fetch,
+    /// The key comes to have it.
+    Put,
+    /// The head is taken.
+    Take,
+    /// The root of the value block is dropped.
+    Drop,
+}
+
+/// The control of it: the own head is `at`, `block` is the value block there, `number` its number and `root` its root; `refused` is why the
+/// key hasn't got it.
+#[derive(Clone, Copy, Debug, PartialEq, Eq, Drop)]
+pub struct RecvState {
+    pub me: Me,
+    pub from: u8,
+    pub key: u32,
+    pub root: u8,
+    pub block: u32,
+    pub number: u64,
+    pub at: u64,
+    pub refused: Option<PutFault>,
+    pub point: RecvPoint,
+}
+
+/// Its calls.
+pub type RecvCall = Or<Or<FetchHead, TakeHead>, Or<PutRoot, DropRoot>>;
+
+/// What its calls answer.
+pub type RecvAnswer = Or<
+    Or<FetchedHead, Result<(), EraSpent>>,
+    Or<Result<(), PutFault>, Result<bool, EraSpent>>,
+>;
+
+/// The calls by which a key comes to have the value block at the head of a queue.
+#[derive(Drop)]
+pub struct ReceivingKey {
+    state: RecvState,
+}
+
+impl Model for ReceivingKey {
+    ghost use Rattle.shm_table.specs.declared.recv.RecvState.{RecvState as AState};
+
+    ghost Value = { AState };
+
+    ghost view = { λ a. a.state };
+
+    ghost use Rattle.shm_table.specs.RecvControl.{RecvInRange};
+
+    ghost invariant = { λ a. RecvInRange a.state };
+}
+
+/// It answers the value block that the key has, and its number; or that the queue is empty, or why the key hasn't got the value block: from
+/// the step on by which it has it, no refusal changes the answer.
+pub type RecvKey = Calls<ReceivingKey>;
+
+impl ReceivingKey {
+    /// `key` is to have in the table of `me` the value block at the head of the queue from `from`.
+    #[inline(always)]
+    pub fn new(me: Me, from: u8, key: u32) -> ReceivingKey
+        requires geometry { GeometryFits me.geometry }
+        requires who { me.who < me.geometry.clients }
+        requires from { from < me.geometry.clients }
+        ensures { result ≡ receiving_key me from key }
+    {
+        ReceivingKey {
+            state: RecvState {
+                me,
+                from,
+                key,
+                root: 0,
+                block: 0,
+                number: 0,
+                at: 0,
+                refused: None,
+                point: RecvPoint::Fetch,
+            },
+        }
+    }
+}
+
+impl RecvState {
+    /// Where it goes by what was fetched.
+    #[inline(always)]
+    fn fetched(&mut self, fetched: FetchedHead) -> Option<Answer>
+        ensures state { self.new ≡ control.fetched_after self.old fetched }
+        ensures answer { result ≡ control.fetched_turns fetched }
+    {
+        match fetched {
+            FetchedHead::Empty { at } => Some(Answer::Empty { at }),
+            FetchedHead::Refused(fault) => Some(fault.answer()),
+            FetchedHead::Rooted {
+                root,
+                block,
+                number,
+                at,
+            } => {
+                self.root = root % 16;
+                self.block = block % (1 << 20);
+                self.number = number;
+                self.at = at;
+                self.point = RecvPoint::Put;
+                None
+            }
+        }
+    }
+
+    /// Where it goes once the key has the value block, or is refused it: the head is taken only then.
+    #[inline(always)]
+    fn put(&mut self, done: Result<(), PutFault>)
+        ensures { self.new ≡ control.put_after self.old done }
+    {
+        match done {
+            Ok(()) => {
+                self.refused = None;
+                self.point = RecvPoint::Take;
+            }
+            Err(fault) => {
+                self.refused = Some(fault);
+                self.point = RecvPoint::Drop;
+            }
+        }
+    }
+}
+
+impl Plan for ReceivingKey {
+    type Call = RecvCall;
+
+    type Answer = Answer;
+
+    ghost plan = { recv_plan };
+
+    #[inline(always)]
+    fn me(&self) -> Me {
+        self.state.me
+    }
+
+    #[inline(always)]
+    fn call(&self) -> RecvCall {
+        let RecvState {
+            me,
+            from,
+            key,
+            root,
+            block,
+            at,
+            point,
+            ..
+        } = self.state;
+        match point {
+            RecvPoint::Fetch => Or::First(Or::First(Calls::new(FetchingHead::new(me, from)))),
+            RecvPoint::Take => Or::First(Or::Second(Calls::new(TakingHead::new(
+                me, from, at, block,
+            )))),
+            RecvPoint::Put => Or::Second(Or::First(PutRoot::new(me, key, block))),
+            RecvPoint::Drop => Or::Second(Or::Second(Calls::new(Dropping::new(me, root)))),
+        }
+    }
+
+    #[inline(always)]
+    fn next(&mut self, given: RecvAnswer) -> Option<Answer> {
+        let RecvState {
+            number,
+            block,
+            refused,
+            ..
+        } = self.state;
+        match given {
+            Or::First(Or::First(fetched)) => self.state.fetched(fetched),
+            Or::First(Or::Second(_)) => {
+                self.state.point = RecvPoint::Drop;
+                None
+            }
+            Or::Second(Or::First(done)) => {
+                self.state.put(done);
+                None
+            }
+            Or::Second(Or::Second(Ok(_))) => Some(answer(number, block, refused)),
+            Or::Second(Or::Second(Err(spent))) => Some(stuck(number, block, refused, spent)),
+        }
+    }
+
+    ghost laws = { recv_laws fetch_head_laws take_head_laws (put_root_laws open_laws locate_laws replace_laws enter_laws) };
+}
