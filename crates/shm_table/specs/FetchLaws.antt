@@ -54,7 +54,7 @@ use Rattle.shm_table.specs.declared.find.Found.TheVariants.{Absent, At}
 use Rattle.shm_table.specs.declared.get.GetPoint.TheVariants as get
 use Rattle.shm_table.specs.FetchControl.{FetchAnswer, fetch_ask, fetch_call, fetch_outcome, fetch_parts, fetching, is_search, shared_fault}
 use Rattle.shm_table.specs.FetchFits.{FetchFound, FetchKnows, FetchLeaves, GiveKnows, IsOn, IsRooted, IsUnrooted, MayFetch, fetch_part, fetch_plan, fetch_steps, fetch_word_part, got, rooted_steps}
-use Rattle.shm_table.specs.FetchSteps.{clear_reading, idle_more, keeps_reading, keeps_root, map_reading, root_others, root_part, root_value, value_listed}
+use Rattle.shm_table.specs.FetchSteps.{clear_reading, idle_more, keeps_reading, keeps_root, map_reading, on_more, one_step, root_others, root_part, root_value, search_on, value_seen}
 use Rattle.shm_table.specs.FindBound.{find_within, keys_read}
 use Rattle.shm_table.specs.FindControl.{word_ask}
 use Rattle.shm_table.specs.EntryReads.{reference_reads}
@@ -90,63 +90,31 @@ module _ (m : FetchState) (r0 rs r : Memo) (tr t : Trail) (es ds : List Event) (
 
   -- ---- the search
 
-  -- nothing was asked before it
-  search_at : (entry before word : ℕ) → tr ≡ [] → Located m.me a m.key rs r t ds (At entry before word) → recovers rs ≡ false → IsOn m.me a m.key 4 r (tr ++ t)
-  search_at entry before word none w client =
-      let u = find_within m.me a m.key w.latched r w.after ds (At entry before word) w.found in
-      let n : ℕ = keys_read u.0 (At entry before word) in
-      let all : IsWithin (2 + (2 + 2 * n)) (w.before ++ w.after) = within_more 2 (2 + 2 * n) w.before w.after w.bound u.2 in
-      subst (λ (x : Trail). IsOn m.me a m.key 4 r (x ++ t)) (sym none)
-      (record {
-        idle = w.idle;
-        client = agent ∙ client;
-        keys = n;
-        search = (w.before, w.after, [], w.trail ∙ ap (λ (x : Trail). w.before ++ x) (sym (append-nil w.after)), (u.0, At entry before word, u.1, refl));
-        bound = subst (IsWithin (4 + 2 * n)) (sym w.trail) (omega arith);
-      })
-
   searched_found : (b : Found) → FetchKnows (record m { point = Search }) Search r0 rs tr es → Located m.me a m.key rs r t ds b → Goes Search (First b)
   searched_found (Absent home first) (may, same, none, quiet) w = nowhere (got m get.Search) r0 rs r tr t es ds held (may.locate, same, none, quiet) home first w
   searched_found (At entry before word) (may, same, none, quiet) w = (
     at_entry (got m get.Search) r0 rs r tr t es ds held (may.locate, same, none, quiet) entry before word w,
-    search_at entry before word none w (ap recovers same ∙ may.client),
+    search_on m.me a m.key entry before word rs r tr t ds none (agent ∙ (ap recovers same ∙ may.client)) w,
     may.client,
   )
 
   -- ---- the loads
 
-  -- one more word step
-  on_more : (steps : ℕ) → IsOn m.me a m.key steps rs tr → IsIdle c r → IsWithin 1 t → IsOn m.me a m.key (steps + 1) r (tr ++ t)
-  on_more steps h idle one =
-      let all = within_more (steps + 2 * h.keys) 1 tr t h.bound one in
-      record { idle = idle; client = agent ∙ h.client; keys = h.keys; search = search_more m.me a m.key h.keys tr t h.search; bound = omega arith }
-
-  one_step : (e : ℕ) (n : ℕ) (i : ℕ) → Asked (word_ask e i) (λ x. Answers x) t n → IsWithin 1 t
-  one_step e n i asked = subst (IsWithin 1) (sym (one_pair (word_ask e i) t n asked)) (omega arith)
-
-  -- the block that the value word names is a value block
-  listed : (n : ℕ) → GetKnows (got (record m { point = Value }) get.Value) get.Value r0 rs tr es → GetKnows (record (got m get.Number) { block = n % 2 ^ 20 }) get.Number r0 r (tr ++ t) (es ++ ds) → ReferenceLoaded m.entry 1 rs n r → Contains r.values (n % 2 ^ 20)
-  listed n (h, here, room) (next, look, value, inside) left =
-      let table = table_of m.me a r0 rs h.reading in
-      let reads = reference_reads m.entry 1 rs n r left in
-      let known : Contains r.known (record { spot = Body m.entry 1; value = n }) = subst (λ (ks : List Stored). Contains ks (record { spot = Body m.entry 1; value = n })) (sym reads.0.known) (learnt_here (Body m.entry 1) n rs.known) in
-      let some : n ≢ 0 = entry_value m.me a m.key m.entry n r next.has (idle_of m.me a r0 r next.reading) known h.reading.may.who held in
-      let is : IsIn r AValue n = look_in rs r m.entry 1 n AnEntry table reads.0.part here.0 (reads.1 some) in
-      let roomy = value_room m.me r n h.reading.may.who held is in
-      let total = total_small m.me.geometry h.reading.may.geometry in
-      let small : n ≡ n % 2 ^ 20 = omega arith in
-      subst (λ b. Contains r.values b) small (value_listed m.entry rs n r table here.0 some left)
-
   value_found : (n : ℕ) → FetchKnows (record m { point = Value }) Value r0 rs tr es → ReferenceLoaded m.entry 1 rs n r → ds ≡ [] → Asked (word_ask m.entry 1) (λ x. Answers x) t n → FetchKnows (record m { block = n % 2 ^ 20; point = Number }) Number r0 r (tr ++ t) (es ++ ds)
   value_found n (h, on, client) left none asked =
       let next = value_read (got m get.Value) r0 rs r tr t es ds held n h left none asked in
-      (next, on_more 4 on (idle_more c rs r (reference_more m.entry 1 rs n r left) on.idle) (one_step m.entry n 1 asked), client, listed n h next left)
+      (
+        next,
+        on_more m.me a m.key 4 rs r tr t on (idle_more c rs r (reference_more m.entry 1 rs n r left) on.idle) agent (one_step m.entry n 1 t asked),
+        client,
+        value_seen (got m get.Value) r0 rs r (tr ++ t) (es ++ ds) held n h.0.reading h.1.0 next left,
+      )
 
   number_found : (n : ℕ) → FetchKnows (record m { point = Number }) Number r0 rs tr es → WordLoaded (Body m.block 0) rs n r → ds ≡ [] → Asked (word_ask m.block 0) (λ x. Answers x) t n → FetchKnows (record m { number = n; point = Share }) Share r0 r (tr ++ t) (es ++ ds)
   number_found n (h, on, client, listed) left none asked =
       let next = number_read (got m get.Number) r0 rs r tr t es ds held n h left none asked in (
         next,
-        on_more 5 on (idle_more c rs r (word_more (Body m.block 0) rs n r left) on.idle) (one_step m.block n 0 asked),
+        on_more m.me a m.key 5 rs r tr t on (idle_more c rs r (word_more (Body m.block 0) rs n r left) on.idle) agent (one_step m.block n 0 t asked),
         client,
         record { value = subst (λ (vs : List ℕ). Contains vs m.block) (sym (ap (λ (x : Memo). x.values) left.left)) listed; word = next.1.number },
         look_reached c r m.block (ap (λ (ks : List Look). list_any (eqb m.block) (map (λ (k : Look). k.block) ks)) (ap (λ (x : Memo). x.looks) left.left) ∙ h.2.1),

@@ -59,6 +59,12 @@ pub mod CopyControl
 pub mod CopyFits
 pub mod CopyLaws
 pub mod CopyMachines
+pub mod SendKeyControl
+pub mod SendKeyFits
+pub mod SendKeySteps
+pub mod SendKeyLaws
+pub mod SendKeyBound
+pub mod SendMachines
 pub mod ReadMachines
 pub mod ChangeMachines
 pub mod Machines

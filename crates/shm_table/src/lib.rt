@@ -54,6 +54,10 @@ pub mod reading;
 pub mod replace;
 #[cfg(test)]
 mod replace_tests;
+pub mod send_key;
+#[cfg(test)]
+mod send_key_tests;
+pub mod sending;
 pub mod staying;
 #[cfg(test)]
 mod stepping;
@@ -74,3 +78,5 @@ pub use get::{Get, Getting, Valued};
 pub use put::{Put, Putting};
 pub use putting::{put_begins, put_bound, put_events, put_leaves};
 pub use reading::{get_begins, get_bound, get_events, get_leaves, get_tells};
+pub use send_key::{SendKey, SendingKey};
+pub use sending::{send_key_begins, send_key_bound, send_key_events, send_key_leaves};

@@ -29,5 +29,6 @@ pub use crate::reading::{
     unlatch_bound, unlatch_events, unlatch_leaves,
 };
 pub use crate::replace::{Replace, ReplacePoint, ReplaceState, Replacing};
+pub use crate::send_key::{SendKeyPoint, SendKeyState};
 pub use crate::unlatch::{Unlatch, UnlatchPoint, UnlatchState, Unlatching};
 pub use crate::unlink::{Unlink, UnlinkPoint, UnlinkState, Unlinking};
