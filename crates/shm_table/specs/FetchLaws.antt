@@ -102,8 +102,7 @@ module _ (m : FetchState) (r0 rs r : Memo) (tr t : Trail) (es ds : List Event) (
 
   value_found : (n : ℕ) → FetchKnows (record m { point = Value }) Value r0 rs tr es → ReferenceLoaded m.entry 1 rs n r → ds ≡ [] → Asked (word_ask m.entry 1) (λ x. Answers x) t n → FetchKnows (record m { block = n % 2 ^ 20; point = Number }) Number r0 r (tr ++ t) (es ++ ds)
   value_found n (h, on, client) left none asked =
-      let next = value_read (got m get.Value) r0 rs r tr t es ds held n h left none asked in
-      (
+      let next = value_read (got m get.Value) r0 rs r tr t es ds held n h left none asked in (
         next,
         on_more m.me a m.key 4 rs r tr t on (idle_more c rs r (reference_more m.entry 1 rs n r left) on.idle) agent (one_step m.entry n 1 t asked),
         client,

@@ -54,14 +54,23 @@ fn the_block_of_the_first_entry_is_sent(rt: HostRuntime) -> Result<(), Fail> {
         (load(20), 26),
         (store(5, 2305980448167166140), 0),
         (load(188), 9367627962418987033),
-        (exchange(188, 9367627962418987033, 9367768699907342362), 9367627962418987033),
+        (
+            exchange(188, 9367627962418987033, 9367768699907342362),
+            9367627962418987033,
+        ),
         (store(125, 188), 0),
         (store(20, 27), 0),
         (store(123, 1), 0),
         (store(11, 0), 0),
         (store(8, 0), 0),
     ];
-    let others = [(5, 2305980448167166140), (20, 27), (123, 1), (125, 188), (188, 9367768699907342362)];
+    let others = [
+        (5, 2305980448167166140),
+        (20, 27),
+        (123, 1),
+        (125, 188),
+        (188, 9367768699907342362),
+    ];
     let answer = Answer::Ok;
     assert!(rt; sent(rt.alloc(), machine, &before, &steps, answer, &others)?);
     Ok(())
@@ -86,14 +95,23 @@ fn the_block_of_the_second_entry_is_sent(rt: HostRuntime) -> Result<(), Fail> {
         (load(20), 26),
         (store(5, 2305980448167166136), 0),
         (load(184), 9367627962418987025),
-        (exchange(184, 9367627962418987025, 9367768699907342362), 9367627962418987025),
+        (
+            exchange(184, 9367627962418987025, 9367768699907342362),
+            9367627962418987025,
+        ),
         (store(125, 184), 0),
         (store(20, 27), 0),
         (store(123, 1), 0),
         (store(11, 0), 0),
         (store(8, 0), 0),
     ];
-    let others = [(5, 2305980448167166136), (20, 27), (123, 1), (125, 184), (184, 9367768699907342362)];
+    let others = [
+        (5, 2305980448167166136),
+        (20, 27),
+        (123, 1),
+        (125, 184),
+        (184, 9367768699907342362),
+    ];
     let answer = Answer::Ok;
     assert!(rt; sent(rt.alloc(), machine, &before, &steps, answer, &others)?);
     Ok(())
@@ -117,14 +135,23 @@ fn a_block_is_sent_behind_others(rt: HostRuntime) -> Result<(), Fail> {
         (load(20), 26),
         (store(5, 2305985945725305020), 0),
         (load(188), 9367627962418987033),
-        (exchange(188, 9367627962418987033, 9367768699907342362), 9367627962418987033),
+        (
+            exchange(188, 9367627962418987033, 9367768699907342362),
+            9367627962418987033,
+        ),
         (store(130, 188), 0),
         (store(20, 27), 0),
         (store(123, 6), 0),
         (store(11, 0), 0),
         (store(8, 0), 0),
     ];
-    let others = [(5, 2305985945725305020), (20, 27), (123, 6), (130, 188), (188, 9367768699907342362)];
+    let others = [
+        (5, 2305985945725305020),
+        (20, 27),
+        (123, 6),
+        (130, 188),
+        (188, 9367768699907342362),
+    ];
     let answer = Answer::Ok;
     assert!(rt; sent(rt.alloc(), machine, &before, &steps, answer, &others)?);
     Ok(())
@@ -178,7 +205,18 @@ fn a_full_queue_takes_no_block(rt: HostRuntime) -> Result<(), Fail> {
     let me = Me::new(Geometry::new(3, 1)?, 1);
     let machine = Calls::new(SendingKey::new(me, 2, 5));
     // nine were sent and one received
-    let before = [(123, 9), (124, 1), (125, 188), (126, 188), (127, 188), (128, 188), (129, 188), (130, 188), (131, 188), (132, 188)];
+    let before = [
+        (123, 9),
+        (124, 1),
+        (125, 188),
+        (126, 188),
+        (127, 188),
+        (128, 188),
+        (129, 188),
+        (130, 188),
+        (131, 188),
+        (132, 188),
+    ];
     let steps = [
         (store(8, 2), 0),
         (exchange(11, 0, 2), 0),
@@ -216,7 +254,9 @@ fn with_a_spent_era_nothing_is_sent(rt: HostRuntime) -> Result<(), Fail> {
         (store(8, 0), 0),
     ];
     let others = [];
-    let answer = Answer::EraSpent { era: 140737488355326 };
+    let answer = Answer::EraSpent {
+        era: 140737488355326,
+    };
     assert!(rt; sent(rt.alloc(), machine, &before, &steps, answer, &others)?);
     Ok(())
 }
@@ -280,7 +320,10 @@ fn a_held_latch_is_tried_again(rt: HostRuntime) -> Result<(), Fail> {
         (load(20), 26),
         (store(5, 2305980448167166140), 0),
         (load(188), 9367627962418987033),
-        (exchange(188, 9367627962418987033, 9367768699907342362), 9367627962418987033),
+        (
+            exchange(188, 9367627962418987033, 9367768699907342362),
+            9367627962418987033,
+        ),
         (store(125, 188), 0),
         (store(20, 27), 0),
         (store(123, 1), 0),
@@ -288,7 +331,13 @@ fn a_held_latch_is_tried_again(rt: HostRuntime) -> Result<(), Fail> {
         (store(8, 0), 0),
     ];
     assert_eq!(rt; follow(&mut machine, &mut words, &steps), Some(Answer::Ok));
-    let others = [(5, 2305980448167166140), (20, 27), (123, 1), (125, 188), (188, 9367768699907342362)];
+    let others = [
+        (5, 2305980448167166140),
+        (20, 27),
+        (123, 1),
+        (125, 188),
+        (188, 9367768699907342362),
+    ];
     let after = free_table(rt.alloc(), &others)?;
     assert_eq!(rt; words.as_slice(), after.as_slice());
     Ok(())
