@@ -1,25 +1,17 @@
 -- what is owed of reading what a key has and giving it a root
-use Rattle.std.proofs.Common.{◌≡◌, ◌≢◌, ℕ, ◌+◌, ◌*◌, ◌%◌, ◌^◌, ◌<◌, ◌≤◌, refl, sym, ap, ◌∙◌, subst, arith, Bool, true, false, eqb, ◌&&◌, append_assoc, append-nil, List, [], ◌∷◌, ◌++◌, inl, inr}
-use Rattle.std.specs.Prelude.{map, Option, Some, None, Result, Ok, Err}
+use Rattle.std.proofs.Common.{◌≡◌, ℕ, ◌+◌, ◌*◌, ◌%◌, ◌^◌, refl, sym, ap, ◌∙◌, subst, arith, false, eqb, List, [], ◌∷◌, ◌++◌}
+use Rattle.std.specs.Prelude.{map, Some, Result, Ok, Err}
 use Rattle.std.specs.List.{Contains, list_any}
-use Rattle.std.proofs.lemmas.Bool.{cases_Bool, cond-false, cond-true, eqb-true, ne_eqb}
-use Rattle.shm_words.specs.Layout.{total_of}
 use Rattle.shm_words.proofs.Placing.{total_small}
 use Rattle.shm_graph.specs.declared.ask.Me.{Me}
 use Rattle.shm_graph.specs.declared.memo.Look.{Look}
 use Rattle.shm_graph.specs.declared.memo.Memo.{Memo}
-use Rattle.shm_graph.specs.declared.memo.Stored.{Stored}
-use Rattle.shm_graph.specs.declared.spot.Spot.{Spot}
-use Rattle.shm_graph.specs.declared.spot.Spot.TheVariants.{Body, Era, Hold, Home, Root}
+use Rattle.shm_graph.specs.declared.spot.Spot.TheVariants.{Body, Era, Home, Root}
 use Rattle.shm_graph.specs.Agents.{recovers}
-use Rattle.shm_graph.specs.Asks.{Trail, IsWithin, pair}
+use Rattle.shm_graph.specs.Asks.{Trail, IsWithin}
 use Rattle.shm_graph.specs.Bounds.{up_steps}
-use Rattle.shm_graph.specs.Core.{core}
 use Rattle.shm_graph.specs.Events.{Event}
 use Rattle.shm_graph.specs.Events as event
-use Rattle.shm_graph.specs.Idle.{IsIdle, hold_word}
-use Rattle.shm_graph.specs.Reach.{is_reached}
-use Rattle.shm_graph.specs.Telling.{Entry as AnEntry, Value as AValue}
 use Rattle.shm_graph.specs.Trails.{Answers, Asked}
 use Rattle.shm_graph.specs.Views.{own_word}
 use Rattle.shm_calls.specs.declared.or.Or.TheVariants.{First, Second}
@@ -29,19 +21,15 @@ use Rattle.shm_calls.specs.Either.{or_control, or_part, or_part_laws}
 use Rattle.shm_calls.specs.Parts.{IsHeld}
 use Rattle.shm_calls.specs.Plans.{PlanLaws, PlanStays, IsCall, Follows}
 use Rattle.shm_calls.specs.Words.{word_control, word_part, word_part_laws}
-use Rattle.shm_steps.specs.Reparting.{sight, map_in, IsValue}
-use Rattle.shm_steps.specs.Walking.{IsIn}
 use Rattle.shm_steps.specs.WordParts.{ReferenceLoaded, WordLoaded}
 use Rattle.shm_steps.proofs.Reaching.{look_reached}
-use Rattle.shm_steps.proofs.Seeking.{learnt_here}
 use Rattle.shm_steps.proofs.WordsBlocks.{idle_settled, plain_load, reference_load}
 use Rattle.shm_count.specs.declared.answer.ShareFault.{ShareFault}
 use Rattle.shm_count.specs.declared.answer.ShareFault.TheVariants as share
-use Rattle.shm_count.specs.Roots.{root_word}
-use Rattle.shm_count.specs.UpRootFits.{MayUpRoot, UpRootLeaves}
+use Rattle.shm_count.specs.UpRootFits.{UpRootLeaves}
 use Rattle.shm_count.specs.UpRootPart.{may_up_root, rooted_root, up_root, up_root_bound, up_root_part}
 use Rattle.shm_count.proofs.UpRootPart.{up_root_laws}
-use Rattle.shm_ref.specs.AskedParts.{asked_part_laws, one_pair}
+use Rattle.shm_ref.specs.AskedParts.{asked_part_laws}
 use Rattle.shm_table.specs.declared.answer.PutFault.{PutFault}
 use Rattle.shm_table.specs.declared.answer.PutFault.TheVariants.{EraSpent, RootsFull, CountFull}
 use Rattle.shm_table.specs.declared.fetch.FetchPoint.{FetchPoint}
@@ -52,24 +40,19 @@ use Rattle.shm_table.specs.declared.fetch.Fetched.TheVariants.{Missing, Refused,
 use Rattle.shm_table.specs.declared.find.Found.{Found}
 use Rattle.shm_table.specs.declared.find.Found.TheVariants.{Absent, At}
 use Rattle.shm_table.specs.declared.get.GetPoint.TheVariants as get
-use Rattle.shm_table.specs.FetchControl.{FetchAnswer, fetch_ask, fetch_call, fetch_outcome, fetch_parts, fetching, is_search, shared_fault}
-use Rattle.shm_table.specs.FetchFits.{FetchFound, FetchKnows, FetchLeaves, GiveKnows, IsOn, IsRooted, IsUnrooted, MayFetch, fetch_part, fetch_plan, fetch_steps, fetch_word_part, got, rooted_steps}
+use Rattle.shm_table.specs.FetchControl.{FetchAnswer, fetch_ask, fetch_call, fetch_outcome, fetch_parts, fetching, is_search}
+use Rattle.shm_table.specs.FetchFits.{FetchFound, FetchKnows, FetchLeaves, GiveKnows, IsOn, MayFetch, fetch_part, fetch_plan, fetch_word_part, got, rooted_steps}
 use Rattle.shm_table.specs.FetchSteps.{clear_reading, idle_more, keeps_reading, keeps_root, map_reading, on_more, one_step, root_others, root_part, root_value, search_on, value_seen}
-use Rattle.shm_table.specs.FindBound.{find_within, keys_read}
 use Rattle.shm_table.specs.FindControl.{word_ask}
-use Rattle.shm_table.specs.EntryReads.{reference_reads}
-use Rattle.shm_table.specs.FindReads.{entry_latched, look_in}
-use Rattle.shm_table.specs.FindTells.{entry_value}
-use Rattle.shm_table.specs.GetBound.{locate_within}
-use Rattle.shm_table.specs.GetFits.{GetKnows, IsAt, IsNowhere, IsReading, IsTold}
-use Rattle.shm_table.specs.GetLaws.{at_entry, idle_of, latch_of, may_unlatch, missing, nowhere, number_read, table_of, told_own, value_plain, value_read, value_room}
+use Rattle.shm_table.specs.FindReads.{entry_latched}
+use Rattle.shm_table.specs.GetFits.{IsReading}
+use Rattle.shm_table.specs.GetLaws.{at_entry, latch_of, may_unlatch, missing, nowhere, number_read, told_own, value_plain, value_read}
 use Rattle.shm_table.specs.GetReads.{reference_more, word_more}
 use Rattle.shm_table.specs.LocateControl.{locate_parts}
 use Rattle.shm_table.specs.LocateFits.{Located, MayLocate, locate_control, locate_plan}
 use Rattle.shm_table.specs.LocateLaws.{locate_begin, locate_laws}
-use Rattle.shm_table.specs.PutRootFits.{HasSearch}
 use Rattle.shm_table.specs.PutRootSteps.{same_more, same_part, search_more}
-use Rattle.shm_table.specs.Staying.{Cleared, Keeps, PutCause, SameMap}
+use Rattle.shm_table.specs.Staying.{Keeps, PutCause}
 use Rattle.shm_table.specs.StayingLaws.{Rests, cause_before, cause_later, cleared_more, keeps_core, keeps_more, keeps_unlatched, keeps_untouched, rests_core, rests_untouched, unlatched_else}
 use Rattle.shm_table.specs.UnlatchFits.{MayUnlatch, Unlatched, unlatch_control, unlatch_plan}
 use Rattle.shm_table.specs.UnlatchLaws.{unlatch_begin, unlatch_laws}

@@ -1,19 +1,15 @@
 -- what is owed of sending what an own key has
-use Rattle.std.proofs.Common.{◌≡◌, ◌≢◌, ℕ, ◌+◌, ◌*◌, ◌%◌, ◌^◌, ◌<◌, ◌≤◌, refl, sym, ap, ◌∙◌, subst, arith, false, true, eqb, List, [], ◌∷◌, ◌++◌, inl, inr}
-use Rattle.std.specs.Prelude.{map, Option, Some, None, Result, Ok, Err, slice_index}
-use Rattle.std.specs.List.{Contains, list_any}
+use Rattle.std.proofs.Common.{◌≡◌, ℕ, ◌+◌, ◌*◌, ◌%◌, ◌^◌, refl, sym, ap, ◌∙◌, subst, arith, false, List, [], ◌∷◌, ◌++◌}
+use Rattle.std.specs.Prelude.{Some, None, Ok, Err, slice_index}
 use Rattle.shm_graph.specs.declared.ask.Me.{Me}
-use Rattle.shm_graph.specs.declared.memo.Look.{Look}
 use Rattle.shm_graph.specs.declared.memo.Memo.{Memo}
 use Rattle.shm_graph.specs.declared.spot.Spot.TheVariants.{Body, Era, Home, Slot, Tail}
 use Rattle.shm_graph.specs.Agents.{recovers}
 use Rattle.shm_graph.specs.Asks.{Trail, IsWithin}
-use Rattle.shm_graph.specs.Core.{core}
 use Rattle.shm_graph.specs.Events.{Event}
 use Rattle.shm_graph.specs.Events as event
 use Rattle.shm_graph.specs.Idle.{IsIdle}
 use Rattle.shm_graph.specs.Trails.{Answers, Asked}
-use Rattle.shm_graph.specs.Views.{own_word}
 use Rattle.shm_calls.specs.declared.or.Or.TheVariants.{First, Second}
 use Rattle.shm_calls.specs.CallTells.{within_more}
 use Rattle.shm_calls.specs.CallsPart.{calls_part, calls_part_laws}
@@ -34,7 +30,6 @@ use Rattle.shm_queue.specs.SendFits.{MaySendTo, NotSent, SendDone, SendLeaves, s
 use Rattle.shm_queue.specs.SendLaws.{send_laws}
 use Rattle.shm_script.specs.declared.log.Answer.{Answer}
 use Rattle.shm_script.specs.declared.log.Answer.TheVariants as answer
-use Rattle.shm_table.specs.declared.find.Found.{Found}
 use Rattle.shm_table.specs.declared.find.Found.TheVariants.{Absent, At}
 use Rattle.shm_table.specs.declared.get.GetPoint.TheVariants as get
 use Rattle.shm_table.specs.declared.send_key.SendKeyPoint.{SendKeyPoint}
@@ -44,15 +39,15 @@ use Rattle.shm_table.specs.FetchFits.{IsOn}
 use Rattle.shm_table.specs.FetchSteps.{clear_reading, idle_more, keeps_reading, map_reading, on_more, one_step, search_on, value_seen}
 use Rattle.shm_table.specs.FindControl.{word_ask}
 use Rattle.shm_table.specs.FindReads.{entry_latched}
-use Rattle.shm_table.specs.GetFits.{GetKnows, IsReading}
-use Rattle.shm_table.specs.GetLaws.{at_entry, idle_of, latch_of, may_unlatch, missing, nowhere, value_read}
+use Rattle.shm_table.specs.GetFits.{IsReading}
+use Rattle.shm_table.specs.GetLaws.{at_entry, latch_of, may_unlatch, missing, nowhere, value_read}
 use Rattle.shm_table.specs.GetReads.{reference_more}
 use Rattle.shm_table.specs.LocateControl.{locate_parts}
 use Rattle.shm_table.specs.LocateFits.{Located, MayLocate, locate_control, locate_plan}
 use Rattle.shm_table.specs.LocateLaws.{locate_begin, locate_laws}
 use Rattle.shm_table.specs.PutRootSteps.{same_more, same_part, search_more}
 use Rattle.shm_table.specs.SendKeyControl.{SendKeyAnswer, is_search, send_key_call, send_key_parts, sending_key}
-use Rattle.shm_table.specs.SendKeyFits.{GiveKnows, IsSent, IsUnsent, MaySendKey, SendCause, SendKeyKnows, SendKeyLeaves, SendSays, got, send_key_part, send_key_plan, send_key_steps, sent_steps, value_part, with_sent}
+use Rattle.shm_table.specs.SendKeyFits.{GiveKnows, IsSent, IsUnsent, MaySendKey, SendCause, SendKeyKnows, SendKeyLeaves, got, send_key_part, send_key_plan, send_key_steps, sent_steps, value_part}
 use Rattle.shm_table.specs.SendKeySteps.{keeps_after, keeps_sent, own_names, rests_sent}
 use Rattle.shm_table.specs.Staying.{Cleared, Keeps, SameMap}
 use Rattle.shm_table.specs.StayingLaws.{Rests, cleared_more, keeps_core, keeps_more, keeps_unlatched, keeps_untouched, rests_core, rests_untouched, unlatched_else}

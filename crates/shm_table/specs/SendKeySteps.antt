@@ -1,5 +1,5 @@
 -- what stays of a memo where a block is sent under the own latch, and what the own map had
-use Rattle.std.proofs.Common.{◌≡◌, ℕ, ◌+◌, ◌<◌, ◌≤◌, refl, sym, ap, ◌∙◌, subst, arith, true, false, List, inl, inr, ◌⊎◌}
+use Rattle.std.proofs.Common.{◌≡◌, ℕ, ◌+◌, ◌<◌, refl, sym, ap, ◌∙◌, subst, arith, true, false, List, inl, inr}
 use Rattle.std.specs.Prelude.{Some}
 use Rattle.std.specs.List.{Contains}
 use Rattle.std.proofs.lemmas.Bool.{cases_Bool, cond-false, cond-true}
@@ -7,7 +7,7 @@ use Rattle.shm_graph.specs.declared.ask.Me.{Me}
 use Rattle.shm_graph.specs.declared.memo.Memo.{Memo}
 use Rattle.shm_graph.specs.declared.memo.Stored.{Stored}
 use Rattle.shm_graph.specs.declared.spot.Spot.{Spot}
-use Rattle.shm_graph.specs.declared.spot.Spot.TheVariants.{Body, Era, Hold, Home, Root, Tail}
+use Rattle.shm_graph.specs.declared.spot.Spot.TheVariants.{Body, Hold, Home, Root, Tail}
 use Rattle.shm_graph.specs.Asks.{Trail}
 use Rattle.shm_graph.specs.Events.{Event}
 use Rattle.shm_graph.specs.Held.{is_loose}
@@ -25,7 +25,7 @@ use Rattle.shm_table.specs.FindFits.{IsLook}
 use Rattle.shm_table.specs.FindTells.{HasRead, author_names}
 use Rattle.shm_table.specs.SendKeyControl.{sending_key}
 use Rattle.shm_table.specs.SendKeyFits.{SendKeyLeaves, with_sent}
-use Rattle.shm_table.specs.Staying.{Cleared, Keeps, is_set}
+use Rattle.shm_table.specs.Staying.{Keeps, is_set}
 use Rattle.shm_table.specs.StayingLaws.{Rests, keeps_more, value_same}
 
 -- ---- the own map
