@@ -231,24 +231,6 @@ module _ (m : FetchState) (r0 rs r : Memo) (tr t : Trail) (es ds : List Event) (
 
 -- ---- the plan
 
-stays : (m : FetchState) (y : FetchPoint) (b : FetchAnswer) → PlanStays fetch_parts fetch_plan (record m { point = y }) b
-stays m y (First (At entry before word)) = record { same_me = refl; same_line = refl; same_start = refl; started = λ e. refl }
-stays m y (First (Absent home first)) = record { same_me = refl; same_line = refl; same_start = refl; started = λ e. refl }
-stays m Search (Second (First n)) = record { same_me = refl; same_line = refl; same_start = refl; started = λ e. refl }
-stays m Value (Second (First n)) = record { same_me = refl; same_line = refl; same_start = refl; started = λ e. refl }
-stays m Number (Second (First n)) = record { same_me = refl; same_line = refl; same_start = refl; started = λ e. refl }
-stays m Share (Second (First n)) = record { same_me = refl; same_line = refl; same_start = refl; started = λ e. refl }
-stays m Give (Second (First n)) = record { same_me = refl; same_line = refl; same_start = refl; started = λ e. refl }
-stays m y (Second (Second (First a))) = record { same_me = refl; same_line = refl; same_start = refl; started = λ e. refl }
-stays m y (Second (Second (Second done))) = record { same_me = refl; same_line = refl; same_start = refl; started = λ e. absurd (cc) }
-
-calls : (m : FetchState) (y : FetchPoint) → IsCall fetch_parts fetch_plan (record m { point = y })
-calls m Search = record { me = refl; asks = refl }
-calls m Value = record { me = refl; asks = refl }
-calls m Number = record { me = refl; asks = refl }
-calls m Share = record { me = refl; asks = refl }
-calls m Give = record { me = refl; asks = refl }
-
 -- what the giving back of the latch needs
 may_give : (me : Me) (a : ℕ) (r0 r : Memo) → MayFetch me a r0 → Keeps me.who r0 r → r.latch ≡ Some a → MayUnlatch me a r
 may_give me a r0 r may keeps latch = record { geometry = may.locate.geometry; who = may.locate.who; author = may.locate.author; here = idle_here me.who r keeps.idle; idle = keeps.idle.op; latch = latch }
@@ -257,35 +239,6 @@ gives : (m : FetchState) (o : Fetched) (r0 r : Memo) (tr : Trail) (es : List Eve
 gives m Missing r0 r tr es h = may_unlatch m.me m.author r0 r h.reading
 gives m (Refused f) r0 r tr es h = may_give m.me m.author r0 r h.may h.keeps h.latch
 gives m (Rooted k b n) r0 r tr es h = may_give m.me m.author r0 r h.may h.keeps h.latch
-
-opens : (m : FetchState) (y : FetchPoint) (r0 r : Memo) (tr : Trail) (es : List Event) → FetchKnows (record m { point = y }) y r0 r tr es → (fetch_part (record m { point = y }) y).needs (fetch_call m y) r
-opens m Search r0 r tr es h = record { made = refl; first = refl; start = refl; knows = locate_begin m.me m.author m.key r (subst (MayLocate m.me m.author) (sym h.1) h.0.locate) }
-opens m Value r0 r tr es ((h, here, room), on, client) =
-    reference_load false m.me r h.reading.may.who m.entry 1 (omega arith, omega arith) (entry_latched m.me.who m.author r m.entry 1 (latch_of m.me m.author r0 r h.reading) here (omega arith)) (idle_settled r (Body m.entry 1) on.idle.op)
-opens m Number r0 r tr es ((h, look, here, room), on, client, listed) = plain_load false m.me r h.reading.may.who m.block 0 (omega arith, omega arith) (value_plain m.me.who r m.block here) (idle_settled r (Body m.block 0) on.idle.op)
-opens m Share r0 r tr es ((h, told), on, client, value, reach) =
-    may_up_root m.me m.block r
-    (record { geometry = h.reading.may.geometry; who = h.reading.may.who; here = idle_here m.me.who r on.idle; idle = on.idle.op; client = on.client; reach = reach })
-opens m Give r0 r tr es h = record { made = refl; first = refl; start = refl; knows = unlatch_begin m.me m.author r (gives m m.outcome r0 r tr es h) }
-
-leads : (m : FetchState) (y : FetchPoint) (r0 rs r : Memo) (tr t : Trail) (es ds : List Event) (b : FetchAnswer) → IsHeld m.me r → recovers r ≡ recovers rs → FetchKnows (record m { point = y }) y r0 rs tr es
-    → (fetch_part (record m { point = y }) y).leaves (fetch_call m y) rs r t ds b → Follows fetch_parts fetch_plan (record m { point = y }) b r0 r (tr ++ t) (es ++ ds)
-leads m Search r0 rs r tr t es ds (First b) held agent h g = searched_found m r0 rs r tr t es ds held agent b h g
-leads m Value r0 rs r tr t es ds (Second (First n)) held agent h g = value_found m r0 rs r tr t es ds held agent n h g.0.found g.0.none g.1
-leads m Number r0 rs r tr t es ds (Second (First n)) held agent h g = number_found m r0 rs r tr t es ds held agent n h g.0.found g.0.none g.1
-leads m Share r0 rs r tr t es ds (Second (Second (First b))) held agent h g = shared m r0 rs r tr t es ds held agent h b g
-leads m Give r0 rs r tr t es ds (Second (Second (Second done))) held agent h g = given m r0 rs r tr t es ds held agent m.outcome h g
-leads m Search r0 rs r tr t es ds (Second b) held agent h g = absurd g
-leads m Value r0 rs r tr t es ds (First b) held agent h g = absurd g
-leads m Value r0 rs r tr t es ds (Second (Second b)) held agent h g = absurd g
-leads m Number r0 rs r tr t es ds (First b) held agent h g = absurd g
-leads m Number r0 rs r tr t es ds (Second (Second b)) held agent h g = absurd g
-leads m Share r0 rs r tr t es ds (First b) held agent h g = absurd g
-leads m Share r0 rs r tr t es ds (Second (First b)) held agent h g = absurd g
-leads m Share r0 rs r tr t es ds (Second (Second (Second b))) held agent h g = absurd g
-leads m Give r0 rs r tr t es ds (First b) held agent h g = absurd g
-leads m Give r0 rs r tr t es ds (Second (First b)) held agent h g = absurd g
-leads m Give r0 rs r tr t es ds (Second (Second (First b))) held agent h g = absurd g
 
 -- what is known before the first call
 pub fetch_begin : (me : Me) (a key : ℕ) (r : Memo) → MayFetch me a r → FetchKnows (fetching me a key) Search r r [] []
@@ -307,3 +260,50 @@ fetch_laws =
       opens = λ m. opens m m.point;
       leads = λ m r0 rs r tr t es ds b h g held agent. leads m m.point r0 rs r tr t es ds b held agent h g;
     }
+  where
+    stays : (m : FetchState) (y : FetchPoint) (b : FetchAnswer) → PlanStays fetch_parts fetch_plan (record m { point = y }) b
+    stays m y (First (At entry before word)) = record { same_me = refl; same_line = refl; same_start = refl; started = λ e. refl }
+    stays m y (First (Absent home first)) = record { same_me = refl; same_line = refl; same_start = refl; started = λ e. refl }
+    stays m Search (Second (First n)) = record { same_me = refl; same_line = refl; same_start = refl; started = λ e. refl }
+    stays m Value (Second (First n)) = record { same_me = refl; same_line = refl; same_start = refl; started = λ e. refl }
+    stays m Number (Second (First n)) = record { same_me = refl; same_line = refl; same_start = refl; started = λ e. refl }
+    stays m Share (Second (First n)) = record { same_me = refl; same_line = refl; same_start = refl; started = λ e. refl }
+    stays m Give (Second (First n)) = record { same_me = refl; same_line = refl; same_start = refl; started = λ e. refl }
+    stays m y (Second (Second (First a))) = record { same_me = refl; same_line = refl; same_start = refl; started = λ e. refl }
+    stays m y (Second (Second (Second done))) = record { same_me = refl; same_line = refl; same_start = refl; started = λ e. absurd (cc) }
+
+    calls : (m : FetchState) (y : FetchPoint) → IsCall fetch_parts fetch_plan (record m { point = y })
+    calls m Search = record { me = refl; asks = refl }
+    calls m Value = record { me = refl; asks = refl }
+    calls m Number = record { me = refl; asks = refl }
+    calls m Share = record { me = refl; asks = refl }
+    calls m Give = record { me = refl; asks = refl }
+
+    opens : (m : FetchState) (y : FetchPoint) (r0 r : Memo) (tr : Trail) (es : List Event) → FetchKnows (record m { point = y }) y r0 r tr es → (fetch_part (record m { point = y }) y).needs (fetch_call m y) r
+    opens m Search r0 r tr es h = record { made = refl; first = refl; start = refl; knows = locate_begin m.me m.author m.key r (subst (MayLocate m.me m.author) (sym h.1) h.0.locate) }
+    opens m Value r0 r tr es ((h, here, room), on, client) =
+        reference_load false m.me r h.reading.may.who m.entry 1 (omega arith, omega arith) (entry_latched m.me.who m.author r m.entry 1 (latch_of m.me m.author r0 r h.reading) here (omega arith)) (idle_settled r (Body m.entry 1) on.idle.op)
+    opens m Number r0 r tr es ((h, look, here, room), on, client, listed) = plain_load false m.me r h.reading.may.who m.block 0 (omega arith, omega arith) (value_plain m.me.who r m.block here) (idle_settled r (Body m.block 0) on.idle.op)
+    opens m Share r0 r tr es ((h, told), on, client, value, reach) =
+        may_up_root m.me m.block r
+        (record { geometry = h.reading.may.geometry; who = h.reading.may.who; here = idle_here m.me.who r on.idle; idle = on.idle.op; client = on.client; reach = reach })
+    opens m Give r0 r tr es h = record { made = refl; first = refl; start = refl; knows = unlatch_begin m.me m.author r (gives m m.outcome r0 r tr es h) }
+
+    leads : (m : FetchState) (y : FetchPoint) (r0 rs r : Memo) (tr t : Trail) (es ds : List Event) (b : FetchAnswer) → IsHeld m.me r → recovers r ≡ recovers rs → FetchKnows (record m { point = y }) y r0 rs tr es
+        → (fetch_part (record m { point = y }) y).leaves (fetch_call m y) rs r t ds b → Follows fetch_parts fetch_plan (record m { point = y }) b r0 r (tr ++ t) (es ++ ds)
+    leads m Search r0 rs r tr t es ds (First b) held agent h g = searched_found m r0 rs r tr t es ds held agent b h g
+    leads m Value r0 rs r tr t es ds (Second (First n)) held agent h g = value_found m r0 rs r tr t es ds held agent n h g.0.found g.0.none g.1
+    leads m Number r0 rs r tr t es ds (Second (First n)) held agent h g = number_found m r0 rs r tr t es ds held agent n h g.0.found g.0.none g.1
+    leads m Share r0 rs r tr t es ds (Second (Second (First b))) held agent h g = shared m r0 rs r tr t es ds held agent h b g
+    leads m Give r0 rs r tr t es ds (Second (Second (Second done))) held agent h g = given m r0 rs r tr t es ds held agent m.outcome h g
+    leads m Search r0 rs r tr t es ds (Second b) held agent h g = absurd g
+    leads m Value r0 rs r tr t es ds (First b) held agent h g = absurd g
+    leads m Value r0 rs r tr t es ds (Second (Second b)) held agent h g = absurd g
+    leads m Number r0 rs r tr t es ds (First b) held agent h g = absurd g
+    leads m Number r0 rs r tr t es ds (Second (Second b)) held agent h g = absurd g
+    leads m Share r0 rs r tr t es ds (First b) held agent h g = absurd g
+    leads m Share r0 rs r tr t es ds (Second (First b)) held agent h g = absurd g
+    leads m Share r0 rs r tr t es ds (Second (Second (Second b))) held agent h g = absurd g
+    leads m Give r0 rs r tr t es ds (First b) held agent h g = absurd g
+    leads m Give r0 rs r tr t es ds (Second (First b)) held agent h g = absurd g
+    leads m Give r0 rs r tr t es ds (Second (Second (First b))) held agent h g = absurd g

@@ -1,7 +1,7 @@
 //! When what a key of the own table has may be sent; what that does to the graph of references and to the queue, what it leaves, and how
 //! many word steps it takes.
 
-ghost use Rattle.std.specs.Prelude.{◌≡◌, ℕ, ◌+◌, Some, []};
+ghost use Rattle.std.specs.Prelude.{◌≡◌, ℕ, ◌+◌, Some, None, []};
 ghost use Rattle.shm_graph.specs.declared.ask.Me.{Me as AMe};
 ghost use Rattle.shm_graph.specs.declared.memo.Memo.{Memo as AMemo};
 ghost use Rattle.shm_graph.specs.declared.spot.Spot.TheVariants.{Tail};
@@ -37,6 +37,7 @@ pub fn send_key_events()
 pub fn send_key_leaves()
     ensures leaves { (me : AMe) (i key : ℕ) (r0 r : AMemo) (tr : Trail) (a : AnAnswer) → SendKeyGives me i key r0 r tr a → SendKeyLeaves (sending_key me i key) r0 r tr (send_key_told me i key tr) a }
     ensures trail { (me : AMe) (i key : ℕ) (r0 r : AMemo) (tr : Trail) (a : AnAnswer) → SendKeyGives me i key r0 r tr a → plan_trail send_key_plan (sending_key me i key) tr a }
+    ensures missing { (me : AMe) (i key : ℕ) (r0 r : AMemo) (tr : Trail) → SendKeyGives me i key r0 r tr answer.Missing → map_in r0.part key ≡ None }
     ensures queue { (me : AMe) (i key : ℕ) (r0 r : AMemo) (tr : Trail) → SendKeyGives me i key r0 r tr answer.Ok
         → (n : ℕ) × (b : ℕ) × (map_in r0.part key ≡ Some (n, b)) × (r.sent ≡ lane_with r0.sent i b) × (own_word r.own (Tail me.who i) ≡ own_word r0.own (Tail me.who i) + 1) }
 {}
