@@ -1,20 +1,17 @@
 -- what is owed of reading what a key has and giving it a root
-use Rattle.std.proofs.Common.{◌≡◌, ◌≢◌, ℕ, ◌+◌, ◌*◌, ◌%◌, ◌^◌, refl, sym, ap, ◌∙◌, subst, arith, false, eqb, append-nil, List, [], ◌∷◌, ◌++◌}
+use Rattle.std.proofs.Common.{◌≡◌, ℕ, ◌+◌, ◌*◌, ◌%◌, ◌^◌, refl, sym, ap, ◌∙◌, subst, arith, false, eqb, List, [], ◌∷◌, ◌++◌}
 use Rattle.std.specs.Prelude.{map, Some, Result, Ok, Err}
 use Rattle.std.specs.List.{Contains, list_any}
 use Rattle.shm_words.proofs.Placing.{total_small}
 use Rattle.shm_graph.specs.declared.ask.Me.{Me}
 use Rattle.shm_graph.specs.declared.memo.Look.{Look}
 use Rattle.shm_graph.specs.declared.memo.Memo.{Memo}
-use Rattle.shm_graph.specs.declared.memo.Stored.{Stored}
 use Rattle.shm_graph.specs.declared.spot.Spot.TheVariants.{Body, Era, Home, Root}
 use Rattle.shm_graph.specs.Agents.{recovers}
 use Rattle.shm_graph.specs.Asks.{Trail, IsWithin}
 use Rattle.shm_graph.specs.Bounds.{up_steps}
 use Rattle.shm_graph.specs.Events.{Event}
 use Rattle.shm_graph.specs.Events as event
-use Rattle.shm_graph.specs.Idle.{IsIdle}
-use Rattle.shm_graph.specs.Telling.{Entry as AnEntry, Value as AValue}
 use Rattle.shm_graph.specs.Trails.{Answers, Asked}
 use Rattle.shm_graph.specs.Views.{own_word}
 use Rattle.shm_calls.specs.declared.or.Or.TheVariants.{First, Second}
@@ -24,17 +21,15 @@ use Rattle.shm_calls.specs.Either.{or_control, or_part, or_part_laws}
 use Rattle.shm_calls.specs.Parts.{IsHeld}
 use Rattle.shm_calls.specs.Plans.{PlanLaws, PlanStays, IsCall, Follows}
 use Rattle.shm_calls.specs.Words.{word_control, word_part, word_part_laws}
-use Rattle.shm_steps.specs.Walking.{IsIn}
 use Rattle.shm_steps.specs.WordParts.{ReferenceLoaded, WordLoaded}
 use Rattle.shm_steps.proofs.Reaching.{look_reached}
-use Rattle.shm_steps.proofs.Seeking.{learnt_here}
 use Rattle.shm_steps.proofs.WordsBlocks.{idle_settled, plain_load, reference_load}
 use Rattle.shm_count.specs.declared.answer.ShareFault.{ShareFault}
 use Rattle.shm_count.specs.declared.answer.ShareFault.TheVariants as share
 use Rattle.shm_count.specs.UpRootFits.{UpRootLeaves}
 use Rattle.shm_count.specs.UpRootPart.{may_up_root, rooted_root, up_root, up_root_bound, up_root_part}
 use Rattle.shm_count.proofs.UpRootPart.{up_root_laws}
-use Rattle.shm_ref.specs.AskedParts.{asked_part_laws, one_pair}
+use Rattle.shm_ref.specs.AskedParts.{asked_part_laws}
 use Rattle.shm_table.specs.declared.answer.PutFault.{PutFault}
 use Rattle.shm_table.specs.declared.answer.PutFault.TheVariants.{EraSpent, RootsFull, CountFull}
 use Rattle.shm_table.specs.declared.fetch.FetchPoint.{FetchPoint}
@@ -47,14 +42,11 @@ use Rattle.shm_table.specs.declared.find.Found.TheVariants.{Absent, At}
 use Rattle.shm_table.specs.declared.get.GetPoint.TheVariants as get
 use Rattle.shm_table.specs.FetchControl.{FetchAnswer, fetch_ask, fetch_call, fetch_outcome, fetch_parts, fetching, is_search}
 use Rattle.shm_table.specs.FetchFits.{FetchFound, FetchKnows, FetchLeaves, GiveKnows, IsOn, MayFetch, fetch_part, fetch_plan, fetch_word_part, got, rooted_steps}
-use Rattle.shm_table.specs.FetchSteps.{clear_reading, idle_more, keeps_reading, keeps_root, map_reading, root_others, root_part, root_value, value_listed}
-use Rattle.shm_table.specs.FindBound.{find_within, keys_read}
+use Rattle.shm_table.specs.FetchSteps.{clear_reading, idle_more, keeps_reading, keeps_root, map_reading, on_more, one_step, root_others, root_part, root_value, search_on, value_seen}
 use Rattle.shm_table.specs.FindControl.{word_ask}
-use Rattle.shm_table.specs.EntryReads.{reference_reads}
-use Rattle.shm_table.specs.FindReads.{entry_latched, look_in}
-use Rattle.shm_table.specs.FindTells.{entry_value}
-use Rattle.shm_table.specs.GetFits.{GetKnows, IsReading}
-use Rattle.shm_table.specs.GetLaws.{at_entry, idle_of, latch_of, may_unlatch, missing, nowhere, number_read, table_of, told_own, value_plain, value_read, value_room}
+use Rattle.shm_table.specs.FindReads.{entry_latched}
+use Rattle.shm_table.specs.GetFits.{IsReading}
+use Rattle.shm_table.specs.GetLaws.{at_entry, latch_of, may_unlatch, missing, nowhere, number_read, told_own, value_plain, value_read}
 use Rattle.shm_table.specs.GetReads.{reference_more, word_more}
 use Rattle.shm_table.specs.LocateControl.{locate_parts}
 use Rattle.shm_table.specs.LocateFits.{Located, MayLocate, locate_control, locate_plan}
@@ -81,63 +73,30 @@ module _ (m : FetchState) (r0 rs r : Memo) (tr t : Trail) (es ds : List Event) (
 
   -- ---- the search
 
-  -- nothing was asked before it
-  search_at : (entry before word : ℕ) → tr ≡ [] → Located m.me a m.key rs r t ds (At entry before word) → recovers rs ≡ false → IsOn m.me a m.key 4 r (tr ++ t)
-  search_at entry before word none w client =
-      let u = find_within m.me a m.key w.latched r w.after ds (At entry before word) w.found in
-      let n : ℕ = keys_read u.0 (At entry before word) in
-      let all : IsWithin (2 + (2 + 2 * n)) (w.before ++ w.after) = within_more 2 (2 + 2 * n) w.before w.after w.bound u.2 in
-      subst (λ (x : Trail). IsOn m.me a m.key 4 r (x ++ t)) (sym none)
-      (record {
-        idle = w.idle;
-        client = agent ∙ client;
-        keys = n;
-        search = (w.before, w.after, [], w.trail ∙ ap (λ (x : Trail). w.before ++ x) (sym (append-nil w.after)), (u.0, At entry before word, u.1, refl));
-        bound = subst (IsWithin (4 + 2 * n)) (sym w.trail) (omega arith);
-      })
-
   searched_found : (b : Found) → FetchKnows (record m { point = Search }) Search r0 rs tr es → Located m.me a m.key rs r t ds b → Goes Search (First b)
   searched_found (Absent home first) (may, same, none, quiet) w = nowhere (got m get.Search) r0 rs r tr t es ds held (may.locate, same, none, quiet) home first w
   searched_found (At entry before word) (may, same, none, quiet) w = (
     at_entry (got m get.Search) r0 rs r tr t es ds held (may.locate, same, none, quiet) entry before word w,
-    search_at entry before word none w (ap recovers same ∙ may.client),
+    search_on m.me a m.key entry before word rs r tr t ds none (agent ∙ (ap recovers same ∙ may.client)) w,
     may.client,
   )
 
   -- ---- the loads
 
-  -- one more word step
-  on_more : (steps : ℕ) → IsOn m.me a m.key steps rs tr → IsIdle c r → IsWithin 1 t → IsOn m.me a m.key (steps + 1) r (tr ++ t)
-  on_more steps h idle one =
-      let all = within_more (steps + 2 * h.keys) 1 tr t h.bound one in
-      record { idle = idle; client = agent ∙ h.client; keys = h.keys; search = search_more m.me a m.key h.keys tr t h.search; bound = omega arith }
-
-  one_step : (e : ℕ) (n : ℕ) (i : ℕ) → Asked (word_ask e i) (λ x. Answers x) t n → IsWithin 1 t
-  one_step e n i asked = subst (IsWithin 1) (sym (one_pair (word_ask e i) t n asked)) (omega arith)
-
-  -- the block that the value word names is a value block
-  listed : (n : ℕ) → GetKnows (got (record m { point = Value }) get.Value) get.Value r0 rs tr es → GetKnows (record (got m get.Number) { block = n % 2 ^ 20 }) get.Number r0 r (tr ++ t) (es ++ ds) → ReferenceLoaded m.entry 1 rs n r → Contains r.values (n % 2 ^ 20)
-  listed n (h, here, room) (next, look, value, inside) left =
-      let table = table_of m.me a r0 rs h.reading in
-      let reads = reference_reads m.entry 1 rs n r left in
-      let known : Contains r.known (record { spot = Body m.entry 1; value = n }) = subst (λ (ks : List Stored). Contains ks (record { spot = Body m.entry 1; value = n })) (sym reads.0.known) (learnt_here (Body m.entry 1) n rs.known) in
-      let some : n ≢ 0 = entry_value m.me a m.key m.entry n r next.has (idle_of m.me a r0 r next.reading) known h.reading.may.who held in
-      let is : IsIn r AValue n = look_in rs r m.entry 1 n AnEntry table reads.0.part here.0 (reads.1 some) in
-      let roomy = value_room m.me r n h.reading.may.who held is in
-      let total = total_small m.me.geometry h.reading.may.geometry in
-      let small : n ≡ n % 2 ^ 20 = omega arith in
-      subst (λ b. Contains r.values b) small (value_listed m.entry rs n r table here.0 some left)
-
   value_found : (n : ℕ) → FetchKnows (record m { point = Value }) Value r0 rs tr es → ReferenceLoaded m.entry 1 rs n r → ds ≡ [] → Asked (word_ask m.entry 1) (λ x. Answers x) t n → FetchKnows (record m { block = n % 2 ^ 20; point = Number }) Number r0 r (tr ++ t) (es ++ ds)
   value_found n (h, on, client) left none asked =
-      let next = value_read (got m get.Value) r0 rs r tr t es ds held n h left none asked in
-      (next, on_more 4 on (idle_more c rs r (reference_more m.entry 1 rs n r left) on.idle) (one_step m.entry n 1 asked), client, listed n h next left)
+      let next = value_read (got m get.Value) r0 rs r tr t es ds held n h left none asked in (
+        next,
+        on_more m.me a m.key 4 rs r tr t on (idle_more c rs r (reference_more m.entry 1 rs n r left) on.idle) agent (one_step m.entry n 1 t asked),
+        client,
+        value_seen (got m get.Value) r0 rs r (tr ++ t) (es ++ ds) held n h.0.reading h.1.0 next left,
+      )
 
   number_found : (n : ℕ) → FetchKnows (record m { point = Number }) Number r0 rs tr es → WordLoaded (Body m.block 0) rs n r → ds ≡ [] → Asked (word_ask m.block 0) (λ x. Answers x) t n → FetchKnows (record m { number = n; point = Share }) Share r0 r (tr ++ t) (es ++ ds)
   number_found n (h, on, client, listed) left none asked =
       let next = number_read (got m get.Number) r0 rs r tr t es ds held n h left none asked in (
         next,
-        on_more 5 on (idle_more c rs r (word_more (Body m.block 0) rs n r left) on.idle) (one_step m.block n 0 asked),
+        on_more m.me a m.key 5 rs r tr t on (idle_more c rs r (word_more (Body m.block 0) rs n r left) on.idle) agent (one_step m.block n 0 t asked),
         client,
         record { value = subst (λ (vs : List ℕ). Contains vs m.block) (sym (ap (λ (x : Memo). x.values) left.left)) listed; word = next.1.number },
         look_reached c r m.block (ap (λ (ks : List Look). list_any (eqb m.block) (map (λ (k : Look). k.block) ks)) (ap (λ (x : Memo). x.looks) left.left) ∙ h.2.1),
@@ -272,24 +231,6 @@ module _ (m : FetchState) (r0 rs r : Memo) (tr t : Trail) (es ds : List Event) (
 
 -- ---- the plan
 
-stays : (m : FetchState) (y : FetchPoint) (b : FetchAnswer) → PlanStays fetch_parts fetch_plan (record m { point = y }) b
-stays m y (First (At entry before word)) = record { same_me = refl; same_line = refl; same_start = refl; started = λ e. refl }
-stays m y (First (Absent home first)) = record { same_me = refl; same_line = refl; same_start = refl; started = λ e. refl }
-stays m Search (Second (First n)) = record { same_me = refl; same_line = refl; same_start = refl; started = λ e. refl }
-stays m Value (Second (First n)) = record { same_me = refl; same_line = refl; same_start = refl; started = λ e. refl }
-stays m Number (Second (First n)) = record { same_me = refl; same_line = refl; same_start = refl; started = λ e. refl }
-stays m Share (Second (First n)) = record { same_me = refl; same_line = refl; same_start = refl; started = λ e. refl }
-stays m Give (Second (First n)) = record { same_me = refl; same_line = refl; same_start = refl; started = λ e. refl }
-stays m y (Second (Second (First a))) = record { same_me = refl; same_line = refl; same_start = refl; started = λ e. refl }
-stays m y (Second (Second (Second done))) = record { same_me = refl; same_line = refl; same_start = refl; started = λ e. absurd (cc) }
-
-calls : (m : FetchState) (y : FetchPoint) → IsCall fetch_parts fetch_plan (record m { point = y })
-calls m Search = record { me = refl; asks = refl }
-calls m Value = record { me = refl; asks = refl }
-calls m Number = record { me = refl; asks = refl }
-calls m Share = record { me = refl; asks = refl }
-calls m Give = record { me = refl; asks = refl }
-
 -- what the giving back of the latch needs
 may_give : (me : Me) (a : ℕ) (r0 r : Memo) → MayFetch me a r0 → Keeps me.who r0 r → r.latch ≡ Some a → MayUnlatch me a r
 may_give me a r0 r may keeps latch = record { geometry = may.locate.geometry; who = may.locate.who; author = may.locate.author; here = idle_here me.who r keeps.idle; idle = keeps.idle.op; latch = latch }
@@ -298,16 +239,6 @@ gives : (m : FetchState) (o : Fetched) (r0 r : Memo) (tr : Trail) (es : List Eve
 gives m Missing r0 r tr es h = may_unlatch m.me m.author r0 r h.reading
 gives m (Refused f) r0 r tr es h = may_give m.me m.author r0 r h.may h.keeps h.latch
 gives m (Rooted k b n) r0 r tr es h = may_give m.me m.author r0 r h.may h.keeps h.latch
-
-opens : (m : FetchState) (y : FetchPoint) (r0 r : Memo) (tr : Trail) (es : List Event) → FetchKnows (record m { point = y }) y r0 r tr es → (fetch_part (record m { point = y }) y).needs (fetch_call m y) r
-opens m Search r0 r tr es h = record { made = refl; first = refl; start = refl; knows = locate_begin m.me m.author m.key r (subst (MayLocate m.me m.author) (sym h.1) h.0.locate) }
-opens m Value r0 r tr es ((h, here, room), on, client) =
-    reference_load false m.me r h.reading.may.who m.entry 1 (omega arith, omega arith) (entry_latched m.me.who m.author r m.entry 1 (latch_of m.me m.author r0 r h.reading) here (omega arith)) (idle_settled r (Body m.entry 1) on.idle.op)
-opens m Number r0 r tr es ((h, look, here, room), on, client, listed) = plain_load false m.me r h.reading.may.who m.block 0 (omega arith, omega arith) (value_plain m.me.who r m.block here) (idle_settled r (Body m.block 0) on.idle.op)
-opens m Share r0 r tr es ((h, told), on, client, value, reach) =
-    may_up_root m.me m.block r
-    (record { geometry = h.reading.may.geometry; who = h.reading.may.who; here = idle_here m.me.who r on.idle; idle = on.idle.op; client = on.client; reach = reach })
-opens m Give r0 r tr es h = record { made = refl; first = refl; start = refl; knows = unlatch_begin m.me m.author r (gives m m.outcome r0 r tr es h) }
 
 -- what is known before the first call
 pub fetch_begin : (me : Me) (a key : ℕ) (r : Memo) → MayFetch me a r → FetchKnows (fetching me a key) Search r r [] []
@@ -330,7 +261,34 @@ fetch_laws =
       leads = λ m r0 rs r tr t es ds b h g held agent. leads m m.point r0 rs r tr t es ds b held agent h g;
     }
   where
-    -- each call leads on
+    stays : (m : FetchState) (y : FetchPoint) (b : FetchAnswer) → PlanStays fetch_parts fetch_plan (record m { point = y }) b
+    stays m y (First (At entry before word)) = record { same_me = refl; same_line = refl; same_start = refl; started = λ e. refl }
+    stays m y (First (Absent home first)) = record { same_me = refl; same_line = refl; same_start = refl; started = λ e. refl }
+    stays m Search (Second (First n)) = record { same_me = refl; same_line = refl; same_start = refl; started = λ e. refl }
+    stays m Value (Second (First n)) = record { same_me = refl; same_line = refl; same_start = refl; started = λ e. refl }
+    stays m Number (Second (First n)) = record { same_me = refl; same_line = refl; same_start = refl; started = λ e. refl }
+    stays m Share (Second (First n)) = record { same_me = refl; same_line = refl; same_start = refl; started = λ e. refl }
+    stays m Give (Second (First n)) = record { same_me = refl; same_line = refl; same_start = refl; started = λ e. refl }
+    stays m y (Second (Second (First a))) = record { same_me = refl; same_line = refl; same_start = refl; started = λ e. refl }
+    stays m y (Second (Second (Second done))) = record { same_me = refl; same_line = refl; same_start = refl; started = λ e. absurd (cc) }
+
+    calls : (m : FetchState) (y : FetchPoint) → IsCall fetch_parts fetch_plan (record m { point = y })
+    calls m Search = record { me = refl; asks = refl }
+    calls m Value = record { me = refl; asks = refl }
+    calls m Number = record { me = refl; asks = refl }
+    calls m Share = record { me = refl; asks = refl }
+    calls m Give = record { me = refl; asks = refl }
+
+    opens : (m : FetchState) (y : FetchPoint) (r0 r : Memo) (tr : Trail) (es : List Event) → FetchKnows (record m { point = y }) y r0 r tr es → (fetch_part (record m { point = y }) y).needs (fetch_call m y) r
+    opens m Search r0 r tr es h = record { made = refl; first = refl; start = refl; knows = locate_begin m.me m.author m.key r (subst (MayLocate m.me m.author) (sym h.1) h.0.locate) }
+    opens m Value r0 r tr es ((h, here, room), on, client) =
+        reference_load false m.me r h.reading.may.who m.entry 1 (omega arith, omega arith) (entry_latched m.me.who m.author r m.entry 1 (latch_of m.me m.author r0 r h.reading) here (omega arith)) (idle_settled r (Body m.entry 1) on.idle.op)
+    opens m Number r0 r tr es ((h, look, here, room), on, client, listed) = plain_load false m.me r h.reading.may.who m.block 0 (omega arith, omega arith) (value_plain m.me.who r m.block here) (idle_settled r (Body m.block 0) on.idle.op)
+    opens m Share r0 r tr es ((h, told), on, client, value, reach) =
+        may_up_root m.me m.block r
+        (record { geometry = h.reading.may.geometry; who = h.reading.may.who; here = idle_here m.me.who r on.idle; idle = on.idle.op; client = on.client; reach = reach })
+    opens m Give r0 r tr es h = record { made = refl; first = refl; start = refl; knows = unlatch_begin m.me m.author r (gives m m.outcome r0 r tr es h) }
+
     leads : (m : FetchState) (y : FetchPoint) (r0 rs r : Memo) (tr t : Trail) (es ds : List Event) (b : FetchAnswer) → IsHeld m.me r → recovers r ≡ recovers rs → FetchKnows (record m { point = y }) y r0 rs tr es
         → (fetch_part (record m { point = y }) y).leaves (fetch_call m y) rs r t ds b → Follows fetch_parts fetch_plan (record m { point = y }) b r0 r (tr ++ t) (es ++ ds)
     leads m Search r0 rs r tr t es ds (First b) held agent h g = searched_found m r0 rs r tr t es ds held agent b h g

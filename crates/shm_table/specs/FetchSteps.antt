@@ -1,8 +1,9 @@
--- what stays of a memo where a value block gets a root under a latch
-use Rattle.std.proofs.Common.{◌≡◌, ◌≢◌, ℕ, refl, sym, ap, ◌∙◌, subst, arith, Bool, true, false, eqb, ◌&&◌, List, [], ◌∷◌, ◌++◌, inl, inr}
+-- what stays of a memo where what a key has is read under a latch, and its value block gets a root
+use Rattle.std.proofs.Common.{◌≡◌, ◌≢◌, ℕ, ◌+◌, ◌*◌, ◌%◌, ◌^◌, refl, sym, ap, ◌∙◌, subst, arith, append-nil, Bool, true, false, eqb, ◌&&◌, List, [], ◌∷◌, ◌++◌, inl, inr}
 use Rattle.std.specs.Prelude.{◌==◌, if◌then◌else◌}
 use Rattle.std.specs.List.{Contains}
 use Rattle.std.proofs.lemmas.Bool.{cases_Bool, cond-false, eqb-true, ne_eqb, true≢false}
+use Rattle.shm_words.proofs.Placing.{total_small}
 use Rattle.shm_graph.specs.declared.ask.Me.{Me}
 use Rattle.shm_graph.specs.declared.memo.Memo.{Memo}
 use Rattle.shm_graph.specs.declared.table.Part.{Part}
@@ -10,7 +11,10 @@ use Rattle.shm_graph.specs.declared.table.Part.TheVariants.{Loose, Table}
 use Rattle.shm_graph.specs.declared.memo.Stored.{Stored}
 use Rattle.shm_graph.specs.declared.spot.Spot.{Spot}
 use Rattle.shm_graph.specs.declared.spot.Spot.TheVariants.{Body, Era, Hold, Home, Root}
+use Rattle.shm_graph.specs.Agents.{recovers}
+use Rattle.shm_graph.specs.Asks.{Trail, IsWithin}
 use Rattle.shm_graph.specs.Core.{core}
+use Rattle.shm_graph.specs.Events.{Event}
 use Rattle.shm_graph.specs.Held.{is_loose}
 use Rattle.shm_graph.specs.Idle.{IsIdle, hold_word}
 use Rattle.shm_graph.specs.Reach.{learnt}
@@ -19,14 +23,32 @@ use Rattle.shm_graph.specs.Ops.{cover}
 use Rattle.shm_graph.specs.Ops.Cover.{On}
 use Rattle.shm_graph.specs.Readings.{is_entry, valued, values_read}
 use Rattle.shm_graph.specs.Spots.{same_spot}
-use Rattle.shm_graph.specs.Telling.{Entry as AnEntry, role_in, roles}
+use Rattle.shm_graph.specs.Telling.{Entry as AnEntry, Value as AValue, role_in, roles}
+use Rattle.shm_graph.specs.Trails.{Answers, Asked}
 use Rattle.shm_graph.specs.Views.{own_word}
+use Rattle.shm_calls.specs.CallTells.{within_more}
+use Rattle.shm_calls.specs.Parts.{IsHeld}
 use Rattle.shm_steps.specs.Reparting.{sight, map_in, IsValue}
+use Rattle.shm_steps.specs.Walking.{IsIn}
 use Rattle.shm_steps.specs.WordParts.{ReferenceLoaded}
+use Rattle.shm_steps.proofs.Seeking.{learnt_here}
 use Rattle.shm_count.specs.Roots.{root_word}
 use Rattle.shm_count.specs.SlotLeaves.{Filled}
-use Rattle.shm_table.specs.GetFits.{IsReading}
+use Rattle.shm_ref.specs.AskedParts.{one_pair}
+use Rattle.shm_table.specs.declared.find.Found.TheVariants.{At}
+use Rattle.shm_table.specs.declared.get.GetPoint.TheVariants.{Number}
+use Rattle.shm_table.specs.declared.get.GetState.{GetState}
+use Rattle.shm_table.specs.EntryReads.{reference_reads}
+use Rattle.shm_table.specs.FetchFits.{IsOn}
+use Rattle.shm_table.specs.FindBound.{find_within, keys_read}
+use Rattle.shm_table.specs.FindControl.{word_ask}
+use Rattle.shm_table.specs.FindReads.{look_in}
+use Rattle.shm_table.specs.FindTells.{entry_value}
+use Rattle.shm_table.specs.GetFits.{GetKnows, IsReading}
+use Rattle.shm_table.specs.GetLaws.{idle_of, table_of, value_room}
 use Rattle.shm_table.specs.GetReads.{ReadsMore}
+use Rattle.shm_table.specs.LocateFits.{Located}
+use Rattle.shm_table.specs.PutRootSteps.{search_more}
 use Rattle.shm_table.specs.Staying.{Cleared, Keeps, SameMap, is_set}
 use Rattle.shm_table.specs.StayingLaws.{value_same}
 
@@ -43,7 +65,7 @@ idle_more c m r h idle =
     }
 
 -- the value word of an entry was read: the block that it names is a value block
-pub value_listed : (b : ℕ) (m : Memo) (n : ℕ) (x : Memo) → is_loose m.part ≡ false → role_in (roles m) b ≡ AnEntry → n ≢ 0 → ReferenceLoaded b 1 m n x → Contains x.values n
+value_listed : (b : ℕ) (m : Memo) (n : ℕ) (x : Memo) → is_loose m.part ≡ false → role_in (roles m) b ≡ AnEntry → n ≢ 0 → ReferenceLoaded b 1 m n x → Contains x.values n
 value_listed b m n x table role some h =
     subst (λ (vs : List ℕ). Contains vs n) (sym values) (0, omega arith, refl)
   where
@@ -54,6 +76,47 @@ value_listed b m n x table role some h =
     values =
         ap (λ (y : Memo). y.values) (h.left ∙ ap core {y = all} (cond-false (eqb n 0) _ _ (ne_eqb n 0 some)))
         ∙ (ap (λ u. if is_entry u && (1 == 1) then valued m.part n m.values else m.values) role ∙ cond-false (is_loose m.part) m.values (n ∷ m.values) table)
+
+-- the block that the value word of an entry names is a value block
+pub value_seen : (m : GetState) (r0 rs r : Memo) (tr : Trail) (es : List Event) → IsHeld m.me r → (n : ℕ) → IsReading m.me m.author r0 rs → role_in (roles rs) m.entry ≡ AnEntry → GetKnows (record m { block = n % 2 ^ 20; point = Number }) Number r0 r tr es → ReferenceLoaded m.entry 1 rs n r → Contains r.values (n % 2 ^ 20)
+value_seen m r0 rs r tr es held n reading here (next, look, value, inside) left =
+    let table = table_of m.me m.author r0 rs reading in
+    let reads = reference_reads m.entry 1 rs n r left in
+    let known : Contains r.known (record { spot = Body m.entry 1; value = n }) = subst (λ (ks : List Stored). Contains ks (record { spot = Body m.entry 1; value = n })) (sym reads.0.known) (learnt_here (Body m.entry 1) n rs.known) in
+    let some : n ≢ 0 = entry_value m.me m.author m.key m.entry n r next.has (idle_of m.me m.author r0 r next.reading) known reading.may.who held in
+    let is : IsIn r AValue n = look_in rs r m.entry 1 n AnEntry table reads.0.part here (reads.1 some) in
+    let roomy = value_room m.me r n reading.may.who held is in
+    let total = total_small m.me.geometry reading.may.geometry in
+    let small : n ≡ n % 2 ^ 20 = omega arith in
+    subst (λ b. Contains r.values b) small (value_listed m.entry rs n r table here some left)
+
+-- ---- so many word steps
+
+-- the latch was taken and the search found an entry, where nothing was asked before
+pub search_on : (me : Me) (a key entry before word : ℕ) (rs r : Memo) (tr t : Trail) (ds : List Event) → tr ≡ [] → recovers r ≡ false → Located me a key rs r t ds (At entry before word) → IsOn me a key 4 r (tr ++ t)
+search_on me a key entry before word rs r tr t ds none client w =
+    let u = find_within me a key w.latched r w.after ds (At entry before word) w.found in
+    let n : ℕ = keys_read u.0 (At entry before word) in
+    let all : IsWithin (2 + (2 + 2 * n)) (w.before ++ w.after) = within_more 2 (2 + 2 * n) w.before w.after w.bound u.2 in
+    subst (λ (x : Trail). IsOn me a key 4 r (x ++ t)) (sym none)
+    (record {
+      idle = w.idle;
+      client = client;
+      keys = n;
+      search = (w.before, w.after, [], w.trail ∙ ap (λ (x : Trail). w.before ++ x) (sym (append-nil w.after)), (u.0, At entry before word, u.1, refl));
+      bound = subst (IsWithin (4 + 2 * n)) (sym w.trail) (omega arith);
+    })
+
+-- one more word step
+pub on_more : (me : Me) (a key steps : ℕ) (rs r : Memo) (tr t : Trail) → IsOn me a key steps rs tr → IsIdle me.who r → recovers r ≡ recovers rs → IsWithin 1 t → IsOn me a key (steps + 1) r (tr ++ t)
+on_more me a key steps rs r tr t h idle agent one =
+    let all = within_more (steps + 2 * h.keys) 1 tr t h.bound one in
+    record { idle = idle; client = agent ∙ h.client; keys = h.keys; search = search_more me a key h.keys tr t h.search; bound = omega arith }
+
+pub one_step : (e n i : ℕ) (t : Trail) → Asked (word_ask e i) (λ x. Answers x) t n → IsWithin 1 t
+one_step e n i t asked = subst (IsWithin 1) (sym (one_pair (word_ask e i) t n asked)) (omega arith)
+
+-- ---- what stays
 
 not_held : (c : ℕ) (p : Spot) → is_set p ≡ false → same_spot (Hold c) p ≡ false
 not_held c (Hold d) n = absurd (true≢false n)

@@ -171,11 +171,18 @@ module _ (g : Geometry) (w : Spot → ℕ) (r : ℕ → Memo) (c a key : ℕ) (h
   found_so : (entry : ℕ) → HasRead a (r c) key entry → HasKey (r a).part key entry
   found_so entry f = let s = bucket_so entry f in record { e = s.e; others = s.others; after = s.after; chain = s.chain; block = s.block; map = map_so entry s }
 
-  -- with its value block, and that block's number
+  -- with its value block
+  value_had : (entry v : ℕ) → IsLook (r c) (Body entry 1) v → (s : IsSo (key % 16) (chain_in (r a).part (key % 16)) entry) → s.e.value ≡ v
+  value_had entry v look s = sym s.entry.value ∙ (ap (λ b. t (Body b 1)) s.block ∙ (named_so (Body entry 1) v look).1)
+
+  block_so : (entry v : ℕ) → HasRead a (r c) key entry → IsLook (r c) (Body entry 1) v → (n : ℕ) × (map_in (r a).part key ≡ Some (n, v))
+  block_so entry v f look = let s = bucket_so entry f in (s.e.number, map_so entry s ∙ ap (λ k. Some (s.e.number, k)) (value_had entry v look s))
+
+  -- and that block's number
   value_so : (entry v n : ℕ) → HasRead a (r c) key entry → IsLook (r c) (Body entry 1) v → Contains (r c).known (record { spot = Body v 0; value = n }) → map_in (r a).part key ≡ Some (n, v)
   value_so entry v n f look known =
       let s = bucket_so entry f in
-      let value : s.e.value ≡ v = sym s.entry.value ∙ (ap (λ b. t (Body b 1)) s.block ∙ (named_so (Body entry 1) v look).1) in
+      let value : s.e.value ≡ v = value_had entry v look s in
       let number : s.e.number ≡ n = sym s.entry.number ∙ (ap (λ b. w (Body b 0)) value ∙ body_so g w r c h l v 0 n known) in
       map_so entry s ∙ (ap (λ k. Some (k, s.e.value)) number ∙ ap (λ k. Some (n, k)) value)
 
@@ -213,7 +220,13 @@ author_has me a key entry r f l w rs h same =
     let here : HasRead a (rs me.who) key entry = subst (λ (x : Memo). HasRead a x key entry) (sym same) f in
     found_so me.geometry w rs me.who a key h l here.latch here.table entry here
 
--- and where its value word was read, and the number of the value block, the author's map has them at the key
+-- and where its value word was read, the author's map has the value block at the key
+pub author_names : (me : Me) (a key entry v : ℕ) (r : Memo) → HasRead a r key entry → IsLook r (Body entry 1) v → me.who < me.geometry.clients → (w : Spot → ℕ) (rs : ℕ → Memo) → HeldAt me.geometry w (view rs) → rs me.who ≡ r → (n : ℕ) × (map_in (rs a).part key ≡ Some (n, v))
+author_names me a key entry v r f look l w rs h same =
+    let here : HasRead a (rs me.who) key entry = subst (λ (x : Memo). HasRead a x key entry) (sym same) f in
+    block_so me.geometry w rs me.who a key h l here.latch here.table entry v here (subst (λ (x : Memo). IsLook x (Body entry 1) v) (sym same) look)
+
+-- and where the number of the value block was read too, it has that number there
 pub author_maps : (me : Me) (a key entry v n : ℕ) (r : Memo) → HasRead a r key entry → IsLook r (Body entry 1) v → Contains r.known (record { spot = Body v 0; value = n }) → me.who < me.geometry.clients
     → (w : Spot → ℕ) (rs : ℕ → Memo) → HeldAt me.geometry w (view rs) → rs me.who ≡ r → map_in (rs a).part key ≡ Some (n, v)
 author_maps me a key entry v n r f look known l w rs h same =

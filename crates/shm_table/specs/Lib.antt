@@ -71,6 +71,12 @@ pub mod RecvFits
 pub mod RecvLaws
 pub mod RecvBound
 pub mod RecvMachines
+pub mod SendKeyControl
+pub mod SendKeyFits
+pub mod SendKeySteps
+pub mod SendKeyLaws
+pub mod SendKeyBound
+pub mod SendMachines
 pub mod ReadMachines
 pub mod ChangeMachines
 pub mod Machines

@@ -22,6 +22,7 @@ pub use crate::reading::{locate_begins, locate_bound, locate_events, locate_leav
 pub use crate::receiving::{fetch_head_begins, fetch_head_bound, fetch_head_events, fetch_head_leaves, take_head_begins, take_head_bound, take_head_events, take_head_leaves};
 pub use crate::recv::{RecvPoint, RecvState};
 pub use crate::replace::{Replace, ReplacePoint, ReplaceState, Replacing};
+pub use crate::send_key::{SendKeyPoint, SendKeyState};
 pub use crate::take_head::{TakeHead, TakeHeadPoint, TakeHeadState, TakingHead};
 pub use crate::unlatch::{Unlatch, UnlatchPoint, UnlatchState, Unlatching};
 pub use crate::unlink::{Unlink, UnlinkPoint, UnlinkState, Unlinking};

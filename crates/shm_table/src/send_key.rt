@@ -1,0 +1,181 @@
+//! The value block of a key of the own table goes into the queue to another identity.
+
+ghost use Rattle.std.specs.Prelude.{◌≡◌, ◌<◌, ◌+◌, ◌^◌};
+ghost use Rattle.shm_words.specs.Layout.{GeometryFits};
+ghost use Rattle.shm_table.specs.SendKeyControl as control;
+ghost use Rattle.shm_table.specs.SendKeyControl.{sending_key};
+ghost use Rattle.shm_table.specs.SendKeyFits.{send_key_plan};
+ghost use Rattle.shm_table.specs.SendKeyLaws.{send_key_laws};
+
+use crate::find::Found;
+use crate::locate::{Locate, Locating};
+use crate::unlatch::{Unlatch, Unlatching};
+use shm_calls::{Calls, Or, Plan, Word};
+use shm_graph::{Machine, Me};
+use shm_queue::{Send, SendFault, Sending};
+use shm_script::Answer;
+use std::marker::Model;
+
+/// Which call of it comes next.
+#[derive(Clone, Copy, Debug, PartialEq, Eq, Drop)]
+pub enum SendKeyPoint {
+    /// The own latch is taken and the entry looked for.
+    Search,
+    /// The value word of the entry is loaded.
+    Value,
+    /// The value block is sent.
+    Send,
+    /// The latch is given back.
+    Give,
+}
+
+/// The control of it: the entry that was found and its value block; `outcome` is what it answers once the latch is given back.
+#[derive(Clone, Copy, Debug, PartialEq, Eq, Drop)]
+pub struct SendKeyState {
+    pub me: Me,
+    pub to: u8,
+    pub key: u32,
+    pub entry: u32,
+    pub block: u32,
+    pub outcome: Answer,
+    pub point: SendKeyPoint,
+}
+
+/// Its calls.
+pub type SendKeyCall = Or<Locate, Or<Word, Or<Send, Unlatch>>>;
+
+/// What its calls answer.
+pub type SendKeyAnswer = Or<Found, Or<u64, Or<Result<u64, SendFault>, ()>>>;
+
+/// The calls by which the value block of an own key is sent.
+#[derive(Drop)]
+pub struct SendingKey {
+    state: SendKeyState,
+}
+
+impl Model for SendingKey {
+    ghost use Rattle.shm_table.specs.declared.send_key.SendKeyState.{SendKeyState as AState};
+
+    ghost Value = { AState };
+
+    ghost view = { λ a. a.state };
+
+    ghost use Rattle.shm_table.specs.SendKeyControl.{SendKeyInRange};
+
+    ghost invariant = { λ a. SendKeyInRange a.state };
+}
+
+/// It answers `Ok` where the value block was sent; or that no entry has the key, or why the block wasn't sent. The latch is given back then.
+pub type SendKey = Calls<SendingKey>;
+
+/// The address of the value word of an entry.
+#[inline(always)]
+fn value_word(entry: u32) -> u32
+    requires entry { entry < 2 ^ 20 }
+    ensures { result ≡ entry + 2 + 1 }
+{
+    entry + 2 + 1
+}
+
+/// What it answers, by whether the block was sent.
+#[inline(always)]
+fn answer(sent: Result<u64, SendFault>) -> Answer
+    ensures { result ≡ control.sent_answer sent }
+{
+    match sent {
+        Ok(_) => Answer::Ok,
+        Err(SendFault::QueueFull { head, tail }) => Answer::QueueFull { head, tail },
+        Err(SendFault::EraSpent { era }) => Answer::EraSpent { era },
+        Err(SendFault::CountFull { block, count }) => Answer::CountFull { block, count },
+    }
+}
+
+impl SendingKey {
+    /// What the key `key` of the own table has is to be sent by `me` to the identity `to`.
+    #[inline(always)]
+    pub fn new(me: Me, to: u8, key: u32) -> SendingKey
+        requires geometry { GeometryFits me.geometry }
+        requires who { me.who < me.geometry.clients }
+        requires to { to < me.geometry.clients }
+        ensures { result ≡ sending_key me to key }
+    {
+        SendingKey {
+            state: SendKeyState {
+                me,
+                to,
+                key,
+                entry: 0,
+                block: 0,
+                outcome: Answer::Missing,
+                point: SendKeyPoint::Search,
+            },
+        }
+    }
+}
+
+impl Plan for SendingKey {
+    type Call = SendKeyCall;
+
+    type Answer = Answer;
+
+    ghost plan = { send_key_plan };
+
+    #[inline(always)]
+    fn me(&self) -> Me {
+        self.state.me
+    }
+
+    #[inline(always)]
+    fn call(&self) -> SendKeyCall {
+        let SendKeyState {
+            me,
+            to,
+            key,
+            entry,
+            block,
+            point,
+            ..
+        } = self.state;
+        match point {
+            SendKeyPoint::Search => Or::First(Calls::new(Locating::new(me, me.who, key))),
+            SendKeyPoint::Value => Or::Second(Or::First(Word::load(me, value_word(entry)))),
+            SendKeyPoint::Send => {
+                let send = Calls::new(Sending::new(me, to, block));
+                Or::Second(Or::Second(Or::First(send)))
+            }
+            SendKeyPoint::Give => {
+                let give = Calls::new(Unlatching::new(me, me.who));
+                Or::Second(Or::Second(Or::Second(give)))
+            }
+        }
+    }
+
+    #[inline(always)]
+    fn next(&mut self, answered: SendKeyAnswer) -> Option<Answer> {
+        match answered {
+            Or::First(Found::At { entry, .. }) => {
+                self.state.entry = entry % (1 << 20);
+                self.state.point = SendKeyPoint::Value;
+                None
+            }
+            Or::First(Found::Absent { .. }) => {
+                self.state.outcome = Answer::Missing;
+                self.state.point = SendKeyPoint::Give;
+                None
+            }
+            Or::Second(Or::First(word)) => {
+                self.state.block = (word % (1 << 20)) as u32;
+                self.state.point = SendKeyPoint::Send;
+                None
+            }
+            Or::Second(Or::Second(Or::First(sent))) => {
+                self.state.outcome = answer(sent);
+                self.state.point = SendKeyPoint::Give;
+                None
+            }
+            Or::Second(Or::Second(Or::Second(()))) => Some(self.state.outcome),
+        }
+    }
+
+    ghost laws = { send_key_laws };
+}
