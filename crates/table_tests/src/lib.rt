@@ -41,6 +41,8 @@ mod recv_tests;
 #[cfg(test)]
 mod replace_tests;
 #[cfg(test)]
+mod send_key_tests;
+#[cfg(test)]
 mod unlink_refusal_tests;
 #[cfg(test)]
 mod unlink_tests;
