@@ -1,7 +1,9 @@
 -- each state of a command after its deciding step shows what it will answer, and no state before that step shows anything
 use Rattle.std.proofs.Common.{◌≡◌, ℕ, ◌%◌, ◌^◌, Bool, true, false, refl, sym, ap, ◌∙◌}
 use Rattle.std.specs.Prelude.{◌&&◌, ◌==◌, if◌then◌else◌, is_ok, Option, Some, None, Result, Ok, Err}
+use Rattle.shm_calls.specs.declared.or.Or.{Or}
 use Rattle.shm_calls.specs.declared.or.Or.TheVariants.{First, Second}
+use Rattle.shm_graph.specs.Laws.{Control}
 use Rattle.shm_calls.specs.CallsControl.{calls_control}
 use Rattle.shm_calls.specs.Deciding.{Decides, Foretells, PlanDecides, calls_decides, calls_foretell, decides_where, either, keeps_decided, mapped_foretells, or_decides, or_foretells}
 use Rattle.shm_calls.specs.Either.{or_control}
@@ -15,6 +17,9 @@ use Rattle.shm_count.specs.StepExchanged.{step_exchanged, step_exchanging}
 use Rattle.shm_count.specs.StepMachines.{down_control, up_control}
 use Rattle.shm_count.specs.TearControl.{tear_control}
 use Rattle.shm_alloc.specs.AllocControl.{alloc_control}
+use Rattle.shm_queue.specs.declared.answer.SendFault.{SendFault}
+use Rattle.shm_queue.specs.declared.answer.SendFault.TheVariants as send_fault
+use Rattle.shm_queue.specs.Machines.{send}
 use Rattle.shm_ref.specs.RootsControl.{drop_root}
 use Rattle.shm_script.specs.declared.log.Answer.{Answer}
 use Rattle.shm_script.specs.declared.log.Answer.TheVariants as answer
@@ -28,36 +33,45 @@ use Rattle.shm_table.specs.declared.enter.EnterPoint.TheVariants as enter
 use Rattle.shm_table.specs.declared.enter.EnterState.{EnterState}
 use Rattle.shm_table.specs.declared.find.Found.TheVariants.{Absent, At}
 use Rattle.shm_table.specs.declared.fetch.Fetched.TheVariants.{Missing, Refused, Rooted}
+use Rattle.shm_table.specs.declared.fetch_head.FetchedHead.TheVariants as head
 use Rattle.shm_table.specs.declared.put.PutState.{PutState}
 use Rattle.shm_table.specs.declared.put_root.PutRootState.{PutRootState}
+use Rattle.shm_table.specs.declared.recv.RecvState.{RecvState}
 use Rattle.shm_table.specs.declared.replace.ReplaceState.{ReplaceState}
+use Rattle.shm_table.specs.declared.send_key.SendKeyState.{SendKeyState}
 use Rattle.shm_table.specs.declared.unlink.UnlinkPoint.{UnlinkPoint}
 use Rattle.shm_table.specs.declared.unlink.UnlinkPoint.TheVariants as unlink
 use Rattle.shm_table.specs.declared.unlink.UnlinkState.{UnlinkState}
 use Rattle.shm_table.specs.Answers.{fault_answer, made_fault, raised_fault}
 use Rattle.shm_table.specs.ChangeMachines.{del}
 use Rattle.shm_table.specs.CommandControl.{command_by, command_control, command_effect, command_parts, given}
-use Rattle.shm_table.specs.CopyControl.{CopyAnswer, copy_parts, fetch_control}
+use Rattle.shm_table.specs.CopyControl.{CopyAnswer, CopyCalls, copy_parts, fetch_control}
 use Rattle.shm_table.specs.CopyControl as copying
 use Rattle.shm_table.specs.CopyFits.{copy_plan}
 use Rattle.shm_table.specs.CopyMachines.{copy_control}
-use Rattle.shm_table.specs.DelControl.{DelCallAnswer, del_parts}
+use Rattle.shm_table.specs.DelControl.{DelCallAnswer, DelCalls, del_parts}
 use Rattle.shm_table.specs.DelFits.{del_plan}
-use Rattle.shm_table.specs.Effects.{copy_at, copy_by, copy_effect, copy_says, del_at, del_by, del_effect, del_says, enter_at, enter_by, enter_decided, enter_says, get_effect, is_linked, is_removed, links, put_at, put_by, put_effect, put_root_at, put_root_by, put_root_decided, put_root_says, put_says, replace_at, replace_by, replace_decided, replace_says, settled, unlink_at, unlink_by, unlink_decided, unlink_says}
+use Rattle.shm_table.specs.Effects.{copy_at, copy_by, copy_effect, copy_says, del_at, del_by, del_effect, del_says, enter_at, enter_by, ends_with, enter_decided, enter_says, get_effect, is_linked, is_removed, is_sent, links, put_at, put_by, put_effect, put_root_at, put_root_by, put_root_decided, put_root_says, put_says, recv_at, recv_by, recv_effect, recv_says, replace_at, replace_by, replace_decided, replace_says, send_key_at, send_key_by, send_key_effect, send_key_says, settled, unlink_at, unlink_by, unlink_decided, unlink_says}
 use Rattle.shm_table.specs.EnterControl.{EnterAnswer, enter_call_at, enter_parts, raised_after, raised_turns, valued_by}
 use Rattle.shm_table.specs.EnterFits.{enter_plan}
-use Rattle.shm_table.specs.GetControl.{get_parts}
+use Rattle.shm_table.specs.GetControl.{GetCalls, get_parts}
 use Rattle.shm_table.specs.GetFits.{get_plan}
 use Rattle.shm_table.specs.LocateFits.{locate_control}
-use Rattle.shm_table.specs.PutControl.{PutAnswer, put_parts}
+use Rattle.shm_table.specs.PutControl.{PutAnswer, PutCalls, put_parts}
 use Rattle.shm_table.specs.PutControl as putting
 use Rattle.shm_table.specs.PutFits.{put_plan}
 use Rattle.shm_table.specs.PutMachines.{put}
 use Rattle.shm_table.specs.PutRootControl.{PutRootAnswer, decided_of, enter_control, fault_of, freed_turns, open_control, put_answer, put_root_parts, replace_control, stuck_answer}
 use Rattle.shm_table.specs.PutRootFits.{put_root_control, put_root_plan}
 use Rattle.shm_table.specs.ReadMachines.{get}
+use Rattle.shm_table.specs.RecvControl.{RecvAnswer, RecvCalls, fetch_head_control, recv_parts, take_head_control}
+use Rattle.shm_table.specs.RecvFits.{recv_plan}
+use Rattle.shm_table.specs.RecvMachines.{recv_control}
 use Rattle.shm_table.specs.ReplaceControl.{ReplaceAnswer, replace_parts}
 use Rattle.shm_table.specs.ReplaceFits.{replace_plan}
+use Rattle.shm_table.specs.SendKeyControl.{SendKeyAnswer, SendKeyCalls, send_key_parts, sent_answer}
+use Rattle.shm_table.specs.SendKeyFits.{send_key_plan}
+use Rattle.shm_table.specs.SendMachines.{send_key}
 use Rattle.shm_table.specs.UnlatchFits.{unlatch_control}
 use Rattle.shm_table.specs.UnlinkControl.{UnlinkAnswer, unlink_call_at, unlink_parts}
 use Rattle.shm_table.specs.UnlinkFits.{unlink_control, unlink_plan}
@@ -279,6 +293,15 @@ copy_calls m =
     (keeps_decided fetch_control false)
     (or_decides put_root_control drop_root put_root_decided (λ c. settled m.decided m.refused) (λ c. put_root_by c.plan c.call) (λ c n. false) decided_of (λ a. settled m.decided m.refused) put_root_decides (keeps_decided drop_root (settled m.decided m.refused)))
 
+-- what it and a receive answer where the step was made, whether the root was dropped or not
+settled_given : (z : Bool) (f : Option PutFault) (n b : ℕ) → settled z f ≡ true → copying.copy_answer n b f ≡ answer.Value n b
+settled_given z None n b d = refl
+settled_given z (Some f) n b d = cc
+
+settled_stuck : (z : Bool) (f : Option PutFault) (n b : ℕ) (x : AnEraSpent) → settled z f ≡ true → copying.stuck_answer n b f x ≡ answer.Value n b
+settled_stuck z None n b x d = refl
+settled_stuck z (Some f) n b x d = cc
+
 pub copy_foretells : Foretells (calls_control copy_parts copy_plan) (λ a. a) copy_effect (λ m n. copy_by m.plan m.call n)
 copy_foretells = calls_foretell copy_parts copy_plan copy_at copy_by copy_says (λ a. a) (λ m. answer.Value m.number m.block) (record { decides = record { calls = copy_calls; goes = goes }; same = same; ends = ends })
   where
@@ -295,19 +318,11 @@ copy_foretells = calls_foretell copy_parts copy_plan copy_at copy_by copy_says (
     same m (Second (First done)) d e = refl
     same m (Second (Second a)) d e = refl
 
-    given : (z : Bool) (f : Option PutFault) (n b : ℕ) → settled z f ≡ true → copying.copy_answer n b f ≡ answer.Value n b
-    given z None n b d = refl
-    given z (Some f) n b d = cc
-
-    stuck : (z : Bool) (f : Option PutFault) (n b : ℕ) (x : AnEraSpent) → settled z f ≡ true → copying.stuck_answer n b f x ≡ answer.Value n b
-    stuck z None n b x d = refl
-    stuck z (Some f) n b x d = cc
-
     ends : (m : CopyState) (b : CopyAnswer) (a : Answer) → copy_says m b ≡ true → copy_plan.turns m b ≡ Some a → a ≡ answer.Value m.number m.block
     ends m (First b) a d e = cc
     ends m (Second (First done)) a d e = cc
-    ends m (Second (Second (Ok z))) a d e = let i : a ≡ copying.copy_answer m.number m.block m.refused = cc in i ∙ given m.decided m.refused m.number m.block d
-    ends m (Second (Second (Err x))) a d e = let i : a ≡ copying.stuck_answer m.number m.block m.refused x = cc in i ∙ stuck m.decided m.refused m.number m.block x d
+    ends m (Second (Second (Ok z))) a d e = let i : a ≡ copying.copy_answer m.number m.block m.refused = cc in i ∙ settled_given m.decided m.refused m.number m.block d
+    ends m (Second (Second (Err x))) a d e = let i : a ≡ copying.stuck_answer m.number m.block m.refused x = cc in i ∙ settled_stuck m.decided m.refused m.number m.block x d
 
 -- ---- a removal
 
@@ -340,6 +355,83 @@ del_foretells = calls_foretell del_parts del_plan del_at del_by del_says (λ a. 
     ends m (Second (First done)) a d e = cc
     ends m (Second (Second done)) a d e = let i : a ≡ m.answer = cc in i ∙ is_gone m.answer d
 
+-- ---- what a key has is sent
+
+-- a machine whose last step decides, by the answer of that step
+last_decides : {S A : Type 0} (k : Control S A) (says : A → Bool) → Decides k (λ m. false) (λ m n. ends_with says (k.turns m n)) says
+last_decides k says = record { goes = λ m n e. sym (ap (ends_with says) e); ends = λ m n a e. sym (ap (ends_with says) e) }
+
+send_key_calls : (m : SendKeyState) → Decides send_key_parts (send_key_at m) (send_key_by m) (send_key_says m)
+send_key_calls m =
+    or_decides locate_control (or_control word_control (or_control send unlatch_control)) (λ c. false) (either (λ c. false) (either (λ c. false) (λ c. is_sent m.outcome)))
+    (λ c n. false) (either (λ c n. false) (either (λ c n. ends_with is_ok (send.turns c n)) (λ c n. false))) (λ a. false) (either (λ n. false) (either is_ok (λ a. is_sent m.outcome)))
+    (keeps_decided locate_control false)
+    (or_decides word_control (or_control send unlatch_control) (λ c. false) (either (λ c. false) (λ c. is_sent m.outcome)) (λ c n. false) (either (λ c n. ends_with is_ok (send.turns c n)) (λ c n. false)) (λ n. false) (either is_ok (λ a. is_sent m.outcome))
+    (keeps_decided word_control false)
+    (or_decides send unlatch_control (λ c. false) (λ c. is_sent m.outcome) (λ c n. ends_with is_ok (send.turns c n)) (λ c n. false) is_ok (λ a. is_sent m.outcome) (last_decides send is_ok) (keeps_decided unlatch_control (is_sent m.outcome))))
+
+pub send_key_foretells : Foretells (calls_control send_key_parts send_key_plan) (λ a. a) send_key_effect (λ m n. send_key_by m.plan m.call n)
+send_key_foretells = calls_foretell send_key_parts send_key_plan send_key_at send_key_by send_key_says (λ a. a) (λ m. answer.Ok) (record { decides = record { calls = send_key_calls; goes = goes }; same = λ m b d e. refl; ends = ends })
+  where
+    refused : (f : SendFault) → is_sent (sent_answer (Err f)) ≡ false
+    refused (send_fault.QueueFull h n) = refl
+    refused (send_fault.EraSpent e) = refl
+    refused (send_fault.CountFull b n) = refl
+
+    goes : (m : SendKeyState) (b : SendKeyAnswer) → send_key_plan.turns m b ≡ None → send_key_at (send_key_plan.after m b) (send_key_plan.call (send_key_plan.after m b)) ≡ send_key_says m b
+    goes m (First (Absent home first)) e = refl
+    goes m (First (At entry before word)) e = refl
+    goes m (Second (First n)) e = refl
+    goes m (Second (Second (First (Ok n)))) e = refl
+    goes m (Second (Second (First (Err f)))) e = refused f
+    goes m (Second (Second (Second done))) e = cc
+
+    is_gone : (a : Answer) → is_sent a ≡ true → a ≡ answer.Ok
+    is_gone answer.Ok d = refl
+    is_gone a d = cc
+
+    ends : (m : SendKeyState) (b : SendKeyAnswer) (a : Answer) → send_key_says m b ≡ true → send_key_plan.turns m b ≡ Some a → a ≡ answer.Ok
+    ends m (First found) a d e = cc
+    ends m (Second (First n)) a d e = cc
+    ends m (Second (Second (First b))) a d e = cc
+    ends m (Second (Second (Second done))) a d e = let i : a ≡ m.outcome = cc in i ∙ is_gone m.outcome d
+
+-- ---- a receive
+
+recv_calls : (m : RecvState) → Decides recv_parts (recv_at m) (recv_by m) (recv_says m)
+recv_calls m =
+    or_decides (or_control fetch_head_control take_head_control) (or_control put_root_control drop_root) (either (λ c. false) (λ c. settled m.decided m.refused)) (either put_root_decided (λ c. settled m.decided m.refused))
+    (either (λ c n. false) (λ c n. false)) (either (λ c. put_root_by c.plan c.call) (λ c n. false)) (either (λ a. false) (λ a. settled m.decided m.refused)) (either decided_of (λ a. settled m.decided m.refused))
+    (or_decides fetch_head_control take_head_control (λ c. false) (λ c. settled m.decided m.refused) (λ c n. false) (λ c n. false) (λ a. false) (λ a. settled m.decided m.refused) (keeps_decided fetch_head_control false) (keeps_decided take_head_control (settled m.decided m.refused)))
+    (or_decides put_root_control drop_root put_root_decided (λ c. settled m.decided m.refused) (λ c. put_root_by c.plan c.call) (λ c n. false) decided_of (λ a. settled m.decided m.refused) put_root_decides (keeps_decided drop_root (settled m.decided m.refused)))
+
+pub recv_foretells : Foretells (calls_control recv_parts recv_plan) (λ a. a) recv_effect (λ m n. recv_by m.plan m.call n)
+recv_foretells = calls_foretell recv_parts recv_plan recv_at recv_by recv_says (λ a. a) (λ m. answer.Value m.number m.block) (record { decides = record { calls = recv_calls; goes = goes }; same = same; ends = ends })
+  where
+    goes : (m : RecvState) (b : RecvAnswer) → recv_plan.turns m b ≡ None → recv_at (recv_plan.after m b) (recv_plan.call (recv_plan.after m b)) ≡ recv_says m b
+    goes m (First (First (head.Empty n))) e = cc
+    goes m (First (First (head.Refused f))) e = cc
+    goes m (First (First (head.Rooted k b v n))) e = refl
+    goes m (First (Second a)) e = refl
+    goes m (Second (First (Ok z))) e = refl
+    goes m (Second (First (Err f))) e = refl
+    goes m (Second (Second (Ok z))) e = cc
+    goes m (Second (Second (Err x))) e = cc
+
+    same : (m : RecvState) (b : RecvAnswer) → recv_says m b ≡ true → recv_plan.turns m b ≡ None → answer.Value (recv_plan.after m b).number (recv_plan.after m b).block ≡ answer.Value m.number m.block
+    same m (First (First a)) d e = cc
+    same m (First (Second a)) d e = refl
+    same m (Second (First (Ok z))) d e = refl
+    same m (Second (First (Err f))) d e = refl
+    same m (Second (Second a)) d e = refl
+
+    ends : (m : RecvState) (b : RecvAnswer) (a : Answer) → recv_says m b ≡ true → recv_plan.turns m b ≡ Some a → a ≡ answer.Value m.number m.block
+    ends m (First (First b)) a d e = cc
+    ends m (First (Second b)) a d e = cc
+    ends m (Second (First b)) a d e = cc
+    ends m (Second (Second (Ok z))) a d e = let i : a ≡ copying.copy_answer m.number m.block m.refused = cc in i ∙ settled_given m.decided m.refused m.number m.block d
+    ends m (Second (Second (Err x))) a d e = let i : a ≡ copying.stuck_answer m.number m.block m.refused x = cc in i ∙ settled_stuck m.decided m.refused m.number m.block x d
+
 -- ---- reading what a key has
 
 pub get_foretells : Foretells (calls_control get_parts get_plan) (λ a. a) get_effect (λ m n. false)
@@ -347,10 +439,30 @@ get_foretells = record { goes = λ m n e. refl; stays = λ m n x i e. cc; answer
 
 -- ---- a command of a line
 
+abbrev brings_by : Or PutCalls CopyCalls → ℕ → Bool
+brings_by = either (λ c n. put_by c.plan c.call n) (λ c n. copy_by c.plan c.call n)
+
+abbrev keys_by : Or DelCalls GetCalls → ℕ → Bool
+keys_by = either (λ c n. del_by c.plan c.call n) (λ c n. false)
+
+abbrev queues_by : Or SendKeyCalls RecvCalls → ℕ → Bool
+queues_by = either (λ c n. send_key_by c.plan c.call n) (λ c n. recv_by c.plan c.call n)
+
+abbrev one_answer : Or Answer Answer → Answer
+one_answer = either (λ a. a) (λ a. a)
+
+brings_foretell : Foretells (or_control put copy_control) one_answer (either put_effect copy_effect) brings_by
+brings_foretell = or_foretells put copy_control (λ a. a) (λ a. a) put_effect copy_effect (λ c n. put_by c.plan c.call n) (λ c n. copy_by c.plan c.call n) put_foretells copy_foretells
+
+keys_foretell : Foretells (or_control del get) one_answer (either del_effect get_effect) keys_by
+keys_foretell = or_foretells del get (λ a. a) (λ a. a) del_effect get_effect (λ c n. del_by c.plan c.call n) (λ c n. false) del_foretells get_foretells
+
+queues_foretell : Foretells (or_control send_key recv_control) one_answer (either send_key_effect recv_effect) queues_by
+queues_foretell = or_foretells send_key recv_control (λ a. a) (λ a. a) send_key_effect recv_effect (λ c n. send_key_by c.plan c.call n) (λ c n. recv_by c.plan c.call n) send_key_foretells recv_foretells
+
 pub command_foretells : Foretells command_control (λ a. a) command_effect command_by
 command_foretells =
     mapped_foretells given command_parts (λ a. a) command_effect command_by
-    (or_foretells (or_control put copy_control) (or_control del get) (either (λ a. a) (λ a. a)) (either (λ a. a) (λ a. a)) (either put_effect copy_effect) (either del_effect get_effect)
-    (either (λ c n. put_by c.plan c.call n) (λ c n. copy_by c.plan c.call n)) (either (λ c n. del_by c.plan c.call n) (λ c n. false))
-    (or_foretells put copy_control (λ a. a) (λ a. a) put_effect copy_effect (λ c n. put_by c.plan c.call n) (λ c n. copy_by c.plan c.call n) put_foretells copy_foretells)
-    (or_foretells del get (λ a. a) (λ a. a) del_effect get_effect (λ c n. del_by c.plan c.call n) (λ c n. false) del_foretells get_foretells))
+    (or_foretells (or_control put copy_control) (or_control (or_control del get) (or_control send_key recv_control)) one_answer (either one_answer one_answer) (either put_effect copy_effect) (either (either del_effect get_effect) (either send_key_effect recv_effect))
+    brings_by (either keys_by queues_by) brings_foretell
+    (or_foretells (or_control del get) (or_control send_key recv_control) one_answer one_answer (either del_effect get_effect) (either send_key_effect recv_effect) keys_by queues_by keys_foretell queues_foretell))

@@ -1,15 +1,13 @@
 -- the laws of a command of a line, by those of the commands
-use Rattle.std.proofs.Common.{◌≡◌, ℕ, subst, []}
-use Rattle.std.specs.Prelude.{Some}
+use Rattle.std.proofs.Common.{ℕ, subst}
 use Rattle.shm_graph.specs.declared.ask.Me.{Me}
 use Rattle.shm_graph.specs.declared.memo.Memo.{Memo}
 use Rattle.shm_graph.specs.Asks.{Trail}
 use Rattle.shm_graph.specs.Laws.{Laws}
 use Rattle.shm_graph.specs.Mapped.{mapped_laws}
 use Rattle.shm_graph.specs.Tells.{Tells}
-use Rattle.shm_calls.specs.declared.or.Or.{Or}
 use Rattle.shm_calls.specs.declared.or.Or.TheVariants.{First, Second}
-use Rattle.shm_calls.specs.CallsControl.{calls_does, calls_of}
+use Rattle.shm_calls.specs.CallsControl.{calls_does}
 use Rattle.shm_calls.specs.CallsFit.{CallsFits, CallsGives}
 use Rattle.shm_calls.specs.CallsKeep.{calls_laws, calls_tells}
 use Rattle.shm_calls.specs.Either.{OrFits, OrGives, or_control, or_does, or_laws, or_tells}
@@ -17,77 +15,103 @@ use Rattle.shm_calls.specs.Plans.{PlanLaws}
 use Rattle.shm_script.specs.declared.line.Line.TheVariants as line
 use Rattle.shm_script.specs.declared.log.Answer.{Answer}
 use Rattle.shm_table.specs.ChangeMachines.{DelGives, del}
-use Rattle.shm_table.specs.CommandControl.{CommandCall, CommandFits, CommandGives, OneGives, command_control, command_does, command_of, command_parts, given}
-use Rattle.shm_table.specs.CopyControl.{copy_parts, copying}
+use Rattle.shm_table.specs.CommandControl.{CommandFits, CommandGives, OneAnswer, OneGives, command_control, command_does, command_of, command_parts, given}
+use Rattle.shm_table.specs.CopyControl.{copy_parts}
 use Rattle.shm_table.specs.CopyFits.{copy_plan}
 use Rattle.shm_table.specs.CopyMachines.{CopyGives, copy_control}
-use Rattle.shm_table.specs.DelControl.{del_parts, deleting}
+use Rattle.shm_table.specs.DelControl.{del_parts}
 use Rattle.shm_table.specs.DelFits.{del_plan}
-use Rattle.shm_table.specs.GetControl.{get_parts, getting}
+use Rattle.shm_table.specs.GetControl.{get_parts}
 use Rattle.shm_table.specs.GetFits.{get_plan}
-use Rattle.shm_table.specs.PutControl.{put_parts, putting}
+use Rattle.shm_table.specs.PutControl.{put_parts}
 use Rattle.shm_table.specs.PutFits.{put_plan}
 use Rattle.shm_table.specs.PutMachines.{PutGives, put}
 use Rattle.shm_table.specs.ReadMachines.{GetGives, get}
+use Rattle.shm_table.specs.RecvControl.{recv_parts}
+use Rattle.shm_table.specs.RecvFits.{recv_plan}
+use Rattle.shm_table.specs.RecvMachines.{RecvGives, recv_control}
+use Rattle.shm_table.specs.SendKeyControl.{send_key_parts}
+use Rattle.shm_table.specs.SendKeyFits.{send_key_plan}
+use Rattle.shm_table.specs.SendMachines.{SendKeyGives, send_key}
 
-module _ (puts : PlanLaws put_parts put_plan) (copies : PlanLaws copy_parts copy_plan) (dels : PlanLaws del_parts del_plan) (gets : PlanLaws get_parts get_plan) where
+module _ (puts : PlanLaws put_parts put_plan) (copies : PlanLaws copy_parts copy_plan) (dels : PlanLaws del_parts del_plan) (gets : PlanLaws get_parts get_plan) (sends : PlanLaws send_key_parts send_key_plan) (recvs : PlanLaws recv_parts recv_plan) where
+  brings_laws : Laws (or_control put copy_control) (OrFits (CallsFits put_parts put_plan) (CallsFits copy_parts copy_plan)) (OrGives (CallsGives put_parts put_plan) (CallsGives copy_parts copy_plan))
+  brings_laws = or_laws put copy_control (CallsFits put_parts put_plan) (CallsGives put_parts put_plan) (CallsFits copy_parts copy_plan) (CallsGives copy_parts copy_plan) (calls_laws put_parts put_plan puts) (calls_laws copy_parts copy_plan copies)
+
+  keys_laws : Laws (or_control del get) (OrFits (CallsFits del_parts del_plan) (CallsFits get_parts get_plan)) (OrGives (CallsGives del_parts del_plan) (CallsGives get_parts get_plan))
+  keys_laws = or_laws del get (CallsFits del_parts del_plan) (CallsGives del_parts del_plan) (CallsFits get_parts get_plan) (CallsGives get_parts get_plan) (calls_laws del_parts del_plan dels) (calls_laws get_parts get_plan gets)
+
+  queues_laws : Laws (or_control send_key recv_control) (OrFits (CallsFits send_key_parts send_key_plan) (CallsFits recv_parts recv_plan)) (OrGives (CallsGives send_key_parts send_key_plan) (CallsGives recv_parts recv_plan))
+  queues_laws = or_laws send_key recv_control (CallsFits send_key_parts send_key_plan) (CallsGives send_key_parts send_key_plan) (CallsFits recv_parts recv_plan) (CallsGives recv_parts recv_plan) (calls_laws send_key_parts send_key_plan sends) (calls_laws recv_parts recv_plan recvs)
+
+  rest_laws : Laws (or_control (or_control del get) (or_control send_key recv_control)) (OrFits (OrFits (CallsFits del_parts del_plan) (CallsFits get_parts get_plan)) (OrFits (CallsFits send_key_parts send_key_plan) (CallsFits recv_parts recv_plan))) (OrGives (OrGives (CallsGives del_parts del_plan) (CallsGives get_parts get_plan)) (OrGives (CallsGives send_key_parts send_key_plan) (CallsGives recv_parts recv_plan)))
+  rest_laws =
+      or_laws (or_control del get) (or_control send_key recv_control) (OrFits (CallsFits del_parts del_plan) (CallsFits get_parts get_plan)) (OrGives (CallsGives del_parts del_plan) (CallsGives get_parts get_plan))
+      (OrFits (CallsFits send_key_parts send_key_plan) (CallsFits recv_parts recv_plan)) (OrGives (CallsGives send_key_parts send_key_plan) (CallsGives recv_parts recv_plan)) keys_laws queues_laws
+
   pub command_laws : Laws command_control CommandFits CommandGives
   command_laws =
       mapped_laws given command_parts CommandFits OneGives
-      (or_laws (or_control put copy_control) (or_control del get)
+      (or_laws (or_control put copy_control) (or_control (or_control del get) (or_control send_key recv_control))
       (OrFits (CallsFits put_parts put_plan) (CallsFits copy_parts copy_plan)) (OrGives (CallsGives put_parts put_plan) (CallsGives copy_parts copy_plan))
-      (OrFits (CallsFits del_parts del_plan) (CallsFits get_parts get_plan)) (OrGives (CallsGives del_parts del_plan) (CallsGives get_parts get_plan))
-      (or_laws put copy_control (CallsFits put_parts put_plan) (CallsGives put_parts put_plan) (CallsFits copy_parts copy_plan) (CallsGives copy_parts copy_plan) (calls_laws put_parts put_plan puts) (calls_laws copy_parts copy_plan copies))
-      (or_laws del get (CallsFits del_parts del_plan) (CallsGives del_parts del_plan) (CallsFits get_parts get_plan) (CallsGives get_parts get_plan) (calls_laws del_parts del_plan dels) (calls_laws get_parts get_plan gets)))
+      (OrFits (OrFits (CallsFits del_parts del_plan) (CallsFits get_parts get_plan)) (OrFits (CallsFits send_key_parts send_key_plan) (CallsFits recv_parts recv_plan)))
+      (OrGives (OrGives (CallsGives del_parts del_plan) (CallsGives get_parts get_plan)) (OrGives (CallsGives send_key_parts send_key_plan) (CallsGives recv_parts recv_plan)))
+      brings_laws rest_laws)
 
   -- the event of each word step is the one that is told
+  brings_tells : Tells (or_control put copy_control) (OrFits (CallsFits put_parts put_plan) (CallsFits copy_parts copy_plan)) (or_does (calls_does put_parts put_plan) (calls_does copy_parts copy_plan))
+  brings_tells = or_tells put copy_control (CallsFits put_parts put_plan) (CallsFits copy_parts copy_plan) (calls_does put_parts put_plan) (calls_does copy_parts copy_plan) (calls_tells put_parts put_plan puts) (calls_tells copy_parts copy_plan copies)
+
+  keys_tells : Tells (or_control del get) (OrFits (CallsFits del_parts del_plan) (CallsFits get_parts get_plan)) (or_does (calls_does del_parts del_plan) (calls_does get_parts get_plan))
+  keys_tells = or_tells del get (CallsFits del_parts del_plan) (CallsFits get_parts get_plan) (calls_does del_parts del_plan) (calls_does get_parts get_plan) (calls_tells del_parts del_plan dels) (calls_tells get_parts get_plan gets)
+
+  queues_tells : Tells (or_control send_key recv_control) (OrFits (CallsFits send_key_parts send_key_plan) (CallsFits recv_parts recv_plan)) (or_does (calls_does send_key_parts send_key_plan) (calls_does recv_parts recv_plan))
+  queues_tells = or_tells send_key recv_control (CallsFits send_key_parts send_key_plan) (CallsFits recv_parts recv_plan) (calls_does send_key_parts send_key_plan) (calls_does recv_parts recv_plan) (calls_tells send_key_parts send_key_plan sends) (calls_tells recv_parts recv_plan recvs)
+
+  rest_tells : Tells (or_control (or_control del get) (or_control send_key recv_control)) (OrFits (OrFits (CallsFits del_parts del_plan) (CallsFits get_parts get_plan)) (OrFits (CallsFits send_key_parts send_key_plan) (CallsFits recv_parts recv_plan))) (or_does (or_does (calls_does del_parts del_plan) (calls_does get_parts get_plan)) (or_does (calls_does send_key_parts send_key_plan) (calls_does recv_parts recv_plan)))
+  rest_tells =
+      or_tells (or_control del get) (or_control send_key recv_control) (OrFits (CallsFits del_parts del_plan) (CallsFits get_parts get_plan)) (OrFits (CallsFits send_key_parts send_key_plan) (CallsFits recv_parts recv_plan))
+      (or_does (calls_does del_parts del_plan) (calls_does get_parts get_plan)) (or_does (calls_does send_key_parts send_key_plan) (calls_does recv_parts recv_plan)) keys_tells queues_tells
+
   pub command_tells : Tells command_parts CommandFits command_does
   command_tells =
-      or_tells (or_control put copy_control) (or_control del get) (OrFits (CallsFits put_parts put_plan) (CallsFits copy_parts copy_plan)) (OrFits (CallsFits del_parts del_plan) (CallsFits get_parts get_plan))
-      (or_does (calls_does put_parts put_plan) (calls_does copy_parts copy_plan)) (or_does (calls_does del_parts del_plan) (calls_does get_parts get_plan))
-      (or_tells put copy_control (CallsFits put_parts put_plan) (CallsFits copy_parts copy_plan) (calls_does put_parts put_plan) (calls_does copy_parts copy_plan) (calls_tells put_parts put_plan puts) (calls_tells copy_parts copy_plan copies))
-      (or_tells del get (CallsFits del_parts del_plan) (CallsFits get_parts get_plan) (calls_does del_parts del_plan) (calls_does get_parts get_plan) (calls_tells del_parts del_plan dels) (calls_tells get_parts get_plan gets))
+      or_tells (or_control put copy_control) (or_control (or_control del get) (or_control send_key recv_control)) (OrFits (CallsFits put_parts put_plan) (CallsFits copy_parts copy_plan))
+      (OrFits (OrFits (CallsFits del_parts del_plan) (CallsFits get_parts get_plan)) (OrFits (CallsFits send_key_parts send_key_plan) (CallsFits recv_parts recv_plan)))
+      (or_does (calls_does put_parts put_plan) (calls_does copy_parts copy_plan)) (or_does (or_does (calls_does del_parts del_plan) (calls_does get_parts get_plan)) (or_does (calls_does send_key_parts send_key_plan) (calls_does recv_parts recv_plan)))
+      brings_tells rest_tells
 
--- ---- it begins and gives as the one of them does
+-- ---- it gives what the one of them does
 
--- it is that machine
-that : (P : CommandCall → Type 0) (x m : CommandCall) → Some x ≡ Some m → P x → P m
-that P x m e h = let i : x ≡ m = cc in subst P i h
+pub puts_give : (me : Me) (key n : ℕ) (r0 r : Memo) (tr : Trail) (b : Answer) → CommandGives (command_of me (line.Put key n)) r0 r tr b → PutGives me key n r0 r tr b
+puts_give me key n r0 r tr b (First (First x), i, h) = subst (PutGives me key n r0 r tr) i h
+puts_give me key n r0 r tr b (First (Second x), i, h) = absurd h
+puts_give me key n r0 r tr b (Second x, i, h) = absurd h
 
-this : (P : CommandCall → Type 0) (x m : CommandCall) → Some x ≡ Some m → P m → P x
-this P x m e h = let i : m ≡ x = cc in subst P i h
+pub copies_give : (me : Me) (key a other : ℕ) (r0 r : Memo) (tr : Trail) (b : Answer) → CommandGives (command_of me (line.Copy key a other)) r0 r tr b → CopyGives me key a other r0 r tr b
+copies_give me key a other r0 r tr b (First (Second x), i, h) = subst (CopyGives me key a other r0 r tr) i h
+copies_give me key a other r0 r tr b (First (First x), i, h) = absurd h
+copies_give me key a other r0 r tr b (Second x, i, h) = absurd h
 
-pub command_begins : (x m : CommandCall) (r : Memo) → Some x ≡ Some m → CommandFits x r r [] → CommandFits m r r []
-command_begins x m r e h = that (λ c. CommandFits c r r []) x m e h
+pub dels_give : (me : Me) (key : ℕ) (r0 r : Memo) (tr : Trail) (b : Answer) → CommandGives (command_of me (line.Del key)) r0 r tr b → DelGives me key r0 r tr b
+dels_give me key r0 r tr b (Second (First (First x)), i, h) = subst (DelGives me key r0 r tr) i h
+dels_give me key r0 r tr b (Second (First (Second x)), i, h) = absurd h
+dels_give me key r0 r tr b (Second (Second x), i, h) = absurd h
+dels_give me key r0 r tr b (First x, i, h) = absurd h
 
-pub puts_give : (me : Me) (key n : ℕ) (m : CommandCall) (r0 r : Memo) (tr : Trail) (b : Answer) → command_of me (line.Put key n) ≡ Some m → CommandGives m r0 r tr b → PutGives me key n r0 r tr b
-puts_give me key n m r0 r tr b e g = go (this (λ c. CommandGives c r0 r tr b) (First (First (calls_of put_plan (putting me key n)))) m e g)
-  where
-    go : CommandGives (First (First (calls_of put_plan (putting me key n)))) r0 r tr b → PutGives me key n r0 r tr b
-    go (First (First a), i, h) = subst (PutGives me key n r0 r tr) i h
-    go (First (Second a), i, h) = absurd h
-    go (Second a, i, h) = absurd h
+pub gets_give : (me : Me) (a key : ℕ) (r0 r : Memo) (tr : Trail) (b : Answer) → CommandGives (command_of me (line.Get a key)) r0 r tr b → GetGives me a key r0 r tr b
+gets_give me a key r0 r tr b (Second (First (Second x)), i, h) = subst (GetGives me a key r0 r tr) i h
+gets_give me a key r0 r tr b (Second (First (First x)), i, h) = absurd h
+gets_give me a key r0 r tr b (Second (Second x), i, h) = absurd h
+gets_give me a key r0 r tr b (First x, i, h) = absurd h
 
-pub copies_give : (me : Me) (key a other : ℕ) (m : CommandCall) (r0 r : Memo) (tr : Trail) (b : Answer) → command_of me (line.Copy key a other) ≡ Some m → CommandGives m r0 r tr b → CopyGives me key a other r0 r tr b
-copies_give me key a other m r0 r tr b e g = go (this (λ c. CommandGives c r0 r tr b) (First (Second (calls_of copy_plan (copying me key a other)))) m e g)
-  where
-    go : CommandGives (First (Second (calls_of copy_plan (copying me key a other)))) r0 r tr b → CopyGives me key a other r0 r tr b
-    go (First (Second c), i, h) = subst (CopyGives me key a other r0 r tr) i h
-    go (First (First c), i, h) = absurd h
-    go (Second c, i, h) = absurd h
+pub sends_give : (me : Me) (i key : ℕ) (r0 r : Memo) (tr : Trail) (b : Answer) → CommandGives (command_of me (line.Send i key)) r0 r tr b → SendKeyGives me i key r0 r tr b
+sends_give me i key r0 r tr b (Second (Second (First x)), i, h) = subst (SendKeyGives me i key r0 r tr) i h
+sends_give me i key r0 r tr b (Second (Second (Second x)), i, h) = absurd h
+sends_give me i key r0 r tr b (Second (First x), i, h) = absurd h
+sends_give me i key r0 r tr b (First x, i, h) = absurd h
 
-pub dels_give : (me : Me) (key : ℕ) (m : CommandCall) (r0 r : Memo) (tr : Trail) (b : Answer) → command_of me (line.Del key) ≡ Some m → CommandGives m r0 r tr b → DelGives me key r0 r tr b
-dels_give me key m r0 r tr b e g = go (this (λ c. CommandGives c r0 r tr b) (Second (First (calls_of del_plan (deleting me key)))) m e g)
-  where
-    go : CommandGives (Second (First (calls_of del_plan (deleting me key)))) r0 r tr b → DelGives me key r0 r tr b
-    go (Second (First a), i, h) = subst (DelGives me key r0 r tr) i h
-    go (Second (Second a), i, h) = absurd h
-    go (First a, i, h) = absurd h
-
-pub gets_give : (me : Me) (a key : ℕ) (m : CommandCall) (r0 r : Memo) (tr : Trail) (b : Answer) → command_of me (line.Get a key) ≡ Some m → CommandGives m r0 r tr b → GetGives me a key r0 r tr b
-gets_give me a key m r0 r tr b e g = go (this (λ c. CommandGives c r0 r tr b) (Second (Second (calls_of get_plan (getting me a key)))) m e g)
-  where
-    go : CommandGives (Second (Second (calls_of get_plan (getting me a key)))) r0 r tr b → GetGives me a key r0 r tr b
-    go (Second (Second c), i, h) = subst (GetGives me a key r0 r tr) i h
-    go (Second (First c), i, h) = absurd h
-    go (First c, i, h) = absurd h
+pub recvs_give : (me : Me) (s key : ℕ) (r0 r : Memo) (tr : Trail) (b : Answer) → CommandGives (command_of me (line.Recv s key)) r0 r tr b → RecvGives me s key r0 r tr b
+recvs_give me s key r0 r tr b (Second (Second (Second x)), i, h) = subst (RecvGives me s key r0 r tr) i h
+recvs_give me s key r0 r tr b (Second (Second (First x)), i, h) = absurd h
+recvs_give me s key r0 r tr b (Second (First x), i, h) = absurd h
+recvs_give me s key r0 r tr b (First x, i, h) = absurd h

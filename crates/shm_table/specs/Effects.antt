@@ -3,6 +3,7 @@ use Rattle.std.specs.Prelude.{ℕ, Bool, true, false, ◌&&◌, is_ok, Option, S
 use Rattle.shm_calls.specs.declared.calls.Calls.{Calls}
 use Rattle.shm_calls.specs.Deciding.{either, where_decided}
 use Rattle.shm_count.specs.StepExchanged.{step_exchanged, step_exchanging}
+use Rattle.shm_queue.specs.Machines.{send}
 use Rattle.shm_script.specs.declared.log.Answer.{Answer}
 use Rattle.shm_script.specs.declared.log.Answer.TheVariants as answer
 use Rattle.shm_table.specs.declared.answer.PutFault.{PutFault}
@@ -16,7 +17,9 @@ use Rattle.shm_table.specs.declared.enter.EnterState.{EnterState}
 use Rattle.shm_table.specs.declared.get.GetState.{GetState}
 use Rattle.shm_table.specs.declared.put.PutState.{PutState}
 use Rattle.shm_table.specs.declared.put_root.PutRootState.{PutRootState}
+use Rattle.shm_table.specs.declared.recv.RecvState.{RecvState}
 use Rattle.shm_table.specs.declared.replace.ReplaceState.{ReplaceState}
+use Rattle.shm_table.specs.declared.send_key.SendKeyState.{SendKeyState}
 use Rattle.shm_table.specs.declared.unlink.UnlinkState.{UnlinkState}
 use Rattle.shm_table.specs.CopyControl.{CopyCalls, CopyAnswer, CopyCall}
 use Rattle.shm_table.specs.DelControl.{DelCalls, DelCall, DelCallAnswer}
@@ -24,7 +27,9 @@ use Rattle.shm_table.specs.EnterControl.{EnterAnswer, EnterCall}
 use Rattle.shm_table.specs.GetControl.{GetCalls, GetAnswer, GetCall}
 use Rattle.shm_table.specs.PutControl.{PutCalls, PutAnswer, PutCall}
 use Rattle.shm_table.specs.PutRootControl.{EnterCalls, PutRootAnswer, PutRootCall, PutRootCalls, ReplaceCalls, decided_of}
+use Rattle.shm_table.specs.RecvControl.{RecvCalls, RecvAnswer, RecvCall}
 use Rattle.shm_table.specs.ReplaceControl.{ReplaceAnswer, ReplaceCall}
+use Rattle.shm_table.specs.SendKeyControl.{SendKeyCalls, SendKeyAnswer, SendKeyCall}
 use Rattle.shm_table.specs.UnlinkControl.{UnlinkAnswer, UnlinkCall}
 use Rattle.shm_table.specs.UnlinkFits.{UnlinkCalls}
 
@@ -144,6 +149,44 @@ del_says m = either (λ a. false) (either is_ok (λ a. is_removed m.answer))
 abbrev pub del_effect : DelCalls → Option Answer
 del_effect m = where_decided (del_at m.plan m.call) answer.Ok
 
--- reading what a key has decides nothing
+-- a machine whose deciding step is its last one, by which it answers so
+abbrev pub ends_with : {A : Type 0} → (A → Bool) → Option A → Bool
+ends_with says None = false
+ends_with says (Some a) = says a
+
+-- ---- what a key has is sent: by the last step of the send, the store of the tail, after which comes the latch
+
+abbrev pub is_sent : Answer → Bool
+is_sent answer.Ok = true
+is_sent a = false
+
+abbrev pub send_key_at : SendKeyState → SendKeyCall → Bool
+send_key_at m = either (λ c. false) (either (λ c. false) (either (λ c. false) (λ c. is_sent m.outcome)))
+
+abbrev pub send_key_by : SendKeyState → SendKeyCall → ℕ → Bool
+send_key_by m = either (λ c n. false) (either (λ c n. false) (either (λ c n. ends_with is_ok (send.turns c n)) (λ c n. false)))
+
+abbrev pub send_key_says : SendKeyState → SendKeyAnswer → Bool
+send_key_says m = either (λ a. false) (either (λ n. false) (either is_ok (λ a. is_sent m.outcome)))
+
+abbrev pub send_key_effect : SendKeyCalls → Option Answer
+send_key_effect m = where_decided (send_key_at m.plan m.call) answer.Ok
+
+-- ---- the head of a queue is received: by the step by which the key comes to have it, before the item is taken
+
+abbrev pub recv_at : RecvState → RecvCall → Bool
+recv_at m = either (either (λ c. false) (λ c. settled m.decided m.refused)) (either put_root_decided (λ c. settled m.decided m.refused))
+
+abbrev pub recv_by : RecvState → RecvCall → ℕ → Bool
+recv_by m = either (either (λ c n. false) (λ c n. false)) (either (λ c. put_root_by c.plan c.call) (λ c n. false))
+
+abbrev pub recv_says : RecvState → RecvAnswer → Bool
+recv_says m = either (either (λ a. false) (λ a. settled m.decided m.refused)) (either decided_of (λ a. settled m.decided m.refused))
+
+abbrev pub recv_effect : RecvCalls → Option Answer
+recv_effect m = where_decided (recv_at m.plan m.call) (answer.Value m.plan.number m.plan.block)
+
+-- ---- reading what a key has decides nothing
+
 abbrev pub get_effect : GetCalls → Option Answer
 get_effect m = None

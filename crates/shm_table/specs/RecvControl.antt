@@ -50,11 +50,15 @@ abbrev pub RecvCall : Type 0
 RecvCall = Or (Or FetchHeadCalls TakeHeadCalls) (Or PutRootCalls RootsCall)
 
 abbrev pub RecvAnswer : Type 0
-RecvAnswer = Or (Or FetchedHead (Result (Unit {0}) EraSpent)) (Or (Result (Unit {0}) PutFault) (Result Bool EraSpent))
+RecvAnswer = Or (Or FetchedHead (Result (Unit {0}) EraSpent)) (Or (Result Bool PutFault) (Result Bool EraSpent))
+
+-- its states
+abbrev pub RecvCalls : Type 0
+RecvCalls = Calls RecvState RecvCall Answer RecvAnswer
 
 -- before its first call
 abbrev pub receiving_key : Me → ℕ → ℕ → RecvState
-receiving_key me s key = record { me = me; from = s; key = key; root = 0; block = 0; number = 0; at = 0; refused = None; point = point.Fetch }
+receiving_key me s key = record { me = me; from = s; key = key; root = 0; block = 0; number = 0; at = 0; decided = false; refused = None; point = point.Fetch }
 
 abbrev pub recv_call_at : RecvState → RecvPoint → RecvCall
 recv_call_at m point.Fetch = First (First (calls_of fetch_head_plan (fetching_head m.me m.from)))
@@ -76,9 +80,9 @@ fetched_turns (Refused f) = Some (fault_answer f)
 fetched_turns (Rooted k b v n) = None
 
 -- by whether the key has the value block: the head is taken only then
-abbrev pub put_after : RecvState → Result (Unit {0}) PutFault → RecvState
-put_after m (Ok done) = record m { refused = None; point = point.Take }
-put_after m (Err f) = record m { refused = Some f; point = point.Drop }
+abbrev pub put_after : RecvState → Result Bool PutFault → RecvState
+put_after m (Ok z) = record m { decided = z; refused = None; point = point.Take }
+put_after m (Err f) = record m { decided = false; refused = Some f; point = point.Drop }
 
 abbrev pub recv_after : RecvState → RecvAnswer → RecvState
 recv_after m (First (First a)) = fetched_after m a

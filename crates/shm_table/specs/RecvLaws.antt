@@ -206,8 +206,8 @@ module _ (m : RecvState) (r0 rs r : Memo) (tr t : Trail) (es ds : List Event) (h
           (may, subst (λ i. IsHeadRooted m.me s i (b % 2 ^ 20) v n r0 r t ds) at (subst (λ d. IsHeadRooted m.me s k d v n r0 r t ds) is w))
 
   -- the key has the value block
-  put_in : RecvKnows (record m { point = Put }) Put r0 rs tr es → PutRootDone m.me m.key m.block rs r t ds → RecvKnows (record m { refused = None; point = Take }) Take r0 r (tr ++ t) (es ++ ds)
-  put_in (may, h) w =
+  put_in : (z : Bool) → RecvKnows (record m { point = Put }) Put r0 rs tr es → PutRootDone m.me m.key m.block rs r t ds → RecvKnows (record m { decided = z; refused = None; point = Take }) Take r0 r (tr ++ t) (es ++ ds)
+  put_in z (may, h) w =
       let quiet = frees_append es ds in
       let none : frees es ≡ 0 = ap frees h.events in
       let b = within_more fetch_head_steps (put_root_steps g + 2 * w.keys + tear_steps (frees ds + length w.left)) tr t h.bound w.bound in (
@@ -245,7 +245,7 @@ module _ (m : RecvState) (r0 rs r : Memo) (tr t : Trail) (es ds : List Event) (h
       )
 
   -- or it was refused it, and the queue is as before
-  put_refused : (f : PutFault) → RecvKnows (record m { point = Put }) Put r0 rs tr es → PutRootRefused m.me m.key m.block rs r t ds f → RecvKnows (record m { refused = Some f; point = Drop }) Drop r0 r (tr ++ t) (es ++ ds)
+  put_refused : (f : PutFault) → RecvKnows (record m { point = Put }) Put r0 rs tr es → PutRootRefused m.me m.key m.block rs r t ds f → RecvKnows (record m { decided = false; refused = Some f; point = Drop }) Drop r0 r (tr ++ t) (es ++ ds)
   put_refused f (may, h) w =
       let quiet = frees_append es ds in
       let none : frees es ≡ 0 = ap frees h.events in
@@ -466,7 +466,7 @@ module _ (fetches : PlanLaws fetch_head_parts fetch_head_plan) (takes : PlanLaws
       stays m (First (First (fetched.Refused f))) = record { same_me = refl; same_line = refl; same_start = refl; started = λ e. absurd (cc) }
       stays m (First (First (fetched.Rooted k b v n))) = record { same_me = refl; same_line = refl; same_start = refl; started = λ e. refl }
       stays m (First (Second a)) = record { same_me = refl; same_line = refl; same_start = refl; started = λ e. refl }
-      stays m (Second (First (Ok done))) = record { same_me = refl; same_line = refl; same_start = refl; started = λ e. refl }
+      stays m (Second (First (Ok z))) = record { same_me = refl; same_line = refl; same_start = refl; started = λ e. refl }
       stays m (Second (First (Err f))) = record { same_me = refl; same_line = refl; same_start = refl; started = λ e. refl }
       stays m (Second (Second (Ok z))) = record { same_me = refl; same_line = refl; same_start = refl; started = λ e. absurd (cc) }
       stays m (Second (Second (Err e))) = record { same_me = refl; same_line = refl; same_start = refl; started = λ e. absurd (cc) }
@@ -481,7 +481,7 @@ module _ (fetches : PlanLaws fetch_head_parts fetch_head_plan) (takes : PlanLaws
           → Follows recv_parts recv_plan (record m { point = y }) b r0 r (tr ++ t) (es ++ ds)
       leads m Fetch r0 rs r tr t es ds (First (First a)) held h w = got m r0 rs r tr t es ds held a h w
       leads m Take r0 rs r tr t es ds (First (Second a)) held h w = took m r0 rs r tr t es ds held a h w
-      leads m Put r0 rs r tr t es ds (Second (First (Ok done))) held h w = put_in m r0 rs r tr t es ds held h w
+      leads m Put r0 rs r tr t es ds (Second (First (Ok z))) held h w = put_in m r0 rs r tr t es ds held z h w
       leads m Put r0 rs r tr t es ds (Second (First (Err f))) held h w = put_refused m r0 rs r tr t es ds held f h w
       leads m Drop r0 rs r tr t es ds (Second (Second a)) held h w = dropped m r0 rs r tr t es ds held m.refused a h w
       leads m Fetch r0 rs r tr t es ds (First (Second b)) held h w = absurd w

@@ -6,16 +6,14 @@ use Rattle.shm_graph.specs.Asks.{Trail}
 use Rattle.shm_graph.specs.Events.{Event}
 use Rattle.shm_graph.specs.Laws.{Control}
 use Rattle.shm_graph.specs.Tells.{happens_along}
-use Rattle.shm_calls.specs.declared.calls.Calls.{Calls}
 use Rattle.shm_calls.specs.CallsControl.{calls_control, calls_of, calls_does}
 use Rattle.shm_calls.specs.CallsFit.{CallsFits, CallsGives}
 use Rattle.shm_count.specs.declared.answer.EraSpent.{EraSpent}
 use Rattle.shm_script.specs.declared.log.Answer.{Answer}
 use Rattle.shm_table.specs.declared.fetch_head.FetchedHead.{FetchedHead}
-use Rattle.shm_table.specs.declared.recv.RecvState.{RecvState}
 use Rattle.shm_table.specs.FetchHeadControl.{fetch_head_parts, fetching_head}
 use Rattle.shm_table.specs.FetchHeadFits.{fetch_head_plan}
-use Rattle.shm_table.specs.RecvControl.{RecvAnswer, RecvCall, fetch_head_control, receiving_key, recv_parts, take_head_control}
+use Rattle.shm_table.specs.RecvControl.{RecvCalls, fetch_head_control, receiving_key, recv_parts, take_head_control}
 use Rattle.shm_table.specs.RecvFits.{recv_plan}
 use Rattle.shm_table.specs.TakeHeadControl.{take_head_parts, taking_head}
 use Rattle.shm_table.specs.TakeHeadFits.{take_head_plan}
@@ -44,7 +42,7 @@ take_head_told me s n b = happens_along take_head_control (calls_does take_head_
 
 -- ---- a key is to have the value block at the head of the queue from s
 
-abbrev pub recv_control : Control (Calls RecvState RecvCall Answer RecvAnswer) Answer
+abbrev pub recv_control : Control RecvCalls Answer
 recv_control = calls_control recv_parts recv_plan
 
 abbrev pub RecvFits : Me → ℕ → ℕ → Memo → Memo → Trail → Type 0

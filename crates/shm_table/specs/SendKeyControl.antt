@@ -35,6 +35,10 @@ SendKeyCall = Or LocateCalls (Or Word (Or (Calls SendState SendCall (Result ℕ 
 abbrev pub SendKeyAnswer : Type 0
 SendKeyAnswer = Or Found (Or ℕ (Or (Result ℕ SendFault) (Unit {0})))
 
+-- its states
+abbrev pub SendKeyCalls : Type 0
+SendKeyCalls = Calls SendKeyState SendKeyCall Answer SendKeyAnswer
+
 -- before its first call
 abbrev pub sending_key : Me → ℕ → ℕ → SendKeyState
 sending_key me i key = record { me = me; to = i; key = key; entry = 0; block = 0; outcome = answer.Missing; point = Search }

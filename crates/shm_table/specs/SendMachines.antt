@@ -6,17 +6,15 @@ use Rattle.shm_graph.specs.Asks.{Trail}
 use Rattle.shm_graph.specs.Events.{Event}
 use Rattle.shm_graph.specs.Laws.{Control}
 use Rattle.shm_graph.specs.Tells.{happens_along}
-use Rattle.shm_calls.specs.declared.calls.Calls.{Calls}
 use Rattle.shm_calls.specs.CallsControl.{calls_control, calls_of, calls_does}
 use Rattle.shm_calls.specs.CallsFit.{CallsFits, CallsGives}
 use Rattle.shm_script.specs.declared.log.Answer.{Answer}
-use Rattle.shm_table.specs.declared.send_key.SendKeyState.{SendKeyState}
-use Rattle.shm_table.specs.SendKeyControl.{SendKeyAnswer, SendKeyCall, send_key_parts, sending_key}
+use Rattle.shm_table.specs.SendKeyControl.{SendKeyCalls, send_key_parts, sending_key}
 use Rattle.shm_table.specs.SendKeyFits.{send_key_plan}
 
 -- ---- what a key has goes into the queue to i
 
-abbrev pub send_key : Control (Calls SendKeyState SendKeyCall Answer SendKeyAnswer) Answer
+abbrev pub send_key : Control SendKeyCalls Answer
 send_key = calls_control send_key_parts send_key_plan
 
 abbrev pub SendKeyFits : Me → ℕ → ℕ → Memo → Memo → Trail → Type 0

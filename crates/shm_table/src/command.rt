@@ -1,32 +1,39 @@
 //! A command on a table, by the line of a script that tells it.
 
-ghost use Rattle.std.specs.Prelude.{◌≡◌, ◌<◌, Some};
+ghost use Rattle.std.specs.Prelude.{◌≡◌, ◌<◌};
 ghost use Rattle.shm_words.specs.Layout.{GeometryFits};
+ghost use Rattle.shm_calls.specs.Deciding.{either};
 ghost use Rattle.shm_table.specs.CommandControl as control;
 ghost use Rattle.shm_table.specs.CommandControl.{CommandFits, CommandGives, MayStand, command_control, command_effect, command_of};
 ghost use Rattle.shm_table.specs.CommandLaws.{command_laws};
 ghost use Rattle.shm_table.specs.CopyLaws.{copy_laws};
 ghost use Rattle.shm_table.specs.DelLaws.{del_laws};
 ghost use Rattle.shm_table.specs.EnterLaws.{enter_laws};
+ghost use Rattle.shm_table.specs.FetchHeadLaws.{fetch_head_laws};
 ghost use Rattle.shm_table.specs.FetchLaws.{fetch_laws};
 ghost use Rattle.shm_table.specs.GetLaws.{get_laws};
 ghost use Rattle.shm_table.specs.LocateLaws.{locate_laws};
 ghost use Rattle.shm_table.specs.OpenLaws.{open_laws};
 ghost use Rattle.shm_table.specs.PutLaws.{put_laws};
 ghost use Rattle.shm_table.specs.PutRootLaws.{put_root_laws};
+ghost use Rattle.shm_table.specs.RecvLaws.{recv_laws};
 ghost use Rattle.shm_table.specs.ReplaceLaws.{replace_laws};
+ghost use Rattle.shm_table.specs.SendKeyLaws.{send_key_laws};
+ghost use Rattle.shm_table.specs.TakeHeadLaws.{take_head_laws};
 
 use crate::copy::CopyKey;
 use crate::del::Del;
 use crate::get::Get;
 use crate::put::Put;
+use crate::recv::RecvKey;
+use crate::send_key::SendKey;
 use shm_calls::Or;
 use shm_graph::{Ask, Machine, Me, Turn};
 use shm_script::{Answer, Line};
 use std::marker::Model;
 
 /// One of the commands.
-type One = Or<Or<Put, CopyKey>, Or<Del, Get>>;
+type One = Or<Or<Put, CopyKey>, Or<Or<Del, Get>, Or<SendKey, RecvKey>>>;
 
 /// A command: it answers what a script is told of it.
 #[derive(Drop)]
@@ -42,43 +49,60 @@ impl Model for Command {
     ghost view = { λ a. a.one };
 }
 
+/// Of one of two commands what it answers.
+#[inline(always)]
+fn either(answer: Or<Answer, Answer>) -> Answer
+    ensures { result ≡ either (λ a. a) (λ a. a) answer }
+{
+    match answer {
+        Or::First(answer) => answer,
+        Or::Second(answer) => answer,
+    }
+}
+
 /// What the one of them answers.
 #[inline(always)]
-fn given(answer: Or<Or<Answer, Answer>, Or<Answer, Answer>>) -> Answer
+fn given(answer: Or<Or<Answer, Answer>, Or<Or<Answer, Answer>, Or<Answer, Answer>>>) -> Answer
     ensures { result ≡ control.given answer }
 {
     match answer {
-        Or::First(Or::First(answer) | Or::Second(answer)) => answer,
-        Or::Second(Or::First(answer) | Or::Second(answer)) => answer,
+        Or::First(answer) => either(answer),
+        Or::Second(Or::First(answer)) => either(answer),
+        Or::Second(Or::Second(answer)) => either(answer),
     }
 }
 
 impl Command {
-    /// The command of a line, for the identity `me`. A send and a receive aren't made yet.
+    /// The command of a line, for the identity `me`.
     #[inline(always)]
     pub fn new(me: Me, line: &Line) -> Command
         requires geometry { GeometryFits me.geometry }
         requires who { me.who < me.geometry.clients }
         requires line { MayStand me line.now }
-        ensures { command_of me line.now ≡ Some result }
+        ensures { result ≡ command_of me line.now }
     {
         let one = match *line {
             Line::Put { key, number } => Or::First(Or::First(Put::new(me, key, number))),
             Line::Copy { key, author, other } => {
                 Or::First(Or::Second(CopyKey::new(me, key, author, other)))
             }
-            Line::Del { key } => Or::Second(Or::First(Del::new(me, key))),
-            Line::Get { author, key } => Or::Second(Or::Second(Get::new(me, author, key))),
-            Line::Send { .. } | Line::Recv { .. } => unreachable!(),
+            Line::Del { key } => Or::Second(Or::First(Or::First(Del::new(me, key)))),
+            Line::Get { author, key } => {
+                Or::Second(Or::First(Or::Second(Get::new(me, author, key))))
+            }
+            Line::Send { to, key } => Or::Second(Or::Second(Or::First(SendKey::new(me, to, key)))),
+            Line::Recv { from, key } => {
+                Or::Second(Or::Second(Or::Second(RecvKey::new(me, from, key))))
+            }
         };
         Command { one }
     }
 
     /// What it will answer, where its deciding step was made; otherwise none.
     ///
-    /// Of a put and a copy that step is the exchange that raises the new entry for its bucket, or, where an entry has the key, the new value
-    /// block for the entry; of a removal the first exchange for the word that leads to the entry. A reading has none, nor has a copy of the
-    /// value block that the key has.
+    /// Of a put, a copy and a receive that step is the exchange that raises the new entry for its bucket, or, where an entry has the key, the
+    /// new value block for the entry; of a removal the first exchange for the word that leads to the entry; of a send the store of the tail.
+    /// A reading has none, nor has a copy or a receive of the value block that the key has.
     #[inline(always)]
     pub fn effect(&self) -> Option<Answer>
         ensures { result ≡ command_effect self.now }
@@ -86,8 +110,10 @@ impl Command {
         match &self.one {
             Or::First(Or::First(put)) => put.effect(),
             Or::First(Or::Second(copy)) => copy.effect(),
-            Or::Second(Or::First(del)) => del.effect(),
-            Or::Second(Or::Second(get)) => get.effect(),
+            Or::Second(Or::First(Or::First(del))) => del.effect(),
+            Or::Second(Or::First(Or::Second(get))) => get.effect(),
+            Or::Second(Or::Second(Or::First(send))) => send.effect(),
+            Or::Second(Or::Second(Or::Second(recv))) => recv.effect(),
         }
     }
 }
@@ -125,5 +151,5 @@ impl Machine for Command {
         }
     }
 
-    ghost laws = { command_laws (put_laws (put_root_laws open_laws locate_laws replace_laws enter_laws)) (copy_laws fetch_laws (put_root_laws open_laws locate_laws replace_laws enter_laws)) del_laws get_laws };
+    ghost laws = { command_laws (put_laws (put_root_laws open_laws locate_laws replace_laws enter_laws)) (copy_laws fetch_laws (put_root_laws open_laws locate_laws replace_laws enter_laws)) del_laws get_laws send_key_laws (recv_laws fetch_head_laws take_head_laws (put_root_laws open_laws locate_laws replace_laws enter_laws)) };
 }

@@ -1,6 +1,6 @@
 //! What commands on a table show of their answers: from the deciding step on they show it, and it is what they answer.
 
-ghost use Rattle.std.specs.Prelude.{◌≡◌, ◌^◌, ◌<◌, ℕ, false, is_ok, Some, []};
+ghost use Rattle.std.specs.Prelude.{◌≡◌, ◌^◌, ◌<◌, ℕ, false, is_ok, []};
 ghost use Rattle.shm_graph.specs.declared.ask.Me.{Me as AMe};
 ghost use Rattle.shm_graph.specs.declared.memo.Memo.{Memo as AMemo};
 ghost use Rattle.shm_graph.specs.Asks.{Trail};
@@ -10,14 +10,14 @@ ghost use Rattle.shm_calls.specs.Deciding.{Decides, Foretells};
 ghost use Rattle.shm_script.specs.declared.line.Line.TheVariants as line;
 ghost use Rattle.shm_script.specs.declared.log.Answer.{Answer as AnAnswer};
 ghost use Rattle.shm_table.specs.ChangeMachines.{DelGives};
-ghost use Rattle.shm_table.specs.CommandControl.{CommandCall, CommandFits, CommandGives, command_by, command_control, command_does, command_effect, command_of};
+ghost use Rattle.shm_table.specs.CommandControl.{CommandFits, CommandGives, command_by, command_control, command_does, command_effect, command_of};
 ghost use Rattle.shm_table.specs.Commands.{MayCommand};
 ghost use Rattle.shm_table.specs.CopyControl.{copy_parts};
 ghost use Rattle.shm_table.specs.CopyMachines.{CopyGives};
 ghost use Rattle.shm_table.specs.CopyFits.{MayCopy, copy_plan};
 ghost use Rattle.shm_table.specs.DelControl.{del_parts};
 ghost use Rattle.shm_table.specs.DelFits.{MayDel, del_plan};
-ghost use Rattle.shm_table.specs.Effects.{copy_by, copy_effect, del_by, del_effect, enter_by, enter_decided, get_effect, is_linked, put_by, put_effect, put_root_by, put_root_decided, replace_by, replace_decided, unlink_by, unlink_decided};
+ghost use Rattle.shm_table.specs.Effects.{copy_by, copy_effect, del_by, del_effect, enter_by, enter_decided, get_effect, is_linked, put_by, put_effect, put_root_by, put_root_decided, recv_by, recv_effect, replace_by, replace_decided, send_key_by, send_key_effect, unlink_by, unlink_decided};
 ghost use Rattle.shm_table.specs.GetControl.{get_parts};
 ghost use Rattle.shm_table.specs.GetFits.{get_plan};
 ghost use Rattle.shm_table.specs.LocateFits.{MayLocate};
@@ -27,6 +27,12 @@ ghost use Rattle.shm_table.specs.PutMachines.{PutGives};
 ghost use Rattle.shm_table.specs.PutRootControl.{decided_of, enter_control, replace_control};
 ghost use Rattle.shm_table.specs.PutRootFits.{put_root_control};
 ghost use Rattle.shm_table.specs.ReadMachines.{GetGives};
+ghost use Rattle.shm_table.specs.RecvControl.{recv_parts};
+ghost use Rattle.shm_table.specs.RecvFits.{MayRecv, recv_plan};
+ghost use Rattle.shm_table.specs.RecvMachines.{RecvGives};
+ghost use Rattle.shm_table.specs.SendKeyControl.{send_key_parts};
+ghost use Rattle.shm_table.specs.SendKeyFits.{MaySendKey, send_key_plan};
+ghost use Rattle.shm_table.specs.SendMachines.{SendKeyGives};
 ghost use Rattle.shm_table.specs.UnlinkFits.{unlink_control};
 
 /// Whether an entry has another value block, whether a new entry is linked, whether an entry is taken out, and whether a key comes to have a
@@ -44,14 +50,18 @@ pub fn commands_foretell()
     ensures copy { Foretells (calls_control copy_parts copy_plan) (λ a. a) copy_effect (λ m n. copy_by m.plan m.call n) }
     ensures del { Foretells (calls_control del_parts del_plan) (λ a. a) del_effect (λ m n. del_by m.plan m.call n) }
     ensures get { Foretells (calls_control get_parts get_plan) (λ a. a) get_effect (λ m n. false) }
+    ensures send { Foretells (calls_control send_key_parts send_key_plan) (λ a. a) send_key_effect (λ m n. send_key_by m.plan m.call n) }
+    ensures recv { Foretells (calls_control recv_parts recv_plan) (λ a. a) recv_effect (λ m n. recv_by m.plan m.call n) }
 {}
 
 /// The command of a line fits each memo of a client between two calls, in a pool for tables, with no latch, as the one that the line tells does.
 pub fn command_begins()
-    ensures put { (me : AMe) (key n : ℕ) (m : CommandCall) (r : AMemo) → command_of me (line.Put key n) ≡ Some m → MayCommand me key r → n < 2 ^ 64 → CommandFits m r r [] }
-    ensures copy { (me : AMe) (key a other : ℕ) (m : CommandCall) (r : AMemo) → command_of me (line.Copy key a other) ≡ Some m → MayCopy me key a r → CommandFits m r r [] }
-    ensures del { (me : AMe) (key : ℕ) (m : CommandCall) (r : AMemo) → command_of me (line.Del key) ≡ Some m → MayDel me r → CommandFits m r r [] }
-    ensures get { (me : AMe) (a key : ℕ) (m : CommandCall) (r : AMemo) → command_of me (line.Get a key) ≡ Some m → MayLocate me a r → CommandFits m r r [] }
+    ensures put { (me : AMe) (key n : ℕ) (r : AMemo) → MayCommand me key r → n < 2 ^ 64 → CommandFits (command_of me (line.Put key n)) r r [] }
+    ensures copy { (me : AMe) (key a other : ℕ) (r : AMemo) → MayCopy me key a r → CommandFits (command_of me (line.Copy key a other)) r r [] }
+    ensures del { (me : AMe) (key : ℕ) (r : AMemo) → MayDel me r → CommandFits (command_of me (line.Del key)) r r [] }
+    ensures get { (me : AMe) (a key : ℕ) (r : AMemo) → MayLocate me a r → CommandFits (command_of me (line.Get a key)) r r [] }
+    ensures send { (me : AMe) (i key : ℕ) (r : AMemo) → MaySendKey me i r → CommandFits (command_of me (line.Send i key)) r r [] }
+    ensures recv { (me : AMe) (s key : ℕ) (r : AMemo) → MayRecv me s key r → CommandFits (command_of me (line.Recv s key)) r r [] }
 {}
 
 /// The event of each word step of it is the one that it tells.
@@ -61,10 +71,12 @@ pub fn command_events()
 
 /// It gives what the command gives that the line tells.
 pub fn command_leaves()
-    ensures put { (me : AMe) (key n : ℕ) (m : CommandCall) (r0 r : AMemo) (tr : Trail) (b : AnAnswer) → command_of me (line.Put key n) ≡ Some m → CommandGives m r0 r tr b → PutGives me key n r0 r tr b }
-    ensures copy { (me : AMe) (key a other : ℕ) (m : CommandCall) (r0 r : AMemo) (tr : Trail) (b : AnAnswer) → command_of me (line.Copy key a other) ≡ Some m → CommandGives m r0 r tr b → CopyGives me key a other r0 r tr b }
-    ensures del { (me : AMe) (key : ℕ) (m : CommandCall) (r0 r : AMemo) (tr : Trail) (b : AnAnswer) → command_of me (line.Del key) ≡ Some m → CommandGives m r0 r tr b → DelGives me key r0 r tr b }
-    ensures get { (me : AMe) (a key : ℕ) (m : CommandCall) (r0 r : AMemo) (tr : Trail) (b : AnAnswer) → command_of me (line.Get a key) ≡ Some m → CommandGives m r0 r tr b → GetGives me a key r0 r tr b }
+    ensures put { (me : AMe) (key n : ℕ) (r0 r : AMemo) (tr : Trail) (b : AnAnswer) → CommandGives (command_of me (line.Put key n)) r0 r tr b → PutGives me key n r0 r tr b }
+    ensures copy { (me : AMe) (key a other : ℕ) (r0 r : AMemo) (tr : Trail) (b : AnAnswer) → CommandGives (command_of me (line.Copy key a other)) r0 r tr b → CopyGives me key a other r0 r tr b }
+    ensures del { (me : AMe) (key : ℕ) (r0 r : AMemo) (tr : Trail) (b : AnAnswer) → CommandGives (command_of me (line.Del key)) r0 r tr b → DelGives me key r0 r tr b }
+    ensures get { (me : AMe) (a key : ℕ) (r0 r : AMemo) (tr : Trail) (b : AnAnswer) → CommandGives (command_of me (line.Get a key)) r0 r tr b → GetGives me a key r0 r tr b }
+    ensures send { (me : AMe) (i key : ℕ) (r0 r : AMemo) (tr : Trail) (b : AnAnswer) → CommandGives (command_of me (line.Send i key)) r0 r tr b → SendKeyGives me i key r0 r tr b }
+    ensures recv { (me : AMe) (s key : ℕ) (r0 r : AMemo) (tr : Trail) (b : AnAnswer) → CommandGives (command_of me (line.Recv s key)) r0 r tr b → RecvGives me s key r0 r tr b }
 {}
 
 /// It shows what it will answer exactly from its deciding step on, whatever words are found, and it answers what it showed.

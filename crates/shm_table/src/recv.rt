@@ -2,8 +2,12 @@
 
 ghost use Rattle.std.specs.Prelude.{◌≡◌, ◌<◌};
 ghost use Rattle.shm_words.specs.Layout.{GeometryFits};
+ghost use Rattle.shm_calls.specs.CallsControl.{calls_control, calls_of};
+ghost use Rattle.shm_calls.specs.CallsFit.{CallsFits, CallsGives};
+ghost use Rattle.shm_calls.specs.CallsKeep.{calls_laws};
+ghost use Rattle.shm_table.specs.Effects.{recv_effect};
 ghost use Rattle.shm_table.specs.RecvControl as control;
-ghost use Rattle.shm_table.specs.RecvControl.{receiving_key};
+ghost use Rattle.shm_table.specs.RecvControl.{receiving_key, recv_parts};
 ghost use Rattle.shm_table.specs.RecvFits.{recv_plan};
 ghost use Rattle.shm_table.specs.RecvLaws.{recv_laws};
 ghost use Rattle.shm_table.specs.EnterLaws.{enter_laws};
@@ -16,12 +20,13 @@ ghost use Rattle.shm_table.specs.TakeHeadLaws.{take_head_laws};
 
 use crate::answer::PutFault;
 use crate::copy::{answer, stuck};
+use crate::effect::Deciding;
 use crate::fetch_head::{FetchHead, FetchedHead, FetchingHead};
-use crate::put_root::PutRoot;
+use crate::put_root::{PutRoot, settled};
 use crate::take_head::{TakeHead, TakingHead};
 use shm_calls::{Calls, Or, Plan};
 use shm_count::EraSpent;
-use shm_graph::{Machine, Me};
+use shm_graph::{Ask, Machine, Me, Turn};
 use shm_ref::{DropRoot, Dropping};
 use shm_script::Answer;
 use std::marker::Model;
@@ -39,8 +44,8 @@ pub enum RecvPoint {
     Drop,
 }
 
-/// The control of it: the own head is `at`, `block` is the value block there, `number` its number and `root` its root; `refused` is why the
-/// key hasn't got it.
+/// The control of it: the own head is `at`, `block` is the value block there, `number` its number and `root` its root; `decided`
+/// says whether the key came to have it, and `refused` is why it hasn't got it.
 #[derive(Clone, Copy, Debug, PartialEq, Eq, Drop)]
 pub struct RecvState {
     pub me: Me,
@@ -50,6 +55,7 @@ pub struct RecvState {
     pub block: u32,
     pub number: u64,
     pub at: u64,
+    pub decided: bool,
     pub refused: Option<PutFault>,
     pub point: RecvPoint,
 }
@@ -60,7 +66,7 @@ pub type RecvCall = Or<Or<FetchHead, TakeHead>, Or<PutRoot, DropRoot>>;
 /// What its calls answer.
 pub type RecvAnswer = Or<
     Or<FetchedHead, Result<(), EraSpent>>,
-    Or<Result<(), PutFault>, Result<bool, EraSpent>>,
+    Or<Result<bool, PutFault>, Result<bool, EraSpent>>,
 >;
 
 /// The calls by which a key comes to have the value block at the head of a queue.
@@ -83,7 +89,89 @@ impl Model for ReceivingKey {
 
 /// It answers the value block that the key has, and its number; or that the queue is empty, or why the key hasn't got the value block: from
 /// the step on by which it has it, no refusal changes the answer.
-pub type RecvKey = Calls<ReceivingKey>;
+#[derive(Drop)]
+pub struct RecvKey {
+    calls: Calls<ReceivingKey>,
+}
+
+impl Model for RecvKey {
+    ghost use Rattle.shm_table.specs.RecvControl.{RecvCalls};
+
+    ghost Value = { RecvCalls };
+
+    ghost view = { λ a. a.calls };
+}
+
+impl RecvKey {
+    /// `key` is to have in the table of `me` the value block at the head of the queue from `from`.
+    #[inline(always)]
+    pub fn new(me: Me, from: u8, key: u32) -> RecvKey
+        requires geometry { GeometryFits me.geometry }
+        requires who { me.who < me.geometry.clients }
+        requires from { from < me.geometry.clients }
+        ensures { result ≡ calls_of recv_plan (receiving_key me from key) }
+    {
+        RecvKey {
+            calls: Calls::new(ReceivingKey::new(me, from, key)),
+        }
+    }
+
+    /// What it will answer, where its deciding step was made; otherwise none.
+    #[inline(always)]
+    pub fn effect(&self) -> Option<Answer>
+        ensures { result ≡ recv_effect self.now }
+    {
+        let RecvState {
+            number,
+            block,
+            decided,
+            refused,
+            ..
+        } = self.calls.plan().state;
+        let decided = match self.calls.call() {
+            Or::First(Or::First(_)) => false,
+            Or::Second(Or::First(put)) => put.decided(),
+            Or::First(Or::Second(_)) | Or::Second(Or::Second(_)) => settled(decided, refused),
+        };
+        if decided {
+            Some(Answer::Value { number, block })
+        } else {
+            None
+        }
+    }
+}
+
+impl Machine for RecvKey {
+    type Answer = Answer;
+
+    ghost control = { calls_control recv_parts recv_plan };
+
+    ghost fits = { CallsFits recv_parts recv_plan };
+
+    ghost gives = { CallsGives recv_parts recv_plan };
+
+    #[inline(always)]
+    fn me(&self) -> Me {
+        self.calls.me()
+    }
+
+    #[inline(always)]
+    fn finished(&self) -> bool {
+        self.calls.finished()
+    }
+
+    #[inline(always)]
+    fn ask(&self) -> Ask {
+        self.calls.ask()
+    }
+
+    #[inline(always)]
+    fn take(&mut self, seen: u64) -> Turn<Answer> {
+        self.calls.take(seen)
+    }
+
+    ghost laws = { calls_laws recv_parts recv_plan (recv_laws fetch_head_laws take_head_laws (put_root_laws open_laws locate_laws replace_laws enter_laws)) };
+}
 
 impl ReceivingKey {
     /// `key` is to have in the table of `me` the value block at the head of the queue from `from`.
@@ -103,6 +191,7 @@ impl ReceivingKey {
                 block: 0,
                 number: 0,
                 at: 0,
+                decided: false,
                 refused: None,
                 point: RecvPoint::Fetch,
             },
@@ -138,15 +227,17 @@ impl RecvState {
 
     /// Where it goes once the key has the value block, or is refused it: the head is taken only then.
     #[inline(always)]
-    fn put(&mut self, done: Result<(), PutFault>)
+    fn put(&mut self, done: Result<bool, PutFault>)
         ensures { self.new ≡ control.put_after self.old done }
     {
         match done {
-            Ok(()) => {
+            Ok(decided) => {
+                self.decided = decided;
                 self.refused = None;
                 self.point = RecvPoint::Take;
             }
             Err(fault) => {
+                self.decided = false;
                 self.refused = Some(fault);
                 self.point = RecvPoint::Drop;
             }

@@ -2,8 +2,12 @@
 
 ghost use Rattle.std.specs.Prelude.{◌≡◌, ◌<◌, ◌+◌, ◌^◌};
 ghost use Rattle.shm_words.specs.Layout.{GeometryFits};
+ghost use Rattle.shm_calls.specs.CallsControl.{calls_control, calls_of};
+ghost use Rattle.shm_calls.specs.CallsFit.{CallsFits, CallsGives};
+ghost use Rattle.shm_calls.specs.CallsKeep.{calls_laws};
+ghost use Rattle.shm_table.specs.Effects.{is_sent, send_key_effect};
 ghost use Rattle.shm_table.specs.SendKeyControl as control;
-ghost use Rattle.shm_table.specs.SendKeyControl.{sending_key};
+ghost use Rattle.shm_table.specs.SendKeyControl.{send_key_parts, sending_key};
 ghost use Rattle.shm_table.specs.SendKeyFits.{send_key_plan};
 ghost use Rattle.shm_table.specs.SendKeyLaws.{send_key_laws};
 
@@ -11,7 +15,7 @@ use crate::find::Found;
 use crate::locate::{Locate, Locating};
 use crate::unlatch::{Unlatch, Unlatching};
 use shm_calls::{Calls, Or, Plan, Word};
-use shm_graph::{Machine, Me};
+use shm_graph::{Ask, Machine, Me, Turn};
 use shm_queue::{Send, SendFault, Sending};
 use shm_script::Answer;
 use std::marker::Model;
@@ -66,7 +70,91 @@ impl Model for SendingKey {
 }
 
 /// It answers `Ok` where the value block was sent; or that no entry has the key, or why the block wasn't sent. The latch is given back then.
-pub type SendKey = Calls<SendingKey>;
+#[derive(Drop)]
+pub struct SendKey {
+    calls: Calls<SendingKey>,
+}
+
+impl Model for SendKey {
+    ghost use Rattle.shm_table.specs.SendKeyControl.{SendKeyCalls};
+
+    ghost Value = { SendKeyCalls };
+
+    ghost view = { λ a. a.calls };
+}
+
+impl SendKey {
+    /// What the key `key` of the own table has is to be sent by `me` to the identity `to`.
+    #[inline(always)]
+    pub fn new(me: Me, to: u8, key: u32) -> SendKey
+        requires geometry { GeometryFits me.geometry }
+        requires who { me.who < me.geometry.clients }
+        requires to { to < me.geometry.clients }
+        ensures { result ≡ calls_of send_key_plan (sending_key me to key) }
+    {
+        SendKey {
+            calls: Calls::new(SendingKey::new(me, to, key)),
+        }
+    }
+
+    /// What it will answer, where its deciding step was made, the last one of the send; otherwise none.
+    #[inline(always)]
+    pub fn effect(&self) -> Option<Answer>
+        ensures { result ≡ send_key_effect self.now }
+    {
+        let SendKeyState { outcome, .. } = self.calls.plan().state;
+        let decided = match self.calls.call() {
+            Or::First(_) => false,
+            Or::Second(Or::First(_)) => false,
+            Or::Second(Or::Second(Or::First(_))) => false,
+            Or::Second(Or::Second(Or::Second(_))) => is_sent(outcome),
+        };
+        if decided { Some(Answer::Ok) } else { None }
+    }
+}
+
+impl Machine for SendKey {
+    type Answer = Answer;
+
+    ghost control = { calls_control send_key_parts send_key_plan };
+
+    ghost fits = { CallsFits send_key_parts send_key_plan };
+
+    ghost gives = { CallsGives send_key_parts send_key_plan };
+
+    #[inline(always)]
+    fn me(&self) -> Me {
+        self.calls.me()
+    }
+
+    #[inline(always)]
+    fn finished(&self) -> bool {
+        self.calls.finished()
+    }
+
+    #[inline(always)]
+    fn ask(&self) -> Ask {
+        self.calls.ask()
+    }
+
+    #[inline(always)]
+    fn take(&mut self, seen: u64) -> Turn<Answer> {
+        self.calls.take(seen)
+    }
+
+    ghost laws = { calls_laws send_key_parts send_key_plan send_key_laws };
+}
+
+/// Whether the value block was sent.
+#[inline(always)]
+fn is_sent(answer: Answer) -> bool
+    ensures { result ≡ is_sent answer }
+{
+    match answer {
+        Answer::Ok => true,
+        _ => false,
+    }
+}
 
 /// The address of the value word of an entry.
 #[inline(always)]

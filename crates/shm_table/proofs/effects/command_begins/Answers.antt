@@ -1,8 +1,5 @@
 use Rattle.std.proofs.Common.{refl}
-use Rattle.shm_calls.specs.declared.or.Or.TheVariants.{First, Second}
-use Rattle.shm_calls.specs.CallsControl.{calls_of}
 use Rattle.shm_calls.specs.CallsKeep.{calls_begin}
-use Rattle.shm_table.specs.CommandLaws.{command_begins}
 use Rattle.shm_table.specs.CopyControl.{copy_parts, copying}
 use Rattle.shm_table.specs.CopyFits.{copy_plan}
 use Rattle.shm_table.specs.CopyLaws.{copy_begin, copy_laws}
@@ -10,6 +7,7 @@ use Rattle.shm_table.specs.DelControl.{del_parts, deleting}
 use Rattle.shm_table.specs.DelFits.{del_plan}
 use Rattle.shm_table.specs.DelLaws.{del_begin, del_laws}
 use Rattle.shm_table.specs.EnterLaws.{enter_laws}
+use Rattle.shm_table.specs.FetchHeadLaws.{fetch_head_laws}
 use Rattle.shm_table.specs.FetchLaws.{fetch_laws}
 use Rattle.shm_table.specs.GetControl.{get_parts, getting}
 use Rattle.shm_table.specs.GetFits.{get_plan}
@@ -20,17 +18,30 @@ use Rattle.shm_table.specs.PutControl.{put_parts, putting}
 use Rattle.shm_table.specs.PutFits.{put_plan}
 use Rattle.shm_table.specs.PutLaws.{put_laws}
 use Rattle.shm_table.specs.PutRootLaws.{put_root_laws}
+use Rattle.shm_table.specs.RecvControl.{receiving_key, recv_parts}
+use Rattle.shm_table.specs.RecvFits.{recv_plan}
+use Rattle.shm_table.specs.RecvLaws.{recv_begin, recv_laws}
 use Rattle.shm_table.specs.ReplaceLaws.{replace_laws}
+use Rattle.shm_table.specs.SendKeyControl.{send_key_parts, sending_key}
+use Rattle.shm_table.specs.SendKeyFits.{send_key_plan}
+use Rattle.shm_table.specs.SendKeyLaws.{send_key_begin, send_key_laws}
+use Rattle.shm_table.specs.TakeHeadLaws.{take_head_laws}
 use Rattle.shm_table.proofs.effects.command_begins.Goals as goal
 
 pub returns-clause-put : goal.returns-clause-put
-returns-clause-put c me key n m r e may small = command_begins (First (First (calls_of put_plan (putting me key n)))) m r e (calls_begin put_parts put_plan (put_laws (put_root_laws open_laws locate_laws replace_laws enter_laws)) (putting me key n) r refl refl (may, small, refl, refl, refl))
+returns-clause-put c me key n r may small = calls_begin put_parts put_plan (put_laws (put_root_laws open_laws locate_laws replace_laws enter_laws)) (putting me key n) r refl refl (may, small, refl, refl, refl)
 
 pub returns-clause-copy : goal.returns-clause-copy
-returns-clause-copy c me key a other m r e may = command_begins (First (Second (calls_of copy_plan (copying me key a other)))) m r e (calls_begin copy_parts copy_plan (copy_laws fetch_laws (put_root_laws open_laws locate_laws replace_laws enter_laws)) (copying me key a other) r refl refl (copy_begin me key a other r may))
+returns-clause-copy c me key a other r may = calls_begin copy_parts copy_plan (copy_laws fetch_laws (put_root_laws open_laws locate_laws replace_laws enter_laws)) (copying me key a other) r refl refl (copy_begin me key a other r may)
 
 pub returns-clause-del : goal.returns-clause-del
-returns-clause-del c me key m r e may = command_begins (Second (First (calls_of del_plan (deleting me key)))) m r e (calls_begin del_parts del_plan del_laws (deleting me key) r refl refl (del_begin me key r may))
+returns-clause-del c me key r may = calls_begin del_parts del_plan del_laws (deleting me key) r refl refl (del_begin me key r may)
 
 pub returns-clause-get : goal.returns-clause-get
-returns-clause-get c me a key m r e may = command_begins (Second (Second (calls_of get_plan (getting me a key)))) m r e (calls_begin get_parts get_plan get_laws (getting me a key) r refl refl (get_begin me a key r may))
+returns-clause-get c me a key r may = calls_begin get_parts get_plan get_laws (getting me a key) r refl refl (get_begin me a key r may)
+
+pub returns-clause-send : goal.returns-clause-send
+returns-clause-send c me i key r may = calls_begin send_key_parts send_key_plan send_key_laws (sending_key me i key) r refl refl (send_key_begin me i key r may)
+
+pub returns-clause-recv : goal.returns-clause-recv
+returns-clause-recv c me s key r may = calls_begin recv_parts recv_plan (recv_laws fetch_head_laws take_head_laws (put_root_laws open_laws locate_laws replace_laws enter_laws)) (receiving_key me s key) r refl refl (recv_begin me s key r may)

@@ -1,4 +1,4 @@
-use Rattle.shm_table.specs.CommandLaws.{copies_give, dels_give, gets_give, puts_give}
+use Rattle.shm_table.specs.CommandLaws.{copies_give, dels_give, gets_give, puts_give, recvs_give, sends_give}
 use Rattle.shm_table.proofs.effects.command_leaves.Goals as goal
 
 pub returns-clause-put : goal.returns-clause-put
@@ -12,3 +12,9 @@ returns-clause-del c = dels_give
 
 pub returns-clause-get : goal.returns-clause-get
 returns-clause-get c = gets_give
+
+pub returns-clause-send : goal.returns-clause-send
+returns-clause-send c = sends_give
+
+pub returns-clause-recv : goal.returns-clause-recv
+returns-clause-recv c = recvs_give
