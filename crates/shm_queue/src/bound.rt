@@ -45,7 +45,7 @@ pub fn drain_bound()
 /// A receive took at most 39 word steps and 164 for each block that it freed or left on the way, and three more for each exchange that failed;
 /// one of an empty queue took two, one whose peek was refused 27, and one whose take was refused before the item was taken 31.
 pub fn receive_bound()
-    ensures { (me : AMe) (s : ℕ) (r0 r : AMemo) (tr : Trail) (made : AMade) → ReceiveGives me s r0 r tr (Ok made) → IsWithin (39 + tear_steps (frees (receive_told me s tr))) tr }
+    ensures done { (me : AMe) (s : ℕ) (r0 r : AMemo) (tr : Trail) (made : AMade) → ReceiveGives me s r0 r tr (Ok made) → IsWithin (39 + tear_steps (frees (receive_told me s tr))) tr }
     ensures empty { (me : AMe) (s n : ℕ) (r0 r : AMemo) (tr : Trail) → ReceiveGives me s r0 r tr (Err (IsNone n)) → IsWithin 2 tr }
     ensures full { (me : AMe) (s : ℕ) (r0 r : AMemo) (tr : Trail) → ReceiveGives me s r0 r tr (Err AreFull) → IsWithin 27 tr }
     ensures counted { (me : AMe) (s b n : ℕ) (r0 r : AMemo) (tr : Trail) → ReceiveGives me s r0 r tr (Err (IsCounted b n)) → IsWithin 27 tr }
