@@ -42,7 +42,7 @@ use Rattle.shm_table.specs.Commands.{RestSo, cause_fetch, cause_put, cause_then,
 use Rattle.shm_table.specs.PutRootControl.{put_root_parts, putting_root}
 use Rattle.shm_table.specs.PutRootFits.{IsDecided, IsEraSpent, PutRootLeaves, put_root_control, put_root_plan, put_root_steps}
 use Rattle.shm_table.specs.PutRootSteps.{decided_after, decided_more, frees_append, same_more, same_part, search_before, search_more, set_after, set_then}
-use Rattle.shm_table.specs.Staying.{Cleared, Ended, PutCause, SameMap}
+use Rattle.shm_table.specs.Staying.{Cleared, Ended, SameMap}
 use Rattle.shm_table.specs.StayingLaws.{cleared_drop, dropped_else, keeps_drop, keeps_more, left_by, spent_drop, spent_later}
 use Rattle.shm_table.specs.ValueReads.{idle_here}
 
