@@ -70,7 +70,6 @@ module _ (me : Me) (p : Spot) (h : Bool) (t x : ℕ) (m q r : Memo) (l : me.who 
         };
       }
 
-
   -- so that a count that came to 0 and a tear-down are as a step that left a count
   pub torn_leaves : (Contains m.dying t → ⊥) → (ds : List Event) (tr : Trail) (a : Result (Unit {0}) EraSpent) → TearLeaves me t q r ds tr a → TornLeaves me p h t x m r a
   torn_leaves counted ds tr (Ok done) y =
