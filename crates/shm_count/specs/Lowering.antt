@@ -51,33 +51,37 @@ module _ (me : Me) (p : Spot) (h : Bool) (t x : ℕ) (m q r : Memo) (l : me.who 
   pub dies : Contains q.dying t
   dies = subst (λ (ds : List ℕ). Contains ds t) (sym lost.dying) (Contains-push m.dying t)
 
-  -- but for the zero-count blocks the tear-down leaves what the step left
-  took_torn : Stays me.who q r → Retains me.who q r → Took me.who p h t x false m r
-  took_torn s n =
-      let c = me.who in
-      let k = lost.took.sifts in
-      let named : (b : ℕ) → is_named c r b ≡ true → is_named c q b ≡ true = (λ b y. sym (named_stays c q r b s n.slots) ∙ y) in
-      record {
-        rest = stays_rest c q r s ∙ lost.took.rest;
-        op = ap (λ (y : Memo). y.op) s.rest ∙ lost.took.op;
-        own = λ u last. s.own u last ∙ lost.took.own u last;
-        rows = λ j. let a = lost.took.rows j in let b = s.rows j in omega arith;
-        sifts = record {
-          looks = elim n.looks [ inl y ↦ y ∙ k.looks | inr y ↦ y ];
-          slots = n.slots ∙ k.slots;
-          words = λ b u y l2 other o has. n.words b u y (named b l2) o (k.words b u y (named b l2) (λ z. held_counted me q held l b t (named b l2) dies) o has);
-          values = λ b l2 has. n.values b (named b l2) (k.values b (named b l2) has);
-        };
-      }
-
   -- so that a count that came to 0 and a tear-down are as a step that left a count
   pub torn_leaves : (Contains m.dying t → ⊥) → (ds : List Event) (tr : Trail) (a : Result (Unit {0}) EraSpent) → TearLeaves me t q r ds tr a → TornLeaves me p h t x m r a
-  torn_leaves counted ds tr (Ok done) y =
-      record {
-        took = took_torn y.stays y.retains;
-        dying = y.others ∙ (ap (filter (not_block t)) lost.dying ∙ (without_new t m.dying counted ∙ sym (append-nil m.dying)));
-      }
-  torn_leaves counted ds tr (Err e) (vs, y) = (
-    took_torn y.stays y.retains,
-    (vs, record { left = y.left; others = y.others ∙ (ap (filter (not_block t)) lost.dying ∙ without_new t m.dying counted); spent = y.last }),
-  )
+  torn_leaves counted ds tr a y = go a y
+    where
+      -- but for the zero-count blocks the tear-down leaves what the step left
+      took_torn : Stays me.who q r → Retains me.who q r → Took me.who p h t x false m r
+      took_torn s n =
+          let c = me.who in
+          let k = lost.took.sifts in
+          let named : (b : ℕ) → is_named c r b ≡ true → is_named c q b ≡ true = (λ b y. sym (named_stays c q r b s n.slots) ∙ y) in
+          record {
+            rest = stays_rest c q r s ∙ lost.took.rest;
+            op = ap (λ (y : Memo). y.op) s.rest ∙ lost.took.op;
+            own = λ u last. s.own u last ∙ lost.took.own u last;
+            rows = λ j. let a = lost.took.rows j in let b = s.rows j in omega arith;
+            sifts = record {
+              looks = elim n.looks [ inl y ↦ y ∙ k.looks | inr y ↦ y ];
+              slots = n.slots ∙ k.slots;
+              words = λ b u y l2 other o has. n.words b u y (named b l2) o (k.words b u y (named b l2) (λ z. held_counted me q held l b t (named b l2) dies) o has);
+              values = λ b l2 has. n.values b (named b l2) (k.values b (named b l2) has);
+            };
+          }
+
+      -- by the answer
+      go : (a : Result (Unit {0}) EraSpent) → TearLeaves me t q r ds tr a → TornLeaves me p h t x m r a
+      go (Ok done) y =
+          record {
+            took = took_torn y.stays y.retains;
+            dying = y.others ∙ (ap (filter (not_block t)) lost.dying ∙ (without_new t m.dying counted ∙ sym (append-nil m.dying)));
+          }
+      go (Err e) (vs, y) = (
+        took_torn y.stays y.retains,
+        (vs, record { left = y.left; others = y.others ∙ (ap (filter (not_block t)) lost.dying ∙ without_new t m.dying counted); spent = y.last }),
+      )
