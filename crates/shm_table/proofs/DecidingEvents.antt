@@ -104,7 +104,7 @@ aimed_event me i x a p y n e f d g = exchange_event i x p y n d g ∙ (ap (λ (j
 
 -- ---- an entry has another value block
 
-ReplaceAims : ReplaceState → ReplaceCall → Type 0
+abbrev ReplaceAims : ReplaceState → ReplaceCall → Type 0
 ReplaceAims m (Second (First s)) = (s.me ≡ m.me) × (s.aim ≡ aims.Change m.before m.to)
 ReplaceAims m c = Unit {0}
 
@@ -128,7 +128,7 @@ replace_event c t n there d b = go c.plan c.call (subst (ReplaceAims c.plan) the
 
 -- ---- a new entry begins the chain of its bucket
 
-EnterAims : EnterState → EnterPoint → EnterCall → Type 0
+abbrev EnterAims : EnterState → EnterPoint → EnterCall → Type 0
 EnterAims m y (First w) = Unit {0}
 EnterAims m y (Second (First s)) = (s.me ≡ m.me) × (s.aim ≡ aims.Up (enter_to m y))
 EnterAims m y (Second (Second s)) = (s.me ≡ m.me) × (s.aim ≡ aims.Change m.first m.entry) × (enter_spot m y ≡ Body m.home (m.key % 16))
@@ -166,7 +166,7 @@ enter_event c t n v there d b = go c.plan c.plan.point c.call (subst (EnterAims 
 -- ---- a value block comes into the own table
 
 -- the machines that it calls are made with what it has
-RootAims : PutRootState → PutRootCall → Type 0
+abbrev RootAims : PutRootState → PutRootCall → Type 0
 RootAims m (Second (First (First c))) = (c.plan.me ≡ m.me) × (c.plan.to ≡ m.value)
 RootAims m (Second (First (Second c))) = (c.plan.me ≡ m.me) × (c.plan.key ≡ m.key) × (c.plan.home ≡ m.home)
 RootAims m c = Unit {0}
@@ -222,7 +222,7 @@ put_root_event m r0 r tr n fit d b = go m.plan m.call fit.rs r fit.t (subst (Roo
 -- ---- puts and copies
 
 -- what it was made with stays
-RootOf : Me → ℕ → ℕ → PutRootState → Type 0
+abbrev RootOf : Me → ℕ → ℕ → PutRootState → Type 0
 RootOf me key v p = (p.me ≡ me) × (p.key ≡ key) × (p.value ≡ v)
 
 root_of_kept : (me : Me) (key v : ℕ) (p : PutRootState) (b : PutRootAnswer) → RootOf me key v p → RootOf me key v (put_root_plan.after p b)
@@ -250,7 +250,7 @@ not_shown : (z : Bool) (a : Answer) → where_decided z a ≡ None → z ≡ fal
 not_shown true a e = cc
 not_shown false a e = refl
 
-PutAims : PutState → PutCall → Type 0
+abbrev PutAims : PutState → PutCall → Type 0
 PutAims m (Second (First c)) = RootOf m.me m.key m.block c.plan
 PutAims m c = Unit {0}
 
@@ -272,7 +272,7 @@ put_event m r0 r tr n fit d b = go m.plan m.call fit.rs r fit.t (subst (PutAims 
     go p (Second (First c)) rs r t q f d b = rooted p.me p.key p.block c rs r t n q f d b
     go p (Second (Second w)) rs r t q f d b = cc
 
-CopyAims : CopyState → CopyCall → Type 0
+abbrev CopyAims : CopyState → CopyCall → Type 0
 CopyAims m (Second (First c)) = RootOf m.me m.key m.block c.plan
 CopyAims m c = Unit {0}
 
@@ -296,7 +296,7 @@ copy_event m r0 r tr n fit d b = go m.plan m.call fit.rs r fit.t (subst (CopyAim
 
 -- ---- an entry is taken out, and a removal
 
-UnlinkAims : UnlinkState → UnlinkCall → Type 0
+abbrev UnlinkAims : UnlinkState → UnlinkCall → Type 0
 UnlinkAims m (First w) = Unit {0}
 UnlinkAims m (Second (First s)) = (s.me ≡ m.me) × (s.aim ≡ aims.Down m.entry)
 UnlinkAims m (Second (Second (First s))) = (s.me ≡ m.me) × (s.aim ≡ aims.Change m.entry m.next)
@@ -324,7 +324,7 @@ unlink_event c t n there d b = go c.plan c.call (subst (UnlinkAims c.plan) there
     go m (Second (Second (Second u))) q d b = cc
 
 -- what it was made with stays
-UnlinkOf : DelState → UnlinkState → Type 0
+abbrev UnlinkOf : DelState → UnlinkState → Type 0
 UnlinkOf m p = (p.me ≡ m.me) × (p.before ≡ m.before) × (p.word ≡ m.word) × (p.entry ≡ m.entry)
 
 unlink_of_kept : (m : DelState) (p : UnlinkState) (b : UnlinkAnswer) → UnlinkOf m p → UnlinkOf m (unlink_plan.after p b)
@@ -337,7 +337,7 @@ unlink_of_kept m p (Second (Second (First (Ok false)))) r = r
 unlink_of_kept m p (Second (Second (First (Err f)))) r = r
 unlink_of_kept m p (Second (Second (Second a))) r = r
 
-DelAims : DelState → DelCall → Type 0
+abbrev DelAims : DelState → DelCall → Type 0
 DelAims m (Second (First c)) = UnlinkOf m c.plan
 DelAims m c = Unit {0}
 
