@@ -1,1 +1,2 @@
 mod EffectLaws
+mod DecidingEvents

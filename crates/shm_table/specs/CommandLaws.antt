@@ -1,9 +1,13 @@
 -- the laws of a command of a line, by those of the commands
-use Rattle.std.proofs.Common.{ℕ, subst}
+use Rattle.std.proofs.Common.{◌≡◌, ℕ, sym, ap, ◌∙◌, subst}
+use Rattle.std.specs.Prelude.{Option, Some, None}
+use Rattle.std.specs.Option.{option_map}
 use Rattle.shm_graph.specs.declared.ask.Me.{Me}
+use Rattle.shm_graph.specs.declared.ask.Turn.{Turn}
+use Rattle.shm_graph.specs.declared.ask.Turn.TheVariants.{Done, More, Died}
 use Rattle.shm_graph.specs.declared.memo.Memo.{Memo}
 use Rattle.shm_graph.specs.Asks.{Trail}
-use Rattle.shm_graph.specs.Laws.{Laws}
+use Rattle.shm_graph.specs.Laws.{Laws, turn_of}
 use Rattle.shm_graph.specs.Mapped.{mapped_laws}
 use Rattle.shm_graph.specs.Tells.{Tells}
 use Rattle.shm_calls.specs.declared.or.Or.TheVariants.{First, Second}
@@ -115,3 +119,17 @@ recvs_give me s key r0 r tr b (Second (Second (Second x)), i, h) = subst (RecvGi
 recvs_give me s key r0 r tr b (Second (Second (First x)), i, h) = absurd h
 recvs_give me s key r0 r tr b (Second (First x), i, h) = absurd h
 recvs_give me s key r0 r tr b (First x, i, h) = absurd h
+
+-- ---- a turn of the one of them, told as a turn of the command
+
+pub told_done : {A B : Type 0} (f : A → B) (o : Option A) (t : Turn A) (a : A) (u : B) (r : Turn B) → t ≡ turn_of o → t ≡ Done a → u ≡ f a → r ≡ Done u → r ≡ turn_of (option_map f o)
+told_done f None t a u r h d e i = cc
+told_done f (Some x) t a u r h d e i = let j : x ≡ a = cc in i ∙ ap (λ y. Done y) (e ∙ ap f (sym j))
+
+pub told_more : {A B : Type 0} (f : A → B) (o : Option A) (t : Turn A) (r : Turn B) → t ≡ turn_of o → t ≡ More → r ≡ More → r ≡ turn_of (option_map f o)
+told_more f None t r h d i = i
+told_more f (Some x) t r h d i = cc
+
+pub told_died : {A B : Type 0} (f : A → B) (o : Option A) (t : Turn A) (r : Turn B) → t ≡ turn_of o → t ≡ Died → r ≡ Died → r ≡ turn_of (option_map f o)
+told_died f None t r h d i = cc
+told_died f (Some x) t r h d i = cc

@@ -83,5 +83,6 @@ pub mod Machines
 pub mod OpenMachine
 pub mod PutMachines
 pub mod Effects
+pub mod Cutting
 pub mod CommandControl
 pub mod CommandLaws

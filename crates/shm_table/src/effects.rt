@@ -1,31 +1,33 @@
 //! What commands on a table show of their answers: from the deciding step on they show it, and it is what they answer.
 
-ghost use Rattle.std.specs.Prelude.{◌≡◌, ◌^◌, ◌<◌, ℕ, false, is_ok, []};
+ghost use Rattle.std.specs.Prelude.{◌≡◌, ◌^◌, ◌<◌, ℕ, true, false, is_ok, None, []};
 ghost use Rattle.shm_graph.specs.declared.ask.Me.{Me as AMe};
 ghost use Rattle.shm_graph.specs.declared.memo.Memo.{Memo as AMemo};
 ghost use Rattle.shm_graph.specs.Asks.{Trail};
 ghost use Rattle.shm_graph.specs.Tells.{Tells};
-ghost use Rattle.shm_calls.specs.CallsControl.{calls_control};
+ghost use Rattle.shm_calls.specs.CallsControl.{calls_control, calls_does};
+ghost use Rattle.shm_calls.specs.CallsFit.{CallsFits};
 ghost use Rattle.shm_calls.specs.Deciding.{Decides, Foretells};
 ghost use Rattle.shm_script.specs.declared.line.Line.TheVariants as line;
 ghost use Rattle.shm_script.specs.declared.log.Answer.{Answer as AnAnswer};
 ghost use Rattle.shm_table.specs.ChangeMachines.{DelGives};
 ghost use Rattle.shm_table.specs.CommandControl.{CommandFits, CommandGives, command_by, command_control, command_does, command_effect, command_of};
 ghost use Rattle.shm_table.specs.Commands.{MayCommand};
-ghost use Rattle.shm_table.specs.CopyControl.{copy_parts};
+ghost use Rattle.shm_table.specs.CopyControl.{CopyCalls, copy_parts};
 ghost use Rattle.shm_table.specs.CopyMachines.{CopyGives};
 ghost use Rattle.shm_table.specs.CopyFits.{MayCopy, copy_plan};
-ghost use Rattle.shm_table.specs.DelControl.{del_parts};
+ghost use Rattle.shm_table.specs.Cutting.{Cuts};
+ghost use Rattle.shm_table.specs.DelControl.{DelCalls, del_parts};
 ghost use Rattle.shm_table.specs.DelFits.{MayDel, del_plan};
 ghost use Rattle.shm_table.specs.Effects.{copy_by, copy_effect, del_by, del_effect, enter_by, enter_decided, get_effect, is_linked, put_by, put_effect, put_root_by, put_root_decided, recv_by, recv_effect, replace_by, replace_decided, send_key_by, send_key_effect, unlink_by, unlink_decided};
 ghost use Rattle.shm_table.specs.GetControl.{get_parts};
 ghost use Rattle.shm_table.specs.GetFits.{get_plan};
 ghost use Rattle.shm_table.specs.LocateFits.{MayLocate};
-ghost use Rattle.shm_table.specs.PutControl.{put_parts};
+ghost use Rattle.shm_table.specs.PutControl.{PutCalls, put_parts};
 ghost use Rattle.shm_table.specs.PutFits.{put_plan};
 ghost use Rattle.shm_table.specs.PutMachines.{PutGives};
 ghost use Rattle.shm_table.specs.PutRootControl.{decided_of, enter_control, replace_control};
-ghost use Rattle.shm_table.specs.PutRootFits.{put_root_control};
+ghost use Rattle.shm_table.specs.PutRootFits.{Decides as DecidesMap, put_root_control};
 ghost use Rattle.shm_table.specs.ReadMachines.{GetGives};
 ghost use Rattle.shm_table.specs.RecvControl.{recv_parts};
 ghost use Rattle.shm_table.specs.RecvFits.{MayRecv, recv_plan};
@@ -52,6 +54,14 @@ pub fn commands_foretell()
     ensures get { Foretells (calls_control get_parts get_plan) (λ a. a) get_effect (λ m n. false) }
     ensures send { Foretells (calls_control send_key_parts send_key_plan) (λ a. a) send_key_effect (λ m n. send_key_by m.plan m.call n) }
     ensures recv { Foretells (calls_control recv_parts recv_plan) (λ a. a) recv_effect (λ m n. recv_by m.plan m.call n) }
+{}
+
+/// The deciding step of a command that fits is told as the event by which the map changes: that a new entry begins the chain of a bucket, or that
+/// an entry has another value block; or that the word that led to the entry loses it.
+pub fn deciding_events()
+    ensures put { (m : PutCalls) (r0 r : AMemo) (tr : Trail) (n : ℕ) → CallsFits put_parts put_plan m r0 r tr → put_effect m ≡ None → put_by m.plan m.call n ≡ true → (home : ℕ) × DecidesMap m.plan.me.who m.plan.key home m.plan.block (calls_does put_parts put_plan m n) }
+    ensures copy { (m : CopyCalls) (r0 r : AMemo) (tr : Trail) (n : ℕ) → CallsFits copy_parts copy_plan m r0 r tr → copy_effect m ≡ None → copy_by m.plan m.call n ≡ true → (home : ℕ) × DecidesMap m.plan.me.who m.plan.key home m.plan.block (calls_does copy_parts copy_plan m n) }
+    ensures del { (m : DelCalls) (r0 r : AMemo) (tr : Trail) (n : ℕ) → CallsFits del_parts del_plan m r0 r tr → del_effect m ≡ None → del_by m.plan m.call n ≡ true → Cuts m.plan.me.who m.plan.before m.plan.word m.plan.entry (calls_does del_parts del_plan m n) }
 {}
 
 /// The command of a line fits each memo of a client between two calls, in a pool for tables, with no latch, as the one that the line tells does.

@@ -44,7 +44,7 @@ pub use copying::{copy_begins, copy_bound, copy_events, copy_leaves};
 pub use del::{Del, Deleting};
 pub use effects::{
     command_begins, command_events, command_foretells, command_leaves, commands_foretell,
-    parts_decide,
+    deciding_events, parts_decide,
 };
 pub use get::{Get, Getting};
 pub use put::{Put, Putting};
