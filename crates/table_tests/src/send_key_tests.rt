@@ -162,7 +162,7 @@ fn a_block_with_the_greatest_count_is_not_sent(rt: HostRuntime) -> Result<(), Fa
 /// Client 2 holds the latch, and gives it back after two tries.
 const A_HELD_LATCH_IS_TRIED_AGAIN: Run = Run {
     total: 2228,
-    before: &[],
+    before: &[(9, 2), (11, 3)],
     steps: &[
         Store(8, 2), Lost(11, 0, 2, 3), Store(8, 0), Store(8, 2), Lost(11, 0, 2, 3), Store(8, 0), Others(9, 0), Others(11, 0), Store(8, 2), Exchange(11, 0, 2), Load(14, 308), Load(315, 452), Load(456, 5), Load(455, 188), Load(123, 0), Load(124, 0), Load(20, 26), Store(5, 2305980448167166140), Load(188, 9367627962418987033), Exchange(188, 9367627962418987033, 9367768699907342362), Store(125, 188), Store(20, 27), Store(123, 1), Store(11, 0), Store(8, 0)
     ],
