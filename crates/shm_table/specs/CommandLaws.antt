@@ -108,11 +108,11 @@ gets_give me a key r0 r tr b (Second (First (First x)), i, h) = absurd h
 gets_give me a key r0 r tr b (Second (Second x), i, h) = absurd h
 gets_give me a key r0 r tr b (First x, i, h) = absurd h
 
-pub sends_give : (me : Me) (i key : ℕ) (r0 r : Memo) (tr : Trail) (b : Answer) → CommandGives (command_of me (line.Send i key)) r0 r tr b → SendKeyGives me i key r0 r tr b
-sends_give me i key r0 r tr b (Second (Second (First x)), i, h) = subst (SendKeyGives me i key r0 r tr) i h
-sends_give me i key r0 r tr b (Second (Second (Second x)), i, h) = absurd h
-sends_give me i key r0 r tr b (Second (First x), i, h) = absurd h
-sends_give me i key r0 r tr b (First x, i, h) = absurd h
+pub sends_give : (me : Me) (to key : ℕ) (r0 r : Memo) (tr : Trail) (b : Answer) → CommandGives (command_of me (line.Send to key)) r0 r tr b → SendKeyGives me to key r0 r tr b
+sends_give me to key r0 r tr b (Second (Second (First x)), i, h) = subst (SendKeyGives me to key r0 r tr) i h
+sends_give me to key r0 r tr b (Second (Second (Second x)), i, h) = absurd h
+sends_give me to key r0 r tr b (Second (First x), i, h) = absurd h
+sends_give me to key r0 r tr b (First x, i, h) = absurd h
 
 pub recvs_give : (me : Me) (s key : ℕ) (r0 r : Memo) (tr : Trail) (b : Answer) → CommandGives (command_of me (line.Recv s key)) r0 r tr b → RecvGives me s key r0 r tr b
 recvs_give me s key r0 r tr b (Second (Second (Second x)), i, h) = subst (RecvGives me s key r0 r tr) i h

@@ -1,6 +1,5 @@
 -- how many word steps it takes to send what an own key has: by the keys that were read
 use Rattle.std.proofs.Common.{ℕ, ◌+◌, ◌*◌, refl, arith, List, length}
-use Rattle.std.specs.Prelude.{None}
 use Rattle.shm_graph.specs.declared.ask.Me.{Me}
 use Rattle.shm_graph.specs.declared.memo.Memo.{Memo}
 use Rattle.shm_graph.specs.Asks.{Trail, IsWithin}
@@ -28,7 +27,7 @@ pub send_key_short : (me : Me) (i key : ℕ) (r0 r : Memo) (tr : Trail) (es : Li
 send_key_short me i key r0 r tr es answer.Missing h =
     missed (missing_within me me.who key r0 r tr es h)
   where
-    missed : (ps : List Passed) × GetAsked me me.who key ps tr None × IsWithin (6 + 2 * length ps) tr → IsSendShort me key own_steps tr
+    missed : (ps : List Passed) × GetAsked me me.who key ps tr answer.Missing × IsWithin (6 + 2 * length ps) tr → IsSendShort me key own_steps tr
     missed (ps, (before, walk, home, first, split, tries, whole), bound) = (length ps, (before, walk, unlatch_trail me me.who, split, (ps, Absent home first, whole, refl)), omega arith)
 send_key_short me i key r0 r tr es answer.Ok (b, n, h) = (h.keys, h.search, h.bound)
 send_key_short me i key r0 r tr es (answer.QueueFull d n) (b, h) = (h.keys, h.search, h.bound)
