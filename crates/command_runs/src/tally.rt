@@ -68,7 +68,11 @@ impl Tally {
                 self.add(era);
             }
             Answer::RootsFull => self.add(7),
-            Answer::CountFull { block, count } => self.add_two(8, u64::from(block), u64::from(count)),
+            Answer::CountFull { block, count } => self.add_two(
+                8,
+                u64::from(block),
+                u64::from(count),
+            ),
             Answer::Full { segments, blocks } => {
                 self.add_two(9, u64::from(segments), u64::from(blocks));
             }

@@ -83,14 +83,7 @@ const THE_ONLY_KEY_IS_REMOVED: Run = Run {
 fn the_only_key_is_removed(rt: HostRuntime) -> Result<(), Fail> {
     let me = Me::new(Geometry::new(1, 1)?, 0);
     let machine = Del::new(me, 5);
-    assert!(rt;
-        runs(
-            rt.alloc(),
-            machine,
-            &THE_ONLY_KEY_IS_REMOVED,
-            Answer::Ok
-        )?
-    );
+    assert!(rt; runs(rt.alloc(), machine, &THE_ONLY_KEY_IS_REMOVED, Answer::Ok)?);
     Ok(())
 }
 

@@ -1,9 +1,9 @@
 //! What commands show of their answers at each word step, against an independent implementation.
 
-use shm_table::Command;
-use shm_runs::{make, words_of};
 use shm_graph::{Machine, Me, Turn};
+use shm_runs::{make, words_of};
 use shm_script::{Answer, Line};
+use shm_table::Command;
 use shm_words::Geometry;
 use std::test::Fail;
 
@@ -589,7 +589,7 @@ const SPENT: [(u64, Line, Answer, Option<u32>, u32); 42] = [
 
 /// Runs a command on the words, and tells its answer, after how many word steps it was shown, and how many word steps there were. None where
 /// something else was shown later, or answered.
-fn shown(command: &mut Command, words: &mut Vec<u64>) -> Option<(Answer, Option<u32>, u32)> {
+pub fn shown(command: &mut Command, words: &mut Vec<u64>) -> Option<(Answer, Option<u32>, u32)> {
     let mut first = None;
     let mut told = None;
     for made in 0..1000 {

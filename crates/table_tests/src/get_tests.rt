@@ -5,9 +5,9 @@ use shm_calls::Calls;
 use shm_graph::Me;
 use shm_runs::Step::{Exchange, Load, Lost, Others, Store};
 use shm_runs::{Run, TABLE, runs_over};
-use shm_table::parts::{Found, Locate, Locating, Unlatch, Unlatching};
 use shm_script::Answer;
 use shm_table::Get;
+use shm_table::parts::{Found, Locate, Locating, Unlatch, Unlatching};
 use shm_words::Geometry;
 use std::test::Fail;
 

@@ -33,6 +33,8 @@ mod put_root_there_tests;
 #[cfg(test)]
 mod put_tests;
 #[cfg(test)]
+mod queue_effect_tests;
+#[cfg(test)]
 mod recv_refusal_tests;
 #[cfg(test)]
 mod recv_spent_tests;
