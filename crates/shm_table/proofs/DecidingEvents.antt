@@ -43,6 +43,9 @@ use Rattle.shm_table.specs.declared.put.PutState.{PutState}
 use Rattle.shm_table.specs.declared.put_root.PutRootPoint.{PutRootPoint}
 use Rattle.shm_table.specs.declared.put_root.PutRootPoint.TheVariants as rooting
 use Rattle.shm_table.specs.declared.put_root.PutRootState.{PutRootState}
+use Rattle.shm_table.specs.declared.recv.RecvPoint.{RecvPoint}
+use Rattle.shm_table.specs.declared.recv.RecvPoint.TheVariants as receiving
+use Rattle.shm_table.specs.declared.recv.RecvState.{RecvState}
 use Rattle.shm_table.specs.declared.replace.ReplacePoint.{ReplacePoint}
 use Rattle.shm_table.specs.declared.replace.ReplacePoint.TheVariants as replacing
 use Rattle.shm_table.specs.declared.replace.ReplaceState.{ReplaceState}
@@ -54,13 +57,15 @@ use Rattle.shm_table.specs.CopyFits.{copy_part, copy_plan}
 use Rattle.shm_table.specs.Cutting.{Cuts}
 use Rattle.shm_table.specs.DelControl.{DelCall, DelCalls, del_call_at, del_parts}
 use Rattle.shm_table.specs.DelFits.{del_part, del_plan}
-use Rattle.shm_table.specs.Effects.{copy_at, copy_by, copy_effect, del_at, del_by, del_effect, enter_at, enter_by, enter_decided, put_at, put_by, put_effect, put_root_at, put_root_by, put_root_decided, replace_at, replace_by, replace_decided, unlink_at, unlink_by, unlink_decided}
+use Rattle.shm_table.specs.Effects.{copy_at, copy_by, copy_effect, del_at, del_by, del_effect, enter_at, enter_by, enter_decided, put_at, put_by, put_effect, put_root_at, put_root_by, put_root_decided, recv_at, recv_by, recv_effect, replace_at, replace_by, replace_decided, unlink_at, unlink_by, unlink_decided}
 use Rattle.shm_table.specs.EnterControl.{EnterAnswer, EnterCall, enter_call_at, enter_parts, enter_spot, enter_to, raised_after}
 use Rattle.shm_table.specs.EnterFits.{enter_part, enter_plan}
 use Rattle.shm_table.specs.PutControl.{PutCall, PutCalls, put_call_at, put_parts}
 use Rattle.shm_table.specs.PutFits.{put_part, put_plan}
 use Rattle.shm_table.specs.PutRootControl.{EnterCalls, PutRootAnswer, PutRootCall, PutRootCalls, ReplaceCalls, put_root_call, put_root_parts}
 use Rattle.shm_table.specs.PutRootFits.{Decides, Begins, Leads, Replaces, put_root_part, put_root_plan}
+use Rattle.shm_table.specs.RecvControl.{RecvCall, RecvCalls, recv_call_at, recv_parts}
+use Rattle.shm_table.specs.RecvFits.{recv_part, recv_plan}
 use Rattle.shm_table.specs.ReplaceControl.{ReplaceAnswer, ReplaceCall, replace_call_at, replace_parts}
 use Rattle.shm_table.specs.ReplaceFits.{replace_plan}
 use Rattle.shm_table.specs.UnlinkControl.{UnlinkAnswer, UnlinkCall, unlink_call_at, unlink_parts}
@@ -219,7 +224,7 @@ put_root_event m r0 r tr n fit d b = go m.plan m.call fit.rs r fit.t (subst (Roo
         (subst (λ z. Decides c.plan.me.who c.plan.key z p.value (calls_does enter_parts enter_plan c n)) k (enter_event c f.t n p.value f.there d b)))
     go p (Second (Second w)) rs r t q f d b = cc
 
--- ---- puts and copies
+-- ---- puts, copies and receives
 
 -- what it was made with stays
 abbrev RootOf : Me → ℕ → ℕ → PutRootState → Type 0
@@ -291,6 +296,31 @@ copy_event m r0 r tr n fit d b = go m.plan m.call fit.rs r fit.t (subst (CopyAim
 
     go : (p : CopyState) (x : CopyCall) (rs r : Memo) (t : Trail) → CopyAims p x → copy_part.fits x rs r t → copy_at p x ≡ false → copy_by p x n ≡ true → (home : ℕ) × Decides p.me.who p.key home p.block (copy_part.does x n)
     go p (First w) rs r t q f d b = cc
+    go p (Second (First c)) rs r t q f d b = rooted p.me p.key p.block c rs r t n q f d b
+    go p (Second (Second w)) rs r t q f d b = cc
+
+abbrev RecvAims : RecvState → RecvCall → Type 0
+RecvAims m (Second (First c)) = RootOf m.me m.key m.block c.plan
+RecvAims m c = Unit {0}
+
+pub recv_event : (m : RecvCalls) (r0 r : Memo) (tr : Trail) (n : ℕ) → CallsFits recv_parts recv_plan m r0 r tr → recv_effect m ≡ None → recv_by m.plan m.call n ≡ true → (home : ℕ) × Decides m.plan.me.who m.plan.key home m.plan.block (calls_does recv_parts recv_plan m n)
+recv_event m r0 r tr n fit d b = go m.plan m.call fit.rs r fit.t (subst (RecvAims m.plan) fit.there (kept_along recv_parts (RecvAims m.plan) (kept m.plan) (recv_call_at m.plan m.plan.point) fit.t (start m.plan m.plan.point))) fit.fits (not_shown (recv_at m.plan m.call) (answer.Value m.plan.number m.plan.block) d) b
+  where
+    kept : (p : RecvState) (x : RecvCall) (n : ℕ) → RecvAims p x → RecvAims p (recv_parts.after x n)
+    kept p (First (First w)) n q = tt
+    kept p (First (Second w)) n q = tt
+    kept p (Second (First c)) n q = plan_kept put_root_parts put_root_plan (RootOf p.me p.key p.block) (root_of_kept p.me p.key p.block) c n q
+    kept p (Second (Second w)) n q = tt
+
+    start : (p : RecvState) (y : RecvPoint) → RecvAims p (recv_call_at p y)
+    start p receiving.Fetch = tt
+    start p receiving.Put = (refl, refl, refl)
+    start p receiving.Take = tt
+    start p receiving.Drop = tt
+
+    go : (p : RecvState) (x : RecvCall) (rs r : Memo) (t : Trail) → RecvAims p x → recv_part.fits x rs r t → recv_at p x ≡ false → recv_by p x n ≡ true → (home : ℕ) × Decides p.me.who p.key home p.block (recv_part.does x n)
+    go p (First (First w)) rs r t q f d b = cc
+    go p (First (Second w)) rs r t q f d b = cc
     go p (Second (First c)) rs r t q f d b = rooted p.me p.key p.block c rs r t n q f d b
     go p (Second (Second w)) rs r t q f d b = cc
 

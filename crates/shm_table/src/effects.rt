@@ -29,7 +29,7 @@ ghost use Rattle.shm_table.specs.PutMachines.{PutGives};
 ghost use Rattle.shm_table.specs.PutRootControl.{decided_of, enter_control, replace_control};
 ghost use Rattle.shm_table.specs.PutRootFits.{Decides as DecidesMap, put_root_control};
 ghost use Rattle.shm_table.specs.ReadMachines.{GetGives};
-ghost use Rattle.shm_table.specs.RecvControl.{recv_parts};
+ghost use Rattle.shm_table.specs.RecvControl.{RecvCalls, recv_parts};
 ghost use Rattle.shm_table.specs.RecvFits.{MayRecv, recv_plan};
 ghost use Rattle.shm_table.specs.RecvMachines.{RecvGives};
 ghost use Rattle.shm_table.specs.SendKeyControl.{send_key_parts};
@@ -61,6 +61,7 @@ pub fn commands_foretell()
 pub fn deciding_events()
     ensures put { (m : PutCalls) (r0 r : AMemo) (tr : Trail) (n : ℕ) → CallsFits put_parts put_plan m r0 r tr → put_effect m ≡ None → put_by m.plan m.call n ≡ true → (home : ℕ) × DecidesMap m.plan.me.who m.plan.key home m.plan.block (calls_does put_parts put_plan m n) }
     ensures copy { (m : CopyCalls) (r0 r : AMemo) (tr : Trail) (n : ℕ) → CallsFits copy_parts copy_plan m r0 r tr → copy_effect m ≡ None → copy_by m.plan m.call n ≡ true → (home : ℕ) × DecidesMap m.plan.me.who m.plan.key home m.plan.block (calls_does copy_parts copy_plan m n) }
+    ensures recv { (m : RecvCalls) (r0 r : AMemo) (tr : Trail) (n : ℕ) → CallsFits recv_parts recv_plan m r0 r tr → recv_effect m ≡ None → recv_by m.plan m.call n ≡ true → (home : ℕ) × DecidesMap m.plan.me.who m.plan.key home m.plan.block (calls_does recv_parts recv_plan m n) }
     ensures del { (m : DelCalls) (r0 r : AMemo) (tr : Trail) (n : ℕ) → CallsFits del_parts del_plan m r0 r tr → del_effect m ≡ None → del_by m.plan m.call n ≡ true → Cuts m.plan.me.who m.plan.before m.plan.word m.plan.entry (calls_does del_parts del_plan m n) }
 {}
 
