@@ -9,7 +9,7 @@ ghost use Rattle.shm_count.specs.TearEvents.{frees};
 ghost use Rattle.shm_count.specs.declared.answer.EraSpent.{EraSpent as ASpent};
 ghost use Rattle.shm_count.specs.declared.answer.Made.{Made as AMade};
 ghost use Rattle.shm_queue.specs.declared.answer.PeekFault.{PeekFault as APeekFault};
-ghost use Rattle.shm_queue.specs.declared.answer.PeekFault.TheVariants.{CountFull as IsCounted, Empty as IsNone, EraSpent as IsLate, RootsFull as AreFull};
+ghost use Rattle.shm_queue.specs.declared.answer.PeekFault.TheVariants.{CountFull as IsCounted, Empty as IsVacant, EraSpent as IsLate, RootsFull as AreFull};
 ghost use Rattle.shm_queue.specs.declared.answer.SendFault.{SendFault as ASendFault};
 ghost use Rattle.shm_queue.specs.declared.answer.TakeFault.TheVariants.{Empty as IsEmpty, EraSpent as IsSpent};
 ghost use Rattle.shm_queue.specs.DrainFits.{DrainStopped};
@@ -46,7 +46,7 @@ pub fn drain_bound()
 /// one of an empty queue took two, one whose peek was refused 27, and one whose take was refused before the item was taken 31.
 pub fn receive_bound()
     ensures done { (me : AMe) (s : ℕ) (r0 r : AMemo) (tr : Trail) (made : AMade) → ReceiveGives me s r0 r tr (Ok made) → IsWithin (39 + tear_steps (frees (receive_told me s tr))) tr }
-    ensures empty { (me : AMe) (s n : ℕ) (r0 r : AMemo) (tr : Trail) → ReceiveGives me s r0 r tr (Err (IsNone n)) → IsWithin 2 tr }
+    ensures empty { (me : AMe) (s n : ℕ) (r0 r : AMemo) (tr : Trail) → ReceiveGives me s r0 r tr (Err (IsVacant n)) → IsWithin 2 tr }
     ensures full { (me : AMe) (s : ℕ) (r0 r : AMemo) (tr : Trail) → ReceiveGives me s r0 r tr (Err AreFull) → IsWithin 27 tr }
     ensures counted { (me : AMe) (s b n : ℕ) (r0 r : AMemo) (tr : Trail) → ReceiveGives me s r0 r tr (Err (IsCounted b n)) → IsWithin 27 tr }
     ensures spent { (me : AMe) (s e : ℕ) (r0 r : AMemo) (tr : Trail) → ReceiveGives me s r0 r tr (Err (IsLate e)) → IsWithin 27 tr ⊎ ((d : ReceiveStopped me s r0 r tr (receive_told me s tr) e) × (IsWithin 31 tr ⊎ ((t : TakeStopped me s d.look.q r d.look.next d.look.after e) × IsWithin (39 + tear_steps (frees (receive_told me s tr) + length t.left)) tr))) }
