@@ -1,6 +1,6 @@
 //! The lines of a drawn script, for a pool of fewer clients and for fewer keys.
 
-ghost use Rattle.std.specs.Prelude.{◌≢◌, ◌×◌, ◌<◌, IfSome};
+ghost use Rattle.std.specs.Prelude.{◌≢◌, ◌<◌, IfSome};
 ghost use Rattle.shm_words.specs.Layout.{GeometryFits};
 ghost use Rattle.shm_table.specs.CommandControl.{MayStand};
 

@@ -5,9 +5,8 @@
 //! independent implementation.
 #![tactic(auto)]
 
-ghost use Rattle.std.specs.Prelude.{◌≡◌, ◌≢◌, ◌×◌, ◌<◌, IfSome};
+ghost use Rattle.std.specs.Prelude.{◌<◌};
 ghost use Rattle.shm_words.specs.Layout.{GeometryFits};
-ghost use Rattle.shm_table.specs.CommandControl.{MayStand};
 
 mod lines;
 mod tally;
@@ -16,7 +15,7 @@ use lines::line_for;
 use shm_graph::{Machine, Me, Turn};
 use shm_recover::Join;
 use shm_runs::make;
-use shm_script::{Answer, Line, Trace, generate};
+use shm_script::{Line, Trace, generate};
 use shm_table::Command;
 use shm_words::Geometry;
 use std::alloc::{AllocError, Global};
