@@ -11,6 +11,8 @@ mod del_edge_tests;
 #[cfg(test)]
 mod del_tests;
 #[cfg(test)]
+mod effect_spent_tests;
+#[cfg(test)]
 mod effect_tests;
 #[cfg(test)]
 mod enter_spent_tests;
