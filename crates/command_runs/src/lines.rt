@@ -2,7 +2,7 @@
 
 ghost use Rattle.std.specs.Prelude.{◌≢◌, ◌<◌, IfSome};
 ghost use Rattle.shm_words.specs.Layout.{GeometryFits};
-ghost use Rattle.shm_table.specs.CommandControl.{MayStand};
+ghost use Rattle.shm_table.specs.Command.{MayStand};
 
 use shm_graph::Me;
 use shm_script::Line;

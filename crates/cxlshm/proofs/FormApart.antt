@@ -3,7 +3,7 @@ use Rattle.std.proofs.Common.{◌≡◌, ◌≢◌, ℕ, ◌+◌, ◌<◌, List,
 use Rattle.std.specs.List.{Any}
 use Rattle.std.proofs.lemmas.List.{get_or_default, get_or-take}
 use Rattle.shm_plain.specs.declared.pair.Pair.{Pair}
-use Rattle.shm_plain.specs.Puts.{AreApart, bucket_of}
+use Rattle.shm_plain.specs.OneClient.Puts.{AreApart, bucket_of}
 
 module _ (puts : List Pair) (i : ℕ) (e : Pair) (inside : i < length puts) where
   -- some put before the i-th one has its bucket

@@ -10,7 +10,7 @@ use Rattle.std.proofs.lemmas.Str.{IsAscii-append, IsUtf8-from_ascii}
 use Rattle.std.proofs.lemmas.Str.Ascii.{IsAscii-nil, IsAscii-from_all}
 use Rattle.std.proofs.lemmas.List.Elements.{All-from_recursion, All-head, All-tail}
 use Rattle.shm_plain.specs.declared.pair.Pair.{Pair}
-use Rattle.shm_plain.specs.Puts.{PairFits}
+use Rattle.shm_plain.specs.OneClient.Puts.{PairFits}
 use Rattle.cxlshm.specs.Form.{head_text, put_line, put_text}
 use Rattle.cxlshm.proofs.FormPut.{stripped}
 

@@ -9,7 +9,7 @@ use Rattle.std.proofs.lemmas.List.{append-nil}
 use Rattle.std.proofs.lemmas.List.Concat.{flat_map-append}
 use Rattle.std.proofs.lemmas.Str.{IsUtf8-drop}
 use Rattle.shm_plain.specs.declared.pair.Pair.{Pair}
-use Rattle.shm_plain.specs.Puts.{PairFits}
+use Rattle.shm_plain.specs.OneClient.Puts.{PairFits}
 use Rattle.cxlshm.specs.Form.{put_line, put_text}
 use Rattle.cxlshm.proofs.FormNumbers.{decimal_lacks}
 

@@ -5,7 +5,7 @@ use Rattle.std.specs.Str.Pattern.{FindsTextPrefix, StripsPrefix}
 use Rattle.std.proofs.lemmas.Str.Pattern.{IsSplitOnceResult, split_after}
 use Rattle.std.proofs.lemmas.List.{append_cancel_left}
 use Rattle.shm_plain.specs.declared.pair.Pair.{Pair}
-use Rattle.shm_plain.specs.Puts.{PairFits}
+use Rattle.shm_plain.specs.OneClient.Puts.{PairFits}
 use Rattle.cxlshm.specs.Form.{put_text}
 use Rattle.cxlshm.proofs.FormNumbers.{decimal_lacks}
 

@@ -6,7 +6,7 @@ use Rattle.std.proofs.lemmas.Fmt.{decimal_injective}
 use Rattle.std.proofs.lemmas.List.{append_cancel_left}
 use Rattle.std.proofs.lemmas.List.Elements.{All-head, All-tail}
 use Rattle.shm_plain.specs.declared.pair.Pair.{Pair}
-use Rattle.shm_plain.specs.Puts.{PairFits, PutsFit}
+use Rattle.shm_plain.specs.OneClient.Puts.{PairFits, PutsFit}
 use Rattle.cxlshm.specs.Form.{IsForm, head_text, put_line, put_text}
 use Rattle.cxlshm.proofs.FormLines.{Lacks, lacks_at, lacks_rest, lacks_decimal, no_cut, put_text_lacks}
 

@@ -3,7 +3,7 @@ use Rattle.std.specs.Prelude.{◌≡◌, ℕ, List, [], ◌∷◌, ◌++◌, cod
 use Rattle.std.specs.List.{flat_map}
 use Rattle.std.specs.Fmt.{decimal}
 use Rattle.shm_plain.specs.declared.pair.Pair.{Pair}
-use Rattle.shm_plain.specs.Puts.{PutsFit}
+use Rattle.shm_plain.specs.OneClient.Puts.{PutsFit}
 
 -- a put, with no line end: `put K V`, the key and the number in decimal
 abbrev pub put_text : Pair → List ℕ

@@ -4,8 +4,8 @@ use Rattle.shm_io.specs.Writing.{Appends, AppendsFront}
 use Rattle.shm_graph.specs.Spots.{see}
 use Rattle.shm_plain.specs.declared.pair.Pair.{Pair}
 use Rattle.shm_plain.specs.declared.first.FirstRun.{FirstRun}
-use Rattle.shm_plain.specs.ShutWords.{IsClosed}
-use Rattle.shm_plain.specs.Runs.{IsFirstRun}
+use Rattle.shm_plain.specs.OneClient.ClosedWords.{IsClosed}
+use Rattle.shm_plain.specs.OneClient.Runs.{IsFirstRun}
 use Rattle.cxlshm.specs.Form.{IsForm}
 use Rattle.cxlshm.specs.Report.{report_of}
 use Rattle.cxlshm.specs.declared.top.Finished.{Finished}

@@ -7,7 +7,7 @@ ghost use Rattle.std.specs.Fmt.{decimal};
 ghost use Rattle.std.specs.List.{All, Any, flat_map};
 ghost use Rattle.std.specs.Str.{IsAscii};
 ghost use Rattle.shm_plain.specs.declared.pair.Pair.{Pair};
-ghost use Rattle.shm_plain.specs.Puts.{AreApart, PairFits, bucket_of};
+ghost use Rattle.shm_plain.specs.OneClient.Puts.{AreApart, PairFits, bucket_of};
 ghost use Rattle.cxlshm.specs.Form.{IsForm, head_text, put_line, put_text};
 
 use shm_plain::Pair;

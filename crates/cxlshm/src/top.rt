@@ -4,7 +4,7 @@ ghost use Rattle.std.specs.Prelude.{◌≡◌, ◌≢◌, ◌<◌, ◌≤◌, �
 ghost use Rattle.std.specs.String.{string_bytes};
 ghost use Rattle.shm_io.specs.Faults.{Rose, NoFault};
 ghost use Rattle.shm_io.specs.Writing.{Appends, AppendsFront};
-ghost use Rattle.shm_plain.specs.Puts.{PutsFit};
+ghost use Rattle.shm_plain.specs.OneClient.Puts.{PutsFit};
 ghost use Rattle.shm_plain.specs.declared.pair.Pair.{Pair as APair};
 ghost use Rattle.cxlshm.specs.declared.top.Finished.{Finished as AFinished};
 ghost use Rattle.cxlshm.specs.Form.{IsForm, form_text};

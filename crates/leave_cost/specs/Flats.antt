@@ -2,8 +2,8 @@
 use Rattle.std.specs.Prelude.{◌≡◌, ℕ, ◌^◌, ◌<◌, false}
 use Rattle.shm_words.specs.Layout.{GeometryFits}
 use Rattle.shm_graph.specs.declared.ask.Me.{Me}
-use Rattle.shm_count.specs.StepMachines.{down_control}
-use Rattle.shm_count.specs.TearControl.{tear_control}
+use Rattle.shm_count.specs.Step.Machines.{down_control}
+use Rattle.shm_count.specs.Tear.Control.{tear_control}
 use Rattle.leave_cost.specs.declared.flat.FlatPoint.{FlatPoint}
 use Rattle.leave_cost.specs.declared.flat.FlatPoint.TheVariants.{Down, Tear}
 

@@ -8,7 +8,7 @@ use Rattle.shm_graph.specs.declared.ask.Me.{Me}
 use Rattle.shm_graph.specs.declared.memo.Memo.{Memo}
 use Rattle.shm_graph.specs.Asks.{Trail}
 use Rattle.shm_graph.specs.Laws.{Control}
-use Rattle.shm_recover.specs.Joining.{IsMember}
+use Rattle.shm_recover.specs.Join.{IsMember}
 use Rattle.pool_cost.specs.declared.watch.WatchState.{WatchState}
 
 -- the own status is read

@@ -31,7 +31,7 @@ impl Model for Watch {
 
     ghost view = { λ a. a.state };
 
-    ghost use Rattle.shm_recover.specs.Joining.{IsMember};
+    ghost use Rattle.shm_recover.specs.Join.{IsMember};
 
     ghost invariant = { λ a. IsMember a.state.me };
 }

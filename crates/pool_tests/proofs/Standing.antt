@@ -24,19 +24,19 @@ use Rattle.shm_graph.specs.Views.{own_word}
 use Rattle.shm_graph.specs.Whole.{fits_now}
 use Rattle.shm_alloc.specs.declared.alloc.AllocFault.{AllocFault}
 use Rattle.shm_alloc.specs.declared.point.AllocState.{AllocState}
-use Rattle.shm_alloc.specs.AllocFits.{AllocGives}
+use Rattle.shm_alloc.specs.Alloc.{AllocGives}
 use Rattle.shm_count.specs.declared.answer.EraSpent.{EraSpent}
 use Rattle.shm_count.specs.declared.answer.Made.{Made}
 use Rattle.shm_count.specs.declared.answer.UpFault.{UpFault}
 use Rattle.shm_count.specs.declared.point.Aim.TheVariants.{Up, Down}
-use Rattle.shm_count.specs.StepControl.{IsInside}
-use Rattle.shm_count.specs.StepMachines.{DownFits, DownGives, UpFits, UpGives, down_means, up_means}
-use Rattle.shm_count.specs.TearControl.{tear_control, TearKnows}
-use Rattle.shm_count.specs.TearFits.{CanTear, TearFits}
-use Rattle.shm_count.specs.TearGoing.{begins}
+use Rattle.shm_count.specs.Step.Control.{IsInside}
+use Rattle.shm_count.specs.Step.Machines.{DownFits, DownGives, UpFits, UpGives, down_means, up_means}
+use Rattle.shm_count.specs.Tear.Control.{tear_control, TearInRange}
+use Rattle.shm_count.specs.Tear.{CanTear, TearFits}
+use Rattle.shm_count.specs.Tear.Going.{begins}
 use Rattle.shm_count.specs.DyingBlocks.{dying_header, live_room}
 use Rattle.shm_alloc.proofs.MadeBlocks.{block_inside}
-use Rattle.shm_alloc.specs.AllocFits.{MadeGives}
+use Rattle.shm_alloc.specs.Alloc.{MadeGives}
 use Rattle.shm_words.specs.Layout.{total_of}
 use Rattle.shm_words.specs.Tags.{tag_refs}
 use Rattle.shm_words.proofs.Placing.{total_small}
@@ -49,7 +49,7 @@ use Rattle.shm_pool.specs.declared.reply.Reply.TheVariants.{Done, Died}
 use Rattle.shm_pool.specs.Replies.{IfReply}
 use Rattle.shm_pool.specs.Tokens.{IsOut, recovering}
 use Rattle.pool_tests.specs.Quitting.{QuitFits, quit_control, quit_fresh}
-use Rattle.shm_recover.specs.Joining.{IsMember, JoinGives, join_fresh}
+use Rattle.shm_recover.specs.Join.{IsMember, JoinGives, join_fresh}
 
 -- the account's memo in that state
 pub there_memo : (s : Start) (e : Account) (x : Stood s e) → memos_of x.accounts e.who ≡ e.memo
@@ -204,7 +204,7 @@ module _ (s : Start) (e : Account) (x : Stood s e) (b : ℕ) (f : GeometryFits s
         dying = dying;
       }
 
-  knows : TearKnows (tear_of s.geometry c b)
+  knows : TearInRange (tear_of s.geometry c b)
   knows = record { geometry = f; who = l; first = tear_small; block = tear_small; point = tt }
 
   pub tears : acts e.memo ≡ true → fits_now tear_control TearFits (tear_of s.geometry e.who b) e.memo e.memo

@@ -8,10 +8,10 @@ use Rattle.shm_graph.specs.declared.spot.Spot.TheVariants.{Status}
 use Rattle.shm_graph.specs.Blocks.{classes}
 use Rattle.shm_graph.specs.Spots.{spot_at}
 use Rattle.shm_graph.specs.Laws.{Laws, Keeps, Then}
-use Rattle.shm_graph.proofs.Spotting.{in_pool}
-use Rattle.shm_graph.proofs.SpotPlaces.{spot-place}
-use Rattle.shm_graph.proofs.StatusKeeping.{gone_kept}
-use Rattle.shm_recover.specs.Joining.{IsMember}
+use Rattle.shm_graph.proofs.Spots.Spotting.{in_pool}
+use Rattle.shm_graph.proofs.Spots.SpotPlaces.{spot-place}
+use Rattle.shm_graph.proofs.StepKinds.StatusKeeping.{gone_kept}
+use Rattle.shm_recover.specs.Join.{IsMember}
 use Rattle.pool_tests.specs.Quitting.{quit_control, QuitFits, QuitGives}
 
 status_spot : (me : Me) (class : ℕ → ℕ → ℕ) → IsMember me → spot_at me.geometry class (address me.geometry (place.Status me.who)) ≡ Status me.who

@@ -29,7 +29,7 @@ impl Model for Quit {
 
     ghost view = { λ a. a.state };
 
-    ghost use Rattle.shm_recover.specs.Joining.{IsMember};
+    ghost use Rattle.shm_recover.specs.Join.{IsMember};
 
     ghost invariant = { λ a. IsMember a.state.me };
 }

@@ -16,9 +16,9 @@ use Rattle.shm_count.specs.declared.answer.Made.{Made}
 use Rattle.shm_alloc.specs.declared.alloc.AllocFault.{AllocFault}
 use Rattle.shm_alloc.specs.declared.alloc.AllocFault.TheVariants.{EraSpent, RootsFull, Full}
 use Rattle.shm_alloc.specs.declared.request.Request.{Request}
-use Rattle.shm_alloc.specs.AllocControl.{class_asked, tag_asked, header_made, RequestFits}
+use Rattle.shm_alloc.specs.Alloc.Control.{class_asked, tag_asked, header_made, RequestFits}
 use Rattle.shm_graph.specs.Bounds.{alloc_steps}
-use Rattle.shm_alloc.specs.AllocTrail.{AllocTrails, alloc_trail, root_trail, segment_trail, page_trail, header_trail, headers_trail, class_trail, block_trail, reference_trail, plain_trail, live_trail, commit_trail, slot_trail, close_trail}
+use Rattle.shm_alloc.specs.Alloc.Asks.{AllocTrails, alloc_trail, root_trail, segment_trail, page_trail, header_trail, headers_trail, class_trail, block_trail, reference_trail, plain_trail, live_trail, commit_trail, slot_trail, close_trail}
 
 -- each of the trails has at most n pairs
 abbrev Short : AllocTrails → ℕ → Type 0

@@ -11,14 +11,14 @@ use Rattle.shm_graph.specs.declared.spot.Spot.TheVariants as spot
 use Rattle.shm_graph.specs.Blocks.{classes, headers, IsBlock, IsLive}
 use Rattle.shm_graph.specs.Held.{HeldAt}
 use Rattle.shm_graph.specs.Views.{view}
-use Rattle.shm_graph.proofs.Holders.{InReach, held_live_block, reach_counted}
-use Rattle.shm_graph.proofs.KnownChange.{KnownHolds}
-use Rattle.shm_graph.proofs.Spotting.{block_within}
+use Rattle.shm_graph.proofs.States.Holders.{InReach, held_live_block, reach_counted}
+use Rattle.shm_graph.proofs.Memos.KnownChange.{KnownHolds}
+use Rattle.shm_graph.proofs.Spots.Spotting.{block_within}
 use Rattle.shm_count.specs.declared.answer.Made.{Made}
-use Rattle.shm_count.specs.StepControl.{IsInside}
+use Rattle.shm_count.specs.Step.Control.{IsInside}
 use Rattle.shm_alloc.specs.declared.request.Request.{Request}
-use Rattle.shm_alloc.specs.AllocControl.{tag_asked}
-use Rattle.shm_alloc.specs.AllocFits.{MadeGives}
+use Rattle.shm_alloc.specs.Alloc.Control.{tag_asked}
+use Rattle.shm_alloc.specs.Alloc.{MadeGives}
 
 -- a block whose tag is known is a block
 tagged_block : (g : Geometry) (w : Spot → ℕ) (r : ℕ → Memo) (c b x : ℕ) → HeldAt g w (view r) → c < g.clients → Contains (r c).known (record { spot = spot.Tag b; value = x }) → IsBlock g (classes w) b

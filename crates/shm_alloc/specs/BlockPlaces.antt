@@ -6,7 +6,7 @@ use Rattle.shm_words.proofs.Classing.{class_is}
 use Rattle.shm_graph.specs.declared.ask.Me.{Me}
 use Rattle.shm_alloc.specs.declared.request.Request.{Request}
 use Rattle.shm_alloc.specs.declared.point.Search.{Search}
-use Rattle.shm_alloc.specs.AllocControl.{class_asked, block_of}
+use Rattle.shm_alloc.specs.Alloc.Control.{class_asked, block_of}
 
 -- each block of a class lies wholly in the 128 words of its page
 room_in_page : (k i : ℕ) → IsClass k → i < 128 / k → k * i + k ≤ 128

@@ -2,12 +2,12 @@
 
 ghost use Rattle.std.specs.Prelude.{◌≡◌, ◌<◌, ◌≤◌, ◌↔◌, ◌⊎◌, IfOk, IfErr, is_err, true, length, take};
 ghost use Rattle.shm_words.specs.Layout.{GeometryFits};
-ghost use Rattle.shm_alloc.specs.AllocControl.{alloc_control};
-ghost use Rattle.shm_alloc.specs.AllocFits.{AllocFits, AllocGives};
-ghost use Rattle.shm_alloc.specs.AllocLaws.{alloc_laws};
+ghost use Rattle.shm_alloc.specs.Alloc.Control.{alloc_control};
+ghost use Rattle.shm_alloc.specs.Alloc.{AllocFits, AllocGives};
+ghost use Rattle.shm_alloc.specs.Alloc.Laws.{alloc_laws};
 ghost use Rattle.shm_alloc.specs.declared.point.AllocPoint.TheVariants.{Era};
 
-use crate::point::{AllocPoint, AllocState, Next};
+use crate::point::{AllocPoint, AllocState, AllocNext};
 use crate::request::Request;
 use shm_count::Made;
 use shm_graph::{Ask, Machine, Me, Turn};
@@ -51,9 +51,9 @@ impl Model for Alloc {
 
     ghost view = { λ a. a.state };
 
-    ghost use Rattle.shm_alloc.specs.AllocControl.{AllocKnows};
+    ghost use Rattle.shm_alloc.specs.Alloc.Control.{AllocInRange};
 
-    ghost invariant = { λ a. AllocKnows a.state };
+    ghost invariant = { λ a. AllocInRange a.state };
 }
 
 impl Alloc {
@@ -130,11 +130,11 @@ impl Machine for Alloc {
     #[inline(never)]
     fn take(&mut self, seen: u64) -> Turn<Result<Made, AllocFault>> {
         match self.state.next(seen) {
-            Next::Point(point) => {
+            AllocNext::Point(point) => {
                 self.state.point = point;
                 Turn::More
             }
-            Next::Answer(answer) => {
+            AllocNext::Answer(answer) => {
                 self.state.point = AllocPoint::Over;
                 Turn::Done(answer)
             }

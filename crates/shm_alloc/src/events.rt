@@ -11,13 +11,13 @@ ghost use Rattle.shm_count.specs.Calling.{IsCall, happened_in};
 ghost use Rattle.shm_alloc.specs.declared.alloc.AllocFault.{AllocFault as AFault};
 ghost use Rattle.shm_alloc.specs.declared.point.AllocPoint.TheVariants.{Era};
 ghost use Rattle.shm_alloc.specs.declared.point.AllocState.{AllocState as AState};
-ghost use Rattle.shm_alloc.specs.AllocControl.{alloc_control, AllocKnows};
-ghost use Rattle.shm_alloc.specs.AllocEvents.{alloc_event, own_events};
-ghost use Rattle.shm_alloc.specs.AllocFits.{AllocFits, AllocGives, CanAlloc};
+ghost use Rattle.shm_alloc.specs.Alloc.Control.{alloc_control, AllocInRange};
+ghost use Rattle.shm_alloc.specs.Alloc.Events.{alloc_event, own_events};
+ghost use Rattle.shm_alloc.specs.Alloc.{AllocFits, AllocGives, CanAlloc};
 
 /// An allocation that has just been made fits each memo of an identity between two calls.
 pub fn alloc_begins()
-    ensures { (m : AState) (r : AMemo) → m.point ≡ Era → AllocKnows m → CanAlloc m.me r → AllocFits m r r [] }
+    ensures { (m : AState) (r : AMemo) → m.point ≡ Era → AllocInRange m → CanAlloc m.me r → AllocFits m r r [] }
 {}
 
 /// The event of each step of an allocation is the one that it tells: the exchange of the header makes the block live in the root, and no
@@ -29,5 +29,5 @@ pub fn alloc_events()
 /// In a run of a pool the own events of an allocation that has answered are one: the block answered becomes live in the root answered;
 /// where it is refused there are none.
 pub fn alloc_own_events()
-    ensures { (m : AState) (a : State) (ms : List AMove) (b : State) (r : AMemo) (tr : Trail) (x : Result AMade AFault) → m.point ≡ Era → AllocKnows m → CanAlloc m.me (memos_of a.accounts m.me.who) → IsCall alloc_control m a ms b tr → AllocGives m (memos_of a.accounts m.me.who) r tr x → happened_in m.me a ms ≡ own_events m.me x }
+    ensures { (m : AState) (a : State) (ms : List AMove) (b : State) (r : AMemo) (tr : Trail) (x : Result AMade AFault) → m.point ≡ Era → AllocInRange m → CanAlloc m.me (memos_of a.accounts m.me.who) → IsCall alloc_control m a ms b tr → AllocGives m (memos_of a.accounts m.me.who) r tr x → happened_in m.me a ms ≡ own_events m.me x }
 {}

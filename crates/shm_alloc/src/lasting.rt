@@ -14,12 +14,12 @@ ghost use Rattle.shm_count.specs.declared.answer.Made.{Made as AMade};
 ghost use Rattle.shm_count.specs.declared.point.Aim.TheVariants.{Up};
 ghost use Rattle.shm_count.specs.MadeSteps.{made_up_part};
 ghost use Rattle.shm_count.specs.Roots.{root_step};
-ghost use Rattle.shm_count.specs.StepControl.{IsInside};
+ghost use Rattle.shm_count.specs.Step.Control.{IsInside};
 ghost use Rattle.shm_alloc.specs.declared.alloc.AllocFault.{AllocFault as AFault};
 ghost use Rattle.shm_alloc.specs.declared.point.AllocState.{AllocState as AState};
-ghost use Rattle.shm_alloc.specs.AllocControl.{alloc_control};
-ghost use Rattle.shm_alloc.specs.AllocFits.{AllocGives, CanAlloc};
-ghost use Rattle.shm_alloc.specs.AllocPart.{AllocLeaves, alloc_making};
+ghost use Rattle.shm_alloc.specs.Alloc.Control.{alloc_control};
+ghost use Rattle.shm_alloc.specs.Alloc.{AllocGives, CanAlloc};
+ghost use Rattle.shm_alloc.specs.Alloc.AsPart.{AllocLeaves, alloc_making};
 
 /// Whatever an allocation answers, the status and the agent are what they were, and what was read of tails and heads stays; a block of
 /// which it answers is one that the call made.

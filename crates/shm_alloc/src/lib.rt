@@ -4,15 +4,15 @@
 #![tactic(auto)]
 
 pub mod alloc;
-pub mod bound;
+pub mod answers;
 pub mod events;
 pub mod lasting;
 pub mod point;
 pub mod request;
 
 pub use alloc::{Alloc, AllocFault, TooLarge};
-pub use bound::{alloc_bound, alloc_trails};
+pub use answers::{alloc_bound, alloc_trails};
 pub use events::{alloc_begins, alloc_events, alloc_own_events};
 pub use lasting::{alloc_in_call, alloc_lasts, alloc_least_root, made_may_be_raised};
-pub use point::{AllocPoint, AllocState, Goal, Next, Search};
+pub use point::{AllocPoint, AllocState, Goal, AllocNext, Search};
 pub use request::Request;

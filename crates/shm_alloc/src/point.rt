@@ -5,8 +5,8 @@ ghost use Rattle.shm_words.specs.declared.place.Place.TheVariants as place;
 ghost use Rattle.shm_words.specs.declared.redo.Redo.TheVariants as redos;
 ghost use Rattle.shm_words.specs.Layout.{GeometryFits, address};
 ghost use Rattle.shm_words.specs.Redos.{redo_word};
-ghost use Rattle.shm_alloc.specs.AllocControl.{class_asked, header_made, block_of, is_search, RequestFits, SearchFits, PointFits, AllocKnows};
-ghost use Rattle.shm_alloc.specs.AllocControl as control;
+ghost use Rattle.shm_alloc.specs.Alloc.Control.{class_asked, header_made, block_of, is_search, RequestFits, SearchFits, PointFits, AllocInRange};
+ghost use Rattle.shm_alloc.specs.Alloc.Control as control;
 
 use crate::alloc::AllocFault;
 use crate::request::Request;
@@ -122,7 +122,7 @@ pub struct AllocState {
 
 /// Where an allocation goes by the word that it found.
 #[derive(Clone, Copy, Debug, PartialEq, Eq, Drop)]
-pub enum Next {
+pub enum AllocNext {
     Point(AllocPoint),
     Answer(Result<Made, AllocFault>),
 }
@@ -145,7 +145,7 @@ impl AllocState {
     /// The word step that comes next.
     #[inline(always)]
     pub fn ask(self) -> Ask
-        requires { AllocKnows self }
+        requires { AllocInRange self }
         ensures { result ≡ control.alloc_ask self }
     {
         let Me { geometry, who } = self.me;
@@ -186,7 +186,7 @@ impl AllocState {
     /// The word step that comes next once a free block is found.
     #[inline(always)]
     fn ask_for_block(self) -> Ask
-        requires knows { AllocKnows self }
+        requires knows { AllocInRange self }
         requires found { is_search self.point ≡ false }
         ensures { result ≡ control.alloc_ask self }
     {
@@ -257,8 +257,8 @@ impl AllocState {
 
     /// Where it goes by the word that it found.
     #[inline(always)]
-    pub fn next(self, seen: u64) -> Next
-        requires { AllocKnows self }
+    pub fn next(self, seen: u64) -> AllocNext
+        requires { AllocInRange self }
         ensures { result ≡ control.alloc_next self seen }
     {
         match self.point {
@@ -286,42 +286,42 @@ impl AllocState {
 
     /// Where it goes once a free block is found.
     #[inline(always)]
-    fn next_of_block(self) -> Next
-        requires knows { AllocKnows self }
+    fn next_of_block(self) -> AllocNext
+        requires knows { AllocInRange self }
         requires found { is_search self.point ≡ false }
         ensures { (n : ℕ) → result ≡ control.alloc_next self n }
     {
         let request = self.request;
         match self.point {
             AllocPoint::Tag { goal, block } => {
-                Next::Point(request.references_from(goal, block, 0))
+                AllocNext::Point(request.references_from(goal, block, 0))
             }
             AllocPoint::Reference { goal, block, index } => {
-                Next::Point(request.references_from(goal, block, index + 1))
+                AllocNext::Point(request.references_from(goal, block, index + 1))
             }
             AllocPoint::Plain { goal, block, index } => {
-                Next::Point(request.plain_from(goal, block, index + 1))
+                AllocNext::Point(request.plain_from(goal, block, index + 1))
             }
-            AllocPoint::Redo { goal, block } => Next::Point(AllocPoint::Commit { goal, block }),
-            AllocPoint::Commit { goal, block } => Next::Point(AllocPoint::Slot { goal, block }),
-            AllocPoint::Slot { goal, block } => Next::Point(AllocPoint::Close { goal, block }),
-            AllocPoint::Close { goal, block } => Next::Answer(Ok(Made {
+            AllocPoint::Redo { goal, block } => AllocNext::Point(AllocPoint::Commit { goal, block }),
+            AllocPoint::Commit { goal, block } => AllocNext::Point(AllocPoint::Slot { goal, block }),
+            AllocPoint::Slot { goal, block } => AllocNext::Point(AllocPoint::Close { goal, block }),
+            AllocPoint::Close { goal, block } => AllocNext::Answer(Ok(Made {
                 root: goal.root,
                 block,
             })),
-            point => Next::Point(point), // it has answered
+            point => AllocNext::Point(point), // it has answered
         }
     }
 
     /// Where it goes by the owner of a segment.
     #[inline(always)]
-    fn segment_next(self, goal: Goal, search: Search, seen: u64) -> Next
+    fn segment_next(self, goal: Goal, search: Search, seen: u64) -> AllocNext
         requires geometry { GeometryFits self.me.geometry }
         requires search { SearchFits self.me search 0 }
         ensures { result ≡ control.segment_next self.me goal search seen }
     {
         if seen == 0 {
-            Next::Point(AllocPoint::Claim { goal, search })
+            AllocNext::Point(AllocPoint::Claim { goal, search })
         } else if seen == u64::from(self.me.who) + 1 {
             first_page(goal, search)
         } else {
@@ -331,14 +331,14 @@ impl AllocState {
 
     /// Where it goes by the class of a page.
     #[inline(always)]
-    fn page_next(self, goal: Goal, search: Search, page: u8, seen: u64) -> Next
+    fn page_next(self, goal: Goal, search: Search, page: u8, seen: u64) -> AllocNext
         requires geometry { GeometryFits self.me.geometry }
         requires request { RequestFits self.request }
         requires segment { search.segment < self.me.geometry.segments }
         ensures { result ≡ control.page_next self.me self.request goal search page seen }
     {
         if seen == 0 {
-            Next::Point(AllocPoint::Class { goal, search, page })
+            AllocNext::Point(AllocPoint::Class { goal, search, page })
         } else if seen == u64::from(self.request.class()) {
             first_header(goal, search, page)
         } else {
@@ -348,7 +348,7 @@ impl AllocState {
 
     /// Where it goes by the header of a block.
     #[inline(always)]
-    fn header_next(self, goal: Goal, search: Search, page: u8, index: u8, seen: u64) -> Next
+    fn header_next(self, goal: Goal, search: Search, page: u8, index: u8, seen: u64) -> AllocNext
         requires geometry { GeometryFits self.me.geometry }
         requires request { RequestFits self.request }
         requires search { SearchFits self.me search (32 * page + index) }
@@ -358,14 +358,14 @@ impl AllocState {
     {
         if seen == 0 {
             let block = self.block(search, page, index);
-            return Next::Point(AllocPoint::Tag { goal, block });
+            return AllocNext::Point(AllocPoint::Tag { goal, block });
         }
         let search = Search {
             used: search.used + 1,
             ..search
         };
         if index + 1 < 128 / self.request.class() {
-            Next::Point(AllocPoint::Header {
+            AllocNext::Point(AllocPoint::Header {
                 goal,
                 search,
                 page,
@@ -378,14 +378,14 @@ impl AllocState {
 
     /// The page has no free block of the class.
     #[inline(always)]
-    fn page_over(self, goal: Goal, search: Search, page: u8) -> Next
+    fn page_over(self, goal: Goal, search: Search, page: u8) -> AllocNext
         requires geometry { GeometryFits self.me.geometry }
         requires segment { search.segment < self.me.geometry.segments }
         ensures { result ≡ control.page_over self.me goal search page }
     {
         if page < 15 {
             let page = page + 1;
-            Next::Point(AllocPoint::Page { goal, search, page })
+            AllocNext::Point(AllocPoint::Page { goal, search, page })
         } else {
             self.segment_over(goal, search)
         }
@@ -393,7 +393,7 @@ impl AllocState {
 
     /// The segment is another's.
     #[inline(always)]
-    fn taken(self, goal: Goal, search: Search) -> Next
+    fn taken(self, goal: Goal, search: Search) -> AllocNext
         requires geometry { GeometryFits self.me.geometry }
         requires segment { search.segment < self.me.geometry.segments }
         requires taken { search.taken ≤ search.segment }
@@ -405,7 +405,7 @@ impl AllocState {
 
     /// The segment has no free block of the class.
     #[inline(always)]
-    fn segment_over(self, goal: Goal, search: Search) -> Next
+    fn segment_over(self, goal: Goal, search: Search) -> AllocNext
         requires geometry { GeometryFits self.me.geometry }
         requires segment { search.segment < self.me.geometry.segments }
         ensures { result ≡ control.segment_over self.me goal search }
@@ -413,9 +413,9 @@ impl AllocState {
         let segment = search.segment + 1;
         if segment < self.me.geometry.segments() {
             let search = Search { segment, ..search };
-            Next::Point(AllocPoint::Segment { goal, search })
+            AllocNext::Point(AllocPoint::Segment { goal, search })
         } else {
-            Next::Answer(Err(AllocFault::Full {
+            AllocNext::Answer(Err(AllocFault::Full {
                 segments: search.taken,
                 blocks: search.used,
             }))
@@ -425,23 +425,23 @@ impl AllocState {
 
 /// Where it goes by the own era.
 #[inline(always)]
-fn era_next(seen: u64) -> Next
+fn era_next(seen: u64) -> AllocNext
     ensures { result ≡ control.era_next seen }
 {
     if seen > (1 << 47) - 3 {
-        Next::Answer(Err(AllocFault::EraSpent { era: seen }))
+        AllocNext::Answer(Err(AllocFault::EraSpent { era: seen }))
     } else {
-        Next::Point(AllocPoint::Root { era: seen, root: 0 })
+        AllocNext::Point(AllocPoint::Root { era: seen, root: 0 })
     }
 }
 
 /// Where it goes by a root.
 #[inline(always)]
-fn root_next(era: u64, root: u8, seen: u64) -> Next
+fn root_next(era: u64, root: u8, seen: u64) -> AllocNext
     ensures { result ≡ control.root_next era root seen }
 {
     if seen == 0 {
-        Next::Point(AllocPoint::Segment {
+        AllocNext::Point(AllocPoint::Segment {
             goal: Goal { era, root },
             search: Search {
                 segment: 0,
@@ -451,18 +451,18 @@ fn root_next(era: u64, root: u8, seen: u64) -> Next
         })
     } else if root < 15 {
         let root = root + 1;
-        Next::Point(AllocPoint::Root { era, root })
+        AllocNext::Point(AllocPoint::Root { era, root })
     } else {
-        Next::Answer(Err(AllocFault::RootsFull))
+        AllocNext::Answer(Err(AllocFault::RootsFull))
     }
 }
 
 /// The first page of an own segment.
 #[inline(always)]
-fn first_page(goal: Goal, search: Search) -> Next
+fn first_page(goal: Goal, search: Search) -> AllocNext
     ensures { result ≡ control.first_page goal search }
 {
-    Next::Point(AllocPoint::Page {
+    AllocNext::Point(AllocPoint::Page {
         goal,
         search,
         page: 0,
@@ -471,10 +471,10 @@ fn first_page(goal: Goal, search: Search) -> Next
 
 /// The first header of a page of the class.
 #[inline(always)]
-fn first_header(goal: Goal, search: Search, page: u8) -> Next
+fn first_header(goal: Goal, search: Search, page: u8) -> AllocNext
     ensures { result ≡ control.first_header goal search page }
 {
-    Next::Point(AllocPoint::Header {
+    AllocNext::Point(AllocPoint::Header {
         goal,
         search,
         page,

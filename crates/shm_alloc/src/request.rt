@@ -1,8 +1,8 @@
 //! What an allocation is asked for.
 
 ghost use Rattle.std.specs.Prelude.{◌≡◌};
-ghost use Rattle.shm_alloc.specs.AllocControl.{class_asked, RequestFits};
-ghost use Rattle.shm_alloc.specs.AllocControl as control;
+ghost use Rattle.shm_alloc.specs.Alloc.Control.{class_asked, RequestFits};
+ghost use Rattle.shm_alloc.specs.Alloc.Control as control;
 
 use crate::point::{AllocPoint, Goal};
 use shm_words::{Tag, class_of};

@@ -17,16 +17,16 @@ use Rattle.shm_graph.specs.Events.{Event}
 use Rattle.shm_graph.specs.Laws.{Control, Ends, Frame, framed, KeptAt, Stands, Steady, Inside, Back, Keeps, Then, Laws, Outcome, is_some, event_on}
 use Rattle.shm_graph.specs.Tells.{is_event, after_all, happens_along, Tells}
 use Rattle.shm_graph.specs.Views.{at1}
-use Rattle.shm_graph.proofs.KindKeeping.{not_fresh}
-use Rattle.shm_graph.proofs.Lists.{at1_here}
-use Rattle.shm_graph.proofs.TellsAlong.{after_all-append, happens_along-append}
+use Rattle.shm_graph.proofs.StepKinds.KindKeeping.{not_fresh}
+use Rattle.shm_graph.proofs.Runs.Lists.{at1_here}
+use Rattle.shm_graph.proofs.Machines.TellsAlong.{after_all-append, happens_along-append}
 use Rattle.shm_calls.specs.declared.calls.Calls.{Calls}
 use Rattle.shm_calls.specs.Placed.{MayStand}
 use Rattle.shm_calls.specs.Parts.{IsHeld}
 use Rattle.shm_calls.specs.Plans.{Planned, PlanLaws, calls_asked, go_on, plan_trail}
 use Rattle.shm_calls.specs.CallsControl.{calls_control, calls_of, calls_does, calls_start, planned, called_on, answered}
 use Rattle.shm_calls.specs.CallsFit.{CallsFits, CallsGives, PlanGives, call_events, events_so_far}
-use Rattle.shm_graph.proofs.MemoSteps.{recovers_on}
+use Rattle.shm_graph.proofs.Memos.MemoSteps.{recovers_on}
 
 -- ---- lists and bits
 

@@ -16,7 +16,7 @@ use Rattle.shm_graph.specs.declared.memo.Fact.{Fact}
 use Rattle.shm_graph.specs.declared.memo.Fact.TheVariants.{Header as HeaderRead, Counter, Class}
 use Rattle.shm_graph.specs.declared.memo.First.TheVariants.{Begun, Committed}
 use Rattle.shm_graph.specs.declared.memo.Second.TheVariants.{Open, Closed}
-use Rattle.shm_graph.specs.declared.memo.Half.TheVariants.{Raising, Lowering}
+use Rattle.shm_graph.specs.declared.memo.ChangeStage.TheVariants.{Raising, Lowering}
 use Rattle.shm_graph.specs.declared.memo.Memo.{Memo}
 use Rattle.shm_graph.specs.declared.memo.Op.{Op}
 use Rattle.shm_graph.specs.declared.memo.Op.TheVariants as op
@@ -34,11 +34,11 @@ use Rattle.shm_graph.specs.Readings.{is_held, is_head_slot, is_latched, read_on,
 use Rattle.shm_graph.specs.Spots.{same_spot, spot_at}
 use Rattle.shm_graph.specs.Stores.{is_lowering, making_with, not_of, other_than, put, with_own, without_looks, written, op_closed, era_stored, stored_on}
 use Rattle.shm_graph.specs.Telling.{Claim, claim_of}
-use Rattle.shm_graph.proofs.Calling.{called_by}
-use Rattle.shm_graph.proofs.Loads.{choice}
+use Rattle.shm_graph.proofs.Machines.Calling.{called_by}
+use Rattle.shm_graph.proofs.StepKinds.Loads.{choice}
 use Rattle.shm_calls.specs.Parts.{Part, PartLaws}
 use Rattle.shm_calls.specs.Placed.{MayStand, PlacedKeeps}
-use Rattle.shm_graph.proofs.MemoSteps.{recovers_on}
+use Rattle.shm_graph.proofs.Memos.MemoSteps.{recovers_on}
 
 -- ---- what was read stays
 
@@ -65,7 +65,7 @@ read_facts g c load m test (spot.Era i j) n k h =
     choice (Has k) ((j == c) && not (i == c)) (row_read c m test i n) (record m { facts = Counter (spot.Era i j) n ∷ m.facts })
     (λ e. more_facts (Counter (spot.Era i c) n) k m.facts h) (λ e. more_facts (Counter (spot.Era i j) n) k m.facts h)
 read_facts g c load m test (spot.Tail s r) n k h = more_facts (Counter (spot.Tail s r) n) k m.facts h
-read_facts g c load m test (spot.Front s r) n k h = more_facts (Counter (spot.Front s r) n) k m.facts h
+read_facts g c load m test (spot.QueueHead s r) n k h = more_facts (Counter (spot.QueueHead s r) n) k m.facts h
 read_facts g c load m test (spot.Slot s r i) n k h = choice (Has k) (is_head_slot c m s r i && not (n == 0)) (record m { known = learnt (spot.Slot s r i) n m.known; values = valued m.part n m.values }) m (λ e. h) (λ e. h)
 read_facts g c load m test (spot.Page s q) n k h =
     choice (Has k) (n == 0) (if list_any (eqb s) m.owned then record m { zeros = spot.Page s q ∷ m.zeros } else m) (record m { facts = Class s q n ∷ m.facts })

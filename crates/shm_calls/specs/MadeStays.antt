@@ -15,7 +15,7 @@ use Rattle.shm_graph.specs.declared.spot.Spot.TheVariants as spot
 use Rattle.shm_graph.specs.declared.memo.Fact.TheVariants.{Counter, Class}
 use Rattle.shm_graph.specs.declared.memo.First.TheVariants.{Begun, Committed}
 use Rattle.shm_graph.specs.declared.memo.Second.TheVariants.{Open, Closed}
-use Rattle.shm_graph.specs.declared.memo.Half.TheVariants.{Raising, Lowering}
+use Rattle.shm_graph.specs.declared.memo.ChangeStage.TheVariants.{Raising, Lowering}
 use Rattle.shm_graph.specs.declared.memo.Memo.{Memo}
 use Rattle.shm_graph.specs.declared.memo.Op.{Op}
 use Rattle.shm_graph.specs.declared.memo.Op.TheVariants as op
@@ -36,9 +36,9 @@ use Rattle.shm_graph.specs.Spots.{same_spot, spot_at}
 use Rattle.shm_graph.specs.Stores.{is_lowering, making_with, not_block, not_of, other_than, put, with_own, without_looks, written, op_closed, era_stored, stored_on}
 use Rattle.shm_graph.specs.Telling.{Claim, claim_of}
 use Rattle.shm_graph.specs.Tells.{after_all, happens_along, is_event}
-use Rattle.shm_graph.proofs.Calling.{called_part}
-use Rattle.shm_graph.proofs.Loads.{choice}
-use Rattle.shm_graph.proofs.TellsAlong.{after_all-append, happens_along-append}
+use Rattle.shm_graph.proofs.Machines.Calling.{called_part}
+use Rattle.shm_graph.proofs.StepKinds.Loads.{choice}
+use Rattle.shm_graph.proofs.Machines.TellsAlong.{after_all-append, happens_along-append}
 use Rattle.shm_calls.specs.Parts.{Part, PartLaws}
 use Rattle.shm_calls.specs.Placed.{PlacedKeeps}
 

@@ -15,8 +15,8 @@ use Rattle.shm_graph.specs.Asks.{at_of, seen_of}
 use Rattle.shm_graph.specs.Changes.{memo_on}
 use Rattle.shm_graph.specs.Events.{Nothing}
 use Rattle.shm_graph.specs.Laws.{Frame, framed, Stands, KeptAt, MayEnd, event_by, event_on}
-use Rattle.shm_graph.proofs.LoadKeeping.{load_kept}
-use Rattle.shm_graph.proofs.Spotting.{in_pool}
+use Rattle.shm_graph.proofs.StepKinds.LoadKeeping.{load_kept}
+use Rattle.shm_graph.proofs.Spots.Spotting.{in_pool}
 use Rattle.shm_calls.specs.Placed.{MayStand}
 use Rattle.shm_calls.specs.Words.{IsKept, IsQuiet, IsWord}
 

@@ -8,7 +8,7 @@ use Rattle.shm_graph.specs.Events.{Event}
 use Rattle.shm_graph.specs.Laws.{Control, Laws}
 use Rattle.shm_graph.specs.Runs.{State, memos_of}
 use Rattle.shm_graph.specs.Tells.{Tells, is_event, happens_along}
-use Rattle.shm_graph.proofs.OwnEvents.{own_told}
+use Rattle.shm_graph.proofs.Runs.OwnEvents.{own_told}
 use Rattle.shm_count.specs.Calling.{IsCall, happened_in}
 
 pub call_tells : {S A : Type 0} (k : Control S A) (fits : S → Memo → Memo → Trail → Type 0) (gives : S → Memo → Memo → Trail → A → Type 0) → Laws k fits gives → (does : S → ℕ → Event) → Tells k fits does → (m : S) (a : State) (ms : List Move) (b : State) (tr : Trail)

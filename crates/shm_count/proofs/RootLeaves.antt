@@ -15,24 +15,24 @@ use Rattle.shm_graph.specs.Chains.{part_set}
 use Rattle.shm_graph.specs.Exchanges.{cut, reparted, without_made}
 use Rattle.shm_graph.specs.Reach.{shown, sifted, is_named}
 use Rattle.shm_graph.specs.Views.{own_word}
-use Rattle.shm_graph.proofs.Spotting.{same_spot_self}
+use Rattle.shm_graph.proofs.Spots.Spotting.{same_spot_self}
 use Rattle.shm_laws.specs.Steps.{dying_after}
 use Rattle.shm_steps.proofs.MemoCommits.{known_lowered, lowered_is}
 use Rattle.shm_count.specs.declared.point.Aim.TheVariants.{Down}
-use Rattle.shm_count.specs.declared.point.Part.TheVariants.{First}
+use Rattle.shm_count.specs.declared.point.Half.TheVariants.{First}
 use Rattle.shm_count.specs.DownLeaves.{count_less, one_less, joined, kept_lowered}
-use Rattle.shm_count.specs.StepParts.{lasting_not}
-use Rattle.shm_count.specs.StepControl.{header_after}
+use Rattle.shm_count.specs.Step.Parts.{lasting_not}
+use Rattle.shm_count.specs.Step.Control.{header_after}
 use Rattle.shm_graph.specs.Core.{core}
-use Rattle.shm_count.specs.StepFits.{begun, set_memo, slot_memo, closed_memo, Done}
-use Rattle.shm_count.specs.StepMemos.{closed_part}
+use Rattle.shm_count.specs.Step.{begun, set_memo, slot_memo, closed_memo, Done}
+use Rattle.shm_count.specs.Step.Memos.{closed_part}
 use Rattle.shm_count.specs.Roots.{rest, RootLowered}
 use Rattle.shm_count.proofs.RootMemos.{op_done, word_done}
 use Rattle.std.specs.List.{Contains, filter}
 use Rattle.shm_graph.specs.Stores.{is_of, not_of, with_own, written, stored_on, era_stored}
-use Rattle.shm_graph.proofs.Loads.{choice}
+use Rattle.shm_graph.proofs.StepKinds.Loads.{choice}
 use Rattle.shm_count.specs.Retaining.{slots_forgotten, slots_sifted, named_same, named_sifted, value_sifted}
-use Rattle.shm_count.specs.TearMemos.{is_slot_word}
+use Rattle.shm_count.specs.Tear.Memos.{is_slot_word}
 
 -- no partition is read from a root
 root_part : (ks : List Stored) (c home k x : ℕ) (part : TablePart) → part_set ks c home (Root c k) x part ≡ part

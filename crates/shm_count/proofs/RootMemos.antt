@@ -10,7 +10,7 @@ use Rattle.shm_words.proofs.Words.{header_of-word}
 use Rattle.shm_graph.specs.declared.ask.Me.{Me}
 use Rattle.shm_graph.specs.declared.spot.Spot.{Spot}
 use Rattle.shm_graph.specs.declared.spot.Spot.TheVariants as spot
-use Rattle.shm_graph.specs.declared.memo.Half.TheVariants.{Lowering, Raising}
+use Rattle.shm_graph.specs.declared.memo.ChangeStage.TheVariants.{Lowering, Raising}
 use Rattle.shm_graph.specs.declared.memo.First.TheVariants.{Committed}
 use Rattle.shm_graph.specs.declared.memo.Second.TheVariants.{Closed}
 use Rattle.shm_graph.specs.declared.memo.Memo.{Memo}
@@ -30,14 +30,14 @@ use Rattle.shm_count.specs.declared.answer.UpFault.{UpFault}
 use Rattle.shm_count.specs.declared.answer.UpFault.TheVariants.{EraSpent, CountFull}
 use Rattle.shm_count.specs.declared.point.Aim.{Aim}
 use Rattle.shm_count.specs.declared.point.Aim.TheVariants.{Up, Down, Change}
-use Rattle.shm_count.specs.declared.point.Part.{Part}
-use Rattle.shm_count.specs.declared.point.Part.TheVariants.{First, Second}
-use Rattle.shm_count.specs.StepControl.{PartFits, header_after, last_era, raises, value_after}
-use Rattle.shm_count.specs.StepCores.{is_set, set_op}
+use Rattle.shm_count.specs.declared.point.Half.{Half}
+use Rattle.shm_count.specs.declared.point.Half.TheVariants.{First, Second}
+use Rattle.shm_count.specs.Step.Control.{PartFits, header_after, last_era, raises, value_after}
+use Rattle.shm_count.specs.Step.Cores.{is_set, set_op}
 use Rattle.shm_graph.specs.Core.{core}
-use Rattle.shm_count.specs.StepFits.{AtFirst, Done, Refused, Rows, begun, closed_memo, is_row, set_memo, slot_memo}
-use Rattle.shm_count.specs.StepMachines.{is_change}
-use Rattle.shm_count.specs.StepMemos.{closed_part}
+use Rattle.shm_count.specs.Step.{AtFirst, Done, Refused, Rows, begun, closed_memo, is_row, set_memo, slot_memo}
+use Rattle.shm_count.specs.Step.Machines.{is_change}
+use Rattle.shm_count.specs.Step.Memos.{closed_part}
 use Rattle.shm_count.specs.Roots.{root_word}
 
 -- ---- what a step that is done says of the memo
@@ -154,7 +154,7 @@ module _ (me : Me) (slot k : ℕ) (r0 : Memo) where
   p = spot.Root c k
 
   -- the exchange of a half leaves it
-  kept_set : (x : Aim) (e : ℕ) (h : Part) (q : Memo) (w : ℕ) → PartFits x h → Kept q (set_memo me x p e h q w)
+  kept_set : (x : Aim) (e : ℕ) (h : Half) (q : Memo) (w : ℕ) → PartFits x h → Kept q (set_memo me x p e h q w)
   kept_set (Up b) e First q w f = record { status = refl; latch = refl; making = refl; loose = loose_reparted c (record q { op = op.Up Committed p b e; made = without_made q b }) p b }
   kept_set (Down b) e First q w f =
       let m : Memo = cut c p (reparted c (record q { op = op.Down Committed p b e; made = without_made q b }) p 0) in
@@ -318,7 +318,7 @@ module _ (me : Me) (slot k : ℕ) (r0 : Memo) where
       (Contains-push m.dying b)
 
   -- the new header of a block that had one reference shows none
-  none_left : (x : Aim) (e : ℕ) (h : Part) (w : ℕ) → c < 64 → e < 2 ^ 47 → raises x h ≡ false → ((header_of w).count == 1) ≡ true → (header_of (header_after me x e h w)).count ≡ 0
+  none_left : (x : Aim) (e : ℕ) (h : Half) (w : ℕ) → c < 64 → e < 2 ^ 47 → raises x h ≡ false → ((header_of w).count == 1) ≡ true → (header_of (header_after me x e h w)).count ≡ 0
   none_left x e h w l s down one =
       let count : (cond (raises x h) ((header_of w).count + 1) ((header_of w).count - 1)) ≡ 0 = cond-false _ _ _ down ∙ ap (λ n. n - 1) (eqb-true (header_of w).count 1 one) in
       let fits : HeaderFits (record { live = true; client = c; count = cond (raises x h) ((header_of w).count + 1) ((header_of w).count - 1); era = e }) = record { client = l; count = (let z = count in omega arith); era = s } in

@@ -29,20 +29,20 @@ use Rattle.shm_graph.specs.Reach.{in_slots, is_reached, named_blocks, not_zero, 
 use Rattle.shm_graph.specs.References.{words_of}
 use Rattle.shm_graph.specs.Spots.{IsAt, spot_address, spot_at}
 use Rattle.shm_graph.specs.Views.{own_word, view}
-use Rattle.shm_graph.proofs.SpotPlaces.{spot-place}
-use Rattle.shm_graph.proofs.Spotting.{same_spot_self}
+use Rattle.shm_graph.proofs.Spots.SpotPlaces.{spot-place}
+use Rattle.shm_graph.proofs.Spots.Spotting.{same_spot_self}
 use Rattle.shm_steps.specs.Conditions.{IsHere}
 use Rattle.shm_steps.specs.Raising.{is_read}
 use Rattle.shm_count.specs.declared.answer.UpFault.{UpFault}
 use Rattle.shm_count.specs.declared.point.Aim.{Aim}
 use Rattle.shm_count.specs.declared.point.Aim.TheVariants.{Up, Down, Change}
-use Rattle.shm_count.specs.declared.point.Part.TheVariants.{First, Second}
-use Rattle.shm_count.specs.StepBeginning.{begins_here}
-use Rattle.shm_count.specs.StepControl.{AimFits, AimSmall, IsInside, block_at, last_era, raises, value_after}
-use Rattle.shm_count.specs.StepFits.{CanAim, CanStep, Done, HasPut, StepFits, StepGives, begun_op, closed_memo, set_memo, slot_memo}
-use Rattle.shm_count.specs.StepGoing.{begins}
+use Rattle.shm_count.specs.declared.point.Half.TheVariants.{First, Second}
+use Rattle.shm_count.specs.Step.Beginning.{begins_here}
+use Rattle.shm_count.specs.Step.Control.{AimFits, AimSmall, IsInside, block_at, last_era, raises, value_after}
+use Rattle.shm_count.specs.Step.{CanAim, CanStep, Done, HasPut, StepFits, StepGives, begun_op, closed_memo, set_memo, slot_memo}
+use Rattle.shm_count.specs.Step.Going.{begins}
 use Rattle.shm_steps.proofs.Cores.{room_least}
-use Rattle.shm_count.specs.StepMemos.{closed_part}
+use Rattle.shm_count.specs.Step.Memos.{closed_part}
 use Rattle.shm_count.specs.Roots.{AreRootsReached, member, root_step}
 use Rattle.shm_count.proofs.RootMemos.{StepLeft, up_done, down_done, change_done, left_done, left_refused}
 

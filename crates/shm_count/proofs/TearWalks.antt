@@ -8,7 +8,7 @@ use Rattle.shm_graph.specs.declared.spot.Spot.TheVariants.{Body}
 use Rattle.shm_graph.specs.Events.{Event}
 use Rattle.shm_graph.specs.Events as event
 use Rattle.shm_laws.proofs.Keep.{newest}
-use Rattle.shm_count.specs.TearEvents.{Walk, Freed, Kept, Fell, InOrder, events_of, Visit, Walks, IsTearing, frees_of}
+use Rattle.shm_count.specs.Tear.Events.{Walk, Freed, Kept, Fell, InOrder, events_of, Visit, Walks, IsTearing, frees_of}
 
 -- the block itself is freed last
 walk_last : (c b : ℕ) (x : Walk) → (before : List Event) × (events_of c b x ≡ before ++ event.Free c b ∷ [])

@@ -2,10 +2,10 @@
 use Rattle.std.specs.Prelude.{Bool}
 use Rattle.shm_calls.specs.CallsPart.{calls_part_laws}
 use Rattle.shm_calls.specs.Parts.{PartLaws}
-use Rattle.shm_count.specs.UpRootControl.{rooting_parts}
-use Rattle.shm_count.specs.UpRootFits.{rooting_plan}
-use Rattle.shm_count.specs.UpRootLaws.{rooting_laws}
-use Rattle.shm_count.specs.UpRootPart.{up_root, up_root_part}
+use Rattle.shm_count.specs.UpRoot.Control.{rooting_parts}
+use Rattle.shm_count.specs.UpRoot.{rooting_plan}
+use Rattle.shm_count.specs.UpRoot.Laws.{rooting_laws}
+use Rattle.shm_count.specs.UpRoot.AsPart.{up_root, up_root_part}
 
 pub up_root_laws : (first : Bool) → PartLaws first up_root up_root_part
 up_root_laws first = calls_part_laws rooting_parts rooting_plan rooting_laws first

@@ -23,13 +23,13 @@ use Rattle.shm_steps.proofs.BeginAt.{SlotHas}
 use Rattle.shm_steps.proofs.BeginWords.{own_word_has}
 use Rattle.shm_steps.proofs.PartsSet.{loose_stays}
 use Rattle.shm_steps.proofs.Reaching.{look_reached, home_reached, root_reached}
-use Rattle.shm_steps.proofs.Reparted.{table_mapped}
-use Rattle.shm_steps.proofs.TableWords.{directory_word, tagged_word}
-use Rattle.shm_steps.proofs.Walked.{new_not_home, new_not_value, first_other}
-use Rattle.shm_steps.proofs.Seeking.{learnt_here, learnt_other, words_apart}
+use Rattle.shm_steps.proofs.Partitions.Reparted.{table_mapped}
+use Rattle.shm_steps.proofs.Partitions.Words.{directory_word, tagged_word}
+use Rattle.shm_steps.proofs.Partitions.Walked.{new_not_home, new_not_value, first_other}
+use Rattle.shm_steps.proofs.Partitions.Seeking.{learnt_here, learnt_other, words_apart}
 use Rattle.shm_count.specs.declared.point.Aim.TheVariants.{Up, Change}
-use Rattle.shm_count.specs.StepFits.{CanStep}
-use Rattle.shm_count.specs.StepParts.{Raised, part_after}
+use Rattle.shm_count.specs.Step.{CanStep}
+use Rattle.shm_count.specs.Step.Parts.{Raised, part_after}
 use Rattle.shm_count.specs.TableSteps.{can_fill, can_replace}
 
 -- ---- what a walk found stays so

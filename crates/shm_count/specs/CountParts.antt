@@ -17,27 +17,27 @@ use Rattle.shm_count.specs.declared.point.StepPoint.TheVariants.{Era}
 use Rattle.shm_count.specs.declared.point.StepState.{StepState}
 use Rattle.shm_count.specs.declared.tear_point.TearPoint.TheVariants.{Begin}
 use Rattle.shm_count.specs.declared.tear_point.TearState.{TearState}
-use Rattle.shm_count.specs.StepControl.{StepKnows, step_control}
-use Rattle.shm_count.specs.StepEvents.{step_event, own_events}
-use Rattle.shm_count.specs.StepFits.{CanStep, Gives, StepGives}
-use Rattle.shm_count.specs.StepGoing as steps
-use Rattle.shm_count.specs.StepMachines.{IsUp, IsDown, IsChange, up_answer, up_control, up_told, down_answer, down_control, down_told}
-use Rattle.shm_count.specs.StepTrail.{step_trail}
+use Rattle.shm_count.specs.Step.Control.{StepInRange, step_control}
+use Rattle.shm_count.specs.Step.Events.{step_event, own_events}
+use Rattle.shm_count.specs.Step.{CanStep, Gives, StepGives}
+use Rattle.shm_count.specs.Step.Going as steps
+use Rattle.shm_count.specs.Step.Machines.{IsUp, IsDown, IsChange, up_answer, up_control, up_told, down_answer, down_control, down_told}
+use Rattle.shm_count.specs.Step.Asks.{step_trail}
 use Rattle.shm_count.specs.StepsAt.{UpFitsAt, UpGivesAt, up_laws_at, up_tells_at, up_gave, DownFitsAt, DownGivesAt, down_laws_at, down_tells_at, down_gave, ChangeFitsAt, ChangeGivesAt, change_laws_at, change_tells_at}
-use Rattle.shm_count.specs.TearControl.{TearKnows, tear_control}
-use Rattle.shm_count.specs.TearEvents.{tear_event}
-use Rattle.shm_count.specs.TearFits.{CanTear, TearFits, TearGives, TearLeaves}
-use Rattle.shm_count.specs.TearGoing as tears
-use Rattle.shm_count.specs.TearKeeps.{tear_laws}
-use Rattle.shm_count.specs.TearTells.{tear_tells}
-use Rattle.shm_count.specs.TearTrail.{tear_trail}
+use Rattle.shm_count.specs.Tear.Control.{TearInRange, tear_control}
+use Rattle.shm_count.specs.Tear.Events.{tear_event}
+use Rattle.shm_count.specs.Tear.{CanTear, TearFits, TearGives, TearLeaves}
+use Rattle.shm_count.specs.Tear.Going as tears
+use Rattle.shm_count.specs.Tear.Keeps.{tear_laws}
+use Rattle.shm_count.specs.Tear.Tells.{tear_tells}
+use Rattle.shm_count.specs.Tear.Asks.{tear_trail}
 
 -- ---- count steps at the spot p
 
 -- it is made, and may begin
 pub record IsStep (p : Spot) (m : StepState) (r : Memo) : Type 0 where
   pub made : m.point ≡ Era
-  pub knows : StepKnows m
+  pub knows : StepInRange m
   pub can : CanStep m.me m.slot m.aim p r
 
 -- it is done or nothing is, with the events of its answer; the agent and the status are what they were
@@ -111,9 +111,9 @@ tear_part_laws first =
       asked = λ m rs r t a n g. g.trail;
     }
   where
-    knows : (m : TearState) (r : Memo) → IsTear m r → TearKnows m
+    knows : (m : TearState) (r : Memo) → IsTear m r → TearInRange m
     knows m r n =
         let can = n.can in
         let room = can.room in
         let total = total_small m.me.geometry can.geometry in
-        subst TearKnows (sym n.made) (record { geometry = can.geometry; who = can.who; first = omega arith; block = omega arith; point = tt })
+        subst TearInRange (sym n.made) (record { geometry = can.geometry; who = can.who; first = omega arith; block = omega arith; point = tt })

@@ -16,11 +16,11 @@ use Rattle.shm_steps.specs.Conditions.{IsHere}
 use Rattle.shm_steps.specs.Reparting.{sight, IsKnown, IsValue, TableStep}
 use Rattle.shm_steps.specs.Walking.{IsSeeking, is_looked}
 use Rattle.shm_steps.proofs.Reaching.{look_reached}
-use Rattle.shm_steps.proofs.Seeking.{seek_own}
-use Rattle.shm_steps.proofs.TableWords.{entry_word}
-use Rattle.shm_steps.proofs.Walked.{walk_has, walk_unlinks, walk_replaces, next_other, entry_some, value_some}
+use Rattle.shm_steps.proofs.Partitions.Seeking.{seek_own}
+use Rattle.shm_steps.proofs.Partitions.Words.{entry_word}
+use Rattle.shm_steps.proofs.Partitions.Walked.{walk_has, walk_unlinks, walk_replaces, next_other, entry_some, value_some}
 use Rattle.shm_count.specs.declared.point.Aim.TheVariants.{Down, Change}
-use Rattle.shm_count.specs.StepFits.{CanStep}
+use Rattle.shm_count.specs.Step.{CanStep}
 use Rattle.shm_count.specs.TableSteps.{can_clear, can_replace}
 
 module _ (me : Me) (w : Spot → ℕ) (r : ℕ → Memo) (held : HeldAt me.geometry w (view r)) (who : me.who < me.geometry.clients) (here : IsHere (r me.who)) (idle : (r me.who).op ≡ op.Nothing) (client : recovers (r me.who) ≡ false)

@@ -23,21 +23,21 @@ use Rattle.shm_graph.specs.Ops.{cover, cover_of}
 use Rattle.shm_graph.specs.Reach.{learnt, not_at, shown, is_named, is_reached, is_dying, binds, sifted}
 use Rattle.shm_graph.specs.Stores.{is_of, not_of, with_own, written, stored_on, era_stored}
 use Rattle.shm_graph.specs.Views.{own_word}
-use Rattle.shm_graph.proofs.Loads.{choice}
-use Rattle.shm_graph.proofs.Spotting.{same_spot_not}
+use Rattle.shm_graph.proofs.StepKinds.Loads.{choice}
+use Rattle.shm_graph.proofs.Spots.Spotting.{same_spot_not}
 use Rattle.shm_laws.specs.Steps.{dying_after}
 use Rattle.shm_laws.proofs.Keep.{Contains-filter}
 use Rattle.shm_steps.proofs.MemoCommits.{known_lowered, lowered_is}
 use Rattle.shm_steps.proofs.Sifting.{dying_more}
 use Rattle.shm_count.specs.declared.point.Aim.TheVariants.{Down}
-use Rattle.shm_count.specs.declared.point.Part.TheVariants.{First}
-use Rattle.shm_count.specs.StepControl.{header_after}
+use Rattle.shm_count.specs.declared.point.Half.TheVariants.{First}
+use Rattle.shm_count.specs.Step.Control.{header_after}
 use Rattle.shm_graph.specs.Core.{core}
-use Rattle.shm_count.specs.StepFits.{begun, is_row, AtFirst, slot_memo, closed_memo, Done}
+use Rattle.shm_count.specs.Step.{begun, is_row, AtFirst, slot_memo, closed_memo, Done}
 use Rattle.shm_steps.proofs.Cores.{body_word}
 use Rattle.shm_count.specs.Retaining.{slots_learnt, slots_forgotten, slots_sifted, named_same, named_sifted, value_sifted}
-use Rattle.shm_count.specs.StepParts.{own_stays, rows_grow}
-use Rattle.shm_count.specs.TearMemos.{Knows, IsFound, Lowered, is_slot_word}
+use Rattle.shm_count.specs.Step.Parts.{own_stays, rows_grow}
+use Rattle.shm_count.specs.Tear.Memos.{Knows, IsFound, Lowered, is_slot_word}
 
 -- ---- what is known of a zero-count block stays known
 

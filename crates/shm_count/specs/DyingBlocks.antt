@@ -27,13 +27,13 @@ use Rattle.shm_graph.specs.Held.{HeldAt, IsDying, PartTie, TagSound}
 use Rattle.shm_graph.specs.Tables.{Contents, contents_of, IsChain, IsPartition}
 use Rattle.shm_graph.specs.Chains.{chain_set, part_set}
 use Rattle.shm_graph.specs.Reach.{shown}
-use Rattle.shm_graph.proofs.Counting.{cover_slot, covered_none}
-use Rattle.shm_graph.proofs.Holders.{held_live_block, held_live_not_zero, reach_counted, step_holds, target_counted}
-use Rattle.shm_graph.proofs.HomeTarget.{home_target}
-use Rattle.shm_graph.proofs.Spotting.{block_within, body_spot, in_block, tag_spot, same_spot_not}
+use Rattle.shm_graph.proofs.States.Counting.{cover_slot, covered_none}
+use Rattle.shm_graph.proofs.States.Holders.{held_live_block, held_live_not_zero, reach_counted, step_holds, target_counted}
+use Rattle.shm_graph.proofs.States.HomeTarget.{home_target}
+use Rattle.shm_graph.proofs.Spots.Spotting.{block_within, body_spot, in_block, tag_spot, same_spot_not}
 use Rattle.shm_laws.proofs.Parts.{PartKept, part_kept}
 use Rattle.shm_steps.specs.Raising.{IsReparted}
-use Rattle.shm_count.specs.StepControl.{IsInside}
+use Rattle.shm_count.specs.Step.Control.{IsInside}
 
 -- ---- chains without a block
 

@@ -18,10 +18,10 @@ use Rattle.shm_calls.specs.Parts.{IsHeld}
 use Rattle.shm_count.specs.declared.answer.EraSpent.{EraSpent}
 use Rattle.shm_count.specs.Retaining.{held_counted, named_stays}
 use Rattle.shm_count.specs.Roots.{rest}
-use Rattle.shm_count.specs.SlotLeaves.{Lost, Sifts, Took, emptied, known_at}
-use Rattle.shm_count.specs.TearEvents.{Visit}
-use Rattle.shm_count.specs.TearFits.{TearLeaves, is_outside}
-use Rattle.shm_count.specs.TearMemos.{Knows, Retains, Stays, is_slot_word}
+use Rattle.shm_count.specs.Slots.{Lost, Sifts, Took, emptied, known_at}
+use Rattle.shm_count.specs.Tear.Events.{Visit}
+use Rattle.shm_count.specs.Tear.{TearLeaves, is_outside}
+use Rattle.shm_count.specs.Tear.Memos.{Knows, Retains, TearStays, is_slot_word}
 
 -- the own era left no room for a step down: these blocks joined the zero-count blocks, and are still there
 pub record StoppedAt (me : Me) (m r : Memo) (era : ℕ) (vs : List Visit) : Type 0 where
@@ -43,7 +43,7 @@ without_new t (d ∷ ds) n =
     ∙ ap (λ y. d ∷ y) (without_new t ds (λ h. n (Contains-append_right (d ∷ []) ds t h)))
 
 -- a tear-down leaves the rest
-pub stays_rest : (c : ℕ) (m r : Memo) → Stays c m r → rest r ≡ rest m
+pub stays_rest : (c : ℕ) (m r : Memo) → TearStays c m r → rest r ≡ rest m
 stays_rest c m r s = ap rest s.rest
 
 module _ (me : Me) (p : Spot) (h : Bool) (t x : ℕ) (m q r : Memo) (l : me.who < me.geometry.clients) (held : IsHeld me q) (lost : Lost me.who p h t x true m q) where
@@ -56,7 +56,7 @@ module _ (me : Me) (p : Spot) (h : Bool) (t x : ℕ) (m q r : Memo) (l : me.who 
   torn_leaves counted ds tr a y = go a y
     where
       -- but for the zero-count blocks the tear-down leaves what the step left
-      took_torn : Stays me.who q r → Retains me.who q r → Took me.who p h t x false m r
+      took_torn : TearStays me.who q r → Retains me.who q r → Took me.who p h t x false m r
       took_torn s n =
           let c = me.who in
           let k = lost.took.sifts in

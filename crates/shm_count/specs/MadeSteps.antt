@@ -18,7 +18,7 @@ use Rattle.shm_graph.specs.Held.{HeldAt, MadeAt}
 use Rattle.shm_graph.specs.Laws.{Outcome, framed}
 use Rattle.shm_graph.specs.Spots.{spot_at}
 use Rattle.shm_graph.specs.Views.{targets, view}
-use Rattle.shm_graph.proofs.Loads.{choice}
+use Rattle.shm_graph.proofs.StepKinds.Loads.{choice}
 use Rattle.shm_calls.specs.CallTells.{mapped_events}
 use Rattle.shm_calls.specs.MadeStays.{making_laws, making_part, touches}
 use Rattle.shm_calls.specs.Parts.{Part, PartLaws}
@@ -28,21 +28,21 @@ use Rattle.shm_count.specs.declared.answer.UpFault.{UpFault}
 use Rattle.shm_count.specs.declared.answer.UpFault.TheVariants.{EraSpent, CountFull}
 use Rattle.shm_count.specs.declared.point.Aim.{Aim}
 use Rattle.shm_count.specs.declared.point.Aim.TheVariants.{Up, Down, Change}
-use Rattle.shm_count.specs.declared.point.Part.{Part as Half}
-use Rattle.shm_count.specs.declared.point.Part.TheVariants.{First, Second}
+use Rattle.shm_count.specs.declared.point.Half.{Half}
+use Rattle.shm_count.specs.declared.point.Half.TheVariants.{First, Second}
 use Rattle.shm_count.specs.declared.point.StepPoint.{StepPoint}
 use Rattle.shm_count.specs.declared.point.StepPoint.TheVariants as point
 use Rattle.shm_count.specs.declared.point.StepState.{StepState}
-use Rattle.shm_count.specs.declared.point.Next.{Next}
-use Rattle.shm_count.specs.declared.point.Next.TheVariants.{Point, Answer}
+use Rattle.shm_count.specs.declared.point.StepNext.{StepNext}
+use Rattle.shm_count.specs.declared.point.StepNext.TheVariants.{Point, Answer}
 use Rattle.shm_count.specs.declared.tear_point.TearState.{TearState}
-use Rattle.shm_count.specs.StepControl.{PointFits, answer_of, block_at, committed_next, header_next, last_era, raises, step_ask, step_ask_at, step_control, step_next, step_next_at}
-use Rattle.shm_count.specs.StepEvents.{events_at, step_event, step_start}
-use Rattle.shm_count.specs.StepFits.{CanStep, PointHas}
-use Rattle.shm_count.specs.StepHeaders.{half_block}
-use Rattle.shm_count.specs.StepMachines.{is_up, up_answer, up_control, down_control}
-use Rattle.shm_count.specs.TearControl.{tear_control}
-use Rattle.shm_count.specs.TearEvents.{tear_start}
+use Rattle.shm_count.specs.Step.Control.{PointFits, answer_of, block_at, committed_next, header_next, last_era, raises, step_ask, step_ask_at, step_control, step_next, step_next_at}
+use Rattle.shm_count.specs.Step.Events.{events_at, step_event, step_start}
+use Rattle.shm_count.specs.Step.{CanStep, PointHas}
+use Rattle.shm_count.specs.Step.Headers.{half_block}
+use Rattle.shm_count.specs.Step.Machines.{is_up, up_answer, up_control, down_control}
+use Rattle.shm_count.specs.Tear.Control.{tear_control}
+use Rattle.shm_count.specs.Tear.Events.{tear_start}
 use Rattle.shm_count.specs.CountParts.{change_part, change_part_laws, down_part, down_part_laws, tear_part, tear_part_laws, up_part, up_part_laws}
 
 -- ---- what stays of the blocks that the call made
@@ -85,10 +85,10 @@ IsNotFull a = Unit {0}
 -- by a header that shows count 1
 header_not : (me : Me) (x : Aim) (e : ℕ) (h : Half) (w d k : ℕ) → (header_of w).count ≡ 1 → header_next me x e h w ≡ Answer (Err (CountFull d k)) → ⊥
 header_not me x e h w d k one =
-    choice (λ (y : Next). y ≡ Answer (Err (CountFull d k)) → ⊥) (raises x h && eqb (header_of w).count 1023) (Answer (Err (CountFull (block_at x h) (header_of w).count)))
+    choice (λ (y : StepNext). y ≡ Answer (Err (CountFull d k)) → ⊥) (raises x h && eqb (header_of w).count 1023) (Answer (Err (CountFull (block_at x h) (header_of w).count)))
     (if (header_of w).client == me.who then Point (point.Exchange e h w) else Point (point.Row e h w))
     (λ z _. let full : (header_of w).count ≡ 1023 = eqb-true (header_of w).count 1023 (and_parts (raises x h) (eqb (header_of w).count 1023) z).1 in absurd (omega arith))
-    (λ _. choice (λ (y : Next). y ≡ Answer (Err (CountFull d k)) → ⊥) (eqb (header_of w).client me.who) (Point (point.Exchange e h w)) (Point (point.Row e h w)) (λ _ u. cc) (λ _ u. cc))
+    (λ _. choice (λ (y : StepNext). y ≡ Answer (Err (CountFull d k)) → ⊥) (eqb (header_of w).client me.who) (Point (point.Exchange e h w)) (Point (point.Row e h w)) (λ _ u. cc) (λ _ u. cc))
 
 module _ (me : Me) (slot : ℕ) (p : Spot) (r0 : Memo) (w : Spot → ℕ) (r : ℕ → Memo) (held : HeldAt me.geometry w (view r)) (l : me.who < me.geometry.clients) where
   -- the word that is found at a point
@@ -101,17 +101,17 @@ module _ (me : Me) (slot : ℕ) (p : Spot) (r0 : Memo) (w : Spot → ℕ) (r : �
 
   not_full : (b : ℕ) (y : StepPoint) (d k : ℕ) → CanStep me slot (Up b) p r0 → PointFits me (Up b) y → PointHas me slot (Up b) p r0 (r me.who) y → (list_any (touches b) (events_at me (Up b) p y) ≡ false → Contains (r me.who).made b) → step_next_at me (Up b) y (seen (Up b) y) ≡ Answer (Err (CountFull d k)) → ⊥
   not_full b point.Era d k can fits has made leads =
-      choice (λ (y : Next). y ≡ Answer (Err (CountFull d k)) → ⊥) (ltb (last_era (Up b)) (seen (Up b) point.Era)) (Answer (Err (EraSpent (seen (Up b) point.Era)))) (Point (point.Redo (seen (Up b) point.Era))) (λ _ u. cc) (λ _ u. cc) leads
+      choice (λ (y : StepNext). y ≡ Answer (Err (CountFull d k)) → ⊥) (ltb (last_era (Up b)) (seen (Up b) point.Era)) (Answer (Err (EraSpent (seen (Up b) point.Era)))) (Point (point.Redo (seen (Up b) point.Era))) (λ _ u. cc) (λ _ u. cc) leads
   not_full b (point.Redo e) d k can fits has made leads = cc
   not_full b (point.Load e First) d k can fits has made leads =
       header_not me (Up b) e First (seen (Up b) (point.Load e First)) d k (one_at b (half_block me slot p r0 w r e held l (Up b) First can fits.0 fits.1 has) (made refl)) leads
   not_full b (point.Load e Second) d k can fits has made leads = absurd fits.1
   not_full b (point.Row e h v) d k can fits has made leads =
-      choice (λ (y : Next). y ≡ Answer (Err (CountFull d k)) → ⊥) (ltb (seen (Up b) (point.Row e h v)) (header_of v).era) (Point (point.Show e h v)) (Point (point.Exchange e h v)) (λ _ u. cc) (λ _ u. cc) leads
+      choice (λ (y : StepNext). y ≡ Answer (Err (CountFull d k)) → ⊥) (ltb (seen (Up b) (point.Row e h v)) (header_of v).era) (Point (point.Show e h v)) (Point (point.Exchange e h v)) (λ _ u. cc) (λ _ u. cc) leads
   not_full b (point.Show e h v) d k can fits has made leads = cc
   not_full b (point.Exchange e First v) d k can fits has made leads =
       let n : ℕ = seen (Up b) (point.Exchange e First v) in
-      choice (λ (y : Next). y ≡ Answer (Err (CountFull d k)) → ⊥) (eqb n v) (committed_next (Up b) e First v) (header_next me (Up b) e First n) (λ _ u. cc)
+      choice (λ (y : StepNext). y ≡ Answer (Err (CountFull d k)) → ⊥) (eqb n v) (committed_next (Up b) e First v) (header_next me (Up b) e First n) (λ _ u. cc)
       (λ _. header_not me (Up b) e First n d k (one_at b (half_block me slot p r0 w r e held l (Up b) First can fits.0 fits.1 has.0) (made refl))) leads
   not_full b (point.Exchange e Second v) d k can fits has made leads = absurd fits.1
   not_full b (point.Slot e z) d k can fits has made leads = cc
@@ -159,7 +159,7 @@ module _ (p : Spot) where
             (λ d k e. up_not_full me m.slot p r0 w r s.held s.who m.aim m.point d k fit.0.0.0 step.can step.knows.point step.holds.has made e) fit.1 kept.fits;
       }
     where
-      go : {C : Type 0} (y : Next) (P : Type 0) (Q : Result (Unit {0}) UpFault → Type 0) → ((d k : ℕ) → y ≡ Answer (Err (CountFull d k)) → ⊥) → C
+      go : {C : Type 0} (y : StepNext) (P : Type 0) (Q : Result (Unit {0}) UpFault → Type 0) → ((d k : ℕ) → y ≡ Answer (Err (CountFull d k)) → ⊥) → C
           → Outcome (option_map up_answer (answer_of y)) P Q → Outcome (option_map up_answer (answer_of y)) (P × C) (λ a. Q a × IsNotFull a)
       go (Point y) P Q never c h = (h, c)
       go (Answer (Ok z)) P Q never c h = (h, tt)

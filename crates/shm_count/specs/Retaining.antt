@@ -17,15 +17,15 @@ use Rattle.shm_graph.specs.Ops.{cover, cover_of}
 use Rattle.shm_graph.specs.Reach.{learnt, not_at, shown, in_slot, in_slots, not_zero, named_blocks, roots_below, is_named, is_reached, is_dying, binds, sifted}
 use Rattle.shm_graph.specs.Stores.{is_of, not_of}
 use Rattle.shm_graph.specs.Views.{view, own_word}
-use Rattle.shm_graph.proofs.Holders.{reach_counted}
-use Rattle.shm_graph.proofs.Loads.{choice}
-use Rattle.shm_graph.proofs.Reached.{named_here}
-use Rattle.shm_graph.proofs.Spotting.{same_spot_not}
+use Rattle.shm_graph.proofs.States.Holders.{reach_counted}
+use Rattle.shm_graph.proofs.StepKinds.Loads.{choice}
+use Rattle.shm_graph.proofs.States.Reached.{named_here}
+use Rattle.shm_graph.proofs.Spots.Spotting.{same_spot_not}
 use Rattle.shm_laws.proofs.Keep.{Contains-filter}
 use Rattle.shm_count.specs.DyingBlocks.{dying_header}
 use Rattle.shm_graph.specs.Core.{core}
 use Rattle.shm_steps.proofs.Cores.{roots_same}
-use Rattle.shm_count.specs.TearMemos.{Stays, Knows, Retains, is_slot_word, Remains}
+use Rattle.shm_count.specs.Tear.Memos.{TearStays, Knows, Retains, is_slot_word, Remains}
 use Rattle.shm_calls.specs.Parts.{IsHeld}
 use Rattle.shm_graph.specs.declared.ask.Me.{Me}
 
@@ -86,7 +86,7 @@ named_same c m n b roots home slots =
     ∙ (ap (λ y. list_any (eqb b) (filter not_zero (roots_below c m 16 ++ y ∷ in_slots n.known))) home
     ∙ ap (λ ys. list_any (eqb b) (filter not_zero (roots_below c m 16 ++ shown m (Home c) ∷ ys))) (sym (slots_in n.known) ∙ (ap in_slots slots ∙ slots_in m.known)))
 
-pub named_stays : (c : ℕ) (m n : Memo) (b : ℕ) → Stays c m n → filter is_slot_word n.known ≡ filter is_slot_word m.known → is_named c n b ≡ is_named c m b
+pub named_stays : (c : ℕ) (m n : Memo) (b : ℕ) → TearStays c m n → filter is_slot_word n.known ≡ filter is_slot_word m.known → is_named c n b ≡ is_named c m b
 named_stays c m n b s slots = named_same c m n b (λ k. word (Root c k) (s.own (Root c k) refl)) (word (Home c) (s.own (Home c) refl)) slots
   where
     word : (p : Spot) → own_word n.own p ≡ own_word m.own p → shown n p ≡ shown m p
@@ -119,7 +119,7 @@ named_counted g w r c b d h l e dies same =
 pub retains_now : (c : ℕ) (m : Memo) → Retains c m m
 retains_now c m = record { looks = inl refl; slots = refl; words = λ b p x e o k. k; values = λ b e k. k }
 
-pub retains_then : (c : ℕ) (m n r : Memo) → Stays c m n → Retains c m n → Retains c n r → Retains c m r
+pub retains_then : (c : ℕ) (m n r : Memo) → TearStays c m n → Retains c m n → Retains c n r → Retains c m r
 retains_then c m n r s x y =
     record {
       looks = elim y.looks [ inl e ↦ elim x.looks [ inl u ↦ inl (e ∙ u) | inr z ↦ inr (e ∙ z) ] | inr z ↦ inr z ];
@@ -150,7 +150,7 @@ remains_core c m r e =
       values = λ b l k. subst (λ (vs : List ℕ). Contains vs b) (sym (ap (λ (x : Memo). x.values) e)) k;
     }
 
-pub remains_then : (c : ℕ) (m n r : Memo) → Remains c m n → Stays c n r → Retains c n r → Remains c m r
+pub remains_then : (c : ℕ) (m n r : Memo) → Remains c m n → TearStays c n r → Retains c n r → Remains c m r
 remains_then c m n r x s y =
     let same : (b : ℕ) → is_named c r b ≡ true → is_named c n b ≡ true = λ b e. sym (named_stays c n r b s y.slots) ∙ e in
     record {

@@ -18,7 +18,7 @@ use Rattle.shm_count.specs.declared.point.StepPoint.TheVariants.{Era}
 use Rattle.shm_count.specs.declared.point.StepState.{StepState}
 use Rattle.shm_count.specs.declared.tear_point.TearPoint.TheVariants.{Begin}
 use Rattle.shm_count.specs.declared.tear_point.TearState.{TearState}
-use Rattle.shm_count.specs.TearMemos.{is_lasting, is_slot_word, Knows}
+use Rattle.shm_count.specs.Tear.Memos.{is_lasting, is_slot_word, Knows}
 
 -- the identity c of a pool of these sizes
 abbrev pub member : Geometry → ℕ → Me

@@ -10,13 +10,13 @@ use Rattle.shm_graph.specs.Tells.{Tells}
 use Rattle.shm_count.specs.declared.answer.EraSpent.{EraSpent}
 use Rattle.shm_count.specs.declared.answer.UpFault.{UpFault}
 use Rattle.shm_count.specs.declared.point.StepState.{StepState}
-use Rattle.shm_count.specs.StepControl.{step_control}
-use Rattle.shm_count.specs.StepEvents.{step_event}
-use Rattle.shm_count.specs.StepFits.{StepFits, StepGives}
-use Rattle.shm_count.specs.StepKeeps.{step_keeps}
-use Rattle.shm_count.specs.StepLaws.{step_steady, step_inside, step_back}
-use Rattle.shm_count.specs.StepMachines.{IsUp, IsDown, IsChange, up_answer, down_answer, up_control, down_control, up_told, down_told, up_same, down_same}
-use Rattle.shm_count.specs.StepTells.{step_tells}
+use Rattle.shm_count.specs.Step.Control.{step_control}
+use Rattle.shm_count.specs.Step.Events.{step_event}
+use Rattle.shm_count.specs.Step.{StepFits, StepGives}
+use Rattle.shm_count.specs.Step.Keeps.{step_keeps}
+use Rattle.shm_count.specs.Step.Laws.{step_steady, step_inside, step_back}
+use Rattle.shm_count.specs.Step.Machines.{IsUp, IsDown, IsChange, up_answer, down_answer, up_control, down_control, up_told, down_told, up_same, down_same}
+use Rattle.shm_count.specs.Step.Tells.{step_tells}
 
 module _ (p : Spot) where
   step_laws : Laws step_control (StepFits p) (StepGives p)

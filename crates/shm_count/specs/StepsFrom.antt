@@ -8,23 +8,23 @@ use Rattle.shm_graph.specs.Asks.{Trail, pair}
 use Rattle.shm_graph.specs.Events.{Event}
 use Rattle.shm_graph.specs.Laws.{Outcome, Then}
 use Rattle.shm_graph.specs.Tells.{after_all, happens_along, is_event}
-use Rattle.shm_graph.proofs.TellsAlong.{after_all-append, happens_along-append}
+use Rattle.shm_graph.proofs.Machines.TellsAlong.{after_all-append, happens_along-append}
 use Rattle.shm_calls.specs.Parts.{Part, PartLaws}
 use Rattle.shm_calls.specs.Placed.{PlacedKeeps}
 use Rattle.shm_count.specs.declared.answer.UpFault.{UpFault}
 use Rattle.shm_count.specs.declared.point.StepPoint.{StepPoint}
 use Rattle.shm_count.specs.declared.point.StepState.{StepState}
-use Rattle.shm_count.specs.declared.point.Next.{Next}
-use Rattle.shm_count.specs.declared.point.Next.TheVariants.{Point, Answer}
-use Rattle.shm_count.specs.StepControl.{StepKnows, step_ask, step_control, step_next, point_of, answer_of}
-use Rattle.shm_count.specs.StepEvents.{events_at, own_events, step_event}
-use Rattle.shm_count.specs.StepFits.{CanStep, Gives, NextHolds, PointHolds}
-use Rattle.shm_count.specs.StepGoing.{Told, events_with, has_part, told_next, trail_ends, trail_goes}
-use Rattle.shm_count.specs.StepKeeps.{step_at}
-use Rattle.shm_count.specs.StepKnowing.{knows_after}
-use Rattle.shm_count.specs.StepLaws.{ask_inside, step_steady}
-use Rattle.shm_count.specs.StepTells.{tells_at}
-use Rattle.shm_count.specs.StepTrail.{point_trail}
+use Rattle.shm_count.specs.declared.point.StepNext.{StepNext}
+use Rattle.shm_count.specs.declared.point.StepNext.TheVariants.{Point, Answer}
+use Rattle.shm_count.specs.Step.Control.{StepInRange, step_ask, step_control, step_next, point_of, answer_of}
+use Rattle.shm_count.specs.Step.Events.{events_at, own_events, step_event}
+use Rattle.shm_count.specs.Step.{CanStep, Gives, NextHolds, PointHolds}
+use Rattle.shm_count.specs.Step.Going.{Told, events_with, has_part, told_next, trail_ends, trail_goes}
+use Rattle.shm_count.specs.Step.Keeps.{step_at}
+use Rattle.shm_count.specs.Step.Ranges.{knows_after}
+use Rattle.shm_count.specs.Step.Laws.{ask_inside, step_steady}
+use Rattle.shm_count.specs.Step.Tells.{tells_at}
+use Rattle.shm_count.specs.Step.Asks.{point_trail}
 
 module _ (p : Spot) (y0 : StepPoint) where
   -- the step at the point where it is taken up
@@ -39,7 +39,7 @@ module _ (p : Spot) (y0 : StepPoint) where
   pub record FitsFrom (m : StepState) (rs r : Memo) (tr : Trail) : Type 0 where
     pub r0 : Memo
     pub came : CameTo m r0 rs
-    pub knows : StepKnows m
+    pub knows : StepInRange m
     pub holds : PointHolds m.me m.slot m.aim p r0 r m.point
     pub trail : (rest : Trail) (a : Result Bool UpFault) → point_trail m.me m.slot m.aim m.point rest a → point_trail m.me m.slot m.aim y0 (tr ++ rest) a
     pub course : after_all step_control (from m) tr ≡ m
@@ -61,14 +61,14 @@ module _ (p : Spot) (y0 : StepPoint) where
       ap (λ e. events_at m.me m.aim p y0 ++ e) (happens_along-append step_control (step_event p) (from m) tr (pair (step_ask m) n) ∙ ap (λ x. es ++ one x) fit.course)
       ∙ (sym (append_assoc (events_at m.me m.aim p y0) es (one m)) ∙ ap (λ e. e ++ one m) fit.events)
 
-  told_on : (m : StepState) (rs r : Memo) (tr : Trail) (n : ℕ) (y : Next) → FitsFrom m rs r tr → step_next m n ≡ y → Told m.me m.aim p y (events_at m.me m.aim p y0 ++ happens_along step_control (step_event p) (from m) (tr ++ pair (step_ask m) n ∷ []))
+  told_on : (m : StepState) (rs r : Memo) (tr : Trail) (n : ℕ) (y : StepNext) → FitsFrom m rs r tr → step_next m n ≡ y → Told m.me m.aim p y (events_at m.me m.aim p y0 ++ happens_along step_control (step_event p) (from m) (tr ++ pair (step_ask m) n ∷ []))
   told_on m rs r tr n y fit e =
-      subst (Told m.me m.aim p y) (sym (told_more m rs r tr n fit)) (subst (λ (z : Next). Told m.me m.aim p z (events_with m.me m.aim p m.point n)) e (told_next m.me m.aim p m.point n (has_part m.me m.aim m.point fit.knows.point)))
+      subst (Told m.me m.aim p y) (sym (told_more m rs r tr n fit)) (subst (λ (z : StepNext). Told m.me m.aim p z (events_with m.me m.aim p m.point n)) e (told_next m.me m.aim p m.point n (has_part m.me m.aim m.point fit.knows.point)))
 
   then_from : (m : StepState) (rs r x : Memo) (tr : Trail) (n : ℕ) (fit : FitsFrom m rs r tr) → NextHolds m.me m.slot m.aim p fit.r0 x (step_next m n) → Then step_control FitsFrom GivesFrom m rs tr n x
   then_from m rs r x tr n fit h = go (step_next m n) refl h
     where
-      go : (y : Next) → step_next m n ≡ y → NextHolds m.me m.slot m.aim p fit.r0 x y
+      go : (y : StepNext) → step_next m n ≡ y → NextHolds m.me m.slot m.aim p fit.r0 x y
           → Outcome (answer_of y) (FitsFrom (record m { point = point_of y }) rs x (tr ++ pair (step_ask m) n ∷ [])) (GivesFrom m rs x (tr ++ pair (step_ask m) n ∷ []))
       go (Point y) e z =
           record {
@@ -77,7 +77,7 @@ module _ (p : Spot) (y0 : StepPoint) where
             knows = knows_after m n fit.knows y e;
             holds = z;
             trail = λ rest a t. subst (λ (u : Trail). point_trail m.me m.slot m.aim y0 u a) (sym (append_assoc tr (pair (step_ask m) n ∷ []) rest)) (fit.trail (pair (step_ask m) n ∷ rest) a (trail_goes m.me m.slot m.aim m.point y n fit.knows.point e rest a t));
-            course = after_all-append step_control (from m) tr (pair (step_ask m) n) ∙ (ap (λ (u : StepState). step_control.after u n) fit.course ∙ ap (λ (u : Next). record m { point = point_of u }) e);
+            course = after_all-append step_control (from m) tr (pair (step_ask m) n) ∙ (ap (λ (u : StepState). step_control.after u n) fit.course ∙ ap (λ (u : StepNext). record m { point = point_of u }) e);
             events = told_on m rs r tr n (Point y) fit e;
           }
       go (Answer a) e z =
@@ -97,7 +97,7 @@ module _ (p : Spot) (y0 : StepPoint) where
   -- what it needs: it is made at the point, and the memo is that of a step that came to it
   pub record IsFrom (m : StepState) (r : Memo) : Type 0 where
     pub made : m.point ≡ y0
-    pub knows : StepKnows m
+    pub knows : StepInRange m
     pub r0 : Memo
     pub came : CameTo m r0 r
 

@@ -14,9 +14,9 @@ use Rattle.shm_graph.specs.Held.{HeldAt}
 use Rattle.shm_graph.specs.Reach.{is_reached}
 use Rattle.shm_graph.specs.Spots.{spot_address}
 use Rattle.shm_graph.specs.Views.{view, own_word}
-use Rattle.shm_graph.proofs.Holders.{reach_counted, target_counted}
-use Rattle.shm_graph.proofs.Reached.{reached_here}
-use Rattle.shm_graph.proofs.Spotting.{in_pool}
+use Rattle.shm_graph.proofs.States.Holders.{reach_counted, target_counted}
+use Rattle.shm_graph.proofs.States.Reached.{reached_here}
+use Rattle.shm_graph.proofs.Spots.Spotting.{in_pool}
 use Rattle.shm_steps.specs.Beginning.{IsOwnWord}
 use Rattle.shm_steps.specs.Conditions.{IsHere}
 use Rattle.shm_steps.specs.Reparting.{sight, TableStep}
@@ -24,8 +24,8 @@ use Rattle.shm_steps.proofs.BeginAt.{SlotHas, word_target}
 use Rattle.shm_steps.proofs.BeginSlots.{home_has}
 use Rattle.shm_steps.proofs.BeginWords.{own_word_has, word_address}
 use Rattle.shm_count.specs.declared.point.Aim.TheVariants.{Up, Down, Change}
-use Rattle.shm_count.specs.StepControl.{IsInside}
-use Rattle.shm_count.specs.StepFits.{CanStep}
+use Rattle.shm_count.specs.Step.Control.{IsInside}
+use Rattle.shm_count.specs.Step.{CanStep}
 use Rattle.shm_count.specs.DyingBlocks.{live_room}
 
 module _ (me : Me) (w : Spot → ℕ) (r : ℕ → Memo) (held : HeldAt me.geometry w (view r)) (who : me.who < me.geometry.clients) (here : IsHere (r me.who)) (idle : (r me.who).op ≡ op.Nothing) where

@@ -1,7 +1,7 @@
 //! What count steps and tear-downs answer.
 
 ghost use Rattle.std.specs.Prelude.{◌≡◌};
-ghost use Rattle.shm_count.specs.StepControl as control;
+ghost use Rattle.shm_count.specs.Step.Control as control;
 
 /// The own era leaves no room for another count step; `era` is the own era that was read.
 #[derive(Clone, Copy, Debug, PartialEq, Eq, Drop)]

@@ -8,13 +8,13 @@ ghost use Rattle.shm_graph.specs.Bounds.{tear_steps};
 ghost use Rattle.shm_count.specs.declared.answer.EraSpent.{EraSpent as ASpent};
 ghost use Rattle.shm_count.specs.declared.answer.UpFault.{UpFault as AFault};
 ghost use Rattle.shm_count.specs.declared.point.StepState.{StepState as AState};
-ghost use Rattle.shm_count.specs.StepFits.{StepGives};
+ghost use Rattle.shm_count.specs.Step.{StepGives};
 ghost use Rattle.shm_graph.specs.Tells.{happens_along};
 ghost use Rattle.shm_count.specs.declared.tear_point.TearState.{TearState as ATearState};
-ghost use Rattle.shm_count.specs.StepTrail.{steps_of};
-ghost use Rattle.shm_count.specs.TearControl.{tear_control};
-ghost use Rattle.shm_count.specs.TearEvents.{Visit, frees, tear_event, tear_start};
-ghost use Rattle.shm_count.specs.TearFits.{TearGives, TornPartly};
+ghost use Rattle.shm_count.specs.Step.Asks.{steps_of};
+ghost use Rattle.shm_count.specs.Tear.Control.{tear_control};
+ghost use Rattle.shm_count.specs.Tear.Events.{Visit, frees, tear_event, tear_start};
+ghost use Rattle.shm_count.specs.Tear.{TearGives, TornPartly};
 
 /// Whatever a count step answers, it took at most 8 word steps, a change at most 13, and three more for each exchange that failed.
 pub fn step_bound()

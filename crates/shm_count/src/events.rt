@@ -16,25 +16,25 @@ ghost use Rattle.shm_count.specs.declared.answer.EraSpent.{EraSpent as ASpent};
 ghost use Rattle.shm_count.specs.declared.answer.UpFault.{UpFault as AFault};
 ghost use Rattle.shm_count.specs.Calling.{IsCall, happened_in};
 ghost use Rattle.shm_count.specs.CountParts.{IsStep, IsTear};
-ghost use Rattle.shm_count.specs.StepMachines.{IsUp, IsDown, IsChange, up_control, down_control, up_told, down_told};
+ghost use Rattle.shm_count.specs.Step.Machines.{IsUp, IsDown, IsChange, up_control, down_control, up_told, down_told};
 ghost use Rattle.shm_count.specs.StepsAt.{UpGivesAt, DownGivesAt, ChangeGivesAt};
 ghost use Rattle.shm_count.specs.declared.point.StepPoint.TheVariants.{Era};
 ghost use Rattle.shm_count.specs.declared.point.StepState.{StepState as AState};
 ghost use Rattle.shm_count.specs.declared.tear_point.TearPoint.TheVariants.{Begin};
 ghost use Rattle.shm_count.specs.declared.tear_point.TearState.{TearState as ATear};
 ghost use Rattle.shm_calls.specs.Deciding.{Decides};
-ghost use Rattle.shm_count.specs.StepControl.{step_control, StepKnows};
-ghost use Rattle.shm_count.specs.StepExchanged.{step_exchanged, step_exchanging};
-ghost use Rattle.shm_count.specs.StepEvents.{step_event, own_events};
-ghost use Rattle.shm_count.specs.StepFits.{StepFits, CanStep};
-ghost use Rattle.shm_count.specs.TearControl.{tear_control, TearKnows};
-ghost use Rattle.shm_count.specs.TearEvents.{tear_event, Visit, Walk, InOrder, events_of, IsTearing, frees_of};
-ghost use Rattle.shm_count.specs.TearFits.{TearFits, TearGives, TearLeaves, CanTear};
+ghost use Rattle.shm_count.specs.Step.Control.{step_control, StepInRange};
+ghost use Rattle.shm_count.specs.Step.Exchanged.{step_exchanged, step_exchanging};
+ghost use Rattle.shm_count.specs.Step.Events.{step_event, own_events};
+ghost use Rattle.shm_count.specs.Step.{StepFits, CanStep};
+ghost use Rattle.shm_count.specs.Tear.Control.{tear_control, TearInRange};
+ghost use Rattle.shm_count.specs.Tear.Events.{tear_event, Visit, Walk, InOrder, events_of, IsTearing, frees_of};
+ghost use Rattle.shm_count.specs.Tear.{TearFits, TearGives, TearLeaves, CanTear};
 
 /// A count step that has just been made fits each memo that shows its slot to be the identity's, holding what the step needs there,
 /// and a block that is to be raised to be in reach.
 pub fn step_begins()
-    ensures { (p : ASpot) (m : AState) (r : AMemo) → m.point ≡ Era → StepKnows m → CanStep m.me m.slot m.aim p r → StepFits p m r r [] }
+    ensures { (p : ASpot) (m : AState) (r : AMemo) → m.point ≡ Era → StepInRange m → CanStep m.me m.slot m.aim p r → StepFits p m r r [] }
 {}
 
 /// The event of each word step of a count step is the one that it tells: an exchange of the header that finds it is the half of the
@@ -45,7 +45,7 @@ pub fn step_events()
 
 /// A tear-down that has just been made fits each memo that has its block among its zero-count blocks, with no step in progress.
 pub fn tear_begins()
-    ensures { (m : ATear) (r : AMemo) → m.point ≡ Begin → m.block ≡ m.first → TearKnows m → CanTear m.me m.first r → TearFits m r r [] }
+    ensures { (m : ATear) (r : AMemo) → m.point ≡ Begin → m.block ≡ m.first → TearInRange m → CanTear m.me m.first r → TearFits m r r [] }
 {}
 
 /// The event of each word step of a tear-down is the one that it tells: those of its steps down, and the freeing of a block by the

@@ -16,18 +16,18 @@ ghost use Rattle.shm_count.specs.declared.answer.EraSpent.{EraSpent as ASpent};
 ghost use Rattle.shm_count.specs.declared.answer.UpFault.{UpFault as AFault};
 ghost use Rattle.shm_count.specs.declared.answer.UpFault.TheVariants.{EraSpent, CountFull};
 ghost use Rattle.shm_count.specs.declared.point.Aim.TheVariants.{Down};
-ghost use Rattle.shm_count.specs.declared.point.Part.TheVariants.{First};
+ghost use Rattle.shm_count.specs.declared.point.Half.TheVariants.{First};
 ghost use Rattle.shm_count.specs.declared.point.StepState.{StepState as AState};
 ghost use Rattle.shm_count.specs.declared.tear_point.TearState.{TearState as ATearState};
 ghost use Rattle.shm_count.specs.MadeSteps.{change_making, down_making, made_up_part, tear_making, up_making};
 ghost use Rattle.shm_count.specs.Refusing.{ReadsCount};
-ghost use Rattle.shm_count.specs.StepControl.{last_era, block_at, raises};
-ghost use Rattle.shm_count.specs.StepFits.{StepGives};
-ghost use Rattle.shm_count.specs.StepControl.{step_control};
-ghost use Rattle.shm_count.specs.StepMachines.{down_control, up_control};
-ghost use Rattle.shm_count.specs.TearControl.{tear_control};
-ghost use Rattle.shm_count.specs.TearFits.{TearGives};
-ghost use Rattle.shm_count.specs.TearMemos.{Knows, Retains, is_lasting};
+ghost use Rattle.shm_count.specs.Step.Control.{last_era, block_at, raises};
+ghost use Rattle.shm_count.specs.Step.{StepGives};
+ghost use Rattle.shm_count.specs.Step.Control.{step_control};
+ghost use Rattle.shm_count.specs.Step.Machines.{down_control, up_control};
+ghost use Rattle.shm_count.specs.Tear.Control.{tear_control};
+ghost use Rattle.shm_count.specs.Tear.{TearGives};
+ghost use Rattle.shm_count.specs.Tear.Memos.{Knows, Retains, is_lasting};
 
 /// Whatever a count step answers, the status and the agent are what they were, and what was read of tails and heads stays.
 pub fn step_lasts()

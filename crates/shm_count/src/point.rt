@@ -5,9 +5,9 @@ ghost use Rattle.shm_words.specs.Layout.{GeometryFits};
 ghost use Rattle.shm_words.specs.Headers.{header_of};
 ghost use Rattle.shm_words.specs.Redos.{redo_word};
 ghost use Rattle.shm_graph.specs.declared.ask.Ask.TheVariants as asks;
-ghost use Rattle.shm_count.specs.StepControl.{AimSmall, EraFits, PartFits, CountFits, StepKnows};
-ghost use Rattle.shm_count.specs.StepControl as control;
-ghost use Rattle.shm_count.specs.StepExchanged as exchanging;
+ghost use Rattle.shm_count.specs.Step.Control.{AimSmall, EraFits, PartFits, CountFits, StepInRange};
+ghost use Rattle.shm_count.specs.Step.Control as control;
+ghost use Rattle.shm_count.specs.Step.Exchanged as exchanging;
 ghost use Rattle.shm_count.specs.declared.point.StepPoint.TheVariants as point;
 
 use crate::answer::UpFault;
@@ -27,7 +27,7 @@ pub enum Aim {
 
 /// The halves of a change; the other steps have the first one alone.
 #[derive(Clone, Copy, Debug, PartialEq, Eq, Drop)]
-pub enum Part {
+pub enum Half {
     First,
     Second,
 }
@@ -40,17 +40,17 @@ pub enum StepPoint {
     /// Store the redo record.
     Redo { era: u64 },
     /// Load the header of the block.
-    Load { era: u64, part: Part },
+    Load { era: u64, part: Half },
     /// Load the own row for the header's client.
-    Row { era: u64, part: Part, header: u64 },
+    Row { era: u64, part: Half, header: u64 },
     /// Store the header's era in that row.
-    Show { era: u64, part: Part, header: u64 },
+    Show { era: u64, part: Half, header: u64 },
     /// Exchange the header.
-    Exchange { era: u64, part: Part, header: u64 },
+    Exchange { era: u64, part: Half, header: u64 },
     /// Store the slot.
     Slot { era: u64, zero: bool },
     /// Store the next own era.
-    Close { era: u64, part: Part, zero: bool },
+    Close { era: u64, part: Half, zero: bool },
     /// It has answered.
     Over,
 }
@@ -66,7 +66,7 @@ pub struct StepState {
 
 /// Where a count step goes by the word that it found; the answer says whether a count came to 0.
 #[derive(Clone, Copy, Debug, PartialEq, Eq, Drop)]
-pub enum Next {
+pub enum StepNext {
     Point(StepPoint),
     Answer(Result<bool, UpFault>),
 }
@@ -85,34 +85,34 @@ impl Aim {
 
     /// The block whose count changes.
     #[inline(always)]
-    fn block(self, part: Part) -> u32
+    fn block(self, part: Half) -> u32
         ensures { result ≡ control.block_at self part }
     {
         match (self, part) {
             (Aim::Up { block } | Aim::Down { block }, _) => block,
-            (Aim::Change { after, .. }, Part::First) => after,
-            (Aim::Change { before, .. }, Part::Second) => before,
+            (Aim::Change { after, .. }, Half::First) => after,
+            (Aim::Change { before, .. }, Half::Second) => before,
         }
     }
 
     /// Whether the count goes up.
     #[inline(always)]
-    fn raises(self, part: Part) -> bool
+    fn raises(self, part: Half) -> bool
         ensures { result ≡ control.raises self part }
     {
         match (self, part) {
-            (Aim::Up { .. }, _) | (Aim::Change { .. }, Part::First) => true,
+            (Aim::Up { .. }, _) | (Aim::Change { .. }, Half::First) => true,
             _ => false,
         }
     }
 
     /// Whether a half is the second one of a change.
     #[inline(always)]
-    fn is_second(self, part: Part) -> bool
+    fn is_second(self, part: Half) -> bool
         ensures { result ≡ exchanging.is_second self part }
     {
         match (self, part) {
-            (Aim::Change { .. }, Part::Second) => true,
+            (Aim::Change { .. }, Half::Second) => true,
             _ => false,
         }
     }
@@ -150,7 +150,7 @@ impl Aim {
 impl StepState {
     /// The header that the block comes to have.
     #[inline(always)]
-    fn new_header(self, era: u64, part: Part, header: u64) -> u64
+    fn new_header(self, era: u64, part: Half, header: u64) -> u64
         requires who { self.me.who < 16 }
         requires era { era < 2 ^ 47 }
         requires count { CountFits self.aim part header }
@@ -213,7 +213,7 @@ impl StepState {
     /// The word step that comes next.
     #[inline(always)]
     pub fn ask(self) -> Ask
-        requires { StepKnows self }
+        requires { StepInRange self }
         ensures { result ≡ control.step_ask self }
     {
         let Me { geometry, who } = self.me;
@@ -248,20 +248,20 @@ impl StepState {
 
     /// Where it goes by the word that it found.
     #[inline(always)]
-    pub fn next(self, seen: u64) -> Next
-        requires { StepKnows self }
+    pub fn next(self, seen: u64) -> StepNext
+        requires { StepInRange self }
         ensures { result ≡ control.step_next self seen }
     {
         match self.point {
             StepPoint::Era => self.era_next(seen),
-            StepPoint::Redo { era } => Next::Point(StepPoint::Load {
+            StepPoint::Redo { era } => StepNext::Point(StepPoint::Load {
                 era,
-                part: Part::First,
+                part: Half::First,
             }),
             StepPoint::Load { era, part } => self.header_next(era, part, seen),
             StepPoint::Row { era, part, header } => row_next(era, part, header, seen),
             StepPoint::Show { era, part, header } => {
-                Next::Point(StepPoint::Exchange { era, part, header })
+                StepNext::Point(StepPoint::Exchange { era, part, header })
             }
             StepPoint::Exchange { era, part, header } => {
                 if seen == header {
@@ -270,13 +270,13 @@ impl StepState {
                     self.header_next(era, part, seen)
                 }
             }
-            StepPoint::Slot { era, zero } => Next::Point(StepPoint::Close {
+            StepPoint::Slot { era, zero } => StepNext::Point(StepPoint::Close {
                 era,
-                part: Part::First,
+                part: Half::First,
                 zero,
             }),
             StepPoint::Close { era, part, zero } => self.closed(era, part, zero),
-            StepPoint::Over => Next::Point(StepPoint::Over),
+            StepPoint::Over => StepNext::Point(StepPoint::Over),
         }
     }
 
@@ -297,35 +297,35 @@ impl StepState {
 
     /// Where it goes by the own era.
     #[inline(always)]
-    fn era_next(self, seen: u64) -> Next
+    fn era_next(self, seen: u64) -> StepNext
         ensures { result ≡ control.era_next self.aim seen }
     {
         if seen > self.aim.last_era() {
-            Next::Answer(Err(UpFault::EraSpent { era: seen }))
+            StepNext::Answer(Err(UpFault::EraSpent { era: seen }))
         } else {
-            Next::Point(StepPoint::Redo { era: seen })
+            StepNext::Point(StepPoint::Redo { era: seen })
         }
     }
 
     /// Where it goes by the header of its block.
     #[inline(always)]
-    fn header_next(self, era: u64, part: Part, header: u64) -> Next
+    fn header_next(self, era: u64, part: Half, header: u64) -> StepNext
         ensures { result ≡ control.header_next self.me self.aim era part header }
     {
         let Header { client, count, .. } = Header::unpack(header);
         if self.aim.raises(part) && count == 1023 {
             let block = self.aim.block(part);
-            Next::Answer(Err(UpFault::CountFull { block, count }))
+            StepNext::Answer(Err(UpFault::CountFull { block, count }))
         } else if client == self.me.who {
-            Next::Point(StepPoint::Exchange { era, part, header })
+            StepNext::Point(StepPoint::Exchange { era, part, header })
         } else {
-            Next::Point(StepPoint::Row { era, part, header })
+            StepNext::Point(StepPoint::Row { era, part, header })
         }
     }
 
     /// Whether the count comes to 0.
     #[inline(always)]
-    fn comes_to_zero(self, part: Part, header: u64) -> bool
+    fn comes_to_zero(self, part: Half, header: u64) -> bool
         ensures { result ≡ control.comes_to_zero self.aim part header }
     {
         !self.aim.raises(part) && Header::unpack(header).count == 1
@@ -333,28 +333,28 @@ impl StepState {
 
     /// Where it goes once the header is exchanged.
     #[inline(always)]
-    fn committed(self, era: u64, part: Part, header: u64) -> Next
+    fn committed(self, era: u64, part: Half, header: u64) -> StepNext
         ensures { result ≡ control.committed_next self.aim era part header }
     {
         let zero = self.comes_to_zero(part, header);
-        Next::Point(match part {
-            Part::First => StepPoint::Slot { era, zero },
-            Part::Second => StepPoint::Close { era, part, zero },
+        StepNext::Point(match part {
+            Half::First => StepPoint::Slot { era, zero },
+            Half::Second => StepPoint::Close { era, part, zero },
         })
     }
 
     /// Where it goes once the own era is stored.
     #[inline(always)]
-    fn closed(self, era: u64, part: Part, zero: bool) -> Next
+    fn closed(self, era: u64, part: Half, zero: bool) -> StepNext
         requires { EraFits self.aim era part }
         ensures { result ≡ control.closed_next self.aim era part zero }
     {
         match (self.aim, part) {
-            (Aim::Change { .. }, Part::First) => Next::Point(StepPoint::Load {
+            (Aim::Change { .. }, Half::First) => StepNext::Point(StepPoint::Load {
                 era: era + 1,
-                part: Part::Second,
+                part: Half::Second,
             }),
-            _ => Next::Answer(Ok(zero)),
+            _ => StepNext::Answer(Ok(zero)),
         }
     }
 }
@@ -374,12 +374,12 @@ fn count_after(up: bool, count: u16) -> u16
 
 /// Where it goes by the own row's word for the header's client.
 #[inline(always)]
-fn row_next(era: u64, part: Part, header: u64, seen: u64) -> Next
+fn row_next(era: u64, part: Half, header: u64, seen: u64) -> StepNext
     ensures { result ≡ control.row_next era part header seen }
 {
     if seen < Header::unpack(header).era {
-        Next::Point(StepPoint::Show { era, part, header })
+        StepNext::Point(StepPoint::Show { era, part, header })
     } else {
-        Next::Point(StepPoint::Exchange { era, part, header })
+        StepNext::Point(StepPoint::Exchange { era, part, header })
     }
 }

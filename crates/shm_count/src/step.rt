@@ -4,13 +4,13 @@ ghost use Rattle.std.specs.Prelude.{◌≡◌, ◌+◌, ◌<◌, ◌≤◌, ◌^
 ghost use Rattle.shm_words.specs.Layout.{GeometryFits};
 ghost use Rattle.shm_count.specs.declared.point.Aim.TheVariants as aims;
 ghost use Rattle.shm_count.specs.declared.point.StepPoint.TheVariants.{Era, Redo};
-ghost use Rattle.shm_count.specs.StepControl.{StepKnows, step_next, answer_of, step_control, is_over};
-ghost use Rattle.shm_count.specs.StepExchanged.{step_exchanged};
-ghost use Rattle.shm_count.specs.StepMachines as machines;
-ghost use Rattle.shm_count.specs.StepKeeps.{step_keeps};
+ghost use Rattle.shm_count.specs.Step.Control.{StepInRange, step_next, answer_of, step_control, is_over};
+ghost use Rattle.shm_count.specs.Step.Exchanged.{step_exchanged};
+ghost use Rattle.shm_count.specs.Step.Machines as machines;
+ghost use Rattle.shm_count.specs.Step.Keeps.{step_keeps};
 
 use crate::answer::{EraSpent, UpFault};
-use crate::point::{Aim, Next, StepPoint, StepState};
+use crate::point::{Aim, StepNext, StepPoint, StepState};
 use shm_graph::{Ask, Machine, Me, Turn};
 use std::marker::Model;
 
@@ -40,17 +40,17 @@ impl StepState {
     /// Takes the word that was found; its answer, once it is done.
     #[inline(always)]
     fn take(&mut self, seen: u64) -> Option<Result<bool, UpFault>>
-        requires { StepKnows self.old }
+        requires { StepInRange self.old }
         ensures state { self.new ≡ step_control.after self.old seen }
         ensures answer { result ≡ answer_of (step_next self.old seen) }
-        ensures knows { StepKnows self.new }
+        ensures knows { StepInRange self.new }
     {
         match self.next(seen) {
-            Next::Point(point) => {
+            StepNext::Point(point) => {
                 self.point = point;
                 None
             }
-            Next::Answer(answer) => {
+            StepNext::Answer(answer) => {
                 self.point = StepPoint::Over;
                 Some(answer)
             }
@@ -73,9 +73,9 @@ impl Model for StepUp {
 
     ghost view = { λ a. a.state };
 
-    ghost use Rattle.shm_count.specs.StepControl.{StepKnows};
+    ghost use Rattle.shm_count.specs.Step.Control.{StepInRange};
 
-    ghost invariant = { λ a. StepKnows a.state };
+    ghost invariant = { λ a. StepInRange a.state };
 }
 
 impl StepUp {
@@ -174,9 +174,9 @@ impl Model for StepDown {
 
     ghost view = { λ a. a.state };
 
-    ghost use Rattle.shm_count.specs.StepControl.{StepKnows};
+    ghost use Rattle.shm_count.specs.Step.Control.{StepInRange};
 
-    ghost invariant = { λ a. StepKnows a.state };
+    ghost invariant = { λ a. StepInRange a.state };
 }
 
 impl StepDown {
@@ -254,9 +254,9 @@ impl Model for StepChange {
 
     ghost view = { λ a. a.state };
 
-    ghost use Rattle.shm_count.specs.StepControl.{StepKnows};
+    ghost use Rattle.shm_count.specs.Step.Control.{StepInRange};
 
-    ghost invariant = { λ a. StepKnows a.state };
+    ghost invariant = { λ a. StepInRange a.state };
 }
 
 impl StepChange {

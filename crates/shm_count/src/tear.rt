@@ -3,9 +3,9 @@
 ghost use Rattle.std.specs.Prelude.{◌≡◌, ◌<◌, ◌^◌};
 ghost use Rattle.shm_words.specs.Layout.{GeometryFits};
 ghost use Rattle.shm_count.specs.declared.tear_point.TearPoint.TheVariants.{Begin};
-ghost use Rattle.shm_count.specs.TearControl.{TearKnows, tear_next, answer_of, tear_control, is_over};
-ghost use Rattle.shm_count.specs.TearFits.{TearFits, TearGives};
-ghost use Rattle.shm_count.specs.TearKeeps.{tear_laws};
+ghost use Rattle.shm_count.specs.Tear.Control.{TearInRange, tear_next, answer_of, tear_control, is_over};
+ghost use Rattle.shm_count.specs.Tear.{TearFits, TearGives};
+ghost use Rattle.shm_count.specs.Tear.Keeps.{tear_laws};
 
 use crate::answer::EraSpent;
 use crate::tear_point::{TearNext, TearPoint, TearState};
@@ -37,10 +37,10 @@ impl TearState {
     /// Takes the word that was found; its answer, once it is done.
     #[inline(always)]
     fn take(&mut self, seen: u64) -> Option<Result<(), EraSpent>>
-        requires { TearKnows self.old }
+        requires { TearInRange self.old }
         ensures state { self.new ≡ tear_control.after self.old seen }
         ensures answer { result ≡ answer_of (tear_next self.old seen) }
-        ensures knows { TearKnows self.new }
+        ensures knows { TearInRange self.new }
     {
         match self.next(seen) {
             TearNext::Go { block, point } => {
@@ -73,9 +73,9 @@ impl Model for TearDown {
 
     ghost view = { λ a. a.state };
 
-    ghost use Rattle.shm_count.specs.TearControl.{TearKnows};
+    ghost use Rattle.shm_count.specs.Tear.Control.{TearInRange};
 
-    ghost invariant = { λ a. TearKnows a.state };
+    ghost invariant = { λ a. TearInRange a.state };
 }
 
 impl TearDown {

@@ -3,12 +3,12 @@
 ghost use Rattle.std.specs.Prelude.{◌≡◌, ◌≢◌, ◌+◌, ◌<◌, ◌≤◌, ◌^◌, true};
 ghost use Rattle.shm_words.specs.Layout.{GeometryFits};
 ghost use Rattle.shm_words.specs.Tags.{TagFits};
-ghost use Rattle.shm_count.specs.TearControl.{TearKnows, TearPointFits};
-ghost use Rattle.shm_count.specs.TearControl as control;
-ghost use Rattle.shm_count.specs.StepControl.{StepKnows};
+ghost use Rattle.shm_count.specs.Tear.Control.{TearInRange, TearPointFits};
+ghost use Rattle.shm_count.specs.Tear.Control as control;
+ghost use Rattle.shm_count.specs.Step.Control.{StepInRange};
 
 use crate::answer::{EraSpent, UpFault};
-use crate::point::{Aim, Next, StepPoint, StepState};
+use crate::point::{Aim, StepNext, StepPoint, StepState};
 use shm_graph::{Ask, Me};
 use shm_words::Tag;
 
@@ -81,7 +81,7 @@ impl TearState {
     /// The word step that comes next.
     #[inline(always)]
     pub fn ask(self) -> Ask
-        requires { TearKnows self }
+        requires { TearInRange self }
         ensures { result ≡ control.tear_ask self }
     {
         match self.point {
@@ -112,7 +112,7 @@ impl TearState {
     /// Where it goes by the word that it found.
     #[inline(always)]
     pub fn next(self, seen: u64) -> TearNext
-        requires { TearKnows self }
+        requires { TearInRange self }
         ensures { result ≡ control.tear_next self seen }
     {
         match self.point {
@@ -126,13 +126,13 @@ impl TearState {
                 found,
                 point,
             } => match self.step(index, found, point).next(seen) {
-                Next::Point(point) => self.go(TearPoint::Down {
+                StepNext::Point(point) => self.go(TearPoint::Down {
                     tag,
                     index,
                     found,
                     point,
                 }),
-                Next::Answer(answer) => self.lowered(tag, index, found, answer),
+                StepNext::Answer(answer) => self.lowered(tag, index, found, answer),
             },
             TearPoint::Free { tag } => freed(tag),
             TearPoint::Return => self.go(word_or_free(tag_read(seen), 0)),

@@ -2,10 +2,10 @@
 
 ghost use Rattle.std.specs.Prelude.{◌≡◌, ◌<◌, ◌^◌};
 ghost use Rattle.shm_words.specs.Layout.{GeometryFits};
-ghost use Rattle.shm_count.specs.UpRootControl.{rooting};
-ghost use Rattle.shm_count.specs.UpRootControl as control;
-ghost use Rattle.shm_count.specs.UpRootFits.{rooting_plan};
-ghost use Rattle.shm_count.specs.UpRootLaws.{rooting_laws};
+ghost use Rattle.shm_count.specs.UpRoot.Control.{rooting};
+ghost use Rattle.shm_count.specs.UpRoot.Control as control;
+ghost use Rattle.shm_count.specs.UpRoot.{rooting_plan};
+ghost use Rattle.shm_count.specs.UpRoot.Laws.{rooting_laws};
 
 use crate::answer::{ShareFault, UpFault};
 use crate::step::StepUp;
@@ -47,7 +47,7 @@ impl Model for Rooting {
 
     ghost view = { λ a. a.state };
 
-    ghost use Rattle.shm_count.specs.UpRootControl.{RootingInRange};
+    ghost use Rattle.shm_count.specs.UpRoot.Control.{RootingInRange};
 
     ghost invariant = { λ a. RootingInRange a.state };
 }

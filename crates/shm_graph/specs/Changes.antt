@@ -2,7 +2,7 @@
 use Rattle.std.specs.Prelude.{Bool, ◌&&◌, ◌==◌, true, false, if◌then◌else◌, Option, None, []}
 use Rattle.std.specs.List.{filter}
 use Rattle.shm_graph.specs.declared.spot.Spot.{Spot}
-use Rattle.shm_graph.specs.declared.spot.Spot.TheVariants.{Tail, Front}
+use Rattle.shm_graph.specs.declared.spot.Spot.TheVariants.{Tail, QueueHead}
 use Rattle.shm_graph.specs.declared.memo.Fact.{Fact}
 use Rattle.shm_graph.specs.declared.memo.Fact.TheVariants.{Counter}
 use Rattle.shm_graph.specs.declared.ask.Ask.{Ask}
@@ -20,7 +20,7 @@ use Rattle.shm_graph.specs.Exchanges.{exchanged_on}
 -- what was read of tails and heads, which only grow
 abbrev pub is_lane_count : Fact → Bool
 is_lane_count (Counter (Tail s r) x) = true
-is_lane_count (Counter (Front s r) x) = true
+is_lane_count (Counter (QueueHead s r) x) = true
 is_lane_count k = false
 
 -- the memo at a step: one more pair in the call, of which the first step of a machine forgets all but tails and heads, and one more step of the agent

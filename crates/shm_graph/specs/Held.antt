@@ -11,12 +11,12 @@ use Rattle.shm_words.specs.Tags.{tag_refs, tag_plain, tag_author, tag_link}
 use Rattle.shm_words.specs.Classes.{IsClass, class_for}
 use Rattle.shm_words.specs.Layout.{GeometryFits}
 use Rattle.shm_graph.specs.declared.spot.Spot.{Spot}
-use Rattle.shm_graph.specs.declared.spot.Spot.TheVariants.{Spare, Status, Redo, Hold, Latch, Home, Era, Root, Tail, Front, Slot, Segment, Page, Unused, Head, Tag, Body}
+use Rattle.shm_graph.specs.declared.spot.Spot.TheVariants.{Spare, Status, Redo, Hold, Latch, Home, Era, Root, Tail, QueueHead, Slot, Segment, Page, Unused, Head, Tag, Body}
 use Rattle.shm_graph.specs.declared.memo.Status.{Status as AStatus}
 use Rattle.shm_graph.specs.declared.memo.Status.TheVariants as status
 use Rattle.shm_graph.specs.declared.memo.First.{First}
 use Rattle.shm_graph.specs.declared.memo.First.TheVariants.{Begun, Committed, Written}
-use Rattle.shm_graph.specs.declared.memo.Half.TheVariants.{Raising, Lowering}
+use Rattle.shm_graph.specs.declared.memo.ChangeStage.TheVariants.{Raising, Lowering}
 use Rattle.shm_graph.specs.declared.memo.Op.{Op}
 use Rattle.shm_graph.specs.declared.memo.Op.TheVariants.{Nothing, Alloc, Up, Down, Change}
 use Rattle.shm_graph.specs.declared.memo.Stored.{Stored}
@@ -32,7 +32,7 @@ use Rattle.shm_graph.specs.Blocks.{IsBlock}
 use Rattle.shm_graph.specs.References.{Words, words_of}
 use Rattle.shm_graph.specs.Tables.{Contents, contents_of, HasShape, IsPartition}
 use Rattle.shm_graph.specs.Ops.{word_at, is_op, slot_of, up_slot, indegree}
-use Rattle.shm_graph.specs.Views.{View, own_word, owner_is, targets, limbos, ons}
+use Rattle.shm_graph.specs.Views.{View, own_word, owner_is, targets, held_overs, ons}
 
 -- ---- words that have few values
 
@@ -100,7 +100,7 @@ pub record BlockSound (g : Geometry) (class : ℕ → ℕ → ℕ) (word tag : �
 pub record CountSound (g : Geometry) (class : ℕ → ℕ → ℕ) (head : ℕ → Header) (t : Spot → ℕ) (l : ℕ → ℕ) : Type 0 where
   pub counts : (b : ℕ) → (head b).live ≡ true → (head b).count ≡ indegree g class t l b
   pub targets : (p : Spot) → t p ≢ 0 → (head (t p)).live ≡ true
-  pub limbos : (c : ℕ) → c < g.clients → l c ≢ 0 → (head (l c)).live ≡ true
+  pub held_overs : (c : ℕ) → c < g.clients → l c ≢ 0 → (head (l c)).live ≡ true
 
 -- an era of j that was seen, with the block where it was seen
 pub record Committing (era : ℕ → ℕ → ℕ) (on : ℕ → Option ℕ) (j x b : ℕ) : Type 0 where
@@ -200,10 +200,10 @@ Allowed c (Change h p a b e) = (is_slot p ≡ false) × (is_home p ≡ false) ×
 
 -- c has the block in a root, in its home or at the head of a queue to it
 abbrev pub Named : (ℕ → ℕ) → ℕ → (ℕ → ℕ → ℕ) → (ℕ → ℕ) → (ℕ → ℕ) → ℕ → Type 0
-Named root home slot tail front b = (b ≢ 0) × (((k : ℕ) × (root k ≡ b)) ⊎ ((home ≡ b) ⊎ ((s : ℕ) × (front s < tail s) × (slot s (front s % 8) ≡ b))))
+Named root home slot tail queue_head b = (b ≢ 0) × (((k : ℕ) × (root k ≡ b)) ⊎ ((home ≡ b) ⊎ ((s : ℕ) × (queue_head s < tail s) × (slot s (queue_head s % 8) ≡ b))))
 
 abbrev pub named_by : (Spot → ℕ) → (ℕ → ℕ → ℕ) → (ℕ → ℕ → ℕ) → ℕ → ℕ → Type 0
-named_by t tail front c b = Named (λ k. t (Root c k)) (t (Home c)) (λ s k. t (Slot s c k)) (λ s. tail s c) (λ s. front s c) b
+named_by t tail queue_head c b = Named (λ k. t (Root c k)) (t (Home c)) (λ s k. t (Slot s c k)) (λ s. tail s c) (λ s. queue_head s c) b
 
 abbrev pub InLooks : List Look → ℕ → Type 0
 InLooks looks b = (k : Look) × Contains looks k × (k.block ≡ b)
@@ -221,39 +221,39 @@ LooksSound home body author latch named earlier (k ∷ ks) = LookAt home body au
 
 -- the word is one that c may store
 abbrev pub SlotOf : ℕ → (ℕ → Header) → (ℕ → ℕ) → Option ℕ → (ℕ → ℕ → ℕ) → (ℕ → ℕ → ℕ) → (ℕ → Type 0) → Spot → Type 0
-SlotOf c head tag latch tail front reach (Root d k) = d ≡ c
-SlotOf c head tag latch tail front reach (Home d) = d ≡ c
-SlotOf c head tag latch tail front reach (Slot s r k) = (s ≢ r) × (((s ≡ c) × (k ≡ tail s r % 8) × (tail s r < front s r + 8)) ⊎ ((r ≡ c) × (k ≡ front s r % 8) × (front s r < tail s r)))
-SlotOf c head tag latch tail front reach (Body b i) = ((head b).live ≡ true) × (i < tag_refs (tag b)) × ((((head b).count ≡ 0) × ((head b).client ≡ c)) ⊎ ((tag_author (tag b) ≡ c) × (latch ≡ Some c) × reach b))
-SlotOf c head tag latch tail front reach _ = ⊥
+SlotOf c head tag latch tail queue_head reach (Root d k) = d ≡ c
+SlotOf c head tag latch tail queue_head reach (Home d) = d ≡ c
+SlotOf c head tag latch tail queue_head reach (Slot s r k) = (s ≢ r) × (((s ≡ c) × (k ≡ tail s r % 8) × (tail s r < queue_head s r + 8)) ⊎ ((r ≡ c) × (k ≡ queue_head s r % 8) × (queue_head s r < tail s r)))
+SlotOf c head tag latch tail queue_head reach (Body b i) = ((head b).live ≡ true) × (i < tag_refs (tag b)) × ((((head b).count ≡ 0) × ((head b).client ≡ c)) ⊎ ((tag_author (tag b) ≡ c) × (latch ≡ Some c) × reach b))
+SlotOf c head tag latch tail queue_head reach _ = ⊥
 
 -- ---- queues, calls, what is known
 
-pub record LaneSound (t : ℕ → ℕ) (tail front : ℕ) (sent : List ℕ) (unsent : ℕ) (received : List ℕ) (untaken : ℕ) : Type 0 where
+pub record LaneSound (t : ℕ → ℕ) (tail queue_head : ℕ) (sent : List ℕ) (unsent : ℕ) (received : List ℕ) (untaken : ℕ) : Type 0 where
   pub all_sent : tail ≡ length sent
-  pub all_received : front ≡ length received
-  pub order : front ≤ tail
-  pub room : tail ≤ front + 8
-  pub prefix : received ≡ take front sent
+  pub all_received : queue_head ≡ length received
+  pub order : queue_head ≤ tail
+  pub room : tail ≤ queue_head + 8
+  pub prefix : received ≡ take queue_head sent
   pub some : All (λ b. b ≢ 0) sent
-  pub items : (n : ℕ) → front ≤ n → n < tail → (untaken ≡ 0) × (n ≡ front) → t (n % 8) ≡ slice_index sent n
-  pub later : (n : ℕ) → front < n → n < tail → t (n % 8) ≡ slice_index sent n
-  pub taken : untaken ≢ 0 → (front < tail) × (slice_index sent front ≡ untaken) × (t (front % 8) ≡ 0)
-  pub outside : (n : ℕ) → tail < n → n < front + 8 → t (n % 8) ≡ 0
-  pub next : tail < front + 8 → t (tail % 8) ≡ unsent
-  pub full : tail ≡ front + 8 → unsent ≡ 0
+  pub items : (n : ℕ) → queue_head ≤ n → n < tail → (untaken ≡ 0) × (n ≡ queue_head) → t (n % 8) ≡ slice_index sent n
+  pub later : (n : ℕ) → queue_head < n → n < tail → t (n % 8) ≡ slice_index sent n
+  pub taken : untaken ≢ 0 → (queue_head < tail) × (slice_index sent queue_head ≡ untaken) × (t (queue_head % 8) ≡ 0)
+  pub outside : (n : ℕ) → tail < n → n < queue_head + 8 → t (n % 8) ≡ 0
+  pub next : tail < queue_head + 8 → t (tail % 8) ≡ unsent
+  pub full : tail ≡ queue_head + 8 → unsent ≡ 0
 
 -- what was read of a counter is at most what it is
 abbrev pub CounterAt : (ℕ → ℕ → ℕ) → (ℕ → ℕ → ℕ) → (ℕ → ℕ → ℕ) → Spot → ℕ → Type 0
-CounterAt era tail front (Era i j) x = x ≤ era i j
-CounterAt era tail front (Tail s r) x = x ≤ tail s r
-CounterAt era tail front (Front s r) x = x ≤ front s r
-CounterAt era tail front _ x = Unit {0}
+CounterAt era tail queue_head (Era i j) x = x ≤ era i j
+CounterAt era tail queue_head (Tail s r) x = x ≤ tail s r
+CounterAt era tail queue_head (QueueHead s r) x = x ≤ queue_head s r
+CounterAt era tail queue_head _ x = Unit {0}
 
 abbrev pub FactAt : ℕ → (ℕ → ℕ → ℕ) → (ℕ → Option ℕ) → (ℕ → ℕ → ℕ) → (ℕ → ℕ → ℕ) → (ℕ → ℕ → ℕ) → Fact → Type 0
-FactAt n era on tail front class (HeaderRead x) = (header_of x).live ≡ true → ((header_of x).client < n) × Bound era on (header_of x).client (header_of x).era
-FactAt n era on tail front class (Counter p x) = CounterAt era tail front p x
-FactAt n era on tail front class (Class s p k) = (k ≢ 0) × (class s p ≡ k)
+FactAt n era on tail queue_head class (HeaderRead x) = (header_of x).live ≡ true → ((header_of x).client < n) × Bound era on (header_of x).client (header_of x).era
+FactAt n era on tail queue_head class (Counter p x) = CounterAt era tail queue_head p x
+FactAt n era on tail queue_head class (Class s p k) = (k ≢ 0) × (class s p ≡ k)
 
 -- a page or a header of an own segment was read as 0
 abbrev pub ZeroAt : Geometry → (ℕ → ℕ → ℕ) → (ℕ → ℕ) → (ℕ → ℕ) → ℕ → Spot → Type 0
@@ -267,10 +267,10 @@ TestAt n era on c (Some t) = on ≡ Some t.block → (k : ℕ) × (t.next ≤ k)
 
 -- what c knows of a word that only it may change, or nobody
 abbrev pub KnownAt : ℕ → (ℕ → ℕ) → (ℕ → ℕ → ℕ) → (ℕ → ℕ → ℕ → ℕ) → (ℕ → ℕ → ℕ) → (ℕ → ℕ → ℕ) → (ℕ → ℕ) → Option ℕ → (ℕ → Type 0) → List ℕ → Spot → ℕ → Type 0
-KnownAt c tag body slot tail front untaken latch reach dying (Tag b) x = (tag b ≡ x) × (Contains dying b ⊎ reach b)
-KnownAt c tag body slot tail front untaken latch reach dying (Body b i) x = (body b i ≡ x) × (Contains dying b ⊎ (reach b × ((tag_refs (tag b) ≤ i) ⊎ ((tag_author (tag b) ≡ c) ⊎ (latch ≡ Some (tag_author (tag b)))))))
-KnownAt c tag body slot tail front untaken latch reach dying (Slot s r k) x = (r ≡ c) × (s ≢ c) × (k ≡ front s c % 8) × (front s c < tail s c) × (untaken s ≡ 0) × (x ≢ 0) × (slot s c k ≡ x)
-KnownAt c tag body slot tail front untaken latch reach dying _ x = ⊥
+KnownAt c tag body slot tail queue_head untaken latch reach dying (Tag b) x = (tag b ≡ x) × (Contains dying b ⊎ reach b)
+KnownAt c tag body slot tail queue_head untaken latch reach dying (Body b i) x = (body b i ≡ x) × (Contains dying b ⊎ (reach b × ((tag_refs (tag b) ≤ i) ⊎ ((tag_author (tag b) ≡ c) ⊎ (latch ≡ Some (tag_author (tag b)))))))
+KnownAt c tag body slot tail queue_head untaken latch reach dying (Slot s r k) x = (r ≡ c) × (s ≢ c) × (k ≡ queue_head s c % 8) × (queue_head s c < tail s c) × (untaken s ≡ 0) × (x ≢ 0) × (slot s c k ≡ x)
+KnownAt c tag body slot tail queue_head untaken latch reach dying _ x = ⊥
 
 -- ---- an identity that has not begun, has ended, or is between calls
 
@@ -298,7 +298,7 @@ pub record Gone (c : ℕ) (own : List Stored) (o : Op) (latch : Option ℕ) (own
 -- ---- the rule
 
 abbrev pub reach_of : (Spot → ℕ) → (ℕ → ℕ → ℕ) → (ℕ → ℕ → ℕ) → (ℕ → List Look) → ℕ → ℕ → Type 0
-reach_of t tail front looks c b = named_by t tail front c b ⊎ InLooks (looks c) b
+reach_of t tail queue_head looks c b = named_by t tail queue_head c b ⊎ InLooks (looks c) b
 
 -- ---- tables
 
@@ -326,7 +326,7 @@ TailSound c r own tail unsent o = (tail + 1 ≤ own) × (unsent ≢ 0 → up_slo
 
 -- the words of a queue from an identity to itself are 0
 abbrev pub IsUnusedLane : ℕ → ℕ → (ℕ → ℕ) → Type 0
-IsUnusedLane tail front t = (tail ≡ 0) × (front ≡ 0) × ((k : ℕ) → t k ≡ 0)
+IsUnusedLane tail queue_head t = (tail ≡ 0) × (queue_head ≡ 0) × ((k : ℕ) → t k ≡ 0)
 
 -- nothing waits to be sent or received where the pool has no queue: between an identity and itself, or one beyond the clients
 abbrev pub NothingWaits : ℕ → ℕ → (ℕ → ℕ) → (ℕ → ℕ) → Type 0
@@ -373,17 +373,17 @@ pub record HeldAt (g : Geometry) (w : Spot → ℕ) (v : View) : Type 0 where
   -- each kind of step has the slots that it may have
   pub allowed : (c : ℕ) → c < g.clients → Allowed c (v.op c)
   -- the count of each live block is the number of references to it; references name live blocks
-  pub count : CountSound g (λ s q. w (Page s q)) (λ b. header_of (w (Head b))) (targets g w v) (limbos v)
+  pub count : CountSound g (λ s q. w (Page s q)) (λ b. header_of (w (Head b))) (targets g w v) (held_overs v)
   -- the slot of a step in progress is one that its identity may store
-  pub slots : (c : ℕ) → c < g.clients → is_op (v.op c) ≡ true → SlotOf c (λ b. header_of (w (Head b))) (λ b. w (Tag b)) (v.latch c) (λ s r. w (Tail s r)) (λ s r. w (Front s r)) (reach_of (targets g w v) (λ s r. w (Tail s r)) (λ s r. w (Front s r)) v.looks c) (slot_of (v.op c))
+  pub slots : (c : ℕ) → c < g.clients → is_op (v.op c) ≡ true → SlotOf c (λ b. header_of (w (Head b))) (λ b. w (Tag b)) (v.latch c) (λ s r. w (Tail s r)) (λ s r. w (QueueHead s r)) (reach_of (targets g w v) (λ s r. w (Tail s r)) (λ s r. w (QueueHead s r)) v.looks c) (slot_of (v.op c))
   -- each block of the looks is named by the word that it was read from
-  pub looks : (c : ℕ) → c < g.clients → LooksSound (λ a. targets g w v (Home a)) (λ b i. targets g w v (Body b i)) (λ b. tag_author (w (Tag b))) (v.latch c) (named_by (targets g w v) (λ s r. w (Tail s r)) (λ s r. w (Front s r)) c) [] (v.looks c)
+  pub looks : (c : ℕ) → c < g.clients → LooksSound (λ a. targets g w v (Home a)) (λ b i. targets g w v (Body b i)) (λ b. tag_author (w (Tag b))) (v.latch c) (named_by (targets g w v) (λ s r. w (Tail s r)) (λ s r. w (QueueHead s r)) c) [] (v.looks c)
   -- queues agree with what was sent and received
-  pub lanes : (s r : ℕ) → s < g.clients → r < g.clients → s ≢ r → LaneSound (λ k. targets g w v (Slot s r k)) (w (Tail s r)) (w (Front s r)) (v.sent s r) (v.unsent s r) (v.received r s) (v.untaken r s)
+  pub lanes : (s r : ℕ) → s < g.clients → r < g.clients → s ≢ r → LaneSound (λ k. targets g w v (Slot s r k)) (w (Tail s r)) (w (QueueHead s r)) (v.sent s r) (v.unsent s r) (v.received r s) (v.untaken r s)
   -- what is known of words of blocks and head slots is what they hold
-  pub known : (c : ℕ) → c < g.clients → All (λ (k : Stored). KnownAt c (λ b. w (Tag b)) (λ b i. w (Body b i)) (λ s r k. w (Slot s r k)) (λ s r. w (Tail s r)) (λ s r. w (Front s r)) (v.untaken c) (v.latch c) (reach_of (targets g w v) (λ s r. w (Tail s r)) (λ s r. w (Front s r)) v.looks c) (v.dying c) k.spot k.value) (v.known c)
+  pub known : (c : ℕ) → c < g.clients → All (λ (k : Stored). KnownAt c (λ b. w (Tag b)) (λ b i. w (Body b i)) (λ s r k. w (Slot s r k)) (λ s r. w (Tail s r)) (λ s r. w (QueueHead s r)) (v.untaken c) (v.latch c) (reach_of (targets g w v) (λ s r. w (Tail s r)) (λ s r. w (QueueHead s r)) v.looks c) (v.dying c) k.spot k.value) (v.known c)
   -- what was read of eras, tails, heads and classes still bounds them
-  pub facts : (c : ℕ) → c < g.clients → All (FactAt g.clients (λ i j. w (Era i j)) (ons v) (λ s r. w (Tail s r)) (λ s r. w (Front s r)) (λ s q. w (Page s q))) (v.facts c)
+  pub facts : (c : ℕ) → c < g.clients → All (FactAt g.clients (λ i j. w (Era i j)) (ons v) (λ s r. w (Tail s r)) (λ s r. w (QueueHead s r)) (λ s q. w (Page s q))) (v.facts c)
   -- pages and headers of own segments that were read as 0 are 0
   pub zeros : (c : ℕ) → c < g.clients → All (ZeroAt g (λ s q. w (Page s q)) (λ s. w (Segment s)) (λ b. w (Head b)) c) (v.zeros c)
   -- a step of a dead client that its header doesn't show is shown by a row that the commit test has still to read
@@ -393,7 +393,7 @@ pub record HeldAt (g : Geometry) (w : Spot → ℕ) (v : View) : Type 0 where
   -- an identity that is gone has nothing left to finish
   pub gone : (c : ℕ) → c < g.clients → v.status c ≡ status.Gone → Gone c (v.own c) (v.op c) (v.latch c) (v.owned c) (v.dying c) (v.unsent c) (v.untaken c)
   -- queues from an identity to itself are unused
-  pub self_lanes : (c : ℕ) → c < g.clients → IsUnusedLane (w (Tail c c)) (w (Front c c)) (λ k. targets g w v (Slot c c k))
+  pub self_lanes : (c : ℕ) → c < g.clients → IsUnusedLane (w (Tail c c)) (w (QueueHead c c)) (λ k. targets g w v (Slot c c k))
   -- where there is no queue nothing waits to be sent or received
   pub no_queue : (c : ℕ) → c < g.clients → NothingWaits g.clients c (v.unsent c) (v.untaken c)
   -- tails stay below the own era, so that they have a successor
@@ -405,6 +405,6 @@ pub record HeldAt (g : Geometry) (w : Spot → ℕ) (v : View) : Type 0 where
   -- in a pool for tables queues hold value blocks
   pub queued : (c : ℕ) → c < g.clients → is_loose (v.part c) ≡ false → (s r k : ℕ) → targets g w v (Slot s r k) ≢ 0 → HasShape (contents_of w (targets g w v)) 0 1 (targets g w v (Slot s r k))
   -- value blocks that were read are value blocks in reach
-  pub values : (c : ℕ) → c < g.clients → All (ValueAt (contents_of w (targets g w v)) (reach_of (targets g w v) (λ s r. w (Tail s r)) (λ s r. w (Front s r)) v.looks c)) (v.values c)
+  pub values : (c : ℕ) → c < g.clients → All (ValueAt (contents_of w (targets g w v)) (reach_of (targets g w v) (λ s r. w (Tail s r)) (λ s r. w (QueueHead s r)) v.looks c)) (v.values c)
   -- the blocks that a call made have count 1
   pub made : (c : ℕ) → c < g.clients → All (MadeAt (λ b. header_of (w (Head b))) (λ k. targets g w v (Root c k))) (v.made c)

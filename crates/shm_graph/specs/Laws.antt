@@ -11,7 +11,7 @@ use Rattle.shm_graph.specs.declared.spot.Spot.{Spot}
 use Rattle.shm_graph.specs.declared.spot.Spot.TheVariants.{Hold, Root, Head}
 use Rattle.shm_graph.specs.declared.memo.First.TheVariants.{Begun}
 use Rattle.shm_graph.specs.declared.memo.Second.TheVariants.{Open}
-use Rattle.shm_graph.specs.declared.memo.Half.TheVariants.{Raising, Lowering}
+use Rattle.shm_graph.specs.declared.memo.ChangeStage.TheVariants.{Raising, Lowering}
 use Rattle.shm_graph.specs.declared.memo.Op.{Op}
 use Rattle.shm_graph.specs.declared.memo.Op.TheVariants as op
 use Rattle.shm_graph.specs.declared.memo.Seen.{Seen}
@@ -26,7 +26,7 @@ use Rattle.shm_graph.specs.Ops.{IsUncommitted}
 use Rattle.shm_graph.specs.Changes.{memo_on, asked_spot}
 use Rattle.shm_graph.specs.Agents.{recovers}
 use Rattle.shm_graph.specs.Events.{Event, Nothing, Alloc, Up, Down, ChangeUp, ChangeDown, Free, graph_of, Happens}
-use Rattle.shm_graph.specs.Controls.{IsAllowed, IsRowShown}
+use Rattle.shm_graph.specs.Controllers.{IsAllowed, IsRowShown}
 
 -- The control of a machine with states S and answers A: its identity, its line, whether it has made no step, whether it is finished, what it asks for, where it goes, and what it then answers
 pub record Control (S A : Type 0) : Type 0 where

@@ -17,7 +17,7 @@ pub mod Stores
 pub mod Exchanges
 pub mod Changes
 pub mod Events
-pub mod Controls
+pub mod Controllers
 pub mod Laws
 pub mod Runs
 pub mod Whole

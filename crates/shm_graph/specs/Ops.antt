@@ -7,7 +7,7 @@ use Rattle.shm_graph.specs.declared.memo.First.{First}
 use Rattle.shm_graph.specs.declared.memo.First.TheVariants.{Begun, Committed, Written}
 use Rattle.shm_graph.specs.declared.memo.Second.{Second}
 use Rattle.shm_graph.specs.declared.memo.Second.TheVariants.{Open, Closed}
-use Rattle.shm_graph.specs.declared.memo.Half.TheVariants.{Raising, Lowering}
+use Rattle.shm_graph.specs.declared.memo.ChangeStage.TheVariants.{Raising, Lowering}
 use Rattle.shm_graph.specs.declared.memo.Op.{Op}
 use Rattle.shm_graph.specs.declared.memo.Op.TheVariants.{Nothing, Alloc, Up, Down, Change}
 use Rattle.shm_graph.specs.Spots.{same_spot}
@@ -78,23 +78,23 @@ target n x ps (Slot s r k) = covered ps n (Slot s r k) (x.slot s r k)
 target n x ps (Body b i) = if nat_lt i (x.refs b) then covered ps n (Body b i) (x.body b i) else 0
 target n x ps _ = 0
 
-abbrev pub limbo_from : First → ℕ → ℕ
-limbo_from Begun b = 0
-limbo_from Committed b = b
-limbo_from Written b = b
+abbrev pub held_over_from : First → ℕ → ℕ
+held_over_from Begun b = 0
+held_over_from Committed b = b
+held_over_from Written b = b
 
-abbrev pub limbo_till : Second → ℕ → ℕ
-limbo_till Open b = b
-limbo_till Closed b = 0
+abbrev pub held_over_till : Second → ℕ → ℕ
+held_over_till Open b = b
+held_over_till Closed b = 0
 
 -- the reference that a change holds over between its halves, a block or 0
-abbrev pub limbo_of : Op → ℕ
-limbo_of Nothing = 0
-limbo_of (Alloc s p b e) = 0
-limbo_of (Up s p b e) = 0
-limbo_of (Down s p b e) = 0
-limbo_of (Change (Raising s) p a b e) = limbo_from s a
-limbo_of (Change (Lowering s) p a b e) = limbo_till s a
+abbrev pub held_over_of : Op → ℕ
+held_over_of Nothing = 0
+held_over_of (Alloc s p b e) = 0
+held_over_of (Up s p b e) = 0
+held_over_of (Down s p b e) = 0
+held_over_of (Change (Raising s) p a b e) = held_over_from s a
+held_over_of (Change (Lowering s) p a b e) = held_over_till s a
 
 abbrev pub on_from : First → ℕ → Option ℕ
 on_from Begun b = None

@@ -4,9 +4,9 @@ use Rattle.std.specs.List.{list_any}
 use Rattle.shm_words.specs.declared.geometry.Geometry.{Geometry}
 use Rattle.shm_words.specs.Headers.{header_of}
 use Rattle.shm_graph.specs.declared.spot.Spot.{Spot}
-use Rattle.shm_graph.specs.declared.spot.Spot.TheVariants.{Hold, Home, Era, Tail, Front, Slot, Page, Head, Tag, Body}
+use Rattle.shm_graph.specs.declared.spot.Spot.TheVariants.{Hold, Home, Era, Tail, QueueHead, Slot, Page, Head, Tag, Body}
 use Rattle.shm_graph.specs.declared.memo.First.TheVariants.{Begun}
-use Rattle.shm_graph.specs.declared.memo.Half.TheVariants.{Raising}
+use Rattle.shm_graph.specs.declared.memo.ChangeStage.TheVariants.{Raising}
 use Rattle.shm_graph.specs.declared.memo.Op.{Op}
 use Rattle.shm_graph.specs.declared.memo.Op.TheVariants.{Nothing, Up, Change}
 use Rattle.shm_graph.specs.declared.memo.Fact.{Fact}
@@ -72,7 +72,7 @@ is_tail_above s c x k = false
 
 -- the slot is the head slot of a queue to c that isn't empty, as far as c has read, and its item isn't taken
 abbrev pub is_head_slot : ℕ → Memo → ℕ → ℕ → ℕ → Bool
-is_head_slot c m s r k = (r == c) && (not (s == c) && ((k == own_word m.own (Front s c) % 8) && ((slice_index m.untaken s == 0) && list_any (is_tail_above s c (own_word m.own (Front s c))) m.facts)))
+is_head_slot c m s r k = (r == c) && (not (s == c) && ((k == own_word m.own (QueueHead s c) % 8) && ((slice_index m.untaken s == 0) && list_any (is_tail_above s c (own_word m.own (QueueHead s c))) m.facts)))
 
 abbrev pub slot_read : ℕ → Memo → ℕ → ℕ → ℕ → ℕ → Memo
 slot_read c m s r k seen =
@@ -142,7 +142,7 @@ read_on g c load m test (Hold d) seen = if (recovers m) && (c == d) then record 
 read_on g c load m test (Home a) seen = home_read m a seen
 read_on g c load m test (Era i j) seen = if (j == c) && not (i == c) then row_read c m test i seen else record m { facts = Counter (Era i j) seen ∷ m.facts }
 read_on g c load m test (Tail s r) seen = record m { facts = Counter (Tail s r) seen ∷ m.facts }
-read_on g c load m test (Front s r) seen = record m { facts = Counter (Front s r) seen ∷ m.facts }
+read_on g c load m test (QueueHead s r) seen = record m { facts = Counter (QueueHead s r) seen ∷ m.facts }
 read_on g c load m test (Slot s r k) seen = slot_read c m s r k seen
 read_on g c load m test (Page s q) seen = page_read m s q seen
 read_on g c load m test (Head b) seen = header_read g c load m b seen

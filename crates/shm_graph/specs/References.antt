@@ -55,13 +55,13 @@ unfoldable pub references_to : Geometry → (ℕ → ℕ → ℕ) → (Spot → 
 references_to g class t b = sum_below (total_of g) (λ a. one_if (t (spot_at g class a) == b))
 
 -- how many words of the pool name a block
-unfoldable pub reference_count : Geometry → (ℕ → ℕ → ℕ) → (Spot → ℕ) → ℕ
-reference_count g class t = sum_below (total_of g) (λ a. if t (spot_at g class a) == 0 then 0 else 1)
+unfoldable pub references_in_all : Geometry → (ℕ → ℕ → ℕ) → (Spot → ℕ) → ℕ
+references_in_all g class t = sum_below (total_of g) (λ a. if t (spot_at g class a) == 0 then 0 else 1)
 
 -- how many blocks are live
 unfoldable pub live_count : Geometry → (Spot → ℕ) → ℕ
 live_count g w = sum_below (total_of g) (λ b. one_if (header_of (w (Head b))).live)
 
 -- how many homes are set
-unfoldable pub home_count : Geometry → (Spot → ℕ) → ℕ
-home_count g w = sum_below g.clients (λ c. if w (Home c) == 0 then 0 else 1)
+unfoldable pub homes_in_all : Geometry → (Spot → ℕ) → ℕ
+homes_in_all g w = sum_below g.clients (λ c. if w (Home c) == 0 then 0 else 1)

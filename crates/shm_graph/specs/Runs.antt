@@ -17,7 +17,7 @@ use Rattle.shm_graph.specs.declared.memo.Step.{Step}
 use Rattle.shm_graph.specs.declared.memo.Seen.{Seen}
 use Rattle.shm_graph.specs.declared.table.Part.{Part}
 use Rattle.shm_graph.specs.declared.table.Part.TheVariants.{Loose, Table}
-use Rattle.shm_graph.specs.declared.run.Told.{Told}
+use Rattle.shm_graph.specs.declared.run.LoggedLine.{LoggedLine}
 use Rattle.shm_graph.specs.declared.run.Start.{Start}
 use Rattle.shm_graph.specs.declared.run.Account.{Account}
 use Rattle.shm_graph.specs.declared.run.Move.{Move}
@@ -33,12 +33,12 @@ use Rattle.shm_graph.specs.Laws.{Stepped, event_on}
 -- ---- accounts
 
 -- the line and the trail of a machine that is finished; a machine with an empty line isn't told
-abbrev pub told_by : List ℕ → List Seen → Bool → List Told → List Told
+abbrev pub told_by : List ℕ → List Seen → Bool → List LoggedLine → List LoggedLine
 told_by [] trail finished told = told
 told_by (x ∷ xs) trail finished told = told ++ record { line = x ∷ xs; trail = trail; finished = finished } ∷ []
 
 -- the running line of a dead agent is told by the first step of the next one
-abbrev pub told_left : Bool → Account → List Told
+abbrev pub told_left : Bool → Account → List LoggedLine
 told_left fresh e = if fresh then told_by e.running e.memo.call false e.told else e.told
 
 -- a line joins those of the last agent

@@ -4,14 +4,14 @@ use Rattle.shm_words.specs.declared.geometry.Geometry.{Geometry}
 use Rattle.shm_words.specs.Headers.{header_of}
 use Rattle.shm_words.specs.Tags.{tag_author}
 use Rattle.shm_graph.specs.declared.spot.Spot.{Spot}
-use Rattle.shm_graph.specs.declared.spot.Spot.TheVariants.{Status, Redo, Hold, Latch, Home, Era, Root, Tail, Front, Slot, Segment, Page, Unused, Head, Tag, Body}
+use Rattle.shm_graph.specs.declared.spot.Spot.TheVariants.{Status, Redo, Hold, Latch, Home, Era, Root, Tail, QueueHead, Slot, Segment, Page, Unused, Head, Tag, Body}
 use Rattle.shm_graph.specs.declared.memo.Status.TheVariants as status
 use Rattle.shm_graph.specs.declared.memo.Op.TheVariants.{Nothing}
 use Rattle.shm_graph.specs.References.{words_of}
 use Rattle.shm_graph.specs.Tables.{contents_of, HasShape}
-use Rattle.shm_graph.specs.Views.{View, own_word, owner_is, targets, limbos, ons}
+use Rattle.shm_graph.specs.Views.{View, own_word, owner_is, targets, held_overs, ons}
 use Rattle.shm_graph.specs.Held.{status_word, LatchTie, SegmentTie, DyingTie, MakingTie, BlockSound, EraSound, OpTie, CountSound, named_by, LooksSound, LaneSound, IsUnusedLane, PartTie, is_loose, Fresh, IsDying}
-use Rattle.shm_graph.specs.Controls.{Controls}
+use Rattle.shm_graph.specs.Controllers.{IsController}
 
 -- nothing of an identity is left: no step in progress, no root, latch, zero-count block or segment, no send that isn't published and no receive that is half done
 pub record IsGone (g : Geometry) (w : Spot → ℕ) (v : View) (c : ℕ) : Type 0 where
@@ -21,8 +21,8 @@ pub record IsGone (g : Geometry) (w : Spot → ℕ) (v : View) (c : ℕ) : Type 
   pub latches : (a : ℕ) → w (Latch a) ≢ c + 1
   pub blocks : (b : ℕ) → IsDying (header_of (w (Head b))) c → ⊥
   pub segments : (s : ℕ) → w (Segment s) ≢ c + 1
-  pub sends : (r : ℕ) → r < g.clients → r ≢ c → w (Tail c r) < w (Front c r) + 8 → targets g w v (Slot c r (w (Tail c r) % 8)) ≡ 0
-  pub takes : (s : ℕ) → s < g.clients → s ≢ c → w (Front s c) < w (Tail s c) → targets g w v (Slot s c (w (Front s c) % 8)) ≢ 0
+  pub sends : (r : ℕ) → r < g.clients → r ≢ c → w (Tail c r) < w (QueueHead c r) + 8 → targets g w v (Slot c r (w (Tail c r) % 8)) ≡ 0
+  pub takes : (s : ℕ) → s < g.clients → s ≢ c → w (QueueHead s c) < w (Tail s c) → targets g w v (Slot s c (w (QueueHead s c) % 8)) ≢ 0
 
 -- Memos show what the words say; words of pages without a class are 0; counts are numbers of references; eras are in order; queues agree with what was sent and received; who is gone has nothing left; and no word is two identities' to store
 pub record IsSound (g : Geometry) (w : Spot → ℕ) (v : View) : Type 0 where
@@ -34,15 +34,15 @@ pub record IsSound (g : Geometry) (w : Spot → ℕ) (v : View) : Type 0 where
   pub making : (c : ℕ) → c < g.clients → MakingTie g (λ s q. w (Page s q)) (λ s. w (Segment s)) (λ b. w (Head b)) (λ b. w (Tag b)) (λ b i. w (Body b i)) c (v.making c)
   pub blocks : BlockSound g (λ s q. w (Page s q)) (λ b. w (Head b)) (λ b. w (Tag b))
   pub unused : (a : ℕ) → w (Unused a) ≡ 0
-  pub count : CountSound g (λ s q. w (Page s q)) (λ b. header_of (w (Head b))) (targets g w v) (limbos v)
+  pub count : CountSound g (λ s q. w (Page s q)) (λ b. header_of (w (Head b))) (targets g w v) (held_overs v)
   pub era : EraSound g.clients (λ b. header_of (w (Head b))) (λ i j. w (Era i j)) (ons v)
   pub op : (c : ℕ) → c < g.clients → OpTie g (λ s q. w (Page s q)) (w (Redo c)) (w (Era c c)) (words_of w) (v.op c)
-  pub looks : (c : ℕ) → c < g.clients → LooksSound (λ a. targets g w v (Home a)) (λ b i. targets g w v (Body b i)) (λ b. tag_author (w (Tag b))) (v.latch c) (named_by (targets g w v) (λ s r. w (Tail s r)) (λ s r. w (Front s r)) c) [] (v.looks c)
+  pub looks : (c : ℕ) → c < g.clients → LooksSound (λ a. targets g w v (Home a)) (λ b i. targets g w v (Body b i)) (λ b. tag_author (w (Tag b))) (v.latch c) (named_by (targets g w v) (λ s r. w (Tail s r)) (λ s r. w (QueueHead s r)) c) [] (v.looks c)
   pub parts : (c d : ℕ) → c < g.clients → d < g.clients → is_loose (v.part c) ≡ is_loose (v.part d)
   pub part : (c : ℕ) → c < g.clients → PartTie (contents_of w (targets g w v)) c (targets g w v (Home c)) (v.part c)
   pub queued : (c : ℕ) → c < g.clients → is_loose (v.part c) ≡ false → (s r k : ℕ) → targets g w v (Slot s r k) ≢ 0 → HasShape (contents_of w (targets g w v)) 0 1 (targets g w v (Slot s r k))
-  pub lanes : (s r : ℕ) → s < g.clients → r < g.clients → s ≢ r → LaneSound (λ k. targets g w v (Slot s r k)) (w (Tail s r)) (w (Front s r)) (v.sent s r) (v.unsent s r) (v.received r s) (v.untaken r s)
-  pub self_lanes : (c : ℕ) → c < g.clients → IsUnusedLane (w (Tail c c)) (w (Front c c)) (λ k. targets g w v (Slot c c k))
+  pub lanes : (s r : ℕ) → s < g.clients → r < g.clients → s ≢ r → LaneSound (λ k. targets g w v (Slot s r k)) (w (Tail s r)) (w (QueueHead s r)) (v.sent s r) (v.unsent s r) (v.received r s) (v.untaken r s)
+  pub self_lanes : (c : ℕ) → c < g.clients → IsUnusedLane (w (Tail c c)) (w (QueueHead c c)) (λ k. targets g w v (Slot c c k))
   pub fresh : (c : ℕ) → c < g.clients → v.status c ≡ status.New → Fresh c (v.own c) (v.op c) (v.latch c) (v.looks c) (v.making c) (v.owned c) (v.dying c) (v.unsent c) (v.untaken c)
   pub gone : (c : ℕ) → c < g.clients → v.status c ≡ status.Gone → IsGone g w v c
-  pub alone : (c d : ℕ) → c < g.clients → d < g.clients → (p : Spot) → Controls g w v c p → Controls g w v d p → c ≡ d
+  pub alone : (c d : ℕ) → c < g.clients → d < g.clients → (p : Spot) → IsController g w v c p → IsController g w v d p → c ≡ d

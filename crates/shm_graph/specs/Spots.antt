@@ -5,7 +5,7 @@ use Rattle.shm_words.specs.declared.place.Place.{Place}
 use Rattle.shm_words.specs.declared.place.Place.TheVariants as place
 use Rattle.shm_words.specs.Layout as layout
 use Rattle.shm_graph.specs.declared.spot.Spot.{Spot}
-use Rattle.shm_graph.specs.declared.spot.Spot.TheVariants.{Spare, Status, Redo, Hold, Latch, Home, Era, Root, Tail, Front, Slot, Segment, Page, Unused, Head, Tag, Body}
+use Rattle.shm_graph.specs.declared.spot.Spot.TheVariants.{Spare, Status, Redo, Hold, Latch, Home, Era, Root, Tail, QueueHead, Slot, Segment, Page, Unused, Head, Tag, Body}
 
 -- whether two spots are one
 abbrev pub same_spot : Spot → Spot → Bool
@@ -18,7 +18,7 @@ same_spot (Home c) (Home d) = c == d
 same_spot (Era i j) (Era k l) = (i == k) && (j == l)
 same_spot (Root c k) (Root d l) = (c == d) && (k == l)
 same_spot (Tail s r) (Tail t u) = (s == t) && (r == u)
-same_spot (Front s r) (Front t u) = (s == t) && (r == u)
+same_spot (QueueHead s r) (QueueHead t u) = (s == t) && (r == u)
 same_spot (Slot s r k) (Slot t u l) = (s == t) && ((r == u) && (k == l))
 same_spot (Segment g) (Segment h) = g == h
 same_spot (Page g p) (Page h q) = (g == h) && (p == q)
@@ -47,7 +47,7 @@ spot_of class a (place.Home c) = Home c
 spot_of class a (place.Era i j) = Era i j
 spot_of class a (place.Root c k) = Root c k
 spot_of class a (place.Tail s r) = Tail s r
-spot_of class a (place.Head s r) = Front s r
+spot_of class a (place.Head s r) = QueueHead s r
 spot_of class a (place.Slot s r k) = Slot s r k
 spot_of class a (place.Segment s) = Segment s
 spot_of class a (place.Page s p) = Page s p
@@ -72,7 +72,7 @@ spot_address g (Home c) = layout.address g (place.Home c)
 spot_address g (Era i j) = layout.address g (place.Era i j)
 spot_address g (Root c k) = layout.address g (place.Root c k)
 spot_address g (Tail s r) = layout.address g (place.Tail s r)
-spot_address g (Front s r) = layout.address g (place.Head s r)
+spot_address g (QueueHead s r) = layout.address g (place.Head s r)
 spot_address g (Slot s r k) = layout.address g (place.Slot s r k)
 spot_address g (Segment s) = layout.address g (place.Segment s)
 spot_address g (Page s p) = layout.address g (place.Page s p)

@@ -7,11 +7,11 @@ use Rattle.shm_words.specs.declared.redo.Redo.TheVariants as redos
 use Rattle.shm_words.specs.Redos.{redo_of}
 use Rattle.shm_words.specs.Layout as layout
 use Rattle.shm_graph.specs.declared.spot.Spot.{Spot}
-use Rattle.shm_graph.specs.declared.spot.Spot.TheVariants.{Status, Redo, Hold, Latch, Home, Era, Root, Tail, Front, Slot, Segment, Page, Head, Tag, Body}
+use Rattle.shm_graph.specs.declared.spot.Spot.TheVariants.{Status, Redo, Hold, Latch, Home, Era, Root, Tail, QueueHead, Slot, Segment, Page, Head, Tag, Body}
 use Rattle.shm_graph.specs.declared.memo.First.{First}
 use Rattle.shm_graph.specs.declared.memo.First.TheVariants.{Begun, Written}
 use Rattle.shm_graph.specs.declared.memo.Second.TheVariants.{Open}
-use Rattle.shm_graph.specs.declared.memo.Half.TheVariants.{Raising, Lowering}
+use Rattle.shm_graph.specs.declared.memo.ChangeStage.TheVariants.{Raising, Lowering}
 use Rattle.shm_graph.specs.declared.memo.Op.{Op}
 use Rattle.shm_graph.specs.declared.memo.Op.TheVariants.{Nothing, Alloc, Up, Down, Change}
 use Rattle.shm_graph.specs.declared.memo.Stored.{Stored}
@@ -178,7 +178,7 @@ stored_on g c m (Home d) v = written (with_own m (Home d) v)
 stored_on g c m (Era i j) v = if j == c then era_stored c m (Era i j) v else with_own m (Era i j) v
 stored_on g c m (Root d k) v = written (with_own m (Root d k) v)
 stored_on g c m (Tail s r) v = tail_stored m (Tail s r) r v
-stored_on g c m (Front s r) v = head_stored m (Front s r) s v
+stored_on g c m (QueueHead s r) v = head_stored m (QueueHead s r) s v
 stored_on g c m (Slot s r k) v = written m
 stored_on g c m (Segment s) v = segment_stored g m s
 stored_on g c m (Page s q) v = page_stored m s q v

@@ -2,7 +2,7 @@
 use Rattle.std.specs.Prelude.{ℕ, Bool, false, ◌==◌, if◌then◌else◌, List, [], ◌∷◌, Option, slice_index, slice_index_or}
 use Rattle.shm_words.specs.declared.geometry.Geometry.{Geometry}
 use Rattle.shm_graph.specs.declared.spot.Spot.{Spot}
-use Rattle.shm_graph.specs.declared.spot.Spot.TheVariants.{Redo, Hold, Home, Era, Root, Tail, Front}
+use Rattle.shm_graph.specs.declared.spot.Spot.TheVariants.{Redo, Hold, Home, Era, Root, Tail, QueueHead}
 use Rattle.shm_graph.specs.declared.memo.Status.{Status as AStatus}
 use Rattle.shm_graph.specs.declared.memo.Op.{Op}
 use Rattle.shm_graph.specs.declared.memo.Stored.{Stored}
@@ -14,7 +14,7 @@ use Rattle.shm_graph.specs.declared.memo.Memo.{Memo}
 use Rattle.shm_graph.specs.declared.table.Part.{Part}
 use Rattle.shm_graph.specs.Spots.{same_spot}
 use Rattle.shm_graph.specs.References.{words_of}
-use Rattle.shm_graph.specs.Ops.{cover_of, limbo_of, on_of, target}
+use Rattle.shm_graph.specs.Ops.{cover_of, held_over_of, on_of, target}
 
 -- a function with one value changed, by one key and by two
 abbrev pub at1 : {T : Type 0} → (ℕ → T) → ℕ → T → ℕ → T
@@ -33,7 +33,7 @@ owner_is c (Home d) = c == d
 owner_is c (Era i j) = c == i
 owner_is c (Root d k) = c == d
 owner_is c (Tail s r) = c == s
-owner_is c (Front s r) = c == r
+owner_is c (QueueHead s r) = c == r
 owner_is c _ = false
 
 -- the parts of the memos, each by identity; the lanes by sender and receiver, or receiver and sender
@@ -91,5 +91,5 @@ targets g w v = target g.clients (words_of w) (λ c. cover_of (v.op c))
 abbrev pub ons : View → ℕ → Option ℕ
 ons v c = on_of (v.op c)
 
-abbrev pub limbos : View → ℕ → ℕ
-limbos v c = limbo_of (v.op c)
+abbrev pub held_overs : View → ℕ → ℕ
+held_overs v c = held_over_of (v.op c)

@@ -22,15 +22,15 @@ module _ {S A : Type 0} (k : Control S A) (fits : S → Memo → Memo → Type 0
   abbrev pub Learns : S → ℕ → Memo → Memo → Type 0
   Learns m n r r' = (r0 : Memo) → fits m r0 r → Outcome (k.turns m n) (fits (k.after m n) r0 r') (gives m r0 r')
 
-  pub record Kept (m : S) (ws : List ℕ) (es : List Account) (r0 : Memo) (n : ℕ) : Type 0 where
+  pub record WholeKept (m : S) (ws : List ℕ) (es : List Account) (r0 : Memo) (n : ℕ) : Type 0 where
     pub turned : Turned (k.me m).geometry (state ws es) (Word (step_of k m n))
     pub learns : let r' : Memo = memo_after (account_at es (k.me m).who).memo (step_of k m n) in Outcome (k.turns m n) (fits (k.after m n) r0 r') (gives m r0 r')
 
   -- the machine asks for a word of the pool
-  abbrev pub Inside : Type 0
-  Inside = (m : S) (r0 r : Memo) → (k.me m).who < (k.me m).geometry.clients → fits m r0 r → k.finished m ≡ false → at_of (k.asks m) < total_of (k.me m).geometry
+  abbrev pub WholeInside : Type 0
+  WholeInside = (m : S) (r0 r : Memo) → (k.me m).who < (k.me m).geometry.clients → fits m r0 r → k.finished m ≡ false → at_of (k.asks m) < total_of (k.me m).geometry
 
   -- from each Held state that fits, its step is a turn, and the machine fits again
-  abbrev pub Keeps : Type 0
-  Keeps = (m : S) (ws : List ℕ) (es : List Account) (r0 : Memo) → Held (k.me m).geometry ws es → (k.me m).who < (k.me m).geometry.clients → fits m r0 (account_at es (k.me m).who).memo → k.finished m ≡ false
-      → Kept m ws es r0 (seen_of (k.asks m) (slice_index ws (at_of (k.asks m))))
+  abbrev pub WholeKeeps : Type 0
+  WholeKeeps = (m : S) (ws : List ℕ) (es : List Account) (r0 : Memo) → Held (k.me m).geometry ws es → (k.me m).who < (k.me m).geometry.clients → fits m r0 (account_at es (k.me m).who).memo → k.finished m ≡ false
+      → WholeKept m ws es r0 (seen_of (k.asks m) (slice_index ws (at_of (k.asks m))))

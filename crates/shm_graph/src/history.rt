@@ -17,14 +17,14 @@ ghost use Rattle.shm_graph.specs.declared.spot.Spot.TheVariants as spot;
 ghost use Rattle.shm_graph.specs.Agents.{acts, last_agent};
 ghost use Rattle.shm_graph.specs.Asks.{at_of};
 ghost use Rattle.shm_graph.specs.Blocks.{IsLive, classes, headers};
-ghost use Rattle.shm_graph.specs.Controls.{Controls};
+ghost use Rattle.shm_graph.specs.Controllers.{IsController};
 ghost use Rattle.shm_graph.specs.Events.{Alloc, Up, ChangeUp, Free};
 ghost use Rattle.shm_graph.specs.Histories.{IsTaken, event_at};
 ghost use Rattle.shm_graph.specs.Ops.{indegree};
 ghost use Rattle.shm_graph.specs.Runs.{EraFits, Held, State, first_state, memos_of, moved, Leads};
 ghost use Rattle.shm_graph.specs.Sound.{IsSound};
 ghost use Rattle.shm_graph.specs.Spots.{classes_in, see, spot_at};
-ghost use Rattle.shm_graph.specs.Views.{limbos, targets, view};
+ghost use Rattle.shm_graph.specs.Views.{held_overs, targets, view};
 
 /// Each state of a run from a pool's first state is sound, and each turn of a run is taken in a state to which the turns before it
 /// lead.
@@ -38,10 +38,10 @@ pub fn runs_are_sound()
 /// reference of a block that is freed is passed by; and a header of another client is overwritten only by one whose own row shows its
 /// era.
 pub fn word_turns()
-    ensures others { (g : AGeometry) (s : State) (t : AStep) → IsTaken g s (Word t) → (d : ℕ) (p : ASpot) → d < g.clients → d ≢ t.me.who → Controls g (see g s.words) (view (memos_of s.accounts)) d p → see g (moved s (Word t)).words p ≡ see g s.words p }
+    ensures others { (g : AGeometry) (s : State) (t : AStep) → IsTaken g s (Word t) → (d : ℕ) (p : ASpot) → d < g.clients → d ≢ t.me.who → IsController g (see g s.words) (view (memos_of s.accounts)) d p → see g (moved s (Word t)).words p ≡ see g s.words p }
     ensures allocated { (g : AGeometry) (s : State) (t : AStep) → IsTaken g s (Word t) → (c k b : ℕ) → event_at g s t ≡ Alloc c k b → (p : ASpot) → targets g (see g s.words) (view (memos_of s.accounts)) p ≢ b }
-    ensures raised { (g : AGeometry) (s : State) (t : AStep) → IsTaken g s (Word t) → (c : ℕ) (p : ASpot) (b : ℕ) → event_at g s t ≡ Up c p b → 0 < indegree g (classes (see g s.words)) (targets g (see g s.words) (view (memos_of s.accounts))) (limbos (view (memos_of s.accounts))) b }
-    ensures changed { (g : AGeometry) (s : State) (t : AStep) → IsTaken g s (Word t) → (c : ℕ) (p : ASpot) (a b : ℕ) → event_at g s t ≡ ChangeUp c p a b → (0 < indegree g (classes (see g s.words)) (targets g (see g s.words) (view (memos_of s.accounts))) (limbos (view (memos_of s.accounts))) b) × (limbos (view (memos_of s.accounts)) c ≡ 0) }
+    ensures raised { (g : AGeometry) (s : State) (t : AStep) → IsTaken g s (Word t) → (c : ℕ) (p : ASpot) (b : ℕ) → event_at g s t ≡ Up c p b → 0 < indegree g (classes (see g s.words)) (targets g (see g s.words) (view (memos_of s.accounts))) (held_overs (view (memos_of s.accounts))) b }
+    ensures changed { (g : AGeometry) (s : State) (t : AStep) → IsTaken g s (Word t) → (c : ℕ) (p : ASpot) (a b : ℕ) → event_at g s t ≡ ChangeUp c p a b → (0 < indegree g (classes (see g s.words)) (targets g (see g s.words) (view (memos_of s.accounts))) (held_overs (view (memos_of s.accounts))) b) × (held_overs (view (memos_of s.accounts)) c ≡ 0) }
     ensures freed { (g : AGeometry) (s : State) (t : AStep) → IsTaken g s (Word t) → (c b : ℕ) → event_at g s t ≡ Free c b → (i : ℕ) → targets g (see g s.words) (view (memos_of s.accounts)) (spot.Body b i) ≡ 0 }
     ensures rows { (g : AGeometry) (s : State) (t : AStep) → IsTaken g s (Word t) → (at from to b : ℕ) → t.ask ≡ Exchange at from to → spot_at g (classes_in g s.words) at ≡ spot.Head b → see g s.words (spot.Head b) ≡ from → IsLive (headers (see g s.words)) b → t.me.who ≢ (headers (see g s.words) b).client → (headers (see g s.words) b).era ≤ see g s.words (spot.Era t.me.who (headers (see g s.words) b).client) }
 {}

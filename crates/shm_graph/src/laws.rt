@@ -18,7 +18,7 @@ ghost use Rattle.shm_graph.specs.Spots.{spot_at, classes_in, see, is_in_body};
 ghost use Rattle.shm_graph.specs.Blocks.{classes};
 ghost use Rattle.shm_graph.specs.Views.{View, view};
 ghost use Rattle.shm_graph.specs.Held.{HeldAt};
-ghost use Rattle.shm_graph.specs.Controls.{IsAllowed};
+ghost use Rattle.shm_graph.specs.Controllers.{IsAllowed};
 ghost use Rattle.shm_graph.specs.Events.{Event};
 ghost use Rattle.shm_graph.specs.Asks.{Trail, at_of, words_after, words_set};
 ghost use Rattle.shm_graph.specs.Laws.{Frame, Stands, KeptAt, GoneNow, MayEnd};
@@ -26,7 +26,7 @@ ghost use Rattle.shm_graph.specs.Runs.{Held, State, memos_of, moved, IsMove, Tur
 ghost use Rattle.shm_graph.specs.CallEvents.{steps_of_call, events_of, steps_in, events_in, IsUnbroken};
 ghost use Rattle.shm_graph.specs.Sound.{IsSound};
 ghost use Rattle.shm_graph.specs.Clean.{IsClean};
-ghost use Rattle.shm_graph.specs.Whole.{fits_now, gives_now, Inside, Keeps};
+ghost use Rattle.shm_graph.specs.Whole.{fits_now, gives_now, WholeInside, WholeKeeps};
 ghost use Rattle.shm_graph.specs.Tells.{Tells, GoesOn, machine_steps, tells_along};
 
 use crate::machine::Machine;
@@ -53,8 +53,8 @@ pub fn agents_change()
 /// The law of a machine that runs by itself, of any machine: it asks for words of the pool, and each of its steps is a turn after
 /// which it fits again, or gives what it answers.
 pub fn machine_law<M: Machine>()
-    ensures inside { Inside M.control (fits_now M.control M.fits) (gives_now M.gives) }
-    ensures keeps { Keeps M.control (fits_now M.control M.fits) (gives_now M.gives) }
+    ensures inside { WholeInside M.control (fits_now M.control M.fits) (gives_now M.gives) }
+    ensures keeps { WholeKeeps M.control (fits_now M.control M.fits) (gives_now M.gives) }
 {}
 
 /// A state that holds is sound: memos show what the words say, counts are numbers of references, and no word is two identities'

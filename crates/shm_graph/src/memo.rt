@@ -36,7 +36,7 @@ pub enum Second {
 }
 
 /// The halves of a change: it raises the block after, and then lowers the block before.
-pub enum Half {
+pub enum ChangeStage {
     Raising { stage: First },
     Lowering { stage: Second },
 }
@@ -67,7 +67,7 @@ pub enum Op {
     },
     /// A slot changes from one block to another.
     Change {
-        half: Half,
+        half: ChangeStage,
         slot: Spot,
         before: u32,
         after: u32,

@@ -15,7 +15,7 @@ pub struct Start {
 }
 
 /// A line, the trail of its machine, and whether that machine was finished.
-pub struct Told {
+pub struct LoggedLine {
     pub line: LinkedList<u8>,
     pub trail: LinkedList<Seen>,
     pub finished: bool,
@@ -25,7 +25,7 @@ pub struct Told {
 pub struct Account {
     pub who: u8,
     pub memo: Memo,
-    pub told: LinkedList<Told>,
+    pub told: LinkedList<LoggedLine>,
     /// For each agent the lines of the machines that it began.
     pub begun: LinkedList<LinkedList<LinkedList<u8>>>,
     /// The line of the machine that is running.

@@ -6,14 +6,14 @@ ghost use Rattle.shm_words.specs.declared.redo.Redo.TheVariants as redos;
 ghost use Rattle.shm_words.specs.Layout.{GeometryFits, total_of};
 ghost use Rattle.shm_words.specs.Redos.{redo_of};
 ghost use Rattle.shm_graph.specs.declared.memo.First.{First as AFirst};
-ghost use Rattle.shm_graph.specs.declared.memo.Half.TheVariants.{Raising};
+ghost use Rattle.shm_graph.specs.declared.memo.ChangeStage.TheVariants.{Raising};
 ghost use Rattle.shm_graph.specs.declared.memo.Op.TheVariants.{Up, Down, Change};
 ghost use Rattle.shm_graph.specs.declared.spot.Spot.{Spot as ASpot};
 ghost use Rattle.shm_graph.specs.declared.spot.Spot.TheVariants as spot;
 ghost use Rattle.shm_graph.specs.Spots.{see, spot_at, spot_address};
 ghost use Rattle.shm_graph.specs.Blocks.{IsLive, classes, headers};
-ghost use Rattle.shm_graph.specs.References.{reference_count, references, references_to, sum_below};
-ghost use Rattle.shm_graph.specs.Views.{View, targets, limbos, ons};
+ghost use Rattle.shm_graph.specs.References.{references_in_all, references, references_to, sum_below};
+ghost use Rattle.shm_graph.specs.Views.{View, targets, held_overs, ons};
 ghost use Rattle.shm_graph.specs.Held.{Shown, odd};
 ghost use Rattle.shm_graph.specs.Sound.{IsSound};
 ghost use Rattle.shm_graph.specs.Clean.{IsClean};
@@ -24,7 +24,7 @@ ghost use Rattle.shm_graph.specs.Clean.{IsClean};
 pub fn references_are_counted()
     ensures named { (g : AGeometry) (ws : List ℕ) (v : View) → GeometryFits g → IsSound g (see g ws) v → (p : ASpot) → targets g (see g ws) v p ≢ 0 → IsLive (headers (see g ws)) (targets g (see g ws) v p) × (0 < (headers (see g ws) (targets g (see g ws) v p)).count) }
     ensures free { (g : AGeometry) (w : ASpot → ℕ) (v : View) → IsSound g w v → (b : ℕ) → w (spot.Head b) ≡ 0 → (p : ASpot) → targets g w v p ≡ b → b ≡ 0 }
-    ensures counted { (g : AGeometry) (w : ASpot → ℕ) (v : View) → IsSound g w v → ((c : ℕ) → c < g.clients → limbos v c ≡ 0) → (b : ℕ) → b ≢ 0 → IsLive (headers w) b → (headers w b).count ≡ references_to g (classes w) (targets g w v) b }
+    ensures counted { (g : AGeometry) (w : ASpot → ℕ) (v : View) → IsSound g w v → ((c : ℕ) → c < g.clients → held_overs v c ≡ 0) → (b : ℕ) → b ≢ 0 → IsLive (headers w) b → (headers w b).count ≡ references_to g (classes w) (targets g w v) b }
 {}
 
 /// In a sound state the words tell whether an identity's step is committed and not yet closed: where it is, its block's header or a
@@ -46,9 +46,9 @@ pub fn redo_tells_the_step()
 /// In a sound state what was received is a front of what was sent, the items that wait are live blocks, at most 8 wait, and nothing
 /// waits in a queue from an identity to itself.
 pub fn queues_keep_their_items()
-    ensures front { (g : AGeometry) (w : ASpot → ℕ) (v : View) → IsSound g w v → (s r : ℕ) → s < g.clients → r < g.clients → s ≢ r → v.received r s ≡ take (w (spot.Front s r)) (v.sent s r) }
-    ensures waiting { (g : AGeometry) (w : ASpot → ℕ) (v : View) → IsSound g w v → (s r n : ℕ) → s < g.clients → r < g.clients → s ≢ r → w (spot.Front s r) < n → n < w (spot.Tail s r) → IsLive (headers w) (slice_index (v.sent s r) n) }
-    ensures room { (g : AGeometry) (w : ASpot → ℕ) (v : View) → IsSound g w v → (s r : ℕ) → s < g.clients → r < g.clients → s ≢ r → (w (spot.Front s r) ≤ w (spot.Tail s r)) × (w (spot.Tail s r) ≤ w (spot.Front s r) + 8) }
+    ensures queue_head { (g : AGeometry) (w : ASpot → ℕ) (v : View) → IsSound g w v → (s r : ℕ) → s < g.clients → r < g.clients → s ≢ r → v.received r s ≡ take (w (spot.QueueHead s r)) (v.sent s r) }
+    ensures waiting { (g : AGeometry) (w : ASpot → ℕ) (v : View) → IsSound g w v → (s r n : ℕ) → s < g.clients → r < g.clients → s ≢ r → w (spot.QueueHead s r) < n → n < w (spot.Tail s r) → IsLive (headers w) (slice_index (v.sent s r) n) }
+    ensures room { (g : AGeometry) (w : ASpot → ℕ) (v : View) → IsSound g w v → (s r : ℕ) → s < g.clients → r < g.clients → s ≢ r → (w (spot.QueueHead s r) ≤ w (spot.Tail s r)) × (w (spot.Tail s r) ≤ w (spot.QueueHead s r) + 8) }
     ensures apart { (g : AGeometry) (w : ASpot → ℕ) (v : View) → IsSound g w v → (s r k : ℕ) → s < g.clients → targets g w v (spot.Slot s r k) ≢ 0 → s ≢ r }
 {}
 
@@ -65,5 +65,5 @@ pub fn clean_pools()
     ensures empty { (g : AGeometry) (w : ASpot → ℕ) → IsClean g w → ((b : ℕ) → w (spot.Head b) ≡ 0) → (p : ASpot) → references w p ≡ 0 }
     ensures headers { (g : AGeometry) (w : ASpot → ℕ) → IsClean g w → (b : ℕ) → w (spot.Head b) ≢ 0 → IsLive (headers w) b × ((headers w b).client < g.clients) }
     ensures joinable { (g : AGeometry) (w : ASpot → ℕ) → IsClean g w → (c : ℕ) → c < g.clients → (w (spot.Status c) ≢ 1) × (w (spot.Status c) ≢ 2) }
-    ensures sum { (g : AGeometry) (ws : List ℕ) → GeometryFits g → IsClean g (see g ws) → reference_count g (classes (see g ws)) (references (see g ws)) ≡ sum_below (total_of g) (λ b. if (headers (see g ws) b).live then (headers (see g ws) b).count else 0) }
+    ensures sum { (g : AGeometry) (ws : List ℕ) → GeometryFits g → IsClean g (see g ws) → references_in_all g (classes (see g ws)) (references (see g ws)) ≡ sum_below (total_of g) (λ b. if (headers (see g ws) b).live then (headers (see g ws) b).count else 0) }
 {}

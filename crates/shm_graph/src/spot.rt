@@ -22,7 +22,7 @@ pub enum Spot {
     /// The tail of the queue from `s` to `r`.
     Tail { s: u8, r: u8 },
     /// The head of the queue from `s` to `r`.
-    Front { s: u8, r: u8 },
+    QueueHead { s: u8, r: u8 },
     /// A slot of the queue from `s` to `r`.
     Slot { s: u8, r: u8, k: u8 },
     /// The owner of a segment.

@@ -11,7 +11,7 @@ use Rattle.shm_words.specs.Headers.{header_of}
 use Rattle.shm_words.specs.Tags.{tag_refs, tag_author, tag_link}
 use Rattle.shm_words.proofs.Words.{header_of_zero}
 use Rattle.shm_graph.specs.declared.spot.Spot.{Spot}
-use Rattle.shm_graph.specs.declared.spot.Spot.TheVariants.{Redo, Home, Era, Root, Tail, Front, Slot, Segment, Page, Head, Tag, Body}
+use Rattle.shm_graph.specs.declared.spot.Spot.TheVariants.{Redo, Home, Era, Root, Tail, QueueHead, Slot, Segment, Page, Head, Tag, Body}
 use Rattle.shm_graph.specs.declared.memo.Status.TheVariants as status
 use Rattle.shm_graph.specs.declared.memo.First.TheVariants.{Begun, Committed}
 use Rattle.shm_graph.specs.declared.memo.Op.{Op}
@@ -22,24 +22,24 @@ use Rattle.shm_graph.specs.Spots.{upd, same_spot, IsAt, class_at, segment_of, sp
 use Rattle.shm_graph.specs.Blocks.{IsBlock, classes, headers}
 use Rattle.shm_graph.specs.Events.{graph_of, with_live, with_target, IsSame, Happens, Alloc as AllocEvent}
 use Rattle.shm_graph.specs.References.{one_if, refs_of, words_of}
-use Rattle.shm_graph.specs.Ops.{cover, cover_of, covered, slot_of, up_slot, indegree, limbo_of, on_of, is_op}
-use Rattle.shm_graph.specs.Views.{View, at1, targets, ons, limbos}
+use Rattle.shm_graph.specs.Ops.{cover, cover_of, covered, slot_of, up_slot, indegree, held_over_of, on_of, is_op}
+use Rattle.shm_graph.specs.Views.{View, at1, targets, ons, held_overs}
 use Rattle.shm_graph.specs.Tables.{contents_of, HasShape}
 use Rattle.shm_graph.specs.Held.{HeldAt, CountSound, SlotOf, reach_of, named_by, TagSound, MakingTie, MakingSound, InBlock, ZeroAt, TestAt, KnownAt, LooksSound, LaneSound, IsDying, OwnSound, OpTie, OpSound, Allowed, TailSound, room_of, IsUnusedLane, PartTie, ValueAt, MadeAt, is_loose}
-use Rattle.shm_graph.proofs.Spotting.{same_spot_is, same_spot_self, block_is_at, in_pool}
-use Rattle.shm_graph.proofs.Holders.{InReach}
-use Rattle.shm_graph.proofs.Lists.{at1_here, at1_other}
-use Rattle.shm_graph.proofs.Frames.{at1_all}
-use Rattle.shm_graph.proofs.Counting.{covered_none}
+use Rattle.shm_graph.proofs.Spots.Spotting.{same_spot_is, same_spot_self, block_is_at, in_pool}
+use Rattle.shm_graph.proofs.States.Holders.{InReach}
+use Rattle.shm_graph.proofs.Runs.Lists.{at1_here, at1_other}
+use Rattle.shm_graph.proofs.Memos.Frames.{at1_all}
+use Rattle.shm_graph.proofs.States.Counting.{covered_none}
 use Rattle.shm_laws.proofs.Owns.{mine_other, small_stored, there_stored}
 use Rattle.shm_laws.proofs.Sum.{refs_target, commit_target}
 use Rattle.shm_laws.proofs.Keep.{All-kept, era_of_zero, count_of_zero}
 use Rattle.shm_laws.proofs.Exchange.{era_exchange, facts_committed, count_free, count_exchange, named_kept, slot_kept, looks_kept, known_kept, apart}
 use Rattle.shm_laws.proofs.References.{live_some, part_lives, queued_kept, values_kept, made_some, made_kept}
-use Rattle.shm_laws.specs.Steps.{AllocStep, alloc_view}
+use Rattle.shm_laws.specs.Steps.{AllocNeeds, alloc_view}
 use Rattle.shm_graph.specs.Stores.{other_than}
 
-module _ (g : Geometry) (w : Spot → ℕ) (v : View) (c k b e to tag : ℕ) (m : Making) (h : HeldAt g w v) (a : AllocStep g w v c k b e to tag m) where
+module _ (g : Geometry) (w : Spot → ℕ) (v : View) (c k b e to tag : ℕ) (m : Making) (h : HeldAt g w v) (a : AllocNeeds g w v c k b e to tag m) where
   m_at : MakingSound g (classes w) (λ i. w (Segment i)) (λ i. w (Head i)) (λ i. w (Tag i)) (λ i j. w (Body i j)) c m
   m_at = let q : MakingTie g (classes w) (λ i. w (Segment i)) (λ i. w (Head i)) (λ i. w (Tag i)) (λ i j. w (Body i j)) c (Some m) = subst (MakingTie g (classes w) (λ i. w (Segment i)) (λ i. w (Head i)) (λ i. w (Tag i)) (λ i j. w (Body i j)) c) a.making (h.making c a.inside) in q
 
@@ -62,8 +62,8 @@ module _ (g : Geometry) (w : Spot → ℕ) (v : View) (c k b e to tag : ℕ) (m 
   b_not_zero z = let q = in_pool g (classes w) b (Head b) block (λ y. cc) in absurd (omega arith)
 
   -- nothing names a free block
-  unnamed : indegree g (classes w) (targets g w v) (limbos v) b ≡ 0
-  unnamed = count_free g (classes w) (headers w) (targets g w v) (limbos v) b h.count b_not_zero dead
+  unnamed : indegree g (classes w) (targets g w v) (held_overs v) b ≡ 0
+  unnamed = count_free g (classes w) (headers w) (targets g w v) (held_overs v) b h.count b_not_zero dead
 
   op_sound : OpSound g (classes w) (w (Redo c)) (w (Era c c)) (w (Root c k)) (Root c k) (redos.Up (spot_address g (Root c k)) b) e 0
   op_sound = let q : OpTie g (classes w) (w (Redo c)) (w (Era c c)) (words_of w) (Alloc Begun (Root c k) b e) = subst (OpTie g (classes w) (w (Redo c)) (w (Era c c)) (words_of w)) a.op (h.op c a.inside) in q
@@ -77,11 +77,11 @@ module _ (g : Geometry) (w : Spot → ℕ) (v : View) (c k b e to tag : ℕ) (m 
   covers_root : (d : ℕ) → d < g.clients → (y : ℕ) → cover (cover_of (v.op d)) (Root c k) y ≡ y
   covers_root d l y = elim (cases_eq c d) [
     | inl x ↦ subst (λ i. cover (cover_of (v.op i)) (Root c k) y ≡ y) x (ap (λ z. cover (cover_of z) (Root c k) y) a.op)
-    | inr n ↦ apart d (headers w) (λ i. w (Tag i)) (v.latch d) (λ i j. w (Tail i j)) (λ i j. w (Front i j)) (InReach w g v d) (v.op d) (Root c k) (h.slots d l) (λ x. n x) y
+    | inr n ↦ apart d (headers w) (λ i. w (Tag i)) (v.latch d) (λ i j. w (Tail i j)) (λ i j. w (QueueHead i j)) (InReach w g v d) (v.op d) (Root c k) (h.slots d l) (λ x. n x) y
   ]
 
   covers_body : (i d : ℕ) → d < g.clients → (y : ℕ) → cover (cover_of (v.op d)) (Body b i) y ≡ y
-  covers_body i d l y = apart d (headers w) (λ i. w (Tag i)) (v.latch d) (λ i j. w (Tail i j)) (λ i j. w (Front i j)) (InReach w g v d) (v.op d) (Body b i) (h.slots d l) (λ x. not_live x.0) y
+  covers_body i d l y = apart d (headers w) (λ i. w (Tag i)) (v.latch d) (λ i j. w (Tail i j)) (λ i j. w (QueueHead i j)) (InReach w g v d) (v.op d) (Body b i) (h.slots d l) (λ x. not_live x.0) y
 
   root_zero : targets g w v (Root c k) ≡ 0
   root_zero = covered_none g.clients (Root c k) (w (Root c k)) (λ d. cover_of (v.op d)) covers_root ∙ op_sound.word
@@ -105,8 +105,8 @@ module _ (g : Geometry) (w : Spot → ℕ) (v : View) (c k b e to tag : ℕ) (m 
   path = commit_target g.clients (words_of (upd w (Head b) to)) v.op c (Alloc Committed (Root c k) b e) (Root c k) b a.inside (ap cover_of a.op) refl tt (λ d l _ y. covers_root d l y)
       ∙ ap (λ z. upd z (Root c k) b) (refs_target g.clients (words_of w) refs' (λ d. cover_of (v.op d)) refs_all)
 
-  limbo : limbos (alloc_view v c k b e m) ≡ limbos v
-  limbo = fun_ext (λ d. at1_all (λ (i : ℕ) (x : Op). limbo_of x ≡ limbo_of (v.op i)) v.op c (Alloc Committed (Root c k) b e) d (sym (ap limbo_of a.op)) (λ _. refl))
+  held_over : held_overs (alloc_view v c k b e m) ≡ held_overs v
+  held_over = fun_ext (λ d. at1_all (λ (i : ℕ) (x : Op). held_over_of x ≡ held_over_of (v.op i)) v.op c (Alloc Committed (Root c k) b e) d (sym (ap held_over_of a.op)) (λ _. refl))
 
   pub alloc_kept : HeldAt g (upd w (Head b) to) (alloc_view v c k b e m)
   alloc_kept =
@@ -139,21 +139,21 @@ module _ (g : Geometry) (w : Spot → ℕ) (v : View) (c k b e to tag : ℕ) (m 
             (λ n. h.op d);
         redo = h.redo;
         allowed = λ d. at1_all (λ (i : ℕ) (x : Op). i < g.clients → Allowed i x) v.op c o d (λ l. refl) (λ n. h.allowed d);
-        count = subst (λ (t : Spot → ℕ). CountSound g class (λ i. header_of (word' i)) t (limbos v')) (sym path)
-            (subst (λ (l : ℕ → ℕ). CountSound g class (λ i. header_of (word' i)) t' l) (sym limbo)
-            (count_exchange g class word t (limbos v) (Root c k) b to b op_sound.at (λ z. cc) live_not_zero new_live balance others (λ _. refl) h.count));
-        slots = subst (λ (t : Spot → ℕ). (d : ℕ) → d < g.clients → is_op (v'.op d) ≡ true → SlotOf d (λ i. header_of (word' i)) tags (v.latch d) tail front (reach_of t tail front v.looks d) (slot_of (v'.op d))) (sym path)
-            (λ d. at1_all (λ (i : ℕ) (x : Op). i < g.clients → is_op x ≡ true → SlotOf i (λ j. header_of (word' j)) tags (v.latch i) tail front (reach_of t' tail front v.looks i) (slot_of x)) v.op c o d
+        count = subst (λ (t : Spot → ℕ). CountSound g class (λ i. header_of (word' i)) t (held_overs v')) (sym path)
+            (subst (λ (l : ℕ → ℕ). CountSound g class (λ i. header_of (word' i)) t' l) (sym held_over)
+            (count_exchange g class word t (held_overs v) (Root c k) b to b op_sound.at (λ z. cc) live_not_zero new_live balance others (λ _. refl) h.count));
+        slots = subst (λ (t : Spot → ℕ). (d : ℕ) → d < g.clients → is_op (v'.op d) ≡ true → SlotOf d (λ i. header_of (word' i)) tags (v.latch d) tail queue_head (reach_of t tail queue_head v.looks d) (slot_of (v'.op d))) (sym path)
+            (λ d. at1_all (λ (i : ℕ) (x : Op). i < g.clients → is_op x ≡ true → SlotOf i (λ j. header_of (word' j)) tags (v.latch i) tail queue_head (reach_of t' tail queue_head v.looks i) (slot_of x)) v.op c o d
             (λ l is. refl)
-            (λ n l is. slot_kept d (λ i. header_of (word i)) (λ i. header_of (word' i)) tags (v.latch d) tail front (reach_of t tail front v.looks d) (reach_of t' tail front v.looks d) (slot_of (v.op d)) (λ i q. inl (lives i q)) (dying_kept d) (reach d) (h.slots d l is)));
-        looks = subst (λ (t : Spot → ℕ). (d : ℕ) → d < g.clients → LooksSound (λ a. t (Home a)) (λ b i. t (Body b i)) (λ b. tag_author (w (Tag b))) (v.latch d) (named_by t tail front d) [] (v.looks d)) (sym path)
-            (λ d l. looks_kept (λ a. t (Home a)) (λ a. t (Home a)) (λ b i. t (Body b i)) (λ b i. t (Body b i)) (λ b. tag_author (w (Tag b))) (v.latch d) (named_by t tail front d) (named_by t' tail front d) (λ _ _ _ x. x) (λ _ _ _ _ x. x) (named d) [] (v.looks d) (h.looks d l));
-        lanes = subst (λ (t : Spot → ℕ). (i j : ℕ) → i < g.clients → j < g.clients → i ≢ j → LaneSound (λ k. t (Slot i j k)) (tail i j) (front i j) (v.sent i j) (v.unsent i j) (v.received j i) (v.untaken j i)) (sym path) h.lanes;
-        known = subst (λ (t : Spot → ℕ). (d : ℕ) → d < g.clients → All (λ (s : Stored). KnownAt d tags bodies slots tail front (v.untaken d) (v.latch d) (reach_of t tail front v.looks d) (v.dying d) s.spot s.value) (v'.known d)) (sym path)
+            (λ n l is. slot_kept d (λ i. header_of (word i)) (λ i. header_of (word' i)) tags (v.latch d) tail queue_head (reach_of t tail queue_head v.looks d) (reach_of t' tail queue_head v.looks d) (slot_of (v.op d)) (λ i q. inl (lives i q)) (dying_kept d) (reach d) (h.slots d l is)));
+        looks = subst (λ (t : Spot → ℕ). (d : ℕ) → d < g.clients → LooksSound (λ a. t (Home a)) (λ b i. t (Body b i)) (λ b. tag_author (w (Tag b))) (v.latch d) (named_by t tail queue_head d) [] (v.looks d)) (sym path)
+            (λ d l. looks_kept (λ a. t (Home a)) (λ a. t (Home a)) (λ b i. t (Body b i)) (λ b i. t (Body b i)) (λ b. tag_author (w (Tag b))) (v.latch d) (named_by t tail queue_head d) (named_by t' tail queue_head d) (λ _ _ _ x. x) (λ _ _ _ _ x. x) (named d) [] (v.looks d) (h.looks d l));
+        lanes = subst (λ (t : Spot → ℕ). (i j : ℕ) → i < g.clients → j < g.clients → i ≢ j → LaneSound (λ k. t (Slot i j k)) (tail i j) (queue_head i j) (v.sent i j) (v.unsent i j) (v.received j i) (v.untaken j i)) (sym path) h.lanes;
+        known = subst (λ (t : Spot → ℕ). (d : ℕ) → d < g.clients → All (λ (s : Stored). KnownAt d tags bodies slots tail queue_head (v.untaken d) (v.latch d) (reach_of t tail queue_head v.looks d) (v.dying d) s.spot s.value) (v'.known d)) (sym path)
             (λ d. at1_all (λ (i : ℕ) (x : List Stored). i < g.clients → All (Known i) x) v.known c (m.words ++ v.known c) d
             (λ l. All-append (Known c) m.words (v.known c) (All-weaker _ (Known c) (λ s. made s.spot s.value) m.words m_at.stored) (All-weaker _ (Known c) (λ s. old c s.spot s.value) (v.known c) (h.known c l)))
             (λ n l. All-weaker _ (Known d) (λ s. old d s.spot s.value) (v.known d) (h.known d l)));
-        facts = λ d l. All-weaker _ _ (facts_committed g.clients (λ i j. w (Era i j)) tail front class v.op c b o refl) (v.facts d) (h.facts d l);
+        facts = λ d l. All-weaker _ _ (facts_committed g.clients (λ i j. w (Era i j)) tail queue_head class v.op c b o refl) (v.facts d) (h.facts d l);
         zeros = λ d. at1_all (λ (i : ℕ) (x : List Spot). i < g.clients → All (ZeroAt g class segment word' i) x) v.zeros c (filter (other_than (Head b)) (v.zeros c)) d
             (λ l. All-kept _ _ (other_than (Head b)) zero_own (v.zeros c) (h.zeros c l))
             (λ n l. All-weaker _ _ (zero_other d n) (v.zeros d) (h.zeros d l));
@@ -169,7 +169,7 @@ module _ (g : Geometry) (w : Spot → ℕ) (v : View) (c k b e to tag : ℕ) (m 
           | inl x ↦ (let z : status.Live ≡ status.Gone = sym a.acts ∙ (ap v.status x ∙ st) in cc)
           | inr n ↦ rw (ne_eqb c d n) (h.gone d l st)
         ];
-        self_lanes = subst (λ (t : Spot → ℕ). (d : ℕ) → d < g.clients → IsUnusedLane (tail d d) (front d d) (λ k. t (Slot d d k))) (sym path) h.self_lanes;
+        self_lanes = subst (λ (t : Spot → ℕ). (d : ℕ) → d < g.clients → IsUnusedLane (tail d d) (queue_head d d) (λ k. t (Slot d d k))) (sym path) h.self_lanes;
         no_queue = h.no_queue;
         tails = λ d r l lr. at1_all (λ (i : ℕ) (x : Op). i < g.clients → TailSound i r (w (Era i i)) (tail i r) (v.unsent i r) x) v.op c o d
             (λ lc. let q = h.tails c r lc lr in (q.0, λ nz f. q.1 nz (λ z. f (sym (ap up_slot a.op) ∙ z)))) (λ _ ld. h.tails d r ld lr) l;
@@ -177,8 +177,8 @@ module _ (g : Geometry) (w : Spot → ℕ) (v : View) (c k b e to tag : ℕ) (m 
         part = subst (λ (t : Spot → ℕ). (d : ℕ) → d < g.clients → PartTie (contents_of w' t) d (t (Home d)) (v.part d)) (sym path) (λ d l. part_lives g w v h d heads' t' l (λ i _. lives i) (λ _ _ _ _. refl) refl);
         queued = subst (λ (t : Spot → ℕ). (d : ℕ) → d < g.clients → is_loose (v.part d) ≡ false → (s r j : ℕ) → t (Slot s r j) ≢ 0 → HasShape (contents_of w' t) 0 1 (t (Slot s r j))) (sym path)
             (λ d l. queued_kept g w v h d heads' (λ i j. t' (Body i j)) bodies t' l (λ i _. lives i) (λ s r j n. inl refl));
-        values = subst (λ (t : Spot → ℕ). (d : ℕ) → d < g.clients → All (ValueAt (contents_of w' t) (reach_of t tail front v.looks d)) (v.values d)) (sym path)
-            (λ d l. values_kept g w v h d heads' (λ i j. t' (Body i j)) bodies (reach_of t' tail front v.looks d) l (λ i _. lives i) (reach d));
+        values = subst (λ (t : Spot → ℕ). (d : ℕ) → d < g.clients → All (ValueAt (contents_of w' t) (reach_of t tail queue_head v.looks d)) (v.values d)) (sym path)
+            (λ d l. values_kept g w v h d heads' (λ i j. t' (Body i j)) bodies (reach_of t' tail queue_head v.looks d) l (λ i _. lives i) (reach d));
         made = subst (λ (t : Spot → ℕ). (d : ℕ) → d < g.clients → All (MadeAt heads' (λ j. t (Root d j))) (v'.made d)) (sym path)
             (λ d. at1_all (λ (i : ℕ) (x : List ℕ). i < g.clients → All (MadeAt heads' (λ j. t' (Root i j))) x) v.made c (b ∷ v.made c) d
             (λ l. All-cons (MadeAt heads' (λ j. t' (Root c j))) b (v.made c) (ap (λ x. (header_of x).count) (at1_here word b to) ∙ ap (λ (x : Header). x.count) a.new, (k, cond-true (same_spot (Root c k) (Root c k)) b (t (Root c k)) (same_spot_self (Root c k)))) (others_made c l))
@@ -221,8 +221,8 @@ module _ (g : Geometry) (w : Spot → ℕ) (v : View) (c k b e to tag : ℕ) (m 
       tail : ℕ → ℕ → ℕ
       tail = λ i j. w (Tail i j)
 
-      front : ℕ → ℕ → ℕ
-      front = λ i j. w (Front i j)
+      queue_head : ℕ → ℕ → ℕ
+      queue_head = λ i j. w (QueueHead i j)
 
       t : Spot → ℕ
       t = targets g w v
@@ -261,7 +261,7 @@ module _ (g : Geometry) (w : Spot → ℕ) (v : View) (c k b e to tag : ℕ) (m 
       live_not_zero : (i : ℕ) → (header_of (word i)).live ≡ true → i ≢ 0
       live_not_zero i l = live_some g w v h i l
 
-      balance : (header_of to).count + one_if (eqb (t (Root c k)) b) ≡ indegree g class t (limbos v) b + one_if (eqb b b)
+      balance : (header_of to).count + one_if (eqb (t (Root c k)) b) ≡ indegree g class t (held_overs v) b + one_if (eqb b b)
       balance =
           let x : one_if (eqb (t (Root c k)) b) ≡ 0 = ap one_if (ne_eqb _ b (λ z. b_not_zero (sym z ∙ root_zero))) in
           let y : one_if (eqb b b) ≡ 1 = ap one_if (eq-eqb b b refl) in
@@ -279,29 +279,29 @@ module _ (g : Geometry) (w : Spot → ℕ) (v : View) (c k b e to tag : ℕ) (m 
         false_from_ne_true _ (λ s. made_some g w v h x one (sym f ∙ (ap t (sym (same_spot_is (Root c k) (Root d j) s)) ∙ root_zero))),
       ))
 
-      named : (d i : ℕ) → named_by t tail front d i → named_by t' tail front d i
-      named d i = named_kept t t' tail front d i (λ n l x. root n l x (cases_Bool (eqb c d && eqb k l))) (λ _ x. x) (λ _ _ _ x. x)
+      named : (d i : ℕ) → named_by t tail queue_head d i → named_by t' tail queue_head d i
+      named d i = named_kept t t' tail queue_head d i (λ n l x. root n l x (cases_Bool (eqb c d && eqb k l))) (λ _ x. x) (λ _ _ _ x. x)
         where
           root : i ≢ 0 → (l : ℕ) → t (Root d l) ≡ i → ((eqb c d && eqb k l) ≡ true) ⊎ ((eqb c d && eqb k l) ≡ false) → t' (Root d l) ≡ i
           root n l x (inl q) = absurd (n (sym x ∙ (ap t (sym (same_spot_is (Root c k) (Root d l) q)) ∙ root_zero)))
           root n l x (inr q) = rw q x
 
-      reach : (d i : ℕ) → reach_of t tail front v.looks d i → reach_of t' tail front v.looks d i
+      reach : (d i : ℕ) → reach_of t tail queue_head v.looks d i → reach_of t' tail queue_head v.looks d i
       reach d i (inl x) = inl (named d i x)
       reach d i (inr x) = inr x
 
-      reach_b : reach_of t' tail front v.looks c b
+      reach_b : reach_of t' tail queue_head v.looks c b
       reach_b = inl (b_not_zero, inl (k, cond-true (same_spot (Root c k) (Root c k)) b (t (Root c k)) (same_spot_self (Root c k))))
 
       Known : ℕ → Stored → Type 0
-      Known d s = KnownAt d tags bodies slots tail front (v.untaken d) (v.latch d) (reach_of t' tail front v.looks d) (v.dying d) s.spot s.value
+      Known d s = KnownAt d tags bodies slots tail queue_head (v.untaken d) (v.latch d) (reach_of t' tail queue_head v.looks d) (v.dying d) s.spot s.value
 
-      old : (d : ℕ) (p : Spot) (x : ℕ) → KnownAt d tags bodies slots tail front (v.untaken d) (v.latch d) (reach_of t tail front v.looks d) (v.dying d) p x → KnownAt d tags bodies slots tail front (v.untaken d) (v.latch d) (reach_of t' tail front v.looks d) (v.dying d) p x
-      old d p x = known_kept d tags bodies slots tail front (v.untaken d) (v.latch d) (reach_of t tail front v.looks d) (reach_of t' tail front v.looks d) (v.dying d) (v.dying d) p x (reach d) (λ _ x. x)
+      old : (d : ℕ) (p : Spot) (x : ℕ) → KnownAt d tags bodies slots tail queue_head (v.untaken d) (v.latch d) (reach_of t tail queue_head v.looks d) (v.dying d) p x → KnownAt d tags bodies slots tail queue_head (v.untaken d) (v.latch d) (reach_of t' tail queue_head v.looks d) (v.dying d) p x
+      old d p x = known_kept d tags bodies slots tail queue_head (v.untaken d) (v.latch d) (reach_of t tail queue_head v.looks d) (reach_of t' tail queue_head v.looks d) (v.dying d) (v.dying d) p x (reach d) (λ _ x. x)
 
-      made : (p : Spot) (x : ℕ) → InBlock tags bodies m.block m.class p x → KnownAt c tags bodies slots tail front (v.untaken c) (v.latch c) (reach_of t' tail front v.looks c) (v.dying c) p x
-      made (Tag d) x y = (y.1, inr (subst (reach_of t' tail front v.looks c) (sym (y.0 ∙ a.block)) reach_b))
-      made (Body d i) x y = (y.2, inr (subst (reach_of t' tail front v.looks c) (sym (y.0 ∙ a.block)) reach_b, inr (inl (ap (λ i. tag_author (w (Tag i))) (y.0 ∙ a.block) ∙ (ap tag_author tag_word ∙ a.author)))))
+      made : (p : Spot) (x : ℕ) → InBlock tags bodies m.block m.class p x → KnownAt c tags bodies slots tail queue_head (v.untaken c) (v.latch c) (reach_of t' tail queue_head v.looks c) (v.dying c) p x
+      made (Tag d) x y = (y.1, inr (subst (reach_of t' tail queue_head v.looks c) (sym (y.0 ∙ a.block)) reach_b))
+      made (Body d i) x y = (y.2, inr (subst (reach_of t' tail queue_head v.looks c) (sym (y.0 ∙ a.block)) reach_b, inr (inl (ap (λ i. tag_author (w (Tag i))) (y.0 ∙ a.block) ∙ (ap tag_author tag_word ∙ a.author)))))
       made _ x y = absurd y
 
       zero_own : (p : Spot) → other_than (Head b) p ≡ true → ZeroAt g class segment word c p → ZeroAt g class segment word' c p
@@ -340,7 +340,7 @@ module _ (g : Geometry) (w : Spot → ℕ) (v : View) (c k b e to tag : ℕ) (m 
             shapes = λ i. at1_all (λ (j x : ℕ). shape (header_of x).live j ≡ at1 shapes b (w (Tag b) / 2 ^ 20) j) (λ i. w (Head i)) b to i
                 (ap (λ l. shape l b) new_live ∙ sym (at1_here shapes b (w (Tag b) / 2 ^ 20))) (λ n. sym (at1_other shapes b (w (Tag b) / 2 ^ 20) i n));
             targets = λ q. ap (λ f. f q) path;
-            limbos = λ d. ap (λ f. f d) limbo;
+            held_overs = λ d. ap (λ f. f d) held_over;
           }
 
       -- a free block has no words that name

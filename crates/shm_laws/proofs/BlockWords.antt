@@ -10,7 +10,7 @@ use Rattle.shm_words.specs.Headers.{header_of}
 use Rattle.shm_words.specs.Classes.{class_for}
 use Rattle.shm_words.specs.Tags.{tag_refs, tag_plain, tag_author, tag_link}
 use Rattle.shm_graph.specs.declared.spot.Spot.{Spot}
-use Rattle.shm_graph.specs.declared.spot.Spot.TheVariants.{Spare, Status, Redo, Hold, Latch, Home, Era, Root, Tail, Front, Slot, Segment, Page, Unused, Head, Tag, Body}
+use Rattle.shm_graph.specs.declared.spot.Spot.TheVariants.{Spare, Status, Redo, Hold, Latch, Home, Era, Root, Tail, QueueHead, Slot, Segment, Page, Unused, Head, Tag, Body}
 use Rattle.shm_graph.specs.declared.memo.Status.TheVariants as status
 use Rattle.shm_graph.specs.declared.memo.Making.{Making}
 use Rattle.shm_graph.specs.declared.memo.Stored.{Stored}
@@ -19,12 +19,12 @@ use Rattle.shm_graph.specs.declared.memo.Test.{Test}
 use Rattle.shm_graph.specs.Spots.{IsAt, class_at}
 use Rattle.shm_graph.specs.References.{words_of, refs_of}
 use Rattle.shm_graph.specs.Ops.{word_at, cover_of, covered, slot_of, is_op}
-use Rattle.shm_graph.specs.Views.{View, at1, owner_is, own_word, targets, limbos, ons}
+use Rattle.shm_graph.specs.Views.{View, at1, owner_is, own_word, targets, held_overs, ons}
 use Rattle.shm_graph.specs.Tables.{contents_of, HasShape}
 use Rattle.shm_graph.specs.Events.{Nothing, graph_of, Happens}
 use Rattle.shm_graph.specs.Held.{HeldAt, CountSound, SlotOf, reach_of, named_by, InLooks, LookAt, LooksSound, MakingTie, TagSound, TestAt, KnownAt, LaneSound, IsUnusedLane, PartTie, ValueAt, MadeAt, IsDying, is_loose}
-use Rattle.shm_graph.proofs.Holders.{InReach, reach_counted, reach_target, target_counted}
-use Rattle.shm_graph.proofs.Frames.{at1_all}
+use Rattle.shm_graph.proofs.States.Holders.{InReach, reach_counted, reach_target, target_counted}
+use Rattle.shm_graph.proofs.Memos.Frames.{at1_all}
 use Rattle.shm_laws.proofs.Parts.{PartKept, part_kept}
 use Rattle.shm_laws.proofs.References.{IsNamed, live_some}
 use Rattle.shm_laws.proofs.Writing.{tie_other}
@@ -83,8 +83,8 @@ module _ (g : Geometry) (w : Spot → ℕ) (v : View) (c : ℕ) (tag : ℕ → �
   abbrev tail : ℕ → ℕ → ℕ
   tail = λ i j. w (Tail i j)
 
-  abbrev front : ℕ → ℕ → ℕ
-  front = λ i j. w (Front i j)
+  abbrev queue_head : ℕ → ℕ → ℕ
+  queue_head = λ i j. w (QueueHead i j)
 
   abbrev t : Spot → ℕ
   t = targets g w v
@@ -125,7 +125,7 @@ module _ (g : Geometry) (w : Spot → ℕ) (v : View) (c : ℕ) (tag : ℕ → �
       go (Era i j) = refl
       go (Root d l) = refl
       go (Tail s r) = refl
-      go (Front s r) = refl
+      go (QueueHead s r) = refl
       go (Slot s r i) = refl
       go (Segment s) = refl
       go (Page s q) = refl
@@ -140,14 +140,14 @@ module _ (g : Geometry) (w : Spot → ℕ) (v : View) (c : ℕ) (tag : ℕ → �
     | inr y ↦ absurd (n (ap (λ z. cond (ltb i (refs_of z (w (Tag b)))) (covered (λ d. cover_of (v.op d)) g.clients (Body b i) (w (Body b i))) 0) y ∙ ap (λ z. cond z (covered (λ d. cover_of (v.op d)) g.clients (Body b i) (w (Body b i))) 0) (none_below i)))
   ]
 
-  word_kept : (d : ℕ) (reach : ℕ → Type 0) (latch : Option ℕ) (p : Spot) → SlotOf d heads tags latch tail front reach p → word_at (words_of (with_blocks w tag body)) p ≡ word_at (words_of w) p
+  word_kept : (d : ℕ) (reach : ℕ → Type 0) (latch : Option ℕ) (p : Spot) → SlotOf d heads tags latch tail queue_head reach p → word_at (words_of (with_blocks w tag body)) p ≡ word_at (words_of w) p
   word_kept d reach latch (Body b i) s = a.inner b i s.0
   word_kept d reach latch (Root b i) s = refl
   word_kept d reach latch (Home b) s = refl
   word_kept d reach latch (Slot b i j) s = refl
   word_kept d reach latch _ s = absurd s
 
-  slot_kept : (d : ℕ) (reach : ℕ → Type 0) (latch : Option ℕ) (p : Spot) → SlotOf d heads tags latch tail front reach p → SlotOf d heads tag latch tail front reach p
+  slot_kept : (d : ℕ) (reach : ℕ → Type 0) (latch : Option ℕ) (p : Spot) → SlotOf d heads tags latch tail queue_head reach p → SlotOf d heads tag latch tail queue_head reach p
   slot_kept d reach latch (Body b i) s = (s.0, subst (λ z. i < z) (sym (refs_kept b s.0)) s.1, elim s.2 [ inl u ↦ inl u | inr u ↦ inr (author_kept b s.0 ∙ u.0, u.1, u.2) ])
   slot_kept d reach latch (Root b i) s = s
   slot_kept d reach latch (Home b) s = s
@@ -164,10 +164,10 @@ module _ (g : Geometry) (w : Spot → ℕ) (v : View) (c : ℕ) (tag : ℕ → �
       at _ y = absurd y
 
   abbrev pub Old : ℕ → Spot → ℕ → Type 0
-  Old d p z = KnownAt d tags bodies slot tail front (v.untaken d) (v.latch d) (InReach w g v d) (v.dying d) p z
+  Old d p z = KnownAt d tags bodies slot tail queue_head (v.untaken d) (v.latch d) (InReach w g v d) (v.dying d) p z
 
   abbrev pub New : ℕ → Spot → ℕ → Type 0
-  New d p z = KnownAt d tag body slot tail front (v.untaken d) (v.latch d) (InReach w g v d) (v.dying d) p z
+  New d p z = KnownAt d tag body slot tail queue_head (v.untaken d) (v.latch d) (InReach w g v d) (v.dying d) p z
 
   -- a block in reach, or a dying one, is live
   pub known_live : (d e : ℕ) → d < g.clients → Contains (v.dying d) e ⊎ InReach w g v d e → (heads e).live ≡ true
@@ -205,7 +205,7 @@ module _ (g : Geometry) (w : Spot → ℕ) (v : View) (c : ℕ) (tag : ℕ → �
         lives = λ b. refl;
         shapes = λ b. shapes b (heads b).live refl;
         targets = λ p. ap (λ (f : Spot → ℕ). f p) (blocks_targets m known);
-        limbos = λ d. refl;
+        held_overs = λ d. refl;
       }
     where
       shapes : (b : ℕ) (l : _) → (heads b).live ≡ l → cond l (tag b / 2 ^ 20) 0 ≡ cond l (w (Tag b) / 2 ^ 20) 0
@@ -241,13 +241,13 @@ module _ (g : Geometry) (w : Spot → ℕ) (v : View) (c : ℕ) (tag : ℕ → �
         op = λ d l. tie_other g class (w (Redo d)) (w (Era d d)) (words_of w) (words_of w') (v.op d) (λ y. word_kept d (InReach w g v d) (v.latch d) (slot_of (v.op d)) (h.slots d l y)) (h.op d l);
         redo = h.redo;
         allowed = h.allowed;
-        count = subst (λ (t : Spot → ℕ). CountSound g class heads t (limbos v)) (sym path) h.count;
-        slots = subst (λ (t : Spot → ℕ). (d : ℕ) → d < g.clients → is_op (v.op d) ≡ true → SlotOf d heads tag (v.latch d) tail front (reach_of t tail front v.looks d) (slot_of (v.op d))) (sym path)
+        count = subst (λ (t : Spot → ℕ). CountSound g class heads t (held_overs v)) (sym path) h.count;
+        slots = subst (λ (t : Spot → ℕ). (d : ℕ) → d < g.clients → is_op (v.op d) ≡ true → SlotOf d heads tag (v.latch d) tail queue_head (reach_of t tail queue_head v.looks d) (slot_of (v.op d))) (sym path)
             (λ d l y. slot_kept d (InReach w g v d) (v.latch d) (slot_of (v.op d)) (h.slots d l y));
-        looks = subst (λ (t : Spot → ℕ). (d : ℕ) → d < g.clients → LooksSound (λ a. t (Home a)) (λ b i. t (Body b i)) (λ b. tag_author (tag b)) (v.latch d) (named_by t tail front d) [] (v.looks d)) (sym path)
-            (λ d l. looks_kept (v.latch d) (named_by t tail front d) [] (v.looks d) (h.looks d l));
-        lanes = subst (λ (t : Spot → ℕ). (i j : ℕ) → i < g.clients → j < g.clients → i ≢ j → LaneSound (λ k. t (Slot i j k)) (tail i j) (front i j) (v.sent i j) (v.unsent i j) (v.received j i) (v.untaken j i)) (sym path) h.lanes;
-        known = subst (λ (t : Spot → ℕ). (d : ℕ) → d < g.clients → All (λ (s : Stored). KnownAt d tag body slot tail front (v.untaken d) (v.latch d) (reach_of t tail front v.looks d) (v.dying d) s.spot s.value) (at1 v.known c known d)) (sym path)
+        looks = subst (λ (t : Spot → ℕ). (d : ℕ) → d < g.clients → LooksSound (λ a. t (Home a)) (λ b i. t (Body b i)) (λ b. tag_author (tag b)) (v.latch d) (named_by t tail queue_head d) [] (v.looks d)) (sym path)
+            (λ d l. looks_kept (v.latch d) (named_by t tail queue_head d) [] (v.looks d) (h.looks d l));
+        lanes = subst (λ (t : Spot → ℕ). (i j : ℕ) → i < g.clients → j < g.clients → i ≢ j → LaneSound (λ k. t (Slot i j k)) (tail i j) (queue_head i j) (v.sent i j) (v.unsent i j) (v.received j i) (v.untaken j i)) (sym path) h.lanes;
+        known = subst (λ (t : Spot → ℕ). (d : ℕ) → d < g.clients → All (λ (s : Stored). KnownAt d tag body slot tail queue_head (v.untaken d) (v.latch d) (reach_of t tail queue_head v.looks d) (v.dying d) s.spot s.value) (at1 v.known c known d)) (sym path)
             (λ d. at1_all (λ (j : ℕ) (y : List Stored). j < g.clients → All (λ (s : Stored). New j s.spot s.value) y) v.known c known d (λ _. knows)
             (λ n l. All-weaker (λ (s : Stored). Old d s.spot s.value) (λ (s : Stored). New d s.spot s.value) (λ s. pair_other d n l s.spot s.value) (v.known d) (h.known d l)));
         facts = h.facts;
@@ -258,7 +258,7 @@ module _ (g : Geometry) (w : Spot → ℕ) (v : View) (c : ℕ) (tag : ℕ → �
           | inr n ↦ rw (ne_eqb c d n) (h.fresh d l st)
         ];
         gone = h.gone;
-        self_lanes = subst (λ (t : Spot → ℕ). (d : ℕ) → d < g.clients → IsUnusedLane (tail d d) (front d d) (λ k. t (Slot d d k))) (sym path) h.self_lanes;
+        self_lanes = subst (λ (t : Spot → ℕ). (d : ℕ) → d < g.clients → IsUnusedLane (tail d d) (queue_head d d) (λ k. t (Slot d d k))) (sym path) h.self_lanes;
         no_queue = h.no_queue;
         tails = h.tails;
         parts = h.parts;
@@ -266,7 +266,7 @@ module _ (g : Geometry) (w : Spot → ℕ) (v : View) (c : ℕ) (tag : ℕ → �
             (λ d l. part_kept (contents_of w t) (contents_of w' t) (IsNamed t) d (keeps d) (λ b i. (Body b i, refl)) (t (Home d)) (v.part d) (Home d, refl) (h.part d l));
         queued = subst (λ (t : Spot → ℕ). (d : ℕ) → d < g.clients → is_loose (v.part d) ≡ false → (s r k : ℕ) → t (Slot s r k) ≢ 0 → HasShape (contents_of w' t) 0 1 (t (Slot s r k))) (sym path)
             (λ d l y s r k n. shaped (t (Slot s r k)) (Slot s r k, refl) (h.queued d l y s r k n));
-        values = subst (λ (t : Spot → ℕ). (d : ℕ) → d < g.clients → All (ValueAt (contents_of w' t) (reach_of t tail front v.looks d)) (v.values d)) (sym path)
+        values = subst (λ (t : Spot → ℕ). (d : ℕ) → d < g.clients → All (ValueAt (contents_of w' t) (reach_of t tail queue_head v.looks d)) (v.values d)) (sym path)
             (λ d l. All-weaker (ValueAt (contents_of w t) (InReach w g v d)) (ValueAt (contents_of w' t) (InReach w g v d)) (λ b y. (shaped b (reach_target g w v h d b l y.1).1 y.0, y.1)) (v.values d) (h.values d l));
         made = subst (λ (t : Spot → ℕ). (d : ℕ) → d < g.clients → All (MadeAt heads (λ k. t (Root d k))) (v.made d)) (sym path) h.made;
       }

@@ -9,27 +9,27 @@ use Rattle.shm_words.specs.Headers.{header_of}
 use Rattle.shm_words.specs.Tags.{tag_refs, tag_author}
 use Rattle.shm_words.proofs.Words.{live_not_zero}
 use Rattle.shm_graph.specs.declared.spot.Spot.{Spot}
-use Rattle.shm_graph.specs.declared.spot.Spot.TheVariants.{Home, Era, Root, Tail, Front, Slot, Segment, Page, Head, Tag, Body}
+use Rattle.shm_graph.specs.declared.spot.Spot.TheVariants.{Home, Era, Root, Tail, QueueHead, Slot, Segment, Page, Head, Tag, Body}
 use Rattle.shm_graph.specs.declared.memo.Op.{Op}
 use Rattle.shm_graph.specs.declared.memo.Making.{Making}
 use Rattle.shm_graph.specs.declared.memo.Stored.{Stored}
 use Rattle.shm_graph.specs.declared.memo.Test.{Test}
 use Rattle.shm_graph.specs.Spots.{same_spot, upd, IsAt}
 use Rattle.shm_graph.specs.Ops.{slot_of, is_op}
-use Rattle.shm_graph.specs.Views.{View, targets, limbos, ons}
+use Rattle.shm_graph.specs.Views.{View, targets, held_overs, ons}
 use Rattle.shm_graph.specs.Tables.{contents_of, HasShape}
 use Rattle.shm_graph.specs.Held.{HeldAt, CountSound, SlotOf, reach_of, named_by, MakingTie, InBlock, FactAt, TestAt, EraSound, KnownAt, LooksSound, LaneSound, IsUnusedLane, PartTie, ValueAt, MadeAt, is_loose}
-use Rattle.shm_graph.proofs.Spotting.{same_spot_self}
-use Rattle.shm_graph.proofs.Holders.{Holds, InReach, reach_counted, one_latch}
-use Rattle.shm_graph.proofs.Frames.{at1_all}
+use Rattle.shm_graph.proofs.Spots.Spotting.{same_spot_self}
+use Rattle.shm_graph.proofs.States.Holders.{Holds, InReach, reach_counted, one_latch}
+use Rattle.shm_graph.proofs.Memos.Frames.{at1_all}
 use Rattle.shm_laws.proofs.Keep.{All-kept}
 use Rattle.shm_laws.proofs.Owns.{mine_other, small_stored, there_stored}
 use Rattle.shm_laws.proofs.References.{part_stored, values_kept, queued_kept}
-use Rattle.shm_laws.proofs.Writing.{at_slot, mine_at, on_same, limbo_same, own_same, allowed_same, tails_same, slots_same, ops_same, targets_same}
-use Rattle.shm_laws.specs.Steps.{BodyStep, body_view}
+use Rattle.shm_laws.proofs.Writing.{at_slot, mine_at, on_same, held_over_same, own_same, allowed_same, tails_same, slots_same, ops_same, targets_same}
+use Rattle.shm_laws.specs.Steps.{BodyNeeds, body_view}
 use Rattle.shm_graph.specs.Reach.{not_at}
 
-pub body_kept : (g : Geometry) (w : Spot → ℕ) (v : View) (c b i x : ℕ) (o : Op) → HeldAt g w v → BodyStep g v c b i x o → HeldAt g (upd w (Body b i) x) (body_view v c b i x o)
+pub body_kept : (g : Geometry) (w : Spot → ℕ) (v : View) (c b i x : ℕ) (o : Op) → HeldAt g w v → BodyNeeds g v c b i x o → HeldAt g (upd w (Body b i) x) (body_view v c b i x o)
 body_kept g w v c b i x o h a =
     record {
       fits = h.fits;
@@ -50,15 +50,15 @@ body_kept g w v c b i x o h a =
       op = ops_same g w v h c x o (Body b i) a.inside a.slot a.op here;
       redo = h.redo;
       allowed = allowed_same g w v h c x o (Body b i) a.inside a.slot a.op;
-      count = subst (λ (t : Spot → ℕ). CountSound g class heads t (limbos v')) (sym path) (subst (λ (l : ℕ → ℕ). CountSound g class heads t l) (sym (limbo_same g w v h c x o (Body b i) a.inside a.slot a.op)) h.count);
-      slots = subst (λ (t : Spot → ℕ). (d : ℕ) → d < g.clients → is_op (v'.op d) ≡ true → SlotOf d heads tags (v.latch d) tail front (reach_of t tail front v.looks d) (slot_of (v'.op d))) (sym path) (slots_same g w v h c x o (Body b i) a.inside a.slot a.op);
-      looks = subst (λ (t : Spot → ℕ). (d : ℕ) → d < g.clients → LooksSound (λ a. t (Home a)) (λ b i. t (Body b i)) (λ b. tag_author (w (Tag b))) (v.latch d) (named_by t tail front d) [] (v.looks d)) (sym path) h.looks;
-      lanes = subst (λ (t : Spot → ℕ). (i j : ℕ) → i < g.clients → j < g.clients → i ≢ j → LaneSound (λ k. t (Slot i j k)) (tail i j) (front i j) (v.sent i j) (v.unsent i j) (v.received j i) (v.untaken j i)) (sym path) h.lanes;
-      known = subst (λ (t : Spot → ℕ). (d : ℕ) → d < g.clients → All (λ (s : Stored). KnownAt d tags bodies' slot tail front (v.untaken d) (v.latch d) (reach_of t tail front v.looks d) (v.dying d) s.spot s.value) (v'.known d)) (sym path)
+      count = subst (λ (t : Spot → ℕ). CountSound g class heads t (held_overs v')) (sym path) (subst (λ (l : ℕ → ℕ). CountSound g class heads t l) (sym (held_over_same g w v h c x o (Body b i) a.inside a.slot a.op)) h.count);
+      slots = subst (λ (t : Spot → ℕ). (d : ℕ) → d < g.clients → is_op (v'.op d) ≡ true → SlotOf d heads tags (v.latch d) tail queue_head (reach_of t tail queue_head v.looks d) (slot_of (v'.op d))) (sym path) (slots_same g w v h c x o (Body b i) a.inside a.slot a.op);
+      looks = subst (λ (t : Spot → ℕ). (d : ℕ) → d < g.clients → LooksSound (λ a. t (Home a)) (λ b i. t (Body b i)) (λ b. tag_author (w (Tag b))) (v.latch d) (named_by t tail queue_head d) [] (v.looks d)) (sym path) h.looks;
+      lanes = subst (λ (t : Spot → ℕ). (i j : ℕ) → i < g.clients → j < g.clients → i ≢ j → LaneSound (λ k. t (Slot i j k)) (tail i j) (queue_head i j) (v.sent i j) (v.unsent i j) (v.received j i) (v.untaken j i)) (sym path) h.lanes;
+      known = subst (λ (t : Spot → ℕ). (d : ℕ) → d < g.clients → All (λ (s : Stored). KnownAt d tags bodies' slot tail queue_head (v.untaken d) (v.latch d) (reach_of t tail queue_head v.looks d) (v.dying d) s.spot s.value) (v'.known d)) (sym path)
           (λ d. at1_all (λ (j : ℕ) (y : List Stored). j < g.clients → All (Known j) y) v.known c (record { spot = Body b i; value = x } ∷ filter (not_at (Body b i)) (v.known c)) d
           (λ l. All-cons (Known c) (record { spot = Body b i; value = x }) (filter (not_at (Body b i)) (v.known c)) (new_known mine) (All-kept (Old c) (Known c) (not_at (Body b i)) (λ s. known_own s.spot s.value) (v.known c) (h.known c l)))
           (λ n l. All-weaker (Old d) (Known d) (λ s. known_other d n l s.spot s.value) (v.known d) (h.known d l)));
-      facts = subst (λ (on : ℕ → Option ℕ). (d : ℕ) → d < g.clients → All (FactAt g.clients eras on tail front class) (v.facts d)) (sym on) h.facts;
+      facts = subst (λ (on : ℕ → Option ℕ). (d : ℕ) → d < g.clients → All (FactAt g.clients eras on tail queue_head class) (v.facts d)) (sym on) h.facts;
       zeros = h.zeros;
       test = subst (λ (on : ℕ → Option ℕ). (d : ℕ) → d < g.clients → TestAt g.clients eras (on d) d (v'.test d)) (sym on) (λ d. at1_all (λ (i : ℕ) (x : Option Test). i < g.clients → TestAt g.clients eras (ons v i) i x) v.test c None d (λ l. tt) (λ m. h.test d));
       fresh = λ d l st. elim (cases_eq c d) [
@@ -69,15 +69,15 @@ body_kept g w v c b i x o h a =
         | inl x ↦ absurd (a.here (ap v.status x ∙ st))
         | inr n ↦ rw (ne_eqb c d n) (h.gone d l st)
       ];
-      self_lanes = subst (λ (t : Spot → ℕ). (d : ℕ) → d < g.clients → IsUnusedLane (tail d d) (front d d) (λ k. t (Slot d d k))) (sym path) h.self_lanes;
+      self_lanes = subst (λ (t : Spot → ℕ). (d : ℕ) → d < g.clients → IsUnusedLane (tail d d) (queue_head d d) (λ k. t (Slot d d k))) (sym path) h.self_lanes;
       no_queue = h.no_queue;
       tails = tails_same g w v h c x o (Body b i) a.inside a.slot a.op;
       parts = h.parts;
       part = subst (λ (t : Spot → ℕ). (d : ℕ) → d < g.clients → PartTie (contents_of w' t) d (t (Home d)) (v.part d)) (sym path) (λ d l. part_stored g w v h d b i x l mine.1);
       queued = subst (λ (t : Spot → ℕ). (d : ℕ) → d < g.clients → is_loose (v.part d) ≡ false → (s r k : ℕ) → t (Slot s r k) ≢ 0 → HasShape (contents_of w' t) 0 1 (t (Slot s r k))) (sym path)
           (λ d l. queued_kept g w v h d heads (λ j k. t (Body j k)) bodies' t l (λ _ _ z. z) (λ s r k n. inl refl));
-      values = subst (λ (t : Spot → ℕ). (d : ℕ) → d < g.clients → All (ValueAt (contents_of w' t) (reach_of t tail front v.looks d)) (v.values d)) (sym path)
-          (λ d l. values_kept g w v h d heads (λ j k. t (Body j k)) bodies' (reach_of t tail front v.looks d) l (λ _ _ z. z) (λ _ z. z));
+      values = subst (λ (t : Spot → ℕ). (d : ℕ) → d < g.clients → All (ValueAt (contents_of w' t) (reach_of t tail queue_head v.looks d)) (v.values d)) (sym path)
+          (λ d l. values_kept g w v h d heads (λ j k. t (Body j k)) bodies' (reach_of t tail queue_head v.looks d) l (λ _ _ z. z) (λ _ z. z));
       made = subst (λ (t : Spot → ℕ). (d : ℕ) → d < g.clients → All (MadeAt heads (λ k. t (Root d k))) (v.made d)) (sym path) h.made;
     }
   where
@@ -114,8 +114,8 @@ body_kept g w v c b i x o h a =
     tail : ℕ → ℕ → ℕ
     tail = λ i j. w (Tail i j)
 
-    front : ℕ → ℕ → ℕ
-    front = λ i j. w (Front i j)
+    queue_head : ℕ → ℕ → ℕ
+    queue_head = λ i j. w (QueueHead i j)
 
     eras : ℕ → ℕ → ℕ
     eras = λ i j. w (Era i j)
@@ -149,15 +149,15 @@ body_kept g w v c b i x o h a =
         stored _ z k = absurd k
 
     Old : ℕ → Stored → Type 0
-    Old d s = KnownAt d tags bodies slot tail front (v.untaken d) (v.latch d) (reach_of t tail front v.looks d) (v.dying d) s.spot s.value
+    Old d s = KnownAt d tags bodies slot tail queue_head (v.untaken d) (v.latch d) (reach_of t tail queue_head v.looks d) (v.dying d) s.spot s.value
 
     Known : ℕ → Stored → Type 0
-    Known d s = KnownAt d tags bodies' slot tail front (v.untaken d) (v.latch d) (reach_of t tail front v.looks d) (v.dying d) s.spot s.value
+    Known d s = KnownAt d tags bodies' slot tail queue_head (v.untaken d) (v.latch d) (reach_of t tail queue_head v.looks d) (v.dying d) s.spot s.value
 
-    new_known : Holds w g v c (Body b i) → KnownAt c tags bodies' slot tail front (v.untaken c) (v.latch c) (reach_of t tail front v.looks c) (v.dying c) (Body b i) x
+    new_known : Holds w g v c (Body b i) → KnownAt c tags bodies' slot tail queue_head (v.untaken c) (v.latch c) (reach_of t tail queue_head v.looks c) (v.dying c) (Body b i) x
     new_known y = (here, elim y.2 [ inl u ↦ inl ((h.dying c a.inside).all b (y.0, u.0, u.1)) | inr u ↦ inr (u.2, inr (inl u.0)) ])
 
-    known_own : (p : Spot) (z : ℕ) → not (same_spot (Body b i) p) ≡ true → KnownAt c tags bodies slot tail front (v.untaken c) (v.latch c) (reach_of t tail front v.looks c) (v.dying c) p z → KnownAt c tags bodies' slot tail front (v.untaken c) (v.latch c) (reach_of t tail front v.looks c) (v.dying c) p z
+    known_own : (p : Spot) (z : ℕ) → not (same_spot (Body b i) p) ≡ true → KnownAt c tags bodies slot tail queue_head (v.untaken c) (v.latch c) (reach_of t tail queue_head v.looks c) (v.dying c) p z → KnownAt c tags bodies' slot tail queue_head (v.untaken c) (v.latch c) (reach_of t tail queue_head v.looks c) (v.dying c) p z
     known_own (Body d j) z q k = elim (cases_Bool (same_spot (Body b i) (Body d j))) [
       | inl y ↦ (let u : false ≡ true = rw y at q in cc)
       | inr y ↦ (rw y k.0, k.1)
@@ -167,7 +167,7 @@ body_kept g w v c b i x o h a =
     known_own _ z q k = absurd k
 
     -- no pair of another identity binds the word
-    known_other : (d : ℕ) → c ≢ d → d < g.clients → (p : Spot) (z : ℕ) → KnownAt d tags bodies slot tail front (v.untaken d) (v.latch d) (reach_of t tail front v.looks d) (v.dying d) p z → KnownAt d tags bodies' slot tail front (v.untaken d) (v.latch d) (reach_of t tail front v.looks d) (v.dying d) p z
+    known_other : (d : ℕ) → c ≢ d → d < g.clients → (p : Spot) (z : ℕ) → KnownAt d tags bodies slot tail queue_head (v.untaken d) (v.latch d) (reach_of t tail queue_head v.looks d) (v.dying d) p z → KnownAt d tags bodies' slot tail queue_head (v.untaken d) (v.latch d) (reach_of t tail queue_head v.looks d) (v.dying d) p z
     known_other d n l (Body e j) z k = elim (cases_Bool (same_spot (Body b i) (Body e j))) [
       | inr y ↦ (rw y k.0, k.1)
       | inl y ↦ absurd (let u = and_parts (eqb b e) (eqb i j) y in never (subst (λ m. Binds m i) (sym (eqb-true b e u.0)) (subst (λ m. Binds e m) (sym (eqb-true i j u.1)) k.1)))

@@ -8,29 +8,29 @@ use Rattle.shm_words.specs.Headers.{header_of}
 use Rattle.shm_graph.specs.References.{one_if, words_of}
 use Rattle.shm_words.specs.declared.geometry.Geometry.{Geometry}
 use Rattle.shm_graph.specs.declared.spot.Spot.{Spot}
-use Rattle.shm_graph.specs.declared.spot.Spot.TheVariants.{Spare, Redo, Home, Era, Root, Tail, Front, Slot, Segment, Page, Head, Tag, Body}
+use Rattle.shm_graph.specs.declared.spot.Spot.TheVariants.{Spare, Redo, Home, Era, Root, Tail, QueueHead, Slot, Segment, Page, Head, Tag, Body}
 use Rattle.shm_graph.specs.declared.memo.First.TheVariants.{Begun, Committed}
 use Rattle.shm_graph.specs.declared.memo.Op.{Op}
 use Rattle.shm_graph.specs.declared.memo.Op.TheVariants.{Change}
-use Rattle.shm_graph.specs.declared.memo.Half.TheVariants.{Raising}
+use Rattle.shm_graph.specs.declared.memo.ChangeStage.TheVariants.{Raising}
 use Rattle.shm_graph.specs.declared.memo.Stored.{Stored}
 use Rattle.shm_graph.specs.declared.memo.Look.{Look}
-use Rattle.shm_graph.proofs.Frames.{at1_all}
-use Rattle.shm_graph.proofs.Lists.{at1_here, at1_other, at1_part}
-use Rattle.shm_graph.specs.Ops.{word_at, cover, cover_of, slot_of, up_slot, indegree, limbo_of, on_of, is_op}
+use Rattle.shm_graph.proofs.Memos.Frames.{at1_all}
+use Rattle.shm_graph.proofs.Runs.Lists.{at1_here, at1_other, at1_part}
+use Rattle.shm_graph.specs.Ops.{word_at, cover, cover_of, slot_of, up_slot, indegree, held_over_of, on_of, is_op}
 use Rattle.shm_graph.specs.Spots.{upd, same_spot, IsAt, spot_address}
-use Rattle.shm_graph.specs.Views.{View, targets, ons, limbos}
+use Rattle.shm_graph.specs.Views.{View, targets, ons, held_overs}
 use Rattle.shm_graph.specs.Events.{ChangeUp, graph_of, Happens}
 use Rattle.shm_graph.specs.Blocks.{IsBlock}
 use Rattle.shm_words.specs.Tags.{tag_author}
 use Rattle.shm_graph.specs.Held.{HeldAt, is_slot, odd, CountSound, SlotOf, reach_of, named_by, IsUnusedLane, TailSound, PartTie, ValueAt, MadeAt, is_loose, TestAt, KnownAt, LooksSound, is_home, LaneSound, IsDying, OwnSound, OpTie, OpSound, Allowed, InLooks, room_of}
 use Rattle.shm_graph.specs.Stores.{not_block}
-use Rattle.shm_laws.specs.Steps.{not_blocks, ChangeStep, change_view}
+use Rattle.shm_laws.specs.Steps.{not_blocks, ChangeNeeds, change_view}
 use Rattle.shm_laws.proofs.Owns.{mine_other, small_stored, there_stored}
-use Rattle.shm_graph.proofs.Spotting.{same_spot_is, block_is_at}
-use Rattle.shm_laws.proofs.Sum.{limbo_step, degree_step}
+use Rattle.shm_graph.proofs.Spots.Spotting.{same_spot_is, block_is_at}
+use Rattle.shm_laws.proofs.Sum.{held_over_step, degree_step}
 use Rattle.shm_laws.proofs.Keep.{block_not_zero, live_block}
-use Rattle.shm_graph.proofs.Holders.{target_counted, held_live_not_zero}
+use Rattle.shm_graph.proofs.States.Holders.{target_counted, held_live_not_zero}
 use Rattle.shm_graph.specs.declared.table.Part.{Part}
 use Rattle.shm_graph.specs.Tables.{contents_of, HasShape}
 use Rattle.shm_laws.proofs.Parts.{PartKept, part_kept}
@@ -40,7 +40,7 @@ use Rattle.shm_laws.proofs.References.{two_names, slot_no_root, part_other, valu
 use Rattle.shm_laws.proofs.Exchange.{era_exchange, facts_committed, slot_kept, known_kept}
 use Rattle.shm_words.specs.declared.redo.Redo.TheVariants as redos
 
-module _ (g : Geometry) (w : Spot → ℕ) (v : View) (c x b e to : ℕ) (p : Spot) (looks' : List Look) (kept : List Stored) (values : List ℕ) (part : Part) (h : HeldAt g w v) (a : ChangeStep g w v c x b e to p looks' kept values part) where
+module _ (g : Geometry) (w : Spot → ℕ) (v : View) (c x b e to : ℕ) (p : Spot) (looks' : List Look) (kept : List Stored) (values : List ℕ) (part : Part) (h : HeldAt g w v) (a : ChangeNeeds g w v c x b e to p looks' kept values part) where
   abbrev w' : Spot → ℕ
   w' = upd w (Head b) to
 
@@ -62,8 +62,8 @@ module _ (g : Geometry) (w : Spot → ℕ) (v : View) (c x b e to : ℕ) (p : Sp
   abbrev tail : ℕ → ℕ → ℕ
   tail = λ i j. w (Tail i j)
 
-  abbrev front : ℕ → ℕ → ℕ
-  front = λ i j. w (Front i j)
+  abbrev queue_head : ℕ → ℕ → ℕ
+  queue_head = λ i j. w (QueueHead i j)
 
   abbrev t : Spot → ℕ
   t = targets g w v
@@ -75,7 +75,7 @@ module _ (g : Geometry) (w : Spot → ℕ) (v : View) (c x b e to : ℕ) (p : Sp
   new_live = ap (λ (x : Header). x.live) a.new
 
   abbrev At : ℕ → Spot → Type 0
-  At d = SlotOf d (λ i. header_of (word i)) tags (v.latch d) tail front (reach_of t tail front v.looks d)
+  At d = SlotOf d (λ i. header_of (word i)) tags (v.latch d) tail queue_head (reach_of t tail queue_head v.looks d)
 
   mine_at : At c p
   mine_at = let q : At c (slot_of (Change (Raising Begun) p x b e)) = subst (λ x. At c (slot_of x)) a.op (h.slots c a.inside (ap is_op a.op)) in q
@@ -109,8 +109,8 @@ module _ (g : Geometry) (w : Spot → ℕ) (v : View) (c x b e to : ℕ) (p : Sp
   path : targets g w' v' ≡ t'
   path = slot_committed g w v h c p a.inside mine_at b to b o (ap cover_of a.op) refl (refs_stay g w v h b to live counted new_live)
 
-  limbo_was : limbos v c ≡ 0
-  limbo_was = ap limbo_of a.op
+  held_over_was : held_overs v c ≡ 0
+  held_over_was = ap held_over_of a.op
 
   -- the invariant stays
   pub change_kept : HeldAt g (upd w (Head b) to) (change_view v c x b e p looks' kept values part)
@@ -139,26 +139,26 @@ module _ (g : Geometry) (w : Spot → ℕ) (v : View) (c x b e to : ℕ) (p : Sp
             (λ n. h.op d);
         redo = h.redo;
         allowed = λ d. at1_all (λ (i : ℕ) (x : Op). i < g.clients → Allowed i x) v.op c o d (λ l. allowed_now) (λ n. h.allowed d);
-        count = subst (λ (t : Spot → ℕ). CountSound g class (λ i. header_of (word' i)) t (limbos v')) (sym path) (record {
-          counts = λ i. at1_all (λ (j x : ℕ). (header_of x).live ≡ true → (header_of x).count ≡ indegree g class t' (limbos v') j) word b to i
+        count = subst (λ (t : Spot → ℕ). CountSound g class (λ i. header_of (word' i)) t (held_overs v')) (sym path) (record {
+          counts = λ i. at1_all (λ (j x : ℕ). (header_of x).live ≡ true → (header_of x).count ≡ indegree g class t' (held_overs v') j) word b to i
               (λ _. let q = total b some in let z : one_if (eqb b b) ≡ 1 = ap one_if (eq-eqb b b refl) in let u = h.count.counts b live in let m = new_count in omega arith)
               (λ m l. let q = total i (live_not_zero i l) in let z : one_if (eqb b i) ≡ 0 = ap one_if (ne_eqb b i m) in let u = h.count.counts i l in omega arith);
           targets = λ q. targets q (same_spot p q);
-          limbos = λ d l m. elim (cases_eq c d) [
-            | inl y ↦ subst (λ i. (header_of (word' (limbos v' i))).live ≡ true) y (subst (λ i. (header_of (word' i)).live ≡ true) (sym limbo_now) (stay x live_x))
-            | inr n ↦ (let q = limbo_other d (λ z. n (sym z)) in subst (λ i. (header_of (word' i)).live ≡ true) (sym q) (stay (limbos v d) (h.count.limbos d l (λ z. m (q ∙ z)))))
+          held_overs = λ d l m. elim (cases_eq c d) [
+            | inl y ↦ subst (λ i. (header_of (word' (held_overs v' i))).live ≡ true) y (subst (λ i. (header_of (word' i)).live ≡ true) (sym held_over_now) (stay x live_x))
+            | inr n ↦ (let q = held_over_other d (λ z. n (sym z)) in subst (λ i. (header_of (word' i)).live ≡ true) (sym q) (stay (held_overs v d) (h.count.held_overs d l (λ z. m (q ∙ z)))))
           ];
         });
-        slots = subst (λ (t : Spot → ℕ). (d : ℕ) → d < g.clients → is_op (v'.op d) ≡ true → SlotOf d (λ i. header_of (word' i)) tags (v.latch d) tail front (reach_of t tail front v'.looks d) (slot_of (v'.op d))) (sym path)
-            (λ d. at1_all (λ (i : ℕ) (x : Op). i < g.clients → is_op x ≡ true → SlotOf i (λ j. header_of (word' j)) tags (v.latch i) tail front (reach_of t' tail front v'.looks i) (slot_of x)) v.op c o d
-            (λ l _. slot_kept c (λ i. header_of (word i)) (λ i. header_of (word' i)) tags (v.latch c) tail front (reach_of t' tail front (λ d. looks') c) (reach_of t' tail front v'.looks c) p (λ i z. inl (stay i z)) (dying_old c) reach_own a.slot)
-            (λ m l is. slot_kept d (λ i. header_of (word i)) (λ i. header_of (word' i)) tags (v.latch d) tail front (reach_of t tail front v.looks d) (reach_of t' tail front v'.looks d) (slot_of (v.op d)) (λ i z. inl (stay i z)) (dying_old d) (reach d m l) (h.slots d l is)));
-        looks = subst (λ (t : Spot → ℕ). (d : ℕ) → d < g.clients → LooksSound (λ a. t (Home a)) (λ b i. t (Body b i)) (λ b. tag_author (w (Tag b))) (v.latch d) (named_by t tail front d) [] (v'.looks d)) (sym path)
-            (λ d. at1_all (λ (i : ℕ) (x : List Look). i < g.clients → LooksSound (λ a. t' (Home a)) (λ b i. t' (Body b i)) (λ b. tag_author (w (Tag b))) (v.latch i) (named_by t' tail front i) [] x) v.looks c looks' d
+        slots = subst (λ (t : Spot → ℕ). (d : ℕ) → d < g.clients → is_op (v'.op d) ≡ true → SlotOf d (λ i. header_of (word' i)) tags (v.latch d) tail queue_head (reach_of t tail queue_head v'.looks d) (slot_of (v'.op d))) (sym path)
+            (λ d. at1_all (λ (i : ℕ) (x : Op). i < g.clients → is_op x ≡ true → SlotOf i (λ j. header_of (word' j)) tags (v.latch i) tail queue_head (reach_of t' tail queue_head v'.looks i) (slot_of x)) v.op c o d
+            (λ l _. slot_kept c (λ i. header_of (word i)) (λ i. header_of (word' i)) tags (v.latch c) tail queue_head (reach_of t' tail queue_head (λ d. looks') c) (reach_of t' tail queue_head v'.looks c) p (λ i z. inl (stay i z)) (dying_old c) reach_own a.slot)
+            (λ m l is. slot_kept d (λ i. header_of (word i)) (λ i. header_of (word' i)) tags (v.latch d) tail queue_head (reach_of t tail queue_head v.looks d) (reach_of t' tail queue_head v'.looks d) (slot_of (v.op d)) (λ i z. inl (stay i z)) (dying_old d) (reach d m l) (h.slots d l is)));
+        looks = subst (λ (t : Spot → ℕ). (d : ℕ) → d < g.clients → LooksSound (λ a. t (Home a)) (λ b i. t (Body b i)) (λ b. tag_author (w (Tag b))) (v.latch d) (named_by t tail queue_head d) [] (v'.looks d)) (sym path)
+            (λ d. at1_all (λ (i : ℕ) (x : List Look). i < g.clients → LooksSound (λ a. t' (Home a)) (λ b i. t' (Body b i)) (λ b. tag_author (w (Tag b))) (v.latch i) (named_by t' tail queue_head i) [] x) v.looks c looks' d
             (λ l. a.looked) (λ m l. slot_looks g w v h c p a.inside mine_at b d not_home m l));
-        lanes = subst (λ (t : Spot → ℕ). (i j : ℕ) → i < g.clients → j < g.clients → i ≢ j → LaneSound (λ k. t (Slot i j k)) (tail i j) (front i j) (v.sent i j) (v.unsent i j) (v.received j i) (v.untaken j i)) (sym path) (λ i j li lj n. lane p mine_at not_slot i j n (h.lanes i j li lj n));
-        known = subst (λ (t : Spot → ℕ). (d : ℕ) → d < g.clients → All (λ (s : Stored). KnownAt d tags bodies slot tail front (v.untaken d) (v.latch d) (reach_of t tail front v'.looks d) (v.dying d) s.spot s.value) (v'.known d)) (sym path) known_now;
-        facts = λ d l. All-weaker _ _ (facts_committed g.clients eras tail front class v.op c b o refl) (v.facts d) (h.facts d l);
+        lanes = subst (λ (t : Spot → ℕ). (i j : ℕ) → i < g.clients → j < g.clients → i ≢ j → LaneSound (λ k. t (Slot i j k)) (tail i j) (queue_head i j) (v.sent i j) (v.unsent i j) (v.received j i) (v.untaken j i)) (sym path) (λ i j li lj n. lane p mine_at not_slot i j n (h.lanes i j li lj n));
+        known = subst (λ (t : Spot → ℕ). (d : ℕ) → d < g.clients → All (λ (s : Stored). KnownAt d tags bodies slot tail queue_head (v.untaken d) (v.latch d) (reach_of t tail queue_head v'.looks d) (v.dying d) s.spot s.value) (v'.known d)) (sym path) known_now;
+        facts = λ d l. All-weaker _ _ (facts_committed g.clients eras tail queue_head class v.op c b o refl) (v.facts d) (h.facts d l);
         zeros = λ d l. All-weaker _ _ (zero_stays g w v h b to live counted new_live d) (v.zeros d) (h.zeros d l);
         test = λ d l. elim (cases_eq c d) [
           | inl x ↦ subst (λ i. TestAt g.clients eras (ons v' i) i (v'.test i)) x (rw (eq-eqb c c refl) tt)
@@ -172,7 +172,7 @@ module _ (g : Geometry) (w : Spot → ℕ) (v : View) (c x b e to : ℕ) (p : Sp
           | inl x ↦ absurd (a.here (ap v.status x ∙ st))
           | inr m ↦ rw (ne_eqb c d m) (h.gone d l st)
         ];
-        self_lanes = subst (λ (t : Spot → ℕ). (d : ℕ) → d < g.clients → IsUnusedLane (tail d d) (front d d) (λ k. t (Slot d d k))) (sym path) (λ d l. let q = h.self_lanes d l in (q.0, q.1, λ k. lane_apart d d k ∙ q.2 k));
+        self_lanes = subst (λ (t : Spot → ℕ). (d : ℕ) → d < g.clients → IsUnusedLane (tail d d) (queue_head d d) (λ k. t (Slot d d k))) (sym path) (λ d l. let q = h.self_lanes d l in (q.0, q.1, λ k. lane_apart d d k ∙ q.2 k));
         no_queue = h.no_queue;
         tails = λ d r l m. at1_all (λ (i : ℕ) (y : Op). i < g.clients → TailSound i r (eras i i) (tail i r) (v.unsent i r) y) v.op c o d
             (λ lc. let q = h.tails c r lc m in (q.0, λ nz f. q.1 nz (λ z. f (sym (ap up_slot a.op) ∙ z)))) (λ _ ld. h.tails d r ld m) l;
@@ -183,10 +183,10 @@ module _ (g : Geometry) (w : Spot → ℕ) (v : View) (c x b e to : ℕ) (p : Sp
             (λ m l. part_other g w v h c d b p heads' m l mine_at (λ i _. stay i)));
         queued = subst (λ (t : Spot → ℕ). (d : ℕ) → d < g.clients → is_loose (v'.part d) ≡ false → (s r k : ℕ) → t (Slot s r k) ≢ 0 → HasShape (contents_of w' t) 0 1 (t (Slot s r k))) (sym path)
             (λ d l f. queued_kept g w v h d heads' (λ i j. t' (Body i j)) bodies t' l (λ i _. stay i) (λ s r k n. inl (lane_apart s r k)) (sym (loose d) ∙ f));
-        values = subst (λ (t : Spot → ℕ). (d : ℕ) → d < g.clients → All (ValueAt (contents_of w' t) (reach_of t tail front v'.looks d)) (v'.values d)) (sym path)
-            (λ d. at1_all (λ (i : ℕ) (y : List ℕ). i < g.clients → All (ValueAt (contents_of w' t') (reach_of t' tail front v'.looks i)) y) v.values c values d
-            (λ _. All-weaker (ValueAt (contents_of w t') (reach_of t' tail front (λ d. looks') c)) (ValueAt (contents_of w' t') (reach_of t' tail front v'.looks c)) (λ i y. (record { live = stay i y.0.live; names = y.0.names; words = y.0.words }, reach_own i y.1)) values a.valued)
-            (λ m l. values_kept g w v h d heads' (λ i j. t' (Body i j)) bodies (reach_of t' tail front v'.looks d) l (λ i _. stay i) (reach d m l)));
+        values = subst (λ (t : Spot → ℕ). (d : ℕ) → d < g.clients → All (ValueAt (contents_of w' t) (reach_of t tail queue_head v'.looks d)) (v'.values d)) (sym path)
+            (λ d. at1_all (λ (i : ℕ) (y : List ℕ). i < g.clients → All (ValueAt (contents_of w' t') (reach_of t' tail queue_head v'.looks i)) y) v.values c values d
+            (λ _. All-weaker (ValueAt (contents_of w t') (reach_of t' tail queue_head (λ d. looks') c)) (ValueAt (contents_of w' t') (reach_of t' tail queue_head v'.looks c)) (λ i y. (record { live = stay i y.0.live; names = y.0.names; words = y.0.words }, reach_own i y.1)) values a.valued)
+            (λ m l. values_kept g w v h d heads' (λ i j. t' (Body i j)) bodies (reach_of t' tail queue_head v'.looks d) l (λ i _. stay i) (reach d m l)));
         made = subst (λ (t : Spot → ℕ). (d : ℕ) → d < g.clients → All (MadeAt heads' (λ k. t (Root d k))) (v'.made d)) (sym path)
             (λ d. at1_all (λ (i : ℕ) (y : List ℕ). i < g.clients → All (MadeAt heads' (λ k. t' (Root i k))) y) v.made c (filter (not_blocks b x) (v.made c)) d
             (λ lc. made_own g w v h c b to b p (not_blocks b x) lc (λ y f. let q = and_parts (not_block b y) (not_block x y) f in (differ b y q.0, λ _ z. differ x y q.1 (sym holds ∙ z))))
@@ -235,19 +235,19 @@ module _ (g : Geometry) (w : Spot → ℕ) (v : View) (c x b e to : ℕ) (p : Sp
       new_count : (header_of to).count ≡ (header_of (word b)).count + 1
       new_count = ap (λ (x : Header). x.count) a.new
 
-      limbo_now : limbos v' c ≡ x
-      limbo_now = ap limbo_of (at1_here v.op c o)
+      held_over_now : held_overs v' c ≡ x
+      held_over_now = ap held_over_of (at1_here v.op c o)
 
-      limbo_other : (d : ℕ) → d ≢ c → limbos v' d ≡ limbos v d
-      limbo_other d n = ap limbo_of (at1_other v.op c o d (λ z. n (sym z)))
+      held_over_other : (d : ℕ) → d ≢ c → held_overs v' d ≡ held_overs v d
+      held_over_other d n = ap held_over_of (at1_other v.op c o d (λ z. n (sym z)))
 
-      -- the slot's block goes to the limbo, and the new one comes to the slot
-      total : (i : ℕ) → i ≢ 0 → indegree g class t' (limbos v') i ≡ indegree g class t (limbos v) i + one_if (eqb b i)
+      -- the slot's block goes to what is held over, and the new one comes to the slot
+      total : (i : ℕ) → i ≢ 0 → indegree g class t' (held_overs v') i ≡ indegree g class t (held_overs v) i + one_if (eqb b i)
       total i nz =
-          let s = limbo_step g class t' (limbos v) (limbos v') c i a.inside limbo_other in
-          let r = degree_step g class t (limbos v) p b i op_sound.at not_spare in
-          let y : one_if (eqb (limbos v c) i) ≡ 0 = ap one_if (ne_eqb _ i (λ z. nz (sym z ∙ limbo_was))) in
-          let u : one_if (eqb (limbos v' c) i) ≡ one_if (eqb x i) = ap (λ z. one_if (eqb z i)) limbo_now in
+          let s = held_over_step g class t' (held_overs v) (held_overs v') c i a.inside held_over_other in
+          let r = degree_step g class t (held_overs v) p b i op_sound.at not_spare in
+          let y : one_if (eqb (held_overs v c) i) ≡ 0 = ap one_if (ne_eqb _ i (λ z. nz (sym z ∙ held_over_was))) in
+          let u : one_if (eqb (held_overs v' c) i) ≡ one_if (eqb x i) = ap (λ z. one_if (eqb z i)) held_over_now in
           let q : one_if (eqb (t p) i) ≡ one_if (eqb x i) = ap (λ z. one_if (eqb z i)) holds in
           omega arith
 
@@ -255,15 +255,15 @@ module _ (g : Geometry) (w : Spot → ℕ) (v : View) (c x b e to : ℕ) (p : Sp
       targets q true m = stay b live
       targets q false m = stay (t q) (h.count.targets q m)
 
-      reach : (d : ℕ) → c ≢ d → d < g.clients → (i : ℕ) → reach_of t tail front v.looks d i → reach_of t' tail front v'.looks d i
+      reach : (d : ℕ) → c ≢ d → d < g.clients → (i : ℕ) → reach_of t tail queue_head v.looks d i → reach_of t' tail queue_head v'.looks d i
       reach d m l i (inl x) = inl (slot_named g w v h c p a.inside mine_at b d m i x)
       reach d m l i (inr x) = inr (subst (λ y. InLooks y i) (sym (at1_other v.looks c looks' d m)) x)
 
-      reach_own : (i : ℕ) → reach_of t' tail front (λ d. looks') c i → reach_of t' tail front v'.looks c i
+      reach_own : (i : ℕ) → reach_of t' tail queue_head (λ d. looks') c i → reach_of t' tail queue_head v'.looks c i
       reach_own i (inl x) = inl x
       reach_own i (inr x) = inr (subst (λ y. InLooks y i) (sym (at1_here v.looks c looks')) x)
 
-      lane : (q : Spot) → At c q → is_slot q ≡ false → (i j : ℕ) → i ≢ j → LaneSound (λ k. t (Slot i j k)) (tail i j) (front i j) (v.sent i j) (v.unsent i j) (v.received j i) (v.untaken j i) → LaneSound (λ k. upd t q b (Slot i j k)) (tail i j) (front i j) (v.sent i j) (v.unsent i j) (v.received j i) (v.untaken j i)
+      lane : (q : Spot) → At c q → is_slot q ≡ false → (i j : ℕ) → i ≢ j → LaneSound (λ k. t (Slot i j k)) (tail i j) (queue_head i j) (v.sent i j) (v.unsent i j) (v.received j i) (v.untaken j i) → LaneSound (λ k. upd t q b (Slot i j k)) (tail i j) (queue_head i j) (v.sent i j) (v.unsent i j) (v.received j i) (v.untaken j i)
       lane (Root _ _) y z i j n l = l
       lane (Home _) y z i j n l = l
       lane (Body _ _) y z i j n l = l
@@ -295,29 +295,29 @@ module _ (g : Geometry) (w : Spot → ℕ) (v : View) (c x b e to : ℕ) (p : Sp
           absurd (omega arith)
 
       Known : ℕ → Stored → Type 0
-      Known d s = KnownAt d tags bodies slot tail front (v.untaken d) (v.latch d) (reach_of t' tail front v'.looks d) (v.dying d) s.spot s.value
+      Known d s = KnownAt d tags bodies slot tail queue_head (v.untaken d) (v.latch d) (reach_of t' tail queue_head v'.looks d) (v.dying d) s.spot s.value
 
       known_other : (d : ℕ) → c ≢ d → d < g.clients → All (Known d) (v.known d)
-      known_other d m l = All-weaker _ (Known d) (λ (s : Stored). known_kept d tags bodies slot tail front (v.untaken d) (v.latch d) (reach_of t tail front v.looks d) (reach_of t' tail front v'.looks d) (v.dying d) (v.dying d) s.spot s.value (reach d m l) (λ _ y. y)) (v.known d) (h.known d l)
+      known_other d m l = All-weaker _ (Known d) (λ (s : Stored). known_kept d tags bodies slot tail queue_head (v.untaken d) (v.latch d) (reach_of t tail queue_head v.looks d) (reach_of t' tail queue_head v'.looks d) (v.dying d) (v.dying d) s.spot s.value (reach d m l) (λ _ y. y)) (v.known d) (h.known d l)
 
       known_now : (d : ℕ) → d < g.clients → All (Known d) (v'.known d)
       known_now d l = elim (cases_eq c d) [
-        | inl x ↦ subst (λ i. All (Known i) (v'.known i)) x (let q = All-weaker _ (Known c) (λ s. known_kept c tags bodies slot tail front (v.untaken c) (v.latch c) (reach_of t' tail front (λ d. looks') c) (reach_of t' tail front v'.looks c) (v.dying c) (v.dying c) s.spot s.value
+        | inl x ↦ subst (λ i. All (Known i) (v'.known i)) x (let q = All-weaker _ (Known c) (λ s. known_kept c tags bodies slot tail queue_head (v.untaken c) (v.latch c) (reach_of t' tail queue_head (λ d. looks') c) (reach_of t' tail queue_head v'.looks c) (v.dying c) (v.dying c) s.spot s.value
             reach_own (λ _ y. y)) kept a.knows in subst (All (Known c)) (sym (at1_here v.known c kept)) q)
         | inr m ↦ subst (All (Known d)) (sym (at1_other v.known c kept d m)) (known_other d m l)
       ]
 
-  -- the block comes to the slot, and what the slot named goes to the limbo
+  -- the block comes to the slot, and what the slot named goes to what is held over
   pub change_event : Happens g w (ChangeUp c p x b) (graph_of g w v) (graph_of g (upd w (Head b) to) (change_view v c x b e p looks' kept values part))
   change_event = (
     holds,
     allowed_now.2,
     (live, counted),
-    limbo_was,
+    held_over_was,
     record {
       lives = live_stays g w v h b to live counted new_live;
       shapes = shape_stays g w v h b to live counted new_live;
       targets = λ q. ap (λ (f : Spot → ℕ). f q) path;
-      limbos = at1_part limbo_of v.op c o;
+      held_overs = at1_part held_over_of v.op c o;
     },
   )

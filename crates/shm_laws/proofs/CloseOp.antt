@@ -10,31 +10,31 @@ use Rattle.shm_words.specs.declared.redo.Redo.TheVariants as redos
 use Rattle.shm_words.specs.Headers.{header_of}
 use Rattle.shm_words.specs.Tags.{tag_author}
 use Rattle.shm_graph.specs.declared.spot.Spot.{Spot}
-use Rattle.shm_graph.specs.declared.spot.Spot.TheVariants.{Spare, Status, Redo, Hold, Latch, Home, Era, Root, Tail, Front, Slot, Segment, Page, Unused, Head, Tag, Body}
+use Rattle.shm_graph.specs.declared.spot.Spot.TheVariants.{Spare, Status, Redo, Hold, Latch, Home, Era, Root, Tail, QueueHead, Slot, Segment, Page, Unused, Head, Tag, Body}
 use Rattle.shm_graph.specs.declared.memo.Op.{Op}
 use Rattle.shm_graph.specs.declared.memo.Op.TheVariants.{Nothing, Alloc, Up, Down, Change}
 use Rattle.shm_graph.specs.declared.memo.First.TheVariants.{Begun, Committed, Written}
 use Rattle.shm_graph.specs.declared.memo.Second.TheVariants.{Open, Closed}
-use Rattle.shm_graph.specs.declared.memo.Half.TheVariants.{Raising, Lowering}
+use Rattle.shm_graph.specs.declared.memo.ChangeStage.TheVariants.{Raising, Lowering}
 use Rattle.shm_graph.specs.declared.memo.Fact.{Fact}
 use Rattle.shm_graph.specs.declared.memo.Fact.TheVariants.{Header as HeaderRead, Counter, Class}
 use Rattle.shm_graph.specs.declared.memo.Stored.{Stored}
 use Rattle.shm_graph.specs.declared.memo.Test.{Test}
 use Rattle.shm_graph.specs.Spots.{upd, same_spot, IsAt, spot_address}
 use Rattle.shm_graph.specs.References.{Words, words_of}
-use Rattle.shm_graph.specs.Ops.{Cover, Quiet, word_at, limbo_of, on_of, cover, cover_of, covered, slot_of, is_op}
-use Rattle.shm_graph.specs.Views.{View, at1, targets, ons, limbos}
+use Rattle.shm_graph.specs.Ops.{Cover, Quiet, word_at, held_over_of, on_of, cover, cover_of, covered, slot_of, is_op}
+use Rattle.shm_graph.specs.Views.{View, at1, targets, ons, held_overs}
 use Rattle.shm_graph.specs.Tables.{contents_of, HasShape}
 use Rattle.shm_graph.specs.Held.{HeldAt, CountSound, LaneSound, EraSound, Committing, Bound, FactAt, CounterAt, OwnSound, OpTie, TailSound, Allowed, room_of, odd, SlotOf, reach_of, named_by, KnownAt, LooksSound, TestAt, IsUnusedLane, PartTie, ValueAt, MadeAt, is_loose}
-use Rattle.shm_graph.proofs.Spotting.{same_spot_is, same_spot_self}
-use Rattle.shm_graph.proofs.Lists.{at1_here, at1_other}
-use Rattle.shm_graph.proofs.Holders.{one_holder}
-use Rattle.shm_graph.proofs.Frames.{at1_all}
-use Rattle.shm_graph.proofs.Counting.{cover_slot, covered_alone, covered_none}
+use Rattle.shm_graph.proofs.Spots.Spotting.{same_spot_is, same_spot_self}
+use Rattle.shm_graph.proofs.Runs.Lists.{at1_here, at1_other}
+use Rattle.shm_graph.proofs.States.Holders.{one_holder}
+use Rattle.shm_graph.proofs.Memos.Frames.{at1_all}
+use Rattle.shm_graph.proofs.States.Counting.{cover_slot, covered_alone, covered_none}
 use Rattle.shm_laws.proofs.Owns.{mine_stored, small_stored, there_stored}
 use Rattle.shm_laws.proofs.Sum.{covered_same}
 use Rattle.shm_laws.proofs.Exchange.{apart}
-use Rattle.shm_laws.specs.Steps.{CloseStep, close_view, Closes}
+use Rattle.shm_laws.specs.Steps.{CloseNeeds, close_view, Closes}
 
 -- the eras after a store of c's own
 abbrev raised : (ℕ → ℕ → ℕ) → ℕ → ℕ → ℕ → ℕ → ℕ
@@ -91,25 +91,25 @@ eras_closed n head era ops c o none h =
       ];
     }
 
-fact_closed : (n : ℕ) (era : ℕ → ℕ → ℕ) (tail front : ℕ → ℕ → ℕ) (class : ℕ → ℕ → ℕ) (ops : ℕ → Op) (c : ℕ) (o : Op) → (f : Fact) → FactAt n era (λ d. on_of (ops d)) tail front class f → FactAt n (raised era c (era c c + 1)) (λ d. on_of (at1 ops c o d)) tail front class f
-fact_closed n era tail front class ops c o (HeaderRead x) h = λ l. let q = h l in (q.0, bound_closed era ops c o _ _ q.1)
-fact_closed n era tail front class ops c o (Class s q k) h = h
-fact_closed n era tail front class ops c o (Counter p x) h = counter p h
+fact_closed : (n : ℕ) (era : ℕ → ℕ → ℕ) (tail queue_head : ℕ → ℕ → ℕ) (class : ℕ → ℕ → ℕ) (ops : ℕ → Op) (c : ℕ) (o : Op) → (f : Fact) → FactAt n era (λ d. on_of (ops d)) tail queue_head class f → FactAt n (raised era c (era c c + 1)) (λ d. on_of (at1 ops c o d)) tail queue_head class f
+fact_closed n era tail queue_head class ops c o (HeaderRead x) h = λ l. let q = h l in (q.0, bound_closed era ops c o _ _ q.1)
+fact_closed n era tail queue_head class ops c o (Class s q k) h = h
+fact_closed n era tail queue_head class ops c o (Counter p x) h = counter p h
   where
-    counter : (p : Spot) → CounterAt era tail front p x → CounterAt (raised era c (era c c + 1)) tail front p x
+    counter : (p : Spot) → CounterAt era tail queue_head p x → CounterAt (raised era c (era c c + 1)) tail queue_head p x
     counter (Era i j) k = go (eqb c i && eqb c j) refl
       where
         go : (b : Bool) → (eqb c i && eqb c j) ≡ b → x ≤ cond b (era c c + 1) (era i j)
         go true e = let q = and_parts (eqb c i) (eqb c j) e in let m : x ≤ era c c = subst (λ a. x ≤ era a c) (sym (eqb-true c i q.0)) (subst (λ a. x ≤ era i a) (sym (eqb-true c j q.1)) k) in omega arith
         go false e = k
     counter (Tail s r) k = k
-    counter (Front s r) k = k
+    counter (QueueHead s r) k = k
     counter _ k = tt
 
 -- what closing leaves
 pub record AfterClose (g : Geometry) (class : ℕ → ℕ → ℕ) (redo own : ℕ) (x : Words) (o o' : Op) : Type 0 where
   pub on : on_of o' ≡ None
-  pub limbo : limbo_of o' ≡ limbo_of o
+  pub held_over : held_over_of o' ≡ held_over_of o
   pub quiet : cover_of o' ≡ Quiet
   pub covers : (y : ℕ) → y ≡ word_at x (slot_of o) → cover (cover_of o) (slot_of o) y ≡ y
   pub room : room_of o' + 1 ≤ room_of o
@@ -118,26 +118,26 @@ pub record AfterClose (g : Geometry) (class : ℕ → ℕ → ℕ) (redo own : �
   pub was : is_op o ≡ true
 
 closed : (g : Geometry) (class : ℕ → ℕ → ℕ) (redo own : ℕ) (x : Words) (o o' : Op) → Closes o o' → OpTie g class redo own x o → AfterClose g class redo own x o o'
-closed g class redo own x (Alloc Written p b e) o' k h = subst (AfterClose g class redo own x (Alloc Written p b e)) (sym k) (record { on = refl; limbo = refl; quiet = refl; covers = covers; room = omega arith; tie = λ a i j l s. (let z : Some (redos.Up (spot_address g p) b) ≡ Some (redos.Change a i j l) = sym h.spelled ∙ s in cc); slot = λ i. cc; was = refl })
+closed g class redo own x (Alloc Written p b e) o' k h = subst (AfterClose g class redo own x (Alloc Written p b e)) (sym k) (record { on = refl; held_over = refl; quiet = refl; covers = covers; room = omega arith; tie = λ a i j l s. (let z : Some (redos.Up (spot_address g p) b) ≡ Some (redos.Change a i j l) = sym h.spelled ∙ s in cc); slot = λ i. cc; was = refl })
   where
     covers : (y : ℕ) → y ≡ word_at x p → cond (same_spot p p) b y ≡ y
     covers y q = cond-true (same_spot p p) b y (same_spot_self p) ∙ (sym h.word ∙ sym q)
-closed g class redo own x (Up Written p b e) o' k h = subst (AfterClose g class redo own x (Up Written p b e)) (sym k) (record { on = refl; limbo = refl; quiet = refl; covers = covers; room = omega arith; tie = λ a i j l s. (let z : Some (redos.Up (spot_address g p) b) ≡ Some (redos.Change a i j l) = sym h.spelled ∙ s in cc); slot = λ i. cc; was = refl })
+closed g class redo own x (Up Written p b e) o' k h = subst (AfterClose g class redo own x (Up Written p b e)) (sym k) (record { on = refl; held_over = refl; quiet = refl; covers = covers; room = omega arith; tie = λ a i j l s. (let z : Some (redos.Up (spot_address g p) b) ≡ Some (redos.Change a i j l) = sym h.spelled ∙ s in cc); slot = λ i. cc; was = refl })
   where
     covers : (y : ℕ) → y ≡ word_at x p → cond (same_spot p p) b y ≡ y
     covers y q = cond-true (same_spot p p) b y (same_spot_self p) ∙ (sym h.word ∙ sym q)
-closed g class redo own x (Down Written p b e) o' k h = subst (AfterClose g class redo own x (Down Written p b e)) (sym k) (record { on = refl; limbo = refl; quiet = refl; covers = covers; room = omega arith; tie = λ a i j l s. (let z : Some (redos.Down (spot_address g p) b) ≡ Some (redos.Change a i j l) = sym h.spelled ∙ s in cc); slot = λ i. cc; was = refl })
+closed g class redo own x (Down Written p b e) o' k h = subst (AfterClose g class redo own x (Down Written p b e)) (sym k) (record { on = refl; held_over = refl; quiet = refl; covers = covers; room = omega arith; tie = λ a i j l s. (let z : Some (redos.Down (spot_address g p) b) ≡ Some (redos.Change a i j l) = sym h.spelled ∙ s in cc); slot = λ i. cc; was = refl })
   where
     covers : (y : ℕ) → y ≡ word_at x p → cond (same_spot p p) 0 y ≡ y
     covers y q = cond-true (same_spot p p) 0 y (same_spot_self p) ∙ (sym h.word ∙ sym q)
-closed g class redo own x (Change (Raising Written) p a b e) o' k h = subst (AfterClose g class redo own x (Change (Raising Written) p a b e)) (sym k) (record { on = refl; limbo = refl; quiet = refl; covers = covers; room = omega arith; tie = record { spelled = h.spelled ∙ ap (λ z. Some (redos.Change z (spot_address g p) a b)) twice; current = ap (λ z. z + 1) h.current; at = h.at; word = h.word }; slot = λ i. refl; was = refl })
+closed g class redo own x (Change (Raising Written) p a b e) o' k h = subst (AfterClose g class redo own x (Change (Raising Written) p a b e)) (sym k) (record { on = refl; held_over = refl; quiet = refl; covers = covers; room = omega arith; tie = record { spelled = h.spelled ∙ ap (λ z. Some (redos.Change z (spot_address g p) a b)) twice; current = ap (λ z. z + 1) h.current; at = h.at; word = h.word }; slot = λ i. refl; was = refl })
   where
     covers : (y : ℕ) → y ≡ word_at x p → cond (same_spot p p) b y ≡ y
     covers y q = cond-true (same_spot p p) b y (same_spot_self p) ∙ (sym h.word ∙ sym q)
 
     twice : odd e ≡ odd (e + 1 + 1)
     twice = ap (λ z. eqb z 1) (let q : e % 2 ≡ (e + 1 + 1) % 2 = omega arith in q)
-closed g class redo own x (Change (Lowering Closed) p a b e) o' k h = subst (AfterClose g class redo own x (Change (Lowering Closed) p a b e)) (sym k) (record { on = refl; limbo = refl; quiet = refl; covers = λ y q. refl; room = omega arith; tie = λ r i j l s. (let z : Some (redos.Change (odd (e + 1)) (spot_address g p) a b) ≡ Some (redos.Change r i j l) = sym h.spelled ∙ s in let y : odd (e + 1) ≡ r = cc in sym y ∙ ap (λ z. odd (z + 1)) h.current); slot = λ i. cc; was = refl })
+closed g class redo own x (Change (Lowering Closed) p a b e) o' k h = subst (AfterClose g class redo own x (Change (Lowering Closed) p a b e)) (sym k) (record { on = refl; held_over = refl; quiet = refl; covers = λ y q. refl; room = omega arith; tie = λ r i j l s. (let z : Some (redos.Change (odd (e + 1)) (spot_address g p) a b) ≡ Some (redos.Change r i j l) = sym h.spelled ∙ s in let y : odd (e + 1) ≡ r = cc in sym y ∙ ap (λ z. odd (z + 1)) h.current); slot = λ i. cc; was = refl })
 closed g class redo own x (Change (Raising Begun) p a b e) o' k h = absurd k
 closed g class redo own x (Change (Raising Committed) p a b e) o' k h = absurd k
 closed g class redo own x (Change (Lowering Open) p a b e) o' k h = absurd k
@@ -158,18 +158,18 @@ allowed c (Change (Lowering Closed) p i b e) o' k a = subst (Allowed c) (sym k) 
 allowed c _ o' k a = absurd k
 
 -- closing leaves the targets, and the references held over
-module _ (g : Geometry) (w : Spot → ℕ) (v : View) (c : ℕ) (o : Op) (h : HeldAt g w v) (a : CloseStep g v c o) where
+module _ (g : Geometry) (w : Spot → ℕ) (v : View) (c : ℕ) (o : Op) (h : HeldAt g w v) (a : CloseNeeds g v c o) where
   abbrev v' : View
   v' = close_view v c (w (Era c c) + 1) o
 
   after : AfterClose g (λ i j. w (Page i j)) (w (Redo c)) (w (Era c c)) (words_of w) (v.op c) o
   after = closed g (λ i j. w (Page i j)) (w (Redo c)) (w (Era c c)) (words_of w) (v.op c) o a.op (h.op c a.inside)
 
-  pub close_limbos : limbos v' ≡ limbos v
-  close_limbos = fun_ext (λ d. at1_all (λ (i : ℕ) (x : Op). limbo_of x ≡ limbo_of (v.op i)) v.op c o d after.limbo (λ _. refl))
+  pub close_held_overs : held_overs v' ≡ held_overs v
+  close_held_overs = fun_ext (λ d. at1_all (λ (i : ℕ) (x : Op). held_over_of x ≡ held_over_of (v.op i)) v.op c o d after.held_over (λ _. refl))
 
   covers_slot : (d : ℕ) → d < g.clients → d ≢ c → (y : ℕ) → cover (cover_of (v.op d)) (slot_of (v.op c)) y ≡ y
-  covers_slot d l n y = apart d (λ i. header_of (w (Head i))) (λ i. w (Tag i)) (v.latch d) (λ i j. w (Tail i j)) (λ i j. w (Front i j)) (reach_of (targets g w v) (λ i j. w (Tail i j)) (λ i j. w (Front i j)) v.looks d)
+  covers_slot d l n y = apart d (λ i. header_of (w (Head i))) (λ i. w (Tag i)) (v.latch d) (λ i j. w (Tail i j)) (λ i j. w (QueueHead i j)) (reach_of (targets g w v) (λ i j. w (Tail i j)) (λ i j. w (QueueHead i j)) v.looks d)
       (v.op d) (slot_of (v.op c)) (h.slots d l) (λ x. n (sym (one_holder g w v h c d (slot_of (v.op c)) a.inside l (h.slots c a.inside after.was) x))) y
 
   abbrev cov : ℕ → Cover
@@ -206,7 +206,7 @@ module _ (g : Geometry) (w : Spot → ℕ) (v : View) (c : ℕ) (o : Op) (h : He
   same (Latch d) = refl
   same (Era d l) = refl
   same (Tail s r) = refl
-  same (Front s r) = refl
+  same (QueueHead s r) = refl
   same (Segment s) = refl
   same (Page s q) = refl
   same (Unused s) = refl
@@ -216,7 +216,7 @@ module _ (g : Geometry) (w : Spot → ℕ) (v : View) (c : ℕ) (o : Op) (h : He
   pub close_targets : targets g (upd w (Era c c) (w (Era c c) + 1)) v' ≡ targets g w v
   close_targets = fun_ext same
 
-pub close_kept : (g : Geometry) (w : Spot → ℕ) (v : View) (c : ℕ) (o : Op) → HeldAt g w v → CloseStep g v c o → HeldAt g (upd w (Era c c) (w (Era c c) + 1)) (close_view v c (w (Era c c) + 1) o)
+pub close_kept : (g : Geometry) (w : Spot → ℕ) (v : View) (c : ℕ) (o : Op) → HeldAt g w v → CloseNeeds g v c o → HeldAt g (upd w (Era c c) (w (Era c c) + 1)) (close_view v c (w (Era c c) + 1) o)
 close_kept g w v c o h a =
     record {
       fits = h.fits;
@@ -243,14 +243,14 @@ close_kept g w v c o h a =
       ];
       redo = h.redo;
       allowed = λ d. at1_all (λ (j : ℕ) (k : Op). j < g.clients → Allowed j k) v.op c o d (λ l. allowed c (v.op c) o a.op (h.allowed c l)) (λ n. h.allowed d);
-      count = subst (λ (t : Spot → ℕ). CountSound g class heads t (limbos v')) (sym path) (subst (λ (l : ℕ → ℕ). CountSound g class heads t l) (sym limbo) h.count);
-      slots = subst (λ (t : Spot → ℕ). (d : ℕ) → d < g.clients → is_op (v'.op d) ≡ true → SlotOf d heads tags (v.latch d) tail front (reach_of t tail front v.looks d) (slot_of (v'.op d))) (sym path)
-          (λ d. at1_all (λ (j : ℕ) (k : Op). j < g.clients → is_op k ≡ true → SlotOf j heads tags (v.latch j) tail front (reach_of t tail front v.looks j) (slot_of k)) v.op c o d
+      count = subst (λ (t : Spot → ℕ). CountSound g class heads t (held_overs v')) (sym path) (subst (λ (l : ℕ → ℕ). CountSound g class heads t l) (sym held_over) h.count);
+      slots = subst (λ (t : Spot → ℕ). (d : ℕ) → d < g.clients → is_op (v'.op d) ≡ true → SlotOf d heads tags (v.latch d) tail queue_head (reach_of t tail queue_head v.looks d) (slot_of (v'.op d))) (sym path)
+          (λ d. at1_all (λ (j : ℕ) (k : Op). j < g.clients → is_op k ≡ true → SlotOf j heads tags (v.latch j) tail queue_head (reach_of t tail queue_head v.looks j) (slot_of k)) v.op c o d
           (λ l is. subst (At c) (sym (cl.slot is)) (h.slots c l cl.was)) (λ n. h.slots d));
-      looks = subst (λ (t : Spot → ℕ). (d : ℕ) → d < g.clients → LooksSound (λ a. t (Home a)) (λ b i. t (Body b i)) (λ b. tag_author (w (Tag b))) (v.latch d) (named_by t tail front d) [] (v.looks d)) (sym path) h.looks;
-      lanes = subst (λ (t : Spot → ℕ). (i j : ℕ) → i < g.clients → j < g.clients → i ≢ j → LaneSound (λ k. t (Slot i j k)) (tail i j) (front i j) (v.sent i j) (v.unsent i j) (v.received j i) (v.untaken j i)) (sym path) h.lanes;
-      known = subst (λ (t : Spot → ℕ). (d : ℕ) → d < g.clients → All (λ (s : Stored). KnownAt d tags bodies slot tail front (v.untaken d) (v.latch d) (reach_of t tail front v.looks d) (v.dying d) s.spot s.value) (v.known d)) (sym path) h.known;
-      facts = λ d l. All-weaker _ _ (fact_closed g.clients eras tail front class v.op c o) (v.facts d) (h.facts d l);
+      looks = subst (λ (t : Spot → ℕ). (d : ℕ) → d < g.clients → LooksSound (λ a. t (Home a)) (λ b i. t (Body b i)) (λ b. tag_author (w (Tag b))) (v.latch d) (named_by t tail queue_head d) [] (v.looks d)) (sym path) h.looks;
+      lanes = subst (λ (t : Spot → ℕ). (i j : ℕ) → i < g.clients → j < g.clients → i ≢ j → LaneSound (λ k. t (Slot i j k)) (tail i j) (queue_head i j) (v.sent i j) (v.unsent i j) (v.received j i) (v.untaken j i)) (sym path) h.lanes;
+      known = subst (λ (t : Spot → ℕ). (d : ℕ) → d < g.clients → All (λ (s : Stored). KnownAt d tags bodies slot tail queue_head (v.untaken d) (v.latch d) (reach_of t tail queue_head v.looks d) (v.dying d) s.spot s.value) (v.known d)) (sym path) h.known;
+      facts = λ d l. All-weaker _ _ (fact_closed g.clients eras tail queue_head class v.op c o) (v.facts d) (h.facts d l);
       zeros = h.zeros;
       test = λ d l. elim (cases_eq c d) [
         | inl x ↦ subst (λ i. TestAt g.clients eras' (ons v' i) i (v'.test i)) x (rw (eq-eqb c c refl) tt)
@@ -264,7 +264,7 @@ close_kept g w v c o h a =
         | inl x ↦ absurd (a.here (ap v.status x ∙ st))
         | inr n ↦ rw (ne_eqb c d n) (h.gone d l st)
       ];
-      self_lanes = subst (λ (t : Spot → ℕ). (d : ℕ) → d < g.clients → IsUnusedLane (tail d d) (front d d) (λ k. t (Slot d d k))) (sym path) h.self_lanes;
+      self_lanes = subst (λ (t : Spot → ℕ). (d : ℕ) → d < g.clients → IsUnusedLane (tail d d) (queue_head d d) (λ k. t (Slot d d k))) (sym path) h.self_lanes;
       no_queue = h.no_queue;
       tails = λ d r l lr. elim (cases_eq c d) [
         | inl x ↦ subst (λ j. TailSound j r (eras' j j) (w (Tail j r)) (v.unsent j r) (v'.op j)) x (subst (λ z. TailSound c r z (w (Tail c r)) (v.unsent c r) (v'.op c)) (sym (raised_here eras c (w (Era c c) + 1))) (let q = (h.tails c r a.inside lr).0 in (omega arith, λ _ _. omega arith)))
@@ -273,7 +273,7 @@ close_kept g w v c o h a =
       parts = h.parts;
       part = subst (λ (t : Spot → ℕ). (d : ℕ) → d < g.clients → PartTie (contents_of w t) d (t (Home d)) (v.part d)) (sym path) h.part;
       queued = subst (λ (t : Spot → ℕ). (d : ℕ) → d < g.clients → is_loose (v.part d) ≡ false → (s r k : ℕ) → t (Slot s r k) ≢ 0 → HasShape (contents_of w t) 0 1 (t (Slot s r k))) (sym path) h.queued;
-      values = subst (λ (t : Spot → ℕ). (d : ℕ) → d < g.clients → All (ValueAt (contents_of w t) (reach_of t tail front v.looks d)) (v.values d)) (sym path) h.values;
+      values = subst (λ (t : Spot → ℕ). (d : ℕ) → d < g.clients → All (ValueAt (contents_of w t) (reach_of t tail queue_head v.looks d)) (v.values d)) (sym path) h.values;
       made = subst (λ (t : Spot → ℕ). (d : ℕ) → d < g.clients → All (MadeAt heads (λ k. t (Root d k))) (v.made d)) (sym path) h.made;
     }
   where
@@ -301,8 +301,8 @@ close_kept g w v c o h a =
     tail : ℕ → ℕ → ℕ
     tail = λ i j. w (Tail i j)
 
-    front : ℕ → ℕ → ℕ
-    front = λ i j. w (Front i j)
+    queue_head : ℕ → ℕ → ℕ
+    queue_head = λ i j. w (QueueHead i j)
 
     eras : ℕ → ℕ → ℕ
     eras = λ i j. w (Era i j)
@@ -317,10 +317,10 @@ close_kept g w v c o h a =
     cl = after g w v c o h a
 
     At : ℕ → Spot → Type 0
-    At d = SlotOf d heads tags (v.latch d) tail front (reach_of t tail front v.looks d)
+    At d = SlotOf d heads tags (v.latch d) tail queue_head (reach_of t tail queue_head v.looks d)
 
-    limbo : limbos v' ≡ limbos v
-    limbo = close_limbos g w v c o h a
+    held_over : held_overs v' ≡ held_overs v
+    held_over = close_held_overs g w v c o h a
 
     path : targets g (upd w (Era c c) (w (Era c c) + 1)) v' ≡ t
     path = close_targets g w v c o h a

@@ -8,8 +8,8 @@ use Rattle.shm_words.specs.Headers.{header_of}
 use Rattle.shm_graph.specs.Held.{Shown, CountSound, EraSound, Committing, Bound, FactAt, SlotOf, IsDying, named_by, InLooks, LookAt, LooksSound, KnownAt}
 use Rattle.shm_graph.specs.References.{one_if, references_to}
 use Rattle.shm_graph.specs.Views.{at1}
-use Rattle.shm_graph.proofs.Frames.{at1_all}
-use Rattle.shm_graph.proofs.Lists.{at1_here, at1_other}
+use Rattle.shm_graph.proofs.Memos.Frames.{at1_all}
+use Rattle.shm_graph.proofs.Runs.Lists.{at1_here, at1_other}
 use Rattle.shm_words.specs.declared.geometry.Geometry.{Geometry}
 use Rattle.shm_graph.specs.declared.spot.Spot.{Spot}
 use Rattle.shm_graph.specs.declared.spot.Spot.TheVariants.{Spare, Home, Root, Slot, Tag, Body}
@@ -20,10 +20,10 @@ use Rattle.shm_graph.specs.declared.memo.Fact.TheVariants.{Header as HeaderRead,
 use Rattle.shm_graph.specs.Spots.{upd, same_spot, spot_at, IsAt}
 use Rattle.shm_words.specs.Layout.{total_of}
 use Rattle.shm_graph.specs.Ops.{on_of, indegree, cover, cover_of, slot_of, is_op}
-use Rattle.shm_graph.proofs.Spotting.{same_spot_is}
-use Rattle.shm_graph.proofs.Sums.{sum_none}
-use Rattle.shm_graph.proofs.Counting.{cover_slot, cover_idle}
-use Rattle.shm_graph.proofs.Holders.{looks_targets}
+use Rattle.shm_graph.proofs.Spots.Spotting.{same_spot_is}
+use Rattle.shm_graph.proofs.Spots.Sums.{sum_none}
+use Rattle.shm_graph.proofs.States.Counting.{cover_slot, cover_idle}
+use Rattle.shm_graph.proofs.States.Holders.{looks_targets}
 use Rattle.shm_laws.proofs.Sum.{degree_step}
 
 -- ---- eras
@@ -86,10 +86,10 @@ era_exchange n word era ops c b to o lc none now client age some over h =
       | inr ne ↦ subst (λ x. Shown n era (header_of x) d) (sym (at1_other word b to i ne)) s
     ]
 
-pub facts_committed : (n : ℕ) (era : ℕ → ℕ → ℕ) (tail front : ℕ → ℕ → ℕ) (class : ℕ → ℕ → ℕ) (ops : ℕ → Op) (c b : ℕ) (o : Op) → on_of o ≡ Some b → (f : Fact) → FactAt n era (λ d. on_of (ops d)) tail front class f → FactAt n era (λ d. on_of (at1 ops c o d)) tail front class f
-facts_committed n era tail front class ops c b o now (HeaderRead x) h = λ l. let q = h l in (q.0, bound_kept era ops c b o _ _ now q.1)
-facts_committed n era tail front class ops c b o now (Counter p x) h = h
-facts_committed n era tail front class ops c b o now (Class s q k) h = h
+pub facts_committed : (n : ℕ) (era : ℕ → ℕ → ℕ) (tail queue_head : ℕ → ℕ → ℕ) (class : ℕ → ℕ → ℕ) (ops : ℕ → Op) (c b : ℕ) (o : Op) → on_of o ≡ Some b → (f : Fact) → FactAt n era (λ d. on_of (ops d)) tail queue_head class f → FactAt n era (λ d. on_of (at1 ops c o d)) tail queue_head class f
+facts_committed n era tail queue_head class ops c b o now (HeaderRead x) h = λ l. let q = h l in (q.0, bound_kept era ops c b o _ _ now q.1)
+facts_committed n era tail queue_head class ops c b o now (Counter p x) h = h
+facts_committed n era tail queue_head class ops c b o now (Class s q k) h = h
 
 -- ---- counts
 
@@ -98,7 +98,7 @@ pub count_free : (g : Geometry) (class : ℕ → ℕ → ℕ) (head : ℕ → He
 unfolding indegree references_to
 count_free g class head t l b h nz dead =
     let x = sum_none (total_of g) (λ a. one_if (eqb (t (spot_at g class a)) b)) (λ a _. ap one_if (ne_eqb _ b (λ e. true≢false (sym (h.targets (spot_at g class a) (λ z. nz (sym e ∙ z))) ∙ (ap (λ i. (head i).live) e ∙ dead))))) in
-    let y = sum_none g.clients (λ c. one_if (eqb (l c) b)) (λ c lc. ap one_if (ne_eqb _ b (λ e. true≢false (sym (h.limbos c lc (λ z. nz (sym e ∙ z))) ∙ (ap (λ i. (head i).live) e ∙ dead))))) in
+    let y = sum_none g.clients (λ c. one_if (eqb (l c) b)) (λ c lc. ap one_if (ne_eqb _ b (λ e. true≢false (sym (h.held_overs c lc (λ z. nz (sym e ∙ z))) ∙ (ap (λ i. (head i).live) e ∙ dead))))) in
     omega arith
 
 -- one header and one target change; x and y are 0 or the block
@@ -114,7 +114,7 @@ count_exchange g class word t l p b to y at ns some live here others new h =
           (λ _. let s = degree_step g class t l p y b at ns in omega arith)
           (λ m q. let s = degree_step g class t l p y i at ns in let o = others i (some i q) m in let z = h.counts i q in omega arith);
       targets = λ q. targets q (same_spot p q);
-      limbos = λ d ld m. lives (l d) (h.limbos d ld m);
+      held_overs = λ d ld m. lives (l d) (h.held_overs d ld m);
     }
   where
     lives : (i : ℕ) → (header_of (word i)).live ≡ true → (header_of (at1 word b to i)).live ≡ true
@@ -126,21 +126,21 @@ count_exchange g class word t l p b to y at ns some live here others new h =
 
 -- ---- reach, slots, looks, what is known
 
-pub named_kept : (t t' : Spot → ℕ) (tail front : ℕ → ℕ → ℕ) (c b : ℕ) → (b ≢ 0 → (k : ℕ) → t (Root c k) ≡ b → t' (Root c k) ≡ b) → (b ≢ 0 → t (Home c) ≡ b → t' (Home c) ≡ b)
-    → (b ≢ 0 → (s : ℕ) → front s c < tail s c → t (Slot s c (front s c % 8)) ≡ b → t' (Slot s c (front s c % 8)) ≡ b) → named_by t tail front c b → named_by t' tail front c b
-named_kept t t' tail front c b roots home slots (n, inl u) = (n, inl (u.0, roots n u.0 u.1))
-named_kept t t' tail front c b roots home slots (n, inr (inl u)) = (n, inr (inl (home n u)))
-named_kept t t' tail front c b roots home slots (n, inr (inr u)) = (n, inr (inr (u.0, u.1, slots n u.0 u.1 u.2)))
+pub named_kept : (t t' : Spot → ℕ) (tail queue_head : ℕ → ℕ → ℕ) (c b : ℕ) → (b ≢ 0 → (k : ℕ) → t (Root c k) ≡ b → t' (Root c k) ≡ b) → (b ≢ 0 → t (Home c) ≡ b → t' (Home c) ≡ b)
+    → (b ≢ 0 → (s : ℕ) → queue_head s c < tail s c → t (Slot s c (queue_head s c % 8)) ≡ b → t' (Slot s c (queue_head s c % 8)) ≡ b) → named_by t tail queue_head c b → named_by t' tail queue_head c b
+named_kept t t' tail queue_head c b roots home slots (n, inl u) = (n, inl (u.0, roots n u.0 u.1))
+named_kept t t' tail queue_head c b roots home slots (n, inr (inl u)) = (n, inr (inl (home n u)))
+named_kept t t' tail queue_head c b roots home slots (n, inr (inr u)) = (n, inr (inr (u.0, u.1, slots n u.0 u.1 u.2)))
 
-pub slot_kept : (d : ℕ) (head head' : ℕ → Header) (tag : ℕ → ℕ) (latch : Option ℕ) (tail front : ℕ → ℕ → ℕ) (reach reach' : ℕ → Type 0) (p : Spot)
+pub slot_kept : (d : ℕ) (head head' : ℕ → Header) (tag : ℕ → ℕ) (latch : Option ℕ) (tail queue_head : ℕ → ℕ → ℕ) (reach reach' : ℕ → Type 0) (p : Spot)
     → ((b : ℕ) → (head b).live ≡ true → (head' b).live ≡ true ⊎ (IsDying (head b) d → ⊥) × (reach b → ⊥))
     → ((b : ℕ) → IsDying (head b) d → IsDying (head' b) d)
     → ((b : ℕ) → reach b → reach' b)
-    → SlotOf d head tag latch tail front reach p → SlotOf d head' tag latch tail front reach' p
-slot_kept d head head' tag latch tail front reach reach' (Root i k) live dying named x = x
-slot_kept d head head' tag latch tail front reach reach' (Home i) live dying named x = x
-slot_kept d head head' tag latch tail front reach reach' (Slot s r k) live dying named x = x
-slot_kept d head head' tag latch tail front reach reach' (Body b i) live dying named x = (
+    → SlotOf d head tag latch tail queue_head reach p → SlotOf d head' tag latch tail queue_head reach' p
+slot_kept d head head' tag latch tail queue_head reach reach' (Root i k) live dying named x = x
+slot_kept d head head' tag latch tail queue_head reach reach' (Home i) live dying named x = x
+slot_kept d head head' tag latch tail queue_head reach reach' (Slot s r k) live dying named x = x
+slot_kept d head head' tag latch tail queue_head reach reach' (Body b i) live dying named x = (
   elim (live b x.0) [ inl y ↦ y | inr y ↦ absurd (elim x.2 [ inl u ↦ y.0 (x.0, u.0, u.1) | inr u ↦ y.1 u.2 ]) ],
   x.1,
   elim x.2 [
@@ -148,7 +148,7 @@ slot_kept d head head' tag latch tail front reach reach' (Body b i) live dying n
     | inr u ↦ inr (u.0, u.1, named b u.2)
   ],
 )
-slot_kept d head head' tag latch tail front reach reach' _ live dying named x = absurd x
+slot_kept d head head' tag latch tail queue_head reach reach' _ live dying named x = absurd x
 
 pub looks_kept : (home home' : ℕ → ℕ) (body body' : ℕ → ℕ → ℕ) (author : ℕ → ℕ) (latch : Option ℕ) (named named' : ℕ → Type 0)
     → ((a x : ℕ) → x ≢ 0 → home a ≡ x → home' a ≡ x) → ((b i x : ℕ) → x ≢ 0 → body b i ≡ x → body' b i ≡ x) → ((b : ℕ) → named b → named' b)
@@ -161,29 +161,29 @@ looks_kept home home' body body' author latch named named' hh hb hn earlier (k �
     at (Body b i) y = (y.0, y.1, hb b i k.block y.0 y.2, elim y.3 [ inl u ↦ inl (hn b u) | inr u ↦ inr u ])
     at _ y = absurd y
 
-pub known_kept : (c : ℕ) (tag : ℕ → ℕ) (body : ℕ → ℕ → ℕ) (slot : ℕ → ℕ → ℕ → ℕ) (tail front : ℕ → ℕ → ℕ) (untaken : ℕ → ℕ) (latch : Option ℕ) (reach reach' : ℕ → Type 0) (dying dying' : List ℕ)
+pub known_kept : (c : ℕ) (tag : ℕ → ℕ) (body : ℕ → ℕ → ℕ) (slot : ℕ → ℕ → ℕ → ℕ) (tail queue_head : ℕ → ℕ → ℕ) (untaken : ℕ → ℕ) (latch : Option ℕ) (reach reach' : ℕ → Type 0) (dying dying' : List ℕ)
     → (p : Spot) (x : ℕ)
     → ((b : ℕ) → reach b → reach' b) → ((b : ℕ) → Contains dying b → Contains dying' b)
-    → KnownAt c tag body slot tail front untaken latch reach dying p x → KnownAt c tag body slot tail front untaken latch reach' dying' p x
-known_kept c tag body slot tail front untaken latch reach reach' dying dying' (Tag b) x hr hd k = (k.0, elim k.1 [ inl u ↦ inl (hd b u) | inr u ↦ inr (hr b u) ])
-known_kept c tag body slot tail front untaken latch reach reach' dying dying' (Body b i) x hr hd k = (k.0, elim k.1 [ inl u ↦ inl (hd b u) | inr u ↦ inr (hr b u.0, u.1) ])
-known_kept c tag body slot tail front untaken latch reach reach' dying dying' (Slot s r i) x hr hd k = k
-known_kept c tag body slot tail front untaken latch reach reach' dying dying' _ x hr hd k = absurd k
+    → KnownAt c tag body slot tail queue_head untaken latch reach dying p x → KnownAt c tag body slot tail queue_head untaken latch reach' dying' p x
+known_kept c tag body slot tail queue_head untaken latch reach reach' dying dying' (Tag b) x hr hd k = (k.0, elim k.1 [ inl u ↦ inl (hd b u) | inr u ↦ inr (hr b u) ])
+known_kept c tag body slot tail queue_head untaken latch reach reach' dying dying' (Body b i) x hr hd k = (k.0, elim k.1 [ inl u ↦ inl (hd b u) | inr u ↦ inr (hr b u.0, u.1) ])
+known_kept c tag body slot tail queue_head untaken latch reach reach' dying dying' (Slot s r i) x hr hd k = k
+known_kept c tag body slot tail queue_head untaken latch reach reach' dying dying' _ x hr hd k = absurd k
 
 -- an op whose slot is another word covers nothing of this one
-pub apart : (d : ℕ) (head : ℕ → Header) (tag : ℕ → ℕ) (latch : Option ℕ) (tail front : ℕ → ℕ → ℕ) (reach : ℕ → Type 0) (o : Op) (p : Spot) → (is_op o ≡ true → SlotOf d head tag latch tail front reach (slot_of o)) → (SlotOf d head tag latch tail front reach p → ⊥) → (y : ℕ) → cover (cover_of o) p y ≡ y
-apart d head tag latch tail front reach o p has never y =
+pub apart : (d : ℕ) (head : ℕ → Header) (tag : ℕ → ℕ) (latch : Option ℕ) (tail queue_head : ℕ → ℕ → ℕ) (reach : ℕ → Type 0) (o : Op) (p : Spot) → (is_op o ≡ true → SlotOf d head tag latch tail queue_head reach (slot_of o)) → (SlotOf d head tag latch tail queue_head reach p → ⊥) → (y : ℕ) → cover (cover_of o) p y ≡ y
+apart d head tag latch tail queue_head reach o p has never y =
     elim (cases_Bool (is_op o)) [
       | inr i ↦ cover_idle o p i y
-      | inl i ↦ cover_slot o p (false_from_ne_true _ (λ e. never (subst (SlotOf d head tag latch tail front reach) (same_spot_is (slot_of o) p e) (has i)))) y
+      | inl i ↦ cover_slot o p (false_from_ne_true _ (λ e. never (subst (SlotOf d head tag latch tail queue_head reach) (same_spot_is (slot_of o) p e) (has i)))) y
     ]
 
 -- a block in reach is a target
-pub reach_target : (t : Spot → ℕ) (tail front : ℕ → ℕ → ℕ) (author : ℕ → ℕ) (latch : Option ℕ) (looks : List Look) (c b : ℕ) → LooksSound (λ a. t (Home a)) (λ b i. t (Body b i)) author latch (named_by t tail front c) [] looks → named_by t tail front c b ⊎ InLooks looks b → (p : Spot) × (t p ≡ b)
-reach_target t tail front author latch looks c b h (inl (n, inl u)) = (Root c u.0, u.1)
-reach_target t tail front author latch looks c b h (inl (n, inr (inl u))) = (Home c, u)
-reach_target t tail front author latch looks c b h (inl (n, inr (inr u))) = (Slot u.0 c (front u.0 c % 8), u.2)
-reach_target t tail front author latch looks c b h (inr u) = let q = All-contains (λ (k : Look). (k.block ≢ 0) × ((p : Spot) × (t p ≡ k.block))) looks u.0 (looks_targets t author latch (named_by t tail front c) [] looks h) u.1 in (q.1.0, q.1.1 ∙ u.2)
+pub reach_target : (t : Spot → ℕ) (tail queue_head : ℕ → ℕ → ℕ) (author : ℕ → ℕ) (latch : Option ℕ) (looks : List Look) (c b : ℕ) → LooksSound (λ a. t (Home a)) (λ b i. t (Body b i)) author latch (named_by t tail queue_head c) [] looks → named_by t tail queue_head c b ⊎ InLooks looks b → (p : Spot) × (t p ≡ b)
+reach_target t tail queue_head author latch looks c b h (inl (n, inl u)) = (Root c u.0, u.1)
+reach_target t tail queue_head author latch looks c b h (inl (n, inr (inl u))) = (Home c, u)
+reach_target t tail queue_head author latch looks c b h (inl (n, inr (inr u))) = (Slot u.0 c (queue_head u.0 c % 8), u.2)
+reach_target t tail queue_head author latch looks c b h (inr u) = let q = All-contains (λ (k : Look). (k.block ≢ 0) × ((p : Spot) × (t p ≡ k.block))) looks u.0 (looks_targets t author latch (named_by t tail queue_head c) [] looks h) u.1 in (q.1.0, q.1.1 ∙ u.2)
 
 -- a target that may change only where nobody looks
 pub looks_through : (t t' : Spot → ℕ) (author : ℕ → ℕ) (latch : Option ℕ) (named named' : ℕ → Type 0)

@@ -9,32 +9,32 @@ use Rattle.shm_words.proofs.Words.{header_of_zero}
 use Rattle.shm_graph.specs.Held.{Shown, HeldAt, CountSound, SlotOf, reach_of, named_by, TagSound, MakingTie, ZeroAt, TestAt, KnownAt, LooksSound, LaneSound, Committing, IsDying, IsUnusedLane, PartTie, ValueAt, MadeAt, is_loose}
 use Rattle.shm_words.specs.declared.geometry.Geometry.{Geometry}
 use Rattle.shm_graph.specs.declared.spot.Spot.{Spot}
-use Rattle.shm_graph.specs.declared.spot.Spot.TheVariants.{Spare, Home, Era, Root, Tail, Front, Slot, Segment, Page, Head, Tag, Body}
+use Rattle.shm_graph.specs.declared.spot.Spot.TheVariants.{Spare, Home, Era, Root, Tail, QueueHead, Slot, Segment, Page, Head, Tag, Body}
 use Rattle.shm_graph.specs.declared.memo.Making.{Making}
 use Rattle.shm_graph.specs.declared.memo.Stored.{Stored}
 use Rattle.shm_graph.specs.declared.memo.Test.{Test}
-use Rattle.shm_graph.proofs.Frames.{at1_all}
-use Rattle.shm_graph.proofs.Lists.{at1_here, at1_other, at1_part}
+use Rattle.shm_graph.proofs.Memos.Frames.{at1_all}
+use Rattle.shm_graph.proofs.Runs.Lists.{at1_here, at1_other, at1_part}
 use Rattle.shm_graph.specs.References.{words_of, refs_of}
 use Rattle.shm_graph.specs.Spots.{upd, IsAt, class_at}
-use Rattle.shm_graph.specs.Views.{View, at1, targets, ons, limbos}
+use Rattle.shm_graph.specs.Views.{View, at1, targets, ons, held_overs}
 use Rattle.shm_graph.specs.Blocks.{headers}
 use Rattle.shm_graph.specs.Events.{Free, graph_of, Happens}
 use Rattle.shm_graph.specs.Ops.{cover, cover_of, covered, slot_of, indegree, on_of, is_op}
 use Rattle.shm_words.specs.Tags.{tag_refs, tag_author, tag_link}
-use Rattle.shm_laws.specs.Steps.{FreeStep, free_view}
+use Rattle.shm_laws.specs.Steps.{FreeNeeds, free_view}
 use Rattle.shm_graph.specs.Stores.{not_block, not_of, is_of}
 use Rattle.shm_laws.proofs.Owns.{mine_other, small_stored, there_stored}
-use Rattle.shm_graph.proofs.Spotting.{block_is_at}
-use Rattle.shm_graph.proofs.Holders.{held_live_not_zero, limbo_counted, reach_counted, target_counted}
-use Rattle.shm_graph.proofs.Counting.{covered_none, cover_idle}
+use Rattle.shm_graph.proofs.Spots.Spotting.{block_is_at}
+use Rattle.shm_graph.proofs.States.Holders.{held_live_not_zero, held_over_counted, reach_counted, target_counted}
+use Rattle.shm_graph.proofs.States.Counting.{covered_none, cover_idle}
 use Rattle.shm_laws.proofs.Sum.{refs_target}
 use Rattle.shm_laws.proofs.Keep.{live_block, All-kept, Contains-filter, filter_from}
 use Rattle.shm_graph.specs.Tables.{contents_of, HasShape}
 use Rattle.shm_laws.proofs.References.{IsNamed, part_lives, values_kept, made_kept, queued_kept}
 use Rattle.shm_laws.proofs.Exchange.{slot_kept, known_kept, apart}
 
-module _ (g : Geometry) (w : Spot → ℕ) (v : View) (c b tag : ℕ) (h : HeldAt g w v) (a : FreeStep g v c b tag) where
+module _ (g : Geometry) (w : Spot → ℕ) (v : View) (c b tag : ℕ) (h : HeldAt g w v) (a : FreeNeeds g v c b tag) where
   abbrev w' : Spot → ℕ
   w' = upd w (Head b) 0
 
@@ -59,8 +59,8 @@ module _ (g : Geometry) (w : Spot → ℕ) (v : View) (c b tag : ℕ) (h : HeldA
   abbrev tail : ℕ → ℕ → ℕ
   tail = λ i j. w (Tail i j)
 
-  abbrev front : ℕ → ℕ → ℕ
-  front = λ i j. w (Front i j)
+  abbrev queue_head : ℕ → ℕ → ℕ
+  queue_head = λ i j. w (QueueHead i j)
 
   abbrev t : Spot → ℕ
   t = targets g w v
@@ -68,14 +68,14 @@ module _ (g : Geometry) (w : Spot → ℕ) (v : View) (c b tag : ℕ) (h : HeldA
   dying : IsDying (header_of (word b)) c
   dying = (h.dying c a.inside).listed b a.dying
 
-  no_reach : (d : ℕ) → d < g.clients → reach_of t tail front v.looks d b → ⊥
+  no_reach : (d : ℕ) → d < g.clients → reach_of t tail queue_head v.looks d b → ⊥
   no_reach d l x = (reach_counted g w v h d b l x).1 dying.1
 
   other : (d : ℕ) → is_op (v.op d) ≡ true → c ≢ d
   other d is x = let z : is_op (v.op d) ≡ false = ap (λ i. is_op (v.op i)) (sym x) ∙ ap is_op a.op in true≢false (sym is ∙ z)
 
   abbrev Old : ℕ → Stored → Type 0
-  Old d s = KnownAt d tags bodies slot tail front (v.untaken d) (v.latch d) (reach_of t tail front v.looks d) (v.dying d) s.spot s.value
+  Old d s = KnownAt d tags bodies slot tail queue_head (v.untaken d) (v.latch d) (reach_of t tail queue_head v.looks d) (v.dying d) s.spot s.value
 
   tag_word : w (Tag b) ≡ tag
   tag_word = (All-contains (Old c) (v.known c) (record { spot = Tag b; value = tag }) (h.known c a.inside) a.tagged).0
@@ -86,7 +86,7 @@ module _ (g : Geometry) (w : Spot → ℕ) (v : View) (c b tag : ℕ) (h : HeldA
   covers_body : (i d : ℕ) → d < g.clients → (y : ℕ) → cover (cover_of (v.op d)) (Body b i) y ≡ y
   covers_body i d l y = elim (cases_Bool (is_op (v.op d))) [
     | inr n ↦ cover_idle (v.op d) (Body b i) n y
-    | inl is ↦ apart d (λ i. header_of (word i)) tags (v.latch d) tail front (reach_of t tail front v.looks d) (v.op d) (Body b i) (h.slots d l) (λ x. elim x.2 [ inl u ↦ other d is (sym dying.2 ∙ u.1) | inr u ↦ no_reach d l u.2 ]) y
+    | inl is ↦ apart d (λ i. header_of (word i)) tags (v.latch d) tail queue_head (reach_of t tail queue_head v.looks d) (v.op d) (Body b i) (h.slots d l) (λ x. elim x.2 [ inl u ↦ other d is (sym dying.2 ∙ u.1) | inr u ↦ no_reach d l u.2 ]) y
   ]
 
   -- its reference words name nothing
@@ -150,21 +150,21 @@ module _ (g : Geometry) (w : Spot → ℕ) (v : View) (c b tag : ℕ) (h : HeldA
         op = h.op;
         redo = h.redo;
         allowed = h.allowed;
-        count = subst (λ (t : Spot → ℕ). CountSound g class (λ i. header_of (word' i)) t (limbos v)) (sym path) (record {
-          counts = λ i. at1_all (λ (j x : ℕ). (header_of x).live ≡ true → (header_of x).count ≡ indegree g class t (limbos v) j) word b 0 i (λ q. absurd (dead q)) (λ n. h.count.counts i);
+        count = subst (λ (t : Spot → ℕ). CountSound g class (λ i. header_of (word' i)) t (held_overs v)) (sym path) (record {
+          counts = λ i. at1_all (λ (j x : ℕ). (header_of x).live ≡ true → (header_of x).count ≡ indegree g class t (held_overs v) j) word b 0 i (λ q. absurd (dead q)) (λ n. h.count.counts i);
           targets = λ p n. lives (t p) (λ z. no_target p (sym z)) (h.count.targets p n);
-          limbos = λ d l n. lives (limbos v d) (λ z. (limbo_counted g w v h d b l b_not_zero (sym z)).1 dying.1) (h.count.limbos d l n);
+          held_overs = λ d l n. lives (held_overs v d) (λ z. (held_over_counted g w v h d b l b_not_zero (sym z)).1 dying.1) (h.count.held_overs d l n);
         });
-        slots = subst (λ (t : Spot → ℕ). (d : ℕ) → d < g.clients → is_op (v.op d) ≡ true → SlotOf d (λ i. header_of (word' i)) tags (v.latch d) tail front (reach_of t tail front v.looks d) (slot_of (v.op d))) (sym path)
-            (λ d l is. slot_kept d (λ i. header_of (word i)) (λ i. header_of (word' i)) tags (v.latch d) tail front (reach_of t tail front v.looks d) (reach_of t tail front v.looks d) (slot_of (v.op d))
-            (λ i q. elim (cases_eq b i) [ inl z ↦ inr ((λ u. other d is (sym dying.2 ∙ (ap (λ j. (header_of (word j)).client) z ∙ u.2))), (λ u. no_reach d l (subst (reach_of t tail front v.looks d) (sym z) u))) | inr n ↦ inl (lives i n q) ])
+        slots = subst (λ (t : Spot → ℕ). (d : ℕ) → d < g.clients → is_op (v.op d) ≡ true → SlotOf d (λ i. header_of (word' i)) tags (v.latch d) tail queue_head (reach_of t tail queue_head v.looks d) (slot_of (v.op d))) (sym path)
+            (λ d l is. slot_kept d (λ i. header_of (word i)) (λ i. header_of (word' i)) tags (v.latch d) tail queue_head (reach_of t tail queue_head v.looks d) (reach_of t tail queue_head v.looks d) (slot_of (v.op d))
+            (λ i q. elim (cases_eq b i) [ inl z ↦ inr ((λ u. other d is (sym dying.2 ∙ (ap (λ j. (header_of (word j)).client) z ∙ u.2))), (λ u. no_reach d l (subst (reach_of t tail queue_head v.looks d) (sym z) u))) | inr n ↦ inl (lives i n q) ])
             (dying_kept d (other d is)) (λ _ x. x) (h.slots d l is));
-        looks = subst (λ (t : Spot → ℕ). (d : ℕ) → d < g.clients → LooksSound (λ a. t (Home a)) (λ b i. t (Body b i)) (λ b. tag_author (w (Tag b))) (v.latch d) (named_by t tail front d) [] (v.looks d)) (sym path) h.looks;
-        lanes = subst (λ (t : Spot → ℕ). (i j : ℕ) → i < g.clients → j < g.clients → i ≢ j → LaneSound (λ k. t (Slot i j k)) (tail i j) (front i j) (v.sent i j) (v.unsent i j) (v.received j i) (v.untaken j i)) (sym path) h.lanes;
-        known = subst (λ (t : Spot → ℕ). (d : ℕ) → d < g.clients → All (λ (s : Stored). KnownAt d tags bodies slot tail front (v.untaken d) (v.latch d) (reach_of t tail front v.looks d) (v'.dying d) s.spot s.value) (v'.known d)) (sym path)
+        looks = subst (λ (t : Spot → ℕ). (d : ℕ) → d < g.clients → LooksSound (λ a. t (Home a)) (λ b i. t (Body b i)) (λ b. tag_author (w (Tag b))) (v.latch d) (named_by t tail queue_head d) [] (v.looks d)) (sym path) h.looks;
+        lanes = subst (λ (t : Spot → ℕ). (i j : ℕ) → i < g.clients → j < g.clients → i ≢ j → LaneSound (λ k. t (Slot i j k)) (tail i j) (queue_head i j) (v.sent i j) (v.unsent i j) (v.received j i) (v.untaken j i)) (sym path) h.lanes;
+        known = subst (λ (t : Spot → ℕ). (d : ℕ) → d < g.clients → All (λ (s : Stored). KnownAt d tags bodies slot tail queue_head (v.untaken d) (v.latch d) (reach_of t tail queue_head v.looks d) (v'.dying d) s.spot s.value) (v'.known d)) (sym path)
             (λ d l. elim (cases_eq c d) [
               | inl x ↦ subst (λ i. All (Known i) (v'.known i)) x (subst (All (Known c)) (sym (at1_here v.known c (filter (not_of b) (v.known c)))) (All-kept (Old c) (Known c) (not_of b) (λ s. known_own s.spot s.value) (v.known c) (h.known c a.inside)))
-              | inr m ↦ subst (All (Known d)) (sym (at1_other v.known c (filter (not_of b) (v.known c)) d m)) (All-weaker (Old d) (Known d) (λ s. known_kept d tags bodies slot tail front (v.untaken d) (v.latch d) (reach_of t tail front v.looks d) (reach_of t tail front v.looks d) (v.dying d) (v'.dying d) s.spot s.value (λ _ x. x) (λ i y. subst (λ z. Contains z i) (sym (at1_other v.dying c (filter (not_block b) (v.dying c)) d m)) y)) (v.known d) (h.known d l))
+              | inr m ↦ subst (All (Known d)) (sym (at1_other v.known c (filter (not_of b) (v.known c)) d m)) (All-weaker (Old d) (Known d) (λ s. known_kept d tags bodies slot tail queue_head (v.untaken d) (v.latch d) (reach_of t tail queue_head v.looks d) (reach_of t tail queue_head v.looks d) (v.dying d) (v'.dying d) s.spot s.value (λ _ x. x) (λ i y. subst (λ z. Contains z i) (sym (at1_other v.dying c (filter (not_block b) (v.dying c)) d m)) y)) (v.known d) (h.known d l))
             ]);
         facts = h.facts;
         zeros = λ d l. All-weaker _ _ (zero d) (v.zeros d) (h.zeros d l);
@@ -177,15 +177,15 @@ module _ (g : Geometry) (w : Spot → ℕ) (v : View) (c b tag : ℕ) (h : HeldA
           | inl x ↦ absurd (a.here (ap v.status x ∙ st))
           | inr n ↦ rw (ne_eqb c d n) (h.gone d l st)
         ];
-        self_lanes = subst (λ (t : Spot → ℕ). (d : ℕ) → d < g.clients → IsUnusedLane (tail d d) (front d d) (λ k. t (Slot d d k))) (sym path) h.self_lanes;
+        self_lanes = subst (λ (t : Spot → ℕ). (d : ℕ) → d < g.clients → IsUnusedLane (tail d d) (queue_head d d) (λ k. t (Slot d d k))) (sym path) h.self_lanes;
         no_queue = h.no_queue;
         tails = h.tails;
         parts = h.parts;
         part = subst (λ (t : Spot → ℕ). (d : ℕ) → d < g.clients → PartTie (contents_of w' t) d (t (Home d)) (v.part d)) (sym path) (λ d l. part_lives g w v h d heads' t l stays (λ _ _ _ _. refl) refl);
         queued = subst (λ (t : Spot → ℕ). (d : ℕ) → d < g.clients → is_loose (v.part d) ≡ false → (s r k : ℕ) → t (Slot s r k) ≢ 0 → HasShape (contents_of w' t) 0 1 (t (Slot s r k))) (sym path)
             (λ d l. queued_kept g w v h d heads' (λ i j. t (Body i j)) bodies t l stays (λ s r k _. inl refl));
-        values = subst (λ (t : Spot → ℕ). (d : ℕ) → d < g.clients → All (ValueAt (contents_of w' t) (reach_of t tail front v.looks d)) (v.values d)) (sym path)
-            (λ d l. values_kept g w v h d heads' (λ i j. t (Body i j)) bodies (reach_of t tail front v.looks d) l stays (λ _ x. x));
+        values = subst (λ (t : Spot → ℕ). (d : ℕ) → d < g.clients → All (ValueAt (contents_of w' t) (reach_of t tail queue_head v.looks d)) (v.values d)) (sym path)
+            (λ d l. values_kept g w v h d heads' (λ i j. t (Body i j)) bodies (reach_of t tail queue_head v.looks d) l stays (λ _ x. x));
         made = subst (λ (t : Spot → ℕ). (d : ℕ) → d < g.clients → All (MadeAt heads' (λ k. t (Root d k))) (v.made d)) (sym path) (λ d l. made_kept g w v h d b 0 0 Spare l (λ x k _ e. ((λ z. no_target (Root d k) (e ∙ sym z)), refl)));
       }
     where
@@ -239,7 +239,7 @@ module _ (g : Geometry) (w : Spot → ℕ) (v : View) (c b tag : ℕ) (h : HeldA
           let y : None ≡ Some i = sym (ap on_of a.op) ∙ (ap (ons v) q ∙ s) in cc
 
       Known : ℕ → Stored → Type 0
-      Known d s = KnownAt d tags bodies slot tail front (v.untaken d) (v.latch d) (reach_of t tail front v.looks d) (v'.dying d) s.spot s.value
+      Known d s = KnownAt d tags bodies slot tail queue_head (v.untaken d) (v.latch d) (reach_of t tail queue_head v.looks d) (v'.dying d) s.spot s.value
 
       dies : (i : ℕ) → b ≢ i → Contains (v.dying c) i → Contains (v'.dying c) i
       dies i n x = subst (λ z. Contains z i) (sym (at1_here v.dying c (filter (not_block b) (v.dying c)))) (Contains-filter (not_block b) (v.dying c) i x (let u : eqb b i ≡ false = ne_eqb b i n in rw u refl))
@@ -247,7 +247,7 @@ module _ (g : Geometry) (w : Spot → ℕ) (v : View) (c b tag : ℕ) (h : HeldA
       apart_from : (i : ℕ) → not (eqb i b) ≡ true → b ≢ i
       apart_from i q z = let u : eqb i b ≡ true = eq-eqb i b (sym z) in let y : false ≡ true = rw u at q in true≢false (sym y)
 
-      known_own : (p : Spot) (x : ℕ) → not (is_of b p) ≡ true → KnownAt c tags bodies slot tail front (v.untaken c) (v.latch c) (reach_of t tail front v.looks c) (v.dying c) p x → KnownAt c tags bodies slot tail front (v.untaken c) (v.latch c) (reach_of t tail front v.looks c) (v'.dying c) p x
+      known_own : (p : Spot) (x : ℕ) → not (is_of b p) ≡ true → KnownAt c tags bodies slot tail queue_head (v.untaken c) (v.latch c) (reach_of t tail queue_head v.looks c) (v.dying c) p x → KnownAt c tags bodies slot tail queue_head (v.untaken c) (v.latch c) (reach_of t tail queue_head v.looks c) (v'.dying c) p x
       known_own (Tag i) x q k = (k.0, elim k.1 [ inl u ↦ inl (dies i (apart_from i q) u) | inr u ↦ inr u ])
       known_own (Body i j) x q k = (k.0, elim k.1 [ inl u ↦ inl (dies i (apart_from i q) u) | inr u ↦ inr u ])
       known_own (Slot i j l) x q k = k
@@ -265,7 +265,7 @@ module _ (g : Geometry) (w : Spot → ℕ) (v : View) (c b tag : ℕ) (h : HeldA
       shapes = λ i. at1_all (λ (j x : ℕ). cond (header_of x).live (w (Tag j) / 2 ^ 20) 0 ≡ at1 shape b 0 j) word b 0 i
           (ap (λ z. cond z (w (Tag b) / 2 ^ 20) 0) header_of_zero ∙ sym (at1_here shape b 0)) (λ n. sym (at1_other shape b 0 i n));
       targets = λ q. ap (λ (f : Spot → ℕ). f q) path;
-      limbos = λ _. refl;
+      held_overs = λ _. refl;
     },
   )
     where

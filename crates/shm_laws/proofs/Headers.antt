@@ -13,11 +13,11 @@ use Rattle.shm_graph.specs.declared.memo.Making.{Making}
 use Rattle.shm_graph.specs.Spots.{upd, class_at}
 use Rattle.shm_graph.specs.Blocks.{classes, headers}
 use Rattle.shm_graph.specs.References.{words_of, refs_of}
-use Rattle.shm_graph.specs.Views.{View, at1, targets, limbos}
+use Rattle.shm_graph.specs.Views.{View, at1, targets, held_overs}
 use Rattle.shm_graph.specs.Events.{graph_of, with_target, IsSame}
 use Rattle.shm_graph.specs.Held.{HeldAt, BlockSound, DyingTie, IsDying, MakingTie, TagSound, ZeroAt}
-use Rattle.shm_graph.proofs.Lists.{at1_here, at1_other}
-use Rattle.shm_graph.proofs.Frames.{at1_all}
+use Rattle.shm_graph.proofs.Runs.Lists.{at1_here, at1_other}
+use Rattle.shm_graph.proofs.Memos.Frames.{at1_all}
 use Rattle.shm_laws.specs.Steps.{dying_after}
 
 module _ (g : Geometry) (w : Spot → ℕ) (v : View) (h : HeldAt g w v) (b to : ℕ) (live : (headers w b).live ≡ true) (counted : (headers w b).count ≢ 0) (now : (header_of to).live ≡ true) where
@@ -65,14 +65,14 @@ module _ (g : Geometry) (w : Spot → ℕ) (v : View) (h : HeldAt g w v) (b to :
   pub refs_stay : (d : ℕ) → (words_of (upd w (Head b) to)).refs d ≡ (words_of w).refs d
   refs_stay d = ap (λ z. refs_of z (w (Tag d))) (live_stays d)
 
-  -- where one target changed and no limbo did, the graph is the one with that target
-  pub graph_stays : (v' : View) (p : Spot) (x : ℕ) → targets g (upd w (Head b) to) v' ≡ upd (targets g w v) p x → limbos v' ≡ limbos v → IsSame (with_target (graph_of g w v) p x) (graph_of g (upd w (Head b) to) v')
-  graph_stays v' p x path limbo =
+  -- where one target changed and no block held over did, the graph is the one with that target
+  pub graph_stays : (v' : View) (p : Spot) (x : ℕ) → targets g (upd w (Head b) to) v' ≡ upd (targets g w v) p x → held_overs v' ≡ held_overs v → IsSame (with_target (graph_of g w v) p x) (graph_of g (upd w (Head b) to) v')
+  graph_stays v' p x path held_over =
       record {
         lives = live_stays;
         shapes = λ i. ap (λ l. cond l (w (Tag i) / 2 ^ 20) 0) (live_stays i);
         targets = λ q. ap (λ f. f q) path;
-        limbos = λ d. ap (λ f. f d) limbo;
+        held_overs = λ d. ap (λ f. f d) held_over;
       }
 
   -- ---- the zero-count blocks, where c lowers the count to n

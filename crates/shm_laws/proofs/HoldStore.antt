@@ -9,13 +9,13 @@ use Rattle.shm_graph.specs.Views.{at1, View, ons}
 use Rattle.shm_graph.specs.Spots.{upd, IsAt}
 use Rattle.shm_graph.specs.Events.{Nothing, graph_of, Happens}
 use Rattle.shm_graph.specs.Held.{HeldAt, LatchTie, TestAt}
-use Rattle.shm_graph.proofs.Frames.{at1_all}
-use Rattle.shm_graph.proofs.Lists.{at1_other}
+use Rattle.shm_graph.proofs.Memos.Frames.{at1_all}
+use Rattle.shm_graph.proofs.Runs.Lists.{at1_other}
 use Rattle.shm_laws.proofs.Owns.{mine_stored, small_stored, there_stored}
 use Rattle.shm_laws.proofs.Quiet.{quiet}
-use Rattle.shm_laws.specs.Holding.{HoldStep, hold_view}
+use Rattle.shm_laws.specs.Holding.{HoldNeeds, hold_view}
 
-pub hold_kept : (g : Geometry) (w : Spot → ℕ) (v : View) (c x : ℕ) → HeldAt g w v → HoldStep g w v c x → HeldAt g (upd w (Hold c) x) (hold_view v c x)
+pub hold_kept : (g : Geometry) (w : Spot → ℕ) (v : View) (c x : ℕ) → HeldAt g w v → HoldNeeds g w v c x → HeldAt g (upd w (Hold c) x) (hold_view v c x)
 hold_kept g w v c x h a =
     record {
       fits = h.fits;
@@ -75,5 +75,5 @@ hold_kept g w v c x h a =
     holds = λ i. w (Hold i)
 
 -- live bits, tags and targets are read by spots, and the hold word's spot is none of theirs
-pub hold_quiet : (g : Geometry) (w : Spot → ℕ) (v : View) (c x : ℕ) → HeldAt g w v → HoldStep g w v c x → Happens g w Nothing (graph_of g w v) (graph_of g (upd w (Hold c) x) (hold_view v c x))
+pub hold_quiet : (g : Geometry) (w : Spot → ℕ) (v : View) (c x : ℕ) → HeldAt g w v → HoldNeeds g w v c x → Happens g w Nothing (graph_of g w v) (graph_of g (upd w (Hold c) x) (hold_view v c x))
 hold_quiet g w v c x h a = quiet g w (upd w (Hold c) x) v (hold_view v c x) (λ b. refl) (λ b. refl) refl refl

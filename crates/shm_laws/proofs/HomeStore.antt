@@ -7,24 +7,24 @@ use Rattle.shm_words.specs.declared.header.Header.{Header}
 use Rattle.shm_words.specs.Headers.{header_of}
 use Rattle.shm_words.specs.Tags.{tag_author}
 use Rattle.shm_graph.specs.declared.spot.Spot.{Spot}
-use Rattle.shm_graph.specs.declared.spot.Spot.TheVariants.{Home, Era, Root, Tail, Front, Slot, Page, Head, Tag, Body}
+use Rattle.shm_graph.specs.declared.spot.Spot.TheVariants.{Home, Era, Root, Tail, QueueHead, Slot, Page, Head, Tag, Body}
 use Rattle.shm_graph.specs.declared.memo.Op.{Op}
 use Rattle.shm_graph.specs.declared.memo.Stored.{Stored}
 use Rattle.shm_graph.specs.declared.memo.Test.{Test}
 use Rattle.shm_graph.specs.Spots.{same_spot, upd, IsAt}
 use Rattle.shm_graph.specs.Ops.{slot_of, is_op}
-use Rattle.shm_graph.specs.Views.{View, targets, limbos, ons}
+use Rattle.shm_graph.specs.Views.{View, targets, held_overs, ons}
 use Rattle.shm_graph.specs.Events.{Nothing, graph_of, Happens}
 use Rattle.shm_graph.specs.Tables.{contents_of, HasShape}
 use Rattle.shm_graph.specs.Held.{HeldAt, CountSound, SlotOf, reach_of, named_by, FactAt, TestAt, EraSound, KnownAt, LooksSound, LaneSound, IsUnusedLane, PartTie, ValueAt, MadeAt, is_loose}
-use Rattle.shm_graph.proofs.Spotting.{same_spot_self}
-use Rattle.shm_graph.proofs.Frames.{at1_all}
+use Rattle.shm_graph.proofs.Spots.Spotting.{same_spot_self}
+use Rattle.shm_graph.proofs.Memos.Frames.{at1_all}
 use Rattle.shm_laws.proofs.Owns.{mine_stored, small_stored, there_stored}
 use Rattle.shm_laws.proofs.Quiet.{quiet}
-use Rattle.shm_laws.proofs.Writing.{at_slot, on_same, limbo_same, own_same, allowed_same, tails_same, slots_same, ops_same, targets_same}
-use Rattle.shm_laws.specs.Slotting.{HomeStep, home_view}
+use Rattle.shm_laws.proofs.Writing.{at_slot, on_same, held_over_same, own_same, allowed_same, tails_same, slots_same, ops_same, targets_same}
+use Rattle.shm_laws.specs.Slotting.{HomeNeeds, home_view}
 
-pub home_kept : (g : Geometry) (w : Spot → ℕ) (v : View) (c x : ℕ) (o : Op) → HeldAt g w v → HomeStep g w v c x o → HeldAt g (upd w (Home c) x) (home_view v c x o)
+pub home_kept : (g : Geometry) (w : Spot → ℕ) (v : View) (c x : ℕ) (o : Op) → HeldAt g w v → HomeNeeds g w v c x o → HeldAt g (upd w (Home c) x) (home_view v c x o)
 home_kept g w v c x o h a =
     record {
       fits = h.fits;
@@ -45,12 +45,12 @@ home_kept g w v c x o h a =
       op = ops_same g w v h c x o (Home c) a.inside a.slot a.op (cond-true (same_spot (Home c) (Home c)) x (w (Home c)) (same_spot_self (Home c)));
       redo = h.redo;
       allowed = allowed_same g w v h c x o (Home c) a.inside a.slot a.op;
-      count = subst (λ (t : Spot → ℕ). CountSound g class heads t (limbos v')) (sym path) (subst (λ (l : ℕ → ℕ). CountSound g class heads t l) (sym (limbo_same g w v h c x o (Home c) a.inside a.slot a.op)) h.count);
-      slots = subst (λ (t : Spot → ℕ). (d : ℕ) → d < g.clients → is_op (v'.op d) ≡ true → SlotOf d heads tags (v.latch d) tail front (reach_of t tail front v.looks d) (slot_of (v'.op d))) (sym path) (slots_same g w v h c x o (Home c) a.inside a.slot a.op);
-      looks = subst (λ (t : Spot → ℕ). (d : ℕ) → d < g.clients → LooksSound (λ a. t (Home a)) (λ b i. t (Body b i)) (λ b. tag_author (w (Tag b))) (v.latch d) (named_by t tail front d) [] (v.looks d)) (sym path) h.looks;
-      lanes = subst (λ (t : Spot → ℕ). (i j : ℕ) → i < g.clients → j < g.clients → i ≢ j → LaneSound (λ k. t (Slot i j k)) (tail i j) (front i j) (v.sent i j) (v.unsent i j) (v.received j i) (v.untaken j i)) (sym path) h.lanes;
-      known = subst (λ (t : Spot → ℕ). (d : ℕ) → d < g.clients → All (λ (s : Stored). KnownAt d tags bodies slot tail front (v.untaken d) (v.latch d) (reach_of t tail front v.looks d) (v.dying d) s.spot s.value) (v.known d)) (sym path) h.known;
-      facts = subst (λ (on : ℕ → Option ℕ). (d : ℕ) → d < g.clients → All (FactAt g.clients eras on tail front class) (v.facts d)) (sym on) h.facts;
+      count = subst (λ (t : Spot → ℕ). CountSound g class heads t (held_overs v')) (sym path) (subst (λ (l : ℕ → ℕ). CountSound g class heads t l) (sym (held_over_same g w v h c x o (Home c) a.inside a.slot a.op)) h.count);
+      slots = subst (λ (t : Spot → ℕ). (d : ℕ) → d < g.clients → is_op (v'.op d) ≡ true → SlotOf d heads tags (v.latch d) tail queue_head (reach_of t tail queue_head v.looks d) (slot_of (v'.op d))) (sym path) (slots_same g w v h c x o (Home c) a.inside a.slot a.op);
+      looks = subst (λ (t : Spot → ℕ). (d : ℕ) → d < g.clients → LooksSound (λ a. t (Home a)) (λ b i. t (Body b i)) (λ b. tag_author (w (Tag b))) (v.latch d) (named_by t tail queue_head d) [] (v.looks d)) (sym path) h.looks;
+      lanes = subst (λ (t : Spot → ℕ). (i j : ℕ) → i < g.clients → j < g.clients → i ≢ j → LaneSound (λ k. t (Slot i j k)) (tail i j) (queue_head i j) (v.sent i j) (v.unsent i j) (v.received j i) (v.untaken j i)) (sym path) h.lanes;
+      known = subst (λ (t : Spot → ℕ). (d : ℕ) → d < g.clients → All (λ (s : Stored). KnownAt d tags bodies slot tail queue_head (v.untaken d) (v.latch d) (reach_of t tail queue_head v.looks d) (v.dying d) s.spot s.value) (v.known d)) (sym path) h.known;
+      facts = subst (λ (on : ℕ → Option ℕ). (d : ℕ) → d < g.clients → All (FactAt g.clients eras on tail queue_head class) (v.facts d)) (sym on) h.facts;
       zeros = h.zeros;
       test = subst (λ (on : ℕ → Option ℕ). (d : ℕ) → d < g.clients → TestAt g.clients eras (on d) d (v'.test d)) (sym on) (λ d. at1_all (λ (i : ℕ) (x : Option Test). i < g.clients → TestAt g.clients eras (ons v i) i x) v.test c None d (λ l. tt) (λ m. h.test d));
       fresh = λ d l st. elim (cases_eq c d) [
@@ -61,13 +61,13 @@ home_kept g w v c x o h a =
         | inl x ↦ absurd (a.here (ap v.status x ∙ st))
         | inr n ↦ rw (ne_eqb c d n) (h.gone d l st)
       ];
-      self_lanes = subst (λ (t : Spot → ℕ). (d : ℕ) → d < g.clients → IsUnusedLane (tail d d) (front d d) (λ k. t (Slot d d k))) (sym path) h.self_lanes;
+      self_lanes = subst (λ (t : Spot → ℕ). (d : ℕ) → d < g.clients → IsUnusedLane (tail d d) (queue_head d d) (λ k. t (Slot d d k))) (sym path) h.self_lanes;
       no_queue = h.no_queue;
       tails = tails_same g w v h c x o (Home c) a.inside a.slot a.op;
       parts = h.parts;
       part = subst (λ (t : Spot → ℕ). (d : ℕ) → d < g.clients → PartTie (contents_of w t) d (t (Home d)) (v.part d)) (sym path) h.part;
       queued = subst (λ (t : Spot → ℕ). (d : ℕ) → d < g.clients → is_loose (v.part d) ≡ false → (s r k : ℕ) → t (Slot s r k) ≢ 0 → HasShape (contents_of w t) 0 1 (t (Slot s r k))) (sym path) h.queued;
-      values = subst (λ (t : Spot → ℕ). (d : ℕ) → d < g.clients → All (ValueAt (contents_of w t) (reach_of t tail front v.looks d)) (v.values d)) (sym path) h.values;
+      values = subst (λ (t : Spot → ℕ). (d : ℕ) → d < g.clients → All (ValueAt (contents_of w t) (reach_of t tail queue_head v.looks d)) (v.values d)) (sym path) h.values;
       made = subst (λ (t : Spot → ℕ). (d : ℕ) → d < g.clients → All (MadeAt heads (λ k. t (Root d k))) (v.made d)) (sym path) h.made;
     }
   where
@@ -92,8 +92,8 @@ home_kept g w v c x o h a =
     tail : ℕ → ℕ → ℕ
     tail = λ i j. w (Tail i j)
 
-    front : ℕ → ℕ → ℕ
-    front = λ i j. w (Front i j)
+    queue_head : ℕ → ℕ → ℕ
+    queue_head = λ i j. w (QueueHead i j)
 
     eras : ℕ → ℕ → ℕ
     eras = λ i j. w (Era i j)
@@ -108,6 +108,6 @@ home_kept g w v c x o h a =
     path = targets_same g w v h c x o (Home c) a.inside a.slot a.op (λ b. refl)
 
 -- the home had its new value as its target
-pub home_quiet : (g : Geometry) (w : Spot → ℕ) (v : View) (c x : ℕ) (o : Op) → HeldAt g w v → HomeStep g w v c x o → Happens g w Nothing (graph_of g w v) (graph_of g (upd w (Home c) x) (home_view v c x o))
+pub home_quiet : (g : Geometry) (w : Spot → ℕ) (v : View) (c x : ℕ) (o : Op) → HeldAt g w v → HomeNeeds g w v c x o → Happens g w Nothing (graph_of g w v) (graph_of g (upd w (Home c) x) (home_view v c x o))
 home_quiet g w v c x o h a = quiet g w (upd w (Home c) x) v (home_view v c x o) (λ b. refl) (λ b. refl)
-    (targets_same g w v h c x o (Home c) a.inside a.slot a.op (λ b. refl)) (limbo_same g w v h c x o (Home c) a.inside a.slot a.op)
+    (targets_same g w v h c x o (Home c) a.inside a.slot a.op (λ b. refl)) (held_over_same g w v h c x o (Home c) a.inside a.slot a.op)

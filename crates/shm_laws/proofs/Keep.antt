@@ -9,7 +9,7 @@ use Rattle.shm_words.proofs.Words.{live_not_zero}
 use Rattle.shm_words.specs.declared.geometry.Geometry.{Geometry}
 use Rattle.shm_graph.specs.declared.spot.Spot.{Spot}
 use Rattle.shm_graph.specs.declared.spot.Spot.TheVariants.{Page, Head}
-use Rattle.shm_graph.specs.declared.memo.Half.TheVariants.{Raising, Lowering}
+use Rattle.shm_graph.specs.declared.memo.ChangeStage.TheVariants.{Raising, Lowering}
 use Rattle.shm_graph.specs.declared.memo.Op.{Op}
 use Rattle.shm_graph.specs.declared.memo.Op.TheVariants.{Nothing, Alloc, Up, Down, Change}
 use Rattle.shm_graph.specs.References.{Words}
@@ -17,7 +17,7 @@ use Rattle.shm_graph.specs.Spots.{IsAt}
 use Rattle.shm_graph.specs.Blocks.{IsBlock}
 use Rattle.shm_graph.specs.Ops.{slot_of, is_op}
 use Rattle.shm_graph.specs.Held.{OpTie, Names, RedoTie}
-use Rattle.shm_graph.proofs.Spotting.{is_at_block, in_pool}
+use Rattle.shm_graph.proofs.Spots.Spotting.{is_at_block, in_pool}
 use Rattle.shm_words.specs.declared.redo.Redo.TheVariants as redos
 
 -- a live block is there

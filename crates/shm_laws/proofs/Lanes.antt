@@ -10,13 +10,13 @@ use Rattle.shm_words.specs.Layout.{GeometryFits}
 use Rattle.shm_graph.specs.declared.spot.Spot.TheVariants.{Slot}
 use Rattle.shm_graph.specs.Spots.{IsAt}
 use Rattle.shm_graph.specs.Held.{LaneSound}
-use Rattle.shm_graph.proofs.SpotPlaces.{at_is_in}
-use Rattle.shm_graph.proofs.Holders.{apart_slots}
+use Rattle.shm_graph.proofs.Spots.SpotPlaces.{at_is_in}
+use Rattle.shm_graph.proofs.States.Holders.{apart_slots}
 use Rattle.shm_laws.specs.Steps.{at2}
 
 -- the block is in the slot at the tail
-pub lane_up : (t t' : ℕ → ℕ) (tail front : ℕ) (sent : List ℕ) (unsent b : ℕ) (received : List ℕ) (untaken : ℕ) → tail < front + 8 → ((k : ℕ) → k ≢ tail % 8 → t' k ≡ t k) → t' (tail % 8) ≡ b → LaneSound t tail front sent unsent received untaken → LaneSound t' tail front sent b received untaken
-lane_up t t' tail front sent unsent b received untaken room other here l =
+pub lane_up : (t t' : ℕ → ℕ) (tail queue_head : ℕ) (sent : List ℕ) (unsent b : ℕ) (received : List ℕ) (untaken : ℕ) → tail < queue_head + 8 → ((k : ℕ) → k ≢ tail % 8 → t' k ≡ t k) → t' (tail % 8) ≡ b → LaneSound t tail queue_head sent unsent received untaken → LaneSound t' tail queue_head sent b received untaken
+lane_up t t' tail queue_head sent unsent b received untaken room other here l =
     let r = room in let o = l.order in
     record {
       all_sent = l.all_sent;
@@ -27,15 +27,15 @@ lane_up t t' tail front sent unsent b received untaken room other here l =
       some = l.some;
       items = λ n lo hi u. other (n % 8) (apart_slots n tail hi (omega arith)) ∙ l.items n lo hi u;
       later = λ n lo hi. other (n % 8) (apart_slots n tail hi (omega arith)) ∙ l.later n lo hi;
-      taken = λ u. let q = l.taken u in (q.0, q.1, other (front % 8) (apart_slots front tail q.0 room) ∙ q.2);
+      taken = λ u. let q = l.taken u in (q.0, q.1, other (queue_head % 8) (apart_slots queue_head tail q.0 room) ∙ q.2);
       outside = λ n lo hi. other (n % 8) (λ e. apart_slots tail n lo (omega arith) (sym e)) ∙ l.outside n lo hi;
       next = λ _. here;
       full = λ e. absurd (omega arith);
     }
 
 -- the block is taken out of the slot at the head
-pub lane_taken : (t t' : ℕ → ℕ) (tail front : ℕ) (sent : List ℕ) (unsent b : ℕ) (received : List ℕ) → front < tail → b ≢ 0 → t (front % 8) ≡ b → ((k : ℕ) → k ≢ front % 8 → t' k ≡ t k) → t' (front % 8) ≡ 0 → LaneSound t tail front sent unsent received 0 → LaneSound t' tail front sent unsent received b
-lane_taken t t' tail front sent unsent b received some nz holds other here l =
+pub lane_taken : (t t' : ℕ → ℕ) (tail queue_head : ℕ) (sent : List ℕ) (unsent b : ℕ) (received : List ℕ) → queue_head < tail → b ≢ 0 → t (queue_head % 8) ≡ b → ((k : ℕ) → k ≢ queue_head % 8 → t' k ≡ t k) → t' (queue_head % 8) ≡ 0 → LaneSound t tail queue_head sent unsent received 0 → LaneSound t' tail queue_head sent unsent received b
+lane_taken t t' tail queue_head sent unsent b received some nz holds other here l =
     let r = l.room in
     record {
       all_sent = l.all_sent;
@@ -45,15 +45,15 @@ lane_taken t t' tail front sent unsent b received some nz holds other here l =
       prefix = l.prefix;
       some = l.some;
       items = λ n lo hi u. absurd (nz u.0);
-      later = λ n lo hi. other (n % 8) (λ e. apart_slots front n lo (omega arith) (sym e)) ∙ l.later n lo hi;
-      taken = λ u. (some, sym (l.items front (omega arith) some (refl, refl)) ∙ holds, here);
-      outside = λ n lo hi. other (n % 8) (λ e. apart_slots front n (omega arith) hi (sym e)) ∙ l.outside n lo hi;
-      next = λ room. other (tail % 8) (λ e. apart_slots front tail some room (sym e)) ∙ l.next room;
+      later = λ n lo hi. other (n % 8) (λ e. apart_slots queue_head n lo (omega arith) (sym e)) ∙ l.later n lo hi;
+      taken = λ u. (some, sym (l.items queue_head (omega arith) some (refl, refl)) ∙ holds, here);
+      outside = λ n lo hi. other (n % 8) (λ e. apart_slots queue_head n (omega arith) hi (sym e)) ∙ l.outside n lo hi;
+      next = λ room. other (tail % 8) (λ e. apart_slots queue_head tail some room (sym e)) ∙ l.next room;
       full = l.full;
     }
 
-pub lane_same : (t t' : ℕ → ℕ) (tail front : ℕ) (sent : List ℕ) (unsent : ℕ) (received : List ℕ) (untaken : ℕ) → ((k : ℕ) → t' k ≡ t k) → LaneSound t tail front sent unsent received untaken → LaneSound t' tail front sent unsent received untaken
-lane_same t t' tail front sent unsent received untaken e l = subst (λ (f : ℕ → ℕ). LaneSound f tail front sent unsent received untaken) (sym (fun_ext e)) l
+pub lane_same : (t t' : ℕ → ℕ) (tail queue_head : ℕ) (sent : List ℕ) (unsent : ℕ) (received : List ℕ) (untaken : ℕ) → ((k : ℕ) → t' k ≡ t k) → LaneSound t tail queue_head sent unsent received untaken → LaneSound t' tail queue_head sent unsent received untaken
+lane_same t t' tail queue_head sent unsent received untaken e l = subst (λ (f : ℕ → ℕ). LaneSound f tail queue_head sent unsent received untaken) (sym (fun_ext e)) l
 
 -- which slot it is
 pub other_lane : (s r k i j l : ℕ) → (eqb s i && eqb r j) ≡ false → (eqb s i && (eqb r j && eqb k l)) ≡ false
@@ -107,8 +107,8 @@ take_more : (xs : List ℕ) (n : ℕ) → n < length xs → take (n + 1) xs ≡ 
 take_more xs n h = grind (arith, common_steps)
 
 -- the tail is stored
-pub lane_sent : (t : ℕ → ℕ) (tail front : ℕ) (sent : List ℕ) (block : ℕ) (received : List ℕ) (untaken : ℕ) → block ≢ 0 → LaneSound t tail front sent block received untaken → LaneSound t (tail + 1) front (sent ++ block ∷ []) 0 received untaken
-lane_sent t tail front sent block received untaken nz h =
+pub lane_sent : (t : ℕ → ℕ) (tail queue_head : ℕ) (sent : List ℕ) (block : ℕ) (received : List ℕ) (untaken : ℕ) → block ≢ 0 → LaneSound t tail queue_head sent block received untaken → LaneSound t (tail + 1) queue_head (sent ++ block ∷ []) 0 received untaken
+lane_sent t tail queue_head sent block received untaken nz h =
     let all = h.all_sent in
     let le = h.order in
     record {
@@ -116,26 +116,26 @@ lane_sent t tail front sent block received untaken nz h =
       all_received = h.all_received;
       order = omega arith;
       room = (let r = room in omega arith);
-      prefix = h.prefix ∙ (let le : front ≤ length sent = omega arith in sym (take-append-le front sent (block ∷ []) le));
+      prefix = h.prefix ∙ (let le : queue_head ≤ length sent = omega arith in sym (take-append-le queue_head sent (block ∷ []) le));
       some = All-push (λ b. b ≢ 0) sent block h.some nz;
       items = λ n lo hi u. either n (λ below. h.items n lo below u) (cases_lt n tail) hi;
       later = λ n lo hi. either n (λ below. h.later n lo below) (cases_lt n tail) hi;
-      taken = λ u. let k = h.taken u in (omega arith, at_old sent block front (let l = k.0 in omega arith) ∙ k.1, k.2);
+      taken = λ u. let k = h.taken u in (omega arith, at_old sent block queue_head (let l = k.0 in omega arith) ∙ k.1, k.2);
       outside = λ n lo hi. h.outside n (omega arith) hi;
       next = λ r. h.outside (tail + 1) (omega arith) r;
       full = λ _. refl;
     }
   where
-    room : tail < front + 8
-    room = elim (cases_lt tail (front + 8)) [ inl l ↦ l | inr e ↦ absurd (nz (h.full (let q = h.room in omega arith))) ]
+    room : tail < queue_head + 8
+    room = elim (cases_lt tail (queue_head + 8)) [ inl l ↦ l | inr e ↦ absurd (nz (h.full (let q = h.room in omega arith))) ]
 
     either : (n : ℕ) → (n < tail → t (n % 8) ≡ get_or sent n 0) → (n < tail) ⊎ (tail ≤ n) → n < tail + 1 → t (n % 8) ≡ get_or (sent ++ block ∷ []) n 0
     either n old (inl lt) hi = let a = h.all_sent in old lt ∙ sym (at_old sent block n (omega arith))
     either n old (inr ge) hi = let a = h.all_sent in let e : n ≡ tail = omega arith in ap (λ x. t (x % 8)) e ∙ (h.next room ∙ sym (at_new sent block n (omega arith)))
 
 -- the head is stored
-pub lane_received : (t : ℕ → ℕ) (tail front : ℕ) (sent : List ℕ) (unsent : ℕ) (received : List ℕ) (block : ℕ) → block ≢ 0 → LaneSound t tail front sent unsent received block → LaneSound t tail (front + 1) sent unsent (received ++ block ∷ []) 0
-lane_received t tail front sent unsent received block nz h =
+pub lane_received : (t : ℕ → ℕ) (tail queue_head : ℕ) (sent : List ℕ) (unsent : ℕ) (received : List ℕ) (block : ℕ) → block ≢ 0 → LaneSound t tail queue_head sent unsent received block → LaneSound t tail (queue_head + 1) sent unsent (received ++ block ∷ []) 0
+lane_received t tail queue_head sent unsent received block nz h =
     let k = h.taken nz in
     let lt = k.0 in
     let all = h.all_sent in
@@ -144,23 +144,23 @@ lane_received t tail front sent unsent received block nz h =
       all_received = (let l = length-append received (block ∷ []) in let a = h.all_received in omega arith);
       order = omega arith;
       room = (let r = h.room in omega arith);
-      prefix = ap (λ xs. xs ++ block ∷ []) h.prefix ∙ (ap (λ b. take front sent ++ b ∷ []) (sym k.1) ∙ sym (take_more sent front (omega arith)));
+      prefix = ap (λ xs. xs ++ block ∷ []) h.prefix ∙ (ap (λ b. take queue_head sent ++ b ∷ []) (sym k.1) ∙ sym (take_more sent queue_head (omega arith)));
       some = h.some;
       items = λ n lo hi u. h.later n (omega arith) hi;
       later = λ n lo hi. h.later n (omega arith) hi;
       taken = λ u. absurd (u refl);
-      outside = λ n lo hi. outside n lo hi (cases_lt n (front + 8));
-      next = λ r. next (cases_lt tail (front + 8));
+      outside = λ n lo hi. outside n lo hi (cases_lt n (queue_head + 8));
+      next = λ r. next (cases_lt tail (queue_head + 8));
       full = λ e. absurd (let r = h.room in omega arith);
     }
   where
-    outside : (n : ℕ) → tail < n → n < front + 1 + 8 → (n < front + 8) ⊎ (front + 8 ≤ n) → t (n % 8) ≡ 0
+    outside : (n : ℕ) → tail < n → n < queue_head + 1 + 8 → (n < queue_head + 8) ⊎ (queue_head + 8 ≤ n) → t (n % 8) ≡ 0
     outside n lo hi (inl l) = h.outside n lo l
-    outside n lo hi (inr g) = ap t (let e : n % 8 ≡ front % 8 = omega arith in e) ∙ (h.taken nz).2
+    outside n lo hi (inr g) = ap t (let e : n % 8 ≡ queue_head % 8 = omega arith in e) ∙ (h.taken nz).2
 
-    next : (tail < front + 8) ⊎ (front + 8 ≤ tail) → t (tail % 8) ≡ unsent
+    next : (tail < queue_head + 8) ⊎ (queue_head + 8 ≤ tail) → t (tail % 8) ≡ unsent
     next (inl l) = h.next l
-    next (inr g) = let r = h.room in let e : tail ≡ front + 8 = omega arith in ap t (let q : tail % 8 ≡ front % 8 = omega arith in q) ∙ ((h.taken nz).2 ∙ sym (h.full e))
+    next (inr g) = let r = h.room in let e : tail ≡ queue_head + 8 = omega arith in ap t (let q : tail % 8 ≡ queue_head % 8 = omega arith in q) ∙ ((h.taken nz).2 ∙ sym (h.full e))
 
 -- ---- what is changed at one queue
 

@@ -7,20 +7,20 @@ use Rattle.shm_words.specs.declared.header.Header.{Header}
 use Rattle.shm_words.specs.Headers.{header_of}
 use Rattle.shm_words.specs.declared.geometry.Geometry.{Geometry}
 use Rattle.shm_graph.specs.declared.spot.Spot.{Spot}
-use Rattle.shm_graph.specs.declared.spot.Spot.TheVariants.{Hold, Latch, Home, Era, Tail, Front, Slot, Page, Head, Tag, Body}
+use Rattle.shm_graph.specs.declared.spot.Spot.TheVariants.{Hold, Latch, Home, Era, Tail, QueueHead, Slot, Page, Head, Tag, Body}
 use Rattle.shm_graph.specs.declared.memo.Stored.{Stored}
 use Rattle.shm_graph.specs.declared.memo.Look.{Look}
 use Rattle.shm_graph.specs.declared.memo.Test.{Test}
 use Rattle.shm_graph.specs.Views.{at1, View, targets, ons}
-use Rattle.shm_graph.proofs.Frames.{at1_all}
-use Rattle.shm_graph.proofs.Lists.{at1_here, at1_other}
+use Rattle.shm_graph.proofs.Memos.Frames.{at1_all}
+use Rattle.shm_graph.proofs.Runs.Lists.{at1_here, at1_other}
 use Rattle.shm_graph.specs.Spots.{upd, IsAt}
 use Rattle.shm_graph.specs.Ops.{slot_of, is_op}
 use Rattle.shm_words.specs.Tags.{tag_author}
 use Rattle.shm_graph.specs.Held.{HeldAt, SlotOf, reach_of, named_by, KnownAt, LookAt, LooksSound, LatchTie, TestAt, InLooks, ValueAt}
 use Rattle.shm_laws.proofs.Owns.{mine_other, small_stored, there_stored}
 use Rattle.shm_laws.proofs.Exchange.{slot_kept, known_kept}
-use Rattle.shm_laws.specs.Steps.{LatchStep, latch_view, BackStep, back_view}
+use Rattle.shm_laws.specs.Steps.{LatchNeeds, latch_view, BackNeeds, back_view}
 use Rattle.shm_graph.specs.Tables.{contents_of}
 
 -- without a latch there are no looks, and then all is true of them
@@ -34,10 +34,10 @@ no_looks home home' body body' author author' latch latch' named named' earlier 
     never _ y = absurd y
 
 -- what was known without a latch is known with one
-known_latched : (c : ℕ) (tag : ℕ → ℕ) (body : ℕ → ℕ → ℕ) (slot : ℕ → ℕ → ℕ → ℕ) (tail front : ℕ → ℕ → ℕ) (untaken : ℕ → ℕ) (latch latch' : Option ℕ) (reach : ℕ → Type 0) (dying : List ℕ) (p : Spot) (x : ℕ) → latch ≡ None
-    → KnownAt c tag body slot tail front untaken latch reach dying p x → KnownAt c tag body slot tail front untaken latch' reach dying p x
-known_latched c tag body slot tail front untaken latch latch' reach dying (Tag b) x none k = k
-known_latched c tag body slot tail front untaken latch latch' reach dying (Body b i) x none k = (
+known_latched : (c : ℕ) (tag : ℕ → ℕ) (body : ℕ → ℕ → ℕ) (slot : ℕ → ℕ → ℕ → ℕ) (tail queue_head : ℕ → ℕ → ℕ) (untaken : ℕ → ℕ) (latch latch' : Option ℕ) (reach : ℕ → Type 0) (dying : List ℕ) (p : Spot) (x : ℕ) → latch ≡ None
+    → KnownAt c tag body slot tail queue_head untaken latch reach dying p x → KnownAt c tag body slot tail queue_head untaken latch' reach dying p x
+known_latched c tag body slot tail queue_head untaken latch latch' reach dying (Tag b) x none k = k
+known_latched c tag body slot tail queue_head untaken latch latch' reach dying (Body b i) x none k = (
   k.0,
   elim k.1 [
     | inl u ↦ inl u
@@ -50,10 +50,10 @@ known_latched c tag body slot tail front untaken latch latch' reach dying (Body 
     )
   ],
 )
-known_latched c tag body slot tail front untaken latch latch' reach dying (Slot s r i) x none k = k
-known_latched c tag body slot tail front untaken latch latch' reach dying _ x none k = absurd k
+known_latched c tag body slot tail queue_head untaken latch latch' reach dying (Slot s r i) x none k = k
+known_latched c tag body slot tail queue_head untaken latch latch' reach dying _ x none k = absurd k
 
-pub latch_kept : (g : Geometry) (w : Spot → ℕ) (v : View) (c a' : ℕ) → HeldAt g w v → LatchStep g w v c a' → HeldAt g (upd w (Latch a') (c + 1)) (latch_view v c a')
+pub latch_kept : (g : Geometry) (w : Spot → ℕ) (v : View) (c a' : ℕ) → HeldAt g w v → LatchNeeds g w v c a' → HeldAt g (upd w (Latch a') (c + 1)) (latch_view v c a')
 latch_kept g w v c a' h a =
     record {
       fits = h.fits;
@@ -91,7 +91,7 @@ latch_kept g w v c a' h a =
       ];
       lanes = h.lanes;
       known = λ d l. elim (cases_eq c d) [
-        | inl x ↦ subst (λ j. All (λ (s : Stored). KnownAt j tags bodies slot tail front (v.untaken j) (v'.latch j) (reach_of t tail front v.looks j) (v.dying j) s.spot s.value) (v.known j)) x (All-weaker _ _ (λ (s : Stored). known_latched c tags bodies slot tail front (v.untaken c) (v.latch c) (v'.latch c) (reach_of t tail front v.looks c) (v.dying c) s.spot s.value a.none) (v.known c) (h.known c a.inside))
+        | inl x ↦ subst (λ j. All (λ (s : Stored). KnownAt j tags bodies slot tail queue_head (v.untaken j) (v'.latch j) (reach_of t tail queue_head v.looks j) (v.dying j) s.spot s.value) (v.known j)) x (All-weaker _ _ (λ (s : Stored). known_latched c tags bodies slot tail queue_head (v.untaken c) (v.latch c) (v'.latch c) (reach_of t tail queue_head v.looks c) (v.dying c) s.spot s.value a.none) (v.known c) (h.known c a.inside))
         | inr n ↦ rw (ne_eqb c d n) (h.known d l)
       ];
       facts = h.facts;
@@ -139,8 +139,8 @@ latch_kept g w v c a' h a =
     tail : ℕ → ℕ → ℕ
     tail = λ i j. w (Tail i j)
 
-    front : ℕ → ℕ → ℕ
-    front = λ i j. w (Front i j)
+    queue_head : ℕ → ℕ → ℕ
+    queue_head = λ i j. w (QueueHead i j)
 
     eras : ℕ → ℕ → ℕ
     eras = λ i j. w (Era i j)
@@ -149,7 +149,7 @@ latch_kept g w v c a' h a =
     t = targets g w v
 
     Named : ℕ → ℕ → Type 0
-    Named d = named_by t tail front d
+    Named d = named_by t tail queue_head d
 
     no_op : is_op (v.op c) ≡ false
     no_op = ap is_op a.op
@@ -163,7 +163,7 @@ latch_kept g w v c a' h a =
     all : (i : ℕ) → at1 latches a' (c + 1) i ≡ c + 1 → Some a' ≡ Some i
     all i = at1_all (λ (j x : ℕ). x ≡ c + 1 → Some a' ≡ Some j) latches a' (c + 1) i (λ _. refl) (λ _ e. (let q : None ≡ Some i = sym a.none ∙ (h.latch c a.inside).all i e in cc))
 
-pub back_kept : (g : Geometry) (w : Spot → ℕ) (v : View) (c a' : ℕ) (kept : List Stored) (values : List ℕ) → HeldAt g w v → BackStep g w v c a' kept values → HeldAt g (upd w (Latch a') 0) (back_view v c kept values)
+pub back_kept : (g : Geometry) (w : Spot → ℕ) (v : View) (c a' : ℕ) (kept : List Stored) (values : List ℕ) → HeldAt g w v → BackNeeds g w v c a' kept values → HeldAt g (upd w (Latch a') 0) (back_view v c kept values)
 back_kept g w v c a' kept values h a =
     record {
       fits = h.fits;
@@ -201,9 +201,9 @@ back_kept g w v c a' kept values h a =
       ];
       lanes = h.lanes;
       known = λ d l. elim (cases_eq c d) [
-        | inl x ↦ subst (λ j. All (λ (s : Stored). KnownAt j tags bodies slot tail front (v.untaken j) (v'.latch j) (reach_of t tail front v'.looks j) (v.dying j) s.spot s.value) (v'.known j)) x
+        | inl x ↦ subst (λ j. All (λ (s : Stored). KnownAt j tags bodies slot tail queue_head (v.untaken j) (v'.latch j) (reach_of t tail queue_head v'.looks j) (v.dying j) s.spot s.value) (v'.known j)) x
             (subst (All (Known c)) (sym (at1_here v.known c kept)) (All-weaker _ (Known c) (λ s k. mine_now s.spot s.value (v'.latch c) (at1_here v.latch c None) k) kept a.knows))
-        | inr n ↦ subst (All (Known d)) (sym (at1_other v.known c kept d n)) (All-weaker _ (Known d) (λ s k. subst (λ y. KnownAt d tags bodies slot tail front (v.untaken d) y (reach_of t tail front v'.looks d) (v.dying d) s.spot s.value) (sym (at1_other v.latch c None d n)) (known_kept d tags bodies slot tail front (v.untaken d) (v.latch d) (reach_of t tail front v.looks d) (reach_of t tail front v'.looks d) (v.dying d) (v.dying d) s.spot s.value (reach d n) (λ _ x. x) k)) (v.known d) (h.known d l))
+        | inr n ↦ subst (All (Known d)) (sym (at1_other v.known c kept d n)) (All-weaker _ (Known d) (λ s k. subst (λ y. KnownAt d tags bodies slot tail queue_head (v.untaken d) y (reach_of t tail queue_head v'.looks d) (v.dying d) s.spot s.value) (sym (at1_other v.latch c None d n)) (known_kept d tags bodies slot tail queue_head (v.untaken d) (v.latch d) (reach_of t tail queue_head v.looks d) (reach_of t tail queue_head v'.looks d) (v.dying d) (v.dying d) s.spot s.value (reach d n) (λ _ x. x) k)) (v.known d) (h.known d l))
       ];
       facts = h.facts;
       zeros = h.zeros;
@@ -223,8 +223,8 @@ back_kept g w v c a' kept values h a =
       part = h.part;
       queued = h.queued;
       values = λ d l. elim (cases_eq c d) [
-        | inl x ↦ subst (λ j. All (ValueAt (contents_of w t) (reach_of t tail front v'.looks j)) (v'.values j)) x (subst (All (ValueAt (contents_of w t) (reach_of t tail front v'.looks c))) (sym (at1_here v.values c values)) (All-weaker (ValueAt (contents_of w t) (reach_of t tail front (λ d. []) c)) (ValueAt (contents_of w t) (reach_of t tail front v'.looks c)) (λ b y. (y.0, mine_reach b y.1)) values a.valued))
-        | inr n ↦ subst (All (ValueAt (contents_of w t) (reach_of t tail front v'.looks d))) (sym (at1_other v.values c values d n)) (All-weaker (ValueAt (contents_of w t) (reach_of t tail front v.looks d)) (ValueAt (contents_of w t) (reach_of t tail front v'.looks d)) (λ b y. (y.0, reach d n b y.1)) (v.values d) (h.values d l))
+        | inl x ↦ subst (λ j. All (ValueAt (contents_of w t) (reach_of t tail queue_head v'.looks j)) (v'.values j)) x (subst (All (ValueAt (contents_of w t) (reach_of t tail queue_head v'.looks c))) (sym (at1_here v.values c values)) (All-weaker (ValueAt (contents_of w t) (reach_of t tail queue_head (λ d. []) c)) (ValueAt (contents_of w t) (reach_of t tail queue_head v'.looks c)) (λ b y. (y.0, mine_reach b y.1)) values a.valued))
+        | inr n ↦ subst (All (ValueAt (contents_of w t) (reach_of t tail queue_head v'.looks d))) (sym (at1_other v.values c values d n)) (All-weaker (ValueAt (contents_of w t) (reach_of t tail queue_head v.looks d)) (ValueAt (contents_of w t) (reach_of t tail queue_head v'.looks d)) (λ b y. (y.0, reach d n b y.1)) (v.values d) (h.values d l))
       ];
       made = h.made;
     }
@@ -253,8 +253,8 @@ back_kept g w v c a' kept values h a =
     tail : ℕ → ℕ → ℕ
     tail = λ i j. w (Tail i j)
 
-    front : ℕ → ℕ → ℕ
-    front = λ i j. w (Front i j)
+    queue_head : ℕ → ℕ → ℕ
+    queue_head = λ i j. w (QueueHead i j)
 
     eras : ℕ → ℕ → ℕ
     eras = λ i j. w (Era i j)
@@ -263,7 +263,7 @@ back_kept g w v c a' kept values h a =
     t = targets g w v
 
     Named : ℕ → ℕ → Type 0
-    Named d = named_by t tail front d
+    Named d = named_by t tail queue_head d
 
     no_op : is_op (v.op c) ≡ false
     no_op = ap is_op a.op
@@ -274,20 +274,20 @@ back_kept g w v c a' kept values h a =
     held : (w (Latch a') ≡ c + 1) × (w (Hold c) ≡ a' + 1)
     held = (h.latch c a.inside).some a' a.latch
 
-    reach : (d : ℕ) → c ≢ d → (i : ℕ) → reach_of t tail front v.looks d i → reach_of t tail front v'.looks d i
+    reach : (d : ℕ) → c ≢ d → (i : ℕ) → reach_of t tail queue_head v.looks d i → reach_of t tail queue_head v'.looks d i
     reach d n i (inl x) = inl x
     reach d n i (inr x) = inr (subst (λ y. InLooks y i) (sym (at1_other v.looks c [] d n)) x)
 
-    mine_reach : (i : ℕ) → reach_of t tail front (λ d. []) c i → reach_of t tail front v'.looks c i
+    mine_reach : (i : ℕ) → reach_of t tail queue_head (λ d. []) c i → reach_of t tail queue_head v'.looks c i
     mine_reach i u = elim u [ inl q ↦ inl q | inr q ↦ inr (subst (λ z. InLooks z i) (sym (at1_here v.looks c [])) q) ]
 
-    slot_other : (d : ℕ) → c ≢ d → (y : Option ℕ) → y ≡ v.latch d → (p : Spot) → SlotOf d heads tags (v.latch d) tail front (reach_of t tail front v.looks d) p → SlotOf d heads tags y tail front (reach_of t tail front v'.looks d) p
-    slot_other d n y e p x = subst (λ z. SlotOf d heads tags z tail front (reach_of t tail front v'.looks d) p) (sym e) (slot_kept d heads heads tags (v.latch d) tail front (reach_of t tail front v.looks d) (reach_of t tail front v'.looks d) p (λ _ q. inl q) (λ _ q. q) (reach d n) x)
+    slot_other : (d : ℕ) → c ≢ d → (y : Option ℕ) → y ≡ v.latch d → (p : Spot) → SlotOf d heads tags (v.latch d) tail queue_head (reach_of t tail queue_head v.looks d) p → SlotOf d heads tags y tail queue_head (reach_of t tail queue_head v'.looks d) p
+    slot_other d n y e p x = subst (λ z. SlotOf d heads tags z tail queue_head (reach_of t tail queue_head v'.looks d) p) (sym e) (slot_kept d heads heads tags (v.latch d) tail queue_head (reach_of t tail queue_head v.looks d) (reach_of t tail queue_head v'.looks d) p (λ _ q. inl q) (λ _ q. q) (reach d n) x)
 
     Known : ℕ → Stored → Type 0
-    Known d s = KnownAt d tags bodies slot tail front (v.untaken d) (v'.latch d) (reach_of t tail front v'.looks d) (v.dying d) s.spot s.value
+    Known d s = KnownAt d tags bodies slot tail queue_head (v.untaken d) (v'.latch d) (reach_of t tail queue_head v'.looks d) (v.dying d) s.spot s.value
 
-    mine_now : (p : Spot) (x : ℕ) (y : Option ℕ) → y ≡ None → KnownAt c tags bodies slot tail front (v.untaken c) None (reach_of t tail front (λ d. []) c) (v.dying c) p x → KnownAt c tags bodies slot tail front (v.untaken c) y (reach_of t tail front v'.looks c) (v.dying c) p x
-    mine_now p x y e k = subst (λ z. KnownAt c tags bodies slot tail front (v.untaken c) z (reach_of t tail front v'.looks c) (v.dying c) p x) (sym e)
-        (known_kept c tags bodies slot tail front (v.untaken c) None (reach_of t tail front (λ d. []) c) (reach_of t tail front v'.looks c) (v.dying c) (v.dying c) p x
+    mine_now : (p : Spot) (x : ℕ) (y : Option ℕ) → y ≡ None → KnownAt c tags bodies slot tail queue_head (v.untaken c) None (reach_of t tail queue_head (λ d. []) c) (v.dying c) p x → KnownAt c tags bodies slot tail queue_head (v.untaken c) y (reach_of t tail queue_head v'.looks c) (v.dying c) p x
+    mine_now p x y e k = subst (λ z. KnownAt c tags bodies slot tail queue_head (v.untaken c) z (reach_of t tail queue_head v'.looks c) (v.dying c) p x) (sym e)
+        (known_kept c tags bodies slot tail queue_head (v.untaken c) None (reach_of t tail queue_head (λ d. []) c) (reach_of t tail queue_head v'.looks c) (v.dying c) (v.dying c) p x
         mine_reach (λ _ q. q) k)

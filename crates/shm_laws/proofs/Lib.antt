@@ -8,11 +8,11 @@ pub mod Parts
 pub mod References
 pub mod Headers
 pub mod Slots
-pub mod Rows
+pub mod RedoAndRows
 pub mod PageClass
 pub mod Loads
-pub mod Tails
-pub mod Heads
+pub mod QueueTails
+pub mod QueueHeads
 pub mod Latches
 pub mod Writing
 pub mod RootStore
@@ -33,5 +33,5 @@ pub mod SegmentBack
 pub mod HomeStore
 pub mod QueueStore
 pub mod BlockWords
-pub mod MakingStore
+pub mod PrepareStore
 pub mod LinkStore

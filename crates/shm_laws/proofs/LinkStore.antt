@@ -8,21 +8,21 @@ use Rattle.shm_words.specs.declared.geometry.Geometry.{Geometry}
 use Rattle.shm_words.specs.Headers.{header_of}
 use Rattle.shm_words.proofs.Words.{live_not_zero}
 use Rattle.shm_graph.specs.declared.spot.Spot.{Spot}
-use Rattle.shm_graph.specs.declared.spot.Spot.TheVariants.{Spare, Status, Redo, Hold, Latch, Home, Era, Root, Tail, Front, Slot, Segment, Page, Unused, Head, Tag, Body}
+use Rattle.shm_graph.specs.declared.spot.Spot.TheVariants.{Spare, Status, Redo, Hold, Latch, Home, Era, Root, Tail, QueueHead, Slot, Segment, Page, Unused, Head, Tag, Body}
 use Rattle.shm_graph.specs.declared.memo.Making.{Making}
 use Rattle.shm_graph.specs.declared.memo.Stored.{Stored}
 use Rattle.shm_graph.specs.Spots.{IsAt, same_spot, upd}
 use Rattle.shm_graph.specs.Views.{View, at1}
 use Rattle.shm_graph.specs.Events.{Nothing, graph_of, Happens}
 use Rattle.shm_graph.specs.Held.{HeldAt, IsDying, InBlock, MakingTie}
-use Rattle.shm_graph.proofs.Lists.{at1_here, at1_other}
-use Rattle.shm_graph.proofs.Frames.{at1_all, at1_same}
+use Rattle.shm_graph.proofs.Runs.Lists.{at1_here, at1_other}
+use Rattle.shm_graph.proofs.Memos.Frames.{at1_all, at1_same}
 use Rattle.shm_laws.proofs.Keep.{All-kept}
 use Rattle.shm_laws.proofs.BlockWords.{with_blocks, blocks_view, BlocksMay, Old, New, pair_kept, blocks_kept, blocks_quiet}
-use Rattle.shm_laws.specs.Preparing.{LinkStep, link_view}
+use Rattle.shm_laws.specs.Preparing.{LinkNeeds, link_view}
 use Rattle.shm_graph.specs.Reach.{not_at}
 
-module _ (g : Geometry) (w : Spot → ℕ) (v : View) (c b x : ℕ) (h : HeldAt g w v) (a : LinkStep g w v c b x) where
+module _ (g : Geometry) (w : Spot → ℕ) (v : View) (c b x : ℕ) (h : HeldAt g w v) (a : LinkNeeds g w v c b x) where
   abbrev tags : ℕ → ℕ
   tags = λ i. w (Tag i)
 
@@ -91,7 +91,7 @@ module _ (g : Geometry) (w : Spot → ℕ) (v : View) (c b x : ℕ) (h : HeldAt 
       go (Era i j) = refl
       go (Root d l) = refl
       go (Tail s r) = refl
-      go (Front s r) = refl
+      go (QueueHead s r) = refl
       go (Slot s r i) = refl
       go (Segment s) = refl
       go (Page s q) = refl

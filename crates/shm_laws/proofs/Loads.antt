@@ -6,19 +6,19 @@ use Rattle.std.proofs.lemmas.Bool.{cases_eq, ne_eqb, eq-eqb}
 use Rattle.shm_words.specs.Headers.{header_of}
 use Rattle.shm_words.specs.declared.geometry.Geometry.{Geometry}
 use Rattle.shm_graph.specs.declared.spot.Spot.{Spot}
-use Rattle.shm_graph.specs.declared.spot.Spot.TheVariants.{Era, Tail, Front, Page, Head}
+use Rattle.shm_graph.specs.declared.spot.Spot.TheVariants.{Era, Tail, QueueHead, Page, Head}
 use Rattle.shm_graph.specs.declared.memo.Fact.{Fact}
 use Rattle.shm_graph.specs.declared.memo.Fact.TheVariants.{Header as HeaderRead, Counter}
 use Rattle.shm_graph.specs.declared.memo.Test.{Test}
 use Rattle.shm_graph.specs.Views.{at1, View, ons}
-use Rattle.shm_graph.proofs.Frames.{at1_all}
+use Rattle.shm_graph.proofs.Memos.Frames.{at1_all}
 use Rattle.shm_graph.specs.Events.{Nothing, graph_of, Happens}
 use Rattle.shm_graph.specs.Held.{HeldAt, FactAt, TestAt}
 use Rattle.shm_graph.specs.Readings.{next_row}
 use Rattle.shm_laws.specs.Steps.{header_view, row_view}
 
 -- one more fact that holds, another window that holds
-pub fact_kept : (g : Geometry) (w : Spot → ℕ) (v : View) (c : ℕ) (f : Fact) (test : Option Test) → HeldAt g w v → c < g.clients → FactAt g.clients (λ i j. w (Era i j)) (ons v) (λ s r. w (Tail s r)) (λ s r. w (Front s r)) (λ s q. w (Page s q)) f → TestAt g.clients (λ i j. w (Era i j)) (ons v c) c test
+pub fact_kept : (g : Geometry) (w : Spot → ℕ) (v : View) (c : ℕ) (f : Fact) (test : Option Test) → HeldAt g w v → c < g.clients → FactAt g.clients (λ i j. w (Era i j)) (ons v) (λ s r. w (Tail s r)) (λ s r. w (QueueHead s r)) (λ s q. w (Page s q)) f → TestAt g.clients (λ i j. w (Era i j)) (ons v c) c test
     → HeldAt g w (record v { facts = at1 v.facts c (f ∷ v.facts c); test = at1 v.test c test })
 fact_kept g w v c f test h lc new window =
     record {
@@ -45,8 +45,8 @@ fact_kept g w v c f test h lc new window =
       looks = h.looks;
       lanes = h.lanes;
       known = h.known;
-      facts = λ d. at1_all (λ (i : ℕ) (x : List Fact). i < g.clients → All (FactAt g.clients (λ i j. w (Era i j)) (ons v) (λ s r. w (Tail s r)) (λ s r. w (Front s r)) (λ s q. w (Page s q))) x) v.facts c (f ∷ v.facts c) d
-          (λ l. All-cons (FactAt g.clients (λ i j. w (Era i j)) (ons v) (λ s r. w (Tail s r)) (λ s r. w (Front s r)) (λ s q. w (Page s q))) f (v.facts c) new (h.facts c l)) (λ m. h.facts d);
+      facts = λ d. at1_all (λ (i : ℕ) (x : List Fact). i < g.clients → All (FactAt g.clients (λ i j. w (Era i j)) (ons v) (λ s r. w (Tail s r)) (λ s r. w (QueueHead s r)) (λ s q. w (Page s q))) x) v.facts c (f ∷ v.facts c) d
+          (λ l. All-cons (FactAt g.clients (λ i j. w (Era i j)) (ons v) (λ s r. w (Tail s r)) (λ s r. w (QueueHead s r)) (λ s q. w (Page s q))) f (v.facts c) new (h.facts c l)) (λ m. h.facts d);
       zeros = h.zeros;
       test = λ d. at1_all (λ (i : ℕ) (x : Option Test). i < g.clients → TestAt g.clients (λ i j. w (Era i j)) (ons v i) i x) v.test c test d (λ l. window) (λ m. h.test d);
       fresh = h.fresh;
@@ -62,7 +62,7 @@ fact_kept g w v c f test h lc new window =
     }
 
 -- what a header shows is a fact
-pub header_fact : (g : Geometry) (w : Spot → ℕ) (v : View) (b : ℕ) → HeldAt g w v → FactAt g.clients (λ i j. w (Era i j)) (ons v) (λ s r. w (Tail s r)) (λ s r. w (Front s r)) (λ s q. w (Page s q)) (HeaderRead (w (Head b)))
+pub header_fact : (g : Geometry) (w : Spot → ℕ) (v : View) (b : ℕ) → HeldAt g w v → FactAt g.clients (λ i j. w (Era i j)) (ons v) (λ s r. w (Tail s r)) (λ s r. w (QueueHead s r)) (λ s q. w (Page s q)) (HeaderRead (w (Head b)))
 header_fact g w v b h = λ l. let q = h.era.header b l in (h.era.client b l, record { most = q.most; equal = λ e. (b, q.equal e) })
 
 -- a header that didn't show the op opens the window at row 0
@@ -94,7 +94,7 @@ not_committed n era on c t k l e = let r = k e in let m = next_passes c t.next r
 
 -- what is read of headers and rows leaves the graph
 pub header_quiet : (g : Geometry) (w : Spot → ℕ) (v : View) (c b : ℕ) (test : Option Test) → Happens g w Nothing (graph_of g w v) (graph_of g w (header_view v c (w (Head b)) test))
-header_quiet g w v c b test = record { lives = λ x. refl; shapes = λ x. refl; targets = λ p. refl; limbos = λ d. refl }
+header_quiet g w v c b test = record { lives = λ x. refl; shapes = λ x. refl; targets = λ p. refl; held_overs = λ d. refl }
 
 pub row_quiet : (g : Geometry) (w : Spot → ℕ) (v : View) (c k : ℕ) (test : Option Test) → Happens g w Nothing (graph_of g w v) (graph_of g w (row_view v c k (w (Era k c)) test))
-row_quiet g w v c k test = record { lives = λ x. refl; shapes = λ x. refl; targets = λ p. refl; limbos = λ d. refl }
+row_quiet g w v c k test = record { lives = λ x. refl; shapes = λ x. refl; targets = λ p. refl; held_overs = λ d. refl }

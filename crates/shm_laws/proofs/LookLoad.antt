@@ -7,11 +7,11 @@ use Rattle.shm_words.specs.declared.header.Header.{Header}
 use Rattle.shm_words.specs.Headers.{header_of}
 use Rattle.shm_words.specs.declared.geometry.Geometry.{Geometry}
 use Rattle.shm_graph.specs.declared.spot.Spot.{Spot}
-use Rattle.shm_graph.specs.declared.spot.Spot.TheVariants.{Home, Era, Tail, Front, Slot, Page, Head, Tag, Body}
+use Rattle.shm_graph.specs.declared.spot.Spot.TheVariants.{Home, Era, Tail, QueueHead, Slot, Page, Head, Tag, Body}
 use Rattle.shm_graph.specs.declared.memo.Stored.{Stored}
 use Rattle.shm_graph.specs.declared.memo.Look.{Look}
 use Rattle.shm_graph.specs.declared.memo.Test.{Test}
-use Rattle.shm_graph.proofs.Frames.{at1_all}
+use Rattle.shm_graph.proofs.Memos.Frames.{at1_all}
 use Rattle.shm_graph.specs.References.{words_of, refs_of}
 use Rattle.shm_graph.specs.Views.{View, targets, ons}
 use Rattle.shm_graph.specs.Ops.{cover, cover_of, covered, slot_of, is_op}
@@ -20,18 +20,18 @@ use Rattle.shm_graph.specs.Events.{Nothing, graph_of, Happens}
 use Rattle.shm_graph.specs.Held.{HeldAt, reach_of, named_by, KnownAt, LooksSound, TestAt, ValueAt, InLooks}
 use Rattle.shm_graph.specs.Reach.{learnt, not_at}
 use Rattle.shm_laws.proofs.Keep.{All-kept}
-use Rattle.shm_graph.proofs.Holders.{one_latch, reach_counted}
+use Rattle.shm_graph.proofs.States.Holders.{one_latch, reach_counted}
 use Rattle.shm_graph.specs.Tables.{contents_of}
 use Rattle.shm_laws.proofs.Exchange.{slot_kept, known_kept, apart}
-use Rattle.shm_graph.proofs.Looking.{looks_push}
-use Rattle.shm_graph.proofs.Counting.{cover_idle, covered_none}
-use Rattle.shm_laws.specs.Steps.{LookStep, look_view}
+use Rattle.shm_graph.proofs.Memos.Looking.{looks_push}
+use Rattle.shm_graph.proofs.States.Counting.{cover_idle, covered_none}
+use Rattle.shm_laws.specs.Steps.{LookNeeds, look_view}
 
 -- a look leaves the graph
 pub look_quiet : (g : Geometry) (w : Spot → ℕ) (v : View) (c b i : ℕ) → Happens g w Nothing (graph_of g w v) (graph_of g w (look_view v c b i (w (Body b i))))
-look_quiet g w v c b i = record { lives = λ x. refl; shapes = λ x. refl; targets = λ p. refl; limbos = λ d. refl }
+look_quiet g w v c b i = record { lives = λ x. refl; shapes = λ x. refl; targets = λ p. refl; held_overs = λ d. refl }
 
-pub look_kept : (g : Geometry) (w : Spot → ℕ) (v : View) (c b i : ℕ) → HeldAt g w v → LookStep g w v c b i → HeldAt g w (look_view v c b i (w (Body b i)))
+pub look_kept : (g : Geometry) (w : Spot → ℕ) (v : View) (c b i : ℕ) → HeldAt g w v → LookNeeds g w v c b i → HeldAt g w (look_view v c b i (w (Body b i)))
 look_kept g w v c b i h a =
     record {
       fits = h.fits;
@@ -53,7 +53,7 @@ look_kept g w v c b i h a =
       redo = h.redo;
       allowed = h.allowed;
       count = h.count;
-      slots = λ d l is. slot_kept d heads heads tags (v.latch d) tail front (reach_of t tail front v.looks d) (reach_of t tail front v'.looks d) (slot_of (v.op d)) (λ _ q. inl q) (λ _ q. q) (reach d) (h.slots d l is);
+      slots = λ d l is. slot_kept d heads heads tags (v.latch d) tail queue_head (reach_of t tail queue_head v.looks d) (reach_of t tail queue_head v'.looks d) (slot_of (v.op d)) (λ _ q. inl q) (λ _ q. q) (reach d) (h.slots d l is);
       looks = λ d. at1_all (λ (j : ℕ) (x : List Look). j < g.clients → LooksSound (λ a. t (Home a)) (λ b i. t (Body b i)) (λ b. tag_author (w (Tag b))) (v.latch j) (Named j) [] x) v.looks c (v.looks c ++ new ∷ []) d
           (λ l. looks_push (λ a. t (Home a)) (λ b i. t (Body b i)) (λ b. tag_author (w (Tag b))) (v.latch c) (Named c) (v.looks c) [] new (h.looks c l) (a.some, a.latch, seen, elim a.reach [ inl u ↦ inl u | inr u ↦ inr (inr u) ]))
           (λ m. h.looks d);
@@ -75,7 +75,7 @@ look_kept g w v c b i h a =
       parts = h.parts;
       part = h.part;
       queued = h.queued;
-      values = λ d l. All-weaker (ValueAt (contents_of w t) (reach_of t tail front v.looks d)) (ValueAt (contents_of w t) (reach_of t tail front v'.looks d)) (λ j y. (y.0, reach d j y.1)) (v.values d) (h.values d l);
+      values = λ d l. All-weaker (ValueAt (contents_of w t) (reach_of t tail queue_head v.looks d)) (ValueAt (contents_of w t) (reach_of t tail queue_head v'.looks d)) (λ j y. (y.0, reach d j y.1)) (v.values d) (h.values d l);
       made = h.made;
     }
   where
@@ -103,8 +103,8 @@ look_kept g w v c b i h a =
     tail : ℕ → ℕ → ℕ
     tail = λ i j. w (Tail i j)
 
-    front : ℕ → ℕ → ℕ
-    front = λ i j. w (Front i j)
+    queue_head : ℕ → ℕ → ℕ
+    queue_head = λ i j. w (QueueHead i j)
 
     eras : ℕ → ℕ → ℕ
     eras = λ i j. w (Era i j)
@@ -113,7 +113,7 @@ look_kept g w v c b i h a =
     t = targets g w v
 
     Named : ℕ → ℕ → Type 0
-    Named d = named_by t tail front d
+    Named d = named_by t tail queue_head d
 
     no_op : is_op (v.op c) ≡ false
     no_op = ap is_op a.op
@@ -121,7 +121,7 @@ look_kept g w v c b i h a =
     new : Look
     new = record { block = w (Body b i); from = Body b i }
 
-    reach : (d j : ℕ) → reach_of t tail front v.looks d j → reach_of t tail front v'.looks d j
+    reach : (d j : ℕ) → reach_of t tail queue_head v.looks d j → reach_of t tail queue_head v'.looks d j
     reach d j (inl x) = inl x
     reach d j (inr x) = inr (at1_all (λ (k : ℕ) (y : List Look). InLooks (v.looks k) j → InLooks y j) v.looks c (v.looks c ++ new ∷ []) d (λ z. (z.0, Contains-append_left (v.looks c) (new ∷ []) z.0 z.1, z.2)) (λ _ z. z) x)
 
@@ -132,7 +132,7 @@ look_kept g w v c b i h a =
     covers : (d : ℕ) → d < g.clients → (y : ℕ) → cover (cover_of (v.op d)) (Body b i) y ≡ y
     covers d l y = elim (cases_eq c d) [
       | inl x ↦ cover_idle (v.op d) (Body b i) (ap (λ j. is_op (v.op j)) (sym x) ∙ no_op) y
-      | inr n ↦ apart d heads tags (v.latch d) tail front (reach_of t tail front v.looks d) (v.op d) (Body b i) (h.slots d l) (λ x. elim x.2 [ inl u ↦ counted.1 u.0 | inr u ↦ n (one_latch g w v h c d (tag_author (w (Tag b))) a.inside l a.latch (u.1 ∙ ap Some (sym u.0))) ]) y
+      | inr n ↦ apart d heads tags (v.latch d) tail queue_head (reach_of t tail queue_head v.looks d) (v.op d) (Body b i) (h.slots d l) (λ x. elim x.2 [ inl u ↦ counted.1 u.0 | inr u ↦ n (one_latch g w v h c d (tag_author (w (Tag b))) a.inside l a.latch (u.1 ∙ ap Some (sym u.0))) ]) y
     ]
 
     seen : t (Body b i) ≡ w (Body b i)
@@ -142,7 +142,7 @@ look_kept g w v c b i h a =
         cond-true (ltb i ((words_of w).refs b)) (covered (λ d. cover_of (v.op d)) g.clients (Body b i) (w (Body b i))) 0 (lt-ltb i ((words_of w).refs b) l) ∙ covered_none g.clients (Body b i) (w (Body b i)) (λ d. cover_of (v.op d)) covers
 
     Known : ℕ → Stored → Type 0
-    Known d s = KnownAt d tags bodies slot tail front (v.untaken d) (v.latch d) (reach_of t tail front v'.looks d) (v.dying d) s.spot s.value
+    Known d s = KnownAt d tags bodies slot tail queue_head (v.untaken d) (v.latch d) (reach_of t tail queue_head v'.looks d) (v.dying d) s.spot s.value
 
-    old : (d : ℕ) (p : Spot) (x : ℕ) → KnownAt d tags bodies slot tail front (v.untaken d) (v.latch d) (reach_of t tail front v.looks d) (v.dying d) p x → KnownAt d tags bodies slot tail front (v.untaken d) (v.latch d) (reach_of t tail front v'.looks d) (v.dying d) p x
-    old d p x = known_kept d tags bodies slot tail front (v.untaken d) (v.latch d) (reach_of t tail front v.looks d) (reach_of t tail front v'.looks d) (v.dying d) (v.dying d) p x (reach d) (λ _ y. y)
+    old : (d : ℕ) (p : Spot) (x : ℕ) → KnownAt d tags bodies slot tail queue_head (v.untaken d) (v.latch d) (reach_of t tail queue_head v.looks d) (v.dying d) p x → KnownAt d tags bodies slot tail queue_head (v.untaken d) (v.latch d) (reach_of t tail queue_head v'.looks d) (v.dying d) p x
+    old d p x = known_kept d tags bodies slot tail queue_head (v.untaken d) (v.latch d) (reach_of t tail queue_head v.looks d) (reach_of t tail queue_head v'.looks d) (v.dying d) (v.dying d) p x (reach d) (λ _ y. y)

@@ -9,7 +9,7 @@ use Rattle.shm_graph.specs.Held.{InLooks, LookAt, LooksSound}
 use Rattle.shm_graph.specs.Reach.{upto, is_look_from}
 use Rattle.std.specs.List.{list_any}
 use Rattle.shm_graph.specs.Spots.{same_spot}
-use Rattle.shm_graph.proofs.Spotting.{same_spot_is}
+use Rattle.shm_graph.proofs.Spots.Spotting.{same_spot_is}
 use Rattle.std.specs.Prelude.{◌||◌}
 
 in_split : (k : Look) (ks : List Look) (b : ℕ) → InLooks (k ∷ ks) b → (k.block ≡ b) ⊎ InLooks ks b

@@ -6,29 +6,29 @@ use Rattle.std.proofs.lemmas.Bool.{cases_Bool, cases_eq, true≢false}
 use Rattle.shm_words.specs.Headers.{header_of}
 use Rattle.shm_words.specs.declared.geometry.Geometry.{Geometry}
 use Rattle.shm_graph.specs.declared.spot.Spot.{Spot}
-use Rattle.shm_graph.specs.declared.spot.Spot.TheVariants.{Spare, Status, Redo, Hold, Latch, Home, Era, Root, Tail, Front, Slot, Segment, Page, Unused, Head, Tag, Body}
+use Rattle.shm_graph.specs.declared.spot.Spot.TheVariants.{Spare, Status, Redo, Hold, Latch, Home, Era, Root, Tail, QueueHead, Slot, Segment, Page, Unused, Head, Tag, Body}
 use Rattle.shm_graph.specs.declared.memo.Making.{Making}
 use Rattle.shm_graph.specs.declared.memo.Fact.{Fact}
 use Rattle.shm_graph.specs.declared.memo.Test.{Test}
 use Rattle.shm_graph.specs.declared.memo.Fact.TheVariants.{Header as HeaderRead, Counter, Class}
-use Rattle.shm_graph.proofs.Frames.{at1_all}
+use Rattle.shm_graph.proofs.Memos.Frames.{at1_all}
 use Rattle.shm_graph.specs.Spots.{upd, IsAt, spot_address, spot_at}
-use Rattle.shm_graph.specs.Views.{View, targets, ons, limbos}
+use Rattle.shm_graph.specs.Views.{View, targets, ons, held_overs}
 use Rattle.shm_graph.specs.Blocks.{IsBlock}
 use Rattle.shm_graph.specs.References.{words_of}
 use Rattle.shm_graph.specs.Ops.{cover_of, slot_of}
 use Rattle.shm_graph.specs.Held.{HeldAt, SlotOf, reach_of, TagSound, MakingTie, FactAt, ZeroAt, TestAt}
 use Rattle.shm_words.specs.Classes.{IsClass}
-use Rattle.shm_laws.specs.Steps.{ClassStep, class_view}
+use Rattle.shm_laws.specs.Steps.{ClassNeeds, class_view}
 use Rattle.shm_graph.specs.Stores.{other_than}
 use Rattle.shm_laws.proofs.Owns.{mine_other, small_stored, there_stored}
-use Rattle.shm_graph.proofs.Spotting.{same_spot_self, alone}
-use Rattle.shm_graph.proofs.PageSpots.{same_page, page_spot, stays_at, page_of_block, is_unused}
-use Rattle.shm_graph.proofs.Counting.{has_place, target_not_spare}
+use Rattle.shm_graph.proofs.Spots.Spotting.{same_spot_self, alone}
+use Rattle.shm_graph.proofs.Spots.PageSpots.{same_page, page_spot, stays_at, page_of_block, is_unused}
+use Rattle.shm_graph.proofs.States.Counting.{has_place, target_not_spare}
 use Rattle.shm_laws.proofs.Sum.{degree_same}
 use Rattle.shm_laws.proofs.Keep.{live_block, op_moved, redo_moved, All-kept}
 
-pub class_kept : (g : Geometry) (w : Spot → ℕ) (v : View) (c s q k : ℕ) → HeldAt g w v → ClassStep g w v c s q k → HeldAt g (upd w (Page s q) k) (class_view v c s q k)
+pub class_kept : (g : Geometry) (w : Spot → ℕ) (v : View) (c s q k : ℕ) → HeldAt g w v → ClassNeeds g w v c s q k → HeldAt g (upd w (Page s q) k) (class_view v c s q k)
 class_kept g w v c s q k h e =
     record {
       fits = h.fits;
@@ -54,9 +54,9 @@ class_kept g w v c s q k h e =
       redo = λ d l. redo_moved g class class' (w (Redo d)) block (h.redo d l);
       allowed = h.allowed;
       count = record {
-        counts = λ b l. h.count.counts b l ∙ sym (degree_same g class class' (targets g w v) (limbos v) b same);
+        counts = λ b l. h.count.counts b l ∙ sym (degree_same g class class' (targets g w v) (held_overs v) b same);
         targets = h.count.targets;
-        limbos = h.count.limbos;
+        held_overs = h.count.held_overs;
       };
       slots = h.slots;
       looks = h.looks;
@@ -113,7 +113,7 @@ class_kept g w v c s q k h e =
     used (Era i j) n = refl
     used (Root d l) n = refl
     used (Tail i j) n = refl
-    used (Front i j) n = refl
+    used (QueueHead i j) n = refl
     used (Slot i j l) n = refl
     used (Segment i) n = refl
     used (Page i j) n = refl
@@ -138,7 +138,7 @@ class_kept g w v c s q k h e =
     making d None y = tt
     making d (Some m) y = record { free = y.free; block = block m.block y.block; mine = y.mine; sized = page_of_block g class s q k m.block zero.0 y.block ∙ y.sized; stored = y.stored }
 
-    slot_used : (d : ℕ) (p : Spot) → SlotOf d (λ b. header_of (w (Head b))) (λ b. w (Tag b)) (v.latch d) (λ i j. w (Tail i j)) (λ i j. w (Front i j)) (reach_of (targets g w v) (λ i j. w (Tail i j)) (λ i j. w (Front i j)) v.looks d) p → is_unused p ≡ false
+    slot_used : (d : ℕ) (p : Spot) → SlotOf d (λ b. header_of (w (Head b))) (λ b. w (Tag b)) (v.latch d) (λ i j. w (Tail i j)) (λ i j. w (QueueHead i j)) (reach_of (targets g w v) (λ i j. w (Tail i j)) (λ i j. w (QueueHead i j)) v.looks d) p → is_unused p ≡ false
     slot_used d (Root i l) x = refl
     slot_used d (Home i) x = refl
     slot_used d (Slot i j l) x = refl
@@ -167,9 +167,9 @@ class_kept g w v c s q k h e =
     ]
 
     Facts : Fact → Type 0
-    Facts = FactAt g.clients (λ i j. w (Era i j)) (ons v) (λ i j. w (Tail i j)) (λ i j. w (Front i j)) class'
+    Facts = FactAt g.clients (λ i j. w (Era i j)) (ons v) (λ i j. w (Tail i j)) (λ i j. w (QueueHead i j)) class'
 
-    fact : (f : Fact) → FactAt g.clients (λ i j. w (Era i j)) (ons v) (λ i j. w (Tail i j)) (λ i j. w (Front i j)) class f → Facts f
+    fact : (f : Fact) → FactAt g.clients (λ i j. w (Era i j)) (ons v) (λ i j. w (Tail i j)) (λ i j. w (QueueHead i j)) class f → Facts f
     fact (HeaderRead x) y = y
     fact (Counter p x) y = y
     fact (Class i j x) y = (

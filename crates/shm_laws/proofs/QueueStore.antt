@@ -8,7 +8,7 @@ use Rattle.shm_words.specs.declared.header.Header.{Header}
 use Rattle.shm_words.specs.Headers.{header_of}
 use Rattle.shm_words.specs.Tags.{tag_author}
 use Rattle.shm_graph.specs.declared.spot.Spot.{Spot}
-use Rattle.shm_graph.specs.declared.spot.Spot.TheVariants.{Home, Era, Root, Tail, Front, Slot, Page, Head, Tag, Body}
+use Rattle.shm_graph.specs.declared.spot.Spot.TheVariants.{Home, Era, Root, Tail, QueueHead, Slot, Page, Head, Tag, Body}
 use Rattle.shm_graph.specs.declared.memo.First.TheVariants.{Committed, Written}
 use Rattle.shm_graph.specs.declared.memo.Op.{Op}
 use Rattle.shm_graph.specs.declared.memo.Op.TheVariants.{Alloc, Up, Down, Change}
@@ -16,20 +16,20 @@ use Rattle.shm_graph.specs.declared.memo.Stored.{Stored}
 use Rattle.shm_graph.specs.declared.memo.Test.{Test}
 use Rattle.shm_graph.specs.Spots.{same_spot, upd, IsAt}
 use Rattle.shm_graph.specs.Ops.{On, cover, slot_of, is_op}
-use Rattle.shm_graph.specs.Views.{View, targets, limbos, ons}
+use Rattle.shm_graph.specs.Views.{View, targets, held_overs, ons}
 use Rattle.shm_graph.specs.Events.{Nothing, graph_of, Happens}
 use Rattle.shm_graph.specs.Tables.{contents_of, HasShape}
 use Rattle.shm_graph.specs.Held.{HeldAt, CountSound, SlotOf, reach_of, named_by, FactAt, TestAt, EraSound, KnownAt, LooksSound, LaneSound, IsUnusedLane, PartTie, ValueAt, MadeAt, Allowed, is_loose, is_root, is_slot, is_slot_to}
-use Rattle.shm_graph.proofs.Spotting.{same_spot_self, same_spot_is}
-use Rattle.shm_graph.proofs.Holders.{Holds, apart_slots}
-use Rattle.shm_graph.proofs.Frames.{at1_all}
+use Rattle.shm_graph.proofs.Spots.Spotting.{same_spot_self, same_spot_is}
+use Rattle.shm_graph.proofs.States.Holders.{Holds, apart_slots}
+use Rattle.shm_graph.proofs.Memos.Frames.{at1_all}
 use Rattle.shm_laws.proofs.Lanes.{lane_clients}
 use Rattle.shm_laws.proofs.Owns.{mine_other, small_stored, there_stored}
 use Rattle.shm_laws.proofs.Quiet.{quiet}
 use Rattle.shm_laws.proofs.Slots.{slot_names}
-use Rattle.shm_laws.proofs.Writing.{written, at_slot, mine_at, on_same, limbo_same, own_same, allowed_same, tails_same, slots_same, ops_same, targets_same}
+use Rattle.shm_laws.proofs.Writing.{written, at_slot, mine_at, on_same, held_over_same, own_same, allowed_same, tails_same, slots_same, ops_same, targets_same}
 use Rattle.shm_laws.specs.Steps.{Writes}
-use Rattle.shm_laws.specs.Slotting.{QueueStep, queue_view}
+use Rattle.shm_laws.specs.Slotting.{QueueNeeds, queue_view}
 
 -- a step whose slot is one of a queue to its own identity takes a block out
 lowers : (c : ℕ) (o o' : Op) (x : ℕ) → Writes o o' x → Allowed c o → is_slot_to c (slot_of o) ≡ true → x ≡ 0
@@ -49,7 +49,7 @@ lowers c (Change h p a b e) o' x y z n = absurd (no_slot p z.0 n)
     no_slot _ u m = cc
 lowers c _ o' x y a n = absurd y
 
-pub queue_kept : (g : Geometry) (w : Spot → ℕ) (v : View) (c s r k x : ℕ) (o : Op) → HeldAt g w v → QueueStep g w v c s r k x o → HeldAt g (upd w (Slot s r k) x) (queue_view v c o)
+pub queue_kept : (g : Geometry) (w : Spot → ℕ) (v : View) (c s r k x : ℕ) (o : Op) → HeldAt g w v → QueueNeeds g w v c s r k x o → HeldAt g (upd w (Slot s r k) x) (queue_view v c o)
 queue_kept g w v c s r k x o h a =
     record {
       fits = h.fits;
@@ -70,13 +70,13 @@ queue_kept g w v c s r k x o h a =
       op = ops_same g w v h c x o (Slot s r k) a.inside a.slot a.op (cond-true (same_spot (Slot s r k) (Slot s r k)) x (w (Slot s r k)) (same_spot_self (Slot s r k)));
       redo = h.redo;
       allowed = allowed_same g w v h c x o (Slot s r k) a.inside a.slot a.op;
-      count = subst (λ (t : Spot → ℕ). CountSound g class heads t (limbos v')) (sym path) (subst (λ (l : ℕ → ℕ). CountSound g class heads t l) (sym (limbo_same g w v h c x o (Slot s r k) a.inside a.slot a.op)) h.count);
-      slots = subst (λ (t : Spot → ℕ). (d : ℕ) → d < g.clients → is_op (v'.op d) ≡ true → SlotOf d heads tags (v.latch d) tail front (reach_of t tail front v.looks d) (slot_of (v'.op d))) (sym path) (slots_same g w v h c x o (Slot s r k) a.inside a.slot a.op);
-      looks = subst (λ (t : Spot → ℕ). (d : ℕ) → d < g.clients → LooksSound (λ a. t (Home a)) (λ b i. t (Body b i)) (λ b. tag_author (w (Tag b))) (v.latch d) (named_by t tail front d) [] (v.looks d)) (sym path) h.looks;
-      lanes = subst (λ (t : Spot → ℕ). (i j : ℕ) → i < g.clients → j < g.clients → i ≢ j → LaneSound (λ k. t (Slot i j k)) (tail i j) (front i j) (v.sent i j) (v.unsent i j) (v.received j i) (v.untaken j i)) (sym path) h.lanes;
-      known = subst (λ (t : Spot → ℕ). (d : ℕ) → d < g.clients → All (λ (z : Stored). KnownAt d tags bodies slot' tail front (v.untaken d) (v.latch d) (reach_of t tail front v.looks d) (v.dying d) z.spot z.value) (v.known d)) (sym path)
+      count = subst (λ (t : Spot → ℕ). CountSound g class heads t (held_overs v')) (sym path) (subst (λ (l : ℕ → ℕ). CountSound g class heads t l) (sym (held_over_same g w v h c x o (Slot s r k) a.inside a.slot a.op)) h.count);
+      slots = subst (λ (t : Spot → ℕ). (d : ℕ) → d < g.clients → is_op (v'.op d) ≡ true → SlotOf d heads tags (v.latch d) tail queue_head (reach_of t tail queue_head v.looks d) (slot_of (v'.op d))) (sym path) (slots_same g w v h c x o (Slot s r k) a.inside a.slot a.op);
+      looks = subst (λ (t : Spot → ℕ). (d : ℕ) → d < g.clients → LooksSound (λ a. t (Home a)) (λ b i. t (Body b i)) (λ b. tag_author (w (Tag b))) (v.latch d) (named_by t tail queue_head d) [] (v.looks d)) (sym path) h.looks;
+      lanes = subst (λ (t : Spot → ℕ). (i j : ℕ) → i < g.clients → j < g.clients → i ≢ j → LaneSound (λ k. t (Slot i j k)) (tail i j) (queue_head i j) (v.sent i j) (v.unsent i j) (v.received j i) (v.untaken j i)) (sym path) h.lanes;
+      known = subst (λ (t : Spot → ℕ). (d : ℕ) → d < g.clients → All (λ (z : Stored). KnownAt d tags bodies slot' tail queue_head (v.untaken d) (v.latch d) (reach_of t tail queue_head v.looks d) (v.dying d) z.spot z.value) (v.known d)) (sym path)
           (λ d l. All-weaker (Old d) (Known d) (λ z. known_kept d l z.spot z.value) (v.known d) (h.known d l));
-      facts = subst (λ (on : ℕ → Option ℕ). (d : ℕ) → d < g.clients → All (FactAt g.clients eras on tail front class) (v.facts d)) (sym on) h.facts;
+      facts = subst (λ (on : ℕ → Option ℕ). (d : ℕ) → d < g.clients → All (FactAt g.clients eras on tail queue_head class) (v.facts d)) (sym on) h.facts;
       zeros = h.zeros;
       test = subst (λ (on : ℕ → Option ℕ). (d : ℕ) → d < g.clients → TestAt g.clients eras (on d) d (v'.test d)) (sym on) (λ d. at1_all (λ (i : ℕ) (x : Option Test). i < g.clients → TestAt g.clients eras (ons v i) i x) v.test c None d (λ l. tt) (λ m. h.test d));
       fresh = λ d l st. elim (cases_eq c d) [
@@ -87,13 +87,13 @@ queue_kept g w v c s r k x o h a =
         | inl x ↦ absurd (a.here (ap v.status x ∙ st))
         | inr n ↦ rw (ne_eqb c d n) (h.gone d l st)
       ];
-      self_lanes = subst (λ (t : Spot → ℕ). (d : ℕ) → d < g.clients → IsUnusedLane (tail d d) (front d d) (λ k. t (Slot d d k))) (sym path) h.self_lanes;
+      self_lanes = subst (λ (t : Spot → ℕ). (d : ℕ) → d < g.clients → IsUnusedLane (tail d d) (queue_head d d) (λ k. t (Slot d d k))) (sym path) h.self_lanes;
       no_queue = h.no_queue;
       tails = tails_same g w v h c x o (Slot s r k) a.inside a.slot a.op;
       parts = h.parts;
       part = subst (λ (t : Spot → ℕ). (d : ℕ) → d < g.clients → PartTie (contents_of w t) d (t (Home d)) (v.part d)) (sym path) h.part;
       queued = subst (λ (t : Spot → ℕ). (d : ℕ) → d < g.clients → is_loose (v.part d) ≡ false → (s r k : ℕ) → t (Slot s r k) ≢ 0 → HasShape (contents_of w t) 0 1 (t (Slot s r k))) (sym path) h.queued;
-      values = subst (λ (t : Spot → ℕ). (d : ℕ) → d < g.clients → All (ValueAt (contents_of w t) (reach_of t tail front v.looks d)) (v.values d)) (sym path) h.values;
+      values = subst (λ (t : Spot → ℕ). (d : ℕ) → d < g.clients → All (ValueAt (contents_of w t) (reach_of t tail queue_head v.looks d)) (v.values d)) (sym path) h.values;
       made = subst (λ (t : Spot → ℕ). (d : ℕ) → d < g.clients → All (MadeAt heads (λ k. t (Root d k))) (v.made d)) (sym path) h.made;
     }
   where
@@ -118,8 +118,8 @@ queue_kept g w v c s r k x o h a =
     tail : ℕ → ℕ → ℕ
     tail = λ i j. w (Tail i j)
 
-    front : ℕ → ℕ → ℕ
-    front = λ i j. w (Front i j)
+    queue_head : ℕ → ℕ → ℕ
+    queue_head = λ i j. w (QueueHead i j)
 
     eras : ℕ → ℕ → ℕ
     eras = λ i j. w (Era i j)
@@ -140,10 +140,10 @@ queue_kept g w v c s r k x o h a =
     mine = mine_at g w v h c x o (Slot s r k) a.inside a.slot a.op
 
     Old : ℕ → Stored → Type 0
-    Old d z = KnownAt d tags bodies slot tail front (v.untaken d) (v.latch d) (reach_of t tail front v.looks d) (v.dying d) z.spot z.value
+    Old d z = KnownAt d tags bodies slot tail queue_head (v.untaken d) (v.latch d) (reach_of t tail queue_head v.looks d) (v.dying d) z.spot z.value
 
     Known : ℕ → Stored → Type 0
-    Known d z = KnownAt d tags bodies slot' tail front (v.untaken d) (v.latch d) (reach_of t tail front v.looks d) (v.dying d) z.spot z.value
+    Known d z = KnownAt d tags bodies slot' tail queue_head (v.untaken d) (v.latch d) (reach_of t tail queue_head v.looks d) (v.dying d) z.spot z.value
 
     -- the slot's target is its new value
     names : t (Slot s r k) ≡ x
@@ -151,18 +151,18 @@ queue_kept g w v c s r k x o h a =
 
     -- no head slot of which an identity knows a block is stored: at its tail a queue that isn't empty has another slot than at its
     -- head, and at the head the receiver stores 0, where a block that isn't taken would be the target
-    never : (d i : ℕ) → d < g.clients → i ≢ d → Slot s r k ≡ Slot i d (front i d % 8) → front i d < tail i d → v.untaken d i ≡ 0 → ⊥
-    never d i l n e f u = let y : Holds w g v c (Slot i d (front i d % 8)) = subst (Holds w g v c) e mine in elim y.1 [
-      | inl z ↦ apart_slots (front i d) (tail i d) f z.2 z.1
+    never : (d i : ℕ) → d < g.clients → i ≢ d → Slot s r k ≡ Slot i d (queue_head i d % 8) → queue_head i d < tail i d → v.untaken d i ≡ 0 → ⊥
+    never d i l n e f u = let y : Holds w g v c (Slot i d (queue_head i d % 8)) = subst (Holds w g v c) e mine in elim y.1 [
+      | inl z ↦ apart_slots (queue_head i d) (tail i d) f z.2 z.1
       | inr z ↦ (let lane = h.lanes i d sender l n in
-          All-get_or (λ b. b ≢ 0) (v.sent i d) (front i d) 0 (let m = lane.all_sent in omega arith) lane.some
-          (sym (lane.items (front i d) (omega arith) f (u, refl)) ∙ (ap t (sym e) ∙ (names ∙ lowers c (v.op c) o x a.op (h.allowed c a.inside) (ap (is_slot_to c) a.slot ∙ (ap (is_slot_to c) e ∙ eq-eqb d c z.0))))))
+          All-get_or (λ b. b ≢ 0) (v.sent i d) (queue_head i d) 0 (let m = lane.all_sent in omega arith) lane.some
+          (sym (lane.items (queue_head i d) (omega arith) f (u, refl)) ∙ (ap t (sym e) ∙ (names ∙ lowers c (v.op c) o x a.op (h.allowed c a.inside) (ap (is_slot_to c) a.slot ∙ (ap (is_slot_to c) e ∙ eq-eqb d c z.0))))))
     ]
       where
         sender : i < g.clients
-        sender = (lane_clients g class i d (front i d % 8) h.fits (subst (IsAt g class) e (at_slot g w v h c x o (Slot s r k) a.inside a.slot a.op))).0
+        sender = (lane_clients g class i d (queue_head i d % 8) h.fits (subst (IsAt g class) e (at_slot g w v h c x o (Slot s r k) a.inside a.slot a.op))).0
 
-    known_kept : (d : ℕ) → d < g.clients → (p : Spot) (z : ℕ) → KnownAt d tags bodies slot tail front (v.untaken d) (v.latch d) (reach_of t tail front v.looks d) (v.dying d) p z → KnownAt d tags bodies slot' tail front (v.untaken d) (v.latch d) (reach_of t tail front v.looks d) (v.dying d) p z
+    known_kept : (d : ℕ) → d < g.clients → (p : Spot) (z : ℕ) → KnownAt d tags bodies slot tail queue_head (v.untaken d) (v.latch d) (reach_of t tail queue_head v.looks d) (v.dying d) p z → KnownAt d tags bodies slot' tail queue_head (v.untaken d) (v.latch d) (reach_of t tail queue_head v.looks d) (v.dying d) p z
     known_kept d l (Body e j) z y = y
     known_kept d l (Tag e) z y = y
     known_kept d l (Slot i j m) z (to, n, at, some, left, nz, holds) = (to, n, at, some, left, nz, cond-false (same_spot (Slot s r k) (Slot i d m)) x (w (Slot i d m)) apart ∙ holds)
@@ -172,6 +172,6 @@ queue_kept g w v c s r k x o h a =
     known_kept d l _ z y = absurd y
 
 -- the slot had its new value as its target
-pub queue_quiet : (g : Geometry) (w : Spot → ℕ) (v : View) (c s r k x : ℕ) (o : Op) → HeldAt g w v → QueueStep g w v c s r k x o → Happens g w Nothing (graph_of g w v) (graph_of g (upd w (Slot s r k) x) (queue_view v c o))
+pub queue_quiet : (g : Geometry) (w : Spot → ℕ) (v : View) (c s r k x : ℕ) (o : Op) → HeldAt g w v → QueueNeeds g w v c s r k x o → Happens g w Nothing (graph_of g w v) (graph_of g (upd w (Slot s r k) x) (queue_view v c o))
 queue_quiet g w v c s r k x o h a = quiet g w (upd w (Slot s r k) x) v (queue_view v c o) (λ b. refl) (λ b. refl)
-    (targets_same g w v h c x o (Slot s r k) a.inside a.slot a.op (λ b. refl)) (limbo_same g w v h c x o (Slot s r k) a.inside a.slot a.op)
+    (targets_same g w v h c x o (Slot s r k) a.inside a.slot a.op (λ b. refl)) (held_over_same g w v h c x o (Slot s r k) a.inside a.slot a.op)

@@ -8,18 +8,18 @@ use Rattle.shm_words.specs.declared.header.Header.{Header}
 use Rattle.shm_words.specs.Headers.{header_of}
 use Rattle.shm_words.specs.Tags.{tag_refs, tag_author}
 use Rattle.shm_graph.specs.declared.spot.Spot.{Spot}
-use Rattle.shm_graph.specs.declared.spot.Spot.TheVariants.{Spare, Home, Root, Tail, Front, Slot, Page, Head, Tag, Body}
+use Rattle.shm_graph.specs.declared.spot.Spot.TheVariants.{Spare, Home, Root, Tail, QueueHead, Slot, Page, Head, Tag, Body}
 use Rattle.shm_graph.specs.Spots.{same_spot, upd, IsAt}
 use Rattle.shm_graph.specs.References.{one_if, words_of}
 use Rattle.shm_graph.specs.Tables.{Contents, contents_of, HasShape}
 use Rattle.shm_graph.specs.Ops.{cover_of}
-use Rattle.shm_graph.specs.Views.{View, at1, targets, limbos}
+use Rattle.shm_graph.specs.Views.{View, at1, targets, held_overs}
 use Rattle.shm_graph.specs.Held.{HeldAt, SlotOf, PartTie, ValueAt, MadeAt, reach_of, is_loose}
-use Rattle.shm_graph.proofs.Spotting.{same_spot_is, in_pool, is_at_block}
-use Rattle.shm_graph.proofs.Lists.{at1_here, at1_other}
-use Rattle.shm_graph.proofs.Counting.{has_place, target_not_spare, indegree_has}
+use Rattle.shm_graph.proofs.Spots.Spotting.{same_spot_is, in_pool, is_at_block}
+use Rattle.shm_graph.proofs.Runs.Lists.{at1_here, at1_other}
+use Rattle.shm_graph.proofs.States.Counting.{has_place, target_not_spare, indegree_has}
 use Rattle.shm_laws.proofs.Keep.{live_block, count_of_zero, All-kept}
-use Rattle.shm_laws.proofs.Sum.{degree_step, limbo_step}
+use Rattle.shm_laws.proofs.Sum.{degree_step, held_over_step}
 use Rattle.shm_laws.proofs.Exchange.{reach_target}
 use Rattle.shm_laws.proofs.Parts.{PartKept, part_kept}
 
@@ -41,7 +41,7 @@ module _ (g : Geometry) (w : Spot → ℕ) (v : View) (h : HeldAt g w v) where
   pub named_count : (b : ℕ) (q : Spot) → targets g w v q ≡ b → (header_of (w (Head b))).live ≡ true → 1 ≤ (header_of (w (Head b))).count
   named_count b q e l =
       let n : targets g w v q ≢ 0 = λ z. live_some b l (sym e ∙ z) in
-      let one = indegree_has g (λ s p. w (Page s p)) (targets g w v) (limbos v) q b (target_at q n) (target_there q n) e in
+      let one = indegree_has g (λ s p. w (Page s p)) (targets g w v) (held_overs v) q b (target_at q n) (target_there q n) e in
       let k = h.count.counts b l in
       omega arith
 
@@ -51,29 +51,29 @@ module _ (g : Geometry) (w : Spot → ℕ) (v : View) (h : HeldAt g w v) where
       let some = live_some b l in
       let n : targets g w v p ≢ 0 = λ z. some (sym e ∙ z) in
       let m : targets g w v q ≢ 0 = λ z. some (sym f ∙ z) in
-      let s = degree_step g (λ s p. w (Page s p)) (targets g w v) (limbos v) p 0 b (target_at p n) (target_there p n) in
+      let s = degree_step g (λ s p. w (Page s p)) (targets g w v) (held_overs v) p 0 b (target_at p n) (target_there p n) in
       let left : upd (targets g w v) p 0 q ≡ b = rw apart f in
-      let one = indegree_has g (λ s p. w (Page s p)) (upd (targets g w v) p 0) (limbos v) q b (target_at q m) (target_there q m) left in
+      let one = indegree_has g (λ s p. w (Page s p)) (upd (targets g w v) p 0) (held_overs v) q b (target_at q m) (target_there q m) left in
       let was : one_if (eqb (targets g w v p) b) ≡ 1 = ap one_if (eq-eqb (targets g w v p) b e) in
       let is : one_if (eqb 0 b) ≡ 0 = ap one_if (ne_eqb 0 b (λ z. some (sym z))) in
       let k = h.count.counts b l in
       omega arith
 
   -- so has a block that a word names and a change holds over
-  pub name_and_limbo : (b : ℕ) (q : Spot) (c : ℕ) → c < g.clients → targets g w v q ≡ b → limbos v c ≡ b → (header_of (w (Head b))).live ≡ true → 2 ≤ (header_of (w (Head b))).count
-  name_and_limbo b q c lc f e l =
+  pub name_and_held_over : (b : ℕ) (q : Spot) (c : ℕ) → c < g.clients → targets g w v q ≡ b → held_overs v c ≡ b → (header_of (w (Head b))).live ≡ true → 2 ≤ (header_of (w (Head b))).count
+  name_and_held_over b q c lc f e l =
       let some = live_some b l in
       let m : targets g w v q ≢ 0 = λ z. some (sym f ∙ z) in
-      let s = limbo_step g (λ s p. w (Page s p)) (targets g w v) (limbos v) (at1 (limbos v) c 0) c b lc (λ d n. at1_other (limbos v) c 0 d (λ e. n (sym e))) in
-      let one = indegree_has g (λ s p. w (Page s p)) (targets g w v) (at1 (limbos v) c 0) q b (target_at q m) (target_there q m) f in
-      let was : one_if (eqb (limbos v c) b) ≡ 1 = ap one_if (eq-eqb (limbos v c) b e) in
-      let is : one_if (eqb (at1 (limbos v) c 0 c) b) ≡ 0 = ap one_if (ap (λ z. eqb z b) (at1_here (limbos v) c 0) ∙ ne_eqb 0 b (λ z. some (sym z))) in
+      let s = held_over_step g (λ s p. w (Page s p)) (targets g w v) (held_overs v) (at1 (held_overs v) c 0) c b lc (λ d n. at1_other (held_overs v) c 0 d (λ e. n (sym e))) in
+      let one = indegree_has g (λ s p. w (Page s p)) (targets g w v) (at1 (held_overs v) c 0) q b (target_at q m) (target_there q m) f in
+      let was : one_if (eqb (held_overs v c) b) ≡ 1 = ap one_if (eq-eqb (held_overs v c) b e) in
+      let is : one_if (eqb (at1 (held_overs v) c 0 c) b) ≡ 0 = ap one_if (ap (λ z. eqb z b) (at1_here (held_overs v) c 0) ∙ ne_eqb 0 b (λ z. some (sym z))) in
       let k = h.count.counts b l in
       omega arith
 
 -- c may use this slot
 abbrev pub SlotAt : Geometry → (Spot → ℕ) → View → ℕ → Spot → Type 0
-SlotAt g w v c p = SlotOf c (λ b. header_of (w (Head b))) (λ b. w (Tag b)) (v.latch c) (λ s r. w (Tail s r)) (λ s r. w (Front s r)) (reach_of (targets g w v) (λ s r. w (Tail s r)) (λ s r. w (Front s r)) v.looks c) p
+SlotAt g w v c p = SlotOf c (λ b. header_of (w (Head b))) (λ b. w (Tag b)) (v.latch c) (λ s r. w (Tail s r)) (λ s r. w (QueueHead s r)) (reach_of (targets g w v) (λ s r. w (Tail s r)) (λ s r. w (QueueHead s r)) v.looks c) p
 
 -- some word names the block
 abbrev pub IsNamed : (Spot → ℕ) → ℕ → Type 0
@@ -158,13 +158,13 @@ module _ (g : Geometry) (w : Spot → ℕ) (v : View) (h : HeldAt g w v) where
   -- value blocks that were read stay where named blocks stay live
   pub values_kept : (d : ℕ) (heads : ℕ → Header) (refs body : ℕ → ℕ → ℕ) (reach : ℕ → Type 0) → d < g.clients
       → ((b : ℕ) → IsNamed (targets g w v) b → (header_of (w (Head b))).live ≡ true → (heads b).live ≡ true)
-      → ((b : ℕ) → reach_of (targets g w v) (λ s r. w (Tail s r)) (λ s r. w (Front s r)) v.looks d b → reach b)
+      → ((b : ℕ) → reach_of (targets g w v) (λ s r. w (Tail s r)) (λ s r. w (QueueHead s r)) v.looks d b → reach b)
       → All (ValueAt (record { head = heads; tag = λ b. w (Tag b); refs = refs; body = body }) reach) (v.values d)
   values_kept d heads refs body reach ld lives more = All-weaker _ (ValueAt (record { head = heads; tag = λ b. w (Tag b); refs = refs; body = body }) reach) go (v.values d) (h.values d ld)
     where
-      go : (b : ℕ) → ValueAt (contents_of w (targets g w v)) (reach_of (targets g w v) (λ s r. w (Tail s r)) (λ s r. w (Front s r)) v.looks d) b → ValueAt (record { head = heads; tag = λ b. w (Tag b); refs = refs; body = body }) reach b
+      go : (b : ℕ) → ValueAt (contents_of w (targets g w v)) (reach_of (targets g w v) (λ s r. w (Tail s r)) (λ s r. w (QueueHead s r)) v.looks d) b → ValueAt (record { head = heads; tag = λ b. w (Tag b); refs = refs; body = body }) reach b
       go b x = (
-        record { live = lives b (reach_target (targets g w v) (λ s r. w (Tail s r)) (λ s r. w (Front s r)) (λ b. tag_author (w (Tag b))) (v.latch d) (v.looks d) d b (h.looks d ld) x.1) x.0.live; names = x.0.names; words = x.0.words },
+        record { live = lives b (reach_target (targets g w v) (λ s r. w (Tail s r)) (λ s r. w (QueueHead s r)) (λ b. tag_author (w (Tag b))) (v.latch d) (v.looks d) d b (h.looks d ld) x.1) x.0.live; names = x.0.names; words = x.0.words },
         more b x.1,
       )
 

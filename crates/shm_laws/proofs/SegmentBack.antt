@@ -12,15 +12,15 @@ use Rattle.shm_graph.specs.Views.{at1, View, ons}
 use Rattle.shm_graph.specs.Spots.{upd, IsAt, segment_of}
 use Rattle.shm_graph.specs.Events.{Nothing, graph_of, Happens}
 use Rattle.shm_graph.specs.Held.{HeldAt, MakingTie, SegmentTie, TestAt, ZeroAt}
-use Rattle.shm_graph.proofs.Frames.{at1_all}
-use Rattle.shm_graph.proofs.Lists.{at1_other}
+use Rattle.shm_graph.proofs.Memos.Frames.{at1_all}
+use Rattle.shm_graph.proofs.Runs.Lists.{at1_other}
 use Rattle.shm_laws.proofs.Owns.{mine_other, small_stored, there_stored}
 use Rattle.shm_laws.proofs.Keep.{All-kept, Contains-filter, filter_from}
 use Rattle.shm_laws.proofs.Quiet.{quiet}
-use Rattle.shm_laws.specs.Holding.{SegmentBackStep, segment_back_view}
+use Rattle.shm_laws.specs.Holding.{SegmentBackNeeds, segment_back_view}
 use Rattle.shm_graph.specs.Stores.{not_segment, outside_of}
 
-pub segment_back_kept : (g : Geometry) (w : Spot → ℕ) (v : View) (c s : ℕ) → HeldAt g w v → SegmentBackStep g v c s → HeldAt g (upd w (Segment s) 0) (segment_back_view g v c s)
+pub segment_back_kept : (g : Geometry) (w : Spot → ℕ) (v : View) (c s : ℕ) → HeldAt g w v → SegmentBackNeeds g v c s → HeldAt g (upd w (Segment s) 0) (segment_back_view g v c s)
 segment_back_kept g w v c s h a =
     record {
       fits = h.fits;
@@ -127,5 +127,5 @@ segment_back_kept g w v c s h a =
     zero_other d n _ z = absurd z
 
 -- live bits, tags and targets are read by spots, and a segment word's spot is none of theirs
-pub segment_back_quiet : (g : Geometry) (w : Spot → ℕ) (v : View) (c s : ℕ) → HeldAt g w v → SegmentBackStep g v c s → Happens g w Nothing (graph_of g w v) (graph_of g (upd w (Segment s) 0) (segment_back_view g v c s))
+pub segment_back_quiet : (g : Geometry) (w : Spot → ℕ) (v : View) (c s : ℕ) → HeldAt g w v → SegmentBackNeeds g v c s → Happens g w Nothing (graph_of g w v) (graph_of g (upd w (Segment s) 0) (segment_back_view g v c s))
 segment_back_quiet g w v c s h a = quiet g w (upd w (Segment s) 0) v (segment_back_view g v c s) (λ b. refl) (λ b. refl) refl refl

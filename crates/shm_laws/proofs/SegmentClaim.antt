@@ -12,12 +12,12 @@ use Rattle.shm_graph.specs.Views.{at1, View, ons}
 use Rattle.shm_graph.specs.Spots.{upd, IsAt, segment_of}
 use Rattle.shm_graph.specs.Events.{Nothing, graph_of, Happens}
 use Rattle.shm_graph.specs.Held.{HeldAt, MakingTie, SegmentTie, TestAt, ZeroAt}
-use Rattle.shm_graph.proofs.Frames.{at1_all}
-use Rattle.shm_graph.proofs.Lists.{at1_here, at1_other}
+use Rattle.shm_graph.proofs.Memos.Frames.{at1_all}
+use Rattle.shm_graph.proofs.Runs.Lists.{at1_here, at1_other}
 use Rattle.shm_laws.proofs.Owns.{mine_other, small_stored, there_stored}
 use Rattle.shm_laws.proofs.Quiet.{quiet}
 use Rattle.shm_laws.proofs.Keep.{newest}
-use Rattle.shm_laws.specs.Holding.{ClaimStep, claim_view}
+use Rattle.shm_laws.specs.Holding.{ClaimNeeds, claim_view}
 
 -- what a list has it has with an element in front
 behind : (xs : List ℕ) (x y : ℕ) → Contains xs y → Contains (x ∷ xs) y
@@ -27,7 +27,7 @@ behind xs x y = Contains-append_right (x ∷ []) xs y
 each_of : (P : ℕ → Type 0) (xs : List ℕ) (x : ℕ) → P x → ((y : ℕ) → Contains xs y → P y) → (y : ℕ) → Contains (x ∷ xs) y → P y
 each_of P xs x here rest y at = All-contains P (x ∷ xs) y (All-cons P x xs here (All-weaker (Contains xs) P rest xs (All-contains_itself xs))) at
 
-pub claim_kept : (g : Geometry) (w : Spot → ℕ) (v : View) (c s : ℕ) → HeldAt g w v → ClaimStep g w v c s → HeldAt g (upd w (Segment s) (c + 1)) (claim_view v c s)
+pub claim_kept : (g : Geometry) (w : Spot → ℕ) (v : View) (c s : ℕ) → HeldAt g w v → ClaimNeeds g w v c s → HeldAt g (upd w (Segment s) (c + 1)) (claim_view v c s)
 claim_kept g w v c s h a =
     record {
       fits = h.fits;
@@ -114,5 +114,5 @@ claim_kept g w v c s h a =
     zero d _ z = absurd z
 
 -- live bits, tags and targets are read by spots, and a segment word's spot is none of theirs
-pub claim_quiet : (g : Geometry) (w : Spot → ℕ) (v : View) (c s : ℕ) → HeldAt g w v → ClaimStep g w v c s → Happens g w Nothing (graph_of g w v) (graph_of g (upd w (Segment s) (c + 1)) (claim_view v c s))
+pub claim_quiet : (g : Geometry) (w : Spot → ℕ) (v : View) (c s : ℕ) → HeldAt g w v → ClaimNeeds g w v c s → Happens g w Nothing (graph_of g w v) (graph_of g (upd w (Segment s) (c + 1)) (claim_view v c s))
 claim_quiet g w v c s h a = quiet g w (upd w (Segment s) (c + 1)) v (claim_view v c s) (λ b. refl) (λ b. refl) refl refl

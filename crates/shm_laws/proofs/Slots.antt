@@ -4,7 +4,7 @@ use Rattle.std.proofs.lemmas.Bool.{true≢false, false_from_ne_true, cond-true}
 use Rattle.shm_words.specs.declared.geometry.Geometry.{Geometry}
 use Rattle.shm_words.specs.Tags.{tag_author}
 use Rattle.shm_graph.specs.declared.spot.Spot.{Spot}
-use Rattle.shm_graph.specs.declared.spot.Spot.TheVariants.{Spare, Home, Root, Tail, Front, Slot, Head, Tag, Body}
+use Rattle.shm_graph.specs.declared.spot.Spot.TheVariants.{Spare, Home, Root, Tail, QueueHead, Slot, Head, Tag, Body}
 use Rattle.shm_graph.specs.declared.memo.Op.{Op}
 use Rattle.shm_graph.specs.Spots.{same_spot, upd}
 use Rattle.shm_graph.specs.References.{words_of, refs_of}
@@ -12,9 +12,9 @@ use Rattle.shm_graph.specs.Ops.{Quiet, On, word_at, cover, cover_of, covered, ta
 use Rattle.shm_graph.specs.Blocks.{headers}
 use Rattle.shm_graph.specs.Views.{View, at1, targets}
 use Rattle.shm_graph.specs.Held.{HeldAt, LooksSound, is_home, named_by}
-use Rattle.shm_graph.proofs.Spotting.{same_spot_is}
-use Rattle.shm_graph.proofs.Holders.{Holds, InReach, apart_slots, held_live_not_zero, one_holder, one_latch, target_counted}
-use Rattle.shm_graph.proofs.Counting.{covered_alone}
+use Rattle.shm_graph.proofs.Spots.Spotting.{same_spot_is}
+use Rattle.shm_graph.proofs.States.Holders.{Holds, InReach, apart_slots, held_live_not_zero, one_holder, one_latch, target_counted}
+use Rattle.shm_graph.proofs.States.Counting.{covered_alone}
 use Rattle.shm_laws.proofs.Sum.{HasTarget, commit_target, refs_target}
 use Rattle.shm_laws.proofs.Exchange.{apart, looks_through, named_kept, reach_target}
 use Rattle.shm_laws.proofs.References.{slot_no_home, slot_no_root}
@@ -26,15 +26,15 @@ module _ (g : Geometry) (w : Spot → ℕ) (v : View) (h : HeldAt g w v) (c : �
   abbrev tail : ℕ → ℕ → ℕ
   tail = λ s r. w (Tail s r)
 
-  abbrev front : ℕ → ℕ → ℕ
-  front = λ s r. w (Front s r)
+  abbrev queue_head : ℕ → ℕ → ℕ
+  queue_head = λ s r. w (QueueHead s r)
 
   pub slot_not_spare : p ≢ Spare
   slot_not_spare z = let q : Holds w g v c Spare = subst (Holds w g v c) z mine in q
 
   -- no other step has this slot
   pub slot_alone : (d : ℕ) → d < g.clients → d ≢ c → (y : ℕ) → cover (cover_of (v.op d)) p y ≡ y
-  slot_alone d l n y = apart d (headers w) (λ i. w (Tag i)) (v.latch d) tail front (InReach w g v d) (v.op d) p (h.slots d l) (λ x. n (sym (one_holder g w v h c d p lc l mine x))) y
+  slot_alone d l n y = apart d (headers w) (λ i. w (Tag i)) (v.latch d) tail queue_head (InReach w g v d) (v.op d) p (h.slots d l) (λ x. n (sym (one_holder g w v h c d p lc l mine x))) y
 
   pub slot_target : HasTarget (words_of w).refs p
   slot_target = go p mine
@@ -73,9 +73,9 @@ module _ (g : Geometry) (w : Spot → ℕ) (v : View) (h : HeldAt g w v) (c : �
 
   -- ---- another identity
 
-  lane_apart : (d s : ℕ) → c ≢ d → front s d < tail s d → same_spot p (Slot s d (front s d % 8)) ≡ false
-  lane_apart d s m f = false_from_ne_true _ (λ z. let y : Holds w g v c (Slot s d (front s d % 8)) = subst (Holds w g v c) (same_spot_is p (Slot s d (front s d % 8)) z) mine in elim y.1 [
-    | inl u ↦ apart_slots (front s d) (tail s d) f u.2 u.1
+  lane_apart : (d s : ℕ) → c ≢ d → queue_head s d < tail s d → same_spot p (Slot s d (queue_head s d % 8)) ≡ false
+  lane_apart d s m f = false_from_ne_true _ (λ z. let y : Holds w g v c (Slot s d (queue_head s d % 8)) = subst (Holds w g v c) (same_spot_is p (Slot s d (queue_head s d % 8)) z) mine in elim y.1 [
+    | inl u ↦ apart_slots (queue_head s d) (tail s d) f u.2 u.1
     | inr u ↦ m (sym u.0)
   ])
 
@@ -83,8 +83,8 @@ module _ (g : Geometry) (w : Spot → ℕ) (v : View) (h : HeldAt g w v) (c : �
   stays y q i z x = rw z x
 
   -- what it names it still names
-  pub slot_named : (y d : ℕ) → c ≢ d → (i : ℕ) → named_by t tail front d i → named_by (upd t p y) tail front d i
-  slot_named y d m i = named_kept t (upd t p y) tail front d i (λ _ k x. stays y (Root d k) i (slot_no_root g w v h c d k p m mine) x) (λ _ x. stays y (Home d) i (slot_no_home g w v h c d p m mine) x) (λ _ s f x. stays y (Slot s d (front s d % 8)) i (lane_apart d s m f) x)
+  pub slot_named : (y d : ℕ) → c ≢ d → (i : ℕ) → named_by t tail queue_head d i → named_by (upd t p y) tail queue_head d i
+  slot_named y d m i = named_kept t (upd t p y) tail queue_head d i (λ _ k x. stays y (Root d k) i (slot_no_root g w v h c d k p m mine) x) (λ _ x. stays y (Home d) i (slot_no_home g w v h c d p m mine) x) (λ _ s f x. stays y (Slot s d (queue_head s d % 8)) i (lane_apart d s m f) x)
 
   -- a word that it looks at under a latch is none that c stores
   body_apart : (y d : ℕ) → c ≢ d → d < g.clients → (i j x : ℕ) → x ≢ 0 → v.latch d ≡ Some (tag_author (w (Tag i))) → (q : Spot) × (t q ≡ i) → t (Body i j) ≡ x → upd t p y (Body i j) ≡ x
@@ -94,7 +94,7 @@ module _ (g : Geometry) (w : Spot → ℕ) (v : View) (h : HeldAt g w v) (c : �
   ])) z
 
   -- and its looks stay
-  pub slot_looks : (y d : ℕ) → is_home p ≡ false → c ≢ d → d < g.clients → LooksSound (λ a. upd t p y (Home a)) (λ b i. upd t p y (Body b i)) (λ b. tag_author (w (Tag b))) (v.latch d) (named_by (upd t p y) tail front d) [] (v.looks d)
-  slot_looks y d not_home m l = looks_through t (upd t p y) (λ b. tag_author (w (Tag b))) (v.latch d) (named_by t tail front d) (named_by (upd t p y) tail front d)
-      (λ i x. reach_target t tail front (λ b. tag_author (w (Tag b))) (v.latch d) (v.looks d) d i (h.looks d l) (inl x)) (slot_named y d m)
+  pub slot_looks : (y d : ℕ) → is_home p ≡ false → c ≢ d → d < g.clients → LooksSound (λ a. upd t p y (Home a)) (λ b i. upd t p y (Body b i)) (λ b. tag_author (w (Tag b))) (v.latch d) (named_by (upd t p y) tail queue_head d) [] (v.looks d)
+  slot_looks y d not_home m l = looks_through t (upd t p y) (λ b. tag_author (w (Tag b))) (v.latch d) (named_by t tail queue_head d) (named_by (upd t p y) tail queue_head d)
+      (λ i x. reach_target t tail queue_head (λ b. tag_author (w (Tag b))) (v.latch d) (v.looks d) d i (h.looks d l) (inl x)) (slot_named y d m)
       (λ i x _ _ z. stays y (Home i) x (false_from_ne_true _ (λ s. true≢false (ap is_home (sym (same_spot_is p (Home i) s)) ∙ not_home))) z) (body_apart y d m l) [] (v.looks d) (λ i x. absurd (let z = x.1.1 in omega arith)) (h.looks d l)

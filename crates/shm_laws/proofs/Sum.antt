@@ -5,17 +5,17 @@ use Rattle.std.proofs.lemmas.Bool.{false_from_ne_true, cond-true}
 use Rattle.shm_graph.specs.References.{one_if, references_to, Words}
 use Rattle.shm_laws.proofs.Sums.{sum_but, sum_same}
 use Rattle.shm_graph.specs.Views.{at1}
-use Rattle.shm_graph.proofs.Frames.{at1_all}
-use Rattle.shm_graph.proofs.Lists.{at1_here, at1_other}
+use Rattle.shm_graph.proofs.Memos.Frames.{at1_all}
+use Rattle.shm_graph.proofs.Runs.Lists.{at1_here, at1_other}
 use Rattle.shm_words.specs.declared.geometry.Geometry.{Geometry}
 use Rattle.shm_graph.specs.declared.spot.Spot.{Spot}
-use Rattle.shm_graph.specs.declared.spot.Spot.TheVariants.{Spare, Status, Redo, Hold, Latch, Home, Era, Root, Tail, Front, Slot, Segment, Page, Unused, Head, Tag, Body}
+use Rattle.shm_graph.specs.declared.spot.Spot.TheVariants.{Spare, Status, Redo, Hold, Latch, Home, Era, Root, Tail, QueueHead, Slot, Segment, Page, Unused, Head, Tag, Body}
 use Rattle.shm_graph.specs.declared.memo.Op.{Op}
 use Rattle.shm_graph.specs.Spots.{same_spot, upd, spot_at, spot_address, IsAt}
 use Rattle.shm_words.specs.Layout.{total_of}
 use Rattle.shm_graph.specs.Ops.{Cover, cover, cover_of, covered, target, indegree, Quiet, On}
-use Rattle.shm_graph.proofs.Spotting.{same_spot_is, same_spot_self, alone, in_pool}
-use Rattle.shm_graph.proofs.Counting.{covered_alone}
+use Rattle.shm_graph.proofs.Spots.Spotting.{same_spot_is, same_spot_self, alone, in_pool}
+use Rattle.shm_graph.proofs.States.Counting.{covered_alone}
 
 pub covered_same : (n : ℕ) (p : Spot) (x : ℕ) (ps ps' : ℕ → Cover) → ((d : ℕ) → d < n → (y : ℕ) → cover (ps' d) p y ≡ cover (ps d) p y) → covered ps' n p x ≡ covered ps n p x
 covered_same zero p x ps ps' h = refl
@@ -63,7 +63,7 @@ refs_target n x r ps h = fun_ext go
     go (Era i j) = refl
     go (Root d l) = refl
     go (Tail s r) = refl
-    go (Front s r) = refl
+    go (QueueHead s r) = refl
     go (Slot s r i) = refl
     go (Segment g) = refl
     go (Page g p) = refl
@@ -116,16 +116,16 @@ commit_target n x ops c o p b lc quiet now has apart = fun_ext go
     go (Latch d) = rw (off (Latch d) has (λ _ z. z)) refl
     go (Era i j) = rw (off (Era i j) has (λ _ z. z)) refl
     go (Tail s r) = rw (off (Tail s r) has (λ _ z. z)) refl
-    go (Front s r) = rw (off (Front s r) has (λ _ z. z)) refl
+    go (QueueHead s r) = rw (off (QueueHead s r) has (λ _ z. z)) refl
     go (Segment s) = rw (off (Segment s) has (λ _ z. z)) refl
     go (Page s q) = rw (off (Page s q) has (λ _ z. z)) refl
     go (Unused a) = rw (off (Unused a) has (λ _ z. z)) refl
     go (Head d) = rw (off (Head d) has (λ _ z. z)) refl
     go (Tag d) = rw (off (Tag d) has (λ _ z. z)) refl
 
--- one limbo changes
-pub limbo_step : (g : Geometry) (class : ℕ → ℕ → ℕ) (t : Spot → ℕ) (l l' : ℕ → ℕ) (c b : ℕ) → c < g.clients → ((d : ℕ) → d ≢ c → l' d ≡ l d) → indegree g class t l' b + one_if (eqb (l c) b) ≡ indegree g class t l b + one_if (eqb (l' c) b)
+-- one block held over changes
+pub held_over_step : (g : Geometry) (class : ℕ → ℕ → ℕ) (t : Spot → ℕ) (l l' : ℕ → ℕ) (c b : ℕ) → c < g.clients → ((d : ℕ) → d ≢ c → l' d ≡ l d) → indegree g class t l' b + one_if (eqb (l c) b) ≡ indegree g class t l b + one_if (eqb (l' c) b)
 unfolding indegree references_to
-limbo_step g class t l l' c b lc h =
+held_over_step g class t l l' c b lc h =
     let s = sum_but g.clients c (λ d. one_if (eqb (l d) b)) (λ d. one_if (eqb (l' d) b)) lc (λ d _ n. ap (λ z. one_if (eqb z b)) (h d n)) in
     omega arith

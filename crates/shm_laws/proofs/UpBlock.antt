@@ -10,7 +10,7 @@ use Rattle.shm_words.specs.declared.redo.Redo.TheVariants as redos
 use Rattle.shm_words.specs.Headers.{header_of}
 use Rattle.shm_words.specs.Tags.{tag_author}
 use Rattle.shm_graph.specs.declared.spot.Spot.{Spot}
-use Rattle.shm_graph.specs.declared.spot.Spot.TheVariants.{Redo, Home, Era, Root, Tail, Front, Slot, Segment, Page, Head, Tag, Body}
+use Rattle.shm_graph.specs.declared.spot.Spot.TheVariants.{Redo, Home, Era, Root, Tail, QueueHead, Slot, Segment, Page, Head, Tag, Body}
 use Rattle.shm_graph.specs.declared.table.Part.{Part}
 use Rattle.shm_graph.specs.declared.memo.First.TheVariants.{Begun, Committed}
 use Rattle.shm_graph.specs.declared.memo.Op.{Op}
@@ -18,16 +18,16 @@ use Rattle.shm_graph.specs.declared.memo.Op.TheVariants.{Up}
 use Rattle.shm_graph.specs.declared.memo.Stored.{Stored}
 use Rattle.shm_graph.specs.Spots.{upd, same_spot, IsAt, spot_address}
 use Rattle.shm_graph.specs.References.{one_if, words_of}
-use Rattle.shm_graph.specs.Ops.{word_at, cover, cover_of, slot_of, indegree, limbo_of, on_of, is_op}
-use Rattle.shm_graph.specs.Views.{View, targets, ons, limbos}
+use Rattle.shm_graph.specs.Ops.{word_at, cover, cover_of, slot_of, indegree, held_over_of, on_of, is_op}
+use Rattle.shm_graph.specs.Views.{View, targets, ons, held_overs}
 use Rattle.shm_graph.specs.Blocks.{classes, headers}
 use Rattle.shm_graph.specs.Events.{graph_of, Happens, Up as UpEvent}
 use Rattle.shm_graph.specs.Tables.{contents_of, HasShape}
 use Rattle.shm_graph.specs.Held.{HeldAt, CountSound, SlotOf, reach_of, named_by, TestAt, KnownAt, LooksSound, is_slot, is_slot_to, LaneSound, IsDying, OwnSound, OpTie, OpSound, Allowed, TailSound, room_of, IsUnusedLane, PartTie, ValueAt, MadeAt, is_loose}
-use Rattle.shm_graph.proofs.Spotting.{same_spot_is, block_is_at}
-use Rattle.shm_graph.proofs.Holders.{Holds}
-use Rattle.shm_graph.proofs.Lists.{at1_here}
-use Rattle.shm_graph.proofs.Frames.{at1_all}
+use Rattle.shm_graph.proofs.Spots.Spotting.{same_spot_is, block_is_at}
+use Rattle.shm_graph.proofs.States.Holders.{Holds}
+use Rattle.shm_graph.proofs.Runs.Lists.{at1_here}
+use Rattle.shm_graph.proofs.Memos.Frames.{at1_all}
 use Rattle.shm_laws.proofs.Owns.{mine_other, small_stored, there_stored}
 use Rattle.shm_laws.proofs.Lanes.{lane_up, lane_same, other_lane, this_lane, no_self, lane_clients, lane_to}
 use Rattle.shm_laws.proofs.Keep.{live_block}
@@ -36,10 +36,10 @@ use Rattle.shm_laws.proofs.Headers.{lives as headers_live, dying_stays, blocks_s
 use Rattle.shm_laws.proofs.Slots.{slot_not_spare, slot_names, slot_committed}
 use Rattle.shm_laws.proofs.Parts.{PartKept, part_kept}
 use Rattle.shm_laws.proofs.References.{live_some, named_count, two_names, slot_no_root, part_other, values_kept, made_kept, made_own, queued_kept}
-use Rattle.shm_laws.specs.Steps.{UpStep, up_view, unsent_after}
+use Rattle.shm_laws.specs.Steps.{UpNeeds, up_view, unsent_after}
 use Rattle.shm_graph.specs.Stores.{not_block}
 
-module _ (g : Geometry) (w : Spot → ℕ) (v : View) (c b e to : ℕ) (p : Spot) (part : Part) (h : HeldAt g w v) (a : UpStep g w v c b e to p part) where
+module _ (g : Geometry) (w : Spot → ℕ) (v : View) (c b e to : ℕ) (p : Spot) (part : Part) (h : HeldAt g w v) (a : UpNeeds g w v c b e to p part) where
   new_live : (header_of to).live ≡ true
   new_live = ap (λ (x : Header). x.live) a.new
 
@@ -63,8 +63,8 @@ module _ (g : Geometry) (w : Spot → ℕ) (v : View) (c b e to : ℕ) (p : Spot
   path : targets g (upd w (Head b) to) (up_view v c b e p part) ≡ upd (targets g w v) p b
   path = slot_committed g w v h c p a.inside mine_at b to b (Up Committed p b e) (ap cover_of a.op) refl (refs_stay g w v h b to live counted new_live)
 
-  limbo : limbos (up_view v c b e p part) ≡ limbos v
-  limbo = fun_ext (λ d. at1_all (λ (i : ℕ) (x : Op). limbo_of x ≡ limbo_of (v.op i)) v.op c (Up Committed p b e) d (sym (ap limbo_of a.op)) (λ _. refl))
+  held_over : held_overs (up_view v c b e p part) ≡ held_overs v
+  held_over = fun_ext (λ d. at1_all (λ (i : ℕ) (x : Op). held_over_of x ≡ held_over_of (v.op i)) v.op c (Up Committed p b e) d (sym (ap held_over_of a.op)) (λ _. refl))
 
   pub up_kept : HeldAt g (upd w (Head b) to) (up_view v c b e p part)
   up_kept =
@@ -92,19 +92,19 @@ module _ (g : Geometry) (w : Spot → ℕ) (v : View) (c b e to : ℕ) (p : Spot
             (λ n. h.op d);
         redo = h.redo;
         allowed = λ d. at1_all (λ (i : ℕ) (x : Op). i < g.clients → Allowed i x) v.op c o d (λ l. not_to) (λ n. h.allowed d);
-        count = subst (λ (t : Spot → ℕ). CountSound g class (λ i. header_of (word' i)) t (limbos v')) (sym path)
-            (subst (λ (l : ℕ → ℕ). CountSound g class (λ i. header_of (word' i)) t' l) (sym limbo)
-            (count_exchange g class word t (limbos v) p b to b op_sound.at (slot_not_spare g w v h c p a.inside mine_at) live_not_zero new_live balance others (λ _. refl) h.count));
-        slots = subst (λ (t : Spot → ℕ). (d : ℕ) → d < g.clients → is_op (v'.op d) ≡ true → SlotOf d (λ i. header_of (word' i)) tags (v.latch d) tail front (reach_of t tail front v.looks d) (slot_of (v'.op d))) (sym path)
-            (λ d. at1_all (λ (i : ℕ) (x : Op). i < g.clients → is_op x ≡ true → SlotOf i (λ j. header_of (word' j)) tags (v.latch i) tail front (reach_of t' tail front v.looks i) (slot_of x)) v.op c o d
+        count = subst (λ (t : Spot → ℕ). CountSound g class (λ i. header_of (word' i)) t (held_overs v')) (sym path)
+            (subst (λ (l : ℕ → ℕ). CountSound g class (λ i. header_of (word' i)) t' l) (sym held_over)
+            (count_exchange g class word t (held_overs v) p b to b op_sound.at (slot_not_spare g w v h c p a.inside mine_at) live_not_zero new_live balance others (λ _. refl) h.count));
+        slots = subst (λ (t : Spot → ℕ). (d : ℕ) → d < g.clients → is_op (v'.op d) ≡ true → SlotOf d (λ i. header_of (word' i)) tags (v.latch d) tail queue_head (reach_of t tail queue_head v.looks d) (slot_of (v'.op d))) (sym path)
+            (λ d. at1_all (λ (i : ℕ) (x : Op). i < g.clients → is_op x ≡ true → SlotOf i (λ j. header_of (word' j)) tags (v.latch i) tail queue_head (reach_of t' tail queue_head v.looks i) (slot_of x)) v.op c o d
             (λ l _. slots c p mine_at)
             (λ n l is. slots d (slot_of (v.op d)) (h.slots d l is)));
-        looks = subst (λ (t : Spot → ℕ). (d : ℕ) → d < g.clients → LooksSound (λ a. t (Home a)) (λ b i. t (Body b i)) (λ b. tag_author (w (Tag b))) (v.latch d) (named_by t tail front d) [] (v.looks d)) (sym path)
-            (λ d l. looks_kept (λ a. t (Home a)) (λ a. t' (Home a)) (λ b i. t (Body b i)) (λ b i. t' (Body b i)) (λ b. tag_author (w (Tag b))) (v.latch d) (named_by t tail front d) (named_by t' tail front d) (λ i x n q. kept (Home i) x n q) (λ i j x n q. kept (Body i j) x n q) (named d) [] (v.looks d) (h.looks d l));
-        lanes = subst (λ (t : Spot → ℕ). (i j : ℕ) → i < g.clients → j < g.clients → i ≢ j → LaneSound (λ k. t (Slot i j k)) (tail i j) (front i j) (v.sent i j) (unsent_after p b v.unsent i j) (v.received j i) (v.untaken j i)) (sym path) (λ i j li lj n. lane p mine_at not_to held_at i j n (h.lanes i j li lj n));
-        known = subst (λ (t : Spot → ℕ). (d : ℕ) → d < g.clients → All (λ (s : Stored). KnownAt d tags bodies slot tail front (v.untaken d) (v.latch d) (reach_of t tail front v.looks d) (v.dying d) s.spot s.value) (v.known d)) (sym path)
-            (λ d l. All-weaker _ _ (λ (s : Stored). known_kept d tags bodies slot tail front (v.untaken d) (v.latch d) (reach_of t tail front v.looks d) (reach_of t' tail front v.looks d) (v.dying d) (v.dying d) s.spot s.value (reach d) (λ _ x. x)) (v.known d) (h.known d l));
-        facts = λ d l. All-weaker _ _ (facts_committed g.clients eras tail front class v.op c b o refl) (v.facts d) (h.facts d l);
+        looks = subst (λ (t : Spot → ℕ). (d : ℕ) → d < g.clients → LooksSound (λ a. t (Home a)) (λ b i. t (Body b i)) (λ b. tag_author (w (Tag b))) (v.latch d) (named_by t tail queue_head d) [] (v.looks d)) (sym path)
+            (λ d l. looks_kept (λ a. t (Home a)) (λ a. t' (Home a)) (λ b i. t (Body b i)) (λ b i. t' (Body b i)) (λ b. tag_author (w (Tag b))) (v.latch d) (named_by t tail queue_head d) (named_by t' tail queue_head d) (λ i x n q. kept (Home i) x n q) (λ i j x n q. kept (Body i j) x n q) (named d) [] (v.looks d) (h.looks d l));
+        lanes = subst (λ (t : Spot → ℕ). (i j : ℕ) → i < g.clients → j < g.clients → i ≢ j → LaneSound (λ k. t (Slot i j k)) (tail i j) (queue_head i j) (v.sent i j) (unsent_after p b v.unsent i j) (v.received j i) (v.untaken j i)) (sym path) (λ i j li lj n. lane p mine_at not_to held_at i j n (h.lanes i j li lj n));
+        known = subst (λ (t : Spot → ℕ). (d : ℕ) → d < g.clients → All (λ (s : Stored). KnownAt d tags bodies slot tail queue_head (v.untaken d) (v.latch d) (reach_of t tail queue_head v.looks d) (v.dying d) s.spot s.value) (v.known d)) (sym path)
+            (λ d l. All-weaker _ _ (λ (s : Stored). known_kept d tags bodies slot tail queue_head (v.untaken d) (v.latch d) (reach_of t tail queue_head v.looks d) (reach_of t' tail queue_head v.looks d) (v.dying d) (v.dying d) s.spot s.value (reach d) (λ _ x. x)) (v.known d) (h.known d l));
+        facts = λ d l. All-weaker _ _ (facts_committed g.clients eras tail queue_head class v.op c b o refl) (v.facts d) (h.facts d l);
         zeros = λ d l. All-weaker _ _ (zero_stays g w v h b to live counted new_live d) (v.zeros d) (h.zeros d l);
         test = λ d l. elim (cases_eq c d) [
           | inl x ↦ subst (λ i. TestAt g.clients eras (ons v' i) i (v'.test i)) x (rw (eq-eqb c c refl) tt)
@@ -118,7 +118,7 @@ module _ (g : Geometry) (w : Spot → ℕ) (v : View) (c b e to : ℕ) (p : Spot
           | inl x ↦ absurd (a.here (ap v.status x ∙ st))
           | inr n ↦ rw (ne_eqb c d n) (let q = h.gone d l st in record { roots = q.roots; hold = q.hold; idle = q.idle; latched = q.latched; segments = q.segments; dyings = q.dyings; sends = λ r. unsent d n p mine_at not_to r ∙ q.sends r; takes = q.takes })
         ];
-        self_lanes = subst (λ (t : Spot → ℕ). (d : ℕ) → d < g.clients → IsUnusedLane (tail d d) (front d d) (λ k. t (Slot d d k))) (sym path) (λ d l. let q = h.self_lanes d l in (q.0, q.1, λ k. self_slot p mine_at d k ∙ q.2 k));
+        self_lanes = subst (λ (t : Spot → ℕ). (d : ℕ) → d < g.clients → IsUnusedLane (tail d d) (queue_head d d) (λ k. t (Slot d d k))) (sym path) (λ d l. let q = h.self_lanes d l in (q.0, q.1, λ k. self_slot p mine_at d k ∙ q.2 k));
         no_queue = λ d l r y. let q = h.no_queue d l r y in (none_unsent p mine_at op_sound.at d r y q.0, q.1);
         tails = λ d r l lr. elim (cases_eq c d) [
           | inl x ↦ subst (λ i. TailSound i r (eras i i) (tail i r) (unsent_after p b v.unsent i r) (v'.op i)) x (subst (TailSound c r (eras c c) (tail c r) (unsent_after p b v.unsent c r)) (sym (at1_here v.op c o)) (tail_own p mine_at not_to r (subst (TailSound c r (eras c c) (tail c r) (v.unsent c r)) a.op (h.tails c r a.inside lr))))
@@ -131,8 +131,8 @@ module _ (g : Geometry) (w : Spot → ℕ) (v : View) (c b e to : ℕ) (p : Spot
             (λ m l. part_other g w v h c d b p heads' m l mine_at (λ i _. lives i)));
         queued = subst (λ (t : Spot → ℕ). (d : ℕ) → d < g.clients → is_loose (v'.part d) ≡ false → (s r k : ℕ) → t (Slot s r k) ≢ 0 → HasShape (contents_of w' t) 0 1 (t (Slot s r k))) (sym path)
             (λ d l f. queued_kept g w v h d heads' (λ i j. t' (Body i j)) bodies t' l (λ i _. lives i) (λ s r k _. in_queue s r k (h.parts c d a.inside l ∙ (sym (loose d) ∙ f)) (cases_Bool (same_spot p (Slot s r k)))) (sym (loose d) ∙ f));
-        values = subst (λ (t : Spot → ℕ). (d : ℕ) → d < g.clients → All (ValueAt (contents_of w' t) (reach_of t tail front v.looks d)) (v.values d)) (sym path)
-            (λ d l. values_kept g w v h d heads' (λ i j. t' (Body i j)) bodies (reach_of t' tail front v.looks d) l (λ i _. lives i) (reach d));
+        values = subst (λ (t : Spot → ℕ). (d : ℕ) → d < g.clients → All (ValueAt (contents_of w' t) (reach_of t tail queue_head v.looks d)) (v.values d)) (sym path)
+            (λ d l. values_kept g w v h d heads' (λ i j. t' (Body i j)) bodies (reach_of t' tail queue_head v.looks d) l (λ i _. lives i) (reach d));
         made = subst (λ (t : Spot → ℕ). (d : ℕ) → d < g.clients → All (MadeAt heads' (λ k. t (Root d k))) (v'.made d)) (sym path)
             (λ d. at1_all (λ (i : ℕ) (y : List ℕ). i < g.clients → All (MadeAt heads' (λ k. t' (Root i k))) y) v.made c (filter (not_block b) (v.made c)) d
             (λ lc. made_own g w v h c b to b p (not_block b) lc (λ y f. (differ b y f, λ n z. n (sym z ∙ held_at))))
@@ -175,8 +175,8 @@ module _ (g : Geometry) (w : Spot → ℕ) (v : View) (c b e to : ℕ) (p : Spot
       tail : ℕ → ℕ → ℕ
       tail = λ i j. w (Tail i j)
 
-      front : ℕ → ℕ → ℕ
-      front = λ i j. w (Front i j)
+      queue_head : ℕ → ℕ → ℕ
+      queue_head = λ i j. w (QueueHead i j)
 
       eras : ℕ → ℕ → ℕ
       eras = λ i j. w (Era i j)
@@ -205,7 +205,7 @@ module _ (g : Geometry) (w : Spot → ℕ) (v : View) (c b e to : ℕ) (p : Spot
       live_not_zero : (i : ℕ) → (header_of (word i)).live ≡ true → i ≢ 0
       live_not_zero i l = live_some g w v h i l
 
-      balance : (header_of to).count + one_if (eqb (t p) b) ≡ indegree g class t (limbos v) b + one_if (eqb b b)
+      balance : (header_of to).count + one_if (eqb (t p) b) ≡ indegree g class t (held_overs v) b + one_if (eqb b b)
       balance =
           let x : one_if (eqb (t p) b) ≡ 0 = ap one_if (ne_eqb _ b (λ z. a.some (sym z ∙ held_at))) in
           let y : one_if (eqb b b) ≡ 1 = ap one_if (eq-eqb b b refl) in
@@ -223,15 +223,15 @@ module _ (g : Geometry) (w : Spot → ℕ) (v : View) (c b e to : ℕ) (p : Spot
           both true z = absurd (n (sym x ∙ (ap t (sym (same_spot_is p q z)) ∙ held_at)))
           both false z = x
 
-      named : (d i : ℕ) → named_by t tail front d i → named_by t' tail front d i
-      named d i = named_kept t t' tail front d i (λ n l x. kept (Root d l) i n x) (λ n x. kept (Home d) i n x) (λ n s _ x. kept (Slot s d (front s d % 8)) i n x)
+      named : (d i : ℕ) → named_by t tail queue_head d i → named_by t' tail queue_head d i
+      named d i = named_kept t t' tail queue_head d i (λ n l x. kept (Root d l) i n x) (λ n x. kept (Home d) i n x) (λ n s _ x. kept (Slot s d (queue_head s d % 8)) i n x)
 
-      reach : (d i : ℕ) → reach_of t tail front v.looks d i → reach_of t' tail front v.looks d i
+      reach : (d i : ℕ) → reach_of t tail queue_head v.looks d i → reach_of t' tail queue_head v.looks d i
       reach d i (inl x) = inl (named d i x)
       reach d i (inr x) = inr x
 
-      slots : (d : ℕ) (q : Spot) → Holds w g v d q → SlotOf d (λ i. header_of (word' i)) tags (v.latch d) tail front (reach_of t' tail front v.looks d) q
-      slots d q = slot_kept d (λ i. header_of (word i)) (λ i. header_of (word' i)) tags (v.latch d) tail front (reach_of t tail front v.looks d) (reach_of t' tail front v.looks d) q (λ i z. inl (lives i z)) (dying_kept d) (reach d)
+      slots : (d : ℕ) (q : Spot) → Holds w g v d q → SlotOf d (λ i. header_of (word' i)) tags (v.latch d) tail queue_head (reach_of t' tail queue_head v.looks d) q
+      slots d q = slot_kept d (λ i. header_of (word i)) (λ i. header_of (word' i)) tags (v.latch d) tail queue_head (reach_of t tail queue_head v.looks d) (reach_of t' tail queue_head v.looks d) q (λ i z. inl (lives i z)) (dying_kept d) (reach d)
 
       -- a queue from an identity to itself has no slot of a step
       self_slot : (q : Spot) → Holds w g v c q → (d k : ℕ) → upd t q b (Slot d d k) ≡ t (Slot d d k)
@@ -284,22 +284,22 @@ module _ (g : Geometry) (w : Spot → ℕ) (v : View) (c b e to : ℕ) (p : Spot
       none_unsent (Body _ _) x at d r y z = z
       none_unsent _ x at d r y z = absurd x
 
-      lane : (q : Spot) → Holds w g v c q → is_slot_to c q ≡ false → t q ≡ 0 → (i j : ℕ) → i ≢ j → LaneSound (λ k. t (Slot i j k)) (tail i j) (front i j) (v.sent i j) (v.unsent i j) (v.received j i) (v.untaken j i) → LaneSound (λ k. upd t q b (Slot i j k)) (tail i j) (front i j) (v.sent i j) (unsent_after q b v.unsent i j) (v.received j i) (v.untaken j i)
+      lane : (q : Spot) → Holds w g v c q → is_slot_to c q ≡ false → t q ≡ 0 → (i j : ℕ) → i ≢ j → LaneSound (λ k. t (Slot i j k)) (tail i j) (queue_head i j) (v.sent i j) (v.unsent i j) (v.received j i) (v.untaken j i) → LaneSound (λ k. upd t q b (Slot i j k)) (tail i j) (queue_head i j) (v.sent i j) (unsent_after q b v.unsent i j) (v.received j i) (v.untaken j i)
       lane (Root _ _) x y z i j n l = l
       lane (Home _) x y z i j n l = l
       lane (Body _ _) x y z i j n l = l
       lane (Slot s r k) x y z i j n l = elim (cases_Bool (eqb s i && eqb r j)) [
-        | inr f ↦ rw f (lane_same (λ m. t (Slot i j m)) (λ m. upd t (Slot s r k) b (Slot i j m)) (tail i j) (front i j) (v.sent i j) (v.unsent i j) (v.received j i) (v.untaken j i) (λ m. let q = other_lane s r k i j m f in rw q refl) l)
-        | inl f ↦ rw f (lane_up (λ m. t (Slot i j m)) (λ m. upd t (Slot s r k) b (Slot i j m)) (tail i j) (front i j) (v.sent i j) (v.unsent i j) b (v.received j i) (v.untaken j i)
+        | inr f ↦ rw f (lane_same (λ m. t (Slot i j m)) (λ m. upd t (Slot s r k) b (Slot i j m)) (tail i j) (queue_head i j) (v.sent i j) (v.unsent i j) (v.received j i) (v.untaken j i) (λ m. let q = other_lane s r k i j m f in rw q refl) l)
+        | inl f ↦ rw f (lane_up (λ m. t (Slot i j m)) (λ m. upd t (Slot s r k) b (Slot i j m)) (tail i j) (queue_head i j) (v.sent i j) (v.unsent i j) b (v.received j i) (v.untaken j i)
             (at_tail i j f).1
             (λ m ne. let q : same_spot (Slot s r k) (Slot i j m) ≡ false = this_lane s r k i j m f ∙ ne_eqb k m (λ u. ne (sym u ∙ (at_tail i j f).0)) in rw q refl)
             (let q : same_spot (Slot s r k) (Slot i j (tail i j % 8)) ≡ true = this_lane s r k i j (tail i j % 8) f ∙ eq-eqb k (tail i j % 8) (at_tail i j f).0 in rw q refl) l)
       ]
         where
-          at_tail : (i j : ℕ) → (eqb s i && eqb r j) ≡ true → (k ≡ tail i j % 8) × (tail i j < front i j + 8)
+          at_tail : (i j : ℕ) → (eqb s i && eqb r j) ≡ true → (k ≡ tail i j % 8) × (tail i j < queue_head i j + 8)
           at_tail i j f = elim x.1 [
             | inl u ↦ (let q = and_parts (eqb s i) (eqb r j) f in let d = eqb-true s i q.0 in let o = eqb-true r j q.1 in
-                subst (λ a. (k ≡ tail a j % 8) × (tail a j < front a j + 8)) d (subst (λ a. (k ≡ tail s a % 8) × (tail s a < front s a + 8)) o (u.1, u.2)))
+                subst (λ a. (k ≡ tail a j % 8) × (tail a j < queue_head a j + 8)) d (subst (λ a. (k ≡ tail s a % 8) × (tail s a < queue_head s a + 8)) o (u.1, u.2)))
             | inr u ↦ absurd (true≢false (sym (eq-eqb r c u.0) ∙ y))
           ]
       lane _ x y z i j n l = absurd x
@@ -314,11 +314,11 @@ module _ (g : Geometry) (w : Spot → ℕ) (v : View) (c b e to : ℕ) (p : Spot
         | inl f ↦ (k.0, λ _ n. absurd (n (here (and_parts (eqb s c) (eqb i r) f) x.1)))
       ]
         where
-          here : (eqb s c ≡ true) × (eqb i r ≡ true) → ((s ≡ c) × (j ≡ tail s i % 8) × (tail s i < front s i + 8)) ⊎ ((i ≡ c) × (j ≡ front s i % 8) × (front s i < tail s i)) → Slot s i j ≡ Slot c r (tail c r % 8)
+          here : (eqb s c ≡ true) × (eqb i r ≡ true) → ((s ≡ c) × (j ≡ tail s i % 8) × (tail s i < queue_head s i + 8)) ⊎ ((i ≡ c) × (j ≡ queue_head s i % 8) × (queue_head s i < tail s i)) → Slot s i j ≡ Slot c r (tail c r % 8)
           here q (inl u) = let m : i ≡ r = eqb-true i r q.1 in ap (λ z. Slot z i j) u.0 ∙ (ap (λ z. Slot c z j) m ∙ ap (Slot c r) (u.1 ∙ (ap (λ z. tail z i % 8) u.0 ∙ ap (λ z. tail c z % 8) m)))
           here q (inr u) = absurd (true≢false (sym (eq-eqb i c u.0) ∙ y))
       tail_own _ x y r k = absurd x
 
   -- and it is one event: the empty slot names the block
   pub up_event : Happens g w (UpEvent c p b) (graph_of g w v) (graph_of g (upd w (Head b) to) (up_view v c b e p part))
-  up_event = (held_at, (live, counted), graph_stays g w v h b to live counted new_live (up_view v c b e p part) p b path limbo)
+  up_event = (held_at, (live, counted), graph_stays g w v h b to live counted new_live (up_view v c b e p part) p b path held_over)

@@ -1,24 +1,24 @@
--- the store of a committed step into its slot, also where it was stored before: targets, limbos and what is committed stay
+-- the store of a committed step into its slot, also where it was stored before: targets, blocks held over and what is committed stay
 use Rattle.std.proofs.Math.Path.{fun_ext}
 use Rattle.std.proofs.Common.{◌≡◌, ◌≢◌, ℕ, ◌+◌, ◌^◌, ◌<◌, ◌≤◌, refl, sym, ap, ◌∙◌, true, false, Bool, cond, ltb, subst}
 use Rattle.std.proofs.lemmas.Bool.{false_from_ne_true, cond-true}
 use Rattle.shm_words.specs.declared.geometry.Geometry.{Geometry}
 use Rattle.shm_graph.specs.declared.spot.Spot.{Spot}
-use Rattle.shm_graph.specs.declared.spot.Spot.TheVariants.{Spare, Status, Redo, Hold, Latch, Home, Era, Root, Tail, Front, Slot, Segment, Page, Unused, Head, Tag, Body}
+use Rattle.shm_graph.specs.declared.spot.Spot.TheVariants.{Spare, Status, Redo, Hold, Latch, Home, Era, Root, Tail, QueueHead, Slot, Segment, Page, Unused, Head, Tag, Body}
 use Rattle.shm_graph.specs.declared.memo.First.{First}
 use Rattle.shm_graph.specs.declared.memo.First.TheVariants.{Begun, Committed, Written}
-use Rattle.shm_graph.specs.declared.memo.Half.TheVariants.{Raising, Lowering}
+use Rattle.shm_graph.specs.declared.memo.ChangeStage.TheVariants.{Raising, Lowering}
 use Rattle.shm_graph.specs.declared.memo.Op.{Op}
 use Rattle.shm_graph.specs.declared.memo.Op.TheVariants.{Nothing, Alloc, Up, Down, Change}
 use Rattle.shm_graph.specs.Spots.{same_spot, upd, IsAt}
 use Rattle.shm_graph.specs.References.{Words, words_of}
-use Rattle.shm_graph.specs.Ops.{On, word_at, cover, cover_of, covered, target, slot_of, up_slot, limbo_of, on_of, is_op}
-use Rattle.shm_graph.specs.Views.{View, at1, targets, limbos, ons}
+use Rattle.shm_graph.specs.Ops.{On, word_at, cover, cover_of, covered, target, slot_of, up_slot, held_over_of, on_of, is_op}
+use Rattle.shm_graph.specs.Views.{View, at1, targets, held_overs, ons}
 use Rattle.shm_graph.specs.Held.{HeldAt, OpTie, OwnSound, TailSound, Allowed, room_of}
-use Rattle.shm_graph.proofs.Spotting.{same_spot_is, same_spot_self}
-use Rattle.shm_graph.proofs.Holders.{Holds, one_holder}
-use Rattle.shm_graph.proofs.Frames.{at1_all}
-use Rattle.shm_graph.proofs.Counting.{covered_alone, op_at}
+use Rattle.shm_graph.proofs.Spots.Spotting.{same_spot_is, same_spot_self}
+use Rattle.shm_graph.proofs.States.Holders.{Holds, one_holder}
+use Rattle.shm_graph.proofs.Memos.Frames.{at1_all}
+use Rattle.shm_graph.proofs.States.Counting.{covered_alone, op_at}
 use Rattle.shm_laws.proofs.Slots.{slot_alone}
 use Rattle.shm_laws.specs.Steps.{Writes, WritesFrom}
 
@@ -30,19 +30,19 @@ pub record Same (o o' : Op) (x : ℕ) : Type 0 where
   pub up : up_slot o' ≡ up_slot o
   pub before : cover_of o ≡ On (slot_of o) x
   pub after : cover_of o' ≡ On (slot_of o) x
-  pub limbo : limbo_of o' ≡ limbo_of o
+  pub held_over : held_over_of o' ≡ held_over_of o
   pub on : on_of o' ≡ on_of o
   pub room : room_of o' ≡ room_of o
 
 pub written : (o o' : Op) (x : ℕ) → Writes o o' x → Same o o' x
-written (Alloc Committed p b e) o' x (y, z) = record { was = refl; is = subst (λ k. is_op k ≡ true) (sym y) refl; slot = ap slot_of y; up = ap up_slot y; before = ap (On p) (sym z); after = ap cover_of y ∙ ap (On p) (sym z); limbo = ap limbo_of y; on = ap on_of y; room = ap room_of y }
-written (Alloc Written p b e) o' x (y, z) = record { was = refl; is = subst (λ k. is_op k ≡ true) (sym y) refl; slot = ap slot_of y; up = ap up_slot y; before = ap (On p) (sym z); after = ap cover_of y ∙ ap (On p) (sym z); limbo = ap limbo_of y; on = ap on_of y; room = ap room_of y }
-written (Up Committed p b e) o' x (y, z) = record { was = refl; is = subst (λ k. is_op k ≡ true) (sym y) refl; slot = ap slot_of y; up = ap up_slot y; before = ap (On p) (sym z); after = ap cover_of y ∙ ap (On p) (sym z); limbo = ap limbo_of y; on = ap on_of y; room = ap room_of y }
-written (Up Written p b e) o' x (y, z) = record { was = refl; is = subst (λ k. is_op k ≡ true) (sym y) refl; slot = ap slot_of y; up = ap up_slot y; before = ap (On p) (sym z); after = ap cover_of y ∙ ap (On p) (sym z); limbo = ap limbo_of y; on = ap on_of y; room = ap room_of y }
-written (Down Committed p b e) o' x (y, z) = record { was = refl; is = subst (λ k. is_op k ≡ true) (sym y) refl; slot = ap slot_of y; up = ap up_slot y; before = ap (On p) (sym z); after = ap cover_of y ∙ ap (On p) (sym z); limbo = ap limbo_of y; on = ap on_of y; room = ap room_of y }
-written (Down Written p b e) o' x (y, z) = record { was = refl; is = subst (λ k. is_op k ≡ true) (sym y) refl; slot = ap slot_of y; up = ap up_slot y; before = ap (On p) (sym z); after = ap cover_of y ∙ ap (On p) (sym z); limbo = ap limbo_of y; on = ap on_of y; room = ap room_of y }
-written (Change (Raising Committed) p a b e) o' x (y, z) = record { was = refl; is = subst (λ k. is_op k ≡ true) (sym y) refl; slot = ap slot_of y; up = ap up_slot y; before = ap (On p) (sym z); after = ap cover_of y ∙ ap (On p) (sym z); limbo = ap limbo_of y; on = ap on_of y; room = ap room_of y }
-written (Change (Raising Written) p a b e) o' x (y, z) = record { was = refl; is = subst (λ k. is_op k ≡ true) (sym y) refl; slot = ap slot_of y; up = ap up_slot y; before = ap (On p) (sym z); after = ap cover_of y ∙ ap (On p) (sym z); limbo = ap limbo_of y; on = ap on_of y; room = ap room_of y }
+written (Alloc Committed p b e) o' x (y, z) = record { was = refl; is = subst (λ k. is_op k ≡ true) (sym y) refl; slot = ap slot_of y; up = ap up_slot y; before = ap (On p) (sym z); after = ap cover_of y ∙ ap (On p) (sym z); held_over = ap held_over_of y; on = ap on_of y; room = ap room_of y }
+written (Alloc Written p b e) o' x (y, z) = record { was = refl; is = subst (λ k. is_op k ≡ true) (sym y) refl; slot = ap slot_of y; up = ap up_slot y; before = ap (On p) (sym z); after = ap cover_of y ∙ ap (On p) (sym z); held_over = ap held_over_of y; on = ap on_of y; room = ap room_of y }
+written (Up Committed p b e) o' x (y, z) = record { was = refl; is = subst (λ k. is_op k ≡ true) (sym y) refl; slot = ap slot_of y; up = ap up_slot y; before = ap (On p) (sym z); after = ap cover_of y ∙ ap (On p) (sym z); held_over = ap held_over_of y; on = ap on_of y; room = ap room_of y }
+written (Up Written p b e) o' x (y, z) = record { was = refl; is = subst (λ k. is_op k ≡ true) (sym y) refl; slot = ap slot_of y; up = ap up_slot y; before = ap (On p) (sym z); after = ap cover_of y ∙ ap (On p) (sym z); held_over = ap held_over_of y; on = ap on_of y; room = ap room_of y }
+written (Down Committed p b e) o' x (y, z) = record { was = refl; is = subst (λ k. is_op k ≡ true) (sym y) refl; slot = ap slot_of y; up = ap up_slot y; before = ap (On p) (sym z); after = ap cover_of y ∙ ap (On p) (sym z); held_over = ap held_over_of y; on = ap on_of y; room = ap room_of y }
+written (Down Written p b e) o' x (y, z) = record { was = refl; is = subst (λ k. is_op k ≡ true) (sym y) refl; slot = ap slot_of y; up = ap up_slot y; before = ap (On p) (sym z); after = ap cover_of y ∙ ap (On p) (sym z); held_over = ap held_over_of y; on = ap on_of y; room = ap room_of y }
+written (Change (Raising Committed) p a b e) o' x (y, z) = record { was = refl; is = subst (λ k. is_op k ≡ true) (sym y) refl; slot = ap slot_of y; up = ap up_slot y; before = ap (On p) (sym z); after = ap cover_of y ∙ ap (On p) (sym z); held_over = ap held_over_of y; on = ap on_of y; room = ap room_of y }
+written (Change (Raising Written) p a b e) o' x (y, z) = record { was = refl; is = subst (λ k. is_op k ≡ true) (sym y) refl; slot = ap slot_of y; up = ap up_slot y; before = ap (On p) (sym z); after = ap cover_of y ∙ ap (On p) (sym z); held_over = ap held_over_of y; on = ap on_of y; room = ap room_of y }
 written (Change (Raising Begun) p a b e) o' x y = absurd y
 written (Change (Lowering s) p a b e) o' x y = absurd y
 written (Alloc Begun p b e) o' x y = absurd y
@@ -92,7 +92,7 @@ word_of w p x (Hold d) y = refl
 word_of w p x (Latch d) y = refl
 word_of w p x (Era d l) y = refl
 word_of w p x (Tail s r) y = refl
-word_of w p x (Front s r) y = refl
+word_of w p x (QueueHead s r) y = refl
 word_of w p x (Segment s) y = refl
 word_of w p x (Page s q) y = refl
 word_of w p x (Unused s) y = refl
@@ -117,8 +117,8 @@ module _ (g : Geometry) (w : Spot → ℕ) (v : View) (h : HeldAt g w v) (c x : 
   pub on_same : (λ d. on_of (at1 v.op c o d)) ≡ ons v
   on_same = fun_ext (λ d. at1_all (λ (j : ℕ) (k : Op). on_of k ≡ on_of (v.op j)) v.op c o d same.on (λ _. refl))
 
-  pub limbo_same : (λ d. limbo_of (at1 v.op c o d)) ≡ limbos v
-  limbo_same = fun_ext (λ d. at1_all (λ (j : ℕ) (k : Op). limbo_of k ≡ limbo_of (v.op j)) v.op c o d same.limbo (λ _. refl))
+  pub held_over_same : (λ d. held_over_of (at1 v.op c o d)) ≡ held_overs v
+  held_over_same = fun_ext (λ d. at1_all (λ (j : ℕ) (k : Op). held_over_of k ≡ held_over_of (v.op j)) v.op c o d same.held_over (λ _. refl))
 
   pub own_same : (d : ℕ) → d < g.clients → OwnSound (w (Era d d)) (at1 v.op c o d)
   own_same d = at1_all (λ (j : ℕ) (k : Op). j < g.clients → OwnSound (w (Era j j)) k) v.op c o d (λ l. let q = h.own c l in record { some = q.some; room = subst (λ k. w (Era c c) + k ≤ 2 ^ 47) (sym same.room) q.room }) (λ n. h.own d)
@@ -163,7 +163,7 @@ module _ (g : Geometry) (w : Spot → ℕ) (v : View) (h : HeldAt g w v) (c x : 
       go (Latch d) = refl
       go (Era d l) = refl
       go (Tail s r) = refl
-      go (Front s r) = refl
+      go (QueueHead s r) = refl
       go (Segment s) = refl
       go (Page s q) = refl
       go (Unused s) = refl

@@ -12,7 +12,7 @@ use Rattle.shm_graph.specs.Views.{View, at1}
 -- ---- the store of the own hold word, where no latch is held
 
 -- x is 0, or one more than the identity whose latch is to be taken
-pub record HoldStep (g : Geometry) (w : Spot → ℕ) (v : View) (c x : ℕ) : Type 0 where
+pub record HoldNeeds (g : Geometry) (w : Spot → ℕ) (v : View) (c x : ℕ) : Type 0 where
   pub inside : c < g.clients
   pub acts : v.status c ≢ status.New
   pub here : v.status c ≢ status.Gone
@@ -30,7 +30,7 @@ hold_view v c x =
 -- ---- the exchange by which a segment that nobody owns becomes the identity's
 
 -- pages of the segment may have classes and live blocks, so nothing is known of them
-pub record ClaimStep (g : Geometry) (w : Spot → ℕ) (v : View) (c s : ℕ) : Type 0 where
+pub record ClaimNeeds (g : Geometry) (w : Spot → ℕ) (v : View) (c s : ℕ) : Type 0 where
   pub inside : c < g.clients
   pub acts : v.status c ≢ status.New
   pub here : v.status c ≢ status.Gone
@@ -47,7 +47,7 @@ claim_view v c s =
 -- ---- the store that gives an own segment up
 
 -- no block is prepared, which could stand in the segment
-pub record SegmentBackStep (g : Geometry) (v : View) (c s : ℕ) : Type 0 where
+pub record SegmentBackNeeds (g : Geometry) (v : View) (c s : ℕ) : Type 0 where
   pub inside : c < g.clients
   pub acts : v.status c ≢ status.New
   pub here : v.status c ≢ status.Gone

@@ -26,7 +26,7 @@ IsMaking b None = Unit {0}
 IsMaking b (Some m) = m.block ≡ b
 
 -- c, which isn't new or gone, stores a word of a free block in a segment of its own; it prepares no other block
-pub record PrepareStep (g : Geometry) (w : Spot → ℕ) (v : View) (c b k : ℕ) (p : Spot) (x : ℕ) : Type 0 where
+pub record PrepareNeeds (g : Geometry) (w : Spot → ℕ) (v : View) (c b k : ℕ) (p : Spot) (x : ℕ) : Type 0 where
   pub inside : c < g.clients
   pub acts : v.status c ≢ status.New
   pub here : v.status c ≢ status.Gone
@@ -55,7 +55,7 @@ prepare_view v c b k p x =
 -- ---- the store of the link of a dying block
 
 -- c, which isn't new or gone, stores the tag of a dying block of its own with another link
-pub record LinkStep (g : Geometry) (w : Spot → ℕ) (v : View) (c b x : ℕ) : Type 0 where
+pub record LinkNeeds (g : Geometry) (w : Spot → ℕ) (v : View) (c b x : ℕ) : Type 0 where
   pub inside : c < g.clients
   pub acts : v.status c ≢ status.New
   pub here : v.status c ≢ status.Gone

@@ -12,7 +12,7 @@ use Rattle.shm_laws.specs.Steps.{Writes}
 -- ---- the own home
 
 -- the committed op of a joined identity has its own home as its slot, and x as its new value
-pub record HomeStep (g : Geometry) (w : Spot → ℕ) (v : View) (c x : ℕ) (o : Op) : Type 0 where
+pub record HomeNeeds (g : Geometry) (w : Spot → ℕ) (v : View) (c x : ℕ) (o : Op) : Type 0 where
   pub inside : c < g.clients
   pub acts : v.status c ≢ status.New
   pub here : v.status c ≢ status.Gone
@@ -32,7 +32,7 @@ home_view v c x o =
 -- ---- a slot of a queue
 
 -- the committed op of a joined identity has slot k of the queue from s to r as its slot, and x as its new value
-pub record QueueStep (g : Geometry) (w : Spot → ℕ) (v : View) (c s r k x : ℕ) (o : Op) : Type 0 where
+pub record QueueNeeds (g : Geometry) (w : Spot → ℕ) (v : View) (c s r k x : ℕ) (o : Op) : Type 0 where
   pub inside : c < g.clients
   pub acts : v.status c ≢ status.New
   pub here : v.status c ≢ status.Gone

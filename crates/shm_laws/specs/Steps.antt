@@ -5,13 +5,13 @@ use Rattle.shm_words.specs.declared.header.Header.{Header}
 use Rattle.shm_words.specs.Headers.{header_of}
 use Rattle.shm_words.specs.declared.geometry.Geometry.{Geometry}
 use Rattle.shm_graph.specs.declared.spot.Spot.{Spot}
-use Rattle.shm_graph.specs.declared.spot.Spot.TheVariants.{Redo, Hold, Latch, Home, Era, Root, Tail, Front, Slot, Page, Head, Tag, Body}
+use Rattle.shm_graph.specs.declared.spot.Spot.TheVariants.{Redo, Hold, Latch, Home, Era, Root, Tail, QueueHead, Slot, Page, Head, Tag, Body}
 use Rattle.shm_graph.specs.declared.memo.Status.TheVariants as status
 use Rattle.shm_graph.specs.declared.memo.First.{First}
 use Rattle.shm_graph.specs.declared.memo.First.TheVariants.{Begun, Committed, Written}
 use Rattle.shm_graph.specs.declared.memo.Op.{Op}
 use Rattle.shm_graph.specs.declared.memo.Op.TheVariants.{Nothing, Alloc, Up, Down, Change}
-use Rattle.shm_graph.specs.declared.memo.Half.TheVariants.{Raising, Lowering}
+use Rattle.shm_graph.specs.declared.memo.ChangeStage.TheVariants.{Raising, Lowering}
 use Rattle.shm_graph.specs.declared.memo.Second.TheVariants.{Open, Closed}
 use Rattle.shm_graph.specs.declared.memo.Stored.{Stored}
 use Rattle.shm_graph.specs.declared.memo.Look.{Look}
@@ -24,7 +24,7 @@ use Rattle.shm_graph.specs.Spots.{IsAt, upd}
 use Rattle.shm_graph.specs.Reach.{learnt}
 use Rattle.shm_graph.specs.Stores.{other_than, not_block, not_of}
 use Rattle.shm_graph.specs.References.{words_of}
-use Rattle.shm_graph.specs.Ops.{cover_of, on_of, limbo_of, slot_of, is_op, Quiet}
+use Rattle.shm_graph.specs.Ops.{cover_of, on_of, held_over_of, slot_of, is_op, Quiet}
 use Rattle.shm_graph.specs.Views.{View, own_word, targets, at1}
 use Rattle.shm_graph.specs.Held.{Allowed, OpTie, RedoTie, room_of, KnownAt, ValueAt, PartTie, is_loose, is_slot, reach_of, named_by, SlotOf, LooksSound}
 use Rattle.shm_graph.specs.declared.table.Part.{Part}
@@ -32,7 +32,7 @@ use Rattle.shm_graph.specs.Tables.{contents_of, HasShape}
 
 -- ---- the store of a page's class
 
-pub record ClassStep (g : Geometry) (w : Spot → ℕ) (v : View) (c s q k : ℕ) : Type 0 where
+pub record ClassNeeds (g : Geometry) (w : Spot → ℕ) (v : View) (c s q k : ℕ) : Type 0 where
   pub inside : c < g.clients
   pub acts : v.status c ≡ status.Live
   pub page : IsAt g (λ i j. w (Page i j)) (Page s q)
@@ -49,7 +49,7 @@ class_view v c s q k =
 
 -- ---- the exchange that makes a free block live
 
-pub record AllocStep (g : Geometry) (w : Spot → ℕ) (v : View) (c k b e to tag : ℕ) (m : Making) : Type 0 where
+pub record AllocNeeds (g : Geometry) (w : Spot → ℕ) (v : View) (c k b e to tag : ℕ) (m : Making) : Type 0 where
   pub inside : c < g.clients
   pub acts : v.status c ≡ status.Live
   pub op : v.op c ≡ Alloc Begun (Root c k) b e
@@ -89,7 +89,7 @@ dying_after n b dying = if n == 0 then dying ++ b ∷ [] else dying
 
 -- ---- the store that frees a dying block
 
-pub record FreeStep (g : Geometry) (v : View) (c b tag : ℕ) : Type 0 where
+pub record FreeNeeds (g : Geometry) (v : View) (c b tag : ℕ) : Type 0 where
   pub inside : c < g.clients
   pub acts : v.status c ≢ status.New
   pub here : v.status c ≢ status.Gone
@@ -122,7 +122,7 @@ Writes (Down s p b e) o x = WritesFrom s (Down Written p b e) 0 o x
 Writes (Change (Raising s) p a b e) o x = WritesFrom s (Change (Raising Written) p a b e) b o x
 Writes _ o x = ⊥
 
-pub record BodyStep (g : Geometry) (v : View) (c b i x : ℕ) (o : Op) : Type 0 where
+pub record BodyNeeds (g : Geometry) (v : View) (c b i x : ℕ) (o : Op) : Type 0 where
   pub inside : c < g.clients
   pub acts : v.status c ≢ status.New
   pub here : v.status c ≢ status.Gone
@@ -140,7 +140,7 @@ body_view v c b i x o =
 
 -- ---- the latch is taken, and given back
 
-pub record LatchStep (g : Geometry) (w : Spot → ℕ) (v : View) (c a : ℕ) : Type 0 where
+pub record LatchNeeds (g : Geometry) (w : Spot → ℕ) (v : View) (c a : ℕ) : Type 0 where
   pub inside : c < g.clients
   pub acts : v.status c ≢ status.New
   pub here : v.status c ≢ status.Gone
@@ -157,16 +157,16 @@ latch_view v c a =
       test = at1 v.test c None;
     }
 
-pub record BackStep (g : Geometry) (w : Spot → ℕ) (v : View) (c a : ℕ) (kept : List Stored) (values : List ℕ) : Type 0 where
+pub record BackNeeds (g : Geometry) (w : Spot → ℕ) (v : View) (c a : ℕ) (kept : List Stored) (values : List ℕ) : Type 0 where
   pub inside : c < g.clients
   pub acts : v.status c ≢ status.New
   pub here : v.status c ≢ status.Gone
   pub op : v.op c ≡ Nothing
   pub latch : v.latch c ≡ Some a
   -- what is kept of what is known, and of the value blocks, is in reach without looks
-  pub knows : All (λ (s : Stored). KnownAt c (λ i. w (Tag i)) (λ i j. w (Body i j)) (λ i j l. w (Slot i j l)) (λ i j. w (Tail i j)) (λ i j. w (Front i j)) (v.untaken c) None
-      (reach_of (targets g w v) (λ i j. w (Tail i j)) (λ i j. w (Front i j)) (λ d. []) c) (v.dying c) s.spot s.value) kept
-  pub valued : All (ValueAt (contents_of w (targets g w v)) (reach_of (targets g w v) (λ i j. w (Tail i j)) (λ i j. w (Front i j)) (λ d. []) c)) values
+  pub knows : All (λ (s : Stored). KnownAt c (λ i. w (Tag i)) (λ i j. w (Body i j)) (λ i j l. w (Slot i j l)) (λ i j. w (Tail i j)) (λ i j. w (QueueHead i j)) (v.untaken c) None
+      (reach_of (targets g w v) (λ i j. w (Tail i j)) (λ i j. w (QueueHead i j)) (λ d. []) c) (v.dying c) s.spot s.value) kept
+  pub valued : All (ValueAt (contents_of w (targets g w v)) (reach_of (targets g w v) (λ i j. w (Tail i j)) (λ i j. w (QueueHead i j)) (λ d. []) c)) values
 
 abbrev pub back_view : View → ℕ → List Stored → List ℕ → View
 back_view v c kept values =
@@ -180,13 +180,13 @@ back_view v c kept values =
 
 -- ---- a reference word of a block in reach is loaded under its author's latch
 
-pub record LookStep (g : Geometry) (w : Spot → ℕ) (v : View) (c b i : ℕ) : Type 0 where
+pub record LookNeeds (g : Geometry) (w : Spot → ℕ) (v : View) (c b i : ℕ) : Type 0 where
   pub inside : c < g.clients
   pub acts : v.status c ≢ status.New
   pub here : v.status c ≢ status.Gone
   pub op : v.op c ≡ Nothing
   pub latch : v.latch c ≡ Some (tag_author (w (Tag b)))
-  pub reach : reach_of (targets g w v) (λ s r. w (Tail s r)) (λ s r. w (Front s r)) v.looks c b
+  pub reach : reach_of (targets g w v) (λ s r. w (Tail s r)) (λ s r. w (QueueHead s r)) v.looks c b
   pub refs : i < tag_refs (w (Tag b))
   pub some : w (Body b i) ≢ 0
 
@@ -205,7 +205,7 @@ abbrev pub unsent_after : Spot → ℕ → (ℕ → ℕ → ℕ) → ℕ → ℕ
 unsent_after (Slot i j k) b u s r = if (i == s) && (j == r) then b else u s r
 unsent_after _ b u s r = u s r
 
-pub record UpStep (g : Geometry) (w : Spot → ℕ) (v : View) (c b e to : ℕ) (p : Spot) (part : Part) : Type 0 where
+pub record UpNeeds (g : Geometry) (w : Spot → ℕ) (v : View) (c b e to : ℕ) (p : Spot) (part : Part) : Type 0 where
   pub inside : c < g.clients
   pub acts : v.status c ≢ status.New
   pub here : v.status c ≢ status.Gone
@@ -258,7 +258,7 @@ lower_view v c b e n p looks kept values part =
       test = at1 v.test c None;
     }
 
-pub record LowerStep (g : Geometry) (w : Spot → ℕ) (v : View) (c b e n to : ℕ) (p : Spot) (looks : List Look) (kept : List Stored) (values : List ℕ) (part : Part) : Type 0 where
+pub record LowerNeeds (g : Geometry) (w : Spot → ℕ) (v : View) (c b e n to : ℕ) (p : Spot) (looks : List Look) (kept : List Stored) (values : List ℕ) (part : Part) : Type 0 where
   pub inside : c < g.clients
   pub acts : v.status c ≢ status.New
   pub here : v.status c ≢ status.Gone
@@ -269,12 +269,12 @@ pub record LowerStep (g : Geometry) (w : Spot → ℕ) (v : View) (c b e n to : 
   pub lower : n + 1 ≡ (header_of (w (Head b))).count
   pub shows : RowShows (λ i j. w (Era i j)) (header_of (w (Head b))) c
   -- of the memo's own change: what stays of looks and known is sound for the new targets, and the slot's block stays in reach
-  pub looked : LooksSound (λ a. upd (targets g w v) p 0 (Home a)) (λ b i. upd (targets g w v) p 0 (Body b i)) (λ b. tag_author (w (Tag b))) (v.latch c) (named_by (upd (targets g w v) p 0) (λ s r. w (Tail s r)) (λ s r. w (Front s r)) c) [] looks
-  pub slot : SlotOf c (λ i. header_of (w (Head i))) (λ i. w (Tag i)) (v.latch c) (λ s r. w (Tail s r)) (λ s r. w (Front s r)) (reach_of (upd (targets g w v) p 0) (λ s r. w (Tail s r)) (λ s r. w (Front s r)) (λ d. looks) c) p
-  pub knows : All (λ (s : Stored). KnownAt c (λ i. w (Tag i)) (λ i j. w (Body i j)) (λ i j l. w (Slot i j l)) (λ i j. w (Tail i j)) (λ i j. w (Front i j)) (λ s. untaken_after c p b v.untaken c s) (v.latch c)
-      (reach_of (upd (targets g w v) p 0) (λ i j. w (Tail i j)) (λ i j. w (Front i j)) (λ d. looks) c) (dying_after n b (v.dying c)) s.spot s.value) kept
+  pub looked : LooksSound (λ a. upd (targets g w v) p 0 (Home a)) (λ b i. upd (targets g w v) p 0 (Body b i)) (λ b. tag_author (w (Tag b))) (v.latch c) (named_by (upd (targets g w v) p 0) (λ s r. w (Tail s r)) (λ s r. w (QueueHead s r)) c) [] looks
+  pub slot : SlotOf c (λ i. header_of (w (Head i))) (λ i. w (Tag i)) (v.latch c) (λ s r. w (Tail s r)) (λ s r. w (QueueHead s r)) (reach_of (upd (targets g w v) p 0) (λ s r. w (Tail s r)) (λ s r. w (QueueHead s r)) (λ d. looks) c) p
+  pub knows : All (λ (s : Stored). KnownAt c (λ i. w (Tag i)) (λ i j. w (Body i j)) (λ i j l. w (Slot i j l)) (λ i j. w (Tail i j)) (λ i j. w (QueueHead i j)) (λ s. untaken_after c p b v.untaken c s) (v.latch c)
+      (reach_of (upd (targets g w v) p 0) (λ i j. w (Tail i j)) (λ i j. w (QueueHead i j)) (λ d. looks) c) (dying_after n b (v.dying c)) s.spot s.value) kept
   -- so is what stays of the value blocks, and the part is the one that the new targets hold
-  pub valued : All (ValueAt (contents_of w (upd (targets g w v) p 0)) (reach_of (upd (targets g w v) p 0) (λ i j. w (Tail i j)) (λ i j. w (Front i j)) (λ d. looks) c)) values
+  pub valued : All (ValueAt (contents_of w (upd (targets g w v) p 0)) (reach_of (upd (targets g w v) p 0) (λ i j. w (Tail i j)) (λ i j. w (QueueHead i j)) (λ d. looks) c)) values
   pub parted : PartTie (contents_of w (upd (targets g w v) p 0)) c (upd (targets g w v) p 0 (Home c)) part
   pub loose : is_loose part ≡ is_loose (v.part c)
 
@@ -288,7 +288,7 @@ Closes (Change (Raising Written) p a b e) o = o ≡ Change (Lowering Open) p a b
 Closes (Change (Lowering Closed) p a b e) o = o ≡ Nothing
 Closes _ o = ⊥
 
-pub record CloseStep (g : Geometry) (v : View) (c : ℕ) (o : Op) : Type 0 where
+pub record CloseNeeds (g : Geometry) (v : View) (c : ℕ) (o : Op) : Type 0 where
   pub inside : c < g.clients
   pub acts : v.status c ≢ status.New
   pub here : v.status c ≢ status.Gone
@@ -302,7 +302,7 @@ close_view v c x o =
       test = at1 v.test c None;
     }
 
--- ---- the exchange of a change's second half: the block before loses the reference that the limbo was
+-- ---- the exchange of a change's second half: the block before loses the reference that what is held over was
 
 abbrev pub second_view : View → ℕ → ℕ → ℕ → ℕ → ℕ → Spot → List Look → List Stored → List ℕ → View
 second_view v c x b e n p looks kept values =
@@ -316,7 +316,7 @@ second_view v c x b e n p looks kept values =
       test = at1 v.test c None;
     }
 
-pub record SecondStep (g : Geometry) (w : Spot → ℕ) (v : View) (c x b e n to : ℕ) (p : Spot) (looks : List Look) (kept : List Stored) (values : List ℕ) : Type 0 where
+pub record SecondNeeds (g : Geometry) (w : Spot → ℕ) (v : View) (c x b e n to : ℕ) (p : Spot) (looks : List Look) (kept : List Stored) (values : List ℕ) : Type 0 where
   pub inside : c < g.clients
   pub acts : v.status c ≢ status.New
   pub here : v.status c ≢ status.Gone
@@ -325,11 +325,11 @@ pub record SecondStep (g : Geometry) (w : Spot → ℕ) (v : View) (c x b e n to
   pub new : header_of to ≡ record { live = true; client = c; count = n; era = e }
   pub lower : n + 1 ≡ (header_of (w (Head x))).count
   pub shows : RowShows (λ i j. w (Era i j)) (header_of (w (Head x))) c
-  pub looked : LooksSound (λ a. targets g w v (Home a)) (λ b i. targets g w v (Body b i)) (λ b. tag_author (w (Tag b))) (v.latch c) (named_by (targets g w v) (λ s r. w (Tail s r)) (λ s r. w (Front s r)) c) [] looks
-  pub slot : SlotOf c (λ i. header_of (w (Head i))) (λ i. w (Tag i)) (v.latch c) (λ s r. w (Tail s r)) (λ s r. w (Front s r)) (reach_of (targets g w v) (λ s r. w (Tail s r)) (λ s r. w (Front s r)) (λ d. looks) c) p
-  pub knows : All (λ (s : Stored). KnownAt c (λ i. w (Tag i)) (λ i j. w (Body i j)) (λ i j l. w (Slot i j l)) (λ i j. w (Tail i j)) (λ i j. w (Front i j)) (v.untaken c) (v.latch c)
-      (reach_of (targets g w v) (λ i j. w (Tail i j)) (λ i j. w (Front i j)) (λ d. looks) c) (dying_after n x (v.dying c)) s.spot s.value) kept
-  pub valued : All (ValueAt (contents_of w (targets g w v)) (reach_of (targets g w v) (λ i j. w (Tail i j)) (λ i j. w (Front i j)) (λ d. looks) c)) values
+  pub looked : LooksSound (λ a. targets g w v (Home a)) (λ b i. targets g w v (Body b i)) (λ b. tag_author (w (Tag b))) (v.latch c) (named_by (targets g w v) (λ s r. w (Tail s r)) (λ s r. w (QueueHead s r)) c) [] looks
+  pub slot : SlotOf c (λ i. header_of (w (Head i))) (λ i. w (Tag i)) (v.latch c) (λ s r. w (Tail s r)) (λ s r. w (QueueHead s r)) (reach_of (targets g w v) (λ s r. w (Tail s r)) (λ s r. w (QueueHead s r)) (λ d. looks) c) p
+  pub knows : All (λ (s : Stored). KnownAt c (λ i. w (Tag i)) (λ i j. w (Body i j)) (λ i j l. w (Slot i j l)) (λ i j. w (Tail i j)) (λ i j. w (QueueHead i j)) (v.untaken c) (v.latch c)
+      (reach_of (targets g w v) (λ i j. w (Tail i j)) (λ i j. w (QueueHead i j)) (λ d. looks) c) (dying_after n x (v.dying c)) s.spot s.value) kept
+  pub valued : All (ValueAt (contents_of w (targets g w v)) (reach_of (targets g w v) (λ i j. w (Tail i j)) (λ i j. w (QueueHead i j)) (λ d. looks) c)) values
 
 -- ---- the exchange of a change's first half
 
@@ -349,7 +349,7 @@ change_view v c x b e p looks kept values part =
       test = at1 v.test c None;
     }
 
-pub record ChangeStep (g : Geometry) (w : Spot → ℕ) (v : View) (c x b e to : ℕ) (p : Spot) (looks : List Look) (kept : List Stored) (values : List ℕ) (part : Part) : Type 0 where
+pub record ChangeNeeds (g : Geometry) (w : Spot → ℕ) (v : View) (c x b e to : ℕ) (p : Spot) (looks : List Look) (kept : List Stored) (values : List ℕ) (part : Part) : Type 0 where
   pub inside : c < g.clients
   pub acts : v.status c ≢ status.New
   pub here : v.status c ≢ status.Gone
@@ -360,12 +360,12 @@ pub record ChangeStep (g : Geometry) (w : Spot → ℕ) (v : View) (c x b e to :
   pub rooted : (d k : ℕ) → named.0 ≡ Root d k → d ≡ c
   pub new : header_of to ≡ record { live = true; client = c; count = (header_of (w (Head b))).count + 1; era = e }
   pub shows : RowShows (λ i j. w (Era i j)) (header_of (w (Head b))) c
-  pub looked : LooksSound (λ a. upd (targets g w v) p b (Home a)) (λ d i. upd (targets g w v) p b (Body d i)) (λ b. tag_author (w (Tag b))) (v.latch c) (named_by (upd (targets g w v) p b) (λ s r. w (Tail s r)) (λ s r. w (Front s r)) c) [] looks
-  pub slot : SlotOf c (λ i. header_of (w (Head i))) (λ i. w (Tag i)) (v.latch c) (λ s r. w (Tail s r)) (λ s r. w (Front s r)) (reach_of (upd (targets g w v) p b) (λ s r. w (Tail s r)) (λ s r. w (Front s r)) (λ d. looks) c) p
-  pub knows : All (λ (s : Stored). KnownAt c (λ i. w (Tag i)) (λ i j. w (Body i j)) (λ i j l. w (Slot i j l)) (λ i j. w (Tail i j)) (λ i j. w (Front i j)) (v.untaken c) (v.latch c)
-      (reach_of (upd (targets g w v) p b) (λ i j. w (Tail i j)) (λ i j. w (Front i j)) (λ d. looks) c) (v.dying c) s.spot s.value) kept
+  pub looked : LooksSound (λ a. upd (targets g w v) p b (Home a)) (λ d i. upd (targets g w v) p b (Body d i)) (λ b. tag_author (w (Tag b))) (v.latch c) (named_by (upd (targets g w v) p b) (λ s r. w (Tail s r)) (λ s r. w (QueueHead s r)) c) [] looks
+  pub slot : SlotOf c (λ i. header_of (w (Head i))) (λ i. w (Tag i)) (v.latch c) (λ s r. w (Tail s r)) (λ s r. w (QueueHead s r)) (reach_of (upd (targets g w v) p b) (λ s r. w (Tail s r)) (λ s r. w (QueueHead s r)) (λ d. looks) c) p
+  pub knows : All (λ (s : Stored). KnownAt c (λ i. w (Tag i)) (λ i j. w (Body i j)) (λ i j l. w (Slot i j l)) (λ i j. w (Tail i j)) (λ i j. w (QueueHead i j)) (v.untaken c) (v.latch c)
+      (reach_of (upd (targets g w v) p b) (λ i j. w (Tail i j)) (λ i j. w (QueueHead i j)) (λ d. looks) c) (v.dying c) s.spot s.value) kept
   -- so is what stays of the value blocks, and the part is the one that the new targets hold
-  pub valued : All (ValueAt (contents_of w (upd (targets g w v) p b)) (reach_of (upd (targets g w v) p b) (λ i j. w (Tail i j)) (λ i j. w (Front i j)) (λ d. looks) c)) values
+  pub valued : All (ValueAt (contents_of w (upd (targets g w v) p b)) (reach_of (upd (targets g w v) p b) (λ i j. w (Tail i j)) (λ i j. w (QueueHead i j)) (λ d. looks) c)) values
   pub parted : PartTie (contents_of w (upd (targets g w v) p b)) c (upd (targets g w v) p b (Home c)) part
   pub loose : is_loose part ≡ is_loose (v.part c)
 
@@ -392,7 +392,7 @@ row_view v c k x test =
 abbrev pub at2 : {T : Type 0} → (ℕ → ℕ → T) → ℕ → ℕ → T → ℕ → ℕ → T
 at2 f s r x i j = if (s == i) && (r == j) then x else f i j
 
-pub record TailStep (g : Geometry) (w : Spot → ℕ) (v : View) (c r : ℕ) : Type 0 where
+pub record TailNeeds (g : Geometry) (w : Spot → ℕ) (v : View) (c r : ℕ) : Type 0 where
   pub inside : c < g.clients
   pub to : r < g.clients
   pub other : c ≢ r
@@ -411,7 +411,7 @@ tail_view v c r x =
       test = at1 v.test c None;
     }
 
-pub record HeadStep (g : Geometry) (w : Spot → ℕ) (v : View) (c s : ℕ) : Type 0 where
+pub record QueueHeadNeeds (g : Geometry) (w : Spot → ℕ) (v : View) (c s : ℕ) : Type 0 where
   pub inside : c < g.clients
   pub from : s < g.clients
   pub other : s ≢ c
@@ -419,12 +419,12 @@ pub record HeadStep (g : Geometry) (w : Spot → ℕ) (v : View) (c s : ℕ) : T
   pub here : v.status c ≢ status.Gone
   pub op : v.op c ≡ Nothing
   pub some : v.untaken c s ≢ 0
-  pub place : IsAt g (λ i q. w (Page i q)) (Front s c)
+  pub place : IsAt g (λ i q. w (Page i q)) (QueueHead s c)
 
 abbrev pub head_view : View → ℕ → ℕ → ℕ → View
 head_view v c s x =
     record v {
-      own = at1 v.own c (record { spot = Front s c; value = x } ∷ v.own c);
+      own = at1 v.own c (record { spot = QueueHead s c; value = x } ∷ v.own c);
       received = at2 v.received c s (v.received c s ++ v.untaken c s ∷ []);
       untaken = at2 v.untaken c s 0;
       test = at1 v.test c None;
@@ -432,7 +432,7 @@ head_view v c s x =
 
 -- ---- the store of a redo word, which begins an op
 
-pub record BeginStep (g : Geometry) (w : Spot → ℕ) (v : View) (c x : ℕ) (o : Op) : Type 0 where
+pub record BeginNeeds (g : Geometry) (w : Spot → ℕ) (v : View) (c x : ℕ) (o : Op) : Type 0 where
   pub inside : c < g.clients
   pub acts : v.status c ≢ status.New
   pub here : v.status c ≢ status.Gone
@@ -440,13 +440,13 @@ pub record BeginStep (g : Geometry) (w : Spot → ℕ) (v : View) (c x : ℕ) (o
   pub small : x < 2 ^ 64
   pub op : v.op c ≡ Nothing
   pub on : on_of o ≡ None
-  pub limbo : limbo_of o ≡ 0
+  pub held_over : held_over_of o ≡ 0
   pub quiet : cover_of o ≡ Quiet
   pub room : w (Era c c) + room_of o ≤ 2 ^ 47
   pub tie : OpTie g (λ s q. w (Page s q)) x (w (Era c c)) (words_of w) o
   pub names : RedoTie g (λ s q. w (Page s q)) x
   pub allowed : Allowed c o
-  pub slot : is_op o ≡ true → SlotOf c (λ i. header_of (w (Head i))) (λ i. w (Tag i)) (v.latch c) (λ s r. w (Tail s r)) (λ s r. w (Front s r)) (reach_of (targets g w v) (λ s r. w (Tail s r)) (λ s r. w (Front s r)) v.looks c) (slot_of o)
+  pub slot : is_op o ≡ true → SlotOf c (λ i. header_of (w (Head i))) (λ i. w (Tag i)) (v.latch c) (λ s r. w (Tail s r)) (λ s r. w (QueueHead s r)) (reach_of (targets g w v) (λ s r. w (Tail s r)) (λ s r. w (QueueHead s r)) v.looks c) (slot_of o)
 
 abbrev pub begin_view : View → ℕ → ℕ → Op → View
 begin_view v c x o =
@@ -458,7 +458,7 @@ begin_view v c x o =
 
 -- ---- the store of a row
 
-pub record RowStep (g : Geometry) (w : Spot → ℕ) (v : View) (c j x : ℕ) : Type 0 where
+pub record RowNeeds (g : Geometry) (w : Spot → ℕ) (v : View) (c j x : ℕ) : Type 0 where
   pub inside : c < g.clients
   pub acts : v.status c ≢ status.New
   pub here : v.status c ≢ status.Gone
@@ -476,7 +476,7 @@ row_store_view v c j x =
 
 -- ---- the store of a committed op into its slot, a root
 
-pub record RootStep (g : Geometry) (w : Spot → ℕ) (v : View) (c k x : ℕ) (o : Op) : Type 0 where
+pub record RootNeeds (g : Geometry) (w : Spot → ℕ) (v : View) (c k x : ℕ) (o : Op) : Type 0 where
   pub inside : c < g.clients
   pub acts : v.status c ≢ status.New
   pub here : v.status c ≢ status.Gone

@@ -22,13 +22,13 @@ use Rattle.shm_graph.specs.declared.memo.Seen.{Seen}
 use Rattle.shm_graph.specs.declared.run.Move.{Move}
 use Rattle.shm_graph.specs.declared.run.Move.TheVariants.{Word, Begins}
 use Rattle.shm_graph.specs.Tells.{GoesOn, after_all, machine_steps}
-use Rattle.shm_graph.proofs.TellsAlong.{after_all-append}
+use Rattle.shm_graph.proofs.Machines.TellsAlong.{after_all-append}
 use Rattle.shm_graph.specs.Changes.{memo_on, asked_spot}
 use Rattle.shm_graph.specs.Laws.{Control, Steady, Back, Outcome, is_died, is_some, step_of, turn_of}
 use Rattle.shm_graph.specs.Runs.{MayBegin, account_at, account_after, account_entered, changed, fell_by, memos_of}
 use Rattle.shm_graph.specs.Whole.{fits_now, gives_now}
-use Rattle.shm_graph.proofs.Going.{account_acts-on, account_acts-here, whole_back}
-use Rattle.shm_graph.proofs.MemoSteps.{acts_after, acts-entered, agents_after, ends_agent, last-with_last, memo_agents, with_some, recovers_on}
+use Rattle.shm_graph.proofs.Runs.Going.{account_acts-on, account_acts-here, whole_back}
+use Rattle.shm_graph.proofs.Memos.MemoSteps.{acts_after, acts-entered, agents_after, ends_agent, last-with_last, memo_agents, with_some, recovers_on}
 use Rattle.shm_plain.specs.Pools.{Pool, pool, IsOf, IsRun, MayStep, memo_of, readied, turn_on, turned}
 use Rattle.shm_plain.specs.Calls.{IsAtWork, Ran, Took, words}
 use Rattle.shm_plain.specs.Tracks.{kind_next}

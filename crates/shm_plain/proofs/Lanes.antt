@@ -5,13 +5,13 @@ use Rattle.std.specs.Prelude.{slice_index}
 use Rattle.std.proofs.lemmas.Bool.{eq-eqb}
 use Rattle.std.proofs.lemmas.List.Elements.{All-contains}
 use Rattle.shm_graph.specs.declared.memo.Stored.{Stored}
-use Rattle.shm_graph.specs.declared.spot.Spot.TheVariants.{Front, Tail, Slot}
+use Rattle.shm_graph.specs.declared.spot.Spot.TheVariants.{QueueHead, Tail, Slot}
 use Rattle.shm_graph.specs.Held.{HeldAt}
 use Rattle.shm_graph.specs.Runs.{memos_of}
 use Rattle.shm_graph.specs.Spots.{see}
 use Rattle.shm_graph.specs.Views.{own_word, targets, view}
-use Rattle.shm_graph.proofs.KnownChange.{KnownHolds}
-use Rattle.shm_graph.proofs.Reached.{known_target}
+use Rattle.shm_graph.proofs.Memos.KnownChange.{KnownHolds}
+use Rattle.shm_graph.proofs.States.Reached.{known_target}
 use Rattle.shm_plain.specs.Lanes.{IsFirst, Wait, received_of, sent_of}
 use Rattle.shm_plain.specs.Pools.{Pool, IsRun, memo_of}
 
@@ -19,8 +19,8 @@ module _ (p : Pool) (s c : ℕ) (run : IsRun p) (ls : s < p.start.geometry.clien
   held : HeldAt p.start.geometry (see p.start.geometry p.words) (view (memos_of p.accounts))
   held = run.held.at
 
-  pub head_counts : own_word (memo_of p c).own (Front s c) ≡ length (received_of p s c)
-  head_counts = held.mine c lc (Front s c) (eq-eqb c c refl) ∙ (held.lanes s c ls lc other).all_received
+  pub head_counts : own_word (memo_of p c).own (QueueHead s c) ≡ length (received_of p s c)
+  head_counts = held.mine c lc (QueueHead s c) (eq-eqb c c refl) ∙ (held.lanes s c ls lc other).all_received
 
   pub tail_counts : own_word (memo_of p s).own (Tail s c) ≡ length (sent_of p s c)
   tail_counts = held.mine s ls (Tail s c) (eq-eqb s s refl) ∙ (held.lanes s c ls lc other).all_sent
@@ -28,7 +28,7 @@ module _ (p : Pool) (s c : ℕ) (run : IsRun p) (ls : s < p.start.geometry.clien
   pub items_wait : (items : List ℕ) × Wait p s c items × (length items ≤ 8)
   items_wait =
       let w = see p.start.geometry p.words in
-      let n : ℕ = w (Front s c) in
+      let n : ℕ = w (QueueHead s c) in
       let lane = held.lanes s c ls lc other in
       let all : length (sent_of p s c) ≡ w (Tail s c) = sym lane.all_sent in
       let room : w (Tail s c) ≤ n + 8 = lane.room in
@@ -40,10 +40,10 @@ module _ (p : Pool) (s c : ℕ) (run : IsRun p) (ls : s < p.start.geometry.clien
       let g = p.start.geometry in
       let w = see g p.words in
       let v = view (memos_of p.accounts) in
-      let n : ℕ = w (Front s c) in
+      let n : ℕ = w (QueueHead s c) in
       let lane = held.lanes s c ls lc other in
       let a : KnownHolds g w v c (record { spot = Slot s c k; value = b }) = All-contains (λ (x : Stored). KnownHolds g w v c x) (memo_of p c).known (record { spot = Slot s c k; value = b }) (held.known c lc) known in
       let item : slice_index (sent_of p s c) n ≡ b = sym (lane.items n (omega arith) a.3 (a.4, refl)) ∙ subst (λ j. targets g w v (Slot s c j) ≡ b) a.2 (known_target g w v held c lc s c k b a) in
       let some : n < length (sent_of p s c) = (let all = lane.all_sent in let less = a.3 in omega arith) in
-      let front = sym (take-append-drop n (sent_of p s c)) ∙ ap (λ xs. xs ++ drop n (sent_of p s c)) (sym lane.prefix) in
-      (drop (suc n) (sent_of p s c), front ∙ ap (λ xs. received_of p s c ++ xs) (drop-cons (sent_of p s c) n 0 some ∙ ap (λ x. x ∷ drop (suc n) (sent_of p s c)) item))
+      let queue_head = sym (take-append-drop n (sent_of p s c)) ∙ ap (λ xs. xs ++ drop n (sent_of p s c)) (sym lane.prefix) in
+      (drop (suc n) (sent_of p s c), queue_head ∙ ap (λ xs. received_of p s c ++ xs) (drop-cons (sent_of p s c) n 0 some ∙ ap (λ x. x ∷ drop (suc n) (sent_of p s c)) item))

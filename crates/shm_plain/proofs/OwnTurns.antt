@@ -20,7 +20,7 @@ use Rattle.shm_graph.specs.Laws.{Control, Laws, Steady, step_of}
 use Rattle.shm_graph.specs.Runs.{Leads, State, account_entered, changed, first_state, moved}
 use Rattle.shm_graph.specs.Tells.{GoesOn, Tells, happens_along, is_event, machine_steps, tells_along}
 use Rattle.shm_graph.specs.Whole.{fits_now}
-use Rattle.shm_graph.proofs.OwnEvents.{own_told}
+use Rattle.shm_graph.proofs.Runs.OwnEvents.{own_told}
 use Rattle.shm_plain.specs.Pools.{Pool, pool, IsOf, IsRun, MayStep, memo_of, readied}
 use Rattle.shm_plain.specs.Calls.{AreOf, Did, Took, state_of, words}
 use Rattle.shm_plain.specs.Tracks.{kind_next}

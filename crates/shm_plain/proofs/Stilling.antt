@@ -9,12 +9,12 @@ use Rattle.shm_graph.specs.declared.memo.Status.{Status as AStatus}
 use Rattle.shm_graph.specs.declared.memo.Status.TheVariants.{New, Live, Dead, Gone}
 use Rattle.shm_graph.specs.Spots.{IsAt, classes_in, spot_address}
 use Rattle.shm_graph.specs.Held.{status_word}
-use Rattle.shm_graph.proofs.Seeing.{see_there}
-use Rattle.shm_graph.proofs.SpotPlaces.{status_at}
-use Rattle.shm_graph.proofs.Spotting.{at_below}
-use Rattle.shm_graph.proofs.StillClean.{still_state_clean}
+use Rattle.shm_graph.proofs.Spots.Seeing.{see_there}
+use Rattle.shm_graph.proofs.Spots.SpotPlaces.{status_at}
+use Rattle.shm_graph.proofs.Spots.Spotting.{at_below}
+use Rattle.shm_graph.proofs.States.StillClean.{still_state_clean}
 use Rattle.shm_plain.specs.Pools.{Pool, IsRun, memo_of}
-use Rattle.shm_plain.specs.Closings.{IsEnd, IsStill}
+use Rattle.shm_plain.specs.Closings.{IsClosedRun, IsStill}
 
 status_there : (p : Pool) (c : ℕ) → c < p.start.geometry.clients → IsAt p.start.geometry (classes_in p.start.geometry p.words) (Status c)
 status_there p c l = status_at p.start.geometry (classes_in p.start.geometry p.words) c (lt-ltb c p.start.geometry.clients l)
@@ -41,7 +41,7 @@ still_word p c run l still = elim (still c l) [
   | inr e ↦ inr (sym (status_read p c run l) ∙ ap status_word e)
 ]
 
-pub still_end : (p : Pool) → IsRun p → IsStill p → IsEnd p
+pub still_end : (p : Pool) → IsRun p → IsStill p → IsClosedRun p
 still_end p run still = record {
   run = run;
   still = still;

@@ -16,9 +16,9 @@ use Rattle.shm_graph.specs.Asks.{at_of}
 use Rattle.shm_graph.specs.Agents.{acts, acts_by, entered, last_agent}
 use Rattle.shm_graph.specs.Laws.{Control, Outcome}
 use Rattle.shm_graph.specs.Runs.{Turned, state, Held, account_at, account_after, account_died, account_entered, accounts_after, changed, memos_of, EraFits}
-use Rattle.shm_graph.specs.Whole.{Inside, Keeps, Kept, Learns}
-use Rattle.shm_graph.proofs.FirstHeld.{first_held}
-use Rattle.shm_graph.proofs.Running.{Leads-more, turned-begins, turned-dies}
+use Rattle.shm_graph.specs.Whole.{WholeInside, WholeKeeps, WholeKept, Learns}
+use Rattle.shm_graph.proofs.States.FirstHeld.{first_held}
+use Rattle.shm_graph.proofs.Runs.Running.{Leads-more, turned-begins, turned-dies}
 use Rattle.shm_plain.specs.Pools.{Pool, pool, first_pool, memo_of, IsRun, IsOf, MayStep, readied, turn_on, turned, after_fall}
 use Rattle.shm_plain.specs.Tracks.{kind_next}
 
@@ -80,15 +80,15 @@ fall_run p c run l = go (acts (memo_of p c)) refl
 
 -- ---- a word step
 
-module _ {M A : Type 0} (k : Control M A) (fits : M → Memo → Memo → Type 0) (gives : M → Memo → Memo → A → Type 0) (keeps : Keeps k fits gives) where
-  pub within : Inside k fits gives → (p : Pool) (who : ℕ) (m : M) (r0 : Memo) → IsRun p → IsOf p who k m → fits m r0 (memo_of p who) → at_of (k.asks m) < length p.words
+module _ {M A : Type 0} (k : Control M A) (fits : M → Memo → Memo → Type 0) (gives : M → Memo → Memo → A → Type 0) (keeps : WholeKeeps k fits gives) where
+  pub within : WholeInside k fits gives → (p : Pool) (who : ℕ) (m : M) (r0 : Memo) → IsRun p → IsOf p who k m → fits m r0 (memo_of p who) → at_of (k.asks m) < length p.words
   within inside p who m r0 run is fit =
       let me : k.me m ≡ record { geometry = p.start.geometry; who = who } = is.0 in
       let h = inside m r0 (memo_of p who) (let lt : who < p.start.geometry.clients = is.1 in subst (λ (z : Me). z.who < z.geometry.clients) (sym me) lt) fit is.2 in
       subst (λ (z : ℕ). at_of (k.asks m) < z) (sym run.held.words) (subst (λ (z : Me). at_of (k.asks m) < total_of z.geometry) me h)
 
   pub kept : (p : Pool) (who : ℕ) (m : M) (r0 : Memo) → IsRun p → IsOf p who k m → fits m r0 (memo_of p who)
-      → Kept k fits gives m p.words p.accounts r0 (turn_on p k m).seen
+      → WholeKept k fits gives m p.words p.accounts r0 (turn_on p k m).seen
   kept p who m r0 run is fit =
       let me : k.me m ≡ record { geometry = p.start.geometry; who = who } = is.0 in
       let g : (k.me m).geometry ≡ p.start.geometry = ap (λ (z : Me). z.geometry) me in

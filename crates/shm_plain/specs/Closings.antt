@@ -10,7 +10,7 @@ abbrev pub IsStill : Pool → Type 0
 IsStill p = (c : ℕ) → c < p.start.geometry.clients → ((memo_of p c).status ≡ New) ⊎ ((memo_of p c).status ≡ Gone)
 
 -- The turns lead from the first state to the words and accounts, each identity is new or gone there, and the words are clean
-pub record IsEnd (p : Pool) : Type 0 where
+pub record IsClosedRun (p : Pool) : Type 0 where
   pub run : IsRun p
   pub still : IsStill p
   pub clean : IsClean p.start.geometry (see p.start.geometry p.words)

@@ -1,11 +1,4 @@
-pub mod Puts
-pub mod Folds
-pub mod Shut
-pub mod ShutWords
-pub mod Cells
-pub mod Steps
-pub mod Stages
-pub mod Runs
+pub mod OneClient
 pub mod Tracks
 pub mod Pools
 pub mod Calls

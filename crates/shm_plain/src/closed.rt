@@ -1,7 +1,7 @@
 //! Closing a pool.
 
 ghost use Rattle.std.specs.Prelude.{◌≡◌, ◌↔◌, true};
-ghost use Rattle.shm_plain.specs.Closings.{IsEnd, IsStill};
+ghost use Rattle.shm_plain.specs.Closings.{IsClosedRun, IsStill};
 
 use crate::pool::PlainPool;
 use shm_words::Geometry;
@@ -17,20 +17,20 @@ pub struct PlainClosed {
 
 impl Model for PlainClosed {
     ghost use Rattle.shm_plain.specs.Pools.{Pool};
-    ghost use Rattle.shm_plain.specs.Closings.{IsEnd};
+    ghost use Rattle.shm_plain.specs.Closings.{IsClosedRun};
 
     ghost Value = { Pool };
 
     ghost view = { λ c. c.pool };
 
-    ghost invariant = { λ c. IsEnd c.pool };
+    ghost invariant = { λ c. IsClosedRun c.pool };
 }
 
 impl PlainClosed {
     /// The sizes of the pool.
     pub fn geometry(&self) -> Geometry
         ensures is { result ≡ self.now.start.geometry }
-        ensures end { IsEnd self.now }
+        ensures end { IsClosedRun self.now }
     {
         self.pool.geometry()
     }
@@ -38,7 +38,7 @@ impl PlainClosed {
     /// The words of the pool, by address.
     pub fn words(&self) -> &[u64]
         ensures is { result.now ≡ self.now.words }
-        ensures end { IsEnd self.now }
+        ensures end { IsClosedRun self.now }
     {
         self.pool.words()
     }
@@ -63,7 +63,7 @@ impl PlainPool {
     pub fn close(self) -> PlainClosed
         requires { IsStill self }
         ensures is { result ≡ self }
-        ensures end { IsEnd result }
+        ensures end { IsClosedRun result }
     {
         self.geometry();
         PlainClosed { pool: self }

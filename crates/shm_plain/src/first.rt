@@ -1,9 +1,9 @@
 //! A replay of one client that puts keys, each in a bucket of its own.
 
 ghost use Rattle.std.specs.Prelude.{IfOk};
-ghost use Rattle.shm_plain.specs.Puts.{PutsFit};
-ghost use Rattle.shm_plain.specs.Runs.{IsFirstRun};
-ghost use Rattle.shm_plain.specs.ShutWords.{IsClosed};
+ghost use Rattle.shm_plain.specs.OneClient.Puts.{PutsFit};
+ghost use Rattle.shm_plain.specs.OneClient.Runs.{IsFirstRun};
+ghost use Rattle.shm_plain.specs.OneClient.ClosedWords.{IsClosed};
 
 mod blocks;
 pub mod closed;

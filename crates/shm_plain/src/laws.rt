@@ -4,7 +4,7 @@ ghost use Rattle.std.specs.Prelude.{◌≡◌, ◌≢◌, ℕ, ◌<◌, ◌≤�
 ghost use Rattle.shm_graph.specs.declared.memo.Step.{Step as AStep};
 ghost use Rattle.shm_graph.specs.declared.run.Move.{Move as AMove};
 ghost use Rattle.shm_graph.specs.declared.run.Move.TheVariants.{Word};
-ghost use Rattle.shm_graph.specs.declared.spot.Spot.TheVariants.{Front, Tail};
+ghost use Rattle.shm_graph.specs.declared.spot.Spot.TheVariants.{QueueHead, Tail};
 ghost use Rattle.shm_graph.specs.declared.table.Entry.{Entry as AnEntry};
 ghost use Rattle.shm_graph.specs.Asks.{at_of};
 ghost use Rattle.shm_graph.specs.Events.{Happens, graph_of};
@@ -15,11 +15,11 @@ ghost use Rattle.shm_graph.specs.Spots.{classes_in, see, spot_at};
 ghost use Rattle.shm_graph.specs.Tables.{IsTable, map_of};
 ghost use Rattle.shm_graph.specs.Views.{own_word, view};
 ghost use Rattle.shm_plain.specs.declared.pair.Pair.{Pair as APair};
-ghost use Rattle.shm_plain.specs.Folds.{fold_of, log_of};
+ghost use Rattle.shm_plain.specs.OneClient.Folds.{fold_of, log_of};
 ghost use Rattle.shm_plain.specs.Lanes.{Wait, received_of, sent_of};
 ghost use Rattle.shm_plain.specs.Pools.{memo_of};
-ghost use Rattle.shm_plain.specs.Runs.{IsFirstRun};
-ghost use Rattle.shm_plain.specs.Shut.{Shut as AShut};
+ghost use Rattle.shm_plain.specs.OneClient.Runs.{IsFirstRun};
+ghost use Rattle.shm_plain.specs.OneClient.ClosedPool.{ClosedPool as AShut};
 
 use crate::pool::PlainPool;
 
@@ -36,8 +36,8 @@ pub fn turns_of_pool(pool: &PlainPool)
 /// In a pool what each identity received from another one is a front of what that one sent to it, and at most 8 items wait. The head of
 /// their queue says how many were received, and the tail how many were sent.
 pub fn queues_of_pool(pool: &PlainPool)
-    ensures front { (s c : ℕ) → s < pool.now.start.geometry.clients → c < pool.now.start.geometry.clients → s ≢ c → (items : List ℕ) × Wait pool.now s c items × (length items ≤ 8) }
-    ensures head { (s c : ℕ) → s < pool.now.start.geometry.clients → c < pool.now.start.geometry.clients → s ≢ c → own_word (memo_of pool.now c).own (Front s c) ≡ length (received_of pool.now s c) }
+    ensures queue_head { (s c : ℕ) → s < pool.now.start.geometry.clients → c < pool.now.start.geometry.clients → s ≢ c → (items : List ℕ) × Wait pool.now s c items × (length items ≤ 8) }
+    ensures head { (s c : ℕ) → s < pool.now.start.geometry.clients → c < pool.now.start.geometry.clients → s ≢ c → own_word (memo_of pool.now c).own (QueueHead s c) ≡ length (received_of pool.now s c) }
     ensures tail { (s c : ℕ) → s < pool.now.start.geometry.clients → c < pool.now.start.geometry.clients → s ≢ c → own_word (memo_of pool.now s).own (Tail s c) ≡ length (sent_of pool.now s c) }
 {
     pool.geometry();

@@ -15,9 +15,9 @@ use Rattle.shm_graph.specs.Asks.{call_after}
 use Rattle.shm_graph.specs.Changes.{asked_spot}
 use Rattle.shm_graph.specs.Laws.{Control, Steady, step_of, turn_of, is_died, is_done, is_some, Outcome}
 use Rattle.shm_graph.specs.Runs.{account_after, told_by, told_left, begun_by}
-use Rattle.shm_graph.proofs.MemoSteps.{acts_after, acts-on, memo_call, memo_over, recovers_on}
+use Rattle.shm_graph.proofs.Memos.MemoSteps.{acts_after, acts-on, memo_call, memo_over, recovers_on}
 use Rattle.shm_pool.specs.Rules.{IsOf}
-use Rattle.shm_pool.specs.Calls.{Shown, shown, accounts_by, IsBy, Going, fresh_after, Ending, Calls, Stepped, Ongoing, Tells, acts_still}
+use Rattle.shm_pool.specs.Calls.{Shown, shown, accounts_by, IsBy, Going, fresh_after, Ending, Calls, ClientStepped, Ongoing, Tells, acts_still}
 
 -- a step leaves what kind of agent acts
 pub kind_same : (e : Account) (t : Step) → recovers (account_after e t).memo ≡ recovers e.memo
@@ -63,10 +63,10 @@ acts_over e t y acting = acts_after e.memo t (asked_spot e.memo t) ∙ by (is_go
     by false d x e f = f
 
 module _ {M A : Type 0} (k : Control M A) (fits : M → Memo → Memo → Type 0) (gives : M → Memo → Memo → A → Type 0) (steady : Steady k) where
-  by : (s : Shown) (r : Account) (m : M) (r' r'' : Account) (t : Turn A) (m' : M) (before left : ℕ) → (o : Ongoing s r (shown k m) r' before left) → (x : Stepped k fits gives m r' r'' t m') → IsBy s (fresh_after s.fresh o.steps) (step_of k m x.seen)
+  by : (s : Shown) (r : Account) (m : M) (r' r'' : Account) (t : Turn A) (m' : M) (before left : ℕ) → (o : Ongoing s r (shown k m) r' before left) → (x : ClientStepped k fits gives m r' r'' t m') → IsBy s (fresh_after s.fresh o.steps) (step_of k m x.seen)
   by s r m r' r'' t m' before left o x = record { me = o.me; line = o.line; first = o.first }
 
-  pub more : (s : Shown) (r : Account) (m : M) (r' r'' : Account) (t : Turn A) (m' : M) (before left left' : ℕ) → k.finished m ≡ false → Ongoing s r (shown k m) r' before left → (x : Stepped k fits gives m r' r'' t m') → k.turns m x.seen ≡ None → left' + 1 ≡ left → Ongoing s r (shown k m') r'' before left'
+  pub more : (s : Shown) (r : Account) (m : M) (r' r'' : Account) (t : Turn A) (m' : M) (before left left' : ℕ) → k.finished m ≡ false → Ongoing s r (shown k m) r' before left → (x : ClientStepped k fits gives m r' r'' t m') → k.turns m x.seen ≡ None → left' + 1 ≡ left → Ongoing s r (shown k m') r'' before left'
   more s r m r' r'' t m' before left left' going o x none down = let u : Step = step_of k m x.seen in let n : ℕ = length o.steps in let l : left + n ≡ before = o.life in let st = steady m x.seen going in record {
     steps = o.steps ++ u ∷ [];
     going = going_more s s.fresh o.steps u o.going (by s r m r' r'' t m' before left o x) (st.ends ∙ ap is_some none);
@@ -77,7 +77,7 @@ module _ {M A : Type 0} (k : Control M A) (fits : M → Memo → Memo → Type 0
     first = ap k.fresh x.next ∙ (st.started ∙ sym (fresh_more s.fresh o.steps u));
   }
 
-  pub whole : (s : Shown) (r : Account) (m : M) (r' r'' : Account) (t : Turn A) (m' : M) (before left left' : ℕ) (a : A) → k.finished m ≡ false → Ongoing s r (shown k m) r' before left → (x : Stepped k fits gives m r' r'' t m') → k.turns m x.seen ≡ Some a → left' + 1 ≡ left → Calls s r r'' true before left'
+  pub whole : (s : Shown) (r : Account) (m : M) (r' r'' : Account) (t : Turn A) (m' : M) (before left left' : ℕ) (a : A) → k.finished m ≡ false → Ongoing s r (shown k m) r' before left → (x : ClientStepped k fits gives m r' r'' t m') → k.turns m x.seen ≡ Some a → left' + 1 ≡ left → Calls s r r'' true before left'
   whole s r m r' r'' t m' before left left' a going o x some down = let u : Step = step_of k m x.seen in let n : ℕ = length o.steps in let l : left + n ≡ before = o.life in record {
     steps = o.steps;
     last = u ∷ [];
@@ -88,16 +88,16 @@ module _ {M A : Type 0} (k : Control M A) (fits : M → Memo → Memo → Type 0
   }
 
   -- a step that goes on leaves an agent that acts, and one that is done leaves one where the status isn't gone
-  pub acts_more : (m : M) (r' r'' : Account) (t : Turn A) (m' : M) → k.finished m ≡ false → acts r'.memo ≡ true → (x : Stepped k fits gives m r' r'' t m') → k.turns m x.seen ≡ None → acts r''.memo ≡ true
+  pub acts_more : (m : M) (r' r'' : Account) (t : Turn A) (m' : M) → k.finished m ≡ false → acts r'.memo ≡ true → (x : ClientStepped k fits gives m r' r'' t m') → k.turns m x.seen ≡ None → acts r''.memo ≡ true
   acts_more m r' r'' t m' going acting x none = ap (λ (z : Account). acts z.memo) x.account ∙ (acts_going r' (step_of k m x.seen) ((steady m x.seen going).ends ∙ ap is_some none) ∙ acting)
 
-  pub acts_done : (m : M) (r' r'' : Account) (t : Turn A) (m' : M) (a : A) → k.finished m ≡ false → acts r'.memo ≡ true → (x : Stepped k fits gives m r' r'' t m') → k.turns m x.seen ≡ Some a → acts r''.memo ≡ acts_still true r''.memo
+  pub acts_done : (m : M) (r' r'' : Account) (t : Turn A) (m' : M) (a : A) → k.finished m ≡ false → acts r'.memo ≡ true → (x : ClientStepped k fits gives m r' r'' t m') → k.turns m x.seen ≡ Some a → acts r''.memo ≡ acts_still true r''.memo
   acts_done m r' r'' t m' a going acting x some =
       let u : Step = step_of k m x.seen in
       subst (λ (z : Account). acts z.memo ≡ acts_still true z.memo) (sym x.account) (acts_over r' u ((steady m x.seen going).ends ∙ ap is_some some) acting)
 
   -- after any step
-  pub acts_stepped : (m : M) (r' r'' : Account) (t : Turn A) (m' : M) → k.finished m ≡ false → acts r'.memo ≡ true → (x : Stepped k fits gives m r' r'' t m') → acts r''.memo ≡ acts_still (is_done t) r''.memo
+  pub acts_stepped : (m : M) (r' r'' : Account) (t : Turn A) (m' : M) → k.finished m ≡ false → acts r'.memo ≡ true → (x : ClientStepped k fits gives m r' r'' t m') → acts r''.memo ≡ acts_still (is_done t) r''.memo
   acts_stepped m r' r'' t m' going acting x = by (k.turns m x.seen) refl
     where
       by : (o : Option A) → k.turns m x.seen ≡ o → acts r''.memo ≡ acts_still (is_done t) r''.memo
@@ -105,7 +105,7 @@ module _ {M A : Type 0} (k : Control M A) (fits : M → Memo → Memo → Type 0
       by (Some a) e = subst (λ (y : Turn A). acts r''.memo ≡ acts_still (is_done y) r''.memo) (sym (x.turn ∙ ap turn_of e)) (acts_done m r' r'' t m' a going acting x e)
 
   -- the machine is still of this identity, and not finished
-  pub still_of : (g : Geometry) (m : M) (r' r'' : Account) (t : Turn A) (m' : M) → IsOf g r' k m → (x : Stepped k fits gives m r' r'' t m') → k.turns m x.seen ≡ None → IsOf g r'' k m'
+  pub still_of : (g : Geometry) (m : M) (r' r'' : Account) (t : Turn A) (m' : M) → IsOf g r' k m → (x : ClientStepped k fits gives m r' r'' t m') → k.turns m x.seen ≡ None → IsOf g r'' k m'
   still_of g m r' r'' t m' is x none =
       let st = steady m x.seen is.2 in
       let w : r''.who ≡ r'.who = ap (λ (z : Account). z.who) x.account in
@@ -119,10 +119,10 @@ module _ {M A : Type 0} (k : Control M A) (fits : M → Memo → Memo → Type 0
 
 -- what a step that goes on leaves, and one that is done
 module _ {M A : Type 0} (k : Control M A) (fits : M → Memo → Memo → Type 0) (gives : M → Memo → Memo → A → Type 0) where
-  pub goes_on : (m : M) (r r' : Account) (t : Turn A) (m' : M) (r0 : Memo) → fits m r0 r.memo → (x : Stepped k fits gives m r r' t m') → k.turns m x.seen ≡ None → fits m' r0 r'.memo
+  pub goes_on : (m : M) (r r' : Account) (t : Turn A) (m' : M) (r0 : Memo) → fits m r0 r.memo → (x : ClientStepped k fits gives m r r' t m') → k.turns m x.seen ≡ None → fits m' r0 r'.memo
   goes_on m r r' t m' r0 fit x none = subst (λ (z : M). fits z r0 r'.memo) (sym x.next) (subst (λ (o : Option A). Outcome o (fits (k.after m x.seen) r0 r'.memo) (gives m r0 r'.memo)) none (x.suits r0 fit))
 
-  pub is_over : (m : M) (r r' : Account) (t : Turn A) (m' : M) (r0 : Memo) (a : A) → fits m r0 r.memo → (x : Stepped k fits gives m r r' t m') → k.turns m x.seen ≡ Some a → gives m r0 r'.memo a
+  pub is_over : (m : M) (r r' : Account) (t : Turn A) (m' : M) (r0 : Memo) (a : A) → fits m r0 r.memo → (x : ClientStepped k fits gives m r r' t m') → k.turns m x.seen ≡ Some a → gives m r0 r'.memo a
   is_over m r r' t m' r0 a fit x some = subst (λ (o : Option A). Outcome o (fits (k.after m x.seen) r0 r'.memo) (gives m r0 r'.memo)) some (x.suits r0 fit)
 
 told_false : (s : Shown) (ts : List Step) (r : Account) → Going s false ts → (accounts_by r ts).told ≡ r.told × ((accounts_by r ts).begun ≡ r.begun)

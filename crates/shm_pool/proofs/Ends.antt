@@ -9,9 +9,9 @@ use lib.ListN.{get_elem?}
 use Rattle.shm_graph.specs.declared.run.Start.{Start}
 use Rattle.shm_graph.specs.declared.run.Account.{Account}
 use Rattle.shm_graph.specs.Runs.{account_at, memos_of}
-use Rattle.shm_graph.proofs.StillClean.{still_state_clean}
+use Rattle.shm_graph.proofs.States.StillClean.{still_state_clean}
 use Rattle.shm_pool.specs.Rules.{count_in, Knows, Rule, no_account}
-use Rattle.shm_pool.specs.Tokens.{Its, Token, first_tokens, AllOf, accounts_of, AllStill, IsStill, find, by_who, IsEnd}
+use Rattle.shm_pool.specs.Tokens.{Its, Token, first_tokens, AllOf, accounts_of, AllStill, IsStill, find, by_who, IsClosedRun}
 use Rattle.shm_pool.proofs.Counts.{count_else, knows_at}
 
 pub accounts_append : (xs ys : List Token) → accounts_of (xs ++ ys) ≡ accounts_of xs ++ accounts_of ys
@@ -58,12 +58,12 @@ sorted rs v n long k all = ext_get_or (no_account) rs (by_who 0 n v) (long ∙ s
     (λ i h. let l : i < n = subst (λ (z : ℕ). i < z) long h in let e : i ≡ 0 + i = omega arith in sym (found rs v i k (all i l)) ∙ (ap (λ (z : ℕ). find z v) e ∙ sym (at-by_who 0 n i v (no_account) l)))
 
 -- the state in which a seat answers for all
-pub ends : (g : Start) (ws : List ℕ) (views : List (List Account)) (id : ℕ) (v : List Account) → Rule g ws views → get_elem? views id ≡ some v → AllStill v → ((c : ℕ) → c < g.geometry.clients → 1 ≤ count_in c v) → IsEnd g ws (by_who 0 g.geometry.clients v)
+pub ends : (g : Start) (ws : List ℕ) (views : List (List Account)) (id : ℕ) (v : List Account) → Rule g ws views → get_elem? views id ≡ some v → AllStill v → ((c : ℕ) → c < g.geometry.clients → 1 ≤ count_in c v) → IsClosedRun g ws (by_who 0 g.geometry.clients v)
 ends g ws views id v r at still all =
     let k = knows_at r.accounts views id v r.known at in
     let same : r.accounts ≡ by_who 0 g.geometry.clients v = sorted r.accounts v g.geometry.clients r.held.accounts k all in
     let each : (c : ℕ) → c < g.geometry.clients → IsStill (memos_of r.accounts c) = λ c l. subst (λ (z : Account). IsStill z.memo) (found r.accounts v c k (all c l)) (still_found v c still (all c l)) in
-    subst (λ (rs : List Account). IsEnd g ws rs) same (record {
+    subst (λ (rs : List Account). IsClosedRun g ws rs) same (record {
       turns = r.turns;
       held = r.held;
       leads = r.leads;

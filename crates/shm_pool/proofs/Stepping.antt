@@ -19,19 +19,19 @@ use Rattle.shm_graph.specs.Agents.{acts}
 use Rattle.shm_graph.specs.Asks.{at_of, seen_of, words_set, word_after}
 use Rattle.shm_graph.specs.Laws.{Control, Outcome, step_of}
 use Rattle.shm_graph.specs.Runs.{Turned, Held, Leads, MayBegin, State, state, first_state, moved, IsMove, accounts_after, account_after, account_at, changed, account_died, account_entered, Stood, IsAmong}
-use Rattle.shm_graph.specs.Whole.{Keeps, Kept, Learns}
-use Rattle.shm_graph.proofs.Running.{Leads-more, turned-dies, turned-begins}
+use Rattle.shm_graph.specs.Whole.{WholeKeeps, WholeKept, Learns}
+use Rattle.shm_graph.proofs.Runs.Running.{Leads-more, turned-dies, turned-begins}
 use Rattle.shm_pool.specs.Rules.{count_in, AllKnow, Rule, IsOf, Follows}
 use Rattle.shm_pool.proofs.Counts.{count_set, knows_at, known_step, among_set}
 
-module _ {M A : Type 0} (k : Control M A) (fits : M → Memo → Memo → Type 0) (gives : M → Memo → Memo → A → Type 0) (keeps : Keeps k fits gives) where
+module _ {M A : Type 0} (k : Control M A) (fits : M → Memo → Memo → Type 0) (gives : M → Memo → Memo → A → Type 0) (keeps : WholeKeeps k fits gives) where
   -- the account after the step of m on a word that was n
   abbrev pub next : M → Account → ℕ → Account
   next m e n = account_after e (step_of k m (seen_of (k.asks m) n))
 
   -- the law at the state of the table
   kept_at : (s : Start) (id : ℕ) (m : M) (e : Account) (r0 : Memo) → IsOf s.geometry e k m → fits m r0 e.memo → (ws : List ℕ) (views : List (List Account)) (r : Rule s ws views) → get_elem? views id ≡ some (e ∷ [])
-      → Kept k fits gives m ws r.accounts r0 (seen_of (k.asks m) (slice_index ws (at_of (k.asks m))))
+      → WholeKept k fits gives m ws r.accounts r0 (seen_of (k.asks m) (slice_index ws (at_of (k.asks m))))
   kept_at s id m e r0 is fit ws views r at =
       let me : k.me m ≡ record { geometry = s.geometry; who = e.who } = is.0 in
       let eg : (k.me m).geometry ≡ s.geometry = ap (λ (z : Me). z.geometry) me in

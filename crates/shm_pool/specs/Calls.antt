@@ -59,7 +59,7 @@ pub record Calls (s : Shown) (r r' : Account) (over : Bool) (before left : ℕ) 
 
 module _ {M A : Type 0} (k : Control M A) (fits : M → Memo → Memo → Type 0) (gives : M → Memo → Memo → A → Type 0) where
   -- one step: the machine m becomes m' and answers t, and the account r becomes r'
-  pub record Stepped (m : M) (r r' : Account) (t : Turn A) (m' : M) : Type 0 where
+  pub record ClientStepped (m : M) (r r' : Account) (t : Turn A) (m' : M) : Type 0 where
     pub seen : ℕ
     pub account : r' ≡ account_after r (step_of k m seen)
     pub next : m' ≡ k.after m seen
@@ -89,5 +89,5 @@ acts_still false m = true
 acts_still true m = if is_gone m.status then false else true
 
 -- whatever such a machine of the identity c answers, it leaves another status than gone
-abbrev pub Stays : {A : Type 0} → Start → ℕ → (Memo → A → Type 0) → Type 0
-Stays {A} s c gives = (e : Account) (a : A) → Stood s e → e.who ≡ c → gives e.memo a → is_gone e.memo.status ≡ false
+abbrev pub CallStays : {A : Type 0} → Start → ℕ → (Memo → A → Type 0) → Type 0
+CallStays {A} s c gives = (e : Account) (a : A) → Stood s e → e.who ≡ c → gives e.memo a → is_gone e.memo.status ≡ false

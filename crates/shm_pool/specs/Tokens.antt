@@ -132,7 +132,7 @@ abbrev pub end_of : Start → List ℕ → List Account → End
 end_of s ws rs = record { start = s; words = ws; accounts = rs }
 
 -- words and accounts are the last state of a run, no identity has an agent, and the words are clean
-pub record IsEnd (s : Start) (ws : List ℕ) (rs : List Account) : Type 0 where
+pub record IsClosedRun (s : Start) (ws : List ℕ) (rs : List Account) : Type 0 where
   pub turns : List Move
   pub held : Held s.geometry ws rs
   pub leads : Leads s.geometry (first_state s) turns (state ws rs)

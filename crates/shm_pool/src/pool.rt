@@ -4,7 +4,7 @@ ghost use Rattle.std.specs.Prelude.{◌≡◌, ℕ, ◌<◌, ◌≤◌, [], leng
 ghost use Rattle.shm_words.specs.Layout.{total_of, GeometryFits};
 ghost use Rattle.shm_pool.specs.Rules.{count_in};
 ghost use Rattle.shm_graph.specs.Runs.{EraFits};
-ghost use Rattle.shm_pool.specs.Tokens.{first_tokens, AllOf, accounts_of, by_who, IsEnd};
+ghost use Rattle.shm_pool.specs.Tokens.{first_tokens, AllOf, accounts_of, by_who, IsClosedRun};
 ghost use Rattle.shm_pool.specs.Causes.{IfMissing};
 
 use crate::closing::{CloseCause, copy_words, missing, room, take_in};
@@ -45,13 +45,13 @@ pub struct Closed {
 }
 
 impl Model for Closed {
-    ghost use Rattle.shm_pool.specs.Tokens.{End, end_of, head_view, IsEnd};
+    ghost use Rattle.shm_pool.specs.Tokens.{End, end_of, head_view, IsClosedRun};
 
     ghost Value = { End };
 
     ghost view = { λ c. end_of c.start c.words.items (head_view c.badge.views) };
 
-    ghost invariant = { λ c. IsEnd c.start c.words.items (head_view c.badge.views) };
+    ghost invariant = { λ c. IsClosedRun c.start c.words.items (head_view c.badge.views) };
 }
 
 /// A closing that was refused: the pool and the tokens as they were, and why.
@@ -73,7 +73,7 @@ impl Closed {
     /// All words, in the order of their addresses.
     pub fn words(&self) -> &[u64]
         ensures words { result.now ≡ self.now.words }
-        ensures end { IsEnd self.now.start self.now.words self.now.accounts }
+        ensures end { IsClosedRun self.now.start self.now.words self.now.accounts }
     {
         self.words.as_slice()
     }

@@ -10,7 +10,7 @@ ghost use Rattle.shm_graph.specs.Laws.{is_died, is_done, is_some};
 ghost use Rattle.shm_graph.specs.Runs.{MayBegin, account_died, account_entered, Stood};
 ghost use Rattle.shm_graph.specs.Whole.{fits_now, gives_now};
 ghost use Rattle.shm_pool.specs.Rules.{IsOf, IsAlone, alone, Told, Follows};
-ghost use Rattle.shm_pool.specs.Calls.{Stepped, Calls, Tells, acts_still, shown};
+ghost use Rattle.shm_pool.specs.Calls.{ClientStepped, Calls, Tells, acts_still, shown};
 
 use crate::rule::{ClientBegins, Dies, Place, RecovererBegins, Say, Says, Top};
 use shm_graph::{Ask, Life, Machine, Turn};
@@ -65,7 +65,7 @@ pub(crate) fn step_place<M: Machine>(
     ensures stood { Stood top.now.key (alone place.new) }
     ensures died { is_died result ≡ true ↔ (life.old.left ≡ 0) }
     ensures stays { is_died result ≡ true → (alone place.new ≡ alone place.old) × (m.new ≡ m.old) × (life.new ≡ life.old) }
-    ensures turn { 0 < life.old.left → (life.new.left + 1 ≡ life.old.left) × Stepped M.control (fits_now M.control M.fits) (gives_now M.gives) m.old (alone place.old) (alone place.new) result m.new }
+    ensures turn { 0 < life.old.left → (life.new.left + 1 ≡ life.old.left) × ClientStepped M.control (fits_now M.control M.fits) (gives_now M.gives) m.old (alone place.old) (alone place.new) result m.new }
     ensures acts { acts (alone place.new).memo ≡ acts_still (is_done result) (alone place.new).memo }
     ensures who { (alone place.new).who ≡ (alone place.old).who }
     ensures kind { recovers (alone place.new).memo ≡ recovers (alone place.old).memo }

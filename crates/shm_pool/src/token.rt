@@ -9,9 +9,9 @@ ghost use Rattle.shm_graph.specs.Agents.{acts, recovers};
 ghost use Rattle.shm_graph.specs.Laws.{is_died};
 ghost use Rattle.shm_graph.specs.Runs.{account_entered, Stood};
 ghost use Rattle.shm_graph.specs.Whole.{fits_now, gives_now};
-ghost use Rattle.shm_recover.specs.Joining.{JoinGives, join_fresh, join_line};
+ghost use Rattle.shm_recover.specs.Join.{JoinGives, join_fresh, join_line};
 ghost use Rattle.shm_pool.specs.Rules.{IsAlone, alone};
-ghost use Rattle.shm_pool.specs.Calls.{Stepped, Calls, Stays, Tells, shown};
+ghost use Rattle.shm_pool.specs.Calls.{ClientStepped, Calls, CallStays, Tells, shown};
 ghost use Rattle.shm_pool.specs.Tokens.{me_of, begun_account, recovering, IsFor, IsFallen, IsOut};
 ghost use Rattle.shm_pool.specs.Replies.{IsLost, IfReply, is_reply};
 
@@ -182,12 +182,12 @@ impl Client {
     ) -> Turn<M::Answer>
         requires pool { self.old.of ≡ pool.now }
         requires machine { self.old.dead ≡ false → IsFor self.old.of self.old.account M.control m.old }
-        requires fits { self.old.dead ≡ false → (r0 : Memo) × fits_now M.control M.fits m.old r0 self.old.account.memo × Stays self.old.of.start self.old.account.who (gives_now M.gives m.old r0) }
+        requires fits { self.old.dead ≡ false → (r0 : Memo) × fits_now M.control M.fits m.old r0 self.old.account.memo × CallStays self.old.of.start self.old.account.who (gives_now M.gives m.old r0) }
         ensures same { (self.new.of ≡ self.old.of) × (self.new.account.who ≡ self.old.account.who) }
         ensures stood { Stood self.new.of.start self.new.account }
         ensures died { is_died result ≡ true ↔ ((life.old.left ≡ 0) ⊎ (self.old.dead ≡ true)) }
         ensures stays { is_died result ≡ true → (self.new.account ≡ self.old.account) × (m.new ≡ m.old) × (life.new ≡ life.old) × (self.new.dead ≡ true) }
-        ensures turn { (0 < life.old.left) → (self.old.dead ≡ false) → (life.new.left + 1 ≡ life.old.left) × (self.new.dead ≡ false) × Stepped M.control (fits_now M.control M.fits) (gives_now M.gives) m.old self.old.account self.new.account result m.new }
+        ensures turn { (0 < life.old.left) → (self.old.dead ≡ false) → (life.new.left + 1 ≡ life.old.left) × (self.new.dead ≡ false) × ClientStepped M.control (fits_now M.control M.fits) (gives_now M.gives) m.old self.old.account self.new.account result m.new }
     {
         if self.dead {
             return Turn::Died;
@@ -212,7 +212,7 @@ impl Client {
         requires pool { self.old.of ≡ pool.now }
         requires machine { self.old.dead ≡ false → IsFor self.old.of self.old.account M.control m.old }
         requires fits { self.old.dead ≡ false → fits_now M.control M.fits m.old self.old.account.memo self.old.account.memo }
-        requires stays { self.old.dead ≡ false → Stays self.old.of.start self.old.account.who (gives_now M.gives m.old self.old.account.memo) }
+        requires stays { self.old.dead ≡ false → CallStays self.old.of.start self.old.account.who (gives_now M.gives m.old self.old.account.memo) }
         ensures same { (self.new.of ≡ self.old.of) × (self.new.account.who ≡ self.old.account.who) }
         ensures stood { Stood self.new.of.start self.new.account }
         ensures died { IsLost result ↔ (self.new.dead ≡ true) }

@@ -22,9 +22,9 @@ use Rattle.shm_calls.specs.CallTells.{within_more}
 use Rattle.shm_calls.specs.Grown.{Grows, grows_then}
 use Rattle.shm_calls.specs.Parts.{IsHeld}
 use Rattle.shm_calls.specs.Words.{WordLeaves}
-use Rattle.shm_count.specs.SlotParts.{era_room}
+use Rattle.shm_count.specs.Slots.Parts.{era_room}
 use Rattle.shm_queue.specs.QueueWords.{TailSeen, item_inside}
-use Rattle.shm_queue.specs.TakeFits.{MayTakeFrom, IsHeadRead, IsItemRead, TakeEmpty, slot_memo}
+use Rattle.shm_queue.specs.Take.{MayTakeFrom, IsHeadRead, IsItemRead, TakeEmpty, slot_memo}
 
 -- what was read of tails and heads stays over a step that isn't the first one
 pub grows_later : (m r : Memo) → Grows false m r → Grows true m r
@@ -35,13 +35,13 @@ module _ (me : Me) (s : ℕ) where
   c = me.who
 
   -- the own head was read
-  pub head_read : (r0 rs r : Memo) (tr t : Trail) (es ds : List Event) (m : Word) (n : ℕ) → MayTakeFrom me s r0 → rs ≡ r0 → tr ≡ [] → es ≡ [] → WordLeaves (CountLoaded c (spot.Front s c)) m rs r t ds n → Grows true rs r → IsHeadRead me s n 1 r0 r (tr ++ t) (es ++ ds)
+  pub head_read : (r0 rs r : Memo) (tr t : Trail) (es ds : List Event) (m : Word) (n : ℕ) → MayTakeFrom me s r0 → rs ≡ r0 → tr ≡ [] → es ≡ [] → WordLeaves (CountLoaded c (spot.QueueHead s c)) m rs r t ds n → Grows true rs r → IsHeadRead me s n 1 r0 r (tr ++ t) (es ++ ds)
   head_read r0 rs r tr t es ds m n may same none quiet w grows =
       record {
         may = may;
         same = w.found.left ∙ ap core same;
         grows = subst (λ (x : Memo). Grows true x r) same grows;
-        head = w.found.found (eq-eqb c c refl) ∙ ap (λ (x : Memo). own_word x.own (spot.Front s c)) same;
+        head = w.found.found (eq-eqb c c refl) ∙ ap (λ (x : Memo). own_word x.own (spot.QueueHead s c)) same;
         none = ap (λ (x : List Event). x ++ ds) quiet ∙ w.none;
         bound = (let e = ap length (ap (λ (x : Trail). x ++ t) none) in let o = w.one in omega arith);
       }
@@ -70,9 +70,9 @@ module _ (me : Me) (s : ℕ) where
         let may = h.may in
         let one : IsWithin 1 t = (let o = w.one in omega arith) in
         let same : core r ≡ core r0 = w.found.left ∙ h.same in
-        let own : own_word r.own (spot.Front s c) ≡ at = ap (λ (x : Memo). own_word x.own (spot.Front s c)) same ∙ sym h.head in
-        let before : own_word rs.own (spot.Front s c) ≡ at = ap (λ (x : Memo). own_word x.own (spot.Front s c)) h.same ∙ sym h.head in
-        let above : own_word r.own (spot.Front s c) < n = (let e = other in let f = w.found.found.0 in omega arith) in (
+        let own : own_word r.own (spot.QueueHead s c) ≡ at = ap (λ (x : Memo). own_word x.own (spot.QueueHead s c)) same ∙ sym h.head in
+        let before : own_word rs.own (spot.QueueHead s c) ≡ at = ap (λ (x : Memo). own_word x.own (spot.QueueHead s c)) h.same ∙ sym h.head in
+        let above : own_word r.own (spot.QueueHead s c) < n = (let e = other in let f = w.found.found.0 in omega arith) in (
           record { may = may; same = same; grows = grows_then true r0 rs r h.grows (grows_later rs r grows); head = h.head; none = silent h.none w.none; bound = within_more 1 1 tr t h.bound one },
           record {
             from = may.from;
@@ -96,7 +96,7 @@ module _ (me : Me) (s : ℕ) where
         let total = total_small me.geometry may.geometry in
         let last = item.0.1 in
         let one : IsWithin 1 t = (let o = w.one in omega arith) in
-        let own : own_word rs.own (spot.Front s c) ≡ at = ap (λ (x : Memo). own_word x.own (spot.Front s c)) h.same ∙ sym h.head in
+        let own : own_word rs.own (spot.QueueHead s c) ≡ at = ap (λ (x : Memo). own_word x.own (spot.QueueHead s c)) h.same ∙ sym h.head in
         let later = grows_later rs r grows in (
           omega arith,
           record {

@@ -19,16 +19,16 @@ use Rattle.shm_queue.specs.declared.peek.PeekState.{PeekState}
 use Rattle.shm_queue.specs.declared.receive.ReceiveState.{ReceiveState}
 use Rattle.shm_queue.specs.declared.send.SendState.{SendState}
 use Rattle.shm_queue.specs.declared.take.TakeState.{TakeState}
-use Rattle.shm_queue.specs.DrainControl.{DrainCall, DrainAnswer, drain_parts, draining}
-use Rattle.shm_queue.specs.DrainFits.{drain_plan}
-use Rattle.shm_queue.specs.PeekControl.{PeekCall, PeekAnswer, peek_parts, peeking}
-use Rattle.shm_queue.specs.PeekFits.{peek_plan}
-use Rattle.shm_queue.specs.ReceiveControl.{ReceiveCall, ReceiveAnswer, receive_parts, receiving}
-use Rattle.shm_queue.specs.ReceiveFits.{receive_plan}
-use Rattle.shm_queue.specs.SendControl.{SendCall, SendAnswer, send_parts, sending}
-use Rattle.shm_queue.specs.SendFits.{send_plan}
-use Rattle.shm_queue.specs.TakeControl.{TakeCall, TakeAnswer, take_parts, taking}
-use Rattle.shm_queue.specs.TakeFits.{take_plan}
+use Rattle.shm_queue.specs.Drain.Control.{DrainCall, DrainAnswer, drain_parts, draining}
+use Rattle.shm_queue.specs.Drain.{drain_plan}
+use Rattle.shm_queue.specs.Peek.Control.{PeekCall, PeekAnswer, peek_parts, peeking}
+use Rattle.shm_queue.specs.Peek.{peek_plan}
+use Rattle.shm_queue.specs.Receive.Control.{ReceiveCall, ReceiveAnswer, receive_parts, receiving}
+use Rattle.shm_queue.specs.Receive.{receive_plan}
+use Rattle.shm_queue.specs.Send.Control.{SendCall, SendAnswer, send_parts, sending}
+use Rattle.shm_queue.specs.Send.{send_plan}
+use Rattle.shm_queue.specs.Take.Control.{TakeCall, TakeAnswer, take_parts, taking}
+use Rattle.shm_queue.specs.Take.{take_plan}
 
 -- ---- the send of block b to i
 

@@ -7,7 +7,7 @@ use Rattle.shm_words.specs.declared.place.Place.TheVariants as place
 use Rattle.shm_words.specs.Layout.{GeometryFits, address, is_in, total_of}
 use Rattle.shm_words.proofs.Placing.{address_small, total_small}
 use Rattle.shm_graph.specs.declared.ask.Me.{Me}
-use Rattle.shm_graph.specs.declared.spot.Spot.TheVariants.{Era, Front, Slot, Spare, Tail}
+use Rattle.shm_graph.specs.declared.spot.Spot.TheVariants.{Era, QueueHead, Slot, Spare, Tail}
 use Rattle.shm_graph.specs.declared.memo.Fact.TheVariants.{Counter}
 use Rattle.shm_graph.specs.declared.memo.Memo.{Memo}
 use Rattle.shm_graph.specs.declared.memo.Op.TheVariants.{Nothing}
@@ -19,8 +19,8 @@ use Rattle.shm_graph.specs.Reach.{is_reached}
 use Rattle.shm_graph.specs.Spots.{spot_address}
 use Rattle.shm_graph.specs.Stores.{put}
 use Rattle.shm_graph.specs.Views.{own_word}
-use Rattle.shm_graph.proofs.SpotPlaces.{spot-place}
-use Rattle.shm_graph.proofs.Spotting.{in_pool}
+use Rattle.shm_graph.proofs.Spots.SpotPlaces.{spot-place}
+use Rattle.shm_graph.proofs.Spots.Spotting.{in_pool}
 use Rattle.shm_steps.specs.Conditions.{IsHere}
 use Rattle.shm_steps.specs.Raising.{is_read}
 use Rattle.shm_steps.specs.Reparting.{Sight}
@@ -28,10 +28,10 @@ use Rattle.shm_steps.proofs.Items.{put_at}
 use Rattle.shm_count.specs.declared.point.Aim.TheVariants.{Up, Down}
 use Rattle.shm_count.specs.declared.point.StepPoint.TheVariants as point
 use Rattle.shm_count.specs.declared.point.StepState.{StepState}
-use Rattle.shm_count.specs.SlotLeaves.{MayStepAt}
-use Rattle.shm_count.specs.StepControl.{IsInside}
-use Rattle.shm_count.specs.StepFits.{CanStep}
-use Rattle.shm_count.specs.StepParts.{part_after}
+use Rattle.shm_count.specs.Slots.{MayStepAt}
+use Rattle.shm_count.specs.Step.Control.{IsInside}
+use Rattle.shm_count.specs.Step.{CanStep}
+use Rattle.shm_count.specs.Step.Parts.{part_after}
 
 -- ---- lists
 
@@ -89,7 +89,7 @@ pub record MayPutAt (me : Me) (i k b : ℕ) (r : Memo) : Type 0 where
   pub other : me.who ≢ i
   pub next : k ≡ own_word r.own (Tail me.who i) % 8
   pub none : slice_index r.unsent i ≡ 0
-  pub read : (y : ℕ) × Contains r.facts (Counter (Front me.who i) y) × (own_word r.own (Tail me.who i) < y + 8)
+  pub read : (y : ℕ) × Contains r.facts (Counter (QueueHead me.who i) y) × (own_word r.own (Tail me.who i) < y + 8)
   pub reach : is_reached me.who r b ≡ true
   pub inside : IsInside me b
   pub value : is_loose r.part ≡ false → Contains r.values b

@@ -10,7 +10,7 @@ use Rattle.shm_words.specs.Layout.{address, total_of}
 use Rattle.shm_graph.specs.declared.ask.Ask.TheVariants.{Load}
 use Rattle.shm_graph.specs.declared.ask.Me.{Me}
 use Rattle.shm_graph.specs.declared.spot.Spot.{Spot}
-use Rattle.shm_graph.specs.declared.spot.Spot.TheVariants.{Era, Front, Home, Slot, Tail}
+use Rattle.shm_graph.specs.declared.spot.Spot.TheVariants.{Era, QueueHead, Home, Slot, Tail}
 use Rattle.shm_graph.specs.declared.memo.Fact.TheVariants.{Counter}
 use Rattle.shm_graph.specs.declared.memo.Memo.{Memo}
 use Rattle.shm_graph.specs.declared.memo.Op.TheVariants.{Nothing}
@@ -20,10 +20,10 @@ use Rattle.shm_graph.specs.declared.memo.Look.{Look}
 use Rattle.shm_graph.specs.declared.memo.Stored.{Stored}
 use Rattle.shm_graph.specs.Reach.{in_slot, in_slots, is_reached, named_blocks, not_zero, reached_blocks, roots_below, shown}
 use Rattle.shm_graph.specs.Views.{own_word, view}
-use Rattle.shm_graph.proofs.Calls.{FactHolds}
-use Rattle.shm_graph.proofs.Holders.{Holds, reach_counted, target_counted}
-use Rattle.shm_graph.proofs.Reached.{reached_here}
-use Rattle.shm_graph.proofs.SpotPlaces.{spot-place}
+use Rattle.shm_graph.proofs.Memos.Calls.{FactHolds}
+use Rattle.shm_graph.proofs.States.Holders.{Holds, reach_counted, target_counted}
+use Rattle.shm_graph.proofs.States.Reached.{reached_here}
+use Rattle.shm_graph.proofs.Spots.SpotPlaces.{spot-place}
 use Rattle.shm_laws.proofs.Keep.{Contains-filter}
 use Rattle.shm_calls.specs.Parts.{IsHeld}
 use Rattle.shm_calls.specs.Words.{IsWord}
@@ -32,19 +32,19 @@ use Rattle.shm_steps.specs.WordParts.{Leaves, same_memo}
 use Rattle.shm_steps.proofs.BeginAt.{word_target}
 use Rattle.shm_steps.proofs.BeginWords.{known_here}
 use Rattle.shm_steps.proofs.Cores.{room_least}
-use Rattle.shm_steps.proofs.WordsOwn.{at_step, word_for}
+use Rattle.shm_steps.proofs.Words.Own.{at_step, word_for}
 use Rattle.shm_count.specs.DyingBlocks.{live_room}
-use Rattle.shm_count.specs.StepControl.{IsInside}
+use Rattle.shm_count.specs.Step.Control.{IsInside}
 
 -- ---- loads of heads and tails
 
 -- the head of a queue to another is loaded: it is at most 8 below the own tail, and joins what was read
 abbrev pub HeadSeen : ℕ → ℕ → Memo → ℕ → Memo → Type 0
-HeadSeen c i = Leaves (λ m n. (n ≤ own_word m.own (Tail c i)) × (own_word m.own (Tail c i) ≤ n + 8)) same_memo (λ m n x. Contains x.facts (Counter (Front c i) n))
+HeadSeen c i = Leaves (λ m n. (n ≤ own_word m.own (Tail c i)) × (own_word m.own (Tail c i) ≤ n + 8)) same_memo (λ m n x. Contains x.facts (Counter (QueueHead c i) n))
 
 -- the tail of a queue from another is loaded: it isn't below the own head nor below a tail that was read, and joins what was read
 abbrev pub TailSeen : ℕ → ℕ → Memo → ℕ → Memo → Type 0
-TailSeen c s = Leaves (λ m n. (own_word m.own (Front s c) ≤ n) × ((y : ℕ) → Contains m.facts (Counter (Tail s c) y) → y ≤ n)) same_memo (λ m n x. Contains x.facts (Counter (Tail s c) n))
+TailSeen c s = Leaves (λ m n. (own_word m.own (QueueHead s c) ≤ n) × ((y : ℕ) → Contains m.facts (Counter (Tail s c) y) → y ≤ n)) same_memo (λ m n x. Contains x.facts (Counter (Tail s c) n))
 
 module _ (first : Bool) (me : Me) (m : Memo) (l : me.who < me.geometry.clients) where
   abbrev c : ℕ
@@ -53,13 +53,13 @@ module _ (first : Bool) (me : Me) (m : Memo) (l : me.who < me.geometry.clients) 
   pub head_seen : (i : ℕ) → i < me.geometry.clients → c ≢ i → IsWord first me (Load (address me.geometry (place.Head c i))) (HeadSeen c i) (word_for me (Load (address me.geometry (place.Head c i)))) m
   head_seen i li other =
       let at : ℕ = address me.geometry (place.Head c i) in
-      load_at first me at (HeadSeen c i) m (Front c i) (λ class. spot-place me.geometry class (place.Head c i) (and_from _ _ (lt-ltb c me.geometry.clients l) (lt-ltb i me.geometry.clients li))) (λ e. cc) refl tt
+      load_at first me at (HeadSeen c i) m (QueueHead c i) (λ class. spot-place me.geometry class (place.Head c i) (and_from _ _ (lt-ltb c me.geometry.clients l) (lt-ltb i me.geometry.clients li))) (λ e. cc) refl tt
       (λ w r f st stands same.
       let lane = st.held.lanes c i l li other in
       let own : own_word m.own (Tail c i) ≡ w (Tail c i) = ap (λ (y : Memo). own_word y.own (Tail c i)) (sym same) ∙ st.held.mine c l (Tail c i) (eq-eqb c c refl) in
       record {
         found = ((let o = lane.order in omega arith), (let o = lane.room in omega arith));
-        left = at_step r c m (framed me (Load at) f (w (Front c i))) same;
+        left = at_step r c m (framed me (Load at) f (w (QueueHead c i))) same;
         read = (0, omega arith, refl);
       })
 
@@ -69,7 +69,7 @@ module _ (first : Bool) (me : Me) (m : Memo) (l : me.who < me.geometry.clients) 
       load_at first me at (TailSeen c s) m (Tail s c) (λ class. spot-place me.geometry class (place.Tail s c) (and_from _ _ (lt-ltb s me.geometry.clients ls) (lt-ltb c me.geometry.clients l))) (λ e. cc) refl tt
       (λ w r f st stands same.
       let lane = st.held.lanes s c ls l other in
-      let own : own_word m.own (Front s c) ≡ w (Front s c) = ap (λ (y : Memo). own_word y.own (Front s c)) (sym same) ∙ st.held.mine c l (Front s c) (eq-eqb c c refl) in
+      let own : own_word m.own (QueueHead s c) ≡ w (QueueHead s c) = ap (λ (y : Memo). own_word y.own (QueueHead s c)) (sym same) ∙ st.held.mine c l (QueueHead s c) (eq-eqb c c refl) in
       record {
         found = ((let o = lane.order in omega arith), λ y has. All-contains (FactHolds me.geometry w (view r)) (r c).facts (Counter (Tail s c) y) (st.held.facts c l) (subst (λ (x : Memo). Contains x.facts (Counter (Tail s c) y)) (sym same) has));
         left = at_step r c m (framed me (Load at) f (w (Tail s c))) same;
@@ -106,19 +106,19 @@ module _ (me : Me) (l : me.who < me.geometry.clients) where
   pub tail_small : (i : ℕ) (m : Memo) → i < me.geometry.clients → IsHeld me m → own_word m.own (Tail me.who i) + 1 < 2 ^ 64
   tail_small i m li (w, r, h, same) = subst (λ (x : Memo). own_word x.own (Tail me.who i) + 1 < 2 ^ 64) same (tail_at i li w r h)
 
-  head_at : (s : ℕ) → s < me.geometry.clients → s ≢ me.who → (w : Spot → ℕ) (r : ℕ → Memo) → HeldAt me.geometry w (view r) → own_word (r me.who).own (Front s me.who) < 2 ^ 47
+  head_at : (s : ℕ) → s < me.geometry.clients → s ≢ me.who → (w : Spot → ℕ) (r : ℕ → Memo) → HeldAt me.geometry w (view r) → own_word (r me.who).own (QueueHead s me.who) < 2 ^ 47
   head_at s ls other w r h =
-      let own : own_word (r me.who).own (Front s me.who) ≡ w (Front s me.who) = h.mine me.who l (Front s me.who) (eq-eqb me.who me.who refl) in
+      let own : own_word (r me.who).own (QueueHead s me.who) ≡ w (QueueHead s me.who) = h.mine me.who l (QueueHead s me.who) (eq-eqb me.who me.who refl) in
       let order = (h.lanes s me.who ls l other).order in
       let most = (h.tails s me.who ls l).0 in
       let room = (h.own s ls).room in
       let least = room_least (r s).op in
       omega arith
 
-  pub head_low : (s : ℕ) (m : Memo) → s < me.geometry.clients → s ≢ me.who → IsHeld me m → own_word m.own (Front s me.who) < 2 ^ 47
-  head_low s m ls other (w, r, h, same) = subst (λ (x : Memo). own_word x.own (Front s me.who) < 2 ^ 47) same (head_at s ls other w r h)
+  pub head_low : (s : ℕ) (m : Memo) → s < me.geometry.clients → s ≢ me.who → IsHeld me m → own_word m.own (QueueHead s me.who) < 2 ^ 47
+  head_low s m ls other (w, r, h, same) = subst (λ (x : Memo). own_word x.own (QueueHead s me.who) < 2 ^ 47) same (head_at s ls other w r h)
 
-  pub head_small : (s : ℕ) (m : Memo) → s < me.geometry.clients → s ≢ me.who → IsHeld me m → own_word m.own (Front s me.who) + 1 < 2 ^ 64
+  pub head_small : (s : ℕ) (m : Memo) → s < me.geometry.clients → s ≢ me.who → IsHeld me m → own_word m.own (QueueHead s me.who) + 1 < 2 ^ 64
   head_small s m ls other held = let low = head_low s m ls other held in omega arith
 
   -- a block in reach is a counted block of the pool

@@ -11,10 +11,10 @@ use Rattle.shm_count.specs.declared.answer.EraSpent.{EraSpent as ASpent}
 use Rattle.shm_count.specs.declared.answer.UpFault.TheVariants.{EraSpent, CountFull}
 use Rattle.shm_count.specs.declared.point.Aim.TheVariants.{Down}
 use Rattle.shm_count.specs.declared.point.StepState.{StepState}
-use Rattle.shm_count.specs.SlotParts.{down_slot_part, down_slot_laws}
-use Rattle.shm_count.specs.StepControl.{last_era}
-use Rattle.shm_count.specs.StepMachines.{down_control, down_told}
-use Rattle.shm_count.specs.StepTrail.{StepTrails, exchange_trail, header_trail, redo_trail, row_trail, set_trail, show_trail, slot_trail, step_trail}
+use Rattle.shm_count.specs.Slots.Parts.{down_slot_part, down_slot_laws}
+use Rattle.shm_count.specs.Step.Control.{last_era}
+use Rattle.shm_count.specs.Step.Machines.{down_control, down_told}
+use Rattle.shm_count.specs.Step.Asks.{StepTrails, exchange_trail, header_trail, redo_trail, row_trail, set_trail, show_trail, slot_trail, step_trail}
 
 -- ---- the trail
 

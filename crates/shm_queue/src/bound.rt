@@ -5,17 +5,17 @@ ghost use Rattle.shm_graph.specs.declared.ask.Me.{Me as AMe};
 ghost use Rattle.shm_graph.specs.declared.memo.Memo.{Memo as AMemo};
 ghost use Rattle.shm_graph.specs.Asks.{Trail, IsWithin};
 ghost use Rattle.shm_graph.specs.Bounds.{drain_steps, tear_steps};
-ghost use Rattle.shm_count.specs.TearEvents.{frees};
+ghost use Rattle.shm_count.specs.Tear.Events.{frees};
 ghost use Rattle.shm_count.specs.declared.answer.EraSpent.{EraSpent as ASpent};
 ghost use Rattle.shm_count.specs.declared.answer.Made.{Made as AMade};
 ghost use Rattle.shm_queue.specs.declared.answer.PeekFault.{PeekFault as APeekFault};
 ghost use Rattle.shm_queue.specs.declared.answer.PeekFault.TheVariants.{CountFull as IsCounted, Empty as IsVacant, EraSpent as IsLate, RootsFull as AreFull};
 ghost use Rattle.shm_queue.specs.declared.answer.SendFault.{SendFault as ASendFault};
 ghost use Rattle.shm_queue.specs.declared.answer.TakeFault.TheVariants.{Empty as IsEmpty, EraSpent as IsSpent};
-ghost use Rattle.shm_queue.specs.DrainFits.{DrainStopped};
+ghost use Rattle.shm_queue.specs.Drain.{DrainStopped};
 ghost use Rattle.shm_queue.specs.Machines.{DrainGives, drain_told, PeekGives, ReceiveGives, receive_told, SendGives, TakeGives, take_told};
-ghost use Rattle.shm_queue.specs.ReceiveFits.{ReceiveStopped};
-ghost use Rattle.shm_queue.specs.TakeFits.{TakeStopped};
+ghost use Rattle.shm_queue.specs.Receive.{ReceiveStopped};
+ghost use Rattle.shm_queue.specs.Take.{TakeStopped};
 
 /// A send took at most 11 word steps, and three more for each exchange that failed.
 pub fn send_bound()

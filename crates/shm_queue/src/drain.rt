@@ -2,10 +2,10 @@
 
 ghost use Rattle.std.specs.Prelude.{◌≡◌, ◌<◌};
 ghost use Rattle.shm_words.specs.Layout.{GeometryFits};
-ghost use Rattle.shm_queue.specs.DrainControl.{draining, turned, turned_answer};
-ghost use Rattle.shm_queue.specs.DrainFits.{drain_plan};
-ghost use Rattle.shm_queue.specs.DrainLaws.{drain_laws};
-ghost use Rattle.shm_queue.specs.TakeLaws.{take_laws};
+ghost use Rattle.shm_queue.specs.Drain.Control.{draining, turned, turned_answer};
+ghost use Rattle.shm_queue.specs.Drain.{drain_plan};
+ghost use Rattle.shm_queue.specs.Drain.Laws.{drain_laws};
+ghost use Rattle.shm_queue.specs.Take.Laws.{take_laws};
 
 use crate::answer::TakeFault;
 use crate::take::{Take, Taking};
@@ -45,7 +45,7 @@ impl Model for Draining {
 
     ghost view = { λ a. a.state };
 
-    ghost use Rattle.shm_queue.specs.DrainControl.{DrainInRange};
+    ghost use Rattle.shm_queue.specs.Drain.Control.{DrainInRange};
 
     ghost invariant = { λ a. DrainInRange a.state };
 }

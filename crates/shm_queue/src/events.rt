@@ -13,19 +13,19 @@ ghost use Rattle.shm_count.specs.declared.answer.Made.{Made as AMade};
 ghost use Rattle.shm_queue.specs.declared.answer.PeekFault.{PeekFault as APeekFault};
 ghost use Rattle.shm_queue.specs.declared.answer.SendFault.{SendFault as ASendFault};
 ghost use Rattle.shm_queue.specs.declared.answer.TakeFault.{TakeFault as ATakeFault};
-ghost use Rattle.shm_queue.specs.DrainControl.{drain_parts, draining};
-ghost use Rattle.shm_queue.specs.DrainFits.{MayDrain, DrainLeaves, drain_plan};
+ghost use Rattle.shm_queue.specs.Drain.Control.{drain_parts, draining};
+ghost use Rattle.shm_queue.specs.Drain.{MayDrain, DrainLeaves, drain_plan};
 ghost use Rattle.shm_queue.specs.Machines.{drain, DrainFits, DrainGives, drain_told, peek, PeekFits, PeekGives, peek_told};
 ghost use Rattle.shm_queue.specs.Machines.{send, SendFits, SendGives, send_told, take, TakeFits, TakeGives, take_told};
-ghost use Rattle.shm_queue.specs.PeekControl.{peek_parts, peeking};
-ghost use Rattle.shm_queue.specs.PeekFits.{MayPeekFrom, PeekLeaves, peek_plan};
+ghost use Rattle.shm_queue.specs.Peek.Control.{peek_parts, peeking};
+ghost use Rattle.shm_queue.specs.Peek.{MayPeekFrom, PeekLeaves, peek_plan};
 ghost use Rattle.shm_queue.specs.Machines.{receive, ReceiveFits, ReceiveGives, receive_told};
-ghost use Rattle.shm_queue.specs.ReceiveControl.{receive_parts, receiving};
-ghost use Rattle.shm_queue.specs.ReceiveFits.{ReceiveLeaves, receive_plan};
-ghost use Rattle.shm_queue.specs.SendControl.{send_parts, sending};
-ghost use Rattle.shm_queue.specs.SendFits.{MaySendTo, SendLeaves, send_plan};
-ghost use Rattle.shm_queue.specs.TakeControl.{take_parts, taking};
-ghost use Rattle.shm_queue.specs.TakeFits.{MayTakeFrom, TakeLeaves, take_plan};
+ghost use Rattle.shm_queue.specs.Receive.Control.{receive_parts, receiving};
+ghost use Rattle.shm_queue.specs.Receive.{ReceiveLeaves, receive_plan};
+ghost use Rattle.shm_queue.specs.Send.Control.{send_parts, sending};
+ghost use Rattle.shm_queue.specs.Send.{MaySendTo, SendLeaves, send_plan};
+ghost use Rattle.shm_queue.specs.Take.Control.{take_parts, taking};
+ghost use Rattle.shm_queue.specs.Take.{MayTakeFrom, TakeLeaves, take_plan};
 
 /// A send fits each memo of a client that is here, with no step in progress, the block in reach and nothing unsent in the queue.
 pub fn send_begins()

@@ -2,9 +2,9 @@
 
 ghost use Rattle.std.specs.Prelude.{◌≡◌, ◌<◌};
 ghost use Rattle.shm_words.specs.Layout.{GeometryFits};
-ghost use Rattle.shm_queue.specs.PeekControl.{peeking, after_word, turns_word};
-ghost use Rattle.shm_queue.specs.PeekFits.{peek_plan};
-ghost use Rattle.shm_queue.specs.PeekLaws.{peek_laws};
+ghost use Rattle.shm_queue.specs.Peek.Control.{peeking, after_word, turns_word};
+ghost use Rattle.shm_queue.specs.Peek.{peek_plan};
+ghost use Rattle.shm_queue.specs.Peek.Laws.{peek_laws};
 
 use crate::answer::PeekFault;
 use shm_calls::{Calls, Or, Plan, Word};
@@ -49,7 +49,7 @@ impl Model for Peeking {
 
     ghost view = { λ a. a.state };
 
-    ghost use Rattle.shm_queue.specs.PeekControl.{PeekInRange};
+    ghost use Rattle.shm_queue.specs.Peek.Control.{PeekInRange};
 
     ghost invariant = { λ a. PeekInRange a.state };
 }

@@ -2,11 +2,11 @@
 
 ghost use Rattle.std.specs.Prelude.{◌≡◌, ◌<◌};
 ghost use Rattle.shm_words.specs.Layout.{GeometryFits};
-ghost use Rattle.shm_queue.specs.ReceiveControl.{receiving};
-ghost use Rattle.shm_queue.specs.ReceiveFits.{receive_plan};
-ghost use Rattle.shm_queue.specs.PeekLaws.{peek_laws};
-ghost use Rattle.shm_queue.specs.ReceiveLaws.{receive_laws};
-ghost use Rattle.shm_queue.specs.TakeLaws.{take_laws};
+ghost use Rattle.shm_queue.specs.Receive.Control.{receiving};
+ghost use Rattle.shm_queue.specs.Receive.{receive_plan};
+ghost use Rattle.shm_queue.specs.Peek.Laws.{peek_laws};
+ghost use Rattle.shm_queue.specs.Receive.Laws.{receive_laws};
+ghost use Rattle.shm_queue.specs.Take.Laws.{take_laws};
 
 use crate::answer::{PeekFault, TakeFault};
 use crate::peek::{Peek, Peeking};
@@ -48,7 +48,7 @@ impl Model for Receiving {
 
     ghost view = { λ a. a.state };
 
-    ghost use Rattle.shm_queue.specs.ReceiveControl.{ReceiveInRange};
+    ghost use Rattle.shm_queue.specs.Receive.Control.{ReceiveInRange};
 
     ghost invariant = { λ a. ReceiveInRange a.state };
 }

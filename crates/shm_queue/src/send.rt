@@ -2,9 +2,9 @@
 
 ghost use Rattle.std.specs.Prelude.{◌≡◌, ◌<◌, ◌^◌};
 ghost use Rattle.shm_words.specs.Layout.{GeometryFits};
-ghost use Rattle.shm_queue.specs.SendControl.{sending};
-ghost use Rattle.shm_queue.specs.SendFits.{send_plan};
-ghost use Rattle.shm_queue.specs.SendLaws.{send_laws};
+ghost use Rattle.shm_queue.specs.Send.Control.{sending};
+ghost use Rattle.shm_queue.specs.Send.{send_plan};
+ghost use Rattle.shm_queue.specs.Send.Laws.{send_laws};
 
 use crate::answer::SendFault;
 use shm_calls::{Calls, Or, Plan, Word};
@@ -48,7 +48,7 @@ impl Model for Sending {
 
     ghost view = { λ a. a.state };
 
-    ghost use Rattle.shm_queue.specs.SendControl.{SendInRange};
+    ghost use Rattle.shm_queue.specs.Send.Control.{SendInRange};
 
     ghost invariant = { λ a. SendInRange a.state };
 }

@@ -2,9 +2,9 @@
 
 ghost use Rattle.std.specs.Prelude.{◌≡◌, ◌<◌};
 ghost use Rattle.shm_words.specs.Layout.{GeometryFits};
-ghost use Rattle.shm_queue.specs.TakeControl.{taking, after_word, turns_word};
-ghost use Rattle.shm_queue.specs.TakeFits.{take_plan};
-ghost use Rattle.shm_queue.specs.TakeLaws.{take_laws};
+ghost use Rattle.shm_queue.specs.Take.Control.{taking, after_word, turns_word};
+ghost use Rattle.shm_queue.specs.Take.{take_plan};
+ghost use Rattle.shm_queue.specs.Take.Laws.{take_laws};
 
 use crate::answer::TakeFault;
 use shm_calls::{Calls, Or, Plan, Word};
@@ -53,7 +53,7 @@ impl Model for Taking {
 
     ghost view = { λ a. a.state };
 
-    ghost use Rattle.shm_queue.specs.TakeControl.{TakeInRange};
+    ghost use Rattle.shm_queue.specs.Take.Control.{TakeInRange};
 
     ghost invariant = { λ a. TakeInRange a.state };
 }

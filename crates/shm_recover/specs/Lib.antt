@@ -1,10 +1,3 @@
-pub mod JoinTrail
-pub mod Joining
-pub mod JoinKeeps
-pub mod JoinPart
-pub mod LeaveControl
-pub mod LeaveFits
-pub mod LeaveWords
-pub mod LeaveLaws
-pub mod LeaveGone
+pub mod Join
+pub mod Leave
 pub mod Machines

@@ -11,8 +11,8 @@ use Rattle.shm_calls.specs.CallsControl.{calls_control, calls_of, calls_does}
 use Rattle.shm_calls.specs.CallsFit.{CallsFits, CallsGives}
 use Rattle.shm_count.specs.declared.answer.EraSpent.{EraSpent}
 use Rattle.shm_recover.specs.declared.leave.LeaveState.{LeaveState}
-use Rattle.shm_recover.specs.LeaveControl.{LeaveAnswer, LeaveCall, leave_parts, leaving}
-use Rattle.shm_recover.specs.LeaveFits.{leave_plan}
+use Rattle.shm_recover.specs.Leave.Control.{LeaveAnswer, LeaveCall, leave_parts, leaving}
+use Rattle.shm_recover.specs.Leave.{leave_plan}
 
 abbrev pub leave : Control (Calls LeaveState LeaveCall (Result (Unit {0}) EraSpent) LeaveAnswer) (Result (Unit {0}) EraSpent)
 leave = calls_control leave_parts leave_plan

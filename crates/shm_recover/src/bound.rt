@@ -6,7 +6,7 @@ ghost use Rattle.shm_graph.specs.declared.memo.Memo.{Memo as AMemo};
 ghost use Rattle.shm_graph.specs.Asks.{Trail, IsWithin};
 ghost use Rattle.shm_graph.specs.Bounds.{leave_steps};
 ghost use Rattle.shm_count.specs.declared.answer.EraSpent.{EraSpent as ASpent};
-ghost use Rattle.shm_count.specs.TearEvents.{Visit, frees};
+ghost use Rattle.shm_count.specs.Tear.Events.{Visit, frees};
 ghost use Rattle.shm_ref.specs.Lefts.{Stopped};
 ghost use Rattle.shm_recover.specs.Machines.{LeaveGives, leave_told};
 

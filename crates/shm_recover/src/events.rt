@@ -14,9 +14,9 @@ ghost use Rattle.shm_calls.specs.CallsControl.{calls_does};
 ghost use Rattle.shm_calls.specs.CallsFit.{CallsFits};
 ghost use Rattle.shm_calls.specs.Plans.{plan_trail};
 ghost use Rattle.shm_count.specs.declared.answer.EraSpent.{EraSpent as ASpent};
-ghost use Rattle.shm_recover.specs.Joining.{IsMember};
-ghost use Rattle.shm_recover.specs.LeaveControl.{leave_parts, leaving};
-ghost use Rattle.shm_recover.specs.LeaveFits.{LeaveLeaves, MayLeave, leave_plan};
+ghost use Rattle.shm_recover.specs.Join.{IsMember};
+ghost use Rattle.shm_recover.specs.Leave.Control.{leave_parts, leaving};
+ghost use Rattle.shm_recover.specs.Leave.{LeaveLeaves, MayLeave, leave_plan};
 ghost use Rattle.shm_recover.specs.Machines.{leave, LeaveFit, LeaveGives, leave_told};
 
 /// A leaving fits each memo that shows the identity to be here, with no step in progress and nothing left to finish but roots and

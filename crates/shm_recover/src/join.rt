@@ -6,8 +6,8 @@ ghost use Rattle.shm_graph.specs.declared.memo.Memo.{Memo as AMemo};
 ghost use Rattle.shm_graph.specs.Asks.{Trail, IsWithin};
 ghost use Rattle.shm_recover.specs.declared.join.JoinState.{JoinState as AJoin};
 ghost use Rattle.shm_graph.specs.Bounds.{join_steps};
-ghost use Rattle.shm_recover.specs.Joining.{join_control, join_fresh, JoinFits, JoinGives};
-ghost use Rattle.shm_recover.specs.JoinKeeps.{join_laws};
+ghost use Rattle.shm_recover.specs.Join.{join_control, join_fresh, JoinFits, JoinGives};
+ghost use Rattle.shm_recover.specs.Join.Keeps.{join_laws};
 
 use shm_graph::{Ask, Machine, Me, Turn};
 use std::marker::Model;
@@ -41,7 +41,7 @@ impl Model for Join {
 
     ghost view = { λ a. a.state };
 
-    ghost use Rattle.shm_recover.specs.Joining.{IsMember};
+    ghost use Rattle.shm_recover.specs.Join.{IsMember};
 
     ghost invariant = { λ a. IsMember a.state.me };
 }

@@ -2,9 +2,9 @@
 
 ghost use Rattle.std.specs.Prelude.{◌≡◌, ◌<◌};
 ghost use Rattle.shm_words.specs.Layout.{GeometryFits};
-ghost use Rattle.shm_recover.specs.LeaveControl.{leaving, leave_next};
-ghost use Rattle.shm_recover.specs.LeaveFits.{leave_plan};
-ghost use Rattle.shm_recover.specs.LeaveLaws.{leave_laws};
+ghost use Rattle.shm_recover.specs.Leave.Control.{leaving, leave_next};
+ghost use Rattle.shm_recover.specs.Leave.{leave_plan};
+ghost use Rattle.shm_recover.specs.Leave.Laws.{leave_laws};
 
 use shm_calls::{Calls, Or, Plan, Word};
 use shm_count::EraSpent;
@@ -63,7 +63,7 @@ impl Model for Leaving {
 
     ghost view = { λ a. a.state };
 
-    ghost use Rattle.shm_recover.specs.LeaveControl.{LeaveInRange};
+    ghost use Rattle.shm_recover.specs.Leave.Control.{LeaveInRange};
 
     ghost invariant = { λ a. LeaveInRange a.state };
 }

@@ -14,9 +14,9 @@ use Rattle.shm_count.specs.declared.answer.UpFault.{UpFault}
 use Rattle.shm_count.specs.declared.answer.UpFault.TheVariants.{CountFull, EraSpent}
 use Rattle.shm_count.specs.declared.point.Aim.{Aim}
 use Rattle.shm_count.specs.Roots.{rest}
-use Rattle.shm_count.specs.SlotLeaves.{Filled, Lost, Sifts, StepCause, Untouched}
-use Rattle.shm_count.specs.StepParts.{part_after}
-use Rattle.shm_count.specs.TearMemos.{is_slot_word}
+use Rattle.shm_count.specs.Slots.{Filled, Lost, Sifts, StepCause, Untouched}
+use Rattle.shm_count.specs.Step.Parts.{part_after}
+use Rattle.shm_count.specs.Tear.Memos.{is_slot_word}
 
 -- what stays of what a memo knows depends on what it knows, and on its value blocks
 sifts_of : (c t : ℕ) (z : Bool) (a b r : Memo) → a.known ≡ b.known → a.values ≡ b.values → Sifts c t z a r → Sifts c t z b r

@@ -14,14 +14,14 @@ use Rattle.shm_graph.specs.Laws.{framed}
 use Rattle.shm_graph.specs.Readings.{home_read, is_held}
 use Rattle.shm_graph.specs.Spots.{spot_at}
 use Rattle.shm_graph.specs.Views.{own_word}
-use Rattle.shm_graph.proofs.SpotPlaces.{spot-place}
+use Rattle.shm_graph.proofs.Spots.SpotPlaces.{spot-place}
 use Rattle.shm_calls.specs.declared.word.Word.{Word}
 use Rattle.shm_calls.specs.Parts.{Part}
 use Rattle.shm_calls.specs.Words.{word_part}
 use Rattle.shm_calls.specs.WordSteps.{load_at}
 use Rattle.shm_steps.specs.WordParts.{Leaves, nothing_read, own_at}
 use Rattle.shm_steps.proofs.Cores.{core_cond}
-use Rattle.shm_steps.proofs.WordsOwn.{at_step}
+use Rattle.shm_steps.proofs.Words.Own.{at_step}
 
 -- the address of the own home
 abbrev pub home_address : Me → ℕ

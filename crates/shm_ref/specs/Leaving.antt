@@ -18,16 +18,16 @@ use Rattle.shm_graph.specs.Ops.{cover}
 use Rattle.shm_graph.specs.Ops.Cover.{On}
 use Rattle.shm_graph.specs.Spots.{same_spot}
 use Rattle.shm_graph.specs.Stores.{not_block}
-use Rattle.shm_graph.proofs.Spotting.{same_spot_self}
+use Rattle.shm_graph.proofs.Spots.Spotting.{same_spot_self}
 use Rattle.shm_graph.specs.Views.{own_word}
 use Rattle.shm_count.specs.Lowering.{StoppedAt, without_new}
 use Rattle.shm_count.specs.Roots.{rest, root_word}
-use Rattle.shm_count.specs.SlotLeaves.{Took, Untouched}
+use Rattle.shm_count.specs.Slots.{Took, Untouched}
 use Rattle.shm_graph.specs.Core.{core}
-use Rattle.shm_count.specs.TearEvents.{Visit, Walks, frees}
+use Rattle.shm_count.specs.Tear.Events.{Visit, Walks, frees}
 use Rattle.shm_steps.proofs.Cores.{here_same}
-use Rattle.shm_count.specs.TearFits.{TornPartly, is_outside}
-use Rattle.shm_count.specs.TearMemos.{Remains, is_slot_word}
+use Rattle.shm_count.specs.Tear.{TornPartly, is_outside}
+use Rattle.shm_count.specs.Tear.Memos.{Remains, is_slot_word}
 use Rattle.shm_ref.specs.Lefts.{is_root_of, Left, MayDrop, RootEvents}
 use Rattle.shm_graph.specs.declared.memo.Stored.{Stored}
 

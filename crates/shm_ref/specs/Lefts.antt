@@ -12,8 +12,8 @@ use Rattle.shm_graph.specs.Views.{own_word}
 use Rattle.shm_steps.specs.Conditions.{IsHere}
 use Rattle.shm_count.specs.Lowering.{StoppedAt}
 use Rattle.shm_count.specs.Roots.{rest, root_word}
-use Rattle.shm_count.specs.TearEvents.{Visit, Walks}
-use Rattle.shm_count.specs.TearMemos.{is_lasting}
+use Rattle.shm_count.specs.Tear.Events.{Visit, Walks}
+use Rattle.shm_count.specs.Tear.Memos.{is_lasting}
 
 -- a root of c among those that may come to be empty
 abbrev pub is_root_of : ℕ → (ℕ → Bool) → Spot → Bool

@@ -1,4 +1,5 @@
 -- the machines as they are made: when they fit, what they give, and what they tell of their events
+pub mod Set
 use Rattle.std.specs.Prelude.{ℕ, Bool, Result, List}
 use Rattle.shm_graph.specs.declared.ask.Me.{Me}
 use Rattle.shm_graph.specs.declared.memo.Memo.{Memo}
@@ -13,9 +14,9 @@ use Rattle.shm_calls.specs.CallsFit.{CallsFits, CallsGives}
 use Rattle.shm_calls.specs.Words.{word_control}
 use Rattle.shm_count.specs.declared.answer.EraSpent.{EraSpent}
 use Rattle.shm_count.specs.declared.answer.ShareFault.{ShareFault}
-use Rattle.shm_count.specs.UpRootControl.{rooting, rooting_parts}
-use Rattle.shm_count.specs.UpRootFits.{rooting_plan}
-use Rattle.shm_count.specs.UpRootPart.{up_root}
+use Rattle.shm_count.specs.UpRoot.Control.{rooting, rooting_parts}
+use Rattle.shm_count.specs.UpRoot.{rooting_plan}
+use Rattle.shm_count.specs.UpRoot.AsPart.{up_root}
 use Rattle.shm_ref.specs.declared.answer.Busy.{Busy}
 use Rattle.shm_ref.specs.declared.answer.LookFault.{LookFault}
 use Rattle.shm_ref.specs.declared.answer.NoSuchWord.{NoSuchWord}
@@ -27,17 +28,17 @@ use Rattle.shm_ref.specs.declared.look.LookState.{LookState}
 use Rattle.shm_ref.specs.declared.read.ReadState.{ReadState}
 use Rattle.shm_ref.specs.declared.release.ReleaseState.{ReleaseState}
 use Rattle.shm_ref.specs.declared.root_of.NamingState.{NamingState}
-use Rattle.shm_ref.specs.DropControl.{dropping, drop_parts}
-use Rattle.shm_ref.specs.DropFits.{drop_plan}
-use Rattle.shm_ref.specs.HoldControl.{holding}
-use Rattle.shm_ref.specs.HoldFits.{hold_plan}
-use Rattle.shm_ref.specs.HomeFits.{finding, find_plan}
-use Rattle.shm_ref.specs.LookFits.{looking, look_plan}
-use Rattle.shm_ref.specs.ReadFits.{reading, read_plan}
-use Rattle.shm_ref.specs.ReleaseFits.{releasing, release_plan}
-use Rattle.shm_ref.specs.RootOfFits.{naming, naming_plan}
-use Rattle.shm_ref.specs.RootsControl.{RootsCall, drop_root, dropping_roots}
-use Rattle.shm_ref.specs.RootsFits.{roots_plan}
+use Rattle.shm_ref.specs.DropRoot.Control.{dropping, drop_parts}
+use Rattle.shm_ref.specs.DropRoot.{drop_plan}
+use Rattle.shm_ref.specs.Hold.Control.{holding}
+use Rattle.shm_ref.specs.Hold.{hold_plan}
+use Rattle.shm_ref.specs.HomeOf.{finding, home_of_plan}
+use Rattle.shm_ref.specs.Look.{looking, look_plan}
+use Rattle.shm_ref.specs.Read.{reading, read_plan}
+use Rattle.shm_ref.specs.Release.{releasing, release_plan}
+use Rattle.shm_ref.specs.RootOf.{naming, naming_plan}
+use Rattle.shm_ref.specs.DropRoots.Control.{RootsCall, drop_root, dropping_roots}
+use Rattle.shm_ref.specs.DropRoots.{roots_plan}
 
 -- ---- the drop of root k
 
@@ -120,16 +121,16 @@ share_told me b = happens_along up_root (calls_does rooting_parts rooting_plan) 
 -- ---- what the home of a names
 
 abbrev pub home_of : Control (Calls FindState Word (Result ℕ NotHeld) ℕ) (Result ℕ NotHeld)
-home_of = calls_control word_control find_plan
+home_of = calls_control word_control home_of_plan
 
 abbrev pub HomeFits : Me → ℕ → Memo → Memo → Trail → Type 0
-HomeFits me a = CallsFits word_control find_plan (calls_of find_plan (finding me a))
+HomeFits me a = CallsFits word_control home_of_plan (calls_of home_of_plan (finding me a))
 
 abbrev pub HomeGives : Me → ℕ → Memo → Memo → Trail → Result ℕ NotHeld → Type 0
-HomeGives me a = CallsGives word_control find_plan (calls_of find_plan (finding me a))
+HomeGives me a = CallsGives word_control home_of_plan (calls_of home_of_plan (finding me a))
 
 abbrev pub home_told : Me → ℕ → Trail → List Event
-home_told me a = happens_along home_of (calls_does word_control find_plan) (calls_of find_plan (finding me a))
+home_told me a = happens_along home_of (calls_does word_control home_of_plan) (calls_of home_of_plan (finding me a))
 
 -- ---- what reference word k of block b names
 

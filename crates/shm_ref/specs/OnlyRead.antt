@@ -24,7 +24,7 @@ use Rattle.shm_graph.specs.Readings.{values_read}
 use Rattle.shm_graph.specs.Views.{own_word}
 use Rattle.shm_steps.proofs.Cores.{here_same}
 use Rattle.shm_count.specs.Retaining.{named_same, slots_learnt}
-use Rattle.shm_count.specs.TearMemos.{is_slot_word}
+use Rattle.shm_count.specs.Tear.Memos.{is_slot_word}
 use Rattle.shm_ref.specs.declared.answer.LookFault.{LookFault}
 use Rattle.shm_ref.specs.declared.answer.LookFault.TheVariants.{NoSuchRef, NotHeld}
 use Rattle.shm_ref.specs.declared.answer.NoSuchWord.{NoSuchWord}
@@ -32,10 +32,10 @@ use Rattle.shm_ref.specs.declared.answer.NotHeld.{NotHeld as Unheld}
 use Rattle.shm_ref.specs.declared.home_of.FindState.{FindState}
 use Rattle.shm_ref.specs.declared.look.LookState.{LookState}
 use Rattle.shm_ref.specs.declared.read.ReadState.{ReadState}
-use Rattle.shm_ref.specs.HomeFits.{FindLeaves}
+use Rattle.shm_ref.specs.HomeOf.{HomeLeaves}
 use Rattle.shm_ref.specs.Lefts.{MayDrop}
-use Rattle.shm_ref.specs.LookFits.{LookLeaves}
-use Rattle.shm_ref.specs.ReadFits.{ReadLeaves}
+use Rattle.shm_ref.specs.Look.{LookLeaves}
+use Rattle.shm_ref.specs.Read.{ReadLeaves}
 use Rattle.shm_ref.specs.ReadParts.{MayAsk, tagged}
 
 -- only words were read: the status, the own words, the step in progress, the latch and the known head slots are what they were, and the looks have grown
@@ -94,7 +94,7 @@ read_more m r known values more slots e =
 read_same : (m r : Memo) (known : List Stored) → filter is_slot_word known ≡ filter is_slot_word m.known → core r ≡ core (record m { known = known }) → OnlyRead m r
 read_same m r known slots e = read_more m r known m.values [] slots (e ∙ ap (λ ls. core (record m { looks = ls; known = known })) (sym (append-nil m.looks)))
 
-pub home_reads : (m : FindState) (r0 r : Memo) (tr : Trail) (es : List Event) (a : Result ℕ Unheld) → FindLeaves m r0 r tr es a → OnlyRead r0 r
+pub home_reads : (m : FindState) (r0 r : Memo) (tr : Trail) (es : List Event) (a : Result ℕ Unheld) → HomeLeaves m r0 r tr es a → OnlyRead r0 r
 home_reads m r0 r tr es (Ok b) h = by (b == 0) h.memo
   where
     by : (q : Bool) → core r ≡ core (if q then r0 else record r0 { looks = r0.looks ++ record { block = b; from = Home m.author } ∷ [] }) → OnlyRead r0 r

@@ -19,17 +19,17 @@ use Rattle.shm_graph.specs.Reach.{is_reached, known_at, learnt, named_blocks, no
 use Rattle.shm_graph.specs.Spots.{same_spot}
 use Rattle.shm_graph.specs.Telling.{claims}
 use Rattle.shm_graph.specs.Views.{own_word, view}
-use Rattle.shm_graph.proofs.Holders.{reach_counted}
-use Rattle.shm_graph.proofs.Reached.{reached_here}
-use Rattle.shm_graph.proofs.Spotting.{same_spot_self}
+use Rattle.shm_graph.proofs.States.Holders.{reach_counted}
+use Rattle.shm_graph.proofs.States.Reached.{reached_here}
+use Rattle.shm_graph.proofs.Spots.Spotting.{same_spot_self}
 use Rattle.shm_calls.specs.Parts.{IsHeld}
 use Rattle.shm_count.specs.DyingBlocks.{live_room}
 use Rattle.shm_count.specs.Retaining.{named_same, slots_learnt}
-use Rattle.shm_count.specs.TearControl.{or_empty, tag_read}
+use Rattle.shm_count.specs.Tear.Control.{or_empty, tag_read}
 use Rattle.shm_steps.proofs.BeginWords.{known_here}
 use Rattle.shm_steps.proofs.Covering.{tag_told}
 use Rattle.shm_steps.proofs.Reaching.{look_reached}
-use Rattle.shm_steps.proofs.WordsBlocks.{told_inside}
+use Rattle.shm_steps.proofs.Words.Blocks.{told_inside}
 use Rattle.shm_ref.specs.Lefts.{MayDrop}
 
 -- ---- when reading may begin

@@ -14,12 +14,12 @@ use Rattle.shm_calls.specs.Parts.{IsHeld, Part}
 use Rattle.shm_calls.specs.Words.{word_part}
 use Rattle.shm_steps.specs.WordParts.{OwnLoaded}
 use Rattle.shm_steps.proofs.Reaching.{root_reached}
-use Rattle.shm_steps.proofs.WordsOwn.{root_load}
+use Rattle.shm_steps.proofs.Words.Own.{root_load}
 use Rattle.shm_count.specs.declared.point.Aim.TheVariants.{Down}
 use Rattle.shm_count.specs.Roots.{root_step, root_word}
-use Rattle.shm_count.specs.SlotLeaves.{MayStepAt}
-use Rattle.shm_count.specs.StepControl.{IsInside}
-use Rattle.shm_count.specs.StepFits.{CanStep}
+use Rattle.shm_count.specs.Slots.{MayStepAt}
+use Rattle.shm_count.specs.Step.Control.{IsInside}
+use Rattle.shm_count.specs.Step.{CanStep}
 use Rattle.shm_count.proofs.RootSpots.{fits_root, root_can}
 use Rattle.shm_ref.specs.CountedBlocks.{IsCounted, reached_counted}
 use Rattle.shm_ref.specs.Lefts.{MayDrop}

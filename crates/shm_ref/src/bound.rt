@@ -8,7 +8,7 @@ ghost use Rattle.shm_graph.specs.Bounds.{up_steps};
 ghost use Rattle.shm_count.specs.declared.answer.EraSpent.{EraSpent as ASpent};
 ghost use Rattle.shm_count.specs.declared.answer.ShareFault.{ShareFault as AShareFault};
 ghost use Rattle.shm_count.specs.declared.answer.ShareFault.TheVariants as share;
-ghost use Rattle.shm_count.specs.TearEvents.{Visit, frees};
+ghost use Rattle.shm_count.specs.Tear.Events.{Visit, frees};
 ghost use Rattle.shm_ref.specs.declared.answer.Busy.{Busy as ABusy};
 ghost use Rattle.shm_ref.specs.declared.answer.LookFault.TheVariants.{NoSuchRef, NotHeld};
 ghost use Rattle.shm_ref.specs.declared.answer.NoSuchWord.{NoSuchWord as ANoSuchWord};

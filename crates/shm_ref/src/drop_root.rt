@@ -2,9 +2,9 @@
 
 ghost use Rattle.std.specs.Prelude.{◌≡◌, ◌<◌};
 ghost use Rattle.shm_words.specs.Layout.{GeometryFits};
-ghost use Rattle.shm_ref.specs.DropControl.{dropping};
-ghost use Rattle.shm_ref.specs.DropFits.{drop_plan};
-ghost use Rattle.shm_ref.specs.DropLaws.{drop_laws};
+ghost use Rattle.shm_ref.specs.DropRoot.Control.{dropping};
+ghost use Rattle.shm_ref.specs.DropRoot.{drop_plan};
+ghost use Rattle.shm_ref.specs.DropRoot.Laws.{drop_laws};
 
 use shm_calls::{Calls, Or, Plan, Word};
 use shm_count::{EraSpent, StepDown, TearDown};
@@ -44,7 +44,7 @@ impl Model for Dropping {
 
     ghost view = { λ a. a.state };
 
-    ghost use Rattle.shm_ref.specs.DropControl.{DropInRange};
+    ghost use Rattle.shm_ref.specs.DropRoot.Control.{DropInRange};
 
     ghost invariant = { λ a. DropInRange a.state };
 }

@@ -2,9 +2,9 @@
 
 ghost use Rattle.std.specs.Prelude.{◌≡◌, ◌<◌};
 ghost use Rattle.shm_words.specs.Layout.{GeometryFits};
-ghost use Rattle.shm_ref.specs.RootsControl.{dropping_roots};
-ghost use Rattle.shm_ref.specs.RootsFits.{roots_plan};
-ghost use Rattle.shm_ref.specs.RootsLaws.{roots_laws};
+ghost use Rattle.shm_ref.specs.DropRoots.Control.{dropping_roots};
+ghost use Rattle.shm_ref.specs.DropRoots.{roots_plan};
+ghost use Rattle.shm_ref.specs.DropRoots.Laws.{roots_laws};
 
 use crate::drop_root::{DropRoot, Dropping};
 use shm_calls::{Calls, Plan};
@@ -32,7 +32,7 @@ impl Model for DroppingRoots {
 
     ghost view = { λ a. a.state };
 
-    ghost use Rattle.shm_ref.specs.RootsControl.{RootsInRange};
+    ghost use Rattle.shm_ref.specs.DropRoots.Control.{RootsInRange};
 
     ghost invariant = { λ a. RootsInRange a.state };
 }

@@ -14,32 +14,32 @@ ghost use Rattle.shm_calls.specs.Plans.{plan_trail};
 ghost use Rattle.shm_calls.specs.Words.{word_control};
 ghost use Rattle.shm_count.specs.declared.answer.EraSpent.{EraSpent as ASpent};
 ghost use Rattle.shm_count.specs.declared.answer.ShareFault.{ShareFault as AShareFault};
-ghost use Rattle.shm_count.specs.UpRootControl.{rooting, rooting_parts};
-ghost use Rattle.shm_count.specs.UpRootFits.{MayUpRoot, UpRootLeaves, rooting_plan};
-ghost use Rattle.shm_count.specs.UpRootPart.{up_root};
+ghost use Rattle.shm_count.specs.UpRoot.Control.{rooting, rooting_parts};
+ghost use Rattle.shm_count.specs.UpRoot.{MayUpRoot, UpRootLeaves, rooting_plan};
+ghost use Rattle.shm_count.specs.UpRoot.AsPart.{up_root};
 ghost use Rattle.shm_ref.specs.declared.answer.Busy.{Busy as ABusy};
-ghost use Rattle.shm_ref.specs.DropControl.{drop_parts, dropping};
-ghost use Rattle.shm_ref.specs.DropFits.{DropLeaves, drop_plan};
-ghost use Rattle.shm_ref.specs.HoldControl.{holding};
-ghost use Rattle.shm_ref.specs.HoldFits.{MayTakeLatch, HoldLeaves, hold_plan};
+ghost use Rattle.shm_ref.specs.DropRoot.Control.{drop_parts, dropping};
+ghost use Rattle.shm_ref.specs.DropRoot.{DropLeaves, drop_plan};
+ghost use Rattle.shm_ref.specs.Hold.Control.{holding};
+ghost use Rattle.shm_ref.specs.Hold.{MayTakeLatch, HoldLeaves, hold_plan};
 ghost use Rattle.shm_ref.specs.declared.answer.LookFault.{LookFault as ALookFault};
 ghost use Rattle.shm_ref.specs.declared.answer.NoSuchWord.{NoSuchWord as ANoSuchWord};
 ghost use Rattle.shm_ref.specs.declared.answer.NotHeld.{NotHeld as ANotHeld};
-ghost use Rattle.shm_ref.specs.HomeFits.{FindLeaves, find_plan, finding};
+ghost use Rattle.shm_ref.specs.HomeOf.{HomeLeaves, home_of_plan, finding};
 ghost use Rattle.shm_ref.specs.Lefts.{MayDrop};
-ghost use Rattle.shm_ref.specs.LookFits.{LookLeaves, MayLook, look_plan, looking};
+ghost use Rattle.shm_ref.specs.Look.{LookLeaves, MayLook, look_plan, looking};
 ghost use Rattle.shm_ref.specs.Machines.{look, LookFits, LookGives, look_told, read, ReadFits, ReadGives, read_told};
 ghost use Rattle.shm_ref.specs.Machines.{home_of, HomeFits, HomeGives, home_told};
 ghost use Rattle.shm_ref.specs.OnlyRead.{OnlyRead};
-ghost use Rattle.shm_ref.specs.ReadFits.{ReadLeaves, read_plan, reading};
+ghost use Rattle.shm_ref.specs.Read.{ReadLeaves, read_plan, reading};
 ghost use Rattle.shm_ref.specs.ReadParts.{MayAsk, MayRead};
 ghost use Rattle.shm_ref.specs.Machines.{DropFits, DropGives, drop_told, drop_roots, RootsFit, RootsGive, roots_told, hold, HoldFits, HoldGives, hold_told};
 ghost use Rattle.shm_ref.specs.Machines.{root_of, RootOfFits, RootOfGives, root_of_told, release, ReleaseFits, ReleaseGives, release_told};
 ghost use Rattle.shm_ref.specs.Machines.{ShareFits, ShareGives, share_told};
-ghost use Rattle.shm_ref.specs.ReleaseFits.{MayRelease, Released, release_plan, releasing};
-ghost use Rattle.shm_ref.specs.RootOfFits.{Named, naming, naming_plan};
-ghost use Rattle.shm_ref.specs.RootsControl.{drop_root, dropping_roots};
-ghost use Rattle.shm_ref.specs.RootsFits.{RootsLeaves, roots_plan};
+ghost use Rattle.shm_ref.specs.Release.{MayRelease, Released, release_plan, releasing};
+ghost use Rattle.shm_ref.specs.RootOf.{Named, naming, naming_plan};
+ghost use Rattle.shm_ref.specs.DropRoots.Control.{drop_root, dropping_roots};
+ghost use Rattle.shm_ref.specs.DropRoots.{RootsLeaves, roots_plan};
 
 /// A drop of a root fits each memo of an identity of the pool that is here, with no step in progress.
 pub fn drop_root_begins()
@@ -147,15 +147,15 @@ pub fn home_of_begins()
 
 /// No word step of it is an event.
 pub fn home_of_events()
-    ensures tells { Tells home_of (CallsFits word_control find_plan) (calls_does word_control find_plan) }
+    ensures tells { Tells home_of (CallsFits word_control home_of_plan) (calls_does word_control home_of_plan) }
     ensures none { (me : AMe) (a : ℕ) (r0 r : AMemo) (tr : Trail) (b : Result ℕ ANotHeld) → HomeGives me a r0 r tr b → home_told me a tr ≡ [] }
 {}
 
 /// The author's latch is held and the answer is what its home names, which the looks have grown by; or the own hold word isn't that of the
 /// author, and nothing changed.
 pub fn home_of_leaves()
-    ensures leaves { (me : AMe) (a : ℕ) (r0 r : AMemo) (tr : Trail) (b : Result ℕ ANotHeld) → HomeGives me a r0 r tr b → FindLeaves (finding me a) r0 r tr (home_told me a tr) b }
-    ensures trail { (me : AMe) (a : ℕ) (r0 r : AMemo) (tr : Trail) (b : Result ℕ ANotHeld) → HomeGives me a r0 r tr b → plan_trail find_plan (finding me a) tr b }
+    ensures leaves { (me : AMe) (a : ℕ) (r0 r : AMemo) (tr : Trail) (b : Result ℕ ANotHeld) → HomeGives me a r0 r tr b → HomeLeaves (finding me a) r0 r tr (home_told me a tr) b }
+    ensures trail { (me : AMe) (a : ℕ) (r0 r : AMemo) (tr : Trail) (b : Result ℕ ANotHeld) → HomeGives me a r0 r tr b → plan_trail home_of_plan (finding me a) tr b }
 {}
 
 /// A reference word of a block in reach may be looked at with no step in progress, where the hold word names the latch that is held.

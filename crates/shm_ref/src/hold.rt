@@ -2,9 +2,9 @@
 
 ghost use Rattle.std.specs.Prelude.{◌≡◌, ◌<◌};
 ghost use Rattle.shm_words.specs.Layout.{GeometryFits};
-ghost use Rattle.shm_ref.specs.HoldControl.{holding};
-ghost use Rattle.shm_ref.specs.HoldFits.{hold_plan};
-ghost use Rattle.shm_ref.specs.HoldLaws.{hold_laws};
+ghost use Rattle.shm_ref.specs.Hold.Control.{holding};
+ghost use Rattle.shm_ref.specs.Hold.{hold_plan};
+ghost use Rattle.shm_ref.specs.Hold.Laws.{hold_laws};
 
 use crate::answer::Busy;
 use shm_calls::{Calls, Plan, Word};
@@ -44,7 +44,7 @@ impl Model for Holding {
 
     ghost view = { λ a. a.state };
 
-    ghost use Rattle.shm_ref.specs.HoldControl.{HoldInRange};
+    ghost use Rattle.shm_ref.specs.Hold.Control.{HoldInRange};
 
     ghost invariant = { λ a. HoldInRange a.state };
 }

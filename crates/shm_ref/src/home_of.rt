@@ -2,8 +2,8 @@
 
 ghost use Rattle.std.specs.Prelude.{◌≡◌, ◌<◌};
 ghost use Rattle.shm_words.specs.Layout.{GeometryFits};
-ghost use Rattle.shm_ref.specs.HomeFits.{finding, find_plan};
-ghost use Rattle.shm_ref.specs.HomeLaws.{find_laws};
+ghost use Rattle.shm_ref.specs.HomeOf.{finding, home_of_plan};
+ghost use Rattle.shm_ref.specs.HomeOf.Laws.{home_of_laws};
 
 use crate::answer::NotHeld;
 use shm_calls::{Calls, Plan, Word};
@@ -40,7 +40,7 @@ impl Model for FindingHome {
 
     ghost view = { λ a. a.state };
 
-    ghost use Rattle.shm_ref.specs.HomeFits.{FindInRange};
+    ghost use Rattle.shm_ref.specs.HomeOf.{FindInRange};
 
     ghost invariant = { λ a. FindInRange a.state };
 }
@@ -72,7 +72,7 @@ impl Plan for FindingHome {
 
     type Answer = Result<u32, NotHeld>;
 
-    ghost plan = { find_plan };
+    ghost plan = { home_of_plan };
 
     #[inline(always)]
     fn me(&self) -> Me {
@@ -103,5 +103,5 @@ impl Plan for FindingHome {
         }
     }
 
-    ghost laws = { find_laws };
+    ghost laws = { home_of_laws };
 }

@@ -2,8 +2,8 @@
 
 ghost use Rattle.std.specs.Prelude.{◌≡◌, ◌<◌, ◌^◌};
 ghost use Rattle.shm_words.specs.Layout.{GeometryFits};
-ghost use Rattle.shm_ref.specs.LookFits.{looking, look_plan};
-ghost use Rattle.shm_ref.specs.LookLaws.{look_laws};
+ghost use Rattle.shm_ref.specs.Look.{looking, look_plan};
+ghost use Rattle.shm_ref.specs.Look.Laws.{look_laws};
 
 use crate::answer::LookFault;
 use crate::tagged::tag_in;
@@ -45,7 +45,7 @@ impl Model for Looking {
 
     ghost view = { λ a. a.state };
 
-    ghost use Rattle.shm_ref.specs.LookFits.{LookInRange};
+    ghost use Rattle.shm_ref.specs.Look.{LookInRange};
 
     ghost invariant = { λ a. LookInRange a.state };
 }

@@ -2,8 +2,8 @@
 
 ghost use Rattle.std.specs.Prelude.{◌≡◌, ◌<◌, ◌^◌};
 ghost use Rattle.shm_words.specs.Layout.{GeometryFits};
-ghost use Rattle.shm_ref.specs.ReadFits.{reading, read_plan};
-ghost use Rattle.shm_ref.specs.ReadLaws.{read_laws};
+ghost use Rattle.shm_ref.specs.Read.{reading, read_plan};
+ghost use Rattle.shm_ref.specs.Read.Laws.{read_laws};
 
 use crate::answer::NoSuchWord;
 use crate::tagged::tag_in;
@@ -43,7 +43,7 @@ impl Model for Reading {
 
     ghost view = { λ a. a.state };
 
-    ghost use Rattle.shm_ref.specs.ReadFits.{ReadInRange};
+    ghost use Rattle.shm_ref.specs.Read.{ReadInRange};
 
     ghost invariant = { λ a. ReadInRange a.state };
 }

@@ -2,8 +2,8 @@
 
 ghost use Rattle.std.specs.Prelude.{◌≡◌, ◌<◌};
 ghost use Rattle.shm_words.specs.Layout.{GeometryFits};
-ghost use Rattle.shm_ref.specs.ReleaseFits.{releasing, release_plan};
-ghost use Rattle.shm_ref.specs.ReleaseLaws.{release_laws};
+ghost use Rattle.shm_ref.specs.Release.{releasing, release_plan};
+ghost use Rattle.shm_ref.specs.Release.Laws.{release_laws};
 
 use shm_calls::{Calls, Plan, Word};
 use shm_graph::{Machine, Me};
@@ -41,7 +41,7 @@ impl Model for Releasing {
 
     ghost view = { λ a. a.state };
 
-    ghost use Rattle.shm_ref.specs.ReleaseFits.{ReleaseInRange};
+    ghost use Rattle.shm_ref.specs.Release.{ReleaseInRange};
 
     ghost invariant = { λ a. ReleaseInRange a.state };
 }

@@ -2,8 +2,8 @@
 
 ghost use Rattle.std.specs.Prelude.{◌≡◌, ◌<◌};
 ghost use Rattle.shm_words.specs.Layout.{GeometryFits};
-ghost use Rattle.shm_ref.specs.RootOfFits.{naming, naming_plan};
-ghost use Rattle.shm_ref.specs.RootOfLaws.{naming_laws};
+ghost use Rattle.shm_ref.specs.RootOf.{naming, naming_plan};
+ghost use Rattle.shm_ref.specs.RootOf.Laws.{naming_laws};
 
 use shm_calls::{Calls, Plan, Word};
 use shm_graph::{Machine, Me};
@@ -29,7 +29,7 @@ impl Model for Naming {
 
     ghost view = { λ a. a.state };
 
-    ghost use Rattle.shm_ref.specs.RootOfFits.{NamingInRange};
+    ghost use Rattle.shm_ref.specs.RootOf.{NamingInRange};
 
     ghost invariant = { λ a. NamingInRange a.state };
 }

@@ -2,8 +2,8 @@
 
 ghost use Rattle.std.specs.Prelude.{◌≡◌, ◌<◌, ◌^◌};
 ghost use Rattle.shm_words.specs.Layout.{GeometryFits};
-ghost use Rattle.shm_ref.specs.SetHomeFits.{homing, home_plan};
-ghost use Rattle.shm_ref.specs.SetHomeLaws.{home_laws};
+ghost use Rattle.shm_ref.specs.SetHome.{homing, home_plan};
+ghost use Rattle.shm_ref.specs.SetHome.Laws.{home_laws};
 
 use crate::answer::HomeFault;
 use shm_calls::{Calls, Or, Plan, Word};
@@ -41,7 +41,7 @@ impl Model for Homing {
 
     ghost view = { λ a. a.state };
 
-    ghost use Rattle.shm_ref.specs.SetHomeFits.{HomeInRange};
+    ghost use Rattle.shm_ref.specs.SetHome.{HomeInRange};
 
     ghost invariant = { λ a. HomeInRange a.state };
 }

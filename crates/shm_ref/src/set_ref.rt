@@ -2,10 +2,10 @@
 
 ghost use Rattle.std.specs.Prelude.{◌≡◌, ◌<◌, ◌≤◌, ◌^◌, ◌+◌};
 ghost use Rattle.shm_words.specs.Layout.{GeometryFits, total_of};
-ghost use Rattle.shm_ref.specs.SetRefControl as control;
-ghost use Rattle.shm_ref.specs.SetRefControl.{setting};
-ghost use Rattle.shm_ref.specs.SetRefFits.{set_plan};
-ghost use Rattle.shm_ref.specs.SetRefLaws.{set_laws};
+ghost use Rattle.shm_ref.specs.SetRef.Control as control;
+ghost use Rattle.shm_ref.specs.SetRef.Control.{setting};
+ghost use Rattle.shm_ref.specs.SetRef.{set_plan};
+ghost use Rattle.shm_ref.specs.SetRef.Laws.{set_laws};
 
 use crate::answer::SetFault;
 use shm_calls::{Calls, Or, Plan, Word};
@@ -68,7 +68,7 @@ impl Model for Setting {
 
     ghost view = { λ a. a.state };
 
-    ghost use Rattle.shm_ref.specs.SetRefControl.{SetInRange};
+    ghost use Rattle.shm_ref.specs.SetRef.Control.{SetInRange};
 
     ghost invariant = { λ a. SetInRange a.state };
 }

@@ -12,13 +12,13 @@ ghost use Rattle.shm_graph.specs.Tells.{Tells};
 ghost use Rattle.shm_calls.specs.CallsControl.{calls_does};
 ghost use Rattle.shm_calls.specs.CallsFit.{CallsFits};
 ghost use Rattle.shm_calls.specs.Plans.{plan_trail};
-ghost use Rattle.shm_count.specs.TearEvents.{Visit, frees};
+ghost use Rattle.shm_count.specs.Tear.Events.{Visit, frees};
 ghost use Rattle.shm_ref.specs.declared.answer.HomeFault.{HomeFault as AHomeFault};
 ghost use Rattle.shm_ref.specs.declared.answer.SetFault.{SetFault as ASetFault};
-ghost use Rattle.shm_ref.specs.SetHomeFits.{HomeLeaves, MaySetHome, home_parts, home_plan, homing};
-ghost use Rattle.shm_ref.specs.SetRefControl.{set_parts, setting};
-ghost use Rattle.shm_ref.specs.SetRefFits.{MaySetRef, SetLeaves, SetStays, set_plan};
-ghost use Rattle.shm_ref.specs.SetMachines.{SetHomeFits, SetHomeGives, SetRefFits, SetRefGives, set_home, set_home_told, set_ref, set_ref_told};
+ghost use Rattle.shm_ref.specs.SetHome.{HomeLeaves, MaySetHome, home_parts, home_plan, homing};
+ghost use Rattle.shm_ref.specs.SetRef.Control.{set_parts, setting};
+ghost use Rattle.shm_ref.specs.SetRef.{MaySetRef, SetLeaves, SetStays, set_plan};
+ghost use Rattle.shm_ref.specs.Machines.Set.{SetHomeFits, SetHomeGives, SetRefFits, SetRefGives, set_home, set_home_told, set_ref, set_ref_told};
 
 /// The setting of the home fits each memo of a client that is here, with no step in progress, and with the block in reach.
 pub fn set_home_begins()

@@ -1,7 +1,7 @@
 //! The tag of a block, as it is read.
 
 ghost use Rattle.std.specs.Prelude.{◌≡◌};
-ghost use Rattle.shm_count.specs.TearControl.{tag_read};
+ghost use Rattle.shm_count.specs.Tear.Control.{tag_read};
 
 use shm_graph::Me;
 use shm_words::Tag;

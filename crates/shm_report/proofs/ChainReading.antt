@@ -16,7 +16,7 @@ use Rattle.shm_graph.specs.Spots.{see}
 use Rattle.shm_graph.specs.References.{references}
 use Rattle.shm_graph.specs.Tables.{IsEntry, IsChain}
 use Rattle.shm_graph.specs.declared.table.Entry.{Entry}
-use Rattle.shm_graph.proofs.Reading.{live_below, shape_word, shape_reference}
+use Rattle.shm_graph.proofs.States.Reading.{live_below, shape_word, shape_reference}
 use Rattle.shm_report.specs.PoolWords.{IsCleanPool}
 use Rattle.shm_report.specs.Report.{add_entries}
 use Rattle.shm_report.specs.declared.table_rows.ChainEntry.{ChainEntry}

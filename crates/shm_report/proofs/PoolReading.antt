@@ -17,9 +17,9 @@ use Rattle.shm_graph.specs.declared.spot.Spot.TheVariants.{Home, Root, Slot, Hea
 use Rattle.shm_graph.specs.Spots.{spot_at, spot_of, spot_address, classes_in, see}
 use Rattle.shm_graph.specs.Blocks.{IsBlock, IsLive, classes, headers}
 use Rattle.shm_graph.specs.References.{Words, reference, references, words_of}
-use Rattle.shm_graph.proofs.Spotting.{head_at, is_below, body_block, block_within, tag_spot}
-use Rattle.shm_graph.proofs.Seeing.{see_at, see_absent, classes-see}
-use Rattle.shm_graph.proofs.Reading.{live_class}
+use Rattle.shm_graph.proofs.Spots.Spotting.{head_at, is_below, body_block, block_within, tag_spot}
+use Rattle.shm_graph.proofs.Spots.Seeing.{see_at, see_absent, classes-see}
+use Rattle.shm_graph.proofs.States.Reading.{live_class}
 use Rattle.shm_report.specs.PoolWords.{IsCleanPool}
 
 -- a block's header

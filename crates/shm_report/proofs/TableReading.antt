@@ -8,7 +8,7 @@ use Rattle.shm_graph.specs.declared.spot.Spot.TheVariants.{Home, Body}
 use Rattle.shm_graph.specs.Spots.{see}
 use Rattle.shm_graph.specs.Tables.{IsChain}
 use Rattle.shm_graph.specs.declared.table.Entry.{Entry}
-use Rattle.shm_graph.proofs.Reading.{live_below, shape_reference}
+use Rattle.shm_graph.proofs.States.Reading.{live_below, shape_reference}
 use Rattle.shm_report.specs.PoolWords.{IsCleanPool}
 use Rattle.shm_report.specs.Report.{add_entries, entries_below, in_order}
 use Rattle.shm_report.specs.TableRows.{contents_in, IsChainAt, HoldsTable}

@@ -7,7 +7,7 @@ use Rattle.std.specs.BTreeMap.{insert_entry}
 use Rattle.shm_words.specs.declared.geometry.Geometry.{Geometry}
 use Rattle.shm_graph.specs.declared.spot.Spot.{Spot}
 use Rattle.shm_graph.specs.Blocks.{classes, headers}
-use Rattle.shm_graph.specs.References.{references, reference_count, live_count, home_count}
+use Rattle.shm_graph.specs.References.{references, references_in_all, live_count, homes_in_all}
 use Rattle.shm_graph.specs.declared.table.Entry.{Entry}
 use Rattle.shm_graph.specs.Spots.{see}
 use Rattle.shm_graph.specs.Tables.{IsTable}
@@ -72,7 +72,7 @@ counts_lines homes live refs = codes "homes " ++ decimal homes ++ line_end ++ co
 
 -- how many homes are set, how many blocks are live, and how many words name one
 abbrev pub counts_text : Geometry → (Spot → ℕ) → List ℕ
-counts_text g w = counts_lines (home_count g w) (live_count g w) (reference_count g (classes w) (references w))
+counts_text g w = counts_lines (homes_in_all g w) (live_count g w) (references_in_all g (classes w) (references w))
 
 -- the lines that say what the pool holds, for these rows
 abbrev pub rows_text : Geometry → (Spot → ℕ) → List Row → List ℕ

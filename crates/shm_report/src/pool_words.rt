@@ -4,7 +4,7 @@ ghost use Rattle.std.specs.Prelude.{◌≡◌, ◌+◌, ◌^◌, ◌<◌, ◌≤
 ghost use Rattle.shm_words.specs.Layout.{GeometryFits, total_of, address, is_in};
 ghost use Rattle.shm_graph.specs.Spots.{see, spot_at, spot_of, block_spot, classes_in};
 ghost use Rattle.shm_graph.specs.Blocks.{classes, headers, IsBlock};
-ghost use Rattle.shm_graph.specs.References.{words_of, references, live_count, reference_count, home_count};
+ghost use Rattle.shm_graph.specs.References.{words_of, references, live_count, references_in_all, homes_in_all};
 ghost use Rattle.shm_report.specs.PoolWords.{IsCleanPool};
 
 use shm_graph::Spot;
@@ -62,7 +62,7 @@ fn spot_of(geometry: Geometry, words: &[u64], at: u32, place: Place) -> Spot
         Place::Era { i, j } => Spot::Era { i, j },
         Place::Root { c, k } => Spot::Root { c, k },
         Place::Tail { s, r } => Spot::Tail { s, r },
-        Place::Head { s, r } => Spot::Front { s, r },
+        Place::Head { s, r } => Spot::QueueHead { s, r },
         Place::Slot { s, r, k } => Spot::Slot { s, r, k },
         Place::Segment { g } => Spot::Segment { g },
         Place::Page { g, p } => Spot::Page { g, p },
@@ -148,9 +148,9 @@ pub fn live_count(geometry: Geometry, words: &[u64]) -> u32
 }
 
 /// How many words name a block.
-pub fn reference_count(geometry: Geometry, words: &[u64]) -> u32
+pub fn references_in_all(geometry: Geometry, words: &[u64]) -> u32
     requires { GeometryFits geometry }
-    ensures { IsCleanPool geometry words.now → result ≡ reference_count geometry (classes (see geometry words.now)) (references (see geometry words.now)) }
+    ensures { IsCleanPool geometry words.now → result ≡ references_in_all geometry (classes (see geometry words.now)) (references (see geometry words.now)) }
 {
     let mut refs = 0;
     for at in 0..geometry.total() {
@@ -162,9 +162,9 @@ pub fn reference_count(geometry: Geometry, words: &[u64]) -> u32
 }
 
 /// How many homes are set.
-pub fn home_count(geometry: Geometry, words: &[u64]) -> u32
+pub fn homes_in_all(geometry: Geometry, words: &[u64]) -> u32
     requires { GeometryFits geometry }
-    ensures { result ≡ home_count geometry (see geometry words.now) }
+    ensures { result ≡ homes_in_all geometry (see geometry words.now) }
 {
     let mut homes = 0;
     for c in 0..geometry.clients() {
@@ -246,7 +246,7 @@ mod tests {
         assert_eq!(rt; header_at(geometry, words, 50).count, 1);
         assert!(rt; !header_at(geometry, words, 54).live);
         assert_eq!(rt; live_count(geometry, words), 3);
-        assert_eq!(rt; home_count(geometry, words), 1);
+        assert_eq!(rt; homes_in_all(geometry, words), 1);
         Ok(())
     }
 }

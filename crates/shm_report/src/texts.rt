@@ -12,7 +12,7 @@ ghost use Rattle.shm_report.specs.TableRows.{rows_seen};
 ghost use Rattle.shm_report.specs.ValueNames.{IsNumbered};
 
 use crate::logs::{push_clients, push_logs};
-use crate::pool_words::{header_at, home_count, live_count, reference_count};
+use crate::pool_words::{header_at, homes_in_all, live_count, references_in_all};
 use crate::table_rows::{TableRow, table_rows};
 use crate::value_names::ValueNames;
 use shm_script::{Log, push_number, push_text};
@@ -134,9 +134,9 @@ fn push_counts(text: &mut Vec<u8>, geometry: Geometry, words: &[u64]) -> Result<
     requires { GeometryFits geometry }
     ensures { OnOk result (IsCleanPool geometry words.now → text.new.items ≡ text.old.items ++ counts_text geometry (see geometry words.now)) }
 {
-    let homes = home_count(geometry, words);
+    let homes = homes_in_all(geometry, words);
     let live = live_count(geometry, words);
-    let refs = reference_count(geometry, words);
+    let refs = references_in_all(geometry, words);
     push_numbers(text, homes, live, refs)?;
     Ok(())
 }

@@ -31,17 +31,17 @@ use Rattle.shm_graph.specs.Exchanges.{words_made, values_with, committed}
 use Rattle.shm_graph.specs.Changes.{called}
 use Rattle.shm_graph.specs.Events.{Event, graph_of, Happens}
 use Rattle.shm_graph.specs.Laws.{Frame, framed, Stands, KeptAt, event_of}
-use Rattle.shm_graph.proofs.BodyTold.{told_exchange}
-use Rattle.shm_graph.proofs.Frames.{at1_same}
-use Rattle.shm_graph.proofs.Holders.{InReach, held_live_not_zero}
-use Rattle.shm_graph.proofs.KindKeeping.{in_frame, kept_exchange}
-use Rattle.shm_graph.proofs.KnownChange.{ValueHolds, known_held, valued_all}
-use Rattle.shm_graph.proofs.Lists.{at1_here}
-use Rattle.shm_graph.proofs.Loads.{choice}
-use Rattle.shm_graph.proofs.MemoParts.{parts, put_parts, put_same}
-use Rattle.shm_graph.proofs.Spotting.{same_spot_is}
-use Rattle.shm_graph.proofs.Updating.{upd_here}
-use Rattle.shm_laws.specs.Steps.{AllocStep, alloc_view}
+use Rattle.shm_graph.proofs.Memos.BodyTold.{told_exchange}
+use Rattle.shm_graph.proofs.Memos.Frames.{at1_same}
+use Rattle.shm_graph.proofs.States.Holders.{InReach, held_live_not_zero}
+use Rattle.shm_graph.proofs.StepKinds.KindKeeping.{in_frame, kept_exchange}
+use Rattle.shm_graph.proofs.Memos.KnownChange.{ValueHolds, known_held, valued_all}
+use Rattle.shm_graph.proofs.Runs.Lists.{at1_here}
+use Rattle.shm_graph.proofs.StepKinds.Loads.{choice}
+use Rattle.shm_graph.proofs.Memos.MemoParts.{parts, put_parts, put_same}
+use Rattle.shm_graph.proofs.Spots.Spotting.{same_spot_is}
+use Rattle.shm_graph.proofs.Spots.Updating.{upd_here}
+use Rattle.shm_laws.specs.Steps.{AllocNeeds, alloc_view}
 use Rattle.shm_laws.proofs.AllocBlock.{alloc_kept, alloc_event}
 use Rattle.shm_steps.specs.Preparing.{MayAlloc}
 use Rattle.shm_steps.proofs.Prepared.{MakingHolds, making_holds}
@@ -76,7 +76,7 @@ allocated_view v c m i b e ws =
 
 module _ (g : Geometry) (w : Spot → ℕ) (r : ℕ → Memo) (c i b e to tag : ℕ) (k : Making) (h : HeldAt g w (view r)) (l : c < g.clients) (a : MayAlloc c (r c) i b e to tag k) where
   -- the condition on the memo is that of the law
-  pub alloc_step : AllocStep g w (view r) c i b e to tag k
+  pub alloc_step : AllocNeeds g w (view r) c i b e to tag k
   alloc_step = record {
     inside = l;
     acts = a.live;

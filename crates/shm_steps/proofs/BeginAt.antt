@@ -8,7 +8,7 @@ use Rattle.shm_words.specs.Redos.{redo_word, RedoFits}
 use Rattle.shm_words.proofs.Placing.{total_small}
 use Rattle.shm_words.proofs.Words.{redo_of-word, redo_word_small, live_not_zero}
 use Rattle.shm_graph.specs.declared.memo.First.TheVariants.{Begun}
-use Rattle.shm_graph.specs.declared.memo.Half.TheVariants.{Raising}
+use Rattle.shm_graph.specs.declared.memo.ChangeStage.TheVariants.{Raising}
 use Rattle.shm_graph.specs.declared.memo.Making.{Making}
 use Rattle.shm_graph.specs.declared.memo.Memo.{Memo}
 use Rattle.shm_graph.specs.declared.memo.Op.{Op}
@@ -20,18 +20,18 @@ use Rattle.shm_graph.specs.Blocks.{classes, headers, IsBlock, IsLive}
 use Rattle.shm_graph.specs.References.{words_of, refs_of}
 use Rattle.shm_graph.specs.Views.{view, own_word, targets}
 use Rattle.shm_graph.specs.Held.{HeldAt, MakingTie, Names, OpTie, Allowed, room_of, odd, is_home, is_slot, is_slot_to}
-use Rattle.shm_graph.specs.Ops.{Quiet, cover, cover_of, covered, on_of, limbo_of, slot_of, word_at}
+use Rattle.shm_graph.specs.Ops.{Quiet, cover, cover_of, covered, on_of, held_over_of, slot_of, word_at}
 use Rattle.shm_graph.specs.Reach.{is_reached}
 use Rattle.shm_graph.specs.Stores.{is_block_made, op_spelled}
 use Rattle.shm_graph.specs.Telling.{word_told}
-use Rattle.shm_graph.proofs.Counting.{cover_slot, covered_none}
-use Rattle.shm_graph.proofs.Fixed.{fixed_is_at}
-use Rattle.shm_graph.proofs.Holders.{Holds, reach_counted, target_counted, held_live_block, one_holder, step_holds}
-use Rattle.shm_graph.proofs.Keeping.{told_fixed}
+use Rattle.shm_graph.proofs.States.Counting.{cover_slot, covered_none}
+use Rattle.shm_graph.proofs.Spots.Fixed.{fixed_is_at}
+use Rattle.shm_graph.proofs.States.Holders.{Holds, reach_counted, target_counted, held_live_block, one_holder, step_holds}
+use Rattle.shm_graph.proofs.StepKinds.Keeping.{told_fixed}
 use Rattle.shm_graph.specs.declared.ask.Ask.TheVariants.{Load}
-use Rattle.shm_graph.proofs.Reached.{reached_here}
-use Rattle.shm_graph.proofs.Spotting.{at_below, block_within, same_spot_not}
-use Rattle.shm_laws.specs.Steps.{BeginStep}
+use Rattle.shm_graph.proofs.States.Reached.{reached_here}
+use Rattle.shm_graph.proofs.Spots.Spotting.{at_below, block_within, same_spot_not}
+use Rattle.shm_laws.specs.Steps.{BeginNeeds}
 use Rattle.shm_steps.specs.OwnWords.{op_begun}
 use Rattle.shm_steps.specs.Beginning.{HasRoom}
 
@@ -139,11 +139,11 @@ module _ (g : Geometry) (w : Spot → ℕ) (r : ℕ → Memo) (c : ℕ) (h : Hel
   -- ---- steps
 
   -- a step begins where its redo word spells it
-  begins_at : (p : Spot) (red : ARedo) (o : Op) (x : ℕ) → HasRoom c m (room_of o) → RedoFits red → Names g (classes w) red → on_of o ≡ None → limbo_of o ≡ 0 → cover_of o ≡ Quiet
+  begins_at : (p : Spot) (red : ARedo) (o : Op) (x : ℕ) → HasRoom c m (room_of o) → RedoFits red → Names g (classes w) red → on_of o ≡ None → held_over_of o ≡ 0 → cover_of o ≡ Quiet
       → OpTie g (classes w) (redo_word red) (w (Era c c)) (words_of w) o → Allowed c o → slot_of o ≡ p → SlotHas g w r c p x → op_begun g c m (redo_word red) ≡ o
-      → BeginStep g w (view r) c (redo_word red) (op_begun g c m (redo_word red))
-  begins_at p red o x a fits names on limbo quiet tie may slot s begun =
-      subst (BeginStep g w (view r) c (redo_word red)) (sym begun)
+      → BeginNeeds g w (view r) c (redo_word red) (op_begun g c m (redo_word red))
+  begins_at p red o x a fits names on held_over quiet tie may slot s begun =
+      subst (BeginNeeds g w (view r) c (redo_word red)) (sym begun)
       (record {
         inside = l;
         acts = a.here.joined;
@@ -152,7 +152,7 @@ module _ (g : Geometry) (w : Spot → ℕ) (r : ℕ → Memo) (c : ℕ) (h : Hel
         small = redo_word_small red fits;
         op = a.idle;
         on = on;
-        limbo = limbo;
+        held_over = held_over;
         quiet = quiet;
         room = (let y = era_here in let z = a.room in omega arith);
         tie = tie;
@@ -163,7 +163,7 @@ module _ (g : Geometry) (w : Spot → ℕ) (r : ℕ → Memo) (c : ℕ) (h : Hel
 
   -- a block in reach is to be put into a slot
   pub up_at : (p : Spot) (b : ℕ) → HasRoom c m 3 → SlotHas g w r c p 0 → is_slot_to c p ≡ false → is_reached c m b ≡ true
-      → BeginStep g w (view r) c (redo_word (redos.Up (spot_address g p) b)) (op_begun g c m (redo_word (redos.Up (spot_address g p) b)))
+      → BeginNeeds g w (view r) c (redo_word (redos.Up (spot_address g p) b)) (op_begun g c m (redo_word (redos.Up (spot_address g p) b)))
   up_at p b a s out u =
       let red : ARedo = redos.Up (spot_address g p) b in
       let block : IsBlock g (classes w) b = reached_block b u in
@@ -173,7 +173,7 @@ module _ (g : Geometry) (w : Spot → ℕ) (r : ℕ → Memo) (c : ℕ) (h : Hel
 
   -- the block of a slot is to go
   pub down_at : (p : Spot) (b : ℕ) → HasRoom c m 3 → SlotHas g w r c p b → b ≢ 0 → is_home p ≡ false
-      → BeginStep g w (view r) c (redo_word (redos.Down (spot_address g p) b)) (op_begun g c m (redo_word (redos.Down (spot_address g p) b)))
+      → BeginNeeds g w (view r) c (redo_word (redos.Down (spot_address g p) b)) (op_begun g c m (redo_word (redos.Down (spot_address g p) b)))
   down_at p b a s some out =
       let red : ARedo = redos.Down (spot_address g p) b in
       let block : IsBlock g (classes w) b = named_block p b some s a.idle in
@@ -183,7 +183,7 @@ module _ (g : Geometry) (w : Spot → ℕ) (r : ℕ → Memo) (c : ℕ) (h : Hel
 
   -- a slot is to have another block, which is in reach
   pub change_at : (p : Spot) (a b : ℕ) → HasRoom c m 4 → SlotHas g w r c p a → a ≢ 0 → is_slot p ≡ false → is_home p ≡ false → a ≢ b → is_reached c m b ≡ true
-      → BeginStep g w (view r) c (redo_word (redos.Change (odd e) (spot_address g p) a b)) (op_begun g c m (redo_word (redos.Change (odd e) (spot_address g p) a b)))
+      → BeginNeeds g w (view r) c (redo_word (redos.Change (odd e) (spot_address g p) a b)) (op_begun g c m (redo_word (redos.Change (odd e) (spot_address g p) a b)))
   change_at p a b may s some lane home other u =
       let red : ARedo = redos.Change (odd e) (spot_address g p) a b in
       let before : IsBlock g (classes w) a = named_block p a some s may.idle in

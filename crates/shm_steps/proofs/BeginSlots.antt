@@ -11,16 +11,16 @@ use Rattle.shm_graph.specs.declared.memo.Fact.TheVariants.{Counter}
 use Rattle.shm_graph.specs.declared.memo.Memo.{Memo}
 use Rattle.shm_graph.specs.declared.memo.Op.TheVariants.{Nothing}
 use Rattle.shm_graph.specs.declared.spot.Spot.{Spot}
-use Rattle.shm_graph.specs.declared.spot.Spot.TheVariants.{Home, Era, Root, Tail, Front, Slot}
+use Rattle.shm_graph.specs.declared.spot.Spot.TheVariants.{Home, Era, Root, Tail, QueueHead, Slot}
 use Rattle.shm_graph.specs.Spots.{spot_address, IsAt}
 use Rattle.shm_graph.specs.Blocks.{classes}
 use Rattle.shm_graph.specs.Views.{view, own_word, targets}
 use Rattle.shm_graph.specs.Held.{HeldAt, odd}
-use Rattle.shm_graph.proofs.Calls.{FactHolds}
-use Rattle.shm_graph.proofs.Fixed.{fixed_is_at}
-use Rattle.shm_graph.proofs.Holders.{Holds}
-use Rattle.shm_graph.proofs.KnownChange.{KnownHolds}
-use Rattle.shm_laws.specs.Steps.{BeginStep}
+use Rattle.shm_graph.proofs.Memos.Calls.{FactHolds}
+use Rattle.shm_graph.proofs.Spots.Fixed.{fixed_is_at}
+use Rattle.shm_graph.proofs.States.Holders.{Holds}
+use Rattle.shm_graph.proofs.Memos.KnownChange.{KnownHolds}
+use Rattle.shm_laws.specs.Steps.{BeginNeeds}
 use Rattle.shm_steps.specs.OwnWords.{op_begun}
 use Rattle.shm_steps.specs.Beginning.{MayReplaceRoot, MaySet, MayPut, MayTake, MayTakeBack}
 use Rattle.shm_steps.proofs.BeginAt.{SlotHas, fixed_told, word_target, up_at, down_at, change_at}
@@ -39,7 +39,7 @@ module _ (g : Geometry) (w : Spot → ℕ) (r : ℕ → Memo) (c : ℕ) (h : Hel
 
   -- an own root is to have another block
   pub change_begins_root : (k a b : ℕ) → MayReplaceRoot c m k a b
-      → BeginStep g w (view r) c (redo_word (redos.Change (odd (own_word m.own (Era c c))) (spot_address g (Root c k)) a b)) (op_begun g c m (redo_word (redos.Change (odd (own_word m.own (Era c c))) (spot_address g (Root c k)) a b)))
+      → BeginNeeds g w (view r) c (redo_word (redos.Change (odd (own_word m.own (Era c c))) (spot_address g (Root c k)) a b)) (op_begun g c m (redo_word (redos.Change (odd (own_word m.own (Era c c))) (spot_address g (Root c k)) a b)))
   change_begins_root k a b x = change_at g w r c h l (Root c k) a b x.may (root_has k a x.some x.root) x.some refl refl x.other x.source
 
   -- the own home
@@ -49,7 +49,7 @@ module _ (g : Geometry) (w : Spot → ℕ) (r : ℕ → Memo) (c : ℕ) (h : Hel
       record { told = fixed_told g (classes w) c m (Home c) refl at; at = at; holds = refl; word = sym (h.mine c l (Home c) (eq-eqb c c refl)) ∙ e }
 
   -- a block in reach is to be put into the own home
-  pub up_begins_home : (b : ℕ) → MaySet c m b → BeginStep g w (view r) c (redo_word (redos.Up (spot_address g (Home c)) b)) (op_begun g c m (redo_word (redos.Up (spot_address g (Home c)) b)))
+  pub up_begins_home : (b : ℕ) → MaySet c m b → BeginNeeds g w (view r) c (redo_word (redos.Up (spot_address g (Home c)) b)) (op_begun g c m (redo_word (redos.Up (spot_address g (Home c)) b)))
   up_begins_home b x = up_at g w r c h l (Home c) b x.may (home_has x.empty) refl x.source
 
   -- ---- queues to others
@@ -59,24 +59,24 @@ module _ (g : Geometry) (w : Spot → ℕ) (r : ℕ → Memo) (c : ℕ) (h : Hel
   tail_here i = h.mine c l (Tail c i) (eq-eqb c c refl)
 
   -- where a head that was read leaves room, the queue has room
-  pub room_left : (i y : ℕ) → Contains m.facts (Counter (Front c i) y) → own_word m.own (Tail c i) < y + 8 → w (Tail c i) < w (Front c i) + 8
+  pub room_left : (i y : ℕ) → Contains m.facts (Counter (QueueHead c i) y) → own_word m.own (Tail c i) < y + 8 → w (Tail c i) < w (QueueHead c i) + 8
   room_left i y k s =
-      let most : y ≤ w (Front c i) = All-contains (FactHolds g w (view r)) m.facts (Counter (Front c i) y) (h.facts c l) k in
+      let most : y ≤ w (QueueHead c i) = All-contains (FactHolds g w (view r)) m.facts (Counter (QueueHead c i) y) (h.facts c l) k in
       let same = tail_here i in
       omega arith
 
   -- where a block waits for its tail, the queue has room
-  pub room_unsent : (i : ℕ) → i < g.clients → c ≢ i → slice_index m.unsent i ≢ 0 → w (Tail c i) < w (Front c i) + 8
+  pub room_unsent : (i : ℕ) → i < g.clients → c ≢ i → slice_index m.unsent i ≢ 0 → w (Tail c i) < w (QueueHead c i) + 8
   room_unsent i li o n =
       let lane = h.lanes c i l li o in
       let most = lane.room in
-      elim (cases_eq (w (Tail c i)) (w (Front c i) + 8)) [
+      elim (cases_eq (w (Tail c i)) (w (QueueHead c i) + 8)) [
         | inl z ↦ absurd (n (lane.full z))
         | inr z ↦ omega arith
       ]
 
   -- the next slot of a queue that has room has the block that waits for its tail
-  pub tail_has : (i k x : ℕ) → i < g.clients → c ≢ i → m.op ≡ Nothing → k ≡ own_word m.own (Tail c i) % 8 → w (Tail c i) < w (Front c i) + 8 → slice_index m.unsent i ≡ x → SlotHas g w r c (Slot c i k) x
+  pub tail_has : (i k x : ℕ) → i < g.clients → c ≢ i → m.op ≡ Nothing → k ≡ own_word m.own (Tail c i) % 8 → w (Tail c i) < w (QueueHead c i) + 8 → slice_index m.unsent i ≡ x → SlotHas g w r c (Slot c i k) x
   tail_has i k x li o idle next room waits =
       let lane = h.lanes c i l li o in
       let place : k ≡ w (Tail c i) % 8 = next ∙ ap (λ n. n % 8) (tail_here i) in
@@ -92,14 +92,14 @@ module _ (g : Geometry) (w : Spot → ℕ) (r : ℕ → Memo) (c : ℕ) (h : Hel
 
   -- a block in reach is to be put into the next slot of a queue
   pub up_begins_send : (i k b : ℕ) → MayPut g.clients c m i k b
-      → BeginStep g w (view r) c (redo_word (redos.Up (spot_address g (Slot c i k)) b)) (op_begun g c m (redo_word (redos.Up (spot_address g (Slot c i k)) b)))
+      → BeginNeeds g w (view r) c (redo_word (redos.Up (spot_address g (Slot c i k)) b)) (op_begun g c m (redo_word (redos.Up (spot_address g (Slot c i k)) b)))
   up_begins_send i k b x =
       up_at g w r c h l (Slot c i k) b x.may (tail_has i k 0 x.to x.other x.may.idle x.next (room_left i x.read.0 x.read.1 x.read.2) x.none)
       (ne_eqb i c (λ z. x.other (sym z))) x.source
 
   -- the block that waits for its tail is to go
   pub down_begins_unsend : (i k b : ℕ) → MayTakeBack g.clients c m i k b
-      → BeginStep g w (view r) c (redo_word (redos.Down (spot_address g (Slot c i k)) b)) (op_begun g c m (redo_word (redos.Down (spot_address g (Slot c i k)) b)))
+      → BeginNeeds g w (view r) c (redo_word (redos.Down (spot_address g (Slot c i k)) b)) (op_begun g c m (redo_word (redos.Down (spot_address g (Slot c i k)) b)))
   down_begins_unsend i k b x =
       down_at g w r c h l (Slot c i k) b x.may
       (tail_has i k b x.to x.other x.may.idle x.next (room_unsent i x.to x.other (λ z. x.some (sym x.unsent ∙ z))) x.unsent)
@@ -120,7 +120,7 @@ module _ (g : Geometry) (w : Spot → ℕ) (r : ℕ → Memo) (c : ℕ) (h : Hel
 
   -- the block of a head slot is to be taken
   pub down_begins_take : (s k b : ℕ) → MayTake c m s k b
-      → BeginStep g w (view r) c (redo_word (redos.Down (spot_address g (Slot s c k)) b)) (op_begun g c m (redo_word (redos.Down (spot_address g (Slot s c k)) b)))
+      → BeginNeeds g w (view r) c (redo_word (redos.Down (spot_address g (Slot s c k)) b)) (op_begun g c m (redo_word (redos.Down (spot_address g (Slot s c k)) b)))
   down_begins_take s k b x =
       let a : KnownHolds g w (view r) c (record { spot = Slot s c k; value = b }) = All-contains (KnownHolds g w (view r) c) m.known (record { spot = Slot s c k; value = b }) (h.known c l) x.known in
       down_at g w r c h l (Slot s c k) b x.may (head_has s k b a) a.5 refl

@@ -19,13 +19,13 @@ use Rattle.shm_graph.specs.Reach.{reached_blocks}
 use Rattle.shm_graph.specs.Telling.{Claim, bare, tag_claim, tag_claims, Value, roles, shaped, role_claim, claims}
 use Rattle.shm_graph.specs.Views.{view, own_word}
 use Rattle.shm_graph.specs.Held.{HeldAt, odd}
-use Rattle.shm_graph.proofs.Holders.{Holds, held_live_block}
-use Rattle.shm_graph.proofs.KnownChange.{KnownHolds}
-use Rattle.shm_graph.proofs.LoadTold.{told_load}
-use Rattle.shm_graph.proofs.Claims.{ClaimSound, claims_sound}
-use Rattle.shm_graph.proofs.Reached.{reached_here}
-use Rattle.shm_graph.proofs.Spotting.{block_within, body_is_at}
-use Rattle.shm_laws.specs.Steps.{BeginStep}
+use Rattle.shm_graph.proofs.States.Holders.{Holds, held_live_block}
+use Rattle.shm_graph.proofs.Memos.KnownChange.{KnownHolds}
+use Rattle.shm_graph.proofs.Memos.LoadTold.{told_load}
+use Rattle.shm_graph.proofs.States.Claims.{ClaimSound, claims_sound}
+use Rattle.shm_graph.proofs.States.Reached.{reached_here}
+use Rattle.shm_graph.proofs.Spots.Spotting.{block_within, body_is_at}
+use Rattle.shm_laws.specs.Steps.{BeginNeeds}
 use Rattle.shm_steps.specs.OwnWords.{op_begun}
 use Rattle.shm_steps.specs.Reading.{IsCovered}
 use Rattle.shm_steps.specs.Beginning.{IsOwnWord, MayStoreIn, MayFill, MayClear, MayReplace}
@@ -110,15 +110,15 @@ module _ (g : Geometry) (w : Spot → ℕ) (r : ℕ → Memo) (c : ℕ) (h : Hel
 
   -- a block in reach is to be put into it
   pub up_begins_word : (d i b : ℕ) → MayFill c m d i b
-      → BeginStep g w (view r) c (redo_word (redos.Up (spot_address g (Body d i)) b)) (op_begun g c m (redo_word (redos.Up (spot_address g (Body d i)) b)))
+      → BeginNeeds g w (view r) c (redo_word (redos.Up (spot_address g (Body d i)) b)) (op_begun g c m (redo_word (redos.Up (spot_address g (Body d i)) b)))
   up_begins_word d i b x = up_at g w r c h l (Body d i) b x.may (own_word_has d i 0 x.word) refl x.source
 
   -- its block is to go
   pub down_begins_word : (d i b : ℕ) → MayClear c m d i b
-      → BeginStep g w (view r) c (redo_word (redos.Down (spot_address g (Body d i)) b)) (op_begun g c m (redo_word (redos.Down (spot_address g (Body d i)) b)))
+      → BeginNeeds g w (view r) c (redo_word (redos.Down (spot_address g (Body d i)) b)) (op_begun g c m (redo_word (redos.Down (spot_address g (Body d i)) b)))
   down_begins_word d i b x = down_at g w r c h l (Body d i) b x.may (own_word_has d i b x.word) x.some refl
 
   -- it is to have another block
   pub change_begins_word : (d i a b : ℕ) → MayReplace c m d i a b
-      → BeginStep g w (view r) c (redo_word (redos.Change (odd (own_word m.own (Era c c))) (spot_address g (Body d i)) a b)) (op_begun g c m (redo_word (redos.Change (odd (own_word m.own (Era c c))) (spot_address g (Body d i)) a b)))
+      → BeginNeeds g w (view r) c (redo_word (redos.Change (odd (own_word m.own (Era c c))) (spot_address g (Body d i)) a b)) (op_begun g c m (redo_word (redos.Change (odd (own_word m.own (Era c c))) (spot_address g (Body d i)) a b)))
   change_begins_word d i a b x = change_at g w r c h l (Body d i) a b x.may (own_word_has d i a x.word) x.some refl refl x.other x.source

@@ -21,17 +21,17 @@ use Rattle.shm_graph.specs.Changes.{called}
 use Rattle.shm_graph.specs.Reach.{learnt, is_dying}
 use Rattle.shm_graph.specs.Telling.{Claim, claim_of, role_in, roles}
 use Rattle.shm_graph.specs.Readings.{tag_read, word_read, reference_read, values_read, valued, is_entry, is_latched}
-use Rattle.shm_graph.proofs.Lists.{at1_here}
-use Rattle.shm_graph.proofs.Spotting.{same_spot_not}
-use Rattle.shm_graph.proofs.Counting.{cover_slot, covered_none}
-use Rattle.shm_graph.proofs.Holders.{InReach, reach_counted, step_holds, one_latch}
-use Rattle.shm_graph.proofs.KnownChange.{KnownHolds, ValueHolds, known_held, memo_known, learnt_all, valued_all}
-use Rattle.shm_graph.proofs.Looking.{look_held}
-use Rattle.shm_graph.proofs.MemoParts.{put_memo, put_same, view_here}
-use Rattle.shm_graph.proofs.Calling.{after_call, called_by, called_part}
-use Rattle.shm_graph.proofs.Loads.{choice}
-use Rattle.shm_graph.proofs.Claims.{entry_value}
-use Rattle.shm_graph.proofs.LoadTold.{claim_here, claim_tag, claim_word}
+use Rattle.shm_graph.proofs.Runs.Lists.{at1_here}
+use Rattle.shm_graph.proofs.Spots.Spotting.{same_spot_not}
+use Rattle.shm_graph.proofs.States.Counting.{cover_slot, covered_none}
+use Rattle.shm_graph.proofs.States.Holders.{InReach, reach_counted, step_holds, one_latch}
+use Rattle.shm_graph.proofs.Memos.KnownChange.{KnownHolds, ValueHolds, known_held, memo_known, learnt_all, valued_all}
+use Rattle.shm_graph.proofs.Memos.Looking.{look_held}
+use Rattle.shm_graph.proofs.Memos.MemoParts.{put_memo, put_same, view_here}
+use Rattle.shm_graph.proofs.Machines.Calling.{after_call, called_by, called_part}
+use Rattle.shm_graph.proofs.StepKinds.Loads.{choice}
+use Rattle.shm_graph.proofs.States.Claims.{entry_value}
+use Rattle.shm_graph.proofs.Memos.LoadTold.{claim_here, claim_tag, claim_word}
 use Rattle.shm_steps.specs.Reading.{IsSettled, MayLookBy, MayLook}
 use Rattle.shm_steps.proofs.BlockTold.{dying_listed, dying_true}
 

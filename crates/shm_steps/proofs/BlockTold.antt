@@ -21,8 +21,8 @@ use Rattle.shm_graph.specs.Ops.{cover_of}
 use Rattle.shm_graph.specs.Reach.{is_dying}
 use Rattle.shm_graph.specs.Stores.{class_read}
 use Rattle.shm_graph.specs.Telling.{is_slot_at, stored_told, prepared, word_of_block}
-use Rattle.shm_graph.proofs.Holders.{held_live_block}
-use Rattle.shm_graph.proofs.Spotting.{tag_block, body_block}
+use Rattle.shm_graph.proofs.States.Holders.{held_live_block}
+use Rattle.shm_graph.proofs.Spots.Spotting.{tag_block, body_block}
 
 -- ---- zero-count blocks
 
@@ -80,14 +80,14 @@ body_prepared g class at b i e =
 -- ---- the class of a page
 
 -- a class that was read is the page's
-pub class_is_read : (n : ℕ) (era : ℕ → ℕ → ℕ) (on : ℕ → Option ℕ) (tail front class : ℕ → ℕ → ℕ) (fs : List Fact) (s q : ℕ) → All (FactAt n era on tail front class) fs → class_read fs s q ≢ 0 → class s q ≡ class_read fs s q
-class_is_read n era on tail front class [] s q all some = absurd (some refl)
-class_is_read n era on tail front class (Class i j k ∷ fs) s q all some =
+pub class_is_read : (n : ℕ) (era : ℕ → ℕ → ℕ) (on : ℕ → Option ℕ) (tail queue_head class : ℕ → ℕ → ℕ) (fs : List Fact) (s q : ℕ) → All (FactAt n era on tail queue_head class) fs → class_read fs s q ≢ 0 → class s q ≡ class_read fs s q
+class_is_read n era on tail queue_head class [] s q all some = absurd (some refl)
+class_is_read n era on tail queue_head class (Class i j k ∷ fs) s q all some =
     elim (cases_Bool (eqb i s && eqb j q)) [
       | inl e ↦ (let h = and_parts (eqb i s) (eqb j q) e in
-          let y : (k ≢ 0) × (class i j ≡ k) = All-head (FactAt n era on tail front class) (Class i j k) fs all in
+          let y : (k ≢ 0) × (class i j ≡ k) = All-head (FactAt n era on tail queue_head class) (Class i j k) fs all in
           ap (λ z. class z q) (sym (eqb-true i s h.0)) ∙ (ap (class i) (sym (eqb-true j q h.1)) ∙ (y.1 ∙ sym (cond-true _ _ _ e))))
       | inr e ↦ (let x = cond-false (eqb i s && eqb j q) k (class_read fs s q) e in
-          class_is_read n era on tail front class fs s q (All-tail (FactAt n era on tail front class) (Class i j k) fs all) (λ z. some (x ∙ z)) ∙ sym x)
+          class_is_read n era on tail queue_head class fs s q (All-tail (FactAt n era on tail queue_head class) (Class i j k) fs all) (λ z. some (x ∙ z)) ∙ sym x)
     ]
-class_is_read n era on tail front class (f ∷ fs) s q all some = class_is_read n era on tail front class fs s q (All-tail (FactAt n era on tail front class) f fs all) some
+class_is_read n era on tail queue_head class (f ∷ fs) s q all some = class_is_read n era on tail queue_head class fs s q (All-tail (FactAt n era on tail queue_head class) f fs all) some

@@ -11,7 +11,7 @@ use Rattle.shm_graph.specs.Spots.{spot_at, upd}
 use Rattle.shm_graph.specs.Blocks.{classes, IsBlock}
 use Rattle.shm_graph.specs.Views.{view, at1}
 use Rattle.shm_graph.specs.Held.{HeldAt}
-use Rattle.shm_graph.specs.Ops.{cover_of, limbo_of}
+use Rattle.shm_graph.specs.Ops.{cover_of, held_over_of}
 use Rattle.shm_graph.specs.Asks.{Trail}
 use Rattle.shm_graph.specs.Changes.{called, test_before, with_call, with_end, memo_on}
 use Rattle.shm_graph.specs.Readings.{read_on, header_read}
@@ -19,13 +19,13 @@ use Rattle.shm_graph.specs.Exchanges.{exchanged_on}
 use Rattle.shm_graph.specs.Telling.{claims, claim_of, covers, spot_told}
 use Rattle.shm_graph.specs.Events.{Nothing, graph_of, Happens}
 use Rattle.shm_graph.specs.Laws.{Frame, framed, Stands, KeptAt, event_of}
-use Rattle.shm_graph.proofs.Spotting.{head_at, tag_block, body_block}
-use Rattle.shm_graph.proofs.MemoParts.{end_view}
-use Rattle.shm_graph.proofs.Calling.{called_part}
-use Rattle.shm_graph.proofs.OpEnd.{uncommitted_quiet}
-use Rattle.shm_graph.proofs.SameGraph.{same_graph}
-use Rattle.shm_graph.proofs.BodyTold.{told_exchange}
-use Rattle.shm_graph.proofs.LoadTold.{claim_found, told_load}
+use Rattle.shm_graph.proofs.Spots.Spotting.{head_at, tag_block, body_block}
+use Rattle.shm_graph.proofs.Memos.MemoParts.{end_view}
+use Rattle.shm_graph.proofs.Machines.Calling.{called_part}
+use Rattle.shm_graph.proofs.StepKinds.OpEnd.{uncommitted_quiet}
+use Rattle.shm_graph.proofs.StepKinds.SameGraph.{same_graph}
+use Rattle.shm_graph.proofs.Memos.BodyTold.{told_exchange}
+use Rattle.shm_graph.proofs.Memos.LoadTold.{claim_found, told_load}
 use Rattle.shm_steps.specs.Reading.{IsTold, IsCovered, MayLook}
 use Rattle.shm_steps.proofs.HeaderReads.{header_held, header_op}
 use Rattle.shm_steps.proofs.BlockReads.{tag_held, word_held, word_op}
@@ -36,9 +36,9 @@ read_kept : (me : Me) (w : Spot → ℕ) (r : ℕ → Memo) (f : Frame) (at : �
     let m : Memo = read_on me.geometry me.who true (called (r me.who) t) (test_before (r me.who) t) p (w p) in
     spot_told me.geometry me.who (r me.who) (Load at) ≡ p
     → HeldAt me.geometry w (view (at1 r me.who m))
-    → cover_of m.op ≡ cover_of (r me.who).op → limbo_of m.op ≡ limbo_of (r me.who).op
+    → cover_of m.op ≡ cover_of (r me.who).op → held_over_of m.op ≡ held_over_of (r me.who).op
     → KeptAt me w r (Load at) f (λ n m. Unit {0}) p
-read_kept me w r f at p told held covers limbo =
+read_kept me w r f at p told held covers held_over =
     let g = me.geometry in
     let c = me.who in
     let t : Step = framed me (Load at) f (w p) in
@@ -47,7 +47,7 @@ read_kept me w r f at p told held covers limbo =
       told = told;
       step = record {
         held = subst (HeldAt g w) (sym (end_view r c (called (r c) t) m f.ends)) held;
-        event = same_graph g w w r c (memo_on (r c) t p) covers limbo (λ b. refl) (λ b. refl) refl;
+        event = same_graph g w w r c (memo_on (r c) t p) covers held_over (λ b. refl) (λ b. refl) refl;
         allowed = tt;
         row = tt;
       };
@@ -66,7 +66,7 @@ header_loaded me w r f tr at b s e =
     (read_kept me w r f at (Head b) (told_load g w r s.held c s.who at (Head b) e refl (inl (b, refl)))
     (header_held g w r c b true t s.held s.who is)
     (header_op (λ o. cover_of o ≡ cover_of (r c).op) g w c b true (r c) t refl (λ u. sym (uncommitted_quiet (r c).op u).0))
-    (header_op (λ o. limbo_of o ≡ limbo_of (r c).op) g w c b true (r c) t refl (λ u. sym (uncommitted_quiet (r c).op u).1)))
+    (header_op (λ o. held_over_of o ≡ held_over_of (r c).op) g w c b true (r c) t refl (λ u. sym (uncommitted_quiet (r c).op u).1)))
 
 -- the tag of a block of which something is told is loaded
 pub tag_loaded : (me : Me) (w : Spot → ℕ) (r : ℕ → Memo) (f : Frame) (tr : Trail) (at b : ℕ) → Stands me w r f tr → spot_at me.geometry (classes w) at ≡ Tag b → IsTold me.who (r me.who) b
@@ -82,7 +82,7 @@ tag_loaded me w r f tr at b s e (k, has, of) =
     (read_kept me w r f at (Tag b) (told_load g w r s.held c s.who at (Tag b) e refl (inr (k, has, over)))
     (tag_held g w r c at b q.0 t s.held s.who e q.1)
     (called_part (λ (x : Memo). cover_of x.op) (r c) t refl refl)
-    (called_part (λ (x : Memo). limbo_of x.op) (r c) t refl refl))
+    (called_part (λ (x : Memo). held_over_of x.op) (r c) t refl refl))
 
 -- a word of a block that is told is loaded
 pub word_loaded : (me : Me) (w : Spot → ℕ) (r : ℕ → Memo) (f : Frame) (tr : Trail) (at b i : ℕ) → Stands me w r f tr → spot_at me.geometry (classes w) at ≡ Body b i → IsCovered me.who (r me.who) at → MayLook me.who (r me.who) b i
@@ -96,7 +96,7 @@ word_loaded me w r f tr at b i s e over may =
     (read_kept me w r f at (Body b i) (told_load g w r s.held c s.who at (Body b i) e refl (inr over))
     (word_held g w r c b i t s.held s.who (ap (spot_at g (classes w)) there ∙ e) may)
     (word_op cover_of (r c) t (claim_of c (called (r c) t) (b + 2 + i)) b i (w (Body b i)))
-    (word_op limbo_of (r c) t (claim_of c (called (r c) t) (b + 2 + i)) b i (w (Body b i))))
+    (word_op held_over_of (r c) t (claim_of c (called (r c) t) (b + 2 + i)) b i (w (Body b i))))
 
 -- an exchange of a header found another word
 pub header_lost : (me : Me) (w : Spot → ℕ) (r : ℕ → Memo) (f : Frame) (tr : Trail) (at from to b : ℕ) → Stands me w r f tr → spot_at me.geometry (classes w) at ≡ Head b → w (Head b) ≢ from
@@ -118,7 +118,7 @@ header_lost me w r f tr at from to b s e other =
         event = subst (λ y. Happens g w (cond y (event_of c (r c).op) Nothing) (graph_of g w (view r)) (graph_of g (words y) (view (at1 r c (memo y))))) lost
             (same_graph g w w r c (memo false)
             (header_op (λ o. cover_of o ≡ cover_of (r c).op) g w c b false (r c) t refl (λ u. sym (uncommitted_quiet (r c).op u).0))
-            (header_op (λ o. limbo_of o ≡ limbo_of (r c).op) g w c b false (r c) t refl (λ u. sym (uncommitted_quiet (r c).op u).1))
+            (header_op (λ o. held_over_of o ≡ held_over_of (r c).op) g w c b false (r c) t refl (λ u. sym (uncommitted_quiet (r c).op u).1))
             (λ d. refl) (λ d. refl) refl);
         allowed = λ q. absurd (other q);
         row = λ q. absurd (other q);

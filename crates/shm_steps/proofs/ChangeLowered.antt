@@ -6,19 +6,19 @@ use Rattle.shm_graph.specs.declared.memo.Op.TheVariants.{Change}
 use Rattle.shm_graph.specs.declared.memo.Second.TheVariants.{Closed, Open}
 use Rattle.shm_graph.specs.declared.ask.Ask.TheVariants.{Exchange}
 use Rattle.shm_graph.specs.Laws.{Frame, KeptAt, Stands, event_of, framed}
-use Rattle.shm_graph.specs.declared.spot.Spot.TheVariants.{Front, Head, Tail}
+use Rattle.shm_graph.specs.declared.spot.Spot.TheVariants.{QueueHead, Head, Tail}
 use Rattle.shm_words.specs.declared.geometry.Geometry.{Geometry}
 use Rattle.shm_graph.specs.Events.{Happens, graph_of}
 use Rattle.shm_words.specs.declared.header.Header.{Header}
-use Rattle.shm_graph.proofs.Holders.{Holds}
-use Rattle.shm_graph.proofs.KnownChange.{KnownHolds}
+use Rattle.shm_graph.proofs.States.Holders.{Holds}
+use Rattle.shm_graph.proofs.Memos.KnownChange.{KnownHolds}
 use Rattle.shm_graph.specs.declared.memo.Look.{Look}
-use Rattle.shm_graph.specs.declared.memo.Half.TheVariants.{Lowering}
+use Rattle.shm_graph.specs.declared.memo.ChangeStage.TheVariants.{Lowering}
 use Rattle.shm_steps.specs.Lowering.{MayLowerFormer}
 use Rattle.shm_graph.specs.declared.ask.Me.{Me}
 use Rattle.shm_graph.specs.declared.memo.Memo.{Memo}
-use Rattle.shm_graph.proofs.Reached.{Names, all_named, named_sound, names_here}
-use Rattle.shm_laws.specs.Steps.{SecondStep, dying_after, second_view}
+use Rattle.shm_graph.proofs.States.Reached.{Names, all_named, named_sound, names_here}
+use Rattle.shm_laws.specs.Steps.{SecondNeeds, dying_after, second_view}
 use Rattle.shm_graph.specs.declared.spot.Spot.{Spot}
 use Rattle.shm_steps.proofs.Naming.{StaysKnown, all_lowered, all_spared_apart, names_same}
 use Rattle.shm_graph.specs.declared.memo.Stored.{Stored}
@@ -33,15 +33,15 @@ use Rattle.shm_graph.specs.Ops.{cover_of, is_op, slot_of}
 use Rattle.shm_steps.proofs.Cutting.{cut_slot, cut_sound}
 use Rattle.shm_steps.proofs.Sifting.{dying_more, known_after, values_after}
 use Rattle.shm_words.specs.Headers.{header_of}
-use Rattle.shm_graph.proofs.KindKeeping.{in_frame, kept_exchange}
+use Rattle.shm_graph.proofs.StepKinds.KindKeeping.{in_frame, kept_exchange}
 use Rattle.shm_steps.proofs.MemoCommits.{known_lowered, lowered_is}
 use Rattle.shm_graph.specs.Stores.{not_block}
-use Rattle.shm_graph.proofs.MemoParts.{parts, put_parts, put_same}
+use Rattle.shm_graph.proofs.Memos.MemoParts.{parts, put_parts, put_same}
 use Rattle.shm_steps.proofs.RaiseBlock.{row_shows}
 use Rattle.shm_steps.proofs.BlockTold.{dying_listed}
 use Rattle.shm_laws.proofs.SecondHalf.{second_event, second_kept}
 use Rattle.shm_graph.specs.Spots.{spot_at, upd}
-use Rattle.shm_graph.proofs.BodyTold.{told_exchange}
+use Rattle.shm_graph.proofs.Memos.BodyTold.{told_exchange}
 
 module _ (me : Me) (w : Spot → ℕ) (r : ℕ → Memo) (f : Frame) (tr : Trail) (at x b e n from to : ℕ) (p : Spot) (s : Stands me w r f tr) (found : w (Head x) ≡ from) (a : MayLowerFormer me.who (r me.who) p x b e n from to) where
   abbrev g : Geometry
@@ -86,13 +86,13 @@ module _ (me : Me) (w : Spot → ℕ) (r : ℕ → Memo) (f : Frame) (tr : Trail
   stays = all_spared_apart g w v c p m.known no_slot (s.held.known c s.who)
 
   abbrev NamesIn : Memo → Type 0
-  NamesIn y = Names t (λ i j. w (Tail i j)) (λ i j. w (Front i j)) c y
+  NamesIn y = Names t (λ i j. w (Tail i j)) (λ i j. w (QueueHead i j)) c y
 
   whole_names : NamesIn whole
-  whole_names = names_same t (λ i j. w (Tail i j)) (λ i j. w (Front i j)) c m whole (names_here g w r s.held c s.who) (sym (ap cover_of a.op)) refl (all_named g w v s.held c s.who m.known (s.held.known c s.who))
+  whole_names = names_same t (λ i j. w (Tail i j)) (λ i j. w (QueueHead i j)) c m whole (names_here g w r s.held c s.who) (sym (ap cover_of a.op)) refl (all_named g w v s.held c s.who m.known (s.held.known c s.who))
 
   kept_names : NamesIn kept
-  kept_names = names_same t (λ i j. w (Tail i j)) (λ i j. w (Front i j)) c m kept (names_here g w r s.held c s.who) (sym (ap cover_of a.op)) refl (all_named g w v s.held c s.who kept.known (all_lowered (KnownHolds g w v c) n x m.known (s.held.known c s.who)))
+  kept_names = names_same t (λ i j. w (Tail i j)) (λ i j. w (QueueHead i j)) c m kept (names_here g w r s.held c s.who) (sym (ap cover_of a.op)) refl (all_named g w v s.held c s.who kept.known (all_lowered (KnownHolds g w v c) n x m.known (s.held.known c s.who)))
 
   abbrev known' : List Stored
   known' = filter (λ y. binds c kept y.spot) kept.known
@@ -100,7 +100,7 @@ module _ (me : Me) (w : Spot → ℕ) (r : ℕ → Memo) (f : Frame) (tr : Trail
   abbrev values' : List ℕ
   values' = filter (is_reached c kept) m.values
 
-  second_step : SecondStep g w v c x b e n to p looks' known' values'
+  second_step : SecondNeeds g w v c x b e n to p looks' known' values'
   second_step =
       record {
         inside = s.who;
@@ -112,7 +112,7 @@ module _ (me : Me) (w : Spot → ℕ) (r : ℕ → Memo) (f : Frame) (tr : Trail
         lower = a.lower ∙ sym (ap (λ y. (header_of y).count) found);
         shows = row_shows g w r c x from s.held s.who found a.shows;
         looked = cut_sound g w v s.held c s.who p mine t (λ y z. refl) whole refl;
-        slot = cut_slot g w v s.held c s.who p mine t (λ y z. refl) whole refl (named_sound t (λ i j. w (Tail i j)) (λ i j. w (Front i j)) c whole whole_names);
+        slot = cut_slot g w v s.held c s.who p mine t (λ y z. refl) whole refl (named_sound t (λ i j. w (Tail i j)) (λ i j. w (QueueHead i j)) c whole whole_names);
         knows = known_after g w v s.held c s.who p t kept kept_names (v.untaken c) (dying_after n x (v.dying c)) (λ y o i j k z me at left. left) (dying_listed kept) (dying_more n x (v.dying c)) kept.known (all_lowered (StaysKnown g w v c p) n x m.known stays);
         valued = values_after g w v s.held c s.who p t kept kept_names;
       }

@@ -4,23 +4,23 @@ use Rattle.std.specs.List.{All, filter}
 use Rattle.shm_graph.specs.Held.{Allowed, is_slot}
 use Rattle.shm_graph.specs.declared.memo.First.TheVariants.{Begun, Committed}
 use Rattle.shm_graph.specs.declared.memo.Op.TheVariants.{Change}
-use Rattle.shm_laws.specs.Steps.{ChangeStep, change_view}
+use Rattle.shm_laws.specs.Steps.{ChangeNeeds, change_view}
 use Rattle.shm_graph.specs.declared.ask.Ask.TheVariants.{Exchange}
 use Rattle.shm_graph.specs.Laws.{Frame, KeptAt, Stands, event_of, framed}
-use Rattle.shm_graph.specs.declared.spot.Spot.TheVariants.{Front, Head, Home, Tail}
+use Rattle.shm_graph.specs.declared.spot.Spot.TheVariants.{QueueHead, Head, Home, Tail}
 use Rattle.shm_words.specs.declared.geometry.Geometry.{Geometry}
 use Rattle.shm_graph.specs.Events.{Happens, graph_of}
-use Rattle.shm_graph.proofs.Holders.{Holds, reach_target, target_counted}
+use Rattle.shm_graph.proofs.States.Holders.{Holds, reach_target, target_counted}
 use Rattle.shm_steps.proofs.RaiseBlock.{IsNamedBy, reach_names, row_shows}
 use Rattle.shm_steps.specs.Raising.{IsReparted}
 use Rattle.shm_graph.specs.declared.memo.Look.{Look}
 use Rattle.shm_steps.specs.Lowering.{MayChange}
 use Rattle.shm_graph.specs.declared.ask.Me.{Me}
 use Rattle.shm_graph.specs.declared.memo.Memo.{Memo}
-use Rattle.shm_graph.proofs.Reached.{Names, named_sound, names_here, reached_here}
+use Rattle.shm_graph.proofs.States.Reached.{Names, named_sound, names_here, reached_here}
 use Rattle.shm_graph.specs.Ops.{On, cover, cover_of, is_op, slot_of}
 use Rattle.shm_graph.specs.declared.table.Part.{Part}
-use Rattle.shm_graph.specs.declared.memo.Half.TheVariants.{Raising}
+use Rattle.shm_graph.specs.declared.memo.ChangeStage.TheVariants.{Raising}
 use Rattle.shm_graph.specs.declared.spot.Spot.{Spot}
 use Rattle.shm_steps.proofs.Naming.{StaysKnown, all_spared_apart, names_after, spared_named}
 use Rattle.shm_graph.specs.declared.memo.Stored.{Stored}
@@ -29,21 +29,21 @@ use Rattle.shm_graph.specs.Views.{View, at1, own_word, targets, view}
 use Rattle.shm_graph.specs.Reach.{binds, cut_looks, is_reached, sifted}
 use Rattle.shm_graph.specs.Changes.{called}
 use Rattle.shm_laws.proofs.ChangeFirst.{change_event, change_kept}
-use Rattle.shm_graph.proofs.MemoParts.{parts, put_parts, put_same}
+use Rattle.shm_graph.proofs.Memos.MemoParts.{parts, put_parts, put_same}
 use Rattle.shm_graph.specs.Blocks.{classes}
 use Rattle.shm_graph.specs.Exchanges.{committed, exchanged_on}
 use Rattle.std.proofs.lemmas.Bool.{cond-false}
 use Rattle.shm_steps.proofs.Cutting.{cut_slot, cut_sound}
 use Rattle.shm_steps.proofs.Sifting.{known_after, values_after}
 use Rattle.shm_words.specs.Headers.{header_of}
-use Rattle.shm_graph.proofs.KindKeeping.{in_frame, kept_exchange}
+use Rattle.shm_graph.proofs.StepKinds.KindKeeping.{in_frame, kept_exchange}
 use Rattle.shm_steps.proofs.PartsSet.{loose_stays, part_tie}
 use Rattle.shm_graph.specs.Stores.{not_block}
 use Rattle.shm_steps.proofs.MemoCommits.{not_both}
 use Rattle.shm_steps.proofs.BlockTold.{dying_listed}
 use Rattle.shm_graph.specs.Chains.{part_set}
 use Rattle.shm_graph.specs.Spots.{same_spot, spot_at, upd}
-use Rattle.shm_graph.proofs.BodyTold.{told_exchange}
+use Rattle.shm_graph.proofs.Memos.BodyTold.{told_exchange}
 
 module _ (me : Me) (w : Spot → ℕ) (r : ℕ → Memo) (f : Frame) (tr : Trail) (at x b e from to : ℕ) (p : Spot) (s : Stands me w r f tr) (found : w (Head b) ≡ from) (a : MayChange me.who (r me.who) p x b e from to) (q : IsReparted me.geometry w (view r) me.who (r me.who) p b) where
   abbrev g : Geometry
@@ -97,13 +97,13 @@ module _ (me : Me) (w : Spot → ℕ) (r : ℕ → Memo) (f : Frame) (tr : Trail
   stays = all_spared_apart g w v c p m.known no_slot (s.held.known c s.who)
 
   abbrev NamesIn : Memo → Type 0
-  NamesIn y = Names t' (λ i j. w (Tail i j)) (λ i j. w (Front i j)) c y
+  NamesIn y = Names t' (λ i j. w (Tail i j)) (λ i j. w (QueueHead i j)) c y
 
   whole_names : NamesIn whole
-  whole_names = names_after (targets g w v) (λ i j. w (Tail i j)) (λ i j. w (Front i j)) c m whole p b (names_here g w r s.held c s.who) (ap cover_of a.op) refl refl (spared_named g w v s.held c s.who p m.known stays)
+  whole_names = names_after (targets g w v) (λ i j. w (Tail i j)) (λ i j. w (QueueHead i j)) c m whole p b (names_here g w r s.held c s.who) (ap cover_of a.op) refl refl (spared_named g w v s.held c s.who p m.known stays)
 
   kept_names : NamesIn kept
-  kept_names = names_after (targets g w v) (λ i j. w (Tail i j)) (λ i j. w (Front i j)) c m kept p b (names_here g w r s.held c s.who) (ap cover_of a.op) refl refl (spared_named g w v s.held c s.who p m.known stays)
+  kept_names = names_after (targets g w v) (λ i j. w (Tail i j)) (λ i j. w (QueueHead i j)) c m kept p b (names_here g w r s.held c s.who) (ap cover_of a.op) refl refl (spared_named g w v s.held c s.who p m.known stays)
 
   same : (y : Spot) → same_spot p y ≡ false → t' y ≡ targets g w v y
   same y z = cond-false (same_spot p y) b (targets g w v y) z
@@ -114,7 +114,7 @@ module _ (me : Me) (w : Spot → ℕ) (r : ℕ → Memo) (f : Frame) (tr : Trail
   abbrev values' : List ℕ
   values' = filter (is_reached c kept) m.values
 
-  change_step : ChangeStep g w v c x b e to p looks' known' values' part
+  change_step : ChangeNeeds g w v c x b e to p looks' known' values' part
   change_step =
       record {
         inside = s.who;
@@ -127,7 +127,7 @@ module _ (me : Me) (w : Spot → ℕ) (r : ℕ → Memo) (f : Frame) (tr : Trail
         new = subst (λ y. header_of to ≡ record { live = true; client = c; count = (header_of y).count + 1; era = e }) (sym found) a.new;
         shows = row_shows g w r c b from s.held s.who found a.shows;
         looked = cut_sound g w v s.held c s.who p mine t' same whole refl;
-        slot = cut_slot g w v s.held c s.who p mine t' same whole refl (named_sound t' (λ i j. w (Tail i j)) (λ i j. w (Front i j)) c whole whole_names);
+        slot = cut_slot g w v s.held c s.who p mine t' same whole refl (named_sound t' (λ i j. w (Tail i j)) (λ i j. w (QueueHead i j)) c whole whole_names);
         knows = known_after g w v s.held c s.who p t' kept kept_names (v.untaken c) (v.dying c) (λ y o i j k z me at left. left) (dying_listed kept) (λ d y. y) m.known stays;
         valued = values_after g w v s.held c s.who p t' kept kept_names;
         parted = part_tie g w v c home m.known p b m.part (s.held.part c s.who) q.tie;

@@ -10,7 +10,7 @@ use Rattle.shm_graph.specs.declared.spot.Spot.{Spot}
 use Rattle.shm_graph.specs.declared.spot.Spot.TheVariants as spot
 use Rattle.shm_graph.specs.declared.memo.Fact.{Fact}
 use Rattle.shm_graph.specs.declared.memo.Fact.TheVariants.{Counter}
-use Rattle.shm_graph.specs.declared.memo.Half.TheVariants.{Raising}
+use Rattle.shm_graph.specs.declared.memo.ChangeStage.TheVariants.{Raising}
 use Rattle.shm_graph.specs.declared.memo.Look.{Look}
 use Rattle.shm_graph.specs.declared.memo.Memo.{Memo}
 use Rattle.shm_graph.specs.declared.memo.Op.{Op}
@@ -18,7 +18,7 @@ use Rattle.shm_graph.specs.declared.memo.Op.TheVariants as op
 use Rattle.shm_graph.specs.declared.memo.Step.{Step}
 use Rattle.shm_graph.specs.Agents.{recovers}
 use Rattle.shm_laws.proofs.Keep.{Contains-filter}
-use Rattle.shm_graph.proofs.Calling.{called_by}
+use Rattle.shm_graph.proofs.Machines.Calling.{called_by}
 use Rattle.shm_graph.specs.Changes.{is_lane_count, called, test_before, with_call, with_end, memo_on}
 use Rattle.shm_graph.specs.Held.{room_of}
 use Rattle.shm_graph.specs.Laws.{Frame, framed}
@@ -26,17 +26,17 @@ use Rattle.shm_graph.specs.Reach.{shown, roots_below, in_slots, not_zero, is_rea
 use Rattle.shm_graph.specs.Readings.{row_read, header_read, op_refused, raised_by, is_held}
 use Rattle.shm_graph.specs.Spots.{same_spot}
 use Rattle.shm_graph.specs.Stores.{written}
-use Rattle.shm_graph.proofs.Calling.{called_part}
-use Rattle.shm_graph.proofs.KindKeeping.{in_frame}
-use Rattle.shm_graph.proofs.Loads.{choice}
-use Rattle.shm_graph.proofs.Spotting.{same_spot_self}
+use Rattle.shm_graph.proofs.Machines.Calling.{called_part}
+use Rattle.shm_graph.proofs.StepKinds.KindKeeping.{in_frame}
+use Rattle.shm_graph.proofs.StepKinds.Loads.{choice}
+use Rattle.shm_graph.proofs.Spots.Spotting.{same_spot_self}
 use Rattle.shm_steps.specs.Conditions.{IsHere}
 use Rattle.shm_words.specs.Headers.{header_of}
 use Rattle.shm_words.specs.declared.geometry.Geometry.{Geometry}
 use Rattle.shm_graph.specs.Core.{core}
 use Rattle.shm_graph.specs.Ops.{is_op, slot_of}
 use Rattle.shm_graph.specs.Stores.{stored_on}
-use Rattle.shm_graph.proofs.MemoSteps.{recovers_called}
+use Rattle.shm_graph.proofs.Memos.MemoSteps.{recovers_called}
 
 -- the cores of memos that are chosen alike
 pub core_cond : (z : Bool) (a b a' b' : Memo) → core a ≡ core a' → core b ≡ core b' → core (cond z a b) ≡ core (cond z a' b')

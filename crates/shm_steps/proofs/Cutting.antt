@@ -1,16 +1,16 @@
 -- the looks that stay once a reference is taken away are sound for the new targets, and the slot's block stays in reach
-use Rattle.shm_graph.specs.declared.spot.Spot.TheVariants.{Body, Front, Head, Home, Root, Slot, Tag, Tail}
+use Rattle.shm_graph.specs.declared.spot.Spot.TheVariants.{Body, QueueHead, Head, Home, Root, Slot, Tag, Tail}
 use Rattle.std.proofs.Common.{Bool, List, [], ap, eq-eqb, false, inl, inr, not, refl, subst, sym, true, ℕ, ◌%◌, ◌&&◌, ◌<◌, ◌∙◌, ◌≡◌}
 use Rattle.shm_words.specs.declared.geometry.Geometry.{Geometry}
 use Rattle.shm_graph.specs.Held.{HeldAt, InLooks, LooksSound, SlotOf, named_by, reach_of}
-use Rattle.shm_graph.proofs.Holders.{Holds, InReach}
+use Rattle.shm_graph.proofs.States.Holders.{Holds, InReach}
 use Rattle.shm_graph.specs.declared.memo.Look.{Look}
 use Rattle.shm_graph.specs.declared.memo.Memo.{Memo}
 use Rattle.shm_graph.specs.declared.spot.Spot.{Spot}
 use Rattle.shm_graph.specs.Views.{View, targets}
 use Rattle.std.proofs.lemmas.Bool.{and_from, and_parts, cases_Bool, cond-true, not-true}
-use Rattle.shm_graph.proofs.Loads.{choice}
-use Rattle.shm_graph.proofs.Looking.{not_empty}
+use Rattle.shm_graph.proofs.StepKinds.Loads.{choice}
+use Rattle.shm_graph.proofs.Memos.Looking.{not_empty}
 use Rattle.shm_graph.specs.Reach.{cut_looks, is_look_from, is_look_of, is_named, upto}
 use Rattle.shm_laws.proofs.LooksCut.{from_named, looks_apart, upto_first, upto_has}
 use Rattle.shm_words.specs.Headers.{header_of}
@@ -27,25 +27,25 @@ module _ (g : Geometry) (w : Spot → ℕ) (v : View) (h : HeldAt g w v) (c : �
   abbrev tail : ℕ → ℕ → ℕ
   tail = λ i j. w (Tail i j)
 
-  abbrev front : ℕ → ℕ → ℕ
-  front = λ i j. w (Front i j)
+  abbrev queue_head : ℕ → ℕ → ℕ
+  queue_head = λ i j. w (QueueHead i j)
 
   abbrev author : ℕ → ℕ
   author = λ i. tag_author (w (Tag i))
 
   -- the looks are sound for these targets
   abbrev Sound : (Spot → ℕ) → List Look → Type 0
-  Sound s ks = LooksSound (λ a. s (Home a)) (λ i j. s (Body i j)) author (v.latch c) (named_by s tail front c) [] ks
+  Sound s ks = LooksSound (λ a. s (Home a)) (λ i j. s (Body i j)) author (v.latch c) (named_by s tail queue_head c) [] ks
 
   looks_now : Sound t m.looks
   looks_now = subst (Sound t) (sym looks) (h.looks c l)
 
   -- no word by which a block is named is a word of a block
-  named_still : (b i : ℕ) → p ≡ Body b i → (d : ℕ) → named_by t tail front c d → named_by t' tail front c d
-  named_still b i e d = named_kept t t' tail front c d
+  named_still : (b i : ℕ) → p ≡ Body b i → (d : ℕ) → named_by t tail queue_head c d → named_by t' tail queue_head c d
+  named_still b i e d = named_kept t t' tail queue_head c d
       (λ n k z. stays (Root c k) refl ∙ z)
       (λ n z. stays (Home c) refl ∙ z)
-      (λ n s o z. stays (Slot s c (front s c % 8)) refl ∙ z)
+      (λ n s o z. stays (Slot s c (queue_head s c % 8)) refl ∙ z)
     where
       stays : (q : Spot) → same_spot (Body b i) q ≡ false → t' q ≡ t q
       stays q z = same q (ap (λ x. same_spot x q) e ∙ z)
@@ -63,20 +63,20 @@ module _ (g : Geometry) (w : Spot → ℕ) (v : View) (h : HeldAt g w v) (c : �
       go (Body b i) e =
           choice (Sound t') (not (is_named c m b) && (some b && not (from b i))) (upto b m.looks) []
           (λ z. let y = and_parts (some b) (not (from b i)) (and_parts (not (is_named c m b)) (some b && not (from b i)) z).1 in
-          looks_apart t t' author (v.latch c) (named_by t tail front c) (named_by t' tail front c) (Body b i) (λ q n. same q (ap (λ x. same_spot x q) e ∙ n)) (named_still b i e) [] (upto b m.looks) (not-true (from b i) y.1)
-          (upto_first (λ a. t (Home a)) (λ a j. t (Body a j)) author (v.latch c) (named_by t tail front c) b [] m.looks looks_now))
+          looks_apart t t' author (v.latch c) (named_by t tail queue_head c) (named_by t' tail queue_head c) (Body b i) (λ q n. same q (ap (λ x. same_spot x q) e ∙ n)) (named_still b i e) [] (upto b m.looks) (not-true (from b i) y.1)
+          (upto_first (λ a. t (Home a)) (λ a j. t (Body a j)) author (v.latch c) (named_by t tail queue_head c) b [] m.looks looks_now))
           (λ z. tt)
       go _ e = tt
 
   -- the block of the slot is named, or one of the looks that stay
-  reach_still : (b i : ℕ) → p ≡ Body b i → (is_named c m b ≡ true → named_by t' tail front c b) → InReach w g v c b → reach_of t' tail front (λ d. cut_looks c m (Body b i)) c b
+  reach_still : (b i : ℕ) → p ≡ Body b i → (is_named c m b ≡ true → named_by t' tail queue_head c b) → InReach w g v c b → reach_of t' tail queue_head (λ d. cut_looks c m (Body b i)) c b
   reach_still b i e shows (inl u) = inl (named_still b i e b u)
   reach_still b i e shows (inr u) =
       let x : InLooks m.looks b = subst (λ ks. InLooks ks b) (sym looks) u in
       elim (cases_Bool (is_named c m b)) [
         | inl y ↦ inl (shows y)
         | inr y ↦ elim (cases_Bool (from b i)) [
-          | inl z ↦ inl (named_still b i e b (from_named (λ a. t (Home a)) (λ a j. t (Body a j)) author (v.latch c) (named_by t tail front c) b i [] m.looks (not_empty b) z looks_now))
+          | inl z ↦ inl (named_still b i e b (from_named (λ a. t (Home a)) (λ a j. t (Body a j)) author (v.latch c) (named_by t tail queue_head c) b i [] m.looks (not_empty b) z looks_now))
           | inr z ↦ inr (subst (λ ks. InLooks ks b) (sym (cond-true _ _ _ (and_from _ _ (not-false-true (is_named c m b) y) (and_from _ _ (look_any b m.looks x) (not-false-true (from b i) z))))) (upto_has b m.looks x))
         ]
       ]
@@ -87,10 +87,10 @@ module _ (g : Geometry) (w : Spot → ℕ) (v : View) (h : HeldAt g w v) (c : �
       look_any : (j : ℕ) (ks : List Look) → InLooks ks j → list_any (is_look_of j) ks ≡ true
       look_any j ks x = list_any_at (is_look_of j) ks x.1.0 x.0 x.1.1 (ap (is_look_of j) x.1.2 ∙ eq-eqb x.0.block j x.2)
 
-  pub cut_slot : ((b : ℕ) → is_named c m b ≡ true → named_by t' tail front c b) → SlotOf c (λ i. header_of (w (Head i))) (λ i. w (Tag i)) (v.latch c) tail front (reach_of t' tail front (λ d. cut_looks c m p) c) p
+  pub cut_slot : ((b : ℕ) → is_named c m b ≡ true → named_by t' tail queue_head c b) → SlotOf c (λ i. header_of (w (Head i))) (λ i. w (Tag i)) (v.latch c) tail queue_head (reach_of t' tail queue_head (λ d. cut_looks c m p) c) p
   cut_slot shows = go p refl mine
     where
-      go : (q : Spot) → p ≡ q → Holds w g v c q → SlotOf c (λ i. header_of (w (Head i))) (λ i. w (Tag i)) (v.latch c) tail front (reach_of t' tail front (λ d. cut_looks c m q) c) q
+      go : (q : Spot) → p ≡ q → Holds w g v c q → SlotOf c (λ i. header_of (w (Head i))) (λ i. w (Tag i)) (v.latch c) tail queue_head (reach_of t' tail queue_head (λ d. cut_looks c m q) c) q
       go (Root d k) e x = x
       go (Home d) e x = x
       go (Slot s r k) e x = x

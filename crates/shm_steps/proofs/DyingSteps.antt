@@ -16,13 +16,13 @@ use Rattle.shm_graph.specs.Reach.{is_dying, learnt}
 use Rattle.shm_graph.specs.Stores.{not_block, not_of}
 use Rattle.shm_graph.specs.Changes.{called}
 use Rattle.shm_graph.specs.Laws.{Frame, framed, Stands, KeptAt}
-use Rattle.shm_graph.proofs.BodyTold.{told_in_body}
-use Rattle.shm_graph.proofs.KindKeeping.{in_frame, kept_from}
-use Rattle.shm_graph.proofs.KnownChange.{KnownHolds}
-use Rattle.shm_graph.proofs.MemoParts.{parts, put_parts, put_same}
-use Rattle.shm_graph.proofs.Spotting.{head_at, tag_block, spot_there}
-use Rattle.shm_laws.specs.Steps.{FreeStep, free_view}
-use Rattle.shm_laws.specs.Preparing.{LinkStep, link_view}
+use Rattle.shm_graph.proofs.Memos.BodyTold.{told_in_body}
+use Rattle.shm_graph.proofs.StepKinds.KindKeeping.{in_frame, kept_from}
+use Rattle.shm_graph.proofs.Memos.KnownChange.{KnownHolds}
+use Rattle.shm_graph.proofs.Memos.MemoParts.{parts, put_parts, put_same}
+use Rattle.shm_graph.proofs.Spots.Spotting.{head_at, tag_block, spot_there}
+use Rattle.shm_laws.specs.Steps.{FreeNeeds, free_view}
+use Rattle.shm_laws.specs.Preparing.{LinkNeeds, link_view}
 use Rattle.shm_laws.proofs.FreeBlock.{free_kept, free_event}
 use Rattle.shm_laws.proofs.LinkStore.{link_kept, link_quiet}
 use Rattle.shm_steps.specs.Preparing.{MayFree, MayLink}
@@ -37,7 +37,7 @@ frees me w r f tr at b tag st going e a =
     let v : View = view r in
     let k = a.knows in
     let here : at ≡ b = head_at g (classes w) at b e in
-    let step : FreeStep g v c b tag = record { inside = st.who; acts = k.here.joined; here = k.here.stays; op = k.idle; dying = k.dying; tagged = k.tagged; zeros = a.zeros } in
+    let step : FreeNeeds g v c b tag = record { inside = st.who; acts = k.here.joined; here = k.here.stays; op = k.idle; dying = k.dying; tagged = k.tagged; zeros = a.zeros } in
     subst (KeptAt me w r (Store at 0) f (λ n m. Unit {0})) (sym e)
     (in_frame (λ h. KeptAt me w r (Store at 0) h (λ n m. Unit {0}) (Head b)) f going
     (kept_from me w r (Store at 0) (record f { fresh = false }) (λ n m. Unit {0}) (Head b) (free_view v c b)
@@ -58,7 +58,7 @@ links me w r f tr at b tag x st going e a =
     let k = a.knows in
     let before : at - 1 ≡ b = (let q : b + 1 ≡ at = (tag_block g (classes w) at b e).1 in omega arith) in
     let word : w (Tag b) ≡ tag = (All-contains (KnownHolds g w v c) (r c).known (record { spot = Tag b; value = tag }) (st.held.known c st.who) k.tagged).0 in
-    let step : LinkStep g w v c b x = record { inside = st.who; acts = k.here.joined; here = k.here.stays; dying = k.dying; place = spot_there g (classes w) at (Tag b) e (λ z. cc); small = a.small; shape = a.shape ∙ ap (λ z. z / 2 ^ 20) (sym word) } in
+    let step : LinkNeeds g w v c b x = record { inside = st.who; acts = k.here.joined; here = k.here.stays; dying = k.dying; place = spot_there g (classes w) at (Tag b) e (λ z. cc); small = a.small; shape = a.shape ∙ ap (λ z. z / 2 ^ 20) (sym word) } in
     let n : Memo = called (r c) (framed me (Store at x) (record f { fresh = false }) 0) in
     subst (KeptAt me w r (Store at x) f (λ n m. Unit {0})) (sym e)
     (in_frame (λ h. KeptAt me w r (Store at x) h (λ n m. Unit {0}) (Tag b)) f going

@@ -9,7 +9,7 @@ use Rattle.shm_words.specs.Headers.{header_of}
 use Rattle.shm_graph.specs.declared.spot.Spot.{Spot}
 use Rattle.shm_graph.specs.declared.spot.Spot.TheVariants.{Era, Head}
 use Rattle.shm_graph.specs.declared.memo.First.TheVariants.{Begun, Committed, Written}
-use Rattle.shm_graph.specs.declared.memo.Half.TheVariants.{Raising, Lowering}
+use Rattle.shm_graph.specs.declared.memo.ChangeStage.TheVariants.{Raising, Lowering}
 use Rattle.shm_graph.specs.declared.memo.Op.{Op}
 use Rattle.shm_graph.specs.declared.memo.Op.TheVariants.{Nothing, Alloc, Up, Down, Change}
 use Rattle.shm_graph.specs.declared.memo.Fact.TheVariants.{Header as HeaderRead}
@@ -23,12 +23,12 @@ use Rattle.shm_graph.specs.Held.{HeldAt}
 use Rattle.shm_graph.specs.Agents.{recovers}
 use Rattle.shm_graph.specs.Changes.{called}
 use Rattle.shm_graph.specs.Readings.{header_read, op_refused, raised_by, is_held, test_from}
-use Rattle.shm_graph.proofs.Frames.{at1_same}
-use Rattle.shm_graph.proofs.MemoParts.{put_memo, put_same}
-use Rattle.shm_graph.proofs.Calls.{FactHolds, ZeroHolds, ZerosHold, TestHolds, call_held}
-use Rattle.shm_graph.proofs.Calling.{after_call, called_part}
-use Rattle.shm_graph.proofs.Loads.{choice}
-use Rattle.shm_graph.proofs.OpEnd.{op_ended}
+use Rattle.shm_graph.proofs.Memos.Frames.{at1_same}
+use Rattle.shm_graph.proofs.Memos.MemoParts.{put_memo, put_same}
+use Rattle.shm_graph.proofs.Memos.Calls.{FactHolds, ZeroHolds, ZerosHold, TestHolds, call_held}
+use Rattle.shm_graph.proofs.Machines.Calling.{after_call, called_part}
+use Rattle.shm_graph.proofs.StepKinds.Loads.{choice}
+use Rattle.shm_graph.proofs.StepKinds.OpEnd.{op_ended}
 use Rattle.shm_laws.proofs.Loads.{header_fact}
 
 -- ---- the step in progress

@@ -9,7 +9,7 @@ use Rattle.shm_graph.specs.Blocks.{classes}
 use Rattle.shm_graph.specs.Changes.{memo_on}
 use Rattle.shm_graph.specs.Laws.{Frame, framed, KeptAt}
 use Rattle.shm_graph.specs.Spots.{spot_at}
-use Rattle.shm_graph.proofs.KindKeeping.{in_frame}
+use Rattle.shm_graph.proofs.StepKinds.KindKeeping.{in_frame}
 
 -- of any step
 pub kept_with : (me : Me) (w : Spot → ℕ) (r : ℕ → Memo) (a : Ask) (f : Frame) (after : ℕ → Memo → Type 0) (p q : Spot) → q ≡ p

@@ -2,19 +2,19 @@
 use Rattle.std.proofs.Common.{◌≡◌, ℕ, ◌<◌, refl, sym, ap, ◌∙◌, Bool, true, false, subst, inl, inr, None, [], List, arith, Option, cond, leb, eqb, ◌&&◌, ◌||◌, ◌∷◌, ◌≤◌, ◌⊎◌}
 use Rattle.std.proofs.lemmas.List.Elements.{All-contains, Contains-append_right}
 use Rattle.shm_laws.proofs.Keep.{All-kept}
-use Rattle.shm_laws.specs.Steps.{BackStep, back_view}
-use Rattle.shm_graph.specs.declared.spot.Spot.TheVariants.{Body, Front, Latch, Slot, Tag, Tail}
+use Rattle.shm_laws.specs.Steps.{BackNeeds, back_view}
+use Rattle.shm_graph.specs.declared.spot.Spot.TheVariants.{Body, QueueHead, Latch, Slot, Tag, Tail}
 use Rattle.std.specs.List.{Contains, filter}
 use Rattle.std.proofs.lemmas.Map.Views.{Contains-from_any}
 use Rattle.shm_graph.specs.Laws.{Frame, KeptAt, Stands}
 use Rattle.shm_words.specs.declared.geometry.Geometry.{Geometry}
 use Rattle.shm_graph.specs.Held.{HeldAt, KnownAt, reach_of}
-use Rattle.shm_graph.proofs.Holders.{InReach}
-use Rattle.shm_graph.proofs.KnownChange.{KnownHolds, ValueHolds}
+use Rattle.shm_graph.proofs.States.Holders.{InReach}
+use Rattle.shm_graph.proofs.Memos.KnownChange.{KnownHolds, ValueHolds}
 use Rattle.shm_steps.specs.Unlatching.{MayUnlatch}
 use Rattle.shm_graph.specs.declared.ask.Me.{Me}
 use Rattle.shm_graph.specs.declared.memo.Memo.{Memo}
-use Rattle.shm_graph.proofs.Reached.{Names, names_here, reached_sound}
+use Rattle.shm_graph.proofs.States.Reached.{Names, names_here, reached_sound}
 use Rattle.std.specs.Prelude.{Some}
 use Rattle.shm_graph.specs.declared.spot.Spot.{Spot}
 use Rattle.shm_graph.specs.declared.ask.Ask.TheVariants.{Store}
@@ -28,14 +28,14 @@ use Rattle.shm_graph.specs.Reach.{binds_unlatched, is_at, is_dying, is_free_of_l
 use Rattle.shm_graph.specs.Blocks.{classes}
 use Rattle.shm_graph.specs.Tables.{contents_of}
 use Rattle.shm_steps.proofs.Sifting.{sift_values}
-use Rattle.shm_graph.proofs.KindKeeping.{in_frame, kept_from}
+use Rattle.shm_graph.proofs.StepKinds.KindKeeping.{in_frame, kept_from}
 use Rattle.shm_steps.proofs.Naming.{names_same}
 use Rattle.shm_steps.proofs.BlockTold.{dying_listed}
-use Rattle.shm_graph.proofs.MemoParts.{put_same}
-use Rattle.shm_graph.proofs.Spotting.{same_spot_is}
+use Rattle.shm_graph.proofs.Memos.MemoParts.{put_same}
+use Rattle.shm_graph.proofs.Spots.Spotting.{same_spot_is}
 use Rattle.shm_graph.specs.Spots.{spot_at}
 use Rattle.shm_words.specs.Tags.{tag_author, tag_refs}
-use Rattle.shm_graph.proofs.Keeping.{told_fixed}
+use Rattle.shm_graph.proofs.StepKinds.Keeping.{told_fixed}
 
 -- what is known of a word is among what is known
 pub known_at_has : (q : Spot) (ks : List Stored) (x : ℕ) → known_at q ks ≡ Some x → Contains ks (record { spot = q; value = x })
@@ -64,15 +64,15 @@ module _ (g : Geometry) (w : Spot → ℕ) (r : ℕ → Memo) (h : HeldAt g w (v
   abbrev without : Memo
   without = record m { latch = None; looks = [] }
 
-  without_names : Names (targets g w v) (λ i j. w (Tail i j)) (λ i j. w (Front i j)) c without
-  without_names = names_same (targets g w v) (λ i j. w (Tail i j)) (λ i j. w (Front i j)) c m without (names_here g w r h c l) refl refl (names_here g w r h c l).slots
+  without_names : Names (targets g w v) (λ i j. w (Tail i j)) (λ i j. w (QueueHead i j)) c without
+  without_names = names_same (targets g w v) (λ i j. w (Tail i j)) (λ i j. w (QueueHead i j)) c m without (names_here g w r h c l) refl refl (names_here g w r h c l).slots
 
   -- a block in reach without looks
   abbrev InReachWithout : ℕ → Type 0
-  InReachWithout = reach_of (targets g w v) (λ i j. w (Tail i j)) (λ i j. w (Front i j)) (λ d. []) c
+  InReachWithout = reach_of (targets g w v) (λ i j. w (Tail i j)) (λ i j. w (QueueHead i j)) (λ d. []) c
 
   reached : (b : ℕ) → is_reached c without b ≡ true → InReachWithout b
-  reached b e = reached_sound (targets g w v) (λ i j. w (Tail i j)) (λ i j. w (Front i j)) c without without_names b e
+  reached b e = reached_sound (targets g w v) (λ i j. w (Tail i j)) (λ i j. w (QueueHead i j)) c without without_names b e
 
   -- a word that is free of the latch is a plain word, or one of a block of c
   free_word : (b i : ℕ) (o : Option ℕ) → known_at (Tag b) m.known ≡ o → is_free_of_latch c without b i o ≡ true → (tag_refs (w (Tag b)) ≤ i) ⊎ (tag_author (w (Tag b)) ≡ c)
@@ -87,7 +87,7 @@ module _ (g : Geometry) (w : Spot → ℕ) (r : ℕ → Memo) (h : HeldAt g w (v
       ]
 
   abbrev KnownWithout : Spot → ℕ → Type 0
-  KnownWithout q x = KnownAt c (λ i. w (Tag i)) (λ i j. w (Body i j)) (λ i j k. w (Slot i j k)) (λ i j. w (Tail i j)) (λ i j. w (Front i j)) (v.untaken c) None InReachWithout (v.dying c) q x
+  KnownWithout q x = KnownAt c (λ i. w (Tag i)) (λ i j. w (Body i j)) (λ i j k. w (Slot i j k)) (λ i j. w (Tail i j)) (λ i j. w (QueueHead i j)) (v.untaken c) None InReachWithout (v.dying c) q x
 
   -- whether the latch is the identity's own
   abbrev own : Bool
@@ -126,7 +126,7 @@ module _ (g : Geometry) (w : Spot → ℕ) (r : ℕ → Memo) (h : HeldAt g w (v
   abbrev pub values : List ℕ
   values = filter (is_reached c without) m.values
 
-  pub back_step : (a : ℕ) → MayUnlatch m a → BackStep g w v c a kept values
+  pub back_step : (a : ℕ) → MayUnlatch m a → BackNeeds g w v c a kept values
   back_step a may =
       record {
         inside = l;
@@ -147,7 +147,7 @@ latch_back me w r f tr at a s going e may =
     let v : View = view r in
     let ks = kept g w r s.held c s.who in
     let vs = values g w r s.held c s.who in
-    let step : BackStep g w v c a ks vs = back_step g w r s.held c s.who a may in
+    let step : BackNeeds g w v c a ks vs = back_step g w r s.held c s.who a may in
     subst (KeptAt me w r (Store at 0) f (λ n m. Unit {0})) (sym e)
     (in_frame (λ h. KeptAt me w r (Store at 0) h (λ n m. Unit {0}) (Latch a)) f going
     (kept_from me w r (Store at 0) (record f { fresh = false }) (λ n m. Unit {0}) (Latch a) (back_view v c ks vs)

@@ -5,19 +5,19 @@ use Rattle.shm_graph.specs.declared.memo.First.TheVariants.{Begun, Committed}
 use Rattle.shm_graph.specs.declared.memo.Op.TheVariants.{Down}
 use Rattle.shm_graph.specs.declared.ask.Ask.TheVariants.{Exchange}
 use Rattle.shm_graph.specs.Laws.{Frame, KeptAt, Stands, event_of, framed}
-use Rattle.shm_graph.specs.declared.spot.Spot.TheVariants.{Front, Head, Home, Tail}
+use Rattle.shm_graph.specs.declared.spot.Spot.TheVariants.{QueueHead, Head, Home, Tail}
 use Rattle.shm_words.specs.declared.geometry.Geometry.{Geometry}
 use Rattle.shm_graph.specs.Events.{Happens, graph_of}
 use Rattle.shm_words.specs.declared.header.Header.{Header}
 use Rattle.shm_graph.specs.Held.{HeldAt, PartTie}
-use Rattle.shm_graph.proofs.Holders.{Holds, held_live_not_zero}
+use Rattle.shm_graph.proofs.States.Holders.{Holds, held_live_not_zero}
 use Rattle.shm_steps.specs.Raising.{IsReparted}
 use Rattle.shm_graph.specs.declared.memo.Look.{Look}
-use Rattle.shm_laws.specs.Steps.{LowerStep, dying_after, lower_view, untaken_after}
+use Rattle.shm_laws.specs.Steps.{LowerNeeds, dying_after, lower_view, untaken_after}
 use Rattle.shm_steps.specs.Lowering.{MayLower}
 use Rattle.shm_graph.specs.declared.ask.Me.{Me}
 use Rattle.shm_graph.specs.declared.memo.Memo.{Memo}
-use Rattle.shm_graph.proofs.Reached.{Names, named_sound, names_here}
+use Rattle.shm_graph.proofs.States.Reached.{Names, named_sound, names_here}
 use Rattle.shm_graph.specs.Ops.{On, cover, cover_of, is_op, slot_of}
 use Rattle.shm_graph.specs.declared.table.Part.{Part}
 use Rattle.shm_graph.specs.declared.spot.Spot.{Spot}
@@ -35,18 +35,18 @@ use Rattle.shm_laws.proofs.Keep.{count_of_zero}
 use Rattle.shm_steps.proofs.Cutting.{cut_slot, cut_sound}
 use Rattle.shm_steps.proofs.Sifting.{dying_more, known_after, untaken_stays, values_after}
 use Rattle.shm_words.specs.Headers.{header_of}
-use Rattle.shm_graph.proofs.KindKeeping.{in_frame, kept_exchange}
+use Rattle.shm_graph.proofs.StepKinds.KindKeeping.{in_frame, kept_exchange}
 use Rattle.shm_steps.proofs.MemoCommits.{known_left, known_lowered, lowered_is, unsent_list, unsent_lowered, untaken_list, untaken_lowered, with_unsent_is, with_untaken_is}
 use Rattle.shm_steps.proofs.PartsSet.{known_read, loose_stays, part_tie}
 use Rattle.shm_laws.proofs.LowerBlock.{lower_event, lower_kept}
 use Rattle.shm_graph.specs.Stores.{not_block}
 use Rattle.shm_graph.specs.Chains.{part_set}
-use Rattle.shm_graph.proofs.MemoParts.{parts, put_parts, put_same}
+use Rattle.shm_graph.proofs.Memos.MemoParts.{parts, put_parts, put_same}
 use Rattle.shm_steps.proofs.RaiseBlock.{row_shows}
 use Rattle.shm_steps.proofs.BlockTold.{dying_listed}
 use Rattle.shm_graph.specs.Spots.{same_spot, spot_at, upd}
 use Rattle.std.specs.Prelude.{slice_index}
-use Rattle.shm_graph.proofs.BodyTold.{told_exchange}
+use Rattle.shm_graph.proofs.Memos.BodyTold.{told_exchange}
 
 -- a header whose count isn't 0 is live
 pub counted_live : (g : Geometry) (w : Spot → ℕ) (v : View) (b n from : ℕ) → HeldAt g w v → w (Head b) ≡ from → n + 1 ≡ (header_of from).count → ((headers w b).live ≡ true) × ((headers w b).count ≢ 0)
@@ -100,13 +100,13 @@ module _ (me : Me) (w : Spot → ℕ) (r : ℕ → Memo) (f : Frame) (tr : Trail
   stays = all_spared g w v c p m.known (s.held.known c s.who)
 
   abbrev NamesIn : Memo → Type 0
-  NamesIn x = Names t' (λ i j. w (Tail i j)) (λ i j. w (Front i j)) c x
+  NamesIn x = Names t' (λ i j. w (Tail i j)) (λ i j. w (QueueHead i j)) c x
 
   whole_names : NamesIn whole
-  whole_names = names_after (targets g w v) (λ i j. w (Tail i j)) (λ i j. w (Front i j)) c m whole p 0 (names_here g w r s.held c s.who) (ap cover_of a.op) refl refl (spared_named g w v s.held c s.who p whole.known stays)
+  whole_names = names_after (targets g w v) (λ i j. w (Tail i j)) (λ i j. w (QueueHead i j)) c m whole p 0 (names_here g w r s.held c s.who) (ap cover_of a.op) refl refl (spared_named g w v s.held c s.who p whole.known stays)
 
   kept_names : NamesIn kept
-  kept_names = names_after (targets g w v) (λ i j. w (Tail i j)) (λ i j. w (Front i j)) c m kept p 0 (names_here g w r s.held c s.who) (ap cover_of a.op) refl refl (spared_named g w v s.held c s.who p kept.known (all_lowered (StaysKnown g w v c p) n b whole.known stays))
+  kept_names = names_after (targets g w v) (λ i j. w (Tail i j)) (λ i j. w (QueueHead i j)) c m kept p 0 (names_here g w r s.held c s.who) (ap cover_of a.op) refl refl (spared_named g w v s.held c s.who p kept.known (all_lowered (StaysKnown g w v c p) n b whole.known stays))
 
   same : (x : Spot) → same_spot p x ≡ false → t' x ≡ targets g w v x
   same x z = cond-false (same_spot p x) 0 (targets g w v x) z
@@ -117,7 +117,7 @@ module _ (me : Me) (w : Spot → ℕ) (r : ℕ → Memo) (f : Frame) (tr : Trail
   abbrev values' : List ℕ
   values' = filter (is_reached c kept) m.values
 
-  lower_step : LowerStep g w v c b e n to p looks' known' values' part
+  lower_step : LowerNeeds g w v c b e n to p looks' known' values' part
   lower_step =
       record {
         inside = s.who;
@@ -130,7 +130,7 @@ module _ (me : Me) (w : Spot → ℕ) (r : ℕ → Memo) (f : Frame) (tr : Trail
         lower = a.lower ∙ sym (ap (λ x. (header_of x).count) found);
         shows = row_shows g w r c b from s.held s.who found a.shows;
         looked = cut_sound g w v s.held c s.who p mine t' same whole refl;
-        slot = cut_slot g w v s.held c s.who p mine t' same whole refl (named_sound t' (λ i j. w (Tail i j)) (λ i j. w (Front i j)) c whole whole_names);
+        slot = cut_slot g w v s.held c s.who p mine t' same whole refl (named_sound t' (λ i j. w (Tail i j)) (λ i j. w (QueueHead i j)) c whole whole_names);
         knows = known_after g w v s.held c s.who p t' kept kept_names (λ i. untaken_after c p b v.untaken c i) (dying_after n b (v.dying c)) (untaken_stays w g v c p b mine) (dying_listed kept) (dying_more n b (v.dying c)) kept.known (all_lowered (StaysKnown g w v c p) n b whole.known stays);
         valued = values_after g w v s.held c s.who p t' kept kept_names;
         parted = part_tie g w v c home (known_left c p m.known) p 0 m.part (s.held.part c s.who) (λ z. subst (λ ks. PartTie (contents_of w t') c (t' (Home c)) (part_set ks c home p 0 m.part)) (sym (known_read c p m.known m.part z)) (q.tie z));

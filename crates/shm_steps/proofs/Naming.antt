@@ -3,9 +3,9 @@ use Rattle.std.specs.List.{All, filter}
 use Rattle.shm_laws.proofs.Keep.{All-kept}
 use Rattle.std.proofs.lemmas.List.Elements.{All-weaker, All-filter}
 use Rattle.shm_words.specs.declared.geometry.Geometry.{Geometry}
-use Rattle.shm_graph.proofs.Reached.{HeadNamed, Names, all_named}
-use Rattle.shm_graph.specs.declared.spot.Spot.TheVariants.{Home, Root, Slot, Front, Tail}
-use Rattle.shm_graph.proofs.KnownChange.{KnownHolds}
+use Rattle.shm_graph.proofs.States.Reached.{HeadNamed, Names, all_named}
+use Rattle.shm_graph.specs.declared.spot.Spot.TheVariants.{Home, Root, Slot, QueueHead, Tail}
+use Rattle.shm_graph.proofs.Memos.KnownChange.{KnownHolds}
 use Rattle.std.proofs.Common.{List, ap, cond, eq-eqb, eqb, false, refl, subst, sym, true, ℕ, ◌&&◌, ◌∙◌, ◌≡◌, ◌<◌}
 use Rattle.shm_graph.specs.declared.memo.Memo.{Memo}
 use Rattle.shm_graph.specs.Ops.{On, Quiet, cover, cover_of}
@@ -13,7 +13,7 @@ use Rattle.shm_graph.specs.declared.spot.Spot.{Spot}
 use Rattle.shm_graph.specs.declared.memo.Stored.{Stored}
 use Rattle.shm_graph.specs.Views.{View, own_word, targets}
 use Rattle.std.proofs.lemmas.Bool.{and_left, and_right, cond-false, ne_eqb, not-true, true≢false}
-use Rattle.shm_graph.proofs.Loads.{choice}
+use Rattle.shm_graph.proofs.StepKinds.Loads.{choice}
 use Rattle.shm_graph.specs.Held.{is_slot, HeldAt}
 use Rattle.shm_steps.proofs.MemoCommits.{known_left, known_lowered}
 use Rattle.shm_graph.specs.Stores.{other_than, not_of}
@@ -54,27 +54,27 @@ module _ (g : Geometry) (w : Spot → ℕ) (v : View) (c : ℕ) where
   all_spared p ks h = All-weaker (KnownHolds g w v c) (StaysKnown p) (λ x a. (a, spared p x.spot refl)) ks h
 
 -- a head slot other than p names what it did
-head_spared : (t : Spot → ℕ) (tail front : ℕ → ℕ → ℕ) (c : ℕ) (p : Spot) (x : ℕ) (q : Spot) (y : ℕ) → HeadNamed t tail front c q y → IsSpared p q → HeadNamed (upd t p x) tail front c q y
-head_spared t tail front c p x (Slot s r k) y h o =
+head_spared : (t : Spot → ℕ) (tail queue_head : ℕ → ℕ → ℕ) (c : ℕ) (p : Spot) (x : ℕ) (q : Spot) (y : ℕ) → HeadNamed t tail queue_head c q y → IsSpared p q → HeadNamed (upd t p x) tail queue_head c q y
+head_spared t tail queue_head c p x (Slot s r k) y h o =
     (h.0, h.1, h.2, cond-false (same_spot p (Slot s c k)) x (t (Slot s c k)) (subst (λ d. same_spot p (Slot s d k) ≡ false) h.0 o) ∙ h.3)
-head_spared t tail front c p x q y h o = tt
+head_spared t tail queue_head c p x q y h o = tt
 
 -- the committed step gives its slot a new target
-pub names_after : (t : Spot → ℕ) (tail front : ℕ → ℕ → ℕ) (c : ℕ) (m n : Memo) (p : Spot) (x : ℕ) → Names t tail front c m → cover_of m.op ≡ Quiet → cover_of n.op ≡ On p x → n.own ≡ m.own
-    → All (λ (s : Stored). HeadNamed t tail front c s.spot s.value × IsSpared p s.spot) n.known → Names (upd t p x) tail front c n
-names_after t tail front c m n p x a quiet on own ks =
+pub names_after : (t : Spot → ℕ) (tail queue_head : ℕ → ℕ → ℕ) (c : ℕ) (m n : Memo) (p : Spot) (x : ℕ) → Names t tail queue_head c m → cover_of m.op ≡ Quiet → cover_of n.op ≡ On p x → n.own ≡ m.own
+    → All (λ (s : Stored). HeadNamed t tail queue_head c s.spot s.value × IsSpared p s.spot) n.known → Names (upd t p x) tail queue_head c n
+names_after t tail queue_head c m n p x a quiet on own ks =
     record {
       roots = λ k. word (Root c k) (a.roots k);
       home = word (Home c) a.home;
-      slots = All-weaker (λ (s : Stored). HeadNamed t tail front c s.spot s.value × IsSpared p s.spot) (λ (s : Stored). HeadNamed (upd t p x) tail front c s.spot s.value) (λ s z. head_spared t tail front c p x s.spot s.value z.0 z.1) n.known ks;
+      slots = All-weaker (λ (s : Stored). HeadNamed t tail queue_head c s.spot s.value × IsSpared p s.spot) (λ (s : Stored). HeadNamed (upd t p x) tail queue_head c s.spot s.value) (λ s z. head_spared t tail queue_head c p x s.spot s.value z.0 z.1) n.known ks;
     }
   where
     word : (q : Spot) → shown m q ≡ t q → shown n q ≡ upd t p x q
     word q e = ap (λ z. cover z q (own_word n.own q)) on ∙ ap (cond (same_spot p q) x) (ap (λ z. own_word z q) own ∙ (sym (ap (λ z. cover z q (own_word m.own q)) quiet) ∙ e))
 
 -- the targets stay, and so do the memo's own words
-pub names_same : (t : Spot → ℕ) (tail front : ℕ → ℕ → ℕ) (c : ℕ) (m n : Memo) → Names t tail front c m → cover_of n.op ≡ cover_of m.op → n.own ≡ m.own → All (λ (s : Stored). HeadNamed t tail front c s.spot s.value) n.known → Names t tail front c n
-names_same t tail front c m n a covers own ks =
+pub names_same : (t : Spot → ℕ) (tail queue_head : ℕ → ℕ → ℕ) (c : ℕ) (m n : Memo) → Names t tail queue_head c m → cover_of n.op ≡ cover_of m.op → n.own ≡ m.own → All (λ (s : Stored). HeadNamed t tail queue_head c s.spot s.value) n.known → Names t tail queue_head c n
+names_same t tail queue_head c m n a covers own ks =
     record {
       roots = λ k. word (Root c k) (a.roots k);
       home = word (Home c) a.home;
@@ -90,7 +90,7 @@ all_spared_apart g w v c p ks e h = All-weaker (KnownHolds g w v c) (StaysKnown 
 
 -- what is spared names head slots
 pub spared_named : (g : Geometry) (w : Spot → ℕ) (v : View) (h : HeldAt g w v) (c : ℕ) (l : c < g.clients) (p : Spot) (ks : List Stored) → All (StaysKnown g w v c p) ks
-    → All (λ (s : Stored). HeadNamed (targets g w v) (λ i j. w (Tail i j)) (λ i j. w (Front i j)) c s.spot s.value × IsSpared p s.spot) ks
+    → All (λ (s : Stored). HeadNamed (targets g w v) (λ i j. w (Tail i j)) (λ i j. w (QueueHead i j)) c s.spot s.value × IsSpared p s.spot) ks
 spared_named g w v h c l p ks a =
     let named = all_named g w v h c l ks (All-weaker (StaysKnown g w v c p) (KnownHolds g w v c) (λ s y. y.0) ks a) in
     let other = All-weaker (StaysKnown g w v c p) (λ (s : Stored). IsSpared p s.spot) (λ s y. y.1) ks a in

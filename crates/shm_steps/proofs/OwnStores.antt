@@ -6,7 +6,7 @@ use Rattle.shm_words.specs.declared.geometry.Geometry.{Geometry}
 use Rattle.std.specs.List.{filter}
 use Rattle.shm_graph.specs.declared.memo.Fact.{Fact}
 use Rattle.shm_graph.specs.Changes.{is_lane_count}
-use Rattle.shm_graph.proofs.Calls.{FactHolds}
+use Rattle.shm_graph.proofs.Memos.Calls.{FactHolds}
 use Rattle.shm_graph.specs.declared.ask.Ask.TheVariants.{Store}
 use Rattle.shm_graph.specs.declared.ask.Me.{Me}
 use Rattle.shm_graph.specs.declared.memo.Memo.{Memo}
@@ -22,15 +22,15 @@ use Rattle.shm_graph.specs.Changes.{called}
 use Rattle.shm_graph.specs.Held.{HeldAt}
 use Rattle.shm_graph.specs.Stores.{era_stored, with_own}
 use Rattle.shm_graph.specs.Laws.{Frame, framed, Stands, KeptAt}
-use Rattle.shm_graph.proofs.Calls.{call_held}
-use Rattle.shm_graph.proofs.Frames.{at1_twice}
-use Rattle.shm_graph.proofs.Keeping.{told_fixed}
-use Rattle.shm_graph.proofs.KindKeeping.{in_frame, kept_from}
-use Rattle.shm_graph.proofs.MemoParts.{parts, put_parts, put_same}
-use Rattle.shm_graph.proofs.Spotting.{spot_there}
-use Rattle.shm_laws.specs.Steps.{RowStep, row_store_view}
-use Rattle.shm_laws.specs.Holding.{HoldStep, hold_view}
-use Rattle.shm_laws.proofs.Rows as rows
+use Rattle.shm_graph.proofs.Memos.Calls.{call_held}
+use Rattle.shm_graph.proofs.Memos.Frames.{at1_twice}
+use Rattle.shm_graph.proofs.StepKinds.Keeping.{told_fixed}
+use Rattle.shm_graph.proofs.StepKinds.KindKeeping.{in_frame, kept_from}
+use Rattle.shm_graph.proofs.Memos.MemoParts.{parts, put_parts, put_same}
+use Rattle.shm_graph.proofs.Spots.Spotting.{spot_there}
+use Rattle.shm_laws.specs.Steps.{RowNeeds, row_store_view}
+use Rattle.shm_laws.specs.Holding.{HoldNeeds, hold_view}
+use Rattle.shm_laws.proofs.RedoAndRows as rows
 use Rattle.shm_laws.proofs.Quiet.{row_quiet}
 use Rattle.shm_laws.proofs.HoldStore.{hold_kept, hold_quiet}
 use Rattle.shm_steps.specs.OwnWords.{MayShow, MayHold}
@@ -45,7 +45,7 @@ row_stored me w r f tr at j x s going e a =
     let p : Spot = Era c j in
     let h : Frame = record f { fresh = false } in
     let m : Memo = called (r c) (framed me (Store at x) h 0) in
-    let step : RowStep g w v c j x = record {
+    let step : RowNeeds g w v c j x = record {
       inside = s.who;
       acts = a.here.joined;
       here = a.here.stays;
@@ -91,7 +91,7 @@ hold_stored me w r f tr at x s e a = subst (KeptAt me w r (Store at x) f (λ n m
     held = call_held g w v c counts [] None [] s.held (All-filter is_lane_count (FactHolds g w v) (r c).facts (s.held.facts c s.who)) (All-nil _) tt (All-nil _)
 
     -- the step is one that stores a hold word, in either view
-    step : (y : View) → y.status ≡ v.status → y.latch ≡ v.latch → HoldStep g w y c x
+    step : (y : View) → y.status ≡ v.status → y.latch ≡ v.latch → HoldNeeds g w y c x
     step y st la =
         record {
           inside = s.who;

@@ -7,7 +7,7 @@ use Rattle.shm_words.specs.Headers.{header_of}
 use Rattle.shm_words.specs.Tags.{tag_author}
 use Rattle.shm_graph.specs.declared.ask.Ask.TheVariants.{Store}
 use Rattle.shm_graph.specs.declared.ask.Me.{Me}
-use Rattle.shm_graph.specs.declared.memo.Half.TheVariants.{Raising}
+use Rattle.shm_graph.specs.declared.memo.ChangeStage.TheVariants.{Raising}
 use Rattle.shm_graph.specs.declared.memo.Look.{Look}
 use Rattle.shm_graph.specs.declared.memo.Memo.{Memo}
 use Rattle.shm_graph.specs.declared.memo.Op.{Op}
@@ -15,7 +15,7 @@ use Rattle.shm_graph.specs.declared.memo.Op.TheVariants.{Nothing, Change}
 use Rattle.shm_graph.specs.declared.memo.Status.TheVariants as status
 use Rattle.shm_graph.specs.declared.memo.Stored.{Stored}
 use Rattle.shm_graph.specs.declared.spot.Spot.{Spot}
-use Rattle.shm_graph.specs.declared.spot.Spot.TheVariants.{Era, Home, Root, Tail, Front, Slot, Head, Tag, Body}
+use Rattle.shm_graph.specs.declared.spot.Spot.TheVariants.{Era, Home, Root, Tail, QueueHead, Slot, Head, Tag, Body}
 use Rattle.shm_graph.specs.Spots.{spot_at, upd}
 use Rattle.shm_graph.specs.Blocks.{classes}
 use Rattle.shm_graph.specs.Views.{View, view, at1, own_word, targets}
@@ -28,14 +28,14 @@ use Rattle.shm_graph.specs.Reach.{binds, is_reached}
 use Rattle.shm_graph.specs.Stores.{op_closed, is_lowering, without_looks, era_stored, with_own}
 use Rattle.shm_graph.specs.Tables.{contents_of}
 use Rattle.shm_graph.specs.Laws.{Frame, framed, Stands, KeptAt}
-use Rattle.shm_graph.proofs.Frames.{at1_all}
-use Rattle.shm_graph.proofs.Keeping.{told_fixed}
-use Rattle.shm_graph.proofs.KindKeeping.{in_frame, kept_from}
-use Rattle.shm_graph.proofs.KnownChange.{KnownHolds, ValueHolds}
-use Rattle.shm_graph.proofs.Lists.{at1_here, at1_other}
-use Rattle.shm_graph.proofs.MemoParts.{parts, put_parts, put_same}
-use Rattle.shm_graph.proofs.Reached.{Names, reached_sound, shown_target, all_named}
-use Rattle.shm_laws.specs.Steps.{CloseStep, close_view}
+use Rattle.shm_graph.proofs.Memos.Frames.{at1_all}
+use Rattle.shm_graph.proofs.StepKinds.Keeping.{told_fixed}
+use Rattle.shm_graph.proofs.StepKinds.KindKeeping.{in_frame, kept_from}
+use Rattle.shm_graph.proofs.Memos.KnownChange.{KnownHolds, ValueHolds}
+use Rattle.shm_graph.proofs.Runs.Lists.{at1_here, at1_other}
+use Rattle.shm_graph.proofs.Memos.MemoParts.{parts, put_parts, put_same}
+use Rattle.shm_graph.proofs.States.Reached.{Names, reached_sound, shown_target, all_named}
+use Rattle.shm_laws.specs.Steps.{CloseNeeds, close_view}
 use Rattle.shm_laws.proofs.CloseOp.{close_kept}
 use Rattle.shm_laws.proofs.Quiet.{close_quiet}
 use Rattle.shm_laws.proofs.Keep.{All-kept}
@@ -55,11 +55,11 @@ at1_both P f h c x y d here other =
 
 -- c has the block in a word of its own, or in these looks
 abbrev pub InReachBy : (Spot → ℕ) → Geometry → View → ℕ → List Look → ℕ → Type 0
-InReachBy w g v c looks b = named_by (targets g w v) (λ s r. w (Tail s r)) (λ s r. w (Front s r)) c b ⊎ InLooks looks b
+InReachBy w g v c looks b = named_by (targets g w v) (λ s r. w (Tail s r)) (λ s r. w (QueueHead s r)) c b ⊎ InLooks looks b
 
 -- c knows a word as it is, and a value block in reach, with these looks
 abbrev pub KnownBy : Geometry → (Spot → ℕ) → View → ℕ → List Look → Stored → Type 0
-KnownBy g w v c looks k = KnownAt c (λ b. w (Tag b)) (λ b i. w (Body b i)) (λ s r k. w (Slot s r k)) (λ s r. w (Tail s r)) (λ s r. w (Front s r)) (v.untaken c) (v.latch c) (InReachBy w g v c looks) (v.dying c) k.spot k.value
+KnownBy g w v c looks k = KnownAt c (λ b. w (Tag b)) (λ b i. w (Body b i)) (λ s r k. w (Slot s r k)) (λ s r. w (Tail s r)) (λ s r. w (QueueHead s r)) (v.untaken c) (v.latch c) (InReachBy w g v c looks) (v.dying c) k.spot k.value
 
 abbrev pub ValueBy : Geometry → (Spot → ℕ) → View → ℕ → List Look → ℕ → Type 0
 ValueBy g w v c looks = ValueAt (contents_of w (targets g w v)) (InReachBy w g v c looks)
@@ -88,9 +88,9 @@ looks_dropped g w v c ks vs h idle known values =
       redo = h.redo;
       allowed = h.allowed;
       count = h.count;
-      slots = λ d. at1_all (λ (i : ℕ) (x : List Look). i < g.clients → is_op (v.op i) ≡ true → SlotOf i (λ b. header_of (w (Head b))) (λ b. w (Tag b)) (v.latch i) (λ s r. w (Tail s r)) (λ s r. w (Front s r)) (InReachBy w g v i x) (slot_of (v.op i))) v.looks c [] d
+      slots = λ d. at1_all (λ (i : ℕ) (x : List Look). i < g.clients → is_op (v.op i) ≡ true → SlotOf i (λ b. header_of (w (Head b))) (λ b. w (Tag b)) (v.latch i) (λ s r. w (Tail s r)) (λ s r. w (QueueHead s r)) (InReachBy w g v i x) (slot_of (v.op i))) v.looks c [] d
           (λ l is. absurd (false≢true (sym (ap is_op idle) ∙ is))) (λ n. h.slots d);
-      looks = λ d. at1_all (λ (i : ℕ) (x : List Look). i < g.clients → LooksSound (λ a. targets g w v (Home a)) (λ b i. targets g w v (Body b i)) (λ b. tag_author (w (Tag b))) (v.latch i) (named_by (targets g w v) (λ s r. w (Tail s r)) (λ s r. w (Front s r)) i) [] x) v.looks c [] d
+      looks = λ d. at1_all (λ (i : ℕ) (x : List Look). i < g.clients → LooksSound (λ a. targets g w v (Home a)) (λ b i. targets g w v (Body b i)) (λ b. tag_author (w (Tag b))) (v.latch i) (named_by (targets g w v) (λ s r. w (Tail s r)) (λ s r. w (QueueHead s r)) i) [] x) v.looks c [] d
           (λ l. tt) (λ n. h.looks d);
       lanes = h.lanes;
       known = λ d. at1_both (λ (i : ℕ) (x : List Look) (y : List Stored). i < g.clients → All (KnownBy g w v i x) y) v.looks v.known c [] ks d (λ l. known) (λ n. h.known d);
@@ -158,7 +158,7 @@ module _ (me : Me) (w : Spot → ℕ) (r : ℕ → Memo) (f : Frame) (tr : Trail
   v' = close_view v c x o
 
   -- the step is one that closes
-  step : CloseStep g v c o
+  step : CloseNeeds g v c o
   step = record { inside = s.who; acts = a.here.joined; here = a.here.stays; op = a.op }
 
   -- they hold, and the graph stays
@@ -173,7 +173,7 @@ module _ (me : Me) (w : Spot → ℕ) (r : ℕ → Memo) (f : Frame) (tr : Trail
   own_target q e = sym (e ∙ (ap (λ k. cover (cover_of k) q (own_word (v'.own c) q)) (at1_here v.op c o) ∙ ap (λ k. cover (cover_of o) q (own_word k q)) (at1_here v.own c own)))
 
   -- the memo without looks names what the targets say
-  names : Names (targets g w' v') (λ i j. w' (Tail i j)) (λ i j. w' (Front i j)) c n'
+  names : Names (targets g w' v') (λ i j. w' (Tail i j)) (λ i j. w' (QueueHead i j)) c n'
   names =
       record {
         roots = λ k. own_target (Root c k) (shown_target g w' v' closed_held c s.who (Root c k) refl);
@@ -183,7 +183,7 @@ module _ (me : Me) (w : Spot → ℕ) (r : ℕ → Memo) (f : Frame) (tr : Trail
 
   -- what the memo has in reach without looks is in reach without looks
   in_reach : (b : ℕ) → is_reached c n' b ≡ true → InReachBy w' g v' c [] b
-  in_reach b e = reached_sound (targets g w' v') (λ i j. w' (Tail i j)) (λ i j. w' (Front i j)) c n' names b e
+  in_reach b e = reached_sound (targets g w' v') (λ i j. w' (Tail i j)) (λ i j. w' (QueueHead i j)) c n' names b e
 
   -- what stays known, and the value blocks that stay
   abbrev ks : List Stored
@@ -197,7 +197,7 @@ module _ (me : Me) (w : Spot → ℕ) (r : ℕ → Memo) (f : Frame) (tr : Trail
   dropped_held e =
       looks_dropped g w' v' c ks vs closed_held (at1_here v.op c o ∙ lowered_none (r c).op x e)
       (All-kept (KnownHolds g w' v' c) (KnownBy g w' v' c []) (λ (k : Stored). binds c n' k.spot)
-      (λ k t h. sift_known c (λ b. w' (Tag b)) (λ b i. w' (Body b i)) (λ i j k. w' (Slot i j k)) (λ i j. w' (Tail i j)) (λ i j. w' (Front i j)) (v'.untaken c) (v'.untaken c) (v'.latch c) (reach_of (targets g w' v') (λ i j. w' (Tail i j)) (λ i j. w' (Front i j)) v'.looks c) (InReachBy w' g v' c []) (v'.dying c) (v'.dying c) n' in_reach (dying_listed n') (λ b d. d) k.spot k.value (λ i j a e u z none. none) t h)
+      (λ k t h. sift_known c (λ b. w' (Tag b)) (λ b i. w' (Body b i)) (λ i j k. w' (Slot i j k)) (λ i j. w' (Tail i j)) (λ i j. w' (QueueHead i j)) (v'.untaken c) (v'.untaken c) (v'.latch c) (reach_of (targets g w' v') (λ i j. w' (Tail i j)) (λ i j. w' (QueueHead i j)) v'.looks c) (InReachBy w' g v' c []) (v'.dying c) (v'.dying c) n' in_reach (dying_listed n') (λ b d. d) k.spot k.value (λ i j a e u z none. none) t h)
       (r c).known (closed_held.known c s.who))
       (All-kept (ValueHolds g w' v' c) (ValueBy g w' v' c []) (is_reached c n') (λ b t h. (h.0, in_reach b t)) (r c).values (closed_held.values c s.who))
 

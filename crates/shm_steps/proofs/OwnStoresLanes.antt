@@ -6,7 +6,7 @@ use Rattle.shm_graph.specs.declared.ask.Ask.TheVariants.{Store}
 use Rattle.shm_graph.specs.declared.ask.Me.{Me}
 use Rattle.shm_graph.specs.declared.memo.Memo.{Memo}
 use Rattle.shm_graph.specs.declared.spot.Spot.{Spot}
-use Rattle.shm_graph.specs.declared.spot.Spot.TheVariants.{Tail, Front}
+use Rattle.shm_graph.specs.declared.spot.Spot.TheVariants.{Tail, QueueHead}
 use Rattle.shm_graph.specs.Spots.{spot_at, upd}
 use Rattle.shm_graph.specs.Blocks.{classes}
 use Rattle.shm_graph.specs.Views.{View, view, at1, own_word}
@@ -15,13 +15,13 @@ use Rattle.shm_graph.specs.Events.{Nothing, graph_of, Happens}
 use Rattle.shm_graph.specs.Held.{HeldAt}
 use Rattle.shm_graph.specs.Stores.{put, lane_with}
 use Rattle.shm_graph.specs.Laws.{Frame, Stands, KeptAt}
-use Rattle.shm_graph.proofs.Keeping.{told_fixed}
-use Rattle.shm_graph.proofs.KindKeeping.{in_frame, kept_from}
-use Rattle.shm_graph.proofs.MemoParts.{put_same}
-use Rattle.shm_graph.proofs.Spotting.{spot_there}
-use Rattle.shm_laws.specs.Steps.{TailStep, tail_view, HeadStep, head_view, at2}
-use Rattle.shm_laws.proofs.Tails.{tail_kept}
-use Rattle.shm_laws.proofs.Heads.{head_kept}
+use Rattle.shm_graph.proofs.StepKinds.Keeping.{told_fixed}
+use Rattle.shm_graph.proofs.StepKinds.KindKeeping.{in_frame, kept_from}
+use Rattle.shm_graph.proofs.Memos.MemoParts.{put_same}
+use Rattle.shm_graph.proofs.Spots.Spotting.{spot_there}
+use Rattle.shm_laws.specs.Steps.{TailNeeds, tail_view, QueueHeadNeeds, head_view, at2}
+use Rattle.shm_laws.proofs.QueueTails.{tail_kept}
+use Rattle.shm_laws.proofs.QueueHeads.{head_kept}
 use Rattle.shm_laws.proofs.Quiet.{tail_quiet, head_quiet}
 use Rattle.shm_steps.specs.OwnWords.{MaySend, MayReceive}
 use Rattle.shm_steps.proofs.Items.{put_at, part_at2}
@@ -36,7 +36,7 @@ tail_stored me w r f tr at i s going e a =
     let p : Spot = Tail c i in
     let x : ℕ = own_word (r c).own p + 1 in
     let word : own_word (r c).own p ≡ w p = s.held.mine c s.who p (eq-eqb c c refl) in
-    let step : TailStep g w v c i = record {
+    let step : TailNeeds g w v c i = record {
       inside = s.who;
       to = a.to;
       other = a.other;
@@ -62,16 +62,16 @@ tail_stored me w r f tr at i s going e a =
     refl tt tt))
 
 -- the head of the queue from another client is stored
-pub head_stored : (me : Me) (w : Spot → ℕ) (r : ℕ → Memo) (f : Frame) (tr : Trail) (at i : ℕ) → Stands me w r f tr → f.fresh ≡ false → spot_at me.geometry (classes w) at ≡ Front i me.who → MayReceive me.geometry.clients me.who (r me.who) i
-    → KeptAt me w r (Store at (own_word (r me.who).own (Front i me.who) + 1)) f (λ n m. Unit {0}) (spot_at me.geometry (classes w) at)
+pub head_stored : (me : Me) (w : Spot → ℕ) (r : ℕ → Memo) (f : Frame) (tr : Trail) (at i : ℕ) → Stands me w r f tr → f.fresh ≡ false → spot_at me.geometry (classes w) at ≡ QueueHead i me.who → MayReceive me.geometry.clients me.who (r me.who) i
+    → KeptAt me w r (Store at (own_word (r me.who).own (QueueHead i me.who) + 1)) f (λ n m. Unit {0}) (spot_at me.geometry (classes w) at)
 head_stored me w r f tr at i s going e a =
     let g = me.geometry in
     let c = me.who in
     let v : View = view r in
-    let p : Spot = Front i c in
+    let p : Spot = QueueHead i c in
     let x : ℕ = own_word (r c).own p + 1 in
     let word : own_word (r c).own p ≡ w p = s.held.mine c s.who p (eq-eqb c c refl) in
-    let step : HeadStep g w v c i = record {
+    let step : QueueHeadNeeds g w v c i = record {
       inside = s.who;
       from = a.from;
       other = a.other;

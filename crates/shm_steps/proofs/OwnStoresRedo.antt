@@ -22,28 +22,28 @@ use Rattle.shm_graph.specs.Views.{View, view, at1, own_word, targets}
 use Rattle.shm_graph.specs.References.{words_of}
 use Rattle.shm_graph.specs.Asks.{Trail}
 use Rattle.shm_graph.specs.Held.{HeldAt, MakingTie, Names, OpSound, OpTie, Allowed, room_of}
-use Rattle.shm_graph.specs.Ops.{Quiet, cover, cover_of, on_of, limbo_of, slot_of}
+use Rattle.shm_graph.specs.Ops.{Quiet, cover, cover_of, on_of, held_over_of, slot_of}
 use Rattle.shm_graph.specs.Reach.{is_reached}
 use Rattle.shm_graph.specs.Stores.{is_block_made, op_spelled}
 use Rattle.shm_graph.specs.Telling.{word_told, outside_or, spot_claimed, claim_of}
 use Rattle.shm_graph.specs.Laws.{Frame, Stands, KeptAt}
-use Rattle.shm_graph.proofs.Fixed.{fixed_is_at}
-use Rattle.shm_graph.proofs.Holders.{Holds, reach_counted, target_counted, held_live_block}
-use Rattle.shm_graph.proofs.Loads.{choice}
-use Rattle.shm_graph.proofs.Keeping.{told_fixed}
-use Rattle.shm_graph.proofs.KindKeeping.{in_frame, kept_from}
-use Rattle.shm_graph.proofs.MemoParts.{put_same}
-use Rattle.shm_graph.proofs.PageSpots.{fixed_stays}
-use Rattle.shm_graph.proofs.Reached.{reached_here, shown_target}
-use Rattle.shm_graph.proofs.Spotting.{at_below, block_within}
-use Rattle.shm_laws.specs.Steps.{BeginStep, begin_view}
-use Rattle.shm_laws.proofs.Rows.{begin_kept}
+use Rattle.shm_graph.proofs.Spots.Fixed.{fixed_is_at}
+use Rattle.shm_graph.proofs.States.Holders.{Holds, reach_counted, target_counted, held_live_block}
+use Rattle.shm_graph.proofs.StepKinds.Loads.{choice}
+use Rattle.shm_graph.proofs.StepKinds.Keeping.{told_fixed}
+use Rattle.shm_graph.proofs.StepKinds.KindKeeping.{in_frame, kept_from}
+use Rattle.shm_graph.proofs.Memos.MemoParts.{put_same}
+use Rattle.shm_graph.proofs.Spots.PageSpots.{fixed_stays}
+use Rattle.shm_graph.proofs.States.Reached.{reached_here, shown_target}
+use Rattle.shm_graph.proofs.Spots.Spotting.{at_below, block_within}
+use Rattle.shm_laws.specs.Steps.{BeginNeeds, begin_view}
+use Rattle.shm_laws.proofs.RedoAndRows.{begin_kept}
 use Rattle.shm_laws.proofs.Quiet.{begin_quiet}
 use Rattle.shm_steps.specs.Conditions.{IsHere}
 use Rattle.shm_steps.specs.OwnWords.{MayAdd, MayRemove, op_begun}
 
 -- the redo word is stored, which begins a step
-pub redo_stored : (me : Me) (w : Spot → ℕ) (r : ℕ → Memo) (f : Frame) (tr : Trail) (at x : ℕ) → Stands me w r f tr → f.fresh ≡ false → spot_at me.geometry (classes w) at ≡ Redo me.who → BeginStep me.geometry w (view r) me.who x (op_begun me.geometry me.who (r me.who) x)
+pub redo_stored : (me : Me) (w : Spot → ℕ) (r : ℕ → Memo) (f : Frame) (tr : Trail) (at x : ℕ) → Stands me w r f tr → f.fresh ≡ false → spot_at me.geometry (classes w) at ≡ Redo me.who → BeginNeeds me.geometry w (view r) me.who x (op_begun me.geometry me.who (r me.who) x)
     → KeptAt me w r (Store at x) f (λ n m. Unit {0}) (spot_at me.geometry (classes w) at)
 redo_stored me w r f tr at x s going e step =
     let g = me.geometry in
@@ -104,10 +104,10 @@ module _ (g : Geometry) (w : Spot → ℕ) (r : ℕ → Memo) (c : ℕ) (h : Hel
   block_fits b a = let x = block_within g (classes w) b a in let y = total_small g h.fits in omega arith
 
   -- a step at an own root begins, where its redo word spells it
-  begins : (k : ℕ) (red : ARedo) (o : Op) → IsHere m → m.op ≡ Nothing → RedoFits red → Names g (classes w) red → on_of o ≡ None → limbo_of o ≡ 0 → cover_of o ≡ Quiet → room_of o ≡ 3 → e + 3 ≤ 2 ^ 47
+  begins : (k : ℕ) (red : ARedo) (o : Op) → IsHere m → m.op ≡ Nothing → RedoFits red → Names g (classes w) red → on_of o ≡ None → held_over_of o ≡ 0 → cover_of o ≡ Quiet → room_of o ≡ 3 → e + 3 ≤ 2 ^ 47
       → OpTie g (classes w) (redo_word red) (w (Era c c)) (words_of w) o → Allowed c o → slot_of o ≡ Root c k
-      → BeginStep g w (view r) c (redo_word red) o
-  begins k red o here idle fits names on limbo quiet three room tie may slot =
+      → BeginNeeds g w (view r) c (redo_word red) o
+  begins k red o here idle fits names on held_over quiet three room tie may slot =
       record {
         inside = l;
         acts = here.joined;
@@ -116,7 +116,7 @@ module _ (g : Geometry) (w : Spot → ℕ) (r : ℕ → Memo) (c : ℕ) (h : Hel
         small = redo_word_small red fits;
         op = idle;
         on = on;
-        limbo = limbo;
+        held_over = held_over;
         quiet = quiet;
         room = (let y = era_here in omega arith);
         tie = tie;
@@ -144,20 +144,20 @@ module _ (g : Geometry) (w : Spot → ℕ) (r : ℕ → Memo) (c : ℕ) (h : Hel
   source_block b (inr u) = held_live_block g w (view r) h b (reach_counted g w (view r) h c b l (reached_here g w r h c l b u)).0
 
   -- a block is to be put into an own root
-  pub root_begins_up : (k b : ℕ) → MayAdd c m k b → BeginStep g w (view r) c (redo_word (redos.Up (spot_address g (Root c k)) b)) (op_begun g c m (redo_word (redos.Up (spot_address g (Root c k)) b)))
+  pub root_begins_up : (k b : ℕ) → MayAdd c m k b → BeginNeeds g w (view r) c (redo_word (redos.Up (spot_address g (Root c k)) b)) (op_begun g c m (redo_word (redos.Up (spot_address g (Root c k)) b)))
   root_begins_up k b a =
       let red : ARedo = redos.Up (spot_address g (Root c k)) b in
       let at : IsAt g (classes w) (Root c k) = root_at k a.root in
       let block : IsBlock g (classes w) b = source_block b a.source in
       let fits : RedoFits red = (address_fits k at, block_fits b block) in
       let sound : OpSound g (classes w) (redo_word red) (w (Era c c)) (w (Root c k)) (Root c k) red e 0 = record { spelled = redo_of-word red fits; current = era_here; at = at; word = sym (root_here k) ∙ a.empty } in
-      subst (BeginStep g w (view r) c (redo_word red)) (sym (up_begun k b at fits))
-      (choice (BeginStep g w (view r) c (redo_word red)) (is_block_made m.making b) (Alloc Begun (Root c k) b e) (Up Begun (Root c k) b e)
+      subst (BeginNeeds g w (view r) c (redo_word red)) (sym (up_begun k b at fits))
+      (choice (BeginNeeds g w (view r) c (redo_word red)) (is_block_made m.making b) (Alloc Begun (Root c k) b e) (Up Begun (Root c k) b e)
       (λ z. begins k red (Alloc Begun (Root c k) b e) a.here a.idle fits block refl refl refl refl a.room sound refl refl)
       (λ z. begins k red (Up Begun (Root c k) b e) a.here a.idle fits block refl refl refl refl a.room sound refl refl))
 
   -- the block of an own root is to go
-  pub root_begins_down : (k b : ℕ) → MayRemove c m k b → BeginStep g w (view r) c (redo_word (redos.Down (spot_address g (Root c k)) b)) (op_begun g c m (redo_word (redos.Down (spot_address g (Root c k)) b)))
+  pub root_begins_down : (k b : ℕ) → MayRemove c m k b → BeginNeeds g w (view r) c (redo_word (redos.Down (spot_address g (Root c k)) b)) (op_begun g c m (redo_word (redos.Down (spot_address g (Root c k)) b)))
   root_begins_down k b a =
       let red : ARedo = redos.Down (spot_address g (Root c k)) b in
       let word : w (Root c k) ≡ b = sym (root_here k) ∙ a.root in
@@ -165,5 +165,5 @@ module _ (g : Geometry) (w : Spot → ℕ) (r : ℕ → Memo) (c : ℕ) (h : Hel
       let names : targets g w (view r) (Root c k) ≡ b = shown_target g w (view r) h c l (Root c k) refl ∙ (ap (λ o. cover (cover_of o) (Root c k) (own_word m.own (Root c k))) a.idle ∙ a.root) in
       let block : IsBlock g (classes w) b = held_live_block g w (view r) h b (target_counted g w (view r) h (Root c k) b a.some names).0 in
       let fits : RedoFits red = (address_fits k at, block_fits b block) in
-      subst (BeginStep g w (view r) c (redo_word red)) (sym (down_begun k b at fits))
+      subst (BeginNeeds g w (view r) c (redo_word red)) (sym (down_begun k b at fits))
       (begins k red (Down Begun (Root c k) b e) a.here a.idle fits block refl refl refl refl a.room (record { spelled = redo_of-word red fits; current = era_here; at = at; word = word }) refl refl)

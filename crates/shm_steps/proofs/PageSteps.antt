@@ -15,12 +15,12 @@ use Rattle.shm_graph.specs.Held.{ZeroAt}
 use Rattle.shm_graph.specs.Asks.{Trail}
 use Rattle.shm_graph.specs.Stores.{not_segment, outside_of, other_than}
 use Rattle.shm_graph.specs.Laws.{Frame, Stands, KeptAt}
-use Rattle.shm_graph.proofs.Spotting.{spot_there}
-use Rattle.shm_graph.proofs.Keeping.{told_fixed}
-use Rattle.shm_graph.proofs.KindKeeping.{in_frame, kept_from, kept_exchange}
-use Rattle.shm_graph.proofs.MemoParts.{put_same}
-use Rattle.shm_laws.specs.Steps.{ClassStep, class_view, LatchStep, latch_view}
-use Rattle.shm_laws.specs.Holding.{ClaimStep, claim_view, SegmentBackStep, segment_back_view}
+use Rattle.shm_graph.proofs.Spots.Spotting.{spot_there}
+use Rattle.shm_graph.proofs.StepKinds.Keeping.{told_fixed}
+use Rattle.shm_graph.proofs.StepKinds.KindKeeping.{in_frame, kept_from, kept_exchange}
+use Rattle.shm_graph.proofs.Memos.MemoParts.{put_same}
+use Rattle.shm_laws.specs.Steps.{ClassNeeds, class_view, LatchNeeds, latch_view}
+use Rattle.shm_laws.specs.Holding.{ClaimNeeds, claim_view, SegmentBackNeeds, segment_back_view}
 use Rattle.shm_laws.proofs.SegmentClaim.{claim_kept, claim_quiet}
 use Rattle.shm_laws.proofs.SegmentBack.{segment_back_kept, segment_back_quiet}
 use Rattle.shm_laws.proofs.PageClass.{class_kept}
@@ -36,7 +36,7 @@ claimed me w r f tr at s st going e free a =
     let g = me.geometry in
     let c = me.who in
     let v : View = view r in
-    let step : ClaimStep g w v c s = record { inside = st.who; acts = a.joined; here = a.stays; free = free; place = spot_there g (classes w) at (Segment s) e (λ z. cc) } in
+    let step : ClaimNeeds g w v c s = record { inside = st.who; acts = a.joined; here = a.stays; free = free; place = spot_there g (classes w) at (Segment s) e (λ z. cc) } in
     subst (KeptAt me w r (Exchange at 0 (c + 1)) f (λ n m. Unit {0})) (sym e)
     (in_frame (λ h. KeptAt me w r (Exchange at 0 (c + 1)) h (λ n m. Unit {0}) (Segment s)) f going
     (kept_exchange me w r at 0 (c + 1) (record f { fresh = false }) (λ n m. Unit {0}) (Segment s) (claim_view v c s) free
@@ -53,7 +53,7 @@ given_up me w r f tr at s st going e a =
     let g = me.geometry in
     let c = me.who in
     let v : View = view r in
-    let step : SegmentBackStep g v c s = record { inside = st.who; acts = a.here.joined; here = a.here.stays; making = a.idle; owned = a.owned } in
+    let step : SegmentBackNeeds g v c s = record { inside = st.who; acts = a.here.joined; here = a.here.stays; making = a.idle; owned = a.owned } in
     subst (KeptAt me w r (Store at 0) f (λ n m. Unit {0})) (sym e)
     (in_frame (λ h. KeptAt me w r (Store at 0) h (λ n m. Unit {0}) (Segment s)) f going
     (kept_from me w r (Store at 0) (record f { fresh = false }) (λ n m. Unit {0}) (Segment s) (segment_back_view g v c s)
@@ -70,7 +70,7 @@ class_stored me w r f tr at s q k st going e a =
     let g = me.geometry in
     let c = me.who in
     let v : View = view r in
-    let step : ClassStep g w v c s q k = record { inside = st.who; acts = a.live; page = spot_there g (classes w) at (Page s q) e (λ z. cc); read = a.read; class = a.class } in
+    let step : ClassNeeds g w v c s q k = record { inside = st.who; acts = a.live; page = spot_there g (classes w) at (Page s q) e (λ z. cc); read = a.read; class = a.class } in
     let zero : (w (Page s q) ≡ 0) × (w (Segment s) ≡ c + 1) = All-contains (ZeroAt g (classes w) (λ i. w (Segment i)) (λ b. w (Head b)) c) (v.zeros c) (Page s q) (st.held.zeros c st.who) a.read in
     subst (KeptAt me w r (Store at k) f (λ n m. Unit {0})) (sym e)
     (in_frame (λ h. KeptAt me w r (Store at k) h (λ n m. Unit {0}) (Page s q)) f going
@@ -88,7 +88,7 @@ latched me w r f tr at a st going e free may =
     let g = me.geometry in
     let c = me.who in
     let v : View = view r in
-    let step : LatchStep g w v c a = record { inside = st.who; acts = may.here.joined; here = may.here.stays; place = spot_there g (classes w) at (Latch a) e (λ z. cc); op = may.idle; none = may.none; free = free; hold = may.wants } in
+    let step : LatchNeeds g w v c a = record { inside = st.who; acts = may.here.joined; here = may.here.stays; place = spot_there g (classes w) at (Latch a) e (λ z. cc); op = may.idle; none = may.none; free = free; hold = may.wants } in
     subst (KeptAt me w r (Exchange at 0 (c + 1)) f (λ n m. Unit {0})) (sym e)
     (in_frame (λ h. KeptAt me w r (Exchange at 0 (c + 1)) h (λ n m. Unit {0}) (Latch a)) f going
     (kept_exchange me w r at 0 (c + 1) (record f { fresh = false }) (λ n m. Unit {0}) (Latch a) (latch_view v c a) free

@@ -13,7 +13,7 @@ use Rattle.shm_graph.specs.declared.memo.Memo.{Memo}
 use Rattle.shm_graph.specs.declared.memo.Op.TheVariants as op
 use Rattle.shm_graph.specs.declared.memo.Step.{Step}
 use Rattle.shm_graph.specs.declared.spot.Spot.{Spot}
-use Rattle.shm_graph.specs.declared.spot.Spot.TheVariants.{Era, Tail, Front, Segment, Head, Tag, Body}
+use Rattle.shm_graph.specs.declared.spot.Spot.TheVariants.{Era, Tail, QueueHead, Segment, Head, Tag, Body}
 use Rattle.shm_graph.specs.Spots.{spot_at, same_spot, upd, class_at, segment_of}
 use Rattle.shm_graph.specs.Blocks.{classes, IsBlock}
 use Rattle.shm_graph.specs.Views.{View, view, at1, ons}
@@ -24,15 +24,15 @@ use Rattle.shm_graph.specs.Reach.{is_dying}
 use Rattle.shm_graph.specs.Stores.{stored_on, making_with, class_told}
 use Rattle.shm_graph.specs.Telling.{spot_told, prepared, word_of_block}
 use Rattle.shm_graph.specs.Changes.{called}
-use Rattle.shm_graph.specs.Controls.{Controls}
+use Rattle.shm_graph.specs.Controllers.{IsController}
 use Rattle.shm_graph.specs.Events.{Event, Nothing, graph_of, Happens}
 use Rattle.shm_graph.specs.Laws.{Frame, framed, Stands, KeptAt, event_on}
-use Rattle.shm_graph.proofs.Spotting.{tag_block, body_block, tag_spot, block_within, in_pool, spot_there}
-use Rattle.shm_graph.proofs.BodyTold.{told_in_body}
-use Rattle.shm_graph.proofs.KindKeeping.{in_frame, kept_from}
-use Rattle.shm_graph.proofs.MemoParts.{parts, put_parts, put_same}
-use Rattle.shm_laws.specs.Preparing.{IsMaking, PrepareStep, prepare_view, words_with}
-use Rattle.shm_laws.proofs.MakingStore.{prepare_kept, prepare_quiet}
+use Rattle.shm_graph.proofs.Spots.Spotting.{tag_block, body_block, tag_spot, block_within, in_pool, spot_there}
+use Rattle.shm_graph.proofs.Memos.BodyTold.{told_in_body}
+use Rattle.shm_graph.proofs.StepKinds.KindKeeping.{in_frame, kept_from}
+use Rattle.shm_graph.proofs.Memos.MemoParts.{parts, put_parts, put_same}
+use Rattle.shm_laws.specs.Preparing.{IsMaking, PrepareNeeds, prepare_view, words_with}
+use Rattle.shm_laws.proofs.PrepareStore.{prepare_kept, prepare_quiet}
 use Rattle.shm_steps.specs.Preparing.{MayTag, MayBody}
 use Rattle.shm_steps.proofs.BlockTold.{dying_false, dying_block, no_dying_at, stored_prepared, tag_prepared, body_prepared, class_is_read}
 
@@ -52,7 +52,7 @@ making_holds g w r c k h l e =
 -- the class of the block's page, as it was read
 class_holds : (g : Geometry) (w : Spot → ℕ) (r : ℕ → Memo) (c b : ℕ) → HeldAt g w (view r) → c < g.clients → class_told g (r c).facts b ≢ 0 → class_at g (classes w) b ≡ class_told g (r c).facts b
 class_holds g w r c b h l n =
-    class_is_read g.clients (λ i j. w (Era i j)) (ons (view r)) (λ s q. w (Tail s q)) (λ s q. w (Front s q)) (classes w) (r c).facts (segment_of g b) ((b - layout.bodies g) / 128 % 16) (h.facts c l) n
+    class_is_read g.clients (λ i j. w (Era i j)) (ons (view r)) (λ s q. w (Tail s q)) (λ s q. w (QueueHead s q)) (classes w) (r c).facts (segment_of g b) ((b - layout.bodies g) / 128 % 16) (h.facts c l) n
 
 -- a word of the block joins those that were stored
 making_more : (g : Geometry) (fs : List Fact) (mk : Option Making) (k : Making) (b : ℕ) (p : Spot) (x : ℕ) → mk ≡ Some k → k.block ≡ b → Some (record { block = b; class = k.class; words = words_with p x mk }) ≡ making_with g fs mk b p x
@@ -70,12 +70,12 @@ making_new g fs mk b p x e = subst (λ z. Some (record { block = b; class = clas
 stored_at : (me : Me) (w : Spot → ℕ) (r : ℕ → Memo) (f : Frame) (tr : Trail) (at b k : ℕ) (p : Spot) (x : ℕ) → Stands me w r f tr → f.fresh ≡ false → spot_at me.geometry (classes w) at ≡ p
     → let t : Step = framed me (Store at x) (record f { fresh = false }) 0 in
     let n : Memo = called (r me.who) t in
-    PrepareStep me.geometry w (view r) me.who b k p x
+    PrepareNeeds me.geometry w (view r) me.who b k p x
     → spot_told me.geometry me.who (r me.who) (Store at x) ≡ p
     → Some (record { block = b; class = k; words = words_with p x (r me.who).making }) ≡ making_with me.geometry (r me.who).facts (r me.who).making b p x
     → record n { making = making_with me.geometry (r me.who).facts (r me.who).making b p x } ≡ stored_on me.geometry me.who n p x
     → event_on (r me.who) t p ≡ Nothing
-    → Controls me.geometry w (view r) me.who p
+    → IsController me.geometry w (view r) me.who p
     → KeptAt me w r (Store at x) f (λ n m. Unit {0}) (spot_at me.geometry (classes w) at)
 stored_at me w r f tr at b k p x st going e step told made memo event mine =
     let g = me.geometry in
@@ -98,7 +98,7 @@ stored_at me w r f tr at b k p x st going e step told made memo event mine =
 
 -- a tag of a free block, of which the memo says that it is prepared or begins to be
 tag_at : (me : Me) (w : Spot → ℕ) (r : ℕ → Memo) (f : Frame) (tr : Trail) (at b k x : ℕ) → Stands me w r f tr → f.fresh ≡ false → spot_at me.geometry (classes w) at ≡ Tag b
-    → PrepareStep me.geometry w (view r) me.who b k (Tag b) x
+    → PrepareNeeds me.geometry w (view r) me.who b k (Tag b) x
     → (r me.who).op ≡ op.Nothing
     → prepared (r me.who).making at ≡ Tag b
     → Some (record { block = b; class = k; words = words_with (Tag b) x (r me.who).making }) ≡ making_with me.geometry (r me.who).facts (r me.who).making b (Tag b) x
@@ -125,7 +125,7 @@ tag_prepares me w r f tr at b x st going e (inl (k, a)) =
     let g = me.geometry in
     let c = me.who in
     let m = making_holds g w r c k st.held st.who a.making in
-    let step : PrepareStep g w (view r) c b k.class (Tag b) x = record {
+    let step : PrepareNeeds g w (view r) c b k.class (Tag b) x = record {
       inside = st.who;
       acts = a.here.joined;
       here = a.here.stays;
@@ -145,7 +145,7 @@ tag_prepares me w r f tr at b x st going e (inr a) =
     let g = me.geometry in
     let c = me.who in
     let zero : (w (Head b) ≡ 0) × IsBlock g (classes w) b × (w (Segment (segment_of g b)) ≡ c + 1) = All-contains (ZeroAt g (classes w) (λ i. w (Segment i)) (λ i. w (Head i)) c) (r c).zeros (Head b) (st.held.zeros c st.who) a.begin.read in
-    let step : PrepareStep g w (view r) c b (class_told g (r c).facts b) (Tag b) x = record {
+    let step : PrepareNeeds g w (view r) c b (class_told g (r c).facts b) (Tag b) x = record {
       inside = st.who;
       acts = a.here.joined;
       here = a.here.stays;
@@ -172,7 +172,7 @@ body_prepares me w r f tr at b i x st going e (k, a, room) =
     let g = me.geometry in
     let c = me.who in
     let m = making_holds g w r c k st.held st.who a.making in
-    let step : PrepareStep g w (view r) c b k.class (Body b i) x = record {
+    let step : PrepareNeeds g w (view r) c b k.class (Body b i) x = record {
       inside = st.who;
       acts = a.here.joined;
       here = a.here.stays;

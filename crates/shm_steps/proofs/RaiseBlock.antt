@@ -4,13 +4,13 @@ use Rattle.std.specs.List.{All, filter}
 use Rattle.std.proofs.lemmas.List.Elements.{All-cons, All-contains, All-nil}
 use Rattle.shm_graph.specs.Held.{Allowed, HeldAt, InLooks, LookAt, LooksSound, is_loose, is_slot, is_slot_to, named_by}
 use Rattle.shm_graph.specs.declared.memo.First.TheVariants.{Begun, Committed}
-use Rattle.shm_graph.specs.declared.spot.Spot.TheVariants.{Body, Era, Front, Head, Home, Root, Slot, Tag, Tail}
+use Rattle.shm_graph.specs.declared.spot.Spot.TheVariants.{Body, Era, QueueHead, Head, Home, Root, Slot, Tag, Tail}
 use Rattle.shm_graph.specs.declared.ask.Ask.TheVariants.{Exchange}
 use Rattle.shm_graph.specs.Laws.{Frame, KeptAt, Stands, event_of, framed}
 use Rattle.shm_words.specs.declared.geometry.Geometry.{Geometry}
 use Rattle.shm_graph.specs.Events.{Happens, graph_of}
 use Rattle.shm_graph.specs.Tables.{HasShape, contents_of}
-use Rattle.shm_graph.proofs.Holders.{Holds, InReach, reach_target, target_counted}
+use Rattle.shm_graph.proofs.States.Holders.{Holds, InReach, reach_target, target_counted}
 use Rattle.shm_steps.specs.Raising.{IsReparted, MayRaise, OwnRowShows}
 use Rattle.shm_steps.proofs.MemoCommits.{IsSender, unsent_list, unsent_raised, with_unsent_is}
 use Rattle.shm_graph.specs.declared.memo.Look.{Look}
@@ -18,26 +18,26 @@ use Rattle.shm_graph.specs.declared.ask.Me.{Me}
 use Rattle.shm_graph.specs.declared.memo.Memo.{Memo}
 use Rattle.shm_graph.specs.Ops.{On, cover, is_op, slot_of}
 use Rattle.shm_graph.specs.declared.table.Part.{Part}
-use Rattle.shm_laws.specs.Steps.{RowShows, UpStep, up_view}
+use Rattle.shm_laws.specs.Steps.{RowShows, UpNeeds, up_view}
 use Rattle.shm_graph.specs.declared.spot.Spot.{Spot}
 use Rattle.shm_graph.specs.Asks.{Trail}
 use Rattle.shm_graph.specs.declared.memo.Op.TheVariants.{Up}
-use Rattle.shm_graph.proofs.KnownChange.{ValueHolds}
+use Rattle.shm_graph.proofs.Memos.KnownChange.{ValueHolds}
 use Rattle.shm_graph.specs.Views.{View, at1, own_word, targets, view}
 use Rattle.shm_graph.specs.Changes.{called}
 use Rattle.shm_graph.specs.Blocks.{classes}
 use Rattle.shm_graph.specs.Exchanges.{exchanged_on, reparted, committed}
 use Rattle.shm_words.specs.Headers.{header_of}
-use Rattle.shm_graph.proofs.KindKeeping.{in_frame, kept_exchange}
+use Rattle.shm_graph.proofs.StepKinds.KindKeeping.{in_frame, kept_exchange}
 use Rattle.shm_steps.proofs.PartsSet.{loose_stays, part_tie}
 use Rattle.shm_graph.specs.Stores.{not_block}
 use Rattle.shm_graph.specs.Chains.{part_set}
-use Rattle.shm_graph.proofs.MemoParts.{parts, put_parts, put_same}
-use Rattle.shm_graph.proofs.Reached.{reached_here}
+use Rattle.shm_graph.proofs.Memos.MemoParts.{parts, put_parts, put_same}
+use Rattle.shm_graph.proofs.States.Reached.{reached_here}
 use Rattle.std.specs.Prelude.{slice_index}
 use Rattle.shm_graph.specs.Spots.{spot_at, upd}
 use Rattle.shm_words.specs.Tags.{tag_author}
-use Rattle.shm_graph.proofs.BodyTold.{told_exchange}
+use Rattle.shm_graph.proofs.Memos.BodyTold.{told_exchange}
 use Rattle.std.proofs.lemmas.Bool.{true≢false}
 use Rattle.shm_laws.proofs.UpBlock.{up_event, up_kept}
 
@@ -63,10 +63,10 @@ looks_name t author latch named c earlier (k ∷ ks) x =
 pub reach_names : (g : Geometry) (w : Spot → ℕ) (v : View) (c b : ℕ) → HeldAt g w v → c < g.clients → InReach w g v c b → (q : Spot) × IsNamedBy (targets g w v) c b q
 reach_names g w v c b h l (inl (n, inl u)) = (Root c u.0, (u.1, λ d k e. cc))
 reach_names g w v c b h l (inl (n, inr (inl u))) = (Home c, (u, λ d k e. cc))
-reach_names g w v c b h l (inl (n, inr (inr u))) = (Slot u.0 c (w (Front u.0 c) % 8), (u.2, λ d k e. cc))
+reach_names g w v c b h l (inl (n, inr (inr u))) = (Slot u.0 c (w (QueueHead u.0 c) % 8), (u.2, λ d k e. cc))
 reach_names g w v c b h l (inr u) =
     let q = All-contains (λ (k : Look). (q : Spot) × IsNamedBy (targets g w v) c k.block q) (v.looks c) u.0
-    (looks_name (targets g w v) (λ b. tag_author (w (Tag b))) (v.latch c) (named_by (targets g w v) (λ s r. w (Tail s r)) (λ s r. w (Front s r)) c) c [] (v.looks c) (h.looks c l)) u.1 in
+    (looks_name (targets g w v) (λ b. tag_author (w (Tag b))) (v.latch c) (named_by (targets g w v) (λ s r. w (Tail s r)) (λ s r. w (QueueHead s r)) c) c [] (v.looks c) (h.looks c l)) u.1 in
     (q.0, (q.1.0 ∙ u.2, q.1.1))
 
 -- ---- what exchanges of headers share
@@ -115,7 +115,7 @@ module _ (me : Me) (w : Spot → ℕ) (r : ℕ → Memo) (f : Frame) (tr : Trail
   queued : is_loose m.part ≡ false → is_slot p ≡ true → HasShape (contents_of w (targets g w v)) 0 1 b
   queued i j = (All-contains (ValueHolds g w v c) m.values b (s.held.values c s.who) (a.queued i j)).0
 
-  raise_step : UpStep g w v c b e to p part
+  raise_step : UpNeeds g w v c b e to p part
   raise_step =
       record {
         inside = s.who;

@@ -11,10 +11,10 @@ use Rattle.shm_graph.specs.Views.{View, view, at1}
 use Rattle.shm_graph.specs.Asks.{Trail}
 use Rattle.shm_graph.specs.Stores.{op_written, stage_written}
 use Rattle.shm_graph.specs.Laws.{Frame, Stands, KeptAt}
-use Rattle.shm_graph.proofs.Keeping.{told_fixed}
-use Rattle.shm_graph.proofs.KindKeeping.{in_frame, kept_from}
-use Rattle.shm_graph.proofs.MemoParts.{put_same, parts, put_parts}
-use Rattle.shm_laws.specs.Steps.{RootStep, root_view, BodyStep, Writes, WritesFrom, body_view}
+use Rattle.shm_graph.proofs.StepKinds.Keeping.{told_fixed}
+use Rattle.shm_graph.proofs.StepKinds.KindKeeping.{in_frame, kept_from}
+use Rattle.shm_graph.proofs.Memos.MemoParts.{put_same, parts, put_parts}
+use Rattle.shm_laws.specs.Steps.{RootNeeds, root_view, BodyNeeds, Writes, WritesFrom, body_view}
 use Rattle.shm_laws.proofs.RootStore.{root_kept}
 use Rattle.shm_laws.proofs.Writing.{written}
 use Rattle.shm_laws.proofs.Quiet.{root_quiet, body_quiet}
@@ -22,17 +22,17 @@ use Rattle.shm_steps.specs.Conditions.{IsHere, MayWrite}
 use Rattle.shm_graph.specs.declared.memo.Op.TheVariants.{Nothing, Alloc, Change, Down, Up}
 use Rattle.shm_graph.specs.declared.memo.First.{First}
 use Rattle.shm_graph.specs.declared.memo.First.TheVariants.{Begun, Committed, Written}
-use Rattle.shm_laws.specs.Slotting.{HomeStep, QueueStep, home_view, queue_view}
+use Rattle.shm_laws.specs.Slotting.{HomeNeeds, QueueNeeds, home_view, queue_view}
 use Rattle.shm_graph.specs.Ops.{On, cover_of, cover_from, is_op, slot_of}
 use Rattle.shm_graph.specs.declared.memo.Op.{Op}
-use Rattle.shm_graph.specs.declared.memo.Half.TheVariants.{Raising, Lowering}
+use Rattle.shm_graph.specs.declared.memo.ChangeStage.TheVariants.{Raising, Lowering}
 use Rattle.std.proofs.lemmas.Bool.{and_from, cond-true}
 use Rattle.shm_laws.proofs.BodyStore.{body_kept}
 use Rattle.shm_laws.proofs.HomeStore.{home_kept, home_quiet}
 use Rattle.shm_graph.specs.Reach.{learnt}
 use Rattle.shm_laws.proofs.QueueStore.{queue_kept, queue_quiet}
-use Rattle.shm_graph.proofs.Spotting.{same_spot_self}
-use Rattle.shm_graph.proofs.BodyTold.{told_slot}
+use Rattle.shm_graph.proofs.Spots.Spotting.{same_spot_self}
+use Rattle.shm_graph.proofs.Memos.BodyTold.{told_slot}
 
 pub root_stored : (me : Me) (w : Spot → ℕ) (r : ℕ → Memo) (f : Frame) (tr : Trail) (at k x : ℕ) → Stands me w r f tr → f.fresh ≡ false → spot_at me.geometry (classes w) at ≡ Root me.who k → MayWrite (r me.who) (Root me.who k) x
     → KeptAt me w r (Store at x) f (λ n m. Unit {0}) (spot_at me.geometry (classes w) at)
@@ -41,7 +41,7 @@ root_stored me w r f tr at k x s going e a =
     let c = me.who in
     let v : View = view r in
     let o = op_written (r c).op in
-    let step : RootStep g w v c k x o = record { inside = s.who; acts = a.here.joined; here = a.here.stays; slot = a.slot; op = a.op; small = a.small } in
+    let step : RootNeeds g w v c k x o = record { inside = s.who; acts = a.here.joined; here = a.here.stays; slot = a.slot; op = a.op; small = a.small } in
     subst (KeptAt me w r (Store at x) f (λ n m. Unit {0})) (sym e)
     (in_frame (λ h. KeptAt me w r (Store at x) h (λ n m. Unit {0}) (Root c k)) f going
     (kept_from me w r (Store at x) (record f { fresh = false }) (λ n m. Unit {0}) (Root c k) (root_view v c k x o)
@@ -59,7 +59,7 @@ home_stored me w r f tr at x s going e a =
     let c = me.who in
     let v : View = view r in
     let o = op_written (r c).op in
-    let step : HomeStep g w v c x o = record { inside = s.who; acts = a.here.joined; here = a.here.stays; slot = a.slot; op = a.op; small = a.small } in
+    let step : HomeNeeds g w v c x o = record { inside = s.who; acts = a.here.joined; here = a.here.stays; slot = a.slot; op = a.op; small = a.small } in
     subst (KeptAt me w r (Store at x) f (λ n m. Unit {0})) (sym e)
     (in_frame (λ h. KeptAt me w r (Store at x) h (λ n m. Unit {0}) (Home c)) f going
     (kept_from me w r (Store at x) (record f { fresh = false }) (λ n m. Unit {0}) (Home c) (home_view v c x o)
@@ -77,7 +77,7 @@ queue_stored me w r f tr at i j k x s going e a =
     let c = me.who in
     let v : View = view r in
     let o = op_written (r c).op in
-    let step : QueueStep g w v c i j k x o = record { inside = s.who; acts = a.here.joined; here = a.here.stays; slot = a.slot; op = a.op; small = a.small } in
+    let step : QueueNeeds g w v c i j k x o = record { inside = s.who; acts = a.here.joined; here = a.here.stays; slot = a.slot; op = a.op; small = a.small } in
     subst (KeptAt me w r (Store at x) f (λ n m. Unit {0})) (sym e)
     (in_frame (λ h. KeptAt me w r (Store at x) h (λ n m. Unit {0}) (Slot i j k)) f going
     (kept_from me w r (Store at x) (record f { fresh = false }) (λ n m. Unit {0}) (Slot i j k) (queue_view v c o)
@@ -119,7 +119,7 @@ body_stored me w r f tr at b i x s going e a =
     let c = me.who in
     let v : View = view r in
     let o = op_written (r c).op in
-    let step : BodyStep g v c b i x o = record { inside = s.who; acts = a.here.joined; here = a.here.stays; slot = a.slot; op = a.op; small = a.small } in
+    let step : BodyNeeds g v c b i x o = record { inside = s.who; acts = a.here.joined; here = a.here.stays; slot = a.slot; op = a.op; small = a.small } in
     let on = writes_cover (r c).op o x (Body b i) a.slot a.op in
     let mine : is_op (r c).op && same_spot (slot_of (r c).op) (Body b i) ≡ true = and_from _ _ on.1 (ap (λ q. same_spot q (Body b i)) a.slot ∙ same_spot_self (Body b i)) in
     subst (KeptAt me w r (Store at x) f (λ n m. Unit {0})) (sym e)

@@ -14,7 +14,7 @@ use Rattle.shm_graph.specs.declared.memo.Stored.{Stored}
 use Rattle.shm_graph.specs.Held.{HeldAt}
 use Rattle.shm_graph.specs.Reach.{known_at, is_reached, is_dying, is_latch_of, is_free_of_latch, binds_unlatched, unlatched}
 use Rattle.shm_graph.specs.Views.{view, own_word}
-use Rattle.shm_graph.proofs.KnownChange.{KnownHolds, ValueHolds}
+use Rattle.shm_graph.proofs.Memos.KnownChange.{KnownHolds, ValueHolds}
 use Rattle.shm_laws.proofs.Keep.{Contains-filter}
 use Rattle.shm_steps.specs.Reparting.{sight, IsValue}
 use Rattle.shm_steps.proofs.LatchBack.{known_at_has}

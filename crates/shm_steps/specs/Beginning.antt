@@ -1,7 +1,7 @@
 -- what a count step that a redo word begins needs of the memo of its identity, for changes and for slots beside roots
 use Rattle.std.specs.Prelude.{◌≡◌, ◌≢◌, ℕ, ◌+◌, ◌%◌, ◌^◌, ◌<◌, ◌≤◌, true, ◌⊎◌, Option, Some, slice_index}
 use Rattle.std.specs.List.{Contains}
-use Rattle.shm_graph.specs.declared.spot.Spot.TheVariants.{Home, Era, Root, Tail, Front, Slot, Body}
+use Rattle.shm_graph.specs.declared.spot.Spot.TheVariants.{Home, Era, Root, Tail, QueueHead, Slot, Body}
 use Rattle.shm_graph.specs.declared.memo.Fact.TheVariants.{Counter}
 use Rattle.shm_graph.specs.declared.memo.Op.TheVariants.{Nothing}
 use Rattle.shm_graph.specs.declared.memo.Memo.{Memo}
@@ -37,7 +37,7 @@ pub record MayPut (n c : ℕ) (m : Memo) (i k b : ℕ) : Type 0 where
   pub other : c ≢ i
   pub next : k ≡ own_word m.own (Tail c i) % 8
   pub none : slice_index m.unsent i ≡ 0
-  pub read : (y : ℕ) × Contains m.facts (Counter (Front c i) y) × (own_word m.own (Tail c i) < y + 8)
+  pub read : (y : ℕ) × Contains m.facts (Counter (QueueHead c i) y) × (own_word m.own (Tail c i) < y + 8)
   pub source : is_reached c m b ≡ true
 
 -- block b is known in slot k of the queue from s, whence it is to be taken

@@ -4,7 +4,7 @@ use Rattle.shm_words.specs.Headers.{header_of}
 use Rattle.shm_graph.specs.declared.spot.Spot.{Spot}
 use Rattle.shm_graph.specs.declared.memo.First.TheVariants.{Begun}
 use Rattle.shm_graph.specs.declared.memo.Second.TheVariants.{Open}
-use Rattle.shm_graph.specs.declared.memo.Half.TheVariants.{Raising, Lowering}
+use Rattle.shm_graph.specs.declared.memo.ChangeStage.TheVariants.{Raising, Lowering}
 use Rattle.shm_graph.specs.declared.memo.Op.{Op}
 use Rattle.shm_graph.specs.declared.memo.Op.TheVariants.{Down, Change}
 use Rattle.shm_graph.specs.declared.memo.Memo.{Memo}

@@ -3,7 +3,7 @@ use Rattle.std.specs.Prelude.{◌≡◌, ◌≢◌, ℕ, ◌+◌, ◌%◌, ◌<�
 use Rattle.std.specs.List.{Contains, filter}
 use Rattle.shm_words.specs.declared.geometry.Geometry.{Geometry}
 use Rattle.shm_graph.specs.declared.spot.Spot.{Spot}
-use Rattle.shm_graph.specs.declared.spot.Spot.TheVariants.{Hold, Home, Era, Tail, Front, Slot, Page, Head, Body}
+use Rattle.shm_graph.specs.declared.spot.Spot.TheVariants.{Hold, Home, Era, Tail, QueueHead, Slot, Page, Head, Body}
 use Rattle.shm_graph.specs.declared.memo.Fact.TheVariants.{Header as HeaderRead, Counter, Class}
 use Rattle.shm_graph.specs.declared.memo.Memo.{Memo}
 use Rattle.shm_graph.specs.declared.memo.Op.{Op}
@@ -149,16 +149,16 @@ pub record IsTailSlot (n c : ℕ) (m : Memo) (i k : ℕ) : Type 0 where
   pub other : c ≢ i
   pub idle : m.op ≡ Nothing
   pub next : k ≡ own_word m.own (Tail c i) % 8
-  pub room : (slice_index m.unsent i ≢ 0) ⊎ ((y : ℕ) × Contains m.facts (Counter (Front c i) y) × (own_word m.own (Tail c i) < y + 8))
+  pub room : (slice_index m.unsent i ≢ 0) ⊎ ((y : ℕ) × Contains m.facts (Counter (QueueHead c i) y) × (own_word m.own (Tail c i) < y + 8))
 
 -- slot k is the head slot of the queue from another of the n clients, no step is in progress, a tail that was read is above the head, and the item isn't taken
 pub record IsHeadSlot (n c : ℕ) (m : Memo) (s k : ℕ) : Type 0 where
   pub from : s < n
   pub other : s ≢ c
   pub idle : m.op ≡ Nothing
-  pub place : k ≡ own_word m.own (Front s c) % 8
+  pub place : k ≡ own_word m.own (QueueHead s c) % 8
   pub left : slice_index m.untaken s ≡ 0
-  pub some : (y : ℕ) × Contains m.facts (Counter (Tail s c) y) × (own_word m.own (Front s c) < y)
+  pub some : (y : ℕ) × Contains m.facts (Counter (Tail s c) y) × (own_word m.own (QueueHead s c) < y)
 
 -- the slot at an own tail is loaded: it has the block whose tail isn't stored
 abbrev pub TailSlotLoaded : ℕ → Memo → ℕ → Memo → Type 0
@@ -174,7 +174,7 @@ TailStored c i = Makes (λ m. tail_stored m (Tail c i) i (own_word m.own (Tail c
 
 -- the head of a queue from another is stored, one more: the block that was taken is received
 abbrev pub HeadStored : ℕ → ℕ → Memo → ℕ → Memo → Type 0
-HeadStored c i = Makes (λ m. head_stored m (Front i c) i (own_word m.own (Front i c) + 1))
+HeadStored c i = Makes (λ m. head_stored m (QueueHead i c) i (own_word m.own (QueueHead i c) + 1))
 
 -- ---- blocks
 

@@ -8,14 +8,14 @@ ghost use Rattle.shm_graph.specs.declared.ask.Ask.TheVariants.{Store};
 ghost use Rattle.shm_graph.specs.declared.ask.Me.{Me as AMe};
 ghost use Rattle.shm_graph.specs.declared.memo.Memo.{Memo as AMemo};
 ghost use Rattle.shm_graph.specs.declared.spot.Spot.{Spot as ASpot};
-ghost use Rattle.shm_graph.specs.declared.spot.Spot.TheVariants.{Redo, Hold, Era, Root, Tail, Front};
+ghost use Rattle.shm_graph.specs.declared.spot.Spot.TheVariants.{Redo, Hold, Era, Root, Tail, QueueHead};
 ghost use Rattle.shm_graph.specs.Spots.{spot_at, spot_address};
 ghost use Rattle.shm_graph.specs.Blocks.{classes};
 ghost use Rattle.shm_graph.specs.Views.{own_word, view};
 ghost use Rattle.shm_graph.specs.Held.{HeldAt};
 ghost use Rattle.shm_graph.specs.Asks.{Trail};
 ghost use Rattle.shm_graph.specs.Laws.{Frame, Stands, KeptAt};
-ghost use Rattle.shm_laws.specs.Steps.{BeginStep};
+ghost use Rattle.shm_laws.specs.Steps.{BeginNeeds};
 ghost use Rattle.shm_steps.specs.OwnWords.{MayShow, MayHold, MaySend, MayReceive, MayClose, MayAdd, MayRemove, op_begun};
 
 /// Own words are stored: the row of another client, the own hold word, which may be a machine's first step, the tail of a queue to
@@ -25,13 +25,13 @@ pub fn own_stores()
     ensures row { (me : AMe) (w : ASpot → ℕ) (r : ℕ → AMemo) (f : Frame) (tr : Trail) (at j x : ℕ) → Stands me w r f tr → f.fresh ≡ false → spot_at me.geometry (classes w) at ≡ Era me.who j → MayShow me.who (r me.who) j x → KeptAt me w r (Store at x) f (λ n m. Unit {0}) (spot_at me.geometry (classes w) at) }
     ensures hold { (me : AMe) (w : ASpot → ℕ) (r : ℕ → AMemo) (f : Frame) (tr : Trail) (at x : ℕ) → Stands me w r f tr → spot_at me.geometry (classes w) at ≡ Hold me.who → MayHold me.geometry.clients (r me.who) x → KeptAt me w r (Store at x) f (λ n m. Unit {0}) (spot_at me.geometry (classes w) at) }
     ensures tail { (me : AMe) (w : ASpot → ℕ) (r : ℕ → AMemo) (f : Frame) (tr : Trail) (at i : ℕ) → Stands me w r f tr → f.fresh ≡ false → spot_at me.geometry (classes w) at ≡ Tail me.who i → MaySend me.geometry.clients me.who (r me.who) i → KeptAt me w r (Store at (own_word (r me.who).own (Tail me.who i) + 1)) f (λ n m. Unit {0}) (spot_at me.geometry (classes w) at) }
-    ensures head { (me : AMe) (w : ASpot → ℕ) (r : ℕ → AMemo) (f : Frame) (tr : Trail) (at i : ℕ) → Stands me w r f tr → f.fresh ≡ false → spot_at me.geometry (classes w) at ≡ Front i me.who → MayReceive me.geometry.clients me.who (r me.who) i → KeptAt me w r (Store at (own_word (r me.who).own (Front i me.who) + 1)) f (λ n m. Unit {0}) (spot_at me.geometry (classes w) at) }
+    ensures head { (me : AMe) (w : ASpot → ℕ) (r : ℕ → AMemo) (f : Frame) (tr : Trail) (at i : ℕ) → Stands me w r f tr → f.fresh ≡ false → spot_at me.geometry (classes w) at ≡ QueueHead i me.who → MayReceive me.geometry.clients me.who (r me.who) i → KeptAt me w r (Store at (own_word (r me.who).own (QueueHead i me.who) + 1)) f (λ n m. Unit {0}) (spot_at me.geometry (classes w) at) }
     ensures era { (me : AMe) (w : ASpot → ℕ) (r : ℕ → AMemo) (f : Frame) (tr : Trail) (at : ℕ) → Stands me w r f tr → f.fresh ≡ false → spot_at me.geometry (classes w) at ≡ Era me.who me.who → MayClose (r me.who) (own_word (r me.who).own (Era me.who me.who) + 1) → KeptAt me w r (Store at (own_word (r me.who).own (Era me.who me.who) + 1)) f (λ n m. Unit {0}) (spot_at me.geometry (classes w) at) }
-    ensures redo { (me : AMe) (w : ASpot → ℕ) (r : ℕ → AMemo) (f : Frame) (tr : Trail) (at x : ℕ) → Stands me w r f tr → f.fresh ≡ false → spot_at me.geometry (classes w) at ≡ Redo me.who → BeginStep me.geometry w (view r) me.who x (op_begun me.geometry me.who (r me.who) x) → KeptAt me w r (Store at x) f (λ n m. Unit {0}) (spot_at me.geometry (classes w) at) }
+    ensures redo { (me : AMe) (w : ASpot → ℕ) (r : ℕ → AMemo) (f : Frame) (tr : Trail) (at x : ℕ) → Stands me w r f tr → f.fresh ≡ false → spot_at me.geometry (classes w) at ≡ Redo me.who → BeginNeeds me.geometry w (view r) me.who x (op_begun me.geometry me.who (r me.who) x) → KeptAt me w r (Store at x) f (λ n m. Unit {0}) (spot_at me.geometry (classes w) at) }
 {}
 
 /// What a memo shows of a step that a redo word begins at an own root: an empty root is to have a block, or a block is to leave its root.
 pub fn root_begins()
-    ensures up { (g : AGeometry) (w : ASpot → ℕ) (r : ℕ → AMemo) (c : ℕ) → HeldAt g w (view r) → c < g.clients → (k b : ℕ) → MayAdd c (r c) k b → BeginStep g w (view r) c (redo_word (Up (spot_address g (Root c k)) b)) (op_begun g c (r c) (redo_word (Up (spot_address g (Root c k)) b))) }
-    ensures down { (g : AGeometry) (w : ASpot → ℕ) (r : ℕ → AMemo) (c : ℕ) → HeldAt g w (view r) → c < g.clients → (k b : ℕ) → MayRemove c (r c) k b → BeginStep g w (view r) c (redo_word (Down (spot_address g (Root c k)) b)) (op_begun g c (r c) (redo_word (Down (spot_address g (Root c k)) b))) }
+    ensures up { (g : AGeometry) (w : ASpot → ℕ) (r : ℕ → AMemo) (c : ℕ) → HeldAt g w (view r) → c < g.clients → (k b : ℕ) → MayAdd c (r c) k b → BeginNeeds g w (view r) c (redo_word (Up (spot_address g (Root c k)) b)) (op_begun g c (r c) (redo_word (Up (spot_address g (Root c k)) b))) }
+    ensures down { (g : AGeometry) (w : ASpot → ℕ) (r : ℕ → AMemo) (c : ℕ) → HeldAt g w (view r) → c < g.clients → (k b : ℕ) → MayRemove c (r c) k b → BeginNeeds g w (view r) c (redo_word (Down (spot_address g (Root c k)) b)) (op_begun g c (r c) (redo_word (Down (spot_address g (Root c k)) b))) }
 {}

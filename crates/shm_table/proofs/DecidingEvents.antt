@@ -18,12 +18,12 @@ use Rattle.shm_calls.specs.Deciding.{where_decided}
 use Rattle.shm_calls.specs.Plans.{Planned}
 use Rattle.shm_count.specs.declared.point.Aim.{Aim}
 use Rattle.shm_count.specs.declared.point.Aim.TheVariants as aims
-use Rattle.shm_count.specs.declared.point.Part.{Part}
-use Rattle.shm_count.specs.declared.point.Part.TheVariants as part
+use Rattle.shm_count.specs.declared.point.Half.{Half}
+use Rattle.shm_count.specs.declared.point.Half.TheVariants as part
 use Rattle.shm_count.specs.declared.point.StepPoint.{StepPoint}
 use Rattle.shm_count.specs.declared.point.StepPoint.TheVariants as point
-use Rattle.shm_count.specs.StepEvents.{event_of_half, step_event_at}
-use Rattle.shm_count.specs.StepExchanged.{exchanged_at, exchanging_at, is_second}
+use Rattle.shm_count.specs.Step.Events.{event_of_half, step_event_at}
+use Rattle.shm_count.specs.Step.Exchanged.{exchanged_at, exchanging_at, is_second}
 use Rattle.shm_script.specs.declared.log.Answer.{Answer}
 use Rattle.shm_script.specs.declared.log.Answer.TheVariants as answer
 use Rattle.shm_table.specs.declared.copy.CopyPoint.{CopyPoint}
@@ -52,24 +52,24 @@ use Rattle.shm_table.specs.declared.replace.ReplaceState.{ReplaceState}
 use Rattle.shm_table.specs.declared.unlink.UnlinkPoint.{UnlinkPoint}
 use Rattle.shm_table.specs.declared.unlink.UnlinkPoint.TheVariants as unlinking
 use Rattle.shm_table.specs.declared.unlink.UnlinkState.{UnlinkState}
-use Rattle.shm_table.specs.CopyControl.{CopyCall, CopyCalls, copy_call_at, copy_parts}
-use Rattle.shm_table.specs.CopyFits.{copy_part, copy_plan}
+use Rattle.shm_table.specs.CopyKey.Control.{CopyCall, CopyCalls, copy_call_at, copy_parts}
+use Rattle.shm_table.specs.CopyKey.{copy_part, copy_plan}
 use Rattle.shm_table.specs.Cutting.{Cuts}
-use Rattle.shm_table.specs.DelControl.{DelCall, DelCalls, del_call_at, del_parts}
-use Rattle.shm_table.specs.DelFits.{del_part, del_plan}
+use Rattle.shm_table.specs.Del.Control.{DelCall, DelCalls, del_call_at, del_parts}
+use Rattle.shm_table.specs.Del.{del_part, del_plan}
 use Rattle.shm_table.specs.Effects.{copy_at, copy_by, copy_effect, del_at, del_by, del_effect, enter_at, enter_by, enter_decided, put_at, put_by, put_effect, put_root_at, put_root_by, put_root_decided, recv_at, recv_by, recv_effect, replace_at, replace_by, replace_decided, unlink_at, unlink_by, unlink_decided}
-use Rattle.shm_table.specs.EnterControl.{EnterAnswer, EnterCall, enter_call_at, enter_parts, enter_spot, enter_to, raised_after}
-use Rattle.shm_table.specs.EnterFits.{enter_part, enter_plan}
-use Rattle.shm_table.specs.PutControl.{PutCall, PutCalls, put_call_at, put_parts}
-use Rattle.shm_table.specs.PutFits.{put_part, put_plan}
-use Rattle.shm_table.specs.PutRootControl.{EnterCalls, PutRootAnswer, PutRootCall, PutRootCalls, ReplaceCalls, put_root_call, put_root_parts}
-use Rattle.shm_table.specs.PutRootFits.{Decides, Begins, Leads, Replaces, put_root_part, put_root_plan}
-use Rattle.shm_table.specs.RecvControl.{RecvCall, RecvCalls, recv_call_at, recv_parts}
-use Rattle.shm_table.specs.RecvFits.{recv_part, recv_plan}
-use Rattle.shm_table.specs.ReplaceControl.{ReplaceAnswer, ReplaceCall, replace_call_at, replace_parts}
-use Rattle.shm_table.specs.ReplaceFits.{replace_plan}
-use Rattle.shm_table.specs.UnlinkControl.{UnlinkAnswer, UnlinkCall, unlink_call_at, unlink_parts}
-use Rattle.shm_table.specs.UnlinkFits.{UnlinkCalls, unlink_plan}
+use Rattle.shm_table.specs.Enter.Control.{EnterAnswer, EnterCall, enter_call_at, enter_parts, enter_spot, enter_to, raised_after}
+use Rattle.shm_table.specs.Enter.{enter_part, enter_plan}
+use Rattle.shm_table.specs.Put.Control.{PutCall, PutCalls, put_call_at, put_parts}
+use Rattle.shm_table.specs.Put.{put_part, put_plan}
+use Rattle.shm_table.specs.PutRoot.Control.{EnterCalls, PutRootAnswer, PutRootCall, PutRootCalls, ReplaceCalls, put_root_call, put_root_parts}
+use Rattle.shm_table.specs.PutRoot.{Decides, Begins, Leads, Replaces, put_root_part, put_root_plan}
+use Rattle.shm_table.specs.RecvKey.Control.{RecvCall, RecvCalls, recv_call_at, recv_parts}
+use Rattle.shm_table.specs.RecvKey.{recv_part, recv_plan}
+use Rattle.shm_table.specs.Replace.Control.{ReplaceAnswer, ReplaceCall, replace_call_at, replace_parts}
+use Rattle.shm_table.specs.Replace.{replace_plan}
+use Rattle.shm_table.specs.Unlink.Control.{UnlinkAnswer, UnlinkCall, unlink_call_at, unlink_parts}
+use Rattle.shm_table.specs.Unlink.{UnlinkCalls, unlink_plan}
 
 -- ---- what stays
 
@@ -92,7 +92,7 @@ plan_kept {P} {C} {B} {A} k q R h m n r = go (k.turns m.call n)
 
 -- ---- the exchange of a count step
 
-half_first : (me : Me) (x : Aim) (p : Spot) (h : Part) → is_second x h ≡ false → event_of_half me x p h ≡ event_of_half me x p part.First
+half_first : (me : Me) (x : Aim) (p : Spot) (h : Half) → is_second x h ≡ false → event_of_half me x p h ≡ event_of_half me x p part.First
 half_first me (aims.Up b) p h e = refl
 half_first me (aims.Down b) p h e = refl
 half_first me (aims.Change a b) p part.First e = refl

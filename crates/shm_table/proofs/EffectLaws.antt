@@ -11,16 +11,16 @@ use Rattle.shm_calls.specs.Words.{word_control}
 use Rattle.shm_count.specs.declared.answer.EraSpent.{EraSpent as AnEraSpent}
 use Rattle.shm_count.specs.declared.answer.UpFault.{UpFault}
 use Rattle.shm_count.specs.declared.answer.UpFault.TheVariants.{CountFull, EraSpent}
-use Rattle.shm_count.specs.StepControl.{step_control}
-use Rattle.shm_count.specs.StepDecides.{down_decides, step_decides, up_decides}
-use Rattle.shm_count.specs.StepExchanged.{step_exchanged, step_exchanging}
-use Rattle.shm_count.specs.StepMachines.{down_control, up_control}
-use Rattle.shm_count.specs.TearControl.{tear_control}
-use Rattle.shm_alloc.specs.AllocControl.{alloc_control}
+use Rattle.shm_count.specs.Step.Control.{step_control}
+use Rattle.shm_count.specs.Step.Decides.{down_decides, step_decides, up_decides}
+use Rattle.shm_count.specs.Step.Exchanged.{step_exchanged, step_exchanging}
+use Rattle.shm_count.specs.Step.Machines.{down_control, up_control}
+use Rattle.shm_count.specs.Tear.Control.{tear_control}
+use Rattle.shm_alloc.specs.Alloc.Control.{alloc_control}
 use Rattle.shm_queue.specs.declared.answer.SendFault.{SendFault}
 use Rattle.shm_queue.specs.declared.answer.SendFault.TheVariants as send_fault
 use Rattle.shm_queue.specs.Machines.{send}
-use Rattle.shm_ref.specs.RootsControl.{drop_root}
+use Rattle.shm_ref.specs.DropRoots.Control.{drop_root}
 use Rattle.shm_script.specs.declared.log.Answer.{Answer}
 use Rattle.shm_script.specs.declared.log.Answer.TheVariants as answer
 use Rattle.shm_table.specs.declared.answer.PutFault.{PutFault}
@@ -43,38 +43,38 @@ use Rattle.shm_table.specs.declared.unlink.UnlinkPoint.{UnlinkPoint}
 use Rattle.shm_table.specs.declared.unlink.UnlinkPoint.TheVariants as unlink
 use Rattle.shm_table.specs.declared.unlink.UnlinkState.{UnlinkState}
 use Rattle.shm_table.specs.Answers.{fault_answer, made_fault, raised_fault}
-use Rattle.shm_table.specs.ChangeMachines.{del}
-use Rattle.shm_table.specs.CommandControl.{command_by, command_control, command_effect, command_parts, given}
-use Rattle.shm_table.specs.CopyControl.{CopyAnswer, CopyCalls, copy_parts, fetch_control}
-use Rattle.shm_table.specs.CopyControl as copying
-use Rattle.shm_table.specs.CopyFits.{copy_plan}
-use Rattle.shm_table.specs.CopyMachines.{copy_control}
-use Rattle.shm_table.specs.DelControl.{DelCallAnswer, DelCalls, del_parts}
-use Rattle.shm_table.specs.DelFits.{del_plan}
+use Rattle.shm_table.specs.Machines.Change.{del}
+use Rattle.shm_table.specs.Command.{command_by, command_control, command_effect, command_parts, given}
+use Rattle.shm_table.specs.CopyKey.Control.{CopyAnswer, CopyCalls, copy_parts, fetch_control}
+use Rattle.shm_table.specs.CopyKey.Control as copying
+use Rattle.shm_table.specs.CopyKey.{copy_plan}
+use Rattle.shm_table.specs.Machines.Copy.{copy_control}
+use Rattle.shm_table.specs.Del.Control.{DelCallAnswer, DelCalls, del_parts}
+use Rattle.shm_table.specs.Del.{del_plan}
 use Rattle.shm_table.specs.Effects.{copy_at, copy_by, copy_effect, copy_says, del_at, del_by, del_effect, del_says, enter_at, enter_by, ends_with, enter_decided, enter_says, get_effect, is_linked, is_removed, is_sent, links, put_at, put_by, put_effect, put_root_at, put_root_by, put_root_decided, put_root_says, put_says, recv_at, recv_by, recv_effect, recv_says, replace_at, replace_by, replace_decided, replace_says, send_key_at, send_key_by, send_key_effect, send_key_says, settled, unlink_at, unlink_by, unlink_decided, unlink_says}
-use Rattle.shm_table.specs.EnterControl.{EnterAnswer, enter_call_at, enter_parts, raised_after, raised_turns, valued_by}
-use Rattle.shm_table.specs.EnterFits.{enter_plan}
-use Rattle.shm_table.specs.GetControl.{GetCalls, get_parts}
-use Rattle.shm_table.specs.GetFits.{get_plan}
-use Rattle.shm_table.specs.LocateFits.{locate_control}
-use Rattle.shm_table.specs.PutControl.{PutAnswer, PutCalls, put_parts}
-use Rattle.shm_table.specs.PutControl as putting
-use Rattle.shm_table.specs.PutFits.{put_plan}
-use Rattle.shm_table.specs.PutMachines.{put}
-use Rattle.shm_table.specs.PutRootControl.{PutRootAnswer, decided_of, enter_control, fault_of, freed_turns, open_control, put_answer, put_root_parts, replace_control, stuck_answer}
-use Rattle.shm_table.specs.PutRootFits.{put_root_control, put_root_plan}
-use Rattle.shm_table.specs.ReadMachines.{get}
-use Rattle.shm_table.specs.RecvControl.{RecvAnswer, RecvCalls, fetch_head_control, recv_parts, take_head_control}
-use Rattle.shm_table.specs.RecvFits.{recv_plan}
-use Rattle.shm_table.specs.RecvMachines.{recv_control}
-use Rattle.shm_table.specs.ReplaceControl.{ReplaceAnswer, replace_parts}
-use Rattle.shm_table.specs.ReplaceFits.{replace_plan}
-use Rattle.shm_table.specs.SendKeyControl.{SendKeyAnswer, SendKeyCalls, send_key_parts, sent_answer}
-use Rattle.shm_table.specs.SendKeyFits.{send_key_plan}
-use Rattle.shm_table.specs.SendMachines.{send_key}
-use Rattle.shm_table.specs.UnlatchFits.{unlatch_control}
-use Rattle.shm_table.specs.UnlinkControl.{UnlinkAnswer, unlink_call_at, unlink_parts}
-use Rattle.shm_table.specs.UnlinkFits.{unlink_control, unlink_plan}
+use Rattle.shm_table.specs.Enter.Control.{EnterAnswer, enter_call_at, enter_parts, raised_after, raised_turns, valued_by}
+use Rattle.shm_table.specs.Enter.{enter_plan}
+use Rattle.shm_table.specs.Get.Control.{GetCalls, get_parts}
+use Rattle.shm_table.specs.Get.{get_plan}
+use Rattle.shm_table.specs.Locate.{locate_control}
+use Rattle.shm_table.specs.Put.Control.{PutAnswer, PutCalls, put_parts}
+use Rattle.shm_table.specs.Put.Control as putting
+use Rattle.shm_table.specs.Put.{put_plan}
+use Rattle.shm_table.specs.Machines.Put.{put}
+use Rattle.shm_table.specs.PutRoot.Control.{PutRootAnswer, decided_of, enter_control, fault_of, freed_turns, open_control, put_answer, put_root_parts, replace_control, stuck_answer}
+use Rattle.shm_table.specs.PutRoot.{put_root_control, put_root_plan}
+use Rattle.shm_table.specs.Machines.Read.{get}
+use Rattle.shm_table.specs.RecvKey.Control.{RecvAnswer, RecvCalls, fetch_head_control, recv_parts, take_head_control}
+use Rattle.shm_table.specs.RecvKey.{recv_plan}
+use Rattle.shm_table.specs.Machines.Recv.{recv_control}
+use Rattle.shm_table.specs.Replace.Control.{ReplaceAnswer, replace_parts}
+use Rattle.shm_table.specs.Replace.{replace_plan}
+use Rattle.shm_table.specs.SendKey.Control.{SendKeyAnswer, SendKeyCalls, send_key_parts, sent_answer}
+use Rattle.shm_table.specs.SendKey.{send_key_plan}
+use Rattle.shm_table.specs.Machines.Send.{send_key}
+use Rattle.shm_table.specs.Unlatch.{unlatch_control}
+use Rattle.shm_table.specs.Unlink.Control.{UnlinkAnswer, unlink_call_at, unlink_parts}
+use Rattle.shm_table.specs.Unlink.{unlink_control, unlink_plan}
 
 -- what is told of an answer is told of the one that it is
 same_told : {A : Type 0} (tells : A → Bool) (x a : A) → Some x ≡ Some a → tells a ≡ tells x

@@ -15,15 +15,15 @@ use Rattle.shm_graph.specs.Views.{own_word}
 use Rattle.shm_steps.specs.Reparting.{map_in}
 use Rattle.shm_laws.proofs.Keep.{filter_from}
 use Rattle.shm_count.specs.Roots.{root_word}
-use Rattle.shm_count.specs.TearEvents.{Visit}
-use Rattle.shm_count.specs.TearFits.{is_outside}
+use Rattle.shm_count.specs.Tear.Events.{Visit}
+use Rattle.shm_count.specs.Tear.{is_outside}
 use Rattle.shm_ref.specs.Lefts.{Stopped}
 use Rattle.shm_table.specs.declared.answer.PutFault.{PutFault}
 use Rattle.shm_table.specs.declared.answer.PutFault.TheVariants.{EraSpent, RootsFull, Full, CountFull}
 use Rattle.shm_table.specs.declared.answer.PutFault.TheVariants as fault
-use Rattle.shm_table.specs.PutRootFits.{IsDecided, IsEraSpent}
+use Rattle.shm_table.specs.PutRoot.{IsDecided, IsEraSpent}
 use Rattle.shm_table.specs.Staying.{IsSpent, MapSet, PutCause, SameMap}
-use Rattle.shm_table.specs.StayingLaws.{spent_later}
+use Rattle.shm_table.specs.Staying.Laws.{spent_later}
 
 -- between two calls of a client, in a pool for tables, with no latch
 pub record MayCommand (me : Me) (key : ℕ) (r : Memo) : Type 0 where

@@ -2,7 +2,7 @@
 use Rattle.std.specs.Prelude.{ℕ, Bool, true, false, ◌&&◌, is_ok, Option, Some, None, Result}
 use Rattle.shm_calls.specs.declared.calls.Calls.{Calls}
 use Rattle.shm_calls.specs.Deciding.{either, where_decided}
-use Rattle.shm_count.specs.StepExchanged.{step_exchanged, step_exchanging}
+use Rattle.shm_count.specs.Step.Exchanged.{step_exchanged, step_exchanging}
 use Rattle.shm_queue.specs.Machines.{send}
 use Rattle.shm_script.specs.declared.log.Answer.{Answer}
 use Rattle.shm_script.specs.declared.log.Answer.TheVariants as answer
@@ -21,17 +21,17 @@ use Rattle.shm_table.specs.declared.recv.RecvState.{RecvState}
 use Rattle.shm_table.specs.declared.replace.ReplaceState.{ReplaceState}
 use Rattle.shm_table.specs.declared.send_key.SendKeyState.{SendKeyState}
 use Rattle.shm_table.specs.declared.unlink.UnlinkState.{UnlinkState}
-use Rattle.shm_table.specs.CopyControl.{CopyCalls, CopyAnswer, CopyCall}
-use Rattle.shm_table.specs.DelControl.{DelCalls, DelCall, DelCallAnswer}
-use Rattle.shm_table.specs.EnterControl.{EnterAnswer, EnterCall}
-use Rattle.shm_table.specs.GetControl.{GetCalls, GetAnswer, GetCall}
-use Rattle.shm_table.specs.PutControl.{PutCalls, PutAnswer, PutCall}
-use Rattle.shm_table.specs.PutRootControl.{EnterCalls, PutRootAnswer, PutRootCall, PutRootCalls, ReplaceCalls, decided_of}
-use Rattle.shm_table.specs.RecvControl.{RecvCalls, RecvAnswer, RecvCall}
-use Rattle.shm_table.specs.ReplaceControl.{ReplaceAnswer, ReplaceCall}
-use Rattle.shm_table.specs.SendKeyControl.{SendKeyCalls, SendKeyAnswer, SendKeyCall}
-use Rattle.shm_table.specs.UnlinkControl.{UnlinkAnswer, UnlinkCall}
-use Rattle.shm_table.specs.UnlinkFits.{UnlinkCalls}
+use Rattle.shm_table.specs.CopyKey.Control.{CopyCalls, CopyAnswer, CopyCall}
+use Rattle.shm_table.specs.Del.Control.{DelCalls, DelCall, DelCallAnswer}
+use Rattle.shm_table.specs.Enter.Control.{EnterAnswer, EnterCall}
+use Rattle.shm_table.specs.Get.Control.{GetCalls, GetAnswer, GetCall}
+use Rattle.shm_table.specs.Put.Control.{PutCalls, PutAnswer, PutCall}
+use Rattle.shm_table.specs.PutRoot.Control.{EnterCalls, PutRootAnswer, PutRootCall, PutRootCalls, ReplaceCalls, decided_of}
+use Rattle.shm_table.specs.RecvKey.Control.{RecvCalls, RecvAnswer, RecvCall}
+use Rattle.shm_table.specs.Replace.Control.{ReplaceAnswer, ReplaceCall}
+use Rattle.shm_table.specs.SendKey.Control.{SendKeyCalls, SendKeyAnswer, SendKeyCall}
+use Rattle.shm_table.specs.Unlink.Control.{UnlinkAnswer, UnlinkCall}
+use Rattle.shm_table.specs.Unlink.{UnlinkCalls}
 
 -- Of each plan: by its call in progress whether the deciding step was made, whether the word step that finds n is that step, and whether an answer of a call tells that it was made
 

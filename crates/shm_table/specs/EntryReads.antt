@@ -22,16 +22,16 @@ use Rattle.shm_graph.specs.Reach.{learnt}
 use Rattle.shm_graph.specs.Readings.{values_read}
 use Rattle.shm_graph.specs.Spots.{spot_at}
 use Rattle.shm_graph.specs.Views.{at1, view}
-use Rattle.shm_graph.proofs.Lists.{at1_here}
+use Rattle.shm_graph.proofs.Runs.Lists.{at1_here}
 use Rattle.shm_calls.specs.declared.word.Word.{Word}
 use Rattle.shm_calls.specs.Words.{IsWord}
 use Rattle.shm_steps.specs.Reparting.{sight, IsKnown}
 use Rattle.shm_steps.specs.Walking.{IsSeeking, Reads}
 use Rattle.shm_steps.specs.WordParts.{IsLatchedWord, IsPlainWord, ReferenceLoaded, WordLoaded}
-use Rattle.shm_steps.proofs.Seeking.{seek_kept, seek_known, seek_next}
-use Rattle.shm_steps.proofs.Walked.{walk_key}
-use Rattle.shm_steps.proofs.WordsBlocks.{plain_load, reference_load, idle_settled}
-use Rattle.shm_steps.proofs.WordsOwn.{word_for}
+use Rattle.shm_steps.proofs.Partitions.Seeking.{seek_kept, seek_known, seek_next}
+use Rattle.shm_steps.proofs.Partitions.Walked.{walk_key}
+use Rattle.shm_steps.proofs.Words.Blocks.{plain_load, reference_load, idle_settled}
+use Rattle.shm_steps.proofs.Words.Own.{word_for}
 use Rattle.shm_count.specs.TableReading.{word_reads, look_reads}
 
 -- ---- what is so of a walk after a load

@@ -25,19 +25,19 @@ use Rattle.shm_steps.specs.Walking.{IsSeeking, is_looked}
 use Rattle.shm_steps.proofs.BeginAt.{SlotHas}
 use Rattle.shm_steps.proofs.BeginWords.{own_word_has, word_address}
 use Rattle.shm_steps.proofs.Reaching.{look_reached}
-use Rattle.shm_steps.proofs.Reparted.{table_mapped}
-use Rattle.shm_steps.proofs.Seeking.{seek_own}
-use Rattle.shm_steps.proofs.TableWords.{entry_word}
-use Rattle.shm_steps.proofs.Walked.{entry_numbered, entry_some, entry_valued, next_other, value_some, walk_has}
+use Rattle.shm_steps.proofs.Partitions.Reparted.{table_mapped}
+use Rattle.shm_steps.proofs.Partitions.Seeking.{seek_own}
+use Rattle.shm_steps.proofs.Partitions.Words.{entry_word}
+use Rattle.shm_steps.proofs.Partitions.Walked.{entry_numbered, entry_some, entry_valued, next_other, value_some, walk_has}
 use Rattle.shm_count.specs.declared.point.Aim.{Aim}
 use Rattle.shm_count.specs.declared.point.Aim.TheVariants.{Up, Down, Change}
 use Rattle.shm_count.specs.declared.point.StepPoint.TheVariants.{Era}
 use Rattle.shm_count.specs.Deciding.{entry_goes, last_goes, value_changes}
-use Rattle.shm_count.specs.SlotLeaves.{IsSlotFor, MayStepAt}
-use Rattle.shm_count.specs.SlotParts.{era_room}
-use Rattle.shm_count.specs.StepControl.{AimFits, AimSmall, IsInside}
-use Rattle.shm_count.specs.StepFits.{CanStep}
-use Rattle.shm_count.specs.StepParts.{part_after}
+use Rattle.shm_count.specs.Slots.{IsSlotFor, MayStepAt}
+use Rattle.shm_count.specs.Slots.Parts.{era_room}
+use Rattle.shm_count.specs.Step.Control.{AimFits, AimSmall, IsInside}
+use Rattle.shm_count.specs.Step.{CanStep}
+use Rattle.shm_count.specs.Step.Parts.{part_after}
 
 -- the value word of the entry at block `at` was read and names `old`: the map has that value block at the key, and it may be changed to another one
 pub record ValueSteps (me : Me) (key at old : ℕ) (x : Memo) : Type 0 where

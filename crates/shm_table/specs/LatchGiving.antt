@@ -19,12 +19,12 @@ use Rattle.shm_graph.specs.Held.{HeldAt}
 use Rattle.shm_graph.specs.Laws.{Frame, KeptAt, Stands}
 use Rattle.shm_graph.specs.Spots.{spot_at}
 use Rattle.shm_graph.specs.Views.{View, at1, view}
-use Rattle.shm_graph.proofs.Calls.{FactHolds, call_held}
-use Rattle.shm_graph.proofs.Frames.{at1_twice}
-use Rattle.shm_graph.proofs.Keeping.{told_fixed}
-use Rattle.shm_graph.proofs.KindKeeping.{kept_from}
-use Rattle.shm_graph.proofs.MemoParts.{put_same}
-use Rattle.shm_laws.specs.Steps.{BackStep, back_view}
+use Rattle.shm_graph.proofs.Memos.Calls.{FactHolds, call_held}
+use Rattle.shm_graph.proofs.Memos.Frames.{at1_twice}
+use Rattle.shm_graph.proofs.StepKinds.Keeping.{told_fixed}
+use Rattle.shm_graph.proofs.StepKinds.KindKeeping.{kept_from}
+use Rattle.shm_graph.proofs.Memos.MemoParts.{put_same}
+use Rattle.shm_laws.specs.Steps.{BackNeeds, back_view}
 use Rattle.shm_laws.proofs.Latches.{back_kept}
 use Rattle.shm_laws.proofs.Quiet.{back_quiet}
 use Rattle.shm_steps.specs.Unlatching.{MayUnlatch}
@@ -62,7 +62,7 @@ latch_given me w r f tr at a s e may = by f.fresh refl
     held : HeldAt g w u
     held = call_held g w v c counts [] None [] s.held (All-filter is_lane_count (FactHolds g w v) (r c).facts (s.held.facts c s.who)) (All-nil _) tt (All-nil _)
 
-    step : BackStep g w u c a ks vs
+    step : BackNeeds g w u c a ks vs
     step = let b = back_step g w r s.held c s.who a may in record { inside = b.inside; acts = b.acts; here = b.here; op = b.op; latch = b.latch; knows = b.knows; valued = b.valued }
 
     -- the first step of a machine

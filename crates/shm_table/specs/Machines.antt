@@ -1,4 +1,11 @@
 -- the machines as they are made: when they fit, what they give, and what they tell of their events
+pub mod Copy
+pub mod Recv
+pub mod Send
+pub mod Read
+pub mod Change
+pub mod Open
+pub mod Put
 use Rattle.std.specs.Prelude.{ℕ, List}
 use Rattle.shm_graph.specs.declared.ask.Me.{Me}
 use Rattle.shm_graph.specs.declared.memo.Memo.{Memo}
@@ -15,10 +22,10 @@ use Rattle.shm_table.specs.declared.enter.Entered.{Entered}
 use Rattle.shm_table.specs.declared.enter.EnterState.{EnterState}
 use Rattle.shm_table.specs.declared.find.FindState.{FindState}
 use Rattle.shm_table.specs.declared.find.Found.{Found}
-use Rattle.shm_table.specs.EnterControl.{EnterAnswer, EnterCall, enter_parts, entering}
-use Rattle.shm_table.specs.EnterFits.{enter_plan}
-use Rattle.shm_table.specs.FindControl.{finding}
-use Rattle.shm_table.specs.FindFits.{find_plan}
+use Rattle.shm_table.specs.Enter.Control.{EnterAnswer, EnterCall, enter_parts, entering}
+use Rattle.shm_table.specs.Enter.{enter_plan}
+use Rattle.shm_table.specs.Find.Control.{finding}
+use Rattle.shm_table.specs.Find.{find_plan}
 
 -- ---- the search for a key in the table of a
 

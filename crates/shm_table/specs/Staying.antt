@@ -1,4 +1,6 @@
 -- what machines over tables leave of the memo before them
+pub mod Laws
+pub mod Steps
 use Rattle.std.specs.Prelude.{◌≡◌, ◌≢◌, ℕ, ◌+◌, ◌^◌, ◌-◌, ◌<◌, ◌≤◌, ◌==◌, ◌⊎◌, Bool, true, false, if◌then◌else◌, Some, None}
 use Rattle.shm_graph.specs.declared.ask.Me.{Me}
 use Rattle.shm_graph.specs.declared.memo.Memo.{Memo}
@@ -11,7 +13,7 @@ use Rattle.shm_graph.specs.Spots.{same_spot}
 use Rattle.shm_graph.specs.Views.{own_word}
 use Rattle.shm_steps.specs.Reparting.{sight, map_in, IsValue}
 use Rattle.shm_count.specs.Roots.{root_word}
-use Rattle.shm_count.specs.TearMemos.{is_lasting, Knows}
+use Rattle.shm_count.specs.Tear.Memos.{is_lasting, Knows}
 use Rattle.shm_table.specs.declared.answer.PutFault.{PutFault}
 use Rattle.shm_table.specs.declared.answer.PutFault.TheVariants.{EraSpent, RootsFull, Full, CountFull}
 

@@ -23,8 +23,8 @@ use Rattle.shm_count.specs.declared.answer.UpFault.{UpFault}
 use Rattle.shm_count.specs.declared.answer.UpFault.TheVariants.{CountFull, EraSpent}
 use Rattle.shm_count.specs.declared.point.Aim.{Aim}
 use Rattle.shm_count.specs.Roots.{root_word}
-use Rattle.shm_count.specs.SlotLeaves.{StepCause}
-use Rattle.shm_table.specs.FindReads.{learnt_keeps}
+use Rattle.shm_count.specs.Slots.{StepCause}
+use Rattle.shm_table.specs.Find.Reads.{learnt_keeps}
 use Rattle.shm_table.specs.Staying.{Keeps}
 
 -- nothing of the memo changed but that more words are known, more blocks are looked at, and more are listed as value blocks

@@ -7,8 +7,8 @@ ghost use Rattle.shm_graph.specs.Asks.{Trail, IsWithin};
 ghost use Rattle.shm_table.specs.declared.enter.Entered.{Entered as AnEntered};
 ghost use Rattle.shm_table.specs.declared.find.Found.{Found as AFound};
 ghost use Rattle.shm_graph.specs.Bounds.{alloc_steps, change_steps, up_steps};
-ghost use Rattle.shm_table.specs.FindBound.{IsWhole, keys_read};
-ghost use Rattle.shm_table.specs.FindControl.{Passed};
+ghost use Rattle.shm_table.specs.Find.Bound.{IsWhole, keys_read};
+ghost use Rattle.shm_table.specs.Find.Control.{Passed};
 ghost use Rattle.shm_table.specs.Machines.{EnterGives, FindGives};
 
 /// A search took at most 2 word steps, and 2 for each entry whose key it read.

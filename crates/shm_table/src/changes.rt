@@ -11,17 +11,17 @@ ghost use Rattle.shm_calls.specs.CallsControl.{calls_does};
 ghost use Rattle.shm_calls.specs.CallsFit.{CallsFits};
 ghost use Rattle.shm_calls.specs.Plans.{plan_trail};
 ghost use Rattle.shm_count.specs.declared.answer.UpFault.{UpFault as AUpFault};
-ghost use Rattle.shm_count.specs.TearEvents.{Visit, frees};
+ghost use Rattle.shm_count.specs.Tear.Events.{Visit, frees};
 ghost use Rattle.shm_table.specs.declared.answer.PutFault.{PutFault as APutFault};
 ghost use Rattle.shm_script.specs.declared.log.Answer.{Answer as AnAnswer};
-ghost use Rattle.shm_table.specs.ChangeMachines.{DelFits, DelGives, ReplaceFits, ReplaceGives, UnlinkFits, UnlinkGives, del, del_told, replace, replace_told, unlink_told};
-ghost use Rattle.shm_table.specs.DelBound.{IsShort};
-ghost use Rattle.shm_table.specs.DelControl.{del_parts, deleting};
-ghost use Rattle.shm_table.specs.DelFits.{DelLeaves, MayDel, del_plan};
-ghost use Rattle.shm_table.specs.ReplaceControl.{replace_parts, replacing};
-ghost use Rattle.shm_table.specs.ReplaceFits.{MayReplace, ReplaceEvents, ReplaceLeaves, replace_plan};
-ghost use Rattle.shm_table.specs.UnlinkControl.{unlink_parts, unlinking};
-ghost use Rattle.shm_table.specs.UnlinkFits.{MayUnlink, UnlinkEvents, UnlinkLeaves, unlink_control, unlink_plan};
+ghost use Rattle.shm_table.specs.Machines.Change.{DelFits, DelGives, ReplaceFits, ReplaceGives, UnlinkFits, UnlinkGives, del, del_told, replace, replace_told, unlink_told};
+ghost use Rattle.shm_table.specs.Del.Bound.{IsShort};
+ghost use Rattle.shm_table.specs.Del.Control.{del_parts, deleting};
+ghost use Rattle.shm_table.specs.Del.{DelLeaves, MayDel, del_plan};
+ghost use Rattle.shm_table.specs.Replace.Control.{replace_parts, replacing};
+ghost use Rattle.shm_table.specs.Replace.{MayReplace, ReplaceEvents, ReplaceLeaves, replace_plan};
+ghost use Rattle.shm_table.specs.Unlink.Control.{unlink_parts, unlinking};
+ghost use Rattle.shm_table.specs.Unlink.{MayUnlink, UnlinkEvents, UnlinkLeaves, unlink_control, unlink_plan};
 
 /// Another value block fits each memo of a client between two calls under its own latch, which has found the entry of a key, and of which
 /// a root names the value block and its number is known.

@@ -3,23 +3,23 @@
 ghost use Rattle.std.specs.Prelude.{◌≡◌, ◌<◌};
 ghost use Rattle.shm_words.specs.Layout.{GeometryFits};
 ghost use Rattle.shm_calls.specs.Deciding.{either};
-ghost use Rattle.shm_table.specs.CommandControl as control;
-ghost use Rattle.shm_table.specs.CommandControl.{CommandFits, CommandGives, MayStand, command_control, command_effect, command_of};
-ghost use Rattle.shm_table.specs.CommandLaws.{command_laws};
-ghost use Rattle.shm_table.specs.CopyLaws.{copy_laws};
-ghost use Rattle.shm_table.specs.DelLaws.{del_laws};
-ghost use Rattle.shm_table.specs.EnterLaws.{enter_laws};
-ghost use Rattle.shm_table.specs.FetchHeadLaws.{fetch_head_laws};
-ghost use Rattle.shm_table.specs.FetchLaws.{fetch_laws};
-ghost use Rattle.shm_table.specs.GetLaws.{get_laws};
-ghost use Rattle.shm_table.specs.LocateLaws.{locate_laws};
-ghost use Rattle.shm_table.specs.OpenLaws.{open_laws};
-ghost use Rattle.shm_table.specs.PutLaws.{put_laws};
-ghost use Rattle.shm_table.specs.PutRootLaws.{put_root_laws};
-ghost use Rattle.shm_table.specs.RecvLaws.{recv_laws};
-ghost use Rattle.shm_table.specs.ReplaceLaws.{replace_laws};
-ghost use Rattle.shm_table.specs.SendKeyLaws.{send_key_laws};
-ghost use Rattle.shm_table.specs.TakeHeadLaws.{take_head_laws};
+ghost use Rattle.shm_table.specs.Command as control;
+ghost use Rattle.shm_table.specs.Command.{CommandFits, CommandGives, MayStand, command_control, command_effect, command_of};
+ghost use Rattle.shm_table.specs.Command.Laws.{command_laws};
+ghost use Rattle.shm_table.specs.CopyKey.Laws.{copy_laws};
+ghost use Rattle.shm_table.specs.Del.Laws.{del_laws};
+ghost use Rattle.shm_table.specs.Enter.Laws.{enter_laws};
+ghost use Rattle.shm_table.specs.FetchHead.Laws.{fetch_head_laws};
+ghost use Rattle.shm_table.specs.Fetch.Laws.{fetch_laws};
+ghost use Rattle.shm_table.specs.Get.Laws.{get_laws};
+ghost use Rattle.shm_table.specs.Locate.Laws.{locate_laws};
+ghost use Rattle.shm_table.specs.OpenTable.Laws.{open_laws};
+ghost use Rattle.shm_table.specs.Put.Laws.{put_laws};
+ghost use Rattle.shm_table.specs.PutRoot.Laws.{put_root_laws};
+ghost use Rattle.shm_table.specs.RecvKey.Laws.{recv_laws};
+ghost use Rattle.shm_table.specs.Replace.Laws.{replace_laws};
+ghost use Rattle.shm_table.specs.SendKey.Laws.{send_key_laws};
+ghost use Rattle.shm_table.specs.TakeHead.Laws.{take_head_laws};
 
 use crate::copy::CopyKey;
 use crate::del::Del;
@@ -42,7 +42,7 @@ pub struct Command {
 }
 
 impl Model for Command {
-    ghost use Rattle.shm_table.specs.CommandControl.{CommandCall};
+    ghost use Rattle.shm_table.specs.Command.{CommandCall};
 
     ghost Value = { CommandCall };
 

@@ -6,17 +6,17 @@ ghost use Rattle.shm_calls.specs.CallsControl.{calls_control, calls_of};
 ghost use Rattle.shm_calls.specs.CallsFit.{CallsFits, CallsGives};
 ghost use Rattle.shm_calls.specs.CallsKeep.{calls_laws};
 ghost use Rattle.shm_table.specs.Effects.{copy_effect};
-ghost use Rattle.shm_table.specs.CopyControl as control;
-ghost use Rattle.shm_table.specs.CopyControl.{copy_parts};
-ghost use Rattle.shm_table.specs.CopyControl.{copying};
-ghost use Rattle.shm_table.specs.CopyFits.{copy_plan};
-ghost use Rattle.shm_table.specs.CopyLaws.{copy_laws};
-ghost use Rattle.shm_table.specs.EnterLaws.{enter_laws};
-ghost use Rattle.shm_table.specs.FetchLaws.{fetch_laws};
-ghost use Rattle.shm_table.specs.LocateLaws.{locate_laws};
-ghost use Rattle.shm_table.specs.OpenLaws.{open_laws};
-ghost use Rattle.shm_table.specs.PutRootLaws.{put_root_laws};
-ghost use Rattle.shm_table.specs.ReplaceLaws.{replace_laws};
+ghost use Rattle.shm_table.specs.CopyKey.Control as control;
+ghost use Rattle.shm_table.specs.CopyKey.Control.{copy_parts};
+ghost use Rattle.shm_table.specs.CopyKey.Control.{copying};
+ghost use Rattle.shm_table.specs.CopyKey.{copy_plan};
+ghost use Rattle.shm_table.specs.CopyKey.Laws.{copy_laws};
+ghost use Rattle.shm_table.specs.Enter.Laws.{enter_laws};
+ghost use Rattle.shm_table.specs.Fetch.Laws.{fetch_laws};
+ghost use Rattle.shm_table.specs.Locate.Laws.{locate_laws};
+ghost use Rattle.shm_table.specs.OpenTable.Laws.{open_laws};
+ghost use Rattle.shm_table.specs.PutRoot.Laws.{put_root_laws};
+ghost use Rattle.shm_table.specs.Replace.Laws.{replace_laws};
 
 use crate::answer::PutFault;
 use crate::effect::Deciding;
@@ -75,7 +75,7 @@ impl Model for Copying {
 
     ghost view = { λ a. a.state };
 
-    ghost use Rattle.shm_table.specs.CopyControl.{CopyInRange};
+    ghost use Rattle.shm_table.specs.CopyKey.Control.{CopyInRange};
 
     ghost invariant = { λ a. CopyInRange a.state };
 }
@@ -88,7 +88,7 @@ pub struct CopyKey {
 }
 
 impl Model for CopyKey {
-    ghost use Rattle.shm_table.specs.CopyControl.{CopyCalls};
+    ghost use Rattle.shm_table.specs.CopyKey.Control.{CopyCalls};
 
     ghost Value = { CopyCalls };
 

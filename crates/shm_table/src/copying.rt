@@ -11,19 +11,19 @@ ghost use Rattle.shm_graph.specs.Tells.{Tells};
 ghost use Rattle.shm_calls.specs.CallsControl.{calls_does};
 ghost use Rattle.shm_calls.specs.CallsFit.{CallsFits};
 ghost use Rattle.shm_calls.specs.Plans.{plan_trail};
-ghost use Rattle.shm_count.specs.TearEvents.{Visit, frees};
+ghost use Rattle.shm_count.specs.Tear.Events.{Visit, frees};
 ghost use Rattle.shm_steps.specs.Reparting.{map_in};
 ghost use Rattle.shm_script.specs.declared.log.Answer.{Answer as AnAnswer};
 ghost use Rattle.shm_script.specs.declared.log.Answer.TheVariants as answer;
 ghost use Rattle.shm_table.specs.declared.answer.PutFault.{PutFault as APutFault};
 ghost use Rattle.shm_table.specs.declared.fetch.Fetched.{Fetched as AFetched};
 ghost use Rattle.shm_table.specs.declared.fetch.Fetched.TheVariants as fetched;
-ghost use Rattle.shm_table.specs.CopyControl.{copy_parts, copying, fetch_control};
-ghost use Rattle.shm_table.specs.CopyFits.{CopyLeaves, MayCopy, copy_plan, copy_steps};
-ghost use Rattle.shm_table.specs.CopyMachines.{CopyFits, CopyGives, FetchFits, FetchGives, copy_control, copy_told, fetch_told};
-ghost use Rattle.shm_table.specs.FetchControl.{fetch_parts, fetching};
-ghost use Rattle.shm_table.specs.FetchFits.{FetchLeaves, MayFetch, fetch_plan, fetch_steps};
-ghost use Rattle.shm_table.specs.PutRootFits.{HasSearch};
+ghost use Rattle.shm_table.specs.CopyKey.Control.{copy_parts, copying, fetch_control};
+ghost use Rattle.shm_table.specs.CopyKey.{CopyLeaves, MayCopy, copy_plan, copy_steps};
+ghost use Rattle.shm_table.specs.Machines.Copy.{CopyFits, CopyGives, FetchFits, FetchGives, copy_control, copy_told, fetch_told};
+ghost use Rattle.shm_table.specs.Fetch.Control.{fetch_parts, fetching};
+ghost use Rattle.shm_table.specs.Fetch.{FetchLeaves, MayFetch, fetch_plan, fetch_steps};
+ghost use Rattle.shm_table.specs.PutRoot.{HasSearch};
 
 /// The reading of what a key has, with a root, fits each memo of a client between two calls, in a pool for tables, with no latch.
 pub fn fetch_begins()

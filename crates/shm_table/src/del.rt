@@ -6,11 +6,11 @@ ghost use Rattle.shm_calls.specs.CallsControl.{calls_control, calls_of};
 ghost use Rattle.shm_calls.specs.CallsFit.{CallsFits, CallsGives};
 ghost use Rattle.shm_calls.specs.CallsKeep.{calls_laws};
 ghost use Rattle.shm_table.specs.Effects.{del_effect, is_removed};
-ghost use Rattle.shm_table.specs.DelControl as control;
-ghost use Rattle.shm_table.specs.DelControl.{del_parts};
-ghost use Rattle.shm_table.specs.DelControl.{deleting};
-ghost use Rattle.shm_table.specs.DelFits.{del_plan};
-ghost use Rattle.shm_table.specs.DelLaws.{del_laws};
+ghost use Rattle.shm_table.specs.Del.Control as control;
+ghost use Rattle.shm_table.specs.Del.Control.{del_parts};
+ghost use Rattle.shm_table.specs.Del.Control.{deleting};
+ghost use Rattle.shm_table.specs.Del.{del_plan};
+ghost use Rattle.shm_table.specs.Del.Laws.{del_laws};
 
 use crate::answer::PutFault;
 use crate::effect::Deciding;
@@ -63,7 +63,7 @@ impl Model for Deleting {
 
     ghost view = { λ a. a.state };
 
-    ghost use Rattle.shm_table.specs.DelControl.{DelInRange};
+    ghost use Rattle.shm_table.specs.Del.Control.{DelInRange};
 
     ghost invariant = { λ a. DelInRange a.state };
 }
@@ -75,7 +75,7 @@ pub struct Del {
 }
 
 impl Model for Del {
-    ghost use Rattle.shm_table.specs.DelControl.{DelCalls};
+    ghost use Rattle.shm_table.specs.Del.Control.{DelCalls};
 
     ghost Value = { DelCalls };
 

@@ -3,10 +3,10 @@
 ghost use Rattle.std.specs.Prelude.{◌≡◌, ◌+◌, ◌<◌, ◌^◌};
 ghost use Rattle.shm_words.specs.Layout.{GeometryFits};
 ghost use Rattle.shm_table.specs.Effects.{enter_decided, links};
-ghost use Rattle.shm_table.specs.EnterControl as control;
-ghost use Rattle.shm_table.specs.EnterControl.{entering, entry_of, entry_request};
-ghost use Rattle.shm_table.specs.EnterFits.{enter_plan};
-ghost use Rattle.shm_table.specs.EnterLaws.{enter_laws};
+ghost use Rattle.shm_table.specs.Enter.Control as control;
+ghost use Rattle.shm_table.specs.Enter.Control.{entering, entry_of, entry_request};
+ghost use Rattle.shm_table.specs.Enter.{enter_plan};
+ghost use Rattle.shm_table.specs.Enter.Laws.{enter_laws};
 
 use crate::answer::PutFault;
 use crate::effect::Deciding;
@@ -74,7 +74,7 @@ impl Model for Entering {
 
     ghost view = { λ a. a.state };
 
-    ghost use Rattle.shm_table.specs.EnterControl.{EnterInRange};
+    ghost use Rattle.shm_table.specs.Enter.Control.{EnterInRange};
 
     ghost invariant = { λ a. EnterInRange a.state };
 }

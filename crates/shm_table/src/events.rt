@@ -21,11 +21,11 @@ ghost use Rattle.shm_table.specs.declared.enter.Entered.{Entered as AnEntered};
 ghost use Rattle.shm_table.specs.declared.enter.Entered.TheVariants.{Linked, Unlinked, Unmade};
 ghost use Rattle.shm_table.specs.declared.find.Found.{Found as AFound};
 ghost use Rattle.shm_table.specs.declared.find.Found.TheVariants.{Absent, At};
-ghost use Rattle.shm_table.specs.EnterControl.{enter_parts, entering};
-ghost use Rattle.shm_table.specs.EnterFits.{EnterLeaves, IsHalfMade, MayEnter, enter_plan, linked_events};
-ghost use Rattle.shm_table.specs.FindControl.{finding};
-ghost use Rattle.shm_table.specs.FindFits.{IsLook, MayFind, FindLeaves, find_plan};
-ghost use Rattle.shm_table.specs.FindTells.{HasKey, HasRead};
+ghost use Rattle.shm_table.specs.Enter.Control.{enter_parts, entering};
+ghost use Rattle.shm_table.specs.Enter.{EnterLeaves, IsHalfMade, MayEnter, enter_plan, linked_events};
+ghost use Rattle.shm_table.specs.Find.Control.{finding};
+ghost use Rattle.shm_table.specs.Find.{IsLook, MayFind, FindLeaves, find_plan};
+ghost use Rattle.shm_table.specs.Find.Tells.{HasKey, HasRead};
 ghost use Rattle.shm_table.specs.Machines.{enter, EnterFits, EnterGives, enter_told, find, FindFits, FindGives, find_told};
 ghost use Rattle.shm_table.specs.declared.answer.PutFault.{PutFault as AFault};
 

@@ -2,10 +2,10 @@
 
 ghost use Rattle.std.specs.Prelude.{◌≡◌, ◌<◌, ◌+◌, ◌^◌};
 ghost use Rattle.shm_words.specs.Layout.{GeometryFits};
-ghost use Rattle.shm_table.specs.FetchControl as control;
-ghost use Rattle.shm_table.specs.FetchControl.{fetching};
-ghost use Rattle.shm_table.specs.FetchFits.{fetch_plan};
-ghost use Rattle.shm_table.specs.FetchLaws.{fetch_laws};
+ghost use Rattle.shm_table.specs.Fetch.Control as control;
+ghost use Rattle.shm_table.specs.Fetch.Control.{fetching};
+ghost use Rattle.shm_table.specs.Fetch.{fetch_plan};
+ghost use Rattle.shm_table.specs.Fetch.Laws.{fetch_laws};
 
 use crate::answer::PutFault;
 use crate::find::Found;
@@ -75,7 +75,7 @@ impl Model for Fetching {
 
     ghost view = { λ a. a.state };
 
-    ghost use Rattle.shm_table.specs.FetchControl.{FetchInRange};
+    ghost use Rattle.shm_table.specs.Fetch.Control.{FetchInRange};
 
     ghost invariant = { λ a. FetchInRange a.state };
 }

@@ -2,10 +2,10 @@
 
 ghost use Rattle.std.specs.Prelude.{◌≡◌, ◌<◌};
 ghost use Rattle.shm_words.specs.Layout.{GeometryFits};
-ghost use Rattle.shm_table.specs.FetchHeadControl as control;
-ghost use Rattle.shm_table.specs.FetchHeadControl.{fetching_head};
-ghost use Rattle.shm_table.specs.FetchHeadFits.{fetch_head_plan};
-ghost use Rattle.shm_table.specs.FetchHeadLaws.{fetch_head_laws};
+ghost use Rattle.shm_table.specs.FetchHead.Control as control;
+ghost use Rattle.shm_table.specs.FetchHead.Control.{fetching_head};
+ghost use Rattle.shm_table.specs.FetchHead.{fetch_head_plan};
+ghost use Rattle.shm_table.specs.FetchHead.Laws.{fetch_head_laws};
 
 use crate::answer::PutFault;
 use crate::fetch::shared;
@@ -77,7 +77,7 @@ impl Model for FetchingHead {
 
     ghost view = { λ a. a.state };
 
-    ghost use Rattle.shm_table.specs.FetchHeadControl.{FetchHeadInRange};
+    ghost use Rattle.shm_table.specs.FetchHead.Control.{FetchHeadInRange};
 
     ghost invariant = { λ a. FetchHeadInRange a.state };
 }

@@ -3,9 +3,9 @@
 ghost use Rattle.std.specs.Prelude.{◌≡◌, ◌+◌, ◌^◌, ◌<◌, if◌then◌else◌, Some, None};
 ghost use Rattle.shm_words.specs.Layout.{GeometryFits};
 ghost use Rattle.shm_table.specs.declared.find.Found.TheVariants.{At};
-ghost use Rattle.shm_table.specs.FindControl.{finding, find_goes, find_answers, FindInRange};
-ghost use Rattle.shm_table.specs.FindFits.{find_plan};
-ghost use Rattle.shm_table.specs.FindLaws.{find_laws};
+ghost use Rattle.shm_table.specs.Find.Control.{finding, find_goes, find_answers, FindInRange};
+ghost use Rattle.shm_table.specs.Find.{find_plan};
+ghost use Rattle.shm_table.specs.Find.Laws.{find_laws};
 
 use shm_calls::{Calls, Plan, Word};
 use shm_graph::{Machine, Me};
@@ -60,7 +60,7 @@ impl Model for Finding {
 
     ghost view = { λ a. a.state };
 
-    ghost use Rattle.shm_table.specs.FindControl.{FindInRange};
+    ghost use Rattle.shm_table.specs.Find.Control.{FindInRange};
 
     ghost invariant = { λ a. FindInRange a.state };
 }

@@ -6,10 +6,10 @@ ghost use Rattle.shm_calls.specs.CallsControl.{calls_control, calls_of};
 ghost use Rattle.shm_calls.specs.CallsFit.{CallsFits, CallsGives};
 ghost use Rattle.shm_calls.specs.CallsKeep.{calls_laws};
 ghost use Rattle.shm_table.specs.Effects.{get_effect};
-ghost use Rattle.shm_table.specs.GetControl as control;
-ghost use Rattle.shm_table.specs.GetControl.{get_parts};
-ghost use Rattle.shm_table.specs.GetFits.{get_plan};
-ghost use Rattle.shm_table.specs.GetLaws.{get_laws};
+ghost use Rattle.shm_table.specs.Get.Control as control;
+ghost use Rattle.shm_table.specs.Get.Control.{get_parts};
+ghost use Rattle.shm_table.specs.Get.{get_plan};
+ghost use Rattle.shm_table.specs.Get.Laws.{get_laws};
 
 use crate::find::Found;
 use crate::locate::{Locate, Locating};
@@ -59,7 +59,7 @@ impl Model for Getting {
 
     ghost view = { λ a. a.state };
 
-    ghost use Rattle.shm_table.specs.GetControl.{GetInRange};
+    ghost use Rattle.shm_table.specs.Get.Control.{GetInRange};
 
     ghost invariant = { λ a. GetInRange a.state };
 }
@@ -71,7 +71,7 @@ pub struct Get {
 }
 
 impl Model for Get {
-    ghost use Rattle.shm_table.specs.GetControl.{GetCalls};
+    ghost use Rattle.shm_table.specs.Get.Control.{GetCalls};
 
     ghost Value = { GetCalls };
 

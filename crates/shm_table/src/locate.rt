@@ -2,9 +2,9 @@
 
 ghost use Rattle.std.specs.Prelude.{◌≡◌, ◌<◌};
 ghost use Rattle.shm_words.specs.Layout.{GeometryFits};
-ghost use Rattle.shm_table.specs.LocateControl.{locating};
-ghost use Rattle.shm_table.specs.LocateFits.{locate_plan};
-ghost use Rattle.shm_table.specs.LocateLaws.{locate_laws};
+ghost use Rattle.shm_table.specs.Locate.Control.{locating};
+ghost use Rattle.shm_table.specs.Locate.{locate_plan};
+ghost use Rattle.shm_table.specs.Locate.Laws.{locate_laws};
 
 use crate::find::{Find, Finding, Found};
 use shm_calls::{Calls, Or, Plan};
@@ -45,7 +45,7 @@ impl Model for Locating {
 
     ghost view = { λ a. a.state };
 
-    ghost use Rattle.shm_table.specs.LocateControl.{LocateInRange};
+    ghost use Rattle.shm_table.specs.Locate.Control.{LocateInRange};
 
     ghost invariant = { λ a. LocateInRange a.state };
 }

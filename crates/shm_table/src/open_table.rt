@@ -2,9 +2,9 @@
 
 ghost use Rattle.std.specs.Prelude.{◌≡◌, ◌<◌};
 ghost use Rattle.shm_words.specs.Layout.{GeometryFits};
-ghost use Rattle.shm_table.specs.OpenControl.{directory_request, opening};
-ghost use Rattle.shm_table.specs.OpenFits.{open_plan};
-ghost use Rattle.shm_table.specs.OpenLaws.{open_laws};
+ghost use Rattle.shm_table.specs.OpenTable.Control.{directory_request, opening};
+ghost use Rattle.shm_table.specs.OpenTable.{open_plan};
+ghost use Rattle.shm_table.specs.OpenTable.Laws.{open_laws};
 
 use crate::answer::PutFault;
 use shm_alloc::{Alloc, AllocFault, Request};
@@ -58,7 +58,7 @@ impl Model for Opening {
 
     ghost view = { λ a. a.state };
 
-    ghost use Rattle.shm_table.specs.OpenControl.{OpenInRange};
+    ghost use Rattle.shm_table.specs.OpenTable.Control.{OpenInRange};
 
     ghost invariant = { λ a. OpenInRange a.state };
 }

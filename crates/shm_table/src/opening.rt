@@ -11,12 +11,12 @@ ghost use Rattle.shm_graph.specs.Views.{own_word};
 ghost use Rattle.shm_calls.specs.CallsControl.{calls_does};
 ghost use Rattle.shm_calls.specs.CallsFit.{CallsFits};
 ghost use Rattle.shm_calls.specs.Plans.{plan_trail};
-ghost use Rattle.shm_count.specs.TearEvents.{Visit as AVisit, frees};
+ghost use Rattle.shm_count.specs.Tear.Events.{Visit as AVisit, frees};
 ghost use Rattle.shm_table.specs.declared.answer.PutFault.{PutFault as AFault};
 ghost use Rattle.shm_table.specs.declared.answer.PutFault.TheVariants.{CountFull};
-ghost use Rattle.shm_table.specs.OpenControl.{open_parts, opening};
-ghost use Rattle.shm_table.specs.OpenFits.{MayOpen, OpenLeaves, OpenLeft, open_plan};
-ghost use Rattle.shm_table.specs.OpenMachine.{OpenGives, TableOpens, open_table, open_told};
+ghost use Rattle.shm_table.specs.OpenTable.Control.{open_parts, opening};
+ghost use Rattle.shm_table.specs.OpenTable.{MayOpen, OpenLeaves, OpenLeft, open_plan};
+ghost use Rattle.shm_table.specs.Machines.Open.{OpenGives, TableOpens, open_table, open_told};
 ghost use Rattle.shm_table.specs.Staying.{Cleared, SameMap};
 
 /// The opening of a table fits each memo of a client of a pool for tables that is between two calls, with no latch.

@@ -6,16 +6,16 @@ ghost use Rattle.shm_calls.specs.CallsControl.{calls_control, calls_of};
 ghost use Rattle.shm_calls.specs.CallsFit.{CallsFits, CallsGives};
 ghost use Rattle.shm_calls.specs.CallsKeep.{calls_laws};
 ghost use Rattle.shm_table.specs.Effects.{put_effect};
-ghost use Rattle.shm_table.specs.PutControl as control;
-ghost use Rattle.shm_table.specs.PutControl.{put_parts};
-ghost use Rattle.shm_table.specs.PutControl.{putting};
-ghost use Rattle.shm_table.specs.PutFits.{put_plan};
-ghost use Rattle.shm_table.specs.EnterLaws.{enter_laws};
-ghost use Rattle.shm_table.specs.LocateLaws.{locate_laws};
-ghost use Rattle.shm_table.specs.OpenLaws.{open_laws};
-ghost use Rattle.shm_table.specs.PutLaws.{put_laws};
-ghost use Rattle.shm_table.specs.PutRootLaws.{put_root_laws};
-ghost use Rattle.shm_table.specs.ReplaceLaws.{replace_laws};
+ghost use Rattle.shm_table.specs.Put.Control as control;
+ghost use Rattle.shm_table.specs.Put.Control.{put_parts};
+ghost use Rattle.shm_table.specs.Put.Control.{putting};
+ghost use Rattle.shm_table.specs.Put.{put_plan};
+ghost use Rattle.shm_table.specs.Enter.Laws.{enter_laws};
+ghost use Rattle.shm_table.specs.Locate.Laws.{locate_laws};
+ghost use Rattle.shm_table.specs.OpenTable.Laws.{open_laws};
+ghost use Rattle.shm_table.specs.Put.Laws.{put_laws};
+ghost use Rattle.shm_table.specs.PutRoot.Laws.{put_root_laws};
+ghost use Rattle.shm_table.specs.Replace.Laws.{replace_laws};
 
 use crate::answer::PutFault;
 use crate::effect::Deciding;
@@ -75,7 +75,7 @@ impl Model for Putting {
 
     ghost view = { λ a. a.state };
 
-    ghost use Rattle.shm_table.specs.PutControl.{PutInRange};
+    ghost use Rattle.shm_table.specs.Put.Control.{PutInRange};
 
     ghost invariant = { λ a. PutInRange a.state };
 }
@@ -87,7 +87,7 @@ pub struct Put {
 }
 
 impl Model for Put {
-    ghost use Rattle.shm_table.specs.PutControl.{PutCalls};
+    ghost use Rattle.shm_table.specs.Put.Control.{PutCalls};
 
     ghost Value = { PutCalls };
 

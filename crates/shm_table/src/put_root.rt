@@ -3,17 +3,17 @@
 ghost use Rattle.std.specs.Prelude.{◌≡◌, ◌<◌, ◌^◌};
 ghost use Rattle.shm_words.specs.Layout.{GeometryFits};
 ghost use Rattle.shm_table.specs.Effects.{put_root_decided, settled};
-ghost use Rattle.shm_table.specs.PutRootControl as control;
+ghost use Rattle.shm_table.specs.PutRoot.Control as control;
 ghost use Rattle.shm_calls.specs.CallsControl.{calls_of};
 ghost use Rattle.shm_calls.specs.CallsFit.{CallsFits, CallsGives};
 ghost use Rattle.shm_calls.specs.CallsKeep.{calls_laws};
-ghost use Rattle.shm_table.specs.PutRootControl.{put_root_parts, putting_root};
-ghost use Rattle.shm_table.specs.PutRootFits.{put_root_control, put_root_plan};
-ghost use Rattle.shm_table.specs.EnterLaws.{enter_laws};
-ghost use Rattle.shm_table.specs.LocateLaws.{locate_laws};
-ghost use Rattle.shm_table.specs.OpenLaws.{open_laws};
-ghost use Rattle.shm_table.specs.PutRootLaws.{put_root_laws};
-ghost use Rattle.shm_table.specs.ReplaceLaws.{replace_laws};
+ghost use Rattle.shm_table.specs.PutRoot.Control.{put_root_parts, putting_root};
+ghost use Rattle.shm_table.specs.PutRoot.{put_root_control, put_root_plan};
+ghost use Rattle.shm_table.specs.Enter.Laws.{enter_laws};
+ghost use Rattle.shm_table.specs.Locate.Laws.{locate_laws};
+ghost use Rattle.shm_table.specs.OpenTable.Laws.{open_laws};
+ghost use Rattle.shm_table.specs.PutRoot.Laws.{put_root_laws};
+ghost use Rattle.shm_table.specs.Replace.Laws.{replace_laws};
 
 use crate::answer::PutFault;
 use crate::effect::Deciding;
@@ -84,7 +84,7 @@ impl Model for PuttingRoot {
 
     ghost view = { λ a. a.state };
 
-    ghost use Rattle.shm_table.specs.PutRootControl.{PutRootInRange};
+    ghost use Rattle.shm_table.specs.PutRoot.Control.{PutRootInRange};
 
     ghost invariant = { λ a. PutRootInRange a.state };
 }
@@ -97,7 +97,7 @@ pub struct PutRoot {
 }
 
 impl Model for PutRoot {
-    ghost use Rattle.shm_table.specs.PutRootControl.{PutRootCalls};
+    ghost use Rattle.shm_table.specs.PutRoot.Control.{PutRootCalls};
 
     ghost Value = { PutRootCalls };
 

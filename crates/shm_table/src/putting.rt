@@ -12,13 +12,13 @@ ghost use Rattle.shm_calls.specs.CallsFit.{CallsFits};
 ghost use Rattle.shm_calls.specs.Plans.{plan_trail};
 ghost use Rattle.shm_script.specs.declared.log.Answer.{Answer as AnAnswer};
 ghost use Rattle.shm_table.specs.declared.answer.PutFault.{PutFault as AFault};
-ghost use Rattle.shm_table.specs.PutControl.{put_parts, putting};
+ghost use Rattle.shm_table.specs.Put.Control.{put_parts, putting};
 ghost use Rattle.shm_table.specs.Commands.{MayCommand};
-ghost use Rattle.shm_table.specs.PutFits.{PutLeaves, put_plan, put_steps};
-ghost use Rattle.shm_table.specs.PutMachines.{PutFits, PutGives, PutRootFits, PutRootGives, put, put_root, put_root_told, put_told};
-ghost use Rattle.shm_table.specs.PutRootBound.{IsPutShort};
-ghost use Rattle.shm_table.specs.PutRootControl.{put_root_parts, putting_root};
-ghost use Rattle.shm_table.specs.PutRootFits.{MayPut, PutRootLeaves, put_root_plan, put_root_steps};
+ghost use Rattle.shm_table.specs.Put.{PutLeaves, put_plan, put_steps};
+ghost use Rattle.shm_table.specs.Machines.Put.{PutFits, PutGives, PutRootFits, PutRootGives, put, put_root, put_root_told, put_told};
+ghost use Rattle.shm_table.specs.PutRoot.Bound.{IsPutShort};
+ghost use Rattle.shm_table.specs.PutRoot.Control.{put_root_parts, putting_root};
+ghost use Rattle.shm_table.specs.PutRoot.{MayPut, PutRootLeaves, put_root_plan, put_root_steps};
 
 /// A put fits each memo of a client between two calls, in a pool for tables, with no latch, of which a root names the value block, whose
 /// number is known.

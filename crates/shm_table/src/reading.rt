@@ -21,17 +21,17 @@ ghost use Rattle.shm_script.specs.declared.log.Answer.TheVariants as answer;
 ghost use Rattle.shm_table.specs.declared.find.Found.{Found as AFound};
 ghost use Rattle.shm_table.specs.declared.find.Found.TheVariants.{Absent, At};
 ghost use Rattle.shm_table.specs.declared.get.GetState.{GetState as AGetState};
-ghost use Rattle.shm_table.specs.FindBound.{keys_read};
-ghost use Rattle.shm_table.specs.FindControl.{Passed};
-ghost use Rattle.shm_table.specs.FindTells.{HasRead};
-ghost use Rattle.shm_table.specs.GetBound.{GetAsked, LocateAsked, keys_got};
-ghost use Rattle.shm_table.specs.GetControl.{GetAnswer, GetCall, get_parts, getting};
-ghost use Rattle.shm_table.specs.GetFits.{GetLeaves, IsTold, get_plan};
-ghost use Rattle.shm_table.specs.GetTells.{IsReady};
-ghost use Rattle.shm_table.specs.LocateControl.{locate_parts, locating};
-ghost use Rattle.shm_table.specs.LocateFits.{Located, MayLocate, locate_control, locate_plan};
-ghost use Rattle.shm_table.specs.ReadMachines.{UnlatchFits, UnlatchGives, unlatch_told, LocateFits, LocateGives, locate_told, get, GetFits, GetGives, get_told};
-ghost use Rattle.shm_table.specs.UnlatchFits.{MayUnlatch, Unlatched, unlatch_control, unlatch_plan, unlatching};
+ghost use Rattle.shm_table.specs.Find.Bound.{keys_read};
+ghost use Rattle.shm_table.specs.Find.Control.{Passed};
+ghost use Rattle.shm_table.specs.Find.Tells.{HasRead};
+ghost use Rattle.shm_table.specs.Get.Bound.{GetAsked, LocateAsked, keys_got};
+ghost use Rattle.shm_table.specs.Get.Control.{GetAnswer, GetCall, get_parts, getting};
+ghost use Rattle.shm_table.specs.Get.{GetLeaves, IsTold, get_plan};
+ghost use Rattle.shm_table.specs.Get.Tells.{IsReady};
+ghost use Rattle.shm_table.specs.Locate.Control.{locate_parts, locating};
+ghost use Rattle.shm_table.specs.Locate.{Located, MayLocate, locate_control, locate_plan};
+ghost use Rattle.shm_table.specs.Machines.Read.{UnlatchFits, UnlatchGives, unlatch_told, LocateFits, LocateGives, locate_told, get, GetFits, GetGives, get_told};
+ghost use Rattle.shm_table.specs.Unlatch.{MayUnlatch, Unlatched, unlatch_control, unlatch_plan, unlatching};
 
 /// The giving back of a latch fits each memo of an identity of the pool that is here, with no step in progress and with that latch.
 pub fn unlatch_begins()

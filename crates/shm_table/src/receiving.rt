@@ -14,14 +14,14 @@ ghost use Rattle.shm_calls.specs.Plans.{plan_trail};
 ghost use Rattle.shm_count.specs.declared.answer.EraSpent.{EraSpent as ASpent};
 ghost use Rattle.shm_script.specs.declared.log.Answer.{Answer as AnAnswer};
 ghost use Rattle.shm_table.specs.declared.fetch_head.FetchedHead.{FetchedHead as AFetched};
-ghost use Rattle.shm_table.specs.FetchHeadControl.{fetch_head_parts, fetching_head};
-ghost use Rattle.shm_table.specs.FetchHeadFits.{FetchHeadLeaves, MayFetchHead, fetch_head_plan, fetch_head_steps};
-ghost use Rattle.shm_table.specs.PutRootBound.{IsPutShort};
-ghost use Rattle.shm_table.specs.RecvControl.{fetch_head_control, receiving_key, recv_parts, take_head_control};
-ghost use Rattle.shm_table.specs.RecvFits.{MayRecv, RecvLeaves, recv_plan, recv_steps};
-ghost use Rattle.shm_table.specs.RecvMachines.{FetchHeadFits, FetchHeadGives, RecvFits, RecvGives, TakeHeadFits, TakeHeadGives, fetch_head_told, recv_control, recv_told, take_head_told};
-ghost use Rattle.shm_table.specs.TakeHeadControl.{take_head_parts, taking_head};
-ghost use Rattle.shm_table.specs.TakeHeadFits.{MayTakeHead, TakeHeadLeaves, take_head_plan, take_head_steps};
+ghost use Rattle.shm_table.specs.FetchHead.Control.{fetch_head_parts, fetching_head};
+ghost use Rattle.shm_table.specs.FetchHead.{FetchHeadLeaves, MayFetchHead, fetch_head_plan, fetch_head_steps};
+ghost use Rattle.shm_table.specs.PutRoot.Bound.{IsPutShort};
+ghost use Rattle.shm_table.specs.RecvKey.Control.{fetch_head_control, receiving_key, recv_parts, take_head_control};
+ghost use Rattle.shm_table.specs.RecvKey.{MayRecv, RecvLeaves, recv_plan, recv_steps};
+ghost use Rattle.shm_table.specs.Machines.Recv.{FetchHeadFits, FetchHeadGives, RecvFits, RecvGives, TakeHeadFits, TakeHeadGives, fetch_head_told, recv_control, recv_told, take_head_told};
+ghost use Rattle.shm_table.specs.TakeHead.Control.{take_head_parts, taking_head};
+ghost use Rattle.shm_table.specs.TakeHead.{MayTakeHead, TakeHeadLeaves, take_head_plan, take_head_steps};
 
 /// That the head of a queue is to have a root fits each memo of a client between two calls, in a pool for tables, where no item of the queue
 /// waits for its head.

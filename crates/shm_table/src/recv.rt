@@ -6,17 +6,17 @@ ghost use Rattle.shm_calls.specs.CallsControl.{calls_control, calls_of};
 ghost use Rattle.shm_calls.specs.CallsFit.{CallsFits, CallsGives};
 ghost use Rattle.shm_calls.specs.CallsKeep.{calls_laws};
 ghost use Rattle.shm_table.specs.Effects.{recv_effect};
-ghost use Rattle.shm_table.specs.RecvControl as control;
-ghost use Rattle.shm_table.specs.RecvControl.{receiving_key, recv_parts};
-ghost use Rattle.shm_table.specs.RecvFits.{recv_plan};
-ghost use Rattle.shm_table.specs.RecvLaws.{recv_laws};
-ghost use Rattle.shm_table.specs.EnterLaws.{enter_laws};
-ghost use Rattle.shm_table.specs.FetchHeadLaws.{fetch_head_laws};
-ghost use Rattle.shm_table.specs.LocateLaws.{locate_laws};
-ghost use Rattle.shm_table.specs.OpenLaws.{open_laws};
-ghost use Rattle.shm_table.specs.PutRootLaws.{put_root_laws};
-ghost use Rattle.shm_table.specs.ReplaceLaws.{replace_laws};
-ghost use Rattle.shm_table.specs.TakeHeadLaws.{take_head_laws};
+ghost use Rattle.shm_table.specs.RecvKey.Control as control;
+ghost use Rattle.shm_table.specs.RecvKey.Control.{receiving_key, recv_parts};
+ghost use Rattle.shm_table.specs.RecvKey.{recv_plan};
+ghost use Rattle.shm_table.specs.RecvKey.Laws.{recv_laws};
+ghost use Rattle.shm_table.specs.Enter.Laws.{enter_laws};
+ghost use Rattle.shm_table.specs.FetchHead.Laws.{fetch_head_laws};
+ghost use Rattle.shm_table.specs.Locate.Laws.{locate_laws};
+ghost use Rattle.shm_table.specs.OpenTable.Laws.{open_laws};
+ghost use Rattle.shm_table.specs.PutRoot.Laws.{put_root_laws};
+ghost use Rattle.shm_table.specs.Replace.Laws.{replace_laws};
+ghost use Rattle.shm_table.specs.TakeHead.Laws.{take_head_laws};
 
 use crate::answer::PutFault;
 use crate::copy::{answer, stuck};
@@ -82,7 +82,7 @@ impl Model for ReceivingKey {
 
     ghost view = { λ a. a.state };
 
-    ghost use Rattle.shm_table.specs.RecvControl.{RecvInRange};
+    ghost use Rattle.shm_table.specs.RecvKey.Control.{RecvInRange};
 
     ghost invariant = { λ a. RecvInRange a.state };
 }
@@ -95,7 +95,7 @@ pub struct RecvKey {
 }
 
 impl Model for RecvKey {
-    ghost use Rattle.shm_table.specs.RecvControl.{RecvCalls};
+    ghost use Rattle.shm_table.specs.RecvKey.Control.{RecvCalls};
 
     ghost Value = { RecvCalls };
 

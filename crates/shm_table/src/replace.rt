@@ -3,10 +3,10 @@
 ghost use Rattle.std.specs.Prelude.{◌≡◌, ◌%◌, ◌^◌, ◌+◌, ◌<◌};
 ghost use Rattle.shm_words.specs.Layout.{GeometryFits};
 ghost use Rattle.shm_table.specs.Effects.{replace_decided};
-ghost use Rattle.shm_table.specs.ReplaceControl as control;
-ghost use Rattle.shm_table.specs.ReplaceControl.{replacing};
-ghost use Rattle.shm_table.specs.ReplaceFits.{replace_plan};
-ghost use Rattle.shm_table.specs.ReplaceLaws.{replace_laws};
+ghost use Rattle.shm_table.specs.Replace.Control as control;
+ghost use Rattle.shm_table.specs.Replace.Control.{replacing};
+ghost use Rattle.shm_table.specs.Replace.{replace_plan};
+ghost use Rattle.shm_table.specs.Replace.Laws.{replace_laws};
 
 use crate::answer::PutFault;
 use crate::effect::Deciding;
@@ -55,7 +55,7 @@ impl Model for Replacing {
 
     ghost view = { λ a. a.state };
 
-    ghost use Rattle.shm_table.specs.ReplaceControl.{ReplaceInRange};
+    ghost use Rattle.shm_table.specs.Replace.Control.{ReplaceInRange};
 
     ghost invariant = { λ a. ReplaceInRange a.state };
 }

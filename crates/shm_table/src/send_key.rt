@@ -6,10 +6,10 @@ ghost use Rattle.shm_calls.specs.CallsControl.{calls_control, calls_of};
 ghost use Rattle.shm_calls.specs.CallsFit.{CallsFits, CallsGives};
 ghost use Rattle.shm_calls.specs.CallsKeep.{calls_laws};
 ghost use Rattle.shm_table.specs.Effects.{is_sent, send_key_effect};
-ghost use Rattle.shm_table.specs.SendKeyControl as control;
-ghost use Rattle.shm_table.specs.SendKeyControl.{send_key_parts, sending_key};
-ghost use Rattle.shm_table.specs.SendKeyFits.{send_key_plan};
-ghost use Rattle.shm_table.specs.SendKeyLaws.{send_key_laws};
+ghost use Rattle.shm_table.specs.SendKey.Control as control;
+ghost use Rattle.shm_table.specs.SendKey.Control.{send_key_parts, sending_key};
+ghost use Rattle.shm_table.specs.SendKey.{send_key_plan};
+ghost use Rattle.shm_table.specs.SendKey.Laws.{send_key_laws};
 
 use crate::find::Found;
 use crate::locate::{Locate, Locating};
@@ -64,7 +64,7 @@ impl Model for SendingKey {
 
     ghost view = { λ a. a.state };
 
-    ghost use Rattle.shm_table.specs.SendKeyControl.{SendKeyInRange};
+    ghost use Rattle.shm_table.specs.SendKey.Control.{SendKeyInRange};
 
     ghost invariant = { λ a. SendKeyInRange a.state };
 }
@@ -76,7 +76,7 @@ pub struct SendKey {
 }
 
 impl Model for SendKey {
-    ghost use Rattle.shm_table.specs.SendKeyControl.{SendKeyCalls};
+    ghost use Rattle.shm_table.specs.SendKey.Control.{SendKeyCalls};
 
     ghost Value = { SendKeyCalls };
 

@@ -16,10 +16,10 @@ ghost use Rattle.shm_calls.specs.Plans.{plan_trail};
 ghost use Rattle.shm_steps.specs.Reparting.{map_in};
 ghost use Rattle.shm_script.specs.declared.log.Answer.{Answer as AnAnswer};
 ghost use Rattle.shm_script.specs.declared.log.Answer.TheVariants as answer;
-ghost use Rattle.shm_table.specs.SendKeyBound.{IsSendShort, own_steps};
-ghost use Rattle.shm_table.specs.SendKeyControl.{send_key_parts, sending_key};
-ghost use Rattle.shm_table.specs.SendKeyFits.{MaySendKey, SendKeyLeaves, send_key_plan, send_key_steps};
-ghost use Rattle.shm_table.specs.SendMachines.{SendKeyFits, SendKeyGives, send_key, send_key_told};
+ghost use Rattle.shm_table.specs.SendKey.Bound.{IsSendShort, own_steps};
+ghost use Rattle.shm_table.specs.SendKey.Control.{send_key_parts, sending_key};
+ghost use Rattle.shm_table.specs.SendKey.{MaySendKey, SendKeyLeaves, send_key_plan, send_key_steps};
+ghost use Rattle.shm_table.specs.Machines.Send.{SendKeyFits, SendKeyGives, send_key, send_key_told};
 
 /// The send of what a key has fits each memo of a client between two calls, in a pool for tables, with no latch, and with nothing unsent in the
 /// queue to another identity.

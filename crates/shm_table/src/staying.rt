@@ -11,7 +11,7 @@ ghost use Rattle.shm_graph.specs.Views.{own_word};
 ghost use Rattle.shm_steps.specs.Beginning.{IsOwnWord};
 ghost use Rattle.shm_steps.specs.Reparting.{sight, map_in, map_after, TableStep};
 ghost use Rattle.shm_calls.specs.Parts.{IsHeld};
-ghost use Rattle.shm_count.specs.StepParts.{part_after};
+ghost use Rattle.shm_count.specs.Step.Parts.{part_after};
 ghost use Rattle.shm_table.specs.Staying.{Keeps};
 
 /// Where nothing is done all is kept, and what one part after another keeps both keep.

@@ -2,9 +2,9 @@
 
 ghost use Rattle.std.specs.Prelude.{◌≡◌, ◌<◌, ◌^◌};
 ghost use Rattle.shm_words.specs.Layout.{GeometryFits};
-ghost use Rattle.shm_table.specs.TakeHeadControl.{taking_head};
-ghost use Rattle.shm_table.specs.TakeHeadFits.{take_head_plan};
-ghost use Rattle.shm_table.specs.TakeHeadLaws.{take_head_laws};
+ghost use Rattle.shm_table.specs.TakeHead.Control.{taking_head};
+ghost use Rattle.shm_table.specs.TakeHead.{take_head_plan};
+ghost use Rattle.shm_table.specs.TakeHead.Laws.{take_head_laws};
 
 use shm_calls::{Calls, Or, Plan, Word};
 use shm_count::{EraSpent, StepDown};
@@ -49,7 +49,7 @@ impl Model for TakingHead {
 
     ghost view = { λ a. a.state };
 
-    ghost use Rattle.shm_table.specs.TakeHeadControl.{TakeHeadInRange};
+    ghost use Rattle.shm_table.specs.TakeHead.Control.{TakeHeadInRange};
 
     ghost invariant = { λ a. TakeHeadInRange a.state };
 }

@@ -2,8 +2,8 @@
 
 ghost use Rattle.std.specs.Prelude.{◌≡◌, ◌<◌};
 ghost use Rattle.shm_words.specs.Layout.{GeometryFits};
-ghost use Rattle.shm_table.specs.UnlatchFits.{unlatching, unlatch_plan};
-ghost use Rattle.shm_table.specs.UnlatchLaws.{unlatch_laws};
+ghost use Rattle.shm_table.specs.Unlatch.{unlatching, unlatch_plan};
+ghost use Rattle.shm_table.specs.Unlatch.Laws.{unlatch_laws};
 
 use shm_calls::{Calls, Plan, Word};
 use shm_graph::{Machine, Me};
@@ -39,7 +39,7 @@ impl Model for Unlatching {
 
     ghost view = { λ a. a.state };
 
-    ghost use Rattle.shm_table.specs.UnlatchFits.{UnlatchInRange};
+    ghost use Rattle.shm_table.specs.Unlatch.{UnlatchInRange};
 
     ghost invariant = { λ a. UnlatchInRange a.state };
 }

@@ -4,10 +4,10 @@
 ghost use Rattle.std.specs.Prelude.{◌≡◌, ◌%◌, ◌^◌, ◌+◌, ◌<◌};
 ghost use Rattle.shm_words.specs.Layout.{GeometryFits};
 ghost use Rattle.shm_table.specs.Effects.{unlink_decided};
-ghost use Rattle.shm_table.specs.UnlinkControl as control;
-ghost use Rattle.shm_table.specs.UnlinkControl.{unlinking};
-ghost use Rattle.shm_table.specs.UnlinkFits.{unlink_plan};
-ghost use Rattle.shm_table.specs.UnlinkLaws.{unlink_laws};
+ghost use Rattle.shm_table.specs.Unlink.Control as control;
+ghost use Rattle.shm_table.specs.Unlink.Control.{unlinking};
+ghost use Rattle.shm_table.specs.Unlink.{unlink_plan};
+ghost use Rattle.shm_table.specs.Unlink.Laws.{unlink_laws};
 
 use crate::effect::Deciding;
 use shm_calls::{Calls, Or, Plan, Word};
@@ -61,7 +61,7 @@ impl Model for Unlinking {
 
     ghost view = { λ a. a.state };
 
-    ghost use Rattle.shm_table.specs.UnlinkControl.{UnlinkInRange};
+    ghost use Rattle.shm_table.specs.Unlink.Control.{UnlinkInRange};
 
     ghost invariant = { λ a. UnlinkInRange a.state };
 }

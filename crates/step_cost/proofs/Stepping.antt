@@ -13,7 +13,7 @@ use Rattle.shm_graph.specs.declared.ask.Turn.{Turn}
 use Rattle.shm_graph.specs.declared.ask.Turn.TheVariants.{More}
 use Rattle.shm_graph.specs.Laws.{Control, Steady, is_died, is_some, turn_of}
 use Rattle.shm_graph.specs.Runs.{account_at, account_entered, accounts_from, changed, first_account}
-use Rattle.shm_graph.proofs.Going.{Is, acts-step, acts-answer, account-step}
+use Rattle.shm_graph.proofs.Runs.Going.{Is, acts-step, acts-answer, account-step}
 use Rattle.shm_plain.specs.Pools.{Pool, first_pool, memo_of, readied, turn_on, turned, IsRun, IsOf, MayStep}
 use Rattle.shm_plain.specs.Tracks.{kind_next}
 use Rattle.shm_plain.proofs.Turning.{ready_run}

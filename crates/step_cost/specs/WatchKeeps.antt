@@ -15,10 +15,10 @@ use Rattle.shm_graph.specs.Blocks.{classes}
 use Rattle.shm_graph.specs.Asks.{Trail, pair}
 use Rattle.shm_graph.specs.Changes.{called, with_end}
 use Rattle.shm_graph.specs.Laws.{Laws, Keeps, Then, Outcome, framed, is_some}
-use Rattle.shm_graph.proofs.Spotting.{in_pool}
-use Rattle.shm_graph.proofs.SpotPlaces.{spot-place}
-use Rattle.shm_graph.proofs.LoadKeeping.{load_kept}
-use Rattle.shm_recover.specs.Joining.{IsMember}
+use Rattle.shm_graph.proofs.Spots.Spotting.{in_pool}
+use Rattle.shm_graph.proofs.Spots.SpotPlaces.{spot-place}
+use Rattle.shm_graph.proofs.StepKinds.LoadKeeping.{load_kept}
+use Rattle.shm_recover.specs.Join.{IsMember}
 use Rattle.step_cost.specs.declared.watch.WatchState.{WatchState}
 use Rattle.step_cost.specs.Watching.{watch_control, watch_ask, IsCalm, WatchFits, WatchGives}
 

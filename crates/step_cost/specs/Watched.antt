@@ -3,7 +3,7 @@ use Rattle.std.specs.Prelude.{◌≡◌, ℕ, ◌<◌, true}
 use Rattle.shm_graph.specs.Asks.{at_of}
 use Rattle.shm_graph.specs.Agents.{acts}
 use Rattle.shm_plain.specs.Pools.{Pool, IsOf, IsRun, memo_of}
-use Rattle.shm_recover.specs.Joining.{IsMember}
+use Rattle.shm_recover.specs.Join.{IsMember}
 use Rattle.step_cost.specs.declared.watch.WatchState.{WatchState}
 use Rattle.step_cost.specs.Watching.{watch_control, watch_ask}
 

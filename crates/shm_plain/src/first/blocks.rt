@@ -2,8 +2,8 @@
 
 ghost use Rattle.std.specs.Prelude.{◌≡◌, ◌≢◌, ℕ, ◌<◌, ◌≤◌, ◌+◌, ◌^◌, Some, IfSome, IsTrue, true, false, ◌↔◌, ◌⊎◌, length, slice_index};
 ghost use Rattle.shm_words.specs.Classes.{IsClass, class_for};
-ghost use Rattle.shm_plain.specs.Cells.{Cell, Era, Segment, Page, Shows, cell_at, upd, own_tag, values, word_count};
-ghost use Rattle.shm_plain.specs.Steps.{stored_from, prepared, block_at, claimed, allocated, IsFirstFree, IsNext, IsLeastRoot};
+ghost use Rattle.shm_plain.specs.OneClient.Cells.{Cell, Era, Segment, Page, Shows, cell_at, upd, own_tag, values, word_count};
+ghost use Rattle.shm_plain.specs.OneClient.Steps.{stored_from, prepared, block_at, claimed, allocated, IsFirstFree, IsNext, IsLeastRoot};
 
 use super::pool::FirstPool;
 use shm_words::{Tag, class_of};

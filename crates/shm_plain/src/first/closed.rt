@@ -13,20 +13,20 @@ pub struct FirstClosed {
 }
 
 impl Model for FirstClosed {
-    ghost use Rattle.shm_plain.specs.Shut.{Shut};
+    ghost use Rattle.shm_plain.specs.OneClient.ClosedPool.{ClosedPool};
 
-    ghost Value = { Shut };
+    ghost Value = { ClosedPool };
 
-    ghost use Rattle.shm_plain.specs.ShutWords.{shut_of, IsShut};
+    ghost use Rattle.shm_plain.specs.OneClient.ClosedWords.{closed_of, IsClosedPool};
 
-    ghost view = { shut_of };
+    ghost view = { closed_of };
 
-    ghost invariant = { IsShut };
+    ghost invariant = { IsClosedPool };
 }
 
 impl FirstClosed {
     ghost use Rattle.std.specs.Prelude.{◌≡◌};
-    ghost use Rattle.shm_plain.specs.ShutWords.{IsClosed};
+    ghost use Rattle.shm_plain.specs.OneClient.ClosedWords.{IsClosed};
 
     /// The sizes of the pool.
     pub fn geometry(&self) -> Geometry

@@ -3,8 +3,8 @@
 ghost use Rattle.std.specs.Prelude.{◌≡◌, ◌≢◌, ℕ, ◌<◌, ◌≤◌, ◌+◌, ◌-◌, ◌^◌, slice_index};
 ghost use Rattle.shm_words.specs.Headers.{header_of};
 ghost use Rattle.shm_words.specs.Redos.{RedoFits};
-ghost use Rattle.shm_plain.specs.Cells.{Cell, Era, Shows, cell_at, upd, live_header, values, word_count};
-ghost use Rattle.shm_plain.specs.Steps.{raised, lowered, begun};
+ghost use Rattle.shm_plain.specs.OneClient.Cells.{Cell, Era, Shows, cell_at, upd, live_header, values, word_count};
+ghost use Rattle.shm_plain.specs.OneClient.Steps.{raised, lowered, begun};
 
 use super::pool::FirstPool;
 use shm_words::{Header, Redo};

@@ -1,9 +1,9 @@
 //! The words of the pool, read and written one at a time.
 
 ghost use Rattle.std.specs.Prelude.{◌≡◌, ℕ, ◌<◌, ◌≤◌, ◌^◌, IfOk, slice_index, slice_set, length};
-ghost use Rattle.shm_plain.specs.Cells.{Cell, Shows, cell_at, upd, word_count};
-ghost use Rattle.shm_plain.specs.Steps.{fresh};
-ghost use Rattle.shm_plain.specs.ShutWords.{IsClosed};
+ghost use Rattle.shm_plain.specs.OneClient.Cells.{Cell, Shows, cell_at, upd, word_count};
+ghost use Rattle.shm_plain.specs.OneClient.Steps.{fresh};
+ghost use Rattle.shm_plain.specs.OneClient.ClosedWords.{IsClosed};
 
 use super::closed::FirstClosed;
 use shm_words::Geometry;

@@ -2,10 +2,10 @@
 
 ghost use Rattle.std.specs.Prelude.{◌≡◌, ◌≢◌, ℕ, ◌+◌, ◌*◌, ◌<◌, ◌≤◌, ◌⊎◌, length, slice_index};
 ghost use Rattle.shm_words.specs.Headers.{header_of};
-ghost use Rattle.shm_plain.specs.Puts.{PutsFit, bucket_of};
-ghost use Rattle.shm_plain.specs.Cells.{Cell, Status, Latch, Era, Root, Segment, Shows, cell_at, upd, values, directory, entries, put_at, after};
-ghost use Rattle.shm_plain.specs.Steps.{fresh, lowered, IsDroppable};
-ghost use Rattle.shm_plain.specs.Stages.{valued, housed, latched, entered, linked};
+ghost use Rattle.shm_plain.specs.OneClient.Puts.{PutsFit, bucket_of};
+ghost use Rattle.shm_plain.specs.OneClient.Cells.{Cell, Status, Latch, Era, Root, Segment, Shows, cell_at, upd, values, directory, entries, put_at, after};
+ghost use Rattle.shm_plain.specs.OneClient.Steps.{fresh, lowered, IsDroppable};
+ghost use Rattle.shm_plain.specs.OneClient.Stages.{valued, housed, latched, entered, linked};
 
 use super::blocks::Made;
 use super::pool::FirstPool;

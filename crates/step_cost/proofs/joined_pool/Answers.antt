@@ -7,8 +7,8 @@ use Rattle.shm_graph.specs.declared.run.Start.{Start}
 use Rattle.shm_graph.specs.Asks.{call_before}
 use Rattle.shm_plain.specs.Pools.{Pool, memo_of, readied}
 use Rattle.shm_recover.specs.declared.join.JoinState.{JoinState}
-use Rattle.shm_recover.specs.Joining.{IsMember, JoinFits, join_control}
-use Rattle.shm_recover.specs.JoinKeeps.{join_begins}
+use Rattle.shm_recover.specs.Join.{IsMember, JoinFits, join_control}
+use Rattle.shm_recover.specs.Join.Keeps.{join_begins}
 use Rattle.step_cost.proofs.Stepping.{first_memo_at, ready_status}
 use Rattle.step_cost.proofs.joined_pool.Goals as goal
 

@@ -3,7 +3,7 @@ use Rattle.std.proofs.lemmas.Bool.{eq-eqb, true≢false}
 use Rattle.shm_graph.specs.declared.memo.Step.{Step}
 use Rattle.shm_graph.specs.Whole.{fits_now, gives_now}
 use Rattle.shm_plain.specs.Pools.{Pool, memo_of, readied, turn_on, MayStep}
-use Rattle.shm_recover.specs.Joining.{IsMember}
+use Rattle.shm_recover.specs.Join.{IsMember}
 use Rattle.step_cost.specs.declared.watch.WatchState.{WatchState}
 use Rattle.step_cost.specs.Watching.{watch_control, WatchFits, WatchGives}
 use Rattle.step_cost.specs.WatchKeeps.{watch_laws}

@@ -1,7 +1,7 @@
 use Rattle.std.proofs.Common.{◌≡◌, ℕ, ◌+◌, ◌*◌, ◌^◌, ◌<◌, ◌≤◌, ◌==◌, ◌&&◌, zero, suc, arith, refl, ◌∙◌, Bool, true, List, [], ◌∷◌, length, get_or, nat_lt}
 use Rattle.std.proofs.lemmas.Bool.{and_parts, eqb-true, ltb-true}
 use Rattle.shm_plain.specs.declared.pair.Pair.{Pair}
-use Rattle.shm_plain.specs.Puts.{PairFits, PutsFit, bucket_of}
+use Rattle.shm_plain.specs.OneClient.Puts.{PairFits, PutsFit, bucket_of}
 use Rattle.base_tests.proofs.replay_tests.a_put_in_each_bucket.Goals as goal
 
 -- whether each pair fits, and the buckets are those from s on, in order

@@ -1,6 +1,6 @@
 use Rattle.std.proofs.Common.{◌≢◌, ℕ, ◌<◌, get_or}
 use Rattle.shm_plain.specs.declared.pair.Pair.{Pair}
-use Rattle.shm_plain.specs.Puts.{bucket_of}
+use Rattle.shm_plain.specs.OneClient.Puts.{bucket_of}
 use Rattle.cxlshm.proofs.form.are_apart.Given as goal
 
 -- no two of the puts so far have keys in one bucket

@@ -1,6 +1,6 @@
 use Rattle.std.proofs.Common.{List, Some, Bor, ℕ, arith}
 use Rattle.std.proofs.lemmas.Bool.Decides.{nat_tests}
-use Rattle.shm_plain.specs.Puts.{PairFits}
+use Rattle.shm_plain.specs.OneClient.Puts.{PairFits}
 use Rattle.cxlshm.proofs.FormLines.{first_line, line_read, others_text, all_read, half_line}
 use Rattle.cxlshm.proofs.form.parse_lines.Goals as goal
 use Rattle.cxlshm.proofs.form.parse_lines.Goals.{then-is_empty, else-is_empty}

@@ -3,9 +3,9 @@ use Rattle.std.specs.Prelude.{IfOk}
 use Rattle.shm_graph.specs.declared.run.Account.{Account}
 use Rattle.shm_graph.specs.declared.run.Start.{Start}
 use Rattle.shm_alloc.specs.declared.alloc.AllocFault.{AllocFault}
-use Rattle.shm_alloc.specs.AllocFits.{AllocGives}
+use Rattle.shm_alloc.specs.Alloc.{AllocGives}
 use Rattle.shm_count.specs.declared.answer.Made.{Made}
-use Rattle.shm_count.specs.StepControl.{IsInside}
+use Rattle.shm_count.specs.Step.Control.{IsInside}
 use Rattle.shm_pool.specs.Tokens.{Its}
 use Rattle.pool_tests.specs.Between.{me_now}
 use Rattle.pool_tests.proofs.Standing.{made_inside, reply_map}

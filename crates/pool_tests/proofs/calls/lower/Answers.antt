@@ -15,7 +15,7 @@ use Rattle.shm_count.specs.declared.answer.EraSpent.{EraSpent}
 use Rattle.shm_count.specs.declared.point.Aim.TheVariants.{Down}
 use Rattle.shm_count.specs.declared.point.StepPoint.TheVariants.{Era}
 use Rattle.shm_count.specs.declared.point.StepState.{StepState}
-use Rattle.shm_count.specs.StepMachines.{DownFits, DownGives, down_control}
+use Rattle.shm_count.specs.Step.Machines.{DownFits, DownGives, down_control}
 use Rattle.shm_count.specs.Roots.{root_step, root_word}
 use Rattle.shm_pool.specs.Calls.{Tells}
 use Rattle.shm_pool.specs.Replies.{IfReply}

@@ -14,7 +14,7 @@ use Rattle.shm_count.specs.declared.answer.UpFault.{UpFault}
 use Rattle.shm_count.specs.declared.point.Aim.TheVariants.{Up}
 use Rattle.shm_count.specs.declared.point.StepPoint.TheVariants.{Era}
 use Rattle.shm_count.specs.declared.point.StepState.{StepState}
-use Rattle.shm_count.specs.StepMachines.{UpFits, UpGives, up_control}
+use Rattle.shm_count.specs.Step.Machines.{UpFits, UpGives, up_control}
 use Rattle.shm_count.specs.Roots.{root_step, root_word}
 use Rattle.shm_pool.specs.Calls.{Tells}
 use Rattle.shm_pool.specs.Replies.{IfReply}

@@ -4,8 +4,8 @@ use Rattle.shm_graph.specs.declared.run.Account.{Account}
 use Rattle.shm_graph.specs.Whole.{fits_now}
 use Rattle.shm_count.specs.declared.tear_point.TearPoint.TheVariants.{Begin}
 use Rattle.shm_count.specs.declared.tear_point.TearState.{TearState}
-use Rattle.shm_count.specs.TearControl.{tear_control}
-use Rattle.shm_count.specs.TearFits.{TearFits}
+use Rattle.shm_count.specs.Tear.Control.{tear_control}
+use Rattle.shm_count.specs.Tear.{TearFits}
 use Rattle.shm_count.specs.Roots.{tear_of}
 use Rattle.shm_pool.specs.Tokens.{Its}
 use Rattle.pool_tests.proofs.Standing.{tear_small, tears}

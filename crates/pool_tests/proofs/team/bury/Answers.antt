@@ -5,7 +5,7 @@ use Rattle.shm_graph.specs.declared.memo.Memo.{Memo}
 use Rattle.shm_graph.specs.declared.run.Account.{Account}
 use Rattle.shm_graph.specs.Laws.{GoneNow}
 use Rattle.shm_graph.specs.Whole.{fits_now}
-use Rattle.shm_recover.specs.Joining.{IsMember}
+use Rattle.shm_recover.specs.Join.{IsMember}
 use Rattle.shm_pool.specs.Tokens.{Its, recovering}
 use Rattle.pool_tests.specs.declared.quit.QuitState.{QuitState}
 use Rattle.pool_tests.specs.Quitting.{QuitFits, quit_control}

@@ -7,7 +7,7 @@ use Rattle.shm_graph.specs.declared.run.Account.{Account}
 use Rattle.shm_graph.specs.Laws.{GoneNow}
 use Rattle.shm_graph.specs.Runs.{account_entered}
 use Rattle.shm_graph.specs.Whole.{fits_now}
-use Rattle.shm_recover.specs.Joining.{IsMember}
+use Rattle.shm_recover.specs.Join.{IsMember}
 use Rattle.shm_pool.specs.Tokens.{Its, me_of}
 use Rattle.pool_tests.specs.declared.quit.QuitState.{QuitState}
 use Rattle.pool_tests.specs.Quitting.{QuitFits, quit_control}

@@ -1,7 +1,7 @@
 use Rattle.std.proofs.Common.{rules, ◌≡◌, ◌<◌, arith}
 use Rattle.shm_count.proofs.RootSpots.{roots_reached}
 use Rattle.shm_count.specs.Roots.{root_word}
-use Rattle.shm_count.specs.StepControl.{IsInside}
+use Rattle.shm_count.specs.Step.Control.{IsInside}
 use Rattle.pool_tests.specs.Between.{IsBetween, me_now}
 use Rattle.pool_tests.proofs.team.work.Goals as goal
 

@@ -1,4 +1,4 @@
-use Rattle.shm_alloc.specs.AllocGoing.{begins}
+use Rattle.shm_alloc.specs.Alloc.Going.{begins}
 use Rattle.shm_alloc.proofs.events.alloc_begins.Goals as goal
 
 pub returns : goal.returns

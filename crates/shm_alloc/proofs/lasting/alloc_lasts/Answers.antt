@@ -5,7 +5,7 @@ use Rattle.shm_graph.specs.Asks.{Trail}
 use Rattle.shm_count.specs.declared.answer.Made.{Made}
 use Rattle.shm_alloc.specs.declared.alloc.AllocFault.{AllocFault}
 use Rattle.shm_alloc.specs.declared.point.AllocState.{AllocState}
-use Rattle.shm_alloc.specs.AllocFits.{AllocGives}
+use Rattle.shm_alloc.specs.Alloc.{AllocGives}
 use Rattle.shm_alloc.proofs.lasting.alloc_lasts.Goals as goal
 
 -- a block of which it answers is one that the call made

@@ -3,7 +3,7 @@ use Rattle.std.proofs.lemmas.Bool.{cond-true, cond-false}
 use Rattle.shm_graph.specs.declared.memo.Stored.{Stored}
 use Rattle.shm_graph.specs.declared.spot.Spot.TheVariants.{Root}
 use Rattle.shm_graph.specs.Views.{own_word}
-use Rattle.shm_graph.proofs.Spotting.{same_spot_self, same_spot_not}
+use Rattle.shm_graph.proofs.Spots.Spotting.{same_spot_self, same_spot_not}
 use Rattle.shm_alloc.proofs.lasting.alloc_least_root.Goals as goal
 
 pub returns-clause-empty : goal.returns-clause-empty

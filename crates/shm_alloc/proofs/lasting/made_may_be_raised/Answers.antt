@@ -4,7 +4,7 @@ use Rattle.shm_graph.specs.declared.memo.Stored.{Stored}
 use Rattle.shm_graph.specs.declared.spot.Spot.TheVariants.{Root}
 use Rattle.shm_graph.specs.Reach.{is_reached}
 use Rattle.shm_graph.specs.Views.{own_word}
-use Rattle.shm_graph.proofs.Spotting.{same_spot_self}
+use Rattle.shm_graph.proofs.Spots.Spotting.{same_spot_self}
 use Rattle.shm_count.specs.declared.point.Aim.TheVariants.{Up}
 use Rattle.shm_count.proofs.RootSpots.{can_root, fits_root, is_here, roots_reached, some_inside}
 use Rattle.shm_alloc.proofs.lasting.made_may_be_raised.Goals as goal

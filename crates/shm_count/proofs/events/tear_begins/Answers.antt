@@ -1,4 +1,4 @@
-use Rattle.shm_count.specs.TearGoing.{begins}
+use Rattle.shm_count.specs.Tear.Going.{begins}
 use Rattle.shm_count.proofs.events.tear_begins.Goals as goal
 
 pub returns : goal.returns

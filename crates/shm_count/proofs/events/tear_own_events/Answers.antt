@@ -5,11 +5,11 @@ use Rattle.shm_graph.specs.Tells.{happens_along}
 use Rattle.shm_count.proofs.CallEvents.{call_tells}
 use Rattle.shm_count.specs.CountParts.{tear_part_laws}
 use Rattle.shm_count.specs.declared.tear_point.TearState.{TearState}
-use Rattle.shm_count.specs.TearControl.{tear_control, is_begin}
-use Rattle.shm_count.specs.TearEvents.{tear_event}
-use Rattle.shm_count.specs.TearFits.{TearFits, TearGives, TearLeaves}
-use Rattle.shm_count.specs.TearKeeps.{tear_laws}
-use Rattle.shm_count.specs.TearTells.{tear_tells}
+use Rattle.shm_count.specs.Tear.Control.{tear_control, is_begin}
+use Rattle.shm_count.specs.Tear.Events.{tear_event}
+use Rattle.shm_count.specs.Tear.{TearFits, TearGives, TearLeaves}
+use Rattle.shm_count.specs.Tear.Keeps.{tear_laws}
+use Rattle.shm_count.specs.Tear.Tells.{tear_tells}
 use Rattle.shm_count.proofs.events.tear_own_events.Goals as goal
 
 pub returns : goal.returns

@@ -9,7 +9,7 @@ use Rattle.shm_count.specs.declared.point.Aim.TheVariants.{Down}
 use Rattle.shm_count.specs.declared.point.StepState.{StepState}
 use Rattle.shm_count.specs.Retaining.{slot_known}
 use Rattle.shm_count.specs.Roots.{RootLowered}
-use Rattle.shm_count.specs.StepFits.{Done, StepGives}
+use Rattle.shm_count.specs.Step.{Done, StepGives}
 use Rattle.shm_count.proofs.RootLeaves.{root_leaves}
 use Rattle.shm_count.proofs.lasting.root_down_retains.Goals as goal
 

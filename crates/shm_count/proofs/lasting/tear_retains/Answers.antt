@@ -4,12 +4,12 @@ use Rattle.shm_graph.specs.Asks.{Trail}
 use Rattle.shm_count.specs.declared.answer.EraSpent.{EraSpent}
 use Rattle.shm_count.specs.declared.tear_point.TearState.{TearState}
 use Rattle.shm_count.specs.Retaining.{named_stays, slot_known}
-use Rattle.shm_count.specs.TearFits.{TearGives}
-use Rattle.shm_count.specs.TearLaws.{tear_retains}
-use Rattle.shm_count.specs.TearMemos.{Stays}
+use Rattle.shm_count.specs.Tear.{TearGives}
+use Rattle.shm_count.specs.Tear.Laws.{tear_retains}
+use Rattle.shm_count.specs.Tear.Memos.{TearStays}
 use Rattle.shm_count.proofs.lasting.tear_retains.Goals as goal
 
-stays : (m : TearState) (r0 r : Memo) (tr : Trail) (a : Result (Unit {0}) EraSpent) → TearGives m r0 r tr a → Stays m.me.who r0 r
+stays : (m : TearState) (r0 r : Memo) (tr : Trail) (a : Result (Unit {0}) EraSpent) → TearGives m r0 r tr a → TearStays m.me.who r0 r
 stays m r0 r tr (Ok u) g = g.leaves.stays
 stays m r0 r tr (Err e) g = g.leaves.1.stays
 

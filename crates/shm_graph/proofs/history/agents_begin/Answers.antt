@@ -1,4 +1,4 @@
-use Rattle.shm_graph.proofs.TurnsTaken.{begins_client, begins_recoverer}
+use Rattle.shm_graph.proofs.Runs.TurnsTaken.{begins_client, begins_recoverer}
 use Rattle.shm_graph.proofs.history.agents_begin.Goals as goal
 
 pub returns-clause-client : goal.returns-clause-client

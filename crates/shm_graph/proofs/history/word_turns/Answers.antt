@@ -1,4 +1,4 @@
-use Rattle.shm_graph.proofs.TurnsTaken.{turn_others, turn_allocated, turn_raised, turn_changed, turn_freed, turn_rows}
+use Rattle.shm_graph.proofs.Runs.TurnsTaken.{turn_others, turn_allocated, turn_raised, turn_changed, turn_freed, turn_rows}
 use Rattle.shm_graph.proofs.history.word_turns.Goals as goal
 
 pub returns-clause-others : goal.returns-clause-others

@@ -1,4 +1,4 @@
-use Rattle.shm_graph.proofs.Running.{turned-dies, turned-begins}
+use Rattle.shm_graph.proofs.Runs.Running.{turned-dies, turned-begins}
 use Rattle.shm_graph.proofs.laws.agents_change.Goals as goal
 
 pub returns-clause-dies : goal.returns-clause-dies

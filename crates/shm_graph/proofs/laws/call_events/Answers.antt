@@ -1,4 +1,4 @@
-use Rattle.shm_graph.proofs.CallEventsOf.{events_told, call_told}
+use Rattle.shm_graph.proofs.Runs.CallEventsOf.{events_told, call_told}
 use Rattle.shm_graph.proofs.laws.call_events.Goals as goal
 
 pub returns-clause-told : goal.returns-clause-told

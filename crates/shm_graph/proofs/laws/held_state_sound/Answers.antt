@@ -1,4 +1,4 @@
-use Rattle.shm_graph.proofs.HeldSound.{held_state_sound}
+use Rattle.shm_graph.proofs.States.HeldSound.{held_state_sound}
 use Rattle.shm_graph.proofs.laws.held_state_sound.Goals as goal
 
 pub returns : goal.returns

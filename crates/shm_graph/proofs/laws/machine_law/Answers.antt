@@ -1,4 +1,4 @@
-use Rattle.shm_graph.proofs.Wholes.{whole_inside, whole_keeps}
+use Rattle.shm_graph.proofs.Machines.Wholes.{whole_inside, whole_keeps}
 use Rattle.shm_graph.proofs.laws.machine_law.Goals as goal
 
 pub returns-clause-inside : goal.returns-clause-inside

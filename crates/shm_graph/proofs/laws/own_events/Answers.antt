@@ -1,4 +1,4 @@
-use Rattle.shm_graph.proofs.OwnEvents.{own_told}
+use Rattle.shm_graph.proofs.Runs.OwnEvents.{own_told}
 use Rattle.shm_graph.proofs.laws.own_events.Goals as goal
 
 pub returns : goal.returns

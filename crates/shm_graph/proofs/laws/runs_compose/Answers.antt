@@ -1,4 +1,4 @@
-use Rattle.shm_graph.proofs.Running.{Leads-more, Leads-append, Leads-split, Leads-held}
+use Rattle.shm_graph.proofs.Runs.Running.{Leads-more, Leads-append, Leads-split, Leads-held}
 use Rattle.shm_graph.proofs.laws.runs_compose.Goals as goal
 
 pub returns-clause-more : goal.returns-clause-more

@@ -1,6 +1,6 @@
-use Rattle.shm_graph.proofs.Keeping.{live_kept}
-use Rattle.shm_graph.proofs.LoadKeeping.{load_kept, lost_kept}
-use Rattle.shm_graph.proofs.StatusKeeping.{dead_kept, gone_kept}
+use Rattle.shm_graph.proofs.StepKinds.Keeping.{live_kept}
+use Rattle.shm_graph.proofs.StepKinds.LoadKeeping.{load_kept, lost_kept}
+use Rattle.shm_graph.proofs.StepKinds.StatusKeeping.{dead_kept, gone_kept}
 use Rattle.shm_graph.proofs.laws.steps_keep.Goals as goal
 
 pub returns-clause-live : goal.returns-clause-live

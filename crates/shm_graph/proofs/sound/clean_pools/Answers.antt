@@ -1,4 +1,4 @@
-use Rattle.shm_graph.proofs.CleanPools.{clean_named, clean_empty, clean_headers, clean_joinable, clean_sum}
+use Rattle.shm_graph.proofs.States.CleanPools.{clean_named, clean_empty, clean_headers, clean_joinable, clean_sum}
 use Rattle.shm_graph.proofs.sound.clean_pools.Goals as goal
 
 pub returns-clause-named : goal.returns-clause-named

@@ -1,4 +1,4 @@
-use Rattle.shm_graph.proofs.SoundStates.{sound_shown, sound_by_header, sound_by_row, sound_past}
+use Rattle.shm_graph.proofs.States.SoundStates.{sound_shown, sound_by_header, sound_by_row, sound_past}
 use Rattle.shm_graph.proofs.sound.commitment_is_shown.Goals as goal
 
 pub returns-clause-shown : goal.returns-clause-shown

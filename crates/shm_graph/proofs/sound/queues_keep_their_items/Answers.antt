@@ -1,8 +1,8 @@
-use Rattle.shm_graph.proofs.SoundStates.{sound_front, sound_waiting, sound_room, sound_apart}
+use Rattle.shm_graph.proofs.States.SoundStates.{sound_front, sound_waiting, sound_room, sound_apart}
 use Rattle.shm_graph.proofs.sound.queues_keep_their_items.Goals as goal
 
-pub returns-clause-front : goal.returns-clause-front
-returns-clause-front c g w v h s r ls = sound_front g w v h s r ls
+pub returns-clause-queue_head : goal.returns-clause-queue_head
+returns-clause-queue_head c g w v h s r ls = sound_front g w v h s r ls
 
 pub returns-clause-waiting : goal.returns-clause-waiting
 returns-clause-waiting c g w v h s r n ls = sound_waiting g w v h s r ls n

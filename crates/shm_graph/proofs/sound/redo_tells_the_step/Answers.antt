@@ -1,4 +1,4 @@
-use Rattle.shm_graph.proofs.SoundStates.{sound_up, sound_down, sound_change}
+use Rattle.shm_graph.proofs.States.SoundStates.{sound_up, sound_down, sound_change}
 use Rattle.shm_graph.proofs.sound.redo_tells_the_step.Goals as goal
 
 pub returns-clause-up : goal.returns-clause-up

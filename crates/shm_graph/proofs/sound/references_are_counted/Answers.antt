@@ -1,4 +1,4 @@
-use Rattle.shm_graph.proofs.SoundStates.{sound_named, sound_free, sound_counted}
+use Rattle.shm_graph.proofs.States.SoundStates.{sound_named, sound_free, sound_counted}
 use Rattle.shm_graph.proofs.sound.references_are_counted.Goals as goal
 
 pub returns-clause-named : goal.returns-clause-named

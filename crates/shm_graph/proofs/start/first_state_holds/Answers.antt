@@ -1,4 +1,4 @@
-use Rattle.shm_graph.proofs.FirstHeld.{first_held}
+use Rattle.shm_graph.proofs.States.FirstHeld.{first_held}
 use Rattle.shm_graph.proofs.start.first_state_holds.Goals as goal
 
 pub returns : goal.returns

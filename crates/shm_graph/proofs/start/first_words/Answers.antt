@@ -3,7 +3,7 @@ use Rattle.shm_words.specs.declared.geometry.Geometry.{Geometry}
 use Rattle.shm_words.specs.declared.place.Place.TheVariants.{Era}
 use Rattle.shm_words.specs.Layout.{address, total_of}
 use Rattle.shm_words.proofs.Placing.{address_below}
-use Rattle.shm_graph.proofs.FirstStoring.{words_below, none_below, one_more, own_in, all_below, length-words_below}
+use Rattle.shm_graph.proofs.Spots.FirstStoring.{words_below, none_below, one_more, own_in, all_below, length-words_below}
 use Rattle.shm_graph.proofs.start.first_words.Goals as goal
 
 pub loop-client-init : goal.loop-client-init

@@ -1,5 +1,5 @@
 use Rattle.std.proofs.Common.{◌≡◌}
-use Rattle.shm_graph.proofs.FirstStoring.{words_below}
+use Rattle.shm_graph.proofs.Spots.FirstStoring.{words_below}
 use Rattle.shm_graph.proofs.start.first_words.Given as goal
 
 abbrev pub invariant-loop-client : goal.invariant-loop-client

@@ -1,7 +1,7 @@
-use Rattle.shm_laws.proofs.Rows.{begin_kept, row_stored}
+use Rattle.shm_laws.proofs.RedoAndRows.{begin_kept, row_stored}
 use Rattle.shm_laws.proofs.CloseOp.{close_kept}
-use Rattle.shm_laws.proofs.Tails.{tail_kept}
-use Rattle.shm_laws.proofs.Heads.{head_kept}
+use Rattle.shm_laws.proofs.QueueTails.{tail_kept}
+use Rattle.shm_laws.proofs.QueueHeads.{head_kept}
 use Rattle.shm_laws.proofs.laws.own_stores_kept.Goals as goal
 
 pub returns-clause-redo : goal.returns-clause-redo

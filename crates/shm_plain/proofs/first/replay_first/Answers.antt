@@ -1,8 +1,8 @@
 use Rattle.std.proofs.Common.{◌≡◌, ℕ, arith, ap, ◌∙◌, subst, length}
-use Rattle.shm_plain.specs.Cells.{Shows, after, ended, first_blocks}
-use Rattle.shm_plain.specs.Steps.{fresh}
-use Rattle.shm_plain.proofs.Making.{segment_own}
-use Rattle.shm_plain.proofs.Running.{shows_joined, shows_ended, roots_empty, blocks_more, closes, first_run}
+use Rattle.shm_plain.specs.OneClient.Cells.{Shows, after, ended, first_blocks}
+use Rattle.shm_plain.specs.OneClient.Steps.{fresh}
+use Rattle.shm_plain.proofs.OneClient.Making.{segment_own}
+use Rattle.shm_plain.proofs.OneClient.Running.{shows_joined, shows_ended, roots_empty, blocks_more, closes, first_run}
 use Rattle.shm_plain.proofs.first.replay_first.Goals as goal
 
 pub loop-k-init : goal.loop-k-init

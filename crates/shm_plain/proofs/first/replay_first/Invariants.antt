@@ -1,5 +1,5 @@
 use Rattle.std.proofs.Common.{◌≡◌}
-use Rattle.shm_plain.specs.Cells.{Shows, after, first_blocks}
+use Rattle.shm_plain.specs.OneClient.Cells.{Shows, after, first_blocks}
 use Rattle.shm_plain.proofs.first.replay_first.Given as goal
 
 abbrev pub invariant-loop-k : goal.invariant-loop-k

@@ -4,7 +4,7 @@ use Rattle.shm_graph.specs.declared.ask.Life.{Life}
 use Rattle.shm_graph.specs.declared.memo.Memo.{Memo}
 use Rattle.shm_graph.specs.declared.run.Account.{Account}
 use Rattle.shm_graph.specs.Whole.{fits_now, gives_now}
-use Rattle.shm_graph.proofs.Composing.{none_of, some_of}
+use Rattle.shm_graph.proofs.Machines.Composing.{none_of, some_of}
 use Rattle.shm_pool.specs.Rules.{alone}
 use Rattle.shm_pool.specs.Calls.{Calls, shown}
 use Rattle.shm_pool.proofs.Calling.{cut, more, whole, still_of, goes_on, is_over, tells}

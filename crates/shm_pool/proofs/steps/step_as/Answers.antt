@@ -6,7 +6,7 @@ use Rattle.shm_graph.specs.declared.ask.Ask.{Ask}
 use Rattle.shm_graph.specs.declared.ask.Ask.TheVariants.{Load, Store, Exchange}
 use Rattle.shm_graph.specs.Asks.{at_of, seen_of}
 use Rattle.shm_graph.specs.Whole.{fits_now, gives_now}
-use Rattle.shm_graph.proofs.Wholes.{whole_keeps, whole_inside}
+use Rattle.shm_graph.proofs.Machines.Wholes.{whole_keeps, whole_inside}
 use Rattle.shm_pool.specs.Rules.{alone}
 use Rattle.shm_pool.proofs.Stepping.{allowed}
 use Rattle.shm_pool.proofs.steps.step_as.Given.{Over}

@@ -4,13 +4,13 @@ use Rattle.std.proofs.Common.{sym, ap, ◌∙◌, arith, true≢false}
 use Rattle.shm_graph.specs.Laws.{is_died, step_of}
 use Rattle.shm_graph.specs.Whole.{fits_now, gives_now}
 use Rattle.shm_pool.specs.Rules.{alone}
-use Rattle.shm_pool.specs.Calls.{Stepped}
+use Rattle.shm_pool.specs.Calls.{ClientStepped}
 use Rattle.shm_pool.proofs.Calling.{acts_stepped, kind_same, never_died}
 use Rattle.shm_pool.proofs.steps.step_place.Given.{Over}
 use Rattle.shm_pool.proofs.steps.step_place.Goals.{After-take}
 use Rattle.shm_pool.proofs.steps.step_place.Goals as goal
 
-stepped : (g : Over) (c : After-take g) → let M = g.M.Machine in Stepped M.control (fits_now M.control M.fits) (gives_now M.gives) c.args.m.now (alone c.args.place.now) (alone c.ask_step-seen.new.place) c.take.result c.take.new.self
+stepped : (g : Over) (c : After-take g) → let M = g.M.Machine in ClientStepped M.control (fits_now M.control M.fits) (gives_now M.gives) c.args.m.now (alone c.args.place.now) (alone c.ask_step-seen.new.place) c.take.result c.take.new.self
 stepped g c = let t = c.ask_step-seen.ensures.told in record {
   seen = c.ask_step-seen.result;
   account = t.0;

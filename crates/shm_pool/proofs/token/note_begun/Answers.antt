@@ -4,7 +4,7 @@ use Rattle.shm_graph.specs.declared.memo.Memo.{Memo}
 use Rattle.shm_graph.specs.declared.run.Account.{Account}
 use Rattle.shm_graph.specs.Agents.{acts}
 use Rattle.shm_graph.specs.Runs.{account_entered}
-use Rattle.shm_graph.proofs.MemoSteps.{acts-entered}
+use Rattle.shm_graph.proofs.Memos.MemoSteps.{acts-entered}
 use Rattle.shm_pool.specs.Rules.{alone}
 use Rattle.shm_pool.specs.Tokens.{IsFallen, IsStill, begun_account}
 use Rattle.shm_pool.proofs.token.note_begun.Goals as goal

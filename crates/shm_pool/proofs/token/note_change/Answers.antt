@@ -3,7 +3,7 @@ use Rattle.shm_graph.specs.declared.memo.Kind.TheVariants.{Recoverer}
 use Rattle.shm_graph.specs.declared.run.Account.{Account}
 use Rattle.shm_graph.specs.Agents.{acts, last_agent}
 use Rattle.shm_graph.specs.Runs.{account_died, account_entered, fell_by}
-use Rattle.shm_graph.proofs.MemoSteps.{acts-died, fell-died, acts-entered}
+use Rattle.shm_graph.proofs.Memos.MemoSteps.{acts-died, fell-died, acts-entered}
 use Rattle.shm_pool.specs.Rules.{alone}
 use Rattle.shm_pool.proofs.Changing.{begun_who}
 use Rattle.shm_pool.proofs.token.note_change.Goals as goal

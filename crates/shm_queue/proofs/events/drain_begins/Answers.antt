@@ -1,9 +1,9 @@
 use Rattle.std.proofs.Common.{refl}
 use Rattle.shm_calls.specs.CallsKeep.{calls_begin}
-use Rattle.shm_queue.specs.DrainControl.{drain_parts, draining}
-use Rattle.shm_queue.specs.DrainFits.{drain_plan}
-use Rattle.shm_queue.specs.DrainLaws.{drain_laws}
-use Rattle.shm_queue.specs.TakeLaws.{take_laws}
+use Rattle.shm_queue.specs.Drain.Control.{drain_parts, draining}
+use Rattle.shm_queue.specs.Drain.{drain_plan}
+use Rattle.shm_queue.specs.Drain.Laws.{drain_laws}
+use Rattle.shm_queue.specs.Take.Laws.{take_laws}
 use Rattle.shm_queue.proofs.events.drain_begins.Goals as goal
 
 pub returns : goal.returns

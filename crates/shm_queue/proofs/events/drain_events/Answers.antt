@@ -1,8 +1,8 @@
 use Rattle.shm_calls.specs.CallsKeep.{calls_tells}
-use Rattle.shm_queue.specs.DrainControl.{drain_parts}
-use Rattle.shm_queue.specs.DrainFits.{drain_plan}
-use Rattle.shm_queue.specs.DrainLaws.{drain_laws}
-use Rattle.shm_queue.specs.TakeLaws.{take_laws}
+use Rattle.shm_queue.specs.Drain.Control.{drain_parts}
+use Rattle.shm_queue.specs.Drain.{drain_plan}
+use Rattle.shm_queue.specs.Drain.Laws.{drain_laws}
+use Rattle.shm_queue.specs.Take.Laws.{take_laws}
 use Rattle.shm_queue.proofs.events.drain_events.Goals as goal
 
 pub returns : goal.returns

@@ -1,8 +1,8 @@
 use Rattle.std.proofs.Common.{refl}
 use Rattle.shm_calls.specs.CallsKeep.{calls_begin}
-use Rattle.shm_queue.specs.PeekControl.{peek_parts, peeking}
-use Rattle.shm_queue.specs.PeekFits.{peek_plan}
-use Rattle.shm_queue.specs.PeekLaws.{peek_laws}
+use Rattle.shm_queue.specs.Peek.Control.{peek_parts, peeking}
+use Rattle.shm_queue.specs.Peek.{peek_plan}
+use Rattle.shm_queue.specs.Peek.Laws.{peek_laws}
 use Rattle.shm_queue.proofs.events.peek_begins.Goals as goal
 
 pub returns : goal.returns

@@ -1,7 +1,7 @@
 use Rattle.shm_calls.specs.CallsKeep.{calls_tells}
-use Rattle.shm_queue.specs.PeekControl.{peek_parts}
-use Rattle.shm_queue.specs.PeekFits.{peek_plan}
-use Rattle.shm_queue.specs.PeekLaws.{peek_laws}
+use Rattle.shm_queue.specs.Peek.Control.{peek_parts}
+use Rattle.shm_queue.specs.Peek.{peek_plan}
+use Rattle.shm_queue.specs.Peek.Laws.{peek_laws}
 use Rattle.shm_queue.proofs.events.peek_events.Goals as goal
 
 pub returns : goal.returns

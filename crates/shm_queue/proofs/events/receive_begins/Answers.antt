@@ -1,10 +1,10 @@
 use Rattle.std.proofs.Common.{refl}
 use Rattle.shm_calls.specs.CallsKeep.{calls_begin}
-use Rattle.shm_queue.specs.ReceiveControl.{receive_parts, receiving}
-use Rattle.shm_queue.specs.ReceiveFits.{receive_plan}
-use Rattle.shm_queue.specs.PeekLaws.{peek_laws}
-use Rattle.shm_queue.specs.ReceiveLaws.{receive_laws}
-use Rattle.shm_queue.specs.TakeLaws.{take_laws}
+use Rattle.shm_queue.specs.Receive.Control.{receive_parts, receiving}
+use Rattle.shm_queue.specs.Receive.{receive_plan}
+use Rattle.shm_queue.specs.Peek.Laws.{peek_laws}
+use Rattle.shm_queue.specs.Receive.Laws.{receive_laws}
+use Rattle.shm_queue.specs.Take.Laws.{take_laws}
 use Rattle.shm_queue.proofs.events.receive_begins.Goals as goal
 
 pub returns : goal.returns

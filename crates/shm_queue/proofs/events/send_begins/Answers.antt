@@ -1,8 +1,8 @@
 use Rattle.std.proofs.Common.{refl}
 use Rattle.shm_calls.specs.CallsKeep.{calls_begin}
-use Rattle.shm_queue.specs.SendControl.{send_parts, sending}
-use Rattle.shm_queue.specs.SendFits.{send_plan}
-use Rattle.shm_queue.specs.SendLaws.{send_laws}
+use Rattle.shm_queue.specs.Send.Control.{send_parts, sending}
+use Rattle.shm_queue.specs.Send.{send_plan}
+use Rattle.shm_queue.specs.Send.Laws.{send_laws}
 use Rattle.shm_queue.proofs.events.send_begins.Goals as goal
 
 pub returns : goal.returns

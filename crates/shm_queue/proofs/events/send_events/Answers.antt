@@ -1,7 +1,7 @@
 use Rattle.shm_calls.specs.CallsKeep.{calls_tells}
-use Rattle.shm_queue.specs.SendControl.{send_parts}
-use Rattle.shm_queue.specs.SendFits.{send_plan}
-use Rattle.shm_queue.specs.SendLaws.{send_laws}
+use Rattle.shm_queue.specs.Send.Control.{send_parts}
+use Rattle.shm_queue.specs.Send.{send_plan}
+use Rattle.shm_queue.specs.Send.Laws.{send_laws}
 use Rattle.shm_queue.proofs.events.send_events.Goals as goal
 
 pub returns : goal.returns

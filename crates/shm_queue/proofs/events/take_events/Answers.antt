@@ -1,7 +1,7 @@
 use Rattle.shm_calls.specs.CallsKeep.{calls_tells}
-use Rattle.shm_queue.specs.TakeControl.{take_parts}
-use Rattle.shm_queue.specs.TakeFits.{take_plan}
-use Rattle.shm_queue.specs.TakeLaws.{take_laws}
+use Rattle.shm_queue.specs.Take.Control.{take_parts}
+use Rattle.shm_queue.specs.Take.{take_plan}
+use Rattle.shm_queue.specs.Take.Laws.{take_laws}
 use Rattle.shm_queue.proofs.events.take_events.Goals as goal
 
 pub returns : goal.returns

@@ -1,9 +1,9 @@
 use Rattle.std.proofs.Common.{refl}
 use Rattle.shm_calls.specs.CallsKeep.{calls_begin}
-use Rattle.shm_recover.specs.LeaveControl.{leave_parts, leaving}
-use Rattle.shm_recover.specs.LeaveFits.{leave_plan}
-use Rattle.shm_recover.specs.LeaveGone.{idle_may_leave}
-use Rattle.shm_recover.specs.LeaveLaws.{leave_begin, leave_laws}
+use Rattle.shm_recover.specs.Leave.Control.{leave_parts, leaving}
+use Rattle.shm_recover.specs.Leave.{leave_plan}
+use Rattle.shm_recover.specs.Leave.Gone.{idle_may_leave}
+use Rattle.shm_recover.specs.Leave.Laws.{leave_begin, leave_laws}
 use Rattle.shm_recover.proofs.events.leave_begins.Goals as goal
 
 pub returns-clause-fits : goal.returns-clause-fits

@@ -1,8 +1,8 @@
 use Rattle.std.proofs.Common.{refl}
 use Rattle.shm_calls.specs.CallsKeep.{calls_begin}
-use Rattle.shm_ref.specs.DropControl.{drop_parts, dropping}
-use Rattle.shm_ref.specs.DropFits.{drop_plan}
-use Rattle.shm_ref.specs.DropLaws.{drop_laws}
+use Rattle.shm_ref.specs.DropRoot.Control.{drop_parts, dropping}
+use Rattle.shm_ref.specs.DropRoot.{drop_plan}
+use Rattle.shm_ref.specs.DropRoot.Laws.{drop_laws}
 use Rattle.shm_ref.proofs.events.drop_root_begins.Goals as goal
 
 pub returns : goal.returns

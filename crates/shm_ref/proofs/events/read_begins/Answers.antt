@@ -1,8 +1,8 @@
 use Rattle.std.proofs.Common.{refl}
 use Rattle.shm_calls.specs.CallsKeep.{calls_begin}
 use Rattle.shm_calls.specs.Words.{word_control}
-use Rattle.shm_ref.specs.ReadFits.{reading, read_plan}
-use Rattle.shm_ref.specs.ReadLaws.{read_begin, read_laws}
+use Rattle.shm_ref.specs.Read.{reading, read_plan}
+use Rattle.shm_ref.specs.Read.Laws.{read_begin, read_laws}
 use Rattle.shm_ref.proofs.events.read_begins.Goals as goal
 
 pub returns : goal.returns

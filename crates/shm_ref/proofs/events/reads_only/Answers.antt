@@ -1,8 +1,8 @@
-use Rattle.shm_ref.specs.HomeFits.{finding}
-use Rattle.shm_ref.specs.LookFits.{looking}
+use Rattle.shm_ref.specs.HomeOf.{finding}
+use Rattle.shm_ref.specs.Look.{looking}
 use Rattle.shm_ref.specs.Machines.{home_told, look_told, read_told}
 use Rattle.shm_ref.specs.OnlyRead.{home_reads, look_reads, read_reads}
-use Rattle.shm_ref.specs.ReadFits.{reading}
+use Rattle.shm_ref.specs.Read.{reading}
 use Rattle.shm_ref.proofs.events.reads_only.Goals as goal
 
 pub returns-clause-home : goal.returns-clause-home

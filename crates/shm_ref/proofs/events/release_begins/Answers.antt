@@ -1,8 +1,8 @@
 use Rattle.std.proofs.Common.{refl}
 use Rattle.shm_calls.specs.CallsKeep.{calls_begin}
 use Rattle.shm_calls.specs.Words.{word_control}
-use Rattle.shm_ref.specs.ReleaseFits.{releasing, release_plan}
-use Rattle.shm_ref.specs.ReleaseLaws.{release_begin, release_laws}
+use Rattle.shm_ref.specs.Release.{releasing, release_plan}
+use Rattle.shm_ref.specs.Release.Laws.{release_begin, release_laws}
 use Rattle.shm_ref.proofs.events.release_begins.Goals as goal
 
 pub returns : goal.returns

@@ -1,8 +1,8 @@
 use Rattle.std.proofs.Common.{refl}
 use Rattle.shm_calls.specs.CallsKeep.{calls_begin}
 use Rattle.shm_calls.specs.Words.{word_control}
-use Rattle.shm_ref.specs.RootOfFits.{naming, naming_plan}
-use Rattle.shm_ref.specs.RootOfLaws.{naming_laws}
+use Rattle.shm_ref.specs.RootOf.{naming, naming_plan}
+use Rattle.shm_ref.specs.RootOf.Laws.{naming_laws}
 use Rattle.shm_ref.proofs.events.root_of_begins.Goals as goal
 
 pub returns : goal.returns

@@ -1,8 +1,8 @@
 use Rattle.std.proofs.Common.{refl}
 use Rattle.shm_calls.specs.CallsKeep.{calls_begin}
-use Rattle.shm_count.specs.UpRootControl.{rooting, rooting_parts}
-use Rattle.shm_count.specs.UpRootFits.{rooting_plan}
-use Rattle.shm_count.specs.UpRootLaws.{rooting_begin, rooting_laws}
+use Rattle.shm_count.specs.UpRoot.Control.{rooting, rooting_parts}
+use Rattle.shm_count.specs.UpRoot.{rooting_plan}
+use Rattle.shm_count.specs.UpRoot.Laws.{rooting_begin, rooting_laws}
 use Rattle.shm_ref.proofs.events.share_begins.Goals as goal
 
 pub returns : goal.returns

@@ -1,7 +1,7 @@
 use Rattle.shm_calls.specs.CallsKeep.{calls_tells}
-use Rattle.shm_count.specs.UpRootControl.{rooting_parts}
-use Rattle.shm_count.specs.UpRootFits.{rooting_plan}
-use Rattle.shm_count.specs.UpRootLaws.{rooting_laws}
+use Rattle.shm_count.specs.UpRoot.Control.{rooting_parts}
+use Rattle.shm_count.specs.UpRoot.{rooting_plan}
+use Rattle.shm_count.specs.UpRoot.Laws.{rooting_laws}
 use Rattle.shm_ref.proofs.events.share_events.Goals as goal
 
 pub returns : goal.returns

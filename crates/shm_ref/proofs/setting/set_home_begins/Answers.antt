@@ -1,7 +1,7 @@
 use Rattle.std.proofs.Common.{refl}
 use Rattle.shm_calls.specs.CallsKeep.{calls_begin}
-use Rattle.shm_ref.specs.SetHomeFits.{home_parts, home_plan, homing}
-use Rattle.shm_ref.specs.SetHomeLaws.{home_laws}
+use Rattle.shm_ref.specs.SetHome.{home_parts, home_plan, homing}
+use Rattle.shm_ref.specs.SetHome.Laws.{home_laws}
 use Rattle.shm_ref.proofs.setting.set_home_begins.Goals as goal
 
 pub returns : goal.returns

@@ -1,8 +1,8 @@
 use Rattle.std.proofs.Common.{refl}
 use Rattle.shm_calls.specs.CallsKeep.{calls_begin}
-use Rattle.shm_ref.specs.SetRefControl.{set_parts, setting}
-use Rattle.shm_ref.specs.SetRefFits.{set_plan}
-use Rattle.shm_ref.specs.SetRefLaws.{set_laws}
+use Rattle.shm_ref.specs.SetRef.Control.{set_parts, setting}
+use Rattle.shm_ref.specs.SetRef.{set_plan}
+use Rattle.shm_ref.specs.SetRef.Laws.{set_laws}
 use Rattle.shm_ref.proofs.setting.set_ref_begins.Goals as goal
 
 pub returns : goal.returns

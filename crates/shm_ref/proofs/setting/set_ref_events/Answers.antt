@@ -1,7 +1,7 @@
 use Rattle.shm_calls.specs.CallsKeep.{calls_tells}
-use Rattle.shm_ref.specs.SetRefControl.{set_parts}
-use Rattle.shm_ref.specs.SetRefFits.{set_plan}
-use Rattle.shm_ref.specs.SetRefLaws.{set_laws}
+use Rattle.shm_ref.specs.SetRef.Control.{set_parts}
+use Rattle.shm_ref.specs.SetRef.{set_plan}
+use Rattle.shm_ref.specs.SetRef.Laws.{set_laws}
 use Rattle.shm_ref.proofs.setting.set_ref_events.Goals as goal
 
 pub returns : goal.returns

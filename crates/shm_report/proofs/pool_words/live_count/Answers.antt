@@ -4,7 +4,7 @@ use Rattle.shm_words.specs.Headers.{header_of}
 use Rattle.shm_graph.specs.declared.spot.Spot.TheVariants.{Head}
 use Rattle.shm_graph.specs.Spots.{see}
 use Rattle.shm_graph.specs.References.{one_if, sum_below, live_count}
-use Rattle.shm_graph.proofs.Summing.{sum_up, sum_same}
+use Rattle.shm_graph.proofs.Spots.Summing.{sum_up, sum_same}
 use Rattle.shm_report.proofs.pool_words.live_count.Goals as goal
 use Rattle.shm_report.proofs.pool_words.live_count.Goals.{then-header_at, else-header_at}
 

@@ -1,4 +1,4 @@
-use Rattle.shm_steps.proofs.TableLaws.{begun_reparted, begun_mapped}
+use Rattle.shm_steps.proofs.Partitions.Laws.{begun_reparted, begun_mapped}
 use Rattle.shm_steps.proofs.tables.table_steps.Goals as goal
 
 pub returns : goal.returns

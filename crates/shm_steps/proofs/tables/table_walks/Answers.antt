@@ -1,4 +1,4 @@
-use Rattle.shm_steps.proofs.Walked.{walk_nowhere, walk_first, walk_key, walk_next, walk_end}
+use Rattle.shm_steps.proofs.Partitions.Walked.{walk_nowhere, walk_first, walk_key, walk_next, walk_end}
 use Rattle.shm_steps.proofs.tables.table_walks.Goals as goal
 
 pub returns : goal.returns

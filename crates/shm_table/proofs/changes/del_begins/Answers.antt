@@ -1,8 +1,8 @@
 use Rattle.std.proofs.Common.{refl}
 use Rattle.shm_calls.specs.CallsKeep.{calls_begin}
-use Rattle.shm_table.specs.DelControl.{del_parts, deleting}
-use Rattle.shm_table.specs.DelFits.{del_plan}
-use Rattle.shm_table.specs.DelLaws.{del_begin, del_laws}
+use Rattle.shm_table.specs.Del.Control.{del_parts, deleting}
+use Rattle.shm_table.specs.Del.{del_plan}
+use Rattle.shm_table.specs.Del.Laws.{del_begin, del_laws}
 use Rattle.shm_table.proofs.changes.del_begins.Goals as goal
 
 pub returns : goal.returns

@@ -1,5 +1,5 @@
-use Rattle.shm_table.specs.ChangeMachines.{del_told}
-use Rattle.shm_table.specs.DelBound.{del_short, del_within}
+use Rattle.shm_table.specs.Machines.Change.{del_told}
+use Rattle.shm_table.specs.Del.Bound.{del_short, del_within}
 use Rattle.shm_table.proofs.changes.del_bound.Goals as goal
 
 pub returns-clause-own : goal.returns-clause-own

@@ -1,8 +1,8 @@
 use Rattle.std.proofs.Common.{refl}
 use Rattle.shm_calls.specs.CallsKeep.{calls_begin}
-use Rattle.shm_table.specs.ReplaceControl.{replace_parts, replacing}
-use Rattle.shm_table.specs.ReplaceFits.{replace_plan}
-use Rattle.shm_table.specs.ReplaceLaws.{replace_laws}
+use Rattle.shm_table.specs.Replace.Control.{replace_parts, replacing}
+use Rattle.shm_table.specs.Replace.{replace_plan}
+use Rattle.shm_table.specs.Replace.Laws.{replace_laws}
 use Rattle.shm_table.proofs.changes.replace_begins.Goals as goal
 
 pub returns : goal.returns

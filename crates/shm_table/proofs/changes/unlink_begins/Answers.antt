@@ -1,8 +1,8 @@
 use Rattle.std.proofs.Common.{refl}
 use Rattle.shm_calls.specs.CallsKeep.{calls_begin}
-use Rattle.shm_table.specs.UnlinkControl.{unlink_parts, unlinking}
-use Rattle.shm_table.specs.UnlinkFits.{unlink_plan}
-use Rattle.shm_table.specs.UnlinkLaws.{unlink_laws}
+use Rattle.shm_table.specs.Unlink.Control.{unlink_parts, unlinking}
+use Rattle.shm_table.specs.Unlink.{unlink_plan}
+use Rattle.shm_table.specs.Unlink.Laws.{unlink_laws}
 use Rattle.shm_table.proofs.changes.unlink_begins.Goals as goal
 
 pub returns : goal.returns

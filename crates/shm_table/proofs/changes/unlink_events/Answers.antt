@@ -1,7 +1,7 @@
 use Rattle.shm_calls.specs.CallsKeep.{calls_tells}
-use Rattle.shm_table.specs.UnlinkControl.{unlink_parts}
-use Rattle.shm_table.specs.UnlinkFits.{unlink_plan}
-use Rattle.shm_table.specs.UnlinkLaws.{unlink_laws}
+use Rattle.shm_table.specs.Unlink.Control.{unlink_parts}
+use Rattle.shm_table.specs.Unlink.{unlink_plan}
+use Rattle.shm_table.specs.Unlink.Laws.{unlink_laws}
 use Rattle.shm_table.proofs.changes.unlink_events.Goals as goal
 
 pub returns : goal.returns

@@ -1,13 +1,13 @@
 use Rattle.shm_calls.specs.CallsKeep.{calls_tells}
-use Rattle.shm_table.specs.CopyControl.{copy_parts}
-use Rattle.shm_table.specs.CopyFits.{copy_plan}
-use Rattle.shm_table.specs.CopyLaws.{copy_laws}
-use Rattle.shm_table.specs.EnterLaws.{enter_laws}
-use Rattle.shm_table.specs.FetchLaws.{fetch_laws}
-use Rattle.shm_table.specs.LocateLaws.{locate_laws}
-use Rattle.shm_table.specs.OpenLaws.{open_laws}
-use Rattle.shm_table.specs.PutRootLaws.{put_root_laws}
-use Rattle.shm_table.specs.ReplaceLaws.{replace_laws}
+use Rattle.shm_table.specs.CopyKey.Control.{copy_parts}
+use Rattle.shm_table.specs.CopyKey.{copy_plan}
+use Rattle.shm_table.specs.CopyKey.Laws.{copy_laws}
+use Rattle.shm_table.specs.Enter.Laws.{enter_laws}
+use Rattle.shm_table.specs.Fetch.Laws.{fetch_laws}
+use Rattle.shm_table.specs.Locate.Laws.{locate_laws}
+use Rattle.shm_table.specs.OpenTable.Laws.{open_laws}
+use Rattle.shm_table.specs.PutRoot.Laws.{put_root_laws}
+use Rattle.shm_table.specs.Replace.Laws.{replace_laws}
 use Rattle.shm_table.proofs.copying.copy_events.Goals as goal
 
 pub returns : goal.returns

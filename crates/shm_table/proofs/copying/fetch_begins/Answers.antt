@@ -1,8 +1,8 @@
 use Rattle.std.proofs.Common.{refl}
 use Rattle.shm_calls.specs.CallsKeep.{calls_begin}
-use Rattle.shm_table.specs.FetchControl.{fetch_parts, fetching}
-use Rattle.shm_table.specs.FetchFits.{fetch_plan}
-use Rattle.shm_table.specs.FetchLaws.{fetch_begin, fetch_laws}
+use Rattle.shm_table.specs.Fetch.Control.{fetch_parts, fetching}
+use Rattle.shm_table.specs.Fetch.{fetch_plan}
+use Rattle.shm_table.specs.Fetch.Laws.{fetch_begin, fetch_laws}
 use Rattle.shm_table.proofs.copying.fetch_begins.Goals as goal
 
 pub returns : goal.returns

@@ -1,31 +1,31 @@
 use Rattle.std.proofs.Common.{refl}
 use Rattle.shm_calls.specs.CallsKeep.{calls_begin}
-use Rattle.shm_table.specs.CopyControl.{copy_parts, copying}
-use Rattle.shm_table.specs.CopyFits.{copy_plan}
-use Rattle.shm_table.specs.CopyLaws.{copy_begin, copy_laws}
-use Rattle.shm_table.specs.DelControl.{del_parts, deleting}
-use Rattle.shm_table.specs.DelFits.{del_plan}
-use Rattle.shm_table.specs.DelLaws.{del_begin, del_laws}
-use Rattle.shm_table.specs.EnterLaws.{enter_laws}
-use Rattle.shm_table.specs.FetchHeadLaws.{fetch_head_laws}
-use Rattle.shm_table.specs.FetchLaws.{fetch_laws}
-use Rattle.shm_table.specs.GetControl.{get_parts, getting}
-use Rattle.shm_table.specs.GetFits.{get_plan}
-use Rattle.shm_table.specs.GetLaws.{get_begin, get_laws}
-use Rattle.shm_table.specs.LocateLaws.{locate_laws}
-use Rattle.shm_table.specs.OpenLaws.{open_laws}
-use Rattle.shm_table.specs.PutControl.{put_parts, putting}
-use Rattle.shm_table.specs.PutFits.{put_plan}
-use Rattle.shm_table.specs.PutLaws.{put_laws}
-use Rattle.shm_table.specs.PutRootLaws.{put_root_laws}
-use Rattle.shm_table.specs.RecvControl.{receiving_key, recv_parts}
-use Rattle.shm_table.specs.RecvFits.{recv_plan}
-use Rattle.shm_table.specs.RecvLaws.{recv_begin, recv_laws}
-use Rattle.shm_table.specs.ReplaceLaws.{replace_laws}
-use Rattle.shm_table.specs.SendKeyControl.{send_key_parts, sending_key}
-use Rattle.shm_table.specs.SendKeyFits.{send_key_plan}
-use Rattle.shm_table.specs.SendKeyLaws.{send_key_begin, send_key_laws}
-use Rattle.shm_table.specs.TakeHeadLaws.{take_head_laws}
+use Rattle.shm_table.specs.CopyKey.Control.{copy_parts, copying}
+use Rattle.shm_table.specs.CopyKey.{copy_plan}
+use Rattle.shm_table.specs.CopyKey.Laws.{copy_begin, copy_laws}
+use Rattle.shm_table.specs.Del.Control.{del_parts, deleting}
+use Rattle.shm_table.specs.Del.{del_plan}
+use Rattle.shm_table.specs.Del.Laws.{del_begin, del_laws}
+use Rattle.shm_table.specs.Enter.Laws.{enter_laws}
+use Rattle.shm_table.specs.FetchHead.Laws.{fetch_head_laws}
+use Rattle.shm_table.specs.Fetch.Laws.{fetch_laws}
+use Rattle.shm_table.specs.Get.Control.{get_parts, getting}
+use Rattle.shm_table.specs.Get.{get_plan}
+use Rattle.shm_table.specs.Get.Laws.{get_begin, get_laws}
+use Rattle.shm_table.specs.Locate.Laws.{locate_laws}
+use Rattle.shm_table.specs.OpenTable.Laws.{open_laws}
+use Rattle.shm_table.specs.Put.Control.{put_parts, putting}
+use Rattle.shm_table.specs.Put.{put_plan}
+use Rattle.shm_table.specs.Put.Laws.{put_laws}
+use Rattle.shm_table.specs.PutRoot.Laws.{put_root_laws}
+use Rattle.shm_table.specs.RecvKey.Control.{receiving_key, recv_parts}
+use Rattle.shm_table.specs.RecvKey.{recv_plan}
+use Rattle.shm_table.specs.RecvKey.Laws.{recv_begin, recv_laws}
+use Rattle.shm_table.specs.Replace.Laws.{replace_laws}
+use Rattle.shm_table.specs.SendKey.Control.{send_key_parts, sending_key}
+use Rattle.shm_table.specs.SendKey.{send_key_plan}
+use Rattle.shm_table.specs.SendKey.Laws.{send_key_begin, send_key_laws}
+use Rattle.shm_table.specs.TakeHead.Laws.{take_head_laws}
 use Rattle.shm_table.proofs.effects.command_begins.Goals as goal
 
 pub returns-clause-put : goal.returns-clause-put

@@ -1,18 +1,18 @@
-use Rattle.shm_table.specs.CommandLaws.{command_tells}
-use Rattle.shm_table.specs.CopyLaws.{copy_laws}
-use Rattle.shm_table.specs.DelLaws.{del_laws}
-use Rattle.shm_table.specs.EnterLaws.{enter_laws}
-use Rattle.shm_table.specs.FetchHeadLaws.{fetch_head_laws}
-use Rattle.shm_table.specs.FetchLaws.{fetch_laws}
-use Rattle.shm_table.specs.GetLaws.{get_laws}
-use Rattle.shm_table.specs.LocateLaws.{locate_laws}
-use Rattle.shm_table.specs.OpenLaws.{open_laws}
-use Rattle.shm_table.specs.PutLaws.{put_laws}
-use Rattle.shm_table.specs.PutRootLaws.{put_root_laws}
-use Rattle.shm_table.specs.RecvLaws.{recv_laws}
-use Rattle.shm_table.specs.ReplaceLaws.{replace_laws}
-use Rattle.shm_table.specs.SendKeyLaws.{send_key_laws}
-use Rattle.shm_table.specs.TakeHeadLaws.{take_head_laws}
+use Rattle.shm_table.specs.Command.Laws.{command_tells}
+use Rattle.shm_table.specs.CopyKey.Laws.{copy_laws}
+use Rattle.shm_table.specs.Del.Laws.{del_laws}
+use Rattle.shm_table.specs.Enter.Laws.{enter_laws}
+use Rattle.shm_table.specs.FetchHead.Laws.{fetch_head_laws}
+use Rattle.shm_table.specs.Fetch.Laws.{fetch_laws}
+use Rattle.shm_table.specs.Get.Laws.{get_laws}
+use Rattle.shm_table.specs.Locate.Laws.{locate_laws}
+use Rattle.shm_table.specs.OpenTable.Laws.{open_laws}
+use Rattle.shm_table.specs.Put.Laws.{put_laws}
+use Rattle.shm_table.specs.PutRoot.Laws.{put_root_laws}
+use Rattle.shm_table.specs.RecvKey.Laws.{recv_laws}
+use Rattle.shm_table.specs.Replace.Laws.{replace_laws}
+use Rattle.shm_table.specs.SendKey.Laws.{send_key_laws}
+use Rattle.shm_table.specs.TakeHead.Laws.{take_head_laws}
 use Rattle.shm_table.proofs.effects.command_events.Goals as goal
 
 pub returns : goal.returns

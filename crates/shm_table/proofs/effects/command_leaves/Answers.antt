@@ -1,4 +1,4 @@
-use Rattle.shm_table.specs.CommandLaws.{copies_give, dels_give, gets_give, puts_give, recvs_give, sends_give}
+use Rattle.shm_table.specs.Command.Laws.{copies_give, dels_give, gets_give, puts_give, recvs_give, sends_give}
 use Rattle.shm_table.proofs.effects.command_leaves.Goals as goal
 
 pub returns-clause-put : goal.returns-clause-put

@@ -1,8 +1,8 @@
 use Rattle.std.proofs.Common.{refl}
 use Rattle.shm_calls.specs.CallsKeep.{calls_begin}
-use Rattle.shm_table.specs.EnterControl.{enter_parts, entering}
-use Rattle.shm_table.specs.EnterFits.{enter_plan}
-use Rattle.shm_table.specs.EnterLaws.{enter_laws}
+use Rattle.shm_table.specs.Enter.Control.{enter_parts, entering}
+use Rattle.shm_table.specs.Enter.{enter_plan}
+use Rattle.shm_table.specs.Enter.Laws.{enter_laws}
 use Rattle.shm_table.proofs.events.enter_begins.Goals as goal
 
 pub returns : goal.returns

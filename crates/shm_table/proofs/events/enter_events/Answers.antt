@@ -1,7 +1,7 @@
 use Rattle.shm_calls.specs.CallsKeep.{calls_tells}
-use Rattle.shm_table.specs.EnterControl.{enter_parts}
-use Rattle.shm_table.specs.EnterFits.{enter_plan}
-use Rattle.shm_table.specs.EnterLaws.{enter_laws}
+use Rattle.shm_table.specs.Enter.Control.{enter_parts}
+use Rattle.shm_table.specs.Enter.{enter_plan}
+use Rattle.shm_table.specs.Enter.Laws.{enter_laws}
 use Rattle.shm_table.proofs.events.enter_events.Goals as goal
 
 pub returns-clause-tells : goal.returns-clause-tells

@@ -1,9 +1,9 @@
 use Rattle.std.proofs.Common.{refl}
 use Rattle.shm_calls.specs.CallsKeep.{calls_begin}
 use Rattle.shm_calls.specs.Words.{word_control}
-use Rattle.shm_table.specs.FindControl.{finding}
-use Rattle.shm_table.specs.FindFits.{find_plan}
-use Rattle.shm_table.specs.FindLaws.{find_begin, find_laws}
+use Rattle.shm_table.specs.Find.Control.{finding}
+use Rattle.shm_table.specs.Find.{find_plan}
+use Rattle.shm_table.specs.Find.Laws.{find_begin, find_laws}
 use Rattle.shm_table.proofs.events.find_begins.Goals as goal
 
 pub returns : goal.returns

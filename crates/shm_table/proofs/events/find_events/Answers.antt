@@ -1,8 +1,8 @@
 use Rattle.shm_calls.specs.CallsKeep.{calls_tells}
 use Rattle.shm_calls.specs.Words.{word_control}
 use Rattle.shm_table.specs.declared.find.Found.TheVariants.{Absent, At}
-use Rattle.shm_table.specs.FindFits.{find_plan}
-use Rattle.shm_table.specs.FindLaws.{find_laws}
+use Rattle.shm_table.specs.Find.{find_plan}
+use Rattle.shm_table.specs.Find.Laws.{find_laws}
 use Rattle.shm_table.proofs.events.find_events.Goals as goal
 
 pub returns-clause-tells : goal.returns-clause-tells

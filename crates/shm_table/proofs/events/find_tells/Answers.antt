@@ -1,4 +1,4 @@
-use Rattle.shm_table.specs.FindTells.{absent_tells, found_tells, has_read}
+use Rattle.shm_table.specs.Find.Tells.{absent_tells, found_tells, has_read}
 use Rattle.shm_table.specs.Machines.{find_told}
 use Rattle.shm_table.proofs.events.find_tells.Goals as goal
 

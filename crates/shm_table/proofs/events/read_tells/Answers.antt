@@ -1,4 +1,4 @@
-use Rattle.shm_table.specs.FindTells.{author_has, author_maps, read_kept}
+use Rattle.shm_table.specs.Find.Tells.{author_has, author_maps, read_kept}
 use Rattle.shm_table.proofs.events.read_tells.Goals as goal
 
 pub returns : goal.returns

@@ -1,8 +1,8 @@
 use Rattle.std.proofs.Common.{refl}
 use Rattle.shm_calls.specs.CallsKeep.{calls_begin}
-use Rattle.shm_table.specs.OpenControl.{open_parts, opening}
-use Rattle.shm_table.specs.OpenFits.{open_plan}
-use Rattle.shm_table.specs.OpenLaws.{open_begin, open_laws}
+use Rattle.shm_table.specs.OpenTable.Control.{open_parts, opening}
+use Rattle.shm_table.specs.OpenTable.{open_plan}
+use Rattle.shm_table.specs.OpenTable.Laws.{open_begin, open_laws}
 use Rattle.shm_table.proofs.opening.open_table_begins.Goals as goal
 
 pub returns : goal.returns

@@ -1,7 +1,7 @@
 use Rattle.shm_calls.specs.CallsKeep.{calls_tells}
-use Rattle.shm_table.specs.OpenControl.{open_parts}
-use Rattle.shm_table.specs.OpenFits.{open_plan}
-use Rattle.shm_table.specs.OpenLaws.{open_laws}
+use Rattle.shm_table.specs.OpenTable.Control.{open_parts}
+use Rattle.shm_table.specs.OpenTable.{open_plan}
+use Rattle.shm_table.specs.OpenTable.Laws.{open_laws}
 use Rattle.shm_table.proofs.opening.open_table_events.Goals as goal
 
 pub returns : goal.returns

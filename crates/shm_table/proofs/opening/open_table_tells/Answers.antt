@@ -3,14 +3,14 @@ use Rattle.shm_graph.specs.declared.ask.Me.{Me}
 use Rattle.shm_graph.specs.declared.memo.Memo.{Memo}
 use Rattle.shm_graph.specs.Events.{Event}
 use Rattle.std.specs.Prelude.{List}
-use Rattle.shm_count.specs.TearEvents.{Visit}
+use Rattle.shm_count.specs.Tear.Events.{Visit}
 use Rattle.shm_alloc.specs.declared.alloc.AllocFault.{AllocFault}
 use Rattle.shm_alloc.specs.declared.alloc.AllocFault.TheVariants.{EraSpent, RootsFull, Full}
 use Rattle.shm_table.specs.declared.answer.PutFault.TheVariants.{CountFull}
 use Rattle.shm_table.specs.Answers.{made_fault}
-use Rattle.shm_table.specs.OpenFits.{OpenLeft}
-use Rattle.shm_table.specs.OpenFits.OpenLeft.{Undropped, Unmade, Unnamed}
-use Rattle.shm_table.specs.OpenMachine.{open_told}
+use Rattle.shm_table.specs.OpenTable.{OpenLeft}
+use Rattle.shm_table.specs.OpenTable.OpenLeft.{Undropped, Unmade, Unnamed}
+use Rattle.shm_table.specs.Machines.Open.{open_told}
 use Rattle.shm_table.proofs.opening.open_table_tells.Goals as goal
 
 -- no allocation is refused since a count is full

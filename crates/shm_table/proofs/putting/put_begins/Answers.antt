@@ -1,13 +1,13 @@
 use Rattle.std.proofs.Common.{refl}
 use Rattle.shm_calls.specs.CallsKeep.{calls_begin}
-use Rattle.shm_table.specs.PutControl.{put_parts, putting}
-use Rattle.shm_table.specs.PutFits.{put_plan}
-use Rattle.shm_table.specs.EnterLaws.{enter_laws}
-use Rattle.shm_table.specs.LocateLaws.{locate_laws}
-use Rattle.shm_table.specs.OpenLaws.{open_laws}
-use Rattle.shm_table.specs.PutLaws.{put_laws}
-use Rattle.shm_table.specs.PutRootLaws.{put_root_laws}
-use Rattle.shm_table.specs.ReplaceLaws.{replace_laws}
+use Rattle.shm_table.specs.Put.Control.{put_parts, putting}
+use Rattle.shm_table.specs.Put.{put_plan}
+use Rattle.shm_table.specs.Enter.Laws.{enter_laws}
+use Rattle.shm_table.specs.Locate.Laws.{locate_laws}
+use Rattle.shm_table.specs.OpenTable.Laws.{open_laws}
+use Rattle.shm_table.specs.Put.Laws.{put_laws}
+use Rattle.shm_table.specs.PutRoot.Laws.{put_root_laws}
+use Rattle.shm_table.specs.Replace.Laws.{replace_laws}
 use Rattle.shm_table.proofs.putting.put_begins.Goals as goal
 
 pub returns : goal.returns

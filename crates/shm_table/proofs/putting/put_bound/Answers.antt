@@ -1,5 +1,5 @@
-use Rattle.shm_table.specs.PutMachines.{put_told}
-use Rattle.shm_table.specs.PutBound.{put_short, put_within}
+use Rattle.shm_table.specs.Machines.Put.{put_told}
+use Rattle.shm_table.specs.Put.Bound.{put_short, put_within}
 use Rattle.shm_table.proofs.putting.put_bound.Goals as goal
 
 pub returns-clause-own : goal.returns-clause-own

@@ -1,5 +1,5 @@
-use Rattle.shm_table.specs.PutMachines.{put_root_told}
-use Rattle.shm_table.specs.PutRootBound.{put_root_short, put_root_within}
+use Rattle.shm_table.specs.Machines.Put.{put_root_told}
+use Rattle.shm_table.specs.PutRoot.Bound.{put_root_short, put_root_within}
 use Rattle.shm_table.proofs.putting.put_root_bound.Goals as goal
 
 pub returns-clause-own : goal.returns-clause-own

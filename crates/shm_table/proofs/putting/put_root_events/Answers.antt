@@ -1,11 +1,11 @@
 use Rattle.shm_calls.specs.CallsKeep.{calls_tells}
-use Rattle.shm_table.specs.PutRootControl.{put_root_parts}
-use Rattle.shm_table.specs.PutRootFits.{put_root_plan}
-use Rattle.shm_table.specs.EnterLaws.{enter_laws}
-use Rattle.shm_table.specs.LocateLaws.{locate_laws}
-use Rattle.shm_table.specs.OpenLaws.{open_laws}
-use Rattle.shm_table.specs.PutRootLaws.{put_root_laws}
-use Rattle.shm_table.specs.ReplaceLaws.{replace_laws}
+use Rattle.shm_table.specs.PutRoot.Control.{put_root_parts}
+use Rattle.shm_table.specs.PutRoot.{put_root_plan}
+use Rattle.shm_table.specs.Enter.Laws.{enter_laws}
+use Rattle.shm_table.specs.Locate.Laws.{locate_laws}
+use Rattle.shm_table.specs.OpenTable.Laws.{open_laws}
+use Rattle.shm_table.specs.PutRoot.Laws.{put_root_laws}
+use Rattle.shm_table.specs.Replace.Laws.{replace_laws}
 use Rattle.shm_table.proofs.putting.put_root_events.Goals as goal
 
 pub returns : goal.returns

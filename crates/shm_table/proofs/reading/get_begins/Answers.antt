@@ -1,8 +1,8 @@
 use Rattle.std.proofs.Common.{refl}
 use Rattle.shm_calls.specs.CallsKeep.{calls_begin}
-use Rattle.shm_table.specs.GetControl.{get_parts, getting}
-use Rattle.shm_table.specs.GetFits.{get_plan}
-use Rattle.shm_table.specs.GetLaws.{get_begin, get_laws}
+use Rattle.shm_table.specs.Get.Control.{get_parts, getting}
+use Rattle.shm_table.specs.Get.{get_plan}
+use Rattle.shm_table.specs.Get.Laws.{get_begin, get_laws}
 use Rattle.shm_table.proofs.reading.get_begins.Goals as goal
 
 pub returns : goal.returns

@@ -1,7 +1,7 @@
 use Rattle.std.proofs.Common.{arith}
 use Rattle.shm_script.specs.declared.log.Answer.TheVariants as answer
-use Rattle.shm_table.specs.GetBound.{found_within, missing_within}
-use Rattle.shm_table.specs.ReadMachines.{get_told}
+use Rattle.shm_table.specs.Get.Bound.{found_within, missing_within}
+use Rattle.shm_table.specs.Machines.Read.{get_told}
 use Rattle.shm_table.proofs.reading.get_bound.Goals as goal
 
 pub returns-clause-missing : goal.returns-clause-missing

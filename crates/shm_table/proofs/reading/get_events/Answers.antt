@@ -1,8 +1,8 @@
 use Rattle.shm_calls.specs.CallsKeep.{calls_tells}
 use Rattle.shm_script.specs.declared.log.Answer.TheVariants as answer
-use Rattle.shm_table.specs.GetControl.{get_parts}
-use Rattle.shm_table.specs.GetFits.{get_plan}
-use Rattle.shm_table.specs.GetLaws.{get_laws}
+use Rattle.shm_table.specs.Get.Control.{get_parts}
+use Rattle.shm_table.specs.Get.{get_plan}
+use Rattle.shm_table.specs.Get.Laws.{get_laws}
 use Rattle.shm_table.proofs.reading.get_events.Goals as goal
 
 pub returns-clause-tells : goal.returns-clause-tells

@@ -1,4 +1,4 @@
-use Rattle.shm_table.specs.GetTells.{ready_maps, ready_told}
+use Rattle.shm_table.specs.Get.Tells.{ready_maps, ready_told}
 use Rattle.shm_table.proofs.reading.get_tells.Goals as goal
 
 pub returns-clause-missing : goal.returns-clause-missing

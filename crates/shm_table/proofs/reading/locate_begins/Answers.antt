@@ -1,8 +1,8 @@
 use Rattle.std.proofs.Common.{refl}
 use Rattle.shm_calls.specs.CallsKeep.{calls_begin}
-use Rattle.shm_table.specs.LocateControl.{locate_parts, locating}
-use Rattle.shm_table.specs.LocateFits.{locate_plan}
-use Rattle.shm_table.specs.LocateLaws.{locate_begin, locate_laws}
+use Rattle.shm_table.specs.Locate.Control.{locate_parts, locating}
+use Rattle.shm_table.specs.Locate.{locate_plan}
+use Rattle.shm_table.specs.Locate.Laws.{locate_begin, locate_laws}
 use Rattle.shm_table.proofs.reading.locate_begins.Goals as goal
 
 pub returns : goal.returns

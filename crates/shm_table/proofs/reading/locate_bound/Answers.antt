@@ -1,5 +1,5 @@
-use Rattle.shm_table.specs.GetBound.{locate_within}
-use Rattle.shm_table.specs.ReadMachines.{locate_told}
+use Rattle.shm_table.specs.Get.Bound.{locate_within}
+use Rattle.shm_table.specs.Machines.Read.{locate_told}
 use Rattle.shm_table.proofs.reading.locate_bound.Goals as goal
 
 pub returns : goal.returns

@@ -1,7 +1,7 @@
 use Rattle.shm_calls.specs.CallsKeep.{calls_tells}
-use Rattle.shm_table.specs.LocateControl.{locate_parts}
-use Rattle.shm_table.specs.LocateFits.{locate_plan}
-use Rattle.shm_table.specs.LocateLaws.{locate_laws}
+use Rattle.shm_table.specs.Locate.Control.{locate_parts}
+use Rattle.shm_table.specs.Locate.{locate_plan}
+use Rattle.shm_table.specs.Locate.Laws.{locate_laws}
 use Rattle.shm_table.proofs.reading.locate_events.Goals as goal
 
 pub returns-clause-tells : goal.returns-clause-tells

@@ -1,5 +1,5 @@
-use Rattle.shm_table.specs.GetTells.{located_absent, located_found, located_read}
-use Rattle.shm_table.specs.ReadMachines.{locate_told}
+use Rattle.shm_table.specs.Get.Tells.{located_absent, located_found, located_read}
+use Rattle.shm_table.specs.Machines.Read.{locate_told}
 use Rattle.shm_table.proofs.reading.locate_tells.Goals as goal
 
 pub returns-clause-absent : goal.returns-clause-absent

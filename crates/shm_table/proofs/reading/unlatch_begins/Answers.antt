@@ -1,8 +1,8 @@
 use Rattle.std.proofs.Common.{refl}
 use Rattle.shm_calls.specs.CallsKeep.{calls_begin}
 use Rattle.shm_calls.specs.Words.{word_control}
-use Rattle.shm_table.specs.UnlatchFits.{unlatching, unlatch_plan}
-use Rattle.shm_table.specs.UnlatchLaws.{unlatch_begin, unlatch_laws}
+use Rattle.shm_table.specs.Unlatch.{unlatching, unlatch_plan}
+use Rattle.shm_table.specs.Unlatch.Laws.{unlatch_begin, unlatch_laws}
 use Rattle.shm_table.proofs.reading.unlatch_begins.Goals as goal
 
 pub returns : goal.returns

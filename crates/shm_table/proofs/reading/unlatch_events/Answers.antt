@@ -1,7 +1,7 @@
 use Rattle.shm_calls.specs.CallsKeep.{calls_tells}
 use Rattle.shm_calls.specs.Words.{word_control}
-use Rattle.shm_table.specs.UnlatchFits.{unlatch_plan}
-use Rattle.shm_table.specs.UnlatchLaws.{unlatch_laws}
+use Rattle.shm_table.specs.Unlatch.{unlatch_plan}
+use Rattle.shm_table.specs.Unlatch.Laws.{unlatch_laws}
 use Rattle.shm_table.proofs.reading.unlatch_events.Goals as goal
 
 pub returns-clause-tells : goal.returns-clause-tells

@@ -1,5 +1,5 @@
-use Rattle.shm_table.specs.RecvBound.{fetch_head_short}
-use Rattle.shm_table.specs.RecvMachines.{fetch_head_told}
+use Rattle.shm_table.specs.RecvKey.Bound.{fetch_head_short}
+use Rattle.shm_table.specs.Machines.Recv.{fetch_head_told}
 use Rattle.shm_table.proofs.receiving.fetch_head_bound.Goals as goal
 
 pub returns-clause-within : goal.returns-clause-within

@@ -1,5 +1,5 @@
-use Rattle.shm_table.specs.RecvBound.{recv_short, recv_within}
-use Rattle.shm_table.specs.RecvMachines.{recv_told}
+use Rattle.shm_table.specs.RecvKey.Bound.{recv_short, recv_within}
+use Rattle.shm_table.specs.Machines.Recv.{recv_told}
 use Rattle.shm_table.proofs.receiving.recv_bound.Goals as goal
 
 pub returns-clause-own : goal.returns-clause-own

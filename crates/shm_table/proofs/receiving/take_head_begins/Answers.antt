@@ -1,8 +1,8 @@
 use Rattle.std.proofs.Common.{refl}
 use Rattle.shm_calls.specs.CallsKeep.{calls_begin}
-use Rattle.shm_table.specs.TakeHeadControl.{take_head_parts, taking_head}
-use Rattle.shm_table.specs.TakeHeadFits.{take_head_plan}
-use Rattle.shm_table.specs.TakeHeadLaws.{take_head_begin, take_head_laws}
+use Rattle.shm_table.specs.TakeHead.Control.{take_head_parts, taking_head}
+use Rattle.shm_table.specs.TakeHead.{take_head_plan}
+use Rattle.shm_table.specs.TakeHead.Laws.{take_head_begin, take_head_laws}
 use Rattle.shm_table.proofs.receiving.take_head_begins.Goals as goal
 
 pub returns : goal.returns

@@ -1,5 +1,5 @@
-use Rattle.shm_table.specs.RecvBound.{take_head_short}
-use Rattle.shm_table.specs.RecvMachines.{take_head_told}
+use Rattle.shm_table.specs.RecvKey.Bound.{take_head_short}
+use Rattle.shm_table.specs.Machines.Recv.{take_head_told}
 use Rattle.shm_table.proofs.receiving.take_head_bound.Goals as goal
 
 pub returns-clause-within : goal.returns-clause-within

@@ -1,8 +1,8 @@
 use Rattle.std.proofs.Common.{refl}
 use Rattle.shm_calls.specs.CallsKeep.{calls_begin}
-use Rattle.shm_table.specs.SendKeyControl.{send_key_parts, sending_key}
-use Rattle.shm_table.specs.SendKeyFits.{send_key_plan}
-use Rattle.shm_table.specs.SendKeyLaws.{send_key_begin, send_key_laws}
+use Rattle.shm_table.specs.SendKey.Control.{send_key_parts, sending_key}
+use Rattle.shm_table.specs.SendKey.{send_key_plan}
+use Rattle.shm_table.specs.SendKey.Laws.{send_key_begin, send_key_laws}
 use Rattle.shm_table.proofs.sending.send_key_begins.Goals as goal
 
 pub returns : goal.returns

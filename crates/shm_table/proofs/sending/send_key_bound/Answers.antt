@@ -1,5 +1,5 @@
-use Rattle.shm_table.specs.SendKeyBound.{send_key_short, send_key_within}
-use Rattle.shm_table.specs.SendMachines.{send_key_told}
+use Rattle.shm_table.specs.SendKey.Bound.{send_key_short, send_key_within}
+use Rattle.shm_table.specs.Machines.Send.{send_key_told}
 use Rattle.shm_table.proofs.sending.send_key_bound.Goals as goal
 
 pub returns-clause-own : goal.returns-clause-own

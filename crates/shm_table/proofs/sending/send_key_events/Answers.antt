@@ -1,7 +1,7 @@
 use Rattle.shm_calls.specs.CallsKeep.{calls_tells}
-use Rattle.shm_table.specs.SendKeyControl.{send_key_parts}
-use Rattle.shm_table.specs.SendKeyFits.{send_key_plan}
-use Rattle.shm_table.specs.SendKeyLaws.{send_key_laws}
+use Rattle.shm_table.specs.SendKey.Control.{send_key_parts}
+use Rattle.shm_table.specs.SendKey.{send_key_plan}
+use Rattle.shm_table.specs.SendKey.Laws.{send_key_laws}
 use Rattle.shm_table.proofs.sending.send_key_events.Goals as goal
 
 pub returns : goal.returns

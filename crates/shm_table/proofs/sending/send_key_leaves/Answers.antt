@@ -1,6 +1,6 @@
 use Rattle.std.proofs.Common.{refl}
-use Rattle.shm_table.specs.SendKeySteps.{sent_joins}
-use Rattle.shm_table.specs.SendMachines.{send_key_told}
+use Rattle.shm_table.specs.SendKey.Steps.{sent_joins}
+use Rattle.shm_table.specs.Machines.Send.{send_key_told}
 use Rattle.shm_table.proofs.sending.send_key_leaves.Goals as goal
 
 pub returns-clause-missing : goal.returns-clause-missing

@@ -1,5 +1,5 @@
 use Rattle.std.proofs.Common.{sym}
-use Rattle.shm_alloc.specs.AllocKnowing.{knows_after}
+use Rattle.shm_alloc.specs.Alloc.Ranges.{knows_after}
 use Rattle.shm_alloc.proofs.alloc.AllocMachine.take.Goals as goal
 
 pub invariant_of-self : goal.invariant_of-self

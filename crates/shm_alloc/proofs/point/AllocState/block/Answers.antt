@@ -1,6 +1,6 @@
 use Rattle.std.proofs.Common.{arith, ◌≡◌, ◌+◌, ◌*◌}
 use Rattle.shm_words.proofs.Placing.{total_most}
-use Rattle.shm_alloc.specs.AllocControl.{block_of}
+use Rattle.shm_alloc.specs.Alloc.Control.{block_of}
 use Rattle.shm_alloc.specs.BlockPlaces.{block_of_within}
 use Rattle.shm_alloc.proofs.point.AllocState.block.Goals as goal
 

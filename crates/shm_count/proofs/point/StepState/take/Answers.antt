@@ -1,5 +1,5 @@
 use Rattle.std.proofs.Common.{sym}
-use Rattle.shm_count.specs.StepKnowing.{knows_after}
+use Rattle.shm_count.specs.Step.Ranges.{knows_after}
 use Rattle.shm_count.proofs.point.StepState.take.Goals as goal
 
 pub returns-in-Point-clause-knows : goal.returns-in-Point-clause-knows

@@ -1,5 +1,5 @@
 use Rattle.std.proofs.Common.{sym}
-use Rattle.shm_count.specs.TearKnowing.{knows_next}
+use Rattle.shm_count.specs.Tear.Ranges.{knows_next}
 use Rattle.shm_count.proofs.tear_point.TearState.take.Goals as goal
 
 pub returns-in-Go-clause-knows : goal.returns-in-Go-clause-knows

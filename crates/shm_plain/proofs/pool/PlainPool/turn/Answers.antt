@@ -9,7 +9,7 @@ use Rattle.shm_graph.specs.Whole.{fits_now, gives_now, Learns}
 use Rattle.shm_plain.specs.declared.track.Track.{Track}
 use Rattle.shm_plain.specs.Pools.{Pool, pool, memo_of, IsRun, IsOf, MayStep, readied, turn_on, turned}
 use Rattle.shm_plain.specs.Tracks.{noted, noted_at}
-use Rattle.shm_graph.proofs.Wholes.{whole_keeps, whole_inside}
+use Rattle.shm_graph.proofs.Machines.Wholes.{whole_keeps, whole_inside}
 use Rattle.shm_plain.proofs.Turning.{ready_run, within, turned_run, learned}
 use Rattle.shm_plain.proofs.pool.PlainPool.turn.Given.{Over}
 use Rattle.shm_plain.proofs.pool.PlainPool.turn.Goals.{After-ask-ask, After-note}

@@ -3,7 +3,7 @@ use Rattle.atomic_table.specs.Table.{Me as Mine}
 use Rattle.shm_graph.specs.declared.run.Start.{Start}
 use Rattle.shm_graph.specs.declared.run.Account.{Account}
 use Rattle.shm_pool.specs.Rules.{Rule, count_in}
-use Rattle.shm_pool.specs.Tokens.{Its, accounts_of, by_who, head_view, AllStill, IsEnd}
+use Rattle.shm_pool.specs.Tokens.{Its, accounts_of, by_who, head_view, AllStill, IsClosedRun}
 use Rattle.shm_pool.proofs.Ends.{ends}
 use Rattle.shm_pool.proofs.pool.SharedPool.finish.Goals as goal
 
@@ -17,4 +17,4 @@ invariant_of-result c = let e = c.close_with-last.ensures.values.2 in let g : St
     let end = ends g e.0.words e.0.views c.take_in-seat.result.id v rule e.1.1 still all in
     let words : e.0.words ≡ c.copy_words.new.words.items = e.2 ∙ sym c.copy_words.ensures in
     let kept : by_who 0 g.geometry.clients v ≡ head_view c.keep-badge.result.views = sym (ap head_view c.keep-badge.ensures ∙ ap (λ (n : ℕ). by_who 0 n v) c.clients.ensures) in
-    subst (λ (ws : List ℕ). IsEnd g ws (head_view c.keep-badge.result.views)) words (subst (λ (rs : List Account). IsEnd g e.0.words rs) kept end)
+    subst (λ (ws : List ℕ). IsClosedRun g ws (head_view c.keep-badge.result.views)) words (subst (λ (rs : List Account). IsClosedRun g e.0.words rs) kept end)

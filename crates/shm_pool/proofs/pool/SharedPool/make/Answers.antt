@@ -5,7 +5,7 @@ use Rattle.shm_graph.specs.declared.run.Account.{Account}
 use Rattle.shm_graph.specs.declared.run.Start.{Start}
 use Rattle.shm_graph.specs.Agents.{acts}
 use Rattle.shm_graph.specs.Runs.{first_words, first_word, first_account, accounts_from, Stood}
-use Rattle.shm_graph.proofs.FirstHeld.{length-words_from}
+use Rattle.shm_graph.proofs.States.FirstHeld.{length-words_from}
 use Rattle.shm_pool.specs.Rules.{Rule, head_account}
 use Rattle.shm_pool.specs.Tokens.{Its, its, token_of, token_first, first_tokens, AllOf}
 use Rattle.shm_pool.proofs.Opening.{opens, cut_as, first_cut, first_stood, first_tokens_more}

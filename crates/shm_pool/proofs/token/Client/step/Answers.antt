@@ -6,10 +6,10 @@ use Rattle.shm_graph.specs.declared.run.Account.{Account}
 use Rattle.shm_graph.specs.declared.run.Start.{Start}
 use Rattle.shm_graph.specs.Agents.{acts, recovers}
 use Rattle.shm_graph.specs.Whole.{fits_now, gives_now}
-use Rattle.shm_graph.proofs.Composing.{some_of}
+use Rattle.shm_graph.proofs.Machines.Composing.{some_of}
 use Rattle.shm_pool.specs.Rules.{alone}
 use Rattle.shm_pool.specs.Tokens.{Acting, Its}
-use Rattle.shm_pool.specs.Calls.{Stepped}
+use Rattle.shm_pool.specs.Calls.{ClientStepped}
 use Rattle.shm_pool.proofs.Calling.{is_over, acts_stay}
 use Rattle.shm_pool.proofs.token.Client.step.Goals as goal
 use Rattle.shm_graph.specs.Runs.{Stood}
@@ -37,10 +37,10 @@ pub returns-in-More-clause-turn : goal.returns-in-More-clause-turn
 returns-in-More-clause-turn g c = λ lt alive.
     let k = c.in-More.ensures.turn lt in
     let M = g.M.Machine in
-    (k.0, c.if-self.false, subst (λ (e : Account). Stepped M.control (fits_now M.control M.fits) (gives_now M.gives) c.args.m.now e (alone c.step_place.new.place) More c.step_place.new.m) (ap (λ (t : Acting). t.account) c.self.view_is) k.1)
+    (k.0, c.if-self.false, subst (λ (e : Account). ClientStepped M.control (fits_now M.control M.fits) (gives_now M.gives) c.args.m.now e (alone c.step_place.new.place) More c.step_place.new.m) (ap (λ (t : Acting). t.account) c.self.view_is) k.1)
 
 pub returns-in-Done-clause-turn : goal.returns-in-Done-clause-turn
 returns-in-Done-clause-turn g c = λ lt alive.
     let k = c.in-Done.ensures.turn lt in
     let M = g.M.Machine in
-    (k.0, c.if-self.false, subst (λ (e : Account). Stepped M.control (fits_now M.control M.fits) (gives_now M.gives) c.args.m.now e (alone c.step_place.new.place) (Done c.in-Done.answer) c.step_place.new.m) (ap (λ (t : Acting). t.account) c.self.view_is) k.1)
+    (k.0, c.if-self.false, subst (λ (e : Account). ClientStepped M.control (fits_now M.control M.fits) (gives_now M.gives) c.args.m.now e (alone c.step_place.new.place) (Done c.in-Done.answer) c.step_place.new.m) (ap (λ (t : Acting). t.account) c.self.view_is) k.1)

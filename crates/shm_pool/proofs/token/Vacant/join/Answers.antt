@@ -7,10 +7,10 @@ use Rattle.shm_graph.specs.declared.run.Start.{Start}
 use Rattle.shm_graph.specs.Agents.{acts, is_gone, recovers}
 use Rattle.shm_graph.specs.Asks.{call_before}
 use Rattle.shm_graph.specs.Runs.{account_entered}
-use Rattle.shm_graph.proofs.MemoSteps.{acts-entered, recovers-entered}
+use Rattle.shm_graph.proofs.Memos.MemoSteps.{acts-entered, recovers-entered}
 use Rattle.shm_recover.specs.declared.join.JoinState.{JoinState}
-use Rattle.shm_recover.specs.Joining.{IsMember, JoinFits, is_over, is_start, join_fresh}
-use Rattle.shm_recover.specs.JoinKeeps.{join_begins}
+use Rattle.shm_recover.specs.Join.{IsMember, JoinFits, is_over, is_start, join_fresh}
+use Rattle.shm_recover.specs.Join.Keeps.{join_begins}
 use Rattle.shm_pool.specs.Rules.{alone}
 use Rattle.shm_pool.proofs.Calling.{acts_stay}
 use Rattle.shm_pool.specs.Tokens.{Its, Token}

@@ -2,8 +2,8 @@ use Rattle.std.proofs.Common.{◌≡◌, refl, subst}
 use Rattle.std.specs.Option.{option_map}
 use Rattle.shm_graph.specs.declared.ask.Turn.TheVariants.{Done, More, Died}
 use Rattle.shm_graph.specs.Laws.{turn_of}
-use Rattle.shm_table.specs.CommandControl.{CommandCall, command_parts, given}
-use Rattle.shm_table.specs.CommandLaws.{told_done, told_more, told_died}
+use Rattle.shm_table.specs.Command.{CommandCall, command_parts, given}
+use Rattle.shm_table.specs.Command.Laws.{told_done, told_more, told_died}
 use Rattle.shm_table.proofs.command.CommandMachine.take.Goals as goal
 use Rattle.shm_table.proofs.command.CommandMachine.take.Goals.{in-Done, in-More, in-Died}
 

@@ -1,10 +1,10 @@
 use Rattle.std.proofs.Common.{◌≡◌, ℕ, ◌+◌, ◌<◌, ◌≤◌, ap, ◌∙◌, sym, subst, length, arith}
 use Rattle.shm_words.specs.Classes.{class_for}
 use Rattle.shm_words.proofs.Classing.{class_room}
-use Rattle.shm_plain.specs.Cells.{Shows, cell_at}
-use Rattle.shm_plain.specs.Steps.{IsNext, claimed, prepared, begun, block_at}
-use Rattle.shm_plain.proofs.Nexts.{block_below}
-use Rattle.shm_plain.proofs.Celling.{shown, shown_era, claimed_at}
+use Rattle.shm_plain.specs.OneClient.Cells.{Shows, cell_at}
+use Rattle.shm_plain.specs.OneClient.Steps.{IsNext, claimed, prepared, begun, block_at}
+use Rattle.shm_plain.proofs.OneClient.Nexts.{block_below}
+use Rattle.shm_plain.proofs.OneClient.Celling.{shown, shown_era, claimed_at}
 use Rattle.shm_plain.proofs.first.pool.FirstPool.alloc.Goals as goal
 
 pub returns-clause-shows : goal.returns-clause-shows

@@ -1,7 +1,7 @@
 use Rattle.std.proofs.Common.{ap, ◌∙◌, subst}
-use Rattle.shm_plain.specs.Cells.{Cell, Shows, upd, cell_at, live_header, Era, Root}
+use Rattle.shm_plain.specs.OneClient.Cells.{Cell, Shows, upd, cell_at, live_header, Era, Root}
 use Rattle.std.proofs.Common.{ℕ, ◌+◌}
-use Rattle.shm_plain.proofs.CellAt.{cell_root}
+use Rattle.shm_plain.proofs.OneClient.CellAt.{cell_root}
 use Rattle.shm_plain.proofs.first.pool.FirstPool.begin.Goals as goal
 
 pub returns : goal.returns

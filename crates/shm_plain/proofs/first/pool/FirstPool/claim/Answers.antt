@@ -1,7 +1,7 @@
 use Rattle.std.proofs.Common.{◌≡◌, ℕ, ap, ◌∙◌, subst, inl, inr, get_or}
-use Rattle.shm_plain.specs.Cells.{Cell, Shows, upd, cell_at, Segment}
-use Rattle.shm_plain.proofs.CellAt.{cell_segment}
-use Rattle.shm_plain.proofs.Celling.{shows_put, shown_segment}
+use Rattle.shm_plain.specs.OneClient.Cells.{Cell, Shows, upd, cell_at, Segment}
+use Rattle.shm_plain.proofs.OneClient.CellAt.{cell_segment}
+use Rattle.shm_plain.proofs.OneClient.Celling.{shows_put, shown_segment}
 use Rattle.shm_plain.proofs.first.pool.FirstPool.claim.Goals as goal
 
 pub returns-then-load-eq0-clause-shows : goal.returns-then-load-eq0-clause-shows

@@ -1,6 +1,6 @@
 use Rattle.std.proofs.Common.{◌≢◌, ◌+◌, ◌∙◌, arith, ap, ℕ, get_or, get_or-set_other, subst, List, sym}
-use Rattle.shm_plain.specs.Cells.{Shows}
-use Rattle.shm_plain.proofs.Celling.{shows_kept}
+use Rattle.shm_plain.specs.OneClient.Cells.{Shows}
+use Rattle.shm_plain.proofs.OneClient.Celling.{shows_kept}
 use Rattle.shm_plain.proofs.first.pool.FirstPool.clear.Goals as goal
 
 pub loop-i-preserved : goal.loop-i-preserved

@@ -1,5 +1,5 @@
 use Rattle.std.proofs.Common.{◌≡◌, ℕ, ◌+◌, ◌<◌, slice_index}
-use Rattle.shm_plain.specs.Cells.{Cell, Shows, cell_at}
+use Rattle.shm_plain.specs.OneClient.Cells.{Cell, Shows, cell_at}
 use Rattle.shm_plain.proofs.first.pool.FirstPool.clear.Given as goal
 
 abbrev pub invariant-loop-i : goal.invariant-loop-i

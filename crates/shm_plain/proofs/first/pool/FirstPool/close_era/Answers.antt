@@ -1,6 +1,6 @@
 use Rattle.std.proofs.Common.{◌+◌, ap, ◌∙◌, subst}
-use Rattle.shm_plain.specs.Cells.{Shows, upd, cell_at}
-use Rattle.shm_plain.proofs.CellAt.{cell_era}
+use Rattle.shm_plain.specs.OneClient.Cells.{Shows, upd, cell_at}
+use Rattle.shm_plain.proofs.OneClient.CellAt.{cell_era}
 use Rattle.shm_plain.proofs.first.pool.FirstPool.close_era.Goals as goal
 
 pub returns : goal.returns

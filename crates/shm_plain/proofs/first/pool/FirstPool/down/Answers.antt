@@ -1,8 +1,8 @@
 use Rattle.std.proofs.Common.{◌≡◌, ℕ, ◌+◌, ◌-◌, ap, ◌∙◌, subst}
 use Rattle.shm_words.specs.declared.header.Header.{Header}
 use Rattle.shm_words.specs.Headers.{header_of}
-use Rattle.shm_plain.specs.Cells.{Shows, upd, cell_at, live_header, Era}
-use Rattle.shm_plain.proofs.Celling.{shown, shown_era}
+use Rattle.shm_plain.specs.OneClient.Cells.{Shows, upd, cell_at, live_header, Era}
+use Rattle.shm_plain.proofs.OneClient.Celling.{shown, shown_era}
 use Rattle.shm_plain.proofs.first.pool.FirstPool.down.Goals as goal
 
 pub returns : goal.returns

@@ -1,8 +1,8 @@
 use Rattle.std.proofs.Common.{◌≡◌, ℕ, ap, ◌∙◌, subst, sym, get_or}
 use Rattle.shm_words.specs.Headers.{header_of}
-use Rattle.shm_plain.specs.Cells.{Root, Shows, cell_at}
-use Rattle.shm_plain.specs.Steps.{lowered}
-use Rattle.shm_plain.proofs.Celling.{shown_root}
+use Rattle.shm_plain.specs.OneClient.Cells.{Root, Shows, cell_at}
+use Rattle.shm_plain.specs.OneClient.Steps.{lowered}
+use Rattle.shm_plain.proofs.OneClient.Celling.{shown_root}
 use Rattle.shm_plain.proofs.first.pool.FirstPool.drop_root.Goals as goal
 
 pub returns-then-block-ne0-clause-shows : goal.returns-then-block-ne0-clause-shows

@@ -1,5 +1,5 @@
 use Rattle.std.proofs.Common.{subst}
-use Rattle.shm_plain.specs.Cells.{Shows, upd, cell_at}
+use Rattle.shm_plain.specs.OneClient.Cells.{Shows, upd, cell_at}
 use Rattle.shm_plain.proofs.first.pool.FirstPool.exchange_count.Goals as goal
 
 pub returns : goal.returns

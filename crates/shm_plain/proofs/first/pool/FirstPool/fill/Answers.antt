@@ -1,8 +1,8 @@
 use Rattle.std.proofs.Common.{◌≡◌, ◌≢◌, ◌+◌, ◌∙◌, arith, ap, ℕ, get_or, get_or-set_other, subst, List, [], ◌∷◌, ◌++◌, sym, take}
 use Rattle.std.proofs.lemmas.List.{take_more, take_all, length-take-le}
-use Rattle.shm_plain.specs.Cells.{Shows, upd, cell_at}
-use Rattle.shm_plain.specs.Steps.{stored_from}
-use Rattle.shm_plain.proofs.Celling.{stored_from-push}
+use Rattle.shm_plain.specs.OneClient.Cells.{Shows, upd, cell_at}
+use Rattle.shm_plain.specs.OneClient.Steps.{stored_from}
+use Rattle.shm_plain.proofs.OneClient.Celling.{stored_from-push}
 use Rattle.shm_plain.proofs.first.pool.FirstPool.fill.Goals as goal
 
 pub loop-i-preserved : goal.loop-i-preserved

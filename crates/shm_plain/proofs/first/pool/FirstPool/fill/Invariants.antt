@@ -1,6 +1,6 @@
 use Rattle.std.proofs.Common.{◌≡◌, ℕ, ◌<◌, slice_index, take}
-use Rattle.shm_plain.specs.Cells.{Cell, Shows}
-use Rattle.shm_plain.specs.Steps.{stored_from}
+use Rattle.shm_plain.specs.OneClient.Cells.{Cell, Shows}
+use Rattle.shm_plain.specs.OneClient.Steps.{stored_from}
 use Rattle.shm_plain.proofs.first.pool.FirstPool.fill.Given as goal
 
 abbrev pub invariant-loop-i : goal.invariant-loop-i

@@ -1,7 +1,7 @@
 use Rattle.std.proofs.Common.{◌≡◌, ℕ, ap, ◌∙◌, sym, subst, get_or, List, refl, inl, inr, ◌⊎◌}
-use Rattle.shm_plain.specs.Cells.{Shows, upd, Segment, Page}
-use Rattle.shm_plain.proofs.Celling.{shown_segment}
-use Rattle.shm_plain.proofs.Nexts.{next_page}
+use Rattle.shm_plain.specs.OneClient.Cells.{Shows, upd, Segment, Page}
+use Rattle.shm_plain.proofs.OneClient.Celling.{shown_segment}
+use Rattle.shm_plain.proofs.OneClient.Nexts.{next_page}
 use Rattle.shm_plain.proofs.first.pool.FirstPool.find_block.Goals as goal
 
 pub returns-then-is_some-clause-shows : goal.returns-then-is_some-clause-shows

@@ -1,5 +1,5 @@
 use Rattle.std.proofs.Common.{◌≡◌, ℕ, ◌≤◌}
-use Rattle.shm_plain.specs.Steps.{IsNext}
+use Rattle.shm_plain.specs.OneClient.Steps.{IsNext}
 use Rattle.shm_plain.proofs.first.pool.FirstPool.find_block.Given as goal
 
 abbrev pub invariant-loop-page : goal.invariant-loop-page

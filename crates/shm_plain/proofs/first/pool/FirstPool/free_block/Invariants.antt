@@ -1,5 +1,5 @@
 use Rattle.std.proofs.Common.{◌≢◌, ℕ, ◌<◌, slice_index}
-use Rattle.shm_plain.specs.Steps.{block_at}
+use Rattle.shm_plain.specs.OneClient.Steps.{block_at}
 use Rattle.shm_plain.proofs.first.pool.FirstPool.free_block.Given as goal
 
 abbrev pub invariant-loop-i : goal.invariant-loop-i

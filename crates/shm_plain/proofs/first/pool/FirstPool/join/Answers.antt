@@ -1,6 +1,6 @@
 use Rattle.std.proofs.Common.{ap, ◌∙◌, subst}
-use Rattle.shm_plain.specs.Cells.{Cell, Shows, upd, cell_at}
-use Rattle.shm_plain.proofs.CellAt.{cell_status}
+use Rattle.shm_plain.specs.OneClient.Cells.{Cell, Shows, upd, cell_at}
+use Rattle.shm_plain.proofs.OneClient.CellAt.{cell_status}
 use Rattle.shm_plain.proofs.first.pool.FirstPool.join.Goals as goal
 
 pub returns : goal.returns

@@ -1,7 +1,7 @@
 use Rattle.std.proofs.Common.{ℕ, arith, ap, ◌∙◌, get_or}
-use Rattle.shm_plain.specs.Stages.{housed}
-use Rattle.shm_plain.proofs.Celling.{shown_latch}
-use Rattle.shm_plain.proofs.Linking.{shows_held, shows_latched, home_is, bucket_empty}
+use Rattle.shm_plain.specs.OneClient.Stages.{housed}
+use Rattle.shm_plain.proofs.OneClient.Celling.{shown_latch}
+use Rattle.shm_plain.proofs.OneClient.Linking.{shows_held, shows_latched, home_is, bucket_empty}
 use Rattle.shm_plain.proofs.first.pool.FirstPool.latch_bucket.Goals as goal
 
 pub exchange-requires-clause-seen : goal.exchange-requires-clause-seen

@@ -1,8 +1,8 @@
 use Rattle.std.proofs.Common.{refl, ◌≡◌, ℕ, List, ap, ◌∙◌, subst, sym, get_or, ◌+◌, inl, inr}
 use Rattle.shm_plain.specs.declared.first.pool.FirstPool.{FirstPool}
-use Rattle.shm_plain.specs.Cells.{Cell, Segment, Shows, upd, cell_at}
-use Rattle.shm_plain.proofs.CellAt.{cell_status, cell_segment}
-use Rattle.shm_plain.proofs.Celling.{shows_put, shown_segment}
+use Rattle.shm_plain.specs.OneClient.Cells.{Cell, Segment, Shows, upd, cell_at}
+use Rattle.shm_plain.proofs.OneClient.CellAt.{cell_status, cell_segment}
+use Rattle.shm_plain.proofs.OneClient.Celling.{shows_put, shown_segment}
 use Rattle.shm_plain.proofs.first.pool.FirstPool.leave.Goals as goal
 use Rattle.shm_plain.proofs.first.pool.FirstPool.leave.Goals.{then-load-eq1, else-load-eq1}
 

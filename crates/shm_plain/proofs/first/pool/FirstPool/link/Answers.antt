@@ -1,13 +1,13 @@
 use Rattle.std.proofs.Common.{◌≡◌, ℕ, ◌+◌, ◌*◌, ◌<◌, arith, ap, ◌∙◌, sym, subst, get_or}
 use Rattle.shm_words.specs.Headers.{header_of}
 use Rattle.shm_plain.specs.declared.first.blocks.Made.{Made}
-use Rattle.shm_plain.specs.Puts.{bucket_of}
-use Rattle.shm_plain.specs.Cells.{put_at}
-use Rattle.shm_plain.specs.Steps.{IsDroppable}
-use Rattle.shm_plain.specs.Stages.{entered}
-use Rattle.shm_plain.proofs.Celling.{shown_era}
-use Rattle.shm_plain.proofs.Alive.{raises_as, drops_as}
-use Rattle.shm_plain.proofs.Linking.{valuing, hanging, shows_valuing, shows_hanging, shows_linked, entered_count, valuing_count, hanging_droppable}
+use Rattle.shm_plain.specs.OneClient.Puts.{bucket_of}
+use Rattle.shm_plain.specs.OneClient.Cells.{put_at}
+use Rattle.shm_plain.specs.OneClient.Steps.{IsDroppable}
+use Rattle.shm_plain.specs.OneClient.Stages.{entered}
+use Rattle.shm_plain.proofs.OneClient.Celling.{shown_era}
+use Rattle.shm_plain.proofs.OneClient.Alive.{raises_as, drops_as}
+use Rattle.shm_plain.proofs.OneClient.Linking.{valuing, hanging, shows_valuing, shows_hanging, shows_linked, entered_count, valuing_count, hanging_droppable}
 use Rattle.shm_plain.proofs.first.pool.FirstPool.link.Goals as goal
 
 pub up-requires-clause-era : goal.up-requires-clause-era

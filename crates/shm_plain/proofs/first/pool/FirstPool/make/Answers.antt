@@ -1,6 +1,6 @@
 use Rattle.std.proofs.Common.{◌∙◌, subst}
-use Rattle.shm_plain.specs.Cells.{Shows, upd, cell_at}
-use Rattle.shm_plain.proofs.Celling.{shows_zeros, shows_fresh, total_one}
+use Rattle.shm_plain.specs.OneClient.Cells.{Shows, upd, cell_at}
+use Rattle.shm_plain.proofs.OneClient.Celling.{shows_zeros, shows_fresh, total_one}
 use Rattle.shm_plain.proofs.first.pool.FirstPool.make.Goals as goal
 
 pub returns : goal.returns

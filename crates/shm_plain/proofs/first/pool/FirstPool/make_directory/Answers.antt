@@ -1,12 +1,12 @@
 use Rattle.std.proofs.Common.{◌≡◌, ℕ, arith, ap, ◌∙◌, sym, refl, subst, get_or}
 use Rattle.shm_words.specs.Headers.{header_of}
 use Rattle.shm_plain.specs.declared.first.blocks.Made.{Made}
-use Rattle.shm_plain.specs.Cells.{Shows}
-use Rattle.shm_plain.specs.Steps.{IsDroppable}
-use Rattle.shm_plain.specs.Stages.{valued, housed}
-use Rattle.shm_plain.proofs.Celling.{shown_era}
-use Rattle.shm_plain.proofs.Alive.{raises_as, drops_as}
-use Rattle.shm_plain.proofs.Housing.{house_next, house_root, built, shows_built, shows_named, shows_housed, first_put, first_words, later_words, built_count, named_droppable}
+use Rattle.shm_plain.specs.OneClient.Cells.{Shows}
+use Rattle.shm_plain.specs.OneClient.Steps.{IsDroppable}
+use Rattle.shm_plain.specs.OneClient.Stages.{valued, housed}
+use Rattle.shm_plain.proofs.OneClient.Celling.{shown_era}
+use Rattle.shm_plain.proofs.OneClient.Alive.{raises_as, drops_as}
+use Rattle.shm_plain.proofs.OneClient.Housing.{house_next, house_root, built, shows_built, shows_named, shows_housed, first_put, first_words, later_words, built_count, named_droppable}
 use Rattle.shm_plain.proofs.first.pool.FirstPool.make_directory.Goals as goal
 
 pub alloc-requires-clause-era : goal.alloc-requires-clause-era

@@ -1,9 +1,9 @@
 use Rattle.std.proofs.Common.{ℕ, ◌+◌, ◌*◌, ◌<◌, arith, refl, subst, [], ◌∷◌}
-use Rattle.shm_plain.specs.Cells.{Shows}
-use Rattle.shm_plain.specs.Steps.{allocated}
-use Rattle.shm_plain.specs.Stages.{latched}
-use Rattle.shm_plain.proofs.Celling.{shown_era}
-use Rattle.shm_plain.proofs.Linking.{entry_next, entry_root, shows_entered}
+use Rattle.shm_plain.specs.OneClient.Cells.{Shows}
+use Rattle.shm_plain.specs.OneClient.Steps.{allocated}
+use Rattle.shm_plain.specs.OneClient.Stages.{latched}
+use Rattle.shm_plain.proofs.OneClient.Celling.{shown_era}
+use Rattle.shm_plain.proofs.OneClient.Linking.{entry_next, entry_root, shows_entered}
 use Rattle.shm_plain.proofs.first.pool.FirstPool.make_entry.Goals as goal
 
 pub alloc-requires-clause-era : goal.alloc-requires-clause-era

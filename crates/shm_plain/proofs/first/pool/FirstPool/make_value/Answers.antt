@@ -1,8 +1,8 @@
 use Rattle.std.proofs.Common.{◌≡◌, ◌+◌, ◌*◌, ◌<◌, arith, ap, refl}
 use Rattle.shm_plain.specs.declared.first.blocks.Made.{Made}
-use Rattle.shm_plain.specs.Cells.{Era, after, values}
-use Rattle.shm_plain.proofs.Celling.{shown_era}
-use Rattle.shm_plain.proofs.Making.{value_next, value_root, shows_valued, era_low}
+use Rattle.shm_plain.specs.OneClient.Cells.{Era, after, values}
+use Rattle.shm_plain.proofs.OneClient.Celling.{shown_era}
+use Rattle.shm_plain.proofs.OneClient.Making.{value_next, value_root, shows_valued, era_low}
 use Rattle.shm_plain.proofs.first.pool.FirstPool.make_value.Goals as goal
 
 pub alloc-requires-clause-era : goal.alloc-requires-clause-era

@@ -1,8 +1,8 @@
 use Rattle.std.proofs.Common.{◌≡◌, ℕ, ap, ◌∙◌, sym, subst, get_or}
 use Rattle.std.proofs.lemmas.Bool.{eqb-true}
-use Rattle.shm_plain.specs.Cells.{Cell, Shows, upd, cell_at, Page}
-use Rattle.shm_plain.proofs.CellAt.{cell_page}
-use Rattle.shm_plain.proofs.Celling.{shows_put, shown_page}
+use Rattle.shm_plain.specs.OneClient.Cells.{Cell, Shows, upd, cell_at, Page}
+use Rattle.shm_plain.proofs.OneClient.CellAt.{cell_page}
+use Rattle.shm_plain.proofs.OneClient.Celling.{shows_put, shown_page}
 use Rattle.shm_plain.proofs.first.pool.FirstPool.offer_page.Goals as goal
 
 pub returns-then-found-eq0-clause-shows : goal.returns-then-found-eq0-clause-shows

@@ -1,7 +1,7 @@
 use Rattle.std.proofs.Common.{◌≢◌, ◌+◌, ◌∙◌, ◌<◌, arith, ℕ, subst, length}
-use Rattle.shm_plain.specs.Cells.{Shows, upd, cell_at, own_tag}
-use Rattle.shm_plain.specs.Steps.{stored_from}
-use Rattle.shm_plain.proofs.Celling.{upd_other}
+use Rattle.shm_plain.specs.OneClient.Cells.{Shows, upd, cell_at, own_tag}
+use Rattle.shm_plain.specs.OneClient.Steps.{stored_from}
+use Rattle.shm_plain.proofs.OneClient.Celling.{upd_other}
 use Rattle.shm_plain.proofs.first.pool.FirstPool.prepare.Goals as goal
 
 pub returns-clause-shows : goal.returns-clause-shows

@@ -1,5 +1,5 @@
 use Rattle.std.proofs.Common.{◌<◌, arith}
-use Rattle.shm_plain.proofs.Linking.{linked_droppable, shows_after}
+use Rattle.shm_plain.proofs.OneClient.Linking.{linked_droppable, shows_after}
 use Rattle.shm_plain.proofs.first.pool.FirstPool.put.Goals as goal
 
 pub drop_root-requires-clause-block : goal.drop_root-requires-clause-block

@@ -1,4 +1,4 @@
-use Rattle.shm_plain.proofs.Celling.{shows_store}
+use Rattle.shm_plain.proofs.OneClient.Celling.{shows_store}
 use Rattle.shm_plain.proofs.first.pool.FirstPool.store.Goals as goal
 
 pub returns-clause-shows : goal.returns-clause-shows

@@ -1,7 +1,7 @@
 use Rattle.std.proofs.Common.{◌≡◌, ℕ, List, ap, ◌∙◌, subst, sym, set}
-use Rattle.shm_plain.specs.Cells.{Cell, Latch, Shows, upd, cell_at}
-use Rattle.shm_plain.proofs.CellAt.{cell_latch}
-use Rattle.shm_plain.proofs.Celling.{shows_hold}
+use Rattle.shm_plain.specs.OneClient.Cells.{Cell, Latch, Shows, upd, cell_at}
+use Rattle.shm_plain.proofs.OneClient.CellAt.{cell_latch}
+use Rattle.shm_plain.proofs.OneClient.Celling.{shows_hold}
 use Rattle.shm_plain.proofs.first.pool.FirstPool.unlatch.Goals as goal
 
 pub returns : goal.returns

@@ -1,0 +1,31 @@
+-- what is said where a reference word of an own block wasn't set
+use Rattle.std.specs.Prelude.{◌≡◌, ◌≢◌, ℕ, ◌^◌, ◌-◌, ◌<◌, ◌≤◌, false, true, Some}
+use Rattle.shm_words.specs.Tags.{tag_author, tag_refs}
+use Rattle.shm_graph.specs.declared.memo.Memo.{Memo}
+use Rattle.shm_graph.specs.declared.spot.Spot.TheVariants.{Tag}
+use Rattle.shm_graph.specs.Agents.{recovers}
+use Rattle.shm_graph.specs.Held.{is_loose}
+use Rattle.shm_graph.specs.Reach.{is_reached}
+use Rattle.shm_plain.specs.Calls.{IsAtWork}
+use Rattle.shm_plain.specs.Pools.{Pool, memo_of}
+use Rattle.shm_count.specs.Tear.Memos.{Knows}
+use Rattle.shm_ref.specs.declared.answer.SetFault.{SetFault}
+use Rattle.shm_ref.specs.declared.answer.SetFault.TheVariants.{CountFull, EraSpent, NoSuchRef, NotAuthor, NotHeld}
+
+-- what was in reach of c is so still
+abbrev pub Reaches : ℕ → Memo → Memo → Type 0
+Reaches c m r = (b : ℕ) → is_reached c m b ≡ true → is_reached c r b ≡ true
+
+-- Why word k of block b isn't `to`: the tag, which is known now, says that the block is another's, or has no such word; the own latch wasn't held; the own era leaves no room; or the block that the word was to name has the greatest count
+abbrev pub SetTold : ℕ → ℕ → ℕ → ℕ → Memo → Memo → SetFault → Type 0
+SetTold c b k to m r (NotAuthor a) = (t : ℕ) × Knows r (Tag b) t × (a ≡ tag_author t) × (a ≢ c) × Reaches c m r
+SetTold c b k to m r (NoSuchRef n) = (t : ℕ) × Knows r (Tag b) t × (tag_author t ≡ c) × (n ≡ tag_refs t) × (n ≤ k) × Reaches c m r
+SetTold c b k to m r NotHeld = (t : ℕ) × Knows r (Tag b) t × (tag_author t ≡ c) × (k < tag_refs t) × (m.latch ≢ Some c) × Reaches c m r
+SetTold c b k to m r (EraSpent e) = 2 ^ 47 - 4 < e
+SetTold c b k to m r (CountFull d n) = (d ≡ to) × (to ≢ 0) × (n ≡ 1023)
+
+-- c is between two calls and a client, in a pool for single calls: it may set words of its blocks
+pub record IsBuilding (c : ℕ) (p : Pool) : Type 0 where
+  pub work : IsAtWork c p
+  pub client : recovers (memo_of p c) ≡ false
+  pub loose : is_loose (memo_of p c).part ≡ true

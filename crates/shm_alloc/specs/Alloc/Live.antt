@@ -1,0 +1,242 @@
+-- a block becomes live: what the store of the redo record, the exchange of the header and the stores of the root and the own era keep
+use Rattle.std.proofs.Common.{◌≡◌, ℕ, ◌+◌, ◌^◌, ◌<◌, ◌≤◌, refl, sym, ap, ◌∙◌, subst, arith, true, false, ◌&&◌, eqb, List, [], ◌∷◌, ◌++◌, Some, None, inl, inr, cond}
+use Rattle.std.specs.List.{All, Contains}
+use Rattle.std.proofs.lemmas.Bool.{cases_Bool, cond-true, cond-false, eq-eqb, lt-ltb, true≢false}
+use Rattle.std.proofs.lemmas.List.Elements.{All-contains, All-head, All-tail}
+use Rattle.std.proofs.lemmas.Map.Made.{Contains-tail}
+use Rattle.shm_words.specs.declared.place.Place.TheVariants as place
+use Rattle.shm_words.specs.declared.redo.Redo.TheVariants as redos
+use Rattle.shm_words.specs.Classes.{class_for}
+use Rattle.shm_words.specs.Headers.{HeaderFits}
+use Rattle.shm_words.specs.Layout.{address, total_of}
+use Rattle.shm_words.specs.Redos.{redo_word, RedoFits}
+use Rattle.shm_words.specs.Tags.{TagFits, tag_refs, tag_plain}
+use Rattle.shm_words.proofs.Placing.{total_small}
+use Rattle.shm_words.proofs.Words.{header_of-word, header_word_small, tag_word_small, tag_refs-word, tag_plain-word, tag_author-word, tag_link-word}
+use Rattle.shm_graph.specs.declared.ask.Ask.{Ask}
+use Rattle.shm_graph.specs.declared.ask.Ask.TheVariants.{Store, Exchange}
+use Rattle.shm_graph.specs.declared.ask.Me.{Me}
+use Rattle.shm_graph.specs.declared.spot.Spot.{Spot}
+use Rattle.shm_graph.specs.declared.spot.Spot.TheVariants as spot
+use Rattle.shm_graph.specs.declared.memo.First.TheVariants.{Begun, Committed}
+use Rattle.shm_graph.specs.declared.memo.Making.{Making}
+use Rattle.shm_graph.specs.declared.memo.Memo.{Memo}
+use Rattle.shm_graph.specs.declared.memo.Op.{Op}
+use Rattle.shm_graph.specs.declared.memo.Op.TheVariants as op
+use Rattle.shm_graph.specs.declared.memo.Stored.{Stored}
+use Rattle.shm_graph.specs.Spots.{spot_at, spot_address, IsAt}
+use Rattle.shm_graph.specs.Blocks.{classes, IsBlock}
+use Rattle.shm_graph.specs.Views.{own_word}
+use Rattle.shm_graph.specs.Held.{InBlock}
+use Rattle.shm_graph.specs.Asks.{Trail}
+use Rattle.shm_graph.specs.Chains.{or_zero}
+use Rattle.shm_graph.specs.Changes.{memo_on}
+use Rattle.shm_graph.specs.Exchanges.{words_made, values_with, committed, allocated}
+use Rattle.shm_graph.specs.Idle.{hold_word}
+use Rattle.shm_graph.specs.Ops.{slot_of}
+use Rattle.shm_graph.specs.Reach.{is_at, known_at}
+use Rattle.shm_graph.specs.Readings.{valued}
+use Rattle.shm_graph.specs.Stores.{is_block_made, with_own, op_written, op_closed, is_lowering, without_looks, era_stored}
+use Rattle.shm_graph.specs.Laws.{Frame, framed, KeptAt}
+use Rattle.shm_graph.proofs.Spots.SpotPlaces.{spot-place}
+use Rattle.shm_graph.proofs.Spots.Spotting.{same_spot_self, same_spot_is}
+use Rattle.shm_laws.specs.Steps.{Writes, Closes}
+use Rattle.shm_steps.specs.OwnWords.{MayAdd, op_begun}
+use Rattle.shm_steps.specs.Preparing.{MayAlloc}
+use Rattle.shm_steps.proofs.Allocated.{allocates}
+use Rattle.shm_steps.proofs.OwnStoresEra.{era_closed}
+use Rattle.shm_steps.proofs.OwnStoresRedo.{redo_stored as begin_stored, root_begins_up, root_at, address_fits, block_fits, up_begun}
+use Rattle.shm_steps.proofs.Prepared.{MakingHolds, making_holds}
+use Rattle.shm_steps.proofs.SlotStores.{root_stored}
+use Rattle.shm_steps.proofs.KeptAfter.{kept_going}
+use Rattle.shm_alloc.specs.declared.request.Request.{Request}
+use Rattle.shm_alloc.specs.declared.point.Goal.{Goal}
+use Rattle.shm_alloc.specs.declared.point.AllocPoint.TheVariants.{Redo, Commit, Slot, Close}
+use Rattle.shm_alloc.specs.Alloc.Control.{class_asked, tag_asked, header_made, alloc_next_at}
+use Rattle.shm_alloc.specs.Alloc.{IsPrepared, PointHolds, NextHolds, redo_stored}
+use Rattle.shm_alloc.specs.Alloc.Steps.{PointKeeps, is_here, live_here, goal_on}
+use Rattle.shm_alloc.specs.Alloc.MakingSteps.{at_step, after_step, stays_after, asked_fits}
+
+-- the spot of an own root
+root_spot : (me : Me) (w : Spot → ℕ) (k : ℕ) → me.who < me.geometry.clients → k < 16 → spot_at me.geometry (classes w) (address me.geometry (place.Root me.who k)) ≡ spot.Root me.who k
+root_spot me w k l s = spot-place me.geometry (classes w) (place.Root me.who k) (rw (lt-ltb me.who me.geometry.clients l, lt-ltb k 16 s) refl)
+
+-- ---- the redo record
+
+-- the redo record is stored, which begins the step
+pub redo_step : (me : Me) (q : Request) (r0 : Memo) (w : Spot → ℕ) (r : ℕ → Memo) (f : Frame) (tr : Trail) (g : Goal) (b : ℕ) → PointKeeps me q r0 w r f tr (Redo g b)
+unfolding spot_address
+redo_step me q r0 w r f tr g b st going can fits point h =
+    let c = me.who in
+    let m : Memo = r c in
+    let p : Spot = spot.Redo c in
+    let at : ℕ = address me.geometry (place.Redo c) in
+    let x : ℕ = redo_word (redos.Up (spot_address me.geometry (spot.Root c g.root)) b) in
+    let a : Ask = Store at x in
+    let e : spot_at me.geometry (classes w) at ≡ p = spot-place me.geometry (classes w) (place.Redo c) (lt-ltb c me.geometry.clients st.who) in
+    let k : Making = h.has.3.0 in
+    let s : MakingHolds w me.geometry c k = making_holds me.geometry w r c k st.held st.who h.has.3.1 in
+    let block : IsBlock me.geometry (classes w) b = subst (IsBlock me.geometry (classes w)) h.has.3.2.block s.block in
+    let made : is_block_made m.making b ≡ true = ap (λ z. is_block_made z b) h.has.3.1 ∙ eq-eqb k.block b h.has.3.2.block in
+    let own : g.era ≡ own_word m.own (spot.Era c c) = h.has.2.era in
+    let room : g.era + 3 ≤ 2 ^ 47 = point.0.era in
+    let add : MayAdd c m g.root b = record { here = is_here me r0 m can h.stays; idle = h.op; root = point.0.root; empty = h.has.2.empty; room = subst (λ y. y + 3 ≤ 2 ^ 47) own room; source = inl made } in
+    let place : IsAt me.geometry (classes w) (spot.Root c g.root) = root_at me.geometry w r c st.held st.who g.root point.0.root in
+    let redo : RedoFits (redos.Up (spot_address me.geometry (spot.Root c g.root)) b) = (address_fits me.geometry w r c st.held st.who g.root place, block_fits me.geometry w r c st.held st.who b block) in
+    let begun : op_begun me.geometry c m x ≡ op.Alloc Begun (spot.Root c g.root) b g.era =
+    up_begun me.geometry w r c st.held st.who g.root b place redo ∙ (cond-true _ _ _ made ∙ ap (λ y. op.Alloc Begun (spot.Root c g.root) b y) (sym own)) in
+    let n' : Memo = after_step me a f 0 m (record (with_own (at_step me a f 0 m) p x) { op = op_begun me.geometry c m x }) in
+    kept_going me w r a f (λ n r'. NextHolds me q r0 r' (alloc_next_at me q (Redo g b) n)) p going e
+    (begin_stored me w r f tr at x st going e (root_begins_up me.geometry w r c st.held st.who g.root b add))
+    (record {
+      stays = stays_after me a f 0 r0 m (record { spot = p; value = x } ∷ m.own) (op_begun me.geometry c m x) m.making m.known m.values m.zeros m.made h.stays;
+      op = begun;
+      own = ap (λ o. redo_stored me g b ∷ o) h.own;
+      has = (h.has.0, h.has.1, goal_on c m r0 g (sym h.own) h.has.2, h.has.3);
+    })
+
+-- ---- the header
+
+-- the tag is known, once it is among the words of the block
+tag_known : (tag : ℕ → ℕ) (body : ℕ → ℕ → ℕ) (d b k x : ℕ) (ws : List Stored) → All (λ (s : Stored). InBlock tag body d k s.spot s.value) ws → tag b ≡ x → Contains ws (record { spot = spot.Tag b; value = x }) → known_at (spot.Tag b) ws ≡ Some x
+tag_known tag body d b k x [] all same has = absurd (let l = has.1 in omega arith)
+tag_known tag body d b k x (s ∷ ss) all same has =
+    elim (cases_Bool (is_at (spot.Tag b) s)) [
+      | inl e ↦ (let y : InBlock tag body d k (spot.Tag b) s.value = subst (λ p. InBlock tag body d k p s.value) (sym (same_spot_is (spot.Tag b) s.spot e)) (All-head (λ (s : Stored). InBlock tag body d k s.spot s.value) s ss all) in
+          cond-true _ _ _ e ∙ ap Some (sym y.1 ∙ same))
+      | inr n ↦ cond-false _ _ _ n ∙ tag_known tag body d b k x ss (All-tail (λ (s : Stored). InBlock tag body d k s.spot s.value) s ss all) same
+          (Contains-tail s ss (record { spot = spot.Tag b; value = x }) (λ e. true≢false (sym (same_spot_self (spot.Tag b)) ∙ (ap (is_at (spot.Tag b)) (sym e) ∙ n))) has)
+    ]
+
+-- the value blocks with the new one are the same for equal parts and values
+values_same : (m r0 : Memo) (b tag : ℕ) → m.part ≡ r0.part → m.values ≡ r0.values → values_with m b tag ≡ values_with r0 b tag
+values_same m r0 b tag part values =
+    ap (λ p. cond (eqb (tag_refs tag) 0 && eqb (tag_plain tag) 1) (valued p b m.values) m.values) part
+    ∙ ap (λ vs. cond (eqb (tag_refs tag) 0 && eqb (tag_plain tag) 1) (valued r0.part b vs) vs) values
+
+-- the block becomes live
+pub commit_step : (me : Me) (q : Request) (r0 : Memo) (w : Spot → ℕ) (r : ℕ → Memo) (f : Frame) (tr : Trail) (g : Goal) (b : ℕ) → PointKeeps me q r0 w r f tr (Commit g b)
+commit_step me q r0 w r f tr g b st going can fits point h =
+    let c = me.who in
+    let m : Memo = r c in
+    let p : Spot = spot.Head b in
+    let k : Making = h.has.3.0 in
+    let made : m.making ≡ Some k = h.has.3.1 in
+    let words : IsPrepared c q b q.refs q.count k = h.has.3.2 in
+    let s : MakingHolds w me.geometry c k = making_holds me.geometry w r c k st.held st.who made in
+    let free : w p ≡ 0 = ap (λ d. w (spot.Head d)) (sym words.block) ∙ s.free in
+    let e : spot_at me.geometry (classes w) b ≡ p = subst (IsBlock me.geometry (classes w)) words.block s.block in
+    let to : ℕ = header_made c g.era in
+    let t : ℕ = tag_asked q c in
+    let a : Ask = Exchange b 0 to in
+    let header : HeaderFits (record { live = true; client = c; count = 1; era = g.era }) = (let u = can.who in let n = can.geometry.clients in let l = point.0.era in record { client = omega arith; count = omega arith; era = omega arith }) in
+    let tag : TagFits (record { refs = q.refs; plain = q.count; author = c; link = 0 }) = asked_fits me q r0 can fits in
+    let refs : tag_refs t ≡ q.refs = tag_refs-word _ tag in
+    let plain : tag_plain t ≡ q.count = tag_plain-word _ tag in
+    let may : MayAlloc c m g.root b g.era to t k = record {
+      live = live_here me r0 m can h.stays;
+      op = h.op;
+      making = made;
+      of = words.block;
+      small = header_word_small _ header;
+      new = header_of-word _ header;
+      tagged = words.tag;
+      small_tag = tag_word_small _ tag;
+      refs = subst (λ n. n ≤ 16) (sym refs) fits.refs;
+      plain = subst (λ n. n ≤ 8) (sym plain) fits.count;
+      author = tag_author-word _ tag;
+      link = tag_link-word _ tag;
+      fits = ap (λ n. class_for n (tag_plain t)) refs ∙ (ap (class_for q.refs) plain ∙ sym words.class);
+      zeros = λ j l. words.zeros j (subst (λ n. j < n) refs l);
+    } in
+    let tag_word : w (spot.Tag b) ≡ t = (All-contains (λ (y : Stored). InBlock (λ d. w (spot.Tag d)) (λ d i. w (spot.Body d i)) k.block k.class y.spot y.value) k.words (record { spot = spot.Tag b; value = t }) s.stored words.tag).1 in
+    let known : known_at (spot.Tag b) k.words ≡ Some t = tag_known (λ d. w (spot.Tag d)) (λ d i. w (spot.Body d i)) k.block b k.class t k.words s.stored tag_word words.tag in
+    let n : Memo = at_step me a f 0 m in
+    let n' : Memo = after_step me a f 0 m (allocated (record n { op = op.Alloc Committed (spot.Root c g.root) b g.era }) b) in
+    kept_going me w r a f (λ n r'. NextHolds me q r0 r' (alloc_next_at me q (Commit g b) n)) p going e
+    (allocates me w r f tr b g.root b g.era to t k st going e may)
+    (subst (λ y. PointHolds me q r0 (memo_on m (framed me a (record f { fresh = false }) y) p) (Slot g b)) (sym free)
+    (subst (λ (o : Op). PointHolds me q r0 (after_step me a f 0 m (committed c n o to)) (Slot g b)) (sym h.op)
+    (record {
+      stays = stays_after me a f 0 r0 m m.own (op.Alloc Committed (spot.Root c g.root) b g.era) None n'.known n'.values n'.zeros n'.made h.stays;
+      op = refl {a = op.Alloc Committed (spot.Root c g.root) b g.era};
+      own = h.own;
+      has = (
+        refl {a = None},
+        ap (λ z. values_with m b (or_zero (known_at (spot.Tag b) (words_made z)))) made ∙ (ap (λ z. values_with m b (or_zero z)) known ∙ values_same m r0 b t h.stays.part h.has.1),
+        h.has.2,
+        (k, ap (λ z. words_made z ++ m.known) made ∙ ap (λ z. k.words ++ z) h.has.0, words),
+        (0, omega arith, refl),
+      );
+    })))
+
+-- ---- the root
+
+-- the root is stored
+pub slot_step : (me : Me) (q : Request) (r0 : Memo) (w : Spot → ℕ) (r : ℕ → Memo) (f : Frame) (tr : Trail) (g : Goal) (b : ℕ) → PointKeeps me q r0 w r f tr (Slot g b)
+slot_step me q r0 w r f tr g b st going can fits point h =
+    let c = me.who in
+    let m : Memo = r c in
+    let p : Spot = spot.Root c g.root in
+    let at : ℕ = address me.geometry (place.Root c g.root) in
+    let a : Ask = Store at b in
+    let e : spot_at me.geometry (classes w) at ≡ p = root_spot me w g.root st.who point.0.root in
+    let most = total_small me.geometry can.geometry in
+    let inside : b + class_asked q ≤ total_of me.geometry = point.1 in
+    let n' : Memo = after_step me a f 0 m (record (with_own (at_step me a f 0 m) p b) { op = op_written m.op }) in
+    kept_going me w r a f (λ n r'. NextHolds me q r0 r' (alloc_next_at me q (Slot g b) n)) p going e
+    (root_stored me w r f tr at g.root b st going e (record {
+      here = is_here me r0 m can h.stays;
+      slot = ap slot_of h.op;
+      op = subst (λ (o : Op). Writes o (op_written o) b) (sym h.op) (refl, refl);
+      small = omega arith;
+    }))
+    (record {
+      stays = stays_after me a f 0 r0 m (record { spot = p; value = b } ∷ m.own) (op_written m.op) m.making m.known m.values m.zeros m.made h.stays;
+      op = ap op_written h.op;
+      own = ap (λ o. record { spot = p; value = b } ∷ o) h.own;
+      has = h.has;
+    })
+
+-- ---- the own era
+
+-- the own era is stored, which closes the step
+pub close_step : (me : Me) (q : Request) (r0 : Memo) (w : Spot → ℕ) (r : ℕ → Memo) (f : Frame) (tr : Trail) (g : Goal) (b : ℕ) → PointKeeps me q r0 w r f tr (Close g b)
+close_step me q r0 w r f tr g b st going can fits point h =
+    let c = me.who in
+    let m : Memo = r c in
+    let p : Spot = spot.Era c c in
+    let at : ℕ = address me.geometry (place.Era c c) in
+    let x : ℕ = g.era + 1 in
+    let a : Ask = Store at x in
+    let e : spot_at me.geometry (classes w) at ≡ p = spot-place me.geometry (classes w) (place.Era c c) (rw (lt-ltb c me.geometry.clients st.who) refl) in
+    let own : own_word m.own p ≡ g.era = ap (λ o. own_word o p) h.own ∙ sym h.has.2.era in
+    let n : Memo = at_step me a f 0 m in
+    let n' : Memo = after_step me a f 0 m (record (with_own n p x) { op = op.Nothing }) in
+    let before : List Stored = record { spot = spot.Root c g.root; value = b } ∷ redo_stored me g b ∷ r0.own in
+    let owns : record { spot = p; value = x } ∷ m.own ≡ record { spot = p; value = own_word r0.own p + 1 } ∷ before = ap (λ o. record { spot = p; value = x } ∷ o) h.own ∙ ap (λ y. record { spot = p; value = y + 1 } ∷ before) h.has.2.era in
+    let answer = alloc_next_at me q (Close g b) 0 in
+    kept_going me w r a f (λ n r'. NextHolds me q r0 r' (alloc_next_at me q (Close g b) n)) p going e
+    (subst (λ y. KeptAt me w r (Store at (y + 1)) f (λ n m. Unit {0}) (spot_at me.geometry (classes w) at)) own
+    (era_closed me w r f tr at st going e (record { here = is_here me r0 m can h.stays; op = subst (λ (o : Op). Closes o (op_closed o (own_word m.own p + 1))) (sym h.op) refl })))
+    (subst (λ z. NextHolds me q r0 (after_step me a f 0 m z) answer) (sym (cond-true _ (era_stored c n p x) (with_own n p x) (eq-eqb c c refl)))
+    (subst (λ (o : Op). NextHolds me q r0 (after_step me a f 0 m (cond (is_lowering o) (without_looks c (record (with_own n p x) { op = op_closed o x })) (record (with_own n p x) { op = op_closed o x }))) answer) (sym h.op)
+    (record {
+      idle = record {
+        live = live_here me r0 m can h.stays;
+        op = refl {a = op.Nothing};
+        making = h.has.0;
+        hold = ap (λ o. own_word o (spot.Hold c)) h.own ∙ (can.idle.hold ∙ sym (ap hold_word h.stays.latch));
+      };
+      stays = stays_after me a f 0 r0 m (record { spot = p; value = x } ∷ m.own) op.Nothing m.making m.known m.values m.zeros m.made h.stays;
+      gives = record {
+        room = (let u = h.has.2.room in let v = h.has.2.era in omega arith);
+        root = point.0.root;
+        empty = h.has.2.empty;
+        before = h.has.2.before;
+        own = owns;
+        knows = h.has.3;
+        values = h.has.1;
+        made = h.has.4;
+      };
+    })))

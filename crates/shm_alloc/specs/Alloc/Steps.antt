@@ -1,0 +1,50 @@
+-- what the steps of the search and those of the making share: what a step owes, and what stays
+use Rattle.std.proofs.Common.{◌≡◌, ℕ, sym, ap, ◌∙◌, false}
+use Rattle.shm_graph.specs.declared.ask.Me.{Me}
+use Rattle.shm_graph.specs.declared.spot.Spot.{Spot}
+use Rattle.shm_graph.specs.declared.spot.Spot.TheVariants as spot
+use Rattle.shm_graph.specs.declared.memo.Memo.{Memo}
+use Rattle.shm_graph.specs.declared.memo.Status.TheVariants as status
+use Rattle.shm_graph.specs.Asks.{Trail, at_of}
+use Rattle.shm_graph.specs.Spots.{spot_at}
+use Rattle.shm_graph.specs.Blocks.{classes}
+use Rattle.shm_graph.specs.Views.{own_word}
+use Rattle.shm_graph.specs.Laws.{Frame, Stands, KeptAt}
+use Rattle.shm_steps.specs.Conditions.{IsHere}
+use Rattle.shm_alloc.specs.declared.request.Request.{Request}
+use Rattle.shm_alloc.specs.declared.point.Goal.{Goal}
+use Rattle.shm_alloc.specs.declared.point.AllocPoint.{AllocPoint}
+use Rattle.shm_alloc.specs.Alloc.Control.{alloc_ask_at, alloc_next_at, RequestFits, PointFits}
+use Rattle.shm_alloc.specs.Alloc.{GoalHas, AllocStays, CanAlloc, PointHolds, NextHolds}
+
+-- ---- what a step owes
+
+-- the step at a point keeps the invariant, and then what comes next holds of the memo
+abbrev pub KeepsAt : Me → Request → Memo → (Spot → ℕ) → (ℕ → Memo) → Frame → AllocPoint → Type 0
+KeepsAt me q r0 w r f p = KeptAt me w r (alloc_ask_at me q p) f (λ n r'. NextHolds me q r0 r' (alloc_next_at me q p n)) (spot_at me.geometry (classes w) (at_of (alloc_ask_at me q p)))
+
+-- so it is for each step that isn't a machine's first, where what the point needs holds
+abbrev pub PointKeeps : Me → Request → Memo → (Spot → ℕ) → (ℕ → Memo) → Frame → Trail → AllocPoint → Type 0
+PointKeeps me q r0 w r f tr p =
+    Stands me w r f tr → f.fresh ≡ false → CanAlloc me r0 → RequestFits q → PointFits me q p → PointHolds me q r0 (r me.who) p → KeepsAt me q r0 w r f p
+
+-- ---- what stays
+
+-- an identity that can allocate is live, where its status stayed
+pub live_here : (me : Me) (r0 r : Memo) → CanAlloc me r0 → AllocStays r0 r → r.status ≡ status.Live
+live_here me r0 r can s = s.status ∙ can.idle.live
+
+-- and so it is here
+pub is_here : (me : Me) (r0 r : Memo) → CanAlloc me r0 → AllocStays r0 r → IsHere r
+is_here me r0 r can s = let e = live_here me r0 r can s in record { joined = λ z. let u = sym e ∙ z in cc; stays = λ z. let u = sym e ∙ z in cc }
+
+-- what the memo shows of the goal it shows where the own words are as they were
+pub goal_on : (c : ℕ) (r r' : Memo) (g : Goal) → r'.own ≡ r.own → GoalHas c r g → GoalHas c r' g
+goal_on c r r' g e h =
+    record {
+      room = h.room;
+      number = h.number;
+      era = h.era ∙ ap (λ o. own_word o (spot.Era c c)) (sym e);
+      empty = ap (λ o. own_word o (spot.Root c g.root)) e ∙ h.empty;
+      before = λ j l z. h.before j l (ap (λ o. own_word o (spot.Root c j)) (sym e) ∙ z);
+    }

@@ -1,0 +1,22 @@
+-- what serves the replay of one client's puts alone, over cells; it goes when whole traces run
+pub mod CellAt
+pub mod Celling
+pub mod Nexts
+pub mod One
+pub mod Buckets
+pub mod Filled
+pub mod FilledWords
+pub mod FilledBlocks
+pub mod OneBlock
+pub mod FilledNames
+pub mod FilledCounts
+pub mod FilledClean
+pub mod Folding
+pub mod FilledTable
+pub mod EmptyPool
+pub mod Ending
+pub mod Alive
+pub mod Making
+pub mod Housing
+pub mod Linking
+pub mod Running

@@ -1,0 +1,87 @@
+-- a receive as a plan: what is known before each call, and what is left
+pub mod Control
+pub mod Laws
+use Rattle.std.specs.Prelude.{◌≡◌, ℕ, ◌+◌, ◌-◌, ◌^◌, ◌<◌, ◌⊎◌, Result, Ok, Err, List, [], ◌++◌, length}
+use Rattle.shm_graph.specs.declared.ask.Me.{Me}
+use Rattle.shm_graph.specs.declared.memo.Memo.{Memo}
+use Rattle.shm_graph.specs.Asks.{Trail, IsWithin}
+use Rattle.shm_graph.specs.Bounds.{tear_steps}
+use Rattle.shm_graph.specs.Events.{Event}
+use Rattle.shm_calls.specs.CallsPart.{calls_part}
+use Rattle.shm_calls.specs.Either.{or_part}
+use Rattle.shm_calls.specs.Grown.{grown}
+use Rattle.shm_calls.specs.Parts.{Part}
+use Rattle.shm_calls.specs.Plans.{Planned}
+use Rattle.shm_count.specs.declared.answer.Made.{Made}
+use Rattle.shm_count.specs.Tear.Events.{frees}
+use Rattle.shm_queue.specs.declared.answer.PeekFault.{PeekFault}
+use Rattle.shm_queue.specs.declared.answer.PeekFault.TheVariants.{EraSpent}
+use Rattle.shm_queue.specs.declared.receive.ReceivePoint.{ReceivePoint}
+use Rattle.shm_queue.specs.declared.receive.ReceivePoint.TheVariants.{Look, Item}
+use Rattle.shm_queue.specs.declared.receive.ReceiveState.{ReceiveState}
+use Rattle.shm_queue.specs.Peek.Control.{peek_parts, peeking}
+use Rattle.shm_queue.specs.Peek.{MayPeekFrom, Peeked, PeekRefused, peek_plan}
+use Rattle.shm_queue.specs.Receive.Control.{ReceiveCall, ReceiveAnswer, receive_call_at, receive_after, receive_turns, is_look}
+use Rattle.shm_queue.specs.Take.Control.{take_parts}
+use Rattle.shm_queue.specs.Take.{MayTakeFrom, NotTaken, TakeDone, TakeStopped, take_plan}
+
+abbrev pub ReceiveKnows : ReceiveState → ReceivePoint → Memo → Memo → Trail → List Event → Type 0
+ReceiveKnows m Look r0 r tr es = MayPeekFrom m.me m.from r0 × (r ≡ r0) × (tr ≡ []) × (es ≡ [])
+ReceiveKnows m Item r0 r tr es = MayTakeFrom m.me m.from r × ((n : ℕ) × Peeked m.me m.from n m.block m.root r0 r tr es)
+
+-- ---- what it leaves
+
+-- the memo q, in which the item has a root, with the trail and the events so far and those that follow
+pub record IsPeeked (me : Me) (s b k : ℕ) (r0 : Memo) (tr : Trail) (es : List Event) : Type 0 where
+  pub q : Memo
+  pub place : ℕ
+  pub first : Trail
+  pub next : Trail
+  pub asked : tr ≡ first ++ next
+  pub before : List Event
+  pub after : List Event
+  pub split : es ≡ before ++ after
+  pub peeked : Peeked me s place b k r0 q first before
+
+-- the item has root k, and then that item was taken
+pub record ReceiveDone (me : Me) (s b k : ℕ) (r0 r : Memo) (tr : Trail) (es : List Event) : Type 0 where
+  pub look : IsPeeked me s b k r0 tr es
+  pub taken : TakeDone me s look.q r look.next look.after
+  pub item : taken.block ≡ b
+  pub bound : IsWithin (39 + tear_steps (frees es)) tr
+
+-- the item has a root, and the take was refused
+pub record ReceiveStopped (me : Me) (s : ℕ) (r0 r : Memo) (tr : Trail) (es : List Event) (era : ℕ) : Type 0 where
+  pub block : ℕ
+  pub root : ℕ
+  pub look : IsPeeked me s block root r0 tr es
+  pub spent : 2 ^ 47 - 3 < era
+  pub refused : (NotTaken me s look.q r look.next look.after era × IsWithin 31 tr) ⊎ ((t : TakeStopped me s look.q r look.next look.after era) × IsWithin (39 + tear_steps (frees es + length t.left)) tr)
+
+abbrev pub ReceiveRefused : ReceiveState → Memo → Memo → Trail → List Event → PeekFault → Type 0
+ReceiveRefused m r0 r tr es (EraSpent e) = PeekRefused (peeking m.me m.from) r0 r tr es (EraSpent e) ⊎ ReceiveStopped m.me m.from r0 r tr es e
+ReceiveRefused m r0 r tr es f = PeekRefused (peeking m.me m.from) r0 r tr es f
+
+abbrev pub ReceiveLeaves : ReceiveState → Memo → Memo → Trail → List Event → Result Made PeekFault → Type 0
+ReceiveLeaves m r0 r tr es (Ok made) = ReceiveDone m.me m.from made.block made.root r0 r tr es
+ReceiveLeaves m r0 r tr es (Err f) = ReceiveRefused m r0 r tr es f
+
+-- ---- the plan
+
+abbrev pub receive_part : ReceivePoint → Part ReceiveCall ReceiveAnswer
+receive_part y = grown (is_look y) (or_part (calls_part peek_parts peek_plan) (calls_part take_parts take_plan))
+
+abbrev pub receive_plan : Planned ReceiveState ReceiveCall ReceiveAnswer (Result Made PeekFault)
+receive_plan =
+    record {
+      me = λ m. m.me;
+      line = λ m. [];
+      first = λ m. is_look m.point;
+      start = λ m. record m { root = 0; block = 0; point = Look };
+      call = λ m. receive_call_at m m.point;
+      after = receive_after;
+      turns = receive_turns;
+      part = λ m. receive_part m.point;
+      knows = λ m. ReceiveKnows m m.point;
+      leaves = ReceiveLeaves;
+    }

@@ -1,0 +1,99 @@
+-- a leaving as a plan: what is known before each call, and what is left
+pub mod Control
+pub mod Words
+pub mod Laws
+pub mod Gone
+use Rattle.std.specs.Prelude.{◌≡◌, ℕ, ◌+◌, ◌*◌, ◌<◌, ◌≤◌, Result, Ok, Err, List, [], slice_index, None}
+use Rattle.std.specs.List.{Contains}
+use Rattle.shm_graph.specs.declared.ask.Me.{Me}
+use Rattle.shm_graph.specs.declared.spot.Spot.TheVariants.{Hold}
+use Rattle.shm_graph.specs.declared.memo.Memo.{Memo}
+use Rattle.shm_graph.specs.declared.memo.Status.TheVariants as status
+use Rattle.shm_graph.specs.Asks.{Trail, IsWithin}
+use Rattle.shm_graph.specs.Events.{Event}
+use Rattle.shm_graph.specs.Laws.{GoneNow}
+use Rattle.shm_graph.specs.Views.{own_word}
+use Rattle.shm_steps.specs.WordParts.{GoneStored, SegmentGiven, SegmentLoaded}
+use Rattle.shm_calls.specs.CallsPart.{calls_part}
+use Rattle.shm_calls.specs.Either.{or_part}
+use Rattle.shm_calls.specs.Plans.{Planned}
+use Rattle.shm_calls.specs.Words.{word_part}
+use Rattle.shm_count.specs.declared.answer.EraSpent.{EraSpent}
+use Rattle.shm_count.specs.Roots.{root_word}
+use Rattle.shm_count.specs.Tear.Events.{Visit, frees}
+use Rattle.shm_recover.specs.declared.leave.LeavePoint.{LeavePoint}
+use Rattle.shm_recover.specs.declared.leave.LeavePoint.TheVariants.{Roots, Look, Give, Status}
+use Rattle.shm_recover.specs.declared.leave.LeaveState.{LeaveState}
+use Rattle.shm_recover.specs.Leave.Control.{LeaveCall, LeaveAnswer, leave_ask, leave_call_at, leave_after, leave_turns, is_roots}
+use Rattle.shm_ref.specs.Lefts.{MayDrop, RootsEvents}
+use Rattle.shm_ref.specs.DropRoots.Control.{drop_root}
+use Rattle.shm_ref.specs.DropRoots.{RootsStopped, roots_plan}
+
+-- ---- when it may begin
+
+-- roots may be dropped, and but for roots and segments nothing of the identity is left to finish
+pub record MayLeave (me : Me) (m : Memo) : Type 0 where
+  pub may : MayDrop me m
+  pub hold : own_word m.own (Hold me.who) ≡ 0
+  pub latch : m.latch ≡ None
+  pub making : m.making ≡ None
+  pub dying : m.dying ≡ []
+  pub sends : (i : ℕ) → slice_index m.unsent i ≡ 0
+  pub takes : (i : ℕ) → slice_index m.untaken i ≡ 0
+
+-- ---- on the way
+
+-- all roots are gone, and so are the segments before s
+pub record IsLeaving (me : Me) (s : ℕ) (m : Memo) : Type 0 where
+  pub may : MayLeave me m
+  pub roots : (k : ℕ) → root_word me.who m k ≡ 0
+  pub owned : (i : ℕ) → Contains m.owned i → (s ≤ i) × (i < me.geometry.segments)
+
+-- the events are those of the roots, and there are two word steps for each segment at most
+pub record HasLeft (me : Me) (n : ℕ) (r0 : Memo) (tr : Trail) (es : List Event) : Type 0 where
+  pub events : RootsEvents me.who r0 16 es
+  pub bound : IsWithin (144 + n + 164 * frees es) tr
+
+abbrev pub LeaveKnows : LeaveState → LeavePoint → Memo → Memo → Trail → List Event → Type 0
+LeaveKnows m Roots r0 r tr es = MayLeave m.me r0 × (r ≡ r0) × (tr ≡ []) × (es ≡ []) × (m.segment ≡ 0)
+LeaveKnows m Look r0 r tr es = IsLeaving m.me m.segment r × (m.segment < m.me.geometry.segments) × HasLeft m.me (2 * m.segment) r0 tr es
+LeaveKnows m Give r0 r tr es = IsLeaving m.me m.segment r × (m.segment < m.me.geometry.segments) × Contains r.owned m.segment × HasLeft m.me (2 * m.segment + 1) r0 tr es
+LeaveKnows m Status r0 r tr es = IsLeaving m.me m.me.geometry.segments r × HasLeft m.me (2 * m.me.geometry.segments) r0 tr es
+
+-- ---- what it leaves
+
+-- nothing is left to finish and the status is gone; the events are those of the roots, and each segment took two word steps at most
+pub record HasGone (me : Me) (r0 r : Memo) (tr : Trail) (es : List Event) : Type 0 where
+  pub status : r.status ≡ status.Gone
+  pub left : GoneNow me.who r
+  pub events : RootsEvents me.who r0 16 es
+  pub bound : IsWithin (2 * me.geometry.segments + 164 * frees es + 145) tr
+
+-- the identity is gone, or the own era left no room for a step down of a root
+abbrev pub LeaveLeaves : LeaveState → Memo → Memo → Trail → List Event → Result (Unit {0}) EraSpent → Type 0
+LeaveLeaves m r0 r tr es (Ok done) = HasGone m.me r0 r tr es
+LeaveLeaves m r0 r tr es (Err e) = (vs : List Visit) × RootsStopped (record { me = m.me; root = 0 }) r0 r tr es e.era vs
+
+-- ---- the plan
+
+-- what holds of a memo after the word step at a point, by the word found and the memo before
+abbrev pub LeaveFound : LeaveState → LeavePoint → Memo → ℕ → Memo → Type 0
+LeaveFound m Look = SegmentLoaded m.me.who m.segment
+LeaveFound m Give = SegmentGiven m.segment
+LeaveFound m Status = GoneStored m.me.who
+LeaveFound m Roots = λ r n x. ⊥
+
+abbrev pub leave_plan : Planned LeaveState LeaveCall LeaveAnswer (Result (Unit {0}) EraSpent)
+leave_plan =
+    record {
+      me = λ m. m.me;
+      line = λ m. [];
+      first = λ m. is_roots m.point;
+      start = λ m. record m { segment = 0; point = Roots };
+      call = λ m. leave_call_at m m.point;
+      after = leave_after;
+      turns = leave_turns;
+      part = λ m. or_part (calls_part drop_root roots_plan) (word_part (is_roots m.point) m.me (leave_ask m m.point) (LeaveFound m m.point));
+      knows = λ m. LeaveKnows m m.point;
+      leaves = LeaveLeaves;
+    }

@@ -1,0 +1,57 @@
+-- a drop of all roots as a plan: what is known before each root, and what is left
+pub mod Control
+pub mod Laws
+use Rattle.std.specs.Prelude.{◌≡◌, ℕ, ◌+◌, ◌*◌, ◌<◌, ◌==◌, nat_lt, Bool, Result, Ok, Err, List, [], length}
+use Rattle.shm_graph.specs.declared.ask.Me.{Me}
+use Rattle.shm_graph.specs.declared.memo.Memo.{Memo}
+use Rattle.shm_graph.specs.Asks.{Trail, IsWithin}
+use Rattle.shm_graph.specs.Events.{Event}
+use Rattle.shm_calls.specs.CallsPart.{calls_part}
+use Rattle.shm_calls.specs.Plans.{Planned}
+use Rattle.shm_count.specs.declared.answer.EraSpent.{EraSpent}
+use Rattle.shm_count.specs.Roots.{root_word}
+use Rattle.shm_count.specs.Tear.Events.{Visit, frees}
+use Rattle.shm_ref.specs.declared.drop_roots.RootsState.{RootsState}
+use Rattle.shm_ref.specs.DropRoot.Control.{drop_parts}
+use Rattle.shm_ref.specs.DropRoot.{drop_plan}
+use Rattle.shm_ref.specs.Lefts.{Left, MayDrop, RootsEvents, Stopped}
+use Rattle.shm_ref.specs.DropRoots.Control.{RootsCall, roots_call, roots_after, roots_turns}
+
+-- the first n roots are empty, and the zero-count blocks are those before
+pub record AreGone (me : Me) (n : ℕ) (r0 r : Memo) (tr : Trail) (es : List Event) : Type 0 where
+  pub left : Left me.who (λ j. nat_lt j n) r0 r
+  pub gone : (j : ℕ) → j < n → root_word me.who r j ≡ 0
+  pub dying : r.dying ≡ r0.dying
+  pub events : RootsEvents me.who r0 n es
+  pub bound : IsWithin (9 * n + 164 * frees es) tr
+
+-- the roots before the next one are
+pub record RootsKnows (m : RootsState) (r0 r : Memo) (tr : Trail) (es : List Event) : Type 0 where
+  pub may : MayDrop m.me r0
+  pub low : m.root < 16
+  pub gone : AreGone m.me m.root r0 r tr es
+
+-- the own era left no room for a step down
+pub record RootsStopped (m : RootsState) (r0 r : Memo) (tr : Trail) (es : List Event) (era : ℕ) (vs : List Visit) : Type 0 where
+  pub left : Left m.me.who (λ j. nat_lt j 16) r0 r
+  pub stopped : Stopped m.me r0 r era vs
+  pub bound : IsWithin (144 + 164 * (frees es + length vs)) tr
+
+abbrev pub RootsLeaves : RootsState → Memo → Memo → Trail → List Event → Result (Unit {0}) EraSpent → Type 0
+RootsLeaves m r0 r tr es (Ok done) = AreGone m.me 16 r0 r tr es
+RootsLeaves m r0 r tr es (Err e) = (vs : List Visit) × RootsStopped m r0 r tr es e.era vs
+
+abbrev pub roots_plan : Planned RootsState RootsCall (Result Bool EraSpent) (Result (Unit {0}) EraSpent)
+roots_plan =
+    record {
+      me = λ m. m.me;
+      line = λ m. [];
+      first = λ m. m.root == 0;
+      start = λ m. record m { root = 0 };
+      call = roots_call;
+      after = roots_after;
+      turns = roots_turns;
+      part = λ m. calls_part drop_parts drop_plan;
+      knows = RootsKnows;
+      leaves = RootsLeaves;
+    }

@@ -1,0 +1,124 @@
+-- what the home of an author names, as a plan: its control, what is known before each word step, and what is left
+pub mod Laws
+use Rattle.std.specs.Prelude.{◌≡◌, ◌≢◌, ℕ, ◌+◌, ◌%◌, ◌^◌, ◌<◌, ◌≤◌, Bool, true, false, ◌==◌, if◌then◌else◌, Option, None, Some, Result, Ok, Err, List, [], ◌∷◌, ◌++◌}
+use Rattle.shm_words.specs.declared.place.Place.TheVariants as place
+use Rattle.shm_words.specs.Layout.{GeometryFits, address, total_of}
+use Rattle.shm_graph.specs.declared.ask.Ask.{Ask}
+use Rattle.shm_graph.specs.declared.ask.Ask.TheVariants.{Load}
+use Rattle.shm_graph.specs.declared.ask.Me.{Me}
+use Rattle.shm_graph.specs.declared.spot.Spot.TheVariants.{Hold, Home}
+use Rattle.shm_graph.specs.declared.memo.Memo.{Memo}
+use Rattle.shm_graph.specs.Asks.{Trail, pair}
+use Rattle.shm_graph.specs.Core.{core}
+use Rattle.shm_graph.specs.Events.{Event}
+use Rattle.shm_graph.specs.Reach.{is_reached}
+use Rattle.shm_graph.specs.Views.{own_word}
+use Rattle.shm_steps.specs.WordParts.{HomeLooked, OwnLoaded}
+use Rattle.shm_calls.specs.declared.word.Word.{Word}
+use Rattle.shm_calls.specs.Parts.{Part}
+use Rattle.shm_calls.specs.Plans.{Planned}
+use Rattle.shm_calls.specs.Words.{word_part}
+use Rattle.shm_ref.specs.declared.answer.NotHeld.{NotHeld}
+use Rattle.shm_ref.specs.declared.home_of.FindPoint.{FindPoint}
+use Rattle.shm_ref.specs.declared.home_of.FindPoint.TheVariants.{Whose, Find}
+use Rattle.shm_ref.specs.declared.home_of.FindState.{FindState}
+use Rattle.shm_ref.specs.AskedParts.{asked_part}
+use Rattle.shm_ref.specs.ReadParts.{MayAsk}
+
+-- ---- the control
+
+-- before its first word step
+abbrev pub finding : Me → ℕ → FindState
+finding me a = record { me = me; author = a; point = Whose }
+
+-- the word step at a point
+abbrev pub find_ask : Me → ℕ → FindPoint → Ask
+find_ask me a Whose = Load (address me.geometry (place.Hold me.who))
+find_ask me a Find = Load (address me.geometry (place.Home a))
+
+abbrev pub home_of_call : FindState → FindPoint → Word
+home_of_call m y = record { me = m.me; ask = find_ask m.me m.author y; over = false }
+
+abbrev pub home_of_after : FindState → FindPoint → ℕ → FindState
+home_of_after m Whose n = record m { point = Find }
+home_of_after m Find n = m
+
+abbrev pub home_of_turns : FindState → FindPoint → ℕ → Option (Result ℕ NotHeld)
+home_of_turns m Whose n = if n == m.author + 1 then None else Some (Err (record {}))
+home_of_turns m Find n = Some (Ok (n % 2 ^ 20))
+
+abbrev pub is_whose : FindPoint → Bool
+is_whose Whose = true
+is_whose y = false
+
+-- what the control keeps in range
+pub record FindInRange (m : FindState) : Type 0 where
+  pub geometry : GeometryFits m.me.geometry
+  pub who : m.me.who < m.me.geometry.clients
+  pub author : m.author < m.me.geometry.clients
+
+-- ---- on the way
+
+-- all that is asked before the home, with what it sees
+abbrev pub hold_trail : Me → ℕ → ℕ → Trail
+hold_trail me a n = pair (find_ask me a Whose) n ∷ []
+
+-- the hold word told that the latch of a is held, and nothing else came of its load
+pub record IsFinding (me : Me) (a : ℕ) (r0 r : Memo) (tr : Trail) (es : List Event) : Type 0 where
+  pub may : MayAsk me r0
+  pub author : a < me.geometry.clients
+  pub held : r0.latch ≡ Some a
+  pub same : core r ≡ core r0
+  pub none : es ≡ []
+  pub trail : tr ≡ hold_trail me a (a + 1)
+
+abbrev pub HomeKnows : FindState → FindPoint → Memo → Memo → Trail → List Event → Type 0
+HomeKnows m Whose r0 r tr es = MayAsk m.me r0 × (m.author < m.me.geometry.clients) × (r ≡ r0) × (tr ≡ []) × (es ≡ [])
+HomeKnows m Find r0 r tr es = IsFinding m.me m.author r0 r tr es
+
+-- ---- what it leaves
+
+-- The latch of a is held, and its home names b, or nothing where b is 0. The looks have grown by b, which is in reach then, and nothing else of the memo changed
+pub record Found (me : Me) (a : ℕ) (r0 r : Memo) (tr : Trail) (es : List Event) (b : ℕ) : Type 0 where
+  pub held : r0.latch ≡ Some a
+  pub own : a ≡ me.who → b ≡ own_word r0.own (Home a)
+  pub memo : core r ≡ core (if b == 0 then r0 else record r0 { looks = r0.looks ++ record { block = b; from = Home a } ∷ [] })
+  pub reach : b ≢ 0 → is_reached me.who r b ≡ true
+  pub room : b ≢ 0 → b + 2 ≤ total_of me.geometry
+  pub none : es ≡ []
+  pub trail : tr ≡ pair (find_ask me a Whose) (a + 1) ∷ pair (find_ask me a Find) b ∷ []
+
+-- the own hold word isn't that of a, and nothing of the memo changed
+pub record IsNotHeld (me : Me) (a : ℕ) (r0 r : Memo) (tr : Trail) (es : List Event) : Type 0 where
+  pub other : own_word r0.own (Hold me.who) ≢ a + 1
+  pub memo : core r ≡ core r0
+  pub none : es ≡ []
+  pub trail : tr ≡ hold_trail me a (own_word r0.own (Hold me.who))
+
+abbrev pub HomeLeaves : FindState → Memo → Memo → Trail → List Event → Result ℕ NotHeld → Type 0
+HomeLeaves m r0 r tr es (Ok b) = Found m.me m.author r0 r tr es b
+HomeLeaves m r0 r tr es (Err e) = IsNotHeld m.me m.author r0 r tr es
+
+-- what holds after each word step, by the memo before, the word found and the memo
+abbrev pub FindFound : FindState → FindPoint → Memo → ℕ → Memo → Type 0
+FindFound m Whose = OwnLoaded (Hold m.me.who)
+FindFound m Find = HomeLooked m.me.who m.author
+
+-- the part that the word step at a point is
+abbrev pub home_of_part : FindState → FindPoint → Part Word ℕ
+home_of_part m y = asked_part (word_part (is_whose y) m.me (find_ask m.me m.author y) (FindFound m y))
+
+abbrev pub home_of_plan : Planned FindState Word ℕ (Result ℕ NotHeld)
+home_of_plan =
+    record {
+      me = λ m. m.me;
+      line = λ m. [];
+      first = λ m. is_whose m.point;
+      start = λ m. record m { point = Whose };
+      call = λ m. home_of_call m m.point;
+      after = λ m. home_of_after m m.point;
+      turns = λ m. home_of_turns m m.point;
+      part = λ m. home_of_part m m.point;
+      knows = λ m. HomeKnows m m.point;
+      leaves = HomeLeaves;
+    }

@@ -1,8 +1,0 @@
-use Rattle.std.proofs.Common.{◌≡◌, ◌≤◌, ◌==◌, cond}
-use Rattle.shm_graph.specs.declared.spot.Spot.TheVariants.{Home}
-use Rattle.shm_graph.specs.Spots.{see}
-use Rattle.shm_graph.specs.References.{sum_below}
-use Rattle.shm_report.proofs.pool_words.home_count.Given as goal
-
-abbrev pub invariant-loop-c : goal.invariant-loop-c
-invariant-loop-c l = (l.homes ≤ l.c) × (l.homes ≡ sum_below l.c (λ c. cond (see l.geometry l.words (Home c) == 0) 0 1))

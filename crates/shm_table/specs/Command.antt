@@ -1,0 +1,100 @@
+-- the control of a command of a line: that of one of the commands
+pub mod Laws
+use Rattle.std.specs.Prelude.{◌≢◌, ℕ, ◌<◌, Bool, false, Option}
+use Rattle.shm_graph.specs.declared.ask.Me.{Me}
+use Rattle.shm_graph.specs.declared.memo.Memo.{Memo}
+use Rattle.shm_graph.specs.Asks.{Trail}
+use Rattle.shm_graph.specs.Events.{Event}
+use Rattle.shm_graph.specs.Laws.{Control}
+use Rattle.shm_graph.specs.Mapped.{MappedGives, mapped}
+use Rattle.shm_calls.specs.declared.calls.Calls.{Calls}
+use Rattle.shm_calls.specs.declared.or.Or.{Or}
+use Rattle.shm_calls.specs.declared.or.Or.TheVariants.{First, Second}
+use Rattle.shm_calls.specs.CallsControl.{calls_does, calls_of}
+use Rattle.shm_calls.specs.CallsFit.{CallsFits, CallsGives}
+use Rattle.shm_calls.specs.Deciding.{either}
+use Rattle.shm_calls.specs.Either.{OrFits, OrGives, or_control, or_does}
+use Rattle.shm_script.specs.declared.line.Line.{Line}
+use Rattle.shm_script.specs.declared.line.Line.TheVariants as line
+use Rattle.shm_script.specs.declared.log.Answer.{Answer}
+use Rattle.shm_table.specs.declared.copy.CopyState.{CopyState}
+use Rattle.shm_table.specs.declared.del.DelState.{DelState}
+use Rattle.shm_table.specs.declared.get.GetState.{GetState}
+use Rattle.shm_table.specs.declared.put.PutState.{PutState}
+use Rattle.shm_table.specs.Machines.Change.{del}
+use Rattle.shm_table.specs.CopyKey.Control.{CopyCalls, CopyAnswer, CopyCall, copy_parts, copying}
+use Rattle.shm_table.specs.CopyKey.{copy_plan}
+use Rattle.shm_table.specs.Machines.Copy.{copy_control}
+use Rattle.shm_table.specs.Del.Control.{DelCalls, DelCall, DelCallAnswer, del_parts, deleting}
+use Rattle.shm_table.specs.Del.{del_plan}
+use Rattle.shm_table.specs.Effects.{copy_by, copy_effect, del_by, del_effect, get_effect, put_by, put_effect, recv_by, recv_effect, send_key_by, send_key_effect}
+use Rattle.shm_table.specs.Get.Control.{GetCalls, GetAnswer, GetCall, get_parts, getting}
+use Rattle.shm_table.specs.Get.{get_plan}
+use Rattle.shm_table.specs.Put.Control.{PutCalls, PutAnswer, PutCall, put_parts, putting}
+use Rattle.shm_table.specs.Put.{put_plan}
+use Rattle.shm_table.specs.Machines.Put.{put}
+use Rattle.shm_table.specs.Machines.Read.{get}
+use Rattle.shm_table.specs.RecvKey.Control.{RecvCalls, receiving_key, recv_parts}
+use Rattle.shm_table.specs.RecvKey.{recv_plan}
+use Rattle.shm_table.specs.Machines.Recv.{recv_control}
+use Rattle.shm_table.specs.SendKey.Control.{SendKeyCalls, send_key_parts, sending_key}
+use Rattle.shm_table.specs.SendKey.{send_key_plan}
+use Rattle.shm_table.specs.Machines.Send.{send_key}
+
+-- its machines: a put or a copy, a removal or a reading, a send or a receive
+abbrev pub CommandCall : Type 0
+CommandCall = Or (Or PutCalls CopyCalls) (Or (Or DelCalls GetCalls) (Or SendKeyCalls RecvCalls))
+
+-- what the one of them answers
+abbrev pub OneAnswer : Type 0
+OneAnswer = Or (Or Answer Answer) (Or (Or Answer Answer) (Or Answer Answer))
+
+abbrev pub command_parts : Control CommandCall OneAnswer
+command_parts = or_control (or_control put copy_control) (or_control (or_control del get) (or_control send_key recv_control))
+
+-- it answers that
+abbrev pub given : OneAnswer → Answer
+given = either (either (λ a. a) (λ a. a)) (either (either (λ a. a) (λ a. a)) (either (λ a. a) (λ a. a)))
+
+abbrev pub command_control : Control CommandCall Answer
+command_control = mapped given command_parts
+
+-- the numbers of identities of a line are of the pool, and what is sent goes to another one, what is received comes from another one
+abbrev pub MayStand : Me → Line → Type 0
+MayStand me (line.Put key n) = Unit {0}
+MayStand me (line.Del key) = Unit {0}
+MayStand me (line.Get a key) = a < me.geometry.clients
+MayStand me (line.Copy key a other) = a < me.geometry.clients
+MayStand me (line.Send to key) = (to < me.geometry.clients) × (me.who ≢ to)
+MayStand me (line.Recv from key) = (from < me.geometry.clients) × (from ≢ me.who)
+
+-- the machine of a line, before its first word step
+abbrev pub command_of : Me → Line → CommandCall
+command_of me (line.Put key n) = First (First (calls_of put_plan (putting me key n)))
+command_of me (line.Copy key a other) = First (Second (calls_of copy_plan (copying me key a other)))
+command_of me (line.Del key) = Second (First (First (calls_of del_plan (deleting me key))))
+command_of me (line.Get a key) = Second (First (Second (calls_of get_plan (getting me a key))))
+command_of me (line.Send to key) = Second (Second (First (calls_of send_key_plan (sending_key me to key))))
+command_of me (line.Recv from key) = Second (Second (Second (calls_of recv_plan (receiving_key me from key))))
+
+-- ---- when it fits, what it gives, and which events it tells of
+
+abbrev pub CommandFits : CommandCall → Memo → Memo → Trail → Type 0
+CommandFits = OrFits (OrFits (CallsFits put_parts put_plan) (CallsFits copy_parts copy_plan)) (OrFits (OrFits (CallsFits del_parts del_plan) (CallsFits get_parts get_plan)) (OrFits (CallsFits send_key_parts send_key_plan) (CallsFits recv_parts recv_plan)))
+
+abbrev pub OneGives : CommandCall → Memo → Memo → Trail → OneAnswer → Type 0
+OneGives = OrGives (OrGives (CallsGives put_parts put_plan) (CallsGives copy_parts copy_plan)) (OrGives (OrGives (CallsGives del_parts del_plan) (CallsGives get_parts get_plan)) (OrGives (CallsGives send_key_parts send_key_plan) (CallsGives recv_parts recv_plan)))
+
+abbrev pub CommandGives : CommandCall → Memo → Memo → Trail → Answer → Type 0
+CommandGives = MappedGives given OneGives
+
+abbrev pub command_does : CommandCall → ℕ → Event
+command_does = or_does (or_does (calls_does put_parts put_plan) (calls_does copy_parts copy_plan)) (or_does (or_does (calls_does del_parts del_plan) (calls_does get_parts get_plan)) (or_does (calls_does send_key_parts send_key_plan) (calls_does recv_parts recv_plan)))
+
+-- ---- what it will answer, where its deciding step was made, and whether the step that finds a word is that one
+
+abbrev pub command_effect : CommandCall → Option Answer
+command_effect = either (either put_effect copy_effect) (either (either del_effect get_effect) (either send_key_effect recv_effect))
+
+abbrev pub command_by : CommandCall → ℕ → Bool
+command_by = either (either (λ c n. put_by c.plan c.call n) (λ c n. copy_by c.plan c.call n)) (either (either (λ c n. del_by c.plan c.call n) (λ c n. false)) (either (λ c n. send_key_by c.plan c.call n) (λ c n. recv_by c.plan c.call n)))

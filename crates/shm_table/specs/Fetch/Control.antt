@@ -1,0 +1,95 @@
+-- the control of reading what a key has and giving it a root: which call comes next, and where it goes by what that call answered
+use Rattle.std.specs.Prelude.{ℕ, ◌%◌, ◌^◌, ◌<◌, Bool, true, false, Option, Some, None, Result, Ok, Err}
+use Rattle.shm_words.specs.Layout.{GeometryFits}
+use Rattle.shm_graph.specs.declared.ask.Ask.{Ask}
+use Rattle.shm_graph.specs.declared.ask.Me.{Me}
+use Rattle.shm_graph.specs.Laws.{Control}
+use Rattle.shm_calls.specs.declared.or.Or.{Or}
+use Rattle.shm_calls.specs.declared.or.Or.TheVariants.{First, Second}
+use Rattle.shm_calls.specs.declared.word.Word.{Word}
+use Rattle.shm_calls.specs.CallsControl.{calls_of}
+use Rattle.shm_calls.specs.Either.{or_control}
+use Rattle.shm_calls.specs.Words.{word_control}
+use Rattle.shm_count.specs.declared.answer.ShareFault.{ShareFault}
+use Rattle.shm_count.specs.declared.answer.ShareFault.TheVariants as share
+use Rattle.shm_count.specs.UpRoot.Control.{rooting}
+use Rattle.shm_count.specs.UpRoot.{rooting_plan}
+use Rattle.shm_count.specs.UpRoot.AsPart.{RootingCalls, up_root}
+use Rattle.shm_table.specs.declared.answer.PutFault.{PutFault}
+use Rattle.shm_table.specs.declared.answer.PutFault.TheVariants.{EraSpent, RootsFull, CountFull}
+use Rattle.shm_table.specs.declared.fetch.FetchPoint.{FetchPoint}
+use Rattle.shm_table.specs.declared.fetch.FetchPoint.TheVariants.{Search, Value, Number, Share, Give}
+use Rattle.shm_table.specs.declared.fetch.FetchState.{FetchState}
+use Rattle.shm_table.specs.declared.fetch.Fetched.{Fetched}
+use Rattle.shm_table.specs.declared.fetch.Fetched.TheVariants.{Missing, Refused, Rooted}
+use Rattle.shm_table.specs.declared.find.Found.{Found}
+use Rattle.shm_table.specs.declared.find.Found.TheVariants.{Absent, At}
+use Rattle.shm_table.specs.Find.Control.{word_ask}
+use Rattle.shm_table.specs.Locate.Control.{locating}
+use Rattle.shm_table.specs.Locate.{LocateCalls, locate_control, locate_plan}
+use Rattle.shm_table.specs.Unlatch.{UnlatchCalls, unlatch_control, unlatch_plan, unlatching}
+
+-- its calls, and what they answer
+abbrev pub FetchCall : Type 0
+FetchCall = Or LocateCalls (Or Word (Or RootingCalls UnlatchCalls))
+
+abbrev pub FetchAnswer : Type 0
+FetchAnswer = Or Found (Or ℕ (Or (Result ℕ ShareFault) (Unit {0})))
+
+-- before its first call
+abbrev pub fetching : Me → ℕ → ℕ → FetchState
+fetching me a key = record { me = me; author = a; key = key; entry = 0; block = 0; number = 0; outcome = Missing; point = Search }
+
+-- the word that is loaded: the value word of the entry, or the number of its value block
+abbrev pub fetch_ask : FetchState → FetchPoint → Ask
+fetch_ask m Value = word_ask m.entry 1
+fetch_ask m y = word_ask m.block 0
+
+abbrev pub fetch_call : FetchState → FetchPoint → FetchCall
+fetch_call m Search = First (calls_of locate_plan (locating m.me m.author m.key))
+fetch_call m Share = Second (Second (First (calls_of rooting_plan (rooting m.me m.block))))
+fetch_call m Give = Second (Second (Second (calls_of unlatch_plan (unlatching m.me m.author))))
+fetch_call m y = Second (First (record { me = m.me; ask = fetch_ask m y; over = false }))
+
+-- where it goes by the word that was loaded
+abbrev pub read_after : FetchState → FetchPoint → ℕ → FetchState
+read_after m Value n = record m { block = n % 2 ^ 20; point = Number }
+read_after m y n = record m { number = n; point = Share }
+
+-- why the value block got no root
+abbrev pub shared_fault : ShareFault → PutFault
+shared_fault (share.EraSpent e) = EraSpent e
+shared_fault share.RootsFull = RootsFull
+shared_fault (share.CountFull b n) = CountFull b n
+
+-- what it answers once the latch is given back
+abbrev pub fetch_outcome : FetchState → Result ℕ ShareFault → Fetched
+fetch_outcome m (Ok k) = Rooted k m.block m.number
+fetch_outcome m (Err f) = Refused (shared_fault f)
+
+abbrev pub fetch_after : FetchState → FetchAnswer → FetchState
+fetch_after m (First (At e b w)) = record m { entry = e % 2 ^ 20; point = Value }
+fetch_after m (First (Absent home first)) = record m { outcome = Missing; point = Give }
+fetch_after m (Second (First n)) = read_after m m.point n
+fetch_after m (Second (Second (First a))) = record m { outcome = fetch_outcome m a; point = Give }
+fetch_after m (Second (Second (Second done))) = m
+
+abbrev pub fetch_turns : FetchState → FetchAnswer → Option Fetched
+fetch_turns m (Second (Second (Second done))) = Some m.outcome
+fetch_turns m a = None
+
+abbrev pub is_search : FetchPoint → Bool
+is_search Search = true
+is_search y = false
+
+-- what the control keeps in range
+pub record FetchInRange (m : FetchState) : Type 0 where
+  pub geometry : GeometryFits m.me.geometry
+  pub who : m.me.who < m.me.geometry.clients
+  pub author : m.author < m.me.geometry.clients
+  pub entry : m.entry < 2 ^ 20
+  pub block : m.block < 2 ^ 20
+
+-- the control of its calls
+abbrev pub fetch_parts : Control FetchCall FetchAnswer
+fetch_parts = or_control locate_control (or_control word_control (or_control up_root unlatch_control))

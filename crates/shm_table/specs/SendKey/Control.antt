@@ -1,0 +1,86 @@
+-- the control of sending what an own key has: which call comes next, and where it goes by what that call answered
+use Rattle.std.specs.Prelude.{ℕ, ◌%◌, ◌^◌, ◌<◌, Bool, true, false, Option, Some, None, Result, Ok, Err}
+use Rattle.shm_words.specs.Layout.{GeometryFits}
+use Rattle.shm_graph.specs.declared.ask.Me.{Me}
+use Rattle.shm_graph.specs.Laws.{Control}
+use Rattle.shm_calls.specs.declared.calls.Calls.{Calls}
+use Rattle.shm_calls.specs.declared.or.Or.{Or}
+use Rattle.shm_calls.specs.declared.or.Or.TheVariants.{First, Second}
+use Rattle.shm_calls.specs.declared.word.Word.{Word}
+use Rattle.shm_calls.specs.CallsControl.{calls_of}
+use Rattle.shm_calls.specs.Either.{or_control}
+use Rattle.shm_calls.specs.Words.{word_control}
+use Rattle.shm_queue.specs.declared.answer.SendFault.{SendFault}
+use Rattle.shm_queue.specs.declared.answer.SendFault.TheVariants.{QueueFull, EraSpent, CountFull}
+use Rattle.shm_queue.specs.declared.send.SendState.{SendState}
+use Rattle.shm_queue.specs.Machines.{send as send_control}
+use Rattle.shm_queue.specs.Send.Control.{SendCall, SendAnswer, sending}
+use Rattle.shm_queue.specs.Send.{send_plan}
+use Rattle.shm_script.specs.declared.log.Answer.{Answer}
+use Rattle.shm_script.specs.declared.log.Answer.TheVariants as answer
+use Rattle.shm_table.specs.declared.find.Found.{Found}
+use Rattle.shm_table.specs.declared.find.Found.TheVariants.{Absent, At}
+use Rattle.shm_table.specs.declared.send_key.SendKeyPoint.{SendKeyPoint}
+use Rattle.shm_table.specs.declared.send_key.SendKeyPoint.TheVariants.{Search, Value, Send, Give}
+use Rattle.shm_table.specs.declared.send_key.SendKeyState.{SendKeyState}
+use Rattle.shm_table.specs.Find.Control.{word_ask}
+use Rattle.shm_table.specs.Locate.Control.{locating}
+use Rattle.shm_table.specs.Locate.{LocateCalls, locate_control, locate_plan}
+use Rattle.shm_table.specs.Unlatch.{UnlatchCalls, unlatch_control, unlatch_plan, unlatching}
+
+-- its calls, and what they answer
+abbrev pub SendKeyCall : Type 0
+SendKeyCall = Or LocateCalls (Or Word (Or (Calls SendState SendCall (Result ℕ SendFault) SendAnswer) UnlatchCalls))
+
+abbrev pub SendKeyAnswer : Type 0
+SendKeyAnswer = Or Found (Or ℕ (Or (Result ℕ SendFault) (Unit {0})))
+
+-- its states
+abbrev pub SendKeyCalls : Type 0
+SendKeyCalls = Calls SendKeyState SendKeyCall Answer SendKeyAnswer
+
+-- before its first call
+abbrev pub sending_key : Me → ℕ → ℕ → SendKeyState
+sending_key me i key = record { me = me; to = i; key = key; entry = 0; block = 0; outcome = answer.Missing; point = Search }
+
+abbrev pub send_key_call : SendKeyState → SendKeyPoint → SendKeyCall
+send_key_call m Search = First (calls_of locate_plan (locating m.me m.me.who m.key))
+send_key_call m Value = Second (First (record { me = m.me; ask = word_ask m.entry 1; over = false }))
+send_key_call m Send = Second (Second (First (calls_of send_plan (sending m.me m.to m.block))))
+send_key_call m Give = Second (Second (Second (calls_of unlatch_plan (unlatching m.me m.me.who))))
+
+-- what it answers once the latch is given back, by whether the block was sent
+abbrev pub sent_answer : Result ℕ SendFault → Answer
+sent_answer (Ok n) = answer.Ok
+sent_answer (Err (QueueFull h n)) = answer.QueueFull h n
+sent_answer (Err (EraSpent e)) = answer.EraSpent e
+sent_answer (Err (CountFull b n)) = answer.CountFull b n
+
+abbrev pub send_key_after : SendKeyState → SendKeyAnswer → SendKeyState
+send_key_after m (First (At e b w)) = record m { entry = e % 2 ^ 20; point = Value }
+send_key_after m (First (Absent home first)) = record m { outcome = answer.Missing; point = Give }
+send_key_after m (Second (First n)) = record m { block = n % 2 ^ 20; point = Send }
+send_key_after m (Second (Second (First a))) = record m { outcome = sent_answer a; point = Give }
+send_key_after m (Second (Second (Second done))) = m
+
+abbrev pub send_key_turns : SendKeyState → SendKeyAnswer → Option Answer
+send_key_turns m (First found) = None
+send_key_turns m (Second (First n)) = None
+send_key_turns m (Second (Second (First a))) = None
+send_key_turns m (Second (Second (Second done))) = Some m.outcome
+
+abbrev pub is_search : SendKeyPoint → Bool
+is_search Search = true
+is_search y = false
+
+-- what the control keeps in range
+pub record SendKeyInRange (m : SendKeyState) : Type 0 where
+  pub geometry : GeometryFits m.me.geometry
+  pub who : m.me.who < m.me.geometry.clients
+  pub to : m.to < m.me.geometry.clients
+  pub entry : m.entry < 2 ^ 20
+  pub block : m.block < 2 ^ 20
+
+-- the control of its calls
+abbrev pub send_key_parts : Control SendKeyCall SendKeyAnswer
+send_key_parts = or_control locate_control (or_control word_control (or_control send_control unlatch_control))

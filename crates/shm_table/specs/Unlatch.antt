@@ -1,0 +1,129 @@
+-- giving back a latch of which it is known whose it is, as a plan: its control, what is known before each word step, and what is left
+pub mod Laws
+use Rattle.std.specs.Prelude.{◌≡◌, ℕ, ◌<◌, Bool, true, false, Option, None, Some, List, [], ◌∷◌}
+use Rattle.shm_words.specs.declared.place.Place.TheVariants as place
+use Rattle.shm_words.specs.Layout.{GeometryFits, address}
+use Rattle.shm_graph.specs.declared.ask.Ask.{Ask}
+use Rattle.shm_graph.specs.declared.ask.Ask.TheVariants as ask
+use Rattle.shm_graph.specs.declared.ask.Me.{Me}
+use Rattle.shm_graph.specs.declared.memo.Memo.{Memo}
+use Rattle.shm_graph.specs.declared.memo.Op.TheVariants.{Nothing}
+use Rattle.shm_graph.specs.Asks.{Trail, pair}
+use Rattle.shm_graph.specs.Core.{core}
+use Rattle.shm_graph.specs.Events.{Event}
+use Rattle.shm_graph.specs.Laws.{Control}
+use Rattle.shm_graph.specs.Reach.{unlatched}
+use Rattle.shm_steps.specs.Conditions.{IsHere}
+use Rattle.shm_calls.specs.declared.calls.Calls.{Calls}
+use Rattle.shm_calls.specs.declared.word.Word.{Word}
+use Rattle.shm_calls.specs.CallsControl.{calls_control}
+use Rattle.shm_calls.specs.Parts.{Part}
+use Rattle.shm_calls.specs.Plans.{Planned}
+use Rattle.shm_calls.specs.Words.{word_control, word_part}
+use Rattle.shm_ref.specs.AskedParts.{asked_part}
+use Rattle.shm_ref.specs.Hold.{wants}
+use Rattle.shm_table.specs.declared.unlatch.UnlatchPoint.{UnlatchPoint}
+use Rattle.shm_table.specs.declared.unlatch.UnlatchPoint.TheVariants.{Give, Back}
+use Rattle.shm_table.specs.declared.unlatch.UnlatchState.{UnlatchState}
+
+-- ---- the control
+
+-- before its first word step
+abbrev pub unlatching : Me → ℕ → UnlatchState
+unlatching me a = record { me = me; author = a; point = Give }
+
+-- the word step at a point
+abbrev pub unlatch_ask : Me → ℕ → UnlatchPoint → Ask
+unlatch_ask me a Give = ask.Store (address me.geometry (place.Latch a)) 0
+unlatch_ask me a Back = ask.Store (address me.geometry (place.Hold me.who)) 0
+
+abbrev pub unlatch_call : UnlatchState → UnlatchPoint → Word
+unlatch_call m y = record { me = m.me; ask = unlatch_ask m.me m.author y; over = false }
+
+abbrev pub unlatch_after : UnlatchState → UnlatchPoint → UnlatchState
+unlatch_after m Give = record m { point = Back }
+unlatch_after m Back = m
+
+abbrev pub unlatch_turns : UnlatchPoint → Option (Unit {0})
+unlatch_turns Give = None
+unlatch_turns Back = Some tt
+
+abbrev pub is_give : UnlatchPoint → Bool
+is_give Give = true
+is_give Back = false
+
+-- what the control keeps in range
+pub record UnlatchInRange (m : UnlatchState) : Type 0 where
+  pub geometry : GeometryFits m.me.geometry
+  pub who : m.me.who < m.me.geometry.clients
+  pub author : m.author < m.me.geometry.clients
+
+-- all that is asked, with what it sees
+abbrev pub given_trail : Me → ℕ → Trail
+given_trail me a = pair (unlatch_ask me a Give) 0 ∷ []
+
+abbrev pub unlatch_trail : Me → ℕ → Trail
+unlatch_trail me a = pair (unlatch_ask me a Give) 0 ∷ pair (unlatch_ask me a Back) 0 ∷ []
+
+-- ---- when it may begin, and on the way
+
+-- no step is in progress, and the latch of a is held
+pub record MayUnlatch (me : Me) (a : ℕ) (r : Memo) : Type 0 where
+  pub geometry : GeometryFits me.geometry
+  pub who : me.who < me.geometry.clients
+  pub author : a < me.geometry.clients
+  pub here : IsHere r
+  pub idle : r.op ≡ Nothing
+  pub latch : r.latch ≡ Some a
+
+-- the latch is nobody's, and the hold word is to be 0
+pub record IsGiven (me : Me) (a : ℕ) (r0 r : Memo) (tr : Trail) (es : List Event) : Type 0 where
+  pub may : MayUnlatch me a r0
+  pub same : core r ≡ core (unlatched me.who r0)
+  pub none : es ≡ []
+  pub trail : tr ≡ given_trail me a
+
+abbrev pub UnlatchKnows : UnlatchState → UnlatchPoint → Memo → Memo → Trail → List Event → Type 0
+UnlatchKnows m Give r0 r tr es = MayUnlatch m.me m.author r0 × (r ≡ r0) × (tr ≡ []) × (es ≡ [])
+UnlatchKnows m Back r0 r tr es = IsGiven m.me m.author r0 r tr es
+
+-- ---- what it leaves
+
+-- the latch is given back and the hold word is 0; no latch is held, and the looks are over
+pub record Unlatched (me : Me) (a : ℕ) (r0 r : Memo) (tr : Trail) (es : List Event) : Type 0 where
+  pub memo : core r ≡ core (wants me.who 0 (unlatched me.who r0))
+  pub latch : r.latch ≡ None
+  pub looks : r.looks ≡ []
+  pub none : es ≡ []
+  pub trail : tr ≡ unlatch_trail me a
+
+-- what holds after each word step, by the memo before, the word found and the memo
+abbrev pub UnlatchFound : UnlatchState → UnlatchPoint → Memo → ℕ → Memo → Type 0
+UnlatchFound m Give r n x = (core x ≡ core (unlatched m.me.who r)) × (n ≡ 0)
+UnlatchFound m Back r n x = (core x ≡ core (wants m.me.who 0 r)) × (n ≡ 0)
+
+-- the part that the word step at a point is
+abbrev pub unlatch_part : UnlatchState → UnlatchPoint → Part Word ℕ
+unlatch_part m y = asked_part (word_part (is_give y) m.me (unlatch_ask m.me m.author y) (UnlatchFound m y))
+
+abbrev pub unlatch_plan : Planned UnlatchState Word ℕ (Unit {0})
+unlatch_plan =
+    record {
+      me = λ m. m.me;
+      line = λ m. [];
+      first = λ m. is_give m.point;
+      start = λ m. record m { point = Give };
+      call = λ m. unlatch_call m m.point;
+      after = λ m n. unlatch_after m m.point;
+      turns = λ m n. unlatch_turns m.point;
+      part = λ m. unlatch_part m m.point;
+      knows = λ m. UnlatchKnows m m.point;
+      leaves = λ m r0 r tr es done. Unlatched m.me m.author r0 r tr es;
+    }
+
+-- it as a call of larger machines, and its control
+abbrev pub UnlatchCalls : Type 0
+UnlatchCalls = Calls UnlatchState Word (Unit {0}) ℕ
+
+abbrev pub unlatch_control : Control UnlatchCalls (Unit {0})
+unlatch_control = calls_control word_control unlatch_plan
