@@ -16,7 +16,7 @@ use Rattle.shm_graph.specs.Exchanges.{cut, reparted, without_made}
 use Rattle.shm_graph.specs.Reach.{shown, sifted, is_named}
 use Rattle.shm_graph.specs.Views.{own_word}
 use Rattle.shm_graph.proofs.Spots.Spotting.{same_spot_self}
-use Rattle.shm_laws.specs.Steps.{dying_after}
+use Rattle.shm_laws.specs.Exchanges.{dying_after}
 use Rattle.shm_steps.proofs.MemoCommits.{known_lowered, lowered_is}
 use Rattle.shm_count.specs.declared.point.Aim.TheVariants.{Down}
 use Rattle.shm_count.specs.declared.point.Half.TheVariants.{First}

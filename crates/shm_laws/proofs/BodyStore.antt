@@ -26,7 +26,7 @@ use Rattle.shm_laws.proofs.Keep.{All-kept}
 use Rattle.shm_laws.proofs.Owns.{mine_other, small_stored, there_stored}
 use Rattle.shm_laws.proofs.References.{part_stored, values_kept, queued_kept}
 use Rattle.shm_laws.proofs.Writing.{at_slot, mine_at, on_same, held_over_same, own_same, allowed_same, tails_same, slots_same, ops_same, targets_same}
-use Rattle.shm_laws.specs.Steps.{BodyNeeds, body_view}
+use Rattle.shm_laws.specs.Slotting.{BodyNeeds, body_view}
 use Rattle.shm_graph.specs.Reach.{not_at}
 
 pub body_kept : (g : Geometry) (w : Spot → ℕ) (v : View) (c b i x : ℕ) (o : Op) → HeldAt g w v → BodyNeeds g v c b i x o → HeldAt g (upd w (Body b i) x) (body_view v c b i x o)

@@ -25,7 +25,7 @@ use Rattle.shm_graph.specs.Blocks.{IsBlock}
 use Rattle.shm_words.specs.Tags.{tag_author}
 use Rattle.shm_graph.specs.Held.{HeldAt, is_slot, odd, CountSound, SlotOf, reach_of, named_by, IsUnusedLane, TailSound, PartTie, ValueAt, MadeAt, is_loose, TestAt, KnownAt, LooksSound, is_home, LaneSound, IsDying, OwnSound, OpTie, OpSound, Allowed, InLooks, room_of}
 use Rattle.shm_graph.specs.Stores.{not_block}
-use Rattle.shm_laws.specs.Steps.{not_blocks, ChangeNeeds, change_view}
+use Rattle.shm_laws.specs.Exchanges.{not_blocks, ChangeNeeds, change_view}
 use Rattle.shm_laws.proofs.Owns.{mine_other, small_stored, there_stored}
 use Rattle.shm_graph.proofs.Spots.Spotting.{same_spot_is, block_is_at}
 use Rattle.shm_laws.proofs.Sum.{held_over_step, degree_step}

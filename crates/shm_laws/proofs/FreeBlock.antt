@@ -22,7 +22,7 @@ use Rattle.shm_graph.specs.Blocks.{headers}
 use Rattle.shm_graph.specs.Events.{Free, graph_of, Happens}
 use Rattle.shm_graph.specs.Ops.{cover, cover_of, covered, slot_of, indegree, on_of, is_op}
 use Rattle.shm_words.specs.Tags.{tag_refs, tag_author, tag_link}
-use Rattle.shm_laws.specs.Steps.{FreeNeeds, free_view}
+use Rattle.shm_laws.specs.Preparing.{FreeNeeds, free_view}
 use Rattle.shm_graph.specs.Stores.{not_block, not_of, is_of}
 use Rattle.shm_laws.proofs.Owns.{mine_other, small_stored, there_stored}
 use Rattle.shm_graph.proofs.Spots.Spotting.{block_is_at}

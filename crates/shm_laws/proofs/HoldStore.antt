@@ -13,7 +13,7 @@ use Rattle.shm_graph.proofs.Memos.Frames.{at1_all}
 use Rattle.shm_graph.proofs.Runs.Lists.{at1_other}
 use Rattle.shm_laws.proofs.Owns.{mine_stored, small_stored, there_stored}
 use Rattle.shm_laws.proofs.Quiet.{quiet}
-use Rattle.shm_laws.specs.Holding.{HoldNeeds, hold_view}
+use Rattle.shm_laws.specs.OwnWords.{HoldNeeds, hold_view}
 
 pub hold_kept : (g : Geometry) (w : Spot → ℕ) (v : View) (c x : ℕ) → HeldAt g w v → HoldNeeds g w v c x → HeldAt g (upd w (Hold c) x) (hold_view v c x)
 hold_kept g w v c x h a =

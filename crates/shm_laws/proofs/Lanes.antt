@@ -12,7 +12,7 @@ use Rattle.shm_graph.specs.Spots.{IsAt}
 use Rattle.shm_graph.specs.Held.{LaneSound}
 use Rattle.shm_graph.proofs.Spots.SpotPlaces.{at_is_in}
 use Rattle.shm_graph.proofs.States.Holders.{apart_slots}
-use Rattle.shm_laws.specs.Steps.{at2}
+use Rattle.shm_laws.specs.OwnWords.{at2}
 
 -- the block is in the slot at the tail
 pub lane_up : (t t' : ℕ → ℕ) (tail queue_head : ℕ) (sent : List ℕ) (unsent b : ℕ) (received : List ℕ) (untaken : ℕ) → tail < queue_head + 8 → ((k : ℕ) → k ≢ tail % 8 → t' k ≡ t k) → t' (tail % 8) ≡ b → LaneSound t tail queue_head sent unsent received untaken → LaneSound t' tail queue_head sent b received untaken

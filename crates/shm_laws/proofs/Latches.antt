@@ -20,7 +20,7 @@ use Rattle.shm_words.specs.Tags.{tag_author}
 use Rattle.shm_graph.specs.Held.{HeldAt, SlotOf, reach_of, named_by, KnownAt, LookAt, LooksSound, LatchTie, TestAt, InLooks, ValueAt}
 use Rattle.shm_laws.proofs.Owns.{mine_other, small_stored, there_stored}
 use Rattle.shm_laws.proofs.Exchange.{slot_kept, known_kept}
-use Rattle.shm_laws.specs.Steps.{LatchNeeds, latch_view, BackNeeds, back_view}
+use Rattle.shm_laws.specs.Latches.{LatchNeeds, latch_view, BackNeeds, back_view}
 use Rattle.shm_graph.specs.Tables.{contents_of}
 
 -- without a latch there are no looks, and then all is true of them

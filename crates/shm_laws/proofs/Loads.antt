@@ -15,7 +15,7 @@ use Rattle.shm_graph.proofs.Memos.Frames.{at1_all}
 use Rattle.shm_graph.specs.Events.{Nothing, graph_of, Happens}
 use Rattle.shm_graph.specs.Held.{HeldAt, FactAt, TestAt}
 use Rattle.shm_graph.specs.Readings.{next_row}
-use Rattle.shm_laws.specs.Steps.{header_view, row_view}
+use Rattle.shm_laws.specs.Loads.{header_view, row_view}
 
 -- one more fact that holds, another window that holds
 pub fact_kept : (g : Geometry) (w : Spot → ℕ) (v : View) (c : ℕ) (f : Fact) (test : Option Test) → HeldAt g w v → c < g.clients → FactAt g.clients (λ i j. w (Era i j)) (ons v) (λ s r. w (Tail s r)) (λ s r. w (QueueHead s r)) (λ s q. w (Page s q)) f → TestAt g.clients (λ i j. w (Era i j)) (ons v c) c test

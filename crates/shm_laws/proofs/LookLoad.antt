@@ -25,7 +25,7 @@ use Rattle.shm_graph.specs.Tables.{contents_of}
 use Rattle.shm_laws.proofs.Exchange.{slot_kept, known_kept, apart}
 use Rattle.shm_graph.proofs.Memos.Looking.{looks_push}
 use Rattle.shm_graph.proofs.States.Counting.{cover_idle, covered_none}
-use Rattle.shm_laws.specs.Steps.{LookNeeds, look_view}
+use Rattle.shm_laws.specs.Latches.{LookNeeds, look_view}
 
 -- a look leaves the graph
 pub look_quiet : (g : Geometry) (w : Spot → ℕ) (v : View) (c b i : ℕ) → Happens g w Nothing (graph_of g w v) (graph_of g w (look_view v c b i (w (Body b i))))

@@ -19,7 +19,7 @@ use Rattle.shm_graph.specs.References.{words_of}
 use Rattle.shm_graph.specs.Ops.{cover_of, slot_of}
 use Rattle.shm_graph.specs.Held.{HeldAt, SlotOf, reach_of, TagSound, MakingTie, FactAt, ZeroAt, TestAt}
 use Rattle.shm_words.specs.Classes.{IsClass}
-use Rattle.shm_laws.specs.Steps.{ClassNeeds, class_view}
+use Rattle.shm_laws.specs.Segments.{ClassNeeds, class_view}
 use Rattle.shm_graph.specs.Stores.{other_than}
 use Rattle.shm_laws.proofs.Owns.{mine_other, small_stored, there_stored}
 use Rattle.shm_graph.proofs.Spots.Spotting.{same_spot_self, alone}

@@ -21,7 +21,7 @@ use Rattle.shm_laws.proofs.Owns.{mine_stored, small_stored, there_stored}
 use Rattle.shm_graph.proofs.Spots.Spotting.{same_spot_self}
 use Rattle.shm_laws.proofs.Exchange.{looks_kept}
 use Rattle.shm_laws.proofs.Lanes.{lane_received, at2_all, no_self}
-use Rattle.shm_laws.specs.Steps.{QueueHeadNeeds, head_view}
+use Rattle.shm_laws.specs.OwnWords.{QueueHeadNeeds, head_view}
 use Rattle.shm_graph.specs.Tables.{contents_of}
 
 pub head_kept : (g : Geometry) (w : Spot → ℕ) (v : View) (c s : ℕ) → HeldAt g w v → QueueHeadNeeds g w v c s → HeldAt g (upd w (QueueHead s c) (w (QueueHead s c) + 1)) (head_view v c s (w (QueueHead s c) + 1))

@@ -28,8 +28,7 @@ use Rattle.shm_laws.proofs.Owns.{mine_other, small_stored, there_stored}
 use Rattle.shm_laws.proofs.Quiet.{quiet}
 use Rattle.shm_laws.proofs.Slots.{slot_names}
 use Rattle.shm_laws.proofs.Writing.{written, at_slot, mine_at, on_same, held_over_same, own_same, allowed_same, tails_same, slots_same, ops_same, targets_same}
-use Rattle.shm_laws.specs.Steps.{Writes}
-use Rattle.shm_laws.specs.Slotting.{QueueNeeds, queue_view}
+use Rattle.shm_laws.specs.Slotting.{Writes, QueueNeeds, queue_view}
 
 -- a step whose slot is one of a queue to its own identity takes a block out
 lowers : (c : ℕ) (o o' : Op) (x : ℕ) → Writes o o' x → Allowed c o → is_slot_to c (slot_of o) ≡ true → x ≡ 0

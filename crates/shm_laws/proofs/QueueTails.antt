@@ -21,7 +21,7 @@ use Rattle.shm_laws.proofs.Owns.{mine_stored, small_stored, there_stored}
 use Rattle.shm_graph.proofs.Spots.Spotting.{same_spot_self}
 use Rattle.shm_laws.proofs.Exchange.{looks_kept}
 use Rattle.shm_laws.proofs.Lanes.{lane_sent, at2_all, no_self}
-use Rattle.shm_laws.specs.Steps.{TailNeeds, tail_view}
+use Rattle.shm_laws.specs.OwnWords.{TailNeeds, tail_view}
 use Rattle.shm_graph.specs.Tables.{contents_of}
 
 pub tail_kept : (g : Geometry) (w : Spot → ℕ) (v : View) (c r : ℕ) → HeldAt g w v → TailNeeds g w v c r → HeldAt g (upd w (Tail c r) (w (Tail c r) + 1)) (tail_view v c r (w (Tail c r) + 1))

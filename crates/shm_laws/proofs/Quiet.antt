@@ -12,7 +12,10 @@ use Rattle.shm_graph.specs.Held.{HeldAt}
 use Rattle.shm_laws.proofs.RedoAndRows.{begin_targets, begin_held_overs}
 use Rattle.shm_laws.proofs.CloseOp.{close_targets, close_held_overs}
 use Rattle.shm_laws.proofs.Writing.{targets_same, held_over_same}
-use Rattle.shm_laws.specs.Steps.{BeginNeeds, begin_view, RowNeeds, row_store_view, CloseNeeds, close_view, TailNeeds, tail_view, QueueHeadNeeds, head_view, RootNeeds, root_view, BodyNeeds, body_view, ClassNeeds, class_view, BackNeeds, back_view, LatchNeeds, latch_view}
+use Rattle.shm_laws.specs.OwnWords.{BeginNeeds, begin_view, RowNeeds, row_store_view, CloseNeeds, close_view, TailNeeds, tail_view, QueueHeadNeeds, head_view}
+use Rattle.shm_laws.specs.Slotting.{RootNeeds, root_view, BodyNeeds, body_view}
+use Rattle.shm_laws.specs.Segments.{ClassNeeds, class_view}
+use Rattle.shm_laws.specs.Latches.{BackNeeds, back_view, LatchNeeds, latch_view}
 
 -- no header and no tag changed, and targets and blocks held over stay
 pub quiet : (g : Geometry) (w w' : Spot → ℕ) (v v' : View) → ((b : ℕ) → w' (Head b) ≡ w (Head b)) → ((b : ℕ) → w' (Tag b) ≡ w (Tag b)) → targets g w' v' ≡ targets g w v → held_overs v' ≡ held_overs v

@@ -23,7 +23,7 @@ use Rattle.shm_graph.specs.Views.{View, at1, targets, ons, held_overs}
 use Rattle.shm_words.specs.Tags.{tag_author}
 use Rattle.shm_graph.specs.Held.{HeldAt, CountSound, LaneSound, EraSound, Bound, FactAt, CounterAt, OwnSound, OpTie, RedoTie, Allowed, SlotOf, reach_of, named_by, KnownAt, LooksSound, TestAt, IsUnusedLane, TailSound, PartTie, ValueAt, MadeAt, is_loose}
 use Rattle.shm_laws.proofs.Owns.{mine_stored, small_stored, there_stored}
-use Rattle.shm_laws.specs.Steps.{BeginNeeds, begin_view, RowNeeds, row_store_view}
+use Rattle.shm_laws.specs.OwnWords.{BeginNeeds, begin_view, RowNeeds, row_store_view}
 use Rattle.shm_graph.specs.Tables.{HasShape, contents_of}
 
 -- an op that begins covers no word and holds no reference over

@@ -20,7 +20,7 @@ use Rattle.shm_graph.proofs.Spots.Spotting.{same_spot_self}
 use Rattle.shm_graph.proofs.Memos.Frames.{at1_all}
 use Rattle.shm_laws.proofs.Owns.{mine_stored, small_stored, there_stored}
 use Rattle.shm_laws.proofs.Writing.{at_slot, on_same, held_over_same, own_same, allowed_same, tails_same, slots_same, ops_same, targets_same}
-use Rattle.shm_laws.specs.Steps.{RootNeeds, root_view}
+use Rattle.shm_laws.specs.Slotting.{RootNeeds, root_view}
 
 pub root_kept : (g : Geometry) (w : Spot → ℕ) (v : View) (c k x : ℕ) (o : Op) → HeldAt g w v → RootNeeds g w v c k x o → HeldAt g (upd w (Root c k) x) (root_view v c k x o)
 root_kept g w v c k x o h a =

@@ -25,7 +25,7 @@ use Rattle.shm_graph.specs.Events.{ChangeDown, graph_of, Happens}
 use Rattle.shm_words.specs.Tags.{tag_author}
 use Rattle.shm_graph.specs.Held.{HeldAt, odd, CountSound, SlotOf, reach_of, named_by, IsUnusedLane, TailSound, PartTie, ValueAt, MadeAt, is_loose, TestAt, KnownAt, LooksSound, LaneSound, IsDying, OwnSound, OpTie, OpSound, Allowed, InLooks, room_of}
 use Rattle.shm_graph.specs.Stores.{not_block}
-use Rattle.shm_laws.specs.Steps.{SecondNeeds, second_view, dying_after}
+use Rattle.shm_laws.specs.Exchanges.{SecondNeeds, second_view, dying_after}
 use Rattle.shm_laws.proofs.Owns.{mine_other, small_stored, there_stored}
 use Rattle.shm_graph.proofs.Spots.Spotting.{block_is_at}
 use Rattle.shm_laws.proofs.Sum.{refs_target, held_over_step}

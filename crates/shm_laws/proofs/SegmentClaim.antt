@@ -17,7 +17,7 @@ use Rattle.shm_graph.proofs.Runs.Lists.{at1_here, at1_other}
 use Rattle.shm_laws.proofs.Owns.{mine_other, small_stored, there_stored}
 use Rattle.shm_laws.proofs.Quiet.{quiet}
 use Rattle.shm_laws.proofs.Keep.{newest}
-use Rattle.shm_laws.specs.Holding.{ClaimNeeds, claim_view}
+use Rattle.shm_laws.specs.Segments.{ClaimNeeds, claim_view}
 
 -- what a list has it has with an element in front
 behind : (xs : List ℕ) (x y : ℕ) → Contains xs y → Contains (x ∷ xs) y

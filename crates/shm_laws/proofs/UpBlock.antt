@@ -36,7 +36,7 @@ use Rattle.shm_laws.proofs.Headers.{lives as headers_live, dying_stays, blocks_s
 use Rattle.shm_laws.proofs.Slots.{slot_not_spare, slot_names, slot_committed}
 use Rattle.shm_laws.proofs.Parts.{PartKept, part_kept}
 use Rattle.shm_laws.proofs.References.{live_some, named_count, two_names, slot_no_root, part_other, values_kept, made_kept, made_own, queued_kept}
-use Rattle.shm_laws.specs.Steps.{UpNeeds, up_view, unsent_after}
+use Rattle.shm_laws.specs.Exchanges.{UpNeeds, up_view, unsent_after}
 use Rattle.shm_graph.specs.Stores.{not_block}
 
 module _ (g : Geometry) (w : Spot → ℕ) (v : View) (c b e to : ℕ) (p : Spot) (part : Part) (h : HeldAt g w v) (a : UpNeeds g w v c b e to p part) where

@@ -20,7 +20,7 @@ use Rattle.shm_graph.proofs.States.Holders.{Holds, one_holder}
 use Rattle.shm_graph.proofs.Memos.Frames.{at1_all}
 use Rattle.shm_graph.proofs.States.Counting.{covered_alone, op_at}
 use Rattle.shm_laws.proofs.Slots.{slot_alone}
-use Rattle.shm_laws.specs.Steps.{Writes, WritesFrom}
+use Rattle.shm_laws.specs.Slotting.{Writes, WritesFrom}
 
 -- what a write leaves
 pub record Same (o o' : Op) (x : ℕ) : Type 0 where

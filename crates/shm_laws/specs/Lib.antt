@@ -1,4 +1,7 @@
-pub mod Steps
-pub mod Holding
-pub mod Slotting
+pub mod Exchanges
+pub mod OwnWords
+pub mod Segments
 pub mod Preparing
+pub mod Slotting
+pub mod Latches
+pub mod Loads

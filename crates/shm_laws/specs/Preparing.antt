@@ -1,16 +1,19 @@
 -- stores of words that nothing counts: of a free block that is prepared, and of the link of a dying block
-use Rattle.std.specs.Prelude.{◌≡◌, ◌≢◌, ℕ, ◌+◌, ◌/◌, ◌^◌, ◌<◌, Option, Some, None, List, [], ◌∷◌}
-use Rattle.std.specs.List.{Contains}
+use Rattle.std.specs.Prelude.{◌≡◌, ◌≢◌, ℕ, ◌+◌, ◌/◌, ◌^◌, ◌<◌, Option, Some, None, List, [], ◌∷◌, ◌≤◌, ◌&&◌, ◌==◌, if◌then◌else◌, ◌++◌}
+use Rattle.std.specs.List.{Contains, filter}
 use Rattle.shm_words.specs.declared.geometry.Geometry.{Geometry}
 use Rattle.shm_graph.specs.declared.spot.Spot.{Spot}
 use Rattle.shm_graph.specs.declared.spot.Spot.TheVariants.{Segment, Page, Head, Tag, Body}
-use Rattle.shm_graph.specs.declared.memo.Status.TheVariants as status
 use Rattle.shm_graph.specs.declared.memo.Stored.{Stored}
 use Rattle.shm_graph.specs.declared.memo.Making.{Making}
 use Rattle.shm_graph.specs.Spots.{IsAt, class_at, segment_of}
 use Rattle.shm_graph.specs.Blocks.{IsBlock}
 use Rattle.shm_graph.specs.Views.{View, at1}
 use Rattle.shm_graph.specs.Reach.{learnt}
+use Rattle.shm_graph.specs.declared.memo.Op.TheVariants.{Nothing}
+use Rattle.shm_words.specs.Tags.{tag_refs}
+use Rattle.shm_graph.specs.Stores.{not_block, not_of}
+use Rattle.shm_graph.specs.declared.memo.Status.TheVariants as status
 
 -- ---- the store of a word of a free block
 
@@ -70,5 +73,24 @@ abbrev pub link_view : View → ℕ → ℕ → ℕ → View
 link_view v c b x =
     record v {
       known = at1 v.known c (learnt (Tag b) x (v.known c));
+      test = at1 v.test c None;
+    }
+
+-- ---- the store that frees a dying block
+
+pub record FreeNeeds (g : Geometry) (v : View) (c b tag : ℕ) : Type 0 where
+  pub inside : c < g.clients
+  pub acts : v.status c ≢ status.New
+  pub here : v.status c ≢ status.Gone
+  pub op : v.op c ≡ Nothing
+  pub dying : Contains (v.dying c) b
+  pub tagged : Contains (v.known c) (record { spot = Tag b; value = tag })
+  pub zeros : (i : ℕ) → i < tag_refs tag → Contains (v.known c) (record { spot = Body b i; value = 0 })
+
+abbrev pub free_view : View → ℕ → ℕ → View
+free_view v c b =
+    record v {
+      dying = at1 v.dying c (filter (not_block b) (v.dying c));
+      known = at1 v.known c (filter (not_of b) (v.known c));
       test = at1 v.test c None;
     }

@@ -41,7 +41,7 @@ use Rattle.shm_graph.proofs.StepKinds.Loads.{choice}
 use Rattle.shm_graph.proofs.Memos.MemoParts.{parts, put_parts, put_same}
 use Rattle.shm_graph.proofs.Spots.Spotting.{same_spot_is}
 use Rattle.shm_graph.proofs.Spots.Updating.{upd_here}
-use Rattle.shm_laws.specs.Steps.{AllocNeeds, alloc_view}
+use Rattle.shm_laws.specs.Exchanges.{AllocNeeds, alloc_view}
 use Rattle.shm_laws.proofs.AllocBlock.{alloc_kept, alloc_event}
 use Rattle.shm_steps.specs.Preparing.{MayAlloc}
 use Rattle.shm_steps.proofs.Prepared.{MakingHolds, making_holds}

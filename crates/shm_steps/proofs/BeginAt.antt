@@ -31,7 +31,7 @@ use Rattle.shm_graph.proofs.StepKinds.Keeping.{told_fixed}
 use Rattle.shm_graph.specs.declared.ask.Ask.TheVariants.{Load}
 use Rattle.shm_graph.proofs.States.Reached.{reached_here}
 use Rattle.shm_graph.proofs.Spots.Spotting.{at_below, block_within, same_spot_not}
-use Rattle.shm_laws.specs.Steps.{BeginNeeds}
+use Rattle.shm_laws.specs.OwnWords.{BeginNeeds}
 use Rattle.shm_steps.specs.OwnWords.{op_begun}
 use Rattle.shm_steps.specs.Beginning.{HasRoom}
 

@@ -20,7 +20,7 @@ use Rattle.shm_graph.proofs.Memos.Calls.{FactHolds}
 use Rattle.shm_graph.proofs.Spots.Fixed.{fixed_is_at}
 use Rattle.shm_graph.proofs.States.Holders.{Holds}
 use Rattle.shm_graph.proofs.Memos.KnownChange.{KnownHolds}
-use Rattle.shm_laws.specs.Steps.{BeginNeeds}
+use Rattle.shm_laws.specs.OwnWords.{BeginNeeds}
 use Rattle.shm_steps.specs.OwnWords.{op_begun}
 use Rattle.shm_steps.specs.Beginning.{MayReplaceRoot, MaySet, MayPut, MayTake, MayTakeBack}
 use Rattle.shm_steps.proofs.BeginAt.{SlotHas, fixed_told, word_target, up_at, down_at, change_at}

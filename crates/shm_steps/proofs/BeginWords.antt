@@ -25,7 +25,7 @@ use Rattle.shm_graph.proofs.Memos.LoadTold.{told_load}
 use Rattle.shm_graph.proofs.States.Claims.{ClaimSound, claims_sound}
 use Rattle.shm_graph.proofs.States.Reached.{reached_here}
 use Rattle.shm_graph.proofs.Spots.Spotting.{block_within, body_is_at}
-use Rattle.shm_laws.specs.Steps.{BeginNeeds}
+use Rattle.shm_laws.specs.OwnWords.{BeginNeeds}
 use Rattle.shm_steps.specs.OwnWords.{op_begun}
 use Rattle.shm_steps.specs.Reading.{IsCovered}
 use Rattle.shm_steps.specs.Beginning.{IsOwnWord, MayStoreIn, MayFill, MayClear, MayReplace}

@@ -18,7 +18,7 @@ use Rattle.shm_steps.specs.Lowering.{MayLowerFormer}
 use Rattle.shm_graph.specs.declared.ask.Me.{Me}
 use Rattle.shm_graph.specs.declared.memo.Memo.{Memo}
 use Rattle.shm_graph.proofs.States.Reached.{Names, all_named, named_sound, names_here}
-use Rattle.shm_laws.specs.Steps.{SecondNeeds, dying_after, second_view}
+use Rattle.shm_laws.specs.Exchanges.{SecondNeeds, dying_after, second_view}
 use Rattle.shm_graph.specs.declared.spot.Spot.{Spot}
 use Rattle.shm_steps.proofs.Naming.{StaysKnown, all_lowered, all_spared_apart, names_same}
 use Rattle.shm_graph.specs.declared.memo.Stored.{Stored}

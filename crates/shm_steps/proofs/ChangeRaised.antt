@@ -4,7 +4,7 @@ use Rattle.std.specs.List.{All, filter}
 use Rattle.shm_graph.specs.Held.{Allowed, is_slot}
 use Rattle.shm_graph.specs.declared.memo.First.TheVariants.{Begun, Committed}
 use Rattle.shm_graph.specs.declared.memo.Op.TheVariants.{Change}
-use Rattle.shm_laws.specs.Steps.{ChangeNeeds, change_view}
+use Rattle.shm_laws.specs.Exchanges.{ChangeNeeds, change_view}
 use Rattle.shm_graph.specs.declared.ask.Ask.TheVariants.{Exchange}
 use Rattle.shm_graph.specs.Laws.{Frame, KeptAt, Stands, event_of, framed}
 use Rattle.shm_graph.specs.declared.spot.Spot.TheVariants.{QueueHead, Head, Home, Tail}

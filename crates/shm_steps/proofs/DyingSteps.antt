@@ -21,8 +21,7 @@ use Rattle.shm_graph.proofs.StepKinds.KindKeeping.{in_frame, kept_from}
 use Rattle.shm_graph.proofs.Memos.KnownChange.{KnownHolds}
 use Rattle.shm_graph.proofs.Memos.MemoParts.{parts, put_parts, put_same}
 use Rattle.shm_graph.proofs.Spots.Spotting.{head_at, tag_block, spot_there}
-use Rattle.shm_laws.specs.Steps.{FreeNeeds, free_view}
-use Rattle.shm_laws.specs.Preparing.{LinkNeeds, link_view}
+use Rattle.shm_laws.specs.Preparing.{FreeNeeds, free_view, LinkNeeds, link_view}
 use Rattle.shm_laws.proofs.FreeBlock.{free_kept, free_event}
 use Rattle.shm_laws.proofs.LinkStore.{link_kept, link_quiet}
 use Rattle.shm_steps.specs.Preparing.{MayFree, MayLink}

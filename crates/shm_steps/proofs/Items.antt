@@ -6,7 +6,7 @@ use Rattle.std.proofs.Math.Dec.{eqb-suc-zero, eqb-zero-suc, eqb-suc-suc}
 use Rattle.std.proofs.lemmas.Bool.{eq-eqb, ne_eqb, cases_eq}
 use Rattle.shm_graph.specs.Views.{at1}
 use Rattle.shm_graph.specs.Stores.{put}
-use Rattle.shm_laws.specs.Steps.{at2}
+use Rattle.shm_laws.specs.OwnWords.{at2}
 
 -- item i of a list is x, and each other one stays
 pub put_at : {T : Type 0} (d : T) (xs : List T) (i : ℕ) (x : T) (j : ℕ) → slice_index_or (put d xs i x) j d ≡ cond (eqb i j) x (slice_index_or xs j d)

@@ -2,7 +2,7 @@
 use Rattle.std.proofs.Common.{◌≡◌, ℕ, ◌<◌, refl, sym, ap, ◌∙◌, Bool, true, false, subst, inl, inr, None, [], List, arith, Option, cond, leb, eqb, ◌&&◌, ◌||◌, ◌∷◌, ◌≤◌, ◌⊎◌}
 use Rattle.std.proofs.lemmas.List.Elements.{All-contains, Contains-append_right}
 use Rattle.shm_laws.proofs.Keep.{All-kept}
-use Rattle.shm_laws.specs.Steps.{BackNeeds, back_view}
+use Rattle.shm_laws.specs.Latches.{BackNeeds, back_view}
 use Rattle.shm_graph.specs.declared.spot.Spot.TheVariants.{Body, QueueHead, Latch, Slot, Tag, Tail}
 use Rattle.std.specs.List.{Contains, filter}
 use Rattle.std.proofs.lemmas.Map.Views.{Contains-from_any}

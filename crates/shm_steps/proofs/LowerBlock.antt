@@ -13,7 +13,7 @@ use Rattle.shm_graph.specs.Held.{HeldAt, PartTie}
 use Rattle.shm_graph.proofs.States.Holders.{Holds, held_live_not_zero}
 use Rattle.shm_steps.specs.Raising.{IsReparted}
 use Rattle.shm_graph.specs.declared.memo.Look.{Look}
-use Rattle.shm_laws.specs.Steps.{LowerNeeds, dying_after, lower_view, untaken_after}
+use Rattle.shm_laws.specs.Exchanges.{LowerNeeds, dying_after, lower_view, untaken_after}
 use Rattle.shm_steps.specs.Lowering.{MayLower}
 use Rattle.shm_graph.specs.declared.ask.Me.{Me}
 use Rattle.shm_graph.specs.declared.memo.Memo.{Memo}

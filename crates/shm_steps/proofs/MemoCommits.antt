@@ -12,7 +12,7 @@ use Rattle.shm_graph.specs.Views.{at1}
 use Rattle.shm_graph.specs.Stores.{put, other_than, not_block, not_of}
 use Rattle.shm_graph.specs.Exchanges.{with_unsent, with_untaken, lowered}
 use Rattle.shm_graph.proofs.Memos.Frames.{at1_same}
-use Rattle.shm_laws.specs.Steps.{unsent_after, unsent_back, untaken_after, dying_after, not_blocks}
+use Rattle.shm_laws.specs.Exchanges.{unsent_after, unsent_back, untaken_after, dying_after, not_blocks}
 use Rattle.shm_steps.proofs.Items.{put_at}
 
 -- ---- what becomes of each part

@@ -28,8 +28,7 @@ use Rattle.shm_graph.proofs.StepKinds.Keeping.{told_fixed}
 use Rattle.shm_graph.proofs.StepKinds.KindKeeping.{in_frame, kept_from}
 use Rattle.shm_graph.proofs.Memos.MemoParts.{parts, put_parts, put_same}
 use Rattle.shm_graph.proofs.Spots.Spotting.{spot_there}
-use Rattle.shm_laws.specs.Steps.{RowNeeds, row_store_view}
-use Rattle.shm_laws.specs.Holding.{HoldNeeds, hold_view}
+use Rattle.shm_laws.specs.OwnWords.{RowNeeds, row_store_view, HoldNeeds, hold_view}
 use Rattle.shm_laws.proofs.RedoAndRows as rows
 use Rattle.shm_laws.proofs.Quiet.{row_quiet}
 use Rattle.shm_laws.proofs.HoldStore.{hold_kept, hold_quiet}

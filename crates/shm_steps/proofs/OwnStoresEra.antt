@@ -35,7 +35,7 @@ use Rattle.shm_graph.proofs.Memos.KnownChange.{KnownHolds, ValueHolds}
 use Rattle.shm_graph.proofs.Runs.Lists.{at1_here, at1_other}
 use Rattle.shm_graph.proofs.Memos.MemoParts.{parts, put_parts, put_same}
 use Rattle.shm_graph.proofs.States.Reached.{Names, reached_sound, shown_target, all_named}
-use Rattle.shm_laws.specs.Steps.{CloseNeeds, close_view}
+use Rattle.shm_laws.specs.OwnWords.{CloseNeeds, close_view}
 use Rattle.shm_laws.proofs.CloseOp.{close_kept}
 use Rattle.shm_laws.proofs.Quiet.{close_quiet}
 use Rattle.shm_laws.proofs.Keep.{All-kept}

@@ -19,7 +19,7 @@ use Rattle.shm_graph.proofs.StepKinds.Keeping.{told_fixed}
 use Rattle.shm_graph.proofs.StepKinds.KindKeeping.{in_frame, kept_from}
 use Rattle.shm_graph.proofs.Memos.MemoParts.{put_same}
 use Rattle.shm_graph.proofs.Spots.Spotting.{spot_there}
-use Rattle.shm_laws.specs.Steps.{TailNeeds, tail_view, QueueHeadNeeds, head_view, at2}
+use Rattle.shm_laws.specs.OwnWords.{TailNeeds, tail_view, QueueHeadNeeds, head_view, at2}
 use Rattle.shm_laws.proofs.QueueTails.{tail_kept}
 use Rattle.shm_laws.proofs.QueueHeads.{head_kept}
 use Rattle.shm_laws.proofs.Quiet.{tail_quiet, head_quiet}

@@ -36,7 +36,7 @@ use Rattle.shm_graph.proofs.Memos.MemoParts.{put_same}
 use Rattle.shm_graph.proofs.Spots.PageSpots.{fixed_stays}
 use Rattle.shm_graph.proofs.States.Reached.{reached_here, shown_target}
 use Rattle.shm_graph.proofs.Spots.Spotting.{at_below, block_within}
-use Rattle.shm_laws.specs.Steps.{BeginNeeds, begin_view}
+use Rattle.shm_laws.specs.OwnWords.{BeginNeeds, begin_view}
 use Rattle.shm_laws.proofs.RedoAndRows.{begin_kept}
 use Rattle.shm_laws.proofs.Quiet.{begin_quiet}
 use Rattle.shm_steps.specs.Conditions.{IsHere}

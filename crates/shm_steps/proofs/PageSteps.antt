@@ -19,8 +19,8 @@ use Rattle.shm_graph.proofs.Spots.Spotting.{spot_there}
 use Rattle.shm_graph.proofs.StepKinds.Keeping.{told_fixed}
 use Rattle.shm_graph.proofs.StepKinds.KindKeeping.{in_frame, kept_from, kept_exchange}
 use Rattle.shm_graph.proofs.Memos.MemoParts.{put_same}
-use Rattle.shm_laws.specs.Steps.{ClassNeeds, class_view, LatchNeeds, latch_view}
-use Rattle.shm_laws.specs.Holding.{ClaimNeeds, claim_view, SegmentBackNeeds, segment_back_view}
+use Rattle.shm_laws.specs.Segments.{ClassNeeds, class_view, ClaimNeeds, claim_view, SegmentBackNeeds, segment_back_view}
+use Rattle.shm_laws.specs.Latches.{LatchNeeds, latch_view}
 use Rattle.shm_laws.proofs.SegmentClaim.{claim_kept, claim_quiet}
 use Rattle.shm_laws.proofs.SegmentBack.{segment_back_kept, segment_back_quiet}
 use Rattle.shm_laws.proofs.PageClass.{class_kept}

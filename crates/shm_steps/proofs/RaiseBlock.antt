@@ -18,7 +18,7 @@ use Rattle.shm_graph.specs.declared.ask.Me.{Me}
 use Rattle.shm_graph.specs.declared.memo.Memo.{Memo}
 use Rattle.shm_graph.specs.Ops.{On, cover, is_op, slot_of}
 use Rattle.shm_graph.specs.declared.table.Part.{Part}
-use Rattle.shm_laws.specs.Steps.{RowShows, UpNeeds, up_view}
+use Rattle.shm_laws.specs.Exchanges.{RowShows, UpNeeds, up_view}
 use Rattle.shm_graph.specs.declared.spot.Spot.{Spot}
 use Rattle.shm_graph.specs.Asks.{Trail}
 use Rattle.shm_graph.specs.declared.memo.Op.TheVariants.{Up}

@@ -14,7 +14,7 @@ use Rattle.shm_graph.specs.Laws.{Frame, Stands, KeptAt}
 use Rattle.shm_graph.proofs.StepKinds.Keeping.{told_fixed}
 use Rattle.shm_graph.proofs.StepKinds.KindKeeping.{in_frame, kept_from}
 use Rattle.shm_graph.proofs.Memos.MemoParts.{put_same, parts, put_parts}
-use Rattle.shm_laws.specs.Steps.{RootNeeds, root_view, BodyNeeds, Writes, WritesFrom, body_view}
+use Rattle.shm_laws.specs.Slotting.{RootNeeds, root_view, BodyNeeds, Writes, WritesFrom, body_view, HomeNeeds, QueueNeeds, home_view, queue_view}
 use Rattle.shm_laws.proofs.RootStore.{root_kept}
 use Rattle.shm_laws.proofs.Writing.{written}
 use Rattle.shm_laws.proofs.Quiet.{root_quiet, body_quiet}
@@ -22,7 +22,6 @@ use Rattle.shm_steps.specs.Conditions.{IsHere, MayWrite}
 use Rattle.shm_graph.specs.declared.memo.Op.TheVariants.{Nothing, Alloc, Change, Down, Up}
 use Rattle.shm_graph.specs.declared.memo.First.{First}
 use Rattle.shm_graph.specs.declared.memo.First.TheVariants.{Begun, Committed, Written}
-use Rattle.shm_laws.specs.Slotting.{HomeNeeds, QueueNeeds, home_view, queue_view}
 use Rattle.shm_graph.specs.Ops.{On, cover_of, cover_from, is_op, slot_of}
 use Rattle.shm_graph.specs.declared.memo.Op.{Op}
 use Rattle.shm_graph.specs.declared.memo.ChangeStage.TheVariants.{Raising, Lowering}

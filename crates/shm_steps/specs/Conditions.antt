@@ -5,7 +5,7 @@ use Rattle.shm_graph.specs.declared.memo.Status.TheVariants as status
 use Rattle.shm_graph.specs.declared.memo.Memo.{Memo}
 use Rattle.shm_graph.specs.Ops.{slot_of}
 use Rattle.shm_graph.specs.Stores.{op_written}
-use Rattle.shm_laws.specs.Steps.{Writes}
+use Rattle.shm_laws.specs.Slotting.{Writes}
 
 -- somebody has joined, and the identity isn't gone
 pub record IsHere (m : Memo) : Type 0 where

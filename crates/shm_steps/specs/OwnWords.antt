@@ -13,7 +13,7 @@ use Rattle.shm_graph.specs.Views.{own_word}
 use Rattle.shm_graph.specs.Reach.{is_reached}
 use Rattle.shm_graph.specs.Stores.{op_closed, is_block_made, op_spelled}
 use Rattle.shm_graph.specs.Telling.{word_told}
-use Rattle.shm_laws.specs.Steps.{Closes}
+use Rattle.shm_laws.specs.OwnWords.{Closes}
 use Rattle.shm_steps.specs.Conditions.{IsHere}
 
 -- the row of another client may show the era x: it grows, and a header that was read shows that client with an era of at least x

@@ -10,7 +10,7 @@ ghost use Rattle.shm_graph.specs.declared.spot.Spot.TheVariants.{Era, Home, Root
 ghost use Rattle.shm_graph.specs.Spots.{spot_address};
 ghost use Rattle.shm_graph.specs.Views.{own_word, view};
 ghost use Rattle.shm_graph.specs.Held.{HeldAt, odd};
-ghost use Rattle.shm_laws.specs.Steps.{BeginNeeds};
+ghost use Rattle.shm_laws.specs.OwnWords.{BeginNeeds};
 ghost use Rattle.shm_steps.specs.OwnWords.{op_begun};
 ghost use Rattle.shm_steps.specs.Beginning.{MayReplaceRoot, MaySet, MayPut, MayTake, MayTakeBack, MayFill, MayClear, MayReplace};
 

@@ -15,7 +15,7 @@ ghost use Rattle.shm_graph.specs.Views.{own_word, view};
 ghost use Rattle.shm_graph.specs.Held.{HeldAt};
 ghost use Rattle.shm_graph.specs.Asks.{Trail};
 ghost use Rattle.shm_graph.specs.Laws.{Frame, Stands, KeptAt};
-ghost use Rattle.shm_laws.specs.Steps.{BeginNeeds};
+ghost use Rattle.shm_laws.specs.OwnWords.{BeginNeeds};
 ghost use Rattle.shm_steps.specs.OwnWords.{MayShow, MayHold, MaySend, MayReceive, MayClose, MayAdd, MayRemove, op_begun};
 
 /// Own words are stored: the row of another client, the own hold word, which may be a machine's first step, the tail of a queue to

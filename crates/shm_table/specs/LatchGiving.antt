@@ -24,7 +24,7 @@ use Rattle.shm_graph.proofs.Memos.Frames.{at1_twice}
 use Rattle.shm_graph.proofs.StepKinds.Keeping.{told_fixed}
 use Rattle.shm_graph.proofs.StepKinds.KindKeeping.{kept_from}
 use Rattle.shm_graph.proofs.Memos.MemoParts.{put_same}
-use Rattle.shm_laws.specs.Steps.{BackNeeds, back_view}
+use Rattle.shm_laws.specs.Latches.{BackNeeds, back_view}
 use Rattle.shm_laws.proofs.Latches.{back_kept}
 use Rattle.shm_laws.proofs.Quiet.{back_quiet}
 use Rattle.shm_steps.specs.Unlatching.{MayUnlatch}

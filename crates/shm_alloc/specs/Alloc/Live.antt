@@ -40,7 +40,8 @@ use Rattle.shm_graph.specs.Stores.{is_block_made, with_own, op_written, op_close
 use Rattle.shm_graph.specs.Laws.{Frame, framed, KeptAt}
 use Rattle.shm_graph.proofs.Spots.SpotPlaces.{spot-place}
 use Rattle.shm_graph.proofs.Spots.Spotting.{same_spot_self, same_spot_is}
-use Rattle.shm_laws.specs.Steps.{Writes, Closes}
+use Rattle.shm_laws.specs.Slotting.{Writes}
+use Rattle.shm_laws.specs.OwnWords.{Closes}
 use Rattle.shm_steps.specs.OwnWords.{MayAdd, op_begun}
 use Rattle.shm_steps.specs.Preparing.{MayAlloc}
 use Rattle.shm_steps.proofs.Allocated.{allocates}

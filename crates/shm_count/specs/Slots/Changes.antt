@@ -22,7 +22,7 @@ use Rattle.shm_graph.specs.Stores.{is_of, not_block, not_of, written, stored_on,
 use Rattle.shm_graph.specs.Views.{own_word}
 use Rattle.shm_graph.proofs.StepKinds.Loads.{choice}
 use Rattle.shm_graph.proofs.Spots.Spotting.{same_spot_is}
-use Rattle.shm_laws.specs.Steps.{dying_after}
+use Rattle.shm_laws.specs.Exchanges.{dying_after}
 use Rattle.shm_steps.proofs.MemoCommits.{known_lowered, lowered_is}
 use Rattle.shm_steps.specs.Reparting.{sight}
 use Rattle.shm_count.specs.declared.point.Aim.TheVariants.{Change, Down}

@@ -25,7 +25,7 @@ use Rattle.shm_graph.specs.Views.{own_word}
 use Rattle.shm_graph.proofs.StepKinds.Loads.{choice}
 use Rattle.shm_graph.proofs.Spots.Spotting.{same_spot_self}
 use Rattle.shm_laws.proofs.Keep.{newest, Contains-filter, filter_from}
-use Rattle.shm_laws.specs.Steps.{dying_after}
+use Rattle.shm_laws.specs.Exchanges.{dying_after}
 use Rattle.shm_steps.proofs.MemoCommits.{known_lowered, lowered_is}
 use Rattle.shm_steps.specs.Reparting.{sight}
 use Rattle.shm_count.specs.declared.point.Aim.TheVariants.{Down}

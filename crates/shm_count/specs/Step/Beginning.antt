@@ -18,7 +18,7 @@ use Rattle.shm_graph.specs.Stores.{is_block_made}
 use Rattle.shm_graph.specs.Telling.{claims}
 use Rattle.shm_graph.specs.Views.{view, own_word}
 use Rattle.shm_graph.proofs.Memos.KnownChange.{KnownHolds}
-use Rattle.shm_laws.specs.Steps.{BeginNeeds}
+use Rattle.shm_laws.specs.OwnWords.{BeginNeeds}
 use Rattle.shm_steps.specs.Beginning.{HasRoom, MayStoreIn, IsOwnWord}
 use Rattle.shm_steps.specs.Conditions.{IsHere}
 use Rattle.shm_steps.specs.OwnWords.{op_begun}

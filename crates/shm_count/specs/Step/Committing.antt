@@ -27,7 +27,8 @@ use Rattle.shm_graph.specs.Blocks.{classes}
 use Rattle.shm_graph.specs.Changes.{called, memo_on}
 use Rattle.shm_graph.specs.Agents.{recovers}
 use Rattle.shm_graph.proofs.Spots.SpotPlaces.{spot-place}
-use Rattle.shm_laws.specs.Steps.{Writes, Closes}
+use Rattle.shm_laws.specs.Slotting.{Writes}
+use Rattle.shm_laws.specs.OwnWords.{Closes}
 use Rattle.shm_steps.specs.Conditions.{IsHere, MayWrite}
 use Rattle.shm_steps.proofs.SlotStores.{home_stored, queue_stored, body_stored, root_stored}
 use Rattle.shm_steps.proofs.OwnStoresEra.{era_closed}

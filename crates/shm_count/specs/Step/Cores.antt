@@ -20,7 +20,7 @@ use Rattle.shm_graph.specs.Ops.{slot_of, is_op}
 use Rattle.shm_graph.specs.Asks.{at_of, Trail}
 use Rattle.shm_graph.specs.Laws.{Stands, Frame, KeptAt}
 use Rattle.shm_graph.specs.Blocks.{classes}
-use Rattle.shm_laws.specs.Steps.{dying_after}
+use Rattle.shm_laws.specs.Exchanges.{dying_after}
 use Rattle.shm_steps.proofs.MemoCommits.{untaken_list, known_left, known_lowered, lowered_is, with_untaken_is, unsent_list, with_unsent_is}
 use Rattle.shm_steps.proofs.Cores.{HasSlot, body_word, core_cond}
 use Rattle.shm_count.specs.declared.point.Aim.TheVariants.{Down, Change, Up}

@@ -30,7 +30,7 @@ use Rattle.shm_steps.specs.Reparting.{Sight, sight, map_in, link_after, TableSte
 use Rattle.shm_graph.specs.declared.table.Entry.{Entry}
 use Rattle.shm_steps.specs.Reparting.TableStep.{Founds, Prepares, Links, Unlinks, Replaces}
 use Rattle.shm_steps.proofs.MemoCommits.{known_lowered, lowered_is}
-use Rattle.shm_laws.specs.Steps.{dying_after}
+use Rattle.shm_laws.specs.Exchanges.{dying_after}
 use Rattle.shm_steps.proofs.Partitions.Reparted.{table_mapped}
 use Rattle.shm_count.specs.declared.point.Aim.{Aim}
 use Rattle.shm_count.specs.declared.point.Aim.TheVariants.{Up, Down, Change}

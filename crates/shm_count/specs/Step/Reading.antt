@@ -28,7 +28,7 @@ use Rattle.shm_graph.proofs.StepKinds.LoadKeeping.{load_kept}
 use Rattle.shm_graph.proofs.StepKinds.Loads.{choice}
 use Rattle.shm_graph.proofs.Spots.SpotPlaces.{spot-place}
 use Rattle.shm_graph.proofs.Spots.Spotting.{same_spot_self}
-use Rattle.shm_laws.specs.Steps.{BeginNeeds}
+use Rattle.shm_laws.specs.OwnWords.{BeginNeeds}
 use Rattle.shm_steps.specs.OwnWords.{op_begun}
 use Rattle.shm_steps.proofs.BodyLoads.{header_loaded}
 use Rattle.shm_steps.proofs.OwnStores.{row_stored}

@@ -45,7 +45,7 @@ use Rattle.shm_calls.specs.Parts.{IsHeld}
 use Rattle.shm_calls.specs.Placed.{MayStand}
 use Rattle.shm_calls.specs.Words.{IsWord, word_more}
 use Rattle.shm_calls.specs.WordSteps.{IsThere, word_in}
-use Rattle.shm_laws.specs.Steps.{Writes}
+use Rattle.shm_laws.specs.Slotting.{Writes}
 use Rattle.shm_steps.specs.Conditions.{MayWrite}
 use Rattle.shm_steps.specs.Reading.{IsCovered, IsSettled, IsTold, MayLookBy}
 use Rattle.shm_steps.specs.WordParts.{BodyStored, HeaderLoaded, HeaderSeen, IsDyingWord, IsLatchedWord, IsPlainWord, ReferenceLoaded, WordLoaded}

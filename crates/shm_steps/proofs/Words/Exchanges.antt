@@ -31,7 +31,7 @@ use Rattle.shm_graph.specs.Reach.{sifted}
 use Rattle.shm_graph.specs.Readings.{header_read, is_held, op_refused, raised_by}
 use Rattle.shm_calls.specs.EventWords.{IsEventWord, event_in}
 use Rattle.shm_calls.specs.WordSteps.{IsThere}
-use Rattle.shm_laws.specs.Steps.{dying_after}
+use Rattle.shm_laws.specs.Exchanges.{dying_after}
 use Rattle.shm_steps.specs.Lowering.{MayLowerFormer}
 use Rattle.shm_steps.specs.WordParts.{FormerLowered, former_event}
 use Rattle.shm_steps.proofs.BodyLoads.{header_lost}

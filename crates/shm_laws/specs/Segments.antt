@@ -1,31 +1,15 @@
--- the kinds of step of a hold word and of a segment's word: what each needs, and what it makes of the memos
-use Rattle.std.specs.Prelude.{◌≡◌, ◌≢◌, ℕ, ◌<◌, ◌≤◌, ◌∷◌, None}
+-- the kinds of step of a segment's word and of a page's class: what each needs, and what it makes of the memos
+use Rattle.std.specs.Prelude.{◌≡◌, ◌≢◌, ℕ, ◌+◌, ◌^◌, ◌<◌, ◌≤◌, ◌&&◌, ◌==◌, if◌then◌else◌, ◌∷◌, ◌++◌, None}
 use Rattle.std.specs.List.{Contains, filter}
 use Rattle.shm_words.specs.declared.geometry.Geometry.{Geometry}
 use Rattle.shm_graph.specs.declared.spot.Spot.{Spot}
-use Rattle.shm_graph.specs.declared.spot.Spot.TheVariants.{Hold, Segment, Page}
-use Rattle.shm_graph.specs.declared.memo.Status.TheVariants as status
+use Rattle.shm_graph.specs.declared.spot.Spot.TheVariants.{Page, Segment}
+use Rattle.shm_graph.specs.declared.memo.Fact.TheVariants.{Class}
+use Rattle.shm_words.specs.Classes.{IsClass}
 use Rattle.shm_graph.specs.Spots.{IsAt}
-use Rattle.shm_graph.specs.Stores.{not_segment, outside_of}
+use Rattle.shm_graph.specs.Stores.{other_than, not_segment, outside_of}
 use Rattle.shm_graph.specs.Views.{View, at1}
-
--- ---- the store of the own hold word, where no latch is held
-
--- x is 0, or one more than the identity whose latch is to be taken
-pub record HoldNeeds (g : Geometry) (w : Spot → ℕ) (v : View) (c x : ℕ) : Type 0 where
-  pub inside : c < g.clients
-  pub acts : v.status c ≢ status.New
-  pub here : v.status c ≢ status.Gone
-  pub none : v.latch c ≡ None
-  pub most : x ≤ g.clients
-  pub place : IsAt g (λ s q. w (Page s q)) (Hold c)
-
-abbrev pub hold_view : View → ℕ → ℕ → View
-hold_view v c x =
-    record v {
-      own = at1 v.own c (record { spot = Hold c; value = x } ∷ v.own c);
-      test = at1 v.test c None;
-    }
+use Rattle.shm_graph.specs.declared.memo.Status.TheVariants as status
 
 -- ---- the exchange by which a segment that nobody owns becomes the identity's
 
@@ -60,5 +44,22 @@ segment_back_view g v c s =
     record v {
       owned = at1 v.owned c (filter (not_segment s) (v.owned c));
       zeros = at1 v.zeros c (filter (outside_of g s) (v.zeros c));
+      test = at1 v.test c None;
+    }
+
+-- ---- the store of a page's class
+
+pub record ClassNeeds (g : Geometry) (w : Spot → ℕ) (v : View) (c s q k : ℕ) : Type 0 where
+  pub inside : c < g.clients
+  pub acts : v.status c ≡ status.Live
+  pub page : IsAt g (λ i j. w (Page i j)) (Page s q)
+  pub read : Contains (v.zeros c) (Page s q)
+  pub class : IsClass k
+
+abbrev pub class_view : View → ℕ → ℕ → ℕ → ℕ → View
+class_view v c s q k =
+    record v {
+      zeros = at1 v.zeros c (filter (other_than (Page s q)) (v.zeros c));
+      facts = at1 v.facts c (Class s q k ∷ v.facts c);
       test = at1 v.test c None;
     }
