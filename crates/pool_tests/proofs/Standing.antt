@@ -248,13 +248,6 @@ recovering_gone e h = by (acts e.memo)
     by true = record { roots = h.roots; hold = h.hold; idle = h.idle; latched = h.latched; segments = h.segments; dyings = h.dyings; sends = h.sends; takes = h.takes }
     by false = record { roots = h.roots; hold = h.hold; idle = h.idle; latched = h.latched; segments = h.segments; dyings = h.dyings; sends = h.sends; takes = h.takes }
 
-pub recovering_who : (e : Account) → (recovering e).who ≡ e.who
-recovering_who e = by (acts e.memo)
-  where
-    by : (b : Bool) → (cond b e (account_entered Client e)).who ≡ e.who
-    by true = refl
-    by false = refl
-
 -- a quit of an identity with nothing to finish fits
 pub quit_fits : (me : Me) (r : Memo) → IsMember me → GoneNow me.who r → fits_now quit_control QuitFits (quit_fresh me) r r
 quit_fits me r member left = record { member = member; left = λ z. left }

@@ -178,14 +178,3 @@ module _ {S T A B : Type 0} (first : Bool) (j : Control S A) (k : Control T B) (
         ends = end_of;
         asked = asked_of;
       }
-
--- what one of the two leaves, by its own answer
-pub by_first : {S T A B : Type 0} (f : S → Memo → Memo → Trail → List Event → A → Type 0) (g : T → Memo → Memo → Trail → List Event → B → Type 0) (X : Or A B → Type 0) (m : S) (rs r : Memo) (t : Trail) (es : List Event) (b : Or A B)
-    → OrLeaves f g (First m) rs r t es b → ((a : A) → f m rs r t es a → X (First a)) → X b
-by_first f g X m rs r t es (First a) h then = then a h
-by_first f g X m rs r t es (Second b) h then = absurd h
-
-pub by_second : {S T A B : Type 0} (f : S → Memo → Memo → Trail → List Event → A → Type 0) (g : T → Memo → Memo → Trail → List Event → B → Type 0) (X : Or A B → Type 0) (m : T) (rs r : Memo) (t : Trail) (es : List Event) (b : Or A B)
-    → OrLeaves f g (Second m) rs r t es b → ((a : B) → g m rs r t es a → X (Second a)) → X b
-by_second f g X m rs r t es (First a) h then = absurd h
-by_second f g X m rs r t es (Second b) h then = then b h

@@ -178,15 +178,6 @@ look_reads m m' d i x some e = (
   ap (λ (y : Memo). y.looks) e,
 )
 
--- a load of the home whose author's latch is held makes its block a look
-pub home_core : (me : Me) (m : Memo) (f : Frame) (a x at : ℕ) → m.latch ≡ Some a → x ≢ 0 → core (memo_on m (framed me (Load at) f x) (Home a)) ≡ core (record m { looks = m.looks ++ record { block = x; from = Home a } ∷ [] })
-home_core me m f a x at latch some =
-    let n : Memo = called m (framed me (Load at) f x) in
-    let y : Memo = record n { looks = n.looks ++ record { block = x; from = Home a } ∷ [] } in
-    let held : n.latch ≡ Some a = called_by (λ (u : Memo). u.latch ≡ Some a) m (framed me (Load at) f x) latch latch in
-    ap core {y = y} (cond-true (is_held n.latch a && not (eqb x 0)) y n (and_from _ _ (ap (λ o. is_held o a) held ∙ eq-eqb a a refl) (ap not (ne_eqb x 0 some))))
-    ∙ ap (λ (u : Memo). core (record u { looks = u.looks ++ record { block = x; from = Home a } ∷ [] })) (called_core m (framed me (Load at) f x))
-
 -- which is a directory in a pool for tables
 pub home_role : (m m' : Memo) (a x : ℕ) → m'.looks ≡ m.looks ++ record { block = x; from = Home a } ∷ [] → is_loose m'.part ≡ false → role_in (roles m') x ≡ Directory
 home_role m m' a x looks table =

@@ -50,11 +50,6 @@ abbrev pub is_done : {A : Type 0} → Turn A → Bool
 is_done (Done a) = true
 is_done _ = false
 
--- what an answer says, where there is one
-abbrev pub IfDone : {A : Type 0} → Turn A → (A → Type 0) → Type 0
-IfDone (Done a) P = P a
-IfDone _ P = Unit {0}
-
 abbrev pub is_some : {A : Type 0} → Option A → Bool
 is_some None = false
 is_some (Some a) = true

@@ -28,9 +28,3 @@ TakesFront-end (Some left) b c bytes more k n limit first next at le =
       front = both.2 ∙ take_all (k + n) left over ∙ sym (take_all limit left below);
       left = both.1 ∙ ap Some (drop_all (k + n) left over ∙ sym (drop_all limit left below));
     }
-
--- fewer bytes than the limit are all of them
-pub TakesFront-all : (left bytes : List ℕ) (after : Option (List ℕ)) (limit : ℕ) → TakesFront (Some left) after limit bytes → length bytes < limit → (bytes ≡ left) × (after ≡ Some [])
-TakesFront-all left bytes after limit takes few =
-    let all : length left ≤ limit = omega (arith, ap length takes.front, length-take limit left) in
-    (takes.front ∙ take_all limit left all, takes.left ∙ ap Some (drop_all limit left all))

@@ -88,10 +88,6 @@ row_kept g w v c k t h lc test is below = fact_kept g w v c (Counter (Era k c) (
     (λ e. let q : TestAt g.clients (λ i j. w (Era i j)) (ons v c) c (Some t) = subst (TestAt g.clients (λ i j. w (Era i j)) (ons v c) c) test (h.test c lc) in let r = q e in
     (r.0, (let n : r.0 ≢ k = (λ z. let s : w (Era r.0 c) ≡ w (Era k c) = ap (λ i. w (Era i c)) z in let u = r.4 in omega arith) in let m = next_passes c t.next r.0 r.1 r.3 in omega arith), r.2, r.3, r.4))
 
--- once no row is left nothing is committed
-pub not_committed : (n : ℕ) (era : ℕ → ℕ → ℕ) (on : Option ℕ) (c : ℕ) (t : Test) → TestAt n era on c (Some t) → n ≤ next_row c t.next → on ≢ Some t.block
-not_committed n era on c t k l e = let r = k e in let m = next_passes c t.next r.0 r.1 r.3 in let u = r.2 in omega arith
-
 -- what is read of headers and rows leaves the graph
 pub header_quiet : (g : Geometry) (w : Spot → ℕ) (v : View) (c b : ℕ) (test : Option Test) → Happens g w Nothing (graph_of g w v) (graph_of g w (header_view v c (w (Head b)) test))
 header_quiet g w v c b test = record { lives = λ x. refl; shapes = λ x. refl; targets = λ p. refl; held_overs = λ d. refl }

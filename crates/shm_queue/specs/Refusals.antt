@@ -26,9 +26,6 @@ never_chosen : (q : Bool) (x y : StepTrails) → NeverSpent x → NeverSpent y �
 never_chosen true x y h i = h
 never_chosen false x y h i = i
 
-never_full : (b n : ℕ) → NeverSpent (Answers (Err (CountFull b n)))
-never_full b n t e (none, same) = absurd (cc)
-
 never_done : (z : Bool) → NeverSpent (Answers (Ok z))
 never_done z t e (none, same) = absurd (cc)
 

@@ -228,11 +228,6 @@ end_reads place.Order d is h at = reading_end d at [] ∙ ap (λ p. cond (may_en
 end_reads place.Client d is h at = reading_end d at [] ∙ ap (λ p. cond (may_end p []) (Ok (traced d)) (Err (fault_at at Syntax))) is
 end_reads place.Body d is h at = reading_end d at [] ∙ ap (λ p. cond (may_end p []) (Ok (traced d)) (Err (fault_at at Syntax))) is
 
--- behind pool and order
-order_begun : (n g : ℕ) (items : List Item) → IsBegun (order_after (draft_after draft_none (FitPool n g)) items).seen.place
-order_begun n g [] = tt
-order_begun n g (i ∷ items) = tt
-
 head_reaches : (t : Traced) → IsTrace t → Reaches draft_none (ended (fit_text (FitPool t.clients t.segments)) ++ order_spelled t.order) (order_after (draft_after draft_none (FitPool t.clients t.segments)) t.order)
 head_reaches t h =
     let d = draft_after draft_none (FitPool t.clients t.segments) in

@@ -45,14 +45,8 @@ module _ (d : Drafted) (at : ℕ) (rest : List ℕ) (all : Result Traced TraceFa
 short_test : (n : ℕ) → n ≤ 1048576 → ltb 1048576 n ≡ false
 short_test n h = grind (arith, nat_tests)
 
-long_test : (n : ℕ) → 1048576 < n → ltb 1048576 n ≡ true
-long_test n h = grind (arith, nat_tests)
-
 pub short_trace : (bytes : List ℕ) → length bytes ≤ 1048576 → trace_of bytes ≡ reading draft_none 1 (slice_split (λ b. b == 10) bytes)
 short_trace bytes h = ap (λ b. cond b (Err (limit_fault bytes)) (reading draft_none 1 (slice_split (λ b. b == 10) bytes))) (short_test (length bytes) h)
-
-pub long_trace : (bytes : List ℕ) → 1048576 < length bytes → trace_of bytes ≡ Err (limit_fault bytes)
-long_trace bytes h = ap (λ b. cond b (Err (limit_fault bytes)) (reading draft_none 1 (slice_split (λ b. b == 10) bytes))) (long_test (length bytes) h)
 
 -- what a reading answers
 abbrev pub Reads : List ℕ → Result Traced ParseStop → Type 0

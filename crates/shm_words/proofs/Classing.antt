@@ -9,10 +9,3 @@ class_is refs plain = grind (arith, nat_tests)
 -- a header, a tag and the words have room
 pub class_room : (refs plain : ℕ) → refs ≤ 16 → plain ≤ 8 → 2 + refs + plain ≤ class_for refs plain
 class_room refs plain r p = grind (arith, nat_tests)
-
-pub class_least : (refs plain : ℕ) → refs ≤ 16 → plain ≤ 8 → IsLeastClass refs plain (class_for refs plain)
-class_least refs plain r p = record {
-  class = class_is refs plain;
-  room = class_room refs plain r p;
-  least = λ j is l. grind (arith, nat_tests);
-}

@@ -112,11 +112,5 @@ total_most g f = let s = mul-le g.clients g.clients 16 16 f.clients f.clients in
 pub total_small : (g : Geometry) → GeometryFits g → total_of g < 2 ^ 20
 total_small g f = let m = total_most g f in omega arith
 
-pub total_least : (g : Geometry) → 1 ≤ total_of g
-total_least g = omega arith
-
-pub bodies_before_total : (g : Geometry) → bodies g ≤ total_of g
-bodies_before_total g = omega arith
-
 pub address_small : (g : Geometry) (p : Place) → is_in g p ≡ true → GeometryFits g → address g p < 2 ^ 20
 address_small g p h f = let l = address_below g p h f in let m = total_most g f in omega arith

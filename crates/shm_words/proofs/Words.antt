@@ -16,10 +16,6 @@ pub header_of-word : (h : Header) → HeaderFits h → header_of (header_word h)
 unfolding header_of header_word
 header_of-word h fits = first_of (search rules, grind (arith, common_steps))
 
-pub header_word-of : (w : ℕ) → w < 2 ^ 64 → header_word (header_of w) ≡ w
-unfolding header_of header_word
-header_word-of w l = first_of (search rules, grind (arith, nat_tests))
-
 pub header_word_small : (h : Header) → HeaderFits h → header_word h < 2 ^ 64
 unfolding header_word
 header_word_small h fits = first_of (search rules, grind (arith, common_steps))
@@ -90,14 +86,6 @@ tag_from_fields w l r p = first_of (search rules, grind (arith, nat_tests))
 pub redo_of-word : (r : Redo) → RedoFits r → redo_of (redo_word r) ≡ Some r
 unfolding redo_of redo_word
 redo_of-word r fits = first_of (search rules, grind (arith, common_steps))
-
-pub redo_word-of : (w : ℕ) (r : Redo) → w < 2 ^ 64 → redo_of w ≡ Some r → redo_word r ≡ w
-unfolding redo_of redo_word
-redo_word-of w r l e = first_of (search rules, grind (arith, nat_tests))
-
-pub redo_fits : (w : ℕ) (r : Redo) → redo_of w ≡ Some r → RedoFits r
-unfolding redo_of
-redo_fits w r e = first_of (search rules, grind (arith, nat_tests))
 
 pub redo_word_small : (r : Redo) → RedoFits r → redo_word r < 2 ^ 64
 unfolding redo_word

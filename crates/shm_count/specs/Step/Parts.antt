@@ -60,13 +60,6 @@ link_spot : (d i : ℕ) (es : List Entry) → IsTableSpot (link_after d i es)
 link_spot d i [] = tt
 link_spot d i (e ∷ es) = link_spot e.block 0 es
 
-pub table_spot : (c : ℕ) (s : Sight) (p : Spot) (old new : ℕ) → TableStep c s p old new → IsTableSpot p
-table_spot c s p old new (Founds at none bare) = subst IsTableSpot (sym at) tt
-table_spot c s p old new (Prepares b i key at entry) = subst IsTableSpot (sym at) tt
-table_spot c s p old new (Links key v n at entry next value number) = subst IsTableSpot (sym at) tt
-table_spot c s p old new (Unlinks key before e1 after has at entry next) = subst IsTableSpot (sym at) (link_spot s.home (key % 16) before)
-table_spot c s p old new (Replaces key n before e1 after has at number) = subst IsTableSpot (sym at) tt
-
 -- ---- the memos of a step
 
 module _ (me : Me) (q : Memo) (e w : ℕ) where
@@ -100,52 +93,12 @@ module _ (me : Me) (q : Memo) (e w : ℕ) where
       ∙ set_part x (spot.Body d i) s
   slot_part x _ s = absurd s
 
--- the exchange of the second half leaves it
-second_part : (me : Me) (q : Memo) (e w a b : ℕ) (p : Spot) → (set_memo me (Change a b) p e Second q w).part ≡ q.part
-second_part me q e w a b p =
-    let c = me.who in
-    let m : Memo = cut c p (record q { op = op.Change (Lowering Closed) p a b e; made = without_made q a }) in
-    let n : ℕ = (header_of (header_after me (Change a b) e Second w)).count in
-    ap (λ (y : Memo). (sifted c y).part) {y = record m { dying = dying_after n a m.dying; known = known_lowered n a m.known }} (lowered_is n a m)
-
 -- what the memo shows of its partition at the exchange is as before
 pub first_sight : (me : Me) (slot : ℕ) (x : Aim) (p : Spot) (r0 q : Memo) (e : ℕ) → AtFirst me slot x p r0 q e → sight me.who q ≡ sight me.who r0
 first_sight me slot x p r0 q e first =
     let rest : core q ≡ core (record (begun me slot x p e r0) { own = q.own }) = first.1.rest in
     let home : own_word q.own (spot.Home me.who) ≡ own_word r0.own (spot.Home me.who) = first.1.own (spot.Home me.who) refl in
     λ i. record { known = (rest i).known; values = (rest i).values; part = (rest i).part; home = home i }
-
--- the partition that a step leaves that is done
-pub done_part : (me : Me) (slot : ℕ) (x : Aim) (p : Spot) (r0 r : Memo) (z : Bool) → IsTableSpot p → Done me slot x p r0 r z → r.part ≡ part_after me.who (sight me.who r0) p (value_after x)
-done_part me slot (Up b) p r0 r z s (e, q, w, first, some, same, is) =
-    ap (λ (m : Memo). m.part) same
-    ∙ (closed_part (λ (m : Memo). m.part) me e (slot_memo me (Up b) p e q w) refl
-    ∙ (slot_part me q e w (Up b) p s
-    ∙ ap (λ y. part_after me.who y p b) (first_sight me slot (Up b) p r0 q e first)))
-done_part me slot (Down b) p r0 r z s (e, q, w, first, some, same, is) =
-    ap (λ (m : Memo). m.part) same
-    ∙ (closed_part (λ (m : Memo). m.part) me e (slot_memo me (Down b) p e q w) refl
-    ∙ (slot_part me q e w (Down b) p s
-    ∙ ap (λ y. part_after me.who y p 0) (first_sight me slot (Down b) p r0 q e first)))
-done_part me slot (Change a b) p r0 r z s (e, q, w, half, some, same, is) =
-    let c = me.who in
-    let x : Aim = Change a b in
-    let f = half.2 in
-    ap (λ (y : Memo). y.part) same
-    ∙ (closed_part (λ (y : Memo). y.part) me e (set_memo me x p e Second q w) refl
-    ∙ (second_part me q e w a b p
-    ∙ (ap (λ (y : Memo). y.part) f.3.rest
-    ∙ (closed_part (λ (y : Memo). y.part) me half.0 (slot_memo me x p half.0 f.0 f.1) refl
-    ∙ (slot_part me f.0 half.0 f.1 x p s
-    ∙ ap (λ y. part_after c y p b) (first_sight me slot x p r0 f.0 half.0 f.2))))))
-
--- and its map, where it was made at a word that it could be made at
-pub done_map : (me : Me) (slot : ℕ) (x : Aim) (p : Spot) (w : Spot → ℕ) (r : ℕ → Memo) (r' : Memo) (z : Bool) → HeldAt me.geometry w (view r) → me.who < me.geometry.clients → cover_of (r me.who).op ≡ Quiet → Holds w me.geometry (view r) me.who p → word_at (words_of w) p ≡ value_before x → value_before x ≢ value_after x
-    → (s : TableStep me.who (sight me.who (r me.who)) p (value_before x) (value_after x)) → is_loose (r me.who).part ≡ false → Done me slot x p (r me.who) r' z
-    → (k : ℕ) → map_in r'.part k ≡ map_after me.who (sight me.who (r me.who)) p (value_before x) (value_after x) s (map_in (r me.who).part) k
-done_map me slot x p w r r' z held who quiet holds word other s table done k =
-    ap (λ y. map_in y k) (done_part me slot x p (r me.who) r' z (table_spot me.who (sight me.who (r me.who)) p (value_before x) (value_after x) s) done)
-    ∙ table_mapped me.geometry w r me.who held who p (value_before x) (value_after x) quiet holds word other s table k
 
 -- ---- the own words
 
@@ -252,107 +205,10 @@ module _ (me : Me) (q : Memo) (e w d i : ℕ) where
       has (Down b) = subst (λ (o : Op). (is_op o ≡ true) × (slot_of o ≡ p)) (sym (is_set me (Down b) p e First q w tt).op) (refl, refl)
       has (Change a b) = (refl, refl)
 
--- the exchange of the second half leaves them too
-second_rest : (me : Me) (q : Memo) (e w a b : ℕ) (p : Spot) → (rest_of (set_memo me (Change a b) p e Second q w) ≡ rest_of q) × ((set_memo me (Change a b) p e Second q w).own ≡ q.own)
-second_rest me q e w a b p =
-    let c = me.who in
-    let m : Memo = cut c p (record q { op = op.Change (Lowering Closed) p a b e; made = without_made q a }) in
-    let n : ℕ = (header_of (header_after me (Change a b) e Second w)).count in
-    let f : Memo = record m { dying = dying_after n a m.dying; known = known_lowered n a m.known } in
-    (ap (λ (y : Memo). rest_of (sifted c y)) {y = f} (lowered_is n a m), ap (λ (y : Memo). (sifted c y).own) {y = f} (lowered_is n a m))
-
--- the store of the own era stores one own word
-closed_rest : (me : Me) (e : ℕ) (m : Memo) → (rest_of (closed_memo me e m) ≡ rest_of m) × ((s : Spot) → is_lasting me.who s ≡ true → own_word (closed_memo me e m).own s ≡ own_word m.own s)
-closed_rest me e m = (
-  closed_part rest_of me e m refl,
-  λ s l. closed_part (λ (y : Memo). own_word y.own s) me e m refl ∙ ap (λ z. cond z (e + 1) (own_word m.own s)) (lasting_not me.who s l).0,
-)
-
 -- an own word that lasts stays in the first half
 pub first_own : (me : Me) (slot : ℕ) (x : Aim) (p : Spot) (m q : Memo) (e : ℕ) → AtFirst me slot x p m q e → (s : Spot) → is_lasting me.who s ≡ true → own_word q.own s ≡ own_word m.own s
 first_own me slot x p m q e first s l =
     let not_it = lasting_not me.who s l in
     first.1.own s not_it.1 ∙ ap (λ z. cond z (redo_word (redo_at x slot e)) (own_word m.own s)) not_it.2
 
--- what is left of the parts one by one
-leaves_from : (c : ℕ) (m r : Memo) → rest_of r ≡ rest_of m → r.op ≡ op.Nothing → ((s : Spot) → is_lasting c s ≡ true → own_word r.own s ≡ own_word m.own s) → Leaves c m r
-leaves_from c m r e idle own = record { status = λ i. (e i).0; op = idle; latch = λ i. (e i).1; making = λ i. (e i).2; owned = λ i. (e i).3; own = own }
-
-pub step_leaves : (me : Me) (slot d i : ℕ) (x : Aim) (m r : Memo) (z : Bool) → Done me slot x (spot.Body d i) m r z → Leaves me.who m r
-step_leaves me slot d i (Up b) m r z (e, q, w, first, some, same, is) =
-    let x : Aim = Up b in
-    let p : Spot = spot.Body d i in
-    let s : Memo = slot_memo me x p e q w in
-    let k = slot_rest me q e w d i x in
-    let k2 = closed_rest me e s in
-    leaves_from me.who m r (ap rest_of same ∙ (k2.0 ∙ (k.0 ∙ ap rest_of first.1.rest)))
-    (ap (λ (y : Memo). y.op) same ∙ (closed_part (λ (y : Memo). y.op) me e s refl ∙ ap (λ (y : Memo). op_closed y.op (e + 1)) (body_word me.geometry me.who d i b (set_memo me x p e First q w) (refl, refl))))
-    (λ u l. ap (λ (y : Memo). own_word y.own u) same ∙ (k2.1 u l ∙ (ap (λ (o : List Stored). own_word o u) k.1 ∙ first_own me slot x p m q e first u l)))
-step_leaves me slot d i (Down b) m r z (e, q, w, first, some, same, is) =
-    let x : Aim = Down b in
-    let p : Spot = spot.Body d i in
-    let s : Memo = slot_memo me x p e q w in
-    let o : (set_memo me x p e First q w).op ≡ op.Down Committed p b e = (is_set me x p e First q w tt).op in
-    let k = slot_rest me q e w d i x in
-    let k2 = closed_rest me e s in
-    leaves_from me.who m r (ap rest_of same ∙ (k2.0 ∙ (k.0 ∙ ap rest_of first.1.rest)))
-    (ap (λ (y : Memo). y.op) same ∙ (closed_part (λ (y : Memo). y.op) me e s refl
-    ∙ (ap (λ (y : Memo). op_closed y.op (e + 1)) (body_word me.geometry me.who d i 0 (set_memo me x p e First q w) (subst (λ (u : Op). (is_op u ≡ true) × (slot_of u ≡ p)) (sym o) (refl, refl)))
-    ∙ ap (λ u. op_closed (op_written u) (e + 1)) o)))
-    (λ u l. ap (λ (y : Memo). own_word y.own u) same ∙ (k2.1 u l ∙ (ap (λ (o : List Stored). own_word o u) k.1 ∙ first_own me slot x p m q e first u l)))
-step_leaves me slot d i (Change a b) m r z (e, q2, w, half, some, same, is) =
-    let x : Aim = Change a b in
-    let p : Spot = spot.Body d i in
-    let h = half.2 in
-    let s2 : Memo = set_memo me x p e Second q2 w in
-    let s1 : Memo = slot_memo me x p half.0 h.0 h.1 in
-    let k2 = second_rest me q2 e w a b p in
-    let k1 = slot_rest me h.0 half.0 h.1 d i x in
-    let c2 = closed_rest me e s2 in
-    let c1 = closed_rest me half.0 s1 in
-    leaves_from me.who m r
-    (ap rest_of same ∙ (c2.0 ∙ (k2.0 ∙ (ap rest_of h.3.rest ∙ (c1.0 ∙ (k1.0 ∙ ap rest_of h.2.1.rest))))))
-    (ap (λ (y : Memo). y.op) same ∙ (closed_part (λ (y : Memo). y.op) me e s2 refl ∙ ap (λ u. op_closed u (e + 1)) (is_set me x p e Second q2 w tt).op))
-    (λ u l. ap (λ (y : Memo). own_word y.own u) same ∙ (c2.1 u l ∙ (ap (λ (o : List Stored). own_word o u) k2.1 ∙ (h.3.own u (lasting_not me.who u l).1 ∙ (c1.1 u l ∙ (ap (λ (o : List Stored). own_word o u) k1.1 ∙ first_own me slot x p m h.0 half.0 h.2 u l))))))
-
 -- ---- a step up at the own home
-
--- the home names the block then; the looks, the zero-count blocks, what is known and the value blocks stay, and so does the rest
-pub record Homed (c b : ℕ) (m r : Memo) : Type 0 where
-  pub home : own_word r.own (spot.Home c) ≡ b
-  pub status : r.status ≡ m.status
-  pub op : r.op ≡ op.Nothing
-  pub latch : r.latch ≡ m.latch
-  pub making : r.making ≡ m.making
-  pub owned : r.owned ≡ m.owned
-  pub looks : r.looks ≡ m.looks
-  pub dying : r.dying ≡ m.dying
-  pub known : r.known ≡ m.known
-  pub values : r.values ≡ m.values
-  pub own : (s : Spot) → is_lasting c s ≡ true → same_spot (spot.Home c) s ≡ false → own_word r.own s ≡ own_word m.own s
-
-pub home_left : (me : Me) (slot b : ℕ) (m r : Memo) (z : Bool) → Done me slot (Up b) (spot.Home me.who) m r z → Homed me.who b m r
-home_left me slot b m r z (e, q, w, first, some, same, is) =
-    let c = me.who in
-    let p : Spot = spot.Home c in
-    let s : Memo = slot_memo me (Up b) p e q w in
-    let f : Memo = record (with_own s (spot.Era c c) (e + 1)) { op = op.Nothing } in
-    let closed : ◌≡◌ {A = Memo} (closed_memo me e s) f = cond-true (eqb c c) (era_stored c s (spot.Era c c) (e + 1)) (with_own s (spot.Era c c) (e + 1)) (eq-eqb c c refl) in
-    let left : core r ≡ core f = ◌∙◌ {c = core f} same (ap core {y = f} closed) in
-    let rest : core q ≡ core (record (begun me slot (Up b) p e m) { own = q.own }) = first.1.rest in
-    let mine : r.own ≡ f.own = ap (λ (u : Memo). u.own) left in
-    record {
-      home = ap (λ (u : List Stored). own_word u p) mine ∙ cond-true (same_spot p p) b (own_word q.own p) (same_spot_self p);
-      status = ap (λ (u : Memo). u.status) left ∙ ap (λ (u : Memo). u.status) rest;
-      op = ap (λ (u : Memo). u.op) left;
-      latch = ap (λ (u : Memo). u.latch) left ∙ ap (λ (u : Memo). u.latch) rest;
-      making = ap (λ (u : Memo). u.making) left ∙ ap (λ (u : Memo). u.making) rest;
-      owned = ap (λ (u : Memo). u.owned) left ∙ ap (λ (u : Memo). u.owned) rest;
-      looks = ap (λ (u : Memo). u.looks) left ∙ ap (λ (u : Memo). u.looks) rest;
-      dying = ap (λ (u : Memo). u.dying) left ∙ ap (λ (u : Memo). u.dying) rest;
-      known = ap (λ (u : Memo). u.known) left ∙ ap (λ (u : Memo). u.known) rest;
-      values = ap (λ (u : Memo). u.values) left ∙ ap (λ (u : Memo). u.values) rest;
-      own = λ u l other. ap (λ (o : List Stored). own_word o u) mine
-          ∙ (ap (λ y. cond y (e + 1) (cond (same_spot p u) b (own_word q.own u))) (lasting_not c u l).0
-          ∙ (ap (λ y. cond y b (own_word q.own u)) other ∙ first_own me slot (Up b) p m q e first u l));
-    }

@@ -43,12 +43,6 @@ may_up_root me b r may = record { made = refl; first = refl; start = refl; knows
 pub rooted_root : (me : Me) (b k : ℕ) (r0 r : Memo) (tr : Trail) (es : List Event) → Rooted me b k r0 r tr es → root_word me.who r k ≡ b
 rooted_root me b k r0 r tr es h = h.filled.own (Root me.who k) refl ∙ cond-true _ _ _ (same_spot_self (Root me.who k))
 
--- so that the block is in reach by its root, whatever else named it
-pub rooted_reached : (me : Me) (b k : ℕ) (r0 r : Memo) (tr : Trail) (es : List Event) → MayUpRoot me b r0 → Rooted me b k r0 r tr es → is_reached me.who r b ≡ true
-rooted_reached me b k r0 r tr es may h =
-    let some : b ≢ 0 = (λ e. let l = h.inside.0 in absurd (omega arith)) in
-    root_reached me.who r b k h.low (ap (λ (x : Memo). x.op) h.filled.rest ∙ may.idle) (rooted_root me b k r0 r tr es h) some
-
 -- whatever it answers, it takes at most a word step for each root besides those of a step up
 pub up_root_bound : (me : Me) (b : ℕ) (r0 r : Memo) (tr : Trail) (es : List Event) (a : Result ℕ ShareFault) → UpRootLeaves me b r0 r tr es a → IsWithin (up_steps + 16) tr
 up_root_bound me b r0 r tr es (Ok k) h = let x = h.bound in let l = h.low in omega arith

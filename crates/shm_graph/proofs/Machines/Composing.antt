@@ -22,9 +22,6 @@ outcome_then X (Some a) P Q f g h = g a h
 pub outcome_none : {A : Type 0} (t : Option A) (P : Type 0) (Q : A → Type 0) → t ≡ None → Outcome t P Q → P
 outcome_none t P Q e h = subst (λ o. Outcome o P Q) e h
 
-pub outcome_some : {A : Type 0} (t : Option A) (P : Type 0) (Q : A → Type 0) (a : A) → t ≡ Some a → Outcome t P Q → Q a
-outcome_some t P Q a e h = subst (λ o. Outcome o P Q) e h
-
 -- from the turn that a machine makes of what it answers
 pub none_of : {A : Type 0} (o : Option A) → turn_of o ≡ More → o ≡ None
 none_of None e = refl
@@ -33,7 +30,3 @@ none_of (Some a) e = cc
 pub some_of : {A : Type 0} (o : Option A) (a : A) → turn_of o ≡ Done a → o ≡ Some a
 some_of None a e = cc
 some_of (Some b) a e = cc
-
--- what a later part has asked is the end of the call where what the whole has asked is
-pub ends_since : (call before since : List Seen) → Ends call (before ++ since) → Ends call since
-ends_since call before since e = (e.0 ++ before, e.1 ∙ sym (append_assoc e.0 before since))

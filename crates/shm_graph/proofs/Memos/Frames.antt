@@ -29,7 +29,3 @@ at1_twice {T} f c x y = fun_ext (λ d. twice (eqb c d) (f d))
 pub cond_same : {S T : Type 0} (f : S → T) (b : Bool) (x y z : S) → f y ≡ f x → f (cond b y z) ≡ f (cond b x z)
 cond_same f true x y z e = e
 cond_same f false x y z e = refl
-
-pub cond_set : {S T : Type 0} (f : S → T) (b : Bool) (x y z : S) (n : T) → f y ≡ n → f (cond b y z) ≡ cond b n (f (cond b x z))
-cond_set f true x y z n e = e
-cond_set f false x y z n e = refl

@@ -33,16 +33,6 @@ acts_within es c e =
       | inr o ↦ absurd (false≢true (sym (ap (λ (x : Account). acts x.memo) (get_or_past es c _ o)) ∙ e))
     ]
 
-pub run-dies : (g : Geometry) (a : State) (ms : List Move) (s : State) (c : ℕ) → Held g s.words s.accounts → Leads g a ms s → acts (memos_of s.accounts c) ≡ true → Turned g s (Dies c) × Leads g a (ms ++ Dies c ∷ []) (moved s (Dies c))
-run-dies g a ms s c h run e =
-    let turned : Turned g s (Dies c) = turned-dies g s c h (subst (λ (z : ℕ). c < z) h.accounts (acts_within s.accounts c e)) in
-    (turned, Leads-more g a ms s (Dies c) run e turned)
-
-pub run-begins : (g : Geometry) (a : State) (ms : List Move) (s : State) (c : ℕ) (k : Kind) → Held g s.words s.accounts → c < g.clients → Leads g a ms s → acts (memos_of s.accounts c) ≡ false → MayBegin k (memos_of s.accounts c) → Turned g s (Begins c k) × Leads g a (ms ++ Begins c k ∷ []) (moved s (Begins c k))
-run-begins g a ms s c k h l run e may =
-    let turned : Turned g s (Begins c k) = turned-begins g s c k h l in
-    (turned, Leads-more g a ms s (Begins c k) run (subst (λ (z : ℕ). c < z) (sym h.accounts) l, e, may) turned)
-
 -- ---- a machine, one step on
 
 module _ {S A : Type 0} (k : Control S A) (steady : Steady k) where
@@ -59,19 +49,12 @@ module _ {S A : Type 0} (k : Control S A) (steady : Steady k) where
   pub done_on : (m : S) (n : ℕ) (a : A) → k.finished m ≡ false → k.turns m n ≡ Some a → k.finished (k.after m n) ≡ true
   done_on m n a going e = (steady m n going).ends ∙ ap is_some e
 
--- what a step leaves of whether an agent acts
-pub account_acts : (e : Account) (t : Step) → acts (account_after e t).memo ≡ cond (is_gone (account_after e t).memo.status && t.ends) false (acts e.memo)
-account_acts e t = acts_after e.memo t ((asked_spot e.memo t))
-
 -- where the machine goes on, where it doesn't leave the status gone, and where it ends and does
 pub account_acts-on : (e : Account) (t : Step) → t.ends ≡ false → acts (account_after e t).memo ≡ acts e.memo
 account_acts-on e t going = acts-on e.memo t ((asked_spot e.memo t)) going
 
 pub account_acts-here : (e : Account) (t : Step) → (account_after e t).memo.status ≢ Gone → acts (account_after e t).memo ≡ acts e.memo
 account_acts-here e t n = acts-here e.memo t ((asked_spot e.memo t)) n
-
-pub account_acts-gone : (e : Account) (t : Step) → t.ends ≡ true → (account_after e t).memo.status ≡ Gone → acts (account_after e t).memo ≡ false
-account_acts-gone e t ends s = acts-gone e.memo t ((asked_spot e.memo t)) ends s
 
 -- what an answer says of the machine one step on, it says of the machine
 pub whole_back : {S A : Type 0} (k : Control S A) (gives : S → Memo → Memo → Trail → A → Type 0) → Back k gives → (m : S) (n : ℕ) → k.finished m ≡ false → k.turns m n ≡ None → (r0 r : Memo) (a : A) → gives_now gives (k.after m n) r0 r a → gives_now gives m r0 r a

@@ -64,12 +64,3 @@ pub turned-begins : (g : Geometry) (s : State) (c : ℕ) (k : Kind) → Held g s
 turned-begins g s c k h l = record { held = held-changed g s.words s.accounts c (account_entered k) h l refl; event = tt }
 
 -- ---- what turns leave of the accounts
-
--- who each account is of
-pub who-moved : (s : State) (m : Move) (d : ℕ) → (account_at (moved s m).accounts d).who ≡ (account_at s.accounts d).who
-who-moved s (Word t) d = account_part (λ (e : Account). e.who) s.accounts t.me.who (account_after (account_at s.accounts t.me.who) t) d refl
-who-moved s (Dies c) d = account_part (λ (e : Account). e.who) s.accounts c (account_died (account_at s.accounts c)) d refl
-who-moved s (Begins c k) d = account_part (λ (e : Account). e.who) s.accounts c (account_entered k (account_at s.accounts c)) d refl
-
-pub Leads-who : (g : Geometry) (a : State) (ms : List Move) (b : State) (d : ℕ) → Leads g a ms b → (account_at b.accounts d).who ≡ (account_at a.accounts d).who
-Leads-who g a ms b d run = Leads-keeps (λ s. (account_at s.accounts d).who ≡ (account_at a.accounts d).who) g (λ s m p turn held. who-moved s m d ∙ p) a ms b refl run

@@ -87,11 +87,6 @@ see_class_set g ws a k s q f all l e none zeros = fun_ext (λ p. see_class_at g 
 pub see-set_class : (g : Geometry) (ws : List ℕ) (a k s q : ℕ) → GeometryFits g → length ws ≡ total_of g → a < total_of g → spot_at g (classes_in g ws) a ≡ Page s q → see g ws (Page s q) ≡ 0 → ((b : ℕ) → see g ws (Unused b) ≡ 0) → see g (set ws a k) ≡ upd (see g ws) (Page s q) k
 see-set_class g ws a k s q f all l e none zeros = see_class_set g ws a k s q f all l e (sym (see_page g ws f s q) ∙ none) (λ b h. sym (see_at g ws b (Unused b) h.2 h.0) ∙ zeros b)
 
--- where each word of the page is 0
-pub see-set_class_zeros : (g : Geometry) (ws : List ℕ) (a k s q : ℕ) → GeometryFits g → length ws ≡ total_of g → a < total_of g → spot_at g (classes_in g ws) a ≡ Page s q → see g ws (Page s q) ≡ 0 → ((i : ℕ) → i < 128 → get_or ws (bodies g + 2048 * s + 128 * q + i) 0 ≡ 0) → see g (set ws a k) ≡ upd (see g ws) (Page s q) k
-see-set_class_zeros g ws a k s q f all l e none zeros = see_class_set g ws a k s q f all l e (sym (see_page g ws f s q) ∙ none)
-    (λ b h. let x : b ≡ bodies g + 2048 * s + 128 * q + (b - bodies g) % 128 = omega arith in ap (λ n. get_or ws n 0) x ∙ zeros ((b - bodies g) % 128) (omega arith))
-
 -- ---- a store at any spot
 
 -- a page gets a class once, and each word in a page without a class is seen as 0

@@ -75,13 +75,6 @@ at_is_in g class p f at = subst (λ (q : Spot). spot_in g q ≡ true) at (spot_i
 pub seen_is_in : (g : Geometry) (ws : List ℕ) (p : Spot) → layout.GeometryFits g → see g ws p ≢ 0 → spot_in g p ≡ true
 seen_is_in g ws p f h = at_is_in g (classes_in g ws) p f (seen_is_at g ws p h)
 
-pub see_out : (g : Geometry) (ws : List ℕ) (p : Spot) → layout.GeometryFits g → spot_in g p ≡ false → see g ws p ≡ 0
-see_out g ws p f h =
-    elim (cases_eq (see g ws p) 0) [
-      | inl e ↦ e
-      | inr e ↦ absurd (false≢true (sym h ∙ seen_is_in g ws p f e))
-    ]
-
 -- where a header lies
 pub head_block : (class : ℕ → ℕ → ℕ) (s p a b i : ℕ) → block_spot (class s p) a i ≡ Head b → (class s p ≢ 0) × (i % class s p ≡ 0) × (a ≡ b)
 head_block class s p a b i e = (grind (arith, nat_tests), grind (arith, nat_tests), grind (arith, nat_tests))

@@ -251,10 +251,6 @@ pub block_is_at : (g : Geometry) (class : ℕ → ℕ → ℕ) (b : ℕ) → IsB
 unfolding spot_address
 block_is_at g class b is = is
 
-pub tag_is_at : (g : Geometry) (class : ℕ → ℕ → ℕ) (b : ℕ) → IsBlock g class b → IsClass (class_at g class b) → IsAt g class (Tag b)
-unfolding spot_address
-tag_is_at g class b is k = tag_spot g class b is k
-
 pub body_is_at : (g : Geometry) (class : ℕ → ℕ → ℕ) (b i : ℕ) → IsBlock g class b → IsClass (class_at g class b) → 2 + i < class_at g class b → IsAt g class (Body b i)
 unfolding spot_address
 body_is_at g class b i is k l = body_spot g class b i is k l
@@ -301,16 +297,6 @@ class_of_block g class a b r w l e =
     let x : b - bodies g ≡ a - bodies g - r = omega arith in
     rw (x, p.0, p.1) refl
 
--- a word of a block is within its size
-pub body_room : (g : Geometry) (class : ℕ → ℕ → ℕ) (a b i : ℕ) → spot_at g class a ≡ Body b i → 2 + i < class_at g class b
-body_room g class a b i e =
-    let w = within_bodies g class a (ap is_in_body e) in
-    let h = block_body (class_at g class a) a ((a - bodies g) % 128) b i (sym (spot_in_bodies g class a w.0 w.1) ∙ e) in
-    let r : (a - bodies g) % 128 % class_at g class a ≤ (a - bodies g) % 128 = mod_most ((a - bodies g) % 128) (class_at g class a) h.0 in
-    let c = class_of_block g class a b ((a - bodies g) % 128 % class_at g class a) w.0 r h.1 in
-    let m : (a - bodies g) % 128 % class_at g class a < class_at g class a = omega arith in
-    omega arith
-
 -- the block of a tag
 block_tag : (k a i b : ℕ) → block_spot k a i ≡ Tag b → (k ≢ 0) × (b ≡ a - 1) × (i % k ≡ 1)
 block_tag k a i b e = grind (arith, nat_tests)
@@ -336,17 +322,8 @@ tag_block g class a b e =
 pub same_address : (g : Geometry) (class : ℕ → ℕ → ℕ) (a b : ℕ) → a < total_of g → b < total_of g → spot_at g class a ≡ spot_at g class b → a ≡ b
 same_address g class a b l m e = sym (address-spot g class a l) ∙ (ap (spot_address g) e ∙ address-spot g class b m)
 
-pub other_spot : (g : Geometry) (class : ℕ → ℕ → ℕ) (a b : ℕ) → a < total_of g → b < total_of g → a ≢ b → same_spot (spot_at g class a) (spot_at g class b) ≡ false
-other_spot g class a b l m n = same_spot_not _ _ (λ e. n (same_address g class a b l m e))
-
 -- ---- a spot in a block that is there
 
 pub is_at_block : (g : Geometry) (class : ℕ → ℕ → ℕ) (b : ℕ) → IsAt g class (Head b) → IsBlock g class b
 unfolding spot_address
 is_at_block g class b at = at
-
-pub is_at_tag : (g : Geometry) (class : ℕ → ℕ → ℕ) (b : ℕ) → IsAt g class (Tag b) → IsBlock g class b
-is_at_tag g class b at = (tag_block g class (spot_address g (Tag b)) b at).0
-
-pub is_at_body : (g : Geometry) (class : ℕ → ℕ → ℕ) (b i : ℕ) → IsAt g class (Body b i) → IsBlock g class b × (2 + i < class_at g class b)
-is_at_body g class b i at = ((body_block g class (spot_address g (Body b i)) b i at).0, body_room g class (spot_address g (Body b i)) b i at)

@@ -69,10 +69,3 @@ see_set_at g ws a x p q all l e n =
 -- what is seen after the store
 pub see-set : (g : Geometry) (ws : List ℕ) (a x : ℕ) (p : Spot) → length ws ≡ total_of g → a < total_of g → spot_at g (classes_in g ws) a ≡ p → is_page p ≡ false → see g (set ws a x) ≡ upd (see g ws) p x
 see-set g ws a x p all l e n = fun_ext (λ q. see_set_at g ws a x p q all l e n)
-
-page_upd : (w : Spot → ℕ) (p : Spot) (x s q : ℕ) → is_page p ≡ false → upd w p x (Page s q) ≡ w (Page s q)
-page_upd w (Page h r) x s q n = absurd (true≢false n)
-page_upd w p x s q n = refl
-
-pub classes-upd : (w : Spot → ℕ) (p : Spot) (x : ℕ) → is_page p ≡ false → classes (upd w p x) ≡ classes w
-classes-upd w p x n = λ i s q. page_upd w p x s q n i

@@ -41,10 +41,6 @@ live_room g ws b f clean l =
     let e = ap (λ c. class_at g c b) (classes-see g ws f) in
     omega (arith, t.room, e)
 
--- its header, its tag and its other words
-pub live_head : (g : Geometry) (ws : List ℕ) (b : ℕ) → IsLive (headers (see g ws)) b → see g ws (Head b) ≡ get_or ws b 0
-live_head g ws b l = see_at g ws b (Head b) (live_below g ws b l).1 (live_block g ws b l)
-
 pub live_word : (g : Geometry) (ws : List ℕ) (b i : ℕ) → GeometryFits g → IsClean g (see g ws) → IsLive (headers (see g ws)) b → i < tag_refs (see g ws (Tag b)) + tag_plain (see g ws (Tag b)) → (see g ws (Body b i) ≡ get_or ws (b + 2 + i) 0) × (b + 2 + i < total_of g)
 live_word g ws b i f clean l lt =
     let k = live_class g ws b f clean l in

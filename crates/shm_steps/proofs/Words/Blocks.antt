@@ -58,10 +58,6 @@ use Rattle.shm_steps.proofs.Words.Own.{at_step, word_for}
 
 -- ---- where the words of a block lie that is told
 
--- what a claim covers
-covers_tag : (k : Claim) → covers (k.block + 1) k ≡ true
-covers_tag k = and_from _ _ (lt-ltb k.block (k.block + 1) (omega arith)) (lt-ltb (k.block + 1) (k.block + 2 + k.refs + k.plain) (omega arith))
-
 covers_word : (k : Claim) (i : ℕ) → i < k.refs + k.plain → covers (k.block + 2 + i) k ≡ true
 covers_word k i low = and_from _ _ (lt-ltb k.block (k.block + 2 + i) (omega arith)) (lt-ltb (k.block + 2 + i) (k.block + 2 + k.refs + k.plain) (omega arith))
 
@@ -104,10 +100,6 @@ module _ (me : Me) (w : Spot → ℕ) (r : ℕ → Memo) (h : HeldAt me.geometry
 -- in a held state the words of a block that is told lie in the pool
 pub told_inside : (me : Me) (m : Memo) (k : Claim) → me.who < me.geometry.clients → IsHeld me m → Contains (claims me.who m) k → (0 < k.block) × (k.block + 1 + k.refs + k.plain < total_of me.geometry)
 told_inside me m k l (w, r, h, same) has = told_end me w r h l k (subst (λ (x : Memo). Contains (claims me.who x) k) (sym same) has)
-
--- no step that isn't in progress ends where a header is read, and no recoverer's does
-pub idle_goes_on : (m : Memo) (b n : ℕ) → m.op ≡ op.Nothing → op_refused m b n ≡ m.op
-idle_goes_on m b n e = choice (λ (o : Op). o ≡ m.op) (not (recovers m) && (is_held (raised_by m.op) b && leb 1023 (header_of n).count)) op.Nothing m.op (λ z. sym e) (λ z. refl)
 
 pub recoverer_goes_on : (m : Memo) (b n : ℕ) → recovers m ≡ true → op_refused m b n ≡ m.op
 recoverer_goes_on m b n e = ap (λ z. cond (not z && (is_held (raised_by m.op) b && leb 1023 (header_of n).count)) op.Nothing m.op) e

@@ -162,9 +162,6 @@ rests_more c m x r a b =
 pub same_map : (m r : Memo) → r.part ≡ m.part → SameMap m r
 same_map m r e k = ap (λ (o : Part). map_in o k) e
 
-pub cleared_self : (c : ℕ) (m : Memo) → Cleared c m m
-cleared_self c m = record { roots = λ j. refl; dying = refl }
-
 pub cleared_more : (c : ℕ) (m x r : Memo) → Cleared c m x → Cleared c x r → Cleared c m r
 cleared_more c m x r a b = record { roots = λ j. b.roots j ∙ a.roots j; dying = b.dying ∙ a.dying }
 
