@@ -7,7 +7,7 @@ ghost use Rattle.shm_alloc.specs.Alloc.{AllocFits, AllocGives};
 ghost use Rattle.shm_alloc.specs.Alloc.Laws.{alloc_laws};
 ghost use Rattle.shm_alloc.specs.declared.point.AllocPoint.TheVariants.{Era};
 
-use crate::point::{AllocPoint, AllocState, AllocNext};
+use crate::point::{AllocNext, AllocPoint, AllocState};
 use crate::request::Request;
 use shm_count::Made;
 use shm_graph::{Ask, Machine, Me, Turn};

@@ -302,8 +302,14 @@ impl AllocState {
             AllocPoint::Plain { goal, block, index } => {
                 AllocNext::Point(request.plain_from(goal, block, index + 1))
             }
-            AllocPoint::Redo { goal, block } => AllocNext::Point(AllocPoint::Commit { goal, block }),
-            AllocPoint::Commit { goal, block } => AllocNext::Point(AllocPoint::Slot { goal, block }),
+            AllocPoint::Redo { goal, block } => AllocNext::Point(AllocPoint::Commit {
+                goal,
+                block,
+            }),
+            AllocPoint::Commit { goal, block } => AllocNext::Point(AllocPoint::Slot {
+                goal,
+                block,
+            }),
             AllocPoint::Slot { goal, block } => AllocNext::Point(AllocPoint::Close { goal, block }),
             AllocPoint::Close { goal, block } => AllocNext::Answer(Ok(Made {
                 root: goal.root,

@@ -24,10 +24,10 @@ pub use laws::{
 };
 pub use machine::Machine;
 pub use memo::{
-    Agent, Fact, Fate, First, ChangeStage, Kind, Look, Making, Memo, Op, Second, Seen, Status, Step,
-    Stored, Test,
+    Agent, ChangeStage, Fact, Fate, First, Kind, Look, Making, Memo, Op, Second, Seen, Status,
+    Step, Stored, Test,
 };
-pub use run::{Account, Move, Start, LoggedLine};
+pub use run::{Account, LoggedLine, Move, Start};
 pub use sound::{
     clean_pools, commitment_is_shown, queues_keep_their_items, redo_tells_the_step,
     references_are_counted, unused_pages_are_empty,
