@@ -1,7 +1,7 @@
 -- putting a value block into the own table as a plan: when it may begin, what is known before each call, and what is left
 pub mod Control
 pub mod Steps
-pub mod Leads
+pub mod Following
 pub mod Laws
 pub mod Bound
 use Rattle.std.specs.Prelude.{◌≡◌, ◌≢◌, Bool, ℕ, ◌+◌, ◌*◌, ◌%◌, ◌^◌, ◌<◌, ◌⊎◌, false, Option, Some, None, IfSome, Result, Ok, Err, List, [], ◌∷◌, ◌++◌, length}

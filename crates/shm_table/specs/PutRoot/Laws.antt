@@ -29,7 +29,7 @@ use Rattle.shm_table.specs.OpenTable.Control.{open_parts}
 use Rattle.shm_table.specs.OpenTable.{open_plan}
 use Rattle.shm_table.specs.PutRoot.Control.{PutRootAnswer, enter_control, is_open, open_control, put_root_call, root_or, put_root_parts, replace_control}
 use Rattle.shm_table.specs.PutRoot.{IsSettled, MayPut, PutRootKnows, RootsSo, put_root_part, put_root_plan, settled_steps}
-use Rattle.shm_table.specs.PutRoot.Leads.{dropped_so, entered, located, opened, replaced, unlatched_so}
+use Rattle.shm_table.specs.PutRoot.Following.{dropped_so, entered, located, opened, replaced, unlatched_so}
 use Rattle.shm_table.specs.Replace.Control.{replace_parts}
 use Rattle.shm_table.specs.Replace.{replace_plan}
 use Rattle.shm_table.specs.Unlatch.{unlatch_control, unlatch_plan}
