@@ -11,8 +11,6 @@ mod del_edge_tests;
 #[cfg(test)]
 mod del_tests;
 #[cfg(test)]
-mod effect_spent_tests;
-#[cfg(test)]
 mod effect_tests;
 #[cfg(test)]
 mod enter_spent_tests;
@@ -34,8 +32,6 @@ mod put_root_tests;
 mod put_root_there_tests;
 #[cfg(test)]
 mod put_tests;
-#[cfg(test)]
-mod queue_effect_tests;
 #[cfg(test)]
 mod recv_refusal_tests;
 #[cfg(test)]
