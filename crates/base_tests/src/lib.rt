@@ -1,5 +1,5 @@
-//! Packed words and addresses, bytes in and out, traces and their texts, the first words of a pool and those that a replay leaves. The
-//! tests stand apart from the crates that they test, so that those are proved once.
+//! Packed words and addresses, bytes in and out, traces and their texts, and the first words of a pool. The tests stand apart from the crates
+//! that they test, so that those are proved once.
 #![tactic(auto)]
 
 #[cfg(test)]
@@ -8,8 +8,6 @@ mod drawn_tests;
 mod drawn_vectors;
 #[cfg(test)]
 mod io_tests;
-#[cfg(test)]
-mod replay_tests;
 #[cfg(test)]
 mod script_tests;
 #[cfg(test)]

@@ -1,10 +1,5 @@
-pub mod FormApart
-pub mod FormHead
-pub mod FormLines
-pub mod FormNumbers
-pub mod FormPut
-pub mod FormWhole
-pub mod TopWords
 pub mod TopReads
+pub mod TopAnswers
+pub mod ReplayWords
 pub mod ProgramWords
-pub mod PutLogs
+pub mod LoggedClients

@@ -1,4 +1,5 @@
-pub mod Form
-pub mod Report
+pub mod Words
+pub mod Refusals
 pub mod Outcomes
 pub mod Commands
+pub mod Runs

@@ -1,12 +1,12 @@
 //! The words of a call of the program, and the status that the process ends with.
 
-ghost use Rattle.std.specs.Prelude.{◌≡◌, ◌≢◌, drop, map, IfOk, IfErr};
+ghost use Rattle.std.specs.Prelude.{◌≡◌, None, drop, map, IfOk, IfErr};
 ghost use Rattle.std.specs.String.{string_bytes};
 ghost use Rattle.std.specs.Vec.Iter.{into_iter_items};
 ghost use Rattle.std.specs.IoError.{error_kind};
 ghost use Rattle.std.specs.declared.io.ErrorKind.TheVariants.{OutOfMemory};
 ghost use Rattle.std.specs.Process.{exit_status};
-ghost use Rattle.cxlshm.specs.Outcomes.{accepted};
+ghost use Rattle.cxlshm.specs.Words.{job_of};
 ghost use Rattle.cxlshm.specs.Commands.{ended_with};
 
 use crate::top::Outcome;
@@ -21,7 +21,7 @@ use std::process::ExitCode;
 /// It answers an error for want of memory, whether it was met here or by who read the words.
 pub fn program_words(alloc: Global, args: io::Result<Args>) -> Result<Vec<String>, AllocError>
     ensures words { IfOk args (λ all. IfOk result (λ w. w.items ≡ drop 1 (into_iter_items all))) }
-    ensures unread { IfErr args (λ _. IfOk result (λ w. map string_bytes w.items ≢ accepted)) }
+    ensures unread { IfErr args (λ _. IfOk result (λ w. job_of (map string_bytes w.items) ≡ None)) }
     ensures memory { IfErr args (λ e. error_kind e ≡ OutOfMemory → IfOk result (λ _. ⊥)) }
 {
     let mut rest = match args {

@@ -1,14 +1,15 @@
 //! A manager of shared, counted memory: the program.
 //!
-//! `cxlshm replay` reads a trace, makes its puts in a pool, closes the pool and writes the report.
+//! `cxlshm replay` reads a trace, replays it, closes the pool and writes the report. `cxlshm replay --print` reads a trace and writes it.
 #![tactic(auto)]
 
 mod command;
-mod form;
-mod puts;
+mod laws;
+mod refusals;
 #[cfg(test)]
 mod tests;
 mod top;
+mod words;
 
 use command::{exit_code, program_words};
 use shm_io::{StdSink, StdSource};

@@ -1,6 +1,6 @@
 -- what a leaving that is written as one machine keeps in range
 use Rattle.std.specs.Prelude.{◌≡◌, ℕ, ◌^◌, ◌<◌, false}
-use Rattle.shm_words.specs.Layout.{GeometryFits}
+use Rattle.shm_words.specs.Layout.{GeometryFits, address_limit}
 use Rattle.shm_graph.specs.declared.ask.Me.{Me}
 use Rattle.shm_count.specs.Step.Machines.{down_control}
 use Rattle.shm_count.specs.Tear.Control.{tear_control}
@@ -19,5 +19,5 @@ pub record FlatRuns (me : Me) (root segment block : ℕ) (point : FlatPoint) : T
   pub who : me.who < me.geometry.clients
   pub root_in : root < 16
   pub segment_in : segment < me.geometry.segments
-  pub block_in : block < 2 ^ 20
+  pub block_in : block < address_limit
   pub runs : PointRuns point

@@ -1,12 +1,13 @@
 //! A leaving written by hand as one machine, which asks the same word steps.
 
 ghost use Rattle.std.specs.Prelude.{◌≡◌, ◌<◌, ◌^◌};
-ghost use Rattle.shm_words.specs.Layout.{GeometryFits};
+ghost use Rattle.shm_words.specs.Layout.{GeometryFits, address_limit};
 ghost use Rattle.leave_cost.specs.Flats.{PointRuns};
 
 use crate::steps::{Steps, take_on};
 use shm_count::{StepDown, TearDown};
 use shm_graph::{Ask, Machine, Me, Turn};
+use shm_words::ADDRESS_LIMIT;
 use std::marker::Model;
 
 /// How far it has come.
@@ -103,10 +104,10 @@ fn after_load(me: Me, root: &mut u8, block: &mut u32, seen: u64) -> FlatPoint
     requires who { me.who < me.geometry.clients }
     requires root { root.old < 16 }
     ensures root { root.new < 16 }
-    ensures block { block.new < 2 ^ 20 }
+    ensures block { block.new < address_limit }
     ensures point { PointRuns result }
 {
-    *block = (seen % (1 << 20)) as u32;
+    *block = (seen % u64::from(ADDRESS_LIMIT)) as u32;
     if *block == 0 {
         after_root(root)
     } else {

@@ -1,5 +1,6 @@
 pub mod FirstJoin
 pub mod Called
+pub mod Fallen
 pub mod RootEvents
 pub mod JoinEvents
 pub mod Answering
@@ -15,3 +16,4 @@ pub mod QueueAnswers
 pub mod QueueReady
 pub mod ItemAnswers
 pub mod SetAnswers
+pub mod Falling

@@ -2,7 +2,7 @@
 use Rattle.std.proofs.Common.{◌≡◌, ℕ, ◌+◌, ◌^◌, ◌<◌, ◌≤◌, ◌&&◌, true, sym, ap, ◌∙◌, arith, []}
 use Rattle.std.specs.Prelude.{Option}
 use Rattle.shm_words.specs.declared.geometry.Geometry.{Geometry}
-use Rattle.shm_words.specs.Layout.{total_of}
+use Rattle.shm_words.specs.Layout.{total_of, address_limit}
 use Rattle.shm_words.proofs.Placing.{total_small}
 use Rattle.shm_graph.specs.declared.ask.Me.{Me}
 use Rattle.shm_graph.specs.declared.memo.Memo.{Memo}
@@ -64,7 +64,7 @@ module _ (p : Pool) (c : ℕ) (work : IsAtWork c p) where
     pub reached_inside : IsInside me b
     reached_inside = lies.0
 
-    pub reached_small : b < 2 ^ 20
+    pub reached_small : b < address_limit
     reached_small = let total = total_small p.start.geometry work.geometry in let y = lies.1 in omega arith
 
     pub may_read : MayRead me b r

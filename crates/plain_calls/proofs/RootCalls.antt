@@ -3,7 +3,7 @@ use Rattle.std.proofs.Common.{◌≡◌, ◌≢◌, ℕ, ◌^◌, ◌<◌, false
 use Rattle.std.proofs.lemmas.Bool.{and_from, lt-ltb, true≢false}
 use Rattle.shm_words.specs.declared.geometry.Geometry.{Geometry}
 use Rattle.shm_words.specs.declared.place.Place.TheVariants as place
-use Rattle.shm_words.specs.Layout.{address}
+use Rattle.shm_words.specs.Layout.{address, address_limit}
 use Rattle.shm_words.proofs.Placing.{address_small}
 use Rattle.shm_graph.specs.declared.memo.Memo.{Memo}
 use Rattle.shm_graph.specs.declared.spot.Spot.TheVariants.{Root}
@@ -24,7 +24,7 @@ module _ (p : Pool) (c k : ℕ) (s : k < 16) (work : IsAtWork c p) where
   abbrev r : Memo
   r = memo_of p c
 
-  pub root_small : address g (place.Root c k) < 2 ^ 20
+  pub root_small : address g (place.Root c k) < address_limit
   root_small = address_small g (place.Root c k) (and_from _ _ (lt-ltb c g.clients work.who) (lt-ltb k 16 s)) work.geometry
 
   -- a step fits where the memo shows the root to be so

@@ -3,7 +3,7 @@ use Rattle.std.proofs.Common.{◌≡◌, ℕ, ◌+◌, ◌^◌, ◌<◌, ◌≤�
 use Rattle.std.specs.Prelude.{Ok, Err, IfOk}
 use Rattle.std.specs.List.{Contains, filter}
 use Rattle.shm_words.specs.declared.geometry.Geometry.{Geometry}
-use Rattle.shm_words.specs.Layout.{GeometryFits, total_of}
+use Rattle.shm_words.specs.Layout.{GeometryFits, total_of, address_limit}
 use Rattle.shm_words.specs.Tags.{tag_refs}
 use Rattle.shm_words.proofs.Placing.{total_small}
 use Rattle.shm_graph.specs.declared.memo.Memo.{Memo}
@@ -39,7 +39,7 @@ module _ (p : Pool) (run : IsRun p) (c b : ℕ) (f : GeometryFits p.start.geomet
   room : IsInside (member g c) b × (b + 2 + tag_refs (see g p.words (Tag b)) ≤ total_of g)
   room = live_room g (see g p.words) (memos_of p.accounts) held b c (dying_header g (see g p.words) (memos_of p.accounts) c b held l dying).0
 
-  pub block_small : b < 2 ^ 20
+  pub block_small : b < address_limit
   block_small = let u = room.0.1 in let t = total_small g f in omega arith
 
   can : CanTear (member g c) b (memo_of p c)

@@ -8,7 +8,9 @@ pub mod dropping;
 pub mod joining;
 pub mod latches;
 pub mod leaving;
+pub mod mending;
 pub mod queues;
+pub mod recovering;
 pub mod setting;
 pub mod sharing;
 pub mod tearing;
@@ -20,7 +22,9 @@ pub use dropping::drop_root;
 pub use joining::{SteppedJoin, step_join};
 pub use latches::{hold, home_of, look, read, release, root_of};
 pub use leaving::leave;
+pub use mending::mend_fallen;
 pub use queues::{drain, peek, receive, send, take};
+pub use recovering::{die, recover};
 pub use setting::{set_home, set_ref};
 pub use sharing::share;
 pub use tearing::tear_down;
@@ -40,7 +44,11 @@ mod latches_tests;
 #[cfg(test)]
 mod leaving_tests;
 #[cfg(test)]
+mod mending_tests;
+#[cfg(test)]
 mod queues_tests;
+#[cfg(test)]
+mod recovering_tests;
 #[cfg(test)]
 mod rounds_tests;
 #[cfg(test)]

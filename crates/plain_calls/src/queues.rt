@@ -3,6 +3,7 @@
 ghost use Rattle.std.specs.Prelude.{◌≡◌, ◌≢◌, ℕ, ◌+◌, ◌<◌, ◌^◌, ◌⊎◌, false, true, List, ◌++◌, [], length, slice_index, slice_index_or, IfErr, IfOk, IfSome};
 ghost use Rattle.std.specs.List.{Contains};
 ghost use Rattle.std.specs.Option.{is_some};
+ghost use Rattle.shm_words.specs.Layout.{address_limit};
 ghost use Rattle.shm_graph.specs.declared.spot.Spot.TheVariants.{QueueHead, Tail};
 ghost use Rattle.shm_graph.specs.Agents.{recovers};
 ghost use Rattle.shm_graph.specs.Core.{core};
@@ -46,7 +47,7 @@ pub fn send(
     requires client { recovers (memo_of pool.old who) ≡ false }
     requires to { to < pool.old.start.geometry.clients }
     requires other { who ≢ to }
-    requires block { block < 2 ^ 20 }
+    requires block { block < address_limit }
     requires reached { is_reached who (memo_of pool.old who) block ≡ true }
     requires value { is_loose (memo_of pool.old who).part ≡ false → Contains (memo_of pool.old who).values block }
     requires none { slice_index (memo_of pool.old who).unsent to ≡ 0 }

@@ -2,6 +2,7 @@
 
 ghost use Rattle.std.specs.Prelude.{◌≡◌, ℕ, ◌<◌, ◌^◌, false, true, List, IfOk, IfSome};
 ghost use Rattle.std.specs.Option.{is_some};
+ghost use Rattle.shm_words.specs.Layout.{address_limit};
 ghost use Rattle.shm_graph.specs.Agents.{recovers};
 ghost use Rattle.shm_graph.specs.Events.{Event};
 ghost use Rattle.shm_graph.specs.Reach.{is_reached};
@@ -26,7 +27,7 @@ pub fn share(
 ) -> Option<Result<u8, ShareFault>>
     requires at_work { IsAtWork who pool.old }
     requires client { recovers (memo_of pool.old who) ≡ false }
-    requires block { block < 2 ^ 20 }
+    requires block { block < address_limit }
     requires reached { is_reached who (memo_of pool.old who) block ≡ true }
     ensures gives { IfSome result (λ a. ShareGives (member pool.old.start.geometry who) block (memo_of pool.old who) (memo_of pool.new who) (memo_of pool.new who).call a) }
     ensures number { IfSome result (λ a. IfOk a (λ k. k < 16)) }

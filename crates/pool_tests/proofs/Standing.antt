@@ -6,7 +6,7 @@ use Rattle.std.specs.Result.{is_ok}
 use Rattle.std.proofs.lemmas.Bool.{cond-false, cond-true, eq-eqb, ne_eqb, true≢false}
 use Rattle.shm_words.specs.declared.geometry.Geometry.{Geometry}
 use Rattle.shm_words.specs.declared.place.Place.TheVariants as place
-use Rattle.shm_words.specs.Layout.{GeometryFits, address}
+use Rattle.shm_words.specs.Layout.{GeometryFits, address, address_limit}
 use Rattle.shm_graph.specs.declared.ask.Me.{Me}
 use Rattle.shm_graph.specs.declared.memo.Memo.{Memo}
 use Rattle.shm_graph.specs.declared.run.Account.{Account}
@@ -47,9 +47,8 @@ use Rattle.shm_count.proofs.RootSpots.{can_root, done_root, fits_root, is_here, 
 use Rattle.shm_pool.specs.declared.reply.Reply.{Reply}
 use Rattle.shm_pool.specs.declared.reply.Reply.TheVariants.{Done, Died}
 use Rattle.shm_pool.specs.Replies.{IfReply}
-use Rattle.shm_pool.specs.Tokens.{IsOut, recovering}
-use Rattle.pool_tests.specs.Quitting.{QuitFits, quit_control, quit_fresh}
-use Rattle.shm_recover.specs.Join.{IsMember, JoinGives, join_fresh}
+use Rattle.shm_pool.specs.Tokens.{recovering}
+use Rattle.shm_recover.specs.Join.{IsMember}
 
 -- the account's memo in that state
 pub there_memo : (s : Start) (e : Account) (x : Stood s e) → memos_of x.accounts e.who ≡ e.memo
@@ -189,7 +188,7 @@ module _ (s : Start) (e : Account) (x : Stood s e) (b : ℕ) (f : GeometryFits s
   room : IsInside (member s.geometry c) b × (b + 2 + tag_refs (see s.geometry x.words (spot.Tag b)) ≤ total_of s.geometry)
   room = live_room s.geometry (see s.geometry x.words) (memos_of x.accounts) x.held.at b c (dying_header s.geometry (see s.geometry x.words) (memos_of x.accounts) c b x.held.at l listed).0
 
-  pub tear_small : b < 2 ^ 20
+  pub tear_small : b < address_limit
   tear_small = let y = room.0.1 in let z = total_small s.geometry f in omega arith
 
   can : CanTear (member s.geometry c) b e.memo
@@ -209,45 +208,3 @@ module _ (s : Start) (e : Account) (x : Stood s e) (b : ℕ) (f : GeometryFits s
 
   pub tears : acts e.memo ≡ true → fits_now tear_control TearFits (tear_of s.geometry e.who b) e.memo e.memo
   tears act = begins (tear_of s.geometry c b) e.memo refl refl knows can
-
--- ---- leaving
-
--- an identity that is new or gone has nothing to finish
-pub out_gone : (s : Start) (e : Account) → Stood s e → e.who < s.geometry.clients → IsOut e.memo → GoneNow e.who e.memo
-out_gone s e x l out = subst (GoneNow e.who) there (by (subst IsOut (sym there) out))
-  where
-    c : ℕ
-    c = e.who
-
-    there : memos_of x.accounts c ≡ e.memo
-    there = ap (λ (a : Account). a.memo) x.here.1
-
-    by : IsOut (memos_of x.accounts c) → GoneNow c (memos_of x.accounts c)
-    by (inl n) = (let q = x.held.at.fresh c l n in record { roots = λ k. q.words (spot.Root c k) (eq-eqb c c refl) (λ z. cc); hold = q.words (spot.Hold c) (eq-eqb c c refl) (λ z. cc); idle = q.idle; latched = q.latched; segments = q.segments; dyings = q.dyings; sends = q.sends; takes = q.takes })
-    by (inr n) = x.held.at.gone c l n
-
--- a join leaves it so
-pub joined_gone : (me : Me) (r0 r : Memo) (tr : Trail) → GoneNow me.who r0 → JoinGives (join_fresh me) r0 r tr tt → GoneNow me.who r
-joined_gone me r0 r tr h j =
-    record {
-      roots = λ k. ap (λ (x : Memo). own_word x.own (spot.Root me.who k)) j.rest ∙ h.roots k;
-      hold = ap (λ (x : Memo). own_word x.own (spot.Hold me.who)) j.rest ∙ h.hold;
-      idle = ap (λ (x : Memo). x.op) j.rest ∙ h.idle;
-      latched = ap (λ (x : Memo). x.latch) j.rest ∙ h.latched;
-      segments = ap (λ (x : Memo). x.owned) j.rest ∙ h.segments;
-      dyings = ap (λ (x : Memo). x.dying) j.rest ∙ h.dyings;
-      sends = λ i. ap (λ (x : Memo). slice_index x.unsent i) j.rest ∙ h.sends i;
-      takes = λ i. ap (λ (x : Memo). slice_index x.untaken i) j.rest ∙ h.takes i;
-    }
-
--- and so do the deaths and beginnings of agents
-pub recovering_gone : (e : Account) → GoneNow e.who e.memo → GoneNow e.who (recovering e).memo
-recovering_gone e h = by (acts e.memo)
-  where
-    by : (b : Bool) → GoneNow e.who (account_entered Recoverer (account_died (cond b e (account_entered Client e)))).memo
-    by true = record { roots = h.roots; hold = h.hold; idle = h.idle; latched = h.latched; segments = h.segments; dyings = h.dyings; sends = h.sends; takes = h.takes }
-    by false = record { roots = h.roots; hold = h.hold; idle = h.idle; latched = h.latched; segments = h.segments; dyings = h.dyings; sends = h.sends; takes = h.takes }
-
--- a quit of an identity with nothing to finish fits
-pub quit_fits : (me : Me) (r : Memo) → IsMember me → GoneNow me.who r → fits_now quit_control QuitFits (quit_fresh me) r r
-quit_fits me r member left = record { member = member; left = λ z. left }

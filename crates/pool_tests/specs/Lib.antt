@@ -1,4 +1,2 @@
 pub mod Between
 pub mod Allocating
-pub mod Quitting
-pub mod QuitKeeps

@@ -13,6 +13,7 @@ ghost use Rattle.shm_count.specs.Tear.{TearGives};
 ghost use Rattle.pool_tests.specs.Allocating.{IsAsked};
 ghost use Rattle.shm_count.specs.Roots.{AreRootsReached, root_step, root_word, tear_of};
 ghost use Rattle.shm_pool.specs.Replies.{IsLost, IfReply};
+ghost use Rattle.shm_pool.specs.Endings.{ClientMayLeave};
 ghost use Rattle.pool_tests.specs.Between.{IsBetween, me_now};
 
 use shm_alloc::{Alloc, AllocFault, TooLarge};
@@ -38,6 +39,7 @@ pub fn allocate(
     ensures died { IfOk result (λ o. IsLost o → client.new.dead ≡ true) }
     ensures gives { IfOk result (λ o. IfReply o (λ a. (m : AState) × IsAsked client.old.of.start.geometry client.old.account.who refs plain.now m × AllocGives m client.old.account.memo client.new.account.memo client.new.account.memo.call a)) }
     ensures between { IfOk result (λ o. IfReply o (λ a. IsBetween client.new.account)) }
+    ensures leaves { ClientMayLeave client.old.of client.old.account → IfOk result (λ o. IfReply o (λ a. ClientMayLeave client.new.of client.new.account)) }
     ensures root { IfOk result (λ o. IfReply o (λ a. IfOk a (λ made. (made.root < 16) × (root_word client.new.account.who client.new.account.memo made.root ≡ made.block)))) }
     ensures roots { IfOk result (λ o. IfReply o (λ a. IfOk a (λ made. (k : ℕ) → k ≢ made.root → root_word client.new.account.who client.new.account.memo k ≡ root_word client.old.account.who client.old.account.memo k))) }
     ensures inside { IfOk result (λ o. IfReply o (λ a. IfOk a (λ made. IsInside (me_now client.old) made.block))) }

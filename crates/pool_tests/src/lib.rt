@@ -2,10 +2,13 @@
 #![tactic(auto)]
 
 pub mod calls;
-pub mod quit;
+pub mod leaving;
+pub mod recovering;
 pub mod team;
 
 pub use calls::{allocate, lower, raise, tear_down};
+pub use leaving::{TwoMade, make_two};
+pub use recovering::{bury, recover_and_close};
 pub use team::{Team, Visited, both, run_two, visit, work};
 
 #[cfg(test)]

@@ -3,13 +3,11 @@
 ghost use Rattle.std.specs.Prelude.{◌≡◌, ◌≢◌, ℕ, ◌<◌, IfOk, IfErr, IfSome};
 ghost use Rattle.shm_words.specs.Layout.{GeometryFits};
 ghost use Rattle.shm_graph.specs.Runs.{EraFits};
-ghost use Rattle.shm_graph.specs.Laws.{GoneNow};
 ghost use Rattle.shm_pool.specs.Tokens.{AllOf};
 ghost use Rattle.pool_tests.specs.Between.{AllFirst, AreRootsEmpty, IsBetween};
 
 use crate::calls::{allocate, lower, raise, tear_down};
-use crate::quit::Quit;
-use shm_graph::{Life, Me};
+use shm_graph::Life;
 use shm_pool::{Client, Closed, Corpse, Reply, SharedPool, Vacant};
 use shm_words::Geometry;
 use std::alloc::{AllocError, Global};
@@ -142,37 +140,19 @@ pub fn pass_by(pool: &SharedPool, token: Vacant, steps: u64) -> Result<Vacant, C
     ensures ok { IfOk result (λ v. v.of ≡ pool.now) }
     ensures err { IfErr result (λ c. c.of ≡ pool.now) }
 {
-    let who = token.client();
     let mut life = Life::of(steps);
     let client = match token.join(pool, &mut life) {
         Ok(client) => client,
         Err(stopped) => return Err(stopped.corpse),
     };
-    let mut quit = Quit::new(Me::new(pool.geometry(), who));
-    match client.leave_by(pool, &mut quit, &mut life) {
-        Ok(token) => Ok(token),
-        Err(stopped) => Err(stopped.corpse),
-    }
-}
-
-/// A corpse that is recovered where nothing is left to finish.
-pub fn bury(pool: &SharedPool, corpse: Corpse, steps: u64) -> Result<Vacant, Corpse>
-    requires of { corpse.of ≡ pool.now }
-    requires left { GoneNow corpse.account.who corpse.account.memo }
-    ensures ok { IfOk result (λ v. v.of ≡ pool.now) }
-    ensures err { IfErr result (λ c. c.of ≡ pool.now) }
-{
-    let who = corpse.client();
-    let mut life = Life::of(steps);
-    let mut quit = Quit::new(Me::new(pool.geometry(), who));
-    match corpse.recover_by(pool, &mut quit, &mut life) {
+    match client.leave(pool, &mut life) {
         Ok(token) => Ok(token),
         Err(stopped) => Err(stopped.corpse),
     }
 }
 
 /// Takes a token back.
-fn put_back(pool: &SharedPool, all: &mut Vec<Vacant>, token: Vacant) -> Result<(), AllocError>
+pub fn put_back(pool: &SharedPool, all: &mut Vec<Vacant>, token: Vacant) -> Result<(), AllocError>
     requires all { AllOf pool.now all.old.items }
     requires of { token.of ≡ pool.now }
     ensures { IfOk result (λ _. AllOf pool.now all.new.items) }

@@ -3,7 +3,7 @@
 ghost use Rattle.std.specs.Prelude.{◌≡◌, ℕ, ◌+◌, ◌*◌, ◌^◌, ◌<◌, ◌≤◌, ◌/◌, false};
 ghost use Rattle.shm_words.specs.declared.place.Place.TheVariants as place;
 ghost use Rattle.shm_words.specs.declared.redo.Redo.TheVariants as redos;
-ghost use Rattle.shm_words.specs.Layout.{GeometryFits, address};
+ghost use Rattle.shm_words.specs.Layout.{GeometryFits, address, address_limit};
 ghost use Rattle.shm_words.specs.Redos.{redo_word};
 ghost use Rattle.shm_alloc.specs.Alloc.Control.{class_asked, header_made, block_of, is_search, RequestFits, SearchFits, PointFits, AllocInRange};
 ghost use Rattle.shm_alloc.specs.Alloc.Control as control;
@@ -231,7 +231,7 @@ impl AllocState {
         requires geometry { GeometryFits self.me.geometry }
         requires who { self.me.who < self.me.geometry.clients }
         requires root { goal.root < 16 }
-        requires block { block < 2 ^ 20 }
+        requires block { block < address_limit }
         ensures { result ≡ redo_word (redos.Up (address self.me.geometry (place.Root self.me.who goal.root)) block) }
     {
         let Me { geometry, who } = self.me;

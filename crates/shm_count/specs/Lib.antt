@@ -17,3 +17,4 @@ pub mod Lowering
 pub mod Calling
 pub mod Refusing
 pub mod UpRoot
+pub mod CommitTest

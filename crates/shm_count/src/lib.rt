@@ -5,6 +5,7 @@
 
 pub mod answer;
 pub mod bound;
+pub mod commit_test;
 pub mod events;
 pub mod lasting;
 pub mod parts;
@@ -16,6 +17,10 @@ pub mod up_root;
 
 pub use answer::{EraSpent, Made, UpFault};
 pub use bound::{step_bound, tear_bound};
+pub use commit_test::{
+    Commit, CommitTest, Proof, Testing, commit_test_begins, commit_test_bound, commit_test_events,
+    commit_test_leaves,
+};
 pub use events::{
     step_begins, step_events, step_own_events, steps_decide, tear_begins, tear_done, tear_events,
     tear_own_events, tear_stopped,

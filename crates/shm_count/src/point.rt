@@ -1,7 +1,7 @@
 //! The control of a count step: which word it asks for, and where it goes by the word found.
 
 ghost use Rattle.std.specs.Prelude.{◌≡◌, ◌≢◌, ◌+◌, ◌<◌, ◌≤◌, ◌^◌, true};
-ghost use Rattle.shm_words.specs.Layout.{GeometryFits};
+ghost use Rattle.shm_words.specs.Layout.{GeometryFits, address_limit};
 ghost use Rattle.shm_words.specs.Headers.{header_of};
 ghost use Rattle.shm_words.specs.Redos.{redo_word};
 ghost use Rattle.shm_graph.specs.declared.ask.Ask.TheVariants as asks;
@@ -186,7 +186,7 @@ impl StepState {
     fn begin(self, era: u64) -> Ask
         requires geometry { GeometryFits self.me.geometry }
         requires who { self.me.who < self.me.geometry.clients }
-        requires slot { self.slot < 2 ^ 20 }
+        requires slot { self.slot < address_limit }
         requires aim { AimSmall self.aim }
         ensures { result ≡ control.step_ask_at self.me self.slot self.aim (point.Redo era) }
     {

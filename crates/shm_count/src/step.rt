@@ -1,7 +1,7 @@
 //! Count steps as machines: a reference word comes to name a block, comes to be empty, or comes to name another block.
 
 ghost use Rattle.std.specs.Prelude.{◌≡◌, ◌+◌, ◌<◌, ◌≤◌, ◌^◌};
-ghost use Rattle.shm_words.specs.Layout.{GeometryFits};
+ghost use Rattle.shm_words.specs.Layout.{GeometryFits, address_limit};
 ghost use Rattle.shm_count.specs.declared.point.Aim.TheVariants as aims;
 ghost use Rattle.shm_count.specs.declared.point.StepPoint.TheVariants.{Era, Redo};
 ghost use Rattle.shm_count.specs.Step.Control.{StepInRange, step_next, answer_of, step_control, is_over};
@@ -84,8 +84,8 @@ impl StepUp {
     pub fn new(me: Me, slot: u32, block: u32) -> StepUp
         requires geometry { GeometryFits me.geometry }
         requires who { me.who < me.geometry.clients }
-        requires slot { slot < 2 ^ 20 }
-        requires block { block < 2 ^ 20 }
+        requires slot { slot < address_limit }
+        requires block { block < address_limit }
         ensures { result ≡ record { me = me; slot = slot; aim = aims.Up block; point = Era } }
     {
         StepUp {
@@ -98,8 +98,8 @@ impl StepUp {
     pub fn taken_up(me: Me, slot: u32, block: u32, era: u64) -> StepUp
         requires geometry { GeometryFits me.geometry }
         requires who { me.who < me.geometry.clients }
-        requires slot { slot < 2 ^ 20 }
-        requires block { block < 2 ^ 20 }
+        requires slot { slot < address_limit }
+        requires block { block < address_limit }
         requires era { era + 3 ≤ 2 ^ 47 }
         ensures { result ≡ record { me = me; slot = slot; aim = aims.Up block; point = Redo era } }
     {
@@ -185,8 +185,8 @@ impl StepDown {
     pub fn new(me: Me, slot: u32, block: u32) -> StepDown
         requires geometry { GeometryFits me.geometry }
         requires who { me.who < me.geometry.clients }
-        requires slot { slot < 2 ^ 20 }
-        requires block { block < 2 ^ 20 }
+        requires slot { slot < address_limit }
+        requires block { block < address_limit }
         ensures { result ≡ record { me = me; slot = slot; aim = aims.Down block; point = Era } }
     {
         StepDown {
@@ -265,9 +265,9 @@ impl StepChange {
     pub fn new(me: Me, slot: u32, before: u32, after: u32) -> StepChange
         requires geometry { GeometryFits me.geometry }
         requires who { me.who < me.geometry.clients }
-        requires slot { slot < 2 ^ 20 }
-        requires before { before < 2 ^ 20 }
-        requires after { after < 2 ^ 20 }
+        requires slot { slot < address_limit }
+        requires before { before < address_limit }
+        requires after { after < address_limit }
         ensures { result ≡ record { me = me; slot = slot; aim = aims.Change before after; point = Era } }
     {
         StepChange {

@@ -1,7 +1,7 @@
 //! The tear-down of a block whose count came to 0, as a machine.
 
 ghost use Rattle.std.specs.Prelude.{◌≡◌, ◌<◌, ◌^◌};
-ghost use Rattle.shm_words.specs.Layout.{GeometryFits};
+ghost use Rattle.shm_words.specs.Layout.{GeometryFits, address_limit};
 ghost use Rattle.shm_count.specs.declared.tear_point.TearPoint.TheVariants.{Begin};
 ghost use Rattle.shm_count.specs.Tear.Control.{TearInRange, tear_next, answer_of, tear_control, is_over};
 ghost use Rattle.shm_count.specs.Tear.{TearFits, TearGives};
@@ -84,7 +84,7 @@ impl TearDown {
     pub fn new(me: Me, block: u32) -> TearDown
         requires geometry { GeometryFits me.geometry }
         requires who { me.who < me.geometry.clients }
-        requires block { block < 2 ^ 20 }
+        requires block { block < address_limit }
         ensures { result ≡ record { me = me; first = block; block = block; point = Begin } }
     {
         TearDown {

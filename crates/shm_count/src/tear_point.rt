@@ -1,7 +1,7 @@
 //! The control of a tear-down: which word it asks for, and where it goes by the word found.
 
 ghost use Rattle.std.specs.Prelude.{◌≡◌, ◌≢◌, ◌+◌, ◌<◌, ◌≤◌, ◌^◌, true};
-ghost use Rattle.shm_words.specs.Layout.{GeometryFits};
+ghost use Rattle.shm_words.specs.Layout.{GeometryFits, address_limit};
 ghost use Rattle.shm_words.specs.Tags.{TagFits};
 ghost use Rattle.shm_count.specs.Tear.Control.{TearInRange, TearPointFits};
 ghost use Rattle.shm_count.specs.Tear.Control as control;
@@ -10,7 +10,7 @@ ghost use Rattle.shm_count.specs.Step.Control.{StepInRange};
 use crate::answer::{EraSpent, UpFault};
 use crate::point::{Aim, StepNext, StepPoint, StepState};
 use shm_graph::{Ask, Me};
-use shm_words::Tag;
+use shm_words::{ADDRESS_LIMIT, Tag};
 
 /// The word step of a tear-down that comes next; `tag` is that of its block, whose link is the block to go on with.
 #[derive(Clone, Copy, Debug, PartialEq, Eq, Drop)]
@@ -67,7 +67,7 @@ impl TearState {
     /// The step down that takes the reference to `found` out of a reference word of the block.
     #[inline(always)]
     fn step(self, index: u8, found: u32, point: StepPoint) -> StepState
-        requires block { self.block < 2 ^ 20 }
+        requires block { self.block < address_limit }
         ensures { result ≡ control.down_state self.me self.block index found point }
     {
         StepState {
@@ -172,7 +172,7 @@ impl TearState {
         requires index { index < tag.refs }
         ensures { result ≡ control.word_next self.block tag index seen }
     {
-        let found = (seen % (1 << 20)) as u32;
+        let found = (seen % u64::from(ADDRESS_LIMIT)) as u32;
         self.go(if found == 0 {
             word_or_free(tag, index + 1)
         } else {
@@ -205,10 +205,10 @@ impl TearState {
 /// The address of a reference word; no block of a pool ends beyond 2^20.
 #[inline(always)]
 fn word_address(block: u32, index: u8) -> u32
-    requires block { block < 2 ^ 20 }
+    requires block { block < address_limit }
     ensures { result ≡ control.word_address block index }
 {
-    (block + 2 + u32::from(index)) % (1 << 20)
+    (block + 2 + u32::from(index)) % ADDRESS_LIMIT
 }
 
 /// The tag that a word is, or an empty one.

@@ -1,7 +1,7 @@
 //! The least empty root of an identity comes to name a block.
 
 ghost use Rattle.std.specs.Prelude.{◌≡◌, ◌<◌, ◌^◌};
-ghost use Rattle.shm_words.specs.Layout.{GeometryFits};
+ghost use Rattle.shm_words.specs.Layout.{GeometryFits, address_limit};
 ghost use Rattle.shm_count.specs.UpRoot.Control.{rooting};
 ghost use Rattle.shm_count.specs.UpRoot.Control as control;
 ghost use Rattle.shm_count.specs.UpRoot.{rooting_plan};
@@ -61,7 +61,7 @@ impl Rooting {
     pub fn new(me: Me, block: u32) -> Rooting
         requires geometry { GeometryFits me.geometry }
         requires who { me.who < me.geometry.clients }
-        requires block { block < 2 ^ 20 }
+        requires block { block < address_limit }
         ensures { result ≡ rooting me block }
     {
         Rooting {

@@ -5,3 +5,4 @@ pub mod Going
 pub mod CallEventsOf
 pub mod OwnEvents
 pub mod TurnsTaken
+pub mod EraRises

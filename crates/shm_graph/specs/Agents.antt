@@ -56,6 +56,14 @@ ended a = record { kind = a.kind; steps = a.steps; fate = Ended }
 abbrev pub fallen : Agent → Agent
 fallen a = record { kind = a.kind; steps = a.steps; fate = Died }
 
+-- the word steps of all these agents, and those of an identity's
+abbrev pub steps_of : List Agent → ℕ
+steps_of [] = 0
+steps_of (a ∷ others) = a.steps + steps_of others
+
+abbrev pub steps_made : Memo → ℕ
+steps_made m = steps_of m.agents
+
 -- the death of an agent, and the beginning of one
 abbrev pub died : Memo → Memo
 died m = record m { agents = with_last fallen m.agents }

@@ -61,3 +61,13 @@ IsAllowed g w v c (Exchange at from to) p = w p ≡ from → IsController g w v 
 abbrev pub IsRowShown : (Spot → ℕ) → ℕ → Ask → Spot → Type 0
 IsRowShown w c (Exchange at from to) (Head b) = w (Head b) ≡ from → (headers w b).live ≡ true → c ≢ (headers w b).client → (headers w b).era ≤ w (Era c (headers w b).client)
 IsRowShown w c _ p = Unit {0}
+
+-- the word of row i in column j may go from n to x: it isn't below n, and an own era is the next number
+abbrev pub IsEraAfter : ℕ → ℕ → ℕ → ℕ → Type 0
+IsEraAfter i j n x = (n ≤ x) × (i ≡ j → x ≡ n + 1)
+
+-- the step lowers no word of a row, and if it stores an own era, that is one more than before
+abbrev pub IsEraRaised : (Spot → ℕ) → Ask → Spot → Type 0
+IsEraRaised w (Store at value) (Era i j) = IsEraAfter i j (w (Era i j)) value
+IsEraRaised w (Exchange at from to) (Era i j) = w (Era i j) ≡ from → IsEraAfter i j (w (Era i j)) to
+IsEraRaised w _ p = Unit {0}

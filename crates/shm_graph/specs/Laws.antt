@@ -26,7 +26,7 @@ use Rattle.shm_graph.specs.Ops.{IsUncommitted}
 use Rattle.shm_graph.specs.Changes.{memo_on, asked_spot}
 use Rattle.shm_graph.specs.Agents.{recovers}
 use Rattle.shm_graph.specs.Events.{Event, Nothing, Alloc, Up, Down, ChangeUp, ChangeDown, Free, graph_of, Happens}
-use Rattle.shm_graph.specs.Controllers.{IsAllowed, IsRowShown}
+use Rattle.shm_graph.specs.Controllers.{IsAllowed, IsEraRaised, IsRowShown}
 
 -- The control of a machine with states S and answers A: its identity, its line, whether it has made no step, whether it is finished, what it asks for, where it goes, and what it then answers
 pub record Control (S A : Type 0) : Type 0 where
@@ -96,12 +96,13 @@ pub record Stands (me : Me) (w : Spot → ℕ) (r : ℕ → Memo) (f : Frame) (t
   pub who : me.who < me.geometry.clients
   pub call : Ends (call_before f.fresh (r me.who).call) tr
 
--- a step leads to a Held state, is one event, and is allowed
+-- a step leads to a Held state, is one event, is allowed, shows the row that it needs, and lowers no era
 pub record Stepped (g : Geometry) (c : ℕ) (a : Ask) (p : Spot) (x : Event) (w : Spot → ℕ) (v : View) (w' : Spot → ℕ) (v' : View) : Type 0 where
   pub held : HeldAt g w' v'
   pub event : Happens g w x (graph_of g w v) (graph_of g w' v')
   pub allowed : IsAllowed g w v c a p
   pub row : IsRowShown w c a p
+  pub era : IsEraRaised w a p
 
 -- a step at a spot, and what holds of the memo after it
 pub record Kept (w : Spot → ℕ) (r : ℕ → Memo) (t : Step) (p : Spot) (after : Memo → Type 0) : Type 0 where

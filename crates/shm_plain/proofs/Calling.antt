@@ -6,6 +6,7 @@ use Rattle.std.proofs.lemmas.List.{get_or-set_same, get_or-set_other, length-app
 use Rattle.shm_graph.specs.declared.ask.Turn.{Turn}
 use Rattle.shm_graph.specs.declared.ask.Turn.TheVariants.{More, Done}
 use Rattle.shm_graph.specs.declared.memo.Agent.{Agent}
+use Rattle.shm_graph.specs.declared.memo.Kind.{Kind}
 use Rattle.shm_graph.specs.declared.memo.Kind.TheVariants.{Recoverer, Client}
 use Rattle.shm_graph.specs.declared.memo.Memo.{Memo}
 use Rattle.shm_graph.specs.declared.memo.Status.{Status as AStatus}
@@ -17,7 +18,7 @@ use Rattle.shm_graph.specs.declared.run.Start.{Start}
 use Rattle.shm_graph.specs.Idle.{IsIdle}
 use Rattle.shm_words.specs.Layout.{GeometryFits}
 use Rattle.shm_graph.specs.Asks.{Trail, call_before, pair}
-use Rattle.shm_graph.specs.Agents.{acts, recovers, entered, is_gone, last_agent, with_last, ended, stepped}
+use Rattle.shm_graph.specs.Agents.{acts, recovers, entered, is_gone, last_agent, with_last, ended, stepped, steps_made}
 use Rattle.shm_graph.specs.declared.memo.Seen.{Seen}
 use Rattle.shm_graph.specs.declared.run.Move.{Move}
 use Rattle.shm_graph.specs.declared.run.Move.TheVariants.{Word, Begins}
@@ -28,7 +29,8 @@ use Rattle.shm_graph.specs.Laws.{Control, Steady, Back, Outcome, is_died, is_som
 use Rattle.shm_graph.specs.Runs.{MayBegin, account_at, account_after, account_entered, changed, fell_by, memos_of}
 use Rattle.shm_graph.specs.Whole.{fits_now, gives_now}
 use Rattle.shm_graph.proofs.Runs.Going.{account_acts-on, account_acts-here, whole_back}
-use Rattle.shm_graph.proofs.Memos.MemoSteps.{acts_after, acts-entered, agents_after, ends_agent, last-with_last, memo_agents, with_some, recovers_on}
+use Rattle.shm_graph.proofs.Runs.Lists.{account_part}
+use Rattle.shm_graph.proofs.Memos.MemoSteps.{acts_after, acts-entered, agents_after, ends_agent, last-with_last, memo_agents, with_some, recovers_on, steps_entered, steps_on}
 use Rattle.shm_plain.specs.Pools.{Pool, pool, IsOf, IsRun, MayStep, memo_of, readied, turn_on, turned}
 use Rattle.shm_plain.specs.Calls.{IsAtWork, Ran, Took, words}
 use Rattle.shm_plain.specs.Tracks.{kind_next}
@@ -84,6 +86,17 @@ ready_status p c l = ap (λ (m : Memo). m.status) (ready_memo p c l) ∙ go (act
     go : (b : Bool) → (cond b m (entered (kind_next m) m)).status ≡ m.status
     go true = refl
     go false = refl
+
+-- and so are the steps that its agents have made
+ready_made : (p : Pool) (c : ℕ) → steps_made (memo_of (readied p c) c) ≡ steps_made (memo_of p c)
+ready_made p c = go (acts (memo_of p c))
+  where
+    k : Kind
+    k = kind_next (memo_of p c)
+
+    go : (b : Bool) → steps_made (memos_of (cond b p.accounts (changed (account_entered k) p.accounts c)) c) ≡ steps_made (memo_of p c)
+    go true = refl
+    go false = account_part (λ (x : Account). steps_made x.memo) p.accounts c (account_entered k (account_at p.accounts c)) c (steps_entered k (memo_of p c))
 
 -- ---- the agent after a step
 
@@ -176,6 +189,7 @@ module _ {M A : Type 0} (k : Control M A) (fits : M → Memo → Memo → Trail 
     pub going : Going k m trail
     pub call : call_before (k.fresh n) (memo_of (readied q c) c).call ≡ call_before (k.fresh m) (memo_of (readied p c) c).call ++ trail
     pub spent : y + length trail ≡ x
+    pub made : y + steps_made (memo_of q c) ≡ x + steps_made (memo_of p c)
     pub same : ((q ≡ p) × (y ≡ x)) ⊎ ((acts (memo_of q c) ≡ true) × (k.fresh n ≡ false))
 
   -- a machine that has made no step fits where it fits the memo of an identity of which an agent acts
@@ -185,7 +199,7 @@ module _ {M A : Type 0} (k : Control M A) (fits : M → Memo → Memo → Trail 
       (subst (λ (b : Bool). fits m (memo_of p c) (memo_of p c) (call_before b (memo_of p c).call)) (sym fresh) fit)
 
   pub went_first : (p : Pool) (m : M) (x : ℕ) → IsOf p c k m → MayStep p c → Went p m x p m x
-  went_first p m x of may = record { of = of; may = may; forth = λ r0 f. f; back = λ r0 r a g. g; start = refl; others = λ d n. refl; kind = refl; trail = []; grew = sym (append-nil (readied p c).turns); course = refl; going = tt; call = sym (append-nil (call_before (k.fresh m) (memo_of (readied p c) c).call)); spent = omega arith; same = inl (refl, refl) }
+  went_first p m x of may = record { of = of; may = may; forth = λ r0 f. f; back = λ r0 r a g. g; start = refl; others = λ d n. refl; kind = refl; trail = []; grew = sym (append-nil (readied p c).turns); course = refl; going = tt; call = sym (append-nil (call_before (k.fresh m) (memo_of (readied p c) c).call)); spent = omega arith; made = refl; same = inl (refl, refl) }
 
   -- one more step, which led to q' and n'
   module _ (p : Pool) (m : M) (x : ℕ) (q : Pool) (n : M) (y : ℕ) (went : Went p m x q n y) (q' : Pool) (to : q' ≡ turned (readied q c) (turn_on (readied q c) k n)) (run : IsRun q') where
@@ -262,8 +276,15 @@ module _ {M A : Type 0} (k : Control M A) (fits : M → Memo → Memo → Trail 
     pub went_spent : (y' : ℕ) → y' + 1 ≡ y → k.fresh m ≡ true → y' + length (memo_of q' c).call ≡ x
     went_spent y' e fresh = ap (λ (tr : Trail). y' + length tr) (called ∙ ap (λ (b : Bool). call_before b (memo_of (readied p c) c).call ++ asked) fresh) ∙ spent_more y' e
 
-    pub went_ran : Steady k → IsOf p c k m → (y' : ℕ) → y' + 1 ≡ y → Ran c (k.fresh m) true p q' x y'
-    went_ran steady of y' e =
+    made_more : (y' : ℕ) → y' + 1 ≡ y → y' + steps_made (memo_of q' c) ≡ x + steps_made (memo_of p c)
+    made_more y' e =
+        let one : steps_made (memo_of q' c) ≡ steps_made (memo_of r c) + 1 = ap (λ (x : Account). steps_made x.memo) here ∙ steps_on (memo_of r c) t (asked_spot (memo_of r c) t) acting in
+        let before = ready_made q c in
+        let made = went.made in
+        omega arith
+
+    pub went_ran : Steady k → IsOf p c k m → {a : A} → k.turns n t.seen ≡ Some a → (y' : ℕ) → y' + 1 ≡ y → Ran c (k.fresh m) true p q' x y'
+    went_ran steady of answer y' e =
         record {
           start = went_start;
           others = went_others;
@@ -273,8 +294,10 @@ module _ {M A : Type 0} (k : Control M A) (fits : M → Memo → Memo → Trail 
           acts = λ u. went_acts;
           kind = λ u. went_kind;
           spent = λ u. went_spent y' e;
+          made = made_more y' e;
           some = λ u. let l = went.spent in omega arith;
           died = λ u. absurd (true≢false u);
+          over = λ u. ap (λ (x : Account). x.memo.over) here ∙ ((steady n t.seen went.of.2).ends ∙ ap is_some answer);
         }
 
     module _ (n' : M) (learns : (r0 : Memo) → fits_now k fits n r0 (memo_of r c) → Outcome (k.turns n t.seen) (fits_now k fits n' r0 (memo_of q' c)) (gives_now gives n r0 (memo_of q' c))) where
@@ -306,6 +329,7 @@ module _ {M A : Type 0} (k : Control M A) (fits : M → Memo → Memo → Trail 
                 let begun : k.fresh n' ≡ false = ap (λ (z : M). k.fresh z) after ∙ stays.started in
                 ap (λ (b : Bool). call_before b (memo_of (readied q' c) c).call) begun ∙ (ap (λ (z : Memo). z.call) (ready_still q' c acts') ∙ called);
             spent = spent_more y' left;
+            made = made_more y' left;
             same = inr (acts', ap (λ (z : M). k.fresh z) after ∙ stays.started);
           }
 
@@ -342,8 +366,10 @@ module _ {M A : Type 0} (k : Control M A) (fits : M → Memo → Memo → Trail 
         acts = λ u. absurd (true≢false (sym u));
         kind = λ u. absurd (true≢false (sym u));
         spent = λ u. absurd (true≢false (sym u));
+        made = went.made;
         some = λ u. absurd (true≢false (sym u));
         died = λ u. none;
+        over = λ u. absurd (true≢false (sym u));
       }
 
 -- an identity of which an agent acts is at work, where it is between two calls once it has answered

@@ -1,6 +1,6 @@
-pub mod OneClient
 pub mod Turning
 pub mod OwnTurns
 pub mod Calling
 pub mod Stilling
+pub mod StillTable
 pub mod Lanes

@@ -6,7 +6,7 @@ use Rattle.shm_graph.specs.declared.memo.Status.TheVariants.{Gone}
 use Rattle.shm_graph.specs.declared.memo.Step.{Step}
 use Rattle.shm_graph.specs.declared.run.Move.{Move}
 use Rattle.shm_graph.specs.declared.run.Move.TheVariants.{Word, Dies, Begins}
-use Rattle.shm_graph.specs.Agents.{acts, recovers}
+use Rattle.shm_graph.specs.Agents.{acts, recovers, steps_made}
 use Rattle.shm_graph.specs.Asks.{Trail, call_before}
 use Rattle.shm_graph.specs.CallEvents.{events_in}
 use Rattle.shm_graph.specs.Events.{Event}
@@ -57,7 +57,7 @@ pub record Took {M A : Type 0} (k : Control M A) (c : ℕ) (p : Pool) (m : M) (q
 
 -- ---- what is left
 
--- What a call of c leaves of the pool p with x word steps left: the pool q with y left. All is as it was but for c, and an agent of c may step again. Where it answered, its agent acts, unless it left the status gone; is of the kind that it was of; and made a word step for each pair of the call, of which the first was the machine's first where `fresh`
+-- What a call of c leaves of the pool p with x word steps left: the pool q with y left. All is as it was but for c, and an agent of c may step again. Where it answered, its agent acts, unless it left the status gone; is of the kind that it was of; made a word step for each pair of the call, of which the first was the machine's first where `fresh`; and the call is over. Each word step of life that went was one of the agents of c
 pub record Ran (c : ℕ) (fresh answered : Bool) (p q : Pool) (x y : ℕ) : Type 0 where
   pub start : q.start ≡ p.start
   pub others : (d : ℕ) → d ≢ c → memo_of q d ≡ memo_of p d
@@ -67,5 +67,7 @@ pub record Ran (c : ℕ) (fresh answered : Bool) (p q : Pool) (x y : ℕ) : Type
   pub acts : answered ≡ true → (memo_of q c).status ≢ Gone → acts (memo_of q c) ≡ true
   pub kind : answered ≡ true → recovers (memo_of q c) ≡ recovers (memo_of (readied p c) c)
   pub spent : answered ≡ true → fresh ≡ true → y + length (memo_of q c).call ≡ x
+  pub made : y + steps_made (memo_of q c) ≡ x + steps_made (memo_of p c)
   pub some : answered ≡ true → 0 < x
   pub died : answered ≡ false → y ≡ 0
+  pub over : answered ≡ true → (memo_of q c).over ≡ true

@@ -1,4 +1,3 @@
-pub mod OneClient
 pub mod Tracks
 pub mod Pools
 pub mod Calls

@@ -1,26 +1,27 @@
-//! What holds of each pool, and of each replay of one client.
+//! What holds of each pool.
 
-ghost use Rattle.std.specs.Prelude.{◌≡◌, ◌≢◌, ℕ, ◌<◌, ◌≤◌, List, length, ◌∷◌, ◌++◌, slice_index};
+ghost use Rattle.std.specs.Prelude.{◌≡◌, ◌≢◌, ℕ, ◌+◌, ◌<◌, ◌≤◌, List, [], length, ◌∷◌, ◌++◌, slice_index_or};
 ghost use Rattle.shm_graph.specs.declared.memo.Step.{Step as AStep};
 ghost use Rattle.shm_graph.specs.declared.run.Move.{Move as AMove};
 ghost use Rattle.shm_graph.specs.declared.run.Move.TheVariants.{Word};
-ghost use Rattle.shm_graph.specs.declared.spot.Spot.TheVariants.{QueueHead, Tail};
+ghost use Rattle.shm_graph.specs.declared.run.Start.{Start as AStart};
+ghost use Rattle.shm_graph.specs.declared.spot.Spot.TheVariants.{Era, Home, QueueHead, Tail};
 ghost use Rattle.shm_graph.specs.declared.table.Entry.{Entry as AnEntry};
+ghost use Rattle.shm_graph.specs.declared.table.Part.TheVariants.{Table};
+ghost use Rattle.shm_graph.specs.Agents.{steps_made};
 ghost use Rattle.shm_graph.specs.Asks.{at_of};
 ghost use Rattle.shm_graph.specs.Events.{Happens, graph_of};
 ghost use Rattle.shm_graph.specs.Laws.{event_on};
+ghost use Rattle.shm_graph.specs.References.{references};
 ghost use Rattle.shm_graph.specs.Runs.{State, IsMove, Leads, first_state, memos_of, moved};
 ghost use Rattle.shm_graph.specs.Sound.{IsSound};
 ghost use Rattle.shm_graph.specs.Spots.{classes_in, see, spot_at};
-ghost use Rattle.shm_graph.specs.Tables.{IsTable, map_of};
+ghost use Rattle.shm_graph.specs.Tables.{IsPartition, contents_of};
 ghost use Rattle.shm_graph.specs.Views.{own_word, view};
-ghost use Rattle.shm_plain.specs.declared.pair.Pair.{Pair as APair};
-ghost use Rattle.shm_plain.specs.OneClient.Folds.{fold_of, log_of};
 ghost use Rattle.shm_plain.specs.Lanes.{Wait, received_of, sent_of};
-ghost use Rattle.shm_plain.specs.Pools.{memo_of};
-ghost use Rattle.shm_plain.specs.OneClient.Runs.{IsFirstRun};
-ghost use Rattle.shm_plain.specs.OneClient.ClosedPool.{ClosedPool as AShut};
+ghost use Rattle.shm_plain.specs.Pools.{Pool as APool, IsRun, after_fall, first_pool, memo_of};
 
+use crate::closed::PlainClosed;
 use crate::pool::PlainPool;
 
 /// A pool is sound, and so was each state that its turns led to. Each turn was one that could be taken where it was taken, and each
@@ -43,10 +44,23 @@ pub fn queues_of_pool(pool: &PlainPool)
     pool.geometry();
 }
 
-/// What a replay of one client's puts says: each put has a value block, no two have one, and the map of the closed pool is the fold
-/// of the puts with these blocks.
-pub fn first_runs()
-    ensures answered { (puts : List APair) (c : AShut) (bs : List ℕ) → IsFirstRun puts c bs → length bs ≡ length puts }
-    ensures distinct { (puts : List APair) (c : AShut) (bs : List ℕ) → IsFirstRun puts c bs → (i j : ℕ) → i < j → j < length puts → slice_index bs i ≢ slice_index bs j }
-    ensures map_is { (puts : List APair) (c : AShut) (bs : List ℕ) → IsFirstRun puts c bs → (table : ℕ → ℕ → List AnEntry) × IsTable c.geometry (see c.geometry c.words) table × ((key : ℕ) → map_of (table 0) key ≡ fold_of (log_of puts bs) key) }
+/// In a pool to which its turns lead each own era is at least the first era, and at most that and the word steps that the agents of its
+/// identity have made.
+pub fn own_eras_of_runs()
+    ensures least { (p : APool) → IsRun p → (c : ℕ) → c < p.start.geometry.clients → p.start.first_era ≤ own_word (memo_of p c).own (Era c c) }
+    ensures most { (p : APool) → IsRun p → (c : ℕ) → c < p.start.geometry.clients → own_word (memo_of p c).own (Era c c) ≤ p.start.first_era + steps_made (memo_of p c) }
 {}
+
+/// What pools count of word steps: in a first pool no identity has made one, and a death leaves what each has made. What a call adds
+/// is `made` of `Ran`.
+pub fn steps_of_pools()
+    ensures first { (s : AStart) (c : ℕ) → steps_made (memo_of (first_pool s) c) ≡ 0 }
+    ensures falls { (p : APool) (c d : ℕ) → steps_made (memo_of (after_fall p c) d) ≡ steps_made (memo_of p d) }
+{}
+
+/// In a closed pool that was made for tables the words hold the partition of each identity that is a part of its memo.
+pub fn table_of_closed(closed: &PlainClosed)
+    ensures { (c : ℕ) → c < closed.now.start.geometry.clients → (chains : List (List AnEntry)) → (memo_of closed.now c).part ≡ Table chains → let w = see closed.now.start.geometry closed.now.words in IsPartition (contents_of w (references w)) c (w (Home c)) (λ b. slice_index_or chains b []) }
+{
+    closed.geometry();
+}

@@ -4,3 +4,5 @@ pub mod Calling
 pub mod Opening
 pub mod Ends
 pub mod Changing
+pub mod Joining
+pub mod Seating

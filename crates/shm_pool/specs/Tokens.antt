@@ -7,7 +7,7 @@ use Rattle.shm_graph.specs.declared.run.Start.{Start}
 use Rattle.shm_graph.specs.declared.ask.Me.{Me}
 use Rattle.shm_graph.specs.declared.memo.Memo.{Memo}
 use Rattle.shm_graph.specs.declared.run.Account.{Account}
-use Rattle.shm_graph.specs.declared.memo.Status.TheVariants.{New, Gone}
+use Rattle.shm_graph.specs.declared.memo.Status.TheVariants.{New, Live, Gone}
 use Rattle.shm_graph.specs.declared.run.Move.{Move}
 use Rattle.shm_graph.specs.declared.memo.Kind.TheVariants.{Client, Recoverer}
 use Rattle.shm_graph.specs.Agents.{acts}
@@ -49,6 +49,10 @@ IsStill m = IsOut m × (acts m ≡ false)
 abbrev pub IsFallen : Bool → Memo → Type 0
 IsFallen true m = acts m ≡ true
 IsFallen false m = IsStill m
+
+-- the memo of an identity that has joined, but for its call and its agents
+abbrev pub live : Memo → Memo
+live m = record m { status = Live }
 
 -- an account of which an agent acts: where a join began none, a client has begun
 abbrev pub begun_account : Account → Account

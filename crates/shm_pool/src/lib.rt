@@ -4,8 +4,10 @@
 #![tactic(auto)]
 
 mod closing;
+mod ending;
 mod notes;
 mod pool;
+mod recovery;
 mod reply;
 mod rule;
 mod steps;

@@ -1,24 +1,25 @@
 //! Tokens of one identity each.
 
-ghost use Rattle.std.specs.Prelude.{◌≡◌, [], ◌∷◌, ℕ, ◌+◌, ◌<◌, ◌↔◌, ◌⊎◌, true, false, IfOk, IfErr, is_err};
-ghost use Rattle.shm_words.specs.Layout.{total_of};
+ghost use Rattle.std.specs.Prelude.{◌≡◌, ℕ, ◌+◌, ◌<◌, ◌↔◌, ◌⊎◌, true, false, IfOk, IfErr, is_err};
 ghost use Rattle.shm_graph.specs.declared.memo.Kind.TheVariants.{Client as AClient};
 ghost use Rattle.shm_graph.specs.declared.memo.Memo.{Memo};
-ghost use Rattle.shm_graph.specs.declared.memo.Status.TheVariants as status;
 ghost use Rattle.shm_graph.specs.Agents.{acts, recovers};
+ghost use Rattle.shm_graph.specs.Core.{core};
 ghost use Rattle.shm_graph.specs.Laws.{is_died};
 ghost use Rattle.shm_graph.specs.Runs.{account_entered, Stood};
 ghost use Rattle.shm_graph.specs.Whole.{fits_now, gives_now};
 ghost use Rattle.shm_recover.specs.Join.{JoinGives, join_fresh, join_line};
-ghost use Rattle.shm_pool.specs.Rules.{IsAlone, alone};
+ghost use Rattle.shm_pool.specs.declared.token.Cause.TheVariants as cause;
 ghost use Rattle.shm_pool.specs.Calls.{ClientStepped, Calls, CallStays, Tells, shown};
-ghost use Rattle.shm_pool.specs.Tokens.{me_of, begun_account, recovering, IsFor, IsFallen, IsOut};
+ghost use Rattle.shm_pool.specs.Tokens.{me_of, live, IsFor, IsOut};
 ghost use Rattle.shm_pool.specs.Replies.{IsLost, IfReply, is_reply};
+ghost use Rattle.shm_pool.specs.Endings.{ClientMayLeave};
 
+use crate::ending::stop;
 use crate::pool::SharedPool;
 use crate::reply::Reply;
-use crate::rule::{Place, Top};
-use crate::steps::{note_client, note_death, note_recoverer, run_place, step_place};
+use crate::rule::Place;
+use crate::steps::{note_client, run_place, step_place};
 use shm_graph::{Life, Machine, Me, Start, Turn};
 use shm_recover::Join;
 use std::marker::Model;
@@ -45,10 +46,10 @@ impl Model for Vacant {
 /// An identity with a client.
 #[derive(Drop)]
 pub struct Client {
-    place: Place,
-    start: Start,
-    who: u8,
-    dead: bool,
+    pub(crate) place: Place,
+    pub(crate) start: Start,
+    pub(crate) who: u8,
+    pub(crate) dead: bool,
 }
 
 impl Model for Client {
@@ -67,10 +68,10 @@ impl Model for Client {
 /// An identity whose agent has fallen, or never took a step.
 #[derive(Drop)]
 pub struct Corpse {
-    place: Place,
-    start: Start,
-    who: u8,
-    begun: bool,
+    pub(crate) place: Place,
+    pub(crate) start: Start,
+    pub(crate) who: u8,
+    pub(crate) begun: bool,
 }
 
 impl Model for Corpse {
@@ -87,10 +88,13 @@ impl Model for Corpse {
 /// Why a call that takes a token gave a corpse.
 #[derive(Drop)]
 pub enum Cause {
+    /// No word step was left before its machine had answered, or a call of the client had died before.
     Died,
+    /// The machine answered so: `era` is the own era that it read.
+    EraSpent { era: u64 },
 }
 
-/// A call that takes a token and was cut off.
+/// A call that took a token and left an identity that is still there.
 #[derive(Drop)]
 pub struct Stopped {
     pub corpse: Corpse,
@@ -110,6 +114,9 @@ impl Vacant {
 
     /// Makes the identity live, in one word step, and begins its client with it. With no life left no agent begins.
     ///
+    /// An identity that was gone has the eras, the queues and the home that it had: of its memo nothing changes but the status, the
+    /// call and the agents. A client that has joined may leave.
+    ///
     /// # Errors
     ///
     /// `Died` where no life is left.
@@ -119,8 +126,10 @@ impl Vacant {
         ensures gives { IfOk result (λ c. JoinGives (join_fresh (me_of self.of self.account)) (account_entered AClient self.account).memo c.account.memo c.account.memo.call tt) }
         ensures stood { IfOk result (λ c. Stood c.of.start c.account) }
         ensures told { IfOk result (λ c. Tells join_line (account_entered AClient self.account) c.account) }
-        ensures err { IfErr result (λ s. (s.corpse.of ≡ self.of) × (s.corpse.account.who ≡ self.account.who) × (life.new.left ≡ 0)) }
-        ensures unbegun { life.old.left ≡ 0 → IfErr result (λ s. s.corpse.account ≡ self.account) }
+        ensures keeps { IfOk result (λ c. core c.account.memo ≡ core (live self.account.memo)) }
+        ensures leaves { IfOk result (λ c. ClientMayLeave c.of c.account) }
+        ensures err { IfErr result (λ s. (s.cause ≡ cause.Died) × (s.corpse.of ≡ self.of) × (s.corpse.account.who ≡ self.account.who) × (life.new.left ≡ 0)) }
+        ensures unbegun { life.old.left ≡ 0 → (is_err result ≡ true) × IfErr result (λ s. (s.corpse ≡ self) × (life.new ≡ life.old)) }
     {
         let Vacant {
             mut place,
@@ -128,15 +137,7 @@ impl Vacant {
             who,
         } = self;
         if life.left == 0 {
-            return Err(Stopped {
-                corpse: Corpse {
-                    place,
-                    start,
-                    who,
-                    begun: false,
-                },
-                cause: Cause::Died,
-            });
+            return Err(stop(place, start, who, false, Cause::Died));
         }
         note_client(pool.top(), &mut place);
         let mut machine = Join::new(Me::new(start.geometry, who));
@@ -147,15 +148,7 @@ impl Vacant {
                 who,
                 dead: false,
             }),
-            None => Err(Stopped {
-                corpse: Corpse {
-                    place,
-                    start,
-                    who,
-                    begun: true,
-                },
-                cause: Cause::Died,
-            }),
+            None => Err(stop(place, start, who, true, Cause::Died)),
         }
     }
 }
@@ -250,160 +243,5 @@ impl Client {
             who,
             begun: true,
         }
-    }
-
-    /// Runs a machine of which each answer leaves the identity gone, and ends the client with it. A client of which a call has died
-    /// takes no step.
-    ///
-    /// # Errors
-    ///
-    /// `Died` where no life is left, or a call of this client has died.
-    pub fn leave_by<M: Machine>(
-        self,
-        pool: &SharedPool,
-        m: &mut M,
-        life: &mut Life,
-    ) -> Result<Vacant, Stopped>
-    where
-        M::Answer: Drop,
-        requires pool { self.of ≡ pool.now }
-        requires machine { self.dead ≡ false → IsFor self.of self.account M.control m.old }
-        requires fits { self.dead ≡ false → fits_now M.control M.fits m.old self.account.memo self.account.memo }
-        requires leaves { self.dead ≡ false → (r : Memo) (a : _) → gives_now M.gives m.old self.account.memo r a → r.status ≡ status.Gone }
-        ensures same { IfOk result (λ v. (v.of ≡ self.of) × (v.account.who ≡ self.account.who) × (v.account.memo.status ≡ status.Gone)) }
-        ensures told { M.control.fresh m.old ≡ true → IfOk result (λ v. Tells (M.control.line m.old) self.account v.account) }
-        ensures err { IfErr result (λ s. (s.corpse.of ≡ self.of) × (s.corpse.account.who ≡ self.account.who)) }
-        ensures again { self.dead ≡ true → (is_err result ≡ true) × IfErr result (λ s. (s.corpse.account ≡ self.account) × (m.new ≡ m.old) × (life.new ≡ life.old)) }
-        ensures left { IfOk result (λ v. Calls (shown M.control m.old) self.account v.account true life.old.left life.new.left) }
-        ensures cut { self.dead ≡ false → IfErr result (λ s. Calls (shown M.control m.old) self.account s.corpse.account false life.old.left life.new.left × (life.new.left ≡ 0)) }
-    {
-        let Client {
-            mut place,
-            start,
-            who,
-            dead,
-        } = self;
-        if dead {
-            return Err(Stopped {
-                corpse: Corpse {
-                    place,
-                    start,
-                    who,
-                    begun: true,
-                },
-                cause: Cause::Died,
-            });
-        }
-        let Some(_answer) = run_place(pool.top(), &mut place, m, life) else {
-            return Err(Stopped {
-                corpse: Corpse {
-                    place,
-                    start,
-                    who,
-                    begun: true,
-                },
-                cause: Cause::Died,
-            });
-        };
-        Ok(Vacant { place, start, who })
-    }
-}
-
-// An agent that has fallen is dead before the next one begins; where a join began none, a client begins and dies without a step.
-fn note_change(top: &Top, place: &mut Place, begun: bool)
-    requires table { (place.old.table_id ≡ top.now.table_id) × (top.now.table_id.words ≡ total_of top.now.key.geometry) × IsAlone place.old }
-    requires who { (alone place.old).who < top.now.key.geometry.clients }
-    requires fallen { IsFallen begun (alone place.old).memo }
-    ensures place { (place.new.table_id ≡ place.old.table_id) × (place.new.id ≡ place.old.id) × IsAlone place.new }
-    ensures stood { Stood top.now.key (alone place.old) → Stood top.now.key (alone place.new) }
-    ensures account { alone place.new ≡ recovering (alone place.old) }
-    ensures who { (alone place.new).who ≡ (alone place.old).who }
-    ensures acts { acts (alone place.new).memo ≡ true }
-{
-    note_begun(top, place, begun);
-    note_death(top, place);
-    note_recoverer(top, place);
-}
-
-/// Notes that a client has begun, where a join with no life left began none.
-fn note_begun(top: &Top, place: &mut Place, begun: bool)
-    requires table { (place.old.table_id ≡ top.now.table_id) × (top.now.table_id.words ≡ total_of top.now.key.geometry) × IsAlone place.old }
-    requires who { (alone place.old).who < top.now.key.geometry.clients }
-    requires fallen { IsFallen begun (alone place.old).memo }
-    ensures place { (place.new.table_id ≡ place.old.table_id) × (place.new.id ≡ place.old.id) × IsAlone place.new }
-    ensures stood { Stood top.now.key (alone place.old) → Stood top.now.key (alone place.new) }
-    ensures account { alone place.new ≡ begun_account (alone place.old) }
-    ensures acts { acts (alone place.new).memo ≡ true }
-{
-    if begun {
-        return;
-    }
-    note_client(top, place);
-}
-
-impl Corpse {
-    /// Which identity it is; and its account is one of a state that holds.
-    pub fn client(&self) -> u8
-        ensures is { result ≡ self.now.account.who }
-        ensures below { result < self.now.of.start.geometry.clients }
-        ensures stood { Stood self.now.of.start self.now.account }
-    {
-        self.who
-    }
-
-    /// Begins a recoverer and runs a machine of which each answer leaves the identity gone. With no life left no agent begins.
-    ///
-    /// # Errors
-    ///
-    /// `Died` where no life is left.
-    pub fn recover_by<M: Machine>(
-        self,
-        pool: &SharedPool,
-        m: &mut M,
-        life: &mut Life,
-    ) -> Result<Vacant, Stopped>
-    where
-        M::Answer: Drop,
-        requires pool { self.of ≡ pool.now }
-        requires machine { (M.control.me m.old ≡ me_of self.of self.account) × (M.control.finished m.old ≡ false) }
-        requires fits { fits_now M.control M.fits m.old (recovering self.account).memo (recovering self.account).memo }
-        requires leaves { (r : Memo) (a : _) → gives_now M.gives m.old (recovering self.account).memo r a → r.status ≡ status.Gone }
-        ensures same { IfOk result (λ v. (v.of ≡ self.of) × (v.account.who ≡ self.account.who) × (v.account.memo.status ≡ status.Gone)) }
-        ensures told { M.control.fresh m.old ≡ true → IfOk result (λ v. Tells (M.control.line m.old) (recovering self.account) v.account) }
-        ensures err { IfErr result (λ s. (s.corpse.of ≡ self.of) × (s.corpse.account.who ≡ self.account.who)) }
-        ensures left { IfOk result (λ v. Calls (shown M.control m.old) (recovering self.account) v.account true life.old.left life.new.left) }
-        ensures cut { 0 < life.old.left → IfErr result (λ s. Calls (shown M.control m.old) (recovering self.account) s.corpse.account false life.old.left life.new.left × (life.new.left ≡ 0)) }
-        ensures unbegun { life.old.left ≡ 0 → IfErr result (λ s. s.corpse.account ≡ self.account) }
-    {
-        let Corpse {
-            mut place,
-            start,
-            who,
-            begun,
-        } = self;
-        if life.left == 0 {
-            return Err(Stopped {
-                corpse: Corpse {
-                    place,
-                    start,
-                    who,
-                    begun,
-                },
-                cause: Cause::Died,
-            });
-        }
-        note_change(pool.top(), &mut place, begun);
-        let Some(_answer) = run_place(pool.top(), &mut place, m, life) else {
-            return Err(Stopped {
-                corpse: Corpse {
-                    place,
-                    start,
-                    who,
-                    begun: true,
-                },
-                cause: Cause::Died,
-            });
-        };
-        Ok(Vacant { place, start, who })
     }
 }

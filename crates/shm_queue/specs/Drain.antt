@@ -31,7 +31,7 @@ use Rattle.shm_count.specs.Tear.Memos.{is_lasting}
 use Rattle.shm_queue.specs.declared.drain.DrainPoint.{DrainPoint}
 use Rattle.shm_queue.specs.declared.drain.DrainPoint.TheVariants.{Status, Item}
 use Rattle.shm_queue.specs.declared.drain.DrainState.{DrainState}
-use Rattle.shm_queue.specs.Drain.Control.{DrainCall, DrainAnswer, drain_ask, drain_call_at, drain_after, drain_turns, is_status}
+use Rattle.shm_queue.specs.Drain.Control.{DrainCall, DrainAnswer, drain_ask, drain_call_at, drain_line, drain_after, drain_turns, is_status}
 use Rattle.shm_queue.specs.Take.Control.{take_parts}
 use Rattle.shm_queue.specs.Take.{NotTaken, TakeEvents, TakeStopped, take_plan}
 
@@ -133,7 +133,7 @@ abbrev pub drain_plan : Planned DrainState DrainCall DrainAnswer (Result ℕ Era
 drain_plan =
     record {
       me = λ m. m.me;
-      line = λ m. [];
+      line = λ m. drain_line;
       first = λ m. is_status m.point;
       start = λ m. record m { from = 0; taken = 0; point = Status };
       call = λ m. drain_call_at m m.point;

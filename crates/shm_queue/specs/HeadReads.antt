@@ -4,6 +4,7 @@ use Rattle.std.specs.Prelude.{slice_index}
 use Rattle.std.specs.List.{Contains}
 use Rattle.std.proofs.lemmas.Bool.{eq-eqb, true≢false}
 use Rattle.shm_words.proofs.Placing.{total_small}
+use Rattle.shm_words.specs.Layout.{address_limit}
 use Rattle.shm_graph.specs.declared.ask.Me.{Me}
 use Rattle.shm_graph.specs.declared.spot.Spot.TheVariants as spot
 use Rattle.shm_graph.specs.declared.memo.Fact.TheVariants.{Counter}
@@ -86,7 +87,7 @@ module _ (me : Me) (s : ℕ) where
 
     -- the item was read: a counted block of the pool, whose address has 20 bits
     pub item_read : IsHeld me r → (m : Word) (n : ℕ) → IsHeadRead me s at 2 r0 rs tr es → IsHeadSlot me.geometry.clients c rs s (at % 8) → WordLeaves (HeadSlotLoaded c s (at % 8)) m rs r t ds n → Grows false rs r
-        → (n % 2 ^ 20 ≡ n) × IsItemRead me s at n r0 r (tr ++ t) (es ++ ds)
+        → (n % address_limit ≡ n) × IsItemRead me s at n r0 r (tr ++ t) (es ++ ds)
     item_read held m n h slot w grows =
         let may = h.may in
         let left : core r ≡ core (slot_memo c s at n r0) = w.found.left ∙ ap (λ (x : Memo). core (record x { known = learnt (spot.Slot s c (at % 8)) n x.known; values = valued x.part n x.values })) h.same in

@@ -4,7 +4,7 @@ use Rattle.std.specs.Prelude.{slice_index}
 use Rattle.std.specs.List.{Contains}
 use Rattle.std.proofs.lemmas.Bool.{and_from, cond-true, eq-eqb, lt-ltb, true≢false}
 use Rattle.shm_words.specs.declared.place.Place.TheVariants as place
-use Rattle.shm_words.specs.Layout.{GeometryFits, address, is_in, total_of}
+use Rattle.shm_words.specs.Layout.{GeometryFits, address, is_in, total_of, address_limit}
 use Rattle.shm_words.proofs.Placing.{address_small, total_small}
 use Rattle.shm_graph.specs.declared.ask.Me.{Me}
 use Rattle.shm_graph.specs.declared.spot.Spot.TheVariants.{Era, QueueHead, Slot, Spare, Tail}
@@ -73,7 +73,7 @@ module _ (me : Me) (s i k : ℕ) (f : GeometryFits me.geometry) (ls : s < me.geo
   slot_inside : (0 < at) × (at < total_of me.geometry)
   slot_inside = in_pool me.geometry (λ x y. 0) at (Slot s i k) (spot-place me.geometry (λ x y. 0) (place.Slot s i k) slot_in) (λ e. cc)
 
-  slot_small : at < 2 ^ 20
+  slot_small : at < address_limit
   slot_small = address_small me.geometry (place.Slot s i k) slot_in f
 
 -- ---- a step up at the next slot of a queue to another

@@ -178,7 +178,7 @@ pub record NotTaken (me : Me) (s : ℕ) (r0 r : Memo) (tr : Trail) (es : List Ev
   pub none : es ≡ []
   pub bound : IsWithin 4 tr
 
--- a step down of the tear-down was refused: the item is taken, and these blocks are zero-count blocks still
+-- a step down of the tear-down was refused: the item is taken, these blocks are zero-count blocks still, and the own era is at least the one that was read
 pub record TakeStopped (me : Me) (s : ℕ) (r0 r : Memo) (tr : Trail) (es : List Event) (era : ℕ) : Type 0 where
   pub place : ℕ
   pub block : ℕ
@@ -190,6 +190,7 @@ pub record TakeStopped (me : Me) (s : ℕ) (r0 r : Memo) (tr : Trail) (es : List
   pub left : List Visit
   pub walks : Walks me.who block after left
   pub stopped : StoppedAt me r0 r era left
+  pub most : era ≤ own_word r.own (spot.Era me.who me.who)
   pub bound : IsWithin (12 + tear_steps (frees es + length left)) tr
 
 abbrev pub TakeRefused : TakeState → Memo → Memo → Trail → List Event → TakeFault → Type 0

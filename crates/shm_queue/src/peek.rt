@@ -11,6 +11,7 @@ use shm_calls::{Calls, Or, Plan, Word};
 use shm_count::Made;
 use shm_count::parts::{Rooting, ShareFault, UpRoot};
 use shm_graph::{Machine, Me};
+use shm_words::ADDRESS_LIMIT;
 use std::marker::Model;
 
 /// Which call of it comes next.
@@ -98,7 +99,7 @@ impl Peeking {
                 }
             }
             PeekPoint::Slot | PeekPoint::Share => {
-                self.state.block = (word % (1 << 20)) as u32;
+                self.state.block = (word % u64::from(ADDRESS_LIMIT)) as u32;
                 self.state.point = PeekPoint::Share;
                 None
             }

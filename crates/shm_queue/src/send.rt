@@ -1,7 +1,7 @@
 //! A block is put into the queue to another identity.
 
 ghost use Rattle.std.specs.Prelude.{◌≡◌, ◌<◌, ◌^◌};
-ghost use Rattle.shm_words.specs.Layout.{GeometryFits};
+ghost use Rattle.shm_words.specs.Layout.{GeometryFits, address_limit};
 ghost use Rattle.shm_queue.specs.Send.Control.{sending};
 ghost use Rattle.shm_queue.specs.Send.{send_plan};
 ghost use Rattle.shm_queue.specs.Send.Laws.{send_laws};
@@ -63,7 +63,7 @@ impl Sending {
         requires geometry { GeometryFits me.geometry }
         requires who { me.who < me.geometry.clients }
         requires to { to < me.geometry.clients }
-        requires block { block < 2 ^ 20 }
+        requires block { block < address_limit }
         ensures { result ≡ sending me to block }
     {
         Sending {

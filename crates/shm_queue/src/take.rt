@@ -10,6 +10,7 @@ use crate::answer::TakeFault;
 use shm_calls::{Calls, Or, Plan, Word};
 use shm_count::{EraSpent, StepDown, TearDown};
 use shm_graph::{Machine, Me};
+use shm_words::ADDRESS_LIMIT;
 use std::marker::Model;
 
 /// Which call of it comes next.
@@ -103,7 +104,7 @@ impl Taking {
                 }
             }
             TakePoint::Slot => {
-                self.state.block = (word % (1 << 20)) as u32;
+                self.state.block = (word % u64::from(ADDRESS_LIMIT)) as u32;
                 self.state.point = TakePoint::Lower;
                 None
             }

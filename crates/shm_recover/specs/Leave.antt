@@ -24,7 +24,7 @@ use Rattle.shm_count.specs.Tear.Events.{Visit, frees}
 use Rattle.shm_recover.specs.declared.leave.LeavePoint.{LeavePoint}
 use Rattle.shm_recover.specs.declared.leave.LeavePoint.TheVariants.{Roots, Look, Give, Status}
 use Rattle.shm_recover.specs.declared.leave.LeaveState.{LeaveState}
-use Rattle.shm_recover.specs.Leave.Control.{LeaveCall, LeaveAnswer, leave_ask, leave_call_at, leave_after, leave_turns, is_roots}
+use Rattle.shm_recover.specs.Leave.Control.{LeaveCall, LeaveAnswer, leave_ask, leave_call_at, leave_after, leave_line, leave_turns, is_roots}
 use Rattle.shm_ref.specs.Lefts.{MayDrop, RootsEvents}
 use Rattle.shm_ref.specs.DropRoots.Control.{drop_root}
 use Rattle.shm_ref.specs.DropRoots.{RootsStopped, roots_plan}
@@ -49,23 +49,25 @@ pub record IsLeaving (me : Me) (s : ℕ) (m : Memo) : Type 0 where
   pub roots : (k : ℕ) → root_word me.who m k ≡ 0
   pub owned : (i : ℕ) → Contains m.owned i → (s ≤ i) × (i < me.geometry.segments)
 
--- the events are those of the roots, and there are two word steps for each segment at most
-pub record HasLeft (me : Me) (n : ℕ) (r0 : Memo) (tr : Trail) (es : List Event) : Type 0 where
+-- the partition is as before, the events are those of the roots, and there are two word steps for each segment at most
+pub record HasLeft (me : Me) (n : ℕ) (r0 r : Memo) (tr : Trail) (es : List Event) : Type 0 where
+  pub part : r.part ≡ r0.part
   pub events : RootsEvents me.who r0 16 es
   pub bound : IsWithin (144 + n + 164 * frees es) tr
 
 abbrev pub LeaveKnows : LeaveState → LeavePoint → Memo → Memo → Trail → List Event → Type 0
 LeaveKnows m Roots r0 r tr es = MayLeave m.me r0 × (r ≡ r0) × (tr ≡ []) × (es ≡ []) × (m.segment ≡ 0)
-LeaveKnows m Look r0 r tr es = IsLeaving m.me m.segment r × (m.segment < m.me.geometry.segments) × HasLeft m.me (2 * m.segment) r0 tr es
-LeaveKnows m Give r0 r tr es = IsLeaving m.me m.segment r × (m.segment < m.me.geometry.segments) × Contains r.owned m.segment × HasLeft m.me (2 * m.segment + 1) r0 tr es
-LeaveKnows m Status r0 r tr es = IsLeaving m.me m.me.geometry.segments r × HasLeft m.me (2 * m.me.geometry.segments) r0 tr es
+LeaveKnows m Look r0 r tr es = IsLeaving m.me m.segment r × (m.segment < m.me.geometry.segments) × HasLeft m.me (2 * m.segment) r0 r tr es
+LeaveKnows m Give r0 r tr es = IsLeaving m.me m.segment r × (m.segment < m.me.geometry.segments) × Contains r.owned m.segment × HasLeft m.me (2 * m.segment + 1) r0 r tr es
+LeaveKnows m Status r0 r tr es = IsLeaving m.me m.me.geometry.segments r × HasLeft m.me (2 * m.me.geometry.segments) r0 r tr es
 
 -- ---- what it leaves
 
--- nothing is left to finish and the status is gone; the events are those of the roots, and each segment took two word steps at most
+-- nothing is left to finish and the status is gone; the partition is as before; the events are those of the roots, and each segment took two word steps at most
 pub record HasGone (me : Me) (r0 r : Memo) (tr : Trail) (es : List Event) : Type 0 where
   pub status : r.status ≡ status.Gone
   pub left : GoneNow me.who r
+  pub part : r.part ≡ r0.part
   pub events : RootsEvents me.who r0 16 es
   pub bound : IsWithin (2 * me.geometry.segments + 164 * frees es + 145) tr
 
@@ -87,7 +89,7 @@ abbrev pub leave_plan : Planned LeaveState LeaveCall LeaveAnswer (Result (Unit {
 leave_plan =
     record {
       me = λ m. m.me;
-      line = λ m. [];
+      line = λ m. leave_line;
       first = λ m. is_roots m.point;
       start = λ m. record m { segment = 0; point = Roots };
       call = λ m. leave_call_at m m.point;

@@ -1,3 +1,13 @@
 pub mod Join
 pub mod Leave
+pub mod MendRest
+pub mod MendUnlatch
+pub mod MendLower
+pub mod Mend
+pub mod Others
+pub mod FinishTakes
+pub mod TakeBack
+pub mod Scan
+pub mod GiveUp
+pub mod Recover
 pub mod Machines

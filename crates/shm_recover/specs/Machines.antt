@@ -1,4 +1,5 @@
 -- a leaving as it is made: when it fits, what it gives, and what it tells of its events
+pub mod Recovering
 use Rattle.std.specs.Prelude.{Result, List}
 use Rattle.shm_graph.specs.declared.ask.Me.{Me}
 use Rattle.shm_graph.specs.declared.memo.Memo.{Memo}

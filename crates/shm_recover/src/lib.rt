@@ -3,11 +3,30 @@
 
 pub mod bound;
 pub mod events;
+pub mod finish_takes;
+pub mod give_up;
 pub mod join;
 pub mod leave;
+pub mod mend;
+pub mod mend_lower;
+pub mod mend_unlatch;
+mod others;
 pub mod parts;
+pub mod recover;
+pub mod recovering;
+pub mod scan;
+pub mod take_back;
 
 pub use bound::leave_bound;
 pub use events::{leave_begins, leave_events, leave_gone, leave_leaves};
 pub use join::{Join, JoinPoint, JoinState, join_bound};
 pub use leave::{Leave, Leaving};
+pub use mend::{
+    Mend, Mending, mend_begins, mend_bound, mend_events, mend_keeps, mend_leaves, mend_loses,
+};
+pub use recover::{Recover, Recovering};
+pub use recovering::{
+    recover_begins, recover_bound, recover_events, recover_gone, recover_leaves, scan_begins,
+    scan_bound, scan_events, scan_leaves,
+};
+pub use scan::{Scan, Scanning};

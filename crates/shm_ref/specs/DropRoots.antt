@@ -1,11 +1,13 @@
 -- a drop of all roots as a plan: what is known before each root, and what is left
 pub mod Control
 pub mod Laws
-use Rattle.std.specs.Prelude.{◌≡◌, ℕ, ◌+◌, ◌*◌, ◌<◌, ◌==◌, nat_lt, Bool, Result, Ok, Err, List, [], length}
+use Rattle.std.specs.Prelude.{◌≡◌, ℕ, ◌+◌, ◌*◌, ◌<◌, ◌≤◌, ◌==◌, nat_lt, Bool, Result, Ok, Err, List, [], length}
 use Rattle.shm_graph.specs.declared.ask.Me.{Me}
 use Rattle.shm_graph.specs.declared.memo.Memo.{Memo}
 use Rattle.shm_graph.specs.Asks.{Trail, IsWithin}
+use Rattle.shm_graph.specs.declared.spot.Spot.TheVariants.{Era}
 use Rattle.shm_graph.specs.Events.{Event}
+use Rattle.shm_graph.specs.Views.{own_word}
 use Rattle.shm_calls.specs.CallsPart.{calls_part}
 use Rattle.shm_calls.specs.Plans.{Planned}
 use Rattle.shm_count.specs.declared.answer.EraSpent.{EraSpent}
@@ -31,10 +33,11 @@ pub record RootsKnows (m : RootsState) (r0 r : Memo) (tr : Trail) (es : List Eve
   pub low : m.root < 16
   pub gone : AreGone m.me m.root r0 r tr es
 
--- the own era left no room for a step down
+-- the own era left no room for a step down, and is at least the one that was read
 pub record RootsStopped (m : RootsState) (r0 r : Memo) (tr : Trail) (es : List Event) (era : ℕ) (vs : List Visit) : Type 0 where
   pub left : Left m.me.who (λ j. nat_lt j 16) r0 r
   pub stopped : Stopped m.me r0 r era vs
+  pub most : era ≤ own_word r.own (Era m.me.who m.me.who)
   pub bound : IsWithin (144 + 164 * (frees es + length vs)) tr
 
 abbrev pub RootsLeaves : RootsState → Memo → Memo → Trail → List Event → Result (Unit {0}) EraSpent → Type 0

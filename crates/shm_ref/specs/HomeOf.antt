@@ -2,7 +2,7 @@
 pub mod Laws
 use Rattle.std.specs.Prelude.{◌≡◌, ◌≢◌, ℕ, ◌+◌, ◌%◌, ◌^◌, ◌<◌, ◌≤◌, Bool, true, false, ◌==◌, if◌then◌else◌, Option, None, Some, Result, Ok, Err, List, [], ◌∷◌, ◌++◌}
 use Rattle.shm_words.specs.declared.place.Place.TheVariants as place
-use Rattle.shm_words.specs.Layout.{GeometryFits, address, total_of}
+use Rattle.shm_words.specs.Layout.{GeometryFits, address, total_of, address_limit}
 use Rattle.shm_graph.specs.declared.ask.Ask.{Ask}
 use Rattle.shm_graph.specs.declared.ask.Ask.TheVariants.{Load}
 use Rattle.shm_graph.specs.declared.ask.Me.{Me}
@@ -45,7 +45,7 @@ home_of_after m Find n = m
 
 abbrev pub home_of_turns : FindState → FindPoint → ℕ → Option (Result ℕ NotHeld)
 home_of_turns m Whose n = if n == m.author + 1 then None else Some (Err (record {}))
-home_of_turns m Find n = Some (Ok (n % 2 ^ 20))
+home_of_turns m Find n = Some (Ok (n % address_limit))
 
 abbrev pub is_whose : FindPoint → Bool
 is_whose Whose = true

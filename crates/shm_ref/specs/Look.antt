@@ -2,7 +2,7 @@
 pub mod Laws
 use Rattle.std.specs.Prelude.{◌≡◌, ◌≢◌, ℕ, ◌+◌, ◌%◌, ◌^◌, ◌<◌, ◌≤◌, ◌==◌, nat_lt, Bool, true, false, if◌then◌else◌, Option, None, Some, Result, Ok, Err, List, [], ◌∷◌}
 use Rattle.shm_words.specs.declared.place.Place.TheVariants as place
-use Rattle.shm_words.specs.Layout.{GeometryFits, address, total_of}
+use Rattle.shm_words.specs.Layout.{GeometryFits, address, total_of, address_limit}
 use Rattle.shm_words.specs.Tags.{tag_author, tag_refs}
 use Rattle.shm_graph.specs.declared.ask.Ask.{Ask}
 use Rattle.shm_graph.specs.declared.ask.Ask.TheVariants.{Load}
@@ -52,7 +52,7 @@ look_after m Reference n = m
 abbrev pub look_turns : LookState → LookPoint → ℕ → Option (Result ℕ LookFault)
 look_turns m Shape n = if nat_lt m.index (tag_read n).refs then None else Some (Err (NoSuchRef (tag_read n).refs))
 look_turns m Whose n = if n == m.author + 1 then None else Some (Err NotHeld)
-look_turns m Reference n = Some (Ok (n % 2 ^ 20))
+look_turns m Reference n = Some (Ok (n % address_limit))
 
 abbrev pub is_shape : LookPoint → Bool
 is_shape Shape = true
@@ -62,7 +62,7 @@ is_shape y = false
 pub record LookInRange (m : LookState) : Type 0 where
   pub geometry : GeometryFits m.me.geometry
   pub who : m.me.who < m.me.geometry.clients
-  pub block : m.block < 2 ^ 20
+  pub block : m.block < address_limit
 
 -- ---- when it may begin, and on the way
 

@@ -3,7 +3,7 @@ use Rattle.std.proofs.Common.{◌≡◌, ◌≢◌, ℕ, ◌+◌, ◌^◌, ◌<�
 use Rattle.std.specs.List.{Contains, filter, list_any}
 use Rattle.std.proofs.lemmas.Bool.{cases_eq, cond-true, eq-eqb, or_left, or_right}
 use Rattle.std.proofs.lemmas.List.Folds.{list_any-append}
-use Rattle.shm_words.specs.Layout.{GeometryFits, total_of}
+use Rattle.shm_words.specs.Layout.{GeometryFits, total_of, address_limit}
 use Rattle.shm_words.specs.Tags.{tag_author, tag_link, tag_of, tag_plain, tag_refs}
 use Rattle.shm_words.proofs.Placing.{total_small}
 use Rattle.shm_words.proofs.Words.{tag_from_fields}
@@ -68,7 +68,7 @@ reached_room me b r l (w, rs, h, same) reach =
     omega arith
 
 -- so a word that names such a block, or none, has 20 bits
-pub small_block : (me : Me) (b : ℕ) → GeometryFits me.geometry → (b ≢ 0 → b + 2 ≤ total_of me.geometry) → b % 2 ^ 20 ≡ b
+pub small_block : (me : Me) (b : ℕ) → GeometryFits me.geometry → (b ≢ 0 → b + 2 ≤ total_of me.geometry) → b % address_limit ≡ b
 small_block me b fits room =
     elim (cases_eq b 0) [
       | inl e ↦ omega arith

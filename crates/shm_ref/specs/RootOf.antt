@@ -2,7 +2,7 @@
 pub mod Laws
 use Rattle.std.specs.Prelude.{◌≡◌, ℕ, ◌%◌, ◌^◌, ◌<◌, true, false, Some, List, [], ◌∷◌}
 use Rattle.shm_words.specs.declared.place.Place.TheVariants as place
-use Rattle.shm_words.specs.Layout.{GeometryFits, address}
+use Rattle.shm_words.specs.Layout.{GeometryFits, address, address_limit}
 use Rattle.shm_graph.specs.declared.ask.Ask.{Ask}
 use Rattle.shm_graph.specs.declared.ask.Ask.TheVariants.{Load}
 use Rattle.shm_graph.specs.declared.ask.Me.{Me}
@@ -55,7 +55,7 @@ naming_plan =
       start = λ m. m;
       call = λ m. record { me = m.me; ask = naming_ask m.me m.root; over = false };
       after = λ m n. m;
-      turns = λ m n. Some (n % 2 ^ 20);
+      turns = λ m n. Some (n % address_limit);
       part = λ m. asked_part (load_part m.me m.root true);
       knows = λ m. IsNaming m.me m.root;
       leaves = λ m. Named m.me m.root;

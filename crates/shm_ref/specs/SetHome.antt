@@ -1,7 +1,7 @@
 -- setting the own home as a plan: its control, what is known before each call, and what is left
 pub mod Laws
 use Rattle.std.specs.Prelude.{◌≡◌, ◌≢◌, ℕ, ◌+◌, ◌%◌, ◌^◌, ◌<◌, Bool, true, false, ◌==◌, if◌then◌else◌, Option, None, Some, Result, Ok, Err, List, [], ◌∷◌}
-use Rattle.shm_words.specs.Layout.{GeometryFits}
+use Rattle.shm_words.specs.Layout.{GeometryFits, address_limit}
 use Rattle.shm_graph.specs.declared.ask.Ask.TheVariants as ask
 use Rattle.shm_graph.specs.declared.ask.Me.{Me}
 use Rattle.shm_graph.specs.declared.memo.Memo.{Memo}
@@ -68,7 +68,7 @@ home_fault (EraSpent e) = fault.EraSpent e
 home_fault (CountFull b n) = fault.CountFull b n
 
 abbrev pub home_turns : HomeState → HomeAnswer → Option (Result (Unit {0}) HomeFault)
-home_turns m (First n) = if n == 0 then None else Some (Err (fault.HomeSet (n % 2 ^ 20)))
+home_turns m (First n) = if n == 0 then None else Some (Err (fault.HomeSet (n % address_limit)))
 home_turns m (Second (Ok done)) = Some (Ok tt)
 home_turns m (Second (Err f)) = Some (Err (home_fault f))
 
@@ -80,7 +80,7 @@ is_load y = false
 pub record HomeInRange (m : HomeState) : Type 0 where
   pub geometry : GeometryFits m.me.geometry
   pub who : m.me.who < m.me.geometry.clients
-  pub block : m.block < 2 ^ 20
+  pub block : m.block < address_limit
 
 -- the control of its calls
 abbrev pub home_parts : Control HomeCall HomeAnswer

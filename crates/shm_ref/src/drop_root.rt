@@ -9,6 +9,7 @@ ghost use Rattle.shm_ref.specs.DropRoot.Laws.{drop_laws};
 use shm_calls::{Calls, Or, Plan, Word};
 use shm_count::{EraSpent, StepDown, TearDown};
 use shm_graph::{Machine, Me};
+use shm_words::ADDRESS_LIMIT;
 use std::marker::Model;
 
 /// Which call of it comes next.
@@ -107,7 +108,7 @@ impl Plan for Dropping {
     ) -> Option<Result<bool, EraSpent>> {
         match answer {
             Or::First(word) => {
-                let block = (word % (1 << 20)) as u32;
+                let block = (word % u64::from(ADDRESS_LIMIT)) as u32;
                 self.state.block = block;
                 self.state.point = DropPoint::Lower;
                 if block == 0 { Some(Ok(false)) } else { None }

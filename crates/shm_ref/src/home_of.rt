@@ -8,6 +8,7 @@ ghost use Rattle.shm_ref.specs.HomeOf.Laws.{home_of_laws};
 use crate::answer::NotHeld;
 use shm_calls::{Calls, Plan, Word};
 use shm_graph::{Machine, Me};
+use shm_words::ADDRESS_LIMIT;
 use std::marker::Model;
 
 /// Which word step of it comes next.
@@ -99,7 +100,7 @@ impl Plan for FindingHome {
                     Some(Err(NotHeld))
                 }
             }
-            FindPoint::Find => Some(Ok((word % (1 << 20)) as u32)),
+            FindPoint::Find => Some(Ok((word % u64::from(ADDRESS_LIMIT)) as u32)),
         }
     }
 

@@ -1,7 +1,7 @@
 //! A reference word of a block, read under the latch of the block's author.
 
 ghost use Rattle.std.specs.Prelude.{◌≡◌, ◌<◌, ◌^◌};
-ghost use Rattle.shm_words.specs.Layout.{GeometryFits};
+ghost use Rattle.shm_words.specs.Layout.{GeometryFits, address_limit};
 ghost use Rattle.shm_ref.specs.Look.{looking, look_plan};
 ghost use Rattle.shm_ref.specs.Look.Laws.{look_laws};
 
@@ -9,6 +9,7 @@ use crate::answer::LookFault;
 use crate::tagged::tag_in;
 use shm_calls::{Calls, Plan, Word};
 use shm_graph::{Machine, Me};
+use shm_words::ADDRESS_LIMIT;
 use std::marker::Model;
 
 /// Which word step of it comes next.
@@ -59,7 +60,7 @@ impl Looking {
     pub fn new(me: Me, block: u32, index: u8) -> Looking
         requires geometry { GeometryFits me.geometry }
         requires who { me.who < me.geometry.clients }
-        requires block { block < 2 ^ 20 }
+        requires block { block < address_limit }
         ensures { result ≡ looking me block index }
     {
         Looking {
@@ -123,7 +124,7 @@ impl Plan for Looking {
                     Some(Err(LookFault::NotHeld))
                 }
             }
-            LookPoint::Reference => Some(Ok((word % (1 << 20)) as u32)),
+            LookPoint::Reference => Some(Ok((word % u64::from(ADDRESS_LIMIT)) as u32)),
         }
     }
 

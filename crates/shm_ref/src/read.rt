@@ -1,7 +1,7 @@
 //! A plain word of a block.
 
 ghost use Rattle.std.specs.Prelude.{◌≡◌, ◌<◌, ◌^◌};
-ghost use Rattle.shm_words.specs.Layout.{GeometryFits};
+ghost use Rattle.shm_words.specs.Layout.{GeometryFits, address_limit};
 ghost use Rattle.shm_ref.specs.Read.{reading, read_plan};
 ghost use Rattle.shm_ref.specs.Read.Laws.{read_laws};
 
@@ -57,7 +57,7 @@ impl Reading {
     pub fn new(me: Me, block: u32, index: u8) -> Reading
         requires geometry { GeometryFits me.geometry }
         requires who { me.who < me.geometry.clients }
-        requires block { block < 2 ^ 20 }
+        requires block { block < address_limit }
         ensures { result ≡ reading me block index }
     {
         Reading {

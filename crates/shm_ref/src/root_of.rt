@@ -7,6 +7,7 @@ ghost use Rattle.shm_ref.specs.RootOf.Laws.{naming_laws};
 
 use shm_calls::{Calls, Plan, Word};
 use shm_graph::{Machine, Me};
+use shm_words::ADDRESS_LIMIT;
 use std::marker::Model;
 
 /// The control of it.
@@ -72,7 +73,7 @@ impl Plan for Naming {
 
     #[inline(always)]
     fn next(&mut self, word: u64) -> Option<u32> {
-        Some((word % (1 << 20)) as u32)
+        Some((word % u64::from(ADDRESS_LIMIT)) as u32)
     }
 
     ghost laws = { naming_laws };

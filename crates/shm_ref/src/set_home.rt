@@ -1,7 +1,7 @@
 //! The home of an identity comes to name a block.
 
 ghost use Rattle.std.specs.Prelude.{◌≡◌, ◌<◌, ◌^◌};
-ghost use Rattle.shm_words.specs.Layout.{GeometryFits};
+ghost use Rattle.shm_words.specs.Layout.{GeometryFits, address_limit};
 ghost use Rattle.shm_ref.specs.SetHome.{homing, home_plan};
 ghost use Rattle.shm_ref.specs.SetHome.Laws.{home_laws};
 
@@ -9,6 +9,7 @@ use crate::answer::HomeFault;
 use shm_calls::{Calls, Or, Plan, Word};
 use shm_count::{StepUp, UpFault};
 use shm_graph::{Machine, Me};
+use shm_words::ADDRESS_LIMIT;
 use std::marker::Model;
 
 /// Which call of it comes next.
@@ -55,7 +56,7 @@ impl Homing {
     pub fn new(me: Me, block: u32) -> Homing
         requires geometry { GeometryFits me.geometry }
         requires who { me.who < me.geometry.clients }
-        requires block { block < 2 ^ 20 }
+        requires block { block < address_limit }
         ensures { result ≡ homing me block }
     {
         Homing {
@@ -98,7 +99,7 @@ impl Plan for Homing {
                 if word == 0 {
                     None
                 } else {
-                    let block = (word % (1 << 20)) as u32;
+                    let block = (word % u64::from(ADDRESS_LIMIT)) as u32;
                     Some(Err(HomeFault::HomeSet { block }))
                 }
             }

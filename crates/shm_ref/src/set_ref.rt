@@ -1,7 +1,7 @@
 //! A reference word of an own block comes to name another block, or none, and what only it named is freed.
 
 ghost use Rattle.std.specs.Prelude.{◌≡◌, ◌<◌, ◌≤◌, ◌^◌, ◌+◌};
-ghost use Rattle.shm_words.specs.Layout.{GeometryFits, total_of};
+ghost use Rattle.shm_words.specs.Layout.{GeometryFits, total_of, address_limit};
 ghost use Rattle.shm_ref.specs.SetRef.Control as control;
 ghost use Rattle.shm_ref.specs.SetRef.Control.{setting};
 ghost use Rattle.shm_ref.specs.SetRef.{set_plan};
@@ -11,6 +11,7 @@ use crate::answer::SetFault;
 use shm_calls::{Calls, Or, Plan, Word};
 use shm_count::{EraSpent, StepChange, StepDown, StepUp, TearDown, UpFault};
 use shm_graph::{Machine, Me};
+use shm_words::ADDRESS_LIMIT;
 use std::marker::Model;
 
 /// Which call of it comes next.
@@ -84,7 +85,7 @@ impl Setting {
         requires geometry { GeometryFits me.geometry }
         requires who { me.who < me.geometry.clients }
         requires block { block + 2 ≤ total_of me.geometry }
-        requires to { to < 2 ^ 20 }
+        requires to { to < address_limit }
         ensures { result ≡ setting me block word to }
     {
         Setting {
@@ -129,7 +130,7 @@ impl SetState {
                 }
             }
             _ => {
-                let before = (word % (1 << 20)) as u32;
+                let before = (word % u64::from(ADDRESS_LIMIT)) as u32;
                 self.before = before;
                 self.point = if before == 0 {
                     SetPoint::Raise

@@ -12,7 +12,7 @@ use Rattle.shm_script.specs.declared.line.Line.TheVariants as lines
 use Rattle.shm_script.specs.declared.raw.RawCommand.{RawCommand}
 use Rattle.shm_script.specs.declared.raw.RawCommand.TheVariants as raw
 use Rattle.shm_script.specs.Text.{spaced, line_spelled}
-use Rattle.shm_script.specs.Ranges.{LineFits}
+use Rattle.shm_script.specs.Ranges.{LineFits, LineSmall}
 use Rattle.shm_script.specs.Shapes.{Command, given, one_of, two_of, three_of, command_of, shape_by, shape_from}
 use Rattle.shm_script.specs.Faults.{between, below, other_than, command_fit}
 use Rattle.shm_script.proofs.LineTexts.{blanks}
@@ -109,18 +109,6 @@ line_words (lines.Get a k) = decimal a ∷ decimal k ∷ []
 line_words (lines.Copy k a o) = decimal k ∷ decimal a ∷ decimal o ∷ []
 line_words (lines.Send c k) = decimal c ∷ decimal k ∷ []
 line_words (lines.Recv c k) = decimal c ∷ decimal k ∷ []
-
--- numbers below 2^64
-abbrev Small : ℕ → Type 0
-Small n = n < 2 ^ 64
-
-abbrev pub LineSmall : Line → Type 0
-LineSmall (lines.Put k n) = Small k × Small n
-LineSmall (lines.Del k) = Small k
-LineSmall (lines.Get a k) = Small a × Small k
-LineSmall (lines.Copy k a o) = Small k × Small a × Small o
-LineSmall (lines.Send c k) = Small c × Small k
-LineSmall (lines.Recv c k) = Small c × Small k
 
 pub line_small : (clients me : ℕ) (line : Line) → clients < 256 → LineFits clients me line → LineSmall line
 line_small clients me (lines.Put k n) few h = (omega (arith, h.0), h.1)

@@ -9,6 +9,7 @@ pub mod Lists
 pub mod ManyFit
 pub mod ManyWords
 pub mod NumberTexts
+pub mod OneLine
 pub mod Sound
 pub mod Whole
 pub mod ReadLoop

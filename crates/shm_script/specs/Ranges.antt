@@ -16,6 +16,15 @@ LineFits clients me (Copy key author other) = (key < 2 ^ 32) × (author < client
 LineFits clients me (Send to key) = (to < clients) × (to ≢ me) × (key < 2 ^ 32)
 LineFits clients me (Recv from key) = (from < clients) × (from ≢ me) × (key < 2 ^ 32)
 
+-- numbers of a command that are of 64 bits
+abbrev pub LineSmall : Line → Type 0
+LineSmall (Put key number) = (key < 2 ^ 64) × (number < 2 ^ 64)
+LineSmall (Del key) = key < 2 ^ 64
+LineSmall (Get author key) = (author < 2 ^ 64) × (key < 2 ^ 64)
+LineSmall (Copy key author other) = (key < 2 ^ 64) × (author < 2 ^ 64) × (other < 2 ^ 64)
+LineSmall (Send to key) = (to < 2 ^ 64) × (key < 2 ^ 64)
+LineSmall (Recv from key) = (from < 2 ^ 64) × (key < 2 ^ 64)
+
 -- a word and a text are a command in range and what stands behind it
 abbrev pub IsCommand : ℕ → ℕ → List ℕ → List ℕ → Line → List ℕ → Type 0
 IsCommand clients me word text line rest = (word ++ text ≡ line_spelled line ++ rest) × LineFits clients me line

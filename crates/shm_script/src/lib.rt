@@ -22,6 +22,6 @@ pub use fault::{ParseStop, TraceFault, TraceKind};
 pub use line::{Item, Line};
 pub use log::{Answer, End, Entry, Log};
 pub use parsing::{faults_are_of_no_trace, parse, text_is_one_spelling};
-pub use printing::{answer_text, line_text, print};
+pub use printing::{answer_text, line_is_one_spelling, line_text, print};
 pub use text::{push_number, push_text};
 pub use trace::{Script, Trace};

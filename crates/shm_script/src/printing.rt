@@ -2,6 +2,8 @@
 
 ghost use Rattle.std.specs.Prelude.{◌≡◌, ◌++◌, IfOk, OnOk};
 ghost use Rattle.std.specs.List.{flat_map};
+ghost use Rattle.shm_script.specs.declared.line.Line.{Line as ALine};
+ghost use Rattle.shm_script.specs.Ranges.{LineSmall};
 ghost use Rattle.shm_script.specs.Text.{answer_spelled, item_spelled, life_spelled, line_ended, line_spelled, order_spelled, script_spelled, spaced, text_of};
 
 use crate::line::{Item, Line};
@@ -151,6 +153,11 @@ pub fn line_text(text: &mut Vec<u8>, line: Line) -> Result<(), AllocError>
         }
     }
 }
+
+/// No two commands have one text.
+pub fn line_is_one_spelling()
+    ensures { (a b : ALine) → LineSmall a → LineSmall b → line_spelled a ≡ line_spelled b → a ≡ b }
+{}
 
 /// Appends an answer. After an error a part of it may be there.
 pub fn answer_text(text: &mut Vec<u8>, answer: Answer) -> Result<(), AllocError>

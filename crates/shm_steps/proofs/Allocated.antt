@@ -164,4 +164,4 @@ allocates me w r f tr at i b e to tag k st going q a =
     (alloc_event g w v c i b e to tag k st.held (alloc_step g w r c i b e to tag k st.held st.who a)))
     (λ z. inl (inl (free, mine)))
     (λ z live. absurd (live_not_zero (w (Head b)) live free))
-    tt))
+    tt tt))

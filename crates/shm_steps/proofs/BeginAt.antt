@@ -7,6 +7,7 @@ use Rattle.shm_words.specs.declared.redo.Redo.TheVariants as redos
 use Rattle.shm_words.specs.Redos.{redo_word, RedoFits}
 use Rattle.shm_words.proofs.Placing.{total_small}
 use Rattle.shm_words.proofs.Words.{redo_of-word, redo_word_small, live_not_zero}
+use Rattle.shm_words.specs.Layout.{address_limit}
 use Rattle.shm_graph.specs.declared.memo.First.TheVariants.{Begun}
 use Rattle.shm_graph.specs.declared.memo.ChangeStage.TheVariants.{Raising}
 use Rattle.shm_graph.specs.declared.memo.Making.{Making}
@@ -110,10 +111,10 @@ module _ (g : Geometry) (w : Spot → ℕ) (r : ℕ → Memo) (c : ℕ) (h : Hel
   named_block p b n s idle = held_live_block g w (view r) h b (target_counted g w (view r) h p b n (word_target p s.holds idle ∙ s.word)).0
 
   -- addresses of slots and of blocks fit in a redo word
-  slot_fits : (p : Spot) → IsAt g (classes w) p → spot_address g p < 2 ^ 20
+  slot_fits : (p : Spot) → IsAt g (classes w) p → spot_address g p < address_limit
   slot_fits p a = let x = at_below g (classes w) p a in let y = total_small g h.fits in omega arith
 
-  named_fits : (b : ℕ) → IsBlock g (classes w) b → b < 2 ^ 20
+  named_fits : (b : ℕ) → IsBlock g (classes w) b → b < address_limit
   named_fits b a = let x = block_within g (classes w) b a in let y = total_small g h.fits in omega arith
 
   -- ---- what is begun

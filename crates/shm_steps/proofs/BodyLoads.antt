@@ -50,6 +50,7 @@ read_kept me w r f at p told held covers held_over =
         event = same_graph g w w r c (memo_on (r c) t p) covers held_over (λ b. refl) (λ b. refl) refl;
         allowed = tt;
         row = tt;
+        era = tt;
       };
       fits = tt;
     }
@@ -122,6 +123,7 @@ header_lost me w r f tr at from to b s e other =
             (λ d. refl) (λ d. refl) refl);
         allowed = λ q. absurd (other q);
         row = λ q. absurd (other q);
+        era = tt;
       };
       fits = tt;
     })

@@ -139,4 +139,4 @@ module _ (me : Me) (w : Spot → ℕ) (r : ℕ → Memo) (f : Frame) (tr : Trail
       (subst (λ o. Happens g w (event_of c o) (graph_of g w v) (graph_of g (upd w (Head x) to) (second_view v c x b e n p looks' known' values'))) (sym a.op) (second_event g w v c x b e n to p looks' known' values' s.held second_step))
       (λ _. inr live)
       (λ _ _ k. second_step.shows k)
-      tt))
+      tt tt))

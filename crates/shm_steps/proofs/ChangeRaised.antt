@@ -154,4 +154,4 @@ module _ (me : Me) (w : Spot → ℕ) (r : ℕ → Memo) (f : Frame) (tr : Trail
       (subst (λ o. Happens g w (event_of c o) (graph_of g w v) (graph_of g (upd w (Head b) to) (change_view v c x b e p looks' known' values' part))) (sym a.op) (change_event g w v c x b e to p looks' known' values' part s.held change_step))
       (λ _. inr (target_counted g w v s.held named.0 b some named.1.0))
       (λ _ _ k. change_step.shows k)
-      tt))
+      tt tt))

@@ -45,7 +45,7 @@ frees me w r f tr at b tag st going e a =
     (free_kept g w v c b tag st.held step)
     (free_event g w v c b tag st.held step)
     (inr ((st.held.dying c st.who).listed b k.dying))
-    tt tt))
+    tt tt tt))
 
 -- the link of a zero-count block is stored
 pub links : (me : Me) (w : Spot → ℕ) (r : ℕ → Memo) (f : Frame) (tr : Trail) (at b tag x : ℕ) → Stands me w r f tr → f.fresh ≡ false → spot_at me.geometry (classes w) at ≡ Tag b → MayLink (r me.who) b tag x
@@ -69,4 +69,4 @@ links me w r f tr at b tag x st going e a =
     (link_kept g w v c b x st.held step)
     (link_quiet g w v c b x st.held step)
     (inr ((st.held.dying c st.who).listed b k.dying))
-    tt tt))
+    tt tt tt))

@@ -155,4 +155,4 @@ latch_back me w r f tr at a s going e may =
     (sym (ap (λ (u : View). record u { latch = at1 v.latch c None; looks = at1 v.looks c []; known = at1 v.known c ks; values = at1 v.values c vs; test = at1 v.test c None }) (put_same v c)))
     (back_kept g w v c a ks vs s.held step)
     (back_quiet g w v c a ks vs s.held step)
-    ((s.held.latch c s.who).some a may.latch).0 tt tt))
+    ((s.held.latch c s.who).some a may.latch).0 tt tt tt))

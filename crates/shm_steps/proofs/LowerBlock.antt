@@ -166,4 +166,4 @@ module _ (me : Me) (w : Spot → ℕ) (r : ℕ → Memo) (f : Frame) (tr : Trail
       (subst (λ o. Happens g w (event_of c o) (graph_of g w v) (graph_of g (upd w (Head b) to) (lower_view v c b e n p looks' known' values' part))) (sym a.op) (lower_event g w v c b e n to p looks' known' values' part s.held lower_step))
       (λ _. inr live)
       (λ _ _ k. lower_step.shows k)
-      tt))
+      tt tt))

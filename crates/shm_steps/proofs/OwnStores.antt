@@ -61,7 +61,7 @@ row_stored me w r f tr at j x s going e a =
     (sym (ap (λ (u : View). record u { own = at1 v.own c (record { spot = p; value = x } ∷ v.own c); test = at1 v.test c None }) (put_same v c))))
     (rows.row_stored g w v c j x s.held step)
     (row_quiet g w v c j x s.held step)
-    refl tt tt))
+    refl tt (step.more, λ q. absurd (a.other q)) tt))
 
 -- the own hold word is stored, in any step of a machine
 pub hold_stored : (me : Me) (w : Spot → ℕ) (r : ℕ → Memo) (f : Frame) (tr : Trail) (at x : ℕ) → Stands me w r f tr → spot_at me.geometry (classes w) at ≡ Hold me.who → MayHold me.geometry.clients (r me.who) x
@@ -110,11 +110,11 @@ hold_stored me w r f tr at x s e a = subst (KeptAt me w r (Store at x) f (λ n m
         ∙ sym (ap (λ (z : View). record z { own = at1 v.own c (record { spot = Hold c; value = x } ∷ v.own c); facts = at1 v.facts c counts; zeros = at1 v.zeros c []; test = at1 v.test c None; made = at1 v.made c [] }) (put_same v c)))
         (hold_kept g w u c x held (step u refl refl))
         (hold_quiet g w u c x held (step u refl refl))
-        refl tt tt
+        refl tt tt tt
     by false =
         kept_from me w r (Store at x) (record f { fresh = false }) (λ n m. Unit {0}) (Hold c) (hold_view v c x)
         (told_fixed g (classes w) c (r c) (Store at x) (Hold c) e refl)
         (sym (ap (λ (z : View). record z { own = at1 v.own c (record { spot = Hold c; value = x } ∷ v.own c); test = at1 v.test c None }) (put_same v c)))
         (hold_kept g w v c x s.held (step v refl refl))
         (hold_quiet g w v c x s.held (step v refl refl))
-        refl tt tt
+        refl tt tt tt

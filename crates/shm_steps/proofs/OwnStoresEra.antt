@@ -1,5 +1,5 @@
 -- the store of the own era, as machines use it: where the step that it closes lowers, the looks are over
-use Rattle.std.proofs.Common.{◌≡◌, ◌≢◌, ℕ, ◌+◌, ◌<◌, refl, sym, ap, ◌∙◌, subst, Bool, true, false, cond, List, [], ◌∷◌, None, inl, inr, ◌⊎◌, eqb}
+use Rattle.std.proofs.Common.{◌≡◌, ◌≢◌, ℕ, ◌+◌, ◌<◌, refl, arith, sym, ap, ◌∙◌, subst, Bool, true, false, cond, List, [], ◌∷◌, None, inl, inr, ◌⊎◌, eqb}
 use Rattle.std.specs.List.{All, filter}
 use Rattle.std.proofs.lemmas.Bool.{eq-eqb, cases_eq, false≢true}
 use Rattle.shm_words.specs.declared.geometry.Geometry.{Geometry}
@@ -21,6 +21,7 @@ use Rattle.shm_graph.specs.Blocks.{classes}
 use Rattle.shm_graph.specs.Views.{View, view, at1, own_word, targets}
 use Rattle.shm_graph.specs.Asks.{Trail}
 use Rattle.shm_graph.specs.Changes.{called}
+use Rattle.shm_graph.specs.Controllers.{IsEraRaised}
 use Rattle.shm_graph.specs.Events.{Nothing as Quietly, graph_of, Happens}
 use Rattle.shm_graph.specs.Held.{HeldAt, KnownAt, ValueAt, SlotOf, LooksSound, Fresh, InLooks, named_by, reach_of}
 use Rattle.shm_graph.specs.Ops.{cover, cover_of, slot_of, is_op}
@@ -168,6 +169,10 @@ module _ (me : Me) (w : Spot → ℕ) (r : ℕ → Memo) (f : Frame) (tr : Trail
   closed_quiet : Happens g w Quietly (graph_of g w v) (graph_of g w' v')
   closed_quiet = subst (λ y. Happens g w Quietly (graph_of g w v) (graph_of g (upd w p y) (close_view v c y o))) (sym word) (close_quiet g w v c o s.held step)
 
+  -- the own era is the next one
+  raised : IsEraRaised w (Store at x) p
+  raised = (let q = word in omega arith, λ _. word)
+
   -- an own reference word names what the memo shows
   own_target : (q : Spot) → targets g w' v' q ≡ cover (cover_of (v'.op c)) q (own_word (v'.own c) q) → cover (cover_of o) q (own_word own q) ≡ targets g w' v' q
   own_target q e = sym (e ∙ (ap (λ k. cover (cover_of k) q (own_word (v'.own c) q)) (at1_here v.op c o) ∙ ap (λ k. cover (cover_of o) q (own_word k q)) (at1_here v.own c own)))
@@ -216,12 +221,12 @@ module _ (me : Me) (w : Spot → ℕ) (r : ℕ → Memo) (f : Frame) (tr : Trail
       kept_from me w r (Store at x) (record f { fresh = false }) (λ n m. Unit {0}) p u
       (told_fixed g (classes w) c (r c) (Store at x) p place refl)
       (stored_view u true e (sym (ap (λ (z : View). record z { own = at1 v.own c own; op = at1 v.op c o; looks = at1 v.looks c []; known = at1 v.known c ks; values = at1 v.values c vs; test = at1 v.test c None }) (put_same v c))))
-      (dropped_held e) closed_quiet refl tt tt
+      (dropped_held e) closed_quiet refl tt raised tt
   era_by place false e =
       kept_from me w r (Store at x) (record f { fresh = false }) (λ n m. Unit {0}) p v'
       (told_fixed g (classes w) c (r c) (Store at x) p place refl)
       (stored_view v' false e (sym (ap (λ (z : View). record z { own = at1 v.own c own; op = at1 v.op c o; test = at1 v.test c None }) (put_same v c))))
-      closed_held closed_quiet refl tt tt
+      closed_held closed_quiet refl tt raised tt
 
 -- the own era is stored, which closes a step or the first half of a change
 pub era_closed : (me : Me) (w : Spot → ℕ) (r : ℕ → Memo) (f : Frame) (tr : Trail) (at : ℕ) → Stands me w r f tr → f.fresh ≡ false → spot_at me.geometry (classes w) at ≡ Era me.who me.who → MayClose (r me.who) (own_word (r me.who).own (Era me.who me.who) + 1)

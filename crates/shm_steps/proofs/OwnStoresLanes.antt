@@ -59,7 +59,7 @@ tail_stored me w r f tr at i s going e a =
     ∙ sym (ap (λ (u : View). record u { own = at1 v.own c own; sent = at1 v.sent c (λ j. slice_index_or (lane_with (r c).sent i (slice_index (r c).unsent i)) j []); unsent = at1 v.unsent c (λ j. slice_index (put 0 (r c).unsent i 0) j); test = at1 v.test c None }) (put_same v c))))
     (subst (λ y. HeldAt g (upd w p (y + 1)) (tail_view v c i (y + 1))) (sym word) (tail_kept g w v c i s.held step))
     (subst (λ y. Happens g w Nothing (graph_of g w v) (graph_of g (upd w p (y + 1)) (tail_view v c i (y + 1)))) (sym word) (tail_quiet g w v c i s.held step))
-    refl tt tt))
+    refl tt tt tt))
 
 -- the head of the queue from another client is stored
 pub head_stored : (me : Me) (w : Spot → ℕ) (r : ℕ → Memo) (f : Frame) (tr : Trail) (at i : ℕ) → Stands me w r f tr → f.fresh ≡ false → spot_at me.geometry (classes w) at ≡ QueueHead i me.who → MayReceive me.geometry.clients me.who (r me.who) i
@@ -94,4 +94,4 @@ head_stored me w r f tr at i s going e a =
     ∙ sym (ap (λ (u : View). record u { own = at1 v.own c own; received = at1 v.received c (λ j. slice_index_or (lane_with (r c).received i (slice_index (r c).untaken i)) j []); untaken = at1 v.untaken c (λ j. slice_index (put 0 (r c).untaken i 0) j); test = at1 v.test c None }) (put_same v c))))
     (subst (λ y. HeldAt g (upd w p (y + 1)) (head_view v c i (y + 1))) (sym word) (head_kept g w v c i s.held step))
     (subst (λ y. Happens g w Nothing (graph_of g w v) (graph_of g (upd w p (y + 1)) (head_view v c i (y + 1)))) (sym word) (head_quiet g w v c i s.held step))
-    refl tt tt))
+    refl tt tt tt))

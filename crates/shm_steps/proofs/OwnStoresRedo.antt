@@ -7,6 +7,7 @@ use Rattle.shm_words.specs.declared.redo.Redo.TheVariants as redos
 use Rattle.shm_words.specs.Redos.{redo_word, RedoFits}
 use Rattle.shm_words.proofs.Placing.{total_small}
 use Rattle.shm_words.proofs.Words.{redo_of-word, redo_word_small}
+use Rattle.shm_words.specs.Layout.{address_limit}
 use Rattle.shm_graph.specs.declared.ask.Ask.TheVariants.{Store}
 use Rattle.shm_graph.specs.declared.ask.Me.{Me}
 use Rattle.shm_graph.specs.declared.memo.First.TheVariants.{Begun}
@@ -58,7 +59,7 @@ redo_stored me w r f tr at x s going e step =
     (sym (ap (λ (u : View). record u { own = at1 v.own c (record { spot = p; value = x } ∷ v.own c); op = at1 v.op c o; test = at1 v.test c None }) (put_same v c)))
     (begin_kept g w v c x o s.held step)
     (begin_quiet g w v c x o s.held step)
-    refl tt tt))
+    refl tt tt tt))
 
 -- the memo tells a root by its address
 root_told : (g : Geometry) (class : ℕ → ℕ → ℕ) (c : ℕ) (m : Memo) (d k : ℕ) → IsAt g class (Root d k) → word_told g c m (spot_address g (Root d k)) ≡ Root d k
@@ -97,10 +98,10 @@ module _ (g : Geometry) (w : Spot → ℕ) (r : ℕ → Memo) (c : ℕ) (h : Hel
   root_at k s = fixed_is_at g (classes w) (Root c k) refl (rw (lt-ltb c g.clients l, lt-ltb k 16 s) refl)
 
   -- addresses of roots and of blocks fit in a redo word
-  pub address_fits : (k : ℕ) → IsAt g (classes w) (Root c k) → spot_address g (Root c k) < 2 ^ 20
+  pub address_fits : (k : ℕ) → IsAt g (classes w) (Root c k) → spot_address g (Root c k) < address_limit
   address_fits k a = let x = at_below g (classes w) (Root c k) a in let y = total_small g h.fits in omega arith
 
-  pub block_fits : (b : ℕ) → IsBlock g (classes w) b → b < 2 ^ 20
+  pub block_fits : (b : ℕ) → IsBlock g (classes w) b → b < address_limit
   block_fits b a = let x = block_within g (classes w) b a in let y = total_small g h.fits in omega arith
 
   -- a step at an own root begins, where its redo word spells it

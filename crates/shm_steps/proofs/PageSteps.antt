@@ -44,7 +44,7 @@ claimed me w r f tr at s st going e free a =
     (sym (ap (λ (u : View). record u { owned = at1 v.owned c (s ∷ v.owned c); test = at1 v.test c None }) (put_same v c)))
     (claim_kept g w v c s st.held step)
     (claim_quiet g w v c s st.held step)
-    (λ z. inr free) tt tt))
+    (λ z. inr free) tt tt tt))
 
 -- an own segment is given up
 pub given_up : (me : Me) (w : Spot → ℕ) (r : ℕ → Memo) (f : Frame) (tr : Trail) (at s : ℕ) → Stands me w r f tr → f.fresh ≡ false → spot_at me.geometry (classes w) at ≡ Segment s → MayGive (r me.who) s
@@ -61,7 +61,7 @@ given_up me w r f tr at s st going e a =
     (sym (ap (λ (u : View). record u { owned = at1 v.owned c (filter (not_segment s) (v.owned c)); zeros = at1 v.zeros c (filter (outside_of g s) (v.zeros c)); test = at1 v.test c None }) (put_same v c)))
     (segment_back_kept g w v c s st.held step)
     (segment_back_quiet g w v c s st.held step)
-    ((st.held.segments c st.who).listed s a.owned) tt tt))
+    ((st.held.segments c st.who).listed s a.owned) tt tt tt))
 
 -- a page of an own segment gets its class
 pub class_stored : (me : Me) (w : Spot → ℕ) (r : ℕ → Memo) (f : Frame) (tr : Trail) (at s q k : ℕ) → Stands me w r f tr → f.fresh ≡ false → spot_at me.geometry (classes w) at ≡ Page s q → MayClass (r me.who) s q k
@@ -79,7 +79,7 @@ class_stored me w r f tr at s q k st going e a =
     (sym (ap (λ (u : View). record u { zeros = at1 v.zeros c (filter (other_than (Page s q)) (v.zeros c)); facts = at1 v.facts c (Class s q k ∷ v.facts c); test = at1 v.test c None }) (put_same v c)))
     (class_kept g w v c s q k st.held step)
     (class_quiet g w v c s q k st.held step)
-    (zero.1, zero.0) tt tt))
+    (zero.1, zero.0) tt tt tt))
 
 -- a latch that nobody holds is taken
 pub latched : (me : Me) (w : Spot → ℕ) (r : ℕ → Memo) (f : Frame) (tr : Trail) (at a : ℕ) → Stands me w r f tr → f.fresh ≡ false → spot_at me.geometry (classes w) at ≡ Latch a → w (Latch a) ≡ 0 → MayLatch me.who (r me.who) a
@@ -96,4 +96,4 @@ latched me w r f tr at a st going e free may =
     (sym (ap (λ (u : View). record u { latch = at1 v.latch c (Some a); test = at1 v.test c None }) (put_same v c)))
     (latch_kept g w v c a st.held step)
     (latch_quiet g w v c a st.held step)
-    (λ z. inr free) tt tt))
+    (λ z. inr free) tt tt tt))

@@ -24,7 +24,7 @@ use Rattle.shm_graph.specs.Reach.{is_dying}
 use Rattle.shm_graph.specs.Stores.{stored_on, making_with, class_told}
 use Rattle.shm_graph.specs.Telling.{spot_told, prepared, word_of_block}
 use Rattle.shm_graph.specs.Changes.{called}
-use Rattle.shm_graph.specs.Controllers.{IsController}
+use Rattle.shm_graph.specs.Controllers.{IsController, IsEraRaised}
 use Rattle.shm_graph.specs.Events.{Event, Nothing, graph_of, Happens}
 use Rattle.shm_graph.specs.Laws.{Frame, framed, Stands, KeptAt, event_on}
 use Rattle.shm_graph.proofs.Spots.Spotting.{tag_block, body_block, tag_spot, block_within, in_pool, spot_there}
@@ -76,8 +76,9 @@ stored_at : (me : Me) (w : Spot → ℕ) (r : ℕ → Memo) (f : Frame) (tr : Tr
     → record n { making = making_with me.geometry (r me.who).facts (r me.who).making b p x } ≡ stored_on me.geometry me.who n p x
     → event_on (r me.who) t p ≡ Nothing
     → IsController me.geometry w (view r) me.who p
+    → IsEraRaised w (Store at x) p
     → KeptAt me w r (Store at x) f (λ n m. Unit {0}) (spot_at me.geometry (classes w) at)
-stored_at me w r f tr at b k p x st going e step told made memo event mine =
+stored_at me w r f tr at b k p x st going e step told made memo event mine era =
     let g = me.geometry in
     let c = me.who in
     let v : View = view r in
@@ -92,7 +93,7 @@ stored_at me w r f tr at b k p x st going e step told made memo event mine =
     ∙ (ap (λ (z : Option Making). put_parts v c (parts (record n { making = z }))) made ∙ ap (λ (z : Memo). put_parts v c (parts z)) memo))
     (prepare_kept g w v c b k p x st.held step)
     (subst (λ (z : Event). Happens g w z (graph_of g w v) (graph_of g (upd w p x) (prepare_view v c b k p x))) (sym event) (prepare_quiet g w v c b k p x st.held step))
-    mine tt tt))
+    mine tt era tt))
 
 -- ---- the tag
 
@@ -116,7 +117,7 @@ tag_at me w r f tr at b k x st going e step idle told made =
     made
     (sym (cond-false _ _ _ free))
     refl
-    (inl (step.free, step.mine))
+    (inl (step.free, step.mine)) tt
 
 -- a tag is stored, of the block that is prepared or of one that is prepared from here on
 pub tag_prepares : (me : Me) (w : Spot → ℕ) (r : ℕ → Memo) (f : Frame) (tr : Trail) (at b x : ℕ) → Stands me w r f tr → f.fresh ≡ false → spot_at me.geometry (classes w) at ≡ Tag b → MayTag me.geometry (r me.who) b x
@@ -192,7 +193,7 @@ body_prepares me w r f tr at b i x st going e (k, a, room) =
     (making_more g (r c).facts (r c).making k b (Body b i) x a.making a.of)
     (sym (cond-false _ _ _ (ap (λ o. is_op o && same_spot (slot_of o) (Body b i)) a.idle)))
     refl
-    (inl (step.free, step.mine))
+    (inl (step.free, step.mine)) tt
   where
     -- the address before a word of a block isn't that of a header, for the tag follows a header
     before : is_dying (r me.who) (at - 1) ≡ false

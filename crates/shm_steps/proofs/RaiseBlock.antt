@@ -159,4 +159,4 @@ module _ (me : Me) (w : Spot → ℕ) (r : ℕ → Memo) (f : Frame) (tr : Trail
       (subst (λ o. Happens g w (event_of c o) (graph_of g w v) (graph_of g (upd w (Head b) to) (up_view v c b e p part))) (sym a.op) (up_event g w v c b e to p part s.held raise_step))
       (λ _. inr (target_counted g w v s.held named.0 b some named.1.0))
       (λ _ _ k. raise_step.shows k)
-      tt))
+      tt tt))

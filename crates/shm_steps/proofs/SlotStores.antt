@@ -48,7 +48,7 @@ root_stored me w r f tr at k x s going e a =
     (sym (ap (λ (u : View). record u { own = at1 v.own c (record { spot = Root c k; value = x } ∷ v.own c); op = at1 v.op c o; test = at1 v.test c None }) (put_same v c)))
     (root_kept g w v c k x o s.held step)
     (root_quiet g w v c k x o s.held step)
-    refl tt tt))
+    refl tt tt tt))
 
 -- the own home
 pub home_stored : (me : Me) (w : Spot → ℕ) (r : ℕ → Memo) (f : Frame) (tr : Trail) (at x : ℕ) → Stands me w r f tr → f.fresh ≡ false → spot_at me.geometry (classes w) at ≡ Home me.who → MayWrite (r me.who) (Home me.who) x
@@ -66,7 +66,7 @@ home_stored me w r f tr at x s going e a =
     (sym (ap (λ (u : View). record u { own = at1 v.own c (record { spot = Home c; value = x } ∷ v.own c); op = at1 v.op c o; test = at1 v.test c None }) (put_same v c)))
     (home_kept g w v c x o s.held step)
     (home_quiet g w v c x o s.held step)
-    refl tt tt))
+    refl tt tt tt))
 
 -- a slot of a queue
 pub queue_stored : (me : Me) (w : Spot → ℕ) (r : ℕ → Memo) (f : Frame) (tr : Trail) (at i j k x : ℕ) → Stands me w r f tr → f.fresh ≡ false → spot_at me.geometry (classes w) at ≡ Slot i j k → MayWrite (r me.who) (Slot i j k) x
@@ -84,7 +84,7 @@ queue_stored me w r f tr at i j k x s going e a =
     (sym (ap (λ (u : View). record u { op = at1 v.op c o; test = at1 v.test c None }) (put_same v c)))
     (queue_kept g w v c i j k x o s.held step)
     (queue_quiet g w v c i j k x o s.held step)
-    (inl a.slot) tt tt))
+    (inl a.slot) tt tt tt))
 
 -- a step that may write covers its slot
 writes_cover : (o new : Op) (x : ℕ) (p : Spot) → slot_of o ≡ p → Writes o new x → (cover_of o ≡ On p x) × (is_op o ≡ true)
@@ -129,4 +129,4 @@ body_stored me w r f tr at b i x s going e a =
     ∙ ap (λ (m : Memo). put_parts v c (parts m)) (sym (cond-true _ _ _ mine)))
     (body_kept g w v c b i x o s.held step)
     (body_quiet g w v c b i x o s.held step)
-    (inr (inr (inl a.slot))) tt tt))
+    (inr (inr (inl a.slot))) tt tt tt))

@@ -1,6 +1,6 @@
 -- the event of the deciding step is the one by which the map changes
-use Rattle.std.proofs.Common.{◌≡◌, ℕ, ◌%◌, Bool, true, false, refl, sym, ap, ◌∙◌, subst, List, [], ◌∷◌, ◌⊎◌, inl, inr}
-use Rattle.std.specs.Prelude.{◌&&◌, if◌then◌else◌, Option, Some, None, Result, Ok, Err}
+use Rattle.std.proofs.Common.{◌≡◌, ℕ, ◌%◌, Bool, true, false, refl, sym, ap, ◌∙◌, subst, [], ◌∷◌, inl, inr}
+use Rattle.std.specs.Prelude.{if◌then◌else◌, Option, Some, None, Ok, Err}
 use Rattle.shm_graph.specs.declared.ask.Me.{Me}
 use Rattle.shm_graph.specs.declared.memo.Memo.{Memo}
 use Rattle.shm_graph.specs.declared.spot.Spot.{Spot}
@@ -57,7 +57,7 @@ use Rattle.shm_table.specs.CopyKey.{copy_part, copy_plan}
 use Rattle.shm_table.specs.Cutting.{Cuts}
 use Rattle.shm_table.specs.Del.Control.{DelCall, DelCalls, del_call_at, del_parts}
 use Rattle.shm_table.specs.Del.{del_part, del_plan}
-use Rattle.shm_table.specs.Effects.{copy_at, copy_by, copy_effect, del_at, del_by, del_effect, enter_at, enter_by, enter_decided, put_at, put_by, put_effect, put_root_at, put_root_by, put_root_decided, recv_at, recv_by, recv_effect, replace_at, replace_by, replace_decided, unlink_at, unlink_by, unlink_decided}
+use Rattle.shm_table.specs.Effects.{copy_at, copy_by, copy_effect, copy_home, del_at, del_by, del_effect, enter_at, enter_by, enter_decided, put_at, put_by, put_effect, put_home, put_root_at, put_root_by, put_root_decided, recv_at, recv_by, recv_effect, recv_home, replace_at, replace_by, replace_decided, unlink_at, unlink_by, unlink_decided}
 use Rattle.shm_table.specs.Enter.Control.{EnterAnswer, EnterCall, enter_call_at, enter_parts, enter_spot, enter_to, raised_after}
 use Rattle.shm_table.specs.Enter.{enter_part, enter_plan}
 use Rattle.shm_table.specs.Put.Control.{PutCall, PutCalls, put_call_at, put_parts}
@@ -133,26 +133,30 @@ replace_event c t n there d b = go c.plan c.call (subst (ReplaceAims c.plan) the
 
 -- ---- a new entry begins the chain of its bucket
 
-abbrev EnterAims : EnterState → EnterPoint → EnterCall → Type 0
+abbrev pub EnterAims : EnterState → EnterPoint → EnterCall → Type 0
 EnterAims m y (First w) = Unit {0}
 EnterAims m y (Second (First s)) = (s.me ≡ m.me) × (s.aim ≡ aims.Up (enter_to m y))
 EnterAims m y (Second (Second s)) = (s.me ≡ m.me) × (s.aim ≡ aims.Change m.first m.entry) × (enter_spot m y ≡ Body m.home (m.key % 16))
 
+enter_kept : (m : EnterState) (y : EnterPoint) (x : EnterCall) (n : ℕ) → EnterAims m y x → EnterAims m y (enter_parts.after x n)
+enter_kept m y (First w) n q = tt
+enter_kept m y (Second (First s)) n q = q
+enter_kept m y (Second (Second s)) n q = q
+
+enter_start : (m : EnterState) (y : EnterPoint) → EnterAims m y (enter_call_at m y)
+enter_start m entering.Make = tt
+enter_start m entering.Value = (refl, refl)
+enter_start m entering.Next = (refl, refl)
+enter_start m entering.Link = (refl, refl)
+enter_start m entering.Change = (refl, refl, refl)
+
+-- so of the call in progress
+pub enter_aims : (c : EnterCalls) (t : Trail) → after_all enter_parts (enter_call_at c.plan c.plan.point) t ≡ c.call → EnterAims c.plan c.plan.point c.call
+enter_aims c t there = subst (EnterAims c.plan c.plan.point) there (kept_along enter_parts (EnterAims c.plan c.plan.point) (enter_kept c.plan c.plan.point) (enter_call_at c.plan c.plan.point) t (enter_start c.plan c.plan.point))
+
 enter_event : (c : EnterCalls) (t : Trail) (n v : ℕ) → after_all enter_parts (enter_call_at c.plan c.plan.point) t ≡ c.call → enter_decided c ≡ false → enter_by c.plan c.call n ≡ true → Decides c.plan.me.who c.plan.key c.plan.home v (calls_does enter_parts enter_plan c n)
-enter_event c t n v there d b = go c.plan c.plan.point c.call (subst (EnterAims c.plan c.plan.point) there (kept_along enter_parts (EnterAims c.plan c.plan.point) (kept c.plan c.plan.point) (enter_call_at c.plan c.plan.point) t (start c.plan c.plan.point))) d b
+enter_event c t n v there d b = go c.plan c.plan.point c.call (enter_aims c t there) d b
   where
-    kept : (m : EnterState) (y : EnterPoint) (x : EnterCall) (n : ℕ) → EnterAims m y x → EnterAims m y (enter_parts.after x n)
-    kept m y (First w) n q = tt
-    kept m y (Second (First s)) n q = q
-    kept m y (Second (Second s)) n q = q
-
-    start : (m : EnterState) (y : EnterPoint) → EnterAims m y (enter_call_at m y)
-    start m entering.Make = tt
-    start m entering.Value = (refl, refl)
-    start m entering.Next = (refl, refl)
-    start m entering.Link = (refl, refl)
-    start m entering.Change = (refl, refl, refl)
-
     up : (m : EnterState) (e : Event) → e ≡ event.Up m.me.who (Body m.home (m.key % 16)) m.entry → Decides m.me.who m.key m.home v e
     up m e i = subst (Decides m.me.who m.key m.home v) (sym i) (Begins m.entry)
 
@@ -171,7 +175,7 @@ enter_event c t n v there d b = go c.plan c.plan.point c.call (subst (EnterAims 
 -- ---- a value block comes into the own table
 
 -- the machines that it calls are made with what it has
-abbrev RootAims : PutRootState → PutRootCall → Type 0
+abbrev pub RootAims : PutRootState → PutRootCall → Type 0
 RootAims m (Second (First (First c))) = (c.plan.me ≡ m.me) × (c.plan.to ≡ m.value)
 RootAims m (Second (First (Second c))) = (c.plan.me ≡ m.me) × (c.plan.key ≡ m.key) × (c.plan.home ≡ m.home)
 RootAims m c = Unit {0}
@@ -209,9 +213,13 @@ root_kept m (Second (First (Second c))) n q = plan_kept enter_parts enter_plan (
     enters p (Second (Second a)) r = r
 root_kept m (Second (Second w)) n q = tt
 
+-- so of the call in progress
+pub root_aims : (m : PutRootCalls) (t : Trail) → after_all put_root_parts (put_root_call m.plan m.plan.point) t ≡ m.call → RootAims m.plan m.call
+root_aims m t there = subst (RootAims m.plan) there (kept_along put_root_parts (RootAims m.plan) (root_kept m.plan) (put_root_call m.plan m.plan.point) t (root_start m.plan m.plan.point))
+
 -- with the directory that the search found, where it found no entry
 pub put_root_event : (m : PutRootCalls) (r0 r : Memo) (tr : Trail) (n : ℕ) → CallsFits put_root_parts put_root_plan m r0 r tr → put_root_decided m ≡ false → put_root_by m.plan m.call n ≡ true → Decides m.plan.me.who m.plan.key m.plan.home m.plan.value (calls_does put_root_parts put_root_plan m n)
-put_root_event m r0 r tr n fit d b = go m.plan m.call fit.rs r fit.t (subst (RootAims m.plan) fit.there (kept_along put_root_parts (RootAims m.plan) (root_kept m.plan) (put_root_call m.plan m.plan.point) fit.t (root_start m.plan m.plan.point))) fit.fits d b
+put_root_event m r0 r tr n fit d b = go m.plan m.call fit.rs r fit.t (root_aims m fit.t fit.there) fit.fits d b
   where
     go : (p : PutRootState) (x : PutRootCall) (rs r : Memo) (t : Trail) → RootAims p x → put_root_part.fits x rs r t → put_root_at p x ≡ false → put_root_by p x n ≡ true → Decides p.me.who p.key p.home p.value (put_root_part.does x n)
     go p (First w) rs r t q f d b = cc
@@ -227,7 +235,7 @@ put_root_event m r0 r tr n fit d b = go m.plan m.call fit.rs r fit.t (subst (Roo
 -- ---- puts, copies and receives
 
 -- what it was made with stays
-abbrev RootOf : Me → ℕ → ℕ → PutRootState → Type 0
+abbrev pub RootOf : Me → ℕ → ℕ → PutRootState → Type 0
 RootOf me key v p = (p.me ≡ me) × (p.key ≡ key) × (p.value ≡ v)
 
 root_of_kept : (me : Me) (key v : ℕ) (p : PutRootState) (b : PutRootAnswer) → RootOf me key v p → RootOf me key v (put_root_plan.after p b)
@@ -242,83 +250,93 @@ root_of_kept me key v p (Second (First (Second (Unmade f)))) r = r
 root_of_kept me key v p (Second (Second (First done))) r = r
 root_of_kept me key v p (Second (Second (Second a))) r = r
 
-rooted : (me : Me) (key v : ℕ) (c : PutRootCalls) (rs r : Memo) (t : Trail) (n : ℕ) → RootOf me key v c.plan → CallsFits put_root_parts put_root_plan c rs r t → put_root_decided c ≡ false → put_root_by c.plan c.call n ≡ true → (home : ℕ) × Decides me.who key home v (calls_does put_root_parts put_root_plan c n)
-rooted me key v c rs r t n (i, j, k) f d b = (
-  c.plan.home,
-  subst (λ (z : Me). Decides z.who key c.plan.home v (calls_does put_root_parts put_root_plan c n)) i
-      (subst (λ z. Decides c.plan.me.who z c.plan.home v (calls_does put_root_parts put_root_plan c n)) j
-      (subst (λ z. Decides c.plan.me.who c.plan.key c.plan.home z (calls_does put_root_parts put_root_plan c n)) k (put_root_event c rs r t n f d b))),
-)
+rooted : (me : Me) (key v : ℕ) (c : PutRootCalls) (rs r : Memo) (t : Trail) (n : ℕ) → RootOf me key v c.plan → CallsFits put_root_parts put_root_plan c rs r t → put_root_decided c ≡ false → put_root_by c.plan c.call n ≡ true → Decides me.who key c.plan.home v (calls_does put_root_parts put_root_plan c n)
+rooted me key v c rs r t n (i, j, k) f d b =
+    subst (λ (z : Me). Decides z.who key c.plan.home v (calls_does put_root_parts put_root_plan c n)) i
+    (subst (λ z. Decides c.plan.me.who z c.plan.home v (calls_does put_root_parts put_root_plan c n)) j
+    (subst (λ z. Decides c.plan.me.who c.plan.key c.plan.home z (calls_does put_root_parts put_root_plan c n)) k (put_root_event c rs r t n f d b)))
 
 -- nothing is shown where the step wasn't made
-not_shown : (z : Bool) (a : Answer) → where_decided z a ≡ None → z ≡ false
+pub not_shown : (z : Bool) (a : Answer) → where_decided z a ≡ None → z ≡ false
 not_shown true a e = cc
 not_shown false a e = refl
 
-abbrev PutAims : PutState → PutCall → Type 0
+abbrev pub PutAims : PutState → PutCall → Type 0
 PutAims m (Second (First c)) = RootOf m.me m.key m.block c.plan
 PutAims m c = Unit {0}
 
-pub put_event : (m : PutCalls) (r0 r : Memo) (tr : Trail) (n : ℕ) → CallsFits put_parts put_plan m r0 r tr → put_effect m ≡ None → put_by m.plan m.call n ≡ true → (home : ℕ) × Decides m.plan.me.who m.plan.key home m.plan.block (calls_does put_parts put_plan m n)
-put_event m r0 r tr n fit d b = go m.plan m.call fit.rs r fit.t (subst (PutAims m.plan) fit.there (kept_along put_parts (PutAims m.plan) (kept m.plan) (put_call_at m.plan m.plan.point) fit.t (start m.plan m.plan.point))) fit.fits (not_shown (put_at m.plan m.call) (answer.Stored m.plan.block) d) b
+put_kept : (p : PutState) (x : PutCall) (n : ℕ) → PutAims p x → PutAims p (put_parts.after x n)
+put_kept p (First w) n q = tt
+put_kept p (Second (First c)) n q = plan_kept put_root_parts put_root_plan (RootOf p.me p.key p.block) (root_of_kept p.me p.key p.block) c n q
+put_kept p (Second (Second w)) n q = tt
+
+put_start : (p : PutState) (y : PutPoint) → PutAims p (put_call_at p y)
+put_start p putting.Make = tt
+put_start p putting.Put = (refl, refl, refl)
+put_start p putting.Drop = tt
+
+-- so of the call in progress
+pub put_aims : (m : PutCalls) (t : Trail) → after_all put_parts (put_call_at m.plan m.plan.point) t ≡ m.call → PutAims m.plan m.call
+put_aims m t there = subst (PutAims m.plan) there (kept_along put_parts (PutAims m.plan) (put_kept m.plan) (put_call_at m.plan m.plan.point) t (put_start m.plan m.plan.point))
+
+pub put_event : (m : PutCalls) (r0 r : Memo) (tr : Trail) (n : ℕ) → CallsFits put_parts put_plan m r0 r tr → put_effect m ≡ None → put_by m.plan m.call n ≡ true → Decides m.plan.me.who m.plan.key (put_home m.call) m.plan.block (calls_does put_parts put_plan m n)
+put_event m r0 r tr n fit d b = go m.plan m.call fit.rs r fit.t (put_aims m fit.t fit.there) fit.fits (not_shown (put_at m.plan m.call) (answer.Stored m.plan.block) d) b
   where
-    kept : (p : PutState) (x : PutCall) (n : ℕ) → PutAims p x → PutAims p (put_parts.after x n)
-    kept p (First w) n q = tt
-    kept p (Second (First c)) n q = plan_kept put_root_parts put_root_plan (RootOf p.me p.key p.block) (root_of_kept p.me p.key p.block) c n q
-    kept p (Second (Second w)) n q = tt
-
-    start : (p : PutState) (y : PutPoint) → PutAims p (put_call_at p y)
-    start p putting.Make = tt
-    start p putting.Put = (refl, refl, refl)
-    start p putting.Drop = tt
-
-    go : (p : PutState) (x : PutCall) (rs r : Memo) (t : Trail) → PutAims p x → put_part.fits x rs r t → put_at p x ≡ false → put_by p x n ≡ true → (home : ℕ) × Decides p.me.who p.key home p.block (put_part.does x n)
+    go : (p : PutState) (x : PutCall) (rs r : Memo) (t : Trail) → PutAims p x → put_part.fits x rs r t → put_at p x ≡ false → put_by p x n ≡ true → Decides p.me.who p.key (put_home x) p.block (put_part.does x n)
     go p (First w) rs r t q f d b = cc
     go p (Second (First c)) rs r t q f d b = rooted p.me p.key p.block c rs r t n q f d b
     go p (Second (Second w)) rs r t q f d b = cc
 
-abbrev CopyAims : CopyState → CopyCall → Type 0
+abbrev pub CopyAims : CopyState → CopyCall → Type 0
 CopyAims m (Second (First c)) = RootOf m.me m.key m.block c.plan
 CopyAims m c = Unit {0}
 
-pub copy_event : (m : CopyCalls) (r0 r : Memo) (tr : Trail) (n : ℕ) → CallsFits copy_parts copy_plan m r0 r tr → copy_effect m ≡ None → copy_by m.plan m.call n ≡ true → (home : ℕ) × Decides m.plan.me.who m.plan.key home m.plan.block (calls_does copy_parts copy_plan m n)
-copy_event m r0 r tr n fit d b = go m.plan m.call fit.rs r fit.t (subst (CopyAims m.plan) fit.there (kept_along copy_parts (CopyAims m.plan) (kept m.plan) (copy_call_at m.plan m.plan.point) fit.t (start m.plan m.plan.point))) fit.fits (not_shown (copy_at m.plan m.call) (answer.Value m.plan.number m.plan.block) d) b
+copy_kept : (p : CopyState) (x : CopyCall) (n : ℕ) → CopyAims p x → CopyAims p (copy_parts.after x n)
+copy_kept p (First w) n q = tt
+copy_kept p (Second (First c)) n q = plan_kept put_root_parts put_root_plan (RootOf p.me p.key p.block) (root_of_kept p.me p.key p.block) c n q
+copy_kept p (Second (Second w)) n q = tt
+
+copy_start : (p : CopyState) (y : CopyPoint) → CopyAims p (copy_call_at p y)
+copy_start p copying.Fetch = tt
+copy_start p copying.Put = (refl, refl, refl)
+copy_start p copying.Drop = tt
+
+-- so of the call in progress
+pub copy_aims : (m : CopyCalls) (t : Trail) → after_all copy_parts (copy_call_at m.plan m.plan.point) t ≡ m.call → CopyAims m.plan m.call
+copy_aims m t there = subst (CopyAims m.plan) there (kept_along copy_parts (CopyAims m.plan) (copy_kept m.plan) (copy_call_at m.plan m.plan.point) t (copy_start m.plan m.plan.point))
+
+pub copy_event : (m : CopyCalls) (r0 r : Memo) (tr : Trail) (n : ℕ) → CallsFits copy_parts copy_plan m r0 r tr → copy_effect m ≡ None → copy_by m.plan m.call n ≡ true → Decides m.plan.me.who m.plan.key (copy_home m.call) m.plan.block (calls_does copy_parts copy_plan m n)
+copy_event m r0 r tr n fit d b = go m.plan m.call fit.rs r fit.t (copy_aims m fit.t fit.there) fit.fits (not_shown (copy_at m.plan m.call) (answer.Value m.plan.number m.plan.block) d) b
   where
-    kept : (p : CopyState) (x : CopyCall) (n : ℕ) → CopyAims p x → CopyAims p (copy_parts.after x n)
-    kept p (First w) n q = tt
-    kept p (Second (First c)) n q = plan_kept put_root_parts put_root_plan (RootOf p.me p.key p.block) (root_of_kept p.me p.key p.block) c n q
-    kept p (Second (Second w)) n q = tt
-
-    start : (p : CopyState) (y : CopyPoint) → CopyAims p (copy_call_at p y)
-    start p copying.Fetch = tt
-    start p copying.Put = (refl, refl, refl)
-    start p copying.Drop = tt
-
-    go : (p : CopyState) (x : CopyCall) (rs r : Memo) (t : Trail) → CopyAims p x → copy_part.fits x rs r t → copy_at p x ≡ false → copy_by p x n ≡ true → (home : ℕ) × Decides p.me.who p.key home p.block (copy_part.does x n)
+    go : (p : CopyState) (x : CopyCall) (rs r : Memo) (t : Trail) → CopyAims p x → copy_part.fits x rs r t → copy_at p x ≡ false → copy_by p x n ≡ true → Decides p.me.who p.key (copy_home x) p.block (copy_part.does x n)
     go p (First w) rs r t q f d b = cc
     go p (Second (First c)) rs r t q f d b = rooted p.me p.key p.block c rs r t n q f d b
     go p (Second (Second w)) rs r t q f d b = cc
 
-abbrev RecvAims : RecvState → RecvCall → Type 0
+abbrev pub RecvAims : RecvState → RecvCall → Type 0
 RecvAims m (Second (First c)) = RootOf m.me m.key m.block c.plan
 RecvAims m c = Unit {0}
 
-pub recv_event : (m : RecvCalls) (r0 r : Memo) (tr : Trail) (n : ℕ) → CallsFits recv_parts recv_plan m r0 r tr → recv_effect m ≡ None → recv_by m.plan m.call n ≡ true → (home : ℕ) × Decides m.plan.me.who m.plan.key home m.plan.block (calls_does recv_parts recv_plan m n)
-recv_event m r0 r tr n fit d b = go m.plan m.call fit.rs r fit.t (subst (RecvAims m.plan) fit.there (kept_along recv_parts (RecvAims m.plan) (kept m.plan) (recv_call_at m.plan m.plan.point) fit.t (start m.plan m.plan.point))) fit.fits (not_shown (recv_at m.plan m.call) (answer.Value m.plan.number m.plan.block) d) b
+recv_kept : (p : RecvState) (x : RecvCall) (n : ℕ) → RecvAims p x → RecvAims p (recv_parts.after x n)
+recv_kept p (First (First w)) n q = tt
+recv_kept p (First (Second w)) n q = tt
+recv_kept p (Second (First c)) n q = plan_kept put_root_parts put_root_plan (RootOf p.me p.key p.block) (root_of_kept p.me p.key p.block) c n q
+recv_kept p (Second (Second w)) n q = tt
+
+recv_start : (p : RecvState) (y : RecvPoint) → RecvAims p (recv_call_at p y)
+recv_start p receiving.Fetch = tt
+recv_start p receiving.Put = (refl, refl, refl)
+recv_start p receiving.Take = tt
+recv_start p receiving.Drop = tt
+
+-- so of the call in progress
+pub recv_aims : (m : RecvCalls) (t : Trail) → after_all recv_parts (recv_call_at m.plan m.plan.point) t ≡ m.call → RecvAims m.plan m.call
+recv_aims m t there = subst (RecvAims m.plan) there (kept_along recv_parts (RecvAims m.plan) (recv_kept m.plan) (recv_call_at m.plan m.plan.point) t (recv_start m.plan m.plan.point))
+
+pub recv_event : (m : RecvCalls) (r0 r : Memo) (tr : Trail) (n : ℕ) → CallsFits recv_parts recv_plan m r0 r tr → recv_effect m ≡ None → recv_by m.plan m.call n ≡ true → Decides m.plan.me.who m.plan.key (recv_home m.call) m.plan.block (calls_does recv_parts recv_plan m n)
+recv_event m r0 r tr n fit d b = go m.plan m.call fit.rs r fit.t (recv_aims m fit.t fit.there) fit.fits (not_shown (recv_at m.plan m.call) (answer.Value m.plan.number m.plan.block) d) b
   where
-    kept : (p : RecvState) (x : RecvCall) (n : ℕ) → RecvAims p x → RecvAims p (recv_parts.after x n)
-    kept p (First (First w)) n q = tt
-    kept p (First (Second w)) n q = tt
-    kept p (Second (First c)) n q = plan_kept put_root_parts put_root_plan (RootOf p.me p.key p.block) (root_of_kept p.me p.key p.block) c n q
-    kept p (Second (Second w)) n q = tt
-
-    start : (p : RecvState) (y : RecvPoint) → RecvAims p (recv_call_at p y)
-    start p receiving.Fetch = tt
-    start p receiving.Put = (refl, refl, refl)
-    start p receiving.Take = tt
-    start p receiving.Drop = tt
-
-    go : (p : RecvState) (x : RecvCall) (rs r : Memo) (t : Trail) → RecvAims p x → recv_part.fits x rs r t → recv_at p x ≡ false → recv_by p x n ≡ true → (home : ℕ) × Decides p.me.who p.key home p.block (recv_part.does x n)
+    go : (p : RecvState) (x : RecvCall) (rs r : Memo) (t : Trail) → RecvAims p x → recv_part.fits x rs r t → recv_at p x ≡ false → recv_by p x n ≡ true → Decides p.me.who p.key (recv_home x) p.block (recv_part.does x n)
     go p (First (First w)) rs r t q f d b = cc
     go p (First (Second w)) rs r t q f d b = cc
     go p (Second (First c)) rs r t q f d b = rooted p.me p.key p.block c rs r t n q f d b

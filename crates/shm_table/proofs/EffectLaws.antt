@@ -1,11 +1,12 @@
 -- each state of a command after its deciding step shows what it will answer, and no state before that step shows anything
 use Rattle.std.proofs.Common.{◌≡◌, ℕ, ◌%◌, ◌^◌, Bool, true, false, refl, sym, ap, ◌∙◌}
 use Rattle.std.specs.Prelude.{◌&&◌, ◌==◌, if◌then◌else◌, is_ok, Option, Some, None, Result, Ok, Err}
+use Rattle.shm_words.specs.Layout.{address_limit}
 use Rattle.shm_calls.specs.declared.or.Or.{Or}
 use Rattle.shm_calls.specs.declared.or.Or.TheVariants.{First, Second}
 use Rattle.shm_graph.specs.Laws.{Control}
 use Rattle.shm_calls.specs.CallsControl.{calls_control}
-use Rattle.shm_calls.specs.Deciding.{Decides, Foretells, PlanDecides, calls_decides, calls_foretell, decides_where, either, keeps_decided, mapped_foretells, or_decides, or_foretells}
+use Rattle.shm_calls.specs.Deciding.{Decides, Foretells, calls_decides, calls_foretell, decides_where, either, keeps_decided, mapped_foretells, or_decides, or_foretells}
 use Rattle.shm_calls.specs.Either.{or_control}
 use Rattle.shm_calls.specs.Words.{word_control}
 use Rattle.shm_count.specs.declared.answer.EraSpent.{EraSpent as AnEraSpent}
@@ -103,7 +104,7 @@ replace_decides = calls_decides replace_parts replace_plan replace_at replace_by
     there false a e = cc
 
     ends : (m : ReplaceState) (b : ReplaceAnswer) (a : Result Bool PutFault) → replace_plan.turns m b ≡ Some a → decided_of a ≡ replace_says m b
-    ends m (First n) a e = there (n % 2 ^ 20 == m.to) a e
+    ends m (First n) a e = there (n % address_limit == m.to) a e
     ends m (Second (First (Ok true))) a e = cc
     ends m (Second (First (Ok false))) a e = same_told decided_of (Ok true) a e
     ends m (Second (First (Err f))) a e = same_told decided_of (Err (raised_fault f)) a e
@@ -174,7 +175,7 @@ unlink_decides = calls_decides unlink_parts unlink_plan unlink_at unlink_by unli
     looked m false = refl
 
     goes : (m : UnlinkState) (b : UnlinkAnswer) → unlink_plan.turns m b ≡ None → unlink_at (unlink_plan.after m b) (unlink_plan.call (unlink_plan.after m b)) ≡ unlink_says m b
-    goes m (First n) e = looked (unlink_plan.after m (First n)) (n % 2 ^ 20 == 0)
+    goes m (First n) e = looked (unlink_plan.after m (First n)) (n % address_limit == 0)
     goes m (Second (First (Ok true))) e = refl
     goes m (Second (First (Ok false))) e = cc
     goes m (Second (First (Err f))) e = cc

@@ -1,2 +1,3 @@
 mod EffectLaws
 mod DecidingEvents
+mod EarlierEvents

@@ -1,5 +1,7 @@
 -- the control of a command of a line: that of one of the commands
 pub mod Laws
+pub mod Events
+pub mod Bound
 use Rattle.std.specs.Prelude.{◌≢◌, ℕ, ◌<◌, Bool, false, Option}
 use Rattle.shm_graph.specs.declared.ask.Me.{Me}
 use Rattle.shm_graph.specs.declared.memo.Memo.{Memo}

@@ -1,6 +1,7 @@
 -- a copy as a plan: when it may begin, what is known before each call, and what is left
 pub mod Control
 pub mod Laws
+pub mod Bound
 use Rattle.std.specs.Prelude.{◌≡◌, ◌≢◌, ℕ, ◌+◌, ◌*◌, ◌<◌, ◌⊎◌, Option, Some, None, List, [], ◌∷◌, length}
 use Rattle.std.specs.List.{All, Contains}
 use Rattle.shm_graph.specs.declared.ask.Me.{Me}
@@ -20,8 +21,10 @@ use Rattle.shm_count.specs.Roots.{root_word}
 use Rattle.shm_count.specs.Tear.Events.{Visit, frees}
 use Rattle.shm_ref.specs.DropRoot.Control.{drop_parts}
 use Rattle.shm_ref.specs.DropRoot.{drop_plan}
+use Rattle.shm_script.specs.declared.line.Line.TheVariants as line
 use Rattle.shm_script.specs.declared.log.Answer.{Answer}
 use Rattle.shm_script.specs.declared.log.Answer.TheVariants as answer
+use Rattle.shm_script.specs.Text.{line_spelled}
 use Rattle.shm_table.specs.declared.answer.PutFault.{PutFault}
 use Rattle.shm_table.specs.declared.answer.PutFault.TheVariants.{EraSpent, RootsFull, Full, CountFull}
 use Rattle.shm_table.specs.declared.copy.CopyPoint.{CopyPoint}
@@ -132,7 +135,7 @@ abbrev pub copy_plan : Planned CopyState CopyCall CopyAnswer Answer
 copy_plan =
     record {
       me = λ m. m.me;
-      line = λ m. [];
+      line = λ m. line_spelled (line.Copy m.key m.author m.other);
       first = λ m. is_fetch m.point;
       start = λ m. copying m.me m.key m.author m.other;
       call = λ m. copy_call_at m m.point;

@@ -25,8 +25,10 @@ use Rattle.shm_count.specs.declared.answer.UpFault.{UpFault}
 use Rattle.shm_count.specs.declared.answer.UpFault.TheVariants.{CountFull, EraSpent}
 use Rattle.shm_count.specs.Roots.{root_word}
 use Rattle.shm_count.specs.Tear.Events.{Visit, frees}
+use Rattle.shm_script.specs.declared.line.Line.TheVariants as line
 use Rattle.shm_script.specs.declared.log.Answer.{Answer}
 use Rattle.shm_script.specs.declared.log.Answer.TheVariants as answer
+use Rattle.shm_script.specs.Text.{line_spelled}
 use Rattle.shm_table.specs.declared.del.DelPoint.{DelPoint}
 use Rattle.shm_table.specs.declared.del.DelPoint.TheVariants.{Search, Cut, Back}
 use Rattle.shm_table.specs.declared.del.DelState.{DelState}
@@ -156,7 +158,7 @@ abbrev pub del_plan : Planned DelState DelCall DelCallAnswer Answer
 del_plan =
     record {
       me = λ m. m.me;
-      line = λ m. [];
+      line = λ m. line_spelled (line.Del m.key);
       first = λ m. is_search m.point;
       start = λ m. deleting m.me m.key;
       call = λ m. del_call_at m m.point;

@@ -1,6 +1,5 @@
 -- whether the deciding step of a machine over tables was made, and what a command will answer from then on: by their controls alone
-use Rattle.std.specs.Prelude.{ℕ, Bool, true, false, ◌&&◌, is_ok, Option, Some, None, Result}
-use Rattle.shm_calls.specs.declared.calls.Calls.{Calls}
+use Rattle.std.specs.Prelude.{ℕ, Bool, true, false, ◌&&◌, is_ok, Option, Some, None}
 use Rattle.shm_calls.specs.Deciding.{either, where_decided}
 use Rattle.shm_count.specs.Step.Exchanged.{step_exchanged, step_exchanging}
 use Rattle.shm_queue.specs.Machines.{send}
@@ -14,7 +13,6 @@ use Rattle.shm_table.specs.declared.enter.Entered.TheVariants.{Linked}
 use Rattle.shm_table.specs.declared.enter.EnterPoint.{EnterPoint}
 use Rattle.shm_table.specs.declared.enter.EnterPoint.TheVariants.{Value, Next}
 use Rattle.shm_table.specs.declared.enter.EnterState.{EnterState}
-use Rattle.shm_table.specs.declared.get.GetState.{GetState}
 use Rattle.shm_table.specs.declared.put.PutState.{PutState}
 use Rattle.shm_table.specs.declared.put_root.PutRootState.{PutRootState}
 use Rattle.shm_table.specs.declared.recv.RecvState.{RecvState}
@@ -24,7 +22,7 @@ use Rattle.shm_table.specs.declared.unlink.UnlinkState.{UnlinkState}
 use Rattle.shm_table.specs.CopyKey.Control.{CopyCalls, CopyAnswer, CopyCall}
 use Rattle.shm_table.specs.Del.Control.{DelCalls, DelCall, DelCallAnswer}
 use Rattle.shm_table.specs.Enter.Control.{EnterAnswer, EnterCall}
-use Rattle.shm_table.specs.Get.Control.{GetCalls, GetAnswer, GetCall}
+use Rattle.shm_table.specs.Get.Control.{GetCalls}
 use Rattle.shm_table.specs.Put.Control.{PutCalls, PutAnswer, PutCall}
 use Rattle.shm_table.specs.PutRoot.Control.{EnterCalls, PutRootAnswer, PutRootCall, PutRootCalls, ReplaceCalls, decided_of}
 use Rattle.shm_table.specs.RecvKey.Control.{RecvCalls, RecvAnswer, RecvCall}
@@ -105,6 +103,16 @@ put_root_says m = either (λ a. false) (either (either decided_of is_linked) (λ
 
 abbrev pub put_root_decided : PutRootCalls → Bool
 put_root_decided m = put_root_at m.plan m.call
+
+-- the directory that a put, a copy or a receive has found, while a value block comes into the own table
+abbrev pub put_home : PutCall → ℕ
+put_home = either (λ c. 0) (either (λ c. c.plan.home) (λ c. 0))
+
+abbrev pub copy_home : CopyCall → ℕ
+copy_home = either (λ c. 0) (either (λ c. c.plan.home) (λ c. 0))
+
+abbrev pub recv_home : RecvCall → ℕ
+recv_home = either (λ c. 0) (either (λ c. c.plan.home) (λ c. 0))
 
 -- ---- commands: what they will answer, where the deciding step was made
 

@@ -2,7 +2,7 @@
 use Rattle.std.proofs.Common.{◌≡◌, ◌≢◌, ℕ, ◌+◌, ◌%◌, ◌^◌, ◌<◌, refl, sym, ap, ◌∙◌, subst, arith, true, false, List, ◌∷◌, inl, inr}
 use Rattle.std.specs.Prelude.{◌==◌, if◌then◌else◌, Some, None}
 use Rattle.std.proofs.lemmas.Bool.{cases_eq}
-use Rattle.shm_words.specs.Layout.{GeometryFits}
+use Rattle.shm_words.specs.Layout.{GeometryFits, address_limit}
 use Rattle.shm_words.proofs.Placing.{total_small}
 use Rattle.shm_graph.specs.declared.ask.Me.{Me}
 use Rattle.shm_graph.specs.declared.memo.Memo.{Memo}
@@ -131,7 +131,7 @@ module _ (me : Me) (r : Memo) (held : IsHeld me r) (who : me.who < me.geometry.c
 aim_small : (me : Me) (x : Aim) → GeometryFits me.geometry → AimFits me x → AimSmall x
 aim_small me x fits is = go x is
   where
-    small : (b : ℕ) → IsInside me b → b < 2 ^ 20
+    small : (b : ℕ) → IsInside me b → b < address_limit
     small b inside = let total = total_small me.geometry fits in let l = inside.1 in omega arith
 
     go : (x : Aim) → AimFits me x → AimSmall x
@@ -141,13 +141,13 @@ aim_small me x fits is = go x is
 
 -- a count step at a word of a block may be made, at the word's address
 pub word_step : (me : Me) (d i : ℕ) (x : Aim) (r : Memo) → IsHeld me r → IsSlotFor me.who x (Body d i) false → CanStep me (spot_address me.geometry (Body d i)) x (Body d i) r
-    → MayStepAt (Body d i) false (record { me = me; slot = (d + 2 + i) % 2 ^ 20; aim = x; point = Era }) r
+    → MayStepAt (Body d i) false (record { me = me; slot = (d + 2 + i) % address_limit; aim = x; point = Era }) r
 word_step me d i x r held slot can =
     let total = total_small me.geometry can.geometry in
     let end = can.inside.1 in
     let at = word_address me.geometry d i in
-    let low : d + 2 + i < 2 ^ 20 = omega arith in
-    let is : (d + 2 + i) % 2 ^ 20 ≡ d + 2 + i = omega arith in
+    let low : d + 2 + i < address_limit = omega arith in
+    let is : (d + 2 + i) % address_limit ≡ d + 2 + i = omega arith in
     subst (λ y. MayStepAt (Body d i) false (record { me = me; slot = y; aim = x; point = Era }) r) (sym is)
     (record {
       step = record {

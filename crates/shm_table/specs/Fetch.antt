@@ -4,6 +4,7 @@ pub mod Steps
 pub mod Laws
 use Rattle.std.specs.Prelude.{◌≡◌, ◌≢◌, ℕ, ◌+◌, ◌*◌, ◌^◌, ◌<◌, true, false, Option, Some, None, List, [], ◌∷◌}
 use Rattle.std.specs.List.{Contains}
+use Rattle.shm_words.specs.Layout.{address_limit}
 use Rattle.shm_graph.specs.declared.ask.Me.{Me}
 use Rattle.shm_graph.specs.declared.memo.Memo.{Memo}
 use Rattle.shm_graph.specs.declared.spot.Spot.TheVariants.{Body, Home, Root}
@@ -91,7 +92,7 @@ pub record IsRooted (me : Me) (a key k v n : ℕ) (taken : Option ℕ) (steps : 
   pub empty : root_word me.who r0 k ≡ 0
   pub root : root_word me.who r k ≡ v
   pub some : v ≢ 0
-  pub small : v < 2 ^ 20
+  pub small : v < address_limit
   pub others : (j : ℕ) → k ≢ j → root_word me.who r j ≡ root_word me.who r0 j
   pub dying : r.dying ≡ r0.dying
   pub value : IsValue (sight me.who r) v n

@@ -3,7 +3,7 @@ pub mod Control
 pub mod Laws
 use Rattle.std.specs.Prelude.{◌≡◌, ◌≢◌, ℕ, ◌+◌, ◌%◌, ◌^◌, ◌<◌, false, List, [], ◌∷◌}
 use Rattle.std.specs.List.{Contains}
-use Rattle.shm_words.specs.Layout.{total_of}
+use Rattle.shm_words.specs.Layout.{total_of, address_limit}
 use Rattle.shm_graph.specs.declared.ask.Me.{Me}
 use Rattle.shm_graph.specs.declared.memo.Fact.TheVariants.{Counter}
 use Rattle.shm_graph.specs.declared.memo.Memo.{Memo}
@@ -100,7 +100,7 @@ pub record IsHeadRooted (me : Me) (s k b v n : ℕ) (r0 r : Memo) (tr : Trail) (
   pub low : k < 16
   pub empty : root_word me.who r0 k ≡ 0
   pub root : root_word me.who r k ≡ b
-  pub small : b < 2 ^ 20
+  pub small : b < address_limit
   pub others : (j : ℕ) → k ≢ j → root_word me.who r j ≡ root_word me.who r0 j
   pub dying : r.dying ≡ r0.dying
   pub known : Knows r (spot.Slot s me.who (n % 8)) b

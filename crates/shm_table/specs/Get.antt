@@ -28,8 +28,10 @@ use Rattle.shm_steps.specs.Reparting.{map_in}
 use Rattle.shm_steps.specs.Walking.{IsIn}
 use Rattle.shm_steps.specs.WordParts.{ReferenceLoaded, WordLoaded}
 use Rattle.shm_ref.specs.AskedParts.{asked_part}
+use Rattle.shm_script.specs.declared.line.Line.TheVariants as line
 use Rattle.shm_script.specs.declared.log.Answer.{Answer}
 use Rattle.shm_script.specs.declared.log.Answer.TheVariants as answer
+use Rattle.shm_script.specs.Text.{line_spelled}
 use Rattle.shm_table.specs.declared.get.GetPoint.{GetPoint}
 use Rattle.shm_table.specs.declared.get.GetPoint.TheVariants.{Search, Value, Number, Missing, Known}
 use Rattle.shm_table.specs.declared.get.GetState.{GetState}
@@ -164,7 +166,7 @@ abbrev pub get_plan : Planned GetState GetCall GetAnswer Answer
 get_plan =
     record {
       me = λ m. m.me;
-      line = λ m. [];
+      line = λ m. line_spelled (line.Get m.author m.key);
       first = λ m. is_search m.point;
       start = λ m. record m { entry = 0; block = 0; number = 0; point = Search };
       call = λ m. get_call m m.point;

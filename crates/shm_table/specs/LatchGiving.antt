@@ -79,7 +79,7 @@ latch_given me w r f tr at a s e may = by f.fresh refl
         (put_same v c)))
         (back_kept g w u c a ks vs held step)
         (back_quiet g w u c a ks vs held step)
-        ((s.held.latch c s.who).some a may.latch).0 tt tt
+        ((s.held.latch c s.who).some a may.latch).0 tt tt tt
 
     by : (b : Bool) → f.fresh ≡ b → KeptAt me w r (Store at 0) f (λ n m. Unit {0}) (spot_at g (classes w) at)
     by true q = subst (KeptAt me w r (Store at 0) f (λ n m. Unit {0})) (sym e) (subst (λ b. KeptAt me w r (Store at 0) (record f { fresh = b }) (λ n m. Unit {0}) (Latch a)) (sym q) begun)

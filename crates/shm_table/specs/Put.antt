@@ -2,6 +2,7 @@
 pub mod Control
 pub mod Laws
 pub mod Bound
+pub mod Fresh
 use Rattle.std.specs.Prelude.{◌≡◌, ◌≢◌, ℕ, ◌+◌, ◌*◌, ◌^◌, ◌<◌, ◌⊎◌, false, Option, Some, None, List, [], ◌∷◌, length}
 use Rattle.std.specs.List.{All, Contains}
 use Rattle.shm_graph.specs.declared.ask.Me.{Me}
@@ -23,8 +24,10 @@ use Rattle.shm_count.specs.Roots.{root_word}
 use Rattle.shm_count.specs.Tear.Events.{Visit, frees}
 use Rattle.shm_ref.specs.DropRoot.Control.{drop_parts}
 use Rattle.shm_ref.specs.DropRoot.{drop_plan}
+use Rattle.shm_script.specs.declared.line.Line.TheVariants as line
 use Rattle.shm_script.specs.declared.log.Answer.{Answer}
 use Rattle.shm_script.specs.declared.log.Answer.TheVariants as answer
+use Rattle.shm_script.specs.Text.{line_spelled}
 use Rattle.shm_table.specs.declared.answer.PutFault.{PutFault}
 use Rattle.shm_table.specs.declared.answer.PutFault.TheVariants.{EraSpent, RootsFull, Full, CountFull}
 use Rattle.shm_table.specs.declared.put.PutPoint.{PutPoint}
@@ -38,7 +41,7 @@ use Rattle.shm_table.specs.Staying.{Cleared, Ended, Keeps, MapSet, SameMap}
 
 -- ---- on the way
 
--- root k, which was empty, names a value block b with this number, and nothing else changed
+-- root k, which was empty, names a value block b with this number, which the key didn't have, and nothing else changed
 pub record HasValue (me : Me) (key n k b : ℕ) (r0 r : Memo) (tr : Trail) (es : List Event) : Type 0 where
   pub may : MayCommand me key r0
   pub keeps : Keeps me.who r0 r
@@ -52,6 +55,7 @@ pub record HasValue (me : Me) (key n k b : ℕ) (r0 r : Memo) (tr : Trail) (es :
   pub dying : r.dying ≡ r0.dying
   pub map : SameMap r0 r
   pub value : IsValue (sight me.who r) b n
+  pub fresh : (i : ℕ) → map_in r0.part key ≡ Some (i, b) → ⊥
   pub told : es ≡ event.Alloc me.who k b ∷ []
   pub bound : IsWithin (alloc_steps me.geometry.segments) tr
 
@@ -64,6 +68,7 @@ pub record IsPut (me : Me) (key n k b : ℕ) (f : Option PutFault) (r0 r : Memo)
   pub empty : root_word me.who r0 k ≡ 0
   pub rest : RestSo me.who k r0 r f
   pub value : ValueSo me key n b r0 r es f
+  pub fresh : (i : ℕ) → map_in r0.part key ≡ Some (i, b) → ⊥
   pub made : (ds : List Event) × (es ≡ event.Alloc me.who k b ∷ ds)
   pub keys : ℕ
   pub search : (keys ≡ 0) ⊎ HasSearch me me.who key keys tr
@@ -89,7 +94,7 @@ pub record PutStored (me : Me) (key n b : ℕ) (r0 r : Memo) (tr : Trail) (es : 
   pub home : own_word r.own (Home me.who) ≢ 0
   pub map : MapSet key n b r0 r
   pub made : (k : ℕ) × (ds : List Event) × (es ≡ event.Alloc me.who k b ∷ ds)
-  pub decided : IsDecided me.who key (own_word r.own (Home me.who)) b es ⊎ ((i : ℕ) × (map_in r0.part key ≡ Some (i, b)))
+  pub decided : IsDecided me.who key (own_word r.own (Home me.who)) b es
   pub ended : Ended me.who r0 r
   pub keys : ℕ
   pub search : (keys ≡ 0) ⊎ HasSearch me me.who key keys tr
@@ -127,7 +132,7 @@ abbrev pub put_plan : Planned PutState PutCall PutAnswer Answer
 put_plan =
     record {
       me = λ m. m.me;
-      line = λ m. [];
+      line = λ m. line_spelled (line.Put m.key m.number);
       first = λ m. is_make m.point;
       start = λ m. putting m.me m.key m.number;
       call = λ m. put_call_at m m.point;

@@ -24,8 +24,10 @@ use Rattle.shm_count.specs.Tear.Memos.{Knows}
 use Rattle.shm_queue.specs.Take.{TakeEmpty}
 use Rattle.shm_ref.specs.DropRoot.Control.{drop_parts}
 use Rattle.shm_ref.specs.DropRoot.{drop_plan}
+use Rattle.shm_script.specs.declared.line.Line.TheVariants as line
 use Rattle.shm_script.specs.declared.log.Answer.{Answer}
 use Rattle.shm_script.specs.declared.log.Answer.TheVariants as answer
+use Rattle.shm_script.specs.Text.{line_spelled}
 use Rattle.shm_table.specs.declared.answer.PutFault.{PutFault}
 use Rattle.shm_table.specs.declared.answer.PutFault.TheVariants.{EraSpent, RootsFull, Full, CountFull}
 use Rattle.shm_table.specs.declared.recv.RecvPoint.{RecvPoint}
@@ -159,7 +161,7 @@ abbrev pub recv_plan : Planned RecvState RecvCall RecvAnswer Answer
 recv_plan =
     record {
       me = λ m. m.me;
-      line = λ m. [];
+      line = λ m. line_spelled (line.Recv m.from m.key);
       first = λ m. is_fetch m.point;
       start = λ m. receiving_key m.me m.from m.key;
       call = λ m. recv_call_at m m.point;

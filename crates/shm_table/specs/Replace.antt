@@ -3,7 +3,7 @@ pub mod Control
 pub mod Laws
 use Rattle.std.specs.Prelude.{◌≡◌, ◌≢◌, ℕ, ◌+◌, ◌%◌, ◌^◌, ◌<◌, ◌≤◌, ◌==◌, ◌⊎◌, if◌then◌else◌, Bool, true, false, Some, Result, Ok, Err, List, [], ◌∷◌, length}
 use Rattle.std.specs.List.{All, Contains}
-use Rattle.shm_words.specs.Layout.{GeometryFits, total_of}
+use Rattle.shm_words.specs.Layout.{GeometryFits, total_of, address_limit}
 use Rattle.shm_graph.specs.declared.ask.Me.{Me}
 use Rattle.shm_graph.specs.declared.memo.Memo.{Memo}
 use Rattle.shm_graph.specs.declared.spot.Spot.TheVariants.{Body, Home}
@@ -77,7 +77,7 @@ pub record IsSeen (me : Me) (entry v old : ℕ) (r0 r : Memo) : Type 0 where
   pub room : old + 2 ≤ total_of me.geometry
   pub counted : Contains r.dying old → ⊥
   pub own : IsOwnWord me.who r entry 1 old
-  pub step : MayStepAt (Body entry 1) false (record { me = me; slot = (entry + 2 + 1) % 2 ^ 20; aim = aims.Change old v; point = Era }) r
+  pub step : MayStepAt (Body entry 1) false (record { me = me; slot = (entry + 2 + 1) % address_limit; aim = aims.Change old v; point = Era }) r
   pub was : (key n before word : ℕ) → MayReplace me key v n entry before word r0 → (a : ℕ) × (map_in r0.part key ≡ Some (a, old))
   pub map : (key n before word : ℕ) → MayReplace me key v n entry before word r0 → (k : ℕ) → map_in (part_after me.who (sight me.who r) (Body entry 1) v) k ≡ (if key == k then Some (n, v) else map_in r0.part k)
 

@@ -27,8 +27,10 @@ use Rattle.shm_queue.specs.declared.answer.SendFault.{SendFault}
 use Rattle.shm_queue.specs.declared.answer.SendFault.TheVariants.{QueueFull, EraSpent, CountFull}
 use Rattle.shm_queue.specs.Send.Control.{send_parts}
 use Rattle.shm_queue.specs.Send.{send_plan}
+use Rattle.shm_script.specs.declared.line.Line.TheVariants as line
 use Rattle.shm_script.specs.declared.log.Answer.{Answer}
 use Rattle.shm_script.specs.declared.log.Answer.TheVariants as answer
+use Rattle.shm_script.specs.Text.{line_spelled}
 use Rattle.shm_table.specs.declared.get.GetPoint.TheVariants as get
 use Rattle.shm_table.specs.declared.get.GetPoint.{GetPoint}
 use Rattle.shm_table.specs.declared.get.GetState.{GetState}
@@ -151,7 +153,7 @@ abbrev pub send_key_plan : Planned SendKeyState SendKeyCall SendKeyAnswer Answer
 send_key_plan =
     record {
       me = λ m. m.me;
-      line = λ m. [];
+      line = λ m. line_spelled (line.Send m.to m.key);
       first = λ m. is_search m.point;
       start = λ m. sending_key m.me m.to m.key;
       call = λ m. send_key_call m m.point;

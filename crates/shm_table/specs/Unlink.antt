@@ -3,7 +3,7 @@ pub mod Control
 pub mod Laws
 use Rattle.std.specs.Prelude.{◌≡◌, ◌≢◌, ℕ, zero, suc, ◌+◌, ◌%◌, ◌^◌, ◌<◌, ◌≤◌, ◌==◌, if◌then◌else◌, true, false, Some, None, Result, Ok, Err, List, [], ◌∷◌, length}
 use Rattle.std.specs.List.{All, Contains}
-use Rattle.shm_words.specs.Layout.{GeometryFits, total_of}
+use Rattle.shm_words.specs.Layout.{GeometryFits, total_of, address_limit}
 use Rattle.shm_graph.specs.declared.ask.Me.{Me}
 use Rattle.shm_graph.specs.declared.memo.Memo.{Memo}
 use Rattle.shm_graph.specs.declared.spot.Spot.TheVariants.{Body, Home}
@@ -86,8 +86,8 @@ pub record IsSeen (me : Me) (entry before word next : ℕ) (r0 r : Memo) : Type 
   pub room : entry + 2 ≤ total_of me.geometry
   pub counted : Contains r.dying entry → ⊥
   pub own : IsOwnWord me.who r before word entry
-  pub last : next ≡ 0 → MayStepAt (Body before word) false (record { me = me; slot = (before + 2 + word) % 2 ^ 20; aim = aims.Down entry; point = Era }) r
-  pub goes : next ≢ 0 → MayStepAt (Body before word) false (record { me = me; slot = (before + 2 + word) % 2 ^ 20; aim = aims.Change entry next; point = Era }) r
+  pub last : next ≡ 0 → MayStepAt (Body before word) false (record { me = me; slot = (before + 2 + word) % address_limit; aim = aims.Down entry; point = Era }) r
+  pub goes : next ≢ 0 → MayStepAt (Body before word) false (record { me = me; slot = (before + 2 + word) % address_limit; aim = aims.Change entry next; point = Era }) r
   pub was : (key : ℕ) → MayUnlink me key entry before word r0 → (n : ℕ) × (v : ℕ) × (map_in r0.part key ≡ Some (n, v))
   pub map : (key : ℕ) → MayUnlink me key entry before word r0 → (k : ℕ) → map_in (part_after me.who (sight me.who r) (Body before word) next) k ≡ (if key == k then None else map_in r0.part k)
 

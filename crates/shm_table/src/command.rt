@@ -3,6 +3,7 @@
 ghost use Rattle.std.specs.Prelude.{◌≡◌, ◌<◌};
 ghost use Rattle.shm_words.specs.Layout.{GeometryFits};
 ghost use Rattle.shm_calls.specs.Deciding.{either};
+ghost use Rattle.shm_script.specs.Text.{line_spelled};
 ghost use Rattle.shm_table.specs.Command as control;
 ghost use Rattle.shm_table.specs.Command.{CommandFits, CommandGives, MayStand, command_control, command_effect, command_of};
 ghost use Rattle.shm_table.specs.Command.Laws.{command_laws};
@@ -79,7 +80,8 @@ impl Command {
         requires geometry { GeometryFits me.geometry }
         requires who { me.who < me.geometry.clients }
         requires line { MayStand me line.now }
-        ensures { result ≡ command_of me line.now }
+        ensures command { result ≡ command_of me line.now }
+        ensures line { command_control.line result ≡ line_spelled line.now }
     {
         let one = match *line {
             Line::Put { key, number } => Or::First(Or::First(Put::new(me, key, number))),

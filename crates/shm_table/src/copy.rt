@@ -27,6 +27,7 @@ use shm_count::EraSpent;
 use shm_graph::{Ask, Machine, Me, Turn};
 use shm_ref::{DropRoot, Dropping};
 use shm_script::Answer;
+use shm_words::ADDRESS_LIMIT;
 use std::marker::Model;
 
 /// Which call of it comes next.
@@ -230,7 +231,7 @@ impl CopyState {
                 number,
             } => {
                 self.root = root % 16;
-                self.block = block % (1 << 20);
+                self.block = block % ADDRESS_LIMIT;
                 self.number = number;
                 self.point = CopyPoint::Put;
                 None

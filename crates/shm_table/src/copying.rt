@@ -1,23 +1,22 @@
 //! When what a key has may come to have a root, and another key may come to have it; what that does to the graph of references and to the
 //! map, what it leaves, and how many word steps it takes.
 
-ghost use Rattle.std.specs.Prelude.{◌≡◌, ℕ, ◌+◌, ◌*◌, Some, [], List, length};
-ghost use Rattle.std.specs.List.{All, Contains};
+ghost use Rattle.std.specs.Prelude.{◌≡◌, ℕ, ◌+◌, ◌*◌, Some, []};
 ghost use Rattle.shm_graph.specs.declared.ask.Me.{Me as AMe};
 ghost use Rattle.shm_graph.specs.declared.memo.Memo.{Memo as AMemo};
 ghost use Rattle.shm_graph.specs.Asks.{Trail, IsWithin};
-ghost use Rattle.shm_graph.specs.Bounds.{tear_steps};
+ghost use Rattle.shm_graph.specs.Bounds.{command_steps, tear_steps};
 ghost use Rattle.shm_graph.specs.Tells.{Tells};
 ghost use Rattle.shm_calls.specs.CallsControl.{calls_does};
 ghost use Rattle.shm_calls.specs.CallsFit.{CallsFits};
 ghost use Rattle.shm_calls.specs.Plans.{plan_trail};
-ghost use Rattle.shm_count.specs.Tear.Events.{Visit, frees};
 ghost use Rattle.shm_steps.specs.Reparting.{map_in};
 ghost use Rattle.shm_script.specs.declared.log.Answer.{Answer as AnAnswer};
 ghost use Rattle.shm_script.specs.declared.log.Answer.TheVariants as answer;
 ghost use Rattle.shm_table.specs.declared.answer.PutFault.{PutFault as APutFault};
 ghost use Rattle.shm_table.specs.declared.fetch.Fetched.{Fetched as AFetched};
 ghost use Rattle.shm_table.specs.declared.fetch.Fetched.TheVariants as fetched;
+ghost use Rattle.shm_table.specs.CopyKey.Bound.{IsCopyShort};
 ghost use Rattle.shm_table.specs.CopyKey.Control.{copy_parts, copying, fetch_control};
 ghost use Rattle.shm_table.specs.CopyKey.{CopyLeaves, MayCopy, copy_plan, copy_steps};
 ghost use Rattle.shm_table.specs.Machines.Copy.{CopyFits, CopyGives, FetchFits, FetchGives, copy_control, copy_told, fetch_told};
@@ -68,9 +67,9 @@ pub fn copy_leaves()
     ensures has { (me : AMe) (key a other n v : ℕ) (r0 r : AMemo) (tr : Trail) → a ≡ me.who → CopyGives me key a other r0 r tr (answer.Value n v) → map_in r0.part other ≡ Some (n, v) }
 {}
 
-/// A copy took at most the word steps of a put without its value block, 32 more, 2 for each key that it read in both tables, and 164 for
-/// each block that it freed or left on the way.
+/// A copy takes at most the word steps of a put without its value block, 32 more, 2 for each key that it read in both tables, and 164 for
+/// each block that it freed or left on the way; that is within what a command may take.
 pub fn copy_bound()
-    ensures { (me : AMe) (key a other n v : ℕ) (r0 r : AMemo) (tr : Trail) → CopyGives me key a other r0 r tr (answer.Value n v)
-        → (read : ℕ) × (keys : ℕ) × (vs : List Visit) × HasSearch me a other read tr × All (λ (x : Visit). Contains r.dying x.block) vs × IsWithin (copy_steps me.geometry.segments + 2 * read + 2 * keys + tear_steps (frees (copy_told me key a other tr) + length vs)) tr }
+    ensures own { (me : AMe) (key a other : ℕ) (r0 r : AMemo) (tr : Trail) (b : AnAnswer) → CopyGives me key a other r0 r tr b → IsCopyShort me key a other (λ k t. copy_steps me.geometry.segments + 2 * k + tear_steps t) r tr (copy_told me key a other tr) }
+    ensures command { (me : AMe) (key a other : ℕ) (r0 r : AMemo) (tr : Trail) (b : AnAnswer) → CopyGives me key a other r0 r tr b → IsCopyShort me key a other (command_steps me.geometry.segments) r tr (copy_told me key a other tr) }
 {}

@@ -22,6 +22,7 @@ use shm_calls::{Calls, Or, Plan};
 use shm_count::UpFault;
 use shm_graph::{Ask, Machine, Me, Turn};
 use shm_script::Answer;
+use shm_words::ADDRESS_LIMIT;
 use std::marker::Model;
 
 /// Which call of it comes next.
@@ -180,8 +181,8 @@ impl DelState {
                 before,
                 word,
             } => {
-                self.entry = entry % (1 << 20);
-                self.before = before % (1 << 20);
+                self.entry = entry % ADDRESS_LIMIT;
+                self.before = before % ADDRESS_LIMIT;
                 self.word = word;
                 self.point = DelPoint::Cut;
             }

@@ -1,17 +1,21 @@
 //! What commands on a table show of their answers: from the deciding step on they show it, and it is what they answer.
 
-ghost use Rattle.std.specs.Prelude.{◌≡◌, ◌^◌, ◌<◌, ℕ, true, false, is_ok, None, []};
+ghost use Rattle.std.specs.Prelude.{◌≡◌, ◌+◌, ◌*◌, ◌^◌, ◌<◌, ℕ, true, false, is_ok, None, []};
 ghost use Rattle.shm_graph.specs.declared.ask.Me.{Me as AMe};
 ghost use Rattle.shm_graph.specs.declared.memo.Memo.{Memo as AMemo};
 ghost use Rattle.shm_graph.specs.Asks.{Trail};
+ghost use Rattle.shm_graph.specs.Bounds.{command_steps};
 ghost use Rattle.shm_graph.specs.Tells.{Tells};
 ghost use Rattle.shm_calls.specs.CallsControl.{calls_control, calls_does};
 ghost use Rattle.shm_calls.specs.CallsFit.{CallsFits};
 ghost use Rattle.shm_calls.specs.Deciding.{Decides, Foretells};
+ghost use Rattle.shm_script.specs.declared.line.Line.{Line as ALine};
 ghost use Rattle.shm_script.specs.declared.line.Line.TheVariants as line;
 ghost use Rattle.shm_script.specs.declared.log.Answer.{Answer as AnAnswer};
+ghost use Rattle.shm_script.specs.Text.{line_spelled};
 ghost use Rattle.shm_table.specs.Machines.Change.{DelGives};
-ghost use Rattle.shm_table.specs.Command.{CommandFits, CommandGives, command_by, command_control, command_does, command_effect, command_of};
+ghost use Rattle.shm_table.specs.Command.Bound.{IsCommandShort, command_told};
+ghost use Rattle.shm_table.specs.Command.{CommandCall, CommandFits, CommandGives, command_by, command_control, command_does, command_effect, command_of};
 ghost use Rattle.shm_table.specs.Commands.{MayCommand};
 ghost use Rattle.shm_table.specs.CopyKey.Control.{CopyCalls, copy_parts};
 ghost use Rattle.shm_table.specs.Machines.Copy.{CopyGives};
@@ -19,7 +23,7 @@ ghost use Rattle.shm_table.specs.CopyKey.{MayCopy, copy_plan};
 ghost use Rattle.shm_table.specs.Cutting.{Cuts};
 ghost use Rattle.shm_table.specs.Del.Control.{DelCalls, del_parts};
 ghost use Rattle.shm_table.specs.Del.{MayDel, del_plan};
-ghost use Rattle.shm_table.specs.Effects.{copy_by, copy_effect, del_by, del_effect, enter_by, enter_decided, get_effect, is_linked, put_by, put_effect, put_root_by, put_root_decided, recv_by, recv_effect, replace_by, replace_decided, send_key_by, send_key_effect, unlink_by, unlink_decided};
+ghost use Rattle.shm_table.specs.Effects.{copy_by, copy_effect, copy_home, del_by, del_effect, enter_by, enter_decided, get_effect, is_linked, put_by, put_effect, put_home, put_root_by, put_root_decided, recv_by, recv_effect, recv_home, replace_by, replace_decided, send_key_by, send_key_effect, unlink_by, unlink_decided};
 ghost use Rattle.shm_table.specs.Get.Control.{get_parts};
 ghost use Rattle.shm_table.specs.Get.{get_plan};
 ghost use Rattle.shm_table.specs.Locate.{MayLocate};
@@ -59,10 +63,18 @@ pub fn commands_foretell()
 /// The deciding step of a command that fits is told as the event by which the map changes: that a new entry begins the chain of a bucket, or that
 /// an entry has another value block; or that the word that led to the entry loses it.
 pub fn deciding_events()
-    ensures put { (m : PutCalls) (r0 r : AMemo) (tr : Trail) (n : ℕ) → CallsFits put_parts put_plan m r0 r tr → put_effect m ≡ None → put_by m.plan m.call n ≡ true → (home : ℕ) × DecidesMap m.plan.me.who m.plan.key home m.plan.block (calls_does put_parts put_plan m n) }
-    ensures copy { (m : CopyCalls) (r0 r : AMemo) (tr : Trail) (n : ℕ) → CallsFits copy_parts copy_plan m r0 r tr → copy_effect m ≡ None → copy_by m.plan m.call n ≡ true → (home : ℕ) × DecidesMap m.plan.me.who m.plan.key home m.plan.block (calls_does copy_parts copy_plan m n) }
-    ensures recv { (m : RecvCalls) (r0 r : AMemo) (tr : Trail) (n : ℕ) → CallsFits recv_parts recv_plan m r0 r tr → recv_effect m ≡ None → recv_by m.plan m.call n ≡ true → (home : ℕ) × DecidesMap m.plan.me.who m.plan.key home m.plan.block (calls_does recv_parts recv_plan m n) }
+    ensures put { (m : PutCalls) (r0 r : AMemo) (tr : Trail) (n : ℕ) → CallsFits put_parts put_plan m r0 r tr → put_effect m ≡ None → put_by m.plan m.call n ≡ true → DecidesMap m.plan.me.who m.plan.key (put_home m.call) m.plan.block (calls_does put_parts put_plan m n) }
+    ensures copy { (m : CopyCalls) (r0 r : AMemo) (tr : Trail) (n : ℕ) → CallsFits copy_parts copy_plan m r0 r tr → copy_effect m ≡ None → copy_by m.plan m.call n ≡ true → DecidesMap m.plan.me.who m.plan.key (copy_home m.call) m.plan.block (calls_does copy_parts copy_plan m n) }
+    ensures recv { (m : RecvCalls) (r0 r : AMemo) (tr : Trail) (n : ℕ) → CallsFits recv_parts recv_plan m r0 r tr → recv_effect m ≡ None → recv_by m.plan m.call n ≡ true → DecidesMap m.plan.me.who m.plan.key (recv_home m.call) m.plan.block (calls_does recv_parts recv_plan m n) }
     ensures del { (m : DelCalls) (r0 r : AMemo) (tr : Trail) (n : ℕ) → CallsFits del_parts del_plan m r0 r tr → del_effect m ≡ None → del_by m.plan m.call n ≡ true → Cuts m.plan.me.who m.plan.before m.plan.word m.plan.entry (calls_does del_parts del_plan m n) }
+{}
+
+/// No step before the deciding one is such an event: of a put, a copy and a receive for any value block.
+pub fn earlier_events()
+    ensures put { (m : PutCalls) (r0 r : AMemo) (tr : Trail) (n v : ℕ) → CallsFits put_parts put_plan m r0 r tr → put_effect m ≡ None → put_by m.plan m.call n ≡ false → DecidesMap m.plan.me.who m.plan.key (put_home m.call) v (calls_does put_parts put_plan m n) → ⊥ }
+    ensures copy { (m : CopyCalls) (r0 r : AMemo) (tr : Trail) (n v : ℕ) → CallsFits copy_parts copy_plan m r0 r tr → copy_effect m ≡ None → copy_by m.plan m.call n ≡ false → DecidesMap m.plan.me.who m.plan.key (copy_home m.call) v (calls_does copy_parts copy_plan m n) → ⊥ }
+    ensures recv { (m : RecvCalls) (r0 r : AMemo) (tr : Trail) (n v : ℕ) → CallsFits recv_parts recv_plan m r0 r tr → recv_effect m ≡ None → recv_by m.plan m.call n ≡ false → DecidesMap m.plan.me.who m.plan.key (recv_home m.call) v (calls_does recv_parts recv_plan m n) → ⊥ }
+    ensures del { (m : DelCalls) (n : ℕ) → del_effect m ≡ None → del_by m.plan m.call n ≡ false → Cuts m.plan.me.who m.plan.before m.plan.word m.plan.entry (calls_does del_parts del_plan m n) → ⊥ }
 {}
 
 /// The command of a line fits each memo of a client between two calls, in a pool for tables, with no latch, as the one that the line tells does.
@@ -88,6 +100,19 @@ pub fn command_leaves()
     ensures get { (me : AMe) (a key : ℕ) (r0 r : AMemo) (tr : Trail) (b : AnAnswer) → CommandGives (command_of me (line.Get a key)) r0 r tr b → GetGives me a key r0 r tr b }
     ensures send { (me : AMe) (i key : ℕ) (r0 r : AMemo) (tr : Trail) (b : AnAnswer) → CommandGives (command_of me (line.Send i key)) r0 r tr b → SendKeyGives me i key r0 r tr b }
     ensures recv { (me : AMe) (s key : ℕ) (r0 r : AMemo) (tr : Trail) (b : AnAnswer) → CommandGives (command_of me (line.Recv s key)) r0 r tr b → RecvGives me s key r0 r tr b }
+{}
+
+/// Its line is the text of the line that it was made of, and stays so.
+pub fn command_lines()
+    ensures begun { (me : AMe) (l : ALine) → command_control.line (command_of me l) ≡ line_spelled l }
+    ensures stays { (m : CommandCall) (n : ℕ) → command_control.finished m ≡ false → command_control.line (command_control.after m n) ≡ command_control.line m }
+{}
+
+/// Whatever it answers, it takes at most 1,638 word steps for each segment of the pool, 300, 2 for each key that it read, 164 for each block
+/// that it freed or left on the way, and three for each exchange that failed.
+pub fn command_bound()
+    ensures within { (me : AMe) (l : ALine) (r0 r : AMemo) (tr : Trail) (b : AnAnswer) → CommandGives (command_of me l) r0 r tr b → IsCommandShort me l r tr (command_told me l tr) }
+    ensures steps { (g k t : ℕ) → command_steps g k t ≡ 1638 * g + 2 * k + 164 * t + 300 }
 {}
 
 /// It shows what it will answer exactly from its deciding step on, whatever words are found, and it answers what it showed.

@@ -1,7 +1,7 @@
 //! A new entry of a key is made, filled, and linked as the first one of its bucket.
 
 ghost use Rattle.std.specs.Prelude.{◌≡◌, ◌+◌, ◌<◌, ◌^◌};
-ghost use Rattle.shm_words.specs.Layout.{GeometryFits};
+ghost use Rattle.shm_words.specs.Layout.{GeometryFits, address_limit};
 ghost use Rattle.shm_table.specs.Effects.{enter_decided, links};
 ghost use Rattle.shm_table.specs.Enter.Control as control;
 ghost use Rattle.shm_table.specs.Enter.Control.{entering, entry_of, entry_request};
@@ -14,6 +14,7 @@ use shm_alloc::{Alloc, AllocFault, Request};
 use shm_calls::{Calls, Or, Plan};
 use shm_count::{Made, StepChange, StepUp, UpFault};
 use shm_graph::{Machine, Me};
+use shm_words::ADDRESS_LIMIT;
 use std::marker::Model;
 
 /// Which call of it comes next.
@@ -98,9 +99,9 @@ fn request_of(key: u32) -> Request
 #[inline(always)]
 fn entry_at(block: u32) -> u32
     ensures entry { result ≡ entry_of block }
-    ensures room { result + 3 < 2 ^ 20 }
+    ensures room { result + 3 < address_limit }
 {
-    if block < (1 << 20) - 3 { block } else { 0 }
+    if block < ADDRESS_LIMIT - 3 { block } else { 0 }
 }
 
 /// What comes after the value word: where the bucket is empty the entry is linked, otherwise it names the first one.
@@ -121,9 +122,9 @@ impl Entering {
     pub fn new(me: Me, key: u32, value: u32, home: u32, first: u32) -> Entering
         requires geometry { GeometryFits me.geometry }
         requires who { me.who < me.geometry.clients }
-        requires value { value < 2 ^ 20 }
-        requires home { home + 17 < 2 ^ 20 }
-        requires first { first < 2 ^ 20 }
+        requires value { value < address_limit }
+        requires home { home + 17 < address_limit }
+        requires first { first < address_limit }
         ensures { result ≡ entering me key value home first }
     {
         Entering {
@@ -146,8 +147,8 @@ impl EnterState {
     #[inline(always)]
     fn up(self, block: u32, word: u8, to: u32) -> EnterCall
         requires range { control.EnterInRange self }
-        requires block { block + 2 + word < 2 ^ 20 }
-        requires to { to < 2 ^ 20 }
+        requires block { block + 2 + word < address_limit }
+        requires to { to < address_limit }
         ensures { result ≡ control.up_of self block word to }
     {
         let slot = block + 2 + u32::from(word);

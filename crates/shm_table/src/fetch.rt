@@ -1,7 +1,7 @@
 //! What a key has in the table of an author, with a root of its own.
 
 ghost use Rattle.std.specs.Prelude.{◌≡◌, ◌<◌, ◌+◌, ◌^◌};
-ghost use Rattle.shm_words.specs.Layout.{GeometryFits};
+ghost use Rattle.shm_words.specs.Layout.{GeometryFits, address_limit};
 ghost use Rattle.shm_table.specs.Fetch.Control as control;
 ghost use Rattle.shm_table.specs.Fetch.Control.{fetching};
 ghost use Rattle.shm_table.specs.Fetch.{fetch_plan};
@@ -14,6 +14,7 @@ use crate::unlatch::{Unlatch, Unlatching};
 use shm_calls::{Calls, Or, Plan, Word};
 use shm_count::parts::{Rooting, ShareFault, UpRoot};
 use shm_graph::{Machine, Me};
+use shm_words::ADDRESS_LIMIT;
 use std::marker::Model;
 
 /// Which call of it comes next.
@@ -87,7 +88,7 @@ pub type Fetch = Calls<Fetching>;
 /// The address of the first word of a block after its header and its tag, or of one more.
 #[inline(always)]
 fn word_of(block: u32, word: u32) -> u32
-    requires block { block < 2 ^ 20 }
+    requires block { block < address_limit }
     requires word { word < 2 }
     ensures { result ≡ block + 2 + word }
 {
@@ -138,7 +139,7 @@ impl FetchState {
     {
         match self.point {
             FetchPoint::Value => {
-                self.block = (word % (1 << 20)) as u32;
+                self.block = (word % u64::from(ADDRESS_LIMIT)) as u32;
                 self.point = FetchPoint::Number;
             }
             _ => {
@@ -205,7 +206,7 @@ impl Plan for Fetching {
     fn next(&mut self, answer: FetchAnswer) -> Option<Fetched> {
         match answer {
             Or::First(Found::At { entry, .. }) => {
-                self.state.entry = entry % (1 << 20);
+                self.state.entry = entry % ADDRESS_LIMIT;
                 self.state.point = FetchPoint::Value;
                 None
             }

@@ -12,6 +12,7 @@ use crate::fetch::shared;
 use shm_calls::{Calls, Or, Plan, Word};
 use shm_count::parts::{Rooting, ShareFault, UpRoot};
 use shm_graph::{Machine, Me};
+use shm_words::ADDRESS_LIMIT;
 use std::marker::Model;
 
 /// Which call of it comes next.
@@ -131,7 +132,7 @@ impl FetchHeadState {
                 }
             }
             FetchHeadPoint::Slot => {
-                self.block = (word % (1 << 20)) as u32;
+                self.block = (word % u64::from(ADDRESS_LIMIT)) as u32;
                 self.point = FetchHeadPoint::Number;
                 None
             }

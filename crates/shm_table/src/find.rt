@@ -1,7 +1,7 @@
 //! Looking for the entry of a key in a table.
 
 ghost use Rattle.std.specs.Prelude.{◌≡◌, ◌+◌, ◌^◌, ◌<◌, if◌then◌else◌, Some, None};
-ghost use Rattle.shm_words.specs.Layout.{GeometryFits};
+ghost use Rattle.shm_words.specs.Layout.{GeometryFits, address_limit};
 ghost use Rattle.shm_table.specs.declared.find.Found.TheVariants.{At};
 ghost use Rattle.shm_table.specs.Find.Control.{finding, find_goes, find_answers, FindInRange};
 ghost use Rattle.shm_table.specs.Find.{find_plan};
@@ -9,6 +9,7 @@ ghost use Rattle.shm_table.specs.Find.Laws.{find_laws};
 
 use shm_calls::{Calls, Plan, Word};
 use shm_graph::{Machine, Me};
+use shm_words::ADDRESS_LIMIT;
 use std::marker::Model;
 
 /// Which word step of it comes next.
@@ -71,7 +72,7 @@ pub type Find = Calls<Finding>;
 /// The address of a word of a block, after its header and its tag.
 #[inline(always)]
 fn word_of(block: u32, word: u8) -> u32
-    requires block { block < 2 ^ 20 }
+    requires block { block < address_limit }
     ensures { result ≡ block + 2 + word }
 {
     block + 2 + u32::from(word)
@@ -101,7 +102,7 @@ fn at(entry: u32, before: u32, word: u8) -> Found
 #[inline(always)]
 fn goes(mut state: FindState, block: u32) -> FindState
     requires range { FindInRange state }
-    requires block { block < 2 ^ 20 }
+    requires block { block < address_limit }
     ensures state { result ≡ find_goes state state.point block }
     ensures range { FindInRange result }
 {
@@ -214,7 +215,7 @@ impl Plan for Finding {
     #[inline(always)]
     fn next(&mut self, word: u64) -> Option<Found> {
         let state = self.state;
-        let block = (word % (1 << 20)) as u32;
+        let block = (word % u64::from(ADDRESS_LIMIT)) as u32;
         self.state = goes(state, block);
         answers(state, word, block)
     }

@@ -1,7 +1,7 @@
 //! What a key has in the table of an author.
 
 ghost use Rattle.std.specs.Prelude.{◌≡◌, ◌<◌, ◌+◌, ◌^◌};
-ghost use Rattle.shm_words.specs.Layout.{GeometryFits};
+ghost use Rattle.shm_words.specs.Layout.{GeometryFits, address_limit};
 ghost use Rattle.shm_calls.specs.CallsControl.{calls_control, calls_of};
 ghost use Rattle.shm_calls.specs.CallsFit.{CallsFits, CallsGives};
 ghost use Rattle.shm_calls.specs.CallsKeep.{calls_laws};
@@ -17,6 +17,7 @@ use crate::unlatch::{Unlatch, Unlatching};
 use shm_calls::{Calls, Or, Plan, Word};
 use shm_graph::{Ask, Machine, Me, Turn};
 use shm_script::Answer;
+use shm_words::ADDRESS_LIMIT;
 use std::marker::Model;
 
 /// Which call of it comes next.
@@ -136,7 +137,7 @@ impl Machine for Get {
 /// The address of the first word of a block after its header and its tag, or of one more.
 #[inline(always)]
 fn word_of(block: u32, word: u32) -> u32
-    requires block { block < 2 ^ 20 }
+    requires block { block < address_limit }
     requires word { word < 2 }
     ensures { result ≡ block + 2 + word }
 {
@@ -174,7 +175,7 @@ impl GetState {
     {
         match self.point {
             GetPoint::Value => {
-                self.block = (word % (1 << 20)) as u32;
+                self.block = (word % u64::from(ADDRESS_LIMIT)) as u32;
                 self.point = GetPoint::Number;
             }
             _ => {
@@ -233,7 +234,7 @@ impl Plan for Getting {
     fn next(&mut self, answer: Or<Found, Or<u64, ()>>) -> Option<Answer> {
         match answer {
             Or::First(Found::At { entry, .. }) => {
-                self.state.entry = entry % (1 << 20);
+                self.state.entry = entry % ADDRESS_LIMIT;
                 self.state.point = GetPoint::Value;
                 None
             }

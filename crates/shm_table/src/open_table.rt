@@ -12,6 +12,7 @@ use shm_calls::{Calls, Or, Plan, Word};
 use shm_count::{EraSpent, Made, StepUp, UpFault};
 use shm_graph::{Machine, Me};
 use shm_ref::{DropRoot, Dropping};
+use shm_words::ADDRESS_LIMIT;
 use std::marker::Model;
 
 /// Which call of it comes next.
@@ -137,7 +138,7 @@ impl Plan for Opening {
             }
             Or::Second(Or::First(Ok(made))) => {
                 self.state.root = made.root % 16;
-                self.state.block = made.block % (1 << 20);
+                self.state.block = made.block % ADDRESS_LIMIT;
                 self.state.point = OpenPoint::Name;
                 None
             }

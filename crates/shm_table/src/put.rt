@@ -26,6 +26,7 @@ use shm_count::{EraSpent, Made};
 use shm_graph::{Ask, Machine, Me, Turn};
 use shm_ref::{DropRoot, Dropping};
 use shm_script::Answer;
+use shm_words::ADDRESS_LIMIT;
 use std::marker::Model;
 
 /// Which call of it comes next.
@@ -256,7 +257,7 @@ impl Plan for Putting {
         match given {
             Or::First(Ok(made)) => {
                 self.state.root = made.root % 16;
-                self.state.block = made.block % (1 << 20);
+                self.state.block = made.block % ADDRESS_LIMIT;
                 self.state.point = PutPoint::Put;
                 None
             }

@@ -1,7 +1,7 @@
 //! A value block that a root names comes into the own table, at a key.
 
 ghost use Rattle.std.specs.Prelude.{◌≡◌, ◌<◌, ◌^◌};
-ghost use Rattle.shm_words.specs.Layout.{GeometryFits};
+ghost use Rattle.shm_words.specs.Layout.{GeometryFits, address_limit};
 ghost use Rattle.shm_table.specs.Effects.{put_root_decided, settled};
 ghost use Rattle.shm_table.specs.PutRoot.Control as control;
 ghost use Rattle.shm_calls.specs.CallsControl.{calls_of};
@@ -27,6 +27,7 @@ use shm_calls::{Calls, Or, Plan};
 use shm_count::EraSpent;
 use shm_graph::{Ask, Machine, Me, Turn};
 use shm_ref::{DropRoot, Dropping};
+use shm_words::ADDRESS_LIMIT;
 use std::marker::Model;
 
 /// Which call of it comes next.
@@ -110,7 +111,7 @@ impl PutRoot {
     pub fn new(me: Me, key: u32, value: u32) -> PutRoot
         requires geometry { GeometryFits me.geometry }
         requires who { me.who < me.geometry.clients }
-        requires value { value < 2 ^ 20 }
+        requires value { value < address_limit }
         ensures { result ≡ calls_of put_root_plan (putting_root me key value) }
     {
         PutRoot {
@@ -157,7 +158,7 @@ impl PuttingRoot {
     pub fn new(me: Me, key: u32, value: u32) -> PuttingRoot
         requires geometry { GeometryFits me.geometry }
         requires who { me.who < me.geometry.clients }
-        requires value { value < 2 ^ 20 }
+        requires value { value < address_limit }
         ensures { result ≡ putting_root me key value }
     {
         PuttingRoot {
@@ -182,7 +183,7 @@ impl PuttingRoot {
 fn home_of(block: u32) -> u32
     ensures { result ≡ control.home_of block }
 {
-    if block < (1 << 20) - 17 { block } else { 0 }
+    if block < ADDRESS_LIMIT - 17 { block } else { 0 }
 }
 
 impl PutRootState {
@@ -193,12 +194,12 @@ impl PutRootState {
     {
         match found {
             Found::At { entry, .. } => {
-                self.entry = entry % (1 << 20);
+                self.entry = entry % ADDRESS_LIMIT;
                 self.point = PutRootPoint::Replace;
             }
             Found::Absent { home, first } => {
                 self.home = home_of(home);
-                self.first = first % (1 << 20);
+                self.first = first % ADDRESS_LIMIT;
                 self.point = PutRootPoint::Enter;
             }
         }

@@ -1,7 +1,7 @@
 //! An entry of the own table comes to have another value block, and what only it named is freed.
 
 ghost use Rattle.std.specs.Prelude.{◌≡◌, ◌%◌, ◌^◌, ◌+◌, ◌<◌};
-ghost use Rattle.shm_words.specs.Layout.{GeometryFits};
+ghost use Rattle.shm_words.specs.Layout.{GeometryFits, address_limit};
 ghost use Rattle.shm_table.specs.Effects.{replace_decided};
 ghost use Rattle.shm_table.specs.Replace.Control as control;
 ghost use Rattle.shm_table.specs.Replace.Control.{replacing};
@@ -13,6 +13,7 @@ use crate::effect::Deciding;
 use shm_calls::{Calls, Or, Plan, Word};
 use shm_count::{EraSpent, StepChange, TearDown, UpFault};
 use shm_graph::{Machine, Me};
+use shm_words::ADDRESS_LIMIT;
 use std::marker::Model;
 
 /// Which call of it comes next.
@@ -70,8 +71,8 @@ impl Replacing {
     pub fn new(me: Me, entry: u32, to: u32) -> Replacing
         requires geometry { GeometryFits me.geometry }
         requires who { me.who < me.geometry.clients }
-        requires entry { entry < 2 ^ 20 }
-        requires to { to < 2 ^ 20 }
+        requires entry { entry < address_limit }
+        requires to { to < address_limit }
         ensures { result ≡ replacing me entry to }
     {
         Replacing {
@@ -93,7 +94,7 @@ impl ReplaceState {
         ensures state { self.new ≡ control.found_after self.old word }
         ensures answer { result ≡ control.found_turns self.old word }
     {
-        let before = (word % (1 << 20)) as u32;
+        let before = (word % u64::from(ADDRESS_LIMIT)) as u32;
         self.before = before;
         self.point = ReplacePoint::Change;
         if before == self.to {
@@ -143,7 +144,7 @@ impl Plan for Replacing {
         match point {
             ReplacePoint::Look => Or::First(Word::load(me, at)),
             ReplacePoint::Change => {
-                let slot = at % (1 << 20);
+                let slot = at % ADDRESS_LIMIT;
                 Or::Second(Or::First(StepChange::new(me, slot, before, to)))
             }
             ReplacePoint::Tear => Or::Second(Or::Second(TearDown::new(me, before))),

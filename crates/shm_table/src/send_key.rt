@@ -1,7 +1,7 @@
 //! The value block of a key of the own table goes into the queue to another identity.
 
 ghost use Rattle.std.specs.Prelude.{◌≡◌, ◌<◌, ◌+◌, ◌^◌};
-ghost use Rattle.shm_words.specs.Layout.{GeometryFits};
+ghost use Rattle.shm_words.specs.Layout.{GeometryFits, address_limit};
 ghost use Rattle.shm_calls.specs.CallsControl.{calls_control, calls_of};
 ghost use Rattle.shm_calls.specs.CallsFit.{CallsFits, CallsGives};
 ghost use Rattle.shm_calls.specs.CallsKeep.{calls_laws};
@@ -18,6 +18,7 @@ use shm_calls::{Calls, Or, Plan, Word};
 use shm_graph::{Ask, Machine, Me, Turn};
 use shm_queue::{Send, SendFault, Sending};
 use shm_script::Answer;
+use shm_words::ADDRESS_LIMIT;
 use std::marker::Model;
 
 /// Which call of it comes next.
@@ -159,7 +160,7 @@ fn is_sent(answer: Answer) -> bool
 /// The address of the value word of an entry.
 #[inline(always)]
 fn value_word(entry: u32) -> u32
-    requires entry { entry < 2 ^ 20 }
+    requires entry { entry < address_limit }
     ensures { result ≡ entry + 2 + 1 }
 {
     entry + 2 + 1
@@ -242,7 +243,7 @@ impl Plan for SendingKey {
     fn next(&mut self, answered: SendKeyAnswer) -> Option<Answer> {
         match answered {
             Or::First(Found::At { entry, .. }) => {
-                self.state.entry = entry % (1 << 20);
+                self.state.entry = entry % ADDRESS_LIMIT;
                 self.state.point = SendKeyPoint::Value;
                 None
             }
@@ -252,7 +253,7 @@ impl Plan for SendingKey {
                 None
             }
             Or::Second(Or::First(word)) => {
-                self.state.block = (word % (1 << 20)) as u32;
+                self.state.block = (word % u64::from(ADDRESS_LIMIT)) as u32;
                 self.state.point = SendKeyPoint::Send;
                 None
             }

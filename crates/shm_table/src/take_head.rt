@@ -1,7 +1,7 @@
 //! The item at the head of a queue from another identity is taken, where it is known and an own root names it.
 
 ghost use Rattle.std.specs.Prelude.{◌≡◌, ◌<◌, ◌^◌};
-ghost use Rattle.shm_words.specs.Layout.{GeometryFits};
+ghost use Rattle.shm_words.specs.Layout.{GeometryFits, address_limit};
 ghost use Rattle.shm_table.specs.TakeHead.Control.{taking_head};
 ghost use Rattle.shm_table.specs.TakeHead.{take_head_plan};
 ghost use Rattle.shm_table.specs.TakeHead.Laws.{take_head_laws};
@@ -64,7 +64,7 @@ impl TakingHead {
         requires geometry { GeometryFits me.geometry }
         requires who { me.who < me.geometry.clients }
         requires from { from < me.geometry.clients }
-        requires block { block < 2 ^ 20 }
+        requires block { block < address_limit }
         ensures { result ≡ taking_head me from at block }
     {
         TakingHead {

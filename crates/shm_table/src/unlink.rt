@@ -2,7 +2,7 @@
 //! with it.
 
 ghost use Rattle.std.specs.Prelude.{◌≡◌, ◌%◌, ◌^◌, ◌+◌, ◌<◌};
-ghost use Rattle.shm_words.specs.Layout.{GeometryFits};
+ghost use Rattle.shm_words.specs.Layout.{GeometryFits, address_limit};
 ghost use Rattle.shm_table.specs.Effects.{unlink_decided};
 ghost use Rattle.shm_table.specs.Unlink.Control as control;
 ghost use Rattle.shm_table.specs.Unlink.Control.{unlinking};
@@ -13,6 +13,7 @@ use crate::effect::Deciding;
 use shm_calls::{Calls, Or, Plan, Word};
 use shm_count::{EraSpent, StepChange, StepDown, TearDown, UpFault};
 use shm_graph::{Machine, Me};
+use shm_words::ADDRESS_LIMIT;
 use std::marker::Model;
 
 /// Which call of it comes next.
@@ -72,11 +73,11 @@ pub type Unlink = Calls<Unlinking>;
 /// The address of a word of a block, after its header and its tag.
 #[inline(always)]
 fn slot_of(block: u32, word: u8) -> u32
-    requires block { block < 2 ^ 20 }
-    ensures address { result ≡ (block + 2 + word) % 2 ^ 20 }
-    ensures small { result < 2 ^ 20 }
+    requires block { block < address_limit }
+    ensures address { result ≡ (block + 2 + word) % address_limit }
+    ensures small { result < address_limit }
 {
-    (block + 2 + u32::from(word)) % (1 << 20)
+    (block + 2 + u32::from(word)) % ADDRESS_LIMIT
 }
 
 /// The refusal of a step down.
@@ -93,8 +94,8 @@ impl Unlinking {
     pub fn new(me: Me, entry: u32, before: u32, word: u8) -> Unlinking
         requires geometry { GeometryFits me.geometry }
         requires who { me.who < me.geometry.clients }
-        requires entry { entry < 2 ^ 20 }
-        requires before { before < 2 ^ 20 }
+        requires entry { entry < address_limit }
+        requires before { before < address_limit }
         ensures { result ≡ unlinking me entry before word }
     {
         Unlinking {
@@ -116,7 +117,7 @@ impl UnlinkState {
     fn found(&mut self, word: u64)
         ensures state { self.new ≡ control.found_after self.old word }
     {
-        let next = (word % (1 << 20)) as u32;
+        let next = (word % u64::from(ADDRESS_LIMIT)) as u32;
         self.next = next;
         self.point = if next == 0 {
             UnlinkPoint::Lower

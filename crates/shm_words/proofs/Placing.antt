@@ -5,7 +5,7 @@ use Rattle.std.proofs.lemmas.Bool.Decides.{nat_tests}
 use Rattle.shm_words.specs.declared.place.Place.{Place}
 use Rattle.shm_words.specs.declared.place.Place.TheVariants.{Spare, Status, Redo, Hold, Latch, Home, Era, Root, Tail, Head, Slot, Segment, Page, Body}
 use Rattle.shm_words.specs.declared.geometry.Geometry.{Geometry}
-use Rattle.shm_words.specs.Layout.{GeometryFits, address, is_in, place_at, eras, roots, queues, segments, bodies, total_of, queue_place}
+use Rattle.shm_words.specs.Layout.{GeometryFits, address, is_in, place_at, eras, roots, queues, segments, bodies, total_of, queue_place, address_limit}
 use Rattle.shm_words.proofs.Regions.{era_at, root_at, queue_at, page_at, body_at}
 
 -- the place of the address of a place that the pool has
@@ -109,8 +109,8 @@ same_place g a b p q e = sym (address-place g a p) ∙ (ap (address g) e ∙ add
 pub total_most : (g : Geometry) → GeometryFits g → total_of g ≤ 531793
 total_most g f = let s = mul-le g.clients g.clients 16 16 f.clients f.clients in omega arith
 
-pub total_small : (g : Geometry) → GeometryFits g → total_of g < 2 ^ 20
+pub total_small : (g : Geometry) → GeometryFits g → total_of g < address_limit
 total_small g f = let m = total_most g f in omega arith
 
-pub address_small : (g : Geometry) (p : Place) → is_in g p ≡ true → GeometryFits g → address g p < 2 ^ 20
+pub address_small : (g : Geometry) (p : Place) → is_in g p ≡ true → GeometryFits g → address g p < address_limit
 address_small g p h f = let l = address_below g p h f in let m = total_most g f in omega arith

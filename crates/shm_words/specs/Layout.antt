@@ -1,5 +1,5 @@
 -- the layout of a pool: which word lies where
-use Rattle.std.specs.Prelude.{ℕ, ◌+◌, ◌-◌, ◌*◌, ◌/◌, ◌%◌, ◌≤◌, Bool, true, ◌&&◌, ◌==◌, nat_lt, if◌then◌else◌}
+use Rattle.std.specs.Prelude.{ℕ, ◌+◌, ◌-◌, ◌*◌, ◌/◌, ◌%◌, ◌^◌, ◌≤◌, Bool, true, ◌&&◌, ◌==◌, nat_lt, if◌then◌else◌}
 use Rattle.shm_words.specs.declared.place.Place.{Place}
 use Rattle.shm_words.specs.declared.place.Place.TheVariants.{Spare, Status, Redo, Hold, Latch, Home, Era, Root, Tail, Head, Slot, Segment, Page, Body}
 use Rattle.shm_words.specs.declared.geometry.Geometry.{Geometry}
@@ -10,6 +10,10 @@ pub record GeometryFits (g : Geometry) : Type 0 where
   pub clients : g.clients ≤ 16
   pub segment : 1 ≤ g.segments
   pub segments : g.segments ≤ 256
+
+-- the addresses of a pool are below this number: so many bits a redo record and a tag have for one
+abbrev pub address_limit : ℕ
+address_limit = 2 ^ 20
 
 -- where the regions of several words for a client or a segment begin
 abbrev pub eras : Geometry → ℕ

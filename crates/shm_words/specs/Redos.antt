@@ -2,6 +2,7 @@
 use Rattle.std.specs.Prelude.{ℕ, ◌+◌, ◌*◌, ◌/◌, ◌%◌, ◌^◌, ◌<◌, Bool, true, false, not, ◌&&◌, ◌==◌, if◌then◌else◌, Option, Some, None}
 use Rattle.shm_words.specs.declared.redo.Redo.{Redo}
 use Rattle.shm_words.specs.declared.redo.Redo.TheVariants.{Idle, Up, Down, Change}
+use Rattle.shm_words.specs.Layout.{address_limit}
 
 abbrev pub odd_bit : Bool → ℕ
 odd_bit true = 2 ^ 60
@@ -40,6 +41,6 @@ redo_of w =
 -- what has a word
 abbrev pub RedoFits : Redo → Type 0
 RedoFits Idle = Unit {0}
-RedoFits (Up slot block) = (slot < 2 ^ 20) × (block < 2 ^ 20)
-RedoFits (Down slot block) = (slot < 2 ^ 20) × (block < 2 ^ 20)
-RedoFits (Change odd slot before after) = (slot < 2 ^ 20) × (before < 2 ^ 20) × (after < 2 ^ 20)
+RedoFits (Up slot block) = (slot < address_limit) × (block < address_limit)
+RedoFits (Down slot block) = (slot < address_limit) × (block < address_limit)
+RedoFits (Change odd slot before after) = (slot < address_limit) × (before < address_limit) × (after < address_limit)

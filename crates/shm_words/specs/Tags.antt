@@ -1,6 +1,7 @@
 -- the tag word of a block
 use Rattle.std.specs.Prelude.{ℕ, ◌+◌, ◌*◌, ◌/◌, ◌%◌, ◌^◌, ◌<◌, ◌≤◌, ◌&&◌, nat_lt, nat_le, if◌then◌else◌, Option, Some, None}
 use Rattle.shm_words.specs.declared.tag.Tag.{Tag}
+use Rattle.shm_words.specs.Layout.{address_limit}
 
 -- the word of a tag: bits 30 to 34 refs, bits 26 to 29 plain, bits 20 to 25 author, bits 0 to 19 link
 unfoldable pub tag_word : Tag → ℕ
@@ -31,4 +32,4 @@ pub record TagFits (t : Tag) : Type 0 where
   pub refs : t.refs ≤ 16
   pub plain : t.plain ≤ 8
   pub author : t.author < 64
-  pub link : t.link < 2 ^ 20
+  pub link : t.link < address_limit

@@ -5,6 +5,9 @@ ghost use Rattle.shm_words.specs.declared.place.Place.{Place as APlace};
 ghost use Rattle.shm_words.specs.declared.geometry.Geometry.{Geometry as AGeometry};
 ghost use Rattle.shm_words.specs.Layout.{GeometryFits, address, is_in, place_at, total_of};
 
+/// The addresses of a pool are below this number: a redo record and a tag have 20 bits for one.
+pub const ADDRESS_LIMIT: u32 = 1 << 20;
+
 /// Each place of a pool has an address of its own below `total`, and each address below `total` has a place.
 pub fn place_laws()
     ensures place { (g : AGeometry) (p : APlace) → GeometryFits g → is_in g p ≡ true → place_at g (address g p) ≡ p }

@@ -15,6 +15,7 @@ pub mod tag;
 pub use class::class_of;
 pub use geometry::{BadGeometry, Geometry};
 pub use header::Header;
+pub use layout::ADDRESS_LIMIT;
 pub use place::Place;
 pub use redo::Redo;
 pub use tag::Tag;

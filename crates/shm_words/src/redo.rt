@@ -1,6 +1,7 @@
 //! The redo word of an identity.
 
 ghost use Rattle.std.specs.Prelude.{◌≡◌, ◌≢◌, ℕ, ◌<◌, ◌^◌};
+ghost use Rattle.shm_words.specs.Layout.{address_limit};
 ghost use Rattle.shm_words.specs.declared.redo.Redo.{Redo as ARedo};
 ghost use Rattle.shm_words.specs.Redos.{redo_word, redo_of, RedoFits, fields};
 
@@ -42,9 +43,9 @@ pub enum Redo {
 // the kind is in bits 61 to 63
 fn word(kind: u64, odd: bool, slot: u32, before: u32, after: u32) -> u64
     requires kind { kind < 8 }
-    requires slot { slot < 2 ^ 20 }
-    requires before { before < 2 ^ 20 }
-    requires after { after < 2 ^ 20 }
+    requires slot { slot < address_limit }
+    requires before { before < address_limit }
+    requires after { after < address_limit }
     ensures { result ≡ fields kind odd slot before after }
 {
     (kind << 61)

@@ -7,21 +7,33 @@ mod alloc_tests;
 #[cfg(test)]
 mod chain_tests;
 #[cfg(test)]
+mod commit_tests;
+#[cfg(test)]
 mod count_tests;
 #[cfg(test)]
 mod drain_tests;
 #[cfg(test)]
 mod drop_tests;
 #[cfg(test)]
+mod finish_takes_tests;
+#[cfg(test)]
 mod latch_tests;
 #[cfg(test)]
 mod leave_tests;
+#[cfg(test)]
+mod mend_again_tests;
+#[cfg(test)]
+mod mend_tests;
 #[cfg(test)]
 mod peek_tests;
 #[cfg(test)]
 mod read_tests;
 #[cfg(test)]
 mod receive_tests;
+#[cfg(test)]
+mod recover_tests;
+#[cfg(test)]
+mod scan_tests;
 #[cfg(test)]
 mod send_tests;
 #[cfg(test)]
@@ -32,6 +44,8 @@ mod set_ref_tests;
 mod set_refusal_tests;
 #[cfg(test)]
 mod share_tests;
+#[cfg(test)]
+mod take_back_tests;
 #[cfg(test)]
 mod take_tests;
 #[cfg(test)]

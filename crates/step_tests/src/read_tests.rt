@@ -1,6 +1,7 @@
 //! Homes, reference words and plain words that are read, step by step and on the words of a pool, against an independent implementation.
 
 ghost use Rattle.std.specs.Prelude.{◌<◌, ◌^◌};
+ghost use Rattle.shm_words.specs.Layout.{address_limit};
 
 use shm_calls::Calls;
 use shm_graph::Me;
@@ -99,7 +100,7 @@ fn read(
     index: u8,
     steps: &[Step],
 ) -> Result<Option<Result<u64, NoSuchWord>>, Fail>
-    requires block { block < 2 ^ 20 }
+    requires block { block < address_limit }
 {
     let me = Me::new(Geometry::new(2, 1)?, 0);
     let mut words = pool(alloc, &NO_LATCH)?;

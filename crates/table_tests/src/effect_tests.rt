@@ -1,5 +1,9 @@
 //! What commands show of their answers at each word step, against an independent implementation.
 
+ghost use Rattle.std.specs.Prelude.{◌<◌};
+ghost use Rattle.shm_words.specs.Layout.{GeometryFits};
+
+use crate::standing::standing;
 use shm_graph::{Machine, Me, Turn};
 use shm_runs::{make, words_of};
 use shm_script::{Answer, Line};
@@ -134,7 +138,7 @@ pub const LINES: [Told; 19] = [
 
 /// Runs a command on the words, and tells its answer, after how many word steps it was shown, and how many word steps there were. None where
 /// something else was shown later, or answered.
-pub fn shown(command: &mut Command, words: &mut Vec<u64>) -> Option<(Answer, Option<u32>, u32)> {
+fn shown(command: &mut Command, words: &mut Vec<u64>) -> Option<(Answer, Option<u32>, u32)> {
     let mut first = None;
     let mut told = None;
     for made in 0..1000 {
@@ -160,6 +164,14 @@ pub fn shown(command: &mut Command, words: &mut Vec<u64>) -> Option<(Answer, Opt
     None
 }
 
+/// The same of the command of a line. None too where the line can't stand.
+pub fn told_of(me: Me, line: Line, words: &mut Vec<u64>) -> Option<(Answer, Option<u32>, u32)>
+    requires geometry { GeometryFits me.geometry }
+    requires who { me.who < me.geometry.clients }
+{
+    shown(&mut Command::new(me, &standing(me, line)?), words)
+}
+
 /// Where the own era of the one client is.
 pub const ERA: usize = 6;
 
@@ -168,11 +180,7 @@ fn commands_show_their_answers_from_the_deciding_step_on(rt: HostRuntime) -> Res
     let me = Me::new(Geometry::new(1, 1)?, 0);
     let mut words = words_of(rt.alloc(), 2098, &[(1, 1), (ERA, 1)])?;
     for &(line, answer, first, steps) in &LINES {
-        let mut command = Command::new(me, &line);
-        assert_eq!(rt;
-            shown(&mut command, &mut words),
-            Some((answer, first, steps))
-        );
+        assert_eq!(rt; told_of(me, line, &mut words), Some((answer, first, steps)));
     }
     Ok(())
 }

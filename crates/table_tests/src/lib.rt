@@ -11,6 +11,8 @@ mod del_edge_tests;
 #[cfg(test)]
 mod del_tests;
 #[cfg(test)]
+mod effect_spent_tests;
+#[cfg(test)]
 mod effect_tests;
 #[cfg(test)]
 mod enter_spent_tests;
@@ -33,6 +35,8 @@ mod put_root_there_tests;
 #[cfg(test)]
 mod put_tests;
 #[cfg(test)]
+mod queue_effect_tests;
+#[cfg(test)]
 mod recv_refusal_tests;
 #[cfg(test)]
 mod recv_spent_tests;
@@ -42,6 +46,8 @@ mod recv_tests;
 mod replace_tests;
 #[cfg(test)]
 mod send_key_tests;
+#[cfg(test)]
+mod standing;
 #[cfg(test)]
 mod unlink_refusal_tests;
 #[cfg(test)]

@@ -3,7 +3,7 @@ use Rattle.std.specs.Prelude.{◌≡◌, ◌≢◌, ℕ, ◌+◌, ◌-◌, ◌%�
 use Rattle.shm_words.specs.declared.place.Place.TheVariants as place
 use Rattle.shm_words.specs.declared.redo.Redo.{Redo as ARedo}
 use Rattle.shm_words.specs.declared.redo.Redo.TheVariants as redos
-use Rattle.shm_words.specs.Layout.{GeometryFits, address, bodies, total_of}
+use Rattle.shm_words.specs.Layout.{GeometryFits, address, bodies, total_of, address_limit}
 use Rattle.shm_words.specs.Headers.{header_of, header_word}
 use Rattle.shm_words.specs.Redos.{redo_word}
 use Rattle.shm_graph.specs.declared.ask.Ask.{Ask}
@@ -178,9 +178,9 @@ AimFits me (Change a b) = IsInside me a × IsInside me b
 
 -- blocks that a redo record can name
 abbrev pub AimSmall : Aim → Type 0
-AimSmall (Up b) = b < 2 ^ 20
-AimSmall (Down b) = b < 2 ^ 20
-AimSmall (Change a b) = (a < 2 ^ 20) × (b < 2 ^ 20)
+AimSmall (Up b) = b < address_limit
+AimSmall (Down b) = b < address_limit
+AimSmall (Change a b) = (a < address_limit) × (b < address_limit)
 
 -- the half is one of the step's
 abbrev pub PartFits : Aim → Half → Type 0
@@ -211,6 +211,6 @@ PointFits me x point.Over = Unit {0}
 pub record StepInRange (m : StepState) : Type 0 where
   pub geometry : GeometryFits m.me.geometry
   pub who : m.me.who < m.me.geometry.clients
-  pub slot : m.slot < 2 ^ 20
+  pub slot : m.slot < address_limit
   pub aim : AimSmall m.aim
   pub point : PointFits m.me m.aim m.point

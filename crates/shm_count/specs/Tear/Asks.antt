@@ -2,6 +2,7 @@
 use Rattle.std.specs.Prelude.{ℕ, zero, suc, ◌+◌, ◌%◌, ◌^◌, Bool, true, false, ◌==◌, nat_lt, Result, Ok, Err}
 use Rattle.shm_words.specs.declared.tag.Tag.{Tag as ATag}
 use Rattle.shm_words.specs.Tags.{tag_word}
+use Rattle.shm_words.specs.Layout.{address_limit}
 use Rattle.shm_graph.specs.declared.ask.Ask.TheVariants.{Load, Store}
 use Rattle.shm_graph.specs.declared.ask.Me.{Me}
 use Rattle.shm_graph.specs.Asks.{Trail}
@@ -45,7 +46,7 @@ module _ (me : Me) (on : OnTrails) where
   abbrev pub word_trail : ℕ → ATag → ℕ → TearTrails
   word_trail b g i =
       Asked (Load (word_address b i)) (λ n.
-      Chosen (n % 2 ^ 20 == 0) (on b g (i + 1)) (Joined (step_trail me (word_address b i) (Down (n % 2 ^ 20))) (after_down b g i (n % 2 ^ 20))))
+      Chosen (n % address_limit == 0) (on b g (i + 1)) (Joined (step_trail me (word_address b i) (Down (n % address_limit))) (after_down b g i (n % address_limit))))
 
   -- a block is come back to: its tag is loaded, and its reference words are gone through again
   abbrev pub return_trail : ℕ → TearTrails

@@ -1,7 +1,7 @@
 -- the control of a tear-down: which word it asks for, and where it goes by the word found
 use Rattle.std.specs.Prelude.{ℕ, ◌+◌, ◌%◌, ◌^◌, ◌<◌, Bool, true, false, ◌==◌, nat_lt, if◌then◌else◌, Option, Some, None, Result, Ok, Err, []}
 use Rattle.shm_words.specs.declared.tag.Tag.{Tag as ATag}
-use Rattle.shm_words.specs.Layout.{GeometryFits}
+use Rattle.shm_words.specs.Layout.{GeometryFits, address_limit}
 use Rattle.shm_words.specs.Tags.{tag_word, tag_of, TagFits}
 use Rattle.shm_graph.specs.declared.ask.Ask.{Ask}
 use Rattle.shm_graph.specs.declared.ask.Ask.TheVariants.{Load, Store}
@@ -26,7 +26,7 @@ use Rattle.shm_count.specs.Step.Control.{PointFits, step_ask, step_next, spent}
 
 -- the address of a reference word
 abbrev pub word_address : ℕ → ℕ → ℕ
-word_address b i = (b + 2 + i) % 2 ^ 20
+word_address b i = (b + 2 + i) % address_limit
 
 -- the tag that a word is, or an empty one
 abbrev pub or_empty : Option ATag → ATag
@@ -71,7 +71,7 @@ entered_next b l n = Go b (if (tag_read n).link == l then word_or_free (tag_read
 
 -- by a reference word
 abbrev pub word_next : ℕ → ATag → ℕ → ℕ → TearNext
-word_next b g i n = Go b (if n % 2 ^ 20 == 0 then word_or_free g (i + 1) else point.Down g i (n % 2 ^ 20) step.Era)
+word_next b g i n = Go b (if n % address_limit == 0 then word_or_free g (i + 1) else point.Down g i (n % address_limit) step.Era)
 
 -- by what a step down answered
 abbrev pub lowered_next : ℕ → ATag → ℕ → ℕ → Result Bool UpFault → TearNext
@@ -137,10 +137,10 @@ tear_control =
 
 abbrev pub TearPointFits : Me → TearPoint → Type 0
 TearPointFits me point.Begin = Unit {0}
-TearPointFits me (point.Enter l) = l < 2 ^ 20
+TearPointFits me (point.Enter l) = l < address_limit
 TearPointFits me (point.Link g) = TagFits g
 TearPointFits me (point.Word g i) = TagFits g × (i < g.refs)
-TearPointFits me (point.Down g i t y) = TagFits g × (i < g.refs) × (t < 2 ^ 20) × PointFits me (aims.Down t) y
+TearPointFits me (point.Down g i t y) = TagFits g × (i < g.refs) × (t < address_limit) × PointFits me (aims.Down t) y
 TearPointFits me (point.Free g) = TagFits g
 TearPointFits me point.Return = Unit {0}
 TearPointFits me point.Over = Unit {0}
@@ -148,6 +148,6 @@ TearPointFits me point.Over = Unit {0}
 pub record TearInRange (m : TearState) : Type 0 where
   pub geometry : GeometryFits m.me.geometry
   pub who : m.me.who < m.me.geometry.clients
-  pub first : m.first < 2 ^ 20
-  pub block : m.block < 2 ^ 20
+  pub first : m.first < address_limit
+  pub block : m.block < address_limit
   pub point : TearPointFits m.me m.point

@@ -3,6 +3,7 @@ use Rattle.std.proofs.Common.{◌≡◌, ℕ, ◌+◌, ◌%◌, ◌^◌, ◌==�
 use Rattle.std.specs.Prelude.{Result, Ok, Err}
 use Rattle.std.specs.List.{filter}
 use Rattle.shm_words.specs.declared.tag.Tag.{Tag as ATag}
+use Rattle.shm_words.specs.Layout.{address_limit}
 use Rattle.shm_graph.specs.declared.ask.Me.{Me}
 use Rattle.shm_graph.specs.declared.memo.Memo.{Memo}
 use Rattle.shm_graph.specs.declared.memo.Seen.{Seen}
@@ -66,11 +67,11 @@ module _ (me : Me) (rest : Trail) (a : Result (Unit {0}) EraSpent) where
 
   -- what follows a reference word
   found_goes : (b : ℕ) (g : ATag) (i n : ℕ) → next_trail me (word_next b g i n) rest a
-      → (k : ℕ) × Chosen (n % 2 ^ 20 == 0) (on_trail me k b g (i + 1)) (Joined (steps.step_trail me (word_address b i) (aims.Down (n % 2 ^ 20))) (after_down me (on_trail me k) b g i (n % 2 ^ 20))) rest a
-  found_goes b g i n t = go (n % 2 ^ 20 == 0) t
+      → (k : ℕ) × Chosen (n % address_limit == 0) (on_trail me k b g (i + 1)) (Joined (steps.step_trail me (word_address b i) (aims.Down (n % address_limit))) (after_down me (on_trail me k) b g i (n % address_limit))) rest a
+  found_goes b g i n t = go (n % address_limit == 0) t
     where
-      go : (x : Bool) → point_trail me b (if x then word_or_free g (i + 1) else point.Down g i (n % 2 ^ 20) step.Era) rest a
-          → (k : ℕ) × Chosen x (on_trail me k b g (i + 1)) (Joined (steps.step_trail me (word_address b i) (aims.Down (n % 2 ^ 20))) (after_down me (on_trail me k) b g i (n % 2 ^ 20))) rest a
+      go : (x : Bool) → point_trail me b (if x then word_or_free g (i + 1) else point.Down g i (n % address_limit) step.Era) rest a
+          → (k : ℕ) × Chosen x (on_trail me k b g (i + 1)) (Joined (steps.step_trail me (word_address b i) (aims.Down (n % address_limit))) (after_down me (on_trail me k) b g i (n % address_limit))) rest a
       go true u = word_goes b g (i + 1) u
       go false u = u
 

@@ -4,7 +4,7 @@ use Rattle.std.specs.Prelude.{Result, Ok, Err}
 use Rattle.std.proofs.Math.Nat.{mod-eq_of_lt}
 use Rattle.std.proofs.lemmas.Bool.{true≢false}
 use Rattle.shm_words.specs.declared.tag.Tag.{Tag as ATag}
-use Rattle.shm_words.specs.Layout.{GeometryFits, total_of}
+use Rattle.shm_words.specs.Layout.{GeometryFits, total_of, address_limit}
 use Rattle.shm_words.proofs.Placing.{total_small}
 use Rattle.shm_graph.specs.declared.ask.Me.{Me}
 use Rattle.shm_graph.specs.declared.memo.Memo.{Memo}
@@ -76,7 +76,7 @@ goes_on : (me : Me) (b : ℕ) (y : TearPoint) (n : ℕ) → is_over y ≡ false 
 goes_on me b point.Begin n e = later ((tag_read n).link == 0) (word_or_free (tag_read n) 0) (point.Link (record (tag_read n) { link = 0 })) (word_later (tag_read n) 0) (refl, refl)
 goes_on me b (point.Enter l) n e = later ((tag_read n).link == l) (word_or_free (tag_read n) 0) (point.Link (record (tag_read n) { link = l })) (word_later (tag_read n) 0) (refl, refl)
 goes_on me b (point.Link g) n e = word_later g 0
-goes_on me b (point.Word g i) n e = later (n % 2 ^ 20 == 0) (word_or_free g (i + 1)) (point.Down g i (n % 2 ^ 20) step.Era) (word_later g (i + 1)) (refl, refl)
+goes_on me b (point.Word g i) n e = later (n % address_limit == 0) (word_or_free g (i + 1)) (point.Down g i (n % address_limit) step.Era) (word_later g (i + 1)) (refl, refl)
 goes_on me b (point.Down g i t y) n e = down_goes b g i t (step_next_at me (aims.Down t) y n)
 goes_on me b (point.Free g) n e = freed_goes g
 goes_on me b point.Return n e = word_later (tag_read n) 0
@@ -133,7 +133,7 @@ runs_next : (me : Me) (b : ℕ) (y : TearPoint) (n : ℕ) → IsRunning y → Is
 runs_next me b point.Begin n h = running ((tag_read n).link == 0) (word_or_free (tag_read n) 0) (point.Link (record (tag_read n) { link = 0 })) (word_runs (tag_read n) 0) tt
 runs_next me b (point.Enter l) n h = running ((tag_read n).link == l) (word_or_free (tag_read n) 0) (point.Link (record (tag_read n) { link = l })) (word_runs (tag_read n) 0) tt
 runs_next me b (point.Link g) n h = word_runs g 0
-runs_next me b (point.Word g i) n h = running (n % 2 ^ 20 == 0) (word_or_free g (i + 1)) (point.Down g i (n % 2 ^ 20) step.Era) (word_runs g (i + 1)) refl
+runs_next me b (point.Word g i) n h = running (n % address_limit == 0) (word_or_free g (i + 1)) (point.Down g i (n % address_limit) step.Era) (word_runs g (i + 1)) refl
 runs_next me b (point.Down g i t y) n h = down_runs b g i t (step_next_at me (aims.Down t) y n) (laws.goes_on me (aims.Down t) y n h)
 runs_next me b (point.Free g) n h = freed_runs g
 runs_next me b point.Return n h = word_runs (tag_read n) 0
@@ -160,7 +160,7 @@ tag_inside me b s = (omega arith, omega arith)
 
 -- the address of a word of a block that lies in the pool
 pub word_address_is : (me : Me) (b i : ℕ) → GeometryFits me.geometry → b + 2 + i < total_of me.geometry → word_address b i ≡ b + 2 + i
-word_address_is me b i f l = let s : total_of me.geometry < 2 ^ 20 = total_small me.geometry f in mod-eq_of_lt (omega arith)
+word_address_is me b i f l = let s : total_of me.geometry < address_limit = total_small me.geometry f in mod-eq_of_lt (omega arith)
 
 -- a reference word of a block
 word_inside : (me : Me) (b i k : ℕ) → GeometryFits me.geometry → b + 2 + k ≤ total_of me.geometry → i < k → (0 < word_address b i) × (word_address b i < total_of me.geometry)

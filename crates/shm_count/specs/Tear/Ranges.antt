@@ -5,6 +5,7 @@ use Rattle.std.proofs.lemmas.Bool.{ltb-true}
 use Rattle.shm_words.specs.declared.tag.Tag.{Tag as ATag}
 use Rattle.shm_words.specs.Tags.{tag_of, TagFits}
 use Rattle.shm_words.proofs.Words.{tag_fits}
+use Rattle.shm_words.specs.Layout.{address_limit}
 use Rattle.shm_graph.specs.declared.ask.Me.{Me}
 use Rattle.shm_count.specs.declared.answer.UpFault.{UpFault}
 use Rattle.shm_count.specs.declared.point.Aim.TheVariants as aims
@@ -22,7 +23,7 @@ use Rattle.shm_count.specs.Tear.Control.{or_empty, tag_read, word_or_free, enter
 
 -- where it goes on, block and point are in range
 abbrev NextFits : Me → TearNext → Type 0
-NextFits me (Go d y) = (d < 2 ^ 20) × TearPointFits me y
+NextFits me (Go d y) = (d < address_limit) × TearPointFits me y
 NextFits me (Answer a) = Unit {0}
 
 -- one of two points, each in range where it is taken
@@ -39,7 +40,7 @@ read_fits n = go (tag_of n) refl
     go (Some g) e = tag_fits n g e
 
 -- so is a tag with another link in range
-linked_fits : (g : ATag) (l : ℕ) → TagFits g → l < 2 ^ 20 → TagFits (record g { link = l })
+linked_fits : (g : ATag) (l : ℕ) → TagFits g → l < address_limit → TagFits (record g { link = l })
 linked_fits g l f k = record { refs = f.refs; plain = f.plain; author = f.author; link = k }
 
 -- the next reference word, or the header
@@ -47,7 +48,7 @@ word_fits : (me : Me) (g : ATag) (i : ℕ) → TagFits g → TearPointFits me (w
 word_fits me g i f = chosen me (nat_lt i g.refs) (point.Word g i) (point.Free g) (λ e. (f, ltb-true i g.refs e)) (λ e. f)
 
 -- where it goes from the tag of a block that is entered
-entered_fits : (me : Me) (b l n : ℕ) → b < 2 ^ 20 → l < 2 ^ 20 → NextFits me (entered_next b l n)
+entered_fits : (me : Me) (b l n : ℕ) → b < address_limit → l < address_limit → NextFits me (entered_next b l n)
 entered_fits me b l n h k = (
   h,
   chosen me ((tag_read n).link == l) (word_or_free (tag_read n) 0) (point.Link (record (tag_read n) { link = l }))
@@ -56,17 +57,17 @@ entered_fits me b l n h k = (
 )
 
 -- where it goes from a reference word
-found_fits : (me : Me) (g : ATag) (i n : ℕ) → TagFits g → i < g.refs → TearPointFits me (if n % 2 ^ 20 == 0 then word_or_free g (i + 1) else point.Down g i (n % 2 ^ 20) step.Era)
-found_fits me g i n f l = chosen me (n % 2 ^ 20 == 0) (word_or_free g (i + 1)) (point.Down g i (n % 2 ^ 20) step.Era) (λ e. word_fits me g (i + 1) f) (λ e. (f, l, omega arith, tt))
+found_fits : (me : Me) (g : ATag) (i n : ℕ) → TagFits g → i < g.refs → TearPointFits me (if n % address_limit == 0 then word_or_free g (i + 1) else point.Down g i (n % address_limit) step.Era)
+found_fits me g i n f l = chosen me (n % address_limit == 0) (word_or_free g (i + 1)) (point.Down g i (n % address_limit) step.Era) (λ e. word_fits me g (i + 1) f) (λ e. (f, l, omega arith, tt))
 
 -- where it goes by what a step down answered
-lowered_fits : (me : Me) (b : ℕ) (g : ATag) (i t : ℕ) (a : Result Bool UpFault) → b < 2 ^ 20 → TagFits g → t < 2 ^ 20 → NextFits me (lowered_next b g i t a)
+lowered_fits : (me : Me) (b : ℕ) (g : ATag) (i t : ℕ) (a : Result Bool UpFault) → b < address_limit → TagFits g → t < address_limit → NextFits me (lowered_next b g i t a)
 lowered_fits me b g i t (Ok true) h f k = (k, h)
 lowered_fits me b g i t (Ok false) h f k = (h, word_fits me g (i + 1) f)
 lowered_fits me b g i t (Err e) h f k = tt
 
 -- where it goes by where a step down goes
-down_fits : (me : Me) (b : ℕ) (g : ATag) (i t : ℕ) (y : StepNext) → b < 2 ^ 20 → TagFits g → i < g.refs → t < 2 ^ 20 → steps.NextFits me (aims.Down t) y → NextFits me (down_next b g i t y)
+down_fits : (me : Me) (b : ℕ) (g : ATag) (i t : ℕ) (y : StepNext) → b < address_limit → TagFits g → i < g.refs → t < address_limit → steps.NextFits me (aims.Down t) y → NextFits me (down_next b g i t y)
 down_fits me b g i t (next.Point y) h f l k s = (h, (f, l, k, s))
 down_fits me b g i t (next.Answer a) h f l k s = lowered_fits me b g i t a h f k
 
@@ -79,7 +80,7 @@ freed_fits me g f = go (g.link == 0)
     go false = (f.link, tt)
 
 -- where it goes from a point in range is in range
-next_fits : (me : Me) (b : ℕ) (y : TearPoint) (n : ℕ) → b < 2 ^ 20 → TearPointFits me y → NextFits me (tear_next_at me b y n)
+next_fits : (me : Me) (b : ℕ) (y : TearPoint) (n : ℕ) → b < address_limit → TearPointFits me y → NextFits me (tear_next_at me b y n)
 next_fits me b point.Begin n h k = entered_fits me b 0 n h (omega arith)
 next_fits me b (point.Enter l) n h k = entered_fits me b l n h k
 next_fits me b (point.Link g) n h k = (h, word_fits me g 0 k)

@@ -5,7 +5,7 @@ use Rattle.std.specs.List.{Contains, filter}
 use Rattle.std.proofs.lemmas.Bool.{ne_eqb, eqb-true}
 use Rattle.std.proofs.lemmas.List.Elements.{Contains-append_right}
 use Rattle.shm_words.specs.declared.tag.Tag.{Tag as ATag}
-use Rattle.shm_words.specs.Layout.{total_of}
+use Rattle.shm_words.specs.Layout.{total_of, address_limit}
 use Rattle.shm_words.specs.Tags.{tag_word, TagFits}
 use Rattle.shm_words.proofs.Words.{tag_word_small, tag_refs-word}
 use Rattle.shm_graph.specs.declared.ask.Ask.TheVariants.{Store}
@@ -55,7 +55,7 @@ is_here me first r0 m can stays = here_same r0 m (ap (λ (x : Memo). x.status) s
 -- ---- a link
 
 -- another link changes the low bits of a tag alone
-link_shape : (h : ATag) (l : ℕ) → h.link < 2 ^ 20 → l < 2 ^ 20 → tag_word (record h { link = l }) / 2 ^ 20 ≡ tag_word h / 2 ^ 20
+link_shape : (h : ATag) (l : ℕ) → h.link < address_limit → l < address_limit → tag_word (record h { link = l }) / 2 ^ 20 ≡ tag_word h / 2 ^ 20
 unfolding tag_word
 link_shape h l small less = omega arith
 

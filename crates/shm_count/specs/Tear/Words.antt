@@ -8,6 +8,7 @@ use Rattle.shm_words.specs.declared.tag.Tag.{Tag as ATag}
 use Rattle.shm_words.specs.Tags.{tag_word, tag_refs}
 use Rattle.shm_words.proofs.Placing.{total_small}
 use Rattle.shm_words.proofs.Words.{tag_refs-word}
+use Rattle.shm_words.specs.Layout.{address_limit}
 use Rattle.shm_graph.specs.declared.ask.Ask.TheVariants.{Load}
 use Rattle.shm_graph.specs.declared.ask.Me.{Me}
 use Rattle.shm_graph.specs.declared.spot.Spot.{Spot}
@@ -260,7 +261,7 @@ module _ (me : Me) (first : ℕ) (r0 : Memo) (b k : ℕ) (vs : List Visit) (g : 
         | inr some ↦ (let y = found some in
             let t = total_small me.geometry can.geometry in
             let u = y.inside.1 in
-            let e : n % 2 ^ 20 ≡ n = omega arith in
+            let e : n % address_limit ≡ n = omega arith in
             subst (λ z. NextHolds me first r0 b (Go b (if z == 0 then word_or_free g (i + 1) else point.Down g i z step.Era)) m2 es tr2) (sym e)
             (subst (λ q. TearHolds me first r0 b (if q then word_or_free g (i + 1) else point.Down g i n step.Era) m2 es tr2) (sym (ne_eqb n 0 some)) (found_holds some)))
       ]

@@ -1,5 +1,5 @@
 -- what a word step, a death and a beginning leave of a memo's call and of its agents
-use Rattle.std.proofs.Common.{◌≡◌, ◌≢◌, ◌++◌, ◌∷◌, [], refl, sym, ap, ◌∙◌, true, false, Bool, cond, ◌&&◌, List}
+use Rattle.std.proofs.Common.{◌≡◌, ◌≢◌, ◌+◌, arith, ◌++◌, ◌∷◌, [], refl, sym, ap, ◌∙◌, true, false, Bool, cond, ◌&&◌, List}
 use Rattle.std.specs.Prelude.{Option, Some, None}
 use Rattle.std.proofs.lemmas.Bool.{true≢false}
 use Rattle.shm_graph.specs.declared.spot.Spot.{Spot}
@@ -10,7 +10,7 @@ use Rattle.shm_graph.specs.declared.memo.Kind.{Kind}
 use Rattle.shm_graph.specs.declared.memo.Memo.{Memo}
 use Rattle.shm_graph.specs.declared.memo.Step.{Step}
 use Rattle.shm_graph.specs.Asks.{call_after}
-use Rattle.shm_graph.specs.Agents.{last_agent, with_last, acts_by, acts, recovers_by, recovers, is_recoverer, stepped, ended, fallen, died, entered, is_gone}
+use Rattle.shm_graph.specs.Agents.{last_agent, with_last, acts_by, acts, recovers_by, recovers, is_recoverer, stepped, ended, fallen, died, entered, is_gone, steps_made, steps_of}
 use Rattle.shm_graph.specs.Changes.{called, memo_on}
 use Rattle.shm_graph.specs.Runs.{fell_by}
 
@@ -120,3 +120,35 @@ recovers_on m t p = ap (λ (xs : List Agent). recovers_by (last_agent xs)) (memo
     by : (b : Bool) → recovers_by (last_agent (agents_after b m.agents)) ≡ recovers m
     by true = ap recovers_by (last-with_last ended (with_last stepped m.agents)) ∙ (recovers_with ended (λ a. refl) (last_agent (with_last stepped m.agents)) ∙ recovers_called m t)
     by false = recovers_called m t
+
+-- ---- the steps that agents have made
+
+-- a change of the last agent that leaves its steps
+same_steps : (f : Agent → Agent) → ((a : Agent) → (f a).steps ≡ a.steps) → (xs : List Agent) → steps_of (with_last f xs) ≡ steps_of xs
+same_steps f same [] = refl
+same_steps f same (a ∷ []) = ap (λ n. n + 0) (same a)
+same_steps f same (a ∷ b ∷ others) = ap (λ n. a.steps + n) (same_steps f same (b ∷ others))
+
+-- one more step of the agent that acts
+one_step : (xs : List Agent) → acts_by (last_agent xs) ≡ true → steps_of (with_last stepped xs) ≡ steps_of xs + 1
+one_step [] e = absurd (true≢false (sym e))
+one_step (a ∷ []) e = omega arith
+one_step (a ∷ b ∷ others) e = let q = one_step (b ∷ others) e in omega arith
+
+-- an agent begins that has made none
+no_more : (xs : List Agent) (a : Agent) → a.steps ≡ 0 → steps_of (xs ++ a ∷ []) ≡ steps_of xs
+no_more [] a e = ap (λ n. n + 0) e
+no_more (b ∷ others) a e = ap (λ n. b.steps + n) (no_more others a e)
+
+pub steps_on : (m : Memo) (t : Step) (p : Spot) → acts m ≡ true → steps_made (memo_on m t p) ≡ steps_made m + 1
+steps_on m t p e = ap steps_of (memo_agents m t p) ∙ by (ends_agent m t p)
+  where
+    by : (b : Bool) → steps_of (agents_after b m.agents) ≡ steps_made m + 1
+    by true = same_steps ended (λ a. refl) (with_last stepped m.agents) ∙ one_step m.agents e
+    by false = one_step m.agents e
+
+pub steps_died : (m : Memo) → steps_made (died m) ≡ steps_made m
+steps_died m = same_steps fallen (λ a. refl) m.agents
+
+pub steps_entered : (k : Kind) (m : Memo) → steps_made (entered k m) ≡ steps_made m
+steps_entered k m = no_more m.agents _ refl

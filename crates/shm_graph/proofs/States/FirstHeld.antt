@@ -19,6 +19,7 @@ use Rattle.shm_graph.specs.declared.table.Entry.{Entry}
 use Rattle.shm_graph.specs.declared.run.Start.{Start}
 use Rattle.shm_graph.specs.declared.run.Account.{Account}
 use Rattle.shm_graph.specs.Spots.{IsAt, see}
+use Rattle.shm_graph.specs.Agents.{acts}
 use Rattle.shm_graph.specs.Ops.{covered}
 use Rattle.shm_graph.specs.Ops.Cover.{Quiet}
 use Rattle.shm_graph.specs.References.{words_of}
@@ -67,11 +68,19 @@ nowhere = record { geometry = record { clients = 0; segments = 0 }; first_era = 
 abbrev pub start_memos : Start → ℕ → Memo
 start_memos s c = first_memo (cond (ltb c s.geometry.clients) s nowhere) (cond (ltb c s.geometry.clients) c 0)
 
-memos_start : (s : Start) → memos_of (accounts_from s 0 s.geometry.clients) ≡ start_memos s
+pub memos_start : (s : Start) → memos_of (accounts_from s 0 s.geometry.clients) ≡ start_memos s
 memos_start s = fun_ext (λ c. elim (cases_lt c s.geometry.clients) [
   | inl l ↦ (let z : 0 + c ≡ c = omega arith in rw (lt-ltb c s.geometry.clients l) (ap (λ (x : Account). x.memo) (at-accounts_from s 0 s.geometry.clients c (first_account nowhere 0) l ∙ ap (first_account s) z)))
   | inr h ↦ (let e : ltb c s.geometry.clients ≡ false = le-ltb c s.geometry.clients h in rw e (ap (λ (x : Account). x.memo) (get_or_past (accounts_from s 0 s.geometry.clients) c (first_account nowhere 0) (subst (λ m. m ≤ c) (sym (length-accounts_from s 0 s.geometry.clients)) h))))
 ])
+
+-- the memo that an identity of the pool begins with
+pub first_memo_of : (s : Start) (c : ℕ) → c < s.geometry.clients → memos_of (accounts_from s 0 s.geometry.clients) c ≡ first_memo s c
+first_memo_of s c l = ap (λ (r : ℕ → Memo). r c) (memos_start s) ∙ rw (lt-ltb c s.geometry.clients l) refl
+
+-- no agent acts
+pub nobody_acts : (s : Start) (c : ℕ) → acts (memos_of (accounts_from s 0 s.geometry.clients) c) ≡ false
+nobody_acts s c = ap (λ (r : ℕ → Memo). acts (r c)) (memos_start s)
 
 -- ---- the words and the targets
 

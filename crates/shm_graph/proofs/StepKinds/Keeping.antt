@@ -18,7 +18,7 @@ use Rattle.shm_graph.specs.Changes.{memo_on, called}
 use Rattle.shm_graph.specs.Telling.{spot_told, body_told, outside_or}
 use Rattle.shm_graph.specs.Ops.{cover_of, held_over_of}
 use Rattle.shm_graph.specs.Events.{graph_of, IsSame}
-use Rattle.shm_graph.specs.Controllers.{IsAllowed}
+use Rattle.shm_graph.specs.Controllers.{IsAllowed, IsEraRaised}
 use Rattle.shm_graph.specs.Laws.{Frame, framed, Stands, KeptAt}
 use Rattle.shm_graph.proofs.Memos.MemoParts.{status_set}
 use Rattle.shm_graph.proofs.Machines.Calling.{called_held, called_part}
@@ -41,9 +41,10 @@ pub fixed_kept : (me : Me) (w : Spot → ℕ) (r : ℕ → Memo) (a : Ask) (f : 
     HeldAt me.geometry (words_after w a p) (view (at1 r me.who m))
     → IsSame (graph_of me.geometry w (view r)) (graph_of me.geometry (words_after w a p) (view (at1 r me.who m)))
     → IsAllowed me.geometry w (view r) me.who a p
+    → IsEraRaised w a p
     → after (seen_of a (w p)) m
     → KeptAt me w r a f after (spot_at me.geometry (classes w) (at_of a))
-fixed_kept me w r a f after p e n held same allowed x =
+fixed_kept me w r a f after p e n held same allowed era x =
     let m : Memo = memo_on (r me.who) (framed me a f (seen_of a (w p))) p in
     subst (KeptAt me w r a f after) (sym e)
     (record {
@@ -53,6 +54,7 @@ fixed_kept me w r a f after p e n held same allowed x =
         event = nothing_happens me.geometry w (words_after w a p) (r me.who) (framed me a f (seen_of a (w p))) a p (graph_of me.geometry w (view r)) (graph_of me.geometry (words_after w a p) (view (at1 r me.who m))) n same;
         allowed = allowed;
         row = no_row w me.who a p n;
+        era = era;
       };
       fits = x;
     })
@@ -70,4 +72,4 @@ live_kept me w r f tr at after s e x =
     (subst (HeldAt me.geometry (upd w (Status c) 1)) (sym (status_set r c m status.Live m.agents))
     (status_held me.geometry w (view (at1 r c m)) c status.Live (called_held me.geometry w r c (framed me (Store at 1) f 0) s.held s.who) s.who (λ q. cc) (λ q. cc)))
     (same_graph me.geometry w (upd w (Status c) 1) r c (record m { status = status.Live }) (called_part (λ (y : Memo). cover_of y.op) (r c) (framed me (Store at 1) f 0) refl refl) (called_part (λ (y : Memo). held_over_of y.op) (r c) (framed me (Store at 1) f 0) refl refl) (λ b. refl) (λ b. refl) refl)
-    refl x
+    refl tt x

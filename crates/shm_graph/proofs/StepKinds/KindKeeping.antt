@@ -19,7 +19,7 @@ use Rattle.shm_graph.specs.Readings.{read_on}
 use Rattle.shm_graph.specs.Exchanges.{exchanged_on}
 use Rattle.shm_graph.specs.Telling.{spot_told}
 use Rattle.shm_graph.specs.Events.{Event, Nothing, graph_of, Happens}
-use Rattle.shm_graph.specs.Controllers.{IsAllowed, IsRowShown}
+use Rattle.shm_graph.specs.Controllers.{IsAllowed, IsEraRaised, IsRowShown}
 use Rattle.shm_graph.specs.Laws.{Frame, framed, Stands, Ends, KeptAt, event_on, event_by, event_of}
 use Rattle.shm_graph.proofs.Memos.MemoParts.{parts, put_parts, put_memo, end_view}
 
@@ -52,9 +52,10 @@ pub kept_from : (me : Me) (w : Spot → ℕ) (r : ℕ → Memo) (a : Ask) (f : F
     → Happens me.geometry w (event_on (r me.who) t p) (graph_of me.geometry w (view r)) (graph_of me.geometry (words_after w a p) v)
     → IsAllowed me.geometry w (view r) me.who a p
     → IsRowShown w me.who a p
+    → IsEraRaised w a p
     → after (seen_of a (w p)) (memo_on (r me.who) t p)
     → KeptAt me w r a f after p
-kept_from me w r a f after p v told e held event allowed row x =
+kept_from me w r a f after p v told e held event allowed row era x =
     let g = me.geometry in
     let c = me.who in
     let t : Step = framed me a f (seen_of a (w p)) in
@@ -67,6 +68,7 @@ kept_from me w r a f after p v told e held event allowed row x =
         event = subst (λ (u : View). Happens g w (event_on (r c) t p) (graph_of g w (view r)) (graph_of g (words_after w a p) u)) q event;
         allowed = allowed;
         row = row;
+        era = era;
       };
       fits = x;
     }
@@ -94,9 +96,10 @@ pub kept_exchange : (me : Me) (w : Spot → ℕ) (r : ℕ → Memo) (at from to 
     → Happens me.geometry w (exchange_event me.who (r me.who).op p) (graph_of me.geometry w (view r)) (graph_of me.geometry (upd w p to) v)
     → IsAllowed me.geometry w (view r) me.who (Exchange at from to) p
     → IsRowShown w me.who (Exchange at from to) p
+    → IsEraRaised w (Exchange at from to) p
     → after (w p) (memo_on (r me.who) t p)
     → KeptAt me w r (Exchange at from to) f after p
-kept_exchange me w r at from to f after p v found told e held event allowed row x =
+kept_exchange me w r at from to f after p v found told e held event allowed row era x =
     let g = me.geometry in
     let c = me.who in
     let t : Step = framed me (Exchange at from to) f (w p) in
@@ -108,4 +111,4 @@ kept_exchange me w r at from to f after p v found told e held event allowed row 
     (subst (λ b. HeldAt g (words b) v) (sym y) held)
     (subst (λ (z : Event). Happens g w z (graph_of g w (view r)) (graph_of g (words (eqb (w p) from)) v)) (sym (exchange_is_event (r c) t p at from to y))
     (subst (λ b. Happens g w (exchange_event c (r c).op p) (graph_of g w (view r)) (graph_of g (words b) v)) (sym y) event))
-    allowed row x
+    allowed row era x

@@ -34,7 +34,7 @@ use Rattle.shm_graph.proofs.Machines.Calling.{called_held, called_part, fact_hel
 use Rattle.shm_graph.proofs.StepKinds.Loads.{choice, row_held, page_held}
 use Rattle.shm_graph.proofs.Memos.Looking.{home_held}
 use Rattle.shm_graph.proofs.StepKinds.OpEnd.{uncommitted_quiet, op_ended}
-use Rattle.shm_graph.proofs.StepKinds.SameGraph.{same_graph}
+use Rattle.shm_graph.proofs.StepKinds.SameGraph.{era_lost, same_graph}
 use Rattle.shm_graph.proofs.StepKinds.Keeping.{fixed_kept}
 
 -- ---- the agent stays what it is
@@ -147,7 +147,7 @@ pub load_kept : (me : Me) (w : Spot → ℕ) (r : ℕ → Memo) (f : Frame) (tr 
     → KeptAt me w r (Load at) f after (spot_at me.geometry (classes w) at)
 load_kept me w r f tr at after p s e n u x =
     let t : Step = framed me (Load at) f (w p) in
-    fixed_kept me w r (Load at) f after p e n (memo_held me.geometry w r me.who t true p s.held s.who n u) (read_same me.geometry w r me.who t true p n u) tt x
+    fixed_kept me w r (Load at) f after p e n (memo_held me.geometry w r me.who t true p s.held s.who n u) (read_same me.geometry w r me.who t true p n u) tt tt x
 
 -- an exchange of a word of the fixed part found another word
 pub lost_kept : (me : Me) (w : Spot → ℕ) (r : ℕ → Memo) (f : Frame) (tr : Trail) (at from to : ℕ) (after : ℕ → Memo → Type 0) (p : Spot) → Stands me w r f tr → spot_at me.geometry (classes w) at ≡ p → is_in_body p ≡ false → MayEnd me.who (r me.who) p → w p ≢ from
@@ -163,4 +163,4 @@ lost_kept me w r f tr at from to after p s e n u other x =
     fixed_kept me w r (Exchange at from to) f after p e n
     (subst (λ b. HeldAt g (words b) (view (at1 r c (memo b)))) lost (memo_held g w r c t false p s.held s.who n u))
     (subst (λ b. IsSame (graph_of g w (view r)) (graph_of g (words b) (view (at1 r c (memo b))))) lost (read_same g w r c t false p n u))
-    (λ q. absurd (other q)) x
+    (λ q. absurd (other q)) (era_lost w at from to p other) x

@@ -1,19 +1,19 @@
 -- steps that leave the graph of references
-use Rattle.std.proofs.Common.{◌≡◌, ℕ, ap, sym, subst, ◌∙◌, false, refl}
+use Rattle.std.proofs.Common.{◌≡◌, ◌≢◌, ℕ, ap, sym, subst, ◌∙◌, false, refl}
 use Rattle.std.proofs.lemmas.Bool.{true≢false}
 use Rattle.shm_words.specs.declared.geometry.Geometry.{Geometry}
 use Rattle.shm_words.specs.Headers.{header_of}
 use Rattle.shm_graph.specs.declared.ask.Ask.{Ask}
 use Rattle.shm_graph.specs.declared.ask.Ask.TheVariants.{Load, Store, Exchange}
 use Rattle.shm_graph.specs.declared.spot.Spot.{Spot}
-use Rattle.shm_graph.specs.declared.spot.Spot.TheVariants.{Head, Tag}
+use Rattle.shm_graph.specs.declared.spot.Spot.TheVariants.{Era, Head, Tag}
 use Rattle.shm_graph.specs.declared.memo.Memo.{Memo}
 use Rattle.shm_graph.specs.declared.memo.Step.{Step}
 use Rattle.shm_graph.specs.Views.{view, at1}
 use Rattle.shm_graph.specs.References.{Words, words_of}
 use Rattle.shm_graph.specs.Ops.{Cover, cover_of, held_over_of, target}
 use Rattle.shm_graph.specs.Events.{Nothing, Graph, graph_of, IsSame, Happens}
-use Rattle.shm_graph.specs.Controllers.{IsRowShown}
+use Rattle.shm_graph.specs.Controllers.{IsEraRaised, IsRowShown}
 use Rattle.shm_graph.specs.Laws.{event_by}
 use Rattle.shm_graph.specs.Spots.{is_in_body}
 use Rattle.shm_graph.proofs.Memos.MemoParts.{part_stays}
@@ -41,6 +41,11 @@ no_event m t (Exchange at from to) _ n = refl
 pub no_row : (w : Spot → ℕ) (c : ℕ) (a : Ask) (p : Spot) → is_in_body p ≡ false → IsRowShown w c a p
 no_row w c (Exchange at from to) (Head b) n = absurd (true≢false n)
 no_row w c _ p n = tt
+
+-- an exchange that finds another word changes no era
+pub era_lost : (w : Spot → ℕ) (at from to : ℕ) (p : Spot) → w p ≢ from → IsEraRaised w (Exchange at from to) p
+era_lost w at from to (Era i j) other = λ e. absurd (other e)
+era_lost w at from to _ other = tt
 
 pub nothing_happens : (g : Geometry) (w w' : Spot → ℕ) (m : Memo) (t : Step) (a : Ask) (p : Spot) (x y : Graph) → is_in_body p ≡ false → IsSame x y → Happens g w (event_by m t a p) x y
 nothing_happens g w w' m t a p x y n same = subst (λ e. Happens g w e x y) (sym (no_event m t a p n)) same

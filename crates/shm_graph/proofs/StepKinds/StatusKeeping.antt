@@ -99,7 +99,7 @@ dead_kept me w r f tr at after s e x =
     (subst (HeldAt me.geometry w) (sym (forgets_set r c m)) (forgets_held me.geometry w (view (at1 r c m)) c (called_held me.geometry w r c (framed me (Store at 2) f 0) s.held s.who)))
     s.who (λ q. cc) (λ q. cc)))
     (same_graph me.geometry w (upd w (Status c) 2) r c (with_status m 2) (called_part (λ (y : Memo). cover_of y.op) (r c) (framed me (Store at 2) f 0) refl refl) (called_part (λ (y : Memo). held_over_of y.op) (r c) (framed me (Store at 2) f 0) refl refl) (λ b. refl) (λ b. refl) refl)
-    refl x
+    refl tt x
 
 -- an identity that has nothing left to finish is gone
 pub gone_kept : (me : Me) (w : Spot → ℕ) (r : ℕ → Memo) (f : Frame) (tr : Trail) (at : ℕ) (after : ℕ → Memo → Type 0) → Stands me w r f tr → spot_at me.geometry (classes w) at ≡ Status me.who → GoneNow me.who (r me.who)
@@ -115,4 +115,4 @@ gone_kept me w r f tr at after s e left x =
     (subst (HeldAt me.geometry (upd w (Status c) 3)) (sym (status_set r c m status.Gone m'.agents))
     (status_held me.geometry w (view (at1 r c m)) c status.Gone (called_held me.geometry w r c t s.held s.who) s.who (λ q. cc) (λ q. subst (GoneNow c) (sym (at1_here r c m)) gone)))
     (same_graph me.geometry w (upd w (Status c) 3) r c m' (called_part (λ (y : Memo). cover_of y.op) (r c) t refl refl) (called_part (λ (y : Memo). held_over_of y.op) (r c) t refl refl) (λ b. refl) (λ b. refl) refl)
-    refl x
+    refl tt x

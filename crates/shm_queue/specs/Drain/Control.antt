@@ -1,5 +1,5 @@
 -- the control of a drain: which call comes next, and where it goes by what that call answered
-use Rattle.std.specs.Prelude.{ℕ, ◌+◌, ◌%◌, ◌^◌, ◌<◌, Bool, true, false, ◌==◌, nat_lt, if◌then◌else◌, Option, Some, None, Result, Ok, Err}
+use Rattle.std.specs.Prelude.{ℕ, ◌+◌, ◌%◌, ◌^◌, ◌<◌, Bool, true, false, ◌==◌, nat_lt, if◌then◌else◌, Option, Some, None, Result, Ok, Err, List, codes}
 use Rattle.shm_words.specs.declared.place.Place.TheVariants as place
 use Rattle.shm_words.specs.Layout.{GeometryFits, address}
 use Rattle.shm_graph.specs.declared.ask.Ask.{Ask}
@@ -36,6 +36,10 @@ DrainCall = Or Word TakeCalls
 
 abbrev pub DrainAnswer : Type 0
 DrainAnswer = Or ℕ (Result (Unit {0}) TakeFault)
+
+-- the bytes of `drain`
+abbrev pub drain_line : List ℕ
+drain_line = codes "drain"
 
 -- before its first call
 abbrev pub draining : Me → DrainState

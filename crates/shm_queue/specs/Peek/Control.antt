@@ -1,7 +1,7 @@
 -- the control of a peek: which call comes next, and where it goes by what that call answered
 use Rattle.std.specs.Prelude.{ℕ, ◌%◌, ◌^◌, ◌<◌, Bool, true, false, ◌==◌, if◌then◌else◌, Option, Some, None, Result, Ok, Err}
 use Rattle.shm_words.specs.declared.place.Place.TheVariants as place
-use Rattle.shm_words.specs.Layout.{GeometryFits, address}
+use Rattle.shm_words.specs.Layout.{GeometryFits, address, address_limit}
 use Rattle.shm_graph.specs.declared.ask.Ask.TheVariants as ask
 use Rattle.shm_graph.specs.declared.ask.Me.{Me}
 use Rattle.shm_graph.specs.Laws.{Control}
@@ -54,7 +54,7 @@ peek_call_at m Share = Second (calls_of rooting_plan (rooting m.me m.block))
 abbrev pub after_word : PeekState → PeekPoint → ℕ → PeekState
 after_word m Head n = record m { at = n; point = Tail }
 after_word m Tail n = record m { point = Slot }
-after_word m y n = record m { block = n % 2 ^ 20; point = Share }
+after_word m y n = record m { block = n % address_limit; point = Share }
 
 abbrev pub turns_word : PeekState → PeekPoint → ℕ → Option (Result Made PeekFault)
 turns_word m Tail n = if n == m.at then Some (Err (Empty m.at)) else None
@@ -78,7 +78,7 @@ pub record PeekInRange (m : PeekState) : Type 0 where
   pub geometry : GeometryFits m.me.geometry
   pub who : m.me.who < m.me.geometry.clients
   pub from : m.from < m.me.geometry.clients
-  pub block : m.block < 2 ^ 20
+  pub block : m.block < address_limit
 
 -- the control of its calls
 abbrev pub peek_parts : Control PeekCall PeekAnswer

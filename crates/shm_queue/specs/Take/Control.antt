@@ -1,7 +1,7 @@
 -- the control of a take: which call comes next, and where it goes by what that call answered
 use Rattle.std.specs.Prelude.{ℕ, ◌+◌, ◌%◌, ◌^◌, ◌<◌, Bool, true, false, ◌==◌, if◌then◌else◌, Option, Some, None, Result, Ok, Err}
 use Rattle.shm_words.specs.declared.place.Place.TheVariants as place
-use Rattle.shm_words.specs.Layout.{GeometryFits, address}
+use Rattle.shm_words.specs.Layout.{GeometryFits, address, address_limit}
 use Rattle.shm_graph.specs.declared.ask.Ask.TheVariants as ask
 use Rattle.shm_graph.specs.declared.ask.Me.{Me}
 use Rattle.shm_graph.specs.Laws.{Control}
@@ -58,7 +58,7 @@ take_call_at m Tear = Second (Second (record { me = m.me; first = m.block; block
 abbrev pub after_word : TakeState → TakePoint → ℕ → TakeState
 after_word m Head n = record m { at = n; point = Tail }
 after_word m Tail n = record m { point = Slot }
-after_word m Slot n = record m { block = n % 2 ^ 20; point = Lower }
+after_word m Slot n = record m { block = n % address_limit; point = Lower }
 after_word m y n = record m { point = Tear }
 
 abbrev pub turns_word : TakeState → TakePoint → ℕ → Option (Result (Unit {0}) TakeFault)
@@ -88,7 +88,7 @@ pub record TakeInRange (m : TakeState) : Type 0 where
   pub geometry : GeometryFits m.me.geometry
   pub who : m.me.who < m.me.geometry.clients
   pub from : m.from < m.me.geometry.clients
-  pub block : m.block < 2 ^ 20
+  pub block : m.block < address_limit
 
 -- the control of its calls
 abbrev pub take_parts : Control TakeCall TakeAnswer

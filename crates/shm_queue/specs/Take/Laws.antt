@@ -5,6 +5,7 @@ use Rattle.std.specs.List.{Contains, filter}
 use Rattle.std.proofs.Math.Nat.{mod-eq_of_lt}
 use Rattle.std.proofs.lemmas.Bool.{eqb-false, eqb-true}
 use Rattle.std.proofs.lemmas.List.Elements.{Contains-push}
+use Rattle.shm_words.specs.Layout.{address_limit}
 use Rattle.shm_graph.specs.declared.ask.Ask.TheVariants as ask
 use Rattle.shm_graph.specs.declared.spot.Spot.TheVariants as spot
 use Rattle.shm_graph.specs.declared.memo.Memo.{Memo}
@@ -112,7 +113,7 @@ module _ (m : TakeState) (r0 rs r : Memo) (tr t : Trail) (es ds : List Event) (h
       go false is other = has_item m.me s m.at r0 rs r tr t es ds (record { me = m.me; ask = take_ask m Tail; over = false }) n h w grows (other refl)
 
   -- the item was read
-  found : (n : ℕ) → TakeKnows (record m { point = Slot }) Slot r0 rs tr es → WordLeaves (HeadSlotLoaded c s (m.at % 8)) (record { me = m.me; ask = take_ask m Slot; over = false }) rs r t ds n → Grows false rs r → IsItemRead m.me s m.at (n % 2 ^ 20) r0 r (tr ++ t) (es ++ ds)
+  found : (n : ℕ) → TakeKnows (record m { point = Slot }) Slot r0 rs tr es → WordLeaves (HeadSlotLoaded c s (m.at % 8)) (record { me = m.me; ask = take_ask m Slot; over = false }) rs r t ds n → Grows false rs r → IsItemRead m.me s m.at (n % address_limit) r0 r (tr ++ t) (es ++ ds)
   found n h w grows =
       let item = item_read m.me s m.at r0 rs r tr t es ds held (record { me = m.me; ask = take_ask m Slot; over = false }) n h.0 h.1 w grows in
       subst (λ b. IsItemRead m.me s m.at b r0 r (tr ++ t) (es ++ ds)) (sym item.0) item.1
@@ -235,6 +236,7 @@ module _ (m : TakeState) (r0 rs r : Memo) (tr t : Trail) (es ds : List Event) (h
               left = y.0;
               walks = y.1.walks;
               stopped = record { left = y.1.left; others = y.1.others ∙ (ap (filter (not_block m.block)) h.lost.dying ∙ without_new m.block r0.dying h.counted); spent = y.1.last };
+              most = let u = y.1.spent in omega arith;
               bound = omega arith;
             }),
           )

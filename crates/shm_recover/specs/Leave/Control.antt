@@ -1,5 +1,5 @@
 -- the control of a leaving
-use Rattle.std.specs.Prelude.{ℕ, ◌+◌, ◌<◌, Bool, true, false, ◌==◌, if◌then◌else◌, Option, Some, None, Result, Ok, Err}
+use Rattle.std.specs.Prelude.{ℕ, ◌+◌, ◌<◌, Bool, true, false, ◌==◌, if◌then◌else◌, Option, Some, None, Result, Ok, Err, List, codes}
 use Rattle.shm_words.specs.declared.place.Place.TheVariants as place
 use Rattle.shm_words.specs.Layout.{GeometryFits, address}
 use Rattle.shm_graph.specs.declared.ask.Ask.{Ask}
@@ -27,6 +27,10 @@ LeaveCall = Or (Calls RootsState RootsCall (Result (Unit {0}) EraSpent) (Result 
 
 abbrev pub LeaveAnswer : Type 0
 LeaveAnswer = Or (Result (Unit {0}) EraSpent) ℕ
+
+-- the bytes of `leave`
+abbrev pub leave_line : List ℕ
+leave_line = codes "leave"
 
 -- the control of its calls
 abbrev pub leave_parts : Control LeaveCall LeaveAnswer

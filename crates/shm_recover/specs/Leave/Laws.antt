@@ -116,7 +116,7 @@ module _ (m : LeaveState) (r0 rs r : Memo) (tr t : Trail) (es ds : List Event) w
           owned = λ i has. (omega arith, owned_inside me h.may.who r i held has);
         },
         (omega arith),
-        record { events = gone.events; bound = (let b = gone.bound in omega arith) },
+        record { part = ap (λ (x : Memo). x.part) rest; events = gone.events; bound = (let b = gone.bound in omega arith) },
       )
 
   -- a word step left all but the segments
@@ -137,17 +137,17 @@ module _ (m : LeaveState) (r0 rs r : Memo) (tr t : Trail) (es ds : List Event) w
       }
 
   -- with one pair more
-  one_more : (n k : ℕ) → n + 1 ≤ k → ds ≡ [] → length t ≡ 1 → HasLeft me n r0 tr es → HasLeft me k r0 (tr ++ t) (es ++ ds)
-  one_more n k less none one h =
+  one_more : (n k : ℕ) → n + 1 ≤ k → r.part ≡ rs.part → ds ≡ [] → length t ≡ 1 → HasLeft me n r0 rs tr es → HasLeft me k r0 r (tr ++ t) (es ++ ds)
+  one_more n k less same none one h =
       let b = within_more (144 + n + 164 * frees es) 1 tr t h.bound (omega arith) in
-      subst (HasLeft me k r0 (tr ++ t)) (sym (ap (λ (x : List Event). es ++ x) none ∙ append-nil es)) (record { events = h.events; bound = omega arith })
+      subst (HasLeft me k r0 r (tr ++ t)) (sym (ap (λ (x : List Event). es ++ x) none ∙ append-nil es)) (record { part = same ∙ h.part; events = h.events; bound = omega arith })
 
   -- on to the next segment, or to the status
-  goes_on : s < me.geometry.segments → IsLeaving me (s + 1) r → HasLeft me (2 * (s + 1)) r0 (tr ++ t) (es ++ ds) → Next (leave_next m)
+  goes_on : s < me.geometry.segments → IsLeaving me (s + 1) r → HasLeft me (2 * (s + 1)) r0 r (tr ++ t) (es ++ ds) → Next (leave_next m)
   goes_on low h left = go (s + 1 == me.geometry.segments) (eqb-true (s + 1) me.geometry.segments) (eqb-false (s + 1) me.geometry.segments)
     where
       go : (q : Bool) → (q ≡ true → s + 1 ≡ me.geometry.segments) → (q ≡ false → s + 1 ≢ me.geometry.segments) → Next (if q then record m { point = Status } else record m { segment = s + 1; point = Look })
-      go true last more = subst (λ n. IsLeaving me n r × HasLeft me (2 * n) r0 (tr ++ t) (es ++ ds)) (last refl) (h, left)
+      go true last more = subst (λ n. IsLeaving me n r × HasLeft me (2 * n) r0 r (tr ++ t) (es ++ ds)) (last refl) (h, left)
       go false last more = (h, (let n = more refl in omega arith), left)
 
   -- the segment was loaded
@@ -165,12 +165,12 @@ module _ (m : LeaveState) (r0 rs r : Memo) (tr t : Trail) (es ds : List Event) w
         still s s same (λ i has. h.owned i (owned_same i has)) h,
         low,
         subst (λ (xs : List ℕ). Contains xs s) (sym (ap (λ (x : Memo). x.owned) w.found.left)) (w.found.found.0 (mine refl)),
-        one_more (2 * s) (2 * s + 1) (omega arith) w.none w.one left,
+        one_more (2 * s) (2 * s + 1) (omega arith) (ap (λ (x : Memo). x.part) same) w.none w.one left,
       )
       go false mine other =
           goes_on low
           (still s (s + 1) same (λ i has. let y = h.owned i (owned_same i has) in ((let n = not_it (other refl) i (owned_same i has) in omega arith), y.1)) h)
-          (one_more (2 * s) (2 * (s + 1)) (omega arith) w.none w.one left)
+          (one_more (2 * s) (2 * (s + 1)) (omega arith) (ap (λ (x : Memo). x.part) same) w.none w.one left)
         where
           not_it : n ≢ c + 1 → (i : ℕ) → Contains rs.owned i → i ≢ s
           not_it o i has e = o (w.found.found.1 (subst (Contains rs.owned) e has))
@@ -184,7 +184,7 @@ module _ (m : LeaveState) (r0 rs r : Memo) (tr t : Trail) (es ds : List Event) w
       let z = h.owned i y.0 in
       let o : s ≢ i = (λ e. true≢false (sym y.1 ∙ ap not (eq-eqb s i e))) in
       (omega arith, z.1)) h)
-      (one_more (2 * s + 1) (2 * (s + 1)) (omega arith) w.none w.one left)
+      (one_more (2 * s + 1) (2 * (s + 1)) (omega arith) (ap (λ (x : Memo). x.part) w.found.left) w.none w.one left)
 
 -- what the drop of the roots leaves, as the first call
 from_start : (me : Me) (r0 rs r : Memo) (tr t : Trail) (es ds : List Event) (a : Result (Unit {0}) EraSpent) → rs ≡ r0 → tr ≡ [] → es ≡ [] → RootsLeaves (record { me = me; root = 0 }) rs r t ds a → RootsLeaves (record { me = me; root = 0 }) r0 r (tr ++ t) (es ++ ds) a
@@ -234,9 +234,9 @@ leave_laws =
     leads m Look r0 rs r tr t es ds (Second n) h g held = looked (record m { point = Look }) r0 rs r tr t es ds n h g
     leads m Give r0 rs r tr t es ds (Second n) h g held = given (record m { point = Give }) r0 rs r tr t es ds n h g
     leads m Status r0 rs r tr t es ds (Second n) h g held =
-        let left = one_more (record m { point = Status }) r0 rs r tr t es ds (2 * m.me.geometry.segments) (2 * m.me.geometry.segments + 1) (omega arith) g.none g.one h.1 in
+        let left = one_more (record m { point = Status }) r0 rs r tr t es ds (2 * m.me.geometry.segments) (2 * m.me.geometry.segments + 1) (omega arith) (ap (λ (x : Memo). x.part) g.found.left) g.none g.one h.1 in
         let bound = left.bound in
-        record { status = ap (λ (x : Memo). x.status) g.found.left; left = g.found.read; events = left.events; bound = omega arith }
+        record { status = ap (λ (x : Memo). x.status) g.found.left; left = g.found.read; part = left.part; events = left.events; bound = omega arith }
     leads m Roots r0 rs r tr t es ds (Second n) h g held = absurd g
     leads m Look r0 rs r tr t es ds (First a) h g held = absurd g
     leads m Give r0 rs r tr t es ds (First a) h g held = absurd g

@@ -1,7 +1,7 @@
 -- the control of a drop of a root: which call comes next, and where it goes by what that call answered
 use Rattle.std.specs.Prelude.{ℕ, ◌%◌, ◌^◌, ◌<◌, Bool, true, false, ◌==◌, if◌then◌else◌, Option, Some, None, Result, Ok, Err}
 use Rattle.shm_words.specs.declared.place.Place.TheVariants as place
-use Rattle.shm_words.specs.Layout.{GeometryFits, address}
+use Rattle.shm_words.specs.Layout.{GeometryFits, address, address_limit}
 use Rattle.shm_graph.specs.declared.ask.Ask.TheVariants as ask
 use Rattle.shm_graph.specs.declared.ask.Me.{Me}
 use Rattle.shm_graph.specs.Laws.{Control}
@@ -43,12 +43,12 @@ drop_call_at m Lower = Second (First (record { me = m.me; slot = root_at m; aim 
 drop_call_at m Tear = Second (Second (record { me = m.me; first = m.block; block = m.block; point = Begin }))
 
 abbrev pub drop_after : DropState → DropAnswer → DropState
-drop_after m (First n) = record m { block = n % 2 ^ 20; point = Lower }
+drop_after m (First n) = record m { block = n % address_limit; point = Lower }
 drop_after m (Second (First (Ok true))) = record m { point = Tear }
 drop_after m _ = m
 
 abbrev pub drop_turns : DropState → DropAnswer → Option (Result Bool EraSpent)
-drop_turns m (First n) = if n % 2 ^ 20 == 0 then Some (Ok false) else None
+drop_turns m (First n) = if n % address_limit == 0 then Some (Ok false) else None
 drop_turns m (Second (First (Ok true))) = None
 drop_turns m (Second (First (Ok false))) = Some (Ok true)
 drop_turns m (Second (First (Err e))) = Some (Err e)
@@ -64,7 +64,7 @@ pub record DropInRange (m : DropState) : Type 0 where
   pub geometry : GeometryFits m.me.geometry
   pub who : m.me.who < m.me.geometry.clients
   pub root : m.root < 16
-  pub block : m.block < 2 ^ 20
+  pub block : m.block < address_limit
 
 -- the control of its calls
 abbrev pub drop_parts : Control DropCall DropAnswer

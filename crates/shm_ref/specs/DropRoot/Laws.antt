@@ -5,7 +5,7 @@ use Rattle.std.specs.List.{Contains}
 use Rattle.std.proofs.lemmas.Bool.{cases_eq, ne_eqb}
 use Rattle.std.proofs.lemmas.List.Elements.{All-nil}
 use Rattle.shm_words.proofs.Placing.{total_small}
-use Rattle.shm_words.specs.Layout.{total_of}
+use Rattle.shm_words.specs.Layout.{total_of, address_limit}
 use Rattle.shm_graph.specs.declared.ask.Ask.TheVariants as ask
 use Rattle.shm_graph.specs.declared.spot.Spot.TheVariants.{Root}
 use Rattle.shm_graph.specs.declared.memo.Memo.{Memo}
@@ -90,7 +90,7 @@ module _ (m : DropState) (r0 rs r : Memo) (tr t : Trail) (es ds : List Event) (h
       let after : ℕ → DropState = λ z. record m { block = z; point = Lower } in
       let left = DropLeaves (record m { block = 0; point = Load }) r0 r (tr ++ t) (es ++ ds) in
       elim (cases_eq n 0) [
-        | inl e ↦ subst (λ z. Outcome (if z % 2 ^ 20 == 0 then Some (Ok false) else None) (IsLoaded (after (z % 2 ^ 20)) r0 r (tr ++ t) (es ++ ds)) left) (sym e)
+        | inl e ↦ subst (λ z. Outcome (if z % address_limit == 0 then Some (Ok false) else None) (IsLoaded (after (z % address_limit)) r0 r (tr ++ t) (es ++ ds)) left) (sym e)
             (record {
               left = left_core c (λ j. k == j) r0 r may.idle cored;
               remains = remains_core c r0 r cored;
@@ -106,7 +106,7 @@ module _ (m : DropState) (r0 rs r : Memo) (tr t : Trail) (es ds : List Event) (h
             let total = total_small m.me.geometry may.geometry in
             let l = y.0.1 in
             let e = here ∙ names in
-            let small : n % 2 ^ 20 ≡ n = omega arith in
+            let small : n % address_limit ≡ n = omega arith in
             subst (λ z. Outcome (if z == 0 then Some (Ok false) else None) (IsLoaded (after z) r0 r (tr ++ t) (es ++ ds)) left) (sym small)
             (subst (λ z. Outcome (if z then Some (Ok false) else None) (IsLoaded (after n) r0 r (tr ++ t) (es ++ ds)) left) (sym (ne_eqb n 0 some))
             (record {

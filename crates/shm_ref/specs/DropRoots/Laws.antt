@@ -75,6 +75,7 @@ module _ (m : RootsState) (r0 rs r : Memo) (tr t : Trail) (es ds : List Event) (
         record {
           left = left_more c (λ j. nat_lt j m.root || (m.root == j)) (λ j. nat_lt j 16) r0 r (λ j e. grind (arith, nat_tests)) (left_then c (λ j. nat_lt j m.root) (λ j. m.root == j) r0 rs r h.gone.left d.left);
           stopped = record { left = d.stopped.left; others = d.stopped.others ∙ h.gone.dying; spent = d.stopped.spent };
+          most = d.most;
           bound = omega arith;
         },
       )

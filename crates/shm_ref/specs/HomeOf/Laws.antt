@@ -2,7 +2,7 @@
 use Rattle.std.proofs.Common.{◌≡◌, ◌≢◌, ℕ, ◌+◌, ◌%◌, ◌^◌, ◌<◌, ◌≤◌, refl, sym, ap, ◌∙◌, subst, Bool, true, false, List, [], ◌∷◌, ◌++◌}
 use Rattle.std.specs.Prelude.{◌==◌, if◌then◌else◌, None, Some, Err}
 use Rattle.std.proofs.lemmas.Bool.{cond-false, eqb-false, eqb-true, ne_eqb}
-use Rattle.shm_words.specs.Layout.{total_of}
+use Rattle.shm_words.specs.Layout.{total_of, address_limit}
 use Rattle.shm_graph.specs.declared.ask.Me.{Me}
 use Rattle.shm_graph.specs.declared.spot.Spot.TheVariants.{Hold, Home}
 use Rattle.shm_graph.specs.declared.memo.Memo.{Memo}
@@ -82,7 +82,7 @@ home_of_laws =
         w.0.found.left ∙ core_cond (n == 0) rs (record rs { looks = rs.looks ++ record { block = n; from = Home m.author } ∷ [] }) r0 (record r0 { looks = r0.looks ++ record { block = n; from = Home m.author } ∷ [] }) h.same (ap (λ (x : Memo). core (record x { looks = x.looks ++ record { block = n; from = Home m.author } ∷ [] })) h.same) in
         let reach : n ≢ 0 → is_reached m.me.who r n ≡ true = λ some. looked_reached m.me.who (Home m.author) n r0 r (looked m.me.who m.author n r0 r left some) in
         let room : n ≢ 0 → n + 2 ≤ total_of m.me.geometry = λ some. reached_room m.me n r h.may.may.who held (reach some) in
-        let small : n % 2 ^ 20 ≡ n = small_block m.me n h.may.may.geometry room in
+        let small : n % address_limit ≡ n = small_block m.me n h.may.may.geometry room in
         subst (λ b. Found m.me m.author r0 r (tr ++ t) (es ++ ds) b) (sym small)
         (record {
           held = h.held;

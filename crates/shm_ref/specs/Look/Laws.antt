@@ -4,7 +4,7 @@ use Rattle.std.specs.Prelude.{if◌then◌else◌, nat_lt, ◌==◌, None, Some,
 use Rattle.std.specs.List.{Contains}
 use Rattle.std.proofs.lemmas.Bool.{cond-false, eqb-false, eqb-true, ltb-false, ltb-true, ne_eqb}
 use Rattle.shm_words.specs.declared.tag.Tag.{Tag as ATag}
-use Rattle.shm_words.specs.Layout.{total_of}
+use Rattle.shm_words.specs.Layout.{total_of, address_limit}
 use Rattle.shm_words.specs.Tags.{tag_author, tag_plain, tag_refs}
 use Rattle.shm_graph.specs.declared.ask.Me.{Me}
 use Rattle.shm_graph.specs.declared.spot.Spot.TheVariants.{Body, Hold, Tag}
@@ -142,7 +142,7 @@ look_laws =
         let left : core r ≡ core (reference_read m0 b k n) = w.0.found.left ∙ (reference_core b k n rs ∙ (ap (λ (y : Memo). core (reference_read y b k n)) h.same ∙ sym (reference_core b k n m0))) in
         let reach : n ≢ 0 → is_reached m.me.who r n ≡ true = λ some. looked_reached m.me.who (Body b k) n m0 r (looked b k n m0 r left some) in
         let room : n ≢ 0 → n + 2 ≤ total_of m.me.geometry = λ some. reached_room m.me n r h.may.read.may.who held (reach some) in
-        let small : n % 2 ^ 20 ≡ n = small_block m.me n h.may.read.may.geometry room in
+        let small : n % address_limit ≡ n = small_block m.me n h.may.read.may.geometry room in
         subst (λ v. Looked m.me b k r0 r (tr ++ t) (es ++ ds) v) (sym small)
         (record {
           x = x;

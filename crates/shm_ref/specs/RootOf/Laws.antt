@@ -2,6 +2,7 @@
 use Rattle.std.proofs.Common.{◌≡◌, ℕ, ◌%◌, ◌^◌, ◌<◌, refl, sym, ap, ◌∙◌, arith, true, List, [], ◌∷◌, ◌++◌, inl, inr}
 use Rattle.std.proofs.lemmas.Bool.{cases_eq}
 use Rattle.shm_words.proofs.Placing.{total_small}
+use Rattle.shm_words.specs.Layout.{address_limit}
 use Rattle.shm_graph.specs.declared.memo.Memo.{Memo}
 use Rattle.shm_graph.specs.Asks.{Trail, pair}
 use Rattle.shm_graph.specs.Events.{Event}
@@ -18,7 +19,7 @@ use Rattle.shm_ref.specs.RootOf.{IsNaming, naming_ask, naming_plan}
 use Rattle.shm_ref.specs.RootParts.{load_needs, load_part, root_names}
 
 -- what a root holds in a held state with no step in progress has 20 bits
-small_at : (m : NamingState) (r0 r : Memo) → IsNaming m.me m.root r0 r0 [] [] → core r ≡ core r0 → IsHeld m.me r → root_word m.me.who r m.root < 2 ^ 20
+small_at : (m : NamingState) (r0 r : Memo) → IsNaming m.me m.root r0 r0 [] [] → core r ≡ core r0 → IsHeld m.me r → root_word m.me.who r m.root < address_limit
 small_at m r0 r h cored held = elim (cases_eq (root_word m.me.who r m.root) 0) [
   | inl e ↦ omega arith
   | inr some ↦ (
@@ -46,7 +47,7 @@ naming_laws =
         let names : n ≡ root_word m.me.who r0 m.root = w.0.found.found ∙ ap (λ (x : Memo). root_word m.me.who x m.root) h.same in
         let here : n ≡ root_word m.me.who r m.root = names ∙ sym (ap (λ (x : Memo). root_word m.me.who x m.root) cored) in
         let low = small_at m r0 r (record { may = h.may; low = h.low; same = refl; none = refl; quiet = refl }) cored held in
-        let small : n % 2 ^ 20 ≡ n = omega arith in
+        let small : n % address_limit ≡ n = omega arith in
         record {
           memo = cored;
           names = small ∙ names;

@@ -3,7 +3,7 @@ use Rattle.std.proofs.Common.{◌≡◌, ℕ, ◌%◌, ◌^◌, ◌<◌, refl, s
 use Rattle.std.specs.Prelude.{◌==◌, if◌then◌else◌, Some, None, Result, Ok, Err}
 use Rattle.std.proofs.lemmas.Bool.{and_parts, cases_eq, lt-ltb, ne_eqb, false≢true}
 use Rattle.shm_words.specs.declared.place.Place.TheVariants as place
-use Rattle.shm_words.specs.Layout.{GeometryFits, address, is_in}
+use Rattle.shm_words.specs.Layout.{GeometryFits, address, is_in, address_limit}
 use Rattle.shm_words.proofs.Placing.{address_below, address_small, total_small}
 use Rattle.shm_graph.specs.declared.ask.Ask.TheVariants as ask
 use Rattle.shm_graph.specs.declared.ask.Me.{Me}
@@ -142,7 +142,7 @@ home_laws =
         elim (cases_eq n 0) [
           | inl e ↦ (
               let same : core r ≡ core r0 = cored ∙ (ap (λ z. core (home_read r0 c z)) e ∙ home_empty r0 c) in
-              subst (λ z. Outcome (if z == 0 then None else Some (Err (HomeSet (z % 2 ^ 20)))) next left) (sym e)
+              subst (λ z. Outcome (if z == 0 then None else Some (Err (HomeSet (z % address_limit)))) next left) (sym e)
               (record {
                 may = may;
                 same = same;
@@ -159,8 +159,8 @@ home_laws =
               let counted = reached_counted m.me may.who r n held (home_reached c r n idle here some) in
               let inside = counted.0.1 in
               let total = total_small m.me.geometry may.geometry in
-              let small : n % 2 ^ 20 ≡ n = omega arith in
-              subst (λ z. Outcome (if z then None else Some (Err (HomeSet (n % 2 ^ 20)))) next left) (sym (ne_eqb n 0 some))
+              let small : n % address_limit ≡ n = omega arith in
+              subst (λ z. Outcome (if z then None else Some (Err (HomeSet (n % address_limit)))) next left) (sym (ne_eqb n 0 some))
               (subst (λ z. left (Err (HomeSet z))) (sym small)
               (record { stays = (names, some, cored); none = silent; bound = omega arith }))
               )

@@ -1,7 +1,7 @@
 -- the control of setting a reference word of an own block: which call comes next, and where it goes by what that call answered
 use Rattle.std.specs.Prelude.{ℕ, ◌+◌, ◌%◌, ◌^◌, ◌<◌, ◌≤◌, Bool, true, false, ◌==◌, nat_le, if◌then◌else◌, Option, Some, None, Result, Ok, Err}
 use Rattle.shm_words.specs.declared.place.Place.TheVariants as place
-use Rattle.shm_words.specs.Layout.{GeometryFits, address, total_of}
+use Rattle.shm_words.specs.Layout.{GeometryFits, address, total_of, address_limit}
 use Rattle.shm_words.specs.Tags.{tag_author, tag_refs}
 use Rattle.shm_graph.specs.declared.ask.Ask.{Ask}
 use Rattle.shm_graph.specs.declared.ask.Ask.TheVariants as ask
@@ -65,12 +65,12 @@ step_point old to = if old == 0 then Raise else if to == 0 then Lower else Chang
 abbrev pub found_after : SetState → SetPoint → ℕ → SetState
 found_after m Tag n = record m { point = Held }
 found_after m Held n = record m { point = Look }
-found_after m y n = record m { before = n % 2 ^ 20; point = step_point (n % 2 ^ 20) m.to }
+found_after m y n = record m { before = n % address_limit; point = step_point (n % address_limit) m.to }
 
 abbrev pub found_turns : SetState → SetPoint → ℕ → Option (Result (Unit {0}) SetFault)
 found_turns m Tag n = if tag_author n == m.me.who then (if nat_le (tag_refs n) m.word then Some (Err (fault.NoSuchRef (tag_refs n))) else None) else Some (Err (fault.NotAuthor (tag_author n)))
 found_turns m Held n = if n == m.me.who + 1 then None else Some (Err fault.NotHeld)
-found_turns m y n = if n % 2 ^ 20 == m.to then Some (Ok tt) else None
+found_turns m y n = if n % address_limit == m.to then Some (Ok tt) else None
 
 -- by whether the count of the old block came to 0
 abbrev pub lowered_after : SetState → Bool → SetState
@@ -116,8 +116,8 @@ pub record SetInRange (m : SetState) : Type 0 where
   pub who : m.me.who < m.me.geometry.clients
   pub block : m.block + 2 ≤ total_of m.me.geometry
   pub word : m.word < 256
-  pub to : m.to < 2 ^ 20
-  pub before : m.before < 2 ^ 20
+  pub to : m.to < address_limit
+  pub before : m.before < address_limit
 
 -- the control of its calls
 abbrev pub set_parts : Control SetCall SetAnswer

@@ -4,7 +4,7 @@ use Rattle.std.specs.Prelude.{◌==◌, nat_le, if◌then◌else◌, Some, None,
 use Rattle.std.specs.List.{Contains}
 use Rattle.std.proofs.lemmas.Bool.{cases_eq, cases_lt, eq-eqb, false≢true, le-leb, lt-leb, ne_eqb}
 use Rattle.shm_words.proofs.Placing.{total_small}
-use Rattle.shm_words.specs.Layout.{total_of}
+use Rattle.shm_words.specs.Layout.{total_of, address_limit}
 use Rattle.shm_words.specs.Tags.{tag_author, tag_refs}
 use Rattle.shm_graph.specs.declared.memo.Memo.{Memo}
 use Rattle.shm_graph.specs.declared.memo.Op.TheVariants.{Nothing}
@@ -112,11 +112,11 @@ not_tag old to = choose (old == 0) (to == 0)
 stays : (m : SetState) (y : SetPoint) (a : SetAnswer) → PlanStays set_parts set_plan (record m { point = y }) a
 stays m Tag (First n) = record { same_me = refl; same_line = refl; same_start = refl; started = λ e. refl }
 stays m Held (First n) = record { same_me = refl; same_line = refl; same_start = refl; started = λ e. refl }
-stays m Look (First n) = record { same_me = refl; same_line = refl; same_start = refl; started = λ e. not_tag (n % 2 ^ 20) m.to }
-stays m Raise (First n) = record { same_me = refl; same_line = refl; same_start = refl; started = λ e. not_tag (n % 2 ^ 20) m.to }
-stays m Lower (First n) = record { same_me = refl; same_line = refl; same_start = refl; started = λ e. not_tag (n % 2 ^ 20) m.to }
-stays m Change (First n) = record { same_me = refl; same_line = refl; same_start = refl; started = λ e. not_tag (n % 2 ^ 20) m.to }
-stays m Tear (First n) = record { same_me = refl; same_line = refl; same_start = refl; started = λ e. not_tag (n % 2 ^ 20) m.to }
+stays m Look (First n) = record { same_me = refl; same_line = refl; same_start = refl; started = λ e. not_tag (n % address_limit) m.to }
+stays m Raise (First n) = record { same_me = refl; same_line = refl; same_start = refl; started = λ e. not_tag (n % address_limit) m.to }
+stays m Lower (First n) = record { same_me = refl; same_line = refl; same_start = refl; started = λ e. not_tag (n % address_limit) m.to }
+stays m Change (First n) = record { same_me = refl; same_line = refl; same_start = refl; started = λ e. not_tag (n % address_limit) m.to }
+stays m Tear (First n) = record { same_me = refl; same_line = refl; same_start = refl; started = λ e. not_tag (n % address_limit) m.to }
 stays m y (Second (First (First (Ok u)))) = record { same_me = refl; same_line = refl; same_start = refl; started = λ e. absurd (cc) }
 stays m y (Second (First (First (Err f)))) = record { same_me = refl; same_line = refl; same_start = refl; started = λ e. absurd (cc) }
 stays m y (Second (First (Second (Ok true)))) = record { same_me = refl; same_line = refl; same_start = refl; started = λ e. refl }
@@ -226,7 +226,7 @@ module _ (m : SetState) (r0 rs r : Memo) (tr t : Trail) (es ds : List Event) (he
       let q = reached_counted m.me h.may.who r n held (ap (λ (x : Memo). is_reached c x n) cored ∙ seen_block b k u n r0 c some) in
       (q.0, q.1, λ x. q.2 (subst (λ (xs : List ℕ). Contains xs n) (sym dying) x))) in
       let total = total_small m.me.geometry h.may.geometry in
-      let small : n % 2 ^ 20 ≡ n = elim (cases_eq n 0) [ inl e ↦ omega arith | inr some ↦ (let l = (counted some).0.1 in omega arith) ] in
+      let small : n % address_limit ≡ n = elim (cases_eq n 0) [ inl e ↦ omega arith | inr some ↦ (let l = (counted some).0.1 in omega arith) ] in
       let Next : ℕ → SetPoint → SetState = λ z y. record m { before = z; point = y } in
       let goes : ℕ → Type 0 = λ z. Outcome (if z == m.to then Some (Ok tt) else None) (Knows (Next z (step_point z m.to)) (step_point z m.to)) Left in
       subst goes (sym small)

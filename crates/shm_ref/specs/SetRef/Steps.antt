@@ -4,6 +4,7 @@ use Rattle.std.specs.Prelude.{Some}
 use Rattle.std.specs.List.{Contains}
 use Rattle.std.proofs.lemmas.Bool.{false≢true, true≢false}
 use Rattle.shm_words.proofs.Placing.{total_small}
+use Rattle.shm_words.specs.Layout.{address_limit}
 use Rattle.shm_graph.specs.declared.ask.Me.{Me}
 use Rattle.shm_graph.specs.declared.memo.Memo.{Memo}
 use Rattle.shm_graph.specs.declared.memo.Op.TheVariants.{Nothing}
@@ -143,7 +144,7 @@ module _ (me : Me) (b k to t old : ℕ) (r0 r : Memo) (tr : Trail) (es : List Ev
         era = h.era;
       }
 
-  small_inside : (d : ℕ) → IsInside me d → d < 2 ^ 20
+  small_inside : (d : ℕ) → IsInside me d → d < address_limit
   small_inside d inside = let total = total_small me.geometry h.may.geometry in let l = inside.1 in omega arith
 
   -- a step up, where the word is empty

@@ -19,7 +19,7 @@ use Rattle.shm_calls.specs.Plans.{PlanLaws}
 use Rattle.shm_script.specs.declared.line.Line.TheVariants as line
 use Rattle.shm_script.specs.declared.log.Answer.{Answer}
 use Rattle.shm_table.specs.Machines.Change.{DelGives, del}
-use Rattle.shm_table.specs.Command.{CommandFits, CommandGives, OneAnswer, OneGives, command_control, command_does, command_of, command_parts, given}
+use Rattle.shm_table.specs.Command.{CommandFits, CommandGives, OneGives, command_control, command_does, command_of, command_parts, given}
 use Rattle.shm_table.specs.CopyKey.Control.{copy_parts}
 use Rattle.shm_table.specs.CopyKey.{copy_plan}
 use Rattle.shm_table.specs.Machines.Copy.{CopyGives, copy_control}

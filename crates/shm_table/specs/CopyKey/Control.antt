@@ -1,6 +1,6 @@
 -- the control of a copy: which call comes next, and where it goes by what that call answered
 use Rattle.std.specs.Prelude.{ℕ, ◌%◌, ◌^◌, ◌<◌, Bool, true, false, Option, Some, None, Result, Ok, Err}
-use Rattle.shm_words.specs.Layout.{GeometryFits}
+use Rattle.shm_words.specs.Layout.{GeometryFits, address_limit}
 use Rattle.shm_graph.specs.declared.ask.Me.{Me}
 use Rattle.shm_graph.specs.Laws.{Control}
 use Rattle.shm_calls.specs.declared.calls.Calls.{Calls}
@@ -70,7 +70,7 @@ stuck_answer n b (Some f) e = fault_answer (spent_fault e)
 abbrev pub fetched_after : CopyState → Fetched → CopyState
 fetched_after m Missing = m
 fetched_after m (Refused f) = m
-fetched_after m (Rooted k b n) = record m { root = k % 16; block = b % 2 ^ 20; number = n; point = point.Put }
+fetched_after m (Rooted k b n) = record m { root = k % 16; block = b % address_limit; number = n; point = point.Put }
 
 abbrev pub fetched_turns : Fetched → Option Answer
 fetched_turns Missing = Some answer.Missing
@@ -98,7 +98,7 @@ pub record CopyInRange (m : CopyState) : Type 0 where
   pub who : m.me.who < m.me.geometry.clients
   pub author : m.author < m.me.geometry.clients
   pub root : m.root < 16
-  pub block : m.block < 2 ^ 20
+  pub block : m.block < address_limit
 
 -- the control of its calls
 abbrev pub copy_parts : Control CopyCall CopyAnswer

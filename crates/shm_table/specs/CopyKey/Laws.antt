@@ -3,6 +3,7 @@ use Rattle.std.proofs.Common.{◌≡◌, ◌≢◌, ℕ, length-append, ◌+◌,
 use Rattle.std.specs.Prelude.{Result, Ok, Err, length}
 use Rattle.std.specs.List.{All, Contains}
 use Rattle.std.proofs.lemmas.List.Elements.{All-nil}
+use Rattle.shm_words.specs.Layout.{address_limit}
 use Rattle.shm_graph.specs.declared.ask.Me.{Me}
 use Rattle.shm_graph.specs.declared.memo.Memo.{Memo}
 use Rattle.shm_graph.specs.declared.spot.Spot.TheVariants.{Home}
@@ -161,10 +162,10 @@ module _ (m : CopyState) (r0 rs r : Memo) (tr t : Trail) (es ds : List Event) (h
       go (fetched.Rooted k b n) w =
           let low = w.low in
           let small = w.small in
-          let is : b ≡ b % 2 ^ 20 = omega arith in
+          let is : b ≡ b % address_limit = omega arith in
           let at : k ≡ k % 16 = omega arith in (
             may,
-            subst (λ i. IsRooted m.me m.author m.other i (b % 2 ^ 20) n None fetch_steps r0 r t ds) at (subst (λ d. IsRooted m.me m.author m.other k d n None fetch_steps r0 r t ds) is w),
+            subst (λ i. IsRooted m.me m.author m.other i (b % address_limit) n None fetch_steps r0 r t ds) at (subst (λ d. IsRooted m.me m.author m.other k d n None fetch_steps r0 r t ds) is w),
           )
 
   -- where the value block was from

@@ -1,6 +1,6 @@
 -- the control of removing a key of the own table: which call comes next, and where it goes by what that call answered
 use Rattle.std.specs.Prelude.{ℕ, ◌%◌, ◌^◌, ◌<◌, Bool, true, false, Option, Some, None, Result, Ok, Err}
-use Rattle.shm_words.specs.Layout.{GeometryFits}
+use Rattle.shm_words.specs.Layout.{GeometryFits, address_limit}
 use Rattle.shm_graph.specs.declared.ask.Me.{Me}
 use Rattle.shm_graph.specs.Laws.{Control}
 use Rattle.shm_calls.specs.declared.calls.Calls.{Calls}
@@ -48,7 +48,7 @@ del_call_at m Back = Second (Second (calls_of unlatch_plan (unlatching m.me m.me
 -- by what the search found
 abbrev pub found_after : DelState → Found → DelState
 found_after m (Absent home first) = record m { answer = answer.Missing; point = Back }
-found_after m (At entry before word) = record m { entry = entry % 2 ^ 20; before = before % 2 ^ 20; word = word; point = Cut }
+found_after m (At entry before word) = record m { entry = entry % address_limit; before = before % address_limit; word = word; point = Cut }
 
 -- once the entry is gone, or is there still
 abbrev pub cut_after : DelState → Result (Unit {0}) UpFault → DelState
@@ -73,8 +73,8 @@ is_search y = false
 pub record DelInRange (m : DelState) : Type 0 where
   pub geometry : GeometryFits m.me.geometry
   pub who : m.me.who < m.me.geometry.clients
-  pub entry : m.entry < 2 ^ 20
-  pub before : m.before < 2 ^ 20
+  pub entry : m.entry < address_limit
+  pub before : m.before < address_limit
 
 -- the control of its calls
 abbrev pub del_parts : Control DelCall DelCallAnswer

@@ -2,7 +2,7 @@
 use Rattle.std.proofs.Common.{◌≡◌, ℕ, ◌+◌, ◌*◌, ◌%◌, ◌^◌, ◌<◌, ◌≤◌, refl, sym, ap, ◌∙◌, subst, arith, append_assoc, append-nil, length, List, [], ◌∷◌, ◌++◌, inl, inr}
 use Rattle.std.specs.Prelude.{◌==◌, if◌then◌else◌, None, Some, Ok, Err}
 use Rattle.std.specs.List.{All, Contains}
-use Rattle.shm_words.specs.Layout.{total_of}
+use Rattle.shm_words.specs.Layout.{total_of, address_limit}
 use Rattle.shm_words.proofs.Placing.{total_small}
 use Rattle.shm_graph.specs.declared.ask.Me.{Me}
 use Rattle.shm_graph.specs.declared.memo.Memo.{Memo}
@@ -127,7 +127,7 @@ own_inside : (me : Me) (r : Memo) (d i x : ℕ) → me.who < me.geometry.clients
 own_inside me r d i x l held own = let k = told_inside me r own.told.0 l held own.told.1 in let e = own.told.2 in let low = own.told.3 in omega arith
 
 -- the entry has it: its block and the one that leads there are addresses
-found_small : (me : Me) (key entry before word : ℕ) (r0 r : Memo) (tr : Trail) (es : List Event) → MayDel me r0 → Located me me.who key r0 r tr es (At entry before word) → IsHeld me r → (entry < 2 ^ 20) × (before < 2 ^ 20)
+found_small : (me : Me) (key entry before word : ℕ) (r0 r : Memo) (tr : Trail) (es : List Event) → MayDel me r0 → Located me me.who key r0 r tr es (At entry before word) → IsHeld me r → (entry < address_limit) × (before < address_limit)
 found_small me key entry before word r0 r tr es may h held =
     let total = total_small me.geometry may.geometry in
     let room = h.found.room in
@@ -310,15 +310,15 @@ searched_absent me key home first r0 rs r tr t es ds a (may, said, same, none, q
     (missing me key home first r0 r t ds may (subst (λ (x : Memo). Located me me.who key x r t ds (Absent home first)) same g) held))
 
 searched_at : (me : Me) (key entry before word : ℕ) (r0 rs r : Memo) (tr t : Trail) (es ds : List Event) (a : Answer) → MayDel me r0 × (a ≡ answer.Missing) × (rs ≡ r0) × (tr ≡ []) × (es ≡ []) → Located me me.who key rs r t ds (At entry before word) → IsHeld me r → recovers r ≡ recovers rs
-    → IsLocated me key (entry % 2 ^ 20) (before % 2 ^ 20) word r0 r (tr ++ t) (es ++ ds)
+    → IsLocated me key (entry % address_limit) (before % address_limit) word r0 r (tr ++ t) (es ++ ds)
 searched_at me key entry before word r0 rs r tr t es ds a (may, said, same, none, quiet) g held agent =
     let h : Located me me.who key r0 r t ds (At entry before word) = subst (λ (x : Memo). Located me me.who key x r t ds (At entry before word)) same g in
     let small = found_small me key entry before word r0 r t ds may h held in
-    let low : entry % 2 ^ 20 ≡ entry = (let s = small.0 in omega arith) in
-    let near : before % 2 ^ 20 ≡ before = (let s = small.1 in omega arith) in
-    subst (λ (u : Trail). IsLocated me key (entry % 2 ^ 20) (before % 2 ^ 20) word r0 r (u ++ t) (es ++ ds)) (sym none)
-    (subst (λ (u : List Event). IsLocated me key (entry % 2 ^ 20) (before % 2 ^ 20) word r0 r t (u ++ ds)) (sym quiet)
-    (subst (λ x. IsLocated me key x (before % 2 ^ 20) word r0 r t ds) (sym low)
+    let low : entry % address_limit ≡ entry = (let s = small.0 in omega arith) in
+    let near : before % address_limit ≡ before = (let s = small.1 in omega arith) in
+    subst (λ (u : Trail). IsLocated me key (entry % address_limit) (before % address_limit) word r0 r (u ++ t) (es ++ ds)) (sym none)
+    (subst (λ (u : List Event). IsLocated me key (entry % address_limit) (before % address_limit) word r0 r t (u ++ ds)) (sym quiet)
+    (subst (λ x. IsLocated me key x (before % address_limit) word r0 r t ds) (sym low)
     (subst (λ x. IsLocated me key entry x word r0 r t ds) (sym near) (record { may = may; located = h; client = agent ∙ (ap recovers same ∙ may.client) }))))
 
 -- ---- the plan

@@ -1,6 +1,6 @@
 -- the control of a new entry: which call comes next, and where it goes by what that call answered
 use Rattle.std.specs.Prelude.{ℕ, ◌+◌, ◌-◌, ◌%◌, ◌^◌, ◌<◌, Bool, true, false, ◌==◌, nat_lt, if◌then◌else◌, Option, Some, None, Result, Ok, Err, [], ◌∷◌}
-use Rattle.shm_words.specs.Layout.{GeometryFits}
+use Rattle.shm_words.specs.Layout.{GeometryFits, address_limit}
 use Rattle.shm_graph.specs.declared.ask.Me.{Me}
 use Rattle.shm_graph.specs.declared.spot.Spot.{Spot}
 use Rattle.shm_graph.specs.declared.spot.Spot.TheVariants.{Body}
@@ -76,7 +76,7 @@ enter_call_at m y = up_of m (enter_block m y) (enter_word m y) (enter_to m y)
 
 -- the block of an answer, where an entry can be at it
 abbrev pub entry_of : ℕ → ℕ
-entry_of b = if nat_lt b (2 ^ 20 - 3) then b else 0
+entry_of b = if nat_lt b (address_limit - 3) then b else 0
 
 -- after the value word: where the bucket is empty the entry is linked, otherwise it names the first one
 abbrev pub valued_by : Bool → EnterPoint
@@ -118,10 +118,10 @@ pub record EnterInRange (m : EnterState) : Type 0 where
   pub geometry : GeometryFits m.me.geometry
   pub who : m.me.who < m.me.geometry.clients
   pub key : m.key < 2 ^ 32
-  pub value : m.value < 2 ^ 20
-  pub home : m.home + 17 < 2 ^ 20
-  pub first : m.first < 2 ^ 20
-  pub entry : m.entry + 3 < 2 ^ 20
+  pub value : m.value < address_limit
+  pub home : m.home + 17 < address_limit
+  pub first : m.first < address_limit
+  pub entry : m.entry + 3 < address_limit
 
 -- the control of its calls
 abbrev pub enter_parts : Control EnterCall EnterAnswer

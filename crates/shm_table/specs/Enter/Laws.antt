@@ -3,6 +3,7 @@ use Rattle.std.proofs.Common.{◌≡◌, ◌≢◌, ℕ, zero, suc, ◌+◌, ◌
 use Rattle.std.specs.Prelude.{Result, Ok, Err}
 use Rattle.std.proofs.lemmas.Bool.{cases_eq, cond-true, eq-eqb, lt-ltb, ne_eqb}
 use Rattle.shm_words.proofs.Placing.{total_small}
+use Rattle.shm_words.specs.Layout.{address_limit}
 use Rattle.shm_graph.specs.declared.memo.Memo.{Memo}
 use Rattle.shm_graph.specs.declared.spot.Spot.{Spot}
 use Rattle.shm_graph.specs.declared.spot.Spot.TheVariants as spot
@@ -44,8 +45,8 @@ use Rattle.shm_table.specs.Enter.Steps.{change_needs, link_needs, next_needs, va
 -- ---- what was answered
 
 -- the block of an answer in a pool is what it is
-entry_is : (b : ℕ) → b + 3 ≤ 2 ^ 20 - 1 → entry_of b ≡ b
-entry_is b l = cond-true _ _ _ (lt-ltb b (2 ^ 20 - 3) (omega (arith, l)))
+entry_is : (b : ℕ) → b + 3 ≤ address_limit - 1 → entry_of b ≡ b
+entry_is b l = cond-true _ _ _ (lt-ltb b (address_limit - 3) (omega (arith, l)))
 
 -- the events of a link, by whether the bucket is empty
 linked_first : (c k b v home key first : ℕ) → first ≡ 0 → linked_events c k b v home key first ≡ linked_events c k b v home key 0

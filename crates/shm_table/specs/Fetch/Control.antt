@@ -1,6 +1,6 @@
 -- the control of reading what a key has and giving it a root: which call comes next, and where it goes by what that call answered
 use Rattle.std.specs.Prelude.{ℕ, ◌%◌, ◌^◌, ◌<◌, Bool, true, false, Option, Some, None, Result, Ok, Err}
-use Rattle.shm_words.specs.Layout.{GeometryFits}
+use Rattle.shm_words.specs.Layout.{GeometryFits, address_limit}
 use Rattle.shm_graph.specs.declared.ask.Ask.{Ask}
 use Rattle.shm_graph.specs.declared.ask.Me.{Me}
 use Rattle.shm_graph.specs.Laws.{Control}
@@ -53,7 +53,7 @@ fetch_call m y = Second (First (record { me = m.me; ask = fetch_ask m y; over = 
 
 -- where it goes by the word that was loaded
 abbrev pub read_after : FetchState → FetchPoint → ℕ → FetchState
-read_after m Value n = record m { block = n % 2 ^ 20; point = Number }
+read_after m Value n = record m { block = n % address_limit; point = Number }
 read_after m y n = record m { number = n; point = Share }
 
 -- why the value block got no root
@@ -68,7 +68,7 @@ fetch_outcome m (Ok k) = Rooted k m.block m.number
 fetch_outcome m (Err f) = Refused (shared_fault f)
 
 abbrev pub fetch_after : FetchState → FetchAnswer → FetchState
-fetch_after m (First (At e b w)) = record m { entry = e % 2 ^ 20; point = Value }
+fetch_after m (First (At e b w)) = record m { entry = e % address_limit; point = Value }
 fetch_after m (First (Absent home first)) = record m { outcome = Missing; point = Give }
 fetch_after m (Second (First n)) = read_after m m.point n
 fetch_after m (Second (Second (First a))) = record m { outcome = fetch_outcome m a; point = Give }
@@ -87,8 +87,8 @@ pub record FetchInRange (m : FetchState) : Type 0 where
   pub geometry : GeometryFits m.me.geometry
   pub who : m.me.who < m.me.geometry.clients
   pub author : m.author < m.me.geometry.clients
-  pub entry : m.entry < 2 ^ 20
-  pub block : m.block < 2 ^ 20
+  pub entry : m.entry < address_limit
+  pub block : m.block < address_limit
 
 -- the control of its calls
 abbrev pub fetch_parts : Control FetchCall FetchAnswer

@@ -4,6 +4,7 @@ use Rattle.std.specs.Prelude.{◌==◌, if◌then◌else◌}
 use Rattle.std.specs.List.{Contains}
 use Rattle.std.proofs.lemmas.Bool.{cases_Bool, cond-false, eqb-true, ne_eqb, true≢false}
 use Rattle.shm_words.proofs.Placing.{total_small}
+use Rattle.shm_words.specs.Layout.{address_limit}
 use Rattle.shm_graph.specs.declared.ask.Me.{Me}
 use Rattle.shm_graph.specs.declared.memo.Memo.{Memo}
 use Rattle.shm_graph.specs.declared.table.Part.{Part}
@@ -78,7 +79,7 @@ value_listed b m n x table role some h =
         ∙ (ap (λ u. if is_entry u && (1 == 1) then valued m.part n m.values else m.values) role ∙ cond-false (is_loose m.part) m.values (n ∷ m.values) table)
 
 -- the block that the value word of an entry names is a value block
-pub value_seen : (m : GetState) (r0 rs r : Memo) (tr : Trail) (es : List Event) → IsHeld m.me r → (n : ℕ) → IsReading m.me m.author r0 rs → role_in (roles rs) m.entry ≡ AnEntry → GetKnows (record m { block = n % 2 ^ 20; point = Number }) Number r0 r tr es → ReferenceLoaded m.entry 1 rs n r → Contains r.values (n % 2 ^ 20)
+pub value_seen : (m : GetState) (r0 rs r : Memo) (tr : Trail) (es : List Event) → IsHeld m.me r → (n : ℕ) → IsReading m.me m.author r0 rs → role_in (roles rs) m.entry ≡ AnEntry → GetKnows (record m { block = n % address_limit; point = Number }) Number r0 r tr es → ReferenceLoaded m.entry 1 rs n r → Contains r.values (n % address_limit)
 value_seen m r0 rs r tr es held n reading here (next, look, value, inside) left =
     let table = table_of m.me m.author r0 rs reading in
     let reads = reference_reads m.entry 1 rs n r left in
@@ -87,7 +88,7 @@ value_seen m r0 rs r tr es held n reading here (next, look, value, inside) left 
     let is : IsIn r AValue n = look_in rs r m.entry 1 n AnEntry table reads.0.part here (reads.1 some) in
     let roomy = value_room m.me r n reading.may.who held is in
     let total = total_small m.me.geometry reading.may.geometry in
-    let small : n ≡ n % 2 ^ 20 = omega arith in
+    let small : n ≡ n % address_limit = omega arith in
     subst (λ b. Contains r.values b) small (value_listed m.entry rs n r table here some left)
 
 -- ---- so many word steps

@@ -1,7 +1,7 @@
 -- the control of giving the value block at the head of a queue a root: which call comes next, and where it goes by what that call answered
 use Rattle.std.specs.Prelude.{ℕ, ◌%◌, ◌^◌, ◌<◌, Bool, true, false, ◌==◌, if◌then◌else◌, Option, Some, None, Result, Ok, Err}
 use Rattle.shm_words.specs.declared.place.Place.TheVariants as place
-use Rattle.shm_words.specs.Layout.{GeometryFits, address}
+use Rattle.shm_words.specs.Layout.{GeometryFits, address, address_limit}
 use Rattle.shm_graph.specs.declared.ask.Ask.{Ask}
 use Rattle.shm_graph.specs.declared.ask.Ask.TheVariants.{Load}
 use Rattle.shm_graph.specs.declared.ask.Me.{Me}
@@ -60,7 +60,7 @@ fetch_head_call m y = First (record { me = m.me; ask = fetch_head_ask m y; over 
 abbrev pub read_after : FetchHeadState → FetchHeadPoint → ℕ → FetchHeadState
 read_after m Head n = record m { at = n; point = Tail }
 read_after m Tail n = record m { point = Slot }
-read_after m Slot n = record m { block = n % 2 ^ 20; point = Number }
+read_after m Slot n = record m { block = n % address_limit; point = Number }
 read_after m y n = record m { number = n; point = Share }
 
 abbrev pub read_turns : FetchHeadState → FetchHeadPoint → ℕ → Option FetchedHead
@@ -85,7 +85,7 @@ pub record FetchHeadInRange (m : FetchHeadState) : Type 0 where
   pub geometry : GeometryFits m.me.geometry
   pub who : m.me.who < m.me.geometry.clients
   pub from : m.from < m.me.geometry.clients
-  pub block : m.block < 2 ^ 20
+  pub block : m.block < address_limit
 
 -- the control of its calls
 abbrev pub fetch_head_parts : Control FetchHeadCall FetchHeadAnswer

@@ -1,7 +1,7 @@
 -- the control of looking for a key, and what is asked
 use Rattle.std.specs.Prelude.{ℕ, ◌+◌, ◌%◌, ◌^◌, ◌<◌, Bool, true, false, ◌==◌, if◌then◌else◌, Option, Some, None, List, [], ◌∷◌}
 use Rattle.shm_words.specs.declared.place.Place.TheVariants as place
-use Rattle.shm_words.specs.Layout.{GeometryFits, address}
+use Rattle.shm_words.specs.Layout.{GeometryFits, address, address_limit}
 use Rattle.shm_graph.specs.declared.ask.Ask.{Ask}
 use Rattle.shm_graph.specs.declared.ask.Ask.TheVariants.{Load}
 use Rattle.shm_graph.specs.declared.ask.Me.{Me}
@@ -53,10 +53,10 @@ find_answers m Key n b = if n == m.key then Some (At m.entry m.before m.word) el
 find_answers m Next n b = if b == 0 then Some (Absent m.home m.first) else None
 
 abbrev pub find_after : FindState → FindPoint → ℕ → FindState
-find_after m y n = find_goes m y (n % 2 ^ 20)
+find_after m y n = find_goes m y (n % address_limit)
 
 abbrev pub find_turns : FindState → FindPoint → ℕ → Option Found
-find_turns m y n = find_answers m y n (n % 2 ^ 20)
+find_turns m y n = find_answers m y n (n % address_limit)
 
 abbrev pub is_home : FindPoint → Bool
 is_home Home = true
@@ -67,8 +67,8 @@ pub record FindInRange (m : FindState) : Type 0 where
   pub geometry : GeometryFits m.me.geometry
   pub who : m.me.who < m.me.geometry.clients
   pub author : m.author < m.me.geometry.clients
-  pub directory : m.home < 2 ^ 20
-  pub block : m.entry < 2 ^ 20
+  pub directory : m.home < address_limit
+  pub block : m.entry < address_limit
 
 -- ---- all that is asked, with what it finds
 

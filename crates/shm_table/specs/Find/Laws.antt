@@ -4,7 +4,7 @@ use Rattle.std.specs.Prelude.{None, Some, ◌==◌, if◌then◌else◌}
 use Rattle.std.specs.List.{Contains}
 use Rattle.std.proofs.lemmas.Bool.{cases_eq, cond-false, cond-true, eq-eqb, ne_eqb}
 use Rattle.std.proofs.lemmas.List.Elements.{Contains-append_left, All-append, All-cons, All-nil}
-use Rattle.shm_words.specs.Layout.{total_of}
+use Rattle.shm_words.specs.Layout.{total_of, address_limit}
 use Rattle.shm_words.proofs.Placing.{total_small}
 use Rattle.shm_graph.specs.declared.ask.Me.{Me}
 use Rattle.shm_graph.specs.declared.memo.Memo.{Memo}
@@ -140,7 +140,7 @@ module _ (m : FindState) (r0 rs r : Memo) (tr t : Trail) (es ds : List Event) (n
           vacant = λ q some. absurd (some refl);
         }
 
-    some_home : n ≢ 0 → Goes (record m { point = point.Home }) point.Home n r0 r (tr ++ t) (es ++ ds) × (n < 2 ^ 20)
+    some_home : n ≢ 0 → Goes (record m { point = point.Home }) point.Home n r0 r (tr ++ t) (es ++ ds) × (n < address_limit)
     some_home some =
         let left : core r ≡ core (record rs { looks = rs.looks ++ record { block = n; from = Home a } ∷ [] }) =
         w.0.found.left ∙ ap core {y = record rs { looks = rs.looks ++ record { block = n; from = Home a } ∷ [] }} (cond-false (eqb n 0) _ _ (ne_eqb n 0 some)) in
@@ -192,7 +192,7 @@ module _ (m : FindState) (r0 rs r : Memo) (tr t : Trail) (es ds : List Event) (n
           vacant = λ q some. vacant q;
         }
 
-    some_first : n ≢ 0 → Goes (record m { point = point.Bucket }) point.Bucket n r0 r (tr ++ t) (es ++ ds) × (n < 2 ^ 20)
+    some_first : n ≢ 0 → Goes (record m { point = point.Bucket }) point.Bucket n r0 r (tr ++ t) (es ++ ds) × (n < address_limit)
     some_first some =
         let u = reference_reads m.home (m.key % 16) rs n r w.0.found in
         let is : IsIn r AnEntry n = look_in rs r m.home (m.key % 16) n Directory (table_of m.me a r0 rs h.may h.reads) u.0.part h.here.0 (u.1 some) in
@@ -331,7 +331,7 @@ module _ (m : FindState) (r0 rs r : Memo) (tr t : Trail) (es ds : List Event) (n
           vacant = λ q some. vacant q;
         }
 
-    some_next : n ≢ 0 → Goes (record m { point = point.Next }) point.Next n r0 r (tr ++ t) (es ++ ds) × (n < 2 ^ 20)
+    some_next : n ≢ 0 → Goes (record m { point = point.Next }) point.Next n r0 r (tr ++ t) (es ++ ds) × (n < address_limit)
     some_next some =
         let h = k.2 in
         let u = reference_reads m.entry 0 rs n r w.0.found.0 in

@@ -4,7 +4,7 @@ use Rattle.std.specs.Prelude.{None, Some, ◌==◌, if◌then◌else◌}
 use Rattle.std.specs.List.{Contains, list_any}
 use Rattle.std.proofs.lemmas.Bool.{cases_Bool, cases_eq, cond-false, cond-true, eq-eqb, false≢true, ne_eqb, or_left, or_right}
 use Rattle.std.proofs.lemmas.List.Elements.{Contains-append_left, Contains-push}
-use Rattle.shm_words.specs.Layout.{total_of}
+use Rattle.shm_words.specs.Layout.{total_of, address_limit}
 use Rattle.shm_graph.specs.declared.ask.Ask.{Ask}
 use Rattle.shm_graph.specs.declared.ask.Me.{Me}
 use Rattle.shm_graph.specs.declared.memo.Look.{Look}
@@ -176,14 +176,14 @@ one_more a n x tr u t before same asked = ap (λ (y : Trail). y ++ t) before ∙
 -- ---- answers
 
 -- by whether a word that was read names a block
-pub by_block : (n : ℕ) (a : Found) (K : ℕ → Type 0) (L : Found → Type 0) → (n ≢ 0 → K n × (n < 2 ^ 20)) → (n ≡ 0 → L a) → Outcome (if n % 2 ^ 20 == 0 then Some a else None) (K (n % 2 ^ 20)) L
+pub by_block : (n : ℕ) (a : Found) (K : ℕ → Type 0) (L : Found → Type 0) → (n ≢ 0 → K n × (n < address_limit)) → (n ≡ 0 → L a) → Outcome (if n % address_limit == 0 then Some a else None) (K (n % address_limit)) L
 by_block n a K L some none =
     elim (cases_eq n 0) [
-      | inl e ↦ (let z : n % 2 ^ 20 ≡ 0 = omega arith in subst (λ q. Outcome (if q then Some a else None) (K (n % 2 ^ 20)) L) (sym (eq-eqb (n % 2 ^ 20) 0 z)) (none e))
+      | inl e ↦ (let z : n % address_limit ≡ 0 = omega arith in subst (λ q. Outcome (if q then Some a else None) (K (n % address_limit)) L) (sym (eq-eqb (n % address_limit) 0 z)) (none e))
       | inr s ↦ (let u = some s in
           let low = u.1 in
-          let same : n % 2 ^ 20 ≡ n = omega arith in
-          subst (λ q. Outcome (if q then Some a else None) (K (n % 2 ^ 20)) L) (sym (ne_eqb (n % 2 ^ 20) 0 (λ z. s (sym same ∙ z)))) (subst K (sym same) u.0))
+          let same : n % address_limit ≡ n = omega arith in
+          subst (λ q. Outcome (if q then Some a else None) (K (n % address_limit)) L) (sym (ne_eqb (n % address_limit) 0 (λ z. s (sym same ∙ z)))) (subst K (sym same) u.0))
     ]
 
 -- a walk at a block is at an entry

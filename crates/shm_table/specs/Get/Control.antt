@@ -1,6 +1,6 @@
 -- the control of reading what a key has: which call comes next, and where it goes by what that call answered
 use Rattle.std.specs.Prelude.{ℕ, ◌%◌, ◌^◌, ◌<◌, Bool, true, false, Option, Some, None}
-use Rattle.shm_words.specs.Layout.{GeometryFits}
+use Rattle.shm_words.specs.Layout.{GeometryFits, address_limit}
 use Rattle.shm_graph.specs.declared.ask.Ask.{Ask}
 use Rattle.shm_graph.specs.declared.ask.Me.{Me}
 use Rattle.shm_graph.specs.Laws.{Control}
@@ -51,11 +51,11 @@ get_call m y = Second (First (record { me = m.me; ask = get_ask m y; over = fals
 
 -- where it goes by the word that was loaded
 abbrev pub read_after : GetState → GetPoint → ℕ → GetState
-read_after m Value n = record m { block = n % 2 ^ 20; point = Number }
+read_after m Value n = record m { block = n % address_limit; point = Number }
 read_after m y n = record m { number = n; point = Known }
 
 abbrev pub get_after : GetState → GetAnswer → GetState
-get_after m (First (At e b w)) = record m { entry = e % 2 ^ 20; point = Value }
+get_after m (First (At e b w)) = record m { entry = e % address_limit; point = Value }
 get_after m (First (Absent home first)) = record m { point = Missing }
 get_after m (Second (First n)) = read_after m m.point n
 get_after m (Second (Second done)) = m
@@ -78,8 +78,8 @@ pub record GetInRange (m : GetState) : Type 0 where
   pub geometry : GeometryFits m.me.geometry
   pub who : m.me.who < m.me.geometry.clients
   pub author : m.author < m.me.geometry.clients
-  pub entry : m.entry < 2 ^ 20
-  pub block : m.block < 2 ^ 20
+  pub entry : m.entry < address_limit
+  pub block : m.block < address_limit
 
 -- the control of its calls
 abbrev pub get_parts : Control GetCall GetAnswer

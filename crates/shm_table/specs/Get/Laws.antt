@@ -2,7 +2,7 @@
 use Rattle.std.proofs.Common.{◌≡◌, ◌≢◌, ℕ, ◌+◌, ◌%◌, ◌^◌, ◌<◌, refl, sym, ap, ◌∙◌, subst, arith, false, append_assoc, append-nil, List, [], ◌∷◌, ◌++◌}
 use Rattle.std.specs.Prelude.{Some}
 use Rattle.std.specs.List.{Contains}
-use Rattle.shm_words.specs.Layout.{total_of}
+use Rattle.shm_words.specs.Layout.{total_of, address_limit}
 use Rattle.shm_words.proofs.Placing.{total_small}
 use Rattle.shm_graph.specs.declared.ask.Me.{Me}
 use Rattle.shm_graph.specs.declared.memo.Memo.{Memo}
@@ -119,13 +119,13 @@ module _ (m : GetState) (r0 rs r : Memo) (tr t : Trail) (es ds : List Event) (he
         })
 
     -- this one has it
-    pub at_entry : (entry before word : ℕ) → Located m.me a m.key rs r t ds (At entry before word) → GetKnows (record m { entry = entry % 2 ^ 20; point = Value }) Value r0 r (tr ++ t) (es ++ ds)
+    pub at_entry : (entry before word : ℕ) → Located m.me a m.key rs r t ds (At entry before word) → GetKnows (record m { entry = entry % address_limit; point = Value }) Value r0 r (tr ++ t) (es ++ ds)
     at_entry entry before word located =
         let w = before_it (At entry before word) located in
         let f = w.found in
         let room = f.room in
         let total = total_small m.me.geometry h.0.geometry in
-        let small : entry % 2 ^ 20 ≡ entry = omega arith in
+        let small : entry % address_limit ≡ entry = omega arith in
         subst (λ (e : ℕ). GetKnows (record m { entry = e; point = Value }) Value r0 r (tr ++ t) (es ++ ds)) (sym small)
         (begun (GetKnows (record m { entry = entry; point = Value }) Value r0 r) (
           record {
@@ -161,7 +161,7 @@ module _ (m : GetState) (r0 rs r : Memo) (tr t : Trail) (es ds : List Event) (he
       }
 
   -- the value word names a block
-  pub value_read : (n : ℕ) → GetKnows (record m { point = Value }) Value r0 rs tr es → ReferenceLoaded m.entry 1 rs n r → ds ≡ [] → Asked (word_ask m.entry 1) (λ x. Answers x) t n → GetKnows (record m { block = n % 2 ^ 20; point = Number }) Number r0 r (tr ++ t) (es ++ ds)
+  pub value_read : (n : ℕ) → GetKnows (record m { point = Value }) Value r0 rs tr es → ReferenceLoaded m.entry 1 rs n r → ds ≡ [] → Asked (word_ask m.entry 1) (λ x. Answers x) t n → GetKnows (record m { block = n % address_limit; point = Number }) Number r0 r (tr ++ t) (es ++ ds)
   value_read n (h, here, room) left none asked =
       let more = reference_more m.entry 1 rs n r left in
       let reads = reference_reads m.entry 1 rs n r left in
@@ -172,7 +172,7 @@ module _ (m : GetState) (r0 rs r : Memo) (tr t : Trail) (es ds : List Event) (he
       let is : IsIn r AValue n = look_in rs r m.entry 1 n AnEntry (table_of m.me a r0 rs h.reading) reads.0.part here.0 looks in
       let inside : n + 2 < total_of m.me.geometry = value_room m.me r n h.reading.may.who held is in
       let total = total_small m.me.geometry h.reading.may.geometry in
-      let small : n % 2 ^ 20 ≡ n = omega arith in
+      let small : n % address_limit ≡ n = omega arith in
       subst (λ (b : ℕ). GetKnows (record m { block = b; point = Number }) Number r0 r (tr ++ t) (es ++ ds)) (sym small) (next, look_made rs r (Body m.entry 1) n looks, is, inside)
 
   -- its number is known

@@ -8,18 +8,16 @@ use Rattle.shm_graph.specs.Asks.{Trail}
 use Rattle.shm_graph.specs.Events.{Event}
 use Rattle.shm_graph.specs.Held.{HeldAt}
 use Rattle.shm_graph.specs.Views.{view}
-use Rattle.shm_calls.specs.declared.calls.Calls.{Calls}
 use Rattle.shm_calls.specs.declared.or.Or.TheVariants.{Second}
 use Rattle.shm_calls.specs.CallsControl.{calls_of}
 use Rattle.shm_calls.specs.CallsFit.{CallsFits}
 use Rattle.shm_calls.specs.Words.{word_control}
 use Rattle.shm_steps.specs.Reparting.{map_in}
-use Rattle.shm_script.specs.declared.log.Answer.{Answer}
 use Rattle.shm_table.specs.declared.find.Found.TheVariants.{Absent, At}
 use Rattle.shm_table.specs.declared.get.GetPoint.TheVariants.{Known}
 use Rattle.shm_table.specs.declared.get.GetState.{GetState}
 use Rattle.shm_table.specs.Find.Tells.{HasRead, absent_tells, author_maps, found_tells, has_read}
-use Rattle.shm_table.specs.Get.Control.{GetCalls, GetAnswer, GetCall, get_parts}
+use Rattle.shm_table.specs.Get.Control.{GetCalls, GetCall, get_parts}
 use Rattle.shm_table.specs.Get.{GetKnows, IsAt, IsTold, get_plan, number_trail}
 use Rattle.shm_table.specs.Locate.{Located}
 use Rattle.shm_table.specs.Unlatch.{UnlatchCalls, unlatch_plan, unlatching}

@@ -12,9 +12,8 @@ use Rattle.shm_calls.specs.CallsFit.{CallsFits, CallsGives}
 use Rattle.shm_count.specs.declared.answer.UpFault.{UpFault}
 use Rattle.shm_table.specs.declared.answer.PutFault.{PutFault}
 use Rattle.shm_script.specs.declared.log.Answer.{Answer}
-use Rattle.shm_table.specs.declared.del.DelState.{DelState}
 use Rattle.shm_table.specs.declared.replace.ReplaceState.{ReplaceState}
-use Rattle.shm_table.specs.Del.Control.{DelCalls, DelCall, DelCallAnswer, del_parts, deleting}
+use Rattle.shm_table.specs.Del.Control.{DelCalls, del_parts, deleting}
 use Rattle.shm_table.specs.Del.{del_plan}
 use Rattle.shm_table.specs.Replace.Control.{ReplaceAnswer, ReplaceCall, replace_parts, replacing}
 use Rattle.shm_table.specs.Replace.{replace_plan}

@@ -6,13 +6,11 @@ use Rattle.shm_graph.specs.Asks.{Trail}
 use Rattle.shm_graph.specs.Events.{Event}
 use Rattle.shm_graph.specs.Laws.{Control}
 use Rattle.shm_graph.specs.Tells.{happens_along}
-use Rattle.shm_calls.specs.declared.calls.Calls.{Calls}
 use Rattle.shm_calls.specs.CallsControl.{calls_control, calls_of, calls_does}
 use Rattle.shm_calls.specs.CallsFit.{CallsFits, CallsGives}
 use Rattle.shm_script.specs.declared.log.Answer.{Answer}
-use Rattle.shm_table.specs.declared.copy.CopyState.{CopyState}
 use Rattle.shm_table.specs.declared.fetch.Fetched.{Fetched}
-use Rattle.shm_table.specs.CopyKey.Control.{CopyCalls, CopyAnswer, CopyCall, copy_parts, copying, fetch_control}
+use Rattle.shm_table.specs.CopyKey.Control.{CopyCalls, copy_parts, copying, fetch_control}
 use Rattle.shm_table.specs.CopyKey.{copy_plan}
 use Rattle.shm_table.specs.Fetch.Control.{fetch_parts, fetching}
 use Rattle.shm_table.specs.Fetch.{fetch_plan}

@@ -11,9 +11,8 @@ use Rattle.shm_calls.specs.CallsControl.{calls_control, calls_of, calls_does}
 use Rattle.shm_calls.specs.CallsFit.{CallsFits, CallsGives}
 use Rattle.shm_table.specs.declared.answer.PutFault.{PutFault}
 use Rattle.shm_script.specs.declared.log.Answer.{Answer}
-use Rattle.shm_table.specs.declared.put.PutState.{PutState}
 use Rattle.shm_table.specs.declared.put_root.PutRootState.{PutRootState}
-use Rattle.shm_table.specs.Put.Control.{PutCalls, PutAnswer, PutCall, put_parts, putting}
+use Rattle.shm_table.specs.Put.Control.{PutCalls, put_parts, putting}
 use Rattle.shm_table.specs.Put.{put_plan}
 use Rattle.shm_table.specs.PutRoot.Control.{PutRootAnswer, PutRootCall, put_root_parts, putting_root}
 use Rattle.shm_table.specs.PutRoot.{put_root_plan}

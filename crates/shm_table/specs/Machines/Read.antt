@@ -6,14 +6,12 @@ use Rattle.shm_graph.specs.Asks.{Trail}
 use Rattle.shm_graph.specs.Events.{Event}
 use Rattle.shm_graph.specs.Laws.{Control}
 use Rattle.shm_graph.specs.Tells.{happens_along}
-use Rattle.shm_calls.specs.declared.calls.Calls.{Calls}
 use Rattle.shm_calls.specs.CallsControl.{calls_control, calls_of, calls_does}
 use Rattle.shm_calls.specs.CallsFit.{CallsFits, CallsGives}
 use Rattle.shm_calls.specs.Words.{word_control}
 use Rattle.shm_script.specs.declared.log.Answer.{Answer}
 use Rattle.shm_table.specs.declared.find.Found.{Found}
-use Rattle.shm_table.specs.declared.get.GetState.{GetState}
-use Rattle.shm_table.specs.Get.Control.{GetCalls, GetAnswer, GetCall, get_parts, getting}
+use Rattle.shm_table.specs.Get.Control.{GetCalls, get_parts, getting}
 use Rattle.shm_table.specs.Get.{get_plan}
 use Rattle.shm_table.specs.Locate.Control.{locate_parts, locating}
 use Rattle.shm_table.specs.Locate.{locate_control, locate_plan}

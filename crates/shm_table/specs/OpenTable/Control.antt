@@ -1,6 +1,6 @@
 -- the control of a machine by which a home comes to name a directory: which call comes next, and where it goes by what that call answered
 use Rattle.std.specs.Prelude.{ℕ, ◌%◌, ◌^◌, ◌<◌, Bool, true, false, ◌==◌, if◌then◌else◌, Option, Some, None, Result, Ok, Err, [], ◌∷◌}
-use Rattle.shm_words.specs.Layout.{GeometryFits}
+use Rattle.shm_words.specs.Layout.{GeometryFits, address_limit}
 use Rattle.shm_graph.specs.declared.ask.Ask.TheVariants as ask
 use Rattle.shm_graph.specs.declared.ask.Me.{Me}
 use Rattle.shm_graph.specs.Laws.{Control}
@@ -55,7 +55,7 @@ open_call_at m Drop = Second (Second (Second (calls_of drop_plan (dropping m.me 
 
 abbrev pub open_after : OpenState → OpenAnswer → OpenState
 open_after m (First n) = record m { point = Make }
-open_after m (Second (First (Ok a))) = record m { root = a.root % 16; block = a.block % 2 ^ 20; point = Name }
+open_after m (Second (First (Ok a))) = record m { root = a.root % 16; block = a.block % address_limit; point = Name }
 open_after m (Second (Second (First (Ok done)))) = record m { point = Drop }
 open_after m _ = m
 
@@ -77,7 +77,7 @@ pub record OpenInRange (m : OpenState) : Type 0 where
   pub geometry : GeometryFits m.me.geometry
   pub who : m.me.who < m.me.geometry.clients
   pub root : m.root < 16
-  pub block : m.block < 2 ^ 20
+  pub block : m.block < address_limit
 
 -- the control of its calls
 abbrev pub open_parts : Control OpenCall OpenAnswer

@@ -4,6 +4,7 @@ use Rattle.std.specs.Prelude.{◌==◌, if◌then◌else◌, Some, None, Ok, Err
 use Rattle.std.proofs.lemmas.Bool.{cases_eq, cond-false, lt-ltb, ne_eqb}
 use Rattle.shm_words.specs.declared.place.Place.TheVariants as place
 use Rattle.shm_words.proofs.Placing.{address_small, total_small}
+use Rattle.shm_words.specs.Layout.{address_limit}
 use Rattle.shm_graph.specs.declared.ask.Ask.TheVariants as ask
 use Rattle.shm_graph.specs.declared.ask.Me.{Me}
 use Rattle.shm_graph.specs.declared.memo.Memo.{Memo}
@@ -390,8 +391,8 @@ open_laws =
         let end = is.inside.1 in
         let low = is.has.low in
         let root : a.root % 16 ≡ a.root = omega arith in
-        let block : a.block % 2 ^ 20 ≡ a.block = omega arith in
-        subst (λ x. IsMade m.me x (a.block % 2 ^ 20) r0 r (tr ++ t) (es ++ ds)) (sym root) (subst (λ x. IsMade m.me a.root x r0 r (tr ++ t) (es ++ ds)) (sym block) is)
+        let block : a.block % address_limit ≡ a.block = omega arith in
+        subst (λ x. IsMade m.me x (a.block % address_limit) r0 r (tr ++ t) (es ++ ds)) (sym root) (subst (λ x. IsMade m.me a.root x r0 r (tr ++ t) (es ++ ds)) (sym block) is)
     leads m Make r0 rs r tr t es ds (Second (First (Err f))) h g held agent = unmade m.me r0 rs r tr t es ds held agent directory_request f directory_fits h g
     leads m Name r0 rs r tr t es ds (Second (Second (First (Ok u)))) h g held agent = named m.me r0 rs r tr t es ds held agent m.root m.block u h g.0.0
     leads m Name r0 rs r tr t es ds (Second (Second (First (Err (EraSpent e))))) h g held agent = unnamed m.me r0 rs r tr t es ds held agent m.root m.block e h g.0.0

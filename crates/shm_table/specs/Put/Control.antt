@@ -1,6 +1,6 @@
 -- the control of a put: which call comes next, and where it goes by what that call answered
 use Rattle.std.specs.Prelude.{ℕ, ◌%◌, ◌^◌, ◌<◌, Bool, true, false, Option, Some, None, Result, Ok, Err, [], ◌∷◌}
-use Rattle.shm_words.specs.Layout.{GeometryFits}
+use Rattle.shm_words.specs.Layout.{GeometryFits, address_limit}
 use Rattle.shm_graph.specs.declared.ask.Me.{Me}
 use Rattle.shm_graph.specs.Laws.{Control}
 use Rattle.shm_calls.specs.declared.calls.Calls.{Calls}
@@ -65,7 +65,7 @@ stuck_answer b None e = Stored b
 stuck_answer b (Some f) e = fault_answer (spent_fault e)
 
 abbrev pub put_after : PutState → PutAnswer → PutState
-put_after m (First (Ok made)) = record m { root = made.root % 16; block = made.block % 2 ^ 20; point = point.Put }
+put_after m (First (Ok made)) = record m { root = made.root % 16; block = made.block % address_limit; point = point.Put }
 put_after m (First (Err f)) = m
 put_after m (Second (First done)) = record m { decided = decided_of done; refused = fault_of done; point = point.Drop }
 put_after m (Second (Second a)) = m
@@ -86,7 +86,7 @@ pub record PutInRange (m : PutState) : Type 0 where
   pub geometry : GeometryFits m.me.geometry
   pub who : m.me.who < m.me.geometry.clients
   pub root : m.root < 16
-  pub block : m.block < 2 ^ 20
+  pub block : m.block < address_limit
 
 -- the control of its calls
 abbrev pub put_parts : Control PutCall PutAnswer

@@ -8,9 +8,11 @@ use Rattle.shm_words.specs.Tags.{tag_plain, tag_refs, TagFits}
 use Rattle.shm_words.specs.declared.tag.Tag.{Tag as ATag}
 use Rattle.shm_words.proofs.Placing.{total_small}
 use Rattle.shm_words.proofs.Words.{tag_plain-word, tag_refs-word}
+use Rattle.shm_words.specs.Layout.{address_limit}
 use Rattle.shm_graph.specs.declared.ask.Me.{Me}
 use Rattle.shm_graph.specs.declared.memo.Making.{Making}
 use Rattle.shm_graph.specs.declared.memo.Memo.{Memo}
+use Rattle.shm_graph.specs.declared.table.Part.{Part}
 use Rattle.shm_graph.specs.declared.spot.Spot.TheVariants.{Body, Home}
 use Rattle.shm_graph.specs.declared.spot.Spot.TheVariants as spot
 use Rattle.shm_graph.specs.Agents.{recovers}
@@ -20,7 +22,7 @@ use Rattle.shm_graph.specs.Events.{Event}
 use Rattle.shm_graph.specs.Held.{is_loose}
 use Rattle.shm_graph.specs.Readings.{valued}
 use Rattle.shm_graph.specs.Views.{own_word}
-use Rattle.shm_steps.specs.Reparting.{sight, IsValue}
+use Rattle.shm_steps.specs.Reparting.{sight, map_in, IsValue}
 use Rattle.shm_calls.specs.declared.or.Or.TheVariants.{First, Second}
 use Rattle.shm_calls.specs.CallTells.{within_more}
 use Rattle.shm_calls.specs.CallsPart.{calls_part, calls_part_laws}
@@ -53,6 +55,7 @@ use Rattle.shm_table.specs.declared.put.PutState.{PutState}
 use Rattle.shm_table.specs.Answers.{fault_answer, made_fault}
 use Rattle.shm_table.specs.Put.Control.{PutAnswer, is_make, put_call_at, put_parts, value_request}
 use Rattle.shm_table.specs.Commands.{CommandCause, MayCommand, RestSo, cause_put, cause_then, left_too}
+use Rattle.shm_table.specs.Put.Fresh.{not_mapped}
 use Rattle.shm_table.specs.Put.{HasValue, IsPut, NotStored, PutKnows, PutLeaves, put_part, put_plan}
 use Rattle.shm_table.specs.PutRoot.Control.{put_root_parts, putting_root}
 use Rattle.shm_table.specs.PutRoot.{IsDecided, IsEraSpent, PutRootLeaves, put_root_control, put_root_plan, put_root_steps}
@@ -200,10 +203,10 @@ module _ (m : PutState) (r0 rs r : Memo) (tr t : Trail) (es ds : List Event) (he
           let low = h.gives.root in
           let block = inside.1 in
           let total = total_small m.me.geometry may.geometry in
-          let is : a.block ≡ a.block % 2 ^ 20 = omega arith in
+          let is : a.block ≡ a.block % address_limit = omega arith in
           let at : a.root ≡ a.root % 16 = omega arith in
           let b = alloc_bound m.me q (value_fits m.number number) t (Ok a) w.trail in
-          subst (λ k. HasValue m.me m.key m.number k (a.block % 2 ^ 20) r0 r t ds) at
+          subst (λ k. HasValue m.me m.key m.number k (a.block % address_limit) r0 r t ds) at
           (subst (λ d. HasValue m.me m.key m.number a.root d r0 r t ds) is
           (record {
             may = may;
@@ -218,6 +221,7 @@ module _ (m : PutState) (r0 rs r : Memo) (tr t : Trail) (es ds : List Event) (he
             dying = h.stays.dying;
             map = same_part r0 r h.stays.part;
             value = value_made m.me q r0 r a small h refl refl may.table;
+            fresh = λ i e. not_mapped m.me r a.block held may.who h.gives.made m.key i (ap (λ (x : Part). map_in x m.key) h.stays.part ∙ e);
             told = w.events;
             bound = omega arith;
           }))
@@ -260,6 +264,7 @@ module _ (m : PutState) (r0 rs r : Memo) (tr t : Trail) (es ds : List Event) (he
             | inr d ↦ inr (d.0, sym (h.map m.key) ∙ d.1)
           ],
         );
+        fresh = h.fresh;
         made = (ds, ap (λ (u : List Event). u ++ ds) h.told);
         keys = w.keys;
         search = inr (search_before m.me c m.key w.keys tr t w.search);
@@ -279,6 +284,7 @@ module _ (m : PutState) (r0 rs r : Memo) (tr t : Trail) (es ds : List Event) (he
         empty = h.empty;
         rest = elim w.cleared [ inl y ↦ inl ((λ j n. y.roots j ∙ h.others j n), y.dying ∙ h.dying) | inr y ↦ inr y ];
         value = (same_more r0 rs r h.map w.map, cause_put m.me m.root r0 rs r f h.low h.empty h.others w.cause);
+        fresh = h.fresh;
         made = (ds, ap (λ (u : List Event). u ++ ds) h.told);
         keys = w.keys;
         search = elim w.search [ inl y ↦ inl y | inr y ↦ inr (search_before m.me c m.key w.keys tr t y) ];
@@ -314,7 +320,7 @@ module _ (m : PutState) (r0 rs r : Memo) (tr t : Trail) (es ds : List Event) (he
         home = λ e. h.value.1 (sym n.1 ∙ e);
         map = set_then m.key m.number m.block r0 rs r h.value.0 (same_dropped (Ok z) w);
         made = (m.root, h.made.0 ++ ds, ap (λ (u : List Event). u ++ ds) h.made.1);
-        decided = elim h.value.2 [ inl d ↦ inl (subst (λ b. IsDecided c m.key b m.block (es ++ ds)) (sym n.1) (decided_more c m.key (own_word rs.own (Home c)) m.block es ds d)) | inr d ↦ inr d ];
+        decided = elim h.value.2 [ inl d ↦ subst (λ b. IsDecided c m.key b m.block (es ++ ds)) (sym n.1) (decided_more c m.key (own_word rs.own (Home c)) m.block es ds d) | inr d ↦ absurd (h.fresh d.0 d.1) ];
         ended = ended_so z w h.empty h.rest;
         keys = h.keys;
         search = elim h.search [ inl y ↦ inl y | inr y ↦ inr (search_more m.me c m.key h.keys tr t y) ];
@@ -333,7 +339,7 @@ module _ (m : PutState) (r0 rs r : Memo) (tr t : Trail) (es ds : List Event) (he
         home = λ e. h.value.1 (sym n.1 ∙ e);
         map = set_then m.key m.number m.block r0 rs r h.value.0 (same_dropped (Err e) (vs, w));
         made = (m.root, h.made.0 ++ ds, ap (λ (u : List Event). u ++ ds) h.made.1);
-        decided = elim h.value.2 [ inl d ↦ inl (subst (λ b. IsDecided c m.key b m.block (es ++ ds)) (sym n.1) (decided_more c m.key (own_word rs.own (Home c)) m.block es ds d)) | inr d ↦ inr d ];
+        decided = elim h.value.2 [ inl d ↦ subst (λ b. IsDecided c m.key b m.block (es ++ ds)) (sym n.1) (decided_more c m.key (own_word rs.own (Home c)) m.block es ds d) | inr d ↦ absurd (h.fresh d.0 d.1) ];
         ended = inr (e.era, spent_drop (dropping m.me m.root) r0 rs r t ds e (vs, w));
         keys = h.keys;
         search = elim h.search [ inl y ↦ inl y | inr y ↦ inr (search_more m.me c m.key h.keys tr t y) ];

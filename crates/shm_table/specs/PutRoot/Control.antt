@@ -1,6 +1,6 @@
 -- the control of putting a value block into the own table: which call comes next, and where it goes by what that call answered
 use Rattle.std.specs.Prelude.{ℕ, ◌+◌, ◌-◌, ◌%◌, ◌^◌, ◌<◌, nat_lt, Bool, true, false, if◌then◌else◌, Option, Some, None, IfSome, Result, Ok, Err}
-use Rattle.shm_words.specs.Layout.{GeometryFits}
+use Rattle.shm_words.specs.Layout.{GeometryFits, address_limit}
 use Rattle.shm_graph.specs.declared.ask.Me.{Me}
 use Rattle.shm_graph.specs.Laws.{Control}
 use Rattle.shm_calls.specs.declared.calls.Calls.{Calls}
@@ -86,12 +86,12 @@ put_root_call m point.Drop = Second (Second (Second (calls_of drop_plan (droppin
 
 -- a directory that lies in a pool
 abbrev pub home_of : ℕ → ℕ
-home_of b = if nat_lt b (2 ^ 20 - 17) then b else 0
+home_of b = if nat_lt b (address_limit - 17) then b else 0
 
 -- by where the key is
 abbrev pub located_after : PutRootState → Found → PutRootState
-located_after m (At entry before word) = record m { entry = entry % 2 ^ 20; point = point.Replace }
-located_after m (Absent home first) = record m { home = home_of home; first = first % 2 ^ 20; point = point.Enter }
+located_after m (At entry before word) = record m { entry = entry % address_limit; point = point.Replace }
+located_after m (Absent home first) = record m { home = home_of home; first = first % address_limit; point = point.Enter }
 
 -- by why the entry hasn't the block, and by whether it came to have it
 abbrev pub fault_of : Result Bool PutFault → Option PutFault
@@ -148,10 +148,10 @@ is_open y = false
 pub record PutRootInRange (m : PutRootState) : Type 0 where
   pub geometry : GeometryFits m.me.geometry
   pub who : m.me.who < m.me.geometry.clients
-  pub value : m.value < 2 ^ 20
-  pub home : m.home + 17 < 2 ^ 20
-  pub first : m.first < 2 ^ 20
-  pub entry : m.entry < 2 ^ 20
+  pub value : m.value < address_limit
+  pub home : m.home + 17 < address_limit
+  pub first : m.first < address_limit
+  pub entry : m.entry < address_limit
   pub root : IfSome m.root (λ k. k < 16)
 
 -- the control of its calls

@@ -3,6 +3,7 @@ use Rattle.std.proofs.Common.{◌≡◌, ◌≢◌, ℕ, zero, suc, ◌+◌, ◌
 use Rattle.std.specs.Prelude.{◌==◌, if◌then◌else◌}
 use Rattle.std.proofs.lemmas.Bool.{cond-true, lt-ltb}
 use Rattle.shm_words.proofs.Placing.{total_small}
+use Rattle.shm_words.specs.Layout.{address_limit}
 use Rattle.shm_graph.specs.declared.ask.Me.{Me}
 use Rattle.shm_graph.specs.declared.memo.Memo.{Memo}
 use Rattle.shm_graph.specs.declared.spot.Spot.TheVariants.{Home}
@@ -128,12 +129,12 @@ module _ (me : Me) (key v : ℕ) (r0 rs r : Memo) (t : Trail) (es ds : List Even
 
 -- an entry was found
 pub located_at : (me : Me) (key v : ℕ) (r0 rs r : Memo) (t : Trail) (es ds : List Event) (entry before word : ℕ) → IsHeld me r → recovers r ≡ recovers rs → IsPutting me key v None r0 rs → Located me me.who key rs r t ds (At entry before word)
-    → (n : ℕ) × MayReplace me key v n (entry % 2 ^ 20) before word r
+    → (n : ℕ) × MayReplace me key v n (entry % address_limit) before word r
 located_at me key v r0 rs r t es ds entry before word held agent h w =
     let may = h.may.2 in
     let total = total_small me.geometry may.geometry in
     let room = w.found.room in
-    let small : entry ≡ entry % 2 ^ 20 = omega arith in (
+    let small : entry ≡ entry % address_limit = omega arith in (
       h.may.0,
       subst (λ b. MayReplace me key v h.may.0 b before word r) small
           (record {
@@ -153,7 +154,7 @@ located_at me key v r0 rs r t es ds entry before word held agent h w =
 
 -- no entry has the key
 pub located_absent : (me : Me) (key v : ℕ) (r0 rs r : Memo) (t : Trail) (es ds : List Event) (home first : ℕ) → IsHeld me r → recovers r ≡ recovers rs → IsPutting me key v None r0 rs → Located me me.who key rs r t ds (Absent home first)
-    → (n : ℕ) × MayEnter me key v n (home_of home) (first % 2 ^ 20) r
+    → (n : ℕ) × MayEnter me key v n (home_of home) (first % address_limit) r
 located_absent me key v r0 rs r t es ds home first held agent h w =
     let may = h.may.2 in
     let total = total_small me.geometry may.geometry in
@@ -162,13 +163,13 @@ located_absent me key v r0 rs r t es ds home first held agent h w =
     let vacant : IsVacant me.who r key first = w.found.vacant refl (λ e. putting.home (here ∙ e)) in
     let role : role_in (roles r) home ≡ Directory = ap (role_in (roles r)) (sym here) ∙ vacant.role in
     let inside = told_inside me r (shaped r.latch home Directory) may.who held (role_told me.who r home Directory role (λ z. cc)) in
-    let low : home ≡ home_of home = sym (cond-true _ _ _ (lt-ltb home (2 ^ 20 - 17) (omega arith))) in
-    let small : first ≡ first % 2 ^ 20 = elim (is_zero first) [
+    let low : home ≡ home_of home = sym (cond-true _ _ _ (lt-ltb home (address_limit - 17) (omega arith))) in
+    let small : first ≡ first % address_limit = elim (is_zero first) [
       | inl e ↦ omega arith
       | inr some ↦ (let l = (reached_counted me may.who r first held (look_reached me.who r first (vacant.next some))).0.1 in omega arith)
     ] in (
       h.may.0,
-      subst (λ d. MayEnter me key v h.may.0 d (first % 2 ^ 20) r) low
+      subst (λ d. MayEnter me key v h.may.0 d (first % address_limit) r) low
           (subst (λ b. MayEnter me key v h.may.0 home b r) small
           (record {
             geometry = may.geometry;

@@ -1,6 +1,6 @@
 -- the control of a receive into a table: which call comes next, and where it goes by what that call answered
 use Rattle.std.specs.Prelude.{ℕ, ◌%◌, ◌^◌, ◌<◌, Bool, true, false, Option, Some, None, Result, Ok, Err}
-use Rattle.shm_words.specs.Layout.{GeometryFits}
+use Rattle.shm_words.specs.Layout.{GeometryFits, address_limit}
 use Rattle.shm_graph.specs.declared.ask.Me.{Me}
 use Rattle.shm_graph.specs.Laws.{Control}
 use Rattle.shm_calls.specs.declared.calls.Calls.{Calls}
@@ -72,7 +72,7 @@ recv_call_at m point.Drop = Second (Second (calls_of drop_plan (dropping m.me m.
 abbrev pub fetched_after : RecvState → FetchedHead → RecvState
 fetched_after m (Empty n) = m
 fetched_after m (Refused f) = m
-fetched_after m (Rooted k b v n) = record m { root = k % 16; block = b % 2 ^ 20; number = v; at = n; point = point.Put }
+fetched_after m (Rooted k b v n) = record m { root = k % 16; block = b % address_limit; number = v; at = n; point = point.Put }
 
 abbrev pub fetched_turns : FetchedHead → Option Answer
 fetched_turns (Empty n) = Some (answer.Empty n)
@@ -107,7 +107,7 @@ pub record RecvInRange (m : RecvState) : Type 0 where
   pub who : m.me.who < m.me.geometry.clients
   pub from : m.from < m.me.geometry.clients
   pub root : m.root < 16
-  pub block : m.block < 2 ^ 20
+  pub block : m.block < address_limit
 
 -- the control of its calls
 abbrev pub recv_parts : Control RecvCall RecvAnswer

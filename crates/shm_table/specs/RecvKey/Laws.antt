@@ -4,6 +4,7 @@ use Rattle.std.specs.Prelude.{Result, Ok, Err, length, slice_index}
 use Rattle.std.specs.List.{All, Contains}
 use Rattle.std.proofs.lemmas.Bool.{cases_eq, cond-false, cond-true, eq-eqb, ne_eqb}
 use Rattle.std.proofs.lemmas.List.Elements.{All-nil, Contains-append_left, Contains-append_right}
+use Rattle.shm_words.specs.Layout.{address_limit}
 use Rattle.shm_graph.specs.declared.ask.Me.{Me}
 use Rattle.shm_graph.specs.declared.memo.Memo.{Memo}
 use Rattle.shm_graph.specs.declared.spot.Spot.TheVariants as spot
@@ -201,9 +202,9 @@ module _ (m : RecvState) (r0 rs r : Memo) (tr t : Trail) (es ds : List Event) (h
       go (fetched.Rooted k b v n) w =
           let low = w.low in
           let small = w.small in
-          let is : b ≡ b % 2 ^ 20 = omega arith in
+          let is : b ≡ b % address_limit = omega arith in
           let at : k ≡ k % 16 = omega arith in
-          (may, subst (λ i. IsHeadRooted m.me s i (b % 2 ^ 20) v n r0 r t ds) at (subst (λ d. IsHeadRooted m.me s k d v n r0 r t ds) is w))
+          (may, subst (λ i. IsHeadRooted m.me s i (b % address_limit) v n r0 r t ds) at (subst (λ d. IsHeadRooted m.me s k d v n r0 r t ds) is w))
 
   -- the key has the value block
   put_in : (z : Bool) → RecvKnows (record m { point = Put }) Put r0 rs tr es → PutRootDone m.me m.key m.block rs r t ds → RecvKnows (record m { decided = z; refused = None; point = Take }) Take r0 r (tr ++ t) (es ++ ds)

@@ -1,6 +1,6 @@
 -- the control of giving an entry another value block: which call comes next, and where it goes by what that call answered
 use Rattle.std.specs.Prelude.{ℕ, ◌+◌, ◌%◌, ◌^◌, ◌<◌, Bool, true, false, ◌==◌, if◌then◌else◌, Option, Some, None, Result, Ok, Err}
-use Rattle.shm_words.specs.Layout.{GeometryFits}
+use Rattle.shm_words.specs.Layout.{GeometryFits, address_limit}
 use Rattle.shm_graph.specs.declared.ask.Me.{Me}
 use Rattle.shm_graph.specs.Laws.{Control}
 use Rattle.shm_calls.specs.declared.or.Or.{Or}
@@ -37,17 +37,17 @@ replacing me b to = record { me = me; entry = b; to = to; before = 0; point = Lo
 
 abbrev pub replace_call_at : ReplaceState → ReplacePoint → ReplaceCall
 replace_call_at m Look = First (record { me = m.me; ask = word_ask m.entry 1; over = false })
-replace_call_at m Change = Second (First (record { me = m.me; slot = (m.entry + 2 + 1) % 2 ^ 20; aim = aims.Change m.before m.to; point = Era }))
+replace_call_at m Change = Second (First (record { me = m.me; slot = (m.entry + 2 + 1) % address_limit; aim = aims.Change m.before m.to; point = Era }))
 replace_call_at m Tear = Second (Second (record { me = m.me; first = m.before; block = m.before; point = Begin }))
 
 -- ---- where it goes
 
 -- by the word that was found; it answers whether the entry came to have the value block, or had it already
 abbrev pub found_after : ReplaceState → ℕ → ReplaceState
-found_after m n = record m { before = n % 2 ^ 20; point = Change }
+found_after m n = record m { before = n % address_limit; point = Change }
 
 abbrev pub found_turns : ReplaceState → ℕ → Option (Result Bool PutFault)
-found_turns m n = if n % 2 ^ 20 == m.to then Some (Ok false) else None
+found_turns m n = if n % address_limit == m.to then Some (Ok false) else None
 
 -- by whether the count of the old block came to 0
 abbrev pub lowered_after : ReplaceState → Bool → ReplaceState
@@ -77,9 +77,9 @@ is_look y = false
 pub record ReplaceInRange (m : ReplaceState) : Type 0 where
   pub geometry : GeometryFits m.me.geometry
   pub who : m.me.who < m.me.geometry.clients
-  pub entry : m.entry < 2 ^ 20
-  pub to : m.to < 2 ^ 20
-  pub before : m.before < 2 ^ 20
+  pub entry : m.entry < address_limit
+  pub to : m.to < address_limit
+  pub before : m.before < address_limit
 
 -- the control of its calls
 abbrev pub replace_parts : Control ReplaceCall ReplaceAnswer

@@ -5,7 +5,7 @@ use Rattle.std.specs.List.{All, Contains}
 use Rattle.std.proofs.lemmas.Bool.{cases_eq, eq-eqb, ne_eqb}
 use Rattle.std.proofs.lemmas.List.Elements.{All-nil}
 use Rattle.shm_words.proofs.Placing.{total_small}
-use Rattle.shm_words.specs.Layout.{total_of}
+use Rattle.shm_words.specs.Layout.{total_of, address_limit}
 use Rattle.shm_graph.specs.declared.ask.Me.{Me}
 use Rattle.shm_graph.specs.declared.memo.Memo.{Memo}
 use Rattle.shm_graph.specs.declared.spot.Spot.{Spot}
@@ -160,9 +160,9 @@ module _ (me : Me) (b v old : ℕ) (r0 q r : Memo) (seen : IsSeen me b v old r0 
 -- ---- what follows each call
 
 -- by whether the block that was read is the one
-by_target : (n to : ℕ) (A : Type 0) (a : A) (K : ℕ → Type 0) (L : A → Type 0) → n < 2 ^ 20 → (n ≢ to → K n) → (n ≡ to → L a) → Outcome (if n % 2 ^ 20 == to then Some a else None) (K (n % 2 ^ 20)) L
+by_target : (n to : ℕ) (A : Type 0) (a : A) (K : ℕ → Type 0) (L : A → Type 0) → n < address_limit → (n ≢ to → K n) → (n ≡ to → L a) → Outcome (if n % address_limit == to then Some a else None) (K (n % address_limit)) L
 by_target n to A a K L low other same =
-    let small : n % 2 ^ 20 ≡ n = omega arith in
+    let small : n % address_limit ≡ n = omega arith in
     subst (λ z. Outcome (if z == to then Some a else None) (K z) L) (sym small)
     (elim (cases_eq n to) [
       | inl e ↦ subst (λ z. Outcome (if z then Some a else None) (K n) L) (sym (eq-eqb n to e)) (same e)
@@ -185,7 +185,7 @@ module _ (me : Me) (b v old : ℕ) (r0 rs r : Memo) (tr t : Trail) (es ds : List
     one : IsWithin 1 (tr ++ t)
     one = let e = ap length (ap (λ (x : Trail). x ++ t) h.2) in let o = w.one in omega arith
 
-    look_small : n < 2 ^ 20
+    look_small : n < address_limit
     look_small = let total = total_small me.geometry h.0.4.geometry in let low = (counted me b v n r0 r h.0 found held client).0.1 in omega arith
 
     look_other : n ≢ v → IsSeen me b v n r0 r × (es ++ ds ≡ []) × IsWithin 1 (tr ++ t)

@@ -1,6 +1,6 @@
 -- the control of sending what an own key has: which call comes next, and where it goes by what that call answered
 use Rattle.std.specs.Prelude.{ℕ, ◌%◌, ◌^◌, ◌<◌, Bool, true, false, Option, Some, None, Result, Ok, Err}
-use Rattle.shm_words.specs.Layout.{GeometryFits}
+use Rattle.shm_words.specs.Layout.{GeometryFits, address_limit}
 use Rattle.shm_graph.specs.declared.ask.Me.{Me}
 use Rattle.shm_graph.specs.Laws.{Control}
 use Rattle.shm_calls.specs.declared.calls.Calls.{Calls}
@@ -57,9 +57,9 @@ sent_answer (Err (EraSpent e)) = answer.EraSpent e
 sent_answer (Err (CountFull b n)) = answer.CountFull b n
 
 abbrev pub send_key_after : SendKeyState → SendKeyAnswer → SendKeyState
-send_key_after m (First (At e b w)) = record m { entry = e % 2 ^ 20; point = Value }
+send_key_after m (First (At e b w)) = record m { entry = e % address_limit; point = Value }
 send_key_after m (First (Absent home first)) = record m { outcome = answer.Missing; point = Give }
-send_key_after m (Second (First n)) = record m { block = n % 2 ^ 20; point = Send }
+send_key_after m (Second (First n)) = record m { block = n % address_limit; point = Send }
 send_key_after m (Second (Second (First a))) = record m { outcome = sent_answer a; point = Give }
 send_key_after m (Second (Second (Second done))) = m
 
@@ -78,8 +78,8 @@ pub record SendKeyInRange (m : SendKeyState) : Type 0 where
   pub geometry : GeometryFits m.me.geometry
   pub who : m.me.who < m.me.geometry.clients
   pub to : m.to < m.me.geometry.clients
-  pub entry : m.entry < 2 ^ 20
-  pub block : m.block < 2 ^ 20
+  pub entry : m.entry < address_limit
+  pub block : m.block < address_limit
 
 -- the control of its calls
 abbrev pub send_key_parts : Control SendKeyCall SendKeyAnswer

@@ -1,6 +1,7 @@
 -- what is owed of sending what an own key has
 use Rattle.std.proofs.Common.{◌≡◌, ℕ, ◌+◌, ◌*◌, ◌%◌, ◌^◌, refl, sym, ap, ◌∙◌, subst, arith, false, List, [], ◌∷◌, ◌++◌}
 use Rattle.std.specs.Prelude.{Some, None, Ok, Err, slice_index}
+use Rattle.shm_words.specs.Layout.{address_limit}
 use Rattle.shm_graph.specs.declared.ask.Me.{Me}
 use Rattle.shm_graph.specs.declared.memo.Memo.{Memo}
 use Rattle.shm_graph.specs.declared.spot.Spot.TheVariants.{Body, Era, Home, Slot, Tail}
@@ -96,7 +97,7 @@ module _ (m : SendKeyState) (r0 rs r : Memo) (tr t : Trail) (es ds : List Event)
   c = m.me.who
 
   -- the search found an entry
-  at_value : (entry before word : ℕ) → SendKeyKnows (record m { point = Search }) Search r0 rs tr es → Located m.me c m.key rs r t ds (At entry before word) → SendKeyKnows (record m { entry = entry % 2 ^ 20; point = Value }) Value r0 r (tr ++ t) (es ++ ds)
+  at_value : (entry before word : ℕ) → SendKeyKnows (record m { point = Search }) Search r0 rs tr es → Located m.me c m.key rs r t ds (At entry before word) → SendKeyKnows (record m { entry = entry % address_limit; point = Value }) Value r0 r (tr ++ t) (es ++ ds)
   at_value entry before word (may, same, none, quiet) w = (
     at_entry (got m get.Search) r0 rs r tr t es ds held (may.locate, same, none, quiet) entry before word w,
     search_on m.me c m.key entry before word rs r tr t ds none (agent ∙ (ap recovers same ∙ may.client)) w,
@@ -104,7 +105,7 @@ module _ (m : SendKeyState) (r0 rs r : Memo) (tr t : Trail) (es ds : List Event)
   )
 
   -- its value word was read
-  at_send : (n : ℕ) → SendKeyKnows (record m { point = Value }) Value r0 rs tr es → ReferenceLoaded m.entry 1 rs n r → ds ≡ [] → Asked (word_ask m.entry 1) (λ x. Answers x) t n → SendKeyKnows (record m { block = n % 2 ^ 20; point = Send }) Send r0 r (tr ++ t) (es ++ ds)
+  at_send : (n : ℕ) → SendKeyKnows (record m { point = Value }) Value r0 rs tr es → ReferenceLoaded m.entry 1 rs n r → ds ≡ [] → Asked (word_ask m.entry 1) (λ x. Answers x) t n → SendKeyKnows (record m { block = n % address_limit; point = Send }) Send r0 r (tr ++ t) (es ++ ds)
   at_send n (h, on, may) left none asked =
       let next = value_read (got m get.Value) r0 rs r tr t es ds held n h left none asked in (
         next,

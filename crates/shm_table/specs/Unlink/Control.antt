@@ -1,6 +1,6 @@
 -- the control of taking an entry out of its chain: which call comes next, and where it goes by what that call answered
 use Rattle.std.specs.Prelude.{ℕ, ◌+◌, ◌%◌, ◌^◌, ◌<◌, Bool, true, false, ◌==◌, if◌then◌else◌, Option, Some, None, Result, Ok, Err}
-use Rattle.shm_words.specs.Layout.{GeometryFits}
+use Rattle.shm_words.specs.Layout.{GeometryFits, address_limit}
 use Rattle.shm_graph.specs.declared.ask.Me.{Me}
 use Rattle.shm_graph.specs.Laws.{Control}
 use Rattle.shm_calls.specs.declared.or.Or.{Or}
@@ -37,7 +37,7 @@ unlinking me b d i = record { me = me; entry = b; before = d; word = i; next = 0
 
 -- the address of the word that leads to the entry
 abbrev pub link_at : UnlinkState → ℕ
-link_at m = (m.before + 2 + m.word) % 2 ^ 20
+link_at m = (m.before + 2 + m.word) % address_limit
 
 abbrev pub unlink_call_at : UnlinkState → UnlinkPoint → UnlinkCall
 unlink_call_at m Look = First (record { me = m.me; ask = word_ask m.entry 0; over = false })
@@ -53,7 +53,7 @@ step_point next = if next == 0 then Lower else Change
 
 -- by the word that was found
 abbrev pub found_after : UnlinkState → ℕ → UnlinkState
-found_after m n = record m { next = n % 2 ^ 20; point = step_point (n % 2 ^ 20) }
+found_after m n = record m { next = n % address_limit; point = step_point (n % address_limit) }
 
 -- by whether the count of the entry came to 0
 abbrev pub lowered_after : UnlinkState → Bool → UnlinkState
@@ -90,9 +90,9 @@ is_look y = false
 pub record UnlinkInRange (m : UnlinkState) : Type 0 where
   pub geometry : GeometryFits m.me.geometry
   pub who : m.me.who < m.me.geometry.clients
-  pub entry : m.entry < 2 ^ 20
-  pub before : m.before < 2 ^ 20
-  pub next : m.next < 2 ^ 20
+  pub entry : m.entry < address_limit
+  pub before : m.before < address_limit
+  pub next : m.next < address_limit
 
 -- the control of its calls
 abbrev pub unlink_parts : Control UnlinkCall UnlinkAnswer

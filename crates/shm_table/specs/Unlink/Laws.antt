@@ -5,6 +5,7 @@ use Rattle.std.specs.List.{All, Contains}
 use Rattle.std.proofs.lemmas.Bool.{cases_eq, eq-eqb, ne_eqb}
 use Rattle.std.proofs.lemmas.List.Elements.{All-nil}
 use Rattle.shm_words.proofs.Placing.{total_small}
+use Rattle.shm_words.specs.Layout.{address_limit}
 use Rattle.shm_graph.specs.declared.ask.Me.{Me}
 use Rattle.shm_graph.specs.declared.memo.Memo.{Memo}
 use Rattle.shm_graph.specs.declared.spot.Spot.{Spot}
@@ -83,7 +84,7 @@ module _ (me : Me) (b d i n : ℕ) (r0 r : Memo) (begun : MayBegin me b d i r0) 
   any : LinkSteps me begun.0 b d i n r
   any = steps begun.0 may
 
-  next_small : n < 2 ^ 20
+  next_small : n < address_limit
   next_small = elim (cases_eq n 0) [
     | inl e ↦ omega arith
     | inr some ↦ (let total = total_small me.geometry may.geometry in
@@ -159,9 +160,9 @@ frees_link c b d i (suc n) es = omega arith
 -- ---- what follows each call
 
 -- by whether the block that was read is none
-by_next : (n : ℕ) (K : ℕ → UnlinkPoint → Type 0) → n < 2 ^ 20 → (n ≡ 0 → K n Lower) → (n ≢ 0 → K n Change) → K (n % 2 ^ 20) (if n % 2 ^ 20 == 0 then Lower else Change)
+by_next : (n : ℕ) (K : ℕ → UnlinkPoint → Type 0) → n < address_limit → (n ≡ 0 → K n Lower) → (n ≢ 0 → K n Change) → K (n % address_limit) (if n % address_limit == 0 then Lower else Change)
 by_next n K low none some =
-    let small : n % 2 ^ 20 ≡ n = omega arith in
+    let small : n % address_limit ≡ n = omega arith in
     subst (λ z. K z (if z == 0 then Lower else Change)) (sym small)
     (elim (cases_eq n 0) [
       | inl e ↦ subst (λ z. K n (if z then Lower else Change)) (sym (eq-eqb n 0 e)) (none e)
@@ -178,7 +179,7 @@ module _ (me : Me) (b d i next : ℕ) (r0 rs r : Memo) (tr t : Trail) (es ds : L
     client : recovers r ≡ false
     client = agent ∙ (ap recovers h.1 ∙ h.0.1.client)
 
-    look_small : n < 2 ^ 20
+    look_small : n < address_limit
     look_small = next_small me b d i n r0 r h.0 found held client
 
     look_seen : IsSeen me b d i n r0 r × (es ++ ds ≡ []) × IsWithin 1 (tr ++ t)
@@ -309,7 +310,7 @@ unlink_laws =
         choose false = refl
 
     stays : (m : UnlinkState) (y : UnlinkPoint) (a : UnlinkAnswer) → PlanStays unlink_parts unlink_plan (record m { point = y }) a
-    stays m y (First n) = record { same_me = refl; same_line = refl; same_start = refl; started = λ e. not_look (n % 2 ^ 20) }
+    stays m y (First n) = record { same_me = refl; same_line = refl; same_start = refl; started = λ e. not_look (n % address_limit) }
     stays m y (Second (First (Ok true))) = record { same_me = refl; same_line = refl; same_start = refl; started = λ e. refl }
     stays m y (Second (First (Ok false))) = record { same_me = refl; same_line = refl; same_start = refl; started = λ e. absurd (cc) }
     stays m y (Second (First (Err s))) = record { same_me = refl; same_line = refl; same_start = refl; started = λ e. absurd (cc) }

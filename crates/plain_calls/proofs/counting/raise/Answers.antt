@@ -1,7 +1,7 @@
 use Rattle.std.proofs.Common.{◌≡◌, ◌^◌, ◌<◌, refl, sym, ap, ◌∙◌, subst, []}
 use Rattle.shm_words.specs.declared.geometry.Geometry.{Geometry}
 use Rattle.shm_words.specs.declared.place.Place.TheVariants as place
-use Rattle.shm_words.specs.Layout.{address}
+use Rattle.shm_words.specs.Layout.{address, address_limit}
 use Rattle.shm_graph.specs.declared.memo.Memo.{Memo}
 use Rattle.shm_graph.specs.declared.spot.Spot.TheVariants.{Root}
 use Rattle.shm_plain.specs.Pools.{memo_of}
@@ -23,7 +23,7 @@ slot c = c.root.ensures ∙ ap (λ (x : Geometry). address x (place.Root c.args.
 pub new-up-requires-clause-slot : goal.new-up-requires-clause-slot
 new-up-requires-clause-slot c =
     let at : c.root.result ≡ address c.args.pool.now.start.geometry (place.Root c.args.who c.args.root) = c.root.ensures ∙ ap (λ (x : Geometry). address x (place.Root c.args.who c.args.root)) c.geometry-geometry.ensures.is in
-    subst (λ n. n < 2 ^ 20) (sym at) (root_small c.args.pool.now c.args.who c.args.root c.requires.root c.requires.at_work)
+    subst (λ n. n < address_limit) (sym at) (root_small c.args.pool.now c.args.who c.args.root c.requires.root c.requires.at_work)
 
 -- the machine is the step at the root
 abbrev machine : (c : After-new-up) → StepState

@@ -1,7 +1,7 @@
 use Rattle.std.proofs.Common.{◌≡◌, ◌≢◌, ℕ, zero, suc, ◌+◌, ◌^◌, ◌<◌, ◌≤◌, refl, sym, ap, ◌∙◌, subst, true, arith, List, []}
 use Rattle.std.specs.Prelude.{Some, IfOk, IfErr}
 use Rattle.shm_words.specs.declared.geometry.Geometry.{Geometry}
-use Rattle.shm_words.specs.Layout.{total_of}
+use Rattle.shm_words.specs.Layout.{total_of, address_limit}
 use Rattle.shm_graph.specs.declared.ask.Me.{Me}
 use Rattle.shm_graph.specs.declared.memo.Memo.{Memo}
 use Rattle.shm_graph.specs.declared.spot.Spot.TheVariants.{Body}
@@ -63,7 +63,7 @@ new-requires-2-clause-block c =
     (may_read c.args.pool.now c.args.who c.requires.at_work c.geometry-geometry.ensures.run c.args.block c.requires.reached).room
 
 -- a block that the word is to name is one of the pool
-small : (n : ℕ) → (n ≢ 0 → n < 2 ^ 20) → n < 2 ^ 20
+small : (n : ℕ) → (n ≢ 0 → n < address_limit) → n < address_limit
 small zero h = omega arith
 small (suc n) h = h (omega arith)
 

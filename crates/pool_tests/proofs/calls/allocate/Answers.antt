@@ -1,14 +1,22 @@
 use Rattle.std.proofs.Common.{◌≡◌, ◌<◌, ℕ, sym, ap, ◌∙◌, subst, Result}
 use Rattle.std.specs.Prelude.{IfOk}
+use Rattle.shm_graph.specs.declared.ask.Me.{Me}
 use Rattle.shm_graph.specs.declared.run.Account.{Account}
 use Rattle.shm_graph.specs.declared.run.Start.{Start}
 use Rattle.shm_alloc.specs.declared.alloc.AllocFault.{AllocFault}
+use Rattle.shm_alloc.specs.declared.point.AllocPoint.{AllocPoint}
+use Rattle.shm_alloc.specs.declared.point.AllocState.{AllocState}
 use Rattle.shm_alloc.specs.Alloc.{AllocGives}
+use Rattle.shm_alloc.specs.Alloc.Control.{alloc_control}
 use Rattle.shm_count.specs.declared.answer.Made.{Made}
 use Rattle.shm_count.specs.Step.Control.{IsInside}
-use Rattle.shm_pool.specs.Tokens.{Its}
+use Rattle.shm_recover.specs.Leave.{MayLeave}
+use Rattle.shm_pool.specs.Calls.{Tells}
+use Rattle.shm_pool.specs.Endings.{ClientMayLeave}
+use Rattle.shm_pool.specs.Tokens.{Its, me_of}
 use Rattle.pool_tests.specs.Between.{me_now}
-use Rattle.pool_tests.proofs.Standing.{made_inside, reply_map}
+use Rattle.pool_tests.proofs.Keeping.{alloc_may_leave}
+use Rattle.pool_tests.proofs.Standing.{made_inside, reply_both, reply_map}
 use Rattle.pool_tests.proofs.calls.allocate.Goals as goal
 use Rattle.shm_graph.specs.Runs.{Stood}
 
@@ -23,3 +31,15 @@ returns-clause-inside c =
     let is = c.in_ok-alloc.ensures.fresh.0 ∙ (λ j. record { geometry = sizes j; who = (c.new.ensures.who ∙ (c.client-who.ensures.is ∙ sym who)) j }) in
     reply_map (λ (a : Result Made AllocFault). AllocGives c.in_ok-alloc.alloc c.args.client.now.account.memo e.memo e.memo.call a) (λ (a : Result Made AllocFault). IfOk a (λ made. IsInside (me_now c.args.client.now) made.block)) c.run.result
     (λ a h. made_inside s e stood below c.in_ok-alloc.alloc c.args.client.now.account.memo e.memo.call is a h) c.run.ensures.gives
+
+pub returns-clause-leaves : goal.returns-clause-leaves
+returns-clause-leaves c = λ may.
+    let t = c.args.client.now in
+    let t' = c.run.new.self in
+    let sizes = c.new.ensures.geometry ∙ (c.geometry.ensures.is ∙ sym (ap (λ (n : Its). n.start.geometry) c.requires.pool)) in
+    let is : c.in_ok-alloc.alloc.me ≡ me_of t.of t.account = c.in_ok-alloc.ensures.fresh.0 ∙ (λ j. record { geometry = sizes j; who = (c.new.ensures.who ∙ c.client-who.ensures.is) j }) in
+    let same : me_of t'.of t'.account ≡ me_of t.of t.account = (λ j. record { geometry = (c.run.ensures.same.0 j).start.geometry; who = c.run.ensures.same.1 j }) in
+    let fresh = ap (λ (p : AllocPoint). alloc_control.fresh (record c.in_ok-alloc.alloc { point = p })) c.in_ok-alloc.ensures.fresh.1 in
+    reply_both (λ (a : Result Made AllocFault). AllocGives c.in_ok-alloc.alloc t.account.memo t'.account.memo t'.account.memo.call a) (λ (a : Result Made AllocFault). Tells (alloc_control.line c.in_ok-alloc.alloc) t.account t'.account) (λ (a : Result Made AllocFault). ClientMayLeave t'.of t'.account) c.run.result
+    (λ a h told. (alloc_may_leave (me_of t'.of t'.account) c.in_ok-alloc.alloc t.account.memo t'.account.memo t'.account.memo.call a (subst (λ (x : Me). MayLeave x t.account.memo) (sym same) may.0) (is ∙ sym same) h, told.over))
+    c.run.ensures.gives (c.run.ensures.told fresh)

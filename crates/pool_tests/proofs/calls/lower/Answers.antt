@@ -4,7 +4,7 @@ use Rattle.std.specs.List.{Contains}
 use Rattle.std.proofs.lemmas.Bool.{and_from, lt-ltb}
 use Rattle.shm_words.specs.declared.geometry.Geometry.{Geometry}
 use Rattle.shm_words.specs.declared.place.Place.TheVariants as place
-use Rattle.shm_words.specs.Layout.{GeometryFits, address, is_in}
+use Rattle.shm_words.specs.Layout.{GeometryFits, address, is_in, address_limit}
 use Rattle.shm_words.proofs.Placing.{address_small}
 use Rattle.shm_graph.specs.declared.run.Account.{Account}
 use Rattle.shm_graph.specs.declared.run.Start.{Start}
@@ -45,7 +45,7 @@ new-down-requires-clause-slot c =
     let g : Geometry = c.args.client.now.of.start.geometry in
     let who : ℕ = c.args.client.now.account.who in
     let within : is_in g (place.Root who c.args.root) ≡ true = and_from _ _ (lt-ltb who g.clients (below x)) (lt-ltb c.args.root 16 c.requires.root) in
-    subst (λ (n : ℕ). n < 2 ^ 20) (sym (at x)) (address_small g (place.Root who c.args.root) within (fitting x))
+    subst (λ (n : ℕ). n < address_limit) (sym (at x)) (address_small g (place.Root who c.args.root) within (fitting x))
 
 -- the machine is the step at the root
 state : (c : After-new-down) → c.new-down.result ≡ root_step c.args.client.now.of.start.geometry c.args.client.now.account.who c.args.root (Down c.args.block)

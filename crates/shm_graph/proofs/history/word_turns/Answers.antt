@@ -1,3 +1,4 @@
+use Rattle.shm_graph.proofs.Runs.EraRises.{turn_eras}
 use Rattle.shm_graph.proofs.Runs.TurnsTaken.{turn_others, turn_allocated, turn_raised, turn_changed, turn_freed, turn_rows}
 use Rattle.shm_graph.proofs.history.word_turns.Goals as goal
 
@@ -18,3 +19,6 @@ returns-clause-freed c = turn_freed
 
 pub returns-clause-rows : goal.returns-clause-rows
 returns-clause-rows c = turn_rows
+
+pub returns-clause-eras : goal.returns-clause-eras
+returns-clause-eras c = turn_eras

@@ -42,7 +42,7 @@ returns-in-Done-clause-ran g c =
     let l = c.loop-answer in
     let some : 0 < l.life.left = lives c.step.result l.life.left (ap is_died c.in-Done.is) c.step.ensures.died.1 in
     let turn = c.step.ensures.turn some in
-    went_ran M.control M.fits M.gives c.args.who c.args.self.now c.args.m.now c.args.life.now.left l.self l.m l.life.left l.invariant.1 c.step.new.self turn.1 c.step.ensures.run L.steady c.requires.me c.step.new.life.left turn.0
+    went_ran M.control M.fits M.gives c.args.who c.args.self.now c.args.m.now c.args.life.now.left l.self l.m l.life.left l.invariant.1 c.step.new.self turn.1 c.step.ensures.run L.steady c.requires.me (answered_is _ c.step.result c.in-Done.answer turn.3 c.in-Done.is) c.step.new.life.left turn.0
 
 took_done : (g : Over) (c : In-Done g) → Took g.M.Machine.control c.args.who c.args.self.now c.args.m.now c.step.new.self
 took_done g c =

@@ -9,11 +9,13 @@ use Rattle.shm_graph.specs.Asks.{call_before}
 use Rattle.shm_graph.specs.Runs.{account_entered}
 use Rattle.shm_graph.proofs.Memos.MemoSteps.{acts-entered, recovers-entered}
 use Rattle.shm_recover.specs.declared.join.JoinState.{JoinState}
-use Rattle.shm_recover.specs.Join.{IsMember, JoinFits, is_over, is_start, join_fresh}
+use Rattle.shm_recover.specs.Join.{IsMember, JoinFits, JoinGives, is_over, is_start, join_fresh}
 use Rattle.shm_recover.specs.Join.Keeps.{join_begins}
+use Rattle.shm_recover.specs.Leave.{MayLeave}
 use Rattle.shm_pool.specs.Rules.{alone}
 use Rattle.shm_pool.proofs.Calling.{acts_stay}
-use Rattle.shm_pool.specs.Tokens.{Its, Token}
+use Rattle.shm_pool.proofs.Joining.{joined_may_leave}
+use Rattle.shm_pool.specs.Tokens.{Its, Token, its, me_of}
 use Rattle.shm_pool.proofs.token.Vacant.join.Goals.{After-top-2}
 use Rattle.shm_pool.proofs.token.Vacant.join.Goals as goal
 
@@ -42,9 +44,26 @@ run_place-requires-clause-fits c =
     (subst (λ (e : Account). JoinFits (join_fresh me) e.memo e.memo []) (sym c.note_client.ensures.account)
     (join_begins me (account_entered Client (alone c.self.inside.place)).memo (record { member = member; status = i.1.0 })))
 
-pub invariant_of-result-in-Some : goal.invariant_of-result-in-Some
-invariant_of-result-in-Some c =
+pub invariant_of-result : goal.invariant_of-result
+invariant_of-result c =
     let m : Memo = (alone c.run_place.new.place).memo in
     let acting : acts m ≡ true = acts_stay m (ap is_gone c.in-Some.ensures.gives.idle.live) c.in-Some.ensures.acts in
     let kind : recovers m ≡ false = c.in-Some.ensures.kind ∙ (ap (λ (e : Account). recovers e.memo) c.note_client.ensures.account ∙ recovers-entered Client (alone c.self.inside.place).memo) in
     (search rules, acting, kind)
+
+pub returns-in-Some-clause-leaves : goal.returns-in-Some-clause-leaves
+returns-in-Some-clause-leaves c =
+    let i = c.self.invariant.0 in
+    let e : Account = alone c.self.inside.place in
+    let e' : Account = alone c.run_place.new.place in
+    let p : Its = its c.run_place.new.place.table_id c.self.inside.start in
+    let me : c.new.result ≡ me_of p e = (λ j. record { geometry = c.new.ensures.geometry j; who = (c.new.ensures.who ∙ i.who) j }) in
+    let entered : JoinGives c.new-machine.result (account_entered Client e).memo e'.memo e'.memo.call tt = subst (λ (x : Account). JoinGives c.new-machine.result x.memo e'.memo e'.memo.call tt) c.note_client.ensures.account c.in-Some.ensures.gives in
+    let gives : JoinGives (join_fresh (me_of p e)) (account_entered Client e).memo e'.memo e'.memo.call tt = subst (λ (m : JoinState). JoinGives m (account_entered Client e).memo e'.memo e'.memo.call tt) (c.new-machine.ensures.state ∙ ap (λ (x : Me). join_fresh x) me) entered in
+    let below : e.who < c.self.inside.start.geometry.clients = subst (λ (n : ℕ). n < c.self.inside.start.geometry.clients) i.who i.below in
+    let same : e'.who ≡ e.who = c.in-Some.ensures.who ∙ ap (λ (x : Account). x.who) c.note_client.ensures.account in
+    let may : MayLeave (me_of p e) e'.memo = joined_may_leave p e e'.memo e'.memo.call i.stood i.fits below c.self.invariant.1.0 gives in
+    let fresh : is_start c.new-machine.result.point ≡ true = ap (λ (m : JoinState). is_start m.point) c.new-machine.ensures.state in (
+      subst (λ (n : ℕ). let y : Me = record { geometry = c.self.inside.start.geometry; who = n } in MayLeave y e'.memo) (sym same) may,
+      (c.in-Some.ensures.told fresh).over,
+    )

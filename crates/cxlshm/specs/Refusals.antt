@@ -1,0 +1,21 @@
+-- the lines of refused input
+use Rattle.std.specs.Prelude.{ℕ, List, ◌++◌, codes}
+use Rattle.std.specs.Fmt.{decimal}
+use Rattle.shm_script.specs.declared.fault.TraceKind.{TraceKind}
+use Rattle.shm_script.specs.declared.fault.TraceKind.TheVariants.{Syntax, Range, Limit, Twice}
+use Rattle.shm_script.specs.declared.fault.TraceFault.{TraceFault}
+
+-- what is wrong with a line
+abbrev pub kind_word : TraceKind → List ℕ
+kind_word Syntax = codes "syntax"
+kind_word Range = codes "range"
+kind_word Limit = codes "limit"
+kind_word Twice = codes "twice"
+
+-- `refused line L KIND`: the first faulty line, from 1, and what is wrong with it
+abbrev pub fault_line : TraceFault → List ℕ
+fault_line f = codes "refused line " ++ decimal f.line ++ codes " " ++ kind_word f.kind ++ codes "\n"
+
+-- the line for a trace that can't be replayed yet
+abbrev pub not_yet_line : List ℕ
+not_yet_line = codes "refused form\n"

@@ -1,0 +1,60 @@
+-- the verdict on one block, and the test of one reference
+use Rattle.std.proofs.Common.{◌≡◌, ◌≢◌, ℕ, ◌<◌, Bool, true, false, not, ◌&&◌, ◌||◌, eqb, List, sym, ap, ◌∙◌}
+use Rattle.std.proofs.lemmas.Bool.{cond-true, cond-false, ne_eqb, eq-eqb}
+use Rattle.shm_words.specs.declared.geometry.Geometry.{Geometry}
+use Rattle.shm_words.specs.Layout.{total_of}
+use Rattle.shm_graph.specs.declared.spot.Spot.{Spot}
+use Rattle.shm_graph.specs.Spots.{see}
+use Rattle.shm_graph.specs.Blocks.{headers}
+use Rattle.shm_audit.specs.declared.verdict.Verdict.TheVariants.{Uncounted, WrongCount}
+use Rattle.shm_audit.specs.Faults.{is_counted, is_bad_reference, least_below}
+use Rattle.shm_audit.specs.Verdicts.{found_at, is_wrong, block_verdict, by_block}
+use Rattle.shm_audit.proofs.Least.{some_below}
+use Rattle.shm_audit.proofs.Tested.{test_at}
+use Rattle.shm_audit.proofs.Counting.{named}
+
+module _ (g : Geometry) (w : Spot → ℕ) (b : ℕ) where
+  pub right_dead : (headers w b).live ≡ false → is_wrong g w b ≡ false
+  right_dead dead = ap (λ l. l && (eqb (headers w b).count 0 || not (eqb (headers w b).count (found_at g w b)))) dead
+
+  pub wrong_empty : (headers w b).live ≡ true → (headers w b).count ≡ 0 → is_wrong g w b ≡ true
+  wrong_empty live none =
+      ap (λ l. l && (eqb (headers w b).count 0 || not (eqb (headers w b).count (found_at g w b)))) live
+      ∙ ap (λ z. z || not (eqb (headers w b).count (found_at g w b))) (eq-eqb (headers w b).count 0 none)
+
+  counted_so : (z : Bool) → (headers w b).live ≡ true → (headers w b).count ≢ 0 → eqb (headers w b).count (found_at g w b) ≡ z → is_wrong g w b ≡ not z
+  counted_so z live some e =
+      ap (λ l. l && (eqb (headers w b).count 0 || not (eqb (headers w b).count (found_at g w b)))) live
+      ∙ (ap (λ y. y || not (eqb (headers w b).count (found_at g w b))) (ne_eqb (headers w b).count 0 some)
+      ∙ ap not e)
+
+  pub wrong_count : (headers w b).live ≡ true → (headers w b).count ≢ 0 → (headers w b).count ≢ found_at g w b → is_wrong g w b ≡ true
+  wrong_count live some other = counted_so false live some (ne_eqb (headers w b).count (found_at g w b) other)
+
+  pub right_count : (headers w b).live ≡ true → (headers w b).count ≢ 0 → (headers w b).count ≡ found_at g w b → is_wrong g w b ≡ false
+  right_count live some same = counted_so true live some (eq-eqb (headers w b).count (found_at g w b) same)
+
+  pub empty_verdict : (headers w b).count ≡ 0 → block_verdict g w b ≡ Uncounted b
+  empty_verdict none = cond-true (eqb (headers w b).count 0) (Uncounted b) _ (eq-eqb (headers w b).count 0 none)
+
+  pub count_verdict : (headers w b).count ≢ 0 → block_verdict g w b ≡ WrongCount b (headers w b).count (found_at g w b)
+  count_verdict some = cond-false (eqb (headers w b).count 0) (Uncounted b) _ (ne_eqb (headers w b).count 0 some)
+
+  -- the first block that is wrong decides
+  pub judged : b < total_of g → is_wrong g w b ≡ true → ((a : ℕ) → a < b → is_wrong g w a ≡ false) → by_block g w (least_below (total_of g) (is_wrong g w)) ≡ block_verdict g w b
+  judged l is h = ap (by_block g w) (some_below (total_of g) (is_wrong g w) b l is h)
+
+-- ---- references
+
+module _ (g : Geometry) (ws : List ℕ) (a : ℕ) where
+  pub nothing_named : named g ws a ≡ 0 → test_at is_bad_reference g ws a ≡ false
+  nothing_named e = ap (λ z. not z && not (is_counted (see g ws) (named g ws a))) (eq-eqb (named g ws a) 0 e)
+
+  something_named : (z : Bool) → named g ws a ≢ 0 → is_counted (see g ws) (named g ws a) ≡ z → test_at is_bad_reference g ws a ≡ not z
+  something_named z n e = ap (λ y. not y && not (is_counted (see g ws) (named g ws a))) (ne_eqb (named g ws a) 0 n) ∙ ap not e
+
+  pub bad_named : (t : ℕ) → t ≡ named g ws a → t ≢ 0 → is_counted (see g ws) t ≡ false → test_at is_bad_reference g ws a ≡ true
+  bad_named t e n c = something_named false (λ z. n (e ∙ z)) (ap (is_counted (see g ws)) (sym e) ∙ c)
+
+  pub good_named : (t : ℕ) → t ≡ named g ws a → t ≢ 0 → is_counted (see g ws) t ≡ true → test_at is_bad_reference g ws a ≡ false
+  good_named t e n c = something_named true (λ z. n (e ∙ z)) (ap (is_counted (see g ws)) (sym e) ∙ c)

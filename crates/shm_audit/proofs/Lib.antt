@@ -1,0 +1,9 @@
+pub mod WordReading
+pub mod Least
+pub mod Tested
+pub mod Counting
+pub mod Judging
+pub mod Cleaning
+pub mod ReadingBack
+pub mod Using
+pub mod UsedTests

@@ -1,0 +1,26 @@
+-- the bytes of an image
+use Rattle.std.specs.Prelude.{ℕ, ◌/◌, List, ◌∷◌, ◌++◌, length, map, drop, codes, slice_index}
+use Rattle.std.specs.List.{flat_map}
+use Rattle.std.specs.Int.{w64, from_le_bytes, to_le_bytes}
+use Rattle.std.specs.Simd.{first_chunks}
+use Rattle.shm_words.specs.declared.geometry.Geometry.{Geometry}
+
+-- `CXLSHM01`, and then the number of clients, that of segments, and the words, each as 8 bytes with the lowest first
+abbrev pub image_of : Geometry → List ℕ → List ℕ
+image_of g ws = codes "CXLSHM01" ++ flat_map (to_le_bytes w64) (g.clients ∷ g.segments ∷ ws)
+
+-- what runs of 8 bytes say, each as a number with its lowest byte first
+abbrev pub numbers : List (List ℕ) → List ℕ
+numbers = map (from_le_bytes w64)
+
+-- the numbers that bytes say, 8 bytes each
+abbrev pub numbers_in : List ℕ → List ℕ
+numbers_in bytes = numbers (first_chunks 8 (length bytes / 8) bytes)
+
+-- the sizes that an image announces
+abbrev pub geometry_in : List ℕ → Geometry
+geometry_in image = record { clients = slice_index (numbers_in image) 1; segments = slice_index (numbers_in image) 2 }
+
+-- the words in an image
+abbrev pub words_in : List ℕ → List ℕ
+words_in image = drop 3 (numbers_in image)

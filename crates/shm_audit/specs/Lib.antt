@@ -1,0 +1,6 @@
+pub mod Images
+pub mod Faults
+pub mod Verdicts
+pub mod Stops
+pub mod Used
+pub mod Texts

@@ -1,0 +1,56 @@
+//! The audit of an image: its first fault, or the first verdict on its words.
+
+ghost use Rattle.std.specs.Prelude.{◌≡◌, ℕ, ◌↔◌, List, IfOk, IfErr, None, Some};
+ghost use Rattle.shm_words.specs.declared.geometry.Geometry.{Geometry as AGeometry};
+ghost use Rattle.shm_words.specs.Layout.{GeometryFits};
+ghost use Rattle.shm_graph.specs.Spots.{see};
+ghost use Rattle.shm_graph.specs.Clean.{IsClean};
+ghost use Rattle.shm_audit.specs.Images.{geometry_in, words_in, numbers};
+ghost use Rattle.shm_audit.specs.Faults.{image_fault_of, words_fault_of};
+ghost use Rattle.shm_audit.specs.Verdicts.{verdict_of, IsCleanVerdict};
+ghost use Rattle.shm_audit.specs.Stops.{StopsBy};
+
+use crate::blocks::used_blocks;
+use crate::checks::{check_headers, check_pages, check_tags};
+use crate::counts::{count_references, first_pending, judge_blocks};
+use crate::image::open_image;
+use crate::stop::AuditStop;
+use crate::verdict::Verdict;
+use shm_words::Geometry;
+use std::alloc::Global;
+
+/// The verdict on the pool of an image, or the first fault of the image.
+///
+/// Of the faults the first in this order is told: the length, the first 8 bytes, the sizes, the length that they ask for, page words,
+/// headers, tags, references; of those at words the one at the least address. Of the verdicts it is the least identity that is neither new
+/// nor gone; then the first block that is live and has the count 0 or another count than references; else the pool is clean. All
+/// references are counted in one pass. It takes 4 bytes of memory for each word.
+pub fn audit(alloc: Global, image: &[u8]) -> Result<Verdict, AuditStop>
+    ensures ok { IfOk result (λ v. (image_fault_of image.now ≡ None) × (v ≡ verdict_of (geometry_in image.now) (see (geometry_in image.now) (words_in image.now)))) }
+    ensures err { IfErr result (λ e. StopsBy (image_fault_of image.now) e) }
+{
+    let (geometry, words) = open_image(image).map_err(AuditStop::Fault)?;
+    audit_words(alloc, geometry, words)
+}
+
+// the verdict on the words of a pool, or their first fault
+fn audit_words(alloc: Global, geometry: Geometry, words: &[[u8; 8]]) -> Result<Verdict, AuditStop>
+    requires { GeometryFits geometry }
+    ensures ok { IfOk result (λ v. (words_fault_of geometry (numbers words.now) ≡ None) × (v ≡ verdict_of geometry (see geometry (numbers words.now)))) }
+    ensures err { IfErr result (λ e. StopsBy (words_fault_of geometry (numbers words.now)) e) }
+{
+    check_pages(geometry, words).map_err(AuditStop::Fault)?;
+    let blocks = used_blocks(alloc, geometry, words).map_err(AuditStop::Memory)?;
+    check_headers(geometry, words, blocks.as_slice()).map_err(AuditStop::Fault)?;
+    check_tags(geometry, words, blocks.as_slice()).map_err(AuditStop::Fault)?;
+    let counts = count_references(alloc, geometry, words)?;
+    if let Some(client) = first_pending(geometry, words) {
+        return Ok(Verdict::Pending { client });
+    }
+    Ok(judge_blocks(geometry, words, blocks.as_slice(), &counts))
+}
+
+/// A pool is clean exactly where its words have no fault and the verdict on them is that it is.
+pub fn clean_where_verdict_is()
+    ensures { (g : AGeometry) (ws : List ℕ) → GeometryFits g → IsClean g (see g ws) ↔ (words_fault_of g ws ≡ None) × IsCleanVerdict (verdict_of g (see g ws)) }
+{}

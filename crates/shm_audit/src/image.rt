@@ -1,0 +1,96 @@
+//! The image of a pool: its sizes and its words as bytes, and what an image announces.
+
+ghost use Rattle.std.specs.Prelude.{◌≡◌, ℕ, ◌++◌, ◌^◌, ◌<◌, false, List, length, slice_index, IfOk, IfErr, OnOk, None, Some};
+ghost use Rattle.std.specs.Int.{w64, to_le_bytes};
+ghost use Rattle.shm_words.specs.declared.geometry.Geometry.{Geometry as AGeometry};
+ghost use Rattle.shm_words.specs.Layout.{GeometryFits, total_of};
+ghost use Rattle.shm_audit.specs.Images.{image_of, geometry_in, numbers, words_in};
+ghost use Rattle.shm_audit.specs.declared.fault.ImageFault.TheVariants as fault;
+ghost use Rattle.shm_audit.specs.Faults.{frame_fault_of, is_size};
+
+use crate::fault::ImageFault;
+use crate::words::word;
+use shm_script::push_text;
+use shm_words::Geometry;
+use std::alloc::{AllocError, Global};
+
+/// `CXLSHM01`, which an image begins with, as a number with the lowest byte first.
+const MAGIC: u64 = 0x3130_4d48_534c_5843;
+
+/// How many bytes stand before the words of an image.
+const FRAME: usize = 24;
+
+/// The image of a pool of these sizes with these words: `CXLSHM01`, the number of clients, the number of segments, and the words,
+/// each as 8 bytes with the lowest first.
+///
+/// It takes as much memory as it is long: 24 bytes, and 8 for each word.
+pub fn write_image(alloc: Global, geometry: Geometry, words: &[u64]) -> Result<Vec<u8>, AllocError>
+    requires fits { GeometryFits geometry }
+    requires whole { length words.now ≡ total_of geometry }
+    ensures { IfOk result (λ v. v.items ≡ image_of geometry words.now) }
+{
+    let mut image = Vec::with_capacity(alloc, FRAME + 8 * words.len())?;
+    push_text(&mut image, "CXLSHM01")?;
+    push_word(&mut image, u64::from(geometry.clients()))?;
+    push_word(&mut image, u64::from(geometry.segments()))?;
+    for word in words {
+        push_word(&mut image, *word)?;
+    }
+    Ok(image)
+}
+
+// appends the bytes of a word, the lowest first
+fn push_word(image: &mut Vec<u8>, word: u64) -> Result<(), AllocError>
+    ensures { OnOk result (image.new.items ≡ image.old.items ++ to_le_bytes w64 word) }
+{
+    image.extend_from_slice(&word.to_le_bytes())
+}
+
+/// The sizes that an image announces, and its words as runs of 8 bytes, where the image is as long as these sizes say.
+pub(crate) fn open_image(image: &[u8]) -> Result<(Geometry, &[[u8; 8]]), ImageFault>
+    ensures none { IfOk result (λ r. frame_fault_of image.now ≡ None) }
+    ensures sizes { IfOk result (λ r. r.0 ≡ geometry_in image.now) }
+    ensures fits { IfOk result (λ r. GeometryFits r.0) }
+    ensures words { IfOk result (λ r. numbers r.1.now ≡ words_in image.now) }
+    ensures whole { IfOk result (λ r. length r.1.now ≡ total_of r.0) }
+    ensures fault { IfErr result (λ f. frame_fault_of image.now ≡ Some f) }
+{
+    let len = image.len() as u64;
+    if image.len() < FRAME {
+        return Err(ImageFault::Short { len });
+    }
+    let (runs, _) = image.as_chunks::<8>();
+    let seen = word(runs, 0);
+    if seen != MAGIC {
+        return Err(ImageFault::Magic { seen });
+    }
+    let geometry = read_sizes(word(runs, 1), word(runs, 2))?;
+    let want = FRAME as u64 + 8 * u64::from(geometry.total());
+    if len != want {
+        return Err(ImageFault::Length { len, want });
+    }
+    Ok((geometry, &runs[3..]))
+}
+
+// the sizes of a pool, where a pool may have them
+fn read_sizes(clients: u64, segments: u64) -> Result<Geometry, ImageFault>
+    ensures sizes { IfOk result (λ g. (g.clients ≡ clients) × (g.segments ≡ segments)) }
+    ensures fits { IfOk result (λ g. GeometryFits g) }
+    ensures fault { IfErr result (λ f. (is_size clients segments ≡ false) × (f ≡ fault.Geometry clients segments)) }
+{
+    let refused = ImageFault::Geometry { clients, segments };
+    match (u8::try_from(clients), u16::try_from(segments)) {
+        (Ok(few), Ok(some)) => match Geometry::new(few, some) {
+            Ok(geometry) => Ok(geometry),
+            Err(_) => Err(refused),
+        },
+        _ => Err(refused),
+    }
+}
+
+/// What `write_image` makes has no fault in its frame, and its sizes and its words are read in it.
+pub fn image_reads_back()
+    ensures frame { (g : AGeometry) (ws : List ℕ) → GeometryFits g → length ws ≡ total_of g → ((i : ℕ) → slice_index ws i < 2 ^ 64) → frame_fault_of (image_of g ws) ≡ None }
+    ensures sizes { (g : AGeometry) (ws : List ℕ) → GeometryFits g → ((i : ℕ) → slice_index ws i < 2 ^ 64) → geometry_in (image_of g ws) ≡ g }
+    ensures words { (g : AGeometry) (ws : List ℕ) → GeometryFits g → ((i : ℕ) → slice_index ws i < 2 ^ 64) → words_in (image_of g ws) ≡ ws }
+{}

@@ -1,0 +1,20 @@
+//! Pools as files: the image of a pool, and the audit of an image from outside, which trusts nothing that it reads.
+#![tactic(auto)]
+
+mod auditing;
+mod blocks;
+mod checks;
+mod counts;
+mod fault;
+mod image;
+mod stop;
+mod text;
+mod verdict;
+mod words;
+
+pub use auditing::{audit, clean_where_verdict_is};
+pub use fault::ImageFault;
+pub use image::{image_reads_back, write_image};
+pub use stop::AuditStop;
+pub use text::{fault_text, verdict_text};
+pub use verdict::Verdict;

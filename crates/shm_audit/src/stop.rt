@@ -1,0 +1,13 @@
+//! Why an audit gives no verdict.
+
+use crate::fault::ImageFault;
+use std::alloc::AllocError;
+
+/// Why an audit gives no verdict.
+#[derive(Clone, Copy, Debug, PartialEq, Eq, Drop)]
+pub enum AuditStop {
+    /// Memory was wanting for the table of counts, 4 bytes for each word of the pool.
+    Memory(AllocError),
+    /// The bytes are no image of a pool.
+    Fault(ImageFault),
+}

@@ -1,0 +1,164 @@
+//! What the words of an image say: what each is for, the headers of blocks, and the references.
+
+ghost use Rattle.std.specs.Prelude.{◌≡◌, ◌≢◌, ◌+◌, ◌%◌, ◌<◌, ◌≤◌, slice_index, true};
+ghost use Rattle.shm_words.specs.Layout.{GeometryFits, total_of, bodies, address, is_in};
+ghost use Rattle.shm_graph.specs.declared.spot.Spot.TheVariants.{Tag};
+ghost use Rattle.shm_graph.specs.Spots.{see, spot_at, spot_of, block_spot, classes_in, class_at};
+ghost use Rattle.shm_graph.specs.Blocks.{headers, IsBlock};
+ghost use Rattle.shm_graph.specs.References.{words_of, references};
+ghost use Rattle.shm_audit.specs.Images.{numbers};
+
+use shm_graph::Spot;
+use shm_words::{Geometry, Header, Place};
+
+/// The word at an address, whose bytes stand with the lowest first, and 0 past the end.
+pub fn word(words: &[[u8; 8]], at: u32) -> u64
+    ensures { result ≡ slice_index (numbers words.now) at }
+{
+    match words.get(at as usize) {
+        Some(bytes) => u64::from_le_bytes(*bytes),
+        None => 0,
+    }
+}
+
+/// What the word at an address is for, by the classes of the pages.
+pub fn spot(geometry: Geometry, words: &[[u8; 8]], at: u32) -> Spot
+    requires { GeometryFits geometry }
+    ensures { result ≡ spot_at geometry (classes_in geometry (numbers words.now)) at }
+{
+    if geometry.body(0, 0) <= at && at < geometry.total() {
+        return body_spot(geometry, words, at);
+    }
+    match geometry.place(at) {
+        Some(place) => spot_of(geometry, words, at, place),
+        None => Spot::Spare,
+    }
+}
+
+// what the word at an address of a page's body is for
+fn body_spot(geometry: Geometry, words: &[[u8; 8]], at: u32) -> Spot
+    requires fits { GeometryFits geometry }
+    requires start { bodies geometry ≤ at }
+    requires end { at < total_of geometry }
+    ensures { result ≡ spot_at geometry (classes_in geometry (numbers words.now)) at }
+{
+    let behind = at - geometry.body(0, 0);
+    let class = word(words, geometry.page(0, 0) + behind / 128);
+    block_spot(class, at, (behind % 128) as u8)
+}
+
+// what the word of a place is for
+fn spot_of(geometry: Geometry, words: &[[u8; 8]], at: u32, place: Place) -> Spot
+    requires fits { GeometryFits geometry }
+    requires within { is_in geometry place ≡ true }
+    requires address { address geometry place ≡ at }
+    ensures { result ≡ spot_of (classes_in geometry (numbers words.now)) at place }
+{
+    match place {
+        Place::Spare => Spot::Spare,
+        Place::Status { c } => Spot::Status { c },
+        Place::Redo { c } => Spot::Redo { c },
+        Place::Hold { c } => Spot::Hold { c },
+        Place::Latch { c } => Spot::Latch { c },
+        Place::Home { c } => Spot::Home { c },
+        Place::Era { i, j } => Spot::Era { i, j },
+        Place::Root { c, k } => Spot::Root { c, k },
+        Place::Tail { s, r } => Spot::Tail { s, r },
+        Place::Head { s, r } => Spot::QueueHead { s, r },
+        Place::Slot { s, r, k } => Spot::Slot { s, r, k },
+        Place::Segment { g } => Spot::Segment { g },
+        Place::Page { g, p } => Spot::Page { g, p },
+        Place::Body { g, p, k } => block_spot(word(words, geometry.page(g, p)), at, k),
+    }
+}
+
+// the word `k` of a page of this class
+fn block_spot(class: u64, at: u32, k: u8) -> Spot
+    requires { k ≤ at }
+    ensures { result ≡ block_spot class at k }
+{
+    if class == 0 {
+        return Spot::Unused { a: at };
+    }
+    match place_in(class, k) {
+        0 => Spot::Head { b: at },
+        1 => Spot::Tag { b: at - 1 },
+        i => Spot::Body {
+            b: at - i as u32,
+            i: (i - 2) as u8,
+        },
+    }
+}
+
+// the place of the word `k` of a page in its block; shifts stand for the division by a class
+fn place_in(class: u64, k: u8) -> u64
+    requires { class ≢ 0 }
+    ensures { result ≡ k % class }
+{
+    match class {
+        4 => u64::from(k % 4),
+        8 => u64::from(k % 8),
+        16 => u64::from(k % 16),
+        32 => u64::from(k % 32),
+        _ => u64::from(k) % class,
+    }
+}
+
+/// The class of the page of a block.
+pub fn class_at(geometry: Geometry, words: &[[u8; 8]], block: u32) -> u64
+    requires fits { GeometryFits geometry }
+    requires is { IsBlock geometry (classes_in geometry (numbers words.now)) block }
+    ensures { result ≡ class_at geometry (classes_in geometry (numbers words.now)) block }
+{
+    let Some(place) = geometry.place(block) else {
+        return 0;
+    };
+    match place {
+        Place::Body { g, p, .. } => word(words, geometry.page(g, p)),
+        _ => 0,
+    }
+}
+
+/// The header of the block that begins at an address; where none begins, that of a free block.
+pub fn header_at(geometry: Geometry, words: &[[u8; 8]], at: u32) -> Header
+    requires { GeometryFits geometry }
+    ensures { result ≡ headers (see geometry (numbers words.now)) at }
+{
+    match spot(geometry, words, at) {
+        Spot::Head { b } => Header::unpack(word(words, b)),
+        _ => Header::unpack(0),
+    }
+}
+
+// how many reference words a block has
+fn block_refs(geometry: Geometry, words: &[[u8; 8]], block: u32) -> u8
+    requires fits { GeometryFits geometry }
+    requires is { IsBlock geometry (classes_in geometry (numbers words.now)) block }
+    requires tag { spot_at geometry (classes_in geometry (numbers words.now)) (block + 1) ≡ Tag block }
+    ensures { result ≡ (words_of (see geometry (numbers words.now))).refs block }
+{
+    if Header::unpack(word(words, block)).live {
+        (word(words, block + 1) >> 30 & 31) as u8
+    } else {
+        0
+    }
+}
+
+/// What the word at an address names where it is a reference word: a block, or 0; another word names nothing.
+pub fn reference_at(geometry: Geometry, words: &[[u8; 8]], at: u32) -> u64
+    requires fits { GeometryFits geometry }
+    requires range { at < total_of geometry }
+    ensures { result ≡ references (see geometry (numbers words.now)) (spot_at geometry (classes_in geometry (numbers words.now)) at) }
+{
+    match spot(geometry, words, at) {
+        Spot::Home { .. } | Spot::Root { .. } | Spot::Slot { .. } => word(words, at),
+        Spot::Body { b, i } => {
+            if i < block_refs(geometry, words, b) {
+                word(words, at)
+            } else {
+                0
+            }
+        }
+        _ => 0,
+    }
+}

@@ -1,0 +1,129 @@
+-- the commit test as a plan: what is known before each load, and what is left
+pub mod Control
+pub mod Reads
+pub mod Shown
+pub mod Laws
+pub mod Machines
+use Rattle.std.specs.Prelude.{◌≡◌, ◌≢◌, ℕ, ◌+◌, ◌<◌, ◌≤◌, Bool, true, false, not, nat_lt, if◌then◌else◌, Option, Some, None, List, []}
+use Rattle.std.specs.List.{Contains}
+use Rattle.shm_words.specs.declared.place.Place.TheVariants as place
+use Rattle.shm_words.specs.declared.redo.Redo.{Redo as ARedo}
+use Rattle.shm_words.specs.declared.redo.Redo.TheVariants as redos
+use Rattle.shm_words.specs.Headers.{header_of}
+use Rattle.shm_words.specs.Layout.{GeometryFits, address, total_of}
+use Rattle.shm_words.specs.Redos.{redo_of}
+use Rattle.shm_graph.specs.declared.ask.Ask.TheVariants.{Load}
+use Rattle.shm_graph.specs.declared.ask.Me.{Me}
+use Rattle.shm_graph.specs.declared.spot.Spot.TheVariants.{Era, Redo}
+use Rattle.shm_graph.specs.declared.memo.Memo.{Memo}
+use Rattle.shm_graph.specs.Agents.{recovers}
+use Rattle.shm_graph.specs.Asks.{Trail, IsWithin, pair}
+use Rattle.shm_graph.specs.Core.{core}
+use Rattle.shm_graph.specs.Events.{Event}
+use Rattle.shm_graph.specs.Held.{odd}
+use Rattle.shm_graph.specs.Ops.{on_of}
+use Rattle.shm_graph.specs.Readings.{next_row}
+use Rattle.shm_graph.specs.Views.{own_word}
+use Rattle.shm_steps.specs.WordParts.{TestBegun, TestGoesOn}
+use Rattle.shm_calls.specs.declared.word.Word.{Word}
+use Rattle.shm_calls.specs.Parts.{Part}
+use Rattle.shm_calls.specs.Plans.{Planned}
+use Rattle.shm_calls.specs.Words.{word_part}
+use Rattle.shm_count.specs.declared.commit_test.Commit.{Commit}
+use Rattle.shm_count.specs.declared.commit_test.Commit.TheVariants.{Committed, NotCommitted}
+use Rattle.shm_count.specs.declared.commit_test.Proof.{Proof}
+use Rattle.shm_count.specs.declared.commit_test.Proof.TheVariants as proof
+use Rattle.shm_count.specs.declared.commit_test.TestingPoint.{TestingPoint}
+use Rattle.shm_count.specs.declared.commit_test.TestingPoint.TheVariants.{Header, Row}
+use Rattle.shm_count.specs.declared.commit_test.TestingState.{TestingState}
+use Rattle.shm_count.specs.CommitTest.Reads.{read_part}
+use Rattle.shm_count.specs.CommitTest.Control.{is_header, is_shown, test_after, test_ask, test_call, test_turns}
+
+-- ---- when it may begin
+
+-- whether a change with this parity is in its first half at own era e
+abbrev pub is_first_half : Bool → ℕ → Bool
+is_first_half parity e = if parity then odd e else not (odd e)
+
+-- the block whose count a step changes that a redo record spells at own era e
+abbrev pub step_block : Option ARedo → ℕ → Option ℕ
+step_block (Some (redos.Up p b)) e = Some b
+step_block (Some (redos.Down p b)) e = Some b
+step_block (Some (redos.Change parity p a b)) e = Some (if is_first_half parity e then b else a)
+step_block r e = None
+
+-- a recoverer asks of the own era and of the block that the redo record names for it
+pub record MayTest (me : Me) (b e : ℕ) (r : Memo) : Type 0 where
+  pub geometry : GeometryFits me.geometry
+  pub who : me.who < me.geometry.clients
+  pub recoverer : recovers r ≡ true
+  pub inside : (0 < b) × (b < total_of me.geometry)
+  pub era : own_word r.own (Era me.who me.who) ≡ e
+  pub named : step_block (redo_of (own_word r.own (Redo me.who))) e ≡ Some b
+
+-- ---- on the way
+
+-- how many words are read before row k: the header, and the rows before it but the own one
+abbrev pub rows_to : ℕ → ℕ → ℕ
+rows_to c k = if nat_lt c k then k else k + 1
+
+-- the header and the rows before this one didn't show the step
+pub record IsTesting (m : TestingState) (r0 r : Memo) (tr : Trail) (es : List Event) : Type 0 where
+  pub may : MayTest m.me m.block m.era r0
+  pub same : core r ≡ core r0
+  pub recoverer : recovers r ≡ true
+  pub stands : (n : ℕ) × (r.test ≡ Some (record { block = m.block; next = n })) × (m.row ≡ next_row m.me.who n)
+  pub low : m.row < m.me.geometry.clients
+  pub none : es ≡ []
+  pub bound : IsWithin (rows_to m.me.who m.row) tr
+
+abbrev pub TestKnows : TestingState → TestingPoint → Memo → Memo → Trail → List Event → Type 0
+TestKnows m Header r0 r tr es = MayTest m.me m.block m.era r0 × (r ≡ r0) × (tr ≡ []) × (es ≡ [])
+TestKnows m Row r0 r tr es = IsTesting m r0 r tr es
+
+-- ---- what it leaves
+
+-- this word was read, and shows that the step of era e is committed on block b
+abbrev pub IsProof : Me → ℕ → ℕ → Trail → Proof → Type 0
+IsProof me b e tr proof.Header = (n : ℕ) × Contains tr (pair (Load b) n) × ((header_of n).client ≡ me.who) × ((header_of n).era ≡ e)
+IsProof me b e tr (proof.Row k) = (k < me.geometry.clients) × (k ≢ me.who) × ((n : ℕ) × Contains tr (pair (Load (address me.geometry (place.Era k me.who))) n) × (e ≤ n))
+
+-- the step in progress is committed on the block, as a word shows; or it isn't
+abbrev pub IsTold : Me → ℕ → ℕ → Memo → Trail → Commit → Type 0
+IsTold me b e r tr (Committed by) = (on_of r.op ≡ Some b) × IsProof me b e tr by
+IsTold me b e r tr NotCommitted = on_of r.op ≢ Some b
+
+-- nothing of the memo changed, and there was no event
+pub record IsTested (me : Me) (b e : ℕ) (r0 r : Memo) (tr : Trail) (es : List Event) (a : Commit) : Type 0 where
+  pub told : IsTold me b e r tr a
+  pub same : core r ≡ core r0
+  pub none : es ≡ []
+  pub bound : IsWithin me.geometry.clients tr
+
+abbrev pub TestLeaves : TestingState → Memo → Memo → Trail → List Event → Commit → Type 0
+TestLeaves m = IsTested m.me m.block m.era
+
+-- ---- the plan
+
+-- what holds after the load at a point, by the word found: a header that shows the step shows that it is committed
+abbrev pub TestFound : TestingState → TestingPoint → Memo → ℕ → Memo → Type 0
+TestFound m Header r n x = TestBegun m.me.geometry m.me.who m.block r n x × (is_shown m.me.who m.era n ≡ true → on_of r.op ≡ Some m.block)
+TestFound m Row r n x = TestGoesOn m.me.who m.row r n x
+
+abbrev pub test_part : TestingState → TestingPoint → Part Word ℕ
+test_part m y = read_part (word_part (is_header y) m.me (test_ask m.me m.block m.row y) (TestFound m y))
+
+abbrev pub testing_plan : Planned TestingState Word ℕ Commit
+testing_plan =
+    record {
+      me = λ m. m.me;
+      line = λ m. [];
+      first = λ m. is_header m.point;
+      start = λ m. record m { row = 0; point = Header };
+      call = λ m. test_call m m.point;
+      after = λ m. test_after m m.point;
+      turns = λ m. test_turns m m.point;
+      part = λ m. test_part m m.point;
+      knows = λ m. TestKnows m m.point;
+      leaves = TestLeaves;
+    }

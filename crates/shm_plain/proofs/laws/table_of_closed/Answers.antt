@@ -1,0 +1,15 @@
+use Rattle.std.proofs.Common.{subst}
+use Rattle.shm_graph.specs.declared.spot.Spot.TheVariants.{Home}
+use Rattle.shm_graph.specs.Held.{PartTie}
+use Rattle.shm_graph.specs.References.{references}
+use Rattle.shm_graph.specs.Spots.{see}
+use Rattle.shm_graph.specs.Tables.{contents_of}
+use Rattle.shm_plain.proofs.StillTable.{still_part}
+use Rattle.shm_plain.proofs.laws.table_of_closed.Goals as goal
+
+pub returns : goal.returns
+returns c d l chains is =
+    let p = c.args.closed.now in
+    let w = see p.start.geometry p.words in
+    let end = c.geometry.ensures.end in
+    subst (PartTie (contents_of w (references w)) d (w (Home d))) is (still_part p end.run end.still d l)

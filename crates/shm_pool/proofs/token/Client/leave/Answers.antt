@@ -1,0 +1,43 @@
+use Rattle.std.proofs.Common.{◌≡◌, refl, sym, ap, ◌∙◌, subst}
+use Rattle.std.specs.Prelude.{IfOk}
+use Rattle.shm_calls.specs.declared.calls.Calls.{Calls}
+use Rattle.shm_calls.specs.CallsControl.{calls_of}
+use Rattle.shm_calls.specs.CallsFit.{CallsFits, CallsGives}
+use Rattle.shm_calls.specs.CallsKeep.{calls_begin}
+use Rattle.shm_graph.specs.declared.ask.Me.{Me}
+use Rattle.shm_graph.specs.declared.memo.Memo.{Memo}
+use Rattle.shm_graph.specs.Whole.{fits_now, gives_now}
+use Rattle.shm_recover.specs.declared.leave.LeaveState.{LeaveState}
+use Rattle.shm_recover.specs.Leave.Control.{LeaveAnswer, LeaveCall, leave_parts, leaving}
+use Rattle.shm_recover.specs.Leave.Laws.{leave_begin, leave_laws}
+use Rattle.shm_recover.specs.Leave.{leave_plan}
+use Rattle.shm_recover.specs.Machines.{leave}
+use Rattle.shm_pool.specs.Endings.{Answer, HasEnded}
+use Rattle.shm_pool.specs.Tokens.{Its, me_of}
+use Rattle.shm_pool.proofs.token.Client.leave.Goals.{After-new-leave}
+use Rattle.shm_pool.proofs.token.Client.leave.Goals as goal
+
+abbrev Machine : Type 0
+Machine = Calls LeaveState LeaveCall Answer LeaveAnswer
+
+abbrev who : (c : After-new-leave) → Me
+who c = me_of c.args.self.of c.args.self.account
+
+-- the machine is the leaving of the client's identity
+state : (c : After-new-leave) → c.new-leave.result ≡ calls_of leave_plan (leaving (who c))
+state c =
+    let sizes = c.new-me.ensures.geometry ∙ (c.geometry.ensures.is ∙ sym (ap (λ (n : Its). n.start.geometry) c.requires.pool)) in
+    let me : c.new-me.result ≡ who c = (λ j. record { geometry = sizes j; who = (c.new-me.ensures.who ∙ c.client.ensures.is) j }) in
+    c.new-leave.ensures ∙ ap (λ (x : LeaveState). calls_of leave_plan x) (c.new.ensures ∙ ap (λ (x : Me). leaving x) me)
+
+pub leave_by-requires-clause-fits : goal.leave_by-requires-clause-fits
+leave_by-requires-clause-fits c = λ alive.
+    let x = (goal.at.leave_by-requires-clause-fits c).After-new-leave in
+    let r : Memo = c.args.self.account.memo in
+    subst (λ (m : Machine). fits_now leave (CallsFits leave_parts leave_plan) m r r) (sym (state x))
+    (calls_begin leave_parts leave_plan leave_laws (leaving (who x)) r refl refl (leave_begin (who x) r (c.requires.may alive).0))
+
+pub returns-clause-left : goal.returns-clause-left
+returns-clause-left c =
+    let x = (goal.at.returns-clause-left c).After-new-leave in
+    subst (λ (m : Machine). IfOk c.leave_by.result (HasEnded leave (gives_now (CallsGives leave_parts leave_plan)) m c.args.self.of c.args.self.account c.args.life.now.left c.leave_by.new.life.left)) (state x) c.leave_by.ensures.ended

@@ -1,0 +1,65 @@
+use Rattle.std.proofs.Common.{◌≡◌, ◌<◌, refl, sym, ap, ◌∙◌, subst, true}
+use Rattle.std.specs.Prelude.{IfOk, IfErr}
+use Rattle.shm_words.specs.Layout.{GeometryFits}
+use Rattle.shm_calls.specs.declared.calls.Calls.{Calls}
+use Rattle.shm_calls.specs.CallsControl.{calls_of}
+use Rattle.shm_calls.specs.CallsFit.{CallsFits, CallsGives}
+use Rattle.shm_calls.specs.CallsKeep.{calls_begin}
+use Rattle.shm_graph.specs.declared.ask.Me.{Me}
+use Rattle.shm_graph.specs.declared.memo.Kind.TheVariants.{Recoverer}
+use Rattle.shm_graph.specs.declared.memo.Memo.{Memo}
+use Rattle.shm_graph.specs.declared.run.Account.{Account}
+use Rattle.shm_graph.specs.Agents.{recovers}
+use Rattle.shm_graph.specs.Runs.{account_died}
+use Rattle.shm_graph.specs.Whole.{fits_now, gives_now}
+use Rattle.shm_graph.proofs.Memos.MemoSteps.{recovers-entered}
+use Rattle.shm_ref.specs.DropRoots.Laws.{roots_laws}
+use Rattle.shm_recover.specs.declared.recover.RecoverState.{RecoverState}
+use Rattle.shm_recover.specs.FinishTakes.Laws.{finish_laws}
+use Rattle.shm_recover.specs.GiveUp.Laws.{give_laws}
+use Rattle.shm_recover.specs.Machines.Recovering.{recover}
+use Rattle.shm_recover.specs.Mend.Laws.{mend_laws}
+use Rattle.shm_recover.specs.Recover.Control.{RecoverAnswer, RecoverCall, recover_parts, recovering as recovery}
+use Rattle.shm_recover.specs.Recover.Laws.{recover_begin, recover_laws}
+use Rattle.shm_recover.specs.Recover.{recover_plan}
+use Rattle.shm_recover.specs.Scan.Laws.{scan_laws}
+use Rattle.shm_recover.specs.TakeBack.Laws.{back_laws}
+use Rattle.shm_pool.specs.Endings.{Answer, HasEnded, HasStopped}
+use Rattle.shm_pool.specs.Tokens.{Its, begun_account, me_of, recovering}
+use Rattle.shm_pool.proofs.token.Corpse.recover.Goals.{After-new-recover}
+use Rattle.shm_pool.proofs.token.Corpse.recover.Goals as goal
+
+abbrev Machine : Type 0
+Machine = Calls RecoverState RecoverCall Answer RecoverAnswer
+
+abbrev who : (c : After-new-recover) → Me
+who c = me_of c.args.self.of c.args.self.account
+
+sizes : (c : After-new-recover) → c.geometry.result ≡ c.args.self.of.start.geometry
+sizes c = c.geometry.ensures.is ∙ sym (ap (λ (n : Its). n.start.geometry) c.requires.pool)
+
+-- the machine is the recovery of the corpse's identity
+state : (c : After-new-recover) → c.new-recover.result ≡ calls_of recover_plan (recovery (who c))
+state c =
+    let me : c.new-me.result ≡ who c = (λ j. record { geometry = (c.new-me.ensures.geometry ∙ sizes c) j; who = (c.new-me.ensures.who ∙ c.client.ensures.is) j }) in
+    c.new-recover.ensures ∙ ap (λ (x : RecoverState). calls_of recover_plan x) (c.new.ensures.state ∙ ap (λ (x : Me). recovery x) me)
+
+pub recover_by-requires-clause-fits : goal.recover_by-requires-clause-fits
+recover_by-requires-clause-fits c =
+    let x = (goal.at.recover_by-requires-clause-fits c).After-new-recover in
+    let e : Account = c.args.self.account in
+    let r : Memo = (recovering e).memo in
+    let agent : recovers r ≡ true = recovers-entered Recoverer (account_died (begun_account e)).memo in
+    let below : e.who < c.args.self.of.start.geometry.clients = subst (λ n. n < c.args.self.of.start.geometry.clients) c.client.ensures.is c.client.ensures.below in
+    subst (λ (m : Machine). fits_now recover (CallsFits recover_parts recover_plan) m r r) (sym (state x))
+    (calls_begin recover_parts recover_plan (recover_laws mend_laws roots_laws back_laws finish_laws scan_laws give_laws) (recovery (who x)) r refl refl (recover_begin (who x) r (record { geometry = subst GeometryFits (sizes x) c.geometry.ensures.fits; who = below; recoverer = agent })))
+
+pub returns-clause-recovered : goal.returns-clause-recovered
+returns-clause-recovered c =
+    let x = (goal.at.returns-clause-recovered c).After-new-recover in
+    subst (λ (m : Machine). IfOk c.recover_by.result (HasEnded recover (gives_now (CallsGives recover_parts recover_plan)) m c.args.self.of (recovering c.args.self.account) c.args.life.now.left c.recover_by.new.life.left)) (state x) c.recover_by.ensures.ended
+
+pub returns-clause-stopped : goal.returns-clause-stopped
+returns-clause-stopped c =
+    let x = (goal.at.returns-clause-stopped c).After-new-recover in
+    subst (λ (m : Machine). 0 < c.args.life.now.left → IfErr c.recover_by.result (λ s. HasStopped recover (gives_now (CallsGives recover_parts recover_plan)) m c.args.self.of (recovering c.args.self.account) c.args.life.now.left c.recover_by.new.life.left s.cause s.corpse)) (state x) c.recover_by.ensures.stopped

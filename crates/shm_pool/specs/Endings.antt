@@ -1,0 +1,88 @@
+-- how the last machine of an agent came to its end: the identity is gone, or is still there
+use Rattle.std.specs.Prelude.{◌≡◌, ℕ, true, false, Result, Ok, Err}
+use Rattle.shm_graph.specs.declared.memo.Memo.{Memo}
+use Rattle.shm_graph.specs.declared.memo.Status.TheVariants.{Gone}
+use Rattle.shm_graph.specs.declared.run.Account.{Account}
+use Rattle.shm_graph.specs.Agents.{is_gone}
+use Rattle.shm_graph.specs.Laws.{Control}
+use Rattle.shm_graph.specs.Whole.{gives_now}
+use Rattle.shm_calls.specs.CallsControl.{calls_of}
+use Rattle.shm_calls.specs.CallsFit.{CallsGives}
+use Rattle.shm_count.specs.declared.answer.EraSpent.{EraSpent}
+use Rattle.shm_recover.specs.Leave.Control.{leave_parts, leaving}
+use Rattle.shm_recover.specs.Leave.{MayLeave, leave_plan}
+use Rattle.shm_recover.specs.Machines.{leave}
+use Rattle.shm_recover.specs.Machines.Recovering.{recover}
+use Rattle.shm_recover.specs.Recover.Control.{recover_parts, recovering as recovery}
+use Rattle.shm_recover.specs.Recover.{recover_plan}
+use Rattle.shm_pool.specs.declared.token.Cause.{Cause}
+use Rattle.shm_pool.specs.declared.token.Cause.TheVariants as cause
+use Rattle.shm_pool.specs.Calls.{Calls, Tells, shown}
+use Rattle.shm_pool.specs.Tokens.{Acting, Its, Token, me_of, recovering}
+
+-- what such a machine answers: it is done, or the own era left no room for a step
+abbrev pub Answer : Type 0
+Answer = Result (Unit {0}) EraSpent
+
+-- the own era that left no room
+abbrev pub spent : ℕ → EraSpent
+spent n = record { era = n }
+
+-- where the machine m is run over the memo r, it leaves the identity gone where it answers Ok, and there still where it doesn't
+pub record Leaves {M : Type 0} (gives : M → Memo → Memo → Answer → Type 0) (m : M) (r : Memo) : Type 0 where
+  pub ok : (r' : Memo) → gives m r r' (Ok tt) → r'.status ≡ Gone
+  pub err : (r' : Memo) (e : EraSpent) → gives m r r' (Err e) → is_gone r'.status ≡ false
+
+module _ {M : Type 0} (k : Control M Answer) (gives : M → Memo → Memo → Answer → Type 0) (m : M) (p : Its) (e : Account) (before left : ℕ) where
+  -- a whole call of the machine m by the agent of the account e, of which this account is left, and this was answered
+  pub record HasAnswered (a : Answer) (e' : Account) : Type 0 where
+    pub call : Calls (shown k m) e e' true before left
+    pub gave : gives m e.memo e'.memo a
+    pub told : k.fresh m ≡ true → Tells (k.line m) e e'
+
+  -- the same identity of the same pool
+  abbrev pub IsSame : Token → Type 0
+  IsSame t = (t.of ≡ p) × (t.account.who ≡ e.who)
+
+  -- the machine answered Ok, and the identity is gone
+  pub record HasEnded (t : Token) : Type 0 where
+    pub same : IsSame t
+    pub gone : t.account.memo.status ≡ Gone
+    pub answered : HasAnswered (Ok tt) t.account
+
+  -- no life was left before the machine had answered; or it answered that the own era left no room
+  abbrev pub StopsBy : Cause → Account → Type 0
+  StopsBy cause.Died e' = Calls (shown k m) e e' false before left × (left ≡ 0)
+  StopsBy (cause.EraSpent n) e' = HasAnswered (Err (spent n)) e'
+
+  pub record HasStopped (x : Cause) (t : Token) : Type 0 where
+    pub same : IsSame t
+    pub by : StopsBy x t.account
+
+-- ---- leaving
+
+-- a client may leave: its last machine is finished, and nothing of the identity but roots and segments is left to finish
+abbrev pub ClientMayLeave : Its → Account → Type 0
+ClientMayLeave p e = MayLeave (me_of p e) e.memo × (e.memo.over ≡ true)
+
+-- what a leaving gave
+abbrev pub HasLeft : Its → Account → ℕ → ℕ → Token → Type 0
+HasLeft p e = HasEnded leave (gives_now (CallsGives leave_parts leave_plan)) (calls_of leave_plan (leaving (me_of p e))) p e
+
+-- and what stopped it
+abbrev pub HasNotLeft : Its → Account → ℕ → ℕ → Cause → Token → Type 0
+HasNotLeft p e = HasStopped leave (gives_now (CallsGives leave_parts leave_plan)) (calls_of leave_plan (leaving (me_of p e))) p e
+
+-- the corpse of a client that took no step any more
+abbrev pub fallen_of : Acting → Token
+fallen_of t = record { of = t.of; account = t.account }
+
+-- ---- recovering
+
+-- what a recovery gave
+abbrev pub HasRecovered : Its → Account → ℕ → ℕ → Token → Type 0
+HasRecovered p e = HasEnded recover (gives_now (CallsGives recover_parts recover_plan)) (calls_of recover_plan (recovery (me_of p e))) p (recovering e)
+
+-- and what stopped it
+abbrev pub HasNotRecovered : Its → Account → ℕ → ℕ → Cause → Token → Type 0
+HasNotRecovered p e = HasStopped recover (gives_now (CallsGives recover_parts recover_plan)) (calls_of recover_plan (recovery (me_of p e))) p (recovering e)

@@ -1,0 +1,98 @@
+-- what a held state shows of the step in progress, of the memo alone
+use Rattle.std.proofs.Common.{◌≡◌, ◌≢◌, ℕ, ◌+◌, ◌^◌, ◌<◌, ◌≤◌, refl, sym, ap, ◌∙◌, subst, arith, true, not}
+use Rattle.std.specs.Prelude.{Some}
+use Rattle.std.proofs.lemmas.Bool.{eq-eqb, true≢false}
+use Rattle.shm_words.specs.declared.redo.Redo.{Redo as ARedo}
+use Rattle.shm_words.specs.declared.redo.Redo.TheVariants as redos
+use Rattle.shm_words.specs.Layout.{GeometryFits, total_of}
+use Rattle.shm_words.specs.Redos.{redo_of}
+use Rattle.shm_words.proofs.Placing.{total_small}
+use Rattle.shm_graph.specs.declared.ask.Me.{Me}
+use Rattle.shm_graph.specs.declared.spot.Spot.{Spot}
+use Rattle.shm_graph.specs.declared.spot.Spot.TheVariants as spot
+use Rattle.shm_graph.specs.declared.memo.Memo.{Memo}
+use Rattle.shm_graph.specs.declared.memo.Op.{Op}
+use Rattle.shm_graph.specs.declared.memo.Op.TheVariants.{Alloc, Change, Down, Nothing, Up}
+use Rattle.shm_graph.specs.declared.memo.ChangeStage.TheVariants.{Lowering, Raising}
+use Rattle.shm_graph.specs.declared.memo.Second.TheVariants.{Open}
+use Rattle.shm_graph.specs.Blocks.{IsBlock, classes}
+use Rattle.shm_graph.specs.Held.{Names, OpTie, room_of}
+use Rattle.shm_graph.specs.References.{words_of}
+use Rattle.shm_graph.specs.Views.{own_word}
+use Rattle.shm_graph.proofs.Spots.Spotting.{in_pool}
+use Rattle.shm_calls.specs.Parts.{IsHeld}
+use Rattle.shm_count.specs.CommitTest.Shown.{step_is_block}
+use Rattle.shm_recover.specs.Mend.Control.{block_of, is_first, is_second, value_at}
+use Rattle.shm_recover.specs.Mend.Steps.{step_named}
+
+-- what is said of the memo in the state is said of the memo
+module _ (me : Me) (m : Memo) (held : IsHeld me m) (l : me.who < me.geometry.clients) where
+  abbrev c : ℕ
+  c = me.who
+
+  abbrev w : Spot → ℕ
+  w = held.0
+
+  abbrev redo : ℕ
+  redo = own_word m.own (spot.Redo me.who)
+
+  abbrev own : ℕ
+  own = own_word m.own (spot.Era me.who me.who)
+
+  redo_is : redo ≡ w (spot.Redo c)
+  redo_is = sym (ap (λ (x : Memo). own_word x.own (spot.Redo c)) held.3) ∙ held.2.mine c l (spot.Redo c) (eq-eqb c c refl)
+
+  own_is : own ≡ w (spot.Era c c)
+  own_is = sym (ap (λ (x : Memo). own_word x.own (spot.Era c c)) held.3) ∙ held.2.mine c l (spot.Era c c) (eq-eqb c c refl)
+
+  -- its redo record and its own era are tied to its step
+  pub op_tied : OpTie me.geometry (classes w) redo own (words_of w) m.op
+  op_tied =
+      subst (λ x. OpTie me.geometry (classes w) x own (words_of w) m.op) (sym redo_is)
+      (subst (λ x. OpTie me.geometry (classes w) (w (spot.Redo c)) x (words_of w) m.op) (sym own_is)
+      (subst (λ (x : Memo). OpTie me.geometry (classes w) (w (spot.Redo c)) (w (spot.Era c c)) (words_of w) x.op) held.3 (held.2.op c l)))
+
+  -- the own era leaves room
+  pub own_room : own + room_of m.op ≤ 2 ^ 47
+  own_room = subst (λ x. x + room_of m.op ≤ 2 ^ 47) (sym own_is) (subst (λ (x : Memo). w (spot.Era c c) + room_of x.op ≤ 2 ^ 47) held.3 (held.2.own c l).room)
+
+  -- the block of the step lies in the pool
+  pub block_inside : (r : ARedo) → redo_of redo ≡ Some r → r ≢ redos.Idle → (0 < block_of r own) × (block_of r own < total_of me.geometry)
+  block_inside r spelled some =
+      in_pool me.geometry (classes w) (block_of r own) (spot.Head (block_of r own))
+      (step_is_block me.geometry (classes w) r own (block_of r own) (held.2.redo c l r (ap redo_of (sym redo_is) ∙ spelled)) (step_named r own some))
+      (λ e. cc)
+
+  -- and so does the block before of a change
+  pub before_inside : (p : Spot) (a b e : ℕ) → m.op ≡ Change (Lowering Open) p a b e → (0 < a) × (a < total_of me.geometry)
+  before_inside p a b e op =
+      let tie = subst (OpTie me.geometry (classes w) redo own (words_of w)) op op_tied in
+      in_pool me.geometry (classes w) a (spot.Head a) (held.2.redo c l _ (ap redo_of (sym redo_is) ∙ tie.spelled)).0 (λ e. cc)
+
+  -- what the slot comes to hold is small
+  pub value_small : (r : ARedo) → redo_of redo ≡ Some r → GeometryFits me.geometry → value_at r < 2 ^ 64
+  value_small r spelled fits = go r (held.2.redo c l r (ap redo_of (sym redo_is) ∙ spelled))
+    where
+      block_small : (b : ℕ) → IsBlock me.geometry (classes w) b → b < 2 ^ 64
+      block_small b is = let x = in_pool me.geometry (classes w) b (spot.Head b) is (λ e. cc) in let y = total_small me.geometry fits in omega arith
+
+      go : (r : ARedo) → Names me.geometry (classes w) r → value_at r < 2 ^ 64
+      go redos.Idle names = omega arith
+      go (redos.Up p b) names = block_small b names
+      go (redos.Down p b) names = omega arith
+      go (redos.Change parity p a b) names = block_small b names.1
+
+-- a change is at one half
+pub second_not_first : (r : ARedo) (e : ℕ) → is_second r e ≡ true → is_first r e ≡ true → ⊥
+second_not_first (redos.Change parity p a b) e second first = true≢false (sym second ∙ ap not first)
+second_not_first redos.Idle e second first = true≢false (sym first)
+second_not_first (redos.Up p b) e second first = true≢false (sym first)
+second_not_first (redos.Down p b) e second first = true≢false (sym first)
+
+pub least_room : (o : Op) → 2 ≤ room_of o
+least_room Nothing = omega arith
+least_room (Change (Raising s) p a b e) = omega arith
+least_room (Change (Lowering s) p a b e) = omega arith
+least_room (Alloc s p b e) = omega arith
+least_room (Up s p b e) = omega arith
+least_room (Down s p b e) = omega arith

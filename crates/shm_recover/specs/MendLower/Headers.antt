@@ -1,0 +1,106 @@
+-- what a held state shows of the block whose reference a change holds over, and what its exchange leaves
+use Rattle.std.proofs.Common.{◌≡◌, ℕ, ◌-◌, ◌^◌, ◌<◌, refl, ap, ◌∙◌, subst, arith, Bool, true, false, cond, eqb, [], ◌∷◌, ◌++◌, inl, inr}
+use Rattle.std.specs.Prelude.{◌⊎◌}
+use Rattle.std.specs.List.{filter}
+use Rattle.shm_words.specs.Headers.{HeaderFits, header_of}
+use Rattle.shm_words.specs.Layout.{GeometryFits}
+use Rattle.shm_words.proofs.Words.{header_fits, header_of-word, header_word_small}
+use Rattle.shm_graph.specs.declared.ask.Ask.{Ask}
+use Rattle.shm_graph.specs.declared.ask.Me.{Me}
+use Rattle.shm_graph.specs.declared.spot.Spot.{Spot}
+use Rattle.shm_graph.specs.declared.spot.Spot.TheVariants.{Era, Head, Redo}
+use Rattle.shm_graph.specs.declared.memo.Memo.{Memo}
+use Rattle.shm_graph.specs.declared.memo.Op.TheVariants.{Change}
+use Rattle.shm_graph.specs.declared.memo.ChangeStage.TheVariants.{Lowering}
+use Rattle.shm_graph.specs.declared.memo.Second.TheVariants.{Closed, Open}
+use Rattle.shm_graph.specs.Asks.{at_of, seen_of}
+use Rattle.shm_graph.specs.Blocks.{classes}
+use Rattle.shm_graph.specs.Events.{Event}
+use Rattle.shm_graph.specs.Exchanges.{committed, cut, without_made}
+use Rattle.shm_graph.specs.Held.{HeldAt, OpTie}
+use Rattle.shm_graph.specs.Laws.{Frame, Stands}
+use Rattle.shm_graph.specs.Ops.{held_over_of}
+use Rattle.shm_graph.specs.Reach.{sifted}
+use Rattle.shm_graph.specs.References.{words_of}
+use Rattle.shm_graph.specs.Spots.{spot_at}
+use Rattle.shm_graph.specs.Stores.{not_of}
+use Rattle.shm_graph.specs.Views.{view}
+use Rattle.shm_graph.proofs.States.Holders.{held_over_counted}
+use Rattle.shm_laws.proofs.Keep.{block_not_zero}
+use Rattle.shm_calls.specs.EventWords.{IsEventWord}
+use Rattle.shm_calls.specs.Words.{IsWord}
+use Rattle.shm_recover.specs.MendRest.{bare}
+use Rattle.shm_recover.specs.MendLower.{IsCounted}
+use Rattle.shm_recover.specs.MendLower.Control.{lowered}
+
+-- ---- a word step leaves besides what the held state before it shows
+
+-- the step found what a held state with this memo has there
+abbrev pub Besides : Me → Ask → (after more : Memo → ℕ → Memo → Type 0) → Memo → Type 0
+Besides me a after more m = (w : Spot → ℕ) (r : ℕ → Memo) (f : Frame) → Stands me w r f [] → r me.who ≡ m → let n : ℕ = seen_of a (w (spot_at me.geometry (classes w) (at_of a))) in (x : Memo) → after m n x → more m n x
+
+module _ (first : Bool) (me : Me) (a : Ask) (after more : Memo → ℕ → Memo → Type 0) (m : Memo) (also : Besides me a after more m) where
+  pub word_besides : IsWord first me a after (record { me = me; ask = a; over = false }) m → IsWord first me a more (record { me = me; ask = a; over = false }) m
+  word_besides h =
+      record {
+        made = h.made;
+        inside = h.inside;
+        kept = λ w r f st may same. let k = h.kept w r f st may same in record { told = k.told; step = k.step; fits = also w r f st same _ k.fits };
+        quiet = h.quiet;
+      }
+
+  pub event_besides : (does : ℕ → Event) → IsEventWord first me a does after (record { me = me; ask = a; over = false }) m → IsEventWord first me a does more (record { me = me; ask = a; over = false }) m
+  event_besides does h =
+      record {
+        made = h.made;
+        inside = h.inside;
+        kept = λ w r f st may same. let k = h.kept w r f st may same in record { told = k.told; step = k.step; fits = also w r f st same _ k.fits };
+        told = h.told;
+      }
+
+-- ---- the block before
+
+module _ (me : Me) (w : Spot → ℕ) (r : ℕ → Memo) (h : HeldAt me.geometry w (view r)) (l : me.who < me.geometry.clients) (m : Memo) (same : r me.who ≡ m) (p : Spot) (a b e : ℕ) (op : m.op ≡ Change (Lowering Open) p a b e) where
+  half_here : (r me.who).op ≡ Change (Lowering Open) p a b e
+  half_here = ap (λ (x : Memo). x.op) same ∙ op
+
+  -- it is a block
+  pub half_block : spot_at me.geometry (classes w) a ≡ Head a
+  half_block =
+      let tie = subst (OpTie me.geometry (classes w) (w (Redo me.who)) (w (Era me.who me.who)) (words_of w)) half_here (h.op me.who l) in
+      (h.redo me.who l _ tie.spelled).0
+
+  -- and a reference to it is held over
+  pub half_counted : IsCounted me (w (Head a))
+  half_counted =
+      let counted = held_over_counted me.geometry w (view r) h me.who a l (block_not_zero me.geometry (classes w) a half_block) (ap held_over_of half_here) in
+      record { live = counted.0; client = h.era.client a counted.0; count = counted.1 }
+
+-- ---- its new header
+
+-- it has a word
+pub lowered_fits : (me : Me) (e n : ℕ) → GeometryFits me.geometry → me.who < me.geometry.clients → e < 2 ^ 47 → HeaderFits (record { live = true; client = me.who; count = (header_of n).count - 1; era = e })
+lowered_fits me e n fits who small = record { client = (let u = fits.clients in omega arith); count = (let c = (header_fits n).count in omega arith); era = small }
+
+pub lowered_header : (me : Me) (e n : ℕ) → GeometryFits me.geometry → me.who < me.geometry.clients → e < 2 ^ 47 → (header_of (lowered me.who e n) ≡ record { live = true; client = me.who; count = (header_of n).count - 1; era = e }) × (lowered me.who e n < 2 ^ 64)
+lowered_header me e n fits who small = (header_of-word _ (lowered_fits me e n fits who small), header_word_small _ (lowered_fits me e n fits who small))
+
+-- ---- what the exchange leaves
+
+-- the second half is closed, and the block joins the zero-count blocks where its count came to 0
+pub record IsLowering (p : Spot) (a b e : ℕ) (m x : Memo) : Type 0 where
+  pub op : x.op ≡ Change (Lowering Closed) p a b e
+  pub rest : bare x ≡ bare m
+  pub latch : x.latch ≡ m.latch
+  pub own : x.own ≡ m.own
+  pub dying : (x.dying ≡ m.dying) ⊎ (x.dying ≡ m.dying ++ a ∷ [])
+
+pub half_committed : (c : ℕ) (m : Memo) (p : Spot) (a b e to : ℕ) → IsLowering p a b e m (committed c m (Change (Lowering Open) p a b e) to)
+half_committed c m p a b e to = go (eqb (header_of to).count 0)
+  where
+    k : Memo
+    k = cut c p (record m { op = Change (Lowering Closed) p a b e; made = without_made m a })
+
+    go : (q : Bool) → IsLowering p a b e m (sifted c (cond q (record k { dying = k.dying ++ a ∷ []; known = filter (not_of a) k.known }) k))
+    go true = record { op = refl; rest = refl; latch = refl; own = refl; dying = inr refl }
+    go false = record { op = refl; rest = refl; latch = refl; own = refl; dying = inl refl }

@@ -1,0 +1,180 @@
+-- a recovery as a plan: what is known before each call, and what is left
+pub mod Control
+pub mod Losses
+pub mod Laws
+use Rattle.std.specs.Prelude.{◌≡◌, ℕ, ◌+◌, ◌*◌, ◌-◌, ◌^◌, ◌<◌, ◌≤◌, ◌⊎◌, Bool, true, false, Result, Ok, Err, List, [], ◌∷◌, ◌++◌, length, slice_index, None}
+use Rattle.std.specs.List.{All, Contains}
+use Rattle.shm_graph.specs.declared.ask.Me.{Me}
+use Rattle.shm_graph.specs.declared.spot.Spot.{Spot}
+use Rattle.shm_graph.specs.declared.spot.Spot.TheVariants.{Era, Home, QueueHead, Root, Tail}
+use Rattle.shm_graph.specs.declared.memo.Memo.{Memo}
+use Rattle.shm_graph.specs.declared.memo.Op.TheVariants.{Nothing}
+use Rattle.shm_graph.specs.declared.memo.Status.TheVariants as status
+use Rattle.shm_graph.specs.Asks.{Trail, IsWithin}
+use Rattle.shm_graph.specs.Bounds.{recovery_steps}
+use Rattle.shm_graph.specs.Events.{Event}
+use Rattle.shm_graph.specs.Events as event
+use Rattle.shm_graph.specs.Held.{is_loose}
+use Rattle.shm_graph.specs.Laws.{GoneNow}
+use Rattle.shm_graph.specs.Reach.{shown}
+use Rattle.shm_graph.specs.Views.{own_word}
+use Rattle.shm_steps.specs.Reparting.{map_in}
+use Rattle.shm_calls.specs.CallsPart.{calls_part}
+use Rattle.shm_calls.specs.Either.{or_part}
+use Rattle.shm_calls.specs.Parts.{Part}
+use Rattle.shm_calls.specs.Plans.{Planned}
+use Rattle.shm_calls.specs.Words.{word_control}
+use Rattle.shm_count.specs.declared.answer.EraSpent.{EraSpent}
+use Rattle.shm_count.specs.Roots.{rest, root_word}
+use Rattle.shm_count.specs.Tear.Events.{Visit, frees}
+use Rattle.shm_count.specs.Tear.Memos.{is_lasting}
+use Rattle.shm_ref.specs.DropRoots.Control.{drop_root}
+use Rattle.shm_ref.specs.DropRoots.{roots_plan}
+use Rattle.shm_recover.specs.declared.recover.RecoverPoint.{RecoverPoint}
+use Rattle.shm_recover.specs.declared.recover.RecoverPoint.TheVariants.{Mend, Roots, Back, Takes, Scan, Give}
+use Rattle.shm_recover.specs.declared.recover.RecoverState.{RecoverState}
+use Rattle.shm_recover.specs.FinishTakes.{QueueDone, QueueSame, finish_plan}
+use Rattle.shm_recover.specs.GiveUp.{give_plan}
+use Rattle.shm_recover.specs.Join.{IsMember}
+use Rattle.shm_recover.specs.Mend.Control.{mend_parts}
+use Rattle.shm_recover.specs.Mend.{IsMended, MayMend, mend_plan}
+use Rattle.shm_recover.specs.Recover.Control.{RecoverAnswer, RecoverCall, is_mend, recover_after, recover_call_at, recover_line, recover_turns}
+use Rattle.shm_recover.specs.Recover.Losses.{AreLosses}
+use Rattle.shm_recover.specs.Scan.Control.{scan_parts}
+use Rattle.shm_recover.specs.Scan.{scan_plan}
+use Rattle.shm_recover.specs.TakeBack.Control.{back_parts}
+use Rattle.shm_recover.specs.TakeBack.{back_plan}
+
+-- ---- events
+
+-- at most the second half of a change comes first; then references are lost and blocks are freed, and nothing else
+pub record OnlyLoses (c : ℕ) (es : List Event) : Type 0 where
+  pub half : List Event
+  pub losses : List Event
+  pub split : es ≡ half ++ losses
+  pub first : (half ≡ []) ⊎ ((a : ℕ) × (half ≡ event.ChangeDown c a ∷ []))
+  pub others : AreLosses c losses
+
+-- ---- on the way
+
+-- the memo but its own words, its step in progress, its queues, its zero-count blocks, and what it knows and has read
+abbrev pub lasting : Memo → Memo
+lasting m = rest (record m { received = []; unsent = []; untaken = [] })
+
+-- own words that no call of a recovery changes: not the roots, the heads of queues, the redo record and the own row
+abbrev pub is_kept : ℕ → Spot → Bool
+is_kept c (Root d k) = false
+is_kept c (QueueHead s d) = false
+is_kept c p = is_lasting c p
+
+-- Once mended the memo was q, of which the status, the latch, the segments, what was sent, the partition and own words are left; no step is in progress, and the own row grew
+pub record Mended (me : Me) (r0 q r : Memo) : Type 0 where
+  pub first : Trail
+  pub half : List Event
+  pub mended : IsMended me r0 q first half
+  pub same : lasting r ≡ lasting q
+  pub idle : r.op ≡ Nothing
+  pub own : (p : Spot) → is_kept me.who p ≡ true → own_word r.own p ≡ own_word q.own p
+  pub rows : (j : ℕ) → own_word q.own (Era me.who j) ≤ own_word r.own (Era me.who j)
+
+-- so far the events lose references and free blocks, and there were k word steps, and 164 for each block that was freed
+pub record IsRecovering (me : Me) (k : ℕ) (r0 r : Memo) (tr : Trail) (es : List Event) : Type 0 where
+  pub member : IsMember me
+  pub q : Memo
+  pub mended : Mended me r0 q r
+  pub events : OnlyLoses me.who es
+  pub bound : IsWithin (k + 164 * frees es) tr
+
+-- all roots are empty
+abbrev pub AreRootless : ℕ → Memo → Type 0
+AreRootless c r = (k : ℕ) → root_word c r k ≡ 0
+
+-- each queue to the identity is as it was
+abbrev pub SameTakes : ℕ → Memo → Memo → Type 0
+SameTakes c r0 r = (s : ℕ) → QueueSame c s r0 r
+
+-- nothing waits for its tail
+abbrev pub AreSent : Memo → Type 0
+AreSent r = (j : ℕ) → slice_index r.unsent j ≡ 0
+
+-- of each queue to it the item that waited for its head is received
+abbrev pub AreTaken : ℕ → Memo → Memo → Type 0
+AreTaken c r0 r = (s : ℕ) → QueueDone c s r0 r
+
+-- the word steps before a point
+abbrev pub steps_to : ℕ → ℕ → RecoverPoint → ℕ
+steps_to n g Mend = 0
+steps_to n g Roots = n + 14
+steps_to n g Back = n + 158
+steps_to n g Takes = n + 158 + 11 * (n - 1)
+steps_to n g Scan = n + 158 + 15 * (n - 1)
+steps_to n g Give = n + 158 + 15 * (n - 1) + 528 * g
+
+abbrev pub IsAtPoint : Me → RecoverPoint → Memo → Memo → Trail → List Event → Type 0
+IsAtPoint me y r0 r tr es = IsRecovering me (steps_to me.geometry.clients me.geometry.segments y) r0 r tr es
+
+abbrev pub RecoverKnows : RecoverState → RecoverPoint → Memo → Memo → Trail → List Event → Type 0
+RecoverKnows m Mend r0 r tr es = MayMend m.me r0 × (r ≡ r0) × (tr ≡ []) × (es ≡ [])
+RecoverKnows m Roots r0 r tr es = IsAtPoint m.me Roots r0 r tr es × SameTakes m.me.who r0 r × (r.unsent ≡ r0.unsent)
+RecoverKnows m Back r0 r tr es = IsAtPoint m.me Back r0 r tr es × SameTakes m.me.who r0 r × (r.unsent ≡ r0.unsent) × AreRootless m.me.who r × (1 < m.me.geometry.clients)
+RecoverKnows m Takes r0 r tr es = IsAtPoint m.me Takes r0 r tr es × SameTakes m.me.who r0 r × AreRootless m.me.who r × AreSent r × (1 < m.me.geometry.clients)
+RecoverKnows m Scan r0 r tr es = IsAtPoint m.me Scan r0 r tr es × AreRootless m.me.who r × AreSent r × AreTaken m.me.who r0 r
+RecoverKnows m Give r0 r tr es = IsAtPoint m.me Give r0 r tr es × AreRootless m.me.who r × AreSent r × AreTaken m.me.who r0 r × (r.dying ≡ [])
+
+-- ---- what it leaves
+
+-- The status is gone and nothing is left to finish. What was sent, the tails, the map and what the home names are what they were, counting what was committed, and eras don't fall; of each queue to the identity the item that waited for its head is received
+pub record Recovered (me : Me) (r0 r : Memo) (tr : Trail) (es : List Event) : Type 0 where
+  pub status : r.status ≡ status.Gone
+  pub left : GoneNow me.who r
+  pub sent : r.sent ≡ r0.sent
+  pub tails : (i : ℕ) → own_word r.own (Tail me.who i) ≡ own_word r0.own (Tail me.who i)
+  pub taken : AreTaken me.who r0 r
+  pub home : own_word r.own (Home me.who) ≡ shown r0 (Home me.who)
+  pub rows : (j : ℕ) → own_word r0.own (Era me.who j) ≤ own_word r.own (Era me.who j)
+  pub loose : is_loose r.part ≡ is_loose r0.part
+  pub map : map_in r.part ≡ map_in r0.part
+  pub events : OnlyLoses me.who es
+  pub bound : IsWithin (recovery_steps me.geometry.segments (frees es)) tr
+
+-- how far it came: to the roots; to blocks that were not sent, with no root left; or to the scan, with no queue waiting either
+abbrev pub HasCome : ℕ → Memo → Memo → Type 0
+HasCome c r0 r = SameTakes c r0 r ⊎ ((AreRootless c r × SameTakes c r0 r) ⊎ (AreRootless c r × AreSent r × AreTaken c r0 r))
+
+-- The own era left no room for a step down: the identity is dead still, with no step in progress and no latch held; what was sent and the map are what they were
+pub record RecoverStopped (me : Me) (r0 r : Memo) (tr : Trail) (es : List Event) (era : ℕ) : Type 0 where
+  pub status : r.status ≡ status.Dead
+  pub op : r.op ≡ Nothing
+  pub latch : r.latch ≡ None
+  pub sent : r.sent ≡ r0.sent
+  pub loose : is_loose r.part ≡ is_loose r0.part
+  pub map : map_in r.part ≡ map_in r0.part
+  pub come : HasCome me.who r0 r
+  pub vs : List Visit
+  pub stays : All (λ (v : Visit). Contains r.dying v.block) vs
+  pub spent : 2 ^ 47 - 3 < era
+  pub bound : IsWithin (recovery_steps me.geometry.segments (frees es + length vs)) tr
+
+abbrev pub RecoverLeaves : RecoverState → Memo → Memo → Trail → List Event → Result (Unit {0}) EraSpent → Type 0
+RecoverLeaves m r0 r tr es (Ok done) = Recovered m.me r0 r tr es
+RecoverLeaves m r0 r tr es (Err e) = RecoverStopped m.me r0 r tr es e.era
+
+-- ---- the plan
+
+abbrev pub recover_part : Part RecoverCall RecoverAnswer
+recover_part = or_part (calls_part mend_parts mend_plan) (or_part (calls_part drop_root roots_plan) (or_part (calls_part back_parts back_plan) (or_part (calls_part word_control finish_plan) (or_part (calls_part scan_parts scan_plan) (calls_part word_control give_plan)))))
+
+abbrev pub recover_plan : Planned RecoverState RecoverCall RecoverAnswer (Result (Unit {0}) EraSpent)
+recover_plan =
+    record {
+      me = λ m. m.me;
+      line = λ m. recover_line;
+      first = λ m. is_mend m.point;
+      start = λ m. record m { point = Mend };
+      call = λ m. recover_call_at m m.point;
+      after = recover_after;
+      turns = λ m. recover_turns;
+      part = λ m. recover_part;
+      knows = λ m. RecoverKnows m m.point;
+      leaves = RecoverLeaves;
+    }

@@ -1,0 +1,186 @@
+//! The second half of a dead client's change, which a recoverer makes.
+
+ghost use Rattle.std.specs.Prelude.{◌≡◌, ◌+◌, ◌<◌, ◌^◌};
+ghost use Rattle.shm_words.specs.Layout.{GeometryFits};
+ghost use Rattle.shm_count.specs.Step.Control as step;
+ghost use Rattle.shm_recover.specs.MendLower.Control as control;
+ghost use Rattle.shm_recover.specs.MendLower.Control.{lowering};
+ghost use Rattle.shm_recover.specs.MendLower.{lowering_plan};
+ghost use Rattle.shm_recover.specs.MendLower.Laws.{lowering_laws};
+
+use shm_calls::{Calls, Plan, Word};
+use shm_graph::{Machine, Me};
+use shm_words::Header;
+use std::marker::Model;
+
+/// Which word step of it comes next.
+#[derive(Clone, Copy, Debug, PartialEq, Eq, Drop)]
+pub enum LoweringPoint {
+    /// The header of the block is loaded.
+    Header,
+    /// The own row for the header's client is loaded.
+    Row,
+    /// The header's era is stored in that row.
+    Show,
+    /// The header is exchanged for one with the count one less.
+    Exchange,
+    /// The next own era is stored.
+    Close,
+}
+
+/// The control of it; `era` is that of the second half, and `header` the word of the header that was found last.
+#[derive(Clone, Copy, Debug, PartialEq, Eq, Drop)]
+pub struct LoweringState {
+    pub me: Me,
+    pub block: u32,
+    pub era: u64,
+    pub header: u64,
+    pub point: LoweringPoint,
+}
+
+impl LoweringState {
+    /// The header of the block was found.
+    #[inline(always)]
+    fn found(&mut self, header: u64)
+        ensures { self.new ≡ control.found self.old header }
+    {
+        self.header = header;
+        self.point = if Header::unpack(header).client == self.me.who {
+            LoweringPoint::Exchange
+        } else {
+            LoweringPoint::Row
+        };
+    }
+
+    /// The header that the block comes to have.
+    #[inline(always)]
+    fn lowered(self) -> u64
+        requires who { self.me.who < 16 }
+        requires era { self.era < 2 ^ 47 }
+        ensures { result ≡ control.lowered self.me.who self.era self.header }
+    {
+        let Header { count, .. } = Header::unpack(self.header);
+        Header {
+            live: true,
+            client: self.me.who,
+            count: if count == 0 { 0 } else { count - 1 },
+            era: self.era,
+        }
+        .pack()
+    }
+
+    /// The address of the own row's word for the header's client; no header shows a client that the pool hasn't.
+    #[inline(always)]
+    fn row(self) -> u32
+        requires geometry { GeometryFits self.me.geometry }
+        requires who { self.me.who < self.me.geometry.clients }
+        ensures { result ≡ step.row_address self.me (control.header self.header).client }
+    {
+        let Me { geometry, who } = self.me;
+        let client = Header::unpack(self.header).client;
+        if client < geometry.clients() {
+            geometry.era(who, client)
+        } else {
+            0
+        }
+    }
+}
+
+/// The word steps of the second half of a change.
+#[derive(Drop)]
+pub struct Lowering {
+    state: LoweringState,
+}
+
+impl Model for Lowering {
+    ghost use Rattle.shm_recover.specs.declared.mend_lower.LoweringState.{LoweringState as AState};
+
+    ghost Value = { AState };
+
+    ghost view = { λ a. a.state };
+
+    ghost use Rattle.shm_recover.specs.MendLower.Control.{LoweringInRange};
+
+    ghost invariant = { λ a. LoweringInRange a.state };
+}
+
+/// After it the block has lost the reference that the change held over, and the change is closed.
+pub type MendLower = Calls<Lowering>;
+
+impl Lowering {
+    /// The second half at era `era` of a change of the identity `me`, which takes the reference to `block` away.
+    #[inline(always)]
+    pub fn new(me: Me, block: u32, era: u64) -> Lowering
+        requires geometry { GeometryFits me.geometry }
+        requires who { me.who < me.geometry.clients }
+        requires era { era < 2 ^ 47 }
+        ensures { result ≡ lowering me block era }
+    {
+        Lowering {
+            state: LoweringState {
+                me,
+                block,
+                era,
+                header: 0,
+                point: LoweringPoint::Header,
+            },
+        }
+    }
+}
+
+impl Plan for Lowering {
+    type Call = Word;
+
+    type Answer = ();
+
+    ghost plan = { lowering_plan };
+
+    #[inline(always)]
+    fn me(&self) -> Me {
+        self.state.me
+    }
+
+    #[inline(always)]
+    fn call(&self) -> Word {
+        let LoweringState {
+            me,
+            block,
+            era,
+            header,
+            point,
+        } = self.state;
+        match point {
+            LoweringPoint::Header => Word::load(me, block),
+            LoweringPoint::Row => Word::load(me, self.state.row()),
+            LoweringPoint::Show => { Word::store(me, self.state.row(), Header::unpack(header).era) }
+            LoweringPoint::Exchange => Word::exchange(me, block, header, self.state.lowered()),
+            LoweringPoint::Close => Word::store(me, me.geometry.era(me.who, me.who), era + 1),
+        }
+    }
+
+    #[inline(always)]
+    fn next(&mut self, word: u64) -> Option<()> {
+        match self.state.point {
+            LoweringPoint::Header => self.state.found(word),
+            LoweringPoint::Row => {
+                self.state.point = if word < Header::unpack(self.state.header).era {
+                    LoweringPoint::Show
+                } else {
+                    LoweringPoint::Exchange
+                };
+            }
+            LoweringPoint::Show => self.state.point = LoweringPoint::Exchange,
+            LoweringPoint::Exchange => {
+                if word == self.state.header {
+                    self.state.point = LoweringPoint::Close;
+                } else {
+                    self.state.found(word);
+                }
+            }
+            LoweringPoint::Close => return Some(()),
+        }
+        None
+    }
+
+    ghost laws = { lowering_laws };
+}

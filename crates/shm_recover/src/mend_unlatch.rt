@@ -1,0 +1,123 @@
+//! A recoverer gives back the latch that a dead client held or wanted.
+
+ghost use Rattle.std.specs.Prelude.{◌≡◌, ◌<◌};
+ghost use Rattle.shm_words.specs.Layout.{GeometryFits};
+ghost use Rattle.shm_recover.specs.MendUnlatch.Control.{unlatching};
+ghost use Rattle.shm_recover.specs.MendUnlatch.{unlatching_plan};
+ghost use Rattle.shm_recover.specs.MendUnlatch.Laws.{unlatching_laws};
+
+use shm_calls::{Calls, Plan, Word};
+use shm_graph::{Machine, Me};
+use std::marker::Model;
+
+/// Which word step of it comes next.
+#[derive(Clone, Copy, Debug, PartialEq, Eq, Drop)]
+pub enum UnlatchingPoint {
+    /// The hold word is loaded.
+    Whose,
+    /// The latch that it names is loaded.
+    Look,
+    /// The latch is the identity's, and is stored as 0.
+    Give,
+    /// The hold word is stored as 0.
+    Back,
+}
+
+/// The control of it; `author` is whose latch the hold word names.
+#[derive(Clone, Copy, Debug, PartialEq, Eq, Drop)]
+pub struct UnlatchingState {
+    pub me: Me,
+    pub author: u8,
+    pub point: UnlatchingPoint,
+}
+
+/// The word steps by which a recoverer gives back a latch.
+#[derive(Drop)]
+pub struct Unlatching {
+    state: UnlatchingState,
+}
+
+impl Model for Unlatching {
+    ghost use Rattle.shm_recover.specs.declared.mend_unlatch.UnlatchingState.{UnlatchingState as AState};
+
+    ghost Value = { AState };
+
+    ghost view = { λ a. a.state };
+
+    ghost use Rattle.shm_recover.specs.MendUnlatch.Control.{UnlatchingInRange};
+
+    ghost invariant = { λ a. UnlatchingInRange a.state };
+}
+
+/// After it no step is in progress, no latch is held, and the hold word is 0.
+pub type MendUnlatch = Calls<Unlatching>;
+
+impl Unlatching {
+    /// The latch of the identity `me` is to be given back, if it holds one.
+    #[inline(always)]
+    pub fn new(me: Me) -> Unlatching
+        requires geometry { GeometryFits me.geometry }
+        requires who { me.who < me.geometry.clients }
+        ensures { result ≡ unlatching me }
+    {
+        Unlatching {
+            state: UnlatchingState {
+                me,
+                author: 0,
+                point: UnlatchingPoint::Whose,
+            },
+        }
+    }
+}
+
+impl Plan for Unlatching {
+    type Call = Word;
+
+    type Answer = ();
+
+    ghost plan = { unlatching_plan };
+
+    #[inline(always)]
+    fn me(&self) -> Me {
+        self.state.me
+    }
+
+    #[inline(always)]
+    fn call(&self) -> Word {
+        let UnlatchingState { me, author, point } = self.state;
+        let hold = me.geometry.hold(me.who);
+        let latch = me.geometry.latch(author);
+        match point {
+            UnlatchingPoint::Whose => Word::load(me, hold),
+            UnlatchingPoint::Look => Word::load(me, latch),
+            UnlatchingPoint::Give => Word::store(me, latch, 0),
+            UnlatchingPoint::Back => Word::store(me, hold, 0),
+        }
+    }
+
+    #[inline(always)]
+    fn next(&mut self, word: u64) -> Option<()> {
+        let me = self.state.me;
+        match self.state.point {
+            UnlatchingPoint::Whose => {
+                if word == 0 {
+                    return Some(());
+                }
+                self.state.author = ((word - 1) % u64::from(me.geometry.clients())) as u8;
+                self.state.point = UnlatchingPoint::Look;
+            }
+            UnlatchingPoint::Look => {
+                self.state.point = if word == u64::from(me.who) + 1 {
+                    UnlatchingPoint::Give
+                } else {
+                    UnlatchingPoint::Back
+                };
+            }
+            UnlatchingPoint::Give => self.state.point = UnlatchingPoint::Back,
+            UnlatchingPoint::Back => return Some(()),
+        }
+        None
+    }
+
+    ghost laws = { unlatching_laws };
+}

@@ -1,0 +1,18 @@
+pub mod Standing
+pub mod Folding
+pub mod WorkLaws
+pub mod Trails
+pub mod Lines
+pub mod Playing
+pub mod Joining
+pub mod Turning
+pub mod Turns
+mod OwnEras
+mod Visiting
+mod Ends
+mod Giving
+mod Seating
+mod Telling
+mod Gathering
+mod WholeRun
+mod Starting

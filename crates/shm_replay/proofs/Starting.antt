@@ -1,0 +1,52 @@
+-- the clients of a trace before their first word steps
+use Rattle.std.proofs.Common.{◌≡◌, ◌≢◌, ℕ, zero, suc, ◌+◌, ◌^◌, ◌<◌, ◌≤◌, Bool, true, false, cond, eqb, List, [], ◌∷◌, ◌++◌, length, refl, sym, ap, ◌∙◌, subst, arith, inl, inr}
+use Rattle.std.specs.Prelude.{Option, Some, None, slice_get, slice_index_or}
+use Rattle.std.specs.List.{AllByRecursion}
+use Rattle.std.proofs.lemmas.Bool.{cases_eq, cases_lt, cond-false, cond-true, eqb-true}
+use Rattle.shm_graph.specs.declared.ask.Me.{Me}
+use Rattle.shm_graph.specs.declared.run.Account.{Account}
+use Rattle.shm_graph.specs.declared.run.Start.{Start}
+use Rattle.shm_graph.specs.Runs.{account_at, first_account}
+use Rattle.shm_graph.proofs.States.FirstHeld.{at-accounts_from}
+use Rattle.shm_count.specs.Roots.{member}
+use Rattle.shm_plain.specs.Pools.{Pool, first_pool}
+use Rattle.shm_script.specs.declared.line.Line.{Line}
+use Rattle.shm_script.specs.Ranges.{IsTrace, LineFits, ScriptFits}
+use Rattle.shm_script.specs.Values.{Scripted, Traced}
+use Rattle.shm_replay.specs.Clients.{Playing, Stands}
+use Rattle.shm_replay.specs.Replays.{start_of}
+use Rattle.shm_replay.specs.Seats.{AreSeated, IsSeat, Seat}
+use Rattle.shm_replay.specs.Turns.{script_in}
+use Rattle.shm_replay.proofs.Gathering.{same_some}
+use Rattle.shm_replay.proofs.WholeRun.{all_at}
+
+pub account_first : (s : Start) (c : ℕ) → c < s.geometry.clients → account_at (first_pool s).accounts c ≡ first_account s c
+account_first s c l = at-accounts_from s 0 s.geometry.clients c _ l ∙ ap (first_account s) (let z : 0 + c ≡ c = omega arith in z)
+
+pub script_client : (ss : List Scripted) (c : ℕ) (s : Scripted) → script_in ss c ≡ Some s → s.client ≡ c
+script_client [] c s e = absurd (cc)
+script_client (r ∷ ss) c s e = go (eqb r.client c) refl (script_client ss c s)
+  where
+    go : (b : Bool) → eqb r.client c ≡ b → (script_in ss c ≡ Some s → s.client ≡ c) → s.client ≡ c
+    go true f later = ap (λ (x : Scripted). x.client) (sym (same_some r s (sym (cond-true (eqb r.client c) (Some r) (script_in ss c) f) ∙ e))) ∙ eqb-true r.client c f
+    go false f later = later (sym (cond-false (eqb r.client c) (Some r) (script_in ss c) f) ∙ e)
+
+-- what is said of a client that has been made
+abbrev pub NewStands : Me → ℕ → Playing → Type 0
+NewStands me commands x = (start : Start) (lines : List Line) → start.geometry ≡ me.geometry → start.first_era ≡ 1 → start.tables ≡ true → AllByRecursion (LineFits me.geometry.clients me.who) lines → length lines < 2 ^ 32 → length lines ≤ commands → Stands start lines x (first_account start me.who)
+
+module _ (t : Traced) (trace : IsTrace t) (who : ℕ) (l : who < t.clients) where
+  pub none_seat : script_in t.scripts who ≡ None → Seat t (first_pool (start_of t)) who None
+  none_seat e = (e, account_first (start_of t) who l)
+
+  pub new_seat : (at : ℕ) (s : Scripted) (me : Me) (commands : ℕ) (x : Playing) → slice_get t.scripts at ≡ Some s → script_in t.scripts who ≡ Some s → me ≡ member (start_of t).geometry who → x.me ≡ me → x.script ≡ at → length s.lines ≤ commands → NewStands me commands x → IsSeat t (first_pool (start_of t)) who x
+  new_seat at s me commands x has is em xm xs room new =
+      let fits : ScriptFits t.clients s = all_at (ScriptFits t.clients) t.scripts at s trace.scripts has in
+      let stands = subst (λ (m : Me). NewStands m commands x) em new (start_of t) s.lines refl refl refl (subst (λ (n : ℕ). AllByRecursion (LineFits t.clients n) s.lines) (script_client t.scripts who s is) fits.lines) fits.few room in
+      record {
+        me = xm ∙ em;
+        script = s;
+        is = is;
+        at = ap (slice_get t.scripts) xs ∙ has;
+        stands = subst (Stands (start_of t) s.lines x) (sym (account_first (start_of t) who l)) stands;
+      }

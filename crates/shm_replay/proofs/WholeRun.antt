@@ -1,0 +1,133 @@
+-- the run of a trace and its closing are a replay
+use Rattle.std.proofs.Common.{◌≡◌, ◌≢◌, ℕ, zero, suc, ◌+◌, ◌%◌, ◌<◌, ◌≤◌, Bool, true, false, not, cond, eqb, List, [], ◌∷◌, ◌++◌, replicate, refl, sym, ap, ◌∙◌, subst, arith}
+use Rattle.std.specs.Prelude.{Option, Some, None, slice_get, slice_index_or}
+use Rattle.std.specs.FinMap as finmap
+use Rattle.std.specs.Ordering.{nat_cmp}
+use Rattle.std.specs.List.{AllByRecursion}
+use Rattle.std.proofs.lemmas.Bool.{cond-false, cond-true, eq-eqb, ne_eqb, true≢false}
+use Rattle.shm_graph.specs.declared.memo.Memo.{Memo}
+use Rattle.shm_graph.specs.declared.run.Account.{Account}
+use Rattle.shm_graph.specs.declared.run.Start.{Start}
+use Rattle.shm_graph.specs.declared.spot.Spot.TheVariants.{Home}
+use Rattle.shm_graph.specs.declared.table.Entry.{Entry}
+use Rattle.shm_graph.specs.declared.table.Part.{Part}
+use Rattle.shm_graph.specs.declared.table.Part.TheVariants.{Loose, Table}
+use Rattle.shm_graph.specs.Held.{PartTie, is_loose}
+use Rattle.shm_graph.specs.References.{references}
+use Rattle.shm_graph.specs.Runs.{account_at, first_account}
+use Rattle.shm_graph.specs.Spots.{see}
+use Rattle.shm_graph.specs.Tables.{Contents, IsPartition, contents_of, find, map_of}
+use Rattle.shm_graph.proofs.States.FirstHeld.{same_everywhere}
+use Rattle.shm_steps.specs.Reparting.{chain_in, map_in}
+use Rattle.shm_plain.specs.Closings.{IsClosedRun}
+use Rattle.shm_plain.specs.Pools.{IsRun, Pool, first_pool, memo_of}
+use Rattle.shm_plain.proofs.StillTable.{still_part}
+use Rattle.shm_script.specs.Ranges.{AreApart, IsTrace, ScriptFits}
+use Rattle.shm_script.specs.Values.{Scripted, Traced}
+use Rattle.shm_replay.specs.Clients.{HasParted, Playing, Stands, logged}
+use Rattle.shm_replay.specs.Closings.{AreVisits}
+use Rattle.shm_replay.specs.Gathered.{logs_by}
+use Rattle.shm_replay.specs.Logs.{IsLog}
+use Rattle.shm_replay.specs.Orders.{IsGivenAll}
+use Rattle.shm_replay.specs.Replays.{IsReplay, fold_in, start_of}
+use Rattle.shm_replay.specs.Seats.{AreSeated, IsSeat, Seat}
+use Rattle.shm_replay.specs.Turns.{is_busy, script_in}
+use Rattle.shm_replay.proofs.Gathering.{fold_none, fold_some, logs_are}
+use Rattle.shm_replay.proofs.Seating.{seat_busy}
+use Rattle.shm_replay.proofs.Standing.{stands_log, stands_parted}
+use Rattle.shm_replay.proofs.Telling.{visits_grow}
+
+same_some : {A : Type 0} (a b : A) → ◌≡◌ {A = Option A} (Some a) (Some b) → a ≡ b
+same_some a b e = cc
+
+pub all_at : (P : Scripted → Type 0) (ss : List Scripted) (k : ℕ) (s : Scripted) → AllByRecursion P ss → slice_get ss k ≡ Some s → P s
+all_at P [] k s h e = absurd (cc)
+all_at P (r ∷ ss) zero s h e = subst P (same_some r s e) h.0
+all_at P (r ∷ ss) (suc k) s h e = all_at P ss k s h.1 e
+
+-- a script is that of its identity
+script_at : (ss : List Scripted) (k : ℕ) (s : Scripted) → AreApart ss → slice_get ss k ≡ Some s → script_in ss s.client ≡ Some s
+script_at [] k s h e = absurd (cc)
+script_at (r ∷ ss) zero s h e = let same : r ≡ s = same_some r s e in cond-true (eqb r.client s.client) (Some r) (script_in ss s.client) (eq-eqb r.client s.client (ap (λ (x : Scripted). x.client) same)) ∙ e
+script_at (r ∷ ss) (suc k) s h e =
+    cond-false (eqb r.client s.client) (Some r) (script_in ss s.client) (ne_eqb r.client s.client (λ f. all_at (λ o. o.client ≢ r.client) ss k s h.0 e (sym f)))
+    ∙ script_at ss k s h.1 e
+
+-- the partition that is a part for tables
+table_by : (x : Contents) (c home : ℕ) (part : Part) → is_loose part ≡ false → PartTie x c home part → IsPartition x c home (chain_in part)
+table_by x c home Loose e h = absurd (true≢false e)
+table_by x c home (Table chains) e h = h
+
+module _ (t : Traced) (trace : IsTrace t) (q p : Pool) (xs : List (Option Playing)) (start : q.start ≡ start_of t) (same : p.start ≡ q.start) (given : IsGivenAll t (first_pool (start_of t)) q) (run : IsRun q) (seated : AreSeated t q xs) (visits : AreVisits 0 t.clients q p) (closed : IsClosedRun p) (parts : (c : ℕ) → c < t.clients → (memo_of p c).part ≡ (memo_of q c).part) where
+  -- a client that stands has left
+  gone : (c : ℕ) (x : Playing) → IsSeat t q c x → x.left ≡ true
+  gone c x h = go x.left (sym (seat_busy t q c x h) ∙ given.done c)
+    where
+      go : (b : Bool) → not b ≡ false → b ≡ true
+      go true f = refl
+      go false f = absurd (true≢false f)
+
+  parted : (c : ℕ) (x : Playing) (h : IsSeat t q c x) → HasParted h.script.lines x (account_at q.accounts c)
+  parted c x h = stands_parted q.start h.script.lines x (account_at q.accounts c) h.stands (gone c x h)
+
+  -- the client of a script, with its log
+  client_of : (k : ℕ) (s : Scripted) → slice_get t.scripts k ≡ Some s → (x : Playing) × (slice_index_or xs s.client None ≡ Some x) × (x.me.who ≡ s.client) × IsLog p s (logged x)
+  client_of k s e = go (slice_index_or xs s.client None) refl (seated.seats s.client (all_at (ScriptFits t.clients) t.scripts k s trace.scripts e).client)
+    where
+      c : ℕ
+      c = s.client
+
+      is : script_in t.scripts c ≡ Some s
+      is = script_at t.scripts k s trace.apart e
+
+      go : (o : Option Playing) → slice_index_or xs c None ≡ o → Seat t q c o → (x : Playing) × (slice_index_or xs c None ≡ Some x) × (x.me.who ≡ c) × IsLog p s (logged x)
+      go None f h = let z : ◌≡◌ {A = Option Scripted} (Some s) None = sym is ∙ h.0 in absurd (cc)
+      go (Some x) f h =
+          let script : h.script ≡ s = same_some h.script s (sym h.is ∙ is) in
+          let who : x.me.who ≡ c = ap (λ m. m.who) h.me in
+          let told = visits_grow 0 t.clients q p run visits c in
+          (x, f, who, stands_log q.start x (account_at q.accounts c) s p told.0 (subst (λ (r : Scripted). Stands q.start r.lines x (account_at q.accounts c)) script h.stands) (gone c x h) (ap (λ (z : Start). z.geometry) same) (sym who) told.1)
+
+  have : (k : ℕ) (s : Scripted) → slice_get t.scripts k ≡ Some s → (x : Playing) × (slice_index_or xs s.client None ≡ Some x) × (x.me.who ≡ s.client)
+  have k s e = let (x, at, who, log) = client_of k s e in (x, at, who)
+
+  tables : (c : ℕ) → c < t.clients → is_loose (memo_of q c).part ≡ false
+  tables c l = go (slice_index_or xs c None) (seated.seats c l)
+    where
+      go : (o : Option Playing) → Seat t q c o → is_loose (memo_of q c).part ≡ false
+      go None h = ap (λ (a : Account). is_loose a.memo.part) h.1 ∙ ap (λ (z : Start). is_loose (first_account z c).memo.part) start
+      go (Some x) h = (parted c x h).table
+
+  folds : (c key : ℕ) → c < t.clients → map_in (memo_of q c).part key ≡ finmap.get (fold_in (logs_by t.scripts xs) c) key
+  folds c key l = go (slice_index_or xs c None) refl (seated.seats c l)
+    where
+      go : (o : Option Playing) → slice_index_or xs c None ≡ o → Seat t q c o → map_in (memo_of q c).part key ≡ finmap.get (fold_in (logs_by t.scripts xs) c) key
+      go None f h =
+          ap (λ (a : Account). map_in a.memo.part key) h.1
+          ∙ (ap (λ (z : Start). map_in (first_account z c).memo.part key) start
+          ∙ (ap (find key) (same_everywhere 16 (key % 16) [])
+          ∙ sym (ap (λ m. finmap.get m key) (fold_none t.scripts xs c have h.0) ∙ finmap.get-empty nat_cmp key)))
+      go (Some x) f h = (parted c x h).fold key ∙ sym (ap (λ m. finmap.get m key) (fold_some t.scripts xs c h.script x have h.is f))
+
+  pub is_replay : IsReplay t p (logs_by t.scripts xs)
+  is_replay =
+      record {
+        start = same ∙ start;
+        played = q;
+        given = given;
+        visits = visits;
+        closed = closed;
+        logs = logs_are p t.scripts xs (λ k s e. let (x, at, who, log) = client_of k s e in (x, at, log));
+        table = λ c. chain_in (memo_of p c).part;
+        is = λ c l.
+            let few : c < t.clients = subst (λ n. c < n) (ap (λ (z : Start). z.geometry.clients) (same ∙ start)) l in
+            table_by _ c _ (memo_of p c).part (ap is_loose (parts c few) ∙ tables c few) (still_part p closed.run closed.still c l);
+        fold = λ c key l. ap (λ part. map_in part key) (parts c l) ∙ folds c key l;
+      }
+
+-- no two scripts are of one client
+pub apart_at : (ss : List Scripted) (j k : ℕ) (r s : Scripted) → AreApart ss → j < k → slice_get ss j ≡ Some r → slice_get ss k ≡ Some s → r.client ≢ s.client
+apart_at [] j k r s h l e f g = absurd (cc)
+apart_at (x ∷ ss) j zero r s h l e f g = absurd (omega arith)
+apart_at (x ∷ ss) zero (suc k) r s h l e f g = all_at (λ o. o.client ≢ x.client) ss k s h.0 f (sym (ap (λ (z : Scripted). z.client) (same_some x r e) ∙ g))
+apart_at (x ∷ ss) (suc j) (suc k) r s h l e f g = apart_at ss j k r s h.1 (omega arith) e f g

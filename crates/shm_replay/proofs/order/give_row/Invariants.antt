@@ -1,0 +1,14 @@
+use Rattle.std.proofs.Common.{◌≡◌, ◌≢◌, ℕ}
+use Rattle.shm_graph.specs.Runs.{account_at}
+use Rattle.shm_replay.specs.Seats.{IsSeat}
+use Rattle.shm_replay.specs.Turns.{in_a_row}
+use Rattle.shm_replay.proofs.order.give_row.Given as goal
+
+abbrev pub invariant-loop-turn : goal.invariant-loop-turn
+invariant-loop-turn l = record {
+  me : l.client.me ≡ l.fn.client.me;
+  seat : IsSeat l.trace l.pool l.fn.client.me.who l.client;
+  given : l.pool ≡ in_a_row l.trace l.fn.pool l.fn.client.me.who l._turn;
+  others : (d : ℕ) → d ≢ l.fn.client.me.who → account_at l.pool.accounts d ≡ account_at l.fn.pool.accounts d;
+  start : l.pool.start ≡ l.fn.pool.start;
+}

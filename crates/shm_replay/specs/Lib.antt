@@ -1,0 +1,10 @@
+pub mod Work
+pub mod Turns
+pub mod Orders
+pub mod Closings
+pub mod Logs
+pub mod Clients
+pub mod Seats
+pub mod Gathered
+pub mod Replays
+pub mod Stops

@@ -1,0 +1,30 @@
+use Rattle.std.proofs.Common.{refl}
+use Rattle.shm_script.specs.declared.line.Line.TheVariants as line
+use Rattle.shm_table.specs.Command.Laws.{command_laws}
+use Rattle.shm_table.specs.CopyKey.Laws.{copy_laws}
+use Rattle.shm_table.specs.Del.Laws.{del_laws}
+use Rattle.shm_table.specs.Enter.Laws.{enter_laws}
+use Rattle.shm_table.specs.FetchHead.Laws.{fetch_head_laws}
+use Rattle.shm_table.specs.Fetch.Laws.{fetch_laws}
+use Rattle.shm_table.specs.Get.Laws.{get_laws}
+use Rattle.shm_table.specs.Locate.Laws.{locate_laws}
+use Rattle.shm_table.specs.OpenTable.Laws.{open_laws}
+use Rattle.shm_table.specs.Put.Laws.{put_laws}
+use Rattle.shm_table.specs.PutRoot.Laws.{put_root_laws}
+use Rattle.shm_table.specs.RecvKey.Laws.{recv_laws}
+use Rattle.shm_table.specs.Replace.Laws.{replace_laws}
+use Rattle.shm_table.specs.SendKey.Laws.{send_key_laws}
+use Rattle.shm_table.specs.TakeHead.Laws.{take_head_laws}
+use Rattle.shm_table.proofs.effects.command_lines.Goals as goal
+
+pub returns-clause-begun : goal.returns-clause-begun
+returns-clause-begun c me (line.Put key n) = refl
+returns-clause-begun c me (line.Copy key a other) = refl
+returns-clause-begun c me (line.Del key) = refl
+returns-clause-begun c me (line.Get a key) = refl
+returns-clause-begun c me (line.Send to key) = refl
+returns-clause-begun c me (line.Recv from key) = refl
+
+pub returns-clause-stays : goal.returns-clause-stays
+returns-clause-stays c m n going =
+    ((command_laws (put_laws (put_root_laws open_laws locate_laws replace_laws enter_laws)) (copy_laws fetch_laws (put_root_laws open_laws locate_laws replace_laws enter_laws)) del_laws get_laws send_key_laws (recv_laws fetch_head_laws take_head_laws (put_root_laws open_laws locate_laws replace_laws enter_laws))).steady m n going).same_line

@@ -1,0 +1,82 @@
+-- the command of a line begins where the memo is as it asks, and its steps are the events that it tells
+use Rattle.std.proofs.Common.{◌≡◌, true, refl, None, []}
+use Rattle.shm_graph.specs.declared.ask.Me.{Me}
+use Rattle.shm_graph.specs.declared.memo.Memo.{Memo}
+use Rattle.shm_graph.specs.Tells.{Tells}
+use Rattle.shm_calls.specs.CallsKeep.{calls_begin}
+use Rattle.shm_calls.specs.Plans.{PlanLaws}
+use Rattle.shm_script.specs.declared.line.Line.{Line}
+use Rattle.shm_script.specs.declared.line.Line.TheVariants as line
+use Rattle.shm_table.specs.Command.{CommandFits, MayStand, command_control, command_does, command_of}
+use Rattle.shm_table.specs.Command.Laws.{command_tells}
+use Rattle.shm_table.specs.CopyKey.Control.{copy_parts, copying}
+use Rattle.shm_table.specs.CopyKey.{copy_plan}
+use Rattle.shm_table.specs.CopyKey.Laws.{copy_begin, copy_laws}
+use Rattle.shm_table.specs.Del.Control.{del_parts, deleting}
+use Rattle.shm_table.specs.Del.{del_plan}
+use Rattle.shm_table.specs.Del.Laws.{del_begin, del_laws}
+use Rattle.shm_table.specs.Enter.Laws.{enter_laws}
+use Rattle.shm_table.specs.FetchHead.Laws.{fetch_head_laws}
+use Rattle.shm_table.specs.Fetch.Laws.{fetch_laws}
+use Rattle.shm_table.specs.Get.Control.{get_parts, getting}
+use Rattle.shm_table.specs.Get.{get_plan}
+use Rattle.shm_table.specs.Get.Laws.{get_begin, get_laws}
+use Rattle.shm_table.specs.Locate.Laws.{locate_laws}
+use Rattle.shm_table.specs.OpenTable.Laws.{open_laws}
+use Rattle.shm_table.specs.Put.Control.{put_parts, putting}
+use Rattle.shm_table.specs.Put.{put_plan}
+use Rattle.shm_table.specs.Put.Laws.{put_laws}
+use Rattle.shm_table.specs.PutRoot.Control.{put_root_parts}
+use Rattle.shm_table.specs.PutRoot.{put_root_plan}
+use Rattle.shm_table.specs.PutRoot.Laws.{put_root_laws}
+use Rattle.shm_table.specs.RecvKey.Control.{receiving_key, recv_parts}
+use Rattle.shm_table.specs.RecvKey.{recv_plan}
+use Rattle.shm_table.specs.RecvKey.Laws.{recv_begin, recv_laws}
+use Rattle.shm_table.specs.Replace.Laws.{replace_laws}
+use Rattle.shm_table.specs.SendKey.Control.{send_key_parts, sending_key}
+use Rattle.shm_table.specs.SendKey.{send_key_plan}
+use Rattle.shm_table.specs.SendKey.Laws.{send_key_begin, send_key_laws}
+use Rattle.shm_table.specs.TakeHead.Laws.{take_head_laws}
+use Rattle.table_calls.specs.Running.{MayRun}
+
+-- the laws of what commands that bring a value block share
+root_laws : PlanLaws put_root_parts put_root_plan
+root_laws = put_root_laws open_laws locate_laws replace_laws enter_laws
+
+pub run_begins : (me : Me) (l : Line) (r : Memo) → MayRun me l r → CommandFits (command_of me l) r r []
+run_begins me (line.Put key n) r may = calls_begin put_parts put_plan (put_laws root_laws) (putting me key n) r refl refl (may.0, may.1, refl, refl, refl)
+run_begins me (line.Copy key a other) r may = calls_begin copy_parts copy_plan (copy_laws fetch_laws root_laws) (copying me key a other) r refl refl (copy_begin me key a other r may)
+run_begins me (line.Del key) r may = calls_begin del_parts del_plan del_laws (deleting me key) r refl refl (del_begin me key r may)
+run_begins me (line.Get a key) r may = calls_begin get_parts get_plan get_laws (getting me a key) r refl refl (get_begin me a key r may)
+run_begins me (line.Send to key) r may = calls_begin send_key_parts send_key_plan send_key_laws (sending_key me to key) r refl refl (send_key_begin me to key r may)
+run_begins me (line.Recv from key) r may = calls_begin recv_parts recv_plan (recv_laws fetch_head_laws take_head_laws root_laws) (receiving_key me from key) r refl refl (recv_begin me from key r may)
+
+pub run_tells : Tells command_control CommandFits command_does
+run_tells = command_tells (put_laws root_laws) (copy_laws fetch_laws root_laws) del_laws get_laws send_key_laws (recv_laws fetch_head_laws take_head_laws root_laws)
+
+-- no word step of it was made yet
+pub run_fresh : (me : Me) (l : Line) → command_control.fresh (command_of me l) ≡ true
+run_fresh me (line.Put key n) = refl
+run_fresh me (line.Copy key a other) = refl
+run_fresh me (line.Del key) = refl
+run_fresh me (line.Get a key) = refl
+run_fresh me (line.Send to key) = refl
+run_fresh me (line.Recv from key) = refl
+
+-- the identities of the line are of the pool
+pub run_stands : (me : Me) (l : Line) (r : Memo) → MayRun me l r → MayStand me l
+run_stands me (line.Put key n) r may = tt
+run_stands me (line.Copy key a other) r may = may.author
+run_stands me (line.Del key) r may = tt
+run_stands me (line.Get a key) r may = may.author
+run_stands me (line.Send to key) r may = (may.to, may.other)
+run_stands me (line.Recv from key) r may = (may.from, may.other)
+
+-- no latch is held before it
+pub run_latch : (me : Me) (l : Line) (r : Memo) → MayRun me l r → r.latch ≡ None
+run_latch me (line.Put key n) r may = may.0.none
+run_latch me (line.Copy key a other) r may = may.command.none
+run_latch me (line.Del key) r may = may.none
+run_latch me (line.Get a key) r may = may.none
+run_latch me (line.Send to key) r may = may.locate.none
+run_latch me (line.Recv from key) r may = may.command.none

@@ -1,0 +1,36 @@
+//! Commands on a table as calls on a pool.
+
+ghost use Rattle.std.specs.Prelude.{◌≡◌, ◌≢◌, ℕ, true, List, IfSome};
+ghost use Rattle.std.specs.Option.{is_some};
+ghost use Rattle.shm_graph.specs.Agents.{recovers};
+ghost use Rattle.shm_graph.specs.Events.{Event};
+ghost use Rattle.shm_plain.specs.Calls.{Did, IsAtWork, Ran};
+ghost use Rattle.shm_plain.specs.Pools.{memo_of};
+ghost use Rattle.shm_count.specs.Roots.{member};
+ghost use Rattle.shm_table.specs.Command.{CommandGives, command_of};
+ghost use Rattle.shm_table.specs.Staying.{Ended};
+ghost use Rattle.table_calls.specs.Running.{LeavesOpen, MapSo, MayRun, RunLeaves};
+
+use shm_graph::{Life, Me};
+use shm_plain::PlainPool;
+use shm_script::{Answer, Line};
+use shm_table::Command;
+
+/// Runs the command of `line` for `who`, and says what a script is told of it; none where no word step was left.
+pub fn command(pool: &mut PlainPool, who: u8, line: &Line, life: &mut Life) -> Option<Answer>
+    requires at_work { IsAtWork who pool.old }
+    requires may { MayRun (member pool.old.start.geometry who) line.now (memo_of pool.old who) }
+    ensures gives { IfSome result (λ a. CommandGives (command_of (member pool.old.start.geometry who) line.now) (memo_of pool.old who) (memo_of pool.new who) (memo_of pool.new who).call a) }
+    ensures map { IfSome result (λ a. MapSo line.now a (memo_of pool.old who) (memo_of pool.new who)) }
+    ensures others { (d : ℕ) → d ≢ who → memo_of pool.new d ≡ memo_of pool.old d }
+    ensures rests { IfSome result (λ a. LeavesOpen (memo_of pool.old who) (memo_of pool.new who)) }
+    ensures ended { IfSome result (λ a. Ended who (memo_of pool.old who) (memo_of pool.new who)) }
+    ensures at_work { IfSome result (λ a. IsAtWork who pool.new) }
+    ensures kind { IfSome result (λ a. recovers (memo_of pool.new who) ≡ recovers (memo_of pool.old who)) }
+    ensures ran { Ran who true (is_some result) pool.old pool.new life.old.left life.new.left }
+    ensures leaves { IfSome result (λ a. (es : List Event) × Did who pool.old pool.new es × RunLeaves (member pool.old.start.geometry who) line.now (memo_of pool.old who) (memo_of pool.new who) (memo_of pool.new who).call es a) }
+{
+    let geometry = pool.geometry();
+    let mut machine = Command::new(Me::new(geometry, who), line);
+    pool.call(who, &mut machine, life)
+}

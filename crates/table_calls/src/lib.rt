@@ -1,0 +1,11 @@
+//! Commands on a table as calls on a pool in a vector.
+#![tactic(auto)]
+
+pub mod commands;
+
+pub use commands::command;
+
+#[cfg(test)]
+mod row_tests;
+#[cfg(test)]
+mod running;
