@@ -1,0 +1,3 @@
+-- what the own map of an identity is while its machines over tables are running
+pub mod Steps
+pub mod Still
