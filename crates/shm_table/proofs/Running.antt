@@ -1,3 +1,4 @@
 -- what the own map of an identity is while its machines over tables are running
 pub mod Steps
 pub mod Still
+pub mod Reading

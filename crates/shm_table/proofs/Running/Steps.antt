@@ -191,11 +191,9 @@ root_part c k m r0 r tr going fit = quiet_by (step_exchanged m) m.me.who (spot.R
 pub lane_part : (s t k : ℕ) (m : StepState) (r0 r : Memo) (tr : Trail) → step_control.finished m ≡ false → StepFits (spot.Slot s t k) m r0 r tr → r.part ≡ r0.part
 lane_part s t k m r0 r tr going fit = quiet_by (step_exchanged m) m.me.who (spot.Slot s t k) (value_after m.aim) r0 r (lane_after m.me.who (sight m.me.who r0) s t k (value_after m.aim)) (step_part (spot.Slot s t k) m r0 r tr tt going fit)
 
--- a step up at a root that is taken up at a later point
-pub from_part : (c k : ℕ) (y : StepPoint) (m : StepState) (rs r : Memo) (tr : Trail) → exchanged_at m.aim y ≡ false → is_over y ≡ false → PointFits m.me m.aim y → step_control.finished m ≡ false → FitsFrom (spot.Root c k) y m rs r tr → r.part ≡ rs.part
-from_part c k y m rs r tr before begun knows going fit =
-    let c2 = m.me.who in
+-- a step at a root that is taken up once its own era was loaded
+pub root_from : (c k e : ℕ) (m : StepState) (rs r : Memo) (tr : Trail) → step_control.finished m ≡ false → FitsFrom (spot.Root c k) (point.Redo e) m rs r tr → r.part ≡ rs.part
+root_from c k e m rs r tr going fit =
+    let d = m.me.who in
     let now = point_part m.me m.slot m.aim (spot.Root c k) fit.r0 tt r m.point fit.knows.point going fit.holds.has in
-    let then = point_part m.me m.slot m.aim (spot.Root c k) fit.r0 tt rs y knows begun fit.came.holds.has in
-    let none : part_after c2 (sight c2 fit.r0) (spot.Root c k) (value_after m.aim) ≡ fit.r0.part = root_after c2 (sight c2 fit.r0) c k (value_after m.aim) in
-    quiet_by (step_exchanged m) c2 (spot.Root c k) (value_after m.aim) fit.r0 r none now ∙ sym (quiet_by (exchanged_at m.aim y) c2 (spot.Root c k) (value_after m.aim) fit.r0 rs none then)
+    quiet_by (step_exchanged m) d (spot.Root c k) (value_after m.aim) fit.r0 r (root_after d (sight d fit.r0) c k (value_after m.aim)) now ∙ sym (ap (λ (x : Memo). x.part) fit.came.holds.has.0)
