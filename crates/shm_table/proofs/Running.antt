@@ -2,3 +2,5 @@
 pub mod Steps
 pub mod Still
 pub mod Reading
+pub mod Fetching
+pub mod Entries

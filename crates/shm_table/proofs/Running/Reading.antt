@@ -86,8 +86,8 @@ find_still = calls_still word_control find_plan (λ m. known m m.point) (λ m. w
     known : (m : FindState) (y : FindPoint) (r0 r : Memo) (tr : Trail) (es : List Event) → FindKnows m y r0 r tr es → SameMap r0 r
     known m finding.Home r0 r tr es (may, same, none, quiet) = same_now r0 r same
     known m finding.Bucket r0 r tr es h = same_map r0 r (ap (λ (x : Memo). x.part) h.reads.memo)
-    known m finding.Key r0 r tr es (ps, h, asked) = same_map r0 r (ap (λ (x : Memo). x.part) h.reads.memo)
-    known m finding.Next r0 r tr es (ps, x, h, asked) = same_map r0 r (ap (λ (x : Memo). x.part) h.reads.memo)
+    known m finding.Key r0 r tr es h = same_map r0 r (ap (λ (x : Memo). x.part) h.1.reads.memo)
+    known m finding.Next r0 r tr es h = same_map r0 r (ap (λ (x : Memo). x.part) h.2.reads.memo)
 
 pub locate_still : IsStill locate_control (CallsFits locate_parts locate_plan)
 locate_still =
