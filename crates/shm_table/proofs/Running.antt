@@ -4,3 +4,5 @@ pub mod Still
 pub mod Reading
 pub mod Fetching
 pub mod Entries
+pub mod Entering
+pub mod Roots

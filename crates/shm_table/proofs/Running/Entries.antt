@@ -91,18 +91,16 @@ replace_so m r0 r tr going fit = go m.plan m.plan.point m.call r0 fit.rs r fit.b
 
     go : (p : ReplaceState) (y : ReplacePoint) (c : ReplaceCall) (r0 rs r : Memo) (before t : Trail) (es : List Event) → ReplaceCalled p y c → replace_parts.finished c ≡ false → ReplaceKnows p y r0 rs before es → (replace_plan.part (record p { point = y })).fits c rs r t
         → MapBy (replace_at p c) (ReplaceDoes p r0 r) r0 r
-    go p replacing.Look (First w) r0 rs r before t es at run (may, same, none, quiet) fit = same_more r0 rs r (same_now r0 rs same) (word_still _ w rs r t run fit)
-    go p replacing.Change (Second (First s)) r0 rs r before t es (at, who, aim) run (h, quiet, bound) fit =
-        by_part (step_exchanged s) p.me.who (Body p.entry 1) p.to (ReplaceDoes p r0 r) r0 rs r (seen_same p r0 rs h) (λ e key n b w may k. ap (λ (o : Part). map_in o k) e ∙ h.map key n b w may k)
+    go p y (First w) r0 rs r before t es at run h fit =
+        let known = subst (λ y. ReplaceKnows p y r0 rs before es) at h in
+        same_more r0 rs r (same_now r0 rs known.1) (word_still _ w rs r t run fit)
+    go p y (Second (First s)) r0 rs r before t es (at, who, aim) run h fit =
+        let (seen, quiet, bound) = subst (λ y. ReplaceKnows p y r0 rs before es) at h in
+        by_part (step_exchanged s) p.me.who (Body p.entry 1) p.to (ReplaceDoes p r0 r) r0 rs r (seen_same p r0 rs seen) (λ e key n b w may k. ap (λ (o : Part). map_in o k) e ∙ seen.map key n b w may k)
         (aimed_part p.me (aims.Change p.before p.to) p.entry 1 s rs r t who aim run fit.1)
-    go p replacing.Tear (Second (Second u)) r0 rs r before t es at run h fit =
-        λ key n b w may k. tear_still u rs r t run fit k ∙ (ap (λ (x : Memo). map_in x.part k) h.lost.took.rest ∙ h.seen.map key n b w may k)
-    go p replacing.Change (First w) r0 rs r before t es at run h fit = cc
-    go p replacing.Tear (First w) r0 rs r before t es at run h fit = cc
-    go p replacing.Look (Second (First s)) r0 rs r before t es (at, who, aim) run h fit = cc
-    go p replacing.Tear (Second (First s)) r0 rs r before t es (at, who, aim) run h fit = cc
-    go p replacing.Look (Second (Second u)) r0 rs r before t es at run h fit = cc
-    go p replacing.Change (Second (Second u)) r0 rs r before t es at run h fit = cc
+    go p y (Second (Second u)) r0 rs r before t es at run h fit =
+        let known = subst (λ y. ReplaceKnows p y r0 rs before es) at h in
+        λ key n b w may k. tear_still u rs r t run fit k ∙ (ap (λ (x : Memo). map_in x.part k) known.lost.took.rest ∙ known.seen.map key n b w may k)
 
 -- ---- an entry is taken out
 
@@ -141,24 +139,17 @@ unlink_so m r0 r tr going fit = go m.plan m.plan.point m.call r0 fit.rs r fit.be
 
     go : (p : UnlinkState) (y : UnlinkPoint) (c : UnlinkCall) (r0 rs r : Memo) (before t : Trail) (es : List Event) → UnlinkCalled p y c → unlink_parts.finished c ≡ false → UnlinkKnows p y r0 rs before es → (unlink_plan.part (record p { point = y })).fits c rs r t
         → MapBy (unlink_at p c) (UnlinkDoes p r0 r) r0 r
-    go p unlinking.Look (First w) r0 rs r before t es at run (may, same, none, quiet) fit = same_more r0 rs r (same_now r0 rs same) (word_still _ w rs r t run fit)
-    go p unlinking.Lower (Second (First s)) r0 rs r before t es (at, who, aim) run (last, h, quiet, bound) fit =
-        by_part (step_exchanged s) p.me.who (Body p.before p.word) p.next (UnlinkDoes p r0 r) r0 rs r (seen_same p r0 rs h) (goes p r0 rs r h)
+    go p y (First w) r0 rs r before t es at run h fit =
+        let known = subst (λ y. UnlinkKnows p y r0 rs before es) at h in
+        same_more r0 rs r (same_now r0 rs known.1) (word_still _ w rs r t run fit)
+    go p y (Second (First s)) r0 rs r before t es (at, who, aim) run h fit =
+        let (last, seen, quiet, bound) = subst (λ y. UnlinkKnows p y r0 rs before es) at h in
+        by_part (step_exchanged s) p.me.who (Body p.before p.word) p.next (UnlinkDoes p r0 r) r0 rs r (seen_same p r0 rs seen) (goes p r0 rs r seen)
         (subst (λ x. PartBy (step_exchanged s) p.me.who (Body p.before p.word) x rs r) (sym last) (aimed_part p.me (aims.Down p.entry) p.before p.word s rs r t who aim run fit.1))
-    go p unlinking.Change (Second (Second (First s))) r0 rs r before t es (at, who, aim) run (more, h, quiet, bound) fit =
-        by_part (step_exchanged s) p.me.who (Body p.before p.word) p.next (UnlinkDoes p r0 r) r0 rs r (seen_same p r0 rs h) (goes p r0 rs r h)
+    go p y (Second (Second (First s))) r0 rs r before t es (at, who, aim) run h fit =
+        let (more, seen, quiet, bound) = subst (λ y. UnlinkKnows p y r0 rs before es) at h in
+        by_part (step_exchanged s) p.me.who (Body p.before p.word) p.next (UnlinkDoes p r0 r) r0 rs r (seen_same p r0 rs seen) (goes p r0 rs r seen)
         (aimed_part p.me (aims.Change p.entry p.next) p.before p.word s rs r t who aim run fit.1)
-    go p unlinking.Tear (Second (Second (Second u))) r0 rs r before t es at run h fit =
-        λ key may k. tear_still u rs r t run fit k ∙ (ap (λ (x : Memo). map_in x.part k) h.lost.took.rest ∙ h.seen.map key may k)
-    go p unlinking.Lower (First w) r0 rs r before t es at run h fit = cc
-    go p unlinking.Change (First w) r0 rs r before t es at run h fit = cc
-    go p unlinking.Tear (First w) r0 rs r before t es at run h fit = cc
-    go p unlinking.Look (Second (First s)) r0 rs r before t es (at, who, aim) run h fit = cc
-    go p unlinking.Change (Second (First s)) r0 rs r before t es (at, who, aim) run h fit = cc
-    go p unlinking.Tear (Second (First s)) r0 rs r before t es (at, who, aim) run h fit = cc
-    go p unlinking.Look (Second (Second (First s))) r0 rs r before t es (at, who, aim) run h fit = cc
-    go p unlinking.Lower (Second (Second (First s))) r0 rs r before t es (at, who, aim) run h fit = cc
-    go p unlinking.Tear (Second (Second (First s))) r0 rs r before t es (at, who, aim) run h fit = cc
-    go p unlinking.Look (Second (Second (Second u))) r0 rs r before t es at run h fit = cc
-    go p unlinking.Lower (Second (Second (Second u))) r0 rs r before t es at run h fit = cc
-    go p unlinking.Change (Second (Second (Second u))) r0 rs r before t es at run h fit = cc
+    go p y (Second (Second (Second u))) r0 rs r before t es at run h fit =
+        let known = subst (λ y. UnlinkKnows p y r0 rs before es) at h in
+        λ key may k. tear_still u rs r t run fit k ∙ (ap (λ (x : Memo). map_in x.part k) known.lost.took.rest ∙ known.seen.map key may k)
