@@ -6,3 +6,5 @@ pub mod Fetching
 pub mod Entries
 pub mod Entering
 pub mod Roots
+pub mod Puts
+pub mod Commands
