@@ -1,5 +1,5 @@
 -- removals, and each command: while one runs the own map is what it was, until its deciding step, and from then on the one that the answer shown leaves
-use Rattle.std.proofs.Common.{◌≡◌, ℕ, refl, sym, ap, ◌∙◌, subst, Bool, true, false, List, [], ◌∷◌, Option, Some, None}
+use Rattle.std.proofs.Common.{◌≡◌, ℕ, refl, ap, ◌∙◌, subst, Bool, true, false, List, [], ◌∷◌, Option, None}
 use Rattle.std.specs.Prelude.{◌==◌, if◌then◌else◌}
 use Rattle.shm_graph.specs.declared.ask.Me.{Me}
 use Rattle.shm_graph.specs.declared.memo.Memo.{Memo}
@@ -53,7 +53,7 @@ use Rattle.shm_table.specs.Staying.{MapCut, SameMap}
 use Rattle.shm_table.specs.Staying.Laws.{latched_else, rests_read, same_map}
 use Rattle.shm_table.specs.TakeHead.Laws.{take_head_laws}
 use Rattle.shm_table.specs.Unlink.Control.{unlink_parts, unlinking}
-use Rattle.shm_table.specs.Unlink.{UnlinkCalls, unlink_plan}
+use Rattle.shm_table.specs.Unlink.{unlink_plan}
 use Rattle.shm_table.specs.Unlink.Laws.{unlink_laws}
 use Rattle.shm_table.proofs.DecidingEvents.{kept_along, plan_kept}
 use Rattle.shm_table.proofs.Running.Entries.{MapBy, UnlinkDoes, unlink_so}

@@ -1,6 +1,5 @@
 -- machines that change the own map at an entry: while they run it is what it was when they began, until their deciding step, and from then on as they leave it
-use Rattle.std.proofs.Common.{◌≡◌, ◌≢◌, ℕ, ◌%◌, ◌<◌, refl, sym, ap, ◌∙◌, subst, arith, Bool, true, false, cond, eqb, List, Some, None}
-use Rattle.std.specs.Prelude.{◌==◌, if◌then◌else◌, ◌&&◌}
+use Rattle.std.proofs.Common.{◌≡◌, ℕ, refl, sym, ap, ◌∙◌, subst, Bool, true, false, List}
 use Rattle.shm_graph.specs.declared.ask.Me.{Me}
 use Rattle.shm_graph.specs.declared.memo.Memo.{Memo}
 use Rattle.shm_graph.specs.declared.spot.Spot.{Spot}
@@ -11,9 +10,7 @@ use Rattle.shm_graph.specs.Events.{Event}
 use Rattle.shm_graph.specs.Tells.{after_all}
 use Rattle.shm_calls.specs.declared.or.Or.TheVariants.{First, Second}
 use Rattle.shm_calls.specs.CallsFit.{CallsFits}
-use Rattle.shm_steps.specs.Beginning.{IsOwnWord}
-use Rattle.shm_steps.specs.Reparting.{IsKnown, IsValue, TableStep, map_in, sight}
-use Rattle.shm_steps.specs.Reparting.TableStep.{Links, Prepares}
+use Rattle.shm_steps.specs.Reparting.{map_in, sight}
 use Rattle.shm_count.specs.declared.point.Aim.{Aim}
 use Rattle.shm_count.specs.declared.point.Aim.TheVariants as aims
 use Rattle.shm_count.specs.declared.point.StepState.{StepState}

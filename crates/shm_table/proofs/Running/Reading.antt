@@ -1,5 +1,5 @@
 -- the machines that leave the own map: latches, searches, readings, roots that are given and dropped, sends, and the parts of receives
-use Rattle.std.proofs.Common.{◌≡◌, ℕ, ◌%◌, ap, ◌∙◌, List}
+use Rattle.std.proofs.Common.{◌%◌, ap, ◌∙◌, List}
 use Rattle.shm_graph.specs.declared.memo.Memo.{Memo}
 use Rattle.shm_graph.specs.declared.spot.Spot.TheVariants as spot
 use Rattle.shm_graph.specs.Asks.{Trail}
@@ -14,7 +14,7 @@ use Rattle.shm_count.specs.declared.up_root.RootingPoint.{RootingPoint}
 use Rattle.shm_count.specs.declared.up_root.RootingPoint.TheVariants as rooting
 use Rattle.shm_count.specs.declared.up_root.RootingState.{RootingState}
 use Rattle.shm_count.specs.Step.Machines.{down_control, up_control}
-use Rattle.shm_count.specs.StepsAt.{DownFitsAt, UpFitsAt}
+use Rattle.shm_count.specs.StepsAt.{DownFitsAt}
 use Rattle.shm_count.specs.StepsFrom.{FitsFrom}
 use Rattle.shm_count.specs.Tear.Control.{tear_control}
 use Rattle.shm_count.specs.Tear.{TearFits}

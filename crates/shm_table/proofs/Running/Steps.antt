@@ -1,5 +1,5 @@
 -- the partition of a memo while a count step or a tear-down is running: as it was up to the exchange of the first half, and from then on the one that the slot leads to
-use Rattle.std.proofs.Common.{◌≡◌, ℕ, refl, sym, ap, ◌∙◌, Bool, true, false, eqb, cond, ◌&&◌, List}
+use Rattle.std.proofs.Common.{◌≡◌, ℕ, refl, sym, ap, ◌∙◌, Bool, true, false, eqb, ◌&&◌, List}
 use Rattle.std.specs.List.{filter}
 use Rattle.std.proofs.lemmas.Bool.{true≢false}
 use Rattle.shm_words.specs.Headers.{header_of}
@@ -34,7 +34,7 @@ use Rattle.shm_count.specs.declared.point.StepPoint.TheVariants as point
 use Rattle.shm_count.specs.declared.point.StepState.{StepState}
 use Rattle.shm_count.specs.Step.Control.{PartFits, PointFits, header_after, is_over, step_control, value_after}
 use Rattle.shm_count.specs.Step.Exchanged.{exchanged_at, is_second, step_exchanged}
-use Rattle.shm_count.specs.Step.{AtFirst, InHalf, PointHas, StepFits, closed_memo, set_memo, slot_memo}
+use Rattle.shm_count.specs.Step.{AtFirst, InHalf, PointHas, StepFits, set_memo, slot_memo}
 use Rattle.shm_count.specs.Step.Memos.{closed_part}
 use Rattle.shm_count.specs.Step.Parts.{first_sight, part_after}
 use Rattle.shm_count.specs.StepsFrom.{FitsFrom}
