@@ -1,6 +1,7 @@
 -- parts that leave the map of a table as it was: single word steps, and what is made of such parts
 pub mod Steps
 pub mod Tears
+pub mod Tests
 use Rattle.std.proofs.Common.{◌≡◌, ℕ, Bool, refl, ap, ◌∙◌, List}
 use Rattle.shm_graph.specs.declared.ask.Ask.{Ask}
 use Rattle.shm_graph.specs.declared.ask.Me.{Me}

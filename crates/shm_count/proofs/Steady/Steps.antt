@@ -1,5 +1,5 @@
 -- the partition on the way of a count step: what it was, or what the slot with its new value leads to
-use Rattle.std.proofs.Common.{◌≡◌, ℕ, ◌+◌, refl, sym, ap, ◌∙◌, subst, false, true, eqb, ◌&&◌, List, [], ◌∷◌, ◌++◌, None, ◌⊎◌, inl, inr}
+use Rattle.std.proofs.Common.{◌≡◌, ℕ, ◌+◌, refl, sym, ap, ◌∙◌, subst, false, Bool, eqb, ◌&&◌, List, [], ◌∷◌, ◌++◌, None, ◌⊎◌, inl, inr}
 use Rattle.std.specs.List.{filter}
 use Rattle.std.proofs.lemmas.Bool.{true≢false}
 use Rattle.shm_words.specs.declared.geometry.Geometry.{Geometry}
@@ -34,6 +34,7 @@ use Rattle.shm_count.specs.declared.point.StepPoint.{StepPoint}
 use Rattle.shm_count.specs.declared.point.StepPoint.TheVariants as point
 use Rattle.shm_count.specs.declared.point.StepState.{StepState}
 use Rattle.shm_count.specs.CountParts.{down_part, up_part}
+use Rattle.shm_count.specs.Slots.{Lost}
 use Rattle.shm_count.specs.Step.Control.{header_after, is_over, value_after}
 use Rattle.shm_count.specs.Step.Machines.{down_control, up_control}
 use Rattle.shm_count.specs.Step.Parts.{first_sight, part_after}
@@ -170,7 +171,7 @@ IsUnread (spot.Root d k) = Unit {0}
 IsUnread (spot.Slot s r k) = Unit {0}
 IsUnread p = ⊥
 
-unread_after : (c : ℕ) (m : Memo) (p : Spot) (x : ℕ) → IsUnread p → part_after c (sight c m) p x ≡ m.part
+pub unread_after : (c : ℕ) (m : Memo) (p : Spot) (x : ℕ) → IsUnread p → part_after c (sight c m) p x ≡ m.part
 unread_after c m (spot.Root d k) x is = root_unset m.known c (cover (On (spot.Root d k) x) (spot.Home c) (own_word m.own (spot.Home c))) d k x m.part
 unread_after c m (spot.Slot s r k) x is = slot_unset m.known c (cover (On (spot.Slot s r k) x) (spot.Home c) (own_word m.own (spot.Home c))) s r k x m.part
 unread_after c m _ x is = absurd is
@@ -182,6 +183,10 @@ unread_part p m r0 r tr is going fit =
       | inl e ↦ e
       | inr e ↦ e ∙ unread_after m.me.who r0 p (value_after m.aim) is
     ]
+
+-- and where a reference in such a slot was lost
+pub lost_part : (c : ℕ) (p : Spot) (h : Bool) (t x : ℕ) (z : Bool) (m r : Memo) → IsUnread p → Lost c p h t x z m r → r.part ≡ m.part
+lost_part c p h t x z m r is lost = ap (λ (y : Memo). y.part) lost.took.rest ∙ unread_after c m p x is
 
 pub down_steady : (p : Spot) → IsUnread p → IsSteady down_control (down_part p)
 down_steady p is m r0 r tr going fit = table_of r0 r (unread_part p m r0 r tr is going fit.1)

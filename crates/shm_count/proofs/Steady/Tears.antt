@@ -1,5 +1,5 @@
 -- the partition on the way of a tear-down: it stays, since none is read from words of zero-count blocks
-use Rattle.std.proofs.Common.{◌≡◌, ℕ, refl, sym, ap, ◌∙◌, subst, false, List, inl, inr}
+use Rattle.std.proofs.Common.{◌≡◌, ℕ, sym, ap, ◌∙◌, false, List, inl, inr}
 use Rattle.shm_graph.specs.declared.ask.Me.{Me}
 use Rattle.shm_graph.specs.declared.spot.Spot.TheVariants.{Home, Body}
 use Rattle.shm_graph.specs.declared.memo.Memo.{Memo}
@@ -8,19 +8,17 @@ use Rattle.shm_graph.specs.declared.memo.Op.TheVariants.{Nothing}
 use Rattle.shm_graph.specs.Asks.{Trail}
 use Rattle.shm_graph.specs.Chains.{part_set}
 use Rattle.shm_graph.specs.Events.{Event}
-use Rattle.shm_graph.specs.Ops.{On, cover, cover_of}
-use Rattle.shm_graph.specs.Reach.{shown}
+use Rattle.shm_graph.specs.Ops.{cover, cover_of}
 use Rattle.shm_graph.specs.Tells.{happens_along}
 use Rattle.shm_graph.specs.Views.{own_word}
 use Rattle.shm_steps.specs.Reparting.{sight}
 use Rattle.shm_count.specs.declared.point.Aim.TheVariants.{Down as DownAim}
 use Rattle.shm_count.specs.declared.point.StepPoint.{StepPoint}
-use Rattle.shm_count.specs.declared.point.StepPoint.TheVariants as step
 use Rattle.shm_count.specs.declared.tear_point.TearPoint.{TearPoint}
 use Rattle.shm_count.specs.declared.tear_point.TearPoint.TheVariants as point
 use Rattle.shm_count.specs.declared.tear_point.TearState.{TearState}
 use Rattle.shm_count.specs.CountParts.{tear_part}
-use Rattle.shm_count.specs.Step.{CanStep, PointHolds}
+use Rattle.shm_count.specs.Step.{PointHolds}
 use Rattle.shm_count.specs.Step.Control.{is_over}
 use Rattle.shm_count.specs.Step.Parts.{part_after}
 use Rattle.shm_count.specs.Tear.Control.{tear_control, word_address}
