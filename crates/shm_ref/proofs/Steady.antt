@@ -1,5 +1,5 @@
 -- a drop of roots leaves the map of the table as it was, at each point on its way
-use Rattle.std.proofs.Common.{◌≡◌, ℕ, Bool, true, false, ap, List}
+use Rattle.std.proofs.Common.{true, false, ap, List}
 use Rattle.shm_words.specs.declared.place.Place.TheVariants as place
 use Rattle.shm_words.specs.Layout.{address}
 use Rattle.shm_graph.specs.declared.ask.Ask.TheVariants.{Load as LoadWord}
@@ -7,7 +7,6 @@ use Rattle.shm_graph.specs.declared.spot.Spot.TheVariants.{Root}
 use Rattle.shm_graph.specs.declared.memo.Memo.{Memo}
 use Rattle.shm_graph.specs.Asks.{Trail}
 use Rattle.shm_graph.specs.Events.{Event}
-use Rattle.shm_graph.specs.Laws.{Control}
 use Rattle.shm_steps.specs.WordParts.{OwnLoaded}
 use Rattle.shm_calls.specs.CallsControl.{calls_control}
 use Rattle.shm_calls.specs.CallsPart.{calls_part}

@@ -1,5 +1,5 @@
 -- a mending leaves the map of the table as it was, at each point on its way
-use Rattle.std.proofs.Common.{◌≡◌, ℕ, Bool, false, ap, List}
+use Rattle.std.proofs.Common.{ℕ, false, ap, List}
 use Rattle.shm_graph.specs.declared.ask.Me.{Me}
 use Rattle.shm_graph.specs.declared.memo.Memo.{Memo}
 use Rattle.shm_graph.specs.Asks.{Trail}

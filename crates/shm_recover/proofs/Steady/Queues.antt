@@ -1,5 +1,5 @@
 -- what a recovery does after mending leaves the map of the table as it was, at each point on its way: blocks that are taken back, takes that are finished, the scan, and segments that are given up
-use Rattle.std.proofs.Common.{◌≡◌, ℕ, ◌%◌, Bool, true, false, ap, ◌∙◌, List}
+use Rattle.std.proofs.Common.{ℕ, ◌%◌, true, false, ap, ◌∙◌, List}
 use Rattle.shm_graph.specs.declared.ask.Me.{Me}
 use Rattle.shm_graph.specs.declared.memo.Memo.{Memo}
 use Rattle.shm_graph.specs.declared.spot.Spot.TheVariants as spot
