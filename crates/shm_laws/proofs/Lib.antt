@@ -18,6 +18,7 @@ pub mod Writing
 pub mod RootStore
 pub mod BodyStore
 pub mod CloseOp
+pub mod Exchanged
 pub mod AllocBlock
 pub mod UpBlock
 pub mod FreeBlock
