@@ -11,6 +11,7 @@ pub mod Slots
 pub mod RedoAndRows
 pub mod PageClass
 pub mod Loads
+pub mod QueueCounters
 pub mod QueueTails
 pub mod QueueHeads
 pub mod Latches
