@@ -3,7 +3,7 @@
 
 mod pools;
 
-use Step::{Exchange, Load, Lost, Others, Store};
+use Step::{Exchange, Load, Lost, Others, Store, Zeros};
 pub use pools::TABLE;
 use shm_graph::{Ask, Machine, Turn};
 use std::alloc::{AllocError, Global};
@@ -21,13 +21,31 @@ pub enum Step {
     Lost(u32, u64, u64, u64),
     /// A store that another client makes.
     Others(u32, u64),
+    /// Loads that find 0: of the word at the first address, and of each that stands the second number of words further; so many in all.
+    Zeros(u32, u32, u32),
 }
 
 impl Step {
-    /// What is asked.
+    /// How many word steps it is.
+    fn count(self) -> u32 {
+        match self {
+            Zeros(_, _, count) => count,
+            _ => 1,
+        }
+    }
+
+    /// One of them, the first at 0.
+    fn at(self, index: u32) -> Step {
+        match self {
+            Zeros(first, apart, _) => Load(first.wrapping_add(apart.wrapping_mul(index)), 0),
+            step => step,
+        }
+    }
+
+    /// What is asked, of loads that find 0 by the first.
     pub fn ask(self) -> Ask {
         match self {
-            Load(at, _) => Ask::Load { at },
+            Load(at, _) | Zeros(at, _, _) => Ask::Load { at },
             Store(at, value) | Others(at, value) => Ask::Store { at, value },
             Exchange(at, from, to) | Lost(at, from, to, _) => Ask::Exchange { at, from, to },
         }
@@ -37,7 +55,7 @@ impl Step {
     pub fn found(self) -> u64 {
         match self {
             Load(_, found) | Exchange(_, found, _) | Lost(_, _, _, found) => found,
-            Store(..) | Others(..) => 0,
+            Store(..) | Others(..) | Zeros(..) => 0,
         }
     }
 }
@@ -116,13 +134,15 @@ where
 {
     let mut last = None;
     for &step in steps {
-        if last.is_some() {
-            return None;
-        }
-        if let Others(..) = step {
-            make(words, step.ask())?;
-        } else if let Turn::Done(answer) = advance(machine, words, step)? {
-            last = Some(answer);
+        for index in 0..step.count() {
+            if last.is_some() {
+                return None;
+            }
+            if let Others(..) = step {
+                make(words, step.ask())?;
+            } else if let Turn::Done(answer) = advance(machine, words, step.at(index))? {
+                last = Some(answer);
+            }
         }
     }
     last
@@ -135,12 +155,15 @@ where
     M::Answer: Drop + PartialEq,
 {
     let mut last = None;
-    for step in steps {
-        if last.is_some() || machine.finished() || machine.ask() != step.ask() {
-            return false;
-        }
-        if let Turn::Done(answer) = machine.take(step.found()) {
-            last = Some(answer);
+    for &step in steps {
+        for index in 0..step.count() {
+            let step = step.at(index);
+            if last.is_some() || machine.finished() || machine.ask() != step.ask() {
+                return false;
+            }
+            if let Turn::Done(answer) = machine.take(step.found()) {
+                last = Some(answer);
+            }
         }
     }
     last == Some(wanted)

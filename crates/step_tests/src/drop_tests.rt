@@ -5,7 +5,7 @@ use shm_count::EraSpent;
 use shm_graph::Me;
 use shm_ref::parts::{DropRoots, DroppingRoots};
 use shm_ref::{DropRoot, Dropping, Naming, RootOf};
-use shm_runs::Step::{Exchange, Load, Store};
+use shm_runs::Step::{Exchange, Load, Store, Zeros};
 use shm_runs::{Run, runs};
 use shm_words::Geometry;
 use std::test::Fail;
@@ -260,17 +260,7 @@ const ALL_ROOTS_GO: Run = Run {
         Exchange(54, 9_223_653_511_831_486_470, 9_223_512_774_343_131_144),
         Store(10, 0),
         Store(6, 9),
-        Load(11, 0),
-        Load(12, 0),
-        Load(13, 0),
-        Load(14, 0),
-        Load(15, 0),
-        Load(16, 0),
-        Load(17, 0),
-        Load(18, 0),
-        Load(19, 0),
-        Load(20, 0),
-        Load(21, 0),
+        Zeros(11, 1, 11),
         Load(22, 50),
         Load(6, 9),
         Store(2, 4_611_710_207_735_627_776),

@@ -4,7 +4,7 @@ use shm_calls::Calls;
 use shm_count::EraSpent;
 use shm_graph::{Ask, Machine, Me, Turn};
 use shm_recover::{Join, Leave, Leaving};
-use shm_runs::Step::{Exchange, Load, Store};
+use shm_runs::Step::{Exchange, Load, Store, Zeros};
 use shm_runs::{Run, runs};
 use shm_words::Geometry;
 use std::test::Fail;
@@ -74,13 +74,7 @@ const ALL_OF_AN_IDENTITY_GOES: Run = Run {
         Exchange(2173, 9_367_768_699_907_342_339, 9_367_627_962_418_987_014),
         Store(32, 0),
         Store(14, 7),
-        Load(33, 0),
-        Load(34, 0),
-        Load(35, 0),
-        Load(36, 0),
-        Load(37, 0),
-        Load(38, 0),
-        Load(39, 0),
+        Zeros(33, 1, 7),
         Load(40, 2169),
         Load(14, 7),
         Store(4, 4_611_730_001_166_860_288),
@@ -103,12 +97,7 @@ const ALL_OF_AN_IDENTITY_GOES: Run = Run {
         Load(2171, 0),
         Load(2172, 0),
         Store(2169, 0),
-        Load(41, 0),
-        Load(42, 0),
-        Load(43, 0),
-        Load(44, 0),
-        Load(45, 0),
-        Load(46, 0),
+        Zeros(41, 1, 6),
         Load(87, 1),
         Load(88, 2),
         Store(88, 0),

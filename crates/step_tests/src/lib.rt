@@ -27,6 +27,8 @@ mod mend_tests;
 #[cfg(test)]
 mod peek_tests;
 #[cfg(test)]
+mod pools;
+#[cfg(test)]
 mod read_tests;
 #[cfg(test)]
 mod receive_tests;

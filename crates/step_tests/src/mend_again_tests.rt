@@ -1,11 +1,12 @@
 //! A mending that dies after each of its word steps and is made again by the next recoverer leaves the words of one that is made whole.
 
 use crate::mend_tests::{
-    A_CHANGE_IS_MADE_WHOLE, A_CHANGE_THAT_ISNT_COMMITTED_IS_DROPPED, A_LATCH_IS_GIVEN_BACK,
-    A_LATCH_OF_ANOTHER_STAYS, A_REFERENCE_THAT_IS_SEEN_GONE_GOES, A_SLOT_IS_STORED_AGAIN,
-    A_STEP_THAT_ISNT_COMMITTED_IS_DROPPED, ANOTHERS_HEADER_IS_SHOWN_FIRST,
-    ITS_SECOND_HALF_IS_CLOSED, ITS_SECOND_HALF_IS_MADE,
+    A_CHANGE_CUT, A_CHANGE_IS_MADE_WHOLE, A_CHANGE_THAT_ISNT_COMMITTED_IS_DROPPED,
+    A_LATCH_IS_GIVEN_BACK, A_LATCH_OF_ANOTHER_STAYS, A_REFERENCE_THAT_IS_SEEN_GONE_GOES,
+    A_SECOND_HALF_LEFT, A_SLOT_IS_STORED_AGAIN, A_STEP_THAT_ISNT_COMMITTED_IS_DROPPED,
+    ANOTHERS_HEADER_IS_SHOWN_FIRST, ITS_SECOND_HALF_IS_CLOSED, ITS_SECOND_HALF_IS_MADE,
 };
+use crate::pools::{A_PUT_CUT, A_VALUE_COPIED};
 use shm_calls::Calls;
 use shm_graph::{Machine, Me};
 use shm_recover::{Mend, Mending};
@@ -32,38 +33,40 @@ fn is_mended(
     alloc: Global,
     clients: u8,
     segments: u16,
+    under: &[(usize, u64)],
     run: &Run,
     made: usize,
 ) -> Result<bool, Fail> {
     let me = Me::new(Geometry::new(clients, segments)?, 0);
-    let mut words = words_of(alloc, run.total, run.before)?;
+    let mut words = words_of(alloc, run.total, under)?;
+    put_words(&mut words, run.before);
+    let mut wanted = words.as_slice().to_vec(alloc)?;
+    put_words(&mut wanted, run.changes);
     let mut first: Mend = Calls::new(Mending::new(me));
     advance(&mut first, &mut words, made);
     let mut second: Mend = Calls::new(Mending::new(me));
     advance(&mut second, &mut words, 100);
-    let mut wanted = words_of(alloc, run.total, run.before)?;
-    put_words(&mut wanted, run.changes);
     Ok(second.finished() && words.as_slice() == wanted.as_slice())
 }
 
 #[test]
 fn a_mending_that_dies_is_made_again(rt: HostRuntime) -> Result<(), Fail> {
-    let runs: [(u8, u16, &Run); 10] = [
-        (2, 2, &A_REFERENCE_THAT_IS_SEEN_GONE_GOES),
-        (2, 2, &A_STEP_THAT_ISNT_COMMITTED_IS_DROPPED),
-        (1, 1, &A_SLOT_IS_STORED_AGAIN),
-        (1, 1, &A_CHANGE_IS_MADE_WHOLE),
-        (1, 1, &ITS_SECOND_HALF_IS_MADE),
-        (1, 1, &ITS_SECOND_HALF_IS_CLOSED),
-        (1, 1, &A_CHANGE_THAT_ISNT_COMMITTED_IS_DROPPED),
-        (2, 1, &ANOTHERS_HEADER_IS_SHOWN_FIRST),
-        (2, 1, &A_LATCH_IS_GIVEN_BACK),
-        (2, 1, &A_LATCH_OF_ANOTHER_STAYS),
+    let runs: [(u8, u16, &[(usize, u64)], &Run); 10] = [
+        (2, 2, A_VALUE_COPIED, &A_REFERENCE_THAT_IS_SEEN_GONE_GOES),
+        (2, 2, A_PUT_CUT, &A_STEP_THAT_ISNT_COMMITTED_IS_DROPPED),
+        (1, 1, &[], &A_SLOT_IS_STORED_AGAIN),
+        (1, 1, A_CHANGE_CUT, &A_CHANGE_IS_MADE_WHOLE),
+        (1, 1, A_CHANGE_CUT, &ITS_SECOND_HALF_IS_MADE),
+        (1, 1, A_CHANGE_CUT, &ITS_SECOND_HALF_IS_CLOSED),
+        (1, 1, A_CHANGE_CUT, &A_CHANGE_THAT_ISNT_COMMITTED_IS_DROPPED),
+        (2, 1, A_SECOND_HALF_LEFT, &ANOTHERS_HEADER_IS_SHOWN_FIRST),
+        (2, 1, &[], &A_LATCH_IS_GIVEN_BACK),
+        (2, 1, &[], &A_LATCH_OF_ANOTHER_STAYS),
     ];
-    for (clients, segments, run) in runs {
+    for (clients, segments, under, run) in runs {
         for made in 0..run.steps.len() {
             assert!(rt;
-                is_mended(rt.alloc(), clients, segments, run, made)?,
+                is_mended(rt.alloc(), clients, segments, under, run, made)?,
                 "{clients} {made}"
             );
         }

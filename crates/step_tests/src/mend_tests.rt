@@ -1,52 +1,18 @@
 //! Mending step by step and on the words of a pool, against an independent implementation.
 
+use crate::pools::{A_PUT_CUT, A_VALUE_COPIED};
 use shm_calls::Calls;
 use shm_graph::Me;
 use shm_recover::{Mend, Mending};
 use shm_runs::Step::{Exchange, Load, Lost, Others, Store};
-use shm_runs::{Run, runs};
+use shm_runs::{Run, runs, runs_over};
 use shm_words::Geometry;
 use std::test::Fail;
 
 /// Client 0 died in `put 5 77`, once a reference to the value was taken out of a root, and client 1 has copied the value then.
 pub const A_REFERENCE_THAT_IS_SEEN_GONE_GOES: Run = Run {
     total: 4217,
-    before: &[
-        (1, 1),
-        (2, 1),
-        (3, 4_611_702_511_228_682_240),
-        (4, 4_611_720_103_414_726_656),
-        (9, 249),
-        (10, 2169),
-        (11, 9),
-        (13, 9),
-        (14, 10),
-        (15, 121),
-        (87, 1),
-        (88, 2),
-        (89, 4),
-        (90, 32),
-        (91, 8),
-        (105, 32),
-        (106, 8),
-        (121, 9_367_768_699_907_342_345),
-        (122, 67_108_864),
-        (123, 77),
-        (249, 9_223_512_774_343_131_140),
-        (250, 17_179_869_184),
-        (256, 377),
-        (377, 9_223_512_774_343_131_144),
-        (378, 2_214_592_512),
-        (380, 121),
-        (381, 5),
-        (2169, 9_367_627_962_418_987_012),
-        (2170, 17_180_917_760),
-        (2180, 2297),
-        (2297, 9_367_627_962_418_987_016),
-        (2298, 2_215_641_088),
-        (2300, 121),
-        (2301, 9),
-    ],
+    before: &[(1, 1)],
     steps: &[
         Store(1, 2),
         Load(11, 9),
@@ -64,35 +30,22 @@ pub const A_REFERENCE_THAT_IS_SEEN_GONE_GOES: Run = Run {
 fn a_reference_that_is_seen_gone_goes(rt: HostRuntime) -> Result<(), Fail> {
     let me = Me::new(Geometry::new(2, 2)?, 0);
     let machine: Mend = Calls::new(Mending::new(me));
-    assert!(rt; runs(rt.alloc(), machine, &A_REFERENCE_THAT_IS_SEEN_GONE_GOES, ())?);
+    assert!(rt;
+        runs_over(
+            rt.alloc(),
+            A_VALUE_COPIED,
+            machine,
+            &A_REFERENCE_THAT_IS_SEEN_GONE_GOES,
+            ()
+        )?
+    );
     Ok(())
 }
 
 /// Client 0 died one word step earlier, and client 1 did nothing.
 pub const A_STEP_THAT_ISNT_COMMITTED_IS_DROPPED: Run = Run {
     total: 4217,
-    before: &[
-        (1, 1),
-        (3, 4_611_702_511_228_682_240),
-        (9, 249),
-        (11, 9),
-        (14, 1),
-        (15, 121),
-        (87, 1),
-        (89, 4),
-        (90, 32),
-        (91, 8),
-        (121, 9_223_653_511_831_486_470),
-        (122, 67_108_864),
-        (123, 77),
-        (249, 9_223_512_774_343_131_140),
-        (250, 17_179_869_184),
-        (256, 377),
-        (377, 9_223_512_774_343_131_144),
-        (378, 2_214_592_512),
-        (380, 121),
-        (381, 5),
-    ],
+    before: &[(1, 1), (121, 9_223_653_511_831_486_470)],
     steps: &[
         Store(1, 2),
         Load(11, 9),
@@ -109,8 +62,9 @@ fn a_step_that_isnt_committed_is_dropped(rt: HostRuntime) -> Result<(), Fail> {
     let me = Me::new(Geometry::new(2, 2)?, 0);
     let machine: Mend = Calls::new(Mending::new(me));
     assert!(rt;
-        runs(
+        runs_over(
             rt.alloc(),
+            A_PUT_CUT,
             machine,
             &A_STEP_THAT_ISNT_COMMITTED_IS_DROPPED,
             ()
@@ -153,23 +107,27 @@ fn a_slot_is_stored_again(rt: HostRuntime) -> Result<(), Fail> {
     Ok(())
 }
 
+/// What the pools of one client have in common that died in a change.
+pub const A_CHANGE_CUT: &[(usize, u64)] = &[
+    (1, 1),
+    (2, 8_070_458_228_881_752_118),
+    (8, 54),
+    (33, 1),
+    (34, 4),
+    (51, 67_108_864),
+    (52, 77),
+    (55, 67_108_864),
+    (56, 78),
+];
+
 /// The client died in a change, once the block after was raised.
 pub const A_CHANGE_IS_MADE_WHOLE: Run = Run {
     total: 2098,
     before: &[
-        (1, 1),
-        (2, 8_070_458_228_881_752_118),
         (6, 3),
         (7, 50),
-        (8, 54),
-        (33, 1),
-        (34, 4),
         (50, 9_223_512_774_343_131_137),
-        (51, 67_108_864),
-        (52, 77),
         (54, 9_223_653_511_831_486_467),
-        (55, 67_108_864),
-        (56, 78),
     ],
     steps: &[
         Store(1, 2),
@@ -190,7 +148,15 @@ pub const A_CHANGE_IS_MADE_WHOLE: Run = Run {
 fn a_change_is_made_whole(rt: HostRuntime) -> Result<(), Fail> {
     let me = Me::new(Geometry::new(1, 1)?, 0);
     let machine: Mend = Calls::new(Mending::new(me));
-    assert!(rt; runs(rt.alloc(), machine, &A_CHANGE_IS_MADE_WHOLE, ())?);
+    assert!(rt;
+        runs_over(
+            rt.alloc(),
+            A_CHANGE_CUT,
+            machine,
+            &A_CHANGE_IS_MADE_WHOLE,
+            ()
+        )?
+    );
     Ok(())
 }
 
@@ -198,19 +164,10 @@ fn a_change_is_made_whole(rt: HostRuntime) -> Result<(), Fail> {
 pub const ITS_SECOND_HALF_IS_MADE: Run = Run {
     total: 2098,
     before: &[
-        (1, 1),
-        (2, 8_070_458_228_881_752_118),
         (6, 4),
         (7, 54),
-        (8, 54),
-        (33, 1),
-        (34, 4),
         (50, 9_223_512_774_343_131_137),
-        (51, 67_108_864),
-        (52, 77),
         (54, 9_223_653_511_831_486_467),
-        (55, 67_108_864),
-        (56, 78),
     ],
     steps: &[
         Store(1, 2),
@@ -229,7 +186,15 @@ pub const ITS_SECOND_HALF_IS_MADE: Run = Run {
 fn its_second_half_is_made(rt: HostRuntime) -> Result<(), Fail> {
     let me = Me::new(Geometry::new(1, 1)?, 0);
     let machine: Mend = Calls::new(Mending::new(me));
-    assert!(rt; runs(rt.alloc(), machine, &ITS_SECOND_HALF_IS_MADE, ())?);
+    assert!(rt;
+        runs_over(
+            rt.alloc(),
+            A_CHANGE_CUT,
+            machine,
+            &ITS_SECOND_HALF_IS_MADE,
+            ()
+        )?
+    );
     Ok(())
 }
 
@@ -237,19 +202,10 @@ fn its_second_half_is_made(rt: HostRuntime) -> Result<(), Fail> {
 pub const ITS_SECOND_HALF_IS_CLOSED: Run = Run {
     total: 2098,
     before: &[
-        (1, 1),
-        (2, 8_070_458_228_881_752_118),
         (6, 4),
         (7, 54),
-        (8, 54),
-        (33, 1),
-        (34, 4),
         (50, 9_223_372_036_854_775_812),
-        (51, 67_108_864),
-        (52, 77),
         (54, 9_223_653_511_831_486_467),
-        (55, 67_108_864),
-        (56, 78),
     ],
     steps: &[
         Store(1, 2),
@@ -266,7 +222,15 @@ pub const ITS_SECOND_HALF_IS_CLOSED: Run = Run {
 fn its_second_half_is_closed(rt: HostRuntime) -> Result<(), Fail> {
     let me = Me::new(Geometry::new(1, 1)?, 0);
     let machine: Mend = Calls::new(Mending::new(me));
-    assert!(rt; runs(rt.alloc(), machine, &ITS_SECOND_HALF_IS_CLOSED, ())?);
+    assert!(rt;
+        runs_over(
+            rt.alloc(),
+            A_CHANGE_CUT,
+            machine,
+            &ITS_SECOND_HALF_IS_CLOSED,
+            ()
+        )?
+    );
     Ok(())
 }
 
@@ -274,19 +238,10 @@ fn its_second_half_is_closed(rt: HostRuntime) -> Result<(), Fail> {
 pub const A_CHANGE_THAT_ISNT_COMMITTED_IS_DROPPED: Run = Run {
     total: 2098,
     before: &[
-        (1, 1),
-        (2, 8_070_458_228_881_752_118),
         (6, 3),
         (7, 50),
-        (8, 54),
-        (33, 1),
-        (34, 4),
         (50, 9_223_512_774_343_131_137),
-        (51, 67_108_864),
-        (52, 77),
         (54, 9_223_512_774_343_131_138),
-        (55, 67_108_864),
-        (56, 78),
     ],
     steps: &[
         Store(1, 2),
@@ -303,8 +258,9 @@ fn a_change_that_isnt_committed_is_dropped(rt: HostRuntime) -> Result<(), Fail> 
     let me = Me::new(Geometry::new(1, 1)?, 0);
     let machine: Mend = Calls::new(Mending::new(me));
     assert!(rt;
-        runs(
+        runs_over(
             rt.alloc(),
+            A_CHANGE_CUT,
             machine,
             &A_CHANGE_THAT_ISNT_COMMITTED_IS_DROPPED,
             ()
@@ -313,31 +269,35 @@ fn a_change_that_isnt_committed_is_dropped(rt: HostRuntime) -> Result<(), Fail> 
     Ok(())
 }
 
+/// What the two pools of two clients have in common in which client 0 died in a change, once its first half was closed.
+pub const A_SECOND_HALF_LEFT: &[(usize, u64)] = &[
+    (1, 1),
+    (2, 1),
+    (3, 6_917_545_520_424_550_508),
+    (6, 1),
+    (7, 2),
+    (9, 104),
+    (11, 5),
+    (15, 108),
+    (16, 108),
+    (87, 1),
+    (88, 4),
+    (105, 67_108_864),
+    (106, 77),
+    (108, 9_223_653_511_831_486_468),
+    (109, 67_108_864),
+    (110, 78),
+];
+
 /// Client 0 died in a change, once its first half was closed; the header of the block before is client 1's.
 pub const ANOTHERS_HEADER_IS_SHOWN_FIRST: Run = Run {
     total: 2152,
     before: &[
-        (1, 1),
-        (2, 1),
-        (3, 6_917_545_520_424_550_508),
         (4, 2_305_877_094_074_155_112),
-        (6, 1),
-        (7, 2),
-        (9, 104),
-        (11, 5),
         (13, 3),
         (14, 2),
-        (15, 108),
-        (16, 108),
         (31, 104),
-        (87, 1),
-        (88, 4),
         (104, 9_367_909_437_395_697_665),
-        (105, 67_108_864),
-        (106, 77),
-        (108, 9_223_653_511_831_486_468),
-        (109, 67_108_864),
-        (110, 78),
     ],
     steps: &[
         Store(1, 2),
@@ -359,33 +319,22 @@ pub const ANOTHERS_HEADER_IS_SHOWN_FIRST: Run = Run {
 fn anothers_header_is_shown_first(rt: HostRuntime) -> Result<(), Fail> {
     let me = Me::new(Geometry::new(2, 1)?, 0);
     let machine: Mend = Calls::new(Mending::new(me));
-    assert!(rt; runs(rt.alloc(), machine, &ANOTHERS_HEADER_IS_SHOWN_FIRST, ())?);
+    assert!(rt;
+        runs_over(
+            rt.alloc(),
+            A_SECOND_HALF_LEFT,
+            machine,
+            &ANOTHERS_HEADER_IS_SHOWN_FIRST,
+            ()
+        )?
+    );
     Ok(())
 }
 
 /// Client 1 shares the block before, between the load of its header and the exchange.
 pub const A_LOST_EXCHANGE_IS_TRIED_AGAIN: Run = Run {
     total: 2152,
-    before: &[
-        (1, 1),
-        (2, 1),
-        (3, 6_917_545_520_424_550_508),
-        (6, 1),
-        (7, 2),
-        (9, 104),
-        (11, 5),
-        (14, 1),
-        (15, 108),
-        (16, 108),
-        (87, 1),
-        (88, 4),
-        (104, 9_223_653_511_831_486_467),
-        (105, 67_108_864),
-        (106, 77),
-        (108, 9_223_653_511_831_486_468),
-        (109, 67_108_864),
-        (110, 78),
-    ],
+    before: &[(14, 1), (104, 9_223_653_511_831_486_467)],
     steps: &[
         Store(1, 2),
         Load(11, 5),
@@ -426,7 +375,15 @@ pub const A_LOST_EXCHANGE_IS_TRIED_AGAIN: Run = Run {
 fn a_lost_exchange_is_tried_again(rt: HostRuntime) -> Result<(), Fail> {
     let me = Me::new(Geometry::new(2, 1)?, 0);
     let machine: Mend = Calls::new(Mending::new(me));
-    assert!(rt; runs(rt.alloc(), machine, &A_LOST_EXCHANGE_IS_TRIED_AGAIN, ())?);
+    assert!(rt;
+        runs_over(
+            rt.alloc(),
+            A_SECOND_HALF_LEFT,
+            machine,
+            &A_LOST_EXCHANGE_IS_TRIED_AGAIN,
+            ()
+        )?
+    );
     Ok(())
 }
 
