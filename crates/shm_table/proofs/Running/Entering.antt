@@ -90,7 +90,14 @@ pub enter_so : (m : EnterCalls) (r0 r : Memo) (tr : Trail) → enter_control.fin
 enter_so m r0 r tr going fit = go m.plan m.plan.point m.call r0 fit.rs r fit.before fit.t fit.es (enter_called m fit.t fit.there) going fit.knows fit.fits
   where
     go : (p : EnterState) (y : EnterPoint) (c : EnterCall) (r0 rs r : Memo) (before t : Trail) (es : List Event) → EnterCalled p y c → enter_parts.finished c ≡ false → EnterKnows p y r0 rs before es → (enter_part p y).fits c rs r t → MapBy (enter_at (record p { point = y }) c) (EnterDoes p r0 r) r0 r
-    go p entering.Make (First a) r0 rs r before t es at run h fit = same_more r0 rs r (same_now r0 rs h.1) (alloc_still a rs r t run fit)
+    go p y (First a) r0 rs r before t es at run h fit =
+        let known = subst (λ y. EnterKnows p y r0 rs before es) at h in
+        same_more r0 rs r (same_now r0 rs known.1) (alloc_still a rs r t run fit)
+    go p y (Second (Second s)) r0 rs r before t es (at, who, aim) run h fit =
+        let known = subst (λ y. EnterKnows p y r0 rs before es) at h in
+        let made = known.1.1 in
+        by_part (step_exchanged s) p.me.who (Body p.home (p.key % 16)) p.entry (EnterDoes p r0 r) r0 rs r made.map (linked p.me p.key p.value known.1.0 p.home p.first p.root p.entry r0 rs r made)
+        (aimed_part p.me (aims.Change p.first p.entry) p.home (p.key % 16) s rs r t who aim run (subst (λ y. (enter_part p y).fits (Second (Second s)) rs r t) at fit).1)
     go p entering.Value (Second (First s)) r0 rs r before t es (at, who, aim) run h fit =
         let made = h.0.1 in
         filled p.me p.key p.value h.0.0 p.home p.first p.root p.entry 0 0 r0 rs r made (step_exchanged s) 1 p.value (omega arith) made.may.some made.coming.value_is (aimed_part p.me (aims.Up p.value) p.entry 1 s rs r t who aim run fit.1)
@@ -101,17 +108,5 @@ enter_so m r0 r tr going fit = go m.plan m.plan.point m.call r0 fit.rs r fit.bef
         let made : IsMade p.me p.key p.value h.1.0 p.home p.first p.root p.entry p.first p.value r0 rs = subst (λ x. IsMade p.me p.key p.value h.1.0 p.home p.first p.root p.entry x p.value r0 rs) (sym h.0) h.1.1 in
         by_part (step_exchanged s) p.me.who (Body p.home (p.key % 16)) p.entry (EnterDoes p r0 r) r0 rs r made.map (linked p.me p.key p.value h.1.0 p.home p.first p.root p.entry r0 rs r made)
         (aimed_part p.me (aims.Up p.entry) p.home (p.key % 16) s rs r t who aim run fit.1)
-    go p entering.Change (Second (Second s)) r0 rs r before t es (at, who, aim) run h fit =
-        let made = h.1.1 in
-        by_part (step_exchanged s) p.me.who (Body p.home (p.key % 16)) p.entry (EnterDoes p r0 r) r0 rs r made.map (linked p.me p.key p.value h.1.0 p.home p.first p.root p.entry r0 rs r made)
-        (aimed_part p.me (aims.Change p.first p.entry) p.home (p.key % 16) s rs r t who aim run fit.1)
-    go p entering.Value (First a) r0 rs r before t es at run h fit = cc
-    go p entering.Next (First a) r0 rs r before t es at run h fit = cc
-    go p entering.Link (First a) r0 rs r before t es at run h fit = cc
-    go p entering.Change (First a) r0 rs r before t es at run h fit = cc
     go p entering.Make (Second (First s)) r0 rs r before t es (at, who, aim) run h fit = absurd at
     go p entering.Change (Second (First s)) r0 rs r before t es (at, who, aim) run h fit = absurd at
-    go p entering.Make (Second (Second s)) r0 rs r before t es (at, who, aim) run h fit = cc
-    go p entering.Value (Second (Second s)) r0 rs r before t es (at, who, aim) run h fit = cc
-    go p entering.Next (Second (Second s)) r0 rs r before t es (at, who, aim) run h fit = cc
-    go p entering.Link (Second (Second s)) r0 rs r before t es (at, who, aim) run h fit = cc
