@@ -13,6 +13,10 @@ ghost use Rattle.std.specs.Prelude.{◌<◌};
 ghost use Rattle.shm_words.specs.Layout.{GeometryFits};
 
 mod cases;
+#[cfg(test)]
+mod cut_tests;
+#[cfg(test)]
+mod mend_tests;
 mod op;
 mod pool;
 mod references;

@@ -1,7 +1,11 @@
 //! The words of a pool, and the number that is made of the word steps on them.
 
+ghost use Rattle.shm_words.specs.Layout.{GeometryFits};
+
 use shm_graph::Machine;
 use shm_runs::{Sum, make};
+use shm_words::Geometry;
+use std::alloc::{AllocError, Global};
 
 /// The words of a pool, and the number that is made of the word steps on them.
 #[derive(Drop)]
@@ -11,6 +15,27 @@ pub struct Pool {
 }
 
 impl Pool {
+    /// A pool of these sizes in which nobody has joined.
+    pub fn new(alloc: Global, geometry: Geometry) -> Result<Pool, AllocError>
+        requires { GeometryFits geometry }
+    {
+        let mut words = vec![in alloc; 0u64; geometry.total() as usize]?;
+        for who in 0..geometry.clients() {
+            if let Some(word) = words.get_mut(geometry.era(who, who) as usize) {
+                *word = 1;
+            }
+        }
+        let sum = Sum::new();
+        Ok(Pool { words, sum })
+    }
+
+    /// A pool of the same words, before its first word step.
+    pub fn copy(&self, alloc: Global) -> Result<Pool, AllocError> {
+        let words = self.words.as_slice().to_vec(alloc)?;
+        let sum = Sum::new();
+        Ok(Pool { words, sum })
+    }
+
     /// Makes at most so many word steps of a machine; how many were made. None where it asks for a word that isn't there.
     pub fn advance<M: Machine>(&mut self, machine: &mut M, most: u32) -> Option<u32>
     where

@@ -66,9 +66,12 @@ impl References {
         body: u32,
         class: u64,
     ) -> Result<(), AllocError> {
+        if class == 0 {
+            return Ok(());
+        }
         for place in 0..128u32 {
             let block = body.saturating_add(place);
-            if class == 0 || u64::from(place) % class != 0 || pool.word(block) == 0 {
+            if u64::from(place) % class != 0 || pool.word(block) == 0 {
                 continue;
             }
             self.blocks.push(block)?;

@@ -7,7 +7,6 @@ use crate::op::{Op, may_stand, perform};
 use crate::pool::Pool;
 use crate::rules::{is_gone, is_recovered};
 use shm_graph::{Machine, Me};
-use shm_runs::Sum;
 use shm_script::Line;
 use shm_table::Command;
 use shm_words::Geometry;
@@ -39,26 +38,11 @@ pub struct Group {
     pub cases: &'static [Case],
 }
 
-/// The words of a pool of these sizes in which nobody has joined.
-fn first_words(alloc: Global, geometry: Geometry) -> Result<Vec<u64>, AllocError>
-    requires { GeometryFits geometry }
-{
-    let mut words = vec![in alloc; 0u64; geometry.total() as usize]?;
-    for who in 0..geometry.clients() {
-        if let Some(word) = words.get_mut(geometry.era(who, who) as usize) {
-            *word = 1;
-        }
-    }
-    Ok(words)
-}
-
 /// The pool of a case before its operation; none where something in the case doesn't fit.
 pub fn prepare(alloc: Global, geometry: Geometry, case: &Case) -> Result<Option<Pool>, AllocError>
     requires { GeometryFits geometry }
 {
-    let words = first_words(alloc, geometry)?;
-    let sum = Sum::new();
-    let mut pool = Pool { words, sum };
+    let mut pool = Pool::new(alloc, geometry)?;
     for who in 0..geometry.clients() {
         perform(&mut pool, Me::new(geometry, who), Op::Join, LIMIT);
     }
@@ -75,13 +59,6 @@ pub fn prepare(alloc: Global, geometry: Geometry, case: &Case) -> Result<Option<
     Ok(Some(pool))
 }
 
-/// A pool of the same words, before its first word step.
-fn copy(alloc: Global, pool: &Pool) -> Result<Pool, AllocError> {
-    let words = pool.words.as_slice().to_vec(alloc)?;
-    let sum = Sum::new();
-    Ok(Pool { words, sum })
-}
-
 /// How many word steps the operation of a case makes; none where it doesn't fit the pool.
 pub fn length(
     alloc: Global,
@@ -92,7 +69,7 @@ pub fn length(
     requires geometry { GeometryFits me.geometry }
     requires who { me.who < me.geometry.clients }
 {
-    let mut pool = copy(alloc, prepared)?;
+    let mut pool = prepared.copy(alloc)?;
     Ok(perform(&mut pool, me, case.op, LIMIT))
 }
 
@@ -172,7 +149,7 @@ pub fn attempt(
     requires geometry { GeometryFits me.geometry }
     requires who { me.who < me.geometry.clients }
 {
-    let mut pool = copy(alloc, prepared)?;
+    let mut pool = prepared.copy(alloc)?;
     let Some(first) = kill(&mut pool, me, case, death, second) else {
         return Ok(None);
     };

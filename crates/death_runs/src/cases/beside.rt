@@ -1,6 +1,6 @@
 //! Commands of two identities, between death and recovery another one.
 
-use crate::op::Op::{DropRoot, Hold, Leave, Release, Run, Share};
+use crate::op::Op::{DropRoot, Leave, Receive, Run};
 use crate::trial::Case;
 use shm_script::Line;
 
@@ -160,8 +160,14 @@ pub const CASES: [Case; 13] = [
     Case {
         name: "drop_then_copy",
         before: &[
-            (0, &[Run(Line::Put { key: 5, number: 77 })]),
-            (1, &[Hold(0), Share(121), Release]),
+            (
+                0,
+                &[
+                    Run(Line::Put { key: 5, number: 77 }),
+                    Run(Line::Send { to: 1, key: 5 }),
+                ],
+            ),
+            (1, &[Receive(0)]),
         ],
         who: 1,
         op: DropRoot(0),

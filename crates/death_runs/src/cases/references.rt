@@ -1,7 +1,7 @@
 //! Operations of two identities on homes, references and roots.
 
 use crate::op::Op;
-use crate::op::Op::{Alloc, DropRoot, Hold, Leave, Look, Release, SetHome, SetRef, Share};
+use crate::op::Op::{Alloc, DropRoot, Hold, HomeOf, Leave, Look, Release, SetHome, SetRef, Share};
 use crate::trial::Case;
 
 /// The home names 121, which names 125, and that one 129.
@@ -19,11 +19,11 @@ const HOME: [Op; 11] = [
     DropRoot(2),
 ];
 
-/// Block 125 of identity 0 gets a root.
-const SHARED: [Op; 3] = [Hold(0), Share(125), Release];
+/// Block 125 of identity 0, which its home leads to, gets a root.
+const SHARED: [Op; 5] = [Hold(0), HomeOf(0), Look(121, 0), Share(125), Release];
 
 /// Operations of two identities on homes, references and roots.
-pub const CASES: [Case; 9] = [
+pub const CASES: [Case; 8] = [
     Case {
         name: "hold_of_another",
         before: &[(0, &HOME)],
@@ -47,23 +47,16 @@ pub const CASES: [Case; 9] = [
     },
     Case {
         name: "look_of_another",
-        before: &[(0, &HOME), (1, &[Hold(0)])],
+        before: &[(0, &HOME), (1, &[Hold(0), HomeOf(0)])],
         who: 1,
         op: Look(121, 0),
         beside: None,
     },
     Case {
         name: "share_of_another",
-        before: &[(0, &HOME), (1, &[Hold(0)])],
+        before: &[(0, &HOME), (1, &[Hold(0), HomeOf(0), Look(121, 0)])],
         who: 1,
         op: Share(125),
-        beside: None,
-    },
-    Case {
-        name: "set_home_to_another",
-        before: &[(0, &HOME), (1, &SHARED)],
-        who: 1,
-        op: SetHome(125),
         beside: None,
     },
     Case {
