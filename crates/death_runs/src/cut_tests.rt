@@ -1,5 +1,5 @@
-//! Clients that join, put the key 5 and leave, cut after each of their word steps, with second deaths after each word step of a recoverer; alone
-//! and with a copy by another client before the recovery.
+//! Clients that join, put the key 5 and leave, cut after each of their word steps, with second deaths after each word step of a recoverer;
+//! alone, and with a copy by another client before the recovery.
 
 ghost use Rattle.std.specs.Prelude.{◌<◌};
 ghost use Rattle.shm_words.specs.Layout.{GeometryFits};
@@ -126,8 +126,8 @@ fn sizes_of(alloc: Global, pool: &Pool, geometry: Geometry) -> Result<Sizes, All
     Ok((homes, blocks.len(), references))
 }
 
-/// What is left after a client of a pool of one identity was cut and recovered: whether the put showed its answer when the client was cut, whether
-/// it had answered, and the sizes; and whether a recoverer died.
+/// What is left after a client of a pool of one identity was cut and recovered: whether the put showed its answer when the client was cut,
+/// whether it had answered, and the sizes; and whether a recoverer died.
 #[derive(Drop)]
 struct Left {
     shown: bool,
