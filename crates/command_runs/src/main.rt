@@ -8,20 +8,20 @@
 ghost use Rattle.std.specs.Prelude.{◌<◌};
 ghost use Rattle.shm_words.specs.Layout.{GeometryFits};
 
+mod answers;
 mod lines;
-mod tally;
 
+use answers::add_answer;
 use lines::line_for;
 use shm_graph::{Machine, Me, Turn};
 use shm_recover::Join;
-use shm_runs::make;
+use shm_runs::{Sum, make};
 use shm_script::{Line, Trace, generate};
 use shm_table::Command;
 use shm_words::Geometry;
 use std::alloc::{AllocError, Global};
 use std::io;
 use std::process::ExitCode;
-use tally::Tally;
 
 /// How many pools there are.
 const POOLS: u64 = 300;
@@ -64,19 +64,19 @@ fn join(words: &mut Vec<u64>, me: Me) -> Option<()>
 }
 
 /// Runs a command; none where it doesn't end, or answers another thing than it showed.
-fn run(words: &mut Vec<u64>, command: &mut Command, tally: &mut Tally) -> Option<()> {
+fn run(words: &mut Vec<u64>, command: &mut Command, sum: &mut Sum) -> Option<()> {
     for _ in 0..LIMIT {
         if command.finished() {
             return None;
         }
         let ask = command.ask();
         let seen = make(words, ask)?;
-        tally.step(ask, seen);
+        sum.step(ask, seen);
         let turn = command.take(seen);
         let effect = command.effect();
-        tally.add(u64::from(effect.is_some()));
+        sum.add(u64::from(effect.is_some()));
         if let Turn::Done(answer) = turn {
-            tally.answer(answer);
+            add_answer(sum, answer);
             return match effect {
                 Some(shown) if shown != answer => None,
                 _ => Some(()),
@@ -93,10 +93,10 @@ fn line_of(trace: &Trace, who: u8, n: u32) -> Option<Line> {
 }
 
 /// Runs the commands of all clients of a pool, one of each client after the other; none where one of them doesn't end.
-fn run_all(words: &mut Vec<u64>, geometry: Geometry, trace: &Trace) -> Option<Tally>
+fn run_all(words: &mut Vec<u64>, geometry: Geometry, trace: &Trace) -> Option<Sum>
     requires { GeometryFits geometry }
 {
-    let mut tally = Tally::new();
+    let mut sum = Sum::new();
     for who in 0..geometry.clients() {
         join(words, Me::new(geometry, who))?;
     }
@@ -104,11 +104,11 @@ fn run_all(words: &mut Vec<u64>, geometry: Geometry, trace: &Trace) -> Option<Ta
         for who in 0..geometry.clients() {
             let me = Me::new(geometry, who);
             if let Some(line) = line_for(me, line_of(trace, who, n)?) {
-                run(words, &mut Command::new(me, &line), &mut tally)?;
+                run(words, &mut Command::new(me, &line), &mut sum)?;
             }
         }
     }
-    Some(tally)
+    Some(sum)
 }
 
 /// Tells of one pool; false where a command didn't end.
@@ -120,8 +120,8 @@ fn tell(rt: &HostRuntime, pool: u64) -> io::Result<bool> {
     let trace = generate(rt.alloc(), pool, COMMANDS)?;
     let mut words = first_words(rt.alloc(), geometry)?;
     match run_all(&mut words, geometry, &trace) {
-        Some(tally) => {
-            println!(rt; "{pool} {} {}", tally.steps, tally.sum)?;
+        Some(sum) => {
+            println!(rt; "{pool} {} {}", sum.steps, sum.sum)?;
             Ok(true)
         }
         None => Ok(false),

@@ -1,12 +1,15 @@
-//! Runs of machines on the words of a pool, for tests: a test names a run as a constant, and one function goes through it.
+//! Runs of machines on the words of a pool, for tests: a test names a run as a constant, and one function goes through it. Programs that
+//! make many runs make one number of them (`Sum`).
 #![tactic(auto)]
 
 mod pools;
+mod sum;
 
 use Step::{Exchange, Load, Lost, Others, Store, Zeros};
 pub use pools::TABLE;
 use shm_graph::{Ask, Machine, Turn};
 use std::alloc::{AllocError, Global};
+pub use sum::Sum;
 
 /// A word step, with the word that it finds.
 #[derive(Clone, Copy, Drop)]

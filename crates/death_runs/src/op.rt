@@ -1,0 +1,170 @@
+//! The operations of the table, and how an identity begins and makes them.
+
+ghost use Rattle.std.specs.Prelude.{◌≡◌, ◌<◌, true};
+ghost use Rattle.shm_words.specs.Layout.{GeometryFits};
+ghost use Rattle.shm_table.specs.Command.{MayStand};
+
+use crate::pool::Pool;
+use shm_alloc::Alloc;
+use shm_calls::Calls;
+use shm_count::{StepChange, StepDown, StepUp, TearDown};
+use shm_graph::Me;
+use shm_queue::{Draining, Peeking, Receiving, Sending, Taking};
+use shm_recover::{Join, Leaving, Recovering};
+use shm_ref::{
+    Dropping, FindingHome, Holding, Homing, Looking, Naming, Reading, Releasing, Setting, Sharing,
+};
+use shm_script::Line;
+use shm_table::Command;
+
+/// No address is as great.
+const ADDRESSES: u32 = 1 << 20;
+
+/// An operation. Blocks, words and slots are named by their addresses, identities and roots by their numbers.
+#[derive(Clone, Copy, Drop)]
+pub enum Op {
+    Join,
+    Leave,
+    /// The identity died between two operations, and is recovered.
+    Recover,
+    /// A command of a table.
+    Run(Line),
+    /// A block of so many reference words and of these plain words.
+    Alloc(u8, &'static [u64]),
+    DropRoot(u8),
+    RootOf(u8),
+    Share(u32),
+    SetHome(u32),
+    /// The latch of an identity.
+    Hold(u8),
+    Release,
+    HomeOf(u8),
+    /// A reference word of a block, by its number.
+    Look(u32, u8),
+    /// A plain word of a block, by its number.
+    Read(u32, u8),
+    /// A reference word of a block, and what it shall name.
+    SetRef(u32, u8, u32),
+    /// To an identity a block.
+    Send(u8, u32),
+    Peek(u8),
+    Take(u8),
+    Receive(u8),
+    Drain,
+    /// A slot and the block that it shall name.
+    Up(u32, u32),
+    /// A slot and the block that it names.
+    Down(u32, u32),
+    /// A slot, the block that it names and the one that it shall name.
+    Change(u32, u32, u32),
+    /// A block whose count is 0.
+    TearDown(u32),
+}
+
+/// Whether the line may stand in the script of this identity.
+pub fn may_stand(me: Me, line: Line) -> bool
+    ensures { result ≡ true → MayStand me line }
+{
+    let clients = me.geometry.clients();
+    match line {
+        Line::Put { .. } | Line::Del { .. } => true,
+        Line::Get { author, .. } | Line::Copy { author, .. } => author < clients,
+        Line::Send { to, .. } => to < clients && me.who != to,
+        Line::Recv { from, .. } => from < clients && from != me.who,
+    }
+}
+
+/// Makes at most so many word steps of an operation; how many were made. None where it doesn't fit the pool.
+pub fn perform(pool: &mut Pool, me: Me, op: Op, most: u32) -> Option<u32>
+    requires geometry { GeometryFits me.geometry }
+    requires who { me.who < me.geometry.clients }
+{
+    match op {
+        Op::Join => pool.advance(&mut Join::new(me), most),
+        Op::Leave => pool.advance(&mut Calls::new(Leaving::new(me)), most),
+        Op::Recover => pool.advance(&mut Calls::new(Recovering::new(me)), most),
+        Op::Run(line) if may_stand(me, line) => pool.advance(&mut Command::new(me, &line), most),
+        Op::Alloc(refs, plain) => match Alloc::new(me, refs, plain) {
+            Ok(mut alloc) => pool.advance(&mut alloc, most),
+            Err(_) => None,
+        },
+        Op::Release => pool.advance(&mut Calls::new(Releasing::new(me)), most),
+        Op::Drain => pool.advance(&mut Calls::new(Draining::new(me)), most),
+        _ => match perform_at(pool, me, op, most) {
+            None => perform_on(pool, me, op, most),
+            made => made,
+        },
+    }
+}
+
+/// The same of operations that are told a root or an identity.
+fn perform_at(pool: &mut Pool, me: Me, op: Op, most: u32) -> Option<u32>
+    requires geometry { GeometryFits me.geometry }
+    requires who { me.who < me.geometry.clients }
+{
+    let clients = me.geometry.clients();
+    match op {
+        Op::DropRoot(root) if root < 16 => {
+            pool.advance(&mut Calls::new(Dropping::new(me, root)), most)
+        }
+        Op::RootOf(root) if root < 16 => {
+            pool.advance(&mut Calls::new(Naming::new(me, root)), most)
+        }
+        Op::Hold(author) if author < clients => {
+            pool.advance(&mut Calls::new(Holding::new(me, author)), most)
+        }
+        Op::HomeOf(author) if author < clients => {
+            pool.advance(&mut Calls::new(FindingHome::new(me, author)), most)
+        }
+        Op::Send(to, block) if to < clients && block < ADDRESSES => {
+            pool.advance(&mut Calls::new(Sending::new(me, to, block)), most)
+        }
+        Op::Peek(from) if from < clients => {
+            pool.advance(&mut Calls::new(Peeking::new(me, from)), most)
+        }
+        Op::Take(from) if from < clients => {
+            pool.advance(&mut Calls::new(Taking::new(me, from)), most)
+        }
+        Op::Receive(from) if from < clients => {
+            pool.advance(&mut Calls::new(Receiving::new(me, from)), most)
+        }
+        _ => None,
+    }
+}
+
+/// The same of operations that are told an address.
+fn perform_on(pool: &mut Pool, me: Me, op: Op, most: u32) -> Option<u32>
+    requires geometry { GeometryFits me.geometry }
+    requires who { me.who < me.geometry.clients }
+{
+    match op {
+        Op::Share(block) if block < ADDRESSES => {
+            pool.advance(&mut Calls::new(Sharing::new(me, block)), most)
+        }
+        Op::SetHome(block) if block < ADDRESSES => {
+            pool.advance(&mut Calls::new(Homing::new(me, block)), most)
+        }
+        Op::Look(block, word) if block < ADDRESSES => {
+            pool.advance(&mut Calls::new(Looking::new(me, block, word)), most)
+        }
+        Op::Read(block, word) if block < ADDRESSES => {
+            pool.advance(&mut Calls::new(Reading::new(me, block, word)), most)
+        }
+        Op::SetRef(block, word, to)
+            if block < me.geometry.total() && block + 2 <= me.geometry.total() && to < ADDRESSES =>
+            { pool.advance(&mut Calls::new(Setting::new(me, block, word, to)), most) }
+        Op::Up(slot, block) if slot < ADDRESSES && block < ADDRESSES => {
+            pool.advance(&mut StepUp::new(me, slot, block), most)
+        }
+        Op::Down(slot, block) if slot < ADDRESSES && block < ADDRESSES => {
+            pool.advance(&mut StepDown::new(me, slot, block), most)
+        }
+        Op::Change(slot, old, new) if slot < ADDRESSES && old < ADDRESSES && new < ADDRESSES => {
+            pool.advance(&mut StepChange::new(me, slot, old, new), most)
+        }
+        Op::TearDown(block) if block < ADDRESSES => {
+            pool.advance(&mut TearDown::new(me, block), most)
+        }
+        _ => None,
+    }
+}
