@@ -29,7 +29,7 @@ use Rattle.shm_recover.specs.Join.{JoinGives, join_fresh}
 use Rattle.shm_script.specs.declared.line.Line.{Line}
 use Rattle.shm_script.specs.Ranges.{LineFits}
 use Rattle.shm_steps.specs.Reparting.{map_in}
-use Rattle.shm_replay.specs.Clients.{IsPlaying, IsReady, Playing, behind, one_agent}
+use Rattle.shm_replay.specs.Agents.{IsPlaying, IsReady, Playing, behind, one_agent}
 use Rattle.shm_replay.specs.Work.{WorkFits, joining, work_control}
 use Rattle.shm_replay.proofs.WorkLaws.{behind_fits, behind_fresh, behind_going, behind_me}
 

@@ -48,7 +48,7 @@ use Rattle.shm_script.specs.Ranges.{LineFits}
 use Rattle.shm_script.specs.Text.{line_spelled}
 use Rattle.shm_steps.specs.Reparting.{map_in}
 use Rattle.shm_table.specs.Command.{CommandCall, CommandGives, command_control, command_of}
-use Rattle.shm_replay.specs.Clients.{AreTold, HasParted, IsPlaying, IsReady, Playing, behind, one_agent}
+use Rattle.shm_replay.specs.Agents.{AreTold, HasParted, IsPlaying, IsReady, Playing, behind, one_agent}
 use Rattle.shm_replay.specs.Logs.{answer_along}
 use Rattle.shm_replay.specs.Work.{Work, WorkFits, WorkGives, commanding, work_control}
 use Rattle.shm_replay.proofs.Folding.{HasRoom, command_leaves}

@@ -15,7 +15,7 @@ use Rattle.shm_count.specs.Roots.{member}
 use Rattle.shm_plain.specs.Pools.{Pool, memo_of}
 use Rattle.shm_script.specs.declared.line.Line.{Line}
 use Rattle.shm_script.specs.Values.{Scripted, Traced}
-use Rattle.shm_replay.specs.Clients.{HasParted, IsFresh, IsPlaying, Playing, Stage, Stands, one_agent}
+use Rattle.shm_replay.specs.Agents.{HasParted, IsFresh, IsPlaying, Playing, Stage, Stands, one_agent}
 use Rattle.shm_replay.specs.Closings.{IsOut}
 use Rattle.shm_script.specs.declared.line.Item.{Item}
 use Rattle.shm_replay.specs.Orders.{IsGiven, IsUntilAnswered}

@@ -18,7 +18,7 @@ use Rattle.shm_count.specs.Roots.{member}
 use Rattle.shm_script.specs.declared.line.Line.{Line}
 use Rattle.shm_script.specs.declared.log.Entry.{Entry}
 use Rattle.shm_script.specs.Values.{Scripted}
-use Rattle.shm_replay.specs.Clients.{HasParted, IsFresh, IsPlaying, Playing, Stage, Stands, behind, logged}
+use Rattle.shm_replay.specs.Agents.{HasParted, IsFresh, IsPlaying, Playing, Stage, Stands, behind, logged}
 use Rattle.shm_replay.specs.Logs.{AreEntries, IsLog}
 use Rattle.shm_replay.specs.Turns.{answered_of, begun_first, over_first, work_at, worked}
 use Rattle.shm_replay.specs.Work.{Work, commanding, joining, leaving, script_work, work_control}

@@ -13,7 +13,7 @@ use Rattle.shm_plain.specs.Pools.{Pool, first_pool}
 use Rattle.shm_script.specs.declared.line.Line.{Line}
 use Rattle.shm_script.specs.Ranges.{IsTrace, LineFits, ScriptFits}
 use Rattle.shm_script.specs.Values.{Scripted, Traced}
-use Rattle.shm_replay.specs.Clients.{Playing, Stands}
+use Rattle.shm_replay.specs.Agents.{Playing, Stands}
 use Rattle.shm_replay.specs.Replays.{start_of}
 use Rattle.shm_replay.specs.Seats.{AreSeated, IsSeat, Seat}
 use Rattle.shm_replay.specs.Turns.{script_in}

@@ -30,7 +30,7 @@ use Rattle.shm_script.specs.declared.line.Line.{Line}
 use Rattle.shm_script.specs.declared.log.Answer.{Answer}
 use Rattle.shm_script.specs.declared.log.Entry.{Entry}
 use Rattle.shm_script.specs.Ranges.{LineFits}
-use Rattle.shm_replay.specs.Clients.{HasParted, IsFresh, IsPlaying, MayPlay, Playing, Stage, Stands, behind}
+use Rattle.shm_replay.specs.Agents.{HasParted, IsFresh, IsPlaying, MayPlay, Playing, Stage, Stands, behind}
 use Rattle.shm_replay.specs.Work.{Work, WorkFits, WorkGives, joining as join_work, work_control}
 use Rattle.shm_replay.proofs.OwnEras.{own_most}
 use Rattle.shm_replay.proofs.Joining as joining

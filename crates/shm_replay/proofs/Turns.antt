@@ -20,7 +20,7 @@ use Rattle.shm_script.specs.declared.line.Line.{Line}
 use Rattle.shm_script.specs.declared.log.Answer.{Answer}
 use Rattle.shm_script.specs.Ranges.{LineFits}
 use Rattle.shm_table.specs.Command.{MayStand}
-use Rattle.shm_replay.specs.Clients.{IsFresh, IsPlaying, Playing, Stage, Stands, behind}
+use Rattle.shm_replay.specs.Agents.{IsFresh, IsPlaying, Playing, Stage, Stands, behind}
 use Rattle.shm_replay.specs.Turns.{worked}
 use Rattle.shm_replay.specs.Work.{Work, WorkAnswer, WorkFits, WorkGives, work_control}
 use Rattle.shm_replay.proofs.Standing.{worked_others}

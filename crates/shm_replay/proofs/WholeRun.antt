@@ -24,7 +24,7 @@ use Rattle.shm_plain.specs.Pools.{IsRun, Pool, first_pool, memo_of}
 use Rattle.shm_plain.proofs.StillTable.{still_part}
 use Rattle.shm_script.specs.Ranges.{AreApart, IsTrace, ScriptFits}
 use Rattle.shm_script.specs.Values.{Scripted, Traced}
-use Rattle.shm_replay.specs.Clients.{HasParted, Playing, Stands, logged}
+use Rattle.shm_replay.specs.Agents.{HasParted, Playing, Stands, logged}
 use Rattle.shm_replay.specs.Closings.{AreVisits}
 use Rattle.shm_replay.specs.Gathered.{logs_by}
 use Rattle.shm_replay.specs.Logs.{IsLog}

@@ -57,7 +57,7 @@ use Rattle.shm_table.specs.SendKey.Laws.{send_key_begin, send_key_laws}
 use Rattle.shm_table.specs.TakeHead.Laws.{take_head_laws}
 use Rattle.shm_calls.specs.Plans.{PlanLaws}
 use Rattle.shm_script.specs.declared.log.Entry.{Entry}
-use Rattle.shm_replay.specs.Clients.{IsReady, behind}
+use Rattle.shm_replay.specs.Agents.{IsReady, behind}
 use Rattle.shm_replay.specs.Work.{WorkFits, WorkGives, commanding, leaving, work_control}
 
 -- ---- the laws

@@ -6,7 +6,7 @@ use Rattle.std.proofs.lemmas.Result.{err_from_is_err_and}
 use Rattle.shm_graph.specs.declared.ask.Me.{Me}
 use Rattle.shm_plain.specs.Pools.{memo_of}
 use Rattle.shm_graph.specs.Agents.{steps_made}
-use Rattle.shm_replay.specs.Clients.{Playing}
+use Rattle.shm_replay.specs.Agents.{Playing}
 use Rattle.shm_replay.specs.Seats.{AreSeated, IsSeat, Seat, lives}
 use Rattle.shm_replay.specs.Turns.{in_a_row}
 use Rattle.shm_replay.proofs.Giving.{idle_row}

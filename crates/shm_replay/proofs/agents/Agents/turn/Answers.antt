@@ -8,10 +8,10 @@ use Rattle.shm_graph.specs.Runs.{account_at}
 use Rattle.shm_calls.specs.declared.or.Or.TheVariants.{First, Second}
 use Rattle.shm_count.specs.declared.answer.EraSpent.{EraSpent}
 use Rattle.shm_table.specs.Command.{MayStand}
-use Rattle.shm_replay.specs.Clients.{Playing, Stands, behind}
+use Rattle.shm_replay.specs.Agents.{Playing, Stands, behind}
 use Rattle.shm_replay.proofs.Turns.{After, Before}
 use Rattle.shm_replay.proofs.Turns as turns
-use Rattle.shm_replay.proofs.client.Client.turn.Goals as goal
+use Rattle.shm_replay.proofs.agents.Agents.turn.Goals as goal
 
 pub step-requires-clause-fits : goal.step-requires-clause-fits
 step-requires-clause-fits c =

@@ -8,7 +8,7 @@ use Rattle.shm_replay.specs.Replays.{start_of}
 use Rattle.shm_replay.specs.Turns.{script_in}
 use Rattle.shm_replay.proofs.Gathering.{same_some}
 use Rattle.shm_replay.proofs.Starting.{new_seat, none_seat}
-use Rattle.shm_replay.proofs.replaying.client_of.Goals as goal
+use Rattle.shm_replay.proofs.replaying.agents_of.Goals as goal
 
 pub returns-in-None : goal.returns-in-None
 returns-in-None c =

@@ -3,7 +3,7 @@ use Rattle.std.specs.Prelude.{None, slice_index_or}
 use Rattle.shm_plain.specs.Pools.{first_pool}
 use Rattle.shm_replay.specs.Replays.{start_of}
 use Rattle.shm_replay.specs.Seats.{Seat}
-use Rattle.shm_replay.proofs.replaying.clients_of.Given as goal
+use Rattle.shm_replay.proofs.replaying.all_agents.Given as goal
 
 abbrev pub invariant-loop-who : goal.invariant-loop-who
 invariant-loop-who l = record {

@@ -1,9 +1,9 @@
 use Rattle.std.proofs.Common.{◌≡◌, ap, subst, ◌∙◌, sym, length, arith, vec_capacity}
-use Rattle.shm_replay.specs.Clients.{Playing, behind}
+use Rattle.shm_replay.specs.Agents.{Playing, behind}
 use Rattle.shm_replay.specs.Work.{Work}
 use Rattle.shm_replay.proofs.WorkLaws.{behind_at, behind_past}
-use Rattle.shm_replay.proofs.client.Client.begin.Goals.{Joined-self-next, then-answered-lines, else-answered-lines}
-use Rattle.shm_replay.proofs.client.Client.begin.Goals as goal
+use Rattle.shm_replay.proofs.agents.Agents.begin.Goals.{Joined-self-next, then-answered-lines, else-answered-lines}
+use Rattle.shm_replay.proofs.agents.Agents.begin.Goals as goal
 
 -- the work is what comes behind the commands that have answered
 placed : (c : Joined-self-next) → c.if-answered-lines.next ≡ behind c.self.inside.me c.args.lines.now c.len-answered.result
