@@ -47,7 +47,7 @@ fn join(pool: &mut PlainPool, me: Me, life: &mut Life) -> Option<()>
     requires out { IsOut (memo_of pool.old me.who) }
     ensures whole { IfSome result (λ u. IsWhole join_control me.who pool.old (join_fresh (member pool.old.start.geometry me.who)) pool.new) }
     ensures here { IfSome result (λ u. IsIn me.who (memo_of pool.new me.who)) }
-    ensures table { IfSome result (λ u. SameTable (memo_of pool.old me.who) (memo_of pool.new me.who)) }
+    ensures part { IfSome result (λ u. (memo_of pool.new me.who).part ≡ (memo_of pool.old me.who).part) }
     ensures ran { Ran me.who true (is_some result) pool.old pool.new life.old.left life.new.left }
 {
     pool.geometry();
@@ -63,7 +63,7 @@ fn drain(pool: &mut PlainPool, me: Me, life: &mut Life) -> Option<()>
     requires few { steps_made (memo_of pool.old me.who) + life.old.left ≤ 2 ^ 43 }
     ensures whole { IfSome result (λ u. IsWhole (calls_control drain_parts drain_plan) me.who pool.old (calls_of drain_plan (draining (member pool.old.start.geometry me.who))) pool.new) }
     ensures here { IfSome result (λ u. IsIn me.who (memo_of pool.new me.who)) }
-    ensures table { IfSome result (λ u. SameTable (memo_of pool.old me.who) (memo_of pool.new me.who)) }
+    ensures part { IfSome result (λ u. (memo_of pool.new me.who).part ≡ (memo_of pool.old me.who).part) }
     ensures ran { Ran me.who true (is_some result) pool.old pool.new life.old.left life.new.left }
 {
     pool.geometry();
@@ -81,7 +81,7 @@ fn leave(pool: &mut PlainPool, me: Me, life: &mut Life) -> Option<()>
     requires few { steps_made (memo_of pool.old me.who) + life.old.left ≤ 2 ^ 43 }
     ensures whole { IfSome result (λ u. IsWhole (calls_control leave_parts leave_plan) me.who pool.old (calls_of leave_plan (leaving (member pool.old.start.geometry me.who))) pool.new) }
     ensures gone { IfSome result (λ u. (memo_of pool.new me.who).status ≡ Gone) }
-    ensures table { IfSome result (λ u. SameTable (memo_of pool.old me.who) (memo_of pool.new me.who)) }
+    ensures part { IfSome result (λ u. (memo_of pool.new me.who).part ≡ (memo_of pool.old me.who).part) }
     ensures ran { Ran me.who true (is_some result) pool.old pool.new life.old.left life.new.left }
 {
     pool.geometry();
