@@ -9,6 +9,7 @@ pub mod Turning
 pub mod Turns
 mod OwnEras
 mod Visiting
+mod Reviving
 mod Ends
 mod Giving
 mod Seating
