@@ -308,6 +308,7 @@ module _ {M A : Type 0} (k : Control M A) (fits : M → Memo → Memo → Trail 
           spent = λ u. went_spent y' e;
           made = made_more y' e;
           some = λ u. let l = went.spent in omega arith;
+          less = λ u. let l = went.spent in omega arith;
           died = λ u. absurd (true≢false u);
           over = λ u. ap (λ (x : Account). x.memo.over) here ∙ ((steady n t.seen went.of.2).ends ∙ ap is_some answer);
         }
@@ -385,6 +386,7 @@ module _ {M A : Type 0} (k : Control M A) (fits : M → Memo → Memo → Trail 
         spent = λ u. absurd (true≢false (sym u));
         made = went.made;
         some = λ u. absurd (true≢false (sym u));
+        less = λ u. absurd (true≢false (sym u));
         died = λ u. none;
         over = λ u. absurd (true≢false (sym u));
       }

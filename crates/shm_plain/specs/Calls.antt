@@ -71,5 +71,6 @@ pub record Ran (c : ℕ) (fresh answered : Bool) (p q : Pool) (x y : ℕ) : Type
   pub spent : answered ≡ true → fresh ≡ true → y + length (memo_of q c).call ≡ x
   pub made : y + steps_made (memo_of q c) ≡ x + steps_made (memo_of p c)
   pub some : answered ≡ true → 0 < x
+  pub less : answered ≡ true → y < x
   pub died : answered ≡ false → y ≡ 0
   pub over : answered ≡ true → (memo_of q c).over ≡ true
