@@ -1,12 +1,14 @@
 -- the closing of a pool after a trace
-use Rattle.std.specs.Prelude.{◌≡◌, ℕ, zero, suc, ◌^◌, ◌≤◌, ◌⊎◌, Bool, true, false, Option, None, Some, [], slice_index}
+use Rattle.std.specs.Prelude.{◌≡◌, ℕ, zero, suc, ◌^◌, ◌≤◌, ◌⊎◌, Bool, true, false, Option, None, Some, List, [], ◌++◌, slice_index}
 use Rattle.shm_graph.specs.declared.memo.Memo.{Memo}
 use Rattle.shm_graph.specs.declared.memo.Status.TheVariants.{Gone, New}
+use Rattle.shm_graph.specs.declared.run.Account.{Account}
+use Rattle.shm_graph.specs.declared.run.LoggedLine.{LoggedLine}
 use Rattle.shm_graph.specs.Agents.{acts, last_agent, steps_made}
 use Rattle.shm_graph.specs.Held.{is_loose}
 use Rattle.shm_graph.specs.Idle.{IsIdle}
 use Rattle.shm_graph.specs.Laws.{Control}
-use Rattle.shm_graph.specs.Runs.{fell_by}
+use Rattle.shm_graph.specs.Runs.{fell_by, told_left}
 use Rattle.shm_calls.specs.CallsControl.{calls_control, calls_of}
 use Rattle.shm_count.specs.Roots.{member}
 use Rattle.shm_plain.specs.Calls.{Took}
@@ -51,6 +53,10 @@ pub record IsVisit (c : ℕ) (p q : Pool) : Type 0 where
 abbrev pub AreVisits : ℕ → ℕ → Pool → Pool → Type 0
 AreVisits c zero p q = q ≡ p
 AreVisits c (suc n) p q = (r : Pool) × IsVisit c p r × AreVisits (suc c) n r q
+
+-- what was running of an agent that died is told, and more behind it
+abbrev pub HasTold : Account → Account → Type 0
+HasTold e f = (more : List LoggedLine) × (f.told ≡ told_left true e ++ more)
 
 -- ---- when it may begin
 

@@ -4,6 +4,7 @@ ghost use Rattle.std.specs.Prelude.{◌≡◌, ◌≢◌, ◌+◌, ◌^◌, ◌<
 ghost use Rattle.std.specs.Option.{is_some};
 ghost use Rattle.shm_graph.specs.declared.memo.Status.TheVariants.{Gone};
 ghost use Rattle.shm_graph.specs.Agents.{steps_made};
+ghost use Rattle.shm_graph.specs.Runs.{account_at};
 ghost use Rattle.shm_calls.specs.CallsControl.{calls_control, calls_of};
 ghost use Rattle.shm_count.specs.Roots.{member};
 ghost use Rattle.shm_plain.specs.Calls.{Ran};
@@ -13,7 +14,7 @@ ghost use Rattle.shm_queue.specs.Drain.{drain_plan};
 ghost use Rattle.shm_recover.specs.Join.{join_control, join_fresh};
 ghost use Rattle.shm_recover.specs.Leave.Control.{leave_parts, leaving};
 ghost use Rattle.shm_recover.specs.Leave.{leave_plan};
-ghost use Rattle.shm_replay.specs.Closings.{AreVisits, IsDead, IsIn, IsOut, IsRecovery, IsVisit, IsWhole, MayVisit, SameTable, is_dead};
+ghost use Rattle.shm_replay.specs.Closings.{AreVisits, HasTold, IsDead, IsIn, IsOut, IsRecovery, IsVisit, IsWhole, MayVisit, SameTable, is_dead};
 
 use crate::agents::{Agents, LIFE, Standing};
 use shm_calls::Calls;
@@ -32,6 +33,7 @@ fn recover(pool: &mut PlainPool, me: Me, life: &mut Life) -> Option<()>
     ensures whole { IfSome result (λ u. IsRecovery true me.who pool.old pool.new) }
     ensures out { IfSome result (λ u. IsOut (memo_of pool.new me.who)) }
     ensures table { IfSome result (λ u. SameTable (memo_of pool.old me.who) (memo_of pool.new me.who)) }
+    ensures told { IfSome result (λ u. HasTold (account_at pool.old.accounts me.who) (account_at pool.new.accounts me.who)) }
     ensures ran { Ran me.who true (is_some result) pool.old pool.new life.old.left life.new.left }
 {
     pool.geometry();
@@ -100,7 +102,8 @@ fn visit(pool: &mut PlainPool, me: Me, dead: bool) -> Option<()>
     ensures visit { IfSome result (λ u. IsVisit me.who pool.old pool.new) }
     ensures gone { IfSome result (λ u. (memo_of pool.new me.who).status ≡ Gone) }
     ensures table { IfSome result (λ u. SameTable (memo_of pool.old me.who) (memo_of pool.new me.who)) }
-    ensures others { (d : ℕ) → d ≢ me.who → memo_of pool.new d ≡ memo_of pool.old d }
+    ensures told { IfSome result (λ u. dead ≡ true → HasTold (account_at pool.old.accounts me.who) (account_at pool.new.accounts me.who)) }
+    ensures others { (d : ℕ) → d ≢ me.who → account_at pool.new.accounts d ≡ account_at pool.old.accounts d }
     ensures start { pool.new.start ≡ pool.old.start }
     ensures run { IsRun pool.new }
 {
@@ -133,6 +136,7 @@ pub(crate) fn visit_all(pool: &mut PlainPool, agents: &[Option<Agents>]) -> Opti
     ensures visits { IfSome result (λ u. AreVisits 0 pool.old.start.geometry.clients pool.old pool.new) }
     ensures gone { IfSome result (λ u. (c : ℕ) → c < pool.old.start.geometry.clients → (memo_of pool.new c).status ≡ Gone) }
     ensures table { IfSome result (λ u. (c : ℕ) → c < pool.old.start.geometry.clients → SameTable (memo_of pool.old c) (memo_of pool.new c)) }
+    ensures told { IfSome result (λ u. (c : ℕ) → c < pool.old.start.geometry.clients → is_dead (slice_index_or agents.now c None) ≡ true → HasTold (account_at pool.old.accounts c) (account_at pool.new.accounts c)) }
     ensures start { pool.new.start ≡ pool.old.start }
     ensures run { IsRun pool.new }
 {
