@@ -1,7 +1,7 @@
 -- an identity while another one makes turns, and the line of a dead agent when the next one begins
 use Rattle.std.proofs.Common.{◌≡◌, ◌≢◌, ℕ, ◌+◌, ◌<◌, Bool, true, false, cond, List, [], ◌∷◌, ◌++◌, length, append_assoc, refl, sym, ap, ◌∙◌, subst, inl, inr, arith}
-use Rattle.std.proofs.lemmas.Bool.{true≢false}
-use Rattle.std.proofs.lemmas.List.{get_or-set_other, get_or-set_same}
+use Rattle.std.specs.Prelude.{slice_set}
+use Rattle.std.proofs.lemmas.List.{get_or-set_other, get_or-set_same, length-set}
 use Rattle.shm_words.specs.declared.geometry.Geometry.{Geometry}
 use Rattle.shm_graph.specs.declared.memo.Kind.{Kind}
 use Rattle.shm_graph.specs.declared.memo.Step.{Step}
@@ -19,7 +19,7 @@ use Rattle.shm_plain.specs.Calls.{AreOf, Did, Ran, Took, state_of, words}
 use Rattle.shm_plain.specs.Pools.{IsRun, Pool, memo_of, readied}
 use Rattle.shm_plain.specs.Tracks.{kind_next}
 use Rattle.shm_replay.specs.Closings.{HasTold}
-use Rattle.shm_replay.proofs.Telling.{Grows, leads_grows, leads_on}
+use Rattle.shm_replay.proofs.Telling.{Grows, grows_then, leads_grows, leads_on, left_first}
 
 -- ---- turns of another identity
 
@@ -69,12 +69,29 @@ module _ {M A : Type 0} (k : Control M A) (c : ℕ) (p : Pool) (m : M) (q : Pool
     abbrev t : Step
     t = step_of k m n
 
+    abbrev entered : State
+    entered = moved (state_of p) begins
+
     abbrev b : State
-    b = moved (moved (state_of p) begins) (Word t)
+    b = moved entered (Word t)
+
+    account_is : account_at b.accounts c ≡ account_after (account_entered (kind_next (memo_of p c)) e) t
+    account_is =
+        let long : c < length entered.accounts = subst (λ (n : ℕ). c < n) (sym (length-set p.accounts c (account_entered (kind_next (memo_of p c)) e))) l in
+        ap (λ (d : ℕ). account_at (slice_set entered.accounts d (account_after (account_at entered.accounts d) t)) c) me
+        ∙ (get_or-set_same entered.accounts c (account_after (account_at entered.accounts c) t) _ long ∙ ap (λ (x : Account). account_after x t) begun)
 
     told : Grows (told_left true e) (account_at b.accounts c).told
-    told = {! !}
+    told =
+        subst (λ (x : Account). Grows (told_left true e) x.told) (sym account_is)
+        (subst (λ (f : Bool). Grows (told_left f (account_entered (kind_next (memo_of p c)) e)) (account_after (account_entered (kind_next (memo_of p c)) e) t).told) fresh (left_first (account_entered (kind_next (memo_of p c)) e) t))
 
   pub told_first : (tr : Trail) → 0 < length tr → q.turns ≡ (readied p c).turns ++ words (machine_steps k m tr) → HasTold e (account_at q.accounts c)
   told_first [] some grew = absurd (omega arith)
-  told_first (x ∷ tr) some grew = {! !}
+  told_first (x ∷ tr) some grew =
+      let rest = words (machine_steps k (k.after m x.word) tr) in
+      let all : q.turns ≡ p.turns ++ (begins ∷ Word (step_of k m x.word) ∷ rest) =
+      grew ∙ (ap (λ (ms : List Move). ms ++ (Word (step_of k m x.word) ∷ rest)) ready ∙ append_assoc p.turns (begins ∷ []) (Word (step_of k m x.word) ∷ rest)) in
+      let led = leads_between p q (begins ∷ Word (step_of k m x.word) ∷ rest) run now start all in
+      grows_then (told_left true e) (account_at (b x.word).accounts c).told (account_at q.accounts c).told (told x.word)
+      (leads_grows p.start.geometry (b x.word) rest (state_of q) led.2.2 c)

@@ -14,6 +14,7 @@ mod Ends
 mod Giving
 mod Seating
 mod Telling
+mod Aside
 mod Gathering
 mod WholeRun
 mod Starting

@@ -70,10 +70,13 @@ module _ (p : Pool) (c : ℕ) (run : IsRun p) (who : c < p.start.geometry.client
   abbrev pub r0 : Memo
   r0 = entered Recoverer m
 
+  pub still : acts m ≡ false
+  still = agent_still (last_agent m.agents) dead.fell
+
   begun : memo_of (readied p c) c ≡ r0
   begun =
       ready_memo p c (subst (λ (n : ℕ). c < n) (sym run.held.accounts) who)
-      ∙ (ap (λ (z : Bool). cond z m (entered (kind_next m) m)) (agent_still (last_agent m.agents) dead.fell) ∙ ap (λ (k : Kind). entered k m) kind)
+      ∙ (ap (λ (z : Bool). cond z m (entered (kind_next m) m)) still ∙ ap (λ (k : Kind). entered k m) kind)
 
   -- the recovery fits it
   pub revive_fits : fits_now (calls_control recover_parts recover_plan) (CallsFits recover_parts recover_plan) (calls_of recover_plan (recovering me)) r0 (memo_of (readied p c) c)

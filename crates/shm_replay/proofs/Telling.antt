@@ -42,8 +42,9 @@ left_grows : (fresh : Bool) (e : Account) → Grows e.told (told_left fresh e)
 left_grows true e = by_grows e.running e.memo.call false e.told
 left_grows false e = grows_none e.told e.told refl
 
-pub after_grows : (e : Account) (t : Step) → Grows e.told (account_after e t).told
-after_grows e t = go t.ends
+-- a word step tells what is left of a dead agent, where it is the first of a call
+pub left_first : (e : Account) (t : Step) → Grows (told_left t.fresh e) (account_after e t).told
+left_first e t = go t.ends
   where
     left : List LoggedLine
     left = told_left t.fresh e
@@ -51,9 +52,12 @@ after_grows e t = go t.ends
     now : List LoggedLine
     now = told_by t.line (call_after t.fresh e.memo.call t.ask t.seen) true left
 
-    go : (b : Bool) → Grows e.told (cond b now left)
-    go true = grows_then e.told left now (left_grows t.fresh e) (by_grows t.line (call_after t.fresh e.memo.call t.ask t.seen) true left)
-    go false = left_grows t.fresh e
+    go : (b : Bool) → Grows left (cond b now left)
+    go true = by_grows t.line (call_after t.fresh e.memo.call t.ask t.seen) true left
+    go false = grows_none left left refl
+
+after_grows : (e : Account) (t : Step) → Grows e.told (account_after e t).told
+after_grows e t = grows_then e.told (told_left t.fresh e) (account_after e t).told (left_grows t.fresh e) (left_first e t)
 
 word_grows : (es : List Account) (c : ℕ) (e : Account) (d : ℕ) → Grows (account_at es c).told e.told → Grows (account_at es d).told (account_at (slice_set es c e) d).told
 word_grows es c e d h =

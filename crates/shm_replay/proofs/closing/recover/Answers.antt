@@ -1,7 +1,8 @@
-use Rattle.std.proofs.Common.{◌≡◌, ℕ, ◌+◌, ◌^◌, ◌≤◌, true, refl, sym, ap, ◌∙◌, subst, arith, Result}
+use Rattle.std.proofs.Common.{◌≡◌, ℕ, ◌+◌, ◌^◌, ◌<◌, ◌≤◌, Bool, true, ◌++◌, length, refl, sym, ap, ◌∙◌, subst, arith, Result}
 use Rattle.std.specs.Prelude.{Some, Ok, IfSome}
 use Rattle.shm_graph.specs.declared.memo.Memo.{Memo}
 use Rattle.shm_graph.specs.Agents.{steps_made}
+use Rattle.shm_graph.specs.Asks.{call_before}
 use Rattle.shm_graph.specs.Whole.{fits_now}
 use Rattle.shm_calls.specs.CallsControl.{calls_control, calls_of}
 use Rattle.shm_calls.specs.CallsFit.{CallsFits, CallsGives}
@@ -11,7 +12,8 @@ use Rattle.shm_recover.specs.Recover.Control.{recover_parts, recovering}
 use Rattle.shm_recover.specs.Recover.{recover_plan}
 use Rattle.shm_plain.specs.Pools.{memo_of, readied}
 use Rattle.shm_replay.specs.Work.{RecoverCalls}
-use Rattle.shm_replay.proofs.Reviving.{may_begin, r0, revive_fits, revive_ok, revive_out, revive_table}
+use Rattle.shm_replay.proofs.Aside.{told_first}
+use Rattle.shm_replay.proofs.Reviving.{may_begin, r0, revive_fits, revive_ok, revive_out, revive_table, still}
 use Rattle.shm_replay.proofs.closing.recover.Goals.{After-new-2, In_ok-call, After-unwrap}
 use Rattle.shm_replay.proofs.closing.recover.Goals as goal
 
@@ -72,3 +74,22 @@ pub returns-clause-table : goal.returns-clause-table
 returns-clause-table c =
     let at = (goal.at.returns-clause-table c).After-unwrap in
     revive_table c.args.pool.now c.args.me.who c.geometry.ensures.run c.requires.who c.requires.dead _ _ _ c.unwrap.result (left at).leaves
+
+-- the recoverer made a word step, and its first one told the line of the dead agent
+pub returns-clause-told : goal.returns-clause-told
+returns-clause-told c =
+    let at = (goal.at.returns-clause-told c).After-unwrap in
+    let call = (goal.at.After-unwrap at).In_ok-call in
+    let new = (goal.at.In_ok-call call).After-new-2 in
+    let p = c.args.pool.now in
+    let who = c.args.me.who in
+    let ran = c.in_ok-call.ensures.ran in
+    let fresh : (calls_control recover_parts recover_plan).fresh c.new-2.result ≡ true = ap (λ (x : RecoverCalls). (calls_control recover_parts recover_plan).fresh x) (state new) in
+    let took = c.in_ok-call.ensures.took (ran.some refl) in
+    let many : length took.trail ≡ length (memo_of c.call.new.self who).call = sym (ap length (took.call ∙ ap (λ (b : Bool). call_before b (memo_of (readied p who) who).call ++ took.trail) fresh)) in
+    let spent = ran.spent refl fresh in
+    let less = ran.less refl in
+    told_first (calls_control recover_parts recover_plan) who p c.new-2.result c.call.new.self c.geometry.ensures.run ran.run ran.start
+    (subst (λ (n : ℕ). who < n) (sym c.geometry.ensures.run.held.accounts) c.requires.who)
+    (still p who c.geometry.ensures.run c.requires.who c.requires.dead)
+    (ap (λ (x : RecoverCalls). ((calls_control recover_parts recover_plan).me x).who) (state new)) fresh took.trail (omega arith) took.grew
