@@ -40,7 +40,7 @@ leads_aside g a (m ∷ ms) b c d run own n =
     leads_aside g (moved a m) ms b c d run.2 then n ∙ moved_aside a m c d now n
 
 -- the turns that led from the pool p to q
-leads_between : (p q : Pool) (ms : List Move) → IsRun p → IsRun q → q.start ≡ p.start → q.turns ≡ p.turns ++ ms → Leads p.start.geometry (state_of p) ms (state_of q)
+pub leads_between : (p q : Pool) (ms : List Move) → IsRun p → IsRun q → q.start ≡ p.start → q.turns ≡ p.turns ++ ms → Leads p.start.geometry (state_of p) ms (state_of q)
 leads_between p q ms before now start grew =
     leads_on p.start.geometry (first_state p.start) p.turns ms (state_of p) (state_of q) before.leads
     (subst (λ (ns : List Move). Leads p.start.geometry (first_state p.start) ns (state_of q)) grew (subst (λ (s : Start). Leads s.geometry (first_state s) q.turns (state_of q)) start now.leads))

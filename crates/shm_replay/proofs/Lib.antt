@@ -15,6 +15,8 @@ mod Giving
 mod Seating
 mod Telling
 mod Aside
+mod Firsts
+mod Later
 mod Gathering
 mod WholeRun
 mod Starting

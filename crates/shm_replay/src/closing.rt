@@ -92,6 +92,27 @@ fn leave(pool: &mut PlainPool, me: Me, life: &mut Life) -> Option<()>
     Some(())
 }
 
+/// The identity is recovered where its last agent died, so that a client may join; none where the recoverer had no word step left.
+fn revive(pool: &mut PlainPool, me: Me, dead: bool) -> Option<()>
+    requires geometry { me.geometry ≡ pool.old.start.geometry }
+    requires who { me.who < pool.old.start.geometry.clients }
+    requires may { MayVisit dead (memo_of pool.old me.who) }
+    requires era { pool.old.start.first_era ≡ 1 }
+    ensures recovery { IfSome result (λ u. IsRecovery dead me.who pool.old pool.new) }
+    ensures out { IfSome result (λ u. IsOut (memo_of pool.new me.who)) }
+    ensures table { IfSome result (λ u. SameTable (memo_of pool.old me.who) (memo_of pool.new me.who)) }
+    ensures told { IfSome result (λ u. dead ≡ true → HasTold (account_at pool.old.accounts me.who) (account_at pool.new.accounts me.who)) }
+    ensures others { (d : ℕ) → d ≢ me.who → account_at pool.new.accounts d ≡ account_at pool.old.accounts d }
+    ensures start { pool.new.start ≡ pool.old.start }
+    ensures run { IsRun pool.new }
+{
+    pool.geometry();
+    if !dead {
+        return Some(());
+    }
+    recover(pool, me, &mut Life::of(LIFE))
+}
+
 /// The identity is recovered where its last agent died; then it joins, takes all that waits for it, and leaves; nobody else makes a step
 /// meanwhile. None where an agent of it had no word step left.
 fn visit(pool: &mut PlainPool, me: Me, dead: bool) -> Option<()>
@@ -108,9 +129,7 @@ fn visit(pool: &mut PlainPool, me: Me, dead: bool) -> Option<()>
     ensures run { IsRun pool.new }
 {
     pool.geometry();
-    if dead {
-        recover(pool, me, &mut Life::of(LIFE))?;
-    }
+    revive(pool, me, dead)?;
     let mut life = Life::of(LIFE);
     join(pool, me, &mut life)?;
     drain(pool, me, &mut life)?;
