@@ -153,6 +153,7 @@ pub record RecoverStopped (me : Me) (r0 r : Memo) (tr : Trail) (es : List Event)
   pub vs : List Visit
   pub stays : All (λ (v : Visit). Contains r.dying v.block) vs
   pub spent : 2 ^ 47 - 3 < era
+  pub most : era ≤ own_word r.own (Era me.who me.who)
   pub bound : IsWithin (recovery_steps me.geometry.segments (frees es + length vs)) tr
 
 abbrev pub RecoverLeaves : RecoverState → Memo → Memo → Trail → List Event → Result (Unit {0}) EraSpent → Type 0
