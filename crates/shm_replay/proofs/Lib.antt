@@ -7,6 +7,8 @@ pub mod Playing
 pub mod Joining
 pub mod Turning
 pub mod Turns
+pub mod Dying
+pub mod Mending
 mod OwnEras
 mod Visiting
 mod Ends
