@@ -16,3 +16,4 @@ mod Telling
 mod Gathering
 mod WholeRun
 mod Starting
+mod Growing
