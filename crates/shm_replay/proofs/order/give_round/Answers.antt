@@ -7,7 +7,7 @@ use Rattle.shm_replay.specs.Turns.{given, in_a_row, is_busy, script_in}
 use Rattle.shm_replay.proofs.Gathering.{script_beyond}
 use Rattle.shm_replay.proofs.Giving.{from_given, idle_row}
 use Rattle.shm_replay.proofs.Seating.{no_script_busy}
-use Rattle.shm_replay.proofs.order.give_round.Goals.{else-branch, then-branch}
+use Rattle.shm_replay.proofs.order.give_round.Goals.{else-give_one, then-give_one}
 use Rattle.shm_replay.proofs.order.give_round.Goals as goal
 
 pub loop-who-preserved : goal.loop-who-preserved
@@ -20,7 +20,7 @@ loop-who-preserved c =
     let g = c.give_one.ensures in
     let turns : q ≡ given t p (from_on 0 (l.who + 1)) = from_given t p l.pool q l.who h.turns g.given in
     elim c.if-give_one.branch [
-      | then-branch w ↦
+      | then-give_one w ↦
           let fell = g.some w.if-give_one.true in
           let less = h.less in
           record {
@@ -32,7 +32,7 @@ loop-who-preserved c =
             idle = λ e k few. absurd (true≢false (sym w.some-is ∙ e));
             start = g.start ∙ h.start;
           }
-      | else-branch w ↦
+      | else-give_one w ↦
           let same = g.none w.if-give_one.false in
           let idle : is_busy t l.pool l.who ≡ false = sym g.busy ∙ w.if-give_one.false in
           let less = h.less in

@@ -1,4 +1,4 @@
-use Rattle.std.proofs.Common.{◌≡◌, ◌≢◌, ℕ, ◌+◌, ◌<◌, ◌≤◌, false, true, length, refl, sym, ap, ◌∙◌, subst, arith, inl, inr}
+use Rattle.std.proofs.Common.{◌≡◌, ◌≢◌, ℕ, ◌+◌, ◌<◌, ◌≤◌, false, true, length, refl, sym, ap, ◌∙◌, subst, arith, inl, inr, rules}
 use Rattle.std.specs.Prelude.{◌⊎◌}
 use Rattle.shm_graph.specs.declared.ask.Me.{Me}
 use Rattle.shm_replay.specs.Agents.{is_client}
@@ -33,7 +33,7 @@ loop-turn-preserved c =
     let t = c.args.trace.now in
     let e : l.agents.me.who ≡ c.args.agents.now.me.who = ap (λ (m : Me). m.who) h.me in
     let g = c.give_turn.ensures in
-    let here : is_client l.agents ≡ true = sym c.is_client.ensures ∙ c.if-is_client.true in
+    let here : is_client l.agents ≡ true = sym c.is_client.ensures ∙ (let yes : c.is_client.result ≡ true = search rules in yes) in
     let same : length l.agents.entries ≡ c.answered-answered.result = sym c.answered-now.ensures ∙ c.if-now-answered.false in
     record {
       me = g.me ∙ h.me;
@@ -51,14 +51,14 @@ returns-then-not-is_client-clause-given c =
     let l = c.loop-turn in
     let h = l.invariant in
     let few : l._turn ≤ 100000 = omega arith in
-    (l._turn, until_left c.args.trace.now c.args.pool.now c.args.agents.now.me.who l._turn l.pool l.agents few h.going h.given h.seat (sym c.is_client.ensures ∙ c.if-is_client.false), h.given)
+    (l._turn, until_left c.args.trace.now c.args.pool.now c.args.agents.now.me.who l._turn l.pool l.agents few h.going h.given h.seat (sym c.is_client.ensures ∙ (let no : c.is_client.result ≡ false = search rules in no)), h.given)
 
 pub returns-then-now-answered-clause-given : goal.returns-then-now-answered-clause-given
 returns-then-now-answered-clause-given c =
     let l = c.loop-turn in
     let h = l.invariant in
     let few : l._turn ≤ 100000 = omega arith in
-    let here : is_client l.agents ≡ true = sym c.is_client.ensures ∙ c.if-is_client.true in
+    let here : is_client l.agents ≡ true = sym c.is_client.ensures ∙ (let yes : c.is_client.result ≡ true = search rules in yes) in
     let more : length l.agents.entries ≡ answered c.args.trace.now c.args.pool.now c.args.agents.now.me.who + 1 = elim (h.near here) [ inl f ↦ absurd (c.if-now-answered.true (c.answered-now.ensures ∙ f)) | inr f ↦ f ∙ ap (λ (n : ℕ). n + 1) (h.before here) ] in
     (l._turn, until_more c.args.trace.now c.args.pool.now c.args.agents.now.me.who l._turn l.pool l.agents few h.going h.given h.seat here more, h.given)
 
