@@ -23,11 +23,14 @@ use Rattle.shm_script.specs.declared.line.Line.{Line}
 use Rattle.shm_script.specs.Logged.{Logged}
 use Rattle.shm_script.specs.Values.{Scripted}
 use Rattle.shm_replay.specs.Closings.{AreVisits, IsRecovery, IsVisit, IsWhole}
-use Rattle.shm_replay.specs.Logs.{AreEntries, BeganWith, Between, HasEnd, InCommand, InLeaving, IsLogOf, Was, begun_first}
+use Rattle.shm_replay.specs.Logs.{AreEntries, BeganWith, HasEnd, IsLogOf, Was, begun_first}
+use Rattle.shm_replay.specs.Logs.Was.{Between, InCommand, InLeaving}
 use Rattle.shm_replay.specs.Turns.{lives_of}
 use Rattle.shm_replay.proofs.Aside.{leads_between}
 use Rattle.shm_replay.proofs.Firsts.{AreEven, First, first_leads}
+use Rattle.shm_replay.proofs.Growing.{get_more}
 use Rattle.shm_replay.proofs.Telling.{Grows, grows_then, ready_grew}
+use Rattle.shm_replay.proofs.Trails.{entries_rest}
 
 -- ---- turns of a closing
 
@@ -68,17 +71,6 @@ visits_led c (suc n) p q run h =
 
 -- ---- logs
 
--- more behind what was told leaves what the entries are
-entries_more : (me : Me) (told more : List LoggedLine) (es : List Entry) → AreEntries me told es → AreEntries me (told ++ more) es
-entries_more me told more [] h = tt
-entries_more me [] more (e ∷ es) h = absurd h
-entries_more me (x ∷ told) more (e ∷ es) h = (h.0, entries_more me told more es h.1)
-
-get_more : {A : Type 0} (xs ys : List A) (k : ℕ) (x : A) → slice_get xs k ≡ Some x → slice_get (xs ++ ys) k ≡ Some x
-get_more [] ys k x e = absurd (cc)
-get_more (y ∷ xs) ys zero x e = e
-get_more (y ∷ xs) ys (suc k) x e = get_more xs ys k x e
-
 was_later : (me : Me) (lines : List Line) (n k : ℕ) (behind more : List LoggedLine) (finished entries : List Entry) (done : Bool) → k ≡ n → Was me lines n behind finished entries done → Was me lines k (behind ++ more) finished entries done
 was_later me lines n k behind more finished entries done e (Between count same undone) = Between (e ∙ count) same undone
 was_later me lines n k behind more finished entries done e (InCommand line x count next at text cut same shown) = InCommand line x (e ∙ count) next (get_more behind more (length finished) x at) text cut same shown
@@ -118,7 +110,7 @@ module _ (e f : Account) (even : AreEven e) (stays : FirstStays e f) where
         behind = h.behind ++ more;
         is = grew ∙ ap (λ (xs : List LoggedLine). xs ++ more) h.is;
         finished = h.finished;
-        entries = entries_more me h.behind more h.finished h.entries;
+        entries = entries_rest me h.behind more h.finished h.entries;
         end = end_later me s h.behind more h.finished l.entries l.end h.end;
       }
 

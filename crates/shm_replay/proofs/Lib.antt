@@ -23,6 +23,8 @@ mod Aside
 mod Firsts
 mod Later
 mod Gathering
+mod Visited
+mod Ending
 mod WholeRun
 mod Starting
 mod Answering
