@@ -3,29 +3,31 @@ use Rattle.std.proofs.Common.{◌≡◌, ◌≢◌, ℕ, zero, suc, ◌+◌, ◌
 use Rattle.std.specs.Prelude.{◌⊎◌, Option, Some, None, slice_get, sum}
 use Rattle.std.proofs.lemmas.Bool.{true≢false}
 use Rattle.std.proofs.lemmas.List.{length-map, take_all}
-use Rattle.std.proofs.lemmas.List.Sums.{sum_by-cons, sum_by-take-le}
+use Rattle.std.proofs.lemmas.List.Sums.{sum_by-append, sum_by-cons, sum_by-take-le}
 use Rattle.shm_graph.specs.declared.memo.Agent.{Agent}
 use Rattle.shm_graph.specs.declared.memo.Fate.TheVariants as fate
 use Rattle.shm_graph.specs.declared.memo.Kind.TheVariants.{Recoverer}
 use Rattle.shm_graph.specs.declared.run.Account.{Account}
 use Rattle.shm_graph.specs.declared.run.Start.{Start}
-use Rattle.shm_graph.specs.Agents.{acts_by, last_agent, steps_of}
+use Rattle.shm_graph.specs.Agents.{acts_by, last_agent, steps_made, steps_of}
 use Rattle.shm_graph.specs.Held.{is_loose}
-use Rattle.shm_graph.specs.Runs.{fell_by, told_left}
+use Rattle.shm_graph.specs.Runs.{account_at, fell_by, first_account, told_left}
 use Rattle.shm_graph.proofs.Memos.MemoSteps.{last-append}
+use Rattle.shm_plain.specs.Pools.{Pool, memo_of}
 use Rattle.shm_script.specs.declared.log.End.{End}
 use Rattle.shm_script.specs.declared.log.End.TheVariants as end
 use Rattle.shm_script.specs.declared.log.Entry.{Entry}
 use Rattle.shm_script.specs.declared.line.Line.{Line}
 use Rattle.shm_script.specs.Ranges.{ScriptFits}
-use Rattle.shm_script.specs.Values.{Scripted}
+use Rattle.shm_script.specs.Values.{Scripted, Traced}
 use Rattle.shm_replay.specs.declared.agents.Standing.{Standing}
 use Rattle.shm_replay.specs.declared.agents.Standing.TheVariants.{AtWork, Gone, Dead}
-use Rattle.shm_replay.specs.Agents.{Fallen, Fresh, HasParted, IsFallen, IsFold, IsMended, Mended, Mending, Parted, Playing, Plays, Stage, Stands, end_or, logged}
-use Rattle.shm_replay.specs.Closings.{MayVisit, is_standing_dead}
+use Rattle.shm_replay.specs.Agents.{Fallen, Fresh, HasParted, IsFallen, IsFold, IsMended, Mended, Mending, Parted, Playing, Plays, Stage, Stands, end_or, is_at_work, logged}
+use Rattle.shm_replay.specs.Closings.{MayVisit, is_dead, is_standing_dead}
 use Rattle.shm_replay.specs.Logs.{HasEnd, IsLogOf}
-use Rattle.shm_replay.specs.Turns.{lives_of}
-use Rattle.shm_replay.proofs.Mending.{few_lives}
+use Rattle.shm_replay.specs.Seats.{IsSeat, Seat}
+use Rattle.shm_replay.specs.Turns.{is_busy, lives_of}
+use Rattle.shm_replay.proofs.Seating.{seat_busy}
 
 -- the client left, or a recoverer recovered the identity, or all of them died
 abbrev pub IsOver : Scripted → Playing → Account → Type 0
@@ -45,6 +47,16 @@ is_over start s x e (Fallen f) rest = elim f.next [ | inl d ↦ inr (inr (d.0, f
 one_of : (ns : List ℕ) (n : ℕ) → slice_get ns 0 ≡ Some n → n ≤ sum ns
 one_of [] n e = absurd (cc)
 one_of (k ∷ ns) n e = let same : k ≡ n = cc in let all : sum (k ∷ ns) ≡ k + sum ns = sum_by-cons (λ (i : ℕ). i) k ns in omega arith
+
+-- the lives of all agents of a script are 2^41 at most
+lives_few : (life : List ℕ) → sum life ≤ 2 ^ 40 → sum (lives_of life) ≤ 2 ^ 41
+lives_few [] few = omega arith
+lives_few (n ∷ life) few =
+    let a : sum (n ∷ life) ≡ n + sum life = sum_by-cons (λ (k : ℕ). k) n life in
+    let b : sum (n ∷ life ++ 2 ^ 40 ∷ []) ≡ n + sum (life ++ 2 ^ 40 ∷ []) = sum_by-cons (λ (k : ℕ). k) n (life ++ 2 ^ 40 ∷ []) in
+    let c : sum (life ++ 2 ^ 40 ∷ []) ≡ sum life + sum (2 ^ 40 ∷ []) = sum_by-append (λ (k : ℕ). k) life (2 ^ 40 ∷ []) in
+    let d : sum (2 ^ 40 ∷ []) ≡ 2 ^ 40 = refl in
+    omega arith
 
 module _ (s : Scripted) (x : Playing) (e : Account) (lives : sum (lives_of s.life) ≤ 2 ^ 41) where
   may_parted : HasParted s x e → MayVisit (is_standing_dead x.standing) e.memo
@@ -80,7 +92,7 @@ module _ (s : Scripted) (x : Playing) (e : Account) (lives : sum (lives_of s.lif
   may_over (inr (inr (dead, f))) = may_dead dead f
 
 pub over_may : (n : ℕ) (s : Scripted) (x : Playing) (e : Account) → ScriptFits n s → IsOver s x e → MayVisit (is_standing_dead x.standing) e.memo
-over_may n s x e fits h = may_over s x e (few_lives s.life fits.sum) h
+over_may n s x e fits h = may_over s x e (lives_few s.life fits.sum) h
 
 -- ---- the log, and the map
 
@@ -96,7 +108,7 @@ module _ (s : Scripted) (x : Playing) (e : Account) (client : s.client ≡ x.me.
         is = p.told.is;
         finished = x.entries;
         entries = p.told.entries;
-        end = subst (λ (o : Option End). HasEnd x.me s e.memo.agents e.begun p.told.behind x.entries x.entries (end_or o)) (sym p.end) (refl, long, p.steps, [], p.agents);
+        end = subst (λ (o : Option End). HasEnd x.me s e.memo.agents e.begun p.told.behind x.entries x.entries (end_or o)) (sym p.end) (refl, long, (p.steps, ([], p.agents)));
       }
 
   pub over_log : IsOver s x e → IsLogOf x.me s e.memo.agents e.begun (told_left (is_standing_dead x.standing) e) (logged x)
@@ -125,4 +137,4 @@ pub seat_may : (t : Traced) (p : Pool) (c : ℕ) (o : Option Playing) → Seat t
 seat_may t p c None h done =
     subst (λ (a : Account). MayVisit false a.memo) (sym h.1) (record { status = inl refl; none = refl; whole = refl; few = (let z : steps_made (first_account p.start c).memo ≡ 0 = refl in omega arith) })
 seat_may t p c (Some x) h done =
-    over_may p.start.geometry.clients h.script x (account_at p.accounts c) (subst (λ (g : Geometry). ScriptFits g.clients h.script) h.stands.may.SCRIPT
+    over_may p.start.geometry.clients h.script x (account_at p.accounts c) h.stands.may.script (is_over p.start h.script x (account_at p.accounts c) h.stands.stage (seat_rest t p c x h done))

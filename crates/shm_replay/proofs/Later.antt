@@ -51,7 +51,7 @@ whole_led k c p m q run h =
     (x.0, leads_between p q x.0 run h.run h.start x.1)
 
 recovery_led : (b : Bool) (c : ℕ) (p q : Pool) → IsRun p → IsRecovery b c p q → IsRun q × (q.start ≡ p.start) × Led p q
-recovery_led false c p q run h = (subst IsRun (sym h) run, ap (λ (x : Pool). x.start) h, [], ap state_of (sym h))
+recovery_led false c p q run h = (subst IsRun (sym h) run, ap (λ (x : Pool). x.start) h, ([], ap state_of (sym h)))
 recovery_led true c p q run h = (h.run, h.start, whole_led _ c p _ q run h)
 
 visit_led : (c : ℕ) (p q : Pool) → IsRun p → IsVisit c p q → (q.start ≡ p.start) × Led p q
@@ -96,7 +96,7 @@ module _ (e f : Account) (even : AreEven e) (stays : FirstStays e f) where
       ((later.others, later.agents), ap begun_first later.begun ∙ sym (ap begun_first first.begun))
 
   end_later : (me : Me) (s : Scripted) (behind more : List LoggedLine) (finished entries : List Entry) (end : End) → HasEnd me s e.memo.agents e.begun behind finished entries end → HasEnd me s f.memo.agents f.begun (behind ++ more) finished entries end
-  end_later me s behind more finished entries Ended (same, all, n, began) = (same, all, n, (began_later n fate.Ended refl began).0)
+  end_later me s behind more finished entries Ended (same, all, (n, began)) = (same, all, (n, (began_later n fate.Ended refl began).0))
   end_later me s behind more finished entries (Died n done) (many, began, was) =
       let (later, same) = began_later (slice_index (lives_of s.life) 0) fate.Died refl began in
       (many, later, was_later me s.lines (begun_first e.begun) (begun_first f.begun) behind more finished entries done same was)
