@@ -18,7 +18,7 @@ use Rattle.shm_graph.proofs.Spots.Seeing.{seen_is_at}
 use Rattle.shm_audit.specs.Faults.{is_bad_header, is_bad_tag}
 use Rattle.shm_audit.specs.Verdicts.{is_wrong}
 use Rattle.shm_audit.specs.Used.{all_below, is_used, used_in}
-use Rattle.shm_audit.proofs.WordReading.{block_header}
+use Rattle.shm_graph.proofs.Spots.WordsAt.{block_header}
 use Rattle.shm_audit.proofs.Tested.{test_at, NoneBefore, header_test}
 use Rattle.shm_audit.proofs.Using.{lists, append_nothing}
 

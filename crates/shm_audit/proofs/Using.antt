@@ -10,7 +10,7 @@ use Rattle.shm_graph.specs.Spots.{spot_at, spot_address, classes_in, class_at}
 use Rattle.shm_graph.proofs.Spots.Spotting.{spot_in_bodies, block_within}
 use Rattle.shm_graph.proofs.Spots.Seeing.{see_at, see_absent}
 use Rattle.shm_audit.specs.Used.{all_below, is_used}
-use Rattle.shm_audit.proofs.WordReading.{page_class}
+use Rattle.shm_graph.proofs.Spots.WordsAt.{page_class}
 
 -- ---- lists of numbers that pass a test
 

@@ -4,3 +4,4 @@ pub mod RootLeaves
 pub mod CallEvents
 pub mod TearWalks
 pub mod UpRootPart
+pub mod Steady

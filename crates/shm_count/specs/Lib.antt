@@ -18,3 +18,4 @@ pub mod Calling
 pub mod Refusing
 pub mod UpRoot
 pub mod CommitTest
+pub mod Steady

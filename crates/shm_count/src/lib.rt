@@ -10,6 +10,7 @@ pub mod events;
 pub mod lasting;
 pub mod parts;
 pub mod point;
+pub mod stays;
 pub mod step;
 pub mod tear;
 pub mod tear_point;
@@ -29,5 +30,6 @@ pub use lasting::{
     root_down_retains, step_in_call, step_lasts, step_refusals, tear_in_call, tear_lasts,
     tear_retains, up_of_made,
 };
+pub use stays::{step_partitions, tear_partitions, tests_are_steady};
 pub use step::{StepChange, StepDown, StepUp};
 pub use tear::TearDown;

@@ -2,6 +2,7 @@
 pub mod Spotting
 pub mod Fixed
 pub mod Seeing
+pub mod WordsAt
 pub mod Sums
 pub mod SpotPlaces
 pub mod PageSpots

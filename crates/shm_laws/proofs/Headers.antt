@@ -40,6 +40,14 @@ module _ (g : Geometry) (w : Spot → ℕ) (v : View) (h : HeldAt g w v) (b to :
   pub dying_stays : (d i : ℕ) → IsDying (headers w i) d → IsDying (headers (upd w (Head b) to) i) d
   dying_stays d i = at1_all (λ (j x : ℕ). IsDying (header_of (word j)) d → IsDying (header_of x) d) word b to i (λ q. absurd (counted q.1)) (λ _ q. q)
 
+  -- where the new count isn't 0 they are all
+  pub dying_raised : (header_of to).count ≢ 0 → (d : ℕ) → d < g.clients → DyingTie (headers (upd w (Head b) to)) d (v.dying d)
+  dying_raised some d l =
+      record {
+        listed = λ i x. dying_stays d i ((h.dying d l).listed i x);
+        all = λ i x. at1_all (λ (j y : ℕ). IsDying (header_of y) d → Contains (v.dying d) j) word b to i (λ q. absurd (some q.1)) (λ n. (h.dying d l).all i) x;
+      }
+
   pub blocks_stay : BlockSound g (classes w) (λ i. upd w (Head b) to (Head i)) (λ i. w (Tag i))
   blocks_stay =
       record {

@@ -11,6 +11,7 @@ pub mod Slots
 pub mod RedoAndRows
 pub mod PageClass
 pub mod Loads
+pub mod QueueCounters
 pub mod QueueTails
 pub mod QueueHeads
 pub mod Latches
@@ -18,6 +19,7 @@ pub mod Writing
 pub mod RootStore
 pub mod BodyStore
 pub mod CloseOp
+pub mod Exchanged
 pub mod AllocBlock
 pub mod UpBlock
 pub mod FreeBlock

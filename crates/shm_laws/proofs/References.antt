@@ -2,7 +2,7 @@
 use Rattle.std.proofs.Common.{◌≡◌, ◌≢◌, ℕ, ◌<◌, ◌≤◌, refl, sym, ap, ◌∙◌, arith, Bool, true, false, eqb, inl, inr, ◌⊎◌, subst}
 use Rattle.std.specs.List.{All, filter}
 use Rattle.std.proofs.lemmas.List.Elements.{All-weaker}
-use Rattle.std.proofs.lemmas.Bool.{cases_eq, eq-eqb, ne_eqb, false_from_ne_true}
+use Rattle.std.proofs.lemmas.Bool.{cases_eq, eq-eqb, true≢false, ne_eqb, false_from_ne_true}
 use Rattle.shm_words.specs.declared.geometry.Geometry.{Geometry}
 use Rattle.shm_words.specs.declared.header.Header.{Header}
 use Rattle.shm_words.specs.Headers.{header_of}
@@ -10,6 +10,7 @@ use Rattle.shm_words.specs.Tags.{tag_refs, tag_author}
 use Rattle.shm_graph.specs.declared.spot.Spot.{Spot}
 use Rattle.shm_graph.specs.declared.spot.Spot.TheVariants.{Spare, Home, Root, Tail, QueueHead, Slot, Page, Head, Tag, Body}
 use Rattle.shm_graph.specs.Spots.{same_spot, upd, IsAt}
+use Rattle.shm_graph.specs.Stores.{not_block}
 use Rattle.shm_graph.specs.References.{one_if, words_of}
 use Rattle.shm_graph.specs.Tables.{Contents, contents_of, HasShape}
 use Rattle.shm_graph.specs.Ops.{cover_of}
@@ -59,6 +60,13 @@ module _ (g : Geometry) (w : Spot → ℕ) (v : View) (h : HeldAt g w v) where
       let k = h.count.counts b l in
       omega arith
 
+  -- so a block with one reference, which is a root, is none that another word names
+  pub one_name : (b : ℕ) (p : Spot) → targets g w v p ≡ b → (header_of (w (Head b))).live ≡ true → (d k y : ℕ) → same_spot p (Root d k) ≡ false → (header_of (w (Head y))).count ≡ 1 → targets g w v (Root d k) ≡ y → b ≢ y
+  one_name b p e live d k y apart one f z =
+      let u = two_names b p (Root d k) e (f ∙ sym z) apart live in
+      let r : (header_of (w (Head b))).count ≡ 1 = ap (λ i. (header_of (w (Head i))).count) z ∙ one in
+      absurd (omega arith)
+
   -- so has a block that a word names and a change holds over
   pub name_and_held_over : (b : ℕ) (q : Spot) (c : ℕ) → c < g.clients → targets g w v q ≡ b → held_overs v c ≡ b → (header_of (w (Head b))).live ≡ true → 2 ≤ (header_of (w (Head b))).count
   name_and_held_over b q c lc f e l =
@@ -70,6 +78,9 @@ module _ (g : Geometry) (w : Spot → ℕ) (v : View) (h : HeldAt g w v) where
       let is : one_if (eqb (at1 (held_overs v) c 0 c) b) ≡ 0 = ap one_if (ap (λ z. eqb z b) (at1_here (held_overs v) c 0) ∙ ne_eqb 0 b (λ z. some (sym z))) in
       let k = h.count.counts b l in
       omega arith
+
+pub differs : (b x : ℕ) → not_block b x ≡ true → b ≢ x
+differs b x f z = let u : eqb b x ≡ true = eq-eqb b x z in let y : false ≡ true = rw u at f in true≢false (sym y)
 
 -- c may use this slot
 abbrev pub SlotAt : Geometry → (Spot → ℕ) → View → ℕ → Spot → Type 0

@@ -1,7 +1,7 @@
 -- the exchange that raises a live block keeps the invariant, for any slot, and is one event
 use Rattle.std.proofs.Math.Path.{fun_ext}
-use Rattle.std.proofs.Common.{◌≡◌, ◌≢◌, ℕ, ◌+◌, ◌%◌, ◌^◌, ◌<◌, ◌≤◌, refl, sym, ap, ◌∙◌, arith, true, false, Bool, cond, eqb, eq-eqb, subst, inl, inr, ◌⊎◌, ◌&&◌, List, []}
-use Rattle.std.specs.List.{All, Contains, filter}
+use Rattle.std.proofs.Common.{◌≡◌, ◌≢◌, ℕ, ◌+◌, ◌%◌, ◌<◌, ◌≤◌, refl, sym, ap, ◌∙◌, arith, true, false, Bool, cond, eqb, eq-eqb, subst, inl, inr, ◌⊎◌, ◌&&◌, []}
+use Rattle.std.specs.List.{filter}
 use Rattle.std.proofs.lemmas.List.Elements.{All-weaker}
 use Rattle.std.proofs.lemmas.Bool.{cases_Bool, cases_eq, true≢false, ne_eqb, eqb-true, and_parts, false_from_ne_true}
 use Rattle.shm_words.specs.declared.geometry.Geometry.{Geometry}
@@ -10,7 +10,7 @@ use Rattle.shm_words.specs.declared.redo.Redo.TheVariants as redos
 use Rattle.shm_words.specs.Headers.{header_of}
 use Rattle.shm_words.specs.Tags.{tag_author}
 use Rattle.shm_graph.specs.declared.spot.Spot.{Spot}
-use Rattle.shm_graph.specs.declared.spot.Spot.TheVariants.{Redo, Home, Era, Root, Tail, QueueHead, Slot, Segment, Page, Head, Tag, Body}
+use Rattle.shm_graph.specs.declared.spot.Spot.TheVariants.{Redo, Home, Era, Root, Tail, QueueHead, Slot, Head, Tag, Body}
 use Rattle.shm_graph.specs.declared.table.Part.{Part}
 use Rattle.shm_graph.specs.declared.memo.First.TheVariants.{Begun, Committed}
 use Rattle.shm_graph.specs.declared.memo.Op.{Op}
@@ -19,23 +19,21 @@ use Rattle.shm_graph.specs.declared.memo.Stored.{Stored}
 use Rattle.shm_graph.specs.Spots.{upd, same_spot, IsAt, spot_address}
 use Rattle.shm_graph.specs.References.{one_if, words_of}
 use Rattle.shm_graph.specs.Ops.{word_at, cover, cover_of, slot_of, indegree, held_over_of, on_of, is_op}
-use Rattle.shm_graph.specs.Views.{View, targets, ons, held_overs}
+use Rattle.shm_graph.specs.Views.{View, at1, targets, held_overs}
 use Rattle.shm_graph.specs.Blocks.{classes, headers}
 use Rattle.shm_graph.specs.Events.{graph_of, Happens, Up as UpEvent}
 use Rattle.shm_graph.specs.Tables.{contents_of, HasShape}
-use Rattle.shm_graph.specs.Held.{HeldAt, CountSound, SlotOf, reach_of, named_by, TestAt, KnownAt, LooksSound, is_slot, is_slot_to, LaneSound, IsDying, OwnSound, OpTie, OpSound, Allowed, TailSound, room_of, IsUnusedLane, PartTie, ValueAt, MadeAt, is_loose}
-use Rattle.shm_graph.proofs.Spots.Spotting.{same_spot_is, block_is_at}
+use Rattle.shm_graph.specs.Held.{HeldAt, CountSound, reach_of, named_by, LooksSound, is_slot, is_slot_to, LaneSound, OpTie, OpSound, Allowed, TailSound, room_of, is_loose}
+use Rattle.shm_graph.proofs.Spots.Spotting.{same_spot_is}
 use Rattle.shm_graph.proofs.States.Holders.{Holds}
 use Rattle.shm_graph.proofs.Runs.Lists.{at1_here}
 use Rattle.shm_graph.proofs.Memos.Frames.{at1_all}
-use Rattle.shm_laws.proofs.Owns.{mine_other, small_stored, there_stored}
 use Rattle.shm_laws.proofs.Lanes.{lane_up, lane_same, other_lane, this_lane, no_self, lane_clients, lane_to}
-use Rattle.shm_laws.proofs.Keep.{live_block}
-use Rattle.shm_laws.proofs.Exchange.{era_exchange, facts_committed, count_exchange, named_kept, slot_kept, looks_kept, known_kept}
-use Rattle.shm_laws.proofs.Headers.{lives as headers_live, dying_stays, blocks_stay, making_stays, zero_stays, refs_stay, graph_stays}
+use Rattle.shm_laws.proofs.Exchanged.{Changes, exchanged_kept, moved, unmoved}
+use Rattle.shm_laws.proofs.Exchange.{count_exchange, named_kept, slot_kept, looks_kept, known_kept}
+use Rattle.shm_laws.proofs.Headers.{dying_raised, lives, refs_stay, graph_stays}
 use Rattle.shm_laws.proofs.Slots.{slot_not_spare, slot_names, slot_committed}
-use Rattle.shm_laws.proofs.Parts.{PartKept, part_kept}
-use Rattle.shm_laws.proofs.References.{live_some, named_count, two_names, slot_no_root, part_other, values_kept, made_kept, made_own, queued_kept}
+use Rattle.shm_laws.proofs.References.{one_name, differs, live_some, named_count, slot_no_root, part_other, values_kept, made_kept, made_own}
 use Rattle.shm_laws.specs.Exchanges.{UpNeeds, up_view, unsent_after}
 use Rattle.shm_graph.specs.Stores.{not_block}
 
@@ -67,110 +65,68 @@ module _ (g : Geometry) (w : Spot → ℕ) (v : View) (c b e to : ℕ) (p : Spot
   held_over = fun_ext (λ d. at1_all (λ (i : ℕ) (x : Op). held_over_of x ≡ held_over_of (v.op i)) v.op c (Up Committed p b e) d (sym (ap held_over_of a.op)) (λ _. refl))
 
   pub up_kept : HeldAt g (upd w (Head b) to) (up_view v c b e p part)
-  up_kept =
-      record {
-        fits = h.fits;
-        small = small_stored w (Head b) to (2 ^ 64) a.small h.small;
-        there = there_stored (IsAt g class) w (Head b) to (block_is_at g class b (live_block g w h.there b live)) h.there;
-        spare = h.spare;
-        unused = h.unused;
-        sizes = h.sizes;
-        mine = mine_other w v.own g.clients (Head b) to (λ d. refl) h.mine;
-        state = h.state;
-        latch = h.latch;
-        segments = h.segments;
-        dying = λ d l. record {
-          listed = λ i x. dying_kept d i ((h.dying d l).listed i x);
-          all = λ i x. at1_all (λ (j y : ℕ). IsDying (header_of y) d → Contains (v.dying d) j) word b to i (λ q. let z = new_count in let u = q.1 in absurd (omega arith)) (λ n. (h.dying d l).all i) x;
-        };
-        making = λ d l. making_stays g w v h b to live counted new_live d (v.making d) (h.making d l);
-        blocks = blocks_stay g w v h b to live counted new_live;
-        era = era_exchange g.clients word eras v.op c b to o a.inside (ap on_of a.op) refl (ap (λ (x : Header). x.client) a.new) (ap (λ (x : Header). x.era) a.new ∙ op_sound.current) (h.own c a.inside).some over h.era;
-        own = λ d. at1_all (λ (i : ℕ) (x : Op). i < g.clients → OwnSound (w (Era i i)) x) v.op c o d (λ l. let q = h.own c l in record { some = q.some; room = subst (λ x. w (Era c c) + room_of x ≤ 2 ^ 47) a.op q.room }) (λ n. h.own d);
-        op = λ d. at1_all (λ (i : ℕ) (x : Op). i < g.clients → OpTie g class (w (Redo i)) (w (Era i i)) (words_of w') x) v.op c o d
-            (λ l. record { spelled = op_sound.spelled; current = op_sound.current; at = op_sound.at; word = op_sound.word })
-            (λ n. h.op d);
-        redo = h.redo;
-        allowed = λ d. at1_all (λ (i : ℕ) (x : Op). i < g.clients → Allowed i x) v.op c o d (λ l. not_to) (λ n. h.allowed d);
-        count = subst (λ (t : Spot → ℕ). CountSound g class (λ i. header_of (word' i)) t (held_overs v')) (sym path)
-            (subst (λ (l : ℕ → ℕ). CountSound g class (λ i. header_of (word' i)) t' l) (sym held_over)
-            (count_exchange g class word t (held_overs v) p b to b op_sound.at (slot_not_spare g w v h c p a.inside mine_at) live_not_zero new_live balance others (λ _. refl) h.count));
-        slots = subst (λ (t : Spot → ℕ). (d : ℕ) → d < g.clients → is_op (v'.op d) ≡ true → SlotOf d (λ i. header_of (word' i)) tags (v.latch d) tail queue_head (reach_of t tail queue_head v.looks d) (slot_of (v'.op d))) (sym path)
-            (λ d. at1_all (λ (i : ℕ) (x : Op). i < g.clients → is_op x ≡ true → SlotOf i (λ j. header_of (word' j)) tags (v.latch i) tail queue_head (reach_of t' tail queue_head v.looks i) (slot_of x)) v.op c o d
-            (λ l _. slots c p mine_at)
-            (λ n l is. slots d (slot_of (v.op d)) (h.slots d l is)));
-        looks = subst (λ (t : Spot → ℕ). (d : ℕ) → d < g.clients → LooksSound (λ a. t (Home a)) (λ b i. t (Body b i)) (λ b. tag_author (w (Tag b))) (v.latch d) (named_by t tail queue_head d) [] (v.looks d)) (sym path)
-            (λ d l. looks_kept (λ a. t (Home a)) (λ a. t' (Home a)) (λ b i. t (Body b i)) (λ b i. t' (Body b i)) (λ b. tag_author (w (Tag b))) (v.latch d) (named_by t tail queue_head d) (named_by t' tail queue_head d) (λ i x n q. kept (Home i) x n q) (λ i j x n q. kept (Body i j) x n q) (named d) [] (v.looks d) (h.looks d l));
-        lanes = subst (λ (t : Spot → ℕ). (i j : ℕ) → i < g.clients → j < g.clients → i ≢ j → LaneSound (λ k. t (Slot i j k)) (tail i j) (queue_head i j) (v.sent i j) (unsent_after p b v.unsent i j) (v.received j i) (v.untaken j i)) (sym path) (λ i j li lj n. lane p mine_at not_to held_at i j n (h.lanes i j li lj n));
-        known = subst (λ (t : Spot → ℕ). (d : ℕ) → d < g.clients → All (λ (s : Stored). KnownAt d tags bodies slot tail queue_head (v.untaken d) (v.latch d) (reach_of t tail queue_head v.looks d) (v.dying d) s.spot s.value) (v.known d)) (sym path)
-            (λ d l. All-weaker _ _ (λ (s : Stored). known_kept d tags bodies slot tail queue_head (v.untaken d) (v.latch d) (reach_of t tail queue_head v.looks d) (reach_of t' tail queue_head v.looks d) (v.dying d) (v.dying d) s.spot s.value (reach d) (λ _ x. x)) (v.known d) (h.known d l));
-        facts = λ d l. All-weaker _ _ (facts_committed g.clients eras tail queue_head class v.op c b o refl) (v.facts d) (h.facts d l);
-        zeros = λ d l. All-weaker _ _ (zero_stays g w v h b to live counted new_live d) (v.zeros d) (h.zeros d l);
-        test = λ d l. elim (cases_eq c d) [
-          | inl x ↦ subst (λ i. TestAt g.clients eras (ons v' i) i (v'.test i)) x (rw (eq-eqb c c refl) tt)
-          | inr n ↦ rw (ne_eqb c d n) (h.test d l)
-        ];
-        fresh = λ d l st. elim (cases_eq c d) [
-          | inl x ↦ absurd (a.acts (ap v.status x ∙ st))
-          | inr n ↦ rw (ne_eqb c d n) (let q = h.fresh d l st in record { words = q.words; idle = q.idle; latched = q.latched; looked = q.looked; made = q.made; segments = q.segments; dyings = q.dyings; sends = λ r. unsent d n p mine_at not_to r ∙ q.sends r; takes = q.takes })
-        ];
-        gone = λ d l st. elim (cases_eq c d) [
-          | inl x ↦ absurd (a.here (ap v.status x ∙ st))
-          | inr n ↦ rw (ne_eqb c d n) (let q = h.gone d l st in record { roots = q.roots; hold = q.hold; idle = q.idle; latched = q.latched; segments = q.segments; dyings = q.dyings; sends = λ r. unsent d n p mine_at not_to r ∙ q.sends r; takes = q.takes })
-        ];
-        self_lanes = subst (λ (t : Spot → ℕ). (d : ℕ) → d < g.clients → IsUnusedLane (tail d d) (queue_head d d) (λ k. t (Slot d d k))) (sym path) (λ d l. let q = h.self_lanes d l in (q.0, q.1, λ k. self_slot p mine_at d k ∙ q.2 k));
-        no_queue = λ d l r y. let q = h.no_queue d l r y in (none_unsent p mine_at op_sound.at d r y q.0, q.1);
-        tails = λ d r l lr. elim (cases_eq c d) [
-          | inl x ↦ subst (λ i. TailSound i r (eras i i) (tail i r) (unsent_after p b v.unsent i r) (v'.op i)) x (subst (TailSound c r (eras c c) (tail c r) (unsent_after p b v.unsent c r)) (sym (at1_here v.op c o)) (tail_own p mine_at not_to r (subst (TailSound c r (eras c c) (tail c r) (v.unsent c r)) a.op (h.tails c r a.inside lr))))
-          | inr n ↦ rw (unsent d n p mine_at not_to r, ne_eqb c d n) (h.tails d r l lr)
-        ];
-        parts = λ d i l m. loose d ∙ (h.parts d i l m ∙ sym (loose i));
-        part = subst (λ (t : Spot → ℕ). (d : ℕ) → d < g.clients → PartTie (contents_of w' t) d (t (Home d)) (v'.part d)) (sym path)
-            (λ d. at1_all (λ (i : ℕ) (y : Part). i < g.clients → PartTie (contents_of w' t') i (t' (Home i)) y) v.part c part d
-            (λ _. part_kept (contents_of w t') (contents_of w' t') (λ _. Unit {0}) c same (λ _ _. tt) (t' (Home c)) part tt a.parted)
-            (λ m l. part_other g w v h c d b p heads' m l mine_at (λ i _. lives i)));
-        queued = subst (λ (t : Spot → ℕ). (d : ℕ) → d < g.clients → is_loose (v'.part d) ≡ false → (s r k : ℕ) → t (Slot s r k) ≢ 0 → HasShape (contents_of w' t) 0 1 (t (Slot s r k))) (sym path)
-            (λ d l f. queued_kept g w v h d heads' (λ i j. t' (Body i j)) bodies t' l (λ i _. lives i) (λ s r k _. in_queue s r k (h.parts c d a.inside l ∙ (sym (loose d) ∙ f)) (cases_Bool (same_spot p (Slot s r k)))) (sym (loose d) ∙ f));
-        values = subst (λ (t : Spot → ℕ). (d : ℕ) → d < g.clients → All (ValueAt (contents_of w' t) (reach_of t tail queue_head v.looks d)) (v.values d)) (sym path)
-            (λ d l. values_kept g w v h d heads' (λ i j. t' (Body i j)) bodies (reach_of t' tail queue_head v.looks d) l (λ i _. lives i) (reach d));
-        made = subst (λ (t : Spot → ℕ). (d : ℕ) → d < g.clients → All (MadeAt heads' (λ k. t (Root d k))) (v'.made d)) (sym path)
-            (λ d. at1_all (λ (i : ℕ) (y : List ℕ). i < g.clients → All (MadeAt heads' (λ k. t' (Root i k))) y) v.made c (filter (not_block b) (v.made c)) d
-            (λ lc. made_own g w v h c b to b p (not_block b) lc (λ y f. (differ b y f, λ n z. n (sym z ∙ held_at))))
-            (λ m l. made_kept g w v h d b to b p l (λ y k one f. (only d k m y one f, slot_no_root g w v h c d k p m mine_at))));
-      }
+  up_kept = exchanged_kept g w v c b to changes t' h (record {
+    inside = a.inside;
+    acts = a.acts;
+    here = a.here;
+    small = a.small;
+    live = live;
+    counted = counted;
+    new_live = new_live;
+    client = ap (λ (x : Header). x.client) a.new;
+    era = ap (λ (x : Header). x.era) a.new ∙ op_sound.current;
+    shows = a.shows;
+    path = path;
+    begun = ap on_of a.op;
+    committed = refl;
+    room = sym (ap room_of a.op);
+    tie = op_sound;
+    allowed = not_to;
+    dying = dying_raised g w v h b to live counted new_live (λ z. let q = new_count in absurd (omega arith));
+    count = subst (λ (l : ℕ → ℕ). CountSound g (classes w) (headers (upd w (Head b) to)) t' l) (sym held_over)
+        (count_exchange g (classes w) (λ i. w (Head i)) t (held_overs v) p b to b op_sound.at (slot_not_spare g w v h c p a.inside mine_at) (live_some g w v h) new_live balance others (λ _. refl) h.count);
+    slot = slot_kept c (headers w) (headers w) tags (v.latch c) tail queue_head (reach_of t tail queue_head v.looks c) (reach_of t' tail queue_head v.looks c) p (λ i z. inl z) (λ i z. z) (reach c) mine_at;
+    looked = looks c a.inside;
+    knows = All-weaker _ _ (λ (s : Stored). known_kept c tags (λ i j. w (Body i j)) (λ i j l. w (Slot i j l)) tail queue_head (v.untaken c) (v.latch c) (reach_of t tail queue_head v.looks c) (reach_of t' tail queue_head v.looks c) (v.dying c) (v.dying c) s.spot s.value (reach c) (λ _ x. x)) (v.known c) (h.known c a.inside);
+    valued = values_kept g w v h c (headers w) (λ i j. t' (Body i j)) (λ i j. w (Body i j)) (reach_of t' tail queue_head v.looks c) a.inside (λ i _ l. l) (reach c);
+    parted = a.parted;
+    loose = a.loose;
+    made = made_own g w v h c b to b p (not_block b) a.inside (λ y f. (differs b y f, λ n z. n (sym z ∙ held_at)));
+    named = λ d i _. named d i;
+    looks = λ d _ l. looks d l;
+    parts = λ d n l. part_other g w v h c d b p (headers (upd w (Head b) to)) n l mine_at (λ i _. lives g w v h b to live counted new_live i);
+    others_made = λ d n l. made_kept g w v h d b to b p l (λ y k one f. (only d k n y one f, slot_no_root g w v h c d k p n mine_at));
+    unsent = λ d n. unsent d n p mine_at not_to;
+    untaken = λ _ _ _. refl;
+    lanes = lane p mine_at not_to held_at;
+    self_lanes = λ d k z. self_slot p mine_at d k ∙ z;
+    no_queue = λ d l r y. let q = h.no_queue d l r y in (none_unsent p mine_at op_sound.at d r y q.0, q.1);
+    tails = λ d r l lr. elim (cases_eq c d) [
+      | inl x ↦ subst (λ i. TailSound i r (eras i i) (tail i r) (unsent_after p b v.unsent i r) (at1 v.op c o i)) x (subst (TailSound c r (eras c c) (tail c r) (unsent_after p b v.unsent c r)) (sym (at1_here v.op c o)) (tail_own p mine_at not_to r (subst (TailSound c r (eras c c) (tail c r) (v.unsent c r)) a.op (h.tails c r a.inside lr))))
+      | inr n ↦ rw (unsent d n p mine_at not_to r, ne_eqb c d n) (h.tails d r l lr)
+    ];
+    queued = λ f s r k _. in_queue s r k f (cases_Bool (same_spot p (Slot s r k)));
+  })
     where
-      w' : Spot → ℕ
-      w' = upd w (Head b) to
-
-      v' : View
-      v' = up_view v c b e p part
-
       o : Op
       o = Up Committed p b e
 
-      class : ℕ → ℕ → ℕ
-      class = λ i j. w (Page i j)
-
-      segment : ℕ → ℕ
-      segment = λ i. w (Segment i)
-
-      word : ℕ → ℕ
-      word = λ i. w (Head i)
-
-      word' : ℕ → ℕ
-      word' = λ i. upd w (Head b) to (Head i)
-
-      heads' : ℕ → Header
-      heads' = λ i. header_of (word' i)
+      changes : Changes v c
+      changes =
+          record {
+            op = o;
+            dying = unmoved v.dying c;
+            looks = unmoved v.looks c;
+            known = unmoved v.known c;
+            part = moved v.part c part;
+            values = unmoved v.values c;
+            made = moved v.made c (filter (not_block b) (v.made c));
+            unsent = unsent_after p b v.unsent;
+            untaken = v.untaken;
+          }
 
       tags : ℕ → ℕ
       tags = λ i. w (Tag i)
-
-      bodies : ℕ → ℕ → ℕ
-      bodies = λ i j. w (Body i j)
-
-      slot : ℕ → ℕ → ℕ → ℕ
-      slot = λ i j l. w (Slot i j l)
 
       tail : ℕ → ℕ → ℕ
       tail = λ i j. w (Tail i j)
@@ -190,22 +146,10 @@ module _ (g : Geometry) (w : Spot → ℕ) (v : View) (c b e to : ℕ) (p : Spot
       not_to : is_slot_to c p ≡ false
       not_to = let q : Allowed c (Up Begun p b e) = subst (Allowed c) a.op (h.allowed c a.inside) in q
 
-      new_count : (header_of to).count ≡ (header_of (word b)).count + 1
+      new_count : (header_of to).count ≡ (headers w b).count + 1
       new_count = ap (λ (x : Header). x.count) a.new
 
-      over : (d : ℕ) → d < g.clients → c ≢ d → (header_of (word b)).client ≡ d → (header_of (word b)).era ≡ eras d d → eras d d ≤ eras c d
-      over d l m cl er = let s : (header_of (word b)).era ≤ eras c (header_of (word b)).client = a.shows (λ z. m (z ∙ cl)) in subst (λ x. x ≤ eras c d) er (subst (λ i. (header_of (word b)).era ≤ eras c i) cl s)
-
-      lives : (i : ℕ) → (header_of (word i)).live ≡ true → (header_of (word' i)).live ≡ true
-      lives = headers_live g w v h b to live counted new_live
-
-      dying_kept : (d i : ℕ) → IsDying (header_of (word i)) d → IsDying (header_of (word' i)) d
-      dying_kept = dying_stays g w v h b to live counted new_live
-
-      live_not_zero : (i : ℕ) → (header_of (word i)).live ≡ true → i ≢ 0
-      live_not_zero i l = live_some g w v h i l
-
-      balance : (header_of to).count + one_if (eqb (t p) b) ≡ indegree g class t (held_overs v) b + one_if (eqb b b)
+      balance : (header_of to).count + one_if (eqb (t p) b) ≡ indegree g (classes w) t (held_overs v) b + one_if (eqb b b)
       balance =
           let x : one_if (eqb (t p) b) ≡ 0 = ap one_if (ne_eqb _ b (λ z. a.some (sym z ∙ held_at))) in
           let y : one_if (eqb b b) ≡ 1 = ap one_if (eq-eqb b b refl) in
@@ -230,8 +174,8 @@ module _ (g : Geometry) (w : Spot → ℕ) (v : View) (c b e to : ℕ) (p : Spot
       reach d i (inl x) = inl (named d i x)
       reach d i (inr x) = inr x
 
-      slots : (d : ℕ) (q : Spot) → Holds w g v d q → SlotOf d (λ i. header_of (word' i)) tags (v.latch d) tail queue_head (reach_of t' tail queue_head v.looks d) q
-      slots d q = slot_kept d (λ i. header_of (word i)) (λ i. header_of (word' i)) tags (v.latch d) tail queue_head (reach_of t tail queue_head v.looks d) (reach_of t' tail queue_head v.looks d) q (λ i z. inl (lives i z)) (dying_kept d) (reach d)
+      looks : (d : ℕ) → d < g.clients → LooksSound (λ i. t' (Home i)) (λ i j. t' (Body i j)) (λ i. tag_author (w (Tag i))) (v.latch d) (named_by t' tail queue_head d) [] (v.looks d)
+      looks d l = looks_kept (λ i. t (Home i)) (λ i. t' (Home i)) (λ i j. t (Body i j)) (λ i j. t' (Body i j)) (λ i. tag_author (w (Tag i))) (v.latch d) (named_by t tail queue_head d) (named_by t' tail queue_head d) (λ i x n q. kept (Home i) x n q) (λ i j x n q. kept (Body i j) x n q) (named d) [] (v.looks d) (h.looks d l)
 
       -- a queue from an identity to itself has no slot of a step
       self_slot : (q : Spot) → Holds w g v c q → (d k : ℕ) → upd t q b (Slot d d k) ≡ t (Slot d d k)
@@ -242,26 +186,13 @@ module _ (g : Geometry) (w : Spot → ℕ) (v : View) (c b e to : ℕ) (p : Spot
       self_slot _ x d k = absurd x
 
       -- in a pool for tables what is sent is a value block
-      in_queue : (s r k : ℕ) → is_loose (v.part c) ≡ false → (same_spot p (Slot s r k) ≡ true) ⊎ (same_spot p (Slot s r k) ≡ false) → (t' (Slot s r k) ≡ t (Slot s r k)) ⊎ HasShape (contents_of w' t') 0 1 (t' (Slot s r k))
-      in_queue s r k f (inl e) = inr (rw e (let q = a.queued f (ap is_slot (same_spot_is p (Slot s r k) e)) in record { live = lives b q.live; names = q.names; words = q.words }))
+      in_queue : (s r k : ℕ) → is_loose (v.part c) ≡ false → (same_spot p (Slot s r k) ≡ true) ⊎ (same_spot p (Slot s r k) ≡ false) → (t' (Slot s r k) ≡ t (Slot s r k)) ⊎ HasShape (contents_of (upd w (Head b) to) t') 0 1 (t' (Slot s r k))
+      in_queue s r k f (inl e) = inr (rw e (let q = a.queued f (ap is_slot (same_spot_is p (Slot s r k) e)) in record { live = lives g w v h b to live counted new_live b q.live; names = q.names; words = q.words }))
       in_queue s r k f (inr e) = inl (rw e refl)
 
-      loose : (d : ℕ) → is_loose (v'.part d) ≡ is_loose (v.part d)
-      loose d = at1_all (λ (i : ℕ) (y : Part). is_loose y ≡ is_loose (v.part i)) v.part c part d a.loose (λ _. refl)
-
-      same : PartKept (contents_of w t') (contents_of w' t') (λ _. Unit {0}) c
-      same = record { live = λ i _ l. lives i l; tag = λ _ _ _. refl; refs = λ _ _ _ _ _ _. refl; body = λ _ _ _ _ _. refl }
-
-      differ : (i y : ℕ) → not_block i y ≡ true → i ≢ y
-      differ i y f z = let u : eqb i y ≡ true = eq-eqb i y z in let q : false ≡ true = rw u at f in true≢false (sym q)
-
       -- the block that is raised has a reference that is no root of another identity
-      only : (d k : ℕ) → c ≢ d → (y : ℕ) → (header_of (word y)).count ≡ 1 → t (Root d k) ≡ y → b ≢ y
-      only d k m y one f z =
-          let q : same_spot a.named.0 (Root d k) ≡ false = false_from_ne_true _ (λ u. m (sym (a.rooted d k (same_spot_is a.named.0 (Root d k) u)))) in
-          let u = two_names g w v h b a.named.0 (Root d k) a.named.1 (f ∙ sym z) q live in
-          let r : (header_of (word b)).count ≡ 1 = ap (λ i. (header_of (word i)).count) z ∙ one in
-          absurd (omega arith)
+      only : (d k : ℕ) → c ≢ d → (y : ℕ) → (headers w y).count ≡ 1 → t (Root d k) ≡ y → b ≢ y
+      only d k m y = one_name g w v h b a.named.0 a.named.1 live d k y (false_from_ne_true _ (λ u. m (sym (a.rooted d k (same_spot_is a.named.0 (Root d k) u)))))
 
       unsent : (d : ℕ) → c ≢ d → (q : Spot) → Holds w g v c q → is_slot_to c q ≡ false → (r : ℕ) → unsent_after q b v.unsent d r ≡ v.unsent d r
       unsent d n (Slot s r k) x y j = elim x.1 [
@@ -274,9 +205,9 @@ module _ (g : Geometry) (w : Spot → ℕ) (v : View) (c b e to : ℕ) (p : Spot
       unsent d n _ x y r = absurd x
 
       -- the slot is one of a queue that the pool has, to another identity
-      none_unsent : (q : Spot) → Holds w g v c q → IsAt g class q → (d r : ℕ) → (r ≡ d) ⊎ (g.clients ≤ r) → v.unsent d r ≡ 0 → unsent_after q b v.unsent d r ≡ 0
+      none_unsent : (q : Spot) → Holds w g v c q → IsAt g (classes w) q → (d r : ℕ) → (r ≡ d) ⊎ (g.clients ≤ r) → v.unsent d r ≡ 0 → unsent_after q b v.unsent d r ≡ 0
       none_unsent (Slot s i k) x at d r y z = elim (cases_Bool (eqb s d && eqb i r)) [
-        | inl f ↦ absurd (lane_to g.clients s i d r x.0 (lane_clients g class s i k h.fits at).1 y f)
+        | inl f ↦ absurd (lane_to g.clients s i d r x.0 (lane_clients g (classes w) s i k h.fits at).1 y f)
         | inr f ↦ rw f z
       ]
       none_unsent (Root _ _) x at d r y z = z

@@ -291,6 +291,7 @@ module _ {M A : Type 0} (k : Control M A) (fits : M → Memo → Memo → Trail 
           may = went_may;
           run = run;
           did = took_grew k c p q' m steady of went_took;
+          cut = λ u. absurd (true≢false u);
           acts = λ u. went_acts;
           kind = λ u. went_kind;
           spent = λ u. went_spent y' e;
@@ -362,6 +363,10 @@ module _ {M A : Type 0} (k : Control M A) (fits : M → Memo → Memo → Trail 
         did = elim went.same [
           | inl s ↦ ([], did_none c p q s.0)
           | inr s ↦ took_grew k c p q m steady of (up_to p m x q n y went s.0 s.1)
+        ];
+        cut = λ u some. elim went.same [
+          | inl s ↦ absurd (let e : y ≡ x = s.1 in omega arith)
+          | inr s ↦ s.0
         ];
         acts = λ u. absurd (true≢false (sym u));
         kind = λ u. absurd (true≢false (sym u));

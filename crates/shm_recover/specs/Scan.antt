@@ -114,6 +114,7 @@ pub record ScanStopped (me : Me) (r0 r : Memo) (tr : Trail) (es : List Event) (e
   pub others : (b : ℕ) → Contains r0.dying b → Contains blocks b ⊎ Contains r.dying b
   pub stopped : All (λ (v : Visit). Contains r.dying v.block) vs
   pub spent : 2 ^ 47 - 3 < era
+  pub most : era ≤ own_word r.own (Era me.who me.who)
   pub bound : IsWithin (528 * me.geometry.segments + 164 * (frees es + length vs)) tr
 
 abbrev pub ScanLeaves : ScanState → Memo → Memo → Trail → List Event → Result ℕ EraSpent → Type 0

@@ -118,6 +118,7 @@ pub record BackDone (me : Me) (r0 r : Memo) (tr : Trail) (es : List Event) : Typ
 pub record BackStopped (me : Me) (r0 r : Memo) (tr : Trail) (es : List Event) (era : ℕ) (vs : List Visit) : Type 0 where
   pub back : Back me.who r0 r
   pub stopped : StoppedAt me r0 r era vs
+  pub most : era ≤ own_word r.own (spot.Era me.who me.who)
   pub bound : IsWithin (11 * (me.geometry.clients - 1) + 164 * (frees es + length vs)) tr
 
 abbrev pub BackLeaves : BackState → Memo → Memo → Trail → List Event → Result (Unit {0}) EraSpent → Type 0

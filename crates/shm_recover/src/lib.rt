@@ -15,6 +15,7 @@ pub mod parts;
 pub mod recover;
 pub mod recovering;
 pub mod scan;
+pub mod stays;
 pub mod take_back;
 
 pub use bound::leave_bound;
@@ -30,3 +31,4 @@ pub use recovering::{
     scan_bound, scan_events, scan_leaves,
 };
 pub use scan::{Scan, Scanning};
+pub use stays::maps_stay;

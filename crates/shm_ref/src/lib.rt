@@ -22,6 +22,7 @@ pub mod set_home;
 pub mod set_ref;
 pub mod setting;
 pub mod share;
+pub mod stays;
 mod tagged;
 
 pub use answer::{Busy, HomeFault, LookFault, NoSuchWord, NotHeld, SetFault};
@@ -51,3 +52,4 @@ pub use setting::{
 };
 pub use share::{Share, Sharing};
 pub use shm_count::parts::ShareFault;
+pub use stays::drops_are_steady;

@@ -7,6 +7,11 @@ pub mod Playing
 pub mod Joining
 pub mod Turning
 pub mod Turns
+pub mod Loose
+pub mod Growing
+pub mod Effects
+pub mod Dying
+pub mod Mending
 mod OwnEras
 mod Visiting
 mod Ends

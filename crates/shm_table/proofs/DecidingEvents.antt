@@ -74,12 +74,12 @@ use Rattle.shm_table.specs.Unlink.{UnlinkCalls, unlink_plan}
 -- ---- what stays
 
 -- what a step keeps, all that is asked keeps
-kept_along : {S A : Type 0} (k : Control S A) (Q : S → Type 0) → ((m : S) (n : ℕ) → Q m → Q (k.after m n)) → (m : S) (tr : Trail) → Q m → Q (after_all k m tr)
+pub kept_along : {S A : Type 0} (k : Control S A) (Q : S → Type 0) → ((m : S) (n : ℕ) → Q m → Q (k.after m n)) → (m : S) (tr : Trail) → Q m → Q (after_all k m tr)
 kept_along k Q h m [] q = q
 kept_along k Q h m (x ∷ tr) q = kept_along k Q h (k.after m x.word) tr (h m x.word q)
 
 -- what a plan keeps from call to call, the machine that makes its calls keeps
-plan_kept : {P C B A : Type 0} (k : Control C B) (q : Planned P C B A) (R : P → Type 0) → ((p : P) (b : B) → R p → R (q.after p b)) → (m : Calls P C A B) (n : ℕ) → R m.plan → R ((calls_control k q).after m n).plan
+pub plan_kept : {P C B A : Type 0} (k : Control C B) (q : Planned P C B A) (R : P → Type 0) → ((p : P) (b : B) → R p → R (q.after p b)) → (m : Calls P C A B) (n : ℕ) → R m.plan → R ((calls_control k q).after m n).plan
 plan_kept {P} {C} {B} {A} k q R h m n r = go (k.turns m.call n)
   where
     last : (b : B) (o : Option A) → R (planned k q (k.after m.call n) (q.after m.plan b) o).plan

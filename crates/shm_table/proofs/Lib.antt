@@ -1,3 +1,4 @@
 mod EffectLaws
 mod DecidingEvents
 mod EarlierEvents
+mod Running

@@ -2,7 +2,7 @@
 pub mod Control
 pub mod Laws
 pub mod Bound
-use Rattle.std.specs.Prelude.{◌≡◌, ◌≢◌, ℕ, ◌+◌, ◌*◌, ◌<◌, ◌⊎◌, Option, Some, None, List, [], ◌∷◌, length}
+use Rattle.std.specs.Prelude.{◌≡◌, ◌≢◌, ℕ, ◌+◌, ◌*◌, ◌<◌, ◌⊎◌, false, Option, Some, None, List, [], ◌∷◌, length}
 use Rattle.std.specs.List.{All, Contains}
 use Rattle.shm_graph.specs.declared.ask.Me.{Me}
 use Rattle.shm_graph.specs.declared.memo.Memo.{Memo}
@@ -78,7 +78,7 @@ pub record IsCopied (me : Me) (key a other n k b : ℕ) (f : Option PutFault) (r
 abbrev pub CopyKnows : CopyState → CopyPoint → Memo → Memo → Trail → List Event → Type 0
 CopyKnows m Fetch r0 r tr es = MayCopy m.me m.key m.author r0 × (r ≡ r0) × (tr ≡ []) × (es ≡ [])
 CopyKnows m Put r0 r tr es = MayCopy m.me m.key m.author r0 × IsRooted m.me m.author m.other m.root m.block m.number None fetch_steps r0 r tr es
-CopyKnows m Drop r0 r tr es = IsCopied m.me m.key m.author m.other m.number m.root m.block m.refused r0 r tr es
+CopyKnows m Drop r0 r tr es = IsCopied m.me m.key m.author m.other m.number m.root m.block m.refused r0 r tr es × (m.decided ≡ false → SameMap r0 r)
 
 -- ---- what it leaves
 

@@ -79,7 +79,7 @@ pub record IsPut (me : Me) (key n k b : ℕ) (f : Option PutFault) (r0 r : Memo)
 abbrev pub PutKnows : PutState → PutPoint → Memo → Memo → Trail → List Event → Type 0
 PutKnows m Make r0 r tr es = MayCommand m.me m.key r0 × (m.number < 2 ^ 64) × (r ≡ r0) × (tr ≡ []) × (es ≡ [])
 PutKnows m Put r0 r tr es = HasValue m.me m.key m.number m.root m.block r0 r tr es
-PutKnows m Drop r0 r tr es = IsPut m.me m.key m.number m.root m.block m.refused r0 r tr es
+PutKnows m Drop r0 r tr es = IsPut m.me m.key m.number m.root m.block m.refused r0 r tr es × (m.decided ≡ false → SameMap r0 r)
 
 -- ---- what it leaves
 

@@ -129,7 +129,7 @@ MapSo me key v r0 r es root None = ((n : ℕ) → IsValue (sight me.who r0) v n 
 MapSo me key v r0 r es None (Some f) = SameMap r0 r × PutCause me r0 r f × Cleared me.who r0 r
 MapSo me key v r0 r es (Some k) (Some f) = SameMap r0 r × PutCause me r0 r f
 
--- it is settled whether the key has the block; these are the zero-count blocks that a tear-down left
+-- it is settled whether the key has the block, and no key changed where it didn't come to have it; these are the zero-count blocks that a tear-down left
 pub record IsSettled (m : PutRootState) (latch : Option ℕ) (steps : ℕ) (r0 r : Memo) (tr : Trail) (es : List Event) : Type 0 where
   pub may : MayPut m.me m.key m.value r0
   pub keeps : Keeps m.me.who r0 r
@@ -138,6 +138,7 @@ pub record IsSettled (m : PutRootState) (latch : Option ℕ) (steps : ℕ) (r0 r
   pub home : own_word r.own (Home m.me.who) ≢ 0
   pub roots : RootsSo m.me.who r0 r m.root
   pub map : MapSo m.me m.key m.value r0 r es m.root m.refused
+  pub still : m.decided ≡ false → SameMap r0 r
   pub keys : ℕ
   pub search : HasSearch m.me m.me.who m.key keys tr
   pub left : List Visit
@@ -189,8 +190,9 @@ pub record PutRootRefused (me : Me) (key v : ℕ) (r0 r : Memo) (tr : Trail) (es
   pub dying : All (λ (x : Visit). Contains r.dying x.block) left
   pub bound : IsWithin (put_root_steps me.geometry.segments + 2 * keys + tear_steps (frees es + length left)) tr
 
+-- where it answers that the key had the value block already, no key changed
 abbrev pub PutRootLeaves : PutRootState → Memo → Memo → Trail → List Event → Result Bool PutFault → Type 0
-PutRootLeaves m r0 r tr es (Ok done) = PutRootDone m.me m.key m.value r0 r tr es
+PutRootLeaves m r0 r tr es (Ok done) = PutRootDone m.me m.key m.value r0 r tr es × (done ≡ false → SameMap r0 r)
 PutRootLeaves m r0 r tr es (Err f) = PutRootRefused m.me m.key m.value r0 r tr es f
 
 -- ---- the plan

@@ -2,7 +2,7 @@
 pub mod Control
 pub mod Laws
 pub mod Bound
-use Rattle.std.specs.Prelude.{◌≡◌, ◌≢◌, ℕ, ◌+◌, ◌*◌, ◌%◌, ◌<◌, ◌⊎◌, Option, Some, None, List, [], ◌∷◌, length, slice_index}
+use Rattle.std.specs.Prelude.{◌≡◌, ◌≢◌, ℕ, ◌+◌, ◌*◌, ◌%◌, ◌<◌, ◌⊎◌, false, Option, Some, None, List, [], ◌∷◌, length, slice_index}
 use Rattle.std.specs.List.{All, Contains}
 use Rattle.shm_graph.specs.declared.ask.Me.{Me}
 use Rattle.shm_graph.specs.declared.memo.Memo.{Memo}
@@ -96,8 +96,8 @@ put_in_steps g = fetch_head_steps + put_root_steps g
 abbrev pub RecvKnows : RecvState → RecvPoint → Memo → Memo → Trail → List Event → Type 0
 RecvKnows m Fetch r0 r tr es = MayRecv m.me m.from m.key r0 × (r ≡ r0) × (tr ≡ []) × (es ≡ [])
 RecvKnows m Put r0 r tr es = MayRecv m.me m.from m.key r0 × IsHeadRooted m.me m.from m.root m.block m.number m.at r0 r tr es
-RecvKnows m Take r0 r tr es = (m.refused ≡ None) × IsPutIn m.me m.from m.key m.at m.block m.number m.root (put_in_steps m.me.geometry.segments) None r0 r tr es × IsWaiting m.me m.from m.at m.block m.root r0 r
-RecvKnows m Drop r0 r tr es = IsPutIn m.me m.from m.key m.at m.block m.number m.root (put_in_steps m.me.geometry.segments + take_head_steps) m.refused r0 r tr es × ItemSo m.me m.from m.at m.block r0 r es m.refused
+RecvKnows m Take r0 r tr es = (m.refused ≡ None) × IsPutIn m.me m.from m.key m.at m.block m.number m.root (put_in_steps m.me.geometry.segments) None r0 r tr es × IsWaiting m.me m.from m.at m.block m.root r0 r × (m.decided ≡ false → SameMap r0 r)
+RecvKnows m Drop r0 r tr es = IsPutIn m.me m.from m.key m.at m.block m.number m.root (put_in_steps m.me.geometry.segments + take_head_steps) m.refused r0 r tr es × ItemSo m.me m.from m.at m.block r0 r es m.refused × (m.decided ≡ false → SameMap r0 r)
 
 -- ---- what it leaves
 

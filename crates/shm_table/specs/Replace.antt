@@ -138,8 +138,9 @@ pub record NotReplaced (me : Me) (v : ℕ) (m r : Memo) (tr : Trail) (es : List 
   pub none : es ≡ []
   pub bound : IsWithin (1 + change_steps) tr
 
+-- where it answers that the entry had the value block already, no key changed
 abbrev pub ReplaceLeaves : ReplaceState → Memo → Memo → Trail → List Event → Result Bool PutFault → Type 0
-ReplaceLeaves m r0 r tr es (Ok done) = Replaced m.me m.to m.entry r0 r tr es
+ReplaceLeaves m r0 r tr es (Ok done) = Replaced m.me m.to m.entry r0 r tr es × (done ≡ false → SameMap r0 r)
 ReplaceLeaves m r0 r tr es (Err f) = NotReplaced m.me m.to r0 r tr es f
 
 -- ---- the plan

@@ -5,16 +5,17 @@ ghost use Rattle.shm_graph.specs.declared.ask.Me.{Me as AMe};
 ghost use Rattle.shm_graph.specs.declared.memo.Memo.{Memo as AMemo};
 ghost use Rattle.shm_graph.specs.Asks.{Trail};
 ghost use Rattle.shm_graph.specs.Bounds.{command_steps};
-ghost use Rattle.shm_graph.specs.Tells.{Tells};
+ghost use Rattle.shm_graph.specs.Tells.{Tells, after_all};
 ghost use Rattle.shm_calls.specs.CallsControl.{calls_control, calls_does};
 ghost use Rattle.shm_calls.specs.CallsFit.{CallsFits};
-ghost use Rattle.shm_calls.specs.Deciding.{Decides, Foretells};
+ghost use Rattle.shm_calls.specs.Deciding.{Decides, Foretells, StillRuns};
 ghost use Rattle.shm_script.specs.declared.line.Line.{Line as ALine};
 ghost use Rattle.shm_script.specs.declared.line.Line.TheVariants as line;
 ghost use Rattle.shm_script.specs.declared.log.Answer.{Answer as AnAnswer};
 ghost use Rattle.shm_script.specs.Text.{line_spelled};
 ghost use Rattle.shm_table.specs.Machines.Change.{DelGives};
 ghost use Rattle.shm_table.specs.Command.Bound.{IsCommandShort, command_told};
+ghost use Rattle.shm_table.specs.Command.Maps.{MapSoFar};
 ghost use Rattle.shm_table.specs.Command.{CommandCall, CommandFits, CommandGives, command_by, command_control, command_does, command_effect, command_of};
 ghost use Rattle.shm_table.specs.Commands.{MayCommand};
 ghost use Rattle.shm_table.specs.CopyKey.Control.{CopyCalls, copy_parts};
@@ -118,4 +119,12 @@ pub fn command_bound()
 /// It shows what it will answer exactly from its deciding step on, whatever words are found, and it answers what it showed.
 pub fn command_foretells()
     ensures { Foretells command_control (λ a. a) command_effect command_by }
+{}
+
+/// While it runs the map is what it was when the command began, until its deciding step; and from then on it is as after the answer that it
+/// shows. Before its first word step it shows none.
+pub fn command_maps()
+    ensures runs { (me : AMe) (l : ALine) (start : Trail) (r0 r : AMemo) (tr : Trail) → StillRuns command_control (command_of me l) start → let m = after_all command_control (command_of me l) start in CommandFits m r0 r tr → MapSoFar l (command_effect m) r0 r }
+    ensures going { (me : AMe) (l : ALine) (start : Trail) (r0 r : AMemo) (tr : Trail) → let m = after_all command_control (command_of me l) start in command_control.finished m ≡ false → CommandFits m r0 r tr → MapSoFar l (command_effect m) r0 r }
+    ensures fresh { (me : AMe) (l : ALine) → command_effect (command_of me l) ≡ None }
 {}

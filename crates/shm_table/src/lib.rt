@@ -44,7 +44,7 @@ pub use copying::{copy_begins, copy_bound, copy_events, copy_leaves};
 pub use del::{Del, Deleting};
 pub use effects::{
     command_begins, command_bound, command_events, command_foretells, command_leaves,
-    command_lines, commands_foretell, deciding_events, earlier_events, parts_decide,
+    command_lines, command_maps, commands_foretell, deciding_events, earlier_events, parts_decide,
 };
 pub use get::{Get, Getting};
 pub use put::{Put, Putting};

@@ -49,7 +49,7 @@ module _ (g : Geometry) (w : Spot → ℕ) (v : View) (h : HeldAt g w v) (still 
   target_still (Body b i) = ap (λ z. cond (ltb i ((words_of w).refs b)) z 0) (uncovered (Body b i) (w (Body b i)))
   target_still _ = refl
 
-  targets_still : targets g w v ≡ references w
+  pub targets_still : targets g w v ≡ references w
   targets_still = fun_ext target_still
 
   status_still : (c : ℕ) → c < g.clients → (w (Status c) ≡ 0) ⊎ (w (Status c) ≡ 3)

@@ -138,7 +138,7 @@ found_small me key entry before word r0 r tr es may h held =
 -- ---- the entry goes
 
 -- the entry that was found may be taken out
-found_unlinks : (me : Me) (key entry before word : ℕ) (r0 r : Memo) (tr : Trail) (es : List Event) → IsLocated me key entry before word r0 r tr es → MayUnlink me key entry before word r
+pub found_unlinks : (me : Me) (key entry before word : ℕ) (r0 r : Memo) (tr : Trail) (es : List Event) → IsLocated me key entry before word r0 r tr es → MayUnlink me key entry before word r
 found_unlinks me key entry before word r0 r tr es h =
     let f = h.located.found in
     record { geometry = h.may.geometry; who = h.may.who; idle = h.located.idle; client = h.client; found = f.own refl; some = f.some; room = f.room; here = f.here }

@@ -128,7 +128,7 @@ opens m Put r0 r tr es h =
         refl,
       );
     }
-opens m Drop r0 r tr es h =
+opens m Drop r0 r tr es (h, still) =
     record { made = refl; first = refl; start = refl; knows = (record { geometry = h.may.geometry; who = h.may.who; here = idle_here m.me.who r h.keeps.idle; idle = h.keeps.idle.op }, h.low, refl, refl, refl) }
 
 -- ---- a value block was made
@@ -245,53 +245,57 @@ module _ (m : PutState) (r0 rs r : Memo) (tr t : Trail) (es ds : List Event) (he
 
   -- the key has it, or not
   put : (a : Result Bool PutFault) → PutKnows (record m { point = Put }) Put r0 rs tr es → PutRootLeaves (putting_root m.me m.key m.block) rs r t ds a → Goes Put (Second (First a))
-  put (Ok done) h w =
+  put (Ok done) h (w, still) =
       let quiet = frees_append es ds in
       let none : frees es ≡ 0 = ap frees h.told in
-      let b = within_more (alloc_steps g) (put_root_steps g + 2 * w.keys + tear_steps (frees ds + length w.left)) tr t h.bound w.bound in
-      record {
-        may = h.may;
-        keeps = keeps_more c r0 rs r h.keeps w.keeps;
-        latch = w.latch;
-        low = h.low;
-        empty = h.empty;
-        rest = elim w.ended [ inl y ↦ inl ((λ j n. y.roots j ∙ h.others j n), y.dying ∙ h.dying) | inr y ↦ inr y ];
-        value = (
-          set_after m.key m.number m.block r0 rs r h.map (w.map m.number h.value),
-          w.home,
-          elim w.decided [
-            | inl d ↦ inl (decided_after c m.key (own_word r.own (Home c)) m.block es ds d)
-            | inr d ↦ inr (d.0, sym (h.map m.key) ∙ d.1)
-          ],
-        );
-        fresh = h.fresh;
-        made = (ds, ap (λ (u : List Event). u ++ ds) h.told);
-        keys = w.keys;
-        search = inr (search_before m.me c m.key w.keys tr t w.search);
-        left = w.left;
-        dying = w.dying;
-        bound = omega arith;
-      }
+      let b = within_more (alloc_steps g) (put_root_steps g + 2 * w.keys + tear_steps (frees ds + length w.left)) tr t h.bound w.bound in (
+        record {
+          may = h.may;
+          keeps = keeps_more c r0 rs r h.keeps w.keeps;
+          latch = w.latch;
+          low = h.low;
+          empty = h.empty;
+          rest = elim w.ended [ inl y ↦ inl ((λ j n. y.roots j ∙ h.others j n), y.dying ∙ h.dying) | inr y ↦ inr y ];
+          value = (
+            set_after m.key m.number m.block r0 rs r h.map (w.map m.number h.value),
+            w.home,
+            elim w.decided [
+              | inl d ↦ inl (decided_after c m.key (own_word r.own (Home c)) m.block es ds d)
+              | inr d ↦ inr (d.0, sym (h.map m.key) ∙ d.1)
+            ],
+          );
+          fresh = h.fresh;
+          made = (ds, ap (λ (u : List Event). u ++ ds) h.told);
+          keys = w.keys;
+          search = inr (search_before m.me c m.key w.keys tr t w.search);
+          left = w.left;
+          dying = w.dying;
+          bound = omega arith;
+        },
+        λ z. same_more r0 rs r h.map (still z),
+      )
   put (Err f) h w =
       let quiet = frees_append es ds in
       let none : frees es ≡ 0 = ap frees h.told in
-      let b = within_more (alloc_steps g) (put_root_steps g + 2 * w.keys + tear_steps (frees ds + length w.left)) tr t h.bound w.bound in
-      record {
-        may = h.may;
-        keeps = keeps_more c r0 rs r h.keeps w.keeps;
-        latch = w.latch;
-        low = h.low;
-        empty = h.empty;
-        rest = elim w.cleared [ inl y ↦ inl ((λ j n. y.roots j ∙ h.others j n), y.dying ∙ h.dying) | inr y ↦ inr y ];
-        value = (same_more r0 rs r h.map w.map, cause_put m.me m.root r0 rs r f h.low h.empty h.others w.cause);
-        fresh = h.fresh;
-        made = (ds, ap (λ (u : List Event). u ++ ds) h.told);
-        keys = w.keys;
-        search = elim w.search [ inl y ↦ inl y | inr y ↦ inr (search_before m.me c m.key w.keys tr t y) ];
-        left = w.left;
-        dying = w.dying;
-        bound = omega arith;
-      }
+      let b = within_more (alloc_steps g) (put_root_steps g + 2 * w.keys + tear_steps (frees ds + length w.left)) tr t h.bound w.bound in (
+        record {
+          may = h.may;
+          keeps = keeps_more c r0 rs r h.keeps w.keeps;
+          latch = w.latch;
+          low = h.low;
+          empty = h.empty;
+          rest = elim w.cleared [ inl y ↦ inl ((λ j n. y.roots j ∙ h.others j n), y.dying ∙ h.dying) | inr y ↦ inr y ];
+          value = (same_more r0 rs r h.map w.map, cause_put m.me m.root r0 rs r f h.low h.empty h.others w.cause);
+          fresh = h.fresh;
+          made = (ds, ap (λ (u : List Event). u ++ ds) h.told);
+          keys = w.keys;
+          search = elim w.search [ inl y ↦ inl y | inr y ↦ inr (search_before m.me c m.key w.keys tr t y) ];
+          left = w.left;
+          dying = w.dying;
+          bound = omega arith;
+        },
+        λ z. same_more r0 rs r h.map w.map,
+      )
 
   -- the root of the value block is dropped, or stays
   module _ (a : Result Bool EraSpent) (w : DropLeaves (dropping m.me m.root) rs r t ds a) where
@@ -390,7 +394,7 @@ leads : (m : PutState) (y : PutPoint) (r0 rs r : Memo) (tr t : Trail) (es ds : L
     → Follows put_parts put_plan (record m { point = y }) b r0 r (tr ++ t) (es ++ ds)
 leads m Make r0 rs r tr t es ds (First a) held agent h w = made m r0 rs r tr t es ds held agent a h w
 leads m Put r0 rs r tr t es ds (Second (First a)) held agent h w = put m r0 rs r tr t es ds held agent a h w
-leads m Drop r0 rs r tr t es ds (Second (Second a)) held agent h w = dropped m r0 rs r tr t es ds held agent m.refused a h w
+leads m Drop r0 rs r tr t es ds (Second (Second a)) held agent (h, still) w = dropped m r0 rs r tr t es ds held agent m.refused a h w
 leads m Make r0 rs r tr t es ds (Second b) held agent h w = absurd w
 leads m Put r0 rs r tr t es ds (First b) held agent h w = absurd w
 leads m Put r0 rs r tr t es ds (Second (Second b)) held agent h w = absurd w

@@ -21,7 +21,7 @@ abbrev pub own_steps : ℕ → ℕ → ℕ → ℕ
 own_steps g k t = put_root_steps g + 2 * k + tear_steps t
 
 pub put_root_short : (me : Me) (key v : ℕ) (r0 r : Memo) (tr : Trail) (es : List Event) (a : Result Bool PutFault) → PutRootLeaves (putting_root me key v) r0 r tr es a → IsPutShort me key (own_steps me.geometry.segments) r tr es
-put_root_short me key v r0 r tr es (Ok done) h = (h.keys, inr h.search, h.left, h.dying, h.bound)
+put_root_short me key v r0 r tr es (Ok done) (h, still) = (h.keys, inr h.search, h.left, h.dying, h.bound)
 put_root_short me key v r0 r tr es (Err f) h = (h.keys, h.search, h.left, h.dying, h.bound)
 
 -- that is within what a command on a table may take

@@ -2,6 +2,7 @@
 use Rattle.std.proofs.Common.{◌≡◌, ◌≢◌, ℕ, zero, suc, ◌+◌, ◌*◌, ◌%◌, ◌≤◌, refl, sym, ap, ◌∙◌, subst, arith, Bool, append-nil, List, [], ◌∷◌, ◌++◌, Option, Some, None, inl, inr, ◌⊎◌}
 use Rattle.std.specs.Prelude.{Result, Ok, Err, IfSome, length}
 use Rattle.std.specs.List.{All, Contains}
+use Rattle.std.proofs.lemmas.Bool.{true≢false}
 use Rattle.std.proofs.lemmas.List.Elements.{All-nil}
 use Rattle.shm_graph.specs.declared.memo.Memo.{Memo}
 use Rattle.shm_graph.specs.declared.spot.Spot.TheVariants.{Body, Home}
@@ -164,7 +165,7 @@ module _ (m : PutRootState) (r0 rs r : Memo) (tr t : Trail) (es ds : List Event)
 
   -- the entry that was found has the block, or not
   pub replaced : (a : Result Bool PutFault) → PutRootKnows (record m { point = Replace }) Replace r0 rs tr es → ReplaceLeaves (replacing m.me m.entry m.value) rs r t ds a → Goes Replace (Second (First (First a)))
-  replaced (Ok done) (h, root, searched, (n, before, word, may)) w =
+  replaced (Ok done) (h, root, searched, (n, before, word, may)) (w, still) =
       let quiet = frees_append es ds in
       let k = searched.keys in
       record {
@@ -181,6 +182,7 @@ module _ (m : PutRootState) (r0 rs r : Memo) (tr t : Trail) (es ds : List Event)
             | inr y ↦ inl (es, event.ChangeUp c (Body m.entry 1) y.0 m.value, event.ChangeDown c y.0 ∷ y.1, ap (λ (u : List Event). es ++ u) y.4, Replaces m.entry y.0)
           ],
         );
+        still = λ z. same_more r0 rs r h.map (still z);
         keys = k;
         search = search_more m.me c m.key k tr t searched.search;
         left = w.left;
@@ -205,6 +207,7 @@ module _ (m : PutRootState) (r0 rs r : Memo) (tr t : Trail) (es ds : List Event)
         home = λ e. h.home (sym w.home ∙ e);
         roots = subst (RootsSo c r0 r) (sym root) (inl cleared);
         map = subst (λ (o : Option ℕ). MapSo m.me m.key m.value r0 r (es ++ ds) o (Some f)) (sym root) (same_more r0 rs r h.map w.map, cause_before m.me r0 rs r f h.cleared.roots w.cause, cleared);
+        still = λ z. same_more r0 rs r h.map w.map;
         keys = k;
         search = search_more m.me c m.key k tr t searched.search;
         left = nobody;
@@ -231,6 +234,7 @@ module _ (m : PutRootState) (r0 rs r : Memo) (tr t : Trail) (es ds : List Event)
           (λ i v. set_after m.key i m.value r0 rs r h.map (x.map i (h.keeps.values h.may.1 m.value i h.may.2.low h.may.2.some h.may.2.root v))),
           inl (decided_after c m.key (own_word r.own (Home c)) m.value es ds (linked m.first x.entry x.directory x.events)),
         );
+        still = λ z. absurd (true≢false z);
         keys = k;
         search = search_more m.me c m.key k tr t searched.search;
         left = nobody;
@@ -261,6 +265,7 @@ module _ (m : PutRootState) (r0 rs r : Memo) (tr t : Trail) (es ds : List Event)
         home = λ e. h.home (may.directory ∙ (sym x.directory ∙ e));
         roots = subst (λ i. RootsSo c r0 r (Some i)) small (low, sym (h.cleared.roots j) ∙ x.empty, (λ i o. x.others i (λ z. o (sym z)) ∙ h.cleared.roots i), x.dying ∙ h.cleared.dying);
         map = (same_more r0 rs r h.map x.map, cause_before m.me r0 rs r f h.cleared.roots x.cause);
+        still = λ z. same_more r0 rs r h.map x.map;
         keys = k;
         search = search_more m.me c m.key k tr t searched.search;
         left = nobody;
@@ -280,6 +285,7 @@ module _ (m : PutRootState) (r0 rs r : Memo) (tr t : Trail) (es ds : List Event)
         home = λ e. h.home (may.directory ∙ (sym x.directory ∙ e));
         roots = subst (RootsSo c r0 r) (sym root) (inl cleared);
         map = subst (λ (o : Option ℕ). MapSo m.me m.key m.value r0 r (es ++ ds) o (Some f)) (sym root) (same_more r0 rs r h.map x.map, cause_before m.me r0 rs r f h.cleared.roots x.cause, cleared);
+        still = λ z. same_more r0 rs r h.map x.map;
         keys = k;
         search = search_more m.me c m.key k tr t searched.search;
         left = nobody;
@@ -308,6 +314,7 @@ module _ (m : PutRootState) (r0 rs r : Memo) (tr t : Trail) (es ds : List Event)
           home = λ e. h.home (sym home ∙ e);
           roots = roots_so o n.3 h.roots;
           map = map_so o f same n.3 home keeps.era h.map;
+          still = λ z. same_more r0 rs r (h.still z) same;
           keys = h.keys;
           search = search_more m.me c m.key h.keys tr t h.search;
           left = h.left;
@@ -333,7 +340,7 @@ module _ (m : PutRootState) (r0 rs r : Memo) (tr t : Trail) (es ds : List Event)
     pub unlatched_so : (o : Option ℕ) (f : Option PutFault) → IsSettled (record m { root = o; refused = f; point = Unlatch }) (Some c) (settled_steps g) r0 rs tr es
         → Follows put_root_parts put_root_plan (record m { root = o; refused = f; point = Unlatch }) (Second (Second (First tt))) r0 r (tr ++ t) (es ++ ds)
     unlatched_so (Some k) f h = (k, refl, freed (Some k) f h)
-    unlatched_so None None h = let y = freed None None h in done_of m r0 r (tr ++ t) (es ++ ds) y
+    unlatched_so None None h = let y = freed None None h in (done_of m r0 r (tr ++ t) (es ++ ds) y, y.still)
     unlatched_so None (Some f) h = let y = freed None (Some f) h in refused_of m r0 r (tr ++ t) (es ++ ds) f y
 
   -- the root of the new entry is dropped, or stays
@@ -358,20 +365,22 @@ module _ (m : PutRootState) (r0 rs r : Memo) (tr t : Trail) (es ds : List Event)
   dropped_so k None (Ok z) h w =
       let n = else_dropped k (Ok z) w in
       let quiet = frees_append es ds in
-      let alone : length h.left ≡ 0 = ap length h.alone in
-      record {
-        keeps = keeps_drop (dropping m.me k) r0 rs r t ds (Ok z) h.keeps h.roots.1 w;
-        latch = n.0 ∙ h.latched;
-        home = λ e. h.home (sym n.1 ∙ e);
-        map = λ i v. set_then m.key i m.value r0 rs r (h.map.0 i v) (same_dropped k (Ok z) w);
-        decided = elim h.map.1 [ inl d ↦ inl (subst (λ b. IsDecided c m.key b m.value (es ++ ds)) (sym n.1) (decided_more c m.key (own_word rs.own (Home c)) m.value es ds d)) | inr d ↦ inr d ];
-        ended = inl (cleared_so k z w h.roots);
-        keys = h.keys;
-        search = search_more m.me c m.key h.keys tr t h.search;
-        left = nobody;
-        dying = All-nil (λ (x : Visit). Contains r.dying x.block);
-        bound = let y = within_more (settled_steps g + 2 + 2 * h.keys + tear_steps (frees es + length h.left)) (9 + 164 * frees ds) tr t h.bound w.bound in omega arith;
-      }
+      let alone : length h.left ≡ 0 = ap length h.alone in (
+        record {
+          keeps = keeps_drop (dropping m.me k) r0 rs r t ds (Ok z) h.keeps h.roots.1 w;
+          latch = n.0 ∙ h.latched;
+          home = λ e. h.home (sym n.1 ∙ e);
+          map = λ i v. set_then m.key i m.value r0 rs r (h.map.0 i v) (same_dropped k (Ok z) w);
+          decided = elim h.map.1 [ inl d ↦ inl (subst (λ b. IsDecided c m.key b m.value (es ++ ds)) (sym n.1) (decided_more c m.key (own_word rs.own (Home c)) m.value es ds d)) | inr d ↦ inr d ];
+          ended = inl (cleared_so k z w h.roots);
+          keys = h.keys;
+          search = search_more m.me c m.key h.keys tr t h.search;
+          left = nobody;
+          dying = All-nil (λ (x : Visit). Contains r.dying x.block);
+          bound = let y = within_more (settled_steps g + 2 + 2 * h.keys + tear_steps (frees es + length h.left)) (9 + 164 * frees ds) tr t h.bound w.bound in omega arith;
+        },
+        λ y. same_more r0 rs r (h.still y) (same_dropped k (Ok z) w),
+      )
   dropped_so k (Some f) (Ok z) h w =
       let n = else_dropped k (Ok z) w in
       let quiet = frees_append es ds in
@@ -392,20 +401,22 @@ module _ (m : PutRootState) (r0 rs r : Memo) (tr t : Trail) (es ds : List Event)
   dropped_so k None (Err e) h (vs, w) =
       let n = else_dropped k (Err e) (vs, w) in
       let quiet = frees_append es ds in
-      let alone : length h.left ≡ 0 = ap length h.alone in
-      record {
-        keeps = keeps_drop (dropping m.me k) r0 rs r t ds (Err e) h.keeps h.roots.1 (vs, w);
-        latch = n.0 ∙ h.latched;
-        home = λ e. h.home (sym n.1 ∙ e);
-        map = λ i v. set_then m.key i m.value r0 rs r (h.map.0 i v) (same_dropped k (Err e) (vs, w));
-        decided = elim h.map.1 [ inl d ↦ inl (subst (λ b. IsDecided c m.key b m.value (es ++ ds)) (sym n.1) (decided_more c m.key (own_word rs.own (Home c)) m.value es ds d)) | inr d ↦ inr d ];
-        ended = ended_so k (Err e) (vs, w) h.roots;
-        keys = h.keys;
-        search = search_more m.me c m.key h.keys tr t h.search;
-        left = vs;
-        dying = w.stopped.left;
-        bound = let y = within_more (settled_steps g + 2 + 2 * h.keys + tear_steps (frees es + length h.left)) (9 + 164 * (frees ds + length vs)) tr t h.bound w.bound in omega arith;
-      }
+      let alone : length h.left ≡ 0 = ap length h.alone in (
+        record {
+          keeps = keeps_drop (dropping m.me k) r0 rs r t ds (Err e) h.keeps h.roots.1 (vs, w);
+          latch = n.0 ∙ h.latched;
+          home = λ e. h.home (sym n.1 ∙ e);
+          map = λ i v. set_then m.key i m.value r0 rs r (h.map.0 i v) (same_dropped k (Err e) (vs, w));
+          decided = elim h.map.1 [ inl d ↦ inl (subst (λ b. IsDecided c m.key b m.value (es ++ ds)) (sym n.1) (decided_more c m.key (own_word rs.own (Home c)) m.value es ds d)) | inr d ↦ inr d ];
+          ended = ended_so k (Err e) (vs, w) h.roots;
+          keys = h.keys;
+          search = search_more m.me c m.key h.keys tr t h.search;
+          left = vs;
+          dying = w.stopped.left;
+          bound = let y = within_more (settled_steps g + 2 + 2 * h.keys + tear_steps (frees es + length h.left)) (9 + 164 * (frees ds + length vs)) tr t h.bound w.bound in omega arith;
+        },
+        λ y. same_more r0 rs r (h.still y) (same_dropped k (Err e) (vs, w)),
+      )
   dropped_so k (Some f) (Err e) h (vs, w) =
       let n = else_dropped k (Err e) (vs, w) in
       let quiet = frees_append es ds in

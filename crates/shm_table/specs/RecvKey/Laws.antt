@@ -143,9 +143,9 @@ opens m Put r0 r tr es (may, h) =
         refl,
       );
     }
-opens m Take r0 r tr es (none, p, h) =
+opens m Take r0 r tr es (none, p, h, still) =
     record { made = refl; first = refl; start = refl; knows = take_head_begin m.me m.from m.at m.block r (may_take m.me m.from m.at m.block m.root r0 r m.key p.may p.source.place p.low h) }
-opens m Drop r0 r tr es (p, item) =
+opens m Drop r0 r tr es (p, item, still) =
     let b = p.may.command in
     let idle = item_idle m.me m.from m.at m.block r0 r es m.refused item in
     record { made = refl; first = refl; start = refl; knows = (record { geometry = b.geometry; who = b.who; here = idle_here m.me.who r idle; idle = idle.op }, p.low, refl, refl, refl) }
@@ -207,8 +207,8 @@ module _ (m : RecvState) (r0 rs r : Memo) (tr t : Trail) (es ds : List Event) (h
           (may, subst (λ i. IsHeadRooted m.me s i (b % address_limit) v n r0 r t ds) at (subst (λ d. IsHeadRooted m.me s k d v n r0 r t ds) is w))
 
   -- the key has the value block
-  put_in : (z : Bool) → RecvKnows (record m { point = Put }) Put r0 rs tr es → PutRootDone m.me m.key m.block rs r t ds → RecvKnows (record m { decided = z; refused = None; point = Take }) Take r0 r (tr ++ t) (es ++ ds)
-  put_in z (may, h) w =
+  put_in : (z : Bool) → RecvKnows (record m { point = Put }) Put r0 rs tr es → PutRootDone m.me m.key m.block rs r t ds × (z ≡ false → SameMap rs r) → RecvKnows (record m { decided = z; refused = None; point = Take }) Take r0 r (tr ++ t) (es ++ ds)
+  put_in z (may, h) (w, still) =
       let quiet = frees_append es ds in
       let none : frees es ≡ 0 = ap frees h.events in
       let b = within_more fetch_head_steps (put_root_steps g + 2 * w.keys + tear_steps (frees ds + length w.left)) tr t h.bound w.bound in (
@@ -243,6 +243,7 @@ module _ (m : RecvState) (r0 rs r : Memo) (tr t : Trail) (es ds : List Event) (h
           some = h.source.some;
           known = w.keeps.slots (spot.Slot s c (m.at % 8)) m.block refl h.known;
         },
+        λ e. same_more r0 rs r h.map (still e),
       )
 
   -- or it was refused it, and the queue is as before
@@ -268,6 +269,7 @@ module _ (m : RecvState) (r0 rs r : Memo) (tr t : Trail) (es ds : List Event) (h
           bound = omega arith;
         },
         keeps_more c r0 rs r h.keeps w.keeps,
+        λ e. same_more r0 rs r h.map w.map,
       )
 
   -- where roots, latch, home and map are as they were all stays that is settled
@@ -305,11 +307,16 @@ module _ (m : RecvState) (r0 rs r : Memo) (tr t : Trail) (es ds : List Event) (h
 
   -- the head is taken, or the item stays in the queue
   took : (a : Result (Unit {0}) EraSpent) → RecvKnows (record m { point = Take }) Take r0 rs tr es → TakeHeadLeaves (taking_head m.me s m.at m.block) rs r t ds a → RecvKnows (record m { point = Drop }) Drop r0 r (tr ++ t) (es ++ ds)
-  took a (none, p, h) w =
-      subst
+  took a (none, p, h, still) w =
+      let so = subst
       (λ (f : Option PutFault). IsPutIn m.me s m.key m.at m.block m.number m.root (put_in_steps g + take_head_steps) f r0 r (tr ++ t) (es ++ ds) × ItemSo m.me s m.at m.block r0 r (es ++ ds) f) (sym none)
-      (go a w)
+      (go a w) in
+      (so.0, so.1, λ e. same_more r0 rs r (still e) (stays a w))
     where
+      stays : (a : Result (Unit {0}) EraSpent) → TakeHeadLeaves (taking_head m.me s m.at m.block) rs r t ds a → SameMap rs r
+      stays (Ok done) w = same_part rs r w.rests.part
+      stays (Err e) w = same_part rs r (rests_untouched c rs r w.untouched).part
+
       go : (a : Result (Unit {0}) EraSpent) → TakeHeadLeaves (taking_head m.me s m.at m.block) rs r t ds a
           → IsPutIn m.me s m.key m.at m.block m.number m.root (put_in_steps g + take_head_steps) None r0 r (tr ++ t) (es ++ ds) × ItemSo m.me s m.at m.block r0 r (es ++ ds) None
       go (Ok done) w =
@@ -484,7 +491,7 @@ module _ (fetches : PlanLaws fetch_head_parts fetch_head_plan) (takes : PlanLaws
       leads m Take r0 rs r tr t es ds (First (Second a)) held h w = took m r0 rs r tr t es ds held a h w
       leads m Put r0 rs r tr t es ds (Second (First (Ok z))) held h w = put_in m r0 rs r tr t es ds held z h w
       leads m Put r0 rs r tr t es ds (Second (First (Err f))) held h w = put_refused m r0 rs r tr t es ds held f h w
-      leads m Drop r0 rs r tr t es ds (Second (Second a)) held h w = dropped m r0 rs r tr t es ds held m.refused a h w
+      leads m Drop r0 rs r tr t es ds (Second (Second a)) held (p, item, still) w = dropped m r0 rs r tr t es ds held m.refused a (p, item) w
       leads m Fetch r0 rs r tr t es ds (First (Second b)) held h w = absurd w
       leads m Fetch r0 rs r tr t es ds (Second b) held h w = absurd w
       leads m Take r0 rs r tr t es ds (First (First b)) held h w = absurd w

@@ -2,7 +2,7 @@
 use Rattle.std.proofs.Common.{◌≡◌, ◌≢◌, ℕ, ◌+◌, ◌%◌, ◌^◌, ◌<◌, ◌≤◌, refl, sym, ap, ◌∙◌, subst, arith, Bool, true, false, List, [], ◌++◌, append-nil, inl, inr, length}
 use Rattle.std.specs.Prelude.{◌==◌, if◌then◌else◌, Some, None, Result, Ok, Err}
 use Rattle.std.specs.List.{All, Contains}
-use Rattle.std.proofs.lemmas.Bool.{cases_eq, eq-eqb, ne_eqb}
+use Rattle.std.proofs.lemmas.Bool.{cases_eq, eq-eqb, ne_eqb, true≢false}
 use Rattle.std.proofs.lemmas.List.Elements.{All-nil}
 use Rattle.shm_words.proofs.Placing.{total_small}
 use Rattle.shm_words.specs.Layout.{total_of, address_limit}
@@ -50,8 +50,8 @@ use Rattle.shm_table.specs.Find.Control.{word_ask}
 use Rattle.shm_table.specs.Find.Reads.{entry_latched, look_in}
 use Rattle.shm_table.specs.Replace.Control.{ReplaceAnswer, is_look, replace_call_at, replace_parts, replacing}
 use Rattle.shm_table.specs.Replace.{IsFallen, IsSeen, IsTorn, MayBegin, MayReplace, NotReplaced, Replaced, ReplaceKnows, ReplaceLeaves, changed_events, look_part, replace_plan}
-use Rattle.shm_table.specs.Staying.{Ended, Keeps}
-use Rattle.shm_table.specs.Staying.Laws.{keeps_more, keeps_untouched, raised_cause}
+use Rattle.shm_table.specs.Staying.{Ended, Keeps, SameMap}
+use Rattle.shm_table.specs.Staying.Laws.{keeps_more, keeps_untouched, raised_cause, same_map}
 use Rattle.shm_table.specs.Staying.Steps.{keeps_took}
 use Rattle.shm_table.specs.ValueReads.{ReadsMore, cause_read, idle_here, keeps_reads, reads_more_by}
 
@@ -191,8 +191,8 @@ module _ (me : Me) (b v old : ℕ) (r0 rs r : Memo) (tr t : Trail) (es ds : List
     look_other : n ≢ v → IsSeen me b v n r0 r × (es ++ ds ≡ []) × IsWithin 1 (tr ++ t)
     look_other other = (seen_of me b v n r0 r h.0 found held client other, silent, one)
 
-    look_same : n ≡ v → Replaced me v b r0 r (tr ++ t) (es ++ ds)
-    look_same e = kept me b v n r0 r h.0 found held client e (tr ++ t) (es ++ ds) silent one
+    look_same : n ≡ v → Replaced me v b r0 r (tr ++ t) (es ++ ds) × (false ≡ false → SameMap r0 r)
+    look_same e = (kept me b v n r0 r h.0 found held client e (tr ++ t) (es ++ ds) silent one, λ z. same_map r0 r (part me b v n r0 r h.0 found held client))
 
   -- ---- the change
 
@@ -320,9 +320,9 @@ replace_laws =
         (look_other m.me m.entry m.to m.before r0 rs r tr t es ds held agent n h g)
         (look_same m.me m.entry m.to m.before r0 rs r tr t es ds held agent n h g)
     leads m Change r0 rs r tr t es ds (Second (First (Ok true))) (seen, quiet, bound) g held agent = fell m.me m.entry m.to m.before r0 rs r tr t es ds held agent seen quiet bound g.did.0 g.did.1 g.bound
-    leads m Change r0 rs r tr t es ds (Second (First (Ok false))) (seen, quiet, bound) g held agent = lowered m.me m.entry m.to m.before r0 rs r tr t es ds held agent seen quiet bound g.did.0 g.did.1 g.bound
+    leads m Change r0 rs r tr t es ds (Second (First (Ok false))) (seen, quiet, bound) g held agent = (lowered m.me m.entry m.to m.before r0 rs r tr t es ds held agent seen quiet bound g.did.0 g.did.1 g.bound, λ z. absurd (true≢false z))
     leads m Change r0 rs r tr t es ds (Second (First (Err f))) (seen, quiet, bound) g held agent = refused m.me m.entry m.to m.before r0 rs r tr t es ds held agent seen quiet bound f g.did g.bound
-    leads m Tear r0 rs r tr t es ds (Second (Second a)) h g held agent = torn m.me m.entry m.to m.before r0 rs r tr t es ds held agent a h g
+    leads m Tear r0 rs r tr t es ds (Second (Second a)) h g held agent = (torn m.me m.entry m.to m.before r0 rs r tr t es ds held agent a h g, λ z. absurd (true≢false z))
     leads m Look r0 rs r tr t es ds (Second a) h g held agent = absurd g
     leads m Change r0 rs r tr t es ds (First n) h g held agent = absurd g
     leads m Change r0 rs r tr t es ds (Second (Second a)) h g held agent = absurd g

@@ -7,7 +7,8 @@ use Rattle.shm_graph.specs.declared.spot.Spot.TheVariants.{Tag}
 use Rattle.shm_graph.specs.Spots.{classes_in}
 use Rattle.shm_graph.proofs.Spots.Spotting.{is_below}
 use Rattle.shm_audit.specs.Images.{numbers}
-use Rattle.shm_audit.proofs.WordReading.{refs_dead, refs_live}
+use Rattle.shm_graph.proofs.Spots.WordsAt.{refs_dead}
+use Rattle.shm_audit.proofs.WordReading.{refs_live}
 use Rattle.shm_audit.proofs.words.block_refs.Goals as goal
 
 pub overflow_add-block : goal.overflow_add-block

@@ -4,7 +4,8 @@ use Rattle.shm_words.specs.declared.place.Place.TheVariants as place
 use Rattle.shm_words.specs.Layout.{bodies}
 use Rattle.shm_graph.specs.Spots.{classes_in}
 use Rattle.shm_audit.specs.Images.{numbers}
-use Rattle.shm_audit.proofs.WordReading.{block_page, block_place, page_class}
+use Rattle.shm_graph.proofs.Spots.WordsAt.{page_class}
+use Rattle.shm_audit.proofs.WordReading.{block_page, block_place}
 use Rattle.shm_audit.proofs.words.class_at.Goals as goal
 
 pub page-requires-clause-segment : goal.page-requires-clause-segment

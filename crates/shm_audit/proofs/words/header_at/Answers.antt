@@ -1,7 +1,7 @@
 use Rattle.std.proofs.Common.{sym, ap, ◌∙◌}
 use Rattle.shm_words.specs.Headers.{header_of}
 use Rattle.shm_audit.specs.Images.{numbers}
-use Rattle.shm_audit.proofs.WordReading.{head_word, no_head}
+use Rattle.shm_graph.proofs.Spots.WordsAt.{head_word, no_head}
 use Rattle.shm_audit.proofs.words.header_at.Goals as goal
 
 pub returns-in-Head : goal.returns-in-Head

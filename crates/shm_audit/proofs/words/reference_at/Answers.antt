@@ -4,7 +4,7 @@ use Rattle.shm_graph.specs.References.{words_of, references}
 use Rattle.shm_graph.proofs.Spots.Spotting.{body_block}
 use Rattle.shm_graph.proofs.Spots.Seeing.{see_at}
 use Rattle.shm_audit.specs.Images.{numbers}
-use Rattle.shm_audit.proofs.WordReading.{body_reference, body_plain, other_reference}
+use Rattle.shm_graph.proofs.Spots.WordsAt.{body_reference, body_plain, other_reference}
 use Rattle.shm_audit.proofs.words.reference_at.Goals as goal
 
 pub block_refs-requires-clause-is : goal.block_refs-requires-clause-is

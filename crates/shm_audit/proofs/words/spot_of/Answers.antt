@@ -1,6 +1,6 @@
 use Rattle.std.proofs.Common.{sym, ap, ◌∙◌}
 use Rattle.shm_words.specs.Layout.{address}
-use Rattle.shm_audit.proofs.WordReading.{body_after}
+use Rattle.shm_graph.proofs.Spots.WordsAt.{body_after}
 use Rattle.shm_audit.proofs.words.spot_of.Goals as goal
 
 pub block_spot-requires : goal.block_spot-requires

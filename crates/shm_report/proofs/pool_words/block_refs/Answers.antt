@@ -4,7 +4,8 @@ use Rattle.shm_words.specs.Headers.{header_of}
 use Rattle.shm_words.specs.Tags.{tag_of}
 use Rattle.shm_words.proofs.Placing.{total_most}
 use Rattle.shm_graph.proofs.Spots.Spotting.{block_within}
-use Rattle.shm_report.proofs.PoolReading.{refs_dead, refs_live, block_tag, has_tag}
+use Rattle.shm_graph.proofs.Spots.WordsAt.{refs_dead}
+use Rattle.shm_report.proofs.PoolReading.{refs_live, block_tag, has_tag}
 use Rattle.shm_report.proofs.pool_words.block_refs.Goals as goal
 
 pub overflow_add-block : goal.overflow_add-block

@@ -1,6 +1,6 @@
 use Rattle.std.proofs.Common.{sym, ap, ◌∙◌}
 use Rattle.shm_words.specs.Headers.{header_of}
-use Rattle.shm_report.proofs.PoolReading.{head_word, no_head}
+use Rattle.shm_graph.proofs.Spots.WordsAt.{head_word, no_head}
 use Rattle.shm_report.proofs.pool_words.header_at.Goals as goal
 
 pub returns-in-Head : goal.returns-in-Head

@@ -3,7 +3,8 @@ use Rattle.shm_graph.specs.Spots.{see}
 use Rattle.shm_graph.specs.References.{words_of}
 use Rattle.shm_graph.proofs.Spots.Spotting.{body_block}
 use Rattle.shm_graph.proofs.Spots.Seeing.{see_at}
-use Rattle.shm_report.proofs.PoolReading.{reference_word, body_reference, body_plain, other_reference}
+use Rattle.shm_graph.proofs.Spots.WordsAt.{body_reference, body_plain, other_reference}
+use Rattle.shm_report.proofs.PoolReading.{reference_word}
 use Rattle.shm_report.proofs.pool_words.reference_at.Goals as goal
 
 pub block_refs-requires-clause-is : goal.block_refs-requires-clause-is

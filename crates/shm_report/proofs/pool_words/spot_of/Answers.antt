@@ -1,7 +1,7 @@
 use Rattle.std.proofs.Common.{sym, ap, ◌∙◌}
 use Rattle.shm_words.specs.Layout.{is_in, address}
 use Rattle.shm_graph.specs.Spots.{spot_of, block_spot, classes_in}
-use Rattle.shm_report.proofs.PoolReading.{body_in, body_after, page_class}
+use Rattle.shm_graph.proofs.Spots.WordsAt.{body_in, body_after, page_class}
 use Rattle.shm_report.proofs.pool_words.spot_of.Goals as goal
 
 pub page-requires-clause-segment : goal.page-requires-clause-segment

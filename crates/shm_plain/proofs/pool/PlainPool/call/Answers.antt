@@ -1,7 +1,9 @@
-use Rattle.std.proofs.Common.{◌≡◌, ℕ, ◌<◌, false, ap, sym, subst}
+use Rattle.std.proofs.Common.{◌≡◌, ℕ, ◌<◌, false, ap, ◌∙◌, sym, subst}
+use Rattle.std.proofs.lemmas.Bool.{true≢false}
 use Rattle.shm_graph.specs.declared.ask.Life.{Life}
 use Rattle.shm_graph.specs.Laws.{is_died}
-use Rattle.shm_plain.specs.Pools.{Pool}
+use Rattle.shm_graph.specs.Whole.{fits_now}
+use Rattle.shm_plain.specs.Pools.{Pool, memo_of, readied}
 use Rattle.shm_plain.specs.Calls.{Ran, Took}
 use Rattle.shm_plain.proofs.Calling.{answered_is, died_ran, died_took, lives, went_first, went_gives, went_on, went_ran, went_took}
 use Rattle.shm_plain.proofs.OwnTurns.{called_did}
@@ -35,6 +37,9 @@ returns-in-Done-clause-gives g c r0 fit =
     went_gives M.control M.fits M.gives c.args.who c.args.self.now c.args.m.now c.args.life.now.left l.self l.m l.life.left l.invariant.1 c.step.new.self turn.1 c.step.ensures.run c.step.new.m (c.step.ensures.fits some) c.in-Done.answer
     (answered_is _ c.step.result c.in-Done.answer turn.3 c.in-Done.is) r0 fit
 
+pub returns-in-Done-clause-cut : goal.returns-in-Done-clause-cut
+returns-in-Done-clause-cut g c none = absurd (true≢false none)
+
 pub returns-in-Done-clause-ran : goal.returns-in-Done-clause-ran
 returns-in-Done-clause-ran g c =
     let M = g.M.Machine in
@@ -65,6 +70,18 @@ returns-in-Done-clause-events g c some fresh does tells =
 -- where no word step was left
 left_none : (g : Over) (c : In-Died g) → c.loop-answer.life.left ≡ 0
 left_none g c = c.step.ensures.died.0 (ap is_died c.in-Died.is)
+
+-- it is where the steps have led it, and fits there
+pub returns-in-Died-clause-cut : goal.returns-in-Died-clause-cut
+returns-in-Died-clause-cut g c none =
+    let M = g.M.Machine in
+    let l = c.loop-answer in
+    let same = c.step.ensures.stays (ap is_died c.in-Died.is) in
+    let went = l.invariant.1 in (
+      ap (λ z. M.control.finished z) same.1 ∙ went.of.2,
+      λ r0 fit. subst (λ z. fits_now M.control M.fits z r0 (memo_of (readied c.step.new.self c.args.who) c.args.who)) (sym same.1)
+          (subst (λ (q : Pool). fits_now M.control M.fits l.m r0 (memo_of (readied q c.args.who) c.args.who)) (sym same.0) (went.forth r0 fit)),
+    )
 
 pub returns-in-Died-clause-ran : goal.returns-in-Died-clause-ran
 returns-in-Died-clause-ran g c =

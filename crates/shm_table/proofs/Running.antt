@@ -1,0 +1,10 @@
+-- what the own map of an identity is while its machines over tables are running
+pub mod Steps
+pub mod Still
+pub mod Reading
+pub mod Fetching
+pub mod Entries
+pub mod Entering
+pub mod Roots
+pub mod Puts
+pub mod Commands

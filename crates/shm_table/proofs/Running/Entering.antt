@@ -1,0 +1,117 @@
+-- a new entry: while its machine runs the own map is what it was, until the bucket names the entry, and from then on the key has its value block
+use Rattle.std.proofs.Common.{◌≡◌, ◌≢◌, ℕ, ◌%◌, ◌<◌, refl, sym, ap, ◌∙◌, subst, arith, Bool, true, false, cond, eqb, List, Some}
+use Rattle.shm_graph.specs.declared.ask.Me.{Me}
+use Rattle.shm_graph.specs.declared.memo.Memo.{Memo}
+use Rattle.shm_graph.specs.declared.spot.Spot.TheVariants.{Body, Home}
+use Rattle.shm_graph.specs.Asks.{Trail}
+use Rattle.shm_graph.specs.Events.{Event}
+use Rattle.shm_graph.specs.Tells.{after_all}
+use Rattle.shm_graph.specs.Views.{own_word}
+use Rattle.shm_calls.specs.declared.or.Or.TheVariants.{First, Second}
+use Rattle.shm_calls.specs.CallsFit.{CallsFits}
+use Rattle.shm_steps.specs.Beginning.{IsOwnWord}
+use Rattle.shm_steps.specs.Reparting.{IsKnown, IsValue, TableStep, sight}
+use Rattle.shm_steps.specs.Reparting.TableStep.{Links, Prepares}
+use Rattle.shm_count.specs.declared.point.Aim.TheVariants as aims
+use Rattle.shm_count.specs.Step.Exchanged.{step_exchanged}
+use Rattle.shm_count.specs.Step.Parts.{part_after}
+use Rattle.shm_table.specs.declared.enter.EnterPoint.{EnterPoint}
+use Rattle.shm_table.specs.declared.enter.EnterPoint.TheVariants as entering
+use Rattle.shm_table.specs.declared.enter.EnterState.{EnterState}
+use Rattle.shm_table.specs.Effects.{enter_at, enter_decided}
+use Rattle.shm_table.specs.Enter.Control.{EnterCall, enter_call_at, enter_parts, enter_to}
+use Rattle.shm_table.specs.Enter.{EnterKnows, IsMade, enter_part, enter_plan}
+use Rattle.shm_table.specs.Enter.Steps.{bucket_own, entry_own, first_apart, value_number}
+use Rattle.shm_table.specs.PutRoot.Control.{EnterCalls, enter_control}
+use Rattle.shm_table.specs.PutRoot.Steps.{same_more}
+use Rattle.shm_table.specs.Staying.{MapSet, SameMap}
+use Rattle.shm_table.specs.Staying.Laws.{same_map}
+use Rattle.shm_table.specs.Staying.Steps.{map_word}
+use Rattle.shm_table.proofs.DecidingEvents.{kept_along}
+use Rattle.shm_table.proofs.Running.Entries.{MapBy, aimed_part, by_part}
+use Rattle.shm_table.proofs.Running.Steps.{PartBy}
+use Rattle.shm_table.proofs.Running.Still.{alloc_still, same_now}
+
+-- ---- the count steps
+
+module _ (me : Me) (key v n home first k b next value : ℕ) (r0 rs r : Memo) (h : IsMade me key v n home first k b next value r0 rs) where
+  -- a word of the entry comes to name a block
+  filled : (z : Bool) (i x : ℕ) → i < 2 → x ≢ 0 → IsKnown (sight me.who rs) (Body b i) 0 → PartBy z me.who (Body b i) x rs r → SameMap r0 r
+  filled false i x low some known e = same_more r0 rs r h.map (same_map rs r e)
+  filled true i x low some known e =
+      let own : IsOwnWord me.who rs b i 0 = entry_own me rs h.holds h.may.who h.keeps.idle h.client key first k b next value h.vacant h.coming i 0 low known in
+      λ j. map_word me rs r b i 0 x h.holds h.may.who h.keeps.idle.op h.vacant.table own (λ e. some (sym e)) e (Prepares b i key refl h.coming.entry) j ∙ h.map j
+
+module _ (me : Me) (key v n home first k b : ℕ) (r0 rs r : Memo) (h : IsMade me key v n home first k b first v r0 rs) where
+  bucket : IsOwnWord me.who rs home (key % 16) first
+  bucket = subst (λ d. IsOwnWord me.who rs d (key % 16) first) h.directory (bucket_own me rs h.holds h.may.who h.keeps.idle h.client key first k b first v h.vacant h.coming)
+
+  -- the bucket comes to name the entry
+  linked : r.part ≡ part_after me.who (sight me.who rs) (Body home (key % 16)) b → (x : ℕ) → IsValue (sight me.who r0) v x → MapSet key x v r0 r
+  linked part x number j =
+      let at : Body home (key % 16) ≡ Body (own_word rs.own (Home me.who)) (key % 16) = ap (λ d. Body d (key % 16)) (sym h.directory) in
+      let step : TableStep me.who (sight me.who rs) (Body home (key % 16)) first b = Links key v x at h.coming.entry h.coming.next_is h.coming.value_is (value_number me key v n home first k b first v r0 rs h x number) in
+      map_word me rs r home (key % 16) first b h.holds h.may.who h.keeps.idle.op h.vacant.table bucket (first_apart me rs h.holds h.may.who h.keeps.idle h.client key first k b first v h.vacant h.coming) part step j
+      ∙ ap (cond (eqb key j) (Some (x, v))) (h.map j)
+
+-- ---- the machine
+
+-- the points at which a step up is called
+abbrev IsRaising : EnterPoint → Type 0
+IsRaising entering.Make = ⊥
+IsRaising entering.Change = ⊥
+IsRaising y = Unit {0}
+
+abbrev EnterCalled : EnterState → EnterPoint → EnterCall → Type 0
+EnterCalled m y (First a) = y ≡ entering.Make
+EnterCalled m y (Second (First s)) = IsRaising y × (s.me ≡ m.me) × (s.aim ≡ aims.Up (enter_to m y))
+EnterCalled m y (Second (Second s)) = (y ≡ entering.Change) × (s.me ≡ m.me) × (s.aim ≡ aims.Change m.first m.entry)
+
+enter_called : (m : EnterCalls) (t : Trail) → after_all enter_parts (enter_call_at m.plan m.plan.point) t ≡ m.call → EnterCalled m.plan m.plan.point m.call
+enter_called m t there = subst (EnterCalled m.plan m.plan.point) there (kept_along enter_parts (EnterCalled m.plan m.plan.point) (kept m.plan m.plan.point) (enter_call_at m.plan m.plan.point) t (start m.plan m.plan.point))
+  where
+    kept : (p : EnterState) (y : EnterPoint) (c : EnterCall) (n : ℕ) → EnterCalled p y c → EnterCalled p y (enter_parts.after c n)
+    kept p y (First a) n h = h
+    kept p y (Second (First s)) n h = h
+    kept p y (Second (Second s)) n h = h
+
+    start : (p : EnterState) (y : EnterPoint) → EnterCalled p y (enter_call_at p y)
+    start p entering.Make = refl
+    start p entering.Value = (tt, refl, refl)
+    start p entering.Next = (tt, refl, refl)
+    start p entering.Link = (tt, refl, refl)
+    start p entering.Change = (refl, refl, refl)
+
+-- what it does to the map
+abbrev pub EnterDoes : EnterState → Memo → Memo → Type 0
+EnterDoes m r0 r = (n : ℕ) → IsValue (sight m.me.who r0) m.value n → MapSet m.key n m.value r0 r
+
+pub enter_so : (m : EnterCalls) (r0 r : Memo) (tr : Trail) → enter_control.finished m ≡ false → CallsFits enter_parts enter_plan m r0 r tr → MapBy (enter_decided m) (EnterDoes m.plan r0 r) r0 r
+enter_so m r0 r tr going fit = go m.plan m.plan.point m.call r0 fit.rs r fit.before fit.t fit.es (enter_called m fit.t fit.there) going fit.knows fit.fits
+  where
+    go : (p : EnterState) (y : EnterPoint) (c : EnterCall) (r0 rs r : Memo) (before t : Trail) (es : List Event) → EnterCalled p y c → enter_parts.finished c ≡ false → EnterKnows p y r0 rs before es → (enter_part p y).fits c rs r t → MapBy (enter_at (record p { point = y }) c) (EnterDoes p r0 r) r0 r
+    go p entering.Make (First a) r0 rs r before t es at run h fit = same_more r0 rs r (same_now r0 rs h.1) (alloc_still a rs r t run fit)
+    go p entering.Value (Second (First s)) r0 rs r before t es (at, who, aim) run h fit =
+        let made = h.0.1 in
+        filled p.me p.key p.value h.0.0 p.home p.first p.root p.entry 0 0 r0 rs r made (step_exchanged s) 1 p.value (omega arith) made.may.some made.coming.value_is (aimed_part p.me (aims.Up p.value) p.entry 1 s rs r t who aim run fit.1)
+    go p entering.Next (Second (First s)) r0 rs r before t es (at, who, aim) run h fit =
+        let made = h.1.1 in
+        filled p.me p.key p.value h.1.0 p.home p.first p.root p.entry 0 p.value r0 rs r made (step_exchanged s) 0 p.first (omega arith) h.0 made.coming.next_is (aimed_part p.me (aims.Up p.first) p.entry 0 s rs r t who aim run fit.1)
+    go p entering.Link (Second (First s)) r0 rs r before t es (at, who, aim) run h fit =
+        let made : IsMade p.me p.key p.value h.1.0 p.home p.first p.root p.entry p.first p.value r0 rs = subst (λ x. IsMade p.me p.key p.value h.1.0 p.home p.first p.root p.entry x p.value r0 rs) (sym h.0) h.1.1 in
+        by_part (step_exchanged s) p.me.who (Body p.home (p.key % 16)) p.entry (EnterDoes p r0 r) r0 rs r made.map (linked p.me p.key p.value h.1.0 p.home p.first p.root p.entry r0 rs r made)
+        (aimed_part p.me (aims.Up p.entry) p.home (p.key % 16) s rs r t who aim run fit.1)
+    go p entering.Change (Second (Second s)) r0 rs r before t es (at, who, aim) run h fit =
+        let made = h.1.1 in
+        by_part (step_exchanged s) p.me.who (Body p.home (p.key % 16)) p.entry (EnterDoes p r0 r) r0 rs r made.map (linked p.me p.key p.value h.1.0 p.home p.first p.root p.entry r0 rs r made)
+        (aimed_part p.me (aims.Change p.first p.entry) p.home (p.key % 16) s rs r t who aim run fit.1)
+    go p entering.Value (First a) r0 rs r before t es at run h fit = cc
+    go p entering.Next (First a) r0 rs r before t es at run h fit = cc
+    go p entering.Link (First a) r0 rs r before t es at run h fit = cc
+    go p entering.Change (First a) r0 rs r before t es at run h fit = cc
+    go p entering.Make (Second (First s)) r0 rs r before t es (at, who, aim) run h fit = absurd at
+    go p entering.Change (Second (First s)) r0 rs r before t es (at, who, aim) run h fit = absurd at
+    go p entering.Make (Second (Second s)) r0 rs r before t es (at, who, aim) run h fit = cc
+    go p entering.Value (Second (Second s)) r0 rs r before t es (at, who, aim) run h fit = cc
+    go p entering.Next (Second (Second s)) r0 rs r before t es (at, who, aim) run h fit = cc
+    go p entering.Link (Second (Second s)) r0 rs r before t es (at, who, aim) run h fit = cc
