@@ -21,3 +21,4 @@ mod Telling
 mod Gathering
 mod WholeRun
 mod Starting
+mod Answering
