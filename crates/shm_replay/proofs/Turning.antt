@@ -32,11 +32,11 @@ use Rattle.shm_script.specs.declared.line.Line.{Line}
 use Rattle.shm_script.specs.declared.log.Answer.{Answer}
 use Rattle.shm_script.specs.declared.log.End.TheVariants as end
 use Rattle.shm_script.specs.declared.log.Entry.{Entry}
-use Rattle.shm_script.specs.Ranges.{LineFits, ScriptFits}
+use Rattle.shm_script.specs.Ranges.{LineFits}
 use Rattle.shm_script.specs.Values.{Scripted}
 use Rattle.shm_replay.specs.declared.agents.Standing.{Standing}
 use Rattle.shm_replay.specs.declared.agents.Standing.TheVariants.{AtWork, Gone}
-use Rattle.shm_replay.specs.Agents.{HasParted, IsFallen, IsFresh, IsMended, IsMending, IsPlaying, MayPlay, Playing, Stage, Stands, behind, one_agent}
+use Rattle.shm_replay.specs.Agents.{HasParted, IsFallen, IsFresh, IsMended, IsMending, IsPlaying, MayPlay, Playing, Stage, Stands, behind}
 use Rattle.shm_replay.specs.Agents as at
 use Rattle.shm_replay.specs.Work.{Work, WorkAnswer, WorkFits, WorkGives, joining as join_work, recovering, work_control}
 use Rattle.shm_replay.proofs.OwnEras.{own_most}
