@@ -7,20 +7,18 @@ use Rattle.shm_words.specs.declared.geometry.Geometry.{Geometry}
 use Rattle.shm_words.specs.Layout.{GeometryFits}
 use Rattle.shm_graph.specs.declared.ask.Life.{Life}
 use Rattle.shm_graph.specs.declared.ask.Me.{Me}
-use Rattle.shm_graph.specs.declared.memo.Agent.{Agent}
-use Rattle.shm_graph.specs.declared.memo.Fate.{Fate}
-use Rattle.shm_graph.specs.declared.memo.Fate.TheVariants.{Acts, Died, Ended}
 use Rattle.shm_graph.specs.declared.memo.Kind.TheVariants.{Client, Recoverer}
 use Rattle.shm_graph.specs.declared.memo.Memo.{Memo}
 use Rattle.shm_graph.specs.declared.memo.Step.{Step}
 use Rattle.shm_graph.specs.declared.run.Account.{Account}
 use Rattle.shm_graph.specs.declared.run.Start.{Start}
 use Rattle.shm_graph.specs.declared.spot.Spot.TheVariants.{Era}
-use Rattle.shm_graph.specs.Agents.{acts, acts_by, is_acting, last_agent, steps_made}
+use Rattle.shm_graph.specs.Agents.{acts, acts_by, last_agent, steps_made}
 use Rattle.shm_graph.specs.Laws.{Outcome, step_of}
-use Rattle.shm_graph.specs.Runs.{MayBegin, account_after, account_at, account_entered, changed, fell_by, first_account, is_dead}
+use Rattle.shm_graph.specs.Runs.{MayBegin, account_after, account_at, account_entered, changed, first_account}
 use Rattle.shm_graph.specs.Views.{own_word}
 use Rattle.shm_graph.specs.Whole.{fits_now, gives_now}
+use Rattle.shm_graph.proofs.Memos.MemoSteps.{last-append}
 use Rattle.shm_plain.specs.Pools.{Pool, IsOf, IsRun, MayStep, memo_of, readied, turn_on, turned}
 use Rattle.shm_plain.specs.Tracks.{kind_next}
 use Rattle.shm_plain.proofs.Calling.{may_acting}
@@ -43,24 +41,9 @@ use Rattle.shm_replay.proofs.OwnEras.{own_most}
 use Rattle.shm_replay.proofs.Joining as joining
 use Rattle.shm_replay.proofs.Mending as mending
 use Rattle.shm_replay.proofs.Playing as playing
+use Rattle.shm_replay.proofs.Standing.{fell_quiet}
 
--- ---- agents
-
-last-append : (xs : List Agent) (a : Agent) → last_agent (xs ++ a ∷ []) ≡ Some a
-last-append [] a = refl
-last-append (x ∷ []) a = refl
-last-append (x ∷ y ∷ xs) a = last-append (y ∷ xs) a
-
--- one that fell acts no more
-fell_acts : (o : Option Agent) → fell_by o ≡ true → acts_by o ≡ false
-fell_acts None f = refl
-fell_acts (Some a) f = go a.fate f
-  where
-    go : (z : Fate) → is_dead z ≡ true → is_acting z ≡ false
-    go Acts f = absurd (cc)
-    go Ended f = refl
-    go Died f = refl
-
+-- one that is at work isn't gone
 not_gone : (z : Standing) {A : Type 0} → z ≡ AtWork → z ≡ Gone → A
 not_gone z here gone = let e : AtWork ≡ Gone = sym here ∙ gone in absurd (cc)
 
@@ -90,7 +73,7 @@ module _ (p : Pool) (s : Scripted) (x : Playing) where
   acts_mending h = ap (λ xs. acts_by (last_agent xs)) h.agents ∙ ap acts_by (last-append h.before _)
 
   acts_fallen : IsFallen s x e → acts e.memo ≡ false
-  acts_fallen h = fell_acts (last_agent e.memo.agents) h.fell
+  acts_fallen h = fell_quiet (last_agent e.memo.agents) h.fell
 
   -- the account is what it was where an agent acts, and otherwise one has begun
   acting_ready : acts e.memo ≡ true → e1 ≡ e

@@ -1,23 +1,18 @@
 -- a turn of the agents that stand in a pool, by what a word step says
-use Rattle.std.proofs.Common.{◌≡◌, ◌≢◌, ℕ, suc, ◌+◌, ◌<◌, ◌≤◌, Bool, true, false, cond, List, [], ◌∷◌, ◌++◌, length, refl, sym, ap, ◌∙◌, subst, Result, arith}
+use Rattle.std.proofs.Common.{◌≡◌, ◌≢◌, ℕ, suc, ◌+◌, ◌<◌, ◌≤◌, true, false, List, [], ◌∷◌, ◌++◌, length, refl, sym, ap, ◌∙◌, subst, Result, arith}
 use Rattle.std.specs.Prelude.{Option, Some, None, Ok, drop, slice_get}
-use Rattle.std.proofs.lemmas.List.{get_or-set_other}
 use Rattle.std.proofs.lemmas.Option.{slice_get_within}
 use Rattle.shm_words.specs.declared.geometry.Geometry.{Geometry}
 use Rattle.shm_words.specs.Layout.{GeometryFits}
 use Rattle.shm_graph.specs.declared.ask.Life.{Life}
-use Rattle.shm_graph.specs.declared.ask.Me.{Me}
 use Rattle.shm_graph.specs.declared.ask.Turn.{Turn}
 use Rattle.shm_graph.specs.declared.ask.Turn.TheVariants.{More, Done}
 use Rattle.shm_graph.specs.declared.memo.Memo.{Memo}
 use Rattle.shm_graph.specs.declared.memo.Step.{Step}
-use Rattle.shm_graph.specs.declared.run.Account.{Account}
-use Rattle.shm_graph.specs.Agents.{acts}
 use Rattle.shm_graph.specs.Laws.{Outcome, is_died, turn_of}
-use Rattle.shm_graph.specs.Runs.{account_at, account_died, account_entered, changed}
+use Rattle.shm_graph.specs.Runs.{account_at}
 use Rattle.shm_graph.specs.Whole.{fits_now, gives_now}
 use Rattle.shm_plain.specs.Pools.{Pool, IsOf, IsRun, MayStep, after_fall, memo_of, readied, turn_on, turned}
-use Rattle.shm_plain.specs.Tracks.{kind_next}
 use Rattle.shm_plain.proofs.Calling.{answered_is, lives}
 use Rattle.shm_calls.specs.declared.or.Or.TheVariants.{First, Second}
 use Rattle.shm_count.specs.declared.answer.EraSpent.{EraSpent}
@@ -33,31 +28,9 @@ use Rattle.shm_replay.specs.Agents.{Playing, Stands, behind}
 use Rattle.shm_replay.specs.Seats.{turns_at, turns_by, turns_of}
 use Rattle.shm_replay.specs.Turns.{lives_of, worked}
 use Rattle.shm_replay.specs.Work.{Work, WorkAnswer, WorkFits, WorkGives, work_control}
+use Rattle.shm_replay.proofs.Standing.{worked_others}
 use Rattle.shm_replay.proofs.Turning as turning
 use Rattle.shm_replay.proofs.WorkLaws.{line_fits, may_stand}
-
--- ---- other identities
-
--- a word step of c changes no account but that of c
-step_others : (p : Pool) (c d : ℕ) (m : Work) → IsOf p c work_control m → d ≢ c → account_at (turned (readied p c) (turn_on (readied p c) work_control m)).accounts d ≡ account_at p.accounts d
-step_others p c d m of other =
-    let who : (work_control.me m).who ≡ c = ap (λ (z : Me). z.who) of.0 in
-    get_or-set_other (readied p c).accounts (turn_on (readied p c) work_control m).me.who d _ _ (λ e. other (e ∙ who)) ∙ ready (acts (memo_of p c))
-  where
-    es : List Account
-    es = changed (account_entered (kind_next (memo_of p c))) p.accounts c
-
-    ready : (b : Bool) → account_at (cond b p.accounts es) d ≡ account_at p.accounts d
-    ready true = refl
-    ready false = get_or-set_other p.accounts c d _ _ other
-
--- and so does a death
-pub fall_others : (p : Pool) (c d : ℕ) → d ≢ c → account_at (after_fall p c).accounts d ≡ account_at p.accounts d
-fall_others p c d other = go (acts (memo_of p c))
-  where
-    go : (b : Bool) → account_at (cond b (changed account_died p.accounts c) p.accounts) d ≡ account_at p.accounts d
-    go true = get_or-set_other p.accounts c d _ _ other
-    go false = refl
 
 -- ---- the turns that are left
 
@@ -110,6 +83,12 @@ module _ {p : Pool} {s : Scripted} {now x : Playing} (b : Before p s now x) wher
   -- what it needs
   pub step_of : IsOf p x.me.who work_control x.work
   step_of = turning.is_of p s x b.run stood.may here stood.stage
+
+  -- the accounts of others are what they were, after a word step and after a death
+  pub others : {z : Pool} → z ≡ worked (Some now.work) now.life.left now.me.who p → (d : ℕ) → d ≢ now.me.who → account_at z.accounts d ≡ account_at p.accounts d
+  others is d other =
+      ap (λ (z : Pool). account_at z.accounts d) is
+      ∙ worked_others p now.me.who d now.life.left now.work (subst (λ (y : Playing). IsOf p y.me.who work_control y.work) b.is step_of) other
 
   pub step_may : MayStep p x.me.who
   step_may = turning.may_step p s x b.run stood.may here stood.stage
@@ -175,11 +154,6 @@ module _ {p : Pool} {s : Scripted} {now x : Playing} (b : Before p s now x) wher
 
       pub start : q.start ≡ p.start
       start = ap (λ (z : Pool). z.start) turn.1
-
-      pub others : (d : ℕ) → d ≢ now.me.who → account_at q.accounts d ≡ account_at p.accounts d
-      others d o =
-          ap (λ (z : Pool). account_at z.accounts d) turn.1
-          ∙ step_others p x.me.who d x.work step_of (λ same. o (same ∙ ap (λ (z : Playing). z.me.who) b.is))
 
       pub turns : (y : Playing) → y.agent ≡ x.agent → y.life ≡ life → turns_by y (Some s) < turns_by now (Some s)
       turns y agent left =
@@ -280,7 +254,7 @@ module _ {p : Pool} {s : Scripted} {now x : Playing} (b : Before p s now x) wher
       pub dead_stands : Stands q.start s now (account_at q.accounts now.me.who)
       dead_stands = subst (λ (z : Pool). Stands z.start s now (account_at z.accounts now.me.who)) (sym same_pool) b.stands
 
-      -- the pool once it is dead
-      module _ (z : Pool) (fallen : z ≡ after_fall q now.me.who) where
-        pub others_dead : (d : ℕ) → d ≢ now.me.who → account_at z.accounts d ≡ account_at p.accounts d
-        others_dead d o = ap (λ (y : Pool). account_at y.accounts d) (fallen ∙ ap (λ (y : Pool). after_fall y now.me.who) same_pool) ∙ fall_others p now.me.who d o
+      pub dies : {z : Pool} → z ≡ after_fall q now.me.who → z ≡ worked (Some now.work) now.life.left now.me.who p
+      dies fallen =
+          let spent : now.life.left ≡ 0 = sym (ap (λ (y : Playing). y.life.left) b.is) ∙ a.died died in
+          fallen ∙ (ap (λ (y : Pool). after_fall y now.me.who) same_pool ∙ ap (λ (n : ℕ). worked (Some now.work) n now.me.who p) (sym spent))

@@ -160,7 +160,7 @@ pub returns-in-More-clause-others : goal.returns-in-More-clause-others
 returns-in-More-clause-others c =
     let b = turns.before c.geometry.ensures.run c.self.view_is c.requires.stands c.requires.here in
     let a = turns.after b c.step.ensures.died c.step.ensures.stays c.step.ensures.turn c.step.ensures.fits c.step.ensures.run in
-    turns.others b a (ap is_died c.in-More.is)
+    turns.others b (turns.works b a (ap is_died c.in-More.is))
 
 pub returns-in-Done-First-First-clause-worked : goal.returns-in-Done-First-First-clause-worked
 returns-in-Done-First-First-clause-worked c =
@@ -172,7 +172,7 @@ pub returns-in-Done-First-First-clause-others : goal.returns-in-Done-First-First
 returns-in-Done-First-First-clause-others c =
     let b = turns.before c.geometry.ensures.run c.self.view_is c.requires.stands c.requires.here in
     let a = turns.after b c.step.ensures.died c.step.ensures.stays c.step.ensures.turn c.step.ensures.fits c.step.ensures.run in
-    turns.others b a (ap is_died c.in-Done-First-First.is)
+    turns.others b (turns.works b a (ap is_died c.in-Done-First-First.is))
 
 pub returns-in-Done-First-Second-clause-worked : goal.returns-in-Done-First-Second-clause-worked
 returns-in-Done-First-Second-clause-worked c =
@@ -184,7 +184,7 @@ pub returns-in-Done-First-Second-clause-others : goal.returns-in-Done-First-Seco
 returns-in-Done-First-Second-clause-others c =
     let b = turns.before c.geometry.ensures.run c.self.view_is c.requires.stands c.requires.here in
     let a = turns.after b c.step.ensures.died c.step.ensures.stays c.step.ensures.turn c.step.ensures.fits c.step.ensures.run in
-    turns.others b a (ap is_died c.in-Done-First-Second.is)
+    turns.others b (turns.works b a (ap is_died c.in-Done-First-Second.is))
 
 pub returns-in-Done-Second-First-clause-worked : goal.returns-in-Done-Second-First-clause-worked
 returns-in-Done-Second-First-clause-worked c =
@@ -196,7 +196,7 @@ pub returns-in-Done-Second-First-clause-others : goal.returns-in-Done-Second-Fir
 returns-in-Done-Second-First-clause-others c =
     let b = turns.before c.geometry.ensures.run c.self.view_is c.requires.stands c.requires.here in
     let a = turns.after b c.step.ensures.died c.step.ensures.stays c.step.ensures.turn c.step.ensures.fits c.step.ensures.run in
-    turns.others b a (ap is_died c.in-Done-Second-First.is)
+    turns.others b (turns.works b a (ap is_died c.in-Done-Second-First.is))
 
 pub returns-in-Done-Second-Second-clause-worked : goal.returns-in-Done-Second-Second-clause-worked
 returns-in-Done-Second-Second-clause-worked c =
@@ -208,7 +208,7 @@ pub returns-in-Done-Second-Second-clause-others : goal.returns-in-Done-Second-Se
 returns-in-Done-Second-Second-clause-others c =
     let b = turns.before c.geometry.ensures.run c.self.view_is c.requires.stands c.requires.here in
     let a = turns.after b c.step.ensures.died c.step.ensures.stays c.step.ensures.turn c.step.ensures.fits c.step.ensures.run in
-    turns.others b a (ap is_died c.in-Done-Second-Second.is)
+    turns.others b (turns.works b a (ap is_died c.in-Done-Second-Second.is))
 
 -- ---- where it dies
 
@@ -216,4 +216,4 @@ pub returns-in-Died-clause-others : goal.returns-in-Died-clause-others
 returns-in-Died-clause-others c =
     let b = turns.before c.geometry.ensures.run c.self.view_is c.requires.stands c.requires.here in
     let a = turns.after b c.step.ensures.died c.step.ensures.stays c.step.ensures.turn c.step.ensures.fits c.step.ensures.run in
-    turns.others_dead b a (ap is_died c.in-Died.is) c.die.new.pool (c.die.ensures.fallen ∙ ap (λ (z : Playing). after_fall c.step.new.self z.me.who) c.self.view_is)
+    turns.others b (turns.dies b a (ap is_died c.in-Died.is) (c.die.ensures.fallen ∙ ap (λ (z : Playing). after_fall c.step.new.self z.me.who) c.self.view_is))
