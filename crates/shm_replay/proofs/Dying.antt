@@ -38,12 +38,12 @@ use Rattle.shm_script.specs.Text.{line_spelled}
 use Rattle.shm_script.specs.Values.{Scripted}
 use Rattle.shm_table.specs.Command.Maps.{MapSoFar}
 use Rattle.shm_table.specs.Command.{CommandCall, CommandFits, command_control, command_effect, command_of}
-use Rattle.shm_replay.specs.declared.agents.Standing.TheVariants.{AtWork, Dead}
-use Rattle.shm_replay.specs.Agents.{IsFallen, IsFold, IsMending, IsPlaying, IsSettled, Playing, behind, logged, one_agent, shown_by}
+use Rattle.shm_replay.specs.declared.agents.Standing.TheVariants.{AtWork}
+use Rattle.shm_replay.specs.Agents.{IsFallen, IsFold, IsMending, IsPlaying, IsSettled, Playing, behind, follows, logged, one_agent, shown_by}
 use Rattle.shm_replay.specs.Logs.{BeganWith, IsLogOf, Was, begun_first, effect_along, with_effect}
 use Rattle.shm_replay.specs.Logs.Was.{Between, InCommand, InLeaving}
 use Rattle.shm_replay.specs.Turns.{lives_of}
-use Rattle.shm_replay.specs.Work.{LeaveCalls, Work, WorkFits, commanding, leaving, recovering, work_control}
+use Rattle.shm_replay.specs.Work.{LeaveCalls, Work, WorkFits, commanding, leaving, work_control}
 use Rattle.shm_replay.proofs.Effects.{behind_none, behind_some, effect_line, fold_so_far, lines_so_far, none_shown, runs_first, runs_second, told_cut}
 use Rattle.shm_replay.proofs.Growing.{began_last, get_last, index_is, log_on, steps_of-end, sum_more, told_rest, with_last-end}
 use Rattle.shm_replay.proofs.Lines.{command_line}
@@ -56,11 +56,6 @@ CommandMaps = (me : Me) (l : Line) (start : Trail) (r0 r : Memo) (tr : Trail) �
 -- what is noted of a client that dies in its work: a command that shows its answer is an entry too
 abbrev pub settles : Line → Playing → Playing
 settles line x = record x { entries = with_effect x.entries line (shown_by x.work); end = Some (Died (length x.entries) (is_some (shown_by x.work))) }
-
--- the next agent comes, if there is one, with so many word steps
-abbrev pub follows : Option ℕ → Playing → Playing
-follows None x = record x { agent = x.agent + 1; standing = Dead }
-follows (Some n) x = record x { agent = x.agent + 1; work = recovering x.me; life = record { left = n } }
 
 -- so many agents have fallen once the last one has
 fallen_by : (s : Scripted) (y : Playing) (e : Account) → y.standing ≡ AtWork → IsSettled s y e (told_left true e) → length e.memo.agents ≡ y.agent + 1 → fell_by (last_agent e.memo.agents) ≡ true → steps_made e.memo ≡ sum (take (y.agent + 1) (lives_of s.life))
