@@ -11,6 +11,7 @@ pub mod Loose
 pub mod Growing
 pub mod Effects
 pub mod Dying
+pub mod Deaths
 pub mod Mending
 mod OwnEras
 mod Visiting

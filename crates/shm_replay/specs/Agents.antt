@@ -74,6 +74,11 @@ shown_by (First m) = None
 shown_by (Second (First m)) = command_effect m
 shown_by (Second (Second m)) = None
 
+-- one of them has died: the next one comes, if there is one with so many word steps, and recovers the identity
+abbrev pub follows : Option ℕ → Playing → Playing
+follows None x = record x { agent = x.agent + 1; standing = Dead }
+follows (Some n) x = record x { agent = x.agent + 1; work = recovering x.me; life = record { left = n } }
+
 -- what comes behind so many commands: the next one, and behind the last one the leaving
 abbrev pub behind : Me → List Line → ℕ → Work
 behind me [] k = leaving me

@@ -10,16 +10,18 @@ ghost use Rattle.shm_script.specs.declared.line.Line.{Line as ALine};
 ghost use Rattle.shm_script.specs.declared.log.End.TheVariants.{Died};
 ghost use Rattle.shm_script.specs.Ranges.{ScriptFits};
 ghost use Rattle.shm_table.specs.Command.{MayStand};
-ghost use Rattle.shm_replay.specs.Agents.{Stands, behind, is_client, logged, shown_by};
+ghost use Rattle.shm_replay.specs.Agents.{Stands, behind, follows, is_client, logged, shown_by};
 ghost use Rattle.shm_replay.specs.Logs.{with_effect};
 ghost use Rattle.shm_replay.specs.Seats.{turns_by};
 ghost use Rattle.shm_replay.specs.Turns.{lives_of, worked};
+ghost use Rattle.shm_replay.specs.Work as work;
 
 use crate::work::{Work, commanding, joining, leaving, recovering};
 use shm_calls::Or;
 use shm_graph::{Life, Me, Turn};
 use shm_plain::PlainPool;
 use shm_script::{Answer, End, Entry, Line, Log, Script};
+use shm_table::command_maps;
 use std::alloc::{AllocError, Global};
 use std::marker::Model;
 
@@ -180,18 +182,37 @@ impl Agents {
         ensures turns { turns_by self.new (Some script.now) < turns_by self.old (Some script.now) }
         ensures run { IsRun pool.new }
     {
+        command_maps();
         pool.fall(self.me.who);
         if self.end.is_none() {
             self.settle(script.lines.as_slice());
         }
+        self.follow(script.life.as_slice());
+    }
+
+    /// The next agent comes, if there is one.
+    fn follow(&mut self, life: &[u64])
+        requires geometry { GeometryFits self.old.me.geometry }
+        requires who { self.old.me.who < self.old.me.geometry.clients }
+        requires few { self.old.agent + 1 < 2 ^ 64 }
+        ensures { self.new ≡ follows (slice_get (lives_of life.now) (self.old.agent + 1)) self.old }
+    {
         self.agent += 1;
-        match life_at(script.life.as_slice(), self.agent) {
+        match life_at(life, self.agent) {
             None => self.standing = Standing::Dead,
-            Some(life) => {
-                self.life = Life::of(life);
-                self.work = recovering(self.me);
-            }
+            Some(left) => self.recover(left),
         }
+    }
+
+    /// It is a recoverer with so many word steps.
+    fn recover(&mut self, left: u64)
+        requires geometry { GeometryFits self.old.me.geometry }
+        requires who { self.old.me.who < self.old.me.geometry.clients }
+        ensures { self.new ≡ record self.old { work = work.recovering self.old.me; life = record { left = left } } }
+    {
+        let next = recovering(self.me);
+        self.life = Life::of(left);
+        self.work = next;
     }
 
     /// How the client ended that died: the command that it was in is noted where it had its effect.
