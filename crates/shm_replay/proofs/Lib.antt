@@ -16,7 +16,6 @@ pub mod Mending
 mod OwnEras
 mod Visiting
 mod Reviving
-mod Ends
 mod Giving
 mod Seating
 mod Telling

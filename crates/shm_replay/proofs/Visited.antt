@@ -23,6 +23,10 @@ pub some_map : (P Q : Unit {0} → Type 0) (o : Option (Unit {0})) → ((u : Uni
 some_map P Q None f h = tt
 some_map P Q (Some u) f h = f u h
 
+pub some_three : (P Q R S : Unit {0} → Type 0) (o : Option (Unit {0})) → ((u : Unit {0}) → P u → Q u → R u → S u) → IfSome o P → IfSome o Q → IfSome o R → IfSome o S
+some_three P Q R S None f h k g = tt
+some_three P Q R S (Some u) f h k g = f u h k g
+
 -- whether the last agent died is what the caller says
 pub may_fell : (b : Bool) (m : Memo) → MayVisit b m → fell_by (last_agent m.agents) ≡ b
 may_fell false m h = h.whole
