@@ -14,7 +14,7 @@ ghost use Rattle.cxlshm.specs.Words.{NamesReplay, job_of};
 use crate::refusals::fault_line;
 use crate::words::{Job, job_of};
 use shm_io::{ReadStop, Sink, Source, read_to_limit, write_all};
-use shm_replay::{ReplayStop, Replayed, replay};
+use shm_replay::{Replayed, replay};
 use shm_report::report;
 use shm_script::{ParseStop, Trace, parse, print};
 use std::alloc::{AllocError, Global};
@@ -23,8 +23,6 @@ use std::alloc::{AllocError, Global};
 const READ_LIMIT: usize = 1_048_577;
 
 const USAGE: &str = "usage: cxlshm replay [--print]\n";
-
-const NOT_YET: &str = "refused form\n";
 
 /// What a call of the program came to.
 #[derive(Drop)]
@@ -146,11 +144,7 @@ fn refusal(line: Vec<u8>) -> Reply
 fn report_of(alloc: Global, trace: &Trace) -> Result<Reply, AllocError>
     ensures { (bytes : List ℕ) → Spells bytes trace.now → IfOk result (λ r. Answers AJob.Report bytes r.status r.finished r.text.items) }
 {
-    let run = match replay(alloc, trace) {
-        Ok(run) => run,
-        Err(ReplayStop::NotYet { .. }) => return Ok(refusal(NOT_YET.as_bytes().to_vec(alloc)?)),
-        Err(ReplayStop::Memory(error)) => return Err(error),
-    };
+    let run = replay(alloc, trace)?;
     let text = report(
         alloc,
         run.closed.geometry(),

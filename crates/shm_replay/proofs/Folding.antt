@@ -44,7 +44,7 @@ use Rattle.shm_table.specs.SendKey.{IsSent, IsUnsent, SendKeyLeaves, send_key_st
 use Rattle.shm_queue.specs.declared.answer.SendFault.{SendFault}
 use Rattle.shm_queue.specs.declared.answer.SendFault.TheVariants as sendfault
 use Rattle.shm_table.specs.Staying.{Cleared, Ended, IsSpent, Keeps, MapCut, MapSet, SameMap}
-use Rattle.shm_replay.specs.Clients.{IsFold, IsReady}
+use Rattle.shm_replay.specs.Agents.{IsFold, IsReady}
 
 -- ---- folds
 

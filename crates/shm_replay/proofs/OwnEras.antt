@@ -12,5 +12,5 @@ pub own_most : (p : Pool) → IsRun p → (c : ℕ) → c < p.start.geometry.cli
 own_most p run c l = (memo_bounds p.start p.turns (state_of p) (first_was_held p.start p.turns (state_of p) run.held run.leads) run.leads c l).1
 
 -- so it never comes to where no step has room
-pub never_spent : (p : Pool) (c e : ℕ) → IsRun p → c < p.start.geometry.clients → p.start.first_era ≡ 1 → steps_made (memo_of p c) ≤ 2 ^ 41 → 2 ^ 47 - 4 < e → e ≤ own_word (memo_of p c).own (Era c c) → ⊥
+pub never_spent : (p : Pool) (c e : ℕ) → IsRun p → c < p.start.geometry.clients → p.start.first_era ≡ 1 → steps_made (memo_of p c) ≤ 2 ^ 43 → 2 ^ 47 - 4 < e → e ≤ own_word (memo_of p c).own (Era c c) → ⊥
 never_spent p c e run l era few spent most = let h = own_most p run c l in omega arith

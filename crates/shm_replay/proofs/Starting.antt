@@ -10,10 +10,9 @@ use Rattle.shm_graph.specs.Runs.{account_at, first_account}
 use Rattle.shm_graph.proofs.States.FirstHeld.{at-accounts_from}
 use Rattle.shm_count.specs.Roots.{member}
 use Rattle.shm_plain.specs.Pools.{Pool, first_pool}
-use Rattle.shm_script.specs.declared.line.Line.{Line}
-use Rattle.shm_script.specs.Ranges.{IsTrace, LineFits, ScriptFits}
+use Rattle.shm_script.specs.Ranges.{IsTrace, ScriptFits}
 use Rattle.shm_script.specs.Values.{Scripted, Traced}
-use Rattle.shm_replay.specs.Clients.{Playing, Stands}
+use Rattle.shm_replay.specs.Agents.{Playing, Stands}
 use Rattle.shm_replay.specs.Replays.{start_of}
 use Rattle.shm_replay.specs.Seats.{AreSeated, IsSeat, Seat}
 use Rattle.shm_replay.specs.Turns.{script_in}
@@ -31,22 +30,22 @@ script_client (r ∷ ss) c s e = go (eqb r.client c) refl (script_client ss c s)
     go true f later = ap (λ (x : Scripted). x.client) (sym (same_some r s (sym (cond-true (eqb r.client c) (Some r) (script_in ss c) f) ∙ e))) ∙ eqb-true r.client c f
     go false f later = later (sym (cond-false (eqb r.client c) (Some r) (script_in ss c) f) ∙ e)
 
--- what is said of a client that has been made
-abbrev pub NewStands : Me → ℕ → Playing → Type 0
-NewStands me commands x = (start : Start) (lines : List Line) → start.geometry ≡ me.geometry → start.first_era ≡ 1 → start.tables ≡ true → AllByRecursion (LineFits me.geometry.clients me.who) lines → length lines < 2 ^ 32 → length lines ≤ commands → Stands start lines x (first_account start me.who)
+-- what is said of agents that have been made for a script
+abbrev pub NewStands : Me → Scripted → Playing → Type 0
+NewStands me s x = (start : Start) → start.geometry ≡ me.geometry → start.first_era ≡ 1 → start.tables ≡ true → s.client ≡ me.who → ScriptFits me.geometry.clients s → Stands start s x (first_account start me.who)
 
 module _ (t : Traced) (trace : IsTrace t) (who : ℕ) (l : who < t.clients) where
   pub none_seat : script_in t.scripts who ≡ None → Seat t (first_pool (start_of t)) who None
   none_seat e = (e, account_first (start_of t) who l)
 
-  pub new_seat : (at : ℕ) (s : Scripted) (me : Me) (commands : ℕ) (x : Playing) → slice_get t.scripts at ≡ Some s → script_in t.scripts who ≡ Some s → me ≡ member (start_of t).geometry who → x.me ≡ me → x.script ≡ at → length s.lines ≤ commands → NewStands me commands x → IsSeat t (first_pool (start_of t)) who x
-  new_seat at s me commands x has is em xm xs room new =
+  pub new_seat : (at : ℕ) (s : Scripted) (me : Me) (x : Playing) → slice_get t.scripts at ≡ Some s → script_in t.scripts who ≡ Some s → me ≡ member (start_of t).geometry who → x.me ≡ me → x.script ≡ at → NewStands me s x → IsSeat t (first_pool (start_of t)) who x
+  new_seat at s me x has is em xm xs new =
       let fits : ScriptFits t.clients s = all_at (ScriptFits t.clients) t.scripts at s trace.scripts has in
-      let stands = subst (λ (m : Me). NewStands m commands x) em new (start_of t) s.lines refl refl refl (subst (λ (n : ℕ). AllByRecursion (LineFits t.clients n) s.lines) (script_client t.scripts who s is) fits.lines) fits.few room in
+      let stands = subst (λ (m : Me). NewStands m s x) em new (start_of t) refl refl refl (script_client t.scripts who s is) fits in
       record {
         me = xm ∙ em;
         script = s;
         is = is;
         at = ap (slice_get t.scripts) xs ∙ has;
-        stands = subst (Stands (start_of t) s.lines x) (sym (account_first (start_of t) who l)) stands;
+        stands = subst (Stands (start_of t) s x) (sym (account_first (start_of t) who l)) stands;
       }

@@ -110,7 +110,7 @@ module _ (p : Pool) (c : ℕ) (run : IsRun p) (l : c < p.start.geometry.clients)
       calls_begin leave_parts leave_plan leave_laws (leaving who) here refl refl
       (idle_may_leave who here (record { geometry = run.held.at.fits; who = l }) h.idle h.latch h.dying h.unsent h.untaken, refl, refl, refl, refl)
 
-  module _ (q : Pool) (start : q.start ≡ p.start) (now : IsRun q) (era : p.start.first_era ≡ 1) (few : steps_made (memo_of q c) ≤ 2 ^ 41) (tr : Trail) (es : List Event) where
+  module _ (q : Pool) (start : q.start ≡ p.start) (now : IsRun q) (era : p.start.first_era ≡ 1) (few : steps_made (memo_of q c) ≤ 2 ^ 43) (tr : Trail) (es : List Event) where
     abbrev r : Memo
     r = memo_of q c
 

@@ -5,6 +5,7 @@ use Rattle.std.specs.FinMap as finmap
 use Rattle.std.specs.Ordering.{nat_cmp}
 use Rattle.std.specs.List.{AllByRecursion}
 use Rattle.std.proofs.lemmas.Bool.{cond-false, cond-true, eq-eqb, ne_eqb, true≢false}
+use Rattle.shm_graph.specs.declared.ask.Me.{Me}
 use Rattle.shm_graph.specs.declared.memo.Memo.{Memo}
 use Rattle.shm_graph.specs.declared.run.Account.{Account}
 use Rattle.shm_graph.specs.declared.run.Start.{Start}
@@ -14,28 +15,30 @@ use Rattle.shm_graph.specs.declared.table.Part.{Part}
 use Rattle.shm_graph.specs.declared.table.Part.TheVariants.{Loose, Table}
 use Rattle.shm_graph.specs.Held.{PartTie, is_loose}
 use Rattle.shm_graph.specs.References.{references}
-use Rattle.shm_graph.specs.Runs.{account_at, first_account}
+use Rattle.shm_graph.specs.Runs.{account_at, first_account, told_left}
 use Rattle.shm_graph.specs.Spots.{see}
 use Rattle.shm_graph.specs.Tables.{Contents, IsPartition, contents_of, find, map_of}
 use Rattle.shm_graph.proofs.States.FirstHeld.{same_everywhere}
+use Rattle.shm_count.specs.Roots.{member}
 use Rattle.shm_steps.specs.Reparting.{chain_in, map_in}
 use Rattle.shm_plain.specs.Closings.{IsClosedRun}
 use Rattle.shm_plain.specs.Pools.{IsRun, Pool, first_pool, memo_of}
 use Rattle.shm_plain.proofs.StillTable.{still_part}
 use Rattle.shm_script.specs.Ranges.{AreApart, IsTrace, ScriptFits}
 use Rattle.shm_script.specs.Values.{Scripted, Traced}
-use Rattle.shm_replay.specs.Clients.{HasParted, Playing, Stands, logged}
-use Rattle.shm_replay.specs.Closings.{AreVisits}
+use Rattle.shm_replay.specs.Agents.{Playing, Stands, logged}
+use Rattle.shm_replay.specs.Closings.{AreVisits, HasTold, SameTable, is_dead, is_standing_dead}
 use Rattle.shm_replay.specs.Gathered.{logs_by}
-use Rattle.shm_replay.specs.Logs.{IsLog}
+use Rattle.shm_replay.specs.Logs.{IsLog, IsLogOf}
 use Rattle.shm_replay.specs.Orders.{IsGivenAll}
 use Rattle.shm_replay.specs.Replays.{IsReplay, fold_in, start_of}
 use Rattle.shm_replay.specs.Seats.{AreSeated, IsSeat, Seat}
-use Rattle.shm_replay.specs.Turns.{is_busy, script_in}
+use Rattle.shm_replay.specs.Turns.{script_in}
+use Rattle.shm_replay.proofs.Ending.{IsOver, is_over, over_fold, over_log, over_table, seat_rest}
+use Rattle.shm_replay.proofs.Firsts.{even_run}
 use Rattle.shm_replay.proofs.Gathering.{fold_none, fold_some, logs_are}
-use Rattle.shm_replay.proofs.Seating.{seat_busy}
-use Rattle.shm_replay.proofs.Standing.{stands_log, stands_parted}
-use Rattle.shm_replay.proofs.Telling.{visits_grow}
+use Rattle.shm_replay.proofs.Later.{led_stays, log_later, visits_led}
+use Rattle.shm_replay.proofs.Telling.{Grows, visits_grow}
 
 same_some : {A : Type 0} (a b : A) → ◌≡◌ {A = Option A} (Some a) (Some b) → a ≡ b
 same_some a b e = cc
@@ -58,24 +61,29 @@ table_by : (x : Contents) (c home : ℕ) (part : Part) → is_loose part ≡ fal
 table_by x c home Loose e h = absurd (true≢false e)
 table_by x c home (Table chains) e h = h
 
-module _ (t : Traced) (trace : IsTrace t) (q p : Pool) (xs : List (Option Playing)) (start : q.start ≡ start_of t) (same : p.start ≡ q.start) (given : IsGivenAll t (first_pool (start_of t)) q) (run : IsRun q) (seated : AreSeated t q xs) (visits : AreVisits 0 t.clients q p) (closed : IsClosedRun p) (parts : (c : ℕ) → c < t.clients → (memo_of p c).part ≡ (memo_of q c).part) where
-  -- a client that stands has left
-  gone : (c : ℕ) (x : Playing) → IsSeat t q c x → x.left ≡ true
-  gone c x h = go x.left (sym (seat_busy t q c x h) ∙ given.done c)
-    where
-      go : (b : Bool) → not b ≡ false → b ≡ true
-      go true f = refl
-      go false f = absurd (true≢false f)
+module _ (t : Traced) (trace : IsTrace t) (q p : Pool) (xs : List (Option Playing)) (start : q.start ≡ start_of t) (same : p.start ≡ q.start) (given : IsGivenAll t (first_pool (start_of t)) q) (run : IsRun q) (seated : AreSeated t q xs) (visits : AreVisits 0 t.clients q p) (closed : IsClosedRun p) (tables : (c : ℕ) → c < t.clients → SameTable (memo_of q c) (memo_of p c))
+    (told : (c : ℕ) → c < t.clients → is_dead (slice_index_or xs c None) ≡ true → HasTold (account_at q.accounts c) (account_at p.accounts c)) where
+  -- the agents of an identity with a script have nothing left to do
+  over : (c : ℕ) (x : Playing) (h : IsSeat t q c x) → IsOver h.script x (account_at q.accounts c)
+  over c x h = is_over q.start h.script x (account_at q.accounts c) h.stands.stage (seat_rest t q c x h (given.done c))
 
-  parted : (c : ℕ) (x : Playing) (h : IsSeat t q c x) → HasParted h.script.lines x (account_at q.accounts c)
-  parted c x h = stands_parted q.start h.script.lines x (account_at q.accounts c) h.stands (gone c x h)
+  -- all that was running of a dead agent is told in the end
+  grown : (c : ℕ) (x : Playing) → c < t.clients → slice_index_or xs c None ≡ Some x → Grows (told_left (is_standing_dead x.standing) (account_at q.accounts c)) (account_at p.accounts c).told
+  grown c x l at = go (is_standing_dead x.standing) refl
+    where
+      go : (b : Bool) → is_standing_dead x.standing ≡ b → Grows (told_left b (account_at q.accounts c)) (account_at p.accounts c).told
+      go true e = told c l (ap is_dead at ∙ e)
+      go false e = visits_grow 0 t.clients q p run visits c
 
   -- the client of a script, with its log
   client_of : (k : ℕ) (s : Scripted) → slice_get t.scripts k ≡ Some s → (x : Playing) × (slice_index_or xs s.client None ≡ Some x) × (x.me.who ≡ s.client) × IsLog p s (logged x)
-  client_of k s e = go (slice_index_or xs s.client None) refl (seated.seats s.client (all_at (ScriptFits t.clients) t.scripts k s trace.scripts e).client)
+  client_of k s e = go (slice_index_or xs s.client None) refl (seated.seats s.client few)
     where
       c : ℕ
       c = s.client
+
+      few : c < t.clients
+      few = (all_at (ScriptFits t.clients) t.scripts k s trace.scripts e).client
 
       is : script_in t.scripts c ≡ Some s
       is = script_at t.scripts k s trace.apart e
@@ -85,18 +93,22 @@ module _ (t : Traced) (trace : IsTrace t) (q p : Pool) (xs : List (Option Playin
       go (Some x) f h =
           let script : h.script ≡ s = same_some h.script s (sym h.is ∙ is) in
           let who : x.me.who ≡ c = ap (λ m. m.who) h.me in
-          let told = visits_grow 0 t.clients q p run visits c in
-          (x, f, who, stands_log q.start x (account_at q.accounts c) s p told.0 (subst (λ (r : Scripted). Stands q.start r.lines x (account_at q.accounts c)) script h.stands) (gone c x h) (ap (λ (z : Start). z.geometry) same) (sym who) told.1)
+          let mine : x.me ≡ member p.start.geometry c = h.me ∙ ap (λ (z : Start). member z.geometry c) (sym same) in
+          let e = account_at q.accounts c in
+          let f' = account_at p.accounts c in
+          let ends = subst (λ (r : Scripted). IsOver r x e) script (over c x h) in
+          let log = log_later e f' (even_run q run c) (led_stays q p c (visits_led 0 t.clients q p run visits)) x.me s (told_left (is_standing_dead x.standing) e) (logged x) (grown c x few f) (over_log s x e (sym who) ends) in
+          (x, f, who, subst (λ (m : Me). IsLogOf m s f'.memo.agents f'.begun f'.told (logged x)) mine log)
 
   have : (k : ℕ) (s : Scripted) → slice_get t.scripts k ≡ Some s → (x : Playing) × (slice_index_or xs s.client None ≡ Some x) × (x.me.who ≡ s.client)
   have k s e = let (x, at, who, log) = client_of k s e in (x, at, who)
 
-  tables : (c : ℕ) → c < t.clients → is_loose (memo_of q c).part ≡ false
-  tables c l = go (slice_index_or xs c None) (seated.seats c l)
+  parts : (c : ℕ) → c < t.clients → is_loose (memo_of q c).part ≡ false
+  parts c l = go (slice_index_or xs c None) (seated.seats c l)
     where
       go : (o : Option Playing) → Seat t q c o → is_loose (memo_of q c).part ≡ false
       go None h = ap (λ (a : Account). is_loose a.memo.part) h.1 ∙ ap (λ (z : Start). is_loose (first_account z c).memo.part) start
-      go (Some x) h = (parted c x h).table
+      go (Some x) h = over_table h.script x (account_at q.accounts c) (over c x h)
 
   folds : (c key : ℕ) → c < t.clients → map_in (memo_of q c).part key ≡ finmap.get (fold_in (logs_by t.scripts xs) c) key
   folds c key l = go (slice_index_or xs c None) refl (seated.seats c l)
@@ -107,7 +119,7 @@ module _ (t : Traced) (trace : IsTrace t) (q p : Pool) (xs : List (Option Playin
           ∙ (ap (λ (z : Start). map_in (first_account z c).memo.part key) start
           ∙ (ap (find key) (same_everywhere 16 (key % 16) [])
           ∙ sym (ap (λ m. finmap.get m key) (fold_none t.scripts xs c have h.0) ∙ finmap.get-empty nat_cmp key)))
-      go (Some x) f h = (parted c x h).fold key ∙ sym (ap (λ m. finmap.get m key) (fold_some t.scripts xs c h.script x have h.is f))
+      go (Some x) f h = over_fold h.script x (account_at q.accounts c) (over c x h) key ∙ sym (ap (λ m. finmap.get m key) (fold_some t.scripts xs c h.script x have h.is f))
 
   pub is_replay : IsReplay t p (logs_by t.scripts xs)
   is_replay =
@@ -121,8 +133,8 @@ module _ (t : Traced) (trace : IsTrace t) (q p : Pool) (xs : List (Option Playin
         table = λ c. chain_in (memo_of p c).part;
         is = λ c l.
             let few : c < t.clients = subst (λ n. c < n) (ap (λ (z : Start). z.geometry.clients) (same ∙ start)) l in
-            table_by _ c _ (memo_of p c).part (ap is_loose (parts c few) ∙ tables c few) (still_part p closed.run closed.still c l);
-        fold = λ c key l. ap (λ part. map_in part key) (parts c l) ∙ folds c key l;
+            table_by _ c _ (memo_of p c).part ((tables c few).loose ∙ parts c few) (still_part p closed.run closed.still c l);
+        fold = λ c key l. (tables c l).map key ∙ folds c key l;
       }
 
 -- no two scripts are of one client

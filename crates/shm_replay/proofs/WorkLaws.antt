@@ -10,10 +10,15 @@ use Rattle.shm_calls.specs.CallsControl.{calls_control}
 use Rattle.shm_calls.specs.CallsFit.{CallsFits, CallsGives}
 use Rattle.shm_calls.specs.CallsKeep.{calls_begin, calls_laws}
 use Rattle.shm_calls.specs.Either.{OrFits, OrGives, or_control, or_laws}
-use Rattle.shm_queue.specs.Drain.Control.{drain_parts}
-use Rattle.shm_queue.specs.Drain.{drain_plan}
-use Rattle.shm_queue.specs.Drain.Laws.{drain_laws}
-use Rattle.shm_queue.specs.Take.Laws.{take_laws}
+use Rattle.shm_ref.specs.DropRoots.Laws.{roots_laws}
+use Rattle.shm_recover.specs.FinishTakes.Laws.{finish_laws}
+use Rattle.shm_recover.specs.GiveUp.Laws.{give_laws}
+use Rattle.shm_recover.specs.Mend.Laws.{mend_laws}
+use Rattle.shm_recover.specs.Recover.Control.{recover_parts}
+use Rattle.shm_recover.specs.Recover.{recover_plan}
+use Rattle.shm_recover.specs.Recover.Laws.{recover_laws}
+use Rattle.shm_recover.specs.Scan.Laws.{scan_laws}
+use Rattle.shm_recover.specs.TakeBack.Laws.{back_laws}
 use Rattle.shm_recover.specs.Join.{JoinFits, JoinGives, join_control}
 use Rattle.shm_recover.specs.Join.Keeps.{join_laws}
 use Rattle.shm_recover.specs.Leave.Control.{leave_parts, leaving as leave_state}
@@ -57,7 +62,7 @@ use Rattle.shm_table.specs.SendKey.Laws.{send_key_begin, send_key_laws}
 use Rattle.shm_table.specs.TakeHead.Laws.{take_head_laws}
 use Rattle.shm_calls.specs.Plans.{PlanLaws}
 use Rattle.shm_script.specs.declared.log.Entry.{Entry}
-use Rattle.shm_replay.specs.Clients.{IsReady, behind}
+use Rattle.shm_replay.specs.Agents.{IsReady, behind}
 use Rattle.shm_replay.specs.Work.{WorkFits, WorkGives, commanding, leaving, work_control}
 
 -- ---- the laws
@@ -68,12 +73,15 @@ puts = put_root_laws open_laws locate_laws replace_laws enter_laws
 commands : Laws command_control CommandFits CommandGives
 commands = command_laws (put_laws puts) (copy_laws fetch_laws puts) del_laws get_laws send_key_laws (recv_laws fetch_head_laws take_head_laws puts)
 
+pub recoveries : PlanLaws recover_parts recover_plan
+recoveries = recover_laws mend_laws roots_laws back_laws finish_laws scan_laws give_laws
+
 pub work_laws : Laws work_control WorkFits WorkGives
 work_laws =
-    or_laws (or_control join_control (calls_control drain_parts drain_plan)) (or_control command_control (calls_control leave_parts leave_plan))
-    (OrFits JoinFits (CallsFits drain_parts drain_plan)) (OrGives JoinGives (CallsGives drain_parts drain_plan))
+    or_laws (or_control join_control (calls_control recover_parts recover_plan)) (or_control command_control (calls_control leave_parts leave_plan))
+    (OrFits JoinFits (CallsFits recover_parts recover_plan)) (OrGives JoinGives (CallsGives recover_parts recover_plan))
     (OrFits CommandFits (CallsFits leave_parts leave_plan)) (OrGives CommandGives (CallsGives leave_parts leave_plan))
-    (or_laws join_control (calls_control drain_parts drain_plan) JoinFits JoinGives (CallsFits drain_parts drain_plan) (CallsGives drain_parts drain_plan) join_laws (calls_laws drain_parts drain_plan (drain_laws take_laws)))
+    (or_laws join_control (calls_control recover_parts recover_plan) JoinFits JoinGives (CallsFits recover_parts recover_plan) (CallsGives recover_parts recover_plan) join_laws (calls_laws recover_parts recover_plan recoveries))
     (or_laws command_control (calls_control leave_parts leave_plan) CommandFits CommandGives (CallsFits leave_parts leave_plan) (CallsGives leave_parts leave_plan) commands (calls_laws leave_parts leave_plan leave_laws))
 
 -- ---- what comes behind commands, before its first word step

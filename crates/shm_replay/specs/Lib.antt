@@ -3,8 +3,7 @@ pub mod Turns
 pub mod Orders
 pub mod Closings
 pub mod Logs
-pub mod Clients
+pub mod Agents
 pub mod Seats
 pub mod Gathered
 pub mod Replays
-pub mod Stops

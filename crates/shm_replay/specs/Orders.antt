@@ -3,15 +3,15 @@ use Rattle.std.specs.Prelude.{◌≡◌, ◌≢◌, ℕ, zero, suc, ◌+◌, ◌
 use Rattle.shm_plain.specs.Pools.{Pool}
 use Rattle.shm_script.specs.declared.line.Item.{Item}
 use Rattle.shm_script.specs.Values.{Traced}
-use Rattle.shm_replay.specs.Turns.{answered, given, in_a_row, is_busy}
+use Rattle.shm_replay.specs.Turns.{answered, given, in_a_row, is_busy, is_client_busy}
 
--- n turns of c in a row from the pool p are those of an item without a number: none before the last one ended with another number of answers or with nothing left to do, the last one did, or they are 100,000
+-- n turns of c in a row from the pool p are those of an item without a number: before each of them the client was at work, and no more of its commands had answered; after them one more had, or the client had ended or died, or they are 100,000
 pub record IsUntilAnswered (t : Traced) (p : Pool) (c n : ℕ) : Type 0 where
   pub few : n ≤ 100000
-  pub going : (m : ℕ) → m < n → (answered t (in_a_row t p c m) c ≡ answered t p c) × (is_busy t (in_a_row t p c m) c ≡ true)
-  pub last : (n ≡ 100000) ⊎ ((answered t (in_a_row t p c n) c ≢ answered t p c) ⊎ (is_busy t (in_a_row t p c n) c ≡ false))
+  pub going : (m : ℕ) → m < n → (answered t (in_a_row t p c m) c ≡ answered t p c) × (is_client_busy t (in_a_row t p c m) c ≡ true)
+  pub last : (n ≡ 100000) ⊎ ((answered t (in_a_row t p c n) c ≡ answered t p c + 1) ⊎ (is_client_busy t (in_a_row t p c n) c ≡ false))
 
--- so many turns the item gives to its identity in the pool p: as many as it says, or until one more command has answered
+-- so many turns the item gives to its identity in the pool p: as many as it says, or until one more command of its client has answered
 pub record IsGiven (t : Traced) (p : Pool) (i : Item) (n : ℕ) : Type 0 where
   pub counted : i.turns ≢ 0 → n ≡ i.turns
   pub bare : i.turns ≡ 0 → IsUntilAnswered t p i.client n
@@ -31,7 +31,7 @@ abbrev pub rounds_of : ℕ → ℕ → List ℕ
 rounds_of clients zero = []
 rounds_of clients (suc n) = from_on 0 clients ++ rounds_of clients n
 
--- The pool q comes from p by the turns of the trace: those of its items, and then rounds until no client has anything to do
+-- The pool q comes from p by the turns of the trace: those of its items, and then rounds until no agent has anything to do
 pub record IsGivenAll (t : Traced) (p q : Pool) : Type 0 where
   pub items : List ℕ
   pub ordered : AreOfItems t p t.order items

@@ -1,4 +1,4 @@
--- the replay of a trace without life lines
+-- the replay of a trace
 use Rattle.std.specs.Prelude.{◌≡◌, ◌≢◌, ℕ, ◌<◌, ◌^◌, ◌≤◌, ◌⊎◌, ◌==◌, if◌then◌else◌, true, Option, Some, None, List, [], ◌∷◌}
 use Rattle.std.specs.FinMap as finmap
 use Rattle.shm_graph.specs.declared.run.Start.{Start}

@@ -1,36 +1,52 @@
--- the clients of a trace's scripts, by the numbers of their identities
-use Rattle.std.specs.Prelude.{◌≡◌, ℕ, ◌+◌, ◌<◌, Option, Some, None, List, [], ◌∷◌, length, slice_get, slice_index_or}
+-- the agents of a trace's scripts, by the numbers of their identities
+use Rattle.std.specs.Prelude.{◌≡◌, ℕ, ◌+◌, ◌<◌, Option, Some, None, List, [], ◌∷◌, drop, length, slice_get, slice_index_or}
 use Rattle.shm_graph.specs.Runs.{account_at, first_account}
 use Rattle.shm_count.specs.Roots.{member}
 use Rattle.shm_plain.specs.Pools.{Pool}
 use Rattle.shm_script.specs.Values.{Scripted, Traced}
-use Rattle.shm_replay.specs.Clients.{Playing, Stands}
-use Rattle.shm_replay.specs.Turns.{script_in}
+use Rattle.shm_replay.specs.declared.agents.Standing.{Standing}
+use Rattle.shm_replay.specs.declared.agents.Standing.TheVariants.{AtWork, Gone, Dead}
+use Rattle.shm_replay.specs.Agents.{Playing, Stands}
+use Rattle.shm_replay.specs.Turns.{lives_of, script_in}
 
--- x is the client of c, which has a script, and stands in the pool
+-- x are the agents of c, which has a script, and stand in the pool
 pub record IsSeat (t : Traced) (p : Pool) (c : ℕ) (x : Playing) : Type 0 where
   pub me : x.me ≡ member p.start.geometry c
   pub script : Scripted
   pub is : script_in t.scripts c ≡ Some script
   pub at : slice_get t.scripts x.script ≡ Some script
-  pub stands : Stands p.start script.lines x (account_at p.accounts c)
+  pub stands : Stands p.start script x (account_at p.accounts c)
 
 -- none where c has no script: then it has made no step
 abbrev pub Seat : Traced → Pool → ℕ → Option Playing → Type 0
 Seat t p c None = (script_in t.scripts c ≡ None) × (account_at p.accounts c ≡ first_account p.start c)
 Seat t p c (Some x) = IsSeat t p c x
 
--- the clients of all identities, by number
+-- the agents of all identities, by number
 pub record AreSeated (t : Traced) (p : Pool) (xs : List (Option Playing)) : Type 0 where
   pub clients : p.start.geometry.clients ≡ t.clients
   pub many : length xs ≡ t.clients
   pub seats : (c : ℕ) → c < t.clients → Seat t p c (slice_index_or xs c None)
 
--- the word steps that they have left
-abbrev pub life_in : Option Playing → ℕ
-life_in None = 0
-life_in (Some x) = x.life.left
+-- ---- the turns that they have left at most: one for each word step of a life, and one for each death
 
-abbrev pub lives : List (Option Playing) → ℕ
-lives [] = 0
-lives (x ∷ xs) = life_in x + lives xs
+abbrev pub turns_of : List ℕ → ℕ
+turns_of [] = 0
+turns_of (n ∷ lives) = n + 1 + turns_of lives
+
+abbrev pub turns_at : Standing → ℕ → ℕ
+turns_at AtWork n = n
+turns_at Gone n = 0
+turns_at Dead n = 0
+
+abbrev pub turns_by : Playing → Option Scripted → ℕ
+turns_by x None = 0
+turns_by x (Some s) = turns_at x.standing (x.life.left + 1 + turns_of (drop (x.agent + 1) (lives_of s.life)))
+
+abbrev pub turns_in : List Scripted → Option Playing → ℕ
+turns_in ss None = 0
+turns_in ss (Some x) = turns_by x (slice_get ss x.script)
+
+abbrev pub turns_left : List Scripted → List (Option Playing) → ℕ
+turns_left ss [] = 0
+turns_left ss (x ∷ xs) = turns_in ss x + turns_left ss xs

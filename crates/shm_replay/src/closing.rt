@@ -1,9 +1,10 @@
 //! The closing of a pool after a trace.
 
-ghost use Rattle.std.specs.Prelude.{◌≡◌, ◌≢◌, ℕ, ◌+◌, ◌^◌, ◌<◌, ◌≤◌, false, true, IfErr, IfOk, IfSome};
+ghost use Rattle.std.specs.Prelude.{◌≡◌, ◌≢◌, ◌+◌, ◌^◌, ◌<◌, ◌≤◌, ℕ, true, None, length, slice_index_or, IfSome};
 ghost use Rattle.std.specs.Option.{is_some};
 ghost use Rattle.shm_graph.specs.declared.memo.Status.TheVariants.{Gone};
 ghost use Rattle.shm_graph.specs.Agents.{steps_made};
+ghost use Rattle.shm_graph.specs.Runs.{account_at};
 ghost use Rattle.shm_calls.specs.CallsControl.{calls_control, calls_of};
 ghost use Rattle.shm_count.specs.Roots.{member};
 ghost use Rattle.shm_plain.specs.Calls.{Ran};
@@ -13,14 +14,33 @@ ghost use Rattle.shm_queue.specs.Drain.{drain_plan};
 ghost use Rattle.shm_recover.specs.Join.{join_control, join_fresh};
 ghost use Rattle.shm_recover.specs.Leave.Control.{leave_parts, leaving};
 ghost use Rattle.shm_recover.specs.Leave.{leave_plan};
-ghost use Rattle.shm_replay.specs.Closings.{AreVisits, IsIn, IsOut, IsVisit, IsWhole};
+ghost use Rattle.shm_replay.specs.Closings.{AreVisits, HasTold, IsDead, IsIn, IsOut, IsRecovery, IsVisit, IsWhole, MayVisit, SameTable, is_dead};
 
-use crate::client::{LIFE, OutOfSteps};
+use crate::agents::{Agents, LIFE, Standing};
 use shm_calls::Calls;
 use shm_graph::{Life, Me};
 use shm_plain::PlainPool;
 use shm_queue::Draining;
-use shm_recover::{Join, Leaving};
+use shm_recover::{Join, Leaving, Recovering};
+
+/// An identity whose last agent died is recovered; none where no word step was left.
+fn recover(pool: &mut PlainPool, me: Me, life: &mut Life) -> Option<()>
+    requires geometry { me.geometry ≡ pool.old.start.geometry }
+    requires who { me.who < pool.old.start.geometry.clients }
+    requires dead { IsDead (memo_of pool.old me.who) }
+    requires life { life.old.left ≤ 2 ^ 40 }
+    requires era { pool.old.start.first_era ≡ 1 }
+    ensures whole { IfSome result (λ u. IsRecovery true me.who pool.old pool.new) }
+    ensures out { IfSome result (λ u. IsOut (memo_of pool.new me.who)) }
+    ensures table { IfSome result (λ u. SameTable (memo_of pool.old me.who) (memo_of pool.new me.who)) }
+    ensures told { IfSome result (λ u. HasTold (account_at pool.old.accounts me.who) (account_at pool.new.accounts me.who)) }
+    ensures ran { Ran me.who true (is_some result) pool.old pool.new life.old.left life.new.left }
+{
+    pool.geometry();
+    pool.call(me.who, &mut Calls::new(Recovering::new(me)), life)?
+        .unwrap();
+    Some(())
+}
 
 /// A client of the identity joins; none where no word step was left.
 fn join(pool: &mut PlainPool, me: Me, life: &mut Life) -> Option<()>
@@ -42,7 +62,7 @@ fn drain(pool: &mut PlainPool, me: Me, life: &mut Life) -> Option<()>
     requires who { me.who < pool.old.start.geometry.clients }
     requires here { IsIn me.who (memo_of pool.old me.who) }
     requires era { pool.old.start.first_era ≡ 1 }
-    requires few { steps_made (memo_of pool.old me.who) + life.old.left ≤ 2 ^ 41 }
+    requires few { steps_made (memo_of pool.old me.who) + life.old.left ≤ 2 ^ 43 }
     ensures whole { IfSome result (λ u. IsWhole (calls_control drain_parts drain_plan) me.who pool.old (calls_of drain_plan (draining (member pool.old.start.geometry me.who))) pool.new) }
     ensures here { IfSome result (λ u. IsIn me.who (memo_of pool.new me.who)) }
     ensures part { IfSome result (λ u. (memo_of pool.new me.who).part ≡ (memo_of pool.old me.who).part) }
@@ -60,7 +80,7 @@ fn leave(pool: &mut PlainPool, me: Me, life: &mut Life) -> Option<()>
     requires who { me.who < pool.old.start.geometry.clients }
     requires here { IsIn me.who (memo_of pool.old me.who) }
     requires era { pool.old.start.first_era ≡ 1 }
-    requires few { steps_made (memo_of pool.old me.who) + life.old.left ≤ 2 ^ 41 }
+    requires few { steps_made (memo_of pool.old me.who) + life.old.left ≤ 2 ^ 43 }
     ensures whole { IfSome result (λ u. IsWhole (calls_control leave_parts leave_plan) me.who pool.old (calls_of leave_plan (leaving (member pool.old.start.geometry me.who))) pool.new) }
     ensures gone { IfSome result (λ u. (memo_of pool.new me.who).status ≡ Gone) }
     ensures part { IfSome result (λ u. (memo_of pool.new me.who).part ≡ (memo_of pool.old me.who).part) }
@@ -72,46 +92,77 @@ fn leave(pool: &mut PlainPool, me: Me, life: &mut Life) -> Option<()>
     Some(())
 }
 
-/// The identity joins, takes all that waits for it, and leaves; nobody else makes a step meanwhile. None where its agent had no word step left.
-fn visit(pool: &mut PlainPool, me: Me) -> Option<()>
+/// The identity is recovered where its last agent died, so that a client may join; none where the recoverer had no word step left.
+fn revive(pool: &mut PlainPool, me: Me, dead: bool) -> Option<()>
     requires geometry { me.geometry ≡ pool.old.start.geometry }
     requires who { me.who < pool.old.start.geometry.clients }
-    requires out { IsOut (memo_of pool.old me.who) }
+    requires may { MayVisit dead (memo_of pool.old me.who) }
+    requires era { pool.old.start.first_era ≡ 1 }
+    ensures recovery { IfSome result (λ u. IsRecovery dead me.who pool.old pool.new) }
+    ensures out { IfSome result (λ u. IsOut (memo_of pool.new me.who)) }
+    ensures table { IfSome result (λ u. SameTable (memo_of pool.old me.who) (memo_of pool.new me.who)) }
+    ensures told { IfSome result (λ u. dead ≡ true → HasTold (account_at pool.old.accounts me.who) (account_at pool.new.accounts me.who)) }
+    ensures others { (d : ℕ) → d ≢ me.who → account_at pool.new.accounts d ≡ account_at pool.old.accounts d }
+    ensures start { pool.new.start ≡ pool.old.start }
+    ensures run { IsRun pool.new }
+{
+    pool.geometry();
+    if !dead {
+        return Some(());
+    }
+    recover(pool, me, &mut Life::of(LIFE))
+}
+
+/// The identity is recovered where its last agent died; then it joins, takes all that waits for it, and leaves; nobody else makes a step
+/// meanwhile. None where an agent of it had no word step left.
+fn visit(pool: &mut PlainPool, me: Me, dead: bool) -> Option<()>
+    requires geometry { me.geometry ≡ pool.old.start.geometry }
+    requires who { me.who < pool.old.start.geometry.clients }
+    requires may { MayVisit dead (memo_of pool.old me.who) }
     requires era { pool.old.start.first_era ≡ 1 }
     ensures visit { IfSome result (λ u. IsVisit me.who pool.old pool.new) }
     ensures gone { IfSome result (λ u. (memo_of pool.new me.who).status ≡ Gone) }
-    ensures part { IfSome result (λ u. (memo_of pool.new me.who).part ≡ (memo_of pool.old me.who).part) }
-    ensures others { (d : ℕ) → d ≢ me.who → memo_of pool.new d ≡ memo_of pool.old d }
+    ensures table { IfSome result (λ u. SameTable (memo_of pool.old me.who) (memo_of pool.new me.who)) }
+    ensures told { IfSome result (λ u. dead ≡ true → HasTold (account_at pool.old.accounts me.who) (account_at pool.new.accounts me.who)) }
+    ensures others { (d : ℕ) → d ≢ me.who → account_at pool.new.accounts d ≡ account_at pool.old.accounts d }
     ensures start { pool.new.start ≡ pool.old.start }
     ensures run { IsRun pool.new }
-    ensures stopped { is_some result ≡ false → steps_made (memo_of pool.new me.who) ≡ steps_made (memo_of pool.old me.who) + 2 ^ 40 }
 {
+    pool.geometry();
+    revive(pool, me, dead)?;
     let mut life = Life::of(LIFE);
     join(pool, me, &mut life)?;
     drain(pool, me, &mut life)?;
     leave(pool, me, &mut life)
 }
 
-/// Each identity joins, takes all that waits for it, and leaves, one after the other.
-///
-/// # Errors
-///
-/// `OutOfSteps` where a client that visits has made as many word steps as an agent makes, and has not left.
-pub(crate) fn visit_all(pool: &mut PlainPool) -> Result<(), OutOfSteps>
+/// Whether all agents of the identity died.
+fn is_dead(agents: &Option<Agents>) -> bool
+    ensures { result ≡ is_dead agents.now }
+{
+    match agents {
+        None => false,
+        Some(own) => own.standing() == Standing::Dead,
+    }
+}
+
+/// Each identity is recovered where its last agent died, joins, takes all that waits for it, and leaves, one after the other. None where an
+/// agent of them had no word step left.
+pub(crate) fn visit_all(pool: &mut PlainPool, agents: &[Option<Agents>]) -> Option<()>
     requires era { pool.old.start.first_era ≡ 1 }
-    requires out { (c : ℕ) → c < pool.old.start.geometry.clients → IsOut (memo_of pool.old c) }
-    ensures visits { IfOk result (λ u. AreVisits 0 pool.old.start.geometry.clients pool.old pool.new) }
-    ensures gone { IfOk result (λ u. (c : ℕ) → c < pool.old.start.geometry.clients → (memo_of pool.new c).status ≡ Gone) }
-    ensures part { IfOk result (λ u. (c : ℕ) → c < pool.old.start.geometry.clients → (memo_of pool.new c).part ≡ (memo_of pool.old c).part) }
+    requires many { length agents.now ≡ pool.old.start.geometry.clients }
+    requires may { (c : ℕ) → c < pool.old.start.geometry.clients → MayVisit (is_dead (slice_index_or agents.now c None)) (memo_of pool.old c) }
+    ensures visits { IfSome result (λ u. AreVisits 0 pool.old.start.geometry.clients pool.old pool.new) }
+    ensures gone { IfSome result (λ u. (c : ℕ) → c < pool.old.start.geometry.clients → (memo_of pool.new c).status ≡ Gone) }
+    ensures table { IfSome result (λ u. (c : ℕ) → c < pool.old.start.geometry.clients → SameTable (memo_of pool.old c) (memo_of pool.new c)) }
+    ensures told { IfSome result (λ u. (c : ℕ) → c < pool.old.start.geometry.clients → is_dead (slice_index_or agents.now c None) ≡ true → HasTold (account_at pool.old.accounts c) (account_at pool.new.accounts c)) }
     ensures start { pool.new.start ≡ pool.old.start }
     ensures run { IsRun pool.new }
-    ensures stopped { IfErr result (λ stop. (stop.client < pool.old.start.geometry.clients) × (2 ^ 40 ≤ steps_made (memo_of pool.new stop.client))) }
 {
     let geometry = pool.geometry();
     for client in 0..geometry.clients() {
-        if visit(pool, Me::new(geometry, client)).is_none() {
-            return Err(OutOfSteps { client });
-        }
+        let dead = is_dead(&agents[client as usize]);
+        visit(pool, Me::new(geometry, client), dead)?;
     }
-    Ok(())
+    Some(())
 }

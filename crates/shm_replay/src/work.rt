@@ -7,13 +7,12 @@ ghost use Rattle.shm_replay.specs.Work as work;
 
 use shm_calls::{Calls, Or};
 use shm_graph::Me;
-use shm_queue::{Drain, Draining};
-use shm_recover::{Join, Leave, Leaving};
+use shm_recover::{Join, Leave, Leaving, Recover, Recovering};
 use shm_script::Line;
 use shm_table::Command;
 
-/// A piece of work: a join, a drain, a command or a leaving.
-pub(crate) type Work = Or<Or<Join, Drain>, Or<Command, Leave>>;
+/// A piece of work: a join, a recovery, a command or a leaving.
+pub(crate) type Work = Or<Or<Join, Recover>, Or<Command, Leave>>;
 
 /// The join of an identity.
 pub(crate) fn joining(me: Me) -> Work
@@ -24,13 +23,13 @@ pub(crate) fn joining(me: Me) -> Work
     Or::First(Or::First(Join::new(me)))
 }
 
-/// The taking of all that waits for an identity.
-pub(crate) fn draining(me: Me) -> Work
+/// The recovery of an identity.
+pub(crate) fn recovering(me: Me) -> Work
     requires geometry { GeometryFits me.geometry }
     requires who { me.who < me.geometry.clients }
-    ensures { result ≡ work.draining me }
+    ensures { result ≡ work.recovering me }
 {
-    Or::First(Or::Second(Calls::new(Draining::new(me))))
+    Or::First(Or::Second(Calls::new(Recovering::new(me))))
 }
 
 /// The command of a line.

@@ -45,7 +45,7 @@ gives c =
     subst (λ (x : Machine). CallsGives leave_parts leave_plan x (memo_of c.args.pool.now c.args.me.who) r r.call c.in_ok-call.field-0) (state at)
     (c.in_ok-call.ensures.gives (memo_of c.args.pool.now c.args.me.who) (fit at))
 
-few : (c : In_ok-call) → steps_made (memo_of c.call.new.self c.args.me.who) ≤ 2 ^ 41
+few : (c : In_ok-call) → steps_made (memo_of c.call.new.self c.args.me.who) ≤ 2 ^ 43
 few c = let made = c.in_ok-call.ensures.ran.made in let most = c.requires.few in omega arith
 
 pub unwrap-requires : goal.unwrap-requires

@@ -29,21 +29,21 @@ loop-script-preserved c =
     let who : s.client ≡ c.script.inside.client = (let v = ap (λ (x : Scripted). x.client) c.script.view_is in cc) in
     let few = h.few in
     let count = g.count in
-    let xs = c.args.clients.now in
-    let at : slice_index_or l.clients s.client None ≡ slice_index_or xs s.client None = h.left s.client (λ j r lt f. apart_at c.args.trace.now.scripts j l.script-index r s c.in_grammar.ensures.apart lt f there) in
+    let xs = c.args.agents.now in
+    let at : slice_index_or l.agents s.client None ≡ slice_index_or xs s.client None = h.left s.client (λ j r lt f. apart_at c.args.trace.now.scripts j l.script-index r s c.in_grammar.ensures.apart lt f there) in
     let more : take (l.script-index + 1) c.args.trace.now.scripts ≡ take l.script-index c.args.trace.now.scripts ++ s ∷ [] =
     ap (take (l.script-index + 1)) scripts ∙ (take_more ss l.script-index s c.loop-script-test.true ∙ (ap (λ r. take l.script-index ss ++ r ∷ []) (sym c.script-item.is) ∙ ap (λ ys. take l.script-index ys ++ s ∷ []) (sym scripts))) in
     record {
-      many = ap length g.clients ∙ (length-set l.clients c.script.inside.client None ∙ h.many);
+      many = ap length g.taken ∙ (length-set l.agents c.script.inside.client None ∙ h.many);
       logs =
           g.logs
-          ∙ (ap (λ ys. ys ++ log_at (slice_index_or l.clients c.script.inside.client None)) h.logs
-          ∙ (ap (λ n. logs_by (take l.script-index c.args.trace.now.scripts) xs ++ log_at (slice_index_or l.clients n None)) (sym who)
+          ∙ (ap (λ ys. ys ++ log_at (slice_index_or l.agents c.script.inside.client None)) h.logs
+          ∙ (ap (λ n. logs_by (take l.script-index c.args.trace.now.scripts) xs ++ log_at (slice_index_or l.agents n None)) (sym who)
           ∙ (ap (λ o. logs_by (take l.script-index c.args.trace.now.scripts) xs ++ log_at o) at
           ∙ (sym (logs_more (take l.script-index c.args.trace.now.scripts) s xs) ∙ ap (λ ys. logs_by ys xs) (sym more)))));
       few = omega arith;
       room = g.room ∙ h.room;
       left = λ k f.
           let other : k ≢ c.script.inside.client = (λ e. f l.script-index s (omega arith) there (who ∙ sym e)) in
-          ap (λ ys. slice_index_or ys k None) g.clients ∙ (get_or-set_other l.clients c.script.inside.client k None None other ∙ h.left k (λ j r lt e. f j r (omega arith) e));
+          ap (λ ys. slice_index_or ys k None) g.taken ∙ (get_or-set_other l.agents c.script.inside.client k None None other ∙ h.left k (λ j r lt e. f j r (omega arith) e));
     }

@@ -1,0 +1,103 @@
+-- the recovery of an identity whose last agent died, by a recoverer that begins
+use Rattle.std.proofs.Common.{◌≡◌, ℕ, ◌+◌, ◌^◌, ◌<◌, ◌≤◌, Bool, true, false, cond, [], refl, sym, ap, ◌∙◌, subst, arith, inr, List, Result}
+use Rattle.std.specs.Prelude.{Option, Some, None, Ok, Err}
+use Rattle.std.specs.Result.{IsOk}
+use Rattle.std.proofs.lemmas.Bool.{true≢false}
+use Rattle.shm_graph.specs.declared.ask.Me.{Me}
+use Rattle.shm_graph.specs.declared.memo.Agent.{Agent}
+use Rattle.shm_graph.specs.declared.memo.Fate.{Fate}
+use Rattle.shm_graph.specs.declared.memo.Fate.TheVariants.{Acts, Ended, Died}
+use Rattle.shm_graph.specs.declared.memo.Kind.{Kind}
+use Rattle.shm_graph.specs.declared.memo.Kind.TheVariants.{Client, Recoverer}
+use Rattle.shm_graph.specs.declared.memo.Memo.{Memo}
+use Rattle.shm_graph.specs.declared.memo.Status.TheVariants.{Gone}
+use Rattle.shm_graph.specs.Agents.{acts, acts_by, entered, is_acting, last_agent, steps_made}
+use Rattle.shm_graph.specs.Asks.{Trail, call_before}
+use Rattle.shm_graph.specs.Events.{Event}
+use Rattle.shm_graph.specs.Runs.{MayBegin, fell_by, is_dead}
+use Rattle.shm_graph.specs.Whole.{fits_now}
+use Rattle.shm_graph.proofs.Memos.MemoSteps.{recovers-entered}
+use Rattle.shm_calls.specs.declared.calls.Calls.{Calls}
+use Rattle.shm_calls.specs.CallsControl.{calls_control, calls_of}
+use Rattle.shm_calls.specs.CallsFit.{CallsFits}
+use Rattle.shm_calls.specs.CallsKeep.{calls_begin}
+use Rattle.shm_calls.specs.Plans.{PlanLaws}
+use Rattle.shm_count.specs.declared.answer.EraSpent.{EraSpent}
+use Rattle.shm_count.specs.Roots.{member}
+use Rattle.shm_ref.specs.DropRoots.Laws.{roots_laws}
+use Rattle.shm_recover.specs.FinishTakes.Laws.{finish_laws}
+use Rattle.shm_recover.specs.GiveUp.Laws.{give_laws}
+use Rattle.shm_recover.specs.Mend.Laws.{mend_laws}
+use Rattle.shm_recover.specs.Recover.Control.{recover_parts, recovering}
+use Rattle.shm_recover.specs.Recover.Laws.{recover_begin, recover_laws}
+use Rattle.shm_recover.specs.Recover.{RecoverLeaves, recover_plan}
+use Rattle.shm_recover.specs.Scan.Laws.{scan_laws}
+use Rattle.shm_recover.specs.TakeBack.Laws.{back_laws}
+use Rattle.shm_plain.specs.Pools.{IsRun, MayStep, Pool, memo_of, readied}
+use Rattle.shm_plain.specs.Tracks.{kind_next}
+use Rattle.shm_plain.proofs.Turning.{ready_memo}
+use Rattle.shm_replay.specs.Closings.{IsDead, IsOut, SameTable}
+use Rattle.shm_replay.proofs.OwnEras.{never_spent}
+
+pub laws : PlanLaws recover_parts recover_plan
+laws = recover_laws mend_laws roots_laws back_laws finish_laws scan_laws give_laws
+
+-- an agent that is dead doesn't act
+fate_still : (f : Fate) → is_dead f ≡ true → is_acting f ≡ false
+fate_still Acts e = absurd (true≢false (sym e))
+fate_still Ended e = refl
+fate_still Died e = refl
+
+agent_still : (o : Option Agent) → fell_by o ≡ true → acts_by o ≡ false
+agent_still None e = refl
+agent_still (Some a) e = fate_still a.fate e
+
+module _ (p : Pool) (c : ℕ) (run : IsRun p) (who : c < p.start.geometry.clients) (dead : IsDead (memo_of p c)) where
+  abbrev m : Memo
+  m = memo_of p c
+
+  abbrev me : Me
+  me = member p.start.geometry c
+
+  -- a recoverer begins
+  kind : kind_next m ≡ Recoverer
+  kind = ap (λ (z : Bool). cond z Recoverer Client) dead.fell
+
+  pub may_begin : MayStep p c
+  may_begin e = subst (λ (k : Kind). MayBegin k m) (sym kind) dead.fell
+
+  -- its memo
+  abbrev pub r0 : Memo
+  r0 = entered Recoverer m
+
+  pub still : acts m ≡ false
+  still = agent_still (last_agent m.agents) dead.fell
+
+  begun : memo_of (readied p c) c ≡ r0
+  begun =
+      ready_memo p c (subst (λ (n : ℕ). c < n) (sym run.held.accounts) who)
+      ∙ (ap (λ (z : Bool). cond z m (entered (kind_next m) m)) still ∙ ap (λ (k : Kind). entered k m) kind)
+
+  -- the recovery fits it
+  pub revive_fits : fits_now (calls_control recover_parts recover_plan) (CallsFits recover_parts recover_plan) (calls_of recover_plan (recovering me)) r0 (memo_of (readied p c) c)
+  revive_fits =
+      subst (λ (z : Memo). fits_now (calls_control recover_parts recover_plan) (CallsFits recover_parts recover_plan) (calls_of recover_plan (recovering me)) r0 z) (sym begun)
+      (calls_begin recover_parts recover_plan laws (recovering me) r0 refl refl (recover_begin me r0 (record { geometry = run.held.at.fits; who = who; recoverer = recovers-entered Recoverer m })))
+
+  -- ---- what it leaves
+
+  module _ (q : Pool) (start : q.start ≡ p.start) (now : IsRun q) (era : p.start.first_era ≡ 1) (few : steps_made (memo_of q c) ≤ 2 ^ 43) (tr : Trail) (es : List Event) where
+    abbrev r : Memo
+    r = memo_of q c
+
+    -- its own era has room
+    pub revive_ok : (a : Result (Unit {0}) EraSpent) → RecoverLeaves (recovering me) r0 r tr es a → IsOk a
+    revive_ok (Ok u) g = refl
+    revive_ok (Err e) g = absurd (never_spent q c e.era now (subst (λ s. c < s.geometry.clients) (sym start) who) (ap (λ s. s.first_era) start ∙ era) few (let s = g.spent in omega arith) g.most)
+
+    -- and the next client may begin
+    pub revive_out : (u : Unit {0}) → RecoverLeaves (recovering me) r0 r tr es (Ok u) → (r.status ≡ Gone → (acts r ≡ false) × (fell_by (last_agent r.agents) ≡ false)) → steps_made r ≤ 2 ^ 42 → IsOut r
+    revive_out u g gone most = let h = gone g.status in record { status = inr g.status; none = h.0; whole = h.1; few = most }
+
+  pub revive_table : (r : Memo) (tr : Trail) (es : List Event) (u : Unit {0}) → RecoverLeaves (recovering me) r0 r tr es (Ok u) → SameTable m r
+  revive_table r tr es u g = record { map = λ key. ap (λ f. f key) g.map; loose = g.loose }
