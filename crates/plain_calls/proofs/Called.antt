@@ -61,8 +61,11 @@ module _ {M A : Type 0} (k : Control M A) (fits : M → Memo → Memo → Trail 
   fits_then : fits_now k fits m r0 (memo_of (readied p c) c)
   fits_then = fits_acting k fits gives c p m act fresh fit
 
+  pub fits_first : fits_now k fits n r0 (memo_of (readied p c) c)
+  fits_first = subst (λ (z : M). fits_now k fits z r0 (memo_of (readied p c) c)) (sym is) fits_then
+
   pub call_fits : (r : Memo) × fits_now k fits n r (memo_of (readied p c) c)
-  call_fits = (r0, subst (λ (z : M). fits_now k fits z r0 (memo_of (readied p c) c)) (sym is) fits_then)
+  call_fits = (r0, fits_first)
 
   module _ (q : Pool) (x y : ℕ) (o : Option A) (say : Called k fits gives c p n q x y o) where
     call : Called k fits gives c p m q x y o

@@ -59,8 +59,11 @@ module _ (p : Pool) (c : ℕ) (run : IsRun p) (who : c < p.start.geometry.client
     fits_then = subst (λ (z : Memo). fits_now k fits m r0 z) (sym begun_memo) (subst (λ (b : Bool). fits m r0 r0 (call_before b r0.call)) (sym fresh) fit)
 
     -- the machine fits its memo
+    pub fallen_first : fits_now k fits n r0 (memo_of (readied p c) c)
+    fallen_first = subst (λ (z : M). fits_now k fits z r0 (memo_of (readied p c) c)) (sym is) fits_then
+
     pub fallen_fits : (r : Memo) × fits_now k fits n r (memo_of (readied p c) c)
-    fallen_fits = (r0, subst (λ (z : M). fits_now k fits z r0 (memo_of (readied p c) c)) (sym is) fits_then)
+    fallen_fits = (r0, fallen_first)
 
     module _ (q : Pool) (x y : ℕ) (o : Option A) (say : Called k fits gives c p n q x y o) where
       call : Called k fits gives c p m q x y o

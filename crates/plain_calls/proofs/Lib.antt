@@ -17,3 +17,4 @@ pub mod QueueReady
 pub mod ItemAnswers
 pub mod SetAnswers
 pub mod Falling
+pub mod Cut

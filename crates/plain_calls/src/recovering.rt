@@ -35,14 +35,14 @@ pub fn die(pool: &mut PlainPool, who: u8)
     pool.fall(who);
 }
 
-/// Recovers `who`, whose agent is dead, by a recoverer that begins; none where no word step was left.
+/// Recovers `who`, whose agent is dead, by a recoverer that begins; none where no word step was left. Either way the map is as it was.
 pub fn recover(pool: &mut PlainPool, who: u8, life: &mut Life) -> Option<Result<(), EraSpent>>
     requires geometry { GeometryFits pool.old.start.geometry }
     requires who { who < pool.old.start.geometry.clients }
     requires fell { fell_by (last_agent (memo_of pool.old who).agents) ≡ true }
     ensures gives { IfSome result (λ a. RecoverGives (member pool.old.start.geometry who) (entered Recoverer (memo_of pool.old who)) (memo_of pool.new who) (memo_of pool.new who).call a) }
     ensures gone { IfSome result (λ a. IfOk a (λ u. (memo_of pool.new who).status ≡ Gone)) }
-    ensures map { IfSome result (λ a. map_in (memo_of pool.new who).part ≡ map_in (memo_of pool.old who).part) }
+    ensures map { map_in (memo_of pool.new who).part ≡ map_in (memo_of pool.old who).part }
     ensures ran { Ran who true (is_some result) pool.old pool.new life.old.left life.new.left }
     ensures events { IfSome result (λ a. (es : List Event) × Did who pool.old pool.new es × RecoverLeaves (recovering (member pool.old.start.geometry who)) (entered Recoverer (memo_of pool.old who)) (memo_of pool.new who) (memo_of pool.new who).call es a) }
 {

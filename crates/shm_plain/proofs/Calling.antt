@@ -108,6 +108,12 @@ ended_fell : (o : Option Agent) → fell_by (with_some ended o) ≡ false
 ended_fell None = refl
 ended_fell (Some a) = refl
 
+-- a machine's last step that left the status gone ended the agent
+ended_after : (m : Memo) (t : Step) (p : Spot) → let m' = memo_on m t p in is_gone m'.status ≡ true → t.ends ≡ true → (acts m' ≡ false) × (fell_by (last_agent m'.agents) ≡ false)
+ended_after m t p g e =
+    let ends : ends_agent m t p ≡ true = (λ j. g j && e j) in
+    (acts_after m t p ∙ ap (λ (x : Bool). cond x false (acts m)) ends, ap (λ xs. fell_by (last_agent xs)) (memo_agents m t p ∙ ap (λ (b : Bool). agents_after b m.agents) ends) ∙ (ap fell_by (last-with_last ended (with_last stepped m.agents)) ∙ ended_fell (last_agent (with_last stepped m.agents))))
+
 -- where the step of an acting agent ended it, the next one may begin: a client, since the status is gone
 may_after : (m : Memo) (t : Step) (p : Spot) → acts m ≡ true → let m' = memo_on m t p in acts m' ≡ false → MayBegin (kind_next m') m'
 may_after m t p e f = go (is_gone m'.status) t.ends refl refl
@@ -118,11 +124,8 @@ may_after m t p e f = go (is_gone m'.status) t.ends refl refl
     after : (b : Bool) → ends_agent m t p ≡ b → acts m' ≡ cond b false (acts m)
     after b h = acts_after m t p ∙ ap (λ (x : Bool). cond x false (acts m)) h
 
-    fell : ends_agent m t p ≡ true → fell_by (last_agent m'.agents) ≡ false
-    fell h = ap (λ xs. fell_by (last_agent xs)) (memo_agents m t p ∙ ap (λ (b : Bool). agents_after b m.agents) h) ∙ (ap fell_by (last-with_last ended (with_last stepped m.agents)) ∙ ended_fell (last_agent (with_last stepped m.agents)))
-
     go : (g b : Bool) → is_gone m'.status ≡ g → t.ends ≡ b → MayBegin (kind_next m') m'
-    go true true h i = subst (λ (x : Bool). MayBegin (cond x Recoverer Client) m') (sym (fell (λ j. h j && i j))) (inr (gone_is m'.status h))
+    go true true h i = subst (λ (x : Bool). MayBegin (cond x Recoverer Client) m') (sym (ended_after m t p h i).1) (inr (gone_is m'.status h))
     go true false h i = absurd (true≢false (sym (after false (λ j. h j && i j) ∙ e) ∙ f))
     go false b h i = absurd (true≢false (sym (after false (λ j. h j && t.ends) ∙ e) ∙ f))
 
@@ -238,6 +241,13 @@ module _ {M A : Type 0} (k : Control M A) (fits : M → Memo → Memo → Trail 
     pub went_may : MayStep q' c
     went_may = subst (λ (x : Memo). acts x ≡ false → MayBegin (kind_next x) x) (sym (ap (λ (x : Account). x.memo) here)) (may_after (memo_of r c) t (asked_spot (memo_of r c) t) acting)
 
+    -- where it was the machine's last step and left the status gone, the agent has ended
+    pub went_gone : t.ends ≡ true → (memo_of q' c).status ≡ Gone → (acts (memo_of q' c) ≡ false) × (fell_by (last_agent (memo_of q' c).agents) ≡ false)
+    went_gone e g =
+        let is : memo_of q' c ≡ memo_on (memo_of r c) t (asked_spot (memo_of r c) t) = ap (λ (x : Account). x.memo) here in
+        subst (λ (m : Memo). (acts m ≡ false) × (fell_by (last_agent m.agents) ≡ false)) (sym is)
+        (ended_after (memo_of r c) t (asked_spot (memo_of r c) t) (ap (λ (m : Memo). is_gone m.status) (sym is) ∙ ap is_gone g) e)
+
     -- its agent is of the kind that it was of
     pub went_kind : recovers (memo_of q' c) ≡ recovers (memo_of (readied p c) c)
     went_kind = ap (λ (x : Account). recovers x.memo) here ∙ (recovers_on (memo_of r c) t (asked_spot (memo_of r c) t) ∙ went.kind)
@@ -293,10 +303,12 @@ module _ {M A : Type 0} (k : Control M A) (fits : M → Memo → Memo → Trail 
           did = took_grew k c p q' m steady of went_took;
           cut = λ u. absurd (true≢false u);
           acts = λ u. went_acts;
+          gone = λ u. went_gone ((steady n t.seen went.of.2).ends ∙ ap is_some answer);
           kind = λ u. went_kind;
           spent = λ u. went_spent y' e;
           made = made_more y' e;
           some = λ u. let l = went.spent in omega arith;
+          less = λ u. let l = went.spent in omega arith;
           died = λ u. absurd (true≢false u);
           over = λ u. ap (λ (x : Account). x.memo.over) here ∙ ((steady n t.seen went.of.2).ends ∙ ap is_some answer);
         }
@@ -369,10 +381,12 @@ module _ {M A : Type 0} (k : Control M A) (fits : M → Memo → Memo → Trail 
           | inr s ↦ s.0
         ];
         acts = λ u. absurd (true≢false (sym u));
+        gone = λ u. absurd (true≢false (sym u));
         kind = λ u. absurd (true≢false (sym u));
         spent = λ u. absurd (true≢false (sym u));
         made = went.made;
         some = λ u. absurd (true≢false (sym u));
+        less = λ u. absurd (true≢false (sym u));
         died = λ u. none;
         over = λ u. absurd (true≢false (sym u));
       }

@@ -141,7 +141,7 @@ pub record Recovered (me : Me) (r0 r : Memo) (tr : Trail) (es : List Event) : Ty
 abbrev pub HasCome : ℕ → Memo → Memo → Type 0
 HasCome c r0 r = SameTakes c r0 r ⊎ ((AreRootless c r × SameTakes c r0 r) ⊎ (AreRootless c r × AreSent r × AreTaken c r0 r))
 
--- The own era, which is at least the one that was read, left no room for a step down: the identity is dead still, with no step in progress and no latch held; what was sent and the map are what they were
+-- The own era left no room for a step down: the identity is dead still, with no step in progress and no latch held; what was sent and the map are what they were
 pub record RecoverStopped (me : Me) (r0 r : Memo) (tr : Trail) (es : List Event) (era : ℕ) : Type 0 where
   pub status : r.status ≡ status.Dead
   pub op : r.op ≡ Nothing

@@ -9,13 +9,13 @@ use Rattle.shm_script.specs.Ranges.{ItemFits}
 use Rattle.shm_script.specs.Values.{Traced}
 use Rattle.shm_replay.specs.Orders.{AreOfItems, IsGiven, from_on, rounds_of}
 use Rattle.shm_replay.specs.Work.{Work}
-use Rattle.shm_replay.specs.Turns.{given, in_a_row, is_busy, next_of, worked}
+use Rattle.shm_replay.specs.Turns.{given, in_a_row, is_busy, life_in, next_of, script_in, worked}
 
 module _ (t : Traced) where
   -- first these, and then those
   pub given-append : (p : Pool) (cs ds : List ℕ) → given t p (cs ++ ds) ≡ given t (given t p cs) ds
   given-append p [] ds = refl
-  given-append p (c ∷ cs) ds = given-append (worked (next_of t p c) c p) cs ds
+  given-append p (c ∷ cs) ds = given-append (worked (next_of t p c) (life_in p c (script_in t.scripts c)) c p) cs ds
 
   replicate_more : (n c : ℕ) → replicate (n + 1) c ≡ replicate n c ++ c ∷ []
   replicate_more zero c = refl
@@ -32,7 +32,7 @@ module _ (t : Traced) where
   -- where nothing is left to do turns change nothing
   pub idle_row : (p : Pool) (c n : ℕ) → is_busy t p c ≡ false → in_a_row t p c n ≡ p
   idle_row p c zero e = refl
-  idle_row p c (suc n) e = ap (λ o. given t (worked o c p) (replicate n c)) (idle_next (next_of t p c) e) ∙ idle_row p c n e
+  idle_row p c (suc n) e = ap (λ o. given t (worked o (life_in p c (script_in t.scripts c)) c p) (replicate n c)) (idle_next (next_of t p c) e) ∙ idle_row p c n e
 
   -- one more item
   pub items_more : (p : Pool) (is : List Item) (i : Item) (cs : List ℕ) (n : ℕ) → AreOfItems t p is cs → IsGiven t (given t p cs) i n → AreOfItems t p (is ++ i ∷ []) (cs ++ replicate n i.client)

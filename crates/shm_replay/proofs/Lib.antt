@@ -22,3 +22,4 @@ mod Telling
 mod Gathering
 mod WholeRun
 mod Starting
+mod Answering

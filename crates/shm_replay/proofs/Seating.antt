@@ -1,98 +1,120 @@
--- what follows of the clients of a trace's scripts, each at its identity
-use Rattle.std.proofs.Common.{◌≡◌, ◌≢◌, ℕ, zero, suc, ◌+◌, ◌^◌, ◌<◌, ◌≤◌, Bool, true, false, not, List, [], ◌∷◌, length, refl, sym, ap, ◌∙◌, subst, arith, inl, inr}
-use Rattle.std.specs.Prelude.{Option, Some, None, slice_index_or, slice_set}
+-- what follows of the agents of a trace's scripts, each at its identity
+use Rattle.std.proofs.Common.{◌≡◌, ◌≢◌, ℕ, zero, suc, ◌+◌, ◌<◌, ◌≤◌, Bool, true, false, List, [], ◌∷◌, length, refl, sym, ap, ◌∙◌, subst, arith, inl, inr}
+use Rattle.std.specs.Prelude.{◌==◌, ◌&&◌, ◌⊎◌, Option, Some, None, slice_get, slice_index_or, slice_set}
 use Rattle.std.specs.Option.{is_some}
-use Rattle.std.proofs.lemmas.Bool.{cases_eq, true≢false}
+use Rattle.std.proofs.lemmas.Bool.{cases_eq, eqb-true, true≢false}
 use Rattle.std.proofs.lemmas.List.{get_or-set_other, get_or-set_same, length-set}
-use Rattle.shm_graph.specs.declared.memo.Agent.{Agent}
-use Rattle.shm_graph.specs.declared.memo.Fate.TheVariants.{Acts, Ended}
-use Rattle.shm_graph.specs.declared.memo.Memo.{Memo}
+use Rattle.std.proofs.lemmas.Option.{slice_get_read, slice_get_within}
+use Rattle.shm_graph.specs.declared.ask.Me.{Me}
 use Rattle.shm_graph.specs.declared.run.Account.{Account}
 use Rattle.shm_graph.specs.declared.run.Start.{Start}
-use Rattle.shm_graph.specs.Agents.{acts_by, last_agent, steps_made, steps_of}
-use Rattle.shm_graph.specs.Runs.{account_at, fell_by, first_account, first_memo}
+use Rattle.shm_graph.specs.Runs.{account_at, first_account}
 use Rattle.shm_count.specs.Roots.{member}
-use Rattle.shm_plain.specs.Pools.{Pool, memo_of}
-use Rattle.shm_script.specs.declared.line.Line.{Line}
-use Rattle.shm_script.specs.Values.{Scripted, Traced}
-use Rattle.shm_replay.specs.Agents.{HasParted, IsFresh, IsPlaying, Playing, Stage, Stands, one_agent}
-use Rattle.shm_replay.specs.Closings.{IsOut}
+use Rattle.shm_plain.specs.Pools.{Pool}
 use Rattle.shm_script.specs.declared.line.Item.{Item}
+use Rattle.shm_script.specs.Values.{Scripted, Traced}
+use Rattle.shm_replay.specs.declared.agents.Standing.{Standing}
+use Rattle.shm_replay.specs.declared.agents.Standing.TheVariants.{AtWork, Gone, Dead}
+use Rattle.shm_replay.specs.Agents.{Playing, Stands, is_at_work, is_client}
 use Rattle.shm_replay.specs.Orders.{IsGiven, IsUntilAnswered}
-use Rattle.shm_replay.specs.Seats.{AreSeated, IsSeat, Seat, life_in, lives}
-use Rattle.shm_replay.specs.Turns.{answered, answered_of, in_a_row, is_busy, next_of, next_work, script_in, work_at, worked}
-use Rattle.shm_replay.specs.Work.{script_work}
+use Rattle.shm_replay.specs.Seats.{AreSeated, IsSeat, Seat, turns_in, turns_left}
+use Rattle.shm_replay.specs.Turns.{agent_of, answered, answered_of, in_a_row, is_busy, is_client_busy, life_in, next_by, next_of, next_work, script_in, worked}
 use Rattle.shm_replay.proofs.Giving.{idle_row}
-use Rattle.shm_replay.proofs.Standing.{parted_next, stands_answered, stands_next, stands_parted}
+use Rattle.shm_replay.proofs.Standing.{IsNow, stands_answered, stands_now, stands_still}
 
--- ---- one client
+-- ---- how they stand
+
+-- either one of them acts or comes next, or none does
+pub standing_cases : (st : Standing) → (st ≡ AtWork) ⊎ ((is_at_work st ≡ false) × (st ≢ AtWork))
+standing_cases AtWork = inl refl
+standing_cases Gone = inr (refl, λ e. cc)
+standing_cases Dead = inr (refl, λ e. cc)
+
+client_at : (st : Standing) (n : ℕ) → (is_at_work st && (n == 0)) ≡ true → (st ≡ AtWork) × (n ≡ 0)
+client_at AtWork n e = (refl, eqb-true n 0 e)
+client_at Gone n e = absurd (true≢false (sym e))
+client_at Dead n e = absurd (true≢false (sym e))
+
+-- a client at work
+pub client_here : (x : Playing) → is_client x ≡ true → (x.standing ≡ AtWork) × (x.agent ≡ 0)
+client_here x e = client_at x.standing x.agent e
+
+-- ---- the agents of one identity
 
 module _ (t : Traced) (p : Pool) (c : ℕ) (x : Playing) (h : IsSeat t p c x) where
   abbrev here : Account
   here = account_at p.accounts c
 
-  work_of : next_of t p c ≡ work_at (script_work x.me h.script.lines) here
-  work_of = ap (next_work t p c) h.is ∙ ap (λ m. work_at (script_work m h.script.lines) here) (sym h.me)
+  next_is : next_of t p c ≡ next_by x.me h.script here
+  next_is = ap (next_work p c) h.is ∙ ap (λ m. next_by m h.script here) (sym h.me)
 
-  pub seat_here : x.left ≡ false → next_of t p c ≡ Some x.work
-  seat_here e = work_of ∙ stands_next p.start h.script.lines x here h.stands e
+  now : x.standing ≡ AtWork → IsNow h.script x here
+  now e = stands_now p.start h.script x here h.stands e
 
-  pub seat_gone : x.left ≡ true → next_of t p c ≡ None
-  seat_gone e = work_of ∙ parted_next p.start h.script.lines x here h.stands e
+  pub seat_here : x.standing ≡ AtWork → next_of t p c ≡ Some x.work
+  seat_here e = let n = now e in next_is ∙ n.next
 
-  -- it has something to do until it has left
-  pub seat_busy : is_busy t p c ≡ not x.left
-  seat_busy = go x.left refl
-    where
-      go : (b : Bool) → x.left ≡ b → is_busy t p c ≡ not b
-      go true e = ap is_some (seat_gone e)
-      go false e = ap is_some (seat_here e)
+  pub seat_gone : x.standing ≢ AtWork → next_of t p c ≡ None
+  seat_gone e = next_is ∙ stands_still p.start h.script x here h.stands e
 
-  pub seat_answered : answered t p c ≡ length x.entries
-  seat_answered = ap (λ o. answered_of o here) h.is ∙ stands_answered p.start h.script x here h.stands
+  seat_life : x.standing ≡ AtWork → life_in p c (script_in t.scripts c) ≡ x.life.left
+  seat_life e = let n = now e in ap (life_in p c) h.is ∙ n.life
 
-  -- a word step of its work is its turn
-  pub seat_turn : (q : Pool) → x.left ≡ false → q ≡ worked (Some x.work) c p → q ≡ in_a_row t p c 1
-  seat_turn q e f = f ∙ ap (λ o. worked o c p) (sym (seat_here e))
+  -- they have something to do while one of them acts or comes next
+  pub seat_busy : is_busy t p c ≡ is_at_work x.standing
+  seat_busy = elim (standing_cases x.standing) [
+    | inl e ↦ ap is_some (seat_here e) ∙ ap is_at_work (sym e)
+    | inr n ↦ ap is_some (seat_gone n.1) ∙ sym n.0
+  ]
 
-  -- and once it has left a turn is none
-  pub seat_still : x.left ≡ true → p ≡ in_a_row t p c 1
-  seat_still e = ap (λ o. worked o c p) (sym (seat_gone e))
+  -- and so has the client
+  pub seat_client : is_client_busy t p c ≡ is_client x
+  seat_client = ap (λ (b : Bool). b && (agent_of here.memo == 0)) seat_busy ∙ elim (standing_cases x.standing) [
+    | inl e ↦ let n = now e in ap (λ (k : ℕ). is_at_work x.standing && (k == 0)) n.agent
+    | inr n ↦ ap (λ (b : Bool). b && (agent_of here.memo == 0)) n.0 ∙ ap (λ (b : Bool). b && (x.agent == 0)) (sym n.0)
+  ]
 
-  -- where no step is left its agent has made 2^40
-  spent_by : (start : Start) (lines : List Line) (e : Account) (b : Bool) → b ≡ false → x.life.left ≡ 0 → Stage b start lines x e → steps_made e.memo ≡ 2 ^ 40
-  spent_by start lines e true f z s = absurd (true≢false f)
-  spent_by start lines e false f z (inl s) = absurd (let y = s.life in omega arith)
-  spent_by start lines e false f z (inr s) = let y = s.life in ap steps_of s.agents ∙ (let k : s.steps + 0 ≡ 2 ^ 40 = omega arith in k)
+  pub seat_answered : is_client x ≡ true → answered t p c ≡ length x.entries
+  seat_answered e =
+      let is = client_here x e in
+      ap (λ o. answered_of o here) h.is ∙ stands_answered p.start h.script x here h.stands is.0 is.1
 
-  pub seat_spent : x.left ≡ false → x.life.left ≡ 0 → steps_made (memo_of p c) ≡ 2 ^ 40
-  seat_spent e z = spent_by p.start h.script.lines here x.left e z h.stands.stage
+  -- a word step of its work, or a death, is its turn
+  pub seat_turn : (q : Pool) → x.standing ≡ AtWork → q ≡ worked (Some x.work) x.life.left c p → q ≡ in_a_row t p c 1
+  seat_turn q e f =
+      f ∙ (ap (λ o. worked o x.life.left c p) (sym (seat_here e))
+      ∙ ap (λ (k : ℕ). worked (next_of t p c) k c p) (sym (seat_life e)))
 
-  -- once it has left it may visit the pool
-  pub seat_out : x.left ≡ true → IsOut (memo_of p c)
-  seat_out e =
-      let y = stands_parted p.start h.script.lines x here h.stands e in
-      record {
-        status = inr y.status;
-        none = ap (λ (xs : List Agent). acts_by (last_agent xs)) y.agents;
-        whole = ap (λ (xs : List Agent). fell_by (last_agent xs)) y.agents;
-        few = (let s : steps_made (memo_of p c) ≡ y.steps + 0 = ap steps_of y.agents in let l = y.life in omega arith);
-      }
+  -- and where none has anything left to do a turn is none
+  pub seat_still : x.standing ≢ AtWork → p ≡ in_a_row t p c 1
+  seat_still e = ap (λ o. worked o (life_in p c (script_in t.scripts c)) c p) (sym (seat_gone e))
+
+-- the script that they read is theirs
+pub script_read : (ss : List Scripted) (k j : ℕ) (s r : Scripted) → slice_get ss k ≡ Some s → j ≡ k → r ≡ slice_index_or ss j r → slice_get ss k ≡ Some r
+script_read ss k j s r at e is = ap (slice_get ss) (sym e) ∙ slice_get_read ss (length ss) j r refl (let w = slice_get_within ss k s at in omega arith) is
+
+same_script : (a b : Scripted) → ◌≡◌ {A = Option Scripted} (Some a) (Some b) → a ≡ b
+same_script a b e = cc
+
+pub seat_stands : (t : Traced) (p : Pool) (c : ℕ) (x : Playing) (r : Scripted) → IsSeat t p c x → slice_get t.scripts x.script ≡ Some r → Stands p.start r x (account_at p.accounts c)
+seat_stands t p c x r h at = subst (λ (s : Scripted). Stands p.start s x (account_at p.accounts c)) (same_script h.script r (sym h.at ∙ at)) h.stands
+
+-- and they keep their place where they stand in another pool
+pub seat_after : (t : Traced) (p q : Pool) (c : ℕ) (x y : Playing) (r : Scripted) → IsSeat t p c x → slice_get t.scripts x.script ≡ Some r → q.start ≡ p.start → y.me ≡ x.me → y.script ≡ x.script → Stands q.start r y (account_at q.accounts c) → IsSeat t q c y
+seat_after t p q c x y r h at start me script stands =
+    record {
+      me = me ∙ (h.me ∙ ap (λ (s : Start). member s.geometry c) (sym start));
+      script = r;
+      is = h.is ∙ (sym h.at ∙ at);
+      at = ap (slice_get t.scripts) script ∙ at;
+      stands = stands;
+    }
 
 -- ---- an identity
 
 -- one that has no script does nothing
 pub none_busy : (t : Traced) (p : Pool) (c : ℕ) → Seat t p c None → is_busy t p c ≡ false
-none_busy t p c h = ap (λ o. is_some (next_work t p c o)) h.0
-
--- once nothing is left to do, a client of it may visit the pool
-pub idle_out : (t : Traced) (p : Pool) (c : ℕ) (o : Option Playing) → Seat t p c o → is_busy t p c ≡ false → IsOut (memo_of p c)
-idle_out t p c None h e = subst IsOut (sym (ap (λ (a : Account). a.memo) h.1)) (record { status = inl refl; none = refl; whole = refl; few = omega arith })
-idle_out t p c (Some x) h e = seat_out t p c x h (go x.left (sym (seat_busy t p c x h) ∙ e))
-  where
-    go : (b : Bool) → not b ≡ false → b ≡ true
-    go true f = refl
-    go false f = absurd (true≢false f)
+none_busy t p c h = ap (λ o. is_some (next_work p c o)) h.0
 
 -- turns of others leave it
 pub seat_other : (t : Traced) (p q : Pool) (c : ℕ) (o : Option Playing) → q.start ≡ p.start → account_at q.accounts c ≡ account_at p.accounts c → Seat t p c o → Seat t q c o
@@ -103,7 +125,7 @@ seat_other t p q c (Some x) start same h =
       script = h.script;
       is = h.is;
       at = h.at;
-      stands = subst (λ (s : Start). Stands s h.script.lines x (account_at q.accounts c)) (sym start) (subst (Stands p.start h.script.lines x) (sym same) h.stands);
+      stands = subst (λ (s : Start). Stands s h.script x (account_at q.accounts c)) (sym start) (subst (Stands p.start h.script x) (sym same) h.stands);
     }
 
 -- ---- all
@@ -125,34 +147,34 @@ seats_set t p q xs c y h l start others seat =
       ];
     }
 
--- the steps left of all, where one client has others
-pub lives_set : (xs : List (Option Playing)) (c : ℕ) (x y : Playing) → c < length xs → slice_index_or xs c None ≡ Some x → lives (slice_set xs c (Some y)) + x.life.left ≡ lives xs + y.life.left
-lives_set [] c x y l e = absurd (omega arith)
-lives_set (o ∷ xs) zero x y l e = let k : life_in o ≡ x.life.left = ap life_in e in omega arith
-lives_set (o ∷ xs) (suc c) x y l e = let k = lives_set xs c x y (omega arith) e in omega arith
+-- the turns left of all, where the agents of one identity have others
+pub turns_set : (ss : List Scripted) (xs : List (Option Playing)) (c : ℕ) (x y : Playing) → c < length xs → slice_index_or xs c None ≡ Some x → turns_left ss (slice_set xs c (Some y)) + turns_in ss (Some x) ≡ turns_left ss xs + turns_in ss (Some y)
+turns_set ss [] c x y l e = absurd (omega arith)
+turns_set ss (o ∷ xs) zero x y l e = let k : turns_in ss o ≡ turns_in ss (Some x) = ap (turns_in ss) e in omega arith
+turns_set ss (o ∷ xs) (suc c) x y l e = let k = turns_set ss xs c x y (omega arith) e in omega arith
 
 -- ---- a row of turns
 
 module _ (t : Traced) (p : Pool) (c : ℕ) where
-  -- what holds of a row holds with one more turn
+  -- before each of so many turns the client was at work, and no more of its commands had answered
   abbrev pub Goes : ℕ → Type 0
-  Goes n = (m : ℕ) → m < n → (answered t (in_a_row t p c m) c ≡ answered t p c) × (is_busy t (in_a_row t p c m) c ≡ true)
+  Goes n = (m : ℕ) → m < n → (answered t (in_a_row t p c m) c ≡ answered t p c) × (is_client_busy t (in_a_row t p c m) c ≡ true)
 
-  pub goes_more : (n : ℕ) (q : Pool) (x : Playing) → Goes n → q ≡ in_a_row t p c n → IsSeat t q c x → x.left ≡ false → length x.entries ≡ answered t p c → Goes (n + 1)
+  pub goes_more : (n : ℕ) (q : Pool) (x : Playing) → Goes n → q ≡ in_a_row t p c n → IsSeat t q c x → is_client x ≡ true → length x.entries ≡ answered t p c → Goes (n + 1)
   goes_more n q x h e seat here same m l = elim (cases_eq m n) [
-    | inl f ↦ subst (λ (k : ℕ). (answered t (in_a_row t p c k) c ≡ answered t p c) × (is_busy t (in_a_row t p c k) c ≡ true)) (sym f)
-        (subst (λ (r : Pool). (answered t r c ≡ answered t p c) × (is_busy t r c ≡ true)) e (seat_answered t q c x seat ∙ same, ap is_some (seat_here t q c x seat here)))
+    | inl f ↦ subst (λ (k : ℕ). (answered t (in_a_row t p c k) c ≡ answered t p c) × (is_client_busy t (in_a_row t p c k) c ≡ true)) (sym f)
+        (subst (λ (r : Pool). (answered t r c ≡ answered t p c) × (is_client_busy t r c ≡ true)) e (seat_answered t q c x seat here ∙ same, seat_client t q c x seat ∙ here))
     | inr o ↦ h m (omega arith)
   ]
 
-  -- the last turn was answered, or left nothing to do
-  pub until_left : (n : ℕ) (q : Pool) (x : Playing) → n ≤ 100000 → Goes n → q ≡ in_a_row t p c n → IsSeat t q c x → x.left ≡ true → IsUntilAnswered t p c n
+  -- the last turn left the client nothing to do, or one more of its commands has answered
+  pub until_left : (n : ℕ) (q : Pool) (x : Playing) → n ≤ 100000 → Goes n → q ≡ in_a_row t p c n → IsSeat t q c x → is_client x ≡ false → IsUntilAnswered t p c n
   until_left n q x few h e seat gone =
-      record { few = few; going = h; last = inr (inr (ap (λ (r : Pool). is_busy t r c) (sym e) ∙ ap is_some (seat_gone t q c x seat gone))) }
+      record { few = few; going = h; last = inr (inr (ap (λ (r : Pool). is_client_busy t r c) (sym e) ∙ (seat_client t q c x seat ∙ gone))) }
 
-  pub until_more : (n : ℕ) (q : Pool) (x : Playing) → n ≤ 100000 → Goes n → q ≡ in_a_row t p c n → IsSeat t q c x → length x.entries ≢ answered t p c → IsUntilAnswered t p c n
-  until_more n q x few h e seat other =
-      record { few = few; going = h; last = inr (inl (λ f. other (sym (seat_answered t q c x seat) ∙ (ap (λ (r : Pool). answered t r c) e ∙ f)))) }
+  pub until_more : (n : ℕ) (q : Pool) (x : Playing) → n ≤ 100000 → Goes n → q ≡ in_a_row t p c n → IsSeat t q c x → is_client x ≡ true → length x.entries ≡ answered t p c + 1 → IsUntilAnswered t p c n
+  until_more n q x few h e seat here more =
+      record { few = few; going = h; last = inr (inl (ap (λ (r : Pool). answered t r c) (sym e) ∙ (seat_answered t q c x seat here ∙ more))) }
 
   pub until_many : Goes 100000 → IsUntilAnswered t p c 100000
   until_many h = record { few = omega arith; going = h; last = inl refl }
@@ -164,9 +186,12 @@ none_given t p i h = go i.turns refl
     idle : is_busy t p i.client ≡ false
     idle = none_busy t p i.client h
 
+    idle_client : is_client_busy t p i.client ≡ false
+    idle_client = ap (λ (b : Bool). b && (agent_of (account_at p.accounts i.client).memo == 0)) (none_busy t p i.client h)
+
     go : (k : ℕ) → i.turns ≡ k → (n : ℕ) × IsGiven t p i n × (p ≡ in_a_row t p i.client n)
-    go zero e = (0, record { counted = λ o. absurd (o e); bare = λ z. record { few = omega arith; going = λ m l. absurd (omega arith); last = inr (inr idle) } }, refl)
+    go zero e = (0, record { counted = λ o. absurd (o e); bare = λ z. record { few = omega arith; going = λ m l. absurd (omega arith); last = inr (inr idle_client) } }, refl)
     go (suc k) e = (i.turns, record { counted = λ o. refl; bare = λ z. absurd (let y : i.turns ≡ suc k = e in omega arith) }, sym (idle_row t p i.client i.turns idle))
 
 pub no_script_busy : (t : Traced) (p : Pool) (c : ℕ) → script_in t.scripts c ≡ None → is_busy t p c ≡ false
-no_script_busy t p c e = ap (λ o. is_some (next_work t p c o)) e
+no_script_busy t p c e = ap (λ o. is_some (next_work p c o)) e

@@ -1,7 +1,8 @@
 //! The turns that a trace gives to the agents of its scripts.
 
-ghost use Rattle.std.specs.Prelude.{◌≡◌, ◌≢◌, ◌<◌, ◌≤◌, ℕ, false, true, List};
+ghost use Rattle.std.specs.Prelude.{◌≡◌, ◌≢◌, ◌+◌, ◌<◌, ◌⊎◌, ℕ, false, true, List, length};
 ghost use Rattle.shm_graph.specs.Runs.{account_at};
+ghost use Rattle.shm_replay.specs.Agents.{is_client};
 ghost use Rattle.shm_replay.specs.Orders.{AreOfItems, IsGiven, IsUntilAnswered, from_on, rounds_of};
 ghost use Rattle.shm_replay.specs.Seats.{AreSeated, IsSeat, turns_in, turns_left};
 ghost use Rattle.shm_replay.specs.Turns.{given, in_a_row, is_busy};
@@ -23,6 +24,7 @@ fn give_turn(agents: &mut Agents, trace: &Trace, pool: &mut PlainPool)
     ensures start { pool.new.start ≡ pool.old.start }
     ensures turns { agents.old.standing ≡ Standing.AtWork → turns_in trace.now.scripts (Some agents.new) < turns_in trace.now.scripts (Some agents.old) }
     ensures still { agents.old.standing ≢ Standing.AtWork → agents.new ≡ agents.old }
+    ensures grows { is_client agents.old ≡ true → is_client agents.new ≡ true → (length agents.new.entries ≡ length agents.old.entries) ⊎ (length agents.new.entries ≡ length agents.old.entries + 1) }
 {
     if agents.standing() == Standing::AtWork {
         agents.turn(&trace.scripts[agents.script()], pool);

@@ -280,8 +280,8 @@ module _ (m : RecoverState) (r0 rs r : Memo) (tr t : Trail) (es ds : List Event)
       }
 
   -- the own era left no room
-  stopped : (k j era : ℕ) (vs : List Visit) → IsRecovering m.me k r0 rs tr es → lasting r ≡ lasting rs → r.op ≡ Nothing → HasCome c r0 r → All (λ (v : Visit). Contains r.dying v.block) vs → 2 ^ 47 - 3 < era → era ≤ own_word r.own (Era c c) → IsWithin (j + 164 * (frees ds + length vs)) t → k + j ≤ 400 + 530 * g → RecoverStopped m.me r0 r (tr ++ t) (es ++ ds) era
-  stopped k j era vs h same idle come stay spent own bound most =
+  stopped : (k j era : ℕ) (vs : List Visit) → IsRecovering m.me k r0 rs tr es → lasting r ≡ lasting rs → r.op ≡ Nothing → HasCome c r0 r → All (λ (v : Visit). Contains r.dying v.block) vs → (2 ^ 47 - 3 < era) × (era ≤ own_word r.own (Era c c)) → IsWithin (j + 164 * (frees ds + length vs)) t → k + j ≤ 400 + 530 * g → RecoverStopped m.me r0 r (tr ++ t) (es ++ ds) era
+  stopped k j era vs h same idle come stay spent bound most =
       let x = h.mended in
       let last = same ∙ x.same in
       let f = frees-append es ds in
@@ -296,8 +296,8 @@ module _ (m : RecoverState) (r0 rs r : Memo) (tr t : Trail) (es ds : List Event)
         come = come;
         vs = vs;
         stays = stay;
-        spent = spent;
-        most = own;
+        spent = spent.0;
+        most = spent.1;
         bound = omega arith;
       }
 
@@ -305,7 +305,7 @@ module _ (m : RecoverState) (r0 rs r : Memo) (tr t : Trail) (es ds : List Event)
   stopped_roots e (h, takes, unsent) (vs, y) =
       let s = y.left.rest in
       let most = h.member.geometry.clients in
-      stopped (n + 14) 144 e.era vs h (ap lasting s) y.left.op (inl (same_takes takes (λ i. record { received = ap (λ (x : Memo). slice_index_or x.received i []) s; untaken = ap (λ (x : Memo). slice_index x.untaken i) s; head = y.left.own (QueueHead i c) refl refl }))) y.stopped.left y.stopped.spent y.most y.bound (omega arith)
+      stopped (n + 14) 144 e.era vs h (ap lasting s) y.left.op (inl (same_takes takes (λ i. record { received = ap (λ (x : Memo). slice_index_or x.received i []) s; untaken = ap (λ (x : Memo). slice_index x.untaken i) s; head = y.left.own (QueueHead i c) refl refl }))) y.stopped.left (y.stopped.spent, y.most) y.bound (omega arith)
 
   stopped_back : (e : EraSpent) → RecoverKnows m Back r0 rs tr es → BackLeaves (taking_back m.me) rs r t ds (Err e) → RecoverStopped m.me r0 r (tr ++ t) (es ++ ds) e.era
   stopped_back e (h, takes, unsent, roots, some) (vs, y) =
@@ -313,7 +313,7 @@ module _ (m : RecoverState) (r0 rs r : Memo) (tr t : Trail) (es ds : List Event)
       let most = h.member.geometry.clients in
       stopped (n + 158) (11 * (n - 1)) e.era vs h (ap lasting s) y.back.op
       (inr (inl ((λ k. y.back.own (Root c k) refl ∙ roots k), same_takes takes (λ i. record { received = ap (λ (x : Memo). slice_index_or x.received i []) s; untaken = ap (λ (x : Memo). slice_index x.untaken i) s; head = y.back.own (QueueHead i c) refl }))))
-      y.stopped.left y.stopped.spent y.most y.bound (omega arith)
+      y.stopped.left (y.stopped.spent, y.most) y.bound (omega arith)
 
   stopped_scan : (e : EraSpent) → RecoverKnows m Scan r0 rs tr es → ScanStopped m.me rs r t ds e.era → RecoverStopped m.me r0 r (tr ++ t) (es ++ ds) e.era
   stopped_scan e (h, roots, sent, taken) y =
@@ -325,7 +325,7 @@ module _ (m : RecoverState) (r0 rs r : Memo) (tr t : Trail) (es ds : List Event)
         (λ j. ap (λ (x : Memo). slice_index x.unsent j) s ∙ sent j),
         taken_still taken (still_rest s y.scanned.own),
       )))
-      y.stopped y.spent y.most y.bound (omega arith)
+      y.stopped (y.spent, y.most) y.bound (omega arith)
 
 -- what is known before the first call
 pub recover_begin : (me : Me) (r : Memo) → MayMend me r → RecoverKnows (record { me = me; point = Mend }) Mend r r [] []

@@ -428,7 +428,7 @@ module _ (m : ScanState) (r0 rs r : Memo) (tr t : Trail) (es ds : List Event) (h
         ];
         stopped = y.left;
         spent = y.last;
-        most = let own = y.spent in omega arith;
+        most = let u = y.spent in omega arith;
         bound = omega arith;
       }
 

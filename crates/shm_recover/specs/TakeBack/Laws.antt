@@ -321,7 +321,7 @@ module _ (m : BackState) (r0 rs r : Memo) (tr t : Trail) (es ds : List Event) (h
         record {
           back = back_untouched c r0 rs r u h.taken.back;
           stopped = record { left = All-nil (λ (v : Visit). Contains r.dying v.block); others = all_outside r.dying ∙ (ap (λ (x : Memo). x.dying) u.rest ∙ h.dying); spent = s.did.1.1 };
-          most = let read = s.did.1.0 in let rows = u.rows c in omega arith;
+          most = let v = s.did.1.0 in let w = u.rows c in omega arith;
           bound = omega arith;
         },
       )
@@ -351,7 +351,7 @@ module _ (m : BackState) (r0 rs r : Memo) (tr t : Trail) (es ds : List Event) (h
             record {
               back = back_took c i (m.at % 8) m.block false r0 h.q r lost.0 h.taken.back;
               stopped = record { left = y.left; others = y.others ∙ (ap (filter (not_block m.block)) h.lost.dying ∙ (without_new m.block h.q.dying h.counted ∙ h.dying)); spent = y.last };
-              most = let own = y.spent in omega arith;
+              most = let v = y.spent in omega arith;
               bound = omega arith;
             },
           )

@@ -1,10 +1,12 @@
-use Rattle.std.proofs.Common.{◌≡◌, refl, ap, ◌∙◌, List, [], Result}
+use Rattle.std.proofs.Common.{◌≡◌, ◌<◌, refl, ap, ◌∙◌, false, List, [], length, Result}
 use Rattle.std.specs.Prelude.{Ok, Err, IfOk}
+use Rattle.std.specs.Option.{is_some}
 use Rattle.shm_graph.specs.declared.ask.Me.{Me}
 use Rattle.shm_graph.specs.declared.memo.Memo.{Memo}
 use Rattle.shm_graph.specs.declared.memo.Status.TheVariants.{Gone}
 use Rattle.shm_graph.specs.Asks.{Trail}
 use Rattle.shm_graph.specs.Events.{Event}
+use Rattle.shm_steps.specs.Reparting.{map_in}
 use Rattle.shm_plain.specs.Pools.{memo_of}
 use Rattle.shm_plain.specs.Calls.{Did}
 use Rattle.shm_calls.specs.CallsControl.{calls_control, calls_does, calls_of}
@@ -16,7 +18,9 @@ use Rattle.shm_recover.specs.declared.leave.LeaveState.{LeaveState}
 use Rattle.shm_recover.specs.Leave.Control.{leave_parts, leaving}
 use Rattle.shm_recover.specs.Leave.{LeaveLeaves, leave_plan}
 use Rattle.shm_recover.specs.Leave.Laws.{leave_laws}
-use Rattle.plain_calls.proofs.Called.{answered, call_fits}
+use Rattle.shm_recover.proofs.Steady.{leave_steady}
+use Rattle.plain_calls.proofs.Called.{answered, call_fits, fits_first}
+use Rattle.plain_calls.proofs.Cut.{cut_map, either_way, long}
 use Rattle.plain_calls.proofs.PlanCalls.{Answered}
 use Rattle.plain_calls.proofs.leaving.leave.Goals.{After-new-machine, After-call}
 use Rattle.plain_calls.proofs.leaving.leave.Goals as goal
@@ -60,6 +64,26 @@ pub returns-clause-gone : goal.returns-clause-gone
 returns-clause-gone c =
     let at = (goal.at.returns-clause-gone c).After-call in
     (called at).follows (λ a. IfOk a (λ u. (memo_of c.call.new.self c.args.who).status ≡ Gone)) (λ a g. gone_by (plan (goal.at.After-call at).After-new-machine) _ _ _ _ a g.leaves)
+
+-- and the map stays
+map_by : (m : LeaveState) (r0 r : Memo) (tr : Trail) (es : List Event) (a : Result (Unit {0}) EraSpent) → LeaveLeaves m r0 r tr es a → map_in r.part ≡ map_in r0.part
+map_by m r0 r tr es (Ok u) h = ap map_in h.part
+map_by m r0 r tr es (Err e) h = ap (λ (x : Memo). map_in x.part) h.1.left.rest
+
+-- also where it was cut off
+cut : (c : After-call) → is_some c.call.result ≡ false → map_in (memo_of c.call.new.self c.args.who).part ≡ map_in (memo_of c.args.pool.now c.args.who).part
+cut c none =
+    let at = (goal.at.After-call c).After-new-machine in
+    let left = c.call.ensures.cut none in
+    let first = fits_first (calls_control leave_parts leave_plan) (CallsFits leave_parts leave_plan) (CallsGives leave_parts leave_plan) c.args.who c.args.pool.now c.requires.may.may.geometry c.requires.may.may.who c.requires.acts (calls_of leave_plan (plan at)) refl (fit at) c.new-machine.result (state at) in
+    let many : c.args.who < length c.call.new.self.accounts = long c.args.who c.args.pool.now c.call.new.self c.call.ensures.ran.start c.call.ensures.ran.run c.requires.may.may.who in
+    cut_map (calls_control leave_parts leave_plan) (CallsFits leave_parts leave_plan) leave_steady c.call.new.m (memo_of c.args.pool.now c.args.who) c.call.new.self c.args.who many left.0 (left.1 (memo_of c.args.pool.now c.args.who) first)
+
+pub returns-clause-map : goal.returns-clause-map
+returns-clause-map c =
+    let at = (goal.at.returns-clause-map c).After-call in
+    let P : Type 0 = map_in (memo_of c.call.new.self c.args.who).part ≡ map_in (memo_of c.args.pool.now c.args.who).part in
+    either_way P c.call.result ((called at).follows (λ a. P) (λ a g. map_by (plan (goal.at.After-call at).After-new-machine) _ _ _ _ a g.leaves)) (cut at)
 
 pub returns-clause-ran : goal.returns-clause-ran
 returns-clause-ran c = (called (goal.at.returns-clause-ran c).After-call).ran

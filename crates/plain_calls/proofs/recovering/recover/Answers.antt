@@ -1,4 +1,4 @@
-use Rattle.std.proofs.Common.{◌≡◌, refl, ap, ◌∙◌, true, List, [], Result}
+use Rattle.std.proofs.Common.{◌≡◌, ◌<◌, refl, ap, ◌∙◌, true, false, List, [], length, Result}
 use Rattle.std.specs.Prelude.{Option, Some, None, Ok, Err, IfOk, IfSome}
 use Rattle.std.specs.Option.{is_some}
 use Rattle.shm_graph.specs.declared.ask.Me.{Me}
@@ -29,8 +29,10 @@ use Rattle.shm_recover.specs.Recover.Laws.{recover_begin, recover_laws}
 use Rattle.shm_recover.specs.Recover.{RecoverLeaves, recover_plan}
 use Rattle.shm_recover.specs.Scan.Laws.{scan_laws}
 use Rattle.shm_recover.specs.TakeBack.Laws.{back_laws}
+use Rattle.shm_recover.proofs.Steady.{recover_steady}
 use Rattle.plain_calls.proofs.Called.{Called}
-use Rattle.plain_calls.proofs.Fallen.{fallen_fits, fallen_gave, fallen_ran, fallen_told, may_begin}
+use Rattle.plain_calls.proofs.Cut.{cut_map, either_way, long}
+use Rattle.plain_calls.proofs.Fallen.{fallen_first, fallen_fits, fallen_gave, fallen_ran, fallen_told, may_begin}
 use Rattle.plain_calls.proofs.recovering.recover.Goals.{After-new-machine, After-call}
 use Rattle.plain_calls.proofs.recovering.recover.Goals as goal
 
@@ -117,10 +119,20 @@ returns-clause-gone c =
     let at = (goal.at.returns-clause-gone c).After-call in
     left_of (Result (Unit {0}) EraSpent) (Left at) (λ a. IfOk a (λ u. (memo_of c.call.new.self c.args.who).status ≡ Gone)) c.call.result (λ a h. gone_by (plan (goal.at.After-call at).After-new-machine) _ _ _ _ a h.2) (left at)
 
+-- where it was cut off the map is as it was
+cut : (c : After-call) → is_some c.call.result ≡ false → map_in (memo_of c.call.new.self c.args.who).part ≡ map_in (memo_of c.args.pool.now c.args.who).part
+cut c none =
+    let at = (goal.at.After-call c).After-new-machine in
+    let left = c.call.ensures.cut none in
+    let first = fallen_first c.args.pool.now c.args.who c.geometry-geometry.ensures.run c.requires.who c.requires.fell (calls_control recover_parts recover_plan) (CallsFits recover_parts recover_plan) (CallsGives recover_parts recover_plan) (calls_of recover_plan (plan at)) refl (fit at) c.new-machine.result (state at) in
+    let many : c.args.who < length c.call.new.self.accounts = long c.args.who c.args.pool.now c.call.new.self c.call.ensures.ran.start c.call.ensures.ran.run c.requires.who in
+    cut_map (calls_control recover_parts recover_plan) (CallsFits recover_parts recover_plan) recover_steady c.call.new.m (entered Recoverer (memo_of c.args.pool.now c.args.who)) c.call.new.self c.args.who many left.0 (left.1 (entered Recoverer (memo_of c.args.pool.now c.args.who)) first)
+
 pub returns-clause-map : goal.returns-clause-map
 returns-clause-map c =
     let at = (goal.at.returns-clause-map c).After-call in
-    left_of (Result (Unit {0}) EraSpent) (Left at) (λ a. map_in (memo_of c.call.new.self c.args.who).part ≡ map_in (memo_of c.args.pool.now c.args.who).part) c.call.result (λ a h. map_by (plan (goal.at.After-call at).After-new-machine) _ _ _ _ a h.2) (left at)
+    let P : Type 0 = map_in (memo_of c.call.new.self c.args.who).part ≡ map_in (memo_of c.args.pool.now c.args.who).part in
+    either_way P c.call.result (left_of (Result (Unit {0}) EraSpent) (Left at) (λ a. P) c.call.result (λ a h. map_by (plan (goal.at.After-call at).After-new-machine) _ _ _ _ a h.2) (left at)) (cut at)
 
 pub returns-clause-events : goal.returns-clause-events
 returns-clause-events c = left (goal.at.returns-clause-events c).After-call

@@ -11,9 +11,6 @@ use Rattle.shm_plain.specs.Pools.{Pool}
 use Rattle.shm_replay.proofs.Giving.{fits_at, items_given, items_more, take_all}
 use Rattle.shm_replay.proofs.order.give_items.Goals as goal
 
-pub loop-item-init : goal.loop-item-init
-loop-item-init c = record { seated = c.requires.seated; turns = ([], refl, refl); start = refl }
-
 pub give_item-requires-clause-item : goal.give_item-requires-clause-item
 give_item-requires-clause-item c =
     let order : c.args.trace.now.order ≡ c.as_slice-item-items.result.now = (let v = ap (λ (t : Traced). t.order) c.trace.view_is in cc) in
@@ -25,7 +22,7 @@ loop-item-preserved c =
     let h = l.invariant in
     let t = c.args.trace.now in
     let p = c.args.pool.now in
-    let g = c.in_ok-give_item.ensures in
+    let g = c.give_item.ensures in
     let item = slice_index_or c.as_slice-item-items.result.now l.item-index (record { client = 0; turns = 0 }) in
     let (cs, are, is) = h.turns in
     let (n, gives, made) = g.given in

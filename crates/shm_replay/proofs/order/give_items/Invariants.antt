@@ -6,7 +6,7 @@ use Rattle.shm_replay.proofs.order.give_items.Given as goal
 
 abbrev pub invariant-loop-item : goal.invariant-loop-item
 invariant-loop-item l = record {
-  seated : AreSeated l.trace l.pool l.clients;
+  seated : AreSeated l.trace l.pool l.agents;
   turns : (cs : List ℕ) × AreOfItems l.trace l.fn.pool (take l.item-index l.trace.order) cs × (l.pool ≡ given l.trace l.fn.pool cs);
   start : l.pool.start ≡ l.fn.pool.start;
 }

@@ -7,11 +7,8 @@ use Rattle.shm_replay.specs.Turns.{given, in_a_row, is_busy, script_in}
 use Rattle.shm_replay.proofs.Gathering.{script_beyond}
 use Rattle.shm_replay.proofs.Giving.{from_given, idle_row}
 use Rattle.shm_replay.proofs.Seating.{no_script_busy}
-use Rattle.shm_replay.proofs.order.give_round.Goals.{else-branch, then-branch}
+use Rattle.shm_replay.proofs.order.give_round.Goals.{else-give_one, then-give_one}
 use Rattle.shm_replay.proofs.order.give_round.Goals as goal
-
-pub loop-who-init : goal.loop-who-init
-loop-who-init c = record { seated = c.requires.seated; turns = refl; life = λ e. absurd (true≢false (sym e)); less = omega arith; still = λ e. refl; idle = λ e k l. absurd (omega arith); start = refl }
 
 pub loop-who-preserved : goal.loop-who-preserved
 loop-who-preserved c =
@@ -20,11 +17,11 @@ loop-who-preserved c =
     let t = c.args.trace.now in
     let p = c.args.pool.now in
     let q = c.give_one.new.pool in
-    let g = c.in_ok-give_one.ensures in
+    let g = c.give_one.ensures in
     let turns : q ≡ given t p (from_on 0 (l.who + 1)) = from_given t p l.pool q l.who h.turns g.given in
-    elim c.if-branch.branch [
-      | then-branch w ↦
-          let fell = g.life w.if-branch.true in
+    elim c.if-give_one.branch [
+      | then-give_one w ↦
+          let fell = g.some w.if-give_one.true in
           let less = h.less in
           record {
             seated = g.seated;
@@ -35,9 +32,9 @@ loop-who-preserved c =
             idle = λ e k few. absurd (true≢false (sym w.some-is ∙ e));
             start = g.start ∙ h.start;
           }
-      | else-branch w ↦
-          let same = g.none w.if-branch.false in
-          let idle : is_busy t l.pool l.who ≡ false = sym g.busy ∙ w.if-branch.false in
+      | else-give_one w ↦
+          let same = g.none w.if-give_one.false in
+          let idle : is_busy t l.pool l.who ≡ false = sym g.busy ∙ w.if-give_one.false in
           let less = h.less in
           record {
             seated = g.seated;

@@ -5,13 +5,10 @@ use Rattle.shm_replay.specs.Turns.{given}
 use Rattle.shm_replay.proofs.Giving.{rounds_more}
 use Rattle.shm_replay.proofs.order.give_rounds.Goals as goal
 
-pub loop-init : goal.loop-init
-loop-init c = record { seated = c.requires.seated; turns = (0, refl); start = refl }
-
 pub loop-preserved : goal.loop-preserved
 loop-preserved c =
     let h = c.loop.invariant in
-    let g = c.in_ok-give_round.ensures in
+    let g = c.give_round.ensures in
     let (n, is) = h.turns in
     record {
       seated = g.seated;
@@ -19,8 +16,8 @@ loop-preserved c =
       start = g.start ∙ h.start;
     }
 
-pub returns-then-not-branch-clause-given : goal.returns-then-not-branch-clause-given
-returns-then-not-branch-clause-given c =
+pub returns-clause-given : goal.returns-clause-given
+returns-clause-given c =
     let h = c.loop.invariant in
     let (n, is) = h.turns in
-    (suc n, rounds_more c.args.trace.now c.args.pool.now c.loop.pool c.give_round.new.pool n is c.in_ok-give_round.ensures.given)
+    (suc n, rounds_more c.args.trace.now c.args.pool.now c.loop.pool c.give_round.new.pool n is c.give_round.ensures.given)

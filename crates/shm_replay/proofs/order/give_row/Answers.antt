@@ -8,29 +8,19 @@ use Rattle.shm_replay.proofs.order.give_row.Goals as goal
 pub give_turn-requires : goal.give_turn-requires
 give_turn-requires c =
     let h = c.loop-turn.invariant in
-    record { seat = subst (λ (n : ℕ). IsSeat c.args.trace.now c.loop-turn.pool n c.loop-turn.client) (sym (ap (λ (m : Me). m.who) h.me)) h.seat }
+    record { seat = subst (λ (n : ℕ). IsSeat c.args.trace.now c.loop-turn.pool n c.loop-turn.agents) (sym (ap (λ (m : Me). m.who) h.me)) h.seat }
 
 pub loop-turn-preserved : goal.loop-turn-preserved
 loop-turn-preserved c =
     let l = c.loop-turn in
     let h = l.invariant in
     let t = c.args.trace.now in
-    let e : l.client.me.who ≡ c.args.client.now.me.who = ap (λ (m : Me). m.who) h.me in
-    let g = c.in_ok-give_turn.ensures in
+    let e : l.agents.me.who ≡ c.args.agents.now.me.who = ap (λ (m : Me). m.who) h.me in
+    let g = c.give_turn.ensures in
     record {
       me = g.me ∙ h.me;
-      seat = subst (λ (n : ℕ). IsSeat t c.give_turn.new.pool n c.give_turn.new.client) e g.seat;
-      given = row_more t c.args.pool.now l.pool c.give_turn.new.pool c.args.client.now.me.who l._turn h.given (subst (λ (n : ℕ). c.give_turn.new.pool ≡ in_a_row t l.pool n 1) e g.given);
+      seat = subst (λ (n : ℕ). IsSeat t c.give_turn.new.pool n c.give_turn.new.agents) e g.seat;
+      given = row_more t c.args.pool.now l.pool c.give_turn.new.pool c.args.agents.now.me.who l._turn h.given (subst (λ (n : ℕ). c.give_turn.new.pool ≡ in_a_row t l.pool n 1) e g.given);
       others = λ d o. g.others d (λ f. o (f ∙ e)) ∙ h.others d o;
       start = g.start ∙ h.start;
     }
-
-pub returns-in_err-give_turn-clause-seat : goal.returns-in_err-give_turn-clause-seat
-returns-in_err-give_turn-clause-seat c =
-    let h = c.loop-turn.invariant in
-    subst (λ (n : ℕ). IsSeat c.args.trace.now c.give_turn.new.pool n c.give_turn.new.client) (ap (λ (m : Me). m.who) h.me) c.give_turn.ensures.seat
-
-pub returns-in_err-give_turn-clause-others : goal.returns-in_err-give_turn-clause-others
-returns-in_err-give_turn-clause-others c d o =
-    let h = c.loop-turn.invariant in
-    c.give_turn.ensures.others d (λ f. o (f ∙ ap (λ (m : Me). m.who) h.me)) ∙ h.others d o

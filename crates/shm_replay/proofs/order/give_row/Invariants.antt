@@ -6,9 +6,9 @@ use Rattle.shm_replay.proofs.order.give_row.Given as goal
 
 abbrev pub invariant-loop-turn : goal.invariant-loop-turn
 invariant-loop-turn l = record {
-  me : l.client.me ≡ l.fn.client.me;
-  seat : IsSeat l.trace l.pool l.fn.client.me.who l.client;
-  given : l.pool ≡ in_a_row l.trace l.fn.pool l.fn.client.me.who l._turn;
-  others : (d : ℕ) → d ≢ l.fn.client.me.who → account_at l.pool.accounts d ≡ account_at l.fn.pool.accounts d;
+  me : l.agents.me ≡ l.fn.agents.me;
+  seat : IsSeat l.trace l.pool l.fn.agents.me.who l.agents;
+  given : l.pool ≡ in_a_row l.trace l.fn.pool l.fn.agents.me.who l._turn;
+  others : (d : ℕ) → d ≢ l.fn.agents.me.who → account_at l.pool.accounts d ≡ account_at l.fn.pool.accounts d;
   start : l.pool.start ≡ l.fn.pool.start;
 }

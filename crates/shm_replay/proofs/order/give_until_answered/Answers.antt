@@ -1,7 +1,9 @@
-use Rattle.std.proofs.Common.{◌≡◌, ◌≢◌, ℕ, ◌<◌, ◌≤◌, false, true, length, refl, sym, ap, ◌∙◌, subst, arith}
+use Rattle.std.proofs.Common.{◌≡◌, ◌≢◌, ℕ, ◌+◌, ◌<◌, ◌≤◌, false, true, length, refl, sym, ap, ◌∙◌, subst, arith, inl, inr, rules}
+use Rattle.std.specs.Prelude.{◌⊎◌}
 use Rattle.shm_graph.specs.declared.ask.Me.{Me}
+use Rattle.shm_replay.specs.Agents.{is_client}
 use Rattle.shm_replay.specs.Seats.{IsSeat}
-use Rattle.shm_replay.specs.Turns.{in_a_row}
+use Rattle.shm_replay.specs.Turns.{answered, in_a_row}
 use Rattle.shm_replay.proofs.Giving.{row_more}
 use Rattle.shm_replay.proofs.Seating.{Goes, goes_more, seat_answered, until_left, until_many, until_more}
 use Rattle.shm_replay.proofs.order.give_until_answered.Goals as goal
@@ -14,61 +16,57 @@ loop-turn-init c =
       given = refl;
       others = λ d o. refl;
       start = refl;
-      before = c.answered-answered.ensures ∙ sym (seat_answered c.args.trace.now c.args.pool.now c.args.client.now.me.who c.args.client.now c.requires.seat);
+      before = λ here. c.answered-answered.ensures ∙ sym (seat_answered c.args.trace.now c.args.pool.now c.args.agents.now.me.who c.args.agents.now c.requires.seat here);
+      near = λ here. inl (sym c.answered-answered.ensures);
       going = λ m l. absurd (omega arith);
     }
 
 pub give_turn-requires : goal.give_turn-requires
 give_turn-requires c =
     let h = c.loop-turn.invariant in
-    record { seat = subst (λ (n : ℕ). IsSeat c.args.trace.now c.loop-turn.pool n c.loop-turn.client) (sym (ap (λ (m : Me). m.who) h.me)) h.seat }
+    record { seat = subst (λ (n : ℕ). IsSeat c.args.trace.now c.loop-turn.pool n c.loop-turn.agents) (sym (ap (λ (m : Me). m.who) h.me)) h.seat }
 
 pub loop-turn-preserved : goal.loop-turn-preserved
 loop-turn-preserved c =
     let l = c.loop-turn in
     let h = l.invariant in
     let t = c.args.trace.now in
-    let e : l.client.me.who ≡ c.args.client.now.me.who = ap (λ (m : Me). m.who) h.me in
-    let g = c.in_ok-give_turn.ensures in
+    let e : l.agents.me.who ≡ c.args.agents.now.me.who = ap (λ (m : Me). m.who) h.me in
+    let g = c.give_turn.ensures in
+    let here : is_client l.agents ≡ true = sym c.is_client.ensures ∙ (let yes : c.is_client.result ≡ true = search rules in yes) in
+    let same : length l.agents.entries ≡ c.answered-answered.result = sym c.answered-now.ensures ∙ c.if-now-answered.false in
     record {
       me = g.me ∙ h.me;
-      seat = subst (λ (n : ℕ). IsSeat t c.give_turn.new.pool n c.give_turn.new.client) e g.seat;
-      given = row_more t c.args.pool.now l.pool c.give_turn.new.pool c.args.client.now.me.who l._turn h.given (subst (λ (n : ℕ). c.give_turn.new.pool ≡ in_a_row t l.pool n 1) e g.given);
+      seat = subst (λ (n : ℕ). IsSeat t c.give_turn.new.pool n c.give_turn.new.agents) e g.seat;
+      given = row_more t c.args.pool.now l.pool c.give_turn.new.pool c.args.agents.now.me.who l._turn h.given (subst (λ (n : ℕ). c.give_turn.new.pool ≡ in_a_row t l.pool n 1) e g.given);
       others = λ d o. g.others d (λ f. o (f ∙ e)) ∙ h.others d o;
       start = g.start ∙ h.start;
-      before = h.before;
-      going = goes_more t c.args.pool.now c.args.client.now.me.who l._turn l.pool l.client h.going h.given h.seat (sym c.has_left.ensures ∙ c.if-has_left.false) (sym c.answered-now.ensures ∙ (c.if-now-answered.false ∙ h.before));
+      before = λ then. h.before here;
+      near = λ then. elim (g.grows here then) [ inl f ↦ inl (f ∙ same) | inr f ↦ inr (f ∙ ap (λ (n : ℕ). n + 1) same) ];
+      going = goes_more t c.args.pool.now c.args.agents.now.me.who l._turn l.pool l.agents h.going h.given h.seat here (same ∙ h.before here);
     }
 
-pub returns-then-has_left-clause-given : goal.returns-then-has_left-clause-given
-returns-then-has_left-clause-given c =
+pub returns-then-not-is_client-clause-given : goal.returns-then-not-is_client-clause-given
+returns-then-not-is_client-clause-given c =
     let l = c.loop-turn in
     let h = l.invariant in
     let few : l._turn ≤ 100000 = omega arith in
-    (l._turn, until_left c.args.trace.now c.args.pool.now c.args.client.now.me.who l._turn l.pool l.client few h.going h.given h.seat (sym c.has_left.ensures ∙ c.if-has_left.true), h.given)
+    (l._turn, until_left c.args.trace.now c.args.pool.now c.args.agents.now.me.who l._turn l.pool l.agents few h.going h.given h.seat (sym c.is_client.ensures ∙ (let no : c.is_client.result ≡ false = search rules in no)), h.given)
 
 pub returns-then-now-answered-clause-given : goal.returns-then-now-answered-clause-given
 returns-then-now-answered-clause-given c =
     let l = c.loop-turn in
     let h = l.invariant in
     let few : l._turn ≤ 100000 = omega arith in
-    (l._turn, until_more c.args.trace.now c.args.pool.now c.args.client.now.me.who l._turn l.pool l.client few h.going h.given h.seat (λ e. c.if-now-answered.true (c.answered-now.ensures ∙ (e ∙ sym h.before))), h.given)
+    let here : is_client l.agents ≡ true = sym c.is_client.ensures ∙ (let yes : c.is_client.result ≡ true = search rules in yes) in
+    let more : length l.agents.entries ≡ answered c.args.trace.now c.args.pool.now c.args.agents.now.me.who + 1 = elim (h.near here) [ inl f ↦ absurd (c.if-now-answered.true (c.answered-now.ensures ∙ f)) | inr f ↦ f ∙ ap (λ (n : ℕ). n + 1) (h.before here) ] in
+    (l._turn, until_more c.args.trace.now c.args.pool.now c.args.agents.now.me.who l._turn l.pool l.agents few h.going h.given h.seat here more, h.given)
 
 pub returns-clause-given : goal.returns-clause-given
 returns-clause-given c =
     let l = c.loop-turn in
     let h = l.invariant in
     let t = c.args.trace.now in
-    let who : ℕ = c.args.client.now.me.who in
+    let who : ℕ = c.args.agents.now.me.who in
     let all : l._turn ≡ 100000 = omega arith in
     (100000, until_many t c.args.pool.now who (subst (Goes t c.args.pool.now who) all h.going), subst (λ (n : ℕ). l.pool ≡ in_a_row t c.args.pool.now who n) all h.given)
-
-pub returns-in_err-give_turn-clause-seat : goal.returns-in_err-give_turn-clause-seat
-returns-in_err-give_turn-clause-seat c =
-    let h = c.loop-turn.invariant in
-    subst (λ (n : ℕ). IsSeat c.args.trace.now c.give_turn.new.pool n c.give_turn.new.client) (ap (λ (m : Me). m.who) h.me) c.give_turn.ensures.seat
-
-pub returns-in_err-give_turn-clause-others : goal.returns-in_err-give_turn-clause-others
-returns-in_err-give_turn-clause-others c d o =
-    let h = c.loop-turn.invariant in
-    c.give_turn.ensures.others d (λ f. o (f ∙ ap (λ (m : Me). m.who) h.me)) ∙ h.others d o
