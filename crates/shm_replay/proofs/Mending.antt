@@ -353,7 +353,7 @@ module _ (s : Scripted) (x : Playing) (e : Account) (h : IsMending s x e) (n : �
           let m = told_rest again.line e2.memo.call true e.told in (
             m.0,
             ap (λ (b : Bool). cond b (told_by again.line e2.memo.call true (told_left again.fresh e)) (told_left again.fresh e)) over
-            ∙ (ap (λ (ts : List LoggedLine). told_by again.line e2.memo.call true ts) told_before ∙ m.1),
+                ∙ (ap (λ (ts : List LoggedLine). told_by again.line e2.memo.call true ts) told_before ∙ m.1),
           )
 
       pub mend_done : (a ≡ First (Second (Ok tt))) × ((w : Work) → IsMended s (record x { work = w; life = life; standing = Gone }) e2)
