@@ -5,7 +5,7 @@ use Rattle.clap.specs.Words.{App, IsAmong, Kinds, Row, fault_of, is_simple, is_s
 use Rattle.clap.specs.declared.error.kind.ErrorKind.{ErrorKind}
 use Rattle.clap.specs.declared.parser.matches.ArgMatches.{ArgMatches}
 use Rattle.clap.proofs.OnLiterals.{clap_on_literals}
-use Rattle.cxlshm.specs.Words.{NamesCommand, asked, audit_command, make_command, name_of, read_by, replay_command, rows_in, unless_faulty}
+use Rattle.cxlshm.specs.Words.{NamesCommand, asked, audit_command, job_by, job_of, make_command, name_of, read_by, replay_command, rows_in, unless_faulty}
 use Rattle.cxlshm.specs.declared.words.Job.{Job}
 use Rattle.cxlshm.specs.declared.words.Name.{Name}
 
@@ -56,6 +56,15 @@ unasked_when a b job words read same is e =
 pub names_command : {A : Type 0} (f : A → List ℕ) (ws : List A) (d : A) (n : Name) → 0 < length ws → name_of (f (get_or ws 0 d)) ≡ Some n → NamesCommand (map f ws)
 names_command f [] d n some is = absurd (omega (arith, some))
 names_command f (w ∷ ws) d n some is = (n, f w, map f ws, refl, is)
+
+-- and so it does where the words ask for a job
+pub command_named : (words : List (List ℕ)) (job : Job) → job_of words ≡ Some job → NamesCommand words
+command_named [] job e = cc
+command_named (w ∷ ws) job e = go (name_of w) refl e
+  where
+    go : (n : Option Name) → name_of w ≡ n → option_and_then (λ m. job_by m (w ∷ ws)) n ≡ Some job → NamesCommand (w ∷ ws)
+    go None named e = cc
+    go (Some n) named e = (n, w, ws, refl, named)
 
 pub at_each_err : {T E : Type 0} (r : Result T E) (Q : Type 0) → Q → IfErr r (λ _. Q)
 at_each_err (Ok x) Q q = tt

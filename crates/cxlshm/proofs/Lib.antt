@@ -1,4 +1,5 @@
 pub mod ImageSizes
+pub mod JobAnswers
 pub mod TopReads
 pub mod TopAnswers
 pub mod Commands

@@ -132,3 +132,14 @@ same_job asked a b e f = same a b (sym e ∙ f)
   where
     same : (x y : Job) → Some x ≡ Some y → x ≡ y
     same x y e = cc
+
+-- what was written with this status is what was done, or the refusal
+pub done_written : {D R W : Type 0} (answer status : ℕ) → ((answer ≡ 0) × D) ⊎ ((answer ≡ 3) × R) → (status ≡ answer) ⊎ (status ≡ 5) → status ≡ 0 → (status ≡ answer → W) → D × W
+done_written answer status (inl d) (inl same) e w = (d.1, w same)
+done_written answer status (inr r) (inl same) e w = absurd (omega (arith, same, e, r.0))
+done_written answer status s (inr five) e w = absurd (omega (arith, five, e))
+
+pub refused_written : {D R W : Type 0} (answer status : ℕ) → ((answer ≡ 0) × D) ⊎ ((answer ≡ 3) × R) → (status ≡ answer) ⊎ (status ≡ 5) → status ≡ 3 → (status ≡ answer → W) → R × W
+refused_written answer status (inr r) (inl same) e w = (r.1, w same)
+refused_written answer status (inl d) (inl same) e w = absurd (omega (arith, same, e, d.0))
+refused_written answer status s (inr five) e w = absurd (omega (arith, five, e))

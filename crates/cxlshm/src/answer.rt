@@ -59,8 +59,7 @@ pub fn plain(status: u8, text: Vec<u8>) -> Reply
 
 /// The trace as it is printed.
 fn print_of(alloc: Global, trace: &Trace) -> Result<Reply, AllocError>
-    ensures status { IfOk result (λ r. r.status ≡ 0) }
-    ensures printed { IfOk result (λ r. IsPrinted trace.now r.finished r.text.items) }
+    ensures { IfOk result (λ r. (r.status ≡ 0) × IsPrinted trace.now r.finished r.text.items) }
 {
     Ok(plain(0, print(alloc, trace)?))
 }

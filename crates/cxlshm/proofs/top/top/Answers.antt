@@ -1,9 +1,10 @@
-use Rattle.std.proofs.Common.{ℕ, ◌∙◌, ◌≡◌, inl, inr, sym, arith, subst}
+use Rattle.std.proofs.Common.{ℕ, ◌∙◌, ◌≡◌, inl, inr, sym, arith, subst, refl, map}
+use Rattle.std.specs.String.{string_bytes}
 use Rattle.shm_io.specs.Faults.{NoFault, Rose}
-use Rattle.cxlshm.specs.Outcomes.{IsAnswered, IsFaulty, IsInput}
-use Rattle.cxlshm.specs.Words.{JobFits}
+use Rattle.cxlshm.specs.Outcomes.{IsAnswered}
 use Rattle.cxlshm.specs.declared.words.Job.{Job}
-use Rattle.cxlshm.proofs.TopAnswers.{complete, faulty, said, same_job}
+use Rattle.cxlshm.proofs.Commands.{command_named}
+use Rattle.cxlshm.proofs.TopAnswers.{complete, done_written, faulty, refused_written, said, same_job}
 use Rattle.cxlshm.proofs.top.top.Goals as goal
 
 -- a write didn't fail where no fault was counted
@@ -17,24 +18,14 @@ answer-requires g c = rw c.in-Ok-Some.field-0-is at c.in-Ok-Some.ensures.fits
 pub returns-in-Ok-answer-clause-done : goal.returns-in-Ok-answer-clause-done
 returns-in-Ok-answer-clause-done g c = λ e.
     let s = said c.in-Ok-Some.job (g.S.Source.left c.args.source.now) (g.S.Source.left c.read_to_limit.new.source) c.limit_of.result c.in-Ok.bytes.items c.as_slice.result.now c.in-Ok-answer.field-0.status c.in-Ok-answer.field-0.finished c.finish-in-Ok-answer.result.finished c.in-Ok-answer.field-0.text.items c.as_slice-in-Ok-answer.result.now c.limit_of.ensures c.in-Ok.ensures.front c.in-Ok.ensures.size c.as_slice.ensures.value c.in-Ok-answer.ensures c.finish-in-Ok-answer.ensures.finished c.as_slice-in-Ok-answer.ensures.value in
-    elim c.finish-in-Ok-answer.ensures.status [
-      | inr five ↦ absurd (omega (arith, e, five))
-      | inl st ↦ elim s [
-        | inl d ↦ (c.in-Ok-Some.job, sym c.in-Ok-Some.ensures.job ∙ c.in-Ok-Some.field-0-is, (c.as_slice-in-Ok-answer.result.now, d.1, (c.finish-in-Ok-answer.ensures.written st).0))
-        | inr r ↦ absurd (omega (arith, e, st, r.0))
-      ]
-    ]
+    let w = done_written c.in-Ok-answer.field-0.status c.finish-in-Ok-answer.result.status s c.finish-in-Ok-answer.ensures.status e c.finish-in-Ok-answer.ensures.written in
+    (c.in-Ok-Some.job, sym c.in-Ok-Some.ensures.job ∙ c.in-Ok-Some.field-0-is, (c.as_slice-in-Ok-answer.result.now, w.0, w.1.0))
 
 pub returns-in-Ok-answer-clause-refused : goal.returns-in-Ok-answer-clause-refused
 returns-in-Ok-answer-clause-refused g c = λ e.
     let s = said c.in-Ok-Some.job (g.S.Source.left c.args.source.now) (g.S.Source.left c.read_to_limit.new.source) c.limit_of.result c.in-Ok.bytes.items c.as_slice.result.now c.in-Ok-answer.field-0.status c.in-Ok-answer.field-0.finished c.finish-in-Ok-answer.result.finished c.in-Ok-answer.field-0.text.items c.as_slice-in-Ok-answer.result.now c.limit_of.ensures c.in-Ok.ensures.front c.in-Ok.ensures.size c.as_slice.ensures.value c.in-Ok-answer.ensures c.finish-in-Ok-answer.ensures.finished c.as_slice-in-Ok-answer.ensures.value in
-    elim c.finish-in-Ok-answer.ensures.status [
-      | inr five ↦ absurd (omega (arith, e, five))
-      | inl st ↦ elim s [
-        | inl d ↦ absurd (omega (arith, e, st, d.0))
-        | inr r ↦ (c.in-Ok-Some.job, sym c.in-Ok-Some.ensures.job ∙ c.in-Ok-Some.field-0-is, (c.as_slice-in-Ok-answer.result.now, r.1, (c.finish-in-Ok-answer.ensures.written st).0))
-      ]
-    ]
+    let w = refused_written c.in-Ok-answer.field-0.status c.finish-in-Ok-answer.result.status s c.finish-in-Ok-answer.ensures.status e c.finish-in-Ok-answer.ensures.written in
+    (c.in-Ok-Some.job, sym c.in-Ok-Some.ensures.job ∙ c.in-Ok-Some.field-0-is, (c.as_slice-in-Ok-answer.result.now, w.0, w.1.0))
 
 pub returns-in-Ok-answer-clause-write_failed : goal.returns-in-Ok-answer-clause-write_failed
 returns-in-Ok-answer-clause-write_failed g c = λ e.
@@ -67,3 +58,9 @@ returns-clause-complete g c = λ job asks source sink bytes left input. inr (inl
 
 pub returns-clause-faulty : goal.returns-clause-faulty
 returns-clause-faulty g c = λ job asks source sink bytes text left is. inr c.stopped-in-Err-answer.ensures.status
+
+pub returns-in-Err-Memory-clause-no_memory : goal.returns-in-Err-Memory-clause-no_memory
+returns-in-Err-Memory-clause-no_memory g c = λ e. (command_named (map string_bytes c.args.words.now) c.in-Ok-Some.job (sym c.in-Ok-Some.ensures.job ∙ c.in-Ok-Some.field-0-is), refl, c.stopped-in-Err-Memory.ensures.finished)
+
+pub returns-clause-no_memory : goal.returns-clause-no_memory
+returns-clause-no_memory g c = λ e. (command_named (map string_bytes c.args.words.now) c.in-Ok-Some.job (sym c.in-Ok-Some.ensures.job ∙ c.in-Ok-Some.field-0-is), refl, c.stopped-in-Err-answer.ensures.finished)
