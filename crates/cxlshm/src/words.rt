@@ -94,10 +94,7 @@ fn replay_job(alloc: Global, words: &[String]) -> Result<Option<Job>, AllocError
     ensures fits { IfOk result (λ job. IfSome job JobFits) }
 {
     match read(replay_command(alloc)?, words)? {
-        Some(matches) => Ok(replay_of(
-            is_set(&matches, "image"),
-            is_set(&matches, "print"),
-        )),
+        Some(matches) => Ok(replay_of(is_set(&matches, "image"), is_set(&matches, "print"))),
         None => Ok(None),
     }
 }
@@ -190,10 +187,7 @@ fn make_of(print: bool, start: Option<u64>, size: Option<u64>) -> Option<Job>
 }
 
 /// What the command reads in the words, and nothing where it refuses them.
-fn read<'a>(
-    command: Command<'a>,
-    words: &'a [String],
-) -> Result<Option<ArgMatches<'a>>, AllocError>
+fn read<'a>(command: Command<'a>, words: &'a [String]) -> Result<Option<ArgMatches<'a>>, AllocError>
     requires { is_simple_and_free (app_of command) ≡ true }
     ensures { IfOk result (λ m. option_map rows_in m ≡ read_by (app_of command.entry) (map string_bytes words.entry.now)) }
 {

@@ -119,17 +119,19 @@ fn refused_frames(rt: HostRuntime) -> Result<(), Fail> {
     Ok(())
 }
 
-/// Each front of the image.
+/// Fronts of the image: those of less than 32 bytes, and each 31st of the others, down from the one that wants a byte.
 #[test]
 fn fronts(rt: HostRuntime) -> Result<(), Fail> {
     let image = one_image(rt.alloc())?;
-    for len in 0..LEN {
+    let streams = Streams { room: 64, ..PLAIN };
+    for k in 0..574usize {
+        let len = if k < 32 { k } else { LEN - 1 - (k - 32) * 31 };
         let text = if len < 24 {
             format!(in rt.alloc(); "refused short {len}\n")?
         } else {
             format!(in rt.alloc(); "refused length {len} want 16808\n")?
         };
-        let (status, written) = call(rt.alloc(), &["audit"], &image.as_slice()[..len], &PLAIN)?;
+        let (status, written) = call(rt.alloc(), &["audit"], &image.as_slice()[..len], &streams)?;
         assert_eq!(rt; status, 3, "{len}");
         assert!(rt; written.as_slice() == text.as_bytes(), "{len}");
     }
@@ -165,7 +167,10 @@ fn streams(rt: HostRuntime) -> Result<(), Fail> {
         };
         let (status, written) = call(rt.alloc(), &["audit"], image.as_slice(), &writes)?;
         assert_eq!(rt; status, 5, "{at}");
-        assert_eq!(rt; written.as_slice(), &CLEAN.as_bytes()[..10 * (at as usize - 1)]);
+        assert_eq!(rt;
+            written.as_slice(),
+            &CLEAN.as_bytes()[..10 * (at as usize - 1)]
+        );
     }
     Ok(())
 }

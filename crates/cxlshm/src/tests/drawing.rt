@@ -13,7 +13,8 @@ const SUMS: [(&str, &str, usize, u64); 4] = [
 ];
 
 /// The trace of START 0 and SIZE 1.
-const ZERO_ONE: &str = "pool 4 16\nclient 0\nput 226 394886\nclient 1\ncopy 241 3 81\nclient 2\nget 3 127\nclient 3\nlife 2871 5 9\ncopy 171 1 169\n";
+const ZERO_ONE: &str =
+    "pool 4 16\nclient 0\nput 226 394886\nclient 1\ncopy 241 3 81\nclient 2\nget 3 127\nclient 3\nlife 2871 5 9\ncopy 171 1 169\n";
 
 /// The flag stands at any place behind the command's name; nothing is read, so a source that fails isn't noticed.
 #[test]
@@ -35,7 +36,12 @@ fn drawn_traces(rt: HostRuntime) -> Result<(), Fail> {
             assert_eq!(rt; sum_of(written.as_slice()), sum, "{words:?}");
         }
     }
-    let (_, written) = call(rt.alloc(), &["make", "0", "1", "--print"], b"".as_slice(), &PLAIN)?;
+    let (_, written) = call(
+        rt.alloc(),
+        &["make", "0", "1", "--print"],
+        b"".as_slice(),
+        &PLAIN,
+    )?;
     assert_eq!(rt; written.as_slice(), ZERO_ONE.as_bytes());
     Ok(())
 }

@@ -102,21 +102,42 @@ fn is_imaged(
 ) -> Result<bool, AllocError> {
     let (status, image) = call(alloc, &["replay", "--image"], input.as_bytes(), &PLAIN)?;
     let (judged, written) = call(alloc, &["audit"], image.as_slice(), &PLAIN)?;
-    Ok(status == 0
-        && image.len() == len
-        && sum_of(image.as_slice()) == sum
-        && judged == 0
-        && written.as_slice() == verdict.as_bytes())
+    Ok(
+        status == 0
+            && image.len() == len
+            && sum_of(image.as_slice()) == sum
+            && judged == 0
+            && written.as_slice() == verdict.as_bytes(),
+    )
 }
 
 #[test]
 fn images(rt: HostRuntime) -> Result<(), Fail> {
     for (input, len, sum, verdict) in ROWS {
-        assert!(rt; is_imaged(rt.alloc(), input, len, sum, verdict)?, "{input:?}");
+        assert!(rt;
+            is_imaged(rt.alloc(), input, len, sum, verdict)?,
+            "{input:?}"
+        );
     }
     let (puts, _) = many_puts(rt.alloc())?;
-    assert!(rt; is_imaged(rt.alloc(), puts.as_str(), 16_808, 0x1e7d_97bc_ac28_924d, "clean live 321 refs 321\n")?);
+    assert!(rt;
+        is_imaged(
+            rt.alloc(),
+            puts.as_str(),
+            16_808,
+            0x1e7d_97bc_ac28_924d,
+            "clean live 321 refs 321\n"
+        )?
+    );
     let (copies, _) = many_copies(rt.alloc())?;
-    assert!(rt; is_imaged(rt.alloc(), copies.as_str(), 132_448, 0x84d2_2b4c_7b59_5dd3, "clean live 1024 refs 2045\n")?);
+    assert!(rt;
+        is_imaged(
+            rt.alloc(),
+            copies.as_str(),
+            132_448,
+            0x84d2_2b4c_7b59_5dd3,
+            "clean live 1024 refs 2045\n"
+        )?
+    );
     Ok(())
 }

@@ -1,7 +1,7 @@
 //! What a call hands out besides its text: the words of the closed pool, and the logs with the blocks that answers name.
 
-use crate::tests::{ONE_PUT, PLAIN, outcome_of};
 use crate::outcome::Finished;
+use crate::tests::{ONE_PUT, PLAIN, outcome_of};
 use shm_script::Answer;
 use std::alloc::{AllocError, Global};
 use std::test::Fail;
