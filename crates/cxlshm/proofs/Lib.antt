@@ -1,5 +1,8 @@
+pub mod ImageSizes
+pub mod JobAnswers
 pub mod TopReads
 pub mod TopAnswers
-pub mod ReplayWords
+pub mod Commands
+pub mod Numerals
 pub mod ProgramWords
 pub mod LoggedClients

@@ -1,96 +1,145 @@
 -- what the answer to the bytes that were read says of the bytes that the source had left
-use Rattle.std.proofs.Common.{◌≡◌, ℕ, ◌≤◌, List, length, sym, ap, ◌∙◌, arith, inl, inr, ◌⊎◌, subst}
+use Rattle.std.proofs.Common.{◌≡◌, ℕ, ◌<◌, ◌≤◌, List, [], length, refl, sym, ap, ◌∙◌, arith, inl, inr, ◌⊎◌, subst}
 use Rattle.std.specs.Prelude.{Option, Some, None}
+use Rattle.shm_audit.specs.declared.fault.ImageFault.{ImageFault}
+use Rattle.shm_audit.specs.Faults.{image_fault_of}
 use Rattle.shm_io.specs.Reading.{TakesFront}
-use Rattle.shm_replay.specs.Stops.{IsNotYet}
 use Rattle.shm_script.specs.declared.fault.TraceFault.{TraceFault}
 use Rattle.shm_script.specs.Faults.{fault_of}
+use Rattle.shm_script.specs.Ranges.{IsTraceText}
 use Rattle.shm_script.specs.Values.{Traced}
-use Rattle.shm_script.proofs.Complete.{faultless, one_spelling}
-use Rattle.cxlshm.specs.declared.top.Finished.{Finished}
+use Rattle.shm_script.proofs.Complete.{faultless}
+use Rattle.cxlshm.specs.declared.outcome.Finished.{Finished}
 use Rattle.cxlshm.specs.declared.words.Job.{Job}
-use Rattle.cxlshm.specs.declared.words.Job.TheVariants.{Report, Print}
-use Rattle.cxlshm.specs.Outcomes.{Answers, Done, IsAnswered, IsDone, IsFaulty, IsRefused, IsTooEarly, Refused, Spells, read_limit}
-use Rattle.cxlshm.proofs.TopReads.{read_same, reads, reads_all}
+use Rattle.cxlshm.specs.declared.words.Job.TheVariants.{Replay, Print, Audit, Make, Draw}
+use Rattle.cxlshm.specs.Outcomes.{Answers, Done, IsAnswered, IsDone, IsFaulty, IsInput, IsRefused, Refused, Spells, WaitsFor}
+use Rattle.cxlshm.specs.Reads.{Reads, ReadsAll, ReadsLimit, input_of, limit_of}
+use Rattle.cxlshm.proofs.ImageSizes.{image_short}
+use Rattle.cxlshm.proofs.TopReads.{read_same, reads, reads_all, reads_none}
 
--- what was done was done with a trace
-traced : (job : Job) (bytes : List ℕ) (finished : Finished) (text : List ℕ) → IsDone job bytes finished text → (t : Traced) × Spells bytes t
-traced Report bytes finished text d = (d.trace, d.spells)
-traced Print bytes finished text d = (d.trace, d.spells)
+-- ---- what was read for an answer
 
-no_fault : (bytes : List ℕ) (t : Traced) → Spells bytes t → fault_of bytes ≡ None
-no_fault bytes t s = faultless bytes (s.short, t, s.trace, s.text)
+is_text : (bytes : List ℕ) (t : Traced) → Spells bytes t → IsTraceText bytes
+is_text bytes t s = (s.short, t, s.trace, s.text)
+
+-- what was done was done with valid input
+done_input : (job : Job) (bytes : List ℕ) (finished : Finished) (text : List ℕ) → IsDone job bytes finished text → IsInput job bytes
+done_input (Replay form) bytes finished text d = is_text bytes d.0 d.1
+done_input Print bytes finished text d = is_text bytes d.0 d.1
+done_input Audit bytes finished text d = d.faultless
+done_input (Make start size) bytes finished text d = tt
+done_input (Draw start size) bytes finished text d = tt
+
+-- valid input that was read up to the limit is all that there was
+done_read : (job : Job) (before after : Option (List ℕ)) (bytes : List ℕ) → TakesFront before after (limit_of job) bytes → length bytes ≤ limit_of job → IsInput job bytes → Reads job before after bytes
+done_read (Replay form) before after bytes t few input = let short : length bytes ≤ 1048576 = input.0 in reads_all 1048577 before after bytes t (omega (arith, short))
+done_read Print before after bytes t few input = let short : length bytes ≤ 1048576 = input.0 in reads_all 1048577 before after bytes t (omega (arith, short))
+done_read Audit before after bytes t few input = reads_all 4254369 before after bytes t (image_short bytes input)
+done_read (Make start size) before after bytes t few input = reads_none before after bytes t few
+done_read (Draw start size) before after bytes t few input = reads_none before after bytes t few
+
+any_read : (job : Job) (before after : Option (List ℕ)) (bytes : List ℕ) → TakesFront before after (limit_of job) bytes → length bytes ≤ limit_of job
+    → Reads job before after bytes ⊎ ReadsLimit (limit_of job) before after bytes
+any_read (Replay form) before after bytes t few = reads 1048577 before after bytes t few
+any_read Print before after bytes t few = reads 1048577 before after bytes t few
+any_read Audit before after bytes t few = reads 4254369 before after bytes t few
+any_read (Make start size) before after bytes t few = inl (reads_none before after bytes t few)
+any_read (Draw start size) before after bytes t few = inl (reads_none before after bytes t few)
 
 -- the answer, with what was read
 abbrev pub Said : Job → Option (List ℕ) → Option (List ℕ) → ℕ → Finished → List ℕ → Type 0
 Said job before after status finished text = ((status ≡ 0) × Done job before after finished text) ⊎ ((status ≡ 3) × Refused job before after finished text)
 
-answered : (job : Job) (before after : Option (List ℕ)) (bytes : List ℕ) (status : ℕ) (finished : Finished) (text : List ℕ) → TakesFront before after read_limit bytes → length bytes ≤ read_limit
+answered : (job : Job) (before after : Option (List ℕ)) (bytes : List ℕ) (status : ℕ) (finished : Finished) (text : List ℕ) → TakesFront before after (limit_of job) bytes → length bytes ≤ limit_of job
     → Answers job bytes status finished text → Said job before after status finished text
 answered job before after bytes status finished text t few (inl d) =
-    let short : length bytes ≤ 1048576 = (traced job bytes finished text d.1).1.short in
-    inl (d.0, record { bytes = bytes; read = reads_all before after bytes t (omega (arith, short)); is = d.1 })
-answered job before after bytes status finished text t few (inr d) = inr (d.0, record { kept = d.1; bytes = bytes; read = reads before after bytes t few; is = d.2 })
+    inl (d.0, record { bytes = bytes; read = done_read job before after bytes t few (done_input job bytes finished text d.1); is = d.1 })
+answered job before after bytes status finished text t few (inr d) = inr (d.0, record { kept = d.1; bytes = bytes; read = any_read job before after bytes t few; is = d.2 })
 
 -- the answer as it was written
-pub said : (job : Job) (before after : Option (List ℕ)) (bytes read : List ℕ) (status : ℕ) (finished kept : Finished) (text written : List ℕ) → TakesFront before after read_limit bytes → length bytes ≤ read_limit
-    → read ≡ bytes → Answers job read status finished text → kept ≡ finished → written ≡ text → Said job before after status kept written
-said job before after bytes read status finished kept text written front few same a k w =
+pub said : (job : Job) (before after : Option (List ℕ)) (limit : ℕ) (bytes read : List ℕ) (status : ℕ) (finished kept : Finished) (text written : List ℕ) → limit ≡ limit_of job
+    → TakesFront before after limit bytes → length bytes ≤ limit → read ≡ bytes → Answers job read status finished text → kept ≡ finished → written ≡ text → Said job before after status kept written
+said job before after limit bytes read status finished kept text written most front few same a k w =
     let b = subst (λ (xs : List ℕ). Answers job xs status finished text) same a in
     let c = subst (λ (f : Finished). Answers job bytes status f text) (sym k) b in
-    answered job before after bytes status kept written front few (subst (λ (xs : List ℕ). Answers job bytes status kept xs) (sym w) c)
+    let d = subst (λ (xs : List ℕ). Answers job bytes status kept xs) (sym w) c in
+    answered job before after bytes status kept written (subst (λ (n : ℕ). TakesFront before after n bytes) most front) (subst (λ (n : ℕ). length bytes ≤ n) most few) d
 
-too_early : (bytes text : List ℕ) (t : Traced) → Spells bytes t → IsTooEarly bytes text → (c : ℕ) × IsNotYet t c
-too_early bytes text t s r =
-    let same : r.0 ≡ t = one_spelling r.0 t r.1.trace s.trace (sym r.1.text ∙ s.text) in
-    (r.2.0, subst (λ (u : Traced). IsNotYet u r.2.0) same r.2.1)
+-- ---- what the answer is to what the source had left
 
-not_faulty : (bytes text : List ℕ) (t : Traced) → Spells bytes t → IsFaulty bytes text → ⊥
-not_faulty bytes text t s f = some_none _ (sym f.1 ∙ no_fault bytes t s)
-  where
-    some_none : (x : TraceFault) → Some x ≡ None → ⊥
-    some_none x e = cc
+some_same : (xs ys : List ℕ) → Some xs ≡ Some ys → xs ≡ ys
+some_same xs ys e = cc
 
-refused_why : (job : Job) (bytes text : List ℕ) (t : Traced) (status : ℕ) → status ≡ 3 → Spells bytes t → IsRefused job bytes text → IsAnswered job t status
-refused_why Report bytes text t status e s (inl f) = absurd (not_faulty bytes text t s f)
-refused_why Report bytes text t status e s (inr r) = inr (inr (e, too_early bytes text t s r))
-refused_why Print bytes text t status e s f = absurd (not_faulty bytes text t s f)
+some_none : {A : Type 0} (x : A) → Some x ≡ None → ⊥
+some_none x e = cc
 
-done_so : (job : Job) (t : Traced) (status : ℕ) → status ≡ 0 → IsAnswered job t status
-done_so Report t status e = inl e
-done_so Print t status e = inl e
+-- valid input has no fault
+no_fault : (job : Job) (bytes text : List ℕ) → IsInput job bytes → IsFaulty job bytes text → ⊥
+no_fault (Replay form) bytes text input f = some_none f.0 (sym f.1 ∙ faultless bytes input)
+no_fault Print bytes text input f = some_none f.0 (sym f.1 ∙ faultless bytes input)
+no_fault Audit bytes text input f = some_none f.0 (sym f.1 ∙ input)
+no_fault (Make start size) bytes text input f = f
+no_fault (Draw start size) bytes text input f = f
 
-pub wanting : (job : Job) (t : Traced) (status : ℕ) → status ≡ 6 → IsAnswered job t status
-wanting Report t status e = inr (inl e)
-wanting Print t status e = inr e
+-- a refusal of valid input: its trace can't be replayed yet
+waits : (job : Job) (bytes text : List ℕ) → IsInput job bytes → IsRefused job bytes text → WaitsFor job bytes
+waits job bytes text input (inl f) = absurd (no_fault job bytes text input f)
+waits job bytes text input (inr w) = w.0
 
--- a trace's text is answered
-pub complete : (job : Job) (before after : Option (List ℕ)) (bytes : List ℕ) (t : Traced) (status : ℕ) (finished : Finished) (text : List ℕ) → before ≡ Some bytes → Spells bytes t
-    → Said job before after status finished text → IsAnswered job t status
-complete job before after bytes t status finished text e s (inl d) = done_so job t status d.0
-complete job before after bytes t status finished text e s (inr r) =
-    let same = read_same before after r.1.bytes bytes e s.short r.1.read in
-    refused_why job bytes text t status r.0 s (subst (λ (xs : List ℕ). IsRefused job xs text) same r.1.is)
+-- of valid input, all was read
+input_read : (job : Job) (before after : Option (List ℕ)) (bytes read text : List ℕ) → input_of job before ≡ Some bytes → IsInput job bytes
+    → Reads job before after read ⊎ ReadsLimit (limit_of job) before after read → IsRefused job read text → WaitsFor job bytes
+input_read (Replay form) before after bytes read text left input r refused =
+    let short : length bytes ≤ 1048576 = input.0 in
+    let same = read_same 1048577 before after read bytes left (omega (arith, short)) r in
+    waits (Replay form) bytes text input (subst (λ (xs : List ℕ). IsRefused (Replay form) xs text) same refused)
+input_read Print before after bytes read text left input r refused =
+    let short : length bytes ≤ 1048576 = input.0 in
+    let same = read_same 1048577 before after read bytes left (omega (arith, short)) r in
+    waits Print bytes text input (subst (λ (xs : List ℕ). IsRefused Print xs text) same refused)
+input_read Audit before after bytes read text left input r refused =
+    let same = read_same 4254369 before after read bytes left (image_short bytes input) r in
+    waits Audit bytes text input (subst (λ (xs : List ℕ). IsRefused Audit xs text) same refused)
+input_read (Make start size) before after bytes read text left input r refused = waits (Make start size) read text input refused
+input_read (Draw start size) before after bytes read text left input r refused = waits (Draw start size) read text input refused
+
+-- valid input is answered
+pub complete : (job : Job) (before after : Option (List ℕ)) (bytes : List ℕ) (status : ℕ) (finished : Finished) (text : List ℕ) → input_of job before ≡ Some bytes → IsInput job bytes
+    → Said job before after status finished text → IsAnswered job bytes status
+complete job before after bytes status finished text left input (inl d) = inl d.0
+complete job before after bytes status finished text left input (inr r) = inr (inr (r.0, input_read job before after bytes r.1.bytes text left input r.1.read r.1.is))
+
+read_all : (before after : Option (List ℕ)) (bytes read : List ℕ) → before ≡ Some bytes → ReadsAll before after read → read ≡ bytes
+read_all None after bytes read left r = absurd (some_none bytes (sym left))
+read_all (Some xs) after bytes read left r = r.0 ∙ some_same xs bytes left
+
+-- what was done was done with all that the source had left
+done_all : (job : Job) (before after : Option (List ℕ)) (bytes read text : List ℕ) → input_of job before ≡ Some bytes → Reads job before after read → IsInput job read → IsFaulty job bytes text → ⊥
+done_all (Replay form) before after bytes read text left r input f = no_fault (Replay form) bytes text (subst (λ (xs : List ℕ). IsInput (Replay form) xs) (read_all before after bytes read left r) input) f
+done_all Print before after bytes read text left r input f = no_fault Print bytes text (subst (λ (xs : List ℕ). IsInput Print xs) (read_all before after bytes read left r) input) f
+done_all Audit before after bytes read text left r input f = no_fault Audit bytes text (subst (λ (xs : List ℕ). IsInput Audit xs) (read_all before after bytes read left r) input) f
+done_all (Make start size) before after bytes read text left r input f = f
+done_all (Draw start size) before after bytes read text left r input f = f
 
 -- bytes with a fault are refused
-pub faulty : (job : Job) (before after : Option (List ℕ)) (bytes : List ℕ) (fault : TraceFault) (status : ℕ) (finished : Finished) (text : List ℕ) → before ≡ Some bytes → fault_of bytes ≡ Some fault
+pub faulty : (job : Job) (before after : Option (List ℕ)) (bytes fault : List ℕ) (status : ℕ) (finished : Finished) (text : List ℕ) → input_of job before ≡ Some bytes → IsFaulty job bytes fault
     → Said job before after status finished text → status ≡ 3
-faulty job before after bytes fault status finished text e f (inr r) = r.0
-faulty job None after bytes fault status finished text e f (inl d) = cc
-faulty job (Some left) after bytes fault status finished text e f (inl d) =
-    let t = traced job d.1.bytes finished text d.1.is in
-    let none : fault_of d.1.bytes ≡ None = no_fault d.1.bytes t.0 t.1 in
-    let same : left ≡ bytes = some_same left bytes e in
-    absurd (some_none fault (sym f ∙ (ap fault_of (sym same) ∙ (ap fault_of (sym d.1.read.0) ∙ none))))
-  where
-    some_same : (xs ys : List ℕ) → Some xs ≡ Some ys → xs ≡ ys
-    some_same xs ys e = cc
-
-    some_none : (x : TraceFault) → Some x ≡ None → ⊥
-    some_none x e = cc
+faulty job before after bytes fault status finished text left f (inl d) = absurd (done_all job before after bytes d.1.bytes fault left d.1.read (done_input job d.1.bytes finished text d.1.is) f)
+faulty job before after bytes fault status finished text left f (inr r) = r.0
 
 pub same_job : (asked : Option Job) (a b : Job) → asked ≡ Some a → asked ≡ Some b → a ≡ b
-same_job asked a b e f = some_same a b (sym e ∙ f)
+same_job asked a b e f = same a b (sym e ∙ f)
   where
-    some_same : (x y : Job) → Some x ≡ Some y → x ≡ y
-    some_same x y e = cc
+    same : (x y : Job) → Some x ≡ Some y → x ≡ y
+    same x y e = cc
+
+-- what was written with this status is what was done, or the refusal
+pub done_written : {D R W : Type 0} (answer status : ℕ) → ((answer ≡ 0) × D) ⊎ ((answer ≡ 3) × R) → (status ≡ answer) ⊎ (status ≡ 5) → status ≡ 0 → (status ≡ answer → W) → D × W
+done_written answer status (inl d) (inl same) e w = (d.1, w same)
+done_written answer status (inr r) (inl same) e w = absurd (omega (arith, same, e, r.0))
+done_written answer status s (inr five) e w = absurd (omega (arith, five, e))
+
+pub refused_written : {D R W : Type 0} (answer status : ℕ) → ((answer ≡ 0) × D) ⊎ ((answer ≡ 3) × R) → (status ≡ answer) ⊎ (status ≡ 5) → status ≡ 3 → (status ≡ answer → W) → R × W
+refused_written answer status (inr r) (inl same) e w = (r.1, w same)
+refused_written answer status (inl d) (inl same) e w = absurd (omega (arith, same, e, d.0))
+refused_written answer status s (inr five) e w = absurd (omega (arith, five, e))

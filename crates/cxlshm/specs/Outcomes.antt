@@ -1,42 +1,33 @@
 -- what a call of the program does: what it reads, what it answers and what it writes
-use Rattle.std.specs.Prelude.{◌≡◌, ℕ, ◌≤◌, ◌⊎◌, List, [], length, take, drop, codes, Option, Some, None, MatchOption}
+use Rattle.std.specs.Prelude.{◌≡◌, ℕ, ◌≤◌, ◌⊎◌, List, length, codes, Option, Some, None}
+use Rattle.shm_audit.specs.declared.fault.ImageFault.{ImageFault}
+use Rattle.shm_audit.specs.Faults.{image_fault_of}
+use Rattle.shm_audit.specs.Images.{geometry_in, words_in}
+use Rattle.shm_audit.specs.Texts.{fault_line as image_fault_line, verdict_line}
+use Rattle.shm_audit.specs.Verdicts.{verdict_of}
 use Rattle.shm_graph.specs.Spots.{see}
 use Rattle.shm_io.specs.Writing.{Appends, AppendsFront}
-use Rattle.shm_replay.specs.declared.replaying.Replayed.{Replayed as Run}
-use Rattle.shm_replay.specs.Replays.{IsReplay}
-use Rattle.shm_replay.specs.Stops.{IsNotYet, first_life}
-use Rattle.shm_report.specs.Report.{report_of}
 use Rattle.shm_script.specs.declared.fault.TraceFault.{TraceFault}
+use Rattle.shm_script.specs.Drawing.{drawn_trace}
 use Rattle.shm_script.specs.Faults.{fault_of}
-use Rattle.shm_script.specs.Ranges.{IsTrace}
+use Rattle.shm_script.specs.Ranges.{IsTrace, IsTraceText}
 use Rattle.shm_script.specs.Text.{text_of}
 use Rattle.shm_script.specs.Values.{Traced}
+use Rattle.cxlshm.specs.Reads.{Reads, ReadsLimit, limit_of}
 use Rattle.cxlshm.specs.Refusals.{fault_line, not_yet_line}
+use Rattle.cxlshm.specs.Replays.{IsTold, IsTooEarly}
 use Rattle.cxlshm.specs.Words.{job_of}
+use Rattle.cxlshm.specs.declared.outcome.Finished.{Finished}
+use Rattle.cxlshm.specs.declared.outcome.Finished.TheVariants.{Neither}
+use Rattle.cxlshm.specs.declared.words.Form.TheVariants.{Summary}
 use Rattle.cxlshm.specs.declared.words.Job.{Job}
-use Rattle.cxlshm.specs.declared.words.Job.TheVariants.{Report, Print}
-use Rattle.cxlshm.specs.declared.top.Finished.{Finished}
-use Rattle.cxlshm.specs.declared.top.Finished.TheVariants.{Neither, Replayed}
+use Rattle.cxlshm.specs.declared.words.Job.TheVariants.{Replay, Print, Audit, Make, Draw}
 
 -- the line that is written where the words aren't accepted
 abbrev pub usage_text : List ℕ
-usage_text = codes "usage: cxlshm replay [--print]\n"
+usage_text = codes "usage: cxlshm replay [--image|--print] | audit | make START SIZE [--print]\n"
 
--- how many bytes are read at most: one more than a trace may have
-abbrev pub read_limit : ℕ
-read_limit = 1048577
-
--- ---- what was read
-
--- these are all the bytes that the source had left, where it tells them
-abbrev pub ReadsAll : Option (List ℕ) → Option (List ℕ) → List ℕ → Type 0
-ReadsAll before after bytes = MatchOption before (after ≡ None) (λ left. (bytes ≡ left) × (after ≡ Some []))
-
--- these are one byte more than a trace may have, and the rest is left, where the source tells its bytes
-abbrev pub ReadsLimit : Option (List ℕ) → Option (List ℕ) → List ℕ → Type 0
-ReadsLimit before after bytes = (length bytes ≡ read_limit) × MatchOption before (after ≡ None) (λ left. (bytes ≡ take read_limit left) × (after ≡ Some (drop read_limit left)))
-
--- ---- what a text says of bytes
+-- ---- what a job is asked for
 
 -- the bytes are the text of this trace
 pub record Spells (bytes : List ℕ) (t : Traced) : Type 0 where
@@ -44,54 +35,73 @@ pub record Spells (bytes : List ℕ) (t : Traced) : Type 0 where
   pub short : length bytes ≤ 1048576
   pub text : bytes ≡ text_of t
 
--- The bytes are the text of a trace, which was replayed: the closed pool and the logs are those of its replay, and the text is the report of these very words and logs
-pub record IsRan (bytes : List ℕ) (finished : Finished) (text : List ℕ) : Type 0 where
-  pub trace : Traced
-  pub spells : Spells bytes trace
-  pub lifeless : first_life trace.scripts ≡ None
-  pub run : Run
-  pub kept : finished ≡ Replayed run
-  pub replay : IsReplay trace run.closed run.logs.items
-  pub report : let g = run.closed.start.geometry in text ≡ report_of g (see g run.closed.words) replay.table run.logs.items
+-- the trace that a job replays
+abbrev pub Replays : Job → List ℕ → Traced → Type 0
+Replays (Replay form) bytes t = Spells bytes t
+Replays (Make start size) bytes t = t ≡ drawn_trace start size
+Replays _ bytes t = ⊥
 
--- the bytes are the text of a trace, and they are the text
-pub record IsPrinted (bytes : List ℕ) (finished : Finished) (text : List ℕ) : Type 0 where
-  pub trace : Traced
-  pub spells : Spells bytes trace
+-- the bytes are a trace, or an image without a fault; a job that draws its trace needs none
+abbrev pub IsInput : Job → List ℕ → Type 0
+IsInput Audit bytes = image_fault_of bytes ≡ None
+IsInput (Make start size) bytes = Unit {0}
+IsInput (Draw start size) bytes = Unit {0}
+IsInput _ bytes = IsTraceText bytes
+
+-- ---- what is answered to the bytes that were read
+
+-- no replay was made, and the text is that of this trace
+abbrev pub IsPrinted : Traced → Finished → List ℕ → Type 0
+IsPrinted t finished text = (finished ≡ Neither) × (text ≡ text_of t)
+
+-- the bytes are an image, and the text is the verdict on its words
+pub record IsAudited (bytes : List ℕ) (finished : Finished) (text : List ℕ) : Type 0 where
   pub kept : finished ≡ Neither
-  pub same : text ≡ bytes
+  pub faultless : image_fault_of bytes ≡ None
+  pub verdict : let g = geometry_in bytes in text ≡ verdict_line (verdict_of g (see g (words_in bytes)))
 
 -- what was asked for was done with these bytes
 abbrev pub IsDone : Job → List ℕ → Finished → List ℕ → Type 0
-IsDone Report = IsRan
-IsDone Print = IsPrinted
+IsDone (Replay form) bytes finished text = (t : Traced) × Spells bytes t × IsTold form t finished text
+IsDone Print bytes finished text = (t : Traced) × Spells bytes t × IsPrinted t finished text
+IsDone Audit bytes finished text = IsAudited bytes finished text
+IsDone (Make start size) bytes finished text = IsTold Summary (drawn_trace start size) finished text
+IsDone (Draw start size) bytes finished text = IsPrinted (drawn_trace start size) finished text
 
--- the bytes are no trace, and the line names their first fault
-abbrev pub IsFaulty : List ℕ → List ℕ → Type 0
-IsFaulty bytes text = (fault : TraceFault) × (fault_of bytes ≡ Some fault) × (text ≡ fault_line fault)
+-- the bytes are no trace, or no image, and the line names their first fault
+abbrev pub IsFaulty : Job → List ℕ → List ℕ → Type 0
+IsFaulty Audit bytes text = (fault : ImageFault) × (image_fault_of bytes ≡ Some fault) × (text ≡ image_fault_line fault)
+IsFaulty (Make start size) bytes text = ⊥
+IsFaulty (Draw start size) bytes text = ⊥
+IsFaulty _ bytes text = (fault : TraceFault) × (fault_of bytes ≡ Some fault) × (text ≡ fault_line fault)
 
--- they are the text of a trace that can't be replayed yet
-abbrev pub IsTooEarly : List ℕ → List ℕ → Type 0
-IsTooEarly bytes text = (t : Traced) × Spells bytes t × ((c : ℕ) × IsNotYet t c) × (text ≡ not_yet_line)
+-- the trace that the job replays can't be replayed yet
+abbrev pub WaitsFor : Job → List ℕ → Type 0
+WaitsFor job bytes = (t : Traced) × Replays job bytes t × IsTooEarly t
 
--- why bytes are refused, by what was asked for, and the line that says so
+-- why bytes are refused, and the line that says so
 abbrev pub IsRefused : Job → List ℕ → List ℕ → Type 0
-IsRefused Report bytes text = IsFaulty bytes text ⊎ IsTooEarly bytes text
-IsRefused Print bytes text = IsFaulty bytes text
+IsRefused job bytes text = IsFaulty job bytes text ⊎ (WaitsFor job bytes × (text ≡ not_yet_line))
+
+-- the answer to the bytes that were read
+abbrev pub Answers : Job → List ℕ → ℕ → Finished → List ℕ → Type 0
+Answers job bytes status finished text =
+    ((status ≡ 0) × IsDone job bytes finished text)
+    ⊎ ((status ≡ 3) × (finished ≡ Neither) × IsRefused job bytes text)
 
 -- ---- what was read and written
 
--- what was asked for was done with all bytes that the source had left
+-- what was asked for was done with all the bytes that the job is for
 pub record Done (job : Job) (before after : Option (List ℕ)) (finished : Finished) (text : List ℕ) : Type 0 where
   pub bytes : List ℕ
-  pub read : ReadsAll before after bytes
+  pub read : Reads job before after bytes
   pub is : IsDone job bytes finished text
 
--- the input was refused: all bytes that the source had left, or one byte more than a trace may have
+-- the input was refused: all the bytes that the job is for, or one byte more than a trace, or an image, may have
 pub record Refused (job : Job) (before after : Option (List ℕ)) (finished : Finished) (text : List ℕ) : Type 0 where
   pub kept : finished ≡ Neither
   pub bytes : List ℕ
-  pub read : ReadsAll before after bytes ⊎ ReadsLimit before after bytes
+  pub read : Reads job before after bytes ⊎ ReadsLimit (limit_of job) before after bytes
   pub is : IsRefused job bytes text
 
 -- the words aren't accepted, and nothing was read
@@ -121,15 +131,6 @@ WritesFront before after IsText = (text : List ℕ) × IsText text × AppendsFro
 abbrev pub IsStatus : ℕ → Type 0
 IsStatus s = (s ≡ 0) ⊎ ((s ≡ 2) ⊎ ((s ≡ 3) ⊎ ((s ≡ 4) ⊎ ((s ≡ 5) ⊎ (s ≡ 6)))))
 
--- ---- what comes where nothing fails
-
--- a trace's text is answered: it is done, or memory was wanting, or the trace can't be replayed yet
-abbrev pub IsAnswered : Job → Traced → ℕ → Type 0
-IsAnswered Report t status = (status ≡ 0) ⊎ ((status ≡ 6) ⊎ ((status ≡ 3) × ((c : ℕ) × IsNotYet t c)))
-IsAnswered Print t status = (status ≡ 0) ⊎ (status ≡ 6)
-
--- the answer to the bytes that were read
-abbrev pub Answers : Job → List ℕ → ℕ → Finished → List ℕ → Type 0
-Answers job bytes status finished text =
-    ((status ≡ 0) × IsDone job bytes finished text)
-    ⊎ ((status ≡ 3) × (finished ≡ Neither) × IsRefused job bytes text)
+-- a job with valid input is answered where nothing fails: it is done, or memory was wanting, or the trace can't be replayed yet
+abbrev pub IsAnswered : Job → List ℕ → ℕ → Type 0
+IsAnswered job bytes status = (status ≡ 0) ⊎ ((status ≡ 6) ⊎ ((status ≡ 3) × WaitsFor job bytes))

@@ -9,7 +9,7 @@ ghost use Rattle.std.specs.Process.{exit_status};
 ghost use Rattle.cxlshm.specs.Words.{job_of};
 ghost use Rattle.cxlshm.specs.Commands.{ended_with};
 
-use crate::top::Outcome;
+use crate::outcome::Outcome;
 use std::alloc::{AllocError, Global};
 use std::env::Args;
 use std::io;
@@ -46,7 +46,7 @@ pub fn exit_code(called: &Result<Outcome, AllocError>) -> ExitCode
 #[cfg(test)]
 mod tests {
     use super::*;
-    use crate::top::Finished;
+    use crate::outcome::Finished;
     use std::test::Fail;
 
     #[test]

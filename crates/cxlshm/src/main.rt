@@ -1,11 +1,16 @@
 //! A manager of shared, counted memory: the program.
 //!
-//! `cxlshm replay` reads a trace, replays it, closes the pool and writes the report. `cxlshm replay --print` reads a trace and writes it.
+//! `cxlshm replay` reads a trace, replays it, closes the pool and writes the report, or with `--image` the image of the pool; with `--print`
+//! it writes the trace. `cxlshm audit` reads an image and writes the verdict on it. `cxlshm make START SIZE` draws a trace, replays it and
+//! writes the summary; with `--print` it writes the trace.
 #![tactic(auto)]
 
+mod answer;
 mod command;
 mod laws;
+mod outcome;
 mod refusals;
+mod telling;
 #[cfg(test)]
 mod tests;
 mod top;

@@ -2,16 +2,21 @@
 
 ghost use Rattle.std.specs.Prelude.{◌<◌};
 
+mod audits;
+mod drawing;
 mod drawn;
 mod drawn_first;
 mod drawn_second;
 mod failures;
+mod images;
 mod long_rows;
 mod refused;
 mod rows;
+mod words;
 mod words_left;
 
-use crate::top::{Outcome, top};
+use crate::outcome::Outcome;
+use crate::top::top;
 use shm_io::{MemorySink, MemorySource};
 use std::alloc::{AllocError, Global};
 
@@ -22,7 +27,7 @@ const ONE_PUT: &str = "pool 1 1\nclient 0\nput 5 77\n";
 const ONE_REPORT: &str =
     "client 0 ended 1\nput 5 77 ok\ntable 1\n0 5 77 v1\nvalue v1 1\nhomes 1\nlive 3 refs 3\n";
 
-const USAGE: &str = "usage: cxlshm replay [--print]\n";
+const USAGE: &str = "usage: cxlshm replay [--image|--print] | audit | make START SIZE [--print]\n";
 
 /// The streams of a call: the most bytes that a read gives and that a write takes, the reads and the writes that fail, by their numbers from 1,
 /// and the room of the sink.

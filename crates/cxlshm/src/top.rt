@@ -1,58 +1,38 @@
 //! The program over a source and a sink.
 
-ghost use Rattle.std.specs.Prelude.{◌≡◌, ◌≢◌, ◌⊎◌, map, Some, None, List, ℕ, IfOk};
+ghost use Rattle.std.specs.Prelude.{◌≡◌, ◌≢◌, ◌⊎◌, map, Some, None, List, ℕ};
 ghost use Rattle.std.specs.String.{string_bytes};
 ghost use Rattle.shm_io.specs.Faults.{Rose, NoFault};
 ghost use Rattle.shm_io.specs.Writing.{Appends, AppendsFront};
-ghost use Rattle.shm_script.specs.declared.fault.TraceFault.{TraceFault as AFault};
-ghost use Rattle.shm_script.specs.Faults.{fault_of};
-ghost use Rattle.shm_script.specs.Values.{Traced};
 ghost use Rattle.cxlshm.specs.declared.words.Job.{Job as AJob};
-ghost use Rattle.cxlshm.specs.Outcomes.{Answers, Asks, Decided, Done, IsAnswered, IsStatus, Misused, Refused, Spells, Writes, WritesFront};
-ghost use Rattle.cxlshm.specs.Words.{NamesReplay, job_of};
+ghost use Rattle.cxlshm.specs.Outcomes.{Asks, Decided, Done, IsAnswered, IsFaulty, IsInput, IsStatus, Misused, Refused, Writes, WritesFront};
+ghost use Rattle.cxlshm.specs.Reads.{input_of, limit_of};
+ghost use Rattle.cxlshm.specs.Words.{NamesCommand, job_of};
 
-use crate::refusals::fault_line;
+use crate::answer::{Reply, answer};
+use crate::outcome::{Finished, Outcome};
 use crate::words::{Job, job_of};
 use shm_io::{ReadStop, Sink, Source, read_to_limit, write_all};
-use shm_replay::{Replayed, replay};
-use shm_report::report;
-use shm_script::{ParseStop, Trace, parse, print};
-use std::alloc::{AllocError, Global};
+use std::alloc::Global;
 
 /// One byte more than a trace may have.
-const READ_LIMIT: usize = 1_048_577;
+const TRACE_LIMIT: usize = 1_048_577;
 
-const USAGE: &str = "usage: cxlshm replay [--print]\n";
+/// One byte more than the image of the largest pool has.
+const IMAGE_LIMIT: usize = 4_254_369;
 
-/// What a call of the program came to.
-#[derive(Drop)]
-pub struct Outcome {
-    /// 0 done, 2 words not accepted, 3 input refused, 4 a read failed, 5 a write failed, 6 want of memory.
-    pub status: u8,
-    pub finished: Finished,
-}
+const USAGE: &str = "usage: cxlshm replay [--image|--print] | audit | make START SIZE [--print]\n";
 
-/// What was made.
-#[derive(Drop)]
-pub enum Finished {
-    /// No replay.
-    Neither,
-    /// The replay of a trace.
-    Replayed(Replayed),
-}
-
-/// A text that is to be written, with the status that it has.
-#[derive(Drop)]
-struct Reply {
-    status: u8,
-    text: Vec<u8>,
-    finished: Finished,
-}
-
-/// Does what the words say. `replay` reads a trace to its end, replays it, closes the pool and writes the report; `replay --print`
-/// reads a trace and writes it.
+/// Does what the words say.
 ///
-/// The whole text is made before the first write. At most 1,048,577 bytes are read, in pieces of 4,096.
+/// - `replay` reads a trace to its end, replays it, closes the pool and writes the report; `replay --image` writes the image of the closed
+///   pool; `replay --print` writes the trace as it is printed, without a replay.
+/// - `audit` reads an image to its end and writes the verdict on it. Each verdict has status 0.
+/// - `make START SIZE` reads nothing. It replays the trace that is drawn from START, 0 to 2^64 - 1, with SIZE commands, 1 to 4,000, for each
+///   of four clients, and writes the summary; with `--print` it writes that trace, without a replay.
+///
+/// The whole text is made before the first write. At most 1,048,577 bytes of a trace and 4,254,369 bytes of an image are read, in pieces of
+/// 4,096.
 pub fn top<S: Source, K: Sink>(
     alloc: Global,
     words: &[String],
@@ -70,19 +50,19 @@ pub fn top<S: Source, K: Sink>(
     // A failed read, a failed write and want of memory.
     ensures read_failed { result.status ≡ 4 → Rose (S.faults source.old) (S.faults source.new) × (K.held sink.new ≡ K.held sink.old) × (result.finished ≡ Finished.Neither) }
     ensures write_failed { result.status ≡ 5 → Rose (K.faults sink.old) (K.faults sink.new) × WritesFront (K.held sink.old) (K.held sink.new) (Decided (map string_bytes words.now) (S.left source.old) (S.left source.new) result.finished) }
-    ensures no_memory { result.status ≡ 6 → NamesReplay (map string_bytes words.now) × (K.held sink.new ≡ K.held sink.old) × (result.finished ≡ Finished.Neither) }
+    ensures no_memory { result.status ≡ 6 → NamesCommand (map string_bytes words.now) × (K.held sink.new ≡ K.held sink.old) × (result.finished ≡ Finished.Neither) }
 
     // When each status comes.
     ensures usage { job_of (map string_bytes words.now) ≡ None → (result.status ≡ 2) ⊎ ((result.status ≡ 5) ⊎ (result.status ≡ 6)) }
-    ensures complete { (job : AJob) → job_of (map string_bytes words.now) ≡ Some job → NoFault (S.faults source.old) (S.faults source.new) → NoFault (K.faults sink.old) (K.faults sink.new) → (bytes : List ℕ) → S.left source.old ≡ Some bytes → (t : Traced) → Spells bytes t → IsAnswered job t result.status }
-    ensures faulty { (job : AJob) → job_of (map string_bytes words.now) ≡ Some job → NoFault (S.faults source.old) (S.faults source.new) → NoFault (K.faults sink.old) (K.faults sink.new) → (bytes : List ℕ) → S.left source.old ≡ Some bytes → (fault : AFault) → fault_of bytes ≡ Some fault → (result.status ≡ 3) ⊎ (result.status ≡ 6) }
+    ensures complete { (job : AJob) → job_of (map string_bytes words.now) ≡ Some job → NoFault (S.faults source.old) (S.faults source.new) → NoFault (K.faults sink.old) (K.faults sink.new) → (bytes : List ℕ) → input_of job (S.left source.old) ≡ Some bytes → IsInput job bytes → IsAnswered job bytes result.status }
+    ensures faulty { (job : AJob) → job_of (map string_bytes words.now) ≡ Some job → NoFault (S.faults source.old) (S.faults source.new) → NoFault (K.faults sink.old) (K.faults sink.new) → (bytes text : List ℕ) → input_of job (S.left source.old) ≡ Some bytes → IsFaulty job bytes text → (result.status ≡ 3) ⊎ (result.status ≡ 6) }
 {
     let job = match job_of(alloc, words) {
         Ok(Some(job)) => job,
         Ok(None) => return finish(sink, 2, USAGE.as_bytes(), Finished::Neither),
         Err(_) => return stopped(6),
     };
-    let bytes = match read_to_limit(alloc, source, READ_LIMIT) {
+    let bytes = match read_to_limit(alloc, source, limit_of(job)) {
         Ok(bytes) => bytes,
         Err(ReadStop::Fault(_)) => return stopped(4),
         Err(ReadStop::Memory(_)) => return stopped(6),
@@ -96,6 +76,17 @@ pub fn top<S: Source, K: Sink>(
             },
         ) => finish(sink, status, text.as_slice(), finished),
         Err(_) => stopped(6),
+    }
+}
+
+/// How many bytes a job reads at most: one more than its input may have.
+fn limit_of(job: Job) -> usize
+    ensures { result ≡ limit_of job }
+{
+    match job {
+        Job::Replay(_) | Job::Print => TRACE_LIMIT,
+        Job::Audit => IMAGE_LIMIT,
+        Job::Make { .. } | Job::Draw { .. } => 0,
     }
 }
 
@@ -124,61 +115,5 @@ fn finish<K: Sink>(sink: &mut K, status: u8, text: &[u8], finished: Finished) ->
             status: 5,
             finished,
         },
-    }
-}
-
-/// The refusal of an input, with this line.
-fn refusal(line: Vec<u8>) -> Reply
-    ensures status { result.status ≡ 3 }
-    ensures finished { result.finished ≡ Finished.Neither }
-    ensures text { result.text.items ≡ line.items }
-{
-    Reply {
-        status: 3,
-        text: line,
-        finished: Finished::Neither,
-    }
-}
-
-/// The report of the trace's replay.
-fn report_of(alloc: Global, trace: &Trace) -> Result<Reply, AllocError>
-    ensures { (bytes : List ℕ) → Spells bytes trace.now → IfOk result (λ r. Answers AJob.Report bytes r.status r.finished r.text.items) }
-{
-    let run = replay(alloc, trace)?;
-    let text = report(
-        alloc,
-        run.closed.geometry(),
-        run.closed.words(),
-        run.logs.as_slice(),
-    )?;
-    Ok(Reply {
-        status: 0,
-        text,
-        finished: Finished::Replayed(run),
-    })
-}
-
-/// The trace as it is printed.
-fn print_of(alloc: Global, trace: &Trace) -> Result<Reply, AllocError>
-    ensures { (bytes : List ℕ) → Spells bytes trace.now → IfOk result (λ r. Answers AJob.Print bytes r.status r.finished r.text.items) }
-{
-    Ok(Reply {
-        status: 0,
-        text: print(alloc, trace)?,
-        finished: Finished::Neither,
-    })
-}
-
-/// What is answered to the bytes that were read.
-fn answer(alloc: Global, job: Job, bytes: &[u8]) -> Result<Reply, AllocError>
-    ensures { IfOk result (λ r. Answers job bytes.now r.status r.finished r.text.items) }
-{
-    match parse(alloc, bytes) {
-        Ok(trace) => match job {
-            Job::Report => report_of(alloc, &trace),
-            Job::Print => print_of(alloc, &trace),
-        },
-        Err(ParseStop::Fault(fault)) => Ok(refusal(fault_line(alloc, fault)?)),
-        Err(ParseStop::Memory(error)) => Err(error),
     }
 }

@@ -6,7 +6,7 @@ use std::test::Fail;
 
 /// A trace of 161 puts in a pool of one segment, and its report: one page is the directory's, ten have the entries and five the values, so the
 /// last put finds no room.
-fn many_puts(alloc: Global) -> Result<(String, String), AllocError> {
+pub fn many_puts(alloc: Global) -> Result<(String, String), AllocError> {
     let mut input = String::from_str(alloc, "pool 1 1\nclient 0\n")?;
     let mut report = String::from_str(alloc, "client 0 ended 161\n")?;
     for key in 0..161 {
@@ -27,7 +27,7 @@ fn many_puts(alloc: Global) -> Result<(String, String), AllocError> {
 
 /// A trace of 1,022 copies of one value, and its report: a block's count is 1,023 at most, and while a copy is made the copier's own root counts
 /// too.
-fn many_copies(alloc: Global) -> Result<(String, String), AllocError> {
+pub fn many_copies(alloc: Global) -> Result<(String, String), AllocError> {
     let mut input = String::from_str(alloc, "pool 1 8\nclient 0\nput 0 7\n")?;
     let mut report = String::from_str(alloc, "client 0 ended 1023\nput 0 7 ok\n")?;
     for key in 1..1023 {

@@ -1,6 +1,6 @@
 //! Worked traces with their reports.
 
-use crate::tests::{ONE_PUT, ONE_REPORT, PLAIN, USAGE, call, replayed};
+use crate::tests::{ONE_PUT, ONE_REPORT, PLAIN, call, replayed};
 use std::test::Fail;
 
 /// Traces and their reports, each in full. Three of them are those of the folder examples.
@@ -69,27 +69,6 @@ fn prints(rt: HostRuntime) -> Result<(), Fail> {
         let (status, written) = call(rt.alloc(), &["replay", "--print"], input.as_bytes(), &PLAIN)?;
         assert_eq!(rt; status, 0, "{input:?}");
         assert_eq!(rt; written.as_slice(), input.as_bytes(), "{input:?}");
-    }
-    Ok(())
-}
-
-#[test]
-fn words(rt: HostRuntime) -> Result<(), Fail> {
-    let refused: [&[&str]; 9] = [
-        &["fly"],
-        &[],
-        &["replay", "replay"],
-        &["Replay"],
-        &["--print"],
-        &["replay", "--help"],
-        &["replay", "--image"],
-        &["replay", "--print", "--print"],
-        &["replay", "--print=true"],
-    ];
-    for list in refused {
-        let (status, written) = call(rt.alloc(), list, ONE_PUT.as_bytes(), &PLAIN)?;
-        assert_eq!(rt; status, 2, "{list:?}");
-        assert_eq!(rt; written.as_slice(), USAGE.as_bytes(), "{list:?}");
     }
     Ok(())
 }

@@ -1,16 +1,16 @@
 //! What a call hands out besides its text: the words of the closed pool, and the logs with the blocks that answers name.
 
+use crate::outcome::Finished;
 use crate::tests::{ONE_PUT, PLAIN, outcome_of};
-use crate::top::Finished;
 use shm_script::Answer;
 use std::alloc::{AllocError, Global};
 use std::test::Fail;
 
 /// A word that isn't 0, behind its address.
-type Row = (usize, u64);
+pub type Row = (usize, u64);
 
 /// The words of one put, as an independent implementation leaves them.
-const ONE_PUT_LEAVES: [Row; 17] = [
+pub const ONE_PUT_LEAVES: [Row; 17] = [
     (1, 3),
     (2, 4_611_693_715_061_211_136),
     (5, 178),

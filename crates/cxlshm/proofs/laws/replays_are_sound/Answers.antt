@@ -16,12 +16,12 @@ at_turn p before after m run e =
     (x.0, x.1, x.2.0, x.2.1)
 
 pub returns-clause-states : goal.returns-clause-states
-returns-clause-states c bytes finished text r before after m e =
+returns-clause-states c t finished r before after m e =
     let p = r.run.closed in
     let x = at_turn p before after m r.replay.closed.run e in
     record { state = x.0; leads = x.1; may = x.2; sound = held_state_sound p.start.geometry (moved x.0 m).words (moved x.0 m).accounts x.3.held }
 
 pub returns-clause-events : goal.returns-clause-events
-returns-clause-events c bytes finished text r before after t e =
+returns-clause-events c u finished r before after t e =
     let x = at_turn r.run.closed before after (Word t) r.replay.closed.run e in
     record { state = x.0; leads = x.1; event = x.3.event.one_event.event }

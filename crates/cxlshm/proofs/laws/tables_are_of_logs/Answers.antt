@@ -6,8 +6,8 @@ use Rattle.cxlshm.proofs.LoggedClients.{no_script_no_log}
 use Rattle.cxlshm.proofs.laws.tables_are_of_logs.Goals as goal
 
 pub returns-clause-folded : goal.returns-clause-folded
-returns-clause-folded c bytes finished text r d key less = r.replay.fold d key less
+returns-clause-folded c t finished r d key less = r.replay.fold d key less
 
 pub returns-clause-empty : goal.returns-clause-empty
-returns-clause-empty c bytes finished text r d key less none =
-    r.replay.fold d key less ∙ (ap (λ (m : Table). finmap.get m key) (no_script_no_log r.run.closed r.trace.scripts r.run.logs.items d r.replay.logs none) ∙ finmap.get-empty nat_cmp key)
+returns-clause-empty c t finished r d key less none =
+    r.replay.fold d key less ∙ (ap (λ (m : Table). finmap.get m key) (no_script_no_log r.run.closed t.scripts r.run.logs.items d r.replay.logs none) ∙ finmap.get-empty nat_cmp key)

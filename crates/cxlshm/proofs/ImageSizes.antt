@@ -1,0 +1,44 @@
+-- how long an image without a fault is
+use Rattle.std.proofs.Common.{◌≡◌, ℕ, ◌+◌, ◌*◌, ◌<◌, ◌≤◌, Bool, true, false, not, cond, ◌&&◌, nat_lt, nat_le, eqb, List, length, slice_index, codes, arith, refl, sym, ◌∙◌, Option, Some, None}
+use Rattle.std.proofs.lemmas.Bool.Decides.{nat_tests}
+use Rattle.std.specs.Int.{w64, from_le_bytes}
+use Rattle.shm_words.specs.Layout.{GeometryFits, total_of}
+use Rattle.shm_words.proofs.Placing.{total_most}
+use Rattle.shm_audit.specs.declared.fault.ImageFault.{ImageFault}
+use Rattle.shm_audit.specs.declared.fault.ImageFault.TheVariants as fault
+use Rattle.shm_audit.specs.Images.{geometry_in, numbers_in, words_in}
+use Rattle.shm_audit.specs.Faults.{frame_fault_of, image_fault_of, image_len, is_size, words_fault_of}
+use Rattle.std.specs.Option.{option_or}
+
+first_none : (a b : Option ImageFault) → option_or a b ≡ None → a ≡ None
+first_none None b e = refl
+first_none (Some x) b e = cc
+
+untaken : (b : Bool) (f : ImageFault) (rest : Option ImageFault) → cond b (Some f) rest ≡ None → (b ≡ false) × (rest ≡ None)
+untaken true f rest e = cc
+untaken false f rest e = (refl, e)
+
+holds : (b : Bool) → not b ≡ false → b ≡ true
+holds true e = refl
+holds false e = cc
+
+sizes : (n s : ℕ) → is_size n s ≡ true → (1 ≤ n) × (n ≤ 16) × ((1 ≤ s) × (s ≤ 256))
+sizes n s e = (grind (arith, nat_tests), grind (arith, nat_tests), (grind (arith, nat_tests), grind (arith, nat_tests)))
+
+same : (a b : ℕ) → eqb a b ≡ true → a ≡ b
+same a b e = grind (arith, nat_tests)
+
+-- it is as long as the image of a pool of 16 clients and 256 segments, or shorter
+pub image_short : (bytes : List ℕ) → image_fault_of bytes ≡ None → length bytes < 4254369
+image_short bytes none =
+    let g = geometry_in bytes in
+    let frame = first_none (frame_fault_of bytes) (words_fault_of g (words_in bytes)) none in
+    let a = untaken (nat_lt (length bytes) 24) (fault.Short (length bytes)) _ frame in
+    let b = untaken (not (eqb (slice_index (numbers_in bytes) 0) (from_le_bytes w64 (codes "CXLSHM01")))) (fault.Magic (slice_index (numbers_in bytes) 0)) _ a.1 in
+    let c = untaken (not (is_size (slice_index (numbers_in bytes) 1) (slice_index (numbers_in bytes) 2))) (fault.Geometry (slice_index (numbers_in bytes) 1) (slice_index (numbers_in bytes) 2)) _ b.1 in
+    let d = untaken (not (eqb (length bytes) (image_len g))) (fault.Length (length bytes) (image_len g)) None c.1 in
+    let s = sizes (slice_index (numbers_in bytes) 1) (slice_index (numbers_in bytes) 2) (holds (is_size (slice_index (numbers_in bytes) 1) (slice_index (numbers_in bytes) 2)) c.0) in
+    let fits : GeometryFits g = record { client = s.0; clients = s.1; segment = s.2.0; segments = s.2.1 } in
+    let most : total_of g ≤ 531793 = total_most g fits in
+    let long : length bytes ≡ 24 + 8 * total_of g = same (length bytes) (image_len g) (holds (eqb (length bytes) (image_len g)) d.0) in
+    omega (arith, long, most)
