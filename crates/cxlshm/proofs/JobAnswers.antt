@@ -1,5 +1,5 @@
 -- what is told of a trace is the answer of the job that has this trace
-use Rattle.std.proofs.Common.{◌≡◌, ℕ, List, refl, subst, inl, inr}
+use Rattle.std.proofs.Common.{◌≡◌, ℕ, List, subst, inl}
 use Rattle.shm_script.specs.Drawing.{drawn_trace}
 use Rattle.shm_script.specs.Values.{Traced}
 use Rattle.cxlshm.specs.declared.outcome.Finished.{Finished}
@@ -7,18 +7,13 @@ use Rattle.cxlshm.specs.declared.words.Form.{Form}
 use Rattle.cxlshm.specs.declared.words.Form.TheVariants.{Summary}
 use Rattle.cxlshm.specs.declared.words.Job.TheVariants.{Replay, Print, Make}
 use Rattle.cxlshm.specs.Outcomes.{Answers, IsPrinted, Spells}
-use Rattle.cxlshm.specs.Replays.{Tells}
+use Rattle.cxlshm.specs.Replays.{IsTold}
 
-pub read_told : (form : Form) (bytes : List ℕ) (t : Traced) (status : ℕ) (finished : Finished) (text : List ℕ) → Spells bytes t → Tells form t status finished text → Answers (Replay form) bytes status finished text
-read_told form bytes t status finished text s (inl d) = inl (d.0, (t, s, d.1))
-read_told form bytes t status finished text s (inr d) = inr (d.0, d.1, inr ((t, s, d.2.0), d.2.1))
+pub read_told : (form : Form) (bytes : List ℕ) (t : Traced) (status : ℕ) (finished : Finished) (text : List ℕ) → Spells bytes t → (status ≡ 0) × IsTold form t finished text → Answers (Replay form) bytes status finished text
+read_told form bytes t status finished text s d = inl (d.0, (t, s, d.1))
 
 pub read_printed : (bytes : List ℕ) (t : Traced) (status : ℕ) (finished : Finished) (text : List ℕ) → Spells bytes t → (status ≡ 0) × IsPrinted t finished text → Answers Print bytes status finished text
 read_printed bytes t status finished text s p = inl (p.0, (t, s, p.1))
 
-drawn : (start size : ℕ) (bytes : List ℕ) (status : ℕ) (finished : Finished) (text : List ℕ) → Tells Summary (drawn_trace start size) status finished text → Answers (Make start size) bytes status finished text
-drawn start size bytes status finished text (inl d) = inl d
-drawn start size bytes status finished text (inr d) = inr (d.0, d.1, inr ((drawn_trace start size, refl, d.2.0), d.2.1))
-
-pub drawn_told : (start size : ℕ) (bytes : List ℕ) (t : Traced) (status : ℕ) (finished : Finished) (text : List ℕ) → t ≡ drawn_trace start size → Tells Summary t status finished text → Answers (Make start size) bytes status finished text
-drawn_told start size bytes t status finished text same d = drawn start size bytes status finished text (subst (λ (u : Traced). Tells Summary u status finished text) same d)
+pub drawn_told : (start size : ℕ) (bytes : List ℕ) (t : Traced) (status : ℕ) (finished : Finished) (text : List ℕ) → t ≡ drawn_trace start size → (status ≡ 0) × IsTold Summary t finished text → Answers (Make start size) bytes status finished text
+drawn_told start size bytes t status finished text same d = inl (d.0, subst (λ (u : Traced). IsTold Summary u finished text) same d.1)

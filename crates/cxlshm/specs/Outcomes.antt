@@ -14,8 +14,8 @@ use Rattle.shm_script.specs.Ranges.{IsTrace, IsTraceText}
 use Rattle.shm_script.specs.Text.{text_of}
 use Rattle.shm_script.specs.Values.{Traced}
 use Rattle.cxlshm.specs.Reads.{Reads, ReadsLimit, limit_of}
-use Rattle.cxlshm.specs.Refusals.{fault_line, not_yet_line}
-use Rattle.cxlshm.specs.Replays.{IsTold, IsTooEarly}
+use Rattle.cxlshm.specs.Refusals.{fault_line}
+use Rattle.cxlshm.specs.Replays.{IsTold}
 use Rattle.cxlshm.specs.Words.{job_of}
 use Rattle.cxlshm.specs.declared.outcome.Finished.{Finished}
 use Rattle.cxlshm.specs.declared.outcome.Finished.TheVariants.{Neither}
@@ -34,12 +34,6 @@ pub record Spells (bytes : List ℕ) (t : Traced) : Type 0 where
   pub trace : IsTrace t
   pub short : length bytes ≤ 1048576
   pub text : bytes ≡ text_of t
-
--- the trace that a job replays
-abbrev pub Replays : Job → List ℕ → Traced → Type 0
-Replays (Replay form) bytes t = Spells bytes t
-Replays (Make start size) bytes t = t ≡ drawn_trace start size
-Replays _ bytes t = ⊥
 
 -- the bytes are a trace, or an image without a fault; a job that draws its trace needs none
 abbrev pub IsInput : Job → List ℕ → Type 0
@@ -75,19 +69,11 @@ IsFaulty (Make start size) bytes text = ⊥
 IsFaulty (Draw start size) bytes text = ⊥
 IsFaulty _ bytes text = (fault : TraceFault) × (fault_of bytes ≡ Some fault) × (text ≡ fault_line fault)
 
--- the trace that the job replays can't be replayed yet
-abbrev pub WaitsFor : Job → List ℕ → Type 0
-WaitsFor job bytes = (t : Traced) × Replays job bytes t × IsTooEarly t
-
--- why bytes are refused, and the line that says so
-abbrev pub IsRefused : Job → List ℕ → List ℕ → Type 0
-IsRefused job bytes text = IsFaulty job bytes text ⊎ (WaitsFor job bytes × (text ≡ not_yet_line))
-
 -- the answer to the bytes that were read
 abbrev pub Answers : Job → List ℕ → ℕ → Finished → List ℕ → Type 0
 Answers job bytes status finished text =
     ((status ≡ 0) × IsDone job bytes finished text)
-    ⊎ ((status ≡ 3) × (finished ≡ Neither) × IsRefused job bytes text)
+    ⊎ ((status ≡ 3) × (finished ≡ Neither) × IsFaulty job bytes text)
 
 -- ---- what was read and written
 
@@ -102,7 +88,7 @@ pub record Refused (job : Job) (before after : Option (List ℕ)) (finished : Fi
   pub kept : finished ≡ Neither
   pub bytes : List ℕ
   pub read : Reads job before after bytes ⊎ ReadsLimit (limit_of job) before after bytes
-  pub is : IsRefused job bytes text
+  pub is : IsFaulty job bytes text
 
 -- the words aren't accepted, and nothing was read
 pub record Misused (words : List (List ℕ)) (before after : Option (List ℕ)) (finished : Finished) (text : List ℕ) : Type 0 where
@@ -131,6 +117,6 @@ WritesFront before after IsText = (text : List ℕ) × IsText text × AppendsFro
 abbrev pub IsStatus : ℕ → Type 0
 IsStatus s = (s ≡ 0) ⊎ ((s ≡ 2) ⊎ ((s ≡ 3) ⊎ ((s ≡ 4) ⊎ ((s ≡ 5) ⊎ (s ≡ 6)))))
 
--- a job with valid input is answered where nothing fails: it is done, or memory was wanting, or the trace can't be replayed yet
-abbrev pub IsAnswered : Job → List ℕ → ℕ → Type 0
-IsAnswered job bytes status = (status ≡ 0) ⊎ ((status ≡ 6) ⊎ ((status ≡ 3) × WaitsFor job bytes))
+-- a job with valid input is answered where nothing fails: it is done, or memory was wanting
+abbrev pub IsAnswered : ℕ → Type 0
+IsAnswered status = (status ≡ 0) ⊎ (status ≡ 6)

@@ -15,7 +15,3 @@ kind_word Twice = codes "twice"
 -- `refused line L KIND`: the first faulty line, from 1, and what is wrong with it
 abbrev pub fault_line : TraceFault → List ℕ
 fault_line f = codes "refused line " ++ decimal f.line ++ codes " " ++ kind_word f.kind ++ codes "\n"
-
--- the line for a trace that can't be replayed yet
-abbrev pub not_yet_line : List ℕ
-not_yet_line = codes "refused form\n"

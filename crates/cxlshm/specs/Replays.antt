@@ -1,22 +1,19 @@
 -- the replay of a trace, and what is written of it
-use Rattle.std.specs.Prelude.{◌≡◌, ◌⊎◌, ℕ, List, None}
+use Rattle.std.specs.Prelude.{◌≡◌, ℕ, List}
 use Rattle.shm_audit.specs.Images.{image_of}
 use Rattle.shm_graph.specs.Spots.{see}
 use Rattle.shm_graph.specs.declared.table.Entry.{Entry}
 use Rattle.shm_replay.specs.declared.replaying.Replayed.{Replayed as Run}
 use Rattle.shm_replay.specs.Replays.{IsReplay}
-use Rattle.shm_replay.specs.Stops.{IsNotYet, first_life}
 use Rattle.shm_report.specs.Report.{report_of, summary_of}
 use Rattle.shm_script.specs.Values.{Traced}
-use Rattle.cxlshm.specs.Refusals.{not_yet_line}
 use Rattle.cxlshm.specs.declared.outcome.Finished.{Finished}
-use Rattle.cxlshm.specs.declared.outcome.Finished.TheVariants.{Neither, Replayed}
+use Rattle.cxlshm.specs.declared.outcome.Finished.TheVariants.{Replayed}
 use Rattle.cxlshm.specs.declared.words.Form.{Form}
 use Rattle.cxlshm.specs.declared.words.Form.TheVariants.{Report, Image, Summary}
 
 -- the trace was replayed, and what is kept is its replay: the closed pool, and the logs
 pub record IsRan (t : Traced) (finished : Finished) : Type 0 where
-  pub lifeless : first_life t.scripts ≡ None
   pub run : Run
   pub kept : finished ≡ Replayed run
   pub replay : IsReplay t run.closed run.logs.items
@@ -30,13 +27,3 @@ written Summary run table = let g = run.closed.start.geometry in summary_of g (s
 -- the trace was replayed, and the text is what is written of that
 abbrev pub IsTold : Form → Traced → Finished → List ℕ → Type 0
 IsTold form t finished text = (r : IsRan t finished) × (text ≡ written form r.run r.replay.table)
-
--- the trace can't be replayed yet
-abbrev pub IsTooEarly : Traced → Type 0
-IsTooEarly t = (c : ℕ) × IsNotYet t c
-
--- a replay is told, or the line says that the trace can't be replayed yet
-abbrev pub Tells : Form → Traced → ℕ → Finished → List ℕ → Type 0
-Tells form t status finished text =
-    ((status ≡ 0) × IsTold form t finished text)
-    ⊎ ((status ≡ 3) × (finished ≡ Neither) × (IsTooEarly t × (text ≡ not_yet_line)))

@@ -54,7 +54,7 @@ pub fn top<S: Source, K: Sink>(
 
     // When each status comes.
     ensures usage { job_of (map string_bytes words.now) ≡ None → (result.status ≡ 2) ⊎ ((result.status ≡ 5) ⊎ (result.status ≡ 6)) }
-    ensures complete { (job : AJob) → job_of (map string_bytes words.now) ≡ Some job → NoFault (S.faults source.old) (S.faults source.new) → NoFault (K.faults sink.old) (K.faults sink.new) → (bytes : List ℕ) → input_of job (S.left source.old) ≡ Some bytes → IsInput job bytes → IsAnswered job bytes result.status }
+    ensures complete { (job : AJob) → job_of (map string_bytes words.now) ≡ Some job → NoFault (S.faults source.old) (S.faults source.new) → NoFault (K.faults sink.old) (K.faults sink.new) → (bytes : List ℕ) → input_of job (S.left source.old) ≡ Some bytes → IsInput job bytes → IsAnswered result.status }
     ensures faulty { (job : AJob) → job_of (map string_bytes words.now) ≡ Some job → NoFault (S.faults source.old) (S.faults source.new) → NoFault (K.faults sink.old) (K.faults sink.new) → (bytes text : List ℕ) → input_of job (S.left source.old) ≡ Some bytes → IsFaulty job bytes text → (result.status ≡ 3) ⊎ (result.status ≡ 6) }
 {
     let job = match job_of(alloc, words) {

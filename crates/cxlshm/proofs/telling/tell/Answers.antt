@@ -1,8 +1,5 @@
-use Rattle.std.proofs.Common.{refl, inl}
+use Rattle.std.proofs.Common.{refl}
 use Rattle.cxlshm.proofs.telling.tell.Goals as goal
 
 pub returns : goal.returns
-returns c =
-    let replay = rw c.in-Some.is at c.in_ok-run.ensures.replayed in
-    let lifeless = rw c.in-Some.is at c.in_ok-run.ensures.early in
-    inl (refl, (record { lifeless = lifeless; run = c.in-Some.run'; kept = refl; replay = replay }, c.in_ok-text.ensures c.args.trace.now replay))
+returns c = (refl, (record { run = c.in_ok-run.run; kept = refl; replay = c.in_ok-run.ensures }, c.in_ok-text.ensures c.args.trace.now c.in_ok-run.ensures))
