@@ -12,7 +12,7 @@ use Rattle.shm_script.proofs.Complete.{faultless}
 use Rattle.cxlshm.specs.declared.outcome.Finished.{Finished}
 use Rattle.cxlshm.specs.declared.words.Job.{Job}
 use Rattle.cxlshm.specs.declared.words.Job.TheVariants.{Replay, Print, Audit, Make, Draw}
-use Rattle.cxlshm.specs.Outcomes.{Answers, Done, IsAnswered, IsDone, IsFaulty, IsInput, Refused, Spells}
+use Rattle.cxlshm.specs.Outcomes.{Answers, Done, IsDone, IsFaulty, IsInput, Refused, Spells}
 use Rattle.cxlshm.specs.Reads.{Reads, ReadsAll, ReadsLimit, input_of, limit_of}
 use Rattle.cxlshm.proofs.ImageSizes.{image_short}
 use Rattle.cxlshm.proofs.TopReads.{read_same, reads, reads_all, reads_none}
@@ -81,28 +81,28 @@ no_fault Audit bytes text input f = some_none f.0 (sym f.1 ∙ input)
 no_fault (Make start size) bytes text input f = f
 no_fault (Draw start size) bytes text input f = f
 
--- of valid input all was read, so it isn't refused
-not_refused : (job : Job) (before after : Option (List ℕ)) (bytes read text : List ℕ) → input_of job before ≡ Some bytes → IsInput job bytes
+-- valid input, of which all was read, isn't refused
+input_read : (job : Job) (before after : Option (List ℕ)) (bytes read text : List ℕ) → input_of job before ≡ Some bytes → IsInput job bytes
     → Reads job before after read ⊎ ReadsLimit (limit_of job) before after read → IsFaulty job read text → ⊥
-not_refused (Replay form) before after bytes read text left input r refused =
+input_read (Replay form) before after bytes read text left input r refused =
     let short : length bytes ≤ 1048576 = input.0 in
     let same = read_same 1048577 before after read bytes left (omega (arith, short)) r in
     no_fault (Replay form) bytes text input (subst (λ (xs : List ℕ). IsFaulty (Replay form) xs text) same refused)
-not_refused Print before after bytes read text left input r refused =
+input_read Print before after bytes read text left input r refused =
     let short : length bytes ≤ 1048576 = input.0 in
     let same = read_same 1048577 before after read bytes left (omega (arith, short)) r in
     no_fault Print bytes text input (subst (λ (xs : List ℕ). IsFaulty Print xs text) same refused)
-not_refused Audit before after bytes read text left input r refused =
+input_read Audit before after bytes read text left input r refused =
     let same = read_same 4254369 before after read bytes left (image_short bytes input) r in
     no_fault Audit bytes text input (subst (λ (xs : List ℕ). IsFaulty Audit xs text) same refused)
-not_refused (Make start size) before after bytes read text left input r refused = refused
-not_refused (Draw start size) before after bytes read text left input r refused = refused
+input_read (Make start size) before after bytes read text left input r refused = refused
+input_read (Draw start size) before after bytes read text left input r refused = refused
 
 -- valid input is answered
 pub complete : (job : Job) (before after : Option (List ℕ)) (bytes : List ℕ) (status : ℕ) (finished : Finished) (text : List ℕ) → input_of job before ≡ Some bytes → IsInput job bytes
-    → Said job before after status finished text → IsAnswered status
-complete job before after bytes status finished text left input (inl d) = inl d.0
-complete job before after bytes status finished text left input (inr r) = absurd (not_refused job before after bytes r.1.bytes text left input r.1.read r.1.is)
+    → Said job before after status finished text → status ≡ 0
+complete job before after bytes status finished text left input (inl d) = d.0
+complete job before after bytes status finished text left input (inr r) = absurd (input_read job before after bytes r.1.bytes text left input r.1.read r.1.is)
 
 read_all : (before after : Option (List ℕ)) (bytes read : List ℕ) → before ≡ Some bytes → ReadsAll before after read → read ≡ bytes
 read_all None after bytes read left r = absurd (some_none bytes (sym left))

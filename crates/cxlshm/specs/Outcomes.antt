@@ -116,7 +116,3 @@ WritesFront before after IsText = (text : List ℕ) × IsText text × AppendsFro
 -- the statuses that the program ends with
 abbrev pub IsStatus : ℕ → Type 0
 IsStatus s = (s ≡ 0) ⊎ ((s ≡ 2) ⊎ ((s ≡ 3) ⊎ ((s ≡ 4) ⊎ ((s ≡ 5) ⊎ (s ≡ 6)))))
-
--- a job with valid input is answered where nothing fails: it is done, or memory was wanting
-abbrev pub IsAnswered : ℕ → Type 0
-IsAnswered status = (status ≡ 0) ⊎ (status ≡ 6)

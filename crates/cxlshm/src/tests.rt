@@ -9,6 +9,7 @@ mod drawn_first;
 mod drawn_second;
 mod failures;
 mod images;
+mod making;
 mod long_rows;
 mod refused;
 mod rows;

@@ -5,7 +5,7 @@ ghost use Rattle.std.specs.String.{string_bytes};
 ghost use Rattle.shm_io.specs.Faults.{Rose, NoFault};
 ghost use Rattle.shm_io.specs.Writing.{Appends, AppendsFront};
 ghost use Rattle.cxlshm.specs.declared.words.Job.{Job as AJob};
-ghost use Rattle.cxlshm.specs.Outcomes.{Asks, Decided, Done, IsAnswered, IsFaulty, IsInput, IsStatus, Misused, Refused, Writes, WritesFront};
+ghost use Rattle.cxlshm.specs.Outcomes.{Asks, Decided, Done, IsFaulty, IsInput, IsStatus, Misused, Refused, Writes, WritesFront};
 ghost use Rattle.cxlshm.specs.Reads.{input_of, limit_of};
 ghost use Rattle.cxlshm.specs.Words.{NamesCommand, job_of};
 
@@ -54,7 +54,7 @@ pub fn top<S: Source, K: Sink>(
 
     // When each status comes.
     ensures usage { job_of (map string_bytes words.now) ≡ None → (result.status ≡ 2) ⊎ ((result.status ≡ 5) ⊎ (result.status ≡ 6)) }
-    ensures complete { (job : AJob) → job_of (map string_bytes words.now) ≡ Some job → NoFault (S.faults source.old) (S.faults source.new) → NoFault (K.faults sink.old) (K.faults sink.new) → (bytes : List ℕ) → input_of job (S.left source.old) ≡ Some bytes → IsInput job bytes → IsAnswered result.status }
+    ensures complete { (job : AJob) → job_of (map string_bytes words.now) ≡ Some job → NoFault (S.faults source.old) (S.faults source.new) → NoFault (K.faults sink.old) (K.faults sink.new) → (bytes : List ℕ) → input_of job (S.left source.old) ≡ Some bytes → IsInput job bytes → (result.status ≡ 0) ⊎ (result.status ≡ 6) }
     ensures faulty { (job : AJob) → job_of (map string_bytes words.now) ≡ Some job → NoFault (S.faults source.old) (S.faults source.new) → NoFault (K.faults sink.old) (K.faults sink.new) → (bytes text : List ℕ) → input_of job (S.left source.old) ≡ Some bytes → IsFaulty job bytes text → (result.status ≡ 3) ⊎ (result.status ≡ 6) }
 {
     let job = match job_of(alloc, words) {

@@ -57,16 +57,3 @@ fn long_input(rt: HostRuntime) -> Result<(), Fail> {
     );
     Ok(())
 }
-
-#[test]
-fn lives_are_printed_alone(rt: HostRuntime) -> Result<(), Fail> {
-    let input =
-        "pool 2 2\norder 0:104 1:1000\nclient 0\nlife 104\nput 5 77\nclient 1\ncopy 9 0 5\n";
-    let (status, written) = replayed(rt.alloc(), input)?;
-    assert_eq!(rt; status, 3);
-    assert_eq!(rt; written.as_slice(), b"refused form\n".as_slice());
-    let (status, written) = call(rt.alloc(), &["replay", "--print"], input.as_bytes(), &PLAIN)?;
-    assert_eq!(rt; status, 0);
-    assert_eq!(rt; written.as_slice(), input.as_bytes());
-    Ok(())
-}

@@ -1,7 +1,6 @@
 use Rattle.std.proofs.Common.{ℕ, ◌∙◌, ◌≡◌, inl, inr, sym, arith, subst, refl, map}
 use Rattle.std.specs.String.{string_bytes}
 use Rattle.shm_io.specs.Faults.{NoFault, Rose}
-use Rattle.cxlshm.specs.Outcomes.{IsAnswered}
 use Rattle.cxlshm.specs.declared.words.Job.{Job}
 use Rattle.cxlshm.proofs.Commands.{command_named}
 use Rattle.cxlshm.proofs.TopAnswers.{complete, done_written, faulty, refused_written, said, same_job}
@@ -39,7 +38,7 @@ returns-in-Ok-answer-clause-complete g c = λ job asks source sink bytes left in
     let s = said c.in-Ok-Some.job (g.S.Source.left c.args.source.now) (g.S.Source.left c.read_to_limit.new.source) c.limit_of.result c.in-Ok.bytes.items c.as_slice.result.now c.in-Ok-answer.field-0.status c.in-Ok-answer.field-0.finished c.finish-in-Ok-answer.result.finished c.in-Ok-answer.field-0.text.items c.as_slice-in-Ok-answer.result.now c.limit_of.ensures c.in-Ok.ensures.front c.in-Ok.ensures.size c.as_slice.ensures.value c.in-Ok-answer.ensures c.finish-in-Ok-answer.ensures.finished c.as_slice-in-Ok-answer.ensures.value in
     let here = complete job (g.S.Source.left c.args.source.now) (g.S.Source.left c.read_to_limit.new.source) bytes c.in-Ok-answer.field-0.status c.finish-in-Ok-answer.result.finished c.as_slice-in-Ok-answer.result.now left input (rw same s) in
     elim c.finish-in-Ok-answer.ensures.status [
-      | inl st ↦ subst IsAnswered (sym st) here
+      | inl st ↦ inl (st ∙ here)
       | inr five ↦ absurd (unfailed _ _ sink (c.finish-in-Ok-answer.ensures.failed five).0)
     ]
 
