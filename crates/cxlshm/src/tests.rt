@@ -3,14 +3,17 @@
 ghost use Rattle.std.specs.Prelude.{◌<◌};
 
 mod audits;
+mod deaths;
+mod deaths_first;
+mod deaths_second;
 mod drawing;
 mod drawn;
 mod drawn_first;
 mod drawn_second;
 mod failures;
 mod images;
-mod making;
 mod long_rows;
+mod making;
 mod refused;
 mod rows;
 mod words;

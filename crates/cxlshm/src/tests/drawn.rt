@@ -7,7 +7,7 @@ use std::alloc::Global;
 use std::test::Fail;
 
 /// Whether a replay writes this report, and a printing the trace.
-fn is_as_drawn(alloc: Global, input: &str, report: &str) -> Result<bool, Fail> {
+pub fn is_as_drawn(alloc: Global, input: &str, report: &str) -> Result<bool, Fail> {
     let (status, written) = replayed(alloc, input)?;
     let (printed, again) = call(alloc, &["replay", "--print"], input.as_bytes(), &PLAIN)?;
     Ok(

@@ -22,7 +22,12 @@ const SUMMARIES: [(&str, &str, &str); 2] = [
 fn summaries(rt: HostRuntime) -> Result<(), Fail> {
     for (start, size, text) in SUMMARIES {
         for _ in 0..2 {
-            let (status, written) = call(rt.alloc(), &["make", start, size], b"".as_slice(), &PLAIN)?;
+            let (status, written) = call(
+                rt.alloc(),
+                &["make", start, size],
+                b"".as_slice(),
+                &PLAIN,
+            )?;
             assert_eq!(rt; status, 0, "{start} {size}");
             assert_eq!(rt; written.as_slice(), text.as_bytes());
         }
