@@ -1,6 +1,6 @@
 -- the first word step of a client: it has joined
-use Rattle.std.proofs.Common.{◌≡◌, ℕ, ◌+◌, ◌%◌, ◌^◌, ◌<◌, ◌&&◌, Bool, true, cond, List, [], ◌∷◌, refl, sym, ap, ◌∙◌, subst, arith}
-use Rattle.std.specs.Prelude.{None, slice_index}
+use Rattle.std.proofs.Common.{◌≡◌, ℕ, ◌+◌, ◌%◌, ◌<◌, ◌&&◌, Bool, true, cond, List, [], ◌∷◌, refl, sym, ap, ◌∙◌, subst, arith}
+use Rattle.std.specs.Prelude.{None, Some, slice_get, slice_index}
 use Rattle.std.specs.List.{AllByRecursion}
 use Rattle.std.specs.FinMap.{get-empty}
 use Rattle.std.specs.Ordering.{nat_cmp}
@@ -25,11 +25,15 @@ use Rattle.shm_graph.specs.Tables.{find}
 use Rattle.shm_graph.specs.Tells.{after_all}
 use Rattle.shm_graph.proofs.Memos.MemoSteps.{agents_after, recovers_on}
 use Rattle.shm_graph.proofs.States.FirstHeld.{same_everywhere}
+use Rattle.shm_calls.specs.Deciding.{StillRuns}
 use Rattle.shm_recover.specs.Join.{JoinGives, join_fresh}
 use Rattle.shm_script.specs.declared.line.Line.{Line}
 use Rattle.shm_script.specs.Ranges.{LineFits}
+use Rattle.shm_script.specs.Values.{Scripted}
 use Rattle.shm_steps.specs.Reparting.{map_in}
+use Rattle.shm_replay.specs.declared.agents.Standing.TheVariants.{AtWork}
 use Rattle.shm_replay.specs.Agents.{IsPlaying, IsReady, Playing, behind, one_agent}
+use Rattle.shm_replay.specs.Turns.{lives_of}
 use Rattle.shm_replay.specs.Work.{WorkFits, joining, work_control}
 use Rattle.shm_replay.proofs.WorkLaws.{behind_fits, behind_fresh, behind_going, behind_me}
 
@@ -62,14 +66,18 @@ module _ (start : Start) (me : Me) (n : ℕ) where
           fold = λ key. ap (λ (m : Memo). map_in m.part key) g.rest ∙ (ap (λ (b : Bool). map_in (first_part b) key) tables ∙ (empty_map key ∙ sym (get-empty nat_cmp key)));
         }
 
-    pub joined : (lines : List Line) (x : Playing) (life : Life) → x.me ≡ me → x.entries ≡ [] → x.life.left ≡ 2 ^ 40 → life.left + 1 ≡ x.life.left → GeometryFits me.geometry → me.who < me.geometry.clients → AllByRecursion (LineFits me.geometry.clients me.who) lines
-        → IsPlaying lines (record { me = me; script = x.script; work = behind me lines 0; life = life; entries = []; room = x.room; left = x.left }) e2
-    joined lines x life is none full spent geometry who all =
+    pub joined : (s : Scripted) (x : Playing) (life : Life) → x.agent ≡ 0 → x.end ≡ None → x.standing ≡ AtWork → slice_get (lives_of s.life) 0 ≡ Some x.life.left → life.left + 1 ≡ x.life.left → GeometryFits me.geometry → me.who < me.geometry.clients → AllByRecursion (LineFits me.geometry.clients me.who) s.lines
+        → IsPlaying s (record { me = me; script = x.script; agent = x.agent; work = behind me s.lines 0; life = life; entries = []; room = x.room; end = x.end; standing = x.standing }) e2
+    joined s x life agent end here full spent geometry who all =
+        let lines : List Line = s.lines in
         let first = behind_fresh me lines 0 in
         record {
+          agent = agent;
+          end = end;
+          here = here;
           steps = 1;
           agents = ap (λ (s : AStatus). agents_after (is_gone s && t.ends) (one_agent 0 Acts)) g.idle.live;
-          life = omega arith;
+          life = full ∙ ap Some (sym spent);
           few = omega arith;
           commands = refl;
           start = e2.memo;
@@ -80,11 +88,12 @@ module _ (start : Start) (me : Me) (n : ℕ) where
           gave = λ r tr b g. g;
           line = refl;
           course = ap (λ (b : Bool). after_all work_control (behind me lines 0) (call_before b e2.memo.call)) first;
+          runs = subst (λ (b : Bool). StillRuns work_control (behind me lines 0) (call_before b e2.memo.call)) (sym first) tt;
           over = sym first;
           begun = t.line ∷ [];
           is_begun = refl;
           many = sym (ap (λ (b : Bool). cond b 1 2) first);
           told = record { join = record { line = t.line; trail = e2.memo.call; finished = true }; behind = []; is = refl; entries = tt };
           all_told = refl;
-          running = λ f. refl;
+          running = sym (ap (λ (b : Bool). cond b [] (work_control.line (behind me lines 0))) first);
         }

@@ -3,7 +3,7 @@ use Rattle.std.proofs.Common.{◌≡◌, ℕ, zero, suc, ◌+◌, ◌^◌, ◌<�
 use Rattle.std.specs.Prelude.{Some, None, Ok, Err, slice_get}
 use Rattle.std.specs.List.{AllByRecursion}
 use Rattle.std.proofs.Math.Seq.{take-suc, take-length}
-use Rattle.std.proofs.lemmas.Bool.{cases_lt, true≢false}
+use Rattle.std.proofs.lemmas.Bool.{cases_lt}
 use Rattle.std.proofs.lemmas.List.{length-append, map-append}
 use Rattle.std.proofs.lemmas.Option.{get_or_from_slice_get, slice_get-get_or, slice_get_within}
 use Rattle.shm_words.specs.Layout.{GeometryFits}
@@ -30,30 +30,35 @@ use Rattle.shm_graph.specs.Whole.{fits_now, gives_now}
 use Rattle.shm_graph.proofs.Machines.TellsAlong.{after_all-append}
 use Rattle.shm_graph.proofs.Memos.MemoSteps.{agents_after, recovers_on}
 use Rattle.shm_calls.specs.CallsControl.{calls_control}
+use Rattle.shm_calls.specs.Deciding.{StillRuns}
 use Rattle.shm_calls.specs.Either.{or_control}
 use Rattle.shm_calls.specs.declared.or.Or.{Or}
 use Rattle.shm_calls.specs.declared.or.Or.TheVariants.{First, Second}
 use Rattle.shm_count.specs.declared.answer.EraSpent.{EraSpent}
-use Rattle.shm_queue.specs.Drain.Control.{drain_parts}
-use Rattle.shm_queue.specs.Drain.{drain_plan}
 use Rattle.shm_recover.specs.Join.{join_control}
 use Rattle.shm_recover.specs.Leave.Control.{leave_parts}
 use Rattle.shm_recover.specs.Leave.{leave_plan}
 use Rattle.shm_recover.specs.Machines.{LeaveGives}
+use Rattle.shm_recover.specs.Recover.Control.{recover_parts}
+use Rattle.shm_recover.specs.Recover.{recover_plan}
 use Rattle.shm_script.specs.declared.line.Line.{Line}
 use Rattle.shm_script.specs.declared.line.Line.TheVariants as line
 use Rattle.shm_script.specs.declared.log.Answer.{Answer}
 use Rattle.shm_script.specs.declared.log.Entry.{Entry}
-use Rattle.shm_script.specs.Ranges.{LineFits}
+use Rattle.shm_script.specs.declared.log.End.TheVariants as end
+use Rattle.shm_script.specs.Ranges.{IsLife, LineFits}
 use Rattle.shm_script.specs.Text.{line_spelled}
+use Rattle.shm_script.specs.Values.{Scripted}
 use Rattle.shm_steps.specs.Reparting.{map_in}
 use Rattle.shm_table.specs.Command.{CommandCall, CommandGives, command_control, command_of}
+use Rattle.shm_replay.specs.declared.agents.Standing.TheVariants.{Gone}
 use Rattle.shm_replay.specs.Agents.{AreTold, HasParted, IsPlaying, IsReady, Playing, behind, one_agent}
 use Rattle.shm_replay.specs.Logs.{answer_along}
+use Rattle.shm_replay.specs.Turns.{lives_of}
 use Rattle.shm_replay.specs.Work.{Work, WorkFits, WorkGives, commanding, work_control}
 use Rattle.shm_replay.proofs.Folding.{HasRoom, command_leaves}
 use Rattle.shm_replay.proofs.Lines.{command_line}
-use Rattle.shm_replay.proofs.Trails.{after_first, after_second, answer_inside, answer_last, begun_more, begun_on, entries_more, entries_rest, left_same, many_more, told_more, told_spelled}
+use Rattle.shm_replay.proofs.Trails.{after_first, after_second, answer_inside, answer_last, begun_more, begun_on, entries_more, entries_rest, left_same, many_more, runs_more, told_more, told_spelled}
 use Rattle.shm_replay.proofs.WorkLaws.{behind_fits, behind_fresh, behind_going, behind_me, work_laws}
 
 -- ---- what comes behind the commands that have answered, by what was answered
@@ -68,16 +73,26 @@ leave_is me [] k r0 r tr a g = (refl, g)
 leave_is me (l ∷ ls) zero r0 r tr a g = absurd g
 leave_is me (l ∷ ls) (suc k) r0 r tr a g = leave_is me ls k r0 r tr a g
 
-pub not_join : (me : Me) (ls : List Line) (k : ℕ) (r0 r : Memo) (tr : Trail) (a : Or (Unit {0}) (Result ℕ EraSpent)) → WorkGives (behind me ls k) r0 r tr (First a) → ⊥
+pub not_join : (me : Me) (ls : List Line) (k : ℕ) (r0 r : Memo) (tr : Trail) (a : Or (Unit {0}) (Result (Unit {0}) EraSpent)) → WorkGives (behind me ls k) r0 r tr (First a) → ⊥
 not_join me [] k r0 r tr a g = g
 not_join me (l ∷ ls) zero r0 r tr a g = g
 not_join me (l ∷ ls) (suc k) r0 r tr a g = not_join me ls k r0 r tr a g
 
+-- ---- lives
+
+-- the first agent has at most 2^40 word steps
+pub life_most : (life : List ℕ) (n : ℕ) → AllByRecursion IsLife life → slice_get (lives_of life) 0 ≡ Some n → n ≤ 2 ^ 40
+life_most [] n all at = let e : 2 ^ 40 ≡ n = cc in omega arith
+life_most (m ∷ life) n all at = let e : m ≡ n = cc in let most = all.0.1 in omega arith
+
 -- ---- the step
 
-module _ (lines : List Line) (x : Playing) (e : Account) (h : IsPlaying lines x e) (n : ℕ) (life : Life) (spent : life.left + 1 ≡ x.life.left) where
+module _ (s : Scripted) (x : Playing) (e : Account) (h : IsPlaying s x e) (n : ℕ) (life : Life) (spent : life.left + 1 ≡ x.life.left) where
   abbrev c : ℕ
   c = x.me.who
+
+  abbrev lines : List Line
+  lines = s.lines
 
   abbrev many : ℕ
   many = length x.entries
@@ -124,14 +139,14 @@ module _ (lines : List Line) (x : Playing) (e : Account) (h : IsPlaying lines x 
   long = many_more fresh h.begun t.line many h.many
 
   told_before : told_left t.fresh e ≡ e.told
-  told_before = left_same e fresh h.running
+  told_before = left_same e fresh (work_control.line x.work) h.running
 
   -- the agents: the one has made one more step, and ends where this one ends it
   agents : (b : Bool) → (is_gone e2.memo.status && t.ends) ≡ b → e2.memo.agents ≡ agents_after b (one_agent h.steps Acts)
   agents b same = ap (λ (z : Bool). agents_after z e.memo.agents) same ∙ ap (agents_after b) h.agents
 
-  lived : life.left + (h.steps + 1) ≡ 2 ^ 40
-  lived = let a = h.life in omega arith
+  lived : slice_get (lives_of s.life) 0 ≡ Some (life.left + (h.steps + 1))
+  lived = h.life ∙ ap Some (omega arith)
 
   made : steps_made e2.memo ≡ h.steps + 1
   made = ap steps_of (agents (is_gone e2.memo.status && t.ends) refl) ∙ go (is_gone e2.memo.status && t.ends)
@@ -146,11 +161,14 @@ module _ (lines : List Line) (x : Playing) (e : Account) (h : IsPlaying lines x 
 
   -- ---- the work goes on
 
-  pub goes_on : work_control.turns x.work n ≡ None → fits_now work_control WorkFits next h.start e2.memo → IsPlaying lines (record x { work = next; life = life }) e2
+  pub goes_on : work_control.turns x.work n ≡ None → fits_now work_control WorkFits next h.start e2.memo → IsPlaying s (record x { work = next; life = life }) e2
   goes_on none fit =
       let going : t.ends ≡ false = ends false (ap is_some none) in
       let told : e2.told ≡ e.told = ap (λ (b : Bool). cond b (told_by t.line e2.memo.call true (told_left t.fresh e)) (told_left t.fresh e)) going ∙ told_before in
       record {
+        agent = h.agent;
+        end = h.end;
+        here = h.here;
         steps = h.steps + 1;
         agents = agents false (ap (λ (b : Bool). is_gone e2.memo.status && b) going ∙ never (is_gone e2.memo.status));
         life = lived;
@@ -164,13 +182,14 @@ module _ (lines : List Line) (x : Playing) (e : Account) (h : IsPlaying lines x 
         gave = λ r tr a g. h.gave r tr a (work_laws.back x.work n h.going none h.start r tr a g);
         line = stays.same_line ∙ h.line;
         course = ap (λ (b : Bool). after_all work_control now (call_before b e2.memo.call)) stays.started ∙ course;
+        runs = subst (λ (b : Bool). StillRuns work_control now (call_before b e2.memo.call)) (sym stays.started) (runs_more work_control now before x1 h.runs (ap (λ (z : Work). work_control.turns z n) h.course ∙ none));
         over = going ∙ sym stays.started;
         begun = begun;
         is_begun = is_begun;
         many = long ∙ sym (ap (λ (b : Bool). cond b (many + 1) (many + 2)) stays.started);
         told = subst (λ (ts : List LoggedLine). AreTold x.me ts x.entries) (sym told) h.told;
         all_told = ap (λ (ts : List LoggedLine). length ts) told ∙ h.all_told;
-        running = λ f. absurd (true≢false (sym f ∙ stays.started));
+        running = ap (λ (b : Bool). cond b [] t.line) going ∙ (sym stays.same_line ∙ sym (ap (λ (b : Bool). cond b [] (work_control.line next)) stays.started));
       }
     where
       never : (b : Bool) → (b && false) ≡ false
@@ -179,10 +198,13 @@ module _ (lines : List Line) (x : Playing) (e : Account) (h : IsPlaying lines x 
 
   -- ---- the work is over
 
-  module _ (geometry : GeometryFits x.me.geometry) (who : c < x.me.geometry.clients) (all : AllByRecursion (LineFits x.me.geometry.clients c) lines) (era : own_word e2.memo.own (Era c c) ≤ 1 + steps_made e2.memo) where
+  module _ (geometry : GeometryFits x.me.geometry) (who : c < x.me.geometry.clients) (all : AllByRecursion (LineFits x.me.geometry.clients c) lines) (lives : AllByRecursion IsLife s.life) (era : own_word e2.memo.own (Era c c) ≤ 1 + steps_made e2.memo) where
+    most : life.left + (h.steps + 1) ≤ 2 ^ 40
+    most = life_most s.life (life.left + (h.steps + 1)) lives lived
+
     -- the own era is far from spent
     room : HasRoom c e2.memo
-    room s (high, low) = let a = made in let b = lived in omega arith
+    room s (high, low) = let a = made in let b = most in omega arith
 
     -- ---- a command has answered
 
@@ -241,7 +263,7 @@ module _ (lines : List Line) (x : Playing) (e : Account) (h : IsPlaying lines x 
       work_was =
           sym h.course
           ∙ (ap (λ (z : Work). after_all work_control z before) command_at.2
-          ∙ (after_second (or_control join_control (calls_control drain_parts drain_plan)) (or_control command_control (calls_control leave_parts leave_plan)) (First (command_of x.me command_at.0)) before
+          ∙ (after_second (or_control join_control (calls_control recover_parts recover_plan)) (or_control command_control (calls_control leave_parts leave_plan)) (First (command_of x.me command_at.0)) before
           ∙ ap Second (after_first command_control (calls_control leave_parts leave_plan) (command_of x.me command_at.0) before)))
 
       answer : answer_along command_control (command_of x.me command_at.0) e2.memo.call ≡ Some a
@@ -260,9 +282,12 @@ module _ (lines : List Line) (x : Playing) (e : Account) (h : IsPlaying lines x 
                 (record { line = refl; whole = refl; answer = answer });
           }
 
-      pub answers : IsPlaying lines follow e2
+      pub answers : IsPlaying s follow e2
       answers =
           record {
+            agent = h.agent;
+            end = h.end;
+            here = h.here;
             steps = h.steps + 1;
             agents = agents false (ap (λ (s : AStatus). is_gone s && t.ends) ready.idle.live);
             life = lived;
@@ -276,13 +301,14 @@ module _ (lines : List Line) (x : Playing) (e : Account) (h : IsPlaying lines x 
             gave = λ r tr b g. g;
             line = refl;
             course = ap (λ (b : Bool). after_all work_control follow.work (call_before b e2.memo.call)) first;
+            runs = subst (λ (b : Bool). StillRuns work_control follow.work (call_before b e2.memo.call)) (sym first) tt;
             over = over ∙ sym first;
             begun = begun;
             is_begun = is_begun;
             many = long ∙ (let m = more in let s : many + 2 ≡ length follow.entries + 1 = omega arith in s) ∙ sym (ap (λ (b : Bool). cond b (length follow.entries + 1) (length follow.entries + 2)) first);
             told = told_entries;
             all_told = ap (λ (ts : List LoggedLine). length ts) told ∙ length-append e.told (tells ∷ []) ∙ (let m = more in let a = h.all_told in let s : length e.told + 1 ≡ length follow.entries + 1 = omega arith in s);
-            running = λ f. ap (λ (b : Bool). cond b [] t.line) over;
+            running = ap (λ (b : Bool). cond b [] t.line) over ∙ sym (ap (λ (b : Bool). cond b [] (work_control.line follow.work)) first);
           }
 
     -- ---- it has left
@@ -297,7 +323,7 @@ module _ (lines : List Line) (x : Playing) (e : Account) (h : IsPlaying lines x 
         where
           go : (b : Result (Unit {0}) EraSpent) → LeaveGives x.me h.start e2.memo e2.memo.call b → b ≡ Ok tt
           go (Ok u) g = refl
-          go (Err s) g = let high = g.leaves.1.stopped.spent in let low = g.leaves.1.most in let m = made in let b = lived in absurd (omega arith)
+          go (Err s) g = let high = g.leaves.1.stopped.spent in let low = g.leaves.1.most in let m = made in let b = most in absurd (omega arith)
 
       ended : many ≡ length lines
       ended =
@@ -319,9 +345,11 @@ module _ (lines : List Line) (x : Playing) (e : Account) (h : IsPlaying lines x 
       gone : LeaveGives x.me h.start e2.memo e2.memo.call (Ok tt)
       gone = subst (λ (b : Result (Unit {0}) EraSpent). LeaveGives x.me h.start e2.memo e2.memo.call b) left_ok leave_at.1
 
-      pub leaves : (w : Work) → HasParted lines (record x { work = w; life = life; left = true }) e2
+      pub leaves : (w : Work) → HasParted s (record x { work = w; life = life; end = Some end.Ended; standing = Gone }) e2
       leaves w =
           record {
+            end = refl;
+            left = refl;
             steps = h.steps + 1;
             agents = agents true (ap (λ (s : AStatus). is_gone s && t.ends) gone.leaves.status ∙ leave_over);
             life = lived;
@@ -330,7 +358,7 @@ module _ (lines : List Line) (x : Playing) (e : Account) (h : IsPlaying lines x 
             gone = gone.leaves.left;
             fold = λ key. ap (λ p. map_in p key) gone.leaves.part ∙ h.ready.fold key;
             table = ap is_loose gone.leaves.part ∙ h.ready.table;
-            over = leave_over;
+            done = leave_over;
             begun = begun;
             is_begun = is_begun;
             many = long ∙ ap (λ (k : ℕ). k + 2) ended;

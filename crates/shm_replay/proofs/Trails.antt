@@ -13,6 +13,7 @@ use Rattle.shm_graph.specs.Runs.{begun_by, told_by, told_left}
 use Rattle.shm_graph.specs.Tells.{after_all}
 use Rattle.shm_calls.specs.declared.or.Or.{Or}
 use Rattle.shm_calls.specs.declared.or.Or.TheVariants.{First, Second}
+use Rattle.shm_calls.specs.Deciding.{StillRuns}
 use Rattle.shm_calls.specs.Either.{or_control}
 use Rattle.shm_script.specs.declared.line.Line.{Line}
 use Rattle.shm_script.specs.declared.line.Line.TheVariants as line
@@ -42,6 +43,11 @@ pub answer_inside : {A B C : Type 0} (o : Option A) (a : A) → let b : Or C (Or
 answer_inside None a e = absurd (cc)
 answer_inside (Some x) a e = cc
 
+-- one more pair at which it doesn't answer
+pub runs_more : {S A : Type 0} (k : Control S A) (m : S) (tr : Trail) (x : Seen) → StillRuns k m tr → k.turns (after_all k m tr) x.word ≡ None → StillRuns k m (tr ++ x ∷ [])
+runs_more k m [] x h none = (none, tt)
+runs_more k m (y ∷ tr) x h none = (h.0, runs_more k (k.after m y.word) tr x h.1 none)
+
 -- ---- what was told
 
 pub entries_more : (me : Me) (ts : List LoggedLine) (es : List Entry) (t : LoggedLine) (x : Entry) → AreEntries me ts es → length ts ≡ length es → IsEntry me t x → AreEntries me (ts ++ t ∷ []) (es ++ x ∷ [])
@@ -56,9 +62,9 @@ entries_rest me [] rest (y ∷ es) are = absurd are
 entries_rest me (s ∷ ts) rest (y ∷ es) are = (are.0, entries_rest me ts rest es are.1)
 
 -- where no line runs at a first step, nothing of a dead agent is told
-pub left_same : (e : Account) (b : Bool) → (b ≡ true → e.running ≡ []) → told_left b e ≡ e.told
-left_same e false h = refl
-left_same e true h = ap (λ (l : List ℕ). told_by l e.memo.call false e.told) (h refl)
+pub left_same : (e : Account) (b : Bool) (l : List ℕ) → e.running ≡ (if b then [] else l) → told_left b e ≡ e.told
+left_same e false l h = refl
+left_same e true l h = ap (λ (l : List ℕ). told_by l e.memo.call false e.told) h
 
 -- a line that is finished is told behind the others
 pub told_more : (l : List ℕ) (tr : Trail) (told : List LoggedLine) → (rest : List LoggedLine) × (told_by l tr true told ≡ told ++ rest)

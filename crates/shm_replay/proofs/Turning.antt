@@ -1,5 +1,5 @@
--- a word step of a client that stands in a pool
-use Rattle.std.proofs.Common.{◌≡◌, ℕ, ◌+◌, ◌<◌, ◌≤◌, ◌⊎◌, Bool, true, false, cond, List, [], ◌∷◌, ◌++◌, length, refl, sym, ap, ◌∙◌, subst, inl, inr, Result}
+-- a word step of the agents that stand in a pool
+use Rattle.std.proofs.Common.{◌≡◌, ℕ, ◌+◌, ◌<◌, ◌≤◌, Bool, true, false, cond, List, [], ◌∷◌, ◌++◌, length, refl, sym, ap, ◌∙◌, subst, inl, inr, Result}
 use Rattle.std.specs.Prelude.{Option, Some, None, Ok, slice_get}
 use Rattle.std.specs.List.{AllByRecursion}
 use Rattle.std.proofs.lemmas.List.{get_or-set_same, length-set}
@@ -7,7 +7,7 @@ use Rattle.shm_words.specs.declared.geometry.Geometry.{Geometry}
 use Rattle.shm_words.specs.Layout.{GeometryFits}
 use Rattle.shm_graph.specs.declared.ask.Life.{Life}
 use Rattle.shm_graph.specs.declared.ask.Me.{Me}
-use Rattle.shm_graph.specs.declared.memo.Kind.TheVariants.{Client}
+use Rattle.shm_graph.specs.declared.memo.Kind.TheVariants.{Client, Recoverer}
 use Rattle.shm_graph.specs.declared.memo.Memo.{Memo}
 use Rattle.shm_graph.specs.declared.memo.Step.{Step}
 use Rattle.shm_graph.specs.declared.run.Account.{Account}
@@ -18,93 +18,148 @@ use Rattle.shm_graph.specs.Laws.{Outcome, step_of}
 use Rattle.shm_graph.specs.Runs.{MayBegin, account_after, account_at, account_entered, changed, first_account}
 use Rattle.shm_graph.specs.Views.{own_word}
 use Rattle.shm_graph.specs.Whole.{fits_now, gives_now}
+use Rattle.shm_graph.proofs.Memos.MemoSteps.{last-append}
 use Rattle.shm_plain.specs.Pools.{Pool, IsOf, IsRun, MayStep, memo_of, readied, turn_on, turned}
 use Rattle.shm_plain.specs.Tracks.{kind_next}
 use Rattle.shm_plain.proofs.Calling.{may_acting}
-use Rattle.shm_calls.specs.declared.or.Or.{Or}
 use Rattle.shm_calls.specs.declared.or.Or.TheVariants.{First, Second}
 use Rattle.shm_count.specs.declared.answer.EraSpent.{EraSpent}
 use Rattle.shm_recover.specs.Join.{JoinGives, join_fresh}
 use Rattle.shm_recover.specs.Join.Keeps.{join_begins}
 use Rattle.shm_script.specs.declared.line.Line.{Line}
 use Rattle.shm_script.specs.declared.log.Answer.{Answer}
+use Rattle.shm_script.specs.declared.log.End.TheVariants as end
 use Rattle.shm_script.specs.declared.log.Entry.{Entry}
 use Rattle.shm_script.specs.Ranges.{LineFits}
-use Rattle.shm_replay.specs.Agents.{HasParted, IsFresh, IsPlaying, MayPlay, Playing, Stage, Stands, behind}
-use Rattle.shm_replay.specs.Work.{Work, WorkFits, WorkGives, joining as join_work, work_control}
+use Rattle.shm_script.specs.Values.{Scripted}
+use Rattle.shm_replay.specs.declared.agents.Standing.{Standing}
+use Rattle.shm_replay.specs.declared.agents.Standing.TheVariants.{AtWork, Gone}
+use Rattle.shm_replay.specs.Agents.{HasParted, IsFallen, IsFresh, IsMended, IsMending, IsPlaying, MayPlay, Playing, Stage, Stands, behind}
+use Rattle.shm_replay.specs.Agents as at
+use Rattle.shm_replay.specs.Work.{Work, WorkAnswer, WorkFits, WorkGives, joining as join_work, recovering, work_control}
 use Rattle.shm_replay.proofs.OwnEras.{own_most}
 use Rattle.shm_replay.proofs.Joining as joining
+use Rattle.shm_replay.proofs.Mending as mending
 use Rattle.shm_replay.proofs.Playing as playing
+use Rattle.shm_replay.proofs.Standing.{fell_quiet}
+
+-- one that is at work isn't gone
+not_gone : (z : Standing) {A : Type 0} → z ≡ AtWork → z ≡ Gone → A
+not_gone z here gone = let e : AtWork ≡ Gone = sym here ∙ gone in absurd (cc)
 
 -- ---- before it
 
-module _ (p : Pool) (lines : List Line) (x : Playing) where
-  abbrev c : ℕ
+module _ (p : Pool) (s : Scripted) (x : Playing) where
+  abbrev pub c : ℕ
   c = x.me.who
 
-  abbrev e : Account
+  abbrev pub e : Account
   e = account_at p.accounts c
 
-  abbrev r : Pool
+  abbrev pub r : Pool
   r = readied p c
 
   -- the account once an agent acts
-  abbrev e1 : Account
+  abbrev pub e1 : Account
   e1 = account_at r.accounts c
 
-  is_me : MayPlay p.start lines x → x.me ≡ record { geometry = p.start.geometry; who = c }
+  is_me : MayPlay p.start s x → x.me ≡ record { geometry = p.start.geometry; who = c }
   is_me may = (λ i. record { geometry = may.me i; who = c })
 
-  acts_playing : IsPlaying lines x e → acts e.memo ≡ true
+  acts_playing : IsPlaying s x e → acts e.memo ≡ true
   acts_playing h = ap (λ xs. acts_by (last_agent xs)) h.agents
 
-  -- the account is what it was where an agent acts, and otherwise a client has begun
-  playing_ready : IsPlaying lines x e → e1 ≡ e
-  playing_ready h = ap (λ (b : Bool). account_at (cond b p.accounts (changed (account_entered (kind_next e.memo)) p.accounts c)) c) (acts_playing h)
+  acts_mending : IsMending s x e → acts e.memo ≡ true
+  acts_mending h = ap (λ xs. acts_by (last_agent xs)) h.agents ∙ ap acts_by (last-append h.before _)
 
-  fresh_ready : c < length p.accounts → IsFresh p.start x e → e1 ≡ account_entered Client (first_account p.start c)
+  acts_fallen : IsFallen s x e → acts e.memo ≡ false
+  acts_fallen h = fell_quiet (last_agent e.memo.agents) h.fell
+
+  -- the account is what it was where an agent acts, and otherwise one has begun
+  acting_ready : acts e.memo ≡ true → e1 ≡ e
+  acting_ready h = ap (λ (b : Bool). account_at (cond b p.accounts (changed (account_entered (kind_next e.memo)) p.accounts c)) c) h
+
+  fresh_ready : c < length p.accounts → IsFresh p.start s x e → e1 ≡ account_entered Client (first_account p.start c)
   fresh_ready long h =
       ap (λ (z : Account). account_at (cond (acts z.memo) p.accounts (changed (account_entered (kind_next z.memo)) p.accounts c)) c) h.account
       ∙ (get_or-set_same p.accounts c _ _ long ∙ ap (account_entered Client) h.account)
 
-  module _ (run : IsRun p) (may : MayPlay p.start lines x) (stage : IsFresh p.start x e ⊎ IsPlaying lines x e) where
+  fallen_ready : c < length p.accounts → IsFallen s x e → e1 ≡ account_entered Recoverer e
+  fallen_ready long h =
+      ap (λ (b : Bool). account_at (cond b p.accounts (changed (account_entered (kind_next e.memo)) p.accounts c)) c) (acts_fallen h)
+      ∙ (get_or-set_same p.accounts c _ _ long ∙ ap (λ (b : Bool). account_entered (cond b Recoverer Client) e) h.fell)
+
+  -- where one comes next, it is a recoverer
+  fallen_work : (h : IsFallen s x e) → x.standing ≡ AtWork → x.work ≡ recovering x.me
+  fallen_work h here =
+      elim h.next [
+        | inl n ↦ (let z : AtWork ≡ _ = sym here ∙ n.0 in absurd (cc))
+        | inr n ↦ n.2
+      ]
+
+  module _ (run : IsRun p) (may : MayPlay p.start s x) (here : x.standing ≡ AtWork) (stage : Stage p.start s x e) where
     abbrev long : c < length p.accounts
     long = subst (λ (n : ℕ). c < n) (sym run.held.accounts) may.who
 
     pub is_of : IsOf p c work_control x.work
     is_of = go stage
       where
-        go : IsFresh p.start x e ⊎ IsPlaying lines x e → IsOf p c work_control x.work
-        go (inl h) = (ap (λ (z : Work). work_control.me z) h.work ∙ is_me may, may.who, ap (λ (z : Work). work_control.finished z) h.work)
-        go (inr h) = (h.me ∙ is_me may, may.who, h.going)
+        go : Stage p.start s x e → IsOf p c work_control x.work
+        go (at.Fresh h) = (ap (λ (z : Work). work_control.me z) h.work ∙ is_me may, may.who, ap (λ (z : Work). work_control.finished z) h.work)
+        go (at.Plays h) = (h.me ∙ is_me may, may.who, h.going)
+        go (at.Parted h) = not_gone x.standing here h.left
+        go (at.Fallen h) = (ap (λ (z : Work). work_control.me z) (fallen_work h here) ∙ is_me may, may.who, ap (λ (z : Work). work_control.finished z) (fallen_work h here))
+        go (at.Mending h) = (h.me ∙ is_me may, may.who, h.going)
+        go (at.Mended h) = not_gone x.standing here h.recovered
 
     pub may_step : MayStep p c
     may_step = go stage
       where
-        go : IsFresh p.start x e ⊎ IsPlaying lines x e → MayStep p c
-        go (inl h) = subst (λ (z : Account). acts z.memo ≡ false → MayBegin (kind_next z.memo) z.memo) (sym h.account) (λ _. inl refl)
-        go (inr h) = may_acting p c (acts_playing h)
+        go : Stage p.start s x e → MayStep p c
+        go (at.Fresh h) = subst (λ (z : Account). acts z.memo ≡ false → MayBegin (kind_next z.memo) z.memo) (sym h.account) (λ _. inl refl)
+        go (at.Plays h) = may_acting p c (acts_playing h)
+        go (at.Parted h) = not_gone x.standing here h.left
+        go (at.Fallen h) = λ _. subst (λ (b : Bool). MayBegin (cond b Recoverer Client) e.memo) (sym h.fell) h.fell
+        go (at.Mending h) = may_acting p c (acts_mending h)
+        go (at.Mended h) = not_gone x.standing here h.recovered
 
-    fresh_fits : IsFresh p.start x e → fits_now work_control WorkFits (join_work x.me) e1.memo e1.memo
+    fresh_fits : IsFresh p.start s x e → fits_now work_control WorkFits (join_work x.me) e1.memo e1.memo
     fresh_fits h =
         subst (λ (z : Account). fits_now work_control WorkFits (join_work x.me) z.memo z.memo) (sym (fresh_ready long h))
         (join_begins x.me (account_entered Client (first_account p.start c)).memo
         (record { member = record { geometry = subst GeometryFits (sym may.me) may.geometry; who = subst (λ (g : Geometry). c < g.clients) (sym may.me) may.who }; status = inl refl }))
 
+    fallen_fits : IsFallen s x e → fits_now work_control WorkFits x.work e1.memo e1.memo
+    fallen_fits h = subst (λ (z : Account). fits_now work_control WorkFits x.work z.memo z.memo) (sym (fallen_ready long h)) (mending.mend_fits p.start s x e may h here)
+
+    -- where an agent acts it fits as it did
+    acting_fits : acts e.memo ≡ true → (r0 : Memo) → fits_now work_control WorkFits x.work r0 e.memo → fits_now work_control WorkFits x.work r0 e1.memo
+    acting_fits acting r0 = subst (λ (z : Account). fits_now work_control WorkFits x.work r0 z.memo) (sym (acting_ready acting))
+
     pub fits : (r0 : Memo) × fits_now work_control WorkFits x.work r0 (memo_of r c)
     fits = go stage
       where
-        go : IsFresh p.start x e ⊎ IsPlaying lines x e → (r0 : Memo) × fits_now work_control WorkFits x.work r0 (memo_of r c)
-        go (inl h) = (e1.memo, subst (λ (z : Work). fits_now work_control WorkFits z e1.memo e1.memo) (sym h.work) (fresh_fits h))
-        go (inr h) = (h.start, subst (λ (z : Account). fits_now work_control WorkFits x.work h.start z.memo) (sym (playing_ready h)) h.fits)
+        go : Stage p.start s x e → (r0 : Memo) × fits_now work_control WorkFits x.work r0 (memo_of r c)
+        go (at.Fresh h) = (e1.memo, subst (λ (z : Work). fits_now work_control WorkFits z e1.memo e1.memo) (sym h.work) (fresh_fits h))
+        go (at.Plays h) = (h.start, acting_fits (acts_playing h) h.start h.fits)
+        go (at.Parted h) = not_gone x.standing here h.left
+        go (at.Fallen h) = (e1.memo, fallen_fits h)
+        go (at.Mending h) = (h.start, acting_fits (acts_mending h) h.start h.fits)
+        go (at.Mended h) = not_gone x.standing here h.recovered
 
     -- ---- after it
 
     abbrev t : Step
     t = turn_on r work_control x.work
 
+    abbrev n : ℕ
+    n = t.seen
+
+    abbrev next : Work
+    next = work_control.after x.work n
+
     module _ (q : Pool) (to : q ≡ turned r t) (now : IsRun q) (life : Life) (spent : life.left + 1 ≡ x.life.left)
-        (learns : (r0 : Memo) → fits_now work_control WorkFits x.work r0 (memo_of r c) → Outcome (work_control.turns x.work t.seen) (fits_now work_control WorkFits (work_control.after x.work t.seen) r0 (memo_of q c)) (gives_now WorkGives x.work r0 (memo_of q c))) where
+        (learns : (r0 : Memo) → fits_now work_control WorkFits x.work r0 (memo_of r c) → Outcome (work_control.turns x.work n) (fits_now work_control WorkFits next r0 (memo_of q c)) (gives_now WorkGives x.work r0 (memo_of q c))) where
       start : q.start ≡ p.start
       start = ap (λ (z : Pool). z.start) to
 
@@ -119,25 +174,28 @@ module _ (p : Pool) (lines : List Line) (x : Playing) where
           go false = length-set p.accounts c _
 
       -- the account after it
-      after : account_at q.accounts c ≡ account_after e1 t
+      abbrev last : Account
+      last = account_at q.accounts c
+
+      after : last ≡ account_after e1 t
       after =
           ap (λ (z : Pool). account_at z.accounts c) to
           ∙ subst (λ (z : ℕ). account_at (turned r t).accounts z ≡ account_after (account_at r.accounts z) t) who
           (get_or-set_same r.accounts t.me.who _ _ (subst (λ (z : ℕ). z < length r.accounts) (sym who) (subst (λ (z : ℕ). c < z) (sym ready_long) long)))
 
-      -- the client may play still, whatever else it has done
-      still : (y : Playing) → y.me ≡ x.me → y.room ≡ x.room → MayPlay q.start lines y
+      -- they may play still, whatever else they have done
+      still : (y : Playing) → y.me ≡ x.me → y.room ≡ x.room → MayPlay q.start s y
       still y me room =
-          subst (λ (s : Start). MayPlay s lines y) (sym start)
+          subst (λ (z : Start). MayPlay z s y) (sym start)
           (record {
             geometry = may.geometry;
             era = may.era;
             tables = may.tables;
             me = ap (λ (z : Me). z.geometry) me ∙ may.me;
             who = subst (λ (z : Me). z.who < p.start.geometry.clients) (sym me) may.who;
-            fit = subst (λ (z : Me). AllByRecursion (LineFits p.start.geometry.clients z.who) lines) (sym me) may.fit;
-            few = may.few;
-            room = subst (λ (n : ℕ). length lines ≤ n) (sym room) may.room;
+            client = may.client ∙ ap (λ (z : Me). z.who) (sym me);
+            script = may.script;
+            room = subst (λ (n : ℕ). length s.lines ≤ n) (sym room) may.room;
           })
 
       geometry : GeometryFits x.me.geometry
@@ -146,27 +204,14 @@ module _ (p : Pool) (lines : List Line) (x : Playing) where
       mine : c < x.me.geometry.clients
       mine = subst (λ (g : Geometry). c < g.clients) (sym may.me) may.who
 
-      all : AllByRecursion (LineFits x.me.geometry.clients c) lines
-      all = subst (λ (g : Geometry). AllByRecursion (LineFits g.clients c) lines) (sym may.me) may.fit
+      all : AllByRecursion (LineFits x.me.geometry.clients c) s.lines
+      all = subst (λ (g : Geometry). AllByRecursion (LineFits g.clients c) s.lines) (sym may.me) (subst (λ (d : ℕ). AllByRecursion (LineFits p.start.geometry.clients d) s.lines) may.client may.script.lines)
 
-      module _ (h : IsPlaying lines x e) where
-        -- the account after the step of one that has joined
-        abbrev e2 : Account
-        e2 = account_after e t
-
-        after_playing : account_at q.accounts c ≡ e2
-        after_playing = after ∙ ap (λ (z : Account). account_after z t) (playing_ready h)
-
-        learnt : Outcome (work_control.turns x.work t.seen) (fits_now work_control WorkFits (work_control.after x.work t.seen) h.start e2.memo) (gives_now WorkGives x.work h.start e2.memo)
-        learnt =
-            subst (λ (z : Account). Outcome (work_control.turns x.work t.seen) (fits_now work_control WorkFits (work_control.after x.work t.seen) h.start z.memo) (gives_now WorkGives x.work h.start z.memo)) after_playing
-            (learns h.start (subst (λ (z : Account). fits_now work_control WorkFits x.work h.start z.memo) (sym (playing_ready h)) h.fits))
-
-        era : own_word e2.memo.own (Era c c) ≤ 1 + steps_made e2.memo
-        era =
-            subst (λ (z : Account). own_word z.memo.own (Era c c) ≤ 1 + steps_made z.memo) after_playing
-            (subst (λ (n : ℕ). own_word (memo_of q c).own (Era c c) ≤ n + steps_made (memo_of q c)) (ap (λ (s : Start). s.first_era) start ∙ may.era)
-            (own_most q now c (subst (λ (s : Start). c < s.geometry.clients) (sym start) may.who)))
+      -- the own era is far from spent
+      era : own_word last.memo.own (Era c c) ≤ 1 + steps_made last.memo
+      era =
+          subst (λ (n : ℕ). own_word (memo_of q c).own (Era c c) ≤ n + steps_made (memo_of q c)) (ap (λ (z : Start). z.first_era) start ∙ may.era)
+          (own_most q now c (subst (λ (z : Start). c < z.geometry.clients) (sym start) may.who))
 
       -- what was learnt, by what it answered
       outcome_on : {A : Type 0} (o : Option A) (P : Type 0) (Q : A → Type 0) → o ≡ None → Outcome o P Q → P
@@ -175,76 +220,161 @@ module _ (p : Pool) (lines : List Line) (x : Playing) where
       outcome_done : {A : Type 0} (o : Option A) (P : Type 0) (Q : A → Type 0) (a : A) → o ≡ Some a → Outcome o P Q → Q a
       outcome_done o P Q a some h = subst (λ z. Outcome z P Q) some h
 
+      abbrev Fits : Memo → Account → Type 0
+      Fits r0 z = fits_now work_control WorkFits next r0 z.memo
+
+      abbrev Gives : Memo → Account → WorkAnswer → Type 0
+      Gives r0 z a = gives_now WorkGives x.work r0 z.memo a
+
+      -- it goes on from a memo, where the account after it is z
+      on : (r0 : Memo) (z : Account) → last ≡ z → fits_now work_control WorkFits x.work r0 e1.memo → work_control.turns x.work n ≡ None → Fits r0 z
+      on r0 z same f none = subst (Fits r0) same (outcome_on (work_control.turns x.work n) _ (gives_now WorkGives x.work r0 (memo_of q c)) none (learns r0 f))
+
+      gave : (r0 : Memo) (z : Account) → last ≡ z → fits_now work_control WorkFits x.work r0 e1.memo → (a : WorkAnswer) → work_control.turns x.work n ≡ Some a → Gives r0 z a
+      gave r0 z same f a some = subst (λ (y : Account). Gives r0 y a) same (outcome_done (work_control.turns x.work n) (fits_now work_control WorkFits next r0 (memo_of q c)) (gives_now WorkGives x.work r0 (memo_of q c)) a some (learns r0 f))
+
+      era_at : (z : Account) → last ≡ z → own_word z.memo.own (Era c c) ≤ 1 + steps_made z.memo
+      era_at z same = subst (λ (y : Account). own_word y.memo.own (Era c c) ≤ 1 + steps_made y.memo) same era
+
       -- what the join answers
-      joins : IsFresh p.start x e → work_control.turns x.work t.seen ≡ Some (First (First tt))
-      joins h = ap (λ (z : Work). work_control.turns z t.seen) h.work
+      joins : IsFresh p.start s x e → work_control.turns x.work n ≡ Some (First (First tt))
+      joins h = ap (λ (z : Work). work_control.turns z n) h.work
 
-      abbrev Stood : Playing → Type 0
-      Stood y = Stands q.start lines y (account_at q.accounts c)
+      -- a recovery isn't over with its first word step
+      starts : IsFallen s x e → work_control.turns x.work n ≡ None
+      starts h = mending.mend_starts p.start s x e may h here n
 
-      -- it stands after what it has played
-      stood_playing : (y : Playing) → y.me ≡ x.me → y.room ≡ x.room → y.left ≡ false → IsPlaying lines y (account_at q.accounts c) → Stood y
-      stood_playing y me room here h = record { may = still y me room; stage = subst (λ (b : Bool). Stage b q.start lines y (account_at q.accounts c)) (sym here) (inr h) }
+      abbrev pub Stood : Playing → Type 0
+      Stood y = Stands q.start s y last
 
-      -- it goes on
-      pub went_on : x.left ≡ false → work_control.turns x.work t.seen ≡ None → Stood (record x { work = work_control.after x.work t.seen; life = life })
-      went_on here none = go stage
-        where
-          go : IsFresh p.start x e ⊎ IsPlaying lines x e → Stood (record x { work = work_control.after x.work t.seen; life = life })
-          go (inl h) = absurd (let z = sym (joins h) ∙ none in cc)
-          go (inr h) =
-              stood_playing (record x { work = work_control.after x.work t.seen; life = life }) refl refl here
-              (subst (λ (z : Account). IsPlaying lines (record x { work = work_control.after x.work t.seen; life = life }) z) (sym (after_playing h))
-              (playing.goes_on lines x e h t.seen life spent none (outcome_on (work_control.turns x.work t.seen) _ _ none (learnt h))))
+      stood : (y : Playing) → y.me ≡ x.me → y.room ≡ x.room → Stage q.start s y last → Stood y
+      stood y me room h = record { may = still y me room; stage = h }
 
-      -- it has joined
-      pub began : (a : Or (Unit {0}) (Result ℕ EraSpent)) → x.left ≡ false → work_control.turns x.work t.seen ≡ Some (First a) → Stood (record x { work = behind x.me lines (length x.entries); life = life })
-      began a here some = go stage
-        where
-          y : List Entry → Playing
-          y es = record x { work = behind x.me lines (length es); life = life; entries = es }
+      module _ (h : IsPlaying s x e) where
+        -- the account after the step of a client that has joined
+        abbrev ep : Account
+        ep = account_after e t
 
-          go : IsFresh p.start x e ⊎ IsPlaying lines x e → Stood (y x.entries)
-          go (inr h) =
-              absurd (playing.not_join x.me lines (length x.entries) h.start (e2 h).memo (e2 h).memo.call a
-              (h.gave (e2 h).memo (e2 h).memo.call (First a) (outcome_done (work_control.turns x.work t.seen) _ _ (First a) some (learnt h))))
-          go (inl h) =
-              let gives : gives_now WorkGives x.work e1.memo (memo_of q c) (First (First tt)) =
-              outcome_done (work_control.turns x.work t.seen) _ _ (First (First tt)) (joins h) (learns e1.memo (subst (λ (z : Work). fits_now work_control WorkFits z e1.memo e1.memo) (sym h.work) (fresh_fits h))) in
-              let at : account_at q.accounts c ≡ joining.e2 p.start x.me t.seen = after ∙ (ap (λ (z : Account). account_after z t) (fresh_ready long h) ∙ ap (λ (z : Work). account_after (account_entered Client (first_account p.start c)) (step_of work_control z t.seen)) h.work) in
-              let join : JoinGives (join_fresh x.me) (joining.e1 p.start x.me t.seen).memo (joining.e2 p.start x.me t.seen).memo (joining.e2 p.start x.me t.seen).memo.call tt =
-              subst (λ (z : Account). gives_now WorkGives (join_work x.me) (joining.e1 p.start x.me t.seen).memo z.memo (First (First tt))) at
-              (subst (λ (z : Account). gives_now WorkGives (join_work x.me) z.memo (memo_of q c) (First (First tt))) (fresh_ready long h)
-              (subst (λ (z : Work). gives_now WorkGives z e1.memo (memo_of q c) (First (First tt))) h.work gives)) in
-              let p0 : IsPlaying lines (y []) (joining.e2 p.start x.me t.seen) = joining.joined p.start x.me t.seen join may.tables lines x life refl h.entries h.life spent geometry mine all in
-              stood_playing (y x.entries) refl refl here
-              (subst (λ (z : Account). IsPlaying lines (y x.entries) z) (sym at) (subst (λ (es : List Entry). IsPlaying lines (y es) (joining.e2 p.start x.me t.seen)) (sym h.entries) p0))
+        plays_after : last ≡ ep
+        plays_after = after ∙ ap (λ (z : Account). account_after z t) (acting_ready (acts_playing h))
 
-      -- a command has answered
-      pub answered : (a : Answer) → x.left ≡ false → work_control.turns x.work t.seen ≡ Some (Second (First a)) → (l : Line) × (slice_get lines (length x.entries) ≡ Some l) × Stood (record x { entries = x.entries ++ record { line = l; answer = a } ∷ []; work = behind x.me lines (length (x.entries ++ record { line = l; answer = a } ∷ [])); life = life })
-      answered a here some = go stage
-        where
-          y : Line → Playing
-          y l = record x { entries = x.entries ++ record { line = l; answer = a } ∷ []; work = behind x.me lines (length (x.entries ++ record { line = l; answer = a } ∷ [])); life = life }
+        plays_fits : fits_now work_control WorkFits x.work h.start e1.memo
+        plays_fits = acting_fits (acts_playing h) h.start h.fits
 
-          go : IsFresh p.start x e ⊎ IsPlaying lines x e → (l : Line) × (slice_get lines (length x.entries) ≡ Some l) × Stood (y l)
-          go (inl h) = absurd (let z = sym (joins h) ∙ some in cc)
-          go (inr h) =
-              let gives : gives_now WorkGives x.work h.start (e2 h).memo (Second (First a)) = outcome_done (work_control.turns x.work t.seen) _ _ (Second (First a)) some (learnt h) in
-              let at = playing.command_at lines x e h t.seen life spent geometry mine all (era h) a some gives in
-              (at.0, at.1, stood_playing (y at.0) refl refl here (subst (λ (z : Account). IsPlaying lines (y at.0) z) (sym (after_playing h)) (playing.answers lines x e h t.seen life spent geometry mine all (era h) a some gives)))
+        plays_gave : (a : WorkAnswer) → work_control.turns x.work n ≡ Some a → Gives h.start ep a
+        plays_gave = gave h.start ep plays_after plays_fits
 
-      -- it has left
-      pub parted : (a : Result (Unit {0}) EraSpent) → x.left ≡ false → work_control.turns x.work t.seen ≡ Some (Second (Second a)) → (a ≡ Ok tt) × Stood (record x { work = work_control.after x.work t.seen; life = life; left = true })
-      parted a here some = go stage
+        plays_not_join : (A : Type 0) (a : _) → work_control.turns x.work n ≡ Some (First a) → A
+        plays_not_join A a some = absurd (playing.not_join x.me s.lines (length x.entries) h.start ep.memo ep.memo.call a (h.gave ep.memo ep.memo.call (First a) (plays_gave (First a) some)))
+
+      module _ (h : IsMending s x e) where
+        -- the account after the step of a recoverer
+        abbrev em : Account
+        em = account_after e t
+
+        mends_after : last ≡ em
+        mends_after = after ∙ ap (λ (z : Account). account_after z t) (acting_ready (acts_mending h))
+
+        mends_fits : fits_now work_control WorkFits x.work h.start e1.memo
+        mends_fits = acting_fits (acts_mending h) h.start h.fits
+
+        mends_done : (a : WorkAnswer) → work_control.turns x.work n ≡ Some a → (a ≡ First (Second (Ok tt))) × ((w : Work) → IsMended s (record x { work = w; life = life; standing = Gone }) em)
+        mends_done a some = mending.mend_done s x e h n life spent p.start may (era_at em mends_after) a some (gave h.start em mends_after mends_fits a some)
+
+      -- the work goes on
+      pub went_on : work_control.turns x.work n ≡ None → Stood (record x { work = next; life = life })
+      went_on none = stood y refl refl (go stage)
         where
           y : Playing
-          y = record x { work = work_control.after x.work t.seen; life = life; left = true }
+          y = record x { work = next; life = life }
 
-          go : IsFresh p.start x e ⊎ IsPlaying lines x e → (a ≡ Ok tt) × Stood y
-          go (inl h) = absurd (let z = sym (joins h) ∙ some in cc)
-          go (inr h) =
-              let gives : gives_now WorkGives x.work h.start (e2 h).memo (Second (Second a)) = outcome_done (work_control.turns x.work t.seen) _ _ (Second (Second a)) some (learnt h) in (
-                playing.left_ok lines x e h t.seen life spent geometry mine all (era h) a some gives,
-                record { may = still y refl refl; stage = subst (λ (z : Account). HasParted lines y z) (sym (after_playing h)) (playing.leaves lines x e h t.seen life spent geometry mine all (era h) a some gives (work_control.after x.work t.seen)) },
+          go : Stage p.start s x e → Stage q.start s y last
+          go (at.Fresh h) = absurd (let z = sym none ∙ joins h in cc)
+          go (at.Plays h) = at.Plays (subst (IsPlaying s y) (sym (plays_after h)) (playing.goes_on s x e h n life spent none (on h.start (ep h) (plays_after h) (plays_fits h) none)))
+          go (at.Parted h) = not_gone x.standing here h.left
+          go (at.Fallen h) =
+              let ef : Account = account_after (account_entered Recoverer e) t in
+              let same : last ≡ ef = after ∙ ap (λ (z : Account). account_after z t) (fallen_ready long h) in
+              let fit : Fits (account_entered Recoverer e).memo ef = subst (λ (z : Account). Fits z.memo ef) (fallen_ready long h) (on e1.memo ef same (fallen_fits h) none) in
+              at.Mending (subst (IsMending s y) (sym same) (mending.mend_first p.start s x e may h here n life spent fit))
+          go (at.Mending h) = at.Mending (subst (IsMending s y) (sym (mends_after h)) (mending.mend_more s x e h n life spent none (on h.start (em h) (mends_after h) (mends_fits h) none)))
+          go (at.Mended h) = not_gone x.standing here h.recovered
+
+      -- it has joined
+      pub began : (a : Unit {0}) → work_control.turns x.work n ≡ Some (First (First a)) → Stood (record x { work = behind x.me s.lines (length x.entries); life = life })
+      began a some = stood (y x.entries) refl refl (go stage)
+        where
+          y : List Entry → Playing
+          y es = record x { work = behind x.me s.lines (length es); life = life; entries = es }
+
+          go : Stage p.start s x e → Stage q.start s (y x.entries) last
+          go (at.Plays h) = plays_not_join h _ (First a) some
+          go (at.Parted h) = not_gone x.standing here h.left
+          go (at.Fallen h) = absurd (let z = sym some ∙ starts h in cc)
+          go (at.Mending h) = absurd (let z = (mends_done h (First (First a)) some).0 in cc)
+          go (at.Mended h) = not_gone x.standing here h.recovered
+          go (at.Fresh h) =
+              let ej : Account = joining.e2 p.start x.me n in
+              let same : last ≡ ej = after ∙ (ap (λ (z : Account). account_after z t) (fresh_ready long h) ∙ ap (λ (z : Work). account_after (account_entered Client (first_account p.start c)) (step_of work_control z n)) h.work) in
+              let gives : Gives e1.memo ej (First (First tt)) = gave e1.memo ej same (subst (λ (z : Work). fits_now work_control WorkFits z e1.memo e1.memo) (sym h.work) (fresh_fits h)) (First (First tt)) (joins h) in
+              let join : JoinGives (join_fresh x.me) (joining.e1 p.start x.me n).memo ej.memo ej.memo.call tt =
+              subst (λ (z : Account). gives_now WorkGives (join_work x.me) z.memo ej.memo (First (First tt))) (fresh_ready long h)
+              (subst (λ (z : Work). gives_now WorkGives z e1.memo ej.memo (First (First tt))) h.work gives) in
+              let p0 : IsPlaying s (y []) ej = joining.joined p.start x.me n join may.tables s x life h.agent h.end h.here h.life spent geometry mine all in
+              at.Plays (subst (IsPlaying s (y x.entries)) (sym same) (subst (λ (es : List Entry). IsPlaying s (y es) ej) (sym h.entries) p0))
+
+      -- it has recovered the identity
+      pub recovered : (a : Result (Unit {0}) EraSpent) → work_control.turns x.work n ≡ Some (First (Second a)) → (a ≡ Ok tt) × Stood (record x { work = next; life = life; standing = Gone })
+      recovered a some = go stage
+        where
+          y : Playing
+          y = record x { work = next; life = life; standing = Gone }
+
+          go : Stage p.start s x e → (a ≡ Ok tt) × Stood y
+          go (at.Fresh h) = absurd (let z = sym some ∙ joins h in cc)
+          go (at.Plays h) = plays_not_join h _ (Second a) some
+          go (at.Parted h) = not_gone x.standing here h.left
+          go (at.Fallen h) = absurd (let z = sym some ∙ starts h in cc)
+          go (at.Mending h) =
+              let done = mends_done h (First (Second a)) some in
+              let same = done.0 in (cc, stood y refl refl (at.Mended (subst (IsMended s y) (sym (mends_after h)) (done.1 next))))
+          go (at.Mended h) = not_gone x.standing here h.recovered
+
+      -- a command has answered
+      pub answered : (a : Answer) → work_control.turns x.work n ≡ Some (Second (First a)) → (l : Line) × (slice_get s.lines (length x.entries) ≡ Some l) × Stood (record x { entries = x.entries ++ record { line = l; answer = a } ∷ []; work = behind x.me s.lines (length (x.entries ++ record { line = l; answer = a } ∷ [])); life = life })
+      answered a some = go stage
+        where
+          y : Line → Playing
+          y l = record x { entries = x.entries ++ record { line = l; answer = a } ∷ []; work = behind x.me s.lines (length (x.entries ++ record { line = l; answer = a } ∷ [])); life = life }
+
+          go : Stage p.start s x e → (l : Line) × (slice_get s.lines (length x.entries) ≡ Some l) × Stood (y l)
+          go (at.Fresh h) = absurd (let z = sym (joins h) ∙ some in cc)
+          go (at.Parted h) = not_gone x.standing here h.left
+          go (at.Fallen h) = absurd (let z = sym some ∙ starts h in cc)
+          go (at.Mending h) = absurd (let z = (mends_done h (Second (First a)) some).0 in cc)
+          go (at.Mended h) = not_gone x.standing here h.recovered
+          go (at.Plays h) =
+              let gives = plays_gave h (Second (First a)) some in
+              let own = era_at (ep h) (plays_after h) in
+              let l = playing.command_at s x e h n life spent geometry mine all may.script.life own a some gives in
+              (l.0, l.1, stood (y l.0) refl refl (at.Plays (subst (IsPlaying s (y l.0)) (sym (plays_after h)) (playing.answers s x e h n life spent geometry mine all may.script.life own a some gives))))
+
+      -- it has left
+      pub parted : (a : Result (Unit {0}) EraSpent) → work_control.turns x.work n ≡ Some (Second (Second a)) → (a ≡ Ok tt) × Stood (record x { work = next; life = life; end = Some end.Ended; standing = Gone })
+      parted a some = go stage
+        where
+          y : Playing
+          y = record x { work = next; life = life; end = Some end.Ended; standing = Gone }
+
+          go : Stage p.start s x e → (a ≡ Ok tt) × Stood y
+          go (at.Fresh h) = absurd (let z = sym (joins h) ∙ some in cc)
+          go (at.Parted h) = not_gone x.standing here h.left
+          go (at.Fallen h) = absurd (let z = sym some ∙ starts h in cc)
+          go (at.Mending h) = absurd (let z = (mends_done h (Second (Second a)) some).0 in cc)
+          go (at.Mended h) = not_gone x.standing here h.recovered
+          go (at.Plays h) =
+              let gives = plays_gave h (Second (Second a)) some in
+              let own = era_at (ep h) (plays_after h) in (
+                playing.left_ok s x e h n life spent geometry mine all may.script.life own a some gives,
+                stood y refl refl (at.Parted (subst (HasParted s y) (sym (plays_after h)) (playing.leaves s x e h n life spent geometry mine all may.script.life own a some gives next))),
               )

@@ -16,5 +16,5 @@ placed c =
 pub returns : goal.returns
 returns c =
     let a = c.self.inside in
-    subst (λ (z : Playing). record { me = a.me; script = a.script; work = c.if-answered-lines.next; life = a.life; entries = a.entries.items; room = vec_capacity a.entries; left = a.left } ≡ record z { work = behind z.me c.args.lines.now (length z.entries) }) c.self.view_is
-    (ap (λ (w : Work). record { me = a.me; script = a.script; work = w; life = a.life; entries = a.entries.items; room = vec_capacity a.entries; left = a.left }) (placed c ∙ ap (behind a.me c.args.lines.now) (c.len-answered.ensures ∙ a.entries.ok.0)))
+    subst (λ (z : Playing). record { me = a.me; script = a.script; agent = a.agent; work = c.if-answered-lines.next; life = a.life; entries = a.entries.items; room = vec_capacity a.entries; end = a.end; standing = a.standing } ≡ record z { work = behind z.me c.args.lines.now (length z.entries) }) c.self.view_is
+    (ap (λ (w : Work). record { me = a.me; script = a.script; agent = a.agent; work = w; life = a.life; entries = a.entries.items; room = vec_capacity a.entries; end = a.end; standing = a.standing }) (placed c ∙ ap (behind a.me c.args.lines.now) (c.len-answered.ensures ∙ a.entries.ok.0)))
