@@ -3,6 +3,7 @@
 ghost use Rattle.std.specs.Prelude.{◌<◌};
 
 mod audits;
+mod cuts;
 mod deaths;
 mod deaths_first;
 mod deaths_second;
