@@ -1,4 +1,4 @@
-use Rattle.std.proofs.Common.{◌≡◌, ◌<◌, ◌++◌, ℕ, true, refl, sym, ap, ◌∙◌, subst}
+use Rattle.std.proofs.Common.{◌≡◌, ◌<◌, ℕ, true, sym, ap, ◌∙◌, subst}
 use Rattle.std.specs.Prelude.{None, slice_index_or}
 use Rattle.shm_graph.specs.Runs.{account_at}
 use Rattle.shm_plain.specs.Pools.{IsRun, Pool, memo_of}

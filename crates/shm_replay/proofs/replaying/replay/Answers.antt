@@ -1,11 +1,10 @@
-use Rattle.std.proofs.Common.{arith, ◌≡◌, ◌<◌, ℕ, true, length, sym, ap, ◌∙◌, subst}
-use Rattle.std.specs.Prelude.{IfOk, None, slice_index_or}
+use Rattle.std.proofs.Common.{arith, ◌≡◌, true, length, sym, ap, ◌∙◌, subst}
+use Rattle.std.specs.Prelude.{IfOk}
 use Rattle.shm_words.specs.declared.geometry.Geometry.{Geometry}
-use Rattle.shm_graph.specs.declared.run.Start.{Start}
 use Rattle.shm_graph.specs.Runs.{account_at}
 use Rattle.shm_plain.specs.Pools.{Pool, first_pool, memo_of}
 use Rattle.shm_script.specs.Values.{Traced}
-use Rattle.shm_replay.specs.Closings.{AreVisits, HasTold, SameTable, is_dead}
+use Rattle.shm_replay.specs.Closings.{AreVisits, HasTold, SameTable}
 use Rattle.shm_replay.specs.Gathered.{logs_by}
 use Rattle.shm_replay.specs.Orders.{IsGivenAll}
 use Rattle.shm_replay.specs.Replays.{IsReplay, start_of}
