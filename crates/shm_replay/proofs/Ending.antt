@@ -1,5 +1,5 @@
 -- how the agents of a script stand where none of them has anything left to do
-use Rattle.std.proofs.Common.{◌≡◌, ◌≢◌, ℕ, zero, suc, ◌+◌, ◌^◌, ◌<◌, ◌≤◌, Bool, true, false, List, [], ◌∷◌, ◌++◌, length, map, take, refl, sym, ap, ◌∙◌, subst, arith, inl, inr}
+use Rattle.std.proofs.Common.{◌≡◌, ◌≢◌, ℕ, ◌+◌, ◌^◌, ◌≤◌, false, List, [], ◌∷◌, ◌++◌, length, refl, sym, ap, ◌∙◌, subst, arith, inl, inr}
 use Rattle.std.specs.Prelude.{◌⊎◌, Option, Some, None, slice_get, sum}
 use Rattle.std.proofs.lemmas.Bool.{true≢false}
 use Rattle.std.proofs.lemmas.List.{length-map, take_all}
@@ -15,14 +15,13 @@ use Rattle.shm_graph.specs.Runs.{account_at, fell_by, first_account, told_left}
 use Rattle.shm_graph.proofs.Memos.MemoSteps.{last-append}
 use Rattle.shm_plain.specs.Pools.{Pool, memo_of}
 use Rattle.shm_script.specs.declared.log.End.{End}
-use Rattle.shm_script.specs.declared.log.End.TheVariants as end
 use Rattle.shm_script.specs.declared.log.Entry.{Entry}
 use Rattle.shm_script.specs.declared.line.Line.{Line}
 use Rattle.shm_script.specs.Ranges.{ScriptFits}
 use Rattle.shm_script.specs.Values.{Scripted, Traced}
 use Rattle.shm_replay.specs.declared.agents.Standing.{Standing}
-use Rattle.shm_replay.specs.declared.agents.Standing.TheVariants.{AtWork, Gone, Dead}
-use Rattle.shm_replay.specs.Agents.{Fallen, Fresh, HasParted, IsFallen, IsFold, IsMended, Mended, Mending, Parted, Playing, Plays, Stage, Stands, end_or, is_at_work, logged}
+use Rattle.shm_replay.specs.declared.agents.Standing.TheVariants.{AtWork, Dead}
+use Rattle.shm_replay.specs.Agents.{Fallen, Fresh, HasParted, IsFallen, IsFold, IsMended, Mended, Mending, Parted, Playing, Plays, Stage, end_or, is_at_work, logged}
 use Rattle.shm_replay.specs.Closings.{MayVisit, is_dead, is_standing_dead}
 use Rattle.shm_replay.specs.Logs.{HasEnd, IsLogOf}
 use Rattle.shm_replay.specs.Seats.{IsSeat, Seat}
@@ -39,7 +38,7 @@ is_over start s x e (Plays p) rest = absurd (rest p.here)
 is_over start s x e (Mending p) rest = absurd (rest p.here)
 is_over start s x e (Parted p) rest = inl p
 is_over start s x e (Mended p) rest = inr (inl p)
-is_over start s x e (Fallen f) rest = elim f.next [ | inl d ↦ inr (inr (d.0, f)) | inr w ↦ absurd (rest w.0) ]
+is_over start s x e (Fallen f) rest = elim f.next [ inl d ↦ inr (inr (d.0, f)) | inr w ↦ absurd (rest w.0) ]
 
 -- ---- what the closing asks
 

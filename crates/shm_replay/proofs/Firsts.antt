@@ -1,5 +1,5 @@
 -- the first agent of an identity and the pieces of work that it began, once it has died or ended: later turns leave them
-use Rattle.std.proofs.Common.{◌≡◌, ◌≢◌, ℕ, zero, suc, ◌+◌, ◌<◌, Bool, true, false, cond, List, [], ◌∷◌, ◌++◌, length, refl, sym, ap, ◌∙◌, subst, arith, inl, inr}
+use Rattle.std.proofs.Common.{◌≡◌, ℕ, zero, suc, ◌+◌, ◌<◌, Bool, true, false, cond, List, [], ◌∷◌, ◌++◌, length, refl, sym, ap, ◌∙◌, subst, arith, inl, inr}
 use Rattle.std.specs.Prelude.{slice_set}
 use Rattle.std.proofs.lemmas.Bool.{cases_eq, cases_lt, true≢false}
 use Rattle.std.proofs.lemmas.List.{get_or-set_other, get_or-set_same, length-append, set_past}
@@ -14,7 +14,7 @@ use Rattle.shm_graph.specs.declared.run.Move.TheVariants.{Word, Dies, Begins}
 use Rattle.shm_graph.specs.declared.run.Start.{Start}
 use Rattle.shm_graph.specs.Agents.{acts, acts_by, ended, fallen, is_acting, last_agent, stepped, with_last}
 use Rattle.shm_graph.specs.Changes.{asked_spot}
-use Rattle.shm_graph.specs.Runs.{IsMove, Leads, State, account_after, account_at, account_died, account_entered, accounts_from, begun_by, first_account, first_state, moved}
+use Rattle.shm_graph.specs.Runs.{IsMove, Leads, State, account_after, account_at, account_died, account_entered, accounts_from, begun_by, first_state, moved}
 use Rattle.shm_graph.proofs.Memos.MemoSteps.{agents_after, ends_agent}
 use Rattle.shm_plain.specs.Calls.{state_of}
 use Rattle.shm_plain.specs.Pools.{IsRun, Pool}

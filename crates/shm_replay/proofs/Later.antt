@@ -1,6 +1,6 @@
 -- the log of a client that has ended or died, as its identity goes on
-use Rattle.std.proofs.Common.{◌≡◌, ℕ, zero, suc, ◌+◌, Bool, true, false, List, [], ◌∷◌, ◌++◌, length, refl, sym, ap, ◌∙◌, subst, arith}
-use Rattle.std.specs.Prelude.{Option, Some, None, slice_get, slice_index}
+use Rattle.std.proofs.Common.{◌≡◌, ℕ, zero, suc, Bool, true, false, List, [], ◌∷◌, ◌++◌, length, refl, sym, ap, ◌∙◌, subst, arith}
+use Rattle.std.specs.Prelude.{slice_index}
 use Rattle.shm_words.specs.declared.geometry.Geometry.{Geometry}
 use Rattle.shm_graph.specs.declared.ask.Me.{Me}
 use Rattle.shm_graph.specs.declared.memo.Agent.{Agent}
@@ -23,7 +23,7 @@ use Rattle.shm_script.specs.declared.line.Line.{Line}
 use Rattle.shm_script.specs.Logged.{Logged}
 use Rattle.shm_script.specs.Values.{Scripted}
 use Rattle.shm_replay.specs.Closings.{AreVisits, IsRecovery, IsVisit, IsWhole}
-use Rattle.shm_replay.specs.Logs.{AreEntries, BeganWith, HasEnd, IsLogOf, Was, begun_first}
+use Rattle.shm_replay.specs.Logs.{BeganWith, HasEnd, IsLogOf, Was, begun_first}
 use Rattle.shm_replay.specs.Logs.Was.{Between, InCommand, InLeaving}
 use Rattle.shm_replay.specs.Turns.{lives_of}
 use Rattle.shm_replay.proofs.Aside.{leads_between}
@@ -59,9 +59,10 @@ visit_led c p q run v =
     let (now, same, led) = recovery_led (fell_by (last_agent (memo_of p c).agents)) c p v.recovered run v.recovery in
     let joined = whole_led _ c v.recovered _ v.joined now v.join in
     let drained = whole_led _ c v.joined _ v.drained v.join.run v.drain in
-    let left = whole_led _ c v.drained _ q v.drain.run v.leave in
-    (v.leave.start ∙ (v.drain.start ∙ (v.join.start ∙ same)),
-    led_then p v.recovered q same led (led_then v.recovered v.joined q v.join.start joined (led_then v.joined v.drained q v.drain.start drained left)))
+    let left = whole_led _ c v.drained _ q v.drain.run v.leave in (
+      v.leave.start ∙ (v.drain.start ∙ (v.join.start ∙ same)),
+      led_then p v.recovered q same led (led_then v.recovered v.joined q v.join.start joined (led_then v.joined v.drained q v.drain.start drained left)),
+    )
 
 pub visits_led : (c n : ℕ) (p q : Pool) → IsRun p → AreVisits c n p q → Led p q
 visits_led c zero p q run h = ([], ap state_of (sym h))

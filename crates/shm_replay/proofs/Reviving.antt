@@ -1,5 +1,5 @@
 -- the recovery of an identity whose last agent died, by a recoverer that begins
-use Rattle.std.proofs.Common.{◌≡◌, ℕ, ◌+◌, ◌^◌, ◌<◌, ◌≤◌, Bool, true, false, cond, [], refl, sym, ap, ◌∙◌, subst, arith, inr, List, Result}
+use Rattle.std.proofs.Common.{◌≡◌, ℕ, ◌^◌, ◌<◌, ◌≤◌, Bool, true, false, cond, refl, sym, ap, ◌∙◌, subst, arith, inr, List, Result}
 use Rattle.std.specs.Prelude.{Option, Some, None, Ok, Err}
 use Rattle.std.specs.Result.{IsOk}
 use Rattle.std.proofs.lemmas.Bool.{true≢false}
@@ -12,12 +12,11 @@ use Rattle.shm_graph.specs.declared.memo.Kind.TheVariants.{Client, Recoverer}
 use Rattle.shm_graph.specs.declared.memo.Memo.{Memo}
 use Rattle.shm_graph.specs.declared.memo.Status.TheVariants.{Gone}
 use Rattle.shm_graph.specs.Agents.{acts, acts_by, entered, is_acting, last_agent, steps_made}
-use Rattle.shm_graph.specs.Asks.{Trail, call_before}
+use Rattle.shm_graph.specs.Asks.{Trail}
 use Rattle.shm_graph.specs.Events.{Event}
 use Rattle.shm_graph.specs.Runs.{MayBegin, fell_by, is_dead}
 use Rattle.shm_graph.specs.Whole.{fits_now}
 use Rattle.shm_graph.proofs.Memos.MemoSteps.{recovers-entered}
-use Rattle.shm_calls.specs.declared.calls.Calls.{Calls}
 use Rattle.shm_calls.specs.CallsControl.{calls_control, calls_of}
 use Rattle.shm_calls.specs.CallsFit.{CallsFits}
 use Rattle.shm_calls.specs.CallsKeep.{calls_begin}

@@ -1,20 +1,18 @@
 -- the clients of a trace before their first word steps
-use Rattle.std.proofs.Common.{◌≡◌, ◌≢◌, ℕ, zero, suc, ◌+◌, ◌^◌, ◌<◌, ◌≤◌, Bool, true, false, cond, eqb, List, [], ◌∷◌, ◌++◌, length, refl, sym, ap, ◌∙◌, subst, arith, inl, inr}
-use Rattle.std.specs.Prelude.{Option, Some, None, slice_get, slice_index_or}
-use Rattle.std.specs.List.{AllByRecursion}
-use Rattle.std.proofs.lemmas.Bool.{cases_eq, cases_lt, cond-false, cond-true, eqb-true}
+use Rattle.std.proofs.Common.{◌≡◌, ℕ, ◌+◌, ◌<◌, Bool, true, false, eqb, List, [], ◌∷◌, refl, sym, ap, ◌∙◌, subst, arith}
+use Rattle.std.specs.Prelude.{Some, None, slice_get}
+use Rattle.std.proofs.lemmas.Bool.{cond-false, cond-true, eqb-true}
 use Rattle.shm_graph.specs.declared.ask.Me.{Me}
-use Rattle.shm_graph.specs.declared.run.Account.{Account}
 use Rattle.shm_graph.specs.declared.run.Start.{Start}
 use Rattle.shm_graph.specs.Runs.{account_at, first_account}
 use Rattle.shm_graph.proofs.States.FirstHeld.{at-accounts_from}
 use Rattle.shm_count.specs.Roots.{member}
-use Rattle.shm_plain.specs.Pools.{Pool, first_pool}
+use Rattle.shm_plain.specs.Pools.{first_pool}
 use Rattle.shm_script.specs.Ranges.{IsTrace, ScriptFits}
 use Rattle.shm_script.specs.Values.{Scripted, Traced}
 use Rattle.shm_replay.specs.Agents.{Playing, Stands}
 use Rattle.shm_replay.specs.Replays.{start_of}
-use Rattle.shm_replay.specs.Seats.{AreSeated, IsSeat, Seat}
+use Rattle.shm_replay.specs.Seats.{IsSeat, Seat}
 use Rattle.shm_replay.specs.Turns.{script_in}
 use Rattle.shm_replay.proofs.Gathering.{same_some}
 use Rattle.shm_replay.proofs.WholeRun.{all_at}

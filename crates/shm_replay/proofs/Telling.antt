@@ -1,5 +1,5 @@
 -- what was told of an identity is told still, as a pool grows
-use Rattle.std.proofs.Common.{◌≡◌, ◌≢◌, ℕ, zero, suc, ◌<◌, Bool, true, false, cond, List, [], ◌∷◌, ◌++◌, length, append_assoc, append-nil, refl, sym, ap, ◌∙◌, subst, inl, inr}
+use Rattle.std.proofs.Common.{◌≡◌, ℕ, zero, suc, Bool, true, false, cond, List, [], ◌∷◌, ◌++◌, length, append_assoc, append-nil, refl, sym, ap, ◌∙◌, subst, inl, inr}
 use Rattle.std.specs.Prelude.{slice_set}
 use Rattle.std.proofs.lemmas.Bool.{cases_eq, cases_lt}
 use Rattle.std.proofs.lemmas.List.{get_or-set_other, get_or-set_same, set_past}
@@ -20,7 +20,7 @@ use Rattle.shm_graph.proofs.Runs.Lists.{account_part}
 use Rattle.shm_plain.specs.Calls.{state_of, words}
 use Rattle.shm_plain.specs.Pools.{IsRun, Pool, memo_of, readied}
 use Rattle.shm_plain.specs.Tracks.{kind_next}
-use Rattle.shm_replay.specs.Closings.{AreVisits, HasTold, IsRecovery, IsVisit, IsWhole}
+use Rattle.shm_replay.specs.Closings.{AreVisits, IsRecovery, IsVisit, IsWhole}
 
 -- the second list is the first with more behind it
 abbrev pub Grows : {A : Type 0} → List A → List A → Type 0

@@ -1,5 +1,5 @@
 -- one visit, by its parts
-use Rattle.std.proofs.Common.{◌≡◌, ℕ, Bool, true, false, Option, refl, sym, ap, ◌∙◌, subst}
+use Rattle.std.proofs.Common.{◌≡◌, ℕ, Bool, true, false, Option, sym, ap, ◌∙◌, subst}
 use Rattle.std.specs.Prelude.{Some, None, IfSome}
 use Rattle.shm_graph.specs.declared.memo.Memo.{Memo}
 use Rattle.shm_graph.specs.declared.run.Start.{Start}
@@ -22,6 +22,9 @@ use Rattle.shm_replay.proofs.Telling.{grows_then, whole_grows}
 pub some_map : (P Q : Unit {0} → Type 0) (o : Option (Unit {0})) → ((u : Unit {0}) → P u → Q u) → IfSome o P → IfSome o Q
 some_map P Q None f h = tt
 some_map P Q (Some u) f h = f u h
+
+pub some_there : (P : Unit {0} → Type 0) (o : Option (Unit {0})) (u : Unit {0}) → o ≡ Some u → IfSome o P → P u
+some_there P o u e h = subst (λ (x : Option (Unit {0})). IfSome x P) e h
 
 pub some_three : (P Q R S : Unit {0} → Type 0) (o : Option (Unit {0})) → ((u : Unit {0}) → P u → Q u → R u → S u) → IfSome o P → IfSome o Q → IfSome o R → IfSome o S
 some_three P Q R S None f h k g = tt

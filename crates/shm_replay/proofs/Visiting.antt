@@ -1,20 +1,15 @@
 -- what a join, a drain and a leaving leave of an identity that visits a pool
-use Rattle.std.proofs.Common.{add-zero, zero, suc, ◌≡◌, ◌≢◌, ℕ, ◌+◌, ◌-◌, ◌^◌, ◌<◌, ◌≤◌, Bool, true, false, cond, [], refl, sym, ap, ◌∙◌, subst, arith, inl, inr, List, Result}
+use Rattle.std.proofs.Common.{add-zero, zero, suc, ◌≡◌, ℕ, ◌+◌, ◌-◌, ◌^◌, ◌<◌, ◌≤◌, Bool, true, false, cond, [], refl, sym, ap, ◌∙◌, subst, arith, inl, inr, List, Result}
 use Rattle.std.specs.Prelude.{Ok, Err, None, slice_index}
 use Rattle.std.specs.Result.{IsOk}
-use Rattle.std.proofs.lemmas.Bool.{true≢false}
-use Rattle.shm_words.specs.Layout.{GeometryFits}
 use Rattle.shm_graph.specs.declared.ask.Me.{Me}
 use Rattle.shm_graph.specs.declared.memo.Kind.{Kind}
-use Rattle.shm_graph.specs.declared.memo.Kind.TheVariants.{Client, Recoverer}
 use Rattle.shm_graph.specs.declared.memo.Memo.{Memo}
-use Rattle.shm_graph.specs.declared.memo.Status.TheVariants.{Gone}
 use Rattle.shm_graph.specs.declared.spot.Spot.TheVariants.{Era, Hold}
 use Rattle.shm_graph.specs.Agents.{acts, entered, steps_made}
 use Rattle.shm_graph.specs.Asks.{Trail}
 use Rattle.shm_graph.specs.Events.{Event}
-use Rattle.shm_graph.specs.Idle.{IsIdle, hold_word}
-use Rattle.shm_graph.specs.Runs.{MayBegin}
+use Rattle.shm_graph.specs.Idle.{hold_word}
 use Rattle.shm_graph.specs.Views.{own_word}
 use Rattle.shm_calls.specs.CallsControl.{calls_of}
 use Rattle.shm_calls.specs.CallsFit.{CallsFits}
@@ -32,7 +27,7 @@ use Rattle.shm_recover.specs.Leave.Control.{leave_parts, leaving}
 use Rattle.shm_recover.specs.Leave.Gone.{idle_may_leave}
 use Rattle.shm_recover.specs.Leave.Laws.{leave_laws}
 use Rattle.shm_recover.specs.Leave.{LeaveLeaves, leave_plan}
-use Rattle.shm_plain.specs.Pools.{IsRun, MayStep, Pool, memo_of, readied}
+use Rattle.shm_plain.specs.Pools.{IsRun, Pool, memo_of, readied}
 use Rattle.shm_plain.specs.Tracks.{kind_next}
 use Rattle.shm_plain.proofs.Turning.{ready_memo}
 use Rattle.shm_replay.specs.Closings.{AreVisits, IsIn, IsOut, IsVisit}

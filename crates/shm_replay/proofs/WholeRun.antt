@@ -1,23 +1,18 @@
 -- the run of a trace and its closing are a replay
-use Rattle.std.proofs.Common.{◌≡◌, ◌≢◌, ℕ, zero, suc, ◌+◌, ◌%◌, ◌<◌, ◌≤◌, Bool, true, false, not, cond, eqb, List, [], ◌∷◌, ◌++◌, replicate, refl, sym, ap, ◌∙◌, subst, arith}
+use Rattle.std.proofs.Common.{◌≡◌, ◌≢◌, ℕ, zero, suc, ◌%◌, ◌<◌, Bool, true, false, eqb, List, [], ◌∷◌, refl, sym, ap, ◌∙◌, subst, arith}
 use Rattle.std.specs.Prelude.{Option, Some, None, slice_get, slice_index_or}
 use Rattle.std.specs.FinMap as finmap
 use Rattle.std.specs.Ordering.{nat_cmp}
 use Rattle.std.specs.List.{AllByRecursion}
 use Rattle.std.proofs.lemmas.Bool.{cond-false, cond-true, eq-eqb, ne_eqb, true≢false}
 use Rattle.shm_graph.specs.declared.ask.Me.{Me}
-use Rattle.shm_graph.specs.declared.memo.Memo.{Memo}
 use Rattle.shm_graph.specs.declared.run.Account.{Account}
 use Rattle.shm_graph.specs.declared.run.Start.{Start}
-use Rattle.shm_graph.specs.declared.spot.Spot.TheVariants.{Home}
-use Rattle.shm_graph.specs.declared.table.Entry.{Entry}
 use Rattle.shm_graph.specs.declared.table.Part.{Part}
 use Rattle.shm_graph.specs.declared.table.Part.TheVariants.{Loose, Table}
 use Rattle.shm_graph.specs.Held.{PartTie, is_loose}
-use Rattle.shm_graph.specs.References.{references}
 use Rattle.shm_graph.specs.Runs.{account_at, first_account, told_left}
-use Rattle.shm_graph.specs.Spots.{see}
-use Rattle.shm_graph.specs.Tables.{Contents, IsPartition, contents_of, find, map_of}
+use Rattle.shm_graph.specs.Tables.{Contents, IsPartition, find}
 use Rattle.shm_graph.proofs.States.FirstHeld.{same_everywhere}
 use Rattle.shm_count.specs.Roots.{member}
 use Rattle.shm_steps.specs.Reparting.{chain_in, map_in}
@@ -26,7 +21,7 @@ use Rattle.shm_plain.specs.Pools.{IsRun, Pool, first_pool, memo_of}
 use Rattle.shm_plain.proofs.StillTable.{still_part}
 use Rattle.shm_script.specs.Ranges.{AreApart, IsTrace, ScriptFits}
 use Rattle.shm_script.specs.Values.{Scripted, Traced}
-use Rattle.shm_replay.specs.Agents.{Playing, Stands, logged}
+use Rattle.shm_replay.specs.Agents.{Playing, logged}
 use Rattle.shm_replay.specs.Closings.{AreVisits, HasTold, SameTable, is_dead, is_standing_dead}
 use Rattle.shm_replay.specs.Gathered.{logs_by}
 use Rattle.shm_replay.specs.Logs.{IsLog, IsLogOf}

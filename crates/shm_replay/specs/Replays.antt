@@ -1,5 +1,5 @@
 -- the replay of a trace
-use Rattle.std.specs.Prelude.{◌≡◌, ◌≢◌, ℕ, ◌<◌, ◌^◌, ◌≤◌, ◌⊎◌, ◌==◌, if◌then◌else◌, true, Option, Some, None, List, [], ◌∷◌}
+use Rattle.std.specs.Prelude.{◌≡◌, ℕ, ◌<◌, ◌==◌, if◌then◌else◌, true, List, [], ◌∷◌}
 use Rattle.std.specs.FinMap as finmap
 use Rattle.shm_graph.specs.declared.run.Start.{Start}
 use Rattle.shm_graph.specs.Spots.{see}
@@ -8,7 +8,7 @@ use Rattle.shm_graph.specs.declared.table.Entry.{Entry}
 use Rattle.shm_plain.specs.Pools.{Pool, first_pool}
 use Rattle.shm_plain.specs.Closings.{IsClosedRun}
 use Rattle.shm_script.specs.Logged.{Logged, Table, fold_of}
-use Rattle.shm_script.specs.Values.{Scripted, Traced}
+use Rattle.shm_script.specs.Values.{Traced}
 use Rattle.shm_replay.specs.Orders.{IsGivenAll}
 use Rattle.shm_replay.specs.Closings.{AreVisits}
 use Rattle.shm_replay.specs.Logs.{AreLogs}

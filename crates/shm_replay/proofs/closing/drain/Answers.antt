@@ -1,6 +1,5 @@
-use Rattle.std.proofs.Common.{◌≡◌, ℕ, ◌+◌, ◌^◌, ◌≤◌, true, [], Result, refl, sym, ap, ◌∙◌, subst, arith}
-use Rattle.std.specs.Prelude.{Some, Ok, IfSome}
-use Rattle.std.specs.Option.{is_some}
+use Rattle.std.proofs.Common.{◌≡◌, ℕ, ◌^◌, ◌≤◌, Result, refl, sym, ap, ◌∙◌, subst, arith}
+use Rattle.std.specs.Prelude.{Ok}
 use Rattle.shm_graph.specs.declared.memo.Memo.{Memo}
 use Rattle.shm_graph.specs.declared.memo.Status.TheVariants.{Gone, Live}
 use Rattle.shm_graph.specs.Agents.{steps_made}
@@ -12,7 +11,7 @@ use Rattle.shm_count.specs.declared.answer.EraSpent.{EraSpent}
 use Rattle.shm_count.specs.Roots.{member}
 use Rattle.shm_queue.specs.declared.drain.DrainState.{DrainState}
 use Rattle.shm_queue.specs.Drain.Control.{DrainAnswer, DrainCall, drain_parts, draining}
-use Rattle.shm_queue.specs.Drain.{DrainLeaves, drain_plan}
+use Rattle.shm_queue.specs.Drain.{drain_plan}
 use Rattle.shm_plain.specs.Pools.{memo_of, readied}
 use Rattle.shm_plain.proofs.Calling.{fits_acting}
 use Rattle.shm_replay.proofs.Visiting.{drain_fits, drain_in, drain_ok, drain_part}

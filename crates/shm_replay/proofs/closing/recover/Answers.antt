@@ -1,12 +1,11 @@
-use Rattle.std.proofs.Common.{◌≡◌, ℕ, ◌+◌, ◌^◌, ◌<◌, ◌≤◌, Bool, true, ◌++◌, length, refl, sym, ap, ◌∙◌, subst, arith, Result}
-use Rattle.std.specs.Prelude.{Some, Ok, IfSome}
+use Rattle.std.proofs.Common.{◌≡◌, ℕ, ◌^◌, ◌<◌, ◌≤◌, Bool, true, ◌++◌, length, refl, sym, ap, ◌∙◌, subst, arith}
+use Rattle.std.specs.Prelude.{Ok}
 use Rattle.shm_graph.specs.declared.memo.Memo.{Memo}
 use Rattle.shm_graph.specs.Agents.{steps_made}
 use Rattle.shm_graph.specs.Asks.{call_before}
 use Rattle.shm_graph.specs.Whole.{fits_now}
 use Rattle.shm_calls.specs.CallsControl.{calls_control, calls_of}
 use Rattle.shm_calls.specs.CallsFit.{CallsFits, CallsGives}
-use Rattle.shm_count.specs.declared.answer.EraSpent.{EraSpent}
 use Rattle.shm_count.specs.Roots.{member}
 use Rattle.shm_recover.specs.Recover.Control.{recover_parts, recovering}
 use Rattle.shm_recover.specs.Recover.{recover_plan}

@@ -1,4 +1,4 @@
-use Rattle.std.proofs.Common.{◌≡◌, ℕ, true, ◌∙◌}
+use Rattle.std.proofs.Common.{◌≡◌, true, ◌∙◌}
 use Rattle.shm_graph.specs.Runs.{account_at}
 use Rattle.shm_calls.specs.CallsControl.{calls_control, calls_of}
 use Rattle.shm_count.specs.Roots.{member}
