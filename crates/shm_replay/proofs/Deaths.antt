@@ -3,7 +3,6 @@ use Rattle.std.proofs.Common.{◌≡◌, ℕ, zero, suc, ◌+◌, ◌^◌, ◌<�
 use Rattle.std.specs.Prelude.{Option, Some, None, drop, slice_get, sum}
 use Rattle.std.specs.List.{AllByRecursion}
 use Rattle.std.specs.Option.{is_some}
-use Rattle.std.proofs.lemmas.Bool.{true≢false}
 use Rattle.std.proofs.lemmas.List.{get_or-set_same, length-append}
 use Rattle.std.proofs.lemmas.List.Sums.{sum_by-cons}
 use Rattle.std.proofs.lemmas.Option.{get_or_from_slice_get, slice_get_within}
@@ -13,7 +12,6 @@ use Rattle.shm_graph.specs.declared.ask.Me.{Me}
 use Rattle.shm_graph.specs.declared.memo.Agent.{Agent}
 use Rattle.shm_graph.specs.declared.run.Account.{Account}
 use Rattle.shm_graph.specs.Agents.{acts, acts_by, last_agent}
-use Rattle.shm_graph.specs.Held.{is_loose}
 use Rattle.shm_graph.specs.Runs.{account_at, account_died, changed}
 use Rattle.shm_graph.proofs.Memos.MemoSteps.{last-append}
 use Rattle.shm_plain.specs.Pools.{IsRun, Pool, after_fall}
@@ -89,7 +87,14 @@ follows_fewer s y left (Some n) here at =
 
 -- ---- the death
 
-module _ (p : Pool) (s : Scripted) (x : Playing) (run : IsRun p) (stands : Stands p.start s x (account_at p.accounts x.me.who)) (here : x.standing ≡ AtWork) (spent : x.life.left ≡ 0) where
+-- the agents x of the script s stand in the pool, and the one that is at work has no word step left
+pub record IsSpent (p : Pool) (s : Scripted) (x : Playing) : Type 0 where
+  pub run : IsRun p
+  pub stands : Stands p.start s x (account_at p.accounts x.me.who)
+  pub here : x.standing ≡ AtWork
+  pub spent : x.life.left ≡ 0
+
+module _ (p : Pool) (s : Scripted) (x : Playing) (is : IsSpent p s x) where
   abbrev c : ℕ
   c = x.me.who
 
@@ -97,23 +102,23 @@ module _ (p : Pool) (s : Scripted) (x : Playing) (run : IsRun p) (stands : Stand
   e = account_at p.accounts c
 
   may : MayPlay p.start s x
-  may = stands.may
+  may = is.stands.may
 
   -- the client is at work, or a recoverer
   stage : IsPlaying s x e ⊎ IsMending s x e
-  stage = go stands.stage
+  stage = go is.stands.stage
     where
       go : Stage p.start s x e → IsPlaying s x e ⊎ IsMending s x e
-      go (Fresh h) = absurd (let l = some_life s.life may.script.life 0 x.life.left h.life in let z = spent in omega arith)
+      go (Fresh h) = absurd (let l = some_life s.life may.script.life 0 x.life.left h.life in let z = is.spent in omega arith)
       go (Plays h) = inl h
-      go (Parted h) = absurd (let z : AtWork ≡ Gone = sym here ∙ h.left in cc)
+      go (Parted h) = absurd (let z : AtWork ≡ Gone = sym is.here ∙ h.left in cc)
       go (Fallen h) =
           elim h.next [
-            | inl d ↦ absurd (let z : AtWork ≡ Dead = sym here ∙ d.0 in cc)
-            | inr l ↦ absurd (let k = some_life s.life may.script.life x.agent x.life.left l.1 in let z = spent in omega arith)
+            | inl d ↦ absurd (let z : AtWork ≡ Dead = sym is.here ∙ d.0 in cc)
+            | inr l ↦ absurd (let k = some_life s.life may.script.life x.agent x.life.left l.1 in let z = is.spent in omega arith)
           ]
       go (Mending h) = inr h
-      go (Mended h) = absurd (let z : AtWork ≡ Gone = sym here ∙ h.recovered in cc)
+      go (Mended h) = absurd (let z : AtWork ≡ Gone = sym is.here ∙ h.recovered in cc)
 
   acting : acts e.memo ≡ true
   acting =
@@ -126,7 +131,7 @@ module _ (p : Pool) (s : Scripted) (x : Playing) (run : IsRun p) (stands : Stand
   fallen : account_at (after_fall p c).accounts c ≡ account_died e
   fallen =
       ap (λ (b : Bool). account_at (cond b (changed account_died p.accounts c) p.accounts) c) acting
-      ∙ get_or-set_same p.accounts c _ _ (subst (λ (n : ℕ). c < n) (sym run.held.accounts) may.who)
+      ∙ get_or-set_same p.accounts c _ _ (subst (λ (n : ℕ). c < n) (sym is.run.held.accounts) may.who)
 
   -- ---- what needs to be shown on the way
 
@@ -161,7 +166,7 @@ module _ (p : Pool) (s : Scripted) (x : Playing) (run : IsRun p) (stands : Stand
 
   pub line_at : x.end ≡ None → is_some (shown_by x.work) ≡ true → slice_get s.lines (length x.entries) ≡ Some line
   line_at none shown =
-      let l = shows_line s x e spent (plays none) shown in
+      let l = shows_line s x e is.spent (plays none) shown in
       l.1 ∙ ap (λ (z : Line). Some z) (sym (get_or_from_slice_get s.lines (length x.entries) l.0 (Del 0) l.1))
 
   pub below : x.end ≡ None → is_some (shown_by x.work) ≡ true → length x.entries < length s.lines
@@ -221,8 +226,8 @@ module _ (p : Pool) (s : Scripted) (x : Playing) (run : IsRun p) (stands : Stand
     noted_here : y.standing ≡ AtWork
     noted_here =
         elim noted [
-          | inl n ↦ ap (λ (z : Playing). z.standing) n.1 ∙ here
-          | inr n ↦ ap (λ (z : Playing). z.standing) n.1 ∙ here
+          | inl n ↦ ap (λ (z : Playing). z.standing) n.1 ∙ is.here
+          | inr n ↦ ap (λ (z : Playing). z.standing) n.1 ∙ is.here
         ]
 
     abbrev After : Playing → Type 0
@@ -231,8 +236,8 @@ module _ (p : Pool) (s : Scripted) (x : Playing) (run : IsRun p) (stands : Stand
     falls : After y
     falls =
         elim noted [
-          | inl n ↦ subst After (sym n.1) (falls_playing s x e spent (plays n.0) may.client (has_table p c run may.tables may.who) maps line (line_at n.0))
-          | inr n ↦ subst After (sym n.1) (falls_mending s x e spent (mends n.0))
+          | inl n ↦ subst After (sym n.1) (falls_playing s x e is.spent (plays n.0) may.client (has_table p c is.run may.tables may.who) maps line (line_at n.0))
+          | inr n ↦ subst After (sym n.1) (falls_mending s x e is.spent (mends n.0))
         ]
       where
         mends : is_some x.end ≡ true → IsMending s x e
@@ -243,25 +248,25 @@ module _ (p : Pool) (s : Scripted) (x : Playing) (run : IsRun p) (stands : Stand
             ]
 
     -- the agents after it, in the pool after it
-    module _ (q : Pool) (to : q ≡ after_fall p c) (z : Playing) (is : z ≡ follows next y) where
+    module _ (q : Pool) (to : q ≡ after_fall p c) (z : Playing) (last : z ≡ follows next y) where
       pub last_me : z.me ≡ x.me
-      last_me = ap (λ (w : Playing). w.me) is ∙ (follows_me next y ∙ noted_me)
+      last_me = ap (λ (w : Playing). w.me) last ∙ (follows_me next y ∙ noted_me)
 
       pub last_script : z.script ≡ x.script
-      last_script = ap (λ (w : Playing). w.script) is ∙ (follows_script next y ∙ noted_script)
+      last_script = ap (λ (w : Playing). w.script) last ∙ (follows_script next y ∙ noted_script)
 
       pub last_stands : Stands q.start s z (account_at q.accounts c)
       last_stands =
           subst (λ (r : Pool). Stands r.start s z (account_at r.accounts c)) (sym to)
           (record {
-            may = still z last_me (ap (λ (w : Playing). w.room) is ∙ (follows_room next y ∙ noted_room));
-            stage = Fallen (subst (λ (w : Playing). IsFallen s w (account_at (after_fall p c).accounts c)) (sym is) (subst (λ (a : Account). IsFallen s (follows next y) a) (sym fallen) falls));
+            may = still z last_me (ap (λ (w : Playing). w.room) last ∙ (follows_room next y ∙ noted_room));
+            stage = Fallen (subst (λ (w : Playing). IsFallen s w (account_at (after_fall p c).accounts c)) (sym last) (subst (λ (a : Account). IsFallen s (follows next y) a) (sym fallen) falls));
           })
 
       pub last_fewer : turns_by z (Some s) < turns_by x (Some s)
       last_fewer =
           let a = follows_fewer s y x.life.left next noted_here refl in
-          let b : turns_by z (Some s) ≡ turns_by (follows next y) (Some s) = ap (λ (w : Playing). turns_by w (Some s)) is in
-          let d : turns_by x (Some s) ≡ x.life.left + 1 + turns_of (drop (x.agent + 1) (lives_of s.life)) = ap (λ (w : Standing). turns_at w (x.life.left + 1 + turns_of (drop (x.agent + 1) (lives_of s.life)))) here in
+          let b : turns_by z (Some s) ≡ turns_by (follows next y) (Some s) = ap (λ (w : Playing). turns_by w (Some s)) last in
+          let d : turns_by x (Some s) ≡ x.life.left + 1 + turns_of (drop (x.agent + 1) (lives_of s.life)) = ap (λ (w : Standing). turns_at w (x.life.left + 1 + turns_of (drop (x.agent + 1) (lives_of s.life)))) is.here in
           let f : turns_of (drop (y.agent + 1) (lives_of s.life)) ≡ turns_of (drop (x.agent + 1) (lives_of s.life)) = ap (λ (k : ℕ). turns_of (drop (k + 1) (lives_of s.life))) noted_agent in
           omega arith

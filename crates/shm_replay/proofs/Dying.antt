@@ -1,5 +1,5 @@
 -- the death of an agent: of a client that was at work, or of a recoverer
-use Rattle.std.proofs.Common.{◌≡◌, ℕ, ◌+◌, ◌<◌, Bool, true, false, cond, List, [], ◌∷◌, ◌++◌, map, take, length, append-nil, refl, sym, ap, ◌∙◌, subst, inl, inr, arith, Result}
+use Rattle.std.proofs.Common.{◌≡◌, ℕ, ◌+◌, Bool, true, false, cond, List, [], ◌∷◌, ◌++◌, map, take, length, append-nil, refl, sym, ap, ◌∙◌, subst, inl, inr, arith}
 use Rattle.std.specs.Prelude.{Option, Some, None, slice_get, slice_index, sum}
 use Rattle.std.specs.Option.{is_some}
 use Rattle.std.proofs.lemmas.List.{length-append}
@@ -17,10 +17,8 @@ use Rattle.shm_graph.specs.Held.{is_loose}
 use Rattle.shm_graph.specs.Runs.{account_died, fell_by, told_by, told_left}
 use Rattle.shm_graph.specs.Tells.{after_all}
 use Rattle.shm_graph.proofs.Memos.MemoSteps.{last-append}
-use Rattle.shm_calls.specs.declared.calls.Calls.{Calls}
 use Rattle.shm_calls.specs.declared.or.Or.TheVariants.{First, Second}
 use Rattle.shm_calls.specs.CallsControl.{calls_control, calls_of}
-use Rattle.shm_calls.specs.CallsFit.{CallsFits}
 use Rattle.shm_calls.specs.Deciding.{StillRuns}
 use Rattle.shm_calls.specs.Either.{or_control}
 use Rattle.shm_count.specs.Steady.{SameTable}
@@ -40,7 +38,7 @@ use Rattle.shm_table.specs.Command.Maps.{MapSoFar}
 use Rattle.shm_table.specs.Command.{CommandCall, CommandFits, command_control, command_effect, command_of}
 use Rattle.shm_replay.specs.declared.agents.Standing.TheVariants.{AtWork}
 use Rattle.shm_replay.specs.Agents.{IsFallen, IsFold, IsMending, IsPlaying, IsSettled, Playing, behind, follows, logged, one_agent, shown_by}
-use Rattle.shm_replay.specs.Logs.{BeganWith, IsLogOf, Was, begun_first, effect_along, with_effect}
+use Rattle.shm_replay.specs.Logs.{BeganWith, Was, begun_first, with_effect}
 use Rattle.shm_replay.specs.Logs.Was.{Between, InCommand, InLeaving}
 use Rattle.shm_replay.specs.Turns.{lives_of}
 use Rattle.shm_replay.specs.Work.{LeaveCalls, Work, WorkFits, commanding, leaving, work_control}
@@ -317,9 +315,9 @@ module _ (s : Scripted) (x : Playing) (e : Account) (spent : x.life.left ≡ 0) 
           (ap (λ (xs : List Agent). length xs) agents ∙ ap (λ (n : ℕ). n + 1) (sym h.agent))
           (ap (λ (xs : List Agent). fell_by (last_agent xs)) agents)
           (let a = ap steps_of agents in
-              let b : steps_of (one_agent h.steps fate.Died) ≡ h.steps + 0 = refl in
-              let l = sum_more (lives_of s.life) 0 _ h.life in
-              let z = spent in
-              let k : sum (take (0 + 1) (lives_of s.life)) ≡ sum (take (x.agent + 1) (lives_of s.life)) = ap (λ (i : ℕ). sum (take (i + 1) (lives_of s.life))) (sym h.agent) in
-              let none : sum (take 0 (lives_of s.life)) ≡ 0 = refl in
-              omega arith)
+          let b : steps_of (one_agent h.steps fate.Died) ≡ h.steps + 0 = refl in
+          let l = sum_more (lives_of s.life) 0 _ h.life in
+          let z = spent in
+          let k : sum (take (0 + 1) (lives_of s.life)) ≡ sum (take (x.agent + 1) (lives_of s.life)) = ap (λ (i : ℕ). sum (take (i + 1) (lives_of s.life))) (sym h.agent) in
+          let none : sum (take 0 (lives_of s.life)) ≡ 0 = refl in
+          omega arith)

@@ -1,6 +1,6 @@
 -- word steps of a recoverer: its first one, one after which it goes on, and its last one
-use Rattle.std.proofs.Common.{◌≡◌, ℕ, ◌+◌, ◌^◌, ◌<◌, ◌≤◌, ◌&&◌, Bool, true, false, cond, List, [], ◌∷◌, ◌++◌, take, length, append-nil, refl, sym, ap, ◌∙◌, subst, arith, inl, inr, Result}
-use Rattle.std.specs.Prelude.{Option, Some, None, Ok, Err, slice_get, sum}
+use Rattle.std.proofs.Common.{◌≡◌, ℕ, ◌+◌, ◌^◌, ◌<◌, ◌≤◌, ◌&&◌, Bool, true, false, cond, List, [], ◌∷◌, ◌++◌, take, append-nil, refl, sym, ap, ◌∙◌, subst, arith, inl, inr, Result}
+use Rattle.std.specs.Prelude.{Some, None, Ok, Err, slice_get, sum}
 use Rattle.std.proofs.lemmas.List.Sums.{sum_by-append, sum_by-cons, sum_by-take-le}
 use Rattle.shm_words.specs.declared.geometry.Geometry.{Geometry}
 use Rattle.shm_words.specs.Layout.{GeometryFits}
@@ -11,7 +11,6 @@ use Rattle.shm_graph.specs.declared.memo.Fate.{Fate}
 use Rattle.shm_graph.specs.declared.memo.Fate.TheVariants as fate
 use Rattle.shm_graph.specs.declared.memo.Kind.TheVariants.{Recoverer}
 use Rattle.shm_graph.specs.declared.memo.Memo.{Memo}
-use Rattle.shm_graph.specs.declared.memo.Seen.{Seen}
 use Rattle.shm_graph.specs.declared.memo.Status.{Status as AStatus}
 use Rattle.shm_graph.specs.declared.memo.Step.{Step}
 use Rattle.shm_graph.specs.declared.run.Account.{Account}
@@ -20,7 +19,6 @@ use Rattle.shm_graph.specs.declared.run.Start.{Start}
 use Rattle.shm_graph.specs.declared.spot.Spot.TheVariants.{Era}
 use Rattle.shm_graph.specs.Agents.{ended, is_gone, stepped, steps_made, steps_of, with_last}
 use Rattle.shm_graph.specs.Asks.{Trail, call_before, pair}
-use Rattle.shm_graph.specs.Held.{is_loose}
 use Rattle.shm_graph.specs.Laws.{Stays, is_some, step_of}
 use Rattle.shm_graph.specs.Runs.{account_after, account_entered, begun_by, told_by, told_left}
 use Rattle.shm_graph.specs.Tells.{after_all}
@@ -28,7 +26,6 @@ use Rattle.shm_graph.specs.Views.{own_word}
 use Rattle.shm_graph.specs.Whole.{fits_now, gives_now}
 use Rattle.shm_graph.proofs.Machines.TellsAlong.{after_all-append}
 use Rattle.shm_graph.proofs.Memos.MemoSteps.{agents_after, recovers-entered}
-use Rattle.shm_calls.specs.declared.or.Or.{Or}
 use Rattle.shm_calls.specs.declared.or.Or.TheVariants.{First, Second}
 use Rattle.shm_calls.specs.CallsControl.{calls_control, calls_of}
 use Rattle.shm_calls.specs.CallsKeep.{calls_begin}
@@ -44,10 +41,9 @@ use Rattle.shm_recover.specs.Recover.{recover_plan}
 use Rattle.shm_recover.specs.Recover.Laws.{recover_begin}
 use Rattle.shm_recover.proofs.Steady.{recover_steady}
 use Rattle.shm_script.specs.Values.{Scripted}
-use Rattle.shm_steps.specs.Reparting.{map_in}
 use Rattle.shm_table.specs.Command.{command_control}
 use Rattle.shm_replay.specs.declared.agents.Standing.TheVariants.{AtWork, Dead, Gone}
-use Rattle.shm_replay.specs.Agents.{IsFallen, IsFold, IsMended, IsMending, IsSettled, MayPlay, Playing, logged}
+use Rattle.shm_replay.specs.Agents.{IsFallen, IsMended, IsMending, IsSettled, MayPlay, Playing, logged}
 use Rattle.shm_replay.specs.Logs.{BeganWith, begun_first}
 use Rattle.shm_replay.specs.Turns.{lives_of}
 use Rattle.shm_replay.specs.Work.{RecoverCalls, Work, WorkAnswer, WorkFits, WorkGives, recovering, work_control}
@@ -353,7 +349,7 @@ module _ (s : Scripted) (x : Playing) (e : Account) (h : IsMending s x e) (n : �
           let m = told_rest again.line e2.memo.call true e.told in (
             m.0,
             ap (λ (b : Bool). cond b (told_by again.line e2.memo.call true (told_left again.fresh e)) (told_left again.fresh e)) over
-            ∙ (ap (λ (ts : List LoggedLine). told_by again.line e2.memo.call true ts) told_before ∙ m.1),
+                ∙ (ap (λ (ts : List LoggedLine). told_by again.line e2.memo.call true ts) told_before ∙ m.1),
           )
 
       pub mend_done : (a ≡ First (Second (Ok tt))) × ((w : Work) → IsMended s (record x { work = w; life = life; standing = Gone }) e2)

@@ -182,6 +182,7 @@ impl Agents {
         ensures turns { turns_by self.new (Some script.now) < turns_by self.old (Some script.now) }
         ensures run { IsRun pool.new }
     {
+        // by its law: what the map is where a command was cut
         command_maps();
         pool.fall(self.me.who);
         if self.end.is_none() {

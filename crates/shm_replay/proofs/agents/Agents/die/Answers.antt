@@ -10,6 +10,7 @@ use Rattle.shm_script.specs.Values.{Scripted}
 use Rattle.shm_replay.specs.Agents.{Playing, follows}
 use Rattle.shm_replay.specs.Turns.{lives_of}
 use Rattle.shm_replay.proofs.Deaths as deaths
+use Rattle.shm_replay.proofs.Dying.{settles}
 use Rattle.shm_replay.proofs.agents.Agents.die.Goals.{After-as_slice-2, After-follow, else-is_none, then-is_none}
 use Rattle.shm_replay.proofs.agents.Agents.die.Goals as goal
 
@@ -23,7 +24,7 @@ settle-requires-clause-command c shown =
     let x : Playing = c.args.self.now in
     let none : x.end ≡ None = none_by x.end c.is_none.result (ap (λ (z : Playing). is_some z.end) (sym c.self.view_is) ∙ c.is_none.ensures) c.if-is_none.true in
     subst (λ (ls : List Line). length x.entries < length ls) (sym (c.as_slice.ensures.value ∙ ap (λ (z : Scripted). z.lines) c.script.view_is))
-    (deaths.below c.args.pool.now c.args.script.now x c.requires.run c.requires.stands c.requires.here c.requires.spent none shown)
+    (deaths.below c.args.pool.now c.args.script.now x (record { run = c.requires.run; stands = c.requires.stands; here = c.requires.here; spent = c.requires.spent }) none shown)
 
 module _ (c : After-as_slice-2) where
   abbrev x : Playing
@@ -32,40 +33,43 @@ module _ (c : After-as_slice-2) where
   abbrev s : Scripted
   s = c.args.script.now
 
+  is_spent : deaths.IsSpent c.args.pool.now s x
+  is_spent = record { run = c.requires.run; stands = c.requires.stands; here = c.requires.here; spent = c.requires.spent }
+
   ending : is_some x.end ≡ not c.is_none.result
   ending = ap (λ (z : Playing). is_some z.end) (sym c.self.view_is) ∙ c.is_none.ensures
 
-  noted : deaths.Noted c.args.pool.now s x c.requires.run c.requires.stands c.requires.here c.requires.spent c.if-is_none.self
+  abbrev line : Line
+  line = deaths.line c.args.pool.now s x is_spent
+
+  noted : deaths.Noted c.args.pool.now s x is_spent c.if-is_none.self
   noted =
       elim c.if-is_none.branch [
         | then-is_none w ↦ (let none : x.end ≡ None = none_by x.end c.is_none.result ending w.if-is_none.true in
-            inl (
-              none,
-              w.self-is
-              ∙ w.settle.ensures (deaths.line c.args.pool.now s x c.requires.run c.requires.stands c.requires.here c.requires.spent)
-              (λ shown. ap (λ (ls : List Line). slice_get ls (length x.entries)) (w.as_slice.ensures.value ∙ ap (λ (z : Scripted). z.lines) c.script.view_is) ∙ deaths.line_at c.args.pool.now s x c.requires.run c.requires.stands c.requires.here c.requires.spent none shown),
-            ))
+            let lines : w.as_slice.result.now ≡ s.lines = w.as_slice.ensures.value ∙ ap (λ (z : Scripted). z.lines) c.script.view_is in
+            let settled : w.settle.new.self ≡ settles line x = w.settle.ensures line (λ shown. ap (λ (ls : List Line). slice_get ls (length x.entries)) lines ∙ deaths.line_at c.args.pool.now s x is_spent none shown) in
+            inl (none, w.self-is ∙ settled))
         | else-is_none w ↦ inr (ending ∙ ap not w.if-is_none.false, w.self-is)
       ]
 
   noted_me : c.if-is_none.self.me ≡ x.me
-  noted_me = deaths.noted_me c.args.pool.now s x c.requires.run c.requires.stands c.requires.here c.requires.spent c.command_maps.ensures.runs c.if-is_none.self noted
+  noted_me = deaths.noted_me c.args.pool.now s x is_spent c.command_maps.ensures.runs c.if-is_none.self noted
 
 pub follow-requires-clause-geometry : goal.follow-requires-clause-geometry
 follow-requires-clause-geometry c =
     subst (λ (m : Me). GeometryFits m.geometry) (sym (noted_me c))
-    (deaths.geometry c.args.pool.now c.args.script.now c.args.self.now c.requires.run c.requires.stands c.requires.here c.requires.spent)
+    (deaths.geometry c.args.pool.now c.args.script.now c.args.self.now (is_spent c))
 
 pub follow-requires-clause-who : goal.follow-requires-clause-who
 follow-requires-clause-who c =
     subst (λ (m : Me). m.who < m.geometry.clients) (sym (noted_me c))
-    (deaths.who c.args.pool.now c.args.script.now c.args.self.now c.requires.run c.requires.stands c.requires.here c.requires.spent)
+    (deaths.who c.args.pool.now c.args.script.now c.args.self.now (is_spent c))
 
 pub follow-requires-clause-few : goal.follow-requires-clause-few
 follow-requires-clause-few c =
     let p = c.args.pool.now in
-    let same = deaths.noted_agent p c.args.script.now c.args.self.now c.requires.run c.requires.stands c.requires.here c.requires.spent c.command_maps.ensures.runs c.if-is_none.self (noted c) in
-    subst (λ (n : ℕ). n + 1 < 18446744073709551616) (sym same) (deaths.agent_fits p c.args.script.now c.args.self.now c.requires.run c.requires.stands c.requires.here c.requires.spent)
+    let same = deaths.noted_agent p c.args.script.now c.args.self.now (is_spent c) c.command_maps.ensures.runs c.if-is_none.self (noted c) in
+    subst (λ (n : ℕ). n + 1 < 18446744073709551616) (sym same) (deaths.agent_fits p c.args.script.now c.args.self.now (is_spent c))
 
 module _ (c : After-follow) where
   abbrev at : After-as_slice-2
@@ -81,16 +85,16 @@ module _ (c : After-follow) where
 
 pub returns-clause-me : goal.returns-clause-me
 returns-clause-me c =
-    deaths.last_me c.args.pool.now c.args.script.now c.args.self.now c.requires.run c.requires.stands c.requires.here c.requires.spent c.command_maps.ensures.runs c.if-is_none.self (noted (at c)) c.fall.new.self (to c) c.follow.new.self (is c)
+    deaths.last_me c.args.pool.now c.args.script.now c.args.self.now (is_spent (at c)) c.command_maps.ensures.runs c.if-is_none.self (noted (at c)) c.fall.new.self (to c) c.follow.new.self (is c)
 
 pub returns-clause-script : goal.returns-clause-script
 returns-clause-script c =
-    deaths.last_script c.args.pool.now c.args.script.now c.args.self.now c.requires.run c.requires.stands c.requires.here c.requires.spent c.command_maps.ensures.runs c.if-is_none.self (noted (at c)) c.fall.new.self (to c) c.follow.new.self (is c)
+    deaths.last_script c.args.pool.now c.args.script.now c.args.self.now (is_spent (at c)) c.command_maps.ensures.runs c.if-is_none.self (noted (at c)) c.fall.new.self (to c) c.follow.new.self (is c)
 
 pub returns-clause-stands : goal.returns-clause-stands
 returns-clause-stands c =
-    deaths.last_stands c.args.pool.now c.args.script.now c.args.self.now c.requires.run c.requires.stands c.requires.here c.requires.spent c.command_maps.ensures.runs c.if-is_none.self (noted (at c)) c.fall.new.self (to c) c.follow.new.self (is c)
+    deaths.last_stands c.args.pool.now c.args.script.now c.args.self.now (is_spent (at c)) c.command_maps.ensures.runs c.if-is_none.self (noted (at c)) c.fall.new.self (to c) c.follow.new.self (is c)
 
 pub returns-clause-turns : goal.returns-clause-turns
 returns-clause-turns c =
-    deaths.last_fewer c.args.pool.now c.args.script.now c.args.self.now c.requires.run c.requires.stands c.requires.here c.requires.spent c.command_maps.ensures.runs c.if-is_none.self (noted (at c)) c.fall.new.self (to c) c.follow.new.self (is c)
+    deaths.last_fewer c.args.pool.now c.args.script.now c.args.self.now (is_spent (at c)) c.command_maps.ensures.runs c.if-is_none.self (noted (at c)) c.fall.new.self (to c) c.follow.new.self (is c)
