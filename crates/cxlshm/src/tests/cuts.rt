@@ -55,9 +55,7 @@ fn one_client(rt: HostRuntime) -> Result<(), Fail> {
             "{life}"
         );
         let second = SECOND[life as usize % 5];
-        let trace = format!(in rt.alloc();
-            "pool 1 1\nclient 0\nlife {life} {second}\nput 5 77\n"
-        )?;
+        let trace = format!(in rt.alloc(); "pool 1 1\nclient 0\nlife {life} {second}\nput 5 77\n")?;
         assert!(rt;
             writes(rt.alloc(), trace.as_str(), report.as_str())?,
             "{life} {second}"
