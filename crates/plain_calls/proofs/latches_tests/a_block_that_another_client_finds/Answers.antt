@@ -1,10 +1,10 @@
-use Rattle.std.proofs.Common.{◌≡◌, ◌<◌, ◌∙◌, ap, arith, rules, false, true}
+use Rattle.std.proofs.Common.{◌≡◌, ◌<◌, ◌∙◌, ap, arith, rules, false, true, inl, refl, subst, sym}
 use Rattle.shm_graph.specs.declared.memo.Kind.TheVariants.{Client}
 use Rattle.shm_graph.specs.declared.memo.Memo.{Memo}
 use Rattle.shm_graph.specs.declared.run.Start.{Start}
 use Rattle.shm_graph.specs.Agents.{acts, recovers}
 use Rattle.shm_graph.specs.Reach.{is_reached}
-use Rattle.shm_graph.specs.Runs.{first_memo}
+use Rattle.shm_graph.specs.Runs.{MayBegin, first_memo}
 use Rattle.shm_plain.specs.Pools.{memo_of}
 use Rattle.shm_plain.specs.Tracks.{kind_next}
 use Rattle.shm_count.specs.Roots.{member}
@@ -12,6 +12,18 @@ use Rattle.plain_calls.proofs.JoinLatch.{clear_joining, none_joining}
 use Rattle.plain_calls.proofs.latches_tests.a_block_that_another_client_finds.Goals as goal
 
 -- nobody had joined as client 1 before
+pub join-requires-clause-agent : goal.join-requires-clause-agent
+join-requires-clause-agent g c =
+    let others = rw c.in-Some.is at c.in_ok-pool.ensures.others in
+    let first : memo_of c.set_home.new.pool 1 ≡ first_memo c.in-Some.pool.start 1 =
+    c.set_home.ensures.ran.others 1 (omega arith) ∙ (c.in_ok-made.ensures.ran.others 1 (omega arith) ∙ others 1 (omega (arith, c.in_ok-new.ensures.sizes.0)) (omega arith)) in
+    subst (λ (m : Memo). acts m ≡ false → MayBegin (kind_next m) m) (sym first) (λ e. inl refl)
+
+pub home_of-requires-clause-at_work : goal.home_of-requires-clause-at_work
+home_of-requires-clause-at_work g c =
+    let joins : c.join.result ≡ true = search rules in
+    c.join.ensures.at_work joins
+
 pub hold-requires-clause-none : goal.hold-requires-clause-none
 hold-requires-clause-none g c =
     let q = c.set_home.new.pool in
