@@ -170,6 +170,7 @@ impl Agents {
     }
 
     /// The agent that acts dies, and the next one comes, if there is one.
+    #[inline(never)]
     fn die(&mut self, script: &Script, pool: &mut PlainPool)
         requires stands { Stands pool.old.start script.now self.old (account_at pool.old.accounts self.old.me.who) }
         requires run { IsRun pool.old }
@@ -245,6 +246,7 @@ impl Agents {
     }
 
     /// Notes the answer of a command.
+    #[inline(never)]
     fn note(&mut self, lines: &[Line], answer: Answer)
         requires command { length self.old.entries < length lines.now }
         requires room { length self.old.entries < self.old.room }
@@ -255,6 +257,7 @@ impl Agents {
     }
 
     /// Begins what comes behind the commands that have answered: the next one, or after the last one the leaving.
+    #[inline(never)]
     fn begin(&mut self, lines: &[Line])
         requires geometry { GeometryFits self.old.me.geometry }
         requires who { self.old.me.who < self.old.me.geometry.clients }

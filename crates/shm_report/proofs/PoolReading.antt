@@ -1,5 +1,5 @@
 -- what the words of a clean pool say: tags, references, homes, and what counts as one
-use Rattle.std.proofs.Common.{◌≡◌, ℕ, ◌+◌, ◌<◌, List, get_or, sym, ap, ◌∙◌, cond, eqb, true, arith}
+use Rattle.std.proofs.Common.{◌≡◌, ℕ, ◌+◌, ◌<◌, Bool, List, get_or, refl, sym, ap, ◌∙◌, cond, eqb, false, ltb, true, arith}
 use Rattle.std.specs.Prelude.{Some, None}
 use Rattle.std.proofs.lemmas.Bool.{cond-true, lt-ltb}
 use Rattle.std.proofs.lemmas.Bool.Decides.{nat_tests}
@@ -12,8 +12,8 @@ use Rattle.shm_words.specs.Tags.{tag_of, tag_refs}
 use Rattle.shm_words.proofs.Words.{tag_fields}
 use Rattle.shm_words.proofs.Placing.{place-address, address_below}
 use Rattle.shm_graph.specs.declared.spot.Spot.{Spot}
-use Rattle.shm_graph.specs.declared.spot.Spot.TheVariants.{Home, Head, Tag}
-use Rattle.shm_graph.specs.Spots.{spot_at, spot_of, classes_in, see}
+use Rattle.shm_graph.specs.declared.spot.Spot.TheVariants.{Body, Home, Head, Root, Slot, Tag}
+use Rattle.shm_graph.specs.Spots.{same_spot, spot_address, spot_at, spot_of, classes_in, see}
 use Rattle.shm_graph.specs.Blocks.{IsBlock, IsLive, classes, headers}
 use Rattle.shm_graph.specs.References.{references, words_of}
 use Rattle.shm_graph.proofs.Spots.Spotting.{tag_spot}
@@ -44,6 +44,29 @@ refs_live g ws b t is live e =
 -- the reference words
 pub reference_word : (g : Geometry) (ws : List ℕ) (a : ℕ) (p : Spot) → GeometryFits g → a < total_of g → spot_at g (classes_in g ws) a ≡ p → references (see g ws) (spot_at g (classes (see g ws)) a) ≡ references (see g ws) p
 reference_word g ws a p f l e = ap (λ c. references (see g ws) (spot_at g c a)) (classes-see g ws f) ∙ ap (references (see g ws)) e
+
+-- a word that is 0 names nothing, and is no block's header
+zero_reference : (w : Spot → ℕ) (p : Spot) → w p ≡ 0 → references w p ≡ 0
+zero_reference w (Home c) e = e
+zero_reference w (Root c k) e = e
+zero_reference w (Slot s r k) e = e
+zero_reference w (Body b i) e = go (ltb i ((words_of w).refs b))
+  where
+    go : (z : Bool) → cond z (w (Body b i)) 0 ≡ 0
+    go true = e
+    go false = refl
+zero_reference w _ e = refl
+
+pub zero_word : (g : Geometry) (ws : List ℕ) (a : ℕ) → GeometryFits g → a < total_of g → get_or ws a 0 ≡ 0 → references (see g ws) (spot_at g (classes (see g ws)) a) ≡ 0
+zero_word g ws a f l e = reference_word g ws a (spot_at g (classes_in g ws) a) f l refl ∙ zero_reference (see g ws) (spot_at g (classes_in g ws) a) (see_at g ws a (spot_at g (classes_in g ws) a) l refl ∙ e)
+
+pub zero_header : (g : Geometry) (ws : List ℕ) (a : ℕ) → get_or ws a 0 ≡ 0 → see g ws (Head a) ≡ 0
+unfolding see spot_address
+zero_header g ws a e = go (same_spot (spot_at g (classes_in g ws) a) (Head a))
+  where
+    go : (z : Bool) → cond z (get_or ws a 0) 0 ≡ 0
+    go true = e
+    go false = refl
 
 -- ---- homes
 

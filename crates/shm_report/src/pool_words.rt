@@ -93,6 +93,9 @@ pub fn header_at(geometry: Geometry, words: &[u64], at: u32) -> Header
     requires { GeometryFits geometry }
     ensures { result ≡ headers (see geometry words.now) at }
 {
+    if word(words, at) == 0 {
+        return Header::unpack(0);
+    }
     match spot(geometry, words, at) {
         Spot::Head { b } => Header::unpack(word(words, b)),
         _ => Header::unpack(0),
@@ -120,6 +123,9 @@ pub fn reference_at(geometry: Geometry, words: &[u64], at: u32) -> u64
     requires range { at < total_of geometry }
     ensures { IsCleanPool geometry words.now → result ≡ references (see geometry words.now) (spot_at geometry (classes (see geometry words.now)) at) }
 {
+    if word(words, at) == 0 {
+        return 0;
+    }
     match spot(geometry, words, at) {
         Spot::Home { .. } | Spot::Root { .. } | Spot::Slot { .. } => word(words, at),
         Spot::Body { b, i } => {

@@ -4,7 +4,7 @@ use Rattle.shm_graph.specs.References.{words_of}
 use Rattle.shm_graph.proofs.Spots.Spotting.{body_block}
 use Rattle.shm_graph.proofs.Spots.Seeing.{see_at}
 use Rattle.shm_graph.proofs.Spots.WordsAt.{body_reference, body_plain, other_reference}
-use Rattle.shm_report.proofs.PoolReading.{reference_word}
+use Rattle.shm_report.proofs.PoolReading.{reference_word, zero_word}
 use Rattle.shm_report.proofs.pool_words.reference_at.Goals as goal
 
 pub block_refs-requires-clause-is : goal.block_refs-requires-clause-is
@@ -16,10 +16,10 @@ returns-in-Home c = λ pool.
     let ws = c.args.words.now in
     let e = sym c.spot.ensures in
     elim c.in-Home.is [
-      | inl h ↦ c.word.ensures ∙ sym (reference_word g ws c.args.at _ c.requires.fits c.requires.range (e ∙ h.1) ∙ see_at g ws c.args.at _ c.requires.range (e ∙ h.1))
+      | inl h ↦ c.word-in-Home.ensures ∙ sym (reference_word g ws c.args.at _ c.requires.fits c.requires.range (e ∙ h.1) ∙ see_at g ws c.args.at _ c.requires.range (e ∙ h.1))
       | inr o ↦ elim o [
-        | inl h ↦ c.word.ensures ∙ sym (reference_word g ws c.args.at _ c.requires.fits c.requires.range (e ∙ h.2) ∙ see_at g ws c.args.at _ c.requires.range (e ∙ h.2))
-        | inr h ↦ c.word.ensures ∙ sym (reference_word g ws c.args.at _ c.requires.fits c.requires.range (e ∙ h.3) ∙ see_at g ws c.args.at _ c.requires.range (e ∙ h.3))
+        | inl h ↦ c.word-in-Home.ensures ∙ sym (reference_word g ws c.args.at _ c.requires.fits c.requires.range (e ∙ h.2) ∙ see_at g ws c.args.at _ c.requires.range (e ∙ h.2))
+        | inr h ↦ c.word-in-Home.ensures ∙ sym (reference_word g ws c.args.at _ c.requires.fits c.requires.range (e ∙ h.3) ∙ see_at g ws c.args.at _ c.requires.range (e ∙ h.3))
       ]
     ]
 
@@ -42,3 +42,6 @@ returns-in_default c = λ pool.
     let g = c.args.geometry in
     let ws = c.args.words.now in
     sym (reference_word g ws c.args.at c.spot.result c.requires.fits c.requires.range (sym c.spot.ensures) ∙ other_reference (words_of (see g ws)) c.spot.result c.in_default.not-Home c.in_default.not-Root c.in_default.not-Slot c.in_default.not-Body)
+
+pub returns-then-word-eq0 : goal.returns-then-word-eq0
+returns-then-word-eq0 c = λ pool. sym (zero_word c.args.geometry c.args.words.now c.args.at c.requires.fits c.requires.range (sym c.word.ensures ∙ c.if-word-eq0.true))
