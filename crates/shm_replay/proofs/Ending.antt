@@ -27,6 +27,7 @@ use Rattle.shm_replay.specs.Logs.{HasEnd, IsLogOf}
 use Rattle.shm_replay.specs.Seats.{IsSeat, Seat}
 use Rattle.shm_replay.specs.Turns.{is_busy, lives_of}
 use Rattle.shm_replay.proofs.Seating.{seat_busy}
+use Rattle.shm_replay.proofs.Mending.{few_lives}
 
 -- the client left, or a recoverer recovered the identity, or all of them died
 abbrev pub IsOver : Scripted → Playing → Account → Type 0
@@ -46,16 +47,6 @@ is_over start s x e (Fallen f) rest = elim f.next [ inl d ↦ inr (inr (d.0, f))
 one_of : (ns : List ℕ) (n : ℕ) → slice_get ns 0 ≡ Some n → n ≤ sum ns
 one_of [] n e = absurd (cc)
 one_of (k ∷ ns) n e = let same : k ≡ n = cc in let all : sum (k ∷ ns) ≡ k + sum ns = sum_by-cons (λ (i : ℕ). i) k ns in omega arith
-
--- the lives of all agents of a script are 2^41 at most
-lives_few : (life : List ℕ) → sum life ≤ 2 ^ 40 → sum (lives_of life) ≤ 2 ^ 41
-lives_few [] few = omega arith
-lives_few (n ∷ life) few =
-    let a : sum (n ∷ life) ≡ n + sum life = sum_by-cons (λ (k : ℕ). k) n life in
-    let b : sum (n ∷ life ++ 2 ^ 40 ∷ []) ≡ n + sum (life ++ 2 ^ 40 ∷ []) = sum_by-cons (λ (k : ℕ). k) n (life ++ 2 ^ 40 ∷ []) in
-    let c : sum (life ++ 2 ^ 40 ∷ []) ≡ sum life + sum (2 ^ 40 ∷ []) = sum_by-append (λ (k : ℕ). k) life (2 ^ 40 ∷ []) in
-    let d : sum (2 ^ 40 ∷ []) ≡ 2 ^ 40 = refl in
-    omega arith
 
 module _ (s : Scripted) (x : Playing) (e : Account) (lives : sum (lives_of s.life) ≤ 2 ^ 41) where
   may_parted : HasParted s x e → MayVisit (is_standing_dead x.standing) e.memo
@@ -91,7 +82,7 @@ module _ (s : Scripted) (x : Playing) (e : Account) (lives : sum (lives_of s.lif
   may_over (inr (inr (dead, f))) = may_dead dead f
 
 pub over_may : (n : ℕ) (s : Scripted) (x : Playing) (e : Account) → ScriptFits n s → IsOver s x e → MayVisit (is_standing_dead x.standing) e.memo
-over_may n s x e fits h = may_over s x e (lives_few s.life fits.sum) h
+over_may n s x e fits h = may_over s x e (few_lives s.life fits.sum) h
 
 -- ---- the log, and the map
 

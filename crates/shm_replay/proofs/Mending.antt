@@ -189,7 +189,7 @@ module _ (start : Start) (s : Scripted) (x : Playing) (e : Account) (may : MayPl
 -- ---- a further word step of it
 
 -- the lives of all agents of a script are 2^41 at most
-few_lives : (life : List ℕ) → sum life ≤ 2 ^ 40 → sum (lives_of life) ≤ 2 ^ 41
+pub few_lives : (life : List ℕ) → sum life ≤ 2 ^ 40 → sum (lives_of life) ≤ 2 ^ 41
 few_lives [] few = omega arith
 few_lives (n ∷ life) few =
     let a : sum (n ∷ life) ≡ n + sum life = sum_by-cons (λ (k : ℕ). k) n life in

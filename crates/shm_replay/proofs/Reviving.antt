@@ -37,19 +37,10 @@ use Rattle.shm_plain.specs.Tracks.{kind_next}
 use Rattle.shm_plain.proofs.Turning.{ready_memo}
 use Rattle.shm_replay.specs.Closings.{IsDead, IsOut, SameTable}
 use Rattle.shm_replay.proofs.OwnEras.{never_spent}
+use Rattle.shm_replay.proofs.Standing.{fell_quiet}
 
 pub laws : PlanLaws recover_parts recover_plan
 laws = recover_laws mend_laws roots_laws back_laws finish_laws scan_laws give_laws
-
--- an agent that is dead doesn't act
-fate_still : (f : Fate) → is_dead f ≡ true → is_acting f ≡ false
-fate_still Acts e = absurd (true≢false (sym e))
-fate_still Ended e = refl
-fate_still Died e = refl
-
-agent_still : (o : Option Agent) → fell_by o ≡ true → acts_by o ≡ false
-agent_still None e = refl
-agent_still (Some a) e = fate_still a.fate e
 
 module _ (p : Pool) (c : ℕ) (run : IsRun p) (who : c < p.start.geometry.clients) (dead : IsDead (memo_of p c)) where
   abbrev m : Memo
@@ -70,7 +61,7 @@ module _ (p : Pool) (c : ℕ) (run : IsRun p) (who : c < p.start.geometry.client
   r0 = entered Recoverer m
 
   pub still : acts m ≡ false
-  still = agent_still (last_agent m.agents) dead.fell
+  still = fell_quiet (last_agent m.agents) dead.fell
 
   begun : memo_of (readied p c) c ≡ r0
   begun =
