@@ -1,5 +1,5 @@
 -- a block that was made lies in the pool
-use Rattle.std.proofs.Common.{◌≡◌, ℕ, ◌<◌, sym, subst, List, ◌⊎◌, inl, inr}
+use Rattle.std.proofs.Common.{ℕ, ◌<◌, sym, subst, List, ◌⊎◌, inl, inr}
 use Rattle.std.specs.List.{Contains}
 use Rattle.std.proofs.lemmas.List.Elements.{All-contains, Contains-append_left}
 use Rattle.shm_words.specs.declared.geometry.Geometry.{Geometry}

@@ -10,6 +10,7 @@ pub mod MakingSteps
 pub mod Live
 pub mod Going
 pub mod Ranges
+pub mod Passing
 pub mod Tells
 pub mod Keeps
 pub mod Laws

@@ -1,11 +1,13 @@
 //! The allocation of a block.
 
-ghost use Rattle.std.specs.Prelude.{◌≡◌, ◌<◌, ◌≤◌, ◌↔◌, ◌⊎◌, IfOk, IfErr, is_err, true, length, take};
+ghost use Rattle.std.specs.Prelude.{◌≡◌, ◌≢◌, ◌<◌, ◌≤◌, ◌↔◌, ◌⊎◌, ℕ, IfOk, IfErr, is_err, false, true, length, take};
 ghost use Rattle.shm_words.specs.Layout.{GeometryFits};
-ghost use Rattle.shm_alloc.specs.Alloc.Control.{alloc_control};
+ghost use Rattle.shm_graph.specs.Laws.{turn_of};
+ghost use Rattle.shm_alloc.specs.Alloc.Control.{PointFits, alloc_ask, alloc_control, alloc_next};
 ghost use Rattle.shm_alloc.specs.Alloc.{AllocFits, AllocGives};
 ghost use Rattle.shm_alloc.specs.Alloc.Laws.{alloc_laws};
 ghost use Rattle.shm_alloc.specs.declared.point.AllocPoint.TheVariants.{Era};
+ghost use Rattle.shm_alloc.specs.declared.point.AllocNext.TheVariants.{Point};
 
 use crate::point::{AllocNext, AllocPoint, AllocState};
 use crate::request::Request;
@@ -42,6 +44,11 @@ pub struct TooLarge {
 #[derive(Drop)]
 pub struct Alloc {
     state: AllocState,
+    /// The class of the block.
+    class: u8,
+    /// While headers are read: where the next one is, and how many blocks its page has behind it.
+    header: u32,
+    left: u8,
 }
 
 impl Model for Alloc {
@@ -52,8 +59,9 @@ impl Model for Alloc {
     ghost view = { λ a. a.state };
 
     ghost use Rattle.shm_alloc.specs.Alloc.Control.{AllocInRange};
+    ghost use Rattle.shm_alloc.specs.Alloc.Passing.{AtHand};
 
-    ghost invariant = { λ a. AllocInRange a.state };
+    ghost invariant = { λ a. AllocInRange a.state × AtHand a.state a.class a.header a.left };
 }
 
 impl Alloc {
@@ -81,10 +89,7 @@ impl Alloc {
             count: plain.len() as u8,
             plain: words,
         };
-        let point = AllocPoint::Era;
-        Ok(Alloc {
-            state: AllocState { me, request, point },
-        })
+        Ok(Alloc::asked(me, request))
     }
 
     /// An allocation for the identity `me` of a block that holds what `request` says.
@@ -99,6 +104,76 @@ impl Alloc {
         let point = AllocPoint::Era;
         Alloc {
             state: AllocState { me, request, point },
+            class: request.class(),
+            header: 0,
+            left: 0,
+        }
+    }
+
+    /// The block of the header that was read is in use: goes to the next one, if the page has another. It answers whether it has.
+    #[inline(always)]
+    fn pass(&mut self) -> bool
+        ensures next { result ≡ true → (n : ℕ) → n ≢ 0 → alloc_next self.old n ≡ Point self.new.point }
+        ensures others { result ≡ true → self.new ≡ record self.old { point = self.new.point } }
+        ensures stays { result ≡ false → self.new ≡ self.old }
+    {
+        if self.left == 0 {
+            return false;
+        }
+        match &mut self.state.point {
+            AllocPoint::Header { search, index, .. } => {
+                search.used += 1;
+                *index += 1;
+                self.left -= 1;
+                self.header += u32::from(self.class);
+                true
+            }
+            _ => false,
+        }
+    }
+
+    /// The word step that comes next, wherever it is.
+    #[inline(never)]
+    fn ask_any(&self) -> Ask
+        ensures { result ≡ alloc_ask self.now }
+    {
+        self.state.ask()
+    }
+
+    /// Goes to a point.
+    #[inline(always)]
+    fn go_to(&mut self, point: AllocPoint)
+        requires { PointFits self.old.me self.old.request point }
+        ensures { self.new ≡ record self.old { point = point } }
+    {
+        if let AllocPoint::Header {
+            search,
+            page,
+            index,
+            ..
+        } = point
+        {
+            self.header = self.state.block(search, page, index);
+            self.left = 128 / self.class - 1 - index;
+        }
+        self.state.point = point;
+    }
+
+    /// Goes on by the word that was found, from wherever it is.
+    #[inline(never)]
+    fn take_any(&mut self, seen: u64) -> Turn<Result<Made, AllocFault>>
+        ensures machine { self.new ≡ alloc_control.after self.old seen }
+        ensures turn { result ≡ turn_of (alloc_control.turns self.old seen) }
+    {
+        match self.state.next(seen) {
+            AllocNext::Point(point) => {
+                self.go_to(point);
+                Turn::More
+            }
+            AllocNext::Answer(answer) => {
+                self.state.point = AllocPoint::Over;
+                Turn::Done(answer)
+            }
         }
     }
 }
@@ -122,23 +197,20 @@ impl Machine for Alloc {
         matches!(self.state.point, AllocPoint::Over)
     }
 
-    #[inline(never)]
+    #[inline(always)]
     fn ask(&self) -> Ask {
-        self.state.ask()
+        match self.state.point {
+            AllocPoint::Header { .. } => Ask::Load { at: self.header },
+            _ => self.ask_any(),
+        }
     }
 
-    #[inline(never)]
+    #[inline(always)]
     fn take(&mut self, seen: u64) -> Turn<Result<Made, AllocFault>> {
-        match self.state.next(seen) {
-            AllocNext::Point(point) => {
-                self.state.point = point;
-                Turn::More
-            }
-            AllocNext::Answer(answer) => {
-                self.state.point = AllocPoint::Over;
-                Turn::Done(answer)
-            }
+        if seen != 0 && self.pass() {
+            return Turn::More;
         }
+        self.take_any(seen)
     }
 
     ghost laws = { alloc_laws };

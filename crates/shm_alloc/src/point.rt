@@ -130,7 +130,7 @@ pub enum AllocNext {
 impl AllocState {
     /// The address of a block: its page's place and its place in the page.
     #[inline(always)]
-    fn block(self, search: Search, page: u8, index: u8) -> u32
+    pub fn block(self, search: Search, page: u8, index: u8) -> u32
         requires geometry { GeometryFits self.me.geometry }
         requires request { RequestFits self.request }
         requires segment { search.segment < self.me.geometry.segments }

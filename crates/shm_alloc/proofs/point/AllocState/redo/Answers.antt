@@ -1,4 +1,4 @@
-use Rattle.std.proofs.Common.{arith, ◌<◌, ◌^◌, subst, sym}
+use Rattle.std.proofs.Common.{arith, ◌<◌, subst, sym}
 use Rattle.std.proofs.lemmas.Bool.Decides.{nat_tests}
 use Rattle.shm_words.specs.declared.place.Place.TheVariants as place
 use Rattle.shm_words.specs.Layout.{address, total_of, address_limit}
