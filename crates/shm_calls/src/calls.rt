@@ -89,5 +89,20 @@ impl<P: Plan> Machine for Calls<P> {
         }
     }
 
+    #[inline(always)]
+    fn act(&mut self, words: &mut Vec<u64>) -> Turn<P::Answer> {
+        match self.call.act(words) {
+            Turn::Done(answer) => match self.plan.next(answer) {
+                Some(answer) => Turn::Done(answer),
+                None => {
+                    self.begin();
+                    Turn::More
+                }
+            },
+            Turn::More => Turn::More,
+            Turn::Died => Turn::Died,
+        }
+    }
+
     ghost laws = { calls_laws P.Call.control P.plan P.laws };
 }

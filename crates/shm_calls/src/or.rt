@@ -60,5 +60,21 @@ impl<A: Machine, B: Machine> Machine for Or<A, B> {
         }
     }
 
+    #[inline(always)]
+    fn act(&mut self, words: &mut Vec<u64>) -> Turn<Or<A::Answer, B::Answer>> {
+        match self {
+            Or::First(a) => match a.act(words) {
+                Turn::Done(answer) => Turn::Done(Or::First(answer)),
+                Turn::More => Turn::More,
+                Turn::Died => Turn::Died,
+            },
+            Or::Second(b) => match b.act(words) {
+                Turn::Done(answer) => Turn::Done(Or::Second(answer)),
+                Turn::More => Turn::More,
+                Turn::Died => Turn::Died,
+            },
+        }
+    }
+
     ghost laws = { or_laws A.control B.control A.fits A.gives B.fits B.gives A.laws B.laws };
 }

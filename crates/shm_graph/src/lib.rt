@@ -5,6 +5,7 @@
 //! records is that of CXL-SHM (SOSP 2023); the invariant is this project's own.
 #![tactic(auto)]
 
+pub mod act;
 pub mod ask;
 pub mod history;
 pub mod laws;
@@ -16,6 +17,7 @@ pub mod spot;
 pub mod start;
 pub mod table;
 
+pub use act::make_step;
 pub use ask::{Ask, Life, Me, Turn};
 pub use history::{agents_begin, runs_are_sound, word_turns};
 pub use laws::{

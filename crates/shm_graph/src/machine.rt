@@ -1,10 +1,11 @@
 //! Machines: programs that take one word step at a time.
 
-ghost use Rattle.std.specs.Prelude.{◌≡◌, false};
+ghost use Rattle.std.specs.Prelude.{◌≡◌, ◌<◌, false, slice_index, vec_len};
 ghost use Rattle.shm_graph.specs.declared.memo.Memo.{Memo as AMemo};
-ghost use Rattle.shm_graph.specs.Asks.{Trail};
+ghost use Rattle.shm_graph.specs.Asks.{Trail, at_of, seen_of, words_set};
 ghost use Rattle.shm_graph.specs.Laws.{Control, Laws, turn_of};
 
+use crate::act::make_step;
 use crate::ask::{Ask, Me, Turn};
 
 /// A program of word steps: it asks for one word step, is told what was found, and asks for the next.
@@ -41,6 +42,23 @@ pub trait Machine {
         requires { control.finished self.old ≡ false }
         ensures machine { self.new ≡ control.after self.old seen }
         ensures turn { result ≡ turn_of (control.turns self.old seen) };
+
+    /// Makes the word step that it asks for next on these words, and takes the word that was found.
+    ///
+    /// A machine that is made of another one hands the words on, so that a word step goes once through what it is made of, and not once to
+    /// ask and once to take.
+    #[inline(always)]
+    fn act(&mut self, words: &mut Vec<u64>) -> Turn<Self::Answer>
+        requires runs { control.finished self.old ≡ false }
+        requires here { at_of (control.asks self.old) < vec_len words.old }
+        ensures words { words.new.items ≡ words_set (control.asks self.old) words.old.items }
+        ensures machine { let a = control.asks self.old in self.new ≡ control.after self.old (seen_of a (slice_index words.old.items (at_of a))) }
+        ensures turn { let a = control.asks self.old in result ≡ turn_of (control.turns self.old (seen_of a (slice_index words.old.items (at_of a)))) }
+    {
+        let ask = self.ask();
+        let seen = make_step(words, ask);
+        self.take(seen)
+    }
 
     ghost laws: { Laws control fits gives };
 }

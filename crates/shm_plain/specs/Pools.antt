@@ -33,9 +33,13 @@ memo_of p c = memos_of p.accounts c
 abbrev pub readied : Pool → ℕ → Pool
 readied p c = pool p.start p.words (ready_accounts p.accounts c) (ready_turns p.accounts p.turns c)
 
--- the word step of a machine on this pool
+-- the word step that a machine makes next on these words
+abbrev pub next_of : {M A : Type 0} → Control M A → M → List ℕ → Step
+next_of k m ws = step_of k m (seen_of (k.asks m) (slice_index ws (at_of (k.asks m))))
+
+-- and on the words of this pool
 abbrev pub turn_on : {M A : Type 0} → Pool → Control M A → M → Step
-turn_on p k m = step_of k m (seen_of (k.asks m) (slice_index p.words (at_of (k.asks m))))
+turn_on p k m = next_of k m p.words
 
 -- the pool after a word step
 abbrev pub turned : Pool → Step → Pool

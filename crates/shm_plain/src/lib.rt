@@ -1,7 +1,6 @@
 //! A pool in a vector of words, for one thread.
 #![tactic(auto)]
 
-mod act;
 pub mod call;
 pub mod closed;
 pub mod laws;

@@ -10,7 +10,6 @@ ghost use Rattle.shm_graph.specs.Whole.{fits_now, gives_now, Learns};
 ghost use Rattle.shm_plain.specs.Tracks.{kind_next};
 ghost use Rattle.shm_plain.specs.Pools.{IsOf, IsRun, first_pool, memo_of, readied, turn_on, turned, MayStep, after_fall};
 
-use crate::act::make_step;
 use crate::track::{Board, Place, board, note, note_death};
 use shm_graph::{Life, Machine, Start, Turn, first_words};
 use shm_words::Geometry;
@@ -113,8 +112,7 @@ impl PlainPool {
             return Turn::Died;
         }
         life.left -= 1;
-        let seen = self.turn(who, m);
-        m.take(seen)
+        self.turn(who, m)
     }
 
     /// The agent of `who` is dead. Where none acts nothing changes, and no turn is added.
@@ -126,19 +124,17 @@ impl PlainPool {
         note_death(&self.board, &mut self.place, who);
     }
 
-    /// Makes the word step that the machine asks for, and gives what it sees.
+    /// Makes the word step that the machine asks for, which takes what it finds.
     #[inline(always)]
-    fn turn<M: Machine>(&mut self, who: u8, m: &M) -> u64
-        requires me { IsOf self.old who M.control m.now }
+    fn turn<M: Machine>(&mut self, who: u8, m: &mut M) -> Turn<M::Answer>
+        requires me { IsOf self.old who M.control m.old }
         requires agent { MayStep self.old who }
-        requires fits { (r0 : Memo) × fits_now M.control M.fits m.now r0 (memo_of (readied self.old who) who) }
-        ensures turn { let t = turn_on (readied self.old who) M.control m.now in (result ≡ t.seen) × (self.new ≡ turned (readied self.old who) t) }
+        requires fits { (r0 : Memo) × fits_now M.control M.fits m.old r0 (memo_of (readied self.old who) who) }
+        ensures turn { let t = turn_on (readied self.old who) M.control m.old in (self.new ≡ turned (readied self.old who) t) × (m.new ≡ M.control.after m.old t.seen) × (result ≡ turn_of (M.control.turns m.old t.seen)) }
         ensures run { IsRun self.new }
-        ensures learns { Learns M.control (fits_now M.control M.fits) (gives_now M.gives) m.now result (memo_of (readied self.old who) who) (memo_of self.new who) }
+        ensures learns { let t = turn_on (readied self.old who) M.control m.old in Learns M.control (fits_now M.control M.fits) (gives_now M.gives) m.old t.seen (memo_of (readied self.old who) who) (memo_of self.new who) }
     {
-        let ask = m.ask();
-        let seen = make_step(&mut self.words, ask);
-        note(&self.board, &mut self.place, m, seen);
-        seen
+        note(&self.board, &mut self.place, m, &self.words);
+        m.act(&mut self.words)
     }
 }

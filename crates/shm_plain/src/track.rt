@@ -3,7 +3,7 @@
 //! No value of them is made. Each turn changes the view by one load of that word.
 
 ghost use Rattle.std.specs.Prelude.{◌≡◌, ◌<◌, [], IfOk};
-ghost use Rattle.shm_graph.specs.Laws.{step_of};
+ghost use Rattle.shm_plain.specs.Pools.{next_of};
 ghost use Rattle.shm_plain.specs.Tracks.{first_track, noted, fallen};
 
 use atomic_table::{Play, Seat, Table, TableRule};
@@ -70,17 +70,17 @@ fn make_change<C: Change>(board: &Board, place: &mut Place)
     board.shared.load::<Changes<C>>(place, 0);
 }
 
-/// Notes the step of a machine that was given `seen`, after the beginning of an agent where none acts.
+/// Notes the step that a machine makes next on these words, after the beginning of an agent where none acts.
 #[inline(always)]
-pub(crate) fn note<M: Machine>(board: &Board, place: &mut Place, m: &M, seen: u64)
+pub(crate) fn note<M: Machine>(board: &Board, place: &mut Place, m: &M, words: &Vec<u64>)
     requires { (place.old.table_id ≡ board.now.shared.table_id) × (board.now.shared.table_id.words ≡ 1) }
-    ensures { (place.new.table_id ≡ place.old.table_id) × (place.new.me.0 ≡ noted (step_of M.control m.now seen) place.old.me.0) × (place.new.me.1 ≡ place.old.me.1) }
+    ensures { (place.new.table_id ≡ place.old.table_id) × (place.new.me.0 ≡ noted (next_of M.control m.now words.now.items) place.old.me.0) × (place.new.me.1 ≡ place.old.me.1) }
 {
-    note_as::<Brand, M>(board, place, m, seen);
+    note_as::<Brand, M>(board, place, m, words);
 }
 
 #[inline(always)]
-fn note_as<C: Change, M: Machine>(board: &Board, place: &mut Place, _m: &M, _seen: u64)
+fn note_as<C: Change, M: Machine>(board: &Board, place: &mut Place, _m: &M, _words: &Vec<u64>)
     requires { (place.old.table_id ≡ board.now.shared.table_id) × (board.now.shared.table_id.words ≡ 1) }
     ensures { (place.new.table_id ≡ place.old.table_id) × (place.new.me.0 ≡ C.to place.old.me.0) × (place.new.me.1 ≡ place.old.me.1) }
 {

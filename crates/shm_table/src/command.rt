@@ -153,5 +153,14 @@ impl Machine for Command {
         }
     }
 
+    #[inline(always)]
+    fn act(&mut self, words: &mut Vec<u64>) -> Turn<Answer> {
+        match self.one.act(words) {
+            Turn::Done(answer) => Turn::Done(given(answer)),
+            Turn::More => Turn::More,
+            Turn::Died => Turn::Died,
+        }
+    }
+
     ghost laws = { command_laws (put_laws (put_root_laws open_laws locate_laws replace_laws enter_laws)) (copy_laws fetch_laws (put_root_laws open_laws locate_laws replace_laws enter_laws)) del_laws get_laws send_key_laws (recv_laws fetch_head_laws take_head_laws (put_root_laws open_laws locate_laws replace_laws enter_laws)) };
 }

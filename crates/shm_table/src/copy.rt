@@ -164,6 +164,11 @@ impl Machine for CopyKey {
         self.calls.take(seen)
     }
 
+    #[inline(always)]
+    fn act(&mut self, words: &mut Vec<u64>) -> Turn<Answer> {
+        self.calls.act(words)
+    }
+
     ghost laws = { calls_laws copy_parts copy_plan (copy_laws fetch_laws (put_root_laws open_laws locate_laws replace_laws enter_laws)) };
 }
 

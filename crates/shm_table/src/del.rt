@@ -140,6 +140,11 @@ impl Machine for Del {
         self.calls.take(seen)
     }
 
+    #[inline(always)]
+    fn act(&mut self, words: &mut Vec<u64>) -> Turn<Answer> {
+        self.calls.act(words)
+    }
+
     ghost laws = { calls_laws del_parts del_plan del_laws };
 }
 

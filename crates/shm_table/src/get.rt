@@ -131,6 +131,11 @@ impl Machine for Get {
         self.calls.take(seen)
     }
 
+    #[inline(always)]
+    fn act(&mut self, words: &mut Vec<u64>) -> Turn<Answer> {
+        self.calls.act(words)
+    }
+
     ghost laws = { calls_laws get_parts get_plan get_laws };
 }
 

@@ -161,6 +161,11 @@ impl Machine for Put {
         self.calls.take(seen)
     }
 
+    #[inline(always)]
+    fn act(&mut self, words: &mut Vec<u64>) -> Turn<Answer> {
+        self.calls.act(words)
+    }
+
     ghost laws = { calls_laws put_parts put_plan (put_laws (put_root_laws open_laws locate_laws replace_laws enter_laws)) };
 }
 

@@ -149,6 +149,11 @@ impl Machine for PutRoot {
         self.calls.take(seen)
     }
 
+    #[inline(always)]
+    fn act(&mut self, words: &mut Vec<u64>) -> Turn<Result<bool, PutFault>> {
+        self.calls.act(words)
+    }
+
     ghost laws = { calls_laws put_root_parts put_root_plan (put_root_laws open_laws locate_laws replace_laws enter_laws) };
 }
 

@@ -171,6 +171,11 @@ impl Machine for RecvKey {
         self.calls.take(seen)
     }
 
+    #[inline(always)]
+    fn act(&mut self, words: &mut Vec<u64>) -> Turn<Answer> {
+        self.calls.act(words)
+    }
+
     ghost laws = { calls_laws recv_parts recv_plan (recv_laws fetch_head_laws take_head_laws (put_root_laws open_laws locate_laws replace_laws enter_laws)) };
 }
 

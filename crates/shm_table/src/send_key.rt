@@ -143,6 +143,11 @@ impl Machine for SendKey {
         self.calls.take(seen)
     }
 
+    #[inline(always)]
+    fn act(&mut self, words: &mut Vec<u64>) -> Turn<Answer> {
+        self.calls.act(words)
+    }
+
     ghost laws = { calls_laws send_key_parts send_key_plan send_key_laws };
 }
 
