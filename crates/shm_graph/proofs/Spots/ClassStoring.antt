@@ -1,5 +1,5 @@
 -- the store of a page's class: the spots of its blocks are there from then on
-use Rattle.std.proofs.Common.{◌≡◌, ◌≢◌, Bool, ◌&&◌, eqb, ℕ, ◌+◌, ◌*◌, ◌-◌, ◌%◌, ◌<◌, List, length, get_or, sym, ap, ◌∙◌, true, false, refl, inl, inr, cond, arith}
+use Rattle.std.proofs.Common.{◌≡◌, ◌≢◌, Bool, ◌&&◌, eqb, ℕ, ◌<◌, List, length, get_or, sym, ap, ◌∙◌, true, false, refl, inl, inr, cond, arith}
 use Rattle.std.proofs.Math.ListN.{set}
 use Rattle.std.proofs.Math.Path.{fun_ext}
 use Rattle.std.proofs.lemmas.List.{get_or-set_same, get_or-set_other}

@@ -1,5 +1,5 @@
 -- a store to the list of words is one at a spot
-use Rattle.std.proofs.Common.{◌≡◌, ◌≢◌, ℕ, ◌<◌, List, length, get_or, sym, ap, ◌∙◌, true, false, refl, Bool, cond, inl, inr, arith}
+use Rattle.std.proofs.Common.{◌≡◌, ◌≢◌, ℕ, ◌<◌, List, length, get_or, sym, ap, ◌∙◌, true, false, Bool, cond, inl, inr, arith}
 use Rattle.std.proofs.Math.ListN.{set}
 use Rattle.std.proofs.Math.Path.{fun_ext}
 use Rattle.std.proofs.lemmas.List.{get_or-set_same, get_or-set_other}
@@ -12,7 +12,6 @@ use Rattle.shm_words.proofs.Placing.{place-address}
 use Rattle.shm_graph.specs.declared.spot.Spot.{Spot}
 use Rattle.shm_graph.specs.declared.spot.Spot.TheVariants.{Page}
 use Rattle.shm_graph.specs.Spots.{same_spot, spot_of, spot_at, spot_address, upd, classes_in, see}
-use Rattle.shm_graph.specs.Blocks.{classes}
 use Rattle.shm_graph.proofs.Spots.Spotting.{same_spot_self, same_spot_is, address-spot, spot_is_at}
 
 -- the word at a spot by classes that need not be those of the list
