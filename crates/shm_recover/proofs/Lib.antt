@@ -1,1 +1,2 @@
+pub mod JoinPart
 pub mod Steady

@@ -1,0 +1,37 @@
+-- the laws of a join as a part
+use Rattle.std.proofs.Common.{◌≡◌, Bool, refl, sym, ap, subst, []}
+use Rattle.shm_words.specs.declared.place.Place.TheVariants as place
+use Rattle.shm_words.specs.Layout.{address}
+use Rattle.shm_graph.specs.declared.ask.Ask.TheVariants.{Store}
+use Rattle.shm_graph.specs.declared.spot.Spot.{Spot}
+use Rattle.shm_graph.specs.Asks.{Trail}
+use Rattle.shm_graph.specs.Blocks.{classes}
+use Rattle.shm_graph.specs.Events.{Nothing}
+use Rattle.shm_graph.specs.Laws.{framed, event_on}
+use Rattle.shm_graph.specs.Tells.{Tells, happens_along}
+use Rattle.shm_calls.specs.Parts.{PartLaws}
+use Rattle.shm_calls.specs.Placed.{placed}
+use Rattle.shm_recover.specs.declared.join.JoinState.{JoinState}
+use Rattle.shm_recover.specs.Join.Asks.{join_trail}
+use Rattle.shm_recover.specs.Join.{JoinFits, JoinGives, join_control}
+use Rattle.shm_recover.specs.Join.Keeps.{join_begins, join_laws, status_spot}
+use Rattle.shm_recover.specs.Join.AsPart.{join_does, join_part}
+
+pub join_tells : Tells join_control JoinFits join_does
+join_tells m r0 tr w r f going s fit =
+    let at = address m.me.geometry (place.Status m.me.who) in
+    subst (λ (p : Spot). event_on (r m.me.who) (framed m.me (Store at 1) f 0) p ≡ Nothing) (sym (status_spot m.me (classes w) fit.can.member)) refl
+
+-- one word step that is no event tells of none
+one_quiet : (m : JoinState) (t : Trail) → t ≡ join_trail m.me → happens_along join_control join_does m t ≡ []
+one_quiet m t e = ap (happens_along join_control join_does m) e
+
+pub join_part_laws : (first : Bool) → PartLaws first join_control join_part
+join_part_laws first =
+    record {
+      placed = placed first join_control JoinFits JoinGives join_laws;
+      tells = join_tells;
+      begins = λ m r n. subst (λ (x : JoinState). JoinFits x r r []) (sym n.made) (join_begins m.me r n.can);
+      ends = λ m rs r t a n g held same. record { gives = g; none = one_quiet m t g.trail };
+      asked = λ m rs r t a n g. g.trail;
+    }
