@@ -103,6 +103,22 @@ fn refuses_many_bytes(rt: HostRuntime) -> Result<(), Fail> {
     Ok(())
 }
 
+/// A trace of the most bytes.
+#[test]
+fn reads_the_longest(rt: HostRuntime) -> Result<(), Fail> {
+    let mut text = Vec::new(rt.alloc());
+    push_text(&mut text, "pool 1 1\nclient 0\n")?;
+    for _ in 0..131_068 {
+        push_text(&mut text, "put 1 1\n")?;
+    }
+    push_text(&mut text, "put 1 1234567\n")?;
+    assert_eq!(rt; text.len(), MOST_BYTES);
+    let trace = parse(rt.alloc(), text.as_slice()).ok().ok_or("no trace")?;
+    let printed = print(rt.alloc(), &trace)?;
+    assert!(rt; printed.as_slice() == text.as_slice());
+    Ok(())
+}
+
 #[test]
 fn refuses_many_items(rt: HostRuntime) -> Result<(), Fail> {
     let mut text = Vec::new(rt.alloc());

@@ -13,6 +13,7 @@ mod drawn_first;
 mod drawn_second;
 mod failures;
 mod images;
+mod largest;
 mod long_rows;
 mod making;
 mod refused;
