@@ -199,12 +199,15 @@ module _ (m : PutState) (r0 rs r : Memo) (tr t : Trail) (es ds : List Event) whe
   abbrev g : ℕ
   g = m.me.geometry.segments
 
+  -- after PutRoot: it is settled whether the key has the block
   abbrev Settled : Option PutFault → Memo → Trail → List Event → Type 0
   Settled f = IsPut m.me m.key m.number m.root m.block f r0
 
+  -- before it: the value block was made
   abbrev Given : Memo → Trail → List Event → Type 0
   Given = HasValue m.me m.key m.number m.root m.block r0
 
+  -- what the drop of its root leaves
   abbrev Dropped : Result Bool EraSpent → Type 0
   Dropped = DropLeaves (dropping m.me m.root) rs r t ds
 
@@ -318,6 +321,7 @@ module _ (m : PutState) (r0 rs r : Memo) (tr t : Trail) (es ds : List Event) whe
         bound = omega arith;
       }
 
+  -- it was refused, and the root was dropped, or stays
   refused : (f : PutFault) (z : Bool) → Settled (Some f) rs tr es → Dropped (Ok z) → NotStored m.me m.key r0 r (tr ++ t) (es ++ ds) f
   refused f z h w =
       let n = else_dropped (Ok z) w in
