@@ -52,11 +52,11 @@ use Rattle.shm_table.specs.declared.answer.PutFault.TheVariants as fault
 use Rattle.shm_table.specs.declared.put.PutPoint.{PutPoint}
 use Rattle.shm_table.specs.declared.put.PutPoint.TheVariants.{Make, Put, Drop}
 use Rattle.shm_table.specs.declared.put.PutState.{PutState}
-use Rattle.shm_table.specs.Answers.{fault_answer, made_fault}
+use Rattle.shm_table.specs.Answers.{fault_answer, made_fault, spent_fault}
 use Rattle.shm_table.specs.Put.Control.{PutAnswer, is_make, put_call_at, put_parts, value_request}
 use Rattle.shm_table.specs.Commands.{CommandCause, MayCommand, RestSo, cause_put, cause_then, left_too}
 use Rattle.shm_table.specs.Put.Fresh.{not_mapped}
-use Rattle.shm_table.specs.Put.{HasValue, IsPut, NotStored, PutKnows, PutLeaves, put_part, put_plan}
+use Rattle.shm_table.specs.Put.{HasValue, IsPut, NotStored, PutKnows, PutLeaves, PutStored, put_part, put_plan}
 use Rattle.shm_table.specs.PutRoot.Control.{put_root_parts, putting_root}
 use Rattle.shm_table.specs.PutRoot.{IsDecided, IsEraSpent, PutRootLeaves, put_root_control, put_root_plan, put_root_steps}
 use Rattle.shm_table.specs.PutRoot.Steps.{decided_after, decided_more, frees_append, same_more, same_part, search_before, search_more, set_after, set_then}
@@ -91,45 +91,6 @@ plain_small n (suc (suc (suc (suc (suc (suc (suc (suc i)))))))) l = omega arith
 
 value_fits : (n : ℕ) → n < 2 ^ 64 → RequestFits (value_request n)
 value_fits n l = record { refs = omega arith; count = omega arith; small = λ i. plain_small n i l }
-
--- ---- before each call
-
-opens : (m : PutState) (y : PutPoint) (r0 r : Memo) (tr : Trail) (es : List Event) → PutKnows (record m { point = y }) y r0 r tr es → put_part.needs (put_call_at m y) r
-opens m Make r0 r tr es (may, small, same, none, quiet) =
-    let a = subst (MayCommand m.me m.key) (sym same) may in
-    record { made = refl; knows = record { geometry = a.geometry; who = a.who; request = value_fits m.number small; point = tt }; can = record { geometry = a.geometry; who = a.who; idle = a.idle } }
-opens m Put r0 r tr es h =
-    record {
-      made = refl;
-      first = refl;
-      start = refl;
-      knows = (
-        (
-          m.number,
-          m.root,
-          record {
-            geometry = h.may.geometry;
-            who = h.may.who;
-            idle = h.keeps.idle;
-            client = h.client;
-            none = h.latch;
-            table = h.keeps.loose ∙ h.may.table;
-            small = h.may.small;
-            value = h.value;
-            low = h.low;
-            root = h.root;
-            some = h.some;
-          },
-        ),
-        refl,
-        refl,
-        refl,
-        refl,
-        refl,
-      );
-    }
-opens m Drop r0 r tr es (h, still) =
-    record { made = refl; first = refl; start = refl; knows = (record { geometry = h.may.geometry; who = h.may.who; here = idle_here m.me.who r h.keeps.idle; idle = h.keeps.idle.op }, h.low, refl, refl, refl) }
 
 -- ---- a value block was made
 
@@ -172,80 +133,87 @@ not_stored m r0 r tr es fault.RootsFull h = h
 not_stored m r0 r tr es (fault.Full s b) h = h
 not_stored m r0 r tr es (fault.CountFull b n) h = h
 
--- ---- what follows each call
+-- ---- what each call leaves
 
-module _ (m : PutState) (r0 rs r : Memo) (tr t : Trail) (es ds : List Event) (held : IsHeld m.me r) (agent : recovers r ≡ recovers rs) where
+-- a value block was made, or not
+module _ (m : PutState) (r0 r : Memo) (t : Trail) (ds : List Event) (held : IsHeld m.me r) (may : MayCommand m.me m.key r0) (number : m.number < 2 ^ 64) where
+  abbrev Asked : Result Made AllocFault → Type 0
+  Asked = AllocLeaves (record { me = m.me; request = value_request m.number; point = alloc.Era }) r0 r t ds
+
+  few : m.me.who < 64
+  few = let u = may.geometry.clients in let l = may.who in omega arith
+
+  made : (a : Made) → recovers r ≡ recovers r0 → Asked (Ok a) → HasValue m.me m.key m.number (a.root % 16) (a.block % address_limit) r0 r t ds
+  made a agent w =
+      let q = value_request m.number in
+      let h = w.holds in
+      let inside = inside_made m.me q r0 r a held may.who h.gives in
+      let low = h.gives.root in
+      let block = inside.1 in
+      let total = total_small m.me.geometry may.geometry in
+      let is : a.block ≡ a.block % address_limit = omega arith in
+      let at : a.root ≡ a.root % 16 = omega arith in
+      let b = alloc_bound m.me q (value_fits m.number number) t (Ok a) w.trail in
+      subst (λ k. HasValue m.me m.key m.number k (a.block % address_limit) r0 r t ds) at
+      (subst (λ d. HasValue m.me m.key m.number a.root d r0 r t ds) is
+      (record {
+        may = may;
+        keeps = keeps_made m.me q r0 r (Ok a) few h;
+        client = agent ∙ may.client;
+        latch = h.stays.latch ∙ may.none;
+        low = low;
+        empty = h.gives.empty;
+        root = made_root m.me q r0 r a h;
+        some = λ e. (let l = inside.0 in absurd (omega arith));
+        others = λ j n. made_others m.me q r0 r a h j n;
+        dying = h.stays.dying;
+        map = same_part r0 r h.stays.part;
+        value = value_made m.me q r0 r a few h refl refl may.table;
+        fresh = λ i e. not_mapped m.me r a.block held may.who h.gives.made m.key i (ap (λ (x : Part). map_in x m.key) h.stays.part ∙ e);
+        told = w.events;
+        bound = omega arith;
+      }))
+
+  unmade : (f : AllocFault) → Asked (Err f) → NotStored m.me m.key r0 r t ds (made_fault f)
+  unmade f w =
+      let q = value_request m.number in
+      let rests = rests_unmade m.me q r0 r f w.holds in
+      let b = alloc_bound m.me q (value_fits m.number number) t (Err f) w.trail in
+      record {
+        keeps = keeps_made m.me q r0 r (Err f) few w.holds;
+        latch = rests.latch ∙ may.none;
+        map = same_part r0 r rests.part;
+        cause = cause_made m.me r0 r f (made_cause m.me q r0 r f w.holds);
+        cleared = inl rests.cleared;
+        keys = 0;
+        search = inl refl;
+        left = [];
+        dying = All-nil (λ (x : Visit). Contains r.dying x.block);
+        bound = omega arith;
+      }
+
+module _ (m : PutState) (r0 rs r : Memo) (tr t : Trail) (es ds : List Event) where
   abbrev c : ℕ
   c = m.me.who
 
   abbrev g : ℕ
   g = m.me.geometry.segments
 
-  -- what is known before the next call, or what is left
-  abbrev Goes : PutPoint → PutAnswer → Type 0
-  Goes y b = Follows put_parts put_plan (record m { point = y }) b r0 r (tr ++ t) (es ++ ds)
+  -- after PutRoot: it is settled whether the key has the block
+  abbrev Settled : Option PutFault → Memo → Trail → List Event → Type 0
+  Settled f = IsPut m.me m.key m.number m.root m.block f r0
 
-  -- a value block was made, or not
-  made : (a : Result Made AllocFault) → PutKnows (record m { point = Make }) Make r0 rs tr es → AllocLeaves (record { me = m.me; request = value_request m.number; point = alloc.Era }) rs r t ds a → Goes Make (First a)
-  made a (may, number, same, none, quiet) w =
-      subst (λ (u : Trail). Follows put_parts put_plan (record m { point = Make }) (First a) r0 r (u ++ t) (es ++ ds)) (sym none)
-      (subst (λ (u : List Event). Follows put_parts put_plan (record m { point = Make }) (First a) r0 r t (u ++ ds)) (sym quiet)
-      (go a (subst (λ (x : Memo). AllocLeaves (record { me = m.me; request = value_request m.number; point = alloc.Era }) x r t ds a) same w)))
-    where
-      small : m.me.who < 64
-      small = let u = may.geometry.clients in let l = may.who in omega arith
+  -- before it: the value block was made
+  abbrev Given : Memo → Trail → List Event → Type 0
+  Given = HasValue m.me m.key m.number m.root m.block r0
 
-      go : (a : Result Made AllocFault) → AllocLeaves (record { me = m.me; request = value_request m.number; point = alloc.Era }) r0 r t ds a → Follows put_parts put_plan (record m { point = Make }) (First a) r0 r t ds
-      go (Ok a) w =
-          let q = value_request m.number in
-          let h = w.holds in
-          let inside = inside_made m.me q r0 r a held may.who h.gives in
-          let low = h.gives.root in
-          let block = inside.1 in
-          let total = total_small m.me.geometry may.geometry in
-          let is : a.block ≡ a.block % address_limit = omega arith in
-          let at : a.root ≡ a.root % 16 = omega arith in
-          let b = alloc_bound m.me q (value_fits m.number number) t (Ok a) w.trail in
-          subst (λ k. HasValue m.me m.key m.number k (a.block % address_limit) r0 r t ds) at
-          (subst (λ d. HasValue m.me m.key m.number a.root d r0 r t ds) is
-          (record {
-            may = may;
-            keeps = keeps_made m.me q r0 r (Ok a) small h;
-            client = agent ∙ (ap recovers same ∙ may.client);
-            latch = h.stays.latch ∙ may.none;
-            low = low;
-            empty = h.gives.empty;
-            root = made_root m.me q r0 r a h;
-            some = λ e. (let l = inside.0 in absurd (omega arith));
-            others = λ j n. made_others m.me q r0 r a h j n;
-            dying = h.stays.dying;
-            map = same_part r0 r h.stays.part;
-            value = value_made m.me q r0 r a small h refl refl may.table;
-            fresh = λ i e. not_mapped m.me r a.block held may.who h.gives.made m.key i (ap (λ (x : Part). map_in x m.key) h.stays.part ∙ e);
-            told = w.events;
-            bound = omega arith;
-          }))
-      go (Err f) w =
-          let q = value_request m.number in
-          let rests = rests_unmade m.me q r0 r f w.holds in
-          let b = alloc_bound m.me q (value_fits m.number number) t (Err f) w.trail in
-          not_stored m r0 r t ds (made_fault f)
-          (record {
-            keeps = keeps_made m.me q r0 r (Err f) small w.holds;
-            latch = rests.latch ∙ may.none;
-            map = same_part r0 r rests.part;
-            cause = cause_made m.me r0 r f (made_cause m.me q r0 r f w.holds);
-            cleared = inl rests.cleared;
-            keys = 0;
-            search = inl refl;
-            left = [];
-            dying = All-nil (λ (x : Visit). Contains r.dying x.block);
-            bound = omega arith;
-          })
+  -- what the drop of its root leaves
+  abbrev Dropped : Result Bool EraSpent → Type 0
+  Dropped = DropLeaves (dropping m.me m.root) rs r t ds
 
   -- the key has it, or not
-  put : (a : Result Bool PutFault) → PutKnows (record m { point = Put }) Put r0 rs tr es → PutRootLeaves (putting_root m.me m.key m.block) rs r t ds a → Goes Put (Second (First a))
-  put (Ok done) h (w, still) =
+  put : (done : Bool) → Given rs tr es → PutRootLeaves (putting_root m.me m.key m.block) rs r t ds (Ok done) → Settled None r (tr ++ t) (es ++ ds) × (done ≡ false → SameMap r0 r)
+  put done h (w, still) =
       let quiet = frees_append es ds in
       let none : frees es ≡ 0 = ap frees h.told in
       let b = within_more (alloc_steps g) (put_root_steps g + 2 * w.keys + tear_steps (frees ds + length w.left)) tr t h.bound w.bound in (
@@ -274,7 +242,9 @@ module _ (m : PutState) (r0 rs r : Memo) (tr t : Trail) (es ds : List Event) (he
         },
         λ z. same_more r0 rs r h.map (still z),
       )
-  put (Err f) h w =
+
+  not_put : (f : PutFault) → Given rs tr es → PutRootLeaves (putting_root m.me m.key m.block) rs r t ds (Err f) → Settled (Some f) r (tr ++ t) (es ++ ds) × SameMap r0 r
+  not_put f h w =
       let quiet = frees_append es ds in
       let none : frees es ≡ 0 = ap frees h.told in
       let b = within_more (alloc_steps g) (put_root_steps g + 2 * w.keys + tear_steps (frees ds + length w.left)) tr t h.bound w.bound in (
@@ -294,11 +264,11 @@ module _ (m : PutState) (r0 rs r : Memo) (tr t : Trail) (es ds : List Event) (he
           dying = w.dying;
           bound = omega arith;
         },
-        λ z. same_more r0 rs r h.map w.map,
+        same_more r0 rs r h.map w.map,
       )
 
   -- the root of the value block is dropped, or stays
-  module _ (a : Result Bool EraSpent) (w : DropLeaves (dropping m.me m.root) rs r t ds a) where
+  module _ (a : Result Bool EraSpent) (w : Dropped a) where
     else_dropped : (r.latch ≡ rs.latch) × (own_word r.own (Home c) ≡ own_word rs.own (Home c)) × (r.part ≡ rs.part) × ((j : ℕ) → m.root ≢ j → root_word c r j ≡ root_word c rs j)
     else_dropped = dropped_else c m.root rs r (left_by (dropping m.me m.root) r0 rs r t ds a w).0
 
@@ -308,13 +278,12 @@ module _ (m : PutState) (r0 rs r : Memo) (tr t : Trail) (es ds : List Event) (he
     same_dropped : SameMap rs r
     same_dropped = same_part rs r else_dropped.2
 
-  ended_so : (z : Bool) → DropLeaves (dropping m.me m.root) rs r t ds (Ok z) → root_word c r0 m.root ≡ 0 → RestSo c m.root r0 rs None → Ended c r0 r
+  ended_so : (z : Bool) → Dropped (Ok z) → root_word c r0 m.root ≡ 0 → RestSo c m.root r0 rs None → Ended c r0 r
   ended_so z w empty (inl y) = inl (cleared_drop (dropping m.me m.root) r0 rs r t ds z empty y.0 y.1 w)
   ended_so z w empty (inr y) = inr (y.0, spent_later c y.0 rs r (era_dropped (Ok z) w) y.1)
 
-  dropped : (f : Option PutFault) (a : Result Bool EraSpent) → IsPut m.me m.key m.number m.root m.block f r0 rs tr es → DropLeaves (dropping m.me m.root) rs r t ds a
-      → Follows put_parts put_plan (record m { refused = f; point = Drop }) (Second (Second a)) r0 r (tr ++ t) (es ++ ds)
-  dropped None (Ok z) h w =
+  stored : (a : Result Bool EraSpent) → Settled None rs tr es → Dropped a → PutStored m.me m.key m.number m.block r0 r (tr ++ t) (es ++ ds)
+  stored (Ok z) h w =
       let n = else_dropped (Ok z) w in
       let quiet = frees_append es ds in
       let b = within_more (alloc_steps g + put_root_steps g + 2 * h.keys + tear_steps (frees es + length h.left)) (9 + 164 * frees ds) tr t h.bound w.bound in
@@ -332,7 +301,7 @@ module _ (m : PutState) (r0 rs r : Memo) (tr t : Trail) (es ds : List Event) (he
         dying = subst (λ (xs : List ℕ). All (λ (x : Visit). Contains xs x.block) h.left) (sym w.dying) h.dying;
         bound = omega arith;
       }
-  dropped None (Err e) h (vs, w) =
+  stored (Err e) h (vs, w) =
       let n = else_dropped (Err e) (vs, w) in
       let quiet = frees_append es ds in
       let long = length-append h.left vs in
@@ -351,12 +320,14 @@ module _ (m : PutState) (r0 rs r : Memo) (tr t : Trail) (es ds : List Event) (he
         dying = left_too m.me rs r h.left vs e.era h.dying w.stopped;
         bound = omega arith;
       }
-  dropped (Some f) (Ok z) h w =
+
+  -- it was refused, and the root was dropped, or stays
+  refused : (f : PutFault) (z : Bool) → Settled (Some f) rs tr es → Dropped (Ok z) → NotStored m.me m.key r0 r (tr ++ t) (es ++ ds) f
+  refused f z h w =
       let n = else_dropped (Ok z) w in
       let quiet = frees_append es ds in
       let b = within_more (alloc_steps g + put_root_steps g + 2 * h.keys + tear_steps (frees es + length h.left)) (9 + 164 * frees ds) tr t h.bound w.bound in
-      not_stored m r0 r (tr ++ t) (es ++ ds) f
-      (record {
+      record {
         keeps = keeps_drop (dropping m.me m.root) r0 rs r t ds (Ok z) h.keeps h.empty w;
         latch = n.0 ∙ h.latch;
         map = same_more r0 rs r h.value.0 (same_dropped (Ok z) w);
@@ -367,11 +338,13 @@ module _ (m : PutState) (r0 rs r : Memo) (tr t : Trail) (es ds : List Event) (he
         left = h.left;
         dying = subst (λ (xs : List ℕ). All (λ (x : Visit). Contains xs x.block) h.left) (sym w.dying) h.dying;
         bound = omega arith;
-      })
+      }
     where
-      cleared_by : (f : PutFault) (z : Bool) → DropLeaves (dropping m.me m.root) rs r t ds (Ok z) → IsPut m.me m.key m.number m.root m.block (Some f) r0 rs tr es → Cleared c r0 r ⊎ IsEraSpent f
+      cleared_by : (f : PutFault) (z : Bool) → Dropped (Ok z) → Settled (Some f) rs tr es → Cleared c r0 r ⊎ IsEraSpent f
       cleared_by f z w h = elim h.rest [ inl y ↦ inl (cleared_drop (dropping m.me m.root) r0 rs r t ds z h.empty y.0 y.1 w) | inr y ↦ inr y ]
-  dropped (Some f) (Err e) h (vs, w) =
+
+  stuck : (f : PutFault) (e : EraSpent) → Settled (Some f) rs tr es → Dropped (Err e) → NotStored m.me m.key r0 r (tr ++ t) (es ++ ds) (spent_fault e)
+  stuck f e h (vs, w) =
       let n = else_dropped (Err e) (vs, w) in
       let quiet = frees_append es ds in
       let long = length-append h.left vs in
@@ -388,18 +361,6 @@ module _ (m : PutState) (r0 rs r : Memo) (tr t : Trail) (es ds : List Event) (he
         dying = left_too m.me rs r h.left vs e.era h.dying w.stopped;
         bound = omega arith;
       }
-
--- by the call
-leads : (m : PutState) (y : PutPoint) (r0 rs r : Memo) (tr t : Trail) (es ds : List Event) (b : PutAnswer) → IsHeld m.me r → recovers r ≡ recovers rs → PutKnows (record m { point = y }) y r0 rs tr es → put_part.leaves (put_call_at m y) rs r t ds b
-    → Follows put_parts put_plan (record m { point = y }) b r0 r (tr ++ t) (es ++ ds)
-leads m Make r0 rs r tr t es ds (First a) held agent h w = made m r0 rs r tr t es ds held agent a h w
-leads m Put r0 rs r tr t es ds (Second (First a)) held agent h w = put m r0 rs r tr t es ds held agent a h w
-leads m Drop r0 rs r tr t es ds (Second (Second a)) held agent (h, still) w = dropped m r0 rs r tr t es ds held agent m.refused a h w
-leads m Make r0 rs r tr t es ds (Second b) held agent h w = absurd w
-leads m Put r0 rs r tr t es ds (First b) held agent h w = absurd w
-leads m Put r0 rs r tr t es ds (Second (Second b)) held agent h w = absurd w
-leads m Drop r0 rs r tr t es ds (First b) held agent h w = absurd w
-leads m Drop r0 rs r tr t es ds (Second (First b)) held agent h w = absurd w
 
 -- ---- the plan's laws, by those of the machine that it calls
 
@@ -420,3 +381,75 @@ module _ (puts : PlanLaws put_root_parts put_root_plan) where
         opens = λ m. opens m m.point;
         leads = λ m r0 rs r tr t es ds b h w held agent. leads m m.point r0 rs r tr t es ds b held agent h w;
       }
+    where
+      -- ---- before each call
+
+      opens : (m : PutState) (y : PutPoint) (r0 r : Memo) (tr : Trail) (es : List Event) → PutKnows (record m { point = y }) y r0 r tr es → put_part.needs (put_call_at m y) r
+      opens m Make r0 r tr es (may, small, same, none, quiet) =
+          let a = subst (MayCommand m.me m.key) (sym same) may in
+          record { made = refl; knows = record { geometry = a.geometry; who = a.who; request = value_fits m.number small; point = tt }; can = record { geometry = a.geometry; who = a.who; idle = a.idle } }
+      opens m Put r0 r tr es h =
+          record {
+            made = refl;
+            first = refl;
+            start = refl;
+            knows = (
+              (
+                m.number,
+                m.root,
+                record {
+                  geometry = h.may.geometry;
+                  who = h.may.who;
+                  idle = h.keeps.idle;
+                  client = h.client;
+                  none = h.latch;
+                  table = h.keeps.loose ∙ h.may.table;
+                  small = h.may.small;
+                  value = h.value;
+                  low = h.low;
+                  root = h.root;
+                  some = h.some;
+                },
+              ),
+              refl,
+              refl,
+              refl,
+              refl,
+              refl,
+            );
+          }
+      opens m Drop r0 r tr es (h, still) =
+          record { made = refl; first = refl; start = refl; knows = (record { geometry = h.may.geometry; who = h.may.who; here = idle_here m.me.who r h.keeps.idle; idle = h.keeps.idle.op }, h.low, refl, refl, refl) }
+
+      -- ---- what follows each call
+
+      making : (m : PutState) (r0 r : Memo) (t : Trail) (ds : List Event) (a : Result Made AllocFault) → IsHeld m.me r → recovers r ≡ recovers r0 → MayCommand m.me m.key r0 → m.number < 2 ^ 64 → put_part.leaves (put_call_at m Make) r0 r t ds (First a)
+          → Follows put_parts put_plan (record m { point = Make }) (First a) r0 r t ds
+      making m r0 r t ds (Ok a) held agent may number w = made m r0 r t ds held may number a agent w
+      making m r0 r t ds (Err f) held agent may number w = not_stored m r0 r t ds (made_fault f) (unmade m r0 r t ds held may number f w)
+
+      putting : (m : PutState) (r0 rs r : Memo) (tr t : Trail) (es ds : List Event) (a : Result Bool PutFault) → PutKnows (record m { point = Put }) Put r0 rs tr es → put_part.leaves (put_call_at m Put) rs r t ds (Second (First a))
+          → Follows put_parts put_plan (record m { point = Put }) (Second (First a)) r0 r (tr ++ t) (es ++ ds)
+      putting m r0 rs r tr t es ds (Ok done) h w = put m r0 rs r tr t es ds done h w
+      putting m r0 rs r tr t es ds (Err f) h w = let y = not_put m r0 rs r tr t es ds f h w in (y.0, λ z. y.1)
+
+      dropping_root : (m : PutState) (f : Option PutFault) (r0 rs r : Memo) (tr t : Trail) (es ds : List Event) (a : Result Bool EraSpent) → IsPut m.me m.key m.number m.root m.block f r0 rs tr es → put_part.leaves (put_call_at m Drop) rs r t ds (Second (Second a))
+          → Follows put_parts put_plan (record m { refused = f; point = Drop }) (Second (Second a)) r0 r (tr ++ t) (es ++ ds)
+      dropping_root m None r0 rs r tr t es ds (Ok z) h w = stored m r0 rs r tr t es ds (Ok z) h w
+      dropping_root m None r0 rs r tr t es ds (Err e) h w = stored m r0 rs r tr t es ds (Err e) h w
+      dropping_root m (Some f) r0 rs r tr t es ds (Ok z) h w = not_stored m r0 r (tr ++ t) (es ++ ds) f (refused m r0 rs r tr t es ds f z h w)
+      dropping_root m (Some f) r0 rs r tr t es ds (Err e) h w = not_stored m r0 r (tr ++ t) (es ++ ds) (spent_fault e) (stuck m r0 rs r tr t es ds f e h w)
+
+      leads : (m : PutState) (y : PutPoint) (r0 rs r : Memo) (tr t : Trail) (es ds : List Event) (b : PutAnswer) → IsHeld m.me r → recovers r ≡ recovers rs → PutKnows (record m { point = y }) y r0 rs tr es → put_part.leaves (put_call_at m y) rs r t ds b
+          → Follows put_parts put_plan (record m { point = y }) b r0 r (tr ++ t) (es ++ ds)
+      leads m Make r0 rs r tr t es ds (First a) held agent (may, number, same, none, quiet) w =
+          subst (λ (u : Trail). Follows put_parts put_plan (record m { point = Make }) (First a) r0 r (u ++ t) (es ++ ds)) (sym none)
+          (subst (λ (u : List Event). Follows put_parts put_plan (record m { point = Make }) (First a) r0 r t (u ++ ds)) (sym quiet)
+          (making m r0 r t ds a held (agent ∙ ap recovers same) may number (subst (λ (x : Memo). put_part.leaves (put_call_at m Make) x r t ds (First a)) same w)))
+      leads m Put r0 rs r tr t es ds (Second (First a)) held agent h w = putting m r0 rs r tr t es ds a h w
+      leads m Drop r0 rs r tr t es ds (Second (Second a)) held agent (h, still) w = dropping_root m m.refused r0 rs r tr t es ds a h w
+      leads m Make r0 rs r tr t es ds (Second b) held agent h w = absurd w
+      leads m Put r0 rs r tr t es ds (First b) held agent h w = absurd w
+      leads m Put r0 rs r tr t es ds (Second (Second b)) held agent h w = absurd w
+      leads m Drop r0 rs r tr t es ds (First b) held agent h w = absurd w
+      leads m Drop r0 rs r tr t es ds (Second (First b)) held agent h w = absurd w
