@@ -1,5 +1,5 @@
 -- each state of a command after its deciding step shows what it will answer, and no state before that step shows anything
-use Rattle.std.proofs.Common.{◌≡◌, ℕ, ◌%◌, ◌^◌, Bool, true, false, refl, sym, ap, ◌∙◌}
+use Rattle.std.proofs.Common.{◌≡◌, ℕ, ◌%◌, Bool, true, false, refl, sym, ap, ◌∙◌}
 use Rattle.std.specs.Prelude.{◌&&◌, ◌==◌, if◌then◌else◌, is_ok, Option, Some, None, Result, Ok, Err}
 use Rattle.shm_words.specs.Layout.{address_limit}
 use Rattle.shm_calls.specs.declared.or.Or.{Or}

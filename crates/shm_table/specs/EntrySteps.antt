@@ -1,5 +1,5 @@
 -- what may be done at an entry of the own table that a walk found, once its value word or its next word was read, and what that makes of the map
-use Rattle.std.proofs.Common.{◌≡◌, ◌≢◌, ℕ, ◌+◌, ◌%◌, ◌^◌, ◌<◌, refl, sym, ap, ◌∙◌, subst, arith, true, false, List, ◌∷◌, inl, inr}
+use Rattle.std.proofs.Common.{◌≡◌, ◌≢◌, ℕ, ◌+◌, ◌%◌, ◌<◌, refl, sym, ap, ◌∙◌, subst, arith, true, false, List, ◌∷◌, inl, inr}
 use Rattle.std.specs.Prelude.{◌==◌, if◌then◌else◌, Some, None}
 use Rattle.std.proofs.lemmas.Bool.{cases_eq}
 use Rattle.shm_words.specs.Layout.{GeometryFits, address_limit}

@@ -1,5 +1,5 @@
 -- what is owed of removing a key of the own table
-use Rattle.std.proofs.Common.{◌≡◌, ℕ, ◌+◌, ◌*◌, ◌%◌, ◌^◌, ◌<◌, ◌≤◌, refl, sym, ap, ◌∙◌, subst, arith, append_assoc, append-nil, length, List, [], ◌∷◌, ◌++◌, inl, inr}
+use Rattle.std.proofs.Common.{◌≡◌, ℕ, ◌+◌, ◌*◌, ◌%◌, ◌<◌, ◌≤◌, refl, sym, ap, ◌∙◌, subst, arith, append_assoc, append-nil, length, List, [], ◌∷◌, ◌++◌, inl, inr}
 use Rattle.std.specs.Prelude.{◌==◌, if◌then◌else◌, None, Some, Ok, Err}
 use Rattle.std.specs.List.{All, Contains}
 use Rattle.shm_words.specs.Layout.{total_of, address_limit}

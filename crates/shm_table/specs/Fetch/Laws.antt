@@ -1,5 +1,5 @@
 -- what is owed of reading what a key has and giving it a root
-use Rattle.std.proofs.Common.{◌≡◌, ℕ, ◌+◌, ◌*◌, ◌%◌, ◌^◌, refl, sym, ap, ◌∙◌, subst, arith, false, eqb, List, [], ◌∷◌, ◌++◌}
+use Rattle.std.proofs.Common.{◌≡◌, ℕ, ◌+◌, ◌*◌, ◌%◌, refl, sym, ap, ◌∙◌, subst, arith, false, eqb, List, [], ◌∷◌, ◌++◌}
 use Rattle.std.specs.Prelude.{map, Some, Result, Ok, Err}
 use Rattle.std.specs.List.{Contains, list_any}
 use Rattle.shm_words.proofs.Placing.{total_small}

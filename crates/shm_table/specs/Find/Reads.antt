@@ -1,5 +1,5 @@
 -- what the loads of a search for a key leave of a memo, the roles of what was read, and trails
-use Rattle.std.proofs.Common.{◌≡◌, ◌≢◌, ℕ, ◌+◌, ◌%◌, ◌^◌, ◌<◌, refl, sym, ap, ◌∙◌, subst, arith, true, false, eqb, ◌&&◌, List, [], ◌∷◌, ◌++◌, map, inl, inr}
+use Rattle.std.proofs.Common.{◌≡◌, ◌≢◌, ℕ, ◌+◌, ◌%◌, ◌<◌, refl, sym, ap, ◌∙◌, subst, arith, true, false, eqb, ◌&&◌, List, [], ◌∷◌, ◌++◌, map, inl, inr}
 use Rattle.std.specs.Prelude.{None, Some, ◌==◌, if◌then◌else◌}
 use Rattle.std.specs.List.{Contains, list_any}
 use Rattle.std.proofs.lemmas.Bool.{cases_Bool, cases_eq, cond-false, cond-true, eq-eqb, false≢true, ne_eqb, or_left, or_right}
