@@ -1,20 +1,16 @@
 -- the recovery of an identity whose last agent died, by a recoverer that begins
-use Rattle.std.proofs.Common.{◌≡◌, ℕ, ◌^◌, ◌<◌, ◌≤◌, Bool, true, false, cond, refl, sym, ap, ◌∙◌, subst, arith, inr, List, Result}
-use Rattle.std.specs.Prelude.{Option, Some, None, Ok, Err}
+use Rattle.std.proofs.Common.{◌≡◌, ℕ, ◌^◌, ◌<◌, ◌≤◌, Bool, false, cond, refl, sym, ap, ◌∙◌, subst, arith, inr, List, Result}
+use Rattle.std.specs.Prelude.{Ok, Err}
 use Rattle.std.specs.Result.{IsOk}
-use Rattle.std.proofs.lemmas.Bool.{true≢false}
 use Rattle.shm_graph.specs.declared.ask.Me.{Me}
-use Rattle.shm_graph.specs.declared.memo.Agent.{Agent}
-use Rattle.shm_graph.specs.declared.memo.Fate.{Fate}
-use Rattle.shm_graph.specs.declared.memo.Fate.TheVariants.{Acts, Ended, Died}
 use Rattle.shm_graph.specs.declared.memo.Kind.{Kind}
 use Rattle.shm_graph.specs.declared.memo.Kind.TheVariants.{Client, Recoverer}
 use Rattle.shm_graph.specs.declared.memo.Memo.{Memo}
 use Rattle.shm_graph.specs.declared.memo.Status.TheVariants.{Gone}
-use Rattle.shm_graph.specs.Agents.{acts, acts_by, entered, is_acting, last_agent, steps_made}
+use Rattle.shm_graph.specs.Agents.{acts, entered, last_agent, steps_made}
 use Rattle.shm_graph.specs.Asks.{Trail}
 use Rattle.shm_graph.specs.Events.{Event}
-use Rattle.shm_graph.specs.Runs.{MayBegin, fell_by, is_dead}
+use Rattle.shm_graph.specs.Runs.{MayBegin, fell_by}
 use Rattle.shm_graph.specs.Whole.{fits_now}
 use Rattle.shm_graph.proofs.Memos.MemoSteps.{recovers-entered}
 use Rattle.shm_calls.specs.CallsControl.{calls_control, calls_of}

@@ -1,5 +1,5 @@
 -- what follows of the agents of a script that stand in a pool
-use Rattle.std.proofs.Common.{◌≡◌, ◌≢◌, ℕ, zero, suc, ◌+◌, ◌-◌, ◌<◌, ◌≤◌, Bool, true, false, cond, min, List, [], ◌∷◌, ◌++◌, map, length, refl, sym, ap, ◌∙◌, subst, arith, inl, inr}
+use Rattle.std.proofs.Common.{◌≡◌, ◌≢◌, ℕ, zero, suc, ◌+◌, ◌-◌, ◌<◌, ◌≤◌, Bool, true, false, cond, min, List, [], ◌∷◌, ◌++◌, map, length, refl, sym, ap, ◌∙◌, arith, inl, inr}
 use Rattle.std.specs.Prelude.{◌⊎◌, Option, Some, None, slice_get, slice_index}
 use Rattle.std.specs.Option.{option_map}
 use Rattle.std.proofs.Math.Nat.{min-eq_left}
@@ -22,8 +22,8 @@ use Rattle.shm_plain.specs.Tracks.{kind_next}
 use Rattle.shm_script.specs.declared.line.Line.{Line}
 use Rattle.shm_script.specs.declared.log.Entry.{Entry}
 use Rattle.shm_script.specs.Values.{Scripted}
-use Rattle.shm_replay.specs.declared.agents.Standing.TheVariants.{AtWork, Gone, Dead}
-use Rattle.shm_replay.specs.Agents.{Fallen, Fresh, HasParted, IsFallen, IsFresh, IsMended, IsMending, IsPlaying, Mended, Mending, Parted, Playing, Plays, Stage, Stands, behind}
+use Rattle.shm_replay.specs.declared.agents.Standing.TheVariants.{AtWork, Dead}
+use Rattle.shm_replay.specs.Agents.{Fallen, Fresh, IsFallen, IsFresh, IsMending, IsPlaying, Mended, Mending, Parted, Playing, Plays, Stage, Stands, behind}
 use Rattle.shm_replay.specs.Turns.{agent_of, answered_of, begun_last, ended_by, first_of, is_ended, life_of, lives_of, next_by, over_first, steps_by, steps_of_agent, work_at, worked}
 use Rattle.shm_replay.specs.Work.{Work, commanding, joining, leaving, recovering, work_control, work_of}
 

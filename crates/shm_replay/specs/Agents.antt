@@ -1,6 +1,5 @@
 -- the agents of a script at work: what ties them to what a pool accounts for of their identity
-use Rattle.std.specs.Prelude.{◌≡◌, ℕ, zero, suc, ◌+◌, ◌==◌, ◌&&◌, ◌^◌, ◌<◌, ◌≤◌, ◌⊎◌, Bool, true, false, if◌then◌else◌, Option, Some, None, List, [], ◌∷◌, ◌++◌, length, map, sum, take, slice_get, slice_index}
-use Rattle.std.specs.List.{AllByRecursion}
+use Rattle.std.specs.Prelude.{◌≡◌, ℕ, zero, suc, ◌+◌, ◌==◌, ◌&&◌, ◌<◌, ◌≤◌, ◌⊎◌, Bool, true, false, if◌then◌else◌, Option, Some, None, List, [], ◌∷◌, ◌++◌, length, map, sum, take, slice_get, slice_index}
 use Rattle.std.specs.FinMap as finmap
 use Rattle.shm_words.specs.Layout.{GeometryFits}
 use Rattle.shm_graph.specs.declared.ask.Life.{Life}
@@ -31,7 +30,7 @@ use Rattle.shm_script.specs.declared.log.End.{End}
 use Rattle.shm_script.specs.declared.log.End.TheVariants as end
 use Rattle.shm_script.specs.declared.log.Entry.{Entry}
 use Rattle.shm_script.specs.Logged.{Logged, folded}
-use Rattle.shm_script.specs.Ranges.{LineFits, ScriptFits}
+use Rattle.shm_script.specs.Ranges.{ScriptFits}
 use Rattle.shm_script.specs.Values.{Scripted}
 use Rattle.shm_table.specs.Command.{command_effect}
 use Rattle.shm_replay.specs.declared.agents.Standing.{Standing}

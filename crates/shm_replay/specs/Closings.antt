@@ -1,5 +1,5 @@
 -- the closing of a pool after a trace
-use Rattle.std.specs.Prelude.{◌≡◌, ℕ, zero, suc, ◌^◌, ◌≤◌, ◌⊎◌, Bool, true, false, Option, None, Some, List, [], ◌++◌, slice_index}
+use Rattle.std.specs.Prelude.{◌≡◌, ℕ, zero, suc, ◌+◌, ◌^◌, ◌≤◌, ◌⊎◌, Bool, true, false, Option, None, Some, List, [], ◌++◌, slice_index}
 use Rattle.shm_graph.specs.declared.memo.Memo.{Memo}
 use Rattle.shm_graph.specs.declared.memo.Status.TheVariants.{Gone, New}
 use Rattle.shm_graph.specs.declared.run.Account.{Account}
@@ -53,6 +53,10 @@ pub record IsVisit (c : ℕ) (p q : Pool) : Type 0 where
 abbrev pub AreVisits : ℕ → ℕ → Pool → Pool → Type 0
 AreVisits c zero p q = q ≡ p
 AreVisits c (suc n) p q = (r : Pool) × IsVisit c p r × AreVisits (suc c) n r q
+
+-- the agents of c made 2^40 word steps or more from p to q: all that one of them may make
+abbrev pub IsSpent : ℕ → Pool → Pool → Type 0
+IsSpent c p q = steps_made (memo_of p c) + 2 ^ 40 ≤ steps_made (memo_of q c)
 
 -- what was running of an agent that died is told, and more behind it
 abbrev pub HasTold : Account → Account → Type 0

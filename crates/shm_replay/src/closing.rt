@@ -1,6 +1,6 @@
 //! The closing of a pool after a trace.
 
-ghost use Rattle.std.specs.Prelude.{◌≡◌, ◌≢◌, ◌+◌, ◌^◌, ◌<◌, ◌≤◌, ℕ, true, None, length, slice_index_or, IfSome};
+ghost use Rattle.std.specs.Prelude.{◌≡◌, ◌≢◌, ◌+◌, ◌^◌, ◌<◌, ◌≤◌, ℕ, false, true, None, length, slice_index_or, IfSome};
 ghost use Rattle.std.specs.Option.{is_some};
 ghost use Rattle.shm_graph.specs.declared.memo.Status.TheVariants.{Gone};
 ghost use Rattle.shm_graph.specs.Agents.{steps_made};
@@ -14,7 +14,7 @@ ghost use Rattle.shm_queue.specs.Drain.{drain_plan};
 ghost use Rattle.shm_recover.specs.Join.{join_control, join_fresh};
 ghost use Rattle.shm_recover.specs.Leave.Control.{leave_parts, leaving};
 ghost use Rattle.shm_recover.specs.Leave.{leave_plan};
-ghost use Rattle.shm_replay.specs.Closings.{AreVisits, HasTold, IsDead, IsIn, IsOut, IsRecovery, IsVisit, IsWhole, MayVisit, SameTable, is_dead};
+ghost use Rattle.shm_replay.specs.Closings.{AreVisits, HasTold, IsDead, IsIn, IsOut, IsRecovery, IsSpent, IsVisit, IsWhole, MayVisit, SameTable, is_dead};
 
 use crate::agents::{Agents, LIFE, Standing};
 use shm_calls::Calls;
@@ -102,6 +102,8 @@ fn revive(pool: &mut PlainPool, me: Me, dead: bool) -> Option<()>
     ensures out { IfSome result (λ u. IsOut (memo_of pool.new me.who)) }
     ensures table { IfSome result (λ u. SameTable (memo_of pool.old me.who) (memo_of pool.new me.who)) }
     ensures told { IfSome result (λ u. dead ≡ true → HasTold (account_at pool.old.accounts me.who) (account_at pool.new.accounts me.who)) }
+    ensures spent { is_some result ≡ false → IsSpent me.who pool.old pool.new }
+    ensures grows { steps_made (memo_of pool.old me.who) ≤ steps_made (memo_of pool.new me.who) }
     ensures others { (d : ℕ) → d ≢ me.who → account_at pool.new.accounts d ≡ account_at pool.old.accounts d }
     ensures start { pool.new.start ≡ pool.old.start }
     ensures run { IsRun pool.new }
@@ -124,6 +126,7 @@ fn visit(pool: &mut PlainPool, me: Me, dead: bool) -> Option<()>
     ensures gone { IfSome result (λ u. (memo_of pool.new me.who).status ≡ Gone) }
     ensures table { IfSome result (λ u. SameTable (memo_of pool.old me.who) (memo_of pool.new me.who)) }
     ensures told { IfSome result (λ u. dead ≡ true → HasTold (account_at pool.old.accounts me.who) (account_at pool.new.accounts me.who)) }
+    ensures spent { is_some result ≡ false → IsSpent me.who pool.old pool.new }
     ensures others { (d : ℕ) → d ≢ me.who → account_at pool.new.accounts d ≡ account_at pool.old.accounts d }
     ensures start { pool.new.start ≡ pool.old.start }
     ensures run { IsRun pool.new }
@@ -156,6 +159,7 @@ pub(crate) fn visit_all(pool: &mut PlainPool, agents: &[Option<Agents>]) -> Opti
     ensures gone { IfSome result (λ u. (c : ℕ) → c < pool.old.start.geometry.clients → (memo_of pool.new c).status ≡ Gone) }
     ensures table { IfSome result (λ u. (c : ℕ) → c < pool.old.start.geometry.clients → SameTable (memo_of pool.old c) (memo_of pool.new c)) }
     ensures told { IfSome result (λ u. (c : ℕ) → c < pool.old.start.geometry.clients → is_dead (slice_index_or agents.now c None) ≡ true → HasTold (account_at pool.old.accounts c) (account_at pool.new.accounts c)) }
+    ensures spent { is_some result ≡ false → (c : ℕ) × (c < pool.old.start.geometry.clients) × IsSpent c pool.old pool.new }
     ensures start { pool.new.start ≡ pool.old.start }
     ensures run { IsRun pool.new }
 {

@@ -1,12 +1,13 @@
 //! Replays of whole traces.
 
-ghost use Rattle.std.specs.Prelude.{◌≡◌, ℕ, ◌+◌, ◌^◌, ◌<◌, ◌≤◌, ◌++◌, true, None, Some, List, [], length, vec_len, vec_capacity, slice_get, slice_index_or, slice_set, IfOk, IfSome, MatchOption};
+ghost use Rattle.std.specs.Prelude.{◌≡◌, ℕ, ◌+◌, ◌^◌, ◌<◌, ◌≤◌, ◌++◌, false, true, None, Some, List, [], length, vec_len, vec_capacity, slice_get, slice_index_or, slice_set, IfOk, IfSome, MatchOption};
+ghost use Rattle.std.specs.Option.{is_some};
 ghost use Rattle.shm_words.specs.Layout.{GeometryFits};
 ghost use Rattle.shm_graph.specs.declared.memo.Status.TheVariants.{Gone};
 ghost use Rattle.shm_graph.specs.Runs.{account_at};
 ghost use Rattle.shm_plain.specs.Pools.{Pool as APool, IsRun, first_pool, memo_of};
 ghost use Rattle.shm_script.specs.Values.{Scripted as AScript};
-ghost use Rattle.shm_replay.specs.Closings.{AreVisits, HasTold, SameTable, is_dead};
+ghost use Rattle.shm_replay.specs.Closings.{AreVisits, HasTold, IsSpent, SameTable, is_dead};
 ghost use Rattle.shm_replay.specs.Gathered.{log_at, logs_by};
 ghost use Rattle.shm_replay.specs.Orders.{IsGivenAll};
 ghost use Rattle.shm_replay.specs.Replays.{IsReplay, start_of};
@@ -88,6 +89,7 @@ fn play(agents: &mut [Option<Agents>], trace: &Trace, pool: &mut PlainPool) -> O
     requires start { pool.old.start ≡ start_of trace.now }
     ensures played { IfSome result (λ u. (q : APool) × IsGivenAll trace.now pool.old q × AreSeated trace.now q agents.new × AreVisits 0 trace.now.clients q pool.new × IsRun q × ((c : ℕ) → c < trace.now.clients → SameTable (memo_of q c) (memo_of pool.new c)) × ((c : ℕ) → c < trace.now.clients → is_dead (slice_index_or agents.new c None) ≡ true → HasTold (account_at q.accounts c) (account_at pool.new.accounts c))) }
     ensures gone { IfSome result (λ u. (c : ℕ) → c < trace.now.clients → (memo_of pool.new c).status ≡ Gone) }
+    ensures spent { is_some result ≡ false → (q : APool) × IsGivenAll trace.now pool.old q × ((c : ℕ) × (c < trace.now.clients) × IsSpent c q pool.new) }
     ensures start { pool.new.start ≡ pool.old.start }
 {
     give_items(agents, trace, pool);

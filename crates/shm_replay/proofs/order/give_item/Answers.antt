@@ -1,8 +1,8 @@
-use Rattle.std.proofs.Common.{◌≡◌, ◌≢◌, ◌<◌, ℕ, refl, sym, ap, ◌∙◌, subst}
-use Rattle.std.specs.Prelude.{None, Some, slice_index_or, slice_set}
+use Rattle.std.proofs.Common.{◌≡◌, ◌<◌, ℕ, refl, sym, ap, ◌∙◌, subst}
+use Rattle.std.specs.Prelude.{None}
 use Rattle.std.proofs.lemmas.List.{set-get_or}
 use Rattle.shm_graph.specs.declared.ask.Me.{Me}
-use Rattle.shm_replay.specs.Orders.{IsGiven, IsUntilAnswered}
+use Rattle.shm_replay.specs.Orders.{IsUntilAnswered}
 use Rattle.shm_replay.specs.Seats.{AreSeated, IsSeat, Seat}
 use Rattle.shm_replay.specs.Turns.{in_a_row}
 use Rattle.shm_replay.proofs.Seating.{any_or, none_given, seats_set}

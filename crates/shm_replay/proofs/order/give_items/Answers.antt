@@ -1,4 +1,4 @@
-use Rattle.std.proofs.Common.{◌≡◌, ◌≢◌, ◌+◌, ◌<◌, ◌≤◌, ℕ, List, [], ◌∷◌, ◌++◌, length, replicate, take, refl, sym, ap, ◌∙◌, subst, arith, get_or}
+use Rattle.std.proofs.Common.{◌≡◌, ◌+◌, List, ◌++◌, length, replicate, take, sym, ap, ◌∙◌, subst, arith}
 use Rattle.std.specs.List.{AllByRecursion}
 use Rattle.std.specs.Prelude.{slice_index_or}
 use Rattle.std.proofs.lemmas.List.{take_more}
@@ -6,7 +6,6 @@ use Rattle.shm_script.specs.declared.line.Item.{Item}
 use Rattle.shm_script.specs.Ranges.{ItemFits}
 use Rattle.shm_script.specs.Values.{Traced}
 use Rattle.shm_replay.specs.Orders.{AreOfItems, IsGiven}
-use Rattle.shm_replay.specs.Turns.{given, in_a_row}
 use Rattle.shm_plain.specs.Pools.{Pool}
 use Rattle.shm_replay.proofs.Giving.{fits_at, items_given, items_more, take_all}
 use Rattle.shm_replay.proofs.order.give_items.Goals as goal

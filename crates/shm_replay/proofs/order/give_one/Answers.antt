@@ -1,11 +1,9 @@
-use Rattle.std.proofs.Common.{◌≡◌, ◌≢◌, ◌<◌, ℕ, Bool, true, false, length, refl, sym, ap, ◌∙◌, subst, arith, inl, inr, rules}
+use Rattle.std.proofs.Common.{◌≡◌, ◌≢◌, ◌<◌, ℕ, length, sym, ap, ◌∙◌, subst, arith, rules}
 use Rattle.std.specs.Prelude.{None, Some, slice_index_or}
-use Rattle.std.specs.Option.{is_some}
-use Rattle.std.proofs.lemmas.Bool.{true≢false}
 use Rattle.shm_graph.specs.declared.ask.Me.{Me}
 use Rattle.shm_replay.specs.declared.agents.Standing.TheVariants.{AtWork}
 use Rattle.shm_replay.specs.Agents.{Playing, is_at_work}
-use Rattle.shm_replay.specs.Seats.{AreSeated, IsSeat, Seat, turns_in}
+use Rattle.shm_replay.specs.Seats.{IsSeat, Seat, turns_in}
 use Rattle.shm_replay.specs.Turns.{in_a_row}
 use Rattle.shm_replay.proofs.Seating.{any_or, seat_busy, seats_set, turns_set}
 use Rattle.shm_replay.proofs.order.give_one.Goals.{In-Some}

@@ -1,9 +1,9 @@
-use Rattle.std.proofs.Common.{◌≡◌, ◌≢◌, ◌<◌, ◌≤◌, ◌+◌, ℕ, true, false, List, [], ◌∷◌, ◌++◌, refl, sym, ap, ◌∙◌, subst, arith, inl, inr}
+use Rattle.std.proofs.Common.{◌≡◌, ◌+◌, ℕ, false, sym, ap, ◌∙◌, subst, arith, inl, inr}
 use Rattle.std.proofs.lemmas.Bool.{cases_eq, cases_lt, true≢false}
 use Rattle.shm_plain.specs.Pools.{Pool}
 use Rattle.shm_script.specs.Values.{Traced}
 use Rattle.shm_replay.specs.Orders.{from_on}
-use Rattle.shm_replay.specs.Turns.{given, in_a_row, is_busy, script_in}
+use Rattle.shm_replay.specs.Turns.{given, is_busy}
 use Rattle.shm_replay.proofs.Gathering.{script_beyond}
 use Rattle.shm_replay.proofs.Giving.{from_given, idle_row}
 use Rattle.shm_replay.proofs.Seating.{no_script_busy}

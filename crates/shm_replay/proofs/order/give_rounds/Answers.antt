@@ -1,7 +1,4 @@
-use Rattle.std.proofs.Common.{◌≡◌, ℕ, suc, true, false, not, refl, sym, ap, ◌∙◌, subst, arith}
-use Rattle.std.proofs.lemmas.Bool.{true≢false}
-use Rattle.shm_replay.specs.Orders.{rounds_of}
-use Rattle.shm_replay.specs.Turns.{given}
+use Rattle.std.proofs.Common.{suc, ◌∙◌}
 use Rattle.shm_replay.proofs.Giving.{rounds_more}
 use Rattle.shm_replay.proofs.order.give_rounds.Goals as goal
 

@@ -1,4 +1,4 @@
-use Rattle.std.proofs.Common.{◌≡◌, ◌≢◌, ℕ, sym, ap, ◌∙◌, subst}
+use Rattle.std.proofs.Common.{◌≡◌, ℕ, sym, ap, ◌∙◌, subst}
 use Rattle.shm_graph.specs.declared.ask.Me.{Me}
 use Rattle.shm_replay.specs.Seats.{IsSeat}
 use Rattle.shm_replay.specs.Turns.{in_a_row}

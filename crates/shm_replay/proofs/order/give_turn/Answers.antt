@@ -1,4 +1,4 @@
-use Rattle.std.proofs.Common.{◌≡◌, ◌≢◌, ◌<◌, List, sym, ap, ◌∙◌, arith, rules}
+use Rattle.std.proofs.Common.{◌≡◌, ◌≢◌, List, sym, ap, ◌∙◌, arith, rules}
 use Rattle.std.specs.Prelude.{Some, slice_get}
 use Rattle.shm_script.specs.Values.{Scripted, Traced}
 use Rattle.shm_replay.specs.declared.agents.Standing.TheVariants.{AtWork}

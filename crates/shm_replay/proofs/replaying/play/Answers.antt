@@ -9,6 +9,7 @@ use Rattle.shm_replay.specs.Turns.{given}
 use Rattle.shm_replay.proofs.Ending.{seat_may}
 use Rattle.shm_replay.proofs.Giving.{given-append}
 use Rattle.shm_replay.proofs.Visited.{some_three}
+use Rattle.shm_replay.proofs.replaying.play.Goals.{After-visit_all}
 use Rattle.shm_replay.proofs.replaying.play.Goals as goal
 
 pub visit_all-requires-clause-may : goal.visit_all-requires-clause-may
@@ -16,25 +17,36 @@ visit_all-requires-clause-may c k l =
     let h = c.give_rounds.ensures.seated in
     seat_may c.args.trace.now c.give_rounds.new.pool k (slice_index_or c.give_rounds.new.agents k None) (h.seats k (subst (λ n. k < n) h.clients l)) (c.give_rounds.ensures.done k)
 
-pub returns-clause-played : goal.returns-clause-played
-returns-clause-played c =
+-- the turns of the trace were given
+all : (c : After-visit_all) → IsGivenAll c.args.trace.now c.args.pool.now c.give_rounds.new.pool
+all c =
     let t = c.args.trace.now in
     let (cs, ordered, first) = c.give_items.ensures.given in
     let (n, then) = c.give_rounds.ensures.given in
-    let q = c.give_rounds.new.pool in
-    let xs = c.give_rounds.new.agents in
-    let p = c.visit_all.new.pool in
-    let clients : q.start.geometry.clients ≡ t.clients = c.give_rounds.ensures.seated.clients in
-    let all : IsGivenAll t c.args.pool.now q = record {
+    record {
       items = cs;
       ordered = ordered;
       rounds = n;
       turns = then ∙ (ap (λ (x : Pool). given t x (rounds_of t.clients n)) first ∙ sym (given-append t c.args.pool.now cs (rounds_of t.clients n)));
       done = c.give_rounds.ensures.done;
-    } in
+    }
+
+pub returns-clause-played : goal.returns-clause-played
+returns-clause-played c =
+    let t = c.args.trace.now in
+    let q = c.give_rounds.new.pool in
+    let xs = c.give_rounds.new.agents in
+    let p = c.visit_all.new.pool in
+    let clients : q.start.geometry.clients ≡ t.clients = c.give_rounds.ensures.seated.clients in
     let few : (k : ℕ) → k < t.clients → k < q.start.geometry.clients = (λ k l. subst (λ n. k < n) (sym clients) l) in
     some_three (λ u. AreVisits 0 q.start.geometry.clients q p) (λ u. (k : ℕ) → k < q.start.geometry.clients → SameTable (memo_of q k) (memo_of p k)) (λ u. (k : ℕ) → k < q.start.geometry.clients → is_dead (slice_index_or xs k None) ≡ true → HasTold (account_at q.accounts k) (account_at p.accounts k))
     (λ u. (q : Pool) × IsGivenAll t c.args.pool.now q × AreSeated t q xs × AreVisits 0 t.clients q p × IsRun q × ((k : ℕ) → k < t.clients → SameTable (memo_of q k) (memo_of p k)) × ((k : ℕ) → k < t.clients → is_dead (slice_index_or xs k None) ≡ true → HasTold (account_at q.accounts k) (account_at p.accounts k)))
     c.visit_all.result
-    (λ u visits tables told. (q, all, c.give_rounds.ensures.seated, subst (λ (n : ℕ). AreVisits 0 n q p) clients visits, c.geometry.ensures.run, (λ k l. tables k (few k l)), (λ k l. told k (few k l))))
+    (λ u visits tables told. (q, all c, c.give_rounds.ensures.seated, subst (λ (n : ℕ). AreVisits 0 n q p) clients visits, c.geometry.ensures.run, (λ k l. tables k (few k l)), (λ k l. told k (few k l))))
     c.visit_all.ensures.visits c.visit_all.ensures.table c.visit_all.ensures.told
+
+pub returns-clause-spent : goal.returns-clause-spent
+returns-clause-spent c none =
+    let clients = c.give_rounds.ensures.seated.clients in
+    let (k, few, spent) = c.visit_all.ensures.spent none in
+    (c.give_rounds.new.pool, all c, (k, subst (λ n. k < n) clients few, spent))
