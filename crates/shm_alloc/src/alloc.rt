@@ -12,7 +12,7 @@ ghost use Rattle.shm_alloc.specs.declared.point.AllocNext.TheVariants.{Point};
 use crate::point::{AllocNext, AllocPoint, AllocState};
 use crate::request::Request;
 use shm_count::Made;
-use shm_graph::{Ask, Machine, Me, Turn};
+use shm_graph::{Ask, Machine, Me, Turn, make_step};
 use std::marker::Model;
 
 /// Why no block was made.
@@ -211,6 +211,13 @@ impl Machine for Alloc {
             return Turn::More;
         }
         self.take_any(seen)
+    }
+
+    #[inline(always)]
+    fn act(&mut self, words: &mut Vec<u64>) -> Turn<Result<Made, AllocFault>> {
+        let ask = self.ask();
+        let seen = make_step(words, ask);
+        self.take(seen)
     }
 
     ghost laws = { alloc_laws };

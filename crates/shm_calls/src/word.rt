@@ -4,7 +4,7 @@ ghost use Rattle.std.specs.Prelude.{◌≡◌, true, false};
 ghost use Rattle.shm_graph.specs.declared.ask.Ask.TheVariants.{Load, Store, Exchange};
 ghost use Rattle.shm_calls.specs.Words.{word_control, WordFits, WordGives, word_laws};
 
-use shm_graph::{Ask, Machine, Me, Turn};
+use shm_graph::{Ask, Machine, Me, Turn, make_step};
 
 /// One word step of an identity, which answers the word that was found, for a store 0.
 #[derive(Clone, Copy, Debug, PartialEq, Eq, Drop)]
@@ -80,6 +80,13 @@ impl Machine for Word {
     fn take(&mut self, seen: u64) -> Turn<u64> {
         self.over = true;
         Turn::Done(seen)
+    }
+
+    #[inline(always)]
+    fn act(&mut self, words: &mut Vec<u64>) -> Turn<u64> {
+        let ask = self.ask();
+        let seen = make_step(words, ask);
+        self.take(seen)
     }
 
     ghost laws = { word_laws };

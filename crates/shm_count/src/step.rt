@@ -11,7 +11,7 @@ ghost use Rattle.shm_count.specs.Step.Keeps.{step_keeps};
 
 use crate::answer::{EraSpent, UpFault};
 use crate::point::{Aim, StepNext, StepPoint, StepState};
-use shm_graph::{Ask, Machine, Me, Turn};
+use shm_graph::{Ask, Machine, Me, Turn, make_step};
 use std::marker::Model;
 
 impl StepState {
@@ -156,6 +156,13 @@ impl Machine for StepUp {
         }
     }
 
+    #[inline(always)]
+    fn act(&mut self, words: &mut Vec<u64>) -> Turn<Result<(), UpFault>> {
+        let ask = self.ask();
+        let seen = make_step(words, ask);
+        self.take(seen)
+    }
+
     ghost laws = { machines.up_laws step_keeps };
 }
 
@@ -233,6 +240,13 @@ impl Machine for StepDown {
             None => Turn::More,
             Some(answer) => Turn::Done(down_answer(answer)),
         }
+    }
+
+    #[inline(always)]
+    fn act(&mut self, words: &mut Vec<u64>) -> Turn<Result<bool, EraSpent>> {
+        let ask = self.ask();
+        let seen = make_step(words, ask);
+        self.take(seen)
     }
 
     ghost laws = { machines.down_laws step_keeps };
@@ -314,6 +328,13 @@ impl Machine for StepChange {
             None => Turn::More,
             Some(answer) => Turn::Done(answer),
         }
+    }
+
+    #[inline(always)]
+    fn act(&mut self, words: &mut Vec<u64>) -> Turn<Result<bool, UpFault>> {
+        let ask = self.ask();
+        let seen = make_step(words, ask);
+        self.take(seen)
     }
 
     ghost laws = { machines.change_laws step_keeps };

@@ -9,7 +9,7 @@ ghost use Rattle.shm_count.specs.Tear.Keeps.{tear_laws};
 
 use crate::answer::EraSpent;
 use crate::tear_point::{TearNext, TearPoint, TearState};
-use shm_graph::{Ask, Machine, Me, Turn};
+use shm_graph::{Ask, Machine, Me, Turn, make_step};
 use std::marker::Model;
 
 impl TearState {
@@ -123,6 +123,13 @@ impl Machine for TearDown {
             None => Turn::More,
             Some(answer) => Turn::Done(answer),
         }
+    }
+
+    #[inline(always)]
+    fn act(&mut self, words: &mut Vec<u64>) -> Turn<Result<(), EraSpent>> {
+        let ask = self.ask();
+        let seen = make_step(words, ask);
+        self.take(seen)
     }
 
     ghost laws = { tear_laws };

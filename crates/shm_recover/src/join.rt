@@ -9,7 +9,7 @@ ghost use Rattle.shm_graph.specs.Bounds.{join_steps};
 ghost use Rattle.shm_recover.specs.Join.{join_control, join_fresh, JoinFits, JoinGives};
 ghost use Rattle.shm_recover.specs.Join.Keeps.{join_laws};
 
-use shm_graph::{Ask, Machine, Me, Turn};
+use shm_graph::{Ask, Machine, Me, Turn, make_step};
 use std::marker::Model;
 
 /// How far a join has come.
@@ -104,6 +104,13 @@ impl Machine for Join {
     fn take(&mut self, _seen: u64) -> Turn<()> {
         self.state.point = JoinPoint::Over;
         Turn::Done(())
+    }
+
+    #[inline(always)]
+    fn act(&mut self, words: &mut Vec<u64>) -> Turn<()> {
+        let ask = self.ask();
+        let seen = make_step(words, ask);
+        self.take(seen)
     }
 
     ghost laws = { join_laws };
