@@ -1,2 +1,5 @@
 pub mod Alone
 pub mod Lifting
+pub mod RootsEnd
+pub mod StepEnds
+pub mod TearEnds
