@@ -87,6 +87,7 @@ take_pays m Tear rs r t ds (First n) g = absurd g.0
 take_pays m Lower rs r t ds (Second (Second a)) g = absurd g.0
 take_pays m Tear rs r t ds (Second (First a)) g = absurd g.0
 
+-- a call begins with nothing known of the words
 take_begins : (m : TakeState) (y : TakePoint) (w : Spot → ℕ) → part_alone (take_call_at m y) w
 take_begins m Head w = tt
 take_begins m Tail w = tt
@@ -184,6 +185,7 @@ drain_pays m Item rs r t ds (Second (Err (fault.EraSpent e))) g = omega arith
 drain_pays m Status rs r t ds (Second a) g = absurd g.0
 drain_pays m Item rs r t ds (First n) g = absurd g.0
 
+-- a call begins with nothing known of the words
 drain_begins : (m : DrainState) (y : DrainPoint) (w : Spot → ℕ) → drain_call_alone (drain_call_at m y) w
 drain_begins m Status w = tt
 drain_begins m Item w = (tt, tt)

@@ -100,6 +100,7 @@ drop_pays m Lower r0 rs r tr t es ds (Second (Second a)) h g = absurd g
 drop_pays m Tear r0 rs r tr t es ds (First n) h g = absurd g
 drop_pays m Tear r0 rs r tr t es ds (Second (First a)) h g = absurd g
 
+-- a call begins with nothing known of the words
 drop_begins : (m : DropState) (y : DropPoint) (w : Spot → ℕ) → part_alone (drop_call_at m y) w
 drop_begins m Load w = tt
 drop_begins m Lower w = tt

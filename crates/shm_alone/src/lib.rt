@@ -1,3 +1,7 @@
 //! Laws of machines that work alone: where no other identity makes a word step, a machine of a closing ends.
 
 #![tactic(auto)]
+
+pub mod refs;
+
+pub use refs::{drains_end, drops_end, roots_end, takes_end};

@@ -1,0 +1,5 @@
+use Rattle.shm_alone.specs.RootsEnd.{drop_ends}
+use Rattle.shm_alone.proofs.refs.drops_end.Goals as goal
+
+pub returns-clause-ends : goal.returns-clause-ends
+returns-clause-ends c = drop_ends

@@ -1,0 +1,5 @@
+use Rattle.shm_alone.specs.QueuesEnd.{take_ends}
+use Rattle.shm_alone.proofs.refs.takes_end.Goals as goal
+
+pub returns-clause-ends : goal.returns-clause-ends
+returns-clause-ends c = take_ends
