@@ -113,12 +113,12 @@ take_ends =
       pays = λ m r0 rs r tr t es ds a h g held agent. take_pays m m.point rs r t ds a g;
     })
 
--- before its first word step it knows what it has to, and has this many left
-pub take_begin : (me : Me) (s : ℕ) (w : Spot → ℕ) → take_alone (calls_of take_plan (taking me s)) w
-take_begin me s w = (tt, tt)
+-- before its first word step it has this many left, and knows what it has to
+pub take_begin : (me : Me) (s : ℕ) → take_left (calls_of take_plan (taking me s)) ≡ 13
+take_begin me s = omega arith
 
-pub take_few : (me : Me) (s : ℕ) → take_left (calls_of take_plan (taking me s)) ≡ 13
-take_few me s = omega arith
+pub take_ready : (me : Me) (s : ℕ) (w : Spot → ℕ) → take_alone (calls_of take_plan (taking me s)) w
+take_ready me s w = (tt, tt)
 
 -- ---- a drain
 
@@ -207,9 +207,9 @@ drain_ends =
       pays = λ m r0 rs r tr t es ds a h g held agent. drain_pays m m.point rs r t ds a g;
     })
 
--- before its first word step it knows what it has to, and has this many left
-pub drain_begin : (me : Me) (w : Spot → ℕ) → drain_alone (calls_of drain_plan (draining me)) w
-drain_begin me w = (tt, tt)
+-- before its first word step it has this many left, and knows what it has to
+pub drain_begin : (me : Me) → drain_left (calls_of drain_plan (draining me)) ≡ 13 * me.geometry.clients + 14
+drain_begin me = omega arith
 
-pub drain_few : (me : Me) → drain_left (calls_of drain_plan (draining me)) ≡ 13 * me.geometry.clients + 14
-drain_few me = omega arith
+pub drain_ready : (me : Me) (w : Spot → ℕ) → drain_alone (calls_of drain_plan (draining me)) w
+drain_ready me w = (tt, tt)
