@@ -1,2 +1,4 @@
 pub mod Alone
+pub mod Lifting
 pub mod StepEnds
+pub mod TearEnds
