@@ -2,3 +2,4 @@ pub mod Alone
 pub mod Lifting
 pub mod StepEnds
 pub mod TearEnds
+pub mod TestEnds
