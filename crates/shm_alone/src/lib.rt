@@ -1,3 +1,7 @@
 //! Laws of machines that work alone: where no other identity makes a word step, a machine of a closing ends.
 
 #![tactic(auto)]
+
+pub mod counts;
+
+pub use counts::{steps_end, tears_end, tests_end};
