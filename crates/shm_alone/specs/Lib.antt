@@ -1,6 +1,7 @@
 pub mod Alone
 pub mod Lifting
-pub mod QueuesEnd
-pub mod RootsEnd
 pub mod StepEnds
 pub mod TearEnds
+pub mod TestEnds
+pub mod RootsEnd
+pub mod QueuesEnd

@@ -2,6 +2,8 @@
 
 #![tactic(auto)]
 
+pub mod counts;
 pub mod refs;
 
+pub use counts::{steps_end, tears_end, tests_end};
 pub use refs::{drains_end, drops_end, roots_end, takes_end};
