@@ -1,1 +1,9 @@
 pub mod Alone
+pub mod Lifting
+pub mod StepEnds
+pub mod TearEnds
+pub mod RootsEnd
+pub mod GiveEnds
+pub mod TakesEnds
+pub mod BackEnds
+pub mod ScanEnds
