@@ -14,17 +14,7 @@ use Rattle.shm_calls.specs.declared.or.Or.{Or}
 use Rattle.shm_calls.specs.declared.or.Or.TheVariants.{First, Second}
 use Rattle.shm_calls.specs.CallsControl.{calls_does, calls_of}
 use Rattle.shm_calls.specs.CallsFit.{CallsFits}
-use Rattle.shm_calls.specs.Either.{OrFits, or_control, or_does}
-use Rattle.shm_calls.specs.Words.{WordFits, word_control, word_does}
 use Rattle.shm_count.specs.declared.answer.EraSpent.{EraSpent}
-use Rattle.shm_count.specs.declared.point.StepState.{StepState}
-use Rattle.shm_count.specs.declared.tear_point.TearState.{TearState}
-use Rattle.shm_count.specs.Step.Events.{step_event}
-use Rattle.shm_count.specs.Step.Machines.{down_control}
-use Rattle.shm_count.specs.StepsAt.{DownFitsAt}
-use Rattle.shm_count.specs.Tear.Control.{tear_control}
-use Rattle.shm_count.specs.Tear.Events.{tear_event}
-use Rattle.shm_count.specs.Tear.{TearFits}
 use Rattle.shm_recover.specs.declared.take_back.BackPoint.{BackPoint}
 use Rattle.shm_recover.specs.declared.take_back.BackPoint.TheVariants.{Tail, Head, Slot, Lower, Tear}
 use Rattle.shm_recover.specs.declared.take_back.BackState.{BackState}
@@ -34,9 +24,8 @@ use Rattle.shm_recover.specs.TakeBack.{BackKnows, back_part, back_plan}
 use Rattle.shm_recover.specs.Machines.Recovering.{take_back}
 use Rattle.shm_alone.specs.Alone.{EndsAlone}
 use Rattle.shm_alone.specs.GiveEnds.{none_over}
-use Rattle.shm_alone.specs.Lifting.{anything, calls_alone, calls_left, or_alone, or_ends, or_left, or_saved, plain_calls_end, word_ends, word_left, word_saved}
-use Rattle.shm_alone.specs.StepEnds.{down_ends_at, step_alone, step_left, step_saved}
-use Rattle.shm_alone.specs.TearEnds.{tear_alone, tear_ends, tear_left, tear_saved}
+use Rattle.shm_alone.specs.Lifting.{anything, calls_alone, calls_left, plain_calls_end}
+use Rattle.shm_alone.specs.RootsEnd.{part_alone, part_ends, part_left, part_saved}
 
 -- how many word steps come behind the call at a point at most, but for those that events pay: 200 for each queue
 abbrev pub back_rest_at : BackState → BackPoint → ℕ
@@ -48,26 +37,16 @@ back_rest_at m y = 200 * (m.me.geometry.clients - m.passed) - 100
 abbrev pub back_rest : BackState → ℕ
 back_rest m = back_rest_at m m.point
 
--- what its calls know of the words, have left, and have over
-abbrev pub back_call_alone : BackCall → (Spot → ℕ) → Type 0
-back_call_alone = or_alone anything (or_alone step_alone tear_alone)
-
-abbrev pub back_call_left : BackCall → ℕ
-back_call_left = or_left word_left (or_left step_left tear_left)
-
-abbrev pub back_call_saved : BackAnswer → ℕ
-back_call_saved = or_saved word_saved (or_saved step_saved tear_saved)
-
 -- what it knows of the words, and how many word steps it has left
 abbrev pub back_alone : Calls BackState BackCall (Result (Unit {0}) EraSpent) BackAnswer → (Spot → ℕ) → Type 0
-back_alone = calls_alone back_call_alone anything
+back_alone = calls_alone part_alone anything
 
 abbrev pub back_left : Calls BackState BackCall (Result (Unit {0}) EraSpent) BackAnswer → ℕ
-back_left = calls_left back_call_left back_rest
+back_left = calls_left part_left back_rest
 
 -- the call that comes next is paid for
 abbrev IsPaidOff : BackState → ℕ → Option (Result (Unit {0}) EraSpent) → Type 0
-IsPaidOff m z o = Outcome o (back_call_left (back_call_at m m.point) + back_rest m ≤ z) (λ a. 0 ≤ z)
+IsPaidOff m z o = Outcome o (part_left (back_call_at m m.point) + back_rest m ≤ z) (λ a. 0 ≤ z)
 
 -- the next queue is paid by the steps of this one
 passed_paid : (m : BackState) (z : ℕ) → m.passed + 1 < m.me.geometry.clients → 200 * (m.me.geometry.clients - m.passed) - 100 ≤ z → IsPaidOff (passed m) z (passed_answer m)
@@ -79,7 +58,7 @@ passed_paid m z low most = go (is_last m)
 
 -- what a call has over pays for the next one
 back_paid : (m : BackState) (y : BackPoint) (a : BackAnswer) (r0 rs r : Memo) (tr t : Trail) (es ds : List Event) → BackKnows m y r0 rs tr es → (back_part m y).leaves (back_call_at m y) rs r t ds a
-    → IsPaidOff (back_after (record m { point = y }) a) (back_rest_at m y + back_call_saved a) (back_turns (record m { point = y }) a)
+    → IsPaidOff (back_after (record m { point = y }) a) (back_rest_at m y + part_saved a) (back_turns (record m { point = y }) a)
 back_paid m Tail (First n) r0 rs r tr t es ds h g = let l = h.low in omega arith
 back_paid m Head (First n) r0 rs r tr t es ds h g = go (nat_lt (m.at - n) 8)
   where
@@ -110,16 +89,8 @@ back_paid m Lower (Second (Second a)) r0 rs r tr t es ds h g = absurd g
 back_paid m Tear (First n) r0 rs r tr t es ds h g = absurd g
 back_paid m Tear (Second (First a)) r0 rs r tr t es ds h g = absurd g
 
--- its calls end alone
-back_part_ends : (m : BackState) → EndsAlone back_parts (back_part m m.point).does back_call_alone back_call_left back_call_saved (back_part m m.point).fits
-back_part_ends m =
-    let p : Spot = spot.Slot m.me.who (to_of m) (m.at % 8) in
-    or_ends word_control (or_control down_control tear_control) (WordFits (is_first m)) (OrFits (DownFitsAt p) TearFits) word_does (or_does (step_event p) tear_event) anything (or_alone step_alone tear_alone) word_left (or_left step_left tear_left) word_saved (or_saved step_saved tear_saved)
-    (word_ends (is_first m))
-    (or_ends down_control tear_control (DownFitsAt p) TearFits (step_event p) tear_event step_alone tear_alone step_left tear_left step_saved tear_saved (down_ends_at p) tear_ends)
-
 -- a call begins with what it knows of the words
-begins : (m : BackState) (y : BackPoint) (w : Spot → ℕ) → back_call_alone (back_call_at m y) w
+begins : (m : BackState) (y : BackPoint) (w : Spot → ℕ) → part_alone (back_call_at m y) w
 begins m Tail w = tt
 begins m Head w = tt
 begins m Slot w = tt
@@ -129,8 +100,8 @@ begins m Tear w = tt
 -- taking blocks back alone ends
 pub back_ends : EndsAlone take_back (calls_does back_parts back_plan) back_alone back_left none_over (CallsFits back_parts back_plan)
 back_ends =
-    plain_calls_end back_parts back_plan back_call_alone back_call_left back_call_saved back_rest none_over back_laws
-    (record { parts = back_part_ends; begins = λ m. begins m m.point; pays = λ m r0 rs r tr t es ds a h g held agent. back_paid m m.point a r0 rs r tr t es ds h g })
+    plain_calls_end back_parts back_plan part_alone part_left part_saved back_rest none_over back_laws
+    (record { parts = λ m. part_ends (is_first m) (spot.Slot m.me.who (to_of m) (m.at % 8)); begins = λ m. begins m m.point; pays = λ m r0 rs r tr t es ds a h g held agent. back_paid m m.point a r0 rs r tr t es ds h g })
 
 -- it has few word steps left before its first one
 pub back_few : (me : Me) → GeometryFits me.geometry → back_left (calls_of back_plan (taking_back me)) ≤ 10000

@@ -2,8 +2,12 @@ pub mod Alone
 pub mod Lifting
 pub mod StepEnds
 pub mod TearEnds
+pub mod TestEnds
 pub mod RootsEnd
 pub mod GiveEnds
 pub mod TakesEnds
 pub mod BackEnds
 pub mod ScanEnds
+pub mod LeaveEnds
+pub mod UnlatchEnds
+pub mod LowerEnds
