@@ -11,3 +11,5 @@ pub mod ScanEnds
 pub mod LeaveEnds
 pub mod UnlatchEnds
 pub mod LowerEnds
+pub mod MendEnds
+pub mod JoinEnds
