@@ -13,3 +13,4 @@ pub mod UnlatchEnds
 pub mod LowerEnds
 pub mod MendEnds
 pub mod JoinEnds
+pub mod RecoverEnds
