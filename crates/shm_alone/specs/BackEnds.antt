@@ -1,7 +1,7 @@
 -- blocks that are taken back, working alone: how many word steps come behind a call, and that they are paid for
 use Rattle.std.proofs.Common.{◌≡◌, ◌≢◌, ℕ, ◌+◌, ◌*◌, ◌-◌, ◌%◌, ◌<◌, ◌≤◌, refl, arith, Bool, true, false, List}
 use Rattle.std.specs.Prelude.{◌==◌, if◌then◌else◌, nat_lt, Some, None, Option, Result, Ok, Err}
-use Rattle.shm_words.specs.Layout.{GeometryFits, address_limit}
+use Rattle.shm_words.specs.Layout.{address_limit}
 use Rattle.shm_graph.specs.declared.ask.Me.{Me}
 use Rattle.shm_graph.specs.declared.memo.Memo.{Memo}
 use Rattle.shm_graph.specs.declared.spot.Spot.{Spot}
@@ -12,13 +12,13 @@ use Rattle.shm_graph.specs.Laws.{Outcome}
 use Rattle.shm_calls.specs.declared.calls.Calls.{Calls}
 use Rattle.shm_calls.specs.declared.or.Or.{Or}
 use Rattle.shm_calls.specs.declared.or.Or.TheVariants.{First, Second}
-use Rattle.shm_calls.specs.CallsControl.{calls_does, calls_of}
+use Rattle.shm_calls.specs.CallsControl.{calls_does}
 use Rattle.shm_calls.specs.CallsFit.{CallsFits}
 use Rattle.shm_count.specs.declared.answer.EraSpent.{EraSpent}
 use Rattle.shm_recover.specs.declared.take_back.BackPoint.{BackPoint}
 use Rattle.shm_recover.specs.declared.take_back.BackPoint.TheVariants.{Tail, Head, Slot, Lower, Tear}
 use Rattle.shm_recover.specs.declared.take_back.BackState.{BackState}
-use Rattle.shm_recover.specs.TakeBack.Control.{BackAnswer, BackCall, back_after, back_call_at, back_turns, is_last, passed, passed_answer, back_parts, is_first, taking_back, to_of}
+use Rattle.shm_recover.specs.TakeBack.Control.{BackAnswer, BackCall, back_after, back_call_at, back_turns, is_last, passed, passed_answer, back_parts, is_first, to_of}
 use Rattle.shm_recover.specs.TakeBack.Laws.{back_laws}
 use Rattle.shm_recover.specs.TakeBack.{BackKnows, back_part, back_plan}
 use Rattle.shm_recover.specs.Machines.Recovering.{take_back}
@@ -102,7 +102,3 @@ pub back_ends : EndsAlone take_back (calls_does back_parts back_plan) back_alone
 back_ends =
     plain_calls_end back_parts back_plan part_alone part_left part_saved back_rest none_over back_laws
     (record { parts = λ m. part_ends (is_first m) (spot.Slot m.me.who (to_of m) (m.at % 8)); begins = λ m. begins m m.point; pays = λ m r0 rs r tr t es ds a h g held agent. back_paid m m.point a r0 rs r tr t es ds h g })
-
--- it has few word steps left before its first one
-pub back_few : (me : Me) → GeometryFits me.geometry → back_left (calls_of back_plan (taking_back me)) ≤ 10000
-back_few me fits = let s = fits.clients in omega arith

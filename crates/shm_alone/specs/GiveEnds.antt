@@ -2,7 +2,6 @@
 use Rattle.std.proofs.Common.{◌≡◌, ◌≢◌, ℕ, ◌+◌, ◌*◌, ◌-◌, ◌^◌, ◌<◌, ◌≤◌, refl, arith, Bool, true, false}
 use Rattle.std.specs.Prelude.{◌==◌, if◌then◌else◌, List}
 use Rattle.std.proofs.lemmas.Bool.{eqb-false}
-use Rattle.shm_words.specs.Layout.{GeometryFits}
 use Rattle.shm_graph.specs.declared.ask.Me.{Me}
 use Rattle.shm_graph.specs.declared.memo.Memo.{Memo}
 use Rattle.shm_graph.specs.declared.spot.Spot.{Spot}
@@ -11,13 +10,13 @@ use Rattle.shm_graph.specs.Events.{Event}
 use Rattle.shm_graph.specs.Laws.{Outcome}
 use Rattle.shm_calls.specs.declared.calls.Calls.{Calls}
 use Rattle.shm_calls.specs.declared.word.Word.{Word}
-use Rattle.shm_calls.specs.CallsControl.{calls_does, calls_of}
+use Rattle.shm_calls.specs.CallsControl.{calls_does}
 use Rattle.shm_calls.specs.CallsFit.{CallsFits}
 use Rattle.shm_calls.specs.Words.{word_control}
 use Rattle.shm_recover.specs.declared.give_up.GivePoint.{GivePoint}
 use Rattle.shm_recover.specs.declared.give_up.GivePoint.TheVariants.{Look, Give, Status}
 use Rattle.shm_recover.specs.declared.give_up.GiveState.{GiveState}
-use Rattle.shm_recover.specs.GiveUp.Control.{after_word, giving_up, is_first, next_segment, turns_word}
+use Rattle.shm_recover.specs.GiveUp.Control.{after_word, is_first, next_segment, turns_word}
 use Rattle.shm_recover.specs.GiveUp.Laws.{give_laws}
 use Rattle.shm_recover.specs.GiveUp.{GiveKnows, give_plan}
 use Rattle.shm_recover.specs.Machines.Recovering.{give_up}
@@ -67,7 +66,3 @@ pub give_ends : EndsAlone give_up (calls_does word_control give_plan) give_alone
 give_ends =
     plain_calls_end word_control give_plan anything word_left word_saved give_rest none_over give_laws
     (record { parts = λ m. word_ends (is_first m); begins = λ m w. tt; pays = λ m r0 rs r tr t es ds n h g held agent. give_paid m m.point r0 rs tr es n h })
-
--- it has few word steps left before its first one
-pub give_few : (me : Me) → GeometryFits me.geometry → give_left (calls_of give_plan (giving_up me)) ≤ 1000
-give_few me fits = let s = fits.segments in omega arith

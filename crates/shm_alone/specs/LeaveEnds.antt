@@ -2,7 +2,6 @@
 use Rattle.std.proofs.Common.{◌≡◌, ◌≢◌, ℕ, ◌+◌, ◌*◌, ◌-◌, ◌<◌, ◌≤◌, refl, arith, Bool, true, false, List}
 use Rattle.std.specs.Prelude.{◌==◌, if◌then◌else◌, Result, Ok, Err}
 use Rattle.std.proofs.lemmas.Bool.{eqb-false}
-use Rattle.shm_words.specs.Layout.{GeometryFits}
 use Rattle.shm_graph.specs.declared.ask.Me.{Me}
 use Rattle.shm_graph.specs.declared.memo.Memo.{Memo}
 use Rattle.shm_graph.specs.declared.spot.Spot.{Spot}
@@ -11,7 +10,7 @@ use Rattle.shm_graph.specs.Events.{Event}
 use Rattle.shm_graph.specs.Laws.{Outcome}
 use Rattle.shm_calls.specs.declared.calls.Calls.{Calls}
 use Rattle.shm_calls.specs.declared.or.Or.TheVariants.{First, Second}
-use Rattle.shm_calls.specs.CallsControl.{calls_control, calls_does, calls_of}
+use Rattle.shm_calls.specs.CallsControl.{calls_control, calls_does}
 use Rattle.shm_calls.specs.CallsFit.{CallsFits}
 use Rattle.shm_calls.specs.Words.{WordFits, word_control, word_does}
 use Rattle.shm_count.specs.declared.answer.EraSpent.{EraSpent}
@@ -20,14 +19,14 @@ use Rattle.shm_ref.specs.DropRoots.{roots_plan}
 use Rattle.shm_recover.specs.declared.leave.LeavePoint.{LeavePoint}
 use Rattle.shm_recover.specs.declared.leave.LeavePoint.TheVariants.{Roots, Look, Give, Status}
 use Rattle.shm_recover.specs.declared.leave.LeaveState.{LeaveState}
-use Rattle.shm_recover.specs.Leave.Control.{LeaveAnswer, LeaveCall, is_roots, leave_after, leave_call_at, leave_next, leave_parts, leave_turns, leaving}
+use Rattle.shm_recover.specs.Leave.Control.{LeaveAnswer, LeaveCall, is_roots, leave_after, leave_call_at, leave_next, leave_parts, leave_turns}
 use Rattle.shm_recover.specs.Leave.Laws.{leave_laws}
 use Rattle.shm_recover.specs.Leave.{LeaveKnows, leave_plan}
 use Rattle.shm_recover.specs.Machines.{leave}
 use Rattle.shm_alone.specs.Alone.{EndsAlone}
 use Rattle.shm_alone.specs.GiveEnds.{none_over}
 use Rattle.shm_alone.specs.Lifting.{anything, calls_alone, calls_left, or_alone, or_ends, or_left, or_saved, plain_calls_end, word_ends, word_left, word_saved}
-use Rattle.shm_alone.specs.RootsEnd.{roots_alone, roots_begin, roots_end, roots_left, roots_saved}
+use Rattle.shm_alone.specs.RootsEnd.{roots_alone, roots_end, roots_left, roots_saved}
 
 -- how many word steps come behind the call at a point at most: two for each segment
 abbrev pub leave_rest_at : LeaveState → LeavePoint → ℕ
@@ -102,7 +101,3 @@ leave_ends =
       begins = λ m. begins m m.point;
       pays = λ m r0 rs r tr t es ds a h g held agent. leave_paid m m.point a r0 rs r tr t es ds h g;
     })
-
--- it has few word steps left before its first one
-pub leave_few : (me : Me) → GeometryFits me.geometry → leave_left (calls_of leave_plan (leaving me)) ≤ 1000
-leave_few me fits = let s = fits.segments in let k = roots_begin me in omega arith

@@ -3,7 +3,6 @@ use Rattle.std.proofs.Common.{ℕ, ◌+◌, ◌%◌, ◌^◌, ◌≤◌, arith, 
 use Rattle.std.specs.Prelude.{if◌then◌else◌, Option, Some, None}
 use Rattle.shm_words.specs.declared.redo.Redo.{Redo as ARedo}
 use Rattle.shm_words.specs.declared.redo.Redo.TheVariants as redos
-use Rattle.shm_words.specs.Layout.{GeometryFits}
 use Rattle.shm_words.specs.Redos.{redo_of}
 use Rattle.shm_graph.specs.declared.ask.Me.{Me}
 use Rattle.shm_graph.specs.declared.memo.Memo.{Memo}
@@ -13,7 +12,7 @@ use Rattle.shm_graph.specs.Events.{Event}
 use Rattle.shm_graph.specs.Laws.{Outcome}
 use Rattle.shm_calls.specs.declared.calls.Calls.{Calls}
 use Rattle.shm_calls.specs.declared.or.Or.TheVariants.{First, Second}
-use Rattle.shm_calls.specs.CallsControl.{calls_control, calls_does, calls_of}
+use Rattle.shm_calls.specs.CallsControl.{calls_control, calls_does}
 use Rattle.shm_calls.specs.CallsFit.{CallsFits}
 use Rattle.shm_calls.specs.Either.{OrFits, or_control, or_does}
 use Rattle.shm_calls.specs.Words.{WordFits, word_control, word_does}
@@ -23,7 +22,7 @@ use Rattle.shm_count.specs.CommitTest.{testing_plan}
 use Rattle.shm_recover.specs.declared.mend.MendPoint.{MendPoint}
 use Rattle.shm_recover.specs.declared.mend.MendPoint.TheVariants.{Dead, Era, Redo, Test, Slot, Close, Lower, Unlatch}
 use Rattle.shm_recover.specs.declared.mend.MendState.{MendState}
-use Rattle.shm_recover.specs.Mend.Control.{MendAnswer, MendCall, found_by, is_dead, is_first, is_second, mend_after, mend_call, mend_parts, mend_turns, mending, tested_at}
+use Rattle.shm_recover.specs.Mend.Control.{MendAnswer, MendCall, found_by, is_dead, is_first, is_second, mend_after, mend_call, mend_parts, mend_turns, tested_at}
 use Rattle.shm_recover.specs.Mend.Laws.{mend_laws}
 use Rattle.shm_recover.specs.Mend.Machines.{mend}
 use Rattle.shm_recover.specs.Mend.{mend_part, mend_plan}
@@ -148,7 +147,3 @@ pub mend_ends : EndsAlone mend (calls_does mend_parts mend_plan) mend_alone mend
 mend_ends =
     plain_calls_end mend_parts mend_plan mend_call_alone mend_call_left mend_call_saved mend_rest none_over mend_laws
     (record { parts = mend_part_ends; begins = λ m. begins m m.point; pays = λ m r0 rs r tr t es ds a h g held agent. mend_paid m m.point a rs r t ds g })
-
--- it has few word steps left before its first one
-pub mend_few : (me : Me) → GeometryFits me.geometry → mend_left (calls_of mend_plan (mending me)) ≤ 100
-mend_few me fits = let s = fits.clients in omega arith

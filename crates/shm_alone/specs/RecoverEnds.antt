@@ -1,7 +1,6 @@
 -- a recovery that works alone ends: how many word steps come behind a call, and that they are paid for
-use Rattle.std.proofs.Common.{ℕ, ◌+◌, ◌≤◌, arith, Bool, true, false, List}
+use Rattle.std.proofs.Common.{ℕ, ◌+◌, ◌*◌, ◌≤◌, arith, Bool, true, false, List}
 use Rattle.std.specs.Prelude.{◌==◌, if◌then◌else◌, Result, Ok, Err}
-use Rattle.shm_words.specs.Layout.{GeometryFits}
 use Rattle.shm_graph.specs.declared.ask.Me.{Me}
 use Rattle.shm_graph.specs.declared.memo.Memo.{Memo}
 use Rattle.shm_graph.specs.declared.spot.Spot.{Spot}
@@ -10,7 +9,7 @@ use Rattle.shm_graph.specs.Events.{Event}
 use Rattle.shm_graph.specs.Laws.{Outcome}
 use Rattle.shm_calls.specs.declared.calls.Calls.{Calls}
 use Rattle.shm_calls.specs.declared.or.Or.TheVariants.{First, Second}
-use Rattle.shm_calls.specs.CallsControl.{calls_does, calls_of}
+use Rattle.shm_calls.specs.CallsControl.{calls_does}
 use Rattle.shm_calls.specs.CallsFit.{CallsFits}
 use Rattle.shm_calls.specs.Either.{OrFits, or_control, or_does}
 use Rattle.shm_calls.specs.Words.{word_control}
@@ -29,9 +28,9 @@ use Rattle.shm_recover.specs.Mend.Control.{mend_parts}
 use Rattle.shm_recover.specs.Mend.Laws.{mend_laws}
 use Rattle.shm_recover.specs.Mend.{mend_plan}
 use Rattle.shm_recover.specs.Machines.Recovering.{recover}
-use Rattle.shm_recover.specs.Recover.Control.{RecoverAnswer, RecoverCall, back_control, finish_control, give_control, mend_control, recover_after, recover_call_at, recover_parts, recover_turns, recovering, roots_control, scan_control}
+use Rattle.shm_recover.specs.Recover.Control.{RecoverAnswer, RecoverCall, back_control, finish_control, give_control, mend_control, recover_after, recover_call_at, recover_parts, recover_turns, roots_control, scan_control}
 use Rattle.shm_recover.specs.Recover.Laws.{recover_laws}
-use Rattle.shm_recover.specs.Recover.{RecoverKnows, recover_part, recover_plan}
+use Rattle.shm_recover.specs.Recover.{recover_part, recover_plan}
 use Rattle.shm_recover.specs.Scan.Control.{scan_parts}
 use Rattle.shm_recover.specs.Scan.Laws.{scan_laws}
 use Rattle.shm_recover.specs.Scan.{scan_plan}
@@ -39,25 +38,25 @@ use Rattle.shm_recover.specs.TakeBack.Control.{back_parts}
 use Rattle.shm_recover.specs.TakeBack.Laws.{back_laws}
 use Rattle.shm_recover.specs.TakeBack.{back_plan}
 use Rattle.shm_alone.specs.Alone.{EndsAlone}
-use Rattle.shm_alone.specs.BackEnds.{back_alone, back_ends, back_few, back_left}
-use Rattle.shm_alone.specs.GiveEnds.{give_alone, give_ends, give_few, give_left, none_over}
+use Rattle.shm_alone.specs.BackEnds.{back_alone, back_ends, back_left}
+use Rattle.shm_alone.specs.GiveEnds.{give_alone, give_ends, give_left, none_over}
 use Rattle.shm_alone.specs.Lifting.{anything, calls_alone, calls_left, or_alone, or_ends, or_left, or_saved, plain_calls_end}
-use Rattle.shm_alone.specs.MendEnds.{mend_alone, mend_ends, mend_few, mend_left}
-use Rattle.shm_alone.specs.RootsEnd.{roots_alone, roots_begin, roots_end, roots_left, roots_saved}
-use Rattle.shm_alone.specs.ScanEnds.{scan_alone, scan_ends, scan_few, scan_left}
-use Rattle.shm_alone.specs.TakesEnds.{finish_alone, finish_ends, finish_few, finish_left}
+use Rattle.shm_alone.specs.MendEnds.{mend_alone, mend_ends, mend_left}
+use Rattle.shm_alone.specs.RootsEnd.{roots_alone, roots_end, roots_left, roots_saved}
+use Rattle.shm_alone.specs.ScanEnds.{scan_alone, scan_ends, scan_left}
+use Rattle.shm_alone.specs.TakesEnds.{finish_alone, finish_ends, finish_left}
 
--- how many word steps come behind the call at a point at most
-abbrev pub recover_rest_at : RecoverPoint → ℕ
-recover_rest_at Mend = 100012000
-recover_rest_at Roots = 100011100
-recover_rest_at Back = 100001100
-recover_rest_at Takes = 100001000
-recover_rest_at Scan = 1000
-recover_rest_at Give = 0
+-- how many word steps come behind the call at a point at most: those of the calls behind it
+abbrev pub recover_rest_at : Me → RecoverPoint → ℕ
+recover_rest_at me Mend = 204 * me.geometry.clients + 320002 * me.geometry.segments + 180
+recover_rest_at me Roots = 204 * me.geometry.clients + 320002 * me.geometry.segments + 4
+recover_rest_at me Back = 4 * me.geometry.clients + 320002 * me.geometry.segments + 3
+recover_rest_at me Takes = 320002 * me.geometry.segments + 2
+recover_rest_at me Scan = 2 * me.geometry.segments + 1
+recover_rest_at me Give = 0
 
 abbrev pub recover_rest : RecoverState → ℕ
-recover_rest m = recover_rest_at m.point
+recover_rest m = recover_rest_at m.me m.point
 
 -- what its calls know of the words, have left, and have over
 abbrev pub recover_call_alone : RecoverCall → (Spot → ℕ) → Type 0
@@ -81,57 +80,42 @@ abbrev recover_due : RecoverState → ℕ
 recover_due m = recover_call_left (recover_call_at m m.point) + recover_rest m
 
 -- on to the queues, or to the scan
-queues_paid : (m : RecoverState) (q : Bool) (y : RecoverPoint) (z : ℕ) → 100001000 ≤ z → recover_due (record m { point = Scan }) ≤ 100001000 → recover_due (record m { point = y }) ≤ z → recover_due (if q then record m { point = Scan } else record m { point = y }) ≤ z
-queues_paid m true y z most scan queue = omega arith
-queues_paid m false y z most scan queue = queue
-
--- the sizes are in range
-fits_at : (m : RecoverState) (y : RecoverPoint) (r0 r : Memo) (tr : Trail) (es : List Event) → RecoverKnows m y r0 r tr es → GeometryFits m.me.geometry
-fits_at m Mend r0 r tr es h = h.0.geometry
-fits_at m Roots r0 r tr es h = h.0.member.geometry
-fits_at m Back r0 r tr es h = h.0.member.geometry
-fits_at m Takes r0 r tr es h = h.0.member.geometry
-fits_at m Scan r0 r tr es h = h.0.member.geometry
-fits_at m Give r0 r tr es h = h.0.member.geometry
+queues_paid : (m : RecoverState) (q : Bool) (y : RecoverPoint) (z : ℕ) → 320002 * m.me.geometry.segments + 2 ≤ z → recover_due (record m { point = y }) ≤ z → recover_due (if q then record m { point = Scan } else record m { point = y }) ≤ z
+queues_paid m true y z scan queue = omega arith
+queues_paid m false y z scan queue = queue
 
 -- what a call has over pays for the next one
-recover_paid : (m : RecoverState) (y : RecoverPoint) (a : RecoverAnswer) (rs r : Memo) (t : Trail) (ds : List Event) → GeometryFits m.me.geometry → recover_part.leaves (recover_call_at m y) rs r t ds a
-    → Outcome (recover_turns a) (recover_due (recover_after (record m { point = y }) a) ≤ recover_rest_at y + recover_call_saved a) (λ u. 0 ≤ recover_rest_at y + recover_call_saved a)
-recover_paid m Mend (First u) rs r t ds h g = let k = roots_begin m.me in omega arith
-recover_paid m Roots (Second (First (Ok u))) rs r t ds h g =
-    let b = back_few m.me h in
-    let s = scan_few m.me h in
-    queues_paid (record m { point = Roots }) (m.me.geometry.clients == 1) Back (100011100 + 0) (omega arith) (omega arith) (omega arith)
-recover_paid m Roots (Second (First (Err e))) rs r t ds h g = omega arith
-recover_paid m Back (Second (Second (First (Ok u)))) rs r t ds h g =
-    let f = finish_few m.me h in
-    let s = scan_few m.me h in
-    queues_paid (record m { point = Back }) (m.me.geometry.clients == 1) Takes (100001100 + 0) (omega arith) (omega arith) (omega arith)
-recover_paid m Back (Second (Second (First (Err e)))) rs r t ds h g = omega arith
-recover_paid m Takes (Second (Second (Second (First u)))) rs r t ds h g = let s = scan_few m.me h in omega arith
-recover_paid m Scan (Second (Second (Second (Second (First (Ok n)))))) rs r t ds h g = let k = give_few m.me h in omega arith
-recover_paid m Scan (Second (Second (Second (Second (First (Err e)))))) rs r t ds h g = omega arith
-recover_paid m Give (Second (Second (Second (Second (Second u))))) rs r t ds h g = omega arith
-recover_paid m Mend (Second a) rs r t ds h g = absurd g
-recover_paid m Roots (First a) rs r t ds h g = absurd g
-recover_paid m Roots (Second (Second a)) rs r t ds h g = absurd g
-recover_paid m Back (First a) rs r t ds h g = absurd g
-recover_paid m Back (Second (First a)) rs r t ds h g = absurd g
-recover_paid m Back (Second (Second (Second a))) rs r t ds h g = absurd g
-recover_paid m Takes (First a) rs r t ds h g = absurd g
-recover_paid m Takes (Second (First a)) rs r t ds h g = absurd g
-recover_paid m Takes (Second (Second (First a))) rs r t ds h g = absurd g
-recover_paid m Takes (Second (Second (Second (Second a)))) rs r t ds h g = absurd g
-recover_paid m Scan (First a) rs r t ds h g = absurd g
-recover_paid m Scan (Second (First a)) rs r t ds h g = absurd g
-recover_paid m Scan (Second (Second (First a))) rs r t ds h g = absurd g
-recover_paid m Scan (Second (Second (Second (First a)))) rs r t ds h g = absurd g
-recover_paid m Scan (Second (Second (Second (Second (Second a))))) rs r t ds h g = absurd g
-recover_paid m Give (First a) rs r t ds h g = absurd g
-recover_paid m Give (Second (First a)) rs r t ds h g = absurd g
-recover_paid m Give (Second (Second (First a))) rs r t ds h g = absurd g
-recover_paid m Give (Second (Second (Second (First a)))) rs r t ds h g = absurd g
-recover_paid m Give (Second (Second (Second (Second (First a))))) rs r t ds h g = absurd g
+recover_paid : (m : RecoverState) (y : RecoverPoint) (a : RecoverAnswer) (rs r : Memo) (t : Trail) (ds : List Event) → recover_part.leaves (recover_call_at m y) rs r t ds a
+    → Outcome (recover_turns a) (recover_due (recover_after (record m { point = y }) a) ≤ recover_rest_at m.me y + recover_call_saved a) (λ u. 0 ≤ recover_rest_at m.me y + recover_call_saved a)
+recover_paid m Mend (First u) rs r t ds g = omega arith
+recover_paid m Roots (Second (First (Ok u))) rs r t ds g = queues_paid (record m { point = Roots }) (m.me.geometry.clients == 1) Back (recover_rest_at m.me Roots + 0) (omega arith) (omega arith)
+recover_paid m Roots (Second (First (Err e))) rs r t ds g = omega arith
+recover_paid m Back (Second (Second (First (Ok u)))) rs r t ds g = queues_paid (record m { point = Back }) (m.me.geometry.clients == 1) Takes (recover_rest_at m.me Back + 0) (omega arith) (omega arith)
+recover_paid m Back (Second (Second (First (Err e)))) rs r t ds g = omega arith
+recover_paid m Takes (Second (Second (Second (First u)))) rs r t ds g = omega arith
+recover_paid m Scan (Second (Second (Second (Second (First (Ok n)))))) rs r t ds g = omega arith
+recover_paid m Scan (Second (Second (Second (Second (First (Err e)))))) rs r t ds g = omega arith
+recover_paid m Give (Second (Second (Second (Second (Second u))))) rs r t ds g = omega arith
+recover_paid m Mend (Second a) rs r t ds g = absurd g
+recover_paid m Roots (First a) rs r t ds g = absurd g
+recover_paid m Roots (Second (Second a)) rs r t ds g = absurd g
+recover_paid m Back (First a) rs r t ds g = absurd g
+recover_paid m Back (Second (First a)) rs r t ds g = absurd g
+recover_paid m Back (Second (Second (Second a))) rs r t ds g = absurd g
+recover_paid m Takes (First a) rs r t ds g = absurd g
+recover_paid m Takes (Second (First a)) rs r t ds g = absurd g
+recover_paid m Takes (Second (Second (First a))) rs r t ds g = absurd g
+recover_paid m Takes (Second (Second (Second (Second a)))) rs r t ds g = absurd g
+recover_paid m Scan (First a) rs r t ds g = absurd g
+recover_paid m Scan (Second (First a)) rs r t ds g = absurd g
+recover_paid m Scan (Second (Second (First a))) rs r t ds g = absurd g
+recover_paid m Scan (Second (Second (Second (First a)))) rs r t ds g = absurd g
+recover_paid m Scan (Second (Second (Second (Second (Second a))))) rs r t ds g = absurd g
+recover_paid m Give (First a) rs r t ds g = absurd g
+recover_paid m Give (Second (First a)) rs r t ds g = absurd g
+recover_paid m Give (Second (Second (First a))) rs r t ds g = absurd g
+recover_paid m Give (Second (Second (Second (First a)))) rs r t ds g = absurd g
+recover_paid m Give (Second (Second (Second (Second (First a))))) rs r t ds g = absurd g
 
 -- its calls end alone
 recover_part_ends : EndsAlone recover_parts recover_part.does recover_call_alone recover_call_left recover_call_saved recover_part.fits
@@ -189,9 +173,5 @@ recover_ends =
     (record {
       parts = λ m. recover_part_ends;
       begins = λ m. begins m m.point;
-      pays = λ m r0 rs r tr t es ds a h g held agent. recover_paid m m.point a rs r t ds (fits_at m m.point r0 rs tr es h) g;
+      pays = λ m r0 rs r tr t es ds a h g held agent. recover_paid m m.point a rs r t ds g;
     })
-
--- so many word steps are left before its first one at most
-pub recover_few : (me : Me) → GeometryFits me.geometry → recover_left (calls_of recover_plan (recovering me)) ≤ 100012100
-recover_few me fits = let k = mend_few me fits in omega arith

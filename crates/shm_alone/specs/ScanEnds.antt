@@ -2,7 +2,6 @@
 use Rattle.std.proofs.Common.{◌≡◌, ◌≢◌, ℕ, ◌+◌, ◌*◌, ◌-◌, ◌%◌, ◌^◌, ◌<◌, ◌≤◌, refl, arith, Bool, true, false, List}
 use Rattle.std.specs.Prelude.{◌==◌, if◌then◌else◌, nat_lt, Some, None, Option, Result, Ok, Err}
 use Rattle.std.proofs.lemmas.Bool.{ltb-false, ltb-true}
-use Rattle.shm_words.specs.Layout.{GeometryFits}
 use Rattle.shm_graph.specs.declared.ask.Me.{Me}
 use Rattle.shm_graph.specs.declared.memo.Memo.{Memo}
 use Rattle.shm_graph.specs.declared.spot.Spot.{Spot}
@@ -12,7 +11,7 @@ use Rattle.shm_graph.specs.Laws.{Outcome}
 use Rattle.shm_calls.specs.declared.calls.Calls.{Calls}
 use Rattle.shm_calls.specs.declared.or.Or.{Or}
 use Rattle.shm_calls.specs.declared.or.Or.TheVariants.{First, Second}
-use Rattle.shm_calls.specs.CallsControl.{calls_does, calls_of}
+use Rattle.shm_calls.specs.CallsControl.{calls_does}
 use Rattle.shm_calls.specs.CallsFit.{CallsFits}
 use Rattle.shm_calls.specs.Either.{OrFits, or_does}
 use Rattle.shm_calls.specs.Grown.{Grows}
@@ -25,7 +24,7 @@ use Rattle.shm_count.specs.Tear.{TearFits}
 use Rattle.shm_recover.specs.declared.scan.ScanPoint.{ScanPoint}
 use Rattle.shm_recover.specs.declared.scan.ScanPoint.TheVariants.{Page, Header, Tear}
 use Rattle.shm_recover.specs.declared.scan.ScanState.{ScanState}
-use Rattle.shm_recover.specs.Scan.Control.{ScanAnswer, ScanCall, block_answer, block_passed, is_first, is_last, is_lost, page_answer, page_passed, scan_after, scan_call_at, scan_parts, scan_turns, scanning}
+use Rattle.shm_recover.specs.Scan.Control.{ScanAnswer, ScanCall, block_answer, block_passed, is_first, is_last, is_lost, page_answer, page_passed, scan_after, scan_call_at, scan_parts, scan_turns}
 use Rattle.shm_recover.specs.Scan.Laws.{scan_laws}
 use Rattle.shm_recover.specs.Scan.Words.{by_class}
 use Rattle.shm_recover.specs.Scan.{IsIn, ScanKnows, scan_part, scan_plan}
@@ -136,7 +135,3 @@ pub scan_ends : EndsAlone scan (calls_does scan_parts scan_plan) scan_alone scan
 scan_ends =
     plain_calls_end scan_parts scan_plan scan_call_alone scan_call_left scan_call_saved scan_rest none_over scan_laws
     (record { parts = scan_part_ends; begins = λ m. begins m m.point; pays = λ m r0 rs r tr t es ds a h g held agent. scan_paid m m.point a r0 rs r tr t es ds h g })
-
--- so many word steps are left before its first one at most
-pub scan_few : (me : Me) → GeometryFits me.geometry → scan_left (calls_of scan_plan (scanning me)) ≤ 100000000
-scan_few me fits = let s = fits.segments in omega arith

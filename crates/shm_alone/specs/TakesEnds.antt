@@ -1,7 +1,6 @@
 -- takes that are finished, working alone: how many word steps come behind one, and that they are paid for
 use Rattle.std.proofs.Common.{◌≡◌, ◌≢◌, ℕ, ◌+◌, ◌*◌, ◌-◌, ◌<◌, ◌≤◌, refl, arith, Bool, true, false, List}
 use Rattle.std.specs.Prelude.{◌==◌, if◌then◌else◌, nat_lt, Some, None, Option}
-use Rattle.shm_words.specs.Layout.{GeometryFits}
 use Rattle.shm_graph.specs.declared.ask.Me.{Me}
 use Rattle.shm_graph.specs.declared.memo.Memo.{Memo}
 use Rattle.shm_graph.specs.declared.spot.Spot.{Spot}
@@ -10,13 +9,13 @@ use Rattle.shm_graph.specs.Events.{Event}
 use Rattle.shm_graph.specs.Laws.{Outcome}
 use Rattle.shm_calls.specs.declared.calls.Calls.{Calls}
 use Rattle.shm_calls.specs.declared.word.Word.{Word}
-use Rattle.shm_calls.specs.CallsControl.{calls_does, calls_of}
+use Rattle.shm_calls.specs.CallsControl.{calls_does}
 use Rattle.shm_calls.specs.CallsFit.{CallsFits}
 use Rattle.shm_calls.specs.Words.{word_control}
 use Rattle.shm_recover.specs.declared.finish_takes.FinishPoint.{FinishPoint}
 use Rattle.shm_recover.specs.declared.finish_takes.FinishPoint.TheVariants.{Head, Tail, Slot, Store}
 use Rattle.shm_recover.specs.declared.finish_takes.FinishState.{FinishState}
-use Rattle.shm_recover.specs.FinishTakes.Control.{after_word, finishing, is_first, is_last, passed, passed_answer, turns_word}
+use Rattle.shm_recover.specs.FinishTakes.Control.{after_word, is_first, is_last, passed, passed_answer, turns_word}
 use Rattle.shm_recover.specs.FinishTakes.Laws.{finish_laws}
 use Rattle.shm_recover.specs.FinishTakes.{FinishKnows, finish_plan}
 use Rattle.shm_recover.specs.Machines.Recovering.{finish_takes}
@@ -73,7 +72,3 @@ pub finish_ends : EndsAlone finish_takes (calls_does word_control finish_plan) f
 finish_ends =
     plain_calls_end word_control finish_plan anything word_left word_saved finish_rest none_over finish_laws
     (record { parts = λ m. word_ends (is_first m); begins = λ m w. tt; pays = λ m r0 rs r tr t es ds n h g held agent. finish_paid m m.point r0 rs tr es n h })
-
--- it has few word steps left before its first one
-pub finish_few : (me : Me) → GeometryFits me.geometry → finish_left (calls_of finish_plan (finishing me)) ≤ 100
-finish_few me fits = let s = fits.clients in omega arith

@@ -1,3 +1,10 @@
 //! Laws of machines that work alone: where no other identity makes a word step, a machine of a closing ends.
 
 #![tactic(auto)]
+
+pub mod recovering;
+
+pub use recovering::{
+    finish_takes_ends, give_up_ends, join_ends, leave_ends, mend_ends, recover_ends, scan_ends,
+    take_back_ends,
+};
