@@ -1,10 +1,9 @@
 -- the second half of a change, as a recoverer that works alone makes it, ends: its exchange finds the header that it read
-use Rattle.std.proofs.Common.{◌≡◌, ℕ, ◌+◌, ◌<◌, ◌≤◌, refl, sym, ap, ◌∙◌, subst, arith, Bool, true, false, cond, eqb, List, []}
+use Rattle.std.proofs.Common.{◌≡◌, ℕ, ◌+◌, ◌≤◌, refl, sym, ap, ◌∙◌, subst, arith, Bool, true, false, cond, eqb, List, []}
 use Rattle.std.specs.Prelude.{◌==◌, if◌then◌else◌, nat_lt}
 use Rattle.std.proofs.lemmas.Bool.{eq-eqb}
 use Rattle.shm_words.specs.Headers.{header_of}
 use Rattle.shm_graph.specs.declared.ask.Ask.{Ask}
-use Rattle.shm_graph.specs.declared.ask.Me.{Me}
 use Rattle.shm_graph.specs.declared.memo.Memo.{Memo}
 use Rattle.shm_graph.specs.declared.spot.Spot.{Spot}
 use Rattle.shm_graph.specs.declared.spot.Spot.TheVariants.{Head}
@@ -25,7 +24,7 @@ use Rattle.shm_steps.specs.WordParts.{former_event}
 use Rattle.shm_recover.specs.declared.mend_lower.LoweringPoint.{LoweringPoint}
 use Rattle.shm_recover.specs.declared.mend_lower.LoweringPoint.TheVariants.{Header, Row, Show, Exchange, Close}
 use Rattle.shm_recover.specs.declared.mend_lower.LoweringState.{LoweringState}
-use Rattle.shm_recover.specs.MendLower.Control.{found, is_header, lowering_after, lowering_ask, lowering_call}
+use Rattle.shm_recover.specs.MendLower.Control.{found, lowering_ask, lowering_call}
 use Rattle.shm_recover.specs.MendLower.Headers.{half_block}
 use Rattle.shm_recover.specs.MendLower.{HasFound, LoweringKnows, lowering_part, lowering_plan}
 use Rattle.shm_alone.specs.Alone.{EndsAlone, IsLoss}

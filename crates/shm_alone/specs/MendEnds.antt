@@ -4,7 +4,6 @@ use Rattle.std.specs.Prelude.{if◌then◌else◌, Option, Some, None}
 use Rattle.shm_words.specs.declared.redo.Redo.{Redo as ARedo}
 use Rattle.shm_words.specs.declared.redo.Redo.TheVariants as redos
 use Rattle.shm_words.specs.Redos.{redo_of}
-use Rattle.shm_graph.specs.declared.ask.Me.{Me}
 use Rattle.shm_graph.specs.declared.memo.Memo.{Memo}
 use Rattle.shm_graph.specs.declared.spot.Spot.{Spot}
 use Rattle.shm_graph.specs.Asks.{Trail}

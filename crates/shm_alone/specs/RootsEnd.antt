@@ -100,6 +100,7 @@ drop_pays m Lower r0 rs r tr t es ds (Second (Second a)) h g = absurd g
 drop_pays m Tear r0 rs r tr t es ds (First n) h g = absurd g
 drop_pays m Tear r0 rs r tr t es ds (Second (First a)) h g = absurd g
 
+-- a call begins with nothing known of the words
 drop_begins : (m : DropState) (y : DropPoint) (w : Spot → ℕ) → part_alone (drop_call_at m y) w
 drop_begins m Load w = tt
 drop_begins m Lower w = tt
@@ -115,9 +116,12 @@ drop_ends =
       pays = λ m r0 rs r tr t es ds a h g held agent. drop_pays m m.point r0 rs r tr t es ds a h g;
     })
 
--- before its first word step it has this many left
+-- before its first word step it has this many left, and knows what it has to
 pub drop_begin : (me : Me) (k : ℕ) → drop_left (calls_of drop_plan (dropping me k)) ≡ 11
 drop_begin me k = omega arith
+
+pub drop_ready : (me : Me) (k : ℕ) (w : Spot → ℕ) → drop_alone (calls_of drop_plan (dropping me k)) w
+drop_ready me k w = (tt, tt)
 
 -- ---- a drop of all roots
 
@@ -160,6 +164,9 @@ roots_end =
       pays = λ m r0 rs r tr t es ds a h g held agent. roots_pays m a h.low;
     })
 
--- before its first word step it has this many left
+-- before its first word step it has this many left, and knows what it has to
 pub roots_begin : (me : Me) → roots_left (calls_of roots_plan (dropping_roots me)) ≡ 176
 roots_begin me = omega arith
+
+pub roots_ready : (me : Me) (w : Spot → ℕ) → roots_alone (calls_of roots_plan (dropping_roots me)) w
+roots_ready me w = ((tt, tt), tt)

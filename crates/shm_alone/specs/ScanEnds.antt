@@ -1,15 +1,13 @@
 -- a scan that works alone: how many word steps come behind a call, and that they are paid for
-use Rattle.std.proofs.Common.{◌≡◌, ◌≢◌, ℕ, ◌+◌, ◌*◌, ◌-◌, ◌%◌, ◌^◌, ◌<◌, ◌≤◌, refl, arith, Bool, true, false, List}
+use Rattle.std.proofs.Common.{◌≡◌, ℕ, ◌+◌, ◌*◌, ◌-◌, ◌%◌, ◌^◌, ◌<◌, ◌≤◌, refl, arith, Bool, true, false, List}
 use Rattle.std.specs.Prelude.{◌==◌, if◌then◌else◌, nat_lt, Some, None, Option, Result, Ok, Err}
 use Rattle.std.proofs.lemmas.Bool.{ltb-false, ltb-true}
-use Rattle.shm_graph.specs.declared.ask.Me.{Me}
 use Rattle.shm_graph.specs.declared.memo.Memo.{Memo}
 use Rattle.shm_graph.specs.declared.spot.Spot.{Spot}
 use Rattle.shm_graph.specs.Asks.{Trail}
 use Rattle.shm_graph.specs.Events.{Event}
 use Rattle.shm_graph.specs.Laws.{Outcome}
 use Rattle.shm_calls.specs.declared.calls.Calls.{Calls}
-use Rattle.shm_calls.specs.declared.or.Or.{Or}
 use Rattle.shm_calls.specs.declared.or.Or.TheVariants.{First, Second}
 use Rattle.shm_calls.specs.CallsControl.{calls_does}
 use Rattle.shm_calls.specs.CallsFit.{CallsFits}
@@ -17,7 +15,6 @@ use Rattle.shm_calls.specs.Either.{OrFits, or_does}
 use Rattle.shm_calls.specs.Grown.{Grows}
 use Rattle.shm_calls.specs.Words.{WordFits, word_control, word_does}
 use Rattle.shm_count.specs.declared.answer.EraSpent.{EraSpent}
-use Rattle.shm_count.specs.declared.tear_point.TearState.{TearState}
 use Rattle.shm_count.specs.Tear.Control.{tear_control}
 use Rattle.shm_count.specs.Tear.Events.{tear_event}
 use Rattle.shm_count.specs.Tear.{TearFits}
