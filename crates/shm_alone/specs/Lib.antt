@@ -5,3 +5,13 @@ pub mod TearEnds
 pub mod TestEnds
 pub mod RootsEnd
 pub mod QueuesEnd
+pub mod GiveEnds
+pub mod TakesEnds
+pub mod BackEnds
+pub mod ScanEnds
+pub mod LeaveEnds
+pub mod UnlatchEnds
+pub mod LowerEnds
+pub mod MendEnds
+pub mod JoinEnds
+pub mod RecoverEnds

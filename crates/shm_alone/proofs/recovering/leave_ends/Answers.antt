@@ -1,0 +1,5 @@
+use Rattle.shm_alone.specs.LeaveEnds.{leave_ends}
+use Rattle.shm_alone.proofs.recovering.leave_ends.Goals as goal
+
+pub returns-clause-ends : goal.returns-clause-ends
+returns-clause-ends c = leave_ends

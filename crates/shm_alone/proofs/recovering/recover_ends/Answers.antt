@@ -1,0 +1,5 @@
+use Rattle.shm_alone.specs.RecoverEnds.{recover_ends}
+use Rattle.shm_alone.proofs.recovering.recover_ends.Goals as goal
+
+pub returns-clause-ends : goal.returns-clause-ends
+returns-clause-ends c = recover_ends
