@@ -1,9 +1,10 @@
 //! The allocation of a block.
 
-ghost use Rattle.std.specs.Prelude.{◌≡◌, ◌≢◌, ◌<◌, ◌≤◌, ◌↔◌, ◌⊎◌, ℕ, IfOk, IfErr, is_err, false, true, length, take};
+ghost use Rattle.std.specs.Prelude.{◌≡◌, ◌≢◌, ◌<◌, ◌≤◌, ◌↔◌, ◌⊎◌, ℕ, IfOk, IfErr, is_err, false, true, length, slice_index, take, vec_len};
 ghost use Rattle.shm_words.specs.Layout.{GeometryFits};
+ghost use Rattle.shm_graph.specs.Asks.{at_of, seen_of, words_set};
 ghost use Rattle.shm_graph.specs.Laws.{turn_of};
-ghost use Rattle.shm_alloc.specs.Alloc.Control.{PointFits, alloc_ask, alloc_control, alloc_next};
+ghost use Rattle.shm_alloc.specs.Alloc.Control.{PointFits, alloc_ask, alloc_control, alloc_next, answer_of, point_of};
 ghost use Rattle.shm_alloc.specs.Alloc.{AllocFits, AllocGives};
 ghost use Rattle.shm_alloc.specs.Alloc.Laws.{alloc_laws};
 ghost use Rattle.shm_alloc.specs.declared.point.AllocPoint.TheVariants.{Era};
@@ -12,7 +13,7 @@ ghost use Rattle.shm_alloc.specs.declared.point.AllocNext.TheVariants.{Point};
 use crate::point::{AllocNext, AllocPoint, AllocState};
 use crate::request::Request;
 use shm_count::Made;
-use shm_graph::{Ask, Machine, Me, Turn, make_step};
+use shm_graph::{Ask, Machine, Me, Turn};
 use std::marker::Model;
 
 /// Why no block was made.
@@ -159,13 +160,14 @@ impl Alloc {
         self.state.point = point;
     }
 
-    /// Goes on by the word that was found, from wherever it is.
-    #[inline(never)]
-    fn take_any(&mut self, seen: u64) -> Turn<Result<Made, AllocFault>>
-        ensures machine { self.new ≡ alloc_control.after self.old seen }
-        ensures turn { result ≡ turn_of (alloc_control.turns self.old seen) }
+    /// Goes where the control leads.
+    #[inline(always)]
+    fn go_on(&mut self, next: AllocNext) -> Turn<Result<Made, AllocFault>>
+        requires { PointFits self.old.me self.old.request (point_of next) }
+        ensures machine { self.new ≡ record self.old { point = point_of next } }
+        ensures turn { result ≡ turn_of (answer_of next) }
     {
-        match self.state.next(seen) {
+        match next {
             AllocNext::Point(point) => {
                 self.go_to(point);
                 Turn::More
@@ -175,6 +177,28 @@ impl Alloc {
                 Turn::Done(answer)
             }
         }
+    }
+
+    /// Goes on by the word that was found, from wherever it is.
+    #[inline(never)]
+    fn take_any(&mut self, seen: u64) -> Turn<Result<Made, AllocFault>>
+        ensures machine { self.new ≡ alloc_control.after self.old seen }
+        ensures turn { result ≡ turn_of (alloc_control.turns self.old seen) }
+    {
+        let next = self.state.next(seen);
+        self.go_on(next)
+    }
+
+    /// Makes the word step that comes next, wherever it is, and goes on by the word that was found.
+    #[inline(never)]
+    fn act_any(&mut self, words: &mut Vec<u64>) -> Turn<Result<Made, AllocFault>>
+        requires { at_of (alloc_ask self.old) < vec_len words.old }
+        ensures words { words.new.items ≡ words_set (alloc_ask self.old) words.old.items }
+        ensures machine { let a = alloc_ask self.old in self.new ≡ alloc_control.after self.old (seen_of a (slice_index words.old.items (at_of a))) }
+        ensures turn { let a = alloc_ask self.old in result ≡ turn_of (alloc_control.turns self.old (seen_of a (slice_index words.old.items (at_of a)))) }
+    {
+        let next = self.state.act(words);
+        self.go_on(next)
     }
 }
 
@@ -215,9 +239,13 @@ impl Machine for Alloc {
 
     #[inline(always)]
     fn act(&mut self, words: &mut Vec<u64>) -> Turn<Result<Made, AllocFault>> {
-        let ask = self.ask();
-        let seen = make_step(words, ask);
-        self.take(seen)
+        match self.state.point {
+            AllocPoint::Header { .. } => {
+                let seen = words[self.header as usize];
+                self.take(seen)
+            }
+            _ => self.act_any(words),
+        }
     }
 
     ghost laws = { alloc_laws };

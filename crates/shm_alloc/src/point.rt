@@ -1,17 +1,18 @@
 //! The control of an allocation: which word it asks for, and where it goes by the word found.
 
-ghost use Rattle.std.specs.Prelude.{◌≡◌, ℕ, ◌+◌, ◌*◌, ◌^◌, ◌<◌, ◌≤◌, ◌/◌, false};
+ghost use Rattle.std.specs.Prelude.{◌≡◌, ℕ, ◌+◌, ◌*◌, ◌^◌, ◌<◌, ◌≤◌, ◌/◌, false, slice_index, vec_len};
 ghost use Rattle.shm_words.specs.declared.place.Place.TheVariants as place;
 ghost use Rattle.shm_words.specs.declared.redo.Redo.TheVariants as redos;
 ghost use Rattle.shm_words.specs.Layout.{GeometryFits, address, address_limit};
 ghost use Rattle.shm_words.specs.Redos.{redo_word};
+ghost use Rattle.shm_graph.specs.Asks.{at_of, seen_of, words_set};
 ghost use Rattle.shm_alloc.specs.Alloc.Control.{class_asked, header_made, block_of, is_search, RequestFits, SearchFits, PointFits, AllocInRange};
 ghost use Rattle.shm_alloc.specs.Alloc.Control as control;
 
 use crate::alloc::AllocFault;
 use crate::request::Request;
 use shm_count::Made;
-use shm_graph::{Ask, Me};
+use shm_graph::{Ask, Me, make_step};
 use shm_words::{Header, Redo};
 
 /// The own era that was read, and the root that is to name the block.
@@ -316,6 +317,46 @@ impl AllocState {
                 block,
             })),
             point => AllocNext::Point(point), // it has answered
+        }
+    }
+
+    /// Makes the word step that comes next, and tells where it goes by the word that was found.
+    #[inline(always)]
+    fn make(self, words: &mut Vec<u64>) -> AllocNext
+        requires range { AllocInRange self }
+        requires here { at_of (control.alloc_ask self) < vec_len words.old }
+        ensures words { words.new.items ≡ words_set (control.alloc_ask self) words.old.items }
+        ensures next { let a = control.alloc_ask self in result ≡ control.alloc_next self (seen_of a (slice_index words.old.items (at_of a))) }
+    {
+        let ask = self.ask();
+        let seen = make_step(words, ask);
+        self.next(seen)
+    }
+
+    /// The same, with an arm for each point, so that the compiler makes a piece of code for each and asks once where it is.
+    #[inline(always)]
+    pub fn act(self, words: &mut Vec<u64>) -> AllocNext
+        requires range { AllocInRange self }
+        requires here { at_of (control.alloc_ask self) < vec_len words.old }
+        ensures words { words.new.items ≡ words_set (control.alloc_ask self) words.old.items }
+        ensures next { let a = control.alloc_ask self in result ≡ control.alloc_next self (seen_of a (slice_index words.old.items (at_of a))) }
+    {
+        match self.point {
+            AllocPoint::Era => self.make(words),
+            AllocPoint::Root { .. } => self.make(words),
+            AllocPoint::Segment { .. } => self.make(words),
+            AllocPoint::Claim { .. } => self.make(words),
+            AllocPoint::Page { .. } => self.make(words),
+            AllocPoint::Class { .. } => self.make(words),
+            AllocPoint::Header { .. } => self.make(words),
+            AllocPoint::Tag { .. } => self.make(words),
+            AllocPoint::Reference { .. } => self.make(words),
+            AllocPoint::Plain { .. } => self.make(words),
+            AllocPoint::Redo { .. } => self.make(words),
+            AllocPoint::Commit { .. } => self.make(words),
+            AllocPoint::Slot { .. } => self.make(words),
+            AllocPoint::Close { .. } => self.make(words),
+            AllocPoint::Over => self.make(words),
         }
     }
 

@@ -1,17 +1,18 @@
 //! The control of a count step: which word it asks for, and where it goes by the word found.
 
-ghost use Rattle.std.specs.Prelude.{◌≡◌, ◌≢◌, ◌+◌, ◌<◌, ◌≤◌, ◌^◌, true};
+ghost use Rattle.std.specs.Prelude.{◌≡◌, ◌≢◌, ◌+◌, ◌<◌, ◌≤◌, ◌^◌, true, slice_index, vec_len};
 ghost use Rattle.shm_words.specs.Layout.{GeometryFits, address_limit};
 ghost use Rattle.shm_words.specs.Headers.{header_of};
 ghost use Rattle.shm_words.specs.Redos.{redo_word};
 ghost use Rattle.shm_graph.specs.declared.ask.Ask.TheVariants as asks;
+ghost use Rattle.shm_graph.specs.Asks.{at_of, seen_of, words_set};
 ghost use Rattle.shm_count.specs.Step.Control.{AimSmall, EraFits, PartFits, CountFits, StepInRange};
 ghost use Rattle.shm_count.specs.Step.Control as control;
 ghost use Rattle.shm_count.specs.Step.Exchanged as exchanging;
 ghost use Rattle.shm_count.specs.declared.point.StepPoint.TheVariants as point;
 
 use crate::answer::UpFault;
-use shm_graph::{Ask, Me};
+use shm_graph::{Ask, Me, make_step};
 use shm_words::{Header, Redo};
 
 /// What a count step does to the reference word that is its slot.
@@ -277,6 +278,40 @@ impl StepState {
             }),
             StepPoint::Close { era, part, zero } => self.closed(era, part, zero),
             StepPoint::Over => StepNext::Point(StepPoint::Over),
+        }
+    }
+
+    /// Makes the word step that comes next, and tells where it goes by the word that was found.
+    #[inline(always)]
+    fn make(self, words: &mut Vec<u64>) -> StepNext
+        requires range { StepInRange self }
+        requires here { at_of (control.step_ask self) < vec_len words.old }
+        ensures words { words.new.items ≡ words_set (control.step_ask self) words.old.items }
+        ensures next { let a = control.step_ask self in result ≡ control.step_next self (seen_of a (slice_index words.old.items (at_of a))) }
+    {
+        let ask = self.ask();
+        let seen = make_step(words, ask);
+        self.next(seen)
+    }
+
+    /// The same, with an arm for each point, so that the compiler makes a piece of code for each and asks once where it is.
+    #[inline(always)]
+    pub fn act(self, words: &mut Vec<u64>) -> StepNext
+        requires range { StepInRange self }
+        requires here { at_of (control.step_ask self) < vec_len words.old }
+        ensures words { words.new.items ≡ words_set (control.step_ask self) words.old.items }
+        ensures next { let a = control.step_ask self in result ≡ control.step_next self (seen_of a (slice_index words.old.items (at_of a))) }
+    {
+        match self.point {
+            StepPoint::Era => self.make(words),
+            StepPoint::Redo { .. } => self.make(words),
+            StepPoint::Load { .. } => self.make(words),
+            StepPoint::Row { .. } => self.make(words),
+            StepPoint::Show { .. } => self.make(words),
+            StepPoint::Exchange { .. } => self.make(words),
+            StepPoint::Slot { .. } => self.make(words),
+            StepPoint::Close { .. } => self.make(words),
+            StepPoint::Over => self.make(words),
         }
     }
 

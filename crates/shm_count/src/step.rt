@@ -1,17 +1,18 @@
 //! Count steps as machines: a reference word comes to name a block, comes to be empty, or comes to name another block.
 
-ghost use Rattle.std.specs.Prelude.{◌≡◌, ◌+◌, ◌<◌, ◌≤◌, ◌^◌};
+ghost use Rattle.std.specs.Prelude.{◌≡◌, ◌+◌, ◌<◌, ◌≤◌, ◌^◌, slice_index, vec_len};
+ghost use Rattle.shm_graph.specs.Asks.{at_of, seen_of, words_set};
 ghost use Rattle.shm_words.specs.Layout.{GeometryFits, address_limit};
 ghost use Rattle.shm_count.specs.declared.point.Aim.TheVariants as aims;
 ghost use Rattle.shm_count.specs.declared.point.StepPoint.TheVariants.{Era, Redo};
-ghost use Rattle.shm_count.specs.Step.Control.{StepInRange, step_next, answer_of, step_control, is_over};
+ghost use Rattle.shm_count.specs.Step.Control.{StepInRange, step_ask, step_next, answer_of, point_of, step_control, is_over};
 ghost use Rattle.shm_count.specs.Step.Exchanged.{step_exchanged};
 ghost use Rattle.shm_count.specs.Step.Machines as machines;
 ghost use Rattle.shm_count.specs.Step.Keeps.{step_keeps};
 
 use crate::answer::{EraSpent, UpFault};
 use crate::point::{Aim, StepNext, StepPoint, StepState};
-use shm_graph::{Ask, Machine, Me, Turn, make_step};
+use shm_graph::{Ask, Machine, Me, Turn};
 use std::marker::Model;
 
 impl StepState {
@@ -37,15 +38,13 @@ impl StepState {
         matches!(self.point, StepPoint::Over)
     }
 
-    /// Takes the word that was found; its answer, once it is done.
+    /// Goes where the control leads; its answer, once it is done.
     #[inline(always)]
-    fn take(&mut self, seen: u64) -> Option<Result<bool, UpFault>>
-        requires { StepInRange self.old }
-        ensures state { self.new ≡ step_control.after self.old seen }
-        ensures answer { result ≡ answer_of (step_next self.old seen) }
-        ensures knows { StepInRange self.new }
+    fn go_on(&mut self, next: StepNext) -> Option<Result<bool, UpFault>>
+        ensures state { self.new ≡ record self.old { point = point_of next } }
+        ensures answer { result ≡ answer_of next }
     {
-        match self.next(seen) {
+        match next {
             StepNext::Point(point) => {
                 self.point = point;
                 None
@@ -55,6 +54,32 @@ impl StepState {
                 Some(answer)
             }
         }
+    }
+
+    /// Takes the word that was found; its answer, once it is done.
+    #[inline(always)]
+    fn take(&mut self, seen: u64) -> Option<Result<bool, UpFault>>
+        requires { StepInRange self.old }
+        ensures state { self.new ≡ step_control.after self.old seen }
+        ensures answer { result ≡ answer_of (step_next self.old seen) }
+        ensures knows { StepInRange self.new }
+    {
+        let next = self.next(seen);
+        self.go_on(next)
+    }
+
+    /// Makes the word step that comes next, and takes the word that was found; its answer, once it is done.
+    #[inline(never)]
+    fn act_on(&mut self, words: &mut Vec<u64>) -> Option<Result<bool, UpFault>>
+        requires range { StepInRange self.old }
+        requires here { at_of (step_ask self.old) < vec_len words.old }
+        ensures words { words.new.items ≡ words_set (step_ask self.old) words.old.items }
+        ensures state { let a = step_ask self.old in self.new ≡ step_control.after self.old (seen_of a (slice_index words.old.items (at_of a))) }
+        ensures answer { let a = step_ask self.old in result ≡ answer_of (step_next self.old (seen_of a (slice_index words.old.items (at_of a)))) }
+        ensures knows { StepInRange self.new }
+    {
+        let next = self.act(words);
+        self.go_on(next)
     }
 }
 
@@ -158,9 +183,10 @@ impl Machine for StepUp {
 
     #[inline(always)]
     fn act(&mut self, words: &mut Vec<u64>) -> Turn<Result<(), UpFault>> {
-        let ask = self.ask();
-        let seen = make_step(words, ask);
-        self.take(seen)
+        match self.state.act_on(words) {
+            None => Turn::More,
+            Some(answer) => Turn::Done(up_answer(answer)),
+        }
     }
 
     ghost laws = { machines.up_laws step_keeps };
@@ -244,9 +270,10 @@ impl Machine for StepDown {
 
     #[inline(always)]
     fn act(&mut self, words: &mut Vec<u64>) -> Turn<Result<bool, EraSpent>> {
-        let ask = self.ask();
-        let seen = make_step(words, ask);
-        self.take(seen)
+        match self.state.act_on(words) {
+            None => Turn::More,
+            Some(answer) => Turn::Done(down_answer(answer)),
+        }
     }
 
     ghost laws = { machines.down_laws step_keeps };
@@ -332,9 +359,10 @@ impl Machine for StepChange {
 
     #[inline(always)]
     fn act(&mut self, words: &mut Vec<u64>) -> Turn<Result<bool, UpFault>> {
-        let ask = self.ask();
-        let seen = make_step(words, ask);
-        self.take(seen)
+        match self.state.act_on(words) {
+            None => Turn::More,
+            Some(answer) => Turn::Done(answer),
+        }
     }
 
     ghost laws = { machines.change_laws step_keeps };

@@ -1,15 +1,16 @@
 //! The tear-down of a block whose count came to 0, as a machine.
 
-ghost use Rattle.std.specs.Prelude.{◌≡◌, ◌<◌, ◌^◌};
+ghost use Rattle.std.specs.Prelude.{◌≡◌, ◌<◌, ◌^◌, slice_index, vec_len};
 ghost use Rattle.shm_words.specs.Layout.{GeometryFits, address_limit};
+ghost use Rattle.shm_graph.specs.Asks.{at_of, seen_of, words_set};
 ghost use Rattle.shm_count.specs.declared.tear_point.TearPoint.TheVariants.{Begin};
-ghost use Rattle.shm_count.specs.Tear.Control.{TearInRange, tear_next, answer_of, tear_control, is_over};
+ghost use Rattle.shm_count.specs.Tear.Control.{TearInRange, tear_ask, tear_next, answer_of, block_of, point_of, tear_control, is_over};
 ghost use Rattle.shm_count.specs.Tear.{TearFits, TearGives};
 ghost use Rattle.shm_count.specs.Tear.Keeps.{tear_laws};
 
 use crate::answer::EraSpent;
 use crate::tear_point::{TearNext, TearPoint, TearState};
-use shm_graph::{Ask, Machine, Me, Turn, make_step};
+use shm_graph::{Ask, Machine, Me, Turn};
 use std::marker::Model;
 
 impl TearState {
@@ -34,15 +35,13 @@ impl TearState {
         matches!(self.point, TearPoint::Over)
     }
 
-    /// Takes the word that was found; its answer, once it is done.
+    /// Goes where the control leads; its answer, once it is done.
     #[inline(always)]
-    fn take(&mut self, seen: u64) -> Option<Result<(), EraSpent>>
-        requires { TearInRange self.old }
-        ensures state { self.new ≡ tear_control.after self.old seen }
-        ensures answer { result ≡ answer_of (tear_next self.old seen) }
-        ensures knows { TearInRange self.new }
+    fn go_on(&mut self, next: TearNext) -> Option<Result<(), EraSpent>>
+        ensures state { self.new ≡ record self.old { block = block_of self.old.block next; point = point_of next } }
+        ensures answer { result ≡ answer_of next }
     {
-        match self.next(seen) {
+        match next {
             TearNext::Go { block, point } => {
                 self.block = block;
                 self.point = point;
@@ -53,6 +52,32 @@ impl TearState {
                 Some(answer)
             }
         }
+    }
+
+    /// Takes the word that was found; its answer, once it is done.
+    #[inline(always)]
+    fn take(&mut self, seen: u64) -> Option<Result<(), EraSpent>>
+        requires { TearInRange self.old }
+        ensures state { self.new ≡ tear_control.after self.old seen }
+        ensures answer { result ≡ answer_of (tear_next self.old seen) }
+        ensures knows { TearInRange self.new }
+    {
+        let next = self.next(seen);
+        self.go_on(next)
+    }
+
+    /// Makes the word step that comes next, and takes the word that was found; its answer, once it is done.
+    #[inline(never)]
+    fn act_on(&mut self, words: &mut Vec<u64>) -> Option<Result<(), EraSpent>>
+        requires range { TearInRange self.old }
+        requires here { at_of (tear_ask self.old) < vec_len words.old }
+        ensures words { words.new.items ≡ words_set (tear_ask self.old) words.old.items }
+        ensures state { let a = tear_ask self.old in self.new ≡ tear_control.after self.old (seen_of a (slice_index words.old.items (at_of a))) }
+        ensures answer { let a = tear_ask self.old in result ≡ answer_of (tear_next self.old (seen_of a (slice_index words.old.items (at_of a)))) }
+        ensures knows { TearInRange self.new }
+    {
+        let next = self.act(words);
+        self.go_on(next)
     }
 }
 
@@ -127,9 +152,10 @@ impl Machine for TearDown {
 
     #[inline(always)]
     fn act(&mut self, words: &mut Vec<u64>) -> Turn<Result<(), EraSpent>> {
-        let ask = self.ask();
-        let seen = make_step(words, ask);
-        self.take(seen)
+        match self.state.act_on(words) {
+            None => Turn::More,
+            Some(answer) => Turn::Done(answer),
+        }
     }
 
     ghost laws = { tear_laws };

@@ -1,15 +1,16 @@
 //! The control of a tear-down: which word it asks for, and where it goes by the word found.
 
-ghost use Rattle.std.specs.Prelude.{◌≡◌, ◌≢◌, ◌+◌, ◌<◌, ◌≤◌, ◌^◌, true};
+ghost use Rattle.std.specs.Prelude.{◌≡◌, ◌≢◌, ◌+◌, ◌<◌, ◌≤◌, ◌^◌, true, slice_index, vec_len};
 ghost use Rattle.shm_words.specs.Layout.{GeometryFits, address_limit};
 ghost use Rattle.shm_words.specs.Tags.{TagFits};
+ghost use Rattle.shm_graph.specs.Asks.{at_of, seen_of, words_set};
 ghost use Rattle.shm_count.specs.Tear.Control.{TearInRange, TearPointFits};
 ghost use Rattle.shm_count.specs.Tear.Control as control;
 ghost use Rattle.shm_count.specs.Step.Control.{StepInRange};
 
 use crate::answer::{EraSpent, UpFault};
 use crate::point::{Aim, StepNext, StepPoint, StepState};
-use shm_graph::{Ask, Me};
+use shm_graph::{Ask, Me, make_step};
 use shm_words::{ADDRESS_LIMIT, Tag};
 
 /// The word step of a tear-down that comes next; `tag` is that of its block, whose link is the block to go on with.
@@ -137,6 +138,39 @@ impl TearState {
             TearPoint::Free { tag } => freed(tag),
             TearPoint::Return => self.go(word_or_free(tag_read(seen), 0)),
             TearPoint::Over => self.go(TearPoint::Over),
+        }
+    }
+
+    /// Makes the word step that comes next, and tells where it goes by the word that was found.
+    #[inline(always)]
+    fn make(self, words: &mut Vec<u64>) -> TearNext
+        requires range { TearInRange self }
+        requires here { at_of (control.tear_ask self) < vec_len words.old }
+        ensures words { words.new.items ≡ words_set (control.tear_ask self) words.old.items }
+        ensures next { let a = control.tear_ask self in result ≡ control.tear_next self (seen_of a (slice_index words.old.items (at_of a))) }
+    {
+        let ask = self.ask();
+        let seen = make_step(words, ask);
+        self.next(seen)
+    }
+
+    /// The same, with an arm for each point, so that the compiler makes a piece of code for each and asks once where it is.
+    #[inline(always)]
+    pub fn act(self, words: &mut Vec<u64>) -> TearNext
+        requires range { TearInRange self }
+        requires here { at_of (control.tear_ask self) < vec_len words.old }
+        ensures words { words.new.items ≡ words_set (control.tear_ask self) words.old.items }
+        ensures next { let a = control.tear_ask self in result ≡ control.tear_next self (seen_of a (slice_index words.old.items (at_of a))) }
+    {
+        match self.point {
+            TearPoint::Begin => self.make(words),
+            TearPoint::Enter { .. } => self.make(words),
+            TearPoint::Link { .. } => self.make(words),
+            TearPoint::Word { .. } => self.make(words),
+            TearPoint::Down { .. } => self.make(words),
+            TearPoint::Free { .. } => self.make(words),
+            TearPoint::Return => self.make(words),
+            TearPoint::Over => self.make(words),
         }
     }
 

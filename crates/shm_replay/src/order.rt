@@ -15,6 +15,7 @@ use shm_script::{Item, Trace};
 const MANY: u32 = 100_000;
 
 /// Gives a turn to the agents of an identity: a word step or a death, unless none of them has anything left to do.
+#[inline(always)]
 fn give_turn(agents: &mut Agents, trace: &Trace, pool: &mut PlainPool)
     requires seat { IsSeat trace.now pool.old agents.old.me.who agents.old }
     ensures seat { IsSeat trace.now pool.new agents.old.me.who agents.new }

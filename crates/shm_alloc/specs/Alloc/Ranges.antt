@@ -13,7 +13,7 @@ use Rattle.shm_alloc.specs.declared.point.AllocPoint.TheVariants.{Era, Root, Seg
 use Rattle.shm_alloc.specs.declared.point.AllocState.{AllocState}
 use Rattle.shm_alloc.specs.declared.point.AllocNext.{AllocNext}
 use Rattle.shm_alloc.specs.declared.point.AllocNext.TheVariants.{Point, Answer}
-use Rattle.shm_alloc.specs.Alloc.Control.{class_asked, first_page, first_header, segment_over, segment_taken, page_over, era_next, root_next, segment_next, claim_next, page_next, header_next, plain_from, references_from, alloc_next_at, alloc_next, GoalFits, SearchFits, PointFits, AllocInRange}
+use Rattle.shm_alloc.specs.Alloc.Control.{point_of, class_asked, first_page, first_header, segment_over, segment_taken, page_over, era_next, root_next, segment_next, claim_next, page_next, header_next, plain_from, references_from, alloc_next_at, alloc_next, GoalFits, SearchFits, PointFits, AllocInRange}
 use Rattle.shm_alloc.specs.BlockPlaces.{block_of_within, blocks_most, blocks_least}
 
 -- where it goes on, the point is in range
@@ -138,3 +138,11 @@ knows_after m n k p e =
       request = k.request;
       point = subst (NextFits m.me m.request) e (next_fits m.me m.request m.point n k.geometry k.point);
     }
+
+-- and so wherever it goes
+pub knows_next : (m : AllocState) (n : ℕ) → AllocInRange m → PointFits m.me m.request (point_of (alloc_next m n))
+knows_next m n k = go (alloc_next m n) refl
+  where
+    go : (z : AllocNext) → alloc_next m n ≡ z → PointFits m.me m.request (point_of z)
+    go (Point y) e = (knows_after m n k y e).point
+    go (Answer a) e = tt

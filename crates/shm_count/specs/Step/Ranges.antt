@@ -13,7 +13,7 @@ use Rattle.shm_count.specs.declared.point.StepPoint.TheVariants.{Era, Redo, Load
 use Rattle.shm_count.specs.declared.point.StepState.{StepState}
 use Rattle.shm_count.specs.declared.point.StepNext.{StepNext}
 use Rattle.shm_count.specs.declared.point.StepNext.TheVariants.{Point, Answer}
-use Rattle.shm_count.specs.Step.Control.{raises, era_next, header_next, row_next, committed_next, closed_next, step_next_at, step_next, PartFits, EraFits, PointFits, StepInRange}
+use Rattle.shm_count.specs.Step.Control.{point_of, raises, era_next, header_next, row_next, committed_next, closed_next, step_next_at, step_next, PartFits, EraFits, PointFits, StepInRange}
 
 -- where it goes on, the point is in range
 abbrev pub NextFits : Me → Aim → StepNext → Type 0
@@ -88,3 +88,11 @@ knows_after m n k y e =
       aim = k.aim;
       point = subst (NextFits m.me m.aim) e (next_fits m.me m.aim m.point n k.point);
     }
+
+-- and so wherever it goes
+pub knows_next : (m : StepState) (n : ℕ) → StepInRange m → StepInRange (record m { point = point_of (step_next m n) })
+knows_next m n k = go (step_next m n) refl
+  where
+    go : (z : StepNext) → step_next m n ≡ z → StepInRange (record m { point = point_of z })
+    go (Point y) e = knows_after m n k y e
+    go (Answer a) e = record { geometry = k.geometry; who = k.who; slot = k.slot; aim = k.aim; point = tt }

@@ -1,6 +1,11 @@
-use Rattle.std.proofs.Common.{sym}
-use Rattle.shm_count.specs.Step.Ranges.{knows_after}
+use Rattle.std.proofs.Common.{sym, ap, ◌∙◌, subst}
+use Rattle.shm_count.specs.declared.point.StepState.{StepState}
+use Rattle.shm_count.specs.declared.point.StepNext.{StepNext}
+use Rattle.shm_count.specs.Step.Control.{StepInRange, point_of}
+use Rattle.shm_count.specs.Step.Ranges.{knows_next}
 use Rattle.shm_count.proofs.point.StepState.take.Goals as goal
 
-pub returns-in-Point-clause-knows : goal.returns-in-Point-clause-knows
-returns-in-Point-clause-knows c = knows_after c.args.self.now c.args.seen c.requires c.in-Point.point (sym c.in-Point.ensures)
+pub returns-clause-knows : goal.returns-clause-knows
+returns-clause-knows c =
+    let m : StepState = c.args.self.now in
+    subst StepInRange (sym (c.go_on.ensures.state ∙ ap (λ (z : StepNext). record m { point = point_of z }) c.next-next.ensures)) (knows_next m _ c.requires)

@@ -1,6 +1,11 @@
-use Rattle.std.proofs.Common.{sym}
-use Rattle.shm_count.specs.Tear.Ranges.{knows_next}
+use Rattle.std.proofs.Common.{sym, ap, ◌∙◌, subst}
+use Rattle.shm_count.specs.declared.tear_point.TearState.{TearState}
+use Rattle.shm_count.specs.declared.tear_point.TearNext.{TearNext}
+use Rattle.shm_count.specs.Tear.Control.{TearInRange, block_of, point_of}
+use Rattle.shm_count.specs.Tear.Ranges.{knows_after}
 use Rattle.shm_count.proofs.tear_point.TearState.take.Goals as goal
 
-pub returns-in-Go-clause-knows : goal.returns-in-Go-clause-knows
-returns-in-Go-clause-knows c = knows_next c.args.self.now c.args.seen c.in-Go.block c.in-Go.point c.requires (sym c.in-Go.ensures)
+pub returns-clause-knows : goal.returns-clause-knows
+returns-clause-knows c =
+    let m : TearState = c.args.self.now in
+    subst TearInRange (sym (c.go_on.ensures.state ∙ ap (λ (z : TearNext). record m { block = block_of m.block z; point = point_of z }) c.next-next.ensures)) (knows_after m _ c.requires)
