@@ -1,11 +1,11 @@
 -- machines that work alone: no other identity makes a word step meanwhile, so that no exchange fails, and each word step is paid for
-use Rattle.std.specs.Prelude.{◌≡◌, ℕ, ◌+◌, ◌*◌, ◌<◌, Bool, false}
+use Rattle.std.specs.Prelude.{◌≡◌, ℕ, ◌+◌, ◌*◌, ◌<◌, false}
 use Rattle.shm_graph.specs.declared.spot.Spot.{Spot}
 use Rattle.shm_graph.specs.declared.memo.Memo.{Memo}
 use Rattle.shm_graph.specs.Spots.{spot_at}
 use Rattle.shm_graph.specs.Blocks.{classes}
 use Rattle.shm_graph.specs.Asks.{Trail, at_of, seen_of, words_after}
-use Rattle.shm_graph.specs.Events.{Event, Nothing, Alloc, Up, Down, ChangeUp, ChangeDown, Free}
+use Rattle.shm_graph.specs.Events.{Event, Nothing, Alloc, Up, ChangeUp}
 use Rattle.shm_graph.specs.Laws.{Control, Frame, Outcome, Stands}
 
 -- how many word steps an event pays for
@@ -25,14 +25,14 @@ weight Nothing = 0
 weight e = 1
 
 -- of a machine: which events it tells, what it knows of the words where nobody else steps, how many word steps it has left but for those that events pay, and how many of these an answer has over
-module _ {S A : Type 0} (k : Control S A) (does : S → ℕ → Event) (alone : S → (Spot → ℕ) → Type 0) (left : S → ℕ) (saved : A → ℕ) where
+module _ {S A : Type 0} (k : Control S A) (does : S → ℕ → Event) (knows : S → (Spot → ℕ) → Type 0) (left : S → ℕ) (saved : A → ℕ) where
   -- the step that found n makes no reference and no block; what the machine knows of the words holds afterwards; and the step is paid for
   pub record IsPaid (m : S) (n : ℕ) (after : Spot → ℕ) : Type 0 where
     pub loss : IsLoss (does m n)
-    pub alone : Outcome (k.turns m n) (alone (k.after m n) after) (λ a. Unit {0})
+    pub alone : Outcome (k.turns m n) (knows (k.after m n) after) (λ a. Unit {0})
     pub paid : Outcome (k.turns m n) (left (k.after m n) < left m + pay * weight (does m n)) (λ a. saved a < left m + pay * weight (does m n))
 
   -- from each Held state that fits, in any frame, where what it knows of the words holds, the step that is asked for is so
   abbrev pub EndsAlone : (S → Memo → Memo → Trail → Type 0) → Type 0
-  EndsAlone fits = (m : S) (r0 : Memo) (tr : Trail) (w : Spot → ℕ) (r : ℕ → Memo) (f : Frame) → k.finished m ≡ false → Stands (k.me m) w r f tr → fits m r0 (r (k.me m).who) tr → alone m w
+  EndsAlone fits = (m : S) (r0 : Memo) (tr : Trail) (w : Spot → ℕ) (r : ℕ → Memo) (f : Frame) → k.finished m ≡ false → Stands (k.me m) w r f tr → fits m r0 (r (k.me m).who) tr → knows m w
       → let p = spot_at (k.me m).geometry (classes w) (at_of (k.asks m)) in IsPaid m (seen_of (k.asks m) (w p)) (words_after w (k.asks m) p)
