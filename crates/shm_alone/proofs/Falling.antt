@@ -29,7 +29,7 @@ use Rattle.shm_graph.proofs.Spots.Spotting.{body_block, block_within}
 use Rattle.shm_graph.proofs.States.Counting.{has_place}
 use Rattle.shm_graph.proofs.States.Holders.{held_live_block}
 use Rattle.shm_alone.specs.Alone.{IsLoss, weight}
-use Rattle.shm_alone.specs.Size.{identities, places, addresses, size_of, IsCounted, IsAmong}
+use Rattle.shm_alone.specs.Size.{identities, places, addresses, size_of, IsCounted, IsHeldWithin}
 use Rattle.shm_alone.proofs.Shrinking.{size_most, part_same, down_less, held_less, free_less}
 
 -- ---- places
@@ -79,7 +79,7 @@ module _ (g : Geometry) (w : Spot → ℕ) (v : View) (h : HeldAt g w v) where
       go _ n at = absurd (n refl)
 
   -- an event that makes nothing takes away from the size as many as it is events
-  pub size_falls : (x : Event) (b : Graph) → IsAmong g.clients x → IsLoss x → Happens g w x (graph_of g w v) b → size_of b + weight x ≤ size_of (graph_of g w v)
+  pub size_falls : (x : Event) (b : Graph) → IsHeldWithin g.clients x → IsLoss x → Happens g w x (graph_of g w v) b → size_of b + weight x ≤ size_of (graph_of g w v)
   size_falls Nothing b l y e = let s = size_most b (graph_of g w v) (part_same (graph_of g w v) b e) in omega arith
   size_falls (Alloc c k x) b l y e = absurd y
   size_falls (Up c p x) b l y e = absurd y
@@ -98,7 +98,7 @@ module _ (g : Geometry) (w : Spot → ℕ) (v : View) (h : HeldAt g w v) where
 
 -- ---- the identity of an event
 
-among_of : (n c : ℕ) (o : Op) → c < n → IsAmong n (event_of c o)
+among_of : (n c : ℕ) (o : Op) → c < n → IsHeldWithin n (event_of c o)
 among_of n c (op.Change (Lowering Open) p a b e) l = l
 among_of n c (op.Alloc Begun (Root d k) b e) l = tt
 among_of n c (op.Up Begun p b e) l = tt
@@ -106,15 +106,15 @@ among_of n c (op.Down Begun p b e) l = tt
 among_of n c (op.Change (Raising Begun) p a b e) l = tt
 among_of n c _ l = tt
 
-among_if : (n : ℕ) (b : Bool) (x : Event) → IsAmong n x → IsAmong n (cond b x Nothing)
+among_if : (n : ℕ) (b : Bool) (x : Event) → IsHeldWithin n x → IsHeldWithin n (cond b x Nothing)
 among_if n true x h = h
 among_if n false x h = tt
 
-among_by : (n : ℕ) (m : Memo) (t : Step) (a : Ask) (p : Spot) → t.me.who < n → IsAmong n (event_by m t a p)
+among_by : (n : ℕ) (m : Memo) (t : Step) (a : Ask) (p : Spot) → t.me.who < n → IsHeldWithin n (event_by m t a p)
 among_by n m t (Exchange at from to) (Head b) l = among_if n (eqb t.seen from) _ (among_of n t.me.who m.op l)
 among_by n m t (Store at x) (Head b) l = among_if n (eqb x 0) (Free t.me.who b) tt
 among_by n m t _ p l = tt
 
 -- of a step of one of n identities
-pub among_on : (n : ℕ) (m : Memo) (t : Step) (p : Spot) → t.me.who < n → IsAmong n (event_on m t p)
+pub among_on : (n : ℕ) (m : Memo) (t : Step) (p : Spot) → t.me.who < n → IsHeldWithin n (event_on m t p)
 among_on n m t p l = among_by n m t t.ask p l

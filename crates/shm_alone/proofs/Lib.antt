@@ -1,3 +1,4 @@
 pub mod Sizes
 pub mod Shrinking
 pub mod Falling
+pub mod Paying

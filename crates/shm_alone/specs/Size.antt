@@ -47,6 +47,6 @@ IsCounted (Body b i) = (b < addresses) × (i < places)
 IsCounted _ = ⊥
 
 -- the identity whose reference is held over is one of n
-abbrev pub IsAmong : ℕ → Event → Type 0
-IsAmong n (ChangeDown c a) = c < n
-IsAmong n _ = Unit {0}
+abbrev pub IsHeldWithin : ℕ → Event → Type 0
+IsHeldWithin n (ChangeDown c a) = c < n
+IsHeldWithin n _ = Unit {0}
