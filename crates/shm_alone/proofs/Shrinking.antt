@@ -190,10 +190,10 @@ size_bound a =
     let l : sum_below addresses (λ d. one_if (a.live d)) ≤ addresses * 1 = sum_bound addresses 1 _ (λ d. if_one (a.live d)) in
     omega arith
 
-limits : identities * 1 + identities * (places * 1) + identities * (identities * (places * 1)) + addresses * (places * 1) + identities * 1 + addresses * 1 ≤ 2 ^ 30
+limits : identities * 1 + identities * (places * 1) + identities * (identities * (places * 1)) + addresses * (places * 1) + identities * 1 + addresses * 1 ≤ 2 ^ 25
 unfolding identities places addresses
 limits = omega arith
 
 -- a graph has at most so many references and blocks
-pub size_small : (a : Graph) → size_of a ≤ 2 ^ 30
+pub size_small : (a : Graph) → size_of a ≤ 2 ^ 25
 size_small a = let x = size_bound a in let y = limits in omega arith
