@@ -13,6 +13,11 @@ use Rattle.shm_graph.specs.Runs.{Leads, first_state}
 use Rattle.shm_graph.specs.Spots.{see}
 use Rattle.shm_graph.specs.Tells.{Tells, machine_steps}
 use Rattle.shm_graph.specs.Whole.{fits_now}
+use Rattle.shm_calls.specs.declared.calls.Calls.{Calls}
+use Rattle.shm_calls.specs.CallsControl.{calls_control, calls_does, calls_of}
+use Rattle.shm_calls.specs.CallsFit.{CallsFits, CallsGives}
+use Rattle.shm_calls.specs.CallsKeep.{calls_laws, calls_tells}
+use Rattle.shm_calls.specs.Plans.{PlanLaws, Planned}
 use Rattle.shm_plain.specs.Pools.{Pool, IsOf, IsRun, MayStep, memo_of, readied}
 use Rattle.shm_plain.specs.Calls.{Ran, Took, state_of, words}
 use Rattle.shm_plain.proofs.OwnTurns.{leads_after}
@@ -63,3 +68,8 @@ answers_alone k fits m enough c p q r0 answered x y before may of fit fresh ran 
       | inl e ↦ (e, last)
       | inr e ↦ (let none = ran.died e in absurd (omega arith))
     ]
+
+-- of a machine that makes the calls of a plan
+pub calls_last : {P C A B : Type 0} (k : Control C B) (q : Planned P C B A) → PlanLaws k q → (alone : Calls P C A B → (Spot → ℕ) → Type 0) (left : Calls P C A B → ℕ) (saved : A → ℕ) → EndsAlone (calls_control k q) (calls_does k q) alone left saved (CallsFits k q)
+    → (p : P) → ((w : Spot → ℕ) → alone (calls_of q p) w) → left (calls_of q p) ≤ 2 ^ 30 → (calls_control k q).fresh (calls_of q p) ≡ true → Lasts (calls_control k q) (CallsFits k q) (calls_of q p)
+calls_last k q laws alone left saved ends p knows small fresh = lasts (calls_control k q) (CallsFits k q) (CallsGives k q) (calls_laws k q laws) (calls_does k q) (calls_tells k q laws) alone left saved ends (calls_of q p) knows small fresh
