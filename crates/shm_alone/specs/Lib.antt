@@ -1,4 +1,5 @@
 pub mod Alone
+pub mod Size
 pub mod Lifting
 pub mod StepEnds
 pub mod TearEnds

@@ -364,6 +364,17 @@ module _ {M A : Type 0} (k : Control M A) (fits : M → Memo → Memo → Trail 
         | inr s ↦ up_to p m x q n y went s.0 s.1
       ]
 
+  -- each of them is one of the call, where the machine had made none before
+  pub died_spent : (p : Pool) (m : M) (x : ℕ) (q : Pool) (n : M) (y : ℕ) → Went p m x q n y → y ≡ 0 → 0 < x → k.fresh m ≡ true → y + length (memo_of q c).call ≡ x
+  died_spent p m x q n y went none some fresh =
+      elim went.same [
+        | inl s ↦ absurd (let e : y ≡ x = s.1 in omega arith)
+        | inr s ↦
+            let call : (memo_of q c).call ≡ went.trail =
+            ap (λ (z : Memo). z.call) (sym (ready_still q c s.0)) ∙ (ap (λ (b : Bool). call_before b (memo_of (readied q c) c).call) (sym s.1) ∙ (went.call ∙ ap (λ (b : Bool). call_before b (memo_of (readied p c) c).call ++ went.trail) fresh)) in
+            ap (λ (tr : Trail). y + length tr) call ∙ went.spent
+      ]
+
   -- what is left then
   pub died_ran : Steady k → (p : Pool) (m : M) (x : ℕ) (q : Pool) (n : M) (y : ℕ) → Went p m x q n y → IsRun q → IsOf p c k m → y ≡ 0 → Ran c (k.fresh m) false p q x y
   died_ran steady p m x q n y went run of none =

@@ -27,7 +27,7 @@ use Rattle.shm_plain.specs.Tracks.{kind_next}
 use Rattle.shm_plain.proofs.Turning.{ready_run}
 
 -- what leads on from where a run ends
-leads_after : (g : Geometry) (a : State) (ms ns : List Move) (b d : State) → Leads g a ms b → Leads g a (ms ++ ns) d → Leads g b ns d
+pub leads_after : (g : Geometry) (a : State) (ms ns : List Move) (b d : State) → Leads g a ms b → Leads g a (ms ++ ns) d → Leads g b ns d
 leads_after g a [] ns b d run all = subst (λ (s : State). Leads g s ns d) run all
 leads_after g a (m ∷ ms) ns b d run all = leads_after g (moved a m) ms ns b d run.2 all.2
 

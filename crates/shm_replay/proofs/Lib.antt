@@ -14,6 +14,7 @@ pub mod Dying
 pub mod Deaths
 pub mod Mending
 mod OwnEras
+mod Enough
 mod Visiting
 mod Reviving
 mod Giving

@@ -1,6 +1,5 @@
 -- one visit, by its parts
-use Rattle.std.proofs.Common.{◌≡◌, ℕ, Bool, true, false, Option, sym, ap, ◌∙◌, subst}
-use Rattle.std.specs.Prelude.{Some, None, IfSome}
+use Rattle.std.proofs.Common.{◌≡◌, ℕ, Bool, true, false, sym, ap, ◌∙◌, subst}
 use Rattle.shm_graph.specs.declared.memo.Memo.{Memo}
 use Rattle.shm_graph.specs.declared.run.Start.{Start}
 use Rattle.shm_graph.specs.Agents.{last_agent}
@@ -17,18 +16,6 @@ use Rattle.shm_steps.specs.Reparting.{map_in}
 use Rattle.shm_plain.specs.Pools.{IsRun, Pool, memo_of}
 use Rattle.shm_replay.specs.Closings.{HasTold, IsRecovery, IsVisit, IsWhole, MayVisit, SameTable}
 use Rattle.shm_replay.proofs.Telling.{grows_then, whole_grows}
-
--- what follows of an answer
-pub some_map : (P Q : Unit {0} → Type 0) (o : Option (Unit {0})) → ((u : Unit {0}) → P u → Q u) → IfSome o P → IfSome o Q
-some_map P Q None f h = tt
-some_map P Q (Some u) f h = f u h
-
-pub some_there : (P : Unit {0} → Type 0) (o : Option (Unit {0})) (u : Unit {0}) → o ≡ Some u → IfSome o P → P u
-some_there P o u e h = subst (λ (x : Option (Unit {0})). IfSome x P) e h
-
-pub some_three : (P Q R S : Unit {0} → Type 0) (o : Option (Unit {0})) → ((u : Unit {0}) → P u → Q u → R u → S u) → IfSome o P → IfSome o Q → IfSome o R → IfSome o S
-some_three P Q R S None f h k g = tt
-some_three P Q R S (Some u) f h k g = f u h k g
 
 -- whether the last agent died is what the caller says
 pub may_fell : (b : Bool) (m : Memo) → MayVisit b m → fell_by (last_agent m.agents) ≡ b

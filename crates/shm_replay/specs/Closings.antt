@@ -54,10 +54,6 @@ abbrev pub AreVisits : ℕ → ℕ → Pool → Pool → Type 0
 AreVisits c zero p q = q ≡ p
 AreVisits c (suc n) p q = (r : Pool) × IsVisit c p r × AreVisits (suc c) n r q
 
--- the agents of c made 2^40 word steps or more from p to q: all that one of them may make
-abbrev pub IsSpent : ℕ → Pool → Pool → Type 0
-IsSpent c p q = steps_made (memo_of p c) + 2 ^ 40 ≤ steps_made (memo_of q c)
-
 -- what was running of an agent that died is told, and more behind it
 abbrev pub HasTold : Account → Account → Type 0
 HasTold e f = (more : List LoggedLine) × (f.told ≡ told_left true e ++ more)

@@ -1,7 +1,6 @@
 //! The closing of a pool after a trace.
 
-ghost use Rattle.std.specs.Prelude.{◌≡◌, ◌≢◌, ◌+◌, ◌^◌, ◌<◌, ◌≤◌, ℕ, false, true, None, length, slice_index_or, IfSome};
-ghost use Rattle.std.specs.Option.{is_some};
+ghost use Rattle.std.specs.Prelude.{◌≡◌, ◌≢◌, ◌+◌, ◌^◌, ◌<◌, ◌≤◌, ℕ, true, None, length, slice_index_or};
 ghost use Rattle.shm_graph.specs.declared.memo.Status.TheVariants.{Gone};
 ghost use Rattle.shm_graph.specs.Agents.{steps_made};
 ghost use Rattle.shm_graph.specs.Runs.{account_at};
@@ -14,7 +13,7 @@ ghost use Rattle.shm_queue.specs.Drain.{drain_plan};
 ghost use Rattle.shm_recover.specs.Join.{join_control, join_fresh};
 ghost use Rattle.shm_recover.specs.Leave.Control.{leave_parts, leaving};
 ghost use Rattle.shm_recover.specs.Leave.{leave_plan};
-ghost use Rattle.shm_replay.specs.Closings.{AreVisits, HasTold, IsDead, IsIn, IsOut, IsRecovery, IsSpent, IsVisit, IsWhole, MayVisit, SameTable, is_dead};
+ghost use Rattle.shm_replay.specs.Closings.{AreVisits, HasTold, IsDead, IsIn, IsOut, IsRecovery, IsVisit, IsWhole, MayVisit, SameTable, is_dead};
 
 use crate::agents::{Agents, LIFE, Standing};
 use shm_calls::Calls;
@@ -23,120 +22,123 @@ use shm_plain::PlainPool;
 use shm_queue::Draining;
 use shm_recover::{Join, Leaving, Recovering};
 
-/// An identity whose last agent died is recovered; none where no word step was left.
-fn recover(pool: &mut PlainPool, me: Me, life: &mut Life) -> Option<()>
+/// An identity whose last agent died is recovered. Nobody else steps, so that 2^34 word steps are enough.
+fn recover(pool: &mut PlainPool, me: Me, life: &mut Life)
     requires geometry { me.geometry ≡ pool.old.start.geometry }
     requires who { me.who < pool.old.start.geometry.clients }
     requires dead { IsDead (memo_of pool.old me.who) }
     requires life { life.old.left ≤ 2 ^ 40 }
+    requires enough { 2 ^ 34 < life.old.left }
     requires era { pool.old.start.first_era ≡ 1 }
-    ensures whole { IfSome result (λ u. IsRecovery true me.who pool.old pool.new) }
-    ensures out { IfSome result (λ u. IsOut (memo_of pool.new me.who)) }
-    ensures table { IfSome result (λ u. SameTable (memo_of pool.old me.who) (memo_of pool.new me.who)) }
-    ensures told { IfSome result (λ u. HasTold (account_at pool.old.accounts me.who) (account_at pool.new.accounts me.who)) }
-    ensures ran { Ran me.who true (is_some result) pool.old pool.new life.old.left life.new.left }
+    ensures whole { IsRecovery true me.who pool.old pool.new }
+    ensures out { IsOut (memo_of pool.new me.who) }
+    ensures table { SameTable (memo_of pool.old me.who) (memo_of pool.new me.who) }
+    ensures told { HasTold (account_at pool.old.accounts me.who) (account_at pool.new.accounts me.who) }
+    ensures ran { Ran me.who true true pool.old pool.new life.old.left life.new.left }
 {
     pool.geometry();
-    pool.call(me.who, &mut Calls::new(Recovering::new(me)), life)?
+    pool.call(me.who, &mut Calls::new(Recovering::new(me)), life)
+        .unwrap()
         .unwrap();
-    Some(())
 }
 
-/// A client of the identity joins; none where no word step was left.
-fn join(pool: &mut PlainPool, me: Me, life: &mut Life) -> Option<()>
+/// A client of the identity joins. Nobody else steps, so that 2^34 word steps are enough.
+fn join(pool: &mut PlainPool, me: Me, life: &mut Life)
     requires geometry { me.geometry ≡ pool.old.start.geometry }
     requires who { me.who < pool.old.start.geometry.clients }
     requires out { IsOut (memo_of pool.old me.who) }
-    ensures whole { IfSome result (λ u. IsWhole join_control me.who pool.old (join_fresh (member pool.old.start.geometry me.who)) pool.new) }
-    ensures here { IfSome result (λ u. IsIn me.who (memo_of pool.new me.who)) }
-    ensures part { IfSome result (λ u. (memo_of pool.new me.who).part ≡ (memo_of pool.old me.who).part) }
-    ensures ran { Ran me.who true (is_some result) pool.old pool.new life.old.left life.new.left }
+    requires enough { 2 ^ 34 < life.old.left }
+    ensures whole { IsWhole join_control me.who pool.old (join_fresh (member pool.old.start.geometry me.who)) pool.new }
+    ensures here { IsIn me.who (memo_of pool.new me.who) }
+    ensures part { (memo_of pool.new me.who).part ≡ (memo_of pool.old me.who).part }
+    ensures ran { Ran me.who true true pool.old pool.new life.old.left life.new.left }
+    ensures rest { life.old.left ≤ life.new.left + 2 ^ 34 }
 {
     pool.geometry();
-    pool.call(me.who, &mut Join::new(me), life)
+    pool.call(me.who, &mut Join::new(me), life).unwrap();
 }
 
-/// The identity takes all that waits for it; none where no word step was left.
-fn drain(pool: &mut PlainPool, me: Me, life: &mut Life) -> Option<()>
+/// The identity takes all that waits for it. Nobody else steps, so that 2^34 word steps are enough.
+fn drain(pool: &mut PlainPool, me: Me, life: &mut Life)
     requires geometry { me.geometry ≡ pool.old.start.geometry }
     requires who { me.who < pool.old.start.geometry.clients }
     requires here { IsIn me.who (memo_of pool.old me.who) }
+    requires enough { 2 ^ 34 < life.old.left }
     requires era { pool.old.start.first_era ≡ 1 }
     requires few { steps_made (memo_of pool.old me.who) + life.old.left ≤ 2 ^ 43 }
-    ensures whole { IfSome result (λ u. IsWhole (calls_control drain_parts drain_plan) me.who pool.old (calls_of drain_plan (draining (member pool.old.start.geometry me.who))) pool.new) }
-    ensures here { IfSome result (λ u. IsIn me.who (memo_of pool.new me.who)) }
-    ensures part { IfSome result (λ u. (memo_of pool.new me.who).part ≡ (memo_of pool.old me.who).part) }
-    ensures ran { Ran me.who true (is_some result) pool.old pool.new life.old.left life.new.left }
+    ensures whole { IsWhole (calls_control drain_parts drain_plan) me.who pool.old (calls_of drain_plan (draining (member pool.old.start.geometry me.who))) pool.new }
+    ensures here { IsIn me.who (memo_of pool.new me.who) }
+    ensures part { (memo_of pool.new me.who).part ≡ (memo_of pool.old me.who).part }
+    ensures ran { Ran me.who true true pool.old pool.new life.old.left life.new.left }
+    ensures rest { life.old.left ≤ life.new.left + 2 ^ 34 }
 {
     pool.geometry();
-    pool.call(me.who, &mut Calls::new(Draining::new(me)), life)?
+    pool.call(me.who, &mut Calls::new(Draining::new(me)), life)
+        .unwrap()
         .unwrap();
-    Some(())
 }
 
-/// The identity leaves; none where no word step was left.
-fn leave(pool: &mut PlainPool, me: Me, life: &mut Life) -> Option<()>
+/// The identity leaves. Nobody else steps, so that 2^34 word steps are enough.
+fn leave(pool: &mut PlainPool, me: Me, life: &mut Life)
     requires geometry { me.geometry ≡ pool.old.start.geometry }
     requires who { me.who < pool.old.start.geometry.clients }
     requires here { IsIn me.who (memo_of pool.old me.who) }
+    requires enough { 2 ^ 34 < life.old.left }
     requires era { pool.old.start.first_era ≡ 1 }
     requires few { steps_made (memo_of pool.old me.who) + life.old.left ≤ 2 ^ 43 }
-    ensures whole { IfSome result (λ u. IsWhole (calls_control leave_parts leave_plan) me.who pool.old (calls_of leave_plan (leaving (member pool.old.start.geometry me.who))) pool.new) }
-    ensures gone { IfSome result (λ u. (memo_of pool.new me.who).status ≡ Gone) }
-    ensures part { IfSome result (λ u. (memo_of pool.new me.who).part ≡ (memo_of pool.old me.who).part) }
-    ensures ran { Ran me.who true (is_some result) pool.old pool.new life.old.left life.new.left }
+    ensures whole { IsWhole (calls_control leave_parts leave_plan) me.who pool.old (calls_of leave_plan (leaving (member pool.old.start.geometry me.who))) pool.new }
+    ensures gone { (memo_of pool.new me.who).status ≡ Gone }
+    ensures part { (memo_of pool.new me.who).part ≡ (memo_of pool.old me.who).part }
+    ensures ran { Ran me.who true true pool.old pool.new life.old.left life.new.left }
 {
     pool.geometry();
-    pool.call(me.who, &mut Calls::new(Leaving::new(me)), life)?
+    pool.call(me.who, &mut Calls::new(Leaving::new(me)), life)
+        .unwrap()
         .unwrap();
-    Some(())
 }
 
-/// The identity is recovered where its last agent died, so that a client may join; none where the recoverer had no word step left.
-fn revive(pool: &mut PlainPool, me: Me, dead: bool) -> Option<()>
+/// The identity is recovered where its last agent died, so that a client may join.
+fn revive(pool: &mut PlainPool, me: Me, dead: bool)
     requires geometry { me.geometry ≡ pool.old.start.geometry }
     requires who { me.who < pool.old.start.geometry.clients }
     requires may { MayVisit dead (memo_of pool.old me.who) }
     requires era { pool.old.start.first_era ≡ 1 }
-    ensures recovery { IfSome result (λ u. IsRecovery dead me.who pool.old pool.new) }
-    ensures out { IfSome result (λ u. IsOut (memo_of pool.new me.who)) }
-    ensures table { IfSome result (λ u. SameTable (memo_of pool.old me.who) (memo_of pool.new me.who)) }
-    ensures told { IfSome result (λ u. dead ≡ true → HasTold (account_at pool.old.accounts me.who) (account_at pool.new.accounts me.who)) }
-    ensures spent { is_some result ≡ false → IsSpent me.who pool.old pool.new }
-    ensures grows { steps_made (memo_of pool.old me.who) ≤ steps_made (memo_of pool.new me.who) }
+    ensures recovery { IsRecovery dead me.who pool.old pool.new }
+    ensures out { IsOut (memo_of pool.new me.who) }
+    ensures table { SameTable (memo_of pool.old me.who) (memo_of pool.new me.who) }
+    ensures told { dead ≡ true → HasTold (account_at pool.old.accounts me.who) (account_at pool.new.accounts me.who) }
     ensures others { (d : ℕ) → d ≢ me.who → account_at pool.new.accounts d ≡ account_at pool.old.accounts d }
     ensures start { pool.new.start ≡ pool.old.start }
     ensures run { IsRun pool.new }
 {
     pool.geometry();
     if !dead {
-        return Some(());
+        return;
     }
-    recover(pool, me, &mut Life::of(LIFE))
+    recover(pool, me, &mut Life::of(LIFE));
 }
 
 /// The identity is recovered where its last agent died; then it joins, takes all that waits for it, and leaves; nobody else makes a step
-/// meanwhile. None where an agent of it had no word step left.
-fn visit(pool: &mut PlainPool, me: Me, dead: bool) -> Option<()>
+/// meanwhile.
+fn visit(pool: &mut PlainPool, me: Me, dead: bool)
     requires geometry { me.geometry ≡ pool.old.start.geometry }
     requires who { me.who < pool.old.start.geometry.clients }
     requires may { MayVisit dead (memo_of pool.old me.who) }
     requires era { pool.old.start.first_era ≡ 1 }
-    ensures visit { IfSome result (λ u. IsVisit me.who pool.old pool.new) }
-    ensures gone { IfSome result (λ u. (memo_of pool.new me.who).status ≡ Gone) }
-    ensures table { IfSome result (λ u. SameTable (memo_of pool.old me.who) (memo_of pool.new me.who)) }
-    ensures told { IfSome result (λ u. dead ≡ true → HasTold (account_at pool.old.accounts me.who) (account_at pool.new.accounts me.who)) }
-    ensures spent { is_some result ≡ false → IsSpent me.who pool.old pool.new }
+    ensures visit { IsVisit me.who pool.old pool.new }
+    ensures gone { (memo_of pool.new me.who).status ≡ Gone }
+    ensures table { SameTable (memo_of pool.old me.who) (memo_of pool.new me.who) }
+    ensures told { dead ≡ true → HasTold (account_at pool.old.accounts me.who) (account_at pool.new.accounts me.who) }
     ensures others { (d : ℕ) → d ≢ me.who → account_at pool.new.accounts d ≡ account_at pool.old.accounts d }
     ensures start { pool.new.start ≡ pool.old.start }
     ensures run { IsRun pool.new }
 {
     pool.geometry();
-    revive(pool, me, dead)?;
+    revive(pool, me, dead);
     let mut life = Life::of(LIFE);
-    join(pool, me, &mut life)?;
-    drain(pool, me, &mut life)?;
-    leave(pool, me, &mut life)
+    join(pool, me, &mut life);
+    drain(pool, me, &mut life);
+    leave(pool, me, &mut life);
 }
 
 /// Whether all agents of the identity died.
@@ -149,24 +151,21 @@ fn is_dead(agents: &Option<Agents>) -> bool
     }
 }
 
-/// Each identity is recovered where its last agent died, joins, takes all that waits for it, and leaves, one after the other. None where an
-/// agent of them had no word step left.
-pub(crate) fn visit_all(pool: &mut PlainPool, agents: &[Option<Agents>]) -> Option<()>
+/// Each identity is recovered where its last agent died, joins, takes all that waits for it, and leaves, one after the other.
+pub(crate) fn visit_all(pool: &mut PlainPool, agents: &[Option<Agents>])
     requires era { pool.old.start.first_era ≡ 1 }
     requires many { length agents.now ≡ pool.old.start.geometry.clients }
     requires may { (c : ℕ) → c < pool.old.start.geometry.clients → MayVisit (is_dead (slice_index_or agents.now c None)) (memo_of pool.old c) }
-    ensures visits { IfSome result (λ u. AreVisits 0 pool.old.start.geometry.clients pool.old pool.new) }
-    ensures gone { IfSome result (λ u. (c : ℕ) → c < pool.old.start.geometry.clients → (memo_of pool.new c).status ≡ Gone) }
-    ensures table { IfSome result (λ u. (c : ℕ) → c < pool.old.start.geometry.clients → SameTable (memo_of pool.old c) (memo_of pool.new c)) }
-    ensures told { IfSome result (λ u. (c : ℕ) → c < pool.old.start.geometry.clients → is_dead (slice_index_or agents.now c None) ≡ true → HasTold (account_at pool.old.accounts c) (account_at pool.new.accounts c)) }
-    ensures spent { is_some result ≡ false → (c : ℕ) × (c < pool.old.start.geometry.clients) × IsSpent c pool.old pool.new }
+    ensures visits { AreVisits 0 pool.old.start.geometry.clients pool.old pool.new }
+    ensures gone { (c : ℕ) → c < pool.old.start.geometry.clients → (memo_of pool.new c).status ≡ Gone }
+    ensures table { (c : ℕ) → c < pool.old.start.geometry.clients → SameTable (memo_of pool.old c) (memo_of pool.new c) }
+    ensures told { (c : ℕ) → c < pool.old.start.geometry.clients → is_dead (slice_index_or agents.now c None) ≡ true → HasTold (account_at pool.old.accounts c) (account_at pool.new.accounts c) }
     ensures start { pool.new.start ≡ pool.old.start }
     ensures run { IsRun pool.new }
 {
     let geometry = pool.geometry();
     for client in 0..geometry.clients() {
         let dead = is_dead(&agents[client as usize]);
-        visit(pool, Me::new(geometry, client), dead)?;
+        visit(pool, Me::new(geometry, client), dead);
     }
-    Some(())
 }

@@ -1,13 +1,12 @@
 //! Replays of whole traces.
 
-ghost use Rattle.std.specs.Prelude.{◌≡◌, ℕ, ◌+◌, ◌^◌, ◌<◌, ◌≤◌, ◌++◌, false, true, None, Some, List, [], length, vec_len, vec_capacity, slice_get, slice_index_or, slice_set, IfOk, IfSome, MatchOption};
-ghost use Rattle.std.specs.Option.{is_some};
+ghost use Rattle.std.specs.Prelude.{◌≡◌, ℕ, ◌+◌, ◌<◌, ◌≤◌, ◌++◌, true, None, Some, List, [], length, vec_len, vec_capacity, slice_get, slice_index_or, slice_set, IfOk, MatchOption};
 ghost use Rattle.shm_words.specs.Layout.{GeometryFits};
 ghost use Rattle.shm_graph.specs.declared.memo.Status.TheVariants.{Gone};
 ghost use Rattle.shm_graph.specs.Runs.{account_at};
 ghost use Rattle.shm_plain.specs.Pools.{Pool as APool, IsRun, first_pool, memo_of};
 ghost use Rattle.shm_script.specs.Values.{Scripted as AScript};
-ghost use Rattle.shm_replay.specs.Closings.{AreVisits, HasTold, IsSpent, SameTable, is_dead};
+ghost use Rattle.shm_replay.specs.Closings.{AreVisits, HasTold, SameTable, is_dead};
 ghost use Rattle.shm_replay.specs.Gathered.{log_at, logs_by};
 ghost use Rattle.shm_replay.specs.Orders.{IsGivenAll};
 ghost use Rattle.shm_replay.specs.Replays.{IsReplay, start_of};
@@ -83,19 +82,18 @@ fn all_agents(
     Ok(all)
 }
 
-/// Gives the turns of the trace, and closes the pool. None where an agent of the closing had no word step left.
-fn play(agents: &mut [Option<Agents>], trace: &Trace, pool: &mut PlainPool) -> Option<()>
+/// Gives the turns of the trace, and closes the pool.
+fn play(agents: &mut [Option<Agents>], trace: &Trace, pool: &mut PlainPool)
     requires seated { AreSeated trace.now pool.old agents.old }
     requires start { pool.old.start ≡ start_of trace.now }
-    ensures played { IfSome result (λ u. (q : APool) × IsGivenAll trace.now pool.old q × AreSeated trace.now q agents.new × AreVisits 0 trace.now.clients q pool.new × IsRun q × ((c : ℕ) → c < trace.now.clients → SameTable (memo_of q c) (memo_of pool.new c)) × ((c : ℕ) → c < trace.now.clients → is_dead (slice_index_or agents.new c None) ≡ true → HasTold (account_at q.accounts c) (account_at pool.new.accounts c))) }
-    ensures gone { IfSome result (λ u. (c : ℕ) → c < trace.now.clients → (memo_of pool.new c).status ≡ Gone) }
-    ensures spent { is_some result ≡ false → (q : APool) × IsGivenAll trace.now pool.old q × ((c : ℕ) × (c < trace.now.clients) × IsSpent c q pool.new) }
+    ensures played { (q : APool) × IsGivenAll trace.now pool.old q × AreSeated trace.now q agents.new × AreVisits 0 trace.now.clients q pool.new × IsRun q × ((c : ℕ) → c < trace.now.clients → SameTable (memo_of q c) (memo_of pool.new c)) × ((c : ℕ) → c < trace.now.clients → is_dead (slice_index_or agents.new c None) ≡ true → HasTold (account_at q.accounts c) (account_at pool.new.accounts c)) }
+    ensures gone { (c : ℕ) → c < trace.now.clients → (memo_of pool.new c).status ≡ Gone }
     ensures start { pool.new.start ≡ pool.old.start }
 {
     give_items(agents, trace, pool);
     give_rounds(agents, trace, pool);
     pool.geometry();
-    visit_all(pool, agents)
+    visit_all(pool, agents);
 }
 
 /// Takes the log of the client of an identity, if it has one.
@@ -131,7 +129,7 @@ fn take_logs(agents: &mut [Option<Agents>], trace: &Trace, logs: &mut Vec<Log>)
 ///
 /// # Errors
 ///
-/// Want of memory. An agent of the closing that had made 2^40 word steps would be told so too; none does, since nobody else steps then.
+/// Want of memory, and nothing else.
 pub fn replay(alloc: Global, trace: &Trace) -> Result<Replayed, AllocError>
     ensures { IfOk result (λ r. IsReplay trace.now r.closed r.logs.items) }
 {
@@ -140,7 +138,7 @@ pub fn replay(alloc: Global, trace: &Trace) -> Result<Replayed, AllocError>
     let mut pool = PlainPool::make(alloc, geometry, 1, true)?;
     let mut agents = all_agents(alloc, geometry, trace)?;
     let mut logs = Vec::with_capacity(alloc, trace.scripts.len())?;
-    play(&mut agents, trace, &mut pool).ok_or(AllocError)?;
+    play(&mut agents, trace, &mut pool);
     take_logs(&mut agents, trace, &mut logs);
     Ok(Replayed {
         closed: pool.close(),

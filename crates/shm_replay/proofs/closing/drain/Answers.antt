@@ -1,5 +1,6 @@
-use Rattle.std.proofs.Common.{◌≡◌, ℕ, ◌^◌, ◌≤◌, Result, refl, sym, ap, ◌∙◌, subst, arith}
-use Rattle.std.specs.Prelude.{Ok}
+use Rattle.std.proofs.Common.{◌≡◌, ℕ, ◌^◌, ◌≤◌, Result, refl, sym, ap, ◌∙◌, subst, arith, ◌+◌, Bool, true, Option}
+use Rattle.std.specs.Prelude.{Ok, IfSome, IsSome}
+use Rattle.std.specs.Option.{is_some}
 use Rattle.shm_graph.specs.declared.memo.Memo.{Memo}
 use Rattle.shm_graph.specs.declared.memo.Status.TheVariants.{Gone, Live}
 use Rattle.shm_graph.specs.Agents.{steps_made}
@@ -12,10 +13,13 @@ use Rattle.shm_count.specs.Roots.{member}
 use Rattle.shm_queue.specs.declared.drain.DrainState.{DrainState}
 use Rattle.shm_queue.specs.Drain.Control.{DrainAnswer, DrainCall, drain_parts, draining}
 use Rattle.shm_queue.specs.Drain.{drain_plan}
-use Rattle.shm_plain.specs.Pools.{memo_of, readied}
-use Rattle.shm_plain.proofs.Calling.{fits_acting}
+use Rattle.shm_plain.specs.Calls.{Ran, Took}
+use Rattle.shm_plain.specs.Pools.{IsOf, memo_of, readied}
+use Rattle.shm_alone.proofs.Lasting.{Lasts, answers_alone}
+use Rattle.shm_plain.proofs.Calling.{fits_acting, may_acting}
 use Rattle.shm_replay.proofs.Visiting.{drain_fits, drain_in, drain_ok, drain_part}
-use Rattle.shm_replay.proofs.closing.drain.Goals.{After-new-2, In_ok-call, After-unwrap}
+use Rattle.shm_replay.proofs.closing.drain.Goals.{After-new-2, After-call, After-unwrap, After-unwrap-2}
+use Rattle.shm_replay.proofs.Enough.{drain_lasts}
 use Rattle.shm_replay.proofs.closing.drain.Goals as goal
 
 abbrev Machine : Type 0
@@ -37,36 +41,85 @@ fit c =
 pub call-requires-clause-fits : goal.call-requires-clause-fits
 call-requires-clause-fits c = (memo_of c.args.pool.now c.args.me.who, fit (goal.at.call-requires-clause-fits c).After-new-2)
 
-gives : (c : In_ok-call) → let r : Memo = memo_of c.call.new.self c.args.me.who in CallsGives drain_parts drain_plan (machine (goal.at.In_ok-call c).After-new-2) (memo_of c.args.pool.now c.args.me.who) r r.call c.in_ok-call.field-0
-gives c =
-    let at = (goal.at.In_ok-call c).After-new-2 in
-    let r : Memo = memo_of c.call.new.self c.args.me.who in
-    subst (λ (x : Machine). CallsGives drain_parts drain_plan x (memo_of c.args.pool.now c.args.me.who) r r.call c.in_ok-call.field-0) (state at)
-    (c.in_ok-call.ensures.gives (memo_of c.args.pool.now c.args.me.who) (fit at))
+-- it has answered, and so many word steps of its life went
+enough : (c : After-call) → IsSome c.call.result × (c.args.life.now.left ≤ c.call.new.life.left + 2 ^ 34)
+enough c =
+    let at = (goal.at.After-call c).After-new-2 in
+    let p = c.args.pool.now in
+    let who = c.args.me.who in
+    answers_alone (calls_control drain_parts drain_plan) (CallsFits drain_parts drain_plan) c.new-2.result
+    (subst (λ (x : Machine). Lasts (calls_control drain_parts drain_plan) (CallsFits drain_parts drain_plan) x) (sym (state at)) (drain_lasts (member p.start.geometry who)))
+    who p c.call.new.self (memo_of p who) (is_some c.call.result) c.args.life.now.left c.call.new.life.left c.geometry.ensures.run (may_acting p who c.requires.here.acts)
+    (subst (λ (x : Machine). IsOf p who (calls_control drain_parts drain_plan) x) (sym (state at)) (refl, c.requires.who, refl))
+    (fit at) (ap (λ (x : Machine). (calls_control drain_parts drain_plan).fresh x) (state at)) c.call.ensures.ran c.call.ensures.took c.call.ensures.spent c.requires.enough
 
-few : (c : In_ok-call) → steps_made (memo_of c.call.new.self c.args.me.who) ≤ 2 ^ 43
-few c = let made = c.in_ok-call.ensures.ran.made in let most = c.requires.few in omega arith
+-- its clauses, where it has answered
+ran : (c : After-call) → Ran c.args.me.who true true c.args.pool.now c.call.new.self c.args.life.now.left c.call.new.life.left
+ran c =
+    let at = (goal.at.After-call c).After-new-2 in
+    subst (λ (b : Bool). Ran c.args.me.who b true c.args.pool.now c.call.new.self c.args.life.now.left c.call.new.life.left) (ap (λ (x : Machine). (calls_control drain_parts drain_plan).fresh x) (state at))
+    (subst (λ (b : Bool). Ran c.args.me.who ((calls_control drain_parts drain_plan).fresh c.new-2.result) b c.args.pool.now c.call.new.self c.args.life.now.left c.call.new.life.left) (enough c).0 c.call.ensures.ran)
+
+-- where the machine was made
+abbrev new : (c : After-unwrap) → After-new-2
+new c = (goal.at.After-call (goal.at.After-unwrap c).After-call).After-new-2
+
+gives : (c : After-unwrap) → let r : Memo = memo_of c.call.new.self c.args.me.who in CallsGives drain_parts drain_plan (machine (new c)) (memo_of c.args.pool.now c.args.me.who) r r.call c.unwrap.result
+gives c =
+    let at = new c in
+    let r : Memo = memo_of c.call.new.self c.args.me.who in
+    subst (λ (x : Machine). CallsGives drain_parts drain_plan x (memo_of c.args.pool.now c.args.me.who) r r.call c.unwrap.result) (state at)
+    (subst (λ (o : Option _). IfSome o (λ a. CallsGives drain_parts drain_plan c.new-2.result (memo_of c.args.pool.now c.args.me.who) r r.call a)) c.unwrap.ensures (c.call.ensures.gives (memo_of c.args.pool.now c.args.me.who) (fit at)))
+
+few : (c : After-call) → steps_made (memo_of c.call.new.self c.args.me.who) ≤ 2 ^ 43
+few c = let made = c.call.ensures.ran.made in let most = c.requires.few in omega arith
 
 pub unwrap-requires : goal.unwrap-requires
-unwrap-requires c =
-    drain_ok c.args.pool.now c.args.me.who c.geometry.ensures.run c.requires.who c.requires.here c.call.new.self c.in_ok-call.ensures.ran.start c.in_ok-call.ensures.ran.run c.requires.era (few (goal.at.unwrap-requires c).In_ok-call) _ _
-    c.in_ok-call.field-0 (gives (goal.at.unwrap-requires c).In_ok-call).leaves
+unwrap-requires c = (enough (goal.at.unwrap-requires c).After-call).0
 
--- what it leaves, by what it answered
-answered : (c : After-unwrap) (Q : Result ℕ EraSpent → Type 0) → Q c.in_ok-call.field-0 → Q (Ok c.unwrap.result)
-answered c Q = subst Q c.unwrap.ensures
+pub unwrap-requires-2 : goal.unwrap-requires-2
+unwrap-requires-2 c =
+    drain_ok c.args.pool.now c.args.me.who c.geometry.ensures.run c.requires.who c.requires.here c.call.new.self c.call.ensures.ran.start c.call.ensures.ran.run c.requires.era (few (goal.at.After-unwrap (goal.at.unwrap-requires-2 c).After-unwrap).After-call) _ _
+    c.unwrap.result (gives (goal.at.unwrap-requires-2 c).After-unwrap).leaves
+
+-- what it gives, by what it answered
+gave : (c : After-unwrap-2) → let r : Memo = memo_of c.call.new.self c.args.me.who in CallsGives drain_parts drain_plan (machine (new (goal.at.After-unwrap-2 c).After-unwrap)) (memo_of c.args.pool.now c.args.me.who) r r.call (Ok c.unwrap-2.result)
+gave c =
+    let at = (goal.at.After-unwrap-2 c).After-unwrap in
+    let r : Memo = memo_of c.call.new.self c.args.me.who in
+    subst (CallsGives drain_parts drain_plan (machine (new at)) (memo_of c.args.pool.now c.args.me.who) r r.call) c.unwrap-2.ensures (gives at)
+
+-- where the call has ended
+abbrev called : (c : After-unwrap-2) → After-call
+called c = (goal.at.After-unwrap (goal.at.After-unwrap-2 c).After-unwrap).After-call
+
+pub returns-clause-whole : goal.returns-clause-whole
+returns-clause-whole c =
+    let call = called (goal.at.returns-clause-whole c).After-unwrap-2 in
+    let r = ran call in
+    record {
+      start = r.start;
+      took = subst (λ (x : Machine). Took (calls_control drain_parts drain_plan) c.args.me.who c.args.pool.now x c.call.new.self) (state (goal.at.After-call call).After-new-2) (c.call.ensures.took (r.some refl));
+      over = r.over refl;
+      run = r.run;
+    }
+
+pub returns-clause-ran : goal.returns-clause-ran
+returns-clause-ran c = ran (called (goal.at.returns-clause-ran c).After-unwrap-2)
+
+pub returns-clause-rest : goal.returns-clause-rest
+returns-clause-rest c = (enough (called (goal.at.returns-clause-rest c).After-unwrap-2)).1
 
 pub returns-clause-here : goal.returns-clause-here
 returns-clause-here c =
-    let at = (goal.at.returns-clause-here c).After-unwrap in
-    let call = (goal.at.After-unwrap at).In_ok-call in
-    let g = answered at (CallsGives drain_parts drain_plan (machine (goal.at.In_ok-call call).After-new-2) (memo_of c.args.pool.now c.args.me.who) (memo_of c.call.new.self c.args.me.who) (memo_of c.call.new.self c.args.me.who).call) (gives call) in
-    drain_in c.args.pool.now c.args.me.who c.geometry.ensures.run c.requires.who c.requires.here c.call.new.self c.in_ok-call.ensures.ran.start c.in_ok-call.ensures.ran.run c.requires.era (few call) _ _ c.unwrap.result g.leaves
-    (c.in_ok-call.ensures.ran.acts refl (λ e. let z : Live ≡ Gone = sym (ap (λ (x : Memo). x.status) g.leaves.drained.rest ∙ c.requires.here.idle.live) ∙ e in absurd (cc)))
+    let at = (goal.at.returns-clause-here c).After-unwrap-2 in
+    let r = ran (called at) in
+    let g = gave at in
+    drain_in c.args.pool.now c.args.me.who c.geometry.ensures.run c.requires.who c.requires.here c.call.new.self r.start r.run c.requires.era (few (called at)) _ _ c.unwrap-2.result g.leaves
+    (r.acts refl (λ e. let z : Live ≡ Gone = sym (ap (λ (x : Memo). x.status) g.leaves.drained.rest ∙ c.requires.here.idle.live) ∙ e in absurd (cc)))
 
 pub returns-clause-part : goal.returns-clause-part
 returns-clause-part c =
-    let at = (goal.at.returns-clause-part c).After-unwrap in
-    let call = (goal.at.After-unwrap at).In_ok-call in
-    let g = answered at (CallsGives drain_parts drain_plan (machine (goal.at.In_ok-call call).After-new-2) (memo_of c.args.pool.now c.args.me.who) (memo_of c.call.new.self c.args.me.who) (memo_of c.call.new.self c.args.me.who).call) (gives call) in
-    drain_part c.args.pool.now c.args.me.who c.geometry.ensures.run c.requires.who c.requires.here c.call.new.self c.in_ok-call.ensures.ran.start c.in_ok-call.ensures.ran.run c.requires.era (few call) _ _ c.unwrap.result g.leaves
+    let at = (goal.at.returns-clause-part c).After-unwrap-2 in
+    let r = ran (called at) in
+    drain_part c.args.pool.now c.args.me.who c.geometry.ensures.run c.requires.who c.requires.here c.call.new.self r.start r.run c.requires.era (few (called at)) _ _ c.unwrap-2.result (gave at).leaves

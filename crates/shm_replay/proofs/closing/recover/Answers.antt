@@ -1,5 +1,6 @@
-use Rattle.std.proofs.Common.{◌≡◌, ℕ, ◌^◌, ◌<◌, ◌≤◌, Bool, true, ◌++◌, length, refl, sym, ap, ◌∙◌, subst, arith}
-use Rattle.std.specs.Prelude.{Ok}
+use Rattle.std.proofs.Common.{◌≡◌, ℕ, ◌^◌, ◌<◌, ◌≤◌, Bool, true, ◌++◌, length, refl, sym, ap, ◌∙◌, subst, arith, ◌+◌, Option}
+use Rattle.std.specs.Prelude.{Ok, IfSome, IsSome}
+use Rattle.std.specs.Option.{is_some}
 use Rattle.shm_graph.specs.declared.memo.Memo.{Memo}
 use Rattle.shm_graph.specs.Agents.{steps_made}
 use Rattle.shm_graph.specs.Asks.{call_before}
@@ -9,11 +10,14 @@ use Rattle.shm_calls.specs.CallsFit.{CallsFits, CallsGives}
 use Rattle.shm_count.specs.Roots.{member}
 use Rattle.shm_recover.specs.Recover.Control.{recover_parts, recovering}
 use Rattle.shm_recover.specs.Recover.{recover_plan}
-use Rattle.shm_plain.specs.Pools.{memo_of, readied}
+use Rattle.shm_plain.specs.Calls.{Ran, Took}
+use Rattle.shm_plain.specs.Pools.{IsOf, memo_of, readied}
+use Rattle.shm_alone.proofs.Lasting.{Lasts, answers_alone}
 use Rattle.shm_replay.specs.Work.{RecoverCalls}
 use Rattle.shm_replay.proofs.Aside.{told_first}
 use Rattle.shm_replay.proofs.Reviving.{may_begin, r0, revive_fits, revive_ok, revive_out, revive_table, still}
-use Rattle.shm_replay.proofs.closing.recover.Goals.{After-new-2, In_ok-call, After-unwrap}
+use Rattle.shm_replay.proofs.closing.recover.Goals.{After-new-2, After-call, After-unwrap, After-unwrap-2}
+use Rattle.shm_replay.proofs.Enough.{recover_lasts}
 use Rattle.shm_replay.proofs.closing.recover.Goals as goal
 
 abbrev machine : (c : After-new-2) → RecoverCalls
@@ -37,58 +41,100 @@ call-requires-clause-agent c = may_begin c.args.pool.now c.args.me.who c.geometr
 pub call-requires-clause-fits : goal.call-requires-clause-fits
 call-requires-clause-fits c = let at = (goal.at.call-requires-clause-fits c).After-new-2 in (start at, fit at)
 
-gives : (c : In_ok-call) → let r : Memo = memo_of c.call.new.self c.args.me.who in CallsGives recover_parts recover_plan (machine (goal.at.In_ok-call c).After-new-2) (start (goal.at.In_ok-call c).After-new-2) r r.call c.in_ok-call.field-0
-gives c =
-    let at = (goal.at.In_ok-call c).After-new-2 in
-    let r : Memo = memo_of c.call.new.self c.args.me.who in
-    subst (λ (x : RecoverCalls). CallsGives recover_parts recover_plan x (start at) r r.call c.in_ok-call.field-0) (state at)
-    (c.in_ok-call.ensures.gives (start at) (fit at))
+-- it has answered, and so many word steps of its life went
+enough : (c : After-call) → IsSome c.call.result × (c.args.life.now.left ≤ c.call.new.life.left + 2 ^ 34)
+enough c =
+    let at = (goal.at.After-call c).After-new-2 in
+    let p = c.args.pool.now in
+    let who = c.args.me.who in
+    answers_alone (calls_control recover_parts recover_plan) (CallsFits recover_parts recover_plan) c.new-2.result
+    (subst (λ (x : RecoverCalls). Lasts (calls_control recover_parts recover_plan) (CallsFits recover_parts recover_plan) x) (sym (state at)) (recover_lasts (member p.start.geometry who)))
+    who p c.call.new.self (start at) (is_some c.call.result) c.args.life.now.left c.call.new.life.left c.geometry.ensures.run (may_begin p who c.geometry.ensures.run c.requires.who c.requires.dead)
+    (subst (λ (x : RecoverCalls). IsOf p who (calls_control recover_parts recover_plan) x) (sym (state at)) (refl, c.requires.who, refl))
+    (fit at) (ap (λ (x : RecoverCalls). (calls_control recover_parts recover_plan).fresh x) (state at)) c.call.ensures.ran c.call.ensures.took c.call.ensures.spent c.requires.enough
 
-few : (c : In_ok-call) → steps_made (memo_of c.call.new.self c.args.me.who) ≤ 2 ^ 42
-few c = let made = c.in_ok-call.ensures.ran.made in let most = c.requires.dead.few in let life = c.requires.life in omega arith
+-- its clauses, where it has answered
+ran : (c : After-call) → Ran c.args.me.who true true c.args.pool.now c.call.new.self c.args.life.now.left c.call.new.life.left
+ran c =
+    let at = (goal.at.After-call c).After-new-2 in
+    subst (λ (b : Bool). Ran c.args.me.who b true c.args.pool.now c.call.new.self c.args.life.now.left c.call.new.life.left) (ap (λ (x : RecoverCalls). (calls_control recover_parts recover_plan).fresh x) (state at))
+    (subst (λ (b : Bool). Ran c.args.me.who ((calls_control recover_parts recover_plan).fresh c.new-2.result) b c.args.pool.now c.call.new.self c.args.life.now.left c.call.new.life.left) (enough c).0 c.call.ensures.ran)
+
+-- where the machine was made
+abbrev new : (c : After-unwrap) → After-new-2
+new c = (goal.at.After-call (goal.at.After-unwrap c).After-call).After-new-2
+
+gives : (c : After-unwrap) → let r : Memo = memo_of c.call.new.self c.args.me.who in CallsGives recover_parts recover_plan (machine (new c)) (start (new c)) r r.call c.unwrap.result
+gives c =
+    let at = new c in
+    let r : Memo = memo_of c.call.new.self c.args.me.who in
+    subst (λ (x : RecoverCalls). CallsGives recover_parts recover_plan x (start at) r r.call c.unwrap.result) (state at)
+    (subst (λ (o : Option _). IfSome o (λ a. CallsGives recover_parts recover_plan c.new-2.result (start at) r r.call a)) c.unwrap.ensures (c.call.ensures.gives (start at) (fit at)))
+
+few : (c : After-call) → steps_made (memo_of c.call.new.self c.args.me.who) ≤ 2 ^ 42
+few c = let made = c.call.ensures.ran.made in let most = c.requires.dead.few in let life = c.requires.life in omega arith
 
 pub unwrap-requires : goal.unwrap-requires
-unwrap-requires c =
-    let call = (goal.at.unwrap-requires c).In_ok-call in
-    let most = few call in
-    revive_ok c.args.pool.now c.args.me.who c.geometry.ensures.run c.requires.who c.requires.dead c.call.new.self c.in_ok-call.ensures.ran.start c.in_ok-call.ensures.ran.run c.requires.era (omega arith) _ _
-    c.in_ok-call.field-0 (gives call).leaves
+unwrap-requires c = (enough (goal.at.unwrap-requires c).After-call).0
 
--- what it leaves, by what it answered
-left : (c : After-unwrap) → let r : Memo = memo_of c.call.new.self c.args.me.who in CallsGives recover_parts recover_plan (machine (goal.at.In_ok-call (goal.at.After-unwrap c).In_ok-call).After-new-2) (start (goal.at.In_ok-call (goal.at.After-unwrap c).In_ok-call).After-new-2) r r.call (Ok c.unwrap.result)
+pub unwrap-requires-2 : goal.unwrap-requires-2
+unwrap-requires-2 c =
+    let at = (goal.at.unwrap-requires-2 c).After-unwrap in
+    let most = few (goal.at.After-unwrap at).After-call in
+    revive_ok c.args.pool.now c.args.me.who c.geometry.ensures.run c.requires.who c.requires.dead c.call.new.self c.call.ensures.ran.start c.call.ensures.ran.run c.requires.era (omega arith) _ _
+    c.unwrap.result (gives at).leaves
+
+-- what it gives, by what it answered
+left : (c : After-unwrap-2) → let at = new (goal.at.After-unwrap-2 c).After-unwrap in let r : Memo = memo_of c.call.new.self c.args.me.who in CallsGives recover_parts recover_plan (machine at) (start at) r r.call (Ok c.unwrap-2.result)
 left c =
-    let call = (goal.at.After-unwrap c).In_ok-call in
-    let at = (goal.at.In_ok-call call).After-new-2 in
+    let at = (goal.at.After-unwrap-2 c).After-unwrap in
     let r : Memo = memo_of c.call.new.self c.args.me.who in
-    subst (CallsGives recover_parts recover_plan (machine at) (start at) r r.call) c.unwrap.ensures (gives call)
+    subst (CallsGives recover_parts recover_plan (machine (new at)) (start (new at)) r r.call) c.unwrap-2.ensures (gives at)
+
+-- where the call has ended
+abbrev called : (c : After-unwrap-2) → After-call
+called c = (goal.at.After-unwrap (goal.at.After-unwrap-2 c).After-unwrap).After-call
+
+pub returns-clause-whole : goal.returns-clause-whole
+returns-clause-whole c =
+    let call = called (goal.at.returns-clause-whole c).After-unwrap-2 in
+    let r = ran call in
+    record {
+      start = r.start;
+      took = subst (λ (x : RecoverCalls). Took (calls_control recover_parts recover_plan) c.args.me.who c.args.pool.now x c.call.new.self) (state (goal.at.After-call call).After-new-2) (c.call.ensures.took (r.some refl));
+      over = r.over refl;
+      run = r.run;
+    }
+
+pub returns-clause-ran : goal.returns-clause-ran
+returns-clause-ran c = ran (called (goal.at.returns-clause-ran c).After-unwrap-2)
 
 pub returns-clause-out : goal.returns-clause-out
 returns-clause-out c =
-    let at = (goal.at.returns-clause-out c).After-unwrap in
-    let most = few (goal.at.After-unwrap at).In_ok-call in
-    revive_out c.args.pool.now c.args.me.who c.geometry.ensures.run c.requires.who c.requires.dead c.call.new.self c.in_ok-call.ensures.ran.start c.in_ok-call.ensures.ran.run c.requires.era (omega arith) _ _
-    c.unwrap.result (left at).leaves (c.in_ok-call.ensures.ran.gone refl) most
+    let at = (goal.at.returns-clause-out c).After-unwrap-2 in
+    let r = ran (called at) in
+    let most = few (called at) in
+    revive_out c.args.pool.now c.args.me.who c.geometry.ensures.run c.requires.who c.requires.dead c.call.new.self r.start r.run c.requires.era (omega arith) _ _
+    c.unwrap-2.result (left at).leaves (r.gone refl) most
 
 pub returns-clause-table : goal.returns-clause-table
 returns-clause-table c =
-    let at = (goal.at.returns-clause-table c).After-unwrap in
-    revive_table c.args.pool.now c.args.me.who c.geometry.ensures.run c.requires.who c.requires.dead _ _ _ c.unwrap.result (left at).leaves
+    revive_table c.args.pool.now c.args.me.who c.geometry.ensures.run c.requires.who c.requires.dead _ _ _ c.unwrap-2.result (left (goal.at.returns-clause-table c).After-unwrap-2).leaves
 
 -- the recoverer made a word step, and its first one told the line of the dead agent
 pub returns-clause-told : goal.returns-clause-told
 returns-clause-told c =
-    let at = (goal.at.returns-clause-told c).After-unwrap in
-    let call = (goal.at.After-unwrap at).In_ok-call in
-    let new = (goal.at.In_ok-call call).After-new-2 in
+    let call = called (goal.at.returns-clause-told c).After-unwrap-2 in
+    let made = (goal.at.After-call call).After-new-2 in
     let p = c.args.pool.now in
     let who = c.args.me.who in
-    let ran = c.in_ok-call.ensures.ran in
-    let fresh : (calls_control recover_parts recover_plan).fresh c.new-2.result ≡ true = ap (λ (x : RecoverCalls). (calls_control recover_parts recover_plan).fresh x) (state new) in
-    let took = c.in_ok-call.ensures.took (ran.some refl) in
+    let r = ran call in
+    let fresh : (calls_control recover_parts recover_plan).fresh c.new-2.result ≡ true = ap (λ (x : RecoverCalls). (calls_control recover_parts recover_plan).fresh x) (state made) in
+    let took = c.call.ensures.took (r.some refl) in
     let many : length took.trail ≡ length (memo_of c.call.new.self who).call = sym (ap length (took.call ∙ ap (λ (b : Bool). call_before b (memo_of (readied p who) who).call ++ took.trail) fresh)) in
-    let spent = ran.spent refl fresh in
-    let less = ran.less refl in
-    told_first (calls_control recover_parts recover_plan) who p c.new-2.result c.call.new.self c.geometry.ensures.run ran.run ran.start
+    let spent = r.spent refl refl in
+    let less = r.less refl in
+    told_first (calls_control recover_parts recover_plan) who p c.new-2.result c.call.new.self c.geometry.ensures.run r.run r.start
     (subst (λ (n : ℕ). who < n) (sym c.geometry.ensures.run.held.accounts) c.requires.who)
     (still p who c.geometry.ensures.run c.requires.who c.requires.dead)
-    (ap (λ (x : RecoverCalls). ((calls_control recover_parts recover_plan).me x).who) (state new)) fresh took.trail (omega arith) took.grew
+    (ap (λ (x : RecoverCalls). ((calls_control recover_parts recover_plan).me x).who) (state made)) fresh took.trail (omega arith) took.grew

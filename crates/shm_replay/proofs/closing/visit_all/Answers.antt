@@ -22,7 +22,7 @@ loop-client-preserved c =
     let p = c.args.pool.now in
     let q = c.visit.new.pool in
     let other : (d : ℕ) → d ≢ l.client → account_at q.accounts d ≡ account_at l.pool.accounts d = (λ d n. v.others d (λ e. n (e ∙ me))) in
-    let table : SameTable (memo_of l.pool l.client) (memo_of q l.client) = subst (λ (n : ℕ). SameTable (memo_of l.pool n) (memo_of q n)) me c.in_ok-visit.ensures.table in
+    let table : SameTable (memo_of l.pool l.client) (memo_of q l.client) = subst (λ (n : ℕ). SameTable (memo_of l.pool n) (memo_of q n)) me c.visit.ensures.table in
     let xs = c.args.agents.now in
     let within : l.client < length xs = (let t = c.loop-client-test.true in let n = c.requires.many in let k = h.clients in omega arith) in
     let x = c.index-agents-client.result in
@@ -33,9 +33,9 @@ loop-client-preserved c =
       clients = h.clients;
       start = v.start ∙ h.start;
       run = v.run;
-      visits = subst (λ (n : ℕ). AreVisits 0 n p q) (sym (add-one l.client)) (visits_more 0 l.client p l.pool q h.visits (subst (λ (n : ℕ). IsVisit n l.pool q) (me ∙ sym (zero-add l.client)) c.in_ok-visit.ensures.visit));
+      visits = subst (λ (n : ℕ). AreVisits 0 n p q) (sym (add-one l.client)) (visits_more 0 l.client p l.pool q h.visits (subst (λ (n : ℕ). IsVisit n l.pool q) (me ∙ sym (zero-add l.client)) c.visit.ensures.visit));
       gone = λ d lt. elim (cases_eq d l.client) [
-        | inl e ↦ subst (λ (n : ℕ). (memo_of q n).status ≡ Gone) (me ∙ sym e) c.in_ok-visit.ensures.gone
+        | inl e ↦ subst (λ (n : ℕ). (memo_of q n).status ≡ Gone) (me ∙ sym e) c.visit.ensures.gone
         | inr n ↦ ap (λ (a : Account). a.memo.status) (other d n) ∙ h.gone d (omega arith)
       ];
       table = λ d. table_then (memo_of p d) (memo_of l.pool d) (memo_of q d) (h.table d) (elim (cases_eq d l.client) [
@@ -45,7 +45,7 @@ loop-client-preserved c =
       told = λ d lt dead. elim (cases_eq d l.client) [
         | inl e ↦ subst (λ (n : ℕ). HasTold (account_at p.accounts n) (account_at q.accounts n)) (sym e)
             (subst (λ (a : Account). HasTold a (account_at q.accounts l.client)) (h.later l.client (omega arith))
-            (subst (λ (n : ℕ). HasTold (account_at l.pool.accounts n) (account_at q.accounts n)) me (c.in_ok-visit.ensures.told (is_here (ap (λ (n : ℕ). is_dead (slice_index_or xs n None)) (sym e) ∙ dead)))))
+            (subst (λ (n : ℕ). HasTold (account_at l.pool.accounts n) (account_at q.accounts n)) me (c.visit.ensures.told (is_here (ap (λ (n : ℕ). is_dead (slice_index_or xs n None)) (sym e) ∙ dead)))))
         | inr n ↦ subst (λ (a : Account). HasTold (account_at p.accounts d) a) (sym (other d n)) (h.told d (omega arith) dead)
       ];
       later = λ d le. other d (omega arith) ∙ h.later d (omega arith);

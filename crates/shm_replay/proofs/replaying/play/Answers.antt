@@ -1,14 +1,11 @@
-use Rattle.std.proofs.Common.{◌≡◌, ◌<◌, ℕ, true, sym, ap, ◌∙◌, subst}
+use Rattle.std.proofs.Common.{◌≡◌, ◌<◌, ℕ, sym, ap, ◌∙◌, subst}
 use Rattle.std.specs.Prelude.{None, slice_index_or}
-use Rattle.shm_graph.specs.Runs.{account_at}
-use Rattle.shm_plain.specs.Pools.{IsRun, Pool, memo_of}
-use Rattle.shm_replay.specs.Closings.{AreVisits, HasTold, SameTable, is_dead}
+use Rattle.shm_plain.specs.Pools.{Pool}
+use Rattle.shm_replay.specs.Closings.{AreVisits}
 use Rattle.shm_replay.specs.Orders.{IsGivenAll, rounds_of}
-use Rattle.shm_replay.specs.Seats.{AreSeated}
 use Rattle.shm_replay.specs.Turns.{given}
 use Rattle.shm_replay.proofs.Ending.{seat_may}
 use Rattle.shm_replay.proofs.Giving.{given-append}
-use Rattle.shm_replay.proofs.Visited.{some_three}
 use Rattle.shm_replay.proofs.replaying.play.Goals.{After-visit_all}
 use Rattle.shm_replay.proofs.replaying.play.Goals as goal
 
@@ -38,15 +35,12 @@ returns-clause-played c =
     let xs = c.give_rounds.new.agents in
     let p = c.visit_all.new.pool in
     let clients : q.start.geometry.clients ≡ t.clients = c.give_rounds.ensures.seated.clients in
-    let few : (k : ℕ) → k < t.clients → k < q.start.geometry.clients = (λ k l. subst (λ n. k < n) (sym clients) l) in
-    some_three (λ u. AreVisits 0 q.start.geometry.clients q p) (λ u. (k : ℕ) → k < q.start.geometry.clients → SameTable (memo_of q k) (memo_of p k)) (λ u. (k : ℕ) → k < q.start.geometry.clients → is_dead (slice_index_or xs k None) ≡ true → HasTold (account_at q.accounts k) (account_at p.accounts k))
-    (λ u. (q : Pool) × IsGivenAll t c.args.pool.now q × AreSeated t q xs × AreVisits 0 t.clients q p × IsRun q × ((k : ℕ) → k < t.clients → SameTable (memo_of q k) (memo_of p k)) × ((k : ℕ) → k < t.clients → is_dead (slice_index_or xs k None) ≡ true → HasTold (account_at q.accounts k) (account_at p.accounts k)))
-    c.visit_all.result
-    (λ u visits tables told. (q, all c, c.give_rounds.ensures.seated, subst (λ (n : ℕ). AreVisits 0 n q p) clients visits, c.geometry.ensures.run, (λ k l. tables k (few k l)), (λ k l. told k (few k l))))
-    c.visit_all.ensures.visits c.visit_all.ensures.table c.visit_all.ensures.told
-
-pub returns-clause-spent : goal.returns-clause-spent
-returns-clause-spent c none =
-    let clients = c.give_rounds.ensures.seated.clients in
-    let (k, few, spent) = c.visit_all.ensures.spent none in
-    (c.give_rounds.new.pool, all c, (k, subst (λ n. k < n) clients few, spent))
+    let few : (k : ℕ) → k < t.clients → k < q.start.geometry.clients = (λ k l. subst (λ n. k < n) (sym clients) l) in (
+      q,
+      all (goal.at.returns-clause-played c).After-visit_all,
+      c.give_rounds.ensures.seated,
+      subst (λ (n : ℕ). AreVisits 0 n q p) clients c.visit_all.ensures.visits,
+      c.geometry.ensures.run,
+      λ k l. c.visit_all.ensures.table k (few k l),
+      λ k l. c.visit_all.ensures.told k (few k l),
+    )

@@ -10,7 +10,6 @@ use Rattle.shm_replay.specs.Orders.{IsGivenAll}
 use Rattle.shm_replay.specs.Replays.{IsReplay, start_of}
 use Rattle.shm_replay.proofs.Giving.{take_front}
 use Rattle.shm_replay.proofs.Telling.{visits_start}
-use Rattle.shm_replay.proofs.Visited.{some_there}
 use Rattle.shm_replay.proofs.WholeRun.{is_replay}
 use Rattle.shm_replay.proofs.replaying.replay.Goals as goal
 
@@ -18,7 +17,7 @@ pub returns : goal.returns
 returns c =
     let t = c.args.trace.now in
     let p = c.close.result in
-    let (q, given, seated, visits, run, tables, told) = some_there _ c.play.result c.in_ok-ok_or.field-0 c.in_ok-ok_or.ensures.ok_part c.play.ensures.played in
+    let (q, given, seated, visits, run, tables, told) = c.play.ensures.played in
     let sizes = subst (λ r. IfOk r (λ g. (g.clients ≡ c.trace.inside.clients) × (g.segments ≡ c.trace.inside.segments))) c.unwrap-geometry.ensures c.new.ensures.sizes in
     let clients : c.trace.inside.clients ≡ t.clients = (let v = ap (λ (x : Traced). x.clients) c.trace.view_is in cc) in
     let segments : c.trace.inside.segments ≡ t.segments = (let v = ap (λ (x : Traced). x.segments) c.trace.view_is in cc) in

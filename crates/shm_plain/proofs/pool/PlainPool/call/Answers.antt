@@ -1,11 +1,11 @@
-use Rattle.std.proofs.Common.{◌≡◌, ℕ, ◌<◌, false, ap, ◌∙◌, sym, subst}
+use Rattle.std.proofs.Common.{◌≡◌, ℕ, ◌+◌, ◌<◌, false, length, ap, ◌∙◌, sym, subst}
 use Rattle.std.proofs.lemmas.Bool.{true≢false}
 use Rattle.shm_graph.specs.declared.ask.Life.{Life}
 use Rattle.shm_graph.specs.Laws.{is_died}
 use Rattle.shm_graph.specs.Whole.{fits_now}
 use Rattle.shm_plain.specs.Pools.{Pool, memo_of, readied}
 use Rattle.shm_plain.specs.Calls.{Ran, Took}
-use Rattle.shm_plain.proofs.Calling.{answered_is, died_ran, died_took, lives, went_first, went_gives, went_on, went_ran, went_took}
+use Rattle.shm_plain.proofs.Calling.{answered_is, died_ran, died_spent, died_took, lives, went_first, went_gives, went_on, went_ran, went_spent, went_took}
 use Rattle.shm_plain.proofs.OwnTurns.{called_did}
 use Rattle.shm_plain.proofs.pool.PlainPool.call.Given.{Over}
 use Rattle.shm_plain.proofs.pool.PlainPool.call.Goals.{In-Died, In-Done}
@@ -49,6 +49,14 @@ returns-in-Done-clause-ran g c =
     let turn = c.step.ensures.turn some in
     went_ran M.control M.fits M.gives c.args.who c.args.self.now c.args.m.now c.args.life.now.left l.self l.m l.life.left l.invariant.1 c.step.new.self turn.1 c.step.ensures.run L.steady c.requires.me (answered_is _ c.step.result c.in-Done.answer turn.3 c.in-Done.is) c.step.new.life.left turn.0
 
+pub returns-in-Done-clause-spent : goal.returns-in-Done-clause-spent
+returns-in-Done-clause-spent g c some fresh =
+    let M = g.M.Machine in
+    let l = c.loop-answer in
+    let left : 0 < l.life.left = lives c.step.result l.life.left (ap is_died c.in-Done.is) c.step.ensures.died.1 in
+    let turn = c.step.ensures.turn left in
+    went_spent M.control M.fits M.gives c.args.who c.args.self.now c.args.m.now c.args.life.now.left l.self l.m l.life.left l.invariant.1 c.step.new.self turn.1 c.step.ensures.run c.step.new.life.left turn.0 fresh
+
 took_done : (g : Over) (c : In-Done g) → Took g.M.Machine.control c.args.who c.args.self.now c.args.m.now c.step.new.self
 took_done g c =
     let M = g.M.Machine in
@@ -91,6 +99,15 @@ returns-in-Died-clause-ran g c =
     subst (λ (q : Pool). Ran c.args.who (M.control.fresh c.args.m.now) false c.args.self.now q c.args.life.now.left c.step.new.life.left) (sym same.0)
     (subst (λ (y : ℕ). Ran c.args.who (M.control.fresh c.args.m.now) false c.args.self.now l.self c.args.life.now.left y) (sym (ap (λ (z : Life). z.left) same.2))
     (died_ran M.control M.fits M.gives c.args.who g.met.M.Machine.laws.steady c.args.self.now c.args.m.now c.args.life.now.left l.self l.m l.life.left l.invariant.1 l.invariant.0 c.requires.me (left_none g (goal.at.returns-in-Died-clause-ran g c).In-Died)))
+
+pub returns-in-Died-clause-spent : goal.returns-in-Died-clause-spent
+returns-in-Died-clause-spent g c some fresh =
+    let M = g.M.Machine in
+    let l = c.loop-answer in
+    let same = c.step.ensures.stays (ap is_died c.in-Died.is) in
+    subst (λ (q : Pool). c.step.new.life.left + length (memo_of q c.args.who).call ≡ c.args.life.now.left) (sym same.0)
+    (subst (λ (y : ℕ). y + length (memo_of l.self c.args.who).call ≡ c.args.life.now.left) (sym (ap (λ (z : Life). z.left) same.2))
+    (died_spent M.control M.fits M.gives c.args.who c.args.self.now c.args.m.now c.args.life.now.left l.self l.m l.life.left l.invariant.1 (left_none g (goal.at.returns-in-Died-clause-spent g c).In-Died) some fresh))
 
 took_died : (g : Over) (c : In-Died g) → 0 < c.args.life.now.left → Took g.M.Machine.control c.args.who c.args.self.now c.args.m.now c.step.new.self
 took_died g c some =

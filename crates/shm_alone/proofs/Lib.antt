@@ -1,0 +1,5 @@
+pub mod Sizes
+pub mod Shrinking
+pub mod Falling
+pub mod Paying
+pub mod Lasting
