@@ -2,6 +2,8 @@
 use Rattle.std.proofs.Common.{◌≡◌, ℕ, ◌<◌, ◌+◌, ◌*◌, ◌^◌, ◌≤◌, ◌++◌, List, length, true, Bool, sym, ap, ◌∙◌, subst, arith, inl, inr}
 use Rattle.std.proofs.lemmas.Bool.{cases_Bool}
 use Rattle.shm_words.specs.declared.geometry.Geometry.{Geometry}
+use Rattle.shm_words.specs.Layout.{GeometryFits}
+use Rattle.shm_graph.specs.declared.ask.Me.{Me}
 use Rattle.shm_graph.specs.declared.spot.Spot.{Spot}
 use Rattle.shm_graph.specs.declared.memo.Memo.{Memo}
 use Rattle.shm_graph.specs.declared.run.Move.{Move}
@@ -51,11 +53,11 @@ module _ {S A : Type 0} (k : Control S A) (fits : S → Memo → Memo → Trail 
       at_most k fits gives laws does tells alone left saved ends g c (state_of r) m r0 t.trail (state_of q) of.0 of.1 ready.held leads fit t.goes knows
 
   -- where it has made no step, and knows nothing of the words, its control says that 2^34 are enough
-  pub lasts : ((w : Spot → ℕ) → alone m w) → left m ≤ 2 ^ 30 → k.fresh m ≡ true → Lasts k fits m
+  pub lasts : ((w : Spot → ℕ) → alone m w) → (GeometryFits (k.me m).geometry → left m ≤ 2 ^ 30) → k.fresh m ≡ true → Lasts k fits m
   lasts knows small fresh c p q r0 before now start may of fit t x y e =
       let same : (memo_of q c).call ≡ t.trail = t.call ∙ ap (λ (b : Bool). call_before b (memo_of (readied p c) c).call ++ t.trail) fresh in
       let size = size_small (graph_in p.start.geometry (state_of (readied p c))) in
-      few (length t.trail) (left m) (size_of (graph_in p.start.geometry (state_of (readied p c)))) x y (took_most c p q r0 before now start may of fit (knows (see p.start.geometry p.words)) t) small size (ap (λ (tr : Trail). y + length tr) (sym same) ∙ e)
+      few (length t.trail) (left m) (size_of (graph_in p.start.geometry (state_of (readied p c)))) x y (took_most c p q r0 before now start may of fit (knows (see p.start.geometry p.words)) t) (small (subst (λ (me : Me). GeometryFits me.geometry) (sym of.0) before.held.at.fits)) size (ap (λ (tr : Trail). y + length tr) (sym same) ∙ e)
 
 -- it has answered, and at most so many word steps of its life went
 pub answers_alone : {S A : Type 0} (k : Control S A) (fits : S → Memo → Memo → Trail → Type 0) (m : S) → Lasts k fits m → (c : ℕ) (p q : Pool) (r0 : Memo) (answered : Bool) (x y : ℕ) → IsRun p → MayStep p c → IsOf p c k m → fits_now k fits m r0 (memo_of (readied p c) c) → k.fresh m ≡ true
@@ -71,5 +73,5 @@ answers_alone k fits m enough c p q r0 answered x y before may of fit fresh ran 
 
 -- of a machine that makes the calls of a plan
 pub calls_last : {P C A B : Type 0} (k : Control C B) (q : Planned P C B A) → PlanLaws k q → (alone : Calls P C A B → (Spot → ℕ) → Type 0) (left : Calls P C A B → ℕ) (saved : A → ℕ) → EndsAlone (calls_control k q) (calls_does k q) alone left saved (CallsFits k q)
-    → (p : P) → ((w : Spot → ℕ) → alone (calls_of q p) w) → left (calls_of q p) ≤ 2 ^ 30 → (calls_control k q).fresh (calls_of q p) ≡ true → Lasts (calls_control k q) (CallsFits k q) (calls_of q p)
+    → (p : P) → ((w : Spot → ℕ) → alone (calls_of q p) w) → (GeometryFits (q.me p).geometry → left (calls_of q p) ≤ 2 ^ 30) → (calls_control k q).fresh (calls_of q p) ≡ true → Lasts (calls_control k q) (CallsFits k q) (calls_of q p)
 calls_last k q laws alone left saved ends p knows small fresh = lasts (calls_control k q) (CallsFits k q) (CallsGives k q) (calls_laws k q laws) (calls_does k q) (calls_tells k q laws) alone left saved ends (calls_of q p) knows small fresh

@@ -1,5 +1,5 @@
 -- the closing of a pool after a trace
-use Rattle.std.specs.Prelude.{◌≡◌, ℕ, zero, suc, ◌+◌, ◌^◌, ◌≤◌, ◌⊎◌, Bool, true, false, Option, None, Some, List, [], ◌++◌, slice_index}
+use Rattle.std.specs.Prelude.{◌≡◌, ℕ, zero, suc, ◌^◌, ◌≤◌, ◌⊎◌, Bool, true, false, Option, None, Some, List, [], ◌++◌, slice_index}
 use Rattle.shm_graph.specs.declared.memo.Memo.{Memo}
 use Rattle.shm_graph.specs.declared.memo.Status.TheVariants.{Gone, New}
 use Rattle.shm_graph.specs.declared.run.Account.{Account}
