@@ -1,88 +1,73 @@
 //! What allocations answer on a pool, and which words they leave. The answers and words are those of an independent implementation.
 
+ghost use Rattle.shm_graph.specs.Runs.{EraFits};
+
+use crate::setting_tests::{has_words, making};
 use crate::{allocate, join, joined};
 use shm_alloc::{AllocFault, TooLarge};
 use shm_count::Made;
 use shm_graph::Life;
 use shm_words::Geometry;
+use std::alloc::Global;
+use std::process::Abort;
 use std::test::Fail;
 
 #[test]
 fn words_of_an_allocation(rt: HostRuntime) -> Result<(), Fail> {
     let mut life = Life::of(20);
-    let Some(mut pool) = joined(rt.alloc(), Geometry::new(1, 1)?, 1, false, &mut life, 0)? else {
-        panic!(rt; "no join")
-    };
+    let mut pool = making(&rt, rt.alloc(), 1, &[], &mut life)?;
     let made = Made { root: 0, block: 50 };
     assert_eq!(rt;
         allocate(&mut pool, 0, 0, &[77], &mut life)?,
         Some(Ok(made))
     );
     assert_eq!(rt; life.left, 6);
-    for at in 0..2098u32 {
-        let word = match at {
-            // the status, the redo record, the own era, root 0, the segment and the class of its first page
-            1 => 1,
-            2 => 2_305_850_705_795_088_434,
-            6 => 2,
-            7 => 50,
-            33 => 1,
-            34 => 4,
-            // the header, the tag and the plain word of the block
-            50 => 9_223_512_774_343_131_137,
-            51 => 67_108_864,
-            52 => 77,
-            _ => 0,
-        };
-        assert_eq!(rt; pool.word(at), word, "{at}");
+    // the status, the redo record, the own era, root 0, the segment and the class of its first page, and the words of the block
+    let words = [
+        (1, 1),
+        (2, 2_305_850_705_795_088_434),
+        (6, 2),
+        (7, 50),
+        (33, 1),
+        (34, 4),
+        (50, 9_223_512_774_343_131_137),
+        (51, 67_108_864),
+        (52, 77),
+    ];
+    has_words(&rt, &pool, &words);
+    Ok(())
+}
+
+/// Blocks of this plain word are made after this first era in so many roots, one behind the other, and this is answered after them.
+fn fills(
+    rt: &impl Abort,
+    alloc: Global,
+    first_era: u64,
+    word: u64,
+    most: u8,
+    last: AllocFault,
+) -> Result<(), Fail>
+    requires era { EraFits first_era }
+{
+    let mut life = Life::of(1000);
+    let mut pool = making(rt, alloc, first_era, &[], &mut life)?;
+    let mut block = 50u32;
+    for root in 0..most {
+        let made = allocate(&mut pool, 0, 0, &[word], &mut life)?;
+        assert_eq!(rt; made, Some(Ok(Made { root, block })), "{first_era}");
+        block = block.wrapping_add(4);
     }
+    let answer = allocate(&mut pool, 0, 0, &[word], &mut life)?;
+    assert_eq!(rt; answer, Some(Err(last)), "{first_era}");
     Ok(())
 }
 
 #[test]
 fn answers_of_one_client(rt: HostRuntime) -> Result<(), Fail> {
-    let geometry = Geometry::new(1, 1)?;
-    let of = |root, block| Ok(Made { root, block });
-    let spent = [
-        of(0, 50),
-        Err(AllocFault::EraSpent {
-            era: 140_737_488_355_326,
-        }),
-    ];
-    let full = [
-        of(0, 50),
-        of(1, 54),
-        of(2, 58),
-        of(3, 62),
-        of(4, 66),
-        of(5, 70),
-        of(6, 74),
-        of(7, 78),
-        of(8, 82),
-        of(9, 86),
-        of(10, 90),
-        of(11, 94),
-        of(12, 98),
-        of(13, 102),
-        of(14, 106),
-        of(15, 110),
-        Err(AllocFault::RootsFull),
-    ];
-    // the first era, the plain word and the answers
-    let rows = [(140_737_488_355_325, 77, &spent[..]), (1, 1, &full[..])];
-    for (first_era, word, answers) in rows {
-        let mut life = Life::of(1000);
-        let Some(mut pool) = joined(rt.alloc(), geometry, first_era, false, &mut life, 0)? else {
-            panic!(rt; "{first_era}")
-        };
-        for &expected in answers {
-            let Some(answer) = allocate(&mut pool, 0, 0, &[word], &mut life)? else {
-                panic!(rt; "{first_era}")
-            };
-            assert_eq!(rt; answer, expected, "{first_era}");
-        }
-    }
-    Ok(())
+    let era = 140_737_488_355_326;
+    let spent = AllocFault::EraSpent { era };
+    fills(&rt, rt.alloc(), 140_737_488_355_325, 77, 1, spent)?;
+    fills(&rt, rt.alloc(), 1, 1, 16, AllocFault::RootsFull)
 }
 
 #[test]
@@ -115,22 +100,11 @@ fn no_word_changes(rt: HostRuntime) -> Result<(), Fail> {
     let rows = [(17, 5, Err(large)), (17, 0, Err(large)), (0, 0, Ok(None))];
     for (refs, steps, expected) in rows {
         let mut life = Life::of(1);
-        let Some(mut pool) = joined(rt.alloc(), Geometry::new(1, 1)?, 9, false, &mut life, 0)?
-        else {
-            panic!(rt; "{refs} {steps}")
-        };
+        let mut pool = making(&rt, rt.alloc(), 9, &[], &mut life)?;
         life = Life::of(steps);
         let answer = allocate(&mut pool, 0, refs, &[], &mut life);
-        assert_eq!(rt; answer, expected, "{refs} {steps}");
-        assert_eq!(rt; life.left, steps, "{refs} {steps}");
-        for at in 0..2098u32 {
-            let word = match at {
-                1 => 1,
-                6 => 9,
-                _ => 0,
-            };
-            assert_eq!(rt; pool.word(at), word, "{refs} {steps} {at}");
-        }
+        assert_eq!(rt; (answer, life.left), (expected, steps), "{refs}");
+        has_words(&rt, &pool, &[(1, 1), (6, 9)]);
     }
     Ok(())
 }

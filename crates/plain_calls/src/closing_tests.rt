@@ -4,7 +4,16 @@ use crate::{join, joined, leave};
 use shm_graph::Life;
 use shm_plain::PlainPool;
 use shm_words::Geometry;
+use std::process::Abort;
 use std::test::Fail;
+
+/// The words of a closed pool are these, and 0 at all other addresses.
+fn has_words(rt: &impl Abort, all: &[u64], words: &[(usize, u64)]) {
+    for &(at, expected) in words {
+        assert_eq!(rt; all.get(at), Some(&expected), "{at}");
+    }
+    assert_eq!(rt; all.iter().filter(|word| **word != 0).count(), words.len());
+}
 
 #[test]
 fn a_pool_is_closed(rt: HostRuntime) -> Result<(), Fail> {
@@ -22,10 +31,7 @@ fn a_pool_is_closed(rt: HostRuntime) -> Result<(), Fail> {
     let closed = pool.close();
     assert_eq!(rt; closed.geometry(), Geometry::new(2, 1)?);
     // both are gone, and their own eras stand
-    for (at, expected) in [(1usize, 3u64), (2, 3), (11, 1), (14, 1)] {
-        assert_eq!(rt; closed.words().get(at), Some(&expected), "{at}");
-    }
-    assert_eq!(rt; closed.words().iter().filter(|word| **word != 0).count(), 4);
+    has_words(&rt, closed.words(), &[(1, 3), (2, 3), (11, 1), (14, 1)]);
     Ok(())
 }
 
@@ -38,9 +44,6 @@ fn a_pool_that_nobody_joined_is_closed(rt: HostRuntime) -> Result<(), Fail> {
     assert_eq!(rt; closed.geometry(), geometry);
     assert_eq!(rt; closed.words().len(), 4293);
     // the own eras of the three identities
-    for at in [16usize, 20, 24] {
-        assert_eq!(rt; closed.words().get(at), Some(&9), "{at}");
-    }
-    assert_eq!(rt; closed.words().iter().filter(|word| **word != 0).count(), 3);
+    has_words(&rt, closed.words(), &[(16, 9), (20, 9), (24, 9)]);
     Ok(())
 }

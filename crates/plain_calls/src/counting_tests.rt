@@ -1,5 +1,6 @@
 //! What count steps at roots answer on a pool, and which words they leave. The answers and words are those of an independent implementation.
 
+use crate::setting_tests::{has_some, making};
 use crate::{allocate, change, joined, lower, raise, tear_down};
 use shm_count::{EraSpent, Made, UpFault};
 use shm_graph::Life;
@@ -25,20 +26,18 @@ fn a_block_in_two_roots(rt: HostRuntime) -> Result<(), Fail> {
     let Some(Ok(true)) = lower(&mut pool, 0, 1, made.block, &mut life) else {
         panic!(rt; "not lowered to 0")
     };
-    assert_eq!(rt; pool.word(50), 9_223_372_036_854_775_812);
+    has_some(&rt, &pool, &[(50, 9_223_372_036_854_775_812)]);
     let Some(Ok(())) = tear_down(&mut pool, 0, made.block, &mut life) else {
         panic!(rt; "not torn down")
     };
-    assert_eq!(rt; pool.word(50), 0);
+    has_some(&rt, &pool, &[(50, 0)]);
     Ok(())
 }
 
 #[test]
 fn a_root_changes_its_block(rt: HostRuntime) -> Result<(), Fail> {
     let mut life = Life::of(100);
-    let Some(mut pool) = joined(rt.alloc(), Geometry::new(1, 1)?, 1, false, &mut life, 0)? else {
-        panic!(rt; "no join")
-    };
+    let mut pool = making(&rt, rt.alloc(), 1, &[], &mut life)?;
     let Some(Ok(before)) = allocate(&mut pool, 0, 0, &[77], &mut life)? else {
         panic!(rt; "no block")
     };
@@ -59,27 +58,14 @@ fn a_root_changes_its_block(rt: HostRuntime) -> Result<(), Fail> {
         (50, 9_223_372_036_854_775_812),
         (54, 9_223_653_511_831_486_467),
     ];
-    for (at, word) in words {
-        assert_eq!(rt; pool.word(at), word, "{at}");
-    }
+    has_some(&rt, &pool, &words);
     Ok(())
 }
 
 #[test]
 fn no_change_at_the_last_era(rt: HostRuntime) -> Result<(), Fail> {
     let mut life = Life::of(100);
-    let geometry = Geometry::new(1, 1)?;
-    let Some(mut pool) = joined(
-        rt.alloc(),
-        geometry,
-        140_737_488_355_324,
-        false,
-        &mut life,
-        0,
-    )?
-    else {
-        panic!(rt; "no join")
-    };
+    let mut pool = making(&rt, rt.alloc(), 140_737_488_355_324, &[], &mut life)?;
     let Some(Ok(before)) = allocate(&mut pool, 0, 0, &[77], &mut life)? else {
         panic!(rt; "no block")
     };
@@ -95,7 +81,7 @@ fn no_change_at_the_last_era(rt: HostRuntime) -> Result<(), Fail> {
         change(&mut pool, 0, 0, before.block, after.block, &mut life),
         Some(Err(spent))
     );
-    assert_eq!(rt; (pool.word(7), pool.word(8)), (50, 54));
+    has_some(&rt, &pool, &[(7, 50), (8, 54)]);
     Ok(())
 }
 
@@ -128,6 +114,6 @@ fn no_step_at_the_last_era(rt: HostRuntime) -> Result<(), Fail> {
         lower(&mut pool, 0, 0, made.block, &mut life),
         Some(Err(EraSpent { era }))
     );
-    assert_eq!(rt; (pool.word(7), pool.word(8)), (50, 0));
+    has_some(&rt, &pool, &[(7, 50), (8, 0)]);
     Ok(())
 }

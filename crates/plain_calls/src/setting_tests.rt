@@ -26,7 +26,7 @@ pub(crate) struct Link {
 }
 
 /// A pool that the one client has joined, with new blocks in its first roots: their reference words and plain words.
-fn making(
+pub(crate) fn making(
     rt: &impl Abort,
     alloc: Global,
     first_era: u64,
@@ -100,6 +100,17 @@ pub(crate) fn has_words(rt: &impl Abort, pool: &PlainPool, words: &[(u32, u64)])
                 word = value;
             }
         }
+        assert_eq!(rt; pool.word(at), word, "{at}");
+    }
+}
+
+/// These words of the pool are so.
+pub(crate) fn has_some(rt: &impl Abort, pool: &PlainPool, words: &[(u32, u64)])
+    requires geometry { GeometryFits pool.now.start.geometry }
+{
+    let total = pool.geometry().total();
+    for &(at, word) in words {
+        assert!(rt; at < total, "{at}");
         assert_eq!(rt; pool.word(at), word, "{at}");
     }
 }

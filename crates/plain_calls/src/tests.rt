@@ -1,5 +1,6 @@
 //! Which words a step changes, and machines that run to their answers.
 
+use crate::setting_tests::has_words;
 use crate::{joined, step_join};
 use shm_graph::Life;
 use shm_words::Geometry;
@@ -15,14 +16,7 @@ fn a_join_stores_one_word(rt: HostRuntime) -> Result<(), Fail> {
         assert_eq!(rt; (after.died, after.left), (died, left), "{steps}");
         after.pool.fall(0);
         assert_eq!(rt; after.pool.geometry(), geometry, "{steps}");
-        for at in 0..2098u32 {
-            let word = match at {
-                1 => status,
-                6 => 9,
-                _ => 0,
-            };
-            assert_eq!(rt; after.pool.word(at), word, "{steps} {at}");
-        }
+        has_words(&rt, &after.pool, &[(1, status), (6, 9)]);
     }
     Ok(())
 }
