@@ -9,7 +9,7 @@ use shm_graph::{Ask, Machine, Me, Turn};
 use std::marker::Model;
 
 /// The control of a watch.
-#[derive(Clone, Copy, Debug, PartialEq, Eq, Drop)]
+#[derive(Clone, Copy, Drop)]
 pub struct WatchState {
     pub me: Me,
     /// How many word steps are left; 0 once it has answered.

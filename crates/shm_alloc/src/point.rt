@@ -16,14 +16,14 @@ use shm_graph::{Ask, Me, make_step};
 use shm_words::{Header, Redo};
 
 /// The own era that was read, and the root that is to name the block.
-#[derive(Clone, Copy, Debug, PartialEq, Eq, Drop)]
+#[derive(Clone, Copy, Drop)]
 pub struct Goal {
     pub era: u64,
     pub root: u8,
 }
 
 /// How far the search for a free block has come.
-#[derive(Clone, Copy, Debug, PartialEq, Eq, Drop)]
+#[derive(Clone, Copy, Drop)]
 pub struct Search {
     /// The segment that is looked at.
     pub segment: u16,
@@ -34,7 +34,7 @@ pub struct Search {
 }
 
 /// The step that comes next.
-#[derive(Clone, Copy, Debug, PartialEq, Eq, Drop)]
+#[derive(Clone, Copy, Drop)]
 pub enum AllocPoint {
     /// Load the own era.
     Era,
@@ -114,7 +114,7 @@ pub enum AllocPoint {
 }
 
 /// The control of an allocation.
-#[derive(Clone, Copy, Debug, PartialEq, Eq, Drop)]
+#[derive(Clone, Copy, Drop)]
 pub struct AllocState {
     pub me: Me,
     pub request: Request,
@@ -122,7 +122,7 @@ pub struct AllocState {
 }
 
 /// Where an allocation goes by the word that it found.
-#[derive(Clone, Copy, Debug, PartialEq, Eq, Drop)]
+#[derive(Clone, Copy, Drop)]
 pub enum AllocNext {
     Point(AllocPoint),
     Answer(Result<Made, AllocFault>),

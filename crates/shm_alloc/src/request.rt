@@ -8,7 +8,7 @@ use crate::point::{AllocPoint, Goal};
 use shm_words::{Tag, class_of};
 
 /// What the new block is to hold.
-#[derive(Clone, Copy, Debug, PartialEq, Eq, Drop)]
+#[derive(Clone, Copy, Drop)]
 pub struct Request {
     /// How many reference words, 0 to 16.
     pub refs: u8,

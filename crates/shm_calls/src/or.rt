@@ -5,7 +5,7 @@ ghost use Rattle.shm_calls.specs.Either.{or_control, OrFits, OrGives, or_laws};
 use shm_graph::{Ask, Machine, Me, Turn};
 
 /// One of two.
-#[derive(Clone, Copy, Debug, PartialEq, Eq, Drop)]
+#[derive(Clone, Copy, Drop)]
 pub enum Or<A, B> {
     First(A),
     Second(B),

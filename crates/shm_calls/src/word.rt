@@ -7,7 +7,7 @@ ghost use Rattle.shm_calls.specs.Words.{word_control, WordFits, WordGives, word_
 use shm_graph::{Ask, Machine, Me, Turn, make_step};
 
 /// One word step of an identity, which answers the word that was found, for a store 0.
-#[derive(Clone, Copy, Debug, PartialEq, Eq, Drop)]
+#[derive(Clone, Copy, Drop)]
 pub struct Word {
     me: Me,
     ask: Ask,

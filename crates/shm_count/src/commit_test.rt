@@ -43,7 +43,7 @@ pub enum Commit {
 }
 
 /// Which word step of it comes next.
-#[derive(Clone, Copy, Debug, PartialEq, Eq, Drop)]
+#[derive(Clone, Copy, Drop)]
 pub enum TestingPoint {
     /// The header of the block is loaded.
     Header,
@@ -52,7 +52,7 @@ pub enum TestingPoint {
 }
 
 /// The control of it; `era` is the own era, which is that of the step, and `row` is the client whose row comes next.
-#[derive(Clone, Copy, Debug, PartialEq, Eq, Drop)]
+#[derive(Clone, Copy, Drop)]
 pub struct TestingState {
     pub me: Me,
     pub block: u32,

@@ -16,7 +16,7 @@ use shm_graph::{Ask, Me, make_step};
 use shm_words::{Header, Redo};
 
 /// What a count step does to the reference word that is its slot.
-#[derive(Clone, Copy, Debug, PartialEq, Eq, Drop)]
+#[derive(Clone, Copy, Drop)]
 pub enum Aim {
     /// It is empty, and comes to name the block.
     Up { block: u32 },
@@ -27,14 +27,14 @@ pub enum Aim {
 }
 
 /// The halves of a change; the other steps have the first one alone.
-#[derive(Clone, Copy, Debug, PartialEq, Eq, Drop)]
+#[derive(Clone, Copy, Drop)]
 pub enum Half {
     First,
     Second,
 }
 
 /// The step that comes next; `era` is the own era of the current half.
-#[derive(Clone, Copy, Debug, PartialEq, Eq, Drop)]
+#[derive(Clone, Copy, Drop)]
 pub enum StepPoint {
     /// Load the own era.
     Era,
@@ -57,7 +57,7 @@ pub enum StepPoint {
 }
 
 /// The control of a count step; `slot` is an address.
-#[derive(Clone, Copy, Debug, PartialEq, Eq, Drop)]
+#[derive(Clone, Copy, Drop)]
 pub struct StepState {
     pub me: Me,
     pub slot: u32,
@@ -66,7 +66,7 @@ pub struct StepState {
 }
 
 /// Where a count step goes by the word that it found; the answer says whether a count came to 0.
-#[derive(Clone, Copy, Debug, PartialEq, Eq, Drop)]
+#[derive(Clone, Copy, Drop)]
 pub enum StepNext {
     Point(StepPoint),
     Answer(Result<bool, UpFault>),

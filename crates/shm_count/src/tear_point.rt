@@ -14,7 +14,7 @@ use shm_graph::{Ask, Me, make_step};
 use shm_words::{ADDRESS_LIMIT, Tag};
 
 /// The word step of a tear-down that comes next; `tag` is that of its block, whose link is the block to go on with.
-#[derive(Clone, Copy, Debug, PartialEq, Eq, Drop)]
+#[derive(Clone, Copy, Drop)]
 pub enum TearPoint {
     /// Load the tag of the block that was given.
     Begin,
@@ -49,7 +49,7 @@ pub enum TearPoint {
 }
 
 /// The control of a tear-down: the block that was given, and the one that it works on; both are addresses.
-#[derive(Clone, Copy, Debug, PartialEq, Eq, Drop)]
+#[derive(Clone, Copy, Drop)]
 pub struct TearState {
     pub me: Me,
     pub first: u32,
@@ -58,7 +58,7 @@ pub struct TearState {
 }
 
 /// Where a tear-down goes by the word that it found.
-#[derive(Clone, Copy, Debug, PartialEq, Eq, Drop)]
+#[derive(Clone, Copy, Drop)]
 pub enum TearNext {
     Go { block: u32, point: TearPoint },
     Answer(Result<(), EraSpent>),

@@ -14,7 +14,7 @@ use shm_graph::{Machine, Me};
 use std::marker::Model;
 
 /// Which call of it comes next.
-#[derive(Clone, Copy, Debug, PartialEq, Eq, Drop)]
+#[derive(Clone, Copy, Drop)]
 pub enum RootingPoint {
     /// The own era is loaded.
     Era,
@@ -25,7 +25,7 @@ pub enum RootingPoint {
 }
 
 /// The control of it; `era` is the own era that was found, and `root` is the one that comes next.
-#[derive(Clone, Copy, Debug, PartialEq, Eq, Drop)]
+#[derive(Clone, Copy, Drop)]
 pub struct RootingState {
     pub me: Me,
     pub block: u32,

@@ -1,7 +1,7 @@
 //! The places of a pool once its pages have their classes.
 
 /// What a word is for, once the pages have their classes; a block is named by the address of its header.
-#[derive(Clone, Copy, Debug, PartialEq, Eq, Drop)]
+#[derive(Clone, Copy, Drop)]
 pub enum Spot {
     /// The word at address 0.
     Spare,

@@ -15,7 +15,7 @@ use shm_graph::{Machine, Me};
 use std::marker::Model;
 
 /// Which call of it comes next.
-#[derive(Clone, Copy, Debug, PartialEq, Eq, Drop)]
+#[derive(Clone, Copy, Drop)]
 pub enum DrainPoint {
     /// The own status is loaded.
     Status,
@@ -24,7 +24,7 @@ pub enum DrainPoint {
 }
 
 /// The control of it: from whom the next item is to come, and how many were taken.
-#[derive(Clone, Copy, Debug, PartialEq, Eq, Drop)]
+#[derive(Clone, Copy, Drop)]
 pub struct DrainState {
     pub me: Me,
     pub from: u8,

@@ -15,7 +15,7 @@ use shm_words::ADDRESS_LIMIT;
 use std::marker::Model;
 
 /// Which call of it comes next.
-#[derive(Clone, Copy, Debug, PartialEq, Eq, Drop)]
+#[derive(Clone, Copy, Drop)]
 pub enum PeekPoint {
     /// The own head is loaded.
     Head,
@@ -28,7 +28,7 @@ pub enum PeekPoint {
 }
 
 /// The control of it; `at` is the own head that was read, and `block` the item there.
-#[derive(Clone, Copy, Debug, PartialEq, Eq, Drop)]
+#[derive(Clone, Copy, Drop)]
 pub struct PeekState {
     pub me: Me,
     pub from: u8,

@@ -17,7 +17,7 @@ use shm_graph::{Machine, Me};
 use std::marker::Model;
 
 /// Which call of it comes next.
-#[derive(Clone, Copy, Debug, PartialEq, Eq, Drop)]
+#[derive(Clone, Copy, Drop)]
 pub enum ReceivePoint {
     /// The item comes to have a root.
     Look,
@@ -26,7 +26,7 @@ pub enum ReceivePoint {
 }
 
 /// The control of it; `root` and `block` are those of the peek.
-#[derive(Clone, Copy, Debug, PartialEq, Eq, Drop)]
+#[derive(Clone, Copy, Drop)]
 pub struct ReceiveState {
     pub me: Me,
     pub from: u8,

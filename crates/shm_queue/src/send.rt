@@ -13,7 +13,7 @@ use shm_graph::{Machine, Me};
 use std::marker::Model;
 
 /// Which call of it comes next.
-#[derive(Clone, Copy, Debug, PartialEq, Eq, Drop)]
+#[derive(Clone, Copy, Drop)]
 pub enum SendPoint {
     /// The own tail is loaded.
     Tail,
@@ -26,7 +26,7 @@ pub enum SendPoint {
 }
 
 /// The control of it; `tail` is the own tail that was read.
-#[derive(Clone, Copy, Debug, PartialEq, Eq, Drop)]
+#[derive(Clone, Copy, Drop)]
 pub struct SendState {
     pub me: Me,
     pub to: u8,

@@ -14,7 +14,7 @@ use shm_words::ADDRESS_LIMIT;
 use std::marker::Model;
 
 /// Which call of it comes next.
-#[derive(Clone, Copy, Debug, PartialEq, Eq, Drop)]
+#[derive(Clone, Copy, Drop)]
 pub enum TakePoint {
     /// The own head is loaded.
     Head,
@@ -31,7 +31,7 @@ pub enum TakePoint {
 }
 
 /// The control of it; `at` is the own head that was read, `block` the item there, and `last` says that its count came to 0.
-#[derive(Clone, Copy, Debug, PartialEq, Eq, Drop)]
+#[derive(Clone, Copy, Drop)]
 pub struct TakeState {
     pub me: Me,
     pub from: u8,

@@ -12,7 +12,7 @@ use shm_graph::{Machine, Me};
 use std::marker::Model;
 
 /// Which word step of it comes next.
-#[derive(Clone, Copy, Debug, PartialEq, Eq, Drop)]
+#[derive(Clone, Copy, Drop)]
 pub enum FinishPoint {
     /// The own head is loaded.
     Head,
@@ -25,7 +25,7 @@ pub enum FinishPoint {
 }
 
 /// The control of it; `passed` is the number of queues that it is done with, and `at` is the own head that was read.
-#[derive(Clone, Copy, Debug, PartialEq, Eq, Drop)]
+#[derive(Clone, Copy, Drop)]
 pub struct FinishState {
     pub me: Me,
     pub passed: u8,

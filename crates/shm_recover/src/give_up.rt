@@ -11,7 +11,7 @@ use shm_graph::{Machine, Me};
 use std::marker::Model;
 
 /// Which word step of it comes next.
-#[derive(Clone, Copy, Debug, PartialEq, Eq, Drop)]
+#[derive(Clone, Copy, Drop)]
 pub enum GivePoint {
     /// The segment's word is loaded.
     Look,
@@ -22,7 +22,7 @@ pub enum GivePoint {
 }
 
 /// The control of it; `segment` is the one that comes next.
-#[derive(Clone, Copy, Debug, PartialEq, Eq, Drop)]
+#[derive(Clone, Copy, Drop)]
 pub struct GiveState {
     pub me: Me,
     pub segment: u16,

@@ -13,7 +13,7 @@ use shm_graph::{Ask, Machine, Me, Turn, make_step};
 use std::marker::Model;
 
 /// How far a join has come.
-#[derive(Clone, Copy, Debug, PartialEq, Eq, Drop)]
+#[derive(Clone, Copy, Drop)]
 pub enum JoinPoint {
     /// The status is to be stored.
     Start,
@@ -22,7 +22,7 @@ pub enum JoinPoint {
 }
 
 /// The control of a join.
-#[derive(Clone, Copy, Debug, PartialEq, Eq, Drop)]
+#[derive(Clone, Copy, Drop)]
 pub struct JoinState {
     pub me: Me,
     pub point: JoinPoint,

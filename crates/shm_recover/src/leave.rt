@@ -13,7 +13,7 @@ use shm_ref::parts::{DropRoots, DroppingRoots};
 use std::marker::Model;
 
 /// Which call of it comes next.
-#[derive(Clone, Copy, Debug, PartialEq, Eq, Drop)]
+#[derive(Clone, Copy, Drop)]
 pub enum LeavePoint {
     /// The roots are dropped.
     Roots,
@@ -26,7 +26,7 @@ pub enum LeavePoint {
 }
 
 /// The control of it; `segment` is the one that comes next.
-#[derive(Clone, Copy, Debug, PartialEq, Eq, Drop)]
+#[derive(Clone, Copy, Drop)]
 pub struct LeaveState {
     pub me: Me,
     pub segment: u16,

@@ -34,7 +34,7 @@ use shm_words::Redo;
 use std::marker::Model;
 
 /// Which call of it comes next.
-#[derive(Clone, Copy, Debug, PartialEq, Eq, Drop)]
+#[derive(Clone, Copy, Drop)]
 pub enum MendPoint {
     /// The status dead is stored.
     Dead,
@@ -55,7 +55,7 @@ pub enum MendPoint {
 }
 
 /// The control of it; `era` is the own era, and `redo` is the record that was found.
-#[derive(Clone, Copy, Debug, PartialEq, Eq, Drop)]
+#[derive(Clone, Copy, Drop)]
 pub struct MendState {
     pub me: Me,
     pub era: u64,

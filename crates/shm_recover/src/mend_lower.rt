@@ -14,7 +14,7 @@ use shm_words::Header;
 use std::marker::Model;
 
 /// Which word step of it comes next.
-#[derive(Clone, Copy, Debug, PartialEq, Eq, Drop)]
+#[derive(Clone, Copy, Drop)]
 pub enum LoweringPoint {
     /// The header of the block is loaded.
     Header,
@@ -29,7 +29,7 @@ pub enum LoweringPoint {
 }
 
 /// The control of it; `era` is that of the second half, and `header` the word of the header that was found last.
-#[derive(Clone, Copy, Debug, PartialEq, Eq, Drop)]
+#[derive(Clone, Copy, Drop)]
 pub struct LoweringState {
     pub me: Me,
     pub block: u32,

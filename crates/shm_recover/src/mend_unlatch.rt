@@ -11,7 +11,7 @@ use shm_graph::{Machine, Me};
 use std::marker::Model;
 
 /// Which word step of it comes next.
-#[derive(Clone, Copy, Debug, PartialEq, Eq, Drop)]
+#[derive(Clone, Copy, Drop)]
 pub enum UnlatchingPoint {
     /// The hold word is loaded.
     Whose,
@@ -24,7 +24,7 @@ pub enum UnlatchingPoint {
 }
 
 /// The control of it; `author` is whose latch the hold word names.
-#[derive(Clone, Copy, Debug, PartialEq, Eq, Drop)]
+#[derive(Clone, Copy, Drop)]
 pub struct UnlatchingState {
     pub me: Me,
     pub author: u8,

@@ -24,7 +24,7 @@ use shm_ref::parts::{DropRoots, DroppingRoots};
 use std::marker::Model;
 
 /// Which call of it comes next.
-#[derive(Clone, Copy, Debug, PartialEq, Eq, Drop)]
+#[derive(Clone, Copy, Drop)]
 pub enum RecoverPoint {
     /// The step in progress is finished or dropped, and the latch is given back.
     Mend,
@@ -41,7 +41,7 @@ pub enum RecoverPoint {
 }
 
 /// The control of it.
-#[derive(Clone, Copy, Debug, PartialEq, Eq, Drop)]
+#[derive(Clone, Copy, Drop)]
 pub struct RecoverState {
     pub me: Me,
     pub point: RecoverPoint,

@@ -13,7 +13,7 @@ use shm_words::Header;
 use std::marker::Model;
 
 /// Which call of it comes next.
-#[derive(Clone, Copy, Debug, PartialEq, Eq, Drop)]
+#[derive(Clone, Copy, Drop)]
 pub enum ScanPoint {
     /// The class of the page is loaded.
     Page,
@@ -25,7 +25,7 @@ pub enum ScanPoint {
 
 /// The control of it: the segment and the page, the page's class that was read, how many words of the page come before the block, and how
 /// many blocks of the identity with count 0 were found.
-#[derive(Clone, Copy, Debug, PartialEq, Eq, Drop)]
+#[derive(Clone, Copy, Drop)]
 pub struct ScanState {
     pub me: Me,
     pub segment: u16,

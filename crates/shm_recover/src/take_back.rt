@@ -14,7 +14,7 @@ use shm_words::ADDRESS_LIMIT;
 use std::marker::Model;
 
 /// Which call of it comes next.
-#[derive(Clone, Copy, Debug, PartialEq, Eq, Drop)]
+#[derive(Clone, Copy, Drop)]
 pub enum BackPoint {
     /// The own tail is loaded.
     Tail,
@@ -30,7 +30,7 @@ pub enum BackPoint {
 
 /// The control of it; `passed` is the number of queues that it is done with, `at` the own tail that was read, and `block` what its slot
 /// was found to name.
-#[derive(Clone, Copy, Debug, PartialEq, Eq, Drop)]
+#[derive(Clone, Copy, Drop)]
 pub struct BackState {
     pub me: Me,
     pub passed: u8,

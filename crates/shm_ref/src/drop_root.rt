@@ -13,7 +13,7 @@ use shm_words::ADDRESS_LIMIT;
 use std::marker::Model;
 
 /// Which call of it comes next.
-#[derive(Clone, Copy, Debug, PartialEq, Eq, Drop)]
+#[derive(Clone, Copy, Drop)]
 pub enum DropPoint {
     /// The root is loaded.
     Load,
@@ -24,7 +24,7 @@ pub enum DropPoint {
 }
 
 /// The control of it; `block` is what the root was found to name.
-#[derive(Clone, Copy, Debug, PartialEq, Eq, Drop)]
+#[derive(Clone, Copy, Drop)]
 pub struct DropState {
     pub me: Me,
     pub root: u8,

@@ -13,7 +13,7 @@ use shm_graph::{Machine, Me};
 use std::marker::Model;
 
 /// The control of it: which root comes next.
-#[derive(Clone, Copy, Debug, PartialEq, Eq, Drop)]
+#[derive(Clone, Copy, Drop)]
 pub struct RootsState {
     pub me: Me,
     pub root: u8,

@@ -12,7 +12,7 @@ use shm_graph::{Machine, Me};
 use std::marker::Model;
 
 /// Which word step of it comes next.
-#[derive(Clone, Copy, Debug, PartialEq, Eq, Drop)]
+#[derive(Clone, Copy, Drop)]
 pub enum HoldPoint {
     /// The hold word is stored.
     Want,
@@ -23,7 +23,7 @@ pub enum HoldPoint {
 }
 
 /// The control of it; `author` is whose latch it is, and `holder` who was found to hold it.
-#[derive(Clone, Copy, Debug, PartialEq, Eq, Drop)]
+#[derive(Clone, Copy, Drop)]
 pub struct HoldState {
     pub me: Me,
     pub author: u8,

@@ -12,7 +12,7 @@ use shm_words::ADDRESS_LIMIT;
 use std::marker::Model;
 
 /// Which word step of it comes next.
-#[derive(Clone, Copy, Debug, PartialEq, Eq, Drop)]
+#[derive(Clone, Copy, Drop)]
 pub enum FindPoint {
     /// The hold word is loaded.
     Whose,
@@ -21,7 +21,7 @@ pub enum FindPoint {
 }
 
 /// The control of it.
-#[derive(Clone, Copy, Debug, PartialEq, Eq, Drop)]
+#[derive(Clone, Copy, Drop)]
 pub struct FindState {
     pub me: Me,
     pub author: u8,

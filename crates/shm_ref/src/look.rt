@@ -13,7 +13,7 @@ use shm_words::ADDRESS_LIMIT;
 use std::marker::Model;
 
 /// Which word step of it comes next.
-#[derive(Clone, Copy, Debug, PartialEq, Eq, Drop)]
+#[derive(Clone, Copy, Drop)]
 pub enum LookPoint {
     /// The tag is loaded.
     Shape,
@@ -24,7 +24,7 @@ pub enum LookPoint {
 }
 
 /// The control of it; `author` is whose block the tag was found to be.
-#[derive(Clone, Copy, Debug, PartialEq, Eq, Drop)]
+#[derive(Clone, Copy, Drop)]
 pub struct LookState {
     pub me: Me,
     pub block: u32,

@@ -12,7 +12,7 @@ use shm_graph::{Machine, Me};
 use std::marker::Model;
 
 /// Which word step of it comes next.
-#[derive(Clone, Copy, Debug, PartialEq, Eq, Drop)]
+#[derive(Clone, Copy, Drop)]
 pub enum ReadPoint {
     /// The tag is loaded.
     Shape,
@@ -21,7 +21,7 @@ pub enum ReadPoint {
 }
 
 /// The control of it; `refs` is how many reference words the tag was found to tell.
-#[derive(Clone, Copy, Debug, PartialEq, Eq, Drop)]
+#[derive(Clone, Copy, Drop)]
 pub struct ReadState {
     pub me: Me,
     pub block: u32,

@@ -10,7 +10,7 @@ use shm_graph::{Machine, Me};
 use std::marker::Model;
 
 /// Which word step of it comes next.
-#[derive(Clone, Copy, Debug, PartialEq, Eq, Drop)]
+#[derive(Clone, Copy, Drop)]
 pub enum ReleasePoint {
     /// The hold word is loaded.
     Whose,
@@ -21,7 +21,7 @@ pub enum ReleasePoint {
 }
 
 /// The control of it; `author` is whose latch was found to be held.
-#[derive(Clone, Copy, Debug, PartialEq, Eq, Drop)]
+#[derive(Clone, Copy, Drop)]
 pub struct ReleaseState {
     pub me: Me,
     pub author: u8,

@@ -11,7 +11,7 @@ use shm_words::ADDRESS_LIMIT;
 use std::marker::Model;
 
 /// The control of it.
-#[derive(Clone, Copy, Debug, PartialEq, Eq, Drop)]
+#[derive(Clone, Copy, Drop)]
 pub struct NamingState {
     pub me: Me,
     pub root: u8,

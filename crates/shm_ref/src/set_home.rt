@@ -13,7 +13,7 @@ use shm_words::ADDRESS_LIMIT;
 use std::marker::Model;
 
 /// Which call of it comes next.
-#[derive(Clone, Copy, Debug, PartialEq, Eq, Drop)]
+#[derive(Clone, Copy, Drop)]
 pub enum HomePoint {
     /// The home is loaded.
     Load,
@@ -22,7 +22,7 @@ pub enum HomePoint {
 }
 
 /// The control of it; `block` is what the home is to name.
-#[derive(Clone, Copy, Debug, PartialEq, Eq, Drop)]
+#[derive(Clone, Copy, Drop)]
 pub struct HomeState {
     pub me: Me,
     pub block: u32,

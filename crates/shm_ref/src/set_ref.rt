@@ -15,7 +15,7 @@ use shm_words::ADDRESS_LIMIT;
 use std::marker::Model;
 
 /// Which call of it comes next.
-#[derive(Clone, Copy, Debug, PartialEq, Eq, Drop)]
+#[derive(Clone, Copy, Drop)]
 pub enum SetPoint {
     /// The tag of the block is loaded.
     Tag,
@@ -34,7 +34,7 @@ pub enum SetPoint {
 }
 
 /// The control of it: `word` of `block` is to be `to`; `before` is what it was found to name.
-#[derive(Clone, Copy, Debug, PartialEq, Eq, Drop)]
+#[derive(Clone, Copy, Drop)]
 pub struct SetState {
     pub me: Me,
     pub block: u32,

@@ -3,7 +3,7 @@
 use crate::line::{Item, Line};
 
 /// What the last line was.
-#[derive(Clone, Copy, Debug, Drop)]
+#[derive(Clone, Copy, Drop)]
 pub enum Place {
     /// There was none.
     Start,
@@ -15,7 +15,7 @@ pub enum Place {
 }
 
 /// A line with its numbers in range.
-#[derive(Debug, Drop)]
+#[derive(Drop)]
 pub enum FitLine {
     Pool(u8, u16),
     Order(Vec<Item>),

@@ -1,14 +1,14 @@
 //! Lines by their shape alone: their numbers may have any size, and stand at any place.
 
 /// An item of an order; a number from 2^64 on is `None`.
-#[derive(Clone, Copy, Debug, Drop)]
+#[derive(Clone, Copy, Drop)]
 pub struct RawItem {
     pub client: Option<u64>,
     pub turns: Option<Option<u64>>,
 }
 
 /// A command; a number from 2^64 on is `None`.
-#[derive(Clone, Copy, Debug, Drop)]
+#[derive(Clone, Copy, Drop)]
 pub enum RawCommand {
     Put(Option<u64>, Option<u64>),
     Del(Option<u64>),
@@ -19,7 +19,7 @@ pub enum RawCommand {
 }
 
 /// A line of a trace; a number from 2^64 on is `None`.
-#[derive(Debug, Drop)]
+#[derive(Drop)]
 pub enum RawLine {
     Pool(Option<u64>, Option<u64>),
     Order(Vec<RawItem>),

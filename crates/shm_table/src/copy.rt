@@ -31,7 +31,7 @@ use shm_words::ADDRESS_LIMIT;
 use std::marker::Model;
 
 /// Which call of it comes next.
-#[derive(Clone, Copy, Debug, PartialEq, Eq, Drop)]
+#[derive(Clone, Copy, Drop)]
 pub enum CopyPoint {
     /// What the other key has is read, and its value block comes to have a root.
     Fetch,
@@ -43,7 +43,7 @@ pub enum CopyPoint {
 
 /// The control of it: `block` is the value block, `number` its number and `root` its root; `decided`
 /// says whether the key came to have it, and `refused` is why it hasn't got it.
-#[derive(Clone, Copy, Debug, PartialEq, Eq, Drop)]
+#[derive(Clone, Copy, Drop)]
 pub struct CopyState {
     pub me: Me,
     pub key: u32,

@@ -26,7 +26,7 @@ use shm_words::ADDRESS_LIMIT;
 use std::marker::Model;
 
 /// Which call of it comes next.
-#[derive(Clone, Copy, Debug, PartialEq, Eq, Drop)]
+#[derive(Clone, Copy, Drop)]
 pub enum DelPoint {
     /// The own latch is taken and the entry looked for.
     Search,
@@ -37,7 +37,7 @@ pub enum DelPoint {
 }
 
 /// The control of it: word `word` of block `before` leads to `entry`, where one was found, and then `answer` is what it will answer.
-#[derive(Clone, Copy, Debug, PartialEq, Eq, Drop)]
+#[derive(Clone, Copy, Drop)]
 pub struct DelState {
     pub me: Me,
     pub key: u32,

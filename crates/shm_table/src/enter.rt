@@ -18,7 +18,7 @@ use shm_words::ADDRESS_LIMIT;
 use std::marker::Model;
 
 /// Which call of it comes next.
-#[derive(Clone, Copy, Debug, PartialEq, Eq, Drop)]
+#[derive(Clone, Copy, Drop)]
 pub enum EnterPoint {
     /// The block is made that is to be the entry.
     Make,
@@ -44,7 +44,7 @@ pub enum Entered {
 }
 
 /// The control of it: the directory `home`, of which the key's bucket names `first`; `root` and `entry` are those of the new block.
-#[derive(Clone, Copy, Debug, PartialEq, Eq, Drop)]
+#[derive(Clone, Copy, Drop)]
 pub struct EnterState {
     pub me: Me,
     pub key: u32,

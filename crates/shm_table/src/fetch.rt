@@ -18,7 +18,7 @@ use shm_words::ADDRESS_LIMIT;
 use std::marker::Model;
 
 /// Which call of it comes next.
-#[derive(Clone, Copy, Debug, PartialEq, Eq, Drop)]
+#[derive(Clone, Copy, Drop)]
 pub enum FetchPoint {
     /// The latch is taken and the entry looked for.
     Search,
@@ -45,7 +45,7 @@ pub enum Fetched {
 
 /// The control of it: the entry that was found, its value block and that block's number; `outcome` is what it answers once the latch is
 /// given back.
-#[derive(Clone, Copy, Debug, PartialEq, Eq, Drop)]
+#[derive(Clone, Copy, Drop)]
 pub struct FetchState {
     pub me: Me,
     pub author: u8,

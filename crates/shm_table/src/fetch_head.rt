@@ -16,7 +16,7 @@ use shm_words::ADDRESS_LIMIT;
 use std::marker::Model;
 
 /// Which call of it comes next.
-#[derive(Clone, Copy, Debug, PartialEq, Eq, Drop)]
+#[derive(Clone, Copy, Drop)]
 pub enum FetchHeadPoint {
     /// The own head is loaded.
     Head,
@@ -49,7 +49,7 @@ pub enum FetchedHead {
 }
 
 /// The control of it; `at` is the own head that was read, `block` the value block there and `number` its number.
-#[derive(Clone, Copy, Debug, PartialEq, Eq, Drop)]
+#[derive(Clone, Copy, Drop)]
 pub struct FetchHeadState {
     pub me: Me,
     pub from: u8,

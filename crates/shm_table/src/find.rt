@@ -13,7 +13,7 @@ use shm_words::ADDRESS_LIMIT;
 use std::marker::Model;
 
 /// Which word step of it comes next.
-#[derive(Clone, Copy, Debug, PartialEq, Eq, Drop)]
+#[derive(Clone, Copy, Drop)]
 pub enum FindPoint {
     /// The author's home is loaded.
     Home,
@@ -35,7 +35,7 @@ pub enum Found {
 }
 
 /// The control of it: the directory, what the bucket's word names, the entry at which it is, and the word that leads there.
-#[derive(Clone, Copy, Debug, PartialEq, Eq, Drop)]
+#[derive(Clone, Copy, Drop)]
 pub struct FindState {
     pub me: Me,
     pub author: u8,

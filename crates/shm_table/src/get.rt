@@ -21,7 +21,7 @@ use shm_words::ADDRESS_LIMIT;
 use std::marker::Model;
 
 /// Which call of it comes next.
-#[derive(Clone, Copy, Debug, PartialEq, Eq, Drop)]
+#[derive(Clone, Copy, Drop)]
 pub enum GetPoint {
     /// The latch is taken and the entry looked for.
     Search,
@@ -36,7 +36,7 @@ pub enum GetPoint {
 }
 
 /// The control of it: the entry that was found, its value block and that block's number.
-#[derive(Clone, Copy, Debug, PartialEq, Eq, Drop)]
+#[derive(Clone, Copy, Drop)]
 pub struct GetState {
     pub me: Me,
     pub author: u8,

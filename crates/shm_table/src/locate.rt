@@ -13,7 +13,7 @@ use shm_ref::{Busy, Hold, Holding};
 use std::marker::Model;
 
 /// Which call of it comes next.
-#[derive(Clone, Copy, Debug, PartialEq, Eq, Drop)]
+#[derive(Clone, Copy, Drop)]
 pub enum LocatePoint {
     /// The latch is to be taken.
     Take,
@@ -24,7 +24,7 @@ pub enum LocatePoint {
 }
 
 /// The control of it.
-#[derive(Clone, Copy, Debug, PartialEq, Eq, Drop)]
+#[derive(Clone, Copy, Drop)]
 pub struct LocateState {
     pub me: Me,
     pub author: u8,

@@ -16,7 +16,7 @@ use shm_words::ADDRESS_LIMIT;
 use std::marker::Model;
 
 /// Which call of it comes next.
-#[derive(Clone, Copy, Debug, PartialEq, Eq, Drop)]
+#[derive(Clone, Copy, Drop)]
 pub enum OpenPoint {
     /// The home is loaded.
     Look,
@@ -29,7 +29,7 @@ pub enum OpenPoint {
 }
 
 /// The control of it: the root and the block of the directory that was made.
-#[derive(Clone, Copy, Debug, PartialEq, Eq, Drop)]
+#[derive(Clone, Copy, Drop)]
 pub struct OpenState {
     pub me: Me,
     pub root: u8,

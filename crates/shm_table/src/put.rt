@@ -30,7 +30,7 @@ use shm_words::ADDRESS_LIMIT;
 use std::marker::Model;
 
 /// Which call of it comes next.
-#[derive(Clone, Copy, Debug, PartialEq, Eq, Drop)]
+#[derive(Clone, Copy, Drop)]
 pub enum PutPoint {
     /// A value block is made.
     Make,
@@ -42,7 +42,7 @@ pub enum PutPoint {
 
 /// The control of it: `block` is the value block and `root` its root; `decided` says whether the
 /// key came to have it, and `refused` is why it hasn't got it.
-#[derive(Clone, Copy, Debug, PartialEq, Eq, Drop)]
+#[derive(Clone, Copy, Drop)]
 pub struct PutState {
     pub me: Me,
     pub key: u32,

@@ -31,7 +31,7 @@ use shm_words::ADDRESS_LIMIT;
 use std::marker::Model;
 
 /// Which call of it comes next.
-#[derive(Clone, Copy, Debug, PartialEq, Eq, Drop)]
+#[derive(Clone, Copy, Drop)]
 pub enum PutRootPoint {
     /// The own home comes to name a directory, where it names none.
     Open,
@@ -49,7 +49,7 @@ pub enum PutRootPoint {
 
 /// The control of it: `value` is to be at `key`. `entry` is the entry that was found, or the directory is `home` and its bucket's first entry
 /// `first`; `root` is that of a new entry, `decided` says whether the key came to have the block, and `refused` is why it came to nothing.
-#[derive(Clone, Copy, Debug, PartialEq, Eq, Drop)]
+#[derive(Clone, Copy, Drop)]
 pub struct PutRootState {
     pub me: Me,
     pub key: u32,

@@ -33,7 +33,7 @@ use shm_words::ADDRESS_LIMIT;
 use std::marker::Model;
 
 /// Which call of it comes next.
-#[derive(Clone, Copy, Debug, PartialEq, Eq, Drop)]
+#[derive(Clone, Copy, Drop)]
 pub enum RecvPoint {
     /// The head of the queue is read, and its value block comes to have a root.
     Fetch,
@@ -47,7 +47,7 @@ pub enum RecvPoint {
 
 /// The control of it: the own head is `at`, `block` is the value block there, `number` its number and `root` its root; `decided`
 /// says whether the key came to have it, and `refused` is why it hasn't got it.
-#[derive(Clone, Copy, Debug, PartialEq, Eq, Drop)]
+#[derive(Clone, Copy, Drop)]
 pub struct RecvState {
     pub me: Me,
     pub from: u8,

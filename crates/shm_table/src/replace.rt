@@ -17,7 +17,7 @@ use shm_words::ADDRESS_LIMIT;
 use std::marker::Model;
 
 /// Which call of it comes next.
-#[derive(Clone, Copy, Debug, PartialEq, Eq, Drop)]
+#[derive(Clone, Copy, Drop)]
 pub enum ReplacePoint {
     /// The value word of the entry is loaded.
     Look,
@@ -28,7 +28,7 @@ pub enum ReplacePoint {
 }
 
 /// The control of it: the value block of `entry` is to be `to`; `before` is the one that it was found to have.
-#[derive(Clone, Copy, Debug, PartialEq, Eq, Drop)]
+#[derive(Clone, Copy, Drop)]
 pub struct ReplaceState {
     pub me: Me,
     pub entry: u32,

@@ -22,7 +22,7 @@ use shm_words::ADDRESS_LIMIT;
 use std::marker::Model;
 
 /// Which call of it comes next.
-#[derive(Clone, Copy, Debug, PartialEq, Eq, Drop)]
+#[derive(Clone, Copy, Drop)]
 pub enum SendKeyPoint {
     /// The own latch is taken and the entry looked for.
     Search,
@@ -35,7 +35,7 @@ pub enum SendKeyPoint {
 }
 
 /// The control of it: the entry that was found and its value block; `outcome` is what it answers once the latch is given back.
-#[derive(Clone, Copy, Debug, PartialEq, Eq, Drop)]
+#[derive(Clone, Copy, Drop)]
 pub struct SendKeyState {
     pub me: Me,
     pub to: u8,

@@ -12,7 +12,7 @@ use shm_graph::{Machine, Me};
 use std::marker::Model;
 
 /// Which call of it comes next.
-#[derive(Clone, Copy, Debug, PartialEq, Eq, Drop)]
+#[derive(Clone, Copy, Drop)]
 pub enum TakeHeadPoint {
     /// The slot at the head, which names the block, comes to be empty.
     Lower,
@@ -21,7 +21,7 @@ pub enum TakeHeadPoint {
 }
 
 /// The control of it: the own head is `at`, and `block` is the item there.
-#[derive(Clone, Copy, Debug, PartialEq, Eq, Drop)]
+#[derive(Clone, Copy, Drop)]
 pub struct TakeHeadState {
     pub me: Me,
     pub from: u8,

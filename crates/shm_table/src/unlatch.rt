@@ -10,7 +10,7 @@ use shm_graph::{Machine, Me};
 use std::marker::Model;
 
 /// Which word step of it comes next.
-#[derive(Clone, Copy, Debug, PartialEq, Eq, Drop)]
+#[derive(Clone, Copy, Drop)]
 pub enum UnlatchPoint {
     /// The latch is stored as 0.
     Give,
@@ -19,7 +19,7 @@ pub enum UnlatchPoint {
 }
 
 /// The control of it; `author` is whose latch it is.
-#[derive(Clone, Copy, Debug, PartialEq, Eq, Drop)]
+#[derive(Clone, Copy, Drop)]
 pub struct UnlatchState {
     pub me: Me,
     pub author: u8,

@@ -17,7 +17,7 @@ use shm_words::ADDRESS_LIMIT;
 use std::marker::Model;
 
 /// Which call of it comes next.
-#[derive(Clone, Copy, Debug, PartialEq, Eq, Drop)]
+#[derive(Clone, Copy, Drop)]
 pub enum UnlinkPoint {
     /// The next word of the entry is loaded.
     Look,
@@ -30,7 +30,7 @@ pub enum UnlinkPoint {
 }
 
 /// The control of it: word `word` of block `before` leads to `entry`, and `next` is what the entry's next word was found to name.
-#[derive(Clone, Copy, Debug, PartialEq, Eq, Drop)]
+#[derive(Clone, Copy, Drop)]
 pub struct UnlinkState {
     pub me: Me,
     pub entry: u32,
