@@ -39,7 +39,7 @@ fn tell(rt: &HostRuntime, kind: &str, f: [u64; 6]) -> io::Result<()> {
     match kind {
         "sizes" => answer(rt, pools::sizes(f)),
         "total" => answer(rt, pools::total(f)),
-        "first" => answer(rt, pools::first(rt.alloc(), f)?),
+        "first" => pools::tell_first(rt, f),
         "place" => answer(rt, addresses::place(f)),
         "client" => answer(rt, addresses::client(f)),
         "root" => answer(rt, addresses::root(f)),

@@ -1,14 +1,13 @@
 //! Pools: their sizes and their first words.
 
-ghost use Rattle.std.specs.Prelude.{IfSome};
+ghost use Rattle.std.specs.Prelude.{IfSome, ◌×◌};
 ghost use Rattle.shm_words.specs.Layout.{GeometryFits};
+ghost use Rattle.shm_graph.specs.Runs.{EraFits};
 
 use shm_graph::{Start, first_words};
 use shm_words::{BadGeometry, Geometry};
 use std::alloc::{AllocError, Global};
-
-/// A pool's first words: how many there are, and the addresses and words of those that are not 0.
-type FirstWords = (usize, Vec<(usize, u64)>);
+use std::io;
 
 /// A pool of so many clients and segments.
 pub fn pool(f: [u64; 6]) -> Option<Geometry>
@@ -32,6 +31,22 @@ pub fn total(f: [u64; 6]) -> Option<(u8, u16, u32)> {
     Some((pool.clients(), pool.segments(), pool.total()))
 }
 
+/// How a pool begins: clients, segments, the first era.
+fn start(f: [u64; 6]) -> Option<Start>
+    ensures { IfSome result (λ s. GeometryFits s.geometry × EraFits s.first_era) }
+{
+    let geometry = pool(f)?;
+    let first_era = f[2];
+    if first_era == 0 || first_era >= (1 << 47) - 1 {
+        return None;
+    }
+    Some(Start {
+        geometry,
+        first_era,
+        tables: false,
+    })
+}
+
 /// The addresses and words that are not 0.
 fn set_words(alloc: Global, words: &[u64]) -> Result<Vec<(usize, u64)>, AllocError> {
     let mut set = Vec::new(alloc);
@@ -43,19 +58,14 @@ fn set_words(alloc: Global, words: &[u64]) -> Result<Vec<(usize, u64)>, AllocErr
     Ok(set)
 }
 
-/// The first words of a pool: clients, segments, the first era.
-pub fn first(alloc: Global, f: [u64; 6]) -> Result<Option<FirstWords>, AllocError> {
-    let (Some(geometry), era) = (pool(f), f[2]) else {
-        return Ok(None);
-    };
-    if era == 0 || era >= (1 << 47) - 1 {
-        return Ok(None);
+/// Tells how many first words a pool has, and the addresses and words of those that are not 0.
+pub fn tell_first(rt: &HostRuntime, f: [u64; 6]) -> io::Result<()> {
+    match start(f) {
+        Some(start) => {
+            let words = first_words(rt.alloc(), start)?;
+            let set = set_words(rt.alloc(), words.as_slice())?;
+            println!(rt; "{} {:?}", words.len(), set)
+        }
+        None => println!(rt; "None"),
     }
-    let start = Start {
-        geometry,
-        first_era: era,
-        tables: false,
-    };
-    let words = first_words(alloc, start)?;
-    Ok(Some((words.len(), set_words(alloc, words.as_slice())?)))
 }
