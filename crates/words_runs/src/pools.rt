@@ -1,6 +1,6 @@
 //! Pools: their sizes and their first words.
 
-ghost use Rattle.std.specs.Prelude.{IfSome, ◌×◌};
+ghost use Rattle.std.specs.Prelude.{IfSome};
 ghost use Rattle.shm_words.specs.Layout.{GeometryFits};
 ghost use Rattle.shm_graph.specs.Runs.{EraFits};
 
