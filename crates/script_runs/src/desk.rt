@@ -1,0 +1,58 @@
+//! The text, and the source and the sink in memory.
+
+use crate::texts::numbers;
+use shm_io::{MemorySink, MemorySource};
+use std::alloc::{AllocError, Global};
+use std::io;
+
+/// What the rows work on.
+#[derive(Drop)]
+pub struct Desk {
+    /// The text that rows build.
+    pub text: Vec<u8>,
+    /// The source, whose bytes were the text where it began.
+    pub source: MemorySource,
+    /// Where the source's bytes go.
+    pub piece: [u8; 5],
+    pub sink: MemorySink,
+}
+
+/// The numbers of calls that fail, but those that are 0.
+fn failing(alloc: Global, one: u64, other: u64) -> Result<Vec<u32>, AllocError> {
+    let mut fails = Vec::new(alloc);
+    for number in [one, other] {
+        if let Ok(number @ 1..) = u32::try_from(number) {
+            fails.push(number)?;
+        }
+    }
+    Ok(fails)
+}
+
+impl Desk {
+    /// No text, a source of no bytes and a sink with no room.
+    pub fn new(alloc: Global) -> Result<Desk, AllocError> {
+        Ok(Desk {
+            text: Vec::new(alloc),
+            source: MemorySource::new(Vec::new(alloc), 1, Vec::new(alloc)),
+            piece: [0; 5],
+            sink: MemorySink::new(alloc, 0, 1, Vec::new(alloc))?,
+        })
+    }
+
+    /// A source of the text: the most bytes of a read, and the numbers of two reads that fail.
+    pub fn begin_source(&mut self, alloc: Global, rest: &str) -> io::Result<()> {
+        let [piece, one, other] = numbers(rest);
+        let bytes = self.text.as_slice().to_vec(alloc)?;
+        let fails = failing(alloc, one, other)?;
+        self.source = MemorySource::new(bytes, piece.max(1) as usize, fails);
+        Ok(())
+    }
+
+    /// An empty sink: its room, the most bytes of a write, and the number of a write that fails.
+    pub fn begin_sink(&mut self, alloc: Global, rest: &str) -> io::Result<()> {
+        let [room, piece, fail] = numbers(rest);
+        let fails = failing(alloc, fail, 0)?;
+        self.sink = MemorySink::new(alloc, room as usize, piece.max(1) as usize, fails)?;
+        Ok(())
+    }
+}
