@@ -1,4 +1,4 @@
-//! Tests that take several crates: machines on pools.
+//! Calls on pools in vectors: a function for each machine, with a contract of its own.
 #![tactic(auto)]
 
 pub mod allocating;
@@ -28,32 +28,3 @@ pub use recovering::{die, recover};
 pub use setting::{set_home, set_ref};
 pub use sharing::share;
 pub use tearing::tear_down;
-
-#[cfg(test)]
-mod allocating_tests;
-#[cfg(test)]
-mod closing_tests;
-#[cfg(test)]
-mod counting_tests;
-#[cfg(test)]
-mod dropping_tests;
-#[cfg(test)]
-mod items_tests;
-#[cfg(test)]
-mod latches_tests;
-#[cfg(test)]
-mod leaving_tests;
-#[cfg(test)]
-mod mending_tests;
-#[cfg(test)]
-mod queues_tests;
-#[cfg(test)]
-mod recovering_tests;
-#[cfg(test)]
-mod rounds_tests;
-#[cfg(test)]
-mod setting_tests;
-#[cfg(test)]
-mod sharing_tests;
-#[cfg(test)]
-mod tests;

@@ -4,8 +4,3 @@
 pub mod commands;
 
 pub use commands::command;
-
-#[cfg(test)]
-mod row_tests;
-#[cfg(test)]
-mod running;

@@ -1,0 +1,4 @@
+pub mod Knowing
+pub mod Answered
+pub mod Standing
+pub mod Naming
