@@ -17,17 +17,6 @@ pub struct Desk {
     pub sink: MemorySink,
 }
 
-/// The numbers of calls that fail, but those that are 0.
-fn failing(alloc: Global, one: u64, other: u64) -> Result<Vec<u32>, AllocError> {
-    let mut fails = Vec::new(alloc);
-    for number in [one, other] {
-        if let Ok(number @ 1..) = u32::try_from(number) {
-            fails.push(number)?;
-        }
-    }
-    Ok(fails)
-}
-
 impl Desk {
     /// No text, a source of no bytes and a sink with no room.
     pub fn new(alloc: Global) -> Result<Desk, AllocError> {
@@ -39,19 +28,19 @@ impl Desk {
         })
     }
 
-    /// A source of the text: the most bytes of a read, and the numbers of two reads that fail.
+    /// A source of the text: the most bytes of a read, and the numbers of two reads that fail (0: none).
     pub fn begin_source(&mut self, alloc: Global, rest: &str) -> io::Result<()> {
         let [piece, one, other] = numbers(rest);
         let bytes = self.text.as_slice().to_vec(alloc)?;
-        let fails = failing(alloc, one, other)?;
+        let fails = vec![in alloc; one, other]?;
         self.source = MemorySource::new(bytes, piece.max(1) as usize, fails);
         Ok(())
     }
 
-    /// An empty sink: its room, the most bytes of a write, and the number of a write that fails.
+    /// An empty sink: its room, the most bytes of a write, and the number of a write that fails (0: none).
     pub fn begin_sink(&mut self, alloc: Global, rest: &str) -> io::Result<()> {
         let [room, piece, fail] = numbers(rest);
-        let fails = failing(alloc, fail, 0)?;
+        let fails = vec![in alloc; fail]?;
         self.sink = MemorySink::new(alloc, room as usize, piece.max(1) as usize, fails)?;
         Ok(())
     }

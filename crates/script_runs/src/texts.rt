@@ -18,16 +18,19 @@ pub fn number(word: &str) -> u64 {
     }
 }
 
-/// Three numbers, 0 where there are fewer.
-pub fn numbers(rest: &str) -> [u64; 3] {
-    let mut found = [0; 3];
-    let mut words = rest.split_whitespace();
-    for place in &mut found {
-        if let Some(word) = words.next() {
-            *place = number(word);
-        }
+/// A number below 2^32, 0 where the word is none.
+pub fn small(word: &str) -> u32 {
+    match word.parse() {
+        Ok(number) => number,
+        Err(_) => 0,
     }
-    found
+}
+
+/// Three numbers below 2^32, 0 where there are fewer.
+pub fn numbers(rest: &str) -> [u32; 3] {
+    let (one, rest) = halves(rest);
+    let (two, three) = halves(rest);
+    [small(one), small(two), small(three)]
 }
 
 /// Adds a line and its line feed.
