@@ -5,23 +5,12 @@
 //! writes the summary; with `--print` it writes the trace.
 #![tactic(auto)]
 
-mod answer;
-mod command;
-mod laws;
-mod outcome;
-mod refusals;
-mod telling;
-#[cfg(test)]
-mod tests;
-mod top;
-mod words;
-
-use command::{exit_code, program_words};
 use shm_io::{StdSink, StdSource};
+use shm_program::top::top;
+use shm_program::{exit_code, program_words};
 use std::alloc::Global;
 use std::env;
 use std::process::ExitCode;
-use top::top;
 
 fn main(rt: HostRuntime) -> ExitCode {
     exit_code(&program_words(rt.alloc(), env::args(&rt)).map(|words| {

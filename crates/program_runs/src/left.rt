@@ -1,0 +1,43 @@
+//! What is told of the replay that a call hands out.
+
+use shm_program::Finished;
+use shm_script::Log;
+use std::io;
+
+/// How many words the closed pool has, and each that isn't 0 behind its address.
+pub fn words(rt: &HostRuntime, finished: &Finished) -> io::Result<()> {
+    match finished {
+        Finished::Neither => println!(rt; "no replay"),
+        Finished::Replayed(run) => words_of(rt, run.closed.words()),
+    }
+}
+
+/// How many words there are, and each that isn't 0 behind its address.
+fn words_of(rt: &HostRuntime, words: &[u64]) -> io::Result<()> {
+    println!(rt; "{} words", words.len())?;
+    for (at, word) in words.iter().enumerate() {
+        if *word != 0 {
+            println!(rt; "{at} {word}")?;
+        }
+    }
+    Ok(())
+}
+
+/// The answers of each client.
+pub fn answers(rt: &HostRuntime, finished: &Finished) -> io::Result<()> {
+    match finished {
+        Finished::Neither => println!(rt; "no replay"),
+        Finished::Replayed(run) => answers_of(rt, run.logs.as_slice()),
+    }
+}
+
+/// The answers of each log.
+fn answers_of(rt: &HostRuntime, logs: &[Log]) -> io::Result<()> {
+    for log in logs {
+        println!(rt; "client {}", log.client)?;
+        for entry in &log.entries {
+            println!(rt; "{:?}", entry.answer)?;
+        }
+    }
+    Ok(())
+}

@@ -1,0 +1,122 @@
+//! Calls of the program over sources and sinks in memory, and the words and the status of its process, by rows on standard input.
+//!
+//! | Row | What it does |
+//! |---|---|
+//! | `# TITLE` | names what follows, and is told as it stands |
+//! | `call WORD ..` | sets the words of calls, and streams that never fail; a word that is empty or holds spaces stands in quotes |
+//! | `streams READ FAIL WRITE FAIL ROOM` | sets the streams: the most bytes that a read gives and which read fails (0: none), the same of writes, and the room of the sink |
+//! | `input` | begins an input; the rows up to one of a point alone are its lines |
+//! | `more` | goes on with it: the rows up to one of a point alone are more lines of it |
+//! | `cut N`, `keep N` | takes the last N bytes of the input away, or all behind the first N |
+//! | `pad BYTE N` | adds N times a byte to the input |
+//! | `put AT NUMBER` | sets eight bytes of the input to a number, the lowest first |
+//! | `again` | takes as input what the last call wrote |
+//! | `go` | makes a call, and tells its status and what it wrote, and then a point |
+//! | `sum` | makes a call, and tells its status, and how many bytes it wrote and their 64-bit FNV-1a sum |
+//! | `words` | tells how many words the pool has that the last call handed out, and those that aren't 0, behind their addresses |
+//! | `answers` | tells the answers in the logs that it handed out, with the blocks that they name |
+//! | `args WORD ..` | tells the words of a call whose process has these |
+//! | `unread invalid`, `unread memory` | the same where those of the process can't be read |
+//! | `exit STATUS`, `exit wanting` | tells whether the process ends with the status of a call, or with 6 where there was none for want of memory |
+//!
+//! What must be told (the file stdout) was computed by an independent implementation.
+#![tactic(auto)]
+
+mod call;
+mod input;
+mod left;
+mod process;
+mod reading;
+mod telling;
+
+use call::{Call, Made};
+use input::Input;
+use std::alloc::{AllocError, Global};
+use std::io;
+use std::process::ExitCode;
+
+/// The call that is made ready, and what the last one came to.
+#[derive(Drop)]
+struct Rows {
+    call: Call,
+    input: Input,
+    last: Made,
+}
+
+impl Rows {
+    /// Before the first row.
+    fn new(alloc: Global) -> Rows {
+        Rows {
+            call: Call::new(Vec::new(alloc)),
+            input: Input::new(alloc),
+            last: Made::nothing(alloc),
+        }
+    }
+
+    /// Makes the call.
+    fn make(&mut self, alloc: Global) -> Result<(), AllocError> {
+        self.last = self.call.make(alloc, self.input.bytes())?;
+        Ok(())
+    }
+}
+
+/// A row that makes a call ready; false where it is another one.
+fn prepare(alloc: Global, rows: &mut Rows, word: &str, rest: &str) -> Result<bool, AllocError> {
+    match word {
+        "call" => rows.call = Call::new(reading::words(alloc, rest)?),
+        "streams" => rows.call.set_streams(&reading::words(alloc, rest)?),
+        "again" => rows.input.set(rows.last.written.as_slice().to_vec(alloc)?),
+        _ => return rows.input.take(word, rest),
+    }
+    Ok(true)
+}
+
+/// A row that tells something.
+fn tell(rt: &HostRuntime, rows: &mut Rows, word: &str, rest: &str) -> io::Result<()> {
+    match word {
+        "#" => println!(rt; "# {rest}"),
+        "go" => {
+            rows.make(rt.alloc())?;
+            telling::text(rt, &rows.last)
+        }
+        "sum" => {
+            rows.make(rt.alloc())?;
+            telling::sum(rt, &rows.last)
+        }
+        "words" => left::words(rt, &rows.last.outcome.finished),
+        "answers" => left::answers(rt, &rows.last.outcome.finished),
+        "args" => process::args(rt, rest),
+        "unread" => process::unread(rt, rest),
+        "exit" => process::exit(rt, rest),
+        _ => println!(rt; "unknown row {word}"),
+    }
+}
+
+/// A row.
+fn take(rt: &HostRuntime, rows: &mut Rows, line: &str) -> io::Result<()> {
+    if rows.input.is_open() {
+        rows.input.line(line)?;
+        return Ok(());
+    }
+    let (word, rest) = line.split_once(' ').unwrap_or((line, ""));
+    if prepare(rt.alloc(), rows, word, rest)? {
+        return Ok(());
+    }
+    tell(rt, rows, word, rest)
+}
+
+/// All rows.
+fn take_all(rt: &HostRuntime) -> io::Result<()> {
+    let mut rows = Rows::new(rt.alloc());
+    for line in rt.lines(rt.alloc()) {
+        take(rt, &mut rows, line?.as_str())?;
+    }
+    Ok(())
+}
+
+fn main(rt: HostRuntime) -> ExitCode {
+    match take_all(&rt) {
+        Ok(()) => ExitCode::SUCCESS,
+        Err(_) => ExitCode::FAILURE,
+    }
+}

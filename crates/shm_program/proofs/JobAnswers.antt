@@ -1,0 +1,19 @@
+-- what is told of a trace is the answer of the job that has this trace
+use Rattle.std.proofs.Common.{◌≡◌, ℕ, List, subst, inl}
+use Rattle.shm_script.specs.Drawing.{drawn_trace}
+use Rattle.shm_script.specs.Values.{Traced}
+use Rattle.shm_program.specs.declared.outcome.Finished.{Finished}
+use Rattle.shm_program.specs.declared.words.Form.{Form}
+use Rattle.shm_program.specs.declared.words.Form.TheVariants.{Summary}
+use Rattle.shm_program.specs.declared.words.Job.TheVariants.{Replay, Print, Make}
+use Rattle.shm_program.specs.Outcomes.{Answers, IsPrinted, Spells}
+use Rattle.shm_program.specs.Replays.{IsTold}
+
+pub read_told : (form : Form) (bytes : List ℕ) (t : Traced) (status : ℕ) (finished : Finished) (text : List ℕ) → Spells bytes t → (status ≡ 0) × IsTold form t finished text → Answers (Replay form) bytes status finished text
+read_told form bytes t status finished text s d = inl (d.0, (t, s, d.1))
+
+pub read_printed : (bytes : List ℕ) (t : Traced) (status : ℕ) (finished : Finished) (text : List ℕ) → Spells bytes t → (status ≡ 0) × IsPrinted t finished text → Answers Print bytes status finished text
+read_printed bytes t status finished text s p = inl (p.0, (t, s, p.1))
+
+pub drawn_told : (start size : ℕ) (bytes : List ℕ) (t : Traced) (status : ℕ) (finished : Finished) (text : List ℕ) → t ≡ drawn_trace start size → (status ≡ 0) × IsTold Summary t finished text → Answers (Make start size) bytes status finished text
+drawn_told start size bytes t status finished text same d = inl (d.0, subst (λ (u : Traced). IsTold Summary u finished text) same d.1)

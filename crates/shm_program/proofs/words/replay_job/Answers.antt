@@ -1,0 +1,21 @@
+use Rattle.std.proofs.Common.{◌≡◌, ◌∙◌, ap, ap₂, sym, map, List, ℕ, Bool, codes}
+use Rattle.std.specs.String.{string_bytes}
+use Rattle.clap.specs.Words.{app_of, first_of, found_of, is_simple_and_free}
+use Rattle.clap.proofs.WalkLemmas.{first_value-rows}
+use Rattle.shm_program.specs.Words.{is_true, replay_command, replay_in, replay_of, rows_in}
+use Rattle.shm_program.proofs.Commands.{asked_when, replay_free, unasked_when}
+use Rattle.shm_program.proofs.words.replay_job.Goals as goal
+
+pub read-requires : goal.read-requires
+read-requires c = ap is_simple_and_free c.in_ok-replay_command.ensures ∙ replay_free
+
+pub returns-in-Some-clause-job : goal.returns-in-Some-clause-job
+returns-in-Some-clause-job c =
+    let m = c.in-Some.matches in
+    let image : c.is_set.result ≡ is_true (first_of (codes "image") (rows_in m)) = c.is_set.ensures ∙ ap is_true (first_value-rows (found_of m) (codes "image")) in
+    let print : c.is_set-in-Some.result ≡ is_true (first_of (codes "print") (rows_in m)) = c.is_set-in-Some.ensures ∙ ap is_true (first_value-rows (found_of m) (codes "print")) in
+    let asked = asked_when (app_of c.in_ok-replay_command.field-0) replay_command replay_in (map string_bytes c.args.words.now) c.in_ok-matches.field-0 m c.in_ok-replay_command.ensures c.in-Some.is c.in_ok-matches.ensures in
+    c.replay_of.ensures.job ∙ (ap₂ replay_of image print ∙ asked)
+
+pub returns-in-None-clause-job : goal.returns-in-None-clause-job
+returns-in-None-clause-job c = unasked_when (app_of c.in_ok-replay_command.field-0) replay_command replay_in (map string_bytes c.args.words.now) c.in_ok-matches.field-0 c.in_ok-replay_command.ensures c.in-None.is c.in_ok-matches.ensures

@@ -1,0 +1,63 @@
+use Rattle.std.proofs.Common.{refl}
+use Rattle.clap.proofs.OnLiterals.{clap_on_literals}
+use Rattle.shm_program.proofs.words.words_of_jobs.Goals as goal
+
+pub returns-clause-report : goal.returns-clause-report
+unfolding clap_on_literals
+returns-clause-report c = refl
+
+pub returns-clause-image : goal.returns-clause-image
+unfolding clap_on_literals
+returns-clause-image c = refl
+
+pub returns-clause-print : goal.returns-clause-print
+unfolding clap_on_literals
+returns-clause-print c = refl
+
+pub returns-clause-both : goal.returns-clause-both
+unfolding clap_on_literals
+returns-clause-both c = refl
+
+pub returns-clause-twice : goal.returns-clause-twice
+unfolding clap_on_literals
+returns-clause-twice c = refl
+
+pub returns-clause-help : goal.returns-clause-help
+unfolding clap_on_literals
+returns-clause-help c = refl
+
+pub returns-clause-more : goal.returns-clause-more
+unfolding clap_on_literals
+returns-clause-more c = refl
+
+pub returns-clause-audit : goal.returns-clause-audit
+unfolding clap_on_literals
+returns-clause-audit c = refl
+
+pub returns-clause-audit_more : goal.returns-clause-audit_more
+unfolding clap_on_literals
+returns-clause-audit_more c = refl
+
+pub returns-clause-make : goal.returns-clause-make
+unfolding clap_on_literals
+returns-clause-make c = refl
+
+pub returns-clause-draw : goal.returns-clause-draw
+unfolding clap_on_literals
+returns-clause-draw c = refl
+
+pub returns-clause-few : goal.returns-clause-few
+unfolding clap_on_literals
+returns-clause-few c = refl
+
+pub returns-clause-zero : goal.returns-clause-zero
+unfolding clap_on_literals
+returns-clause-zero c = refl
+
+pub returns-clause-many : goal.returns-clause-many
+unfolding clap_on_literals
+returns-clause-many c = refl
+
+pub returns-clause-leading : goal.returns-clause-leading
+unfolding clap_on_literals
+returns-clause-leading c = refl

@@ -1,0 +1,121 @@
+-- which words are accepted, and what they ask for
+use Rattle.std.specs.Prelude.{◌≡◌, ◌≤◌, ℕ, Bool, true, false, nat_le, ◌&&◌, if◌then◌else◌, List, [], ◌∷◌, codes, Option, Some, None, option_and_then}
+use Rattle.std.specs.Str.{bytes_eq}
+use Rattle.clap.specs.Words.{App, Kinds, Row, Rule, fault_of, first_of, found_of, matches_of, new_app, new_rule, rows_of, with_rule}
+use Rattle.clap.specs.declared.builder.action.ArgAction.TheVariants.{SetTrue}
+use Rattle.clap.specs.declared.parser.matches.ArgMatches.{ArgMatches}
+use Rattle.shm_script.specs.Numbers.{is_numeral, small, value_after}
+use Rattle.shm_program.specs.declared.words.Form.TheVariants.{Report, Image}
+use Rattle.shm_program.specs.declared.words.Job.{Job}
+use Rattle.shm_program.specs.declared.words.Job.TheVariants.{Replay, Print, Audit, Make, Draw}
+use Rattle.shm_program.specs.declared.words.Name.{Name}
+use Rattle.shm_program.specs.declared.words.Name.TheVariants as name
+
+-- ---- the commands
+
+-- a flag: two dashes and its name
+abbrev pub flag : List ℕ → Rule
+flag id = record (new_rule id) { long = Some id; action = Some SetTrue }
+
+-- a word that is required
+abbrev pub required : List ℕ → Rule
+required id = record (new_rule id) { required = true }
+
+-- `replay` has two flags
+abbrev pub replay_command : App
+replay_command = with_rule (with_rule (new_app (codes "replay")) (flag (codes "image"))) (flag (codes "print"))
+
+-- `audit` has nothing but what each command has
+abbrev pub audit_command : App
+audit_command = new_app (codes "audit")
+
+-- `make` has two words and a flag
+abbrev pub make_command : App
+make_command = with_rule (with_rule (with_rule (new_app (codes "make")) (required (codes "start"))) (required (codes "size"))) (flag (codes "print"))
+
+-- ---- what a command reads
+
+-- the arguments that were read
+abbrev pub rows_in : ArgMatches → List Row
+rows_in m = rows_of (found_of m)
+
+-- what there is where there is no fault, and otherwise nothing
+abbrev pub unless_faulty : {A : Type 0} → Kinds → A → Option A
+unless_faulty [] a = Some a
+unless_faulty (k ∷ ks) a = None
+
+-- what a command reads in words, of which the first one is its name: nothing where it refuses them
+abbrev pub read_by : App → List (List ℕ) → Option (List Row)
+read_by command words = unless_faulty (fault_of command words) (matches_of command words)
+
+-- whether the text of a flag says that it is set
+abbrev pub is_true : Option (List ℕ) → Bool
+is_true None = false
+is_true (Some text) = bytes_eq text (codes "true")
+
+-- the number below 2^64 that a word spells in decimal without a leading zero
+abbrev pub number_in : List ℕ → Option ℕ
+number_in word = if is_numeral word then small (value_after 0 word) else None
+
+-- ---- what they ask for
+
+-- `replay` by its flags `--image` and `--print`, of which one at most may be set
+abbrev pub replay_of : Bool → Bool → Option Job
+replay_of false false = Some (Replay Report)
+replay_of true false = Some (Replay Image)
+replay_of false true = Some Print
+replay_of true true = None
+
+abbrev pub replay_in : List Row → Option Job
+replay_in rows = replay_of (is_true (first_of (codes "image") rows)) (is_true (first_of (codes "print") rows))
+
+abbrev pub audit_in : List Row → Option Job
+audit_in rows = Some Audit
+
+-- how many commands a drawn script may have
+abbrev pub is_size : ℕ → Bool
+is_size n = nat_le 1 n && nat_le n 4000
+
+abbrev pub make_or_draw : Bool → ℕ → ℕ → Job
+make_or_draw true start size = Draw start size
+make_or_draw false start size = Make start size
+
+-- `make` by its flag `--print` and its numbers
+abbrev pub make_of : Bool → Option ℕ → Option ℕ → Option Job
+make_of print (Some start) (Some size) = if is_size size then Some (make_or_draw print start size) else None
+make_of print _ _ = None
+
+abbrev pub make_in : List Row → Option Job
+make_in rows = make_of (is_true (first_of (codes "print") rows)) (option_and_then number_in (first_of (codes "start") rows)) (option_and_then number_in (first_of (codes "size") rows))
+
+-- what the words of a command ask for: nothing where it refuses them
+abbrev pub asked : App → (List Row → Option Job) → List (List ℕ) → Option Job
+asked command job words = option_and_then job (read_by command words)
+
+-- the command that a word names
+abbrev pub name_of : List ℕ → Option Name
+name_of word =
+    if bytes_eq word (codes "replay") then Some name.Replay
+    else if bytes_eq word (codes "audit") then Some name.Audit
+    else if bytes_eq word (codes "make") then Some name.Make
+    else None
+
+abbrev pub job_by : Name → List (List ℕ) → Option Job
+job_by name.Replay words = asked replay_command replay_in words
+job_by name.Audit words = asked audit_command audit_in words
+job_by name.Make words = asked make_command make_in words
+
+-- what the words ask for: the first one names the command, and nothing where it names none
+abbrev pub job_of : List (List ℕ) → Option Job
+job_of [] = None
+job_of (word ∷ words) = option_and_then (λ n. job_by n (word ∷ words)) (name_of word)
+
+-- the first word names a command
+abbrev pub NamesCommand : List (List ℕ) → Type 0
+NamesCommand words = (n : Name) × (first : List ℕ) × (rest : List (List ℕ)) × (words ≡ first ∷ rest) × (name_of first ≡ Some n)
+
+-- a trace is drawn with 1 to 4,000 commands for each client
+abbrev pub JobFits : Job → Type 0
+JobFits (Make start size) = (1 ≤ size) × (size ≤ 4000)
+JobFits (Draw start size) = (1 ≤ size) × (size ≤ 4000)
+JobFits _ = Unit {0}

@@ -1,0 +1,88 @@
+//! What is answered to the bytes that a job read.
+
+ghost use Rattle.std.specs.Prelude.{◌≡◌, IfOk};
+ghost use Rattle.shm_audit.specs.Faults.{image_fault_of};
+ghost use Rattle.shm_script.specs.declared.fault.ParseStop.{ParseStop as AStop};
+ghost use Rattle.shm_script.specs.declared.fault.TraceFault.{TraceFault as AFault};
+ghost use Rattle.shm_program.specs.Outcomes.{Answers, IsPrinted};
+ghost use Rattle.shm_program.specs.Refusals.{fault_line};
+ghost use Rattle.shm_program.specs.Words.{JobFits};
+
+use crate::outcome::Finished;
+use crate::refusals::fault_line;
+use crate::telling::tell;
+use crate::words::{Form, Job};
+use shm_audit::{AuditStop, audit, fault_text, verdict_text};
+use shm_script::{ParseStop, Trace, generate, parse, print};
+use std::alloc::{AllocError, Global};
+
+/// A text that is to be written, with the status that it has.
+#[derive(Drop)]
+pub struct Reply {
+    pub status: u8,
+    pub text: Vec<u8>,
+    pub finished: Finished,
+}
+
+/// What a job answers to the bytes that it read.
+pub fn answer(alloc: Global, job: Job, bytes: &[u8]) -> Result<Reply, AllocError>
+    requires { JobFits job }
+    ensures { IfOk result (λ r. Answers job bytes.now r.status r.finished r.text.items) }
+{
+    match job {
+        Job::Replay(form) => match parse(alloc, bytes) {
+            Ok(trace) => tell(alloc, &trace, form),
+            Err(stop) => refuse(alloc, stop),
+        },
+        Job::Print => match parse(alloc, bytes) {
+            Ok(trace) => print_of(alloc, &trace),
+            Err(stop) => refuse(alloc, stop),
+        },
+        Job::Audit => audit_of(alloc, bytes),
+        Job::Make { start, size } => tell(alloc, &generate(alloc, start, size)?, Form::Summary),
+        Job::Draw { start, size } => print_of(alloc, &generate(alloc, start, size)?),
+    }
+}
+
+/// An answer with nothing made.
+pub fn plain(status: u8, text: Vec<u8>) -> Reply
+    ensures status { result.status ≡ status }
+    ensures finished { result.finished ≡ Finished.Neither }
+    ensures text { result.text.items ≡ text.items }
+{
+    Reply {
+        status,
+        text,
+        finished: Finished::Neither,
+    }
+}
+
+/// The trace as it is printed.
+fn print_of(alloc: Global, trace: &Trace) -> Result<Reply, AllocError>
+    ensures { IfOk result (λ r. (r.status ≡ 0) × IsPrinted trace.now r.finished r.text.items) }
+{
+    Ok(plain(0, print(alloc, trace)?))
+}
+
+/// The refusal of bytes that are no trace.
+fn refuse(alloc: Global, stop: ParseStop) -> Result<Reply, AllocError>
+    ensures status { IfOk result (λ r. r.status ≡ 3) }
+    ensures finished { IfOk result (λ r. r.finished ≡ Finished.Neither) }
+    ensures line { IfOk result (λ r. (fault : AFault) × (stop ≡ ParseStop.Fault fault) × (r.text.items ≡ fault_line fault)) }
+{
+    match stop {
+        ParseStop::Fault(fault) => Ok(plain(3, fault_line(alloc, fault)?)),
+        ParseStop::Memory(error) => Err(error),
+    }
+}
+
+/// The verdict on an image, or its first fault.
+fn audit_of(alloc: Global, image: &[u8]) -> Result<Reply, AllocError>
+    ensures { IfOk result (λ r. Answers Job.Audit image.now r.status r.finished r.text.items) }
+{
+    match audit(alloc, image) {
+        Ok(verdict) => Ok(plain(0, verdict_text(alloc, &verdict)?)),
+        Err(AuditStop::Fault(fault)) => Ok(plain(3, fault_text(alloc, &fault)?)),
+        Err(AuditStop::Memory(error)) => Err(error),
+    }
+}

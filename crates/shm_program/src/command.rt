@@ -1,0 +1,44 @@
+//! The words of a call of the program, and the status that the process ends with.
+
+ghost use Rattle.std.specs.Prelude.{◌≡◌, None, drop, map, IfOk, IfErr};
+ghost use Rattle.std.specs.String.{string_bytes};
+ghost use Rattle.std.specs.Vec.Iter.{into_iter_items};
+ghost use Rattle.std.specs.IoError.{error_kind};
+ghost use Rattle.std.specs.declared.io.ErrorKind.TheVariants.{OutOfMemory};
+ghost use Rattle.std.specs.Process.{exit_status};
+ghost use Rattle.shm_program.specs.Words.{job_of};
+ghost use Rattle.shm_program.specs.Commands.{ended_with};
+
+use crate::outcome::Outcome;
+use std::alloc::{AllocError, Global};
+use std::env::Args;
+use std::io;
+use std::io::ErrorKind;
+use std::process::ExitCode;
+
+/// The words after the program's name, all of them, in order. Where one of all words isn't UTF-8 there are none, which isn't accepted.
+///
+/// It answers an error for want of memory, whether it was met here or by who read the words.
+pub fn program_words(alloc: Global, args: io::Result<Args>) -> Result<Vec<String>, AllocError>
+    ensures words { IfOk args (λ all. IfOk result (λ w. w.items ≡ drop 1 (into_iter_items all))) }
+    ensures unread { IfErr args (λ _. IfOk result (λ w. job_of (map string_bytes w.items) ≡ None)) }
+    ensures memory { IfErr args (λ e. error_kind e ≡ OutOfMemory → IfOk result (λ _. ⊥)) }
+{
+    let mut rest = match args {
+        Ok(all) => all,
+        Err(error) if error.kind() == ErrorKind::OutOfMemory => return Err(AllocError),
+        Err(_) => return Ok(Vec::new(alloc)),
+    };
+    let _name = rest.next();
+    rest.collect(alloc)
+}
+
+/// What the process ends with: the status of what the call came to, and 6 where memory was wanting before the words were known.
+pub fn exit_code(called: &Result<Outcome, AllocError>) -> ExitCode
+    ensures { exit_status result ≡ ended_with called.now }
+{
+    match called {
+        Ok(outcome) => ExitCode::from(outcome.status),
+        Err(AllocError) => ExitCode::from(6),
+    }
+}

@@ -1,0 +1,119 @@
+//! The program over a source and a sink.
+
+ghost use Rattle.std.specs.Prelude.{◌≡◌, ◌≢◌, ◌⊎◌, map, Some, None, List, ℕ};
+ghost use Rattle.std.specs.String.{string_bytes};
+ghost use Rattle.shm_io.specs.Faults.{Rose, NoFault};
+ghost use Rattle.shm_io.specs.Writing.{Appends, AppendsFront};
+ghost use Rattle.shm_program.specs.declared.words.Job.{Job as AJob};
+ghost use Rattle.shm_program.specs.Outcomes.{Asks, Decided, Done, IsFaulty, IsInput, IsStatus, Misused, Refused, Writes, WritesFront};
+ghost use Rattle.shm_program.specs.Reads.{input_of, limit_of};
+ghost use Rattle.shm_program.specs.Words.{NamesCommand, job_of};
+
+use crate::answer::{Reply, answer};
+use crate::outcome::{Finished, Outcome};
+use crate::words::{Job, job_of};
+use shm_io::{ReadStop, Sink, Source, read_to_limit, write_all};
+use std::alloc::Global;
+
+/// One byte more than a trace may have.
+const TRACE_LIMIT: usize = 1_048_577;
+
+/// One byte more than the image of the largest pool has.
+const IMAGE_LIMIT: usize = 4_254_369;
+
+const USAGE: &str = "usage: cxlshm replay [--image|--print] | audit | make START SIZE [--print]\n";
+
+/// Does what the words say.
+///
+/// - `replay` reads a trace to its end, replays it, closes the pool and writes the report; `replay --image` writes the image of the closed
+///   pool; `replay --print` writes the trace as it is printed, without a replay.
+/// - `audit` reads an image to its end and writes the verdict on it. Each verdict has status 0.
+/// - `make START SIZE` reads nothing. It replays the trace that is drawn from START, 0 to 2^64 - 1, with SIZE commands, 1 to 4,000, for each
+///   of four clients, and writes the summary; with `--print` it writes that trace, without a replay.
+///
+/// The whole text is made before the first write. At most 1,048,577 bytes of a trace and 4,254,369 bytes of an image are read, in pieces of
+/// 4,096.
+pub fn top<S: Source, K: Sink>(
+    alloc: Global,
+    words: &[String],
+    source: &mut S,
+    sink: &mut K,
+) -> Outcome
+    ensures status { IsStatus result.status }
+
+    // What was done and written.
+    ensures done { result.status ≡ 0 → Asks (map string_bytes words.now) (λ job. Writes (K.held sink.old) (K.held sink.new) (Done job (S.left source.old) (S.left source.new) result.finished)) }
+    ensures misused { result.status ≡ 2 → Writes (K.held sink.old) (K.held sink.new) (Misused (map string_bytes words.now) (S.left source.old) (S.left source.new) result.finished) }
+    ensures refused { result.status ≡ 3 → Asks (map string_bytes words.now) (λ job. Writes (K.held sink.old) (K.held sink.new) (Refused job (S.left source.old) (S.left source.new) result.finished)) }
+    ensures quiet { (result.status ≡ 0) ⊎ ((result.status ≡ 2) ⊎ (result.status ≡ 3)) → (S.faults source.new ≡ S.faults source.old) × (K.faults sink.new ≡ K.faults sink.old) }
+
+    // A failed read, a failed write and want of memory.
+    ensures read_failed { result.status ≡ 4 → Rose (S.faults source.old) (S.faults source.new) × (K.held sink.new ≡ K.held sink.old) × (result.finished ≡ Finished.Neither) }
+    ensures write_failed { result.status ≡ 5 → Rose (K.faults sink.old) (K.faults sink.new) × WritesFront (K.held sink.old) (K.held sink.new) (Decided (map string_bytes words.now) (S.left source.old) (S.left source.new) result.finished) }
+    ensures no_memory { result.status ≡ 6 → NamesCommand (map string_bytes words.now) × (K.held sink.new ≡ K.held sink.old) × (result.finished ≡ Finished.Neither) }
+
+    // When each status comes.
+    ensures usage { job_of (map string_bytes words.now) ≡ None → (result.status ≡ 2) ⊎ ((result.status ≡ 5) ⊎ (result.status ≡ 6)) }
+    ensures complete { (job : AJob) → job_of (map string_bytes words.now) ≡ Some job → NoFault (S.faults source.old) (S.faults source.new) → NoFault (K.faults sink.old) (K.faults sink.new) → (bytes : List ℕ) → input_of job (S.left source.old) ≡ Some bytes → IsInput job bytes → (result.status ≡ 0) ⊎ (result.status ≡ 6) }
+    ensures faulty { (job : AJob) → job_of (map string_bytes words.now) ≡ Some job → NoFault (S.faults source.old) (S.faults source.new) → NoFault (K.faults sink.old) (K.faults sink.new) → (bytes text : List ℕ) → input_of job (S.left source.old) ≡ Some bytes → IsFaulty job bytes text → (result.status ≡ 3) ⊎ (result.status ≡ 6) }
+{
+    let job = match job_of(alloc, words) {
+        Ok(Some(job)) => job,
+        Ok(None) => return finish(sink, 2, USAGE.as_bytes(), Finished::Neither),
+        Err(_) => return stopped(6),
+    };
+    let bytes = match read_to_limit(alloc, source, limit_of(job)) {
+        Ok(bytes) => bytes,
+        Err(ReadStop::Fault(_)) => return stopped(4),
+        Err(ReadStop::Memory(_)) => return stopped(6),
+    };
+    match answer(alloc, job, bytes.as_slice()) {
+        Ok(
+            Reply {
+                status,
+                text,
+                finished,
+            },
+        ) => finish(sink, status, text.as_slice(), finished),
+        Err(_) => stopped(6),
+    }
+}
+
+/// How many bytes a job reads at most: one more than its input may have.
+fn limit_of(job: Job) -> usize
+    ensures { result ≡ limit_of job }
+{
+    match job {
+        Job::Replay(_) | Job::Print => TRACE_LIMIT,
+        Job::Audit => IMAGE_LIMIT,
+        Job::Make { .. } | Job::Draw { .. } => 0,
+    }
+}
+
+/// An outcome with nothing made.
+fn stopped(status: u8) -> Outcome
+    ensures status { result.status ≡ status }
+    ensures finished { result.finished ≡ Finished.Neither }
+{
+    Outcome {
+        status,
+        finished: Finished::Neither,
+    }
+}
+
+/// Writes the text; a failed write turns the status into 5.
+fn finish<K: Sink>(sink: &mut K, status: u8, text: &[u8], finished: Finished) -> Outcome
+    requires { status ≢ 5 }
+    ensures status { (result.status ≡ status) ⊎ (result.status ≡ 5) }
+    ensures finished { result.finished ≡ finished }
+    ensures written { result.status ≡ status → Appends (K.held sink.old) (K.held sink.new) text.now × (K.faults sink.new ≡ K.faults sink.old) }
+    ensures failed { result.status ≡ 5 → Rose (K.faults sink.old) (K.faults sink.new) × AppendsFront (K.held sink.old) (K.held sink.new) text.now }
+{
+    match write_all(sink, text) {
+        Ok(()) => Outcome { status, finished },
+        Err(_) => Outcome {
+            status: 5,
+            finished,
+        },
+    }
+}

@@ -1,0 +1,256 @@
+//! What the words of a call ask for.
+
+ghost use Rattle.std.specs.Prelude.{◌≡◌, ◌≢◌, ◌∷◌, [], true, false, slice_index, IfErr, IfOk, IfSome, List, None, Some, codes, map, option_and_then, option_map, ℕ};
+ghost use Rattle.std.specs.String.{string_bytes};
+ghost use Rattle.clap.specs.Words.{app_of, first_value, found_of, is_simple_and_free};
+ghost use Rattle.shm_script.specs.Numbers.{is_numeral, leads_well};
+ghost use Rattle.shm_program.specs.Words.{JobFits, NamesCommand, asked, audit_command, audit_in, is_true, job_by, job_of, make_command, make_in, make_of, name_of, number_in, read_by, replay_command, replay_in, replay_of, rows_in};
+
+use clap::error::ErrorKind;
+use clap::{Arg, ArgAction, ArgMatches, Command};
+use std::alloc::{AllocError, Global};
+
+/// What is written of a replay.
+#[derive(Clone, Copy, Debug, PartialEq, Eq, Drop)]
+pub enum Form {
+    /// The logs, the table and the sums.
+    Report,
+    /// The words of the closed pool.
+    Image,
+    /// The report without the lines of commands, of entries and of values.
+    Summary,
+}
+
+/// What a call of the program is asked for.
+#[derive(Clone, Copy, Debug, PartialEq, Eq, Drop)]
+pub enum Job {
+    /// `replay` and `replay --image`: a trace is read and replayed.
+    Replay(Form),
+    /// `replay --print`: a trace is read, and written as it is printed.
+    Print,
+    /// `audit`: an image is read, and the verdict on it is written.
+    Audit,
+    /// `make START SIZE`: the trace that is drawn from START, with SIZE commands, 1 to 4,000, for each client, is replayed.
+    Make { start: u64, size: u32 },
+    /// `make START SIZE --print`: that trace is written.
+    Draw { start: u64, size: u32 },
+}
+
+/// The commands that the first word names.
+#[derive(Clone, Copy, Debug, PartialEq, Eq, Drop)]
+pub enum Name {
+    Replay,
+    Audit,
+    Make,
+}
+
+/// What the words ask for, and nothing where they aren't accepted.
+///
+/// The first word names a command, and the words behind it are read by that command. Want of memory comes only in such a reading.
+pub fn job_of(alloc: Global, words: &[String]) -> Result<Option<Job>, AllocError>
+    ensures job { IfOk result (λ job. job ≡ job_of (map string_bytes words.now)) }
+    ensures fits { IfOk result (λ job. IfSome job JobFits) }
+    ensures memory { IfErr result (λ _. NamesCommand (map string_bytes words.now)) }
+{
+    match words {
+        [first, ..] => match name_of(first.as_str()) {
+            Some(name) => job_by(alloc, name, words),
+            None => Ok(None),
+        },
+        [] => Ok(None),
+    }
+}
+
+/// The command that a word names.
+fn name_of(word: &str) -> Option<Name>
+    ensures { result ≡ name_of word.now }
+{
+    if word == "replay" {
+        Some(Name::Replay)
+    } else if word == "audit" {
+        Some(Name::Audit)
+    } else if word == "make" {
+        Some(Name::Make)
+    } else {
+        None
+    }
+}
+
+/// What the words of a command ask for.
+fn job_by(alloc: Global, name: Name, words: &[String]) -> Result<Option<Job>, AllocError>
+    ensures job { IfOk result (λ job. job ≡ job_by name (map string_bytes words.now)) }
+    ensures fits { IfOk result (λ job. IfSome job JobFits) }
+{
+    match name {
+        Name::Replay => replay_job(alloc, words),
+        Name::Audit => audit_job(alloc, words),
+        Name::Make => make_job(alloc, words),
+    }
+}
+
+/// What the words of `replay` ask for.
+fn replay_job(alloc: Global, words: &[String]) -> Result<Option<Job>, AllocError>
+    ensures job { IfOk result (λ job. job ≡ asked replay_command replay_in (map string_bytes words.now)) }
+    ensures fits { IfOk result (λ job. IfSome job JobFits) }
+{
+    match read(replay_command(alloc)?, words)? {
+        Some(matches) => Ok(replay_of(is_set(&matches, "image"), is_set(&matches, "print"))),
+        None => Ok(None),
+    }
+}
+
+/// The command `replay`, which has two flags.
+fn replay_command<'a>(alloc: Global) -> Result<Command<'a>, AllocError>
+    ensures { IfOk result (λ c. app_of c ≡ replay_command) }
+{
+    let image = Arg::new(alloc, "image")
+        .long("image")
+        .action(ArgAction::SetTrue);
+    let print = Arg::new(alloc, "print")
+        .long("print")
+        .action(ArgAction::SetTrue);
+    let command = Command::new(alloc, "replay").arg(image)?.arg(print)?;
+    Ok(command)
+}
+
+/// What `replay` is asked for by its flags, of which one at most may be set.
+fn replay_of(image: bool, print: bool) -> Option<Job>
+    ensures job { result ≡ replay_of image print }
+    ensures fits { IfSome result JobFits }
+{
+    match (image, print) {
+        (false, false) => Some(Job::Replay(Form::Report)),
+        (true, false) => Some(Job::Replay(Form::Image)),
+        (false, true) => Some(Job::Print),
+        (true, true) => None,
+    }
+}
+
+/// What the words of `audit` ask for.
+fn audit_job(alloc: Global, words: &[String]) -> Result<Option<Job>, AllocError>
+    ensures job { IfOk result (λ job. job ≡ asked audit_command audit_in (map string_bytes words.now)) }
+    ensures fits { IfOk result (λ job. IfSome job JobFits) }
+{
+    let command = Command::new(alloc, "audit");
+    match read(command, words)? {
+        Some(_) => Ok(Some(Job::Audit)),
+        None => Ok(None),
+    }
+}
+
+/// What the words of `make` ask for.
+fn make_job(alloc: Global, words: &[String]) -> Result<Option<Job>, AllocError>
+    ensures job { IfOk result (λ job. job ≡ asked make_command make_in (map string_bytes words.now)) }
+    ensures fits { IfOk result (λ job. IfSome job JobFits) }
+{
+    match read(make_command(alloc)?, words)? {
+        Some(matches) => Ok(make_of(
+            is_set(&matches, "print"),
+            number_of(&matches, "start"),
+            number_of(&matches, "size"),
+        )),
+        None => Ok(None),
+    }
+}
+
+/// The command `make`, which has two words and a flag.
+fn make_command<'a>(alloc: Global) -> Result<Command<'a>, AllocError>
+    ensures { IfOk result (λ c. app_of c ≡ make_command) }
+{
+    let start = Arg::new(alloc, "start").required(true);
+    let size = Arg::new(alloc, "size").required(true);
+    let print = Arg::new(alloc, "print")
+        .long("print")
+        .action(ArgAction::SetTrue);
+    let command = Command::new(alloc, "make")
+        .arg(start)?
+        .arg(size)?
+        .arg(print)?;
+    Ok(command)
+}
+
+/// What `make` is asked for by its flag and its numbers.
+fn make_of(print: bool, start: Option<u64>, size: Option<u64>) -> Option<Job>
+    ensures job { result ≡ make_of print start size }
+    ensures fits { IfSome result JobFits }
+{
+    let (start, size) = (start?, size?);
+    if size < 1 || 4000 < size {
+        return None;
+    }
+    let size = size as u32;
+    if print {
+        Some(Job::Draw { start, size })
+    } else {
+        Some(Job::Make { start, size })
+    }
+}
+
+/// What the command reads in the words, and nothing where it refuses them.
+fn read<'a>(command: Command<'a>, words: &'a [String]) -> Result<Option<ArgMatches<'a>>, AllocError>
+    requires { is_simple_and_free (app_of command) ≡ true }
+    ensures { IfOk result (λ m. option_map rows_in m ≡ read_by (app_of command.entry) (map string_bytes words.entry.now)) }
+{
+    match command.try_get_matches_from(words) {
+        Ok(matches) => Ok(Some(matches)),
+        Err(error) if error.kind() == ErrorKind::OutOfMemory => Err(AllocError),
+        Err(_) => Ok(None),
+    }
+}
+
+/// Whether a flag is set.
+fn is_set(matches: &ArgMatches, flag: &str) -> bool
+    ensures { result ≡ is_true (first_value (found_of matches.now) flag.now) }
+{
+    matches.get_str(flag) == Some("true")
+}
+
+/// The number that the text of an argument spells.
+fn number_of(matches: &ArgMatches, id: &str) -> Option<u64>
+    ensures { result ≡ option_and_then number_in (first_value (found_of matches.now) id.now) }
+{
+    match matches.get_str(id) {
+        Some(text) => number(text),
+        None => None,
+    }
+}
+
+/// The number below 2^64 that a word spells in decimal without a leading zero.
+fn number(word: &str) -> Option<u64>
+    ensures { result ≡ number_in word.now }
+{
+    if leads_well(word.as_bytes()) {
+        word.parse().ok()
+    } else {
+        None
+    }
+}
+
+/// Whether a word is `0`, or begins with another digit.
+fn leads_well(word: &[u8]) -> bool
+    ensures yes { result ≡ true → (leads_well word.now ≡ true) × (slice_index word.now 0 ≢ 43) }
+    ensures no { result ≡ false → is_numeral word.now ≡ false }
+{
+    matches!(word, [b'0'] | [b'1'..=b'9', ..])
+}
+
+/// Words that are written out: what they ask for.
+pub fn words_of_jobs()
+    ensures report { job_of (codes "replay" ∷ []) ≡ Some (Job.Replay Form.Report) }
+    ensures image { job_of (codes "replay" ∷ codes "--image" ∷ []) ≡ Some (Job.Replay Form.Image) }
+    ensures print { job_of (codes "replay" ∷ codes "--print" ∷ []) ≡ Some Job.Print }
+    ensures both { job_of (codes "replay" ∷ codes "--image" ∷ codes "--print" ∷ []) ≡ None }
+    ensures twice { job_of (codes "replay" ∷ codes "--print" ∷ codes "--print" ∷ []) ≡ None }
+    ensures help { job_of (codes "replay" ∷ codes "--help" ∷ []) ≡ None }
+    ensures more { job_of (codes "replay" ∷ codes "replay" ∷ []) ≡ None }
+    ensures audit { job_of (codes "audit" ∷ []) ≡ Some Job.Audit }
+    ensures audit_more { job_of (codes "audit" ∷ codes "--print" ∷ []) ≡ None }
+    ensures make { job_of (codes "make" ∷ codes "0" ∷ codes "4000" ∷ []) ≡ Some (Job.Make 0 4000) }
+    ensures draw { job_of (codes "make" ∷ codes "--print" ∷ codes "7" ∷ codes "1" ∷ []) ≡ Some (Job.Draw 7 1) }
+    ensures few { job_of (codes "make" ∷ codes "0" ∷ []) ≡ None }
+    ensures zero { job_of (codes "make" ∷ codes "0" ∷ codes "0" ∷ []) ≡ None }
+    ensures many { job_of (codes "make" ∷ codes "0" ∷ codes "4001" ∷ []) ≡ None }
+    ensures leading { job_of (codes "make" ∷ codes "00" ∷ codes "1" ∷ []) ≡ None }
+    ensures other { (rest : List (List ℕ)) → job_of (codes "Replay" ∷ rest) ≡ None }
+    ensures none { job_of [] ≡ None }
+{}
