@@ -6,25 +6,28 @@
 //! recoverer dies after 1, 2, 5, 17 or 40 word steps. What the lines must be (the file stdout) was computed by an independent
 //! implementation. Where a recovery leaves what it mustn't (rules.rt) the program stops with status 1.
 //!
-//! `rt run death_runs -- each` has a line for each death instead, with deaths of the first recoverer after each of its word steps.
+//! Then the rows of standard input are told: deaths within one put, with more deaths of recoverers (rows.rt).
+//!
+//! `rt run death_runs -- each` has a line for each death of an operation instead, with deaths of the first recoverer after each of its word
+//! steps, and reads no rows.
 #![tactic(auto)]
 
 ghost use Rattle.std.specs.Prelude.{◌<◌};
 ghost use Rattle.shm_words.specs.Layout.{GeometryFits};
 
 mod cases;
-#[cfg(test)]
-mod cut_tests;
-#[cfg(test)]
-mod mend_tests;
+mod cuts;
+mod mends;
 mod op;
 mod pool;
 mod references;
+mod rows;
 mod rules;
 mod trial;
 
 use cases::GROUPS;
 use pool::Pool;
+use rows::tell_rows;
 use shm_graph::Me;
 use shm_runs::Sum;
 use shm_words::Geometry;
@@ -111,7 +114,7 @@ impl Trials {
 }
 
 /// Tells of one case; false where a rule is broken, or the case doesn't fit its pool.
-fn tell(rt: &HostRuntime, geometry: Geometry, case: &Case, each: bool) -> io::Result<bool>
+fn tell_case(rt: &HostRuntime, geometry: Geometry, case: &Case, each: bool) -> io::Result<bool>
     requires { GeometryFits geometry }
 {
     let alloc = rt.alloc();
@@ -149,7 +152,7 @@ fn tell_group(rt: &HostRuntime, group: &Group, each: bool) -> io::Result<bool> {
         return Ok(false);
     };
     for case in group.cases {
-        if !tell(rt, geometry, case, each)? {
+        if !tell_case(rt, geometry, case, each)? {
             return Ok(false);
         }
     }
@@ -166,6 +169,11 @@ fn tell_all(rt: &HostRuntime, each: bool) -> io::Result<bool> {
     Ok(true)
 }
 
+/// Tells of all cases, and then of the rows of standard input, unless each death is told; false where one is told as false.
+fn tell(rt: &HostRuntime, each: bool) -> io::Result<bool> {
+    Ok(tell_all(rt, each)? && (each || tell_rows(rt)?))
+}
+
 /// Whether a word stands behind the program's name.
 fn has_word(rt: &HostRuntime) -> io::Result<bool> {
     let mut words = env::args(rt)?;
@@ -174,7 +182,7 @@ fn has_word(rt: &HostRuntime) -> io::Result<bool> {
 }
 
 fn main(rt: HostRuntime) -> ExitCode {
-    match has_word(&rt).and_then(|each| tell_all(&rt, each)) {
+    match has_word(&rt).and_then(|each| tell(&rt, each)) {
         Ok(true) => ExitCode::SUCCESS,
         Ok(false) | Err(_) => ExitCode::FAILURE,
     }

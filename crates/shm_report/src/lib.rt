@@ -8,8 +8,3 @@ mod texts;
 mod value_names;
 
 pub use texts::{report, summary};
-
-#[cfg(test)]
-mod tests;
-#[cfg(test)]
-mod vectors;

@@ -1,0 +1,4 @@
+pub mod Watching
+pub mod WatchKeeps
+pub mod Watched
+pub mod Flats

@@ -1,4 +1,0 @@
-use Rattle.leave_cost.proofs.steps.run.Given as goal
-
-abbrev pub invariant-loop-n : goal.invariant-loop-n
-invariant-loop-n g l = g.S.Steps.going l.m

@@ -1,3 +1,0 @@
-pub mod Watching
-pub mod WatchKeeps
-pub mod Watched

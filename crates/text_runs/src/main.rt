@@ -1,0 +1,55 @@
+//! Reports and summaries of pools, their images and what is told of these, by the lines of standard input.
+//!
+//! A line `# TITLE` names the lines up to the next one, and is told again. `pool CLIENTS SEGMENTS` begins a pool whose words are 0, and
+//! `words AT:WORD ..` sets some of them.
+//!
+//! - **Texts.** Behind `pool` stand the lines of a trace, `answers ANSWER ..` for its commands and `ends END ..` for its clients; then
+//!   `report` or `summary` (logs.rt).
+//! - **Images.** `image` makes the image of the pool, `set AT WORD`, `push BYTE` and `cut LEN` change it, and `length`, `front LEN`,
+//!   `checksum` and `audit` tell of it. `changes`, `cuts` and `frames` tell of many changes with one checksum (images.rt).
+//! - **Lines.** `verdict ..` and `fault ..` are told as their lines (lines.rt).
+//!
+//! What must be told (the file stdout) was made by an independent implementation. A line that is none of these is told as `no row`.
+#![tactic(auto)]
+
+mod images;
+mod lines;
+mod logs;
+mod numbers;
+mod pool;
+mod rows;
+mod stop;
+
+use rows::Rows;
+use std::alloc::AllocError;
+use std::io;
+use std::process::ExitCode;
+use stop::Stop;
+
+/// Tells of one line.
+fn tell(rt: &HostRuntime, rows: &mut Rows, line: &str) -> io::Result<()> {
+    match rows.row(rt.alloc(), line) {
+        Ok(text) => match str::from_utf8(text.as_slice()) {
+            Ok(text) => print!(rt; "{text}"),
+            Err(_) => println!(rt; "no text"),
+        },
+        Err(Stop::NoRow) => println!(rt; "no row: {line}"),
+        Err(Stop::Memory) => Err(io::Error::from(AllocError)),
+    }
+}
+
+/// Tells of all lines.
+fn tell_all(rt: &HostRuntime) -> io::Result<()> {
+    let mut rows = Rows::new(rt.alloc());
+    for line in rt.lines(rt.alloc()) {
+        tell(rt, &mut rows, line?.as_str())?;
+    }
+    Ok(())
+}
+
+fn main(rt: HostRuntime) -> ExitCode {
+    match tell_all(&rt) {
+        Ok(()) => ExitCode::SUCCESS,
+        Err(_) => ExitCode::FAILURE,
+    }
+}
