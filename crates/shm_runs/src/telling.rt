@@ -155,11 +155,15 @@ where
     Ok(answer)
 }
 
-/// Tells of an answer.
-fn tell_answer<A: Drop + fmt::Debug>(rt: &impl Print, answer: Option<A>) -> io::Result<()> {
+/// Tells of an answer, where a machine has ended with one.
+fn tell_answer<A: Drop + fmt::Debug>(
+    rt: &impl Print,
+    answer: Option<A>,
+    finished: bool,
+) -> io::Result<()> {
     match answer {
-        Some(answer) => println!(rt; "  = {answer:?}"),
-        None => println!(rt; "  = stopped"),
+        Some(answer) if finished => println!(rt; "  = {answer:?}"),
+        _ => println!(rt; "  = stopped"),
     }
 }
 
@@ -203,6 +207,6 @@ where
     };
     let answer = steps(rt, case, &mut machine)?;
     case.end();
-    tell_answer(rt, answer)?;
+    tell_answer(rt, answer, machine.finished())?;
     changes(rt, case)
 }
