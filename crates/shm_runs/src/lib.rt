@@ -2,14 +2,20 @@
 //! make many runs make one number of them (`Sum`).
 #![tactic(auto)]
 
+mod args;
+mod case;
 mod pools;
 mod sum;
+mod telling;
 
 use Step::{Exchange, Load, Lost, Others, Store, Zeros};
+pub use args::{address, below, byte, client, number, numbers, root};
+pub use case::Case;
 pub use pools::TABLE;
 use shm_graph::{Ask, Machine, Turn};
 use std::alloc::{AllocError, Global};
 pub use sum::Sum;
+pub use telling::go;
 
 /// A word step, with the word that it finds.
 #[derive(Clone, Copy, Drop)]
