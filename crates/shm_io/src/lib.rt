@@ -7,6 +7,7 @@
 
 mod calls;
 mod failed;
+mod filling;
 mod memory_sink;
 mod memory_source;
 mod reading;

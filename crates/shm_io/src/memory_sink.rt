@@ -1,11 +1,12 @@
 //! A sink into memory.
-ghost use Rattle.std.specs.Prelude.{◌≡◌, ◌<◌, ◌≤◌, ◌⊎◌, ◌↔◌, [], min, length, take, Some, IfOk, OnOk, OnErr, IsErr};
+ghost use Rattle.std.specs.Prelude.{◌≡◌, ◌<◌, ◌≤◌, ◌⊎◌, ◌↔◌, [], min, length, take, Some, IfOk, OnOk, OnErr, IsErr, IsTrue};
 ghost use Rattle.std.specs.List.{Contains};
 ghost use Rattle.shm_io.specs.Faults.{Rose, next_count};
 ghost use Rattle.shm_io.specs.Writing.{Appends};
 ghost use Rattle.shm_io.specs.Store.{after_write, after_failed_write, IsUsedUp, free_room};
 
 use crate::calls::is_listed;
+use crate::filling::put_at;
 use crate::{Failed, Sink};
 use std::alloc::{AllocError, Global};
 use std::marker::Model;
@@ -61,6 +62,40 @@ impl MemorySink {
     {
         &self.bytes[..self.len]
     }
+
+    // Whether the next write fails, of a piece of this length.
+    fn is_to_fail(&self, len: usize) -> bool
+        ensures { IsTrue result ↔ (Contains self.now.fails (next_count self.now.calls) ⊎ IsUsedUp self.now len) }
+    {
+        if len > 0 && self.len == self.bytes.len() {
+            return true;
+        }
+        is_listed(&self.fails, self.calls.saturating_add(1))
+    }
+
+    // A write that fails.
+    fn fail(&mut self) -> Failed
+        ensures after { self.new ≡ after_failed_write self.old }
+        ensures rising { self.old.faults ≤ self.new.faults }
+    {
+        self.calls = self.calls.saturating_add(1);
+        self.faults = self.faults.saturating_add(1);
+        Failed
+    }
+
+    // A write that doesn't fail, and how many bytes it takes.
+    fn append(&mut self, piece: &[u8]) -> usize
+        ensures some { 0 < free_room self.old → 0 < length piece.now → 0 < result }
+        ensures exact { result ≡ min (min self.old.piece (length piece.now)) (free_room self.old) }
+        ensures after { self.new ≡ after_write self.old (take result piece.now) }
+    {
+        self.calls = self.calls.saturating_add(1);
+        let free = self.bytes.len() - self.len;
+        let n = self.piece.min(piece.len()).min(free);
+        put_at(&mut self.bytes, self.len, &piece[..n]);
+        self.len += n;
+        n
+    }
 }
 
 impl Sink for MemorySink {
@@ -83,17 +118,9 @@ impl Sink for MemorySink {
         ensures after { IfOk result (λ n. self.new ≡ after_write self.old (take n piece.now)) }
         ensures after_failed { OnErr result (self.new ≡ after_failed_write self.old) }
     {
-        self.calls = self.calls.saturating_add(1);
-        let free = self.bytes.len() - self.len;
-        let is_used_up = free == 0 && !piece.is_empty();
-        if is_used_up || is_listed(&self.fails, self.calls) {
-            self.faults = self.faults.saturating_add(1);
-            return Err(Failed);
+        if self.is_to_fail(piece.len()) {
+            return Err(self.fail());
         }
-        let n = self.piece.min(piece.len()).min(free);
-        let end = self.len + n;
-        self.bytes[self.len..end].copy_from_slice(&piece[..n]);
-        self.len = end;
-        Ok(n)
+        Ok(self.append(piece))
     }
 }

@@ -1,5 +1,5 @@
 //! A source over bytes in memory.
-ghost use Rattle.std.specs.Prelude.{◌≡◌, ◌<◌, ◌≤◌, ◌↔◌, min, length, Some, IfOk, OnOk, OnErr, IsErr};
+ghost use Rattle.std.specs.Prelude.{◌≡◌, ◌<◌, ◌≤◌, ◌↔◌, ◌++◌, min, length, take, drop, Some, IfOk, OnOk, OnErr, IsErr, IsTrue};
 ghost use Rattle.std.specs.List.{Contains};
 ghost use Rattle.std.specs.Io.KnownBytes.{IsAtEnd};
 ghost use Rattle.shm_io.specs.Faults.{Rose, next_count};
@@ -7,6 +7,7 @@ ghost use Rattle.shm_io.specs.Reading.{Moves};
 ghost use Rattle.shm_io.specs.Supply.{after_read, after_failed_read};
 
 use crate::calls::is_listed;
+use crate::filling::put_at;
 use crate::{Failed, Source};
 use std::marker::Model;
 
@@ -48,6 +49,38 @@ impl MemorySource {
             faults: 0,
         }
     }
+
+    // Whether the next read fails.
+    fn is_to_fail(&self) -> bool
+        ensures { IsTrue result ↔ Contains self.now.fails (next_count self.now.calls) }
+    {
+        is_listed(&self.fails, self.calls.saturating_add(1))
+    }
+
+    // A read that fails.
+    fn fail(&mut self) -> Failed
+        ensures after { self.new ≡ after_failed_read self.old }
+        ensures rising { self.old.faults ≤ self.new.faults }
+    {
+        self.calls = self.calls.saturating_add(1);
+        self.faults = self.faults.saturating_add(1);
+        Failed
+    }
+
+    // A read that doesn't fail, and how many bytes it gives.
+    fn give(&mut self, into: &mut [u8]) -> usize
+        ensures end { result ≡ 0 → 0 < length into.old → IsAtEnd (Some self.old.left) }
+        ensures exact { result ≡ min (min self.old.piece (length into.old)) (length self.old.left) }
+        ensures after { self.new ≡ after_read self.old result }
+        ensures given { into.new ≡ take result self.old.left ++ drop result into.old }
+    {
+        self.calls = self.calls.saturating_add(1);
+        let left = &self.bytes[self.at..];
+        let n = self.piece.min(into.len()).min(left.len());
+        put_at(into, 0, &left[..n]);
+        self.at += n;
+        n
+    }
 }
 
 impl Source for MemorySource {
@@ -71,15 +104,9 @@ impl Source for MemorySource {
         ensures after_failed { OnErr result (self.new ≡ after_failed_read self.old) }
         ensures piece_kept { OnErr result (into.new ≡ into.old) }
     {
-        self.calls = self.calls.saturating_add(1);
-        if is_listed(&self.fails, self.calls) {
-            self.faults = self.faults.saturating_add(1);
-            return Err(Failed);
+        if self.is_to_fail() {
+            return Err(self.fail());
         }
-        let left = &self.bytes[self.at..];
-        let n = self.piece.min(into.len()).min(left.len());
-        into[..n].copy_from_slice(&left[..n]);
-        self.at += n;
-        Ok(n)
+        Ok(self.give(into))
     }
 }

@@ -23,9 +23,10 @@ one_more n d some below small =
 pub first_digit : (text rest : List ℕ) (d : ℕ) → text ≡ (48 + d) ∷ rest → d < 10 → text ≡ decimal d ++ rest
 first_digit text rest d is below = is ∙ ap (λ w. w ++ rest) (sym (decimal_digit d below))
 
-pub next_digit : (text before rest : List ℕ) (n d : ℕ) → text ≡ decimal n ++ before → before ≡ (48 + d) ∷ rest → 0 < n → d < 10 → n * 10 + d < 2 ^ 64 → text ≡ decimal (n * 10 + d) ++ rest
-next_digit text before rest n d is goes some below small =
-    is ∙ ap (λ w. decimal n ++ w) goes ∙ sym (append_assoc (decimal n) ((48 + d) ∷ []) rest) ∙ ap (λ w. w ++ rest) (sym (one_more n d some below small))
+pub next_digit : (text before rest : List ℕ) (n d m : ℕ) → text ≡ decimal n ++ before → before ≡ (48 + d) ∷ rest → 0 < n → d < 10 → m ≡ n * 10 + d → m < 2 ^ 64 → text ≡ decimal m ++ rest
+next_digit text before rest n d m is goes some below more small =
+    let by_more : decimal m ≡ decimal n ++ ((48 + d) ∷ []) = ap decimal more ∙ one_more n d some below (omega arith) in
+    is ∙ ap (λ w. decimal n ++ w) goes ∙ sym (append_assoc (decimal n) ((48 + d) ∷ []) rest) ∙ ap (λ w. w ++ rest) (sym by_more)
 
 stands : (p : Place) (line : Line) → takes_commands p ≡ true → may_stand p (fit_raw (FitCommand line)) ≡ true
 stands place.Start line h = h

@@ -3,7 +3,7 @@
 //! What is told here is a command in its one spelling, with its numbers in range. Of any other line nothing is told: the reading by
 //! shapes tells what it is, or its fault.
 
-ghost use Rattle.std.specs.Prelude.{◌≡◌, ◌≢◌, ◌+◌, ◌<◌, ◌∷◌, ◌++◌, IfSome, codes};
+ghost use Rattle.std.specs.Prelude.{◌≡◌, ◌≢◌, ◌+◌, ◌*◌, ◌^◌, ◌<◌, [], ◌∷◌, ◌++◌, IfSome, codes};
 ghost use Rattle.std.specs.Fmt.{decimal};
 ghost use Rattle.shm_script.specs.Text.{spaced};
 ghost use Rattle.shm_script.specs.Ranges.{IsCommand, IsNext};
@@ -20,19 +20,37 @@ pub fn next_command(clients: u8, me: u8, text: &[u8]) -> Option<(Line, &[u8])>
     // A client's number fits a byte.
     ensures few { clients < 256 }
 {
-    let (line, rest) = match text {
-        [b'p', b'u', b't', rest @ ..] => put(clients, me, rest)?,
-        [b'd', b'e', b'l', rest @ ..] => del(clients, me, rest)?,
-        [b'g', b'e', b't', rest @ ..] => get(clients, me, rest)?,
-        [b'c', b'o', b'p', b'y', rest @ ..] => copy(clients, me, rest)?,
-        [b's', b'e', b'n', b'd', rest @ ..] => send(clients, me, rest)?,
-        [b'r', b'e', b'c', b'v', rest @ ..] => recv(clients, me, rest)?,
-        _ => return None,
-    };
+    let (line, rest) = command(clients, me, text)?;
     let [b'\n', rest @ ..] = rest else {
         return None;
     };
     Some((line, rest))
+}
+
+/// A command at the front of a text, and what stands behind it.
+#[inline(always)]
+fn command(clients: u8, me: u8, text: &[u8]) -> Option<(Line, &[u8])>
+    ensures { IfSome result (λ x. IsCommand clients me [] text.now x.0 x.1.now) }
+{
+    match text {
+        [b'p', b'u', b't', rest @ ..] => put(clients, me, rest),
+        [b'd', b'e', b'l', rest @ ..] => del(clients, me, rest),
+        [b'g', b'e', b't', rest @ ..] => get(clients, me, rest),
+        _ => command_of_four(clients, me, text),
+    }
+}
+
+/// The same of a command whose word has four letters.
+#[inline(always)]
+fn command_of_four(clients: u8, me: u8, text: &[u8]) -> Option<(Line, &[u8])>
+    ensures { IfSome result (λ x. IsCommand clients me [] text.now x.0 x.1.now) }
+{
+    match text {
+        [b'c', b'o', b'p', b'y', rest @ ..] => copy(clients, me, rest),
+        [b's', b'e', b'n', b'd', rest @ ..] => send(clients, me, rest),
+        [b'r', b'e', b'c', b'v', rest @ ..] => recv(clients, me, rest),
+        _ => None,
+    }
 }
 
 /// A put, behind its word.
@@ -162,13 +180,22 @@ fn digits(text: &[u8]) -> Option<(u64, &[u8])>
         return Some((number, rest));
     }
     while let Some((digit, others)) = digit(rest) {
-        if number > MOST_BEFORE {
-            return None;
-        }
-        number = number * 10 + digit;
+        number = one_more(number, digit)?;
         rest = others;
     }
     Some((number, rest))
+}
+
+/// A number with one more digit behind it, where it isn't among the greatest ones.
+#[inline(always)]
+fn one_more(number: u64, digit: u64) -> Option<u64>
+    requires { digit < 10 }
+    ensures { IfSome result (λ n. (n ≡ number * 10 + digit) × (n < 2 ^ 64)) }
+{
+    if number > MOST_BEFORE {
+        return None;
+    }
+    Some(number * 10 + digit)
 }
 
 /// A digit.

@@ -13,6 +13,6 @@ loop-digit-init c = record {
 
 pub loop-digit-preserved : goal.loop-digit-preserved
 loop-digit-preserved c = record {
-  read = next_digit c.args.text.now c.loop-digit.rest.now c.in-Some.others.now c.loop-digit.number c.in-Some.digit c.loop-digit.invariant.read c.in-Some.ensures.0 c.loop-digit.invariant.some c.in-Some.ensures.1 (omega (arith, c.if-number-gt-MOST_BEFORE.false, c.in-Some.ensures.1));
-  some = omega (arith, c.loop-digit.invariant.some);
+  read = next_digit c.args.text.now c.loop-digit.rest.now c.in-Some.others.now c.loop-digit.number c.in-Some.digit _ c.loop-digit.invariant.read c.in-Some.ensures.0 c.loop-digit.invariant.some c.in-Some.ensures.1 c.in_ok-number-2.ensures.0 c.in_ok-number-2.ensures.1;
+  some = omega (arith, c.loop-digit.invariant.some, c.in_ok-number-2.ensures.0);
 }
