@@ -1,42 +1,51 @@
-//! Lines of commands.
+//! The numbers of a row, and lines of commands.
 
-ghost use Rattle.std.specs.Prelude.{IfSome};
+ghost use Rattle.std.specs.Prelude.{◌<◌, IfSome};
 ghost use Rattle.shm_words.specs.Layout.{GeometryFits};
 ghost use Rattle.shm_table.specs.Command.{MayStand};
 
 use shm_graph::Me;
-use shm_runs::byte;
+use shm_runs::{Case, byte};
 use shm_script::Line;
+use std::io;
 
 /// A key.
 pub fn key(number: u64) -> Option<u32> {
     u32::try_from(number).ok()
 }
 
-/// The line of a command of its own table, by its word and the numbers behind it.
-fn own_line(word: &str, f: [u64; 6]) -> Option<Line> {
-    let key = key(f[2])?;
-    match word {
-        "put" => Some(Line::Put { key, number: f[3] }),
+/// Tells that no machine is made of the numbers of a row.
+pub fn refuse(rt: &HostRuntime) -> io::Result<()> {
+    println!(rt; "  refused")
+}
+
+/// The line of a command of the own table.
+fn own_line(name: &str, f: &[u64; 6]) -> Option<Line> {
+    let key = key(f[1])?;
+    match name {
+        "put" => Some(Line::Put { key, number: f[2] }),
         "del" => Some(Line::Del { key }),
         _ => None,
     }
 }
 
 /// The line of a copy.
-fn copy_line(f: [u64; 6]) -> Option<Line> {
+fn copy_line(f: &[u64; 6]) -> Option<Line> {
+    let key_here = key(f[1])?;
+    let author = byte(f[2])?;
+    let other = key(f[3])?;
     Some(Line::Copy {
-        key: key(f[2])?,
-        author: byte(f[3])?,
-        other: key(f[4])?,
+        key: key_here,
+        author,
+        other,
     })
 }
 
 /// The line of a command that names a client first and then a key.
-fn client_line(word: &str, f: [u64; 6]) -> Option<Line> {
-    let client = byte(f[2])?;
-    let key = key(f[3])?;
-    match word {
+fn passing_line(name: &str, f: &[u64; 6]) -> Option<Line> {
+    let client = byte(f[1])?;
+    let key = key(f[2])?;
+    match name {
         "get" => Some(Line::Get {
             author: client,
             key,
@@ -47,17 +56,17 @@ fn client_line(word: &str, f: [u64; 6]) -> Option<Line> {
     }
 }
 
-/// The line of a command, by its word and the numbers behind it.
-pub fn line_of(word: &str, f: [u64; 6]) -> Option<Line> {
-    match word {
-        "put" | "del" => own_line(word, f),
+/// The line of a command, by its name and the numbers behind the identity's.
+fn line_of(name: &str, f: &[u64; 6]) -> Option<Line> {
+    match name {
+        "put" | "del" => own_line(name, f),
         "copy" => copy_line(f),
-        _ => client_line(word, f),
+        _ => passing_line(name, f),
     }
 }
 
 /// The line, where its numbers of identities are of the pool, and another identity's where it sends or receives.
-pub fn standing(me: Me, line: Line) -> Option<Line>
+fn standing(me: Me, line: Line) -> Option<Line>
     requires { GeometryFits me.geometry }
     ensures { IfSome result (λ l. MayStand me l) }
 {
@@ -74,4 +83,21 @@ pub fn standing(me: Me, line: Line) -> Option<Line>
         Line::Recv { from, key: _ } if from < clients && from != me.who => Some(line),
         _ => None,
     }
+}
+
+/// An identity, and a line that may stand in its script.
+#[derive(Clone, Copy, Drop)]
+pub struct OwnLine {
+    pub me: Me,
+    pub line: Line,
+}
+
+/// The identity and the line of a row; none where the pool hasn't them.
+pub fn line_for(case: &Case, name: &str, f: &[u64; 6]) -> Option<OwnLine>
+    ensures who { IfSome result (λ o. GeometryFits o.me.geometry × (o.me.who < o.me.geometry.clients)) }
+    ensures line { IfSome result (λ o. MayStand o.me o.line) }
+{
+    let me = case.me(f[0])?;
+    let line = standing(me, line_of(name, f)?)?;
+    Some(OwnLine { me, line })
 }

@@ -1,17 +1,16 @@
 //! Machines over tables on the words of a pool, word step by word step, by the lines of standard input.
 //!
 //! A line `# ..` names a row. `pool CLIENTS SEGMENTS` begins with words that are 0, `set AT=VALUE ..` sets some of them, `keep` keeps the words as
-//! they stand, and `again` begins with those that were kept. `command WHO LINE` runs the command of a line of a script, and any other line the
-//! machine of its name: an identity, and the machine's own numbers. What is told of a machine's run is said at `go` of shm_runs, what of a
-//! command's at `commands::run`. What must be told (the file stdout) was computed by an independent implementation.
+//! they stand, and `again` begins with those that were kept. Any other line runs the machine of its name: an identity, and the machine's own
+//! numbers; `put`, `del`, `get`, `copy`, `send` and `recv` are commands, with the numbers that their lines have in a script. What is told of a
+//! run is said at `go` of shm_runs. `effect put WHO ..` tells of a command, not of its word steps, but of when it shows its answer. What must be
+//! told (the file stdout) was computed by an independent implementation.
 #![tactic(auto)]
 
-mod changing;
-mod commands;
+mod effects;
+mod entries;
 mod lines;
-mod passing;
-mod putting;
-mod reading;
+mod looks;
 
 use shm_runs::{Case, numbers};
 use std::alloc::{AllocError, Global};
@@ -40,16 +39,26 @@ fn take(
     Ok(true)
 }
 
+/// Runs the machine of a name, if it looks for a key; or that of a command.
+fn look(rt: &HostRuntime, case: &mut Case, name: &str, f: &[u64; 6]) -> io::Result<()> {
+    match name {
+        "find" => looks::find(rt, case, f),
+        "locate" => looks::locate(rt, case, f),
+        "unlatch" => looks::unlatch(rt, case, f),
+        "fetch" => looks::fetch(rt, case, f),
+        _ => effects::run(rt, case, name, f),
+    }
+}
+
 /// Runs the machine of a name.
-fn run(rt: &HostRuntime, case: &mut Case, name: &str, f: [u64; 6]) -> io::Result<()> {
-    if reading::run(rt, case, name, f)?
-        || putting::run(rt, case, name, f)?
-        || changing::run(rt, case, name, f)?
-        || passing::run(rt, case, name, f)?
-    {
-        Ok(())
-    } else {
-        println!(rt; "  unknown")
+fn run(rt: &HostRuntime, case: &mut Case, name: &str, f: &[u64; 6]) -> io::Result<()> {
+    match name {
+        "open_table" => entries::open_table(rt, case, f),
+        "enter" => entries::enter(rt, case, f),
+        "put_root" => entries::put_root(rt, case, f),
+        "replace" => entries::replace(rt, case, f),
+        "unlink" => entries::unlink(rt, case, f),
+        _ => look(rt, case, name, f),
     }
 }
 
@@ -59,8 +68,8 @@ fn tell(rt: &HostRuntime, case: &mut Case, line: &str) -> io::Result<()> {
     let (name, rest) = line.split_once(' ').unwrap_or((line, ""));
     match name {
         "#" => Ok(()),
-        "command" => commands::run(rt, case, rest),
-        _ => run(rt, case, name, numbers(rest)),
+        "effect" => effects::show(rt, case, rest),
+        _ => run(rt, case, name, &numbers(rest)),
     }
 }
 
