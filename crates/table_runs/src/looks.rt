@@ -1,0 +1,65 @@
+//! Machines that look for a key.
+
+ghost use Rattle.std.specs.Prelude.{◌<◌, IfSome};
+ghost use Rattle.shm_words.specs.Layout.{GeometryFits};
+
+use crate::lines::{key, refuse};
+use shm_calls::Calls;
+use shm_graph::Me;
+use shm_runs::{Case, client, go};
+use shm_table::parts::{Fetch, Fetching, Find, Finding, Locate, Locating, Unlatch, Unlatching};
+use std::io;
+
+/// Who looks, whose table it is, and a key.
+#[derive(Clone, Copy, Drop)]
+struct Look {
+    me: Me,
+    author: u8,
+    key: u32,
+}
+
+/// Who, author, key; none where the pool hasn't them.
+fn look_of(case: &Case, f: &[u64; 6]) -> Option<Look>
+    ensures { IfSome result (λ l. GeometryFits l.me.geometry × (l.me.who < l.me.geometry.clients) × (l.author < l.me.geometry.clients)) }
+{
+    let me = case.me(f[0])?;
+    let author = client(me, f[1])?;
+    let key = key(f[2])?;
+    Some(Look { me, author, key })
+}
+
+/// who, author, key
+pub fn find(rt: &HostRuntime, case: &mut Case, f: &[u64; 6]) -> io::Result<()> {
+    let Some(look) = look_of(case, f) else {
+        return refuse(rt);
+    };
+    let machine: Find = Calls::new(Finding::new(look.me, look.author, look.key));
+    go(rt, Some(machine), case)
+}
+
+/// who, author, key
+pub fn locate(rt: &HostRuntime, case: &mut Case, f: &[u64; 6]) -> io::Result<()> {
+    let Some(look) = look_of(case, f) else {
+        return refuse(rt);
+    };
+    let machine: Locate = Calls::new(Locating::new(look.me, look.author, look.key));
+    go(rt, Some(machine), case)
+}
+
+/// who, author
+pub fn unlatch(rt: &HostRuntime, case: &mut Case, f: &[u64; 6]) -> io::Result<()> {
+    let Some(look) = look_of(case, f) else {
+        return refuse(rt);
+    };
+    let machine: Unlatch = Calls::new(Unlatching::new(look.me, look.author));
+    go(rt, Some(machine), case)
+}
+
+/// who, author, key
+pub fn fetch(rt: &HostRuntime, case: &mut Case, f: &[u64; 6]) -> io::Result<()> {
+    let Some(look) = look_of(case, f) else {
+        return refuse(rt);
+    };
+    let machine: Fetch = Calls::new(Fetching::new(look.me, look.author, look.key));
+    go(rt, Some(machine), case)
+}
