@@ -10,7 +10,7 @@ code = [f for f in tree if f.startswith("crates/") and f.endswith((".rt", ".antt
 words = {w for f in code for w in re.findall(r"[A-Za-z_][A-Za-z0-9_]*", open(f, encoding="utf-8").read())}
 words |= {part for f in tree for part in re.split(r"[/.]", f)}
 # what the toolchain, its crates and the formats name, and a page may speak of
-words |= set("rt rattle clap bash omega env args get_str get_flag act try open value ended died none tables true false suc absurd".split())
+words |= set("rt rattle clap bash omega v1 v2 env args get_str get_flag act try open value ended died none tables true false suc absurd".split())
 edits = {f.split("/")[-1][:-5] for f in tree if f.endswith(".edit")}
 files = set(tree) | {os.path.dirname(f) for f in tree}
 found = []
