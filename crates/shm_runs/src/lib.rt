@@ -15,7 +15,7 @@ pub use pools::TABLE;
 use shm_graph::{Ask, Machine, Turn};
 use std::alloc::{AllocError, Global};
 pub use sum::Sum;
-pub use telling::go;
+pub use telling::{go, go_calls};
 
 /// A word step, with the word that it finds.
 #[derive(Clone, Copy, Drop)]
