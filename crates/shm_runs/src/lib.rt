@@ -11,7 +11,7 @@ pub use args::{address, below, byte, client, number, numbers, root};
 pub use case::Case;
 use shm_graph::Ask;
 pub use sum::Sum;
-pub use telling::go;
+pub use telling::{go, go_calls};
 
 /// Makes a word step; the word that was found, for a store 0.
 pub fn make(words: &mut Vec<u64>, ask: Ask) -> Option<u64> {

@@ -2,6 +2,7 @@
 
 use crate::case::{Case, Other, put};
 use crate::make;
+use shm_calls::{Calls, Plan};
 use shm_graph::{Ask, Machine, Turn};
 use std::{fmt, io};
 
@@ -191,6 +192,11 @@ fn changes(rt: &impl Print, case: &mut Case) -> io::Result<()> {
     Ok(())
 }
 
+/// Tells that a row makes no machine.
+fn refused(rt: &impl Print) -> io::Result<()> {
+    println!(rt; "  refused")
+}
+
 /// Runs a machine on the words and tells of it: a line of word steps, which ends at each store into the own era; the answer; and the words that
 /// are others than before.
 ///
@@ -203,10 +209,22 @@ where
     M::Answer: Drop + fmt::Debug,
 {
     let Some(mut machine) = machine else {
-        return println!(rt; "  refused");
+        return refused(rt);
     };
     let answer = steps(rt, case, &mut machine)?;
     case.end();
     tell_answer(rt, answer, machine.finished())?;
     changes(rt, case)
+}
+
+/// The same of a machine of calls, by its plan. (A function that names the machine itself is proved twice as slowly.)
+pub fn go_calls<P: Plan>(rt: &impl Print, plan: Option<P>, case: &mut Case) -> io::Result<()>
+where
+    P: Drop,
+    P::Answer: Drop + fmt::Debug,
+{
+    let Some(plan) = plan else {
+        return refused(rt);
+    };
+    go(rt, Some(Calls::new(plan)), case)
 }

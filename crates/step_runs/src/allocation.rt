@@ -17,19 +17,18 @@ pub fn run(rt: &HostRuntime, case: &mut Case, me: Me, name: &str, f: &[u64; 6]) 
         return Ok(false);
     }
     match alloc(me, f) {
-        Some(Err(fault)) => println!(rt; "  = Err({fault:?})")?,
-        Some(Ok(machine)) => go(rt, Some(machine), case)?,
-        None => go(rt, None::<Alloc>, case)?,
+        Ok(machine) => go(rt, Some(machine), case)?,
+        Err(fault) => println!(rt; "  = Err({fault:?})")?,
     }
     Ok(true)
 }
 
-/// who, how many reference words, how many plain words, and what each of them is to be
-fn alloc(me: Me, f: &[u64; 6]) -> Option<Result<Alloc, TooLarge>>
+/// who, how many reference words, how many plain words, and what each of them is to be; more than 9 plain words are 9
+fn alloc(me: Me, f: &[u64; 6]) -> Result<Alloc, TooLarge>
     requires fits { GeometryFits me.geometry }
     requires who { me.who < me.geometry.clients }
 {
     let words = [f[3]; 9];
-    let plain = words.get(..usize::from(byte(f[2])?))?;
-    Some(Alloc::new(me, byte(f[1])?, plain))
+    let plain = f[2].min(9) as usize;
+    Alloc::new(me, byte(f[1]).unwrap_or(u8::MAX), &words[..plain])
 }

@@ -3,10 +3,9 @@
 ghost use Rattle.std.specs.Prelude.{◌<◌};
 ghost use Rattle.shm_words.specs.Layout.{GeometryFits};
 
-use shm_calls::Calls;
-use shm_count::{CommitTest, StepChange, StepDown, StepUp, TearDown, Testing};
+use shm_count::{StepChange, StepDown, StepUp, TearDown, Testing};
 use shm_graph::Me;
-use shm_runs::{Case, address, go};
+use shm_runs::{Case, address, go, go_calls};
 use std::io;
 
 /// Runs the machine of a name, where it is one of these.
@@ -18,7 +17,7 @@ pub fn run(rt: &HostRuntime, case: &mut Case, me: Me, name: &str, f: &[u64; 6]) 
         "step_up" => go(rt, step_up(me, f), case)?,
         "step_down" => go(rt, step_down(me, f), case)?,
         "step_change" => go(rt, step_change(me, f), case)?,
-        "commit_test" => go(rt, commit_test(me, f), case)?,
+        "commit_test" => go_calls(rt, commit_test(me, f), case)?,
         "tear_down" => go(rt, tear_down(me, f), case)?,
         _ => return Ok(false),
     }
@@ -51,11 +50,11 @@ fn step_change(me: Me, f: &[u64; 6]) -> Option<StepChange>
 }
 
 /// who, block, era
-fn commit_test(me: Me, f: &[u64; 6]) -> Option<CommitTest>
+fn commit_test(me: Me, f: &[u64; 6]) -> Option<Testing>
     requires fits { GeometryFits me.geometry }
     requires who { me.who < me.geometry.clients }
 {
-    Some(Calls::new(Testing::new(me, address(f[1])?, f[2])))
+    Some(Testing::new(me, address(f[1])?, f[2]))
 }
 
 /// who, block

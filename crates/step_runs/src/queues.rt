@@ -3,10 +3,9 @@
 ghost use Rattle.std.specs.Prelude.{◌<◌};
 ghost use Rattle.shm_words.specs.Layout.{GeometryFits};
 
-use shm_calls::Calls;
 use shm_graph::Me;
-use shm_queue::{Draining, Peek, Peeking, Receive, Receiving, Send, Sending, Take, Taking};
-use shm_runs::{Case, address, client, go};
+use shm_queue::{Draining, Peeking, Receiving, Sending, Taking};
+use shm_runs::{Case, address, client, go_calls};
 use std::io;
 
 /// Runs the machine of a name, where it is one of these.
@@ -15,44 +14,44 @@ pub fn run(rt: &HostRuntime, case: &mut Case, me: Me, name: &str, f: &[u64; 6]) 
     requires who { me.who < me.geometry.clients }
 {
     match name {
-        "send" => go(rt, send(me, f), case)?,
-        "take" => go(rt, take(me, f), case)?,
-        "peek" => go(rt, peek(me, f), case)?,
-        "receive" => go(rt, receive(me, f), case)?,
-        "drain" => go(rt, Some(Calls::new(Draining::new(me))), case)?,
+        "send" => go_calls(rt, send(me, f), case)?,
+        "take" => go_calls(rt, take(me, f), case)?,
+        "peek" => go_calls(rt, peek(me, f), case)?,
+        "receive" => go_calls(rt, receive(me, f), case)?,
+        "drain" => go_calls(rt, Some(Draining::new(me)), case)?,
         _ => return Ok(false),
     }
     Ok(true)
 }
 
 /// who, to, block
-fn send(me: Me, f: &[u64; 6]) -> Option<Send>
+fn send(me: Me, f: &[u64; 6]) -> Option<Sending>
     requires fits { GeometryFits me.geometry }
     requires who { me.who < me.geometry.clients }
 {
-    Some(Calls::new(Sending::new(me, client(me, f[1])?, address(f[2])?)))
+    Some(Sending::new(me, client(me, f[1])?, address(f[2])?))
 }
 
 /// who, from
-fn take(me: Me, f: &[u64; 6]) -> Option<Take>
+fn take(me: Me, f: &[u64; 6]) -> Option<Taking>
     requires fits { GeometryFits me.geometry }
     requires who { me.who < me.geometry.clients }
 {
-    Some(Calls::new(Taking::new(me, client(me, f[1])?)))
+    Some(Taking::new(me, client(me, f[1])?))
 }
 
 /// who, from
-fn peek(me: Me, f: &[u64; 6]) -> Option<Peek>
+fn peek(me: Me, f: &[u64; 6]) -> Option<Peeking>
     requires fits { GeometryFits me.geometry }
     requires who { me.who < me.geometry.clients }
 {
-    Some(Calls::new(Peeking::new(me, client(me, f[1])?)))
+    Some(Peeking::new(me, client(me, f[1])?))
 }
 
 /// who, from
-fn receive(me: Me, f: &[u64; 6]) -> Option<Receive>
+fn receive(me: Me, f: &[u64; 6]) -> Option<Receiving>
     requires fits { GeometryFits me.geometry }
     requires who { me.who < me.geometry.clients }
 {
-    Some(Calls::new(Receiving::new(me, client(me, f[1])?)))
+    Some(Receiving::new(me, client(me, f[1])?))
 }

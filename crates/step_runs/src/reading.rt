@@ -3,12 +3,9 @@
 ghost use Rattle.std.specs.Prelude.{◌<◌};
 ghost use Rattle.shm_words.specs.Layout.{GeometryFits};
 
-use shm_calls::Calls;
 use shm_graph::Me;
-use shm_ref::{
-    FindingHome, Hold, Holding, HomeOf, Look, Looking, Naming, Read, Reading, Releasing, RootOf,
-};
-use shm_runs::{Case, address, byte, client, go, root};
+use shm_ref::{FindingHome, Holding, Looking, Naming, Reading, Releasing};
+use shm_runs::{Case, address, byte, client, go_calls, root};
 use std::io;
 
 /// Runs the machine of a name, where it is one of these.
@@ -17,53 +14,53 @@ pub fn run(rt: &HostRuntime, case: &mut Case, me: Me, name: &str, f: &[u64; 6]) 
     requires who { me.who < me.geometry.clients }
 {
     match name {
-        "release" => go(rt, Some(Calls::new(Releasing::new(me))), case)?,
-        "hold" => go(rt, hold(me, f), case)?,
-        "home_of" => go(rt, home_of(me, f), case)?,
-        "root_of" => go(rt, root_of(me, f), case)?,
-        "look" => go(rt, look(me, f), case)?,
-        "read" => go(rt, read(me, f), case)?,
+        "release" => go_calls(rt, Some(Releasing::new(me)), case)?,
+        "hold" => go_calls(rt, hold(me, f), case)?,
+        "home_of" => go_calls(rt, home_of(me, f), case)?,
+        "root_of" => go_calls(rt, root_of(me, f), case)?,
+        "look" => go_calls(rt, look(me, f), case)?,
+        "read" => go_calls(rt, read(me, f), case)?,
         _ => return Ok(false),
     }
     Ok(true)
 }
 
 /// who, author
-fn hold(me: Me, f: &[u64; 6]) -> Option<Hold>
+fn hold(me: Me, f: &[u64; 6]) -> Option<Holding>
     requires fits { GeometryFits me.geometry }
     requires who { me.who < me.geometry.clients }
 {
-    Some(Calls::new(Holding::new(me, client(me, f[1])?)))
+    Some(Holding::new(me, client(me, f[1])?))
 }
 
 /// who, author
-fn home_of(me: Me, f: &[u64; 6]) -> Option<HomeOf>
+fn home_of(me: Me, f: &[u64; 6]) -> Option<FindingHome>
     requires fits { GeometryFits me.geometry }
     requires who { me.who < me.geometry.clients }
 {
-    Some(Calls::new(FindingHome::new(me, client(me, f[1])?)))
+    Some(FindingHome::new(me, client(me, f[1])?))
 }
 
 /// who, root
-fn root_of(me: Me, f: &[u64; 6]) -> Option<RootOf>
+fn root_of(me: Me, f: &[u64; 6]) -> Option<Naming>
     requires fits { GeometryFits me.geometry }
     requires who { me.who < me.geometry.clients }
 {
-    Some(Calls::new(Naming::new(me, root(f[1])?)))
+    Some(Naming::new(me, root(f[1])?))
 }
 
 /// who, block, index
-fn look(me: Me, f: &[u64; 6]) -> Option<Look>
+fn look(me: Me, f: &[u64; 6]) -> Option<Looking>
     requires fits { GeometryFits me.geometry }
     requires who { me.who < me.geometry.clients }
 {
-    Some(Calls::new(Looking::new(me, address(f[1])?, byte(f[2])?)))
+    Some(Looking::new(me, address(f[1])?, byte(f[2])?))
 }
 
 /// who, block, index
-fn read(me: Me, f: &[u64; 6]) -> Option<Read>
+fn read(me: Me, f: &[u64; 6]) -> Option<Reading>
     requires fits { GeometryFits me.geometry }
     requires who { me.who < me.geometry.clients }
 {
-    Some(Calls::new(Reading::new(me, address(f[1])?, byte(f[2])?)))
+    Some(Reading::new(me, address(f[1])?, byte(f[2])?))
 }

@@ -3,11 +3,10 @@
 ghost use Rattle.std.specs.Prelude.{◌<◌};
 ghost use Rattle.shm_words.specs.Layout.{GeometryFits};
 
-use shm_calls::Calls;
 use shm_graph::Me;
-use shm_recover::parts::{FinishTakes, Finishing, TakeBack, TakingBack};
+use shm_recover::parts::{Finishing, TakingBack};
 use shm_recover::{Join, Leaving, Mending, Recovering, Scanning};
-use shm_runs::{Case, go};
+use shm_runs::{Case, go, go_calls};
 use std::io;
 
 /// Runs the machine of a name, where it is one of these.
@@ -17,8 +16,8 @@ pub fn run(rt: &HostRuntime, case: &mut Case, me: Me, name: &str) -> io::Result<
 {
     match name {
         "join" => go(rt, Some(Join::new(me)), case)?,
-        "leave" => go(rt, Some(Calls::new(Leaving::new(me))), case)?,
-        "recover" => go(rt, Some(Calls::new(Recovering::new(me))), case)?,
+        "leave" => go_calls(rt, Some(Leaving::new(me)), case)?,
+        "recover" => go_calls(rt, Some(Recovering::new(me)), case)?,
         _ => return run_part(rt, case, me, name),
     }
     Ok(true)
@@ -30,32 +29,32 @@ fn run_part(rt: &HostRuntime, case: &mut Case, me: Me, name: &str) -> io::Result
     requires who { me.who < me.geometry.clients }
 {
     match name {
-        "mend" => go(rt, Some(Calls::new(Mending::new(me))), case)?,
-        "scan" => go(rt, Some(Calls::new(Scanning::new(me))), case)?,
-        "take_back" => go(rt, take_back(me), case)?,
-        "finish_takes" => go(rt, finish_takes(me), case)?,
+        "mend" => go_calls(rt, Some(Mending::new(me)), case)?,
+        "scan" => go_calls(rt, Some(Scanning::new(me)), case)?,
+        "take_back" => go_calls(rt, take_back(me), case)?,
+        "finish_takes" => go_calls(rt, finish_takes(me), case)?,
         _ => return Ok(false),
     }
     Ok(true)
 }
 
-fn take_back(me: Me) -> Option<TakeBack>
+fn take_back(me: Me) -> Option<TakingBack>
     requires fits { GeometryFits me.geometry }
     requires who { me.who < me.geometry.clients }
 {
     if me.geometry.clients() > 1 {
-        Some(Calls::new(TakingBack::new(me)))
+        Some(TakingBack::new(me))
     } else {
         None
     }
 }
 
-fn finish_takes(me: Me) -> Option<FinishTakes>
+fn finish_takes(me: Me) -> Option<Finishing>
     requires fits { GeometryFits me.geometry }
     requires who { me.who < me.geometry.clients }
 {
     if me.geometry.clients() > 1 {
-        Some(Calls::new(Finishing::new(me)))
+        Some(Finishing::new(me))
     } else {
         None
     }

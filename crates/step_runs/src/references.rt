@@ -3,11 +3,10 @@
 ghost use Rattle.std.specs.Prelude.{◌<◌, ◌≤◌, ◌+◌, IfSome};
 ghost use Rattle.shm_words.specs.Layout.{GeometryFits, total_of};
 
-use shm_calls::Calls;
 use shm_graph::Me;
 use shm_ref::parts::DroppingRoots;
-use shm_ref::{DropRoot, Dropping, Homing, SetHome, SetRef, Setting, Share, Sharing};
-use shm_runs::{Case, address, byte, go, root};
+use shm_ref::{Dropping, Homing, Setting, Sharing};
+use shm_runs::{Case, address, byte, go_calls, root};
 use std::io;
 
 /// Runs the machine of a name, where it is one of these.
@@ -16,22 +15,22 @@ pub fn run(rt: &HostRuntime, case: &mut Case, me: Me, name: &str, f: &[u64; 6]) 
     requires who { me.who < me.geometry.clients }
 {
     match name {
-        "set_home" => go(rt, set_home(me, f), case)?,
-        "set_ref" => go(rt, set_ref(me, f), case)?,
-        "share" => go(rt, share(me, f), case)?,
-        "drop_root" => go(rt, drop_root(me, f), case)?,
-        "drop_roots" => go(rt, Some(Calls::new(DroppingRoots::new(me))), case)?,
+        "set_home" => go_calls(rt, set_home(me, f), case)?,
+        "set_ref" => go_calls(rt, set_ref(me, f), case)?,
+        "share" => go_calls(rt, share(me, f), case)?,
+        "drop_root" => go_calls(rt, drop_root(me, f), case)?,
+        "drop_roots" => go_calls(rt, Some(DroppingRoots::new(me)), case)?,
         _ => return Ok(false),
     }
     Ok(true)
 }
 
 /// who, block
-fn set_home(me: Me, f: &[u64; 6]) -> Option<SetHome>
+fn set_home(me: Me, f: &[u64; 6]) -> Option<Homing>
     requires fits { GeometryFits me.geometry }
     requires who { me.who < me.geometry.clients }
 {
-    Some(Calls::new(Homing::new(me, address(f[1])?)))
+    Some(Homing::new(me, address(f[1])?))
 }
 
 /// A block whose header and tag lie in the pool.
@@ -48,26 +47,26 @@ fn block(me: Me, number: u64) -> Option<u32>
 }
 
 /// who, block, index, target
-fn set_ref(me: Me, f: &[u64; 6]) -> Option<SetRef>
+fn set_ref(me: Me, f: &[u64; 6]) -> Option<Setting>
     requires fits { GeometryFits me.geometry }
     requires who { me.who < me.geometry.clients }
 {
     let (block, target) = (block(me, f[1])?, address(f[3])?);
-    Some(Calls::new(Setting::new(me, block, byte(f[2])?, target)))
+    Some(Setting::new(me, block, byte(f[2])?, target))
 }
 
 /// who, block
-fn share(me: Me, f: &[u64; 6]) -> Option<Share>
+fn share(me: Me, f: &[u64; 6]) -> Option<Sharing>
     requires fits { GeometryFits me.geometry }
     requires who { me.who < me.geometry.clients }
 {
-    Some(Calls::new(Sharing::new(me, address(f[1])?)))
+    Some(Sharing::new(me, address(f[1])?))
 }
 
 /// who, root
-fn drop_root(me: Me, f: &[u64; 6]) -> Option<DropRoot>
+fn drop_root(me: Me, f: &[u64; 6]) -> Option<Dropping>
     requires fits { GeometryFits me.geometry }
     requires who { me.who < me.geometry.clients }
 {
-    Some(Calls::new(Dropping::new(me, root(f[1])?)))
+    Some(Dropping::new(me, root(f[1])?))
 }
