@@ -1,4 +1,0 @@
-pub mod Knowing
-pub mod Answered
-pub mod Standing
-pub mod Naming
