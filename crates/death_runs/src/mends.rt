@@ -112,7 +112,7 @@ fn tested(pool: &mut Pool, me: Me) -> Option<(Words, Commit)>
 }
 
 /// The words after a whole mending; none where it doesn't end.
-fn mended(pool: &mut Pool, me: Me) -> Option<Words>
+fn mend_whole(pool: &mut Pool, me: Me) -> Option<Words>
     requires geometry { GeometryFits me.geometry }
     requires who { me.who < me.geometry.clients }
     requires clients { 1 < me.geometry.clients }
@@ -138,7 +138,7 @@ pub fn mend(alloc: Global, death: u32, copied: bool) -> Result<Option<Mended>, A
         return Ok(None);
     }
     let mut part = pool.copy(alloc)?;
-    Ok(match (tested(&mut part, me), mended(&mut pool, me)) {
+    Ok(match (tested(&mut part, me), mend_whole(&mut pool, me)) {
         (Some((before, answer)), Some(after)) => Some(Mended {
             before,
             answer,
