@@ -11,7 +11,6 @@ pub mod AllocRoots
 pub mod TearAnswers
 pub mod Passing
 pub mod PlanCalls
-pub mod JoinLatch
 pub mod QueueAnswers
 pub mod QueueReady
 pub mod ItemAnswers
