@@ -63,26 +63,3 @@ impl ValueNames {
         self.numbers.get(&value).copied().unwrap_or(0)
     }
 }
-
-#[cfg(test)]
-mod tests {
-    use super::*;
-    use std::test::Fail;
-
-    #[test]
-    fn names_in_order(rt: HostRuntime) -> Result<(), Fail> {
-        let mut rows = Vec::new(rt.alloc());
-        for value in [306, 50, 306, 178] {
-            rows.push(TableRow {
-                client: 0,
-                key: 0,
-                number: 0,
-                value,
-            })?;
-        }
-        let names = ValueNames::of_rows(rt.alloc(), rows.as_slice())?;
-        let wanted: &[u32] = &[306, 50, 178];
-        assert_eq!(rt; names.blocks(), wanted);
-        Ok(())
-    }
-}
