@@ -11,6 +11,7 @@ pub mod AllocRoots
 pub mod TearAnswers
 pub mod Passing
 pub mod PlanCalls
+pub mod JoinLatch
 pub mod QueueAnswers
 pub mod QueueReady
 pub mod ItemAnswers

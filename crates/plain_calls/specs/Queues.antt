@@ -1,13 +1,10 @@
 -- what calls on queues leave
-use Rattle.std.specs.Prelude.{◌≡◌, ℕ, false, true, None, [], slice_index}
+use Rattle.std.specs.Prelude.{◌≡◌, ℕ, true, None, [], slice_index}
 use Rattle.shm_graph.specs.declared.memo.Memo.{Memo}
-use Rattle.shm_graph.specs.Agents.{recovers}
 use Rattle.shm_graph.specs.Held.{is_loose}
 use Rattle.shm_graph.specs.Stores.{lane_with}
-use Rattle.shm_plain.specs.Calls.{IsAtWork}
 use Rattle.shm_plain.specs.Lanes.{IsFirst}
 use Rattle.shm_plain.specs.Pools.{Pool, memo_of}
-use Rattle.shm_count.specs.Roots.{AreRootsReached, root_word}
 use Rattle.shm_queue.specs.declared.answer.PeekFault.{PeekFault}
 use Rattle.shm_queue.specs.declared.answer.PeekFault.TheVariants.{Empty}
 use Rattle.shm_queue.specs.declared.answer.TakeFault.{TakeFault}
@@ -62,15 +59,3 @@ pub record IsClear (m : Memo) : Type 0 where
   pub dying : m.dying ≡ []
   pub unsent : (j : ℕ) → slice_index m.unsent j ≡ 0
   pub untaken : (j : ℕ) → slice_index m.untaken j ≡ 0
-
--- so it is with c, which is between two calls and a client: each call on a queue may begin, and the identity may leave
-pub record IsReady (c : ℕ) (p : Pool) : Type 0 where
-  pub work : IsAtWork c p
-  pub client : recovers (memo_of p c) ≡ false
-  pub clear : IsClear (memo_of p c)
-
--- and root 0 of c names b, which is in reach with what its other roots name
-pub record HasBlock (c b : ℕ) (p : Pool) : Type 0 where
-  pub ready : IsReady c p
-  pub root : root_word c (memo_of p c) 0 ≡ b
-  pub reached : AreRootsReached c (memo_of p c)

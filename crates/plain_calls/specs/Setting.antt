@@ -1,13 +1,9 @@
 -- what is said where a reference word of an own block wasn't set
-use Rattle.std.specs.Prelude.{◌≡◌, ◌≢◌, ℕ, ◌^◌, ◌-◌, ◌<◌, ◌≤◌, false, true, Some}
+use Rattle.std.specs.Prelude.{◌≡◌, ◌≢◌, ℕ, ◌^◌, ◌-◌, ◌<◌, ◌≤◌, true, Some}
 use Rattle.shm_words.specs.Tags.{tag_author, tag_refs}
 use Rattle.shm_graph.specs.declared.memo.Memo.{Memo}
 use Rattle.shm_graph.specs.declared.spot.Spot.TheVariants.{Tag}
-use Rattle.shm_graph.specs.Agents.{recovers}
-use Rattle.shm_graph.specs.Held.{is_loose}
 use Rattle.shm_graph.specs.Reach.{is_reached}
-use Rattle.shm_plain.specs.Calls.{IsAtWork}
-use Rattle.shm_plain.specs.Pools.{Pool, memo_of}
 use Rattle.shm_count.specs.Tear.Memos.{Knows}
 use Rattle.shm_ref.specs.declared.answer.SetFault.{SetFault}
 use Rattle.shm_ref.specs.declared.answer.SetFault.TheVariants.{CountFull, EraSpent, NoSuchRef, NotAuthor, NotHeld}
@@ -23,9 +19,3 @@ SetTold c b k to m r (NoSuchRef n) = (t : ℕ) × Knows r (Tag b) t × (tag_auth
 SetTold c b k to m r NotHeld = (t : ℕ) × Knows r (Tag b) t × (tag_author t ≡ c) × (k < tag_refs t) × (m.latch ≢ Some c) × Reaches c m r
 SetTold c b k to m r (EraSpent e) = 2 ^ 47 - 4 < e
 SetTold c b k to m r (CountFull d n) = (d ≡ to) × (to ≢ 0) × (n ≡ 1023)
-
--- c is between two calls and a client, in a pool for single calls: it may set words of its blocks
-pub record IsBuilding (c : ℕ) (p : Pool) : Type 0 where
-  pub work : IsAtWork c p
-  pub client : recovers (memo_of p c) ≡ false
-  pub loose : is_loose (memo_of p c).part ≡ true

@@ -2,3 +2,4 @@ pub mod RunBegins
 pub mod RunEvents
 pub mod RunKeeps
 pub mod RunMaps
+pub mod Opens

@@ -1,10 +1,15 @@
 -- commands on a table as calls: when the one of a line may begin, and what it leaves
-use Rattle.std.specs.Prelude.{◌≡◌, ℕ, ◌^◌, ◌<◌, None, List, slice_index}
+use Rattle.std.specs.Prelude.{◌≡◌, ℕ, ◌^◌, ◌<◌, ◌⊎◌, false, None, [], List, slice_index}
+use Rattle.shm_words.specs.declared.geometry.Geometry.{Geometry}
+use Rattle.shm_words.specs.Layout.{GeometryFits}
 use Rattle.shm_graph.specs.declared.ask.Me.{Me}
 use Rattle.shm_graph.specs.declared.memo.Memo.{Memo}
+use Rattle.shm_graph.specs.Agents.{recovers}
 use Rattle.shm_graph.specs.Asks.{Trail}
 use Rattle.shm_graph.specs.Events.{Event}
 use Rattle.shm_graph.specs.Held.{is_loose}
+use Rattle.shm_plain.specs.Calls.{IsAtWork}
+use Rattle.shm_plain.specs.Pools.{Pool, memo_of}
 use Rattle.shm_script.specs.declared.line.Line.{Line}
 use Rattle.shm_script.specs.declared.line.Line.TheVariants as line
 use Rattle.shm_script.specs.declared.log.Answer.{Answer}
@@ -59,3 +64,24 @@ pub record LeavesOpen (m r : Memo) : Type 0 where
   pub loose : is_loose r.part ≡ is_loose m.part
   pub unsent : (j : ℕ) → slice_index r.unsent j ≡ slice_index m.unsent j
   pub untaken : (j : ℕ) → slice_index r.untaken j ≡ slice_index m.untaken j
+
+-- ---- one after the other
+
+-- c is between two calls and a client, in a pool for tables, with no latch; no count came to 0, and no block waits for a tail and no item for a head: each command may begin, and it may leave
+pub record IsOpen (c : ℕ) (p : Pool) : Type 0 where
+  pub work : IsAtWork c p
+  pub client : recovers (memo_of p c) ≡ false
+  pub table : is_loose (memo_of p c).part ≡ false
+  pub latch : (memo_of p c).latch ≡ None
+  pub dying : (memo_of p c).dying ≡ []
+  pub unsent : (j : ℕ) → slice_index (memo_of p c).unsent j ≡ 0
+  pub untaken : (j : ℕ) → slice_index (memo_of p c).untaken j ≡ 0
+
+-- each identity of the pool is so
+abbrev pub AreOpen : Pool → Type 0
+AreOpen p = (c : ℕ) → c < p.start.geometry.clients → IsOpen c p
+
+-- a pool of one or two identities
+pub record IsFew (g : Geometry) : Type 0 where
+  pub fits : GeometryFits g
+  pub some : (g.clients ≡ 1) ⊎ (g.clients ≡ 2)

@@ -1,0 +1,4 @@
+pub mod Knowing
+pub mod Answered
+pub mod Stands
+pub mod Naming
