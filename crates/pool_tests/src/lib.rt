@@ -1,15 +1,5 @@
-//! Machines on a pool that threads share: what no crate alone can test.
+//! Clients on threads, and one that dies between two word steps: tests of the calls of pool_calls.
 #![tactic(auto)]
-
-pub mod calls;
-pub mod leaving;
-pub mod recovering;
-pub mod team;
-
-pub use calls::{allocate, lower, raise, tear_down};
-pub use leaving::{TwoMade, make_two};
-pub use recovering::{bury, recover_and_close};
-pub use team::{Team, Visited, both, run_two, visit, work};
 
 #[cfg(test)]
 mod tests;

@@ -1,7 +1,7 @@
 //! Clients on threads, and one that dies between two word steps.
 
-use crate::team::{pass_and_close, pass_by, pop_of, put_back};
-use crate::{Team, TwoMade, make_two, recover_and_close, run_two};
+use pool_calls::team::{pass_and_close, pass_by, pop_of, put_back};
+use pool_calls::{Team, TwoMade, make_two, recover_and_close, run_two};
 use shm_alloc::AllocFault;
 use shm_count::Made;
 use shm_pool::{Cause, CloseCause, CloseStop, SharedPool};

@@ -1,4 +1,4 @@
-use Rattle.pool_tests.proofs.FirstTokens.{all_of}
+use Rattle.pool_calls.proofs.FirstTokens.{all_of}
 use Rattle.pool_tests.proofs.tests.a_missing_token_is_named.Goals as goal
 
 pub close-requires : goal.close-requires

@@ -19,10 +19,10 @@ use Rattle.shm_count.specs.Roots.{root_step, root_word}
 use Rattle.shm_pool.specs.Calls.{Tells}
 use Rattle.shm_pool.specs.Replies.{IfReply}
 use Rattle.shm_pool.specs.Tokens.{Its}
-use Rattle.pool_tests.specs.Between.{IsBetween}
-use Rattle.pool_tests.proofs.Standing.{raised, root_others, root_raised, up_fits, reply_both, reply_map}
-use Rattle.pool_tests.proofs.calls.raise.Goals.{After-root, After-new-up, After-run}
-use Rattle.pool_tests.proofs.calls.raise.Goals as goal
+use Rattle.pool_calls.specs.Between.{IsBetween}
+use Rattle.pool_calls.proofs.Standing.{raised, root_others, root_raised, up_fits, reply_both, reply_map}
+use Rattle.pool_calls.proofs.calls.raise.Goals.{After-root, After-new-up, After-run}
+use Rattle.pool_calls.proofs.calls.raise.Goals as goal
 use Rattle.shm_graph.specs.Runs.{Stood}
 
 -- the pool's sizes and whose the client is, as the token says

@@ -2,7 +2,7 @@
 
 ghost use Rattle.std.specs.Prelude.{◌≡◌, IfOk, IfErr, IfSome};
 ghost use Rattle.shm_words.specs.Layout.{GeometryFits};
-ghost use Rattle.pool_tests.specs.Between.{AreRootsEmpty, IsBetween};
+ghost use Rattle.pool_calls.specs.Between.{AreRootsEmpty, IsBetween};
 
 use crate::team::{pop_of, put_back, visit, work};
 use shm_graph::Life;

@@ -14,10 +14,10 @@ use Rattle.shm_recover.specs.Leave.{MayLeave}
 use Rattle.shm_pool.specs.Calls.{Tells}
 use Rattle.shm_pool.specs.Endings.{ClientMayLeave}
 use Rattle.shm_pool.specs.Tokens.{Its, me_of}
-use Rattle.pool_tests.specs.Between.{me_now}
-use Rattle.pool_tests.proofs.Keeping.{alloc_may_leave}
-use Rattle.pool_tests.proofs.Standing.{made_inside, reply_both, reply_map}
-use Rattle.pool_tests.proofs.calls.allocate.Goals as goal
+use Rattle.pool_calls.specs.Between.{me_now}
+use Rattle.pool_calls.proofs.Keeping.{alloc_may_leave}
+use Rattle.pool_calls.proofs.Standing.{made_inside, reply_both, reply_map}
+use Rattle.pool_calls.proofs.calls.allocate.Goals as goal
 use Rattle.shm_graph.specs.Runs.{Stood}
 
 pub returns-clause-inside : goal.returns-clause-inside

@@ -2,8 +2,8 @@ use Rattle.std.proofs.Common.{rules, ◌≡◌, ◌<◌, arith}
 use Rattle.shm_count.proofs.RootSpots.{roots_reached}
 use Rattle.shm_count.specs.Roots.{root_word}
 use Rattle.shm_count.specs.Step.Control.{IsInside}
-use Rattle.pool_tests.specs.Between.{IsBetween, me_now}
-use Rattle.pool_tests.proofs.team.work.Goals as goal
+use Rattle.pool_calls.specs.Between.{IsBetween, me_now}
+use Rattle.pool_calls.proofs.team.work.Goals as goal
 
 -- the root that was found names the block
 pub raise-requires-clause-reached : goal.raise-requires-clause-reached

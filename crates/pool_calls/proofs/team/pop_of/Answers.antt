@@ -2,10 +2,10 @@ use Rattle.std.proofs.Common.{◌≡◌, subst}
 use Rattle.std.specs.Prelude.{IfSome}
 use Rattle.std.specs.Option.{option_to_list}
 use Rattle.shm_pool.specs.Tokens.{Token, token_first}
-use Rattle.pool_tests.specs.Between.{AllFirst}
-use Rattle.pool_tests.proofs.FirstTokens.{all_of, first_front, of_first, popped, roots_first}
-use Rattle.pool_tests.proofs.team.pop_of.Goals.{After-pop}
-use Rattle.pool_tests.proofs.team.pop_of.Goals as goal
+use Rattle.pool_calls.specs.Between.{AllFirst}
+use Rattle.pool_calls.proofs.FirstTokens.{all_of, first_front, of_first, popped, roots_first}
+use Rattle.pool_calls.proofs.team.pop_of.Goals.{After-pop}
+use Rattle.pool_calls.proofs.team.pop_of.Goals as goal
 
 one : (c : After-pop) → IfSome c.pop.result (λ (t : Token). t ≡ token_first c.args.pool.now t.account.who)
 one c = popped c.args.pool.now c.pop.new.self.items c.pop.result (subst (AllFirst c.args.pool.now) c.pop.ensures.items c.requires)

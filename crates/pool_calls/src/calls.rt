@@ -10,11 +10,11 @@ ghost use Rattle.shm_count.specs.declared.point.Aim.TheVariants as aims;
 ghost use Rattle.shm_count.specs.Step.Control.{IsInside};
 ghost use Rattle.shm_count.specs.Step.Machines.{DownGives, UpGives};
 ghost use Rattle.shm_count.specs.Tear.{TearGives};
-ghost use Rattle.pool_tests.specs.Allocating.{IsAsked};
+ghost use Rattle.pool_calls.specs.Allocating.{IsAsked};
 ghost use Rattle.shm_count.specs.Roots.{AreRootsReached, root_step, root_word, tear_of};
 ghost use Rattle.shm_pool.specs.Replies.{IsLost, IfReply};
 ghost use Rattle.shm_pool.specs.Endings.{ClientMayLeave};
-ghost use Rattle.pool_tests.specs.Between.{IsBetween, me_now};
+ghost use Rattle.pool_calls.specs.Between.{IsBetween, me_now};
 
 use shm_alloc::{Alloc, AllocFault, TooLarge};
 use shm_count::{EraSpent, Made, StepDown, StepUp, TearDown, UpFault};

@@ -8,9 +8,9 @@ use Rattle.shm_count.specs.Tear.Control.{tear_control}
 use Rattle.shm_count.specs.Tear.{TearFits}
 use Rattle.shm_count.specs.Roots.{tear_of}
 use Rattle.shm_pool.specs.Tokens.{Its}
-use Rattle.pool_tests.proofs.Standing.{tear_small, tears}
-use Rattle.pool_tests.proofs.calls.tear_down.Goals.{After-new, After-new-tear}
-use Rattle.pool_tests.proofs.calls.tear_down.Goals as goal
+use Rattle.pool_calls.proofs.Standing.{tear_small, tears}
+use Rattle.pool_calls.proofs.calls.tear_down.Goals.{After-new, After-new-tear}
+use Rattle.pool_calls.proofs.calls.tear_down.Goals as goal
 
 sizes : (c : After-new) → c.geometry.result ≡ c.args.client.now.of.start.geometry
 sizes c = c.geometry.ensures.is ∙ sym (ap (λ (n : Its). n.start.geometry) c.requires.pool)
