@@ -8,6 +8,7 @@ use crate::op::{Op, perform};
 use crate::pool::Pool;
 use crate::references::References;
 use crate::rules::{is_gone, is_recovered};
+use shm_calls::Calls;
 use shm_graph::{Machine, Me, Turn};
 use shm_recover::{Join, Leaving};
 use shm_runs::make;
@@ -80,7 +81,7 @@ fn work(pool: &mut Pool, me: Me, put: &mut Command, steps: u32) -> Option<()>
     let joined = pool.advance(&mut Join::new(me), steps)?;
     let left = steps.saturating_sub(joined);
     let made = pool.advance(put, left)?;
-    pool.follow(Leaving::new(me), left.saturating_sub(made))?;
+    pool.advance(&mut Calls::new(Leaving::new(me)), left.saturating_sub(made))?;
     Some(())
 }
 
