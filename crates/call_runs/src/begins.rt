@@ -14,13 +14,18 @@ use shm_plain::PlainPool;
 use shm_words::Geometry;
 use std::io;
 
-/// The sizes of a pool, as the first two numbers of a row are.
+/// The sizes of a pool, as the first two numbers of a row are; where the seventh number is 2 the pool is of format 2.
 pub fn geometry(row: &Row) -> io::Result<Geometry>
     ensures { IfOk result GeometryFits }
 {
     let clients = row.small(0, 17)?;
-    let segments = row.below(1, 257)? as u16;
-    Geometry::new(clients, segments).map_err(|_| refusal())
+    let segments = row.below(1, 8001)? as u16;
+    let geometry = if row.at(6) == 2 {
+        Geometry::wide(clients, segments)
+    } else {
+        Geometry::new(clients, segments)
+    };
+    geometry.map_err(|_| refusal())
 }
 
 /// The first era of a pool, as the third number of a row is.
@@ -44,7 +49,7 @@ fn begun(clients: u8, tables: bool, who: u8, joined: u8) -> Standing
     }
 }
 
-/// `begin CLIENTS SEGMENTS ERA WHO TABLES LIFE`: a pool that an identity joins; none where no word step was left.
+/// `begin CLIENTS SEGMENTS ERA WHO TABLES LIFE [FORMAT]`: a pool that an identity joins; none where no word step was left.
 pub fn begin(rt: &HostRuntime, row: &Row) -> io::Result<Option<Run>>
     ensures { IfOk result (λ o. IfSome o (λ r. Stand r.first r.second r.pool)) }
 {

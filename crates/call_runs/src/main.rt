@@ -1,12 +1,12 @@
 //! Calls on pools in vectors, by the lines of standard input.
 //!
-//! A line `# TITLE` begins a row and is printed again. `begin CLIENTS SEGMENTS ERA WHO TABLES LIFE` makes a pool that the identity WHO joins,
-//! with so many word steps left; `make` makes one that nobody joins, and `step_join` one on which a join made one step. `NAME WHO ..` makes
-//! that call of an identity and prints its answer. What an identity may do is known by what it did before; a line that asks for anything
-//! else ends the program with a failure. `life STEPS` sets the word steps that are left, and `left` prints them; `words`, `word`, `count`,
-//! `live`, `pool` and `still` print what the pool has. `close` closes the pool, of which `words`, `sizes` and `counted` print then. Lines that begin
-//! with `|` are those of a trace, whose commands `report`, `summary` and `steps` run on a pool for tables. What must be printed (the file
-//! stdout) was computed by an independent implementation.
+//! A line `# TITLE` begins a row and is printed again. `begin CLIENTS SEGMENTS ERA WHO TABLES LIFE [FORMAT]` makes a pool that the identity
+//! WHO joins, with so many word steps left; `make` makes one that nobody joins, and `step_join` one on which a join made one step.
+//! `NAME WHO ..` makes that call of an identity and prints its answer. What an identity may do is known by what it did before; a line that asks
+//! for anything else ends the program with a failure. `life STEPS` sets the word steps that are left, and `left` prints them; `words`,
+//! `word`, `count`, `live`, `pool` and `still` print what the pool has. `close` closes the pool, of which `words`, `sizes` and `counted`
+//! print then. Lines that begin with `|` are those of a trace, whose commands `report`, `summary` and `steps` run on a pool for tables.
+//! What must be printed (the file stdout) was computed by an independent implementation.
 #![tactic(auto)]
 
 ghost use Rattle.std.specs.Prelude.{IfOk};

@@ -75,7 +75,7 @@ pub watch_laws : Laws watch_control WatchFits WatchGives
 watch_laws =
     record {
       steady = λ m n going. record { same_me = refl; same_line = refl; started = refl; ends = last_step m n going };
-      inside = λ m r0 r tr l fit going. in_pool m.me.geometry (λ s p. 0) (address m.me.geometry (place.Status m.me.who)) (Status m.me.who) (status_spot m.me (λ s p. 0) fit.member) (λ e. cc);
+      inside = λ m r0 r tr l fit going. (in_pool m.me.geometry (λ s p. 0) (address m.me.geometry (place.Status m.me.who)) (Status m.me.who) (status_spot m.me (λ s p. 0) fit.member) (λ e. cc)).1;
       back = λ m n going goes r0 r tr a g. g;
       keeps = watch_keeps;
     }

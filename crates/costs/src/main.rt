@@ -1,7 +1,7 @@
 //! What parts of the pool cost, against plain work that does the same.
 //!
-//! Run it with `rt run costs`, or `rt run costs -- WORD` for one part: `script`, `audit`, `steps`, `leaving` or `shared`, of which the
-//! modules of these names tell more. It writes to standard error what each takes, in processor time, and how many times the one is the
+//! Run it with `rt run costs`, or `rt run costs -- WORD` for one part: `script`, `audit`, `steps`, `leaving`, `shared` or `wide`, of which
+//! the modules of these names tell more. It writes to standard error what each takes, in processor time, and how many times the one is the
 //! other; and nothing to standard output. With status 1 something failed, and the figures say nothing.
 #![tactic(auto)]
 
@@ -12,22 +12,28 @@ mod shared;
 mod steps;
 mod times;
 mod watch;
+mod wide;
 
+use shm_words::Geometry;
 use std::process::ExitCode;
 use std::{env, io};
 
 /// The parts.
-const PARTS: [&str; 5] = ["script", "audit", "steps", "leaving", "shared"];
+const PARTS: [&str; 6] = ["script", "audit", "steps", "leaving", "shared", "wide"];
 
 /// Times the part of this name; false where something failed, or there is none.
 fn time_part(rt: &HostRuntime, name: &str) -> io::Result<bool> {
     eprintln!(rt; "{name}:")?;
+    let Ok(small) = Geometry::new(1, 1) else {
+        unreachable!()
+    };
     match name {
         "script" => script::time_all(rt),
         "audit" => audit::time_all(rt),
-        "steps" => steps::time_all(rt),
+        "steps" => steps::time_all(rt, small),
         "leaving" => leaving::time_all(rt),
-        "shared" => shared::time_all(rt),
+        "shared" => shared::time_all(rt, small),
+        "wide" => wide::time_all(rt),
         _ => Ok(false),
     }
 }

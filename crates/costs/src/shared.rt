@@ -143,11 +143,11 @@ fn time_words(rt: &HostRuntime, geometry: Geometry) -> io::Result<Option<u64>>
     Ok(if last == Some(1) { Some(time) } else { None })
 }
 
-/// Times both, and writes what a step of each kind took; false where a watch found another word than the status of a client.
-pub fn time_all(rt: &HostRuntime) -> io::Result<bool> {
-    let Ok(geometry) = Geometry::new(1, 1) else {
-        unreachable!()
-    };
+/// Times both, through pools of these sizes, and writes what a step of each kind took; false where a watch found another word than
+/// the status of a client.
+pub fn time_all(rt: &HostRuntime, geometry: Geometry) -> io::Result<bool>
+    requires { GeometryFits geometry }
+{
     let mut least = Least::new();
     for _ in 0..ROUNDS {
         let (Some(pool), Some(words)) = (time_pool(rt, geometry)?, time_words(rt, geometry)?) else {

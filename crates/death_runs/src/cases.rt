@@ -1,4 +1,4 @@
-//! The cases by groups.
+//! The cases by groups, with the addresses that format 1 has (op.rt).
 
 mod alone;
 mod beside;

@@ -11,7 +11,7 @@ use crate::rules::{is_gone, is_recovered};
 use shm_calls::Calls;
 use shm_graph::{Machine, Me, Turn};
 use shm_recover::{Join, Leaving};
-use shm_runs::make;
+use shm_runs::{geometry, make};
 use shm_script::{Answer, Line};
 use shm_table::Command;
 use shm_words::Geometry;
@@ -125,11 +125,12 @@ pub struct Left {
 /// die. None where a rule is broken.
 pub fn cut_alone(
     alloc: Global,
+    wide: bool,
     number: u64,
     death: u32,
     lives: &[u32],
 ) -> Result<Option<Left>, AllocError> {
-    let Ok(geometry) = Geometry::new(1, 1) else {
+    let Some(geometry) = geometry(wide, 1, 1) else {
         return Ok(None);
     };
     let me = Me::new(geometry, 0);
@@ -215,8 +216,13 @@ fn copy_within(pool: &mut Pool, me: Me, other: Me, death: u32, life: u32) -> Opt
 
 /// Client 0 of a pool of two is cut after so many word steps, client 1 joins and copies the key, and client 0 is recovered, where a
 /// recoverer of this life dies. None where a rule is broken.
-pub fn cut_beside(alloc: Global, death: u32, life: u32) -> Result<Option<Copied>, AllocError> {
-    let Ok(geometry) = Geometry::new(2, 2) else {
+pub fn cut_beside(
+    alloc: Global,
+    wide: bool,
+    death: u32,
+    life: u32,
+) -> Result<Option<Copied>, AllocError> {
+    let Some(geometry) = geometry(wide, 2, 2) else {
         return Ok(None);
     };
     let (me, other) = (Me::new(geometry, 0), Me::new(geometry, 1));

@@ -4,7 +4,8 @@
 //! were, and one number that is made of all of them: of the word steps of the operation up to the death, of what another identity did then,
 //! of those of the recoverers, and of all words that they left. After each death there is one recovery at once, and others where the first
 //! recoverer dies after 1, 2, 5, 17 or 40 word steps. What the lines must be (the file stdout) was computed by an independent
-//! implementation. Where a recovery leaves what it mustn't (rules.rt) the program stops with status 1.
+//! implementation. Where a recovery leaves what it mustn't (rules.rt) the program stops with status 1. All of it is done in pools of format 1,
+//! and then in pools of format 2.
 //!
 //! Then the rows of standard input are told: deaths within one put, with more deaths of recoverers (rows.rt).
 //!
@@ -29,7 +30,7 @@ use cases::GROUPS;
 use pool::Pool;
 use rows::tell_rows;
 use shm_graph::Me;
-use shm_runs::Sum;
+use shm_runs::{Sum, geometry};
 use shm_words::Geometry;
 use std::alloc::{AllocError, Global};
 use std::process::ExitCode;
@@ -146,9 +147,10 @@ fn tell_case(rt: &HostRuntime, geometry: Geometry, case: &Case, each: bool) -> i
     Ok(true)
 }
 
-/// Tells of the cases of a group; false where one is told as false.
-fn tell_group(rt: &HostRuntime, group: &Group, each: bool) -> io::Result<bool> {
-    let Ok(geometry) = Geometry::new(group.clients, group.segments) else {
+/// Tells of the cases of a group in a format; false where one is told as false.
+fn tell_group(rt: &HostRuntime, wide: bool, group: &Group, each: bool) -> io::Result<bool> {
+    let (clients, segments) = (u64::from(group.clients), u64::from(group.segments));
+    let Some(geometry) = geometry(wide, clients, segments) else {
         return Ok(false);
     };
     for case in group.cases {
@@ -159,19 +161,21 @@ fn tell_group(rt: &HostRuntime, group: &Group, each: bool) -> io::Result<bool> {
     Ok(true)
 }
 
-/// Tells of all cases; false where one is told as false.
-fn tell_all(rt: &HostRuntime, each: bool) -> io::Result<bool> {
+/// Tells of all cases in a format, below its title; false where one is told as false.
+fn tell_all(rt: &HostRuntime, wide: bool, each: bool) -> io::Result<bool> {
+    let title = if wide { "# format 2" } else { "# format 1" };
+    println!(rt; "{title}")?;
     for group in &GROUPS {
-        if !tell_group(rt, group, each)? {
+        if !tell_group(rt, wide, group, each)? {
             return Ok(false);
         }
     }
     Ok(true)
 }
 
-/// Tells of all cases, and then of the rows of standard input, unless each death is told; false where one is told as false.
+/// Tells of all cases in both formats, and then of the rows of standard input, unless each death is told; false where one is told as false.
 fn tell(rt: &HostRuntime, each: bool) -> io::Result<bool> {
-    Ok(tell_all(rt, each)? && (each || tell_rows(rt)?))
+    Ok(tell_all(rt, false, each)? && tell_all(rt, true, each)? && (each || tell_rows(rt)?))
 }
 
 /// Whether a word stands behind the program's name.

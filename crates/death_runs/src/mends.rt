@@ -9,7 +9,7 @@ use shm_calls::Calls;
 use shm_count::{Commit, CommitTest, Testing};
 use shm_graph::{Machine, Me, Turn};
 use shm_recover::{Join, Mend, Mending};
-use shm_runs::make;
+use shm_runs::{geometry, make};
 use shm_script::Line;
 use shm_table::Command;
 use shm_words::Geometry;
@@ -89,7 +89,7 @@ fn answer_of(pool: &mut Pool, mut test: CommitTest) -> Option<Commit> {
     None
 }
 
-/// The words after three word steps of a mending, what a commit test of block 121 at era 9 answers then, and the words after a whole
+/// The words after three word steps of a mending, what a commit test of the first block at era 9 answers then, and the words after a whole
 /// mending.
 #[derive(Drop)]
 pub struct Mended {
@@ -107,7 +107,8 @@ fn tested(pool: &mut Pool, me: Me) -> Option<(Words, Commit)>
     let mut mend: Mend = Calls::new(Mending::new(me));
     pool.advance(&mut mend, 3)?;
     let before = words_of(pool, me.geometry);
-    let answer = answer_of(pool, Calls::new(Testing::new(me, 121, 9)))?;
+    let block = if me.geometry.is_wide() { 123 } else { 121 };
+    let answer = answer_of(pool, Calls::new(Testing::new(me, block, 9)))?;
     Some((before, answer))
 }
 
@@ -128,8 +129,13 @@ fn mend_whole(pool: &mut Pool, me: Me) -> Option<Words>
 
 /// A put that dies after so many word steps, with or without a copy, and what a mending and a commit test within it make of that. None
 /// where one of them doesn't end.
-pub fn mend(alloc: Global, death: u32, copied: bool) -> Result<Option<Mended>, AllocError> {
-    let Ok(geometry) = Geometry::new(2, 2) else {
+pub fn mend(
+    alloc: Global,
+    wide: bool,
+    death: u32,
+    copied: bool,
+) -> Result<Option<Mended>, AllocError> {
+    let Some(geometry) = geometry(wide, 2, 2) else {
         return Ok(None);
     };
     let me = Me::new(geometry, 0);

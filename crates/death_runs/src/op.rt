@@ -1,7 +1,7 @@
 //! The operations of the table, and how an identity begins and makes them.
 
-ghost use Rattle.std.specs.Prelude.{◌≡◌, ◌<◌, true};
-ghost use Rattle.shm_words.specs.Layout.{GeometryFits};
+ghost use Rattle.std.specs.Prelude.{◌≡◌, ◌<◌, IfSome, true};
+ghost use Rattle.shm_words.specs.Layout.{GeometryFits, address_limit};
 ghost use Rattle.shm_table.specs.Command.{MayStand};
 
 use crate::pool::Pool;
@@ -16,11 +16,9 @@ use shm_ref::{
 };
 use shm_script::Line;
 use shm_table::Command;
+use shm_words::ADDRESS_LIMIT;
 
-/// No address is as great.
-const ADDRESSES: u32 = 1 << 20;
-
-/// An operation. Blocks, words and slots are named by their addresses, identities and roots by their numbers.
+/// An operation. Blocks and slots are named by their addresses in format 1, identities and roots by their numbers.
 #[derive(Clone, Copy, Drop)]
 pub enum Op {
     Join,
@@ -74,6 +72,20 @@ pub fn may_stand(me: Me, line: Line) -> bool
     }
 }
 
+/// The address in the pool of what is named by its address in format 1: in format 2 what stands behind the redo records stands further by one
+/// word for each client. 0 names nothing.
+fn address(me: Me, named: u32) -> Option<u32>
+    ensures { IfSome result (λ a. a < address_limit) }
+{
+    let more = if named != 0 && me.geometry.is_wide() {
+        u32::from(me.geometry.clients())
+    } else {
+        0
+    };
+    let at = named.saturating_add(more);
+    if at < ADDRESS_LIMIT { Some(at) } else { None }
+}
+
 /// Makes at most so many word steps of an operation; how many were made. None where it doesn't fit the pool.
 pub fn perform(pool: &mut Pool, me: Me, op: Op, most: u32) -> Option<u32>
     requires geometry { GeometryFits me.geometry }
@@ -116,7 +128,8 @@ fn perform_at(pool: &mut Pool, me: Me, op: Op, most: u32) -> Option<u32>
         Op::HomeOf(author) if author < clients => {
             pool.advance(&mut Calls::new(FindingHome::new(me, author)), most)
         }
-        Op::Send(to, block) if to < clients && block < ADDRESSES => {
+        Op::Send(to, block) if to < clients => {
+            let block = address(me, block)?;
             pool.advance(&mut Calls::new(Sending::new(me, to, block)), most)
         }
         Op::Peek(from) if from < clients => {
@@ -138,31 +151,54 @@ fn perform_on(pool: &mut Pool, me: Me, op: Op, most: u32) -> Option<u32>
     requires who { me.who < me.geometry.clients }
 {
     match op {
-        Op::Share(block) if block < ADDRESSES => {
+        Op::Share(block) => {
+            let block = address(me, block)?;
             pool.advance(&mut Calls::new(Sharing::new(me, block)), most)
         }
-        Op::SetHome(block) if block < ADDRESSES => {
+        Op::SetHome(block) => {
+            let block = address(me, block)?;
             pool.advance(&mut Calls::new(Homing::new(me, block)), most)
         }
-        Op::Look(block, word) if block < ADDRESSES => {
+        Op::Look(block, word) => {
+            let block = address(me, block)?;
             pool.advance(&mut Calls::new(Looking::new(me, block, word)), most)
         }
-        Op::Read(block, word) if block < ADDRESSES => {
+        Op::Read(block, word) => {
+            let block = address(me, block)?;
             pool.advance(&mut Calls::new(Reading::new(me, block, word)), most)
         }
-        Op::SetRef(block, word, to)
-            if block < me.geometry.total() && block + 2 <= me.geometry.total() && to < ADDRESSES =>
-            { pool.advance(&mut Calls::new(Setting::new(me, block, word, to)), most) }
-        Op::Up(slot, block) if slot < ADDRESSES && block < ADDRESSES => {
+        Op::SetRef(block, word, to) => {
+            let (block, to) = (address(me, block)?, address(me, to)?);
+            if block + 2 > me.geometry.total() {
+                return None;
+            }
+            pool.advance(&mut Calls::new(Setting::new(me, block, word, to)), most)
+        }
+        _ => perform_count(pool, me, op, most),
+    }
+}
+
+/// The same of count steps and tear-downs.
+fn perform_count(pool: &mut Pool, me: Me, op: Op, most: u32) -> Option<u32>
+    requires geometry { GeometryFits me.geometry }
+    requires who { me.who < me.geometry.clients }
+{
+    match op {
+        Op::Up(slot, block) => {
+            let (slot, block) = (address(me, slot)?, address(me, block)?);
             pool.advance(&mut StepUp::new(me, slot, block), most)
         }
-        Op::Down(slot, block) if slot < ADDRESSES && block < ADDRESSES => {
+        Op::Down(slot, block) => {
+            let (slot, block) = (address(me, slot)?, address(me, block)?);
             pool.advance(&mut StepDown::new(me, slot, block), most)
         }
-        Op::Change(slot, old, new) if slot < ADDRESSES && old < ADDRESSES && new < ADDRESSES => {
+        Op::Change(slot, old, new) => {
+            let (slot, old) = (address(me, slot)?, address(me, old)?);
+            let new = address(me, new)?;
             pool.advance(&mut StepChange::new(me, slot, old, new), most)
         }
-        Op::TearDown(block) if block < ADDRESSES => {
+        Op::TearDown(block) => {
+            let block = address(me, block)?;
             pool.advance(&mut TearDown::new(me, block), most)
         }
         _ => None,

@@ -6,6 +6,7 @@
 //! - `beside FIRST END`: the same with a copy by another client before the recovery, where a recoverer dies after up to 40 word steps.
 //! - `recovered NUMBER DEATH LIFE ..`: a client that puts the number is cut after DEATH word steps, and recoverers of these lives die.
 //! - `mend DEATH copied` and `mend DEATH alone`: a mending after the death of a put (mends.rt).
+//! - `alone2`, `beside2`, `recovered2` and `mend2`: the same in format 2.
 //!
 //! What must be told of them (at the end of the file stdout) was made by an independent implementation.
 
@@ -68,9 +69,9 @@ fn tell_new(rt: &impl Print, last: &mut String, left: String) -> io::Result<()> 
 }
 
 /// Cuts a client after so many word steps, with each life of a recoverer; false where a rule is broken.
-fn tell_alone_at(rt: &HostRuntime, death: u32, last: &mut String) -> io::Result<bool> {
+fn tell_alone_at(rt: &HostRuntime, wide: bool, death: u32, last: &mut String) -> io::Result<bool> {
     for life in 1..=LIVES {
-        let Some(left) = cut_alone(rt.alloc(), NUMBER, death, &[life])? else {
+        let Some(left) = cut_alone(rt.alloc(), wide, NUMBER, death, &[life])? else {
             return Ok(false);
         };
         let text = format!(in rt.alloc();
@@ -86,13 +87,13 @@ fn tell_alone_at(rt: &HostRuntime, death: u32, last: &mut String) -> io::Result<
 }
 
 /// The row `alone`.
-fn tell_alone(rt: &HostRuntime, text: &str) -> io::Result<bool> {
+fn tell_alone(rt: &HostRuntime, wide: bool, text: &str) -> io::Result<bool> {
     let Some(deaths) = deaths_of(text) else {
         return Ok(false);
     };
     let mut last = String::new(rt.alloc());
     for death in deaths.first..deaths.end {
-        if !tell_alone_at(rt, death, &mut last)? {
+        if !tell_alone_at(rt, wide, death, &mut last)? {
             return Ok(false);
         }
     }
@@ -100,9 +101,9 @@ fn tell_alone(rt: &HostRuntime, text: &str) -> io::Result<bool> {
 }
 
 /// Cuts a client beside a copy after so many word steps, with each life of a recoverer; false where a rule is broken.
-fn tell_beside_at(rt: &HostRuntime, death: u32, last: &mut String) -> io::Result<bool> {
+fn tell_beside_at(rt: &HostRuntime, wide: bool, death: u32, last: &mut String) -> io::Result<bool> {
     for life in 0..=LIVES_BESIDE {
-        let Some(left) = cut_beside(rt.alloc(), death, life)? else {
+        let Some(left) = cut_beside(rt.alloc(), wide, death, life)? else {
             return Ok(false);
         };
         let text = format!(in rt.alloc(); "{:?} {}", left.answer, left.sizes)?;
@@ -112,13 +113,13 @@ fn tell_beside_at(rt: &HostRuntime, death: u32, last: &mut String) -> io::Result
 }
 
 /// The row `beside`.
-fn tell_beside(rt: &HostRuntime, text: &str) -> io::Result<bool> {
+fn tell_beside(rt: &HostRuntime, wide: bool, text: &str) -> io::Result<bool> {
     let Some(deaths) = deaths_of(text) else {
         return Ok(false);
     };
     let mut last = String::new(rt.alloc());
     for death in deaths.first..deaths.end {
-        if !tell_beside_at(rt, death, &mut last)? {
+        if !tell_beside_at(rt, wide, death, &mut last)? {
             return Ok(false);
         }
     }
@@ -126,7 +127,7 @@ fn tell_beside(rt: &HostRuntime, text: &str) -> io::Result<bool> {
 }
 
 /// The row `recovered`.
-fn tell_recovered(rt: &HostRuntime, text: &str) -> io::Result<bool> {
+fn tell_recovered(rt: &HostRuntime, wide: bool, text: &str) -> io::Result<bool> {
     let mut words = text.split_whitespace();
     let (Some(put), Some(death)) = (words.next().and_then(number), next_steps(&mut words)) else {
         return Ok(false);
@@ -134,7 +135,7 @@ fn tell_recovered(rt: &HostRuntime, text: &str) -> io::Result<bool> {
     let Some(lives) = lives_of(rt.alloc(), &mut words)? else {
         return Ok(false);
     };
-    match cut_alone(rt.alloc(), put, death, lives.as_slice())? {
+    match cut_alone(rt.alloc(), wide, put, death, lives.as_slice())? {
         Some(left) => println!(rt; "{}", left.sizes)?,
         None => return Ok(false),
     }
@@ -142,13 +143,13 @@ fn tell_recovered(rt: &HostRuntime, text: &str) -> io::Result<bool> {
 }
 
 /// The row `mend`.
-fn tell_mend(rt: &HostRuntime, text: &str) -> io::Result<bool> {
+fn tell_mend(rt: &HostRuntime, wide: bool, text: &str) -> io::Result<bool> {
     let mut words = text.split_whitespace();
     let Some(death) = next_steps(&mut words) else {
         return Ok(false);
     };
     let copied = words.next() == Some("copied");
-    match mend(rt.alloc(), death, copied)? {
+    match mend(rt.alloc(), wide, death, copied)? {
         Some(all) => println!(rt; "{}, {:?}, {}", all.before, all.answer, all.after)?,
         None => return Ok(false),
     }
@@ -160,10 +161,14 @@ fn tell_row(rt: &HostRuntime, line: &str) -> io::Result<bool> {
     let (word, rest) = line.split_once(' ').unwrap_or((line, ""));
     match word {
         "#" => println!(rt; "{line}").map(|()| true),
-        "alone" => tell_alone(rt, rest),
-        "beside" => tell_beside(rt, rest),
-        "recovered" => tell_recovered(rt, rest),
-        "mend" => tell_mend(rt, rest),
+        "alone" => tell_alone(rt, false, rest),
+        "alone2" => tell_alone(rt, true, rest),
+        "beside" => tell_beside(rt, false, rest),
+        "beside2" => tell_beside(rt, true, rest),
+        "recovered" => tell_recovered(rt, false, rest),
+        "recovered2" => tell_recovered(rt, true, rest),
+        "mend" => tell_mend(rt, false, rest),
+        "mend2" => tell_mend(rt, true, rest),
         _ => Ok(false),
     }
 }

@@ -45,7 +45,7 @@ fn has_nothing(pool: &Pool, me: Me) -> bool
 }
 
 /// Whether no count step of the identity is in progress: no row of another shows its own era, and a change that its redo record spells has
-/// the parity of that era.
+/// the parity of that era. In format 2 that is told by the first word: the second one may be another record's.
 fn has_no_step(pool: &Pool, me: Me, own: u64) -> bool
     requires geometry { GeometryFits me.geometry }
     requires who { me.who < me.geometry.clients }
@@ -55,7 +55,8 @@ fn has_no_step(pool: &Pool, me: Me, own: u64) -> bool
             return false;
         }
     }
-    match Redo::unpack(pool.word(me.geometry.redo(me.who))) {
+    let first = pool.word(me.geometry.redo(me.who));
+    match me.geometry.read_redo(first, 0) {
         None => false,
         Some(Redo::Change { odd, .. }) => odd == (own % 2 == 1),
         Some(_) => true,

@@ -151,7 +151,7 @@ module _ (me : Me) (b k to : ℕ) (m r : Memo) (es : List Event) (vs : List Visi
   reaches : (t : ℕ) → core r ≡ core (tag_seen b t m) → Reaches c m r
   reaches t e = λ d h. ap (λ (x : Memo). is_reached c x d) e ∙ tag_reached c b t d m h
 
-  stays_told : IsIdle c m → (f : SetFault) → SetStays me b k to m r es vs f → SetTold c b k to m r f
+  stays_told : IsIdle c m → (f : SetFault) → SetStays me b k to m r es vs f → SetTold me.geometry.wide c b k to m r f
   stays_told idle (fault.NotAuthor a) (t, known, is, other, memo, none, all) = (t, tag_known t memo, is, other, reaches t memo)
   stays_told idle (fault.NoSuchRef n) (t, known, own, is, low, memo, none, all) = (t, tag_known t memo, own, is, low, reaches t memo)
   stays_told idle fault.NotHeld (t, own, other, memo, none, all) = (t, tag_known t memo, own.author, own.low, (λ e. other (idle.hold ∙ ap hold_word e)), reaches t memo)
@@ -185,7 +185,7 @@ module _ (m : SetState) (r0 r : Memo) (tr : Trail) (es : List Event) where
   set_held idle (Ok u) h = latch_is who r0.latch (sym idle.hold ∙ h.read.held)
   set_held idle (Err f) h = tt
 
-  pub set_told : IsIdle who r0 → (a : Result (Unit {0}) SetFault) → SetLeaves m r0 r tr es a → IfErr a (λ f. SetTold who m.block m.word m.to r0 r f)
+  pub set_told : IsIdle who r0 → (a : Result (Unit {0}) SetFault) → SetLeaves m r0 r tr es a → IfErr a (λ f. SetTold m.me.geometry.wide who m.block m.word m.to r0 r f)
   set_told idle (Ok u) h = tt
   set_told idle (Err f) h = stays_told m.me m.block m.word m.to r0 r es h.left idle f h.stays
 

@@ -1,5 +1,5 @@
 -- a tear-down on a pool: when it fits, and what its answer says of the roots
-use Rattle.std.proofs.Common.{◌≡◌, ℕ, ◌+◌, ◌^◌, ◌<◌, ◌≤◌, sym, ap, ◌∙◌, refl, arith, [], Result}
+use Rattle.std.proofs.Common.{◌≡◌, ℕ, ◌+◌, ◌<◌, ◌≤◌, sym, ap, ◌∙◌, refl, arith, [], Result}
 use Rattle.std.specs.Prelude.{Ok, Err, IfOk}
 use Rattle.std.specs.List.{Contains, filter}
 use Rattle.shm_words.specs.declared.geometry.Geometry.{Geometry}
@@ -36,7 +36,7 @@ module _ (p : Pool) (run : IsRun p) (c b : ℕ) (f : GeometryFits p.start.geomet
   held = run.held.at
 
   -- the block's words lie in the pool
-  room : IsInside (member g c) b × (b + 2 + tag_refs (see g p.words (Tag b)) ≤ total_of g)
+  room : IsInside (member g c) b × (b + 2 + tag_refs g.wide (see g p.words (Tag b)) ≤ total_of g)
   room = live_room g (see g p.words) (memos_of p.accounts) held b c (dying_header g (see g p.words) (memos_of p.accounts) c b held l dying).0
 
   pub block_small : b < address_limit

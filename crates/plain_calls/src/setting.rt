@@ -36,7 +36,7 @@ pub fn set_home(
     requires at_work { IsAtWork who pool.old }
     requires client { recovers (memo_of pool.old who) ≡ false }
     requires reached { is_reached who (memo_of pool.old who) block ≡ true }
-    requires part { own_word (memo_of pool.old who).own (Home who) ≡ 0 → KeepsPart who (memo_of pool.old who) (aims.Up block) (Home who) }
+    requires part { own_word (memo_of pool.old who).own (Home who) ≡ 0 → KeepsPart pool.old.start.geometry.wide who (memo_of pool.old who) (aims.Up block) (Home who) }
     ensures gives { IfSome result (λ a. SetHomeGives (member pool.old.start.geometry who) block (memo_of pool.old who) (memo_of pool.new who) (memo_of pool.new who).call a) }
     ensures empty { IfSome result (λ a. IfOk a (λ u. own_word (memo_of pool.old who).own (Home who) ≡ 0)) }
     ensures set { IfSome result (λ a. IfOk a (λ u. own_word (memo_of pool.new who).own (Home who) ≡ block)) }
@@ -73,7 +73,7 @@ pub fn set_ref(
     ensures gives { IfSome result (λ a. SetRefGives (member pool.old.start.geometry who) block index target (memo_of pool.old who) (memo_of pool.new who) (memo_of pool.new who).call a) }
     ensures held { IfSome result (λ a. IfOk a (λ u. (memo_of pool.old who).latch ≡ Some who)) }
     ensures set { IfSome result (λ a. IfOk a (λ u. is_named who (memo_of pool.new who) block ≡ true → Knows (memo_of pool.new who) (Body block index) target)) }
-    ensures refused { IfSome result (λ a. IfErr a (λ e. SetTold who block index target (memo_of pool.old who) (memo_of pool.new who) e)) }
+    ensures refused { IfSome result (λ a. IfErr a (λ e. SetTold pool.old.start.geometry.wide who block index target (memo_of pool.old who) (memo_of pool.new who) e)) }
     ensures left { IfSome result (λ a. LeavesQueues (memo_of pool.old who) (memo_of pool.new who)) }
     ensures dying { IfSome result (λ a. IfOk a (λ u. (memo_of pool.new who).dying ≡ (memo_of pool.old who).dying)) }
     ensures roots { IfSome result (λ a. (k : ℕ) → root_word who (memo_of pool.new who) k ≡ root_word who (memo_of pool.old who) k) }

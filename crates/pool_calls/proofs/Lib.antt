@@ -1,3 +1,4 @@
+mod AllocRoots
 pub mod Standing
 pub mod FirstTokens
 pub mod Keeping

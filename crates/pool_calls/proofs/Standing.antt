@@ -1,6 +1,6 @@
 -- what is known of a held state is known of the one in which an account stood
-use Rattle.std.proofs.Common.{◌≡◌, ◌≢◌, ℕ, ◌+◌, ◌≤◌, ◌^◌, ◌<◌, Bool, true, false, cond, List, [], refl, sym, ap, ◌∙◌, subst, arith, inl, inr, Result}
-use Rattle.std.specs.Prelude.{Ok, Err, IfOk, slice_index}
+use Rattle.std.proofs.Common.{◌≡◌, ◌≢◌, ℕ, ◌+◌, ◌≤◌, ◌<◌, Bool, true, false, [], refl, sym, ap, ◌∙◌, subst, arith, inr, Result}
+use Rattle.std.specs.Prelude.{Ok, Err, IfOk}
 use Rattle.std.specs.List.{Contains}
 use Rattle.std.specs.Result.{is_ok}
 use Rattle.std.proofs.lemmas.Bool.{cond-false, cond-true, eq-eqb, ne_eqb, true≢false}
@@ -16,9 +16,7 @@ use Rattle.shm_graph.specs.declared.spot.Spot.TheVariants as spot
 use Rattle.shm_graph.specs.Agents.{acts, recovers}
 use Rattle.shm_graph.specs.Asks.{Trail}
 use Rattle.shm_graph.specs.Idle.{IsIdle}
-use Rattle.shm_graph.specs.Laws.{GoneNow}
-use Rattle.shm_graph.specs.Runs.{account_died, account_entered, memos_of, Stood}
-use Rattle.shm_graph.specs.declared.memo.Kind.TheVariants.{Client, Recoverer}
+use Rattle.shm_graph.specs.Runs.{memos_of, Stood}
 use Rattle.shm_graph.specs.Reach.{is_reached}
 use Rattle.shm_graph.specs.Views.{own_word}
 use Rattle.shm_graph.specs.Whole.{fits_now}
@@ -47,8 +45,6 @@ use Rattle.shm_count.proofs.RootSpots.{can_root, done_root, fits_root, is_here, 
 use Rattle.shm_pool.specs.declared.reply.Reply.{Reply}
 use Rattle.shm_pool.specs.declared.reply.Reply.TheVariants.{Done, Died}
 use Rattle.shm_pool.specs.Replies.{IfReply}
-use Rattle.shm_pool.specs.Tokens.{recovering}
-use Rattle.shm_recover.specs.Join.{IsMember}
 
 -- the account's memo in that state
 pub there_memo : (s : Start) (e : Account) (x : Stood s e) → memos_of x.accounts e.who ≡ e.memo
@@ -185,7 +181,7 @@ module _ (s : Start) (e : Account) (x : Stood s e) (b : ℕ) (f : GeometryFits s
   listed = subst (λ (m : Memo). Contains m.dying b) (sym same) dying
 
   -- the block's words lie in the pool
-  room : IsInside (member s.geometry c) b × (b + 2 + tag_refs (see s.geometry x.words (spot.Tag b)) ≤ total_of s.geometry)
+  room : IsInside (member s.geometry c) b × (b + 2 + tag_refs s.geometry.wide (see s.geometry x.words (spot.Tag b)) ≤ total_of s.geometry)
   room = live_room s.geometry (see s.geometry x.words) (memos_of x.accounts) x.held.at b c (dying_header s.geometry (see s.geometry x.words) (memos_of x.accounts) c b x.held.at l listed).0
 
   pub tear_small : b < address_limit

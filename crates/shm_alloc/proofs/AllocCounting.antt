@@ -5,9 +5,8 @@ use Rattle.std.proofs.lemmas.Bool.{lt-ltb, cond-true, cond-false}
 use Rattle.std.proofs.lemmas.Bool.Decides.{nat_tests}
 use Rattle.shm_words.specs.declared.place.Place.{Place}
 use Rattle.shm_words.specs.declared.place.Place.TheVariants as place
-use Rattle.shm_words.specs.declared.redo.Redo.TheVariants as redos
 use Rattle.shm_words.specs.Layout.{address, place_at, is_in}
-use Rattle.shm_words.specs.Redos.{redo_word}
+use Rattle.shm_words.specs.Redos.{first_word, second_word}
 use Rattle.shm_words.specs.Classes.{IsClass}
 use Rattle.shm_words.proofs.Classing.{class_is}
 use Rattle.shm_words.proofs.Placing.{place-address}
@@ -21,8 +20,8 @@ use Rattle.shm_count.specs.declared.answer.Made.{Made}
 use Rattle.shm_alloc.specs.declared.alloc.AllocFault.{AllocFault}
 use Rattle.shm_alloc.specs.declared.alloc.AllocFault.TheVariants.{EraSpent, Full}
 use Rattle.shm_alloc.specs.declared.request.Request.{Request}
-use Rattle.shm_alloc.specs.Alloc.Control.{class_asked, tag_asked, header_made}
-use Rattle.shm_alloc.specs.Alloc.Asks.{AllocTrails, alloc_trail, root_trail, segment_trail, page_trail, header_trail, headers_trail, class_trail, block_trail, reference_trail, plain_trail, live_trail, commit_trail, slot_trail, close_trail}
+use Rattle.shm_alloc.specs.Alloc.Control.{class_asked, tag_asked, header_made, redo_asked}
+use Rattle.shm_alloc.specs.Alloc.Asks.{AllocTrails, alloc_trail, root_trail, segment_trail, page_trail, header_trail, headers_trail, class_trail, block_trail, reference_trail, plain_trail, live_trail, more_trail, first_trail, commit_trail, slot_trail, close_trail}
 use Rattle.shm_alloc.specs.Alloc.Counts.{load_taken, claim_taken, load_used, taken_by, used_by, taken_in, used_in}
 
 -- the numbers in the answer of an allocation that found no free block
@@ -86,11 +85,19 @@ module _ (me : Me) where
 
     -- the redo record
     live_never : (e k b : ℕ) → Never (live_trail me q e k b)
-    live_never e k b = never_asked (Store (address me.geometry (place.Redo me.who)) (redo_word (redos.Up (address me.geometry (place.Root me.who k)) b))) (λ _. commit_trail me q e k b) (λ _. commit_never e k b)
+    live_never e k b = never_asked (Store (address me.geometry (place.Redo me.who)) (first_word me.geometry.wide (redo_asked me k b))) (λ _. commit_trail me q e k b) (λ _. commit_never e k b)
+
+    -- in format 2 its second word comes before
+    first_never : (e k b : ℕ) → Never (first_trail me q e k b)
+    first_never e k b = go me.geometry.wide
+      where
+        go : (x : Bool) → Never (Chosen x (more_trail me q e k b) (live_trail me q e k b))
+        go true = never_asked (Store (address me.geometry (place.RedoMore me.who)) (second_word me.geometry.wide (redo_asked me k b))) (λ _. live_trail me q e k b) (λ _. live_never e k b)
+        go false = live_never e k b
 
     -- the plain words
     plain_never : (n i e k b : ℕ) → Never (plain_trail me q n i e k b)
-    plain_never zero i e k b = live_never e k b
+    plain_never zero i e k b = first_never e k b
     plain_never (suc n) i e k b = never_asked (Store (b + 2 + q.refs + i) (slice_index q.plain i)) (λ _. plain_trail me q n (i + 1) e k b) (λ _. plain_never n (i + 1) e k b)
 
     -- the reference words
@@ -100,7 +107,7 @@ module _ (me : Me) where
 
     -- the tag
     block_never : (e k b : ℕ) → Never (block_trail me q e k b)
-    block_never e k b = never_asked (Store (b + 1) (tag_asked q me.who)) (λ _. reference_trail me q q.refs 0 e k b) (λ _. reference_never q.refs 0 e k b)
+    block_never e k b = never_asked (Store (b + 1) (tag_asked me.geometry.wide q me.who)) (λ _. reference_trail me q q.refs 0 e k b) (λ _. reference_never q.refs 0 e k b)
 
 -- ---- what each pair counts
 

@@ -35,6 +35,6 @@ pub block_inside : (me : Me) (q : Request) (r0 : Memo) (a : Made) (w : Spot → 
 block_inside me q r0 a w r held l h =
     let k = h.knows.0 in
     let tag = h.knows.2.tag in
-    let known = subst (λ (ks : List Stored). Contains ks (record { spot = spot.Tag a.block; value = tag_asked q me.who })) (sym h.knows.1) (Contains-append_left k.words r0.known _ tag) in
-    let y = block_within me.geometry (classes w) a.block (tagged_block me.geometry w r me.who a.block (tag_asked q me.who) held l known) in
+    let known = subst (λ (ks : List Stored). Contains ks (record { spot = spot.Tag a.block; value = tag_asked me.geometry.wide q me.who })) (sym h.knows.1) (Contains-append_left k.words r0.known _ tag) in
+    let y = block_within me.geometry (classes w) a.block (tagged_block me.geometry w r me.who a.block (tag_asked me.geometry.wide q me.who) held l known) in
     (y.0, y.1)

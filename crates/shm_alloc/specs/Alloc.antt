@@ -17,12 +17,11 @@ pub mod Laws
 pub mod Counts
 pub mod Carrying
 pub mod AsPart
-use Rattle.std.specs.Prelude.{true, ◌≡◌, ◌≢◌, ℕ, ◌+◌, ◌-◌, ◌/◌, ◌^◌, ◌<◌, ◌≤◌, ◌==◌, Some, None, Result, Ok, Err, List, [], ◌∷◌, ◌++◌, slice_index}
+use Rattle.std.specs.Prelude.{Bool, if◌then◌else◌, true, ◌≡◌, ◌≢◌, ℕ, ◌+◌, ◌-◌, ◌/◌, ◌^◌, ◌<◌, ◌≤◌, ◌==◌, Some, None, Result, Ok, Err, List, [], ◌∷◌, ◌++◌, slice_index}
 use Rattle.std.specs.List.{Contains}
 use Rattle.shm_words.specs.declared.place.Place.TheVariants as place
-use Rattle.shm_words.specs.declared.redo.Redo.TheVariants as redos
 use Rattle.shm_words.specs.Layout.{GeometryFits, address}
-use Rattle.shm_words.specs.Redos.{redo_word}
+use Rattle.shm_words.specs.Redos.{first_word, second_word}
 use Rattle.shm_graph.specs.declared.ask.Me.{Me}
 use Rattle.shm_graph.specs.declared.spot.Spot.TheVariants as spot
 use Rattle.shm_graph.specs.declared.memo.Stored.{Stored}
@@ -46,13 +45,13 @@ use Rattle.shm_alloc.specs.declared.request.Request.{Request}
 use Rattle.shm_alloc.specs.declared.point.Goal.{Goal}
 use Rattle.shm_alloc.specs.declared.point.Search.{Search}
 use Rattle.shm_alloc.specs.declared.point.AllocPoint.{AllocPoint}
-use Rattle.shm_alloc.specs.declared.point.AllocPoint.TheVariants.{Era, Root, Segment, Claim, Page, Class, Header, Tag, Reference, Plain, Redo, Commit, Slot, Close, Over}
+use Rattle.shm_alloc.specs.declared.point.AllocPoint.TheVariants.{Era, Root, Segment, Claim, Page, Class, Header, Tag, Reference, Plain, More, Redo, Commit, Slot, Close, Over}
 use Rattle.shm_alloc.specs.declared.point.AllocState.{AllocState}
 use Rattle.shm_alloc.specs.declared.point.AllocNext.{AllocNext}
 use Rattle.shm_alloc.specs.declared.point.AllocNext.TheVariants.{Point, Answer}
-use Rattle.shm_alloc.specs.Alloc.Control.{class_asked, tag_asked, AllocInRange, alloc_control}
+use Rattle.shm_alloc.specs.Alloc.Control.{class_asked, tag_asked, redo_asked, AllocInRange, alloc_control}
 use Rattle.shm_alloc.specs.Alloc.Events.{alloc_event, alloc_start, events_at, own_events}
-use Rattle.shm_alloc.specs.Alloc.Asks.{AllocTrails, alloc_trail, root_trail, segment_trail, page_trail, header_trail, block_trail, reference_trail, plain_trail, live_trail, commit_trail, slot_trail, close_trail, class_trail}
+use Rattle.shm_alloc.specs.Alloc.Asks.{AllocTrails, alloc_trail, root_trail, segment_trail, page_trail, header_trail, block_trail, reference_trail, plain_trail, live_trail, more_trail, commit_trail, slot_trail, close_trail, class_trail}
 use Rattle.shm_calls.specs.Grown.{Grows}
 
 -- ---- what the memo shows on the way
@@ -66,24 +65,32 @@ pub record GoalHas (c : ℕ) (r : Memo) (g : Goal) : Type 0 where
   pub before : (j : ℕ) → j < g.root → own_word r.own (spot.Root c j) ≢ 0
 
 -- of the block that is prepared so many reference words and so many plain words are stored, and its tag
-pub record IsPrepared (c : ℕ) (q : Request) (b refs plain : ℕ) (k : Making) : Type 0 where
+pub record IsPrepared (wide : Bool) (c : ℕ) (q : Request) (b refs plain : ℕ) (k : Making) : Type 0 where
   pub block : k.block ≡ b
   pub class : k.class ≡ class_asked q
-  pub tag : Contains k.words (record { spot = spot.Tag b; value = tag_asked q c })
+  pub tag : Contains k.words (record { spot = spot.Tag b; value = tag_asked wide q c })
   pub zeros : (j : ℕ) → j < refs → Contains k.words (record { spot = spot.Body b j; value = 0 })
   pub words : (j : ℕ) → j < plain → Contains k.words (record { spot = spot.Body b (q.refs + j); value = slice_index q.plain j })
 
 -- that block is prepared in the memo
-abbrev pub Prepares : ℕ → Request → ℕ → ℕ → ℕ → Memo → Type 0
-Prepares c q b refs plain r = (k : Making) × (r.making ≡ Some k) × IsPrepared c q b refs plain k
+abbrev pub Prepares : Bool → ℕ → Request → ℕ → ℕ → ℕ → Memo → Type 0
+Prepares wide c q b refs plain r = (k : Making) × (r.making ≡ Some k) × IsPrepared wide c q b refs plain k
 
 -- the words of the new block are known
-abbrev pub Knows : ℕ → Request → ℕ → Memo → Memo → Type 0
-Knows c q b r0 r = (k : Making) × (r.known ≡ k.words ++ r0.known) × IsPrepared c q b q.refs q.count k
+abbrev pub Knows : Bool → ℕ → Request → ℕ → Memo → Memo → Type 0
+Knows wide c q b r0 r = (k : Making) × (r.known ≡ k.words ++ r0.known) × IsPrepared wide c q b q.refs q.count k
 
 -- the redo word, as it is stored
 abbrev pub redo_stored : Me → Goal → ℕ → Stored
-redo_stored me g b = record { spot = spot.Redo me.who; value = redo_word (redos.Up (address me.geometry (place.Root me.who g.root)) b) }
+redo_stored me g b = record { spot = spot.Redo me.who; value = first_word me.geometry.wide (redo_asked me g.root b) }
+
+-- in format 2 its second word, which is stored before
+abbrev pub more_stored : Me → Goal → ℕ → Stored
+more_stored me g b = record { spot = spot.RedoMore me.who; value = second_word me.geometry.wide (redo_asked me g.root b) }
+
+-- the own words where the redo word is to be stored
+abbrev pub readied : Me → Goal → ℕ → List Stored → List Stored
+readied me g b own = if me.geometry.wide then more_stored me g b ∷ own else own
 
 -- the step in progress at a point
 abbrev pub op_at : ℕ → AllocPoint → Op
@@ -94,9 +101,10 @@ op_at c p = op.Nothing
 
 -- the own words with those that are stored up to a point
 abbrev pub own_at : Me → AllocPoint → List Stored → List Stored
-own_at me (Commit g b) own = redo_stored me g b ∷ own
-own_at me (Slot g b) own = redo_stored me g b ∷ own
-own_at me (Close g b) own = record { spot = spot.Root me.who g.root; value = b } ∷ redo_stored me g b ∷ own
+own_at me (Redo g b) own = readied me g b own
+own_at me (Commit g b) own = redo_stored me g b ∷ readied me g b own
+own_at me (Slot g b) own = redo_stored me g b ∷ readied me g b own
+own_at me (Close g b) own = record { spot = spot.Root me.who g.root; value = b } ∷ redo_stored me g b ∷ readied me g b own
 own_at me p own = own
 
 -- what neither the search nor the making changes; segments are claimed, and stay so
@@ -128,12 +136,13 @@ PointHas me q r0 r (Page g s p) = Searches r0 r × GoalHas me.who r g × Contain
 PointHas me q r0 r (Class g s p) = Searches r0 r × GoalHas me.who r g × Contains r.owned s.segment × Contains r.zeros (spot.Page s.segment p)
 PointHas me q r0 r (Header g s p i) = Searches r0 r × GoalHas me.who r g × Contains r.owned s.segment × (class_read r.facts s.segment p ≡ class_asked q)
 PointHas me q r0 r (Tag g b) = Searches r0 r × GoalHas me.who r g × Contains r.zeros (spot.Head b) × (class_told me.geometry r.facts b ≡ class_asked q)
-PointHas me q r0 r (Reference g b i) = (r.known ≡ r0.known) × (r.values ≡ r0.values) × GoalHas me.who r g × Prepares me.who q b i 0 r
-PointHas me q r0 r (Plain g b i) = (r.known ≡ r0.known) × (r.values ≡ r0.values) × GoalHas me.who r g × Prepares me.who q b q.refs i r
-PointHas me q r0 r (Redo g b) = (r.known ≡ r0.known) × (r.values ≡ r0.values) × GoalHas me.who r g × Prepares me.who q b q.refs q.count r
-PointHas me q r0 r (Commit g b) = (r.known ≡ r0.known) × (r.values ≡ r0.values) × GoalHas me.who r0 g × Prepares me.who q b q.refs q.count r
-PointHas me q r0 r (Slot g b) = (r.making ≡ None) × (r.values ≡ values_with r0 b (tag_asked q me.who)) × GoalHas me.who r0 g × Knows me.who q b r0 r × Contains r.made b
-PointHas me q r0 r (Close g b) = (r.making ≡ None) × (r.values ≡ values_with r0 b (tag_asked q me.who)) × GoalHas me.who r0 g × Knows me.who q b r0 r × Contains r.made b
+PointHas me q r0 r (Reference g b i) = (r.known ≡ r0.known) × (r.values ≡ r0.values) × GoalHas me.who r g × Prepares me.geometry.wide me.who q b i 0 r
+PointHas me q r0 r (Plain g b i) = (r.known ≡ r0.known) × (r.values ≡ r0.values) × GoalHas me.who r g × Prepares me.geometry.wide me.who q b q.refs i r
+PointHas me q r0 r (More g b) = (r.known ≡ r0.known) × (r.values ≡ r0.values) × GoalHas me.who r g × Prepares me.geometry.wide me.who q b q.refs q.count r × (me.geometry.wide ≡ true)
+PointHas me q r0 r (Redo g b) = (r.known ≡ r0.known) × (r.values ≡ r0.values) × GoalHas me.who r0 g × Prepares me.geometry.wide me.who q b q.refs q.count r
+PointHas me q r0 r (Commit g b) = (r.known ≡ r0.known) × (r.values ≡ r0.values) × GoalHas me.who r0 g × Prepares me.geometry.wide me.who q b q.refs q.count r
+PointHas me q r0 r (Slot g b) = (r.making ≡ None) × (r.values ≡ values_with me.geometry.wide r0 b (tag_asked me.geometry.wide q me.who)) × GoalHas me.who r0 g × Knows me.geometry.wide me.who q b r0 r × Contains r.made b
+PointHas me q r0 r (Close g b) = (r.making ≡ None) × (r.values ≡ values_with me.geometry.wide r0 b (tag_asked me.geometry.wide q me.who)) × GoalHas me.who r0 g × Knows me.geometry.wide me.who q b r0 r × Contains r.made b
 PointHas me q r0 r Over = Unit {0}
 
 -- what follows where a segment has no free block, by how many headers were read
@@ -162,6 +171,7 @@ point_trail me q (Header g s p i) = header_trail me q (128 / class_asked q - i) 
 point_trail me q (Tag g b) = block_trail me q g.era g.root b
 point_trail me q (Reference g b i) = reference_trail me q (q.refs - i) i g.era g.root b
 point_trail me q (Plain g b i) = plain_trail me q (q.count - i) i g.era g.root b
+point_trail me q (More g b) = more_trail me q g.era g.root b
 point_trail me q (Redo g b) = live_trail me q g.era g.root b
 point_trail me q (Commit g b) = commit_trail me q g.era g.root b
 point_trail me q (Slot g b) = slot_trail me q g.era g.root b
@@ -194,15 +204,19 @@ pub record AllocFits (m : AllocState) (r0 r : Memo) (tr : Trail) : Type 0 where
   pub course : after_all alloc_control (alloc_start m) tr ≡ m
   pub events : happens_along alloc_control alloc_event (alloc_start m) tr ≡ events_at m.me m.point
 
+-- the own era and the root of an answer
+abbrev pub goal_of : Me → Memo → Made → Goal
+goal_of me r0 a = record { era = own_word r0.own (spot.Era me.who me.who); root = a.root }
+
 -- a block was made: the own era left room, the block is named by the least empty root, its words are known, it is one that the call made, and the own era is the next one
 pub record MadeGives (me : Me) (q : Request) (r0 r : Memo) (a : Made) : Type 0 where
   pub room : own_word r0.own (spot.Era me.who me.who) ≤ 2 ^ 47 - 3
   pub root : a.root < 16
   pub empty : own_word r0.own (spot.Root me.who a.root) ≡ 0
   pub before : (j : ℕ) → j < a.root → own_word r0.own (spot.Root me.who j) ≢ 0
-  pub own : r.own ≡ record { spot = spot.Era me.who me.who; value = own_word r0.own (spot.Era me.who me.who) + 1 } ∷ record { spot = spot.Root me.who a.root; value = a.block } ∷ redo_stored me (record { era = own_word r0.own (spot.Era me.who me.who); root = a.root }) a.block ∷ r0.own
-  pub knows : Knows me.who q a.block r0 r
-  pub values : r.values ≡ values_with r0 a.block (tag_asked q me.who)
+  pub own : r.own ≡ record { spot = spot.Era me.who me.who; value = own_word r0.own (spot.Era me.who me.who) + 1 } ∷ record { spot = spot.Root me.who a.root; value = a.block } ∷ redo_stored me (goal_of me r0 a) a.block ∷ readied me (goal_of me r0 a) a.block r0.own
+  pub knows : Knows me.geometry.wide me.who q a.block r0 r
+  pub values : r.values ≡ values_with me.geometry.wide r0 a.block (tag_asked me.geometry.wide q me.who)
   pub made : Contains r.made a.block
 
 -- nothing was made: own words and what is known are as they were

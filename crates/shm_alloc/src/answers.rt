@@ -12,9 +12,9 @@ ghost use Rattle.shm_alloc.specs.Alloc.{AllocGives};
 ghost use Rattle.shm_alloc.specs.Alloc.Counts.{taken_in, used_in};
 ghost use Rattle.shm_alloc.specs.declared.alloc.AllocFault.TheVariants.{Full};
 
-/// Whatever an allocation has found, it took at most 546 word steps for each segment of the pool, and 46 more.
+/// Whatever an allocation has found, it took at most 546 word steps for each segment of the pool, and 46 more, in format 2 47.
 pub fn alloc_bound()
-    ensures { (m : AState) (r0 r : AMemo) (tr : Trail) (a : Result AMade AFault) → RequestFits m.request → AllocGives m r0 r tr a → length tr ≤ alloc_steps m.me.geometry.segments }
+    ensures { (m : AState) (r0 r : AMemo) (tr : Trail) (a : Result AMade AFault) → RequestFits m.request → AllocGives m r0 r tr a → length tr ≤ alloc_steps m.me.geometry.wide m.me.geometry.segments }
 {}
 
 /// An allocation that found no free block answers how many segments of others its trail shows, by a load that found another's number or an exchange that found somebody's, and how many blocks in use.

@@ -1,10 +1,8 @@
 //! The control of an allocation: which word it asks for, and where it goes by the word found.
 
 ghost use Rattle.std.specs.Prelude.{◌≡◌, ℕ, ◌+◌, ◌*◌, ◌^◌, ◌<◌, ◌≤◌, ◌/◌, false, slice_index, vec_len};
-ghost use Rattle.shm_words.specs.declared.place.Place.TheVariants as place;
-ghost use Rattle.shm_words.specs.declared.redo.Redo.TheVariants as redos;
-ghost use Rattle.shm_words.specs.Layout.{GeometryFits, address, address_limit};
-ghost use Rattle.shm_words.specs.Redos.{redo_word};
+ghost use Rattle.shm_words.specs.Layout.{GeometryFits};
+ghost use Rattle.shm_words.specs.Redos.{first_word, second_word};
 ghost use Rattle.shm_graph.specs.Asks.{at_of, seen_of, words_set};
 ghost use Rattle.shm_alloc.specs.Alloc.Control.{class_asked, header_made, block_of, is_search, RequestFits, SearchFits, PointFits, AllocInRange};
 ghost use Rattle.shm_alloc.specs.Alloc.Control as control;
@@ -13,7 +11,7 @@ use crate::alloc::AllocFault;
 use crate::request::Request;
 use shm_count::Made;
 use shm_graph::{Ask, Me, make_step};
-use shm_words::{Header, Redo};
+use shm_words::{Header, Pair2, Redo};
 
 /// The own era that was read, and the root that is to name the block.
 #[derive(Clone, Copy, Drop)]
@@ -89,7 +87,12 @@ pub enum AllocPoint {
         block: u32,
         index: u8,
     },
-    /// Store the redo record.
+    /// Store the second word of the redo record, in format 2.
+    More {
+        goal: Goal,
+        block: u32,
+    },
+    /// Store the redo record, in format 2 its first word.
     Redo {
         goal: Goal,
         block: u32,
@@ -205,9 +208,13 @@ impl AllocState {
                 at: block + 2 + u32::from(self.request.refs) + u32::from(index),
                 value: self.request.plain[index as usize],
             },
+            AllocPoint::More { goal, block } => Ask::Store {
+                at: geometry.redo_more(who),
+                value: self.record(goal, block).second,
+            },
             AllocPoint::Redo { goal, block } => Ask::Store {
                 at: geometry.redo(who),
-                value: self.redo(goal, block),
+                value: self.record(goal, block).first,
             },
             AllocPoint::Commit { goal, block } => Ask::Exchange {
                 at: block,
@@ -226,18 +233,18 @@ impl AllocState {
         }
     }
 
-    /// The redo record of the new block, which the root is to name.
+    /// The words of the redo record of the new block, which the root is to name.
     #[inline(always)]
-    fn redo(self, goal: Goal, block: u32) -> u64
+    fn record(self, goal: Goal, block: u32) -> Pair2
         requires geometry { GeometryFits self.me.geometry }
         requires who { self.me.who < self.me.geometry.clients }
         requires root { goal.root < 16 }
-        requires block { block < address_limit }
-        ensures { result ≡ redo_word (redos.Up (address self.me.geometry (place.Root self.me.who goal.root)) block) }
+        ensures first { result.first ≡ first_word self.me.geometry.wide (control.redo_asked self.me goal.root block) }
+        ensures second { result.second ≡ second_word self.me.geometry.wide (control.redo_asked self.me goal.root block) }
     {
         let Me { geometry, who } = self.me;
         let slot = geometry.root(who, goal.root);
-        Redo::Up { slot, block }.pack()
+        geometry.write_redo(Redo::Up { slot, block })
     }
 
     /// The header of the new block once it is live.
@@ -293,16 +300,18 @@ impl AllocState {
         ensures { (n : ℕ) → result ≡ control.alloc_next self n }
     {
         let request = self.request;
+        let wide = self.me.geometry.is_wide();
         match self.point {
             AllocPoint::Tag { goal, block } => {
-                AllocNext::Point(request.references_from(goal, block, 0))
+                AllocNext::Point(request.references_from(wide, goal, block, 0))
             }
             AllocPoint::Reference { goal, block, index } => {
-                AllocNext::Point(request.references_from(goal, block, index + 1))
+                AllocNext::Point(request.references_from(wide, goal, block, index + 1))
             }
             AllocPoint::Plain { goal, block, index } => {
-                AllocNext::Point(request.plain_from(goal, block, index + 1))
+                AllocNext::Point(request.plain_from(wide, goal, block, index + 1))
             }
+            AllocPoint::More { goal, block } => AllocNext::Point(AllocPoint::Redo { goal, block }),
             AllocPoint::Redo { goal, block } => AllocNext::Point(AllocPoint::Commit {
                 goal,
                 block,
@@ -352,6 +361,7 @@ impl AllocState {
             AllocPoint::Tag { .. } => self.make(words),
             AllocPoint::Reference { .. } => self.make(words),
             AllocPoint::Plain { .. } => self.make(words),
+            AllocPoint::More { .. } => self.make(words),
             AllocPoint::Redo { .. } => self.make(words),
             AllocPoint::Commit { .. } => self.make(words),
             AllocPoint::Slot { .. } => self.make(words),

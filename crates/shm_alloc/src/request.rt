@@ -41,25 +41,27 @@ impl Request {
         }
     }
 
-    /// The step after the tag and `index` reference words are stored.
+    /// The step after the tag and `index` reference words are stored, in a pool of format 2 or of format 1.
     #[inline(always)]
-    pub fn references_from(self, goal: Goal, block: u32, index: u8) -> AllocPoint
-        ensures { result ≡ control.references_from self goal block index }
+    pub fn references_from(self, wide: bool, goal: Goal, block: u32, index: u8) -> AllocPoint
+        ensures { result ≡ control.references_from wide self goal block index }
     {
         if index < self.refs {
             AllocPoint::Reference { goal, block, index }
         } else {
-            self.plain_from(goal, block, 0)
+            self.plain_from(wide, goal, block, 0)
         }
     }
 
     /// The step after the tag, the reference words and `index` plain words are stored.
     #[inline(always)]
-    pub fn plain_from(self, goal: Goal, block: u32, index: u8) -> AllocPoint
-        ensures { result ≡ control.plain_from self goal block index }
+    pub fn plain_from(self, wide: bool, goal: Goal, block: u32, index: u8) -> AllocPoint
+        ensures { result ≡ control.plain_from wide self goal block index }
     {
         if index < self.count {
             AllocPoint::Plain { goal, block, index }
+        } else if wide {
+            AllocPoint::More { goal, block }
         } else {
             AllocPoint::Redo { goal, block }
         }

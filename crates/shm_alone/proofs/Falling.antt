@@ -5,7 +5,7 @@ use Rattle.std.proofs.lemmas.Bool.Decides.{nat_tests}
 use Rattle.shm_words.specs.declared.geometry.Geometry.{Geometry}
 use Rattle.shm_words.specs.Tags.{tag_refs}
 use Rattle.shm_words.specs.Layout.{GeometryFits, total_of}
-use Rattle.shm_words.proofs.Placing.{total_small}
+use Rattle.shm_words.proofs.Placing.{total_in_format}
 use Rattle.shm_graph.specs.declared.ask.Ask.{Ask}
 use Rattle.shm_graph.specs.declared.ask.Ask.TheVariants.{Store, Exchange}
 use Rattle.shm_graph.specs.declared.spot.Spot.{Spot}
@@ -42,28 +42,28 @@ place_in : (k n : ℕ) → n ≤ 16 → k < n → k < places
 unfolding places
 place_in k n m l = omega arith
 
-address_in : (g : Geometry) → GeometryFits g → (b : ℕ) → b < total_of g → b < addresses
+address_in : (g : Geometry) → GeometryFits g → (b : ℕ) → b < total_of g → b < addresses g.wide
 unfolding addresses
-address_in g f b l = let m = total_small g f in omega arith
+address_in g f b l = let m = total_in_format g f in omega arith
 
 -- a word of a block that names a block is one of its reference words
-body_refs : (i t x : ℕ) (live : Bool) → cond (ltb i (refs_of live t)) x 0 ≢ 0 → (live ≡ true) × (i < tag_refs t)
-body_refs i t x true h =
-    elim (cases_Bool (ltb i (tag_refs t))) [
-      | inl e ↦ (refl, ltb-true i (tag_refs t) e)
+body_refs : (wide : Bool) (i t x : ℕ) (live : Bool) → cond (ltb i (refs_of wide live t)) x 0 ≢ 0 → (live ≡ true) × (i < tag_refs wide t)
+body_refs wide i t x true h =
+    elim (cases_Bool (ltb i (tag_refs wide t))) [
+      | inl e ↦ (refl, ltb-true i (tag_refs wide t) e)
       | inr e ↦ absurd (h (cond-false _ x 0 e))
     ]
-body_refs i t x false h = absurd (h (cond-false (ltb i 0) x 0 (grind (arith, nat_tests))))
+body_refs wide i t x false h = absurd (h (cond-false (ltb i 0) x 0 (grind (arith, nat_tests))))
 
 module _ (g : Geometry) (w : Spot → ℕ) (v : View) (h : HeldAt g w v) where
   -- a spot that names a block is counted
-  pub named_counted : (p : Spot) → targets g w v p ≢ 0 → IsCounted p
+  pub named_counted : (p : Spot) → targets g w v p ≢ 0 → IsCounted g.wide p
   named_counted p n = go p n (has_place g w v.op h.there h.op p n)
     where
       identity : (c : ℕ) → ltb c g.clients ≡ true → c < identities
       identity c e = identity_in g h.fits c (ltb-true c g.clients e)
 
-      go : (p : Spot) → targets g w v p ≢ 0 → IsAt g (classes w) p → IsCounted p
+      go : (p : Spot) → targets g w v p ≢ 0 → IsAt g (classes w) p → IsCounted g.wide p
       go (Home c) n at = identity c (at_is_in g (classes w) (Home c) h.fits at)
       go (Root c k) n at =
           let x = and_parts (ltb c g.clients) (ltb k 16) (at_is_in g (classes w) (Root c k) h.fits at) in
@@ -73,27 +73,27 @@ module _ (g : Geometry) (w : Spot → ℕ) (v : View) (h : HeldAt g w v) where
           let y = and_parts (ltb s g.clients) (ltb r g.clients) x.0 in
           (identity s y.0, identity r y.1, place_in k 8 (omega arith) (ltb-true k 8 x.1))
       go (Body b i) n at =
-          let x = body_refs i (w (Tag b)) _ (headers w b).live n in
+          let x = body_refs g.wide i (w (Tag b)) _ (headers w b).live n in
           let l : b < total_of g = (block_within g (classes w) b (body_block g (classes w) (spot_address g (Body b i)) b i at).0).1 in
-          (address_in g h.fits b l, place_in i (tag_refs (w (Tag b))) (h.blocks.tagged b x.0).refs x.1)
+          (address_in g h.fits b l, place_in i (tag_refs g.wide (w (Tag b))) (h.blocks.tagged b x.0).refs x.1)
       go _ n at = absurd (n refl)
 
   -- an event that makes nothing takes away from the size as many as it is events
-  pub size_falls : (x : Event) (b : Graph) → IsHeldWithin g.clients x → IsLoss x → Happens g w x (graph_of g w v) b → size_of b + weight x ≤ size_of (graph_of g w v)
-  size_falls Nothing b l y e = let s = size_most b (graph_of g w v) (part_same (graph_of g w v) b e) in omega arith
+  pub size_falls : (x : Event) (b : Graph) → IsHeldWithin g.clients x → IsLoss x → Happens g w x (graph_of g w v) b → size_of g.wide b + weight x ≤ size_of g.wide (graph_of g w v)
+  size_falls Nothing b l y e = let s = size_most g.wide b (graph_of g w v) (part_same (graph_of g w v) b e) in omega arith
   size_falls (Alloc c k x) b l y e = absurd y
   size_falls (Up c p x) b l y e = absurd y
   size_falls (Down c p x) b l y e =
       let n : targets g w v p ≢ 0 = (λ z. e.0 (sym e.1 ∙ z)) in
-      let s = down_less (graph_of g w v) b p x (named_counted p n) e.0 e.1 e.2 in
+      let s = down_less g.wide (graph_of g w v) b p x (named_counted p n) e.0 e.1 e.2 in
       omega arith
   size_falls (ChangeUp c p x z) b l y e = absurd y
   size_falls (ChangeDown c x) b l y e =
-      let s = held_less (graph_of g w v) b c x (identity_in g h.fits c l) e.0 e.1 e.2 in
+      let s = held_less g.wide (graph_of g w v) b c x (identity_in g h.fits c l) e.0 e.1 e.2 in
       omega arith
   size_falls (Free c x) b l y e =
       let q = block_within g (classes w) x (held_live_block g w v h x e.0) in
-      let s = free_less (graph_of g w v) b x (address_in g h.fits x q.1) e.0 e.4 in
+      let s = free_less g.wide (graph_of g w v) b x (address_in g h.fits x q.1) e.0 e.4 in
       omega arith
 
 -- ---- the identity of an event

@@ -48,7 +48,7 @@ module _ {S A : Type 0} (k : Control S A) (fits : S → Memo → Memo → Trail 
   -- the step of m that found n is paid for, the graph shrinks by it, and where m goes on it fits
   record Goes (me : Me) (a : State) (m : S) (r0 : Memo) (n : ℕ) : Type 0 where
     pub paid : IsPaid k does alone left saved m n (see me.geometry (moved a (Word (step_of k m n))).words)
-    pub falls : size_of (graph_in me.geometry (moved a (Word (step_of k m n)))) + weight (does m n) ≤ size_of (graph_in me.geometry a)
+    pub falls : size_of me.geometry.wide (graph_in me.geometry (moved a (Word (step_of k m n)))) + weight (does m n) ≤ size_of me.geometry.wide (graph_in me.geometry a)
     pub fit : k.turns m n ≡ None → fits_now k fits (k.after m n) r0 (memos_of (moved a (Word (step_of k m n))).accounts me.who)
 
   -- on lists
@@ -93,7 +93,7 @@ module _ {S A : Type 0} (k : Control S A) (fits : S → Memo → Memo → Trail 
 
   -- in a run of its steps alone
   pub at_most : (g : Geometry) (c : ℕ) (a : State) (m : S) (r0 : Memo) (tr : Trail) (b : State) → k.me m ≡ me_of g c → c < g.clients → Held g a.words a.accounts → Leads g a (words (machine_steps k m tr)) b → fits_now k fits m r0 (memos_of a.accounts c) → GoesOn k m tr → alone m (see g a.words)
-      → length tr ≤ left m + pay * size_of (graph_in g a) + 1
+      → length tr ≤ left m + pay * size_of g.wide (graph_in g a) + 1
   at_most g c a m r0 [] b me l h run fit on knows = omega arith
   at_most g c a m r0 (x ∷ []) b me l h run fit on knows = omega arith
   at_most g c a m r0 (x ∷ y ∷ tr) b me l h run fit on knows =
@@ -103,7 +103,7 @@ module _ {S A : Type 0} (k : Control S A) (fits : S → Memo → Memo → Trail 
       let goes : Goes (me_of g c) a m r0 n = goes_as (me_of g c) a m r0 n me h l fit on.0 knows (sym run.0.0) in
       let knows' : alone (k.after m n) (see g next.words) = outcome_none (k.turns m n) _ _ more goes.paid.alone in
       let less : left (k.after m n) < left m + pay * weight (does m n) = outcome_none (k.turns m n) _ _ more goes.paid.paid in
-      let rest : length (y ∷ tr) ≤ left (k.after m n) + pay * size_of (graph_in g next) + 1 =
+      let rest : length (y ∷ tr) ≤ left (k.after m n) + pay * size_of g.wide (graph_in g next) + 1 =
       at_most g c next (k.after m n) r0 (y ∷ tr) b ((laws.steady m n on.0).same_me ∙ me) l run.1.held run.2 (goes.fit more) on.1.1 knows' in
-      let enough = still_left (left m) (left (k.after m n)) (size_of (graph_in g a)) (size_of (graph_in g next)) (weight (does m n)) less goes.falls in
+      let enough = still_left (left m) (left (k.after m n)) (size_of g.wide (graph_in g a)) (size_of g.wide (graph_in g next)) (weight (does m n)) less goes.falls in
       omega arith

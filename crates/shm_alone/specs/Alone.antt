@@ -1,5 +1,5 @@
 -- machines that work alone: no other identity makes a word step meanwhile, so that no exchange fails, and each word step is paid for
-use Rattle.std.specs.Prelude.{◌≡◌, ℕ, ◌+◌, ◌*◌, ◌<◌, false}
+use Rattle.std.specs.Prelude.{◌≡◌, ℕ, ◌+◌, ◌*◌, ◌^◌, ◌<◌, Bool, true, false}
 use Rattle.shm_graph.specs.declared.spot.Spot.{Spot}
 use Rattle.shm_graph.specs.declared.memo.Memo.{Memo}
 use Rattle.shm_graph.specs.Spots.{spot_at}
@@ -11,6 +11,15 @@ use Rattle.shm_graph.specs.Laws.{Control, Frame, Outcome, Stands}
 -- how many word steps an event pays for
 abbrev pub pay : ℕ
 pay = 256
+
+-- how many word steps the control of a call of a closing has left at most before its first one, and how many are enough for the call with those that events pay for; pools of format 2 (`true`) may be greater
+abbrev pub left_limit : Bool → ℕ
+left_limit false = 2 ^ 30
+left_limit true = 2 ^ 32
+
+abbrev pub alone_steps : Bool → ℕ
+alone_steps false = 2 ^ 34
+alone_steps true = 2 ^ 38
 
 -- an event that makes no reference and no block, or none
 abbrev pub IsLoss : Event → Type 0

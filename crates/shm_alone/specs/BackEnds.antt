@@ -24,6 +24,7 @@ use Rattle.shm_alone.specs.Alone.{EndsAlone}
 use Rattle.shm_alone.specs.GiveEnds.{none_over}
 use Rattle.shm_alone.specs.Lifting.{anything, calls_alone, calls_left, plain_calls_end}
 use Rattle.shm_alone.specs.RootsEnd.{part_alone, part_ends, part_left, part_saved}
+use Rattle.shm_alone.specs.StepEnds.{redo_few}
 
 -- how many word steps come behind the call at a point at most, but for those that events pay: 200 for each queue
 abbrev pub back_rest_at : BackState → BackPoint → ℕ
@@ -73,7 +74,7 @@ back_paid m Slot (First n) r0 rs r tr t es ds h g = go (n % address_limit == 0)
 
     go : (q : Bool) → IsPaidOff (if q then passed p else record m { block = n % address_limit; point = Lower }) (back_rest_at m Slot + 0) (if q then passed_answer p else None)
     go true = passed_paid p (back_rest_at m Slot + 0) h.0.low (omega arith)
-    go false = let l = h.0.low in omega arith
+    go false = let l = h.0.low in let few = redo_few m.me.geometry.wide in omega arith
 back_paid m Lower (Second (First (Ok true))) r0 rs r tr t es ds h g = let l = h.0.low in omega arith
 back_paid m Lower (Second (First (Ok false))) r0 rs r tr t es ds h g = passed_paid (record m { point = Lower }) (back_rest_at m Lower + 200) h.0.low (omega arith)
 back_paid m Lower (Second (First (Err e))) r0 rs r tr t es ds h g = omega arith

@@ -1,7 +1,10 @@
 -- a leaving that works alone ends: how many word steps come behind a call, and that they are paid for
-use Rattle.std.proofs.Common.{◌≡◌, ◌≢◌, ℕ, ◌+◌, ◌*◌, ◌-◌, ◌<◌, ◌≤◌, refl, arith, Bool, true, false, List}
+use Rattle.std.proofs.Common.{◌≡◌, ◌≢◌, ℕ, ◌+◌, ◌*◌, ◌-◌, ◌^◌, ◌<◌, ◌≤◌, refl, arith, Bool, true, false, List}
 use Rattle.std.specs.Prelude.{◌==◌, if◌then◌else◌, Result, Ok, Err}
 use Rattle.std.proofs.lemmas.Bool.{eqb-false}
+use Rattle.shm_words.specs.Layout.{GeometryFits}
+use Rattle.shm_words.proofs.Placing.{segments_few}
+use Rattle.shm_graph.specs.declared.ask.Me.{Me}
 use Rattle.shm_graph.specs.declared.memo.Memo.{Memo}
 use Rattle.shm_graph.specs.declared.spot.Spot.{Spot}
 use Rattle.shm_graph.specs.Asks.{Trail}
@@ -9,7 +12,7 @@ use Rattle.shm_graph.specs.Events.{Event}
 use Rattle.shm_graph.specs.Laws.{Outcome}
 use Rattle.shm_calls.specs.declared.calls.Calls.{Calls}
 use Rattle.shm_calls.specs.declared.or.Or.TheVariants.{First, Second}
-use Rattle.shm_calls.specs.CallsControl.{calls_control, calls_does}
+use Rattle.shm_calls.specs.CallsControl.{calls_control, calls_does, calls_of}
 use Rattle.shm_calls.specs.CallsFit.{CallsFits}
 use Rattle.shm_calls.specs.Words.{WordFits, word_control, word_does}
 use Rattle.shm_count.specs.declared.answer.EraSpent.{EraSpent}
@@ -18,7 +21,7 @@ use Rattle.shm_ref.specs.DropRoots.{roots_plan}
 use Rattle.shm_recover.specs.declared.leave.LeavePoint.{LeavePoint}
 use Rattle.shm_recover.specs.declared.leave.LeavePoint.TheVariants.{Roots, Look, Give, Status}
 use Rattle.shm_recover.specs.declared.leave.LeaveState.{LeaveState}
-use Rattle.shm_recover.specs.Leave.Control.{LeaveAnswer, LeaveCall, is_roots, leave_after, leave_call_at, leave_next, leave_parts, leave_turns}
+use Rattle.shm_recover.specs.Leave.Control.{LeaveAnswer, LeaveCall, is_roots, leave_after, leave_call_at, leave_next, leave_parts, leave_turns, leaving}
 use Rattle.shm_recover.specs.Leave.Laws.{leave_laws}
 use Rattle.shm_recover.specs.Leave.{LeaveKnows, leave_plan}
 use Rattle.shm_recover.specs.Machines.{leave}
@@ -100,3 +103,7 @@ leave_ends =
       begins = λ m. begins m m.point;
       pays = λ m r0 rs r tr t es ds a h g held agent. leave_paid m m.point a r0 rs r tr t es ds h g;
     })
+
+-- before its first word step it has few left
+pub leave_few : (me : Me) → GeometryFits me.geometry → leave_left (calls_of leave_plan (leaving me)) ≤ 2 ^ 30
+leave_few me f = let s = segments_few me.geometry f in omega arith

@@ -7,6 +7,7 @@ use Rattle.shm_words.specs.Redos.{redo_of}
 use Rattle.shm_graph.specs.declared.memo.Memo.{Memo}
 use Rattle.shm_graph.specs.declared.spot.Spot.{Spot}
 use Rattle.shm_graph.specs.Asks.{Trail}
+use Rattle.shm_graph.specs.Bounds.{redo_steps}
 use Rattle.shm_graph.specs.Events.{Event}
 use Rattle.shm_graph.specs.Laws.{Outcome}
 use Rattle.shm_calls.specs.declared.calls.Calls.{Calls}
@@ -19,9 +20,9 @@ use Rattle.shm_count.specs.declared.commit_test.Commit.{Commit}
 use Rattle.shm_count.specs.declared.commit_test.Commit.TheVariants.{Committed, NotCommitted}
 use Rattle.shm_count.specs.CommitTest.{testing_plan}
 use Rattle.shm_recover.specs.declared.mend.MendPoint.{MendPoint}
-use Rattle.shm_recover.specs.declared.mend.MendPoint.TheVariants.{Dead, Era, Redo, Test, Slot, Close, Lower, Unlatch}
+use Rattle.shm_recover.specs.declared.mend.MendPoint.TheVariants.{Dead, Era, Redo, More, Test, Slot, Close, Lower, Unlatch}
 use Rattle.shm_recover.specs.declared.mend.MendState.{MendState}
-use Rattle.shm_recover.specs.Mend.Control.{MendAnswer, MendCall, found_by, is_dead, is_first, is_second, mend_after, mend_call, mend_parts, mend_turns, tested_at}
+use Rattle.shm_recover.specs.Mend.Control.{MendAnswer, MendCall, found, found_by, is_dead, is_first, is_second, mend_after, mend_call, mend_parts, mend_turns, tested_at}
 use Rattle.shm_recover.specs.Mend.Laws.{mend_laws}
 use Rattle.shm_recover.specs.Mend.Machines.{mend}
 use Rattle.shm_recover.specs.Mend.{mend_part, mend_plan}
@@ -36,9 +37,10 @@ use Rattle.shm_alone.specs.UnlatchEnds.{unlatch_alone, unlatch_ends, unlatch_lef
 
 -- how many word steps come behind the call at a point at most
 abbrev pub mend_rest_at : MendState → MendPoint → ℕ
-mend_rest_at m Dead = m.me.geometry.clients + 15
-mend_rest_at m Era = m.me.geometry.clients + 14
-mend_rest_at m Redo = m.me.geometry.clients + 13
+mend_rest_at m Dead = m.me.geometry.clients + 14 + redo_steps m.me.geometry.wide
+mend_rest_at m Era = m.me.geometry.clients + 13 + redo_steps m.me.geometry.wide
+mend_rest_at m Redo = m.me.geometry.clients + 12 + redo_steps m.me.geometry.wide
+mend_rest_at m More = m.me.geometry.clients + 13
 mend_rest_at m Test = 11
 mend_rest_at m Slot = 10
 mend_rest_at m Close = 9
@@ -77,6 +79,11 @@ found_paid m (Some (redos.Up p b)) = omega arith
 found_paid m (Some (redos.Down p b)) = omega arith
 found_paid m (Some (redos.Change parity p a b)) = omega arith
 
+-- by its first word, which in format 2 leads to the second one
+first_paid : (m : MendState) (q : Bool) (n : ℕ) → mend_due (if q then record m { first = n; point = More } else found m n 0) ≤ m.me.geometry.clients + 12 + redo_steps q
+first_paid m true n = omega arith
+first_paid m false n = let k = found_paid m (redo_of m.me.geometry.wide n 0) in omega arith
+
 -- by the commit test
 tested_paid : (m : MendState) (x : Commit) (q : Bool) → mend_due (record m { point = tested_at x q }) ≤ 11
 tested_paid m (Committed by) true = omega arith
@@ -94,7 +101,8 @@ mend_paid : (m : MendState) (y : MendPoint) (a : MendAnswer) (rs r : Memo) (t : 
     → Outcome (mend_turns (record m { point = y }) a) (mend_due (mend_after (record m { point = y }) a) ≤ mend_rest_at m y + mend_call_saved a) (λ u. 0 ≤ mend_rest_at m y + mend_call_saved a)
 mend_paid m Dead (First n) rs r t ds g = omega arith
 mend_paid m Era (First n) rs r t ds g = omega arith
-mend_paid m Redo (First n) rs r t ds g = let k = found_paid (record m { point = Redo }) (redo_of n) in omega arith
+mend_paid m Redo (First n) rs r t ds g = let k = first_paid (record m { point = Redo }) m.me.geometry.wide n in omega arith
+mend_paid m More (First n) rs r t ds g = let k = found_paid (record m { point = More }) (redo_of m.me.geometry.wide m.first n) in omega arith
 mend_paid m Slot (First n) rs r t ds g = omega arith
 mend_paid m Close (First n) rs r t ds g = let k = closed_paid (record m { point = Close }) (is_first m.redo m.era) in omega arith
 mend_paid m Test (Second (First x)) rs r t ds g = let k = tested_paid (record m { point = Test }) x (is_second m.redo m.era) in omega arith
@@ -103,6 +111,7 @@ mend_paid m Unlatch (Second (Second (Second u))) rs r t ds g = omega arith
 mend_paid m Dead (Second a) rs r t ds g = absurd g
 mend_paid m Era (Second a) rs r t ds g = absurd g
 mend_paid m Redo (Second a) rs r t ds g = absurd g
+mend_paid m More (Second a) rs r t ds g = absurd g
 mend_paid m Slot (Second a) rs r t ds g = absurd g
 mend_paid m Close (Second a) rs r t ds g = absurd g
 mend_paid m Test (First n) rs r t ds g = absurd g
@@ -135,6 +144,7 @@ begins : (m : MendState) (y : MendPoint) (w : Spot → ℕ) → mend_call_alone 
 begins m Dead w = tt
 begins m Era w = tt
 begins m Redo w = tt
+begins m More w = tt
 begins m Test w = (tt, tt)
 begins m Slot w = tt
 begins m Close w = tt

@@ -37,6 +37,7 @@ use Rattle.shm_queue.specs.Take.Laws.{take_laws}
 use Rattle.shm_alone.specs.Alone.{EndsAlone}
 use Rattle.shm_alone.specs.Lifting.{Pays, anything, calls_alone, calls_left, fewer_end, or_alone, or_ends, or_left, or_saved, plain_calls_end, word_ends, word_left, word_saved}
 use Rattle.shm_alone.specs.RootsEnd.{by_test, part_alone, part_ends, part_left, part_saved}
+use Rattle.shm_alone.specs.StepEnds.{redo_few}
 
 -- ---- a take
 
@@ -68,7 +69,7 @@ take_left = calls_left part_left take_plan_rest
 take_pays : (m : TakeState) (y : TakePoint) (rs r : Memo) (t : Trail) (ds : List Event) (a : TakeAnswer) → (take_part m y).leaves (take_call_at m y) rs r t ds a → Pays take_parts take_plan part_alone part_left part_saved anything take_plan_rest take_saved (record m { point = y }) a
 take_pays m Head rs r t ds (First n) g = omega arith
 take_pays m Tail rs r t ds (First n) g = by_test (n == m.at) (Err (fault.Empty m.at)) _ _ (omega arith) (omega arith)
-take_pays m Slot rs r t ds (First n) g = omega arith
+take_pays m Slot rs r t ds (First n) g = let few = redo_few m.me.geometry.wide in omega arith
 take_pays m Lower rs r t ds (Second (First (Ok z))) g = omega arith
 take_pays m Lower rs r t ds (Second (First (Err e))) g = omega arith
 take_pays m Store rs r t ds (First n) g = stored m.last

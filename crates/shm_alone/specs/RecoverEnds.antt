@@ -1,15 +1,17 @@
 -- a recovery that works alone ends: how many word steps come behind a call, and that they are paid for
 use Rattle.std.proofs.Common.{ℕ, ◌+◌, ◌*◌, ◌≤◌, arith, Bool, true, false, List}
 use Rattle.std.specs.Prelude.{◌==◌, if◌then◌else◌, Result, Ok, Err}
+use Rattle.shm_words.specs.Layout.{GeometryFits, segments_most}
 use Rattle.shm_graph.specs.declared.ask.Me.{Me}
 use Rattle.shm_graph.specs.declared.memo.Memo.{Memo}
 use Rattle.shm_graph.specs.declared.spot.Spot.{Spot}
 use Rattle.shm_graph.specs.Asks.{Trail}
+use Rattle.shm_graph.specs.Bounds.{redo_steps}
 use Rattle.shm_graph.specs.Events.{Event}
 use Rattle.shm_graph.specs.Laws.{Outcome}
 use Rattle.shm_calls.specs.declared.calls.Calls.{Calls}
 use Rattle.shm_calls.specs.declared.or.Or.TheVariants.{First, Second}
-use Rattle.shm_calls.specs.CallsControl.{calls_does}
+use Rattle.shm_calls.specs.CallsControl.{calls_does, calls_of}
 use Rattle.shm_calls.specs.CallsFit.{CallsFits}
 use Rattle.shm_calls.specs.Either.{OrFits, or_control, or_does}
 use Rattle.shm_calls.specs.Words.{word_control}
@@ -28,7 +30,7 @@ use Rattle.shm_recover.specs.Mend.Control.{mend_parts}
 use Rattle.shm_recover.specs.Mend.Laws.{mend_laws}
 use Rattle.shm_recover.specs.Mend.{mend_plan}
 use Rattle.shm_recover.specs.Machines.Recovering.{recover}
-use Rattle.shm_recover.specs.Recover.Control.{RecoverAnswer, RecoverCall, back_control, finish_control, give_control, mend_control, recover_after, recover_call_at, recover_parts, recover_turns, roots_control, scan_control}
+use Rattle.shm_recover.specs.Recover.Control.{RecoverAnswer, RecoverCall, back_control, finish_control, give_control, mend_control, recover_after, recover_call_at, recover_parts, recover_turns, recovering, roots_control, scan_control}
 use Rattle.shm_recover.specs.Recover.Laws.{recover_laws}
 use Rattle.shm_recover.specs.Recover.{recover_part, recover_plan}
 use Rattle.shm_recover.specs.Scan.Control.{scan_parts}
@@ -37,7 +39,7 @@ use Rattle.shm_recover.specs.Scan.{scan_plan}
 use Rattle.shm_recover.specs.TakeBack.Control.{back_parts}
 use Rattle.shm_recover.specs.TakeBack.Laws.{back_laws}
 use Rattle.shm_recover.specs.TakeBack.{back_plan}
-use Rattle.shm_alone.specs.Alone.{EndsAlone}
+use Rattle.shm_alone.specs.Alone.{EndsAlone, left_limit}
 use Rattle.shm_alone.specs.BackEnds.{back_alone, back_ends, back_left}
 use Rattle.shm_alone.specs.GiveEnds.{give_alone, give_ends, give_left, none_over}
 use Rattle.shm_alone.specs.Lifting.{anything, calls_alone, calls_left, or_alone, or_ends, or_left, or_saved, plain_calls_end}
@@ -175,3 +177,12 @@ recover_ends =
       begins = λ m. begins m m.point;
       pays = λ m r0 rs r tr t es ds a h g held agent. recover_paid m m.point a rs r t ds g;
     })
+
+-- the numbers of a pool of n clients and g segments
+few : (wide : Bool) (n g : ℕ) → n ≤ 16 → g ≤ segments_most wide → 205 * n + 320002 * g + 195 + redo_steps wide ≤ left_limit wide
+few false n g c s = omega arith
+few true n g c s = omega arith
+
+-- before its first word step it has few left
+pub recover_few : (me : Me) → GeometryFits me.geometry → recover_left (calls_of recover_plan (recovering me)) ≤ left_limit me.geometry.wide
+recover_few me f = let n = few me.geometry.wide me.geometry.clients me.geometry.segments f.clients f.segments in omega arith

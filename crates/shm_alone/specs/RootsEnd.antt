@@ -35,7 +35,7 @@ use Rattle.shm_ref.specs.DropRoots.{roots_plan}
 use Rattle.shm_ref.specs.DropRoots.Laws.{roots_laws}
 use Rattle.shm_alone.specs.Alone.{EndsAlone}
 use Rattle.shm_alone.specs.Lifting.{Pays, anything, calls_alone, calls_left, or_alone, or_ends, or_left, or_saved, plain_calls_end, word_ends, word_left, word_saved}
-use Rattle.shm_alone.specs.StepEnds.{down_ends_at, step_alone, step_left, step_saved}
+use Rattle.shm_alone.specs.StepEnds.{down_ends_at, redo_few, step_alone, step_left, step_saved}
 use Rattle.shm_alone.specs.TearEnds.{tear_alone, tear_ends, tear_left, tear_saved}
 
 -- ---- a word, a step down or a tear-down
@@ -88,7 +88,7 @@ drop_left = calls_left part_left drop_plan_rest
 -- what the answers of its calls have over pays for what comes next
 drop_pays : (m : DropState) (y : DropPoint) (r0 rs r : Memo) (tr t : Trail) (es ds : List Event) (a : DropAnswer) → DropKnows (record m { point = y }) y r0 rs tr es → (drop_plan.part (record m { point = y })).leaves (drop_call_at m y) rs r t ds a
     → Pays drop_parts drop_plan part_alone part_left part_saved anything drop_plan_rest drop_saved (record m { point = y }) a
-drop_pays m Load r0 rs r tr t es ds (First n) h g = by_test (n % address_limit == 0) (Ok false) _ _ (omega arith) (omega arith)
+drop_pays m Load r0 rs r tr t es ds (First n) h g = by_test (n % address_limit == 0) (Ok false) _ _ (let few = redo_few m.me.geometry.wide in omega arith) (omega arith)
 drop_pays m Lower r0 rs r tr t es ds (Second (First (Ok true))) h g = omega arith
 drop_pays m Lower r0 rs r tr t es ds (Second (First (Ok false))) h g = omega arith
 drop_pays m Lower r0 rs r tr t es ds (Second (First (Err e))) h g = omega arith

@@ -1,11 +1,12 @@
 -- how big a graph of references is: what an event that makes nothing takes away from
-use Rattle.std.specs.Prelude.{ℕ, ◌+◌, ◌^◌, ◌<◌, ◌==◌, if◌then◌else◌}
+use Rattle.std.specs.Prelude.{ℕ, ◌+◌, ◌^◌, ◌<◌, Bool, true, false, ◌==◌, if◌then◌else◌}
+use Rattle.shm_words.specs.Layout.{place_limit}
 use Rattle.shm_graph.specs.declared.spot.Spot.{Spot}
 use Rattle.shm_graph.specs.declared.spot.Spot.TheVariants.{Home, Root, Slot, Body}
 use Rattle.shm_graph.specs.Events.{Graph, Event, ChangeDown}
 use Rattle.shm_graph.specs.References.{sum_below, one_if}
 
--- how many identities a pool has at most, how many roots or items of a queue or reference words of a block, and how many addresses
+-- how many identities a pool has at most
 unfoldable pub identities : ℕ
 identities = 16
 
@@ -13,9 +14,9 @@ identities = 16
 unfoldable pub places : ℕ
 places = 16
 
--- how many addresses a pool has at most
-unfoldable pub addresses : ℕ
-addresses = 2 ^ 20
+-- how many addresses a pool of a format has at most
+unfoldable pub addresses : Bool → ℕ
+addresses wide = place_limit wide
 
 -- one where it names a block
 abbrev pub named : ℕ → ℕ
@@ -31,20 +32,25 @@ roots_named t = sum_below identities (λ c. sum_below places (λ k. named (t (Ro
 abbrev pub slots_named : (Spot → ℕ) → ℕ
 slots_named t = sum_below identities (λ s. sum_below identities (λ r. sum_below places (λ k. named (t (Slot s r k)))))
 
-abbrev pub bodies_named : (Spot → ℕ) → ℕ
-bodies_named t = sum_below addresses (λ b. sum_below places (λ i. named (t (Body b i))))
+abbrev pub bodies_named : Bool → (Spot → ℕ) → ℕ
+bodies_named wide t = sum_below (addresses wide) (λ b. sum_below places (λ i. named (t (Body b i))))
 
 -- the references from words, those held over, and the live blocks
-unfoldable pub size_of : Graph → ℕ
-size_of a = homes_named a.target + roots_named a.target + slots_named a.target + bodies_named a.target + sum_below identities (λ c. named (a.held_over c)) + sum_below addresses (λ b. one_if (a.live b))
+unfoldable pub size_of : Bool → Graph → ℕ
+size_of wide a = homes_named a.target + roots_named a.target + slots_named a.target + bodies_named wide a.target + sum_below identities (λ c. named (a.held_over c)) + sum_below (addresses wide) (λ b. one_if (a.live b))
+
+-- how great that is at most
+abbrev pub size_limit : Bool → ℕ
+size_limit false = 2 ^ 25
+size_limit true = 2 ^ 29
 
 -- a spot that is counted
-abbrev pub IsCounted : Spot → Type 0
-IsCounted (Home c) = c < identities
-IsCounted (Root c k) = (c < identities) × (k < places)
-IsCounted (Slot s r k) = (s < identities) × (r < identities) × (k < places)
-IsCounted (Body b i) = (b < addresses) × (i < places)
-IsCounted _ = ⊥
+abbrev pub IsCounted : Bool → Spot → Type 0
+IsCounted wide (Home c) = c < identities
+IsCounted wide (Root c k) = (c < identities) × (k < places)
+IsCounted wide (Slot s r k) = (s < identities) × (r < identities) × (k < places)
+IsCounted wide (Body b i) = (b < addresses wide) × (i < places)
+IsCounted wide _ = ⊥
 
 -- the identity whose reference is held over is one of n
 abbrev pub IsHeldWithin : ℕ → Event → Type 0

@@ -1,6 +1,6 @@
 -- a step down that works alone ends: no exchange of it fails, and the reference that is lost pays for what is left of it, and leaves 200 word steps over
-use Rattle.std.proofs.Common.{◌≡◌, ℕ, ◌+◌, ◌*◌, ◌<◌, sym, ap, ◌∙◌, subst, arith, Bool, true, false, eqb, ltb}
-use Rattle.std.specs.Prelude.{Result, Ok, Err}
+use Rattle.std.proofs.Common.{◌≡◌, ℕ, ◌+◌, ◌*◌, ◌<◌, ◌≤◌, sym, ap, ◌∙◌, subst, arith, Bool, true, false, eqb, ltb}
+use Rattle.std.specs.Prelude.{if◌then◌else◌, Result, Ok, Err}
 use Rattle.std.specs.Option.{option_map}
 use Rattle.std.proofs.lemmas.Bool.{true≢false, eq-eqb}
 use Rattle.shm_words.specs.Headers.{header_of}
@@ -11,6 +11,7 @@ use Rattle.shm_graph.specs.declared.spot.Spot.{Spot}
 use Rattle.shm_graph.specs.declared.spot.Spot.TheVariants.{Head}
 use Rattle.shm_graph.specs.Asks.{Trail, at_of, seen_of, words_after}
 use Rattle.shm_graph.specs.Blocks.{classes}
+use Rattle.shm_graph.specs.Bounds.{redo_steps}
 use Rattle.shm_graph.specs.Laws.{Frame, Outcome, Stands}
 use Rattle.shm_graph.specs.Spots.{spot_at}
 use Rattle.shm_graph.proofs.StepKinds.Loads.{choice}
@@ -25,7 +26,7 @@ use Rattle.shm_count.specs.declared.point.StepPoint.TheVariants as point
 use Rattle.shm_count.specs.declared.point.StepState.{StepState}
 use Rattle.shm_count.specs.declared.point.StepNext.{StepNext}
 use Rattle.shm_count.specs.declared.point.StepNext.TheVariants.{Point, Answer}
-use Rattle.shm_count.specs.Step.Control.{PartFits, PointFits, answer_of, block_at, era_next, header_next, is_over, last_era, point_of, row_address, row_next, step_ask_at, step_next_at}
+use Rattle.shm_count.specs.Step.Control.{PartFits, PointFits, answer_of, block_at, era_next, first_next, header_next, is_over, last_era, point_of, row_address, row_next, step_ask_at, step_next_at}
 use Rattle.shm_count.specs.Step.Events.{step_event, step_event_at}
 use Rattle.shm_count.specs.Step.Headers.{half_block}
 use Rattle.shm_count.specs.Step.Machines.{down_answer, down_control, is_down}
@@ -35,6 +36,11 @@ use Rattle.shm_count.specs.StepsAt.{DownFitsAt}
 use Rattle.shm_alone.specs.Alone.{pay, IsLoss, weight, IsPaid, EndsAlone}
 
 -- ---- what is known, and what is left
+
+-- a redo record is stored in at most two word steps
+pub redo_few : (wide : Bool) → redo_steps wide ≤ 2
+redo_few false = omega arith
+redo_few true = omega arith
 
 -- the header that was read is still in the header word of its block
 abbrev pub point_alone : Aim → StepPoint → (Spot → ℕ) → Type 0
@@ -47,19 +53,20 @@ abbrev pub step_alone : StepState → (Spot → ℕ) → Type 0
 step_alone m w = point_alone m.aim m.point w
 
 -- the word steps before the event at most; behind it, those that are left and 200 that the event pays for what comes after the step
-abbrev pub point_left : StepPoint → ℕ
-point_left point.Era = 8
-point_left (point.Redo e) = 7
-point_left (point.Load e h) = 6
-point_left (point.Row e h k) = 5
-point_left (point.Show e h k) = 4
-point_left (point.Exchange e h k) = 3
-point_left (point.Slot e z) = 202
-point_left (point.Close e h z) = 201
-point_left point.Over = 0
+abbrev pub point_left : Bool → StepPoint → ℕ
+point_left wide point.Era = 7 + redo_steps wide
+point_left wide (point.More e) = 8
+point_left wide (point.Redo e) = 7
+point_left wide (point.Load e h) = 6
+point_left wide (point.Row e h k) = 5
+point_left wide (point.Show e h k) = 4
+point_left wide (point.Exchange e h k) = 3
+point_left wide (point.Slot e z) = 202
+point_left wide (point.Close e h z) = 201
+point_left wide point.Over = 0
 
 abbrev pub step_left : StepState → ℕ
-step_left m = point_left m.point
+step_left m = point_left m.me.geometry.wide m.point
 
 -- what a step down has left over: its reference is lost, or nothing is
 abbrev pub step_saved : Result Bool EraSpent → ℕ
@@ -69,35 +76,40 @@ step_saved (Err e) = 0
 -- ---- where it goes
 
 -- a step leads on, to a point that knows what it has to and has less than n left, or to an answer that has less than n over
-abbrev pub StepGoes : Aim → (Spot → ℕ) → ℕ → StepNext → Type 0
-StepGoes x w n (Point y) = point_alone x y w × (point_left y < n)
-StepGoes x w n (Answer a) = step_saved (down_answer a) < n
+abbrev pub StepGoes : Bool → Aim → (Spot → ℕ) → ℕ → StepNext → Type 0
+StepGoes wide x w n (Point y) = point_alone x y w × (point_left wide y < n)
+StepGoes wide x w n (Answer a) = step_saved (down_answer a) < n
 
 -- what the word step at a point owes that found n, and left these words: its event is a loss, or none, and it leads on
 pub record StepOwes (me : Me) (x : Aim) (p : Spot) (y : StepPoint) (n : ℕ) (w : Spot → ℕ) : Type 0 where
   pub loss : IsLoss (step_event_at me x p y n)
-  pub goes : StepGoes x w (point_left y + pay * weight (step_event_at me x p y n)) (step_next_at me x y n)
+  pub goes : StepGoes me.geometry.wide x w (point_left me.geometry.wide y + pay * weight (step_event_at me x p y n)) (step_next_at me x y n)
 
 -- by a header that was read, and is there
-header_goes : (me : Me) (b e : ℕ) (h : Half) (k : ℕ) (w : Spot → ℕ) → w (Head b) ≡ k → StepGoes (Down b) w 6 (header_next me (Down b) e h k)
+header_goes : (me : Me) (b e : ℕ) (h : Half) (k : ℕ) (w : Spot → ℕ) → w (Head b) ≡ k → StepGoes me.geometry.wide (Down b) w 6 (header_next me (Down b) e h k)
 header_goes me b e h k w is =
-    choice (StepGoes (Down b) w 6) (eqb (header_of k).client me.who) (Point (point.Exchange e h k)) (Point (point.Row e h k))
+    choice (StepGoes me.geometry.wide (Down b) w 6) (eqb (header_of k).client me.who) (Point (point.Exchange e h k)) (Point (point.Row e h k))
     (λ z. (is, omega arith))
     (λ z. (is, omega arith))
 
 -- by the own row
-row_goes : (b e : ℕ) (h : Half) (k n : ℕ) (w : Spot → ℕ) → w (Head b) ≡ k → StepGoes (Down b) w 5 (row_next e h k n)
-row_goes b e h k n w is =
-    choice (StepGoes (Down b) w 5) (ltb n (header_of k).era) (Point (point.Show e h k)) (Point (point.Exchange e h k))
+row_goes : (wide : Bool) (b e : ℕ) (h : Half) (k n : ℕ) (w : Spot → ℕ) → w (Head b) ≡ k → StepGoes wide (Down b) w 5 (row_next e h k n)
+row_goes wide b e h k n w is =
+    choice (StepGoes wide (Down b) w 5) (ltb n (header_of k).era) (Point (point.Show e h k)) (Point (point.Exchange e h k))
     (λ z. (is, omega arith))
     (λ z. (is, omega arith))
 
+-- to the store that begins the step
+first_goes : (wide : Bool) (b n : ℕ) (w : Spot → ℕ) → StepGoes wide (Down b) w (7 + redo_steps wide + 0) (Point (if wide then point.More n else point.Redo n))
+first_goes false b n w = (tt, omega arith)
+first_goes true b n w = (tt, omega arith)
+
 -- by the own era
-era_goes : (b n : ℕ) (w : Spot → ℕ) → StepGoes (Down b) w 8 (era_next (Down b) n)
-era_goes b n w =
-    choice (StepGoes (Down b) w 8) (ltb (last_era (Down b)) n) (Answer (Err (fault.EraSpent n))) (Point (point.Redo n))
+era_goes : (me : Me) (b n : ℕ) (w : Spot → ℕ) → StepGoes me.geometry.wide (Down b) w (7 + redo_steps me.geometry.wide + 0) (era_next me (Down b) n)
+era_goes me b n w =
+    choice (StepGoes me.geometry.wide (Down b) w (7 + redo_steps me.geometry.wide + 0)) (ltb (last_era (Down b)) n) (Answer (Err (fault.EraSpent n))) (first_next me n)
     (λ z. omega arith)
-    (λ z. (tt, omega arith))
+    (λ z. first_goes me.geometry.wide b n w)
 
 -- an exchange that finds the header that was read
 exchanged_owes : (me : Me) (b : ℕ) (p : Spot) (e : ℕ) (h : Half) (k n : ℕ) (w : Spot → ℕ) → PartFits (Down b) h → n ≡ k → StepOwes me (Down b) p (point.Exchange e h k) n w
@@ -116,12 +128,13 @@ module _ (me : Me) (slot b : ℕ) (p : Spot) (r0 : Memo) (w : Spot → ℕ) (r :
   -- the word step at a point of a step down
   pub down_owes : (y : StepPoint) → is_over y ≡ false → Stands me w r f tr → CanStep me slot (Down b) p r0 → PointFits me (Down b) y → PointHolds me slot (Down b) p r0 (r me.who) y → point_alone (Down b) y w
       → let a : Ask = step_ask_at me slot (Down b) y in let s = spot_at me.geometry (classes w) (at_of a) in StepOwes me (Down b) p y (seen_of a (w s)) (words_after w a s)
-  down_owes point.Era o st can fits holds is = record { loss = tt; goes = era_goes b (w (spot_at me.geometry (classes w) (at_of (step_ask_at me slot (Down b) point.Era)))) w }
+  down_owes point.Era o st can fits holds is = record { loss = tt; goes = era_goes me b (w (spot_at me.geometry (classes w) (at_of (step_ask_at me slot (Down b) point.Era)))) w }
+  down_owes (point.More e) o st can fits holds is = record { loss = tt; goes = (tt, omega arith) }
   down_owes (point.Redo e) o st can fits holds is = record { loss = tt; goes = (tt, omega arith) }
   down_owes (point.Load e h) o st can fits holds is =
       let place : spot_at me.geometry (classes w) b ≡ Head b = half_block me slot p r0 w r e st.held st.who (Down b) h can fits.0 fits.1 holds.has in
       record { loss = tt; goes = header_goes me b e h (w (spot_at me.geometry (classes w) b)) w (ap w (sym place)) }
-  down_owes (point.Row e h k) o st can fits holds is = record { loss = tt; goes = row_goes b e h k (w (spot_at me.geometry (classes w) (row_address me (header_of k).client))) w is }
+  down_owes (point.Row e h k) o st can fits holds is = record { loss = tt; goes = row_goes me.geometry.wide b e h k (w (spot_at me.geometry (classes w) (row_address me (header_of k).client))) w is }
   down_owes (point.Show e h k) o st can fits holds is = record { loss = tt; goes = (shown_words e h k st holds is, omega arith) }
   down_owes (point.Exchange e h k) o st can fits holds is =
       let place : spot_at me.geometry (classes w) b ≡ Head b = half_block me slot p r0 w r e st.held st.who (Down b) h can fits.0 fits.1 holds.has.0 in
@@ -134,19 +147,19 @@ module _ (me : Me) (slot b : ℕ) (p : Spot) (r0 : Memo) (w : Spot → ℕ) (r :
 -- ---- in any frame
 
 -- where a step leads it knows what it has to, and has less than n left or over
-goes_alone : (x : Aim) (w : Spot → ℕ) (n : ℕ) (z : StepNext) → StepGoes x w n z → Outcome (option_map down_answer (answer_of z)) (point_alone x (point_of z) w) (λ a. Unit {0})
-goes_alone x w n (Point y) h = h.0
-goes_alone x w n (Answer a) h = tt
+goes_alone : (wide : Bool) (x : Aim) (w : Spot → ℕ) (n : ℕ) (z : StepNext) → StepGoes wide x w n z → Outcome (option_map down_answer (answer_of z)) (point_alone x (point_of z) w) (λ a. Unit {0})
+goes_alone wide x w n (Point y) h = h.0
+goes_alone wide x w n (Answer a) h = tt
 
-goes_less : (x : Aim) (w : Spot → ℕ) (n : ℕ) (z : StepNext) → StepGoes x w n z → Outcome (option_map down_answer (answer_of z)) (point_left (point_of z) < n) (λ a. step_saved a < n)
-goes_less x w n (Point y) h = h.1
-goes_less x w n (Answer a) h = h
+goes_less : (wide : Bool) (x : Aim) (w : Spot → ℕ) (n : ℕ) (z : StepNext) → StepGoes wide x w n z → Outcome (option_map down_answer (answer_of z)) (point_left wide (point_of z) < n) (λ a. step_saved a < n)
+goes_less wide x w n (Point y) h = h.1
+goes_less wide x w n (Answer a) h = h
 
 -- what is owed of a word step is paid
 owes_paid : (me : Me) (slot : ℕ) (x : Aim) (p : Spot) (y : StepPoint) (n : ℕ) (w : Spot → ℕ) → StepOwes me x p y n w → IsPaid down_control (step_event p) step_alone step_left step_saved (record { me = me; slot = slot; aim = x; point = y }) n w
 owes_paid me slot x p y n w h =
-    let most : ℕ = point_left y + pay * weight (step_event_at me x p y n) in
-    record { loss = h.loss; alone = goes_alone x w most (step_next_at me x y n) h.goes; paid = goes_less x w most (step_next_at me x y n) h.goes }
+    let most : ℕ = point_left me.geometry.wide y + pay * weight (step_event_at me x p y n) in
+    record { loss = h.loss; alone = goes_alone me.geometry.wide x w most (step_next_at me x y n) h.goes; paid = goes_less me.geometry.wide x w most (step_next_at me x y n) h.goes }
 
 -- a step down at p that works alone ends
 pub down_ends_at : (p : Spot) → EndsAlone down_control (step_event p) step_alone step_left step_saved (DownFitsAt p)

@@ -3,6 +3,7 @@
 ghost use Rattle.std.specs.Prelude.{◌≡◌, ℕ, ◌+◌, Bool, Result, Ok, Err};
 ghost use Rattle.shm_graph.specs.declared.ask.Me.{Me as AMe};
 ghost use Rattle.shm_graph.specs.declared.spot.Spot.{Spot as ASpot};
+ghost use Rattle.shm_graph.specs.Bounds.{redo_steps};
 ghost use Rattle.shm_calls.specs.CallsControl.{calls_does, calls_of};
 ghost use Rattle.shm_calls.specs.CallsFit.{CallsFits};
 ghost use Rattle.shm_calls.specs.Words.{word_control};
@@ -26,11 +27,11 @@ ghost use Rattle.shm_alone.specs.StepEnds.{step_alone, step_left, step_saved};
 ghost use Rattle.shm_alone.specs.TearEnds.{tear_alone, tear_left, tear_saved};
 ghost use Rattle.shm_alone.specs.TestEnds.{test_rest, test_saved};
 
-/// A step down that works alone ends: before its first word step it needs to know nothing of the words and has 8 word steps left, its
-/// exchange doesn't fail, and where it is done the reference that it took away has paid for 200 more.
+/// A step down that works alone ends: before its first word step it needs to know nothing of the words and has 8 word steps left (9 in
+/// format 2), its exchange doesn't fail, and where it is done the reference that it took away has paid for 200 more.
 pub fn steps_end()
     ensures ends { (p : ASpot) → EndsAlone down_control (step_event p) step_alone step_left step_saved (DownFitsAt p) }
-    ensures begins { (m : AState) (w : ASpot → ℕ) → m.point ≡ Era → step_alone m w × (step_left m ≡ 8) }
+    ensures begins { (m : AState) (w : ASpot → ℕ) → m.point ≡ Era → step_alone m w × (step_left m ≡ 7 + redo_steps m.me.geometry.wide) }
     ensures done { (z : Bool) → step_saved (Ok z) ≡ 200 }
     ensures spent { (e : ASpent) → step_saved (Err e) ≡ 0 }
 {}

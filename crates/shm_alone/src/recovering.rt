@@ -4,6 +4,7 @@ ghost use Rattle.std.specs.Prelude.{◌≡◌, ℕ, ◌+◌, ◌*◌, ◌^◌, �
 ghost use Rattle.shm_words.specs.Layout.{GeometryFits};
 ghost use Rattle.shm_graph.specs.declared.ask.Me.{Me as AMe};
 ghost use Rattle.shm_graph.specs.declared.spot.Spot.{Spot as ASpot};
+ghost use Rattle.shm_graph.specs.Bounds.{redo_steps};
 ghost use Rattle.shm_calls.specs.CallsControl.{calls_does, calls_of};
 ghost use Rattle.shm_calls.specs.CallsFit.{CallsFits};
 ghost use Rattle.shm_calls.specs.Words.{word_control};
@@ -26,7 +27,7 @@ ghost use Rattle.shm_recover.specs.Scan.Control.{scan_parts, scanning};
 ghost use Rattle.shm_recover.specs.Scan.{scan_plan};
 ghost use Rattle.shm_recover.specs.TakeBack.Control.{back_parts, taking_back};
 ghost use Rattle.shm_recover.specs.TakeBack.{back_plan};
-ghost use Rattle.shm_alone.specs.Alone.{EndsAlone};
+ghost use Rattle.shm_alone.specs.Alone.{EndsAlone, left_limit};
 ghost use Rattle.shm_alone.specs.BackEnds.{back_alone, back_left};
 ghost use Rattle.shm_alone.specs.GiveEnds.{give_alone, give_left, none_over};
 ghost use Rattle.shm_alone.specs.JoinEnds.{join_alone, join_left};
@@ -51,11 +52,11 @@ pub fn leave_ends()
     ensures few { (me : AMe) → GeometryFits me.geometry → leave_left (calls_of leave_plan (leaving me)) ≤ 2 ^ 30 }
 {}
 
-/// A mending that works alone ends: before its first word step it needs to know nothing of the words, and has 16 word steps left and one for
-/// each client.
+/// A mending that works alone ends: before its first word step it needs to know nothing of the words, and has 16 word steps left (17 in
+/// format 2) and one for each client.
 pub fn mend_ends()
     ensures ends { EndsAlone mend (calls_does mend_parts mend_plan) mend_alone mend_left none_over (CallsFits mend_parts mend_plan) }
-    ensures begins { (me : AMe) (w : ASpot → ℕ) → mend_alone (calls_of mend_plan (mending me)) w × (mend_left (calls_of mend_plan (mending me)) ≡ me.geometry.clients + 16) }
+    ensures begins { (me : AMe) (w : ASpot → ℕ) → mend_alone (calls_of mend_plan (mending me)) w × (mend_left (calls_of mend_plan (mending me)) ≡ me.geometry.clients + 15 + redo_steps me.geometry.wide) }
 {}
 
 /// Taking back blocks alone ends: before its first word step it needs to know nothing of the words, and has 200 word steps left for each client
@@ -87,9 +88,9 @@ pub fn give_up_ends()
 {}
 
 /// A recovery that works alone ends: before its first word step it needs to know nothing of the words, and has 205 word steps left for each
-/// client, 320002 for each segment, and 196, whatever the dead client left.
+/// client, 320002 for each segment, and 196 (197 in format 2), whatever the dead client left.
 pub fn recover_ends()
     ensures ends { EndsAlone recover (calls_does recover_parts recover_plan) recover_alone recover_left none_over (CallsFits recover_parts recover_plan) }
-    ensures begins { (me : AMe) (w : ASpot → ℕ) → recover_alone (calls_of recover_plan (recovering me)) w × (recover_left (calls_of recover_plan (recovering me)) ≡ 205 * me.geometry.clients + 320002 * me.geometry.segments + 196) }
-    ensures few { (me : AMe) → GeometryFits me.geometry → recover_left (calls_of recover_plan (recovering me)) ≤ 2 ^ 30 }
+    ensures begins { (me : AMe) (w : ASpot → ℕ) → recover_alone (calls_of recover_plan (recovering me)) w × (recover_left (calls_of recover_plan (recovering me)) ≡ 205 * me.geometry.clients + 320002 * me.geometry.segments + 195 + redo_steps me.geometry.wide) }
+    ensures few { (me : AMe) → GeometryFits me.geometry → recover_left (calls_of recover_plan (recovering me)) ≤ left_limit me.geometry.wide }
 {}

@@ -42,12 +42,12 @@ settled_is k h = grind (arith, nat_tests)
 settled_says : (k : ℕ) → is_settled k ≡ true → (k ≡ 0) ⊎ (k ≡ 3)
 settled_says k h = grind (arith, nat_tests)
 
-suits_is : (n k t : ℕ) → TagSuits n k t → tag_suits n k (tag_of t) ≡ true
-suits_is n k t s = ap (tag_suits n k) s.is ∙ and_from (leb (2 + s.tag.refs + s.tag.plain) k) (ltb s.tag.author n) (let r = s.room in grind (arith, nat_tests)) (let a = s.author in grind (arith, nat_tests))
+suits_is : (wide : Bool) (n k t : ℕ) → TagSuits wide n k t → tag_suits n k (tag_of wide t) ≡ true
+suits_is wide n k t s = ap (tag_suits n k) s.is ∙ and_from (leb (2 + s.tag.refs + s.tag.plain) k) (ltb s.tag.author n) (let r = s.room in grind (arith, nat_tests)) (let a = s.author in grind (arith, nat_tests))
 
-suits_says : (n k t : ℕ) (o : Option ATag) → tag_of t ≡ o → tag_suits n k o ≡ true → TagSuits n k t
-suits_says n k t None e h = absurd (false≢true h)
-suits_says n k t (Some tag) e h =
+suits_says : (wide : Bool) (n k t : ℕ) (o : Option ATag) → tag_of wide t ≡ o → tag_suits n k o ≡ true → TagSuits wide n k t
+suits_says wide n k t None e h = absurd (false≢true h)
+suits_says wide n k t (Some tag) e h =
     let p = and_parts (leb (2 + tag.refs + tag.plain) k) (ltb tag.author n) h in
     let r = p.0 in
     let a = p.1 in
@@ -128,16 +128,16 @@ module _ (g : Geometry) (w : Spot → ℕ) (h : IsClean g w) where
   clean_tag : (p : Spot) → is_bad_tag g w p ≡ false
   clean_tag (Tag b) =
       elim (cases_Bool (headers w b).live) [
-        | inl l ↦ and_false _ _ (ap not (suits_is g.clients (class_at g (classes w) b) (w (Tag b)) (h.tags b l)))
-        | inr d ↦ ap (λ l. l && not (tag_suits g.clients (class_at g (classes w) b) (tag_of (w (Tag b))))) d
+        | inl l ↦ and_false _ _ (ap not (suits_is g.wide g.clients (class_at g (classes w) b) (w (Tag b)) (h.tags b l)))
+        | inr d ↦ ap (λ l. l && not (tag_suits g.clients (class_at g (classes w) b) (tag_of g.wide (w (Tag b))))) d
       ]
   clean_tag _ = refl
 
   clean_reference : (p : Spot) → is_bad_reference g w p ≡ false
   clean_reference p =
-      elim (cases_eq (references w p) 0) [
-        | inl z ↦ ap (λ e. not e && not (is_counted w (references w p))) (eq-eqb (references w p) 0 z)
-        | inr n ↦ (let l = h.targets p n in and_false _ _ (ap not (and_from (headers w (references w p)).live (ltb 0 (headers w (references w p)).count) l (above_zero _ (h.counts (references w p) l).0))))
+      elim (cases_eq (references g.wide w p) 0) [
+        | inl z ↦ ap (λ e. not e && not (is_counted w (references g.wide w p))) (eq-eqb (references g.wide w p) 0 z)
+        | inr n ↦ (let l = h.targets p n in and_false _ _ (ap not (and_from (headers w (references g.wide w p)).live (ltb 0 (headers w (references g.wide w p)).count) l (above_zero _ (h.counts (references g.wide w p) l).0))))
       ]
 
   clean_settled : (c : ℕ) → c < g.clients → is_pending w c ≡ false
@@ -156,7 +156,7 @@ module _ (g : Geometry) (w : Spot → ℕ) (h : IsClean g w) where
   clean_verdict =
       let c = none_below g.clients (is_pending w) clean_settled in
       let b = none_below (total_of g) (is_wrong g w) (λ a l. clean_right a) in
-      (live_count g w, references_in_all g (classes w) (references w), ap (by_client g w) c ∙ ap (by_block g w) b)
+      (live_count g w, references_in_all g (classes w) (references g.wide w), ap (by_client g w) c ∙ ap (by_block g w) b)
 
 pub clean_no_fault : (g : Geometry) (ws : List ℕ) → GeometryFits g → IsClean g (see g ws) → words_fault_of g ws ≡ None
 clean_no_fault g ws f h =
@@ -168,16 +168,16 @@ clean_no_fault g ws f h =
 -- ---- and where there is none and the verdict is that, the pool is clean
 
 -- a reference word that names something isn't 0
-names_in : (w : Spot → ℕ) (p : Spot) → references w p ≢ 0 → w p ≢ 0
-names_in w (Home c) n = n
-names_in w (Root c k) n = n
-names_in w (Slot s r k) n = n
-names_in w (Body b i) n = λ z. n (ap (λ x. cond (ltb i ((words_of w).refs b)) x 0) z ∙ nothing (ltb i ((words_of w).refs b)))
+names_in : (wide : Bool) (w : Spot → ℕ) (p : Spot) → references wide w p ≢ 0 → w p ≢ 0
+names_in wide w (Home c) n = n
+names_in wide w (Root c k) n = n
+names_in wide w (Slot s r k) n = n
+names_in wide w (Body b i) n = λ z. n (ap (λ x. cond (ltb i ((words_of wide w).refs b)) x 0) z ∙ nothing (ltb i ((words_of wide w).refs b)))
   where
     nothing : (b : Bool) → ◌≡◌ {A = ℕ} (cond b 0 0) 0
     nothing true = refl
     nothing false = refl
-names_in w _ n = absurd (n refl)
+names_in wide w _ n = absurd (n refl)
 
 module _ (g : Geometry) (ws : List ℕ) (f : GeometryFits g) where
   -- no spot of the pool passes the test
@@ -207,19 +207,19 @@ module _ (g : Geometry) (ws : List ℕ) (f : GeometryFits g) where
         let p = and_parts (headers (see g ws) b).live (ltb (headers (see g ws) b).client g.clients) e in
         (p.0, so_below _ _ p.1)
 
-    tag_words : (b : ℕ) → IsLive (headers (see g ws)) b → TagSuits g.clients (class_at g (classes (see g ws)) b) (see g ws (Tag b))
+    tag_words : (b : ℕ) → IsLive (headers (see g ws)) b → TagSuits g.wide g.clients (class_at g (classes (see g ws)) b) (see g ws (Tag b))
     tag_words b l =
         let is = is_at_block g (classes (see g ws)) b (seen_stands g ws (Head b) f (live_not_zero (see g ws (Head b)) l)) in
         let n = (block_within g (classes (see g ws)) b is).2 in
         let k : IsClass (class_at g (classes (see g ws)) b) = elim (page_words _ _) [ inl z ↦ absurd (n z) | inr c ↦ c ] in
         let t = tag_spot g (classes (see g ws)) b is k in
         let e : is_bad_tag g (see g ws) (Tag b) ≡ false = ap (is_bad_tag g (see g ws)) (sym t) ∙ tags (b + 1) (is_below g (classes (see g ws)) (b + 1) (Tag b) t (λ z. cc)) in
-        suits_says g.clients (class_at g (classes (see g ws)) b) (see g ws (Tag b)) _ refl (not_false _ (second_fails _ _ e l))
+        suits_says g.wide g.clients (class_at g (classes (see g ws)) b) (see g ws (Tag b)) _ refl (not_false _ (second_fails _ _ e l))
 
-    named_blocks : (p : Spot) → references (see g ws) p ≢ 0 → IsLive (headers (see g ws)) (references (see g ws) p)
+    named_blocks : (p : Spot) → references g.wide (see g ws) p ≢ 0 → IsLive (headers (see g ws)) (references g.wide (see g ws) p)
     named_blocks p n =
-        let e = not_false _ (second_fails _ _ (at_spot is_bad_reference targets p (names_in (see g ws) p n)) (not_zero (references (see g ws) p) n)) in
-        (and_parts (headers (see g ws) (references (see g ws) p)).live (ltb 0 (headers (see g ws) (references (see g ws) p)).count) e).0
+        let e = not_false _ (second_fails _ _ (at_spot is_bad_reference targets p (names_in g.wide (see g ws) p n)) (not_zero (references g.wide (see g ws) p) n)) in
+        (and_parts (headers (see g ws) (references g.wide (see g ws) p)).live (ltb 0 (headers (see g ws) (references g.wide (see g ws) p)).count) e).0
 
     right_counts : (b : ℕ) → IsLive (headers (see g ws)) b → (0 < (headers (see g ws) b).count) × ((headers (see g ws) b).count ≡ found_at g (see g ws) b)
     right_counts b l =

@@ -15,7 +15,7 @@ use Rattle.shm_audit.specs.Verdicts.{AreFound}
 
 -- what the word at an address names
 abbrev pub named : Geometry → List ℕ → ℕ → ℕ
-named g ws a = references (see g ws) (spot_at g (classes_in g ws) a)
+named g ws a = references g.wide (see g ws) (spot_at g (classes_in g ws) a)
 
 -- how many of the words below an address name each block, and how many name any
 abbrev pub FoundBelow : Geometry → List ℕ → ℕ → List ℕ → Type 0
@@ -93,11 +93,11 @@ unfolding references_to
 all_found g ws n found f e h = λ b d l.
     h b d l
     ∙ (ap (λ k. sum_below k (λ a. one_if (eqb (named g ws a) b))) e
-    ∙ ap (λ c. sum_below (total_of g) (λ a. one_if (eqb (references (see g ws) (spot_at g c a)) b))) (sym (classes-see g ws f)))
+    ∙ ap (λ c. sum_below (total_of g) (λ a. one_if (eqb (references g.wide (see g ws) (spot_at g c a)) b))) (sym (classes-see g ws f)))
 
-pub all_refs : (g : Geometry) (ws : List ℕ) (n refs : ℕ) → GeometryFits g → n ≡ total_of g → RefsBelow g ws n refs → refs ≡ references_in_all g (classes (see g ws)) (references (see g ws))
+pub all_refs : (g : Geometry) (ws : List ℕ) (n refs : ℕ) → GeometryFits g → n ≡ total_of g → RefsBelow g ws n refs → refs ≡ references_in_all g (classes (see g ws)) (references g.wide (see g ws))
 unfolding references_in_all
 all_refs g ws n refs f e h =
     h
     ∙ (ap (λ k. sum_below k (λ a. cond (eqb (named g ws a) 0) 0 1)) e
-    ∙ ap (λ c. sum_below (total_of g) (λ a. cond (eqb (references (see g ws) (spot_at g c a)) 0) 0 1)) (sym (classes-see g ws f)))
+    ∙ ap (λ c. sum_below (total_of g) (λ a. cond (eqb (references g.wide (see g ws) (spot_at g c a)) 0) 0 1)) (sym (classes-see g ws f)))

@@ -66,15 +66,15 @@ header_test g ws a b e =
     let s = see_at g ws a (Head b) (is_below g (classes_in g ws) a (Head b) e (λ z. cc)) e in
     ap (is_bad_header g (see g ws)) e ∙ ap (λ k. not (eqb k 0) && not ((header_of k).live && ltb (header_of k).client g.clients)) s
 
-pub tag_test : (g : Geometry) (ws : List ℕ) (a b : ℕ) → GeometryFits g → spot_at g (classes_in g ws) a ≡ Tag b → test_at is_bad_tag g ws a ≡ ((header_of (get_or ws b 0)).live && not (tag_suits g.clients (class_at g (classes_in g ws) b) (tag_of (get_or ws a 0))))
+pub tag_test : (g : Geometry) (ws : List ℕ) (a b : ℕ) → GeometryFits g → spot_at g (classes_in g ws) a ≡ Tag b → test_at is_bad_tag g ws a ≡ ((header_of (get_or ws b 0)).live && not (tag_suits g.clients (class_at g (classes_in g ws) b) (tag_of g.wide (get_or ws a 0))))
 tag_test g ws a b f e =
     let t = tag_block g (classes_in g ws) a b e in
     let s = see_at g ws a (Tag b) t.2 e in
     let h = see_at g ws b (Head b) (is_below g (classes_in g ws) b (Head b) t.0 (λ z. cc)) t.0 in
     ap (is_bad_tag g (see g ws)) e
-    ∙ (ap (λ k. (header_of k).live && not (tag_suits g.clients (class_at g (classes (see g ws)) b) (tag_of (see g ws (Tag b))))) h
-    ∙ (ap (λ c. (header_of (get_or ws b 0)).live && not (tag_suits g.clients (class_at g c b) (tag_of (see g ws (Tag b))))) (classes-see g ws f)
-    ∙ ap (λ k. (header_of (get_or ws b 0)).live && not (tag_suits g.clients (class_at g (classes_in g ws) b) (tag_of k))) s))
+    ∙ (ap (λ k. (header_of k).live && not (tag_suits g.clients (class_at g (classes (see g ws)) b) (tag_of g.wide (see g ws (Tag b))))) h
+    ∙ (ap (λ c. (header_of (get_or ws b 0)).live && not (tag_suits g.clients (class_at g c b) (tag_of g.wide (see g ws (Tag b))))) (classes-see g ws f)
+    ∙ ap (λ k. (header_of (get_or ws b 0)).live && not (tag_suits g.clients (class_at g (classes_in g ws) b) (tag_of g.wide k))) s))
 
 pub other_tag : (g : Geometry) (w : Spot → ℕ) (p : Spot) → ((b : ℕ) → p ≡ Tag b → ⊥) → is_bad_tag g w p ≡ false
 other_tag g w (Tag b) h = absurd (h b refl)

@@ -18,9 +18,9 @@ use Rattle.shm_graph.proofs.Spots.Spotting.{block_within}
 use Rattle.shm_graph.proofs.Spots.WordsAt.{block_header, block_tag, body_in}
 
 -- how many references a live block has
-pub refs_live : (g : Geometry) (ws : List ℕ) (b : ℕ) → IsBlock g (classes_in g ws) b → spot_at g (classes_in g ws) (b + 1) ≡ Tag b → (header_of (get_or ws b 0)).live ≡ true → (words_of (see g ws)).refs b ≡ tag_refs (get_or ws (b + 1) 0)
+pub refs_live : (g : Geometry) (ws : List ℕ) (b : ℕ) → IsBlock g (classes_in g ws) b → spot_at g (classes_in g ws) (b + 1) ≡ Tag b → (header_of (get_or ws b 0)).live ≡ true → (words_of g.wide (see g ws)).refs b ≡ tag_refs g.wide (get_or ws (b + 1) 0)
 refs_live g ws b is tag live =
-    cond-true (header_of (see g ws (Head b))).live (tag_refs (see g ws (Tag b))) 0 (ap (λ w. (header_of w).live) (block_header g ws b is) ∙ live) ∙ ap tag_refs (block_tag g ws b tag)
+    cond-true (header_of (see g ws (Head b))).live (tag_refs g.wide (see g ws (Tag b))) 0 (ap (λ w. (header_of w).live) (block_header g ws b is) ∙ live) ∙ ap (tag_refs g.wide) (block_tag g ws b tag)
 
 -- the place of an address in a page's body
 pub body_place : (g : Geometry) (a : ℕ) → bodies g ≤ a → a < total_of g → place_at g a ≡ place.Body ((a - bodies g) / 2048) ((a - bodies g) / 128 % 16) ((a - bodies g) % 128)

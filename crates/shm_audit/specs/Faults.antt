@@ -41,7 +41,7 @@ tag_suits n k (Some t) = nat_le (2 + t.refs + t.plain) k && nat_lt t.author n
 
 -- the tag of a live block that is none, doesn't fit in the block or is by an author that the pool doesn't have
 abbrev pub is_bad_tag : Geometry → (Spot → ℕ) → Spot → Bool
-is_bad_tag g w (Tag b) = (headers w b).live && not (tag_suits g.clients (class_at g (classes w) b) (tag_of (w (Tag b))))
+is_bad_tag g w (Tag b) = (headers w b).live && not (tag_suits g.clients (class_at g (classes w) b) (tag_of g.wide (w (Tag b))))
 is_bad_tag g w _ = false
 
 -- whether a live block with a count above 0 begins at this address
@@ -50,7 +50,7 @@ is_counted w b = (headers w b).live && nat_lt 0 (headers w b).count
 
 -- a reference that names no such block
 abbrev pub is_bad_reference : Geometry → (Spot → ℕ) → Spot → Bool
-is_bad_reference g w p = not (references w p == 0) && not (is_counted w (references w p))
+is_bad_reference g w p = not (references g.wide w p == 0) && not (is_counted w (references g.wide w p))
 
 -- the least address whose spot passes the test
 abbrev pub first_where : Geometry → (Spot → ℕ) → (Geometry → (Spot → ℕ) → Spot → Bool) → Option ℕ

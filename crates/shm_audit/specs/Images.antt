@@ -1,13 +1,18 @@
 -- the bytes of an image
-use Rattle.std.specs.Prelude.{ℕ, ◌/◌, List, ◌∷◌, ◌++◌, length, map, drop, codes, slice_index}
+use Rattle.std.specs.Prelude.{ℕ, ◌/◌, Bool, true, false, List, ◌∷◌, ◌++◌, length, map, drop, codes, slice_index}
 use Rattle.std.specs.List.{flat_map}
 use Rattle.std.specs.Int.{w64, from_le_bytes, to_le_bytes}
 use Rattle.std.specs.Simd.{first_chunks}
 use Rattle.shm_words.specs.declared.geometry.Geometry.{Geometry}
 
--- `CXLSHM01`, and then the number of clients, that of segments, and the words, each as 8 bytes with the lowest first
+-- what the image of a pool of format 2 (`true`) or of format 1 begins with
+abbrev pub mark : Bool → List ℕ
+mark false = codes "CXLSHM01"
+mark true = codes "CXLSHM02"
+
+-- the mark of its format, and then the number of clients, that of segments, and the words, each as 8 bytes with the lowest first
 abbrev pub image_of : Geometry → List ℕ → List ℕ
-image_of g ws = codes "CXLSHM01" ++ flat_map (to_le_bytes w64) (g.clients ∷ g.segments ∷ ws)
+image_of g ws = mark g.wide ++ flat_map (to_le_bytes w64) (g.clients ∷ g.segments ∷ ws)
 
 -- what runs of 8 bytes say, each as a number with its lowest byte first
 abbrev pub numbers : List (List ℕ) → List ℕ
@@ -19,7 +24,7 @@ numbers_in bytes = numbers (first_chunks 8 (length bytes / 8) bytes)
 
 -- the sizes that an image announces
 abbrev pub geometry_in : List ℕ → Geometry
-geometry_in image = record { clients = slice_index (numbers_in image) 1; segments = slice_index (numbers_in image) 2 }
+geometry_in image = record { clients = slice_index (numbers_in image) 1; segments = slice_index (numbers_in image) 2; wide = false }
 
 -- the words in an image
 abbrev pub words_in : List ℕ → List ℕ

@@ -20,7 +20,7 @@ is_pending w c = not (is_settled (w (Status c)))
 
 -- how many reference words name a block
 abbrev pub found_at : Geometry → (Spot → ℕ) → ℕ → ℕ
-found_at g w b = references_to g (classes w) (references w) b
+found_at g w b = references_to g (classes w) (references g.wide w) b
 
 -- a live block whose count is 0 or isn't the number of references to it
 abbrev pub is_wrong : Geometry → (Spot → ℕ) → ℕ → Bool
@@ -33,7 +33,7 @@ block_verdict g w b = if (headers w b).count == 0 then Uncounted b else WrongCou
 -- the verdict by the first block that is wrong, if one is
 abbrev pub by_block : Geometry → (Spot → ℕ) → Option ℕ → Verdict
 by_block g w (Some b) = block_verdict g w b
-by_block g w None = Clean (live_count g w) (references_in_all g (classes w) (references w))
+by_block g w None = Clean (live_count g w) (references_in_all g (classes w) (references g.wide w))
 
 -- the verdict by the first identity that is pending, if one is
 abbrev pub by_client : Geometry → (Spot → ℕ) → Option ℕ → Verdict

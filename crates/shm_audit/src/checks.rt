@@ -12,7 +12,7 @@ ghost use Rattle.shm_audit.specs.Faults.{first_fault, is_page_word, is_bad_page,
 use crate::fault::ImageFault;
 use crate::words::{class_at, spot, word};
 use shm_graph::Spot;
-use shm_words::{Geometry, Header, Tag};
+use shm_words::{Geometry, Header};
 
 /// Refuses the first page word that is neither 0 nor a class.
 pub fn check_pages(geometry: Geometry, words: &[[u8; 8]]) -> Result<(), ImageFault>
@@ -99,9 +99,9 @@ fn is_bad_tag(geometry: Geometry, words: &[[u8; 8]], at: u32) -> bool
 
 // whether a word is the tag of a block of so many words, by a client of the pool
 fn suits(geometry: Geometry, class: u64, word: u64) -> bool
-    ensures { result ≡ tag_suits geometry.clients class (tag_of word) }
+    ensures { result ≡ tag_suits geometry.clients class (tag_of geometry.wide word) }
 {
-    match Tag::unpack(word) {
+    match geometry.read_tag(word) {
         Some(tag) => {
             2 + u64::from(tag.refs) + u64::from(tag.plain) <= class
                 && tag.author < geometry.clients()

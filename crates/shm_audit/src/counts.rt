@@ -68,7 +68,7 @@ pub fn count_references(
     requires { GeometryFits geometry }
     ensures ok { IfOk result (λ c. first_fault geometry (numbers words.now) is_bad_reference fault.BadRef ≡ None) }
     ensures found { IfOk result (λ c. AreFound geometry (see geometry (numbers words.now)) c.found.items) }
-    ensures refs { IfOk result (λ c. c.refs ≡ references_in_all geometry (classes (see geometry (numbers words.now))) (references (see geometry (numbers words.now)))) }
+    ensures refs { IfOk result (λ c. c.refs ≡ references_in_all geometry (classes (see geometry (numbers words.now))) (references geometry.wide (see geometry (numbers words.now)))) }
     ensures err { IfErr result (λ e. StopsBy (first_fault geometry (numbers words.now) is_bad_reference fault.BadRef) e) }
 {
     let mut counts = Counts::none(alloc, geometry.total()).map_err(AuditStop::Memory)?;
@@ -130,7 +130,7 @@ pub fn judge_blocks(
     requires fits { GeometryFits geometry }
     requires used { blocks.now ≡ used_in geometry (numbers words.now) }
     requires found { AreFound geometry (see geometry (numbers words.now)) counts.now.found.items }
-    requires refs { counts.now.refs ≡ references_in_all geometry (classes (see geometry (numbers words.now))) (references (see geometry (numbers words.now))) }
+    requires refs { counts.now.refs ≡ references_in_all geometry (classes (see geometry (numbers words.now))) (references geometry.wide (see geometry (numbers words.now))) }
     ensures { result ≡ by_block geometry (see geometry (numbers words.now)) (least_below (total_of geometry) (is_wrong geometry (see geometry (numbers words.now)))) }
 {
     let mut live = 0;

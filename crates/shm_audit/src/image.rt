@@ -20,8 +20,8 @@ const MAGIC: u64 = 0x3130_4d48_534c_5843;
 /// How many bytes stand before the words of an image.
 const FRAME: usize = 24;
 
-/// The image of a pool of these sizes with these words: `CXLSHM01`, the number of clients, the number of segments, and the words,
-/// each as 8 bytes with the lowest first.
+/// The image of a pool of these sizes with these words: `CXLSHM01`, or `CXLSHM02` for a pool of format 2, the number of clients, the
+/// number of segments, and the words, each as 8 bytes with the lowest first.
 ///
 /// It takes as much memory as it is long: 24 bytes, and 8 for each word.
 pub fn write_image(alloc: Global, geometry: Geometry, words: &[u64]) -> Result<Vec<u8>, AllocError>
@@ -30,7 +30,12 @@ pub fn write_image(alloc: Global, geometry: Geometry, words: &[u64]) -> Result<V
     ensures { IfOk result (λ v. v.items ≡ image_of geometry words.now) }
 {
     let mut image = Vec::with_capacity(alloc, FRAME + 8 * words.len())?;
-    push_text(&mut image, "CXLSHM01")?;
+    let mark = if geometry.is_wide() {
+        "CXLSHM02"
+    } else {
+        "CXLSHM01"
+    };
+    push_text(&mut image, mark)?;
     push_word(&mut image, u64::from(geometry.clients()))?;
     push_word(&mut image, u64::from(geometry.segments()))?;
     for word in words {
@@ -74,7 +79,7 @@ pub(crate) fn open_image(image: &[u8]) -> Result<(Geometry, &[[u8; 8]]), ImageFa
 
 // the sizes of a pool, where a pool may have them
 fn read_sizes(clients: u64, segments: u64) -> Result<Geometry, ImageFault>
-    ensures sizes { IfOk result (λ g. (g.clients ≡ clients) × (g.segments ≡ segments)) }
+    ensures sizes { IfOk result (λ g. (g.clients ≡ clients) × (g.segments ≡ segments) × (g.wide ≡ false)) }
     ensures fits { IfOk result (λ g. GeometryFits g) }
     ensures fault { IfErr result (λ f. (is_size clients segments ≡ false) × (f ≡ fault.Geometry clients segments)) }
 {
@@ -88,9 +93,9 @@ fn read_sizes(clients: u64, segments: u64) -> Result<Geometry, ImageFault>
     }
 }
 
-/// What `write_image` makes has no fault in its frame, and its sizes and its words are read in it.
+/// What `write_image` makes of a pool of format 1 has no fault in its frame, and its sizes and its words are read in it.
 pub fn image_reads_back()
-    ensures frame { (g : AGeometry) (ws : List ℕ) → GeometryFits g → length ws ≡ total_of g → ((i : ℕ) → slice_index ws i < 2 ^ 64) → frame_fault_of (image_of g ws) ≡ None }
-    ensures sizes { (g : AGeometry) (ws : List ℕ) → GeometryFits g → ((i : ℕ) → slice_index ws i < 2 ^ 64) → geometry_in (image_of g ws) ≡ g }
+    ensures frame { (g : AGeometry) (ws : List ℕ) → GeometryFits g → g.wide ≡ false → length ws ≡ total_of g → ((i : ℕ) → slice_index ws i < 2 ^ 64) → frame_fault_of (image_of g ws) ≡ None }
+    ensures sizes { (g : AGeometry) (ws : List ℕ) → GeometryFits g → g.wide ≡ false → ((i : ℕ) → slice_index ws i < 2 ^ 64) → geometry_in (image_of g ws) ≡ g }
     ensures words { (g : AGeometry) (ws : List ℕ) → GeometryFits g → ((i : ℕ) → slice_index ws i < 2 ^ 64) → words_in (image_of g ws) ≡ ws }
 {}

@@ -2,6 +2,7 @@
 
 ghost use Rattle.std.specs.Prelude.{◌≡◌, ◌≢◌, ◌+◌, ◌%◌, ◌<◌, ◌≤◌, slice_index, true};
 ghost use Rattle.shm_words.specs.Layout.{GeometryFits, total_of, bodies, address, is_in};
+ghost use Rattle.shm_words.specs.Tags.{tag_refs};
 ghost use Rattle.shm_graph.specs.declared.spot.Spot.TheVariants.{Tag};
 ghost use Rattle.shm_graph.specs.Spots.{see, spot_at, spot_of, block_spot, classes_in, class_at};
 ghost use Rattle.shm_graph.specs.Blocks.{headers, IsBlock};
@@ -58,6 +59,7 @@ fn spot_of(geometry: Geometry, words: &[[u8; 8]], at: u32, place: Place) -> Spot
         Place::Spare => Spot::Spare,
         Place::Status { c } => Spot::Status { c },
         Place::Redo { c } => Spot::Redo { c },
+        Place::RedoMore { c } => Spot::RedoMore { c },
         Place::Hold { c } => Spot::Hold { c },
         Place::Latch { c } => Spot::Latch { c },
         Place::Home { c } => Spot::Home { c },
@@ -130,15 +132,26 @@ pub fn header_at(geometry: Geometry, words: &[[u8; 8]], at: u32) -> Header
     }
 }
 
+// how many reference words a tag word shows
+fn refs_in(geometry: Geometry, word: u64) -> u8
+    ensures { result ≡ tag_refs geometry.wide word }
+{
+    if geometry.is_wide() {
+        (word / (1 << 34) % 32) as u8
+    } else {
+        (word / (1 << 30) % 32) as u8
+    }
+}
+
 // how many reference words a block has
 fn block_refs(geometry: Geometry, words: &[[u8; 8]], block: u32) -> u8
     requires fits { GeometryFits geometry }
     requires is { IsBlock geometry (classes_in geometry (numbers words.now)) block }
     requires tag { spot_at geometry (classes_in geometry (numbers words.now)) (block + 1) ≡ Tag block }
-    ensures { result ≡ (words_of (see geometry (numbers words.now))).refs block }
+    ensures { result ≡ (words_of geometry.wide (see geometry (numbers words.now))).refs block }
 {
     if Header::unpack(word(words, block)).live {
-        (word(words, block + 1) >> 30 & 31) as u8
+        refs_in(geometry, word(words, block + 1))
     } else {
         0
     }
@@ -148,7 +161,7 @@ fn block_refs(geometry: Geometry, words: &[[u8; 8]], block: u32) -> u8
 pub fn reference_at(geometry: Geometry, words: &[[u8; 8]], at: u32) -> u64
     requires fits { GeometryFits geometry }
     requires range { at < total_of geometry }
-    ensures { result ≡ references (see geometry (numbers words.now)) (spot_at geometry (classes_in geometry (numbers words.now)) at) }
+    ensures { result ≡ references geometry.wide (see geometry (numbers words.now)) (spot_at geometry (classes_in geometry (numbers words.now)) at) }
 {
     match spot(geometry, words, at) {
         Spot::Home { .. } | Spot::Root { .. } | Spot::Slot { .. } => word(words, at),

@@ -99,7 +99,7 @@ module _ {P C B A : Type 0} (k : Control C B) (q : Planned P C B A) (l : PlanLaw
   calls_inside : Inside whole (CallsFits k q)
   calls_inside m r0 r tr who fit going =
       let i = (l.parts m.plan).placed.inside m.call fit.rs r fit.t (subst (λ (me : Me). me.who < me.geometry.clients) (sym fit.me) who) fit.fits going in
-      subst (λ (me : Me). (0 < at_of (k.asks m.call)) × (at_of (k.asks m.call) < total_of me.geometry)) fit.me i
+      subst (λ (me : Me). at_of (k.asks m.call) < total_of me.geometry) fit.me i
 
   calls_back : Back whole (CallsGives k q)
   calls_back m n going goes r0 r tr a g = subst (λ (s : P). PlanGives k q s r0 r tr a) (same_start m.plan (k.after m.call n) (k.turns m.call n)) g

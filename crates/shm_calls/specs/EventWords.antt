@@ -28,7 +28,7 @@ IsEvent me a m does = (w : Spot → ℕ) (r : ℕ → Memo) (f : Frame) → Stan
 pub record EventFits (first : Bool) (does : ℕ → Event) (m : Word) (r0 r : Memo) (tr : Trail) : Type 0 where
   pub same : r ≡ r0
   pub none : tr ≡ []
-  pub inside : (0 < at_of m.ask) × (at_of m.ask < total_of m.me.geometry)
+  pub inside : at_of m.ask < total_of m.me.geometry
   pub kept : IsKept first m.me m.ask r0 (λ n x. Unit {0})
   pub told : IsEvent m.me m.ask r0 does
 
@@ -58,7 +58,7 @@ event_does does m n = does n
 -- it is made, its address is one of the pool, and the step is kept, with what holds after it, and is this event
 pub record IsEventWord (first : Bool) (me : Me) (a : Ask) (does : ℕ → Event) (after : Memo → ℕ → Memo → Type 0) (m : Word) (r : Memo) : Type 0 where
   pub made : m ≡ record { me = me; ask = a; over = false }
-  pub inside : (0 < at_of a) × (at_of a < total_of me.geometry)
+  pub inside : at_of a < total_of me.geometry
   pub kept : IsKept first me a r (after r)
   pub told : IsEvent me a r does
 
@@ -99,7 +99,7 @@ module _ (first : Bool) (me : Me) (a : Ask) (does : ℕ → Event) (after : Memo
       }
 
 -- a word step of a kind, with its event at the spot
-pub event_in : (first : Bool) (me : Me) (a : Ask) (does : ℕ → Event) (after : Memo → ℕ → Memo → Type 0) (m : Memo) (p : Spot) → (0 < at_of a) × (at_of a < total_of me.geometry) → IsThere first me a after m p → ((t : Step) → t.me ≡ me → event_by m t a p ≡ does t.seen)
+pub event_in : (first : Bool) (me : Me) (a : Ask) (does : ℕ → Event) (after : Memo → ℕ → Memo → Type 0) (m : Memo) (p : Spot) → at_of a < total_of me.geometry → IsThere first me a after m p → ((t : Step) → t.me ≡ me → event_by m t a p ≡ does t.seen)
     → KindKept first me a after m p → Makes first me a after m p → IsEventWord first me a does after (record { me = me; ask = a; over = false }) m
 event_in first me a does after m p inside there event kind makes =
     record {

@@ -72,7 +72,7 @@ read_facts g c load m test (spot.Page s q) n k h =
     (λ e. choice (Has k) (list_any (eqb s) m.owned) (record m { zeros = spot.Page s q ∷ m.zeros }) m (λ z. h) (λ z. h))
     (λ e. more_facts (Class s q n) k m.facts h)
 read_facts g c load m test (spot.Head b) n k h = more_facts (HeaderRead n) k m.facts h
-read_facts g c load m test (spot.Body b i) n k h = word_facts m (claim_of c m (b + 2 + i)) b i n k h
+read_facts g c load m test (spot.Body b i) n k h = word_facts m (claim_of g.wide c m (b + 2 + i)) b i n k h
 read_facts g c load m test _ n k h = h
 
 -- where a word was stored
@@ -101,27 +101,27 @@ untaken_facts c _ b m = refl
 lowered_facts : (n b : ℕ) (m : Memo) → (lowered n b m).facts ≡ m.facts
 lowered_facts n b m = choice (λ (x : Memo). x.facts ≡ m.facts) (n == 0) (record m { dying = m.dying ++ b ∷ []; known = filter (not_of b) m.known }) m (λ e. refl) (λ e. refl)
 
-committed_facts : (c : ℕ) (m : Memo) (o : Op) (to : ℕ) → (committed c m o to).facts ≡ m.facts
-committed_facts c m (op.Alloc Begun p b e) to = refl
-committed_facts c m (op.Up Begun p b e) to = unsent_facts c p b (record m { op = op.Up Committed p b e; made = without_made m b })
-committed_facts c m (op.Down Begun p b e) to =
+committed_facts : (wide : Bool) (c : ℕ) (m : Memo) (o : Op) (to : ℕ) → (committed wide c m o to).facts ≡ m.facts
+committed_facts wide c m (op.Alloc Begun p b e) to = refl
+committed_facts wide c m (op.Up Begun p b e) to = unsent_facts c p b (record m { op = op.Up Committed p b e; made = without_made m b })
+committed_facts wide c m (op.Down Begun p b e) to =
     let q : Memo = record m { op = op.Down Committed p b e; made = without_made m b } in
     let n : Memo = with_untaken c p b (with_unsent c p 0 q) in
     lowered_facts (header_of to).count b (cut c p (reparted c n p 0)) ∙ (untaken_facts c p b (with_unsent c p 0 q) ∙ unsent_facts c p 0 q)
-committed_facts c m (op.Change (Raising Begun) p a b e) to = refl
-committed_facts c m (op.Change (Lowering Open) p a b e) to = lowered_facts (header_of to).count a (cut c p (record m { op = op.Change (Lowering Closed) p a b e; made = without_made m a }))
-committed_facts c m _ to = refl
+committed_facts wide c m (op.Change (Raising Begun) p a b e) to = refl
+committed_facts wide c m (op.Change (Lowering Open) p a b e) to = lowered_facts (header_of to).count a (cut c p (record m { op = op.Change (Lowering Closed) p a b e; made = without_made m a }))
+committed_facts wide c m _ to = refl
 
-exchanged_facts : (c : ℕ) (m : Memo) (p : Spot) (to : ℕ) → (exchanged_on c m p to).facts ≡ m.facts
-exchanged_facts c m (spot.Head b) to = committed_facts c m m.op to
-exchanged_facts c m _ to = refl
+exchanged_facts : (wide : Bool) (c : ℕ) (m : Memo) (p : Spot) (to : ℕ) → (exchanged_on wide c m p to).facts ≡ m.facts
+exchanged_facts wide c m (spot.Head b) to = committed_facts wide c m m.op to
+exchanged_facts wide c m _ to = refl
 
 changed_facts : (m : Memo) (t : Step) (p : Spot) (a : Ask) (k : Fact) → Has k (called m t) → Has k (changed_by m t p a)
 changed_facts m t p (Load at) k h = read_facts t.me.geometry t.me.who true (called m t) (test_before m t) p t.seen k h
 changed_facts m t p (Store at v) k h = stored_facts t.me.geometry t.me.who (called m t) p v k h
 changed_facts m t p (Exchange at from to) k h =
-    choice (Has k) (t.seen == from) (exchanged_on t.me.who (called m t) p to) (read_on t.me.geometry t.me.who false (called m t) (test_before m t) p t.seen)
-    (λ e. subst (λ (fs : List Fact). Contains fs k) (sym (exchanged_facts t.me.who (called m t) p to)) h)
+    choice (Has k) (t.seen == from) (exchanged_on t.me.geometry.wide t.me.who (called m t) p to) (read_on t.me.geometry t.me.who false (called m t) (test_before m t) p t.seen)
+    (λ e. subst (λ (fs : List Fact). Contains fs k) (sym (exchanged_facts t.me.geometry.wide t.me.who (called m t) p to)) h)
     (λ e. read_facts t.me.geometry t.me.who false (called m t) (test_before m t) p t.seen k h)
 
 -- a test leaves each fact that passes

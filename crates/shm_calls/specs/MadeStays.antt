@@ -70,7 +70,7 @@ read_made g c load m test (spot.Page s q) n =
     choice (λ (y : Memo). y.made ≡ m.made) (n == 0) (if list_any (eqb s) m.owned then record m { zeros = spot.Page s q ∷ m.zeros } else m) (record m { facts = Class s q n ∷ m.facts })
     (λ e. choice (λ (y : Memo). y.made ≡ m.made) (list_any (eqb s) m.owned) (record m { zeros = spot.Page s q ∷ m.zeros }) m (λ z. refl) (λ z. refl))
     (λ e. refl)
-read_made g c load m test (spot.Body b i) n = word_made m (claim_of c m (b + 2 + i)) b i n
+read_made g c load m test (spot.Body b i) n = word_made m (claim_of g.wide c m (b + 2 + i)) b i n
 read_made g c load m test _ n = refl
 
 -- where a word was stored
@@ -110,22 +110,22 @@ spares b (x ∷ xs) =
 spared : (b d : ℕ) (xs : List ℕ) → (b == d) ≡ false → Contains xs d → Contains (filter (not_block b) xs) d
 spared b d xs e h = All-contains (λ d. (b == d) ≡ false → Contains (filter (not_block b) xs) d) xs d (spares b xs) h e
 
-committed_made : (c : ℕ) (m : Memo) (o : Op) (to d : ℕ) → touches d (event_of c o) ≡ false → Contains m.made d → Contains (committed c m o to).made d
-committed_made c m (op.Alloc Begun p b e) to d t h = Contains-append_right (b ∷ []) m.made d h
-committed_made c m (op.Up Begun p b e) to d t h =
+committed_made : (wide : Bool) (c : ℕ) (m : Memo) (o : Op) (to d : ℕ) → touches d (event_of c o) ≡ false → Contains m.made d → Contains (committed wide c m o to).made d
+committed_made wide c m (op.Alloc Begun p b e) to d t h = Contains-append_right (b ∷ []) m.made d h
+committed_made wide c m (op.Up Begun p b e) to d t h =
     subst (λ bs. Contains bs d) (sym (unsent_made c p b (record m { op = op.Up Committed p b e; made = without_made m b }))) (spared b d m.made t h)
-committed_made c m (op.Down Begun p b e) to d t h =
+committed_made wide c m (op.Down Begun p b e) to d t h =
     let q : Memo = record m { op = op.Down Committed p b e; made = without_made m b } in
     let n : Memo = with_untaken c p b (with_unsent c p 0 q) in
     subst (λ bs. Contains bs d) (sym (lowered_made (header_of to).count b (cut c p (reparted c n p 0)) ∙ (untaken_made c p b (with_unsent c p 0 q) ∙ unsent_made c p 0 q))) (spared b d m.made t h)
-committed_made c m (op.Change (Raising Begun) p a b e) to d t h = spared a d (without_made m b) (or_parts (a == d) (b == d) t).0 (spared b d m.made (or_parts (a == d) (b == d) t).1 h)
-committed_made c m (op.Change (Lowering Open) p a b e) to d t h =
+committed_made wide c m (op.Change (Raising Begun) p a b e) to d t h = spared a d (without_made m b) (or_parts (a == d) (b == d) t).0 (spared b d m.made (or_parts (a == d) (b == d) t).1 h)
+committed_made wide c m (op.Change (Lowering Open) p a b e) to d t h =
     subst (λ bs. Contains bs d) (sym (lowered_made (header_of to).count a (cut c p (record m { op = op.Change (Lowering Closed) p a b e; made = without_made m a })))) (spared a d m.made t h)
-committed_made c m _ to d t h = h
+committed_made wide c m _ to d t h = h
 
-exchanged_made : (c : ℕ) (m : Memo) (p : Spot) (to d : ℕ) → ((b : ℕ) → p ≡ spot.Head b → touches d (event_of c m.op) ≡ false) → Contains m.made d → Contains (exchanged_on c m p to).made d
-exchanged_made c m (spot.Head b) to d t h = committed_made c m m.op to d (t b refl) h
-exchanged_made c m _ to d t h = h
+exchanged_made : (wide : Bool) (c : ℕ) (m : Memo) (p : Spot) (to d : ℕ) → ((b : ℕ) → p ≡ spot.Head b → touches d (event_of c m.op) ≡ false) → Contains m.made d → Contains (exchanged_on wide c m p to).made d
+exchanged_made wide c m (spot.Head b) to d t h = committed_made wide c m m.op to d (t b refl) h
+exchanged_made wide c m _ to d t h = h
 
 -- the event of an exchange of a header that succeeds
 event_here : (m : Memo) (t : Step) (at from to d b : ℕ) (p : Spot) → p ≡ spot.Head b → (t.seen == from) ≡ true → touches d (event_by m t (Exchange at from to) p) ≡ false → touches d (event_of t.me.who m.op) ≡ false
@@ -136,8 +136,8 @@ changed_made : (m : Memo) (t : Step) (p : Spot) (a : Ask) (d : ℕ) → touches 
 changed_made m t p (Load at) d q h = subst (λ bs. Contains bs d) (sym (read_made t.me.geometry t.me.who true (called m t) (test_before m t) p t.seen)) h
 changed_made m t p (Store at v) d q h = subst (λ bs. Contains bs d) (sym (stored_made t.me.geometry t.me.who (called m t) p v)) h
 changed_made m t p (Exchange at from to) d q h =
-    choice (λ (x : Memo). Contains x.made d) (t.seen == from) (exchanged_on t.me.who (called m t) p to) (read_on t.me.geometry t.me.who false (called m t) (test_before m t) p t.seen)
-    (λ y. exchanged_made t.me.who (called m t) p to d
+    choice (λ (x : Memo). Contains x.made d) (t.seen == from) (exchanged_on t.me.geometry.wide t.me.who (called m t) p to) (read_on t.me.geometry t.me.who false (called m t) (test_before m t) p t.seen)
+    (λ y. exchanged_made t.me.geometry.wide t.me.who (called m t) p to d
     (λ b e. subst (λ (o : Op). touches d (event_of t.me.who o) ≡ false) (sym (called_part (λ (x : Memo). x.op) m t refl refl)) (event_here m t at from to d b p e y q))
     h)
     (λ y. subst (λ bs. Contains bs d) (sym (read_made t.me.geometry t.me.who false (called m t) (test_before m t) p t.seen)) h)

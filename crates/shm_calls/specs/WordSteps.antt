@@ -56,13 +56,13 @@ module _ (first : Bool) (me : Me) (a : Ask) (after : Memo → ℕ → Memo → T
       subst (λ (q : Spot). event_on (r me.who) (framed me a f (seen_of a (w q))) q ≡ Nothing) (sym (there w r f st same)) (none (r me.who) (framed me a f (seen_of a (w p))))
 
   -- a word step is a part
-  pub word_in : (0 < at_of a) × (at_of a < total_of me.geometry) → IsThere → NoEvent → KindKept → Makes → IsWord first me a after (record { me = me; ask = a; over = false }) m
+  pub word_in : at_of a < total_of me.geometry → IsThere → NoEvent → KindKept → Makes → IsWord first me a after (record { me = me; ask = a; over = false }) m
   word_in inside there none kind makes = record { made = refl; inside = inside; kept = kept_there there kind makes; quiet = quiet_there there none }
 
   -- and so is one outside the pages' bodies
   pub word_at : ((class : ℕ → ℕ → ℕ) → spot_at me.geometry class (at_of a) ≡ p) → p ≢ Spare → is_in_body p ≡ false → KindKept → Makes → IsWord first me a after (record { me = me; ask = a; over = false }) m
   word_at there some body =
-      word_in (in_pool me.geometry (λ s q. 0) (at_of a) p (there (λ s q. 0)) some) (λ w r f st same. there (classes w)) (λ x t. no_event x t a p body)
+      word_in (in_pool me.geometry (λ s q. 0) (at_of a) p (there (λ s q. 0)) some).1 (λ w r f st same. there (classes w)) (λ x t. no_event x t a p body)
 
 -- a load there is one
 pub load_at : (first : Bool) (me : Me) (at : ℕ) (after : Memo → ℕ → Memo → Type 0) (m : Memo) (p : Spot) (there : (class : ℕ → ℕ → ℕ) → spot_at me.geometry class at ≡ p) (some : p ≢ Spare) (body : is_in_body p ≡ false) → MayEnd me.who m p

@@ -42,7 +42,7 @@ IsQuiet me a m = (w : Spot → ℕ) (r : ℕ → Memo) (f : Frame) → Stands me
 pub record WordFits (first : Bool) (m : Word) (r0 r : Memo) (tr : Trail) : Type 0 where
   pub same : r ≡ r0
   pub none : tr ≡ []
-  pub inside : (0 < at_of m.ask) × (at_of m.ask < total_of m.me.geometry)
+  pub inside : at_of m.ask < total_of m.me.geometry
   pub kept : IsKept first m.me m.ask r0 (λ n x. Unit {0})
   pub quiet : IsQuiet m.me m.ask r0
 
@@ -97,7 +97,7 @@ word_tells first m r0 tr w r f going s fit = fit.quiet w r f (subst (Stands m.me
 -- it is made, its address is one of the pool, and the step is kept and quiet, with what holds after it
 pub record IsWord (first : Bool) (me : Me) (a : Ask) (after : Memo → ℕ → Memo → Type 0) (m : Word) (r : Memo) : Type 0 where
   pub made : m ≡ record { me = me; ask = a; over = false }
-  pub inside : (0 < at_of a) × (at_of a < total_of me.geometry)
+  pub inside : at_of a < total_of me.geometry
   pub kept : IsKept first me a r (after r)
   pub quiet : IsQuiet me a r
 

@@ -22,11 +22,10 @@ use Rattle.shm_graph.specs.declared.table.Part.TheVariants.{Loose, Table}
 use Rattle.shm_graph.specs.Agents.{recovers}
 use Rattle.shm_graph.specs.Asks.{Trail}
 use Rattle.shm_graph.specs.Blocks.{classes}
-use Rattle.shm_graph.specs.Held.{HeldAt, OpTie}
+use Rattle.shm_graph.specs.Held.{HeldAt}
 use Rattle.shm_graph.specs.Idle.{IsIdle}
 use Rattle.shm_graph.specs.Ops.{cover, cover_of}
 use Rattle.shm_graph.specs.Reach.{in_slots, is_reached, named_blocks, not_zero, reached_blocks, roots_below, shown}
-use Rattle.shm_graph.specs.References.{words_of}
 use Rattle.shm_graph.specs.Spots.{IsAt, spot_address, spot_at}
 use Rattle.shm_graph.specs.Views.{own_word, view}
 use Rattle.shm_graph.proofs.Spots.SpotPlaces.{spot-place}
@@ -37,9 +36,9 @@ use Rattle.shm_count.specs.declared.answer.UpFault.{UpFault}
 use Rattle.shm_count.specs.declared.point.Aim.{Aim}
 use Rattle.shm_count.specs.declared.point.Aim.TheVariants.{Up, Down, Change}
 use Rattle.shm_count.specs.declared.point.Half.TheVariants.{First, Second}
-use Rattle.shm_count.specs.Step.Beginning.{begins_here}
+use Rattle.shm_count.specs.Step.Beginning.{begins_slot}
 use Rattle.shm_count.specs.Step.Control.{AimFits, AimSmall, IsInside, block_at, last_era, raises, value_after}
-use Rattle.shm_count.specs.Step.{CanAim, CanStep, Done, HasPut, StepFits, StepGives, begun_op, closed_memo, set_memo, slot_memo}
+use Rattle.shm_count.specs.Step.{CanAim, CanStep, Done, HasPut, StepFits, StepGives, closed_memo, set_memo, slot_memo}
 use Rattle.shm_count.specs.Step.Going.{begins}
 use Rattle.shm_steps.proofs.Cores.{room_least}
 use Rattle.shm_count.specs.Step.Memos.{closed_part}
@@ -84,7 +83,7 @@ module _ (g : Geometry) (c k : ℕ) (f : GeometryFits g) (l : c < g.clients) (s 
   root_some = omega arith
 
   -- a step at a root may begin where none is in progress and the memo shows the root to be so
-  pub root_can : (x : Aim) (r : Memo) → IsHere r → r.op ≡ op.Nothing → (raises x First ≡ true → recovers r ≡ false) → AimFits (member g c) x → (own_word r.own (spot.Era c c) ≤ last_era x → CanAim g.clients c r x (spot.Root c k))
+  pub root_can : (x : Aim) (r : Memo) → IsHere r → r.op ≡ op.Nothing → (raises x First ≡ true → recovers r ≡ false) → AimFits (member g c) x → (own_word r.own (spot.Era c c) ≤ last_era x → CanAim g.wide g.clients c r x (spot.Root c k))
       → (raises x First ≡ true → is_reached c r (block_at x First) ≡ true) → CanStep (member g c) at x (spot.Root c k) r
   unfolding spot_address
   root_can x r here idle client blocks can reach =
@@ -105,7 +104,7 @@ module _ (g : Geometry) (c k : ℕ) (f : GeometryFits g) (l : c < g.clients) (s 
       }
 
   -- so it may for an identity between two calls
-  pub can_root : (x : Aim) (r : Memo) → IsIdle c r → (raises x First ≡ true → recovers r ≡ false) → AimFits (member g c) x → (own_word r.own (spot.Era c c) ≤ last_era x → CanAim g.clients c r x (spot.Root c k))
+  pub can_root : (x : Aim) (r : Memo) → IsIdle c r → (raises x First ≡ true → recovers r ≡ false) → AimFits (member g c) x → (own_word r.own (spot.Era c c) ≤ last_era x → CanAim g.wide g.clients c r x (spot.Root c k))
       → (raises x First ≡ true → is_reached c r (block_at x First) ≡ true) → CanStep (member g c) at x (spot.Root c k) r
   can_root x r idle client blocks can reach = root_can x r (is_here c r idle) idle.op client blocks can reach
 
@@ -180,13 +179,7 @@ module _ (g : Geometry) (c : ℕ) (l : c < g.clients) where
   -- the pool has the slot of a step that could begin
   slot_at : (slot : ℕ) (x : Aim) (p : Spot) (w : Spot → ℕ) (r : ℕ → Memo) → HeldAt g w (view r) → CanStep me slot x p (r c) → own_word (r c).own (spot.Era c c) ≤ last_era x → IsAt g (classes w) p
   slot_at slot x p w r h can room =
-      let b = begins_here g w r c h l x p (can.can room) can.reach in
-      go x _ (subst (OpTie g (classes w) _ (w (spot.Era c c)) (words_of w)) b.1 b.0.tie)
-    where
-      go : (x : Aim) (redo : ℕ) → OpTie g (classes w) redo (w (spot.Era c c)) (words_of w) (begun_op x p (own_word (r c).own (spot.Era c c))) → IsAt g (classes w) p
-      go (Up b) redo t = t.at
-      go (Down b) redo t = t.at
-      go (Change a b) redo t = t.at
+      begins_slot g w r c h l x p (can.can room)
 
   -- so that it is the root whose address it has
   root_slot : (k : ℕ) (x : Aim) (p : Spot) (w : Spot → ℕ) (r : ℕ → Memo) → k < 16 → HeldAt g w (view r) → CanStep me (address g (place.Root c k)) x p (r c) → own_word (r c).own (spot.Era c c) ≤ last_era x → p ≡ spot.Root c k

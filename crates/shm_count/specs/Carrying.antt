@@ -69,12 +69,12 @@ module _ (me : Me) (w : Spot → ℕ) (r : ℕ → Memo) (held : HeldAt me.geome
 
   -- ---- the words of the new entry
 
-  module _ (k b next value : ℕ) (coming : IsComing me.who (r me.who) k b key next value) where
+  module _ (k b next value : ℕ) (coming : IsComing me.geometry.wide me.who (r me.who) k b key next value) where
     reached : is_reached me.who (r me.who) b ≡ true
     reached = root_reached me.who (r me.who) b k coming.root.0 idle coming.root.1 coming.root.2
 
-    word : (i x : ℕ) → i < 2 → IsKnown (sight me.who (r me.who)) (spot.Body b i) x → IsOwnWord me.who (r me.who) b i x
-    word i x low known = tagged_word me.who (r me.who) b 2 1 i x vacant.latch coming.entry.tagged reached low known
+    word : (i x : ℕ) → i < 2 → IsKnown (sight me.who (r me.who)) (spot.Body b i) x → IsOwnWord me.geometry.wide me.who (r me.who) b i x
+    word i x low known = tagged_word me.geometry.wide me.who (r me.who) b 2 1 i x vacant.latch coming.entry.tagged reached low known
 
     -- its value word may be filled, and its next word
     pub value_fills : (v : ℕ) → value ≡ 0 → is_reached me.who (r me.who) v ≡ true → CanStep me (spot_address me.geometry (spot.Body b 1)) (Up v) (spot.Body b 1) (r me.who)
@@ -105,10 +105,10 @@ module _ (me : Me) (w : Spot → ℕ) (r : ℕ → Memo) (held : HeldAt me.geome
         }
 
     -- and the entry
-    raised_new : (i x : ℕ) (m' : Memo) → i < 2 → Carries me.who key (r me.who) m' → Raised me.who (spot.Body b i) x (r me.who) m' → IsNew me.who (sight me.who m') b key
+    raised_new : (i x : ℕ) (m' : Memo) → i < 2 → Carries me.who key (r me.who) m' → Raised me.who (spot.Body b i) x (r me.who) m' → IsNew me.geometry.wide me.who (sight me.who m') b key
     raised_new i x m' low carries a =
         let stays : (q : Spot) (y : ℕ) → spot.Body b i ≢ q → IsKnown (sight me.who (r me.who)) q y → IsKnown (sight me.who m') q y = λ q y n h. subst (λ ks. Contains ks (record { spot = q; value = y })) (sym (ap (λ (u : Memo). u.known) a.rest)) (learnt_other (spot.Body b i) q x y m.known n h) in
-        let t : IsTagged me.who (sight me.who (r me.who)) b 2 1 = coming.entry.tagged in
+        let t : IsTagged me.geometry.wide me.who (sight me.who (r me.who)) b 2 1 = coming.entry.tagged in
         record {
           tagged = record { tag = t.tag; known = stays (spot.Tag b) t.tag (λ e. cc) t.known; refs_are = t.refs_are; plain_are = t.plain_are; author = t.author };
           word = stays (spot.Body b 2) key (λ e. (let z : i ≡ 2 = cc in absurd (omega arith))) coming.entry.word;
@@ -120,7 +120,7 @@ module _ (me : Me) (w : Spot → ℕ) (r : ℕ → Memo) (held : HeldAt me.geome
     raised_root i x m' a = (coming.root.0, a.own (spot.Root me.who k) refl ∙ coming.root.1, coming.root.2)
 
     -- whose value word was filled, or whose next word was
-    pub value_filled : (v : ℕ) (m' : Memo) → value ≡ 0 → v ≢ 0 → Raised me.who (spot.Body b 1) v (r me.who) m' → IsVacant me.who m' key first × IsComing me.who m' k b key next v
+    pub value_filled : (v : ℕ) (m' : Memo) → value ≡ 0 → v ≢ 0 → Raised me.who (spot.Body b 1) v (r me.who) m' → IsVacant me.who m' key first × IsComing me.geometry.wide me.who m' k b key next v
     value_filled v m' none some a =
         let carries = raised_carries 1 v m' (omega arith) some (subst (IsKnown (sight me.who (r me.who)) (spot.Body b 1)) none coming.value_is) a in
         let learns : (q : Spot) (y : ℕ) → Contains (learnt (spot.Body b 1) v m.known) (record { spot = q; value = y }) → IsKnown (sight me.who m') q y = λ q y h. subst (λ ks. Contains ks (record { spot = q; value = y })) (sym (ap (λ (u : Memo). u.known) a.rest)) h in (
@@ -133,7 +133,7 @@ module _ (me : Me) (w : Spot → ℕ) (r : ℕ → Memo) (held : HeldAt me.geome
           },
         )
 
-    pub next_filled : (m' : Memo) → next ≡ 0 → first ≢ 0 → Raised me.who (spot.Body b 0) first (r me.who) m' → IsVacant me.who m' key first × IsComing me.who m' k b key first value
+    pub next_filled : (m' : Memo) → next ≡ 0 → first ≢ 0 → Raised me.who (spot.Body b 0) first (r me.who) m' → IsVacant me.who m' key first × IsComing me.geometry.wide me.who m' k b key first value
     next_filled m' none some a =
         let carries = raised_carries 0 first m' (omega arith) some (subst (IsKnown (sight me.who (r me.who)) (spot.Body b 0)) none coming.next_is) a in
         let learns : (q : Spot) (y : ℕ) → Contains (learnt (spot.Body b 0) first m.known) (record { spot = q; value = y }) → IsKnown (sight me.who m') q y = λ q y h. subst (λ ks. Contains ks (record { spot = q; value = y })) (sym (ap (λ (u : Memo). u.known) a.rest)) h in (
@@ -157,18 +157,18 @@ module _ (me : Me) (w : Spot → ℕ) (r : ℕ → Memo) (held : HeldAt me.geome
 
     -- ---- the step that links it
 
-    bucket : IsOwnWord me.who (r me.who) home (key % 16) first
-    bucket = directory_word me.who (r me.who) home (key % 16) first vacant.latch vacant.role (home_reached me.who (r me.who) home idle refl vacant.some) (omega arith) vacant.word
+    bucket : IsOwnWord me.geometry.wide me.who (r me.who) home (key % 16) first
+    bucket = directory_word me.geometry.wide me.who (r me.who) home (key % 16) first vacant.latch vacant.role (home_reached me.who (r me.who) home idle refl vacant.some) (omega arith) vacant.word
 
-    pub link : (n : ℕ) → next ≡ first → IsValue (sight me.who (r me.who)) value n → TableStep me.who (sight me.who (r me.who)) (spot.Body home (key % 16)) first b
+    pub link : (n : ℕ) → next ≡ first → IsValue (sight me.who (r me.who)) value n → TableStep me.geometry.wide me.who (sight me.who (r me.who)) (spot.Body home (key % 16)) first b
     link n e number = Links key value n refl coming.entry (subst (IsKnown (sight me.who (r me.who)) (spot.Body b 0)) e coming.next_is) coming.value_is number
 
     -- an empty bucket is to have it
     pub link_fills : (n : ℕ) → next ≡ first → first ≡ 0 → IsValue (sight me.who (r me.who)) value n → CanStep me (spot_address me.geometry (spot.Body home (key % 16))) (Up b) (spot.Body home (key % 16)) (r me.who)
     link_fills n e none number =
         can_fill me w r held who here idle home (key % 16) b client
-        (subst (IsOwnWord me.who (r me.who) home (key % 16)) none bucket) reached
-        (subst (λ x. TableStep me.who (sight me.who (r me.who)) (spot.Body home (key % 16)) x b) none (link n e number))
+        (subst (IsOwnWord me.geometry.wide me.who (r me.who) home (key % 16)) none bucket) reached
+        (subst (λ x. TableStep me.geometry.wide me.who (sight me.who (r me.who)) (spot.Body home (key % 16)) x b) none (link n e number))
 
     -- or one that has entries
     pub link_replaces : (n : ℕ) → next ≡ first → first ≢ 0 → IsValue (sight me.who (r me.who)) value n → CanStep me (spot_address me.geometry (spot.Body home (key % 16))) (Change first b) (spot.Body home (key % 16)) (r me.who)

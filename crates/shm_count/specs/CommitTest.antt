@@ -4,7 +4,7 @@ pub mod Reads
 pub mod Shown
 pub mod Laws
 pub mod Machines
-use Rattle.std.specs.Prelude.{◌≡◌, ◌≢◌, ℕ, ◌+◌, ◌<◌, ◌≤◌, Bool, true, false, not, nat_lt, if◌then◌else◌, Option, Some, None, List, []}
+use Rattle.std.specs.Prelude.{◌≡◌, ◌≢◌, ℕ, ◌+◌, ◌<◌, ◌≤◌, Bool, true, not, nat_lt, if◌then◌else◌, Option, Some, None, List, []}
 use Rattle.std.specs.List.{Contains}
 use Rattle.shm_words.specs.declared.place.Place.TheVariants as place
 use Rattle.shm_words.specs.declared.redo.Redo.{Redo as ARedo}
@@ -14,7 +14,7 @@ use Rattle.shm_words.specs.Layout.{GeometryFits, address, total_of}
 use Rattle.shm_words.specs.Redos.{redo_of}
 use Rattle.shm_graph.specs.declared.ask.Ask.TheVariants.{Load}
 use Rattle.shm_graph.specs.declared.ask.Me.{Me}
-use Rattle.shm_graph.specs.declared.spot.Spot.TheVariants.{Era, Redo}
+use Rattle.shm_graph.specs.declared.spot.Spot.TheVariants.{Era, Redo, RedoMore}
 use Rattle.shm_graph.specs.declared.memo.Memo.{Memo}
 use Rattle.shm_graph.specs.Agents.{recovers}
 use Rattle.shm_graph.specs.Asks.{Trail, IsWithin, pair}
@@ -52,14 +52,18 @@ step_block (Some (redos.Down p b)) e = Some b
 step_block (Some (redos.Change parity p a b)) e = Some (if is_first_half parity e then b else a)
 step_block r e = None
 
--- a recoverer asks of the own era and of the block that the redo record names for it
+-- the redo record that the own words of a memo spell, if they do
+abbrev pub record_in : Me → Memo → Option ARedo
+record_in me r = redo_of me.geometry.wide (own_word r.own (Redo me.who)) (own_word r.own (RedoMore me.who))
+
+-- a recoverer asks of the own era and of the block that the redo record names for it, or of 0, which it names in format 2 while its words are of two records
 pub record MayTest (me : Me) (b e : ℕ) (r : Memo) : Type 0 where
   pub geometry : GeometryFits me.geometry
   pub who : me.who < me.geometry.clients
   pub recoverer : recovers r ≡ true
-  pub inside : (0 < b) × (b < total_of me.geometry)
+  pub inside : b < total_of me.geometry
   pub era : own_word r.own (Era me.who me.who) ≡ e
-  pub named : step_block (redo_of (own_word r.own (Redo me.who))) e ≡ Some b
+  pub named : step_block (record_in me r) e ≡ Some b
 
 -- ---- on the way
 
@@ -67,12 +71,16 @@ pub record MayTest (me : Me) (b e : ℕ) (r : Memo) : Type 0 where
 abbrev pub rows_to : ℕ → ℕ → ℕ
 rows_to c k = if nat_lt c k then k else k + 1
 
+-- the memo shows that the rows from k on are left to be read; of word 0 it shows nothing
+abbrev pub HasTest : ℕ → Memo → ℕ → Type 0
+HasTest b r k = b ≢ 0 → r.test ≡ Some (record { block = b; next = k })
+
 -- the header and the rows before this one didn't show the step
 pub record IsTesting (m : TestingState) (r0 r : Memo) (tr : Trail) (es : List Event) : Type 0 where
   pub may : MayTest m.me m.block m.era r0
   pub same : core r ≡ core r0
   pub recoverer : recovers r ≡ true
-  pub stands : (n : ℕ) × (r.test ≡ Some (record { block = m.block; next = n })) × (m.row ≡ next_row m.me.who n)
+  pub stands : (n : ℕ) × HasTest m.block r n × (m.row ≡ next_row m.me.who n)
   pub low : m.row < m.me.geometry.clients
   pub none : es ≡ []
   pub bound : IsWithin (rows_to m.me.who m.row) tr

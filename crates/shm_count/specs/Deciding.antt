@@ -31,21 +31,21 @@ module _ (me : Me) (w : Spot → ℕ) (r : ℕ → Memo) (held : HeldAt me.geome
   -- ---- the entry goes
 
   module _ (d i next : ℕ) (word : p ≡ spot.Body d i) (known : IsKnown (sight me.who (r me.who)) (spot.Body at 0) next) where
-    unlinks : TableStep me.who (sight me.who (r me.who)) (spot.Body d i) at next
-    unlinks = subst (λ q. TableStep me.who (sight me.who (r me.who)) q at next) word (walk_unlinks me.who (sight me.who (r me.who)) key p at next xs e ys seeks.walk found known)
+    unlinks : TableStep me.geometry.wide me.who (sight me.who (r me.who)) (spot.Body d i) at next
+    unlinks = subst (λ q. TableStep me.geometry.wide me.who (sight me.who (r me.who)) q at next) word (walk_unlinks me.geometry.wide me.who (sight me.who (r me.who)) key p at next xs e ys seeks.walk found known)
 
     -- it is the last one
     pub last_goes : next ≡ 0 → CanStep me (spot_address me.geometry (spot.Body d i)) (Down at) (spot.Body d i) (r me.who)
     last_goes none =
-        can_clear me w r held who here idle d i at some (seek_own me.who (r me.who) key first p at d i xs (e ∷ ys) idle seeks word)
-        (subst (TableStep me.who (sight me.who (r me.who)) (spot.Body d i) at) none unlinks)
+        can_clear me w r held who here idle d i at some (seek_own me.geometry.wide me.who (r me.who) key first p at d i xs (e ∷ ys) idle seeks word)
+        (subst (TableStep me.geometry.wide me.who (sight me.who (r me.who)) (spot.Body d i) at) none unlinks)
 
     -- or there is a next one, which was read
     pub entry_goes : next ≢ 0 → is_looked (r me.who) next ≡ true → CanStep me (spot_address me.geometry (spot.Body d i)) (Change at next) (spot.Body d i) (r me.who)
     entry_goes more looked =
         can_replace me w r held who here idle d i at next client some
         (next_other me.geometry w r me.who held who (ap cover_of idle) seeks.table key p at next xs e ys seeks.walk known more)
-        (seek_own me.who (r me.who) key first p at d i xs (e ∷ ys) idle seeks word)
+        (seek_own me.geometry.wide me.who (r me.who) key first p at d i xs (e ∷ ys) idle seeks word)
         (look_reached me.who (r me.who) next looked) unlinks
 
   -- ---- it has another value
@@ -58,6 +58,6 @@ module _ (me : Me) (w : Spot → ℕ) (r : ℕ → Memo) (held : HeldAt me.geome
       can_replace me w r held who here idle at 1 old v client
       (value_some me.geometry w r me.who held who (ap cover_of idle) seeks.table key old xs e ys has (subst (λ d. IsKnown (sight me.who (r me.who)) (spot.Body d 1) old) seeks.walk.starts known))
       other
-      (entry_word me.who (r me.who) at 1 old seeks.latch in_role.0 (look_reached me.who (r me.who) at in_role.1) (omega arith) known)
+      (entry_word me.geometry.wide me.who (r me.who) at 1 old seeks.latch in_role.0 (look_reached me.who (r me.who) at in_role.1) (omega arith) known)
       reach
-      (walk_replaces me.who (sight me.who (r me.who)) key p at old v n xs e ys seeks.walk found number)
+      (walk_replaces me.geometry.wide me.who (sight me.who (r me.who)) key p at old v n xs e ys seeks.walk found number)

@@ -1,5 +1,5 @@
 -- zero-count blocks in a pool that holds: nothing names them, no partition is read from them, and what their tags and words tell
-use Rattle.std.proofs.Common.{◌≡◌, ◌≢◌, ℕ, suc, ◌+◌, ◌<◌, ◌≤◌, refl, sym, ap, ◌∙◌, subst, arith, false, eqb, ltb, ◌&&◌, List, [], ◌∷◌, map, get_or, Some, inl, inr}
+use Rattle.std.proofs.Common.{◌≡◌, ◌≢◌, ℕ, suc, ◌+◌, ◌<◌, ◌≤◌, refl, sym, ap, ◌∙◌, subst, arith, false, eqb, ltb, ◌&&◌, List, [], ◌∷◌, map, get_or, Some, inl, inr, Bool}
 use Rattle.std.specs.List.{Contains}
 use Rattle.std.proofs.lemmas.Bool.{cases_eq, cases_lt, eq-eqb, ne_eqb, lt-ltb, cond-true, cond-false}
 use Rattle.shm_words.specs.declared.geometry.Geometry.{Geometry}
@@ -44,9 +44,9 @@ chain_same z known c bucket at d i x (e ∷ es) n all h =
     cond-false _ _ _ (ne_eqb e.block d (λ y. n (h.0 ∙ y))) ∙ ap (λ q. e ∷ q) (chain_same z known c bucket (z.refs e.block 0) d i x es (all e.block 0) all h.2)
 
 -- what changes no element changes no list
-map_same : (f : List Entry → List Entry) (ess : List (List Entry)) → ((n : ℕ) → f (get_or ess n []) ≡ get_or ess n []) → map f ess ≡ ess
-map_same f [] h = refl
-map_same f (es ∷ ess) h = ap (λ q. q ∷ map f ess) (h 0) ∙ ap (λ q. es ∷ q) (map_same f ess (λ n. h (suc n)))
+map_same : (wide : Bool) (f : List Entry → List Entry) (ess : List (List Entry)) → ((n : ℕ) → f (get_or ess n []) ≡ get_or ess n []) → map f ess ≡ ess
+map_same wide f [] h = refl
+map_same wide f (es ∷ ess) h = ap (λ q. q ∷ map f ess) (h 0) ∙ ap (λ q. es ∷ q) (map_same wide f ess (λ n. h (suc n)))
 
 -- each chain of a partition in which no reference names the block stays as it is
 chains_same : (z : Contents) (known : List Stored) (c home d i x : ℕ) (chains : ℕ → List Entry) → ((b j : ℕ) → z.refs b j ≢ d) → IsPartition z c home chains → (n : ℕ) → chain_set known d i x (chains n) ≡ chains n
@@ -63,10 +63,10 @@ chains_same z known c home d i x chains all part n =
     none e = subst (λ es. chain_set known d i x es ≡ es) (sym e) refl
 
 -- a part in which no reference and no home names the block stays as it is, once a word of the block is changed
-part_same : (z : Contents) (known : List Stored) (c home own d i x : ℕ) (part : Part) → ((b j : ℕ) → z.refs b j ≢ d) → own ≢ d → PartTie z c home part → part_set known c own (Body d i) x part ≡ part
-part_same z known c home own d i x Loose all n tie = refl
-part_same z known c home own d i x (Table ess) all n tie =
-    ap Table (cond-false _ _ _ (ne_eqb d own (λ y. n (sym y))) ∙ map_same (chain_set known d i x) ess (chains_same z known c home d i x (λ b. get_or ess b []) all tie))
+part_same : (wide : Bool) (z : Contents) (known : List Stored) (c home own d i x : ℕ) (part : Part) → ((b j : ℕ) → z.refs b j ≢ d) → own ≢ d → PartTie z c home part → part_set known c own (Body d i) x part ≡ part
+part_same wide z known c home own d i x Loose all n tie = refl
+part_same wide z known c home own d i x (Table ess) all n tie =
+    ap Table (cond-false _ _ _ (ne_eqb d own (λ y. n (sym y))) ∙ map_same wide (chain_set known d i x) ess (chains_same z known c home d i x (λ b. get_or ess b []) all tie))
 
 -- words of two blocks are at two spots
 other_word : (d b i j : ℕ) → b ≢ d → same_spot (Body d i) (Body b j) ≡ false
@@ -76,20 +76,20 @@ other_word d b i j n = ap (λ z. z && eqb i j) (ne_eqb d b (λ e. n (sym e)))
 
 module _ (g : Geometry) (w : Spot → ℕ) (r : ℕ → Memo) (h : HeldAt g w (view r)) where
   -- the class of a live block has room for its words
-  live_class : (b : ℕ) → IsLive (headers w) b → IsClass (class_at g (classes w) b) × (2 + tag_refs (w (Tag b)) ≤ class_at g (classes w) b) × (2 ≤ class_at g (classes w) b)
+  live_class : (b : ℕ) → IsLive (headers w) b → IsClass (class_at g (classes w) b) × (2 + tag_refs g.wide (w (Tag b)) ≤ class_at g (classes w) b) × (2 ≤ class_at g (classes w) b)
   live_class b l =
-      let t : TagSound g.clients (class_at g (classes w) b) (w (Tag b)) = h.blocks.tagged b l in
-      let room = class_room (tag_refs (w (Tag b))) (tag_plain (w (Tag b))) t.refs t.plain in
-      let same : class_for (tag_refs (w (Tag b))) (tag_plain (w (Tag b))) ≡ class_at g (classes w) b = t.fits in
-      (subst IsClass same (class_is (tag_refs (w (Tag b))) (tag_plain (w (Tag b)))), omega arith, omega arith)
+      let t : TagSound g.wide g.clients (class_at g (classes w) b) (w (Tag b)) = h.blocks.tagged b l in
+      let room = class_room (tag_refs g.wide (w (Tag b))) (tag_plain g.wide (w (Tag b))) t.refs t.plain in
+      let same : class_for (tag_refs g.wide (w (Tag b))) (tag_plain g.wide (w (Tag b))) ≡ class_at g (classes w) b = t.fits in
+      (subst IsClass same (class_is (tag_refs g.wide (w (Tag b))) (tag_plain g.wide (w (Tag b)))), omega arith, omega arith)
 
   -- a live block lies in the bodies, and its header, its tag and its reference words in the pool
-  pub live_room : (b c : ℕ) → IsLive (headers w) b → IsInside (record { geometry = g; who = c }) b × (b + 2 + tag_refs (w (Tag b)) ≤ total_of g)
+  pub live_room : (b c : ℕ) → IsLive (headers w) b → IsInside (record { geometry = g; who = c }) b × (b + 2 + tag_refs g.wide (w (Tag b)) ≤ total_of g)
   live_room b c l =
       let k = live_class b l in
       let block : IsBlock g (classes w) b = held_live_block g w (view r) h b l in
       let within = block_within g (classes w) b block in
-      let last = (in_block g (classes w) b (1 + tag_refs (w (Tag b))) block k.0 (let y = k.1 in omega arith)).1 in
+      let last = (in_block g (classes w) b (1 + tag_refs g.wide (w (Tag b))) block k.0 (let y = k.1 in omega arith)).1 in
       ((within.0, within.1), omega arith)
 
 -- ---- a zero-count block
@@ -116,7 +116,7 @@ module _ (g : Geometry) (w : Spot → ℕ) (r : ℕ → Memo) (c d : ℕ) (h : H
   -- the part of the memo stays once a word of it is changed
   dying_part_own : (known : List Stored) (i x : ℕ) → part_set known c (own_word (r c).own (Home c)) (Body d i) x (r c).part ≡ (r c).part
   dying_part_own known i x =
-      part_same (contents_of w (targets g w (view r))) known c (targets g w (view r) (Home c)) (own_word (r c).own (Home c)) d i x (r c).part
+      part_same g.wide (contents_of g.wide w (targets g w (view r))) known c (targets g w (view r) (Home c)) (own_word (r c).own (Home c)) d i x (r c).part
       (λ b j. dying_unnamed (Body b j)) dying_not_home (h.part c l)
 
   -- and so it does by what the home shows while no step is in progress
@@ -125,9 +125,10 @@ module _ (g : Geometry) (w : Spot → ℕ) (r : ℕ → Memo) (c d : ℕ) (h : H
       ap (λ (o : Op). part_set known c (cover (cover_of o) (Home c) (own_word (r c).own (Home c))) (Body d i) x (r c).part) idle ∙ dying_part_own known i x
 
   -- the other blocks stay as they are once a word of it is changed
-  dying_kept : (i x : ℕ) → PartKept (contents_of w (targets g w (view r))) (contents_of w (upd (targets g w (view r)) (Body d i) x)) (λ b. b ≢ d) c
+  dying_kept : (i x : ℕ) → PartKept (contents_of g.wide w (targets g w (view r))) (contents_of g.wide w (upd (targets g w (view r)) (Body d i) x)) (λ b. b ≢ d) c
   dying_kept i x =
       record {
+        format = refl;
         live = λ b n y. y;
         tag = λ b n y. refl;
         refs = λ b j n y a m. cond-false _ _ _ (other_word d b i j n);
@@ -138,11 +139,11 @@ module _ (g : Geometry) (w : Spot → ℕ) (r : ℕ → Memo) (c d : ℕ) (h : H
   pub dying_reparted : (i x : ℕ) → IsReparted g w (view r) c (r c) (Body d i) x
   dying_reparted i x =
       let t : Spot → ℕ = targets g w (view r) in
-      let y : Contents = contents_of w (upd t (Body d i) x) in
+      let y : Contents = contents_of g.wide w (upd t (Body d i) x) in
       record {
         tie = λ _.
             subst (PartTie y c (t (Home c))) (sym (dying_part_own (r c).known i x))
-            (part_kept (contents_of w t) y (λ b. b ≢ d) c (dying_kept i x) (λ b j. dying_unnamed (Body b j)) (t (Home c)) (r c).part (dying_unnamed (Home c)) (h.part c l));
+            (part_kept (contents_of g.wide w t) y (λ b. b ≢ d) c (dying_kept i x) (λ b j. dying_unnamed (Body b j)) (t (Home c)) (r c).part (dying_unnamed (Home c)) (h.part c l));
       }
 
   -- ---- its words
@@ -161,10 +162,10 @@ module _ (g : Geometry) (w : Spot → ℕ) (r : ℕ → Memo) (c d : ℕ) (h : H
       ]
 
   -- a reference word of it is its target
-  pub dying_word : (r c).op ≡ Nothing → (i : ℕ) → i < tag_refs (w (Tag d)) → targets g w (view r) (Body d i) ≡ w (Body d i)
+  pub dying_word : (r c).op ≡ Nothing → (i : ℕ) → i < tag_refs g.wide (w (Tag d)) → targets g w (view r) (Body d i) ≡ w (Body d i)
   dying_word idle i low =
-      let e : (words_of w).refs d ≡ tag_refs (w (Tag d)) = ap (λ z. refs_of z (w (Tag d))) dying_header.0 in
-      cond-true (ltb i ((words_of w).refs d)) (covered (λ e. cover_of (r e).op) g.clients (Body d i) (w (Body d i))) 0 (lt-ltb i ((words_of w).refs d) (subst (λ k. i < k) (sym e) low))
+      let e : (words_of g.wide w).refs d ≡ tag_refs g.wide (w (Tag d)) = ap (λ z. refs_of g.wide z (w (Tag d))) dying_header.0 in
+      cond-true (ltb i ((words_of g.wide w).refs d)) (covered (λ e. cover_of (r e).op) g.clients (Body d i) (w (Body d i))) 0 (lt-ltb i ((words_of g.wide w).refs d) (subst (λ k. i < k) (sym e) low))
       ∙ covered_none g.clients (Body d i) (w (Body d i)) (λ e. cover_of (r e).op) (dying_uncovered idle i)
 
   -- the spot of its tag
@@ -172,14 +173,14 @@ module _ (g : Geometry) (w : Spot → ℕ) (r : ℕ → Memo) (c d : ℕ) (h : H
   dying_tag_spot = tag_spot g (classes w) d (held_live_block g w (view r) h d dying_header.0) (live_class g w r h d dying_header.0).0
 
   -- the spot of a reference word of it
-  pub dying_spot : (i : ℕ) → i < tag_refs (w (Tag d)) → spot_at g (classes w) (d + 2 + i) ≡ Body d i
+  pub dying_spot : (i : ℕ) → i < tag_refs g.wide (w (Tag d)) → spot_at g (classes w) (d + 2 + i) ≡ Body d i
   dying_spot i low =
       let k = live_class g w r h d dying_header.0 in
       let room = k.1 in
       body_spot g (classes w) d i (held_live_block g w (view r) h d dying_header.0) k.0 (omega arith)
 
   -- a block that a reference word of it holds is a block of the pool, and no zero-count block
-  pub dying_target : (r c).op ≡ Nothing → (i : ℕ) → i < tag_refs (w (Tag d)) → w (Body d i) ≢ 0
+  pub dying_target : (r c).op ≡ Nothing → (i : ℕ) → i < tag_refs g.wide (w (Tag d)) → w (Body d i) ≢ 0
       → (Contains (r c).dying (w (Body d i)) → ⊥) × IsInside (record { geometry = g; who = c }) (w (Body d i)) × (w (Body d i) + 2 ≤ total_of g)
   dying_target idle i low some =
       let t : ℕ = w (Body d i) in
@@ -188,11 +189,11 @@ module _ (g : Geometry) (w : Spot → ℕ) (r : ℕ → Memo) (c d : ℕ) (h : H
       (λ y. counted.1 ((h.dying c l).listed t y).1, room.0, (let q = room.1 in omega arith))
 
   -- its tag word is that of a tag whose reference words lie in the pool
-  pub dying_tag : (t : ATag) × (w (Tag d) ≡ tag_word t) × TagFits t × (d + 2 + t.refs ≤ total_of g) × IsInside (record { geometry = g; who = c }) d
+  pub dying_tag : (t : ATag) × (w (Tag d) ≡ tag_word g.wide t) × TagFits g.wide t × (d + 2 + t.refs ≤ total_of g) × IsInside (record { geometry = g; who = c }) d
   dying_tag =
       let n : ℕ = w (Tag d) in
-      let t : ATag = record { refs = tag_refs n; plain = tag_plain n; author = tag_author n; link = tag_link n } in
-      let s : TagSound g.clients (class_at g (classes w) d) n = h.blocks.tagged d dying_header.0 in
-      let is : tag_of n ≡ Some t = tag_from_fields n s.small s.refs s.plain in
+      let t : ATag = record { refs = tag_refs g.wide n; plain = tag_plain g.wide n; author = tag_author g.wide n; link = tag_link g.wide n } in
+      let s : TagSound g.wide g.clients (class_at g (classes w) d) n = h.blocks.tagged d dying_header.0 in
+      let is : tag_of g.wide n ≡ Some t = tag_from_fields g.wide n s.small s.refs s.plain in
       let room = live_room g w r h d c dying_header.0 in
-      (t, sym (tag_word-of n t is), tag_fits n t is, room.1, room.0)
+      (t, sym (tag_word-of g.wide n t is), tag_fits g.wide n t is, room.1, room.0)

@@ -36,7 +36,7 @@ use Rattle.shm_count.specs.declared.point.StepState.{StepState}
 use Rattle.shm_count.specs.declared.point.StepNext.{StepNext}
 use Rattle.shm_count.specs.declared.point.StepNext.TheVariants.{Point, Answer}
 use Rattle.shm_count.specs.declared.tear_point.TearState.{TearState}
-use Rattle.shm_count.specs.Step.Control.{PointFits, answer_of, block_at, committed_next, header_next, last_era, raises, step_ask, step_ask_at, step_control, step_next, step_next_at}
+use Rattle.shm_count.specs.Step.Control.{PointFits, answer_of, block_at, committed_next, header_next, last_era, raises, step_ask, step_ask_at, step_control, step_next, step_next_at, first_next}
 use Rattle.shm_count.specs.Step.Events.{events_at, step_event, step_start}
 use Rattle.shm_count.specs.Step.{CanStep, PointHas}
 use Rattle.shm_count.specs.Step.Headers.{half_block}
@@ -101,7 +101,8 @@ module _ (me : Me) (slot : ℕ) (p : Spot) (r0 : Memo) (w : Spot → ℕ) (r : �
 
   not_full : (b : ℕ) (y : StepPoint) (d k : ℕ) → CanStep me slot (Up b) p r0 → PointFits me (Up b) y → PointHas me slot (Up b) p r0 (r me.who) y → (list_any (touches b) (events_at me (Up b) p y) ≡ false → Contains (r me.who).made b) → step_next_at me (Up b) y (seen (Up b) y) ≡ Answer (Err (CountFull d k)) → ⊥
   not_full b point.Era d k can fits has made leads =
-      choice (λ (y : StepNext). y ≡ Answer (Err (CountFull d k)) → ⊥) (ltb (last_era (Up b)) (seen (Up b) point.Era)) (Answer (Err (EraSpent (seen (Up b) point.Era)))) (Point (point.Redo (seen (Up b) point.Era))) (λ _ u. cc) (λ _ u. cc) leads
+      choice (λ (y : StepNext). y ≡ Answer (Err (CountFull d k)) → ⊥) (ltb (last_era (Up b)) (seen (Up b) point.Era)) (Answer (Err (EraSpent (seen (Up b) point.Era)))) (first_next me (seen (Up b) point.Era)) (λ _ u. cc) (λ _ u. cc) leads
+  not_full b (point.More e) d k can fits has made leads = cc
   not_full b (point.Redo e) d k can fits has made leads = cc
   not_full b (point.Load e First) d k can fits has made leads =
       header_not me (Up b) e First (seen (Up b) (point.Load e First)) d k (one_at b (half_block me slot p r0 w r e held l (Up b) First can fits.0 fits.1 has) (made refl)) leads

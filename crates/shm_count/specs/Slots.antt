@@ -128,7 +128,7 @@ pub record StepLeft (me : Me) (x : Aim) (p : Spot) (h : Bool) (m r : Memo) (t : 
   pub did : StepDid me x p h m r es a
   pub status : r.status ≡ m.status
   pub grows : Grows true m r
-  pub bound : IsWithin (steps_of x) t
+  pub bound : IsWithin (steps_of me.geometry.wide x) t
 
 -- a slot that the step may be made at; h tells the first slot of a queue from one at a tail
 abbrev pub IsSlotFor : ℕ → Aim → Spot → Bool → Type 0

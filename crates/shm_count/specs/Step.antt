@@ -21,11 +21,11 @@ pub mod Tells
 pub mod Keeps
 pub mod Bound
 pub mod Refusing
-use Rattle.std.specs.Prelude.{◌≡◌, ◌≢◌, ℕ, ◌+◌, ◌<◌, ◌≤◌, Bool, true, false, ◌&&◌, not, ◌==◌, ◌⊎◌, Result, Ok, Err, [], ◌∷◌, ◌++◌}
+use Rattle.std.specs.Prelude.{◌≡◌, ◌≢◌, ℕ, ◌+◌, ◌<◌, ◌≤◌, Bool, true, false, ◌&&◌, not, ◌==◌, ◌⊎◌, Result, Ok, Err, [], ◌∷◌, ◌++◌, if◌then◌else◌}
 use Rattle.std.specs.List.{Contains}
 use Rattle.shm_words.specs.Layout.{GeometryFits, total_of}
 use Rattle.shm_words.specs.Headers.{header_of}
-use Rattle.shm_words.specs.Redos.{redo_word}
+use Rattle.shm_words.specs.Redos.{first_word, second_word}
 use Rattle.shm_graph.specs.declared.ask.Me.{Me}
 use Rattle.shm_graph.specs.declared.spot.Spot.{Spot}
 use Rattle.shm_graph.specs.declared.spot.Spot.TheVariants as spot
@@ -45,7 +45,7 @@ use Rattle.shm_graph.specs.Views.{own_word}
 use Rattle.shm_graph.specs.Held.{is_loose, is_slot}
 use Rattle.shm_graph.specs.Reach.{is_reached}
 use Rattle.shm_graph.specs.Exchanges.{committed}
-use Rattle.shm_graph.specs.Stores.{stored_on}
+use Rattle.shm_graph.specs.Stores.{stored_on, with_own}
 use Rattle.shm_graph.specs.Tells.{after_all, happens_along}
 use Rattle.shm_steps.specs.OwnWords.{MayAdd, MayRemove}
 use Rattle.shm_steps.specs.Beginning.{MayReplaceRoot, MaySet, MayPut, MayTake, MayTakeBack, MayFill, MayClear, MayReplace}
@@ -70,28 +70,28 @@ use Rattle.shm_calls.specs.Grown.{Grows}
 -- ---- when it may begin
 
 -- the memo shows that the slot is c's to change so, where the own era leaves room
-abbrev pub CanUp : ℕ → ℕ → Memo → ℕ → Spot → Type 0
-CanUp n c m b (spot.Root d k) = (d ≡ c) × MayAdd c m k b
-CanUp n c m b (spot.Home d) = (d ≡ c) × MaySet c m b
-CanUp n c m b (spot.Slot s r k) = (s ≡ c) × MayPut n c m r k b
-CanUp n c m b (spot.Body d i) = MayFill c m d i b
-CanUp n c m b p = ⊥
+abbrev pub CanUp : Bool → ℕ → ℕ → Memo → ℕ → Spot → Type 0
+CanUp wide n c m b (spot.Root d k) = (d ≡ c) × MayAdd c m k b
+CanUp wide n c m b (spot.Home d) = (d ≡ c) × MaySet c m b
+CanUp wide n c m b (spot.Slot s r k) = (s ≡ c) × MayPut n c m r k b
+CanUp wide n c m b (spot.Body d i) = MayFill wide c m d i b
+CanUp wide n c m b p = ⊥
 
-abbrev pub CanDown : ℕ → ℕ → Memo → ℕ → Spot → Type 0
-CanDown n c m b (spot.Root d k) = (d ≡ c) × MayRemove c m k b
-CanDown n c m b (spot.Slot s r k) = ((r ≡ c) × MayTake c m s k b) ⊎ ((s ≡ c) × MayTakeBack n c m r k b)
-CanDown n c m b (spot.Body d i) = MayClear c m d i b
-CanDown n c m b p = ⊥
+abbrev pub CanDown : Bool → ℕ → ℕ → Memo → ℕ → Spot → Type 0
+CanDown wide n c m b (spot.Root d k) = (d ≡ c) × MayRemove c m k b
+CanDown wide n c m b (spot.Slot s r k) = ((r ≡ c) × MayTake c m s k b) ⊎ ((s ≡ c) × MayTakeBack n c m r k b)
+CanDown wide n c m b (spot.Body d i) = MayClear wide c m d i b
+CanDown wide n c m b p = ⊥
 
-abbrev pub CanChange : ℕ → Memo → ℕ → ℕ → Spot → Type 0
-CanChange c m a b (spot.Root d k) = (d ≡ c) × MayReplaceRoot c m k a b
-CanChange c m a b (spot.Body d i) = MayReplace c m d i a b
-CanChange c m a b p = ⊥
+abbrev pub CanChange : Bool → ℕ → Memo → ℕ → ℕ → Spot → Type 0
+CanChange wide c m a b (spot.Root d k) = (d ≡ c) × MayReplaceRoot c m k a b
+CanChange wide c m a b (spot.Body d i) = MayReplace wide c m d i a b
+CanChange wide c m a b p = ⊥
 
-abbrev pub CanAim : ℕ → ℕ → Memo → Aim → Spot → Type 0
-CanAim n c m (Up b) p = CanUp n c m b p
-CanAim n c m (Down b) p = CanDown n c m b p
-CanAim n c m (Change a b) p = CanChange c m a b p
+abbrev pub CanAim : Bool → ℕ → ℕ → Memo → Aim → Spot → Type 0
+CanAim wide n c m (Up b) p = CanUp wide n c m b p
+CanAim wide n c m (Down b) p = CanDown wide n c m b p
+CanAim wide n c m (Change a b) p = CanChange wide c m a b p
 
 -- of a slot of a queue that is to have a block the memo has read a head that leaves room
 abbrev pub HasPut : ℕ → Aim → Spot → Memo → Type 0
@@ -99,13 +99,13 @@ HasPut c (Up b) (spot.Slot s i k) m = (y : ℕ) × Contains m.facts (Counter (sp
 HasPut c x p m = Unit {0}
 
 -- a step down may take a reference out of a zero-count block, from which no partition is read
-abbrev pub IsDyingWord : Memo → Aim → Spot → Type 0
-IsDyingWord r (Down b) (spot.Body d i) = Contains r.dying d
-IsDyingWord r x p = ⊥
+abbrev pub IsDyingWord : Bool → Memo → Aim → Spot → Type 0
+IsDyingWord wide r (Down b) (spot.Body d i) = Contains r.dying d
+IsDyingWord wide r x p = ⊥
 
 -- what the partition of a memo needs of a step: none is read from the slot, or the slot is a word of a zero-count block in a step down, or the step is one that tables make
-abbrev pub KeepsPart : ℕ → Memo → Aim → Spot → Type 0
-KeepsPart c r x p = (is_read r.part p ≡ false) ⊎ (IsDyingWord r x p ⊎ TableStep c (sight c r) p (value_before x) (value_after x))
+abbrev pub KeepsPart : Bool → ℕ → Memo → Aim → Spot → Type 0
+KeepsPart wide c r x p = (is_read r.part p ≡ false) ⊎ (IsDyingWord wide r x p ⊎ TableStep wide c (sight c r) p (value_before x) (value_after x))
 
 -- no step of the identity is in progress, the slot is the spot p and is c's to change so, and a block that is to be raised is in reach; in a pool for tables the partition is the one of the memo's change, and only a value block is sent
 pub record CanStep (me : Me) (slot : ℕ) (x : Aim) (p : Spot) (r : Memo) : Type 0 where
@@ -117,10 +117,10 @@ pub record CanStep (me : Me) (slot : ℕ) (x : Aim) (p : Spot) (r : Memo) : Type
   pub at : slot ≡ spot_address me.geometry p
   pub inside : (0 < slot) × (slot < total_of me.geometry)
   pub blocks : AimFits me x
-  pub can : own_word r.own (spot.Era me.who me.who) ≤ last_era x → CanAim me.geometry.clients me.who r x p
+  pub can : own_word r.own (spot.Era me.who me.who) ≤ last_era x → CanAim me.geometry.wide me.geometry.clients me.who r x p
   pub put : HasPut me.who x p r
   pub reach : raises x First ≡ true → is_reached me.who r (block_at x First) ≡ true
-  pub part : KeepsPart me.who r x p
+  pub part : KeepsPart me.geometry.wide me.who r x p
   pub queued : is_loose r.part ≡ false → is_slot p ≡ true → raises x First ≡ true → Contains r.values (block_at x First)
 
 -- ---- what the memo shows on the way
@@ -139,20 +139,25 @@ abbrev pub op_of : Aim → Spot → ℕ → Half → Op
 op_of x p e First = begun_op x p e
 op_of x p e Second = open_op x p e
 
--- a word of the row of c for another identity
+-- a word of the row of c for another identity, or in format 2 the second word of its redo record
 abbrev pub is_row : ℕ → Spot → Bool
 is_row c (spot.Era i j) = (i == c) && not (j == c)
+is_row c (spot.RedoMore d) = d == c
 is_row c p = false
 
--- rows were raised, and nothing else of the memo changed
+-- rows were raised, in format 2 the second word of the redo record may have been stored, and nothing else of the memo changed
 pub record Rows (c : ℕ) (m m' : Memo) : Type 0 where
   pub rest : core m' ≡ core (record m { own = m'.own })
   pub own : (p : Spot) → is_row c p ≡ false → own_word m'.own p ≡ own_word m.own p
   pub more : (j : ℕ) → own_word m.own (spot.Era c j) ≤ own_word m'.own (spot.Era c j)
 
+-- the memo where the redo record is to be stored: in format 2 its second word is
+abbrev pub readied : Me → ℕ → Aim → ℕ → Memo → Memo
+readied me slot x e m = if me.geometry.wide then with_own m (spot.RedoMore me.who) (second_word me.geometry.wide (redo_at x slot e)) else m
+
 -- the memo once the redo record is stored
 abbrev pub begun : Me → ℕ → Aim → Spot → ℕ → Memo → Memo
-begun me slot x p e m = record m { own = record { spot = spot.Redo me.who; value = redo_word (redo_at x slot e) } ∷ m.own; op = begun_op x p e }
+begun me slot x p e m = record m { own = record { spot = spot.Redo me.who; value = first_word me.geometry.wide (redo_at x slot e) } ∷ m.own; op = begun_op x p e }
 
 -- the memo q at the exchange of the first half, whose era is the own era before
 abbrev pub AtFirst : Me → ℕ → Aim → Spot → Memo → Memo → ℕ → Type 0
@@ -160,7 +165,7 @@ AtFirst me slot x p r0 q e = (e ≡ own_word r0.own (spot.Era me.who me.who)) ×
 
 -- what the exchange of a half makes of q, and the store of the slot after it
 abbrev pub set_memo : Me → Aim → Spot → ℕ → Half → Memo → ℕ → Memo
-set_memo me x p e h q w = committed me.who q (op_of x p e h) (header_after me x e h w)
+set_memo me x p e h q w = committed me.geometry.wide me.who q (op_of x p e h) (header_after me x e h w)
 
 abbrev pub slot_memo : Me → Aim → Spot → ℕ → Memo → ℕ → Memo
 slot_memo me x p e q w = stored_on me.geometry me.who (set_memo me x p e First q w) p (value_after x)
@@ -187,7 +192,8 @@ InHalf me slot x p r0 r e Second = (d : ℕ) × (e ≡ d + 1) × ((q : Memo) × 
 -- what the memo shows at a point; the header that was exchanged is one of a counted block
 abbrev pub PointHas : Me → ℕ → Aim → Spot → Memo → Memo → StepPoint → Type 0
 PointHas me slot x p r0 r point.Era = (core r ≡ core r0) × HasPut me.who x p r
-PointHas me slot x p r0 r (point.Redo e) = (core r ≡ core r0) × (e ≡ own_word r0.own (spot.Era me.who me.who)) × HasPut me.who x p r
+PointHas me slot x p r0 r (point.More e) = (core r ≡ core r0) × (e ≡ own_word r0.own (spot.Era me.who me.who)) × HasPut me.who x p r × (me.geometry.wide ≡ true)
+PointHas me slot x p r0 r (point.Redo e) = (core r ≡ core (readied me slot x e r0)) × (e ≡ own_word r0.own (spot.Era me.who me.who)) × HasPut me.who x p r
 PointHas me slot x p r0 r (point.Load e h) = InHalf me slot x p r0 r e h
 PointHas me slot x p r0 r (point.Row e h w) = InHalf me slot x p r0 r e h × HasRead me.who me.geometry.clients r w × (me.who ≢ (header_of w).client)
 PointHas me slot x p r0 r (point.Show e h w) = InHalf me slot x p r0 r e h × HasRead me.who me.geometry.clients r w × (me.who ≢ (header_of w).client) × (own_word r.own (spot.Era me.who (header_of w).client) ≤ (header_of w).era)

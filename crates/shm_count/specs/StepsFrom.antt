@@ -120,7 +120,7 @@ module _ (p : Spot) (y0 : StepPoint) where
       record {
         placed = record {
           steady = step_steady;
-          inside = λ m rs r tr l fit going. ask_inside m.me m.slot m.aim p fit.r0 r m.point fit.knows.geometry l fit.came.can.blocks fit.came.can.inside fit.holds.has going;
+          inside = λ m rs r tr l fit going. (ask_inside m.me m.slot m.aim p fit.r0 r m.point fit.knows.geometry l fit.came.can.blocks fit.came.can.inside fit.holds.has going).1;
           back = λ m n going goes rs r tr a g. record { r0 = g.r0; came = record { can = g.came.can; holds = g.came.holds }; gives = g.gives; trail = g.trail; events = g.events };
           keeps = keeps;
         };

@@ -43,11 +43,11 @@ module _ (me : Me) (w : Spot → ℕ) (r : ℕ → Memo) (held : HeldAt me.geome
   word_inside : (d i y : ℕ) → SlotHas me.geometry w r me.who (spot.Body d i) y → (0 < spot_address me.geometry (spot.Body d i)) × (spot_address me.geometry (spot.Body d i) < total_of me.geometry)
   word_inside d i y s =
       let room = live_room me.geometry w r held d me.who s.holds.0 in
-      let low : i < tag_refs (w (spot.Tag d)) = s.holds.1 in
+      let low : i < tag_refs me.geometry.wide (w (spot.Tag d)) = s.holds.1 in
       subst (λ a. (0 < a) × (a < total_of me.geometry)) (sym (word_address me.geometry d i)) (omega arith, omega arith)
 
   -- a block in reach is to be put into an empty word
-  pub can_fill : (d i b : ℕ) → recovers (r me.who) ≡ false → IsOwnWord me.who (r me.who) d i 0 → is_reached me.who (r me.who) b ≡ true → TableStep me.who (sight me.who (r me.who)) (spot.Body d i) 0 b
+  pub can_fill : (d i b : ℕ) → recovers (r me.who) ≡ false → IsOwnWord me.geometry.wide me.who (r me.who) d i 0 → is_reached me.who (r me.who) b ≡ true → TableStep me.geometry.wide me.who (sight me.who (r me.who)) (spot.Body d i) 0 b
       → CanStep me (spot_address me.geometry (spot.Body d i)) (Up b) (spot.Body d i) (r me.who)
   can_fill d i b client word reach step =
       record {
@@ -67,7 +67,7 @@ module _ (me : Me) (w : Spot → ℕ) (r : ℕ → Memo) (held : HeldAt me.geome
       }
 
   -- the block of a word is to go
-  pub can_clear : (d i b : ℕ) → b ≢ 0 → IsOwnWord me.who (r me.who) d i b → TableStep me.who (sight me.who (r me.who)) (spot.Body d i) b 0
+  pub can_clear : (d i b : ℕ) → b ≢ 0 → IsOwnWord me.geometry.wide me.who (r me.who) d i b → TableStep me.geometry.wide me.who (sight me.who (r me.who)) (spot.Body d i) b 0
       → CanStep me (spot_address me.geometry (spot.Body d i)) (Down b) (spot.Body d i) (r me.who)
   can_clear d i b some word step =
       let has : SlotHas me.geometry w r me.who (spot.Body d i) b = own_word_has me.geometry w r me.who held who d i b word in
@@ -88,7 +88,7 @@ module _ (me : Me) (w : Spot → ℕ) (r : ℕ → Memo) (held : HeldAt me.geome
       }
 
   -- a word is to have another block, which is in reach
-  pub can_replace : (d i a b : ℕ) → recovers (r me.who) ≡ false → a ≢ 0 → a ≢ b → IsOwnWord me.who (r me.who) d i a → is_reached me.who (r me.who) b ≡ true → TableStep me.who (sight me.who (r me.who)) (spot.Body d i) a b
+  pub can_replace : (d i a b : ℕ) → recovers (r me.who) ≡ false → a ≢ 0 → a ≢ b → IsOwnWord me.geometry.wide me.who (r me.who) d i a → is_reached me.who (r me.who) b ≡ true → TableStep me.geometry.wide me.who (sight me.who (r me.who)) (spot.Body d i) a b
       → CanStep me (spot_address me.geometry (spot.Body d i)) (Change a b) (spot.Body d i) (r me.who)
   can_replace d i a b client some other word reach step =
       let has : SlotHas me.geometry w r me.who (spot.Body d i) a = own_word_has me.geometry w r me.who held who d i a word in
@@ -109,7 +109,7 @@ module _ (me : Me) (w : Spot → ℕ) (r : ℕ → Memo) (held : HeldAt me.geome
       }
 
   -- the own home is empty, and is to have a directory that is in reach
-  pub can_found : (b : ℕ) → recovers (r me.who) ≡ false → own_word (r me.who).own (spot.Home me.who) ≡ 0 → is_reached me.who (r me.who) b ≡ true → TableStep me.who (sight me.who (r me.who)) (spot.Home me.who) 0 b
+  pub can_found : (b : ℕ) → recovers (r me.who) ≡ false → own_word (r me.who).own (spot.Home me.who) ≡ 0 → is_reached me.who (r me.who) b ≡ true → TableStep me.geometry.wide me.who (sight me.who (r me.who)) (spot.Home me.who) 0 b
       → CanStep me (spot_address me.geometry (spot.Home me.who)) (Up b) (spot.Home me.who) (r me.who)
   can_found b client empty reach step =
       record {

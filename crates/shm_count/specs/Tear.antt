@@ -15,7 +15,7 @@ pub mod Laws
 pub mod Going
 pub mod Keeps
 pub mod Tells
-use Rattle.std.specs.Prelude.{◌≡◌, ◌≢◌, ℕ, ◌+◌, ◌-◌, ◌*◌, ◌^◌, ◌<◌, ◌≤◌, Bool, true, not, ◌==◌, List, [], ◌∷◌, ◌++◌, length, Result, Ok, Err}
+use Rattle.std.specs.Prelude.{false, ◌≡◌, ◌≢◌, ℕ, ◌+◌, ◌-◌, ◌*◌, ◌^◌, ◌<◌, ◌≤◌, Bool, true, not, ◌==◌, List, [], ◌∷◌, ◌++◌, length, Result, Ok, Err}
 use Rattle.std.specs.List.{All, Contains, filter, list_any}
 use Rattle.shm_words.specs.declared.tag.Tag.{Tag as ATag}
 use Rattle.shm_words.specs.Layout.{GeometryFits, total_of}
@@ -24,7 +24,7 @@ use Rattle.shm_graph.specs.declared.spot.Spot.TheVariants.{Era, Body}
 use Rattle.shm_graph.specs.declared.memo.Memo.{Memo}
 use Rattle.shm_graph.specs.declared.memo.Op.TheVariants as op
 use Rattle.shm_graph.specs.Asks.{Trail, failed, IsWithin}
-use Rattle.shm_graph.specs.Bounds.{tear_steps}
+use Rattle.shm_graph.specs.Bounds.{tear_steps, redo_steps}
 use Rattle.shm_graph.specs.Agents.{recovers}
 use Rattle.shm_graph.specs.Events.{Event}
 use Rattle.shm_graph.specs.Stores.{not_block}
@@ -102,10 +102,15 @@ PointShows me b k vs m point.Over = ⊥
 
 -- ---- how many word steps there were
 
--- what is left to be done at most with these blocks: 9 word steps for each reference word, one to free a block, and 17 to go through the words of the block that named it again
-abbrev pub left_for : List Visit → ℕ
-left_for [] = 0
-left_for (v ∷ vs) = 9 * (16 - v.cleared) + 18 + left_for vs
+-- what a reference word costs at most: it is loaded, and there is a step down
+abbrev pub word_cost : Bool → ℕ
+word_cost false = 9
+word_cost true = 10
+
+-- what is left to be done at most with these blocks: so much for each reference word, one word step to free a block, and 17 to go through the words of the block that named it again
+abbrev pub left_for : Bool → List Visit → ℕ
+left_for wide [] = 0
+left_for wide (v ∷ vs) = word_cost wide * (16 - v.cleared) + 18 + left_for wide vs
 
 -- what comes before the next word that isn't done with
 abbrev pub due_at : ℕ → TearPoint → ℕ
@@ -117,25 +122,26 @@ due_at k point.Return = k + 1
 due_at k y = 0
 
 -- how many steps of a step down come before a point, but for what is tried again
-abbrev pub steps_before : StepPoint → ℕ
-steps_before step.Era = 0
-steps_before (step.Redo e) = 1
-steps_before (step.Load e h) = 2
-steps_before (step.Row e h w) = 3
-steps_before (step.Show e h w) = 4
-steps_before (step.Exchange e h w) = 5
-steps_before (step.Slot e z) = 6
-steps_before (step.Close e h z) = 7
-steps_before step.Over = 8
+abbrev pub steps_before : Bool → StepPoint → ℕ
+steps_before wide step.Era = 0
+steps_before wide (step.More e) = redo_steps wide - 1
+steps_before wide (step.Redo e) = redo_steps wide
+steps_before wide (step.Load e h) = 1 + redo_steps wide
+steps_before wide (step.Row e h w) = 2 + redo_steps wide
+steps_before wide (step.Show e h w) = 3 + redo_steps wide
+steps_before wide (step.Exchange e h w) = 4 + redo_steps wide
+steps_before wide (step.Slot e z) = 5 + redo_steps wide
+steps_before wide (step.Close e h z) = 6 + redo_steps wide
+steps_before wide step.Over = 7 + redo_steps wide
 
 -- the load of a word, and what was done of its step down
-abbrev pub done_at : TearPoint → ℕ
-done_at (point.Down g i t y) = 1 + steps_before y
-done_at y = 0
+abbrev pub done_at : Bool → TearPoint → ℕ
+done_at wide (point.Down g i t y) = 1 + steps_before wide y
+done_at wide y = 0
 
--- what was asked, what is due and what is left are within 164 word steps for each block, and three more for each exchange that failed
-abbrev pub IsPaid : List Visit → ℕ → TearPoint → List Event → Trail → Type 0
-IsPaid vs k y es tr = length tr + left_for vs + due_at k y ≤ 164 * (frees es + length vs) + 3 * failed tr + done_at y
+-- what was asked, what is due and what is left are within 164 word steps for each block, in format 2 180, and three more for each exchange that failed
+abbrev pub IsPaid : Bool → List Visit → ℕ → TearPoint → List Event → Trail → Type 0
+IsPaid wide vs k y es tr = length tr + left_for wide vs + due_at k y ≤ tear_steps wide (frees es + length vs) + 3 * failed tr + done_at wide y
 
 -- ---- on the way
 
@@ -153,7 +159,7 @@ pub record Settled (me : Me) (first b k : ℕ) (vs : List Visit) (r0 m : Memo) (
 pub record TearAt (me : Me) (first b k : ℕ) (vs : List Visit) (y : TearPoint) (r0 m : Memo) (es : List Event) (tr : Trail) : Type 0 where
   pub settled : Settled me first b k vs r0 m es
   pub shows : PointShows me b k vs m y
-  pub paid : IsPaid (record { block = b; cleared = k } ∷ vs) k y es tr
+  pub paid : IsPaid me.geometry.wide (record { block = b; cleared = k } ∷ vs) k y es tr
 
 -- at a step down the memo m was so before it
 abbrev pub TearHolds : Me → ℕ → Memo → ℕ → TearPoint → Memo → List Event → Trail → Type 0
@@ -176,14 +182,14 @@ pub record TearFits (m : TearState) (r0 r : Memo) (tr : Trail) : Type 0 where
 
 -- ---- what it leaves
 
--- the block is freed, and so is each block whose count came to 0 on the way; the events are those of one walk, with at most 164 word steps for each block
+-- the block is freed, and so is each block whose count came to 0 on the way; the events are those of one walk, with at most 164 word steps for each block, in format 2 180
 pub record Torn (me : Me) (first : ℕ) (r0 r : Memo) (es : List Event) (tr : Trail) : Type 0 where
   pub agent : recovers r ≡ recovers r0
   pub stays : TearStays me.who r0 r
   pub retains : Retains me.who r0 r
   pub others : r.dying ≡ filter (not_block first) r0.dying
   pub walks : Walks me.who first es []
-  pub bound : IsWithin (tear_steps (frees es)) tr
+  pub bound : IsWithin (tear_steps me.geometry.wide (frees es)) tr
 
 -- the own era left no room for a step down, and these blocks, the innermost first, are still zero-count blocks: the events are those of a walk that has to go on with them
 pub record TornPartly (me : Me) (first : ℕ) (r0 r : Memo) (es : List Event) (tr : Trail) (era : ℕ) (vs : List Visit) : Type 0 where
@@ -194,7 +200,7 @@ pub record TornPartly (me : Me) (first : ℕ) (r0 r : Memo) (es : List Event) (t
   pub left : All (λ v. Contains r.dying v.block) vs
   pub others : filter (is_outside vs) r.dying ≡ filter (not_block first) r0.dying
   pub walks : Walks me.who first es vs
-  pub bound : IsWithin (tear_steps (frees es + length vs)) tr
+  pub bound : IsWithin (tear_steps me.geometry.wide (frees es + length vs)) tr
   pub spent : era ≡ own_word r.own (Era me.who me.who)
   pub last : 2 ^ 47 - 3 < era
 

@@ -5,6 +5,8 @@ pub mod Laws
 pub mod AsPart
 use Rattle.std.specs.Prelude.{◌≡◌, ◌≢◌, ℕ, ◌+◌, ◌-◌, ◌^◌, ◌<◌, ◌≤◌, true, false, Result, Ok, Err, List, [], ◌∷◌}
 use Rattle.shm_words.specs.Layout.{GeometryFits}
+use Rattle.shm_graph.specs.Bounds.{redo_steps}
+use Rattle.shm_count.specs.Step.Control.{first_point}
 use Rattle.shm_graph.specs.declared.ask.Me.{Me}
 use Rattle.shm_graph.specs.declared.spot.Spot.{Spot}
 use Rattle.shm_graph.specs.declared.spot.Spot.TheVariants as spot
@@ -30,7 +32,6 @@ use Rattle.shm_count.specs.declared.answer.ShareFault.{ShareFault}
 use Rattle.shm_count.specs.declared.answer.ShareFault.TheVariants as share
 use Rattle.shm_count.specs.declared.answer.UpFault.{UpFault}
 use Rattle.shm_count.specs.declared.answer.UpFault.TheVariants.{EraSpent, CountFull}
-use Rattle.shm_count.specs.declared.point.StepPoint.TheVariants as point
 use Rattle.shm_count.specs.declared.point.StepState.{StepState}
 use Rattle.shm_count.specs.declared.up_root.RootingPoint.{RootingPoint}
 use Rattle.shm_count.specs.declared.up_root.RootingPoint.TheVariants.{Era, Look, Step}
@@ -72,7 +73,7 @@ TookUp c k b rs r t es (Err (EraSpent e)) = ⊥
 TookUp c k b rs r t es (Err (CountFull d n)) = (d ≡ b) × (n ≡ 1023) × ReadsCount d n t × Untouched c rs r × (es ≡ [])
 
 abbrev pub taken_part : Me → ℕ → ℕ → ℕ → Part StepState (Result (Unit {0}) UpFault)
-taken_part me k b e = weaker (mapped_part up_answer (from_part (spot.Root me.who k) (point.Redo e))) (MayTakeUp me k b e) (λ m rs r t es a. TookUp me.who k b rs r t es a × IsWithin 7 t)
+taken_part me k b e = weaker (mapped_part up_answer (from_part (spot.Root me.who k) (first_point me e))) (MayTakeUp me k b e) (λ m rs r t es a. TookUp me.who k b rs r t es a × IsWithin (6 + redo_steps me.geometry.wide) t)
 
 -- ---- on the way
 
@@ -105,7 +106,7 @@ pub record Rooted (me : Me) (b k : ℕ) (r0 r : Memo) (tr : Trail) (es : List Ev
   pub room : own_word r0.own (spot.Era me.who me.who) + 3 ≤ 2 ^ 47
   pub filled : Filled me.who (spot.Root me.who k) b r0 r
   pub events : es ≡ event.Up me.who (spot.Root me.who k) b ∷ []
-  pub bound : IsWithin (up_steps + 1 + k) tr
+  pub bound : IsWithin (up_steps me.geometry.wide + 1 + k) tr
 
 -- the own era left no room, and nothing was done
 pub record EraRefused (me : Me) (e : ℕ) (r0 r : Memo) (tr : Trail) (es : List Event) : Type 0 where
@@ -132,7 +133,7 @@ pub record CountRefused (me : Me) (b d n : ℕ) (r0 r : Memo) (tr : Trail) (es :
   pub read : ReadsCount d n tr
   pub untouched : Untouched me.who r0 r
   pub events : es ≡ []
-  pub bound : IsWithin (up_steps + 16) tr
+  pub bound : IsWithin (up_steps me.geometry.wide + 16) tr
 
 abbrev pub UpRootLeaves : Me → ℕ → Memo → Memo → Trail → List Event → Result ℕ ShareFault → Type 0
 UpRootLeaves me b r0 r tr es (Ok k) = Rooted me b k r0 r tr es

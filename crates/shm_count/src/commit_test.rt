@@ -45,7 +45,7 @@ pub enum Commit {
 /// Which word step of it comes next.
 #[derive(Clone, Copy, Drop)]
 pub enum TestingPoint {
-    /// The header of the block is loaded.
+    /// The header of the block is loaded; word 0, where the block is 0.
     Header,
     /// A row is loaded.
     Row,
@@ -103,7 +103,8 @@ impl Model for Testing {
 pub type CommitTest = Calls<Testing>;
 
 impl Testing {
-    /// Whether the step of the identity `me` at its own era was committed on `block`, before the first load.
+    /// Whether the step of the identity `me` at its own era was committed on `block`, before the first load. In format 2 the block may be
+    /// 0, which a redo record names while its words are of two records; then no step was.
     #[inline(always)]
     pub fn new(me: Me, block: u32, era: u64) -> Testing
         requires geometry { GeometryFits me.geometry }
@@ -182,7 +183,8 @@ impl Plan for Testing {
     ghost laws = { testing_laws };
 }
 
-/// A commit test fits each memo of an identity whose agent is a recoverer, where the redo record names the block for the own era.
+/// A commit test fits each memo of an identity whose agent is a recoverer, where the redo record names the block for the own era, or in
+/// format 2 names 0 for it.
 pub fn commit_test_begins()
     ensures { (me : AMe) (b e : ℕ) (r : AMemo) → MayTest me b e r → CommitTestFits me b e r r [] }
 {}

@@ -1,9 +1,9 @@
 //! The control of a count step: which word it asks for, and where it goes by the word found.
 
 ghost use Rattle.std.specs.Prelude.{◌≡◌, ◌≢◌, ◌+◌, ◌<◌, ◌≤◌, ◌^◌, true, slice_index, vec_len};
-ghost use Rattle.shm_words.specs.Layout.{GeometryFits, address_limit};
+ghost use Rattle.shm_words.specs.Layout.{GeometryFits};
 ghost use Rattle.shm_words.specs.Headers.{header_of};
-ghost use Rattle.shm_words.specs.Redos.{redo_word};
+ghost use Rattle.shm_words.specs.Redos.{first_word, second_word};
 ghost use Rattle.shm_graph.specs.declared.ask.Ask.TheVariants as asks;
 ghost use Rattle.shm_graph.specs.Asks.{at_of, seen_of, words_set};
 ghost use Rattle.shm_count.specs.Step.Control.{AimSmall, EraFits, PartFits, CountFits, StepInRange};
@@ -13,7 +13,7 @@ ghost use Rattle.shm_count.specs.declared.point.StepPoint.TheVariants as point;
 
 use crate::answer::UpFault;
 use shm_graph::{Ask, Me, make_step};
-use shm_words::{Header, Redo};
+use shm_words::{Header, Pair2, Redo};
 
 /// What a count step does to the reference word that is its slot.
 #[derive(Clone, Copy, Drop)]
@@ -38,7 +38,9 @@ pub enum Half {
 pub enum StepPoint {
     /// Load the own era.
     Era,
-    /// Store the redo record.
+    /// Store the second word of the redo record, in format 2.
+    More { era: u64 },
+    /// Store the redo record, in format 2 its first word.
     Redo { era: u64 },
     /// Load the header of the block.
     Load { era: u64, part: Half },
@@ -182,18 +184,39 @@ impl StepState {
         }
     }
 
-    /// The store of the redo record.
+    /// The words of the redo record.
+    #[inline(always)]
+    fn record(self, era: u64) -> Pair2
+        ensures first { result.first ≡ first_word self.me.geometry.wide (control.redo_at self.aim self.slot era) }
+        ensures second { result.second ≡ second_word self.me.geometry.wide (control.redo_at self.aim self.slot era) }
+    {
+        self.me.geometry.write_redo(self.aim.redo(self.slot, era))
+    }
+
+    /// The store of the second word of the redo record.
+    #[inline(always)]
+    fn prepare(self, era: u64) -> Ask
+        requires geometry { GeometryFits self.me.geometry }
+        requires wide { self.me.geometry.wide ≡ true }
+        requires who { self.me.who < self.me.geometry.clients }
+        ensures { result ≡ control.step_ask_at self.me self.slot self.aim (point.More era) }
+    {
+        Ask::Store {
+            at: self.me.geometry.redo_more(self.me.who),
+            value: self.record(era).second,
+        }
+    }
+
+    /// The store of the redo record, in format 2 of its first word.
     #[inline(always)]
     fn begin(self, era: u64) -> Ask
         requires geometry { GeometryFits self.me.geometry }
         requires who { self.me.who < self.me.geometry.clients }
-        requires slot { self.slot < address_limit }
-        requires aim { AimSmall self.aim }
         ensures { result ≡ control.step_ask_at self.me self.slot self.aim (point.Redo era) }
     {
         Ask::Store {
             at: self.me.geometry.redo(self.me.who),
-            value: self.aim.redo(self.slot, era).pack(),
+            value: self.record(era).first,
         }
     }
 
@@ -222,6 +245,7 @@ impl StepState {
             StepPoint::Era => Ask::Load {
                 at: geometry.era(who, who),
             },
+            StepPoint::More { era } => self.prepare(era),
             StepPoint::Redo { era } => self.begin(era),
             StepPoint::Load { part, .. } => Ask::Load {
                 at: self.aim.block(part),
@@ -255,6 +279,7 @@ impl StepState {
     {
         match self.point {
             StepPoint::Era => self.era_next(seen),
+            StepPoint::More { era } => StepNext::Point(StepPoint::Redo { era }),
             StepPoint::Redo { era } => StepNext::Point(StepPoint::Load {
                 era,
                 part: Half::First,
@@ -304,6 +329,7 @@ impl StepState {
     {
         match self.point {
             StepPoint::Era => self.make(words),
+            StepPoint::More { .. } => self.make(words),
             StepPoint::Redo { .. } => self.make(words),
             StepPoint::Load { .. } => self.make(words),
             StepPoint::Row { .. } => self.make(words),
@@ -321,7 +347,8 @@ impl StepState {
         ensures { result ≡ exchanging.step_exchanged self }
     {
         match self.point {
-            StepPoint::Era | StepPoint::Redo { .. } | StepPoint::Over => false,
+            StepPoint::Era | StepPoint::More { .. } | StepPoint::Redo { .. } | StepPoint::Over =>
+                false,
             StepPoint::Load { part, .. }
             | StepPoint::Row { part, .. }
             | StepPoint::Show { part, .. }
@@ -333,12 +360,12 @@ impl StepState {
     /// Where it goes by the own era.
     #[inline(always)]
     fn era_next(self, seen: u64) -> StepNext
-        ensures { result ≡ control.era_next self.aim seen }
+        ensures { result ≡ control.era_next self.me self.aim seen }
     {
         if seen > self.aim.last_era() {
             StepNext::Answer(Err(UpFault::EraSpent { era: seen }))
         } else {
-            StepNext::Point(StepPoint::Redo { era: seen })
+            StepNext::Point(first_point(self.me, seen))
         }
     }
 
@@ -391,6 +418,18 @@ impl StepState {
             }),
             _ => StepNext::Answer(Ok(zero)),
         }
+    }
+}
+
+/// The store that begins a step at an own era that leaves room for it.
+#[inline(always)]
+pub fn first_point(me: Me, era: u64) -> StepPoint
+    ensures { result ≡ control.first_point me era }
+{
+    if me.geometry.is_wide() {
+        StepPoint::More { era }
+    } else {
+        StepPoint::Redo { era }
     }
 }
 

@@ -4,13 +4,14 @@ ghost use Rattle.std.specs.Prelude.{◌≡◌, ◌+◌, ◌<◌, ◌≤◌, ◌^
 ghost use Rattle.shm_graph.specs.Asks.{at_of, seen_of, words_set};
 ghost use Rattle.shm_words.specs.Layout.{GeometryFits, address_limit};
 ghost use Rattle.shm_count.specs.declared.point.Aim.TheVariants as aims;
-ghost use Rattle.shm_count.specs.declared.point.StepPoint.TheVariants.{Era, Redo};
-ghost use Rattle.shm_count.specs.Step.Control.{StepInRange, step_ask, step_next, answer_of, point_of, step_control, is_over};
+ghost use Rattle.shm_count.specs.declared.point.StepPoint.TheVariants.{Era};
+ghost use Rattle.shm_count.specs.Step.Control.{StepInRange, first_point, step_ask, step_next, answer_of, point_of, step_control, is_over};
 ghost use Rattle.shm_count.specs.Step.Exchanged.{step_exchanged};
 ghost use Rattle.shm_count.specs.Step.Machines as machines;
 ghost use Rattle.shm_count.specs.Step.Keeps.{step_keeps};
 
 use crate::answer::{EraSpent, UpFault};
+use crate::point;
 use crate::point::{Aim, StepNext, StepPoint, StepState};
 use shm_graph::{Ask, Machine, Me, Turn};
 use std::marker::Model;
@@ -126,10 +127,10 @@ impl StepUp {
         requires slot { slot < address_limit }
         requires block { block < address_limit }
         requires era { era + 3 ≤ 2 ^ 47 }
-        ensures { result ≡ record { me = me; slot = slot; aim = aims.Up block; point = Redo era } }
+        ensures { result ≡ record { me = me; slot = slot; aim = aims.Up block; point = first_point me era } }
     {
         let aim = Aim::Up { block };
-        let point = StepPoint::Redo { era };
+        let point = point::first_point(me, era);
         StepUp {
             state: StepState {
                 me,

@@ -85,7 +85,7 @@ impl TearState {
 ///
 /// The links of the tags are its stack, so that it needs no memory of its own however many blocks hang together. It answers `EraSpent`
 /// where the own era is above 2^47 - 3 at a reference that is to go: the blocks that it was working on then keep their count 0, each to
-/// be torn down by a call of its own. It takes at most 164 word steps for each block.
+/// be torn down by a call of its own. It takes at most 164 word steps for each block, in format 2 180.
 #[derive(Drop)]
 pub struct TearDown {
     state: TearState,

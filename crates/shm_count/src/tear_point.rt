@@ -11,7 +11,7 @@ ghost use Rattle.shm_count.specs.Step.Control.{StepInRange};
 use crate::answer::{EraSpent, UpFault};
 use crate::point::{Aim, StepNext, StepPoint, StepState};
 use shm_graph::{Ask, Me, make_step};
-use shm_words::{ADDRESS_LIMIT, Tag};
+use shm_words::{ADDRESS_LIMIT, Geometry, Tag};
 
 /// The word step of a tear-down that comes next; `tag` is that of its block, whose link is the block to go on with.
 #[derive(Clone, Copy, Drop)]
@@ -91,7 +91,7 @@ impl TearState {
             },
             TearPoint::Link { tag } => Ask::Store {
                 at: self.block + 1,
-                value: tag.pack(),
+                value: self.me.geometry.write_tag(tag),
             },
             TearPoint::Word { index, .. } => Ask::Load {
                 at: word_address(self.block, index),
@@ -136,7 +136,7 @@ impl TearState {
                 StepNext::Answer(answer) => self.lowered(tag, index, found, answer),
             },
             TearPoint::Free { tag } => freed(tag),
-            TearPoint::Return => self.go(word_or_free(tag_read(seen), 0)),
+            TearPoint::Return => self.go(word_or_free(tag_read(self.me.geometry, seen), 0)),
             TearPoint::Over => self.go(TearPoint::Over),
         }
     }
@@ -188,14 +188,17 @@ impl TearState {
     /// Where it goes by the tag of a block that is entered from the block `link`, or from none.
     #[inline(always)]
     fn entered(self, link: u32, seen: u64) -> TearNext
-        ensures { result ≡ control.entered_next self.block link seen }
+        ensures { result ≡ control.entered_next self.me.geometry.wide self.block link seen }
     {
-        let tag = tag_read(seen);
+        let tag = tag_read(self.me.geometry, seen);
         self.go(if tag.link == link {
             word_or_free(tag, 0)
         } else {
             TearPoint::Link {
-                tag: Tag { link, ..tag },
+                tag: Tag {
+                    link: link % self.me.geometry.limit(),
+                    ..tag
+                },
             }
         })
     }
@@ -236,7 +239,7 @@ impl TearState {
     }
 }
 
-/// The address of a reference word; no block of a pool ends beyond 2^20.
+/// The address of a reference word; no block of a pool ends beyond 2^24.
 #[inline(always)]
 fn word_address(block: u32, index: u8) -> u32
     requires block { block < address_limit }
@@ -247,10 +250,10 @@ fn word_address(block: u32, index: u8) -> u32
 
 /// The tag that a word is, or an empty one.
 #[inline(always)]
-fn tag_read(word: u64) -> Tag
-    ensures { result ≡ control.tag_read word }
+fn tag_read(geometry: Geometry, word: u64) -> Tag
+    ensures { result ≡ control.tag_read geometry.wide word }
 {
-    match Tag::unpack(word) {
+    match geometry.read_tag(word) {
         Some(tag) => tag,
         None => Tag {
             refs: 0,

@@ -12,3 +12,4 @@ pub mod Roles
 pub mod Claims
 pub mod SoundStates
 pub mod CleanPools
+pub mod RedoNames

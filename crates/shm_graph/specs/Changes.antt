@@ -39,7 +39,7 @@ test_before m t = if t.fresh then None else m.test
 abbrev pub changed_by : Memo → Step → Spot → Ask → Memo
 changed_by m t p (Load at) = read_on t.me.geometry t.me.who true (called m t) (test_before m t) p t.seen
 changed_by m t p (Store at v) = stored_on t.me.geometry t.me.who (called m t) p v
-changed_by m t p (Exchange at from to) = if t.seen == from then exchanged_on t.me.who (called m t) p to else read_on t.me.geometry t.me.who false (called m t) (test_before m t) p t.seen
+changed_by m t p (Exchange at from to) = if t.seen == from then exchanged_on t.me.geometry.wide t.me.who (called m t) p to else read_on t.me.geometry t.me.who false (called m t) (test_before m t) p t.seen
 
 -- what a step finds or stores is no part of the call and of the agents
 abbrev pub with_call : Memo → Memo → Memo

@@ -6,7 +6,7 @@ use Rattle.shm_words.specs.Tags.{tag_refs}
 use Rattle.shm_graph.specs.declared.ask.Ask.{Ask}
 use Rattle.shm_graph.specs.declared.ask.Ask.TheVariants.{Load, Store, Exchange}
 use Rattle.shm_graph.specs.declared.spot.Spot.{Spot}
-use Rattle.shm_graph.specs.declared.spot.Spot.TheVariants.{Status, Redo, Hold, Latch, Home, Era, Root, Tail, QueueHead, Slot, Segment, Page, Head, Tag, Body}
+use Rattle.shm_graph.specs.declared.spot.Spot.TheVariants.{Status, Redo, RedoMore, Hold, Latch, Home, Era, Root, Tail, QueueHead, Slot, Segment, Page, Head, Tag, Body}
 use Rattle.shm_graph.specs.Spots.{segment_of}
 use Rattle.shm_graph.specs.Blocks.{headers}
 use Rattle.shm_graph.specs.Ops.{slot_of}
@@ -23,12 +23,13 @@ IsOwnDying w c b = ((headers w b).live ≡ true) × ((headers w b).count ≡ 0) 
 
 -- the slot of c's step in progress, or a slot that c may use
 abbrev pub IsOwnSlot : (Spot → ℕ) → View → Geometry → ℕ → Spot → Type 0
-IsOwnSlot w v g c p = (slot_of (v.op c) ≡ p) ⊎ SlotOf c (λ b. header_of (w (Head b))) (λ b. w (Tag b)) (v.latch c) (λ s r. w (Tail s r)) (λ s r. w (QueueHead s r)) (reach_of (targets g w v) (λ s r. w (Tail s r)) (λ s r. w (QueueHead s r)) v.looks c) p
+IsOwnSlot w v g c p = (slot_of (v.op c) ≡ p) ⊎ SlotOf g.wide c (λ b. header_of (w (Head b))) (λ b. w (Tag b)) (v.latch c) (λ s r. w (Tail s r)) (λ s r. w (QueueHead s r)) (reach_of (targets g w v) (λ s r. w (Tail s r)) (λ s r. w (QueueHead s r)) v.looks c) p
 
 -- the word is c's to store: its own words; a latch that it holds, a segment that is its own and the pages of that without a class; slots; the words of its zero-count blocks and of free blocks of its segments
 abbrev pub IsController : Geometry → (Spot → ℕ) → View → ℕ → Spot → Type 0
 IsController g w v c (Status d) = d ≡ c
 IsController g w v c (Redo d) = d ≡ c
+IsController g w v c (RedoMore d) = d ≡ c
 IsController g w v c (Hold d) = d ≡ c
 IsController g w v c (Home d) = d ≡ c
 IsController g w v c (Era i j) = i ≡ c
@@ -41,7 +42,7 @@ IsController g w v c (Page s q) = (w (Segment s) ≡ c + 1) × (w (Page s q) ≡
 IsController g w v c (Slot s r k) = IsOwnSlot w v g c (Slot s r k)
 IsController g w v c (Head b) = IsOwnFree g w c b ⊎ IsOwnDying w c b
 IsController g w v c (Tag b) = IsOwnFree g w c b ⊎ IsOwnDying w c b
-IsController g w v c (Body b i) = IsOwnFree g w c b ⊎ ((IsOwnDying w c b × (i < tag_refs (w (Tag b)))) ⊎ IsOwnSlot w v g c (Body b i))
+IsController g w v c (Body b i) = IsOwnFree g w c b ⊎ ((IsOwnDying w c b × (i < tag_refs g.wide (w (Tag b)))) ⊎ IsOwnSlot w v g c (Body b i))
 IsController g w v c _ = ⊥
 
 -- what any identity may exchange: a segment or a latch that is nobody's, and the header of a live block whose count isn't 0

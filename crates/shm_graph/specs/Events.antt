@@ -1,7 +1,7 @@
 -- the graph of references, and what a word step may do to it
-use Rattle.std.specs.Prelude.{◌≡◌, ◌≢◌, ℕ, ◌*◌, ◌/◌, ◌^◌, ◌<◌, Bool, true, false, if◌then◌else◌}
+use Rattle.std.specs.Prelude.{◌≡◌, ◌≢◌, ℕ, ◌<◌, Bool, true, false, if◌then◌else◌}
 use Rattle.shm_words.specs.declared.geometry.Geometry.{Geometry}
-use Rattle.shm_words.specs.Tags.{tag_refs, tag_author}
+use Rattle.shm_words.specs.Tags.{tag_refs, tag_shape, shape_author}
 use Rattle.shm_graph.specs.declared.spot.Spot.{Spot}
 use Rattle.shm_graph.specs.declared.spot.Spot.TheVariants.{Root, Tag, Body}
 use Rattle.shm_graph.specs.Spots.{upd}
@@ -20,7 +20,7 @@ abbrev pub graph_of : Geometry → (Spot → ℕ) → View → Graph
 graph_of g w v =
     record {
       live = λ b. (headers w b).live;
-      shape = λ b. if (headers w b).live then w (Tag b) / 2 ^ 20 else 0;
+      shape = λ b. if (headers w b).live then tag_shape g.wide (w (Tag b)) else 0;
       target = targets g w v;
       held_over = held_overs v;
     }
@@ -61,7 +61,7 @@ abbrev pub Happens : Geometry → (Spot → ℕ) → Event → Graph → Graph �
 Happens g w Nothing a b = IsSame a b
 Happens g w (Alloc c k x) a b =
     IsFree g w x × (indegree g (classes w) a.target a.held_over x ≡ 0) × (a.target (Root c k) ≡ 0)
-    × ((shape : ℕ) × (tag_author (shape * 2 ^ 20) ≡ c) × IsSame (with_target (with_live a x true shape) (Root c k) x) b)
+    × ((shape : ℕ) × (shape_author shape ≡ c) × IsSame (with_target (with_live a x true shape) (Root c k) x) b)
     × ((i : ℕ) → b.target (Body x i) ≡ 0)
 Happens g w (Up c p x) a b = (a.target p ≡ 0) × IsCounted w x × IsSame (with_target a p x) b
 Happens g w (Down c p x) a b = (x ≢ 0) × (a.target p ≡ x) × IsSame (with_target a p 0) b
@@ -69,5 +69,5 @@ Happens g w (ChangeUp c p x y) a b = (a.target p ≡ x) × (x ≢ y) × IsCounte
 Happens g w (ChangeDown c x) a b = (x ≢ 0) × (a.held_over c ≡ x) × IsSame (with_held_over a c 0) b
 Happens g w (Free c x) a b =
     ((headers w x).live ≡ true) × ((headers w x).count ≡ 0) × ((headers w x).client ≡ c)
-    × ((i : ℕ) → i < tag_refs (w (Tag x)) → a.target (Body x i) ≡ 0)
+    × ((i : ℕ) → i < tag_refs g.wide (w (Tag x)) → a.target (Body x i) ≡ 0)
     × IsSame (with_live a x false 0) b

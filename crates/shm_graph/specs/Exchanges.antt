@@ -1,5 +1,5 @@
 -- what an exchange that succeeds leaves in the memo of its identity
-use Rattle.std.specs.Prelude.{ℕ, ◌&&◌, ◌==◌, if◌then◌else◌, Option, Some, None, List, [], ◌∷◌, ◌++◌}
+use Rattle.std.specs.Prelude.{ℕ, Bool, ◌&&◌, ◌==◌, if◌then◌else◌, Option, Some, None, List, [], ◌∷◌, ◌++◌}
 use Rattle.std.specs.List.{filter}
 use Rattle.shm_words.specs.Headers.{header_of}
 use Rattle.shm_words.specs.Tags.{tag_refs, tag_plain}
@@ -25,16 +25,16 @@ words_made None = []
 words_made (Some k) = k.words
 
 -- the value blocks with the new block, where its tag is that of a value block
-abbrev pub values_with : Memo → ℕ → ℕ → List ℕ
-values_with m b tag = if (tag_refs tag == 0) && (tag_plain tag == 1) then valued m.part b m.values else m.values
+abbrev pub values_with : Bool → Memo → ℕ → ℕ → List ℕ
+values_with wide m b tag = if (tag_refs wide tag == 0) && (tag_plain wide tag == 1) then valued m.part b m.values else m.values
 
 -- the free block that was prepared is live
-abbrev pub allocated : Memo → ℕ → Memo
-allocated m b =
+abbrev pub allocated : Bool → Memo → ℕ → Memo
+allocated wide m b =
     record m {
       making = None;
       known = words_made m.making ++ m.known;
-      values = values_with m b (or_zero (known_at (Tag b) (words_made m.making)));
+      values = values_with wide m b (or_zero (known_at (Tag b) (words_made m.making)));
       zeros = filter (other_than (Head b)) m.zeros;
       made = b ∷ m.made;
     }
@@ -69,25 +69,25 @@ cut c p m = record m { looks = cut_looks c m p }
 -- ---- the step in progress commits
 
 -- the memo after the header of the step's block became `to`, where the memo was m
-abbrev pub committed : ℕ → Memo → Op → ℕ → Memo
-committed c m (Alloc Begun p b e) to = allocated (record m { op = Alloc Committed p b e }) b
-committed c m (Up Begun p b e) to = reparted c (with_unsent c p b (record m { op = Up Committed p b e; made = without_made m b })) p b
-committed c m (Down Begun p b e) to =
+abbrev pub committed : Bool → ℕ → Memo → Op → ℕ → Memo
+committed wide c m (Alloc Begun p b e) to = allocated wide (record m { op = Alloc Committed p b e }) b
+committed wide c m (Up Begun p b e) to = reparted c (with_unsent c p b (record m { op = Up Committed p b e; made = without_made m b })) p b
+committed wide c m (Down Begun p b e) to =
     let n : Memo = with_untaken c p b (with_unsent c p 0 (record m { op = Down Committed p b e; made = without_made m b })) in
     sifted c (lowered (header_of to).count b (cut c p (reparted c n p 0)))
-committed c m (Change (Raising Begun) p a b e) to =
+committed wide c m (Change (Raising Begun) p a b e) to =
     let n : Memo = record m { op = Change (Raising Committed) p a b e; made = filter (not_block a) (without_made m b) } in
     sifted c (cut c p (reparted c n p b))
-committed c m (Change (Lowering Open) p a b e) to =
+committed wide c m (Change (Lowering Open) p a b e) to =
     let n : Memo = record m { op = Change (Lowering Closed) p a b e; made = without_made m a } in
     sifted c (lowered (header_of to).count a (cut c p n))
-committed c m o to = m
+committed wide c m o to = m
 
 -- ---- all
 
 -- the memo after the word at a spot became `to` by an exchange
-abbrev pub exchanged_on : ℕ → Memo → Spot → ℕ → Memo
-exchanged_on c m (Latch a) to = record m { latch = Some a }
-exchanged_on c m (Segment s) to = record m { owned = s ∷ m.owned }
-exchanged_on c m (Head b) to = committed c m m.op to
-exchanged_on c m p to = m
+abbrev pub exchanged_on : Bool → ℕ → Memo → Spot → ℕ → Memo
+exchanged_on wide c m (Latch a) to = record m { latch = Some a }
+exchanged_on wide c m (Segment s) to = record m { owned = s ∷ m.owned }
+exchanged_on wide c m (Head b) to = committed wide c m m.op to
+exchanged_on wide c m p to = m

@@ -5,13 +5,13 @@ use Rattle.shm_words.specs.declared.geometry.Geometry.{Geometry}
 use Rattle.shm_words.specs.declared.header.Header.{Header}
 use Rattle.shm_words.specs.declared.redo.Redo.{Redo as ARedo}
 use Rattle.shm_words.specs.declared.redo.Redo.TheVariants as redos
-use Rattle.shm_words.specs.Redos.{redo_of}
+use Rattle.shm_words.specs.Redos.{redo_of, kind_of, odd_of}
 use Rattle.shm_words.specs.Headers.{header_of}
-use Rattle.shm_words.specs.Tags.{tag_refs, tag_plain, tag_author, tag_link}
+use Rattle.shm_words.specs.Tags.{tag_refs, tag_plain, tag_author, tag_link, tag_limit}
 use Rattle.shm_words.specs.Classes.{IsClass, class_for}
 use Rattle.shm_words.specs.Layout.{GeometryFits}
 use Rattle.shm_graph.specs.declared.spot.Spot.{Spot}
-use Rattle.shm_graph.specs.declared.spot.Spot.TheVariants.{Spare, Status, Redo, Hold, Latch, Home, Era, Root, Tail, QueueHead, Slot, Segment, Page, Unused, Head, Tag, Body}
+use Rattle.shm_graph.specs.declared.spot.Spot.TheVariants.{Spare, Status, Redo, RedoMore, Hold, Latch, Home, Era, Root, Tail, QueueHead, Slot, Segment, Page, Unused, Head, Tag, Body}
 use Rattle.shm_graph.specs.declared.memo.Status.{Status as AStatus}
 use Rattle.shm_graph.specs.declared.memo.Status.TheVariants as status
 use Rattle.shm_graph.specs.declared.memo.First.{First}
@@ -85,17 +85,17 @@ MakingTie g class segment word tag body c (Some m) = MakingSound g class segment
 
 -- ---- blocks, counts, eras
 
-pub record TagSound (n k t : ℕ) : Type 0 where
-  pub small : t < 2 ^ 35
-  pub refs : tag_refs t ≤ 16
-  pub plain : tag_plain t ≤ 8
-  pub author : tag_author t < n
-  pub fits : class_for (tag_refs t) (tag_plain t) ≡ k
+pub record TagSound (wide : Bool) (n k t : ℕ) : Type 0 where
+  pub small : t < tag_limit wide
+  pub refs : tag_refs wide t ≤ 16
+  pub plain : tag_plain wide t ≤ 8
+  pub author : tag_author wide t < n
+  pub fits : class_for (tag_refs wide t) (tag_plain wide t) ≡ k
 
 pub record BlockSound (g : Geometry) (class : ℕ → ℕ → ℕ) (word tag : ℕ → ℕ) : Type 0 where
   pub plain : (b : ℕ) → (header_of (word b)).live ≡ false → word b ≡ 0
-  pub tagged : (b : ℕ) → (header_of (word b)).live ≡ true → TagSound g.clients (class_at g class b) (tag b)
-  pub link : (b : ℕ) → (header_of (word b)).live ≡ true → (header_of (word b)).count ≢ 0 → tag_link (tag b) ≡ 0
+  pub tagged : (b : ℕ) → (header_of (word b)).live ≡ true → TagSound g.wide g.clients (class_at g class b) (tag b)
+  pub link : (b : ℕ) → (header_of (word b)).live ≡ true → (header_of (word b)).count ≢ 0 → tag_link g.wide (tag b) ≡ 0
 
 pub record CountSound (g : Geometry) (class : ℕ → ℕ → ℕ) (head : ℕ → Header) (t : Spot → ℕ) (l : ℕ → ℕ) : Type 0 where
   pub counts : (b : ℕ) → (head b).live ≡ true → (head b).count ≡ indegree g class t l b
@@ -144,33 +144,57 @@ value_from Begun old new = old
 value_from Committed old new = old
 value_from Written old new = new
 
-pub record OpSound (g : Geometry) (class : ℕ → ℕ → ℕ) (redo own held : ℕ) (p : Spot) (spelling : ARedo) (e value : ℕ) : Type 0 where
-  pub spelled : redo_of redo ≡ Some spelling
-  pub current : e ≡ own
-  pub at : IsAt g class p
-  pub word : held ≡ value
-
--- while there is no op
-abbrev pub IdleSound : ℕ → ℕ → Type 0
-IdleSound redo own = (parity : Bool) (p a b : ℕ) → redo_of redo ≡ Some (redos.Change parity p a b) → parity ≡ odd own
-
-abbrev pub OpTie : Geometry → (ℕ → ℕ → ℕ) → ℕ → ℕ → Words → Op → Type 0
-OpTie g class redo own x Nothing = IdleSound redo own
-OpTie g class redo own x (Alloc s p b e) = OpSound g class redo own (word_at x p) p (redos.Up (spot_address g p) b) e (value_from s 0 b)
-OpTie g class redo own x (Up s p b e) = OpSound g class redo own (word_at x p) p (redos.Up (spot_address g p) b) e (value_from s 0 b)
-OpTie g class redo own x (Down s p b e) = OpSound g class redo own (word_at x p) p (redos.Down (spot_address g p) b) e (value_from s b 0)
-OpTie g class redo own x (Change (Raising s) p a b e) = OpSound g class redo own (word_at x p) p (redos.Change (odd e) (spot_address g p) a b) e (value_from s a b)
-OpTie g class redo own x (Change (Lowering s) p a b e) = OpSound g class redo own (word_at x p) p (redos.Change (odd (e + 1)) (spot_address g p) a b) e b
-
--- the blocks that a redo word names are blocks
+-- the blocks that a redo record names are blocks
 abbrev pub Names : Geometry → (ℕ → ℕ → ℕ) → ARedo → Type 0
 Names g class redos.Idle = Unit {0}
 Names g class (redos.Up p b) = IsBlock g class b
 Names g class (redos.Down p b) = IsBlock g class b
 Names g class (redos.Change parity p a b) = IsBlock g class a × IsBlock g class b
 
-abbrev pub RedoTie : Geometry → (ℕ → ℕ → ℕ) → ℕ → Type 0
-RedoTie g class redo = (r : ARedo) → redo_of redo ≡ Some r → Names g class r
+pub record OpSound (g : Geometry) (class : ℕ → ℕ → ℕ) (redo more own held : ℕ) (p : Spot) (spelling : ARedo) (e value : ℕ) : Type 0 where
+  pub spelled : redo_of g.wide redo more ≡ Some spelling
+  pub blocks : Names g class spelling
+  pub current : e ≡ own
+  pub at : IsAt g class p
+  pub word : held ≡ value
+
+-- while there is no op; in format 2 the second word may be another record's then, and the first word alone tells the parity
+abbrev pub IdleSound : ℕ → ℕ → Type 0
+IdleSound redo own = kind_of redo ≡ 3 → odd_of redo ≡ odd own
+
+abbrev pub OpTie : Geometry → (ℕ → ℕ → ℕ) → ℕ → ℕ → ℕ → Words → Op → Type 0
+OpTie g class redo more own x Nothing = IdleSound redo own
+OpTie g class redo more own x (Alloc s p b e) = OpSound g class redo more own (word_at x p) p (redos.Up (spot_address g p) b) e (value_from s 0 b)
+OpTie g class redo more own x (Up s p b e) = OpSound g class redo more own (word_at x p) p (redos.Up (spot_address g p) b) e (value_from s 0 b)
+OpTie g class redo more own x (Down s p b e) = OpSound g class redo more own (word_at x p) p (redos.Down (spot_address g p) b) e (value_from s b 0)
+OpTie g class redo more own x (Change (Raising s) p a b e) = OpSound g class redo more own (word_at x p) p (redos.Change (odd e) (spot_address g p) a b) e (value_from s a b)
+OpTie g class redo more own x (Change (Lowering s) p a b e) = OpSound g class redo more own (word_at x p) p (redos.Change (odd (e + 1)) (spot_address g p) a b) e b
+
+-- the second word of a redo record is 0 or names a block
+abbrev pub IsSecond : Geometry → (ℕ → ℕ → ℕ) → ℕ → Type 0
+IsSecond g class x = (x ≡ 0) ⊎ IsBlock g class x
+
+-- in format 2 the block before is 0 while the words are of two records: one that raises a block has 0 as its second word
+abbrev pub IsBefore : Geometry → (ℕ → ℕ → ℕ) → ℕ → Type 0
+IsBefore g class a = ((g.wide ≡ true) × (a ≡ 0)) ⊎ IsBlock g class a
+
+abbrev pub MayName : Geometry → (ℕ → ℕ → ℕ) → ARedo → Type 0
+MayName g class redos.Idle = Unit {0}
+MayName g class (redos.Up p b) = IsBlock g class b
+MayName g class (redos.Down p b) = IsBefore g class b
+MayName g class (redos.Change parity p a b) = IsBefore g class a × IsBlock g class b
+
+-- the blocks that the first word names
+abbrev pub FirstNames : Geometry → (ℕ → ℕ → ℕ) → ARedo → Type 0
+FirstNames g class redos.Idle = Unit {0}
+FirstNames g class (redos.Up p b) = IsBlock g class b
+FirstNames g class (redos.Down p b) = g.wide ≡ false → IsBlock g class b
+FirstNames g class (redos.Change parity p a b) = (g.wide ≡ false → IsBlock g class a) × IsBlock g class b
+
+-- with whichever second word the first one stands: in format 2 the second word is stored first, and then belongs to the next record
+pub record RedoTie (g : Geometry) (class : ℕ → ℕ → ℕ) (redo more : ℕ) : Type 0 where
+  pub second : IsSecond g class more
+  pub first : (x : ℕ) (r : ARedo) → redo_of g.wide redo x ≡ Some r → FirstNames g class r
 
 abbrev pub is_root : Spot → Bool
 is_root (Root c k) = true
@@ -220,12 +244,12 @@ LooksSound home body author latch named earlier [] = Unit {0}
 LooksSound home body author latch named earlier (k ∷ ks) = LookAt home body author latch (λ b. named b ⊎ InLooks earlier b) k.from k.block × LooksSound home body author latch named (k ∷ earlier) ks
 
 -- the word is one that c may store
-abbrev pub SlotOf : ℕ → (ℕ → Header) → (ℕ → ℕ) → Option ℕ → (ℕ → ℕ → ℕ) → (ℕ → ℕ → ℕ) → (ℕ → Type 0) → Spot → Type 0
-SlotOf c head tag latch tail queue_head reach (Root d k) = d ≡ c
-SlotOf c head tag latch tail queue_head reach (Home d) = d ≡ c
-SlotOf c head tag latch tail queue_head reach (Slot s r k) = (s ≢ r) × (((s ≡ c) × (k ≡ tail s r % 8) × (tail s r < queue_head s r + 8)) ⊎ ((r ≡ c) × (k ≡ queue_head s r % 8) × (queue_head s r < tail s r)))
-SlotOf c head tag latch tail queue_head reach (Body b i) = ((head b).live ≡ true) × (i < tag_refs (tag b)) × ((((head b).count ≡ 0) × ((head b).client ≡ c)) ⊎ ((tag_author (tag b) ≡ c) × (latch ≡ Some c) × reach b))
-SlotOf c head tag latch tail queue_head reach _ = ⊥
+abbrev pub SlotOf : Bool → ℕ → (ℕ → Header) → (ℕ → ℕ) → Option ℕ → (ℕ → ℕ → ℕ) → (ℕ → ℕ → ℕ) → (ℕ → Type 0) → Spot → Type 0
+SlotOf wide c head tag latch tail queue_head reach (Root d k) = d ≡ c
+SlotOf wide c head tag latch tail queue_head reach (Home d) = d ≡ c
+SlotOf wide c head tag latch tail queue_head reach (Slot s r k) = (s ≢ r) × (((s ≡ c) × (k ≡ tail s r % 8) × (tail s r < queue_head s r + 8)) ⊎ ((r ≡ c) × (k ≡ queue_head s r % 8) × (queue_head s r < tail s r)))
+SlotOf wide c head tag latch tail queue_head reach (Body b i) = ((head b).live ≡ true) × (i < tag_refs wide (tag b)) × ((((head b).count ≡ 0) × ((head b).client ≡ c)) ⊎ ((tag_author wide (tag b) ≡ c) × (latch ≡ Some c) × reach b))
+SlotOf wide c head tag latch tail queue_head reach _ = ⊥
 
 -- ---- queues, calls, what is known
 
@@ -266,11 +290,11 @@ TestAt n era on c None = Unit {0}
 TestAt n era on c (Some t) = on ≡ Some t.block → (k : ℕ) × (t.next ≤ k) × (k < n) × (k ≢ c) × (era c c ≤ era k c)
 
 -- what c knows of a word that only it may change, or nobody
-abbrev pub KnownAt : ℕ → (ℕ → ℕ) → (ℕ → ℕ → ℕ) → (ℕ → ℕ → ℕ → ℕ) → (ℕ → ℕ → ℕ) → (ℕ → ℕ → ℕ) → (ℕ → ℕ) → Option ℕ → (ℕ → Type 0) → List ℕ → Spot → ℕ → Type 0
-KnownAt c tag body slot tail queue_head untaken latch reach dying (Tag b) x = (tag b ≡ x) × (Contains dying b ⊎ reach b)
-KnownAt c tag body slot tail queue_head untaken latch reach dying (Body b i) x = (body b i ≡ x) × (Contains dying b ⊎ (reach b × ((tag_refs (tag b) ≤ i) ⊎ ((tag_author (tag b) ≡ c) ⊎ (latch ≡ Some (tag_author (tag b)))))))
-KnownAt c tag body slot tail queue_head untaken latch reach dying (Slot s r k) x = (r ≡ c) × (s ≢ c) × (k ≡ queue_head s c % 8) × (queue_head s c < tail s c) × (untaken s ≡ 0) × (x ≢ 0) × (slot s c k ≡ x)
-KnownAt c tag body slot tail queue_head untaken latch reach dying _ x = ⊥
+abbrev pub KnownAt : Bool → ℕ → (ℕ → ℕ) → (ℕ → ℕ → ℕ) → (ℕ → ℕ → ℕ → ℕ) → (ℕ → ℕ → ℕ) → (ℕ → ℕ → ℕ) → (ℕ → ℕ) → Option ℕ → (ℕ → Type 0) → List ℕ → Spot → ℕ → Type 0
+KnownAt wide c tag body slot tail queue_head untaken latch reach dying (Tag b) x = (tag b ≡ x) × (Contains dying b ⊎ reach b)
+KnownAt wide c tag body slot tail queue_head untaken latch reach dying (Body b i) x = (body b i ≡ x) × (Contains dying b ⊎ (reach b × ((tag_refs wide (tag b) ≤ i) ⊎ ((tag_author wide (tag b) ≡ c) ⊎ (latch ≡ Some (tag_author wide (tag b)))))))
+KnownAt wide c tag body slot tail queue_head untaken latch reach dying (Slot s r k) x = (r ≡ c) × (s ≢ c) × (k ≡ queue_head s c % 8) × (queue_head s c < tail s c) × (untaken s ≡ 0) × (x ≢ 0) × (slot s c k ≡ x)
+KnownAt wide c tag body slot tail queue_head untaken latch reach dying _ x = ⊥
 
 -- ---- an identity that has not begun, has ended, or is between calls
 
@@ -367,21 +391,21 @@ pub record HeldAt (g : Geometry) (w : Spot → ℕ) (v : View) : Type 0 where
   -- the own era is at least 1 and leaves room for the step in progress
   pub own : (c : ℕ) → c < g.clients → OwnSound (w (Era c c)) (v.op c)
   -- the redo record spells the step in progress at the own era, and its slot holds the value of its stage
-  pub op : (c : ℕ) → c < g.clients → OpTie g (λ s q. w (Page s q)) (w (Redo c)) (w (Era c c)) (words_of w) (v.op c)
-  -- the blocks that a redo record names are blocks
-  pub redo : (c : ℕ) → c < g.clients → RedoTie g (λ s q. w (Page s q)) (w (Redo c))
+  pub op : (c : ℕ) → c < g.clients → OpTie g (λ s q. w (Page s q)) (w (Redo c)) (w (RedoMore c)) (w (Era c c)) (words_of g.wide w) (v.op c)
+  -- the blocks that the words of a redo record name are blocks, but for a 0 between two records
+  pub redo : (c : ℕ) → c < g.clients → RedoTie g (λ s q. w (Page s q)) (w (Redo c)) (w (RedoMore c))
   -- each kind of step has the slots that it may have
   pub allowed : (c : ℕ) → c < g.clients → Allowed c (v.op c)
   -- the count of each live block is the number of references to it; references name live blocks
   pub count : CountSound g (λ s q. w (Page s q)) (λ b. header_of (w (Head b))) (targets g w v) (held_overs v)
   -- the slot of a step in progress is one that its identity may store
-  pub slots : (c : ℕ) → c < g.clients → is_op (v.op c) ≡ true → SlotOf c (λ b. header_of (w (Head b))) (λ b. w (Tag b)) (v.latch c) (λ s r. w (Tail s r)) (λ s r. w (QueueHead s r)) (reach_of (targets g w v) (λ s r. w (Tail s r)) (λ s r. w (QueueHead s r)) v.looks c) (slot_of (v.op c))
+  pub slots : (c : ℕ) → c < g.clients → is_op (v.op c) ≡ true → SlotOf g.wide c (λ b. header_of (w (Head b))) (λ b. w (Tag b)) (v.latch c) (λ s r. w (Tail s r)) (λ s r. w (QueueHead s r)) (reach_of (targets g w v) (λ s r. w (Tail s r)) (λ s r. w (QueueHead s r)) v.looks c) (slot_of (v.op c))
   -- each block of the looks is named by the word that it was read from
-  pub looks : (c : ℕ) → c < g.clients → LooksSound (λ a. targets g w v (Home a)) (λ b i. targets g w v (Body b i)) (λ b. tag_author (w (Tag b))) (v.latch c) (named_by (targets g w v) (λ s r. w (Tail s r)) (λ s r. w (QueueHead s r)) c) [] (v.looks c)
+  pub looks : (c : ℕ) → c < g.clients → LooksSound (λ a. targets g w v (Home a)) (λ b i. targets g w v (Body b i)) (λ b. tag_author g.wide (w (Tag b))) (v.latch c) (named_by (targets g w v) (λ s r. w (Tail s r)) (λ s r. w (QueueHead s r)) c) [] (v.looks c)
   -- queues agree with what was sent and received
   pub lanes : (s r : ℕ) → s < g.clients → r < g.clients → s ≢ r → LaneSound (λ k. targets g w v (Slot s r k)) (w (Tail s r)) (w (QueueHead s r)) (v.sent s r) (v.unsent s r) (v.received r s) (v.untaken r s)
   -- what is known of words of blocks and head slots is what they hold
-  pub known : (c : ℕ) → c < g.clients → All (λ (k : Stored). KnownAt c (λ b. w (Tag b)) (λ b i. w (Body b i)) (λ s r k. w (Slot s r k)) (λ s r. w (Tail s r)) (λ s r. w (QueueHead s r)) (v.untaken c) (v.latch c) (reach_of (targets g w v) (λ s r. w (Tail s r)) (λ s r. w (QueueHead s r)) v.looks c) (v.dying c) k.spot k.value) (v.known c)
+  pub known : (c : ℕ) → c < g.clients → All (λ (k : Stored). KnownAt g.wide c (λ b. w (Tag b)) (λ b i. w (Body b i)) (λ s r k. w (Slot s r k)) (λ s r. w (Tail s r)) (λ s r. w (QueueHead s r)) (v.untaken c) (v.latch c) (reach_of (targets g w v) (λ s r. w (Tail s r)) (λ s r. w (QueueHead s r)) v.looks c) (v.dying c) k.spot k.value) (v.known c)
   -- what was read of eras, tails, heads and classes still bounds them
   pub facts : (c : ℕ) → c < g.clients → All (FactAt g.clients (λ i j. w (Era i j)) (ons v) (λ s r. w (Tail s r)) (λ s r. w (QueueHead s r)) (λ s q. w (Page s q))) (v.facts c)
   -- pages and headers of own segments that were read as 0 are 0
@@ -401,10 +425,10 @@ pub record HeldAt (g : Geometry) (w : Spot → ℕ) (v : View) : Type 0 where
   -- all parts of a pool for tables are partitions, or none is
   pub parts : (c d : ℕ) → c < g.clients → d < g.clients → is_loose (v.part c) ≡ is_loose (v.part d)
   -- the part of a memo is the partition that the words hold
-  pub part : (c : ℕ) → c < g.clients → PartTie (contents_of w (targets g w v)) c (targets g w v (Home c)) (v.part c)
+  pub part : (c : ℕ) → c < g.clients → PartTie (contents_of g.wide w (targets g w v)) c (targets g w v (Home c)) (v.part c)
   -- in a pool for tables queues hold value blocks
-  pub queued : (c : ℕ) → c < g.clients → is_loose (v.part c) ≡ false → (s r k : ℕ) → targets g w v (Slot s r k) ≢ 0 → HasShape (contents_of w (targets g w v)) 0 1 (targets g w v (Slot s r k))
+  pub queued : (c : ℕ) → c < g.clients → is_loose (v.part c) ≡ false → (s r k : ℕ) → targets g w v (Slot s r k) ≢ 0 → HasShape (contents_of g.wide w (targets g w v)) 0 1 (targets g w v (Slot s r k))
   -- value blocks that were read are value blocks in reach
-  pub values : (c : ℕ) → c < g.clients → All (ValueAt (contents_of w (targets g w v)) (reach_of (targets g w v) (λ s r. w (Tail s r)) (λ s r. w (QueueHead s r)) v.looks c)) (v.values c)
+  pub values : (c : ℕ) → c < g.clients → All (ValueAt (contents_of g.wide w (targets g w v)) (reach_of (targets g w v) (λ s r. w (Tail s r)) (λ s r. w (QueueHead s r)) v.looks c)) (v.values c)
   -- the blocks that a call made have count 1
   pub made : (c : ℕ) → c < g.clients → All (MadeAt (λ b. header_of (w (Head b))) (λ k. targets g w v (Root c k))) (v.made c)

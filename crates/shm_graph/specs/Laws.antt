@@ -144,7 +144,7 @@ module _ {S A : Type 0} (k : Control S A) where
 
   -- A machine that fits asks for a word of the pool. It speaks of no state, since a step on shared words owes it before the state is at hand
   abbrev pub Inside : (S → Memo → Memo → Trail → Type 0) → Type 0
-  Inside fits = (m : S) (r0 r : Memo) (tr : Trail) → (k.me m).who < (k.me m).geometry.clients → fits m r0 r tr → k.finished m ≡ false → (0 < at_of (k.asks m)) × (at_of (k.asks m) < total_of (k.me m).geometry)
+  Inside fits = (m : S) (r0 r : Memo) (tr : Trail) → (k.me m).who < (k.me m).geometry.clients → fits m r0 r tr → k.finished m ≡ false → at_of (k.asks m) < total_of (k.me m).geometry
 
   -- what an answer says of the machine one step on, it says of the machine before that step
   abbrev pub Back : (S → Memo → Memo → Trail → A → Type 0) → Type 0

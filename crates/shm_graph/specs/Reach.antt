@@ -80,24 +80,24 @@ abbrev pub sifted : ℕ → Memo → Memo
 sifted c m = record m { known = filter (λ s. binds c m s.spot) m.known; values = filter (is_reached c m) m.values }
 
 -- Without its author's latch a word of a block binds where it is a plain word or the block is the identity's own: by its tag, or because it is a value block
-abbrev pub is_free_of_latch : ℕ → Memo → ℕ → ℕ → Option ℕ → Bool
-is_free_of_latch c m b i None = list_any (eqb b) m.values
-is_free_of_latch c m b i (Some t) = nat_le (tag_refs t) i || (tag_author t == c)
+abbrev pub is_free_of_latch : Bool → ℕ → Memo → ℕ → ℕ → Option ℕ → Bool
+is_free_of_latch wide c m b i None = list_any (eqb b) m.values
+is_free_of_latch wide c m b i (Some t) = nat_le (tag_refs wide t) i || (tag_author wide t == c)
 
 abbrev pub is_latch_of : ℕ → Option ℕ → Bool
 is_latch_of a None = false
 is_latch_of a (Some b) = b == a
 
 -- where the latch that is given back was the identity's own, words of other authors' blocks that are known are plain
-abbrev pub binds_unlatched : Bool → ℕ → Memo → Spot → Bool
-binds_unlatched own c m (Body b i) = is_dying m b || (is_reached c m b && (own || is_free_of_latch c m b i (known_at (Tag b) m.known)))
-binds_unlatched own c m p = binds c m p
+abbrev pub binds_unlatched : Bool → Bool → ℕ → Memo → Spot → Bool
+binds_unlatched wide own c m (Body b i) = is_dying m b || (is_reached c m b && (own || is_free_of_latch wide c m b i (known_at (Tag b) m.known)))
+binds_unlatched wide own c m p = binds c m p
 
 -- a latch is given back: the looks are over
-abbrev pub unlatched : ℕ → Memo → Memo
-unlatched c m =
+abbrev pub unlatched : Bool → ℕ → Memo → Memo
+unlatched wide c m =
     let n : Memo = record m { latch = None; looks = [] } in
-    record n { known = filter (λ s. binds_unlatched (is_latch_of c m.latch) c n s.spot) m.known; values = filter (is_reached c n) m.values }
+    record n { known = filter (λ s. binds_unlatched wide (is_latch_of c m.latch) c n s.spot) m.known; values = filter (is_reached c n) m.values }
 
 -- ---- what stays of the looks
 

@@ -147,5 +147,5 @@ read_on g c load m test (Slot s r k) seen = slot_read c m s r k seen
 read_on g c load m test (Page s q) seen = page_read m s q seen
 read_on g c load m test (Head b) seen = header_read g c load m b seen
 read_on g c load m test (Tag b) seen = tag_read m b seen
-read_on g c load m test (Body b i) seen = word_read m (claim_of c m (b + 2 + i)) b i seen
+read_on g c load m test (Body b i) seen = word_read m (claim_of g.wide c m (b + 2 + i)) b i seen
 read_on g c load m test p seen = m

@@ -26,17 +26,17 @@ pub record Words : Type 0 where
   pub refs : ℕ → ℕ
 
 -- how many reference words a block with this tag has
-abbrev pub refs_of : Bool → ℕ → ℕ
-refs_of live t = if live then tag_refs t else 0
+abbrev pub refs_of : Bool → Bool → ℕ → ℕ
+refs_of wide live t = if live then tag_refs wide t else 0
 
-abbrev pub words_of : (Spot → ℕ) → Words
-words_of w =
+abbrev pub words_of : Bool → (Spot → ℕ) → Words
+words_of wide w =
     record {
       home = λ c. w (Home c);
       root = λ c k. w (Root c k);
       slot = λ s r k. w (Slot s r k);
       body = λ b i. w (Body b i);
-      refs = λ b. refs_of (header_of (w (Head b))).live (w (Tag b));
+      refs = λ b. refs_of wide (header_of (w (Head b))).live (w (Tag b));
     }
 
 -- what a reference word names, a block or 0; another word names nothing
@@ -47,8 +47,8 @@ reference x (Slot s r k) = x.slot s r k
 reference x (Body b i) = if nat_lt i (x.refs b) then x.body b i else 0
 reference x _ = 0
 
-abbrev pub references : (Spot → ℕ) → Spot → ℕ
-references w = reference (words_of w)
+abbrev pub references : Bool → (Spot → ℕ) → Spot → ℕ
+references wide w = reference (words_of wide w)
 
 -- the number of references to a block: how many words of the pool have it as their target
 unfoldable pub references_to : Geometry → (ℕ → ℕ → ℕ) → (Spot → ℕ) → ℕ → ℕ

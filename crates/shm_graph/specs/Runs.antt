@@ -127,7 +127,7 @@ EraFits era = (0 < era) × (era < 2 ^ 47 - 1)
 -- ---- states
 
 abbrev pub account_at : List Account → ℕ → Account
-account_at es c = slice_index_or es c (first_account (record { geometry = record { clients = 0; segments = 0 }; first_era = 0; tables = false }) 0)
+account_at es c = slice_index_or es c (first_account (record { geometry = record { clients = 0; segments = 0; wide = false }; first_era = 0; tables = false }) 0)
 
 -- the memos by identity
 abbrev pub memos_of : List Account → ℕ → Memo

@@ -4,7 +4,7 @@ use Rattle.shm_words.specs.declared.geometry.Geometry.{Geometry}
 use Rattle.shm_words.specs.Headers.{header_of}
 use Rattle.shm_words.specs.Tags.{tag_author}
 use Rattle.shm_graph.specs.declared.spot.Spot.{Spot}
-use Rattle.shm_graph.specs.declared.spot.Spot.TheVariants.{Status, Redo, Hold, Latch, Home, Era, Root, Tail, QueueHead, Slot, Segment, Page, Unused, Head, Tag, Body}
+use Rattle.shm_graph.specs.declared.spot.Spot.TheVariants.{Status, Redo, RedoMore, Hold, Latch, Home, Era, Root, Tail, QueueHead, Slot, Segment, Page, Unused, Head, Tag, Body}
 use Rattle.shm_graph.specs.declared.memo.Status.TheVariants as status
 use Rattle.shm_graph.specs.declared.memo.Op.TheVariants.{Nothing}
 use Rattle.shm_graph.specs.References.{words_of}
@@ -36,11 +36,11 @@ pub record IsSound (g : Geometry) (w : Spot → ℕ) (v : View) : Type 0 where
   pub unused : (a : ℕ) → w (Unused a) ≡ 0
   pub count : CountSound g (λ s q. w (Page s q)) (λ b. header_of (w (Head b))) (targets g w v) (held_overs v)
   pub era : EraSound g.clients (λ b. header_of (w (Head b))) (λ i j. w (Era i j)) (ons v)
-  pub op : (c : ℕ) → c < g.clients → OpTie g (λ s q. w (Page s q)) (w (Redo c)) (w (Era c c)) (words_of w) (v.op c)
-  pub looks : (c : ℕ) → c < g.clients → LooksSound (λ a. targets g w v (Home a)) (λ b i. targets g w v (Body b i)) (λ b. tag_author (w (Tag b))) (v.latch c) (named_by (targets g w v) (λ s r. w (Tail s r)) (λ s r. w (QueueHead s r)) c) [] (v.looks c)
+  pub op : (c : ℕ) → c < g.clients → OpTie g (λ s q. w (Page s q)) (w (Redo c)) (w (RedoMore c)) (w (Era c c)) (words_of g.wide w) (v.op c)
+  pub looks : (c : ℕ) → c < g.clients → LooksSound (λ a. targets g w v (Home a)) (λ b i. targets g w v (Body b i)) (λ b. tag_author g.wide (w (Tag b))) (v.latch c) (named_by (targets g w v) (λ s r. w (Tail s r)) (λ s r. w (QueueHead s r)) c) [] (v.looks c)
   pub parts : (c d : ℕ) → c < g.clients → d < g.clients → is_loose (v.part c) ≡ is_loose (v.part d)
-  pub part : (c : ℕ) → c < g.clients → PartTie (contents_of w (targets g w v)) c (targets g w v (Home c)) (v.part c)
-  pub queued : (c : ℕ) → c < g.clients → is_loose (v.part c) ≡ false → (s r k : ℕ) → targets g w v (Slot s r k) ≢ 0 → HasShape (contents_of w (targets g w v)) 0 1 (targets g w v (Slot s r k))
+  pub part : (c : ℕ) → c < g.clients → PartTie (contents_of g.wide w (targets g w v)) c (targets g w v (Home c)) (v.part c)
+  pub queued : (c : ℕ) → c < g.clients → is_loose (v.part c) ≡ false → (s r k : ℕ) → targets g w v (Slot s r k) ≢ 0 → HasShape (contents_of g.wide w (targets g w v)) 0 1 (targets g w v (Slot s r k))
   pub lanes : (s r : ℕ) → s < g.clients → r < g.clients → s ≢ r → LaneSound (λ k. targets g w v (Slot s r k)) (w (Tail s r)) (w (QueueHead s r)) (v.sent s r) (v.unsent s r) (v.received r s) (v.untaken r s)
   pub self_lanes : (c : ℕ) → c < g.clients → IsUnusedLane (w (Tail c c)) (w (QueueHead c c)) (λ k. targets g w v (Slot c c k))
   pub fresh : (c : ℕ) → c < g.clients → v.status c ≡ status.New → Fresh c (v.own c) (v.op c) (v.latch c) (v.looks c) (v.making c) (v.owned c) (v.dying c) (v.unsent c) (v.untaken c)

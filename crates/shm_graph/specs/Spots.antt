@@ -5,13 +5,14 @@ use Rattle.shm_words.specs.declared.place.Place.{Place}
 use Rattle.shm_words.specs.declared.place.Place.TheVariants as place
 use Rattle.shm_words.specs.Layout as layout
 use Rattle.shm_graph.specs.declared.spot.Spot.{Spot}
-use Rattle.shm_graph.specs.declared.spot.Spot.TheVariants.{Spare, Status, Redo, Hold, Latch, Home, Era, Root, Tail, QueueHead, Slot, Segment, Page, Unused, Head, Tag, Body}
+use Rattle.shm_graph.specs.declared.spot.Spot.TheVariants.{Spare, Status, Redo, RedoMore, Hold, Latch, Home, Era, Root, Tail, QueueHead, Slot, Segment, Page, Unused, Head, Tag, Body}
 
 -- whether two spots are one
 abbrev pub same_spot : Spot → Spot → Bool
 same_spot Spare Spare = true
 same_spot (Status c) (Status d) = c == d
 same_spot (Redo c) (Redo d) = c == d
+same_spot (RedoMore c) (RedoMore d) = c == d
 same_spot (Hold c) (Hold d) = c == d
 same_spot (Latch c) (Latch d) = c == d
 same_spot (Home c) (Home d) = c == d
@@ -41,6 +42,7 @@ abbrev pub spot_of : (ℕ → ℕ → ℕ) → ℕ → Place → Spot
 spot_of class a place.Spare = Spare
 spot_of class a (place.Status c) = Status c
 spot_of class a (place.Redo c) = Redo c
+spot_of class a (place.RedoMore c) = RedoMore c
 spot_of class a (place.Hold c) = Hold c
 spot_of class a (place.Latch c) = Latch c
 spot_of class a (place.Home c) = Home c
@@ -66,6 +68,7 @@ unfoldable pub spot_address : Geometry → Spot → ℕ
 spot_address g Spare = layout.address g place.Spare
 spot_address g (Status c) = layout.address g (place.Status c)
 spot_address g (Redo c) = layout.address g (place.Redo c)
+spot_address g (RedoMore c) = layout.address g (place.RedoMore c)
 spot_address g (Hold c) = layout.address g (place.Hold c)
 spot_address g (Latch c) = layout.address g (place.Latch c)
 spot_address g (Home c) = layout.address g (place.Home c)

@@ -7,7 +7,7 @@ use Rattle.shm_words.specs.declared.redo.Redo.TheVariants as redos
 use Rattle.shm_words.specs.Redos.{redo_of}
 use Rattle.shm_words.specs.Layout as layout
 use Rattle.shm_graph.specs.declared.spot.Spot.{Spot}
-use Rattle.shm_graph.specs.declared.spot.Spot.TheVariants.{Status, Redo, Hold, Latch, Home, Era, Root, Tail, QueueHead, Slot, Segment, Page, Head, Tag, Body}
+use Rattle.shm_graph.specs.declared.spot.Spot.TheVariants.{Status, Redo, RedoMore, Hold, Latch, Home, Era, Root, Tail, QueueHead, Slot, Segment, Page, Head, Tag, Body}
 use Rattle.shm_graph.specs.declared.memo.First.{First}
 use Rattle.shm_graph.specs.declared.memo.First.TheVariants.{Begun, Written}
 use Rattle.shm_graph.specs.declared.memo.Second.TheVariants.{Open}
@@ -46,7 +46,7 @@ op_written o = o
 abbrev pub written : Memo → Memo
 written m = record m { op = op_written m.op }
 
--- ---- the redo record
+-- ---- the redo record; in format 2 its second word is stored before
 
 abbrev pub is_block_made : Option Making → ℕ → Bool
 is_block_made None b = false
@@ -60,7 +60,7 @@ op_spelled at making e (Some (redos.Change odd p a b)) = Change (Raising Begun) 
 op_spelled at making e r = Nothing
 
 abbrev pub redo_stored : Geometry → ℕ → Memo → Spot → ℕ → Memo
-redo_stored g c m p v = record (with_own m p v) { op = op_spelled (word_told g c m) m.making (own_word m.own (Era c c)) (redo_of v) }
+redo_stored g c m p v = record (with_own m p v) { op = op_spelled (word_told g c m) m.making (own_word m.own (Era c c)) (redo_of g.wide v (own_word m.own (RedoMore c))) }
 
 -- ---- the own era
 
@@ -172,8 +172,9 @@ word_stored g m b i v =
 abbrev pub stored_on : Geometry → ℕ → Memo → Spot → ℕ → Memo
 stored_on g c m (Status d) v = with_status m v
 stored_on g c m (Redo d) v = redo_stored g c m (Redo d) v
+stored_on g c m (RedoMore d) v = with_own m (RedoMore d) v
 stored_on g c m (Hold d) v = with_own m (Hold d) v
-stored_on g c m (Latch a) v = unlatched c m
+stored_on g c m (Latch a) v = unlatched g.wide c m
 stored_on g c m (Home d) v = written (with_own m (Home d) v)
 stored_on g c m (Era i j) v = if j == c then era_stored c m (Era i j) v else with_own m (Era i j) v
 stored_on g c m (Root d k) v = written (with_own m (Root d k) v)

@@ -29,14 +29,14 @@ pub record Claim : Type 0 where
 abbrev pub bare : ℕ → Claim
 bare b = record { block = b; refs = 0; plain = 0; author = None }
 
-abbrev pub tag_claim : Spot → ℕ → List Claim
-tag_claim (Tag b) x = record { block = b; refs = tag_refs x; plain = tag_plain x; author = Some (tag_author x) } ∷ []
-tag_claim p x = []
+abbrev pub tag_claim : Bool → Spot → ℕ → List Claim
+tag_claim wide (Tag b) x = record { block = b; refs = tag_refs wide x; plain = tag_plain wide x; author = Some (tag_author wide x) } ∷ []
+tag_claim wide p x = []
 
 -- the blocks whose tags are known
-abbrev pub tag_claims : List Stored → List Claim
-tag_claims [] = []
-tag_claims (s ∷ ss) = tag_claim s.spot s.value ++ tag_claims ss
+abbrev pub tag_claims : Bool → List Stored → List Claim
+tag_claims wide [] = []
+tag_claims wide (s ∷ ss) = tag_claim wide s.spot s.value ++ tag_claims wide ss
 
 -- ---- what was read of a table
 
@@ -87,8 +87,8 @@ role_claim a p = shaped a p.block p.role
 -- ---- the spot of a word in a body
 
 -- what the memo tells of blocks, what tells most first
-abbrev pub claims : ℕ → Memo → List Claim
-claims c m = tag_claims m.known ++ map (role_claim m.latch) (roles m) ++ map (λ b. shaped None b Value) m.values ++ map bare (reached_blocks c m ++ m.dying)
+abbrev pub claims : Bool → ℕ → Memo → List Claim
+claims wide c m = tag_claims wide m.known ++ map (role_claim m.latch) (roles m) ++ map (λ b. shaped None b Value) m.values ++ map bare (reached_blocks c m ++ m.dying)
 
 -- the word is one after the header of this block
 abbrev pub covers : ℕ → Claim → Bool
@@ -98,8 +98,8 @@ abbrev pub claim_in : ℕ → List Claim → Option Claim
 claim_in at [] = None
 claim_in at (k ∷ ks) = if covers at k then Some k else claim_in at ks
 
-abbrev pub claim_of : ℕ → Memo → ℕ → Option Claim
-claim_of c m at = claim_in at (claims c m)
+abbrev pub claim_of : Bool → ℕ → Memo → ℕ → Option Claim
+claim_of wide c m at = claim_in at (claims wide c m)
 
 -- the spot of a word after the header of a block
 abbrev pub word_of_block : ℕ → ℕ → Spot
@@ -119,7 +119,7 @@ fixed_spot g at = spot_of (λ s q. 0) at (place_at g at)
 
 -- the spot of a word that is read: in bodies a word of the block that is known there, or a header
 abbrev pub word_told : Geometry → ℕ → Memo → ℕ → Spot
-word_told g c m at = outside_or (fixed_spot g at) (spot_claimed at (claim_of c m at))
+word_told g c m at = outside_or (fixed_spot g at) (spot_claimed at (claim_of g.wide c m at))
 
 abbrev pub is_slot_at : Geometry → Cover → ℕ → Bool
 is_slot_at g Quiet at = false
@@ -142,7 +142,7 @@ stored_told g m at v =
     else prepared m.making at
 
 abbrev pub body_told : Geometry → ℕ → Memo → Ask → Spot
-body_told g c m (Load at) = spot_claimed at (claim_of c m at)
+body_told g c m (Load at) = spot_claimed at (claim_of g.wide c m at)
 body_told g c m (Store at v) = stored_told g m at v
 body_told g c m (Exchange at from to) = Head at
 

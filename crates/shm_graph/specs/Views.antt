@@ -2,7 +2,7 @@
 use Rattle.std.specs.Prelude.{ℕ, Bool, false, ◌==◌, if◌then◌else◌, List, [], ◌∷◌, Option, slice_index, slice_index_or}
 use Rattle.shm_words.specs.declared.geometry.Geometry.{Geometry}
 use Rattle.shm_graph.specs.declared.spot.Spot.{Spot}
-use Rattle.shm_graph.specs.declared.spot.Spot.TheVariants.{Redo, Hold, Home, Era, Root, Tail, QueueHead}
+use Rattle.shm_graph.specs.declared.spot.Spot.TheVariants.{Redo, RedoMore, Hold, Home, Era, Root, Tail, QueueHead}
 use Rattle.shm_graph.specs.declared.memo.Status.{Status as AStatus}
 use Rattle.shm_graph.specs.declared.memo.Op.{Op}
 use Rattle.shm_graph.specs.declared.memo.Stored.{Stored}
@@ -28,6 +28,7 @@ own_word (s ∷ ss) q = if same_spot s.spot q then s.value else own_word ss q
 -- who stores the word alone
 abbrev pub owner_is : ℕ → Spot → Bool
 owner_is c (Redo d) = c == d
+owner_is c (RedoMore d) = c == d
 owner_is c (Hold d) = c == d
 owner_is c (Home d) = c == d
 owner_is c (Era i j) = c == i
@@ -85,7 +86,7 @@ view r =
 
 -- what each spot names
 abbrev pub targets : Geometry → (Spot → ℕ) → View → Spot → ℕ
-targets g w v = target g.clients (words_of w) (λ c. cover_of (v.op c))
+targets g w v = target g.clients (words_of g.wide w) (λ c. cover_of (v.op c))
 
 -- the blocks on which steps of the own eras are committed and not closed, and the references held over
 abbrev pub ons : View → ℕ → Option ℕ

@@ -2,7 +2,8 @@
 //! identity's word steps do to them: memos, the invariant of a pool, machines and their law.
 //!
 //! The definitions are in specs/ and are cited by the contracts of the crates above. The design of headers, eras and redo
-//! records is that of CXL-SHM (SOSP 2023); the invariant is this project's own.
+//! records is that of CXL-SHM (SOSP 2023); the invariant is this project's own. They are for pools of both formats: what differs takes the
+//! format as an argument.
 #![tactic(auto)]
 
 pub mod act;

@@ -19,7 +19,7 @@ pub enum Status {
 
 /// How far a count step has come that changes one reference.
 pub enum First {
-    /// The redo record is stored.
+    /// The redo record is stored, in format 2 both words of it.
     Begun,
     /// The header was exchanged.
     Committed,

@@ -36,11 +36,11 @@ pub fn commitment_is_shown()
     ensures past { (g : AGeometry) (w : ASpot → ℕ) (v : View) → IsSound g w v → (b : ℕ) → IsLive (headers w) b → ((headers w b).client < g.clients) × (1 ≤ (headers w b).era) × ((headers w b).era ≤ w (spot.Era (headers w b).client (headers w b).client)) }
 {}
 
-/// In a sound state the redo record names the slot and the blocks of the step in progress.
+/// In a sound state the redo record, in format 2 by both its words, names the slot and the blocks of the step in progress.
 pub fn redo_tells_the_step()
-    ensures up { (g : AGeometry) (w : ASpot → ℕ) (v : View) → IsSound g w v → (c : ℕ) (s : AFirst) (p : ASpot) (b e : ℕ) → c < g.clients → v.op c ≡ Up s p b e → redo_of (w (spot.Redo c)) ≡ Some (redos.Up (spot_address g p) b) }
-    ensures down { (g : AGeometry) (w : ASpot → ℕ) (v : View) → IsSound g w v → (c : ℕ) (s : AFirst) (p : ASpot) (b e : ℕ) → c < g.clients → v.op c ≡ Down s p b e → redo_of (w (spot.Redo c)) ≡ Some (redos.Down (spot_address g p) b) }
-    ensures change { (g : AGeometry) (w : ASpot → ℕ) (v : View) → IsSound g w v → (c : ℕ) (s : AFirst) (p : ASpot) (a b e : ℕ) → c < g.clients → v.op c ≡ Change (Raising s) p a b e → redo_of (w (spot.Redo c)) ≡ Some (redos.Change (odd (w (spot.Era c c))) (spot_address g p) a b) }
+    ensures up { (g : AGeometry) (w : ASpot → ℕ) (v : View) → IsSound g w v → (c : ℕ) (s : AFirst) (p : ASpot) (b e : ℕ) → c < g.clients → v.op c ≡ Up s p b e → redo_of g.wide (w (spot.Redo c)) (w (spot.RedoMore c)) ≡ Some (redos.Up (spot_address g p) b) }
+    ensures down { (g : AGeometry) (w : ASpot → ℕ) (v : View) → IsSound g w v → (c : ℕ) (s : AFirst) (p : ASpot) (b e : ℕ) → c < g.clients → v.op c ≡ Down s p b e → redo_of g.wide (w (spot.Redo c)) (w (spot.RedoMore c)) ≡ Some (redos.Down (spot_address g p) b) }
+    ensures change { (g : AGeometry) (w : ASpot → ℕ) (v : View) → IsSound g w v → (c : ℕ) (s : AFirst) (p : ASpot) (a b e : ℕ) → c < g.clients → v.op c ≡ Change (Raising s) p a b e → redo_of g.wide (w (spot.Redo c)) (w (spot.RedoMore c)) ≡ Some (redos.Change (odd (w (spot.Era c c))) (spot_address g p) a b) }
 {}
 
 /// In a sound state what was received is a front of what was sent, the items that wait are live blocks, at most 8 wait, and nothing
@@ -61,9 +61,9 @@ pub fn unused_pages_are_empty()
 /// header 0, headers name identities of the pool, no identity is at work, and the counts of all live blocks add up to the number of
 /// words that name any.
 pub fn clean_pools()
-    ensures named { (g : AGeometry) (w : ASpot → ℕ) → IsClean g w → (b : ℕ) → IsLive (headers w) b → (a : ℕ) × (a < total_of g) × (references w (spot_at g (classes w) a) ≡ b) }
-    ensures empty { (g : AGeometry) (w : ASpot → ℕ) → IsClean g w → ((b : ℕ) → w (spot.Head b) ≡ 0) → (p : ASpot) → references w p ≡ 0 }
+    ensures named { (g : AGeometry) (w : ASpot → ℕ) → IsClean g w → (b : ℕ) → IsLive (headers w) b → (a : ℕ) × (a < total_of g) × (references g.wide w (spot_at g (classes w) a) ≡ b) }
+    ensures empty { (g : AGeometry) (w : ASpot → ℕ) → IsClean g w → ((b : ℕ) → w (spot.Head b) ≡ 0) → (p : ASpot) → references g.wide w p ≡ 0 }
     ensures headers { (g : AGeometry) (w : ASpot → ℕ) → IsClean g w → (b : ℕ) → w (spot.Head b) ≢ 0 → IsLive (headers w) b × ((headers w b).client < g.clients) }
     ensures joinable { (g : AGeometry) (w : ASpot → ℕ) → IsClean g w → (c : ℕ) → c < g.clients → (w (spot.Status c) ≢ 1) × (w (spot.Status c) ≢ 2) }
-    ensures sum { (g : AGeometry) (ws : List ℕ) → GeometryFits g → IsClean g (see g ws) → references_in_all g (classes (see g ws)) (references (see g ws)) ≡ sum_below (total_of g) (λ b. if (headers (see g ws) b).live then (headers (see g ws) b).count else 0) }
+    ensures sum { (g : AGeometry) (ws : List ℕ) → GeometryFits g → IsClean g (see g ws) → references_in_all g (classes (see g ws)) (references g.wide (see g ws)) ≡ sum_below (total_of g) (λ b. if (headers (see g ws) b).live then (headers (see g ws) b).count else 0) }
 {}

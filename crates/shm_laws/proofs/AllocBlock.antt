@@ -1,6 +1,6 @@
 -- the exchange that makes a free block live keeps the invariant, and is one event
 use Rattle.std.proofs.Math.Path.{fun_ext}
-use Rattle.std.proofs.Common.{◌≡◌, ◌≢◌, ℕ, ◌+◌, ◌*◌, ◌/◌, ◌^◌, ◌<◌, ◌≤◌, refl, sym, ap, ◌∙◌, arith, true, false, Bool, cond, eqb, ltb, le-ltb, eq-eqb, subst, inl, inr, ◌⊎◌, ◌&&◌, List, [], ◌∷◌, ◌++◌, Option, Some, None}
+use Rattle.std.proofs.Common.{◌≡◌, ◌≢◌, ℕ, ◌+◌, ◌^◌, ◌<◌, ◌≤◌, refl, sym, ap, ◌∙◌, arith, true, false, Bool, cond, eqb, ltb, le-ltb, eq-eqb, subst, inl, inr, ◌⊎◌, ◌&&◌, List, [], ◌∷◌, ◌++◌, Option, Some, None}
 use Rattle.std.specs.List.{All, Contains, filter}
 use Rattle.std.proofs.lemmas.List.Elements.{All-cons, All-weaker, All-contains, All-append}
 use Rattle.std.proofs.lemmas.Bool.{cases_Bool, cases_eq, true≢false, ne_eqb, false_from_ne_true, cond-true}
@@ -8,10 +8,10 @@ use Rattle.shm_words.specs.declared.geometry.Geometry.{Geometry}
 use Rattle.shm_words.specs.declared.header.Header.{Header}
 use Rattle.shm_words.specs.declared.redo.Redo.TheVariants as redos
 use Rattle.shm_words.specs.Headers.{header_of}
-use Rattle.shm_words.specs.Tags.{tag_refs, tag_author, tag_link}
+use Rattle.shm_words.specs.Tags.{tag_refs, tag_author, tag_link, tag_shape, shape_author}
 use Rattle.shm_words.proofs.Words.{header_of_zero}
 use Rattle.shm_graph.specs.declared.spot.Spot.{Spot}
-use Rattle.shm_graph.specs.declared.spot.Spot.TheVariants.{Redo, Home, Era, Root, Tail, QueueHead, Slot, Segment, Page, Head, Tag, Body}
+use Rattle.shm_graph.specs.declared.spot.Spot.TheVariants.{Redo, RedoMore, Home, Era, Root, Tail, QueueHead, Slot, Segment, Page, Head, Tag, Body}
 use Rattle.shm_graph.specs.declared.memo.Status.TheVariants as status
 use Rattle.shm_graph.specs.declared.memo.First.TheVariants.{Begun, Committed}
 use Rattle.shm_graph.specs.declared.memo.Op.{Op}
@@ -65,45 +65,45 @@ module _ (g : Geometry) (w : Spot → ℕ) (v : View) (c k b e to tag : ℕ) (m 
   unnamed : indegree g (classes w) (targets g w v) (held_overs v) b ≡ 0
   unnamed = count_free g (classes w) (headers w) (targets g w v) (held_overs v) b h.count b_not_zero dead
 
-  op_sound : OpSound g (classes w) (w (Redo c)) (w (Era c c)) (w (Root c k)) (Root c k) (redos.Up (spot_address g (Root c k)) b) e 0
-  op_sound = let q : OpTie g (classes w) (w (Redo c)) (w (Era c c)) (words_of w) (Alloc Begun (Root c k) b e) = subst (OpTie g (classes w) (w (Redo c)) (w (Era c c)) (words_of w)) a.op (h.op c a.inside) in q
+  op_sound : OpSound g (classes w) (w (Redo c)) (w (RedoMore c)) (w (Era c c)) (w (Root c k)) (Root c k) (redos.Up (spot_address g (Root c k)) b) e 0
+  op_sound = let q : OpTie g (classes w) (w (Redo c)) (w (RedoMore c)) (w (Era c c)) (words_of g.wide w) (Alloc Begun (Root c k) b e) = subst (OpTie g (classes w) (w (Redo c)) (w (RedoMore c)) (w (Era c c)) (words_of g.wide w)) a.op (h.op c a.inside) in q
 
   tag_word : w (Tag b) ≡ tag
   tag_word = (All-contains (λ (s : Stored). InBlock (λ i. w (Tag i)) (λ i j. w (Body i j)) m.block m.class s.spot s.value) m.words (record { spot = Tag b; value = tag }) m_at.stored a.tagged).1
 
-  zero_word : (i : ℕ) → i < tag_refs tag → w (Body b i) ≡ 0
+  zero_word : (i : ℕ) → i < tag_refs g.wide tag → w (Body b i) ≡ 0
   zero_word i l = (All-contains (λ (s : Stored). InBlock (λ i. w (Tag i)) (λ i j. w (Body i j)) m.block m.class s.spot s.value) m.words (record { spot = Body b i; value = 0 }) m_at.stored (a.zeros i l)).2
 
   covers_root : (d : ℕ) → d < g.clients → (y : ℕ) → cover (cover_of (v.op d)) (Root c k) y ≡ y
   covers_root d l y = elim (cases_eq c d) [
     | inl x ↦ subst (λ i. cover (cover_of (v.op i)) (Root c k) y ≡ y) x (ap (λ z. cover (cover_of z) (Root c k) y) a.op)
-    | inr n ↦ apart d (headers w) (λ i. w (Tag i)) (v.latch d) (λ i j. w (Tail i j)) (λ i j. w (QueueHead i j)) (InReach w g v d) (v.op d) (Root c k) (h.slots d l) (λ x. n x) y
+    | inr n ↦ apart g.wide d (headers w) (λ i. w (Tag i)) (v.latch d) (λ i j. w (Tail i j)) (λ i j. w (QueueHead i j)) (InReach w g v d) (v.op d) (Root c k) (h.slots d l) (λ x. n x) y
   ]
 
   covers_body : (i d : ℕ) → d < g.clients → (y : ℕ) → cover (cover_of (v.op d)) (Body b i) y ≡ y
-  covers_body i d l y = apart d (headers w) (λ i. w (Tag i)) (v.latch d) (λ i j. w (Tail i j)) (λ i j. w (QueueHead i j)) (InReach w g v d) (v.op d) (Body b i) (h.slots d l) (λ x. not_live x.0) y
+  covers_body i d l y = apart g.wide d (headers w) (λ i. w (Tag i)) (v.latch d) (λ i j. w (Tail i j)) (λ i j. w (QueueHead i j)) (InReach w g v d) (v.op d) (Body b i) (h.slots d l) (λ x. not_live x.0) y
 
   root_zero : targets g w v (Root c k) ≡ 0
   root_zero = covered_none g.clients (Root c k) (w (Root c k)) (λ d. cover_of (v.op d)) covers_root ∙ op_sound.word
 
   abbrev refs' : ℕ → ℕ
-  refs' = (words_of (upd w (Head b) to)).refs
+  refs' = (words_of g.wide (upd w (Head b) to)).refs
 
-  refs_here : (refs' b ≡ (words_of w).refs b) ⊎ ((i : ℕ) → (i < refs' b) ⊎ (i < (words_of w).refs b) → covered (λ d. cover_of (v.op d)) g.clients (Body b i) (w (Body b i)) ≡ 0)
+  refs_here : (refs' b ≡ (words_of g.wide w).refs b) ⊎ ((i : ℕ) → (i < refs' b) ⊎ (i < (words_of g.wide w).refs b) → covered (λ d. cover_of (v.op d)) g.clients (Body b i) (w (Body b i)) ≡ 0)
   refs_here = inr (λ i u. covered_none g.clients (Body b i) (w (Body b i)) (λ d. cover_of (v.op d)) (covers_body i) ∙ zero_word i (elim u [
-    | inl x ↦ subst (λ z. i < z) (ap (λ z. refs_of (header_of z).live (w (Tag b))) (at1_here (λ i. w (Head i)) b to) ∙ (ap (λ z. refs_of z (w (Tag b))) new_live ∙ ap tag_refs tag_word)) x
-    | inr x ↦ (let z : (words_of w).refs b ≡ 0 = ap (λ z. refs_of z (w (Tag b))) dead in absurd (omega arith))
+    | inl x ↦ subst (λ z. i < z) (ap (λ z. refs_of g.wide (header_of z).live (w (Tag b))) (at1_here (λ i. w (Head i)) b to) ∙ (ap (λ z. refs_of g.wide z (w (Tag b))) new_live ∙ ap (tag_refs g.wide) tag_word)) x
+    | inr x ↦ (let z : (words_of g.wide w).refs b ≡ 0 = ap (λ z. refs_of g.wide z (w (Tag b))) dead in absurd (omega arith))
   ]))
 
-  refs_all : (d : ℕ) → (refs' d ≡ (words_of w).refs d) ⊎ ((i : ℕ) → (i < refs' d) ⊎ (i < (words_of w).refs d) → covered (λ d. cover_of (v.op d)) g.clients (Body d i) (w (Body d i)) ≡ 0)
+  refs_all : (d : ℕ) → (refs' d ≡ (words_of g.wide w).refs d) ⊎ ((i : ℕ) → (i < refs' d) ⊎ (i < (words_of g.wide w).refs d) → covered (λ d. cover_of (v.op d)) g.clients (Body d i) (w (Body d i)) ≡ 0)
   refs_all d = elim (cases_eq b d) [
-    | inl x ↦ subst (λ z. (refs' z ≡ (words_of w).refs z) ⊎ ((i : ℕ) → (i < refs' z) ⊎ (i < (words_of w).refs z) → covered (λ d. cover_of (v.op d)) g.clients (Body z i) (w (Body z i)) ≡ 0)) x refs_here
-    | inr n ↦ inl (ap (λ z. refs_of (header_of z).live (w (Tag d))) (at1_other (λ i. w (Head i)) b to d n))
+    | inl x ↦ subst (λ z. (refs' z ≡ (words_of g.wide w).refs z) ⊎ ((i : ℕ) → (i < refs' z) ⊎ (i < (words_of g.wide w).refs z) → covered (λ d. cover_of (v.op d)) g.clients (Body z i) (w (Body z i)) ≡ 0)) x refs_here
+    | inr n ↦ inl (ap (λ z. refs_of g.wide (header_of z).live (w (Tag d))) (at1_other (λ i. w (Head i)) b to d n))
   ]
 
   path : targets g (upd w (Head b) to) (alloc_view v c k b e m) ≡ upd (targets g w v) (Root c k) b
-  path = commit_target g.clients (words_of (upd w (Head b) to)) v.op c (Alloc Committed (Root c k) b e) (Root c k) b a.inside (ap cover_of a.op) refl tt (λ d l _ y. covers_root d l y)
-      ∙ ap (λ z. upd z (Root c k) b) (refs_target g.clients (words_of w) refs' (λ d. cover_of (v.op d)) refs_all)
+  path = commit_target g.clients (words_of g.wide (upd w (Head b) to)) v.op c (Alloc Committed (Root c k) b e) (Root c k) b a.inside (ap cover_of a.op) refl tt (λ d l _ y. covers_root d l y)
+      ∙ ap (λ z. upd z (Root c k) b) (refs_target g.clients (words_of g.wide w) refs' (λ d. cover_of (v.op d)) refs_all)
 
   held_over : held_overs (alloc_view v c k b e m) ≡ held_overs v
   held_over = fun_ext (λ d. at1_all (λ (i : ℕ) (x : Op). held_over_of x ≡ held_over_of (v.op i)) v.op c (Alloc Committed (Root c k) b e) d (sym (ap held_over_of a.op)) (λ _. refl))
@@ -128,28 +128,28 @@ module _ (g : Geometry) (w : Spot → ℕ) (v : View) (c k b e to tag : ℕ) (m 
         making = λ d. at1_all (λ (i : ℕ) (x : Option Making). i < g.clients → MakingTie g class segment word' tags bodies i x) v.making c None d (λ l. tt) (λ n l. making d n (v.making d) (h.making d l));
         blocks = record {
           plain = λ i. at1_all (λ (j x : ℕ). (header_of x).live ≡ false → x ≡ 0) word b to i (λ dead. absurd (true≢false (sym new_live ∙ dead))) (λ n. h.blocks.plain i);
-          tagged = λ i. at1_all (λ (j x : ℕ). (header_of x).live ≡ true → TagSound g.clients (class_at g class j) (w (Tag j))) word b to i (λ l. tag_sound) (λ n. h.blocks.tagged i);
-          link = λ i. at1_all (λ (j x : ℕ). (header_of x).live ≡ true → (header_of x).count ≢ 0 → tag_link (w (Tag j)) ≡ 0) word b to i (λ l z. ap tag_link tag_word ∙ a.link) (λ n. h.blocks.link i);
+          tagged = λ i. at1_all (λ (j x : ℕ). (header_of x).live ≡ true → TagSound g.wide g.clients (class_at g class j) (w (Tag j))) word b to i (λ l. tag_sound) (λ n. h.blocks.tagged i);
+          link = λ i. at1_all (λ (j x : ℕ). (header_of x).live ≡ true → (header_of x).count ≢ 0 → tag_link g.wide (w (Tag j)) ≡ 0) word b to i (λ l z. ap (tag_link g.wide) tag_word ∙ a.link) (λ n. h.blocks.link i);
         };
         era = era_exchange g.clients word (λ i j. w (Era i j)) v.op c b to o a.inside (ap on_of a.op) refl (ap (λ (x : Header). x.client) a.new) (ap (λ (x : Header). x.era) a.new ∙ op_sound.current) (h.own c a.inside).some
             (λ d l n cl er. let z : (header_of (word b)).era ≡ 0 = ap (λ x. (header_of x).era) free ∙ zero_era in let s = (h.own d l).some in absurd (omega arith)) h.era;
         own = λ d. at1_all (λ (i : ℕ) (x : Op). i < g.clients → OwnSound (w (Era i i)) x) v.op c o d (λ l. let q = h.own c l in record { some = q.some; room = subst (λ x. w (Era c c) + room_of x ≤ 2 ^ 47) a.op q.room }) (λ n. h.own d);
-        op = λ d. at1_all (λ (i : ℕ) (x : Op). i < g.clients → OpTie g class (w (Redo i)) (w (Era i i)) (words_of w') x) v.op c o d
-            (λ l. record { spelled = op_sound.spelled; current = op_sound.current; at = op_sound.at; word = op_sound.word })
+        op = λ d. at1_all (λ (i : ℕ) (x : Op). i < g.clients → OpTie g class (w (Redo i)) (w (RedoMore i)) (w (Era i i)) (words_of g.wide w') x) v.op c o d
+            (λ l. record { spelled = op_sound.spelled; blocks = op_sound.blocks; current = op_sound.current; at = op_sound.at; word = op_sound.word })
             (λ n. h.op d);
         redo = h.redo;
         allowed = λ d. at1_all (λ (i : ℕ) (x : Op). i < g.clients → Allowed i x) v.op c o d (λ l. refl) (λ n. h.allowed d);
         count = subst (λ (t : Spot → ℕ). CountSound g class (λ i. header_of (word' i)) t (held_overs v')) (sym path)
             (subst (λ (l : ℕ → ℕ). CountSound g class (λ i. header_of (word' i)) t' l) (sym held_over)
             (count_exchange g class word t (held_overs v) (Root c k) b to b op_sound.at (λ z. cc) live_not_zero new_live balance others (λ _. refl) h.count));
-        slots = subst (λ (t : Spot → ℕ). (d : ℕ) → d < g.clients → is_op (v'.op d) ≡ true → SlotOf d (λ i. header_of (word' i)) tags (v.latch d) tail queue_head (reach_of t tail queue_head v.looks d) (slot_of (v'.op d))) (sym path)
-            (λ d. at1_all (λ (i : ℕ) (x : Op). i < g.clients → is_op x ≡ true → SlotOf i (λ j. header_of (word' j)) tags (v.latch i) tail queue_head (reach_of t' tail queue_head v.looks i) (slot_of x)) v.op c o d
+        slots = subst (λ (t : Spot → ℕ). (d : ℕ) → d < g.clients → is_op (v'.op d) ≡ true → SlotOf g.wide d (λ i. header_of (word' i)) tags (v.latch d) tail queue_head (reach_of t tail queue_head v.looks d) (slot_of (v'.op d))) (sym path)
+            (λ d. at1_all (λ (i : ℕ) (x : Op). i < g.clients → is_op x ≡ true → SlotOf g.wide i (λ j. header_of (word' j)) tags (v.latch i) tail queue_head (reach_of t' tail queue_head v.looks i) (slot_of x)) v.op c o d
             (λ l is. refl)
-            (λ n l is. slot_kept d (λ i. header_of (word i)) (λ i. header_of (word' i)) tags (v.latch d) tail queue_head (reach_of t tail queue_head v.looks d) (reach_of t' tail queue_head v.looks d) (slot_of (v.op d)) (λ i q. inl (lives i q)) (dying_kept d) (reach d) (h.slots d l is)));
-        looks = subst (λ (t : Spot → ℕ). (d : ℕ) → d < g.clients → LooksSound (λ a. t (Home a)) (λ b i. t (Body b i)) (λ b. tag_author (w (Tag b))) (v.latch d) (named_by t tail queue_head d) [] (v.looks d)) (sym path)
-            (λ d l. looks_kept (λ a. t (Home a)) (λ a. t (Home a)) (λ b i. t (Body b i)) (λ b i. t (Body b i)) (λ b. tag_author (w (Tag b))) (v.latch d) (named_by t tail queue_head d) (named_by t' tail queue_head d) (λ _ _ _ x. x) (λ _ _ _ _ x. x) (named d) [] (v.looks d) (h.looks d l));
+            (λ n l is. slot_kept g.wide d (λ i. header_of (word i)) (λ i. header_of (word' i)) tags (v.latch d) tail queue_head (reach_of t tail queue_head v.looks d) (reach_of t' tail queue_head v.looks d) (slot_of (v.op d)) (λ i q. inl (lives i q)) (dying_kept d) (reach d) (h.slots d l is)));
+        looks = subst (λ (t : Spot → ℕ). (d : ℕ) → d < g.clients → LooksSound (λ a. t (Home a)) (λ b i. t (Body b i)) (λ b. tag_author g.wide (w (Tag b))) (v.latch d) (named_by t tail queue_head d) [] (v.looks d)) (sym path)
+            (λ d l. looks_kept (λ a. t (Home a)) (λ a. t (Home a)) (λ b i. t (Body b i)) (λ b i. t (Body b i)) (λ b. tag_author g.wide (w (Tag b))) (v.latch d) (named_by t tail queue_head d) (named_by t' tail queue_head d) (λ _ _ _ x. x) (λ _ _ _ _ x. x) (named d) [] (v.looks d) (h.looks d l));
         lanes = subst (λ (t : Spot → ℕ). (i j : ℕ) → i < g.clients → j < g.clients → i ≢ j → LaneSound (λ k. t (Slot i j k)) (tail i j) (queue_head i j) (v.sent i j) (v.unsent i j) (v.received j i) (v.untaken j i)) (sym path) h.lanes;
-        known = subst (λ (t : Spot → ℕ). (d : ℕ) → d < g.clients → All (λ (s : Stored). KnownAt d tags bodies slots tail queue_head (v.untaken d) (v.latch d) (reach_of t tail queue_head v.looks d) (v.dying d) s.spot s.value) (v'.known d)) (sym path)
+        known = subst (λ (t : Spot → ℕ). (d : ℕ) → d < g.clients → All (λ (s : Stored). KnownAt g.wide d tags bodies slots tail queue_head (v.untaken d) (v.latch d) (reach_of t tail queue_head v.looks d) (v.dying d) s.spot s.value) (v'.known d)) (sym path)
             (λ d. at1_all (λ (i : ℕ) (x : List Stored). i < g.clients → All (Known i) x) v.known c (m.words ++ v.known c) d
             (λ l. All-append (Known c) m.words (v.known c) (All-weaker _ (Known c) (λ s. made s.spot s.value) m.words m_at.stored) (All-weaker _ (Known c) (λ s. old c s.spot s.value) (v.known c) (h.known c l)))
             (λ n l. All-weaker _ (Known d) (λ s. old d s.spot s.value) (v.known d) (h.known d l)));
@@ -174,10 +174,10 @@ module _ (g : Geometry) (w : Spot → ℕ) (v : View) (c k b e to tag : ℕ) (m 
         tails = λ d r l lr. at1_all (λ (i : ℕ) (x : Op). i < g.clients → TailSound i r (w (Era i i)) (tail i r) (v.unsent i r) x) v.op c o d
             (λ lc. let q = h.tails c r lc lr in (q.0, λ nz f. q.1 nz (λ z. f (sym (ap up_slot a.op) ∙ z)))) (λ _ ld. h.tails d r ld lr) l;
         parts = h.parts;
-        part = subst (λ (t : Spot → ℕ). (d : ℕ) → d < g.clients → PartTie (contents_of w' t) d (t (Home d)) (v.part d)) (sym path) (λ d l. part_lives g w v h d heads' t' l (λ i _. lives i) (λ _ _ _ _. refl) refl);
-        queued = subst (λ (t : Spot → ℕ). (d : ℕ) → d < g.clients → is_loose (v.part d) ≡ false → (s r j : ℕ) → t (Slot s r j) ≢ 0 → HasShape (contents_of w' t) 0 1 (t (Slot s r j))) (sym path)
+        part = subst (λ (t : Spot → ℕ). (d : ℕ) → d < g.clients → PartTie (contents_of g.wide w' t) d (t (Home d)) (v.part d)) (sym path) (λ d l. part_lives g w v h d heads' t' l (λ i _. lives i) (λ _ _ _ _. refl) refl);
+        queued = subst (λ (t : Spot → ℕ). (d : ℕ) → d < g.clients → is_loose (v.part d) ≡ false → (s r j : ℕ) → t (Slot s r j) ≢ 0 → HasShape (contents_of g.wide w' t) 0 1 (t (Slot s r j))) (sym path)
             (λ d l. queued_kept g w v h d heads' (λ i j. t' (Body i j)) bodies t' l (λ i _. lives i) (λ s r j n. inl refl));
-        values = subst (λ (t : Spot → ℕ). (d : ℕ) → d < g.clients → All (ValueAt (contents_of w' t) (reach_of t tail queue_head v.looks d)) (v.values d)) (sym path)
+        values = subst (λ (t : Spot → ℕ). (d : ℕ) → d < g.clients → All (ValueAt (contents_of g.wide w' t) (reach_of t tail queue_head v.looks d)) (v.values d)) (sym path)
             (λ d l. values_kept g w v h d heads' (λ i j. t' (Body i j)) bodies (reach_of t' tail queue_head v.looks d) l (λ i _. lives i) (reach d));
         made = subst (λ (t : Spot → ℕ). (d : ℕ) → d < g.clients → All (MadeAt heads' (λ j. t (Root d j))) (v'.made d)) (sym path)
             (λ d. at1_all (λ (i : ℕ) (x : List ℕ). i < g.clients → All (MadeAt heads' (λ j. t' (Root i j))) x) v.made c (b ∷ v.made c) d
@@ -233,8 +233,8 @@ module _ (g : Geometry) (w : Spot → ℕ) (v : View) (c k b e to tag : ℕ) (m 
       zero_era : (header_of 0).era ≡ 0
       zero_era = era_of_zero
 
-      tag_sound : TagSound g.clients (class_at g class b) (w (Tag b))
-      tag_sound = subst (TagSound g.clients (class_at g class b)) (sym tag_word) (record {
+      tag_sound : TagSound g.wide g.clients (class_at g class b) (w (Tag b))
+      tag_sound = subst (TagSound g.wide g.clients (class_at g class b)) (sym tag_word) (record {
         small = a.small_tag;
         refs = a.refs;
         plain = a.plain;
@@ -294,14 +294,14 @@ module _ (g : Geometry) (w : Spot → ℕ) (v : View) (c k b e to tag : ℕ) (m 
       reach_b = inl (b_not_zero, inl (k, cond-true (same_spot (Root c k) (Root c k)) b (t (Root c k)) (same_spot_self (Root c k))))
 
       Known : ℕ → Stored → Type 0
-      Known d s = KnownAt d tags bodies slots tail queue_head (v.untaken d) (v.latch d) (reach_of t' tail queue_head v.looks d) (v.dying d) s.spot s.value
+      Known d s = KnownAt g.wide d tags bodies slots tail queue_head (v.untaken d) (v.latch d) (reach_of t' tail queue_head v.looks d) (v.dying d) s.spot s.value
 
-      old : (d : ℕ) (p : Spot) (x : ℕ) → KnownAt d tags bodies slots tail queue_head (v.untaken d) (v.latch d) (reach_of t tail queue_head v.looks d) (v.dying d) p x → KnownAt d tags bodies slots tail queue_head (v.untaken d) (v.latch d) (reach_of t' tail queue_head v.looks d) (v.dying d) p x
-      old d p x = known_kept d tags bodies slots tail queue_head (v.untaken d) (v.latch d) (reach_of t tail queue_head v.looks d) (reach_of t' tail queue_head v.looks d) (v.dying d) (v.dying d) p x (reach d) (λ _ x. x)
+      old : (d : ℕ) (p : Spot) (x : ℕ) → KnownAt g.wide d tags bodies slots tail queue_head (v.untaken d) (v.latch d) (reach_of t tail queue_head v.looks d) (v.dying d) p x → KnownAt g.wide d tags bodies slots tail queue_head (v.untaken d) (v.latch d) (reach_of t' tail queue_head v.looks d) (v.dying d) p x
+      old d p x = known_kept g.wide d tags bodies slots tail queue_head (v.untaken d) (v.latch d) (reach_of t tail queue_head v.looks d) (reach_of t' tail queue_head v.looks d) (v.dying d) (v.dying d) p x (reach d) (λ _ x. x)
 
-      made : (p : Spot) (x : ℕ) → InBlock tags bodies m.block m.class p x → KnownAt c tags bodies slots tail queue_head (v.untaken c) (v.latch c) (reach_of t' tail queue_head v.looks c) (v.dying c) p x
+      made : (p : Spot) (x : ℕ) → InBlock tags bodies m.block m.class p x → KnownAt g.wide c tags bodies slots tail queue_head (v.untaken c) (v.latch c) (reach_of t' tail queue_head v.looks c) (v.dying c) p x
       made (Tag d) x y = (y.1, inr (subst (reach_of t' tail queue_head v.looks c) (sym (y.0 ∙ a.block)) reach_b))
-      made (Body d i) x y = (y.2, inr (subst (reach_of t' tail queue_head v.looks c) (sym (y.0 ∙ a.block)) reach_b, inr (inl (ap (λ i. tag_author (w (Tag i))) (y.0 ∙ a.block) ∙ (ap tag_author tag_word ∙ a.author)))))
+      made (Body d i) x y = (y.2, inr (subst (reach_of t' tail queue_head v.looks c) (sym (y.0 ∙ a.block)) reach_b, inr (inl (ap (λ i. tag_author g.wide (w (Tag i))) (y.0 ∙ a.block) ∙ (ap (tag_author g.wide) tag_word ∙ a.author)))))
       made _ x y = absurd y
 
       zero_own : (p : Spot) → other_than (Head b) p ≡ true → ZeroAt g class segment word c p → ZeroAt g class segment word' c p
@@ -319,31 +319,31 @@ module _ (g : Geometry) (w : Spot → ℕ) (v : View) (c k b e to tag : ℕ) (m 
 
   -- and it is one event: the block is live with the tag that was stored, the root names it, and its words name nothing
   pub alloc_event : Happens g w (AllocEvent c k b) (graph_of g w v) (graph_of g (upd w (Head b) to) (alloc_view v c k b e m))
-  alloc_event = ((block, free), unnamed, root_zero, (w (Tag b) / 2 ^ 20, author, graph), empty)
+  alloc_event = ((block, free), unnamed, root_zero, (tag_shape g.wide (w (Tag b)), author, graph), empty)
     where
       lives : ℕ → Bool
       lives = λ i. (headers w i).live
 
       shape : Bool → ℕ → ℕ
-      shape l i = cond l (w (Tag i) / 2 ^ 20) 0
+      shape l i = cond l (tag_shape g.wide (w (Tag i))) 0
 
       shapes : ℕ → ℕ
       shapes = λ i. shape (headers w i).live i
 
-      author : tag_author (w (Tag b) / 2 ^ 20 * 2 ^ 20) ≡ c
-      author = let y : tag_author (w (Tag b)) ≡ c = ap tag_author tag_word ∙ a.author in omega arith
+      author : shape_author (tag_shape g.wide (w (Tag b))) ≡ c
+      author = ap (tag_author g.wide) tag_word ∙ a.author
 
-      graph : IsSame (with_target (with_live (graph_of g w v) b true (w (Tag b) / 2 ^ 20)) (Root c k) b) (graph_of g (upd w (Head b) to) (alloc_view v c k b e m))
+      graph : IsSame (with_target (with_live (graph_of g w v) b true (tag_shape g.wide (w (Tag b)))) (Root c k) b) (graph_of g (upd w (Head b) to) (alloc_view v c k b e m))
       graph =
           record {
             lives = λ i. at1_all (λ (j x : ℕ). (header_of x).live ≡ at1 lives b true j) (λ i. w (Head i)) b to i (new_live ∙ sym (at1_here lives b true)) (λ n. sym (at1_other lives b true i n));
-            shapes = λ i. at1_all (λ (j x : ℕ). shape (header_of x).live j ≡ at1 shapes b (w (Tag b) / 2 ^ 20) j) (λ i. w (Head i)) b to i
-                (ap (λ l. shape l b) new_live ∙ sym (at1_here shapes b (w (Tag b) / 2 ^ 20))) (λ n. sym (at1_other shapes b (w (Tag b) / 2 ^ 20) i n));
+            shapes = λ i. at1_all (λ (j x : ℕ). shape (header_of x).live j ≡ at1 shapes b (tag_shape g.wide (w (Tag b))) j) (λ i. w (Head i)) b to i
+                (ap (λ l. shape l b) new_live ∙ sym (at1_here shapes b (tag_shape g.wide (w (Tag b))))) (λ n. sym (at1_other shapes b (tag_shape g.wide (w (Tag b))) i n));
             targets = λ q. ap (λ f. f q) path;
             held_overs = λ d. ap (λ f. f d) held_over;
           }
 
       -- a free block has no words that name
       empty : (i : ℕ) → targets g (upd w (Head b) to) (alloc_view v c k b e m) (Body b i) ≡ 0
-      empty i = ap (λ f. f (Body b i)) path ∙ ap (λ l. cond (ltb i (refs_of l (w (Tag b)))) (covered (λ d. cover_of (v.op d)) g.clients (Body b i) (w (Body b i))) 0) dead
+      empty i = ap (λ f. f (Body b i)) path ∙ ap (λ l. cond (ltb i (refs_of g.wide l (w (Tag b)))) (covered (λ d. cover_of (v.op d)) g.clients (Body b i) (w (Body b i))) 0) dead
           ∙ rw (le-ltb i 0 (omega arith)) refl

@@ -1,6 +1,6 @@
 -- other words of blocks keep the invariant and leave the graph, where no live block's words change but the links of dying ones
 use Rattle.std.proofs.Math.Path.{fun_ext}
-use Rattle.std.proofs.Common.{◌≡◌, ◌≢◌, ℕ, ◌/◌, ◌^◌, ◌<◌, ◌≤◌, refl, sym, ap, ◌∙◌, arith, true, false, cond, ltb, ltb-true, subst, inl, inr, ◌⊎◌, List, [], ◌∷◌, Option, Some, None}
+use Rattle.std.proofs.Common.{◌≡◌, ◌≢◌, ℕ, ◌^◌, ◌<◌, ◌≤◌, refl, sym, ap, ◌∙◌, arith, true, false, cond, ltb, ltb-true, subst, inl, inr, ◌⊎◌, List, [], ◌∷◌, Option, Some, None, Bool}
 use Rattle.std.specs.List.{All, Contains}
 use Rattle.std.proofs.lemmas.List.Elements.{All-weaker}
 use Rattle.std.proofs.lemmas.Bool.{cases_Bool, cases_eq, ne_eqb, false_from_ne_true}
@@ -8,9 +8,9 @@ use Rattle.shm_words.specs.declared.geometry.Geometry.{Geometry}
 use Rattle.shm_words.specs.declared.header.Header.{Header}
 use Rattle.shm_words.specs.Headers.{header_of}
 use Rattle.shm_words.specs.Classes.{class_for}
-use Rattle.shm_words.specs.Tags.{tag_refs, tag_plain, tag_author, tag_link}
+use Rattle.shm_words.specs.Tags.{tag_refs, tag_plain, tag_author, tag_link, tag_shape, tag_limit, shape_author}
 use Rattle.shm_graph.specs.declared.spot.Spot.{Spot}
-use Rattle.shm_graph.specs.declared.spot.Spot.TheVariants.{Spare, Status, Redo, Hold, Latch, Home, Era, Root, Tail, QueueHead, Slot, Segment, Page, Unused, Head, Tag, Body}
+use Rattle.shm_graph.specs.declared.spot.Spot.TheVariants.{Spare, Status, Redo, RedoMore, Hold, Latch, Home, Era, Root, Tail, QueueHead, Slot, Segment, Page, Unused, Head, Tag, Body}
 use Rattle.shm_graph.specs.declared.memo.Status.TheVariants as status
 use Rattle.shm_graph.specs.declared.memo.Making.{Making}
 use Rattle.shm_graph.specs.declared.memo.Stored.{Stored}
@@ -49,20 +49,22 @@ pub record BlocksMay (g : Geometry) (w : Spot → ℕ) (c : ℕ) (tag : ℕ → 
   pub small_body : (d i : ℕ) → body d i < 2 ^ 64
   pub tag_there : (d : ℕ) → tag d ≢ 0 → IsAt g (λ s q. w (Page s q)) (Tag d)
   pub body_there : (d i : ℕ) → body d i ≢ 0 → IsAt g (λ s q. w (Page s q)) (Body d i)
-  pub shape : (d : ℕ) → (header_of (w (Head d))).live ≡ true → tag d / 2 ^ 20 ≡ w (Tag d) / 2 ^ 20
-  pub size : (d : ℕ) → (header_of (w (Head d))).live ≡ true → tag d < 2 ^ 35
+  pub shape : (d : ℕ) → (header_of (w (Head d))).live ≡ true → tag_shape g.wide (tag d) ≡ tag_shape g.wide (w (Tag d))
+  pub size : (d : ℕ) → (header_of (w (Head d))).live ≡ true → tag d < tag_limit g.wide
   pub same : (d : ℕ) → (header_of (w (Head d))).live ≡ true → (IsDying (header_of (w (Head d))) c → ⊥) → tag d ≡ w (Tag d)
   pub inner : (d i : ℕ) → (header_of (w (Head d))).live ≡ true → body d i ≡ w (Body d i)
 
 -- the numbers of words and the author are above the link
-refs_above : (x y : ℕ) → x / 2 ^ 20 ≡ y / 2 ^ 20 → tag_refs x ≡ tag_refs y
-refs_above x y e = omega arith
+refs_above : (wide : Bool) (x y : ℕ) → tag_shape wide x ≡ tag_shape wide y → tag_refs wide x ≡ tag_refs wide y
+refs_above false x y e = omega arith
+refs_above true x y e = omega arith
 
-plain_above : (x y : ℕ) → x / 2 ^ 20 ≡ y / 2 ^ 20 → tag_plain x ≡ tag_plain y
-plain_above x y e = omega arith
+plain_above : (wide : Bool) (x y : ℕ) → tag_shape wide x ≡ tag_shape wide y → tag_plain wide x ≡ tag_plain wide y
+plain_above false x y e = omega arith
+plain_above true x y e = omega arith
 
-author_above : (x y : ℕ) → x / 2 ^ 20 ≡ y / 2 ^ 20 → tag_author x ≡ tag_author y
-author_above x y e = omega arith
+author_above : (wide : Bool) (x y : ℕ) → tag_shape wide x ≡ tag_shape wide y → tag_author wide x ≡ tag_author wide y
+author_above wide x y e = ap shape_author e
 
 module _ (g : Geometry) (w : Spot → ℕ) (v : View) (c : ℕ) (tag : ℕ → ℕ) (body : ℕ → ℕ → ℕ) (h : HeldAt g w v) (a : BlocksMay g w c tag body) where
   abbrev heads : ℕ → Header
@@ -89,11 +91,11 @@ module _ (g : Geometry) (w : Spot → ℕ) (v : View) (c : ℕ) (tag : ℕ → �
   abbrev t : Spot → ℕ
   t = targets g w v
 
-  refs_kept : (d : ℕ) → (heads d).live ≡ true → tag_refs (tag d) ≡ tag_refs (w (Tag d))
-  refs_kept d l = refs_above (tag d) (w (Tag d)) (a.shape d l)
+  refs_kept : (d : ℕ) → (heads d).live ≡ true → tag_refs g.wide (tag d) ≡ tag_refs g.wide (w (Tag d))
+  refs_kept d l = refs_above g.wide (tag d) (w (Tag d)) (a.shape d l)
 
-  author_kept : (d : ℕ) → (heads d).live ≡ true → tag_author (tag d) ≡ tag_author (w (Tag d))
-  author_kept d l = author_above (tag d) (w (Tag d)) (a.shape d l)
+  author_kept : (d : ℕ) → (heads d).live ≡ true → tag_author g.wide (tag d) ≡ tag_author g.wide (w (Tag d))
+  author_kept d l = author_above g.wide (tag d) (w (Tag d)) (a.shape d l)
 
   -- a block that a word names keeps its tag
   named_same : (d : ℕ) → IsNamed t d → (heads d).live ≡ true → tag d ≡ w (Tag d)
@@ -110,8 +112,8 @@ module _ (g : Geometry) (w : Spot → ℕ) (v : View) (c : ℕ) (tag : ℕ → �
       covers : Spot → ℕ → ℕ
       covers p y = covered (λ d. cover_of (v.op d)) g.clients p y
 
-      both : (d i : ℕ) (b : _) → (heads d).live ≡ b → cond (ltb i (refs_of b (tag d))) (covers (Body d i) (body d i)) 0 ≡ cond (ltb i (refs_of b (w (Tag d)))) (covers (Body d i) (w (Body d i))) 0
-      both d i true e = ap (λ z. cond (ltb i z) (covers (Body d i) (body d i)) 0) (refs_kept d e) ∙ ap (λ z. cond (ltb i (tag_refs (w (Tag d)))) (covers (Body d i) z) 0) (a.inner d i e)
+      both : (d i : ℕ) (b : _) → (heads d).live ≡ b → cond (ltb i (refs_of g.wide b (tag d))) (covers (Body d i) (body d i)) 0 ≡ cond (ltb i (refs_of g.wide b (w (Tag d)))) (covers (Body d i) (w (Body d i))) 0
+      both d i true e = ap (λ z. cond (ltb i z) (covers (Body d i) (body d i)) 0) (refs_kept d e) ∙ ap (λ z. cond (ltb i (tag_refs g.wide (w (Tag d)))) (covers (Body d i) z) 0) (a.inner d i e)
       both d i false e = ap (λ z. cond z (covers (Body d i) (body d i)) 0) (none_below i) ∙ sym (ap (λ z. cond z (covers (Body d i) (w (Body d i))) 0) (none_below i))
 
       go : (p : Spot) → targets g (with_blocks w tag body) (blocks_view v c m known) p ≡ t p
@@ -119,6 +121,7 @@ module _ (g : Geometry) (w : Spot → ℕ) (v : View) (c : ℕ) (tag : ℕ → �
       go Spare = refl
       go (Status d) = refl
       go (Redo d) = refl
+      go (RedoMore d) = refl
       go (Hold d) = refl
       go (Latch d) = refl
       go (Home d) = refl
@@ -137,37 +140,37 @@ module _ (g : Geometry) (w : Spot → ℕ) (v : View) (c : ℕ) (tag : ℕ → �
   live_from : (b i : ℕ) → t (Body b i) ≢ 0 → (heads b).live ≡ true
   live_from b i n = elim (cases_Bool (heads b).live) [
     | inl y ↦ y
-    | inr y ↦ absurd (n (ap (λ z. cond (ltb i (refs_of z (w (Tag b)))) (covered (λ d. cover_of (v.op d)) g.clients (Body b i) (w (Body b i))) 0) y ∙ ap (λ z. cond z (covered (λ d. cover_of (v.op d)) g.clients (Body b i) (w (Body b i))) 0) (none_below i)))
+    | inr y ↦ absurd (n (ap (λ z. cond (ltb i (refs_of g.wide z (w (Tag b)))) (covered (λ d. cover_of (v.op d)) g.clients (Body b i) (w (Body b i))) 0) y ∙ ap (λ z. cond z (covered (λ d. cover_of (v.op d)) g.clients (Body b i) (w (Body b i))) 0) (none_below i)))
   ]
 
-  word_kept : (d : ℕ) (reach : ℕ → Type 0) (latch : Option ℕ) (p : Spot) → SlotOf d heads tags latch tail queue_head reach p → word_at (words_of (with_blocks w tag body)) p ≡ word_at (words_of w) p
+  word_kept : (d : ℕ) (reach : ℕ → Type 0) (latch : Option ℕ) (p : Spot) → SlotOf g.wide d heads tags latch tail queue_head reach p → word_at (words_of g.wide (with_blocks w tag body)) p ≡ word_at (words_of g.wide w) p
   word_kept d reach latch (Body b i) s = a.inner b i s.0
   word_kept d reach latch (Root b i) s = refl
   word_kept d reach latch (Home b) s = refl
   word_kept d reach latch (Slot b i j) s = refl
   word_kept d reach latch _ s = absurd s
 
-  slot_kept : (d : ℕ) (reach : ℕ → Type 0) (latch : Option ℕ) (p : Spot) → SlotOf d heads tags latch tail queue_head reach p → SlotOf d heads tag latch tail queue_head reach p
+  slot_kept : (d : ℕ) (reach : ℕ → Type 0) (latch : Option ℕ) (p : Spot) → SlotOf g.wide d heads tags latch tail queue_head reach p → SlotOf g.wide d heads tag latch tail queue_head reach p
   slot_kept d reach latch (Body b i) s = (s.0, subst (λ z. i < z) (sym (refs_kept b s.0)) s.1, elim s.2 [ inl u ↦ inl u | inr u ↦ inr (author_kept b s.0 ∙ u.0, u.1, u.2) ])
   slot_kept d reach latch (Root b i) s = s
   slot_kept d reach latch (Home b) s = s
   slot_kept d reach latch (Slot b i j) s = s
   slot_kept d reach latch _ s = absurd s
 
-  looks_kept : (latch : Option ℕ) (named : ℕ → Type 0) (earlier looks : List Look) → LooksSound (λ i. t (Home i)) (λ b i. t (Body b i)) (λ b. tag_author (w (Tag b))) latch named earlier looks → LooksSound (λ i. t (Home i)) (λ b i. t (Body b i)) (λ b. tag_author (tag b)) latch named earlier looks
+  looks_kept : (latch : Option ℕ) (named : ℕ → Type 0) (earlier looks : List Look) → LooksSound (λ i. t (Home i)) (λ b i. t (Body b i)) (λ b. tag_author g.wide (w (Tag b))) latch named earlier looks → LooksSound (λ i. t (Home i)) (λ b i. t (Body b i)) (λ b. tag_author g.wide (tag b)) latch named earlier looks
   looks_kept latch named earlier [] x = tt
   looks_kept latch named earlier (k ∷ ks) x = (at k.from x.0, looks_kept latch named (k ∷ earlier) ks x.1)
     where
-      at : (p : Spot) → LookAt (λ i. t (Home i)) (λ b i. t (Body b i)) (λ b. tag_author (w (Tag b))) latch (λ b. named b ⊎ InLooks earlier b) p k.block → LookAt (λ i. t (Home i)) (λ b i. t (Body b i)) (λ b. tag_author (tag b)) latch (λ b. named b ⊎ InLooks earlier b) p k.block
+      at : (p : Spot) → LookAt (λ i. t (Home i)) (λ b i. t (Body b i)) (λ b. tag_author g.wide (w (Tag b))) latch (λ b. named b ⊎ InLooks earlier b) p k.block → LookAt (λ i. t (Home i)) (λ b i. t (Body b i)) (λ b. tag_author g.wide (tag b)) latch (λ b. named b ⊎ InLooks earlier b) p k.block
       at (Home i) y = y
       at (Body b i) y = (y.0, y.1 ∙ ap Some (sym (author_kept b (live_from b i (λ z. y.0 (sym y.2 ∙ z))))), y.2, y.3)
       at _ y = absurd y
 
   abbrev pub Old : ℕ → Spot → ℕ → Type 0
-  Old d p z = KnownAt d tags bodies slot tail queue_head (v.untaken d) (v.latch d) (InReach w g v d) (v.dying d) p z
+  Old d p z = KnownAt g.wide d tags bodies slot tail queue_head (v.untaken d) (v.latch d) (InReach w g v d) (v.dying d) p z
 
   abbrev pub New : ℕ → Spot → ℕ → Type 0
-  New d p z = KnownAt d tag body slot tail queue_head (v.untaken d) (v.latch d) (InReach w g v d) (v.dying d) p z
+  New d p z = KnownAt g.wide d tag body slot tail queue_head (v.untaken d) (v.latch d) (InReach w g v d) (v.dying d) p z
 
   -- a block in reach, or a dying one, is live
   pub known_live : (d e : ℕ) → d < g.clients → Contains (v.dying d) e ⊎ InReach w g v d e → (heads e).live ≡ true
@@ -208,7 +211,7 @@ module _ (g : Geometry) (w : Spot → ℕ) (v : View) (c : ℕ) (tag : ℕ → �
         held_overs = λ d. refl;
       }
     where
-      shapes : (b : ℕ) (l : _) → (heads b).live ≡ l → cond l (tag b / 2 ^ 20) 0 ≡ cond l (w (Tag b) / 2 ^ 20) 0
+      shapes : (b : ℕ) (l : _) → (heads b).live ≡ l → cond l (tag_shape g.wide (tag b)) 0 ≡ cond l (tag_shape g.wide (w (Tag b))) 0
       shapes b true e = a.shape b e
       shapes b false e = refl
 
@@ -234,20 +237,20 @@ module _ (g : Geometry) (w : Spot → ℕ) (v : View) (c : ℕ) (tag : ℕ → �
         blocks = record {
           plain = h.blocks.plain;
           tagged = tagged;
-          link = λ b l n. ap tag_link (a.same b l (λ q. n q.1)) ∙ h.blocks.link b l n;
+          link = λ b l n. ap (tag_link g.wide) (a.same b l (λ q. n q.1)) ∙ h.blocks.link b l n;
         };
         era = h.era;
         own = h.own;
-        op = λ d l. tie_other g class (w (Redo d)) (w (Era d d)) (words_of w) (words_of w') (v.op d) (λ y. word_kept d (InReach w g v d) (v.latch d) (slot_of (v.op d)) (h.slots d l y)) (h.op d l);
+        op = λ d l. tie_other g class (w (Redo d)) (w (RedoMore d)) (w (Era d d)) (words_of g.wide w) (words_of g.wide w') (v.op d) (λ y. word_kept d (InReach w g v d) (v.latch d) (slot_of (v.op d)) (h.slots d l y)) (h.op d l);
         redo = h.redo;
         allowed = h.allowed;
         count = subst (λ (t : Spot → ℕ). CountSound g class heads t (held_overs v)) (sym path) h.count;
-        slots = subst (λ (t : Spot → ℕ). (d : ℕ) → d < g.clients → is_op (v.op d) ≡ true → SlotOf d heads tag (v.latch d) tail queue_head (reach_of t tail queue_head v.looks d) (slot_of (v.op d))) (sym path)
+        slots = subst (λ (t : Spot → ℕ). (d : ℕ) → d < g.clients → is_op (v.op d) ≡ true → SlotOf g.wide d heads tag (v.latch d) tail queue_head (reach_of t tail queue_head v.looks d) (slot_of (v.op d))) (sym path)
             (λ d l y. slot_kept d (InReach w g v d) (v.latch d) (slot_of (v.op d)) (h.slots d l y));
-        looks = subst (λ (t : Spot → ℕ). (d : ℕ) → d < g.clients → LooksSound (λ a. t (Home a)) (λ b i. t (Body b i)) (λ b. tag_author (tag b)) (v.latch d) (named_by t tail queue_head d) [] (v.looks d)) (sym path)
+        looks = subst (λ (t : Spot → ℕ). (d : ℕ) → d < g.clients → LooksSound (λ a. t (Home a)) (λ b i. t (Body b i)) (λ b. tag_author g.wide (tag b)) (v.latch d) (named_by t tail queue_head d) [] (v.looks d)) (sym path)
             (λ d l. looks_kept (v.latch d) (named_by t tail queue_head d) [] (v.looks d) (h.looks d l));
         lanes = subst (λ (t : Spot → ℕ). (i j : ℕ) → i < g.clients → j < g.clients → i ≢ j → LaneSound (λ k. t (Slot i j k)) (tail i j) (queue_head i j) (v.sent i j) (v.unsent i j) (v.received j i) (v.untaken j i)) (sym path) h.lanes;
-        known = subst (λ (t : Spot → ℕ). (d : ℕ) → d < g.clients → All (λ (s : Stored). KnownAt d tag body slot tail queue_head (v.untaken d) (v.latch d) (reach_of t tail queue_head v.looks d) (v.dying d) s.spot s.value) (at1 v.known c known d)) (sym path)
+        known = subst (λ (t : Spot → ℕ). (d : ℕ) → d < g.clients → All (λ (s : Stored). KnownAt g.wide d tag body slot tail queue_head (v.untaken d) (v.latch d) (reach_of t tail queue_head v.looks d) (v.dying d) s.spot s.value) (at1 v.known c known d)) (sym path)
             (λ d. at1_all (λ (j : ℕ) (y : List Stored). j < g.clients → All (λ (s : Stored). New j s.spot s.value) y) v.known c known d (λ _. knows)
             (λ n l. All-weaker (λ (s : Stored). Old d s.spot s.value) (λ (s : Stored). New d s.spot s.value) (λ s. pair_other d n l s.spot s.value) (v.known d) (h.known d l)));
         facts = h.facts;
@@ -262,12 +265,12 @@ module _ (g : Geometry) (w : Spot → ℕ) (v : View) (c : ℕ) (tag : ℕ → �
         no_queue = h.no_queue;
         tails = h.tails;
         parts = h.parts;
-        part = subst (λ (t : Spot → ℕ). (d : ℕ) → d < g.clients → PartTie (contents_of w' t) d (t (Home d)) (v.part d)) (sym path)
-            (λ d l. part_kept (contents_of w t) (contents_of w' t) (IsNamed t) d (keeps d) (λ b i. (Body b i, refl)) (t (Home d)) (v.part d) (Home d, refl) (h.part d l));
-        queued = subst (λ (t : Spot → ℕ). (d : ℕ) → d < g.clients → is_loose (v.part d) ≡ false → (s r k : ℕ) → t (Slot s r k) ≢ 0 → HasShape (contents_of w' t) 0 1 (t (Slot s r k))) (sym path)
+        part = subst (λ (t : Spot → ℕ). (d : ℕ) → d < g.clients → PartTie (contents_of g.wide w' t) d (t (Home d)) (v.part d)) (sym path)
+            (λ d l. part_kept (contents_of g.wide w t) (contents_of g.wide w' t) (IsNamed t) d (keeps d) (λ b i. (Body b i, refl)) (t (Home d)) (v.part d) (Home d, refl) (h.part d l));
+        queued = subst (λ (t : Spot → ℕ). (d : ℕ) → d < g.clients → is_loose (v.part d) ≡ false → (s r k : ℕ) → t (Slot s r k) ≢ 0 → HasShape (contents_of g.wide w' t) 0 1 (t (Slot s r k))) (sym path)
             (λ d l y s r k n. shaped (t (Slot s r k)) (Slot s r k, refl) (h.queued d l y s r k n));
-        values = subst (λ (t : Spot → ℕ). (d : ℕ) → d < g.clients → All (ValueAt (contents_of w' t) (reach_of t tail queue_head v.looks d)) (v.values d)) (sym path)
-            (λ d l. All-weaker (ValueAt (contents_of w t) (InReach w g v d)) (ValueAt (contents_of w' t) (InReach w g v d)) (λ b y. (shaped b (reach_target g w v h d b l y.1).1 y.0, y.1)) (v.values d) (h.values d l));
+        values = subst (λ (t : Spot → ℕ). (d : ℕ) → d < g.clients → All (ValueAt (contents_of g.wide w' t) (reach_of t tail queue_head v.looks d)) (v.values d)) (sym path)
+            (λ d l. All-weaker (ValueAt (contents_of g.wide w t) (InReach w g v d)) (ValueAt (contents_of g.wide w' t) (InReach w g v d)) (λ b y. (shaped b (reach_target g w v h d b l y.1).1 y.0, y.1)) (v.values d) (h.values d l));
         made = subst (λ (t : Spot → ℕ). (d : ℕ) → d < g.clients → All (MadeAt heads (λ k. t (Root d k))) (v.made d)) (sym path) h.made;
       }
     where
@@ -292,32 +295,33 @@ module _ (g : Geometry) (w : Spot → ℕ) (v : View) (c : ℕ) (tag : ℕ → �
       mine d l (Body e i) o = cc
       mine d l p o = h.mine d l p o
 
-      tagged : (b : ℕ) → (heads b).live ≡ true → TagSound g.clients (class_at g class b) (tag b)
+      tagged : (b : ℕ) → (heads b).live ≡ true → TagSound g.wide g.clients (class_at g class b) (tag b)
       tagged b l =
           let q = h.blocks.tagged b l in
           let x = refs_kept b l in
-          let y = plain_above (tag b) (w (Tag b)) (a.shape b l) in
+          let y = plain_above g.wide (tag b) (w (Tag b)) (a.shape b l) in
           record {
             small = a.size b l;
             refs = subst (λ z. z ≤ 16) (sym x) q.refs;
             plain = subst (λ z. z ≤ 8) (sym y) q.plain;
             author = subst (λ z. z < g.clients) (sym (author_kept b l)) q.author;
-            fits = ap (λ z. class_for z (tag_plain (tag b))) x ∙ (ap (class_for (tag_refs (w (Tag b)))) y ∙ q.fits);
+            fits = ap (λ z. class_for z (tag_plain g.wide (tag b))) x ∙ (ap (class_for (tag_refs g.wide (w (Tag b)))) y ∙ q.fits);
           }
 
-      keeps : (d : ℕ) → PartKept (contents_of w t) (contents_of w' t) (IsNamed t) d
+      keeps : (d : ℕ) → PartKept (contents_of g.wide w t) (contents_of g.wide w' t) (IsNamed t) d
       keeps d =
           record {
+            format = refl;
             live = λ b n l. l;
             tag = λ b n l. named_same b n l;
             refs = λ b i n l _ _. refl;
             body = λ b i n l _. a.inner b i l;
           }
 
-      shaped : (b : ℕ) → IsNamed t b → HasShape (contents_of w t) 0 1 b → HasShape (contents_of w' t) 0 1 b
+      shaped : (b : ℕ) → IsNamed t b → HasShape (contents_of g.wide w t) 0 1 b → HasShape (contents_of g.wide w' t) 0 1 b
       shaped b n y =
           record {
             live = y.live;
-            names = ap tag_refs (named_same b n y.live) ∙ y.names;
-            words = ap tag_plain (named_same b n y.live) ∙ y.words;
+            names = ap (tag_refs g.wide) (named_same b n y.live) ∙ y.names;
+            words = ap (tag_plain g.wide) (named_same b n y.live) ∙ y.words;
           }

@@ -51,10 +51,10 @@ body_kept g w v c b i x o h a =
       redo = h.redo;
       allowed = allowed_same g w v h c x o (Body b i) a.inside a.slot a.op;
       count = subst (λ (t : Spot → ℕ). CountSound g class heads t (held_overs v')) (sym path) (subst (λ (l : ℕ → ℕ). CountSound g class heads t l) (sym (held_over_same g w v h c x o (Body b i) a.inside a.slot a.op)) h.count);
-      slots = subst (λ (t : Spot → ℕ). (d : ℕ) → d < g.clients → is_op (v'.op d) ≡ true → SlotOf d heads tags (v.latch d) tail queue_head (reach_of t tail queue_head v.looks d) (slot_of (v'.op d))) (sym path) (slots_same g w v h c x o (Body b i) a.inside a.slot a.op);
-      looks = subst (λ (t : Spot → ℕ). (d : ℕ) → d < g.clients → LooksSound (λ a. t (Home a)) (λ b i. t (Body b i)) (λ b. tag_author (w (Tag b))) (v.latch d) (named_by t tail queue_head d) [] (v.looks d)) (sym path) h.looks;
+      slots = subst (λ (t : Spot → ℕ). (d : ℕ) → d < g.clients → is_op (v'.op d) ≡ true → SlotOf g.wide d heads tags (v.latch d) tail queue_head (reach_of t tail queue_head v.looks d) (slot_of (v'.op d))) (sym path) (slots_same g w v h c x o (Body b i) a.inside a.slot a.op);
+      looks = subst (λ (t : Spot → ℕ). (d : ℕ) → d < g.clients → LooksSound (λ a. t (Home a)) (λ b i. t (Body b i)) (λ b. tag_author g.wide (w (Tag b))) (v.latch d) (named_by t tail queue_head d) [] (v.looks d)) (sym path) h.looks;
       lanes = subst (λ (t : Spot → ℕ). (i j : ℕ) → i < g.clients → j < g.clients → i ≢ j → LaneSound (λ k. t (Slot i j k)) (tail i j) (queue_head i j) (v.sent i j) (v.unsent i j) (v.received j i) (v.untaken j i)) (sym path) h.lanes;
-      known = subst (λ (t : Spot → ℕ). (d : ℕ) → d < g.clients → All (λ (s : Stored). KnownAt d tags bodies' slot tail queue_head (v.untaken d) (v.latch d) (reach_of t tail queue_head v.looks d) (v.dying d) s.spot s.value) (v'.known d)) (sym path)
+      known = subst (λ (t : Spot → ℕ). (d : ℕ) → d < g.clients → All (λ (s : Stored). KnownAt g.wide d tags bodies' slot tail queue_head (v.untaken d) (v.latch d) (reach_of t tail queue_head v.looks d) (v.dying d) s.spot s.value) (v'.known d)) (sym path)
           (λ d. at1_all (λ (j : ℕ) (y : List Stored). j < g.clients → All (Known j) y) v.known c (record { spot = Body b i; value = x } ∷ filter (not_at (Body b i)) (v.known c)) d
           (λ l. All-cons (Known c) (record { spot = Body b i; value = x }) (filter (not_at (Body b i)) (v.known c)) (new_known mine) (All-kept (Old c) (Known c) (not_at (Body b i)) (λ s. known_own s.spot s.value) (v.known c) (h.known c l)))
           (λ n l. All-weaker (Old d) (Known d) (λ s. known_other d n l s.spot s.value) (v.known d) (h.known d l)));
@@ -73,10 +73,10 @@ body_kept g w v c b i x o h a =
       no_queue = h.no_queue;
       tails = tails_same g w v h c x o (Body b i) a.inside a.slot a.op;
       parts = h.parts;
-      part = subst (λ (t : Spot → ℕ). (d : ℕ) → d < g.clients → PartTie (contents_of w' t) d (t (Home d)) (v.part d)) (sym path) (λ d l. part_stored g w v h d b i x l mine.1);
-      queued = subst (λ (t : Spot → ℕ). (d : ℕ) → d < g.clients → is_loose (v.part d) ≡ false → (s r k : ℕ) → t (Slot s r k) ≢ 0 → HasShape (contents_of w' t) 0 1 (t (Slot s r k))) (sym path)
+      part = subst (λ (t : Spot → ℕ). (d : ℕ) → d < g.clients → PartTie (contents_of g.wide w' t) d (t (Home d)) (v.part d)) (sym path) (λ d l. part_stored g w v h d b i x l mine.1);
+      queued = subst (λ (t : Spot → ℕ). (d : ℕ) → d < g.clients → is_loose (v.part d) ≡ false → (s r k : ℕ) → t (Slot s r k) ≢ 0 → HasShape (contents_of g.wide w' t) 0 1 (t (Slot s r k))) (sym path)
           (λ d l. queued_kept g w v h d heads (λ j k. t (Body j k)) bodies' t l (λ _ _ z. z) (λ s r k n. inl refl));
-      values = subst (λ (t : Spot → ℕ). (d : ℕ) → d < g.clients → All (ValueAt (contents_of w' t) (reach_of t tail queue_head v.looks d)) (v.values d)) (sym path)
+      values = subst (λ (t : Spot → ℕ). (d : ℕ) → d < g.clients → All (ValueAt (contents_of g.wide w' t) (reach_of t tail queue_head v.looks d)) (v.values d)) (sym path)
           (λ d l. values_kept g w v h d heads (λ j k. t (Body j k)) bodies' (reach_of t tail queue_head v.looks d) l (λ _ _ z. z) (λ _ z. z));
       made = subst (λ (t : Spot → ℕ). (d : ℕ) → d < g.clients → All (MadeAt heads (λ k. t (Root d k))) (v.made d)) (sym path) h.made;
     }
@@ -149,15 +149,15 @@ body_kept g w v c b i x o h a =
         stored _ z k = absurd k
 
     Old : ℕ → Stored → Type 0
-    Old d s = KnownAt d tags bodies slot tail queue_head (v.untaken d) (v.latch d) (reach_of t tail queue_head v.looks d) (v.dying d) s.spot s.value
+    Old d s = KnownAt g.wide d tags bodies slot tail queue_head (v.untaken d) (v.latch d) (reach_of t tail queue_head v.looks d) (v.dying d) s.spot s.value
 
     Known : ℕ → Stored → Type 0
-    Known d s = KnownAt d tags bodies' slot tail queue_head (v.untaken d) (v.latch d) (reach_of t tail queue_head v.looks d) (v.dying d) s.spot s.value
+    Known d s = KnownAt g.wide d tags bodies' slot tail queue_head (v.untaken d) (v.latch d) (reach_of t tail queue_head v.looks d) (v.dying d) s.spot s.value
 
-    new_known : Holds w g v c (Body b i) → KnownAt c tags bodies' slot tail queue_head (v.untaken c) (v.latch c) (reach_of t tail queue_head v.looks c) (v.dying c) (Body b i) x
+    new_known : Holds w g v c (Body b i) → KnownAt g.wide c tags bodies' slot tail queue_head (v.untaken c) (v.latch c) (reach_of t tail queue_head v.looks c) (v.dying c) (Body b i) x
     new_known y = (here, elim y.2 [ inl u ↦ inl ((h.dying c a.inside).all b (y.0, u.0, u.1)) | inr u ↦ inr (u.2, inr (inl u.0)) ])
 
-    known_own : (p : Spot) (z : ℕ) → not (same_spot (Body b i) p) ≡ true → KnownAt c tags bodies slot tail queue_head (v.untaken c) (v.latch c) (reach_of t tail queue_head v.looks c) (v.dying c) p z → KnownAt c tags bodies' slot tail queue_head (v.untaken c) (v.latch c) (reach_of t tail queue_head v.looks c) (v.dying c) p z
+    known_own : (p : Spot) (z : ℕ) → not (same_spot (Body b i) p) ≡ true → KnownAt g.wide c tags bodies slot tail queue_head (v.untaken c) (v.latch c) (reach_of t tail queue_head v.looks c) (v.dying c) p z → KnownAt g.wide c tags bodies' slot tail queue_head (v.untaken c) (v.latch c) (reach_of t tail queue_head v.looks c) (v.dying c) p z
     known_own (Body d j) z q k = elim (cases_Bool (same_spot (Body b i) (Body d j))) [
       | inl y ↦ (let u : false ≡ true = rw y at q in cc)
       | inr y ↦ (rw y k.0, k.1)
@@ -167,14 +167,14 @@ body_kept g w v c b i x o h a =
     known_own _ z q k = absurd k
 
     -- no pair of another identity binds the word
-    known_other : (d : ℕ) → c ≢ d → d < g.clients → (p : Spot) (z : ℕ) → KnownAt d tags bodies slot tail queue_head (v.untaken d) (v.latch d) (reach_of t tail queue_head v.looks d) (v.dying d) p z → KnownAt d tags bodies' slot tail queue_head (v.untaken d) (v.latch d) (reach_of t tail queue_head v.looks d) (v.dying d) p z
+    known_other : (d : ℕ) → c ≢ d → d < g.clients → (p : Spot) (z : ℕ) → KnownAt g.wide d tags bodies slot tail queue_head (v.untaken d) (v.latch d) (reach_of t tail queue_head v.looks d) (v.dying d) p z → KnownAt g.wide d tags bodies' slot tail queue_head (v.untaken d) (v.latch d) (reach_of t tail queue_head v.looks d) (v.dying d) p z
     known_other d n l (Body e j) z k = elim (cases_Bool (same_spot (Body b i) (Body e j))) [
       | inr y ↦ (rw y k.0, k.1)
       | inl y ↦ absurd (let u = and_parts (eqb b e) (eqb i j) y in never (subst (λ m. Binds m i) (sym (eqb-true b e u.0)) (subst (λ m. Binds e m) (sym (eqb-true i j u.1)) k.1)))
     ]
       where
         Binds : ℕ → ℕ → Type 0
-        Binds e j = Contains (v.dying d) e ⊎ (InReach w g v d e × ((tag_refs (w (Tag e)) ≤ j) ⊎ ((tag_author (w (Tag e)) ≡ d) ⊎ (v.latch d ≡ Some (tag_author (w (Tag e)))))))
+        Binds e j = Contains (v.dying d) e ⊎ (InReach w g v d e × ((tag_refs g.wide (w (Tag e)) ≤ j) ⊎ ((tag_author g.wide (w (Tag e)) ≡ d) ⊎ (v.latch d ≡ Some (tag_author g.wide (w (Tag e)))))))
 
         never : Binds b i → ⊥
         never (inl y) = let q = (h.dying d l).listed b y in elim mine.2 [ inl u ↦ n (sym u.1 ∙ q.2) | inr u ↦ (reach_counted g w v h c b a.inside u.2).1 q.1 ]

@@ -7,7 +7,7 @@ use Rattle.shm_words.specs.Headers.{header_of}
 use Rattle.shm_graph.specs.References.{one_if, words_of}
 use Rattle.shm_words.specs.declared.geometry.Geometry.{Geometry}
 use Rattle.shm_graph.specs.declared.spot.Spot.{Spot}
-use Rattle.shm_graph.specs.declared.spot.Spot.TheVariants.{Spare, Redo, Home, Era, Root, Tail, QueueHead, Slot, Page, Head, Tag, Body}
+use Rattle.shm_graph.specs.declared.spot.Spot.TheVariants.{Spare, Redo, RedoMore, Home, Era, Root, Tail, QueueHead, Slot, Page, Head, Tag, Body}
 use Rattle.shm_graph.specs.declared.memo.First.TheVariants.{Begun, Committed}
 use Rattle.shm_graph.specs.declared.memo.Op.{Op}
 use Rattle.shm_graph.specs.declared.memo.Op.TheVariants.{Change}
@@ -71,7 +71,7 @@ module _ (g : Geometry) (w : Spot → ℕ) (v : View) (c x b e to : ℕ) (p : Sp
   new_live = ap (λ (x : Header). x.live) a.new
 
   abbrev At : ℕ → Spot → Type 0
-  At d = SlotOf d (λ i. header_of (word i)) tags (v.latch d) tail queue_head (reach_of t tail queue_head v.looks d)
+  At d = SlotOf g.wide d (λ i. header_of (word i)) tags (v.latch d) tail queue_head (reach_of t tail queue_head v.looks d)
 
   mine_at : At c p
   mine_at = let q : At c (slot_of (Change (Raising Begun) p x b e)) = subst (λ x. At c (slot_of x)) a.op (h.slots c a.inside (ap is_op a.op)) in q
@@ -79,12 +79,12 @@ module _ (g : Geometry) (w : Spot → ℕ) (v : View) (c x b e to : ℕ) (p : Sp
   allowed_now : Allowed c o
   allowed_now = let q : Allowed c (Change (Raising Begun) p x b e) = subst (Allowed c) a.op (h.allowed c a.inside) in q
 
-  op_sound : OpSound g class (w (Redo c)) (w (Era c c)) (word_at (words_of w) p) p (redos.Change (odd e) (spot_address g p) x b) e x
-  op_sound = let q : OpTie g class (w (Redo c)) (w (Era c c)) (words_of w) (Change (Raising Begun) p x b e) = subst (OpTie g class (w (Redo c)) (w (Era c c)) (words_of w)) a.op (h.op c a.inside) in q
+  op_sound : OpSound g class (w (Redo c)) (w (RedoMore c)) (w (Era c c)) (word_at (words_of g.wide w) p) p (redos.Change (odd e) (spot_address g p) x b) e x
+  op_sound = let q : OpTie g class (w (Redo c)) (w (RedoMore c)) (w (Era c c)) (words_of g.wide w) (Change (Raising Begun) p x b e) = subst (OpTie g class (w (Redo c)) (w (RedoMore c)) (w (Era c c)) (words_of g.wide w)) a.op (h.op c a.inside) in q
 
   -- the redo word names both blocks
   blocks : IsBlock g class x × IsBlock g class b
-  blocks = h.redo c a.inside (redos.Change (odd e) (spot_address g p) x b) op_sound.spelled
+  blocks = op_sound.blocks
 
   some : b ≢ 0
   some = block_not_zero g class b blocks.1
@@ -94,7 +94,7 @@ module _ (g : Geometry) (w : Spot → ℕ) (v : View) (c x b e to : ℕ) (p : Sp
 
   -- the slot names the block
   holds : t p ≡ x
-  holds = slot_names g w v h c p a.inside mine_at ∙ (ap (λ z. cover (cover_of z) p (word_at (words_of w) p)) a.op ∙ op_sound.word)
+  holds = slot_names g w v h c p a.inside mine_at ∙ (ap (λ z. cover (cover_of z) p (word_at (words_of g.wide w) p)) a.op ∙ op_sound.word)
 
   live : (header_of (word b)).live ≡ true
   live = subst (λ i. (header_of (word i)).live ≡ true) a.named.1 (h.count.targets a.named.0 (λ z. some (sym a.named.1 ∙ z)))

@@ -10,7 +10,7 @@ use Rattle.shm_words.specs.declared.redo.Redo.TheVariants as redos
 use Rattle.shm_words.specs.Headers.{header_of}
 use Rattle.shm_words.specs.Tags.{tag_author}
 use Rattle.shm_graph.specs.declared.spot.Spot.{Spot}
-use Rattle.shm_graph.specs.declared.spot.Spot.TheVariants.{Spare, Status, Redo, Hold, Latch, Home, Era, Root, Tail, QueueHead, Slot, Segment, Page, Unused, Head, Tag, Body}
+use Rattle.shm_graph.specs.declared.spot.Spot.TheVariants.{Spare, Status, Redo, RedoMore, Hold, Latch, Home, Era, Root, Tail, QueueHead, Slot, Segment, Page, Unused, Head, Tag, Body}
 use Rattle.shm_graph.specs.declared.memo.Op.{Op}
 use Rattle.shm_graph.specs.declared.memo.Op.TheVariants.{Nothing, Alloc, Up, Down, Change}
 use Rattle.shm_graph.specs.declared.memo.First.TheVariants.{Begun, Committed, Written}
@@ -29,6 +29,7 @@ use Rattle.shm_graph.specs.Held.{HeldAt, CountSound, LaneSound, EraSound, Commit
 use Rattle.shm_graph.proofs.Spots.Spotting.{same_spot_is, same_spot_self}
 use Rattle.shm_graph.proofs.Runs.Lists.{at1_here, at1_other}
 use Rattle.shm_graph.proofs.States.Holders.{one_holder}
+use Rattle.shm_words.proofs.Words.{kind_told, change_told}
 use Rattle.shm_graph.proofs.Memos.Frames.{at1_all}
 use Rattle.shm_graph.proofs.States.Counting.{cover_slot, covered_alone, covered_none}
 use Rattle.shm_laws.proofs.Owns.{mine_stored, small_stored, there_stored}
@@ -107,47 +108,47 @@ fact_closed n era tail queue_head class ops c o (Counter p x) h = counter p h
     counter _ k = tt
 
 -- what closing leaves
-pub record AfterClose (g : Geometry) (class : ℕ → ℕ → ℕ) (redo own : ℕ) (x : Words) (o o' : Op) : Type 0 where
+pub record AfterClose (g : Geometry) (class : ℕ → ℕ → ℕ) (redo more own : ℕ) (x : Words) (o o' : Op) : Type 0 where
   pub on : on_of o' ≡ None
   pub held_over : held_over_of o' ≡ held_over_of o
   pub quiet : cover_of o' ≡ Quiet
   pub covers : (y : ℕ) → y ≡ word_at x (slot_of o) → cover (cover_of o) (slot_of o) y ≡ y
   pub room : room_of o' + 1 ≤ room_of o
-  pub tie : OpTie g class redo (own + 1) x o'
+  pub tie : OpTie g class redo more (own + 1) x o'
   pub slot : is_op o' ≡ true → slot_of o' ≡ slot_of o
   pub was : is_op o ≡ true
 
-closed : (g : Geometry) (class : ℕ → ℕ → ℕ) (redo own : ℕ) (x : Words) (o o' : Op) → Closes o o' → OpTie g class redo own x o → AfterClose g class redo own x o o'
-closed g class redo own x (Alloc Written p b e) o' k h = subst (AfterClose g class redo own x (Alloc Written p b e)) (sym k) (record { on = refl; held_over = refl; quiet = refl; covers = covers; room = omega arith; tie = λ a i j l s. (let z : Some (redos.Up (spot_address g p) b) ≡ Some (redos.Change a i j l) = sym h.spelled ∙ s in cc); slot = λ i. cc; was = refl })
+closed : (g : Geometry) (class : ℕ → ℕ → ℕ) (redo more own : ℕ) (x : Words) (o o' : Op) → Closes o o' → OpTie g class redo more own x o → AfterClose g class redo more own x o o'
+closed g class redo more own x (Alloc Written p b e) o' k h = subst (AfterClose g class redo more own x (Alloc Written p b e)) (sym k) (record { on = refl; held_over = refl; quiet = refl; covers = covers; room = omega arith; tie = λ k. (let z = kind_told g.wide redo more _ h.spelled k in cc); slot = λ i. cc; was = refl })
   where
     covers : (y : ℕ) → y ≡ word_at x p → cond (same_spot p p) b y ≡ y
     covers y q = cond-true (same_spot p p) b y (same_spot_self p) ∙ (sym h.word ∙ sym q)
-closed g class redo own x (Up Written p b e) o' k h = subst (AfterClose g class redo own x (Up Written p b e)) (sym k) (record { on = refl; held_over = refl; quiet = refl; covers = covers; room = omega arith; tie = λ a i j l s. (let z : Some (redos.Up (spot_address g p) b) ≡ Some (redos.Change a i j l) = sym h.spelled ∙ s in cc); slot = λ i. cc; was = refl })
+closed g class redo more own x (Up Written p b e) o' k h = subst (AfterClose g class redo more own x (Up Written p b e)) (sym k) (record { on = refl; held_over = refl; quiet = refl; covers = covers; room = omega arith; tie = λ k. (let z = kind_told g.wide redo more _ h.spelled k in cc); slot = λ i. cc; was = refl })
   where
     covers : (y : ℕ) → y ≡ word_at x p → cond (same_spot p p) b y ≡ y
     covers y q = cond-true (same_spot p p) b y (same_spot_self p) ∙ (sym h.word ∙ sym q)
-closed g class redo own x (Down Written p b e) o' k h = subst (AfterClose g class redo own x (Down Written p b e)) (sym k) (record { on = refl; held_over = refl; quiet = refl; covers = covers; room = omega arith; tie = λ a i j l s. (let z : Some (redos.Down (spot_address g p) b) ≡ Some (redos.Change a i j l) = sym h.spelled ∙ s in cc); slot = λ i. cc; was = refl })
+closed g class redo more own x (Down Written p b e) o' k h = subst (AfterClose g class redo more own x (Down Written p b e)) (sym k) (record { on = refl; held_over = refl; quiet = refl; covers = covers; room = omega arith; tie = λ k. (let z = kind_told g.wide redo more _ h.spelled k in cc); slot = λ i. cc; was = refl })
   where
     covers : (y : ℕ) → y ≡ word_at x p → cond (same_spot p p) 0 y ≡ y
     covers y q = cond-true (same_spot p p) 0 y (same_spot_self p) ∙ (sym h.word ∙ sym q)
-closed g class redo own x (Change (Raising Written) p a b e) o' k h = subst (AfterClose g class redo own x (Change (Raising Written) p a b e)) (sym k) (record { on = refl; held_over = refl; quiet = refl; covers = covers; room = omega arith; tie = record { spelled = h.spelled ∙ ap (λ z. Some (redos.Change z (spot_address g p) a b)) twice; current = ap (λ z. z + 1) h.current; at = h.at; word = h.word }; slot = λ i. refl; was = refl })
+closed g class redo more own x (Change (Raising Written) p a b e) o' k h = subst (AfterClose g class redo more own x (Change (Raising Written) p a b e)) (sym k) (record { on = refl; held_over = refl; quiet = refl; covers = covers; room = omega arith; tie = record { spelled = h.spelled ∙ ap (λ z. Some (redos.Change z (spot_address g p) a b)) twice; blocks = h.blocks; current = ap (λ z. z + 1) h.current; at = h.at; word = h.word }; slot = λ i. refl; was = refl })
   where
     covers : (y : ℕ) → y ≡ word_at x p → cond (same_spot p p) b y ≡ y
     covers y q = cond-true (same_spot p p) b y (same_spot_self p) ∙ (sym h.word ∙ sym q)
 
     twice : odd e ≡ odd (e + 1 + 1)
     twice = ap (λ z. eqb z 1) (let q : e % 2 ≡ (e + 1 + 1) % 2 = omega arith in q)
-closed g class redo own x (Change (Lowering Closed) p a b e) o' k h = subst (AfterClose g class redo own x (Change (Lowering Closed) p a b e)) (sym k) (record { on = refl; held_over = refl; quiet = refl; covers = λ y q. refl; room = omega arith; tie = λ r i j l s. (let z : Some (redos.Change (odd (e + 1)) (spot_address g p) a b) ≡ Some (redos.Change r i j l) = sym h.spelled ∙ s in let y : odd (e + 1) ≡ r = cc in sym y ∙ ap (λ z. odd (z + 1)) h.current); slot = λ i. cc; was = refl })
-closed g class redo own x (Change (Raising Begun) p a b e) o' k h = absurd k
-closed g class redo own x (Change (Raising Committed) p a b e) o' k h = absurd k
-closed g class redo own x (Change (Lowering Open) p a b e) o' k h = absurd k
-closed g class redo own x (Alloc Begun p b e) o' k h = absurd k
-closed g class redo own x (Alloc Committed p b e) o' k h = absurd k
-closed g class redo own x (Up Begun p b e) o' k h = absurd k
-closed g class redo own x (Up Committed p b e) o' k h = absurd k
-closed g class redo own x (Down Begun p b e) o' k h = absurd k
-closed g class redo own x (Down Committed p b e) o' k h = absurd k
-closed g class redo own x Nothing o' k h = absurd k
+closed g class redo more own x (Change (Lowering Closed) p a b e) o' k h = subst (AfterClose g class redo more own x (Change (Lowering Closed) p a b e)) (sym k) (record { on = refl; held_over = refl; quiet = refl; covers = λ y q. refl; room = omega arith; tie = λ k. (change_told g.wide redo more _ _ _ _ h.spelled).1 ∙ ap (λ z. odd (z + 1)) h.current; slot = λ i. cc; was = refl })
+closed g class redo more own x (Change (Raising Begun) p a b e) o' k h = absurd k
+closed g class redo more own x (Change (Raising Committed) p a b e) o' k h = absurd k
+closed g class redo more own x (Change (Lowering Open) p a b e) o' k h = absurd k
+closed g class redo more own x (Alloc Begun p b e) o' k h = absurd k
+closed g class redo more own x (Alloc Committed p b e) o' k h = absurd k
+closed g class redo more own x (Up Begun p b e) o' k h = absurd k
+closed g class redo more own x (Up Committed p b e) o' k h = absurd k
+closed g class redo more own x (Down Begun p b e) o' k h = absurd k
+closed g class redo more own x (Down Committed p b e) o' k h = absurd k
+closed g class redo more own x Nothing o' k h = absurd k
 
 allowed : (c : ℕ) (o o' : Op) → Closes o o' → Allowed c o → Allowed c o'
 allowed c (Alloc Written p b e) o' k a = subst (Allowed c) (sym k) tt
@@ -162,14 +163,14 @@ module _ (g : Geometry) (w : Spot → ℕ) (v : View) (c : ℕ) (o : Op) (h : He
   abbrev v' : View
   v' = close_view v c (w (Era c c) + 1) o
 
-  after : AfterClose g (λ i j. w (Page i j)) (w (Redo c)) (w (Era c c)) (words_of w) (v.op c) o
-  after = closed g (λ i j. w (Page i j)) (w (Redo c)) (w (Era c c)) (words_of w) (v.op c) o a.op (h.op c a.inside)
+  after : AfterClose g (λ i j. w (Page i j)) (w (Redo c)) (w (RedoMore c)) (w (Era c c)) (words_of g.wide w) (v.op c) o
+  after = closed g (λ i j. w (Page i j)) (w (Redo c)) (w (RedoMore c)) (w (Era c c)) (words_of g.wide w) (v.op c) o a.op (h.op c a.inside)
 
   pub close_held_overs : held_overs v' ≡ held_overs v
   close_held_overs = fun_ext (λ d. at1_all (λ (i : ℕ) (x : Op). held_over_of x ≡ held_over_of (v.op i)) v.op c o d after.held_over (λ _. refl))
 
   covers_slot : (d : ℕ) → d < g.clients → d ≢ c → (y : ℕ) → cover (cover_of (v.op d)) (slot_of (v.op c)) y ≡ y
-  covers_slot d l n y = apart d (λ i. header_of (w (Head i))) (λ i. w (Tag i)) (v.latch d) (λ i j. w (Tail i j)) (λ i j. w (QueueHead i j)) (reach_of (targets g w v) (λ i j. w (Tail i j)) (λ i j. w (QueueHead i j)) v.looks d)
+  covers_slot d l n y = apart g.wide d (λ i. header_of (w (Head i))) (λ i. w (Tag i)) (v.latch d) (λ i j. w (Tail i j)) (λ i j. w (QueueHead i j)) (reach_of (targets g w v) (λ i j. w (Tail i j)) (λ i j. w (QueueHead i j)) v.looks d)
       (v.op d) (slot_of (v.op c)) (h.slots d l) (λ x. n (sym (one_holder g w v h c d (slot_of (v.op c)) a.inside l (h.slots c a.inside after.was) x))) y
 
   abbrev cov : ℕ → Cover
@@ -179,29 +180,30 @@ module _ (g : Geometry) (w : Spot → ℕ) (v : View) (c : ℕ) (o : Op) (h : He
   cov' = λ d. cover_of (v'.op d)
 
   -- what is covered stays, now by the word itself
-  same_at : (q : Spot) → covered cov' g.clients q (word_at (words_of w) q) ≡ covered cov g.clients q (word_at (words_of w) q)
+  same_at : (q : Spot) → covered cov' g.clients q (word_at (words_of g.wide w) q) ≡ covered cov g.clients q (word_at (words_of g.wide w) q)
   same_at q = both (same_spot (slot_of (v.op c)) q) refl
     where
-      at_slot : covered cov' g.clients (slot_of (v.op c)) (word_at (words_of w) (slot_of (v.op c))) ≡ covered cov g.clients (slot_of (v.op c)) (word_at (words_of w) (slot_of (v.op c)))
+      at_slot : covered cov' g.clients (slot_of (v.op c)) (word_at (words_of g.wide w) (slot_of (v.op c))) ≡ covered cov g.clients (slot_of (v.op c)) (word_at (words_of g.wide w) (slot_of (v.op c)))
       at_slot =
-          covered_none g.clients (slot_of (v.op c)) (word_at (words_of w) (slot_of (v.op c))) cov' (λ d l y. elim (cases_eq c d) [
+          covered_none g.clients (slot_of (v.op c)) (word_at (words_of g.wide w) (slot_of (v.op c))) cov' (λ d l y. elim (cases_eq c d) [
             | inl x ↦ subst (λ j. cover (cov' j) (slot_of (v.op c)) y ≡ y) x (ap (λ k. cover (cover_of k) (slot_of (v.op c)) y) (at1_here v.op c o) ∙ ap (λ k. cover k (slot_of (v.op c)) y) after.quiet)
             | inr n ↦ ap (λ k. cover (cover_of k) (slot_of (v.op c)) y) (at1_other v.op c o d n) ∙ covers_slot d l (λ z. n (sym z)) y
           ])
-          ∙ sym (covered_alone g.clients c (slot_of (v.op c)) (word_at (words_of w) (slot_of (v.op c))) cov a.inside covers_slot ∙ after.covers (word_at (words_of w) (slot_of (v.op c))) refl)
+          ∙ sym (covered_alone g.clients c (slot_of (v.op c)) (word_at (words_of g.wide w) (slot_of (v.op c))) cov a.inside covers_slot ∙ after.covers (word_at (words_of g.wide w) (slot_of (v.op c))) refl)
 
-      both : (b : Bool) → same_spot (slot_of (v.op c)) q ≡ b → covered cov' g.clients q (word_at (words_of w) q) ≡ covered cov g.clients q (word_at (words_of w) q)
-      both true e = subst (λ k. covered cov' g.clients k (word_at (words_of w) k) ≡ covered cov g.clients k (word_at (words_of w) k)) (same_spot_is (slot_of (v.op c)) q e) at_slot
-      both false e = covered_same g.clients q (word_at (words_of w) q) cov cov' (λ d l y. at1_all (λ (j : ℕ) (k : Op). cover (cover_of k) q y ≡ cover (cover_of (v.op j)) q y) v.op c o d (ap (λ k. cover k q y) after.quiet ∙ sym (cover_slot (v.op c) q e y)) (λ _. refl))
+      both : (b : Bool) → same_spot (slot_of (v.op c)) q ≡ b → covered cov' g.clients q (word_at (words_of g.wide w) q) ≡ covered cov g.clients q (word_at (words_of g.wide w) q)
+      both true e = subst (λ k. covered cov' g.clients k (word_at (words_of g.wide w) k) ≡ covered cov g.clients k (word_at (words_of g.wide w) k)) (same_spot_is (slot_of (v.op c)) q e) at_slot
+      both false e = covered_same g.clients q (word_at (words_of g.wide w) q) cov cov' (λ d l y. at1_all (λ (j : ℕ) (k : Op). cover (cover_of k) q y ≡ cover (cover_of (v.op j)) q y) v.op c o d (ap (λ k. cover k q y) after.quiet ∙ sym (cover_slot (v.op c) q e y)) (λ _. refl))
 
   same : (q : Spot) → targets g (upd w (Era c c) (w (Era c c) + 1)) v' q ≡ targets g w v q
-  same (Body d j) = ap (λ z. cond (ltb j ((words_of w).refs d)) z 0) (same_at (Body d j))
+  same (Body d j) = ap (λ z. cond (ltb j ((words_of g.wide w).refs d)) z 0) (same_at (Body d j))
   same (Home d) = same_at (Home d)
   same (Root d l) = same_at (Root d l)
   same (Slot s r l) = same_at (Slot s r l)
   same Spare = refl
   same (Status d) = refl
   same (Redo d) = refl
+  same (RedoMore d) = refl
   same (Hold d) = refl
   same (Latch d) = refl
   same (Era d l) = refl
@@ -238,18 +240,18 @@ close_kept g w v c o h a =
         | inr n ↦ rw (raised_other eras c (w (Era c c) + 1) d d n, at1_other v.op c o d n) (h.own d l)
       ];
       op = λ d l. elim (cases_eq c d) [
-        | inl x ↦ subst (λ j. OpTie g class (w (Redo j)) (eras' j j) (words_of w) (v'.op j)) x (subst (λ z. OpTie g class (w (Redo c)) z (words_of w) (v'.op c)) (sym (raised_here eras c (w (Era c c) + 1))) (subst (OpTie g class (w (Redo c)) (w (Era c c) + 1) (words_of w)) (sym (at1_here v.op c o)) cl.tie))
-        | inr n ↦ subst (λ z. OpTie g class (w (Redo d)) z (words_of w) (v'.op d)) (sym (raised_other eras c (w (Era c c) + 1) d d n)) (subst (OpTie g class (w (Redo d)) (w (Era d d)) (words_of w)) (sym (at1_other v.op c o d n)) (h.op d l))
+        | inl x ↦ subst (λ j. OpTie g class (w (Redo j)) (w (RedoMore j)) (eras' j j) (words_of g.wide w) (v'.op j)) x (subst (λ z. OpTie g class (w (Redo c)) (w (RedoMore c)) z (words_of g.wide w) (v'.op c)) (sym (raised_here eras c (w (Era c c) + 1))) (subst (OpTie g class (w (Redo c)) (w (RedoMore c)) (w (Era c c) + 1) (words_of g.wide w)) (sym (at1_here v.op c o)) cl.tie))
+        | inr n ↦ subst (λ z. OpTie g class (w (Redo d)) (w (RedoMore d)) z (words_of g.wide w) (v'.op d)) (sym (raised_other eras c (w (Era c c) + 1) d d n)) (subst (OpTie g class (w (Redo d)) (w (RedoMore d)) (w (Era d d)) (words_of g.wide w)) (sym (at1_other v.op c o d n)) (h.op d l))
       ];
       redo = h.redo;
       allowed = λ d. at1_all (λ (j : ℕ) (k : Op). j < g.clients → Allowed j k) v.op c o d (λ l. allowed c (v.op c) o a.op (h.allowed c l)) (λ n. h.allowed d);
       count = subst (λ (t : Spot → ℕ). CountSound g class heads t (held_overs v')) (sym path) (subst (λ (l : ℕ → ℕ). CountSound g class heads t l) (sym held_over) h.count);
-      slots = subst (λ (t : Spot → ℕ). (d : ℕ) → d < g.clients → is_op (v'.op d) ≡ true → SlotOf d heads tags (v.latch d) tail queue_head (reach_of t tail queue_head v.looks d) (slot_of (v'.op d))) (sym path)
-          (λ d. at1_all (λ (j : ℕ) (k : Op). j < g.clients → is_op k ≡ true → SlotOf j heads tags (v.latch j) tail queue_head (reach_of t tail queue_head v.looks j) (slot_of k)) v.op c o d
+      slots = subst (λ (t : Spot → ℕ). (d : ℕ) → d < g.clients → is_op (v'.op d) ≡ true → SlotOf g.wide d heads tags (v.latch d) tail queue_head (reach_of t tail queue_head v.looks d) (slot_of (v'.op d))) (sym path)
+          (λ d. at1_all (λ (j : ℕ) (k : Op). j < g.clients → is_op k ≡ true → SlotOf g.wide j heads tags (v.latch j) tail queue_head (reach_of t tail queue_head v.looks j) (slot_of k)) v.op c o d
           (λ l is. subst (At c) (sym (cl.slot is)) (h.slots c l cl.was)) (λ n. h.slots d));
-      looks = subst (λ (t : Spot → ℕ). (d : ℕ) → d < g.clients → LooksSound (λ a. t (Home a)) (λ b i. t (Body b i)) (λ b. tag_author (w (Tag b))) (v.latch d) (named_by t tail queue_head d) [] (v.looks d)) (sym path) h.looks;
+      looks = subst (λ (t : Spot → ℕ). (d : ℕ) → d < g.clients → LooksSound (λ a. t (Home a)) (λ b i. t (Body b i)) (λ b. tag_author g.wide (w (Tag b))) (v.latch d) (named_by t tail queue_head d) [] (v.looks d)) (sym path) h.looks;
       lanes = subst (λ (t : Spot → ℕ). (i j : ℕ) → i < g.clients → j < g.clients → i ≢ j → LaneSound (λ k. t (Slot i j k)) (tail i j) (queue_head i j) (v.sent i j) (v.unsent i j) (v.received j i) (v.untaken j i)) (sym path) h.lanes;
-      known = subst (λ (t : Spot → ℕ). (d : ℕ) → d < g.clients → All (λ (s : Stored). KnownAt d tags bodies slot tail queue_head (v.untaken d) (v.latch d) (reach_of t tail queue_head v.looks d) (v.dying d) s.spot s.value) (v.known d)) (sym path) h.known;
+      known = subst (λ (t : Spot → ℕ). (d : ℕ) → d < g.clients → All (λ (s : Stored). KnownAt g.wide d tags bodies slot tail queue_head (v.untaken d) (v.latch d) (reach_of t tail queue_head v.looks d) (v.dying d) s.spot s.value) (v.known d)) (sym path) h.known;
       facts = λ d l. All-weaker _ _ (fact_closed g.clients eras tail queue_head class v.op c o) (v.facts d) (h.facts d l);
       zeros = h.zeros;
       test = λ d l. elim (cases_eq c d) [
@@ -271,9 +273,9 @@ close_kept g w v c o h a =
         | inr n ↦ subst (λ z. TailSound d r z (w (Tail d r)) (v.unsent d r) (v'.op d)) (sym (raised_other eras c (w (Era c c) + 1) d d n)) (subst (TailSound d r (w (Era d d)) (w (Tail d r)) (v.unsent d r)) (sym (at1_other v.op c o d n)) (h.tails d r l lr))
       ];
       parts = h.parts;
-      part = subst (λ (t : Spot → ℕ). (d : ℕ) → d < g.clients → PartTie (contents_of w t) d (t (Home d)) (v.part d)) (sym path) h.part;
-      queued = subst (λ (t : Spot → ℕ). (d : ℕ) → d < g.clients → is_loose (v.part d) ≡ false → (s r k : ℕ) → t (Slot s r k) ≢ 0 → HasShape (contents_of w t) 0 1 (t (Slot s r k))) (sym path) h.queued;
-      values = subst (λ (t : Spot → ℕ). (d : ℕ) → d < g.clients → All (ValueAt (contents_of w t) (reach_of t tail queue_head v.looks d)) (v.values d)) (sym path) h.values;
+      part = subst (λ (t : Spot → ℕ). (d : ℕ) → d < g.clients → PartTie (contents_of g.wide w t) d (t (Home d)) (v.part d)) (sym path) h.part;
+      queued = subst (λ (t : Spot → ℕ). (d : ℕ) → d < g.clients → is_loose (v.part d) ≡ false → (s r k : ℕ) → t (Slot s r k) ≢ 0 → HasShape (contents_of g.wide w t) 0 1 (t (Slot s r k))) (sym path) h.queued;
+      values = subst (λ (t : Spot → ℕ). (d : ℕ) → d < g.clients → All (ValueAt (contents_of g.wide w t) (reach_of t tail queue_head v.looks d)) (v.values d)) (sym path) h.values;
       made = subst (λ (t : Spot → ℕ). (d : ℕ) → d < g.clients → All (MadeAt heads (λ k. t (Root d k))) (v.made d)) (sym path) h.made;
     }
   where
@@ -313,11 +315,11 @@ close_kept g w v c o h a =
     eras' : ℕ → ℕ → ℕ
     eras' = raised eras c (w (Era c c) + 1)
 
-    cl : AfterClose g class (w (Redo c)) (w (Era c c)) (words_of w) (v.op c) o
+    cl : AfterClose g class (w (Redo c)) (w (RedoMore c)) (w (Era c c)) (words_of g.wide w) (v.op c) o
     cl = after g w v c o h a
 
     At : ℕ → Spot → Type 0
-    At d = SlotOf d heads tags (v.latch d) tail queue_head (reach_of t tail queue_head v.looks d)
+    At d = SlotOf g.wide d heads tags (v.latch d) tail queue_head (reach_of t tail queue_head v.looks d)
 
     held_over : held_overs v' ≡ held_overs v
     held_over = close_held_overs g w v c o h a

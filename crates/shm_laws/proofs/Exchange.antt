@@ -132,15 +132,15 @@ named_kept t t' tail queue_head c b roots home slots (n, inl u) = (n, inl (u.0, 
 named_kept t t' tail queue_head c b roots home slots (n, inr (inl u)) = (n, inr (inl (home n u)))
 named_kept t t' tail queue_head c b roots home slots (n, inr (inr u)) = (n, inr (inr (u.0, u.1, slots n u.0 u.1 u.2)))
 
-pub slot_kept : (d : ℕ) (head head' : ℕ → Header) (tag : ℕ → ℕ) (latch : Option ℕ) (tail queue_head : ℕ → ℕ → ℕ) (reach reach' : ℕ → Type 0) (p : Spot)
+pub slot_kept : (wide : Bool) (d : ℕ) (head head' : ℕ → Header) (tag : ℕ → ℕ) (latch : Option ℕ) (tail queue_head : ℕ → ℕ → ℕ) (reach reach' : ℕ → Type 0) (p : Spot)
     → ((b : ℕ) → (head b).live ≡ true → (head' b).live ≡ true ⊎ (IsDying (head b) d → ⊥) × (reach b → ⊥))
     → ((b : ℕ) → IsDying (head b) d → IsDying (head' b) d)
     → ((b : ℕ) → reach b → reach' b)
-    → SlotOf d head tag latch tail queue_head reach p → SlotOf d head' tag latch tail queue_head reach' p
-slot_kept d head head' tag latch tail queue_head reach reach' (Root i k) live dying named x = x
-slot_kept d head head' tag latch tail queue_head reach reach' (Home i) live dying named x = x
-slot_kept d head head' tag latch tail queue_head reach reach' (Slot s r k) live dying named x = x
-slot_kept d head head' tag latch tail queue_head reach reach' (Body b i) live dying named x = (
+    → SlotOf wide d head tag latch tail queue_head reach p → SlotOf wide d head' tag latch tail queue_head reach' p
+slot_kept wide d head head' tag latch tail queue_head reach reach' (Root i k) live dying named x = x
+slot_kept wide d head head' tag latch tail queue_head reach reach' (Home i) live dying named x = x
+slot_kept wide d head head' tag latch tail queue_head reach reach' (Slot s r k) live dying named x = x
+slot_kept wide d head head' tag latch tail queue_head reach reach' (Body b i) live dying named x = (
   elim (live b x.0) [ inl y ↦ y | inr y ↦ absurd (elim x.2 [ inl u ↦ y.0 (x.0, u.0, u.1) | inr u ↦ y.1 u.2 ]) ],
   x.1,
   elim x.2 [
@@ -148,7 +148,7 @@ slot_kept d head head' tag latch tail queue_head reach reach' (Body b i) live dy
     | inr u ↦ inr (u.0, u.1, named b u.2)
   ],
 )
-slot_kept d head head' tag latch tail queue_head reach reach' _ live dying named x = absurd x
+slot_kept wide d head head' tag latch tail queue_head reach reach' _ live dying named x = absurd x
 
 pub looks_kept : (home home' : ℕ → ℕ) (body body' : ℕ → ℕ → ℕ) (author : ℕ → ℕ) (latch : Option ℕ) (named named' : ℕ → Type 0)
     → ((a x : ℕ) → x ≢ 0 → home a ≡ x → home' a ≡ x) → ((b i x : ℕ) → x ≢ 0 → body b i ≡ x → body' b i ≡ x) → ((b : ℕ) → named b → named' b)
@@ -161,21 +161,21 @@ looks_kept home home' body body' author latch named named' hh hb hn earlier (k �
     at (Body b i) y = (y.0, y.1, hb b i k.block y.0 y.2, elim y.3 [ inl u ↦ inl (hn b u) | inr u ↦ inr u ])
     at _ y = absurd y
 
-pub known_kept : (c : ℕ) (tag : ℕ → ℕ) (body : ℕ → ℕ → ℕ) (slot : ℕ → ℕ → ℕ → ℕ) (tail queue_head : ℕ → ℕ → ℕ) (untaken : ℕ → ℕ) (latch : Option ℕ) (reach reach' : ℕ → Type 0) (dying dying' : List ℕ)
+pub known_kept : (wide : Bool) (c : ℕ) (tag : ℕ → ℕ) (body : ℕ → ℕ → ℕ) (slot : ℕ → ℕ → ℕ → ℕ) (tail queue_head : ℕ → ℕ → ℕ) (untaken : ℕ → ℕ) (latch : Option ℕ) (reach reach' : ℕ → Type 0) (dying dying' : List ℕ)
     → (p : Spot) (x : ℕ)
     → ((b : ℕ) → reach b → reach' b) → ((b : ℕ) → Contains dying b → Contains dying' b)
-    → KnownAt c tag body slot tail queue_head untaken latch reach dying p x → KnownAt c tag body slot tail queue_head untaken latch reach' dying' p x
-known_kept c tag body slot tail queue_head untaken latch reach reach' dying dying' (Tag b) x hr hd k = (k.0, elim k.1 [ inl u ↦ inl (hd b u) | inr u ↦ inr (hr b u) ])
-known_kept c tag body slot tail queue_head untaken latch reach reach' dying dying' (Body b i) x hr hd k = (k.0, elim k.1 [ inl u ↦ inl (hd b u) | inr u ↦ inr (hr b u.0, u.1) ])
-known_kept c tag body slot tail queue_head untaken latch reach reach' dying dying' (Slot s r i) x hr hd k = k
-known_kept c tag body slot tail queue_head untaken latch reach reach' dying dying' _ x hr hd k = absurd k
+    → KnownAt wide c tag body slot tail queue_head untaken latch reach dying p x → KnownAt wide c tag body slot tail queue_head untaken latch reach' dying' p x
+known_kept wide c tag body slot tail queue_head untaken latch reach reach' dying dying' (Tag b) x hr hd k = (k.0, elim k.1 [ inl u ↦ inl (hd b u) | inr u ↦ inr (hr b u) ])
+known_kept wide c tag body slot tail queue_head untaken latch reach reach' dying dying' (Body b i) x hr hd k = (k.0, elim k.1 [ inl u ↦ inl (hd b u) | inr u ↦ inr (hr b u.0, u.1) ])
+known_kept wide c tag body slot tail queue_head untaken latch reach reach' dying dying' (Slot s r i) x hr hd k = k
+known_kept wide c tag body slot tail queue_head untaken latch reach reach' dying dying' _ x hr hd k = absurd k
 
 -- an op whose slot is another word covers nothing of this one
-pub apart : (d : ℕ) (head : ℕ → Header) (tag : ℕ → ℕ) (latch : Option ℕ) (tail queue_head : ℕ → ℕ → ℕ) (reach : ℕ → Type 0) (o : Op) (p : Spot) → (is_op o ≡ true → SlotOf d head tag latch tail queue_head reach (slot_of o)) → (SlotOf d head tag latch tail queue_head reach p → ⊥) → (y : ℕ) → cover (cover_of o) p y ≡ y
-apart d head tag latch tail queue_head reach o p has never y =
+pub apart : (wide : Bool) (d : ℕ) (head : ℕ → Header) (tag : ℕ → ℕ) (latch : Option ℕ) (tail queue_head : ℕ → ℕ → ℕ) (reach : ℕ → Type 0) (o : Op) (p : Spot) → (is_op o ≡ true → SlotOf wide d head tag latch tail queue_head reach (slot_of o)) → (SlotOf wide d head tag latch tail queue_head reach p → ⊥) → (y : ℕ) → cover (cover_of o) p y ≡ y
+apart wide d head tag latch tail queue_head reach o p has never y =
     elim (cases_Bool (is_op o)) [
       | inr i ↦ cover_idle o p i y
-      | inl i ↦ cover_slot o p (false_from_ne_true _ (λ e. never (subst (SlotOf d head tag latch tail queue_head reach) (same_spot_is (slot_of o) p e) (has i)))) y
+      | inl i ↦ cover_slot o p (false_from_ne_true _ (λ e. never (subst (SlotOf wide d head tag latch tail queue_head reach) (same_spot_is (slot_of o) p e) (has i)))) y
     ]
 
 -- a block in reach is a target

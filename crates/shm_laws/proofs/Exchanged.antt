@@ -9,7 +9,7 @@ use Rattle.shm_words.specs.declared.header.Header.{Header}
 use Rattle.shm_words.specs.Headers.{header_of}
 use Rattle.shm_words.specs.Tags.{tag_author}
 use Rattle.shm_graph.specs.declared.spot.Spot.{Spot}
-use Rattle.shm_graph.specs.declared.spot.Spot.TheVariants.{Redo, Home, Era, Root, Tail, QueueHead, Slot, Page, Head, Tag, Body}
+use Rattle.shm_graph.specs.declared.spot.Spot.TheVariants.{Redo, RedoMore, Home, Era, Root, Tail, QueueHead, Slot, Page, Head, Tag, Body}
 use Rattle.shm_graph.specs.declared.memo.Op.{Op}
 use Rattle.shm_graph.specs.declared.memo.Look.{Look}
 use Rattle.shm_graph.specs.declared.memo.Stored.{Stored}
@@ -100,23 +100,23 @@ pub record Gives (g : Geometry) (w : Spot → ℕ) (v : View) (c b to : ℕ) (m 
   pub begun : on_of (v.op c) ≡ None
   pub committed : on_of m.op ≡ Some b
   pub room : room_of m.op ≡ room_of (v.op c)
-  pub tie : OpTie g (classes w) (w (Redo c)) (w (Era c c)) (words_of w) m.op
+  pub tie : OpTie g (classes w) (w (Redo c)) (w (RedoMore c)) (w (Era c c)) (words_of g.wide w) m.op
   pub allowed : Allowed c m.op
   pub dying : (d : ℕ) → d < g.clients → DyingTie (headers (upd w (Head b) to)) d (m.dying.all d)
   pub count : CountSound g (classes w) (headers (upd w (Head b) to)) t' (held_overs (exchanged_view v c m))
   -- what c has is sound for the new targets
-  pub slot : SlotOf c (headers w) (λ i. w (Tag i)) (v.latch c) (λ i j. w (Tail i j)) (λ i j. w (QueueHead i j)) (reach_of t' (λ i j. w (Tail i j)) (λ i j. w (QueueHead i j)) (λ d. m.looks.own) c) (slot_of m.op)
-  pub looked : LooksSound (λ i. t' (Home i)) (λ i j. t' (Body i j)) (λ i. tag_author (w (Tag i))) (v.latch c) (named_by t' (λ i j. w (Tail i j)) (λ i j. w (QueueHead i j)) c) [] m.looks.own
-  pub knows : All (λ (s : Stored). KnownAt c (λ i. w (Tag i)) (λ i j. w (Body i j)) (λ i j l. w (Slot i j l)) (λ i j. w (Tail i j)) (λ i j. w (QueueHead i j)) (m.untaken c) (v.latch c)
+  pub slot : SlotOf g.wide c (headers w) (λ i. w (Tag i)) (v.latch c) (λ i j. w (Tail i j)) (λ i j. w (QueueHead i j)) (reach_of t' (λ i j. w (Tail i j)) (λ i j. w (QueueHead i j)) (λ d. m.looks.own) c) (slot_of m.op)
+  pub looked : LooksSound (λ i. t' (Home i)) (λ i j. t' (Body i j)) (λ i. tag_author g.wide (w (Tag i))) (v.latch c) (named_by t' (λ i j. w (Tail i j)) (λ i j. w (QueueHead i j)) c) [] m.looks.own
+  pub knows : All (λ (s : Stored). KnownAt g.wide c (λ i. w (Tag i)) (λ i j. w (Body i j)) (λ i j l. w (Slot i j l)) (λ i j. w (Tail i j)) (λ i j. w (QueueHead i j)) (m.untaken c) (v.latch c)
       (reach_of t' (λ i j. w (Tail i j)) (λ i j. w (QueueHead i j)) (λ d. m.looks.own) c) m.dying.own s.spot s.value) m.known.own
-  pub valued : All (ValueAt (contents_of w t') (reach_of t' (λ i j. w (Tail i j)) (λ i j. w (QueueHead i j)) (λ d. m.looks.own) c)) m.values.own
-  pub parted : PartTie (contents_of w t') c (t' (Home c)) m.part.own
+  pub valued : All (ValueAt (contents_of g.wide w t') (reach_of t' (λ i j. w (Tail i j)) (λ i j. w (QueueHead i j)) (λ d. m.looks.own) c)) m.values.own
+  pub parted : PartTie (contents_of g.wide w t') c (t' (Home c)) m.part.own
   pub loose : is_loose m.part.own ≡ is_loose (v.part c)
   pub made : All (MadeAt (headers (upd w (Head b) to)) (λ k. t' (Root c k))) m.made.own
   -- what another identity has stays
   pub named : (d i : ℕ) → c ≢ d → named_by (targets g w v) (λ i j. w (Tail i j)) (λ i j. w (QueueHead i j)) d i → named_by t' (λ i j. w (Tail i j)) (λ i j. w (QueueHead i j)) d i
-  pub looks : (d : ℕ) → c ≢ d → d < g.clients → LooksSound (λ i. t' (Home i)) (λ i j. t' (Body i j)) (λ i. tag_author (w (Tag i))) (v.latch d) (named_by t' (λ i j. w (Tail i j)) (λ i j. w (QueueHead i j)) d) [] (v.looks d)
-  pub parts : (d : ℕ) → c ≢ d → d < g.clients → PartTie (contents_of (upd w (Head b) to) t') d (t' (Home d)) (v.part d)
+  pub looks : (d : ℕ) → c ≢ d → d < g.clients → LooksSound (λ i. t' (Home i)) (λ i j. t' (Body i j)) (λ i. tag_author g.wide (w (Tag i))) (v.latch d) (named_by t' (λ i j. w (Tail i j)) (λ i j. w (QueueHead i j)) d) [] (v.looks d)
+  pub parts : (d : ℕ) → c ≢ d → d < g.clients → PartTie (contents_of g.wide (upd w (Head b) to) t') d (t' (Home d)) (v.part d)
   pub others_made : (d : ℕ) → c ≢ d → d < g.clients → All (MadeAt (headers (upd w (Head b) to)) (λ k. t' (Root d k))) (v.made d)
   pub unsent : (d : ℕ) → c ≢ d → (r : ℕ) → m.unsent d r ≡ v.unsent d r
   pub untaken : (d : ℕ) → c ≢ d → (r : ℕ) → m.untaken d r ≡ v.untaken d r
@@ -125,7 +125,7 @@ pub record Gives (g : Geometry) (w : Spot → ℕ) (v : View) (c b to : ℕ) (m 
   pub self_lanes : (d k : ℕ) → targets g w v (Slot d d k) ≡ 0 → t' (Slot d d k) ≡ 0
   pub no_queue : (d : ℕ) → d < g.clients → NothingWaits g.clients d (m.unsent d) (m.untaken d)
   pub tails : (d r : ℕ) → d < g.clients → r < g.clients → TailSound d r (w (Era d d)) (w (Tail d r)) (m.unsent d r) (at1 v.op c m.op d)
-  pub queued : is_loose (v.part c) ≡ false → (s r k : ℕ) → t' (Slot s r k) ≢ 0 → (t' (Slot s r k) ≡ targets g w v (Slot s r k)) ⊎ HasShape (contents_of (upd w (Head b) to) t') 0 1 (t' (Slot s r k))
+  pub queued : is_loose (v.part c) ≡ false → (s r k : ℕ) → t' (Slot s r k) ≢ 0 → (t' (Slot s r k) ≡ targets g w v (Slot s r k)) ⊎ HasShape (contents_of g.wide (upd w (Head b) to) t') 0 1 (t' (Slot s r k))
 
 -- a kind that puts nothing into a queue keeps the bounds of the tails
 pub tails_stay : (g : Geometry) (w : Spot → ℕ) (v : View) (c : ℕ) (o : Op) (unsent : ℕ → ℕ → ℕ) → HeldAt g w v → up_slot o ≡ up_slot (v.op c) → ((d r : ℕ) → unsent d r ≢ 0 → v.unsent d r ≢ 0)
@@ -184,13 +184,13 @@ module _ (g : Geometry) (w : Spot → ℕ) (v : View) (c b to : ℕ) (m : Change
   reach_own i (inl x) = inl x
   reach_own i (inr x) = inr (subst (λ y. InLooks y i) (sym m.looks.here) x)
 
-  slot_now : (d : ℕ) (reach : ℕ → Type 0) (p : Spot) → ((i : ℕ) → reach i → reach_of t' tail queue_head m.looks.all d i) → SlotOf d (headers w) tags (v.latch d) tail queue_head reach p → SlotOf d heads' tags (v.latch d) tail queue_head (reach_of t' tail queue_head m.looks.all d) p
-  slot_now d reach p more = slot_kept d (headers w) heads' tags (v.latch d) tail queue_head reach (reach_of t' tail queue_head m.looks.all d) p (λ i z. inl (stay i z)) (dying_stays g w v h b to a.live a.counted a.new_live d) more
+  slot_now : (d : ℕ) (reach : ℕ → Type 0) (p : Spot) → ((i : ℕ) → reach i → reach_of t' tail queue_head m.looks.all d i) → SlotOf g.wide d (headers w) tags (v.latch d) tail queue_head reach p → SlotOf g.wide d heads' tags (v.latch d) tail queue_head (reach_of t' tail queue_head m.looks.all d) p
+  slot_now d reach p more = slot_kept g.wide d (headers w) heads' tags (v.latch d) tail queue_head reach (reach_of t' tail queue_head m.looks.all d) p (λ i z. inl (stay i z)) (dying_stays g w v h b to a.live a.counted a.new_live d) more
 
   -- what another identity knows
-  known : (d : ℕ) → c ≢ d → d < g.clients → All (λ (s : Stored). KnownAt d tags bodies slot tail queue_head (m.untaken d) (v.latch d) (reach_of t' tail queue_head m.looks.all d) (m.dying.all d) s.spot s.value) (v.known d)
-  known d n l = subst (λ u. All (λ (s : Stored). KnownAt d tags bodies slot tail queue_head u (v.latch d) (reach_of t' tail queue_head m.looks.all d) (m.dying.all d) s.spot s.value) (v.known d)) (sym (fun_ext (a.untaken d n)))
-      (All-weaker _ _ (λ (s : Stored). known_kept d tags bodies slot tail queue_head (v.untaken d) (v.latch d) (reach_of t tail queue_head v.looks d) (reach_of t' tail queue_head m.looks.all d) (v.dying d) (m.dying.all d) s.spot s.value
+  known : (d : ℕ) → c ≢ d → d < g.clients → All (λ (s : Stored). KnownAt g.wide d tags bodies slot tail queue_head (m.untaken d) (v.latch d) (reach_of t' tail queue_head m.looks.all d) (m.dying.all d) s.spot s.value) (v.known d)
+  known d n l = subst (λ u. All (λ (s : Stored). KnownAt g.wide d tags bodies slot tail queue_head u (v.latch d) (reach_of t' tail queue_head m.looks.all d) (m.dying.all d) s.spot s.value) (v.known d)) (sym (fun_ext (a.untaken d n)))
+      (All-weaker _ _ (λ (s : Stored). known_kept g.wide d tags bodies slot tail queue_head (v.untaken d) (v.latch d) (reach_of t tail queue_head v.looks d) (reach_of t' tail queue_head m.looks.all d) (v.dying d) (m.dying.all d) s.spot s.value
       (reach d n) (λ i y. subst (λ z. Contains z i) (sym (m.dying.other d n)) y)) (v.known d) (h.known d l))
 
   loose : (d : ℕ) → is_loose (m.part.all d) ≡ is_loose (v.part d)
@@ -217,20 +217,20 @@ module _ (g : Geometry) (w : Spot → ℕ) (v : View) (c b to : ℕ) (m : Change
         blocks = blocks_stay g w v h b to a.live a.counted a.new_live;
         era = era_exchange g.clients (λ i. w (Head i)) eras v.op c b to m.op a.inside a.begun a.committed a.client a.era (h.own c a.inside).some over h.era;
         own = λ d. at1_all (λ (i : ℕ) (x : Op). i < g.clients → OwnSound (w (Era i i)) x) v.op c m.op d (λ l. let q = h.own c l in record { some = q.some; room = let r = q.room in let e = a.room in omega arith }) (λ n. h.own d);
-        op = λ d. at1_all (λ (i : ℕ) (x : Op). i < g.clients → OpTie g class (w (Redo i)) (w (Era i i)) (words_of w') x) v.op c m.op d (λ l. a.tie) (λ n. h.op d);
+        op = λ d. at1_all (λ (i : ℕ) (x : Op). i < g.clients → OpTie g class (w (Redo i)) (w (RedoMore i)) (w (Era i i)) (words_of g.wide w') x) v.op c m.op d (λ l. a.tie) (λ n. h.op d);
         redo = h.redo;
         allowed = λ d. at1_all (λ (i : ℕ) (x : Op). i < g.clients → Allowed i x) v.op c m.op d (λ l. a.allowed) (λ n. h.allowed d);
         count = subst (λ (t : Spot → ℕ). CountSound g class heads' t (held_overs v')) (sym a.path) a.count;
-        slots = subst (λ (t : Spot → ℕ). (d : ℕ) → d < g.clients → is_op (v'.op d) ≡ true → SlotOf d heads' tags (v.latch d) tail queue_head (reach_of t tail queue_head m.looks.all d) (slot_of (v'.op d))) (sym a.path)
-            (λ d. at1_all (λ (i : ℕ) (x : Op). i < g.clients → is_op x ≡ true → SlotOf i heads' tags (v.latch i) tail queue_head (reach_of t' tail queue_head m.looks.all i) (slot_of x)) v.op c m.op d
+        slots = subst (λ (t : Spot → ℕ). (d : ℕ) → d < g.clients → is_op (v'.op d) ≡ true → SlotOf g.wide d heads' tags (v.latch d) tail queue_head (reach_of t tail queue_head m.looks.all d) (slot_of (v'.op d))) (sym a.path)
+            (λ d. at1_all (λ (i : ℕ) (x : Op). i < g.clients → is_op x ≡ true → SlotOf g.wide i heads' tags (v.latch i) tail queue_head (reach_of t' tail queue_head m.looks.all i) (slot_of x)) v.op c m.op d
             (λ l _. slot_now c (reach_of t' tail queue_head (λ d. m.looks.own) c) (slot_of m.op) reach_own a.slot)
             (λ n l is. slot_now d (reach_of t tail queue_head v.looks d) (slot_of (v.op d)) (reach d n) (h.slots d l is)));
-        looks = subst (λ (t : Spot → ℕ). (d : ℕ) → d < g.clients → LooksSound (λ i. t (Home i)) (λ i j. t (Body i j)) (λ i. tag_author (w (Tag i))) (v.latch d) (named_by t tail queue_head d) [] (m.looks.all d)) (sym a.path)
-            (moved_all m.looks g.clients (λ (d : ℕ) (x : List Look). LooksSound (λ i. t' (Home i)) (λ i j. t' (Body i j)) (λ i. tag_author (w (Tag i))) (v.latch d) (named_by t' tail queue_head d) [] x) a.inside a.looked a.looks);
+        looks = subst (λ (t : Spot → ℕ). (d : ℕ) → d < g.clients → LooksSound (λ i. t (Home i)) (λ i j. t (Body i j)) (λ i. tag_author g.wide (w (Tag i))) (v.latch d) (named_by t tail queue_head d) [] (m.looks.all d)) (sym a.path)
+            (moved_all m.looks g.clients (λ (d : ℕ) (x : List Look). LooksSound (λ i. t' (Home i)) (λ i j. t' (Body i j)) (λ i. tag_author g.wide (w (Tag i))) (v.latch d) (named_by t' tail queue_head d) [] x) a.inside a.looked a.looks);
         lanes = subst (λ (t : Spot → ℕ). (i j : ℕ) → i < g.clients → j < g.clients → i ≢ j → LaneSound (λ k. t (Slot i j k)) (tail i j) (queue_head i j) (v.sent i j) (m.unsent i j) (v.received j i) (m.untaken j i)) (sym a.path) (λ i j li lj n. a.lanes i j n (h.lanes i j li lj n));
-        known = subst (λ (t : Spot → ℕ). (d : ℕ) → d < g.clients → All (λ (s : Stored). KnownAt d tags bodies slot tail queue_head (m.untaken d) (v.latch d) (reach_of t tail queue_head m.looks.all d) (m.dying.all d) s.spot s.value) (m.known.all d)) (sym a.path)
-            (moved_all m.known g.clients (λ (d : ℕ) (x : List Stored). All (λ (s : Stored). KnownAt d tags bodies slot tail queue_head (m.untaken d) (v.latch d) (reach_of t' tail queue_head m.looks.all d) (m.dying.all d) s.spot s.value) x) a.inside
-            (All-weaker _ _ (λ s. known_kept c tags bodies slot tail queue_head (m.untaken c) (v.latch c) (reach_of t' tail queue_head (λ d. m.looks.own) c) (reach_of t' tail queue_head m.looks.all c) m.dying.own (m.dying.all c) s.spot s.value
+        known = subst (λ (t : Spot → ℕ). (d : ℕ) → d < g.clients → All (λ (s : Stored). KnownAt g.wide d tags bodies slot tail queue_head (m.untaken d) (v.latch d) (reach_of t tail queue_head m.looks.all d) (m.dying.all d) s.spot s.value) (m.known.all d)) (sym a.path)
+            (moved_all m.known g.clients (λ (d : ℕ) (x : List Stored). All (λ (s : Stored). KnownAt g.wide d tags bodies slot tail queue_head (m.untaken d) (v.latch d) (reach_of t' tail queue_head m.looks.all d) (m.dying.all d) s.spot s.value) x) a.inside
+            (All-weaker _ _ (λ s. known_kept g.wide c tags bodies slot tail queue_head (m.untaken c) (v.latch c) (reach_of t' tail queue_head (λ d. m.looks.own) c) (reach_of t' tail queue_head m.looks.all c) m.dying.own (m.dying.all c) s.spot s.value
             reach_own (λ i y. subst (λ z. Contains z i) (sym m.dying.here) y)) m.known.own a.knows) known);
         facts = λ d l. All-weaker _ _ (facts_committed g.clients eras tail queue_head class v.op c b m.op a.committed) (v.facts d) (h.facts d l);
         zeros = λ d l. All-weaker _ _ (zero_stays g w v h b to a.live a.counted a.new_live d) (v.zeros d) (h.zeros d l);
@@ -250,19 +250,19 @@ module _ (g : Geometry) (w : Spot → ℕ) (v : View) (c b to : ℕ) (m : Change
         no_queue = a.no_queue;
         tails = a.tails;
         parts = λ d i l k. loose d ∙ (h.parts d i l k ∙ sym (loose i));
-        part = subst (λ (t : Spot → ℕ). (d : ℕ) → d < g.clients → PartTie (contents_of w' t) d (t (Home d)) (m.part.all d)) (sym a.path)
-            (moved_all m.part g.clients (λ (d : ℕ) (x : Part). PartTie (contents_of w' t') d (t' (Home d)) x) a.inside
-            (part_kept (contents_of w t') (contents_of w' t') (λ _. Unit {0}) c same (λ _ _. tt) (t' (Home c)) m.part.own tt a.parted) a.parts);
-        queued = subst (λ (t : Spot → ℕ). (d : ℕ) → d < g.clients → is_loose (m.part.all d) ≡ false → (s r k : ℕ) → t (Slot s r k) ≢ 0 → HasShape (contents_of w' t) 0 1 (t (Slot s r k))) (sym a.path)
+        part = subst (λ (t : Spot → ℕ). (d : ℕ) → d < g.clients → PartTie (contents_of g.wide w' t) d (t (Home d)) (m.part.all d)) (sym a.path)
+            (moved_all m.part g.clients (λ (d : ℕ) (x : Part). PartTie (contents_of g.wide w' t') d (t' (Home d)) x) a.inside
+            (part_kept (contents_of g.wide w t') (contents_of g.wide w' t') (λ _. Unit {0}) c same (λ _ _. tt) (t' (Home c)) m.part.own tt a.parted) a.parts);
+        queued = subst (λ (t : Spot → ℕ). (d : ℕ) → d < g.clients → is_loose (m.part.all d) ≡ false → (s r k : ℕ) → t (Slot s r k) ≢ 0 → HasShape (contents_of g.wide w' t) 0 1 (t (Slot s r k))) (sym a.path)
             (λ d l f. queued_kept g w v h d heads' (λ i j. t' (Body i j)) bodies t' l (λ i _. stay i) (a.queued (h.parts c d a.inside l ∙ (sym (loose d) ∙ f))) (sym (loose d) ∙ f));
-        values = subst (λ (t : Spot → ℕ). (d : ℕ) → d < g.clients → All (ValueAt (contents_of w' t) (reach_of t tail queue_head m.looks.all d)) (m.values.all d)) (sym a.path)
-            (moved_all m.values g.clients (λ (d : ℕ) (x : List ℕ). All (ValueAt (contents_of w' t') (reach_of t' tail queue_head m.looks.all d)) x) a.inside
-            (All-weaker (ValueAt (contents_of w t') (reach_of t' tail queue_head (λ d. m.looks.own) c)) (ValueAt (contents_of w' t') (reach_of t' tail queue_head m.looks.all c)) (λ i x. (record { live = stay i x.0.live; names = x.0.names; words = x.0.words }, reach_own i x.1)) m.values.own a.valued)
+        values = subst (λ (t : Spot → ℕ). (d : ℕ) → d < g.clients → All (ValueAt (contents_of g.wide w' t) (reach_of t tail queue_head m.looks.all d)) (m.values.all d)) (sym a.path)
+            (moved_all m.values g.clients (λ (d : ℕ) (x : List ℕ). All (ValueAt (contents_of g.wide w' t') (reach_of t' tail queue_head m.looks.all d)) x) a.inside
+            (All-weaker (ValueAt (contents_of g.wide w t') (reach_of t' tail queue_head (λ d. m.looks.own) c)) (ValueAt (contents_of g.wide w' t') (reach_of t' tail queue_head m.looks.all c)) (λ i x. (record { live = stay i x.0.live; names = x.0.names; words = x.0.words }, reach_own i x.1)) m.values.own a.valued)
             (λ d n l. values_kept g w v h d heads' (λ i j. t' (Body i j)) bodies (reach_of t' tail queue_head m.looks.all d) l (λ i _. stay i) (reach d n)));
         made = subst (λ (t : Spot → ℕ). (d : ℕ) → d < g.clients → All (MadeAt heads' (λ k. t (Root d k))) (m.made.all d)) (sym a.path)
             (moved_all m.made g.clients (λ (d : ℕ) (x : List ℕ). All (MadeAt heads' (λ k. t' (Root d k))) x) a.inside a.made a.others_made);
       }
     where
       -- the part of c reads what the new targets say
-      same : PartKept (contents_of w t') (contents_of w' t') (λ _. Unit {0}) c
-      same = record { live = λ i _ l. stay i l; tag = λ _ _ _. refl; refs = λ _ _ _ _ _ _. refl; body = λ _ _ _ _ _. refl }
+      same : PartKept (contents_of g.wide w t') (contents_of g.wide w' t') (λ _. Unit {0}) c
+      same = record { format = refl; live = λ i _ l. stay i l; tag = λ _ _ _. refl; refs = λ _ _ _ _ _ _. refl; body = λ _ _ _ _ _. refl }

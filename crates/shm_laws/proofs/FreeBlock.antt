@@ -1,5 +1,5 @@
 -- the store that frees a dying block keeps the invariant, and is one event
-use Rattle.std.proofs.Common.{◌≡◌, ◌≢◌, ℕ, ◌/◌, ◌^◌, ◌<◌, ◌≤◌, refl, sym, ap, ◌∙◌, arith, true, false, not, cond, eqb, eq-eqb, ltb, lt-ltb, subst, inl, inr, ◌⊎◌, List, [], lit<, Option, Some, None}
+use Rattle.std.proofs.Common.{◌≡◌, ◌≢◌, ℕ, ◌^◌, ◌<◌, ◌≤◌, refl, sym, ap, ◌∙◌, arith, true, false, not, cond, eqb, eq-eqb, ltb, lt-ltb, subst, inl, inr, ◌⊎◌, List, [], lit<, Option, Some, None}
 use Rattle.std.specs.List.{All, Contains, filter}
 use Rattle.std.proofs.lemmas.List.Elements.{All-weaker, All-contains}
 use Rattle.std.proofs.lemmas.Bool.{cases_Bool, cases_eq, true≢false, ne_eqb, cond-true}
@@ -21,7 +21,7 @@ use Rattle.shm_graph.specs.Views.{View, at1, targets, ons, held_overs}
 use Rattle.shm_graph.specs.Blocks.{headers}
 use Rattle.shm_graph.specs.Events.{Free, graph_of, Happens}
 use Rattle.shm_graph.specs.Ops.{cover, cover_of, covered, slot_of, indegree, on_of, is_op}
-use Rattle.shm_words.specs.Tags.{tag_refs, tag_author, tag_link}
+use Rattle.shm_words.specs.Tags.{tag_refs, tag_author, tag_link, tag_shape}
 use Rattle.shm_laws.specs.Preparing.{FreeNeeds, free_view}
 use Rattle.shm_graph.specs.Stores.{not_block, not_of, is_of}
 use Rattle.shm_laws.proofs.Owns.{mine_other, small_stored, there_stored}
@@ -75,41 +75,41 @@ module _ (g : Geometry) (w : Spot → ℕ) (v : View) (c b tag : ℕ) (h : HeldA
   other d is x = let z : is_op (v.op d) ≡ false = ap (λ i. is_op (v.op i)) (sym x) ∙ ap is_op a.op in true≢false (sym is ∙ z)
 
   abbrev Old : ℕ → Stored → Type 0
-  Old d s = KnownAt d tags bodies slot tail queue_head (v.untaken d) (v.latch d) (reach_of t tail queue_head v.looks d) (v.dying d) s.spot s.value
+  Old d s = KnownAt g.wide d tags bodies slot tail queue_head (v.untaken d) (v.latch d) (reach_of t tail queue_head v.looks d) (v.dying d) s.spot s.value
 
   tag_word : w (Tag b) ≡ tag
   tag_word = (All-contains (Old c) (v.known c) (record { spot = Tag b; value = tag }) (h.known c a.inside) a.tagged).0
 
-  zero_word : (i : ℕ) → i < tag_refs tag → w (Body b i) ≡ 0
+  zero_word : (i : ℕ) → i < tag_refs g.wide tag → w (Body b i) ≡ 0
   zero_word i l = (All-contains (Old c) (v.known c) (record { spot = Body b i; value = 0 }) (h.known c a.inside) (a.zeros i l)).0
 
   covers_body : (i d : ℕ) → d < g.clients → (y : ℕ) → cover (cover_of (v.op d)) (Body b i) y ≡ y
   covers_body i d l y = elim (cases_Bool (is_op (v.op d))) [
     | inr n ↦ cover_idle (v.op d) (Body b i) n y
-    | inl is ↦ apart d (λ i. header_of (word i)) tags (v.latch d) tail queue_head (reach_of t tail queue_head v.looks d) (v.op d) (Body b i) (h.slots d l) (λ x. elim x.2 [ inl u ↦ other d is (sym dying.2 ∙ u.1) | inr u ↦ no_reach d l u.2 ]) y
+    | inl is ↦ apart g.wide d (λ i. header_of (word i)) tags (v.latch d) tail queue_head (reach_of t tail queue_head v.looks d) (v.op d) (Body b i) (h.slots d l) (λ x. elim x.2 [ inl u ↦ other d is (sym dying.2 ∙ u.1) | inr u ↦ no_reach d l u.2 ]) y
   ]
 
   -- its reference words name nothing
-  word_empty : (i : ℕ) → i < tag_refs (w (Tag b)) → covered (λ d. cover_of (v.op d)) g.clients (Body b i) (w (Body b i)) ≡ 0
-  word_empty i l = covered_none g.clients (Body b i) (w (Body b i)) (λ d. cover_of (v.op d)) (covers_body i) ∙ zero_word i (subst (λ z. i < tag_refs z) tag_word l)
+  word_empty : (i : ℕ) → i < tag_refs g.wide (w (Tag b)) → covered (λ d. cover_of (v.op d)) g.clients (Body b i) (w (Body b i)) ≡ 0
+  word_empty i l = covered_none g.clients (Body b i) (w (Body b i)) (λ d. cover_of (v.op d)) (covers_body i) ∙ zero_word i (subst (λ z. i < tag_refs g.wide z) tag_word l)
 
   abbrev refs' : ℕ → ℕ
-  refs' = λ i. refs_of (header_of (upd w (Head b) 0 (Head i))).live (w (Tag i))
+  refs' = λ i. refs_of g.wide (header_of (upd w (Head b) 0 (Head i))).live (w (Tag i))
 
-  refs_here : (refs' b ≡ (words_of w).refs b) ⊎ ((i : ℕ) → (i < refs' b) ⊎ (i < (words_of w).refs b) → covered (λ d. cover_of (v.op d)) g.clients (Body b i) (w (Body b i)) ≡ 0)
+  refs_here : (refs' b ≡ (words_of g.wide w).refs b) ⊎ ((i : ℕ) → (i < refs' b) ⊎ (i < (words_of g.wide w).refs b) → covered (λ d. cover_of (v.op d)) g.clients (Body b i) (w (Body b i)) ≡ 0)
   refs_here = inr (λ i u. word_empty i (elim u [
-    | inl x ↦ (let z : refs' b ≡ 0 = ap (λ z. refs_of (header_of z).live (w (Tag b))) (at1_here word b 0) ∙ ap (λ z. refs_of z (w (Tag b))) header_of_zero in absurd (omega arith))
-    | inr x ↦ subst (λ z. i < z) (ap (λ z. refs_of z (w (Tag b))) dying.0) x
+    | inl x ↦ (let z : refs' b ≡ 0 = ap (λ z. refs_of g.wide (header_of z).live (w (Tag b))) (at1_here word b 0) ∙ ap (λ z. refs_of g.wide z (w (Tag b))) header_of_zero in absurd (omega arith))
+    | inr x ↦ subst (λ z. i < z) (ap (λ z. refs_of g.wide z (w (Tag b))) dying.0) x
   ]))
 
-  refs_all : (d : ℕ) → (refs' d ≡ (words_of w).refs d) ⊎ ((i : ℕ) → (i < refs' d) ⊎ (i < (words_of w).refs d) → covered (λ d. cover_of (v.op d)) g.clients (Body d i) (w (Body d i)) ≡ 0)
+  refs_all : (d : ℕ) → (refs' d ≡ (words_of g.wide w).refs d) ⊎ ((i : ℕ) → (i < refs' d) ⊎ (i < (words_of g.wide w).refs d) → covered (λ d. cover_of (v.op d)) g.clients (Body d i) (w (Body d i)) ≡ 0)
   refs_all d = elim (cases_eq b d) [
-    | inl x ↦ subst (λ z. (refs' z ≡ (words_of w).refs z) ⊎ ((i : ℕ) → (i < refs' z) ⊎ (i < (words_of w).refs z) → covered (λ d. cover_of (v.op d)) g.clients (Body z i) (w (Body z i)) ≡ 0)) x refs_here
-    | inr n ↦ inl (ap (λ z. refs_of (header_of z).live (w (Tag d))) (at1_other word b 0 d n))
+    | inl x ↦ subst (λ z. (refs' z ≡ (words_of g.wide w).refs z) ⊎ ((i : ℕ) → (i < refs' z) ⊎ (i < (words_of g.wide w).refs z) → covered (λ d. cover_of (v.op d)) g.clients (Body z i) (w (Body z i)) ≡ 0)) x refs_here
+    | inr n ↦ inl (ap (λ z. refs_of g.wide (header_of z).live (w (Tag d))) (at1_other word b 0 d n))
   ]
 
   path : targets g w' v' ≡ t
-  path = refs_target g.clients (words_of w) refs' (λ d. cover_of (v.op d)) refs_all
+  path = refs_target g.clients (words_of g.wide w) refs' (λ d. cover_of (v.op d)) refs_all
 
   -- the invariant stays
   pub free_kept : HeldAt g (upd w (Head b) 0) (free_view v c b)
@@ -136,8 +136,8 @@ module _ (g : Geometry) (w : Spot → ℕ) (v : View) (c b tag : ℕ) (h : HeldA
         making = λ d l. making d (v.making d) (h.making d l);
         blocks = record {
           plain = λ i. at1_all (λ (j x : ℕ). (header_of x).live ≡ false → x ≡ 0) word b 0 i (λ _. refl) (λ n. h.blocks.plain i);
-          tagged = λ i. at1_all (λ (j x : ℕ). (header_of x).live ≡ true → TagSound g.clients (class_at g class j) (w (Tag j))) word b 0 i (λ q. absurd (dead q)) (λ n. h.blocks.tagged i);
-          link = λ i. at1_all (λ (j x : ℕ). (header_of x).live ≡ true → (header_of x).count ≢ 0 → tag_link (w (Tag j)) ≡ 0) word b 0 i (λ q. absurd (dead q)) (λ n. h.blocks.link i);
+          tagged = λ i. at1_all (λ (j x : ℕ). (header_of x).live ≡ true → TagSound g.wide g.clients (class_at g class j) (w (Tag j))) word b 0 i (λ q. absurd (dead q)) (λ n. h.blocks.tagged i);
+          link = λ i. at1_all (λ (j x : ℕ). (header_of x).live ≡ true → (header_of x).count ≢ 0 → tag_link g.wide (w (Tag j)) ≡ 0) word b 0 i (λ q. absurd (dead q)) (λ n. h.blocks.link i);
         };
         era = record {
           client = λ i. at1_all (λ (j x : ℕ). (header_of x).live ≡ true → (header_of x).client < g.clients) word b 0 i (λ q. absurd (dead q)) (λ n. h.era.client i);
@@ -155,16 +155,16 @@ module _ (g : Geometry) (w : Spot → ℕ) (v : View) (c b tag : ℕ) (h : HeldA
           targets = λ p n. lives (t p) (λ z. no_target p (sym z)) (h.count.targets p n);
           held_overs = λ d l n. lives (held_overs v d) (λ z. (held_over_counted g w v h d b l b_not_zero (sym z)).1 dying.1) (h.count.held_overs d l n);
         });
-        slots = subst (λ (t : Spot → ℕ). (d : ℕ) → d < g.clients → is_op (v.op d) ≡ true → SlotOf d (λ i. header_of (word' i)) tags (v.latch d) tail queue_head (reach_of t tail queue_head v.looks d) (slot_of (v.op d))) (sym path)
-            (λ d l is. slot_kept d (λ i. header_of (word i)) (λ i. header_of (word' i)) tags (v.latch d) tail queue_head (reach_of t tail queue_head v.looks d) (reach_of t tail queue_head v.looks d) (slot_of (v.op d))
+        slots = subst (λ (t : Spot → ℕ). (d : ℕ) → d < g.clients → is_op (v.op d) ≡ true → SlotOf g.wide d (λ i. header_of (word' i)) tags (v.latch d) tail queue_head (reach_of t tail queue_head v.looks d) (slot_of (v.op d))) (sym path)
+            (λ d l is. slot_kept g.wide d (λ i. header_of (word i)) (λ i. header_of (word' i)) tags (v.latch d) tail queue_head (reach_of t tail queue_head v.looks d) (reach_of t tail queue_head v.looks d) (slot_of (v.op d))
             (λ i q. elim (cases_eq b i) [ inl z ↦ inr ((λ u. other d is (sym dying.2 ∙ (ap (λ j. (header_of (word j)).client) z ∙ u.2))), (λ u. no_reach d l (subst (reach_of t tail queue_head v.looks d) (sym z) u))) | inr n ↦ inl (lives i n q) ])
             (dying_kept d (other d is)) (λ _ x. x) (h.slots d l is));
-        looks = subst (λ (t : Spot → ℕ). (d : ℕ) → d < g.clients → LooksSound (λ a. t (Home a)) (λ b i. t (Body b i)) (λ b. tag_author (w (Tag b))) (v.latch d) (named_by t tail queue_head d) [] (v.looks d)) (sym path) h.looks;
+        looks = subst (λ (t : Spot → ℕ). (d : ℕ) → d < g.clients → LooksSound (λ a. t (Home a)) (λ b i. t (Body b i)) (λ b. tag_author g.wide (w (Tag b))) (v.latch d) (named_by t tail queue_head d) [] (v.looks d)) (sym path) h.looks;
         lanes = subst (λ (t : Spot → ℕ). (i j : ℕ) → i < g.clients → j < g.clients → i ≢ j → LaneSound (λ k. t (Slot i j k)) (tail i j) (queue_head i j) (v.sent i j) (v.unsent i j) (v.received j i) (v.untaken j i)) (sym path) h.lanes;
-        known = subst (λ (t : Spot → ℕ). (d : ℕ) → d < g.clients → All (λ (s : Stored). KnownAt d tags bodies slot tail queue_head (v.untaken d) (v.latch d) (reach_of t tail queue_head v.looks d) (v'.dying d) s.spot s.value) (v'.known d)) (sym path)
+        known = subst (λ (t : Spot → ℕ). (d : ℕ) → d < g.clients → All (λ (s : Stored). KnownAt g.wide d tags bodies slot tail queue_head (v.untaken d) (v.latch d) (reach_of t tail queue_head v.looks d) (v'.dying d) s.spot s.value) (v'.known d)) (sym path)
             (λ d l. elim (cases_eq c d) [
               | inl x ↦ subst (λ i. All (Known i) (v'.known i)) x (subst (All (Known c)) (sym (at1_here v.known c (filter (not_of b) (v.known c)))) (All-kept (Old c) (Known c) (not_of b) (λ s. known_own s.spot s.value) (v.known c) (h.known c a.inside)))
-              | inr m ↦ subst (All (Known d)) (sym (at1_other v.known c (filter (not_of b) (v.known c)) d m)) (All-weaker (Old d) (Known d) (λ s. known_kept d tags bodies slot tail queue_head (v.untaken d) (v.latch d) (reach_of t tail queue_head v.looks d) (reach_of t tail queue_head v.looks d) (v.dying d) (v'.dying d) s.spot s.value (λ _ x. x) (λ i y. subst (λ z. Contains z i) (sym (at1_other v.dying c (filter (not_block b) (v.dying c)) d m)) y)) (v.known d) (h.known d l))
+              | inr m ↦ subst (All (Known d)) (sym (at1_other v.known c (filter (not_of b) (v.known c)) d m)) (All-weaker (Old d) (Known d) (λ s. known_kept g.wide d tags bodies slot tail queue_head (v.untaken d) (v.latch d) (reach_of t tail queue_head v.looks d) (reach_of t tail queue_head v.looks d) (v.dying d) (v'.dying d) s.spot s.value (λ _ x. x) (λ i y. subst (λ z. Contains z i) (sym (at1_other v.dying c (filter (not_block b) (v.dying c)) d m)) y)) (v.known d) (h.known d l))
             ]);
         facts = h.facts;
         zeros = λ d l. All-weaker _ _ (zero d) (v.zeros d) (h.zeros d l);
@@ -181,10 +181,10 @@ module _ (g : Geometry) (w : Spot → ℕ) (v : View) (c b tag : ℕ) (h : HeldA
         no_queue = h.no_queue;
         tails = h.tails;
         parts = h.parts;
-        part = subst (λ (t : Spot → ℕ). (d : ℕ) → d < g.clients → PartTie (contents_of w' t) d (t (Home d)) (v.part d)) (sym path) (λ d l. part_lives g w v h d heads' t l stays (λ _ _ _ _. refl) refl);
-        queued = subst (λ (t : Spot → ℕ). (d : ℕ) → d < g.clients → is_loose (v.part d) ≡ false → (s r k : ℕ) → t (Slot s r k) ≢ 0 → HasShape (contents_of w' t) 0 1 (t (Slot s r k))) (sym path)
+        part = subst (λ (t : Spot → ℕ). (d : ℕ) → d < g.clients → PartTie (contents_of g.wide w' t) d (t (Home d)) (v.part d)) (sym path) (λ d l. part_lives g w v h d heads' t l stays (λ _ _ _ _. refl) refl);
+        queued = subst (λ (t : Spot → ℕ). (d : ℕ) → d < g.clients → is_loose (v.part d) ≡ false → (s r k : ℕ) → t (Slot s r k) ≢ 0 → HasShape (contents_of g.wide w' t) 0 1 (t (Slot s r k))) (sym path)
             (λ d l. queued_kept g w v h d heads' (λ i j. t (Body i j)) bodies t l stays (λ s r k _. inl refl));
-        values = subst (λ (t : Spot → ℕ). (d : ℕ) → d < g.clients → All (ValueAt (contents_of w' t) (reach_of t tail queue_head v.looks d)) (v.values d)) (sym path)
+        values = subst (λ (t : Spot → ℕ). (d : ℕ) → d < g.clients → All (ValueAt (contents_of g.wide w' t) (reach_of t tail queue_head v.looks d)) (v.values d)) (sym path)
             (λ d l. values_kept g w v h d heads' (λ i j. t (Body i j)) bodies (reach_of t tail queue_head v.looks d) l stays (λ _ x. x));
         made = subst (λ (t : Spot → ℕ). (d : ℕ) → d < g.clients → All (MadeAt heads' (λ k. t (Root d k))) (v.made d)) (sym path) (λ d l. made_kept g w v h d b 0 0 Spare l (λ x k _ e. ((λ z. no_target (Root d k) (e ∙ sym z)), refl)));
       }
@@ -239,7 +239,7 @@ module _ (g : Geometry) (w : Spot → ℕ) (v : View) (c b tag : ℕ) (h : HeldA
           let y : None ≡ Some i = sym (ap on_of a.op) ∙ (ap (ons v) q ∙ s) in cc
 
       Known : ℕ → Stored → Type 0
-      Known d s = KnownAt d tags bodies slot tail queue_head (v.untaken d) (v.latch d) (reach_of t tail queue_head v.looks d) (v'.dying d) s.spot s.value
+      Known d s = KnownAt g.wide d tags bodies slot tail queue_head (v.untaken d) (v.latch d) (reach_of t tail queue_head v.looks d) (v'.dying d) s.spot s.value
 
       dies : (i : ℕ) → b ≢ i → Contains (v.dying c) i → Contains (v'.dying c) i
       dies i n x = subst (λ z. Contains z i) (sym (at1_here v.dying c (filter (not_block b) (v.dying c)))) (Contains-filter (not_block b) (v.dying c) i x (let u : eqb b i ≡ false = ne_eqb b i n in rw u refl))
@@ -247,7 +247,7 @@ module _ (g : Geometry) (w : Spot → ℕ) (v : View) (c b tag : ℕ) (h : HeldA
       apart_from : (i : ℕ) → not (eqb i b) ≡ true → b ≢ i
       apart_from i q z = let u : eqb i b ≡ true = eq-eqb i b (sym z) in let y : false ≡ true = rw u at q in true≢false (sym y)
 
-      known_own : (p : Spot) (x : ℕ) → not (is_of b p) ≡ true → KnownAt c tags bodies slot tail queue_head (v.untaken c) (v.latch c) (reach_of t tail queue_head v.looks c) (v.dying c) p x → KnownAt c tags bodies slot tail queue_head (v.untaken c) (v.latch c) (reach_of t tail queue_head v.looks c) (v'.dying c) p x
+      known_own : (p : Spot) (x : ℕ) → not (is_of b p) ≡ true → KnownAt g.wide c tags bodies slot tail queue_head (v.untaken c) (v.latch c) (reach_of t tail queue_head v.looks c) (v.dying c) p x → KnownAt g.wide c tags bodies slot tail queue_head (v.untaken c) (v.latch c) (reach_of t tail queue_head v.looks c) (v'.dying c) p x
       known_own (Tag i) x q k = (k.0, elim k.1 [ inl u ↦ inl (dies i (apart_from i q) u) | inr u ↦ inr u ])
       known_own (Body i j) x q k = (k.0, elim k.1 [ inl u ↦ inl (dies i (apart_from i q) u) | inr u ↦ inr u ])
       known_own (Slot i j l) x q k = k
@@ -259,15 +259,15 @@ module _ (g : Geometry) (w : Spot → ℕ) (v : View) (c b tag : ℕ) (h : HeldA
     dying.0,
     dying.1,
     dying.2,
-    λ i l. cond-true (ltb i ((words_of w).refs b)) _ 0 (lt-ltb i _ (subst (λ z. i < z) (sym (ap (λ z. refs_of z (w (Tag b))) dying.0)) l)) ∙ word_empty i l,
+    λ i l. cond-true (ltb i ((words_of g.wide w).refs b)) _ 0 (lt-ltb i _ (subst (λ z. i < z) (sym (ap (λ z. refs_of g.wide z (w (Tag b))) dying.0)) l)) ∙ word_empty i l,
     record {
       lives = λ i. at1_part (λ (x : ℕ). (header_of x).live) word b 0 i ∙ ap (λ z. at1 (λ j. (headers w j).live) b z i) header_of_zero;
-      shapes = λ i. at1_all (λ (j x : ℕ). cond (header_of x).live (w (Tag j) / 2 ^ 20) 0 ≡ at1 shape b 0 j) word b 0 i
-          (ap (λ z. cond z (w (Tag b) / 2 ^ 20) 0) header_of_zero ∙ sym (at1_here shape b 0)) (λ n. sym (at1_other shape b 0 i n));
+      shapes = λ i. at1_all (λ (j x : ℕ). cond (header_of x).live (tag_shape g.wide (w (Tag j))) 0 ≡ at1 shape b 0 j) word b 0 i
+          (ap (λ z. cond z (tag_shape g.wide (w (Tag b))) 0) header_of_zero ∙ sym (at1_here shape b 0)) (λ n. sym (at1_other shape b 0 i n));
       targets = λ q. ap (λ (f : Spot → ℕ). f q) path;
       held_overs = λ _. refl;
     },
   )
     where
       shape : ℕ → ℕ
-      shape = λ j. cond (headers w j).live (w (Tag j) / 2 ^ 20) 0
+      shape = λ j. cond (headers w j).live (tag_shape g.wide (w (Tag j))) 0

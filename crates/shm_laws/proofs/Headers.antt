@@ -1,11 +1,11 @@
 -- the header of a live block is exchanged for a live one: what stays, and which blocks die where a count is lowered
-use Rattle.std.proofs.Common.{◌≡◌, ◌≢◌, ℕ, ◌/◌, ◌^◌, ◌<◌, refl, sym, ap, ◌∙◌, true, false, Bool, cond, eqb, eq-eqb, subst, inl, inr, ◌⊎◌, List, [], ◌∷◌, ◌++◌, Option, Some, None}
+use Rattle.std.proofs.Common.{◌≡◌, ◌≢◌, ℕ, ◌<◌, refl, sym, ap, ◌∙◌, true, false, Bool, cond, eqb, eq-eqb, subst, inl, inr, ◌⊎◌, List, [], ◌∷◌, ◌++◌, Option, Some, None}
 use Rattle.std.specs.List.{Contains}
 use Rattle.std.proofs.lemmas.List.Elements.{Contains-push, Contains-push_cases, Contains-append_left}
 use Rattle.std.proofs.lemmas.Bool.{cases_Bool, cases_eq, true≢false, eqb-true}
 use Rattle.shm_words.specs.Headers.{header_of}
 use Rattle.shm_words.specs.declared.geometry.Geometry.{Geometry}
-use Rattle.shm_words.specs.Tags.{tag_link}
+use Rattle.shm_words.specs.Tags.{tag_link, tag_shape}
 use Rattle.shm_words.proofs.Words.{live_not_zero}
 use Rattle.shm_graph.specs.declared.spot.Spot.{Spot}
 use Rattle.shm_graph.specs.declared.spot.Spot.TheVariants.{Segment, Page, Head, Tag, Body}
@@ -33,8 +33,8 @@ module _ (g : Geometry) (w : Spot → ℕ) (v : View) (h : HeldAt g w v) (b to :
   live_stays i = at1_all (λ (j x : ℕ). (header_of x).live ≡ (header_of (word j)).live) word b to i (now ∙ sym live) (λ _. refl)
 
   -- the shapes of the blocks stay
-  pub shape_stays : (i : ℕ) → cond (headers (upd w (Head b) to) i).live (w (Tag i) / 2 ^ 20) 0 ≡ cond (headers w i).live (w (Tag i) / 2 ^ 20) 0
-  shape_stays i = ap (λ z. cond z (w (Tag i) / 2 ^ 20) 0) (live_stays i)
+  pub shape_stays : (i : ℕ) → cond (headers (upd w (Head b) to) i).live (tag_shape g.wide (w (Tag i))) 0 ≡ cond (headers w i).live (tag_shape g.wide (w (Tag i))) 0
+  shape_stays i = ap (λ z. cond z (tag_shape g.wide (w (Tag i))) 0) (live_stays i)
 
   -- zero-count blocks stay those that they are
   pub dying_stays : (d i : ℕ) → IsDying (headers w i) d → IsDying (headers (upd w (Head b) to) i) d
@@ -52,8 +52,8 @@ module _ (g : Geometry) (w : Spot → ℕ) (v : View) (h : HeldAt g w v) (b to :
   blocks_stay =
       record {
         plain = λ i. at1_all (λ (j x : ℕ). (header_of x).live ≡ false → x ≡ 0) word b to i (λ dead. absurd (true≢false (sym now ∙ dead))) (λ n. h.blocks.plain i);
-        tagged = λ i. at1_all (λ (j x : ℕ). (header_of x).live ≡ true → TagSound g.clients (class_at g (classes w) j) (w (Tag j))) word b to i (λ _. h.blocks.tagged b live) (λ n. h.blocks.tagged i);
-        link = λ i. at1_all (λ (j x : ℕ). (header_of x).live ≡ true → (header_of x).count ≢ 0 → tag_link (w (Tag j)) ≡ 0) word b to i (λ _ _. h.blocks.link b live counted) (λ n. h.blocks.link i);
+        tagged = λ i. at1_all (λ (j x : ℕ). (header_of x).live ≡ true → TagSound g.wide g.clients (class_at g (classes w) j) (w (Tag j))) word b to i (λ _. h.blocks.tagged b live) (λ n. h.blocks.tagged i);
+        link = λ i. at1_all (λ (j x : ℕ). (header_of x).live ≡ true → (header_of x).count ≢ 0 → tag_link g.wide (w (Tag j)) ≡ 0) word b to i (λ _ _. h.blocks.link b live counted) (λ n. h.blocks.link i);
       }
 
   -- a free block is another block
@@ -70,15 +70,15 @@ module _ (g : Geometry) (w : Spot → ℕ) (v : View) (h : HeldAt g w v) (b to :
   zero_stays d _ z = absurd z
 
   -- the numbers of reference words stay
-  pub refs_stay : (d : ℕ) → (words_of (upd w (Head b) to)).refs d ≡ (words_of w).refs d
-  refs_stay d = ap (λ z. refs_of z (w (Tag d))) (live_stays d)
+  pub refs_stay : (d : ℕ) → (words_of g.wide (upd w (Head b) to)).refs d ≡ (words_of g.wide w).refs d
+  refs_stay d = ap (λ z. refs_of g.wide z (w (Tag d))) (live_stays d)
 
   -- where one target changed and no block held over did, the graph is the one with that target
   pub graph_stays : (v' : View) (p : Spot) (x : ℕ) → targets g (upd w (Head b) to) v' ≡ upd (targets g w v) p x → held_overs v' ≡ held_overs v → IsSame (with_target (graph_of g w v) p x) (graph_of g (upd w (Head b) to) v')
   graph_stays v' p x path held_over =
       record {
         lives = live_stays;
-        shapes = λ i. ap (λ l. cond l (w (Tag i) / 2 ^ 20) 0) (live_stays i);
+        shapes = λ i. ap (λ l. cond l (tag_shape g.wide (w (Tag i))) 0) (live_stays i);
         targets = λ q. ap (λ f. f q) path;
         held_overs = λ d. ap (λ f. f d) held_over;
       }

@@ -1,5 +1,5 @@
 -- what several kinds use
-use Rattle.std.proofs.Common.{◌≡◌, ◌≢◌, ℕ, refl, sym, ◌∙◌, arith, true, false, Bool, cond, List, [], ◌∷◌}
+use Rattle.std.proofs.Common.{◌≡◌, ◌≢◌, ℕ, refl, sym, ◌∙◌, arith, true, false, Bool, cond, List, [], ◌∷◌, inl, inr}
 use Rattle.std.specs.List.{All, Contains, filter}
 use Rattle.std.proofs.lemmas.List.Elements.{All-nil, All-cons, All-head, All-tail, All-weaker, All-contains, All-contains_itself, Contains-push, Contains-append_left, Contains-append_right}
 use Rattle.std.proofs.lemmas.Bool.{true≢false}
@@ -16,7 +16,7 @@ use Rattle.shm_graph.specs.References.{Words}
 use Rattle.shm_graph.specs.Spots.{IsAt}
 use Rattle.shm_graph.specs.Blocks.{IsBlock}
 use Rattle.shm_graph.specs.Ops.{slot_of, is_op}
-use Rattle.shm_graph.specs.Held.{OpTie, Names, RedoTie}
+use Rattle.shm_graph.specs.Held.{OpTie, FirstNames, RedoTie}
 use Rattle.shm_graph.proofs.Spots.Spotting.{is_at_block, in_pool}
 use Rattle.shm_words.specs.declared.redo.Redo.TheVariants as redos
 
@@ -29,23 +29,23 @@ pub block_not_zero : (g : Geometry) (class : ℕ → ℕ → ℕ) (b : ℕ) → 
 block_not_zero g class b h z = let q = in_pool g class b (Head b) h (λ e. cc) in absurd (omega arith)
 
 -- the tie of an op where another page, or another word, changed
-pub op_moved : (g : Geometry) (class class' : ℕ → ℕ → ℕ) (redo own : ℕ) (x : Words) (o : Op) → ((p : Spot) → is_op o ≡ true → slot_of o ≡ p → IsAt g class p → IsAt g class' p) → OpTie g class redo own x o → OpTie g class' redo own x o
-op_moved g class class' redo own x Nothing f h = h
-op_moved g class class' redo own x (Alloc s p b e) f h = record { spelled = h.spelled; current = h.current; at = f p refl refl h.at; word = h.word }
-op_moved g class class' redo own x (Up s p b e) f h = record { spelled = h.spelled; current = h.current; at = f p refl refl h.at; word = h.word }
-op_moved g class class' redo own x (Down s p b e) f h = record { spelled = h.spelled; current = h.current; at = f p refl refl h.at; word = h.word }
-op_moved g class class' redo own x (Change (Raising s) p a b e) f h = record { spelled = h.spelled; current = h.current; at = f p refl refl h.at; word = h.word }
-op_moved g class class' redo own x (Change (Lowering s) p a b e) f h = record { spelled = h.spelled; current = h.current; at = f p refl refl h.at; word = h.word }
+pub op_moved : (g : Geometry) (class class' : ℕ → ℕ → ℕ) (redo more own : ℕ) (x : Words) (o : Op) → ((p : Spot) → is_op o ≡ true → slot_of o ≡ p → IsAt g class p → IsAt g class' p) → ((b : ℕ) → IsBlock g class b → IsBlock g class' b) → OpTie g class redo more own x o → OpTie g class' redo more own x o
+op_moved g class class' redo more own x Nothing f k h = h
+op_moved g class class' redo more own x (Alloc s p b e) f k h = record { spelled = h.spelled; blocks = k b h.blocks; current = h.current; at = f p refl refl h.at; word = h.word }
+op_moved g class class' redo more own x (Up s p b e) f k h = record { spelled = h.spelled; blocks = k b h.blocks; current = h.current; at = f p refl refl h.at; word = h.word }
+op_moved g class class' redo more own x (Down s p b e) f k h = record { spelled = h.spelled; blocks = k b h.blocks; current = h.current; at = f p refl refl h.at; word = h.word }
+op_moved g class class' redo more own x (Change (Raising s) p a b e) f k h = record { spelled = h.spelled; blocks = (k a h.blocks.0, k b h.blocks.1); current = h.current; at = f p refl refl h.at; word = h.word }
+op_moved g class class' redo more own x (Change (Lowering s) p a b e) f k h = record { spelled = h.spelled; blocks = (k a h.blocks.0, k b h.blocks.1); current = h.current; at = f p refl refl h.at; word = h.word }
 
 -- and so for the tie of a redo word
-pub redo_moved : (g : Geometry) (class class' : ℕ → ℕ → ℕ) (redo : ℕ) → ((b : ℕ) → IsBlock g class b → IsBlock g class' b) → RedoTie g class redo → RedoTie g class' redo
-redo_moved g class class' redo f h r e = go r (h r e)
+pub redo_moved : (g : Geometry) (class class' : ℕ → ℕ → ℕ) (redo more : ℕ) → ((b : ℕ) → IsBlock g class b → IsBlock g class' b) → RedoTie g class redo more → RedoTie g class' redo more
+redo_moved g class class' redo more f h = record { second = elim h.second [ inl z ↦ inl z | inr n ↦ inr (f more n) ]; first = λ x r e. go r (h.first x r e) }
   where
-    go : (r : ARedo) → Names g class r → Names g class' r
+    go : (r : ARedo) → FirstNames g class r → FirstNames g class' r
     go redos.Idle n = n
     go (redos.Up p b) n = f b n
-    go (redos.Down p b) n = f b n
-    go (redos.Change o p a b) n = (f a n.0, f b n.1)
+    go (redos.Down p b) n = λ narrow. f b (n narrow)
+    go (redos.Change o p a b) n = (λ narrow. f a (n.0 narrow), f b n.1)
 
 -- an element that joins a list is in it
 pub newest : {X : Type 0} (x : X) (xs : List X) → Contains (x ∷ xs) x

@@ -1,5 +1,5 @@
 -- the exchange that takes a latch keeps the invariant, and the store that gives it back
-use Rattle.std.proofs.Common.{◌≡◌, ◌≢◌, ℕ, ◌+◌, ◌^◌, ◌<◌, ◌≤◌, refl, sym, ap, ◌∙◌, arith, false, eq-eqb, subst, inl, inr, ◌⊎◌, List, [], ◌∷◌, lit<, Option, Some, None}
+use Rattle.std.proofs.Common.{◌≡◌, ◌≢◌, ℕ, ◌+◌, ◌^◌, ◌<◌, ◌≤◌, refl, sym, ap, ◌∙◌, arith, false, eq-eqb, subst, inl, inr, ◌⊎◌, List, [], ◌∷◌, lit<, Option, Some, None, Bool}
 use Rattle.std.specs.List.{All}
 use Rattle.std.proofs.lemmas.List.Elements.{All-weaker}
 use Rattle.std.proofs.lemmas.Bool.{cases_eq, true≢false, ne_eqb}
@@ -34,10 +34,10 @@ no_looks home home' body body' author author' latch latch' named named' earlier 
     never _ y = absurd y
 
 -- what was known without a latch is known with one
-known_latched : (c : ℕ) (tag : ℕ → ℕ) (body : ℕ → ℕ → ℕ) (slot : ℕ → ℕ → ℕ → ℕ) (tail queue_head : ℕ → ℕ → ℕ) (untaken : ℕ → ℕ) (latch latch' : Option ℕ) (reach : ℕ → Type 0) (dying : List ℕ) (p : Spot) (x : ℕ) → latch ≡ None
-    → KnownAt c tag body slot tail queue_head untaken latch reach dying p x → KnownAt c tag body slot tail queue_head untaken latch' reach dying p x
-known_latched c tag body slot tail queue_head untaken latch latch' reach dying (Tag b) x none k = k
-known_latched c tag body slot tail queue_head untaken latch latch' reach dying (Body b i) x none k = (
+known_latched : (wide : Bool) (c : ℕ) (tag : ℕ → ℕ) (body : ℕ → ℕ → ℕ) (slot : ℕ → ℕ → ℕ → ℕ) (tail queue_head : ℕ → ℕ → ℕ) (untaken : ℕ → ℕ) (latch latch' : Option ℕ) (reach : ℕ → Type 0) (dying : List ℕ) (p : Spot) (x : ℕ) → latch ≡ None
+    → KnownAt wide c tag body slot tail queue_head untaken latch reach dying p x → KnownAt wide c tag body slot tail queue_head untaken latch' reach dying p x
+known_latched wide c tag body slot tail queue_head untaken latch latch' reach dying (Tag b) x none k = k
+known_latched wide c tag body slot tail queue_head untaken latch latch' reach dying (Body b i) x none k = (
   k.0,
   elim k.1 [
     | inl u ↦ inl u
@@ -45,13 +45,13 @@ known_latched c tag body slot tail queue_head untaken latch latch' reach dying (
       u.0,
       elim u.1 [
         | inl r ↦ inl r
-        | inr r ↦ inr (elim r [ inl f ↦ inl f | inr f ↦ absurd (let q : None ≡ Some (tag_author (tag b)) = sym none ∙ f in cc) ])
+        | inr r ↦ inr (elim r [ inl f ↦ inl f | inr f ↦ absurd (let q : None ≡ Some (tag_author wide (tag b)) = sym none ∙ f in cc) ])
       ],
     )
   ],
 )
-known_latched c tag body slot tail queue_head untaken latch latch' reach dying (Slot s r i) x none k = k
-known_latched c tag body slot tail queue_head untaken latch latch' reach dying _ x none k = absurd k
+known_latched wide c tag body slot tail queue_head untaken latch latch' reach dying (Slot s r i) x none k = k
+known_latched wide c tag body slot tail queue_head untaken latch latch' reach dying _ x none k = absurd k
 
 pub latch_kept : (g : Geometry) (w : Spot → ℕ) (v : View) (c a' : ℕ) → HeldAt g w v → LatchNeeds g w v c a' → HeldAt g (upd w (Latch a') (c + 1)) (latch_view v c a')
 latch_kept g w v c a' h a =
@@ -86,12 +86,12 @@ latch_kept g w v c a' h a =
         | inr n ↦ rw (ne_eqb c d n) (h.slots d l is)
       ];
       looks = λ d l. elim (cases_eq c d) [
-        | inl x ↦ subst (λ j. LooksSound (λ a. t (Home a)) (λ b i. t (Body b i)) (λ b. tag_author (w (Tag b))) (v'.latch j) (Named j) [] (v.looks j)) x (no_looks (λ a. t (Home a)) (λ a. t (Home a)) (λ b i. t (Body b i)) (λ b i. t (Body b i)) (λ b. tag_author (w (Tag b))) (λ b. tag_author (w (Tag b))) (v.latch c) (v'.latch c) (Named c) (Named c) [] (v.looks c) a.none (h.looks c a.inside))
+        | inl x ↦ subst (λ j. LooksSound (λ a. t (Home a)) (λ b i. t (Body b i)) (λ b. tag_author g.wide (w (Tag b))) (v'.latch j) (Named j) [] (v.looks j)) x (no_looks (λ a. t (Home a)) (λ a. t (Home a)) (λ b i. t (Body b i)) (λ b i. t (Body b i)) (λ b. tag_author g.wide (w (Tag b))) (λ b. tag_author g.wide (w (Tag b))) (v.latch c) (v'.latch c) (Named c) (Named c) [] (v.looks c) a.none (h.looks c a.inside))
         | inr n ↦ rw (ne_eqb c d n) (h.looks d l)
       ];
       lanes = h.lanes;
       known = λ d l. elim (cases_eq c d) [
-        | inl x ↦ subst (λ j. All (λ (s : Stored). KnownAt j tags bodies slot tail queue_head (v.untaken j) (v'.latch j) (reach_of t tail queue_head v.looks j) (v.dying j) s.spot s.value) (v.known j)) x (All-weaker _ _ (λ (s : Stored). known_latched c tags bodies slot tail queue_head (v.untaken c) (v.latch c) (v'.latch c) (reach_of t tail queue_head v.looks c) (v.dying c) s.spot s.value a.none) (v.known c) (h.known c a.inside))
+        | inl x ↦ subst (λ j. All (λ (s : Stored). KnownAt g.wide j tags bodies slot tail queue_head (v.untaken j) (v'.latch j) (reach_of t tail queue_head v.looks j) (v.dying j) s.spot s.value) (v.known j)) x (All-weaker _ _ (λ (s : Stored). known_latched g.wide c tags bodies slot tail queue_head (v.untaken c) (v.latch c) (v'.latch c) (reach_of t tail queue_head v.looks c) (v.dying c) s.spot s.value a.none) (v.known c) (h.known c a.inside))
         | inr n ↦ rw (ne_eqb c d n) (h.known d l)
       ];
       facts = h.facts;
@@ -196,14 +196,14 @@ back_kept g w v c a' kept values h a =
         | inr n ↦ slot_other d n (v'.latch d) (at1_other v.latch c None d n) (slot_of (v.op d)) (h.slots d l is)
       ];
       looks = λ d l. elim (cases_eq c d) [
-        | inl x ↦ subst (λ j. LooksSound (λ a. t (Home a)) (λ b i. t (Body b i)) (λ b. tag_author (w (Tag b))) (v'.latch j) (Named j) [] (v'.looks j)) x (rw (eq-eqb c c refl) tt)
+        | inl x ↦ subst (λ j. LooksSound (λ a. t (Home a)) (λ b i. t (Body b i)) (λ b. tag_author g.wide (w (Tag b))) (v'.latch j) (Named j) [] (v'.looks j)) x (rw (eq-eqb c c refl) tt)
         | inr n ↦ rw (ne_eqb c d n) (h.looks d l)
       ];
       lanes = h.lanes;
       known = λ d l. elim (cases_eq c d) [
-        | inl x ↦ subst (λ j. All (λ (s : Stored). KnownAt j tags bodies slot tail queue_head (v.untaken j) (v'.latch j) (reach_of t tail queue_head v'.looks j) (v.dying j) s.spot s.value) (v'.known j)) x
+        | inl x ↦ subst (λ j. All (λ (s : Stored). KnownAt g.wide j tags bodies slot tail queue_head (v.untaken j) (v'.latch j) (reach_of t tail queue_head v'.looks j) (v.dying j) s.spot s.value) (v'.known j)) x
             (subst (All (Known c)) (sym (at1_here v.known c kept)) (All-weaker _ (Known c) (λ s k. mine_now s.spot s.value (v'.latch c) (at1_here v.latch c None) k) kept a.knows))
-        | inr n ↦ subst (All (Known d)) (sym (at1_other v.known c kept d n)) (All-weaker _ (Known d) (λ s k. subst (λ y. KnownAt d tags bodies slot tail queue_head (v.untaken d) y (reach_of t tail queue_head v'.looks d) (v.dying d) s.spot s.value) (sym (at1_other v.latch c None d n)) (known_kept d tags bodies slot tail queue_head (v.untaken d) (v.latch d) (reach_of t tail queue_head v.looks d) (reach_of t tail queue_head v'.looks d) (v.dying d) (v.dying d) s.spot s.value (reach d n) (λ _ x. x) k)) (v.known d) (h.known d l))
+        | inr n ↦ subst (All (Known d)) (sym (at1_other v.known c kept d n)) (All-weaker _ (Known d) (λ s k. subst (λ y. KnownAt g.wide d tags bodies slot tail queue_head (v.untaken d) y (reach_of t tail queue_head v'.looks d) (v.dying d) s.spot s.value) (sym (at1_other v.latch c None d n)) (known_kept g.wide d tags bodies slot tail queue_head (v.untaken d) (v.latch d) (reach_of t tail queue_head v.looks d) (reach_of t tail queue_head v'.looks d) (v.dying d) (v.dying d) s.spot s.value (reach d n) (λ _ x. x) k)) (v.known d) (h.known d l))
       ];
       facts = h.facts;
       zeros = h.zeros;
@@ -223,8 +223,8 @@ back_kept g w v c a' kept values h a =
       part = h.part;
       queued = h.queued;
       values = λ d l. elim (cases_eq c d) [
-        | inl x ↦ subst (λ j. All (ValueAt (contents_of w t) (reach_of t tail queue_head v'.looks j)) (v'.values j)) x (subst (All (ValueAt (contents_of w t) (reach_of t tail queue_head v'.looks c))) (sym (at1_here v.values c values)) (All-weaker (ValueAt (contents_of w t) (reach_of t tail queue_head (λ d. []) c)) (ValueAt (contents_of w t) (reach_of t tail queue_head v'.looks c)) (λ b y. (y.0, mine_reach b y.1)) values a.valued))
-        | inr n ↦ subst (All (ValueAt (contents_of w t) (reach_of t tail queue_head v'.looks d))) (sym (at1_other v.values c values d n)) (All-weaker (ValueAt (contents_of w t) (reach_of t tail queue_head v.looks d)) (ValueAt (contents_of w t) (reach_of t tail queue_head v'.looks d)) (λ b y. (y.0, reach d n b y.1)) (v.values d) (h.values d l))
+        | inl x ↦ subst (λ j. All (ValueAt (contents_of g.wide w t) (reach_of t tail queue_head v'.looks j)) (v'.values j)) x (subst (All (ValueAt (contents_of g.wide w t) (reach_of t tail queue_head v'.looks c))) (sym (at1_here v.values c values)) (All-weaker (ValueAt (contents_of g.wide w t) (reach_of t tail queue_head (λ d. []) c)) (ValueAt (contents_of g.wide w t) (reach_of t tail queue_head v'.looks c)) (λ b y. (y.0, mine_reach b y.1)) values a.valued))
+        | inr n ↦ subst (All (ValueAt (contents_of g.wide w t) (reach_of t tail queue_head v'.looks d))) (sym (at1_other v.values c values d n)) (All-weaker (ValueAt (contents_of g.wide w t) (reach_of t tail queue_head v.looks d)) (ValueAt (contents_of g.wide w t) (reach_of t tail queue_head v'.looks d)) (λ b y. (y.0, reach d n b y.1)) (v.values d) (h.values d l))
       ];
       made = h.made;
     }
@@ -281,13 +281,13 @@ back_kept g w v c a' kept values h a =
     mine_reach : (i : ℕ) → reach_of t tail queue_head (λ d. []) c i → reach_of t tail queue_head v'.looks c i
     mine_reach i u = elim u [ inl q ↦ inl q | inr q ↦ inr (subst (λ z. InLooks z i) (sym (at1_here v.looks c [])) q) ]
 
-    slot_other : (d : ℕ) → c ≢ d → (y : Option ℕ) → y ≡ v.latch d → (p : Spot) → SlotOf d heads tags (v.latch d) tail queue_head (reach_of t tail queue_head v.looks d) p → SlotOf d heads tags y tail queue_head (reach_of t tail queue_head v'.looks d) p
-    slot_other d n y e p x = subst (λ z. SlotOf d heads tags z tail queue_head (reach_of t tail queue_head v'.looks d) p) (sym e) (slot_kept d heads heads tags (v.latch d) tail queue_head (reach_of t tail queue_head v.looks d) (reach_of t tail queue_head v'.looks d) p (λ _ q. inl q) (λ _ q. q) (reach d n) x)
+    slot_other : (d : ℕ) → c ≢ d → (y : Option ℕ) → y ≡ v.latch d → (p : Spot) → SlotOf g.wide d heads tags (v.latch d) tail queue_head (reach_of t tail queue_head v.looks d) p → SlotOf g.wide d heads tags y tail queue_head (reach_of t tail queue_head v'.looks d) p
+    slot_other d n y e p x = subst (λ z. SlotOf g.wide d heads tags z tail queue_head (reach_of t tail queue_head v'.looks d) p) (sym e) (slot_kept g.wide d heads heads tags (v.latch d) tail queue_head (reach_of t tail queue_head v.looks d) (reach_of t tail queue_head v'.looks d) p (λ _ q. inl q) (λ _ q. q) (reach d n) x)
 
     Known : ℕ → Stored → Type 0
-    Known d s = KnownAt d tags bodies slot tail queue_head (v.untaken d) (v'.latch d) (reach_of t tail queue_head v'.looks d) (v.dying d) s.spot s.value
+    Known d s = KnownAt g.wide d tags bodies slot tail queue_head (v.untaken d) (v'.latch d) (reach_of t tail queue_head v'.looks d) (v.dying d) s.spot s.value
 
-    mine_now : (p : Spot) (x : ℕ) (y : Option ℕ) → y ≡ None → KnownAt c tags bodies slot tail queue_head (v.untaken c) None (reach_of t tail queue_head (λ d. []) c) (v.dying c) p x → KnownAt c tags bodies slot tail queue_head (v.untaken c) y (reach_of t tail queue_head v'.looks c) (v.dying c) p x
-    mine_now p x y e k = subst (λ z. KnownAt c tags bodies slot tail queue_head (v.untaken c) z (reach_of t tail queue_head v'.looks c) (v.dying c) p x) (sym e)
-        (known_kept c tags bodies slot tail queue_head (v.untaken c) None (reach_of t tail queue_head (λ d. []) c) (reach_of t tail queue_head v'.looks c) (v.dying c) (v.dying c) p x
+    mine_now : (p : Spot) (x : ℕ) (y : Option ℕ) → y ≡ None → KnownAt g.wide c tags bodies slot tail queue_head (v.untaken c) None (reach_of t tail queue_head (λ d. []) c) (v.dying c) p x → KnownAt g.wide c tags bodies slot tail queue_head (v.untaken c) y (reach_of t tail queue_head v'.looks c) (v.dying c) p x
+    mine_now p x y e k = subst (λ z. KnownAt g.wide c tags bodies slot tail queue_head (v.untaken c) z (reach_of t tail queue_head v'.looks c) (v.dying c) p x) (sym e)
+        (known_kept g.wide c tags bodies slot tail queue_head (v.untaken c) None (reach_of t tail queue_head (λ d. []) c) (reach_of t tail queue_head v'.looks c) (v.dying c) (v.dying c) p x
         mine_reach (λ _ q. q) k)

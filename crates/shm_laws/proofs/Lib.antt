@@ -30,6 +30,7 @@ pub mod LookLoad
 pub mod LooksCut
 pub mod Quiet
 pub mod HoldStore
+pub mod MoreStore
 pub mod SegmentClaim
 pub mod SegmentBack
 pub mod HomeStore

@@ -1,14 +1,16 @@
 -- the store of the link of a dying block keeps the invariant, and leaves the graph
 use Rattle.std.proofs.Math.Path.{fun_ext}
-use Rattle.std.proofs.Common.{◌≡◌, ◌≢◌, ℕ, ◌/◌, ◌^◌, ◌<◌, refl, sym, ap, ◌∙◌, arith, true, not, subst, inl, List, ◌∷◌, Option, Some, None}
+use Rattle.shm_words.specs.Tags.{tag_shape, tag_limit}
+use Rattle.std.proofs.Common.{◌≡◌, ◌≢◌, ℕ, ◌^◌, ◌<◌, refl, sym, ap, ◌∙◌, arith, true, not, subst, inl, List, ◌∷◌, Option, Some, None}
 use Rattle.std.specs.List.{All, filter}
 use Rattle.std.proofs.lemmas.List.Elements.{All-cons, All-weaker}
 use Rattle.std.proofs.lemmas.Bool.{eq-eqb, true≢false}
 use Rattle.shm_words.specs.declared.geometry.Geometry.{Geometry}
 use Rattle.shm_words.specs.Headers.{header_of}
 use Rattle.shm_words.proofs.Words.{live_not_zero}
+use Rattle.shm_words.proofs.Words.{tag_limit_small}
 use Rattle.shm_graph.specs.declared.spot.Spot.{Spot}
-use Rattle.shm_graph.specs.declared.spot.Spot.TheVariants.{Spare, Status, Redo, Hold, Latch, Home, Era, Root, Tail, QueueHead, Slot, Segment, Page, Unused, Head, Tag, Body}
+use Rattle.shm_graph.specs.declared.spot.Spot.TheVariants.{Spare, Status, Redo, RedoMore, Hold, Latch, Home, Era, Root, Tail, QueueHead, Slot, Segment, Page, Unused, Head, Tag, Body}
 use Rattle.shm_graph.specs.declared.memo.Making.{Making}
 use Rattle.shm_graph.specs.declared.memo.Stored.{Stored}
 use Rattle.shm_graph.specs.Spots.{IsAt, same_spot, upd}
@@ -42,12 +44,12 @@ module _ (g : Geometry) (w : Spot → ℕ) (v : View) (c b x : ℕ) (h : HeldAt 
   may : BlocksMay g w c tag bodies
   may =
       record {
-        small_tag = λ d. at1_all (λ (j y : ℕ). y < 2 ^ 64) tags b x d (let s = a.small in omega arith) (λ _. h.small (Tag d));
+        small_tag = λ d. at1_all (λ (j y : ℕ). y < 2 ^ 64) tags b x d (let s = a.small in let m = tag_limit_small g.wide in omega arith) (λ _. h.small (Tag d));
         small_body = λ d i. h.small (Body d i);
         tag_there = λ d. at1_all (λ (j y : ℕ). y ≢ 0 → IsAt g (λ s q. w (Page s q)) (Tag j)) tags b x d (λ _. a.place) (λ _. h.there (Tag d));
         body_there = λ d i. h.there (Body d i);
-        shape = λ d. at1_all (λ (j y : ℕ). (header_of (w (Head j))).live ≡ true → y / 2 ^ 20 ≡ w (Tag j) / 2 ^ 20) tags b x d (λ _. a.shape) (λ _ _. refl);
-        size = λ d. at1_all (λ (j y : ℕ). (header_of (w (Head j))).live ≡ true → y < 2 ^ 35) tags b x d (λ _. a.small) (λ _ l. (h.blocks.tagged d l).small);
+        shape = λ d. at1_all (λ (j y : ℕ). (header_of (w (Head j))).live ≡ true → tag_shape g.wide y ≡ tag_shape g.wide (w (Tag j))) tags b x d (λ _. a.shape) (λ _ _. refl);
+        size = λ d. at1_all (λ (j y : ℕ). (header_of (w (Head j))).live ≡ true → y < tag_limit g.wide) tags b x d (λ _. a.small) (λ _ l. (h.blocks.tagged d l).small);
         same = λ d. at1_all (λ (j y : ℕ). (header_of (w (Head j))).live ≡ true → (IsDying (header_of (w (Head j))) c → ⊥) → y ≡ w (Tag j)) tags b x d (λ _ n. absurd (n dying)) (λ _ _ _. refl);
         inner = λ d i l. refl;
       }
@@ -85,6 +87,7 @@ module _ (g : Geometry) (w : Spot → ℕ) (v : View) (c b x : ℕ) (h : HeldAt 
       go Spare = refl
       go (Status d) = refl
       go (Redo d) = refl
+      go (RedoMore d) = refl
       go (Hold d) = refl
       go (Latch d) = refl
       go (Home d) = refl

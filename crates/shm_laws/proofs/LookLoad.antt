@@ -53,9 +53,9 @@ look_kept g w v c b i h a =
       redo = h.redo;
       allowed = h.allowed;
       count = h.count;
-      slots = λ d l is. slot_kept d heads heads tags (v.latch d) tail queue_head (reach_of t tail queue_head v.looks d) (reach_of t tail queue_head v'.looks d) (slot_of (v.op d)) (λ _ q. inl q) (λ _ q. q) (reach d) (h.slots d l is);
-      looks = λ d. at1_all (λ (j : ℕ) (x : List Look). j < g.clients → LooksSound (λ a. t (Home a)) (λ b i. t (Body b i)) (λ b. tag_author (w (Tag b))) (v.latch j) (Named j) [] x) v.looks c (v.looks c ++ new ∷ []) d
-          (λ l. looks_push (λ a. t (Home a)) (λ b i. t (Body b i)) (λ b. tag_author (w (Tag b))) (v.latch c) (Named c) (v.looks c) [] new (h.looks c l) (a.some, a.latch, seen, elim a.reach [ inl u ↦ inl u | inr u ↦ inr (inr u) ]))
+      slots = λ d l is. slot_kept g.wide d heads heads tags (v.latch d) tail queue_head (reach_of t tail queue_head v.looks d) (reach_of t tail queue_head v'.looks d) (slot_of (v.op d)) (λ _ q. inl q) (λ _ q. q) (reach d) (h.slots d l is);
+      looks = λ d. at1_all (λ (j : ℕ) (x : List Look). j < g.clients → LooksSound (λ a. t (Home a)) (λ b i. t (Body b i)) (λ b. tag_author g.wide (w (Tag b))) (v.latch j) (Named j) [] x) v.looks c (v.looks c ++ new ∷ []) d
+          (λ l. looks_push (λ a. t (Home a)) (λ b i. t (Body b i)) (λ b. tag_author g.wide (w (Tag b))) (v.latch c) (Named c) (v.looks c) [] new (h.looks c l) (a.some, a.latch, seen, elim a.reach [ inl u ↦ inl u | inr u ↦ inr (inr u) ]))
           (λ m. h.looks d);
       lanes = h.lanes;
       known = λ d. at1_all (λ (j : ℕ) (x : List Stored). j < g.clients → All (Known j) x) v.known c (learnt (Body b i) (w (Body b i)) (v.known c)) d
@@ -75,7 +75,7 @@ look_kept g w v c b i h a =
       parts = h.parts;
       part = h.part;
       queued = h.queued;
-      values = λ d l. All-weaker (ValueAt (contents_of w t) (reach_of t tail queue_head v.looks d)) (ValueAt (contents_of w t) (reach_of t tail queue_head v'.looks d)) (λ j y. (y.0, reach d j y.1)) (v.values d) (h.values d l);
+      values = λ d l. All-weaker (ValueAt (contents_of g.wide w t) (reach_of t tail queue_head v.looks d)) (ValueAt (contents_of g.wide w t) (reach_of t tail queue_head v'.looks d)) (λ j y. (y.0, reach d j y.1)) (v.values d) (h.values d l);
       made = h.made;
     }
   where
@@ -132,17 +132,17 @@ look_kept g w v c b i h a =
     covers : (d : ℕ) → d < g.clients → (y : ℕ) → cover (cover_of (v.op d)) (Body b i) y ≡ y
     covers d l y = elim (cases_eq c d) [
       | inl x ↦ cover_idle (v.op d) (Body b i) (ap (λ j. is_op (v.op j)) (sym x) ∙ no_op) y
-      | inr n ↦ apart d heads tags (v.latch d) tail queue_head (reach_of t tail queue_head v.looks d) (v.op d) (Body b i) (h.slots d l) (λ x. elim x.2 [ inl u ↦ counted.1 u.0 | inr u ↦ n (one_latch g w v h c d (tag_author (w (Tag b))) a.inside l a.latch (u.1 ∙ ap Some (sym u.0))) ]) y
+      | inr n ↦ apart g.wide d heads tags (v.latch d) tail queue_head (reach_of t tail queue_head v.looks d) (v.op d) (Body b i) (h.slots d l) (λ x. elim x.2 [ inl u ↦ counted.1 u.0 | inr u ↦ n (one_latch g w v h c d (tag_author g.wide (w (Tag b))) a.inside l a.latch (u.1 ∙ ap Some (sym u.0))) ]) y
     ]
 
     seen : t (Body b i) ≡ w (Body b i)
     seen =
-        let r : (words_of w).refs b ≡ tag_refs (w (Tag b)) = ap (λ z. refs_of z (w (Tag b))) counted.0 in
-        let l : i < (words_of w).refs b = subst (λ z. i < z) (sym r) a.refs in
-        cond-true (ltb i ((words_of w).refs b)) (covered (λ d. cover_of (v.op d)) g.clients (Body b i) (w (Body b i))) 0 (lt-ltb i ((words_of w).refs b) l) ∙ covered_none g.clients (Body b i) (w (Body b i)) (λ d. cover_of (v.op d)) covers
+        let r : (words_of g.wide w).refs b ≡ tag_refs g.wide (w (Tag b)) = ap (λ z. refs_of g.wide z (w (Tag b))) counted.0 in
+        let l : i < (words_of g.wide w).refs b = subst (λ z. i < z) (sym r) a.refs in
+        cond-true (ltb i ((words_of g.wide w).refs b)) (covered (λ d. cover_of (v.op d)) g.clients (Body b i) (w (Body b i))) 0 (lt-ltb i ((words_of g.wide w).refs b) l) ∙ covered_none g.clients (Body b i) (w (Body b i)) (λ d. cover_of (v.op d)) covers
 
     Known : ℕ → Stored → Type 0
-    Known d s = KnownAt d tags bodies slot tail queue_head (v.untaken d) (v.latch d) (reach_of t tail queue_head v'.looks d) (v.dying d) s.spot s.value
+    Known d s = KnownAt g.wide d tags bodies slot tail queue_head (v.untaken d) (v.latch d) (reach_of t tail queue_head v'.looks d) (v.dying d) s.spot s.value
 
-    old : (d : ℕ) (p : Spot) (x : ℕ) → KnownAt d tags bodies slot tail queue_head (v.untaken d) (v.latch d) (reach_of t tail queue_head v.looks d) (v.dying d) p x → KnownAt d tags bodies slot tail queue_head (v.untaken d) (v.latch d) (reach_of t tail queue_head v'.looks d) (v.dying d) p x
-    old d p x = known_kept d tags bodies slot tail queue_head (v.untaken d) (v.latch d) (reach_of t tail queue_head v.looks d) (reach_of t tail queue_head v'.looks d) (v.dying d) (v.dying d) p x (reach d) (λ _ y. y)
+    old : (d : ℕ) (p : Spot) (x : ℕ) → KnownAt g.wide d tags bodies slot tail queue_head (v.untaken d) (v.latch d) (reach_of t tail queue_head v.looks d) (v.dying d) p x → KnownAt g.wide d tags bodies slot tail queue_head (v.untaken d) (v.latch d) (reach_of t tail queue_head v'.looks d) (v.dying d) p x
+    old d p x = known_kept g.wide d tags bodies slot tail queue_head (v.untaken d) (v.latch d) (reach_of t tail queue_head v.looks d) (reach_of t tail queue_head v'.looks d) (v.dying d) (v.dying d) p x (reach d) (λ _ y. y)

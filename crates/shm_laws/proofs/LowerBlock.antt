@@ -8,7 +8,7 @@ use Rattle.shm_words.specs.Headers.{header_of}
 use Rattle.shm_graph.specs.References.{one_if, words_of}
 use Rattle.shm_words.specs.declared.geometry.Geometry.{Geometry}
 use Rattle.shm_graph.specs.declared.spot.Spot.{Spot}
-use Rattle.shm_graph.specs.declared.spot.Spot.TheVariants.{Redo, Home, Era, Root, Tail, QueueHead, Slot, Head, Body}
+use Rattle.shm_graph.specs.declared.spot.Spot.TheVariants.{Redo, RedoMore, Home, Era, Root, Tail, QueueHead, Slot, Head, Body}
 use Rattle.shm_graph.specs.declared.memo.First.TheVariants.{Begun, Committed}
 use Rattle.shm_graph.specs.declared.memo.Op.{Op}
 use Rattle.shm_graph.specs.declared.memo.Op.TheVariants.{Down}
@@ -40,12 +40,12 @@ module _ (g : Geometry) (w : Spot → ℕ) (v : View) (c b e n to : ℕ) (p : Sp
   mine_at : Holds w g v c p
   mine_at = let q : Holds w g v c (slot_of (Down Begun p b e)) = subst (λ x. Holds w g v c (slot_of x)) a.op (h.slots c a.inside (ap is_op a.op)) in q
 
-  op_sound : OpSound g (classes w) (w (Redo c)) (w (Era c c)) (word_at (words_of w) p) p (redos.Down (spot_address g p) b) e b
-  op_sound = let q : OpTie g (classes w) (w (Redo c)) (w (Era c c)) (words_of w) (Down Begun p b e) = subst (OpTie g (classes w) (w (Redo c)) (w (Era c c)) (words_of w)) a.op (h.op c a.inside) in q
+  op_sound : OpSound g (classes w) (w (Redo c)) (w (RedoMore c)) (w (Era c c)) (word_at (words_of g.wide w) p) p (redos.Down (spot_address g p) b) e b
+  op_sound = let q : OpTie g (classes w) (w (Redo c)) (w (RedoMore c)) (w (Era c c)) (words_of g.wide w) (Down Begun p b e) = subst (OpTie g (classes w) (w (Redo c)) (w (RedoMore c)) (w (Era c c)) (words_of g.wide w)) a.op (h.op c a.inside) in q
 
   -- the slot names the block
   holds : targets g w v p ≡ b
-  holds = slot_names g w v h c p a.inside mine_at ∙ (ap (λ z. cover (cover_of z) p (word_at (words_of w) p)) a.op ∙ op_sound.word)
+  holds = slot_names g w v h c p a.inside mine_at ∙ (ap (λ z. cover (cover_of z) p (word_at (words_of g.wide w) p)) a.op ∙ op_sound.word)
 
   live : (headers w b).live ≡ true
   live = subst (λ i. (headers w i).live ≡ true) holds (h.count.targets p (λ z. a.some (sym holds ∙ z)))

@@ -6,7 +6,7 @@ use Rattle.std.proofs.lemmas.Bool.{cases_Bool, cases_eq, true≢false}
 use Rattle.shm_words.specs.Headers.{header_of}
 use Rattle.shm_words.specs.declared.geometry.Geometry.{Geometry}
 use Rattle.shm_graph.specs.declared.spot.Spot.{Spot}
-use Rattle.shm_graph.specs.declared.spot.Spot.TheVariants.{Spare, Status, Redo, Hold, Latch, Home, Era, Root, Tail, QueueHead, Slot, Segment, Page, Unused, Head, Tag, Body}
+use Rattle.shm_graph.specs.declared.spot.Spot.TheVariants.{Spare, Status, Redo, RedoMore, Hold, Latch, Home, Era, Root, Tail, QueueHead, Slot, Segment, Page, Unused, Head, Tag, Body}
 use Rattle.shm_graph.specs.declared.memo.Making.{Making}
 use Rattle.shm_graph.specs.declared.memo.Fact.{Fact}
 use Rattle.shm_graph.specs.declared.memo.Test.{Test}
@@ -46,12 +46,12 @@ class_kept g w v c s q k h e =
       blocks = record {
         plain = h.blocks.plain;
         link = h.blocks.link;
-        tagged = λ b l. subst (λ z. TagSound g.clients z (w (Tag b))) (sym (page_of_block g class s q k b zero.0 (live_block g w h.there b l))) (h.blocks.tagged b l);
+        tagged = λ b l. subst (λ z. TagSound g.wide g.clients z (w (Tag b))) (sym (page_of_block g class s q k b zero.0 (live_block g w h.there b l))) (h.blocks.tagged b l);
       };
       era = h.era;
       own = h.own;
-      op = λ d l. op_moved g class class' (w (Redo d)) (w (Era d d)) (words_of w) (v.op d) (λ p i o at. stays_at g class s q k (spot_address g p) p zero.0 (subst (λ z. is_unused z ≡ false) o (slot_used d (slot_of (v.op d)) (h.slots d l i))) at) (h.op d l);
-      redo = λ d l. redo_moved g class class' (w (Redo d)) block (h.redo d l);
+      op = λ d l. op_moved g class class' (w (Redo d)) (w (RedoMore d)) (w (Era d d)) (words_of g.wide w) (v.op d) (λ p i o at. stays_at g class s q k (spot_address g p) p zero.0 (subst (λ z. is_unused z ≡ false) o (slot_used d (slot_of (v.op d)) (h.slots d l i))) at) block (h.op d l);
+      redo = λ d l. redo_moved g class class' (w (Redo d)) (w (RedoMore d)) block (h.redo d l);
       allowed = h.allowed;
       count = record {
         counts = λ b l. h.count.counts b l ∙ sym (degree_same g class class' (targets g w v) (held_overs v) b same);
@@ -107,6 +107,7 @@ class_kept g w v c s q k h e =
     used Spare n = refl
     used (Status d) n = refl
     used (Redo d) n = refl
+    used (RedoMore d) n = refl
     used (Hold d) n = refl
     used (Latch d) n = refl
     used (Home d) n = refl
@@ -138,7 +139,7 @@ class_kept g w v c s q k h e =
     making d None y = tt
     making d (Some m) y = record { free = y.free; block = block m.block y.block; mine = y.mine; sized = page_of_block g class s q k m.block zero.0 y.block ∙ y.sized; stored = y.stored }
 
-    slot_used : (d : ℕ) (p : Spot) → SlotOf d (λ b. header_of (w (Head b))) (λ b. w (Tag b)) (v.latch d) (λ i j. w (Tail i j)) (λ i j. w (QueueHead i j)) (reach_of (targets g w v) (λ i j. w (Tail i j)) (λ i j. w (QueueHead i j)) v.looks d) p → is_unused p ≡ false
+    slot_used : (d : ℕ) (p : Spot) → SlotOf g.wide d (λ b. header_of (w (Head b))) (λ b. w (Tag b)) (v.latch d) (λ i j. w (Tail i j)) (λ i j. w (QueueHead i j)) (reach_of (targets g w v) (λ i j. w (Tail i j)) (λ i j. w (QueueHead i j)) v.looks d) p → is_unused p ≡ false
     slot_used d (Root i l) x = refl
     slot_used d (Home i) x = refl
     slot_used d (Slot i j l) x = refl
@@ -160,7 +161,7 @@ class_kept g w v c s q k h e =
         | inr n ↦ (let p = spot_at g class' a in
             let at = has_place g w v.op h.there h.op p n in
             let u = target_used p n in
-            let o : spot_address g p ≡ a = alone g class' a p refl (target_not_spare g.clients (words_of w) (λ d. cover_of (v.op d)) p n) in
+            let o : spot_address g p ≡ a = alone g class' a p refl (target_not_spare g.clients (words_of g.wide w) (λ d. cover_of (v.op d)) p n) in
             let y : spot_at g class a ≡ p = sym (ap (spot_at g class) o) ∙ at in
             absurd (n (ap (targets g w v) (sym y ∙ x.0))))
       ])

@@ -9,28 +9,29 @@ use Rattle.shm_graph.specs.Held.{PartTie}
 
 -- what stays of the blocks that are named: they stay live with their tags and plain words, and those of c keep their references
 pub record PartKept (x y : Contents) (named : ℕ → Type 0) (c : ℕ) : Type 0 where
+  pub format : y.wide ≡ x.wide
   pub live : (b : ℕ) → named b → (x.head b).live ≡ true → (y.head b).live ≡ true
   pub tag : (b : ℕ) → named b → (x.head b).live ≡ true → y.tag b ≡ x.tag b
-  pub refs : (b i : ℕ) → named b → (x.head b).live ≡ true → tag_author (x.tag b) ≡ c → i < tag_refs (x.tag b) → y.refs b i ≡ x.refs b i
-  pub body : (b i : ℕ) → named b → (x.head b).live ≡ true → tag_refs (x.tag b) ≤ i → y.body b i ≡ x.body b i
+  pub refs : (b i : ℕ) → named b → (x.head b).live ≡ true → tag_author x.wide (x.tag b) ≡ c → i < tag_refs x.wide (x.tag b) → y.refs b i ≡ x.refs b i
+  pub body : (b i : ℕ) → named b → (x.head b).live ≡ true → tag_refs x.wide (x.tag b) ≤ i → y.body b i ≡ x.body b i
 
 module _ (x y : Contents) (named : ℕ → Type 0) (c : ℕ) (k : PartKept x y named c) where
   pub shape_kept : (refs plain b : ℕ) → named b → HasShape x refs plain b → HasShape y refs plain b
   shape_kept refs plain b n h =
       record {
         live = k.live b n h.live;
-        names = ap tag_refs (k.tag b n h.live) ∙ h.names;
-        words = ap tag_plain (k.tag b n h.live) ∙ h.words;
+        names = ap (λ z. tag_refs z (y.tag b)) k.format ∙ ap (tag_refs x.wide) (k.tag b n h.live) ∙ h.names;
+        words = ap (λ z. tag_plain z (y.tag b)) k.format ∙ ap (tag_plain x.wide) (k.tag b n h.live) ∙ h.words;
       }
 
-  ref_kept : (n b i : ℕ) → named b → HasShape x n 1 b → tag_author (x.tag b) ≡ c → i < n → y.refs b i ≡ x.refs b i
+  ref_kept : (n b i : ℕ) → named b → HasShape x n 1 b → tag_author x.wide (x.tag b) ≡ c → i < n → y.refs b i ≡ x.refs b i
   ref_kept n b i m h a l = k.refs b i m h.live a (let e = h.names in omega arith)
 
   entry_kept : ((d i : ℕ) → named (x.refs d i)) → (bucket : ℕ) (e : Entry) → named e.block → IsEntry x c bucket e → IsEntry y c bucket e
   entry_kept all bucket e n h =
       record {
         shape = shape_kept 2 1 e.block n h.shape;
-        author = ap tag_author (k.tag e.block n h.shape.live) ∙ h.author;
+        author = ap (λ z. tag_author z (y.tag e.block)) k.format ∙ ap (tag_author x.wide) (k.tag e.block n h.shape.live) ∙ h.author;
         key = k.body e.block 2 n h.shape.live (let r = h.shape.names in omega arith) ∙ h.key;
         small = h.small;
         placed = h.placed;
@@ -53,7 +54,7 @@ module _ (x y : Contents) (named : ℕ → Type 0) (c : ℕ) (k : PartKept x y n
       record {
         none = h.none;
         shape = λ z. shape_kept 16 0 home n (h.shape z);
-        author = λ z. ap tag_author (k.tag home n (h.shape z).live) ∙ h.author z;
+        author = λ z. ap (λ z. tag_author z (y.tag home)) k.format ∙ ap (tag_author x.wide) (k.tag home n (h.shape z).live) ∙ h.author z;
         chain = λ z b l. subst (λ a. IsChain y c b a (chains b)) (sym (k.refs home b n (h.shape z).live (h.author z) (let r = (h.shape z).names in omega arith))) (chain_kept all b (x.refs home b) (chains b) (all home b) (h.chain z b l));
         distinct = h.distinct;
         beyond = h.beyond;

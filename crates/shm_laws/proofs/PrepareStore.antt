@@ -1,6 +1,7 @@
 -- the store of a word of a free block that is prepared keeps the invariant, and leaves the graph
 use Rattle.std.proofs.Math.Path.{fun_ext}
-use Rattle.std.proofs.Common.{◌≡◌, ◌≢◌, ℕ, ◌+◌, ◌/◌, ◌^◌, ◌<◌, refl, sym, ap, ◌∙◌, arith, true, false, not, subst, List, [], Option, Some, None}
+use Rattle.shm_words.specs.Tags.{tag_shape, tag_limit}
+use Rattle.std.proofs.Common.{◌≡◌, ◌≢◌, ℕ, ◌+◌, ◌^◌, ◌<◌, refl, sym, ap, ◌∙◌, arith, true, false, not, subst, List, [], Option, Some, None}
 use Rattle.std.specs.List.{All, filter}
 use Rattle.std.proofs.lemmas.List.Elements.{All-nil, All-cons, All-weaker}
 use Rattle.std.proofs.lemmas.Bool.{true≢false, false_from_ne_true}
@@ -8,7 +9,7 @@ use Rattle.shm_words.specs.declared.geometry.Geometry.{Geometry}
 use Rattle.shm_words.specs.Headers.{header_of}
 use Rattle.shm_words.proofs.Words.{live_not_zero}
 use Rattle.shm_graph.specs.declared.spot.Spot.{Spot}
-use Rattle.shm_graph.specs.declared.spot.Spot.TheVariants.{Spare, Status, Redo, Hold, Latch, Home, Era, Root, Tail, QueueHead, Slot, Segment, Page, Unused, Head, Tag, Body}
+use Rattle.shm_graph.specs.declared.spot.Spot.TheVariants.{Spare, Status, Redo, RedoMore, Hold, Latch, Home, Era, Root, Tail, QueueHead, Slot, Segment, Page, Unused, Head, Tag, Body}
 use Rattle.shm_graph.specs.declared.memo.Making.{Making}
 use Rattle.shm_graph.specs.declared.memo.Stored.{Stored}
 use Rattle.shm_graph.specs.Spots.{IsAt, same_spot, upd, class_at, segment_of}
@@ -65,8 +66,8 @@ module _ (g : Geometry) (w : Spot → ℕ) (v : View) (c b k : ℕ) (p : Spot) (
         small_body = λ d i. small_stored w p x (2 ^ 64) a.small h.small (Body d i);
         tag_there = λ d. there_stored (IsAt g class) w p x a.place h.there (Tag d);
         body_there = λ d i. there_stored (IsAt g class) w p x a.place h.there (Body d i);
-        shape = λ d l. ap (λ z. z / 2 ^ 20) (off_tag d (live_other d l));
-        size = λ d l. subst (λ z. z < 2 ^ 35) (sym (off_tag d (live_other d l))) (h.blocks.tagged d l).small;
+        shape = λ d l. ap (tag_shape g.wide) (off_tag d (live_other d l));
+        size = λ d l. subst (λ z. z < tag_limit g.wide) (sym (off_tag d (live_other d l))) (h.blocks.tagged d l).small;
         same = λ d l n. off_tag d (live_other d l);
         inner = λ d i l. off_body d i (live_other d l);
       }
@@ -129,6 +130,7 @@ module _ (g : Geometry) (w : Spot → ℕ) (v : View) (c b k : ℕ) (p : Spot) (
       go Spare = sym (off Spare (λ o. o))
       go (Status d) = sym (off (Status d) (λ o. o))
       go (Redo d) = sym (off (Redo d) (λ o. o))
+      go (RedoMore d) = sym (off (RedoMore d) (λ o. o))
       go (Hold d) = sym (off (Hold d) (λ o. o))
       go (Latch d) = sym (off (Latch d) (λ o. o))
       go (Home d) = sym (off (Home d) (λ o. o))

@@ -117,7 +117,7 @@ module _ (g : Geometry) (w : Spot → ℕ) (v : View) (c : ℕ) (p : Spot) (x : 
   reach d b (inl y) = inl (a.named d b y)
   reach d b (inr y) = inr y
 
-  slots : (d : ℕ) (q : Spot) → c ≢ d → SlotOf d heads tags (v.latch d) tail queue_head (Reach d) q → SlotOf d heads tags (v.latch d) m.tail m.queue_head (Reach' d) q
+  slots : (d : ℕ) (q : Spot) → c ≢ d → SlotOf g.wide d heads tags (v.latch d) tail queue_head (Reach d) q → SlotOf g.wide d heads tags (v.latch d) m.tail m.queue_head (Reach' d) q
   slots d (Root i j) n y = y
   slots d (Home i) n y = y
   slots d (Slot i j k) n y = (
@@ -130,7 +130,7 @@ module _ (g : Geometry) (w : Spot → ℕ) (v : View) (c : ℕ) (p : Spot) (x : 
   slots d (Body b i) n y = (y.0, y.1, elim y.2 [ inl u ↦ inl u | inr u ↦ inr (u.0, u.1, reach d b u.2) ])
   slots d _ n y = absurd y
 
-  known : (d : ℕ) (q : Spot) (y : ℕ) → KnownAt d tags bodies slot tail queue_head (v.untaken d) (v.latch d) (Reach d) (v.dying d) q y → KnownAt d tags bodies slot m.tail m.queue_head (m.untaken d) (v.latch d) (Reach' d) (v.dying d) q y
+  known : (d : ℕ) (q : Spot) (y : ℕ) → KnownAt g.wide d tags bodies slot tail queue_head (v.untaken d) (v.latch d) (Reach d) (v.dying d) q y → KnownAt g.wide d tags bodies slot m.tail m.queue_head (m.untaken d) (v.latch d) (Reach' d) (v.dying d) q y
   known d (Tag b) y k = (k.0, elim k.1 [ inl u ↦ inl u | inr u ↦ inr (reach d b u) ])
   known d (Body b i) y k = (k.0, elim k.1 [ inl u ↦ inl u | inr u ↦ inr (reach d b u.0, u.1) ])
   known d (Slot i j l) y k = let e = a.item d i k.4 in (k.0, k.1, k.2 ∙ ap (λ z. z % 8) (sym e.0), (let q = a.tails_rise i d in let z = k.3 in let s = e.0 in omega arith), e.1, k.5, k.6)
@@ -169,7 +169,7 @@ module _ (g : Geometry) (w : Spot → ℕ) (v : View) (c : ℕ) (p : Spot) (x : 
     allowed = h.allowed;
     count = h.count;
     slots = λ d l is. slots d (slot_of (v.op d)) (λ e. true≢false (sym is ∙ (ap (λ i. is_op (v.op i)) (sym e) ∙ ap is_op a.op))) (h.slots d l is);
-    looks = λ d l. looks_kept (λ i. t (Home i)) (λ i. t (Home i)) (λ i j. t (Body i j)) (λ i j. t (Body i j)) (λ i. tag_author (w (Tag i))) (v.latch d) (named_by t tail queue_head d) (named_by t m.tail m.queue_head d) (λ _ _ _ y. y) (λ _ _ _ _ y. y) (a.named d) [] (v.looks d) (h.looks d l);
+    looks = λ d l. looks_kept (λ i. t (Home i)) (λ i. t (Home i)) (λ i j. t (Body i j)) (λ i j. t (Body i j)) (λ i. tag_author g.wide (w (Tag i))) (v.latch d) (named_by t tail queue_head d) (named_by t m.tail m.queue_head d) (λ _ _ _ y. y) (λ _ _ _ _ y. y) (a.named d) [] (v.looks d) (h.looks d l);
     lanes = a.lanes;
     known = λ d l. All-weaker _ _ (λ (s : Stored). known d s.spot s.value) (v.known d) (h.known d l);
     facts = λ d l. All-weaker _ _ fact (v.facts d) (h.facts d l);
@@ -189,6 +189,6 @@ module _ (g : Geometry) (w : Spot → ℕ) (v : View) (c : ℕ) (p : Spot) (x : 
     parts = h.parts;
     part = h.part;
     queued = h.queued;
-    values = λ d l. All-weaker (ValueAt (contents_of w t) (Reach d)) (ValueAt (contents_of w t) (Reach' d)) (λ b y. (y.0, reach d b y.1)) (v.values d) (h.values d l);
+    values = λ d l. All-weaker (ValueAt (contents_of g.wide w t) (Reach d)) (ValueAt (contents_of g.wide w t) (Reach' d)) (λ b y. (y.0, reach d b y.1)) (v.values d) (h.values d l);
     made = h.made;
   })

@@ -70,10 +70,10 @@ queue_kept g w v c s r k x o h a =
       redo = h.redo;
       allowed = allowed_same g w v h c x o (Slot s r k) a.inside a.slot a.op;
       count = subst (λ (t : Spot → ℕ). CountSound g class heads t (held_overs v')) (sym path) (subst (λ (l : ℕ → ℕ). CountSound g class heads t l) (sym (held_over_same g w v h c x o (Slot s r k) a.inside a.slot a.op)) h.count);
-      slots = subst (λ (t : Spot → ℕ). (d : ℕ) → d < g.clients → is_op (v'.op d) ≡ true → SlotOf d heads tags (v.latch d) tail queue_head (reach_of t tail queue_head v.looks d) (slot_of (v'.op d))) (sym path) (slots_same g w v h c x o (Slot s r k) a.inside a.slot a.op);
-      looks = subst (λ (t : Spot → ℕ). (d : ℕ) → d < g.clients → LooksSound (λ a. t (Home a)) (λ b i. t (Body b i)) (λ b. tag_author (w (Tag b))) (v.latch d) (named_by t tail queue_head d) [] (v.looks d)) (sym path) h.looks;
+      slots = subst (λ (t : Spot → ℕ). (d : ℕ) → d < g.clients → is_op (v'.op d) ≡ true → SlotOf g.wide d heads tags (v.latch d) tail queue_head (reach_of t tail queue_head v.looks d) (slot_of (v'.op d))) (sym path) (slots_same g w v h c x o (Slot s r k) a.inside a.slot a.op);
+      looks = subst (λ (t : Spot → ℕ). (d : ℕ) → d < g.clients → LooksSound (λ a. t (Home a)) (λ b i. t (Body b i)) (λ b. tag_author g.wide (w (Tag b))) (v.latch d) (named_by t tail queue_head d) [] (v.looks d)) (sym path) h.looks;
       lanes = subst (λ (t : Spot → ℕ). (i j : ℕ) → i < g.clients → j < g.clients → i ≢ j → LaneSound (λ k. t (Slot i j k)) (tail i j) (queue_head i j) (v.sent i j) (v.unsent i j) (v.received j i) (v.untaken j i)) (sym path) h.lanes;
-      known = subst (λ (t : Spot → ℕ). (d : ℕ) → d < g.clients → All (λ (z : Stored). KnownAt d tags bodies slot' tail queue_head (v.untaken d) (v.latch d) (reach_of t tail queue_head v.looks d) (v.dying d) z.spot z.value) (v.known d)) (sym path)
+      known = subst (λ (t : Spot → ℕ). (d : ℕ) → d < g.clients → All (λ (z : Stored). KnownAt g.wide d tags bodies slot' tail queue_head (v.untaken d) (v.latch d) (reach_of t tail queue_head v.looks d) (v.dying d) z.spot z.value) (v.known d)) (sym path)
           (λ d l. All-weaker (Old d) (Known d) (λ z. known_kept d l z.spot z.value) (v.known d) (h.known d l));
       facts = subst (λ (on : ℕ → Option ℕ). (d : ℕ) → d < g.clients → All (FactAt g.clients eras on tail queue_head class) (v.facts d)) (sym on) h.facts;
       zeros = h.zeros;
@@ -90,9 +90,9 @@ queue_kept g w v c s r k x o h a =
       no_queue = h.no_queue;
       tails = tails_same g w v h c x o (Slot s r k) a.inside a.slot a.op;
       parts = h.parts;
-      part = subst (λ (t : Spot → ℕ). (d : ℕ) → d < g.clients → PartTie (contents_of w t) d (t (Home d)) (v.part d)) (sym path) h.part;
-      queued = subst (λ (t : Spot → ℕ). (d : ℕ) → d < g.clients → is_loose (v.part d) ≡ false → (s r k : ℕ) → t (Slot s r k) ≢ 0 → HasShape (contents_of w t) 0 1 (t (Slot s r k))) (sym path) h.queued;
-      values = subst (λ (t : Spot → ℕ). (d : ℕ) → d < g.clients → All (ValueAt (contents_of w t) (reach_of t tail queue_head v.looks d)) (v.values d)) (sym path) h.values;
+      part = subst (λ (t : Spot → ℕ). (d : ℕ) → d < g.clients → PartTie (contents_of g.wide w t) d (t (Home d)) (v.part d)) (sym path) h.part;
+      queued = subst (λ (t : Spot → ℕ). (d : ℕ) → d < g.clients → is_loose (v.part d) ≡ false → (s r k : ℕ) → t (Slot s r k) ≢ 0 → HasShape (contents_of g.wide w t) 0 1 (t (Slot s r k))) (sym path) h.queued;
+      values = subst (λ (t : Spot → ℕ). (d : ℕ) → d < g.clients → All (ValueAt (contents_of g.wide w t) (reach_of t tail queue_head v.looks d)) (v.values d)) (sym path) h.values;
       made = subst (λ (t : Spot → ℕ). (d : ℕ) → d < g.clients → All (MadeAt heads (λ k. t (Root d k))) (v.made d)) (sym path) h.made;
     }
   where
@@ -139,10 +139,10 @@ queue_kept g w v c s r k x o h a =
     mine = mine_at g w v h c x o (Slot s r k) a.inside a.slot a.op
 
     Old : ℕ → Stored → Type 0
-    Old d z = KnownAt d tags bodies slot tail queue_head (v.untaken d) (v.latch d) (reach_of t tail queue_head v.looks d) (v.dying d) z.spot z.value
+    Old d z = KnownAt g.wide d tags bodies slot tail queue_head (v.untaken d) (v.latch d) (reach_of t tail queue_head v.looks d) (v.dying d) z.spot z.value
 
     Known : ℕ → Stored → Type 0
-    Known d z = KnownAt d tags bodies slot' tail queue_head (v.untaken d) (v.latch d) (reach_of t tail queue_head v.looks d) (v.dying d) z.spot z.value
+    Known d z = KnownAt g.wide d tags bodies slot' tail queue_head (v.untaken d) (v.latch d) (reach_of t tail queue_head v.looks d) (v.dying d) z.spot z.value
 
     -- the slot's target is its new value
     names : t (Slot s r k) ≡ x
@@ -161,7 +161,7 @@ queue_kept g w v c s r k x o h a =
         sender : i < g.clients
         sender = (lane_clients g class i d (queue_head i d % 8) h.fits (subst (IsAt g class) e (at_slot g w v h c x o (Slot s r k) a.inside a.slot a.op))).0
 
-    known_kept : (d : ℕ) → d < g.clients → (p : Spot) (z : ℕ) → KnownAt d tags bodies slot tail queue_head (v.untaken d) (v.latch d) (reach_of t tail queue_head v.looks d) (v.dying d) p z → KnownAt d tags bodies slot' tail queue_head (v.untaken d) (v.latch d) (reach_of t tail queue_head v.looks d) (v.dying d) p z
+    known_kept : (d : ℕ) → d < g.clients → (p : Spot) (z : ℕ) → KnownAt g.wide d tags bodies slot tail queue_head (v.untaken d) (v.latch d) (reach_of t tail queue_head v.looks d) (v.dying d) p z → KnownAt g.wide d tags bodies slot' tail queue_head (v.untaken d) (v.latch d) (reach_of t tail queue_head v.looks d) (v.dying d) p z
     known_kept d l (Body e j) z y = y
     known_kept d l (Tag e) z y = y
     known_kept d l (Slot i j m) z (to, n, at, some, left, nz, holds) = (to, n, at, some, left, nz, cond-false (same_spot (Slot s r k) (Slot i d m)) x (w (Slot i d m)) apart ∙ holds)

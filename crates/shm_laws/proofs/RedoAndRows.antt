@@ -8,7 +8,7 @@ use Rattle.shm_words.specs.declared.header.Header.{Header}
 use Rattle.shm_words.specs.Headers.{header_of}
 use Rattle.shm_words.specs.declared.geometry.Geometry.{Geometry}
 use Rattle.shm_graph.specs.declared.spot.Spot.{Spot}
-use Rattle.shm_graph.specs.declared.spot.Spot.TheVariants.{Redo, Home, Era, Tail, QueueHead, Slot, Page, Head, Tag, Body, Spare, Root}
+use Rattle.shm_graph.specs.declared.spot.Spot.TheVariants.{Redo, RedoMore, Home, Era, Tail, QueueHead, Slot, Page, Head, Tag, Body, Spare, Root}
 use Rattle.shm_graph.specs.declared.memo.Op.{Op}
 use Rattle.shm_graph.specs.declared.memo.Stored.{Stored}
 use Rattle.shm_graph.specs.declared.memo.Test.{Test}
@@ -31,7 +31,7 @@ pub begin_held_overs : (g : Geometry) (w : Spot → ℕ) (v : View) (c x : ℕ) 
 begin_held_overs g w v c x o a = fun_ext (λ d. at1_all (λ (j : ℕ) (k : Op). held_over_of k ≡ held_over_of (v.op j)) v.op c o d (a.held_over ∙ sym (ap held_over_of a.op)) (λ _. refl))
 
 pub begin_targets : (g : Geometry) (w : Spot → ℕ) (v : View) (c x : ℕ) (o : Op) → BeginNeeds g w v c x o → targets g (upd w (Redo c) x) (begin_view v c x o) ≡ targets g w v
-begin_targets g w v c x o a = ap (target g.clients (words_of w)) covers
+begin_targets g w v c x o a = ap (target g.clients (words_of g.wide w)) covers
   where
     cov : ℕ → Cover
     cov = λ d. cover_of (v.op d)
@@ -61,17 +61,17 @@ begin_kept g w v c x o h a =
       era = subst (λ (on : ℕ → Option ℕ). EraSound g.clients heads eras on) (sym on_path) h.era;
       own = λ d. at1_all (λ (i : ℕ) (k : Op). i < g.clients → OwnSound (w (Era i i)) k) v.op c o d (λ l. record { some = (h.own c l).some; room = a.room }) (λ n. h.own d);
       op = λ d l. elim (cases_eq c d) [
-        | inl y ↦ subst (λ i. OpTie g class (redos i) (w (Era i i)) (words_of w) (v'.op i)) y (subst (λ z. OpTie g class z (w (Era c c)) (words_of w) (v'.op c)) (sym (at1_here (λ i. w (Redo i)) c x)) (subst (OpTie g class x (w (Era c c)) (words_of w)) (sym (at1_here v.op c o)) a.tie))
-        | inr n ↦ subst (λ z. OpTie g class z (w (Era d d)) (words_of w) (v'.op d)) (sym (at1_other (λ i. w (Redo i)) c x d n)) (subst (OpTie g class (w (Redo d)) (w (Era d d)) (words_of w)) (sym (at1_other v.op c o d n)) (h.op d l))
+        | inl y ↦ subst (λ i. OpTie g class (redos i) (w (RedoMore i)) (w (Era i i)) (words_of g.wide w) (v'.op i)) y (subst (λ z. OpTie g class z (w (RedoMore c)) (w (Era c c)) (words_of g.wide w) (v'.op c)) (sym (at1_here (λ i. w (Redo i)) c x)) (subst (OpTie g class x (w (RedoMore c)) (w (Era c c)) (words_of g.wide w)) (sym (at1_here v.op c o)) a.tie))
+        | inr n ↦ subst (λ z. OpTie g class z (w (RedoMore d)) (w (Era d d)) (words_of g.wide w) (v'.op d)) (sym (at1_other (λ i. w (Redo i)) c x d n)) (subst (OpTie g class (w (Redo d)) (w (RedoMore d)) (w (Era d d)) (words_of g.wide w)) (sym (at1_other v.op c o d n)) (h.op d l))
       ];
-      redo = λ d. at1_all (λ (i : ℕ) (z : ℕ). i < g.clients → RedoTie g class z) (λ i. w (Redo i)) c x d (λ l. a.names) (λ n. h.redo d);
+      redo = λ d. at1_all (λ (i : ℕ) (z : ℕ). i < g.clients → RedoTie g class z (w (RedoMore i))) (λ i. w (Redo i)) c x d (λ l. a.names) (λ n. h.redo d);
       allowed = λ d. at1_all (λ (i : ℕ) (k : Op). i < g.clients → Allowed i k) v.op c o d (λ l. a.allowed) (λ n. h.allowed d);
       count = subst (λ (t : Spot → ℕ). CountSound g class heads t (held_overs v')) (sym path) (subst (λ (l : ℕ → ℕ). CountSound g class heads t l) (sym held_over) h.count);
-      slots = subst (λ (t : Spot → ℕ). (d : ℕ) → d < g.clients → is_op (v'.op d) ≡ true → SlotOf d heads tags (v.latch d) tail queue_head (reach_of t tail queue_head v.looks d) (slot_of (v'.op d))) (sym path)
-          (λ d. at1_all (λ (i : ℕ) (k : Op). i < g.clients → is_op k ≡ true → SlotOf i heads tags (v.latch i) tail queue_head (reach_of t tail queue_head v.looks i) (slot_of k)) v.op c o d (λ l. a.slot) (λ n. h.slots d));
-      looks = subst (λ (t : Spot → ℕ). (d : ℕ) → d < g.clients → LooksSound (λ a. t (Home a)) (λ b i. t (Body b i)) (λ b. tag_author (w (Tag b))) (v.latch d) (named_by t tail queue_head d) [] (v.looks d)) (sym path) h.looks;
+      slots = subst (λ (t : Spot → ℕ). (d : ℕ) → d < g.clients → is_op (v'.op d) ≡ true → SlotOf g.wide d heads tags (v.latch d) tail queue_head (reach_of t tail queue_head v.looks d) (slot_of (v'.op d))) (sym path)
+          (λ d. at1_all (λ (i : ℕ) (k : Op). i < g.clients → is_op k ≡ true → SlotOf g.wide i heads tags (v.latch i) tail queue_head (reach_of t tail queue_head v.looks i) (slot_of k)) v.op c o d (λ l. a.slot) (λ n. h.slots d));
+      looks = subst (λ (t : Spot → ℕ). (d : ℕ) → d < g.clients → LooksSound (λ a. t (Home a)) (λ b i. t (Body b i)) (λ b. tag_author g.wide (w (Tag b))) (v.latch d) (named_by t tail queue_head d) [] (v.looks d)) (sym path) h.looks;
       lanes = subst (λ (t : Spot → ℕ). (i j : ℕ) → i < g.clients → j < g.clients → i ≢ j → LaneSound (λ k. t (Slot i j k)) (tail i j) (queue_head i j) (v.sent i j) (v.unsent i j) (v.received j i) (v.untaken j i)) (sym path) h.lanes;
-      known = subst (λ (t : Spot → ℕ). (d : ℕ) → d < g.clients → All (λ (s : Stored). KnownAt d tags bodies slot tail queue_head (v.untaken d) (v.latch d) (reach_of t tail queue_head v.looks d) (v.dying d) s.spot s.value) (v.known d)) (sym path) h.known;
+      known = subst (λ (t : Spot → ℕ). (d : ℕ) → d < g.clients → All (λ (s : Stored). KnownAt g.wide d tags bodies slot tail queue_head (v.untaken d) (v.latch d) (reach_of t tail queue_head v.looks d) (v.dying d) s.spot s.value) (v.known d)) (sym path) h.known;
       facts = subst (λ (on : ℕ → Option ℕ). (d : ℕ) → d < g.clients → All (FactAt g.clients eras on tail queue_head class) (v.facts d)) (sym on_path) h.facts;
       zeros = h.zeros;
       test = λ d l. elim (cases_eq c d) [
@@ -90,9 +90,9 @@ begin_kept g w v c x o h a =
       no_queue = h.no_queue;
       tails = λ d r l m. at1_all (λ (i : ℕ) (k : Op). i < g.clients → TailSound i r (w (Era i i)) (tail i r) (v.unsent i r) k) v.op c o d (λ l. let q = h.tails c r l m in (q.0, λ u _. q.1 u (no_slot r (tail c r % 8)))) (λ n l. h.tails d r l m) l;
       parts = h.parts;
-      part = subst (λ (t : Spot → ℕ). (d : ℕ) → d < g.clients → PartTie (contents_of w t) d (t (Home d)) (v.part d)) (sym path) h.part;
-      queued = subst (λ (t : Spot → ℕ). (d : ℕ) → d < g.clients → is_loose (v.part d) ≡ false → (s r k : ℕ) → t (Slot s r k) ≢ 0 → HasShape (contents_of w t) 0 1 (t (Slot s r k))) (sym path) h.queued;
-      values = subst (λ (t : Spot → ℕ). (d : ℕ) → d < g.clients → All (ValueAt (contents_of w t) (reach_of t tail queue_head v.looks d)) (v.values d)) (sym path) h.values;
+      part = subst (λ (t : Spot → ℕ). (d : ℕ) → d < g.clients → PartTie (contents_of g.wide w t) d (t (Home d)) (v.part d)) (sym path) h.part;
+      queued = subst (λ (t : Spot → ℕ). (d : ℕ) → d < g.clients → is_loose (v.part d) ≡ false → (s r k : ℕ) → t (Slot s r k) ≢ 0 → HasShape (contents_of g.wide w t) 0 1 (t (Slot s r k))) (sym path) h.queued;
+      values = subst (λ (t : Spot → ℕ). (d : ℕ) → d < g.clients → All (ValueAt (contents_of g.wide w t) (reach_of t tail queue_head v.looks d)) (v.values d)) (sym path) h.values;
       made = subst (λ (t : Spot → ℕ). (d : ℕ) → d < g.clients → All (MadeAt heads (λ k. t (Root d k))) (v.made d)) (sym path) h.made;
     }
   where
@@ -209,7 +209,7 @@ row_stored g w v c j x h a =
       blocks = h.blocks;
       era = eras_row g.clients heads eras (ons v) c j x a.other a.more bound h.era;
       own = λ d l. rw (own_same eras c j x d a.other) (h.own d l);
-      op = λ d l. subst (λ z. OpTie g class (w (Redo d)) z (words_of w) (v.op d)) (sym (own_same eras c j x d a.other)) (h.op d l);
+      op = λ d l. subst (λ z. OpTie g class (w (Redo d)) (w (RedoMore d)) z (words_of g.wide w) (v.op d)) (sym (own_same eras c j x d a.other)) (h.op d l);
       redo = h.redo;
       allowed = h.allowed;
       count = h.count;

@@ -36,7 +36,7 @@ module _ (g : Geometry) (w : Spot → ℕ) (v : View) (h : HeldAt g w v) where
   target_at q n = has_place g w v.op h.there h.op q n
 
   pub target_there : (q : Spot) → targets g w v q ≢ 0 → q ≢ Spare
-  target_there q n = target_not_spare g.clients (words_of w) (λ d. cover_of (v.op d)) q n
+  target_there q n = target_not_spare g.clients (words_of g.wide w) (λ d. cover_of (v.op d)) q n
 
   -- a block that is named has a count
   pub named_count : (b : ℕ) (q : Spot) → targets g w v q ≡ b → (header_of (w (Head b))).live ≡ true → 1 ≤ (header_of (w (Head b))).count
@@ -84,7 +84,7 @@ differs b x f z = let u : eqb b x ≡ true = eq-eqb b x z in let y : false ≡ t
 
 -- c may use this slot
 abbrev pub SlotAt : Geometry → (Spot → ℕ) → View → ℕ → Spot → Type 0
-SlotAt g w v c p = SlotOf c (λ b. header_of (w (Head b))) (λ b. w (Tag b)) (v.latch c) (λ s r. w (Tail s r)) (λ s r. w (QueueHead s r)) (reach_of (targets g w v) (λ s r. w (Tail s r)) (λ s r. w (QueueHead s r)) v.looks c) p
+SlotAt g w v c p = SlotOf g.wide c (λ b. header_of (w (Head b))) (λ b. w (Tag b)) (v.latch c) (λ s r. w (Tail s r)) (λ s r. w (QueueHead s r)) (reach_of (targets g w v) (λ s r. w (Tail s r)) (λ s r. w (QueueHead s r)) v.looks c) p
 
 -- some word names the block
 abbrev pub IsNamed : (Spot → ℕ) → ℕ → Type 0
@@ -98,7 +98,7 @@ module _ (g : Geometry) (w : Spot → ℕ) (v : View) (h : HeldAt g w v) where
   pub slot_no_home : (c d : ℕ) (p : Spot) → c ≢ d → SlotAt g w v c p → same_spot p (Home d) ≡ false
   slot_no_home c d p n s = false_from_ne_true _ (λ e. n (sym (subst (SlotAt g w v c) (same_spot_is p (Home d) e) s)))
 
-  pub slot_no_body : (c d b i : ℕ) (p : Spot) → c ≢ d → SlotAt g w v c p → IsNamed (targets g w v) b → (header_of (w (Head b))).live ≡ true → tag_author (w (Tag b)) ≡ d → same_spot p (Body b i) ≡ false
+  pub slot_no_body : (c d b i : ℕ) (p : Spot) → c ≢ d → SlotAt g w v c p → IsNamed (targets g w v) b → (header_of (w (Head b))).live ≡ true → tag_author g.wide (w (Tag b)) ≡ d → same_spot p (Body b i) ≡ false
   slot_no_body c d b i p n s named l a = false_from_ne_true _ (λ e. go (subst (SlotAt g w v c) (same_spot_is p (Body b i) e) s))
     where
       go : SlotAt g w v c (Body b i) → ⊥
@@ -110,18 +110,19 @@ module _ (g : Geometry) (w : Spot → ℕ) (v : View) (h : HeldAt g w v) where
   -- the partition of another identity stays where c's slot has another target, and named blocks stay live
   pub part_other : (c d y : ℕ) (p : Spot) (heads : ℕ → Header) → c ≢ d → d < g.clients → SlotAt g w v c p
       → ((b : ℕ) → IsNamed (targets g w v) b → (header_of (w (Head b))).live ≡ true → (heads b).live ≡ true)
-      → PartTie (record { head = heads; tag = λ b. w (Tag b); refs = λ b i. upd (targets g w v) p y (Body b i); body = λ b i. w (Body b i) }) d (upd (targets g w v) p y (Home d)) (v.part d)
+      → PartTie (record { wide = g.wide; head = heads; tag = λ b. w (Tag b); refs = λ b i. upd (targets g w v) p y (Body b i); body = λ b i. w (Body b i) }) d (upd (targets g w v) p y (Home d)) (v.part d)
   part_other c d y p heads n ld s lives =
-      subst (λ z. PartTie x' d z (v.part d)) (sym home) (part_kept (contents_of w (targets g w v)) x' (IsNamed (targets g w v)) d k (λ b i. (Body b i, refl)) (targets g w v (Home d)) (v.part d) (Home d, refl) (h.part d ld))
+      subst (λ z. PartTie x' d z (v.part d)) (sym home) (part_kept (contents_of g.wide w (targets g w v)) x' (IsNamed (targets g w v)) d k (λ b i. (Body b i, refl)) (targets g w v (Home d)) (v.part d) (Home d, refl) (h.part d ld))
     where
       x' : Contents
-      x' = record { head = heads; tag = λ b. w (Tag b); refs = λ b i. upd (targets g w v) p y (Body b i); body = λ b i. w (Body b i) }
+      x' = record { wide = g.wide; head = heads; tag = λ b. w (Tag b); refs = λ b i. upd (targets g w v) p y (Body b i); body = λ b i. w (Body b i) }
 
       home : upd (targets g w v) p y (Home d) ≡ targets g w v (Home d)
       home = rw (slot_no_home c d p n s) refl
 
-      k : PartKept (contents_of w (targets g w v)) x' (IsNamed (targets g w v)) d
+      k : PartKept (contents_of g.wide w (targets g w v)) x' (IsNamed (targets g w v)) d
       k = record {
+        format = refl;
         live = lives;
         tag = λ b m l. refl;
         refs = λ b i m l a _. rw (slot_no_body c d b i p n s m l a) refl;
@@ -132,15 +133,16 @@ module _ (g : Geometry) (w : Spot → ℕ) (v : View) (h : HeldAt g w v) where
   pub part_lives : (d : ℕ) (heads : ℕ → Header) (t' : Spot → ℕ) → d < g.clients
       → ((b : ℕ) → IsNamed (targets g w v) b → (header_of (w (Head b))).live ≡ true → (heads b).live ≡ true)
       → ((b i : ℕ) → IsNamed (targets g w v) b → (header_of (w (Head b))).live ≡ true → t' (Body b i) ≡ targets g w v (Body b i)) → t' (Home d) ≡ targets g w v (Home d)
-      → PartTie (record { head = heads; tag = λ b. w (Tag b); refs = λ b i. t' (Body b i); body = λ b i. w (Body b i) }) d (t' (Home d)) (v.part d)
+      → PartTie (record { wide = g.wide; head = heads; tag = λ b. w (Tag b); refs = λ b i. t' (Body b i); body = λ b i. w (Body b i) }) d (t' (Home d)) (v.part d)
   part_lives d heads t' ld lives refs home =
-      subst (λ z. PartTie x' d z (v.part d)) (sym home) (part_kept (contents_of w (targets g w v)) x' (IsNamed (targets g w v)) d k (λ b i. (Body b i, refl)) (targets g w v (Home d)) (v.part d) (Home d, refl) (h.part d ld))
+      subst (λ z. PartTie x' d z (v.part d)) (sym home) (part_kept (contents_of g.wide w (targets g w v)) x' (IsNamed (targets g w v)) d k (λ b i. (Body b i, refl)) (targets g w v (Home d)) (v.part d) (Home d, refl) (h.part d ld))
     where
       x' : Contents
-      x' = record { head = heads; tag = λ b. w (Tag b); refs = λ b i. t' (Body b i); body = λ b i. w (Body b i) }
+      x' = record { wide = g.wide; head = heads; tag = λ b. w (Tag b); refs = λ b i. t' (Body b i); body = λ b i. w (Body b i) }
 
-      k : PartKept (contents_of w (targets g w v)) x' (IsNamed (targets g w v)) d
+      k : PartKept (contents_of g.wide w (targets g w v)) x' (IsNamed (targets g w v)) d
       k = record {
+        format = refl;
         live = lives;
         tag = λ b m l. refl;
         refs = λ b i m l _ _. refs b i m l;
@@ -148,18 +150,19 @@ module _ (g : Geometry) (w : Spot → ℕ) (v : View) (h : HeldAt g w v) where
       }
 
   -- each partition stays where a reference word is stored that had its target
-  pub part_stored : (d b i x : ℕ) → d < g.clients → i < tag_refs (w (Tag b))
-      → PartTie (record { head = λ j. header_of (w (Head j)); tag = λ j. w (Tag j); refs = λ j k. targets g w v (Body j k); body = λ j k. upd w (Body b i) x (Body j k) }) d (targets g w v (Home d)) (v.part d)
-  part_stored d b i x ld li = part_kept (contents_of w (targets g w v)) x' (IsNamed (targets g w v)) d k (λ j k. (Body j k, refl)) (targets g w v (Home d)) (v.part d) (Home d, refl) (h.part d ld)
+  pub part_stored : (d b i x : ℕ) → d < g.clients → i < tag_refs g.wide (w (Tag b))
+      → PartTie (record { wide = g.wide; head = λ j. header_of (w (Head j)); tag = λ j. w (Tag j); refs = λ j k. targets g w v (Body j k); body = λ j k. upd w (Body b i) x (Body j k) }) d (targets g w v (Home d)) (v.part d)
+  part_stored d b i x ld li = part_kept (contents_of g.wide w (targets g w v)) x' (IsNamed (targets g w v)) d k (λ j k. (Body j k, refl)) (targets g w v (Home d)) (v.part d) (Home d, refl) (h.part d ld)
     where
       x' : Contents
-      x' = record { head = λ j. header_of (w (Head j)); tag = λ j. w (Tag j); refs = λ j k. targets g w v (Body j k); body = λ j k. upd w (Body b i) x (Body j k) }
+      x' = record { wide = g.wide; head = λ j. header_of (w (Head j)); tag = λ j. w (Tag j); refs = λ j k. targets g w v (Body j k); body = λ j k. upd w (Body b i) x (Body j k) }
 
-      apart : (j k : ℕ) → tag_refs (w (Tag j)) ≤ k → same_spot (Body b i) (Body j k) ≡ false
-      apart j k le = false_from_ne_true _ (λ e. let q = same_spot_is (Body b i) (Body j k) e in let y : b ≡ j = cc in let z : i ≡ k = cc in let r : tag_refs (w (Tag b)) ≡ tag_refs (w (Tag j)) = ap (λ m. tag_refs (w (Tag m))) y in omega arith)
+      apart : (j k : ℕ) → tag_refs g.wide (w (Tag j)) ≤ k → same_spot (Body b i) (Body j k) ≡ false
+      apart j k le = false_from_ne_true _ (λ e. let q = same_spot_is (Body b i) (Body j k) e in let y : b ≡ j = cc in let z : i ≡ k = cc in let r : tag_refs g.wide (w (Tag b)) ≡ tag_refs g.wide (w (Tag j)) = ap (λ m. tag_refs g.wide (w (Tag m))) y in omega arith)
 
-      k : PartKept (contents_of w (targets g w v)) x' (IsNamed (targets g w v)) d
+      k : PartKept (contents_of g.wide w (targets g w v)) x' (IsNamed (targets g w v)) d
       k = record {
+        format = refl;
         live = λ j m l. l;
         tag = λ j m l. refl;
         refs = λ j k m l _ _. refl;
@@ -170,12 +173,12 @@ module _ (g : Geometry) (w : Spot → ℕ) (v : View) (h : HeldAt g w v) where
   pub values_kept : (d : ℕ) (heads : ℕ → Header) (refs body : ℕ → ℕ → ℕ) (reach : ℕ → Type 0) → d < g.clients
       → ((b : ℕ) → IsNamed (targets g w v) b → (header_of (w (Head b))).live ≡ true → (heads b).live ≡ true)
       → ((b : ℕ) → reach_of (targets g w v) (λ s r. w (Tail s r)) (λ s r. w (QueueHead s r)) v.looks d b → reach b)
-      → All (ValueAt (record { head = heads; tag = λ b. w (Tag b); refs = refs; body = body }) reach) (v.values d)
-  values_kept d heads refs body reach ld lives more = All-weaker _ (ValueAt (record { head = heads; tag = λ b. w (Tag b); refs = refs; body = body }) reach) go (v.values d) (h.values d ld)
+      → All (ValueAt (record { wide = g.wide; head = heads; tag = λ b. w (Tag b); refs = refs; body = body }) reach) (v.values d)
+  values_kept d heads refs body reach ld lives more = All-weaker _ (ValueAt (record { wide = g.wide; head = heads; tag = λ b. w (Tag b); refs = refs; body = body }) reach) go (v.values d) (h.values d ld)
     where
-      go : (b : ℕ) → ValueAt (contents_of w (targets g w v)) (reach_of (targets g w v) (λ s r. w (Tail s r)) (λ s r. w (QueueHead s r)) v.looks d) b → ValueAt (record { head = heads; tag = λ b. w (Tag b); refs = refs; body = body }) reach b
+      go : (b : ℕ) → ValueAt (contents_of g.wide w (targets g w v)) (reach_of (targets g w v) (λ s r. w (Tail s r)) (λ s r. w (QueueHead s r)) v.looks d) b → ValueAt (record { wide = g.wide; head = heads; tag = λ b. w (Tag b); refs = refs; body = body }) reach b
       go b x = (
-        record { live = lives b (reach_target (targets g w v) (λ s r. w (Tail s r)) (λ s r. w (QueueHead s r)) (λ b. tag_author (w (Tag b))) (v.latch d) (v.looks d) d b (h.looks d ld) x.1) x.0.live; names = x.0.names; words = x.0.words },
+        record { live = lives b (reach_target (targets g w v) (λ s r. w (Tail s r)) (λ s r. w (QueueHead s r)) (λ b. tag_author g.wide (w (Tag b))) (v.latch d) (v.looks d) d b (h.looks d ld) x.1) x.0.live; names = x.0.names; words = x.0.words },
         more b x.1,
       )
 
@@ -217,11 +220,11 @@ module _ (g : Geometry) (w : Spot → ℕ) (v : View) (h : HeldAt g w v) where
   -- queues hold value blocks where each slot has the target that it had, or none, or a value block
   pub queued_kept : (c : ℕ) (heads : ℕ → Header) (refs body : ℕ → ℕ → ℕ) (t' : Spot → ℕ) → c < g.clients
       → ((b : ℕ) → IsNamed (targets g w v) b → (header_of (w (Head b))).live ≡ true → (heads b).live ≡ true)
-      → ((s r k : ℕ) → t' (Slot s r k) ≢ 0 → (t' (Slot s r k) ≡ targets g w v (Slot s r k)) ⊎ HasShape (record { head = heads; tag = λ b. w (Tag b); refs = refs; body = body }) 0 1 (t' (Slot s r k)))
-      → is_loose (v.part c) ≡ false → (s r k : ℕ) → t' (Slot s r k) ≢ 0 → HasShape (record { head = heads; tag = λ b. w (Tag b); refs = refs; body = body }) 0 1 (t' (Slot s r k))
+      → ((s r k : ℕ) → t' (Slot s r k) ≢ 0 → (t' (Slot s r k) ≡ targets g w v (Slot s r k)) ⊎ HasShape (record { wide = g.wide; head = heads; tag = λ b. w (Tag b); refs = refs; body = body }) 0 1 (t' (Slot s r k)))
+      → is_loose (v.part c) ≡ false → (s r k : ℕ) → t' (Slot s r k) ≢ 0 → HasShape (record { wide = g.wide; head = heads; tag = λ b. w (Tag b); refs = refs; body = body }) 0 1 (t' (Slot s r k))
   queued_kept c heads refs body t' lc lives slots table s r k n =
       elim (slots s r k n) [
-        | inl e ↦ subst (HasShape (record { head = heads; tag = λ b. w (Tag b); refs = refs; body = body }) 0 1) (sym e) (let q = h.queued c lc table s r k (λ z. n (e ∙ z)) in
+        | inl e ↦ subst (HasShape (record { wide = g.wide; head = heads; tag = λ b. w (Tag b); refs = refs; body = body }) 0 1) (sym e) (let q = h.queued c lc table s r k (λ z. n (e ∙ z)) in
             record { live = lives (targets g w v (Slot s r k)) (Slot s r k, refl) q.live; names = q.names; words = q.words })
         | inr x ↦ x
       ]

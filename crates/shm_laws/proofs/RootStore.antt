@@ -44,10 +44,10 @@ root_kept g w v c k x o h a =
       redo = h.redo;
       allowed = allowed_same g w v h c x o (Root c k) a.inside a.slot a.op;
       count = subst (λ (t : Spot → ℕ). CountSound g class heads t (held_overs v')) (sym path) (subst (λ (l : ℕ → ℕ). CountSound g class heads t l) (sym (held_over_same g w v h c x o (Root c k) a.inside a.slot a.op)) h.count);
-      slots = subst (λ (t : Spot → ℕ). (d : ℕ) → d < g.clients → is_op (v'.op d) ≡ true → SlotOf d heads tags (v.latch d) tail queue_head (reach_of t tail queue_head v.looks d) (slot_of (v'.op d))) (sym path) (slots_same g w v h c x o (Root c k) a.inside a.slot a.op);
-      looks = subst (λ (t : Spot → ℕ). (d : ℕ) → d < g.clients → LooksSound (λ a. t (Home a)) (λ b i. t (Body b i)) (λ b. tag_author (w (Tag b))) (v.latch d) (named_by t tail queue_head d) [] (v.looks d)) (sym path) h.looks;
+      slots = subst (λ (t : Spot → ℕ). (d : ℕ) → d < g.clients → is_op (v'.op d) ≡ true → SlotOf g.wide d heads tags (v.latch d) tail queue_head (reach_of t tail queue_head v.looks d) (slot_of (v'.op d))) (sym path) (slots_same g w v h c x o (Root c k) a.inside a.slot a.op);
+      looks = subst (λ (t : Spot → ℕ). (d : ℕ) → d < g.clients → LooksSound (λ a. t (Home a)) (λ b i. t (Body b i)) (λ b. tag_author g.wide (w (Tag b))) (v.latch d) (named_by t tail queue_head d) [] (v.looks d)) (sym path) h.looks;
       lanes = subst (λ (t : Spot → ℕ). (i j : ℕ) → i < g.clients → j < g.clients → i ≢ j → LaneSound (λ k. t (Slot i j k)) (tail i j) (queue_head i j) (v.sent i j) (v.unsent i j) (v.received j i) (v.untaken j i)) (sym path) h.lanes;
-      known = subst (λ (t : Spot → ℕ). (d : ℕ) → d < g.clients → All (λ (s : Stored). KnownAt d tags bodies slot tail queue_head (v.untaken d) (v.latch d) (reach_of t tail queue_head v.looks d) (v.dying d) s.spot s.value) (v.known d)) (sym path) h.known;
+      known = subst (λ (t : Spot → ℕ). (d : ℕ) → d < g.clients → All (λ (s : Stored). KnownAt g.wide d tags bodies slot tail queue_head (v.untaken d) (v.latch d) (reach_of t tail queue_head v.looks d) (v.dying d) s.spot s.value) (v.known d)) (sym path) h.known;
       facts = subst (λ (on : ℕ → Option ℕ). (d : ℕ) → d < g.clients → All (FactAt g.clients eras on tail queue_head class) (v.facts d)) (sym on) h.facts;
       zeros = h.zeros;
       test = subst (λ (on : ℕ → Option ℕ). (d : ℕ) → d < g.clients → TestAt g.clients eras (on d) d (v'.test d)) (sym on) (λ d. at1_all (λ (i : ℕ) (x : Option Test). i < g.clients → TestAt g.clients eras (ons v i) i x) v.test c None d (λ l. tt) (λ m. h.test d));
@@ -63,9 +63,9 @@ root_kept g w v c k x o h a =
       no_queue = h.no_queue;
       tails = tails_same g w v h c x o (Root c k) a.inside a.slot a.op;
       parts = h.parts;
-      part = subst (λ (t : Spot → ℕ). (d : ℕ) → d < g.clients → PartTie (contents_of w t) d (t (Home d)) (v.part d)) (sym path) h.part;
-      queued = subst (λ (t : Spot → ℕ). (d : ℕ) → d < g.clients → is_loose (v.part d) ≡ false → (s r k : ℕ) → t (Slot s r k) ≢ 0 → HasShape (contents_of w t) 0 1 (t (Slot s r k))) (sym path) h.queued;
-      values = subst (λ (t : Spot → ℕ). (d : ℕ) → d < g.clients → All (ValueAt (contents_of w t) (reach_of t tail queue_head v.looks d)) (v.values d)) (sym path) h.values;
+      part = subst (λ (t : Spot → ℕ). (d : ℕ) → d < g.clients → PartTie (contents_of g.wide w t) d (t (Home d)) (v.part d)) (sym path) h.part;
+      queued = subst (λ (t : Spot → ℕ). (d : ℕ) → d < g.clients → is_loose (v.part d) ≡ false → (s r k : ℕ) → t (Slot s r k) ≢ 0 → HasShape (contents_of g.wide w t) 0 1 (t (Slot s r k))) (sym path) h.queued;
+      values = subst (λ (t : Spot → ℕ). (d : ℕ) → d < g.clients → All (ValueAt (contents_of g.wide w t) (reach_of t tail queue_head v.looks d)) (v.values d)) (sym path) h.values;
       made = subst (λ (t : Spot → ℕ). (d : ℕ) → d < g.clients → All (MadeAt heads (λ k. t (Root d k))) (v.made d)) (sym path) h.made;
     }
   where

@@ -8,7 +8,7 @@ use Rattle.shm_words.specs.Headers.{header_of}
 use Rattle.shm_graph.specs.References.{one_if, words_of}
 use Rattle.shm_words.specs.declared.geometry.Geometry.{Geometry}
 use Rattle.shm_graph.specs.declared.spot.Spot.{Spot}
-use Rattle.shm_graph.specs.declared.spot.Spot.TheVariants.{Spare, Redo, Era, Root, Page, Head}
+use Rattle.shm_graph.specs.declared.spot.Spot.TheVariants.{Spare, Redo, RedoMore, Era, Root, Page, Head}
 use Rattle.shm_graph.specs.declared.memo.Op.{Op}
 use Rattle.shm_graph.specs.declared.memo.Op.TheVariants.{Change}
 use Rattle.shm_graph.specs.declared.memo.Second.TheVariants.{Open, Closed}
@@ -57,12 +57,12 @@ module _ (g : Geometry) (w : Spot → ℕ) (v : View) (c b y e n to : ℕ) (p : 
   abbrev was : Op
   was = Change (Lowering Open) p b y e
 
-  op_sound : OpSound g class (w (Redo c)) (w (Era c c)) (word_at (words_of w) p) p (redos.Change (odd (e + 1)) (spot_address g p) b y) e y
-  op_sound = let q : OpTie g class (w (Redo c)) (w (Era c c)) (words_of w) was = subst (OpTie g class (w (Redo c)) (w (Era c c)) (words_of w)) a.op (h.op c a.inside) in q
+  op_sound : OpSound g class (w (Redo c)) (w (RedoMore c)) (w (Era c c)) (word_at (words_of g.wide w) p) p (redos.Change (odd (e + 1)) (spot_address g p) b y) e y
+  op_sound = let q : OpTie g class (w (Redo c)) (w (RedoMore c)) (w (Era c c)) (words_of g.wide w) was = subst (OpTie g class (w (Redo c)) (w (RedoMore c)) (w (Era c c)) (words_of g.wide w)) a.op (h.op c a.inside) in q
 
   -- the redo word names the block
   some : b ≢ 0
-  some = block_not_zero g class b (h.redo c a.inside (redos.Change (odd (e + 1)) (spot_address g p) b y) op_sound.spelled).0
+  some = block_not_zero g class b op_sound.blocks.0
 
   held_over_was : held_overs v c ≡ b
   held_over_was = ap held_over_of a.op
@@ -83,7 +83,7 @@ module _ (g : Geometry) (w : Spot → ℕ) (v : View) (c b y e n to : ℕ) (p : 
   covers = fun_ext (λ d. at1_all (λ (j : ℕ) (k : Op). cover_of k ≡ cover_of (v.op j)) v.op c o d (sym (ap cover_of a.op)) (λ _. refl))
 
   path : targets g w' v' ≡ t
-  path = ap (target g.clients (words_of w')) covers ∙ refs_target g.clients (words_of w) (words_of w').refs (λ d. cover_of (v.op d)) (λ d. inl (refs_stay g w v h b to live counted new_live d))
+  path = ap (target g.clients (words_of g.wide w')) covers ∙ refs_target g.clients (words_of g.wide w) (words_of g.wide w').refs (λ d. cover_of (v.op d)) (λ d. inl (refs_stay g w v h b to live counted new_live d))
 
   -- the invariant stays
   pub second_kept : HeldAt g (upd w (Head b) to) (second_view v c b y e n p looks' kept values)

@@ -9,7 +9,7 @@ use Rattle.shm_graph.proofs.Memos.Frames.{at1_all}
 use Rattle.shm_graph.proofs.Runs.Lists.{at1_here, at1_other}
 use Rattle.shm_words.specs.declared.geometry.Geometry.{Geometry}
 use Rattle.shm_graph.specs.declared.spot.Spot.{Spot}
-use Rattle.shm_graph.specs.declared.spot.Spot.TheVariants.{Spare, Status, Redo, Hold, Latch, Home, Era, Root, Tail, QueueHead, Slot, Segment, Page, Unused, Head, Tag, Body}
+use Rattle.shm_graph.specs.declared.spot.Spot.TheVariants.{Spare, Status, Redo, RedoMore, Hold, Latch, Home, Era, Root, Tail, QueueHead, Slot, Segment, Page, Unused, Head, Tag, Body}
 use Rattle.shm_graph.specs.declared.memo.Op.{Op}
 use Rattle.shm_graph.specs.Spots.{same_spot, upd, spot_at, spot_address, IsAt}
 use Rattle.shm_words.specs.Layout.{total_of}
@@ -57,6 +57,7 @@ refs_target n x r ps h = fun_ext go
     go Spare = refl
     go (Status d) = refl
     go (Redo d) = refl
+    go (RedoMore d) = refl
     go (Hold d) = refl
     go (Latch d) = refl
     go (Home d) = refl
@@ -112,6 +113,7 @@ commit_target n x ops c o p b lc quiet now has apart = fun_ext go
     go Spare = rw (off Spare has (λ _ z. z)) refl
     go (Status d) = rw (off (Status d) has (λ _ z. z)) refl
     go (Redo d) = rw (off (Redo d) has (λ _ z. z)) refl
+    go (RedoMore d) = rw (off (RedoMore d) has (λ _ z. z)) refl
     go (Hold d) = rw (off (Hold d) has (λ _ z. z)) refl
     go (Latch d) = rw (off (Latch d) has (λ _ z. z)) refl
     go (Era i j) = rw (off (Era i j) has (λ _ z. z)) refl

@@ -10,7 +10,7 @@ use Rattle.shm_words.specs.declared.redo.Redo.TheVariants as redos
 use Rattle.shm_words.specs.Headers.{header_of}
 use Rattle.shm_words.specs.Tags.{tag_author}
 use Rattle.shm_graph.specs.declared.spot.Spot.{Spot}
-use Rattle.shm_graph.specs.declared.spot.Spot.TheVariants.{Redo, Home, Era, Root, Tail, QueueHead, Slot, Head, Tag, Body}
+use Rattle.shm_graph.specs.declared.spot.Spot.TheVariants.{Redo, RedoMore, Home, Era, Root, Tail, QueueHead, Slot, Head, Tag, Body}
 use Rattle.shm_graph.specs.declared.table.Part.{Part}
 use Rattle.shm_graph.specs.declared.memo.First.TheVariants.{Begun, Committed}
 use Rattle.shm_graph.specs.declared.memo.Op.{Op}
@@ -44,8 +44,8 @@ module _ (g : Geometry) (w : Spot → ℕ) (v : View) (c b e to : ℕ) (p : Spot
   mine_at : Holds w g v c p
   mine_at = let q : Holds w g v c (slot_of (Up Begun p b e)) = subst (λ x. Holds w g v c (slot_of x)) a.op (h.slots c a.inside (ap is_op a.op)) in q
 
-  op_sound : OpSound g (classes w) (w (Redo c)) (w (Era c c)) (word_at (words_of w) p) p (redos.Up (spot_address g p) b) e 0
-  op_sound = let q : OpTie g (classes w) (w (Redo c)) (w (Era c c)) (words_of w) (Up Begun p b e) = subst (OpTie g (classes w) (w (Redo c)) (w (Era c c)) (words_of w)) a.op (h.op c a.inside) in q
+  op_sound : OpSound g (classes w) (w (Redo c)) (w (RedoMore c)) (w (Era c c)) (word_at (words_of g.wide w) p) p (redos.Up (spot_address g p) b) e 0
+  op_sound = let q : OpTie g (classes w) (w (Redo c)) (w (RedoMore c)) (w (Era c c)) (words_of g.wide w) (Up Begun p b e) = subst (OpTie g (classes w) (w (Redo c)) (w (RedoMore c)) (w (Era c c)) (words_of g.wide w)) a.op (h.op c a.inside) in q
 
   -- the block is a target, so it is live and counted
   live : (headers w b).live ≡ true
@@ -56,7 +56,7 @@ module _ (g : Geometry) (w : Spot → ℕ) (v : View) (c b e to : ℕ) (p : Spot
 
   -- the slot names nothing
   held_at : targets g w v p ≡ 0
-  held_at = slot_names g w v h c p a.inside mine_at ∙ (ap (λ z. cover (cover_of z) p (word_at (words_of w) p)) a.op ∙ op_sound.word)
+  held_at = slot_names g w v h c p a.inside mine_at ∙ (ap (λ z. cover (cover_of z) p (word_at (words_of g.wide w) p)) a.op ∙ op_sound.word)
 
   path : targets g (upd w (Head b) to) (up_view v c b e p part) ≡ upd (targets g w v) p b
   path = slot_committed g w v h c p a.inside mine_at b to b (Up Committed p b e) (ap cover_of a.op) refl (refs_stay g w v h b to live counted new_live)
@@ -85,9 +85,9 @@ module _ (g : Geometry) (w : Spot → ℕ) (v : View) (c b e to : ℕ) (p : Spot
     dying = dying_raised g w v h b to live counted new_live (λ z. let q = new_count in absurd (omega arith));
     count = subst (λ (l : ℕ → ℕ). CountSound g (classes w) (headers (upd w (Head b) to)) t' l) (sym held_over)
         (count_exchange g (classes w) (λ i. w (Head i)) t (held_overs v) p b to b op_sound.at (slot_not_spare g w v h c p a.inside mine_at) (live_some g w v h) new_live balance others (λ _. refl) h.count);
-    slot = slot_kept c (headers w) (headers w) tags (v.latch c) tail queue_head (reach_of t tail queue_head v.looks c) (reach_of t' tail queue_head v.looks c) p (λ i z. inl z) (λ i z. z) (reach c) mine_at;
+    slot = slot_kept g.wide c (headers w) (headers w) tags (v.latch c) tail queue_head (reach_of t tail queue_head v.looks c) (reach_of t' tail queue_head v.looks c) p (λ i z. inl z) (λ i z. z) (reach c) mine_at;
     looked = looks c a.inside;
-    knows = All-weaker _ _ (λ (s : Stored). known_kept c tags (λ i j. w (Body i j)) (λ i j l. w (Slot i j l)) tail queue_head (v.untaken c) (v.latch c) (reach_of t tail queue_head v.looks c) (reach_of t' tail queue_head v.looks c) (v.dying c) (v.dying c) s.spot s.value (reach c) (λ _ x. x)) (v.known c) (h.known c a.inside);
+    knows = All-weaker _ _ (λ (s : Stored). known_kept g.wide c tags (λ i j. w (Body i j)) (λ i j l. w (Slot i j l)) tail queue_head (v.untaken c) (v.latch c) (reach_of t tail queue_head v.looks c) (reach_of t' tail queue_head v.looks c) (v.dying c) (v.dying c) s.spot s.value (reach c) (λ _ x. x)) (v.known c) (h.known c a.inside);
     valued = values_kept g w v h c (headers w) (λ i j. t' (Body i j)) (λ i j. w (Body i j)) (reach_of t' tail queue_head v.looks c) a.inside (λ i _ l. l) (reach c);
     parted = a.parted;
     loose = a.loose;
@@ -174,8 +174,8 @@ module _ (g : Geometry) (w : Spot → ℕ) (v : View) (c b e to : ℕ) (p : Spot
       reach d i (inl x) = inl (named d i x)
       reach d i (inr x) = inr x
 
-      looks : (d : ℕ) → d < g.clients → LooksSound (λ i. t' (Home i)) (λ i j. t' (Body i j)) (λ i. tag_author (w (Tag i))) (v.latch d) (named_by t' tail queue_head d) [] (v.looks d)
-      looks d l = looks_kept (λ i. t (Home i)) (λ i. t' (Home i)) (λ i j. t (Body i j)) (λ i j. t' (Body i j)) (λ i. tag_author (w (Tag i))) (v.latch d) (named_by t tail queue_head d) (named_by t' tail queue_head d) (λ i x n q. kept (Home i) x n q) (λ i j x n q. kept (Body i j) x n q) (named d) [] (v.looks d) (h.looks d l)
+      looks : (d : ℕ) → d < g.clients → LooksSound (λ i. t' (Home i)) (λ i j. t' (Body i j)) (λ i. tag_author g.wide (w (Tag i))) (v.latch d) (named_by t' tail queue_head d) [] (v.looks d)
+      looks d l = looks_kept (λ i. t (Home i)) (λ i. t' (Home i)) (λ i j. t (Body i j)) (λ i j. t' (Body i j)) (λ i. tag_author g.wide (w (Tag i))) (v.latch d) (named_by t tail queue_head d) (named_by t' tail queue_head d) (λ i x n q. kept (Home i) x n q) (λ i j x n q. kept (Body i j) x n q) (named d) [] (v.looks d) (h.looks d l)
 
       -- a queue from an identity to itself has no slot of a step
       self_slot : (q : Spot) → Holds w g v c q → (d k : ℕ) → upd t q b (Slot d d k) ≡ t (Slot d d k)
@@ -186,7 +186,7 @@ module _ (g : Geometry) (w : Spot → ℕ) (v : View) (c b e to : ℕ) (p : Spot
       self_slot _ x d k = absurd x
 
       -- in a pool for tables what is sent is a value block
-      in_queue : (s r k : ℕ) → is_loose (v.part c) ≡ false → (same_spot p (Slot s r k) ≡ true) ⊎ (same_spot p (Slot s r k) ≡ false) → (t' (Slot s r k) ≡ t (Slot s r k)) ⊎ HasShape (contents_of (upd w (Head b) to) t') 0 1 (t' (Slot s r k))
+      in_queue : (s r k : ℕ) → is_loose (v.part c) ≡ false → (same_spot p (Slot s r k) ≡ true) ⊎ (same_spot p (Slot s r k) ≡ false) → (t' (Slot s r k) ≡ t (Slot s r k)) ⊎ HasShape (contents_of g.wide (upd w (Head b) to) t') 0 1 (t' (Slot s r k))
       in_queue s r k f (inl e) = inr (rw e (let q = a.queued f (ap is_slot (same_spot_is p (Slot s r k) e)) in record { live = lives g w v h b to live counted new_live b q.live; names = q.names; words = q.words }))
       in_queue s r k f (inr e) = inl (rw e refl)
 

@@ -4,7 +4,7 @@ use Rattle.std.proofs.Common.{◌≡◌, ◌≢◌, ℕ, ◌+◌, ◌^◌, ◌<�
 use Rattle.std.proofs.lemmas.Bool.{false_from_ne_true, cond-true}
 use Rattle.shm_words.specs.declared.geometry.Geometry.{Geometry}
 use Rattle.shm_graph.specs.declared.spot.Spot.{Spot}
-use Rattle.shm_graph.specs.declared.spot.Spot.TheVariants.{Spare, Status, Redo, Hold, Latch, Home, Era, Root, Tail, QueueHead, Slot, Segment, Page, Unused, Head, Tag, Body}
+use Rattle.shm_graph.specs.declared.spot.Spot.TheVariants.{Spare, Status, Redo, RedoMore, Hold, Latch, Home, Era, Root, Tail, QueueHead, Slot, Segment, Page, Unused, Head, Tag, Body}
 use Rattle.shm_graph.specs.declared.memo.First.{First}
 use Rattle.shm_graph.specs.declared.memo.First.TheVariants.{Begun, Committed, Written}
 use Rattle.shm_graph.specs.declared.memo.ChangeStage.TheVariants.{Raising, Lowering}
@@ -63,41 +63,42 @@ allowed c (Down s p b e) o' x y a = subst (Allowed c) (sym (parts s _ _ o' x y).
 allowed c (Change (Raising s) p a b e) o' x y z = subst (Allowed c) (sym (parts s _ _ o' x y).0) z
 allowed c _ o' x y a = absurd y
 
-tie : (g : Geometry) (class : ℕ → ℕ → ℕ) (redo own : ℕ) (old new : Words) (o o' : Op) (x : ℕ) → Writes o o' x → word_at new (slot_of o) ≡ x → OpTie g class redo own old o → OpTie g class redo own new o'
-tie g class redo own old new (Alloc s p b e) o' x y z h = subst (OpTie g class redo own new) (sym (parts s _ _ o' x y).0) (record { spelled = h.spelled; current = h.current; at = h.at; word = z ∙ (parts s _ _ o' x y).1 })
-tie g class redo own old new (Up s p b e) o' x y z h = subst (OpTie g class redo own new) (sym (parts s _ _ o' x y).0) (record { spelled = h.spelled; current = h.current; at = h.at; word = z ∙ (parts s _ _ o' x y).1 })
-tie g class redo own old new (Down s p b e) o' x y z h = subst (OpTie g class redo own new) (sym (parts s _ _ o' x y).0) (record { spelled = h.spelled; current = h.current; at = h.at; word = z ∙ (parts s _ _ o' x y).1 })
-tie g class redo own old new (Change (Raising s) p a b e) o' x y z h = subst (OpTie g class redo own new) (sym (parts s _ _ o' x y).0) (record { spelled = h.spelled; current = h.current; at = h.at; word = z ∙ (parts s _ _ o' x y).1 })
-tie g class redo own old new _ o' x y z h = absurd y
+tie : (g : Geometry) (class : ℕ → ℕ → ℕ) (redo more own : ℕ) (old new : Words) (o o' : Op) (x : ℕ) → Writes o o' x → word_at new (slot_of o) ≡ x → OpTie g class redo more own old o → OpTie g class redo more own new o'
+tie g class redo more own old new (Alloc s p b e) o' x y z h = subst (OpTie g class redo more own new) (sym (parts s _ _ o' x y).0) (record { spelled = h.spelled; blocks = h.blocks; current = h.current; at = h.at; word = z ∙ (parts s _ _ o' x y).1 })
+tie g class redo more own old new (Up s p b e) o' x y z h = subst (OpTie g class redo more own new) (sym (parts s _ _ o' x y).0) (record { spelled = h.spelled; blocks = h.blocks; current = h.current; at = h.at; word = z ∙ (parts s _ _ o' x y).1 })
+tie g class redo more own old new (Down s p b e) o' x y z h = subst (OpTie g class redo more own new) (sym (parts s _ _ o' x y).0) (record { spelled = h.spelled; blocks = h.blocks; current = h.current; at = h.at; word = z ∙ (parts s _ _ o' x y).1 })
+tie g class redo more own old new (Change (Raising s) p a b e) o' x y z h = subst (OpTie g class redo more own new) (sym (parts s _ _ o' x y).0) (record { spelled = h.spelled; blocks = h.blocks; current = h.current; at = h.at; word = z ∙ (parts s _ _ o' x y).1 })
+tie g class redo more own old new _ o' x y z h = absurd y
 
 -- a step of another identity, on another word
-pub tie_other : (g : Geometry) (class : ℕ → ℕ → ℕ) (redo own : ℕ) (old new : Words) (o : Op) → (is_op o ≡ true → word_at new (slot_of o) ≡ word_at old (slot_of o)) → OpTie g class redo own old o → OpTie g class redo own new o
-tie_other g class redo own old new Nothing z h = h
-tie_other g class redo own old new (Alloc s p b e) z h = record { spelled = h.spelled; current = h.current; at = h.at; word = z refl ∙ h.word }
-tie_other g class redo own old new (Up s p b e) z h = record { spelled = h.spelled; current = h.current; at = h.at; word = z refl ∙ h.word }
-tie_other g class redo own old new (Down s p b e) z h = record { spelled = h.spelled; current = h.current; at = h.at; word = z refl ∙ h.word }
-tie_other g class redo own old new (Change (Raising s) p a b e) z h = record { spelled = h.spelled; current = h.current; at = h.at; word = z refl ∙ h.word }
-tie_other g class redo own old new (Change (Lowering s) p a b e) z h = record { spelled = h.spelled; current = h.current; at = h.at; word = z refl ∙ h.word }
+pub tie_other : (g : Geometry) (class : ℕ → ℕ → ℕ) (redo more own : ℕ) (old new : Words) (o : Op) → (is_op o ≡ true → word_at new (slot_of o) ≡ word_at old (slot_of o)) → OpTie g class redo more own old o → OpTie g class redo more own new o
+tie_other g class redo more own old new Nothing z h = h
+tie_other g class redo more own old new (Alloc s p b e) z h = record { spelled = h.spelled; blocks = h.blocks; current = h.current; at = h.at; word = z refl ∙ h.word }
+tie_other g class redo more own old new (Up s p b e) z h = record { spelled = h.spelled; blocks = h.blocks; current = h.current; at = h.at; word = z refl ∙ h.word }
+tie_other g class redo more own old new (Down s p b e) z h = record { spelled = h.spelled; blocks = h.blocks; current = h.current; at = h.at; word = z refl ∙ h.word }
+tie_other g class redo more own old new (Change (Raising s) p a b e) z h = record { spelled = h.spelled; blocks = h.blocks; current = h.current; at = h.at; word = z refl ∙ h.word }
+tie_other g class redo more own old new (Change (Lowering s) p a b e) z h = record { spelled = h.spelled; blocks = h.blocks; current = h.current; at = h.at; word = z refl ∙ h.word }
 
 -- another spot has the word that it had
-word_of : (w : Spot → ℕ) (p : Spot) (x : ℕ) (q : Spot) → same_spot p q ≡ false → word_at (words_of (upd w p x)) q ≡ word_at (words_of w) q
-word_of w p x (Body d j) y = rw y refl
-word_of w p x (Home d) y = rw y refl
-word_of w p x (Root d l) y = rw y refl
-word_of w p x (Slot s r l) y = rw y refl
-word_of w p x Spare y = refl
-word_of w p x (Status d) y = refl
-word_of w p x (Redo d) y = refl
-word_of w p x (Hold d) y = refl
-word_of w p x (Latch d) y = refl
-word_of w p x (Era d l) y = refl
-word_of w p x (Tail s r) y = refl
-word_of w p x (QueueHead s r) y = refl
-word_of w p x (Segment s) y = refl
-word_of w p x (Page s q) y = refl
-word_of w p x (Unused s) y = refl
-word_of w p x (Head d) y = refl
-word_of w p x (Tag d) y = refl
+word_of : (wide : Bool) (w : Spot → ℕ) (p : Spot) (x : ℕ) (q : Spot) → same_spot p q ≡ false → word_at (words_of wide (upd w p x)) q ≡ word_at (words_of wide w) q
+word_of wide w p x (Body d j) y = rw y refl
+word_of wide w p x (Home d) y = rw y refl
+word_of wide w p x (Root d l) y = rw y refl
+word_of wide w p x (Slot s r l) y = rw y refl
+word_of wide w p x Spare y = refl
+word_of wide w p x (Status d) y = refl
+word_of wide w p x (Redo d) y = refl
+word_of wide w p x (RedoMore d) y = refl
+word_of wide w p x (Hold d) y = refl
+word_of wide w p x (Latch d) y = refl
+word_of wide w p x (Era d l) y = refl
+word_of wide w p x (Tail s r) y = refl
+word_of wide w p x (QueueHead s r) y = refl
+word_of wide w p x (Segment s) y = refl
+word_of wide w p x (Page s q) y = refl
+word_of wide w p x (Unused s) y = refl
+word_of wide w p x (Head d) y = refl
+word_of wide w p x (Tag d) y = refl
 
 module _ (g : Geometry) (w : Spot → ℕ) (v : View) (h : HeldAt g w v) (c x : ℕ) (o : Op) (p : Spot) (inside : c < g.clients) (slot : slot_of (v.op c) ≡ p) (writes : Writes (v.op c) o x) where
   same : Same (v.op c) o x
@@ -108,7 +109,7 @@ module _ (g : Geometry) (w : Spot → ℕ) (v : View) (h : HeldAt g w v) (c x : 
   mine_at = subst (Holds w g v c) slot (h.slots c inside same.was)
 
   pub at_slot : IsAt g (λ s q. w (Page s q)) p
-  at_slot = subst (IsAt g (λ s q. w (Page s q))) slot (op_at g (λ s q. w (Page s q)) (w (Redo c)) (w (Era c c)) (words_of w) (v.op c) same.was (h.op c inside))
+  at_slot = subst (IsAt g (λ s q. w (Page s q))) slot (op_at g (λ s q. w (Page s q)) (w (Redo c)) (w (RedoMore c)) (w (Era c c)) (words_of g.wide w) (v.op c) same.was (h.op c inside))
 
   -- no other identity has a step at it
   off : (d : ℕ) → d < g.clients → c ≢ d → is_op (v.op d) ≡ true → same_spot p (slot_of (v.op d)) ≡ false
@@ -132,10 +133,10 @@ module _ (g : Geometry) (w : Spot → ℕ) (v : View) (h : HeldAt g w v) (c x : 
   pub slots_same : (d : ℕ) → d < g.clients → is_op (at1 v.op c o d) ≡ true → Holds w g v d (slot_of (at1 v.op c o d))
   slots_same d = at1_all (λ (j : ℕ) (k : Op). j < g.clients → is_op k ≡ true → Holds w g v j (slot_of k)) v.op c o d (λ l _. subst (Holds w g v c) (sym same.slot) (h.slots c l same.was)) (λ n. h.slots d)
 
-  pub ops_same : word_at (words_of (upd w p x)) p ≡ x → (d : ℕ) → d < g.clients → OpTie g (λ s q. w (Page s q)) (w (Redo d)) (w (Era d d)) (words_of (upd w p x)) (at1 v.op c o d)
-  ops_same here d = at1_all (λ (j : ℕ) (k : Op). j < g.clients → OpTie g (λ s q. w (Page s q)) (w (Redo j)) (w (Era j j)) (words_of (upd w p x)) k) v.op c o d
-      (λ l. tie g (λ s q. w (Page s q)) (w (Redo c)) (w (Era c c)) (words_of w) (words_of (upd w p x)) (v.op c) o x writes (subst (λ q. word_at (words_of (upd w p x)) q ≡ x) (sym slot) here) (h.op c l))
-      (λ n l. tie_other g (λ s q. w (Page s q)) (w (Redo d)) (w (Era d d)) (words_of w) (words_of (upd w p x)) (v.op d) (λ y. word_of w p x (slot_of (v.op d)) (off d l n y)) (h.op d l))
+  pub ops_same : word_at (words_of g.wide (upd w p x)) p ≡ x → (d : ℕ) → d < g.clients → OpTie g (λ s q. w (Page s q)) (w (Redo d)) (w (RedoMore d)) (w (Era d d)) (words_of g.wide (upd w p x)) (at1 v.op c o d)
+  ops_same here d = at1_all (λ (j : ℕ) (k : Op). j < g.clients → OpTie g (λ s q. w (Page s q)) (w (Redo j)) (w (RedoMore j)) (w (Era j j)) (words_of g.wide (upd w p x)) k) v.op c o d
+      (λ l. tie g (λ s q. w (Page s q)) (w (Redo c)) (w (RedoMore c)) (w (Era c c)) (words_of g.wide w) (words_of g.wide (upd w p x)) (v.op c) o x writes (subst (λ q. word_at (words_of g.wide (upd w p x)) q ≡ x) (sym slot) here) (h.op c l))
+      (λ n l. tie_other g (λ s q. w (Page s q)) (w (Redo d)) (w (RedoMore d)) (w (Era d d)) (words_of g.wide w) (words_of g.wide (upd w p x)) (v.op d) (λ y. word_of g.wide w p x (slot_of (v.op d)) (off d l n y)) (h.op d l))
 
   -- the slot's target is what the step gives it, whatever the word
   covered_here : (y : ℕ) → covered (λ d. cover_of (v.op d)) g.clients p y ≡ x
@@ -148,17 +149,18 @@ module _ (g : Geometry) (w : Spot → ℕ) (v : View) (h : HeldAt g w v) (c x : 
   stored_target q false y = rw y refl
 
   -- the targets stay
-  pub targets_same : ((b : ℕ) → (words_of (upd w p x)).refs b ≡ (words_of w).refs b) → target g.clients (words_of (upd w p x)) (λ d. cover_of (at1 v.op c o d)) ≡ targets g w v
-  targets_same refs = ap (target g.clients (words_of (upd w p x))) (fun_ext (λ d. at1_all (λ (j : ℕ) (k : Op). cover_of k ≡ cover_of (v.op j)) v.op c o d (same.after ∙ sym same.before) (λ _. refl))) ∙ fun_ext go
+  pub targets_same : ((b : ℕ) → (words_of g.wide (upd w p x)).refs b ≡ (words_of g.wide w).refs b) → target g.clients (words_of g.wide (upd w p x)) (λ d. cover_of (at1 v.op c o d)) ≡ targets g w v
+  targets_same refs = ap (target g.clients (words_of g.wide (upd w p x))) (fun_ext (λ d. at1_all (λ (j : ℕ) (k : Op). cover_of k ≡ cover_of (v.op j)) v.op c o d (same.after ∙ sym same.before) (λ _. refl))) ∙ fun_ext go
     where
-      go : (q : Spot) → target g.clients (words_of (upd w p x)) (λ d. cover_of (v.op d)) q ≡ targets g w v q
-      go (Body d j) = ap (λ m. cond (ltb j m) (covered (λ d. cover_of (v.op d)) g.clients (Body d j) (upd w p x (Body d j))) 0) (refs d) ∙ ap (λ z. cond (ltb j ((words_of w).refs d)) z 0) (stored_target (Body d j) (same_spot p (Body d j)) refl)
+      go : (q : Spot) → target g.clients (words_of g.wide (upd w p x)) (λ d. cover_of (v.op d)) q ≡ targets g w v q
+      go (Body d j) = ap (λ m. cond (ltb j m) (covered (λ d. cover_of (v.op d)) g.clients (Body d j) (upd w p x (Body d j))) 0) (refs d) ∙ ap (λ z. cond (ltb j ((words_of g.wide w).refs d)) z 0) (stored_target (Body d j) (same_spot p (Body d j)) refl)
       go (Home d) = stored_target (Home d) (same_spot p (Home d)) refl
       go (Root d l) = stored_target (Root d l) (same_spot p (Root d l)) refl
       go (Slot s r l) = stored_target (Slot s r l) (same_spot p (Slot s r l)) refl
       go Spare = refl
       go (Status d) = refl
       go (Redo d) = refl
+      go (RedoMore d) = refl
       go (Hold d) = refl
       go (Latch d) = refl
       go (Era d l) = refl

@@ -14,7 +14,7 @@ use Rattle.shm_graph.specs.declared.memo.Stored.{Stored}
 use Rattle.shm_graph.specs.declared.memo.Look.{Look}
 use Rattle.shm_graph.specs.declared.memo.Making.{Making}
 use Rattle.shm_words.specs.Classes.{class_for}
-use Rattle.shm_words.specs.Tags.{tag_refs, tag_plain, tag_author, tag_link}
+use Rattle.shm_words.specs.Tags.{tag_refs, tag_plain, tag_author, tag_link, tag_limit}
 use Rattle.shm_graph.specs.Spots.{upd}
 use Rattle.shm_graph.specs.Stores.{other_than, not_block}
 use Rattle.shm_graph.specs.Views.{View, targets, at1}
@@ -44,13 +44,13 @@ pub record AllocNeeds (g : Geometry) (w : Spot → ℕ) (v : View) (c k b e to t
   pub small : to < 2 ^ 64
   pub new : header_of to ≡ record { live = true; client = c; count = 1; era = e }
   pub tagged : Contains m.words (record { spot = Tag b; value = tag })
-  pub small_tag : tag < 2 ^ 35
-  pub refs : tag_refs tag ≤ 16
-  pub plain : tag_plain tag ≤ 8
-  pub author : tag_author tag ≡ c
-  pub link : tag_link tag ≡ 0
-  pub fits : class_for (tag_refs tag) (tag_plain tag) ≡ m.class
-  pub zeros : (i : ℕ) → i < tag_refs tag → Contains m.words (record { spot = Body b i; value = 0 })
+  pub small_tag : tag < tag_limit g.wide
+  pub refs : tag_refs g.wide tag ≤ 16
+  pub plain : tag_plain g.wide tag ≤ 8
+  pub author : tag_author g.wide tag ≡ c
+  pub link : tag_link g.wide tag ≡ 0
+  pub fits : class_for (tag_refs g.wide tag) (tag_plain g.wide tag) ≡ m.class
+  pub zeros : (i : ℕ) → i < tag_refs g.wide tag → Contains m.words (record { spot = Body b i; value = 0 })
 
 abbrev pub alloc_view : View → ℕ → ℕ → ℕ → ℕ → Making → View
 alloc_view v c k b e m =
@@ -83,8 +83,8 @@ pub record UpNeeds (g : Geometry) (w : Spot → ℕ) (v : View) (c b e to : ℕ)
   pub new : header_of to ≡ record { live = true; client = c; count = (header_of (w (Head b))).count + 1; era = e }
   pub shows : RowShows (λ i j. w (Era i j)) (header_of (w (Head b))) c
   -- in a pool for tables a block that is sent is a value block, and the part is the one that the new targets hold
-  pub queued : is_loose (v.part c) ≡ false → is_slot p ≡ true → HasShape (contents_of w (targets g w v)) 0 1 b
-  pub parted : PartTie (contents_of w (upd (targets g w v) p b)) c (upd (targets g w v) p b (Home c)) part
+  pub queued : is_loose (v.part c) ≡ false → is_slot p ≡ true → HasShape (contents_of g.wide w (targets g w v)) 0 1 b
+  pub parted : PartTie (contents_of g.wide w (upd (targets g w v) p b)) c (upd (targets g w v) p b (Home c)) part
   pub loose : is_loose part ≡ is_loose (v.part c)
 
 abbrev pub up_view : View → ℕ → ℕ → ℕ → Spot → Part → View
@@ -134,13 +134,13 @@ pub record LowerNeeds (g : Geometry) (w : Spot → ℕ) (v : View) (c b e n to :
   pub lower : n + 1 ≡ (header_of (w (Head b))).count
   pub shows : RowShows (λ i j. w (Era i j)) (header_of (w (Head b))) c
   -- of the memo's own change: what stays of looks and known is sound for the new targets, and the slot's block stays in reach
-  pub looked : LooksSound (λ a. upd (targets g w v) p 0 (Home a)) (λ b i. upd (targets g w v) p 0 (Body b i)) (λ b. tag_author (w (Tag b))) (v.latch c) (named_by (upd (targets g w v) p 0) (λ s r. w (Tail s r)) (λ s r. w (QueueHead s r)) c) [] looks
-  pub slot : SlotOf c (λ i. header_of (w (Head i))) (λ i. w (Tag i)) (v.latch c) (λ s r. w (Tail s r)) (λ s r. w (QueueHead s r)) (reach_of (upd (targets g w v) p 0) (λ s r. w (Tail s r)) (λ s r. w (QueueHead s r)) (λ d. looks) c) p
-  pub knows : All (λ (s : Stored). KnownAt c (λ i. w (Tag i)) (λ i j. w (Body i j)) (λ i j l. w (Slot i j l)) (λ i j. w (Tail i j)) (λ i j. w (QueueHead i j)) (λ s. untaken_after c p b v.untaken c s) (v.latch c)
+  pub looked : LooksSound (λ a. upd (targets g w v) p 0 (Home a)) (λ b i. upd (targets g w v) p 0 (Body b i)) (λ b. tag_author g.wide (w (Tag b))) (v.latch c) (named_by (upd (targets g w v) p 0) (λ s r. w (Tail s r)) (λ s r. w (QueueHead s r)) c) [] looks
+  pub slot : SlotOf g.wide c (λ i. header_of (w (Head i))) (λ i. w (Tag i)) (v.latch c) (λ s r. w (Tail s r)) (λ s r. w (QueueHead s r)) (reach_of (upd (targets g w v) p 0) (λ s r. w (Tail s r)) (λ s r. w (QueueHead s r)) (λ d. looks) c) p
+  pub knows : All (λ (s : Stored). KnownAt g.wide c (λ i. w (Tag i)) (λ i j. w (Body i j)) (λ i j l. w (Slot i j l)) (λ i j. w (Tail i j)) (λ i j. w (QueueHead i j)) (λ s. untaken_after c p b v.untaken c s) (v.latch c)
       (reach_of (upd (targets g w v) p 0) (λ i j. w (Tail i j)) (λ i j. w (QueueHead i j)) (λ d. looks) c) (dying_after n b (v.dying c)) s.spot s.value) kept
   -- so is what stays of the value blocks, and the part is the one that the new targets hold
-  pub valued : All (ValueAt (contents_of w (upd (targets g w v) p 0)) (reach_of (upd (targets g w v) p 0) (λ i j. w (Tail i j)) (λ i j. w (QueueHead i j)) (λ d. looks) c)) values
-  pub parted : PartTie (contents_of w (upd (targets g w v) p 0)) c (upd (targets g w v) p 0 (Home c)) part
+  pub valued : All (ValueAt (contents_of g.wide w (upd (targets g w v) p 0)) (reach_of (upd (targets g w v) p 0) (λ i j. w (Tail i j)) (λ i j. w (QueueHead i j)) (λ d. looks) c)) values
+  pub parted : PartTie (contents_of g.wide w (upd (targets g w v) p 0)) c (upd (targets g w v) p 0 (Home c)) part
   pub loose : is_loose part ≡ is_loose (v.part c)
 
 -- ---- the exchange of a change's first half
@@ -172,13 +172,13 @@ pub record ChangeNeeds (g : Geometry) (w : Spot → ℕ) (v : View) (c x b e to 
   pub rooted : (d k : ℕ) → named.0 ≡ Root d k → d ≡ c
   pub new : header_of to ≡ record { live = true; client = c; count = (header_of (w (Head b))).count + 1; era = e }
   pub shows : RowShows (λ i j. w (Era i j)) (header_of (w (Head b))) c
-  pub looked : LooksSound (λ a. upd (targets g w v) p b (Home a)) (λ d i. upd (targets g w v) p b (Body d i)) (λ b. tag_author (w (Tag b))) (v.latch c) (named_by (upd (targets g w v) p b) (λ s r. w (Tail s r)) (λ s r. w (QueueHead s r)) c) [] looks
-  pub slot : SlotOf c (λ i. header_of (w (Head i))) (λ i. w (Tag i)) (v.latch c) (λ s r. w (Tail s r)) (λ s r. w (QueueHead s r)) (reach_of (upd (targets g w v) p b) (λ s r. w (Tail s r)) (λ s r. w (QueueHead s r)) (λ d. looks) c) p
-  pub knows : All (λ (s : Stored). KnownAt c (λ i. w (Tag i)) (λ i j. w (Body i j)) (λ i j l. w (Slot i j l)) (λ i j. w (Tail i j)) (λ i j. w (QueueHead i j)) (v.untaken c) (v.latch c)
+  pub looked : LooksSound (λ a. upd (targets g w v) p b (Home a)) (λ d i. upd (targets g w v) p b (Body d i)) (λ b. tag_author g.wide (w (Tag b))) (v.latch c) (named_by (upd (targets g w v) p b) (λ s r. w (Tail s r)) (λ s r. w (QueueHead s r)) c) [] looks
+  pub slot : SlotOf g.wide c (λ i. header_of (w (Head i))) (λ i. w (Tag i)) (v.latch c) (λ s r. w (Tail s r)) (λ s r. w (QueueHead s r)) (reach_of (upd (targets g w v) p b) (λ s r. w (Tail s r)) (λ s r. w (QueueHead s r)) (λ d. looks) c) p
+  pub knows : All (λ (s : Stored). KnownAt g.wide c (λ i. w (Tag i)) (λ i j. w (Body i j)) (λ i j l. w (Slot i j l)) (λ i j. w (Tail i j)) (λ i j. w (QueueHead i j)) (v.untaken c) (v.latch c)
       (reach_of (upd (targets g w v) p b) (λ i j. w (Tail i j)) (λ i j. w (QueueHead i j)) (λ d. looks) c) (v.dying c) s.spot s.value) kept
   -- so is what stays of the value blocks, and the part is the one that the new targets hold
-  pub valued : All (ValueAt (contents_of w (upd (targets g w v) p b)) (reach_of (upd (targets g w v) p b) (λ i j. w (Tail i j)) (λ i j. w (QueueHead i j)) (λ d. looks) c)) values
-  pub parted : PartTie (contents_of w (upd (targets g w v) p b)) c (upd (targets g w v) p b (Home c)) part
+  pub valued : All (ValueAt (contents_of g.wide w (upd (targets g w v) p b)) (reach_of (upd (targets g w v) p b) (λ i j. w (Tail i j)) (λ i j. w (QueueHead i j)) (λ d. looks) c)) values
+  pub parted : PartTie (contents_of g.wide w (upd (targets g w v) p b)) c (upd (targets g w v) p b (Home c)) part
   pub loose : is_loose part ≡ is_loose (v.part c)
 
 -- ---- the exchange of a change's second half: the block before loses the reference that what is held over was
@@ -204,8 +204,8 @@ pub record SecondNeeds (g : Geometry) (w : Spot → ℕ) (v : View) (c x b e n t
   pub new : header_of to ≡ record { live = true; client = c; count = n; era = e }
   pub lower : n + 1 ≡ (header_of (w (Head x))).count
   pub shows : RowShows (λ i j. w (Era i j)) (header_of (w (Head x))) c
-  pub looked : LooksSound (λ a. targets g w v (Home a)) (λ b i. targets g w v (Body b i)) (λ b. tag_author (w (Tag b))) (v.latch c) (named_by (targets g w v) (λ s r. w (Tail s r)) (λ s r. w (QueueHead s r)) c) [] looks
-  pub slot : SlotOf c (λ i. header_of (w (Head i))) (λ i. w (Tag i)) (v.latch c) (λ s r. w (Tail s r)) (λ s r. w (QueueHead s r)) (reach_of (targets g w v) (λ s r. w (Tail s r)) (λ s r. w (QueueHead s r)) (λ d. looks) c) p
-  pub knows : All (λ (s : Stored). KnownAt c (λ i. w (Tag i)) (λ i j. w (Body i j)) (λ i j l. w (Slot i j l)) (λ i j. w (Tail i j)) (λ i j. w (QueueHead i j)) (v.untaken c) (v.latch c)
+  pub looked : LooksSound (λ a. targets g w v (Home a)) (λ b i. targets g w v (Body b i)) (λ b. tag_author g.wide (w (Tag b))) (v.latch c) (named_by (targets g w v) (λ s r. w (Tail s r)) (λ s r. w (QueueHead s r)) c) [] looks
+  pub slot : SlotOf g.wide c (λ i. header_of (w (Head i))) (λ i. w (Tag i)) (v.latch c) (λ s r. w (Tail s r)) (λ s r. w (QueueHead s r)) (reach_of (targets g w v) (λ s r. w (Tail s r)) (λ s r. w (QueueHead s r)) (λ d. looks) c) p
+  pub knows : All (λ (s : Stored). KnownAt g.wide c (λ i. w (Tag i)) (λ i j. w (Body i j)) (λ i j l. w (Slot i j l)) (λ i j. w (Tail i j)) (λ i j. w (QueueHead i j)) (v.untaken c) (v.latch c)
       (reach_of (targets g w v) (λ i j. w (Tail i j)) (λ i j. w (QueueHead i j)) (λ d. looks) c) (dying_after n x (v.dying c)) s.spot s.value) kept
-  pub valued : All (ValueAt (contents_of w (targets g w v)) (reach_of (targets g w v) (λ i j. w (Tail i j)) (λ i j. w (QueueHead i j)) (λ d. looks) c)) values
+  pub valued : All (ValueAt (contents_of g.wide w (targets g w v)) (reach_of (targets g w v) (λ i j. w (Tail i j)) (λ i j. w (QueueHead i j)) (λ d. looks) c)) values

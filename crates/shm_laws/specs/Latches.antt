@@ -1,5 +1,5 @@
 -- the kinds of step of latches, and the load of a reference word under a latch: what each needs, and what it makes of the memos
-use Rattle.std.specs.Prelude.{◌≡◌, ◌≢◌, ℕ, ◌+◌, ◌^◌, ◌<◌, ◌≤◌, ◌&&◌, ◌==◌, if◌then◌else◌, List, [], ◌∷◌, ◌++◌, Some, None}
+use Rattle.std.specs.Prelude.{◌≡◌, ◌≢◌, ℕ, ◌+◌, ◌<◌, List, [], ◌∷◌, ◌++◌, Some, None}
 use Rattle.std.specs.List.{All}
 use Rattle.shm_words.specs.declared.geometry.Geometry.{Geometry}
 use Rattle.shm_graph.specs.declared.spot.Spot.{Spot}
@@ -40,9 +40,9 @@ pub record BackNeeds (g : Geometry) (w : Spot → ℕ) (v : View) (c a : ℕ) (k
   pub op : v.op c ≡ Nothing
   pub latch : v.latch c ≡ Some a
   -- what is kept of what is known, and of the value blocks, is in reach without looks
-  pub knows : All (λ (s : Stored). KnownAt c (λ i. w (Tag i)) (λ i j. w (Body i j)) (λ i j l. w (Slot i j l)) (λ i j. w (Tail i j)) (λ i j. w (QueueHead i j)) (v.untaken c) None
+  pub knows : All (λ (s : Stored). KnownAt g.wide c (λ i. w (Tag i)) (λ i j. w (Body i j)) (λ i j l. w (Slot i j l)) (λ i j. w (Tail i j)) (λ i j. w (QueueHead i j)) (v.untaken c) None
       (reach_of (targets g w v) (λ i j. w (Tail i j)) (λ i j. w (QueueHead i j)) (λ d. []) c) (v.dying c) s.spot s.value) kept
-  pub valued : All (ValueAt (contents_of w (targets g w v)) (reach_of (targets g w v) (λ i j. w (Tail i j)) (λ i j. w (QueueHead i j)) (λ d. []) c)) values
+  pub valued : All (ValueAt (contents_of g.wide w (targets g w v)) (reach_of (targets g w v) (λ i j. w (Tail i j)) (λ i j. w (QueueHead i j)) (λ d. []) c)) values
 
 abbrev pub back_view : View → ℕ → List Stored → List ℕ → View
 back_view v c kept values =
@@ -61,9 +61,9 @@ pub record LookNeeds (g : Geometry) (w : Spot → ℕ) (v : View) (c b i : ℕ) 
   pub acts : v.status c ≢ status.New
   pub here : v.status c ≢ status.Gone
   pub op : v.op c ≡ Nothing
-  pub latch : v.latch c ≡ Some (tag_author (w (Tag b)))
+  pub latch : v.latch c ≡ Some (tag_author g.wide (w (Tag b)))
   pub reach : reach_of (targets g w v) (λ s r. w (Tail s r)) (λ s r. w (QueueHead s r)) v.looks c b
-  pub refs : i < tag_refs (w (Tag b))
+  pub refs : i < tag_refs g.wide (w (Tag b))
   pub some : w (Body b i) ≢ 0
 
 abbrev pub look_view : View → ℕ → ℕ → ℕ → ℕ → View

@@ -1,10 +1,10 @@
--- the kinds of step that store own words: the redo word, a row, the own era, a tail, a head and the hold word: what each needs, and what it makes of the memos
+-- the kinds of step that store own words: the words of the redo record, a row, the own era, a tail, a head and the hold word: what each needs, and what it makes of the memos
 use Rattle.std.specs.Prelude.{◌≡◌, ◌≢◌, ℕ, ◌+◌, ◌^◌, ◌<◌, ◌≤◌, true, ◌&&◌, ◌==◌, if◌then◌else◌, [], ◌∷◌, ◌++◌, None}
 use Rattle.std.specs.List.{Contains}
 use Rattle.shm_words.specs.Headers.{header_of}
 use Rattle.shm_words.specs.declared.geometry.Geometry.{Geometry}
 use Rattle.shm_graph.specs.declared.spot.Spot.{Spot}
-use Rattle.shm_graph.specs.declared.spot.Spot.TheVariants.{Redo, Hold, Era, Tail, QueueHead, Page, Head, Tag}
+use Rattle.shm_graph.specs.declared.spot.Spot.TheVariants.{Redo, RedoMore, Hold, Era, Tail, QueueHead, Page, Head, Tag}
 use Rattle.shm_graph.specs.declared.memo.First.TheVariants.{Written}
 use Rattle.shm_graph.specs.declared.memo.Op.{Op}
 use Rattle.shm_graph.specs.declared.memo.Op.TheVariants.{Nothing, Alloc, Up, Down, Change}
@@ -15,10 +15,10 @@ use Rattle.shm_graph.specs.Spots.{IsAt}
 use Rattle.shm_graph.specs.References.{words_of}
 use Rattle.shm_graph.specs.Ops.{cover_of, on_of, held_over_of, slot_of, is_op, Quiet}
 use Rattle.shm_graph.specs.Views.{View, targets, at1}
-use Rattle.shm_graph.specs.Held.{Allowed, OpTie, RedoTie, room_of, reach_of, SlotOf}
+use Rattle.shm_graph.specs.Held.{Allowed, OpTie, RedoTie, IsSecond, room_of, reach_of, SlotOf}
 use Rattle.shm_graph.specs.declared.memo.Status.TheVariants as status
 
--- ---- the store of a redo word, which begins an op
+-- ---- the store of a redo record, in format 2 of its first word, which begins an op
 
 pub record BeginNeeds (g : Geometry) (w : Spot → ℕ) (v : View) (c x : ℕ) (o : Op) : Type 0 where
   pub inside : c < g.clients
@@ -31,16 +31,34 @@ pub record BeginNeeds (g : Geometry) (w : Spot → ℕ) (v : View) (c x : ℕ) (
   pub held_over : held_over_of o ≡ 0
   pub quiet : cover_of o ≡ Quiet
   pub room : w (Era c c) + room_of o ≤ 2 ^ 47
-  pub tie : OpTie g (λ s q. w (Page s q)) x (w (Era c c)) (words_of w) o
-  pub names : RedoTie g (λ s q. w (Page s q)) x
+  pub tie : OpTie g (λ s q. w (Page s q)) x (w (RedoMore c)) (w (Era c c)) (words_of g.wide w) o
+  pub names : RedoTie g (λ s q. w (Page s q)) x (w (RedoMore c))
   pub allowed : Allowed c o
-  pub slot : is_op o ≡ true → SlotOf c (λ i. header_of (w (Head i))) (λ i. w (Tag i)) (v.latch c) (λ s r. w (Tail s r)) (λ s r. w (QueueHead s r)) (reach_of (targets g w v) (λ s r. w (Tail s r)) (λ s r. w (QueueHead s r)) v.looks c) (slot_of o)
+  pub slot : is_op o ≡ true → SlotOf g.wide c (λ i. header_of (w (Head i))) (λ i. w (Tag i)) (v.latch c) (λ s r. w (Tail s r)) (λ s r. w (QueueHead s r)) (reach_of (targets g w v) (λ s r. w (Tail s r)) (λ s r. w (QueueHead s r)) v.looks c) (slot_of o)
 
 abbrev pub begin_view : View → ℕ → ℕ → Op → View
 begin_view v c x o =
     record v {
       own = at1 v.own c (record { spot = Redo c; value = x } ∷ v.own c);
       op = at1 v.op c o;
+      test = at1 v.test c None;
+    }
+
+-- ---- in format 2 the store of the second word of a redo record, which finds no op and begins none
+
+pub record MoreNeeds (g : Geometry) (w : Spot → ℕ) (v : View) (c x : ℕ) : Type 0 where
+  pub inside : c < g.clients
+  pub acts : v.status c ≢ status.New
+  pub here : v.status c ≢ status.Gone
+  pub place : IsAt g (λ s q. w (Page s q)) (RedoMore c)
+  pub small : x < 2 ^ 64
+  pub op : v.op c ≡ Nothing
+  pub second : IsSecond g (λ s q. w (Page s q)) x
+
+abbrev pub more_view : View → ℕ → ℕ → View
+more_view v c x =
+    record v {
+      own = at1 v.own c (record { spot = RedoMore c; value = x } ∷ v.own c);
       test = at1 v.test c None;
     }
 

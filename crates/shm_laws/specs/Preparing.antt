@@ -1,5 +1,5 @@
 -- stores of words that nothing counts: of a free block that is prepared, and of the link of a dying block
-use Rattle.std.specs.Prelude.{◌≡◌, ◌≢◌, ℕ, ◌+◌, ◌/◌, ◌^◌, ◌<◌, Option, Some, None, List, [], ◌∷◌, ◌≤◌, ◌&&◌, ◌==◌, if◌then◌else◌, ◌++◌}
+use Rattle.std.specs.Prelude.{◌≡◌, ◌≢◌, ℕ, ◌+◌, ◌^◌, ◌<◌, Option, Some, None, List, [], ◌∷◌}
 use Rattle.std.specs.List.{Contains, filter}
 use Rattle.shm_words.specs.declared.geometry.Geometry.{Geometry}
 use Rattle.shm_graph.specs.declared.spot.Spot.{Spot}
@@ -11,7 +11,7 @@ use Rattle.shm_graph.specs.Blocks.{IsBlock}
 use Rattle.shm_graph.specs.Views.{View, at1}
 use Rattle.shm_graph.specs.Reach.{learnt}
 use Rattle.shm_graph.specs.declared.memo.Op.TheVariants.{Nothing}
-use Rattle.shm_words.specs.Tags.{tag_refs}
+use Rattle.shm_words.specs.Tags.{tag_refs, tag_limit, tag_shape}
 use Rattle.shm_graph.specs.Stores.{not_block, not_of}
 use Rattle.shm_graph.specs.declared.memo.Status.TheVariants as status
 
@@ -64,9 +64,9 @@ pub record LinkNeeds (g : Geometry) (w : Spot → ℕ) (v : View) (c b x : ℕ) 
   pub here : v.status c ≢ status.Gone
   pub dying : Contains (v.dying c) b
   pub place : IsAt g (λ s q. w (Page s q)) (Tag b)
-  pub small : x < 2 ^ 35
+  pub small : x < tag_limit g.wide
   -- the numbers of words and the author stay
-  pub shape : x / 2 ^ 20 ≡ w (Tag b) / 2 ^ 20
+  pub shape : tag_shape g.wide x ≡ tag_shape g.wide (w (Tag b))
 
 -- the tag is known; no commit test is open
 abbrev pub link_view : View → ℕ → ℕ → ℕ → View
@@ -85,7 +85,7 @@ pub record FreeNeeds (g : Geometry) (v : View) (c b tag : ℕ) : Type 0 where
   pub op : v.op c ≡ Nothing
   pub dying : Contains (v.dying c) b
   pub tagged : Contains (v.known c) (record { spot = Tag b; value = tag })
-  pub zeros : (i : ℕ) → i < tag_refs tag → Contains (v.known c) (record { spot = Body b i; value = 0 })
+  pub zeros : (i : ℕ) → i < tag_refs g.wide tag → Contains (v.known c) (record { spot = Body b i; value = 0 })
 
 abbrev pub free_view : View → ℕ → ℕ → View
 free_view v c b =

@@ -4,7 +4,7 @@ ghost use Rattle.std.specs.Prelude.{◌≡◌, ℕ, ◌+◌, ◌<◌, Option, So
 ghost use Rattle.shm_words.specs.declared.geometry.Geometry.{Geometry as AGeometry};
 ghost use Rattle.shm_words.specs.Headers.{header_of};
 ghost use Rattle.shm_graph.specs.declared.spot.Spot.{Spot as ASpot};
-ghost use Rattle.shm_graph.specs.declared.spot.Spot.TheVariants.{Redo, Hold, Latch, Era, Root, Tail, QueueHead, Segment, Page, Head, Body, Home, Slot, Tag};
+ghost use Rattle.shm_graph.specs.declared.spot.Spot.TheVariants.{Redo, RedoMore, Hold, Latch, Era, Root, Tail, QueueHead, Segment, Page, Head, Body, Home, Slot, Tag};
 ghost use Rattle.shm_graph.specs.declared.memo.Op.{Op as AnOp};
 ghost use Rattle.shm_graph.specs.declared.memo.Stored.{Stored as AStored};
 ghost use Rattle.shm_graph.specs.declared.memo.Look.{Look as ALook};
@@ -16,7 +16,7 @@ ghost use Rattle.shm_graph.specs.Views.{View};
 ghost use Rattle.shm_graph.specs.Events.{Nothing, Alloc, Up, Down, ChangeUp, ChangeDown, Free, graph_of, Happens};
 ghost use Rattle.shm_graph.specs.Held.{HeldAt};
 ghost use Rattle.shm_graph.specs.Readings.{next_row};
-ghost use Rattle.shm_laws.specs.OwnWords.{BeginNeeds, begin_view, RowNeeds, row_store_view, CloseNeeds, close_view, TailNeeds, tail_view, QueueHeadNeeds, head_view, HoldNeeds, hold_view};
+ghost use Rattle.shm_laws.specs.OwnWords.{BeginNeeds, begin_view, MoreNeeds, more_view, RowNeeds, row_store_view, CloseNeeds, close_view, TailNeeds, tail_view, QueueHeadNeeds, head_view, HoldNeeds, hold_view};
 ghost use Rattle.shm_laws.specs.Segments.{ClassNeeds, class_view, ClaimNeeds, claim_view, SegmentBackNeeds, segment_back_view};
 ghost use Rattle.shm_laws.specs.Slotting.{RootNeeds, root_view, BodyNeeds, body_view, HomeNeeds, home_view, QueueNeeds, queue_view};
 ghost use Rattle.shm_laws.specs.Latches.{BackNeeds, back_view, LatchNeeds, latch_view, LookNeeds, look_view};
@@ -24,10 +24,12 @@ ghost use Rattle.shm_laws.specs.Preparing.{FreeNeeds, free_view, PrepareNeeds, p
 ghost use Rattle.shm_laws.specs.Exchanges.{AllocNeeds, alloc_view, UpNeeds, up_view, LowerNeeds, lower_view, ChangeNeeds, change_view, SecondNeeds, second_view};
 ghost use Rattle.shm_laws.specs.Loads.{header_view, row_view};
 
-/// Stores of own words: a redo record that begins a step, a row, the own era that closes a step or the first half of a change, the
-/// tail of a queue whose send is closed, and the head of a queue whose item was taken.
+/// Stores of own words: a redo record, in format 2 its first word, which begins a step; in format 2 the second word of one, while no step
+/// is in progress; a row, the own era that closes a step or the first half of a change, the tail of a queue whose send is closed, and the
+/// head of a queue whose item was taken.
 pub fn own_stores_kept()
     ensures redo { (g : AGeometry) (w : ASpot → ℕ) (v : View) (c x : ℕ) (o : AnOp) → HeldAt g w v → BeginNeeds g w v c x o → HeldAt g (upd w (Redo c) x) (begin_view v c x o) }
+    ensures more { (g : AGeometry) (w : ASpot → ℕ) (v : View) (c x : ℕ) → HeldAt g w v → MoreNeeds g w v c x → HeldAt g (upd w (RedoMore c) x) (more_view v c x) }
     ensures row { (g : AGeometry) (w : ASpot → ℕ) (v : View) (c j x : ℕ) → HeldAt g w v → RowNeeds g w v c j x → HeldAt g (upd w (Era c j) x) (row_store_view v c j x) }
     ensures era { (g : AGeometry) (w : ASpot → ℕ) (v : View) (c : ℕ) (o : AnOp) → HeldAt g w v → CloseNeeds g v c o → HeldAt g (upd w (Era c c) (w (Era c c) + 1)) (close_view v c (w (Era c c) + 1) o) }
     ensures tail { (g : AGeometry) (w : ASpot → ℕ) (v : View) (c r : ℕ) → HeldAt g w v → TailNeeds g w v c r → HeldAt g (upd w (Tail c r) (w (Tail c r) + 1)) (tail_view v c r (w (Tail c r) + 1)) }
@@ -47,6 +49,7 @@ pub fn shared_stores_kept()
 /// Stores of own words, of a slot, of a class and of a latch, and the exchange of a latch, leave the graph as it is.
 pub fn stores_are_quiet()
     ensures redo { (g : AGeometry) (w : ASpot → ℕ) (v : View) (c x : ℕ) (o : AnOp) → HeldAt g w v → BeginNeeds g w v c x o → Happens g w Nothing (graph_of g w v) (graph_of g (upd w (Redo c) x) (begin_view v c x o)) }
+    ensures more { (g : AGeometry) (w : ASpot → ℕ) (v : View) (c x : ℕ) → HeldAt g w v → MoreNeeds g w v c x → Happens g w Nothing (graph_of g w v) (graph_of g (upd w (RedoMore c) x) (more_view v c x)) }
     ensures row { (g : AGeometry) (w : ASpot → ℕ) (v : View) (c j x : ℕ) → HeldAt g w v → RowNeeds g w v c j x → Happens g w Nothing (graph_of g w v) (graph_of g (upd w (Era c j) x) (row_store_view v c j x)) }
     ensures era { (g : AGeometry) (w : ASpot → ℕ) (v : View) (c : ℕ) (o : AnOp) → HeldAt g w v → CloseNeeds g v c o → Happens g w Nothing (graph_of g w v) (graph_of g (upd w (Era c c) (w (Era c c) + 1)) (close_view v c (w (Era c c) + 1) o)) }
     ensures tail { (g : AGeometry) (w : ASpot → ℕ) (v : View) (c r : ℕ) → HeldAt g w v → TailNeeds g w v c r → Happens g w Nothing (graph_of g w v) (graph_of g (upd w (Tail c r) (w (Tail c r) + 1)) (tail_view v c r (w (Tail c r) + 1))) }

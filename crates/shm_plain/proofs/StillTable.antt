@@ -23,5 +23,5 @@ module _ (p : Pool) (run : IsRun p) (still : IsStill p) where
   abbrev v : View
   v = view (memos_of p.accounts)
 
-  pub still_part : (c : ℕ) → c < g.clients → PartTie (contents_of w (references w)) c (w (Home c)) (memo_of p c).part
-  still_part c l = subst (λ (t : Spot → ℕ). PartTie (contents_of w t) c (t (Home c)) (memo_of p c).part) (targets_still g w v run.held.at still) (run.held.at.part c l)
+  pub still_part : (c : ℕ) → c < g.clients → PartTie (contents_of g.wide w (references g.wide w)) c (w (Home c)) (memo_of p c).part
+  still_part c l = subst (λ (t : Spot → ℕ). PartTie (contents_of g.wide w t) c (t (Home c)) (memo_of p c).part) (targets_still g w v run.held.at still) (run.held.at.part c l)

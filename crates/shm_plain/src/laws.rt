@@ -60,7 +60,7 @@ pub fn steps_of_pools()
 
 /// In a closed pool that was made for tables the words hold the partition of each identity that is a part of its memo.
 pub fn table_of_closed(closed: &PlainClosed)
-    ensures { (c : ℕ) → c < closed.now.start.geometry.clients → (chains : List (List AnEntry)) → (memo_of closed.now c).part ≡ Table chains → let w = see closed.now.start.geometry closed.now.words in IsPartition (contents_of w (references w)) c (w (Home c)) (λ b. slice_index_or chains b []) }
+    ensures { (c : ℕ) → c < closed.now.start.geometry.clients → (chains : List (List AnEntry)) → (memo_of closed.now c).part ≡ Table chains → let w = see closed.now.start.geometry closed.now.words in IsPartition (contents_of closed.now.start.geometry.wide w (references closed.now.start.geometry.wide w)) c (w (Home c)) (λ b. slice_index_or chains b []) }
 {
     closed.geometry();
 }

@@ -43,7 +43,7 @@ pub record Rule (s : Start) (ws : List ℕ) (views : List (List Account)) : Type
 
 -- an account of no pool, where a list has none
 abbrev pub no_account : Account
-no_account = first_account (record { geometry = record { clients = 0; segments = 0 }; first_era = 0; tables = false }) 0
+no_account = first_account (record { geometry = record { clients = 0; segments = 0; wide = false }; first_era = 0; tables = false }) 0
 
 -- the first account of a view
 abbrev pub head_account : List Account → Account

@@ -1,5 +1,5 @@
 -- how long an image without a fault is
-use Rattle.std.proofs.Common.{◌≡◌, ℕ, ◌+◌, ◌*◌, ◌<◌, ◌≤◌, Bool, true, false, not, cond, ◌&&◌, nat_lt, nat_le, eqb, List, length, slice_index, codes, arith, refl, sym, ◌∙◌, Option, Some, None}
+use Rattle.std.proofs.Common.{◌≡◌, ℕ, ◌+◌, ◌*◌, ◌<◌, ◌≤◌, Bool, true, false, not, cond, nat_lt, eqb, List, length, slice_index, codes, arith, refl, Option, Some, None}
 use Rattle.std.proofs.lemmas.Bool.Decides.{nat_tests}
 use Rattle.std.specs.Int.{w64, from_le_bytes}
 use Rattle.shm_words.specs.Layout.{GeometryFits, total_of}
@@ -39,6 +39,6 @@ image_short bytes none =
     let d = untaken (not (eqb (length bytes) (image_len g))) (fault.Length (length bytes) (image_len g)) None c.1 in
     let s = sizes (slice_index (numbers_in bytes) 1) (slice_index (numbers_in bytes) 2) (holds (is_size (slice_index (numbers_in bytes) 1) (slice_index (numbers_in bytes) 2)) c.0) in
     let fits : GeometryFits g = record { client = s.0; clients = s.1; segment = s.2.0; segments = s.2.1 } in
-    let most : total_of g ≤ 531793 = total_most g fits in
+    let most : total_of g ≤ 531793 = total_most g fits refl in
     let long : length bytes ≡ 24 + 8 * total_of g = same (length bytes) (image_len g) (holds (eqb (length bytes) (image_len g)) d.0) in
     omega (arith, long, most)

@@ -12,7 +12,7 @@ use Rattle.shm_graph.specs.declared.memo.Fact.TheVariants.{Counter}
 use Rattle.shm_graph.specs.declared.memo.Memo.{Memo}
 use Rattle.shm_graph.specs.declared.memo.Op.TheVariants.{Nothing}
 use Rattle.shm_graph.specs.Asks.{Trail, IsWithin}
-use Rattle.shm_graph.specs.Bounds.{drain_steps, tear_steps}
+use Rattle.shm_graph.specs.Bounds.{drain_steps, tear_steps, redo_steps}
 use Rattle.shm_graph.specs.Events.{Event}
 use Rattle.shm_graph.specs.Spots.{same_spot}
 use Rattle.shm_graph.specs.Views.{own_word}
@@ -89,7 +89,7 @@ pub record IsDraining (m : DrainState) (r0 r : Memo) (tr : Trail) (es : List Eve
   pub drained : Drained m.me items r0 r
   pub events : ItemsEvents m.me.who items es
   pub empty : AreEmpty m.me m.from r
-  pub bound : IsWithin (12 * length items + 2 * m.from + tear_steps (frees es) + 1) tr
+  pub bound : IsWithin ((11 + redo_steps m.me.geometry.wide) * length items + 2 * m.from + tear_steps m.me.geometry.wide (frees es) + 1) tr
 
 abbrev pub DrainKnows : DrainState → DrainPoint → Memo → Memo → Trail → List Event → Type 0
 DrainKnows m Status r0 r tr es = MayDrain m.me r0 × (m.taken ≡ 0) × (r ≡ r0) × (tr ≡ []) × (es ≡ [])
@@ -104,7 +104,7 @@ pub record DrainDone (me : Me) (n : ℕ) (r0 r : Memo) (tr : Trail) (es : List E
   pub drained : Drained me items r0 r
   pub events : ItemsEvents me.who items es
   pub empty : AreEmpty me me.geometry.clients r
-  pub bound : IsWithin (drain_steps me.geometry.clients n (frees es)) tr
+  pub bound : IsWithin (drain_steps me.geometry.wide me.geometry.clients n (frees es)) tr
 
 -- the own era left no room: these items were taken, and then a take was refused, which left q as it says
 pub record DrainStopped (me : Me) (r0 r : Memo) (tr : Trail) (es : List Event) (era : ℕ) : Type 0 where
@@ -118,7 +118,7 @@ pub record DrainStopped (me : Me) (r0 r : Memo) (tr : Trail) (es : List Event) (
   pub split : es ≡ before ++ after
   pub last : Trail
   pub spent : 2 ^ 47 - 3 < era
-  pub refused : (NotTaken me from q r last after era × IsWithin (drain_steps me.geometry.clients (length items) (frees es)) tr) ⊎ ((t : TakeStopped me from q r last after era) × IsWithin (drain_steps me.geometry.clients (length items + 1) (frees es + length t.left)) tr)
+  pub refused : (NotTaken me from q r last after era × IsWithin (drain_steps me.geometry.wide me.geometry.clients (length items) (frees es)) tr) ⊎ ((t : TakeStopped me from q r last after era) × IsWithin (drain_steps me.geometry.wide me.geometry.clients (length items + 1) (frees es + length t.left)) tr)
 
 abbrev pub DrainLeaves : DrainState → Memo → Memo → Trail → List Event → Result ℕ EraSpent → Type 0
 DrainLeaves m r0 r tr es (Ok n) = DrainDone m.me n r0 r tr es

@@ -1,5 +1,5 @@
 -- the head of a queue, its tail and its first item are read: what is known then
-use Rattle.std.proofs.Common.{◌≡◌, ◌≢◌, ℕ, ◌%◌, ◌^◌, ◌<◌, ◌≤◌, refl, sym, ap, ◌∙◌, subst, arith, true, false, List, [], ◌++◌, length}
+use Rattle.std.proofs.Common.{◌≡◌, ◌≢◌, ℕ, ◌%◌, ◌<◌, ◌≤◌, refl, sym, ap, ◌∙◌, subst, arith, true, false, List, [], ◌++◌, length}
 use Rattle.std.specs.Prelude.{slice_index}
 use Rattle.std.specs.List.{Contains}
 use Rattle.std.proofs.lemmas.Bool.{eq-eqb, true≢false}
@@ -85,7 +85,7 @@ module _ (me : Me) (s : ℕ) where
           },
         )
 
-    -- the item was read: a counted block of the pool, whose address has 20 bits
+    -- the item was read: a counted block of the pool, whose address has 24 bits
     pub item_read : IsHeld me r → (m : Word) (n : ℕ) → IsHeadRead me s at 2 r0 rs tr es → IsHeadSlot me.geometry.clients c rs s (at % 8) → WordLeaves (HeadSlotLoaded c s (at % 8)) m rs r t ds n → Grows false rs r
         → (n % address_limit ≡ n) × IsItemRead me s at n r0 r (tr ++ t) (es ++ ds)
     item_read held m n h slot w grows =

@@ -1,4 +1,5 @@
 pub mod Answers
+pub mod Costs
 pub mod QueueWords
 pub mod QueueSteps
 pub mod Send

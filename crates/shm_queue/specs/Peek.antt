@@ -3,6 +3,7 @@ pub mod Control
 pub mod Laws
 use Rattle.std.specs.Prelude.{◌≡◌, ◌≢◌, ℕ, ◌+◌, ◌-◌, ◌%◌, ◌^◌, ◌<◌, false, Result, Ok, Err, List, [], ◌∷◌}
 use Rattle.std.specs.List.{Contains}
+use Rattle.shm_graph.specs.Bounds.{redo_steps}
 use Rattle.shm_graph.specs.declared.ask.Ask.{Ask}
 use Rattle.shm_graph.specs.declared.ask.Ask.TheVariants as ask
 use Rattle.shm_graph.specs.declared.ask.Me.{Me}
@@ -56,14 +57,14 @@ pub record Peeked (me : Me) (s n b k : ℕ) (r0 r : Memo) (tr : Trail) (es : Lis
   pub before : (j : ℕ) → j < k → root_word me.who r0 j ≢ 0
   pub filled : Filled me.who (spot.Root me.who k) b (slot_memo me.who s n b r0) r
   pub events : es ≡ event.Up me.who (spot.Root me.who k) b ∷ []
-  pub bound : IsWithin (12 + k) tr
+  pub bound : IsWithin (11 + redo_steps me.geometry.wide + k) tr
 
 -- the item got no root: nothing was done, but that the item is known
 pub record NotPeeked (me : Me) (s n b : ℕ) (r0 r : Memo) (tr : Trail) (es : List Event) : Type 0 where
   pub at : n ≡ own_word r0.own (spot.QueueHead s me.who)
   pub untouched : Untouched me.who (slot_memo me.who s n b r0) r
   pub none : es ≡ []
-  pub bound : IsWithin 27 tr
+  pub bound : IsWithin (26 + redo_steps me.geometry.wide) tr
 
 abbrev pub PeekRefused : PeekState → Memo → Memo → Trail → List Event → PeekFault → Type 0
 PeekRefused m r0 r tr es (Empty n) = TakeEmpty m.me m.from n r0 r tr es

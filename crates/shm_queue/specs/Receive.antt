@@ -1,11 +1,11 @@
 -- a receive as a plan: what is known before each call, and what is left
 pub mod Control
 pub mod Laws
-use Rattle.std.specs.Prelude.{◌≡◌, ℕ, ◌+◌, ◌-◌, ◌^◌, ◌<◌, ◌⊎◌, Result, Ok, Err, List, [], ◌++◌, length}
+use Rattle.std.specs.Prelude.{◌≡◌, ℕ, ◌+◌, ◌-◌, ◌^◌, ◌<◌, ◌⊎◌, Result, Ok, Err, List, [], ◌++◌, length, ◌*◌}
 use Rattle.shm_graph.specs.declared.ask.Me.{Me}
 use Rattle.shm_graph.specs.declared.memo.Memo.{Memo}
 use Rattle.shm_graph.specs.Asks.{Trail, IsWithin}
-use Rattle.shm_graph.specs.Bounds.{tear_steps}
+use Rattle.shm_graph.specs.Bounds.{tear_steps, redo_steps}
 use Rattle.shm_graph.specs.Events.{Event}
 use Rattle.shm_calls.specs.CallsPart.{calls_part}
 use Rattle.shm_calls.specs.Either.{or_part}
@@ -48,7 +48,7 @@ pub record ReceiveDone (me : Me) (s b k : ℕ) (r0 r : Memo) (tr : Trail) (es : 
   pub look : IsPeeked me s b k r0 tr es
   pub taken : TakeDone me s look.q r look.next look.after
   pub item : taken.block ≡ b
-  pub bound : IsWithin (39 + tear_steps (frees es)) tr
+  pub bound : IsWithin (37 + 2 * redo_steps me.geometry.wide + tear_steps me.geometry.wide (frees es)) tr
 
 -- the item has a root, and the take was refused
 pub record ReceiveStopped (me : Me) (s : ℕ) (r0 r : Memo) (tr : Trail) (es : List Event) (era : ℕ) : Type 0 where
@@ -56,7 +56,7 @@ pub record ReceiveStopped (me : Me) (s : ℕ) (r0 r : Memo) (tr : Trail) (es : L
   pub root : ℕ
   pub look : IsPeeked me s block root r0 tr es
   pub spent : 2 ^ 47 - 3 < era
-  pub refused : (NotTaken me s look.q r look.next look.after era × IsWithin 31 tr) ⊎ ((t : TakeStopped me s look.q r look.next look.after era) × IsWithin (39 + tear_steps (frees es + length t.left)) tr)
+  pub refused : (NotTaken me s look.q r look.next look.after era × IsWithin (30 + redo_steps me.geometry.wide) tr) ⊎ ((t : TakeStopped me s look.q r look.next look.after era) × IsWithin (37 + 2 * redo_steps me.geometry.wide + tear_steps me.geometry.wide (frees es + length t.left)) tr)
 
 abbrev pub ReceiveRefused : ReceiveState → Memo → Memo → Trail → List Event → PeekFault → Type 0
 ReceiveRefused m r0 r tr es (EraSpent e) = PeekRefused (peeking m.me m.from) r0 r tr es (EraSpent e) ⊎ ReceiveStopped m.me m.from r0 r tr es e

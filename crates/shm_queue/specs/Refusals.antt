@@ -8,13 +8,13 @@ use Rattle.shm_graph.specs.Asks.{Trail}
 use Rattle.shm_graph.specs.Trails.{Answers, Chosen}
 use Rattle.shm_calls.specs.Parts.{Part, PartLaws}
 use Rattle.shm_count.specs.declared.answer.EraSpent.{EraSpent as ASpent}
-use Rattle.shm_count.specs.declared.answer.UpFault.TheVariants.{EraSpent, CountFull}
+use Rattle.shm_count.specs.declared.answer.UpFault.TheVariants.{EraSpent}
 use Rattle.shm_count.specs.declared.point.Aim.TheVariants.{Down}
 use Rattle.shm_count.specs.declared.point.StepState.{StepState}
 use Rattle.shm_count.specs.Slots.Parts.{down_slot_part, down_slot_laws}
 use Rattle.shm_count.specs.Step.Control.{last_era}
 use Rattle.shm_count.specs.Step.Machines.{down_control, down_told}
-use Rattle.shm_count.specs.Step.Asks.{StepTrails, exchange_trail, header_trail, redo_trail, row_trail, set_trail, show_trail, slot_trail, step_trail}
+use Rattle.shm_count.specs.Step.Asks.{StepTrails, exchange_trail, header_trail, redo_trail, row_trail, set_trail, show_trail, slot_trail, step_trail, first_trail, more_trail}
 
 -- ---- the trail
 
@@ -58,13 +58,20 @@ module _ (me : Me) (slot b e : ℕ) where
   never_redo : NeverSpent (redo_trail me slot (Down b) e)
   never_redo t d (n, (u, (s, (k, (v, (q, (i, x))))))) = never_set i k v d x
 
+  -- and its second word before
+  never_more : NeverSpent (more_trail me slot (Down b) e)
+  never_more t d (n, (u, (s, x))) = never_redo u d x
+
+  never_first : NeverSpent (first_trail me slot (Down b) e)
+  never_first = never_chosen me.geometry.wide (more_trail me slot (Down b) e) (redo_trail me slot (Down b) e) never_more never_redo
+
 -- so that a refusal is the load of the own era
 pub spent_one : (me : Me) (slot b : ℕ) (t : Trail) (e : ℕ) → step_trail me slot (Down b) t (Err (EraSpent e)) → length t ≡ 1
 spent_one me slot b t e (n, (rest, (same, h))) = go (nat_lt (last_era (Down b)) n) h
   where
-    go : (q : Bool) → Chosen q (Answers (Err (EraSpent n))) (redo_trail me slot (Down b) n) rest (Err (EraSpent e)) → length t ≡ 1
+    go : (q : Bool) → Chosen q (Answers (Err (EraSpent n))) (first_trail me slot (Down b) n) rest (Err (EraSpent e)) → length t ≡ 1
     go true (none, is) = ap length same ∙ (let l = ap length none in omega arith)
-    go false x = absurd (never_redo me slot b n rest e x)
+    go false x = absurd (never_first me slot b n rest e x)
 
 -- ---- the part
 

@@ -3,6 +3,7 @@ pub mod Control
 pub mod Laws
 use Rattle.std.specs.Prelude.{◌≡◌, ◌≢◌, ℕ, ◌+◌, ◌-◌, ◌%◌, ◌^◌, ◌<◌, ◌≤◌, true, false, Result, Ok, Err, List, [], ◌∷◌, slice_index}
 use Rattle.std.specs.List.{Contains}
+use Rattle.shm_graph.specs.Bounds.{redo_steps}
 use Rattle.shm_words.specs.Layout.{GeometryFits}
 use Rattle.shm_graph.specs.declared.ask.Ask.{Ask}
 use Rattle.shm_graph.specs.declared.ask.Ask.TheVariants as ask
@@ -73,7 +74,7 @@ pub record IsPut (me : Me) (i b n : ℕ) (r0 r : Memo) (tr : Trail) (es : List E
   pub some : b ≢ 0
   pub filled : Filled me.who (spot.Slot me.who i (n % 8)) b r0 r
   pub told : es ≡ event.Up me.who (spot.Slot me.who i (n % 8)) b ∷ []
-  pub bound : IsWithin 10 tr
+  pub bound : IsWithin (9 + redo_steps me.geometry.wide) tr
 
 abbrev pub SendKnows : SendState → SendPoint → Memo → Memo → Trail → List Event → Type 0
 SendKnows m Tail r0 r tr es = MaySendTo m.me m.to m.block r0 × (r ≡ r0) × (tr ≡ []) × (es ≡ [])
@@ -97,7 +98,7 @@ pub record Sent (c i b n : ℕ) (m r : Memo) : Type 0 where
 pub record SendDone (me : Me) (i b n : ℕ) (r0 r : Memo) (tr : Trail) (es : List Event) : Type 0 where
   pub sent : Sent me.who i b n r0 r
   pub told : es ≡ event.Up me.who (spot.Slot me.who i (n % 8)) b ∷ []
-  pub bound : IsWithin 11 tr
+  pub bound : IsWithin (10 + redo_steps me.geometry.wide) tr
 
 -- the own tail that was read is 8 above the head that was read
 pub record SendFull (me : Me) (i h n : ℕ) (r0 r : Memo) (tr : Trail) (es : List Event) : Type 0 where
@@ -108,15 +109,15 @@ pub record SendFull (me : Me) (i h n : ℕ) (r0 r : Memo) (tr : Trail) (es : Lis
   pub bound : IsWithin 2 tr
 
 -- the step up was refused: nothing of the memo changed but the redo record and rows, which grew
-pub record NotSent (c : ℕ) (r0 r : Memo) (tr : Trail) (es : List Event) : Type 0 where
-  pub untouched : Untouched c r0 r
+pub record NotSent (me : Me) (r0 r : Memo) (tr : Trail) (es : List Event) : Type 0 where
+  pub untouched : Untouched me.who r0 r
   pub none : es ≡ []
-  pub bound : IsWithin 10 tr
+  pub bound : IsWithin (9 + redo_steps me.geometry.wide) tr
 
 abbrev pub SendRefused : SendState → Memo → Memo → Trail → List Event → SendFault → Type 0
 SendRefused m r0 r tr es (QueueFull h n) = SendFull m.me m.to h n r0 r tr es
-SendRefused m r0 r tr es (EraSpent e) = NotSent m.me.who r0 r tr es × (e ≡ own_word r0.own (spot.Era m.me.who m.me.who)) × (2 ^ 47 - 3 < e)
-SendRefused m r0 r tr es (CountFull b n) = NotSent m.me.who r0 r tr es × (n ≡ 1023) × (b ≡ m.block)
+SendRefused m r0 r tr es (EraSpent e) = NotSent m.me r0 r tr es × (e ≡ own_word r0.own (spot.Era m.me.who m.me.who)) × (2 ^ 47 - 3 < e)
+SendRefused m r0 r tr es (CountFull b n) = NotSent m.me r0 r tr es × (n ≡ 1023) × (b ≡ m.block)
 
 abbrev pub SendLeaves : SendState → Memo → Memo → Trail → List Event → Result ℕ SendFault → Type 0
 SendLeaves m r0 r tr es (Ok n) = SendDone m.me m.to m.block n r0 r tr es

@@ -14,7 +14,7 @@ use Rattle.shm_graph.specs.declared.memo.Fact.TheVariants.{Counter}
 use Rattle.shm_graph.specs.declared.memo.Memo.{Memo}
 use Rattle.shm_graph.specs.declared.memo.Op.TheVariants.{Nothing}
 use Rattle.shm_graph.specs.Asks.{Trail, IsWithin}
-use Rattle.shm_graph.specs.Bounds.{tear_steps}
+use Rattle.shm_graph.specs.Bounds.{tear_steps, redo_steps}
 use Rattle.shm_graph.specs.Core.{core}
 use Rattle.shm_graph.specs.Events.{Event}
 use Rattle.shm_graph.specs.Events as event
@@ -107,7 +107,7 @@ pub record IsOut (me : Me) (s n b : ℕ) (z : Bool) (r0 r : Memo) (tr : Trail) (
   pub here : IsHere r
   pub lost : Lost me.who (spot.Slot s me.who (n % 8)) true b 0 z (slot_memo me.who s n b r0) r
   pub told : es ≡ event.Down me.who (spot.Slot s me.who (n % 8)) b ∷ []
-  pub bound : IsWithin 11 tr
+  pub bound : IsWithin (10 + redo_steps me.geometry.wide) tr
 
 -- the head is stored, and the count of the item came to 0
 pub record IsReceived (me : Me) (s n b : ℕ) (r0 r : Memo) (tr : Trail) (es : List Event) : Type 0 where
@@ -119,7 +119,7 @@ pub record IsReceived (me : Me) (s n b : ℕ) (r0 r : Memo) (tr : Trail) (es : L
   pub held : IsHeld me r
   pub can : CanTear me b r
   pub told : es ≡ event.Down me.who (spot.Slot s me.who (n % 8)) b ∷ []
-  pub bound : IsWithin 12 tr
+  pub bound : IsWithin (11 + redo_steps me.geometry.wide) tr
 
 abbrev pub TakeKnows : TakeState → TakePoint → Memo → Memo → Trail → List Event → Type 0
 TakeKnows m Head r0 r tr es = MayTakeFrom m.me m.from r0 × (r ≡ r0) × (tr ≡ []) × (es ≡ [])
@@ -157,7 +157,7 @@ pub record TakeDone (me : Me) (s : ℕ) (r0 r : Memo) (tr : Trail) (es : List Ev
   pub received : Received me.who s place block r0 r
   pub dying : r.dying ≡ r0.dying
   pub events : TakeEvents me.who s place block es
-  pub bound : IsWithin (12 + tear_steps (frees es)) tr
+  pub bound : IsWithin (11 + redo_steps me.geometry.wide + tear_steps me.geometry.wide (frees es)) tr
 
 -- the tail that was read is the own head: nothing was done
 pub record TakeEmpty (me : Me) (s n : ℕ) (r0 r : Memo) (tr : Trail) (es : List Event) : Type 0 where
@@ -191,7 +191,7 @@ pub record TakeStopped (me : Me) (s : ℕ) (r0 r : Memo) (tr : Trail) (es : List
   pub walks : Walks me.who block after left
   pub stopped : StoppedAt me r0 r era left
   pub most : era ≤ own_word r.own (spot.Era me.who me.who)
-  pub bound : IsWithin (12 + tear_steps (frees es + length left)) tr
+  pub bound : IsWithin (11 + redo_steps me.geometry.wide + tear_steps me.geometry.wide (frees es + length left)) tr
 
 abbrev pub TakeRefused : TakeState → Memo → Memo → Trail → List Event → TakeFault → Type 0
 TakeRefused m r0 r tr es (Empty n) = TakeEmpty m.me m.from n r0 r tr es

@@ -5,6 +5,7 @@ pub mod Laws
 pub mod Gone
 use Rattle.std.specs.Prelude.{◌≡◌, ℕ, ◌+◌, ◌*◌, ◌<◌, ◌≤◌, Result, Ok, Err, List, [], slice_index, None}
 use Rattle.std.specs.List.{Contains}
+use Rattle.shm_graph.specs.Bounds.{redo_steps, tear_steps}
 use Rattle.shm_graph.specs.declared.ask.Me.{Me}
 use Rattle.shm_graph.specs.declared.spot.Spot.TheVariants.{Hold}
 use Rattle.shm_graph.specs.declared.memo.Memo.{Memo}
@@ -53,7 +54,7 @@ pub record IsLeaving (me : Me) (s : ℕ) (m : Memo) : Type 0 where
 pub record HasLeft (me : Me) (n : ℕ) (r0 r : Memo) (tr : Trail) (es : List Event) : Type 0 where
   pub part : r.part ≡ r0.part
   pub events : RootsEvents me.who r0 16 es
-  pub bound : IsWithin (144 + n + 164 * frees es) tr
+  pub bound : IsWithin ((8 + redo_steps me.geometry.wide) * 16 + n + tear_steps me.geometry.wide (frees es)) tr
 
 abbrev pub LeaveKnows : LeaveState → LeavePoint → Memo → Memo → Trail → List Event → Type 0
 LeaveKnows m Roots r0 r tr es = MayLeave m.me r0 × (r ≡ r0) × (tr ≡ []) × (es ≡ []) × (m.segment ≡ 0)
@@ -69,7 +70,7 @@ pub record HasGone (me : Me) (r0 r : Memo) (tr : Trail) (es : List Event) : Type
   pub left : GoneNow me.who r
   pub part : r.part ≡ r0.part
   pub events : RootsEvents me.who r0 16 es
-  pub bound : IsWithin (2 * me.geometry.segments + 164 * frees es + 145) tr
+  pub bound : IsWithin (2 * me.geometry.segments + tear_steps me.geometry.wide (frees es) + 129 + 16 * redo_steps me.geometry.wide) tr
 
 -- the identity is gone, or the own era left no room for a step down of a root
 abbrev pub LeaveLeaves : LeaveState → Memo → Memo → Trail → List Event → Result (Unit {0}) EraSpent → Type 0

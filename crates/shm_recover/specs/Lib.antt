@@ -1,3 +1,4 @@
+pub mod Costs
 pub mod Join
 pub mod Leave
 pub mod MendRest

@@ -3,17 +3,17 @@ pub mod Control
 pub mod Steps
 pub mod Slots
 pub mod Words
+pub mod SecondWord
 pub mod Tied
 pub mod Laws
 pub mod Machines
-use Rattle.std.specs.Prelude.{◌≡◌, ◌≢◌, ℕ, ◌+◌, ◌*◌, ◌^◌, ◌<◌, ◌≤◌, ◌⊎◌, Bool, true, false, None, Some, List, [], ◌∷◌, ◌++◌, slice_index}
+use Rattle.std.specs.Prelude.{◌≡◌, ◌≢◌, ℕ, ◌+◌, ◌^◌, ◌<◌, ◌≤◌, ◌⊎◌, Bool, true, false, None, Some, List, [], ◌∷◌, ◌++◌}
 use Rattle.shm_words.specs.declared.redo.Redo.{Redo as ARedo}
 use Rattle.shm_words.specs.declared.redo.Redo.TheVariants as redos
 use Rattle.shm_words.specs.Layout.{GeometryFits, total_of}
-use Rattle.shm_words.specs.Redos.{redo_of}
 use Rattle.shm_graph.specs.declared.ask.Me.{Me}
 use Rattle.shm_graph.specs.declared.spot.Spot.{Spot}
-use Rattle.shm_graph.specs.declared.spot.Spot.TheVariants.{Body, Era as OwnEra, Hold, Home, QueueHead, Redo as RedoWord, Root, Tail}
+use Rattle.shm_graph.specs.declared.spot.Spot.TheVariants.{Body, Era as OwnEra, Hold, Home, QueueHead, Redo as RedoWord, RedoMore, Root, Tail}
 use Rattle.shm_graph.specs.declared.memo.Memo.{Memo}
 use Rattle.shm_graph.specs.declared.memo.Op.TheVariants.{Change, Nothing}
 use Rattle.shm_graph.specs.declared.memo.ChangeStage.TheVariants.{Raising}
@@ -21,6 +21,7 @@ use Rattle.shm_graph.specs.declared.memo.First.TheVariants.{Written}
 use Rattle.shm_graph.specs.declared.memo.Status.TheVariants as status
 use Rattle.shm_graph.specs.Agents.{recovers}
 use Rattle.shm_graph.specs.Asks.{Trail, IsWithin}
+use Rattle.shm_graph.specs.Bounds.{redo_steps}
 use Rattle.shm_graph.specs.Core.{core}
 use Rattle.shm_graph.specs.Events.{ChangeDown, Event}
 use Rattle.shm_graph.specs.Held.{is_loose}
@@ -38,9 +39,9 @@ use Rattle.shm_calls.specs.Either.{or_part}
 use Rattle.shm_calls.specs.Parts.{IsHeld, Part}
 use Rattle.shm_calls.specs.Plans.{Planned}
 use Rattle.shm_calls.specs.Words.{word_control, word_part}
-use Rattle.shm_count.specs.CommitTest.{testing_plan}
+use Rattle.shm_count.specs.CommitTest.{record_in, testing_plan}
 use Rattle.shm_recover.specs.declared.mend.MendPoint.{MendPoint}
-use Rattle.shm_recover.specs.declared.mend.MendPoint.TheVariants.{Dead, Era, Redo, Test, Slot, Close, Lower, Unlatch}
+use Rattle.shm_recover.specs.declared.mend.MendPoint.TheVariants.{Dead, Era, Redo, More, Test, Slot, Close, Lower, Unlatch}
 use Rattle.shm_recover.specs.declared.mend.MendState.{MendState}
 use Rattle.shm_recover.specs.MendLower.{MayLowerDead, lowering_plan}
 use Rattle.shm_recover.specs.MendRest.{bare}
@@ -76,6 +77,7 @@ is_name p = false
 
 abbrev pub is_apart : Spot → Bool
 is_apart (RedoWord c) = true
+is_apart (RedoMore c) = true
 is_apart (Tail s r) = true
 is_apart (QueueHead s r) = true
 is_apart p = false
@@ -95,18 +97,18 @@ HeldOver c r0 r es =
     ((es ≡ []) × (r.dying ≡ r0.dying) × (held_over_of r.op ≡ held_over_of r0.op))
     ⊎ ((es ≡ ChangeDown c (held_over_of r0.op) ∷ []) × (held_over_of r0.op ≢ 0) × (held_over_of r.op ≡ 0) × ((r.dying ≡ r0.dying) ⊎ (r.dying ≡ r0.dying ++ held_over_of r0.op ∷ [])))
 
--- the redo record that was found spells a step at the own era, whose block lies in the pool
+-- the redo record that was found spells a step at the own era, whose block lies in the pool; it is 0 where a client of format 2 died between the two stores of a redo record
 pub record IsSpelled (me : Me) (e : ℕ) (redo : ARedo) (r : Memo) : Type 0 where
   pub era : own_word r.own (OwnEra me.who me.who) ≡ e
-  pub spelled : redo_of (own_word r.own (RedoWord me.who)) ≡ Some redo
+  pub spelled : record_in me r ≡ Some redo
   pub some : redo ≢ redos.Idle
-  pub inside : (0 < block_of redo e) × (block_of redo e < total_of me.geometry)
+  pub inside : block_of redo e < total_of me.geometry
 
 -- the step is committed, and its slot is to be stored, again perhaps
 pub record IsSlotted (me : Me) (e : ℕ) (redo : ARedo) (r : Memo) : Type 0 where
   pub era : own_word r.own (OwnEra me.who me.who) ≡ e
   pub held : IsHeld me r
-  pub spelled : redo_of (own_word r.own (RedoWord me.who)) ≡ Some redo
+  pub spelled : record_in me r ≡ Some redo
   pub small : value_at redo < 2 ^ 64
   pub writes : Writes r.op (op_written r.op) (value_at redo)
   pub at : slot_at redo ≡ spot_address me.geometry (slot_of r.op)
@@ -124,11 +126,12 @@ abbrev pub MendKnows : MendState → MendPoint → Memo → Memo → Trail → L
 MendKnows m Dead r0 r tr es = MayMend m.me r0 × (r ≡ r0) × (tr ≡ []) × (es ≡ [])
 MendKnows m Era r0 r tr es = IsDead m.me r0 r es × IsWithin 1 tr
 MendKnows m Redo r0 r tr es = IsDead m.me r0 r es × (own_word r.own (OwnEra m.me.who m.me.who) ≡ m.era) × IsWithin 2 tr
-MendKnows m Test r0 r tr es = IsDead m.me r0 r es × IsSpelled m.me m.era m.redo r × IsWithin 3 tr
-MendKnows m Slot r0 r tr es = IsMending m.me r0 r × HeldOver m.me.who r0 r es × IsSlotted m.me m.era m.redo r × IsWithin (m.me.geometry.clients + 3) tr
-MendKnows m Close r0 r tr es = IsMending m.me r0 r × HeldOver m.me.who r0 r es × IsClosing m.me m.era m.redo r × IsWithin (m.me.geometry.clients + 4) tr
-MendKnows m Lower r0 r tr es = IsMending m.me r0 r × HeldOver m.me.who r0 r es × MayLowerDead m.me (before_of m.redo) m.era r × IsWithin (m.me.geometry.clients + 5) tr
-MendKnows m Unlatch r0 r tr es = IsMending m.me r0 r × HeldOver m.me.who r0 r es × IsUncommitted r.op × IsWithin (m.me.geometry.clients + 10) tr
+MendKnows m More r0 r tr es = IsDead m.me r0 r es × (own_word r.own (OwnEra m.me.who m.me.who) ≡ m.era) × (own_word r.own (RedoWord m.me.who) ≡ m.first) × (m.me.geometry.wide ≡ true) × IsWithin 3 tr
+MendKnows m Test r0 r tr es = IsDead m.me r0 r es × IsSpelled m.me m.era m.redo r × IsWithin (2 + redo_steps m.me.geometry.wide) tr
+MendKnows m Slot r0 r tr es = IsMending m.me r0 r × HeldOver m.me.who r0 r es × IsSlotted m.me m.era m.redo r × IsWithin (m.me.geometry.clients + 2 + redo_steps m.me.geometry.wide) tr
+MendKnows m Close r0 r tr es = IsMending m.me r0 r × HeldOver m.me.who r0 r es × IsClosing m.me m.era m.redo r × IsWithin (m.me.geometry.clients + 3 + redo_steps m.me.geometry.wide) tr
+MendKnows m Lower r0 r tr es = IsMending m.me r0 r × HeldOver m.me.who r0 r es × MayLowerDead m.me (before_of m.redo) m.era r × IsWithin (m.me.geometry.clients + 4 + redo_steps m.me.geometry.wide) tr
+MendKnows m Unlatch r0 r tr es = IsMending m.me r0 r × HeldOver m.me.who r0 r es × IsUncommitted r.op × IsWithin (m.me.geometry.clients + 9 + redo_steps m.me.geometry.wide) tr
 
 -- ---- what it leaves
 
@@ -158,7 +161,7 @@ pub record IsMended (me : Me) (r0 r : Memo) (tr : Trail) (es : List Event) : Typ
   pub rows : (j : ℕ) → own_word r0.own (OwnEra me.who j) ≤ own_word r.own (OwnEra me.who j)
   pub lost : WasLost me.who r0 r es
   pub events : (es ≡ []) ⊎ ((a : ℕ) × (es ≡ ChangeDown me.who a ∷ []))
-  pub bound : IsWithin (me.geometry.clients + 14) tr
+  pub bound : IsWithin (me.geometry.clients + 13 + redo_steps me.geometry.wide) tr
 
 -- ---- the plan
 
@@ -174,6 +177,7 @@ abbrev pub MendFound : MendState → MendPoint → Memo → ℕ → Memo → Typ
 MendFound m Dead = DeadStored
 MendFound m Era = CountLoaded m.me.who (OwnEra m.me.who m.me.who)
 MendFound m Redo = OwnLoaded (RedoWord m.me.who)
+MendFound m More = OwnLoaded (RedoMore m.me.who)
 MendFound m Slot = Makes (λ r. slotted r (slot_of r.op) (value_at m.redo))
 MendFound m Close = EraStored m.me.who
 MendFound m y = λ r n x. ⊥
@@ -189,7 +193,7 @@ mend_plan =
       me = λ m. m.me;
       line = λ m. [];
       first = λ m. is_dead m.point;
-      start = λ m. record m { era = 0; redo = redos.Idle; point = Dead };
+      start = λ m. record m { era = 0; first = 0; redo = redos.Idle; point = Dead };
       call = λ m. mend_call m m.point;
       after = mend_after;
       turns = mend_turns;

@@ -11,7 +11,6 @@ use Rattle.shm_graph.specs.declared.spot.Spot.{Spot}
 use Rattle.shm_graph.specs.declared.spot.Spot.TheVariants.{Era}
 use Rattle.shm_graph.specs.declared.memo.Fact.TheVariants.{Header as HeaderRead}
 use Rattle.shm_graph.specs.declared.memo.Memo.{Memo}
-use Rattle.shm_graph.specs.declared.memo.Op.{Op}
 use Rattle.shm_graph.specs.declared.memo.Op.TheVariants.{Change, Nothing}
 use Rattle.shm_graph.specs.declared.memo.ChangeStage.TheVariants.{Lowering as LoweringStage}
 use Rattle.shm_graph.specs.declared.memo.Second.TheVariants.{Closed, Open}
@@ -108,7 +107,7 @@ pub record IsLowered (me : Me) (a e : ℕ) (r0 r : Memo) (tr : Trail) (es : List
 
 -- the exchange leaves this of a change that is at the second half
 abbrev pub ExchangeFound : Me → ℕ → ℕ → ℕ → Memo → ℕ → Memo → Type 0
-ExchangeFound me a e n r k x = FormerLowered me.who r.op n (lowered me.who e n) r k x × IsCounted me k
+ExchangeFound me a e n r k x = FormerLowered me.geometry.wide me.who r.op n (lowered me.who e n) r k x × IsCounted me k
 
 -- what holds after the word step at a point, by the memo before, the word found and the memo
 abbrev pub LoweringFound : LoweringState → LoweringPoint → Memo → ℕ → Memo → Type 0

@@ -1,7 +1,7 @@
 -- giving back a latch by a recoverer as a plan: what is known before each word step, and what is left
 pub mod Control
 pub mod Laws
-use Rattle.std.specs.Prelude.{◌≡◌, ◌≢◌, ℕ, ◌+◌, ◌<◌, true, false, None, Some, List, []}
+use Rattle.std.specs.Prelude.{◌≡◌, ℕ, ◌<◌, true, false, None, Some, List, []}
 use Rattle.shm_words.specs.Layout.{GeometryFits}
 use Rattle.shm_graph.specs.declared.ask.Me.{Me}
 use Rattle.shm_graph.specs.declared.spot.Spot.{Spot}
@@ -79,7 +79,7 @@ pub record Unlatched (me : Me) (r0 r : Memo) (tr : Trail) (es : List Event) : Ty
 abbrev pub UnlatchingFound : UnlatchingState → UnlatchingPoint → Memo → ℕ → Memo → Type 0
 UnlatchingFound m Whose = HoldLoaded m.me.who
 UnlatchingFound m Look = LatchLoaded m.me.who m.author
-UnlatchingFound m Give = LatchGiven m.me.who
+UnlatchingFound m Give = LatchGiven m.me.geometry.wide m.me.who
 UnlatchingFound m Back = HoldStored m.me.who 0
 
 abbrev pub unlatching_part : UnlatchingState → UnlatchingPoint → Part Word ℕ

@@ -4,6 +4,7 @@ pub mod Losses
 pub mod Laws
 use Rattle.std.specs.Prelude.{◌≡◌, ℕ, ◌+◌, ◌*◌, ◌-◌, ◌^◌, ◌<◌, ◌≤◌, ◌⊎◌, Bool, true, false, Result, Ok, Err, List, [], ◌∷◌, ◌++◌, length, slice_index, None}
 use Rattle.std.specs.List.{All, Contains}
+use Rattle.shm_graph.specs.Bounds.{recovery_steps, redo_steps, tear_steps}
 use Rattle.shm_graph.specs.declared.ask.Me.{Me}
 use Rattle.shm_graph.specs.declared.spot.Spot.{Spot}
 use Rattle.shm_graph.specs.declared.spot.Spot.TheVariants.{Era, Home, QueueHead, Root, Tail}
@@ -11,7 +12,6 @@ use Rattle.shm_graph.specs.declared.memo.Memo.{Memo}
 use Rattle.shm_graph.specs.declared.memo.Op.TheVariants.{Nothing}
 use Rattle.shm_graph.specs.declared.memo.Status.TheVariants as status
 use Rattle.shm_graph.specs.Asks.{Trail, IsWithin}
-use Rattle.shm_graph.specs.Bounds.{recovery_steps}
 use Rattle.shm_graph.specs.Events.{Event}
 use Rattle.shm_graph.specs.Events as event
 use Rattle.shm_graph.specs.Held.{is_loose}
@@ -77,13 +77,13 @@ pub record Mended (me : Me) (r0 q r : Memo) : Type 0 where
   pub own : (p : Spot) → is_kept me.who p ≡ true → own_word r.own p ≡ own_word q.own p
   pub rows : (j : ℕ) → own_word q.own (Era me.who j) ≤ own_word r.own (Era me.who j)
 
--- so far the events lose references and free blocks, and there were k word steps, and 164 for each block that was freed
+-- so far the events lose references and free blocks, and there were k word steps, and those of the blocks that were freed
 pub record IsRecovering (me : Me) (k : ℕ) (r0 r : Memo) (tr : Trail) (es : List Event) : Type 0 where
   pub member : IsMember me
   pub q : Memo
   pub mended : Mended me r0 q r
   pub events : OnlyLoses me.who es
-  pub bound : IsWithin (k + 164 * frees es) tr
+  pub bound : IsWithin (k + tear_steps me.geometry.wide (frees es)) tr
 
 -- all roots are empty
 abbrev pub AreRootless : ℕ → Memo → Type 0
@@ -102,16 +102,16 @@ abbrev pub AreTaken : ℕ → Memo → Memo → Type 0
 AreTaken c r0 r = (s : ℕ) → QueueDone c s r0 r
 
 -- the word steps before a point
-abbrev pub steps_to : ℕ → ℕ → RecoverPoint → ℕ
-steps_to n g Mend = 0
-steps_to n g Roots = n + 14
-steps_to n g Back = n + 158
-steps_to n g Takes = n + 158 + 11 * (n - 1)
-steps_to n g Scan = n + 158 + 15 * (n - 1)
-steps_to n g Give = n + 158 + 15 * (n - 1) + 528 * g
+abbrev pub steps_to : Bool → ℕ → ℕ → RecoverPoint → ℕ
+steps_to wide n g Mend = 0
+steps_to wide n g Roots = n + 13 + redo_steps wide
+steps_to wide n g Back = n + 141 + 17 * redo_steps wide
+steps_to wide n g Takes = n + 141 + 17 * redo_steps wide + (10 + redo_steps wide) * (n - 1)
+steps_to wide n g Scan = n + 141 + 17 * redo_steps wide + (10 + redo_steps wide) * (n - 1) + 4 * (n - 1)
+steps_to wide n g Give = n + 141 + 17 * redo_steps wide + (10 + redo_steps wide) * (n - 1) + 4 * (n - 1) + 528 * g
 
 abbrev pub IsAtPoint : Me → RecoverPoint → Memo → Memo → Trail → List Event → Type 0
-IsAtPoint me y r0 r tr es = IsRecovering me (steps_to me.geometry.clients me.geometry.segments y) r0 r tr es
+IsAtPoint me y r0 r tr es = IsRecovering me (steps_to me.geometry.wide me.geometry.clients me.geometry.segments y) r0 r tr es
 
 abbrev pub RecoverKnows : RecoverState → RecoverPoint → Memo → Memo → Trail → List Event → Type 0
 RecoverKnows m Mend r0 r tr es = MayMend m.me r0 × (r ≡ r0) × (tr ≡ []) × (es ≡ [])
@@ -135,7 +135,7 @@ pub record Recovered (me : Me) (r0 r : Memo) (tr : Trail) (es : List Event) : Ty
   pub loose : is_loose r.part ≡ is_loose r0.part
   pub map : map_in r.part ≡ map_in r0.part
   pub events : OnlyLoses me.who es
-  pub bound : IsWithin (recovery_steps me.geometry.segments (frees es)) tr
+  pub bound : IsWithin (recovery_steps me.geometry.wide me.geometry.segments (frees es)) tr
 
 -- how far it came: to the roots; to blocks that were not sent, with no root left; or to the scan, with no queue waiting either
 abbrev pub HasCome : ℕ → Memo → Memo → Type 0
@@ -154,7 +154,7 @@ pub record RecoverStopped (me : Me) (r0 r : Memo) (tr : Trail) (es : List Event)
   pub stays : All (λ (v : Visit). Contains r.dying v.block) vs
   pub spent : 2 ^ 47 - 3 < era
   pub most : era ≤ own_word r.own (Era me.who me.who)
-  pub bound : IsWithin (recovery_steps me.geometry.segments (frees es + length vs)) tr
+  pub bound : IsWithin (recovery_steps me.geometry.wide me.geometry.segments (frees es + length vs)) tr
 
 abbrev pub RecoverLeaves : RecoverState → Memo → Memo → Trail → List Event → Result (Unit {0}) EraSpent → Type 0
 RecoverLeaves m r0 r tr es (Ok done) = Recovered m.me r0 r tr es

@@ -2,10 +2,11 @@
 pub mod Control
 pub mod Words
 pub mod Laws
-use Rattle.std.specs.Prelude.{◌≡◌, ◌≢◌, ℕ, ◌+◌, ◌*◌, ◌/◌, ◌%◌, ◌^◌, ◌<◌, ◌≤◌, ◌⊎◌, ◌-◌, Bool, true, false, Result, Ok, Err, List, [], ◌∷◌, ◌++◌, length}
+use Rattle.std.specs.Prelude.{◌≡◌, ℕ, ◌+◌, ◌*◌, ◌/◌, ◌%◌, ◌^◌, ◌<◌, ◌≤◌, ◌⊎◌, ◌-◌, true, Result, Ok, Err, List, [], ◌∷◌, ◌++◌, length}
 use Rattle.std.specs.List.{All, Contains}
 use Rattle.shm_words.specs.Classes.{IsClass}
 use Rattle.shm_words.specs.Layout.{bodies}
+use Rattle.shm_graph.specs.Bounds.{tear_steps}
 use Rattle.shm_graph.specs.declared.ask.Me.{Me}
 use Rattle.shm_graph.specs.declared.spot.Spot.{Spot}
 use Rattle.shm_graph.specs.declared.spot.Spot.TheVariants.{Era}
@@ -76,7 +77,7 @@ pub record IsScanning (me : Me) (s q i n k : ℕ) (r0 r : Memo) (tr : Trail) (es
   pub behind : (b : ℕ) → Contains blocks b → b < place_in me s q i
   pub ahead : (b : ℕ) → Contains r.dying b → words_before s q i ≤ b - bodies me.geometry
   pub events : ScanEvents me.who blocks es
-  pub bound : IsWithin (33 * (16 * s + q) + k + 164 * frees es) tr
+  pub bound : IsWithin (33 * (16 * s + q) + k + tear_steps me.geometry.wide (frees es)) tr
 
 -- the class k of page q of segment s was read, and word i is the first one of a block
 pub record IsIn (s q k i : ℕ) (r : Memo) : Type 0 where
@@ -102,7 +103,7 @@ pub record ScanDone (me : Me) (n : ℕ) (r0 r : Memo) (tr : Trail) (es : List Ev
   pub whole : (b : ℕ) → Contains r0.dying b → Contains blocks b
   pub none : r.dying ≡ []
   pub events : ScanEvents me.who blocks es
-  pub bound : IsWithin (528 * me.geometry.segments + 164 * frees es) tr
+  pub bound : IsWithin (528 * me.geometry.segments + tear_steps me.geometry.wide (frees es)) tr
 
 -- the own era left no room for a step down: of the zero-count blocks some were found, the others are so still, and these blocks joined them
 pub record ScanStopped (me : Me) (r0 r : Memo) (tr : Trail) (es : List Event) (era : ℕ) : Type 0 where
@@ -115,7 +116,7 @@ pub record ScanStopped (me : Me) (r0 r : Memo) (tr : Trail) (es : List Event) (e
   pub stopped : All (λ (v : Visit). Contains r.dying v.block) vs
   pub spent : 2 ^ 47 - 3 < era
   pub most : era ≤ own_word r.own (Era me.who me.who)
-  pub bound : IsWithin (528 * me.geometry.segments + 164 * (frees es + length vs)) tr
+  pub bound : IsWithin (528 * me.geometry.segments + tear_steps me.geometry.wide (frees es + length vs)) tr
 
 abbrev pub ScanLeaves : ScanState → Memo → Memo → Trail → List Event → Result ℕ EraSpent → Type 0
 ScanLeaves m r0 r tr es (Ok n) = ScanDone m.me n r0 r tr es

@@ -3,8 +3,9 @@ pub mod Control
 pub mod Words
 pub mod Memos
 pub mod Laws
-use Rattle.std.specs.Prelude.{◌≡◌, ◌≢◌, ℕ, zero, suc, ◌+◌, ◌*◌, ◌-◌, ◌%◌, ◌^◌, ◌<◌, ◌≤◌, ◌⊎◌, Bool, true, false, Result, Ok, Err, List, [], ◌∷◌, ◌++◌, length, slice_index}
+use Rattle.std.specs.Prelude.{◌≡◌, ◌≢◌, ℕ, zero, suc, ◌+◌, ◌*◌, ◌-◌, ◌%◌, ◌<◌, ◌≤◌, ◌⊎◌, true, false, Result, Ok, Err, List, [], ◌∷◌, ◌++◌, length, slice_index}
 use Rattle.std.specs.List.{Contains}
+use Rattle.shm_graph.specs.Bounds.{redo_steps, tear_steps}
 use Rattle.shm_graph.specs.declared.ask.Me.{Me}
 use Rattle.shm_graph.specs.declared.spot.Spot.{Spot}
 use Rattle.shm_graph.specs.declared.spot.Spot.TheVariants as spot
@@ -72,7 +73,7 @@ pub record IsBacking (me : Me) (p k : ℕ) (r0 r : Memo) (tr : Trail) (es : List
   pub taken : TakenBack me.who (other_at me.who p) r0 r
   pub dying : r.dying ≡ r0.dying
   pub events : BacksEvents me.who r0 p es
-  pub bound : IsWithin (11 * p + k + 164 * frees es) tr
+  pub bound : IsWithin ((10 + redo_steps me.geometry.wide) * p + k + tear_steps me.geometry.wide (frees es)) tr
 
 -- the own tail was read
 abbrev pub IsAt : BackState → Memo → Type 0
@@ -95,7 +96,7 @@ pub record IsOut (me : Me) (p at b : ℕ) (r0 r : Memo) (tr : Trail) (es : List 
   pub held : IsHeld me r
   pub can : CanTear me b r
   pub told : es ≡ before ++ event.Down me.who (spot.Slot me.who (other_at me.who p) (at % 8)) b ∷ []
-  pub bound : IsWithin (11 * p + 11 + 164 * frees before) tr
+  pub bound : IsWithin ((10 + redo_steps me.geometry.wide) * p + (10 + redo_steps me.geometry.wide) + tear_steps me.geometry.wide (frees before)) tr
 
 abbrev pub BackKnows : BackState → BackPoint → Memo → Memo → Trail → List Event → Type 0
 BackKnows m Tail r0 r tr es = IsBacking m.me m.passed 0 r0 r tr es
@@ -112,14 +113,14 @@ pub record BackDone (me : Me) (r0 r : Memo) (tr : Trail) (es : List Event) : Typ
   pub none : (j : ℕ) → slice_index r.unsent j ≡ 0
   pub dying : r.dying ≡ r0.dying
   pub events : BacksEvents me.who r0 (me.geometry.clients - 1) es
-  pub bound : IsWithin (11 * (me.geometry.clients - 1) + 164 * frees es) tr
+  pub bound : IsWithin ((10 + redo_steps me.geometry.wide) * (me.geometry.clients - 1) + tear_steps me.geometry.wide (frees es)) tr
 
 -- the own era left no room for a step down: each queue is done or as it was, and these blocks joined the zero-count blocks
 pub record BackStopped (me : Me) (r0 r : Memo) (tr : Trail) (es : List Event) (era : ℕ) (vs : List Visit) : Type 0 where
   pub back : Back me.who r0 r
   pub stopped : StoppedAt me r0 r era vs
   pub most : era ≤ own_word r.own (spot.Era me.who me.who)
-  pub bound : IsWithin (11 * (me.geometry.clients - 1) + 164 * (frees es + length vs)) tr
+  pub bound : IsWithin ((10 + redo_steps me.geometry.wide) * (me.geometry.clients - 1) + tear_steps me.geometry.wide (frees es + length vs)) tr
 
 abbrev pub BackLeaves : BackState → Memo → Memo → Trail → List Event → Result (Unit {0}) EraSpent → Type 0
 BackLeaves m r0 r tr es (Ok done) = BackDone m.me r0 r tr es

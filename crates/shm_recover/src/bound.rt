@@ -10,9 +10,9 @@ ghost use Rattle.shm_count.specs.Tear.Events.{Visit, frees};
 ghost use Rattle.shm_ref.specs.Lefts.{Stopped};
 ghost use Rattle.shm_recover.specs.Machines.{LeaveGives, leave_told};
 
-/// A leaving took at most two word steps for each segment, 145, and 164 for each block that it freed or left on the way, and three more
-/// for each exchange that failed.
+/// A leaving took at most two word steps for each segment, 145, and 164 for each block that it freed or left on the way, in format 2 161
+/// and 180, and three more for each exchange that failed.
 pub fn leave_bound()
-    ensures done { (me : AMe) (r0 r : AMemo) (tr : Trail) → LeaveGives me r0 r tr (Ok tt) → IsWithin (leave_steps me.geometry.segments (frees (leave_told me tr))) tr }
-    ensures spent { (me : AMe) (r0 r : AMemo) (tr : Trail) (e : ASpent) → LeaveGives me r0 r tr (Err e) → (vs : List Visit) × Stopped me r0 r e.era vs × IsWithin (leave_steps me.geometry.segments (frees (leave_told me tr) + length vs)) tr }
+    ensures done { (me : AMe) (r0 r : AMemo) (tr : Trail) → LeaveGives me r0 r tr (Ok tt) → IsWithin (leave_steps me.geometry.wide me.geometry.segments (frees (leave_told me tr))) tr }
+    ensures spent { (me : AMe) (r0 r : AMemo) (tr : Trail) (e : ASpent) → LeaveGives me r0 r tr (Err e) → (vs : List Visit) × Stopped me r0 r e.era vs × IsWithin (leave_steps me.geometry.wide me.geometry.segments (frees (leave_told me tr) + length vs)) tr }
 {}

@@ -11,6 +11,7 @@ ghost use Rattle.shm_graph.specs.declared.memo.Memo.{Memo as AMemo};
 ghost use Rattle.shm_graph.specs.declared.spot.Spot.{Spot as ASpot};
 ghost use Rattle.shm_graph.specs.Agents.{entered};
 ghost use Rattle.shm_graph.specs.Asks.{Trail, IsWithin};
+ghost use Rattle.shm_graph.specs.Bounds.{redo_steps};
 ghost use Rattle.shm_graph.specs.Events.{ChangeDown};
 ghost use Rattle.shm_graph.specs.Held.{is_loose};
 ghost use Rattle.shm_steps.specs.Reparting.{map_in};
@@ -40,8 +41,10 @@ pub enum MendPoint {
     Dead,
     /// The own era is loaded.
     Era,
-    /// The redo record is loaded.
+    /// The redo record is loaded, in format 2 its first word.
     Redo,
+    /// In format 2 its second word is loaded.
+    More,
     /// Whether the step that it spells was committed.
     Test,
     /// The slot of the committed step is stored.
@@ -54,11 +57,12 @@ pub enum MendPoint {
     Unlatch,
 }
 
-/// The control of it; `era` is the own era, and `redo` is the record that was found.
+/// The control of it; `era` is the own era, `first` is the first word of the redo record, and `redo` is the record that was found.
 #[derive(Clone, Copy, Drop)]
 pub struct MendState {
     pub me: Me,
     pub era: u64,
+    pub first: u64,
     pub redo: Redo,
     pub point: MendPoint,
 }
@@ -123,13 +127,26 @@ impl MendState {
         }
     }
 
-    /// The redo record was found.
+    /// The first word of the redo record was found, which in format 1 says it all.
     #[inline(always)]
-    fn found(&mut self, word: u64)
-        ensures { self.new ≡ control.found self.old word }
+    fn first_found(&mut self, word: u64)
+        ensures { self.new ≡ control.first_found self.old word }
+    {
+        if self.me.geometry.is_wide() {
+            self.first = word;
+            self.point = MendPoint::More;
+        } else {
+            self.found(word, 0);
+        }
+    }
+
+    /// The words of the redo record were found; two that spell none are taken for that of no step.
+    #[inline(always)]
+    fn found(&mut self, first: u64, second: u64)
+        ensures { self.new ≡ control.found self.old first second }
     {
         self.point = MendPoint::Unlatch;
-        match Redo::unpack(word) {
+        match self.me.geometry.read_redo(first, second) {
             None | Some(Redo::Idle) => {}
             Some(redo) => {
                 self.redo = redo;
@@ -199,6 +216,7 @@ impl Mending {
             state: MendState {
                 me,
                 era: 0,
+                first: 0,
                 redo: Redo::Idle,
                 point: MendPoint::Dead,
             },
@@ -226,6 +244,7 @@ impl Plan for Mending {
             MendPoint::Dead => Or::First(Word::store(me, me.geometry.status(me.who), 2)),
             MendPoint::Era => Or::First(Word::load(me, own_era)),
             MendPoint::Redo => Or::First(Word::load(me, me.geometry.redo(me.who))),
+            MendPoint::More => Or::First(Word::load(me, me.geometry.redo_more(me.who))),
             MendPoint::Test => Or::Second(Or::First(Calls::new(Testing::new(
                 me,
                 self.state.block(),
@@ -252,7 +271,11 @@ impl Plan for Mending {
                     self.state.era = word % (1 << 47);
                     self.state.point = MendPoint::Redo;
                 }
-                MendPoint::Redo => self.state.found(word),
+                MendPoint::Redo => self.state.first_found(word),
+                MendPoint::More => {
+                    let first = self.state.first;
+                    self.state.found(first, word);
+                }
                 MendPoint::Slot => self.state.point = MendPoint::Close,
                 MendPoint::Close => self.state.closed(),
                 _ => self.state.point = MendPoint::Era,
@@ -296,7 +319,7 @@ pub fn mend_loses()
     ensures { (me : AMe) (r0 r : AMemo) (tr : Trail) → MendGives me r0 r tr tt → ((held_over_of r0.op ≡ 0) × (mend_told me tr ≡ [])) ⊎ ((held_over_of r0.op ≢ 0) × (mend_told me tr ≡ ChangeDown me.who (held_over_of r0.op) ∷ [])) }
 {}
 
-/// A mending took at most a word step for each client and 14, and three more for each exchange that failed.
+/// A mending took at most a word step for each client and 14, one more in format 2, and three more for each exchange that failed.
 pub fn mend_bound()
-    ensures { (me : AMe) (r0 r : AMemo) (tr : Trail) → MendGives me r0 r tr tt → IsWithin (me.geometry.clients + 14) tr }
+    ensures { (me : AMe) (r0 r : AMemo) (tr : Trail) → MendGives me r0 r tr tt → IsWithin (me.geometry.clients + 13 + redo_steps me.geometry.wide) tr }
 {}

@@ -6,7 +6,7 @@ ghost use Rattle.shm_graph.specs.declared.ask.Me.{Me as AMe};
 ghost use Rattle.shm_graph.specs.declared.memo.Memo.{Memo as AMemo};
 ghost use Rattle.shm_graph.specs.Asks.{Trail, IsWithin};
 ghost use Rattle.shm_graph.specs.declared.spot.Spot.{Spot as ASpot};
-ghost use Rattle.shm_graph.specs.Bounds.{recovery_steps, tear_steps};
+ghost use Rattle.shm_graph.specs.Bounds.{recovery_steps, redo_steps, tear_steps};
 ghost use Rattle.shm_graph.specs.Held.{HeldAt};
 ghost use Rattle.shm_graph.specs.Sound.{IsGone};
 ghost use Rattle.shm_graph.specs.Views.{view};
@@ -49,11 +49,11 @@ pub fn take_back_leaves()
     ensures trail { (me : AMe) (r0 r : AMemo) (tr : Trail) (a : Result (Unit {0}) ASpent) → BackGives me r0 r tr a → plan_trail back_plan (taking_back me) tr a }
 {}
 
-/// It took at most 11 word steps for each other client, 164 for each block that it freed or left on the way, and three more for each
-/// exchange that failed.
+/// It took at most 11 word steps for each other client, 164 for each block that it freed or left on the way, in format 2 12 and 180, and
+/// three more for each exchange that failed.
 pub fn take_back_bound()
-    ensures done { (me : AMe) (r0 r : AMemo) (tr : Trail) → BackGives me r0 r tr (Ok tt) → IsWithin (11 * (me.geometry.clients - 1) + tear_steps (frees (back_told me tr))) tr }
-    ensures spent { (me : AMe) (r0 r : AMemo) (tr : Trail) (e : ASpent) → BackGives me r0 r tr (Err e) → (vs : List Visit) × BackStopped me r0 r tr (back_told me tr) e.era vs × IsWithin (11 * (me.geometry.clients - 1) + tear_steps (frees (back_told me tr) + length vs)) tr }
+    ensures done { (me : AMe) (r0 r : AMemo) (tr : Trail) → BackGives me r0 r tr (Ok tt) → IsWithin ((10 + redo_steps me.geometry.wide) * (me.geometry.clients - 1) + tear_steps me.geometry.wide (frees (back_told me tr))) tr }
+    ensures spent { (me : AMe) (r0 r : AMemo) (tr : Trail) (e : ASpent) → BackGives me r0 r tr (Err e) → (vs : List Visit) × BackStopped me r0 r tr (back_told me tr) e.era vs × IsWithin ((10 + redo_steps me.geometry.wide) * (me.geometry.clients - 1) + tear_steps me.geometry.wide (frees (back_told me tr) + length vs)) tr }
 {}
 
 /// It fits each memo of an identity that is here, with no step in progress, in a pool of more than one client.
@@ -94,9 +94,10 @@ pub fn scan_leaves()
     ensures trail { (me : AMe) (r0 r : AMemo) (tr : Trail) (a : Result ℕ ASpent) → ScanGives me r0 r tr a → plan_trail scan_plan (scanning me) tr a }
 {}
 
-/// A scan took at most 528 word steps for each segment and 164 for each block that it freed, and three more for each exchange that failed.
+/// A scan took at most 528 word steps for each segment and 164 for each block that it freed, in format 2 180, and three more for each
+/// exchange that failed.
 pub fn scan_bound()
-    ensures { (me : AMe) (n : ℕ) (r0 r : AMemo) (tr : Trail) → ScanGives me r0 r tr (Ok n) → IsWithin (528 * me.geometry.segments + tear_steps (frees (scan_told me tr))) tr }
+    ensures { (me : AMe) (n : ℕ) (r0 r : AMemo) (tr : Trail) → ScanGives me r0 r tr (Ok n) → IsWithin (528 * me.geometry.segments + tear_steps me.geometry.wide (frees (scan_told me tr))) tr }
 {}
 
 /// It fits each memo of an identity that is here, with nothing left to finish but segments.
@@ -144,9 +145,9 @@ pub fn recover_gone()
     ensures { (me : AMe) (r0 : AMemo) (tr : Trail) (w : ASpot → ℕ) (r : ℕ → AMemo) → me.who < me.geometry.clients → HeldAt me.geometry w (view r) → RecoverGives me r0 (r me.who) tr (Ok tt) → IsGone me.geometry w (view r) me.who }
 {}
 
-/// A recovery took at most 530 word steps for each segment, 400, and 164 for each block that it freed or left on the way, and three more for
-/// each exchange that failed.
+/// A recovery took at most 530 word steps for each segment, 400, and 164 for each block that it freed or left on the way, in format 2 432
+/// and 180, and three more for each exchange that failed.
 pub fn recover_bound()
-    ensures done { (me : AMe) (r0 r : AMemo) (tr : Trail) → RecoverGives me r0 r tr (Ok tt) → IsWithin (recovery_steps me.geometry.segments (frees (recover_told me tr))) tr }
-    ensures spent { (me : AMe) (r0 r : AMemo) (tr : Trail) (e : ASpent) → RecoverGives me r0 r tr (Err e) → (s : RecoverStopped me r0 r tr (recover_told me tr) e.era) × IsWithin (recovery_steps me.geometry.segments (frees (recover_told me tr) + length s.vs)) tr }
+    ensures done { (me : AMe) (r0 r : AMemo) (tr : Trail) → RecoverGives me r0 r tr (Ok tt) → IsWithin (recovery_steps me.geometry.wide me.geometry.segments (frees (recover_told me tr))) tr }
+    ensures spent { (me : AMe) (r0 r : AMemo) (tr : Trail) (e : ASpent) → RecoverGives me r0 r tr (Err e) → (s : RecoverStopped me r0 r tr (recover_told me tr) e.era) × IsWithin (recovery_steps me.geometry.wide me.geometry.segments (frees (recover_told me tr) + length s.vs)) tr }
 {}

@@ -1,8 +1,9 @@
 -- a drop of a root as a plan: what is known before each call, and what is left
 pub mod Control
 pub mod Laws
-use Rattle.std.specs.Prelude.{◌≡◌, ◌≢◌, ℕ, ◌+◌, ◌*◌, ◌^◌, ◌<◌, ◌≤◌, Bool, true, false, not, ◌==◌, Result, Ok, Err, List, [], ◌∷◌, length}
+use Rattle.std.specs.Prelude.{◌≡◌, ◌≢◌, ℕ, ◌+◌, ◌^◌, ◌<◌, ◌≤◌, Bool, true, false, not, ◌==◌, Result, Ok, Err, List, [], ◌∷◌, length}
 use Rattle.std.specs.List.{Contains}
+use Rattle.shm_graph.specs.Bounds.{redo_steps, tear_steps}
 use Rattle.shm_words.specs.Layout.{total_of}
 use Rattle.shm_graph.specs.declared.spot.Spot.TheVariants.{Era, Root}
 use Rattle.shm_graph.specs.declared.memo.Memo.{Memo}
@@ -55,7 +56,7 @@ pub record IsLowered (m : DropState) (r0 r : Memo) (tr : Trail) (es : List Event
   pub holds : IsHeld m.me r
   pub can : CanTear m.me m.block r
   pub told : es ≡ event.Down m.me.who (Root m.me.who m.root) m.block ∷ []
-  pub bound : IsWithin 9 tr
+  pub bound : IsWithin (8 + redo_steps m.me.geometry.wide) tr
 
 abbrev pub DropKnows : DropState → DropPoint → Memo → Memo → Trail → List Event → Type 0
 DropKnows m Load r0 r tr es = MayDrop m.me r0 × (m.root < 16) × (r ≡ r0) × (tr ≡ []) × (es ≡ [])
@@ -72,7 +73,7 @@ pub record Dropped (m : DropState) (r0 r : Memo) (tr : Trail) (es : List Event) 
   pub dying : r.dying ≡ r0.dying
   pub named : z ≡ not (root_word m.me.who r0 m.root == 0)
   pub events : RootEvents m.me.who m.root (root_word m.me.who r0 m.root) es
-  pub bound : IsWithin (9 + 164 * frees es) tr
+  pub bound : IsWithin (8 + redo_steps m.me.geometry.wide + tear_steps m.me.geometry.wide (frees es)) tr
 
 -- the own era left no room for a step down, and is at least the one that was read
 pub record DropStopped (m : DropState) (r0 r : Memo) (tr : Trail) (es : List Event) (era : ℕ) (vs : List Visit) : Type 0 where
@@ -80,7 +81,7 @@ pub record DropStopped (m : DropState) (r0 r : Memo) (tr : Trail) (es : List Eve
   pub remains : Remains m.me.who r0 r
   pub stopped : Stopped m.me r0 r era vs
   pub most : era ≤ own_word r.own (Era m.me.who m.me.who)
-  pub bound : IsWithin (9 + 164 * (frees es + length vs)) tr
+  pub bound : IsWithin (8 + redo_steps m.me.geometry.wide + tear_steps m.me.geometry.wide (frees es + length vs)) tr
 
 abbrev pub DropLeaves : DropState → Memo → Memo → Trail → List Event → Result Bool EraSpent → Type 0
 DropLeaves m r0 r tr es (Ok z) = Dropped m r0 r tr es z

@@ -2,6 +2,7 @@
 pub mod Control
 pub mod Laws
 use Rattle.std.specs.Prelude.{◌≡◌, ℕ, ◌+◌, ◌*◌, ◌<◌, ◌≤◌, ◌==◌, nat_lt, Bool, Result, Ok, Err, List, [], length}
+use Rattle.shm_graph.specs.Bounds.{redo_steps, tear_steps}
 use Rattle.shm_graph.specs.declared.ask.Me.{Me}
 use Rattle.shm_graph.specs.declared.memo.Memo.{Memo}
 use Rattle.shm_graph.specs.Asks.{Trail, IsWithin}
@@ -25,7 +26,7 @@ pub record AreGone (me : Me) (n : ℕ) (r0 r : Memo) (tr : Trail) (es : List Eve
   pub gone : (j : ℕ) → j < n → root_word me.who r j ≡ 0
   pub dying : r.dying ≡ r0.dying
   pub events : RootsEvents me.who r0 n es
-  pub bound : IsWithin (9 * n + 164 * frees es) tr
+  pub bound : IsWithin ((8 + redo_steps me.geometry.wide) * n + tear_steps me.geometry.wide (frees es)) tr
 
 -- the roots before the next one are
 pub record RootsKnows (m : RootsState) (r0 r : Memo) (tr : Trail) (es : List Event) : Type 0 where
@@ -38,7 +39,7 @@ pub record RootsStopped (m : RootsState) (r0 r : Memo) (tr : Trail) (es : List E
   pub left : Left m.me.who (λ j. nat_lt j 16) r0 r
   pub stopped : Stopped m.me r0 r era vs
   pub most : era ≤ own_word r.own (Era m.me.who m.me.who)
-  pub bound : IsWithin (144 + 164 * (frees es + length vs)) tr
+  pub bound : IsWithin ((8 + redo_steps m.me.geometry.wide) * 16 + tear_steps m.me.geometry.wide (frees es + length vs)) tr
 
 abbrev pub RootsLeaves : RootsState → Memo → Memo → Trail → List Event → Result (Unit {0}) EraSpent → Type 0
 RootsLeaves m r0 r tr es (Ok done) = AreGone m.me 16 r0 r tr es

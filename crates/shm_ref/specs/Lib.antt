@@ -1,3 +1,4 @@
+pub mod Costs
 pub mod Lefts
 pub mod Leaving
 pub mod RootParts

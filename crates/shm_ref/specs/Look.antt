@@ -1,6 +1,6 @@
 -- a reference word of a block as a plan: its control, what is known before each word step, and what is left
 pub mod Laws
-use Rattle.std.specs.Prelude.{◌≡◌, ◌≢◌, ℕ, ◌+◌, ◌%◌, ◌^◌, ◌<◌, ◌≤◌, ◌==◌, nat_lt, Bool, true, false, if◌then◌else◌, Option, None, Some, Result, Ok, Err, List, [], ◌∷◌}
+use Rattle.std.specs.Prelude.{◌≡◌, ◌≢◌, ℕ, ◌+◌, ◌%◌, ◌<◌, ◌≤◌, ◌==◌, nat_lt, Bool, true, false, if◌then◌else◌, Option, None, Some, Result, Ok, Err, List, [], ◌∷◌}
 use Rattle.shm_words.specs.declared.place.Place.TheVariants as place
 use Rattle.shm_words.specs.Layout.{GeometryFits, address, total_of, address_limit}
 use Rattle.shm_words.specs.Tags.{tag_author, tag_refs}
@@ -45,12 +45,12 @@ abbrev pub look_call : LookState → LookPoint → Word
 look_call m y = record { me = m.me; ask = look_ask m.me m.block m.index y; over = false }
 
 abbrev pub look_after : LookState → LookPoint → ℕ → LookState
-look_after m Shape n = record m { author = (tag_read n).author; point = Whose }
+look_after m Shape n = record m { author = (tag_read m.me.geometry.wide n).author; point = Whose }
 look_after m Whose n = record m { point = Reference }
 look_after m Reference n = m
 
 abbrev pub look_turns : LookState → LookPoint → ℕ → Option (Result ℕ LookFault)
-look_turns m Shape n = if nat_lt m.index (tag_read n).refs then None else Some (Err (NoSuchRef (tag_read n).refs))
+look_turns m Shape n = if nat_lt m.index (tag_read m.me.geometry.wide n).refs then None else Some (Err (NoSuchRef (tag_read m.me.geometry.wide n).refs))
 look_turns m Whose n = if n == m.author + 1 then None else Some (Err NotHeld)
 look_turns m Reference n = Some (Ok (n % address_limit))
 
@@ -74,8 +74,8 @@ pub record MayLook (me : Me) (b : ℕ) (r : Memo) : Type 0 where
 -- The tag of the block is x, of author a, and has a reference word k; nothing came of what was read so far but that the tag is known
 pub record IsLooking (me : Me) (b k a x : ℕ) (seen : Trail) (r0 r : Memo) (tr : Trail) (es : List Event) : Type 0 where
   pub may : MayLook me b r0
-  pub author : a ≡ tag_author x
-  pub low : k < tag_refs x
+  pub author : a ≡ tag_author me.geometry.wide x
+  pub low : k < tag_refs me.geometry.wide x
   pub known : as_known (Tag b) r0 x
   pub tag : IsTag me b x r
   pub same : core r ≡ core (tagged b x r0)
@@ -92,27 +92,27 @@ whose_trail me b k x n = pair (look_ask me b k Shape) x ∷ pair (look_ask me b 
 abbrev pub LookKnows : LookState → LookPoint → Memo → Memo → Trail → List Event → Type 0
 LookKnows m Shape r0 r tr es = MayLook m.me m.block r0 × (r ≡ r0) × (tr ≡ []) × (es ≡ [])
 LookKnows m Whose r0 r tr es = (x : ℕ) × IsLooking m.me m.block m.index m.author x (tag_trail m.me m.block m.index x) r0 r tr es
-LookKnows m Reference r0 r tr es = (x : ℕ) × IsLooking m.me m.block m.index m.author x (whose_trail m.me m.block m.index x (tag_author x + 1)) r0 r tr es × (r0.latch ≡ Some (tag_author x))
+LookKnows m Reference r0 r tr es = (x : ℕ) × IsLooking m.me m.block m.index m.author x (whose_trail m.me m.block m.index x (tag_author m.me.geometry.wide x + 1)) r0 r tr es × (r0.latch ≡ Some (tag_author m.me.geometry.wide x))
 
 -- ---- what it leaves
 
 -- The tag of the block is x, which tells of reference word k, and the latch of its author is held; the word names v, or nothing where v is 0. The tag and the word are known now, and are what was known of them before; the looks have grown by v, which is in reach then, and nothing else of the memo changed
 pub record Looked (me : Me) (b k : ℕ) (r0 r : Memo) (tr : Trail) (es : List Event) (v : ℕ) : Type 0 where
   pub x : ℕ
-  pub low : k < tag_refs x
-  pub held : r0.latch ≡ Some (tag_author x)
+  pub low : k < tag_refs me.geometry.wide x
+  pub held : r0.latch ≡ Some (tag_author me.geometry.wide x)
   pub tag : as_known (Tag b) r0 x
   pub word : as_known (Body b k) (tagged b x r0) v
   pub memo : core r ≡ core (reference_read (tagged b x r0) b k v)
   pub reach : v ≢ 0 → is_reached me.who r v ≡ true
   pub room : v ≢ 0 → v + 2 ≤ total_of me.geometry
   pub none : es ≡ []
-  pub trail : tr ≡ pair (look_ask me b k Shape) x ∷ pair (look_ask me b k Whose) (tag_author x + 1) ∷ pair (look_ask me b k Reference) v ∷ []
+  pub trail : tr ≡ pair (look_ask me b k Shape) x ∷ pair (look_ask me b k Whose) (tag_author me.geometry.wide x + 1) ∷ pair (look_ask me b k Reference) v ∷ []
 
 -- the tag of the block is x, which tells of n reference words and none of index k; it is known now, and nothing else of the memo changed
 pub record HasNoRef (me : Me) (b k n : ℕ) (r0 r : Memo) (tr : Trail) (es : List Event) : Type 0 where
   pub x : ℕ
-  pub refs : n ≡ tag_refs x
+  pub refs : n ≡ tag_refs me.geometry.wide x
   pub high : n ≤ k
   pub tag : as_known (Tag b) r0 x
   pub memo : core r ≡ core (tagged b x r0)
@@ -122,8 +122,8 @@ pub record HasNoRef (me : Me) (b k n : ℕ) (r0 r : Memo) (tr : Trail) (es : Lis
 -- the tag of the block is x, which tells of reference word k, and the own hold word isn't that of its author; the tag is known now, and nothing else of the memo changed
 pub record IsUnheld (me : Me) (b k : ℕ) (r0 r : Memo) (tr : Trail) (es : List Event) : Type 0 where
   pub x : ℕ
-  pub low : k < tag_refs x
-  pub other : own_word r0.own (Hold me.who) ≢ tag_author x + 1
+  pub low : k < tag_refs me.geometry.wide x
+  pub other : own_word r0.own (Hold me.who) ≢ tag_author me.geometry.wide x + 1
   pub tag : as_known (Tag b) r0 x
   pub memo : core r ≡ core (tagged b x r0)
   pub none : es ≡ []

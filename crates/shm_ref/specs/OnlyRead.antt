@@ -129,5 +129,5 @@ look_reads m r0 r tr es (Err (NoSuchRef n)) h = tag_only m.block h.x r0 r h.memo
 look_reads m r0 r tr es (Err NotHeld) h = tag_only m.block h.x r0 r h.memo
 
 pub read_reads : (m : ReadState) (r0 r : Memo) (tr : Trail) (es : List Event) (a : Result ℕ NoSuchWord) → ReadLeaves m r0 r tr es a → OnlyRead r0 r
-read_reads m r0 r tr es (Ok v) h = read_same r0 r (learnt (Body m.block (tag_refs h.x + m.index)) v (learnt (Tag m.block) h.x r0.known)) (word_slots m.block (tag_refs h.x + m.index) v h.x r0) h.memo
+read_reads m r0 r tr es (Ok v) h = read_same r0 r (learnt (Body m.block (tag_refs m.me.geometry.wide h.x + m.index)) v (learnt (Tag m.block) h.x r0.known)) (word_slots m.block (tag_refs m.me.geometry.wide h.x + m.index) v h.x r0) h.memo
 read_reads m r0 r tr es (Err e) h = tag_only m.block h.x r0 r h.memo

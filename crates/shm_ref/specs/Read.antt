@@ -1,6 +1,6 @@
 -- a plain word of a block as a plan: its control, what is known before each word step, and what is left
 pub mod Laws
-use Rattle.std.specs.Prelude.{◌≡◌, ℕ, ◌+◌, ◌^◌, ◌<◌, ◌≤◌, nat_lt, Bool, true, false, if◌then◌else◌, Option, None, Some, Result, Ok, Err, List, [], ◌∷◌}
+use Rattle.std.specs.Prelude.{◌≡◌, ℕ, ◌+◌, ◌<◌, ◌≤◌, nat_lt, Bool, true, false, if◌then◌else◌, Option, None, Some, Result, Ok, Err, List, [], ◌∷◌}
 use Rattle.shm_words.specs.Layout.{GeometryFits, address_limit}
 use Rattle.shm_words.specs.Tags.{tag_plain, tag_refs}
 use Rattle.shm_graph.specs.declared.ask.Ask.{Ask}
@@ -40,11 +40,11 @@ abbrev pub read_call : ReadState → ReadPoint → Word
 read_call m y = record { me = m.me; ask = read_ask m.block (m.refs + m.index) y; over = false }
 
 abbrev pub read_after : ReadState → ReadPoint → ℕ → ReadState
-read_after m Shape n = record m { refs = (tag_read n).refs; point = Plain }
+read_after m Shape n = record m { refs = (tag_read m.me.geometry.wide n).refs; point = Plain }
 read_after m Plain n = m
 
 abbrev pub read_turns : ReadState → ReadPoint → ℕ → Option (Result ℕ NoSuchWord)
-read_turns m Shape n = if nat_lt m.index (tag_read n).plain then None else Some (Err (record { plain = (tag_read n).plain }))
+read_turns m Shape n = if nat_lt m.index (tag_read m.me.geometry.wide n).plain then None else Some (Err (record { plain = (tag_read m.me.geometry.wide n).plain }))
 read_turns m Plain n = Some (Ok n)
 
 abbrev pub is_shape : ReadPoint → Bool
@@ -62,8 +62,8 @@ pub record ReadInRange (m : ReadState) : Type 0 where
 -- The tag of the block is x, and has a plain word k; nothing came of its load but that it is known
 pub record IsReading (me : Me) (b k h x : ℕ) (r0 r : Memo) (tr : Trail) (es : List Event) : Type 0 where
   pub may : MayRead me b r0
-  pub refs : h ≡ tag_refs x
-  pub low : k < tag_plain x
+  pub refs : h ≡ tag_refs me.geometry.wide x
+  pub low : k < tag_plain me.geometry.wide x
   pub known : as_known (Tag b) r0 x
   pub tag : IsTag me b x r
   pub same : core r ≡ core (tagged b x r0)
@@ -79,17 +79,17 @@ ReadKnows m Plain r0 r tr es = (x : ℕ) × IsReading m.me m.block m.index m.ref
 -- The tag of the block is x, which tells of plain word k, and v is that word. Both are known now, and are what was known of them before; nothing else of the memo changed
 pub record WasRead (me : Me) (b k : ℕ) (r0 r : Memo) (tr : Trail) (es : List Event) (v : ℕ) : Type 0 where
   pub x : ℕ
-  pub low : k < tag_plain x
+  pub low : k < tag_plain me.geometry.wide x
   pub tag : as_known (Tag b) r0 x
-  pub word : as_known (Body b (tag_refs x + k)) (tagged b x r0) v
-  pub memo : core r ≡ core (record r0 { known = learnt (Body b (tag_refs x + k)) v (learnt (Tag b) x r0.known) })
+  pub word : as_known (Body b (tag_refs me.geometry.wide x + k)) (tagged b x r0) v
+  pub memo : core r ≡ core (record r0 { known = learnt (Body b (tag_refs me.geometry.wide x + k)) v (learnt (Tag b) x r0.known) })
   pub none : es ≡ []
-  pub trail : tr ≡ pair (read_ask b 0 Shape) x ∷ pair (read_ask b (tag_refs x + k) Plain) v ∷ []
+  pub trail : tr ≡ pair (read_ask b 0 Shape) x ∷ pair (read_ask b (tag_refs me.geometry.wide x + k) Plain) v ∷ []
 
 -- the tag of the block is x, which tells of n plain words and none of index k; it is known now, and nothing else of the memo changed
 pub record HasNoWord (me : Me) (b k n : ℕ) (r0 r : Memo) (tr : Trail) (es : List Event) : Type 0 where
   pub x : ℕ
-  pub plain : n ≡ tag_plain x
+  pub plain : n ≡ tag_plain me.geometry.wide x
   pub high : n ≤ k
   pub tag : as_known (Tag b) r0 x
   pub memo : core r ≡ core (tagged b x r0)

@@ -1,5 +1,5 @@
 -- reading under a latch and in reach: when it may begin, and what a tag that was read tells
-use Rattle.std.proofs.Common.{◌≡◌, ◌≢◌, ℕ, ◌+◌, ◌^◌, ◌<◌, ◌≤◌, ◌%◌, refl, sym, ap, ◌∙◌, subst, arith, true, false, eqb, ◌||◌, inl, inr, List, [], ◌∷◌, ◌++◌, map, Option, None, Some}
+use Rattle.std.proofs.Common.{◌≡◌, ◌≢◌, ℕ, ◌+◌, ◌<◌, ◌≤◌, ◌%◌, refl, sym, ap, ◌∙◌, subst, arith, true, false, eqb, ◌||◌, inl, inr, List, [], ◌∷◌, ◌++◌, map, Option, None, Some}
 use Rattle.std.specs.List.{Contains, filter, list_any}
 use Rattle.std.proofs.lemmas.Bool.{cases_eq, cond-true, eq-eqb, or_left, or_right}
 use Rattle.std.proofs.lemmas.List.Folds.{list_any-append}
@@ -67,7 +67,7 @@ reached_room me b r l (w, rs, h, same) reach =
     let room = (live_room me.geometry w rs h b me.who live).1 in
     omega arith
 
--- so a word that names such a block, or none, has 20 bits
+-- so a word that names such a block, or none, has 24 bits
 pub small_block : (me : Me) (b : ℕ) → GeometryFits me.geometry → (b ≢ 0 → b + 2 ≤ total_of me.geometry) → b % address_limit ≡ b
 small_block me b fits room =
     elim (cases_eq b 0) [
@@ -92,28 +92,28 @@ reached_tagged c b x q m r e =
 
 -- In a held state a tag that is known and in reach is one: its fields are in range, and its words lie in the pool
 pub record IsTag (me : Me) (b x : ℕ) (r : Memo) : Type 0 where
-  pub read : tag_read x ≡ record { refs = tag_refs x; plain = tag_plain x; author = tag_author x; link = tag_link x }
-  pub told : Contains (claims me.who r) (record { block = b; refs = tag_refs x; plain = tag_plain x; author = Some (tag_author x) })
-  pub author : tag_author x < me.geometry.clients
+  pub read : tag_read me.geometry.wide x ≡ record { refs = tag_refs me.geometry.wide x; plain = tag_plain me.geometry.wide x; author = tag_author me.geometry.wide x; link = tag_link me.geometry.wide x }
+  pub told : Contains (claims me.geometry.wide me.who r) (record { block = b; refs = tag_refs me.geometry.wide x; plain = tag_plain me.geometry.wide x; author = Some (tag_author me.geometry.wide x) })
+  pub author : tag_author me.geometry.wide x < me.geometry.clients
   pub above : 0 < b
-  pub last : b + 1 + tag_refs x + tag_plain x < total_of me.geometry
+  pub last : b + 1 + tag_refs me.geometry.wide x + tag_plain me.geometry.wide x < total_of me.geometry
 
 pub is_tag : (me : Me) (b x : ℕ) (m r : Memo) → me.who < me.geometry.clients → IsHeld me r → is_reached me.who m b ≡ true → core r ≡ core (tagged b x m) → IsTag me b x r
 is_tag me b x m r l (w, rs, h, same) reach e =
     let c : ℕ = me.who in
     let known : r.known ≡ learnt (Tag b) x m.known = ap (λ (y : Memo). y.known) e in
     let at : known_at (Tag b) r.known ≡ Some x = ap (known_at (Tag b)) known ∙ cond-true (same_spot (Tag b) (Tag b)) (Some x) (known_at (Tag b) (filter (not_at (Tag b)) m.known)) (same_spot_self (Tag b)) in
-    let told = tag_told c r b x at in
-    let ends = told_inside me r (record { block = b; refs = tag_refs x; plain = tag_plain x; author = Some (tag_author x) }) l (w, rs, h, same) told in
+    let told = tag_told c r me.geometry.wide b x at in
+    let ends = told_inside me r (record { block = b; refs = tag_refs me.geometry.wide x; plain = tag_plain me.geometry.wide x; author = Some (tag_author me.geometry.wide x) }) l (w, rs, h, same) told in
     let has : Contains (rs c).known (record { spot = Tag b; value = x }) = subst (λ (y : Memo). Contains y.known (record { spot = Tag b; value = x })) (sym same) (subst (λ (ks : List Stored). Contains ks (record { spot = Tag b; value = x })) (sym known) (0, omega arith, refl)) in
     let found : w (Tag b) ≡ x = (known_here me.geometry w rs c h l (Tag b) x has).0 in
     let live = (reach_counted me.geometry w (view rs) h c b l (reached_here me.geometry w rs h c l b (subst (λ (y : Memo). is_reached c y b ≡ true) (sym same) (reached_tagged c b x b m r e ∙ reach)))).0 in
     let s = h.blocks.tagged b live in
-    let is = subst (λ n. tag_of n ≡ Some (record { refs = tag_refs n; plain = tag_plain n; author = tag_author n; link = tag_link n })) found (tag_from_fields (w (Tag b)) s.small s.refs s.plain) in
+    let is = subst (λ n. tag_of me.geometry.wide n ≡ Some (record { refs = tag_refs me.geometry.wide n; plain = tag_plain me.geometry.wide n; author = tag_author me.geometry.wide n; link = tag_link me.geometry.wide n })) found (tag_from_fields me.geometry.wide (w (Tag b)) s.small s.refs s.plain) in
     record {
       read = ap or_empty is;
       told = told;
-      author = subst (λ n. tag_author n < me.geometry.clients) found s.author;
+      author = subst (λ n. tag_author me.geometry.wide n < me.geometry.clients) found s.author;
       above = ends.0;
       last = ends.1;
     }

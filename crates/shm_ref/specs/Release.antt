@@ -88,7 +88,7 @@ release_trail me a = pair (release_ask me a Whose) (a + 1) ∷ pair (release_ask
 abbrev pub ReleaseKnows : ReleaseState → ReleasePoint → Memo → Memo → Trail → List Event → Type 0
 ReleaseKnows m Whose r0 r tr es = (a : ℕ) × MayRelease m.me a r0 × (r ≡ r0) × (tr ≡ []) × (es ≡ [])
 ReleaseKnows m Give r0 r tr es = IsReleasing m.me m.author (λ x. x) (whose_trail m.me m.author) r0 r tr es
-ReleaseKnows m Back r0 r tr es = IsReleasing m.me m.author (unlatched m.me.who) (given_trail m.me m.author) r0 r tr es
+ReleaseKnows m Back r0 r tr es = IsReleasing m.me m.author (unlatched m.me.geometry.wide m.me.who) (given_trail m.me m.author) r0 r tr es
 
 -- ---- what it leaves
 
@@ -96,7 +96,7 @@ ReleaseKnows m Back r0 r tr es = IsReleasing m.me m.author (unlatched m.me.who) 
 pub record Released (me : Me) (r0 r : Memo) (tr : Trail) (es : List Event) : Type 0 where
   pub author : ℕ
   pub held : r0.latch ≡ Some author
-  pub memo : core r ≡ core (wants me.who 0 (unlatched me.who r0))
+  pub memo : core r ≡ core (wants me.who 0 (unlatched me.geometry.wide me.who r0))
   pub latch : r.latch ≡ None
   pub looks : r.looks ≡ []
   pub none : es ≡ []
@@ -105,7 +105,7 @@ pub record Released (me : Me) (r0 r : Memo) (tr : Trail) (es : List Event) : Typ
 -- what holds after each word step, by the memo before, the word found and the memo; the hold word tells which latch is held
 abbrev pub ReleaseFound : ReleaseState → ReleasePoint → Memo → ℕ → Memo → Type 0
 ReleaseFound m Whose r n x = (core x ≡ core r) × ((a : ℕ) → r.latch ≡ Some a → (n ≡ a + 1) × (a < m.me.geometry.clients))
-ReleaseFound m Give r n x = (core x ≡ core (unlatched m.me.who r)) × (n ≡ 0)
+ReleaseFound m Give r n x = (core x ≡ core (unlatched m.me.geometry.wide m.me.who r)) × (n ≡ 0)
 ReleaseFound m Back r n x = (core x ≡ core (wants m.me.who 0 r)) × (n ≡ 0)
 
 -- the part that the word step at a point is

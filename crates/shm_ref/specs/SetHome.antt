@@ -97,7 +97,7 @@ pub record MaySetHome (me : Me) (b : ℕ) (r : Memo) : Type 0 where
   pub client : recovers r ≡ false
   pub inside : IsInside me b
   pub reach : is_reached me.who r b ≡ true
-  pub part : own_word r.own (Home me.who) ≡ 0 → KeepsPart me.who r (Up b) (Home me.who)
+  pub part : own_word r.own (Home me.who) ≡ 0 → KeepsPart me.geometry.wide me.who r (Up b) (Home me.who)
 
 -- the home is empty, and nothing was done yet
 pub record IsHomeless (me : Me) (b : ℕ) (r0 r : Memo) (tr : Trail) (es : List Event) : Type 0 where
@@ -120,7 +120,7 @@ pub record HomeFilled (me : Me) (b : ℕ) (r0 r : Memo) (tr : Trail) (es : List 
   pub empty : own_word r0.own (Home me.who) ≡ 0
   pub filled : Filled me.who (Home me.who) b r0 r
   pub events : es ≡ event.Up me.who (Home me.who) b ∷ []
-  pub bound : IsWithin (1 + up_steps) tr
+  pub bound : IsWithin (1 + up_steps me.geometry.wide) tr
 
 -- the home named a block, which is a look where the own latch is held; or it was empty, and the step up was refused
 abbrev pub HomeStays : Me → ℕ → Memo → Memo → HomeFault → Type 0
@@ -132,7 +132,7 @@ HomeStays me b r0 r (fault.CountFull d n) = (own_word r0.own (Home me.who) ≡ 0
 pub record HomeRefused (me : Me) (b : ℕ) (r0 r : Memo) (tr : Trail) (es : List Event) (f : HomeFault) : Type 0 where
   pub stays : HomeStays me b r0 r f
   pub none : es ≡ []
-  pub bound : IsWithin (1 + up_steps) tr
+  pub bound : IsWithin (1 + up_steps me.geometry.wide) tr
 
 abbrev pub HomeLeaves : HomeState → Memo → Memo → Trail → List Event → Result (Unit {0}) HomeFault → Type 0
 HomeLeaves m r0 r tr es (Ok done) = HomeFilled m.me m.block r0 r tr es

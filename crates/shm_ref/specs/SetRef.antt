@@ -3,7 +3,7 @@ pub mod Control
 pub mod Memos
 pub mod Steps
 pub mod Laws
-use Rattle.std.specs.Prelude.{◌≡◌, ◌≢◌, ℕ, zero, suc, ◌+◌, ◌^◌, ◌<◌, ◌≤◌, true, false, ◌⊎◌, Some, Result, Ok, Err, List, [], ◌∷◌, ◌++◌, length}
+use Rattle.std.specs.Prelude.{◌≡◌, ◌≢◌, ℕ, zero, suc, ◌+◌, ◌^◌, ◌<◌, ◌≤◌, true, false, ◌⊎◌, Some, Result, Ok, Err, List, [], ◌∷◌, ◌++◌, length, Bool}
 use Rattle.std.specs.List.{Contains}
 use Rattle.shm_words.specs.Layout.{GeometryFits, total_of}
 use Rattle.shm_words.specs.Tags.{tag_author, tag_refs}
@@ -63,14 +63,14 @@ pub record MaySetRef (me : Me) (b to : ℕ) (r : Memo) : Type 0 where
 -- ---- what was read
 
 -- the tag says that the block is an own one, and has the word
-pub record IsOwnRef (c b k t : ℕ) (r : Memo) : Type 0 where
+pub record IsOwnRef (wide : Bool) (c b k t : ℕ) (r : Memo) : Type 0 where
   pub known : as_known (spot.Tag b) r t
-  pub author : tag_author t ≡ c
-  pub low : k < tag_refs t
+  pub author : tag_author wide t ≡ c
+  pub low : k < tag_refs wide t
 
 -- the hold word names the own latch, and the word holds x
-pub record IsRead (c b k t x : ℕ) (r : Memo) : Type 0 where
-  pub tag : IsOwnRef c b k t r
+pub record IsRead (wide : Bool) (c b k t x : ℕ) (r : Memo) : Type 0 where
+  pub tag : IsOwnRef wide c b k t r
   pub held : own_word r.own (spot.Hold c) ≡ c + 1
   pub known : as_known (spot.Body b k) (tag_seen b t r) x
 
@@ -92,7 +92,7 @@ taken_events c p a (suc x) = event.ChangeUp c p a (suc x) ∷ event.ChangeDown c
 -- the tag was read
 pub record IsTagged (me : Me) (b k to t : ℕ) (r0 r : Memo) (tr : Trail) (es : List Event) : Type 0 where
   pub may : MaySetRef me b to r0
-  pub tag : IsOwnRef me.who b k t r0
+  pub tag : IsOwnRef me.geometry.wide me.who b k t r0
   pub same : core r ≡ core (tag_seen b t r0)
   pub client : recovers r ≡ false
   pub none : es ≡ []
@@ -101,7 +101,7 @@ pub record IsTagged (me : Me) (b k to t : ℕ) (r0 r : Memo) (tr : Trail) (es : 
 -- the own latch is held, and the word is one of the pool
 pub record IsLatched (me : Me) (b k to t : ℕ) (r0 r : Memo) (tr : Trail) (es : List Event) : Type 0 where
   pub may : MaySetRef me b to r0
-  pub tag : IsOwnRef me.who b k t r0
+  pub tag : IsOwnRef me.geometry.wide me.who b k t r0
   pub held : own_word r0.own (spot.Hold me.who) ≡ me.who + 1
   pub inside : (0 < b + 2 + k) × (b + 2 + k < total_of me.geometry)
   pub same : core r ≡ core (tag_seen b t r0)
@@ -112,7 +112,7 @@ pub record IsLatched (me : Me) (b k to t : ℕ) (r0 r : Memo) (tr : Trail) (es :
 -- the word was read, and names another block than it is to name, or none; a block that it names is a counted one of the pool
 pub record IsLooked (me : Me) (b k to t old : ℕ) (r0 r : Memo) (tr : Trail) (es : List Event) : Type 0 where
   pub may : MaySetRef me b to r0
-  pub read : IsRead me.who b k t old r0
+  pub read : IsRead me.geometry.wide me.who b k t old r0
   pub inside : (0 < b + 2 + k) × (b + 2 + k < total_of me.geometry)
   pub other : old ≢ to
   pub counted : old ≢ 0 → IsInside me old × (old + 2 ≤ total_of me.geometry) × (Contains r0.dying old → ⊥)
@@ -125,14 +125,14 @@ pub record IsLooked (me : Me) (b k to t old : ℕ) (r0 r : Memo) (tr : Trail) (e
 -- the word is `to`, and the count of the block that it named came to 0
 pub record IsFallen (me : Me) (b k to t old : ℕ) (r0 r : Memo) (tr : Trail) (es : List Event) : Type 0 where
   pub may : MaySetRef me b to r0
-  pub read : IsRead me.who b k t old r0
+  pub read : IsRead me.geometry.wide me.who b k t old r0
   pub some : old ≢ 0
   pub other : old ≢ to
   pub counted : IsInside me old × (old + 2 ≤ total_of me.geometry) × (Contains r0.dying old → ⊥)
   pub lost : Lost me.who (spot.Body b k) false old to true (word_seen b k t old r0) r
   pub holds : IsHeld me r
   pub told : es ≡ taken_events me.who (spot.Body b k) old to
-  pub bound : IsWithin (3 + change_steps) tr
+  pub bound : IsWithin (3 + change_steps me.geometry.wide) tr
 
 abbrev pub SetKnows : SetState → SetPoint → Memo → Memo → Trail → List Event → Type 0
 SetKnows m Tag r0 r tr es = MaySetRef m.me m.block m.to r0 × (r ≡ r0) × (tr ≡ []) × (es ≡ [])
@@ -155,20 +155,20 @@ pub data SetDid (me : Me) (b k old to : ℕ) (m r : Memo) (es : List Event) : Ty
 pub record RefSet (me : Me) (b k to : ℕ) (r0 r : Memo) (tr : Trail) (es : List Event) : Type 0 where
   pub tag : ℕ
   pub old : ℕ
-  pub read : IsRead me.who b k tag old r0
+  pub read : IsRead me.geometry.wide me.who b k tag old r0
   pub did : SetDid me b k old to (word_seen b k tag old r0) r es
-  pub bound : IsWithin (3 + change_steps + tear_steps (frees es)) tr
+  pub bound : IsWithin (3 + change_steps me.geometry.wide + tear_steps me.geometry.wide (frees es)) tr
 
 -- the own era was spent: at the count step, and nothing was done; or at a step down of the tear-down, and these blocks are left as zero-count blocks
 pub data SetSpent (me : Me) (b k to : ℕ) (r0 r : Memo) (es : List Event) (e : ℕ) (vs : List Visit) : Type 0 where
-  AtStep : (tag old : ℕ) (read : IsRead me.who b k tag old r0) (other : old ≢ to) (memo : Untouched me.who (word_seen b k tag old r0) r) (cause : StepCause me (aim_of old to) r0 (EraSpent e)) (none : es ≡ []) (all : vs ≡ []) → SetSpent me b k to r0 r es e vs
-  AtTear : (tag old : ℕ) (read : IsRead me.who b k tag old r0) (some : old ≢ 0) (other : old ≢ to) (took : Took me.who (spot.Body b k) false old to false (word_seen b k tag old r0) r) (stopped : StoppedAt me (word_seen b k tag old r0) r e vs) (torn : List Event) (told : es ≡ taken_events me.who (spot.Body b k) old to ++ torn) (walk : Walks me.who old torn vs) → SetSpent me b k to r0 r es e vs
+  AtStep : (tag old : ℕ) (read : IsRead me.geometry.wide me.who b k tag old r0) (other : old ≢ to) (memo : Untouched me.who (word_seen b k tag old r0) r) (cause : StepCause me (aim_of old to) r0 (EraSpent e)) (none : es ≡ []) (all : vs ≡ []) → SetSpent me b k to r0 r es e vs
+  AtTear : (tag old : ℕ) (read : IsRead me.geometry.wide me.who b k tag old r0) (some : old ≢ 0) (other : old ≢ to) (took : Took me.who (spot.Body b k) false old to false (word_seen b k tag old r0) r) (stopped : StoppedAt me (word_seen b k tag old r0) r e vs) (torn : List Event) (told : es ≡ taken_events me.who (spot.Body b k) old to ++ torn) (walk : Walks me.who old torn vs) → SetSpent me b k to r0 r es e vs
 
 -- the count of the block that the word was to name was full
 pub record SetFull (me : Me) (b k to : ℕ) (r0 r : Memo) (d n : ℕ) : Type 0 where
   pub tag : ℕ
   pub old : ℕ
-  pub read : IsRead me.who b k tag old r0
+  pub read : IsRead me.geometry.wide me.who b k tag old r0
   pub other : old ≢ to
   pub some : to ≢ 0
   pub memo : Untouched me.who (word_seen b k tag old r0) r
@@ -177,16 +177,16 @@ pub record SetFull (me : Me) (b k to : ℕ) (r0 r : Memo) (d n : ℕ) : Type 0 w
 
 -- what a refusal says of the words that were read, and leaves of the memo; vs are the zero-count blocks that are left on the way
 abbrev pub SetStays : Me → ℕ → ℕ → ℕ → Memo → Memo → List Event → List Visit → SetFault → Type 0
-SetStays me b k to r0 r es vs (fault.NotAuthor a) = (t : ℕ) × as_known (spot.Tag b) r0 t × (a ≡ tag_author t) × (a ≢ me.who) × (core r ≡ core (tag_seen b t r0)) × (es ≡ []) × (vs ≡ [])
-SetStays me b k to r0 r es vs (fault.NoSuchRef n) = (t : ℕ) × as_known (spot.Tag b) r0 t × (tag_author t ≡ me.who) × (n ≡ tag_refs t) × (n ≤ k) × (core r ≡ core (tag_seen b t r0)) × (es ≡ []) × (vs ≡ [])
-SetStays me b k to r0 r es vs fault.NotHeld = (t : ℕ) × IsOwnRef me.who b k t r0 × (own_word r0.own (spot.Hold me.who) ≢ me.who + 1) × (core r ≡ core (tag_seen b t r0)) × (es ≡ []) × (vs ≡ [])
+SetStays me b k to r0 r es vs (fault.NotAuthor a) = (t : ℕ) × as_known (spot.Tag b) r0 t × (a ≡ tag_author me.geometry.wide t) × (a ≢ me.who) × (core r ≡ core (tag_seen b t r0)) × (es ≡ []) × (vs ≡ [])
+SetStays me b k to r0 r es vs (fault.NoSuchRef n) = (t : ℕ) × as_known (spot.Tag b) r0 t × (tag_author me.geometry.wide t ≡ me.who) × (n ≡ tag_refs me.geometry.wide t) × (n ≤ k) × (core r ≡ core (tag_seen b t r0)) × (es ≡ []) × (vs ≡ [])
+SetStays me b k to r0 r es vs fault.NotHeld = (t : ℕ) × IsOwnRef me.geometry.wide me.who b k t r0 × (own_word r0.own (spot.Hold me.who) ≢ me.who + 1) × (core r ≡ core (tag_seen b t r0)) × (es ≡ []) × (vs ≡ [])
 SetStays me b k to r0 r es vs (fault.EraSpent e) = SetSpent me b k to r0 r es e vs
 SetStays me b k to r0 r es vs (fault.CountFull d n) = SetFull me b k to r0 r d n × (es ≡ []) × (vs ≡ [])
 
 pub record SetRefused (me : Me) (b k to : ℕ) (r0 r : Memo) (tr : Trail) (es : List Event) (f : SetFault) : Type 0 where
   pub left : List Visit
   pub stays : SetStays me b k to r0 r es left f
-  pub bound : IsWithin (3 + change_steps + tear_steps (frees es + length left)) tr
+  pub bound : IsWithin (3 + change_steps me.geometry.wide + tear_steps me.geometry.wide (frees es + length left)) tr
 
 abbrev pub SetLeaves : SetState → Memo → Memo → Trail → List Event → Result (Unit {0}) SetFault → Type 0
 SetLeaves m r0 r tr es (Ok done) = RefSet m.me m.block m.word m.to r0 r tr es

@@ -4,7 +4,7 @@ ghost use Rattle.std.specs.Prelude.{◌≡◌, ℕ, ◌+◌, ◌*◌, Bool, Resu
 ghost use Rattle.shm_graph.specs.declared.ask.Me.{Me as AMe};
 ghost use Rattle.shm_graph.specs.declared.memo.Memo.{Memo as AMemo};
 ghost use Rattle.shm_graph.specs.Asks.{Trail, IsWithin};
-ghost use Rattle.shm_graph.specs.Bounds.{up_steps};
+ghost use Rattle.shm_graph.specs.Bounds.{redo_steps, tear_steps, up_steps};
 ghost use Rattle.shm_count.specs.declared.answer.EraSpent.{EraSpent as ASpent};
 ghost use Rattle.shm_count.specs.declared.answer.ShareFault.{ShareFault as AShareFault};
 ghost use Rattle.shm_count.specs.declared.answer.ShareFault.TheVariants as share;
@@ -16,18 +16,18 @@ ghost use Rattle.shm_ref.specs.declared.answer.NotHeld.{NotHeld as ANotHeld};
 ghost use Rattle.shm_ref.specs.Lefts.{Stopped};
 ghost use Rattle.shm_ref.specs.Machines.{DropGives, drop_told, RootsGive, roots_told, HoldGives, ReleaseGives, RootOfGives, ShareGives, HomeGives, LookGives, ReadGives};
 
-/// A drop of a root took at most 9 word steps and 164 for each block that it freed or left on the way, and three more for each exchange
-/// that failed.
+/// A drop of a root took at most 9 word steps and 164 for each block that it freed or left on the way, in format 2 10 and 180, and three
+/// more for each exchange that failed.
 pub fn drop_root_bound()
-    ensures done { (me : AMe) (k : ℕ) (r0 r : AMemo) (tr : Trail) (z : Bool) → DropGives me k r0 r tr (Ok z) → IsWithin (9 + 164 * frees (drop_told me k tr)) tr }
-    ensures spent { (me : AMe) (k : ℕ) (r0 r : AMemo) (tr : Trail) (e : ASpent) → DropGives me k r0 r tr (Err e) → (vs : List Visit) × Stopped me r0 r e.era vs × IsWithin (9 + 164 * (frees (drop_told me k tr) + length vs)) tr }
+    ensures done { (me : AMe) (k : ℕ) (r0 r : AMemo) (tr : Trail) (z : Bool) → DropGives me k r0 r tr (Ok z) → IsWithin (8 + redo_steps me.geometry.wide + tear_steps me.geometry.wide (frees (drop_told me k tr))) tr }
+    ensures spent { (me : AMe) (k : ℕ) (r0 r : AMemo) (tr : Trail) (e : ASpent) → DropGives me k r0 r tr (Err e) → (vs : List Visit) × Stopped me r0 r e.era vs × IsWithin (8 + redo_steps me.geometry.wide + tear_steps me.geometry.wide (frees (drop_told me k tr) + length vs)) tr }
 {}
 
-/// A drop of all roots took at most 144 word steps and 164 for each block that it freed or left on the way, and three more for each
-/// exchange that failed.
+/// A drop of all roots took at most 144 word steps and 164 for each block that it freed or left on the way, in format 2 160 and 180, and
+/// three more for each exchange that failed.
 pub fn drop_roots_bound()
-    ensures done { (me : AMe) (r0 r : AMemo) (tr : Trail) → RootsGive me r0 r tr (Ok tt) → IsWithin (144 + 164 * frees (roots_told me tr)) tr }
-    ensures spent { (me : AMe) (r0 r : AMemo) (tr : Trail) (e : ASpent) → RootsGive me r0 r tr (Err e) → (vs : List Visit) × Stopped me r0 r e.era vs × IsWithin (144 + 164 * (frees (roots_told me tr) + length vs)) tr }
+    ensures done { (me : AMe) (r0 r : AMemo) (tr : Trail) → RootsGive me r0 r tr (Ok tt) → IsWithin ((8 + redo_steps me.geometry.wide) * 16 + tear_steps me.geometry.wide (frees (roots_told me tr))) tr }
+    ensures spent { (me : AMe) (r0 r : AMemo) (tr : Trail) (e : ASpent) → RootsGive me r0 r tr (Err e) → (vs : List Visit) × Stopped me r0 r e.era vs × IsWithin ((8 + redo_steps me.geometry.wide) * 16 + tear_steps me.geometry.wide (frees (roots_told me tr) + length vs)) tr }
 {}
 
 /// A latch is taken in two word steps, and found held in three.
@@ -47,13 +47,13 @@ pub fn root_of_bound()
     ensures { (me : AMe) (k : ℕ) (r0 r : AMemo) (tr : Trail) (b : ℕ) → RootOfGives me k r0 r tr b → length tr ≡ 1 }
 {}
 
-/// A share into root k took at most k + 9 word steps, one that was refused as spent one, one that found no empty root 17, and none more
-/// than 24, besides three for each exchange that failed.
+/// A share into root k took at most k + 9 word steps, in format 2 k + 10, one that was refused as spent one, one that found no empty root
+/// 17, and none more than 24, in format 2 25, besides three for each exchange that failed.
 pub fn share_bound()
-    ensures done { (me : AMe) (b : ℕ) (r0 r : AMemo) (tr : Trail) (k : ℕ) → ShareGives me b r0 r tr (Ok k) → IsWithin (up_steps + 1 + k) tr }
+    ensures done { (me : AMe) (b : ℕ) (r0 r : AMemo) (tr : Trail) (k : ℕ) → ShareGives me b r0 r tr (Ok k) → IsWithin (up_steps me.geometry.wide + 1 + k) tr }
     ensures spent { (me : AMe) (b : ℕ) (r0 r : AMemo) (tr : Trail) (e : ℕ) → ShareGives me b r0 r tr (Err (share.EraSpent e)) → IsWithin 1 tr }
     ensures full { (me : AMe) (b : ℕ) (r0 r : AMemo) (tr : Trail) → ShareGives me b r0 r tr (Err share.RootsFull) → IsWithin 17 tr }
-    ensures within { (me : AMe) (b : ℕ) (r0 r : AMemo) (tr : Trail) (a : Result ℕ AShareFault) → ShareGives me b r0 r tr a → IsWithin (up_steps + 16) tr }
+    ensures within { (me : AMe) (b : ℕ) (r0 r : AMemo) (tr : Trail) (a : Result ℕ AShareFault) → ShareGives me b r0 r tr a → IsWithin (up_steps me.geometry.wide + 16) tr }
 {}
 
 /// What a home names is told in two word steps, and that the latch isn't held in one.

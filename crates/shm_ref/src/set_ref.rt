@@ -8,6 +8,7 @@ ghost use Rattle.shm_ref.specs.SetRef.{set_plan};
 ghost use Rattle.shm_ref.specs.SetRef.Laws.{set_laws};
 
 use crate::answer::SetFault;
+use crate::tagged::{author_in, refs_in};
 use shm_calls::{Calls, Or, Plan, Word};
 use shm_count::{EraSpent, StepChange, StepDown, StepUp, TearDown, UpFault};
 use shm_graph::{Machine, Me};
@@ -111,8 +112,8 @@ impl SetState {
         match self.point {
             SetPoint::Tag => {
                 self.point = SetPoint::Held;
-                let author = (word / (1 << 20) % 64) as u8;
-                let refs = (word / (1 << 30) % 32) as u8;
+                let author = author_in(self.me, word);
+                let refs = refs_in(self.me, word);
                 if author != self.me.who {
                     Some(Err(SetFault::NotAuthor { author }))
                 } else if refs <= self.word {

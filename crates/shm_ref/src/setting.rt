@@ -38,9 +38,9 @@ pub fn set_home_leaves()
     ensures trail { (me : AMe) (b : ℕ) (r0 r : AMemo) (tr : Trail) (a : Result (Unit {0}) AHomeFault) → SetHomeGives me b r0 r tr a → plan_trail home_plan (homing me b) tr a }
 {}
 
-/// It takes at most 9 word steps, and three more for each exchange that failed.
+/// It takes at most 9 word steps, in format 2 10, and three more for each exchange that failed.
 pub fn set_home_bound()
-    ensures { (me : AMe) (b : ℕ) (r0 r : AMemo) (tr : Trail) (a : Result (Unit {0}) AHomeFault) → SetHomeGives me b r0 r tr a → IsWithin (1 + up_steps) tr }
+    ensures { (me : AMe) (b : ℕ) (r0 r : AMemo) (tr : Trail) (a : Result (Unit {0}) AHomeFault) → SetHomeGives me b r0 r tr a → IsWithin (1 + up_steps me.geometry.wide) tr }
 {}
 
 /// The setting of a reference word fits each memo of a client that is here, with no step in progress and the latch that its hold word
@@ -60,9 +60,10 @@ pub fn set_ref_leaves()
     ensures trail { (me : AMe) (b k to : ℕ) (r0 r : AMemo) (tr : Trail) (a : Result (Unit {0}) ASetFault) → SetRefGives me b k to r0 r tr a → plan_trail set_plan (setting me b k to) tr a }
 {}
 
-/// It takes at most 16 word steps and 164 for each block that it freed or left on the way, and three more for each exchange that failed.
+/// It takes at most 16 word steps and 164 for each block that it freed or left on the way, in format 2 17 and 180, and three more for each
+/// exchange that failed.
 pub fn set_ref_bound()
-    ensures done { (me : AMe) (b k to : ℕ) (r0 r : AMemo) (tr : Trail) → SetRefGives me b k to r0 r tr (Ok tt) → IsWithin (3 + change_steps + tear_steps (frees (set_ref_told me b k to tr))) tr }
+    ensures done { (me : AMe) (b k to : ℕ) (r0 r : AMemo) (tr : Trail) → SetRefGives me b k to r0 r tr (Ok tt) → IsWithin (3 + change_steps me.geometry.wide + tear_steps me.geometry.wide (frees (set_ref_told me b k to tr))) tr }
     ensures refused { (me : AMe) (b k to : ℕ) (r0 r : AMemo) (tr : Trail) (f : ASetFault) → SetRefGives me b k to r0 r tr (Err f)
-        → (vs : List Visit) × SetStays me b k to r0 r (set_ref_told me b k to tr) vs f × IsWithin (3 + change_steps + tear_steps (frees (set_ref_told me b k to tr) + length vs)) tr }
+        → (vs : List Visit) × SetStays me b k to r0 r (set_ref_told me b k to tr) vs f × IsWithin (3 + change_steps me.geometry.wide + tear_steps me.geometry.wide (frees (set_ref_told me b k to tr) + length vs)) tr }
 {}

@@ -181,7 +181,7 @@ module _ (me : Me) (es : List Entry) (m r : Memo) (h : IsReady me.who es m) (cli
     get_leaves a key tr ds answer.Missing g = visited (record { line = line.Get a key; answer = answer.Missing }) g.visited (same_map g.visited.map)
     get_leaves a key tr ds b g = absurd g
 
-    sent : (i key b n : ℕ) (tr : Trail) (ds : List Event) (x : Entry) → IsSent me i key b n None send_key_steps m r tr ds → Map x → Then x
+    sent : (i key b n : ℕ) (tr : Trail) (ds : List Event) (x : Entry) → IsSent me i key b n None (send_key_steps me.geometry.wide) m r tr ds → Map x → Then x
     sent i key b n tr ds x g map =
         record {
           idle = g.keeps.idle;
@@ -194,7 +194,7 @@ module _ (me : Me) (es : List Entry) (m r : Memo) (h : IsReady me.who es m) (cli
           fold = fold_more es x r map;
         }
 
-    unsent : (i key b : ℕ) (f : SendFault) (tr : Trail) (ds : List Event) (x : Entry) → IsUnsent me i key b f None send_key_steps m r tr ds → Map x → Then x
+    unsent : (i key b : ℕ) (f : SendFault) (tr : Trail) (ds : List Event) (x : Entry) → IsUnsent me i key b f None (send_key_steps me.geometry.wide) m r tr ds → Map x → Then x
     unsent i key b f tr ds x g map = kept x g.keeps g.latch g.cleared map
 
     send_leaves : (i key : ℕ) (tr : Trail) (ds : List Event) (a : Answer) → SendKeyLeaves (sending_key me i key) m r tr ds a → Then (record { line = line.Send i key; answer = a })

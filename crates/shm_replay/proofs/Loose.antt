@@ -63,7 +63,7 @@ read_kept g c load m test (spot.Page s q) seen =
     let facts : Memo = record m { facts = Class s q seen ∷ m.facts } in
     let z : Bool = list_any (eqb s) m.owned in
     pick (seen == 0) (cond z zeros m) facts (loose m) (pick z zeros m (loose m) refl refl) refl
-read_kept g c load m test (spot.Body b i) seen = word_kept m (claim_of c m (b + 2 + i)) b i seen
+read_kept g c load m test (spot.Body b i) seen = word_kept m (claim_of g.wide c m (b + 2 + i)) b i seen
 read_kept g c load m test (spot.Tail s r) seen = refl
 read_kept g c load m test (spot.QueueHead s r) seen = refl
 read_kept g c load m test (spot.Head b) seen = refl
@@ -94,36 +94,36 @@ untaken_kept c p b m = refl
 lowered_kept : (n b : ℕ) (m : Memo) → loose (lowered n b m) ≡ loose m
 lowered_kept n b m = pick _ _ m (loose m) refl refl
 
-committed_kept : (c : ℕ) (m : Memo) (o : Op) (to : ℕ) → loose (committed c m o to) ≡ loose m
-committed_kept c m (op.Up Begun p b e) to =
+committed_kept : (wide : Bool) (c : ℕ) (m : Memo) (o : Op) (to : ℕ) → loose (committed wide c m o to) ≡ loose m
+committed_kept wide c m (op.Up Begun p b e) to =
     let n : Memo = record m { op = op.Up Committed p b e; made = without_made m b } in
     let q : Memo = with_unsent c p b n in
     part_kept q.known c (shown q (spot.Home c)) p b q.part ∙ unsent_kept c p b n
-committed_kept c m (op.Down Begun p b e) to =
+committed_kept wide c m (op.Down Begun p b e) to =
     let n : Memo = record m { op = op.Down Committed p b e; made = without_made m b } in
     let q : Memo = with_untaken c p b (with_unsent c p 0 n) in
     lowered_kept (header_of to).count b (cut c p (reparted c q p 0)) ∙ (part_kept q.known c (shown q (spot.Home c)) p 0 q.part ∙ (untaken_kept c p b (with_unsent c p 0 n) ∙ unsent_kept c p 0 n))
-committed_kept c m (op.Change (Raising Begun) p a b e) to =
+committed_kept wide c m (op.Change (Raising Begun) p a b e) to =
     let n : Memo = record m { op = op.Change (Raising Committed) p a b e; made = filter (not_block a) (without_made m b) } in
     part_kept n.known c (shown n (spot.Home c)) p b n.part
-committed_kept c m (op.Change (Lowering Open) p a b e) to =
+committed_kept wide c m (op.Change (Lowering Open) p a b e) to =
     let n : Memo = record m { op = op.Change (Lowering Closed) p a b e; made = without_made m a } in
     lowered_kept (header_of to).count a (cut c p n)
-committed_kept c m op.Nothing to = refl
-committed_kept c m (op.Alloc Begun p b e) to = refl
-committed_kept c m (op.Alloc Committed p b e) to = refl
-committed_kept c m (op.Alloc Written p b e) to = refl
-committed_kept c m (op.Up Committed p b e) to = refl
-committed_kept c m (op.Up Written p b e) to = refl
-committed_kept c m (op.Down Committed p b e) to = refl
-committed_kept c m (op.Down Written p b e) to = refl
-committed_kept c m (op.Change (Raising Committed) p a b e) to = refl
-committed_kept c m (op.Change (Raising Written) p a b e) to = refl
-committed_kept c m (op.Change (Lowering Closed) p a b e) to = refl
+committed_kept wide c m op.Nothing to = refl
+committed_kept wide c m (op.Alloc Begun p b e) to = refl
+committed_kept wide c m (op.Alloc Committed p b e) to = refl
+committed_kept wide c m (op.Alloc Written p b e) to = refl
+committed_kept wide c m (op.Up Committed p b e) to = refl
+committed_kept wide c m (op.Up Written p b e) to = refl
+committed_kept wide c m (op.Down Committed p b e) to = refl
+committed_kept wide c m (op.Down Written p b e) to = refl
+committed_kept wide c m (op.Change (Raising Committed) p a b e) to = refl
+committed_kept wide c m (op.Change (Raising Written) p a b e) to = refl
+committed_kept wide c m (op.Change (Lowering Closed) p a b e) to = refl
 
-exchanged_kept : (c : ℕ) (m : Memo) (p : Spot) (to : ℕ) → loose (exchanged_on c m p to) ≡ loose m
-exchanged_kept c m (spot.Head b) to = committed_kept c m m.op to
-exchanged_kept c m p to = refl
+exchanged_kept : (wide : Bool) (c : ℕ) (m : Memo) (p : Spot) (to : ℕ) → loose (exchanged_on wide c m p to) ≡ loose m
+exchanged_kept wide c m (spot.Head b) to = committed_kept wide c m m.op to
+exchanged_kept wide c m p to = refl
 
 called_kept : (m : Memo) (t : Step) → loose (called m t) ≡ loose m
 called_kept m t = pick t.fresh (forgotten m) m (loose m) refl refl
@@ -132,8 +132,8 @@ changed_kept : (m : Memo) (t : Step) (p : Spot) (a : Ask) → loose (changed_by 
 changed_kept m t p (Load at) = read_kept t.me.geometry t.me.who true (called m t) (test_before m t) p t.seen ∙ called_kept m t
 changed_kept m t p (Store at v) = stored_kept t.me.geometry t.me.who (called m t) p v ∙ called_kept m t
 changed_kept m t p (Exchange at from to) =
-    pick (t.seen == from) (exchanged_on t.me.who (called m t) p to) (read_on t.me.geometry t.me.who false (called m t) (test_before m t) p t.seen) (loose m)
-    (exchanged_kept t.me.who (called m t) p to ∙ called_kept m t) (read_kept t.me.geometry t.me.who false (called m t) (test_before m t) p t.seen ∙ called_kept m t)
+    pick (t.seen == from) (exchanged_on t.me.geometry.wide t.me.who (called m t) p to) (read_on t.me.geometry t.me.who false (called m t) (test_before m t) p t.seen) (loose m)
+    (exchanged_kept t.me.geometry.wide t.me.who (called m t) p to ∙ called_kept m t) (read_kept t.me.geometry t.me.who false (called m t) (test_before m t) p t.seen ∙ called_kept m t)
 
 pub step_kept : (m : Memo) (t : Step) (p : Spot) → is_loose (memo_on m t p).part ≡ is_loose m.part
 step_kept m t p = changed_kept m t p t.ask

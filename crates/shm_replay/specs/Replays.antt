@@ -1,5 +1,5 @@
 -- the replay of a trace
-use Rattle.std.specs.Prelude.{◌≡◌, ℕ, ◌<◌, ◌==◌, if◌then◌else◌, true, List, [], ◌∷◌}
+use Rattle.std.specs.Prelude.{◌≡◌, ℕ, ◌<◌, ◌==◌, if◌then◌else◌, true, false, List, [], ◌∷◌}
 use Rattle.std.specs.FinMap as finmap
 use Rattle.shm_graph.specs.declared.run.Start.{Start}
 use Rattle.shm_graph.specs.Spots.{see}
@@ -13,9 +13,9 @@ use Rattle.shm_replay.specs.Orders.{IsGivenAll}
 use Rattle.shm_replay.specs.Closings.{AreVisits}
 use Rattle.shm_replay.specs.Logs.{AreLogs}
 
--- the pool of a trace: of its sizes, made for tables, and its first eras are 1
+-- the pool of a trace: of format 1 and of its sizes, made for tables, and its first eras are 1
 abbrev pub start_of : Traced → Start
-start_of t = record { geometry = record { clients = t.clients; segments = t.segments }; first_era = 1; tables = true }
+start_of t = record { geometry = record { clients = t.clients; segments = t.segments; wide = false }; first_era = 1; tables = true }
 
 -- the map that the log of an identity leaves; the empty one where no log is of it
 abbrev pub fold_in : List Logged → ℕ → Table

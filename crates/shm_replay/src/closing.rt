@@ -22,13 +22,13 @@ use shm_plain::PlainPool;
 use shm_queue::Draining;
 use shm_recover::{Join, Leaving, Recovering};
 
-/// An identity whose last agent died is recovered. Nobody else steps, so that 2^34 word steps are enough.
+/// An identity whose last agent died is recovered. Nobody else steps, so that 2^38 word steps are enough.
 fn recover(pool: &mut PlainPool, me: Me, life: &mut Life)
     requires geometry { me.geometry ≡ pool.old.start.geometry }
     requires who { me.who < pool.old.start.geometry.clients }
     requires dead { IsDead (memo_of pool.old me.who) }
     requires life { life.old.left ≤ 2 ^ 40 }
-    requires enough { 2 ^ 34 < life.old.left }
+    requires enough { 2 ^ 38 < life.old.left }
     requires era { pool.old.start.first_era ≡ 1 }
     ensures whole { IsRecovery true me.who pool.old pool.new }
     ensures out { IsOut (memo_of pool.new me.who) }
@@ -42,35 +42,35 @@ fn recover(pool: &mut PlainPool, me: Me, life: &mut Life)
         .unwrap();
 }
 
-/// A client of the identity joins. Nobody else steps, so that 2^34 word steps are enough.
+/// A client of the identity joins. Nobody else steps, so that 2^38 word steps are enough.
 fn join(pool: &mut PlainPool, me: Me, life: &mut Life)
     requires geometry { me.geometry ≡ pool.old.start.geometry }
     requires who { me.who < pool.old.start.geometry.clients }
     requires out { IsOut (memo_of pool.old me.who) }
-    requires enough { 2 ^ 34 < life.old.left }
+    requires enough { 2 ^ 38 < life.old.left }
     ensures whole { IsWhole join_control me.who pool.old (join_fresh (member pool.old.start.geometry me.who)) pool.new }
     ensures here { IsIn me.who (memo_of pool.new me.who) }
     ensures part { (memo_of pool.new me.who).part ≡ (memo_of pool.old me.who).part }
     ensures ran { Ran me.who true true pool.old pool.new life.old.left life.new.left }
-    ensures rest { life.old.left ≤ life.new.left + 2 ^ 34 }
+    ensures rest { life.old.left ≤ life.new.left + 2 ^ 38 }
 {
     pool.geometry();
     pool.call(me.who, &mut Join::new(me), life).unwrap();
 }
 
-/// The identity takes all that waits for it. Nobody else steps, so that 2^34 word steps are enough.
+/// The identity takes all that waits for it. Nobody else steps, so that 2^38 word steps are enough.
 fn drain(pool: &mut PlainPool, me: Me, life: &mut Life)
     requires geometry { me.geometry ≡ pool.old.start.geometry }
     requires who { me.who < pool.old.start.geometry.clients }
     requires here { IsIn me.who (memo_of pool.old me.who) }
-    requires enough { 2 ^ 34 < life.old.left }
+    requires enough { 2 ^ 38 < life.old.left }
     requires era { pool.old.start.first_era ≡ 1 }
     requires few { steps_made (memo_of pool.old me.who) + life.old.left ≤ 2 ^ 43 }
     ensures whole { IsWhole (calls_control drain_parts drain_plan) me.who pool.old (calls_of drain_plan (draining (member pool.old.start.geometry me.who))) pool.new }
     ensures here { IsIn me.who (memo_of pool.new me.who) }
     ensures part { (memo_of pool.new me.who).part ≡ (memo_of pool.old me.who).part }
     ensures ran { Ran me.who true true pool.old pool.new life.old.left life.new.left }
-    ensures rest { life.old.left ≤ life.new.left + 2 ^ 34 }
+    ensures rest { life.old.left ≤ life.new.left + 2 ^ 38 }
 {
     pool.geometry();
     pool.call(me.who, &mut Calls::new(Draining::new(me)), life)
@@ -78,12 +78,12 @@ fn drain(pool: &mut PlainPool, me: Me, life: &mut Life)
         .unwrap();
 }
 
-/// The identity leaves. Nobody else steps, so that 2^34 word steps are enough.
+/// The identity leaves. Nobody else steps, so that 2^38 word steps are enough.
 fn leave(pool: &mut PlainPool, me: Me, life: &mut Life)
     requires geometry { me.geometry ≡ pool.old.start.geometry }
     requires who { me.who < pool.old.start.geometry.clients }
     requires here { IsIn me.who (memo_of pool.old me.who) }
-    requires enough { 2 ^ 34 < life.old.left }
+    requires enough { 2 ^ 38 < life.old.left }
     requires era { pool.old.start.first_era ≡ 1 }
     requires few { steps_made (memo_of pool.old me.who) + life.old.left ≤ 2 ^ 43 }
     ensures whole { IsWhole (calls_control leave_parts leave_plan) me.who pool.old (calls_of leave_plan (leaving (member pool.old.start.geometry me.who))) pool.new }

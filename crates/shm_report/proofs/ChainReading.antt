@@ -9,7 +9,7 @@ use Rattle.std.proofs.lemmas.Map.Keys.{IsDistinct-head, IsDistinct-tail, IsDisti
 use Rattle.std.proofs.lemmas.Map.Steps.{length-le_from_distinct_below}
 use Rattle.shm_words.specs.declared.geometry.Geometry.{Geometry}
 use Rattle.shm_words.specs.Layout.{total_of}
-use Rattle.shm_words.proofs.Placing.{total_most}
+use Rattle.shm_words.proofs.Placing.{total_most_wide}
 use Rattle.shm_graph.specs.declared.spot.Spot.{Spot}
 use Rattle.shm_graph.specs.declared.spot.Spot.TheVariants.{Body}
 use Rattle.shm_graph.specs.Spots.{see}
@@ -25,26 +25,26 @@ use Rattle.shm_report.specs.TableRows.{contents_in, IsEntryAt, ReadsEntry, IsCha
 -- ---- entries
 
 -- what a word names lies in the pool
-pub reference_below : (g : Geometry) (ws : List ℕ) (p : Spot) → IsCleanPool g ws → references (see g ws) p < 531793
+pub reference_below : (g : Geometry) (ws : List ℕ) (p : Spot) → IsCleanPool g ws → references g.wide (see g ws) p < 16523169
 reference_below g ws p pool =
-    elim (cases_eq (references (see g ws) p) 0) [
+    elim (cases_eq (references g.wide (see g ws) p) 0) [
       | inl e ↦ omega arith
       | inr n ↦
-          let b = live_below g ws (references (see g ws) p) (pool.clean.targets p n) in
-          let m = total_most g pool.fits in
+          let b = live_below g ws (references g.wide (see g ws) p) (pool.clean.targets p n) in
+          let m = total_most_wide g pool.fits in
           omega arith
     ]
 
 -- the words of an entry and of its value block
 pub record EntryWords (g : Geometry) (ws : List ℕ) (e : Entry) : Type 0 where
   pub next : (contents_in g ws).refs e.block 0 ≡ get_or ws (e.block + 2) 0
-  pub next_below : (contents_in g ws).refs e.block 0 < 531793
+  pub next_below : (contents_in g ws).refs e.block 0 < 16523169
   pub value : get_or ws (e.block + 3) 0 ≡ e.value
   pub key : get_or ws (e.block + 4) 0 ≡ e.key
   pub number : get_or ws (e.value + 2) 0 ≡ e.number
   pub above : 0 < e.block
-  pub below : e.block < 531793
-  pub value_below : e.value < 531793
+  pub below : e.block < 16523169
+  pub value_below : e.value < 16523169
   pub small : e.key < 2 ^ 32
 
 pub entry_words : (g : Geometry) (ws : List ℕ) (c bucket : ℕ) (e : Entry) → IsCleanPool g ws → IsEntry (contents_in g ws) c bucket e → EntryWords g ws e
@@ -55,7 +55,7 @@ entry_words g ws c bucket e pool is =
     let v0 = shape_word g ws 0 1 e.value 0 pool.fits pool.clean is.holds (omega arith) in
     let b = live_below g ws e.block is.shape.live in
     let v = live_below g ws e.value is.holds.live in
-    let m = total_most g pool.fits in
+    let m = total_most_wide g pool.fits in
     let a0 : e.block + 2 + 0 ≡ e.block + 2 = omega arith in
     let a1 : e.block + 2 + 1 ≡ e.block + 3 = omega arith in
     let a2 : e.block + 2 + 2 ≡ e.block + 4 = omega arith in
@@ -75,12 +75,12 @@ entry_words g ws c bucket e pool is =
 -- the same words, by the address of the block
 pub record WordsAt (g : Geometry) (ws : List ℕ) (at : ℕ) (e : Entry) : Type 0 where
   pub next : get_or ws (at + 2) 0 ≡ (contents_in g ws).refs e.block 0
-  pub next_below : (contents_in g ws).refs e.block 0 < 531793
+  pub next_below : (contents_in g ws).refs e.block 0 < 16523169
   pub value : get_or ws (at + 3) 0 ≡ e.value
   pub key : get_or ws (at + 4) 0 ≡ e.key
   pub number : get_or ws (e.value + 2) 0 ≡ e.number
-  pub below : at < 531793
-  pub value_below : e.value < 531793
+  pub below : at < 16523169
+  pub value_below : e.value < 16523169
   pub small : e.key < 2 ^ 32
 
 pub words_at : (g : Geometry) (ws : List ℕ) (at : ℕ) (e : Entry) → IsCleanPool g ws → IsEntryAt g ws at e → WordsAt g ws at e

@@ -30,35 +30,35 @@ block_tag g ws b pool is live =
     tag_word g ws b (tag_spot g (classes_in g ws) b is (live_class g ws b pool.fits pool.clean (block_lives g ws b is live)))
 
 -- a live block has a tag
-pub has_tag : (g : Geometry) (ws : List ℕ) (b : ℕ) → IsCleanPool g ws → IsBlock g (classes_in g ws) b → (header_of (get_or ws b 0)).live ≡ true → tag_of (see g ws (Tag b)) ≡ None → ⊥
+pub has_tag : (g : Geometry) (ws : List ℕ) (b : ℕ) → IsCleanPool g ws → IsBlock g (classes_in g ws) b → (header_of (get_or ws b 0)).live ≡ true → tag_of g.wide (see g ws (Tag b)) ≡ None → ⊥
 has_tag g ws b pool is live none =
     let t = pool.clean.tags b (block_lives g ws b is live) in
     let x : None ≡ Some t.tag = sym none ∙ t.is in
     cc
 
 -- how many references a live block has whose tag is this
-pub refs_live : (g : Geometry) (ws : List ℕ) (b : ℕ) (t : ATag) → IsBlock g (classes_in g ws) b → (header_of (get_or ws b 0)).live ≡ true → tag_of (see g ws (Tag b)) ≡ Some t → (words_of (see g ws)).refs b ≡ t.refs
+pub refs_live : (g : Geometry) (ws : List ℕ) (b : ℕ) (t : ATag) → IsBlock g (classes_in g ws) b → (header_of (get_or ws b 0)).live ≡ true → tag_of g.wide (see g ws (Tag b)) ≡ Some t → (words_of g.wide (see g ws)).refs b ≡ t.refs
 refs_live g ws b t is live e =
-    cond-true (header_of (see g ws (Head b))).live (tag_refs (see g ws (Tag b))) 0 (ap (λ w. (header_of w).live) (block_header g ws b is) ∙ live) ∙ sym (tag_fields (see g ws (Tag b)) t e).1
+    cond-true (header_of (see g ws (Head b))).live (tag_refs g.wide (see g ws (Tag b))) 0 (ap (λ w. (header_of w).live) (block_header g ws b is) ∙ live) ∙ sym (tag_fields g.wide (see g ws (Tag b)) t e).1
 
 -- the reference words
-pub reference_word : (g : Geometry) (ws : List ℕ) (a : ℕ) (p : Spot) → GeometryFits g → a < total_of g → spot_at g (classes_in g ws) a ≡ p → references (see g ws) (spot_at g (classes (see g ws)) a) ≡ references (see g ws) p
-reference_word g ws a p f l e = ap (λ c. references (see g ws) (spot_at g c a)) (classes-see g ws f) ∙ ap (references (see g ws)) e
+pub reference_word : (g : Geometry) (ws : List ℕ) (a : ℕ) (p : Spot) → GeometryFits g → a < total_of g → spot_at g (classes_in g ws) a ≡ p → references g.wide (see g ws) (spot_at g (classes (see g ws)) a) ≡ references g.wide (see g ws) p
+reference_word g ws a p f l e = ap (λ c. references g.wide (see g ws) (spot_at g c a)) (classes-see g ws f) ∙ ap (references g.wide (see g ws)) e
 
 -- a word that is 0 names nothing, and is no block's header
-zero_reference : (w : Spot → ℕ) (p : Spot) → w p ≡ 0 → references w p ≡ 0
-zero_reference w (Home c) e = e
-zero_reference w (Root c k) e = e
-zero_reference w (Slot s r k) e = e
-zero_reference w (Body b i) e = go (ltb i ((words_of w).refs b))
+zero_reference : (wide : Bool) (w : Spot → ℕ) (p : Spot) → w p ≡ 0 → references wide w p ≡ 0
+zero_reference wide w (Home c) e = e
+zero_reference wide w (Root c k) e = e
+zero_reference wide w (Slot s r k) e = e
+zero_reference wide w (Body b i) e = go (ltb i ((words_of wide w).refs b))
   where
     go : (z : Bool) → cond z (w (Body b i)) 0 ≡ 0
     go true = e
     go false = refl
-zero_reference w _ e = refl
+zero_reference wide w _ e = refl
 
-pub zero_word : (g : Geometry) (ws : List ℕ) (a : ℕ) → GeometryFits g → a < total_of g → get_or ws a 0 ≡ 0 → references (see g ws) (spot_at g (classes (see g ws)) a) ≡ 0
-zero_word g ws a f l e = reference_word g ws a (spot_at g (classes_in g ws) a) f l refl ∙ zero_reference (see g ws) (spot_at g (classes_in g ws) a) (see_at g ws a (spot_at g (classes_in g ws) a) l refl ∙ e)
+pub zero_word : (g : Geometry) (ws : List ℕ) (a : ℕ) → GeometryFits g → a < total_of g → get_or ws a 0 ≡ 0 → references g.wide (see g ws) (spot_at g (classes (see g ws)) a) ≡ 0
+zero_word g ws a f l e = reference_word g ws a (spot_at g (classes_in g ws) a) f l refl ∙ zero_reference g.wide (see g ws) (spot_at g (classes_in g ws) a) (see_at g ws a (spot_at g (classes_in g ws) a) l refl ∙ e)
 
 pub zero_header : (g : Geometry) (ws : List ℕ) (a : ℕ) → get_or ws a 0 ≡ 0 → see g ws (Head a) ≡ 0
 unfolding see spot_address

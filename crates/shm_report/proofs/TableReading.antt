@@ -3,7 +3,7 @@ use Rattle.std.proofs.Common.{◌≡◌, ◌≢◌, ℕ, zero, suc, ◌+◌, ◌
 use Rattle.shm_words.specs.declared.geometry.Geometry.{Geometry}
 use Rattle.shm_words.specs.declared.place.Place.TheVariants as place
 use Rattle.shm_words.specs.Layout.{address}
-use Rattle.shm_words.proofs.Placing.{address_below, total_most}
+use Rattle.shm_words.proofs.Placing.{address_below, total_most_wide}
 use Rattle.shm_graph.specs.declared.spot.Spot.TheVariants.{Home, Body}
 use Rattle.shm_graph.specs.Spots.{see}
 use Rattle.shm_graph.specs.Tables.{IsChain}
@@ -19,11 +19,11 @@ not_zero : (n : ℕ) → 0 < n → n ≢ 0
 not_zero n l = λ e. omega arith
 
 -- the directory that a home names
-home_below : (g : Geometry) (ws : List ℕ) (c home : ℕ) (table : ℕ → ℕ → List Entry) → IsCleanPool g ws → c < g.clients → HoldsTable g ws table → see g ws (Home c) ≡ home → 0 < home → home < 531793
+home_below : (g : Geometry) (ws : List ℕ) (c home : ℕ) (table : ℕ → ℕ → List Entry) → IsCleanPool g ws → c < g.clients → HoldsTable g ws table → see g ws (Home c) ≡ home → 0 < home → home < 16523169
 home_below g ws c home table pool l holds is n =
     let more : see g ws (Home c) ≢ 0 = λ e. omega arith in
     let b = live_below g ws (see g ws (Home c)) ((holds c l).shape more).live in
-    let m = total_most g pool.fits in
+    let m = total_most_wide g pool.fits in
     omega arith
 
 -- each of its buckets names a chain
@@ -59,7 +59,7 @@ home_read g ws c n a pool l at read =
     let w = home_word g ws c pool.fits l in
     let small = reference_below g ws (Home c) pool in
     let low = address_below g (place.Home c) (home_in g c l) pool.fits in
-    let m = total_most g pool.fits in
+    let m = total_most_wide g pool.fits in
     let same : a + 0 ≡ address g (place.Home c) = omega (arith, at) in
     let word : see g ws (Home c) ≡ get_or ws (a + 0) 0 = w ∙ ap (λ k. get_or ws k 0) (sym same) in
     word ∙ sym (read (omega (arith, at)) (omega (arith, word)))

@@ -72,7 +72,7 @@ counts_lines homes live refs = codes "homes " ++ decimal homes ++ line_end ++ co
 
 -- how many homes are set, how many blocks are live, and how many words name one
 abbrev pub counts_text : Geometry → (Spot → ℕ) → List ℕ
-counts_text g w = counts_lines (homes_in_all g w) (live_count g w) (references_in_all g (classes w) (references w))
+counts_text g w = counts_lines (homes_in_all g w) (live_count g w) (references_in_all g (classes w) (references g.wide w))
 
 -- the lines that say what the pool holds, for these rows
 abbrev pub rows_text : Geometry → (Spot → ℕ) → List Row → List ℕ

@@ -13,7 +13,7 @@ use Rattle.shm_report.specs.declared.table_rows.TableRow.{TableRow}
 
 -- what a table is read from
 abbrev pub contents_in : Geometry → List ℕ → Contents
-contents_in g ws = contents_of (see g ws) (references (see g ws))
+contents_in g ws = contents_of g.wide (see g ws) (references g.wide (see g ws))
 
 -- the entry that has its block at this address
 pub record IsEntryAt (g : Geometry) (ws : List ℕ) (at : ℕ) (e : Entry) : Type 0 where

@@ -8,7 +8,7 @@ ghost use Rattle.shm_graph.specs.References.{words_of, references, live_count, r
 ghost use Rattle.shm_report.specs.PoolWords.{IsCleanPool};
 
 use shm_graph::Spot;
-use shm_words::{Geometry, Header, Place, Tag};
+use shm_words::{Geometry, Header, Place};
 
 /// The word at an address, and 0 past the end.
 pub fn word(words: &[u64], at: u32) -> u64
@@ -56,6 +56,7 @@ fn spot_of(geometry: Geometry, words: &[u64], at: u32, place: Place) -> Spot
         Place::Spare => Spot::Spare,
         Place::Status { c } => Spot::Status { c },
         Place::Redo { c } => Spot::Redo { c },
+        Place::RedoMore { c } => Spot::RedoMore { c },
         Place::Hold { c } => Spot::Hold { c },
         Place::Latch { c } => Spot::Latch { c },
         Place::Home { c } => Spot::Home { c },
@@ -106,12 +107,12 @@ pub fn header_at(geometry: Geometry, words: &[u64], at: u32) -> Header
 fn block_refs(geometry: Geometry, words: &[u64], block: u32) -> u8
     requires fits { GeometryFits geometry }
     requires is { IsBlock geometry (classes_in geometry words.now) block }
-    ensures { IsCleanPool geometry words.now → result ≡ (words_of (see geometry words.now)).refs block }
+    ensures { IsCleanPool geometry words.now → result ≡ (words_of geometry.wide (see geometry words.now)).refs block }
 {
     if !Header::unpack(word(words, block)).live {
         return 0;
     }
-    match Tag::unpack(word(words, block + 1)) {
+    match geometry.read_tag(word(words, block + 1)) {
         Some(tag) => tag.refs,
         None => 0,
     }
@@ -121,7 +122,7 @@ fn block_refs(geometry: Geometry, words: &[u64], block: u32) -> u8
 pub fn reference_at(geometry: Geometry, words: &[u64], at: u32) -> u64
     requires fits { GeometryFits geometry }
     requires range { at < total_of geometry }
-    ensures { IsCleanPool geometry words.now → result ≡ references (see geometry words.now) (spot_at geometry (classes (see geometry words.now)) at) }
+    ensures { IsCleanPool geometry words.now → result ≡ references geometry.wide (see geometry words.now) (spot_at geometry (classes (see geometry words.now)) at) }
 {
     if word(words, at) == 0 {
         return 0;
@@ -156,7 +157,7 @@ pub fn live_count(geometry: Geometry, words: &[u64]) -> u32
 /// How many words name a block.
 pub fn references_in_all(geometry: Geometry, words: &[u64]) -> u32
     requires { GeometryFits geometry }
-    ensures { IsCleanPool geometry words.now → result ≡ references_in_all geometry (classes (see geometry words.now)) (references (see geometry words.now)) }
+    ensures { IsCleanPool geometry words.now → result ≡ references_in_all geometry (classes (see geometry words.now)) (references geometry.wide (see geometry words.now)) }
 {
     let mut refs = 0;
     for at in 0..geometry.total() {

@@ -1,9 +1,10 @@
 //! The numbers of a row.
 
-ghost use Rattle.std.specs.Prelude.{◌<◌, IfSome};
-ghost use Rattle.shm_words.specs.Layout.{address_limit};
+ghost use Rattle.std.specs.Prelude.{◌≡◌, ◌<◌, IfSome};
+ghost use Rattle.shm_words.specs.Layout.{GeometryFits, address_limit};
 
 use shm_graph::Me;
+use shm_words::{ADDRESS_LIMIT, Geometry};
 
 /// A number, 0 where the word is none.
 pub fn number(word: &str) -> u64 {
@@ -33,7 +34,21 @@ pub fn below(number: u64, limit: u64) -> Option<u64>
 pub fn address(number: u64) -> Option<u32>
     ensures { IfSome result (λ n. n < address_limit) }
 {
-    Some(below(number, 1 << 20)? as u32)
+    Some(below(number, u64::from(ADDRESS_LIMIT))? as u32)
+}
+
+/// The sizes of a pool of format 2, if it is to be wide, or of format 1; none where there is no such pool.
+pub fn geometry(wide: bool, clients: u64, segments: u64) -> Option<Geometry>
+    ensures fits { IfSome result GeometryFits }
+    ensures sizes { IfSome result (λ g. g.clients ≡ clients) }
+{
+    let clients = u8::try_from(clients).ok()?;
+    let segments = u16::try_from(segments).ok()?;
+    if wide {
+        Geometry::wide(clients, segments).ok()
+    } else {
+        Geometry::new(clients, segments).ok()
+    }
 }
 
 /// The number of a root, of which an identity has 16.

@@ -3,9 +3,8 @@
 ghost use Rattle.std.specs.Prelude.{◌<◌, IfSome};
 ghost use Rattle.shm_words.specs.Layout.{GeometryFits};
 
-use crate::args::{below, number, numbers};
+use crate::args::{below, geometry, number, numbers};
 use shm_graph::Me;
-use shm_words::Geometry;
 use std::alloc::{AllocError, Global};
 
 /// More word steps than a run makes that ends.
@@ -22,6 +21,7 @@ pub struct Other {
 /// A pool's words, and what is to happen in the next run.
 #[derive(Drop)]
 pub struct Case {
+    wide: bool,
     clients: u64,
     segments: u64,
     pub words: Vec<u64>,
@@ -37,6 +37,7 @@ impl Case {
     /// No pool.
     pub fn new(alloc: Global) -> Case {
         Case {
+            wide: false,
             clients: 0,
             segments: 0,
             words: Vec::new(alloc),
@@ -48,12 +49,14 @@ impl Case {
 
     /// Takes a line of the case; false where it is none.
     ///
-    /// `pool CLIENTS SEGMENTS` begins with words that are 0; `set AT=VALUE ..` sets some of them; `other STEP AT=VALUE` has another client do
-    /// so before that word step of the next run, and `cut STEPS` has the next run end after so many word steps.
+    /// `pool CLIENTS SEGMENTS` begins with words that are 0, and so does `pool2` with a pool of format 2; `set AT=VALUE ..` sets some of them;
+    /// `other STEP AT=VALUE` has another client do so before that word step of the next run, and `cut STEPS` has the next run end after so many
+    /// word steps.
     pub fn take(&mut self, alloc: Global, line: &str) -> Result<bool, AllocError> {
         let (name, rest) = line.split_once(' ').unwrap_or((line, ""));
         match name {
-            "pool" => self.begin(alloc, numbers(rest))?,
+            "pool" => self.begin(alloc, false, numbers(rest))?,
+            "pool2" => self.begin(alloc, true, numbers(rest))?,
             "set" => self.set(rest),
             "other" => self.other(rest)?,
             "cut" => self.most = number(rest),
@@ -63,12 +66,14 @@ impl Case {
     }
 
     /// A pool of so many clients and segments, whose words are 0.
-    fn begin(&mut self, alloc: Global, sizes: [u64; 6]) -> Result<(), AllocError> {
+    fn begin(&mut self, alloc: Global, wide: bool, sizes: [u64; 6]) -> Result<(), AllocError> {
+        self.wide = wide;
         self.clients = sizes[0];
         self.segments = sizes[1];
         self.end();
-        self.words = zeros(alloc, total(sizes[0], sizes[1]))?;
-        self.before = zeros(alloc, total(sizes[0], sizes[1]))?;
+        let total = total(wide, sizes[0], sizes[1]);
+        self.words = zeros(alloc, total)?;
+        self.before = zeros(alloc, total)?;
         Ok(())
     }
 
@@ -103,7 +108,7 @@ impl Case {
     pub fn me(&self, who: u64) -> Option<Me>
         ensures { IfSome result (λ m. GeometryFits m.geometry × (m.who < m.geometry.clients)) }
     {
-        let geometry = geometry(self.clients, self.segments)?;
+        let geometry = geometry(self.wide, self.clients, self.segments)?;
         let who = below(who, u64::from(geometry.clients()))? as u8;
         Some(Me::new(geometry, who))
     }
@@ -133,18 +138,9 @@ fn pair_of(pair: &str) -> (u64, u64) {
     (number(at), number(value))
 }
 
-/// The sizes of a pool; none where there is no such pool.
-fn geometry(clients: u64, segments: u64) -> Option<Geometry>
-    ensures { IfSome result GeometryFits }
-{
-    let clients = u8::try_from(clients).ok()?;
-    let segments = u16::try_from(segments).ok()?;
-    Geometry::new(clients, segments).ok()
-}
-
 /// How many words such a pool has, 0 where there is none.
-fn total(clients: u64, segments: u64) -> usize {
-    match geometry(clients, segments) {
+fn total(wide: bool, clients: u64, segments: u64) -> usize {
+    match geometry(wide, clients, segments) {
         Some(geometry) => geometry.total() as usize,
         None => 0,
     }

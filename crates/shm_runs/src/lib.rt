@@ -7,7 +7,7 @@ mod case;
 mod sum;
 mod telling;
 
-pub use args::{address, below, byte, client, number, numbers, root};
+pub use args::{address, below, byte, client, geometry, number, numbers, root};
 pub use case::Case;
 use shm_graph::Ask;
 pub use sum::Sum;

@@ -6,7 +6,6 @@ use Rattle.std.proofs.lemmas.Bool.{cases_eq, eq-eqb, ne_eqb, lt-ltb}
 use Rattle.std.proofs.lemmas.List.Elements.{All-contains}
 use Rattle.shm_words.specs.declared.geometry.Geometry.{Geometry}
 use Rattle.shm_words.specs.declared.redo.Redo.TheVariants as redos
-use Rattle.shm_words.specs.Redos.{redo_word}
 use Rattle.shm_graph.specs.declared.memo.Fact.TheVariants.{Counter}
 use Rattle.shm_graph.specs.declared.memo.Memo.{Memo}
 use Rattle.shm_graph.specs.declared.memo.Op.TheVariants.{Nothing}
@@ -20,8 +19,7 @@ use Rattle.shm_graph.proofs.Memos.Calls.{FactHolds}
 use Rattle.shm_graph.proofs.Spots.Fixed.{fixed_is_at}
 use Rattle.shm_graph.proofs.States.Holders.{Holds}
 use Rattle.shm_graph.proofs.Memos.KnownChange.{KnownHolds}
-use Rattle.shm_laws.specs.OwnWords.{BeginNeeds}
-use Rattle.shm_steps.specs.OwnWords.{op_begun}
+use Rattle.shm_steps.specs.OwnWords.{MayBegin}
 use Rattle.shm_steps.specs.Beginning.{MayReplaceRoot, MaySet, MayPut, MayTake, MayTakeBack}
 use Rattle.shm_steps.proofs.BeginAt.{SlotHas, fixed_told, word_target, up_at, down_at, change_at}
 
@@ -39,7 +37,7 @@ module _ (g : Geometry) (w : Spot → ℕ) (r : ℕ → Memo) (c : ℕ) (h : Hel
 
   -- an own root is to have another block
   pub change_begins_root : (k a b : ℕ) → MayReplaceRoot c m k a b
-      → BeginNeeds g w (view r) c (redo_word (redos.Change (odd (own_word m.own (Era c c))) (spot_address g (Root c k)) a b)) (op_begun g c m (redo_word (redos.Change (odd (own_word m.own (Era c c))) (spot_address g (Root c k)) a b)))
+      → MayBegin g w r c (redos.Change (odd (own_word m.own (Era c c))) (spot_address g (Root c k)) a b)
   change_begins_root k a b x = change_at g w r c h l (Root c k) a b x.may (root_has k a x.some x.root) x.some refl refl x.other x.source
 
   -- the own home
@@ -49,7 +47,7 @@ module _ (g : Geometry) (w : Spot → ℕ) (r : ℕ → Memo) (c : ℕ) (h : Hel
       record { told = fixed_told g (classes w) c m (Home c) refl at; at = at; holds = refl; word = sym (h.mine c l (Home c) (eq-eqb c c refl)) ∙ e }
 
   -- a block in reach is to be put into the own home
-  pub up_begins_home : (b : ℕ) → MaySet c m b → BeginNeeds g w (view r) c (redo_word (redos.Up (spot_address g (Home c)) b)) (op_begun g c m (redo_word (redos.Up (spot_address g (Home c)) b)))
+  pub up_begins_home : (b : ℕ) → MaySet c m b → MayBegin g w r c (redos.Up (spot_address g (Home c)) b)
   up_begins_home b x = up_at g w r c h l (Home c) b x.may (home_has x.empty) refl x.source
 
   -- ---- queues to others
@@ -92,14 +90,14 @@ module _ (g : Geometry) (w : Spot → ℕ) (r : ℕ → Memo) (c : ℕ) (h : Hel
 
   -- a block in reach is to be put into the next slot of a queue
   pub up_begins_send : (i k b : ℕ) → MayPut g.clients c m i k b
-      → BeginNeeds g w (view r) c (redo_word (redos.Up (spot_address g (Slot c i k)) b)) (op_begun g c m (redo_word (redos.Up (spot_address g (Slot c i k)) b)))
+      → MayBegin g w r c (redos.Up (spot_address g (Slot c i k)) b)
   up_begins_send i k b x =
       up_at g w r c h l (Slot c i k) b x.may (tail_has i k 0 x.to x.other x.may.idle x.next (room_left i x.read.0 x.read.1 x.read.2) x.none)
       (ne_eqb i c (λ z. x.other (sym z))) x.source
 
   -- the block that waits for its tail is to go
   pub down_begins_unsend : (i k b : ℕ) → MayTakeBack g.clients c m i k b
-      → BeginNeeds g w (view r) c (redo_word (redos.Down (spot_address g (Slot c i k)) b)) (op_begun g c m (redo_word (redos.Down (spot_address g (Slot c i k)) b)))
+      → MayBegin g w r c (redos.Down (spot_address g (Slot c i k)) b)
   down_begins_unsend i k b x =
       down_at g w r c h l (Slot c i k) b x.may
       (tail_has i k b x.to x.other x.may.idle x.next (room_unsent i x.to x.other (λ z. x.some (sym x.unsent ∙ z))) x.unsent)
@@ -120,7 +118,7 @@ module _ (g : Geometry) (w : Spot → ℕ) (r : ℕ → Memo) (c : ℕ) (h : Hel
 
   -- the block of a head slot is to be taken
   pub down_begins_take : (s k b : ℕ) → MayTake c m s k b
-      → BeginNeeds g w (view r) c (redo_word (redos.Down (spot_address g (Slot s c k)) b)) (op_begun g c m (redo_word (redos.Down (spot_address g (Slot s c k)) b)))
+      → MayBegin g w r c (redos.Down (spot_address g (Slot s c k)) b)
   down_begins_take s k b x =
       let a : KnownHolds g w (view r) c (record { spot = Slot s c k; value = b }) = All-contains (KnownHolds g w (view r) c) m.known (record { spot = Slot s c k; value = b }) (h.known c l) x.known in
       down_at g w r c h l (Slot s c k) b x.may (head_has s k b a) a.5 refl

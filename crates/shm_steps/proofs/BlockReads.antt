@@ -1,5 +1,5 @@
 -- the tag or a word of a block is read: what its reader's memo has then holds
-use Rattle.std.proofs.Common.{◌≡◌, ◌≢◌, ℕ, ◌+◌, ◌<◌, refl, sym, ap, ◌∙◌, subst, arith, true, cond, eqb, leb, ltb, ◌&&◌, ◌||◌, inl, inr, ◌⊎◌, [], ◌∷◌, ◌++◌, Option, Some, None}
+use Rattle.std.proofs.Common.{◌≡◌, ◌≢◌, ℕ, ◌+◌, ◌<◌, refl, sym, ap, ◌∙◌, subst, arith, true, cond, eqb, leb, ltb, ◌&&◌, ◌||◌, inl, inr, ◌⊎◌, [], ◌∷◌, ◌++◌, Option, Some, None, Bool}
 use Rattle.std.specs.List.{All, Contains}
 use Rattle.std.proofs.lemmas.Bool.{cases_eq, and_parts, eqb-true, eq-eqb, leb-true, leb-false, or_cases, or_parts, lt-ltb, cond-true, false≢true, true≢false}
 use Rattle.std.proofs.lemmas.List.Elements.{Contains-append_left, Contains-push}
@@ -44,12 +44,12 @@ latched_by (Some a) None e = absurd (false≢true e)
 latched_by (Some a) (Some d) e = (a, refl, ap Some (sym (eqb-true a d e)))
 
 -- a reference word of a block in reach, under its author's latch and with no own step about to store it, is its target
-look_target : (g : Geometry) (w : Spot → ℕ) (v : View) (c b i : ℕ) → HeldAt g w v → c < g.clients → InReach w g v c b → i < tag_refs (w (Tag b)) → v.latch c ≡ Some (tag_author (w (Tag b)))
+look_target : (g : Geometry) (w : Spot → ℕ) (v : View) (c b i : ℕ) → HeldAt g w v → c < g.clients → InReach w g v c b → i < tag_refs g.wide (w (Tag b)) → v.latch c ≡ Some (tag_author g.wide (w (Tag b)))
     → ((x : ℕ) → cover (cover_of (v.op c)) (Body b i) x ≡ x) → targets g w v (Body b i) ≡ w (Body b i)
 look_target g w v c b i h l reach low latch settled =
     let counted = reach_counted g w v h c b l reach in
-    let e : (words_of w).refs b ≡ tag_refs (w (Tag b)) = ap (λ z. refs_of z (w (Tag b))) counted.0 in
-    cond-true (ltb i ((words_of w).refs b)) (covered (λ d. cover_of (v.op d)) g.clients (Body b i) (w (Body b i))) 0 (lt-ltb i ((words_of w).refs b) (subst (λ k. i < k) (sym e) low))
+    let e : (words_of g.wide w).refs b ≡ tag_refs g.wide (w (Tag b)) = ap (λ z. refs_of g.wide z (w (Tag b))) counted.0 in
+    cond-true (ltb i ((words_of g.wide w).refs b)) (covered (λ d. cover_of (v.op d)) g.clients (Body b i) (w (Body b i))) 0 (lt-ltb i ((words_of g.wide w).refs b) (subst (λ k. i < k) (sym e) low))
     ∙ covered_none g.clients (Body b i) (w (Body b i)) (λ d. cover_of (v.op d))
     (λ d m y. elim (cases_eq c d) [
       | inl s ↦ subst (λ j. cover (cover_of (v.op j)) (Body b i) y ≡ y) s (settled y)
@@ -57,14 +57,14 @@ look_target g w v c b i h l reach low latch settled =
           (same_spot_not (slot_of (v.op d)) (Body b i)
           (λ s. elim (step_holds g w v h d (Body b i) m (λ z. cc) s).2 [
             | inl u ↦ counted.1 u.0
-            | inr u ↦ n (one_latch g w v h c d (tag_author (w (Tag b))) l m latch (u.1 ∙ ap Some (sym u.0)))
+            | inr u ↦ n (one_latch g w v h c d (tag_author g.wide (w (Tag b))) l m latch (u.1 ∙ ap Some (sym u.0)))
           ])) y
     ])
 
 -- ---- tags
 
 -- the pool holds with the memo that read a tag of which something is told
-tag_step : (g : Geometry) (w : Spot → ℕ) (r : ℕ → Memo) (c at b : ℕ) (k : Claim) → HeldAt g w (view r) → c < g.clients → spot_at g (classes w) at ≡ Tag b → claim_of c (r c) at ≡ Some k
+tag_step : (g : Geometry) (w : Spot → ℕ) (r : ℕ → Memo) (c at b : ℕ) (k : Claim) → HeldAt g w (view r) → c < g.clients → spot_at g (classes w) at ≡ Tag b → claim_of g.wide c (r c) at ≡ Some k
     → HeldAt g w (view (at1 r c (tag_read (r c) b (w (Tag b)))))
 tag_step g w r c at b k h l e told =
     let s = claim_here g w r h c l at k told in
@@ -74,19 +74,19 @@ tag_step g w r c at b k h l e told =
     (h.values c l)
 
 -- what is told is told at a step
-pub told_called : (c at : ℕ) (m : Memo) (t : Step) (o : Option Claim) → claim_of c m at ≡ o → claim_of c (called m t) at ≡ o
-told_called c at m t o e = called_by (λ x. claim_of c x at ≡ o) m t e e
+pub told_called : (wide : Bool) (c at : ℕ) (m : Memo) (t : Step) (o : Option Claim) → claim_of wide c m at ≡ o → claim_of wide c (called m t) at ≡ o
+told_called wide c at m t o e = called_by (λ x. claim_of wide c x at ≡ o) m t e e
 
 -- and so at a step
-pub tag_held : (g : Geometry) (w : Spot → ℕ) (r : ℕ → Memo) (c at b : ℕ) (k : Claim) (t : Step) → HeldAt g w (view r) → c < g.clients → spot_at g (classes w) at ≡ Tag b → claim_of c (r c) at ≡ Some k
+pub tag_held : (g : Geometry) (w : Spot → ℕ) (r : ℕ → Memo) (c at b : ℕ) (k : Claim) (t : Step) → HeldAt g w (view r) → c < g.clients → spot_at g (classes w) at ≡ Tag b → claim_of g.wide c (r c) at ≡ Some k
     → HeldAt g w (view (at1 r c (tag_read (called (r c) t) b (w (Tag b)))))
 tag_held g w r c at b k t h l e told =
     after_call g w r c t (λ m. tag_read m b (w (Tag b))) h l
-    (λ q same here. tag_step g w q c at b k here l e (ap (λ (m : Memo). claim_of c m at) same ∙ told_called c at (r c) t (Some k) told))
+    (λ q same here. tag_step g w q c at b k here l e (ap (λ (m : Memo). claim_of g.wide c m at) same ∙ told_called g.wide c at (r c) t (Some k) told))
 
 -- ---- words
 
-module _ (g : Geometry) (w : Spot → ℕ) (r : ℕ → Memo) (c b i : ℕ) (h : HeldAt g w (view r)) (l : c < g.clients) (reach : InReach w g (view r) c b) (low : i < tag_refs (w (Tag b))) (latch : (r c).latch ≡ Some (tag_author (w (Tag b)))) where
+module _ (g : Geometry) (w : Spot → ℕ) (r : ℕ → Memo) (c b i : ℕ) (h : HeldAt g w (view r)) (l : c < g.clients) (reach : InReach w g (view r) c b) (low : i < tag_refs g.wide (w (Tag b))) (latch : (r c).latch ≡ Some (tag_author g.wide (w (Tag b)))) where
   -- the word is known
   reference_known : HeldAt g w (view (at1 r c (record (r c) { known = learnt (Body b i) (w (Body b i)) (r c).known })))
   reference_known =
@@ -109,7 +109,7 @@ module _ (g : Geometry) (w : Spot → ℕ) (r : ℕ → Memo) (c b i : ℕ) (h :
 
     -- with that look the pool holds
     looked_held : HeldAt g w looked_view
-    looked_held = look_held g w (view r) c (tag_author (w (Tag b))) new h l latch (some, latch, target, reach)
+    looked_held = look_held g w (view r) c (tag_author g.wide (w (Tag b))) new h l latch (some, latch, target, reach)
 
     -- the block that was read is in reach, and the block of the word is
     new_reach : InReach w g looked_view c (w (Body b i))
@@ -127,7 +127,7 @@ module _ (g : Geometry) (w : Spot → ℕ) (r : ℕ → Memo) (c b i : ℕ) (h :
         choice (All (ValueHolds g w looked_view c)) (is_entry (role_in (roles (r c)) b) && eqb i 1) (valued (r c).part (w (Body b i)) (r c).values) (r c).values
         (λ e. let q = and_parts (is_entry (role_in (roles (r c)) b)) (eqb i 1) e in
         valued_all (ValueHolds g w looked_view c) (r c).part (w (Body b i)) (r c).values
-        (λ _. (entry_value g w r h c l (tag_author (w (Tag b))) b (w (Body b i)) latch q.0 (ap (λ j. targets g w (view r) (Body b j)) (sym (eqb-true i 1 q.1)) ∙ target) some, new_reach))
+        (λ _. (entry_value g w r h c l (tag_author g.wide (w (Tag b))) b (w (Body b i)) latch q.0 (ap (λ j. targets g w (view r) (Body b j)) (sym (eqb-true i 1 q.1)) ∙ target) some, new_reach))
         (looked_held.values c l))
         (λ _. looked_held.values c l)
 
@@ -151,9 +151,9 @@ module _ (g : Geometry) (w : Spot → ℕ) (r : ℕ → Memo) (c b i : ℕ) (h :
       (λ e. reference_looked (λ z. true≢false (sym (eq-eqb (w (Body b i)) 0 z) ∙ e)) settled)
 
 -- the pool holds with the memo that read a word of a block
-word_step : (g : Geometry) (w : Spot → ℕ) (r : ℕ → Memo) (c b i : ℕ) → HeldAt g w (view r) → c < g.clients → spot_at g (classes w) (b + 2 + i) ≡ Body b i → MayLook c (r c) b i
-    → HeldAt g w (view (at1 r c (word_read (r c) (claim_of c (r c) (b + 2 + i)) b i (w (Body b i)))))
-word_step g w r c b i h l e may = by (claim_of c (r c) (b + 2 + i)) refl may
+word_step : (g : Geometry) (w : Spot → ℕ) (r : ℕ → Memo) (c b i : ℕ) → HeldAt g w (view r) → c < g.clients → spot_at g (classes w) (b + 2 + i) ≡ Body b i → MayLook g.wide c (r c) b i
+    → HeldAt g w (view (at1 r c (word_read (r c) (claim_of g.wide c (r c) (b + 2 + i)) b i (w (Body b i)))))
+word_step g w r c b i h l e may = by (claim_of g.wide c (r c) (b + 2 + i)) refl may
   where
     m : Memo
     m = r c
@@ -171,13 +171,13 @@ word_step g w r c b i h l e may = by (claim_of c (r c) (b + 2 + i)) refl may
     Known new = memo_known g w r c (learnt (Body b i) (w (Body b i)) (r c).known) (r c).values h (learnt_all (KnownHolds g w (view r) c) (Body b i) (w (Body b i)) (r c).known new (h.known c l)) (h.values c l)
 
     -- by the claim that tells it
-    some : (k : Claim) → claim_of c (r c) (b + 2 + i) ≡ Some k → MayLookBy (Some k) (r c).latch (IsSettled (r c) (Body b i)) → Held (word_read (r c) (Some k) b i (w (Body b i)))
+    some : (k : Claim) → claim_of g.wide c (r c) (b + 2 + i) ≡ Some k → MayLookBy (Some k) (r c).latch (IsSettled (r c) (Body b i)) → Held (word_read (r c) (Some k) b i (w (Body b i)))
     some k told may =
         let s = claim_here g w r h c l (b + 2 + i) k told in
         let x = claim_word g w (view r) h c k (b + 2 + i) b i s.0 s.1 e in
         let near : Contains (r c).dying b ⊎ InReach w g (view r) c b = subst (λ j. Contains (r c).dying j ⊎ InReach w g (view r) c j) x.0 s.0.holds in
         let words = s.0.shape (λ z. let n = x.1 in omega arith) in
-        let refs : tag_refs (w (Tag b)) ≡ k.refs = ap (λ j. tag_refs (w (Tag j))) (sym x.0) ∙ words.0 in
+        let refs : tag_refs g.wide (w (Tag b)) ≡ k.refs = ap (λ j. tag_refs g.wide (w (Tag j))) (sym x.0) ∙ words.0 in
         choice Held (is_dying (r c) b || leb k.refs i) (record (r c) { known = learnt (Body b i) (w (Body b i)) (r c).known })
         (cond (is_latched k.author (r c).latch) (reference_read (r c) b i (w (Body b i))) (r c))
         (λ y. Known (
@@ -192,24 +192,24 @@ word_step g w r c b i h l e may = by (claim_of c (r c) (b + 2 + i)) refl may
         ))
         (λ n. choice Held (is_latched k.author (r c).latch) (reference_read (r c) b i (w (Body b i))) (r c)
         (λ z. let a = latched_by k.author (r c).latch z in
-        let low : i < tag_refs (w (Tag b)) = (let q = leb-false k.refs i (or_parts (is_dying (r c) b) (leb k.refs i) n).1 in omega arith) in
-        let latch : (r c).latch ≡ Some (tag_author (w (Tag b))) = a.2 ∙ ap Some (sym (s.0.author a.0 a.1) ∙ ap (λ j. tag_author (w (Tag j))) x.0) in
+        let low : i < tag_refs g.wide (w (Tag b)) = (let q = leb-false k.refs i (or_parts (is_dying (r c) b) (leb k.refs i) n).1 in omega arith) in
+        let latch : (r c).latch ≡ Some (tag_author g.wide (w (Tag b))) = a.2 ∙ ap Some (sym (s.0.author a.0 a.1) ∙ ap (λ j. tag_author g.wide (w (Tag j))) x.0) in
         elim near [
           | inl u ↦ absurd (true≢false (sym (dying_true (r c) b u) ∙ (or_parts (is_dying (r c) b) (leb k.refs i) n).0))
           | inr u ↦ reference_step g w r c b i h l u low latch (may z)
         ])
         (λ _. same))
 
-    by : (o : Option Claim) → claim_of c (r c) (b + 2 + i) ≡ o → MayLookBy o (r c).latch (IsSettled (r c) (Body b i)) → Held (word_read (r c) o b i (w (Body b i)))
+    by : (o : Option Claim) → claim_of g.wide c (r c) (b + 2 + i) ≡ o → MayLookBy o (r c).latch (IsSettled (r c) (Body b i)) → Held (word_read (r c) o b i (w (Body b i)))
     by None told may = same
     by (Some k) told may = some k told may
 
 -- and so at a step
-pub word_held : (g : Geometry) (w : Spot → ℕ) (r : ℕ → Memo) (c b i : ℕ) (t : Step) → HeldAt g w (view r) → c < g.clients → spot_at g (classes w) (b + 2 + i) ≡ Body b i → MayLook c (r c) b i
-    → HeldAt g w (view (at1 r c (word_read (called (r c) t) (claim_of c (called (r c) t) (b + 2 + i)) b i (w (Body b i)))))
+pub word_held : (g : Geometry) (w : Spot → ℕ) (r : ℕ → Memo) (c b i : ℕ) (t : Step) → HeldAt g w (view r) → c < g.clients → spot_at g (classes w) (b + 2 + i) ≡ Body b i → MayLook g.wide c (r c) b i
+    → HeldAt g w (view (at1 r c (word_read (called (r c) t) (claim_of g.wide c (called (r c) t) (b + 2 + i)) b i (w (Body b i)))))
 word_held g w r c b i t h l e may =
-    after_call g w r c t (λ m. word_read m (claim_of c m (b + 2 + i)) b i (w (Body b i))) h l
-    (λ q same here. word_step g w q c b i here l e (subst (λ m. MayLook c m b i) (sym same) (called_by (λ x. MayLook c x b i) (r c) t may may)))
+    after_call g w r c t (λ m. word_read m (claim_of g.wide c m (b + 2 + i)) b i (w (Body b i))) h l
+    (λ q same here. word_step g w q c b i here l e (subst (λ m. MayLook g.wide c m b i) (sym same) (called_by (λ x. MayLook g.wide c x b i) (r c) t may may)))
 
 -- the step in progress stays
 pub word_op : {T : Type 0} (f : Op → T) (m : Memo) (t : Step) (o : Option Claim) (b i seen : ℕ) → f (word_read (called m t) o b i seen).op ≡ f m.op

@@ -70,7 +70,7 @@ header_loaded me w r f tr at b s e =
     (header_op (λ o. held_over_of o ≡ held_over_of (r c).op) g w c b true (r c) t refl (λ u. sym (uncommitted_quiet (r c).op u).1)))
 
 -- the tag of a block of which something is told is loaded
-pub tag_loaded : (me : Me) (w : Spot → ℕ) (r : ℕ → Memo) (f : Frame) (tr : Trail) (at b : ℕ) → Stands me w r f tr → spot_at me.geometry (classes w) at ≡ Tag b → IsTold me.who (r me.who) b
+pub tag_loaded : (me : Me) (w : Spot → ℕ) (r : ℕ → Memo) (f : Frame) (tr : Trail) (at b : ℕ) → Stands me w r f tr → spot_at me.geometry (classes w) at ≡ Tag b → IsTold me.geometry.wide me.who (r me.who) b
     → KeptAt me w r (Load at) f (λ n m. Unit {0}) (spot_at me.geometry (classes w) at)
 tag_loaded me w r f tr at b s e (k, has, of) =
     let g = me.geometry in
@@ -78,7 +78,7 @@ tag_loaded me w r f tr at b s e (k, has, of) =
     let t : Step = framed me (Load at) f (w (Tag b)) in
     let there = (tag_block g (classes w) at b e).1 in
     let over : covers at k ≡ true = and_from _ _ (lt-ltb k.block at (omega arith)) (lt-ltb at (k.block + 2 + k.refs + k.plain) (omega arith)) in
-    let q = claim_found at (claims c (r c)) k has over in
+    let q = claim_found at (claims me.geometry.wide c (r c)) k has over in
     subst (KeptAt me w r (Load at) f (λ n m. Unit {0})) (sym e)
     (read_kept me w r f at (Tag b) (told_load g w r s.held c s.who at (Tag b) e refl (inr (k, has, over)))
     (tag_held g w r c at b q.0 t s.held s.who e q.1)
@@ -86,7 +86,7 @@ tag_loaded me w r f tr at b s e (k, has, of) =
     (called_part (λ (x : Memo). held_over_of x.op) (r c) t refl refl))
 
 -- a word of a block that is told is loaded
-pub word_loaded : (me : Me) (w : Spot → ℕ) (r : ℕ → Memo) (f : Frame) (tr : Trail) (at b i : ℕ) → Stands me w r f tr → spot_at me.geometry (classes w) at ≡ Body b i → IsCovered me.who (r me.who) at → MayLook me.who (r me.who) b i
+pub word_loaded : (me : Me) (w : Spot → ℕ) (r : ℕ → Memo) (f : Frame) (tr : Trail) (at b i : ℕ) → Stands me w r f tr → spot_at me.geometry (classes w) at ≡ Body b i → IsCovered me.geometry.wide me.who (r me.who) at → MayLook me.geometry.wide me.who (r me.who) b i
     → KeptAt me w r (Load at) f (λ n m. Unit {0}) (spot_at me.geometry (classes w) at)
 word_loaded me w r f tr at b i s e over may =
     let g = me.geometry in
@@ -96,8 +96,8 @@ word_loaded me w r f tr at b i s e over may =
     subst (KeptAt me w r (Load at) f (λ n m. Unit {0})) (sym e)
     (read_kept me w r f at (Body b i) (told_load g w r s.held c s.who at (Body b i) e refl (inr over))
     (word_held g w r c b i t s.held s.who (ap (spot_at g (classes w)) there ∙ e) may)
-    (word_op cover_of (r c) t (claim_of c (called (r c) t) (b + 2 + i)) b i (w (Body b i)))
-    (word_op held_over_of (r c) t (claim_of c (called (r c) t) (b + 2 + i)) b i (w (Body b i))))
+    (word_op cover_of (r c) t (claim_of me.geometry.wide c (called (r c) t) (b + 2 + i)) b i (w (Body b i)))
+    (word_op held_over_of (r c) t (claim_of me.geometry.wide c (called (r c) t) (b + 2 + i)) b i (w (Body b i))))
 
 -- an exchange of a header found another word
 pub header_lost : (me : Me) (w : Spot → ℕ) (r : ℕ → Memo) (f : Frame) (tr : Trail) (at from to b : ℕ) → Stands me w r f tr → spot_at me.geometry (classes w) at ≡ Head b → w (Head b) ≢ from
@@ -109,7 +109,7 @@ header_lost me w r f tr at from to b s e other =
     let is : IsBlock g (classes w) b = ap (spot_at g (classes w)) (sym (head_at g (classes w) at b e)) ∙ e in
     let lost : false ≡ eqb (w (Head b)) from = sym (ne_eqb (w (Head b)) from other) in
     let words : Bool → Spot → ℕ = λ y. cond y (upd w (Head b) to) w in
-    let memo : Bool → Memo = λ y. with_end f.ends (with_call (called (r c) t) (cond y (exchanged_on c (called (r c) t) (Head b) to) (read_on g c false (called (r c) t) (test_before (r c) t) (Head b) (w (Head b))))) in
+    let memo : Bool → Memo = λ y. with_end f.ends (with_call (called (r c) t) (cond y (exchanged_on me.geometry.wide c (called (r c) t) (Head b) to) (read_on g c false (called (r c) t) (test_before (r c) t) (Head b) (w (Head b))))) in
     subst (KeptAt me w r (Exchange at from to) f (λ n m. Unit {0})) (sym e)
     (record {
       told = told_exchange g (classes w) c (r c) at from to b e;

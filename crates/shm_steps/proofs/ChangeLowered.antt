@@ -117,13 +117,13 @@ module _ (me : Me) (w : Spot → ℕ) (r : ℕ → Memo) (f : Frame) (tr : Trail
         valued = values_after g w v s.held c s.who p t kept kept_names;
       }
 
-  lowered_memo : exchanged_on c called_memo (Head x) to ≡ sifted c kept
+  lowered_memo : exchanged_on me.geometry.wide c called_memo (Head x) to ≡ sifted c kept
   lowered_memo =
-      ap (λ o. committed c called_memo o to) a.op
+      ap (λ o. committed me.geometry.wide c called_memo o to) a.op
       ∙ (ap (λ (y : Header). sifted c (lowered y.count x (record whole { looks = looks' }))) a.new
       ∙ ap (sifted c) (lowered_is n x (record whole { looks = looks' })))
 
-  lowered_view : second_view v c x b e n p looks' known' values' ≡ put_parts v c (parts (exchanged_on c called_memo (Head x) to))
+  lowered_view : second_view v c x b e n p looks' known' values' ≡ put_parts v c (parts (exchanged_on me.geometry.wide c called_memo (Head x) to))
   lowered_view =
       sym (ap (λ (u : View). record u { op = at1 v.op c (Change (Lowering Closed) p x b e); dying = at1 v.dying c (dying_after n x (v.dying c)); looks = at1 v.looks c looks'; known = at1 v.known c known'; values = at1 v.values c values'; made = at1 v.made c (filter (not_block x) (v.made c)); test = at1 v.test c None }) (put_same v c))
       ∙ ap (λ (y : Memo). put_parts v c (parts y)) (sym lowered_memo)

@@ -134,10 +134,10 @@ module _ (me : Me) (w : Spot → ℕ) (r : ℕ → Memo) (f : Frame) (tr : Trail
         loose = loose_stays m.known c home p b m.part;
       }
 
-  changed_memo : exchanged_on c called_memo (Head b) to ≡ sifted c kept
-  changed_memo = ap (λ o. committed c called_memo o to) a.op
+  changed_memo : exchanged_on me.geometry.wide c called_memo (Head b) to ≡ sifted c kept
+  changed_memo = ap (λ o. committed me.geometry.wide c called_memo o to) a.op
 
-  change_parts : change_view v c x b e p looks' known' values' part ≡ put_parts v c (parts (exchanged_on c called_memo (Head b) to))
+  change_parts : change_view v c x b e p looks' known' values' part ≡ put_parts v c (parts (exchanged_on me.geometry.wide c called_memo (Head b) to))
   change_parts =
       ap (λ (y : List ℕ). record v { op = at1 v.op c (Change (Raising Committed) p x b e); looks = at1 v.looks c looks'; known = at1 v.known c known'; part = at1 v.part c part; values = at1 v.values c values'; made = at1 v.made c y; test = at1 v.test c None }) (sym (not_both b x m.made))
       ∙ (sym (ap (λ (u : View). record u { op = at1 v.op c (Change (Raising Committed) p x b e); looks = at1 v.looks c looks'; known = at1 v.known c known'; part = at1 v.part c part; values = at1 v.values c values'; made = at1 v.made c (filter (not_block x) (filter (not_block b) m.made)); test = at1 v.test c None }) (put_same v c))

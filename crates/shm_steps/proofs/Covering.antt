@@ -1,5 +1,5 @@
 -- which blocks a memo tells of, and when a load of one of their words is a look that is right
-use Rattle.std.proofs.Common.{◌≡◌, ◌≢◌, ℕ, ◌+◌, ◌<◌, refl, sym, ap, ◌∙◌, subst, arith, true, eqb, inl, inr, List, [], ◌∷◌, ◌++◌, map, Option, Some, None}
+use Rattle.std.proofs.Common.{◌≡◌, ◌≢◌, ℕ, ◌+◌, ◌<◌, refl, sym, ap, ◌∙◌, subst, arith, true, eqb, inl, inr, List, [], ◌∷◌, ◌++◌, map, Option, Some, None, Bool}
 use Rattle.std.specs.List.{Contains}
 use Rattle.std.proofs.lemmas.Bool.{cases_Bool, and_from, lt-ltb, eqb-true, cond-true, cond-false}
 use Rattle.std.proofs.lemmas.List.{get_or-map, length-map}
@@ -30,33 +30,33 @@ covers_word k at l m = and_from _ _ (lt-ltb k.block at l) (lt-ltb at (k.block + 
 
 module _ (c : ℕ) (m : Memo) where
   -- a known tag
-  pub tag_told : (b x : ℕ) → known_at (Tag b) m.known ≡ Some x → Contains (claims c m) (record { block = b; refs = tag_refs x; plain = tag_plain x; author = Some (tag_author x) })
-  tag_told b x e =
-      let k : Claim = record { block = b; refs = tag_refs x; plain = tag_plain x; author = Some (tag_author x) } in
-      Contains-append_left ((tag_claims m.known ++ map (role_claim m.latch) (roles m)) ++ map (λ d. shaped None d Value) m.values) (map bare (reached_blocks c m ++ m.dying)) k
-      (Contains-append_left (tag_claims m.known ++ map (role_claim m.latch) (roles m)) (map (λ d. shaped None d Value) m.values) k
-      (Contains-append_left (tag_claims m.known) (map (role_claim m.latch) (roles m)) k (go m.known e)))
+  pub tag_told : (wide : Bool) (b x : ℕ) → known_at (Tag b) m.known ≡ Some x → Contains (claims wide c m) (record { block = b; refs = tag_refs wide x; plain = tag_plain wide x; author = Some (tag_author wide x) })
+  tag_told wide b x e =
+      let k : Claim = record { block = b; refs = tag_refs wide x; plain = tag_plain wide x; author = Some (tag_author wide x) } in
+      Contains-append_left ((tag_claims wide m.known ++ map (role_claim m.latch) (roles m)) ++ map (λ d. shaped None d Value) m.values) (map bare (reached_blocks c m ++ m.dying)) k
+      (Contains-append_left (tag_claims wide m.known ++ map (role_claim m.latch) (roles m)) (map (λ d. shaped None d Value) m.values) k
+      (Contains-append_left (tag_claims wide m.known) (map (role_claim m.latch) (roles m)) k (go m.known e)))
     where
-      go : (ks : List Stored) → known_at (Tag b) ks ≡ Some x → Contains (tag_claims ks) (record { block = b; refs = tag_refs x; plain = tag_plain x; author = Some (tag_author x) })
+      go : (ks : List Stored) → known_at (Tag b) ks ≡ Some x → Contains (tag_claims wide ks) (record { block = b; refs = tag_refs wide x; plain = tag_plain wide x; author = Some (tag_author wide x) })
       go [] e = absurd (cc)
       go (s ∷ ks) e =
-          let k : Claim = record { block = b; refs = tag_refs x; plain = tag_plain x; author = Some (tag_author x) } in
+          let k : Claim = record { block = b; refs = tag_refs wide x; plain = tag_plain wide x; author = Some (tag_author wide x) } in
           elim (cases_Bool (is_at (Tag b) s)) [
             | inl y ↦ (let z : Some s.value ≡ Some x = sym (cond-true (is_at (Tag b) s) (Some s.value) (known_at (Tag b) ks) y) ∙ e in
                 let same : s.value ≡ x = cc in
-                Contains-append_left (tag_claim s.spot s.value) (tag_claims ks) k
-                (subst (λ p. Contains (tag_claim p s.value) k) (same_spot_is (Tag b) s.spot y)
-                (subst (λ n. Contains (tag_claim (Tag b) n) k) (sym same) (0, omega arith, refl))))
-            | inr n ↦ Contains-append_right (tag_claim s.spot s.value) (tag_claims ks) k (go ks (sym (cond-false (is_at (Tag b) s) (Some s.value) (known_at (Tag b) ks) n) ∙ e))
+                Contains-append_left (tag_claim wide s.spot s.value) (tag_claims wide ks) k
+                (subst (λ p. Contains (tag_claim wide p s.value) k) (same_spot_is (Tag b) s.spot y)
+                (subst (λ n. Contains (tag_claim wide (Tag b) n) k) (sym same) (0, omega arith, refl))))
+            | inr n ↦ Contains-append_right (tag_claim wide s.spot s.value) (tag_claims wide ks) k (go ks (sym (cond-false (is_at (Tag b) s) (Some s.value) (known_at (Tag b) ks) n) ∙ e))
           ]
 
   -- a block that was read in some role
-  pub role_told : (b : ℕ) (role : Role) → role_in (roles m) b ≡ role → role ≢ Other → Contains (claims c m) (shaped m.latch b role)
-  role_told b role e n =
+  pub role_told : (wide : Bool) (b : ℕ) (role : Role) → role_in (roles m) b ≡ role → role ≢ Other → Contains (claims wide c m) (shaped m.latch b role)
+  role_told wide b role e n =
       let k : Claim = shaped m.latch b role in
-      Contains-append_left ((tag_claims m.known ++ map (role_claim m.latch) (roles m)) ++ map (λ d. shaped None d Value) m.values) (map bare (reached_blocks c m ++ m.dying)) k
-      (Contains-append_left (tag_claims m.known ++ map (role_claim m.latch) (roles m)) (map (λ d. shaped None d Value) m.values) k
-      (Contains-append_right (tag_claims m.known) (map (role_claim m.latch) (roles m)) k
+      Contains-append_left ((tag_claims wide m.known ++ map (role_claim m.latch) (roles m)) ++ map (λ d. shaped None d Value) m.values) (map bare (reached_blocks c m ++ m.dying)) k
+      (Contains-append_left (tag_claims wide m.known ++ map (role_claim m.latch) (roles m)) (map (λ d. shaped None d Value) m.values) k
+      (Contains-append_right (tag_claims wide m.known) (map (role_claim m.latch) (roles m)) k
       (contains_map (role_claim m.latch) (roles m) (record { block = b; role = role }) (go (roles m) e))))
     where
       go : (ps : List Played) → role_in ps b ≡ role → Contains ps (record { block = b; role = role })
@@ -69,37 +69,37 @@ module _ (c : ℕ) (m : Memo) where
           ]
 
   -- a value block
-  pub value_told : (b : ℕ) → Contains m.values b → Contains (claims c m) (shaped None b Value)
-  value_told b h =
-      Contains-append_left ((tag_claims m.known ++ map (role_claim m.latch) (roles m)) ++ map (λ d. shaped None d Value) m.values) (map bare (reached_blocks c m ++ m.dying)) (shaped None b Value)
-      (Contains-append_right (tag_claims m.known ++ map (role_claim m.latch) (roles m)) (map (λ d. shaped None d Value) m.values) (shaped None b Value)
+  pub value_told : (wide : Bool) (b : ℕ) → Contains m.values b → Contains (claims wide c m) (shaped None b Value)
+  value_told wide b h =
+      Contains-append_left ((tag_claims wide m.known ++ map (role_claim m.latch) (roles m)) ++ map (λ d. shaped None d Value) m.values) (map bare (reached_blocks c m ++ m.dying)) (shaped None b Value)
+      (Contains-append_right (tag_claims wide m.known ++ map (role_claim m.latch) (roles m)) (map (λ d. shaped None d Value) m.values) (shaped None b Value)
       (contains_map (λ d. shaped None d Value) m.values b h))
 
   -- a block in reach or a zero-count block
-  block_told : (b : ℕ) → Contains (reached_blocks c m ++ m.dying) b → IsTold c m b
-  block_told b h = (
+  block_told : (wide : Bool) (b : ℕ) → Contains (reached_blocks c m ++ m.dying) b → IsTold wide c m b
+  block_told wide b h = (
     bare b,
-    Contains-append_right ((tag_claims m.known ++ map (role_claim m.latch) (roles m)) ++ map (λ d. shaped None d Value) m.values) (map bare (reached_blocks c m ++ m.dying)) (bare b)
+    Contains-append_right ((tag_claims wide m.known ++ map (role_claim m.latch) (roles m)) ++ map (λ d. shaped None d Value) m.values) (map bare (reached_blocks c m ++ m.dying)) (bare b)
         (contains_map bare (reached_blocks c m ++ m.dying) b h),
     refl,
   )
 
   -- a block in reach, and a zero-count block
-  pub reached_told : (b : ℕ) → is_reached c m b ≡ true → IsTold c m b
-  reached_told b e = block_told b (Contains-append_left (reached_blocks c m) m.dying b (Contains-from_any eqb-true b (reached_blocks c m) e))
+  pub reached_told : (wide : Bool) (b : ℕ) → is_reached c m b ≡ true → IsTold wide c m b
+  reached_told wide b e = block_told wide b (Contains-append_left (reached_blocks c m) m.dying b (Contains-from_any eqb-true b (reached_blocks c m) e))
 
-  pub dying_told : (b : ℕ) → is_dying m b ≡ true → IsTold c m b
-  dying_told b e = block_told b (Contains-append_right (reached_blocks c m) m.dying b (dying_listed m b e))
+  pub dying_told : (wide : Bool) (b : ℕ) → is_dying m b ≡ true → IsTold wide c m b
+  dying_told wide b e = block_told wide b (Contains-append_right (reached_blocks c m) m.dying b (dying_listed m b e))
 
   -- the word of a value block
-  pub value_covered : (b : ℕ) → Contains m.values b → IsCovered c m (b + 2)
-  value_covered b h = (shaped None b Value, value_told b h, covers_word (shaped None b Value) (b + 2) (omega arith) (omega arith))
+  pub value_covered : (wide : Bool) (b : ℕ) → Contains m.values b → IsCovered wide c m (b + 2)
+  value_covered wide b h = (shaped None b Value, value_told wide b h, covers_word (shaped None b Value) (b + 2) (omega arith) (omega arith))
 
   -- the words of a block whose tag is known
-  pub tag_covered : (b i x : ℕ) → known_at (Tag b) m.known ≡ Some x → i < tag_refs x + tag_plain x → IsCovered c m (b + 2 + i)
-  tag_covered b i x e l =
-      let k : Claim = record { block = b; refs = tag_refs x; plain = tag_plain x; author = Some (tag_author x) } in
-      (k, tag_told b x e, covers_word k (b + 2 + i) (omega arith) (omega arith))
+  pub tag_covered : (wide : Bool) (b i x : ℕ) → known_at (Tag b) m.known ≡ Some x → i < tag_refs wide x + tag_plain wide x → IsCovered wide c m (b + 2 + i)
+  tag_covered wide b i x e l =
+      let k : Claim = record { block = b; refs = tag_refs wide x; plain = tag_plain wide x; author = Some (tag_author wide x) } in
+      (k, tag_told wide b x e, covers_word k (b + 2 + i) (omega arith) (omega arith))
 
   -- ---- looks
 
@@ -108,8 +108,8 @@ module _ (c : ℕ) (m : Memo) where
   uncommitted_settled p u x = ap (λ o. cover o p x) (uncommitted_quiet m.op u).0
 
   -- a settled word may be read
-  pub settled_look : (b i : ℕ) → IsSettled m (Body b i) → MayLook c m b i
-  settled_look b i s = by (claim_of c m (b + 2 + i))
+  pub settled_look : (wide : Bool) (b i : ℕ) → IsSettled m (Body b i) → MayLook wide c m b i
+  settled_look wide b i s = by (claim_of wide c m (b + 2 + i))
     where
       by : (o : Option Claim) → MayLookBy o m.latch (IsSettled m (Body b i))
       by None = tt

@@ -31,7 +31,7 @@ module _ (g : Geometry) (w : Spot → ℕ) (v : View) (h : HeldAt g w v) (c : �
   queue_head = λ i j. w (QueueHead i j)
 
   abbrev author : ℕ → ℕ
-  author = λ i. tag_author (w (Tag i))
+  author = λ i. tag_author g.wide (w (Tag i))
 
   -- the looks are sound for these targets
   abbrev Sound : (Spot → ℕ) → List Look → Type 0
@@ -87,10 +87,10 @@ module _ (g : Geometry) (w : Spot → ℕ) (v : View) (h : HeldAt g w v) (c : �
       look_any : (j : ℕ) (ks : List Look) → InLooks ks j → list_any (is_look_of j) ks ≡ true
       look_any j ks x = list_any_at (is_look_of j) ks x.1.0 x.0 x.1.1 (ap (is_look_of j) x.1.2 ∙ eq-eqb x.0.block j x.2)
 
-  pub cut_slot : ((b : ℕ) → is_named c m b ≡ true → named_by t' tail queue_head c b) → SlotOf c (λ i. header_of (w (Head i))) (λ i. w (Tag i)) (v.latch c) tail queue_head (reach_of t' tail queue_head (λ d. cut_looks c m p) c) p
+  pub cut_slot : ((b : ℕ) → is_named c m b ≡ true → named_by t' tail queue_head c b) → SlotOf g.wide c (λ i. header_of (w (Head i))) (λ i. w (Tag i)) (v.latch c) tail queue_head (reach_of t' tail queue_head (λ d. cut_looks c m p) c) p
   cut_slot shows = go p refl mine
     where
-      go : (q : Spot) → p ≡ q → Holds w g v c q → SlotOf c (λ i. header_of (w (Head i))) (λ i. w (Tag i)) (v.latch c) tail queue_head (reach_of t' tail queue_head (λ d. cut_looks c m q) c) q
+      go : (q : Spot) → p ≡ q → Holds w g v c q → SlotOf g.wide c (λ i. header_of (w (Head i))) (λ i. w (Tag i)) (v.latch c) tail queue_head (reach_of t' tail queue_head (λ d. cut_looks c m q) c) q
       go (Root d k) e x = x
       go (Home d) e x = x
       go (Slot s r k) e x = x

@@ -1,5 +1,6 @@
 -- the stores of the header and of the link of a zero-count block, as machines use them
-use Rattle.std.proofs.Common.{◌≡◌, ℕ, ◌+◌, ◌-◌, ◌/◌, ◌^◌, refl, sym, ap, ◌∙◌, subst, arith, false, None, inr}
+use Rattle.std.proofs.Common.{◌≡◌, ℕ, ◌+◌, ◌-◌, refl, sym, ap, ◌∙◌, subst, arith, false, None, inr}
+use Rattle.shm_words.specs.Tags.{tag_shape}
 use Rattle.std.specs.List.{filter}
 use Rattle.std.proofs.lemmas.Bool.{cond-true}
 use Rattle.std.proofs.lemmas.List.Elements.{All-contains}
@@ -28,7 +29,7 @@ use Rattle.shm_steps.specs.Preparing.{MayFree, MayLink}
 use Rattle.shm_steps.proofs.BlockTold.{dying_true, no_dying_at, stored_freed, stored_linked}
 
 -- a zero-count block is freed
-pub frees : (me : Me) (w : Spot → ℕ) (r : ℕ → Memo) (f : Frame) (tr : Trail) (at b tag : ℕ) → Stands me w r f tr → f.fresh ≡ false → spot_at me.geometry (classes w) at ≡ Head b → MayFree (r me.who) b tag
+pub frees : (me : Me) (w : Spot → ℕ) (r : ℕ → Memo) (f : Frame) (tr : Trail) (at b tag : ℕ) → Stands me w r f tr → f.fresh ≡ false → spot_at me.geometry (classes w) at ≡ Head b → MayFree me.geometry.wide (r me.who) b tag
     → KeptAt me w r (Store at 0) f (λ n m. Unit {0}) (spot_at me.geometry (classes w) at)
 frees me w r f tr at b tag st going e a =
     let g = me.geometry in
@@ -48,7 +49,7 @@ frees me w r f tr at b tag st going e a =
     tt tt tt))
 
 -- the link of a zero-count block is stored
-pub links : (me : Me) (w : Spot → ℕ) (r : ℕ → Memo) (f : Frame) (tr : Trail) (at b tag x : ℕ) → Stands me w r f tr → f.fresh ≡ false → spot_at me.geometry (classes w) at ≡ Tag b → MayLink (r me.who) b tag x
+pub links : (me : Me) (w : Spot → ℕ) (r : ℕ → Memo) (f : Frame) (tr : Trail) (at b tag x : ℕ) → Stands me w r f tr → f.fresh ≡ false → spot_at me.geometry (classes w) at ≡ Tag b → MayLink me.geometry.wide (r me.who) b tag x
     → KeptAt me w r (Store at x) f (λ n m. Unit {0}) (spot_at me.geometry (classes w) at)
 links me w r f tr at b tag x st going e a =
     let g = me.geometry in
@@ -57,7 +58,7 @@ links me w r f tr at b tag x st going e a =
     let k = a.knows in
     let before : at - 1 ≡ b = (let q : b + 1 ≡ at = (tag_block g (classes w) at b e).1 in omega arith) in
     let word : w (Tag b) ≡ tag = (All-contains (KnownHolds g w v c) (r c).known (record { spot = Tag b; value = tag }) (st.held.known c st.who) k.tagged).0 in
-    let step : LinkNeeds g w v c b x = record { inside = st.who; acts = k.here.joined; here = k.here.stays; dying = k.dying; place = spot_there g (classes w) at (Tag b) e (λ z. cc); small = a.small; shape = a.shape ∙ ap (λ z. z / 2 ^ 20) (sym word) } in
+    let step : LinkNeeds g w v c b x = record { inside = st.who; acts = k.here.joined; here = k.here.stays; dying = k.dying; place = spot_there g (classes w) at (Tag b) e (λ z. cc); small = a.small; shape = a.shape ∙ ap (tag_shape g.wide) (sym word) } in
     let n : Memo = called (r c) (framed me (Store at x) (record f { fresh = false }) 0) in
     subst (KeptAt me w r (Store at x) f (λ n m. Unit {0})) (sym e)
     (in_frame (λ h. KeptAt me w r (Store at x) h (λ n m. Unit {0}) (Tag b)) f going

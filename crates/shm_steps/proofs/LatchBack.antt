@@ -75,45 +75,45 @@ module _ (g : Geometry) (w : Spot → ℕ) (r : ℕ → Memo) (h : HeldAt g w (v
   reached b e = reached_sound (targets g w v) (λ i j. w (Tail i j)) (λ i j. w (QueueHead i j)) c without without_names b e
 
   -- a word that is free of the latch is a plain word, or one of a block of c
-  free_word : (b i : ℕ) (o : Option ℕ) → known_at (Tag b) m.known ≡ o → is_free_of_latch c without b i o ≡ true → (tag_refs (w (Tag b)) ≤ i) ⊎ (tag_author (w (Tag b)) ≡ c)
+  free_word : (b i : ℕ) (o : Option ℕ) → known_at (Tag b) m.known ≡ o → is_free_of_latch g.wide c without b i o ≡ true → (tag_refs g.wide (w (Tag b)) ≤ i) ⊎ (tag_author g.wide (w (Tag b)) ≡ c)
   free_word b i None e f =
       let y : ValueHolds g w v c b = All-contains (ValueHolds g w v c) m.values b (h.values c l) (Contains-from_any eqb-true b m.values f) in
       let z = y.0.names in inl (omega arith)
   free_word b i (Some t) e f =
       let y : KnownHolds g w v c (record { spot = Tag b; value = t }) = All-contains (KnownHolds g w v c) m.known (record { spot = Tag b; value = t }) (h.known c l) (known_at_has (Tag b) m.known t e) in
-      elim (or_cases (leb (tag_refs t) i) (eqb (tag_author t) c) f) [
-        | inl u ↦ inl (let z = leb-true (tag_refs t) i u in let n = ap tag_refs y.0 in omega arith)
-        | inr u ↦ inr (ap tag_author y.0 ∙ eqb-true (tag_author t) c u)
+      elim (or_cases (leb (tag_refs g.wide t) i) (eqb (tag_author g.wide t) c) f) [
+        | inl u ↦ inl (let z = leb-true (tag_refs g.wide t) i u in let n = ap (tag_refs g.wide) y.0 in omega arith)
+        | inr u ↦ inr (ap (tag_author g.wide) y.0 ∙ eqb-true (tag_author g.wide t) c u)
       ]
 
   abbrev KnownWithout : Spot → ℕ → Type 0
-  KnownWithout q x = KnownAt c (λ i. w (Tag i)) (λ i j. w (Body i j)) (λ i j k. w (Slot i j k)) (λ i j. w (Tail i j)) (λ i j. w (QueueHead i j)) (v.untaken c) None InReachWithout (v.dying c) q x
+  KnownWithout q x = KnownAt g.wide c (λ i. w (Tag i)) (λ i j. w (Body i j)) (λ i j k. w (Slot i j k)) (λ i j. w (Tail i j)) (λ i j. w (QueueHead i j)) (v.untaken c) None InReachWithout (v.dying c) q x
 
   -- whether the latch is the identity's own
   abbrev own : Bool
   own = is_latch_of c m.latch
 
   -- under the own latch no other author's reference word is known
-  own_word_known : (b i : ℕ) (o : Option ℕ) → is_latch_of c o ≡ true → (tag_refs (w (Tag b)) ≤ i) ⊎ ((tag_author (w (Tag b)) ≡ c) ⊎ (o ≡ Some (tag_author (w (Tag b))))) → (tag_refs (w (Tag b)) ≤ i) ⊎ (tag_author (w (Tag b)) ≡ c)
+  own_word_known : (b i : ℕ) (o : Option ℕ) → is_latch_of c o ≡ true → (tag_refs g.wide (w (Tag b)) ≤ i) ⊎ ((tag_author g.wide (w (Tag b)) ≡ c) ⊎ (o ≡ Some (tag_author g.wide (w (Tag b))))) → (tag_refs g.wide (w (Tag b)) ≤ i) ⊎ (tag_author g.wide (w (Tag b)) ≡ c)
   own_word_known b i o e (inl k) = inl k
   own_word_known b i o e (inr (inl k)) = inr k
   own_word_known b i None e (inr (inr k)) = absurd (cc)
-  own_word_known b i (Some a) e (inr (inr k)) = inr (let z : a ≡ tag_author (w (Tag b)) = cc in sym z ∙ eqb-true a c e)
+  own_word_known b i (Some a) e (inr (inr k)) = inr (let z : a ≡ tag_author g.wide (w (Tag b)) = cc in sym z ∙ eqb-true a c e)
 
   -- a word of a block in reach is free of the latch
-  settled_word : (b i x : ℕ) → KnownHolds g w v c (record { spot = Body b i; value = x }) → (own || is_free_of_latch c without b i (known_at (Tag b) m.known)) ≡ true → (Contains m.dying b) ⊎ ((tag_refs (w (Tag b)) ≤ i) ⊎ (tag_author (w (Tag b)) ≡ c))
-  settled_word b i x k e = elim (or_cases own (is_free_of_latch c without b i (known_at (Tag b) m.known)) e) [
+  settled_word : (b i x : ℕ) → KnownHolds g w v c (record { spot = Body b i; value = x }) → (own || is_free_of_latch g.wide c without b i (known_at (Tag b) m.known)) ≡ true → (Contains m.dying b) ⊎ ((tag_refs g.wide (w (Tag b)) ≤ i) ⊎ (tag_author g.wide (w (Tag b)) ≡ c))
+  settled_word b i x k e = elim (or_cases own (is_free_of_latch g.wide c without b i (known_at (Tag b) m.known)) e) [
     | inl u ↦ elim k.1 [ inl d ↦ inl d | inr y ↦ inr (own_word_known b i m.latch u y.1) ]
     | inr u ↦ inr (free_word b i (known_at (Tag b) m.known) refl u)
   ]
 
-  known_without : (q : Spot) (x : ℕ) → binds_unlatched own c without q ≡ true → KnownHolds g w v c (record { spot = q; value = x }) → KnownWithout q x
+  known_without : (q : Spot) (x : ℕ) → binds_unlatched g.wide own c without q ≡ true → KnownHolds g w v c (record { spot = q; value = x }) → KnownWithout q x
   known_without (Tag b) x e k = (k.0, elim (or_cases (is_reached c without b) (is_dying without b) e) [ inl u ↦ inr (reached b u) | inr u ↦ inl (dying_listed without b u) ])
   known_without (Body b i) x e k = (
     k.0,
-    elim (or_cases (is_dying without b) (is_reached c without b && (own || is_free_of_latch c without b i (known_at (Tag b) m.known))) e) [
+    elim (or_cases (is_dying without b) (is_reached c without b && (own || is_free_of_latch g.wide c without b i (known_at (Tag b) m.known))) e) [
       | inl u ↦ inl (dying_listed without b u)
-      | inr u ↦ (let y = and_parts (is_reached c without b) (own || is_free_of_latch c without b i (known_at (Tag b) m.known)) u in
+      | inr u ↦ (let y = and_parts (is_reached c without b) (own || is_free_of_latch g.wide c without b i (known_at (Tag b) m.known)) u in
           elim (settled_word b i x k y.1) [ inl d ↦ inl d | inr z ↦ inr (reached b y.0, elim z [ inl z ↦ inl z | inr z ↦ inr (inl z) ]) ])
     ],
   )
@@ -121,7 +121,7 @@ module _ (g : Geometry) (w : Spot → ℕ) (r : ℕ → Memo) (h : HeldAt g w (v
   known_without _ x e k = absurd k
 
   abbrev pub kept : List Stored
-  kept = filter (λ s. binds_unlatched own c without s.spot) m.known
+  kept = filter (λ s. binds_unlatched g.wide own c without s.spot) m.known
 
   abbrev pub values : List ℕ
   values = filter (is_reached c without) m.values
@@ -134,8 +134,8 @@ module _ (g : Geometry) (w : Spot → ℕ) (r : ℕ → Memo) (h : HeldAt g w (v
         here = may.here.stays;
         op = may.op;
         latch = may.latch;
-        knows = All-kept (KnownHolds g w v c) (λ (s : Stored). KnownWithout s.spot s.value) (λ s. binds_unlatched own c without s.spot) (λ s e y. known_without s.spot s.value e y) m.known (h.known c l);
-        valued = sift_values (contents_of w (targets g w v)) (contents_of w (targets g w v)) c without (InReach w g v c) InReachWithout (λ b y. y) reached m.values (h.values c l);
+        knows = All-kept (KnownHolds g w v c) (λ (s : Stored). KnownWithout s.spot s.value) (λ s. binds_unlatched g.wide own c without s.spot) (λ s e y. known_without s.spot s.value e y) m.known (h.known c l);
+        valued = sift_values (contents_of g.wide w (targets g w v)) (contents_of g.wide w (targets g w v)) c without (InReach w g v c) InReachWithout (λ b y. y) reached m.values (h.values c l);
       }
 
 -- the latch is given back

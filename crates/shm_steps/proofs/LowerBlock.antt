@@ -133,22 +133,22 @@ module _ (me : Me) (w : Spot → ℕ) (r : ℕ → Memo) (f : Frame) (tr : Trail
         slot = cut_slot g w v s.held c s.who p mine t' same whole refl (named_sound t' (λ i j. w (Tail i j)) (λ i j. w (QueueHead i j)) c whole whole_names);
         knows = known_after g w v s.held c s.who p t' kept kept_names (λ i. untaken_after c p b v.untaken c i) (dying_after n b (v.dying c)) (untaken_stays w g v c p b mine) (dying_listed kept) (dying_more n b (v.dying c)) kept.known (all_lowered (StaysKnown g w v c p) n b whole.known stays);
         valued = values_after g w v s.held c s.who p t' kept kept_names;
-        parted = part_tie g w v c home (known_left c p m.known) p 0 m.part (s.held.part c s.who) (λ z. subst (λ ks. PartTie (contents_of w t') c (t' (Home c)) (part_set ks c home p 0 m.part)) (sym (known_read c p m.known m.part z)) (q.tie z));
+        parted = part_tie g w v c home (known_left c p m.known) p 0 m.part (s.held.part c s.who) (λ z. subst (λ ks. PartTie (contents_of me.geometry.wide w t') c (t' (Home c)) (part_set ks c home p 0 m.part)) (sym (known_read c p m.known m.part z)) (q.tie z));
         loose = loose_stays (known_left c p m.known) c home p 0 m.part;
       }
 
   abbrev begun : Memo
   begun = record called_memo { op = Down Committed p b e; made = filter (not_block b) m.made }
 
-  lowered_memo : exchanged_on c called_memo (Head b) to ≡ sifted c kept
+  lowered_memo : exchanged_on me.geometry.wide c called_memo (Head b) to ≡ sifted c kept
   lowered_memo =
-      ap (λ o. committed c called_memo o to) a.op
+      ap (λ o. committed me.geometry.wide c called_memo o to) a.op
       ∙ (ap (λ x. sifted c (lowered (header_of to).count b (cut c p (reparted c (with_untaken c p b x) p 0)))) (with_unsent_is c p 0 begun)
       ∙ (ap (λ x. sifted c (lowered (header_of to).count b (cut c p (reparted c x p 0)))) (with_untaken_is c p b (record begun { unsent = unsent_list c p 0 m.unsent }))
       ∙ (ap (λ (x : Header). sifted c (lowered x.count b (record whole { looks = looks' }))) a.new
       ∙ ap (sifted c) (lowered_is n b (record whole { looks = looks' })))))
 
-  lowered_view : lower_view v c b e n p looks' known' values' part ≡ put_parts v c (parts (exchanged_on c called_memo (Head b) to))
+  lowered_view : lower_view v c b e n p looks' known' values' part ≡ put_parts v c (parts (exchanged_on me.geometry.wide c called_memo (Head b) to))
   lowered_view =
       ap (λ u. record v { op = at1 v.op c (Down Committed p b e); dying = at1 v.dying c (dying_after n b (v.dying c)); looks = at1 v.looks c looks'; known = at1 v.known c known'; unsent = u; untaken = untaken_after c p b v.untaken; part = at1 v.part c part; values = at1 v.values c values'; made = at1 v.made c (filter (not_block b) (v.made c)); test = at1 v.test c None }) (unsent_lowered c p v.unsent m.unsent (λ k. refl))
       ∙ (ap (λ u. record v { op = at1 v.op c (Down Committed p b e); dying = at1 v.dying c (dying_after n b (v.dying c)); looks = at1 v.looks c looks'; known = at1 v.known c known'; unsent = at1 v.unsent c (λ k. slice_index (unsent_list c p 0 m.unsent) k); untaken = u; part = at1 v.part c part; values = at1 v.values c values'; made = at1 v.made c (filter (not_block b) (v.made c)); test = at1 v.test c None }) (untaken_lowered c p b v.untaken m.untaken (λ k. refl))

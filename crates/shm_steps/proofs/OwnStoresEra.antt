@@ -59,14 +59,14 @@ abbrev pub InReachBy : (Spot → ℕ) → Geometry → View → ℕ → List Loo
 InReachBy w g v c looks b = named_by (targets g w v) (λ s r. w (Tail s r)) (λ s r. w (QueueHead s r)) c b ⊎ InLooks looks b
 
 -- c knows a word as it is, and a value block in reach, with these looks
-abbrev pub KnownBy : Geometry → (Spot → ℕ) → View → ℕ → List Look → Stored → Type 0
-KnownBy g w v c looks k = KnownAt c (λ b. w (Tag b)) (λ b i. w (Body b i)) (λ s r k. w (Slot s r k)) (λ s r. w (Tail s r)) (λ s r. w (QueueHead s r)) (v.untaken c) (v.latch c) (InReachBy w g v c looks) (v.dying c) k.spot k.value
+abbrev pub KnownBy : Bool → Geometry → (Spot → ℕ) → View → ℕ → List Look → Stored → Type 0
+KnownBy wide g w v c looks k = KnownAt wide c (λ b. w (Tag b)) (λ b i. w (Body b i)) (λ s r k. w (Slot s r k)) (λ s r. w (Tail s r)) (λ s r. w (QueueHead s r)) (v.untaken c) (v.latch c) (InReachBy w g v c looks) (v.dying c) k.spot k.value
 
-abbrev pub ValueBy : Geometry → (Spot → ℕ) → View → ℕ → List Look → ℕ → Type 0
-ValueBy g w v c looks = ValueAt (contents_of w (targets g w v)) (InReachBy w g v c looks)
+abbrev pub ValueBy : Bool → Geometry → (Spot → ℕ) → View → ℕ → List Look → ℕ → Type 0
+ValueBy wide g w v c looks = ValueAt (contents_of wide w (targets g w v)) (InReachBy w g v c looks)
 
 -- no step is in progress, and what stays known and the value blocks that stay are in reach without looks
-pub looks_dropped : (g : Geometry) (w : Spot → ℕ) (v : View) (c : ℕ) (ks : List Stored) (vs : List ℕ) → HeldAt g w v → v.op c ≡ Nothing → All (KnownBy g w v c []) ks → All (ValueBy g w v c []) vs
+pub looks_dropped : (g : Geometry) (w : Spot → ℕ) (v : View) (c : ℕ) (ks : List Stored) (vs : List ℕ) → HeldAt g w v → v.op c ≡ Nothing → All (KnownBy g.wide g w v c []) ks → All (ValueBy g.wide g w v c []) vs
     → HeldAt g w (record v { looks = at1 v.looks c []; known = at1 v.known c ks; values = at1 v.values c vs })
 looks_dropped g w v c ks vs h idle known values =
     record {
@@ -89,12 +89,12 @@ looks_dropped g w v c ks vs h idle known values =
       redo = h.redo;
       allowed = h.allowed;
       count = h.count;
-      slots = λ d. at1_all (λ (i : ℕ) (x : List Look). i < g.clients → is_op (v.op i) ≡ true → SlotOf i (λ b. header_of (w (Head b))) (λ b. w (Tag b)) (v.latch i) (λ s r. w (Tail s r)) (λ s r. w (QueueHead s r)) (InReachBy w g v i x) (slot_of (v.op i))) v.looks c [] d
+      slots = λ d. at1_all (λ (i : ℕ) (x : List Look). i < g.clients → is_op (v.op i) ≡ true → SlotOf g.wide i (λ b. header_of (w (Head b))) (λ b. w (Tag b)) (v.latch i) (λ s r. w (Tail s r)) (λ s r. w (QueueHead s r)) (InReachBy w g v i x) (slot_of (v.op i))) v.looks c [] d
           (λ l is. absurd (false≢true (sym (ap is_op idle) ∙ is))) (λ n. h.slots d);
-      looks = λ d. at1_all (λ (i : ℕ) (x : List Look). i < g.clients → LooksSound (λ a. targets g w v (Home a)) (λ b i. targets g w v (Body b i)) (λ b. tag_author (w (Tag b))) (v.latch i) (named_by (targets g w v) (λ s r. w (Tail s r)) (λ s r. w (QueueHead s r)) i) [] x) v.looks c [] d
+      looks = λ d. at1_all (λ (i : ℕ) (x : List Look). i < g.clients → LooksSound (λ a. targets g w v (Home a)) (λ b i. targets g w v (Body b i)) (λ b. tag_author g.wide (w (Tag b))) (v.latch i) (named_by (targets g w v) (λ s r. w (Tail s r)) (λ s r. w (QueueHead s r)) i) [] x) v.looks c [] d
           (λ l. tt) (λ n. h.looks d);
       lanes = h.lanes;
-      known = λ d. at1_both (λ (i : ℕ) (x : List Look) (y : List Stored). i < g.clients → All (KnownBy g w v i x) y) v.looks v.known c [] ks d (λ l. known) (λ n. h.known d);
+      known = λ d. at1_both (λ (i : ℕ) (x : List Look) (y : List Stored). i < g.clients → All (KnownBy g.wide g w v i x) y) v.looks v.known c [] ks d (λ l. known) (λ n. h.known d);
       facts = h.facts;
       zeros = h.zeros;
       test = h.test;
@@ -107,7 +107,7 @@ looks_dropped g w v c ks vs h idle known values =
       parts = h.parts;
       part = h.part;
       queued = h.queued;
-      values = λ d. at1_both (λ (i : ℕ) (x : List Look) (y : List ℕ). i < g.clients → All (ValueBy g w v i x) y) v.looks v.values c [] vs d (λ l. values) (λ n. h.values d);
+      values = λ d. at1_both (λ (i : ℕ) (x : List Look) (y : List ℕ). i < g.clients → All (ValueBy g.wide g w v i x) y) v.looks v.values c [] vs d (λ l. values) (λ n. h.values d);
       made = h.made;
     }
 
@@ -201,10 +201,10 @@ module _ (me : Me) (w : Spot → ℕ) (r : ℕ → Memo) (f : Frame) (tr : Trail
   dropped_held : is_lowering (r c).op ≡ true → HeldAt g w' (record v' { looks = at1 v.looks c []; known = at1 v.known c ks; values = at1 v.values c vs })
   dropped_held e =
       looks_dropped g w' v' c ks vs closed_held (at1_here v.op c o ∙ lowered_none (r c).op x e)
-      (All-kept (KnownHolds g w' v' c) (KnownBy g w' v' c []) (λ (k : Stored). binds c n' k.spot)
-      (λ k t h. sift_known c (λ b. w' (Tag b)) (λ b i. w' (Body b i)) (λ i j k. w' (Slot i j k)) (λ i j. w' (Tail i j)) (λ i j. w' (QueueHead i j)) (v'.untaken c) (v'.untaken c) (v'.latch c) (reach_of (targets g w' v') (λ i j. w' (Tail i j)) (λ i j. w' (QueueHead i j)) v'.looks c) (InReachBy w' g v' c []) (v'.dying c) (v'.dying c) n' in_reach (dying_listed n') (λ b d. d) k.spot k.value (λ i j a e u z none. none) t h)
+      (All-kept (KnownHolds g w' v' c) (KnownBy me.geometry.wide g w' v' c []) (λ (k : Stored). binds c n' k.spot)
+      (λ k t h. sift_known me.geometry.wide c (λ b. w' (Tag b)) (λ b i. w' (Body b i)) (λ i j k. w' (Slot i j k)) (λ i j. w' (Tail i j)) (λ i j. w' (QueueHead i j)) (v'.untaken c) (v'.untaken c) (v'.latch c) (reach_of (targets g w' v') (λ i j. w' (Tail i j)) (λ i j. w' (QueueHead i j)) v'.looks c) (InReachBy w' g v' c []) (v'.dying c) (v'.dying c) n' in_reach (dying_listed n') (λ b d. d) k.spot k.value (λ i j a e u z none. none) t h)
       (r c).known (closed_held.known c s.who))
-      (All-kept (ValueHolds g w' v' c) (ValueBy g w' v' c []) (is_reached c n') (λ b t h. (h.0, in_reach b t)) (r c).values (closed_held.values c s.who))
+      (All-kept (ValueHolds g w' v' c) (ValueBy me.geometry.wide g w' v' c []) (is_reached c n') (λ b t h. (h.0, in_reach b t)) (r c).values (closed_held.values c s.who))
 
   -- a view is that of a memo of c
   abbrev IsMemos : View → Memo → Type 0

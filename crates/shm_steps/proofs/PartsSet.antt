@@ -21,9 +21,9 @@ loose_stays known c home p x Loose = refl
 loose_stays known c home p x (Table chains) = refl
 
 -- a memo without a partition, or a slot that no partition is read from: the part stays; and otherwise it is the one that the new targets hold
-pub part_tie : (g : Geometry) (w : Spot → ℕ) (v : View) (c home : ℕ) (known : List Stored) (p : Spot) (x : ℕ) (part : Part) → PartTie (contents_of w (targets g w v)) c (targets g w v (Home c)) part
-    → (is_read part p ≡ true → PartTie (contents_of w (upd (targets g w v) p x)) c (upd (targets g w v) p x (Home c)) (part_set known c home p x part))
-    → PartTie (contents_of w (upd (targets g w v) p x)) c (upd (targets g w v) p x (Home c)) (part_set known c home p x part)
+pub part_tie : (g : Geometry) (w : Spot → ℕ) (v : View) (c home : ℕ) (known : List Stored) (p : Spot) (x : ℕ) (part : Part) → PartTie (contents_of g.wide w (targets g w v)) c (targets g w v (Home c)) part
+    → (is_read part p ≡ true → PartTie (contents_of g.wide w (upd (targets g w v) p x)) c (upd (targets g w v) p x (Home c)) (part_set known c home p x part))
+    → PartTie (contents_of g.wide w (upd (targets g w v) p x)) c (upd (targets g w v) p x (Home c)) (part_set known c home p x part)
 part_tie g w v c home known p x Loose old new = tt
 part_tie g w v c home known (Home d) x (Table chains) old new = new refl
 part_tie g w v c home known (Body b i) x (Table chains) old new = new refl

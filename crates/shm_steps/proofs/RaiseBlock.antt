@@ -66,7 +66,7 @@ reach_names g w v c b h l (inl (n, inr (inl u))) = (Home c, (u, λ d k e. cc))
 reach_names g w v c b h l (inl (n, inr (inr u))) = (Slot u.0 c (w (QueueHead u.0 c) % 8), (u.2, λ d k e. cc))
 reach_names g w v c b h l (inr u) =
     let q = All-contains (λ (k : Look). (q : Spot) × IsNamedBy (targets g w v) c k.block q) (v.looks c) u.0
-    (looks_name (targets g w v) (λ b. tag_author (w (Tag b))) (v.latch c) (named_by (targets g w v) (λ s r. w (Tail s r)) (λ s r. w (QueueHead s r)) c) c [] (v.looks c) (h.looks c l)) u.1 in
+    (looks_name (targets g w v) (λ b. tag_author g.wide (w (Tag b))) (v.latch c) (named_by (targets g w v) (λ s r. w (Tail s r)) (λ s r. w (QueueHead s r)) c) c [] (v.looks c) (h.looks c l)) u.1 in
     (q.0, (q.1.0 ∙ u.2, q.1.1))
 
 -- ---- what exchanges of headers share
@@ -112,7 +112,7 @@ module _ (me : Me) (w : Spot → ℕ) (r : ℕ → Memo) (f : Frame) (tr : Trail
   not_to = let x : Allowed c (Up Begun p b e) = subst (Allowed c) a.op (s.held.allowed c s.who) in x
 
   -- a value block keeps its shape whatever the targets
-  queued : is_loose m.part ≡ false → is_slot p ≡ true → HasShape (contents_of w (targets g w v)) 0 1 b
+  queued : is_loose m.part ≡ false → is_slot p ≡ true → HasShape (contents_of me.geometry.wide w (targets g w v)) 0 1 b
   queued i j = (All-contains (ValueHolds g w v c) m.values b (s.held.values c s.who) (a.queued i j)).0
 
   raise_step : UpNeeds g w v c b e to p part
@@ -137,12 +137,12 @@ module _ (me : Me) (w : Spot → ℕ) (r : ℕ → Memo) (f : Frame) (tr : Trail
   abbrev n : Memo
   n = called m (framed me (Exchange at from to) (record f { fresh = false }) (w (Head b)))
 
-  raised_memo : exchanged_on c n (Head b) to ≡ record n { op = Up Committed p b e; made = filter (not_block b) m.made; unsent = unsent_list c p b m.unsent; part = part }
+  raised_memo : exchanged_on me.geometry.wide c n (Head b) to ≡ record n { op = Up Committed p b e; made = filter (not_block b) m.made; unsent = unsent_list c p b m.unsent; part = part }
   raised_memo =
-      ap (λ o. committed c n o to) a.op
+      ap (λ o. committed me.geometry.wide c n o to) a.op
       ∙ ap (λ x. reparted c x p b) (with_unsent_is c p b (record n { op = Up Committed p b e; made = filter (not_block b) m.made }))
 
-  raised_view : up_view v c b e p part ≡ put_parts v c (parts (exchanged_on c n (Head b) to))
+  raised_view : up_view v c b e p part ≡ put_parts v c (parts (exchanged_on me.geometry.wide c n (Head b) to))
   raised_view =
       ap (λ u. record v { op = at1 v.op c (Up Committed p b e); unsent = u; part = at1 v.part c part; made = at1 v.made c (filter (not_block b) (v.made c)); test = at1 v.test c None }) (unsent_raised c p b v.unsent m.unsent (sends g w v c p mine not_to) (λ k. refl))
       ∙ (sym (ap (λ (u : View). record u { op = at1 v.op c (Up Committed p b e); unsent = at1 v.unsent c (λ k. slice_index (unsent_list c p b m.unsent) k); part = at1 v.part c part; made = at1 v.made c (filter (not_block b) (v.made c)); test = at1 v.test c None }) (put_same v c))

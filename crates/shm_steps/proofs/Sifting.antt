@@ -8,7 +8,7 @@ use Rattle.shm_words.specs.declared.geometry.Geometry.{Geometry}
 use Rattle.shm_graph.proofs.States.Holders.{Holds, InReach}
 use Rattle.shm_steps.proofs.Naming.{IsSpared, StaysKnown}
 use Rattle.shm_graph.specs.Held.{KnownAt, ValueAt, HeldAt, reach_of}
-use Rattle.std.proofs.Common.{List, Option, [], ap, eq-eqb, eqb, false, inl, inr, refl, subst, sym, true, ℕ, ◌%◌, ◌&&◌, ◌++◌, ◌+◌, ◌<◌, ◌∙◌, ◌∷◌, ◌≡◌, ◌⊎◌}
+use Rattle.std.proofs.Common.{List, Option, [], ap, eq-eqb, eqb, false, inl, inr, refl, subst, sym, true, ℕ, ◌%◌, ◌&&◌, ◌++◌, ◌+◌, ◌<◌, ◌∙◌, ◌∷◌, ◌≡◌, ◌⊎◌, Bool}
 use Rattle.shm_graph.specs.declared.memo.Memo.{Memo}
 use Rattle.shm_graph.specs.declared.spot.Spot.{Spot}
 use Rattle.shm_graph.specs.Views.{View, targets}
@@ -21,22 +21,22 @@ use Rattle.shm_graph.proofs.States.Reached.{Names, reached_sound}
 use Rattle.shm_graph.specs.declared.memo.Stored.{Stored}
 
 -- what c knows of a word after a step, where what the memo then shows in reach is in reach, and what it shows dying is dying
-pub sift_known : (c : ℕ) (tag : ℕ → ℕ) (body : ℕ → ℕ → ℕ) (slot : ℕ → ℕ → ℕ → ℕ) (tail queue_head : ℕ → ℕ → ℕ) (untaken untaken' : ℕ → ℕ) (latch : Option ℕ) (reach reach' : ℕ → Type 0) (dying dying' : List ℕ) (n : Memo)
+pub sift_known : (wide : Bool) (c : ℕ) (tag : ℕ → ℕ) (body : ℕ → ℕ → ℕ) (slot : ℕ → ℕ → ℕ → ℕ) (tail queue_head : ℕ → ℕ → ℕ) (untaken untaken' : ℕ → ℕ) (latch : Option ℕ) (reach reach' : ℕ → Type 0) (dying dying' : List ℕ) (n : Memo)
     → ((b : ℕ) → is_reached c n b ≡ true → reach' b) → ((b : ℕ) → is_dying n b ≡ true → Contains dying' b) → ((b : ℕ) → Contains dying b → Contains dying' b)
     → (q : Spot) (x : ℕ) → ((s r k : ℕ) → q ≡ Slot s r k → r ≡ c → k ≡ queue_head s c % 8 → untaken s ≡ 0 → untaken' s ≡ 0)
-    → binds c n q ≡ true → KnownAt c tag body slot tail queue_head untaken latch reach dying q x → KnownAt c tag body slot tail queue_head untaken' latch reach' dying' q x
-sift_known c tag body slot tail queue_head untaken untaken' latch reach reach' dying dying' n hr hd more (Tag b) x left e k =
+    → binds c n q ≡ true → KnownAt wide c tag body slot tail queue_head untaken latch reach dying q x → KnownAt wide c tag body slot tail queue_head untaken' latch reach' dying' q x
+sift_known wide c tag body slot tail queue_head untaken untaken' latch reach reach' dying dying' n hr hd more (Tag b) x left e k =
     (k.0, elim (or_cases (is_reached c n b) (is_dying n b) e) [ inl u ↦ inr (hr b u) | inr u ↦ inl (hd b u) ])
-sift_known c tag body slot tail queue_head untaken untaken' latch reach reach' dying dying' n hr hd more (Body b i) x left e k = (
+sift_known wide c tag body slot tail queue_head untaken untaken' latch reach reach' dying dying' n hr hd more (Body b i) x left e k = (
   k.0,
   elim k.1 [
     | inl u ↦ inl (more b u)
     | inr u ↦ elim (or_cases (is_reached c n b) (is_dying n b) e) [ inl y ↦ inr (hr b y, u.1) | inr y ↦ inl (hd b y) ]
   ],
 )
-sift_known c tag body slot tail queue_head untaken untaken' latch reach reach' dying dying' n hr hd more (Slot s r k) x left e y =
+sift_known wide c tag body slot tail queue_head untaken untaken' latch reach reach' dying dying' n hr hd more (Slot s r k) x left e y =
     (y.0, y.1, y.2, y.3, left s r k refl y.0 y.2 y.4, y.5, y.6)
-sift_known c tag body slot tail queue_head untaken untaken' latch reach reach' dying dying' n hr hd more _ x left e k = absurd k
+sift_known wide c tag body slot tail queue_head untaken untaken' latch reach reach' dying dying' n hr hd more _ x left e k = absurd k
 
 -- value blocks keep their shape
 pub sift_values : (x x' : Contents) (c : ℕ) (n : Memo) (reach reach' : ℕ → Type 0) → ((b : ℕ) → HasShape x 0 1 b → HasShape x' 0 1 b) → ((b : ℕ) → is_reached c n b ≡ true → reach' b) → (bs : List ℕ) → All (ValueAt x reach) bs → All (ValueAt x' reach') (filter (is_reached c n) bs)
@@ -72,14 +72,14 @@ module _ (g : Geometry) (w : Spot → ℕ) (v : View) (h : HeldAt g w v) (c : �
   -- what the memo then knows is so
   pub known_after : (untaken' : ℕ → ℕ) (dying' : List ℕ) → ((q : Spot) → IsSpared p q → (s r j : ℕ) → q ≡ Slot s r j → r ≡ c → j ≡ w (QueueHead s c) % 8 → v.untaken c s ≡ 0 → untaken' s ≡ 0)
       → ((b : ℕ) → is_dying k b ≡ true → Contains dying' b) → ((b : ℕ) → Contains (v.dying c) b → Contains dying' b) → (ks : List Stored) → All (StaysKnown g w v c p) ks
-      → All (λ (s : Stored). KnownAt c (λ i. w (Tag i)) (λ i j. w (Body i j)) (λ i j a. w (Slot i j a)) (λ i j. w (Tail i j)) (λ i j. w (QueueHead i j)) untaken' (v.latch c) InReachAfter dying' s.spot s.value) (filter (λ s. binds c k s.spot) ks)
+      → All (λ (s : Stored). KnownAt g.wide c (λ i. w (Tag i)) (λ i j. w (Body i j)) (λ i j a. w (Slot i j a)) (λ i j. w (Tail i j)) (λ i j. w (QueueHead i j)) untaken' (v.latch c) InReachAfter dying' s.spot s.value) (filter (λ s. binds c k s.spot) ks)
   known_after untaken' dying' left hd more ks a =
       All-kept (StaysKnown g w v c p)
-      (λ (s : Stored). KnownAt c (λ i. w (Tag i)) (λ i j. w (Body i j)) (λ i j a. w (Slot i j a)) (λ i j. w (Tail i j)) (λ i j. w (QueueHead i j)) untaken' (v.latch c) InReachAfter dying' s.spot s.value)
+      (λ (s : Stored). KnownAt g.wide c (λ i. w (Tag i)) (λ i j. w (Body i j)) (λ i j a. w (Slot i j a)) (λ i j. w (Tail i j)) (λ i j. w (QueueHead i j)) untaken' (v.latch c) InReachAfter dying' s.spot s.value)
       (λ s. binds c k s.spot)
-      (λ s e y. sift_known c (λ i. w (Tag i)) (λ i j. w (Body i j)) (λ i j a. w (Slot i j a)) (λ i j. w (Tail i j)) (λ i j. w (QueueHead i j)) (v.untaken c) untaken' (v.latch c) (InReach w g v c) InReachAfter (v.dying c) dying' k reached hd more s.spot s.value (left s.spot y.1) e y.0)
+      (λ s e y. sift_known g.wide c (λ i. w (Tag i)) (λ i j. w (Body i j)) (λ i j a. w (Slot i j a)) (λ i j. w (Tail i j)) (λ i j. w (QueueHead i j)) (v.untaken c) untaken' (v.latch c) (InReach w g v c) InReachAfter (v.dying c) dying' k reached hd more s.spot s.value (left s.spot y.1) e y.0)
       ks a
 
   -- and so are its value blocks
-  pub values_after : All (ValueAt (contents_of w t') InReachAfter) (filter (is_reached c k) (v.values c))
-  values_after = sift_values (contents_of w (targets g w v)) (contents_of w t') c k (InReach w g v c) InReachAfter (λ b y. record { live = y.live; names = y.names; words = y.words }) reached (v.values c) (h.values c l)
+  pub values_after : All (ValueAt (contents_of g.wide w t') InReachAfter) (filter (is_reached c k) (v.values c))
+  values_after = sift_values (contents_of g.wide w (targets g w v)) (contents_of g.wide w t') c k (InReach w g v c) InReachAfter (λ b y. record { live = y.live; names = y.names; words = y.words }) reached (v.values c) (h.values c l)

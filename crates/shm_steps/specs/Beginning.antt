@@ -1,5 +1,5 @@
 -- what a count step that a redo word begins needs of the memo of its identity, for changes and for slots beside roots
-use Rattle.std.specs.Prelude.{◌≡◌, ◌≢◌, ℕ, ◌+◌, ◌%◌, ◌^◌, ◌<◌, ◌≤◌, true, ◌⊎◌, Option, Some, slice_index}
+use Rattle.std.specs.Prelude.{Bool, ◌≡◌, ◌≢◌, ℕ, ◌+◌, ◌%◌, ◌^◌, ◌<◌, ◌≤◌, true, ◌⊎◌, Option, Some, slice_index}
 use Rattle.std.specs.List.{Contains}
 use Rattle.shm_graph.specs.declared.spot.Spot.TheVariants.{Home, Era, Root, Tail, QueueHead, Slot, Body}
 use Rattle.shm_graph.specs.declared.memo.Fact.TheVariants.{Counter}
@@ -59,26 +59,26 @@ abbrev pub MayStoreIn : ℕ → Memo → ℕ → Option ℕ → Type 0
 MayStoreIn c m d author = Contains m.dying d ⊎ ((m.latch ≡ Some c) × (author ≡ Some c) × (is_reached c m d ≡ true))
 
 -- word i of block d is a reference word that c may store, and is x: the block's shape is told, by its tag or by what was read of a table, and the word is known
-pub record IsOwnWord (c : ℕ) (m : Memo) (d i x : ℕ) : Type 0 where
-  pub told : (k : Claim) × Contains (claims c m) k × (k.block ≡ d) × (i < k.refs) × MayStoreIn c m d k.author
+pub record IsOwnWord (wide : Bool) (c : ℕ) (m : Memo) (d i x : ℕ) : Type 0 where
+  pub told : (k : Claim) × Contains (claims wide c m) k × (k.block ≡ d) × (i < k.refs) × MayStoreIn c m d k.author
   pub word : Contains m.known (record { spot = Body d i; value = x })
 
 -- the word is empty, and is to have a block in reach
-pub record MayFill (c : ℕ) (m : Memo) (d i b : ℕ) : Type 0 where
+pub record MayFill (wide : Bool) (c : ℕ) (m : Memo) (d i b : ℕ) : Type 0 where
   pub may : HasRoom c m 3
-  pub word : IsOwnWord c m d i 0
+  pub word : IsOwnWord wide c m d i 0
   pub source : is_reached c m b ≡ true
 
 -- the word has block b, which is to go
-pub record MayClear (c : ℕ) (m : Memo) (d i b : ℕ) : Type 0 where
+pub record MayClear (wide : Bool) (c : ℕ) (m : Memo) (d i b : ℕ) : Type 0 where
   pub may : HasRoom c m 3
   pub some : b ≢ 0
-  pub word : IsOwnWord c m d i b
+  pub word : IsOwnWord wide c m d i b
 
 -- the word has block a, and is to have another block, which is in reach
-pub record MayReplace (c : ℕ) (m : Memo) (d i a b : ℕ) : Type 0 where
+pub record MayReplace (wide : Bool) (c : ℕ) (m : Memo) (d i a b : ℕ) : Type 0 where
   pub may : HasRoom c m 4
   pub some : a ≢ 0
-  pub word : IsOwnWord c m d i a
+  pub word : IsOwnWord wide c m d i a
   pub other : a ≢ b
   pub source : is_reached c m b ≡ true

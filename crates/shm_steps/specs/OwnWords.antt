@@ -3,17 +3,21 @@ use Rattle.std.specs.Prelude.{◌≡◌, ◌≢◌, ℕ, ◌+◌, ◌^◌, ◌<�
 use Rattle.std.specs.List.{Contains}
 use Rattle.shm_words.specs.declared.geometry.Geometry.{Geometry}
 use Rattle.shm_words.specs.Headers.{header_of}
-use Rattle.shm_words.specs.Redos.{redo_of}
-use Rattle.shm_graph.specs.declared.spot.Spot.TheVariants.{Era, Root}
+use Rattle.shm_words.specs.Redos.{redo_of, redo_first, redo_second, RedoFits}
+use Rattle.shm_words.specs.declared.redo.Redo.{Redo as ARedo}
+use Rattle.shm_graph.specs.declared.spot.Spot.TheVariants.{RedoMore, Era, Root}
 use Rattle.shm_graph.specs.declared.memo.Fact.TheVariants.{Header as HeaderRead}
 use Rattle.shm_graph.specs.declared.memo.Op.{Op}
 use Rattle.shm_graph.specs.declared.memo.Op.TheVariants.{Nothing}
 use Rattle.shm_graph.specs.declared.memo.Memo.{Memo}
-use Rattle.shm_graph.specs.Views.{own_word}
+use Rattle.shm_graph.specs.Views.{own_word, view}
+use Rattle.shm_graph.specs.declared.spot.Spot.{Spot}
+use Rattle.shm_graph.specs.Blocks.{classes}
+use Rattle.shm_graph.specs.Held.{Names}
 use Rattle.shm_graph.specs.Reach.{is_reached}
 use Rattle.shm_graph.specs.Stores.{op_closed, is_block_made, op_spelled}
 use Rattle.shm_graph.specs.Telling.{word_told}
-use Rattle.shm_laws.specs.OwnWords.{Closes}
+use Rattle.shm_laws.specs.OwnWords.{Closes, BeginNeeds}
 use Rattle.shm_steps.specs.Conditions.{IsHere}
 
 -- the row of another client may show the era x: it grows, and a header that was read shows that client with an era of at least x
@@ -69,4 +73,20 @@ pub record MayRemove (c : ℕ) (m : Memo) (k b : ℕ) : Type 0 where
 
 -- the step that the redo word x begins
 abbrev pub op_begun : Geometry → ℕ → Memo → ℕ → Op
-op_begun g c m x = op_spelled (word_told g c m) m.making (own_word m.own (Era c c)) (redo_of x)
+op_begun g c m x = op_spelled (word_told g c m) m.making (own_word m.own (Era c c)) (redo_of g.wide x (own_word m.own (RedoMore c)))
+
+-- in format 2 the second word of this record is stored
+abbrev pub IsReady : Geometry → ℕ → Memo → ARedo → Type 0
+IsReady g c m red = g.wide ≡ true → own_word m.own (RedoMore c) ≡ redo_second true red
+
+-- what a redo record needs that begins a step: it names blocks, and once its second word is stored its first word may be
+pub record MayBegin (g : Geometry) (w : Spot → ℕ) (r : ℕ → Memo) (c : ℕ) (red : ARedo) : Type 0 where
+  pub fits : RedoFits g.wide red
+  pub names : Names g (classes w) red
+  pub needs : IsReady g c (r c) red → BeginNeeds g w (view r) c (redo_first g.wide red) (op_begun g c (r c) (redo_first g.wide red))
+
+-- in format 2, while no step is in progress, the second word of a redo record may be stored
+pub record MayReady (g : Geometry) (m : Memo) : Type 0 where
+  pub here : IsHere m
+  pub wide : g.wide ≡ true
+  pub idle : m.op ≡ Nothing

@@ -1,9 +1,9 @@
 -- what the steps that prepare and give up segments, pages and blocks, and that take a latch, need of the memo of their identity
-use Rattle.std.specs.Prelude.{◌≡◌, ◌≢◌, ℕ, ◌+◌, ◌/◌, ◌^◌, ◌<◌, ◌≤◌, true, ◌⊎◌, Some, None}
+use Rattle.std.specs.Prelude.{Bool, ◌≡◌, ◌≢◌, ℕ, ◌+◌, ◌^◌, ◌<◌, ◌≤◌, true, ◌⊎◌, Some, None}
 use Rattle.std.specs.List.{Contains}
 use Rattle.shm_words.specs.declared.geometry.Geometry.{Geometry}
 use Rattle.shm_words.specs.Headers.{header_of}
-use Rattle.shm_words.specs.Tags.{tag_refs, tag_plain, tag_author, tag_link}
+use Rattle.shm_words.specs.Tags.{tag_refs, tag_plain, tag_author, tag_link, tag_limit, tag_shape, tag_limit, tag_shape}
 use Rattle.shm_words.specs.Classes.{IsClass, class_for}
 use Rattle.shm_graph.specs.declared.spot.Spot.TheVariants.{Hold, Root, Page, Head, Tag, Body}
 use Rattle.shm_graph.specs.declared.memo.Status.TheVariants as status
@@ -70,7 +70,7 @@ abbrev pub MayBody : Memo → ℕ → ℕ → ℕ → Type 0
 MayBody m b i x = (k : Making) × MayPrepare m b x k × (i + 2 < k.class)
 
 -- the begun step is to make block b, which is prepared as k, live in root i at era e: the tag's fields are a tag's and fit the class, the reference words are 0, and `to` is the new header
-pub record MayAlloc (c : ℕ) (m : Memo) (i b e to tag : ℕ) (k : Making) : Type 0 where
+pub record MayAlloc (wide : Bool) (c : ℕ) (m : Memo) (i b e to tag : ℕ) (k : Making) : Type 0 where
   pub live : m.status ≡ status.Live
   pub op : m.op ≡ Alloc Begun (Root c i) b e
   pub making : m.making ≡ Some k
@@ -78,13 +78,13 @@ pub record MayAlloc (c : ℕ) (m : Memo) (i b e to tag : ℕ) (k : Making) : Typ
   pub small : to < 2 ^ 64
   pub new : header_of to ≡ record { live = true; client = c; count = 1; era = e }
   pub tagged : Contains k.words (record { spot = Tag b; value = tag })
-  pub small_tag : tag < 2 ^ 35
-  pub refs : tag_refs tag ≤ 16
-  pub plain : tag_plain tag ≤ 8
-  pub author : tag_author tag ≡ c
-  pub link : tag_link tag ≡ 0
-  pub fits : class_for (tag_refs tag) (tag_plain tag) ≡ k.class
-  pub zeros : (j : ℕ) → j < tag_refs tag → Contains k.words (record { spot = Body b j; value = 0 })
+  pub small_tag : tag < tag_limit wide
+  pub refs : tag_refs wide tag ≤ 16
+  pub plain : tag_plain wide tag ≤ 8
+  pub author : tag_author wide tag ≡ c
+  pub link : tag_link wide tag ≡ 0
+  pub fits : class_for (tag_refs wide tag) (tag_plain wide tag) ≡ k.class
+  pub zeros : (j : ℕ) → j < tag_refs wide tag → Contains k.words (record { spot = Body b j; value = 0 })
 
 -- ---- zero-count blocks
 
@@ -96,12 +96,12 @@ pub record KnowsDying (m : Memo) (b tag : ℕ) : Type 0 where
   pub tagged : Contains m.known (record { spot = Tag b; value = tag })
 
 -- the zero-count block b may be freed: all its reference words are known as 0
-pub record MayFree (m : Memo) (b tag : ℕ) : Type 0 where
+pub record MayFree (wide : Bool) (m : Memo) (b tag : ℕ) : Type 0 where
   pub knows : KnowsDying m b tag
-  pub zeros : (i : ℕ) → i < tag_refs tag → Contains m.known (record { spot = Body b i; value = 0 })
+  pub zeros : (i : ℕ) → i < tag_refs wide tag → Contains m.known (record { spot = Body b i; value = 0 })
 
 -- x may be stored as the tag of the zero-count block b: it is that tag with another link
-pub record MayLink (m : Memo) (b tag x : ℕ) : Type 0 where
+pub record MayLink (wide : Bool) (m : Memo) (b tag x : ℕ) : Type 0 where
   pub knows : KnowsDying m b tag
-  pub shape : x / 2 ^ 20 ≡ tag / 2 ^ 20
-  pub small : x < 2 ^ 35
+  pub shape : tag_shape wide x ≡ tag_shape wide tag
+  pub small : x < tag_limit wide

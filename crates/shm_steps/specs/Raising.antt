@@ -43,4 +43,4 @@ is_read part p = false
 
 -- where the slot is one that the partition is read from, the partition that the memo has once it is made x is the one that the new targets hold
 pub record IsReparted (g : Geometry) (w : Spot → ℕ) (v : View) (c : ℕ) (m : Memo) (p : Spot) (x : ℕ) : Type 0 where
-  pub tie : is_read m.part p ≡ true → PartTie (contents_of w (upd (targets g w v) p x)) c (upd (targets g w v) p x (Home c)) (part_set m.known c (cover (On p x) (Home c) (own_word m.own (Home c))) p x m.part)
+  pub tie : is_read m.part p ≡ true → PartTie (contents_of g.wide w (upd (targets g w v) p x)) c (upd (targets g w v) p x (Home c)) (part_set m.known c (cover (On p x) (Home c) (own_word m.own (Home c))) p x m.part)

@@ -1,5 +1,5 @@
 -- what a load of a word of a page's body needs of the memo of its identity
-use Rattle.std.specs.Prelude.{◌≡◌, ℕ, ◌+◌, true, Option, Some, None}
+use Rattle.std.specs.Prelude.{Bool, ◌≡◌, ℕ, ◌+◌, true, Option, Some, None}
 use Rattle.std.specs.List.{Contains}
 use Rattle.shm_graph.specs.declared.spot.Spot.{Spot}
 use Rattle.shm_graph.specs.declared.spot.Spot.TheVariants.{Body}
@@ -9,12 +9,12 @@ use Rattle.shm_graph.specs.Telling.{Claim, claims, covers, claim_of}
 use Rattle.shm_graph.specs.Readings.{is_latched}
 
 -- something is told of the block
-abbrev pub IsTold : ℕ → Memo → ℕ → Type 0
-IsTold c m b = (k : Claim) × Contains (claims c m) k × (k.block ≡ b)
+abbrev pub IsTold : Bool → ℕ → Memo → ℕ → Type 0
+IsTold wide c m b = (k : Claim) × Contains (claims wide c m) k × (k.block ≡ b)
 
 -- something that is told covers the address
-abbrev pub IsCovered : ℕ → Memo → ℕ → Type 0
-IsCovered c m at = (k : Claim) × Contains (claims c m) k × (covers at k ≡ true)
+abbrev pub IsCovered : Bool → ℕ → Memo → ℕ → Type 0
+IsCovered wide c m at = (k : Claim) × Contains (claims wide c m) k × (covers at k ≡ true)
 
 -- the step in progress is not about to store this word
 abbrev pub IsSettled : Memo → Spot → Type 0
@@ -26,5 +26,5 @@ MayLookBy None latch settled = Unit {0}
 MayLookBy (Some k) latch settled = is_latched k.author latch ≡ true → settled
 
 -- a word of a block may be read: where that is a look, the word is settled
-abbrev pub MayLook : ℕ → Memo → ℕ → ℕ → Type 0
-MayLook c m b i = MayLookBy (claim_of c m (b + 2 + i)) m.latch (IsSettled m (Body b i))
+abbrev pub MayLook : Bool → ℕ → Memo → ℕ → ℕ → Type 0
+MayLook wide c m b i = MayLookBy (claim_of wide c m (b + 2 + i)) m.latch (IsSettled m (Body b i))

@@ -1,5 +1,5 @@
 -- what a count step at a word that the own partition is read from needs of the memo of its identity, and what it makes of the map
-use Rattle.std.specs.Prelude.{◌≡◌, ℕ, ◌%◌, ◌^◌, ◌<◌, ◌==◌, if◌then◌else◌, List, [], ◌∷◌, ◌++◌, Option, Some, None, slice_index_or}
+use Rattle.std.specs.Prelude.{◌≡◌, ℕ, ◌%◌, ◌^◌, ◌<◌, ◌==◌, if◌then◌else◌, List, [], ◌∷◌, ◌++◌, Option, Some, None, slice_index_or, Bool}
 use Rattle.std.specs.List.{Contains}
 use Rattle.shm_words.specs.Tags.{tag_refs, tag_plain, tag_author}
 use Rattle.shm_graph.specs.declared.spot.Spot.{Spot}
@@ -48,21 +48,21 @@ abbrev pub IsKnown : Sight → Spot → ℕ → Type 0
 IsKnown s p x = Contains s.known (record { spot = p; value = x })
 
 -- the tag of a block of c is known, and with it so many reference words and plain words
-pub record IsTagged (c : ℕ) (s : Sight) (b refs plain : ℕ) : Type 0 where
+pub record IsTagged (wide : Bool) (c : ℕ) (s : Sight) (b refs plain : ℕ) : Type 0 where
   pub tag : ℕ
   pub known : IsKnown s (Tag b) tag
-  pub refs_are : tag_refs tag ≡ refs
-  pub plain_are : tag_plain tag ≡ plain
-  pub author : tag_author tag ≡ c
+  pub refs_are : tag_refs wide tag ≡ refs
+  pub plain_are : tag_plain wide tag ≡ plain
+  pub author : tag_author wide tag ≡ c
 
 -- a block that is to be the directory: all its reference words are known to be empty
-pub record IsBare (c : ℕ) (s : Sight) (b : ℕ) : Type 0 where
-  pub tagged : IsTagged c s b 16 0
+pub record IsBare (wide : Bool) (c : ℕ) (s : Sight) (b : ℕ) : Type 0 where
+  pub tagged : IsTagged wide c s b 16 0
   pub words : (i : ℕ) → i < 16 → IsKnown s (Body b i) 0
 
 -- a block that is to be an entry: its key is known, and the partition has none of that key
-pub record IsNew (c : ℕ) (s : Sight) (b key : ℕ) : Type 0 where
-  pub tagged : IsTagged c s b 2 1
+pub record IsNew (wide : Bool) (c : ℕ) (s : Sight) (b key : ℕ) : Type 0 where
+  pub tagged : IsTagged wide c s b 2 1
   pub word : IsKnown s (Body b 2) key
   pub small : key < 2 ^ 32
   pub absent : map_in s.part key ≡ None
@@ -81,20 +81,20 @@ pub record HasEntry (s : Sight) (key : ℕ) (before : List Entry) (e : Entry) (a
 
 -- A count step that changes a word from one block to another: the home comes to name an empty directory; the word is one of a block that is still to be an entry;
 -- a new entry begins the chain of its bucket; an entry whose next word is known is taken out of its chain; an entry has another value block
-pub data TableStep (c : ℕ) (s : Sight) (p : Spot) (old new : ℕ) : Type 0 where
-  Founds : (at : p ≡ Home c) (none : old ≡ 0) (bare : IsBare c s new) → TableStep c s p old new
-  Prepares : (b i key : ℕ) (at : p ≡ Body b i) (entry : IsNew c s b key) → TableStep c s p old new
-  Links : (key v n : ℕ) (at : p ≡ Body s.home (key % 16)) (entry : IsNew c s new key) (next : IsKnown s (Body new 0) old) (value : IsKnown s (Body new 1) v) (number : IsValue s v n) → TableStep c s p old new
-  Unlinks : (key : ℕ) (before : List Entry) (e : Entry) (after : List Entry) (has : HasEntry s key before e after) (at : p ≡ link_after s.home (key % 16) before) (entry : e.block ≡ old) (next : IsKnown s (Body old 0) new) → TableStep c s p old new
-  Replaces : (key n : ℕ) (before : List Entry) (e : Entry) (after : List Entry) (has : HasEntry s key before e after) (at : p ≡ Body e.block 1) (number : IsValue s new n) → TableStep c s p old new
+pub data TableStep (wide : Bool) (c : ℕ) (s : Sight) (p : Spot) (old new : ℕ) : Type 0 where
+  Founds : (at : p ≡ Home c) (none : old ≡ 0) (bare : IsBare wide c s new) → TableStep wide c s p old new
+  Prepares : (b i key : ℕ) (at : p ≡ Body b i) (entry : IsNew wide c s b key) → TableStep wide c s p old new
+  Links : (key v n : ℕ) (at : p ≡ Body s.home (key % 16)) (entry : IsNew wide c s new key) (next : IsKnown s (Body new 0) old) (value : IsKnown s (Body new 1) v) (number : IsValue s v n) → TableStep wide c s p old new
+  Unlinks : (key : ℕ) (before : List Entry) (e : Entry) (after : List Entry) (has : HasEntry s key before e after) (at : p ≡ link_after s.home (key % 16) before) (entry : e.block ≡ old) (next : IsKnown s (Body old 0) new) → TableStep wide c s p old new
+  Replaces : (key n : ℕ) (before : List Entry) (e : Entry) (after : List Entry) (has : HasEntry s key before e after) (at : p ≡ Body e.block 1) (number : IsValue s new n) → TableStep wide c s p old new
 
 -- what it makes of the map
-abbrev pub map_after : (c : ℕ) (s : Sight) (p : Spot) (old new : ℕ) → TableStep c s p old new → (ℕ → Option (ℕ × ℕ)) → ℕ → Option (ℕ × ℕ)
-map_after c s p old new (Founds at none bare) f k = f k
-map_after c s p old new (Prepares b i key at entry) f k = f k
-map_after c s p old new (Links key v n at entry next value number) f k = if key == k then Some (n, v) else f k
-map_after c s p old new (Unlinks key before e after has at entry next) f k = if key == k then None else f k
-map_after c s p old new (Replaces key n before e after has at number) f k = if key == k then Some (n, new) else f k
+abbrev pub map_after : (wide : Bool) (c : ℕ) (s : Sight) (p : Spot) (old new : ℕ) → TableStep wide c s p old new → (ℕ → Option (ℕ × ℕ)) → ℕ → Option (ℕ × ℕ)
+map_after wide c s p old new (Founds at none bare) f k = f k
+map_after wide c s p old new (Prepares b i key at entry) f k = f k
+map_after wide c s p old new (Links key v n at entry next value number) f k = if key == k then Some (n, v) else f k
+map_after wide c s p old new (Unlinks key before e after has at entry next) f k = if key == k then None else f k
+map_after wide c s p old new (Replaces key n before e after has at number) f k = if key == k then Some (n, new) else f k
 
 -- a step in progress that has begun, and is to change this word from one block to another
 abbrev pub Begins : Op → Spot → ℕ → ℕ → Type 0

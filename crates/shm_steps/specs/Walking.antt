@@ -65,8 +65,8 @@ pub record IsVacant (c : ℕ) (m : Memo) (key first : ℕ) : Type 0 where
   pub next : first ≢ 0 → is_looked m first ≡ true
 
 -- root k has a block that is to be the entry of a key; its next word and its value word are known
-pub record IsComing (c : ℕ) (m : Memo) (k b key next value : ℕ) : Type 0 where
+pub record IsComing (wide : Bool) (c : ℕ) (m : Memo) (k b key next value : ℕ) : Type 0 where
   pub root : (k < 16) × (own_word m.own (Root c k) ≡ b) × (b ≢ 0)
-  pub entry : IsNew c (sight c m) b key
+  pub entry : IsNew wide c (sight c m) b key
   pub next_is : IsKnown (sight c m) (Body b 0) next
   pub value_is : IsKnown (sight c m) (Body b 1) value

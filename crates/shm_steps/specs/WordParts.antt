@@ -1,5 +1,5 @@
 -- what single word steps find, and what they leave of the memo of their identity, one kind after the other
-use Rattle.std.specs.Prelude.{◌≡◌, ◌≢◌, ℕ, ◌+◌, ◌%◌, ◌<◌, ◌≤◌, true, ◌==◌, if◌then◌else◌, ◌⊎◌, None, Some, [], ◌∷◌, ◌++◌, slice_index}
+use Rattle.std.specs.Prelude.{Bool, ◌≡◌, ◌≢◌, ℕ, ◌+◌, ◌%◌, ◌<◌, ◌≤◌, true, ◌==◌, if◌then◌else◌, ◌⊎◌, None, Some, [], ◌∷◌, ◌++◌, slice_index}
 use Rattle.std.specs.List.{Contains, filter}
 use Rattle.shm_words.specs.declared.geometry.Geometry.{Geometry}
 use Rattle.shm_graph.specs.declared.spot.Spot.{Spot}
@@ -120,8 +120,8 @@ abbrev pub LatchTaken : ℕ → Memo → ℕ → Memo → Type 0
 LatchTaken a = Leaves any_word (λ m n. if n == 0 then record m { latch = Some a } else m) nothing_read
 
 -- the latch is given back
-abbrev pub LatchGiven : ℕ → Memo → ℕ → Memo → Type 0
-LatchGiven c = Makes (unlatched c)
+abbrev pub LatchGiven : Bool → ℕ → Memo → ℕ → Memo → Type 0
+LatchGiven wide c = Makes (unlatched wide c)
 
 -- ---- segments and pages
 
@@ -179,16 +179,16 @@ HeadStored c i = Makes (λ m. head_stored m (QueueHead i c) i (own_word m.own (Q
 -- ---- blocks
 
 -- word i of block b is one after its reference words, as the memo tells it
-abbrev pub IsPlainWord : ℕ → Memo → ℕ → ℕ → Type 0
-IsPlainWord c m b i = (k : Claim) × Contains (claims c m) k × (k.block ≡ b) × (k.refs ≤ i) × (i < k.refs + k.plain)
+abbrev pub IsPlainWord : Bool → ℕ → Memo → ℕ → ℕ → Type 0
+IsPlainWord wide c m b i = (k : Claim) × Contains (claims wide c m) k × (k.block ≡ b) × (k.refs ≤ i) × (i < k.refs + k.plain)
 
 -- word i of block b is a word of a zero-count block of the identity, as the memo tells it
-abbrev pub IsDyingWord : ℕ → Memo → ℕ → ℕ → Type 0
-IsDyingWord c m b i = Contains m.dying b × ((k : Claim) × Contains (claims c m) k × (k.block ≡ b) × (i < k.refs + k.plain))
+abbrev pub IsDyingWord : Bool → ℕ → Memo → ℕ → ℕ → Type 0
+IsDyingWord wide c m b i = Contains m.dying b × ((k : Claim) × Contains (claims wide c m) k × (k.block ≡ b) × (i < k.refs + k.plain))
 
 -- word i of block b is a reference word, and the latch of the block's author is held, which is told too; the block is in reach
-abbrev pub IsLatchedWord : ℕ → Memo → ℕ → ℕ → Type 0
-IsLatchedWord c m b i = (is_reached c m b ≡ true) × ((k : Claim) × (a : ℕ) × Contains (claims c m) k × (k.block ≡ b) × (i < k.refs) × (k.author ≡ Some a) × (m.latch ≡ Some a))
+abbrev pub IsLatchedWord : Bool → ℕ → Memo → ℕ → ℕ → Type 0
+IsLatchedWord wide c m b i = (is_reached c m b ≡ true) × ((k : Claim) × (a : ℕ) × Contains (claims wide c m) k × (k.block ≡ b) × (i < k.refs) × (k.author ≡ Some a) × (m.latch ≡ Some a))
 
 -- a header joins what was read; in an own segment 0 does too
 abbrev pub HeaderRemains : Geometry → ℕ → Memo → ℕ → Memo → Type 0
@@ -225,8 +225,8 @@ BodyStored b i v = Makes (λ m. record (written m) { known = learnt (Body b i) v
 -- ---- the second half of a change
 
 -- the header of the block before is exchanged: the change loses the reference that it holds over, or another header was found, which joins what was read
-abbrev pub FormerLowered : ℕ → Op → ℕ → ℕ → Memo → ℕ → Memo → Type 0
-FormerLowered c o from to = Leaves any_word (λ m n. if n == from then committed c m o to else m) (λ m n x. n ≢ from → Contains x.facts (HeaderRead n))
+abbrev pub FormerLowered : Bool → ℕ → Op → ℕ → ℕ → Memo → ℕ → Memo → Type 0
+FormerLowered wide c o from to = Leaves any_word (λ m n. if n == from then committed wide c m o to else m) (λ m n x. n ≢ from → Contains x.facts (HeaderRead n))
 
 -- which is the event, where the exchange succeeds
 abbrev pub former_event : ℕ → ℕ → ℕ → ℕ → Event
@@ -234,9 +234,9 @@ former_event c a from n = if n == from then ChangeDown c a else NoEvent
 
 -- ---- the commit test
 
--- a recoverer loads the header of a block: the test begins where the header doesn't show the own era
+-- a recoverer loads the header of a block: the test begins where the header doesn't show the own era; word 0 is no block's header, and begins none
 abbrev pub TestBegun : Geometry → ℕ → ℕ → Memo → ℕ → Memo → Type 0
-TestBegun g c b = Leaves any_word same_memo (λ m n x. (x.test ≡ test_from c (own_word m.own (Era c c)) b n) × HeaderRemains g b m n x)
+TestBegun g c b = Leaves any_word same_memo (λ m n x. b ≢ 0 → (x.test ≡ test_from c (own_word m.own (Era c c)) b n) × HeaderRemains g b m n x)
 
 -- a recoverer loads the row of another identity: the test goes on where it is the next one and doesn't show the own era
 abbrev pub TestGoesOn : ℕ → ℕ → Memo → ℕ → Memo → Type 0

@@ -16,7 +16,7 @@ ghost use Rattle.shm_steps.specs.Reading.{IsTold, IsCovered, MayLook};
 /// header finds another word than it names.
 pub fn body_loads()
     ensures header { (me : AMe) (w : ASpot → ℕ) (r : ℕ → AMemo) (f : Frame) (tr : Trail) (at b : ℕ) → Stands me w r f tr → spot_at me.geometry (classes w) at ≡ Head b → KeptAt me w r (Load at) f (λ n m. Unit {0}) (spot_at me.geometry (classes w) at) }
-    ensures tag { (me : AMe) (w : ASpot → ℕ) (r : ℕ → AMemo) (f : Frame) (tr : Trail) (at b : ℕ) → Stands me w r f tr → spot_at me.geometry (classes w) at ≡ Tag b → IsTold me.who (r me.who) b → KeptAt me w r (Load at) f (λ n m. Unit {0}) (spot_at me.geometry (classes w) at) }
-    ensures word { (me : AMe) (w : ASpot → ℕ) (r : ℕ → AMemo) (f : Frame) (tr : Trail) (at b i : ℕ) → Stands me w r f tr → spot_at me.geometry (classes w) at ≡ Body b i → IsCovered me.who (r me.who) at → MayLook me.who (r me.who) b i → KeptAt me w r (Load at) f (λ n m. Unit {0}) (spot_at me.geometry (classes w) at) }
+    ensures tag { (me : AMe) (w : ASpot → ℕ) (r : ℕ → AMemo) (f : Frame) (tr : Trail) (at b : ℕ) → Stands me w r f tr → spot_at me.geometry (classes w) at ≡ Tag b → IsTold me.geometry.wide me.who (r me.who) b → KeptAt me w r (Load at) f (λ n m. Unit {0}) (spot_at me.geometry (classes w) at) }
+    ensures word { (me : AMe) (w : ASpot → ℕ) (r : ℕ → AMemo) (f : Frame) (tr : Trail) (at b i : ℕ) → Stands me w r f tr → spot_at me.geometry (classes w) at ≡ Body b i → IsCovered me.geometry.wide me.who (r me.who) at → MayLook me.geometry.wide me.who (r me.who) b i → KeptAt me w r (Load at) f (λ n m. Unit {0}) (spot_at me.geometry (classes w) at) }
     ensures lost { (me : AMe) (w : ASpot → ℕ) (r : ℕ → AMemo) (f : Frame) (tr : Trail) (at from to b : ℕ) → Stands me w r f tr → spot_at me.geometry (classes w) at ≡ Head b → w (Head b) ≢ from → KeptAt me w r (Exchange at from to) f (λ n m. Unit {0}) (spot_at me.geometry (classes w) at) }
 {}

@@ -18,8 +18,8 @@ ghost use Rattle.shm_steps.specs.Walking.{IsWalking};
 /// partition that the memo's change computes is the one that the words hold once the step is committed, and its map is what the step
 /// makes of the map before.
 pub fn table_steps()
-    ensures part { (g : AGeometry) (w : ASpot → ℕ) (r : ℕ → AMemo) (c : ℕ) → HeldAt g w (view r) → c < g.clients → (p : ASpot) (old new : ℕ) → Begins (r c).op p old new → TableStep c (sight c (r c)) p old new → IsReparted g w (view r) c (r c) p new }
-    ensures map { (g : AGeometry) (w : ASpot → ℕ) (r : ℕ → AMemo) (c : ℕ) → HeldAt g w (view r) → c < g.clients → (p : ASpot) (old new : ℕ) → Begins (r c).op p old new → (s : TableStep c (sight c (r c)) p old new) → is_loose (r c).part ≡ false → (k : ℕ) → map_in (part_set (r c).known c (cover (On p new) (Home c) (own_word (r c).own (Home c))) p new (r c).part) k ≡ map_after c (sight c (r c)) p old new s (map_in (r c).part) k }
+    ensures part { (g : AGeometry) (w : ASpot → ℕ) (r : ℕ → AMemo) (c : ℕ) → HeldAt g w (view r) → c < g.clients → (p : ASpot) (old new : ℕ) → Begins (r c).op p old new → TableStep g.wide c (sight c (r c)) p old new → IsReparted g w (view r) c (r c) p new }
+    ensures map { (g : AGeometry) (w : ASpot → ℕ) (r : ℕ → AMemo) (c : ℕ) → HeldAt g w (view r) → c < g.clients → (p : ASpot) (old new : ℕ) → Begins (r c).op p old new → (s : TableStep g.wide c (sight c (r c)) p old new) → is_loose (r c).part ≡ false → (k : ℕ) → map_in (part_set (r c).known c (cover (On p new) (Home c) (own_word (r c).own (Home c))) p new (r c).part) k ≡ map_after g.wide c (sight c (r c)) p old new s (map_in (r c).part) k }
 {}
 
 /// A walk along a chain of the own partition: it begins where the word of a bucket is known, a known key word is the key of the entry at

@@ -137,6 +137,7 @@ calm_told key home (event.Free c b) f t = t
 quiet_step : (me : Me) (x : Aim) (p : Spot) (y : StepPoint) (n : ℕ) → exchanging_at y n ≡ false → step_event_at me x p y n ≡ event.Nothing
 quiet_step me x p (point.Exchange e h w) n f = ap (λ z. if z then event_of_half me x p h else event.Nothing) f
 quiet_step me x p point.Era n f = refl
+quiet_step me x p (point.More e) n f = refl
 quiet_step me x p (point.Redo e) n f = refl
 quiet_step me x p (point.Load e h) n f = refl
 quiet_step me x p (point.Row e h w) n f = refl
@@ -153,6 +154,7 @@ any_step P me x p (point.Exchange e h w) n f z = go (n == w)
     go true = f h
     go false = z
 any_step P me x p point.Era n f z = z
+any_step P me x p (point.More e) n f z = z
 any_step P me x p (point.Redo e) n f z = z
 any_step P me x p (point.Load e h) n f z = z
 any_step P me x p (point.Row e h w) n f z = z
@@ -264,20 +266,20 @@ entry_apart me key v n home first k b next value r0 r h same = go h.holds
         let l = h.may.who in
         let quiet : cover_of (rs me.who).op ≡ cover_of Nothing = ap (λ (x : Memo). cover_of x.op) at ∙ ap cover_of h.keeps.idle.op in
         let vacant : IsVacant me.who (rs me.who) key first = subst (λ (x : Memo). IsVacant me.who x key first) (sym at) h.vacant in
-        let tagged : IsTagged me.who (sight me.who (rs me.who)) b 2 1 = subst (λ (x : Memo). IsTagged me.who (sight me.who x) b 2 1) (sym at) h.coming.entry.tagged in
+        let tagged : IsTagged me.geometry.wide me.who (sight me.who (rs me.who)) b 2 1 = subst (λ (x : Memo). IsTagged me.geometry.wide me.who (sight me.who x) b 2 1) (sym at) h.coming.entry.tagged in
         let directory : own_word (rs me.who).own (Home me.who) ≡ home = ap (λ (x : Memo). own_word x.own (Home me.who)) at ∙ h.directory in
         let entry = (tagged_own me.geometry w rs me.who held l b 2 1 tagged).shape.names in
         let shape = (partition_of w rs held l quiet vacant.table).shape vacant.some in
         let other = shape.names in
         let is : b ≡ own_word (rs me.who).own (Home me.who) = same ∙ sym directory in
-        let two = ap (λ (i : ℕ). tag_refs (w (Tag i))) is in
+        let two = ap (λ (i : ℕ). tag_refs me.geometry.wide (w (Tag i))) is in
         omega arith
       where
         partition_of : (w : Spot → ℕ) (rs : ℕ → Memo) (held : HeldAt me.geometry w (view rs)) (l : me.who < me.geometry.clients) → cover_of (rs me.who).op ≡ cover_of Nothing → is_loose (rs me.who).part ≡ false
-            → IsPartition (contents_of w (targets me.geometry w (view rs))) me.who (own_word (rs me.who).own (Home me.who)) (chain_in (rs me.who).part)
-        partition_of w rs held l quiet table = subst (λ a. IsPartition (contents_of w (targets me.geometry w (view rs))) me.who a (chain_in (rs me.who).part)) (home_so me.geometry w rs me.who held l quiet) (of (rs me.who).part table (held.part me.who l))
+            → IsPartition (contents_of me.geometry.wide w (targets me.geometry w (view rs))) me.who (own_word (rs me.who).own (Home me.who)) (chain_in (rs me.who).part)
+        partition_of w rs held l quiet table = subst (λ a. IsPartition (contents_of me.geometry.wide w (targets me.geometry w (view rs))) me.who a (chain_in (rs me.who).part)) (home_so me.geometry w rs me.who held l quiet) (of (rs me.who).part table (held.part me.who l))
           where
-            of : (y : Part) → is_loose y ≡ false → PartTie (contents_of w (targets me.geometry w (view rs))) me.who (targets me.geometry w (view rs) (Home me.who)) y → IsPartition (contents_of w (targets me.geometry w (view rs))) me.who (targets me.geometry w (view rs) (Home me.who)) (chain_in y)
+            of : (y : Part) → is_loose y ≡ false → PartTie (contents_of me.geometry.wide w (targets me.geometry w (view rs))) me.who (targets me.geometry w (view rs) (Home me.who)) y → IsPartition (contents_of me.geometry.wide w (targets me.geometry w (view rs))) me.who (targets me.geometry w (view rs) (Home me.who)) (chain_in y)
             of Loose e tie = absurd (true≢false e)
             of (Table chains) e tie = tie
 

@@ -2,13 +2,13 @@
 pub mod Control
 pub mod Laws
 pub mod Bound
-use Rattle.std.specs.Prelude.{◌≡◌, ◌≢◌, ℕ, ◌+◌, ◌*◌, ◌<◌, ◌⊎◌, false, Option, Some, None, List, [], ◌∷◌, length}
+use Rattle.std.specs.Prelude.{◌≡◌, ◌≢◌, ℕ, ◌+◌, ◌*◌, ◌<◌, ◌⊎◌, false, Option, Some, None, List, [], ◌∷◌, length, Bool}
 use Rattle.std.specs.List.{All, Contains}
 use Rattle.shm_graph.specs.declared.ask.Me.{Me}
 use Rattle.shm_graph.specs.declared.memo.Memo.{Memo}
 use Rattle.shm_graph.specs.declared.spot.Spot.TheVariants.{Home, Root}
 use Rattle.shm_graph.specs.Asks.{Trail, IsWithin}
-use Rattle.shm_graph.specs.Bounds.{tear_steps}
+use Rattle.shm_graph.specs.Bounds.{tear_steps, redo_steps}
 use Rattle.shm_graph.specs.Events.{Event}
 use Rattle.shm_graph.specs.Events as event
 use Rattle.shm_graph.specs.Views.{own_word}
@@ -73,18 +73,18 @@ pub record IsCopied (me : Me) (key a other n k b : ℕ) (f : Option PutFault) (r
   pub search : (keys ≡ 0) ⊎ HasSearch me me.who key keys tr
   pub left : List Visit
   pub dying : All (λ (x : Visit). Contains r.dying x.block) left
-  pub bound : IsWithin (fetch_steps + 2 * source.read + put_root_steps me.geometry.segments + 2 * keys + tear_steps (frees es + length left)) tr
+  pub bound : IsWithin (fetch_steps me.geometry.wide + 2 * source.read + put_root_steps me.geometry.wide me.geometry.segments + 2 * keys + tear_steps me.geometry.wide (frees es + length left)) tr
 
 abbrev pub CopyKnows : CopyState → CopyPoint → Memo → Memo → Trail → List Event → Type 0
 CopyKnows m Fetch r0 r tr es = MayCopy m.me m.key m.author r0 × (r ≡ r0) × (tr ≡ []) × (es ≡ [])
-CopyKnows m Put r0 r tr es = MayCopy m.me m.key m.author r0 × IsRooted m.me m.author m.other m.root m.block m.number None fetch_steps r0 r tr es
+CopyKnows m Put r0 r tr es = MayCopy m.me m.key m.author r0 × IsRooted m.me m.author m.other m.root m.block m.number None (fetch_steps m.me.geometry.wide) r0 r tr es
 CopyKnows m Drop r0 r tr es = IsCopied m.me m.key m.author m.other m.number m.root m.block m.refused r0 r tr es × (m.decided ≡ false → SameMap r0 r)
 
 -- ---- what it leaves
 
 -- the reading of the other key and the root, the rest of a put, and the drop of the root
-abbrev pub copy_steps : ℕ → ℕ
-copy_steps g = fetch_steps + put_root_steps g + 9
+abbrev pub copy_steps : Bool → ℕ → ℕ
+copy_steps wide g = fetch_steps wide + put_root_steps wide g + (8 + redo_steps wide)
 
 -- the key has the value block b that the other key has, with its number n, and no other key changed
 pub record Copied (me : Me) (key a other n b : ℕ) (r0 r : Memo) (tr : Trail) (es : List Event) : Type 0 where
@@ -100,7 +100,7 @@ pub record Copied (me : Me) (key a other n b : ℕ) (r0 r : Memo) (tr : Trail) (
   pub search : (keys ≡ 0) ⊎ HasSearch me me.who key keys tr
   pub left : List Visit
   pub dying : All (λ (x : Visit). Contains r.dying x.block) left
-  pub bound : IsWithin (copy_steps me.geometry.segments + 2 * source.read + 2 * keys + tear_steps (frees es + length left)) tr
+  pub bound : IsWithin (copy_steps me.geometry.wide me.geometry.segments + 2 * source.read + 2 * keys + tear_steps me.geometry.wide (frees es + length left)) tr
 
 -- it was refused: the map, the latches and the queues are as before, and so are roots and zero-count blocks, unless the own era was spent
 pub record NotCopied (me : Me) (key a other : ℕ) (r0 r : Memo) (tr : Trail) (es : List Event) (f : PutFault) : Type 0 where
@@ -115,7 +115,7 @@ pub record NotCopied (me : Me) (key a other : ℕ) (r0 r : Memo) (tr : Trail) (e
   pub search : (keys ≡ 0) ⊎ HasSearch me me.who key keys tr
   pub left : List Visit
   pub dying : All (λ (x : Visit). Contains r.dying x.block) left
-  pub bound : IsWithin (copy_steps me.geometry.segments + 2 * read + 2 * keys + tear_steps (frees es + length left)) tr
+  pub bound : IsWithin (copy_steps me.geometry.wide me.geometry.segments + 2 * read + 2 * keys + tear_steps me.geometry.wide (frees es + length left)) tr
 
 abbrev pub CopyLeaves : CopyState → Memo → Memo → Trail → List Event → Answer → Type 0
 CopyLeaves m r0 r tr es (answer.Value n b) = Copied m.me m.key m.author m.other n b r0 r tr es

@@ -10,7 +10,7 @@ use Rattle.shm_graph.specs.declared.memo.Memo.{Memo}
 use Rattle.shm_graph.specs.declared.spot.Spot.TheVariants.{Home}
 use Rattle.shm_graph.specs.Agents.{recovers}
 use Rattle.shm_graph.specs.Asks.{Trail, IsWithin}
-use Rattle.shm_graph.specs.Bounds.{tear_steps}
+use Rattle.shm_graph.specs.Bounds.{tear_steps, redo_steps}
 use Rattle.shm_graph.specs.Events.{Event}
 use Rattle.shm_graph.specs.Held.{is_loose}
 use Rattle.shm_graph.specs.Idle.{IsIdle}
@@ -82,7 +82,7 @@ pub record Deleted (me : Me) (key steps : ℕ) (m r : Memo) (tr : Trail) (es : L
   pub dying : All (λ (x : Visit). Contains r.dying x.block) left
   pub ended : Ended me.who m r
   pub events : UnlinkEvents me entry before word es left
-  pub bound : IsWithin (steps + 2 * keys_read searched.read (At entry before word) + tear_steps (frees es + length left)) tr
+  pub bound : IsWithin (steps + 2 * keys_read searched.read (At entry before word) + tear_steps me.geometry.wide (frees es + length left)) tr
 
 -- no entry has the key, as the words show that were read, and the partition
 pub record WasMissing (me : Me) (key steps : ℕ) (m r : Memo) (tr : Trail) (es : List Event) : Type 0 where
@@ -136,7 +136,7 @@ pub record IsSettled (me : Me) (key : ℕ) (r0 r : Memo) (tr : Trail) (es : List
   pub idle : IsIdle me.who r
   pub latch : r.latch ≡ Some me.who
   pub holds : IsHeld me r
-  pub says : DelSays me key 18 r0 r tr es a
+  pub says : DelSays me key (17 + redo_steps me.geometry.wide) r0 r tr es a
 
 abbrev pub DelKnows : DelState → DelPoint → Memo → Memo → Trail → List Event → Type 0
 DelKnows m Search r0 r tr es = MayDel m.me r0 × (m.answer ≡ answer.Missing) × (r ≡ r0) × (tr ≡ []) × (es ≡ [])
@@ -147,7 +147,7 @@ DelKnows m Back r0 r tr es = IsSettled m.me m.key r0 r tr es m.answer
 
 -- no latch is held
 abbrev pub DelLeaves : DelState → Memo → Memo → Trail → List Event → Answer → Type 0
-DelLeaves m r0 r tr es a = (r.latch ≡ None) × DelSays m.me m.key 20 r0 r tr es a
+DelLeaves m r0 r tr es a = (r.latch ≡ None) × DelSays m.me m.key (19 + redo_steps m.me.geometry.wide) r0 r tr es a
 
 -- ---- the plan
 

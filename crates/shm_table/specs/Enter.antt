@@ -3,7 +3,7 @@ pub mod Control
 pub mod Steps
 pub mod Memos
 pub mod Laws
-use Rattle.std.specs.Prelude.{◌≡◌, ◌≢◌, ℕ, zero, suc, ◌+◌, ◌*◌, ◌%◌, ◌^◌, ◌<◌, ◌⊎◌, false, List, [], ◌∷◌}
+use Rattle.std.specs.Prelude.{◌≡◌, ◌≢◌, ℕ, zero, suc, ◌+◌, ◌*◌, ◌%◌, ◌^◌, ◌<◌, ◌⊎◌, false, List, [], ◌∷◌, Bool}
 use Rattle.shm_words.specs.Layout.{GeometryFits}
 use Rattle.shm_graph.specs.declared.ask.Me.{Me}
 use Rattle.shm_graph.specs.declared.memo.Memo.{Memo}
@@ -69,8 +69,8 @@ abbrev pub linked_events : ℕ → ℕ → ℕ → ℕ → ℕ → ℕ → ℕ �
 linked_events c k b v home key first = event.Alloc c k b ∷ event.Up c (spot.Body b 1) v ∷ link_events c b home key first
 
 -- an allocation of at most so many segments, two steps up and a change
-abbrev pub enter_steps : ℕ → ℕ
-enter_steps g = alloc_steps g + 2 * up_steps + change_steps
+abbrev pub enter_steps : Bool → ℕ → ℕ
+enter_steps wide g = alloc_steps wide g + 2 * up_steps wide + change_steps wide
 
 -- ---- on the way
 
@@ -87,7 +87,7 @@ pub record IsMade (me : Me) (key v n home first k b next value : ℕ) (r0 r : Me
   pub dying : r.dying ≡ r0.dying
   pub map : SameMap r0 r
   pub vacant : IsVacant me.who r key first
-  pub coming : IsComing me.who r k b key next value
+  pub coming : IsComing me.geometry.wide me.who r k b key next value
 
 -- for the number of the value block
 abbrev pub IsOnTheWay : EnterState → ℕ → ℕ → Memo → Memo → Type 0
@@ -95,10 +95,10 @@ IsOnTheWay m next value r0 r = (n : ℕ) × IsMade m.me m.key m.value n m.home m
 
 abbrev pub EnterKnows : EnterState → EnterPoint → Memo → Memo → Trail → List Event → Type 0
 EnterKnows m Make r0 r tr es = ((n : ℕ) × MayEnter m.me m.key m.value n m.home m.first r0) × (r ≡ r0) × (tr ≡ []) × (es ≡ [])
-EnterKnows m Value r0 r tr es = IsOnTheWay m 0 0 r0 r × (es ≡ made_events m.me.who m.root m.entry) × IsWithin (alloc_steps m.me.geometry.segments) tr
-EnterKnows m Next r0 r tr es = (m.first ≢ 0) × IsOnTheWay m 0 m.value r0 r × (es ≡ valued_events m.me.who m.root m.entry m.value) × IsWithin (alloc_steps m.me.geometry.segments + up_steps) tr
-EnterKnows m Link r0 r tr es = (m.first ≡ 0) × IsOnTheWay m 0 m.value r0 r × (es ≡ valued_events m.me.who m.root m.entry m.value) × IsWithin (alloc_steps m.me.geometry.segments + up_steps) tr
-EnterKnows m Change r0 r tr es = (m.first ≢ 0) × IsOnTheWay m m.first m.value r0 r × (es ≡ followed_events m.me.who m.root m.entry m.value m.first) × IsWithin (alloc_steps m.me.geometry.segments + 2 * up_steps) tr
+EnterKnows m Value r0 r tr es = IsOnTheWay m 0 0 r0 r × (es ≡ made_events m.me.who m.root m.entry) × IsWithin (alloc_steps m.me.geometry.wide m.me.geometry.segments) tr
+EnterKnows m Next r0 r tr es = (m.first ≢ 0) × IsOnTheWay m 0 m.value r0 r × (es ≡ valued_events m.me.who m.root m.entry m.value) × IsWithin (alloc_steps m.me.geometry.wide m.me.geometry.segments + up_steps m.me.geometry.wide) tr
+EnterKnows m Link r0 r tr es = (m.first ≡ 0) × IsOnTheWay m 0 m.value r0 r × (es ≡ valued_events m.me.who m.root m.entry m.value) × IsWithin (alloc_steps m.me.geometry.wide m.me.geometry.segments + up_steps m.me.geometry.wide) tr
+EnterKnows m Change r0 r tr es = (m.first ≢ 0) × IsOnTheWay m m.first m.value r0 r × (es ≡ followed_events m.me.who m.root m.entry m.value m.first) × IsWithin (alloc_steps m.me.geometry.wide m.me.geometry.segments + 2 * up_steps m.me.geometry.wide) tr
 
 -- ---- what it leaves
 
@@ -116,7 +116,7 @@ pub record IsLinked (me : Me) (key v home first k : ℕ) (m r : Memo) (tr : Trai
   pub dying : r.dying ≡ m.dying
   pub map : (n : ℕ) → IsValue (sight me.who m) v n → MapSet key n v m r
   pub events : es ≡ linked_events me.who k entry v home key first
-  pub bound : IsWithin (enter_steps me.geometry.segments) tr
+  pub bound : IsWithin (enter_steps me.geometry.wide me.geometry.segments) tr
 
 -- of the steps up at an entry that isn't linked these were done: none, the one of the value word, or both
 abbrev pub IsHalfMade : ℕ → ℕ → ℕ → ℕ → ℕ → List Event → Type 0
@@ -137,7 +137,7 @@ pub record IsUnlinked (me : Me) (key v home first k : ℕ) (m r : Memo) (tr : Tr
   pub map : SameMap m r
   pub cause : PutCause me m r f
   pub events : IsHalfMade me.who k entry v first es
-  pub bound : IsWithin (enter_steps me.geometry.segments) tr
+  pub bound : IsWithin (enter_steps me.geometry.wide me.geometry.segments) tr
 
 -- no block was made
 pub record IsUnmade (me : Me) (home : ℕ) (m r : Memo) (tr : Trail) (es : List Event) (f : PutFault) : Type 0 where
@@ -148,7 +148,7 @@ pub record IsUnmade (me : Me) (home : ℕ) (m r : Memo) (tr : Trail) (es : List 
   pub map : SameMap m r
   pub cause : PutCause me m r f
   pub none : es ≡ []
-  pub bound : IsWithin (alloc_steps me.geometry.segments) tr
+  pub bound : IsWithin (alloc_steps me.geometry.wide me.geometry.segments) tr
 
 abbrev pub EnterLeaves : EnterState → Memo → Memo → Trail → List Event → Entered → Type 0
 EnterLeaves m r0 r tr es (Linked k) = IsLinked m.me m.key m.value m.home m.first k r0 r tr es

@@ -113,7 +113,7 @@ module _ (me : Me) (m : Memo) (l : me.who < me.geometry.clients) (idle : m.op �
       (subst (λ (y : Memo). j ≡ 0 → n ≢ 0 → y.looks ≡ m.looks ++ record { block = n; from = Body b j } ∷ []) (sym here) look))
 
   -- the next word or the value word
-  pub entry_load : (first : Bool) (j : ℕ) → j < 2 → (0 < b + 2 + j) × (b + 2 + j < total_of me.geometry) → IsLatchedWord me.who m b j
+  pub entry_load : (first : Bool) (j : ℕ) → j < 2 → (0 < b + 2 + j) × (b + 2 + j < total_of me.geometry) → IsLatchedWord me.geometry.wide me.who m b j
       → IsWord first me (Load (b + 2 + j)) (λ r n x. ReferenceLoaded b j r n x × EntryRead me.who key b j r n x) (word_for me (Load (b + 2 + j))) m
   entry_load first j low inside word =
       word_held first me (Load (b + 2 + j)) (ReferenceLoaded b j) (λ r n x. ReferenceLoaded b j r n x × EntryRead me.who key b j r n x) (word_for me (Load (b + 2 + j))) m
@@ -121,7 +121,7 @@ module _ (me : Me) (m : Memo) (l : me.who < me.geometry.clients) (idle : m.op �
       (reference_load first me m l b j inside word (idle_settled m (Body b j) idle))
 
   -- the key word
-  pub key_load : (first : Bool) → (0 < b + 2 + 2) × (b + 2 + 2 < total_of me.geometry) → IsPlainWord me.who m b 2
+  pub key_load : (first : Bool) → (0 < b + 2 + 2) × (b + 2 + 2 < total_of me.geometry) → IsPlainWord me.geometry.wide me.who m b 2
       → IsWord first me (Load (b + 2 + 2)) (λ r n x. WordLoaded (Body b 2) r n x × EntryRead me.who key b 2 r n x) (word_for me (Load (b + 2 + 2))) m
   key_load first inside word =
       word_held first me (Load (b + 2 + 2)) (WordLoaded (Body b 2)) (λ r n x. WordLoaded (Body b 2) r n x × EntryRead me.who key b 2 r n x) (word_for me (Load (b + 2 + 2))) m
@@ -136,7 +136,7 @@ abbrev pub EntryReads : Me → ℕ → ℕ → Memo → ℕ → Memo → Type 0
 EntryReads me b j r n x = ReferenceLoaded b j r n x × ((key : ℕ) → EntryRead me.who key b j r n x)
 
 -- the next word or the value word, where the key isn't told
-pub entry_loads : (me : Me) (m : Memo) → me.who < me.geometry.clients → m.op ≡ Nothing → (b : ℕ) (first : Bool) (j : ℕ) → j < 2 → (0 < b + 2 + j) × (b + 2 + j < total_of me.geometry) → IsLatchedWord me.who m b j
+pub entry_loads : (me : Me) (m : Memo) → me.who < me.geometry.clients → m.op ≡ Nothing → (b : ℕ) (first : Bool) (j : ℕ) → j < 2 → (0 < b + 2 + j) × (b + 2 + j < total_of me.geometry) → IsLatchedWord me.geometry.wide me.who m b j
     → IsWord first me (Load (b + 2 + j)) (EntryReads me b j) (word_for me (Load (b + 2 + j))) m
 entry_loads me m l idle b first j low inside word =
     word_held first me (Load (b + 2 + j)) (ReferenceLoaded b j) (EntryReads me b j) (word_for me (Load (b + 2 + j))) m

@@ -46,7 +46,7 @@ pub record ValueSteps (me : Me) (key at old : ℕ) (x : Memo) : Type 0 where
   pub same : (v n : ℕ) → old ≡ v → IsValue (sight me.who x) v n → map_in x.part key ≡ Some (n, v)
   pub can : (v n : ℕ) → old ≢ v → IsValue (sight me.who x) v n → is_reached me.who x v ≡ true → CanStep me (spot_address me.geometry (Body at 1)) (Change old v) (Body at 1) x
   pub map : (v n : ℕ) → old ≢ v → IsValue (sight me.who x) v n → (k : ℕ) → map_in (part_after me.who (sight me.who x) (Body at 1) v) k ≡ (if key == k then Some (n, v) else map_in x.part k)
-  pub own : IsOwnWord me.who x at 1 old
+  pub own : IsOwnWord me.geometry.wide me.who x at 1 old
 
 -- its next word was read and names `next`: the word that leads to the entry may come to name that, by which the key goes
 pub record LinkSteps (me : Me) (key at d i next : ℕ) (x : Memo) : Type 0 where
@@ -54,7 +54,7 @@ pub record LinkSteps (me : Me) (key at d i next : ℕ) (x : Memo) : Type 0 where
   pub last : next ≡ 0 → CanStep me (spot_address me.geometry (Body d i)) (Down at) (Body d i) x
   pub goes : next ≢ 0 → CanStep me (spot_address me.geometry (Body d i)) (Change at next) (Body d i) x
   pub map : (k : ℕ) → map_in (part_after me.who (sight me.who x) (Body d i) next) k ≡ (if key == k then None else map_in x.part k)
-  pub own : IsOwnWord me.who x d i at
+  pub own : IsOwnWord me.geometry.wide me.who x d i at
 
 -- ---- in a held state
 
@@ -70,7 +70,7 @@ module _ (me : Me) (w : Spot → ℕ) (r : ℕ → Memo) (held : HeldAt me.geome
       let there : IsKnown s (Body e.block 1) old = subst (λ b. IsKnown s (Body b 1) old) seeks.walk.starts known in
       let valued : e.value ≡ old = entry_valued g w r c held who quiet seeks.table key old xs e ys has.0 there in
       let role = seeks.here (entry_some g w r c held who quiet seeks.table key (Body d i) at xs e ys seeks.walk) in
-      let own : IsOwnWord c (r me.who) at 1 old = entry_word c (r me.who) at 1 old seeks.latch role.0 (look_reached c (r me.who) at role.1) (omega arith) known in
+      let own : IsOwnWord me.geometry.wide c (r me.who) at 1 old = entry_word me.geometry.wide c (r me.who) at 1 old seeks.latch role.0 (look_reached c (r me.who) at role.1) (omega arith) known in
       let slot : SlotHas g w r c (Body at 1) old = own_word_has g w r c held who at 1 old own in
       record {
         some = value_some g w r c held who quiet seeks.table key old xs e ys has.0 there;
@@ -89,7 +89,7 @@ module _ (me : Me) (w : Spot → ℕ) (r : ℕ → Memo) (held : HeldAt me.geome
       let quiet = ap cover_of idle in
       let has = walk_has s key (Body d i) at xs e ys seeks.walk found in
       let some : at ≢ 0 = entry_some g w r c held who quiet seeks.table key (Body d i) at xs e ys seeks.walk in
-      let own : IsOwnWord c (r me.who) d i at = seek_own c (r me.who) key first (Body d i) at d i xs (e ∷ ys) idle seeks refl in
+      let own : IsOwnWord me.geometry.wide c (r me.who) d i at = seek_own me.geometry.wide c (r me.who) key first (Body d i) at d i xs (e ∷ ys) idle seeks refl in
       let slot : SlotHas g w r c (Body d i) at = own_word_has g w r c held who d i at own in
       let other : at ≢ next = elim (cases_eq next 0) [
         | inl z ↦ λ y. some (y ∙ z)

@@ -2,7 +2,7 @@
 pub mod Control
 pub mod Steps
 pub mod Laws
-use Rattle.std.specs.Prelude.{◌≡◌, ◌≢◌, ℕ, ◌+◌, ◌*◌, ◌^◌, ◌<◌, true, false, Option, Some, None, List, [], ◌∷◌}
+use Rattle.std.specs.Prelude.{◌≡◌, ◌≢◌, ℕ, ◌+◌, ◌*◌, ◌<◌, true, false, Option, Some, None, List, [], ◌∷◌, Bool}
 use Rattle.std.specs.List.{Contains}
 use Rattle.shm_words.specs.Layout.{address_limit}
 use Rattle.shm_graph.specs.declared.ask.Me.{Me}
@@ -107,14 +107,14 @@ pub record IsRooted (me : Me) (a key k v n : ℕ) (taken : Option ℕ) (steps : 
   pub bound : IsWithin (steps + 2 * keys) tr
 
 -- the latch with the search, the two loads, the root
-abbrev pub rooted_steps : ℕ
-rooted_steps = 4 + 2 + (up_steps + 16)
+abbrev pub rooted_steps : Bool → ℕ
+rooted_steps wide = 4 + 2 + (up_steps wide + 16)
 
 -- what is known before the latch is given back, by what is to be answered
 abbrev pub GiveKnows : FetchState → Fetched → Memo → Memo → Trail → List Event → Type 0
 GiveKnows m Missing r0 r tr es = IsNowhere m.me m.author m.key r0 r tr es
-GiveKnows m (Refused f) r0 r tr es = IsUnrooted m.me m.author m.key f (Some m.author) rooted_steps r0 r tr es
-GiveKnows m (Rooted k b n) r0 r tr es = IsRooted m.me m.author m.key k b n (Some m.author) rooted_steps r0 r tr es
+GiveKnows m (Refused f) r0 r tr es = IsUnrooted m.me m.author m.key f (Some m.author) (rooted_steps m.me.geometry.wide) r0 r tr es
+GiveKnows m (Rooted k b n) r0 r tr es = IsRooted m.me m.author m.key k b n (Some m.author) (rooted_steps m.me.geometry.wide) r0 r tr es
 
 abbrev pub FetchKnows : FetchState → FetchPoint → Memo → Memo → Trail → List Event → Type 0
 FetchKnows m Search r0 r tr es = MayFetch m.me m.author r0 × (r ≡ r0) × (tr ≡ []) × (es ≡ [])
@@ -126,13 +126,13 @@ FetchKnows m Give r0 r tr es = GiveKnows m m.outcome r0 r tr es
 -- ---- what it leaves
 
 -- all that it makes besides two word steps for each entry whose key is read
-abbrev pub fetch_steps : ℕ
-fetch_steps = rooted_steps + 2
+abbrev pub fetch_steps : Bool → ℕ
+fetch_steps wide = rooted_steps wide + 2
 
 abbrev pub FetchLeaves : FetchState → Memo → Memo → Trail → List Event → Fetched → Type 0
 FetchLeaves m r0 r tr es Missing = GotNone m.me m.author m.key r0 r tr es
-FetchLeaves m r0 r tr es (Refused f) = IsUnrooted m.me m.author m.key f None fetch_steps r0 r tr es
-FetchLeaves m r0 r tr es (Rooted k b n) = IsRooted m.me m.author m.key k b n None fetch_steps r0 r tr es
+FetchLeaves m r0 r tr es (Refused f) = IsUnrooted m.me m.author m.key f None (fetch_steps m.me.geometry.wide) r0 r tr es
+FetchLeaves m r0 r tr es (Rooted k b n) = IsRooted m.me m.author m.key k b n None (fetch_steps m.me.geometry.wide) r0 r tr es
 
 -- ---- the plan
 

@@ -1,7 +1,7 @@
 -- giving the value block at the head of a queue a root as a plan: what is known before each call, and what is left
 pub mod Control
 pub mod Laws
-use Rattle.std.specs.Prelude.{◌≡◌, ◌≢◌, ℕ, ◌+◌, ◌%◌, ◌^◌, ◌<◌, false, List, [], ◌∷◌}
+use Rattle.std.specs.Prelude.{◌≡◌, ◌≢◌, ℕ, ◌+◌, ◌%◌, ◌<◌, false, List, [], ◌∷◌, Bool}
 use Rattle.std.specs.List.{Contains}
 use Rattle.shm_words.specs.Layout.{total_of, address_limit}
 use Rattle.shm_graph.specs.declared.ask.Me.{Me}
@@ -77,8 +77,8 @@ FetchHeadKnows m Share r0 r tr es = IsNumbered m.me m.from m.at m.block m.number
 -- ---- what it leaves
 
 -- four loads, and the root
-abbrev pub fetch_head_steps : ℕ
-fetch_head_steps = 4 + (up_steps + 16)
+abbrev pub fetch_head_steps : Bool → ℕ
+fetch_head_steps wide = 4 + (up_steps wide + 16)
 
 -- the value block got no root for this reason: nothing else was done but reading
 pub record IsHeadUnrooted (me : Me) (f : PutFault) (r0 r : Memo) (tr : Trail) (es : List Event) : Type 0 where
@@ -88,7 +88,7 @@ pub record IsHeadUnrooted (me : Me) (f : PutFault) (r0 r : Memo) (tr : Trail) (e
   pub cause : PutCause me r0 r f
   pub cleared : Cleared me.who r0 r
   pub none : es ≡ []
-  pub bound : IsWithin fetch_head_steps tr
+  pub bound : IsWithin (fetch_head_steps me.geometry.wide) tr
 
 -- Root k, which was empty, names the value block b with the number v, which is item n of the queue from s and waits there; nothing else was done but reading, and the item and its number are known still
 pub record IsHeadRooted (me : Me) (s k b v n : ℕ) (r0 r : Memo) (tr : Trail) (es : List Event) : Type 0 where
@@ -108,7 +108,7 @@ pub record IsHeadRooted (me : Me) (s k b v n : ℕ) (r0 r : Memo) (tr : Trail) (
   pub events : es ≡ event.Up me.who (spot.Root me.who k) b ∷ []
   pub q : Memo
   pub source : IsAtHead me s n b v r0 q
-  pub bound : IsWithin fetch_head_steps tr
+  pub bound : IsWithin (fetch_head_steps me.geometry.wide) tr
 
 abbrev pub FetchHeadLeaves : FetchHeadState → Memo → Memo → Trail → List Event → FetchedHead → Type 0
 FetchHeadLeaves m r0 r tr es (Empty n) = TakeEmpty m.me m.from n r0 r tr es

@@ -1,3 +1,4 @@
+pub mod Costs
 pub mod Answers
 pub mod Staying
 pub mod Find

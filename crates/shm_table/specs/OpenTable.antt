@@ -9,7 +9,7 @@ use Rattle.shm_graph.specs.declared.memo.Memo.{Memo}
 use Rattle.shm_graph.specs.declared.spot.Spot.TheVariants.{Home}
 use Rattle.shm_graph.specs.Agents.{recovers}
 use Rattle.shm_graph.specs.Asks.{Trail, IsWithin}
-use Rattle.shm_graph.specs.Bounds.{alloc_steps, tear_steps, up_steps}
+use Rattle.shm_graph.specs.Bounds.{alloc_steps, tear_steps, up_steps, redo_steps}
 use Rattle.shm_graph.specs.Core.{core}
 use Rattle.shm_graph.specs.Events.{Event}
 use Rattle.shm_graph.specs.Events as event
@@ -84,12 +84,12 @@ pub record IsMade (me : Me) (k d : ℕ) (r0 r : Memo) (tr : Trail) (es : List Ev
   pub home : own_word r.own (Home me.who) ≡ 0
   pub part : r.part ≡ r0.part
   pub inside : IsInside me d
-  pub bare : IsBare me.who (sight me.who r) d
+  pub bare : IsBare me.geometry.wide me.who (sight me.who r) d
   pub made : Contains r.made d
   pub holds : IsHeld me r
   pub client : recovers r ≡ false
   pub told : es ≡ event.Alloc me.who k d ∷ []
-  pub bound : IsWithin (1 + alloc_steps me.geometry.segments) tr
+  pub bound : IsWithin (1 + alloc_steps me.geometry.wide me.geometry.segments) tr
 
 -- the home names it
 pub record IsNamed (me : Me) (k d : ℕ) (r0 r : Memo) (tr : Trail) (es : List Event) : Type 0 where
@@ -100,7 +100,7 @@ pub record IsNamed (me : Me) (k d : ℕ) (r0 r : Memo) (tr : Trail) (es : List E
   pub home : own_word r.own (Home me.who) ≡ d
   pub map : SameMap r0 r
   pub told : es ≡ event.Alloc me.who k d ∷ event.Up me.who (Home me.who) d ∷ []
-  pub bound : IsWithin (1 + alloc_steps me.geometry.segments + up_steps) tr
+  pub bound : IsWithin (1 + alloc_steps me.geometry.wide me.geometry.segments + up_steps me.geometry.wide) tr
 
 abbrev pub OpenKnows : OpenState → OpenPoint → Memo → Memo → Trail → List Event → Type 0
 OpenKnows m Look r0 r tr es = MayOpen m.me r0 × (r ≡ r0) × (tr ≡ []) × (es ≡ [])
@@ -124,7 +124,7 @@ pub record Opened (me : Me) (r0 r : Memo) (tr : Trail) (es : List Event) : Type 
   pub map : SameMap r0 r
   pub cleared : Cleared me.who r0 r
   pub events : OpenEvents me.who r0 es
-  pub bound : IsWithin (1 + alloc_steps me.geometry.segments + up_steps + 9 + tear_steps (frees es)) tr
+  pub bound : IsWithin (1 + alloc_steps me.geometry.wide me.geometry.segments + up_steps me.geometry.wide + (8 + redo_steps me.geometry.wide) + tear_steps me.geometry.wide (frees es)) tr
 
 -- What a refusal leaves, with these zero-count blocks that it left on the way: no directory was made; or root k keeps one that the home doesn't name; or the home names it, and the step down at that root, or one of a tear-down after it, was refused
 pub data OpenLeft (me : Me) (r0 r : Memo) (es : List Event) (vs : List Visit) (f : PutFault) : Type 0 where
@@ -141,7 +141,7 @@ pub record OpenRefused (me : Me) (r0 r : Memo) (tr : Trail) (es : List Event) (f
   pub cause : PutCause me r0 r f
   pub visits : List Visit
   pub left : OpenLeft me r0 r es visits f
-  pub bound : IsWithin (1 + alloc_steps me.geometry.segments + up_steps + 9 + tear_steps (frees es + length visits)) tr
+  pub bound : IsWithin (1 + alloc_steps me.geometry.wide me.geometry.segments + up_steps me.geometry.wide + (8 + redo_steps me.geometry.wide) + tear_steps me.geometry.wide (frees es + length visits)) tr
 
 abbrev pub OpenLeaves : OpenState → Memo → Memo → Trail → List Event → Result (Unit {0}) PutFault → Type 0
 OpenLeaves m r0 r tr es (Ok done) = Opened m.me r0 r tr es

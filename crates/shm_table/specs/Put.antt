@@ -3,14 +3,14 @@ pub mod Control
 pub mod Laws
 pub mod Bound
 pub mod Fresh
-use Rattle.std.specs.Prelude.{◌≡◌, ◌≢◌, ℕ, ◌+◌, ◌*◌, ◌^◌, ◌<◌, ◌⊎◌, false, Option, Some, None, List, [], ◌∷◌, length}
+use Rattle.std.specs.Prelude.{◌≡◌, ◌≢◌, ℕ, ◌+◌, ◌*◌, ◌^◌, ◌<◌, ◌⊎◌, false, Option, Some, None, List, [], ◌∷◌, length, Bool}
 use Rattle.std.specs.List.{All, Contains}
 use Rattle.shm_graph.specs.declared.ask.Me.{Me}
 use Rattle.shm_graph.specs.declared.memo.Memo.{Memo}
 use Rattle.shm_graph.specs.declared.spot.Spot.TheVariants.{Home}
 use Rattle.shm_graph.specs.Agents.{recovers}
 use Rattle.shm_graph.specs.Asks.{Trail, IsWithin}
-use Rattle.shm_graph.specs.Bounds.{alloc_steps, tear_steps}
+use Rattle.shm_graph.specs.Bounds.{alloc_steps, tear_steps, redo_steps}
 use Rattle.shm_graph.specs.Events.{Event}
 use Rattle.shm_graph.specs.Events as event
 use Rattle.shm_graph.specs.Views.{own_word}
@@ -57,7 +57,7 @@ pub record HasValue (me : Me) (key n k b : ℕ) (r0 r : Memo) (tr : Trail) (es :
   pub value : IsValue (sight me.who r) b n
   pub fresh : (i : ℕ) → map_in r0.part key ≡ Some (i, b) → ⊥
   pub told : es ≡ event.Alloc me.who k b ∷ []
-  pub bound : IsWithin (alloc_steps me.geometry.segments) tr
+  pub bound : IsWithin (alloc_steps me.geometry.wide me.geometry.segments) tr
 
 -- it is settled whether the key has it, and root k names it still; f is why not
 pub record IsPut (me : Me) (key n k b : ℕ) (f : Option PutFault) (r0 r : Memo) (tr : Trail) (es : List Event) : Type 0 where
@@ -74,7 +74,7 @@ pub record IsPut (me : Me) (key n k b : ℕ) (f : Option PutFault) (r0 r : Memo)
   pub search : (keys ≡ 0) ⊎ HasSearch me me.who key keys tr
   pub left : List Visit
   pub dying : All (λ (x : Visit). Contains r.dying x.block) left
-  pub bound : IsWithin (alloc_steps me.geometry.segments + put_root_steps me.geometry.segments + 2 * keys + tear_steps (frees es + length left)) tr
+  pub bound : IsWithin (alloc_steps me.geometry.wide me.geometry.segments + put_root_steps me.geometry.wide me.geometry.segments + 2 * keys + tear_steps me.geometry.wide (frees es + length left)) tr
 
 abbrev pub PutKnows : PutState → PutPoint → Memo → Memo → Trail → List Event → Type 0
 PutKnows m Make r0 r tr es = MayCommand m.me m.key r0 × (m.number < 2 ^ 64) × (r ≡ r0) × (tr ≡ []) × (es ≡ [])
@@ -84,8 +84,8 @@ PutKnows m Drop r0 r tr es = IsPut m.me m.key m.number m.root m.block m.refused 
 -- ---- what it leaves
 
 -- an allocation, the rest of a put, and the drop of a root
-abbrev pub put_steps : ℕ → ℕ
-put_steps g = alloc_steps g + put_root_steps g + 9
+abbrev pub put_steps : Bool → ℕ → ℕ
+put_steps wide g = alloc_steps wide g + put_root_steps wide g + (8 + redo_steps wide)
 
 -- the key has the number in value block b, which this call made, and no other key changed
 pub record PutStored (me : Me) (key n b : ℕ) (r0 r : Memo) (tr : Trail) (es : List Event) : Type 0 where
@@ -100,7 +100,7 @@ pub record PutStored (me : Me) (key n b : ℕ) (r0 r : Memo) (tr : Trail) (es : 
   pub search : (keys ≡ 0) ⊎ HasSearch me me.who key keys tr
   pub left : List Visit
   pub dying : All (λ (x : Visit). Contains r.dying x.block) left
-  pub bound : IsWithin (put_steps me.geometry.segments + 2 * keys + tear_steps (frees es + length left)) tr
+  pub bound : IsWithin (put_steps me.geometry.wide me.geometry.segments + 2 * keys + tear_steps me.geometry.wide (frees es + length left)) tr
 
 -- it was refused: the map, the latches and the queues are as before, and so are roots and zero-count blocks, unless the own era was spent
 pub record NotStored (me : Me) (key : ℕ) (r0 r : Memo) (tr : Trail) (es : List Event) (f : PutFault) : Type 0 where
@@ -113,7 +113,7 @@ pub record NotStored (me : Me) (key : ℕ) (r0 r : Memo) (tr : Trail) (es : List
   pub search : (keys ≡ 0) ⊎ HasSearch me me.who key keys tr
   pub left : List Visit
   pub dying : All (λ (x : Visit). Contains r.dying x.block) left
-  pub bound : IsWithin (put_steps me.geometry.segments + 2 * keys + tear_steps (frees es + length left)) tr
+  pub bound : IsWithin (put_steps me.geometry.wide me.geometry.segments + 2 * keys + tear_steps me.geometry.wide (frees es + length left)) tr
 
 abbrev pub PutLeaves : PutState → Memo → Memo → Trail → List Event → Answer → Type 0
 PutLeaves m r0 r tr es (answer.Stored b) = PutStored m.me m.key m.number b r0 r tr es

@@ -12,7 +12,7 @@ use Rattle.shm_graph.specs.declared.memo.Memo.{Memo}
 use Rattle.shm_graph.specs.declared.spot.Spot.TheVariants.{Body, Home}
 use Rattle.shm_graph.specs.Agents.{recovers}
 use Rattle.shm_graph.specs.Asks.{Trail, IsWithin}
-use Rattle.shm_graph.specs.Bounds.{alloc_steps, change_steps, tear_steps, up_steps}
+use Rattle.shm_graph.specs.Bounds.{alloc_steps, change_steps, tear_steps, up_steps, redo_steps}
 use Rattle.shm_graph.specs.Events.{Event}
 use Rattle.shm_graph.specs.Events as event
 use Rattle.shm_graph.specs.Held.{is_loose}
@@ -87,8 +87,8 @@ abbrev pub HasSearch : Me → ℕ → ℕ → ℕ → Trail → Type 0
 HasSearch me a key n tr = (before : Trail) × (middle : Trail) × (after : Trail) × (tr ≡ before ++ (middle ++ after)) × ((ps : List Passed) × (b : Found) × IsWhole me a key ps middle b × (n ≡ keys_read ps b))
 
 -- the directory, the latch, the search, a new entry or another value, the latch again, and the root of the entry
-abbrev pub put_root_steps : ℕ → ℕ
-put_root_steps g = (1 + alloc_steps g + up_steps + 9) + 2 + 2 + (enter_steps g + 1 + change_steps) + 2 + 9
+abbrev pub put_root_steps : Bool → ℕ → ℕ
+put_root_steps wide g = (1 + alloc_steps wide g + up_steps wide + (8 + redo_steps wide)) + 2 + 2 + (enter_steps wide g + 1 + change_steps wide) + 2 + (8 + redo_steps wide)
 
 -- ---- on the way
 
@@ -106,17 +106,17 @@ pub record IsPutting (me : Me) (key v : ℕ) (latch : Option ℕ) (r0 r : Memo) 
 pub record IsSearched (me : Me) (key steps : ℕ) (tr : Trail) (es : List Event) : Type 0 where
   pub keys : ℕ
   pub search : HasSearch me me.who key keys tr
-  pub bound : IsWithin (steps + 2 * keys + tear_steps (frees es)) tr
+  pub bound : IsWithin (steps + 2 * keys + tear_steps me.geometry.wide (frees es)) tr
 
 -- before the latch is taken, and under it
-abbrev pub opened_steps : ℕ → ℕ
-opened_steps g = 1 + alloc_steps g + up_steps + 9
+abbrev pub opened_steps : Bool → ℕ → ℕ
+opened_steps wide g = 1 + alloc_steps wide g + up_steps wide + (8 + redo_steps wide)
 
-abbrev pub searched_steps : ℕ → ℕ
-searched_steps g = opened_steps g + 2 + 2
+abbrev pub searched_steps : Bool → ℕ → ℕ
+searched_steps wide g = opened_steps wide g + 2 + 2
 
-abbrev pub settled_steps : ℕ → ℕ
-settled_steps g = searched_steps g + (enter_steps g + 1 + change_steps)
+abbrev pub settled_steps : Bool → ℕ → ℕ
+settled_steps wide g = searched_steps wide g + (enter_steps wide g + 1 + change_steps wide)
 
 -- the roots and zero-count blocks: where a new entry was made only its root is another
 abbrev pub RootsSo : ℕ → Memo → Memo → Option ℕ → Type 0
@@ -144,17 +144,17 @@ pub record IsSettled (m : PutRootState) (latch : Option ℕ) (steps : ℕ) (r0 r
   pub left : List Visit
   pub dying : All (λ (x : Visit). Contains r.dying x.block) left
   pub alone : IfSome m.root (λ k. left ≡ [])
-  pub bound : IsWithin (steps + 2 * keys + tear_steps (frees es + length left)) tr
+  pub bound : IsWithin (steps + 2 * keys + tear_steps m.me.geometry.wide (frees es + length left)) tr
 
 abbrev pub PutRootKnows : PutRootState → PutRootPoint → Memo → Memo → Trail → List Event → Type 0
 PutRootKnows m Open r0 r tr es = MayPut m.me m.key m.value r0 × (r ≡ r0) × (tr ≡ []) × (es ≡ []) × (m.root ≡ None) × (m.refused ≡ None)
-PutRootKnows m Locate r0 r tr es = IsPutting m.me m.key m.value None r0 r × (m.root ≡ None) × (m.refused ≡ None) × IsWithin (opened_steps m.me.geometry.segments + tear_steps (frees es)) tr
-PutRootKnows m Replace r0 r tr es = IsPutting m.me m.key m.value (Some m.me.who) r0 r × (m.root ≡ None) × IsSearched m.me m.key (searched_steps m.me.geometry.segments) tr es
+PutRootKnows m Locate r0 r tr es = IsPutting m.me m.key m.value None r0 r × (m.root ≡ None) × (m.refused ≡ None) × IsWithin (opened_steps m.me.geometry.wide m.me.geometry.segments + tear_steps m.me.geometry.wide (frees es)) tr
+PutRootKnows m Replace r0 r tr es = IsPutting m.me m.key m.value (Some m.me.who) r0 r × (m.root ≡ None) × IsSearched m.me m.key (searched_steps m.me.geometry.wide m.me.geometry.segments) tr es
     × ((n : ℕ) × (before : ℕ) × (word : ℕ) × MayReplace m.me m.key m.value n m.entry before word r)
-PutRootKnows m Enter r0 r tr es = IsPutting m.me m.key m.value (Some m.me.who) r0 r × (m.root ≡ None) × (m.refused ≡ None) × IsSearched m.me m.key (searched_steps m.me.geometry.segments) tr es
+PutRootKnows m Enter r0 r tr es = IsPutting m.me m.key m.value (Some m.me.who) r0 r × (m.root ≡ None) × (m.refused ≡ None) × IsSearched m.me m.key (searched_steps m.me.geometry.wide m.me.geometry.segments) tr es
     × ((n : ℕ) × MayEnter m.me m.key m.value n m.home m.first r)
-PutRootKnows m Unlatch r0 r tr es = IsSettled m (Some m.me.who) (settled_steps m.me.geometry.segments) r0 r tr es
-PutRootKnows m Drop r0 r tr es = (k : ℕ) × (m.root ≡ Some k) × IsSettled m None (settled_steps m.me.geometry.segments + 2) r0 r tr es
+PutRootKnows m Unlatch r0 r tr es = IsSettled m (Some m.me.who) (settled_steps m.me.geometry.wide m.me.geometry.segments) r0 r tr es
+PutRootKnows m Drop r0 r tr es = (k : ℕ) × (m.root ≡ Some k) × IsSettled m None (settled_steps m.me.geometry.wide m.me.geometry.segments + 2) r0 r tr es
 
 -- ---- what it leaves
 
@@ -170,7 +170,7 @@ pub record PutRootDone (me : Me) (key v : ℕ) (r0 r : Memo) (tr : Trail) (es : 
   pub search : HasSearch me me.who key keys tr
   pub left : List Visit
   pub dying : All (λ (x : Visit). Contains r.dying x.block) left
-  pub bound : IsWithin (put_root_steps me.geometry.segments + 2 * keys + tear_steps (frees es + length left)) tr
+  pub bound : IsWithin (put_root_steps me.geometry.wide me.geometry.segments + 2 * keys + tear_steps me.geometry.wide (frees es + length left)) tr
 
 -- the own era was spent
 abbrev pub IsEraSpent : PutFault → Type 0
@@ -188,7 +188,7 @@ pub record PutRootRefused (me : Me) (key v : ℕ) (r0 r : Memo) (tr : Trail) (es
   pub search : (keys ≡ 0) ⊎ HasSearch me me.who key keys tr
   pub left : List Visit
   pub dying : All (λ (x : Visit). Contains r.dying x.block) left
-  pub bound : IsWithin (put_root_steps me.geometry.segments + 2 * keys + tear_steps (frees es + length left)) tr
+  pub bound : IsWithin (put_root_steps me.geometry.wide me.geometry.segments + 2 * keys + tear_steps me.geometry.wide (frees es + length left)) tr
 
 -- where it answers that the key had the value block already, no key changed
 abbrev pub PutRootLeaves : PutRootState → Memo → Memo → Trail → List Event → Result Bool PutFault → Type 0

@@ -2,13 +2,13 @@
 pub mod Control
 pub mod Laws
 pub mod Bound
-use Rattle.std.specs.Prelude.{◌≡◌, ◌≢◌, ℕ, ◌+◌, ◌*◌, ◌%◌, ◌<◌, ◌⊎◌, false, Option, Some, None, List, [], ◌∷◌, length, slice_index}
+use Rattle.std.specs.Prelude.{◌≡◌, ◌≢◌, ℕ, ◌+◌, ◌*◌, ◌%◌, ◌<◌, ◌⊎◌, false, Option, Some, None, List, [], ◌∷◌, length, slice_index, Bool}
 use Rattle.std.specs.List.{All, Contains}
 use Rattle.shm_graph.specs.declared.ask.Me.{Me}
 use Rattle.shm_graph.specs.declared.memo.Memo.{Memo}
 use Rattle.shm_graph.specs.declared.spot.Spot.TheVariants as spot
 use Rattle.shm_graph.specs.Asks.{Trail, IsWithin}
-use Rattle.shm_graph.specs.Bounds.{tear_steps}
+use Rattle.shm_graph.specs.Bounds.{tear_steps, redo_steps}
 use Rattle.shm_graph.specs.Events.{Event}
 use Rattle.shm_graph.specs.Events as event
 use Rattle.shm_graph.specs.Stores.{lane_with}
@@ -69,7 +69,7 @@ pub record IsPutIn (me : Me) (s key n b v k steps : ℕ) (f : Option PutFault) (
   pub search : (keys ≡ 0) ⊎ HasSearch me me.who key keys tr
   pub left : List Visit
   pub dying : All (λ (x : Visit). Contains r.dying x.block) left
-  pub bound : IsWithin (steps + 2 * keys + tear_steps (frees es + length left)) tr
+  pub bound : IsWithin (steps + 2 * keys + tear_steps me.geometry.wide (frees es + length left)) tr
 
 -- the item waits at the head of its queue still, where it is known, and root k names it
 pub record IsWaiting (me : Me) (s n b k : ℕ) (r0 r : Memo) : Type 0 where
@@ -90,20 +90,20 @@ ItemSo me s n b r0 r es None = IsPassed me s n b r0 r es ⊎ (Keeps me.who r0 r 
 ItemSo me s n b r0 r es (Some f) = Keeps me.who r0 r
 
 -- the reading of the head and the root with the rest of a put, and the taking of the head
-abbrev pub put_in_steps : ℕ → ℕ
-put_in_steps g = fetch_head_steps + put_root_steps g
+abbrev pub put_in_steps : Bool → ℕ → ℕ
+put_in_steps wide g = fetch_head_steps wide + put_root_steps wide g
 
 abbrev pub RecvKnows : RecvState → RecvPoint → Memo → Memo → Trail → List Event → Type 0
 RecvKnows m Fetch r0 r tr es = MayRecv m.me m.from m.key r0 × (r ≡ r0) × (tr ≡ []) × (es ≡ [])
 RecvKnows m Put r0 r tr es = MayRecv m.me m.from m.key r0 × IsHeadRooted m.me m.from m.root m.block m.number m.at r0 r tr es
-RecvKnows m Take r0 r tr es = (m.refused ≡ None) × IsPutIn m.me m.from m.key m.at m.block m.number m.root (put_in_steps m.me.geometry.segments) None r0 r tr es × IsWaiting m.me m.from m.at m.block m.root r0 r × (m.decided ≡ false → SameMap r0 r)
-RecvKnows m Drop r0 r tr es = IsPutIn m.me m.from m.key m.at m.block m.number m.root (put_in_steps m.me.geometry.segments + take_head_steps) m.refused r0 r tr es × ItemSo m.me m.from m.at m.block r0 r es m.refused × (m.decided ≡ false → SameMap r0 r)
+RecvKnows m Take r0 r tr es = (m.refused ≡ None) × IsPutIn m.me m.from m.key m.at m.block m.number m.root (put_in_steps m.me.geometry.wide m.me.geometry.segments) None r0 r tr es × IsWaiting m.me m.from m.at m.block m.root r0 r × (m.decided ≡ false → SameMap r0 r)
+RecvKnows m Drop r0 r tr es = IsPutIn m.me m.from m.key m.at m.block m.number m.root (put_in_steps m.me.geometry.wide m.me.geometry.segments + take_head_steps m.me.geometry.wide) m.refused r0 r tr es × ItemSo m.me m.from m.at m.block r0 r es m.refused × (m.decided ≡ false → SameMap r0 r)
 
 -- ---- what it leaves
 
 -- and the drop of the root
-abbrev pub recv_steps : ℕ → ℕ
-recv_steps g = put_in_steps g + take_head_steps + 9
+abbrev pub recv_steps : Bool → ℕ → ℕ
+recv_steps wide g = put_in_steps wide g + take_head_steps wide + (8 + redo_steps wide)
 
 -- What was received from s is that before with item b, which was at place n, at its end, and the head is the next one; no item waits for a head that didn't, and all else is kept
 pub record ItemTaken (me : Me) (s n b : ℕ) (r0 r : Memo) (es : List Event) : Type 0 where
@@ -128,7 +128,7 @@ pub record ReceivedIn (me : Me) (s key v b : ℕ) (r0 r : Memo) (tr : Trail) (es
   pub search : (keys ≡ 0) ⊎ HasSearch me me.who key keys tr
   pub left : List Visit
   pub dying : All (λ (x : Visit). Contains r.dying x.block) left
-  pub bound : IsWithin (recv_steps me.geometry.segments + 2 * keys + tear_steps (frees es + length left)) tr
+  pub bound : IsWithin (recv_steps me.geometry.wide me.geometry.segments + 2 * keys + tear_steps me.geometry.wide (frees es + length left)) tr
 
 -- it was refused: the map, the latches and the queues are as before, and so are roots and zero-count blocks, unless the own era was spent
 pub record NotReceivedIn (me : Me) (key : ℕ) (r0 r : Memo) (tr : Trail) (es : List Event) (f : PutFault) : Type 0 where
@@ -141,7 +141,7 @@ pub record NotReceivedIn (me : Me) (key : ℕ) (r0 r : Memo) (tr : Trail) (es : 
   pub search : (keys ≡ 0) ⊎ HasSearch me me.who key keys tr
   pub left : List Visit
   pub dying : All (λ (x : Visit). Contains r.dying x.block) left
-  pub bound : IsWithin (recv_steps me.geometry.segments + 2 * keys + tear_steps (frees es + length left)) tr
+  pub bound : IsWithin (recv_steps me.geometry.wide me.geometry.segments + 2 * keys + tear_steps me.geometry.wide (frees es + length left)) tr
 
 abbrev pub RecvLeaves : RecvState → Memo → Memo → Trail → List Event → Answer → Type 0
 RecvLeaves m r0 r tr es (answer.Value v b) = ReceivedIn m.me m.from m.key v b r0 r tr es

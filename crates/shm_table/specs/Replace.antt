@@ -1,7 +1,7 @@
 -- giving an entry of the own table another value block as a plan: when it may begin, what is known before each call, and what is left
 pub mod Control
 pub mod Laws
-use Rattle.std.specs.Prelude.{◌≡◌, ◌≢◌, ℕ, ◌+◌, ◌%◌, ◌^◌, ◌<◌, ◌≤◌, ◌==◌, ◌⊎◌, if◌then◌else◌, Bool, true, false, Some, Result, Ok, Err, List, [], ◌∷◌, length}
+use Rattle.std.specs.Prelude.{◌≡◌, ◌≢◌, ℕ, ◌+◌, ◌%◌, ◌<◌, ◌≤◌, ◌==◌, ◌⊎◌, if◌then◌else◌, Bool, true, false, Some, Result, Ok, Err, List, [], ◌∷◌, length}
 use Rattle.std.specs.List.{All, Contains}
 use Rattle.shm_words.specs.Layout.{GeometryFits, total_of, address_limit}
 use Rattle.shm_graph.specs.declared.ask.Me.{Me}
@@ -76,7 +76,7 @@ pub record IsSeen (me : Me) (entry v old : ℕ) (r0 r : Memo) : Type 0 where
   pub inside : IsInside me old
   pub room : old + 2 ≤ total_of me.geometry
   pub counted : Contains r.dying old → ⊥
-  pub own : IsOwnWord me.who r entry 1 old
+  pub own : IsOwnWord me.geometry.wide me.who r entry 1 old
   pub step : MayStepAt (Body entry 1) false (record { me = me; slot = (entry + 2 + 1) % address_limit; aim = aims.Change old v; point = Era }) r
   pub was : (key n before word : ℕ) → MayReplace me key v n entry before word r0 → (a : ℕ) × (map_in r0.part key ≡ Some (a, old))
   pub map : (key n before word : ℕ) → MayReplace me key v n entry before word r0 → (k : ℕ) → map_in (part_after me.who (sight me.who r) (Body entry 1) v) k ≡ (if key == k then Some (n, v) else map_in r0.part k)
@@ -92,7 +92,7 @@ pub record IsFallen (me : Me) (entry v old : ℕ) (r0 r : Memo) (tr : Trail) (es
   pub lost : Lost me.who (Body entry 1) false old v true memo r
   pub holds : IsHeld me r
   pub told : es ≡ changed_events me.who entry old v []
-  pub bound : IsWithin (1 + change_steps) tr
+  pub bound : IsWithin (1 + change_steps me.geometry.wide) tr
 
 abbrev pub ReplaceKnows : ReplaceState → ReplacePoint → Memo → Memo → Trail → List Event → Type 0
 ReplaceKnows m Look r0 r tr es = MayBegin m.me m.entry m.to r0 × (r ≡ r0) × (tr ≡ []) × (es ≡ [])
@@ -120,7 +120,7 @@ pub record Replaced (me : Me) (v entry : ℕ) (m r : Memo) (tr : Trail) (es : Li
   pub dying : All (λ (x : Visit). Contains r.dying x.block) left
   pub ended : Ended me.who m r
   pub events : ReplaceEvents me entry v m es left
-  pub bound : IsWithin (1 + change_steps + tear_steps (frees es + length left)) tr
+  pub bound : IsWithin (1 + change_steps me.geometry.wide + tear_steps me.geometry.wide (frees es + length left)) tr
 
 -- and why exactly: the own era that was read leaves no room for the change, or the header of the new block that was read is full
 abbrev pub ReplaceRefusal : Me → ℕ → Memo → PutFault → Type 0
@@ -136,7 +136,7 @@ pub record NotReplaced (me : Me) (v : ℕ) (m r : Memo) (tr : Trail) (es : List 
   pub cause : PutCause me m r f
   pub refusal : ReplaceRefusal me v m f
   pub none : es ≡ []
-  pub bound : IsWithin (1 + change_steps) tr
+  pub bound : IsWithin (1 + change_steps me.geometry.wide) tr
 
 -- where it answers that the entry had the value block already, no key changed
 abbrev pub ReplaceLeaves : ReplaceState → Memo → Memo → Trail → List Event → Result Bool PutFault → Type 0

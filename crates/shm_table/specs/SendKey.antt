@@ -3,7 +3,7 @@ pub mod Control
 pub mod Steps
 pub mod Laws
 pub mod Bound
-use Rattle.std.specs.Prelude.{◌≡◌, ◌≢◌, ℕ, ◌+◌, ◌-◌, ◌*◌, ◌%◌, ◌^◌, ◌<◌, false, Option, Some, None, List, [], ◌∷◌, slice_index}
+use Rattle.std.specs.Prelude.{◌≡◌, ◌≢◌, ℕ, ◌+◌, ◌-◌, ◌*◌, ◌%◌, ◌^◌, ◌<◌, false, Option, Some, None, List, [], ◌∷◌, slice_index, Bool}
 use Rattle.std.specs.List.{Contains}
 use Rattle.shm_graph.specs.declared.ask.Me.{Me}
 use Rattle.shm_graph.specs.declared.memo.Memo.{Memo}
@@ -14,6 +14,7 @@ use Rattle.shm_graph.specs.Events.{Event}
 use Rattle.shm_graph.specs.Events as event
 use Rattle.shm_graph.specs.Stores.{lane_with, with_own}
 use Rattle.shm_graph.specs.Views.{own_word}
+use Rattle.shm_graph.specs.Bounds.{redo_steps}
 use Rattle.shm_calls.specs.declared.word.Word.{Word}
 use Rattle.shm_calls.specs.CallsPart.{calls_part}
 use Rattle.shm_calls.specs.Either.{or_part}
@@ -115,13 +116,13 @@ abbrev pub got : SendKeyState → GetPoint → GetState
 got m y = record { me = m.me; author = m.me.who; key = m.key; entry = m.entry; block = m.block; number = 0; point = y }
 
 -- the latch with the search, the load, the send
-abbrev pub sent_steps : ℕ
-sent_steps = 4 + 1 + 11
+abbrev pub sent_steps : Bool → ℕ
+sent_steps wide = 4 + 1 + (10 + redo_steps wide)
 
 -- what is known before the latch is given back, by what is to be answered
 abbrev pub GiveKnows : SendKeyState → Answer → Memo → Memo → Trail → List Event → Type 0
 GiveKnows m answer.Missing r0 r tr es = IsNowhere m.me m.me.who m.key r0 r tr es
-GiveKnows m a r0 r tr es = SendSays m.me m.to m.key (Some m.me.who) sent_steps r0 r tr es a
+GiveKnows m a r0 r tr es = SendSays m.me m.to m.key (Some m.me.who) (sent_steps m.me.geometry.wide) r0 r tr es a
 
 abbrev pub SendKeyKnows : SendKeyState → SendKeyPoint → Memo → Memo → Trail → List Event → Type 0
 SendKeyKnows m Search r0 r tr es = MaySendKey m.me m.to r0 × (r ≡ r0) × (tr ≡ []) × (es ≡ [])
@@ -132,13 +133,13 @@ SendKeyKnows m Give r0 r tr es = GiveKnows m m.outcome r0 r tr es
 -- ---- what it leaves
 
 -- all that it makes besides two word steps for each entry whose key is read
-abbrev pub send_key_steps : ℕ
-send_key_steps = sent_steps + 2
+abbrev pub send_key_steps : Bool → ℕ
+send_key_steps wide = sent_steps wide + 2
 
 -- no latch is held; where it is missing, the words that were read and the own map have no such key
 abbrev pub SendKeyLeaves : SendKeyState → Memo → Memo → Trail → List Event → Answer → Type 0
 SendKeyLeaves m r0 r tr es answer.Missing = GotNone m.me m.me.who m.key r0 r tr es
-SendKeyLeaves m r0 r tr es a = SendSays m.me m.to m.key None send_key_steps r0 r tr es a
+SendKeyLeaves m r0 r tr es a = SendSays m.me m.to m.key None (send_key_steps m.me.geometry.wide) r0 r tr es a
 
 -- ---- the plan
 

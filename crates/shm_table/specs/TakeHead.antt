@@ -1,7 +1,7 @@
 -- taking an item that is known as a plan: when it may begin, what is known before each call, and what is left
 pub mod Control
 pub mod Laws
-use Rattle.std.specs.Prelude.{◌≡◌, ◌≢◌, ℕ, ◌+◌, ◌%◌, ◌^◌, ◌<◌, true, false, Result, Ok, Err, List, [], ◌∷◌, slice_index}
+use Rattle.std.specs.Prelude.{◌≡◌, ◌≢◌, ℕ, ◌+◌, ◌%◌, ◌^◌, ◌<◌, true, false, Result, Ok, Err, List, [], ◌∷◌, slice_index, Bool}
 use Rattle.shm_words.specs.Layout.{GeometryFits}
 use Rattle.shm_graph.specs.declared.ask.Me.{Me}
 use Rattle.shm_graph.specs.declared.memo.Memo.{Memo}
@@ -12,6 +12,7 @@ use Rattle.shm_graph.specs.Events as event
 use Rattle.shm_graph.specs.Idle.{IsIdle}
 use Rattle.shm_graph.specs.Stores.{head_stored}
 use Rattle.shm_graph.specs.Views.{own_word}
+use Rattle.shm_graph.specs.Bounds.{redo_steps}
 use Rattle.shm_steps.specs.Conditions.{IsHere}
 use Rattle.shm_steps.specs.WordParts.{HeadStored}
 use Rattle.shm_calls.specs.Either.{or_part}
@@ -61,7 +62,7 @@ pub record IsLowered (me : Me) (s n b : ℕ) (r0 r : Memo) (tr : Trail) (es : Li
   pub here : IsHere r
   pub lost : Lost me.who (spot.Slot s me.who (n % 8)) true b 0 false r0 r
   pub told : es ≡ event.Down me.who (spot.Slot s me.who (n % 8)) b ∷ []
-  pub bound : IsWithin 8 tr
+  pub bound : IsWithin (7 + redo_steps me.geometry.wide) tr
 
 abbrev pub TakeHeadKnows : TakeHeadState → TakeHeadPoint → Memo → Memo → Trail → List Event → Type 0
 TakeHeadKnows m Lower r0 r tr es = MayTakeHead m.me m.from m.at m.block r0 × (r ≡ r0) × (tr ≡ []) × (es ≡ [])
@@ -70,22 +71,22 @@ TakeHeadKnows m Store r0 r tr es = IsLowered m.me m.from m.at m.block r0 r tr es
 -- ---- what it leaves
 
 -- the step down, and the store of the head
-abbrev pub take_head_steps : ℕ
-take_head_steps = 9
+abbrev pub take_head_steps : Bool → ℕ
+take_head_steps wide = 8 + redo_steps wide
 
 -- the item is received, and all else is kept; the latch, the own home, the partition, the roots and the zero-count blocks are as before
 pub record HeadTaken (me : Me) (s n b : ℕ) (r0 r : Memo) (tr : Trail) (es : List Event) : Type 0 where
   pub keeps : Keeps me.who (passed_memo me.who s n b r0) r
   pub rests : Rests me.who r0 r
   pub told : es ≡ event.Down me.who (spot.Slot s me.who (n % 8)) b ∷ []
-  pub bound : IsWithin take_head_steps tr
+  pub bound : IsWithin (take_head_steps me.geometry.wide) tr
 
 -- the own era left no room for the step down: nothing was done, and the item waits still
 pub record HeadLeft (me : Me) (r0 r : Memo) (tr : Trail) (es : List Event) (era : ℕ) : Type 0 where
   pub untouched : Untouched me.who r0 r
   pub spent : IsSpent me.who era r
   pub none : es ≡ []
-  pub bound : IsWithin take_head_steps tr
+  pub bound : IsWithin (take_head_steps me.geometry.wide) tr
 
 abbrev pub TakeHeadLeaves : TakeHeadState → Memo → Memo → Trail → List Event → Result (Unit {0}) EraSpent → Type 0
 TakeHeadLeaves m r0 r tr es (Ok done) = HeadTaken m.me m.from m.at m.block r0 r tr es

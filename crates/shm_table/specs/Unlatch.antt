@@ -79,7 +79,7 @@ pub record MayUnlatch (me : Me) (a : ℕ) (r : Memo) : Type 0 where
 -- the latch is nobody's, and the hold word is to be 0
 pub record IsGiven (me : Me) (a : ℕ) (r0 r : Memo) (tr : Trail) (es : List Event) : Type 0 where
   pub may : MayUnlatch me a r0
-  pub same : core r ≡ core (unlatched me.who r0)
+  pub same : core r ≡ core (unlatched me.geometry.wide me.who r0)
   pub none : es ≡ []
   pub trail : tr ≡ given_trail me a
 
@@ -91,7 +91,7 @@ UnlatchKnows m Back r0 r tr es = IsGiven m.me m.author r0 r tr es
 
 -- the latch is given back and the hold word is 0; no latch is held, and the looks are over
 pub record Unlatched (me : Me) (a : ℕ) (r0 r : Memo) (tr : Trail) (es : List Event) : Type 0 where
-  pub memo : core r ≡ core (wants me.who 0 (unlatched me.who r0))
+  pub memo : core r ≡ core (wants me.who 0 (unlatched me.geometry.wide me.who r0))
   pub latch : r.latch ≡ None
   pub looks : r.looks ≡ []
   pub none : es ≡ []
@@ -99,7 +99,7 @@ pub record Unlatched (me : Me) (a : ℕ) (r0 r : Memo) (tr : Trail) (es : List E
 
 -- what holds after each word step, by the memo before, the word found and the memo
 abbrev pub UnlatchFound : UnlatchState → UnlatchPoint → Memo → ℕ → Memo → Type 0
-UnlatchFound m Give r n x = (core x ≡ core (unlatched m.me.who r)) × (n ≡ 0)
+UnlatchFound m Give r n x = (core x ≡ core (unlatched m.me.geometry.wide m.me.who r)) × (n ≡ 0)
 UnlatchFound m Back r n x = (core x ≡ core (wants m.me.who 0 r)) × (n ≡ 0)
 
 -- the part that the word step at a point is

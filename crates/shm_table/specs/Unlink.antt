@@ -1,7 +1,7 @@
 -- taking an entry of the own table out of its chain as a plan: when it may begin, what is known before each call, and what is left
 pub mod Control
 pub mod Laws
-use Rattle.std.specs.Prelude.{◌≡◌, ◌≢◌, ℕ, zero, suc, ◌+◌, ◌%◌, ◌^◌, ◌<◌, ◌≤◌, ◌==◌, if◌then◌else◌, true, false, Some, None, Result, Ok, Err, List, [], ◌∷◌, length}
+use Rattle.std.specs.Prelude.{◌≡◌, ◌≢◌, ℕ, zero, suc, ◌+◌, ◌%◌, ◌<◌, ◌≤◌, ◌==◌, if◌then◌else◌, true, false, Some, None, Result, Ok, Err, List, [], ◌∷◌, length}
 use Rattle.std.specs.List.{All, Contains}
 use Rattle.shm_words.specs.Layout.{GeometryFits, total_of, address_limit}
 use Rattle.shm_graph.specs.declared.ask.Me.{Me}
@@ -85,7 +85,7 @@ pub record IsSeen (me : Me) (entry before word next : ℕ) (r0 r : Memo) : Type 
   pub inside : IsInside me entry
   pub room : entry + 2 ≤ total_of me.geometry
   pub counted : Contains r.dying entry → ⊥
-  pub own : IsOwnWord me.who r before word entry
+  pub own : IsOwnWord me.geometry.wide me.who r before word entry
   pub last : next ≡ 0 → MayStepAt (Body before word) false (record { me = me; slot = (before + 2 + word) % address_limit; aim = aims.Down entry; point = Era }) r
   pub goes : next ≢ 0 → MayStepAt (Body before word) false (record { me = me; slot = (before + 2 + word) % address_limit; aim = aims.Change entry next; point = Era }) r
   pub was : (key : ℕ) → MayUnlink me key entry before word r0 → (n : ℕ) × (v : ℕ) × (map_in r0.part key ≡ Some (n, v))
@@ -98,7 +98,7 @@ pub record IsFallen (me : Me) (entry before word next : ℕ) (r0 r : Memo) (tr :
   pub lost : Lost me.who (Body before word) false entry next true memo r
   pub holds : IsHeld me r
   pub told : es ≡ link_events me.who entry before word next []
-  pub bound : IsWithin (1 + change_steps) tr
+  pub bound : IsWithin (1 + change_steps me.geometry.wide) tr
 
 abbrev pub UnlinkKnows : UnlinkState → UnlinkPoint → Memo → Memo → Trail → List Event → Type 0
 UnlinkKnows m Look r0 r tr es = MayBegin m.me m.entry m.before m.word r0 × (r ≡ r0) × (tr ≡ []) × (es ≡ [])
@@ -123,7 +123,7 @@ pub record Unlinked (me : Me) (entry before word : ℕ) (m r : Memo) (tr : Trail
   pub dying : All (λ (x : Visit). Contains r.dying x.block) left
   pub ended : Ended me.who m r
   pub events : UnlinkEvents me entry before word es left
-  pub bound : IsWithin (1 + change_steps + tear_steps (frees es + length left)) tr
+  pub bound : IsWithin (1 + change_steps me.geometry.wide + tear_steps me.geometry.wide (frees es + length left)) tr
 
 -- why the word stays: the own era leaves no room, or the next entry has the greatest count
 abbrev pub UnlinkCause : Me → Memo → UpFault → Type 0
@@ -144,7 +144,7 @@ pub record NotUnlinked (me : Me) (entry : ℕ) (m r : Memo) (tr : Trail) (es : L
   pub cause : UnlinkCause me r f
   pub refusal : UnlinkRefusal me entry m f
   pub none : es ≡ []
-  pub bound : IsWithin (1 + change_steps) tr
+  pub bound : IsWithin (1 + change_steps me.geometry.wide) tr
 
 abbrev pub UnlinkLeaves : UnlinkState → Memo → Memo → Trail → List Event → Result (Unit {0}) UpFault → Type 0
 UnlinkLeaves m r0 r tr es (Ok done) = Unlinked m.me m.entry m.before m.word r0 r tr es

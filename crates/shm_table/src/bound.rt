@@ -16,7 +16,7 @@ pub fn find_bound()
     ensures { (me : AMe) (a key : ℕ) (r0 r : AMemo) (tr : Trail) (b : AFound) → FindGives me a key r0 r tr b → (ps : List Passed) × IsWhole me a key ps tr b × IsWithin (2 + 2 * keys_read ps b) tr }
 {}
 
-/// A new entry took at most the word steps of an allocation and 29 more, and three more for each exchange that failed.
+/// A new entry took at most the word steps of an allocation and 29 more, in format 2 32, and three more for each exchange that failed.
 pub fn enter_bound()
-    ensures { (me : AMe) (key v home first : ℕ) (r0 r : AMemo) (tr : Trail) (b : AnEntered) → EnterGives me key v home first r0 r tr b → IsWithin (alloc_steps me.geometry.segments + 2 * up_steps + change_steps) tr }
+    ensures { (me : AMe) (key v home first : ℕ) (r0 r : AMemo) (tr : Trail) (b : AnEntered) → EnterGives me key v home first r0 r tr b → IsWithin (alloc_steps me.geometry.wide me.geometry.segments + 2 * up_steps me.geometry.wide + change_steps me.geometry.wide) tr }
 {}

@@ -5,7 +5,7 @@ ghost use Rattle.std.specs.Prelude.{ℕ, ◌+◌, ◌*◌, Bool, Result, Ok, Err
 ghost use Rattle.shm_graph.specs.declared.ask.Me.{Me as AMe};
 ghost use Rattle.shm_graph.specs.declared.memo.Memo.{Memo as AMemo};
 ghost use Rattle.shm_graph.specs.Asks.{Trail, IsWithin};
-ghost use Rattle.shm_graph.specs.Bounds.{change_steps, command_steps, tear_steps};
+ghost use Rattle.shm_graph.specs.Bounds.{change_steps, command_steps, tear_steps, redo_steps};
 ghost use Rattle.shm_graph.specs.Tells.{Tells};
 ghost use Rattle.shm_calls.specs.CallsControl.{calls_does};
 ghost use Rattle.shm_calls.specs.CallsFit.{CallsFits};
@@ -40,10 +40,10 @@ pub fn replace_leaves()
     ensures trail { (me : AMe) (entry v : ℕ) (r0 r : AMemo) (tr : Trail) (a : Result Bool APutFault) → ReplaceGives me entry v r0 r tr a → plan_trail replace_plan (replacing me entry v) tr a }
 {}
 
-/// It takes at most 14 word steps, and 164 for each block that it freed or left on the way.
+/// It takes at most 14 word steps, and 164 for each block that it freed or left on the way, in format 2 15 and 180.
 pub fn replace_bound()
-    ensures done { (me : AMe) (entry v : ℕ) (r0 r : AMemo) (tr : Trail) (z : Bool) → ReplaceGives me entry v r0 r tr (Ok z) → (vs : List Visit) × ReplaceEvents me entry v r0 (replace_told me entry v tr) vs × IsWithin (1 + change_steps + tear_steps (frees (replace_told me entry v tr) + length vs)) tr }
-    ensures refused { (me : AMe) (entry v : ℕ) (r0 r : AMemo) (tr : Trail) (f : APutFault) → ReplaceGives me entry v r0 r tr (Err f) → IsWithin (1 + change_steps) tr }
+    ensures done { (me : AMe) (entry v : ℕ) (r0 r : AMemo) (tr : Trail) (z : Bool) → ReplaceGives me entry v r0 r tr (Ok z) → (vs : List Visit) × ReplaceEvents me entry v r0 (replace_told me entry v tr) vs × IsWithin (1 + change_steps me.geometry.wide + tear_steps me.geometry.wide (frees (replace_told me entry v tr) + length vs)) tr }
+    ensures refused { (me : AMe) (entry v : ℕ) (r0 r : AMemo) (tr : Trail) (f : APutFault) → ReplaceGives me entry v r0 r tr (Err f) → IsWithin (1 + change_steps me.geometry.wide) tr }
 {}
 
 /// The taking out of an entry fits each memo of a client between two calls under its own latch, which has found the entry of a key.
@@ -62,11 +62,11 @@ pub fn unlink_leaves()
     ensures trail { (me : AMe) (entry before word : ℕ) (r0 r : AMemo) (tr : Trail) (a : Result (Unit {0}) AUpFault) → UnlinkGives me entry before word r0 r tr a → plan_trail unlink_plan (unlinking me entry before word) tr a }
 {}
 
-/// It takes at most 14 word steps, and 164 for each block that it freed or left on the way.
+/// It takes at most 14 word steps, and 164 for each block that it freed or left on the way, in format 2 15 and 180.
 pub fn unlink_bound()
     ensures done { (me : AMe) (entry before word : ℕ) (r0 r : AMemo) (tr : Trail) → UnlinkGives me entry before word r0 r tr (Ok tt)
-        → (vs : List Visit) × UnlinkEvents me entry before word (unlink_told me entry before word tr) vs × IsWithin (1 + change_steps + tear_steps (frees (unlink_told me entry before word tr) + length vs)) tr }
-    ensures refused { (me : AMe) (entry before word : ℕ) (r0 r : AMemo) (tr : Trail) (f : AUpFault) → UnlinkGives me entry before word r0 r tr (Err f) → IsWithin (1 + change_steps) tr }
+        → (vs : List Visit) × UnlinkEvents me entry before word (unlink_told me entry before word tr) vs × IsWithin (1 + change_steps me.geometry.wide + tear_steps me.geometry.wide (frees (unlink_told me entry before word tr) + length vs)) tr }
+    ensures refused { (me : AMe) (entry before word : ℕ) (r0 r : AMemo) (tr : Trail) (f : AUpFault) → UnlinkGives me entry before word r0 r tr (Err f) → IsWithin (1 + change_steps me.geometry.wide) tr }
 {}
 
 /// The removal of a key fits each memo of a client between two calls, in a pool for tables, with no latch.
@@ -86,9 +86,9 @@ pub fn del_leaves()
     ensures trail { (me : AMe) (key : ℕ) (r0 r : AMemo) (tr : Trail) (a : AnAnswer) → DelGives me key r0 r tr a → plan_trail del_plan (deleting me key) tr a }
 {}
 
-/// It takes at most 20 word steps, 2 for each key that it read, and 164 for each block that it freed or left on the way; that is within what
-/// a command may take.
+/// It takes at most 20 word steps, 2 for each key that it read, and 164 for each block that it freed or left on the way, in format 2 21 and
+/// 180; that is within what a command may take.
 pub fn del_bound()
-    ensures own { (me : AMe) (key : ℕ) (r0 r : AMemo) (tr : Trail) (a : AnAnswer) → DelGives me key r0 r tr a → IsShort me key (λ k t. 20 + 2 * k + tear_steps t) r tr (del_told me key tr) }
-    ensures command { (me : AMe) (key : ℕ) (r0 r : AMemo) (tr : Trail) (a : AnAnswer) → DelGives me key r0 r tr a → IsShort me key (command_steps me.geometry.segments) r tr (del_told me key tr) }
+    ensures own { (me : AMe) (key : ℕ) (r0 r : AMemo) (tr : Trail) (a : AnAnswer) → DelGives me key r0 r tr a → IsShort me key (λ k t. 19 + redo_steps me.geometry.wide + 2 * k + tear_steps me.geometry.wide t) r tr (del_told me key tr) }
+    ensures command { (me : AMe) (key : ℕ) (r0 r : AMemo) (tr : Trail) (a : AnAnswer) → DelGives me key r0 r tr a → IsShort me key (command_steps me.geometry.wide me.geometry.segments) r tr (del_told me key tr) }
 {}

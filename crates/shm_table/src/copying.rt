@@ -1,7 +1,7 @@
 //! When what a key has may come to have a root, and another key may come to have it; what that does to the graph of references and to the
 //! map, what it leaves, and how many word steps it takes.
 
-ghost use Rattle.std.specs.Prelude.{◌≡◌, ℕ, ◌+◌, ◌*◌, Some, []};
+ghost use Rattle.std.specs.Prelude.{◌≡◌, ℕ, ◌+◌, ◌*◌, Some, [], true, false};
 ghost use Rattle.shm_graph.specs.declared.ask.Me.{Me as AMe};
 ghost use Rattle.shm_graph.specs.declared.memo.Memo.{Memo as AMemo};
 ghost use Rattle.shm_graph.specs.Asks.{Trail, IsWithin};
@@ -42,11 +42,12 @@ pub fn fetch_leaves()
     ensures has { (me : AMe) (a key k v n : ℕ) (r0 r : AMemo) (tr : Trail) → a ≡ me.who → FetchGives me a key r0 r tr (fetched.Rooted k v n) → map_in r0.part key ≡ Some (n, v) }
 {}
 
-/// Where an entry has the key it takes at most 32 word steps, and 2 for each key that it read.
+/// Where an entry has the key it takes at most 32 word steps, in format 2 33, and 2 for each key that it read.
 pub fn fetch_bound()
-    ensures rooted { (me : AMe) (a key k v n : ℕ) (r0 r : AMemo) (tr : Trail) → FetchGives me a key r0 r tr (fetched.Rooted k v n) → (keys : ℕ) × HasSearch me a key keys tr × IsWithin (fetch_steps + 2 * keys) tr }
-    ensures refused { (me : AMe) (a key : ℕ) (f : APutFault) (r0 r : AMemo) (tr : Trail) → FetchGives me a key r0 r tr (fetched.Refused f) → (keys : ℕ) × HasSearch me a key keys tr × IsWithin (fetch_steps + 2 * keys) tr }
-    ensures steps { fetch_steps ≡ 32 }
+    ensures rooted { (me : AMe) (a key k v n : ℕ) (r0 r : AMemo) (tr : Trail) → FetchGives me a key r0 r tr (fetched.Rooted k v n) → (keys : ℕ) × HasSearch me a key keys tr × IsWithin (fetch_steps me.geometry.wide + 2 * keys) tr }
+    ensures refused { (me : AMe) (a key : ℕ) (f : APutFault) (r0 r : AMemo) (tr : Trail) → FetchGives me a key r0 r tr (fetched.Refused f) → (keys : ℕ) × HasSearch me a key keys tr × IsWithin (fetch_steps me.geometry.wide + 2 * keys) tr }
+    ensures steps { fetch_steps false ≡ 32 }
+    ensures wide { fetch_steps true ≡ 33 }
 {}
 
 /// A copy fits each memo of a client between two calls, in a pool for tables, with no latch.
@@ -68,8 +69,8 @@ pub fn copy_leaves()
 {}
 
 /// A copy takes at most the word steps of a put without its value block, 32 more, 2 for each key that it read in both tables, and 164 for
-/// each block that it freed or left on the way; that is within what a command may take.
+/// each block that it freed or left on the way, in format 2 33 and 180; that is within what a command may take.
 pub fn copy_bound()
-    ensures own { (me : AMe) (key a other : ℕ) (r0 r : AMemo) (tr : Trail) (b : AnAnswer) → CopyGives me key a other r0 r tr b → IsCopyShort me key a other (λ k t. copy_steps me.geometry.segments + 2 * k + tear_steps t) r tr (copy_told me key a other tr) }
-    ensures command { (me : AMe) (key a other : ℕ) (r0 r : AMemo) (tr : Trail) (b : AnAnswer) → CopyGives me key a other r0 r tr b → IsCopyShort me key a other (command_steps me.geometry.segments) r tr (copy_told me key a other tr) }
+    ensures own { (me : AMe) (key a other : ℕ) (r0 r : AMemo) (tr : Trail) (b : AnAnswer) → CopyGives me key a other r0 r tr b → IsCopyShort me key a other (λ k t. copy_steps me.geometry.wide me.geometry.segments + 2 * k + tear_steps me.geometry.wide t) r tr (copy_told me key a other tr) }
+    ensures command { (me : AMe) (key a other : ℕ) (r0 r : AMemo) (tr : Trail) (b : AnAnswer) → CopyGives me key a other r0 r tr b → IsCopyShort me key a other (command_steps me.geometry.wide me.geometry.segments) r tr (copy_told me key a other tr) }
 {}

@@ -110,10 +110,11 @@ pub fn command_lines()
 {}
 
 /// Whatever it answers, it takes at most 1,638 word steps for each segment of the pool, 300, 2 for each key that it read, 164 for each block
-/// that it freed or left on the way, and three for each exchange that failed.
+/// that it freed or left on the way, in format 2 320 and 180, and three for each exchange that failed.
 pub fn command_bound()
     ensures within { (me : AMe) (l : ALine) (r0 r : AMemo) (tr : Trail) (b : AnAnswer) → CommandGives (command_of me l) r0 r tr b → IsCommandShort me l r tr (command_told me l tr) }
-    ensures steps { (g k t : ℕ) → command_steps g k t ≡ 1638 * g + 2 * k + 164 * t + 300 }
+    ensures steps { (g k t : ℕ) → command_steps false g k t ≡ 1638 * g + 2 * k + 164 * t + 300 }
+    ensures wide { (g k t : ℕ) → command_steps true g k t ≡ 1638 * g + 2 * k + 180 * t + 320 }
 {}
 
 /// It shows what it will answer exactly from its deciding step on, whatever words are found, and it answers what it showed.

@@ -5,7 +5,7 @@ ghost use Rattle.shm_graph.specs.declared.ask.Me.{Me as AMe};
 ghost use Rattle.shm_graph.specs.declared.memo.Memo.{Memo as AMemo};
 ghost use Rattle.shm_graph.specs.declared.spot.Spot.TheVariants.{Home};
 ghost use Rattle.shm_graph.specs.Asks.{Trail, IsWithin};
-ghost use Rattle.shm_graph.specs.Bounds.{alloc_steps, tear_steps, up_steps};
+ghost use Rattle.shm_graph.specs.Bounds.{alloc_steps, tear_steps, up_steps, redo_steps};
 ghost use Rattle.shm_graph.specs.Tells.{Tells};
 ghost use Rattle.shm_graph.specs.Views.{own_word};
 ghost use Rattle.shm_calls.specs.CallsControl.{calls_does};
@@ -48,8 +48,8 @@ pub fn open_table_tells()
 {}
 
 /// The opening of a table took at most a word step for the home, those of an allocation, of a step up and of the drop of a root, with 164
-/// more for each block that was freed, or is left as a zero-count block.
+/// more for each block that was freed, or is left as a zero-count block, in format 2 180.
 pub fn open_table_bound()
-    ensures done { (me : AMe) (r0 r : AMemo) (tr : Trail) → OpenGives me r0 r tr (Ok tt) → IsWithin (1 + alloc_steps me.geometry.segments + up_steps + 9 + tear_steps (frees (open_told me tr))) tr }
-    ensures refused { (me : AMe) (r0 r : AMemo) (tr : Trail) (f : AFault) → OpenGives me r0 r tr (Err f) → (vs : List AVisit) × OpenLeft me r0 r (open_told me tr) vs f × IsWithin (1 + alloc_steps me.geometry.segments + up_steps + 9 + tear_steps (frees (open_told me tr) + length vs)) tr }
+    ensures done { (me : AMe) (r0 r : AMemo) (tr : Trail) → OpenGives me r0 r tr (Ok tt) → IsWithin (1 + alloc_steps me.geometry.wide me.geometry.segments + up_steps me.geometry.wide + (8 + redo_steps me.geometry.wide) + tear_steps me.geometry.wide (frees (open_told me tr))) tr }
+    ensures refused { (me : AMe) (r0 r : AMemo) (tr : Trail) (f : AFault) → OpenGives me r0 r tr (Err f) → (vs : List AVisit) × OpenLeft me r0 r (open_told me tr) vs f × IsWithin (1 + alloc_steps me.geometry.wide me.geometry.segments + up_steps me.geometry.wide + (8 + redo_steps me.geometry.wide) + tear_steps me.geometry.wide (frees (open_told me tr) + length vs)) tr }
 {}

@@ -38,11 +38,11 @@ pub fn put_root_leaves()
     ensures trail { (me : AMe) (key v : ℕ) (r0 r : AMemo) (tr : Trail) (a : Result Bool AFault) → PutRootGives me key v r0 r tr a → plan_trail put_root_plan (putting_root me key v) tr a }
 {}
 
-/// It takes at most the word steps of its calls, 2 for each key that it read, and 164 for each block that it freed or left on the way; that
-/// is within what a command may take.
+/// It takes at most the word steps of its calls, 2 for each key that it read, and 164 for each block that it freed or left on the way, in
+/// format 2 180; that is within what a command may take.
 pub fn put_root_bound()
-    ensures own { (me : AMe) (key v : ℕ) (r0 r : AMemo) (tr : Trail) (a : Result Bool AFault) → PutRootGives me key v r0 r tr a → IsPutShort me key (λ k t. put_root_steps me.geometry.segments + 2 * k + tear_steps t) r tr (put_root_told me key v tr) }
-    ensures command { (me : AMe) (key v : ℕ) (r0 r : AMemo) (tr : Trail) (a : Result Bool AFault) → PutRootGives me key v r0 r tr a → IsPutShort me key (command_steps me.geometry.segments) r tr (put_root_told me key v tr) }
+    ensures own { (me : AMe) (key v : ℕ) (r0 r : AMemo) (tr : Trail) (a : Result Bool AFault) → PutRootGives me key v r0 r tr a → IsPutShort me key (λ k t. put_root_steps me.geometry.wide me.geometry.segments + 2 * k + tear_steps me.geometry.wide t) r tr (put_root_told me key v tr) }
+    ensures command { (me : AMe) (key v : ℕ) (r0 r : AMemo) (tr : Trail) (a : Result Bool AFault) → PutRootGives me key v r0 r tr a → IsPutShort me key (command_steps me.geometry.wide me.geometry.segments) r tr (put_root_told me key v tr) }
 {}
 
 /// That a key is to have a number fits each memo of a client between two calls, in a pool for tables, with no latch.
@@ -62,9 +62,9 @@ pub fn put_leaves()
     ensures trail { (me : AMe) (key n : ℕ) (r0 r : AMemo) (tr : Trail) (a : AnAnswer) → PutGives me key n r0 r tr a → plan_trail put_plan (putting me key n) tr a }
 {}
 
-/// It takes at most the word steps of its calls, 2 for each key that it read, and 164 for each block that it freed or left on the way; that
-/// is within what a command may take.
+/// It takes at most the word steps of its calls, 2 for each key that it read, and 164 for each block that it freed or left on the way, in
+/// format 2 180; that is within what a command may take.
 pub fn put_bound()
-    ensures own { (me : AMe) (key n : ℕ) (r0 r : AMemo) (tr : Trail) (a : AnAnswer) → PutGives me key n r0 r tr a → IsPutShort me key (λ k t. put_steps me.geometry.segments + 2 * k + tear_steps t) r tr (put_told me key n tr) }
-    ensures command { (me : AMe) (key n : ℕ) (r0 r : AMemo) (tr : Trail) (a : AnAnswer) → PutGives me key n r0 r tr a → IsPutShort me key (command_steps me.geometry.segments) r tr (put_told me key n tr) }
+    ensures own { (me : AMe) (key n : ℕ) (r0 r : AMemo) (tr : Trail) (a : AnAnswer) → PutGives me key n r0 r tr a → IsPutShort me key (λ k t. put_steps me.geometry.wide me.geometry.segments + 2 * k + tear_steps me.geometry.wide t) r tr (put_told me key n tr) }
+    ensures command { (me : AMe) (key n : ℕ) (r0 r : AMemo) (tr : Trail) (a : AnAnswer) → PutGives me key n r0 r tr a → IsPutShort me key (command_steps me.geometry.wide me.geometry.segments) r tr (put_told me key n tr) }
 {}

@@ -117,5 +117,5 @@ pub fn get_tells()
 pub fn get_bound()
     ensures missing { (me : AMe) (a key : ℕ) (r0 r : AMemo) (tr : Trail) → GetGives me a key r0 r tr answer.Missing → (ps : List Passed) × GetAsked me a key ps tr answer.Missing × IsWithin (6 + 2 * keys_got ps answer.Missing) tr }
     ensures found { (me : AMe) (a key : ℕ) (r0 r : AMemo) (tr : Trail) (n v : ℕ) → GetGives me a key r0 r tr (answer.Value n v) → (ps : List Passed) × GetAsked me a key ps tr (answer.Value n v) × IsWithin (7 + 2 * keys_got ps (answer.Value n v)) tr }
-    ensures within { (me : AMe) (a key : ℕ) (r0 r : AMemo) (tr : Trail) (b : AnAnswer) → GetGives me a key r0 r tr b → (ps : List Passed) × GetAsked me a key ps tr b × IsWithin (command_steps me.geometry.segments (keys_got ps b) 0) tr }
+    ensures within { (me : AMe) (a key : ℕ) (r0 r : AMemo) (tr : Trail) (b : AnAnswer) → GetGives me a key r0 r tr b → (ps : List Passed) × GetAsked me a key ps tr b × IsWithin (command_steps me.geometry.wide me.geometry.segments (keys_got ps b) 0) tr }
 {}

@@ -1,7 +1,7 @@
 //! When the value block at the head of a queue may come to have a root, may be taken, and a key may come to have it; what that does to the
 //! graph of references, to the map and to the queue, what it leaves, and how many word steps it takes.
 
-ghost use Rattle.std.specs.Prelude.{◌≡◌, ℕ, ◌+◌, ◌*◌, ◌⊎◌, Result, [], List, length};
+ghost use Rattle.std.specs.Prelude.{◌≡◌, ℕ, ◌+◌, ◌*◌, ◌⊎◌, Result, [], List, length, true, false};
 ghost use Rattle.std.specs.List.{All, Contains};
 ghost use Rattle.shm_graph.specs.declared.ask.Me.{Me as AMe};
 ghost use Rattle.shm_graph.specs.declared.memo.Memo.{Memo as AMemo};
@@ -41,10 +41,11 @@ pub fn fetch_head_leaves()
     ensures trail { (me : AMe) (s : ℕ) (r0 r : AMemo) (tr : Trail) (b : AFetched) → FetchHeadGives me s r0 r tr b → plan_trail fetch_head_plan (fetching_head me s) tr b }
 {}
 
-/// It takes at most 28 word steps.
+/// It takes at most 28 word steps, in format 2 29.
 pub fn fetch_head_bound()
-    ensures within { (me : AMe) (s : ℕ) (r0 r : AMemo) (tr : Trail) (b : AFetched) → FetchHeadGives me s r0 r tr b → IsWithin fetch_head_steps tr }
-    ensures steps { fetch_head_steps ≡ 28 }
+    ensures within { (me : AMe) (s : ℕ) (r0 r : AMemo) (tr : Trail) (b : AFetched) → FetchHeadGives me s r0 r tr b → IsWithin (fetch_head_steps me.geometry.wide) tr }
+    ensures steps { fetch_head_steps false ≡ 28 }
+    ensures wide { fetch_head_steps true ≡ 29 }
 {}
 
 /// That an item is to be taken fits each memo between two calls in which it is known at the head, and an own root names it.
@@ -63,10 +64,11 @@ pub fn take_head_leaves()
     ensures trail { (me : AMe) (s n b : ℕ) (r0 r : AMemo) (tr : Trail) (a : Result (Unit {0}) ASpent) → TakeHeadGives me s n b r0 r tr a → plan_trail take_head_plan (taking_head me s n b) tr a }
 {}
 
-/// It takes at most nine word steps.
+/// It takes at most nine word steps, in format 2 ten.
 pub fn take_head_bound()
-    ensures within { (me : AMe) (s n b : ℕ) (r0 r : AMemo) (tr : Trail) (a : Result (Unit {0}) ASpent) → TakeHeadGives me s n b r0 r tr a → IsWithin take_head_steps tr }
-    ensures steps { take_head_steps ≡ 9 }
+    ensures within { (me : AMe) (s n b : ℕ) (r0 r : AMemo) (tr : Trail) (a : Result (Unit {0}) ASpent) → TakeHeadGives me s n b r0 r tr a → IsWithin (take_head_steps me.geometry.wide) tr }
+    ensures steps { take_head_steps false ≡ 9 }
+    ensures wide { take_head_steps true ≡ 10 }
 {}
 
 /// A receive fits each memo of a client between two calls, in a pool for tables, with no latch, where no item of the queue waits for its
@@ -88,9 +90,9 @@ pub fn recv_leaves()
     ensures trail { (me : AMe) (s key : ℕ) (r0 r : AMemo) (tr : Trail) (b : AnAnswer) → RecvGives me s key r0 r tr b → plan_trail recv_plan (receiving_key me s key) tr b }
 {}
 
-/// It takes at most the word steps of a put without its value block, 46 more, 2 for each key that it read, and 164 for each block that it
-/// freed or left on the way; that is within what a command may take.
+/// It takes at most the word steps of a `PutRoot`, 46 more, 2 for each key that it read, and 164 for each block that it freed or left on
+/// the way, in format 2 49 and 180; that is within what a command may take.
 pub fn recv_bound()
-    ensures own { (me : AMe) (s key : ℕ) (r0 r : AMemo) (tr : Trail) (b : AnAnswer) → RecvGives me s key r0 r tr b → IsPutShort me key (λ k t. recv_steps me.geometry.segments + 2 * k + tear_steps t) r tr (recv_told me s key tr) }
-    ensures command { (me : AMe) (s key : ℕ) (r0 r : AMemo) (tr : Trail) (b : AnAnswer) → RecvGives me s key r0 r tr b → IsPutShort me key (command_steps me.geometry.segments) r tr (recv_told me s key tr) }
+    ensures own { (me : AMe) (s key : ℕ) (r0 r : AMemo) (tr : Trail) (b : AnAnswer) → RecvGives me s key r0 r tr b → IsPutShort me key (λ k t. recv_steps me.geometry.wide me.geometry.segments + 2 * k + tear_steps me.geometry.wide t) r tr (recv_told me s key tr) }
+    ensures command { (me : AMe) (s key : ℕ) (r0 r : AMemo) (tr : Trail) (b : AnAnswer) → RecvGives me s key r0 r tr b → IsPutShort me key (command_steps me.geometry.wide me.geometry.segments) r tr (recv_told me s key tr) }
 {}

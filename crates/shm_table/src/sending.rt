@@ -1,7 +1,7 @@
 //! When what a key of the own table has may be sent; what that does to the graph of references and to the queue, what it leaves, and how
 //! many word steps it takes.
 
-ghost use Rattle.std.specs.Prelude.{◌≡◌, ℕ, ◌+◌, Some, None, []};
+ghost use Rattle.std.specs.Prelude.{◌≡◌, ℕ, ◌+◌, Some, None, [], true, false};
 ghost use Rattle.shm_graph.specs.declared.ask.Me.{Me as AMe};
 ghost use Rattle.shm_graph.specs.declared.memo.Memo.{Memo as AMemo};
 ghost use Rattle.shm_graph.specs.declared.spot.Spot.TheVariants.{Tail};
@@ -42,9 +42,10 @@ pub fn send_key_leaves()
         → (n : ℕ) × (b : ℕ) × (map_in r0.part key ≡ Some (n, b)) × (r.sent ≡ lane_with r0.sent i b) × (own_word r.own (Tail me.who i) ≡ own_word r0.own (Tail me.who i) + 1) }
 {}
 
-/// It takes at most 18 word steps, and 2 for each key that it read; that is within what a command may take.
+/// It takes at most 18 word steps, in format 2 19, and 2 for each key that it read; that is within what a command may take.
 pub fn send_key_bound()
-    ensures own { (me : AMe) (i key : ℕ) (r0 r : AMemo) (tr : Trail) (a : AnAnswer) → SendKeyGives me i key r0 r tr a → IsSendShort me key own_steps tr }
-    ensures command { (me : AMe) (i key : ℕ) (r0 r : AMemo) (tr : Trail) (a : AnAnswer) → SendKeyGives me i key r0 r tr a → IsSendShort me key (λ k. command_steps me.geometry.segments k 0) tr }
-    ensures steps { send_key_steps ≡ 18 }
+    ensures own { (me : AMe) (i key : ℕ) (r0 r : AMemo) (tr : Trail) (a : AnAnswer) → SendKeyGives me i key r0 r tr a → IsSendShort me key (own_steps me.geometry.wide) tr }
+    ensures command { (me : AMe) (i key : ℕ) (r0 r : AMemo) (tr : Trail) (a : AnAnswer) → SendKeyGives me i key r0 r tr a → IsSendShort me key (λ k. command_steps me.geometry.wide me.geometry.segments k 0) tr }
+    ensures steps { send_key_steps false ≡ 18 }
+    ensures wide { send_key_steps true ≡ 19 }
 {}

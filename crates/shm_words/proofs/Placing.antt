@@ -1,11 +1,11 @@
 -- places and addresses are inverse, and every address is small
-use Rattle.std.proofs.Common.{◌≡◌, ℕ, ◌+◌, ◌-◌, ◌*◌, ◌/◌, ◌%◌, ◌^◌, ◌<◌, ◌≤◌, sym, ap, ◌∙◌, arith, true}
+use Rattle.std.proofs.Common.{◌≡◌, ℕ, ◌+◌, ◌-◌, ◌*◌, ◌/◌, ◌%◌, ◌<◌, ◌≤◌, sym, ap, ◌∙◌, arith, true, false}
 use Rattle.std.proofs.lemmas.Nat.{mul-add-lt, mul-le, div_below, mod_below}
 use Rattle.std.proofs.lemmas.Bool.Decides.{nat_tests}
 use Rattle.shm_words.specs.declared.place.Place.{Place}
-use Rattle.shm_words.specs.declared.place.Place.TheVariants.{Spare, Status, Redo, Hold, Latch, Home, Era, Root, Tail, Head, Slot, Segment, Page, Body}
+use Rattle.shm_words.specs.declared.place.Place.TheVariants.{Spare, Status, Redo, RedoMore, Hold, Latch, Home, Era, Root, Tail, Head, Slot, Segment, Page, Body}
 use Rattle.shm_words.specs.declared.geometry.Geometry.{Geometry}
-use Rattle.shm_words.specs.Layout.{GeometryFits, address, is_in, place_at, eras, roots, queues, segments, bodies, total_of, queue_place, address_limit}
+use Rattle.shm_words.specs.Layout.{GeometryFits, address, is_in, place_at, eras, roots, queues, segments, total_of, queue_place, place_limit, address_limit}
 use Rattle.shm_words.proofs.Regions.{era_at, root_at, queue_at, page_at, body_at}
 
 -- the place of the address of a place that the pool has
@@ -14,6 +14,7 @@ unfolding place_at address
 place-address g Spare h = grind (arith, nat_tests)
 place-address g (Status c) h = grind (arith, nat_tests)
 place-address g (Redo c) h = grind (arith, nat_tests)
+place-address g (RedoMore c) h = grind (arith, nat_tests)
 place-address g (Hold c) h = grind (arith, nat_tests)
 place-address g (Latch c) h = grind (arith, nat_tests)
 place-address g (Home c) h = grind (arith, nat_tests)
@@ -48,6 +49,7 @@ unfolding address
 address_below g Spare h f = grind (arith, nat_tests)
 address_below g (Status c) h f = grind (arith, nat_tests)
 address_below g (Redo c) h f = grind (arith, nat_tests)
+address_below g (RedoMore c) h f = grind (arith, nat_tests)
 address_below g (Hold c) h f = grind (arith, nat_tests)
 address_below g (Latch c) h f = grind (arith, nat_tests)
 address_below g (Home c) h f = grind (arith, nat_tests)
@@ -105,12 +107,23 @@ same_address g p q h k e = sym (place-address g p h) ∙ (ap (place_at g) e ∙ 
 pub same_place : (g : Geometry) (a b : ℕ) → a < total_of g → b < total_of g → place_at g a ≡ place_at g b → a ≡ b
 same_place g a b p q e = sym (address-place g a p) ∙ (ap (address g) e ∙ address-place g b q)
 
--- the greatest pool has 16 clients and 256 segments
-pub total_most : (g : Geometry) → GeometryFits g → total_of g ≤ 531793
-total_most g f = let s = mul-le g.clients g.clients 16 16 f.clients f.clients in omega arith
+-- the greatest pool of format 1 has 16 clients and 256 segments
+pub total_most : (g : Geometry) → GeometryFits g → g.wide ≡ false → total_of g ≤ 531793
+total_most g f e = let s = mul-le g.clients g.clients 16 16 f.clients f.clients in grind (arith)
+
+-- that of format 2 has 16 clients and 8,000 segments
+pub total_most_wide : (g : Geometry) → GeometryFits g → total_of g ≤ 16523169
+total_most_wide g f = let s = mul-le g.clients g.clients 16 16 f.clients f.clients in grind (arith)
+
+pub total_in_format : (g : Geometry) → GeometryFits g → total_of g < place_limit g.wide
+total_in_format g f = let s = mul-le g.clients g.clients 16 16 f.clients f.clients in grind (arith)
 
 pub total_small : (g : Geometry) → GeometryFits g → total_of g < address_limit
-total_small g f = let m = total_most g f in omega arith
+total_small g f = let m = total_most_wide g f in omega arith
 
 pub address_small : (g : Geometry) (p : Place) → is_in g p ≡ true → GeometryFits g → address g p < address_limit
-address_small g p h f = let l = address_below g p h f in let m = total_most g f in omega arith
+address_small g p h f = let l = address_below g p h f in let m = total_most_wide g f in omega arith
+
+-- no pool has more segments than this
+pub segments_few : (g : Geometry) → GeometryFits g → g.segments ≤ 8000
+segments_few g f = grind (arith)

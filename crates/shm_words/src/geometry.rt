@@ -1,15 +1,19 @@
-//! The sizes of a pool and the addresses of its words.
+//! The sizes and the format of a pool, and the addresses of its words.
 
-ghost use Rattle.std.specs.Prelude.{◌≡◌, ℕ, ◌<◌, ◌≤◌, IfOk, IfErr, IsOk, ◌↔◌, Some, None};
+ghost use Rattle.std.specs.Prelude.{◌≡◌, ℕ, ◌<◌, ◌≤◌, IfOk, IfErr, IsOk, ◌↔◌, Some, None, true, false, if◌then◌else◌, ◌+◌};
 
 use crate::place::Place;
+use crate::redo::{Pair2, Redo};
 use crate::tag::Tag;
 
-/// The number of clients (1 to 16) and of segments (1 to 256) of a pool.
+/// The number of clients (1 to 16) and of segments of a pool, and its format.
+///
+/// A pool of format 1 has 1 to 256 segments and addresses below 2^20, one of format 2 has 1 to 8,000 and addresses below 2^24.
 #[derive(Clone, Copy, Debug, PartialEq, Eq, Drop)]
 pub struct Geometry {
     clients: u8,
     segments: u16,
+    wide: bool,
 }
 
 /// The numbers that are out of range.
@@ -17,24 +21,47 @@ pub struct Geometry {
 pub struct BadGeometry {
     /// The number of clients that was asked for; a pool has 1 to 16.
     pub clients: u8,
-    /// The number of segments that was asked for; a pool has 1 to 256.
+    /// The number of segments that was asked for; a pool has 1 to 256, or 1 to 8,000 in format 2.
     pub segments: u16,
 }
 
 impl Geometry {
     ghost use Rattle.shm_words.specs.declared.place.Place.{Place as APlace};
-    ghost use Rattle.shm_words.specs.Layout.{GeometryFits, total_of, address, eras, roots, queues, segments, pages, bodies, place_at};
+    ghost use Rattle.shm_words.specs.Layout.{place_limit, GeometryFits, total_of, address, more, eras, roots, queues, segments, pages, bodies, place_at, redo_place};
     ghost use Rattle.shm_words.specs.Tags.{TagFits, tag_word, tag_of};
+    ghost use Rattle.shm_words.specs.Redos.{first_word, second_word, redo_of};
 
-    /// The sizes of a pool of 1 to 16 clients and 1 to 256 segments; other numbers are refused.
+    /// The sizes of a pool of format 1, of 1 to 16 clients and 1 to 256 segments; other numbers are refused.
     pub fn new(clients: u8, segments: u16) -> Result<Geometry, BadGeometry>
         ensures exactly { IsOk result ↔ (1 ≤ clients) × (clients ≤ 16) × (1 ≤ segments) × (segments ≤ 256) }
         ensures fits { IfOk result (λ g. GeometryFits g) }
-        ensures sizes { IfOk result (λ g. (g.clients ≡ clients) × (g.segments ≡ segments)) }
+        ensures sizes { IfOk result (λ g. (g.clients ≡ clients) × (g.segments ≡ segments) × (g.wide ≡ false)) }
         ensures refused { IfErr result (λ e. (e.clients ≡ clients) × (e.segments ≡ segments)) }
     {
         if (1..=16).contains(&clients) && (1..=256).contains(&segments) {
-            Ok(Geometry { clients, segments })
+            Ok(Geometry {
+                clients,
+                segments,
+                wide: false,
+            })
+        } else {
+            Err(BadGeometry { clients, segments })
+        }
+    }
+
+    /// The sizes of a pool of format 2, of 1 to 16 clients and 1 to 8,000 segments; other numbers are refused.
+    pub fn wide(clients: u8, segments: u16) -> Result<Geometry, BadGeometry>
+        ensures exactly { IsOk result ↔ (1 ≤ clients) × (clients ≤ 16) × (1 ≤ segments) × (segments ≤ 8000) }
+        ensures fits { IfOk result (λ g. GeometryFits g) }
+        ensures sizes { IfOk result (λ g. (g.clients ≡ clients) × (g.segments ≡ segments) × (g.wide ≡ true)) }
+        ensures refused { IfErr result (λ e. (e.clients ≡ clients) × (e.segments ≡ segments)) }
+    {
+        if (1..=16).contains(&clients) && (1..=8000).contains(&segments) {
+            Ok(Geometry {
+                clients,
+                segments,
+                wide: true,
+            })
         } else {
             Err(BadGeometry { clients, segments })
         }
@@ -47,14 +74,28 @@ impl Geometry {
         self.clients
     }
 
-    /// How many segments a pool has, 1 to 256.
+    /// How many segments a pool has, 1 to 256, or 1 to 8,000 in format 2.
     pub fn segments(self) -> u16
         ensures { result ≡ self.segments }
     {
         self.segments
     }
 
-    /// How many words a pool has, at most 531,793.
+    /// Whether the pool is of format 2.
+    pub fn is_wide(self) -> bool
+        ensures { result ≡ self.wide }
+    {
+        self.wide
+    }
+
+    /// The format of the pool, 1 or 2.
+    pub fn format(self) -> u8
+        ensures { result ≡ if self.wide then 2 else 1 }
+    {
+        if self.wide { 2 } else { 1 }
+    }
+
+    /// How many words a pool has, at most 531,793, or 16,523,169 in format 2.
     pub fn total(self) -> u32
         requires { GeometryFits self }
         ensures { result ≡ total_of self }
@@ -62,11 +103,22 @@ impl Geometry {
         self.bodies_start() + 2048 * u32::from(self.segments)
     }
 
+    // how many second words of redo records there are, one for each client in format 2
+    fn more(self) -> u32
+        ensures { result ≡ more self }
+    {
+        if self.wide {
+            u32::from(self.clients)
+        } else {
+            0
+        }
+    }
+
     fn eras_start(self) -> u32
         requires { GeometryFits self }
         ensures { result ≡ eras self }
     {
-        1 + 5 * u32::from(self.clients)
+        1 + 5 * u32::from(self.clients) + self.more()
     }
 
     fn roots_start(self) -> u32
@@ -74,7 +126,7 @@ impl Geometry {
         ensures { result ≡ roots self }
     {
         let n = u32::from(self.clients);
-        1 + 5 * n + n * n
+        1 + 5 * n + self.more() + n * n
     }
 
     fn queues_start(self) -> u32
@@ -82,7 +134,7 @@ impl Geometry {
         ensures { result ≡ queues self }
     {
         let n = u32::from(self.clients);
-        1 + 21 * n + n * n
+        1 + 21 * n + self.more() + n * n
     }
 
     fn segments_start(self) -> u32
@@ -90,7 +142,7 @@ impl Geometry {
         ensures { result ≡ segments self }
     {
         let n = u32::from(self.clients);
-        1 + 21 * n + 11 * (n * n)
+        1 + 21 * n + self.more() + 11 * (n * n)
     }
 
     fn pages_start(self) -> u32
@@ -117,14 +169,29 @@ impl Geometry {
         1 + u32::from(c)
     }
 
-    /// The address of the redo record of `c`.
+    /// The address of the redo record of `c`, in format 2 of its first word.
     #[tactic(auto, unfolding(crate::specs::Layout::address))]
     pub fn redo(self, c: u8) -> u32
         requires fits { GeometryFits self }
         requires client { c < self.clients }
         ensures { result ≡ address self (APlace.Redo c) }
     {
-        1 + u32::from(self.clients) + u32::from(c)
+        if self.wide {
+            1 + u32::from(self.clients) + 2 * u32::from(c)
+        } else {
+            1 + u32::from(self.clients) + u32::from(c)
+        }
+    }
+
+    /// The address of the second word of the redo record of `c`, in format 2.
+    #[tactic(auto, unfolding(crate::specs::Layout::address))]
+    pub fn redo_more(self, c: u8) -> u32
+        requires fits { GeometryFits self }
+        requires wide { self.wide ≡ true }
+        requires client { c < self.clients }
+        ensures { result ≡ address self (APlace.RedoMore c) }
+    {
+        2 + u32::from(self.clients) + 2 * u32::from(c)
     }
 
     /// The address of the word that says which latch `c` wants or holds.
@@ -134,7 +201,7 @@ impl Geometry {
         requires client { c < self.clients }
         ensures { result ≡ address self (APlace.Hold c) }
     {
-        1 + 2 * u32::from(self.clients) + u32::from(c)
+        1 + 2 * u32::from(self.clients) + self.more() + u32::from(c)
     }
 
     /// The address of the latch of `c`.
@@ -144,7 +211,7 @@ impl Geometry {
         requires client { c < self.clients }
         ensures { result ≡ address self (APlace.Latch c) }
     {
-        1 + 3 * u32::from(self.clients) + u32::from(c)
+        1 + 3 * u32::from(self.clients) + self.more() + u32::from(c)
     }
 
     /// The address of the home word of `c`.
@@ -154,7 +221,7 @@ impl Geometry {
         requires client { c < self.clients }
         ensures { result ≡ address self (APlace.Home c) }
     {
-        1 + 4 * u32::from(self.clients) + u32::from(c)
+        1 + 4 * u32::from(self.clients) + self.more() + u32::from(c)
     }
 
     /// The address of the greatest era of `j` that `i` has seen; for `i` equal to `j`, of the era of `i`.
@@ -247,17 +314,82 @@ impl Geometry {
 
     /// The tag that a word is; `None` exactly where no tag in range packs to the word.
     pub fn read_tag(self, word: u64) -> Option<Tag>
-        ensures { result ≡ tag_of word }
+        ensures { result ≡ tag_of self.wide word }
     {
-        Tag::unpack(word)
+        if self.wide {
+            Tag::unpack_wide(word)
+        } else {
+            Tag::unpack(word)
+        }
     }
 
     /// The word of a tag.
     pub fn write_tag(self, tag: Tag) -> u64
-        requires { TagFits tag }
-        ensures { result ≡ tag_word tag }
+        requires { TagFits self.wide tag }
+        ensures { result ≡ tag_word self.wide tag }
     {
-        tag.pack()
+        if self.wide {
+            tag.pack_wide()
+        } else {
+            tag.pack()
+        }
+    }
+
+    /// The redo record that the words are; in format 1 it has no second word, and `second` counts for nothing.
+    pub fn read_redo(self, first: u64, second: u64) -> Option<Redo>
+        ensures { result ≡ redo_of self.wide first second }
+    {
+        if self.wide {
+            Redo::unpack_wide(Pair2 { first, second })
+        } else {
+            Redo::unpack(first)
+        }
+    }
+
+    /// The addresses of the pool are below this number: so many bits its redo records and tags have for one.
+    #[inline(always)]
+    pub fn limit(self) -> u32
+        ensures { result ≡ place_limit self.wide }
+    {
+        if self.wide { 1 << 24 } else { 1 << 20 }
+    }
+
+    /// The words of a redo record, whose places are brought into range; in format 1 the second one is 0.
+    pub fn write_redo(self, redo: Redo) -> Pair2
+        ensures first { result.first ≡ first_word self.wide redo }
+        ensures second { result.second ≡ second_word self.wide redo }
+    {
+        let limit = self.limit();
+        let redo = match redo {
+            Redo::Idle => Redo::Idle,
+            Redo::Up { slot, block } => Redo::Up {
+                slot: slot % limit,
+                block: block % limit,
+            },
+            Redo::Down { slot, block } => Redo::Down {
+                slot: slot % limit,
+                block: block % limit,
+            },
+            Redo::Change {
+                odd,
+                slot,
+                before,
+                after,
+            } => Redo::Change {
+                odd,
+                slot: slot % limit,
+                before: before % limit,
+                after: after % limit,
+            },
+        };
+        if self.wide {
+            redo.pack_wide()
+        } else {
+            Pair2 {
+                first: redo.pack(),
+                second: 0,
+            }
+        }
     }
 
     /// What the word at an address is for; `None` exactly where the address is not below `total`.
@@ -285,31 +417,49 @@ impl Geometry {
         ensures { result ≡ place_at self at }
     {
         let n = u32::from(self.clients);
+        let more = self.more();
         if at == 0 {
             Place::Spare
         } else if at < 1 + n {
             Place::Status { c: (at - 1) as u8 }
-        } else if at < 1 + 2 * n {
-            Place::Redo {
-                c: (at - (1 + n)) as u8,
-            }
-        } else if at < 1 + 3 * n {
+        } else if at < 1 + 2 * n + more {
+            self.redo_place(at - (1 + n))
+        } else if at < 1 + 3 * n + more {
             Place::Hold {
-                c: (at - (1 + 2 * n)) as u8,
+                c: (at - (1 + 2 * n + more)) as u8,
             }
-        } else if at < 1 + 4 * n {
+        } else if at < 1 + 4 * n + more {
             Place::Latch {
-                c: (at - (1 + 3 * n)) as u8,
+                c: (at - (1 + 3 * n + more)) as u8,
             }
-        } else if at < 1 + 5 * n {
+        } else if at < 1 + 5 * n + more {
             Place::Home {
-                c: (at - (1 + 4 * n)) as u8,
+                c: (at - (1 + 4 * n + more)) as u8,
             }
         } else {
-            let cell = at - (1 + 5 * n);
+            let cell = at - (1 + 5 * n + more);
             Place::Era {
                 i: (cell / n) as u8,
                 j: (cell % n) as u8,
+            }
+        }
+    }
+
+    // the words of redo records, from the first one
+    fn redo_place(self, word: u32) -> Place
+        requires fits { GeometryFits self }
+        requires range { word < self.clients + more self }
+        ensures { result ≡ redo_place self.wide word }
+    {
+        if !self.wide {
+            Place::Redo { c: word as u8 }
+        } else if word % 2 == 0 {
+            Place::Redo {
+                c: (word / 2) as u8,
+            }
+        } else {
+            Place::RedoMore {
+                c: (word / 2) as u8,
             }
         }
     }

@@ -7,8 +7,10 @@ pub enum Place {
     Spare,
     /// The status of an identity.
     Status { c: u8 },
-    /// The redo record of an identity.
+    /// The redo record of an identity, in format 2 its first word.
     Redo { c: u8 },
+    /// The second word of the redo record of an identity, in format 2.
+    RedoMore { c: u8 },
     /// Which latch an identity wants or holds.
     Hold { c: u8 },
     /// Who holds the latch of an identity.

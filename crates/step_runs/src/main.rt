@@ -1,8 +1,8 @@
 //! Machines on the words of a pool, word step by word step, by the lines of standard input.
 //!
-//! A line `# ..` names a row. `pool CLIENTS SEGMENTS` begins with words that are 0, `set AT=VALUE ..` sets some of them, and any other line runs
-//! the machine of its name: an identity, and the machine's own numbers. The words stay as a machine leaves them. What is told of a run is said
-//! at `go` of shm_runs. What must be told (the file stdout) was computed by an independent implementation.
+//! A line `# ..` names a row. `pool CLIENTS SEGMENTS` begins with words that are 0 (`pool2` in format 2), `set AT=VALUE ..` sets some of them,
+//! and any other line runs the machine of its name: an identity, and the machine's own numbers. The words stay as a machine leaves them. What
+//! is told of a run is said at `go` of shm_runs. What must be told (the file stdout) was computed by an independent implementation.
 #![tactic(auto)]
 
 ghost use Rattle.std.specs.Prelude.{◌<◌};

@@ -1,10 +1,10 @@
 //! Machines over tables on the words of a pool, word step by word step, by the lines of standard input.
 //!
-//! A line `# ..` names a row. `pool CLIENTS SEGMENTS` begins with words that are 0, `set AT=VALUE ..` sets some of them, `keep` keeps the words as
-//! they stand, and `again` begins with those that were kept. Any other line runs the machine of its name: an identity, and the machine's own
-//! numbers; `put`, `del`, `get`, `copy`, `send` and `recv` are commands, with the numbers that their lines have in a script. What is told of a
-//! run is said at `go` of shm_runs. `effect put WHO ..` tells of a command, not of its word steps, but of when it shows its answer. What must be
-//! told (the file stdout) was computed by an independent implementation.
+//! A line `# ..` names a row. `pool CLIENTS SEGMENTS` begins with words that are 0 (`pool2` in format 2), `set AT=VALUE ..` sets some of them,
+//! `keep` keeps the words as they stand, and `again` begins with those that were kept. Any other line runs the machine of its name: an identity, and
+//! the machine's own numbers; `put`, `del`, `get`, `copy`, `send` and `recv` are commands, with the numbers that their lines have in a script. What
+//! is told of a run is said at `go` of shm_runs. `effect put WHO ..` tells of a command, not of its word steps, but of when it shows its answer.
+//! What must be told (the file stdout) was computed by an independent implementation.
 #![tactic(auto)]
 
 mod effects;

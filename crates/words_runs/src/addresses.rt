@@ -7,14 +7,14 @@ use crate::pools::pool;
 use shm_words::Place;
 
 /// What the word at an address is for.
-pub fn place(f: [u64; 6]) -> Option<Place> {
+pub fn place(wide: bool, f: [u64; 6]) -> Option<Place> {
     let at = u32::try_from(f[2]).ok()?;
-    pool(f)?.place(at)
+    pool(wide, f)?.place(at)
 }
 
 /// The status, redo record, hold word, latch and home of a client.
-pub fn client(f: [u64; 6]) -> Option<[u32; 5]> {
-    let pool = pool(f)?;
+pub fn client(wide: bool, f: [u64; 6]) -> Option<[u32; 5]> {
+    let pool = pool(wide, f)?;
     let c = below(f[2], pool.clients())?;
     Some([
         pool.status(c),
@@ -25,16 +25,27 @@ pub fn client(f: [u64; 6]) -> Option<[u32; 5]> {
     ])
 }
 
+/// The second word of the redo record of a client, in format 2.
+pub fn redo_more(wide: bool, f: [u64; 6]) -> Option<u32> {
+    let pool = pool(wide, f)?;
+    let c = below(f[2], pool.clients())?;
+    if pool.is_wide() {
+        Some(pool.redo_more(c))
+    } else {
+        None
+    }
+}
+
 /// A root of a client.
-pub fn root(f: [u64; 6]) -> Option<u32> {
-    let pool = pool(f)?;
+pub fn root(wide: bool, f: [u64; 6]) -> Option<u32> {
+    let pool = pool(wide, f)?;
     let c = below(f[2], pool.clients())?;
     Some(pool.root(c, below(f[3], 16)?))
 }
 
 /// The era, tail, head and a slot of a pair.
-pub fn pair(f: [u64; 6]) -> Option<[u32; 4]> {
-    let pool = pool(f)?;
+pub fn pair(wide: bool, f: [u64; 6]) -> Option<[u32; 4]> {
+    let pool = pool(wide, f)?;
     let s = below(f[2], pool.clients())?;
     let r = below(f[3], pool.clients())?;
     let k = below(f[4], 8)?;
@@ -47,8 +58,8 @@ pub fn pair(f: [u64; 6]) -> Option<[u32; 4]> {
 }
 
 /// The owner of a segment, and the class and the body of a page of it.
-pub fn page(f: [u64; 6]) -> Option<[u32; 3]> {
-    let pool = pool(f)?;
+pub fn page(wide: bool, f: [u64; 6]) -> Option<[u32; 3]> {
+    let pool = pool(wide, f)?;
     let g = u16::try_from(f[2]).ok()?;
     let p = below(f[3], 16)?;
     if g >= pool.segments() {

@@ -1,7 +1,8 @@
 //! Packed words, sizes of pools, addresses and the first words of a pool, by the rows of standard input.
 //!
-//! A row is a word and numbers, as `header LIVE CLIENT COUNT ERA`; it is told again, with what the call of that name answers. A line that
-//! begins with `#` is a title and is told as it is. What must be told (the file stdout) was computed by an independent implementation.
+//! A row is a word and numbers, as `header LIVE CLIENT COUNT ERA`; it is told again, with what the call of that name answers. With `wide_` before
+//! its word a row is of format 2, as `wide_redo_of FIRST SECOND`. A line that begins with `#` is a title and is told as it is. What must be told
+//! (the file stdout) was computed by an independent implementation.
 #![tactic(auto)]
 
 mod addresses;
@@ -9,7 +10,7 @@ mod numbers;
 mod packing;
 mod pools;
 
-use shm_words::{Header, Redo, Tag};
+use shm_words::{Header, Pair2, Redo};
 use std::process::ExitCode;
 use std::{fmt, io};
 
@@ -18,34 +19,48 @@ fn answer<T: fmt::Debug + Drop>(rt: &HostRuntime, found: T) -> io::Result<()> {
     println!(rt; "{found:?}")
 }
 
-/// Tells of a word that is packed or unpacked.
-fn tell_word(rt: &HostRuntime, kind: &str, f: [u64; 6]) -> io::Result<()> {
+/// Tells of a redo record that is packed or unpacked.
+fn tell_redo(rt: &HostRuntime, kind: &str, wide: bool, f: [u64; 6]) -> io::Result<()> {
+    let pair = Pair2 {
+        first: f[0],
+        second: f[1],
+    };
     match kind {
-        "header" => answer(rt, packing::header(f)),
-        "header_of" => answer(rt, Header::unpack(f[0])),
-        "tag" => answer(rt, packing::tag(f)),
-        "tag_of" => answer(rt, Tag::unpack(f[0])),
-        "write_tag" => answer(rt, packing::write_tag(f)),
-        "read_tag" => answer(rt, packing::read_tag(f)),
+        "redo" if wide => answer(rt, packing::wide_redo(f)),
         "redo" => answer(rt, packing::redo(f)),
+        "redo_of" if wide => answer(rt, Redo::unpack_wide(pair)),
         "redo_of" => answer(rt, Redo::unpack(f[0])),
-        "class" => answer(rt, packing::class(f)),
         _ => answer(rt, "no such row"),
     }
 }
 
-/// Tells of a row.
-fn tell(rt: &HostRuntime, kind: &str, f: [u64; 6]) -> io::Result<()> {
+/// Tells of a word that is packed or unpacked.
+fn tell_word(rt: &HostRuntime, kind: &str, wide: bool, f: [u64; 6]) -> io::Result<()> {
     match kind {
-        "sizes" => answer(rt, pools::sizes(f)),
-        "total" => answer(rt, pools::total(f)),
-        "first" => pools::tell_first(rt, f),
-        "place" => answer(rt, addresses::place(f)),
-        "client" => answer(rt, addresses::client(f)),
-        "root" => answer(rt, addresses::root(f)),
-        "pair" => answer(rt, addresses::pair(f)),
-        "page" => answer(rt, addresses::page(f)),
-        _ => tell_word(rt, kind, f),
+        "header" => answer(rt, packing::header(f)),
+        "header_of" => answer(rt, Header::unpack(f[0])),
+        "tag" => answer(rt, packing::tag(wide, f)),
+        "tag_of" => answer(rt, packing::tag_of(wide, f[0])),
+        "write_tag" => answer(rt, packing::write_tag(wide, f)),
+        "read_tag" => answer(rt, packing::read_tag(wide, f[0])),
+        "class" => answer(rt, packing::class(f)),
+        _ => tell_redo(rt, kind, wide, f),
+    }
+}
+
+/// Tells of a row.
+fn tell(rt: &HostRuntime, kind: &str, wide: bool, f: [u64; 6]) -> io::Result<()> {
+    match kind {
+        "sizes" => answer(rt, pools::sizes(wide, f)),
+        "total" => answer(rt, pools::total(wide, f)),
+        "first" => pools::tell_first(rt, wide, f),
+        "place" => answer(rt, addresses::place(wide, f)),
+        "client" => answer(rt, addresses::client(wide, f)),
+        "redo_more" => answer(rt, addresses::redo_more(wide, f)),
+        "root" => answer(rt, addresses::root(wide, f)),
+        "pair" => answer(rt, addresses::pair(wide, f)),
+        "page" => answer(rt, addresses::page(wide, f)),
+        _ => tell_word(rt, kind, wide, f),
     }
 }
 
@@ -55,8 +70,11 @@ fn tell_line(rt: &HostRuntime, line: &str) -> io::Result<()> {
         return println!(rt; "{line}");
     }
     print!(rt; "{line}: ")?;
-    match numbers::numbers(line) {
-        Some(f) => tell(rt, numbers::kind(line), f),
+    let (format, rest) = line.split_once('_').unwrap_or((line, ""));
+    let wide = format == "wide";
+    let row = if wide { rest } else { line };
+    match numbers::numbers(row) {
+        Some(f) => tell(rt, numbers::kind(row), wide, f),
         None => answer(rt, "no numbers"),
     }
 }

@@ -1,6 +1,7 @@
 //! The word and the numbers of a row.
 
-ghost use Rattle.std.specs.Prelude.{◌<◌, ◌^◌, IfSome};
+ghost use Rattle.std.specs.Prelude.{◌≡◌, ◌<◌, IfSome};
+ghost use Rattle.shm_words.specs.Layout.{place_limit};
 
 /// The word that a row begins with.
 pub fn kind(line: &str) -> &str {
@@ -39,12 +40,20 @@ pub fn below(number: u64, limit: u8) -> Option<u8>
     if small < limit { Some(small) } else { None }
 }
 
-/// An address below 2^20.
-pub fn address(number: u64) -> Option<u32>
-    ensures { IfSome result (λ n. n < 2 ^ 20) }
+/// Which addresses a tag or a redo record has room for, in format 2 or in format 1: those below this number.
+fn limit(wide: bool) -> u32
+    ensures { result ≡ place_limit wide }
 {
-    if number < 1 << 20 {
-        Some(number as u32)
+    if wide { 1 << 24 } else { 1 << 20 }
+}
+
+/// An address below 2^20, in format 2 below 2^24.
+pub fn address(wide: bool, number: u64) -> Option<u32>
+    ensures { IfSome result (λ n. n < place_limit wide) }
+{
+    let small = u32::try_from(number).ok()?;
+    if small < limit(wide) {
+        Some(small)
     } else {
         None
     }

@@ -3,9 +3,14 @@
 ghost use Rattle.std.specs.Prelude.{IfSome};
 ghost use Rattle.shm_words.specs.Headers.{HeaderFits};
 ghost use Rattle.shm_words.specs.Tags.{TagFits};
+ghost use Rattle.shm_words.specs.Redos.{RedoFits};
 
 use crate::numbers::{address, below};
-use shm_words::{Geometry, Header, Redo, Tag, class_of};
+use crate::pools::pool;
+use shm_words::{Header, Pair2, Redo, Tag, class_of};
+
+/// One client, one segment.
+const SMALLEST: [u64; 6] = [1, 1, 0, 0, 0, 0];
 
 /// The word of a header: live, client, count, era.
 pub fn header(f: [u64; 6]) -> Option<u64> {
@@ -23,39 +28,54 @@ pub fn header(f: [u64; 6]) -> Option<u64> {
     Some(header.pack())
 }
 
-/// A tag: reference words, plain words, author, link.
-fn tag_from(f: [u64; 6]) -> Option<Tag>
-    ensures { IfSome result TagFits }
+/// A tag of a format: reference words, plain words, author, link.
+fn tag_from(wide: bool, f: [u64; 6]) -> Option<Tag>
+    ensures { IfSome result (λ t. TagFits wide t) }
 {
     Some(Tag {
         refs: below(f[0], 17)?,
         plain: below(f[1], 9)?,
         author: below(f[2], 64)?,
-        link: address(f[3])?,
+        link: address(wide, f[3])?,
     })
 }
 
 /// The word of a tag.
-pub fn tag(f: [u64; 6]) -> Option<u64> {
-    Some(tag_from(f)?.pack())
+pub fn tag(wide: bool, f: [u64; 6]) -> Option<u64> {
+    let tag = tag_from(wide, f)?;
+    Some(if wide { tag.pack_wide() } else { tag.pack() })
+}
+
+/// The tag that a word is.
+pub fn tag_of(wide: bool, word: u64) -> Option<Tag> {
+    if wide {
+        Tag::unpack_wide(word)
+    } else {
+        Tag::unpack(word)
+    }
 }
 
 /// The word of a tag in the smallest pool.
-pub fn write_tag(f: [u64; 6]) -> Option<u64> {
-    let pool = Geometry::new(1, 1).ok()?;
-    Some(pool.write_tag(tag_from(f)?))
+pub fn write_tag(wide: bool, f: [u64; 6]) -> Option<u64> {
+    let tag = tag_from(wide, f)?;
+    Some(pool(wide, SMALLEST)?.write_tag(tag))
 }
 
 /// The tag that a word is in the smallest pool.
-pub fn read_tag(f: [u64; 6]) -> Option<Tag> {
-    let pool = Geometry::new(1, 1).ok()?;
-    pool.read_tag(f[0])
+pub fn read_tag(wide: bool, word: u64) -> Option<Tag> {
+    pool(wide, SMALLEST)?.read_tag(word)
 }
 
-/// The word of a redo record: kind, odd, slot, before, after.
-pub fn redo(f: [u64; 6]) -> Option<u64> {
-    let (slot, before, after) = (address(f[2])?, address(f[3])?, address(f[4])?);
-    let redo = match f[0] {
+/// A redo record of a format: kind, odd, slot, before, after.
+fn redo_from(wide: bool, f: [u64; 6]) -> Option<Redo>
+    ensures { IfSome result (λ r. RedoFits wide r) }
+{
+    let (slot, before, after) = (
+        address(wide, f[2])?,
+        address(wide, f[3])?,
+        address(wide, f[4])?,
+    );
+    Some(match f[0] {
         0 => Redo::Idle,
         1 => Redo::Up { slot, block: after },
         2 => Redo::Down {
@@ -68,8 +88,17 @@ pub fn redo(f: [u64; 6]) -> Option<u64> {
             before,
             after,
         },
-    };
-    Some(redo.pack())
+    })
+}
+
+/// The word of a redo record in format 1.
+pub fn redo(f: [u64; 6]) -> Option<u64> {
+    Some(redo_from(false, f)?.pack())
+}
+
+/// The words of a redo record in format 2.
+pub fn wide_redo(f: [u64; 6]) -> Option<Pair2> {
+    Some(redo_from(true, f)?.pack_wide())
 }
 
 /// The least class for so many reference words and plain words.

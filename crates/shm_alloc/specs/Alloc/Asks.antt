@@ -1,9 +1,8 @@
 -- what an allocation asks, and what it answers
 use Rattle.std.specs.Prelude.{ℕ, zero, suc, ◌+◌, ◌-◌, ◌*◌, ◌/◌, ◌^◌, ◌==◌, nat_lt, Result, Ok, Err, slice_index}
 use Rattle.shm_words.specs.declared.place.Place.TheVariants as place
-use Rattle.shm_words.specs.declared.redo.Redo.TheVariants as redos
 use Rattle.shm_words.specs.Layout.{address}
-use Rattle.shm_words.specs.Redos.{redo_word}
+use Rattle.shm_words.specs.Redos.{first_word, second_word}
 use Rattle.shm_graph.specs.declared.ask.Ask.TheVariants.{Load, Store, Exchange}
 use Rattle.shm_graph.specs.declared.ask.Me.{Me}
 use Rattle.shm_graph.specs.Asks.{Trail}
@@ -12,7 +11,7 @@ use Rattle.shm_count.specs.declared.answer.Made.{Made}
 use Rattle.shm_alloc.specs.declared.alloc.AllocFault.{AllocFault}
 use Rattle.shm_alloc.specs.declared.alloc.AllocFault.TheVariants.{EraSpent, RootsFull, Full}
 use Rattle.shm_alloc.specs.declared.request.Request.{Request}
-use Rattle.shm_alloc.specs.Alloc.Control.{class_asked, tag_asked, header_made}
+use Rattle.shm_alloc.specs.Alloc.Control.{class_asked, tag_asked, header_made, redo_asked}
 
 -- the trails of an allocation, each with its answer
 abbrev pub AllocTrails : Type 1
@@ -35,11 +34,18 @@ module _ (me : Me) (q : Request) where
 
   -- the redo record, and what follows
   abbrev pub live_trail : ℕ → ℕ → ℕ → AllocTrails
-  live_trail e k b = Asked (Store (address me.geometry (place.Redo me.who)) (redo_word (redos.Up (address me.geometry (place.Root me.who k)) b))) (λ _. commit_trail e k b)
+  live_trail e k b = Asked (Store (address me.geometry (place.Redo me.who)) (first_word me.geometry.wide (redo_asked me k b))) (λ _. commit_trail e k b)
+
+  -- in format 2 its second word is stored before
+  abbrev pub more_trail : ℕ → ℕ → ℕ → AllocTrails
+  more_trail e k b = Asked (Store (address me.geometry (place.RedoMore me.who)) (second_word me.geometry.wide (redo_asked me k b))) (λ _. live_trail e k b)
+
+  abbrev pub first_trail : ℕ → ℕ → ℕ → AllocTrails
+  first_trail e k b = Chosen me.geometry.wide (more_trail e k b) (live_trail e k b)
 
   -- n plain words from the one at i on
   abbrev pub plain_trail : ℕ → ℕ → ℕ → ℕ → ℕ → AllocTrails
-  plain_trail zero i e k b = live_trail e k b
+  plain_trail zero i e k b = first_trail e k b
   plain_trail (suc n) i e k b = Asked (Store (b + 2 + q.refs + i) (slice_index q.plain i)) (λ _. plain_trail n (i + 1) e k b)
 
   -- n reference words from the one at i on
@@ -49,7 +55,7 @@ module _ (me : Me) (q : Request) where
 
   -- the tag, and what follows
   abbrev pub block_trail : ℕ → ℕ → ℕ → AllocTrails
-  block_trail e k b = Asked (Store (b + 1) (tag_asked q me.who)) (λ _. reference_trail q.refs 0 e k b)
+  block_trail e k b = Asked (Store (b + 1) (tag_asked me.geometry.wide q me.who)) (λ _. reference_trail q.refs 0 e k b)
 
   -- ---- a free block is looked for; `rest` follows where there is none, by how many headers were read
 

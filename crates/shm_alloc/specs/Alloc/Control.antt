@@ -1,12 +1,13 @@
 -- the control of an allocation: which word it asks for, and where it goes by the word found
-use Rattle.std.specs.Prelude.{ℕ, ◌+◌, ◌-◌, ◌*◌, ◌/◌, ◌^◌, ◌<◌, ◌≤◌, Bool, true, false, ◌==◌, nat_lt, if◌then◌else◌, Option, Some, None, Result, Ok, Err, [], slice_index}
+use Rattle.std.specs.Prelude.{◌≡◌, ℕ, ◌+◌, ◌-◌, ◌*◌, ◌/◌, ◌^◌, ◌<◌, ◌≤◌, Bool, true, false, ◌==◌, nat_lt, if◌then◌else◌, Option, Some, None, Result, Ok, Err, [], slice_index}
 use Rattle.shm_words.specs.declared.place.Place.TheVariants as place
+use Rattle.shm_words.specs.declared.redo.Redo.{Redo as ARedo}
 use Rattle.shm_words.specs.declared.redo.Redo.TheVariants as redos
 use Rattle.shm_words.specs.Layout.{GeometryFits, address, total_of, bodies}
 use Rattle.shm_words.specs.Classes.{class_for}
 use Rattle.shm_words.specs.Tags.{tag_word}
 use Rattle.shm_words.specs.Headers.{header_word}
-use Rattle.shm_words.specs.Redos.{redo_word}
+use Rattle.shm_words.specs.Redos.{first_word, second_word}
 use Rattle.shm_count.specs.declared.answer.Made.{Made}
 use Rattle.shm_graph.specs.declared.ask.Ask.{Ask}
 use Rattle.shm_graph.specs.declared.ask.Ask.TheVariants.{Load, Store, Exchange}
@@ -18,7 +19,7 @@ use Rattle.shm_alloc.specs.declared.request.Request.{Request}
 use Rattle.shm_alloc.specs.declared.point.Goal.{Goal}
 use Rattle.shm_alloc.specs.declared.point.Search.{Search}
 use Rattle.shm_alloc.specs.declared.point.AllocPoint.{AllocPoint}
-use Rattle.shm_alloc.specs.declared.point.AllocPoint.TheVariants.{Era, Root, Segment, Claim, Page, Class, Header, Tag, Reference, Plain, Redo, Commit, Slot, Close, Over}
+use Rattle.shm_alloc.specs.declared.point.AllocPoint.TheVariants.{Era, Root, Segment, Claim, Page, Class, Header, Tag, Reference, Plain, More, Redo, Commit, Slot, Close, Over}
 use Rattle.shm_alloc.specs.declared.point.AllocState.{AllocState}
 use Rattle.shm_alloc.specs.declared.point.AllocNext.{AllocNext}
 use Rattle.shm_alloc.specs.declared.point.AllocNext.TheVariants.{Point, Answer}
@@ -29,9 +30,9 @@ use Rattle.shm_alloc.specs.declared.point.AllocNext.TheVariants.{Point, Answer}
 abbrev pub class_asked : Request → ℕ
 class_asked q = class_for q.refs q.count
 
--- its tag, as the identity c writes it
-abbrev pub tag_asked : Request → ℕ → ℕ
-tag_asked q c = tag_word (record { refs = q.refs; plain = q.count; author = c; link = 0 })
+-- its tag, as the identity c writes it, in format 2 (`true`) or format 1
+abbrev pub tag_asked : Bool → Request → ℕ → ℕ
+tag_asked wide q c = tag_word wide (record { refs = q.refs; plain = q.count; author = c; link = 0 })
 
 -- its header once it is live, as c makes it at era e
 abbrev pub header_made : ℕ → ℕ → ℕ
@@ -40,6 +41,10 @@ header_made c e = header_word (record { live = true; client = c; count = 1; era 
 -- block i of a page
 abbrev pub block_of : Me → Request → Search → ℕ → ℕ → ℕ
 block_of me q s p i = address me.geometry (place.Body s.segment p 0) + class_asked q * i
+
+-- the redo record of the new block, which root k is to name
+abbrev pub redo_asked : Me → ℕ → ℕ → ARedo
+redo_asked me k b = redos.Up (address me.geometry (place.Root me.who k)) b
 
 -- ---- the steps
 
@@ -52,10 +57,11 @@ alloc_ask_at me q (Claim g s) = Exchange (address me.geometry (place.Segment s.s
 alloc_ask_at me q (Page g s p) = Load (address me.geometry (place.Page s.segment p))
 alloc_ask_at me q (Class g s p) = Store (address me.geometry (place.Page s.segment p)) (class_asked q)
 alloc_ask_at me q (Header g s p i) = Load (block_of me q s p i)
-alloc_ask_at me q (Tag g b) = Store (b + 1) (tag_asked q me.who)
+alloc_ask_at me q (Tag g b) = Store (b + 1) (tag_asked me.geometry.wide q me.who)
 alloc_ask_at me q (Reference g b i) = Store (b + 2 + i) 0
 alloc_ask_at me q (Plain g b i) = Store (b + 2 + q.refs + i) (slice_index q.plain i)
-alloc_ask_at me q (Redo g b) = Store (address me.geometry (place.Redo me.who)) (redo_word (redos.Up (address me.geometry (place.Root me.who g.root)) b))
+alloc_ask_at me q (More g b) = Store (address me.geometry (place.RedoMore me.who)) (second_word me.geometry.wide (redo_asked me g.root b))
+alloc_ask_at me q (Redo g b) = Store (address me.geometry (place.Redo me.who)) (first_word me.geometry.wide (redo_asked me g.root b))
 alloc_ask_at me q (Commit g b) = Exchange b 0 (header_made me.who g.era)
 alloc_ask_at me q (Slot g b) = Store (address me.geometry (place.Root me.who g.root)) b
 alloc_ask_at me q (Close g b) = Store (address me.geometry (place.Era me.who me.who)) (g.era + 1)
@@ -122,13 +128,17 @@ header_next me q g s p i n = if n == 0 then Point (Tag g (block_of me q s p i)) 
 
 -- ---- where the making goes
 
+-- all words are stored: the redo record is next, in format 2 its second word
+abbrev pub first_point : Bool → Goal → ℕ → AllocPoint
+first_point wide g b = if wide then More g b else Redo g b
+
 -- so many plain words are stored
-abbrev pub plain_from : Request → Goal → ℕ → ℕ → AllocPoint
-plain_from q g b i = if nat_lt i q.count then Plain g b i else Redo g b
+abbrev pub plain_from : Bool → Request → Goal → ℕ → ℕ → AllocPoint
+plain_from wide q g b i = if nat_lt i q.count then Plain g b i else first_point wide g b
 
 -- so many reference words are stored
-abbrev pub references_from : Request → Goal → ℕ → ℕ → AllocPoint
-references_from q g b i = if nat_lt i q.refs then Reference g b i else plain_from q g b 0
+abbrev pub references_from : Bool → Request → Goal → ℕ → ℕ → AllocPoint
+references_from wide q g b i = if nat_lt i q.refs then Reference g b i else plain_from wide q g b 0
 
 -- ---- all
 
@@ -141,9 +151,10 @@ alloc_next_at me q (Claim g s) n = claim_next me g s n
 alloc_next_at me q (Page g s p) n = page_next me q g s p n
 alloc_next_at me q (Class g s p) n = first_header g s p
 alloc_next_at me q (Header g s p i) n = header_next me q g s p i n
-alloc_next_at me q (Tag g b) n = Point (references_from q g b 0)
-alloc_next_at me q (Reference g b i) n = Point (references_from q g b (i + 1))
-alloc_next_at me q (Plain g b i) n = Point (plain_from q g b (i + 1))
+alloc_next_at me q (Tag g b) n = Point (references_from me.geometry.wide q g b 0)
+alloc_next_at me q (Reference g b i) n = Point (references_from me.geometry.wide q g b (i + 1))
+alloc_next_at me q (Plain g b i) n = Point (plain_from me.geometry.wide q g b (i + 1))
+alloc_next_at me q (More g b) n = Point (Redo g b)
 alloc_next_at me q (Redo g b) n = Point (Commit g b)
 alloc_next_at me q (Commit g b) n = Point (Slot g b)
 alloc_next_at me q (Slot g b) n = Point (Close g b)
@@ -229,6 +240,7 @@ PointFits me q (Header g s p i) = GoalFits g × SearchFits me s (32 * p + i) × 
 PointFits me q (Tag g b) = GoalFits g × (b + class_asked q ≤ total_of me.geometry) × (bodies me.geometry ≤ b)
 PointFits me q (Reference g b i) = GoalFits g × (b + class_asked q ≤ total_of me.geometry) × (i < q.refs) × (bodies me.geometry ≤ b)
 PointFits me q (Plain g b i) = GoalFits g × (b + class_asked q ≤ total_of me.geometry) × (i < q.count) × (bodies me.geometry ≤ b)
+PointFits me q (More g b) = GoalFits g × (b + class_asked q ≤ total_of me.geometry) × (bodies me.geometry ≤ b) × (me.geometry.wide ≡ true)
 PointFits me q (Redo g b) = GoalFits g × (b + class_asked q ≤ total_of me.geometry) × (bodies me.geometry ≤ b)
 PointFits me q (Commit g b) = GoalFits g × (b + class_asked q ≤ total_of me.geometry) × (bodies me.geometry ≤ b)
 PointFits me q (Slot g b) = GoalFits g × (b + class_asked q ≤ total_of me.geometry) × (bodies me.geometry ≤ b)

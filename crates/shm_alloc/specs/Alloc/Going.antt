@@ -21,13 +21,13 @@ use Rattle.shm_alloc.specs.declared.request.Request.{Request}
 use Rattle.shm_alloc.specs.declared.point.Goal.{Goal}
 use Rattle.shm_alloc.specs.declared.point.Search.{Search}
 use Rattle.shm_alloc.specs.declared.point.AllocPoint.{AllocPoint}
-use Rattle.shm_alloc.specs.declared.point.AllocPoint.TheVariants.{Era, Root, Segment, Claim, Page, Class, Header, Tag, Reference, Plain, Redo, Commit, Slot, Close, Over}
+use Rattle.shm_alloc.specs.declared.point.AllocPoint.TheVariants.{Era, Root, Segment, Claim, Page, Class, Header, Tag, Reference, Plain, More, Redo, Commit, Slot, Close, Over}
 use Rattle.shm_alloc.specs.declared.point.AllocState.{AllocState}
 use Rattle.shm_alloc.specs.declared.point.AllocNext.{AllocNext}
 use Rattle.shm_alloc.specs.declared.point.AllocNext.TheVariants.{Point, Answer}
-use Rattle.shm_alloc.specs.Alloc.Control.{alloc_ask, alloc_ask_at, alloc_next, alloc_next_at, class_asked, block_of, segment_over, segment_taken, first_page, first_header, page_over, header_used, references_from, plain_from, point_of, PointFits, AllocInRange, alloc_control}
+use Rattle.shm_alloc.specs.Alloc.Control.{alloc_ask, alloc_ask_at, alloc_next, alloc_next_at, class_asked, block_of, segment_over, segment_taken, first_page, first_header, page_over, header_used, references_from, plain_from, first_point, point_of, PointFits, AllocInRange, alloc_control}
 use Rattle.shm_alloc.specs.Alloc.Events.{alloc_event, alloc_event_at, alloc_start, events_at, own_events}
-use Rattle.shm_alloc.specs.Alloc.Asks.{AllocTrails, alloc_trail, root_trail, segment_trail, page_trail, header_trail, class_trail, block_trail, reference_trail, plain_trail}
+use Rattle.shm_alloc.specs.Alloc.Asks.{AllocTrails, alloc_trail, root_trail, segment_trail, page_trail, header_trail, class_trail, block_trail, reference_trail, plain_trail, first_trail, more_trail, live_trail}
 use Rattle.shm_alloc.specs.Alloc.{AllocFits, AllocGives, CanAlloc, PointHolds, AnswerHolds, AllocStays, claim_trail, point_trail, pages_after, segments_after}
 use Rattle.shm_calls.specs.Grown.{Grows, grows_now}
 
@@ -95,17 +95,25 @@ module _ (me : Me) (q : Request) where
 
   -- ---- the making goes on
 
+  -- the redo record, in format 2 its second word first
+  after_words : (g : Goal) (b : ℕ) → IsPart (point_trail me q (first_point me.geometry.wide g b)) (first_trail me q g.era g.root b)
+  after_words g b tr a t = go me.geometry.wide t
+    where
+      go : (x : Bool) → point_trail me q (if x then More g b else Redo g b) tr a → Chosen x (more_trail me q g.era g.root b) (live_trail me q g.era g.root b) tr a
+      go true u = u
+      go false u = u
+
   -- the plain words that are left, and the redo record after them
-  after_plain : (g : Goal) (b i : ℕ) → IsPart (point_trail me q (plain_from q g b i)) (plain_trail me q (q.count - i) i g.era g.root b)
+  after_plain : (g : Goal) (b i : ℕ) → IsPart (point_trail me q (plain_from me.geometry.wide q g b i)) (plain_trail me q (q.count - i) i g.era g.root b)
   after_plain g b i =
-      choice (λ z. IsPart (point_trail me q z) (plain_trail me q (q.count - i) i g.era g.root b)) (nat_lt i q.count) (Plain g b i) (Redo g b)
+      choice (λ z. IsPart (point_trail me q z) (plain_trail me q (q.count - i) i g.era g.root b)) (nat_lt i q.count) (Plain g b i) (first_point me.geometry.wide g b)
       (λ e tr a t. t)
-      (λ e. left (λ n. plain_trail me q n i g.era g.root b) 0 (q.count - i) (sym (none_left q.count i (ltb-false i q.count e))))
+      (λ e tr a t. left (λ n. plain_trail me q n i g.era g.root b) 0 (q.count - i) (sym (none_left q.count i (ltb-false i q.count e))) tr a (after_words g b tr a t))
 
   -- the reference words that are left, and the plain words after them
-  after_reference : (g : Goal) (b i : ℕ) → IsPart (point_trail me q (references_from q g b i)) (reference_trail me q (q.refs - i) i g.era g.root b)
+  after_reference : (g : Goal) (b i : ℕ) → IsPart (point_trail me q (references_from me.geometry.wide q g b i)) (reference_trail me q (q.refs - i) i g.era g.root b)
   after_reference g b i =
-      choice (λ z. IsPart (point_trail me q z) (reference_trail me q (q.refs - i) i g.era g.root b)) (nat_lt i q.refs) (Reference g b i) (plain_from q g b 0)
+      choice (λ z. IsPart (point_trail me q z) (reference_trail me q (q.refs - i) i g.era g.root b)) (nat_lt i q.refs) (Reference g b i) (plain_from me.geometry.wide q g b 0)
       (λ e tr a t. t)
       (λ e tr a t. left (λ n. reference_trail me q n i g.era g.root b) 0 (q.refs - i) (sym (none_left q.refs i (ltb-false i q.refs e))) tr a
       (left (λ n. plain_trail me q n 0 g.era g.root b) (q.count - 0) q.count (omega arith) tr a (after_plain g b 0 tr a t)))
@@ -244,6 +252,7 @@ module _ (me : Me) (q : Request) where
   step_goes (Tag g b) = tag_goes g b
   step_goes (Reference g b i) = reference_goes g b i
   step_goes (Plain g b i) = plain_goes g b i
+  step_goes (More g b) = λ n l rest a t. (n, (rest, (refl, t)))
   step_goes (Redo g b) = λ n l rest a t. (n, (rest, (refl, t)))
   step_goes (Commit g b) = λ n l rest a t. (n, (rest, (refl, t)))
   step_goes (Slot g b) = λ n l rest a t. (n, (rest, (refl, t)))
@@ -284,19 +293,27 @@ told_over me g s = told_choice me (nat_lt (s.segment + 1) me.geometry.segments) 
 told_page : (me : Me) (g : Goal) (s : Search) (p : ℕ) → Told me (page_over me g s p) []
 told_page me g s p = told_choice me (nat_lt p 15) _ _ [] refl (told_over me g s)
 
--- nor where so many plain words are stored
-told_plain : (me : Me) (q : Request) (g : Goal) (b i : ℕ) → Told me (Point (plain_from q g b i)) []
-told_plain me q g b i = go (nat_lt i q.count)
+-- nor where all words are stored
+told_first : (me : Me) (g : Goal) (b : ℕ) → Told me (Point (first_point me.geometry.wide g b)) []
+told_first me g b = go me.geometry.wide
   where
-    go : (x : Bool) → Told me (Point (cond x (Plain g b i) (Redo g b))) []
+    go : (x : Bool) → Told me (Point (cond x (More g b) (Redo g b))) []
     go true = refl
     go false = refl
 
+-- nor where so many plain words are stored
+told_plain : (me : Me) (q : Request) (g : Goal) (b i : ℕ) → Told me (Point (plain_from me.geometry.wide q g b i)) []
+told_plain me q g b i = go (nat_lt i q.count)
+  where
+    go : (x : Bool) → Told me (Point (cond x (Plain g b i) (first_point me.geometry.wide g b))) []
+    go true = refl
+    go false = told_first me g b
+
 -- nor where so many reference words are stored
-told_references : (me : Me) (q : Request) (g : Goal) (b i : ℕ) → Told me (Point (references_from q g b i)) []
+told_references : (me : Me) (q : Request) (g : Goal) (b i : ℕ) → Told me (Point (references_from me.geometry.wide q g b i)) []
 told_references me q g b i = go (nat_lt i q.refs)
   where
-    go : (x : Bool) → Told me (Point (cond x (Reference g b i) (plain_from q g b 0))) []
+    go : (x : Bool) → Told me (Point (cond x (Reference g b i) (plain_from me.geometry.wide q g b 0))) []
     go true = refl
     go false = told_plain me q g b 0
 
@@ -312,6 +329,7 @@ told_next me q (Header g s p i) n = told_choice me (n == 0) _ _ [] refl (told_ch
 told_next me q (Tag g b) n = told_references me q g b 0
 told_next me q (Reference g b i) n = told_references me q g b (i + 1)
 told_next me q (Plain g b i) n = told_plain me q g b (i + 1)
+told_next me q (More g b) n = refl
 told_next me q (Redo g b) n = refl
 told_next me q (Commit g b) n = refl
 told_next me q (Slot g b) n = refl

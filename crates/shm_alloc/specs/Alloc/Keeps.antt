@@ -11,7 +11,7 @@ use Rattle.shm_graph.specs.Laws.{Keeps, Then, Frame, Stands, KeptAt, Outcome}
 use Rattle.shm_graph.proofs.StepKinds.KindKeeping.{not_fresh}
 use Rattle.shm_alloc.specs.declared.request.Request.{Request}
 use Rattle.shm_alloc.specs.declared.point.AllocPoint.{AllocPoint}
-use Rattle.shm_alloc.specs.declared.point.AllocPoint.TheVariants.{Era, Root, Segment, Claim, Page, Class, Header, Tag, Reference, Plain, Redo, Commit, Slot, Close, Over}
+use Rattle.shm_alloc.specs.declared.point.AllocPoint.TheVariants.{Era, Root, Segment, Claim, Page, Class, Header, Tag, Reference, Plain, More, Redo, Commit, Slot, Close, Over}
 use Rattle.shm_alloc.specs.declared.point.AllocState.{AllocState}
 use Rattle.shm_alloc.specs.declared.point.AllocNext.{AllocNext}
 use Rattle.shm_alloc.specs.declared.point.AllocNext.TheVariants.{Point, Answer}
@@ -22,7 +22,7 @@ use Rattle.shm_alloc.specs.Alloc.Going.{fits_goes, gives_ends}
 use Rattle.shm_alloc.specs.Alloc.SearchSegments.{era_step, root_step, segment_step, claim_step}
 use Rattle.shm_alloc.specs.Alloc.SearchPages.{page_step, class_step, header_step}
 use Rattle.shm_alloc.specs.Alloc.MakingSteps.{tag_step, reference_step, plain_step}
-use Rattle.shm_alloc.specs.Alloc.Live.{redo_step, commit_step, slot_step, close_step}
+use Rattle.shm_alloc.specs.Alloc.Live.{more_step, redo_step, commit_step, slot_step, close_step}
 use Rattle.shm_calls.specs.Grown.{Grows, grows_more}
 
 -- the step at a point
@@ -38,6 +38,7 @@ step_at me q r0 w r f tr (Header g a p i) o s going can fits l h = header_step m
 step_at me q r0 w r f tr (Tag g b) o s going can fits l h = tag_step me q r0 w r f tr g b s (going (λ z. cc)) can fits l h
 step_at me q r0 w r f tr (Reference g b i) o s going can fits l h = reference_step me q r0 w r f tr g b i s (going (λ z. cc)) can fits l h
 step_at me q r0 w r f tr (Plain g b i) o s going can fits l h = plain_step me q r0 w r f tr g b i s (going (λ z. cc)) can fits l h
+step_at me q r0 w r f tr (More g b) o s going can fits l h = more_step me q r0 w r f tr g b s (going (λ z. cc)) can fits l h
 step_at me q r0 w r f tr (Redo g b) o s going can fits l h = redo_step me q r0 w r f tr g b s (going (λ z. cc)) can fits l h
 step_at me q r0 w r f tr (Commit g b) o s going can fits l h = commit_step me q r0 w r f tr g b s (going (λ z. cc)) can fits l h
 step_at me q r0 w r f tr (Slot g b) o s going can fits l h = slot_step me q r0 w r f tr g b s (going (λ z. cc)) can fits l h

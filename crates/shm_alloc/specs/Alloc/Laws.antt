@@ -1,6 +1,6 @@
 -- the laws of an allocation
-use Rattle.std.proofs.Common.{◌≡◌, ◌≢◌, ℕ, ◌+◌, ◌-◌, ◌^◌, ◌/◌, ◌<◌, ◌≤◌, ◌==◌, nat_lt, if◌then◌else◌, Bool, true, false, refl, arith}
-use Rattle.std.proofs.lemmas.Bool.{true≢false}
+use Rattle.std.proofs.Common.{◌≡◌, ◌≢◌, ℕ, ◌+◌, ◌-◌, ◌^◌, ◌/◌, ◌<◌, ◌≤◌, ◌==◌, nat_lt, if◌then◌else◌, Bool, true, false, refl, arith, lt-ltb}
+use Rattle.std.proofs.lemmas.Bool.{true≢false, and_from}
 use Rattle.std.proofs.lemmas.Bool.Decides.{nat_tests}
 use Rattle.shm_words.specs.declared.geometry.Geometry.{Geometry}
 use Rattle.shm_words.specs.declared.place.Place.{Place}
@@ -15,10 +15,10 @@ use Rattle.shm_alloc.specs.declared.request.Request.{Request}
 use Rattle.shm_alloc.specs.declared.point.Goal.{Goal}
 use Rattle.shm_alloc.specs.declared.point.Search.{Search}
 use Rattle.shm_alloc.specs.declared.point.AllocPoint.{AllocPoint}
-use Rattle.shm_alloc.specs.declared.point.AllocPoint.TheVariants.{Era, Root, Segment, Claim, Page, Class, Header, Tag, Reference, Plain, Redo, Commit, Slot, Close, Over}
+use Rattle.shm_alloc.specs.declared.point.AllocPoint.TheVariants.{Era, Root, Segment, Claim, Page, Class, Header, Tag, Reference, Plain, More, Redo, Commit, Slot, Close, Over}
 use Rattle.shm_alloc.specs.declared.point.AllocNext.{AllocNext}
 use Rattle.shm_alloc.specs.declared.point.AllocNext.TheVariants.{Point, Answer}
-use Rattle.shm_alloc.specs.Alloc.Control.{class_asked, segment_over, page_over, plain_from, references_from, alloc_ask_at, alloc_next_at, alloc_next, point_of, answer_of, is_first, is_over, alloc_control, RequestFits, PointFits}
+use Rattle.shm_alloc.specs.Alloc.Control.{class_asked, segment_over, page_over, first_point, plain_from, references_from, alloc_ask_at, alloc_next_at, alloc_next, point_of, answer_of, is_first, is_over, alloc_control, RequestFits, PointFits}
 use Rattle.shm_alloc.specs.Alloc.{AllocFits, AllocGives}
 use Rattle.shm_alloc.specs.BlockPlaces.{block_of_within}
 use Rattle.shm_alloc.specs.Alloc.Keeps.{alloc_keeps}
@@ -47,21 +47,26 @@ taken_goes me g s = over_goes me g (record s { taken = s.taken + 1 })
 page_goes : (me : Me) (g : Goal) (s : Search) (p : ℕ) → GoesOn (page_over me g s p)
 page_goes me g s p = chosen (nat_lt p 15) _ _ (refl, refl) (over_goes me g s)
 
+-- so it does where all words are stored
+first_goes : (wide : Bool) (g : Goal) (b : ℕ) → GoesOn (Point (first_point wide g b))
+first_goes true g b = (refl, refl)
+first_goes false g b = (refl, refl)
+
 -- so it does where so many plain words are stored
-plain_goes : (q : Request) (g : Goal) (b i : ℕ) → GoesOn (Point (plain_from q g b i))
-plain_goes q g b i = go (nat_lt i q.count)
+plain_goes : (wide : Bool) (q : Request) (g : Goal) (b i : ℕ) → GoesOn (Point (plain_from wide q g b i))
+plain_goes wide q g b i = go (nat_lt i q.count)
   where
-    go : (x : Bool) → GoesOn (Point (if x then Plain g b i else Redo g b))
+    go : (x : Bool) → GoesOn (Point (if x then Plain g b i else first_point wide g b))
     go true = (refl, refl)
-    go false = (refl, refl)
+    go false = first_goes wide g b
 
 -- so it does where so many reference words are stored
-references_go : (q : Request) (g : Goal) (b i : ℕ) → GoesOn (Point (references_from q g b i))
-references_go q g b i = go (nat_lt i q.refs)
+references_go : (wide : Bool) (q : Request) (g : Goal) (b i : ℕ) → GoesOn (Point (references_from wide q g b i))
+references_go wide q g b i = go (nat_lt i q.refs)
   where
-    go : (x : Bool) → GoesOn (Point (if x then Reference g b i else plain_from q g b 0))
+    go : (x : Bool) → GoesOn (Point (if x then Reference g b i else plain_from wide q g b 0))
     go true = (refl, refl)
-    go false = plain_goes q g b 0
+    go false = plain_goes wide q g b 0
 
 -- and after each step, if it isn't over
 goes_on : (me : Me) (q : Request) (p : AllocPoint) (n : ℕ) → is_over p ≡ false → GoesOn (alloc_next_at me q p n)
@@ -72,9 +77,10 @@ goes_on me q (Claim g s) n e = chosen (n == 0) _ _ (refl, refl) (taken_goes me g
 goes_on me q (Page g s p) n e = chosen (n == 0) _ _ (refl, refl) (chosen (n == class_asked q) _ _ (refl, refl) (page_goes me g s p))
 goes_on me q (Class g s p) n e = (refl, refl)
 goes_on me q (Header g s p i) n e = chosen (n == 0) _ _ (refl, refl) (chosen (nat_lt (i + 1) (128 / class_asked q)) _ _ (refl, refl) (page_goes me g (record s { used = s.used + 1 }) p))
-goes_on me q (Tag g b) n e = references_go q g b 0
-goes_on me q (Reference g b i) n e = references_go q g b (i + 1)
-goes_on me q (Plain g b i) n e = plain_goes q g b (i + 1)
+goes_on me q (Tag g b) n e = references_go me.geometry.wide q g b 0
+goes_on me q (Reference g b i) n e = references_go me.geometry.wide q g b (i + 1)
+goes_on me q (Plain g b i) n e = plain_goes me.geometry.wide q g b (i + 1)
+goes_on me q (More g b) n e = (refl, refl)
 goes_on me q (Redo g b) n e = (refl, refl)
 goes_on me q (Commit g b) n e = (refl, refl)
 goes_on me q (Slot g b) n e = (refl, refl)
@@ -100,6 +106,7 @@ unfolding address
 place_inside g place.Spare f i n = absurd (n refl)
 place_inside g (place.Status c) f i n = (omega arith, address_below g (place.Status c) i f)
 place_inside g (place.Redo c) f i n = (omega arith, address_below g (place.Redo c) i f)
+place_inside g (place.RedoMore c) f i n = (omega arith, address_below g (place.RedoMore c) i f)
 place_inside g (place.Hold c) f i n = (omega arith, address_below g (place.Hold c) i f)
 place_inside g (place.Latch c) f i n = (omega arith, address_below g (place.Latch c) i f)
 place_inside g (place.Home c) f i n = (omega arith, address_below g (place.Home c) i f)
@@ -132,6 +139,7 @@ ask_inside me q (Header g s p i) f l r h e =
 ask_inside me q (Tag g b) f l r h e = word_inside me q b 1 r h.1 h.2 (omega arith)
 ask_inside me q (Reference g b i) f l r h e = let z = h.2 in let w = word_inside me q b (2 + i) r h.1 h.3 (omega arith) in (omega arith, omega arith)
 ask_inside me q (Plain g b i) f l r h e = let z = h.2 in let w = word_inside me q b (2 + q.refs + i) r h.1 h.3 (omega arith) in (omega arith, omega arith)
+ask_inside me q (More g b) f l r h e = place_inside me.geometry (place.RedoMore me.who) f (and_from _ _ h.3 (lt-ltb me.who me.geometry.clients l)) (λ z. cc)
 ask_inside me q (Redo g b) f l r h e = place_inside me.geometry (place.Redo me.who) f (grind (arith, nat_tests)) (λ z. cc)
 ask_inside me q (Commit g b) f l r h e = let w = word_inside me q b 0 r h.1 h.2 (omega arith) in (omega arith, omega arith)
 ask_inside me q (Slot g b) f l r h e = let z = h.0.root in place_inside me.geometry (place.Root me.who g.root) f (grind (arith, nat_tests)) (λ z. cc)
@@ -140,7 +148,7 @@ ask_inside me q Over f l r h e = absurd (true≢false e)
 
 -- each word that an allocation asks for is in the pool
 pub alloc_inside : Inside alloc_control AllocFits
-alloc_inside m r0 r tr l fit going = ask_inside m.me m.request m.point fit.knows.geometry l fit.knows.request fit.knows.point going
+alloc_inside m r0 r tr l fit going = (ask_inside m.me m.request m.point fit.knows.geometry l fit.knows.request fit.knows.point going).1
 
 -- ---- back
 

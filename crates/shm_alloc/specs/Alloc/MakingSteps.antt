@@ -1,13 +1,13 @@
 -- the making of a block: what the stores of its words keep
-use Rattle.std.proofs.Common.{◌≡◌, ◌≢◌, ℕ, ◌+◌, ◌^◌, ◌<◌, ◌≤◌, refl, sym, ap, ◌∙◌, subst, arith, false, not, ◌&&◌, List, [], ◌∷◌, Option, Some, inl, inr}
-use Rattle.std.specs.Prelude.{nat_lt, slice_index}
+use Rattle.std.proofs.Common.{◌≡◌, ◌≢◌, ℕ, ◌+◌, ◌^◌, ◌<◌, ◌≤◌, refl, sym, ap, ◌∙◌, subst, arith, Bool, true, false, not, ◌&&◌, List, [], ◌∷◌, Option, Some, inl, inr}
+use Rattle.std.specs.Prelude.{nat_lt, slice_index, if◌then◌else◌}
 use Rattle.std.specs.List.{Contains, filter}
 use Rattle.std.proofs.lemmas.Bool.{cases_eq, cond-false}
 use Rattle.std.proofs.lemmas.Bool.Decides.{nat_tests}
 use Rattle.std.proofs.lemmas.List.Elements.{All-contains, Contains-append_right}
 use Rattle.shm_words.specs.Tags.{TagFits}
 use Rattle.shm_words.proofs.Classing.{class_room}
-use Rattle.shm_words.proofs.Words.{live_not_zero, tag_word_small}
+use Rattle.shm_words.proofs.Words.{live_not_zero, place_some, tag_word_below}
 use Rattle.shm_graph.specs.declared.ask.Ask.{Ask}
 use Rattle.shm_graph.specs.declared.ask.Ask.TheVariants.{Store}
 use Rattle.shm_graph.specs.declared.ask.Me.{Me}
@@ -37,9 +37,9 @@ use Rattle.shm_steps.proofs.KeptAfter.{kept_going}
 use Rattle.shm_alloc.specs.declared.request.Request.{Request}
 use Rattle.shm_alloc.specs.declared.point.Goal.{Goal}
 use Rattle.shm_alloc.specs.declared.point.AllocPoint.{AllocPoint}
-use Rattle.shm_alloc.specs.declared.point.AllocPoint.TheVariants.{Tag, Reference, Plain, Redo}
-use Rattle.shm_alloc.specs.Alloc.Control.{class_asked, tag_asked, alloc_next_at, plain_from, references_from, RequestFits}
-use Rattle.shm_alloc.specs.Alloc.Steps.{PointKeeps, is_here, goal_on}
+use Rattle.shm_alloc.specs.declared.point.AllocPoint.TheVariants.{Tag, Reference, Plain, More, Redo}
+use Rattle.shm_alloc.specs.Alloc.Control.{class_asked, tag_asked, alloc_next_at, first_point, plain_from, references_from, RequestFits}
+use Rattle.shm_alloc.specs.Alloc.Steps.{PointKeeps, is_here, goal_on, ready_not}
 use Rattle.shm_alloc.specs.Alloc.{GoalHas, IsPrepared, Prepares, AllocStays, CanAlloc, PointHolds, NextHolds}
 
 -- ---- a step of the making
@@ -70,8 +70,8 @@ stays_after me a f n r0 m own o making known values zeros made s =
     }
 
 -- the tag that is asked for has a word
-pub asked_fits : (me : Me) (q : Request) (r0 : Memo) → CanAlloc me r0 → RequestFits q → TagFits (record { refs = q.refs; plain = q.count; author = me.who; link = 0 })
-asked_fits me q r0 can fits = let u = can.who in let n = can.geometry.clients in record { refs = fits.refs; plain = fits.count; author = omega arith; link = omega arith }
+pub asked_fits : (me : Me) (q : Request) (r0 : Memo) → CanAlloc me r0 → RequestFits q → TagFits me.geometry.wide (record { refs = q.refs; plain = q.count; author = me.who; link = 0 })
+asked_fits me q r0 can fits = let u = can.who in let n = can.geometry.clients in record { refs = fits.refs; plain = fits.count; author = omega arith; link = place_some me.geometry.wide }
 
 -- ---- how far the making has come
 
@@ -83,19 +83,27 @@ pub record Makes (me : Me) (q : Request) (r0 r : Memo) (g : Goal) (b refs plain 
   pub known : r.known ≡ r0.known
   pub values : r.values ≡ r0.values
   pub goal : GoalHas me.who r g
-  pub block : Prepares me.who q b refs plain r
+  pub block : Prepares me.geometry.wide me.who q b refs plain r
+
+-- what the point after all words needs
+first_holds : (me : Me) (q : Request) (r0 r : Memo) (g : Goal) (b : ℕ) → Makes me q r0 r g b q.refs q.count → PointHolds me q r0 r (first_point me.geometry.wide g b)
+first_holds me q r0 r g b m = go me.geometry.wide refl
+  where
+    go : (x : Bool) → me.geometry.wide ≡ x → PointHolds me q r0 r (if x then More g b else Redo g b)
+    go true e = record { stays = m.stays; op = m.op; own = m.own; has = (m.known, m.values, m.goal, m.block, e) }
+    go false e = record { stays = m.stays; op = m.op; own = m.own ∙ sym (ready_not me g b r0.own e); has = (m.known, m.values, goal_on me.who r r0 g (sym m.own) m.goal, m.block) }
 
 -- what the point after so many plain words needs
-pub plain_next : (me : Me) (q : Request) (r0 r : Memo) (g : Goal) (b i : ℕ) → i ≤ q.count → Makes me q r0 r g b q.refs i → PointHolds me q r0 r (plain_from q g b i)
+pub plain_next : (me : Me) (q : Request) (r0 r : Memo) (g : Goal) (b i : ℕ) → i ≤ q.count → Makes me q r0 r g b q.refs i → PointHolds me q r0 r (plain_from me.geometry.wide q g b i)
 plain_next me q r0 r g b i l m =
-    choice (PointHolds me q r0 r) (nat_lt i q.count) (Plain g b i) (Redo g b)
+    choice (PointHolds me q r0 r) (nat_lt i q.count) (Plain g b i) (first_point me.geometry.wide g b)
     (λ e. record { stays = m.stays; op = m.op; own = m.own; has = (m.known, m.values, m.goal, m.block) })
-    (λ e. let all : i ≡ q.count = grind (arith, nat_tests) in record { stays = m.stays; op = m.op; own = m.own; has = (m.known, m.values, m.goal, subst (λ n. Prepares me.who q b q.refs n r) all m.block) })
+    (λ e. let all : i ≡ q.count = grind (arith, nat_tests) in first_holds me q r0 r g b (subst (λ n. Makes me q r0 r g b q.refs n) all m))
 
 -- what the point after so many reference words needs
-pub references_next : (me : Me) (q : Request) (r0 r : Memo) (g : Goal) (b i : ℕ) → i ≤ q.refs → Makes me q r0 r g b i 0 → PointHolds me q r0 r (references_from q g b i)
+pub references_next : (me : Me) (q : Request) (r0 r : Memo) (g : Goal) (b i : ℕ) → i ≤ q.refs → Makes me q r0 r g b i 0 → PointHolds me q r0 r (references_from me.geometry.wide q g b i)
 references_next me q r0 r g b i l m =
-    choice (PointHolds me q r0 r) (nat_lt i q.refs) (Reference g b i) (plain_from q g b 0)
+    choice (PointHolds me q r0 r) (nat_lt i q.refs) (Reference g b i) (plain_from me.geometry.wide q g b 0)
     (λ e. record { stays = m.stays; op = m.op; own = m.own; has = (m.known, m.values, m.goal, m.block) })
     (λ e. let all : i ≡ q.refs = grind (arith, nat_tests) in plain_next me q r0 r g b 0 (omega arith) (subst (λ n. Makes me q r0 r g b n 0) all m))
 
@@ -115,8 +123,8 @@ abbrev pub with_word : Making → Spot → ℕ → Making
 with_word k p x = record k { words = learnt p x k.words }
 
 -- one more reference word is stored
-pub reference_more : (c : ℕ) (q : Request) (b i : ℕ) (k : Making) → IsPrepared c q b i 0 k → IsPrepared c q b (i + 1) 0 (with_word k (spot.Body b i) 0)
-reference_more c q b i k h =
+pub reference_more : (wide : Bool) (c : ℕ) (q : Request) (b i : ℕ) (k : Making) → IsPrepared wide c q b i 0 k → IsPrepared wide c q b (i + 1) 0 (with_word k (spot.Body b i) 0)
+reference_more wide c q b i k h =
     record {
       block = h.block;
       class = h.class;
@@ -129,8 +137,8 @@ reference_more c q b i k h =
     }
 
 -- one more plain word is stored
-pub plain_more : (c : ℕ) (q : Request) (b i : ℕ) (k : Making) → IsPrepared c q b q.refs i k → IsPrepared c q b q.refs (i + 1) (with_word k (spot.Body b (q.refs + i)) (slice_index q.plain i))
-plain_more c q b i k h =
+pub plain_more : (wide : Bool) (c : ℕ) (q : Request) (b i : ℕ) (k : Making) → IsPrepared wide c q b q.refs i k → IsPrepared wide c q b q.refs (i + 1) (with_word k (spot.Body b (q.refs + i)) (slice_index q.plain i))
+plain_more wide c q b i k h =
     let p : Spot = spot.Body b (q.refs + i) in
     let x : ℕ = slice_index q.plain i in
     record {
@@ -151,21 +159,21 @@ pub tag_step : (me : Me) (q : Request) (r0 : Memo) (w : Spot → ℕ) (r : ℕ �
 tag_step me q r0 w r f tr g b st going can fits point h =
     let c = me.who in
     let m : Memo = r c in
-    let x : ℕ = tag_asked q c in
+    let x : ℕ = tag_asked me.geometry.wide q c in
     let a : Ask = Store (b + 1) x in
     let p : Spot = spot.Tag b in
     let zero : (w (spot.Head b) ≡ 0) × IsBlock me.geometry (classes w) b × (w (spot.Segment (segment_of me.geometry b)) ≡ c + 1) = All-contains (ZeroAt me.geometry (classes w) (λ i. w (spot.Segment i)) (λ i. w (spot.Head i)) c) m.zeros (spot.Head b) (st.held.zeros c st.who) h.has.2 in
     let e : spot_at me.geometry (classes w) (b + 1) ≡ p = tag_spot me.geometry (classes w) b zero.1 (st.held.sizes.classes _ _ (block_within me.geometry (classes w) b zero.1).2) in
     let some : class_told me.geometry m.facts b ≢ 0 = (λ z. let u : class_asked q ≡ 0 = sym h.has.3 ∙ z in let l = class_room q.refs q.count fits.refs fits.count in absurd (omega arith)) in
     let free : is_dying m b ≡ false = dying_false m b (λ z. live_not_zero (w (spot.Head b)) ((st.held.dying c st.who).listed b z).0 zero.0) in
-    let small : x < 2 ^ 35 = tag_word_small _ (asked_fits me q r0 can fits) in
+    let small : x < 2 ^ 64 = tag_word_below me.geometry.wide _ (asked_fits me q r0 can fits) in
     let k : Making = record { block = b; class = class_told me.geometry m.facts b; words = record { spot = p; value = x } ∷ [] } in
     let n : Memo = record (at_step me a f 0 m) { making = making_with me.geometry m.facts m.making b p x } in
     let n' : Memo = after_step me a f 0 m n in
     kept_going me w r a f (λ n r'. NextHolds me q r0 r' (alloc_next_at me q (Tag g b) n)) p going e
     (tag_prepares me w r f tr (b + 1) b x st going e
-    (inr (record { here = is_here me r0 m can h.stays; idle = h.op; begin = record { none = h.has.0.making; read = h.has.2; told = some }; small = omega arith })))
-    (subst (λ (z : Memo). PointHolds me q r0 (after_step me a f 0 m z) (references_from q g b 0)) (sym (cond-false _ _ n free))
+    (inr (record { here = is_here me r0 m can h.stays; idle = h.op; begin = record { none = h.has.0.making; read = h.has.2; told = some }; small = small })))
+    (subst (λ (z : Memo). PointHolds me q r0 (after_step me a f 0 m z) (references_from me.geometry.wide q g b 0)) (sym (cond-false _ _ n free))
     (references_next me q r0 n' g b 0 (omega arith)
     (record {
       stays = stays_after me a f 0 r0 m m.own m.op (making_with me.geometry m.facts m.making b p x) m.known m.values m.zeros m.made h.stays;
@@ -190,7 +198,7 @@ tag_step me q r0 w r f tr g b st going can fits point h =
 -- ---- the words after the tag
 
 -- word i of the block that is prepared stands at its address
-pub word_spot : (me : Me) (q : Request) (w : Spot → ℕ) (r : ℕ → Memo) (b i refs plain : ℕ) (k : Making) → HeldAt me.geometry w (view r) → me.who < me.geometry.clients → (r me.who).making ≡ Some k → IsPrepared me.who q b refs plain k → 2 + i < class_asked q
+pub word_spot : (me : Me) (q : Request) (w : Spot → ℕ) (r : ℕ → Memo) (b i refs plain : ℕ) (k : Making) → HeldAt me.geometry w (view r) → me.who < me.geometry.clients → (r me.who).making ≡ Some k → IsPrepared me.geometry.wide me.who q b refs plain k → 2 + i < class_asked q
     → spot_at me.geometry (classes w) (b + 2 + i) ≡ spot.Body b i
 word_spot me q w r b i refs plain k held who made h room =
     let s : MakingHolds w me.geometry me.who k = making_holds me.geometry w r me.who k held who made in
@@ -200,7 +208,7 @@ word_spot me q w r b i refs plain k held who made h room =
 
 -- word i of the block is stored, and what comes next needs the making with it
 pub word_step : (me : Me) (q : Request) (r0 : Memo) (w : Spot → ℕ) (r : ℕ → Memo) (f : Frame) (tr : Trail) (g : Goal) (b i x refs plain refs' plain' : ℕ) (next : AllocPoint) → Stands me w r f tr → f.fresh ≡ false → CanAlloc me r0 → Makes me q r0 (r me.who) g b refs plain → 2 + i < class_asked q → x < 2 ^ 64
-    → ((k : Making) → IsPrepared me.who q b refs plain k → IsPrepared me.who q b refs' plain' (with_word k (spot.Body b i) x))
+    → ((k : Making) → IsPrepared me.geometry.wide me.who q b refs plain k → IsPrepared me.geometry.wide me.who q b refs' plain' (with_word k (spot.Body b i) x))
     → ((r' : Memo) → Makes me q r0 r' g b refs' plain' → PointHolds me q r0 r' next)
     → KeptAt me w r (Store (b + 2 + i) x) f (λ n r'. PointHolds me q r0 r' next) (spot_at me.geometry (classes w) (b + 2 + i))
 word_step me q r0 w r f tr g b i x refs plain refs' plain' next st going can h room small more holds =
@@ -232,10 +240,10 @@ pub reference_step : (me : Me) (q : Request) (r0 : Memo) (w : Spot → ℕ) (r :
 reference_step me q r0 w r f tr g b i st going can fits point h =
     let room = class_room q.refs q.count fits.refs fits.count in
     let less : i < q.refs = point.2 in
-    word_step me q r0 w r f tr g b i 0 i 0 (i + 1) 0 (references_from q g b (i + 1)) st going can
+    word_step me q r0 w r f tr g b i 0 i 0 (i + 1) 0 (references_from me.geometry.wide q g b (i + 1)) st going can
     (record { stays = h.stays; op = h.op; own = h.own; known = h.has.0; values = h.has.1; goal = h.has.2; block = h.has.3 })
     (omega arith) (omega arith)
-    (reference_more me.who q b i)
+    (reference_more me.geometry.wide me.who q b i)
     (λ r' y. references_next me q r0 r' g b (i + 1) (omega arith) y)
 
 -- a plain word is stored
@@ -245,9 +253,9 @@ plain_step me q r0 w r f tr g b i st going can fits point h =
     let less : i < q.count = point.2 in
     let x : ℕ = slice_index q.plain i in
     let sum : b + 2 + (q.refs + i) ≡ b + 2 + q.refs + i = omega arith in
-    subst (λ at. KeptAt me w r (Store at x) f (λ n r'. PointHolds me q r0 r' (plain_from q g b (i + 1))) (spot_at me.geometry (classes w) at)) sum
-    (word_step me q r0 w r f tr g b (q.refs + i) x q.refs i q.refs (i + 1) (plain_from q g b (i + 1)) st going can
+    subst (λ at. KeptAt me w r (Store at x) f (λ n r'. PointHolds me q r0 r' (plain_from me.geometry.wide q g b (i + 1))) (spot_at me.geometry (classes w) at)) sum
+    (word_step me q r0 w r f tr g b (q.refs + i) x q.refs i q.refs (i + 1) (plain_from me.geometry.wide q g b (i + 1)) st going can
     (record { stays = h.stays; op = h.op; own = h.own; known = h.has.0; values = h.has.1; goal = h.has.2; block = h.has.3 })
     (omega arith) (fits.small i)
-    (plain_more me.who q b i)
+    (plain_more me.geometry.wide me.who q b i)
     (λ r' y. plain_next me q r0 r' g b (i + 1) (omega arith) y))

@@ -9,11 +9,11 @@ use Rattle.shm_alloc.specs.declared.request.Request.{Request}
 use Rattle.shm_alloc.specs.declared.point.Goal.{Goal}
 use Rattle.shm_alloc.specs.declared.point.Search.{Search}
 use Rattle.shm_alloc.specs.declared.point.AllocPoint.{AllocPoint}
-use Rattle.shm_alloc.specs.declared.point.AllocPoint.TheVariants.{Era, Root, Segment, Claim, Page, Class, Header, Tag, Reference, Plain, Redo, Commit, Slot, Close, Over}
+use Rattle.shm_alloc.specs.declared.point.AllocPoint.TheVariants.{Era, Root, Segment, Claim, Page, Class, Header, Tag, Reference, Plain, More, Redo, Commit, Slot, Close, Over}
 use Rattle.shm_alloc.specs.declared.point.AllocState.{AllocState}
 use Rattle.shm_alloc.specs.declared.point.AllocNext.{AllocNext}
 use Rattle.shm_alloc.specs.declared.point.AllocNext.TheVariants.{Point, Answer}
-use Rattle.shm_alloc.specs.Alloc.Control.{point_of, class_asked, first_page, first_header, segment_over, segment_taken, page_over, era_next, root_next, segment_next, claim_next, page_next, header_next, plain_from, references_from, alloc_next_at, alloc_next, GoalFits, SearchFits, PointFits, AllocInRange}
+use Rattle.shm_alloc.specs.Alloc.Control.{point_of, class_asked, first_page, first_header, segment_over, segment_taken, page_over, era_next, root_next, segment_next, claim_next, page_next, header_next, first_point, plain_from, references_from, alloc_next_at, alloc_next, GoalFits, SearchFits, PointFits, AllocInRange}
 use Rattle.shm_alloc.specs.BlockPlaces.{block_of_within, blocks_most, blocks_least}
 
 -- where it goes on, the point is in range
@@ -95,19 +95,27 @@ header_fits me q g s p i n h =
 abbrev BlockFits : Me → Request → ℕ → Type 0
 BlockFits me q b = (b + class_asked q ≤ total_of me.geometry) × (bodies me.geometry ≤ b)
 
--- so it is where so many plain words are stored
-plain_fits : (me : Me) (q : Request) (g : Goal) (b i : ℕ) → GoalFits g → BlockFits me q b → PointFits me q (plain_from q g b i)
-plain_fits me q g b i h k = go (nat_lt i q.count) refl
+-- the store of the redo record, in format 2 of its second word
+record_fits : (me : Me) (q : Request) (g : Goal) (b : ℕ) → GoalFits g → BlockFits me q b → PointFits me q (first_point me.geometry.wide g b)
+record_fits me q g b h k = go me.geometry.wide refl
   where
-    go : (x : Bool) → nat_lt i q.count ≡ x → PointFits me q (if x then Plain g b i else Redo g b)
-    go true e = (h, k.0, grind (arith, nat_tests), k.1)
+    go : (x : Bool) → me.geometry.wide ≡ x → PointFits me q (if x then More g b else Redo g b)
+    go true e = (h, k.0, k.1, e)
     go false e = (h, k.0, k.1)
 
+-- so it is where so many plain words are stored
+plain_fits : (me : Me) (q : Request) (g : Goal) (b i : ℕ) → GoalFits g → BlockFits me q b → PointFits me q (plain_from me.geometry.wide q g b i)
+plain_fits me q g b i h k = go (nat_lt i q.count) refl
+  where
+    go : (x : Bool) → nat_lt i q.count ≡ x → PointFits me q (if x then Plain g b i else first_point me.geometry.wide g b)
+    go true e = (h, k.0, grind (arith, nat_tests), k.1)
+    go false e = record_fits me q g b h k
+
 -- so it is where so many reference words are stored
-references_fit : (me : Me) (q : Request) (g : Goal) (b i : ℕ) → GoalFits g → BlockFits me q b → PointFits me q (references_from q g b i)
+references_fit : (me : Me) (q : Request) (g : Goal) (b i : ℕ) → GoalFits g → BlockFits me q b → PointFits me q (references_from me.geometry.wide q g b i)
 references_fit me q g b i h k = go (nat_lt i q.refs) refl
   where
-    go : (x : Bool) → nat_lt i q.refs ≡ x → PointFits me q (if x then Reference g b i else plain_from q g b 0)
+    go : (x : Bool) → nat_lt i q.refs ≡ x → PointFits me q (if x then Reference g b i else plain_from me.geometry.wide q g b 0)
     go true e = (h, k.0, grind (arith, nat_tests), k.1)
     go false e = plain_fits me q g b 0 h k
 
@@ -123,6 +131,7 @@ next_fits me q (Header g s p i) n f h = header_fits me q g s p i n h
 next_fits me q (Tag g b) n f h = references_fit me q g b 0 h.0 (h.1, h.2)
 next_fits me q (Reference g b i) n f h = references_fit me q g b (i + 1) h.0 (h.1, h.3)
 next_fits me q (Plain g b i) n f h = plain_fits me q g b (i + 1) h.0 (h.1, h.3)
+next_fits me q (More g b) n f h = (h.0, h.1, h.2)
 next_fits me q (Redo g b) n f h = h
 next_fits me q (Commit g b) n f h = h
 next_fits me q (Slot g b) n f h = h

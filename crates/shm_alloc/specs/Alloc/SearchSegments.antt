@@ -148,7 +148,7 @@ claim_step me q r0 w r f tr g s st going can request fit h =
     let t : Step = framed me (Exchange at 0 (c + 1)) f (w p) in
     let m : Memo = called (r c) t in
     let after : ℕ → Memo → Type 0 = λ n r'. NextHolds me q r0 r' (alloc_next_at me q (Claim g s) n) in
-    let memo : Bool → Memo = λ b. with_end f.ends (with_call m (cond b (exchanged_on c m p (c + 1)) (read_on me.geometry c false m (test_before (r c) t) p (w p)))) in
+    let memo : Bool → Memo = λ b. with_end f.ends (with_call m (cond b (exchanged_on me.geometry.wide c m p (c + 1)) (read_on me.geometry c false m (test_before (r c) t) p (w p)))) in
     let Goes : Bool → Type 0 = λ b. NextHolds me q r0 (memo b) (cond b (first_page g s) (segment_taken me g s)) in
     let here : Looks r0 (r c) = record { stays = h.stays; op = h.op; own = h.own; has = h.has.0 } in
     let e = spot-place me.geometry (classes w) (place.Segment s.segment) (lt-ltb s.segment me.geometry.segments fit.1.segment) in

@@ -1,12 +1,17 @@
 -- what the steps of the search and those of the making share: what a step owes, and what stays
-use Rattle.std.proofs.Common.{◌≡◌, ℕ, sym, ap, ◌∙◌, false}
+use Rattle.std.proofs.Common.{◌≡◌, ℕ, refl, sym, ap, ◌∙◌, Bool, true, false, List, ◌∷◌}
+use Rattle.std.specs.Prelude.{if◌then◌else◌}
+use Rattle.std.proofs.lemmas.Bool.{cond-true, cond-false}
+use Rattle.shm_words.specs.Redos.{second_word}
+use Rattle.shm_graph.specs.declared.memo.Stored.{Stored}
+use Rattle.shm_graph.proofs.Spots.Spotting.{same_spot_self}
 use Rattle.shm_graph.specs.declared.ask.Me.{Me}
 use Rattle.shm_graph.specs.declared.spot.Spot.{Spot}
 use Rattle.shm_graph.specs.declared.spot.Spot.TheVariants as spot
 use Rattle.shm_graph.specs.declared.memo.Memo.{Memo}
 use Rattle.shm_graph.specs.declared.memo.Status.TheVariants as status
 use Rattle.shm_graph.specs.Asks.{Trail, at_of}
-use Rattle.shm_graph.specs.Spots.{spot_at}
+use Rattle.shm_graph.specs.Spots.{spot_at, same_spot}
 use Rattle.shm_graph.specs.Blocks.{classes}
 use Rattle.shm_graph.specs.Views.{own_word}
 use Rattle.shm_graph.specs.Laws.{Frame, Stands, KeptAt}
@@ -14,8 +19,8 @@ use Rattle.shm_steps.specs.Conditions.{IsHere}
 use Rattle.shm_alloc.specs.declared.request.Request.{Request}
 use Rattle.shm_alloc.specs.declared.point.Goal.{Goal}
 use Rattle.shm_alloc.specs.declared.point.AllocPoint.{AllocPoint}
-use Rattle.shm_alloc.specs.Alloc.Control.{alloc_ask_at, alloc_next_at, RequestFits, PointFits}
-use Rattle.shm_alloc.specs.Alloc.{GoalHas, AllocStays, CanAlloc, PointHolds, NextHolds}
+use Rattle.shm_alloc.specs.Alloc.Control.{alloc_ask_at, alloc_next_at, redo_asked, RequestFits, PointFits}
+use Rattle.shm_alloc.specs.Alloc.{GoalHas, AllocStays, CanAlloc, PointHolds, NextHolds, more_stored, readied}
 
 -- ---- what a step owes
 
@@ -48,3 +53,24 @@ goal_on c r r' g e h =
       empty = ap (λ o. own_word o (spot.Root c g.root)) e ∙ h.empty;
       before = λ j l z. h.before j l (ap (λ o. own_word o (spot.Root c j)) (sym e) ∙ z);
     }
+
+-- ---- the second word of the redo record
+
+-- in format 2 it is stored before the first, and in format 1 there is none
+pub ready_is : (me : Me) (g : Goal) (b : ℕ) (own : List Stored) → me.geometry.wide ≡ true → readied me g b own ≡ more_stored me g b ∷ own
+ready_is me g b own e = ap (λ (x : Bool). if x then more_stored me g b ∷ own else own) e
+
+pub ready_not : (me : Me) (g : Goal) (b : ℕ) (own : List Stored) → me.geometry.wide ≡ false → readied me g b own ≡ own
+ready_not me g b own e = ap (λ (x : Bool). if x then more_stored me g b ∷ own else own) e
+
+-- so that it is there
+pub ready_more : (me : Me) (g : Goal) (b : ℕ) (own : List Stored) → me.geometry.wide ≡ true → own_word (readied me g b own) (spot.RedoMore me.who) ≡ second_word me.geometry.wide (redo_asked me g.root b)
+ready_more me g b own e = ap (λ (o : List Stored). own_word o (spot.RedoMore me.who)) (ready_is me g b own e) ∙ cond-true _ _ _ (same_spot_self (spot.RedoMore me.who))
+
+-- each other own word is what it was
+pub ready_word : (me : Me) (g : Goal) (b : ℕ) (own : List Stored) (p : Spot) → same_spot (spot.RedoMore me.who) p ≡ false → own_word (readied me g b own) p ≡ own_word own p
+ready_word me g b own p n = go me.geometry.wide
+  where
+    go : (x : Bool) → own_word (if x then more_stored me g b ∷ own else own) p ≡ own_word own p
+    go true = cond-false _ _ _ n
+    go false = refl

@@ -25,7 +25,7 @@ use Rattle.shm_graph.proofs.Memos.LoadTold.{is_head}
 use Rattle.shm_steps.proofs.Prepared.{MakingHolds, making_holds}
 use Rattle.shm_alloc.specs.declared.request.Request.{Request}
 use Rattle.shm_alloc.specs.declared.point.AllocPoint.{AllocPoint}
-use Rattle.shm_alloc.specs.declared.point.AllocPoint.TheVariants.{Era, Root, Segment, Claim, Page, Class, Header, Tag, Reference, Plain, Redo, Commit, Slot, Close, Over}
+use Rattle.shm_alloc.specs.declared.point.AllocPoint.TheVariants.{Era, Root, Segment, Claim, Page, Class, Header, Tag, Reference, Plain, More, Redo, Commit, Slot, Close, Over}
 use Rattle.shm_alloc.specs.Alloc.Control.{alloc_ask_at, alloc_control, is_over, RequestFits, PointFits}
 use Rattle.shm_alloc.specs.Alloc.Events.{alloc_event_at, alloc_event}
 use Rattle.shm_alloc.specs.Alloc.{PointHolds, IsPrepared, AllocFits}
@@ -70,10 +70,11 @@ commits me q r0 w r f tr (Plain g b i) st h o fits l =
     let less : i < q.count = l.2 in
     let sum : b + 2 + q.refs + i ≡ b + 2 + (q.refs + i) = omega arith in
     quiet me w r f (alloc_ask_at me q (Plain g b i)) (spot.Body b (q.refs + i)) (ap (spot_at me.geometry (classes w)) sum ∙ word_spot me q w r b (q.refs + i) q.refs i h.has.3.0 st.held st.who h.has.3.1 h.has.3.2 (omega arith)) refl
+commits me q r0 w r f tr (More g b) st h o fits l = quiet me w r f (alloc_ask_at me q (More g b)) (spot.RedoMore me.who) (spot-place me.geometry (classes w) (place.RedoMore me.who) (and_from _ _ l.3 (lt-ltb me.who me.geometry.clients st.who))) refl
 commits me q r0 w r f tr (Redo g b) st h o fits l = quiet me w r f (alloc_ask_at me q (Redo g b)) (spot.Redo me.who) (spot-place me.geometry (classes w) (place.Redo me.who) (lt-ltb me.who me.geometry.clients st.who)) refl
 commits me q r0 w r f tr (Commit g b) st h o fits l =
     let k : Making = h.has.3.0 in
-    let words : IsPrepared me.who q b q.refs q.count k = h.has.3.2 in
+    let words : IsPrepared me.geometry.wide me.who q b q.refs q.count k = h.has.3.2 in
     let s : MakingHolds w me.geometry me.who k = making_holds me.geometry w r me.who k st.held st.who h.has.3.1 in
     let free : w (spot.Head b) ≡ 0 = ap (λ d. w (spot.Head d)) (sym words.block) ∙ s.free in
     let e : spot_at me.geometry (classes w) b ≡ spot.Head b = subst (IsBlock me.geometry (classes w)) words.block s.block in

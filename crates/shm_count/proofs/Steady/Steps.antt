@@ -4,6 +4,7 @@ use Rattle.std.specs.List.{filter}
 use Rattle.std.proofs.lemmas.Bool.{true≢false}
 use Rattle.shm_words.specs.declared.geometry.Geometry.{Geometry}
 use Rattle.shm_words.specs.Headers.{header_of}
+use Rattle.shm_count.specs.Step.Reading.{ready_part}
 use Rattle.shm_graph.specs.declared.ask.Me.{Me}
 use Rattle.shm_graph.specs.declared.spot.Spot.{Spot}
 use Rattle.shm_graph.specs.declared.spot.Spot.TheVariants as spot
@@ -148,7 +149,8 @@ module _ (me : Me) (slot : ℕ) (x : Aim) (p : Spot) (r0 r : Memo) where
   -- at each point but the last one, at which the step has answered
   pub point_part : (y : StepPoint) → is_over y ≡ false → PointHas me slot x p r0 r y → IsPartOf r.part
   point_part point.Era going has = inl (ap (λ (y : Memo). y.part) has.0)
-  point_part (point.Redo e) going has = inl (ap (λ (y : Memo). y.part) has.0)
+  point_part (point.More e) going has = inl (ap (λ (y : Memo). y.part) has.0)
+  point_part (point.Redo e) going has = inl (ap (λ (y : Memo). y.part) has.0 ∙ ready_part (λ (y : Memo). y.part) me slot x e r0 refl)
   point_part (point.Load e h) going has = half_part r e h has
   point_part (point.Row e h w) going has = half_part r e h has.0
   point_part (point.Show e h w) going has = half_part r e h has.0

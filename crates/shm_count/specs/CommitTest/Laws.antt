@@ -1,15 +1,15 @@
 -- what is owed of a commit test
 use Rattle.std.proofs.Common.{◌≡◌, ◌≢◌, ℕ, ◌+◌, ◌<◌, ◌≤◌, refl, sym, ap, ◌∙◌, subst, arith, Bool, true, false, cond, eqb, ◌&&◌, List, [], ◌∷◌, ◌++◌, inl, inr}
-use Rattle.std.specs.Prelude.{nat_lt, Option, Some, None}
+use Rattle.std.specs.Prelude.{nat_lt, ◌⊎◌, Option, Some, None}
 use Rattle.std.specs.List.{Contains}
 use Rattle.std.proofs.lemmas.Bool.{and_from, and_parts, cases_eq, cases_lt, cond-false, cond-true, eq-eqb, eqb-false, eqb-true, le-ltb, lt-ltb, ltb-false, ltb-true, ne_eqb}
 use Rattle.std.proofs.lemmas.List.Elements.{Contains-append_right}
-use Rattle.shm_words.specs.Redos.{redo_of}
+use Rattle.shm_words.specs.Layout.{total_of}
 use Rattle.shm_graph.specs.declared.ask.Ask.{Ask}
 use Rattle.shm_graph.specs.declared.ask.Ask.TheVariants.{Load}
 use Rattle.shm_graph.specs.declared.ask.Me.{Me}
 use Rattle.shm_graph.specs.declared.spot.Spot.{Spot}
-use Rattle.shm_graph.specs.declared.spot.Spot.TheVariants.{Era, Head, Redo}
+use Rattle.shm_graph.specs.declared.spot.Spot.TheVariants.{Era, Head, Spare}
 use Rattle.shm_graph.specs.declared.memo.Fact.TheVariants.{Counter}
 use Rattle.shm_graph.specs.declared.memo.Memo.{Memo}
 use Rattle.shm_graph.specs.Agents.{recovers}
@@ -22,12 +22,13 @@ use Rattle.shm_graph.specs.Ops.{on_of}
 use Rattle.shm_graph.specs.Readings.{next_row, test_from, test_on}
 use Rattle.shm_graph.specs.Spots.{spot_at}
 use Rattle.shm_graph.specs.Views.{own_word}
+use Rattle.shm_graph.proofs.Spots.Spotting.{spot_zero}
 use Rattle.shm_calls.specs.CallTells.{within_more}
 use Rattle.shm_calls.specs.Parts.{IsHeld}
 use Rattle.shm_calls.specs.Plans.{Follows, PlanLaws, PlanStays}
 use Rattle.shm_calls.specs.Words.{IsWord, word_control, word_part, word_part_laws}
 use Rattle.shm_steps.specs.WordParts.{TestBegun}
-use Rattle.shm_steps.proofs.Words.Test.{test_begin, test_row}
+use Rattle.shm_steps.proofs.Words.Test.{test_begin, test_row, test_spare}
 use Rattle.shm_count.specs.declared.commit_test.Commit.{Commit}
 use Rattle.shm_count.specs.declared.commit_test.Commit.TheVariants.{Committed, NotCommitted}
 use Rattle.shm_count.specs.declared.commit_test.Proof.TheVariants as proof
@@ -35,9 +36,9 @@ use Rattle.shm_count.specs.declared.commit_test.TestingPoint.{TestingPoint}
 use Rattle.shm_count.specs.declared.commit_test.TestingPoint.TheVariants.{Header, Row}
 use Rattle.shm_count.specs.declared.commit_test.TestingState.{TestingState}
 use Rattle.shm_count.specs.CommitTest.Control.{is_header, is_shown, test_ask, test_call, test_next, test_step, testing}
-use Rattle.shm_count.specs.CommitTest.{IsTesting, MayTest, TestFound, TestKnows, TestLeaves, rows_to, step_block, test_part, testing_plan}
+use Rattle.shm_count.specs.CommitTest.{record_in, HasTest, IsTesting, MayTest, TestFound, TestKnows, TestLeaves, rows_to, step_block, test_part, testing_plan}
 use Rattle.shm_count.specs.CommitTest.Reads.{one_read, read_part_laws}
-use Rattle.shm_count.specs.CommitTest.Shown.{block_here, by_header, by_none, by_row}
+use Rattle.shm_count.specs.CommitTest.Shown.{block_here, by_header, by_none, by_row, none_there, spare_hidden}
 
 -- ---- rows
 
@@ -113,19 +114,31 @@ opens : (m : TestingState) (y : TestingPoint) (r0 r : Memo) (tr : Trail) (es : L
 opens m Header r0 r tr es (may0, same, none, quiet) =
     let may : MayTest m.me m.block m.era r = subst (MayTest m.me m.block m.era) (sym same) may0 in
     also true m.me (Load m.block) (TestBegun m.me.geometry m.me.who m.block) (λ x n. is_shown m.me.who m.era n ≡ true → on_of x.op ≡ Some m.block) r
-    (λ w rs f st at shown. shows may w rs st at shown)
-    (test_begin true m.me r may.who may.recoverer m.block may.inside (λ w rs f st at. there may w rs st at))
+    (λ w rs f st at shown. shows may w rs st at (cases_eq m.block 0) shown)
+    (loads may (cases_eq m.block 0))
   where
-    there : MayTest m.me m.block m.era r → (w : Spot → ℕ) (rs : ℕ → Memo) {f : Frame} → Stands m.me w rs f [] → rs m.me.who ≡ r → spot_at m.me.geometry (classes w) m.block ≡ Head m.block
-    there may w rs st at = block_here m.me w rs st.held may.who m.block m.era (subst (λ (x : Memo). step_block (redo_of (own_word x.own (Redo m.me.who))) m.era ≡ Some m.block) (sym at) may.named)
+    era_is : MayTest m.me m.block m.era r → (w : Spot → ℕ) (rs : ℕ → Memo) → rs m.me.who ≡ r → own_word (rs m.me.who).own (Era m.me.who m.me.who) ≡ m.era
+    era_is may w rs at = ap (λ (x : Memo). own_word x.own (Era m.me.who m.me.who)) at ∙ may.era
 
-    shows : (may : MayTest m.me m.block m.era r) (w : Spot → ℕ) (rs : ℕ → Memo) {f : Frame} → Stands m.me w rs f [] → rs m.me.who ≡ r → is_shown m.me.who m.era (w (spot_at m.me.geometry (classes w) m.block)) ≡ true → on_of r.op ≡ Some m.block
-    shows may w rs st at shown =
-        let era : own_word (rs m.me.who).own (Era m.me.who m.me.who) ≡ m.era = ap (λ (x : Memo). own_word x.own (Era m.me.who m.me.who)) at ∙ may.era in
+    there : MayTest m.me m.block m.era r → m.block ≢ 0 → (w : Spot → ℕ) (rs : ℕ → Memo) {f : Frame} → Stands m.me w rs f [] → rs m.me.who ≡ r → spot_at m.me.geometry (classes w) m.block ≡ Head m.block
+    there may some w rs st at = block_here m.me w rs st.held may.who m.block m.era some (subst (λ (x : Memo). step_block (record_in m.me x) m.era ≡ Some m.block) (sym at) may.named)
+
+    -- the header of a block, or word 0
+    loads : MayTest m.me m.block m.era r → (m.block ≡ 0) ⊎ (m.block ≢ 0) → IsWord true m.me (Load m.block) (TestBegun m.me.geometry m.me.who m.block) (record { me = m.me; ask = Load m.block; over = false }) r
+    loads may (inl none) =
+        subst (λ b. IsWord true m.me (Load b) (TestBegun m.me.geometry m.me.who b) (record { me = m.me; ask = Load b; over = false }) r) (sym none)
+        (test_spare true m.me r may.who may.recoverer (subst (λ b. b < total_of m.me.geometry) none may.inside))
+    loads may (inr some) = test_begin true m.me r may.who may.recoverer m.block (omega arith, may.inside) (λ w rs f st at. there may some w rs st at)
+
+    shows : (may : MayTest m.me m.block m.era r) (w : Spot → ℕ) (rs : ℕ → Memo) {f : Frame} → Stands m.me w rs f [] → rs m.me.who ≡ r → (m.block ≡ 0) ⊎ (m.block ≢ 0) → is_shown m.me.who m.era (w (spot_at m.me.geometry (classes w) m.block)) ≡ true → on_of r.op ≡ Some m.block
+    shows may w rs st at (inl none) shown =
+        let at_zero : spot_at m.me.geometry (classes w) m.block ≡ Spare = ap (spot_at m.me.geometry (classes w)) none ∙ spot_zero m.me.geometry (classes w) in
+        absurd (spare_hidden m.me w rs st.held may.who (subst (λ e. is_shown m.me.who e (w Spare) ≡ true) (sym (era_is may w rs at)) (subst (λ p. is_shown m.me.who m.era (w p) ≡ true) at_zero shown)))
+    shows may w rs st at (inr some) shown =
         subst (λ (x : Memo). on_of x.op ≡ Some m.block) at
         (by_header m.me w rs st.held may.who m.block m.block
-        (subst (λ (x : Memo). step_block (redo_of (own_word x.own (Redo m.me.who))) (own_word x.own (Era m.me.who m.me.who)) ≡ Some m.block) (sym at) (ap (step_block (redo_of (own_word r.own (Redo m.me.who)))) may.era ∙ may.named))
-        (subst (λ e. is_shown m.me.who e (w (Head m.block)) ≡ true) (sym era) (subst (λ p. is_shown m.me.who m.era (w p) ≡ true) (there may w rs st at) shown)))
+        (subst (λ (x : Memo). step_block (record_in m.me x) (own_word x.own (Era m.me.who m.me.who)) ≡ Some m.block) (sym at) (ap (step_block (record_in m.me r)) may.era ∙ may.named))
+        (subst (λ e. is_shown m.me.who e (w (Head m.block)) ≡ true) (sym (era_is may w rs at)) (subst (λ p. is_shown m.me.who m.era (w p) ≡ true) (there may some w rs st at) shown)))
 opens m Row r0 r tr es h = test_row false m.me r h.may.who h.recoverer refl m.row h.low (subst (λ k. k ≢ m.me.who) (sym h.stands.2) (another m.me.who h.stands.0))
 
 -- ---- where it goes
@@ -135,7 +148,7 @@ module _ (m : TestingState) (k : ℕ) (r0 r : Memo) (tr : Trail) (es : List Even
   abbrev c : ℕ
   c = m.me.who
 
-  goes_on : MayTest m.me m.block m.era r0 → core r ≡ core r0 → recovers r ≡ true → r.test ≡ Some (record { block = m.block; next = k }) → es ≡ [] → IsWithin (rows_to c k) tr → k ≤ m.me.geometry.clients → IsHeld m.me r
+  goes_on : MayTest m.me m.block m.era r0 → core r ≡ core r0 → recovers r ≡ true → HasTest m.block r k → es ≡ [] → IsWithin (rows_to c k) tr → k ≤ m.me.geometry.clients → IsHeld m.me r
       → Outcome (test_step m k) (TestKnows (test_next m k) (test_next m k).point r0 r tr es) (TestLeaves (testing m.me m.block m.era) r0 r tr es)
   goes_on may same recoverer stands none bound low held = go (nat_lt (next_row c k) m.me.geometry.clients) (ltb-true (next_row c k) m.me.geometry.clients) (ltb-false (next_row c k) m.me.geometry.clients)
     where
@@ -146,13 +159,18 @@ module _ (m : TestingState) (k : ℕ) (r0 r : Memo) (tr : Trail) (es : List Even
           go true is z = let e = is refl in omega arith
           go false is z = absurd (omega arith)
 
+      -- no word showed it
+      untold : m.me.geometry.clients ≤ next_row c k → (m.block ≡ 0) ⊎ (m.block ≢ 0) → on_of (held.1 c).op ≢ Some m.block
+      untold last (inl none) = subst (λ b. on_of (held.1 c).op ≢ Some b) (sym none) (none_there m.me held.0 held.1 held.2 may.who)
+      untold last (inr some) = by_none m.me held.0 held.1 held.2 may.who m.block k (ap (λ (x : Memo). x.test) held.3 ∙ stands some) (left last)
+
       go : (q : Bool) → (q ≡ true → next_row c k < m.me.geometry.clients) → (q ≡ false → m.me.geometry.clients ≤ next_row c k)
           → let m2 : TestingState = cond q (record m { row = next_row c k; point = Row }) m in Outcome (cond q None (Some NotCommitted)) (TestKnows m2 m2.point r0 r tr es) (TestLeaves (testing m.me m.block m.era) r0 r tr es)
       go true more last =
           record { may = may; same = same; recoverer = recoverer; stands = (k, stands, refl); low = more refl; none = none; bound = subst (λ n. IsWithin n tr) (rows_next c k) bound }
       go false more last =
           record {
-            told = subst (λ (x : Memo). on_of x.op ≢ Some m.block) held.3 (by_none m.me held.0 held.1 held.2 may.who m.block k (ap (λ (x : Memo). x.test) held.3 ∙ stands) (left (last refl)));
+            told = subst (λ (x : Memo). on_of x.op ≢ Some m.block) held.3 (untold (last refl) (cases_eq m.block 0));
             same = same;
             none = none;
             bound = (let z = rows_most c k m.me.geometry.clients may.who low (last refl) in let y = bound in omega arith);
@@ -161,9 +179,9 @@ module _ (m : TestingState) (k : ℕ) (r0 r : Memo) (tr : Trail) (es : List Even
 -- ---- what the loads lead to
 
 -- a row that was read shows the step
-shown_by_row : (me : Me) (r : Memo) (b k n : ℕ) → IsHeld me r → me.who < me.geometry.clients → step_block (redo_of (own_word r.own (Redo me.who))) (own_word r.own (Era me.who me.who)) ≡ Some b → k < me.geometry.clients → k ≢ me.who → Contains r.facts (Counter (Era k me.who) n) → own_word r.own (Era me.who me.who) ≤ n → on_of r.op ≡ Some b
+shown_by_row : (me : Me) (r : Memo) (b k n : ℕ) → IsHeld me r → me.who < me.geometry.clients → step_block (record_in me r) (own_word r.own (Era me.who me.who)) ≡ Some b → k < me.geometry.clients → k ≢ me.who → Contains r.facts (Counter (Era k me.who) n) → own_word r.own (Era me.who me.who) ≤ n → on_of r.op ≡ Some b
 shown_by_row me r b k n (w, rs, h, same) l =
-    subst (λ (x : Memo). step_block (redo_of (own_word x.own (Redo me.who))) (own_word x.own (Era me.who me.who)) ≡ Some b → k < me.geometry.clients → k ≢ me.who → Contains x.facts (Counter (Era k me.who) n) → own_word x.own (Era me.who me.who) ≤ n → on_of x.op ≡ Some b) same
+    subst (λ (x : Memo). step_block (record_in me x) (own_word x.own (Era me.who me.who)) ≡ Some b → k < me.geometry.clients → k ≢ me.who → Contains x.facts (Counter (Era k me.who) n) → own_word x.own (Era me.who me.who) ≤ n → on_of x.op ≡ Some b) same
     (by_row me w rs h l b k n)
 
 module _ (m : TestingState) (r0 rs r : Memo) (tr t : Trail) (es ds : List Event) (n : ℕ) (held : IsHeld m.me r) (agent : recovers r ≡ recovers rs) where
@@ -200,7 +218,7 @@ module _ (m : TestingState) (r0 rs r : Memo) (tr t : Trail) (es ds : List Event)
           }
       go false hidden =
           goes_on (record m { point = Header }) 0 r0 r (tr ++ t) (es ++ ds) may same (agent ∙ (ap recovers begun ∙ may.recoverer))
-          (w.found.0.read.0 ∙ (ap (λ e. test_from who e m.block n) own ∙ cond-false (is_shown who m.era n) None (Some (record { block = m.block; next = 0 })) hidden))
+          (λ some. (w.found.0.read some).0 ∙ (ap (λ e. test_from who e m.block n) own ∙ cond-false (is_shown who m.era n) None (Some (record { block = m.block; next = 0 })) hidden))
           (quiet still w.none) (subst (λ n. IsWithin n (tr ++ t)) (sym (rows_before who 0 (omega arith))) one) (omega arith) held
 
   row_led : IsTesting m r0 rs tr es → (test_part m Row).leaves (test_call m Row) rs r t ds n → Follows word_control testing_plan (record m { point = Row }) n r0 r (tr ++ t) (es ++ ds)
@@ -212,10 +230,10 @@ module _ (m : TestingState) (r0 rs r : Memo) (tr t : Trail) (es ds : List Event)
       own : own_word rs.own (Era who who) ≡ m.era
       own = ap (λ (x : Memo). own_word x.own (Era who who)) h.same ∙ h.may.era
 
-      named : step_block (redo_of (own_word r.own (Redo who))) (own_word r.own (Era who who)) ≡ Some m.block
+      named : step_block (record_in m.me r) (own_word r.own (Era who who)) ≡ Some m.block
       named =
-          ap (λ (x : Memo). step_block (redo_of (own_word x.own (Redo who))) (own_word x.own (Era who who))) same
-          ∙ (ap (step_block (redo_of (own_word r0.own (Redo who)))) h.may.era ∙ h.may.named)
+          ap (λ (x : Memo). step_block (record_in m.me x) (own_word x.own (Era who who))) same
+          ∙ (ap (step_block (record_in m.me r0)) h.may.era ∙ h.may.named)
 
       other : m.row ≢ who
       other = subst (λ k. k ≢ who) (sym h.stands.2) (another who h.stands.0)
@@ -229,11 +247,11 @@ module _ (m : TestingState) (r0 rs r : Memo) (tr t : Trail) (es ds : List Event)
         | inr l ↦ (let e = rows_before who (m.row + 1) l in let z = h.may.who in omega arith)
       ]
 
-      go_test : nat_lt n m.era ≡ true → r.test ≡ Some (record { block = m.block; next = m.row + 1 })
-      go_test low =
+      go_test : nat_lt n m.era ≡ true → HasTest m.block r (m.row + 1)
+      go_test low some =
           w.found.read.0
           ∙ (ap (λ e. test_on who e rs.test m.row n) own
-          ∙ (ap (λ o. test_on who m.era o m.row n) h.stands.1
+          ∙ (ap (λ o. test_on who m.era o m.row n) (h.stands.1 some)
           ∙ cond-true (eqb (next_row who h.stands.0) m.row && nat_lt n m.era) (Some (record { block = m.block; next = m.row + 1 })) None (and_from _ _ (eq-eqb (next_row who h.stands.0) m.row (sym h.stands.2)) low)))
 
       go : (q : Bool) → nat_lt n m.era ≡ q

@@ -1,5 +1,5 @@
 -- what a step that changes a reference leaves, at a root and at a word of a block
-use Rattle.std.proofs.Common.{◌≡◌, ◌≢◌, ℕ, ◌+◌, ◌-◌, ◌^◌, ◌<◌, ◌≤◌, refl, sym, ap, ◌∙◌, subst, arith, Bool, true, false, cond, eqb, List, [], ◌∷◌, ◌++◌}
+use Rattle.std.proofs.Common.{◌≡◌, ◌≢◌, ℕ, ◌+◌, ◌-◌, ◌^◌, ◌<◌, ◌≤◌, refl, sym, ap, ◌∙◌, subst, arith, Bool, true, cond, eqb, List, [], ◌∷◌, ◌++◌}
 use Rattle.std.specs.List.{Contains, filter}
 use Rattle.std.proofs.lemmas.Bool.{eq-eqb, cond-true}
 use Rattle.shm_words.specs.Headers.{header_of}
@@ -7,12 +7,11 @@ use Rattle.shm_graph.specs.declared.ask.Me.{Me}
 use Rattle.shm_graph.specs.declared.spot.Spot.{Spot}
 use Rattle.shm_graph.specs.declared.spot.Spot.TheVariants as spot
 use Rattle.shm_graph.specs.declared.memo.Memo.{Memo}
-use Rattle.shm_graph.specs.declared.memo.First.TheVariants.{Committed, Written}
+use Rattle.shm_graph.specs.declared.memo.First.TheVariants.{Committed}
 use Rattle.shm_graph.specs.declared.memo.ChangeStage.TheVariants.{Raising, Lowering}
 use Rattle.shm_graph.specs.declared.memo.Second.TheVariants.{Open, Closed}
 use Rattle.shm_graph.specs.declared.memo.Op.TheVariants as op
 use Rattle.shm_graph.specs.declared.memo.Stored.{Stored}
-use Rattle.shm_graph.specs.declared.table.Part.{Part as TablePart}
 use Rattle.shm_graph.specs.Chains.{part_set}
 use Rattle.shm_graph.specs.Exchanges.{cut, reparted, without_made}
 use Rattle.shm_graph.specs.Ops.{On, cover}
@@ -25,8 +24,8 @@ use Rattle.shm_graph.proofs.Spots.Spotting.{same_spot_is}
 use Rattle.shm_laws.specs.Exchanges.{dying_after}
 use Rattle.shm_steps.proofs.MemoCommits.{known_lowered, lowered_is}
 use Rattle.shm_steps.specs.Reparting.{sight}
-use Rattle.shm_count.specs.declared.point.Aim.TheVariants.{Change, Down}
-use Rattle.shm_count.specs.declared.point.Half.TheVariants.{First, Second}
+use Rattle.shm_count.specs.declared.point.Aim.TheVariants.{Change}
+use Rattle.shm_count.specs.declared.point.Half.TheVariants.{Second}
 use Rattle.shm_count.specs.DownLeaves.{count_less, joined, kept_lowered, one_less}
 use Rattle.shm_count.specs.Retaining.{slots_learnt, slots_forgotten, slots_sifted, named_same, named_sifted, value_sifted}
 use Rattle.shm_count.specs.Roots.{rest}
@@ -35,10 +34,10 @@ use Rattle.shm_count.specs.Slots.Downs.{known_at_keeps, slotted_rest, slotted_dy
 use Rattle.shm_count.specs.Slots.{IsReplaced, emptied, slotted, known_at, Lost, Sifts}
 use Rattle.shm_count.specs.Step.Control.{header_after}
 use Rattle.shm_steps.proofs.Cores.{body_word}
-use Rattle.shm_count.specs.Step.{AtFirst, Done, Rows, begun, set_memo, slot_memo, closed_memo}
+use Rattle.shm_count.specs.Step.{Done, Rows, begun, set_memo, slot_memo, closed_memo}
 use Rattle.shm_graph.specs.Core.{core}
 use Rattle.shm_count.specs.Step.Parts.{part_after, lasting_not, first_own, rows_grow}
-use Rattle.shm_count.specs.Tear.Memos.{is_lasting, is_slot_word, Knows}
+use Rattle.shm_count.specs.Tear.Memos.{is_slot_word}
 
 known_slots : (p : Spot) (x : ℕ) (ks : List Stored) → filter is_slot_word (known_at p x ks) ≡ filter is_slot_word ks
 known_slots (spot.Body d k) x ks = slots_learnt (spot.Body d k) x ks refl

@@ -1,6 +1,6 @@
 -- what a step down leaves, at each kind of slot
 use Rattle.std.proofs.Common.{◌≡◌, ◌≢◌, ℕ, ◌+◌, ◌-◌, ◌^◌, ◌<◌, ◌≤◌, refl, sym, ap, ◌∙◌, subst, arith, Bool, true, false, cond, eqb, List, [], ◌∷◌, ◌++◌, inl, inr}
-use Rattle.std.specs.Prelude.{◌==◌, if◌then◌else◌}
+use Rattle.std.specs.Prelude.{if◌then◌else◌}
 use Rattle.std.specs.List.{Contains, filter}
 use Rattle.std.proofs.lemmas.Bool.{eq-eqb, ne_eqb, cond-true, cond-false}
 use Rattle.std.proofs.lemmas.List.Elements.{Contains-append_cases, Contains-append_right, Contains-push_cases}
@@ -18,12 +18,11 @@ use Rattle.shm_graph.specs.declared.table.Part.TheVariants.{Loose, Table}
 use Rattle.shm_graph.specs.Chains.{part_set}
 use Rattle.shm_graph.specs.Exchanges.{cut, reparted, without_made, with_unsent, with_untaken, lowered}
 use Rattle.shm_graph.specs.Ops.{On, cover, cover_of}
-use Rattle.shm_graph.specs.Reach.{is_named, learnt, not_at, shown, sifted}
+use Rattle.shm_graph.specs.Reach.{is_named, not_at, shown, sifted}
 use Rattle.shm_graph.specs.Spots.{same_spot}
 use Rattle.shm_graph.specs.Stores.{is_lowering, is_of, not_of, op_closed, op_written, other_than, put, written, without_looks, stored_on, with_own, era_stored}
 use Rattle.shm_graph.specs.Views.{own_word}
 use Rattle.shm_graph.proofs.StepKinds.Loads.{choice}
-use Rattle.shm_graph.proofs.Spots.Spotting.{same_spot_self}
 use Rattle.shm_laws.proofs.Keep.{newest, Contains-filter, filter_from}
 use Rattle.shm_laws.specs.Exchanges.{dying_after}
 use Rattle.shm_steps.proofs.MemoCommits.{known_lowered, lowered_is}
@@ -34,13 +33,13 @@ use Rattle.shm_count.specs.DownLeaves.{count_less, joined, kept_lowered, one_les
 use Rattle.shm_count.specs.Retaining.{slots_learnt, slots_forgotten, slots_sifted, named_same, named_sifted, value_sifted}
 use Rattle.shm_count.specs.Roots.{rest}
 use Rattle.shm_count.specs.Slots.Ups.{slotted_own, closed_row}
-use Rattle.shm_count.specs.Slots.{IsEmptied, emptied, slotted, known_at, Lost, Sifts}
+use Rattle.shm_count.specs.Slots.{IsEmptied, emptied, slotted, known_at, Lost}
 use Rattle.shm_count.specs.Step.Control.{header_after}
 use Rattle.shm_steps.proofs.Cores.{body_word}
-use Rattle.shm_count.specs.Step.{AtFirst, Done, begun, set_memo, slot_memo, closed_memo}
+use Rattle.shm_count.specs.Step.{Done, begun, set_memo, slot_memo, closed_memo}
 use Rattle.shm_graph.specs.Core.{core}
 use Rattle.shm_count.specs.Step.Parts.{part_after, lasting_not, first_own, rows_grow}
-use Rattle.shm_count.specs.Tear.Memos.{is_lasting, is_slot_word, Knows}
+use Rattle.shm_count.specs.Tear.Memos.{is_slot_word}
 
 -- what no slot changes
 pub slotted_op : (p : Spot) (x : ℕ) (m : Memo) → (slotted p x m).op ≡ m.op

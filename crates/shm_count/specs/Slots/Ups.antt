@@ -1,5 +1,5 @@
 -- what a step up leaves, at each kind of slot
-use Rattle.std.proofs.Common.{◌≡◌, ◌≢◌, ℕ, ◌+◌, ◌≤◌, refl, sym, ap, ◌∙◌, subst, arith, Bool, true, false, cond, eqb, List, [], ◌∷◌}
+use Rattle.std.proofs.Common.{◌≡◌, ℕ, ◌+◌, ◌≤◌, refl, sym, ap, ◌∙◌, subst, Bool, false, cond, eqb, List}
 use Rattle.std.proofs.lemmas.Bool.{eq-eqb, cond-true}
 use Rattle.shm_graph.specs.declared.ask.Me.{Me}
 use Rattle.shm_graph.specs.declared.spot.Spot.{Spot}
@@ -10,7 +10,7 @@ use Rattle.shm_graph.specs.declared.memo.Op.{Op}
 use Rattle.shm_graph.specs.declared.memo.Op.TheVariants as op
 use Rattle.shm_graph.specs.declared.memo.Stored.{Stored}
 use Rattle.shm_graph.specs.Chains.{part_set}
-use Rattle.shm_graph.specs.Exchanges.{reparted, with_unsent, without_made}
+use Rattle.shm_graph.specs.Exchanges.{reparted, without_made}
 use Rattle.shm_graph.specs.Ops.{On, cover}
 use Rattle.shm_graph.specs.Spots.{same_spot}
 use Rattle.shm_graph.specs.Stores.{put, written, stored_on, with_own, era_stored}
@@ -20,12 +20,10 @@ use Rattle.shm_steps.specs.Reparting.{sight}
 use Rattle.shm_count.specs.declared.point.Aim.TheVariants.{Up}
 use Rattle.shm_count.specs.declared.point.Half.TheVariants.{First}
 use Rattle.shm_count.specs.Slots.{IsFilled, slotted, known_at, unsent_at, Filled}
-use Rattle.shm_count.specs.Step.Control.{header_after}
 use Rattle.shm_steps.proofs.Cores.{body_word}
-use Rattle.shm_count.specs.Step.{AtFirst, Done, begun, set_memo, slot_memo, closed_memo}
+use Rattle.shm_count.specs.Step.{Done, begun, set_memo, slot_memo, closed_memo}
 use Rattle.shm_graph.specs.Core.{core}
 use Rattle.shm_count.specs.Step.Parts.{part_after, lasting_not, first_own, rows_grow}
-use Rattle.shm_count.specs.Tear.Memos.{is_lasting}
 
 module _ (me : Me) (slot b e w : ℕ) (q : Memo) where
   abbrev c : ℕ

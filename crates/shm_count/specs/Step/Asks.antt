@@ -3,7 +3,7 @@ use Rattle.std.specs.Prelude.{ℕ, zero, suc, ◌+◌, Bool, true, false, not, �
 use Rattle.shm_words.specs.declared.place.Place.TheVariants as place
 use Rattle.shm_words.specs.Layout.{address}
 use Rattle.shm_words.specs.Headers.{header_of, header_word}
-use Rattle.shm_words.specs.Redos.{redo_word}
+use Rattle.shm_words.specs.Redos.{first_word, second_word}
 use Rattle.shm_graph.specs.declared.ask.Ask.TheVariants.{Load, Store, Exchange}
 use Rattle.shm_graph.specs.declared.ask.Me.{Me}
 use Rattle.shm_graph.specs.Asks.{Trail}
@@ -74,13 +74,20 @@ module _ (me : Me) where
 
   -- the redo record, and what follows
   abbrev pub redo_trail : ℕ → Aim → ℕ → StepTrails
-  redo_trail slot x e = Asked (Store (address me.geometry (place.Redo me.who)) (redo_word (redo_at x slot e))) (λ _. load_trail (raises x First) (block_at x First) e (slot_trail slot x e))
+  redo_trail slot x e = Asked (Store (address me.geometry (place.Redo me.who)) (first_word me.geometry.wide (redo_at x slot e))) (λ _. load_trail (raises x First) (block_at x First) e (slot_trail slot x e))
+
+  -- in format 2 its second word is stored before
+  abbrev pub more_trail : ℕ → Aim → ℕ → StepTrails
+  more_trail slot x e = Asked (Store (address me.geometry (place.RedoMore me.who)) (second_word me.geometry.wide (redo_at x slot e))) (λ _. redo_trail slot x e)
+
+  abbrev pub first_trail : ℕ → Aim → ℕ → StepTrails
+  first_trail slot x e = Chosen me.geometry.wide (more_trail slot x e) (redo_trail slot x e)
 
   -- all that a count step asks
   abbrev pub step_trail : ℕ → Aim → StepTrails
   step_trail slot x =
       Asked (Load (address me.geometry (place.Era me.who me.who))) (λ e.
-      Chosen (nat_lt (last_era x) e) (Answers (Err (EraSpent e))) (redo_trail slot x e))
+      Chosen (nat_lt (last_era x) e) (Answers (Err (EraSpent e))) (first_trail slot x e))
 
 -- ---- from a point on
 
@@ -97,6 +104,7 @@ again_trail me slot x e h (suc n) w = set_trail me n (raises x h) (block_at x h)
 -- the trails from a point on
 abbrev pub point_trail : Me → ℕ → Aim → StepPoint → StepTrails
 point_trail me slot x point.Era = step_trail me slot x
+point_trail me slot x (point.More e) = more_trail me slot x e
 point_trail me slot x (point.Redo e) = redo_trail me slot x e
 point_trail me slot x (point.Load e h) = load_trail me (raises x h) (block_at x h) e (after_set me slot x e h)
 point_trail me slot x (point.Row e h w) = λ tr a. (n : ℕ) × row_trail me (raises x h) (block_at x h) e w (again_trail me slot x e h n) (after_set me slot x e h) tr a
@@ -108,7 +116,7 @@ point_trail me slot x (point.Close e Second z) = end_trail me e z
 point_trail me slot x point.Over = λ tr a. ⊥
 
 -- how many word steps a count step takes, but for what is tried again
-abbrev pub steps_of : Aim → ℕ
-steps_of (Up b) = up_steps
-steps_of (Down b) = down_steps
-steps_of (Change a b) = change_steps
+abbrev pub steps_of : Bool → Aim → ℕ
+steps_of wide (Up b) = up_steps wide
+steps_of wide (Down b) = down_steps wide
+steps_of wide (Change a b) = change_steps wide

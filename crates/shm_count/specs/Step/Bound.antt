@@ -1,10 +1,11 @@
 -- how many word steps a count step makes at most
 use Rattle.std.proofs.Common.{ℕ, zero, suc, ◌+◌, ◌*◌, ◌≤◌, sym, subst, arith, Bool, true, false}
+use Rattle.shm_graph.specs.Bounds.{redo_steps}
 use Rattle.std.specs.Prelude.{◌==◌, ◌&&◌, not, nat_lt, if◌then◌else◌, Result, Ok, Err}
 use Rattle.shm_words.specs.declared.place.Place.TheVariants as place
 use Rattle.shm_words.specs.Layout.{address}
 use Rattle.shm_words.specs.Headers.{header_of, header_word}
-use Rattle.shm_words.specs.Redos.{redo_word}
+use Rattle.shm_words.specs.Redos.{first_word, second_word}
 use Rattle.shm_graph.specs.declared.ask.Ask.{Ask}
 use Rattle.shm_graph.specs.declared.ask.Ask.TheVariants.{Load, Store, Exchange}
 use Rattle.shm_graph.specs.declared.ask.Me.{Me}
@@ -16,7 +17,7 @@ use Rattle.shm_count.specs.declared.point.Aim.{Aim}
 use Rattle.shm_count.specs.declared.point.Aim.TheVariants.{Up, Down, Change}
 use Rattle.shm_count.specs.declared.point.Half.TheVariants.{First}
 use Rattle.shm_count.specs.Step.Control.{last_era, block_at, raises, value_after, redo_at, count_after, row_address}
-use Rattle.shm_count.specs.Step.Asks.{StepTrails, exchange_trail, show_trail, row_trail, header_trail, set_trail, load_trail, end_trail, close_trail, slot_trail, redo_trail, step_trail, steps_of}
+use Rattle.shm_count.specs.Step.Asks.{StepTrails, exchange_trail, show_trail, row_trail, header_trail, set_trail, load_trail, end_trail, close_trail, slot_trail, redo_trail, step_trail, steps_of, first_trail, more_trail}
 
 -- each of the trails has at most n pairs, and three more for each exchange that failed
 abbrev Within : StepTrails → ℕ → Type 0
@@ -127,23 +128,34 @@ module _ (me : Me) where
   redo_within : (slot : ℕ) (x : Aim) (e : ℕ) → Within (redo_trail me slot x e) (close_steps x + 6)
   redo_within slot x e =
       within_more (redo_trail me slot x e) (close_steps x + 1 + 4 + 1) (close_steps x + 6) (omega arith)
-      (within_store (address me.geometry (place.Redo me.who)) (redo_word (redo_at x slot e)) (load_trail me (raises x First) (block_at x First) e (slot_trail me slot x e)) (close_steps x + 1 + 4)
+      (within_store (address me.geometry (place.Redo me.who)) (first_word me.geometry.wide (redo_at x slot e)) (load_trail me (raises x First) (block_at x First) e (slot_trail me slot x e)) (close_steps x + 1 + 4)
       (load_within (raises x First) (block_at x First) e (slot_trail me slot x e) (close_steps x + 1) (λ z. slot_within slot x e z)))
 
+  -- in format 2 its second word comes before that
+  first_within : (slot : ℕ) (x : Aim) (e : ℕ) → Within (first_trail me slot x e) (close_steps x + 5 + redo_steps me.geometry.wide)
+  first_within slot x e = go me.geometry.wide
+    where
+      go : (b : Bool) → Within (Chosen b (more_trail me slot x e) (redo_trail me slot x e)) (close_steps x + 5 + redo_steps b)
+      go true =
+          within_more (more_trail me slot x e) (close_steps x + 6 + 1) (close_steps x + 5 + redo_steps true) (omega arith)
+          (within_store (address me.geometry (place.RedoMore me.who)) (second_word me.geometry.wide (redo_at x slot e)) (redo_trail me slot x e) (close_steps x + 6) (redo_within slot x e))
+      go false = within_more (redo_trail me slot x e) (close_steps x + 6) (close_steps x + 5 + redo_steps false) (omega arith) (redo_within slot x e)
+
   -- a whole trail
-  all_within : (slot : ℕ) (x : Aim) → Within (step_trail me slot x) (close_steps x + 7)
+  all_within : (slot : ℕ) (x : Aim) → Within (step_trail me slot x) (close_steps x + 6 + redo_steps me.geometry.wide)
   all_within slot x =
-      within_more (step_trail me slot x) (close_steps x + 6 + 1) (close_steps x + 7) (omega arith)
-      (within_load (address me.geometry (place.Era me.who me.who)) (λ e. Chosen (nat_lt (last_era x) e) (Answers (Err (EraSpent e))) (redo_trail me slot x e)) (close_steps x + 6)
-      (λ e. within_chosen (nat_lt (last_era x) e) (Answers (Err (EraSpent e))) (redo_trail me slot x e) (close_steps x + 6)
-      (within_more (Answers (Err (EraSpent e))) 0 (close_steps x + 6) (omega arith) (within_answers (Err (EraSpent e)))) (redo_within slot x e)))
+      let n : ℕ = close_steps x + 5 + redo_steps me.geometry.wide in
+      within_more (step_trail me slot x) (n + 1) (close_steps x + 6 + redo_steps me.geometry.wide) (omega arith)
+      (within_load (address me.geometry (place.Era me.who me.who)) (λ e. Chosen (nat_lt (last_era x) e) (Answers (Err (EraSpent e))) (first_trail me slot x e)) n
+      (λ e. within_chosen (nat_lt (last_era x) e) (Answers (Err (EraSpent e))) (first_trail me slot x e) n
+      (within_more (Answers (Err (EraSpent e))) 0 n (omega arith) (within_answers (Err (EraSpent e)))) (first_within slot x e)))
 
 -- a count step takes at most 8 word steps, a change 13, and each exchange that fails three more
-pub step_bound : (me : Me) (slot : ℕ) (x : Aim) (tr : Trail) (a : Result Bool UpFault) → step_trail me slot x tr a → IsWithin (steps_of x) tr
+pub step_bound : (me : Me) (slot : ℕ) (x : Aim) (tr : Trail) (a : Result Bool UpFault) → step_trail me slot x tr a → IsWithin (steps_of me.geometry.wide x) tr
 step_bound me slot (Up b) = all_within me slot (Up b)
 step_bound me slot (Down b) = all_within me slot (Down b)
 step_bound me slot (Change a b) = all_within me slot (Change a b)
 
--- a step up takes at most 7 from its redo record on
-pub redo_bound : (me : Me) (slot b e : ℕ) (tr : Trail) (a : Result Bool UpFault) → redo_trail me slot (Up b) e tr a → IsWithin 7 tr
-redo_bound me slot b e = redo_within me slot (Up b) e
+-- a step up takes at most 7 from its redo record on, in format 2 8
+pub redo_bound : (me : Me) (slot b e : ℕ) (tr : Trail) (a : Result Bool UpFault) → first_trail me slot (Up b) e tr a → IsWithin (6 + redo_steps me.geometry.wide) tr
+redo_bound me slot b e = first_within me slot (Up b) e

@@ -60,12 +60,12 @@ own_era me w r held who = held.mine me.who who (spot.Era me.who me.who) (eq-eqb 
 
 -- so it is for a step that a half committed
 pub set_going : (me : Me) (x : Aim) (p : Spot) (e : ℕ) (h : Half) (w : Spot → ℕ) (r : ℕ → Memo) → HeldAt me.geometry w (view r) → me.who < me.geometry.clients → (r me.who).op ≡ set_op x p e h → IsGoing me w (r me.who) p e
-set_going me x p e h w r held who o = go x h (subst (OpTie me.geometry (classes w) (w (spot.Redo me.who)) (w (spot.Era me.who me.who)) (words_of w)) o (held.op me.who who))
+set_going me x p e h w r held who o = go x h (subst (OpTie me.geometry (classes w) (w (spot.Redo me.who)) (w (spot.RedoMore me.who)) (w (spot.Era me.who me.who)) (words_of me.geometry.wide w)) o (held.op me.who who))
   where
     own : own_word (r me.who).own (spot.Era me.who me.who) ≡ w (spot.Era me.who me.who)
     own = own_era me w r held who
 
-    go : (x : Aim) (h : Half) → OpTie me.geometry (classes w) (w (spot.Redo me.who)) (w (spot.Era me.who me.who)) (words_of w) (set_op x p e h) → IsGoing me w (r me.who) p e
+    go : (x : Aim) (h : Half) → OpTie me.geometry (classes w) (w (spot.Redo me.who)) (w (spot.RedoMore me.who)) (w (spot.Era me.who me.who)) (words_of me.geometry.wide w) (set_op x p e h) → IsGoing me w (r me.who) p e
     go (Up b) h s = record { era = s.current ∙ sym own; at = s.at }
     go (Down b) h s = record { era = s.current ∙ sym own; at = s.at }
     go (Change a b) First s = record { era = s.current ∙ sym own; at = s.at }
@@ -156,12 +156,12 @@ closes_set (Change a b) p e = refl
 
 -- the step whose slot is stored is at the own era
 written_going : (me : Me) (x : Aim) (p : Spot) (e : ℕ) (w : Spot → ℕ) (r : ℕ → Memo) → HeldAt me.geometry w (view r) → me.who < me.geometry.clients → (r me.who).op ≡ op_written (set_op x p e First) → e ≡ own_word (r me.who).own (spot.Era me.who me.who)
-written_going me x p e w r held who o = go x (subst (OpTie me.geometry (classes w) (w (spot.Redo me.who)) (w (spot.Era me.who me.who)) (words_of w)) o (held.op me.who who))
+written_going me x p e w r held who o = go x (subst (OpTie me.geometry (classes w) (w (spot.Redo me.who)) (w (spot.RedoMore me.who)) (w (spot.Era me.who me.who)) (words_of me.geometry.wide w)) o (held.op me.who who))
   where
     own : own_word (r me.who).own (spot.Era me.who me.who) ≡ w (spot.Era me.who me.who)
     own = own_era me w r held who
 
-    go : (x : Aim) → OpTie me.geometry (classes w) (w (spot.Redo me.who)) (w (spot.Era me.who me.who)) (words_of w) (op_written (set_op x p e First)) → e ≡ own_word (r me.who).own (spot.Era me.who me.who)
+    go : (x : Aim) → OpTie me.geometry (classes w) (w (spot.Redo me.who)) (w (spot.RedoMore me.who)) (w (spot.Era me.who me.who)) (words_of me.geometry.wide w) (op_written (set_op x p e First)) → e ≡ own_word (r me.who).own (spot.Era me.who me.who)
     go (Up b) s = s.current ∙ sym own
     go (Down b) s = s.current ∙ sym own
     go (Change a b) s = s.current ∙ sym own

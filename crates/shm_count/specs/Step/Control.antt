@@ -5,7 +5,7 @@ use Rattle.shm_words.specs.declared.redo.Redo.{Redo as ARedo}
 use Rattle.shm_words.specs.declared.redo.Redo.TheVariants as redos
 use Rattle.shm_words.specs.Layout.{GeometryFits, address, bodies, total_of, address_limit}
 use Rattle.shm_words.specs.Headers.{header_of, header_word}
-use Rattle.shm_words.specs.Redos.{redo_word}
+use Rattle.shm_words.specs.Redos.{second_word, first_word}
 use Rattle.shm_graph.specs.declared.ask.Ask.{Ask}
 use Rattle.shm_graph.specs.declared.ask.Ask.TheVariants.{Load, Store, Exchange}
 use Rattle.shm_graph.specs.declared.ask.Me.{Me}
@@ -75,7 +75,8 @@ row_address me j = if nat_lt j me.geometry.clients then address me.geometry (pla
 
 abbrev pub step_ask_at : Me → ℕ → Aim → StepPoint → Ask
 step_ask_at me slot x point.Era = Load (address me.geometry (place.Era me.who me.who))
-step_ask_at me slot x (point.Redo e) = Store (address me.geometry (place.Redo me.who)) (redo_word (redo_at x slot e))
+step_ask_at me slot x (point.More e) = Store (address me.geometry (place.RedoMore me.who)) (second_word me.geometry.wide (redo_at x slot e))
+step_ask_at me slot x (point.Redo e) = Store (address me.geometry (place.Redo me.who)) (first_word me.geometry.wide (redo_at x slot e))
 step_ask_at me slot x (point.Load e h) = Load (block_at x h)
 step_ask_at me slot x (point.Row e h w) = Load (row_address me (header_of w).client)
 step_ask_at me slot x (point.Show e h w) = Store (row_address me (header_of w).client) (header_of w).era
@@ -89,8 +90,15 @@ step_ask m = step_ask_at m.me m.slot m.aim m.point
 
 -- ---- where it goes
 
-abbrev pub era_next : Aim → ℕ → StepNext
-era_next x n = if nat_lt (last_era x) n then Answer (Err (EraSpent n)) else Point (point.Redo n)
+-- the store that begins a step at an own era: in format 2 that of the redo record's second word
+abbrev pub first_point : Me → ℕ → StepPoint
+first_point me e = if me.geometry.wide then point.More e else point.Redo e
+
+abbrev pub first_next : Me → ℕ → StepNext
+first_next me e = Point (first_point me e)
+
+abbrev pub era_next : Me → Aim → ℕ → StepNext
+era_next me x n = if nat_lt (last_era x) n then Answer (Err (EraSpent n)) else first_next me n
 
 -- by the header of its block
 abbrev pub header_next : Me → Aim → ℕ → Half → ℕ → StepNext
@@ -119,7 +127,8 @@ closed_next (Change a b) e First z = Point (point.Load (e + 1) Second)
 closed_next x e h z = Answer (Ok z)
 
 abbrev pub step_next_at : Me → Aim → StepPoint → ℕ → StepNext
-step_next_at me x point.Era n = era_next x n
+step_next_at me x point.Era n = era_next me x n
+step_next_at me x (point.More e) n = Point (point.Redo e)
 step_next_at me x (point.Redo e) n = Point (point.Load e First)
 step_next_at me x (point.Load e h) n = header_next me x e h n
 step_next_at me x (point.Row e h w) n = row_next e h w n
@@ -199,6 +208,7 @@ CountFits x h w = raises x h ≡ true → (header_of w).count ≢ 1023
 
 abbrev pub PointFits : Me → Aim → StepPoint → Type 0
 PointFits me x point.Era = Unit {0}
+PointFits me x (point.More e) = EraFits x e First × (me.geometry.wide ≡ true)
 PointFits me x (point.Redo e) = EraFits x e First
 PointFits me x (point.Load e h) = EraFits x e h × PartFits x h
 PointFits me x (point.Row e h w) = EraFits x e h × PartFits x h × CountFits x h w

@@ -29,7 +29,7 @@ use Rattle.shm_count.specs.declared.point.Half.{Half}
 use Rattle.shm_count.specs.declared.point.Aim.{Aim}
 use Rattle.shm_count.specs.declared.point.StepPoint.{StepPoint}
 use Rattle.shm_graph.specs.Core.{core}
-use Rattle.shm_count.specs.Step.{CanUp, CanStep, CanChange, CanAim, set_memo, closed_memo, CanDown, PointHolds, NextHolds}
+use Rattle.shm_count.specs.Step.{CanUp, CanStep, CanChange, CanAim, set_memo, closed_memo, CanDown, PointHolds, NextHolds, Bool}
 use Rattle.shm_count.specs.Step.Control.{last_era, header_after, PartFits, PointFits, step_ask_at, step_next_at}
 
 -- ---- steps in progress
@@ -98,35 +98,35 @@ IsStepSlot c (spot.Body b i) = Unit {0}
 IsStepSlot c p = ⊥
 
 -- the slot of a step up is one by what the memo shows of it
-up_slot : (n c : ℕ) (m : Memo) (b : ℕ) (p : Spot) → CanUp n c m b p → IsStepSlot c p
-up_slot n c m b (spot.Root d k) y = y.0
-up_slot n c m b (spot.Home d) y = y.0
-up_slot n c m b (spot.Slot s r k) y = tt
-up_slot n c m b (spot.Body d i) y = tt
-up_slot n c m b _ y = absurd y
+up_slot : (wide : Bool) (n c : ℕ) (m : Memo) (b : ℕ) (p : Spot) → CanUp wide n c m b p → IsStepSlot c p
+up_slot wide n c m b (spot.Root d k) y = y.0
+up_slot wide n c m b (spot.Home d) y = y.0
+up_slot wide n c m b (spot.Slot s r k) y = tt
+up_slot wide n c m b (spot.Body d i) y = tt
+up_slot wide n c m b _ y = absurd y
 
 -- so is that of a step down
-down_slot : (n c : ℕ) (m : Memo) (b : ℕ) (p : Spot) → CanDown n c m b p → IsStepSlot c p
-down_slot n c m b (spot.Root d k) y = y.0
-down_slot n c m b (spot.Slot s r k) y = tt
-down_slot n c m b (spot.Body d i) y = tt
-down_slot n c m b _ y = absurd y
+down_slot : (wide : Bool) (n c : ℕ) (m : Memo) (b : ℕ) (p : Spot) → CanDown wide n c m b p → IsStepSlot c p
+down_slot wide n c m b (spot.Root d k) y = y.0
+down_slot wide n c m b (spot.Slot s r k) y = tt
+down_slot wide n c m b (spot.Body d i) y = tt
+down_slot wide n c m b _ y = absurd y
 
 -- and that of a change
-change_slot : (c : ℕ) (m : Memo) (a b : ℕ) (p : Spot) → CanChange c m a b p → IsStepSlot c p
-change_slot c m a b (spot.Root d k) y = y.0
-change_slot c m a b (spot.Body d i) y = tt
-change_slot c m a b _ y = absurd y
+change_slot : (wide : Bool) (c : ℕ) (m : Memo) (a b : ℕ) (p : Spot) → CanChange wide c m a b p → IsStepSlot c p
+change_slot wide c m a b (spot.Root d k) y = y.0
+change_slot wide c m a b (spot.Body d i) y = tt
+change_slot wide c m a b _ y = absurd y
 
 -- so that it is for each step
-aim_slot : (n c : ℕ) (m : Memo) (x : Aim) (p : Spot) → CanAim n c m x p → IsStepSlot c p
-aim_slot n c m (Up b) p y = up_slot n c m b p y
-aim_slot n c m (Down b) p y = down_slot n c m b p y
-aim_slot n c m (Change a b) p y = change_slot c m a b p y
+aim_slot : (wide : Bool) (n c : ℕ) (m : Memo) (x : Aim) (p : Spot) → CanAim wide n c m x p → IsStepSlot c p
+aim_slot wide n c m (Up b) p y = up_slot wide n c m b p y
+aim_slot wide n c m (Down b) p y = down_slot wide n c m b p y
+aim_slot wide n c m (Change a b) p y = change_slot wide c m a b p y
 
 -- so it is where the step could begin at an era that leaves room
 pub can_slot : (me : Me) (slot : ℕ) (x : Aim) (p : Spot) (r0 : Memo) (e : ℕ) → CanStep me slot x p r0 → e ≡ own_word r0.own (spot.Era me.who me.who) → e ≤ last_era x → IsStepSlot me.who p
-can_slot me slot x p r0 e can own l = aim_slot me.geometry.clients me.who r0 x p (can.can (subst (λ y. y ≤ last_era x) own l))
+can_slot me slot x p r0 e can own l = aim_slot me.geometry.wide me.geometry.clients me.who r0 x p (can.can (subst (λ y. y ≤ last_era x) own l))
 
 -- the store of the slot writes the step, and leaves the status
 pub is_stored : (g : Geometry) (c : ℕ) (p : Spot) (v : ℕ) (m : Memo) → IsStepSlot c p → HasSlot m p → ((stored_on g c m p v).op ≡ op_written m.op) × ((stored_on g c m p v).status ≡ m.status)

@@ -14,7 +14,7 @@ use Rattle.shm_count.specs.declared.point.Half.{Half}
 use Rattle.shm_count.specs.declared.point.Half.TheVariants.{First, Second}
 use Rattle.shm_count.specs.declared.point.StepPoint.{StepPoint}
 use Rattle.shm_count.specs.declared.point.StepPoint.TheVariants as point
-use Rattle.shm_count.specs.Step.Control.{answer_of, block_at, closed_next, committed_next, header_next, last_era, point_of, step_control, step_next, step_next_at}
+use Rattle.shm_count.specs.Step.Control.{answer_of, block_at, closed_next, committed_next, header_next, last_era, point_of, step_control, step_next, step_next_at, first_next}
 use Rattle.shm_count.specs.Step.Exchanged.{exchanged_at, exchanging_at, is_second, step_exchanged, step_exchanging}
 use Rattle.shm_count.specs.Step.Machines.{down_answer, down_control, up_answer, up_control}
 
@@ -69,8 +69,17 @@ by_exchange me x e First w n true = sym (or_true (is_second x First))
 by_exchange me x e Second w n true = sym (or_true (is_second x Second))
 by_exchange me x e h w n false = subst (λ z. Shows x z (header_next me x e h n)) (sym (or_none (is_second x h))) (by_header me x e h n)
 
+-- nor do those that begin it
+by_first : (me : Me) (x : Aim) (n : ℕ) → Shows x false (first_next me n)
+by_first me x n = go me.geometry.wide
+  where
+    go : (b : Bool) → Shows x false (Point (if b then point.More n else point.Redo n))
+    go true = refl
+    go false = refl
+
 shows : (me : Me) (x : Aim) (y : StepPoint) (n : ℕ) → Shows x (exchanged_at x y || exchanging_at y n) (step_next_at me x y n)
-shows me x point.Era n = by_test x false (nat_lt (last_era x) n) (Answer (Err (EraSpent n))) (Point (point.Redo n)) refl refl
+shows me x point.Era n = by_test x false (nat_lt (last_era x) n) (Answer (Err (EraSpent n))) (first_next me n) refl (by_first me x n)
+shows me x (point.More e) n = refl
 shows me x (point.Redo e) n = first_half x
 shows me x (point.Load e h) n = subst (λ z. Shows x z (header_next me x e h n)) (sym (or_none (is_second x h))) (by_header me x e h n)
 shows me x (point.Row e h w) n = by_test x (is_second x h || false) (nat_lt n (header_of w).era) (Point (point.Show e h w)) (Point (point.Exchange e h w)) (sym (or_none (is_second x h))) (sym (or_none (is_second x h)))

@@ -77,7 +77,7 @@ made_fits me x e h k fits who era count =
 -- ---- it is found
 
 -- no partition is read from a word of a zero-count block
-word_reparted : (g : Geometry) (w : Spot → ℕ) (r : ℕ → Memo) (c : ℕ) (x : Aim) (p : Spot) (b : ℕ) (m : Memo) → HeldAt g w (view r) → c < g.clients → (r c).dying ≡ m.dying → IsDyingWord m x p → IsReparted g w (view r) c (r c) p b
+word_reparted : (g : Geometry) (w : Spot → ℕ) (r : ℕ → Memo) (c : ℕ) (x : Aim) (p : Spot) (b : ℕ) (m : Memo) → HeldAt g w (view r) → c < g.clients → (r c).dying ≡ m.dying → IsDyingWord g.wide m x p → IsReparted g w (view r) c (r c) p b
 word_reparted g w r c (Down a) (spot.Body d i) b m h l same y = dying_reparted g w r c d h l (subst (λ ds. Contains ds d) (sym same) y) i b
 word_reparted g w r c x p b m h l same y = absurd y
 
@@ -103,7 +103,7 @@ module _ (me : Me) (slot : ℕ) (p : Spot) (r0 : Memo) (w : Spot → ℕ) (r : �
         | inr (inl d) ↦ word_reparted me.geometry w r me.who x p (value_after x) r0 st.held st.who (ap (λ (y : Memo). y.dying) half.1.rest) d
         | inr (inr s) ↦ begun_reparted me.geometry w r me.who st.held st.who p (value_before x) (value_after x)
             (subst (λ (o : Op). Begins o p (value_before x) (value_after x)) (sym (ap (λ (y : Memo). y.op) half.1.rest)) (begins_word x))
-            (subst (λ y. TableStep me.who y p (value_before x) (value_after x)) (sym (first_sight me slot x p r0 (r me.who) e half)) s)
+            (subst (λ y. TableStep me.geometry.wide me.who y p (value_before x) (value_after x)) (sym (first_sight me slot x p r0 (r me.who) e half)) s)
       ]
 
   -- a header that is found becomes the one of the step
@@ -219,7 +219,7 @@ exchange_step me slot x p r0 w r f tr e h k st going can fits y = by (cases_eq n
 
     -- the memo after it, and what comes next
     left : Bool → Memo
-    left z = with_end f.ends (with_call N (cond z (exchanged_on c N s to) (read_on me.geometry c false N m.test s n)))
+    left z = with_end f.ends (with_call N (cond z (exchanged_on me.geometry.wide c N s to) (read_on me.geometry c false N m.test s n)))
 
     next : Bool → StepNext
     next z = cond z (committed_next x e h k) (header_next me x e h n)
@@ -233,7 +233,7 @@ exchange_step me slot x p r0 w r f tr e h k st going can fits y = by (cases_eq n
         (exchange_kept me slot p r0 w r f tr e k st going x h can fits.0 fits.1 fits.2 half y.has.1 y.has.2 u)
         (subst (λ z. NextHolds me slot x p r0 (left z) (next z)) (sym (eq-eqb n k u))
         (found_next me slot x p r0 N (left true) e k h fits.1 (subst (λ z. recovers (left z) ≡ recovers r0) (eq-eqb n k u) agent) half_there y.has.1.counted
-        (ap (λ o. core (committed c N o to)) (half_op me slot p r0 m e x h can fits.0 fits.1 half))))
+        (ap (λ o. core (committed me.geometry.wide c N o to)) (half_op me slot p r0 m e x h can fits.0 fits.1 half))))
     by (inr u) =
         kept_going me w r a f (λ n r'. NextHolds me slot x p r0 r' (exchange_next me x e h k n)) s going i
         (header_lost me w r f tr b k to b st i u)

@@ -24,8 +24,8 @@ use Rattle.shm_count.specs.declared.point.StepPoint.TheVariants as point
 use Rattle.shm_count.specs.declared.point.StepState.{StepState}
 use Rattle.shm_count.specs.declared.point.StepNext.{StepNext}
 use Rattle.shm_count.specs.declared.point.StepNext.TheVariants.{Point, Answer}
-use Rattle.shm_count.specs.Step.Control.{last_era, block_at, raises, step_ask, step_ask_at, step_next, step_next_at, header_next, row_next, committed_next, exchange_next, closed_next, point_of, PartFits, PointFits, StepInRange, step_control}
-use Rattle.shm_count.specs.Step.Asks.{StepTrails, step_trail, point_trail, redo_trail, header_trail, row_trail, show_trail, exchange_trail, set_trail, after_set, again_trail}
+use Rattle.shm_count.specs.Step.Control.{last_era, block_at, raises, step_ask, step_ask_at, step_next, step_next_at, header_next, row_next, committed_next, exchange_next, closed_next, point_of, PartFits, PointFits, StepInRange, step_control, first_next}
+use Rattle.shm_count.specs.Step.Asks.{StepTrails, step_trail, point_trail, redo_trail, header_trail, row_trail, show_trail, exchange_trail, set_trail, after_set, again_trail, first_trail, more_trail}
 use Rattle.shm_count.specs.Step.Events.{step_event, step_event_at, step_start, event_of_half, events_before, events_at, own_events}
 use Rattle.shm_count.specs.Step.{CanStep, PointHolds, Gives, StepFits, StepGives}
 use Rattle.shm_calls.specs.Grown.{Grows, grows_now}
@@ -91,9 +91,17 @@ module _ (me : Me) (slot : ℕ) (x : Aim) where
   abbrev Goes : StepPoint → Type 0
   Goes y = (n : ℕ) (rest : Trail) (a : Result Bool UpFault) → next_trail (step_next_at me x y n) rest a → point_trail me slot x y (pair (step_ask_at me slot x y) n ∷ rest) a
 
+  -- the store that comes after the own era
+  first_goes : (n : ℕ) → IsPart (next_trail (first_next me n)) (first_trail me slot x n)
+  first_goes n rest a t = go me.geometry.wide t
+    where
+      go : (b : Bool) → next_trail (Point (if b then point.More n else point.Redo n)) rest a → Chosen b (more_trail me slot x n) (redo_trail me slot x n) rest a
+      go true u = u
+      go false u = u
+
   -- the own era
   era_goes : Goes point.Era
-  era_goes n rest a t = (n, (rest, (refl, chosen (nat_lt (last_era x) n) (Answer (Err (EraSpent n))) (Point (point.Redo n)) (Answers (Err (EraSpent n))) (redo_trail me slot x n) (λ tr b u. u) (λ tr b u. u) rest a t)))
+  era_goes n rest a t = (n, (rest, (refl, chosen (nat_lt (last_era x) n) (Answer (Err (EraSpent n))) (first_next me n) (Answers (Err (EraSpent n))) (first_trail me slot x n) (λ tr b u. u) (first_goes n) rest a t)))
 
   -- the header
   load_goes : (e : ℕ) (h : Half) → Goes (point.Load e h)
@@ -138,6 +146,7 @@ close_goes me slot (Change b d) e Second z n rest a t = (n, (rest, (refl, t)))
 -- any point
 step_goes : (me : Me) (slot : ℕ) (x : Aim) (y : StepPoint) → Goes me slot x y
 step_goes me slot x point.Era = era_goes me slot x
+step_goes me slot x (point.More e) = λ n rest a t. (n, (rest, (refl, t)))
 step_goes me slot x (point.Redo e) = λ n rest a t. (n, (rest, (refl, t)))
 step_goes me slot x (point.Load e h) = load_goes me slot x e h
 step_goes me slot x (point.Row e h w) = row_goes me slot x e h w
@@ -174,6 +183,7 @@ HasPart x y = Unit {0}
 -- the half of a point that fits
 pub has_part : (me : Me) (x : Aim) (y : StepPoint) → PointFits me x y → HasPart x y
 has_part me x point.Era l = tt
+has_part me x (point.More e) l = tt
 has_part me x (point.Redo e) l = tt
 has_part me x (point.Load e h) l = l.1
 has_part me x (point.Row e h w) l = l.1
@@ -243,9 +253,18 @@ told_closed me (Up b) p e Second z l = absurd l
 told_closed me (Down b) p e Second z l = absurd l
 told_closed me (Change a b) p e Second z l = refl
 
+-- the store that begins a step is no event
+told_first : (me : Me) (x : Aim) (p : Spot) (n : ℕ) → Told me x p (first_next me n) []
+told_first me x p n = go me.geometry.wide
+  where
+    go : (b : Bool) → Told me x p (Point (if b then point.More n else point.Redo n)) []
+    go true = refl
+    go false = refl
+
 -- the events up to a point with that of its step are those up to the next point, or those of the answer
 pub told_next : (me : Me) (x : Aim) (p : Spot) (y : StepPoint) (n : ℕ) → HasPart x y → Told me x p (step_next_at me x y n) (events_with me x p y n)
-told_next me x p point.Era n l = told_choice me x p (nat_lt (last_era x) n) (Answer (Err (EraSpent n))) (Point (point.Redo n)) [] (told_refused me x p (EraSpent n)) refl
+told_next me x p point.Era n l = told_choice me x p (nat_lt (last_era x) n) (Answer (Err (EraSpent n))) (first_next me n) [] (told_refused me x p (EraSpent n)) (told_first me x p n)
+told_next me x p (point.More e) n l = refl
 told_next me x p (point.Redo e) n l = refl
 told_next me x p (point.Load e h) n l = subst (Told me x p (header_next me x e h n)) (sym (none_added me x p h)) (told_header me x p e h n l)
 told_next me x p (point.Row e h w) n l = subst (Told me x p (row_next e h w n)) (sym (none_added me x p h)) (told_choice me x p (nat_lt n (header_of w).era) (Point (point.Show e h w)) (Point (point.Exchange e h w)) (events_before me x p h) refl refl)

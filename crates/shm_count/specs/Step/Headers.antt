@@ -5,7 +5,7 @@ use Rattle.std.specs.List.{Contains}
 use Rattle.std.proofs.lemmas.Bool.{eq-eqb, eqb-true, eqb-false, and_parts, and_from, cond-true, true≢false, false≢true}
 use Rattle.std.proofs.lemmas.Bool.Decides.{nat_tests}
 use Rattle.shm_words.specs.Headers.{header_of}
-use Rattle.shm_words.specs.Redos.{redo_word}
+use Rattle.shm_words.specs.Redos.{first_word}
 use Rattle.shm_graph.specs.declared.ask.Me.{Me}
 use Rattle.shm_graph.specs.declared.spot.Spot.{Spot}
 use Rattle.shm_graph.specs.declared.spot.Spot.TheVariants as spot
@@ -42,15 +42,15 @@ use Rattle.shm_count.specs.Step.Memos.{rows_same, rows_then, half_same, begun_qu
 module _ (me : Me) (slot : ℕ) (p : Spot) (r0 : Memo) (w : Spot → ℕ) (r : ℕ → Memo) (e : ℕ) (s : HeldAt me.geometry w (view r)) (l : me.who < me.geometry.clients) where
   -- the redo word and the slot's word tell the step in progress
   half_tie : (x : Aim) (h : Half) → CanStep me slot x p r0 → EraFits x e h → PartFits x h → InHalf me slot x p r0 (r me.who) e h
-      → OpTie me.geometry (classes w) (w (spot.Redo me.who)) (w (spot.Era me.who me.who)) (words_of w) (op_of x p e h)
-  half_tie x h can era part k = subst (OpTie me.geometry (classes w) (w (spot.Redo me.who)) (w (spot.Era me.who me.who)) (words_of w)) (half_op me slot p r0 (r me.who) e x h can era part k) (s.op me.who l)
+      → OpTie me.geometry (classes w) (w (spot.Redo me.who)) (w (spot.RedoMore me.who)) (w (spot.Era me.who me.who)) (words_of me.geometry.wide w) (op_of x p e h)
+  half_tie x h can era part k = subst (OpTie me.geometry (classes w) (w (spot.Redo me.who)) (w (spot.RedoMore me.who)) (w (spot.Era me.who me.who)) (words_of me.geometry.wide w)) (half_op me slot p r0 (r me.who) e x h can era part k) (s.op me.who l)
 
   -- the block is one of the pool
   pub half_block : (x : Aim) (h : Half) → CanStep me slot x p r0 → EraFits x e h → PartFits x h → InHalf me slot x p r0 (r me.who) e h → IsBlock me.geometry (classes w) (block_at x h)
-  half_block (Up b) First can era part k = s.redo me.who l _ (half_tie (Up b) First can era part k).spelled
-  half_block (Down b) First can era part k = s.redo me.who l _ (half_tie (Down b) First can era part k).spelled
-  half_block (Change a b) First can era part k = (s.redo me.who l _ (half_tie (Change a b) First can era part k).spelled).1
-  half_block (Change a b) Second can era part k = (s.redo me.who l _ (half_tie (Change a b) Second can era part k).spelled).0
+  half_block (Up b) First can era part k = (half_tie (Up b) First can era part k).blocks
+  half_block (Down b) First can era part k = (half_tie (Down b) First can era part k).blocks
+  half_block (Change a b) First can era part k = (half_tie (Change a b) First can era part k).blocks.1
+  half_block (Change a b) Second can era part k = (half_tie (Change a b) Second can era part k).blocks.0
   half_block (Up b) Second can era part k = absurd part
   half_block (Down b) Second can era part k = absurd part
 
@@ -149,7 +149,7 @@ module _ (me : Me) (slot : ℕ) (p : Spot) (r0 r r' : Memo) (e n : ℕ) where
   full_refused x can agent era (own, rows) same up full =
       let o : r.op ≡ begun_op x p e = ap (λ (m : Memo). m.op) rows.rest in
       let none : op_refused r (block_at x First) n ≡ op.Nothing = full_ends r (block_at x First) n (agent ∙ can.client up) (ap (λ y. is_held (raised_by y) (block_at x First)) o ∙ raised_here x p e up) full in
-      let m : Memo = record r0 { own = record { spot = spot.Redo me.who; value = redo_word (redo_at x slot e) } ∷ r0.own } in
+      let m : Memo = record r0 { own = record { spot = spot.Redo me.who; value = first_word me.geometry.wide (redo_at x slot e) } ∷ r0.own } in
       let m' : Memo = record r { op = op.Nothing } in
       let ends : core r' ≡ core m' = same ∙ ap (λ y. core (record r { op = y })) none in
       let raised : Rows me.who m m' = record {
@@ -157,7 +157,7 @@ module _ (me : Me) (slot : ℕ) (p : Spot) (r0 r r' : Memo) (e n : ℕ) where
         own = rows.own;
         more = rows.more;
       } in
-      (full, refl, up, (redo_word (redo_at x slot e), rows_then me.who m m' r' raised (rows_same me.who m' r' ends)))
+      (full, refl, up, (first_word me.geometry.wide (redo_at x slot e), rows_then me.who m m' r' raised (rows_same me.who m' r' ends)))
 
   -- it isn't: the exchange comes next, or the own row
   header_goes : (x : Aim) (h : Half) → recovers r' ≡ recovers r0 → InHalf me slot x p r0 r e h → core r' ≡ core r → HasRead me.who me.geometry.clients r' n

@@ -11,7 +11,7 @@ use Rattle.shm_graph.specs.Laws.{Keeps, Then, Frame, Stands, KeptAt, Outcome}
 use Rattle.shm_graph.proofs.StepKinds.KindKeeping.{not_fresh}
 use Rattle.shm_count.specs.declared.point.Aim.{Aim}
 use Rattle.shm_count.specs.declared.point.StepPoint.{StepPoint}
-use Rattle.shm_count.specs.declared.point.StepPoint.TheVariants.{Era, Redo, Load, Row, Show, Exchange, Slot, Close, Over}
+use Rattle.shm_count.specs.declared.point.StepPoint.TheVariants.{Era, Redo, More, Load, Row, Show, Exchange, Slot, Close, Over}
 use Rattle.shm_count.specs.declared.point.StepState.{StepState}
 use Rattle.shm_count.specs.declared.point.StepNext.{StepNext}
 use Rattle.shm_count.specs.declared.point.StepNext.TheVariants.{Point, Answer}
@@ -19,7 +19,7 @@ use Rattle.shm_count.specs.Step.Control.{step_ask, step_ask_at, step_next, step_
 use Rattle.shm_count.specs.Step.{CanStep, PointHolds, NextHolds, StepFits, StepGives}
 use Rattle.shm_count.specs.Step.Ranges.{knows_after}
 use Rattle.shm_count.specs.Step.Going.{fits_goes, gives_ends}
-use Rattle.shm_count.specs.Step.Reading.{era_step, redo_step, load_step, row_step, show_step}
+use Rattle.shm_count.specs.Step.Reading.{era_step, more_step, redo_step, load_step, row_step, show_step}
 use Rattle.shm_count.specs.Step.Exchanging.{exchange_step}
 use Rattle.shm_count.specs.Step.Committing.{slot_step, close_step}
 use Rattle.shm_calls.specs.Grown.{Grows, grows_more}
@@ -29,6 +29,7 @@ pub step_at : (me : Me) (slot : ℕ) (x : Aim) (p : Spot) (r0 : Memo) (w : Spot 
     → KeptAt me w r (step_ask_at me slot x y) f (λ n m. NextHolds me slot x p r0 m (step_next_at me x y n)) (spot_at me.geometry (classes w) (at_of (step_ask_at me slot x y)))
 step_at me slot x p r0 w r f tr Era o s going can l h = era_step me slot x p r0 w r f tr s can l h
 step_at me slot x p r0 w r f tr (Redo e) o s going can l h = redo_step me slot x p r0 w r f tr e s (going (λ z. cc)) can l h
+step_at me slot x p r0 w r f tr (More e) o s going can l h = more_step me slot x p r0 w r f tr e s (going (λ z. cc)) can l h
 step_at me slot x p r0 w r f tr (Load e i) o s going can l h = load_step me slot x p r0 w r f tr e i s (going (λ z. cc)) can l h
 step_at me slot x p r0 w r f tr (Row e i k) o s going can l h = row_step me slot x p r0 w r f tr e i k s (going (λ z. cc)) can l h
 step_at me slot x p r0 w r f tr (Show e i k) o s going can l h = show_step me slot x p r0 w r f tr e i k s (going (λ z. cc)) can l h

@@ -1,6 +1,6 @@
 -- the laws of a count step, but that its steps keep the invariant
-use Rattle.std.proofs.Common.{◌≡◌, ℕ, ◌<◌, ◌==◌, ◌&&◌, nat_lt, if◌then◌else◌, Bool, true, false, subst, sym, refl, arith}
-use Rattle.std.proofs.lemmas.Bool.{true≢false}
+use Rattle.std.proofs.Common.{◌≡◌, ℕ, ◌<◌, ◌==◌, ◌&&◌, nat_lt, if◌then◌else◌, Bool, true, false, subst, sym, refl, arith, lt-ltb}
+use Rattle.std.proofs.lemmas.Bool.{true≢false, and_from}
 use Rattle.std.proofs.lemmas.Bool.Decides.{nat_tests}
 use Rattle.shm_words.specs.declared.place.Place.TheVariants as place
 use Rattle.shm_words.specs.Layout.{GeometryFits, address, total_of}
@@ -16,10 +16,10 @@ use Rattle.shm_count.specs.declared.point.Aim.TheVariants.{Up, Down, Change}
 use Rattle.shm_count.specs.declared.point.Half.{Half}
 use Rattle.shm_count.specs.declared.point.Half.TheVariants.{First, Second}
 use Rattle.shm_count.specs.declared.point.StepPoint.{StepPoint}
-use Rattle.shm_count.specs.declared.point.StepPoint.TheVariants.{Era, Redo, Load, Row, Show, Exchange, Slot, Close, Over}
+use Rattle.shm_count.specs.declared.point.StepPoint.TheVariants.{Era, More, Redo, Load, Row, Show, Exchange, Slot, Close, Over}
 use Rattle.shm_count.specs.declared.point.StepNext.{StepNext}
 use Rattle.shm_count.specs.declared.point.StepNext.TheVariants.{Point, Answer}
-use Rattle.shm_count.specs.Step.Control.{block_at, raises, last_era, row_address, header_next, committed_next, closed_next, step_ask_at, step_next_at, step_next, point_of, answer_of, is_first, is_over, step_control, AimFits}
+use Rattle.shm_count.specs.Step.Control.{block_at, raises, last_era, row_address, header_next, committed_next, closed_next, step_ask_at, step_next_at, step_next, point_of, answer_of, is_first, is_over, step_control, AimFits, first_next}
 use Rattle.shm_count.specs.Step.{PointHas, StepFits, StepGives}
 
 -- ---- steady
@@ -50,10 +50,19 @@ closed_goes (Down b) e h z = tt
 closed_goes (Change a b) e First z = (refl, refl)
 closed_goes (Change a b) e Second z = tt
 
+-- the store that begins a step comes after the own era
+first_goes : (me : Me) (n : ℕ) → GoesOn (first_next me n)
+first_goes me n = go me.geometry.wide
+  where
+    go : (b : Bool) → GoesOn (Point (if b then More n else Redo n))
+    go true = (refl, refl)
+    go false = (refl, refl)
+
 -- from each point but the end it goes on to a later point, or answers
 pub goes_on : (me : Me) (x : Aim) (y : StepPoint) (n : ℕ) → is_over y ≡ false → GoesOn (step_next_at me x y n)
-goes_on me x Era n e = chosen (nat_lt (last_era x) n) _ _ tt (refl, refl)
+goes_on me x Era n e = chosen (nat_lt (last_era x) n) _ _ tt (first_goes me n)
 goes_on me x (Redo d) n e = (refl, refl)
+goes_on me x (More d) n e = (refl, refl)
 goes_on me x (Load d h) n e = header_goes me x d h n
 goes_on me x (Row d h w) n e = chosen (nat_lt n (header_of w).era) _ _ (refl, refl) (refl, refl)
 goes_on me x (Show d h w) n e = (refl, refl)
@@ -80,6 +89,11 @@ redo_inside : (me : Me) → GeometryFits me.geometry → me.who < me.geometry.cl
 unfolding address
 redo_inside me f l = (omega arith, address_below me.geometry (place.Redo me.who) (grind (arith, nat_tests)) f)
 
+-- in format 2 its second word
+more_inside : (me : Me) → GeometryFits me.geometry → me.who < me.geometry.clients → me.geometry.wide ≡ true → (0 < address me.geometry (place.RedoMore me.who)) × (address me.geometry (place.RedoMore me.who) < total_of me.geometry)
+unfolding address
+more_inside me f l w = (omega arith, address_below me.geometry (place.RedoMore me.who) (and_from _ _ w (lt-ltb me.who me.geometry.clients l)) f)
+
 -- a word of the own row
 era_inside : (me : Me) (j : ℕ) → GeometryFits me.geometry → me.who < me.geometry.clients → j < me.geometry.clients → (0 < address me.geometry (place.Era me.who j)) × (address me.geometry (place.Era me.who j) < total_of me.geometry)
 unfolding address
@@ -103,6 +117,7 @@ pub ask_inside : (me : Me) (slot : ℕ) (x : Aim) (p : Spot) (r0 r : Memo) (y : 
     → PointHas me slot x p r0 r y → is_over y ≡ false → (0 < at_of (step_ask_at me slot x y)) × (at_of (step_ask_at me slot x y) < total_of me.geometry)
 ask_inside me slot x p r0 r Era f l k s h e = era_inside me me.who f l l
 ask_inside me slot x p r0 r (Redo d) f l k s h e = redo_inside me f l
+ask_inside me slot x p r0 r (More d) f l k s h e = more_inside me f l h.3
 ask_inside me slot x p r0 r (Load d u) f l k s h e = block_inside me x u k
 ask_inside me slot x p r0 r (Row d u w) f l k s h e = row_inside me (header_of w).client f l h.1.client
 ask_inside me slot x p r0 r (Show d u w) f l k s h e = row_inside me (header_of w).client f l h.1.client
@@ -113,7 +128,7 @@ ask_inside me slot x p r0 r Over f l k s h e = absurd (true≢false e)
 
 -- a step that fits asks for a word of the pool
 pub step_inside : (p : Spot) → Inside step_control (StepFits p)
-step_inside p m r0 r tr l fit going = ask_inside m.me m.slot m.aim p r0 r m.point fit.knows.geometry l fit.can.blocks fit.can.inside fit.holds.has going
+step_inside p m r0 r tr l fit going = (ask_inside m.me m.slot m.aim p r0 r m.point fit.knows.geometry l fit.can.blocks fit.can.inside fit.holds.has going).1
 
 -- ---- back
 

@@ -19,7 +19,7 @@ use Rattle.shm_graph.specs.Stores.{with_own, written, op_closed, is_lowering, wi
 use Rattle.shm_graph.specs.Views.{own_word}
 use Rattle.shm_graph.proofs.StepKinds.Loads.{choice}
 use Rattle.shm_graph.proofs.Spots.Spotting.{same_spot_self, same_spot_is, same_spot_not}
-use Rattle.shm_words.specs.Redos.{redo_word}
+use Rattle.shm_words.specs.Redos.{first_word}
 use Rattle.shm_steps.proofs.Cores.{reach_same}
 use Rattle.shm_count.specs.declared.point.Aim.{Aim}
 use Rattle.shm_count.specs.declared.point.Aim.TheVariants.{Up, Down, Change}
@@ -71,6 +71,16 @@ row_raised c m m' j v other more e =
     })
     (rows_same c (with_own m (spot.Era c j) v) m' e)
 
+-- the second word of the redo record was stored before the first one
+pub more_rows : (me : Me) (slot : ℕ) (x : Aim) (p : Spot) (e v : ℕ) (m : Memo) → Rows me.who (begun me slot x p e m) (begun me slot x p e (with_own m (spot.RedoMore me.who) v))
+more_rows me slot x p e v m =
+    record {
+      rest = refl;
+      own = λ q n. ap (cond (same_spot (spot.Redo me.who) q) (first_word me.geometry.wide (redo_at x slot e)))
+          (ap (λ b. cond b v (own_word m.own q)) (same_spot_not (spot.RedoMore me.who) q (λ z. true≢false (sym (eq-eqb me.who me.who refl) ∙ (ap (is_row me.who) z ∙ n)))));
+      more = λ j. omega arith;
+    }
+
 -- ---- the halves
 
 -- the halves stay where a word is read, and where a row is raised
@@ -117,7 +127,7 @@ module _ (me : Me) (a b : ℕ) (r0 q : Memo) (d w : ℕ) where
   slotted p = slot_memo me (Change a b) p d q w
 
   -- the second half is open once the own era is stored
-  slotted_op : (p : Spot) (v : ℕ) → CanChange me.who r0 a b p → op_closed (slotted p).op v ≡ op.Change (Lowering Open) p a b v
+  slotted_op : (p : Spot) (v : ℕ) → CanChange me.geometry.wide me.who r0 a b p → op_closed (slotted p).op v ≡ op.Change (Lowering Open) p a b v
   slotted_op (spot.Root i k) v can = refl
   slotted_op (spot.Body i k) v can =
       let s : Memo = set_memo me (Change a b) (spot.Body i k) d First q w in
@@ -126,7 +136,7 @@ module _ (me : Me) (a b : ℕ) (r0 q : Memo) (d w : ℕ) where
   slotted_op _ v can = absurd can
 
   -- the status stays
-  slotted_status : (p : Spot) → CanChange me.who r0 a b p → (slotted p).status ≡ q.status
+  slotted_status : (p : Spot) → CanChange me.geometry.wide me.who r0 a b p → (slotted p).status ≡ q.status
   slotted_status (spot.Root i k) can = refl
   slotted_status (spot.Body i k) can =
       let s : Memo = set_memo me (Change a b) (spot.Body i k) d First q w in
@@ -135,7 +145,7 @@ module _ (me : Me) (a b : ℕ) (r0 q : Memo) (d w : ℕ) where
   slotted_status _ can = absurd can
 
   -- and so does the redo word
-  slotted_redo : (p : Spot) → CanChange me.who r0 a b p → own_word (slotted p).own (spot.Redo me.who) ≡ own_word q.own (spot.Redo me.who)
+  slotted_redo : (p : Spot) → CanChange me.geometry.wide me.who r0 a b p → own_word (slotted p).own (spot.Redo me.who) ≡ own_word q.own (spot.Redo me.who)
   slotted_redo (spot.Root i k) can = refl
   slotted_redo (spot.Body i k) can =
       let s : Memo = set_memo me (Change a b) (spot.Body i k) d First q w in
@@ -152,7 +162,7 @@ first_era e Second = e - 1
 
 module _ (me : Me) (slot : ℕ) (p : Spot) (r0 r : Memo) (e : ℕ) where
   -- what the memo shows before is what the slot needs
-  pub change_can : (a b : ℕ) → CanStep me slot (Change a b) p r0 → e + 3 ≤ 2 ^ 47 → InHalf me slot (Change a b) p r0 r e Second → CanChange me.who r0 a b p
+  pub change_can : (a b : ℕ) → CanStep me slot (Change a b) p r0 → e + 3 ≤ 2 ^ 47 → InHalf me slot (Change a b) p r0 r e Second → CanChange me.geometry.wide me.who r0 a b p
   change_can a b can era (d, next, (q, w, (own, first), rows)) = can.can (omega arith)
 
   -- the step in progress
@@ -178,10 +188,10 @@ module _ (me : Me) (slot : ℕ) (p : Spot) (r0 r : Memo) (e : ℕ) where
       ∙ (cond-true (same_spot (spot.Era c c) (spot.Era c c)) (d + 1) (own_word s.own (spot.Era c c)) (same_spot_self (spot.Era c c)) ∙ sym next))
 
   -- the redo word
-  first_redo : (x : Aim) (q : Memo) (d : ℕ) → AtFirst me slot x p r0 q d → own_word q.own (spot.Redo me.who) ≡ redo_word (redo_at x slot d)
-  first_redo x q d (own, rows) = rows.own (spot.Redo me.who) refl ∙ cond-true (same_spot (spot.Redo me.who) (spot.Redo me.who)) (redo_word (redo_at x slot d)) (own_word r0.own (spot.Redo me.who)) (same_spot_self (spot.Redo me.who))
+  first_redo : (x : Aim) (q : Memo) (d : ℕ) → AtFirst me slot x p r0 q d → own_word q.own (spot.Redo me.who) ≡ first_word me.geometry.wide (redo_at x slot d)
+  first_redo x q d (own, rows) = rows.own (spot.Redo me.who) refl ∙ cond-true (same_spot (spot.Redo me.who) (spot.Redo me.who)) (first_word me.geometry.wide (redo_at x slot d)) (own_word r0.own (spot.Redo me.who)) (same_spot_self (spot.Redo me.who))
 
-  pub half_redo : (x : Aim) (h : Half) → CanStep me slot x p r0 → EraFits x e h → PartFits x h → InHalf me slot x p r0 r e h → own_word r.own (spot.Redo me.who) ≡ redo_word (redo_at x slot (first_era e h))
+  pub half_redo : (x : Aim) (h : Half) → CanStep me slot x p r0 → EraFits x e h → PartFits x h → InHalf me slot x p r0 r e h → own_word r.own (spot.Redo me.who) ≡ first_word me.geometry.wide (redo_at x slot (first_era e h))
   half_redo x First can era part k = first_redo x r e k
   half_redo (Change a b) Second can era part (d, next, (q, w, at, rows)) =
       let s : Memo = slot_memo me (Change a b) p d q w in
@@ -189,7 +199,7 @@ module _ (me : Me) (slot : ℕ) (p : Spot) (r0 r : Memo) (e : ℕ) where
       rows.own (spot.Redo me.who) refl
       ∙ (closed_part (λ (m : Memo). own_word m.own (spot.Redo me.who)) me d s refl
       ∙ (slotted_redo me a b r0 q d w p (change_can a b can era (d, next, (q, w, at, rows)))
-      ∙ (first_redo (Change a b) q d at ∙ ap (λ y. redo_word (redo_at (Change a b) slot y)) same)))
+      ∙ (first_redo (Change a b) q d at ∙ ap (λ y. first_word me.geometry.wide (redo_at (Change a b) slot y)) same)))
   half_redo (Up b) Second can era part k = absurd part
   half_redo (Down b) Second can era part k = absurd part
 

@@ -1,41 +1,34 @@
 -- what a count step leaves of the memo's partition and of its map, and what a step up leaves at a word of a block
-use Rattle.std.proofs.Common.{◌≡◌, ◌≢◌, ℕ, ◌+◌, ◌%◌, ◌<◌, ◌≤◌, refl, sym, ap, ◌∙◌, subst, arith, Bool, true, false, not, cond, eqb, ◌&&◌, Option, List, [], ◌∷◌}
+use Rattle.std.proofs.Common.{◌≡◌, ℕ, ◌+◌, ◌≤◌, refl, sym, ap, ◌∙◌, subst, arith, Bool, true, false, not, cond, eqb, ◌&&◌, Option, List, [], ◌∷◌}
 use Rattle.std.proofs.lemmas.Bool.{eq-eqb, ne_eqb, eqb-false, cond-true, not-true}
-use Rattle.shm_words.specs.Redos.{redo_word}
+use Rattle.shm_words.specs.Redos.{first_word}
 use Rattle.shm_words.specs.Headers.{header_of}
 use Rattle.shm_graph.specs.declared.ask.Me.{Me}
 use Rattle.shm_graph.specs.declared.spot.Spot.{Spot}
 use Rattle.shm_graph.specs.declared.spot.Spot.TheVariants as spot
 use Rattle.shm_graph.specs.declared.memo.Memo.{Memo}
 use Rattle.shm_graph.specs.declared.memo.First.TheVariants.{Committed}
-use Rattle.shm_graph.specs.declared.memo.ChangeStage.TheVariants.{Lowering}
-use Rattle.shm_graph.specs.declared.memo.Second.TheVariants.{Closed}
 use Rattle.shm_graph.specs.declared.memo.Op.TheVariants as op
 use Rattle.shm_graph.specs.declared.table.Part.{Part as TablePart}
 use Rattle.shm_graph.specs.Chains.{part_set}
 use Rattle.shm_graph.specs.Exchanges.{reparted, cut, without_made}
-use Rattle.shm_graph.specs.Held.{HeldAt, is_loose}
-use Rattle.shm_graph.specs.Ops.{Quiet, On, cover, cover_of, word_at, is_op, slot_of}
+use Rattle.shm_graph.specs.Ops.{On, cover, is_op, slot_of}
 use Rattle.shm_graph.specs.Reach.{sifted, learnt}
-use Rattle.shm_graph.specs.References.{words_of}
 use Rattle.shm_graph.specs.Spots.{same_spot}
-use Rattle.shm_graph.specs.Stores.{written, op_written, op_closed, making_with, with_own, era_stored}
+use Rattle.shm_graph.specs.Stores.{written, making_with, with_own, era_stored}
 use Rattle.shm_graph.specs.declared.memo.Stored.{Stored}
 use Rattle.shm_graph.specs.declared.memo.Op.{Op}
-use Rattle.shm_graph.proofs.Spots.Spotting.{same_spot_is, same_spot_self}
-use Rattle.shm_graph.specs.Views.{view, own_word}
-use Rattle.shm_graph.proofs.States.Holders.{Holds}
+use Rattle.shm_graph.proofs.Spots.Spotting.{same_spot_is}
+use Rattle.shm_graph.specs.Views.{own_word}
 use Rattle.shm_graph.proofs.StepKinds.Loads.{choice}
-use Rattle.shm_steps.specs.Reparting.{Sight, sight, map_in, link_after, TableStep, map_after}
+use Rattle.shm_steps.specs.Reparting.{Sight, sight, link_after}
 use Rattle.shm_graph.specs.declared.table.Entry.{Entry}
-use Rattle.shm_steps.specs.Reparting.TableStep.{Founds, Prepares, Links, Unlinks, Replaces}
 use Rattle.shm_steps.proofs.MemoCommits.{known_lowered, lowered_is}
 use Rattle.shm_laws.specs.Exchanges.{dying_after}
-use Rattle.shm_steps.proofs.Partitions.Reparted.{table_mapped}
 use Rattle.shm_count.specs.declared.point.Aim.{Aim}
 use Rattle.shm_count.specs.declared.point.Aim.TheVariants.{Up, Down, Change}
-use Rattle.shm_count.specs.declared.point.Half.TheVariants.{First, Second}
-use Rattle.shm_count.specs.Step.Control.{redo_at, value_before, value_after, header_after}
+use Rattle.shm_count.specs.declared.point.Half.TheVariants.{First}
+use Rattle.shm_count.specs.Step.Control.{redo_at, value_after, header_after}
 use Rattle.shm_steps.proofs.Cores.{body_word, HasSlot}
 use Rattle.shm_count.specs.Step.Cores.{is_set}
 use Rattle.shm_graph.specs.declared.memo.Status.{Status as AStatus}
@@ -43,7 +36,6 @@ use Rattle.shm_graph.specs.declared.memo.Making.{Making}
 use Rattle.shm_count.specs.Tear.Memos.{is_lasting}
 use Rattle.shm_graph.specs.Core.{core}
 use Rattle.shm_count.specs.Step.{AtFirst, Done, is_row, begun, set_memo, slot_memo, closed_memo}
-use Rattle.shm_count.specs.Step.Memos.{closed_part}
 
 -- the partition after a step at a word, as the memo's change computes it
 abbrev pub part_after : ℕ → Sight → Spot → ℕ → TablePart
@@ -108,6 +100,7 @@ lasting_not c (spot.Redo j) e = (refl, refl, not-true (eqb c j) e)
 lasting_not c (spot.Era j k) e =
     let other : eqb c j ≡ false = not-true (eqb c j) e in
     (ap (λ z. z && eqb c k) other, ap (λ z. z && not (eqb k c)) (ne_eqb j c (λ z. eqb-false c j other (sym z))), refl)
+lasting_not c (spot.RedoMore j) e = (refl, ne_eqb j c (λ z. eqb-false c j (not-true (eqb c j) e) (sym z)), refl)
 lasting_not c _ e = (refl, refl, refl)
 
 module _ (me : Me) (slot : ℕ) (x : Aim) (p : Spot) (e : ℕ) (m q : Memo) (first : AtFirst me slot x p m q e) where
@@ -115,7 +108,7 @@ module _ (me : Me) (slot : ℕ) (x : Aim) (p : Spot) (e : ℕ) (m q : Memo) (fir
   pub own_stays : (s : Spot) → is_lasting me.who s ≡ true → own_word (with_own q (spot.Era me.who me.who) (e + 1)).own s ≡ own_word m.own s
   own_stays s l =
       let not_it = lasting_not me.who s l in
-      let began : own_word (begun me slot x p e m).own s ≡ own_word m.own s = ap (λ z. cond z (redo_word (redo_at x slot e)) (own_word m.own s)) not_it.2 in
+      let began : own_word (begun me slot x p e m).own s ≡ own_word m.own s = ap (λ z. cond z (first_word me.geometry.wide (redo_at x slot e)) (own_word m.own s)) not_it.2 in
       ap (λ z. cond z (e + 1) (own_word q.own s)) not_it.0 ∙ (first.1.own s not_it.1 ∙ began)
 
   -- the words of the own row grow
@@ -209,6 +202,6 @@ module _ (me : Me) (q : Memo) (e w d i : ℕ) where
 pub first_own : (me : Me) (slot : ℕ) (x : Aim) (p : Spot) (m q : Memo) (e : ℕ) → AtFirst me slot x p m q e → (s : Spot) → is_lasting me.who s ≡ true → own_word q.own s ≡ own_word m.own s
 first_own me slot x p m q e first s l =
     let not_it = lasting_not me.who s l in
-    first.1.own s not_it.1 ∙ ap (λ z. cond z (redo_word (redo_at x slot e)) (own_word m.own s)) not_it.2
+    first.1.own s not_it.1 ∙ ap (λ z. cond z (first_word me.geometry.wide (redo_at x slot e)) (own_word m.own s)) not_it.2
 
 -- ---- a step up at the own home

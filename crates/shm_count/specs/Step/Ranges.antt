@@ -9,11 +9,11 @@ use Rattle.shm_count.specs.declared.point.Aim.TheVariants.{Up, Down, Change}
 use Rattle.shm_count.specs.declared.point.Half.{Half}
 use Rattle.shm_count.specs.declared.point.Half.TheVariants.{First, Second}
 use Rattle.shm_count.specs.declared.point.StepPoint.{StepPoint}
-use Rattle.shm_count.specs.declared.point.StepPoint.TheVariants.{Era, Redo, Load, Row, Show, Exchange, Slot, Close, Over}
+use Rattle.shm_count.specs.declared.point.StepPoint.TheVariants.{Era, More, Redo, Load, Row, Show, Exchange, Slot, Close, Over}
 use Rattle.shm_count.specs.declared.point.StepState.{StepState}
 use Rattle.shm_count.specs.declared.point.StepNext.{StepNext}
 use Rattle.shm_count.specs.declared.point.StepNext.TheVariants.{Point, Answer}
-use Rattle.shm_count.specs.Step.Control.{point_of, raises, era_next, header_next, row_next, committed_next, closed_next, step_next_at, step_next, PartFits, EraFits, PointFits, StepInRange}
+use Rattle.shm_count.specs.Step.Control.{point_of, raises, era_next, header_next, row_next, committed_next, closed_next, step_next_at, step_next, PartFits, EraFits, PointFits, StepInRange, first_next}
 
 -- where it goes on, the point is in range
 abbrev pub NextFits : Me → Aim → StepNext → Type 0
@@ -31,11 +31,19 @@ first_part (Up b) = tt
 first_part (Down b) = tt
 first_part (Change a b) = tt
 
+-- the store that begins a step at an own era that leaves room is in range
+pub first_fits : (me : Me) (x : Aim) (n : ℕ) → EraFits x n First → NextFits me x (first_next me n)
+first_fits me x n era = go me.geometry.wide refl
+  where
+    go : (b : Bool) → me.geometry.wide ≡ b → PointFits me x (if b then More n else Redo n)
+    go true e = (era, e)
+    go false e = era
+
 -- an own era that isn't past the last one leaves room
-era_fits : (me : Me) (x : Aim) (n : ℕ) → NextFits me x (era_next x n)
-era_fits me (Up b) n = chosen me (Up b) (nat_lt (2 ^ 47 - 3) n) _ _ (λ e. tt) (λ e. grind (arith, nat_tests))
-era_fits me (Down b) n = chosen me (Down b) (nat_lt (2 ^ 47 - 3) n) _ _ (λ e. tt) (λ e. grind (arith, nat_tests))
-era_fits me (Change a b) n = chosen me (Change a b) (nat_lt (2 ^ 47 - 4) n) _ _ (λ e. tt) (λ e. grind (arith, nat_tests))
+era_fits : (me : Me) (x : Aim) (n : ℕ) → NextFits me x (era_next me x n)
+era_fits me (Up b) n = chosen me (Up b) (nat_lt (2 ^ 47 - 3) n) _ _ (λ e. tt) (λ e. first_fits me (Up b) n (grind (arith, nat_tests)))
+era_fits me (Down b) n = chosen me (Down b) (nat_lt (2 ^ 47 - 3) n) _ _ (λ e. tt) (λ e. first_fits me (Down b) n (grind (arith, nat_tests)))
+era_fits me (Change a b) n = chosen me (Change a b) (nat_lt (2 ^ 47 - 4) n) _ _ (λ e. tt) (λ e. first_fits me (Change a b) n (grind (arith, nat_tests)))
 
 -- a count that isn't the greatest one, or that goes down, has room
 count_fits : (up : Bool) (n : ℕ) → up && (n == 1023) ≡ false → up ≡ true → n ≢ 1023
@@ -69,6 +77,7 @@ closed_fits me (Change a b) e Second z era = tt
 -- where it goes from a point in range is in range
 pub next_fits : (me : Me) (x : Aim) (y : StepPoint) (n : ℕ) → PointFits me x y → NextFits me x (step_next_at me x y n)
 next_fits me x Era n k = era_fits me x n
+next_fits me x (More e) n k = k.0
 next_fits me x (Redo e) n k = (k, first_part x)
 next_fits me x (Load e h) n k = header_fits me x e h n k.0 k.1
 next_fits me x (Row e h w) n k = row_fits me x e h w n k

@@ -5,7 +5,7 @@ use Rattle.std.proofs.lemmas.List.Elements.{Contains-append_right}
 use Rattle.shm_words.specs.declared.place.Place.TheVariants as place
 use Rattle.shm_words.specs.Layout.{address}
 use Rattle.shm_words.specs.Headers.{header_of, header_word}
-use Rattle.shm_words.specs.Redos.{redo_word}
+use Rattle.shm_words.specs.Redos.{first_word, second_word}
 use Rattle.shm_graph.specs.declared.ask.Ask.{Ask}
 use Rattle.shm_graph.specs.declared.ask.Ask.TheVariants.{Load, Store, Exchange}
 use Rattle.shm_graph.specs.declared.ask.Me.{Me}
@@ -20,7 +20,7 @@ use Rattle.shm_count.specs.declared.point.Aim.TheVariants.{Up, Down, Change}
 use Rattle.shm_count.specs.declared.point.Half.TheVariants.{First}
 use Rattle.shm_count.specs.Refusing.{IsReading, ReadsCount}
 use Rattle.shm_count.specs.Step.Control.{last_era, block_at, raises, value_after, redo_at, count_after, row_address}
-use Rattle.shm_count.specs.Step.Asks.{StepTrails, exchange_trail, show_trail, row_trail, header_trail, set_trail, load_trail, end_trail, close_trail, slot_trail, redo_trail, step_trail}
+use Rattle.shm_count.specs.Step.Asks.{StepTrails, exchange_trail, show_trail, row_trail, header_trail, set_trail, load_trail, end_trail, close_trail, slot_trail, redo_trail, step_trail, first_trail, more_trail}
 
 -- trails of this kind that end so have read so
 abbrev Reads : StepTrails → Type 0
@@ -114,11 +114,17 @@ module _ (me : Me) where
   -- from the redo record on
   pub redo_reads : (slot : ℕ) (x : Aim) (e : ℕ) → Reads (redo_trail me slot x e)
   redo_reads slot x e =
-      reads_asked (Store (address me.geometry (place.Redo me.who)) (redo_word (redo_at x slot e))) (λ _. load_trail me (raises x First) (block_at x First) e (slot_trail me slot x e))
+      reads_asked (Store (address me.geometry (place.Redo me.who)) (first_word me.geometry.wide (redo_at x slot e))) (λ _. load_trail me (raises x First) (block_at x First) e (slot_trail me slot x e))
       (λ _. load_reads (raises x First) (block_at x First) e (slot_trail me slot x e) (λ z. slot_reads slot x e z))
+
+  pub first_reads : (slot : ℕ) (x : Aim) (e : ℕ) → Reads (first_trail me slot x e)
+  first_reads slot x e =
+      reads_chosen me.geometry.wide (more_trail me slot x e) (redo_trail me slot x e)
+      (reads_asked (Store (address me.geometry (place.RedoMore me.who)) (second_word me.geometry.wide (redo_at x slot e))) (λ _. redo_trail me slot x e) (λ _. redo_reads slot x e))
+      (redo_reads slot x e)
 
   -- a whole trail
   pub step_reads : (slot : ℕ) (x : Aim) → Reads (step_trail me slot x)
   step_reads slot x =
-      reads_asked (Load (address me.geometry (place.Era me.who me.who))) (λ e. Chosen (nat_lt (last_era x) e) (Answers (Err (EraSpent e))) (redo_trail me slot x e))
-      (λ e. reads_chosen (nat_lt (last_era x) e) (Answers (Err (EraSpent e))) (redo_trail me slot x e) (reads_answer (Err (EraSpent e)) (λ d n k. cc)) (redo_reads slot x e))
+      reads_asked (Load (address me.geometry (place.Era me.who me.who))) (λ e. Chosen (nat_lt (last_era x) e) (Answers (Err (EraSpent e))) (first_trail me slot x e))
+      (λ e. reads_chosen (nat_lt (last_era x) e) (Answers (Err (EraSpent e))) (first_trail me slot x e) (reads_answer (Err (EraSpent e)) (λ d n k. cc)) (first_reads slot x e))

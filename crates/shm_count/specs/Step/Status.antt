@@ -28,7 +28,7 @@ use Rattle.shm_count.specs.declared.point.StepPoint.{StepPoint}
 use Rattle.shm_count.specs.declared.point.StepPoint.TheVariants as point
 use Rattle.shm_count.specs.declared.point.StepNext.{StepNext}
 use Rattle.shm_count.specs.declared.point.StepNext.TheVariants.{Point, Answer}
-use Rattle.shm_count.specs.Step.Control.{PointFits, block_at, committed_next, header_after, header_next, last_era, raises, step_next_at, value_after}
+use Rattle.shm_count.specs.Step.Control.{PointFits, block_at, committed_next, header_after, header_next, last_era, raises, step_next_at, value_after, first_next}
 use Rattle.shm_count.specs.Step.{CanAim, CanStep, Done, Gives, PointHas, Refused, set_memo, slot_memo}
 use Rattle.shm_count.specs.Step.Memos.{closed_part}
 
@@ -42,19 +42,19 @@ IsStepSpot (spot.Slot s r k) = Unit {0}
 IsStepSpot (spot.Body d i) = Unit {0}
 IsStepSpot p = ⊥
 
-step_spot : (n c : ℕ) (m : Memo) (x : Aim) (p : Spot) → CanAim n c m x p → IsStepSpot p
-step_spot n c m (Up b) (spot.Root d k) h = tt
-step_spot n c m (Up b) (spot.Home d) h = tt
-step_spot n c m (Up b) (spot.Slot s r k) h = tt
-step_spot n c m (Up b) (spot.Body d i) h = tt
-step_spot n c m (Up b) _ h = absurd h
-step_spot n c m (Down b) (spot.Root d k) h = tt
-step_spot n c m (Down b) (spot.Slot s r k) h = tt
-step_spot n c m (Down b) (spot.Body d i) h = tt
-step_spot n c m (Down b) _ h = absurd h
-step_spot n c m (Change a b) (spot.Root d k) h = tt
-step_spot n c m (Change a b) (spot.Body d i) h = tt
-step_spot n c m (Change a b) _ h = absurd h
+step_spot : (wide : Bool) (n c : ℕ) (m : Memo) (x : Aim) (p : Spot) → CanAim wide n c m x p → IsStepSpot p
+step_spot wide n c m (Up b) (spot.Root d k) h = tt
+step_spot wide n c m (Up b) (spot.Home d) h = tt
+step_spot wide n c m (Up b) (spot.Slot s r k) h = tt
+step_spot wide n c m (Up b) (spot.Body d i) h = tt
+step_spot wide n c m (Up b) _ h = absurd h
+step_spot wide n c m (Down b) (spot.Root d k) h = tt
+step_spot wide n c m (Down b) (spot.Slot s r k) h = tt
+step_spot wide n c m (Down b) (spot.Body d i) h = tt
+step_spot wide n c m (Down b) _ h = absurd h
+step_spot wide n c m (Change a b) (spot.Root d k) h = tt
+step_spot wide n c m (Change a b) (spot.Body d i) h = tt
+step_spot wide n c m (Change a b) _ h = absurd h
 
 module _ (me : Me) (q : Memo) (e w : ℕ) where
   -- the exchanges leave it
@@ -133,7 +133,8 @@ closed_room me slot (Down b) p r0 r n z e Second k leads fits has = absurd fits.
 
 done_room : (me : Me) (slot : ℕ) (x : Aim) (p : Spot) (r0 r : Memo) (n : ℕ) (z : Bool) (y : StepPoint) → step_next_at me x y n ≡ Answer (Ok z) → PointFits me x y → PointHas me slot x p r0 r y → own_word r0.own (spot.Era me.who me.who) ≤ last_era x
 done_room me slot x p r0 r n z point.Era leads fits has =
-    absurd (choice (λ (y : StepNext). y ≡ Answer (Ok z) → ⊥) (ltb (last_era x) n) (Answer (Err (EraSpent n))) (Point (point.Redo n)) (λ _ k. cc) (λ _ k. cc) leads)
+    absurd (choice (λ (y : StepNext). y ≡ Answer (Ok z) → ⊥) (ltb (last_era x) n) (Answer (Err (EraSpent n))) (first_next me n) (λ _ k. cc) (λ _ k. cc) leads)
+done_room me slot x p r0 r n z (point.More e) leads fits has = absurd (cc)
 done_room me slot x p r0 r n z (point.Redo e) leads fits has = absurd (cc)
 done_room me slot x p r0 r n z (point.Load e h) leads fits has = absurd (header_goes me x e h n z leads)
 done_room me slot x p r0 r n z (point.Row e h w) leads fits has =
@@ -147,5 +148,5 @@ done_room me slot x p r0 r n z point.Over leads fits has = absurd (cc)
 
 -- the status is what it was where the step answers
 pub gives_status : (me : Me) (slot : ℕ) (x : Aim) (p : Spot) (r0 r r2 : Memo) (n : ℕ) (y : StepPoint) (a : Result Bool UpFault) → CanStep me slot x p r0 → PointFits me x y → PointHas me slot x p r0 r y → step_next_at me x y n ≡ Answer a → Gives me slot x p r0 r2 a → r2.status ≡ r0.status
-gives_status me slot x p r0 r r2 n y (Ok z) can fits has leads h = done_status me slot x p r0 r2 z (step_spot me.geometry.clients me.who r0 x p (can.can (done_room me slot x p r0 r n z y leads fits has))) h
+gives_status me slot x p r0 r r2 n y (Ok z) can fits has leads h = done_status me slot x p r0 r2 z (step_spot me.geometry.wide me.geometry.clients me.who r0 x p (can.can (done_room me slot x p r0 r n z y leads fits has))) h
 gives_status me slot x p r0 r r2 n y (Err f) can fits has leads h = refused_status me x r0 r2 f h

@@ -70,6 +70,7 @@ half_event me (Down b) p e Second fits = absurd fits
 pub tells_at : (me : Me) (slot : ℕ) (x : Aim) (p : Spot) (r0 : Memo) (w : Spot → ℕ) (r : ℕ → Memo) (f : Frame) (tr : Trail) (y : StepPoint) → Stands me w r f tr → CanStep me slot x p r0 → PointFits me x y → PointHolds me slot x p r0 (r me.who) y → is_over y ≡ false
     → let a : Ask = step_ask_at me slot x y in let s = spot_at me.geometry (classes w) (at_of a) in event_on (r me.who) (framed me a f (seen_of a (w s))) s ≡ step_event_at me x p y (seen_of a (w s))
 tells_at me slot x p r0 w r f tr point.Era st can fits h o = refl
+tells_at me slot x p r0 w r f tr (point.More e) st can fits h o = quiet me w r f (step_ask_at me slot x (point.More e)) (spot.RedoMore me.who) (spot-place me.geometry (classes w) (place.RedoMore me.who) (and_from _ _ fits.1 (lt-ltb me.who me.geometry.clients st.who))) refl
 tells_at me slot x p r0 w r f tr (point.Redo e) st can fits h o = quiet me w r f (step_ask_at me slot x (point.Redo e)) (spot.Redo me.who) (spot-place me.geometry (classes w) (place.Redo me.who) (lt-ltb me.who me.geometry.clients st.who)) refl
 tells_at me slot x p r0 w r f tr (point.Load e i) st can fits h o = refl
 tells_at me slot x p r0 w r f tr (point.Row e i k) st can fits h o = refl

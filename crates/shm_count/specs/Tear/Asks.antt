@@ -1,5 +1,5 @@
 -- what a tear-down asks, and what it answers
-use Rattle.std.specs.Prelude.{ℕ, zero, suc, ◌+◌, ◌%◌, ◌^◌, Bool, true, false, ◌==◌, nat_lt, Result, Ok, Err}
+use Rattle.std.specs.Prelude.{ℕ, zero, suc, ◌+◌, ◌%◌, Bool, true, false, ◌==◌, nat_lt, Result, Ok, Err}
 use Rattle.shm_words.specs.declared.tag.Tag.{Tag as ATag}
 use Rattle.shm_words.specs.Tags.{tag_word}
 use Rattle.shm_words.specs.Layout.{address_limit}
@@ -12,10 +12,10 @@ use Rattle.shm_count.specs.declared.answer.UpFault.{UpFault}
 use Rattle.shm_count.specs.declared.point.Aim.TheVariants.{Down}
 use Rattle.shm_count.specs.declared.tear_point.TearPoint.{TearPoint}
 use Rattle.shm_count.specs.declared.tear_point.TearPoint.TheVariants as point
-use Rattle.shm_count.specs.Step.Asks.{StepTrails, step_trail}
+use Rattle.shm_count.specs.Step.Asks.{step_trail}
 use Rattle.shm_count.specs.Step.Asks as steps
 use Rattle.shm_count.specs.Step.Control.{spent}
-use Rattle.shm_count.specs.Tear.Control.{tag_read, word_address}
+use Rattle.shm_count.specs.Tear.Control.{tag_read, word_address, relinked}
 
 -- the trails of a tear-down, each with its answer
 abbrev pub TearTrails : Type 1
@@ -28,13 +28,13 @@ OnTrails = ℕ → ATag → ℕ → TearTrails
 module _ (me : Me) (on : OnTrails) where
   -- the tag is stored, with another link
   abbrev pub link_trail : ℕ → ATag → TearTrails
-  link_trail b g = Asked (Store (b + 1) (tag_word g)) (λ _. on b g 0)
+  link_trail b g = Asked (Store (b + 1) (tag_word me.geometry.wide g)) (λ _. on b g 0)
 
   -- a block is entered from the block l, or from none: its tag is loaded, and is to have that link
   abbrev pub enter_trail : ℕ → ℕ → TearTrails
   enter_trail b l =
       Asked (Load (b + 1)) (λ n.
-      Chosen ((tag_read n).link == l) (on b (tag_read n) 0) (link_trail b (record (tag_read n) { link = l })))
+      Chosen ((tag_read me.geometry.wide n).link == l) (on b (tag_read me.geometry.wide n) 0) (link_trail b (relinked me.geometry.wide (tag_read me.geometry.wide n) l)))
 
   -- by what the step down of word i, which named block t, answered: a block whose count came to 0 is entered
   abbrev pub after_down : ℕ → ATag → ℕ → ℕ → Result Bool UpFault → TearTrails
@@ -50,7 +50,7 @@ module _ (me : Me) (on : OnTrails) where
 
   -- a block is come back to: its tag is loaded, and its reference words are gone through again
   abbrev pub return_trail : ℕ → TearTrails
-  return_trail b = Asked (Load (b + 1)) (λ n. on b (tag_read n) 0)
+  return_trail b = Asked (Load (b + 1)) (λ n. on b (tag_read me.geometry.wide n) 0)
 
   -- the header is stored as 0, and the block of the link is come back to, if there is one
   abbrev pub free_trail : ℕ → ATag → TearTrails

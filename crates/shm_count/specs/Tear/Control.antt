@@ -1,7 +1,7 @@
 -- the control of a tear-down: which word it asks for, and where it goes by the word found
-use Rattle.std.specs.Prelude.{ℕ, ◌+◌, ◌%◌, ◌^◌, ◌<◌, Bool, true, false, ◌==◌, nat_lt, if◌then◌else◌, Option, Some, None, Result, Ok, Err, []}
+use Rattle.std.specs.Prelude.{ℕ, ◌+◌, ◌%◌, ◌<◌, Bool, true, false, ◌==◌, nat_lt, if◌then◌else◌, Option, Some, None, Result, Ok, Err, []}
 use Rattle.shm_words.specs.declared.tag.Tag.{Tag as ATag}
-use Rattle.shm_words.specs.Layout.{GeometryFits, address_limit}
+use Rattle.shm_words.specs.Layout.{GeometryFits, address_limit, place_limit}
 use Rattle.shm_words.specs.Tags.{tag_word, tag_of, TagFits}
 use Rattle.shm_graph.specs.declared.ask.Ask.{Ask}
 use Rattle.shm_graph.specs.declared.ask.Ask.TheVariants.{Load, Store}
@@ -33,8 +33,8 @@ abbrev pub or_empty : Option ATag → ATag
 or_empty None = record { refs = 0; plain = 0; author = 0; link = 0 }
 or_empty (Some g) = g
 
-abbrev pub tag_read : ℕ → ATag
-tag_read n = or_empty (tag_of n)
+abbrev pub tag_read : Bool → ℕ → ATag
+tag_read wide n = or_empty (tag_of wide n)
 
 -- the step down that takes the reference to t out of word i of block b
 abbrev pub down_state : Me → ℕ → ℕ → ℕ → StepPoint → StepState
@@ -45,7 +45,7 @@ down_state me b i t y = record { me = me; slot = word_address b i; aim = aims.Do
 abbrev pub tear_ask_at : Me → ℕ → TearPoint → Ask
 tear_ask_at me b point.Begin = Load (b + 1)
 tear_ask_at me b (point.Enter l) = Load (b + 1)
-tear_ask_at me b (point.Link g) = Store (b + 1) (tag_word g)
+tear_ask_at me b (point.Link g) = Store (b + 1) (tag_word me.geometry.wide g)
 tear_ask_at me b (point.Word g i) = Load (word_address b i)
 tear_ask_at me b (point.Down g i t y) = step_ask (down_state me b i t y)
 tear_ask_at me b (point.Free g) = Store b 0
@@ -65,9 +65,13 @@ stay b y = Go b y
 abbrev pub word_or_free : ATag → ℕ → TearPoint
 word_or_free g i = if nat_lt i g.refs then point.Word g i else point.Free g
 
+-- a tag with a link, which is brought into range
+abbrev pub relinked : Bool → ATag → ℕ → ATag
+relinked wide g l = record g { link = l % place_limit wide }
+
 -- by the tag of a block that is entered from the block l, or from none
-abbrev pub entered_next : ℕ → ℕ → ℕ → TearNext
-entered_next b l n = Go b (if (tag_read n).link == l then word_or_free (tag_read n) 0 else point.Link (record (tag_read n) { link = l }))
+abbrev pub entered_next : Bool → ℕ → ℕ → ℕ → TearNext
+entered_next wide b l n = Go b (if (tag_read wide n).link == l then word_or_free (tag_read wide n) 0 else point.Link (relinked wide (tag_read wide n) l))
 
 -- by a reference word
 abbrev pub word_next : ℕ → ATag → ℕ → ℕ → TearNext
@@ -89,13 +93,13 @@ down_next b g i t (next.Point y) = Go b (point.Down g i t y)
 down_next b g i t (next.Answer a) = lowered_next b g i t a
 
 abbrev pub tear_next_at : Me → ℕ → TearPoint → ℕ → TearNext
-tear_next_at me b point.Begin n = entered_next b 0 n
-tear_next_at me b (point.Enter l) n = entered_next b l n
+tear_next_at me b point.Begin n = entered_next me.geometry.wide b 0 n
+tear_next_at me b (point.Enter l) n = entered_next me.geometry.wide b l n
 tear_next_at me b (point.Link g) n = Go b (word_or_free g 0)
 tear_next_at me b (point.Word g i) n = word_next b g i n
 tear_next_at me b (point.Down g i t y) n = down_next b g i t (step_next (down_state me b i t y) n)
 tear_next_at me b (point.Free g) n = freed_next g
-tear_next_at me b point.Return n = Go b (word_or_free (tag_read n) 0)
+tear_next_at me b point.Return n = Go b (word_or_free (tag_read me.geometry.wide n) 0)
 tear_next_at me b point.Over n = Go b point.Over
 
 abbrev pub tear_next : TearState → ℕ → TearNext
@@ -138,10 +142,10 @@ tear_control =
 abbrev pub TearPointFits : Me → TearPoint → Type 0
 TearPointFits me point.Begin = Unit {0}
 TearPointFits me (point.Enter l) = l < address_limit
-TearPointFits me (point.Link g) = TagFits g
-TearPointFits me (point.Word g i) = TagFits g × (i < g.refs)
-TearPointFits me (point.Down g i t y) = TagFits g × (i < g.refs) × (t < address_limit) × PointFits me (aims.Down t) y
-TearPointFits me (point.Free g) = TagFits g
+TearPointFits me (point.Link g) = TagFits me.geometry.wide g
+TearPointFits me (point.Word g i) = TagFits me.geometry.wide g × (i < g.refs)
+TearPointFits me (point.Down g i t y) = TagFits me.geometry.wide g × (i < g.refs) × (t < address_limit) × PointFits me (aims.Down t) y
+TearPointFits me (point.Free g) = TagFits me.geometry.wide g
 TearPointFits me point.Return = Unit {0}
 TearPointFits me point.Over = Unit {0}
 

@@ -60,7 +60,7 @@ pub tag_core : (me : Me) (f : Frame) (m : Memo) (at b n : ℕ) → core (memo_on
 tag_core me f m at b n = ap (λ (x : Memo). record x { known = learnt (Tag b) n x.known }) (called_core m (framed me (Load at) f n))
 
 -- a word of a zero-count block of which something is told was read
-pub word_core : (me : Me) (f : Frame) (m : Memo) (at b i n : ℕ) (k : Claim) → is_dying m b ≡ true → claim_of me.who (called m (framed me (Load at) f n)) (b + 2 + i) ≡ Some k
+pub word_core : (me : Me) (f : Frame) (m : Memo) (at b i n : ℕ) (k : Claim) → is_dying m b ≡ true → claim_of me.geometry.wide me.who (called m (framed me (Load at) f n)) (b + 2 + i) ≡ Some k
     → core (memo_on m (framed me (Load at) f n) (Body b i)) ≡ core (record m { known = learnt (Body b i) n m.known })
 word_core me f m at b i n k dies e =
     let N : Memo = called m (framed me (Load at) f n) in
@@ -104,9 +104,9 @@ settled_same me first b k vs r0 m n es s stays retains same agent zeros =
 
 -- the next reference word, or the header
 pub on_words : (me : Me) (first b k i : ℕ) (vs : List Visit) (g : ATag) (r0 m : Memo) (es : List Event) (tr : Trail) → Settled me first b k vs r0 m es → IsTagged me m b g → Linked me m g.link vs → i ≤ k
-    → IsPaid (record { block = b; cleared = k } ∷ vs) k (word_or_free g i) es tr → TearHolds me first r0 b (word_or_free g i) m es tr
+    → IsPaid me.geometry.wide (record { block = b; cleared = k } ∷ vs) k (word_or_free g i) es tr → TearHolds me first r0 b (word_or_free g i) m es tr
 on_words me first b k i vs g r0 m es tr s tag link l paid =
-    choice (λ (y : TearPoint). IsPaid (record { block = b; cleared = k } ∷ vs) k y es tr → TearHolds me first r0 b y m es tr) (ltb i g.refs) (point.Word g i) (point.Free g)
+    choice (λ (y : TearPoint). IsPaid me.geometry.wide (record { block = b; cleared = k } ∷ vs) k y es tr → TearHolds me first r0 b y m es tr) (ltb i g.refs) (point.Word g i) (point.Free g)
     (λ z p. (k, vs, record { settled = s; shows = (tag, link, ltb-true i g.refs z, l); paid = p }))
     (λ z p. (k, vs, record { settled = s; shows = (tag, link, (let u = ltb-false i g.refs z in omega arith)); paid = p }))
     paid

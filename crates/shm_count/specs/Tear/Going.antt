@@ -1,5 +1,5 @@
 -- a tear-down goes along its trails: each word step is the next pair of a trail from its point
-use Rattle.std.proofs.Common.{◌≡◌, ℕ, ◌+◌, ◌%◌, ◌^◌, ◌==◌, nat_lt, if◌then◌else◌, suc, refl, sym, ap, ◌∙◌, subst, arith, Bool, true, false, List, [], ◌∷◌, ◌++◌, append_assoc}
+use Rattle.std.proofs.Common.{◌≡◌, ℕ, ◌+◌, ◌%◌, ◌==◌, nat_lt, if◌then◌else◌, suc, refl, sym, ap, ◌∙◌, subst, arith, Bool, true, false, List, [], ◌∷◌, ◌++◌, append_assoc}
 use Rattle.std.specs.Prelude.{Result, Ok, Err}
 use Rattle.std.specs.List.{filter}
 use Rattle.shm_words.specs.declared.tag.Tag.{Tag as ATag}
@@ -28,7 +28,7 @@ use Rattle.shm_count.specs.declared.tear_point.TearNext.TheVariants.{Go, Answer}
 use Rattle.shm_count.specs.Step.Control.{step_ask_at, step_next_at, PointFits}
 use Rattle.shm_count.specs.Step.Asks as steps
 use Rattle.shm_count.specs.Step.Going as going
-use Rattle.shm_count.specs.Tear.Control.{word_address, tag_read, word_or_free, entered_next, word_next, lowered_next, freed_next, down_next, tear_ask, tear_ask_at, tear_next, tear_next_at, block_of, point_of, answer_of, tear_control, TearPointFits, TearInRange}
+use Rattle.shm_count.specs.Tear.Control.{word_address, tag_read, word_or_free, entered_next, word_next, lowered_next, freed_next, down_next, tear_ask, tear_ask_at, tear_next, tear_next_at, block_of, point_of, answer_of, tear_control, TearPointFits, TearInRange, relinked}
 use Rattle.shm_count.specs.Tear.Asks.{TearTrails, on_trail, link_trail, after_down, word_trail, return_trail, free_trail, tear_trail, point_trail}
 use Rattle.shm_count.specs.Tear.Events.{tear_event, tear_start}
 use Rattle.shm_count.specs.Tear.{CanTear, TearAt, TearHolds, TearFits, TearLeaves, TearGives, NextHolds}
@@ -56,13 +56,13 @@ module _ (me : Me) (rest : Trail) (a : Result (Unit {0}) EraSpent) where
       go false u = u
 
   -- what follows the tag of a block that is entered
-  entered_goes : (b l n : ℕ) → next_trail me (entered_next b l n) rest a
-      → (k : ℕ) × Chosen ((tag_read n).link == l) (on_trail me k b (tag_read n) 0) (link_trail me (on_trail me k) b (record (tag_read n) { link = l })) rest a
-  entered_goes b l n t = go ((tag_read n).link == l) t
+  entered_goes : (b l n : ℕ) → next_trail me (entered_next me.geometry.wide b l n) rest a
+      → (k : ℕ) × Chosen ((tag_read me.geometry.wide n).link == l) (on_trail me k b (tag_read me.geometry.wide n) 0) (link_trail me (on_trail me k) b (relinked me.geometry.wide (tag_read me.geometry.wide n) l)) rest a
+  entered_goes b l n t = go ((tag_read me.geometry.wide n).link == l) t
     where
-      go : (x : Bool) → point_trail me b (if x then word_or_free (tag_read n) 0 else point.Link (record (tag_read n) { link = l })) rest a
-          → (k : ℕ) × Chosen x (on_trail me k b (tag_read n) 0) (link_trail me (on_trail me k) b (record (tag_read n) { link = l })) rest a
-      go true u = word_goes b (tag_read n) 0 u
+      go : (x : Bool) → point_trail me b (if x then word_or_free (tag_read me.geometry.wide n) 0 else point.Link (relinked me.geometry.wide (tag_read me.geometry.wide n) l)) rest a
+          → (k : ℕ) × Chosen x (on_trail me k b (tag_read me.geometry.wide n) 0) (link_trail me (on_trail me k) b (relinked me.geometry.wide (tag_read me.geometry.wide n) l)) rest a
+      go true u = word_goes b (tag_read me.geometry.wide n) 0 u
       go false u = u
 
   -- what follows a reference word
@@ -108,7 +108,7 @@ tear_goes me b (point.Link g) n l rest a t = let k = word_goes me rest a b g 0 t
 tear_goes me b (point.Word g i) n l rest a t = let k = found_goes me rest a b g i n t in (k.0, (n, (rest, (refl, k.1))))
 tear_goes me b (point.Down g i c y) n l rest a t = down_goes me rest a b g i c y n l.3 (step_next_at me (aims.Down c) y n) refl t
 tear_goes me b (point.Free g) n l rest a t = let k = freed_goes me rest a g t in (k.0, (n, (rest, (refl, k.1))))
-tear_goes me b point.Return n l rest a t = let k = word_goes me rest a b (tag_read n) 0 t in (k.0, (n, (rest, (refl, k.1))))
+tear_goes me b point.Return n l rest a t = let k = word_goes me rest a b (tag_read me.geometry.wide n) 0 t in (k.0, (n, (rest, (refl, k.1))))
 tear_goes me b point.Over n l rest a t = absurd t
 
 -- a step that leads to a point is followed by the trails from that point
@@ -183,7 +183,7 @@ begins_at me b r can =
         walks = walks_begin me.who b;
       };
       shows = (refl, refl);
-      paid = paid_begin b;
+      paid = paid_begin me.geometry.wide b;
     }
 
 -- a tear-down that has just been made fits each memo of an identity that may begin it

@@ -1,5 +1,5 @@
 -- the laws of a tear-down, but that its steps keep the invariant
-use Rattle.std.proofs.Common.{◌≡◌, ℕ, ◌+◌, ◌%◌, ◌^◌, ◌<◌, ◌≤◌, ◌==◌, nat_lt, if◌then◌else◌, Bool, true, false, List, [], ◌∷◌, subst, sym, refl, arith}
+use Rattle.std.proofs.Common.{◌≡◌, ℕ, ◌+◌, ◌%◌, ◌<◌, ◌≤◌, ◌==◌, nat_lt, if◌then◌else◌, Bool, true, false, List, [], ◌∷◌, subst, sym, refl, arith}
 use Rattle.std.specs.Prelude.{Result, Ok, Err}
 use Rattle.std.proofs.Math.Nat.{mod-eq_of_lt}
 use Rattle.std.proofs.lemmas.Bool.{true≢false}
@@ -26,7 +26,7 @@ use Rattle.shm_count.specs.declared.tear_point.TearNext.TheVariants.{Go, Answer}
 use Rattle.shm_count.specs.Step.Control.{IsInside, step_next_at}
 use Rattle.shm_count.specs.Step.Control as steps
 use Rattle.shm_count.specs.Step.Laws as laws
-use Rattle.shm_count.specs.Tear.Control.{word_address, tag_read, word_or_free, lowered_next, freed_next, down_next, tear_ask_at, tear_next, tear_next_at, point_of, answer_of, is_begin, is_over, tear_control}
+use Rattle.shm_count.specs.Tear.Control.{word_address, tag_read, word_or_free, lowered_next, freed_next, down_next, tear_ask_at, tear_next, tear_next_at, point_of, answer_of, is_begin, is_over, tear_control, relinked}
 use Rattle.shm_count.specs.Tear.Events.{tear_event, tear_start}
 use Rattle.shm_count.specs.Tear.{TearHolds, TearFits, TearGives}
 use Rattle.shm_count.specs.Tear.Memos.{Retains}
@@ -73,13 +73,13 @@ freed_goes g = go (g.link == 0)
 
 -- from each point but the end it goes on to a later point, or answers
 goes_on : (me : Me) (b : ℕ) (y : TearPoint) (n : ℕ) → is_over y ≡ false → GoesOn (tear_next_at me b y n)
-goes_on me b point.Begin n e = later ((tag_read n).link == 0) (word_or_free (tag_read n) 0) (point.Link (record (tag_read n) { link = 0 })) (word_later (tag_read n) 0) (refl, refl)
-goes_on me b (point.Enter l) n e = later ((tag_read n).link == l) (word_or_free (tag_read n) 0) (point.Link (record (tag_read n) { link = l })) (word_later (tag_read n) 0) (refl, refl)
+goes_on me b point.Begin n e = later ((tag_read me.geometry.wide n).link == 0) (word_or_free (tag_read me.geometry.wide n) 0) (point.Link (relinked me.geometry.wide (tag_read me.geometry.wide n) 0)) (word_later (tag_read me.geometry.wide n) 0) (refl, refl)
+goes_on me b (point.Enter l) n e = later ((tag_read me.geometry.wide n).link == l) (word_or_free (tag_read me.geometry.wide n) 0) (point.Link (relinked me.geometry.wide (tag_read me.geometry.wide n) l)) (word_later (tag_read me.geometry.wide n) 0) (refl, refl)
 goes_on me b (point.Link g) n e = word_later g 0
 goes_on me b (point.Word g i) n e = later (n % address_limit == 0) (word_or_free g (i + 1)) (point.Down g i (n % address_limit) step.Era) (word_later g (i + 1)) (refl, refl)
 goes_on me b (point.Down g i t y) n e = down_goes b g i t (step_next_at me (aims.Down t) y n)
 goes_on me b (point.Free g) n e = freed_goes g
-goes_on me b point.Return n e = word_later (tag_read n) 0
+goes_on me b point.Return n e = word_later (tag_read me.geometry.wide n) 0
 goes_on me b point.Over n e = absurd (true≢false e)
 
 -- it has made a step, and it is over once it has answered
@@ -130,13 +130,13 @@ freed_runs g = go (g.link == 0)
 
 -- a step leads to such a point
 runs_next : (me : Me) (b : ℕ) (y : TearPoint) (n : ℕ) → IsRunning y → IsRunning (point_of (tear_next_at me b y n))
-runs_next me b point.Begin n h = running ((tag_read n).link == 0) (word_or_free (tag_read n) 0) (point.Link (record (tag_read n) { link = 0 })) (word_runs (tag_read n) 0) tt
-runs_next me b (point.Enter l) n h = running ((tag_read n).link == l) (word_or_free (tag_read n) 0) (point.Link (record (tag_read n) { link = l })) (word_runs (tag_read n) 0) tt
+runs_next me b point.Begin n h = running ((tag_read me.geometry.wide n).link == 0) (word_or_free (tag_read me.geometry.wide n) 0) (point.Link (relinked me.geometry.wide (tag_read me.geometry.wide n) 0)) (word_runs (tag_read me.geometry.wide n) 0) tt
+runs_next me b (point.Enter l) n h = running ((tag_read me.geometry.wide n).link == l) (word_or_free (tag_read me.geometry.wide n) 0) (point.Link (relinked me.geometry.wide (tag_read me.geometry.wide n) l)) (word_runs (tag_read me.geometry.wide n) 0) tt
 runs_next me b (point.Link g) n h = word_runs g 0
 runs_next me b (point.Word g i) n h = running (n % address_limit == 0) (word_or_free g (i + 1)) (point.Down g i (n % address_limit) step.Era) (word_runs g (i + 1)) refl
 runs_next me b (point.Down g i t y) n h = down_runs b g i t (step_next_at me (aims.Down t) y n) (laws.goes_on me (aims.Down t) y n h)
 runs_next me b (point.Free g) n h = freed_runs g
-runs_next me b point.Return n h = word_runs (tag_read n) 0
+runs_next me b point.Return n h = word_runs (tag_read me.geometry.wide n) 0
 runs_next me b point.Over n h = tt
 
 -- and so do all that follow it
@@ -181,7 +181,7 @@ ask_inside me first r0 r b es tr point.Over f l h c e = absurd (true≢false e)
 -- a tear-down that fits asks for a word of the pool
 pub tear_inside : Inside tear_control TearFits
 tear_inside m r0 r tr l fit going =
-    ask_inside m.me m.first r0 r m.block (happens_along tear_control tear_event (tear_start m) tr) tr m.point fit.knows.geometry l fit.holds (fit_runs m r0 r tr fit) going
+    (ask_inside m.me m.first r0 r m.block (happens_along tear_control tear_event (tear_start m) tr) tr m.point fit.knows.geometry l fit.holds (fit_runs m r0 r tr fit) going).1
 
 -- ---- back
 

@@ -33,7 +33,7 @@ use Rattle.shm_count.specs.declared.point.StepNext.TheVariants as next
 use Rattle.shm_count.specs.declared.tear_point.TearPoint.TheVariants as point
 use Rattle.shm_count.specs.Step.Control.{step_ask_at, step_next_at, is_over}
 use Rattle.shm_count.specs.Step.Events.{step_event_at, events_at}
-use Rattle.shm_count.specs.Step.{CanStep, Done, Refused, PointHolds}
+use Rattle.shm_count.specs.Step.{CanStep, Refused, PointHolds}
 use Rattle.shm_count.specs.Step as fits
 use Rattle.shm_count.specs.Step.Going.{has_part, events_with, Told, told_next}
 use Rattle.shm_count.specs.Step.Keeps.{step_at}
@@ -44,7 +44,7 @@ use Rattle.shm_count.specs.Tear.Cores.{stays_then, stays_core, on_words}
 use Rattle.shm_count.specs.Tear.Events.{Visit, frees, Walks}
 use Rattle.shm_count.specs.Tear.{CanTear, IsVisited, Linked, is_outside, TearAt, TearHolds, NextHolds}
 use Rattle.shm_count.specs.DownLeaves.{down_leaves}
-use Rattle.shm_count.specs.Tear.Bound.{paid_down, paid_kept, paid_fell, paid_refused}
+use Rattle.shm_count.specs.Tear.Bound.{before_answer, paid_down, paid_kept, paid_fell, paid_refused}
 use Rattle.shm_count.specs.Tear.Reading.{TearKept}
 use Rattle.shm_count.specs.Tear.Stacks.{walks_kept, walks_fell, frees_more, others_entered, outside_other, apart_entered, KeepsBlock, linked_kept, linked_dying, left_dying, keeps_lowered, lowered_knows, lowered_tagged, lowered_dying}
 use Rattle.shm_count.specs.Tear.Memos.{TearStays, Retains, Knows, IsTagged, IsFound, Lowered}
@@ -156,7 +156,7 @@ module _ (me : Me) (first : ℕ) (r0 : Memo) (b k : ℕ) (vs : List Visit) (g : 
         walks = subst (λ e. Walks c first e (record { block = b; cleared = k + 1 } ∷ vs)) (sym told) (subst (λ j. Walks c first (es ++ event.Down c (Body b j) t ∷ []) (record { block = b; cleared = k + 1 } ∷ vs)) (sym same) (walks_kept c first es b k t vs a.settled.walks));
       })
       (tagged false leads told low alive) (linked false leads told low alive) (let e = same in omega arith)
-      (paid_kept b vs es tr (pair (step_ask_at me slot (aims.Down t) y) n) k me g g i t y n es2 (let u = room in omega arith) a.paid same leads (free_same false leads told low alive))
+      (paid_kept b vs es tr (pair (step_ask_at me slot (aims.Down t) y) n) k me.geometry.wide g g i t y es2 (let u = room in omega arith) a.paid same (before_answer me t y n (Ok false) leads) (free_same false leads told low alive))
 
   -- its count came to 0: it is entered
   fell_holds : step_next_at me (aims.Down t) y n ≡ next.Answer (Ok true) → es2 ≡ es ++ event.Down c (Body b i) t ∷ [] → Lowered c b i t true m m2 → ((d u : ℕ) → is_named c m2 d ≡ true → Contains m2.dying u → d ≢ u) → TearHolds me first r0 t (point.Enter b) m2 es2 tr2
@@ -176,7 +176,7 @@ module _ (me : Me) (first : ℕ) (r0 : Memo) (b k : ℕ) (vs : List Visit) (g : 
             walks = subst (λ e. Walks c first e (record { block = t; cleared = 0 } ∷ wvs)) (sym told) (subst (λ j. Walks c first (es ++ event.Down c (Body b j) t ∷ []) (record { block = t; cleared = 0 } ∷ wvs)) (sym same) (walks_fell c first es b k t vs a.settled.walks));
           });
           shows = (refl, (refl, visited true leads told low alive, (g, tagged true leads told low alive, linked true leads told low alive)));
-          paid = (paid_fell b vs es tr (pair (step_ask_at me slot (aims.Down t) y) n) k me g i t y n es2 (let u = room in omega arith) a.paid leads (free_same true leads told low alive));
+          paid = (paid_fell b vs es tr (pair (step_ask_at me slot (aims.Down t) y) n) k me.geometry.wide g i t y es2 (let u = room in omega arith) a.paid (before_answer me t y n (Ok true) leads) (free_same true leads told low alive));
         },
       )
 
@@ -197,7 +197,7 @@ module _ (me : Me) (first : ℕ) (r0 : Memo) (b k : ℕ) (vs : List Visit) (g : 
           left = subst (λ (ds : List ℕ). All (λ (v : Visit). Contains ds v.block) all) (sym dying) (All-cons (λ (v : Visit). Contains m.dying v.block) (record { block = b; cleared = k }) vs a.settled.visited.dying (left_dying me m g.link vs a.shows.1));
           others = ap (filter (is_outside all)) dying ∙ a.settled.others;
           walks = subst (λ x. Walks c first x all) (sym none) a.settled.walks;
-          bound = paid_refused b vs es tr (pair (step_ask_at me slot (aims.Down t) y) n) k me g i t y n (EraSpent e) es2 a.paid leads (ap frees none);
+          bound = paid_refused b vs es tr (pair (step_ask_at me slot (aims.Down t) y) n) k me.geometry.wide g i t y es2 a.paid (before_answer me t y n (Err (EraSpent e)) leads) (ap frees none);
           spent = gone.1 ∙ sym (ap (λ (x : Memo). own_word x.own (Era c c)) gone.0);
           last = gone.2;
         },

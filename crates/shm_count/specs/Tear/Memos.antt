@@ -7,7 +7,7 @@ use Rattle.shm_words.specs.Layout.{total_of}
 use Rattle.shm_graph.specs.Core.{core}
 use Rattle.shm_graph.specs.declared.ask.Me.{Me}
 use Rattle.shm_graph.specs.declared.spot.Spot.{Spot}
-use Rattle.shm_graph.specs.declared.spot.Spot.TheVariants.{Redo, Home, Era, Tag, Body}
+use Rattle.shm_graph.specs.declared.spot.Spot.TheVariants.{Redo, RedoMore, Home, Era, Tag, Body}
 use Rattle.shm_graph.specs.declared.memo.Memo.{Memo}
 use Rattle.shm_graph.specs.declared.memo.Stored.{Stored}
 use Rattle.shm_graph.specs.Held.{is_slot}
@@ -22,6 +22,7 @@ use Rattle.shm_count.specs.Step.Control.{IsInside}
 -- not the own redo record, and no word of the own row
 abbrev pub is_lasting : ℕ → Spot → Bool
 is_lasting c (Redo d) = not (c == d)
+is_lasting c (RedoMore d) = not (c == d)
 is_lasting c (Era i j) = not (c == i)
 is_lasting c p = true
 
@@ -57,8 +58,8 @@ pub record Remains (c : ℕ) (m r : Memo) : Type 0 where
 
 -- the tag of block b is known to be g, whose reference words lie in the pool
 pub record IsTagged (me : Me) (m : Memo) (b : ℕ) (g : ATag) : Type 0 where
-  pub fits : TagFits g
-  pub tag : Knows m (Tag b) (tag_word g)
+  pub fits : TagFits me.geometry.wide g
+  pub tag : Knows m (Tag b) (tag_word me.geometry.wide g)
   pub room : b + 2 + g.refs ≤ total_of me.geometry
 
 -- a reference to block t was read from word i of a zero-count block b: t is a counted block of the pool, and no partition is read from the word; the own era is one that a header has room for

@@ -179,7 +179,7 @@ visited_kept me m m' v k h =
 
 -- its tag is known still
 pub tagged_kept : (me : Me) (m m' : Memo) (b : ℕ) (g : ATag) → KeepsBlock m m' b → IsTagged me m b g → IsTagged me m' b g
-tagged_kept me m m' b g k h = record { fits = h.fits; tag = k.1 (Tag b) (tag_word g) (eq-eqb b b refl) h.tag; room = h.room }
+tagged_kept me m m' b g k h = record { fits = h.fits; tag = k.1 (Tag b) (tag_word me.geometry.wide g) (eq-eqb b b refl) h.tag; room = h.room }
 
 -- the known tags lead through the same blocks
 pub linked_kept : (me : Me) (m m' : Memo) (l : ℕ) (vs : List Visit) → ((v : Visit) → Contains vs v → KeepsBlock m m' v.block) → Linked me m l vs → Linked me m' l vs
@@ -255,4 +255,4 @@ module _ (c d i t : ℕ) (z : Bool) (m m' : Memo) (low : Lowered c d i t z m m')
 
   -- its tag among them
   pub lowered_tagged : (me : Me) (g : ATag) → Contains m.dying d → IsTagged me m d g → IsTagged me m' d g
-  lowered_tagged me g h k = record { fits = k.fits; tag = lowered_knows (Tag d) (tag_word g) h (eq-eqb d d refl) (λ e. cc) k.tag; room = k.room }
+  lowered_tagged me g h k = record { fits = k.fits; tag = lowered_knows (Tag d) (tag_word me.geometry.wide g) h (eq-eqb d d refl) (λ e. cc) k.tag; room = k.room }

@@ -1,13 +1,14 @@
 -- what a tear-down keeps where it stores a link, and where it frees a block
-use Rattle.std.proofs.Common.{◌≡◌, ◌≢◌, ℕ, ◌+◌, ◌/◌, ◌^◌, ◌<◌, ◌≤◌, refl, sym, ap, ◌∙◌, subst, arith, false, List, [], ◌∷◌, ◌++◌}
+use Rattle.std.proofs.Common.{◌≡◌, ◌≢◌, ℕ, ◌+◌, ◌≤◌, refl, sym, ap, ◌∙◌, subst, arith, false, List, [], ◌∷◌, ◌++◌}
 use Rattle.std.specs.Prelude.{◌==◌, if◌then◌else◌, Ok}
 use Rattle.std.specs.List.{Contains, filter}
 use Rattle.std.proofs.lemmas.Bool.{ne_eqb, eqb-true}
 use Rattle.std.proofs.lemmas.List.Elements.{Contains-append_right}
 use Rattle.shm_words.specs.declared.tag.Tag.{Tag as ATag}
-use Rattle.shm_words.specs.Layout.{total_of, address_limit}
-use Rattle.shm_words.specs.Tags.{tag_word, TagFits}
+use Rattle.shm_words.specs.Layout.{total_of}
+use Rattle.shm_words.specs.Tags.{tag_word, TagFits, tag_shape}
 use Rattle.shm_words.proofs.Words.{tag_word_small, tag_refs-word}
+use Rattle.shm_words.proofs.Words.{link_shape}
 use Rattle.shm_graph.specs.declared.ask.Ask.TheVariants.{Store}
 use Rattle.shm_graph.specs.declared.ask.Me.{Me}
 use Rattle.shm_graph.specs.declared.spot.Spot.{Spot}
@@ -54,19 +55,14 @@ is_here me first r0 m can stays = here_same r0 m (ap (λ (x : Memo). x.status) s
 
 -- ---- a link
 
--- another link changes the low bits of a tag alone
-link_shape : (h : ATag) (l : ℕ) → h.link < address_limit → l < address_limit → tag_word (record h { link = l }) / 2 ^ 20 ≡ tag_word h / 2 ^ 20
-unfolding tag_word
-link_shape h l small less = omega arith
-
-module _ (me : Me) (first : ℕ) (r0 : Memo) (b : ℕ) (vs : List Visit) (g : ATag) (w : Spot → ℕ) (r : ℕ → Memo) (f : Frame) (tr : Trail) (es : List Event) (st : Stands me w r f tr) (going : f.fresh ≡ false) (can : CanTear me first r0) (fits : TagFits g)
+module _ (me : Me) (first : ℕ) (r0 : Memo) (b : ℕ) (vs : List Visit) (g : ATag) (w : Spot → ℕ) (r : ℕ → Memo) (f : Frame) (tr : Trail) (es : List Event) (st : Stands me w r f tr) (going : f.fresh ≡ false) (can : CanTear me first r0) (fits : TagFits me.geometry.wide g)
     (a : TearAt me first b 0 vs (point.Link g) r0 (r me.who) es tr) where
   abbrev m : Memo
   m = r me.who
 
   -- the memo after the store, and what was asked then
   abbrev x : ℕ
-  x = tag_word g
+  x = tag_word me.geometry.wide g
 
   abbrev m2 : Memo
   m2 = memo_on m (framed me (Store (b + 1) x) f 0) (Tag b)
@@ -86,10 +82,10 @@ module _ (me : Me) (first : ℕ) (r0 : Memo) (b : ℕ) (vs : List Visit) (g : AT
 
   link_kept : (after : ℕ → Memo → Type 0) → after 0 m2 → KeptAt me w r (Store (b + 1) x) f after (spot_at me.geometry (classes w) (b + 1))
   link_kept after y =
-      let knows : KnowsDying m b (tag_word h) = record { here = is_here me first r0 m can a.settled.stays; idle = is_idle me first r0 m can a.settled.stays; dying = a.settled.visited.dying; tagged = old.tag } in
+      let knows : KnowsDying m b (tag_word me.geometry.wide h) = record { here = is_here me first r0 m can a.settled.stays; idle = is_idle me first r0 m can a.settled.stays; dying = a.settled.visited.dying; tagged = old.tag } in
       kept_with me w r (Store (b + 1) x) f after (Tag b) (spot_at me.geometry (classes w) (b + 1)) (dying_tag_spot me.geometry w r me.who b st.held st.who a.settled.visited.dying)
-      (links me w r f tr (b + 1) b (tag_word h) x st going (dying_tag_spot me.geometry w r me.who b st.held st.who a.settled.visited.dying)
-      (record { knows = knows; shape = ap (λ z. tag_word z / 2 ^ 20) new ∙ link_shape h g.link old.fits.link fits.link; small = tag_word_small g fits }))
+      (links me w r f tr (b + 1) b (tag_word me.geometry.wide h) x st going (dying_tag_spot me.geometry w r me.who b st.held st.who a.settled.visited.dying)
+      (record { knows = knows; shape = ap (λ z. tag_shape me.geometry.wide (tag_word me.geometry.wide z)) new ∙ link_shape me.geometry.wide h g.link old.fits.link fits.link; small = tag_word_small me.geometry.wide g fits }))
       y
 
   cored : core m2 ≡ core (record m { known = learnt (Tag b) x m.known })
@@ -116,15 +112,15 @@ module _ (me : Me) (first : ℕ) (r0 : Memo) (b : ℕ) (vs : List Visit) (g : AT
   tagged = record { fits = fits; tag = knows_learnt m m2 (Tag b) x learns; room = subst (λ n. b + 2 + n ≤ total_of me.geometry) (sym (ap (λ (z : ATag). z.refs) new)) old.room }
 
   link_holds : NextHolds me first r0 b (Go b (word_or_free g 0)) m2 es tr2
-  link_holds = on_words me first b 0 0 vs g r0 m2 es tr2 settled tagged linked (omega arith) (paid_linked b vs es tr (pair (Store (b + 1) x) 0) g g a.paid)
+  link_holds = on_words me first b 0 0 vs g r0 m2 es tr2 settled tagged linked (omega arith) (paid_linked b vs es tr (pair (Store (b + 1) x) 0) me.geometry.wide g g a.paid)
 
 -- a link is stored
-pub link_step : (me : Me) (first : ℕ) (r0 : Memo) (b : ℕ) (g : ATag) (w : Spot → ℕ) (r : ℕ → Memo) (f : Frame) (tr : Trail) (es : List Event) → Stands me w r f tr → f.fresh ≡ false → CanTear me first r0 → TagFits g → TearHolds me first r0 b (point.Link g) (r me.who) es tr
+pub link_step : (me : Me) (first : ℕ) (r0 : Memo) (b : ℕ) (g : ATag) (w : Spot → ℕ) (r : ℕ → Memo) (f : Frame) (tr : Trail) (es : List Event) → Stands me w r f tr → f.fresh ≡ false → CanTear me first r0 → TagFits me.geometry.wide g → TearHolds me first r0 b (point.Link g) (r me.who) es tr
     → TearKept me first r0 b w r f tr es (point.Link g)
 link_step me first r0 b g w r f tr es st going can fits (k, vs, a) =
     let a0 : TearAt me first b 0 vs (point.Link g) r0 (r me.who) es tr = subst (λ j. TearAt me first b j vs (point.Link g) r0 (r me.who) es tr) a.shows.0 a in
-    link_kept me first r0 b vs g w r f tr es st going can fits a0 (λ n y. NextHolds me first r0 b (Go b (word_or_free g 0)) y (es ++ []) (tr ++ pair (Store (b + 1) (tag_word g)) n ∷ []))
-    (unchanged (λ e. NextHolds me first r0 b (Go b (word_or_free g 0)) (memo_on (r me.who) (framed me (Store (b + 1) (tag_word g)) f 0) (Tag b)) e (tr ++ pair (Store (b + 1) (tag_word g)) 0 ∷ [])) es
+    link_kept me first r0 b vs g w r f tr es st going can fits a0 (λ n y. NextHolds me first r0 b (Go b (word_or_free g 0)) y (es ++ []) (tr ++ pair (Store (b + 1) (tag_word me.geometry.wide g)) n ∷ []))
+    (unchanged (λ e. NextHolds me first r0 b (Go b (word_or_free g 0)) (memo_on (r me.who) (framed me (Store (b + 1) (tag_word me.geometry.wide g)) f 0) (Tag b)) e (tr ++ pair (Store (b + 1) (tag_word me.geometry.wide g)) 0 ∷ [])) es
     (link_holds me first r0 b vs g w r f tr es st going can fits a0))
 
 -- ---- the header
@@ -165,10 +161,10 @@ module _ (me : Me) (first : ℕ) (r0 : Memo) (b k : ℕ) (g : ATag) (w : Spot �
       let t : IsTagged me m' b g = a.shows.0 in
       let l = a.shows.2 in
       let is = dying_block me.geometry w r me.who b st.held st.who a.settled.visited.dying in
-      let knows : KnowsDying m' b (tag_word g) = record { here = is_here me first r0 m' can a.settled.stays; idle = is_idle me first r0 m' can a.settled.stays; dying = a.settled.visited.dying; tagged = t.tag } in
+      let knows : KnowsDying m' b (tag_word me.geometry.wide g) = record { here = is_here me first r0 m' can a.settled.stays; idle = is_idle me first r0 m' can a.settled.stays; dying = a.settled.visited.dying; tagged = t.tag } in
       kept_with me w r (Store b 0) f after (Head b) (spot_at me.geometry (classes w) b) is
-      (frees me w r f tr b b (tag_word g) st going is
-      (record { knows = knows; zeros = λ i low. a.settled.visited.zeros i (let q = tag_refs-word g t.fits in omega arith) }))
+      (frees me w r f tr b b (tag_word me.geometry.wide g) st going is
+      (record { knows = knows; zeros = λ i low. a.settled.visited.zeros i (let q = tag_refs-word me.geometry.wide g t.fits in omega arith) }))
       y
 
   -- the last block is free
@@ -181,7 +177,7 @@ module _ (me : Me) (first : ℕ) (r0 : Memo) (b k : ℕ) (g : ATag) (w : Spot �
         retains = free_retains a.settled.visited.dying a.settled.stays a.settled.retains;
         others = frees_dying ∙ others_last b k m'.dying _ a.settled.others;
         walks = walks_freed me.who first es b k [] a.settled.walks;
-        bound = paid_done b k es free_events tr (pair (Store b 0) 0) g a.paid (frees_free es me.who b);
+        bound = paid_done me.geometry.wide b k es free_events tr (pair (Store b 0) 0) g a.paid (frees_free es me.who b);
       })
 
   -- the block that the link names is gone on with
@@ -207,7 +203,7 @@ module _ (me : Me) (first : ℕ) (r0 : Memo) (b k : ℕ) (g : ATag) (w : Spot �
             walks = walks_freed me.who first es b k (v ∷ vs) a.settled.walks;
           });
           shows = ((link.2).0, tagged_kept me m' free_memo v.block (link.2).0 here (link.2).1, linked_kept me m' free_memo ((link.2).0).link vs (λ u i. keeps u (outside_other (v ∷ vs) b u a.settled.apart.0 (Contains-append_right (v ∷ []) vs u i))) (link.2).2);
-          paid = (paid_freed b vs es tr (pair (Store b 0) 0) k v.block v.cleared g free_events a.paid (frees_free es me.who b) link.1.most);
+          paid = (paid_freed b vs es tr (pair (Store b 0) 0) k me.geometry.wide v.block v.cleared g free_events a.paid (frees_free es me.who b) link.1.most);
         },
       ))
 

@@ -49,7 +49,7 @@ use Rattle.shm_steps.proofs.Cores.{room_least, here_same}
 use Rattle.shm_count.specs.Tear.Control.{word_address, word_or_free, word_next}
 use Rattle.shm_count.specs.Tear.Cores.{stays_core, word_core, settled_same, on_words}
 use Rattle.shm_count.specs.Tear.Events.{Visit}
-use Rattle.shm_count.specs.Tear.{Settled, CanTear, Linked, TearAt, TearHolds, NextHolds}
+use Rattle.shm_count.specs.Tear.{Settled, CanTear, Linked, TearAt, TearHolds, NextHolds, Bool}
 use Rattle.shm_count.specs.Tear.Laws.{word_address_is}
 use Rattle.shm_count.specs.Tear.Bound.{paid_again, paid_empty, paid_found}
 use Rattle.shm_count.specs.Tear.Reading.{TearKept, still_known, load_keeps, unchanged}
@@ -61,8 +61,8 @@ use Rattle.shm_count.specs.Tear.Memos.{Knows, IsTagged, IsFound}
 -- ---- the load
 
 -- a word that no step covers is settled
-settled_word : (m : Memo) (c b i : ℕ) → m.op ≡ op.Nothing → MayLook c m b i
-settled_word m c b i idle = go (claim_of c m (b + 2 + i))
+settled_word : (wide : Bool) (m : Memo) (c b i : ℕ) → m.op ≡ op.Nothing → MayLook wide c m b i
+settled_word wide m c b i idle = go (claim_of wide c m (b + 2 + i))
   where
     go : (o : Option Claim) → MayLookBy o m.latch (IsSettled m (Body b i))
     go None = tt
@@ -98,11 +98,11 @@ module _ (me : Me) (first : ℕ) (r0 : Memo) (b k : ℕ) (vs : List Visit) (g : 
   here : at ≡ b + 2 + i
   here = word_address_is me b i can.geometry (let l = tag.room in let u = a.shows.2 in omega arith)
 
-  low : i < tag_refs (tag_word g)
-  low = subst (λ z. i < z) (sym (tag_refs-word g tag.fits)) a.shows.2
+  low : i < tag_refs me.geometry.wide (tag_word me.geometry.wide g)
+  low = subst (λ z. i < z) (sym (tag_refs-word me.geometry.wide g tag.fits)) a.shows.2
 
-  low_here : i < tag_refs (w (Tag b))
-  low_here = subst (λ z. i < tag_refs z) (sym ((known_here me.geometry w r c st.held st.who (Tag b) (tag_word g) tag.tag).0)) low
+  low_here : i < tag_refs me.geometry.wide (w (Tag b))
+  low_here = subst (λ z. i < tag_refs me.geometry.wide z) (sym ((known_here me.geometry w r c st.held st.who (Tag b) (tag_word me.geometry.wide g) tag.tag).0)) low
 
   there : spot_at me.geometry (classes w) at ≡ Body b i
   there = ap (spot_at me.geometry (classes w)) here ∙ dying_spot me.geometry w r c b st.held st.who a.settled.visited.dying i low_here
@@ -111,16 +111,16 @@ module _ (me : Me) (first : ℕ) (r0 : Memo) (b k : ℕ) (vs : List Visit) (g : 
   word_kept : (after : ℕ → Memo → Type 0) → after n m2 → KeptAt me w r (Load at) f after (spot_at me.geometry (classes w) at)
   word_kept after x =
       kept_with me w r (Load at) f after (Body b i) (spot_at me.geometry (classes w) at) there
-      (word_loaded me w r f tr at b i st there (subst (IsCovered c m) (sym here) (listed_covered c m b i (tag_word g) tag.tag low)) (settled_word m c b i idle))
+      (word_loaded me w r f tr at b i st there (subst (IsCovered me.geometry.wide c m) (sym here) (listed_covered me.geometry.wide c m b i (tag_word me.geometry.wide g) tag.tag low)) (settled_word me.geometry.wide m c b i idle))
       x
 
   -- something is told of the word
-  told : (j : Claim) × (claim_of c (called m (framed me (Load at) f n)) (b + 2 + i) ≡ Some j)
+  told : (j : Claim) × (claim_of me.geometry.wide c (called m (framed me (Load at) f n)) (b + 2 + i) ≡ Some j)
   told =
       let N : Memo = called m (framed me (Load at) f n) in
-      let known : Knows N (Tag b) (tag_word g) = subst (λ (ks : List Stored). Contains ks (record { spot = Tag b; value = tag_word g })) (sym (called_part (λ (x : Memo). x.known) m (framed me (Load at) f n) refl refl)) tag.tag in
-      let y = listed_covered c N b i (tag_word g) known low in
-      claim_found (b + 2 + i) (claims c N) y.0 y.1 y.2
+      let known : Knows N (Tag b) (tag_word me.geometry.wide g) = subst (λ (ks : List Stored). Contains ks (record { spot = Tag b; value = tag_word me.geometry.wide g })) (sym (called_part (λ (x : Memo). x.known) m (framed me (Load at) f n) refl refl)) tag.tag in
+      let y = listed_covered me.geometry.wide c N b i (tag_word me.geometry.wide g) known low in
+      claim_found (b + 2 + i) (claims me.geometry.wide c N) y.0 y.1 y.2
 
   cored : core m2 ≡ core (record m { known = learnt (Body b i) n m.known })
   cored = word_core me f m at b i n told.0 (dying_true m b a.settled.visited.dying) told.1
@@ -151,7 +151,7 @@ module _ (me : Me) (first : ℕ) (r0 : Memo) (b k : ℕ) (vs : List Visit) (g : 
 
   -- one that is done with
   again : i < k → TearHolds me first r0 b (word_or_free g (i + 1)) m2 es tr2
-  again l = on_words me first b k (i + 1) vs g r0 m2 es tr2 settled tagged linked (omega arith) (paid_again b vs es tr (pair (Load at) n) k g g i l a.paid)
+  again l = on_words me first b k (i + 1) vs g r0 m2 es tr2 settled tagged linked (omega arith) (paid_again b vs es tr (pair (Load at) n) k me.geometry.wide g g i l a.paid)
 
   -- and the next one
   one_more : i ≡ k → n ≡ 0 → Settled me first b (k + 1) vs r0 m2 es
@@ -182,7 +182,7 @@ module _ (me : Me) (first : ℕ) (r0 : Memo) (b k : ℕ) (vs : List Visit) (g : 
   next_one e zero =
       let low = a.shows.2 in
       let most = tag.fits.refs in
-      on_words me first b (k + 1) (i + 1) vs g r0 m2 es tr2 (one_more e zero) tagged linked (omega arith) (paid_empty b vs es tr (pair (Load at) n) k g g i e (omega arith) a.paid)
+      on_words me first b (k + 1) (i + 1) vs g r0 m2 es tr2 (one_more e zero) tagged linked (omega arith) (paid_empty b vs es tr (pair (Load at) n) k me.geometry.wide g g i e (omega arith) a.paid)
 
   empty_holds : n ≡ 0 → TearHolds me first r0 b (word_or_free g (i + 1)) m2 es tr2
   empty_holds zero = elim (cases_eq i k) [ inl u ↦ next_one u zero | inr u ↦ again (let l = a.shows.3 in omega arith) ]
@@ -232,7 +232,7 @@ module _ (me : Me) (first : ℕ) (r0 : Memo) (b k : ℕ) (vs : List Visit) (g : 
         can = λ l. record {
           may = record { here = is; idle = own; room = omega arith };
           some = some;
-          word = record { told = (begin.claim_by b (tag_word g), begin.listed_told c m2 b (tag_word g) tagged.tag, refl, low, inl settled.visited.dying); word = y.word };
+          word = record { told = (begin.claim_by me.geometry.wide b (tag_word me.geometry.wide g), begin.listed_told me.geometry.wide c m2 b (tag_word me.geometry.wide g) tagged.tag, refl, low, inl settled.visited.dying); word = y.word };
         };
         put = tt;
         reach = λ e. absurd (true≢false (sym e));
@@ -246,7 +246,7 @@ module _ (me : Me) (first : ℕ) (r0 : Memo) (b k : ℕ) (vs : List Visit) (g : 
     vs,
     m2,
     es,
-    record { settled = settled; shows = (tagged, linked, a.shows.2, is_next some, found some); paid = (paid_found b vs es tr (pair (Load at) n) k g g i n a.paid) },
+    record { settled = settled; shows = (tagged, linked, a.shows.2, is_next some, found some); paid = (paid_found b vs es tr (pair (Load at) n) k me.geometry.wide g g i n a.paid) },
     sym (append-nil es),
     may_step some,
     record { agent = refl; has = (refl, tt) },

@@ -1,5 +1,5 @@
 -- an up at the least empty root as a part of larger machines
-use Rattle.std.proofs.Common.{◌≡◌, ◌≢◌, ℕ, ◌+◌, refl, ap, ◌∙◌, arith, true, List}
+use Rattle.std.proofs.Common.{◌≡◌, ℕ, ◌+◌, refl, ◌∙◌, arith, List}
 use Rattle.std.specs.Prelude.{Result, Ok, Err}
 use Rattle.std.proofs.lemmas.Bool.{cond-true}
 use Rattle.shm_graph.specs.declared.ask.Me.{Me}
@@ -9,9 +9,7 @@ use Rattle.shm_graph.specs.Asks.{Trail, IsWithin}
 use Rattle.shm_graph.specs.Bounds.{up_steps}
 use Rattle.shm_graph.specs.Events.{Event}
 use Rattle.shm_graph.specs.Laws.{Control}
-use Rattle.shm_graph.specs.Reach.{is_reached}
 use Rattle.shm_graph.proofs.Spots.Spotting.{same_spot_self}
-use Rattle.shm_steps.proofs.Reaching.{root_reached}
 use Rattle.shm_calls.specs.declared.calls.Calls.{Calls}
 use Rattle.shm_calls.specs.CallsControl.{calls_control, calls_of}
 use Rattle.shm_calls.specs.CallsPart.{MayCall, calls_part}
@@ -44,7 +42,7 @@ pub rooted_root : (me : Me) (b k : ℕ) (r0 r : Memo) (tr : Trail) (es : List Ev
 rooted_root me b k r0 r tr es h = h.filled.own (Root me.who k) refl ∙ cond-true _ _ _ (same_spot_self (Root me.who k))
 
 -- whatever it answers, it takes at most a word step for each root besides those of a step up
-pub up_root_bound : (me : Me) (b : ℕ) (r0 r : Memo) (tr : Trail) (es : List Event) (a : Result ℕ ShareFault) → UpRootLeaves me b r0 r tr es a → IsWithin (up_steps + 16) tr
+pub up_root_bound : (me : Me) (b : ℕ) (r0 r : Memo) (tr : Trail) (es : List Event) (a : Result ℕ ShareFault) → UpRootLeaves me b r0 r tr es a → IsWithin (up_steps me.geometry.wide + 16) tr
 up_root_bound me b r0 r tr es (Ok k) h = let x = h.bound in let l = h.low in omega arith
 up_root_bound me b r0 r tr es (Err (EraSpent e)) h = let x = h.bound in omega arith
 up_root_bound me b r0 r tr es (Err RootsFull) h = let x = h.bound in omega arith

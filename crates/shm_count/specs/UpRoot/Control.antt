@@ -2,6 +2,7 @@
 use Rattle.std.specs.Prelude.{ℕ, ◌+◌, ◌-◌, ◌^◌, ◌<◌, ◌≤◌, Bool, true, false, ◌==◌, nat_lt, if◌then◌else◌, Option, Some, None, Result, Ok, Err}
 use Rattle.shm_words.specs.declared.place.Place.TheVariants as place
 use Rattle.shm_words.specs.Layout.{GeometryFits, address, address_limit}
+use Rattle.shm_count.specs.Step.Control.{first_point}
 use Rattle.shm_graph.specs.declared.ask.Ask.{Ask}
 use Rattle.shm_graph.specs.declared.ask.Ask.TheVariants.{Load}
 use Rattle.shm_graph.specs.declared.ask.Me.{Me}
@@ -16,7 +17,6 @@ use Rattle.shm_count.specs.declared.answer.ShareFault.TheVariants as share
 use Rattle.shm_count.specs.declared.answer.UpFault.{UpFault}
 use Rattle.shm_count.specs.declared.answer.UpFault.TheVariants.{EraSpent, CountFull}
 use Rattle.shm_count.specs.declared.point.Aim.TheVariants.{Up}
-use Rattle.shm_count.specs.declared.point.StepPoint.TheVariants.{Redo}
 use Rattle.shm_count.specs.declared.point.StepState.{StepState}
 use Rattle.shm_count.specs.declared.up_root.RootingPoint.{RootingPoint}
 use Rattle.shm_count.specs.declared.up_root.RootingPoint.TheVariants.{Era, Look, Step}
@@ -36,7 +36,7 @@ rooting me b = record { me = me; block = b; era = 0; root = 0; point = Era }
 
 -- the step up at root k that is taken up once its own era e was loaded
 abbrev pub taken_up : Me → ℕ → ℕ → ℕ → StepState
-taken_up me k b e = record { me = me; slot = address me.geometry (place.Root me.who k); aim = Up b; point = Redo e }
+taken_up me k b e = record { me = me; slot = address me.geometry (place.Root me.who k); aim = Up b; point = first_point me e }
 
 -- the word step at a point
 abbrev pub rooting_ask : Me → ℕ → RootingPoint → Ask

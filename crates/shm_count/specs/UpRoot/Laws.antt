@@ -1,8 +1,10 @@
 -- what is owed of an up at the least empty root: each call leads on, to the next one or to what is left
 use Rattle.std.proofs.Common.{◌≡◌, ◌≢◌, ℕ, ◌+◌, ◌^◌, ◌<◌, refl, sym, ap, ◌∙◌, subst, arith, Bool, true, false, List, [], ◌++◌, length, inl, inr}
+use Rattle.shm_count.specs.Step.Reading.{first_going}
 use Rattle.std.specs.Prelude.{◌-◌, ◌==◌, nat_lt, if◌then◌else◌, Option, Some, None, Result, Ok, Err}
 use Rattle.std.proofs.lemmas.Bool.{cases_eq, eq-eqb, eqb-true, eqb-false, ltb-true, ltb-false}
 use Rattle.std.proofs.lemmas.List.Elements.{Contains-append_right}
+use Rattle.shm_graph.specs.Bounds.{redo_steps}
 use Rattle.shm_graph.specs.declared.memo.Memo.{Memo}
 use Rattle.shm_graph.specs.declared.spot.Spot.TheVariants as spot
 use Rattle.shm_graph.specs.Agents.{recovers}
@@ -125,11 +127,11 @@ module _ (m : RootingState) (r0 rs r : Memo) (tr t : Trail) (es ds : List Event)
       record { may = h.may; inside = h.inside; low = omega arith; same = same; agent = agent; era = h.era; room = h.room; before = more_set n h is some; none = none; bound = omega arith }
 
   -- the step was made
-  made : RootingKnows (record m { point = Step }) Step r0 rs tr es → TookUp c m.root m.block rs r t ds (Ok tt) × IsWithin 7 t → UpRootLeaves m.me m.block r0 r (tr ++ t) (es ++ ds) (Ok m.root)
+  made : RootingKnows (record m { point = Step }) Step r0 rs tr es → TookUp c m.root m.block rs r t ds (Ok tt) × IsWithin (6 + redo_steps m.me.geometry.wide) t → UpRootLeaves m.me m.block r0 r (tr ++ t) (es ++ ds) (Ok m.root)
   made (h, empty) ((filled, told), short) =
       let own = h.era in
       let left = h.room in
-      let bound = within_more (m.root + 2) 7 tr t h.bound short in
+      let bound = within_more (m.root + 2) (6 + redo_steps m.me.geometry.wide) tr t h.bound short in
       record {
         inside = h.inside;
         low = h.low;
@@ -142,12 +144,12 @@ module _ (m : RootingState) (r0 rs r : Memo) (tr t : Trail) (es ds : List Event)
       }
 
   -- or refused
-  counted : (d n : ℕ) → RootingKnows (record m { point = Step }) Step r0 rs tr es → TookUp c m.root m.block rs r t ds (Err (CountFull d n)) × IsWithin 7 t → UpRootLeaves m.me m.block r0 r (tr ++ t) (es ++ ds) (Err (share.CountFull d n))
+  counted : (d n : ℕ) → RootingKnows (record m { point = Step }) Step r0 rs tr es → TookUp c m.root m.block rs r t ds (Err (CountFull d n)) × IsWithin (6 + redo_steps m.me.geometry.wide) t → UpRootLeaves m.me m.block r0 r (tr ++ t) (es ++ ds) (Err (share.CountFull d n))
   counted d n (h, empty) ((block, full, read, untouched, none), short) =
       let own = h.era in
       let left = h.room in
       let low = h.low in
-      let bound = within_more (m.root + 2) 7 tr t h.bound short in
+      let bound = within_more (m.root + 2) (6 + redo_steps m.me.geometry.wide) tr t h.bound short in
       record {
         room = omega arith;
         empty = (m.root, h.low, empty);
@@ -204,7 +206,7 @@ rooting_laws =
     calls : (m : RootingState) (y : RootingPoint) → IsCall rooting_parts rooting_plan (record m { point = y })
     calls m Era = record { me = refl; asks = refl }
     calls m Look = record { me = refl; asks = refl }
-    calls m Step = record { me = refl; asks = refl }
+    calls m Step = record { me = refl; asks = first_going m.me m.era }
 
     -- a word step leaves the memo, with no event and one pair
     quiet : {es ds : List Event} → es ≡ [] → ds ≡ [] → es ++ ds ≡ []

@@ -1,10 +1,15 @@
 -- a step up that is taken up at an own root, as a part
-use Rattle.std.proofs.Common.{◌≡◌, ℕ, ◌+◌, ◌^◌, ◌<◌, ◌≤◌, refl, sym, ap, ◌∙◌, subst, arith, Bool, true, false, List, ◌∷◌, inl, inr}
+use Rattle.std.proofs.Common.{◌≡◌, ℕ, ◌+◌, ◌^◌, ◌<◌, ◌≤◌, refl, sym, ap, ◌∙◌, subst, arith, Bool, true, false, List, ◌∷◌, ◌++◌, inl, inr}
 use Rattle.std.specs.Prelude.{Result, Ok, Err}
 use Rattle.std.proofs.lemmas.Bool.{and_from, false≢true, lt-ltb}
 use Rattle.shm_words.specs.declared.place.Place.TheVariants as place
 use Rattle.shm_words.specs.Layout.{address, is_in}
 use Rattle.shm_words.proofs.Placing.{address_below, address_small, total_small}
+use Rattle.shm_graph.specs.Bounds.{redo_steps}
+use Rattle.shm_count.specs.Step.Reading.{first_holds, first_same, first_era, first_asked, first_told}
+use Rattle.shm_count.specs.Step.Control.{first_point}
+use Rattle.shm_count.specs.Step.Ranges.{first_fits}
+use Rattle.shm_count.specs.Step.Refusing.{first_reads}
 use Rattle.shm_graph.specs.declared.ask.Me.{Me}
 use Rattle.shm_graph.specs.declared.memo.Memo.{Memo}
 use Rattle.shm_graph.specs.declared.spot.Spot.TheVariants as spot
@@ -22,7 +27,6 @@ use Rattle.shm_calls.specs.Parts.{PartLaws, weaker_laws}
 use Rattle.shm_count.specs.declared.answer.UpFault.{UpFault}
 use Rattle.shm_count.specs.declared.answer.UpFault.TheVariants.{EraSpent, CountFull}
 use Rattle.shm_count.specs.declared.point.Aim.TheVariants.{Up}
-use Rattle.shm_count.specs.declared.point.StepPoint.TheVariants.{Redo}
 use Rattle.shm_count.specs.declared.point.StepState.{StepState}
 use Rattle.shm_count.specs.Slots.{Filled, Untouched}
 use Rattle.shm_count.specs.Slots.Parts.{untouched}
@@ -32,7 +36,6 @@ use Rattle.shm_count.specs.Step.Control.{step_control}
 use Rattle.shm_count.specs.Step.{CanStep}
 use Rattle.shm_count.specs.Step.Machines.{up_answer, up_control}
 use Rattle.shm_count.specs.Step.Parts.{part_after}
-use Rattle.shm_count.specs.Step.Refusing.{redo_reads}
 use Rattle.shm_count.specs.StepsFrom.{FromLeaves, IsFrom, from_part, from_part_laws}
 use Rattle.shm_count.specs.UpRoot.Control.{taken_up}
 use Rattle.shm_count.specs.UpRoot.{MayTakeUp, TookUp, taken_part}
@@ -94,34 +97,34 @@ module _ (me : Me) (k b e : ℕ) where
         queued = λ z is up. absurd (false≢true is);
       }
 
-  needs_take : (m : StepState) (r : Memo) → MayTakeUp me k b e m r → IsFrom (spot.Root me.who k) (Redo e) m r
+  needs_take : (m : StepState) (r : Memo) → MayTakeUp me k b e m r → IsFrom (spot.Root me.who k) (first_point me e) m r
   needs_take m r n =
       let small = total_small me.geometry n.may.geometry in
       let last = n.inside.1 in
-      subst (λ (s : StepState). IsFrom (spot.Root me.who k) (Redo e) s r) (sym n.made)
+      subst (λ (s : StepState). IsFrom (spot.Root me.who k) (first_point me e) s r) (sym n.made)
       (record {
         made = refl;
-        knows = record { geometry = n.may.geometry; who = n.may.who; slot = address_small me.geometry (place.Root me.who k) (root_in m r n) n.may.geometry; aim = omega arith; point = n.room };
+        knows = record { geometry = n.may.geometry; who = n.may.who; slot = address_small me.geometry (place.Root me.who k) (root_in m r n) n.may.geometry; aim = omega arith; point = first_fits me (Up b) e n.room };
         r0 = r;
-        came = record { can = can_take m r n; holds = record { agent = refl; has = (refl, n.era, tt) } };
+        came = record { can = can_take m r n; holds = first_holds me at (Up b) (spot.Root me.who k) r r e refl refl n.era tt };
       })
 
   -- what it leaves
-  took : (rs r : Memo) (t : Trail) (es : List Event) (a : Result Bool UpFault) → e + 3 ≤ 2 ^ 47 → FromLeaves (spot.Root me.who k) (Redo e) (taken_up me k b e) rs r t es a → TookUp me.who k b rs r t es (up_answer a) × IsWithin 7 t
+  took : (rs r : Memo) (t : Trail) (es : List Event) (a : Result Bool UpFault) → e + 3 ≤ 2 ^ 47 → FromLeaves (spot.Root me.who k) (first_point me e) (taken_up me k b e) rs r t es a → TookUp me.who k b rs r t es (up_answer a) × IsWithin (6 + redo_steps me.geometry.wide) t
   took rs r t es (Ok z) room h = (
-    (filled_core me.who k b h.r0 rs r h.came.holds.has.0 (up_leaves me at b (spot.Root me.who k) h.r0 r z refl h.came.can.idle h.gives), h.events),
-    redo_bound me at b e t (Ok z) h.trail,
+    (filled_core me.who k b h.r0 rs r (first_same me at (Up b) (spot.Root me.who k) h.r0 rs e h.came.holds.has) (up_leaves me at b (spot.Root me.who k) h.r0 r z refl h.came.can.idle h.gives), sym (ap (λ (l : List Event). l ++ es) (first_told me (Up b) (spot.Root me.who k) e)) ∙ h.events),
+    redo_bound me at b e t (Ok z) (first_asked me at (Up b) e t (Ok z) h.trail),
   )
-  took rs r t es (Err (EraSpent f)) room h = let own = h.came.holds.has.1 in let is = h.gives.1 in let late = h.gives.2 in absurd (omega arith)
+  took rs r t es (Err (EraSpent f)) room h = let own = first_era me at (Up b) (spot.Root me.who k) h.r0 rs e h.came.holds.has in let is = h.gives.1 in let late = h.gives.2 in absurd (omega arith)
   took rs r t es (Err (CountFull d n)) room h = (
-    (h.gives.1, h.gives.0, redo_reads me at (Up b) e t d n h.trail, untouched_core me.who h.r0 rs r h.came.holds.has.0 (untouched me (Up b) (spot.Root me.who k) false h.r0 r (CountFull d n) h.gives).0, h.events),
-    redo_bound me at b e t (Err (CountFull d n)) h.trail,
+    (h.gives.1, h.gives.0, first_reads me at (Up b) e t d n (first_asked me at (Up b) e t (Err (CountFull d n)) h.trail), untouched_core me.who h.r0 rs r (first_same me at (Up b) (spot.Root me.who k) h.r0 rs e h.came.holds.has) (untouched me (Up b) (spot.Root me.who k) false h.r0 r (CountFull d n) h.gives).0, sym (ap (λ (l : List Event). l ++ es) (first_told me (Up b) (spot.Root me.who k) e)) ∙ h.events),
+    redo_bound me at b e t (Err (CountFull d n)) (first_asked me at (Up b) e t (Err (CountFull d n)) h.trail),
   )
 
   pub taken_laws : PartLaws false up_control (taken_part me k b e)
   taken_laws =
-      weaker_laws false up_control (mapped_part up_answer (from_part (spot.Root me.who k) (Redo e))) (MayTakeUp me k b e) (λ m rs r t es a. TookUp me.who k b rs r t es a × IsWithin 7 t)
+      weaker_laws false up_control (mapped_part up_answer (from_part (spot.Root me.who k) (first_point me e))) (MayTakeUp me k b e) (λ m rs r t es a. TookUp me.who k b rs r t es a × IsWithin (6 + redo_steps me.geometry.wide) t)
       needs_take
-      (λ m rs r t es a n g held same. subst (λ (y : Result (Unit {0}) UpFault). TookUp me.who k b rs r t es y × IsWithin 7 t) g.1
-      (took rs r t es g.0 n.room (subst (λ (s : StepState). FromLeaves (spot.Root me.who k) (Redo e) s rs r t es g.0) n.made g.2)))
-      (mapped_part_laws up_answer false step_control (from_part (spot.Root me.who k) (Redo e)) (from_part_laws (spot.Root me.who k) (Redo e)))
+      (λ m rs r t es a n g held same. subst (λ (y : Result (Unit {0}) UpFault). TookUp me.who k b rs r t es y × IsWithin (6 + redo_steps me.geometry.wide) t) g.1
+      (took rs r t es g.0 n.room (subst (λ (s : StepState). FromLeaves (spot.Root me.who k) (first_point me e) s rs r t es g.0) n.made g.2)))
+      (mapped_part_laws up_answer false step_control (from_part (spot.Root me.who k) (first_point me e)) (from_part_laws (spot.Root me.who k) (first_point me e)))

@@ -55,7 +55,7 @@ turned_by ws es t after h l within x =
 
 module _ {S A : Type 0} (k : Control S A) (fits : S → Memo → Memo → Trail → Type 0) (gives : S → Memo → Memo → Trail → A → Type 0) (laws : Laws k fits gives) where
   pub whole_inside : WholeInside k (fits_now k fits) (gives_now gives)
-  whole_inside m r0 r l fit going = (laws.inside m r0 r (call_before (k.fresh m) r.call) l fit going).1
+  whole_inside m r0 r l fit going = laws.inside m r0 r (call_before (k.fresh m) r.call) l fit going
 
   -- the step over functions that the law gives
   kept_step : (m : S) (ws : List ℕ) (es : List Account) (r0 : Memo) → let me : Me = k.me m in let n : ℕ = seen_of (k.asks m) (slice_index ws (at_of (k.asks m))) in let r : Memo = memos_of es me.who in

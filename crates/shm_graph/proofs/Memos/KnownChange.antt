@@ -20,11 +20,11 @@ use Rattle.shm_graph.proofs.Memos.MemoParts.{changed_view, put_same, view_here}
 
 -- c knows a word as it is
 abbrev pub KnownHolds : Geometry → (Spot → ℕ) → View → ℕ → Stored → Type 0
-KnownHolds g w v c k = KnownAt c (λ b. w (Tag b)) (λ b i. w (Body b i)) (λ s r k. w (Slot s r k)) (λ s r. w (Tail s r)) (λ s r. w (QueueHead s r)) (v.untaken c) (v.latch c) (InReach w g v c) (v.dying c) k.spot k.value
+KnownHolds g w v c k = KnownAt g.wide c (λ b. w (Tag b)) (λ b i. w (Body b i)) (λ s r k. w (Slot s r k)) (λ s r. w (Tail s r)) (λ s r. w (QueueHead s r)) (v.untaken c) (v.latch c) (InReach w g v c) (v.dying c) k.spot k.value
 
 -- a value block in reach of c
 abbrev pub ValueHolds : Geometry → (Spot → ℕ) → View → ℕ → ℕ → Type 0
-ValueHolds g w v c = ValueAt (contents_of w (targets g w v)) (InReach w g v c)
+ValueHolds g w v c = ValueAt (contents_of g.wide w (targets g w v)) (InReach w g v c)
 
 -- other words are known, and other value blocks
 pub known_held : (g : Geometry) (w : Spot → ℕ) (v : View) (c : ℕ) (ks : List Stored) (vs : List ℕ) → HeldAt g w v → All (KnownHolds g w v c) ks → All (ValueHolds g w v c) vs

@@ -25,8 +25,8 @@ use Rattle.shm_graph.proofs.States.Claims.{ClaimSound, claims_sound}
 use Rattle.shm_graph.proofs.Memos.BodyTold.{told_in_body}
 
 -- some claim of the memo covers the address
-abbrev pub IsClaimed : ℕ → Memo → ℕ → Type 0
-IsClaimed c m at = (k : Claim) × Contains (claims c m) k × (covers at k ≡ true)
+abbrev pub IsClaimed : Bool → ℕ → Memo → ℕ → Type 0
+IsClaimed wide c m at = (k : Claim) × Contains (claims wide c m) k × (covers at k ≡ true)
 
 -- ---- the first claim that covers an address
 
@@ -72,7 +72,7 @@ module _ (g : Geometry) (w : Spot → ℕ) (v : View) (h : HeldAt g w v) (c : �
       let is : IsBlock g (classes w) b = held_live_block g w v h b s.live in
       let class : IsClass (class_at g (classes w) b) = h.sizes.classes ((b - bodies g) / 2048) ((b - bodies g) / 128 % 16) (block_within g (classes w) b is).2 in
       let t = h.blocks.tagged b s.live in
-      let room = class_room (tag_refs (w (Tag b))) (tag_plain (w (Tag b))) t.refs t.plain in
+      let room = class_room (tag_refs g.wide (w (Tag b))) (tag_plain g.wide (w (Tag b))) t.refs t.plain in
       let size = t.fits in
       choice (λ p. spot_at g (classes w) at ≡ p) (eqb at (b + 1)) (Tag b) (Body b (at - (b + 2)))
       (λ y. ap (spot_at g (classes w)) (eqb-true at (b + 1) y) ∙ tag_spot g (classes w) b is class)
@@ -114,26 +114,26 @@ no_head k at b =
 
 module _ (g : Geometry) (w : Spot → ℕ) (r : ℕ → Memo) (h : HeldAt g w (view r)) (c : ℕ) (l : c < g.clients) where
   -- the claim by which a word is told
-  pub claim_here : (at : ℕ) (k : Claim) → claim_of c (r c) at ≡ Some k → ClaimSound g w (view r) c k × (covers at k ≡ true)
-  claim_here at k e = claim_in_all (ClaimSound g w (view r) c) at (claims c (r c)) k (claims_sound g w r h c l) e
+  pub claim_here : (at : ℕ) (k : Claim) → claim_of g.wide c (r c) at ≡ Some k → ClaimSound g w (view r) c k × (covers at k ≡ true)
+  claim_here at k e = claim_in_all (ClaimSound g w (view r) c) at (claims g.wide c (r c)) k (claims_sound g w r h c l) e
 
   -- a header is claimed by none
-  pub head_unclaimed : (at b : ℕ) → spot_at g (classes w) at ≡ Head b → claim_of c (r c) at ≡ None
-  head_unclaimed at b e = by (claim_of c (r c) at) refl
+  pub head_unclaimed : (at b : ℕ) → spot_at g (classes w) at ≡ Head b → claim_of g.wide c (r c) at ≡ None
+  head_unclaimed at b e = by (claim_of g.wide c (r c) at) refl
     where
-      by : (o : Option Claim) → claim_of c (r c) at ≡ o → claim_of c (r c) at ≡ None
+      by : (o : Option Claim) → claim_of g.wide c (r c) at ≡ o → claim_of g.wide c (r c) at ≡ None
       by None z = z
       by (Some k) z = let q = claim_here at k z in absurd (no_head k at b (sym (claim_spot g w (view r) h c k at q.0 q.1) ∙ e))
 
   -- a header, and a word that some claim covers
-  told_by : (at : ℕ) (p : Spot) → spot_at g (classes w) at ≡ p → ((b : ℕ) × (p ≡ Head b)) ⊎ IsClaimed c (r c) at → spot_claimed at (claim_of c (r c) at) ≡ p
+  told_by : (at : ℕ) (p : Spot) → spot_at g (classes w) at ≡ p → ((b : ℕ) × (p ≡ Head b)) ⊎ IsClaimed g.wide c (r c) at → spot_claimed at (claim_of g.wide c (r c) at) ≡ p
   told_by at p e (inl (b, is)) =
       ap (spot_claimed at) (head_unclaimed at b (e ∙ is)) ∙ (ap Head (head_at g (classes w) at b (e ∙ is)) ∙ sym is)
   told_by at p e (inr (k, has, over)) =
-      let q = claim_found at (claims c (r c)) k has over in
+      let q = claim_found at (claims g.wide c (r c)) k has over in
       let s = claim_here at q.0 q.1 in
       ap (spot_claimed at) q.1 ∙ (sym (claim_spot g w (view r) h c q.0 at s.0 s.1) ∙ e)
 
   -- a header, and a word that some claim covers, is told
-  pub told_load : (at : ℕ) (p : Spot) → spot_at g (classes w) at ≡ p → is_in_body p ≡ true → ((b : ℕ) × (p ≡ Head b)) ⊎ IsClaimed c (r c) at → spot_told g c (r c) (Load at) ≡ p
+  pub told_load : (at : ℕ) (p : Spot) → spot_at g (classes w) at ≡ p → is_in_body p ≡ true → ((b : ℕ) × (p ≡ Head b)) ⊎ IsClaimed g.wide c (r c) at → spot_told g c (r c) (Load at) ≡ p
   told_load at p e n x = told_in_body g (classes w) c (r c) (Load at) p e n ∙ told_by at p e x

@@ -1,5 +1,5 @@
 -- a block joins the looks
-use Rattle.std.proofs.Common.{◌≡◌, ◌≢◌, ℕ, ◌<◌, sym, ◌∙◌, subst, arith, List, [], ◌∷◌, ◌++◌, ◌⊎◌, inl, inr, Option}
+use Rattle.std.proofs.Common.{Bool, ◌≡◌, ◌≢◌, ℕ, ◌<◌, sym, ◌∙◌, subst, arith, List, [], ◌∷◌, ◌++◌, ◌⊎◌, inl, inr, Option}
 use Rattle.std.specs.Prelude.{None, Some}
 use Rattle.std.proofs.lemmas.List.Elements.{All-weaker, Contains-append_left, Contains-append_right, Contains-append_cases}
 use Rattle.shm_words.specs.declared.geometry.Geometry.{Geometry}
@@ -25,19 +25,19 @@ look_more home body author latch near far f (Home a) x h = h
 look_more home body author latch near far f (Body b i) x h = (h.0, h.1, h.2, f b h.3)
 look_more home body author latch near far f _ x h = absurd h
 
-pub slot_more : (c : ℕ) (head : ℕ → Header) (tag : ℕ → ℕ) (latch : Option ℕ) (tail queue_head : ℕ → ℕ → ℕ) (near far : ℕ → Type 0) → ((b : ℕ) → near b → far b) → (p : Spot) → SlotOf c head tag latch tail queue_head near p → SlotOf c head tag latch tail queue_head far p
-slot_more c head tag latch tail queue_head near far f (Root d k) h = h
-slot_more c head tag latch tail queue_head near far f (Home d) h = h
-slot_more c head tag latch tail queue_head near far f (Slot s r k) h = h
-slot_more c head tag latch tail queue_head near far f (Body b i) h = (h.0, h.1, elim h.2 [ inl x ↦ inl x | inr x ↦ inr (x.0, x.1, f b x.2) ])
-slot_more c head tag latch tail queue_head near far f _ h = absurd h
+pub slot_more : (wide : Bool) (c : ℕ) (head : ℕ → Header) (tag : ℕ → ℕ) (latch : Option ℕ) (tail queue_head : ℕ → ℕ → ℕ) (near far : ℕ → Type 0) → ((b : ℕ) → near b → far b) → (p : Spot) → SlotOf wide c head tag latch tail queue_head near p → SlotOf wide c head tag latch tail queue_head far p
+slot_more wide c head tag latch tail queue_head near far f (Root d k) h = h
+slot_more wide c head tag latch tail queue_head near far f (Home d) h = h
+slot_more wide c head tag latch tail queue_head near far f (Slot s r k) h = h
+slot_more wide c head tag latch tail queue_head near far f (Body b i) h = (h.0, h.1, elim h.2 [ inl x ↦ inl x | inr x ↦ inr (x.0, x.1, f b x.2) ])
+slot_more wide c head tag latch tail queue_head near far f _ h = absurd h
 
-pub known_more : (c : ℕ) (tag : ℕ → ℕ) (body : ℕ → ℕ → ℕ) (slot : ℕ → ℕ → ℕ → ℕ) (tail queue_head : ℕ → ℕ → ℕ) (untaken : ℕ → ℕ) (latch : Option ℕ) (near far : ℕ → Type 0) (dying : List ℕ) → ((b : ℕ) → near b → far b)
-    → (p : Spot) (x : ℕ) → KnownAt c tag body slot tail queue_head untaken latch near dying p x → KnownAt c tag body slot tail queue_head untaken latch far dying p x
-known_more c tag body slot tail queue_head untaken latch near far dying f (Tag b) x h = (h.0, elim h.1 [ inl y ↦ inl y | inr y ↦ inr (f b y) ])
-known_more c tag body slot tail queue_head untaken latch near far dying f (Body b i) x h = (h.0, elim h.1 [ inl y ↦ inl y | inr y ↦ inr (f b y.0, y.1) ])
-known_more c tag body slot tail queue_head untaken latch near far dying f (Slot s r k) x h = h
-known_more c tag body slot tail queue_head untaken latch near far dying f _ x h = absurd h
+pub known_more : (wide : Bool) (c : ℕ) (tag : ℕ → ℕ) (body : ℕ → ℕ → ℕ) (slot : ℕ → ℕ → ℕ → ℕ) (tail queue_head : ℕ → ℕ → ℕ) (untaken : ℕ → ℕ) (latch : Option ℕ) (near far : ℕ → Type 0) (dying : List ℕ) → ((b : ℕ) → near b → far b)
+    → (p : Spot) (x : ℕ) → KnownAt wide c tag body slot tail queue_head untaken latch near dying p x → KnownAt wide c tag body slot tail queue_head untaken latch far dying p x
+known_more wide c tag body slot tail queue_head untaken latch near far dying f (Tag b) x h = (h.0, elim h.1 [ inl y ↦ inl y | inr y ↦ inr (f b y) ])
+known_more wide c tag body slot tail queue_head untaken latch near far dying f (Body b i) x h = (h.0, elim h.1 [ inl y ↦ inl y | inr y ↦ inr (f b y.0, y.1) ])
+known_more wide c tag body slot tail queue_head untaken latch near far dying f (Slot s r k) x h = h
+known_more wide c tag body slot tail queue_head untaken latch near far dying f _ x h = absurd h
 
 -- ---- one more look
 
@@ -68,7 +68,7 @@ module _ (home : ℕ → ℕ) (body : ℕ → ℕ → ℕ) (author : ℕ → ℕ
 
 -- a block that a word names, under the latch of the word's author
 pub look_held : (g : Geometry) (w : Spot → ℕ) (v : View) (c a : ℕ) (k : Look) → HeldAt g w v → c < g.clients → v.latch c ≡ Some a
-    → LookAt (λ b. targets g w v (Home b)) (λ b i. targets g w v (Body b i)) (λ b. tag_author (w (Tag b))) (v.latch c) (reach_of (targets g w v) (λ s r. w (Tail s r)) (λ s r. w (QueueHead s r)) v.looks c) k.from k.block
+    → LookAt (λ b. targets g w v (Home b)) (λ b i. targets g w v (Body b i)) (λ b. tag_author g.wide (w (Tag b))) (v.latch c) (reach_of (targets g w v) (λ s r. w (Tail s r)) (λ s r. w (QueueHead s r)) v.looks c) k.from k.block
     → HeldAt g w (record v { looks = at1 v.looks c (v.looks c ++ k ∷ []) })
 look_held g w v c a k h l latched new =
     record {
@@ -91,17 +91,17 @@ look_held g w v c a k h l latched new =
       redo = h.redo;
       allowed = h.allowed;
       count = h.count;
-      slots = λ d m o. slot_more d (λ b. header_of (w (Head b))) (λ b. w (Tag b)) (v.latch d) (λ s r. w (Tail s r)) (λ s r. w (QueueHead s r)) (near d) (far d) (more d) (slot_of (v.op d)) (h.slots d m o);
-      looks = λ d. at1_all (λ (i : ℕ) (x : List Look). i < g.clients → LooksSound (λ b. targets g w v (Home b)) (λ b i. targets g w v (Body b i)) (λ b. tag_author (w (Tag b))) (v.latch i) (named_by (targets g w v) (λ s r. w (Tail s r)) (λ s r. w (QueueHead s r)) i) [] x)
+      slots = λ d m o. slot_more g.wide d (λ b. header_of (w (Head b))) (λ b. w (Tag b)) (v.latch d) (λ s r. w (Tail s r)) (λ s r. w (QueueHead s r)) (near d) (far d) (more d) (slot_of (v.op d)) (h.slots d m o);
+      looks = λ d. at1_all (λ (i : ℕ) (x : List Look). i < g.clients → LooksSound (λ b. targets g w v (Home b)) (λ b i. targets g w v (Body b i)) (λ b. tag_author g.wide (w (Tag b))) (v.latch i) (named_by (targets g w v) (λ s r. w (Tail s r)) (λ s r. w (QueueHead s r)) i) [] x)
           v.looks c (v.looks c ++ k ∷ []) d
-          (λ m. looks_push (λ b. targets g w v (Home b)) (λ b i. targets g w v (Body b i)) (λ b. tag_author (w (Tag b))) (v.latch c) (named_by (targets g w v) (λ s r. w (Tail s r)) (λ s r. w (QueueHead s r)) c) (v.looks c) [] k (h.looks c m)
-          (look_more (λ b. targets g w v (Home b)) (λ b i. targets g w v (Body b i)) (λ b. tag_author (w (Tag b))) (v.latch c) (near c) (λ b. named_by (targets g w v) (λ s r. w (Tail s r)) (λ s r. w (QueueHead s r)) c b ⊎ (InLooks [] b ⊎ InLooks (v.looks c) b))
+          (λ m. looks_push (λ b. targets g w v (Home b)) (λ b i. targets g w v (Body b i)) (λ b. tag_author g.wide (w (Tag b))) (v.latch c) (named_by (targets g w v) (λ s r. w (Tail s r)) (λ s r. w (QueueHead s r)) c) (v.looks c) [] k (h.looks c m)
+          (look_more (λ b. targets g w v (Home b)) (λ b i. targets g w v (Body b i)) (λ b. tag_author g.wide (w (Tag b))) (v.latch c) (near c) (λ b. named_by (targets g w v) (λ s r. w (Tail s r)) (λ s r. w (QueueHead s r)) c b ⊎ (InLooks [] b ⊎ InLooks (v.looks c) b))
           (λ b x. elim x [ inl y ↦ inl y | inr y ↦ inr (inr y) ]) k.from k.block new))
           (λ n. h.looks d);
       lanes = h.lanes;
-      known = λ d m. All-weaker (λ (s : Stored). KnownAt d (λ b. w (Tag b)) (λ b i. w (Body b i)) (λ s r k. w (Slot s r k)) (λ s r. w (Tail s r)) (λ s r. w (QueueHead s r)) (v.untaken d) (v.latch d) (near d) (v.dying d) s.spot s.value)
-          (λ (s : Stored). KnownAt d (λ b. w (Tag b)) (λ b i. w (Body b i)) (λ s r k. w (Slot s r k)) (λ s r. w (Tail s r)) (λ s r. w (QueueHead s r)) (v.untaken d) (v.latch d) (far d) (v.dying d) s.spot s.value)
-          (λ s. known_more d (λ b. w (Tag b)) (λ b i. w (Body b i)) (λ s r k. w (Slot s r k)) (λ s r. w (Tail s r)) (λ s r. w (QueueHead s r)) (v.untaken d) (v.latch d) (near d) (far d) (v.dying d) (more d) s.spot s.value) (v.known d) (h.known d m);
+      known = λ d m. All-weaker (λ (s : Stored). KnownAt g.wide d (λ b. w (Tag b)) (λ b i. w (Body b i)) (λ s r k. w (Slot s r k)) (λ s r. w (Tail s r)) (λ s r. w (QueueHead s r)) (v.untaken d) (v.latch d) (near d) (v.dying d) s.spot s.value)
+          (λ (s : Stored). KnownAt g.wide d (λ b. w (Tag b)) (λ b i. w (Body b i)) (λ s r k. w (Slot s r k)) (λ s r. w (Tail s r)) (λ s r. w (QueueHead s r)) (v.untaken d) (v.latch d) (far d) (v.dying d) s.spot s.value)
+          (λ s. known_more g.wide d (λ b. w (Tag b)) (λ b i. w (Body b i)) (λ s r k. w (Slot s r k)) (λ s r. w (Tail s r)) (λ s r. w (QueueHead s r)) (v.untaken d) (v.latch d) (near d) (far d) (v.dying d) (more d) s.spot s.value) (v.known d) (h.known d m);
       facts = h.facts;
       zeros = h.zeros;
       test = h.test;
@@ -123,7 +123,7 @@ look_held g w v c a k h l latched new =
       parts = h.parts;
       part = h.part;
       queued = h.queued;
-      values = λ d m. All-weaker (ValueAt (contents_of w (targets g w v)) (near d)) (ValueAt (contents_of w (targets g w v)) (far d)) (λ b x. (x.0, more d b x.1)) (v.values d) (h.values d m);
+      values = λ d m. All-weaker (ValueAt (contents_of g.wide w (targets g w v)) (near d)) (ValueAt (contents_of g.wide w (targets g w v)) (far d)) (λ b x. (x.0, more d b x.1)) (v.values d) (h.values d m);
       made = h.made;
     }
   where

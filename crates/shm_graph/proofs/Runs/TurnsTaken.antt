@@ -73,11 +73,11 @@ none_names : (g : Geometry) (class : ℕ → ℕ → ℕ) (t : Spot → ℕ) (l 
 none_names g class t l b z one = omega arith
 
 -- a word past the references of a block names nothing
-past_references : (g : Geometry) (w : Spot → ℕ) (v : View) (b i : ℕ) → IsLive (headers w) b → (i < tag_refs (w (Tag b)) → targets g w v (Body b i) ≡ 0) → targets g w v (Body b i) ≡ 0
+past_references : (g : Geometry) (w : Spot → ℕ) (v : View) (b i : ℕ) → IsLive (headers w) b → (i < tag_refs g.wide (w (Tag b)) → targets g w v (Body b i) ≡ 0) → targets g w v (Body b i) ≡ 0
 past_references g w v b i live inside =
-    elim (cases_Bool (ltb i ((words_of w).refs b))) [
-      | inl l ↦ inside (subst (λ n. i < n) (cond-true (headers w b).live (tag_refs (w (Tag b))) 0 live) (ltb-true i ((words_of w).refs b) l))
-      | inr o ↦ cond-false (ltb i ((words_of w).refs b)) _ 0 o
+    elim (cases_Bool (ltb i ((words_of g.wide w).refs b))) [
+      | inl l ↦ inside (subst (λ n. i < n) (cond-true (headers w b).live (tag_refs g.wide (w (Tag b))) 0 live) (ltb-true i ((words_of g.wide w).refs b) l))
+      | inr o ↦ cond-false (ltb i ((words_of g.wide w).refs b)) _ 0 o
     ]
 
 -- ---- word steps

@@ -7,7 +7,7 @@ use Rattle.shm_words.specs.declared.place.Place.TheVariants as place
 use Rattle.shm_words.specs.Layout.{GeometryFits, total_of, place_at, is_in}
 use Rattle.shm_words.proofs.Placing.{place-address, in_place}
 use Rattle.shm_graph.specs.declared.spot.Spot.{Spot}
-use Rattle.shm_graph.specs.declared.spot.Spot.TheVariants.{Spare, Status, Redo, Hold, Latch, Home, Era, Root, Tail, QueueHead, Slot, Segment, Page}
+use Rattle.shm_graph.specs.declared.spot.Spot.TheVariants.{Spare, Status, Redo, RedoMore, Hold, Latch, Home, Era, Root, Tail, QueueHead, Slot, Segment, Page}
 use Rattle.shm_graph.specs.Spots.{spot_of, spot_at, spot_address, IsAt, is_in_body}
 use Rattle.shm_graph.proofs.Spots.Spotting.{block_in_body, spot_past}
 
@@ -15,6 +15,7 @@ use Rattle.shm_graph.proofs.Spots.Spotting.{block_in_body, spot_past}
 abbrev pub place_of : Spot → Place
 place_of (Status c) = place.Status c
 place_of (Redo c) = place.Redo c
+place_of (RedoMore c) = place.RedoMore c
 place_of (Hold c) = place.Hold c
 place_of (Latch c) = place.Latch c
 place_of (Home c) = place.Home c
@@ -31,6 +32,7 @@ pub place-spot : (class : ℕ → ℕ → ℕ) (a : ℕ) (p : Place) → is_in_b
 place-spot class a place.Spare n = refl
 place-spot class a (place.Status c) n = refl
 place-spot class a (place.Redo c) n = refl
+place-spot class a (place.RedoMore c) n = refl
 place-spot class a (place.Hold c) n = refl
 place-spot class a (place.Latch c) n = refl
 place-spot class a (place.Home c) n = refl
@@ -49,6 +51,7 @@ unfolding spot_at spot_address
 fixed_is_at g class Spare n h = ap (spot_of class _) (place-address g place.Spare h)
 fixed_is_at g class (Status c) n h = ap (spot_of class _) (place-address g (place.Status c) h)
 fixed_is_at g class (Redo c) n h = ap (spot_of class _) (place-address g (place.Redo c) h)
+fixed_is_at g class (RedoMore c) n h = ap (spot_of class _) (place-address g (place.RedoMore c) h)
 fixed_is_at g class (Hold c) n h = ap (spot_of class _) (place-address g (place.Hold c) h)
 fixed_is_at g class (Latch c) n h = ap (spot_of class _) (place-address g (place.Latch c) h)
 fixed_is_at g class (Home c) n h = ap (spot_of class _) (place-address g (place.Home c) h)

@@ -31,6 +31,7 @@ fixed_same : (class other : ℕ → ℕ → ℕ) (a : ℕ) (p : Place) → is_in
 fixed_same class other a place.Spare n = refl
 fixed_same class other a (place.Status c) n = refl
 fixed_same class other a (place.Redo c) n = refl
+fixed_same class other a (place.RedoMore c) n = refl
 fixed_same class other a (place.Hold c) n = refl
 fixed_same class other a (place.Latch c) n = refl
 fixed_same class other a (place.Home c) n = refl

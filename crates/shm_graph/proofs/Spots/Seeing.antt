@@ -46,6 +46,7 @@ page_of_spot : (class : ℕ → ℕ → ℕ) (a s p : ℕ) (q : Place) → spot_
 page_of_spot class a s p place.Spare e = cc
 page_of_spot class a s p (place.Status c) e = cc
 page_of_spot class a s p (place.Redo c) e = cc
+page_of_spot class a s p (place.RedoMore c) e = cc
 page_of_spot class a s p (place.Hold c) e = cc
 page_of_spot class a s p (place.Latch c) e = cc
 page_of_spot class a s p (place.Home c) e = cc

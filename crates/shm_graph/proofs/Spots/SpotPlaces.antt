@@ -9,7 +9,7 @@ use Rattle.shm_words.specs.Layout as layout
 use Rattle.shm_words.proofs.Placing.{place-address, in_place}
 use Rattle.shm_words.proofs.Regions.{body_at}
 use Rattle.shm_graph.specs.declared.spot.Spot.{Spot}
-use Rattle.shm_graph.specs.declared.spot.Spot.TheVariants.{Status, Redo, Hold, Latch, Home, Era, Root, Tail, QueueHead, Slot, Segment, Page, Head}
+use Rattle.shm_graph.specs.declared.spot.Spot.TheVariants.{Status, Redo, RedoMore, Hold, Latch, Home, Era, Root, Tail, QueueHead, Slot, Segment, Page, Head}
 use Rattle.shm_graph.specs.Spots.{block_spot, spot_of, spot_at, spot_address, IsAt, classes_in, see}
 use Rattle.shm_graph.proofs.Spots.Seeing.{seen_is_at}
 
@@ -33,6 +33,7 @@ place_in g a f =
 abbrev pub spot_in : Geometry → Spot → Bool
 spot_in g (Status c) = layout.is_in g (place.Status c)
 spot_in g (Redo c) = layout.is_in g (place.Redo c)
+spot_in g (RedoMore c) = layout.is_in g (place.RedoMore c)
 spot_in g (Hold c) = layout.is_in g (place.Hold c)
 spot_in g (Latch c) = layout.is_in g (place.Latch c)
 spot_in g (Home c) = layout.is_in g (place.Home c)
@@ -53,6 +54,7 @@ in_from_place g class a (place.Body s p i) e = block_in g (class s p) a i
 in_from_place g class a place.Spare e = refl
 in_from_place g class a (place.Status c) e = e
 in_from_place g class a (place.Redo c) e = e
+in_from_place g class a (place.RedoMore c) e = e
 in_from_place g class a (place.Hold c) e = e
 in_from_place g class a (place.Latch c) e = e
 in_from_place g class a (place.Home c) e = e

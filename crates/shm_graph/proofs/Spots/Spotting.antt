@@ -11,7 +11,7 @@ use Rattle.shm_words.specs.Layout.{total_of, bodies, place_at}
 use Rattle.shm_words.specs.Classes.{IsClass}
 use Rattle.shm_words.proofs.Placing.{address-place}
 use Rattle.shm_graph.specs.declared.spot.Spot.{Spot}
-use Rattle.shm_graph.specs.declared.spot.Spot.TheVariants.{Spare, Status, Redo, Hold, Latch, Home, Era, Root, Tail, QueueHead, Slot, Segment, Page, Unused, Head, Tag, Body}
+use Rattle.shm_graph.specs.declared.spot.Spot.TheVariants.{Spare, Status, Redo, RedoMore, Hold, Latch, Home, Era, Root, Tail, QueueHead, Slot, Segment, Page, Unused, Head, Tag, Body}
 use Rattle.shm_graph.specs.Spots.{is_in_body, same_spot, block_spot, spot_of, spot_at, spot_address, IsAt, class_at}
 use Rattle.shm_graph.specs.Blocks.{IsBlock}
 
@@ -21,6 +21,7 @@ pub same_spot_self : (p : Spot) → same_spot p p ≡ true
 same_spot_self Spare = refl
 same_spot_self (Status c) = eq-eqb c c refl
 same_spot_self (Redo c) = eq-eqb c c refl
+same_spot_self (RedoMore c) = eq-eqb c c refl
 same_spot_self (Hold c) = eq-eqb c c refl
 same_spot_self (Latch c) = eq-eqb c c refl
 same_spot_self (Home c) = eq-eqb c c refl
@@ -45,6 +46,7 @@ pub same_spot_is : (p q : Spot) → same_spot p q ≡ true → p ≡ q
 same_spot_is Spare Spare e = refl
 same_spot_is (Status c) (Status d) e = ap Status (eqb-true c d e)
 same_spot_is (Redo c) (Redo d) e = ap Redo (eqb-true c d e)
+same_spot_is (RedoMore c) (RedoMore d) e = ap RedoMore (eqb-true c d e)
 same_spot_is (Hold c) (Hold d) e = ap Hold (eqb-true c d e)
 same_spot_is (Latch c) (Latch d) e = ap Latch (eqb-true c d e)
 same_spot_is (Home c) (Home d) e = ap Home (eqb-true c d e)
@@ -109,6 +111,7 @@ unfolding spot_address
 fixed_address g class a place.Spare n = refl
 fixed_address g class a (place.Status c) n = refl
 fixed_address g class a (place.Redo c) n = refl
+fixed_address g class a (place.RedoMore c) n = refl
 fixed_address g class a (place.Hold c) n = refl
 fixed_address g class a (place.Latch c) n = refl
 fixed_address g class a (place.Home c) n = refl
@@ -156,7 +159,7 @@ alone g class a p e n = ap (spot_address g) (sym e) ∙ address-spot g class a (
 pub spot_there : (g : Geometry) (class : ℕ → ℕ → ℕ) (a : ℕ) (p : Spot) → spot_at g class a ≡ p → p ≢ Spare → IsAt g class p
 spot_there g class a p e n = ap (spot_at g class) (alone g class a p e n) ∙ e
 
-spot_zero : (g : Geometry) (class : ℕ → ℕ → ℕ) → spot_at g class 0 ≡ Spare
+pub spot_zero : (g : Geometry) (class : ℕ → ℕ → ℕ) → spot_at g class 0 ≡ Spare
 unfolding spot_at place_at
 spot_zero g class = refl
 

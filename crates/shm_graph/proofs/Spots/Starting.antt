@@ -8,7 +8,7 @@ use Rattle.shm_words.specs.declared.place.Place.{Place}
 use Rattle.shm_words.specs.declared.place.Place.TheVariants as place
 use Rattle.shm_words.specs.Layout.{GeometryFits, total_of, place_at}
 use Rattle.shm_graph.specs.declared.spot.Spot.{Spot}
-use Rattle.shm_graph.specs.declared.spot.Spot.TheVariants.{Spare, Status, Redo, Hold, Latch, Home, Era, Root, Tail, QueueHead, Slot, Segment, Page, Unused, Head, Tag, Body}
+use Rattle.shm_graph.specs.declared.spot.Spot.TheVariants.{Spare, Status, Redo, RedoMore, Hold, Latch, Home, Era, Root, Tail, QueueHead, Slot, Segment, Page, Unused, Head, Tag, Body}
 use Rattle.shm_graph.specs.Runs.{first_word}
 use Rattle.shm_graph.specs.Spots.{spot_of, spot_at, spot_address, IsAt, classes_in, see, is_in_body}
 use Rattle.shm_graph.proofs.Spots.Spotting.{at_below}
@@ -69,6 +69,7 @@ pub see_first : (g : Geometry) (ws : List ℕ) (era : ℕ) (p : Spot) → Geomet
 see_first g ws era Spare f h = see_plain g ws era Spare h refl refl
 see_first g ws era (Status c) f h = see_plain g ws era (Status c) h refl refl
 see_first g ws era (Redo c) f h = see_plain g ws era (Redo c) h refl refl
+see_first g ws era (RedoMore c) f h = see_plain g ws era (RedoMore c) h refl refl
 see_first g ws era (Hold c) f h = see_plain g ws era (Hold c) h refl refl
 see_first g ws era (Latch c) f h = see_plain g ws era (Latch c) h refl refl
 see_first g ws era (Home c) f h = see_plain g ws era (Home c) h refl refl

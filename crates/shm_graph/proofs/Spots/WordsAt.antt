@@ -37,17 +37,17 @@ pub block_tag : (g : Geometry) (ws : List ℕ) (b : ℕ) → spot_at g (classes_
 block_tag g ws b t = see_at g ws (b + 1) (Tag b) (is_below g (classes_in g ws) (b + 1) (Tag b) t (λ z. cc)) t
 
 -- a block that isn't live has no references
-pub refs_dead : (g : Geometry) (ws : List ℕ) (b : ℕ) → IsBlock g (classes_in g ws) b → (header_of (get_or ws b 0)).live ≡ false → (words_of (see g ws)).refs b ≡ 0
-refs_dead g ws b is dead = cond-false (header_of (see g ws (Head b))).live (tag_refs (see g ws (Tag b))) 0 (ap (λ w. (header_of w).live) (block_header g ws b is) ∙ dead)
+pub refs_dead : (g : Geometry) (ws : List ℕ) (b : ℕ) → IsBlock g (classes_in g ws) b → (header_of (get_or ws b 0)).live ≡ false → (words_of g.wide (see g ws)).refs b ≡ 0
+refs_dead g ws b is dead = cond-false (header_of (see g ws (Head b))).live (tag_refs g.wide (see g ws (Tag b))) 0 (ap (λ w. (header_of w).live) (block_header g ws b is) ∙ dead)
 
 -- the reference words
-pub body_reference : (g : Geometry) (ws : List ℕ) (a b i n : ℕ) → spot_at g (classes_in g ws) a ≡ Body b i → (words_of (see g ws)).refs b ≡ n → i < n → references (see g ws) (Body b i) ≡ get_or ws a 0
+pub body_reference : (g : Geometry) (ws : List ℕ) (a b i n : ℕ) → spot_at g (classes_in g ws) a ≡ Body b i → (words_of g.wide (see g ws)).refs b ≡ n → i < n → references g.wide (see g ws) (Body b i) ≡ get_or ws a 0
 body_reference g ws a b i n e r l =
     let below = (body_block g (classes_in g ws) a b i e).3 in
-    cond-true (ltb i ((words_of (see g ws)).refs b)) (see g ws (Body b i)) 0 (ap (ltb i) r ∙ lt-ltb i n l) ∙ see_at g ws a (Body b i) below e
+    cond-true (ltb i ((words_of g.wide (see g ws)).refs b)) (see g ws (Body b i)) 0 (ap (ltb i) r ∙ lt-ltb i n l) ∙ see_at g ws a (Body b i) below e
 
-pub body_plain : (g : Geometry) (ws : List ℕ) (b i n : ℕ) → (words_of (see g ws)).refs b ≡ n → n ≤ i → references (see g ws) (Body b i) ≡ 0
-body_plain g ws b i n r l = cond-false (ltb i ((words_of (see g ws)).refs b)) (see g ws (Body b i)) 0 (ap (ltb i) r ∙ le-ltb i n l)
+pub body_plain : (g : Geometry) (ws : List ℕ) (b i n : ℕ) → (words_of g.wide (see g ws)).refs b ≡ n → n ≤ i → references g.wide (see g ws) (Body b i) ≡ 0
+body_plain g ws b i n r l = cond-false (ltb i ((words_of g.wide (see g ws)).refs b)) (see g ws (Body b i)) 0 (ap (ltb i) r ∙ le-ltb i n l)
 
 pub other_reference : (x : Words) (p : Spot) → ((c : ℕ) → p ≡ Home c → ⊥) → ((c k : ℕ) → p ≡ Root c k → ⊥) → ((s r k : ℕ) → p ≡ Slot s r k → ⊥) → ((b i : ℕ) → p ≡ Body b i → ⊥) → reference x p ≡ 0
 other_reference x (Home c) h r s b = absurd (h c refl)

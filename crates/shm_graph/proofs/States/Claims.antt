@@ -32,8 +32,8 @@ all_both P Q xs h i = λ k d lt. (h k d lt, i k d lt)
 pub record ClaimSound (g : Geometry) (w : Spot → ℕ) (v : View) (c : ℕ) (k : Claim) : Type 0 where
   pub live : IsLive (headers w) k.block
   pub holds : Contains (v.dying c) k.block ⊎ InReach w g v c k.block
-  pub shape : k.refs + k.plain ≢ 0 → (tag_refs (w (Tag k.block)) ≡ k.refs) × (tag_plain (w (Tag k.block)) ≡ k.plain)
-  pub author : (a : ℕ) → k.author ≡ Some a → tag_author (w (Tag k.block)) ≡ a
+  pub shape : k.refs + k.plain ≢ 0 → (tag_refs g.wide (w (Tag k.block)) ≡ k.refs) × (tag_plain g.wide (w (Tag k.block)) ≡ k.plain)
+  pub author : (a : ℕ) → k.author ≡ Some a → tag_author g.wide (w (Tag k.block)) ≡ a
 
 -- without a latch nothing was read under one
 no_looks : (home : ℕ → ℕ) (body : ℕ → ℕ → ℕ) (author : ℕ → ℕ) (named : ℕ → Type 0) (earlier ks : List Look) → LooksSound home body author None named earlier ks → ks ≡ []
@@ -68,22 +68,22 @@ module _ (g : Geometry) (w : Spot → ℕ) (r : ℕ → Memo) (h : HeldAt g w (v
   -- ---- tags
 
   -- a known tag
-  tag_sound : (p : Spot) (x : ℕ) → KnownHolds g w (view r) c (record { spot = p; value = x }) → All Sound (tag_claim p x)
+  tag_sound : (p : Spot) (x : ℕ) → KnownHolds g w (view r) c (record { spot = p; value = x }) → All Sound (tag_claim g.wide p x)
   tag_sound (Tag b) x a =
-      All-cons Sound (record { block = b; refs = tag_refs x; plain = tag_plain x; author = Some (tag_author x) }) []
+      All-cons Sound (record { block = b; refs = tag_refs g.wide x; plain = tag_plain g.wide x; author = Some (tag_author g.wide x) }) []
       (record {
         live = near_live b a.1;
         holds = a.1;
-        shape = λ _. (ap tag_refs a.0, ap tag_plain a.0);
-        author = λ d e. let q : tag_author x ≡ d = cc in ap tag_author a.0 ∙ q;
+        shape = λ _. (ap (tag_refs g.wide) a.0, ap (tag_plain g.wide) a.0);
+        author = λ d e. let q : tag_author g.wide x ≡ d = cc in ap (tag_author g.wide) a.0 ∙ q;
       })
       (All-nil Sound)
   tag_sound p x a = All-nil Sound
 
-  tags_sound : (ks : List Stored) → All (KnownHolds g w (view r) c) ks → All Sound (tag_claims ks)
+  tags_sound : (ks : List Stored) → All (KnownHolds g w (view r) c) ks → All Sound (tag_claims g.wide ks)
   tags_sound [] a = All-nil Sound
   tags_sound (s ∷ ks) a =
-      All-append Sound (tag_claim s.spot s.value) (tag_claims ks)
+      All-append Sound (tag_claim g.wide s.spot s.value) (tag_claims g.wide ks)
       (tag_sound s.spot s.value (All-head (KnownHolds g w (view r) c) s ks a))
       (tags_sound ks (All-tail (KnownHolds g w (view r) c) s ks a))
 
@@ -91,7 +91,7 @@ module _ (g : Geometry) (w : Spot → ℕ) (r : ℕ → Memo) (h : HeldAt g w (v
 
   -- what the table is read from, the homes, and the roles of blocks in a's partition
   abbrev Here : Contents
-  Here = contents_of w (targets g w (view r))
+  Here = contents_of g.wide w (targets g w (view r))
 
   abbrev home : ℕ → ℕ
   home a = targets g w (view r) (Home a)
@@ -101,10 +101,10 @@ module _ (g : Geometry) (w : Spot → ℕ) (r : ℕ → Memo) (h : HeldAt g w (v
 
   -- the looks, under this latch
   abbrev LooksUnder : Option ℕ → Type 0
-  LooksUnder o = LooksSound home (λ b i. targets g w (view r) (Body b i)) (λ b. tag_author (w (Tag b))) o (named_by (targets g w (view r)) (λ s i. w (Tail s i)) (λ s i. w (QueueHead s i)) c) [] (r c).looks
+  LooksUnder o = LooksSound home (λ b i. targets g w (view r) (Body b i)) (λ b. tag_author g.wide (w (Tag b))) o (named_by (targets g w (view r)) (λ s i. w (Tail s i)) (λ s i. w (QueueHead s i)) c) [] (r c).looks
 
   -- a block of a known shape, one of which nothing is known, and a value block
-  shape_sound : (b refs plain : ℕ) (author : Option ℕ) → HasShape Here refs plain b → Near b → ((a : ℕ) → author ≡ Some a → tag_author (w (Tag b)) ≡ a) → Sound (record { block = b; refs = refs; plain = plain; author = author })
+  shape_sound : (b refs plain : ℕ) (author : Option ℕ) → HasShape Here refs plain b → Near b → ((a : ℕ) → author ≡ Some a → tag_author g.wide (w (Tag b)) ≡ a) → Sound (record { block = b; refs = refs; plain = plain; author = author })
   shape_sound b refs plain author s n a = record { live = s.live; holds = inr n; shape = λ _. (s.names, s.words); author = a }
 
   bare_sound : (b : ℕ) → Contains (r c).dying b ⊎ Near b → Sound (bare b)
@@ -116,10 +116,10 @@ module _ (g : Geometry) (w : Spot → ℕ) (r : ℕ → Memo) (h : HeldAt g w (v
   -- ---- roles
 
   -- the directory of a partition has 16 references and is its author's
-  pub directory_shape : (a b : ℕ) (chains : ℕ → List AnEntry) → IsPartition Here a (home a) chains → InRole a Directory b → b ≢ 0 → HasShape Here 16 0 b × (tag_author (w (Tag b)) ≡ a)
+  pub directory_shape : (a b : ℕ) (chains : ℕ → List AnEntry) → IsPartition Here a (home a) chains → InRole a Directory b → b ≢ 0 → HasShape Here 16 0 b × (tag_author g.wide (w (Tag b)) ≡ a)
   directory_shape a b chains part p n =
       let some : home a ≢ 0 = (λ z. n (sym p ∙ z)) in
-      (subst (HasShape Here 16 0) p (part.shape some), ap (λ j. tag_author (w (Tag j))) (sym p) ∙ part.author some)
+      (subst (HasShape Here 16 0) p (part.shape some), ap (λ j. tag_author g.wide (w (Tag j))) (sym p) ∙ part.author some)
 
   -- a block in a role has the shape that its role tells
   role_sound : (a : ℕ) (chains : ℕ → List AnEntry) → IsPartition Here a (home a) chains → (role : Role) (b : ℕ) → InRole a role b → Near b → Sound (shaped (Some a) b role)
@@ -148,7 +148,7 @@ module _ (g : Geometry) (w : Spot → ℕ) (r : ℕ → Memo) (h : HeldAt g w (v
   pub played_here : (a : ℕ) → (r c).latch ≡ Some a → is_loose (r c).part ≡ false → All (IsPlayed Here a (home a)) (roles_from [] (r c).looks)
   played_here a e table =
       let q = part_here a e table in
-      roles_play g w (view r) h a q.0 q.1 (λ b. tag_author (w (Tag b))) (named_by (targets g w (view r)) (λ s i. w (Tail s i)) (λ s i. w (QueueHead s i)) c) [] [] (r c).looks (All-nil _) (looks_under (Some a) e)
+      roles_play g w (view r) h a q.0 q.1 (λ b. tag_author g.wide (w (Tag b))) (named_by (targets g w (view r)) (λ s i. w (Tail s i)) (λ s i. w (QueueHead s i)) c) [] [] (r c).looks (All-nil _) (looks_under (Some a) e)
 
   -- the role that a block was read in is its role
   pub role_here : (a : ℕ) → (r c).latch ≡ Some a → (b : ℕ) → InRole a (role_in (roles (r c)) b) b
@@ -166,7 +166,7 @@ module _ (g : Geometry) (w : Spot → ℕ) (r : ℕ → Memo) (h : HeldAt g w (v
   table_sound : (o : Option ℕ) → (r c).latch ≡ o → is_loose (r c).part ≡ false → All Sound (map (role_claim o) (roles_from [] (r c).looks))
   table_sound None e table =
       subst (λ ks. All Sound (map (role_claim None) (roles_from [] ks)))
-      (sym (no_looks home (λ b i. targets g w (view r) (Body b i)) (λ b. tag_author (w (Tag b))) (named_by (targets g w (view r)) (λ s i. w (Tail s i)) (λ s i. w (QueueHead s i)) c) [] (r c).looks (looks_under None e)))
+      (sym (no_looks home (λ b i. targets g w (view r) (Body b i)) (λ b. tag_author g.wide (w (Tag b))) (named_by (targets g w (view r)) (λ s i. w (Tail s i)) (λ s i. w (QueueHead s i)) c) [] (r c).looks (looks_under None e)))
       (All-nil Sound)
   table_sound (Some a) e table =
       let q = part_here a e table in
@@ -179,10 +179,10 @@ module _ (g : Geometry) (w : Spot → ℕ) (r : ℕ → Memo) (h : HeldAt g w (v
   -- ---- all
 
   -- the parts of what is told
-  tags_and_roles : All Sound (tag_claims (r c).known ++ map (role_claim (r c).latch) (roles (r c)))
+  tags_and_roles : All Sound (tag_claims g.wide (r c).known ++ map (role_claim (r c).latch) (roles (r c)))
   tags_and_roles =
       let m : Memo = r c in
-      All-append Sound (tag_claims m.known) (map (role_claim m.latch) (roles m)) (tags_sound m.known (h.known c l))
+      All-append Sound (tag_claims g.wide m.known) (map (role_claim m.latch) (roles m)) (tags_sound m.known (h.known c l))
       (choice (λ ps. All Sound (map (role_claim m.latch) ps)) (is_loose m.part) [] (roles_from [] m.looks) (λ e. All-nil Sound) (table_sound m.latch refl))
 
   values_sound : All Sound (map (λ b. shaped None b Value) (r c).values)
@@ -197,9 +197,9 @@ module _ (g : Geometry) (w : Spot → ℕ) (r : ℕ → Memo) (h : HeldAt g w (v
       (All-weaker (Contains m.dying) (λ b. Sound (bare b)) (λ b x. bare_sound b (inl x)) m.dying (All-contains_itself m.dying)))
 
   -- all that the memo tells of blocks is so
-  pub claims_sound : All Sound (claims c (r c))
+  pub claims_sound : All Sound (claims g.wide c (r c))
   claims_sound =
       let m : Memo = r c in
-      let tags = tag_claims m.known ++ map (role_claim m.latch) (roles m) in
+      let tags = tag_claims g.wide m.known ++ map (role_claim m.latch) (roles m) in
       All-append Sound (tags ++ map (λ b. shaped None b Value) m.values) (map bare (reached_blocks c m ++ m.dying))
       (All-append Sound tags (map (λ b. shaped None b Value) m.values) tags_and_roles values_sound) blocks_sound

@@ -32,14 +32,14 @@ above : (n m : ℕ) → 0 < n → n ≡ m → 0 < m
 above n m l e = omega arith
 
 module _ (g : Geometry) (w : Spot → ℕ) (h : IsClean g w) where
-  pub clean_named : (b : ℕ) → IsLive (headers w) b → (a : ℕ) × (a < total_of g) × (references w (spot_at g (classes w) a) ≡ b)
-  clean_named b l = let x = h.counts b l in named_where g (classes w) (references w) b (above (headers w b).count (references_to g (classes w) (references w) b) x.0 x.1)
+  pub clean_named : (b : ℕ) → IsLive (headers w) b → (a : ℕ) × (a < total_of g) × (references g.wide w (spot_at g (classes w) a) ≡ b)
+  clean_named b l = let x = h.counts b l in named_where g (classes w) (references g.wide w) b (above (headers w b).count (references_to g (classes w) (references g.wide w) b) x.0 x.1)
 
-  pub clean_empty : ((b : ℕ) → w (Head b) ≡ 0) → (p : Spot) → references w p ≡ 0
+  pub clean_empty : ((b : ℕ) → w (Head b) ≡ 0) → (p : Spot) → references g.wide w p ≡ 0
   clean_empty free p =
-      elim (cases_eq (references w p) 0) [
+      elim (cases_eq (references g.wide w p) 0) [
         | inl z ↦ z
-        | inr n ↦ absurd (live_not_zero (w (Head (references w p))) (h.targets p n) (free (references w p)))
+        | inr n ↦ absurd (live_not_zero (w (Head (references g.wide w p))) (h.targets p n) (free (references g.wide w p)))
       ]
 
   pub clean_headers : (b : ℕ) → w (Head b) ≢ 0 → IsLive (headers w) b × ((headers w b).client < g.clients)
@@ -95,21 +95,21 @@ module _ (g : Geometry) (ws : List ℕ) (f : GeometryFits g) (h : IsClean g (see
   nothing_at_zero true e = absurd (let k = (clean_within 0 e).0 in omega arith)
   nothing_at_zero false e = refl
 
-  row_sum : (p : Spot) → sum_below (total_of g) (hit (see g ws) (references (see g ws) p)) ≡ cond (references (see g ws) p == 0) 0 1
-  row_sum p = one_block (see g ws) (total_of g) (references (see g ws) p) (λ n. let l = h.targets p n in (l, (clean_within (references (see g ws) p) l).1)) (nothing_at_zero (headers (see g ws) 0).live refl)
+  row_sum : (p : Spot) → sum_below (total_of g) (hit (see g ws) (references g.wide (see g ws) p)) ≡ cond (references g.wide (see g ws) p == 0) 0 1
+  row_sum p = one_block (see g ws) (total_of g) (references g.wide (see g ws) p) (λ n. let l = h.targets p n in (l, (clean_within (references g.wide (see g ws) p) l).1)) (nothing_at_zero (headers (see g ws) 0).live refl)
 
-  block_sum : (b : ℕ) → sum_below (total_of g) (λ a. hit (see g ws) (references (see g ws) (spot_at g (classes (see g ws)) a)) b) ≡ count_here (see g ws) b
+  block_sum : (b : ℕ) → sum_below (total_of g) (λ a. hit (see g ws) (references g.wide (see g ws) (spot_at g (classes (see g ws)) a)) b) ≡ count_here (see g ws) b
   unfolding references_to
   block_sum b =
-      column (total_of g) (headers (see g ws) b).live (λ a. one_if (references (see g ws) (spot_at g (classes (see g ws)) a) == b))
+      column (total_of g) (headers (see g ws) b).live (λ a. one_if (references g.wide (see g ws) (spot_at g (classes (see g ws)) a) == b))
       ∙ elim (cases_Bool (headers (see g ws) b).live) [
         | inl l ↦ ap (λ y. cond (headers (see g ws) b).live y 0) (sym (h.counts b l).1)
         | inr d ↦ cond-false (headers (see g ws) b).live _ 0 d ∙ sym (cond-false (headers (see g ws) b).live (headers (see g ws) b).count 0 d)
       ]
 
-  pub clean_sum : references_in_all g (classes (see g ws)) (references (see g ws)) ≡ sum_below (total_of g) (λ b. cond (headers (see g ws) b).live (headers (see g ws) b).count 0)
+  pub clean_sum : references_in_all g (classes (see g ws)) (references g.wide (see g ws)) ≡ sum_below (total_of g) (λ b. cond (headers (see g ws) b).live (headers (see g ws) b).count 0)
   unfolding references_in_all
   clean_sum =
-      sum_each (total_of g) (λ a. cond (references (see g ws) (spot_at g (classes (see g ws)) a) == 0) 0 1) (λ a. sum_below (total_of g) (hit (see g ws) (references (see g ws) (spot_at g (classes (see g ws)) a)))) (λ a l. sym (row_sum (spot_at g (classes (see g ws)) a)))
-      ∙ (sum_swap (total_of g) (total_of g) (λ a b. hit (see g ws) (references (see g ws) (spot_at g (classes (see g ws)) a)) b)
+      sum_each (total_of g) (λ a. cond (references g.wide (see g ws) (spot_at g (classes (see g ws)) a) == 0) 0 1) (λ a. sum_below (total_of g) (hit (see g ws) (references g.wide (see g ws) (spot_at g (classes (see g ws)) a)))) (λ a l. sym (row_sum (spot_at g (classes (see g ws)) a)))
+      ∙ (sum_swap (total_of g) (total_of g) (λ a b. hit (see g ws) (references g.wide (see g ws) (spot_at g (classes (see g ws)) a)) b)
       ∙ sum_each (total_of g) _ (count_here (see g ws)) (λ b l. block_sum b))

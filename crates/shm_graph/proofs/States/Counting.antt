@@ -4,7 +4,7 @@ use Rattle.std.proofs.lemmas.Bool.{cases_eq, cases_Bool, eq-eqb}
 use Rattle.shm_words.specs.declared.geometry.Geometry.{Geometry}
 use Rattle.shm_words.specs.Layout.{total_of}
 use Rattle.shm_graph.specs.declared.spot.Spot.{Spot}
-use Rattle.shm_graph.specs.declared.spot.Spot.TheVariants.{Spare, Redo, Home, Era, Root, Slot, Page, Body}
+use Rattle.shm_graph.specs.declared.spot.Spot.TheVariants.{Spare, Redo, RedoMore, Home, Era, Root, Slot, Page, Body}
 use Rattle.shm_graph.specs.declared.memo.First.{First}
 use Rattle.shm_graph.specs.declared.memo.First.TheVariants.{Begun, Committed, Written}
 use Rattle.shm_graph.specs.declared.memo.ChangeStage.TheVariants.{Raising, Lowering}
@@ -69,34 +69,34 @@ covered_by (suc n) p x ops h =
 -- ---- places
 
 -- the slot of a step is in the pool
-pub op_at : (g : Geometry) (class : ℕ → ℕ → ℕ) (redo own : ℕ) (x : Words) (o : Op) → is_op o ≡ true → OpTie g class redo own x o → IsAt g class (slot_of o)
-op_at g class redo own x Nothing i h = cc
-op_at g class redo own x (Alloc s p b e) i h = h.at
-op_at g class redo own x (Up s p b e) i h = h.at
-op_at g class redo own x (Down s p b e) i h = h.at
-op_at g class redo own x (Change (Raising s) p a b e) i h = h.at
-op_at g class redo own x (Change (Lowering s) p a b e) i h = h.at
+pub op_at : (g : Geometry) (class : ℕ → ℕ → ℕ) (redo more own : ℕ) (x : Words) (o : Op) → is_op o ≡ true → OpTie g class redo more own x o → IsAt g class (slot_of o)
+op_at g class redo more own x Nothing i h = cc
+op_at g class redo more own x (Alloc s p b e) i h = h.at
+op_at g class redo more own x (Up s p b e) i h = h.at
+op_at g class redo more own x (Down s p b e) i h = h.at
+op_at g class redo more own x (Change (Raising s) p a b e) i h = h.at
+op_at g class redo more own x (Change (Lowering s) p a b e) i h = h.at
 
 -- a word that names a block is in the pool
-pub has_place : (g : Geometry) (w : Spot → ℕ) (ops : ℕ → Op) → ((p : Spot) → w p ≢ 0 → IsAt g (λ s q. w (Page s q)) p) → ((c : ℕ) → c < g.clients → OpTie g (λ s q. w (Page s q)) (w (Redo c)) (w (Era c c)) (words_of w) (ops c)) → (p : Spot) → target g.clients (words_of w) (λ c. cover_of (ops c)) p ≢ 0 → IsAt g (λ s q. w (Page s q)) p
+pub has_place : (g : Geometry) (w : Spot → ℕ) (ops : ℕ → Op) → ((p : Spot) → w p ≢ 0 → IsAt g (λ s q. w (Page s q)) p) → ((c : ℕ) → c < g.clients → OpTie g (λ s q. w (Page s q)) (w (Redo c)) (w (RedoMore c)) (w (Era c c)) (words_of g.wide w) (ops c)) → (p : Spot) → target g.clients (words_of g.wide w) (λ c. cover_of (ops c)) p ≢ 0 → IsAt g (λ s q. w (Page s q)) p
 has_place g w ops there op p h = go p h
   where
     word : (p : Spot) → covered (λ c. cover_of (ops c)) g.clients p (w p) ≢ 0 → IsAt g (λ s q. w (Page s q)) p
     word p h =
         elim (cases_eq (w p) 0) [
           | inr n ↦ there p n
-          | inl e ↦ (let r = covered_by g.clients p (w p) ops (λ z. h (z ∙ e)) in subst (IsAt g (λ s q. w (Page s q))) r.3 (op_at g _ _ _ (words_of w) (ops r.0) r.2 (op r.0 r.1)))
+          | inl e ↦ (let r = covered_by g.clients p (w p) ops (λ z. h (z ∙ e)) in subst (IsAt g (λ s q. w (Page s q))) r.3 (op_at g _ _ _ _ (words_of g.wide w) (ops r.0) r.2 (op r.0 r.1)))
         ]
 
     body : (b i : ℕ) (t : Bool) → cond t (covered (λ c. cover_of (ops c)) g.clients (Body b i) (w (Body b i))) 0 ≢ 0 → IsAt g (λ s q. w (Page s q)) (Body b i)
     body b i true h = word (Body b i) h
     body b i false h = absurd (h refl)
 
-    go : (p : Spot) → target g.clients (words_of w) (λ c. cover_of (ops c)) p ≢ 0 → IsAt g (λ s q. w (Page s q)) p
+    go : (p : Spot) → target g.clients (words_of g.wide w) (λ c. cover_of (ops c)) p ≢ 0 → IsAt g (λ s q. w (Page s q)) p
     go (Home c) h = word (Home c) h
     go (Root c k) h = word (Root c k) h
     go (Slot s r k) h = word (Slot s r k) h
-    go (Body b i) h = body b i (ltb i ((words_of w).refs b)) h
+    go (Body b i) h = body b i (ltb i ((words_of g.wide w).refs b)) h
     go _ h = absurd (h refl)
 
 pub target_not_spare : (n : ℕ) (x : Words) (ps : ℕ → Cover) (p : Spot) → target n x ps p ≢ 0 → p ≢ Spare

@@ -1,5 +1,5 @@
 -- the first state of a pool holds
-use Rattle.std.proofs.Common.{◌≡◌, ◌≢◌, ℕ, zero, suc, ◌+◌, ◌%◌, ◌^◌, ◌<◌, ◌≤◌, refl, sym, ap, ◌∙◌, arith, true, false, Bool, cond, eqb, ltb, lt-ltb, le-ltb, eq-eqb, eqb-true, subst, ◌&&◌, List, [], ◌∷◌, lit<, Some, length, get_or, replicate, map, inl, inr}
+use Rattle.std.proofs.Common.{◌≡◌, ◌≢◌, ℕ, zero, suc, ◌+◌, ◌%◌, ◌^◌, ◌<◌, ◌≤◌, refl, sym, ap, ◌∙◌, arith, true, false, Bool, cond, eqb, ltb, lt-ltb, le-ltb, eq-eqb, eqb-true, subst, ◌&&◌, List, [], ◌∷◌, lit<, length, get_or, replicate, map, inl, inr}
 use Rattle.std.specs.Prelude.{nat_eq}
 use Rattle.std.specs.List.{All, Contains, IsDistinct}
 use Rattle.std.proofs.Math.Path.{fun_ext}
@@ -7,13 +7,11 @@ use Rattle.std.proofs.lemmas.List.{get_or-replicate, get_or_past, length-replica
 use Rattle.std.proofs.lemmas.List.Elements.{All-nil}
 use Rattle.std.proofs.lemmas.Bool.{true≢false, ne_eqb, and_parts, and_from, cases_lt}
 use Rattle.shm_words.specs.declared.geometry.Geometry.{Geometry}
-use Rattle.shm_words.specs.declared.redo.Redo.TheVariants as redos
-use Rattle.shm_words.specs.Redos.{redo_of}
 use Rattle.shm_words.specs.Headers.{header_of}
 use Rattle.shm_words.specs.Layout.{GeometryFits, total_of, place_at}
-use Rattle.shm_words.proofs.Words.{header_of_zero}
+use Rattle.shm_words.proofs.Words.{header_of_zero, redo_zero}
 use Rattle.shm_graph.specs.declared.spot.Spot.{Spot}
-use Rattle.shm_graph.specs.declared.spot.Spot.TheVariants.{Spare, Status, Redo, Hold, Latch, Home, Era, Root, Tail, QueueHead, Slot, Segment, Page, Unused, Head, Tag, Body}
+use Rattle.shm_graph.specs.declared.spot.Spot.TheVariants.{Spare, Status, Redo, RedoMore, Hold, Latch, Home, Era, Root, Tail, QueueHead, Slot, Segment, Page, Unused, Head, Tag, Body}
 use Rattle.shm_graph.specs.declared.memo.Memo.{Memo}
 use Rattle.shm_graph.specs.declared.table.Entry.{Entry}
 use Rattle.shm_graph.specs.declared.run.Start.{Start}
@@ -25,9 +23,9 @@ use Rattle.shm_graph.specs.Ops.Cover.{Quiet}
 use Rattle.shm_graph.specs.References.{words_of}
 use Rattle.shm_graph.specs.Tables.{Contents, IsPartition}
 use Rattle.shm_graph.specs.Views.{view, targets, own_word, owner_is}
-use Rattle.shm_graph.specs.Held.{HeldAt, Names, PartTie, LaneSound}
+use Rattle.shm_graph.specs.Held.{HeldAt, FirstNames, PartTie, LaneSound}
 use Rattle.shm_graph.specs.Runs as runs
-use Rattle.shm_graph.specs.Runs.{Held, EraFits, first_word, first_part, first_memo, first_account, accounts_from, account_at, memos_of, words_from}
+use Rattle.shm_graph.specs.Runs.{Held, EraFits, first_word, first_part, first_memo, first_account, accounts_from, memos_of, words_from}
 use Rattle.shm_graph.proofs.Spots.Fixed.{fixed_is_at}
 use Rattle.shm_graph.proofs.Spots.Starting.{first_words, IsFirst, see-first}
 
@@ -62,7 +60,7 @@ at-accounts_from s c (suc n) (suc i) d l = let e : suc c + i ≡ c + suc i = ome
 
 -- what the pool of no clients is made of, from which the memos beyond the clients come
 abbrev nowhere : Start
-nowhere = record { geometry = record { clients = 0; segments = 0 }; first_era = 0; tables = false }
+nowhere = record { geometry = record { clients = 0; segments = 0; wide = false }; first_era = 0; tables = false }
 
 -- the memos that identities begin with, and one of nobody beyond the clients
 abbrev pub start_memos : Start → ℕ → Memo
@@ -92,7 +90,7 @@ no_target : (s : Start) (p : Spot) → targets s.geometry (first_words s.geometr
 no_target s (Home c) = covered_quiet s.geometry.clients 0 (Home c)
 no_target s (Root c k) = covered_quiet s.geometry.clients 0 (Root c k)
 no_target s (Slot i r k) = covered_quiet s.geometry.clients 0 (Slot i r k)
-no_target s (Body b i) = either (ltb i ((words_of (first_words s.geometry s.first_era)).refs b))
+no_target s (Body b i) = either (ltb i ((words_of s.geometry.wide (first_words s.geometry s.first_era)).refs b))
   where
     either : (t : Bool) → cond t (covered (λ c. Quiet) s.geometry.clients (Body b i) 0) 0 ≡ 0
     either true = covered_quiet s.geometry.clients 0 (Body b i)
@@ -100,6 +98,7 @@ no_target s (Body b i) = either (ltb i ((words_of (first_words s.geometry s.firs
 no_target s Spare = refl
 no_target s (Status c) = refl
 no_target s (Redo c) = refl
+no_target s (RedoMore c) = refl
 no_target s (Hold c) = refl
 no_target s (Latch c) = refl
 no_target s (Era i j) = refl
@@ -110,10 +109,6 @@ no_target s (Page i q) = refl
 no_target s (Unused a) = refl
 no_target s (Head b) = refl
 no_target s (Tag b) = refl
-
-idle_zero : redo_of 0 ≡ Some redos.Idle
-unfolding redo_of
-idle_zero = refl
 
 dead : (header_of 0).live ≡ true → ⊥
 dead l = true≢false (sym l ∙ header_of_zero)
@@ -174,6 +169,7 @@ own_first g era c l (Era i j) o =
     both true = refl
     both false = refl
 own_first g era c l (Redo d) o = refl
+own_first g era c l (RedoMore d) o = refl
 own_first g era c l (Hold d) o = refl
 own_first g era c l (Home d) o = refl
 own_first g era c l (Root d k) o = refl
@@ -216,8 +212,8 @@ start_held s fits begins =
         shown = λ c b l e. cc;
       };
       own = λ c l. record { some = rw (own_era c l) (begins.0); room = rw (own_era c l) (omega arith) };
-      op = λ c l parity p a b e. (let q : Some redos.Idle ≡ Some (redos.Change parity p a b) = sym idle_zero ∙ e in cc);
-      redo = λ c l r e. (let q : Some redos.Idle ≡ Some r = sym idle_zero ∙ e in let x : redos.Idle ≡ r = cc in subst (Names g (λ i q. 0)) x tt);
+      op = λ c l k. absurd (omega arith);
+      redo = λ c l. record { second = inl refl; first = λ x r e. subst (FirstNames g (λ i q. 0)) (sym (redo_zero g.wide x r e)) tt };
       allowed = λ c l. tt;
       count = record { counts = λ b x. absurd (dead x); targets = λ p n. absurd (n (no_target s p)); held_overs = λ c l n. absurd (n refl) };
       slots = λ c l is. cc;

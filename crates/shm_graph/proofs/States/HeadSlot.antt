@@ -94,4 +94,4 @@ module _ (g : Geometry) (w : Spot → ℕ) (v : View) (h : HeldAt g w v) (c s k 
 
   -- in a pool for tables the item is a value block
   pub head_value : is_loose (v.part c) ≡ false → ValueHolds g w v c (w (Slot s c k))
-  head_value e = subst (ValueAt (contents_of w (targets g w v)) (InReach w g v c)) head_target (h.queued c a.receiver e s c k head_some, subst (InReach w g v c) (sym head_target) head_reach)
+  head_value e = subst (ValueAt (contents_of g.wide w (targets g w v)) (InReach w g v c)) head_target (h.queued c a.receiver e s c k head_some, subst (InReach w g v c) (sym head_target) head_reach)

@@ -5,7 +5,7 @@ use Rattle.std.proofs.lemmas.List.Elements.{All-get_or}
 use Rattle.shm_words.specs.declared.geometry.Geometry.{Geometry}
 use Rattle.shm_words.proofs.Words.{live_not_zero}
 use Rattle.shm_graph.specs.declared.spot.Spot.{Spot}
-use Rattle.shm_graph.specs.declared.spot.Spot.TheVariants.{Spare, Status, Redo, Hold, Latch, Home, Era, Root, Tail, QueueHead, Slot, Segment, Page, Head, Tag, Body}
+use Rattle.shm_graph.specs.declared.spot.Spot.TheVariants.{Spare, Status, Redo, RedoMore, Hold, Latch, Home, Era, Root, Tail, QueueHead, Slot, Segment, Page, Head, Tag, Body}
 use Rattle.shm_graph.specs.declared.memo.Status.TheVariants.{Gone}
 use Rattle.shm_graph.specs.declared.run.Account.{Account}
 use Rattle.shm_graph.specs.Spots.{see}
@@ -79,6 +79,7 @@ module _ (g : Geometry) (w : Spot → ℕ) (v : View) (h : HeldAt g w v) where
   pub one_storer : (c d : ℕ) → c < g.clients → d < g.clients → (p : Spot) → IsController g w v c p → IsController g w v d p → c ≡ d
   one_storer c d lc ld (Status e) x y = sym x ∙ y
   one_storer c d lc ld (Redo e) x y = sym x ∙ y
+  one_storer c d lc ld (RedoMore e) x y = sym x ∙ y
   one_storer c d lc ld (Hold e) x y = sym x ∙ y
   one_storer c d lc ld (Home e) x y = sym x ∙ y
   one_storer c d lc ld (Era i j) x y = sym x ∙ y

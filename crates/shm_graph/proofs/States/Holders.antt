@@ -24,7 +24,7 @@ InReach w g v c = reach_of (targets g w v) (λ s r. w (Tail s r)) (λ s r. w (Qu
 
 -- c may store this reference word
 abbrev pub Holds : (Spot → ℕ) → Geometry → View → ℕ → Spot → Type 0
-Holds w g v c = SlotOf c (λ b. header_of (w (Head b))) (λ b. w (Tag b)) (v.latch c) (λ s r. w (Tail s r)) (λ s r. w (QueueHead s r)) (InReach w g v c)
+Holds w g v c = SlotOf g.wide c (λ b. header_of (w (Head b))) (λ b. w (Tag b)) (v.latch c) (λ s r. w (Tail s r)) (λ s r. w (QueueHead s r)) (InReach w g v c)
 
 -- the slots of a queue that are less than 8 apart differ
 pub apart_slots : (n m : ℕ) → n < m → m < n + 8 → n % 8 ≢ m % 8
@@ -76,7 +76,7 @@ module _ (g : Geometry) (w : Spot → ℕ) (v : View) (h : HeldAt g w v) where
   reach_target c b lc (inl (n, inr (inr u))) = (n, (Slot u.0 c (w (QueueHead u.0 c) % 8), u.2))
   reach_target c b lc (inr u) =
       let q = All-contains (λ (k : Look). (k.block ≢ 0) × ((p : Spot) × (targets g w v p ≡ k.block))) (v.looks c) u.0
-      (looks_targets (targets g w v) (λ b. tag_author (w (Tag b))) (v.latch c) (named_by (targets g w v) (λ s r. w (Tail s r)) (λ s r. w (QueueHead s r)) c) [] (v.looks c) (h.looks c lc)) u.1 in
+      (looks_targets (targets g w v) (λ b. tag_author g.wide (w (Tag b))) (v.latch c) (named_by (targets g w v) (λ s r. w (Tail s r)) (λ s r. w (QueueHead s r)) c) [] (v.looks c) (h.looks c lc)) u.1 in
       (λ z. q.0 (u.2 ∙ z), (q.1.0, q.1.1 ∙ u.2))
 
   pub reach_counted : (c b : ℕ) → c < g.clients → InReach w g v c b → IsLive (headers w) b × ((headers w b).count ≢ 0)
@@ -105,7 +105,7 @@ module _ (g : Geometry) (w : Spot → ℕ) (v : View) (h : HeldAt g w v) where
   one_holder c d (Body b i) lc ld x y = both x.2 y.2
     where
       Writes : ℕ → Type 0
-      Writes e = (((headers w b).count ≡ 0) × ((headers w b).client ≡ e)) ⊎ ((tag_author (w (Tag b)) ≡ e) × (v.latch e ≡ Some e) × InReach w g v e b)
+      Writes e = (((headers w b).count ≡ 0) × ((headers w b).client ≡ e)) ⊎ ((tag_author g.wide (w (Tag b)) ≡ e) × (v.latch e ≡ Some e) × InReach w g v e b)
 
       both : Writes c → Writes d → c ≡ d
       both (inl p) (inl q) = sym p.1 ∙ q.1

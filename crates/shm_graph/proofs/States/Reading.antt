@@ -34,14 +34,14 @@ live_class g ws b f clean l =
     ]
 
 -- what its tag announces fits in it
-pub live_room : (g : Geometry) (ws : List ℕ) (b : ℕ) → GeometryFits g → IsClean g (see g ws) → IsLive (headers (see g ws)) b → 2 + tag_refs (see g ws (Tag b)) + tag_plain (see g ws (Tag b)) ≤ class_at g (classes_in g ws) b
+pub live_room : (g : Geometry) (ws : List ℕ) (b : ℕ) → GeometryFits g → IsClean g (see g ws) → IsLive (headers (see g ws)) b → 2 + tag_refs g.wide (see g ws (Tag b)) + tag_plain g.wide (see g ws (Tag b)) ≤ class_at g (classes_in g ws) b
 live_room g ws b f clean l =
     let t = clean.tags b l in
-    let d = tag_fields (see g ws (Tag b)) t.tag t.is in
+    let d = tag_fields g.wide (see g ws (Tag b)) t.tag t.is in
     let e = ap (λ c. class_at g c b) (classes-see g ws f) in
     omega (arith, t.room, e)
 
-pub live_word : (g : Geometry) (ws : List ℕ) (b i : ℕ) → GeometryFits g → IsClean g (see g ws) → IsLive (headers (see g ws)) b → i < tag_refs (see g ws (Tag b)) + tag_plain (see g ws (Tag b)) → (see g ws (Body b i) ≡ get_or ws (b + 2 + i) 0) × (b + 2 + i < total_of g)
+pub live_word : (g : Geometry) (ws : List ℕ) (b i : ℕ) → GeometryFits g → IsClean g (see g ws) → IsLive (headers (see g ws)) b → i < tag_refs g.wide (see g ws (Tag b)) + tag_plain g.wide (see g ws (Tag b)) → (see g ws (Body b i) ≡ get_or ws (b + 2 + i) 0) × (b + 2 + i < total_of g)
 live_word g ws b i f clean l lt =
     let k = live_class g ws b f clean l in
     let r = live_room g ws b f clean l in
@@ -50,10 +50,10 @@ live_word g ws b i f clean l lt =
     (see_at g ws (b + 2 + i) (Body b i) (omega (arith, below)) s, omega (arith, below))
 
 -- the words of a block of a known shape
-pub shape_word : (g : Geometry) (ws : List ℕ) (refs plain b i : ℕ) → GeometryFits g → IsClean g (see g ws) → HasShape (contents_of (see g ws) (references (see g ws))) refs plain b → i < refs + plain → (see g ws (Body b i) ≡ get_or ws (b + 2 + i) 0) × (b + 2 + i < total_of g)
+pub shape_word : (g : Geometry) (ws : List ℕ) (refs plain b i : ℕ) → GeometryFits g → IsClean g (see g ws) → HasShape (contents_of g.wide (see g ws) (references g.wide (see g ws))) refs plain b → i < refs + plain → (see g ws (Body b i) ≡ get_or ws (b + 2 + i) 0) × (b + 2 + i < total_of g)
 shape_word g ws refs plain b i f clean s l = live_word g ws b i f clean s.live (omega (arith, s.names, s.words))
 
-pub shape_reference : (g : Geometry) (ws : List ℕ) (refs plain b i : ℕ) → GeometryFits g → IsClean g (see g ws) → HasShape (contents_of (see g ws) (references (see g ws))) refs plain b → i < refs → references (see g ws) (Body b i) ≡ get_or ws (b + 2 + i) 0
+pub shape_reference : (g : Geometry) (ws : List ℕ) (refs plain b i : ℕ) → GeometryFits g → IsClean g (see g ws) → HasShape (contents_of g.wide (see g ws) (references g.wide (see g ws))) refs plain b → i < refs → references g.wide (see g ws) (Body b i) ≡ get_or ws (b + 2 + i) 0
 shape_reference g ws refs plain b i f clean s l =
-    let n : refs_of (header_of (see g ws (Head b))).live (see g ws (Tag b)) ≡ refs = cond-true _ _ _ s.live ∙ s.names in
+    let n : refs_of g.wide (header_of (see g ws (Head b))).live (see g ws (Tag b)) ≡ refs = cond-true _ _ _ s.live ∙ s.names in
     rw (n, lt-ltb i refs l) (shape_word g ws refs plain b i f clean s (omega arith)).0

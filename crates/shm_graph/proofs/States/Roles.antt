@@ -52,8 +52,8 @@ next_entry x a home b i d n at e =
     (λ _. tt))
 
 -- the shape of a block in its role
-pub chain_shape : (x : Contents) (a b : ℕ) → b ≢ 0 → ChainAt x a b → HasShape x 2 1 b × (tag_author (x.tag b) ≡ a)
-chain_shape x a b n at = let q = chain_entry x a b n at in (subst (HasShape x 2 1) (sym q.2) q.3.shape, ap (λ j. tag_author (x.tag j)) q.2 ∙ q.3.author)
+pub chain_shape : (x : Contents) (a b : ℕ) → b ≢ 0 → ChainAt x a b → HasShape x 2 1 b × (tag_author x.wide (x.tag b) ≡ a)
+chain_shape x a b n at = let q = chain_entry x a b n at in (subst (HasShape x 2 1) (sym q.2) q.3.shape, ap (λ j. tag_author x.wide (x.tag j)) q.2 ∙ q.3.author)
 
 -- the part of a memo in a pool for tables is a partition
 pub partition_of : (x : Contents) (a home : ℕ) (p : Part) → is_loose p ≡ false → PartTie x a home p → (chains : ℕ → List Entry) × IsPartition x a home chains
@@ -84,14 +84,14 @@ roles_blocks P ps (k ∷ ks) old new =
 
 module _ (g : Geometry) (w : Spot → ℕ) (v : View) (h : HeldAt g w v) where
   -- a word of a block that names one is a reference word of a live block
-  pub reference_live : (b i : ℕ) → targets g w v (Body b i) ≢ 0 → IsLive (headers w) b × (i < tag_refs (w (Tag b)))
+  pub reference_live : (b i : ℕ) → targets g w v (Body b i) ≢ 0 → IsLive (headers w) b × (i < tag_refs g.wide (w (Tag b)))
   reference_live b i n =
-      elim (cases_Bool (ltb i ((words_of w).refs b))) [
+      elim (cases_Bool (ltb i ((words_of g.wide w).refs b))) [
         | inr f ↦ absurd (n (cond-false _ (covered (λ d. cover_of (v.op d)) g.clients (Body b i) (w (Body b i))) 0 f))
-        | inl f ↦ (let l = ltb-true i ((words_of w).refs b) f in
+        | inl f ↦ (let l = ltb-true i ((words_of g.wide w).refs b) f in
             elim (cases_Bool (headers w b).live) [
-              | inl y ↦ (y, subst (λ k. i < k) (ap (λ z. refs_of z (w (Tag b))) y) l)
-              | inr y ↦ (let z : (words_of w).refs b ≡ 0 = ap (λ z. refs_of z (w (Tag b))) y in absurd (omega arith))
+              | inl y ↦ (y, subst (λ k. i < k) (ap (λ z. refs_of g.wide z (w (Tag b))) y) l)
+              | inr y ↦ (let z : (words_of g.wide w).refs b ≡ 0 = ap (λ z. refs_of g.wide z (w (Tag b))) y in absurd (omega arith))
             ])
       ]
 
@@ -101,44 +101,44 @@ module _ (g : Geometry) (w : Spot → ℕ) (v : View) (h : HeldAt g w v) where
       let q = ((h.latch c l).some a e).0 in
       ltb-true a g.clients (at_is_in g (classes w) (Latch a) h.fits (h.there (Latch a) (λ z. omega arith)))
 
-  module _ (a : ℕ) (chains : ℕ → List Entry) (part : IsPartition (contents_of w (targets g w v)) a (targets g w v (Home a)) chains) where
+  module _ (a : ℕ) (chains : ℕ → List Entry) (part : IsPartition (contents_of g.wide w (targets g w v)) a (targets g w v (Home a)) chains) where
     -- in a's partition
     abbrev InRole : Role → ℕ → Type 0
-    InRole = Plays (contents_of w (targets g w v)) a (targets g w v (Home a))
+    InRole = Plays (contents_of g.wide w (targets g w v)) a (targets g w v (Home a))
 
     -- the chains of the directory
-    next_chain : (b i : ℕ) → b ≢ 0 → targets g w v (Home a) ≡ b → targets g w v (Body b i) ≢ 0 → ChainAt (contents_of w (targets g w v)) a (targets g w v (Body b i))
+    next_chain : (b i : ℕ) → b ≢ 0 → targets g w v (Home a) ≡ b → targets g w v (Body b i) ≢ 0 → ChainAt (contents_of g.wide w (targets g w v)) a (targets g w v (Body b i))
     next_chain b i n e some =
         let here : targets g w v (Home a) ≢ 0 = (λ z. n (sym e ∙ z)) in
         let l = (reference_live b i some).1 in
-        let k : tag_refs (w (Tag b)) ≡ 16 = ap (λ j. tag_refs (w (Tag j))) (sym e) ∙ (part.shape here).names in
-        (i, chains i, subst (λ j. IsChain (contents_of w (targets g w v)) a i (targets g w v (Body j i)) (chains i)) e (part.chain here i (omega arith)))
+        let k : tag_refs g.wide (w (Tag b)) ≡ 16 = ap (λ j. tag_refs g.wide (w (Tag j))) (sym e) ∙ (part.shape here).names in
+        (i, chains i, subst (λ j. IsChain (contents_of g.wide w (targets g w v)) a i (targets g w v (Body j i)) (chains i)) e (part.chain here i (omega arith)))
 
     -- what a word of a block in a role names plays the role that the word gives it
     role_next : (role : Role) (b i d : ℕ) → InRole role b → targets g w v (Body b i) ≡ d → d ≢ 0 → InRole (role_read role i) d
     role_next Directory b i d p e n =
         let some : targets g w v (Body b i) ≢ 0 = (λ z. n (sym e ∙ z)) in
-        subst (ChainAt (contents_of w (targets g w v)) a) e (next_chain b i (held_live_not_zero g w v h b (reference_live b i some).0) p some)
+        subst (ChainAt (contents_of g.wide w (targets g w v)) a) e (next_chain b i (held_live_not_zero g w v h b (reference_live b i some).0) p some)
     role_next AnEntry b i d p e n =
         let some : targets g w v (Body b i) ≢ 0 = (λ z. n (sym e ∙ z)) in
-        next_entry (contents_of w (targets g w v)) a (targets g w v (Home a)) b i d (held_live_not_zero g w v h b (reference_live b i some).0) p e
+        next_entry (contents_of g.wide w (targets g w v)) a (targets g w v (Home a)) b i d (held_live_not_zero g w v h b (reference_live b i some).0) p e
     role_next Value b i d p e n = tt
     role_next Other b i d p e n = tt
 
     -- ---- along the looks
 
     -- and so does the block of one more look
-    role_look : (authors : ℕ → ℕ) (reach : ℕ → Type 0) (ps : List Played) (p : Spot) (b : ℕ) → All (IsPlayed (contents_of w (targets g w v)) a (targets g w v (Home a))) ps
+    role_look : (authors : ℕ → ℕ) (reach : ℕ → Type 0) (ps : List Played) (p : Spot) (b : ℕ) → All (IsPlayed (contents_of g.wide w (targets g w v)) a (targets g w v (Home a))) ps
         → LookAt (λ d. targets g w v (Home d)) (λ d i. targets g w v (Body d i)) authors (Some a) reach p b → InRole (role_from ps p) b
     role_look authors reach ps (Home d) b old y = let s : Some a ≡ Some d = y.1 in let e : a ≡ d = cc in ap (λ j. targets g w v (Home j)) e ∙ y.2
-    role_look authors reach ps (Body d i) b old y = role_next (role_in ps d) d i b (role_plays (contents_of w (targets g w v)) a (targets g w v (Home a)) ps d old) y.2 y.0
+    role_look authors reach ps (Body d i) b old y = role_next (role_in ps d) d i b (role_plays (contents_of g.wide w (targets g w v)) a (targets g w v (Home a)) ps d old) y.2 y.0
     role_look authors reach ps p b old y = absurd y
 
     -- and the blocks of all looks
-    pub roles_play : (authors : ℕ → ℕ) (named : ℕ → Type 0) (ps : List Played) (earlier ks : List Look) → All (IsPlayed (contents_of w (targets g w v)) a (targets g w v (Home a))) ps
-        → LooksSound (λ d. targets g w v (Home d)) (λ d i. targets g w v (Body d i)) authors (Some a) named earlier ks → All (IsPlayed (contents_of w (targets g w v)) a (targets g w v (Home a))) (roles_from ps ks)
+    pub roles_play : (authors : ℕ → ℕ) (named : ℕ → Type 0) (ps : List Played) (earlier ks : List Look) → All (IsPlayed (contents_of g.wide w (targets g w v)) a (targets g w v (Home a))) ps
+        → LooksSound (λ d. targets g w v (Home d)) (λ d i. targets g w v (Body d i)) authors (Some a) named earlier ks → All (IsPlayed (contents_of g.wide w (targets g w v)) a (targets g w v (Home a))) (roles_from ps ks)
     roles_play authors named ps earlier [] old s = old
     roles_play authors named ps earlier (k ∷ ks) old s =
         let p : Played = record { block = k.block; role = role_from ps k.from } in
         roles_play authors named (p ∷ ps) (k ∷ earlier) ks
-        (All-cons (IsPlayed (contents_of w (targets g w v)) a (targets g w v (Home a))) p ps (role_look authors (λ b. named b ⊎ InLooks earlier b) ps k.from k.block old s.0) old) s.1
+        (All-cons (IsPlayed (contents_of g.wide w (targets g w v)) a (targets g w v (Home a))) p ps (role_look authors (λ b. named b ⊎ InLooks earlier b) ps k.from k.block old s.0) old) s.1

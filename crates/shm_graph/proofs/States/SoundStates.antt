@@ -13,7 +13,7 @@ use Rattle.shm_graph.specs.declared.memo.ChangeStage.TheVariants.{Raising}
 use Rattle.shm_graph.specs.declared.memo.Op.{Op}
 use Rattle.shm_graph.specs.declared.memo.Op.TheVariants.{Up, Down, Change}
 use Rattle.shm_graph.specs.declared.spot.Spot.{Spot}
-use Rattle.shm_graph.specs.declared.spot.Spot.TheVariants.{Redo, Era, Head, Page, Tail, QueueHead, Slot, Unused}
+use Rattle.shm_graph.specs.declared.spot.Spot.TheVariants.{Redo, RedoMore, Era, Head, Page, Tail, QueueHead, Slot, Unused}
 use Rattle.shm_graph.specs.Spots.{see, spot_at, spot_address}
 use Rattle.shm_graph.specs.Blocks.{IsLive, classes, headers}
 use Rattle.shm_graph.specs.References.{words_of, references_to}
@@ -87,16 +87,16 @@ module _ (g : Geometry) (w : Spot → ℕ) (v : View) (h : IsSound g w v) where
 
   -- ---- redo records
 
-  tie : (c : ℕ) (o : Op) → c < g.clients → v.op c ≡ o → OpTie g (λ s q. w (Page s q)) (w (Redo c)) (w (Era c c)) (words_of w) o
-  tie c o l e = subst (λ (y : Op). OpTie g (λ s q. w (Page s q)) (w (Redo c)) (w (Era c c)) (words_of w) y) e (h.op c l)
+  tie : (c : ℕ) (o : Op) → c < g.clients → v.op c ≡ o → OpTie g (λ s q. w (Page s q)) (w (Redo c)) (w (RedoMore c)) (w (Era c c)) (words_of g.wide w) o
+  tie c o l e = subst (λ (y : Op). OpTie g (λ s q. w (Page s q)) (w (Redo c)) (w (RedoMore c)) (w (Era c c)) (words_of g.wide w) y) e (h.op c l)
 
-  pub sound_up : (c : ℕ) (s : First) (p : Spot) (b e : ℕ) → c < g.clients → v.op c ≡ Up s p b e → redo_of (w (Redo c)) ≡ Some (redos.Up (spot_address g p) b)
+  pub sound_up : (c : ℕ) (s : First) (p : Spot) (b e : ℕ) → c < g.clients → v.op c ≡ Up s p b e → redo_of g.wide (w (Redo c)) (w (RedoMore c)) ≡ Some (redos.Up (spot_address g p) b)
   sound_up c s p b e l q = (tie c (Up s p b e) l q).spelled
 
-  pub sound_down : (c : ℕ) (s : First) (p : Spot) (b e : ℕ) → c < g.clients → v.op c ≡ Down s p b e → redo_of (w (Redo c)) ≡ Some (redos.Down (spot_address g p) b)
+  pub sound_down : (c : ℕ) (s : First) (p : Spot) (b e : ℕ) → c < g.clients → v.op c ≡ Down s p b e → redo_of g.wide (w (Redo c)) (w (RedoMore c)) ≡ Some (redos.Down (spot_address g p) b)
   sound_down c s p b e l q = (tie c (Down s p b e) l q).spelled
 
-  pub sound_change : (c : ℕ) (s : First) (p : Spot) (a b e : ℕ) → c < g.clients → v.op c ≡ Change (Raising s) p a b e → redo_of (w (Redo c)) ≡ Some (redos.Change (odd (w (Era c c))) (spot_address g p) a b)
+  pub sound_change : (c : ℕ) (s : First) (p : Spot) (a b e : ℕ) → c < g.clients → v.op c ≡ Change (Raising s) p a b e → redo_of g.wide (w (Redo c)) (w (RedoMore c)) ≡ Some (redos.Change (odd (w (Era c c))) (spot_address g p) a b)
   sound_change c s p a b e l q =
       let t = tie c (Change (Raising s) p a b e) l q in
       t.spelled ∙ ap (λ y. Some (redos.Change (odd y) (spot_address g p) a b)) t.current

@@ -42,14 +42,14 @@ module _ (g : Geometry) (w : Spot → ℕ) (v : View) (h : HeldAt g w v) (still 
   uncovered p x = covered_none g.clients p x (λ c. cover_of (v.op c)) (λ d l y. ap (λ o. cover (cover_of o) p y) (no_step d l))
 
   -- each word names what it holds
-  target_still : (p : Spot) → targets g w v p ≡ references w p
+  target_still : (p : Spot) → targets g w v p ≡ references g.wide w p
   target_still (Home c) = uncovered (Home c) (w (Home c))
   target_still (Root c k) = uncovered (Root c k) (w (Root c k))
   target_still (Slot s r k) = uncovered (Slot s r k) (w (Slot s r k))
-  target_still (Body b i) = ap (λ z. cond (ltb i ((words_of w).refs b)) z 0) (uncovered (Body b i) (w (Body b i)))
+  target_still (Body b i) = ap (λ z. cond (ltb i ((words_of g.wide w).refs b)) z 0) (uncovered (Body b i) (w (Body b i)))
   target_still _ = refl
 
-  pub targets_still : targets g w v ≡ references w
+  pub targets_still : targets g w v ≡ references g.wide w
   targets_still = fun_ext target_still
 
   status_still : (c : ℕ) → c < g.clients → (w (Status c) ≡ 0) ⊎ (w (Status c) ≡ 3)
@@ -64,13 +64,13 @@ module _ (g : Geometry) (w : Spot → ℕ) (v : View) (h : HeldAt g w v) (still 
   head_live : (b : ℕ) → w (Head b) ≢ 0 → IsLive (headers w) b
   head_live b n = elim (cases_Bool (headers w b).live) [ inl l ↦ l | inr d ↦ absurd (n (h.blocks.plain b d)) ]
 
-  tag_suits : (b : ℕ) → IsLive (headers w) b → TagSuits g.clients (class_at g (classes w) b) (w (Tag b))
+  tag_suits : (b : ℕ) → IsLive (headers w) b → TagSuits g.wide g.clients (class_at g (classes w) b) (w (Tag b))
   tag_suits b l =
       let t = h.blocks.tagged b l in
       record {
-        tag = record { refs = tag_refs (w (Tag b)); plain = tag_plain (w (Tag b)); author = tag_author (w (Tag b)); link = tag_link (w (Tag b)) };
-        is = tag_from_fields (w (Tag b)) t.small t.refs t.plain;
-        room = subst (λ (k : ℕ). 2 + tag_refs (w (Tag b)) + tag_plain (w (Tag b)) ≤ k) t.fits (class_room (tag_refs (w (Tag b))) (tag_plain (w (Tag b))) t.refs t.plain);
+        tag = record { refs = tag_refs g.wide (w (Tag b)); plain = tag_plain g.wide (w (Tag b)); author = tag_author g.wide (w (Tag b)); link = tag_link g.wide (w (Tag b)) };
+        is = tag_from_fields g.wide (w (Tag b)) t.small t.refs t.plain;
+        room = subst (λ (k : ℕ). 2 + tag_refs g.wide (w (Tag b)) + tag_plain g.wide (w (Tag b)) ≤ k) t.fits (class_room (tag_refs g.wide (w (Tag b))) (tag_plain g.wide (w (Tag b))) t.refs t.plain);
         author = t.author;
       }
 
@@ -82,7 +82,7 @@ module _ (g : Geometry) (w : Spot → ℕ) (v : View) (h : HeldAt g w v) (still 
       let d = rw (no_dying c lc) at ((h.dying c lc).all b (l, z, refl)) in
       absurd (let k = d.1 in omega arith)
 
-  count_still : (b : ℕ) → IsLive (headers w) b → (headers w b).count ≡ references_to g (classes w) (references w) b
+  count_still : (b : ℕ) → IsLive (headers w) b → (headers w b).count ≡ references_to g (classes w) (references g.wide w) b
   count_still b l =
       h.count.counts b l
       ∙ (indegree_still g (classes w) (targets g w v) (held_overs v) b (held_live_not_zero g w v h b l) (λ c lc. ap held_over_of (no_step c lc))

@@ -91,7 +91,7 @@ pub kept_exchange : (me : Me) (w : Spot → ℕ) (r : ℕ → Memo) (at from to 
     → let t : Step = framed me (Exchange at from to) f (w p) in
     w p ≡ from
     → spot_told me.geometry me.who (r me.who) (Exchange at from to) ≡ p
-    → v ≡ put_parts (view r) me.who (parts (exchanged_on me.who (called (r me.who) t) p to))
+    → v ≡ put_parts (view r) me.who (parts (exchanged_on me.geometry.wide me.who (called (r me.who) t) p to))
     → HeldAt me.geometry (upd w p to) v
     → Happens me.geometry w (exchange_event me.who (r me.who).op p) (graph_of me.geometry w (view r)) (graph_of me.geometry (upd w p to) v)
     → IsAllowed me.geometry w (view r) me.who (Exchange at from to) p
@@ -105,7 +105,7 @@ kept_exchange me w r at from to f after p v found told e held event allowed row 
     let t : Step = framed me (Exchange at from to) f (w p) in
     let y : eqb (w p) from ≡ true = eq-eqb (w p) from found in
     let words : Bool → Spot → ℕ = λ b. cond b (upd w p to) w in
-    let memo : Bool → Memo = λ b. cond b (exchanged_on c (called (r c) t) p to) (read_on g c false (called (r c) t) (test_before (r c) t) p (w p)) in
+    let memo : Bool → Memo = λ b. cond b (exchanged_on g.wide c (called (r c) t) p to) (read_on g c false (called (r c) t) (test_before (r c) t) p (w p)) in
     kept_from me w r (Exchange at from to) f after p v told
     (subst (λ b. v ≡ put_parts (view r) c (parts (memo b))) (sym y) e)
     (subst (λ b. HeldAt g (words b) v) (sym y) held)

@@ -159,7 +159,7 @@ lost_kept me w r f tr at from to after p s e n u other x =
     let t : Step = framed me (Exchange at from to) f (w p) in
     let lost : false ≡ eqb (w p) from = sym (ne_eqb (w p) from other) in
     let words : Bool → Spot → ℕ = λ b. cond b (upd w p to) w in
-    let memo : Bool → Memo = λ b. with_end f.ends (with_call (called (r c) t) (cond b (exchanged_on c (called (r c) t) p to) (read_on g c false (called (r c) t) (test_before (r c) t) p (w p)))) in
+    let memo : Bool → Memo = λ b. with_end f.ends (with_call (called (r c) t) (cond b (exchanged_on g.wide c (called (r c) t) p to) (read_on g c false (called (r c) t) (test_before (r c) t) p (w p)))) in
     fixed_kept me w r (Exchange at from to) f after p e n
     (subst (λ b. HeldAt g (words b) (view (at1 r c (memo b)))) lost (memo_held g w r c t false p s.held s.who n u))
     (subst (λ b. IsSame (graph_of g w (view r)) (graph_of g (words b) (view (at1 r c (memo b))))) lost (read_same g w r c t false p n u))

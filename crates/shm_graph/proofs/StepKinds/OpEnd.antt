@@ -8,7 +8,7 @@ use Rattle.shm_words.specs.declared.geometry.Geometry.{Geometry}
 use Rattle.shm_words.specs.Headers.{header_of}
 use Rattle.shm_words.specs.Tags.{tag_author}
 use Rattle.shm_graph.specs.declared.spot.Spot.{Spot}
-use Rattle.shm_graph.specs.declared.spot.Spot.TheVariants.{Home, Redo, Era, Root, Tail, QueueHead, Slot, Page, Head, Tag, Body}
+use Rattle.shm_graph.specs.declared.spot.Spot.TheVariants.{Home, Redo, RedoMore, Era, Root, Tail, QueueHead, Slot, Page, Head, Tag, Body}
 use Rattle.shm_graph.specs.declared.memo.First.TheVariants.{Begun, Committed, Written}
 use Rattle.shm_graph.specs.declared.memo.ChangeStage.TheVariants.{Raising, Lowering}
 use Rattle.shm_graph.specs.declared.memo.Op.{Op}
@@ -21,6 +21,7 @@ use Rattle.shm_graph.specs.Ops.{IsUncommitted, cover, cover_of, held_over_of, on
 use Rattle.shm_graph.specs.Ops.Cover.{Quiet}
 use Rattle.shm_graph.specs.Views.{View, at1, targets, ons, held_overs}
 use Rattle.shm_graph.specs.Held.{HeldAt, FactAt, SlotOf, reach_of, named_by, OpTie, OwnSound, IdleSound, TailSound, Allowed, CountSound, EraSound, LooksSound, LaneSound, KnownAt, TestAt, IsUnusedLane, PartTie, ValueAt, MadeAt, is_loose, odd}
+use Rattle.shm_words.proofs.Words.{kind_told, change_told}
 use Rattle.shm_graph.proofs.Memos.Frames.{at1_all}
 use Rattle.shm_graph.proofs.Spots.Spotting.{same_spot_is, same_spot_self}
 use Rattle.shm_graph.proofs.States.Counting.{cover_slot, cover_idle, covered_none}
@@ -36,13 +37,13 @@ uncommitted_quiet (Change (Raising Begun) p a b e) u = (refl, refl, refl)
 uncommitted_quiet _ u = absurd u
 
 -- its redo record says a change of the parity of the own era, if a change
-idle_after : (g : Geometry) (class : ℕ → ℕ → ℕ) (redo own : ℕ) (w : Spot → ℕ) (o : Op) → IsUncommitted o → OpTie g class redo own (words_of w) o → IdleSound redo own
-idle_after g class redo own w Nothing u tie = tie
-idle_after g class redo own w (Alloc Begun p b e) u tie = λ parity q x y z. let s = sym tie.spelled ∙ z in cc
-idle_after g class redo own w (Up Begun p b e) u tie = λ parity q x y z. let s = sym tie.spelled ∙ z in cc
-idle_after g class redo own w (Down Begun p b e) u tie = λ parity q x y z. let s = sym tie.spelled ∙ z in cc
-idle_after g class redo own w (Change (Raising Begun) p a b e) u tie = λ parity q x y z. let s = sym z ∙ tie.spelled in (let f : parity ≡ odd e = cc in f ∙ ap odd tie.current)
-idle_after g class redo own w _ u tie = absurd u
+idle_after : (g : Geometry) (class : ℕ → ℕ → ℕ) (redo more own : ℕ) (w : Spot → ℕ) (o : Op) → IsUncommitted o → OpTie g class redo more own (words_of g.wide w) o → IdleSound redo own
+idle_after g class redo more own w Nothing u tie = tie
+idle_after g class redo more own w (Alloc Begun p b e) u tie = λ k. let s = kind_told g.wide redo more _ tie.spelled k in cc
+idle_after g class redo more own w (Up Begun p b e) u tie = λ k. let s = kind_told g.wide redo more _ tie.spelled k in cc
+idle_after g class redo more own w (Down Begun p b e) u tie = λ k. let s = kind_told g.wide redo more _ tie.spelled k in cc
+idle_after g class redo more own w (Change (Raising Begun) p a b e) u tie = λ k. (change_told g.wide redo more _ _ _ _ tie.spelled).1 ∙ ap odd tie.current
+idle_after g class redo more own w _ u tie = absurd u
 
 room_after : (own : ℕ) (o : Op) → OwnSound own o → OwnSound own Nothing
 room_after own Nothing h = h
@@ -57,9 +58,9 @@ room_after own (Change (Lowering s) p a b e) h = record { some = h.some; room = 
 abbrev next_slot : (Spot → ℕ) → ℕ → ℕ → Spot
 next_slot w c r = Slot c r (w (Tail c r) % 8)
 
-raised : (g : Geometry) (w : Spot → ℕ) (c r : ℕ) (o : Op) → IsUncommitted o → up_slot o ≡ next_slot w c r → OpTie g (λ s q. w (Page s q)) (w (Redo c)) (w (Era c c)) (words_of w) o
+raised : (g : Geometry) (w : Spot → ℕ) (c r : ℕ) (o : Op) → IsUncommitted o → up_slot o ≡ next_slot w c r → OpTie g (λ s q. w (Page s q)) (w (Redo c)) (w (RedoMore c)) (w (Era c c)) (words_of g.wide w) o
     → (slot_of o ≡ next_slot w c r) × (is_op o ≡ true) × (w (next_slot w c r) ≡ 0)
-raised g w c r (Up Begun p b x) u e tie = (e, refl, subst (λ q. word_at (words_of w) q ≡ 0) e tie.word)
+raised g w c r (Up Begun p b x) u e tie = (e, refl, subst (λ q. word_at (words_of g.wide w) q ≡ 0) e tie.word)
 raised g w c r (Up Committed p b x) u e tie = absurd u
 raised g w c r (Up Written p b x) u e tie = absurd u
 raised g w c r _ u e tie = absurd (cc)
@@ -129,17 +130,17 @@ op_ended g w v c h l u =
       blocks = h.blocks;
       era = subst (λ (on : ℕ → Option ℕ). EraSound g.clients (λ b. header_of (w (Head b))) (λ i j. w (Era i j)) on) same_ons h.era;
       own = λ d. at1_all (λ (i : ℕ) (x : Op). i < g.clients → OwnSound (w (Era i i)) x) v.op c Nothing d (λ m. room_after (w (Era c c)) (v.op c) (h.own c m)) (λ n. h.own d);
-      op = λ d. at1_all (λ (i : ℕ) (x : Op). i < g.clients → OpTie g (λ s q. w (Page s q)) (w (Redo i)) (w (Era i i)) (words_of w) x) v.op c Nothing d
-          (λ m. idle_after g (λ s q. w (Page s q)) (w (Redo c)) (w (Era c c)) w (v.op c) u (h.op c m)) (λ n. h.op d);
+      op = λ d. at1_all (λ (i : ℕ) (x : Op). i < g.clients → OpTie g (λ s q. w (Page s q)) (w (Redo i)) (w (RedoMore i)) (w (Era i i)) (words_of g.wide w) x) v.op c Nothing d
+          (λ m. idle_after g (λ s q. w (Page s q)) (w (Redo c)) (w (RedoMore c)) (w (Era c c)) w (v.op c) u (h.op c m)) (λ n. h.op d);
       redo = h.redo;
       allowed = λ d. at1_all (λ (i : ℕ) (x : Op). i < g.clients → Allowed i x) v.op c Nothing d (λ m. tt) (λ n. h.allowed d);
       count = subst (λ (t : Spot → ℕ). CountSound g (λ s q. w (Page s q)) (λ b. header_of (w (Head b))) t (held_overs v')) same_targets
           (subst (λ (k : ℕ → ℕ). CountSound g (λ s q. w (Page s q)) (λ b. header_of (w (Head b))) (targets g w v) k) same_held_overs h.count);
       slots = λ d. subst (λ (t : Spot → ℕ). d < g.clients → is_op (v'.op d) ≡ true → Holds t d (slot_of (v'.op d))) same_targets
           (at1_all (λ (i : ℕ) (x : Op). i < g.clients → is_op x ≡ true → Holds (targets g w v) i (slot_of x)) v.op c Nothing d (λ m z. absurd (false≢true z)) (λ n. h.slots d));
-      looks = subst (λ (t : Spot → ℕ). (d : ℕ) → d < g.clients → LooksSound (λ a. t (Home a)) (λ b i. t (Body b i)) (λ b. tag_author (w (Tag b))) (v.latch d) (named_by t tail queue_head d) [] (v.looks d)) same_targets h.looks;
+      looks = subst (λ (t : Spot → ℕ). (d : ℕ) → d < g.clients → LooksSound (λ a. t (Home a)) (λ b i. t (Body b i)) (λ b. tag_author g.wide (w (Tag b))) (v.latch d) (named_by t tail queue_head d) [] (v.looks d)) same_targets h.looks;
       lanes = subst (λ (t : Spot → ℕ). (s r : ℕ) → s < g.clients → r < g.clients → s ≢ r → LaneSound (λ k. t (Slot s r k)) (tail s r) (queue_head s r) (v.sent s r) (v.unsent s r) (v.received r s) (v.untaken r s)) same_targets h.lanes;
-      known = subst (λ (t : Spot → ℕ). (d : ℕ) → d < g.clients → All (λ (k : Stored). KnownAt d (λ b. w (Tag b)) (λ b i. w (Body b i)) (λ s r k. w (Slot s r k)) tail queue_head (v.untaken d) (v.latch d) (reach_of t tail queue_head v.looks d) (v.dying d) k.spot k.value) (v.known d)) same_targets h.known;
+      known = subst (λ (t : Spot → ℕ). (d : ℕ) → d < g.clients → All (λ (k : Stored). KnownAt g.wide d (λ b. w (Tag b)) (λ b i. w (Body b i)) (λ s r k. w (Slot s r k)) tail queue_head (v.untaken d) (v.latch d) (reach_of t tail queue_head v.looks d) (v.dying d) k.spot k.value) (v.known d)) same_targets h.known;
       facts = subst (λ (on : ℕ → Option ℕ). (d : ℕ) → d < g.clients → All (FactAt g.clients (λ i j. w (Era i j)) on tail queue_head (λ s q. w (Page s q))) (v.facts d)) same_ons h.facts;
       zeros = h.zeros;
       test = subst (λ (on : ℕ → Option ℕ). (d : ℕ) → d < g.clients → TestAt g.clients (λ i j. w (Era i j)) (on d) d (v.test d)) same_ons h.test;
@@ -169,9 +170,9 @@ op_ended g w v c h l u =
       tails = λ d r m k. at1_all (λ (i : ℕ) (x : Op). i < g.clients → TailSound i r (w (Era i i)) (tail i r) (v.unsent i r) x) v.op c Nothing d
           (λ n. tails_after g w v c r h n k u) (λ n i. h.tails d r i k) m;
       parts = h.parts;
-      part = subst (λ (t : Spot → ℕ). (d : ℕ) → d < g.clients → PartTie (contents_of w t) d (t (Home d)) (v.part d)) same_targets h.part;
-      queued = subst (λ (t : Spot → ℕ). (d : ℕ) → d < g.clients → is_loose (v.part d) ≡ false → (s r k : ℕ) → t (Slot s r k) ≢ 0 → HasShape (contents_of w t) 0 1 (t (Slot s r k))) same_targets h.queued;
-      values = subst (λ (t : Spot → ℕ). (d : ℕ) → d < g.clients → All (ValueAt (contents_of w t) (reach_of t tail queue_head v.looks d)) (v.values d)) same_targets h.values;
+      part = subst (λ (t : Spot → ℕ). (d : ℕ) → d < g.clients → PartTie (contents_of g.wide w t) d (t (Home d)) (v.part d)) same_targets h.part;
+      queued = subst (λ (t : Spot → ℕ). (d : ℕ) → d < g.clients → is_loose (v.part d) ≡ false → (s r k : ℕ) → t (Slot s r k) ≢ 0 → HasShape (contents_of g.wide w t) 0 1 (t (Slot s r k))) same_targets h.queued;
+      values = subst (λ (t : Spot → ℕ). (d : ℕ) → d < g.clients → All (ValueAt (contents_of g.wide w t) (reach_of t tail queue_head v.looks d)) (v.values d)) same_targets h.values;
       made = subst (λ (t : Spot → ℕ). (d : ℕ) → d < g.clients → All (MadeAt (λ b. header_of (w (Head b))) (λ k. t (Root d k))) (v.made d)) same_targets h.made;
     }
   where
@@ -185,10 +186,10 @@ op_ended g w v c h l u =
     v' = record v { op = at1 v.op c Nothing }
 
     Holds : (Spot → ℕ) → ℕ → Spot → Type 0
-    Holds t d = SlotOf d (λ b. header_of (w (Head b))) (λ b. w (Tag b)) (v.latch d) tail queue_head (reach_of t tail queue_head v.looks d)
+    Holds t d = SlotOf g.wide d (λ b. header_of (w (Head b))) (λ b. w (Tag b)) (v.latch d) tail queue_head (reach_of t tail queue_head v.looks d)
 
     same_targets : targets g w v ≡ targets g w v'
-    same_targets = ap (target g.clients (words_of w)) (op_same cover_of v.op c (uncommitted_quiet (v.op c) u).0)
+    same_targets = ap (target g.clients (words_of g.wide w)) (op_same cover_of v.op c (uncommitted_quiet (v.op c) u).0)
 
     same_held_overs : held_overs v ≡ held_overs v'
     same_held_overs = op_same held_over_of v.op c (uncommitted_quiet (v.op c) u).1

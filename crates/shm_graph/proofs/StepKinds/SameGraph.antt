@@ -20,13 +20,13 @@ use Rattle.shm_graph.proofs.Memos.MemoParts.{part_stays}
 
 -- no header, no tag and no reference word changed, and the step in progress covers and holds over what it did
 pub same_graph : (g : Geometry) (w w' : Spot → ℕ) (r : ℕ → Memo) (c : ℕ) (m : Memo) → cover_of m.op ≡ cover_of (r c).op → held_over_of m.op ≡ held_over_of (r c).op
-    → ((b : ℕ) → w' (Head b) ≡ w (Head b)) → ((b : ℕ) → w' (Tag b) ≡ w (Tag b)) → words_of w' ≡ words_of w
+    → ((b : ℕ) → w' (Head b) ≡ w (Head b)) → ((b : ℕ) → w' (Tag b) ≡ w (Tag b)) → words_of g.wide w' ≡ words_of g.wide w
     → IsSame (graph_of g w (view r)) (graph_of g w' (view (at1 r c m)))
 same_graph g w w' r c m cover held_over heads tags words =
     record {
       lives = λ b. ap (λ n. (header_of n).live) (heads b);
       shapes = λ b. rw (heads b, tags b) refl;
-      targets = λ p. ap (λ (x : Words). target g.clients x (λ d. cover_of ((at1 r c m d).op)) p) words ∙ ap (λ (q : ℕ → Cover). target g.clients (words_of w) q p) (part_stays (λ (x : Memo). cover_of x.op) r c m cover);
+      targets = λ p. ap (λ (x : Words). target g.clients x (λ d. cover_of ((at1 r c m d).op)) p) words ∙ ap (λ (q : ℕ → Cover). target g.clients (words_of g.wide w) q p) (part_stays (λ (x : Memo). cover_of x.op) r c m cover);
       held_overs = λ d. ap (λ (q : ℕ → ℕ). q d) (part_stays (λ (x : Memo). held_over_of x.op) r c m held_over);
     }
 

@@ -66,7 +66,7 @@ forgets_held g w v c h =
       slots = h.slots;
       looks = h.looks;
       lanes = h.lanes;
-      known = λ d. at1_all (λ (i : ℕ) (x : List Stored). i < g.clients → All (λ (k : Stored). KnownAt i (λ b. w (Tag b)) (λ b i. w (Body b i)) (λ s r k. w (Slot s r k)) (λ s r. w (Tail s r)) (λ s r. w (QueueHead s r)) (v.untaken i) (v.latch i) (reach_of (targets g w v) (λ s r. w (Tail s r)) (λ s r. w (QueueHead s r)) v.looks i) (v.dying i) k.spot k.value) x)
+      known = λ d. at1_all (λ (i : ℕ) (x : List Stored). i < g.clients → All (λ (k : Stored). KnownAt g.wide i (λ b. w (Tag b)) (λ b i. w (Body b i)) (λ s r k. w (Slot s r k)) (λ s r. w (Tail s r)) (λ s r. w (QueueHead s r)) (v.untaken i) (v.latch i) (reach_of (targets g w v) (λ s r. w (Tail s r)) (λ s r. w (QueueHead s r)) v.looks i) (v.dying i) k.spot k.value) x)
           v.known c [] d (λ l. All-nil _) (λ n. h.known d);
       facts = h.facts;
       zeros = h.zeros;
@@ -81,7 +81,7 @@ forgets_held g w v c h =
       parts = h.parts;
       part = h.part;
       queued = h.queued;
-      values = λ d. at1_all (λ (i : ℕ) (x : List ℕ). i < g.clients → All (ValueAt (contents_of w (targets g w v)) (reach_of (targets g w v) (λ s r. w (Tail s r)) (λ s r. w (QueueHead s r)) v.looks i)) x) v.values c [] d (λ l. All-nil _) (λ n. h.values d);
+      values = λ d. at1_all (λ (i : ℕ) (x : List ℕ). i < g.clients → All (ValueAt (contents_of g.wide w (targets g w v)) (reach_of (targets g w v) (λ s r. w (Tail s r)) (λ s r. w (QueueHead s r)) v.looks i)) x) v.values c [] d (λ l. All-nil _) (λ n. h.values d);
       made = h.made;
     }
 

@@ -4,7 +4,7 @@ use Rattle.std.proofs.lemmas.Bool.{cases_eq, eq-eqb, ne_eqb}
 use Rattle.std.proofs.lemmas.Bool.Decides.{nat_tests}
 use Rattle.shm_words.specs.declared.geometry.Geometry.{Geometry}
 use Rattle.shm_graph.specs.declared.spot.Spot.{Spot}
-use Rattle.shm_graph.specs.declared.spot.Spot.TheVariants.{Status, Redo, Hold, Home, Era, Root, Tail, QueueHead, Page}
+use Rattle.shm_graph.specs.declared.spot.Spot.TheVariants.{Status, Redo, RedoMore, Hold, Home, Era, Root, Tail, QueueHead, Page}
 use Rattle.shm_graph.specs.declared.memo.Status.{Status as AStatus}
 use Rattle.shm_graph.specs.declared.memo.Status.TheVariants as status
 use Rattle.shm_graph.specs.Spots.{upd, IsAt}
@@ -17,6 +17,7 @@ use Rattle.shm_graph.proofs.Spots.Fixed.{fixed_is_at}
 -- a status word is no own word
 not_own : (w : Spot → ℕ) (c x d : ℕ) (q : Spot) → owner_is d q ≡ true → upd w (Status c) x q ≡ w q
 not_own w c x d (Redo e) o = refl
+not_own w c x d (RedoMore e) o = refl
 not_own w c x d (Hold e) o = refl
 not_own w c x d (Home e) o = refl
 not_own w c x d (Era i j) o = refl

@@ -6,11 +6,12 @@ use Rattle.std.proofs.Math.Nat.{mod-eq_of_lt}
 use Rattle.std.proofs.lemmas.Bool.{cases_eq, eqb-false, eqb-true}
 use Rattle.std.proofs.lemmas.Bool.Decides.{nat_tests}
 use Rattle.std.proofs.lemmas.List.{length-append}
+use Rattle.shm_queue.specs.Costs.{items_sum, tear_sum}
 use Rattle.shm_graph.specs.declared.spot.Spot.TheVariants.{QueueHead, Tail}
 use Rattle.shm_graph.specs.declared.memo.Fact.TheVariants.{Counter}
 use Rattle.shm_graph.specs.declared.memo.Memo.{Memo}
 use Rattle.shm_graph.specs.Asks.{Trail, IsWithin}
-use Rattle.shm_graph.specs.Bounds.{tear_steps}
+use Rattle.shm_graph.specs.Bounds.{tear_steps, redo_steps}
 use Rattle.shm_graph.specs.Core.{core}
 use Rattle.shm_graph.specs.Events.{Event}
 use Rattle.shm_graph.specs.Laws.{Outcome}
@@ -70,7 +71,7 @@ record IsPassing (m : DrainState) (n : ℕ) (r0 r : Memo) (tr : Trail) (es : Lis
   drained : Drained m.me items r0 r
   events : ItemsEvents m.me.who items es
   empty : AreEmpty m.me n r
-  bound : IsWithin (12 * length items + 2 * n + tear_steps (frees es) + 1) tr
+  bound : IsWithin ((11 + redo_steps m.me.geometry.wide) * length items + 2 * n + tear_steps m.me.geometry.wide (frees es) + 1) tr
 
 went : (m : DrainState) (n : ℕ) (r0 r : Memo) (tr : Trail) (es : List Event) → IsPassing m n r0 r tr es → Outcome (turned_answer m n) (drain_plan.knows (turned m n) r0 r tr es) (DrainLeaves (draining m.me) r0 r tr es)
 went m n r0 r tr es h = at (nat_lt n m.me.geometry.clients) (λ e. grind (arith, nat_tests)) (λ e. grind (arith, nat_tests))
@@ -83,6 +84,7 @@ went m n r0 r tr es h = at (nat_lt n m.me.geometry.clients) (λ e. grind (arith,
         let most = h.most in
         let count = h.count in
         let bound = h.bound in
+        let cost = ap (λ y. (11 + redo_steps m.me.geometry.wide) * y) h.count in
         record { items = h.items; count = h.count; drained = h.drained; events = h.events; empty = λ s l o. h.empty s (omega arith) o; bound = omega arith }
 
 -- ---- the plan
@@ -172,8 +174,9 @@ module _ (m : DrainState) (r0 rs r : Memo) (tr t : Trail) (es ds : List Event) (
       let head : own_word r.own (QueueHead m.from c) ≡ own_word rs.own (QueueHead m.from c) + 1 = g.received.head ∙ ap (λ y. y + 1) g.received.place in
       let small = head_low m.me h.may.who m.from r h.low h.other held in
       let room : m.taken + 1 < 2 ^ 64 = omega arith in
-      let f = frees_append es ds in
-      let bound = within_more (12 * length h.items + 2 * m.from + tear_steps (frees es) + 1) (12 + tear_steps (frees ds)) tr t h.bound g.bound in
+      let f = tear_sum m.me.geometry.wide (frees (es ++ ds)) (frees es) (frees ds) (frees_append es ds) in
+      let cost = items_sum m.me.geometry.wide (length (h.items ++ x ∷ [])) (length h.items) 1 more in
+      let bound = within_more ((11 + redo_steps m.me.geometry.wide) * length h.items + 2 * m.from + tear_steps m.me.geometry.wide (frees es) + 1) (11 + redo_steps m.me.geometry.wide + tear_steps m.me.geometry.wide (frees ds)) tr t h.bound g.bound in
       record {
         may = h.may;
         low = h.low;
@@ -199,8 +202,8 @@ module _ (m : DrainState) (r0 rs r : Memo) (tr t : Trail) (es ds : List Event) (
       let here = heads m.from in
       let small = head_low m.me h.may.who m.from r h.low h.other held in
       let quiet : es ++ ds ≡ es = ap (λ (x : List Event). es ++ x) g.none ∙ append-nil es in
-      let bound = within_more (12 * length h.items + 2 * m.from + tear_steps (frees es) + 1) 2 tr t h.bound g.bound in
-      let f = ap frees quiet in
+      let bound = within_more ((11 + redo_steps m.me.geometry.wide) * length h.items + 2 * m.from + tear_steps m.me.geometry.wide (frees es) + 1) 2 tr t h.bound g.bound in
+      let f = ap (λ (x : List Event). tear_steps m.me.geometry.wide (frees x)) quiet in
       let before = still_empty m.from h.empty grows (λ s l o. heads s) in
       went (record m { point = Item }) (next_from c m.from) r0 r (tr ++ t) (es ++ ds)
       (record {
@@ -224,6 +227,8 @@ module _ (m : DrainState) (r0 rs r : Memo) (tr t : Trail) (es ds : List Event) (
   stopped e h (spent, g) =
       let f = frees_append es ds in
       let low = h.low in
+      let torn = tear_sum m.me.geometry.wide (frees (es ++ ds)) (frees es) (frees ds) f in
+      let cost = items_sum m.me.geometry.wide (length h.items + 1) (length h.items) 1 refl in
       record {
         items = h.items;
         q = rs;
@@ -236,8 +241,8 @@ module _ (m : DrainState) (r0 rs r : Memo) (tr t : Trail) (es ds : List Event) (
         last = t;
         spent = spent;
         refused = elim g [
-          | inl n ↦ inl (n, (let bound = within_more (12 * length h.items + 2 * m.from + tear_steps (frees es) + 1) 4 tr t h.bound n.bound in omega arith))
-          | inr n ↦ inr (n, (let bound = within_more (12 * length h.items + 2 * m.from + tear_steps (frees es) + 1) (12 + tear_steps (frees ds + length n.left)) tr t h.bound n.bound in omega arith))
+          | inl n ↦ inl (n, (let bound = within_more ((11 + redo_steps m.me.geometry.wide) * length h.items + 2 * m.from + tear_steps m.me.geometry.wide (frees es) + 1) 4 tr t h.bound n.bound in omega arith))
+          | inr n ↦ inr (n, (let bound = within_more ((11 + redo_steps m.me.geometry.wide) * length h.items + 2 * m.from + tear_steps m.me.geometry.wide (frees es) + 1) (11 + redo_steps m.me.geometry.wide + tear_steps m.me.geometry.wide (frees ds + length n.left)) tr t h.bound n.bound in let all = tear_sum m.me.geometry.wide (frees (es ++ ds) + length n.left) (frees es) (frees ds + length n.left) (omega arith) in omega arith))
         ];
       }
 

@@ -6,7 +6,7 @@ use Rattle.shm_graph.specs.declared.spot.Spot.TheVariants as spot
 use Rattle.shm_graph.specs.declared.memo.Memo.{Memo}
 use Rattle.shm_graph.specs.declared.memo.Stored.{Stored}
 use Rattle.shm_graph.specs.Asks.{Trail}
-use Rattle.shm_graph.specs.Bounds.{tear_steps}
+use Rattle.shm_graph.specs.Bounds.{tear_steps, redo_steps}
 use Rattle.shm_graph.specs.Events.{Event}
 use Rattle.shm_graph.specs.Views.{own_word}
 use Rattle.shm_steps.proofs.Cores.{here_same}
@@ -101,8 +101,10 @@ module _ (m : ReceiveState) (r0 rs r : Memo) (tr t : Trail) (es ds : List Event)
       let p = h.1.1 in
       let low = p.low in
       let quiet : frees es ≡ 0 = ap frees p.events ∙ omega arith in
-      let f = frees_append es ds in
-      let bound = within_more (12 + m.root) (12 + tear_steps (frees ds)) tr t p.bound g.bound in
+      let sum = frees_append es ds in
+      let all : frees (es ++ ds) ≡ frees ds = omega arith in
+      let f = ap (tear_steps m.me.geometry.wide) all in
+      let bound = within_more (11 + redo_steps m.me.geometry.wide + m.root) (11 + redo_steps m.me.geometry.wide + tear_steps m.me.geometry.wide (frees ds)) tr t p.bound g.bound in
       record { look = peeked h; taken = g; item = g.known m.block (item_known h g.place g.received.place); bound = omega arith }
   taken (Err (fault.Empty n)) h g =
       let p = h.1.1 in
@@ -115,7 +117,9 @@ module _ (m : ReceiveState) (r0 rs r : Memo) (tr t : Trail) (es ds : List Event)
       let p = h.1.1 in
       let low = p.low in
       let quiet : frees es ≡ 0 = ap frees p.events ∙ omega arith in
-      let f = frees_append es ds in
+      let sum = frees_append es ds in
+      let all : frees (es ++ ds) ≡ frees ds = omega arith in
+      let f : (l : ℕ) → tear_steps m.me.geometry.wide (frees (es ++ ds) + l) ≡ tear_steps m.me.geometry.wide (frees ds + l) = λ l. ap (λ n. tear_steps m.me.geometry.wide (n + l)) all in
       inr
       (record {
         block = m.block;
@@ -123,8 +127,8 @@ module _ (m : ReceiveState) (r0 rs r : Memo) (tr t : Trail) (es ds : List Event)
         look = peeked h;
         spent = g.0;
         refused = elim g.1 [
-          | inl n ↦ inl (n, (let bound = within_more (12 + m.root) 4 tr t p.bound n.bound in omega arith))
-          | inr n ↦ inr (n, (let bound = within_more (12 + m.root) (12 + tear_steps (frees ds + length n.left)) tr t p.bound n.bound in omega arith))
+          | inl n ↦ inl (n, (let bound = within_more (11 + redo_steps m.me.geometry.wide + m.root) 4 tr t p.bound n.bound in omega arith))
+          | inr n ↦ inr (n, (let bound = within_more (11 + redo_steps m.me.geometry.wide + m.root) (11 + redo_steps m.me.geometry.wide + tear_steps m.me.geometry.wide (frees ds + length n.left)) tr t p.bound n.bound in let d = f (length n.left) in omega arith))
         ];
       })
 

@@ -4,6 +4,7 @@ use Rattle.std.specs.Prelude.{◌-◌, ◌==◌, if◌then◌else◌, Some, None
 use Rattle.std.specs.List.{Contains}
 use Rattle.std.proofs.Math.Nat.{mod-eq_of_lt}
 use Rattle.std.proofs.lemmas.Bool.{cases_eq, cond-false, cond-true, eq-eqb, eqb-false, eqb-true, ne_eqb}
+use Rattle.shm_graph.specs.Bounds.{redo_steps}
 use Rattle.shm_graph.specs.declared.ask.Ask.TheVariants as ask
 use Rattle.shm_graph.specs.declared.spot.Spot.{Spot}
 use Rattle.shm_graph.specs.declared.spot.Spot.TheVariants as spot
@@ -207,15 +208,15 @@ module _ (m : SendState) (r0 rs r : Memo) (tr t : Trail) (es ds : List Event) (h
         some = λ z. absurd (omega arith);
         filled = filled;
         told = ap (λ (x : List Event). x ++ ds) h.none ∙ g.did.1;
-        bound = within_more 2 8 tr t h.bound g.bound;
+        bound = (let n = within_more 2 (7 + redo_steps m.me.geometry.wide) tr t h.bound g.bound in omega arith);
       }
   raised (Err (fault.EraSpent e)) (h, may) g = (
-    record { untouched = untouched_core c r0 rs r h.same g.did.0; none = ap (λ (x : List Event). x ++ ds) h.none ∙ g.did.2; bound = within_more 2 8 tr t h.bound g.bound },
+    record { untouched = untouched_core c r0 rs r h.same g.did.0; none = ap (λ (x : List Event). x ++ ds) h.none ∙ g.did.2; bound = (let n = within_more 2 (7 + redo_steps m.me.geometry.wide) tr t h.bound g.bound in omega arith) },
     g.did.1.0 ∙ ap (λ (x : Memo). own_word x.own (spot.Era c c)) h.same,
     g.did.1.1,
   )
   raised (Err (fault.CountFull b n)) (h, may) g = (
-    record { untouched = untouched_core c r0 rs r h.same g.did.0; none = ap (λ (x : List Event). x ++ ds) h.none ∙ g.did.2; bound = within_more 2 8 tr t h.bound g.bound },
+    record { untouched = untouched_core c r0 rs r h.same g.did.0; none = ap (λ (x : List Event). x ++ ds) h.none ∙ g.did.2; bound = (let n = within_more 2 (7 + redo_steps m.me.geometry.wide) tr t h.bound g.bound in omega arith) },
     g.did.1.0,
     g.did.1.1,
   )
@@ -237,7 +238,7 @@ leads m Store r0 rs r tr t es ds (First n) h w held agent =
     record {
       sent = sent_of m.me.who m.to m.block m.tail r0 rs r h.may.none h.tail h.filled w.found.left;
       told = ap (λ (x : List Event). x ++ ds) h.told ∙ ap (λ (x : List Event). event.Up m.me.who (spot.Slot m.me.who m.to (m.tail % 8)) m.block ∷ x) w.none;
-      bound = within_more 10 1 tr t h.bound one;
+      bound = (let n = within_more (9 + redo_steps m.me.geometry.wide) 1 tr t h.bound one in omega arith);
     }
 leads m Up r0 rs r tr t es ds (Second a) h g held agent = raised m r0 rs r tr t es ds held agent a h g
 leads m Up r0 rs r tr t es ds (First n) h g held agent = absurd g

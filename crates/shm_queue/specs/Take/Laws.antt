@@ -10,7 +10,7 @@ use Rattle.shm_graph.specs.declared.ask.Ask.TheVariants as ask
 use Rattle.shm_graph.specs.declared.spot.Spot.TheVariants as spot
 use Rattle.shm_graph.specs.declared.memo.Memo.{Memo}
 use Rattle.shm_graph.specs.Asks.{Trail, IsWithin}
-use Rattle.shm_graph.specs.Bounds.{tear_steps}
+use Rattle.shm_graph.specs.Bounds.{tear_steps, redo_steps}
 use Rattle.shm_graph.specs.Core.{core}
 use Rattle.shm_graph.specs.Events.{Event}
 use Rattle.shm_graph.specs.Events as event
@@ -134,7 +134,7 @@ module _ (m : TakeState) (r0 rs r : Memo) (tr t : Trail) (es ds : List Event) (h
         here = here_same rs r g.status h.can.here;
         lost = lost;
         told = ap (λ (x : List Event). x ++ ds) h.none ∙ g.did.1;
-        bound = within_more 3 8 tr t h.bound g.bound;
+        bound = (let n = within_more 3 (7 + redo_steps m.me.geometry.wide) tr t h.bound g.bound in omega arith);
       }
 
   -- or nothing was done
@@ -175,12 +175,12 @@ module _ (m : TakeState) (r0 rs r : Memo) (tr t : Trail) (es ds : List Event) (h
           dying = subst (λ (xs : List ℕ). Contains xs m.block) (sym lost.dying) (Contains-push r0.dying m.block);
         };
         told = ap (λ (x : List Event). x ++ ds) h.told ∙ ap (λ (x : List Event). event.Down c (spot.Slot s c (m.at % 8)) m.block ∷ x) quiet;
-        bound = within_more 11 1 tr t h.bound one;
+        bound = (let n = within_more (10 + redo_steps m.me.geometry.wide) 1 tr t h.bound one in omega arith);
       }
   stored false h (left, quiet, one) =
       let lost = lost_stored c s m.at m.block false r0 rs r h.lost left in
       let told : es ++ ds ≡ event.Down c (spot.Slot s c (m.at % 8)) m.block ∷ [] = ap (λ (x : List Event). x ++ ds) h.told ∙ ap (λ (x : List Event). event.Down c (spot.Slot s c (m.at % 8)) m.block ∷ x) quiet in
-      let bound = within_more 11 1 tr t h.bound one in
+      let bound = within_more (10 + redo_steps m.me.geometry.wide) 1 tr t h.bound one in
       let low = h.inside.0 in
       record {
         place = m.at;
@@ -206,9 +206,9 @@ module _ (m : TakeState) (r0 rs r : Memo) (tr t : Trail) (es ds : List Event) (h
       go : (a : Result (Unit {0}) ASpent) → TearLeaves m.me m.block rs r ds t a → Leads Tear (Second (Second a))
       go (Ok done) y =
           let lost = torn_leaves m.me spot.Spare false m.block 0 (taken_memo c s m.at m.block r0) rs r h.may.who h.held h.lost h.counted ds t (Ok tt) y in
-          let f = same_frees in
+          let f = ap (tear_steps m.me.geometry.wide) same_frees in
           let low = h.can.inside.0 in
-          let bound = within_more 12 (tear_steps (frees ds)) tr t h.bound y.bound in
+          let bound = within_more (11 + redo_steps m.me.geometry.wide) (tear_steps m.me.geometry.wide (frees ds)) tr t h.bound y.bound in
           record {
             place = m.at;
             block = m.block;
@@ -221,9 +221,9 @@ module _ (m : TakeState) (r0 rs r : Memo) (tr t : Trail) (es ds : List Event) (h
           }
       go (Err e) y =
           let lost = torn_leaves m.me spot.Spare false m.block 0 (taken_memo c s m.at m.block r0) rs r h.may.who h.held h.lost h.counted ds t (Err e) y in
-          let f = same_frees in
+          let f = ap (λ n. tear_steps m.me.geometry.wide (n + length y.0)) same_frees in
           let low = h.can.inside.0 in
-          let bound = within_more 12 (tear_steps (frees ds + length y.0)) tr t h.bound y.1.bound in (
+          let bound = within_more (11 + redo_steps m.me.geometry.wide) (tear_steps m.me.geometry.wide (frees ds + length y.0)) tr t h.bound y.1.bound in (
             y.1.last,
             inr (record {
               place = m.at;

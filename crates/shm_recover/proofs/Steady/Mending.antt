@@ -78,6 +78,7 @@ mend_known : (m : MendState) (y : MendPoint) (r0 r : Memo) (tr : Trail) (es : Li
 mend_known m mend.Dead r0 r tr es (may, same, none, quiet) = table_of r0 r (ap (λ (x : Memo). x.part) same)
 mend_known m mend.Era r0 r tr es h = dead_table m.me r0 r es h.0
 mend_known m mend.Redo r0 r tr es h = dead_table m.me r0 r es h.0
+mend_known m mend.More r0 r tr es h = dead_table m.me r0 r es h.0
 mend_known m mend.Test r0 r tr es h = dead_table m.me r0 r es h.0
 mend_known m mend.Slot r0 r tr es h = mending_table m.me r0 r h.0
 mend_known m mend.Close r0 r tr es h = mending_table m.me r0 r h.0

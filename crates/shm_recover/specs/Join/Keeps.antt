@@ -89,7 +89,7 @@ pub join_laws : Laws join_control JoinFits JoinGives
 join_laws =
     record {
       steady = λ m n going. record { same_me = refl; same_line = refl; started = refl; ends = refl };
-      inside = λ m r0 r tr l fit going. in_pool m.me.geometry (λ s p. 0) (address m.me.geometry (place.Status m.me.who)) (Status m.me.who) (status_spot m.me (λ s p. 0) fit.can.member) (λ e. cc);
+      inside = λ m r0 r tr l fit going. (in_pool m.me.geometry (λ s p. 0) (address m.me.geometry (place.Status m.me.who)) (Status m.me.who) (status_spot m.me (λ s p. 0) fit.can.member) (λ e. cc)).1;
       back = λ m n going goes r0 r tr a g. absurd (cc);
       keeps = join_keeps;
     }

@@ -3,6 +3,7 @@ use Rattle.std.proofs.Common.{◌≡◌, ◌≢◌, ℕ, ◌+◌, ◌*◌, ◌<�
 use Rattle.std.specs.Prelude.{◌==◌, if◌then◌else◌, nat_lt, Option, Some, None, Result, Ok, Err, slice_index}
 use Rattle.std.specs.List.{Contains}
 use Rattle.std.proofs.lemmas.Bool.{cases_lt, eqb-true, eq-eqb, eqb-false, true≢false}
+use Rattle.shm_graph.specs.Bounds.{redo_steps, tear_steps}
 use Rattle.shm_graph.specs.declared.ask.Me.{Me}
 use Rattle.shm_graph.specs.declared.spot.Spot.TheVariants.{Hold}
 use Rattle.shm_graph.specs.declared.memo.Memo.{Memo}
@@ -139,7 +140,7 @@ module _ (m : LeaveState) (r0 rs r : Memo) (tr t : Trail) (es ds : List Event) w
   -- with one pair more
   one_more : (n k : ℕ) → n + 1 ≤ k → r.part ≡ rs.part → ds ≡ [] → length t ≡ 1 → HasLeft me n r0 rs tr es → HasLeft me k r0 r (tr ++ t) (es ++ ds)
   one_more n k less same none one h =
-      let b = within_more (144 + n + 164 * frees es) 1 tr t h.bound (omega arith) in
+      let b = within_more ((8 + redo_steps me.geometry.wide) * 16 + n + tear_steps me.geometry.wide (frees es)) 1 tr t h.bound (omega arith) in
       subst (HasLeft me k r0 r (tr ++ t)) (sym (ap (λ (x : List Event). es ++ x) none ∙ append-nil es)) (record { part = same ∙ h.part; events = h.events; bound = omega arith })
 
   -- on to the next segment, or to the status

@@ -1,5 +1,5 @@
 -- the control of mending: which call comes next, and where it goes by what that call answered
-use Rattle.std.specs.Prelude.{ℕ, ◌+◌, ◌%◌, ◌^◌, ◌<◌, Bool, true, false, not, if◌then◌else◌, Option, Some, None}
+use Rattle.std.specs.Prelude.{◌≡◌, ℕ, ◌+◌, ◌%◌, ◌^◌, ◌<◌, Bool, true, false, not, if◌then◌else◌, Option, Some, None}
 use Rattle.shm_words.specs.declared.place.Place.TheVariants as place
 use Rattle.shm_words.specs.declared.redo.Redo.{Redo as ARedo}
 use Rattle.shm_words.specs.declared.redo.Redo.TheVariants as redos
@@ -22,7 +22,7 @@ use Rattle.shm_count.specs.declared.commit_test.TestingState.{TestingState}
 use Rattle.shm_count.specs.CommitTest.Control.{testing}
 use Rattle.shm_count.specs.CommitTest.{is_first_half, testing_plan}
 use Rattle.shm_recover.specs.declared.mend.MendPoint.{MendPoint}
-use Rattle.shm_recover.specs.declared.mend.MendPoint.TheVariants.{Dead, Era, Redo, Test, Slot, Close, Lower, Unlatch}
+use Rattle.shm_recover.specs.declared.mend.MendPoint.TheVariants.{Dead, Era, Redo, More, Test, Slot, Close, Lower, Unlatch}
 use Rattle.shm_recover.specs.declared.mend.MendState.{MendState}
 use Rattle.shm_recover.specs.declared.mend_lower.LoweringState.{LoweringState}
 use Rattle.shm_recover.specs.declared.mend_unlatch.UnlatchingState.{UnlatchingState}
@@ -44,7 +44,7 @@ mend_parts = or_control word_control (or_control (calls_control word_control tes
 
 -- before its first call
 abbrev pub mending : Me → MendState
-mending me = record { me = me; era = 0; redo = redos.Idle; point = Dead }
+mending me = record { me = me; era = 0; first = 0; redo = redos.Idle; point = Dead }
 
 -- ---- what a redo record says at an own era
 
@@ -90,6 +90,7 @@ write r = ask.Store (slot_at r) (value_at r)
 abbrev pub mend_ask : Me → ℕ → ARedo → MendPoint → Ask
 mend_ask me e r Dead = ask.Store (address me.geometry (place.Status me.who)) 2
 mend_ask me e r Redo = ask.Load (address me.geometry (place.Redo me.who))
+mend_ask me e r More = ask.Load (address me.geometry (place.RedoMore me.who))
 mend_ask me e r Slot = write r
 mend_ask me e r Close = ask.Store (address me.geometry (place.Era me.who me.who)) (e + 1)
 mend_ask me e r y = ask.Load (address me.geometry (place.Era me.who me.who))
@@ -108,8 +109,12 @@ found_by m None = record m { point = Unlatch }
 found_by m (Some redos.Idle) = record m { point = Unlatch }
 found_by m (Some r) = record m { redo = r; point = Test }
 
-abbrev pub found : MendState → ℕ → MendState
-found m n = found_by m (redo_of n)
+abbrev pub found : MendState → ℕ → ℕ → MendState
+found m first second = found_by m (redo_of m.me.geometry.wide first second)
+
+-- in format 2 it has a second word
+abbrev pub first_found : MendState → ℕ → MendState
+first_found m n = if m.me.geometry.wide then record m { first = n; point = More } else found m n 0
 
 -- by the commit test
 abbrev pub tested_at : Commit → Bool → MendPoint
@@ -125,7 +130,8 @@ closed m = if is_first m.redo m.era then record m { era = (m.era + 1) % 2 ^ 47; 
 
 abbrev pub mend_after_word : MendState → MendPoint → ℕ → MendState
 mend_after_word m Era n = record m { era = n % 2 ^ 47; point = Redo }
-mend_after_word m Redo n = found m n
+mend_after_word m Redo n = first_found m n
+mend_after_word m More n = found m m.first n
 mend_after_word m Slot n = record m { point = Close }
 mend_after_word m Close n = closed m
 mend_after_word m y n = record m { point = Era }
@@ -144,8 +150,14 @@ abbrev pub is_dead : MendPoint → Bool
 is_dead Dead = true
 is_dead y = false
 
+-- only a redo record of format 2 has a second word
+abbrev pub HasMore : Me → MendPoint → Type 0
+HasMore me More = me.geometry.wide ≡ true
+HasMore me y = Unit {0}
+
 -- what the control keeps in range
 pub record MendInRange (m : MendState) : Type 0 where
   pub geometry : GeometryFits m.me.geometry
   pub who : m.me.who < m.me.geometry.clients
   pub era : m.era < 2 ^ 47
+  pub more : HasMore m.me m.point

@@ -17,6 +17,7 @@ use Rattle.shm_graph.specs.declared.memo.ChangeStage.TheVariants.{Lowering}
 use Rattle.shm_graph.specs.declared.memo.Second.TheVariants.{Open}
 use Rattle.shm_graph.specs.Agents.{recovers}
 use Rattle.shm_graph.specs.Asks.{Trail, IsWithin}
+use Rattle.shm_graph.specs.Bounds.{redo_steps}
 use Rattle.shm_graph.specs.Blocks.{classes}
 use Rattle.shm_graph.specs.Core.{core}
 use Rattle.shm_graph.specs.Events.{Event}
@@ -37,10 +38,10 @@ use Rattle.shm_calls.specs.Words.{IsWord, WordLeaves, word_control, word_part, w
 use Rattle.shm_steps.proofs.Words.Own.{dead_store, era_load, era_store, redo_load}
 use Rattle.shm_count.specs.declared.commit_test.Commit.{Commit}
 use Rattle.shm_count.specs.declared.commit_test.Commit.TheVariants.{Committed, NotCommitted}
-use Rattle.shm_count.specs.CommitTest.{IsTested, IsTold, step_block, testing_plan}
+use Rattle.shm_count.specs.CommitTest.{IsTested, IsTold, record_in, step_block, testing_plan}
 use Rattle.shm_count.specs.CommitTest.Laws.{testing_begin, testing_laws}
 use Rattle.shm_recover.specs.declared.mend.MendPoint.{MendPoint}
-use Rattle.shm_recover.specs.declared.mend.MendPoint.TheVariants.{Dead, Era, Redo, Test, Slot, Close, Lower, Unlatch}
+use Rattle.shm_recover.specs.declared.mend.MendPoint.TheVariants.{Dead, Era, Redo, More, Test, Slot, Close, Lower, Unlatch}
 use Rattle.shm_recover.specs.declared.mend.MendState.{MendState}
 use Rattle.shm_recover.specs.MendLower.Laws.{lowering_begin, lowering_laws}
 use Rattle.shm_recover.specs.MendLower.{IsLowered, MayLowerDead, lowering_plan}
@@ -48,10 +49,16 @@ use Rattle.shm_recover.specs.MendUnlatch.Laws.{unlatching_begin, unlatching_laws
 use Rattle.shm_recover.specs.MendUnlatch.{unlatching_plan}
 use Rattle.shm_recover.specs.Mend.Control.{MendAnswer, before_of, block_of, closed, found_by, is_dead, is_first, is_second, mend_ask, mend_call, mend_parts, mending, tested_at, value_at}
 use Rattle.shm_recover.specs.Mend.{HeldOver, IsClosing, IsDead, IsMending, IsSlotted, IsSpelled, MayMend, MendFound, MendKnows, dead, mend_part, mend_plan}
+use Rattle.shm_recover.specs.Mend.SecondWord.{more_load}
 use Rattle.shm_recover.specs.Mend.Slots.{slot_word}
 use Rattle.shm_recover.specs.Mend.Steps.{has_written, spells_idle, spells_none, step_named, to_close, to_drop, to_lower, to_write}
 use Rattle.shm_recover.specs.Mend.Words.{begun, dead_here, era_mending, era_op, era_over, era_own, lower_mending, lower_over, mended, slot_mending, slot_op, slot_over, slotted_row}
 use Rattle.shm_recover.specs.Mend.Tied.{before_inside, block_inside, least_room, op_tied, own_room, second_not_first, value_small}
+
+-- in format 1 the first word says it all
+alone : (word x y : ℕ) → redo_of false word x ≡ redo_of false word y
+unfolding redo_of
+alone word x y = refl
 
 -- ---- where it goes
 
@@ -65,6 +72,10 @@ module _ (m : MendState) (r0 rs r : Memo) (tr t : Trail) (es ds : List Event) (h
   abbrev n : ℕ
   n = m.me.geometry.clients
 
+  -- the word steps of an own redo record
+  abbrev u : ℕ
+  u = redo_steps m.me.geometry.wide
+
   abbrev Next : MendState → Type 0
   Next m2 = MendKnows m2 m2.point r0 r (tr ++ t) (es ++ ds)
 
@@ -76,27 +87,36 @@ module _ (m : MendState) (r0 rs r : Memo) (tr t : Trail) (es ds : List Event) (h
   still_dead same none h = record { may = h.may; recoverer = agent ∙ h.recoverer; same = same ∙ h.same; none = quiet h.none none }
 
   -- the redo record was found
-  redo_led : (word : ℕ) → IsDead me r0 r (es ++ ds) → own_word r.own (spot.Era who who) ≡ m.era → word ≡ own_word r.own (spot.Redo who) → IsWithin 3 (tr ++ t) → (q : Option ARedo) → redo_of word ≡ q → Next (found_by m q)
-  redo_led word h era is bound q spelled = go q (ap redo_of (sym is) ∙ spelled)
+  redo_led : (word second : ℕ) → IsDead me r0 r (es ++ ds) → own_word r.own (spot.Era who who) ≡ m.era → redo_of m.me.geometry.wide word second ≡ record_in me r → IsWithin (2 + redo_steps m.me.geometry.wide) (tr ++ t) → (q : Option ARedo) → redo_of m.me.geometry.wide word second ≡ q → Next (found_by m q)
+  redo_led word second h era is bound q spelled = go q (sym is ∙ spelled)
     where
       idle : IsUncommitted r.op → Next (record m { point = Unlatch })
       idle ended = let b = begun me r0 r (es ++ ds) h in (b.0, b.1, ended, (let x = bound in omega arith))
 
-      tie : OpTie me.geometry (classes held.0) (own_word r.own (spot.Redo who)) (own_word r.own (spot.Era who who)) (words_of held.0) r.op
+      tie : OpTie me.geometry (classes held.0) (own_word r.own (spot.Redo who)) (own_word r.own (spot.RedoMore who)) (own_word r.own (spot.Era who who)) (words_of me.geometry.wide held.0) r.op
       tie = op_tied me r held h.may.who
 
-      spells : (x : ARedo) → x ≢ redos.Idle → redo_of (own_word r.own (spot.Redo who)) ≡ Some x → Next (record m { redo = x; point = Test })
-      spells x some e = (h, record { era = era; spelled = e; some = some; inside = subst (λ y. (0 < block_of x y) × (block_of x y < total_of me.geometry)) era (block_inside me r held h.may.who x e some) }, bound)
+      spells : (x : ARedo) → x ≢ redos.Idle → record_in me r ≡ Some x → Next (record m { redo = x; point = Test })
+      spells x some e = (h, record { era = era; spelled = e; some = some; inside = subst (λ y. block_of x y < total_of me.geometry) era (block_inside me r held h.may.who x e some) }, bound)
 
-      go : (q : Option ARedo) → redo_of (own_word r.own (spot.Redo who)) ≡ q → Next (found_by m q)
-      go None e = idle (spells_none me.geometry (classes held.0) (own_word r.own (spot.Redo who)) (own_word r.own (spot.Era who who)) (words_of held.0) r.op tie e)
-      go (Some redos.Idle) e = idle (spells_idle me.geometry (classes held.0) (own_word r.own (spot.Redo who)) (own_word r.own (spot.Era who who)) (words_of held.0) r.op tie e)
+      go : (q : Option ARedo) → record_in me r ≡ q → Next (found_by m q)
+      go None e = idle (spells_none me.geometry (classes held.0) (own_word r.own (spot.Redo who)) (own_word r.own (spot.RedoMore who)) (own_word r.own (spot.Era who who)) (words_of me.geometry.wide held.0) r.op tie e)
+      go (Some redos.Idle) e = idle (spells_idle me.geometry (classes held.0) (own_word r.own (spot.Redo who)) (own_word r.own (spot.RedoMore who)) (own_word r.own (spot.Era who who)) (words_of me.geometry.wide held.0) r.op tie e)
       go (Some (redos.Up p b)) e = spells (redos.Up p b) (λ z. cc) e
       go (Some (redos.Down p b)) e = spells (redos.Down p b) (λ z. cc) e
       go (Some (redos.Change parity p a b)) e = spells (redos.Change parity p a b) (λ z. cc) e
 
+  -- the first word was found, which in format 1 says it all
+  first_led : (word : ℕ) → IsDead me r0 r (es ++ ds) → own_word r.own (spot.Era who who) ≡ m.era → word ≡ own_word r.own (spot.Redo who) → IsWithin 3 (tr ++ t) → (b : Bool) → m.me.geometry.wide ≡ b → Next (cond b (record m { first = word; point = More }) (found_by m (redo_of m.me.geometry.wide word 0)))
+  first_led word h era is bound true wide = (h, era, sym is, wide, bound)
+  first_led word h era is bound false wide = redo_led word 0 h era same (subst (λ b. IsWithin (2 + redo_steps b) (tr ++ t)) (sym wide) bound) (redo_of m.me.geometry.wide word 0) refl
+    where
+      -- the second word counts for nothing
+      same : redo_of m.me.geometry.wide word 0 ≡ record_in me r
+      same = ap (λ b. redo_of b word 0) wide ∙ (alone word 0 (own_word r.own (spot.RedoMore who)) ∙ (ap (λ b. redo_of b word (own_word r.own (spot.RedoMore who))) (sym wide) ∙ ap (λ x. redo_of m.me.geometry.wide x (own_word r.own (spot.RedoMore who))) is))
+
   -- the commit test answered
-  module _ (x : Commit) (h : IsDead me r0 rs es) (s : IsSpelled me m.era m.redo rs) (bound : IsWithin 3 tr) (g : IsTested me (block_of m.redo m.era) m.era rs r t ds x) where
+  module _ (x : Commit) (h : IsDead me r0 rs es) (s : IsSpelled me m.era m.redo rs) (bound : IsWithin (2 + redo_steps m.me.geometry.wide) tr) (g : IsTested me (block_of m.redo m.era) m.era rs r t ds x) where
     tested_dead : IsDead me r0 r (es ++ ds)
     tested_dead = still_dead g.same g.none h
 
@@ -106,19 +126,19 @@ module _ (m : MendState) (r0 rs r : Memo) (tr t : Trail) (es ds : List Event) (h
     same_era : own_word r.own (spot.Era who who) ≡ m.era
     same_era = ap (λ (y : Memo). own_word y.own (spot.Era who who)) g.same ∙ s.era
 
-    same_redo : redo_of (own_word r.own (spot.Redo who)) ≡ Some m.redo
-    same_redo = ap (λ (y : Memo). redo_of (own_word y.own (spot.Redo who))) g.same ∙ s.spelled
+    same_redo : record_in me r ≡ Some m.redo
+    same_redo = ap (λ (y : Memo). record_in me y) g.same ∙ s.spelled
 
-    tested_bound : IsWithin (n + 3) (tr ++ t)
-    tested_bound = (let y = within_more 3 n tr t bound g.bound in omega arith)
+    tested_bound : IsWithin (n + 2 + u) (tr ++ t)
+    tested_bound = (let y = within_more (2 + u) n tr t bound g.bound in omega arith)
 
-    tied : OpTie me.geometry (classes held.0) (own_word r.own (spot.Redo who)) m.era (words_of held.0) r.op
-    tied = subst (λ e. OpTie me.geometry (classes held.0) (own_word r.own (spot.Redo who)) e (words_of held.0) r.op) same_era (op_tied me r held h.may.who)
+    tied : OpTie me.geometry (classes held.0) (own_word r.own (spot.Redo who)) (own_word r.own (spot.RedoMore who)) m.era (words_of me.geometry.wide held.0) r.op
+    tied = subst (λ e. OpTie me.geometry (classes held.0) (own_word r.own (spot.Redo who)) (own_word r.own (spot.RedoMore who)) e (words_of me.geometry.wide held.0) r.op) same_era (op_tied me r held h.may.who)
 
     -- a second half that is committed has but its era left
     test_closes : is_second m.redo m.era ≡ true → on_of r.op ≡ Some (block_of m.redo m.era) → MendKnows (record m { point = Close }) Close r0 r (tr ++ t) (es ++ ds)
     test_closes half on =
-        let c = to_close me.geometry (classes held.0) (own_word r.own (spot.Redo who)) m.era (words_of held.0) r.op m.redo (block_of m.redo m.era) tied same_redo half on in (
+        let c = to_close me.geometry (classes held.0) (own_word r.own (spot.Redo who)) (own_word r.own (spot.RedoMore who)) m.era (words_of me.geometry.wide held.0) r.op m.redo (block_of m.redo m.era) tied same_redo half on in (
           still.0,
           still.1,
           record { era = same_era; held = held; closes = c.0; first = λ z. absurd (second_not_first m.redo m.era half z); other = λ z. c.1 },
@@ -128,7 +148,7 @@ module _ (m : MendState) (r0 rs r : Memo) (tr t : Trail) (es ds : List Event) (h
     -- of any other step that is committed the slot is stored
     test_writes : is_second m.redo m.era ≡ false → on_of r.op ≡ Some (block_of m.redo m.era) → MendKnows (record m { point = Slot }) Slot r0 r (tr ++ t) (es ++ ds)
     test_writes half on =
-        let c = to_write me.geometry (classes held.0) (own_word r.own (spot.Redo who)) m.era (words_of held.0) r.op m.redo (block_of m.redo m.era) tied same_redo half on in (
+        let c = to_write me.geometry (classes held.0) (own_word r.own (spot.Redo who)) (own_word r.own (spot.RedoMore who)) m.era (words_of me.geometry.wide held.0) r.op m.redo (block_of m.redo m.era) tied same_redo half on in (
           still.0,
           still.1,
           record { era = same_era; held = held; spelled = same_redo; small = value_small me r held h.may.who m.redo same_redo h.may.geometry; writes = c.0; at = c.1; half = half },
@@ -138,7 +158,7 @@ module _ (m : MendState) (r0 rs r : Memo) (tr t : Trail) (es ds : List Event) (h
     -- a second half that isn't is made
     test_lowers : is_second m.redo m.era ≡ true → on_of r.op ≢ Some (block_of m.redo m.era) → MendKnows (record m { point = Lower }) Lower r0 r (tr ++ t) (es ++ ds)
     test_lowers half on =
-        let c = to_lower me.geometry (classes held.0) (own_word r.own (spot.Redo who)) m.era (words_of held.0) r.op m.redo tied same_redo half on in (
+        let c = to_lower me.geometry (classes held.0) (own_word r.own (spot.Redo who)) (own_word r.own (spot.RedoMore who)) m.era (words_of me.geometry.wide held.0) r.op m.redo tied same_redo half on in (
           still.0,
           still.1,
           record {
@@ -161,13 +181,13 @@ module _ (m : MendState) (r0 rs r : Memo) (tr t : Trail) (es ds : List Event) (h
     test_drops half on = (
       still.0,
       still.1,
-      to_drop me.geometry (classes held.0) (own_word r.own (spot.Redo who)) m.era (words_of held.0) r.op m.redo tied same_redo half on,
+      to_drop me.geometry (classes held.0) (own_word r.own (spot.Redo who)) (own_word r.own (spot.RedoMore who)) m.era (words_of me.geometry.wide held.0) r.op m.redo tied same_redo half on,
       (let y = tested_bound in omega arith),
     )
 
   -- the slot was stored
-  slot_led : (word : ℕ) → IsMending me r0 rs → HeldOver who r0 rs es → IsSlotted me m.era m.redo rs → IsWithin (n + 3) tr → WordLeaves (MendFound m Slot) (record { me = m.me; ask = mend_ask m.me m.era m.redo Slot; over = false }) rs r t ds word → Next (record m { point = Close })
-  slot_led word h over s bound g = let done = has_written me.geometry (classes s.held.0) (own_word rs.own (spot.Redo who)) m.era (words_of s.held.0) rs.op m.redo v tie s.spelled s.writes in (
+  slot_led : (word : ℕ) → IsMending me r0 rs → HeldOver who r0 rs es → IsSlotted me m.era m.redo rs → IsWithin (n + 2 + u) tr → WordLeaves (MendFound m Slot) (record { me = m.me; ask = mend_ask m.me m.era m.redo Slot; over = false }) rs r t ds word → Next (record m { point = Close })
+  slot_led word h over s bound g = let done = has_written me.geometry (classes s.held.0) (own_word rs.own (spot.Redo who)) (own_word rs.own (spot.RedoMore who)) m.era (words_of me.geometry.wide s.held.0) rs.op m.redo v tie s.spelled s.writes in (
     slot_mending me r0 rs r v g.found.left s.writes (agent ∙ h.recoverer) h,
     slot_over me r0 rs r v g.found.left s.writes es ds g.none over,
     record {
@@ -177,7 +197,7 @@ module _ (m : MendState) (r0 rs r : Memo) (tr t : Trail) (es ds : List Event) (h
       first = λ z. let y = done.1 z in (y.0, y.1, op ∙ y.2);
       other = λ z. ap (λ o. op_closed o (m.era + 1)) op ∙ done.2 z;
     },
-    (let y = within_more (n + 3) 1 tr t bound (let z = g.one in omega arith) in omega arith),
+    (let y = within_more (n + 2 + u) 1 tr t bound (let z = g.one in omega arith) in omega arith),
   )
     where
       v : ℕ
@@ -189,11 +209,11 @@ module _ (m : MendState) (r0 rs r : Memo) (tr t : Trail) (es ds : List Event) (h
       era : own_word r.own (spot.Era who who) ≡ m.era
       era = ap (λ (y : Memo). own_word y.own (spot.Era who who)) g.found.left ∙ (slotted_row rs (slot_of rs.op) v who who ∙ s.era)
 
-      tie : OpTie me.geometry (classes s.held.0) (own_word rs.own (spot.Redo who)) m.era (words_of s.held.0) rs.op
-      tie = subst (λ e. OpTie me.geometry (classes s.held.0) (own_word rs.own (spot.Redo who)) e (words_of s.held.0) rs.op) s.era (op_tied me rs s.held h.may.who)
+      tie : OpTie me.geometry (classes s.held.0) (own_word rs.own (spot.Redo who)) (own_word rs.own (spot.RedoMore who)) m.era (words_of me.geometry.wide s.held.0) rs.op
+      tie = subst (λ e. OpTie me.geometry (classes s.held.0) (own_word rs.own (spot.Redo who)) (own_word rs.own (spot.RedoMore who)) e (words_of me.geometry.wide s.held.0) rs.op) s.era (op_tied me rs s.held h.may.who)
 
   -- the own era was stored
-  close_led : (word : ℕ) → IsMending me r0 rs → HeldOver who r0 rs es → IsClosing me m.era m.redo rs → IsWithin (n + 4) tr → WordLeaves (MendFound m Close) (record { me = m.me; ask = mend_ask m.me m.era m.redo Close; over = false }) rs r t ds word → Next (closed m)
+  close_led : (word : ℕ) → IsMending me r0 rs → HeldOver who r0 rs es → IsClosing me m.era m.redo rs → IsWithin (n + 3 + u) tr → WordLeaves (MendFound m Close) (record { me = m.me; ask = mend_ask m.me m.era m.redo Close; over = false }) rs r t ds word → Next (closed m)
   close_led word h over s bound g = go (is_first m.redo m.era) refl
     where
       left : core r ≡ core (era_stored who rs (spot.Era who who) (m.era + 1))
@@ -211,8 +231,8 @@ module _ (m : MendState) (r0 rs r : Memo) (tr t : Trail) (es ds : List Event) (h
       era : own_word r.own (spot.Era who who) ≡ m.era + 1
       era = era_own me r0 rs r (m.era + 1) left s.closes
 
-      more : IsWithin (n + 5) (tr ++ t)
-      more = (let y = within_more (n + 4) 1 tr t bound (let z = g.one in omega arith) in omega arith)
+      more : IsWithin (n + 4 + u) (tr ++ t)
+      more = (let y = within_more (n + 3 + u) 1 tr t bound (let z = g.one in omega arith) in omega arith)
 
       go : (q : Bool) → is_first m.redo m.era ≡ q → Next (cond q (record m { era = (m.era + 1) % 2 ^ 47; point = Lower }) (record m { point = Unlatch }))
       go false half = (next, lost, subst IsUncommitted (sym (op ∙ s.other half)) tt, (let y = more in omega arith))
@@ -223,7 +243,7 @@ module _ (m : MendState) (r0 rs r : Memo) (tr t : Trail) (es ds : List Event) (h
           let room = own_room me r held h.may.who in
           let small : m.era + 1 < 2 ^ 47 = (let x = least_room r.op in let z = era in omega arith) in
           let same : (m.era + 1) % 2 ^ 47 ≡ m.era + 1 = mod-eq_of_lt small in
-          subst (λ e. IsMending me r0 r × HeldOver who r0 r (es ++ ds) × MayLowerDead me a e r × IsWithin (n + 5) (tr ++ t)) (sym same) (
+          subst (λ e. IsMending me r0 r × HeldOver who r0 r (es ++ ds) × MayLowerDead me a e r × IsWithin (n + 4 + u) (tr ++ t)) (sym same) (
             next,
             lost,
             record {
@@ -242,12 +262,12 @@ module _ (m : MendState) (r0 rs r : Memo) (tr t : Trail) (es ds : List Event) (h
           )
 
   -- the second half of a change was made
-  lower_led : IsMending me r0 rs → HeldOver who r0 rs es → MayLowerDead me (before_of m.redo) m.era rs → IsWithin (n + 5) tr → IsLowered me (before_of m.redo) m.era rs r t ds → Next (record m { point = Unlatch })
+  lower_led : IsMending me r0 rs → HeldOver who r0 rs es → MayLowerDead me (before_of m.redo) m.era rs → IsWithin (n + 4 + u) tr → IsLowered me (before_of m.redo) m.era rs r t ds → Next (record m { point = Unlatch })
   lower_led h over may bound g = (
     lower_mending me r0 rs r (before_of m.redo) m.era es ds t may g (agent ∙ h.recoverer) h,
     lower_over me r0 rs r (before_of m.redo) m.era es ds t may g over,
     subst IsUncommitted (sym g.op) tt,
-    (let y = within_more (n + 5) 5 tr t bound g.bound in omega arith),
+    (let y = within_more (n + 4 + u) 5 tr t bound g.bound in omega arith),
   )
 
 -- what is known before the first call
@@ -281,6 +301,7 @@ mend_laws =
     calls m Dead = record { me = refl; asks = refl }
     calls m Era = record { me = refl; asks = refl }
     calls m Redo = record { me = refl; asks = refl }
+    calls m More = record { me = refl; asks = refl }
     calls m Test = record { me = refl; asks = refl }
     calls m Slot = record { me = refl; asks = refl }
     calls m Close = record { me = refl; asks = refl }
@@ -292,6 +313,7 @@ mend_laws =
     opens m Dead r0 r tr es (may, same, none, quiet) = dead_store true m.me r may.who
     opens m Era r0 r tr es (h, bound) = era_load false m.me r h.may.who m.me.who m.me.who h.may.who h.may.who
     opens m Redo r0 r tr es (h, era, bound) = redo_load false m.me r h.may.who
+    opens m More r0 r tr es (h, era, first, wide, bound) = more_load m.me r h.may.who wide
     opens m Test r0 r tr es (h, s, bound) =
         record {
           made = refl;
@@ -330,12 +352,24 @@ mend_laws =
 
     word_stays : (m : MendState) (y : MendPoint) (k : ℕ) → PlanStays mend_parts mend_plan (record m { point = y }) (First k)
     word_stays m Redo k =
+        let a : MendState = record m { first = k; point = More } in
         let p : MendState = record m { point = Redo } in
+        let q : Option ARedo = redo_of m.me.geometry.wide k 0 in
+        let b : MendState = found_by p q in
         record {
-          same_me = found_same (λ (x : MendState). x.me) p (redo_of k) (λ x. refl) refl;
+          same_me = alike (λ (x : MendState). x.me) m.me.geometry.wide a b refl (found_same (λ (x : MendState). x.me) p q (λ x. refl) refl);
           same_line = refl;
-          same_start = found_same mend_plan.start p (redo_of k) (λ x. refl) refl;
-          started = λ e. found_same (λ (x : MendState). is_dead x.point) p (redo_of k) (λ x. refl) refl;
+          same_start = alike mend_plan.start m.me.geometry.wide a b refl (found_same mend_plan.start p q (λ x. refl) refl);
+          started = λ e. alike (λ (x : MendState). is_dead x.point) m.me.geometry.wide a b refl (found_same (λ (x : MendState). is_dead x.point) p q (λ x. refl) refl);
+        }
+    word_stays m More k =
+        let p : MendState = record m { point = More } in
+        let q : Option ARedo = redo_of m.me.geometry.wide m.first k in
+        record {
+          same_me = found_same (λ (x : MendState). x.me) p q (λ x. refl) refl;
+          same_line = refl;
+          same_start = found_same mend_plan.start p q (λ x. refl) refl;
+          started = λ e. found_same (λ (x : MendState). is_dead x.point) p q (λ x. refl) refl;
         }
     word_stays m Close k =
         let a : MendState = record m { era = (m.era + 1) % 2 ^ 47; point = Lower } in
@@ -388,12 +422,19 @@ mend_laws =
             let z = ap (λ (x : Memo). own_word x.own (spot.Era m.me.who m.me.who)) g.found.left in
             omega arith)
     leads m Redo r0 rs r tr t es ds (First k) (h, era, bound) g held agent =
-        redo_led (record m { point = Redo }) r0 rs r tr t es ds held agent k
+        first_led (record m { point = Redo }) r0 rs r tr t es ds held agent k
         (still_dead (record m { point = Redo }) r0 rs r tr t es ds held agent g.found.left g.none h)
         (ap (λ (x : Memo). own_word x.own (spot.Era m.me.who m.me.who)) g.found.left ∙ era)
         (g.found.found ∙ sym (ap (λ (x : Memo). own_word x.own (spot.Redo m.me.who)) g.found.left))
         (let y = within_more 2 1 tr t bound (let z = g.one in omega arith) in omega arith)
-        (redo_of k) refl
+        m.me.geometry.wide refl
+    leads m More r0 rs r tr t es ds (First k) (h, era, first, wide, bound) g held agent =
+        redo_led (record m { point = More }) r0 rs r tr t es ds held agent m.first k
+        (still_dead (record m { point = More }) r0 rs r tr t es ds held agent g.found.left g.none h)
+        (ap (λ (x : Memo). own_word x.own (spot.Era m.me.who m.me.who)) g.found.left ∙ era)
+        (ap (λ z. redo_of m.me.geometry.wide z k) (sym first) ∙ (ap (redo_of m.me.geometry.wide (own_word rs.own (spot.Redo m.me.who))) g.found.found ∙ sym (ap (λ (x : Memo). record_in m.me x) g.found.left)))
+        (subst (λ b. IsWithin (2 + redo_steps b) (tr ++ t)) (sym wide) (let y = within_more 3 1 tr t bound (let z = g.one in omega arith) in omega arith))
+        (redo_of m.me.geometry.wide m.first k) refl
     leads m Test r0 rs r tr t es ds (Second (First x)) (h, s, bound) g held agent = goes x (is_second m.redo m.era) refl g.told
       where
         p : MendState
@@ -408,10 +449,11 @@ mend_laws =
     leads m Close r0 rs r tr t es ds (First k) (h, over, s, bound) g held agent = close_led (record m { point = Close }) r0 rs r tr t es ds held agent k h over s bound g
     leads m Lower r0 rs r tr t es ds (Second (Second (First done))) (h, over, may, bound) g held agent = lower_led (record m { point = Lower }) r0 rs r tr t es ds held agent h over may bound g
     leads m Unlatch r0 rs r tr t es ds (Second (Second (Second done))) (h, over, ended, bound) g held agent =
-        mended m.me r0 rs r tr t es ds h over ended g (agent ∙ h.recoverer) (let y = within_more (m.me.geometry.clients + 10) 4 tr t bound g.bound in omega arith)
+        mended m.me r0 rs r tr t es ds h over ended g (agent ∙ h.recoverer) (let y = within_more (m.me.geometry.clients + 9 + redo_steps m.me.geometry.wide) 4 tr t bound g.bound in omega arith)
     leads m Dead r0 rs r tr t es ds (Second a) h g held agent = absurd g
     leads m Era r0 rs r tr t es ds (Second a) h g held agent = absurd g
     leads m Redo r0 rs r tr t es ds (Second a) h g held agent = absurd g
+    leads m More r0 rs r tr t es ds (Second a) h g held agent = absurd g
     leads m Slot r0 rs r tr t es ds (Second a) h g held agent = absurd g
     leads m Close r0 rs r tr t es ds (Second a) h g held agent = absurd g
     leads m Test r0 rs r tr t es ds (First k) h g held agent = absurd g

@@ -44,7 +44,7 @@ writes_step (Change s p a b e) x v h = refl
 writes_step Nothing x v h = absurd h
 
 -- and its slot is there
-writes_at : (o x : Op) (v : ℕ) (me : Me) (w : Spot → ℕ) → Writes o x v → OpTie me.geometry (classes w) (w (spot.Redo me.who)) (w (spot.Era me.who me.who)) (words_of w) o → IsAt me.geometry (classes w) (slot_of o)
+writes_at : (o x : Op) (v : ℕ) (me : Me) (w : Spot → ℕ) → Writes o x v → OpTie me.geometry (classes w) (w (spot.Redo me.who)) (w (spot.RedoMore me.who)) (w (spot.Era me.who me.who)) (words_of me.geometry.wide w) o → IsAt me.geometry (classes w) (slot_of o)
 writes_at (Alloc s p b e) x v me w h tie = tie.at
 writes_at (Up s p b e) x v me w h tie = tie.at
 writes_at (Down s p b e) x v me w h tie = tie.at
@@ -86,6 +86,7 @@ module _ (me : Me) (m : Memo) (l : me.who < me.geometry.clients) (v : ℕ) (here
   at_slot w r h same spot.Spare slot is mine = absurd mine
   at_slot w r h same (spot.Status d) slot is mine = absurd mine
   at_slot w r h same (spot.Redo d) slot is mine = absurd mine
+  at_slot w r h same (spot.RedoMore d) slot is mine = absurd mine
   at_slot w r h same (spot.Hold d) slot is mine = absurd mine
   at_slot w r h same (spot.Latch d) slot is mine = absurd mine
   at_slot w r h same (spot.Era i j) slot is mine = absurd mine
@@ -101,7 +102,7 @@ module _ (me : Me) (m : Memo) (l : me.who < me.geometry.clients) (v : ℕ) (here
   pub slot_word : IsHeld me m → Stored (spot_address me.geometry (slot_of m.op))
   slot_word (w, r, h, same) =
       let here_op : (r me.who).op ≡ m.op = ap (λ (x : Memo). x.op) same in
-      let tie = subst (OpTie me.geometry (classes w) (w (spot.Redo me.who)) (w (spot.Era me.who me.who)) (words_of w)) here_op (h.op me.who l) in
+      let tie = subst (OpTie me.geometry (classes w) (w (spot.Redo me.who)) (w (spot.RedoMore me.who)) (w (spot.Era me.who me.who)) (words_of me.geometry.wide w)) here_op (h.op me.who l) in
       let holds = h.slots me.who l (ap is_op here_op ∙ writes_step m.op (op_written m.op) v writes) in
       at_slot w r h same (slot_of m.op) refl (writes_at m.op (op_written m.op) v me w writes tie) (subst (λ o. Holds w me.geometry (view r) me.who (slot_of o)) here_op holds)
 

@@ -6,6 +6,7 @@ use Rattle.shm_words.specs.declared.geometry.Geometry.{Geometry}
 use Rattle.shm_words.specs.declared.redo.Redo.{Redo as ARedo}
 use Rattle.shm_words.specs.declared.redo.Redo.TheVariants as redos
 use Rattle.shm_words.specs.Redos.{redo_of}
+use Rattle.shm_words.proofs.Words.{change_told}
 use Rattle.shm_graph.specs.declared.spot.Spot.{Spot}
 use Rattle.shm_graph.specs.declared.memo.First.{First}
 use Rattle.shm_graph.specs.declared.memo.First.TheVariants.{Begun, Committed, Written}
@@ -48,9 +49,9 @@ no_step : {T : Type 0} (r : ARedo) (q : Option ARedo) → q ≡ Some r → r ≢
 no_step r q is some (inl none) = absurd (let e : ◌≡◌ {A = Option ARedo} None (Some r) = sym none ∙ is in cc)
 no_step r q is some (inr none) = absurd (some (some_same r redos.Idle (sym is ∙ none)))
 
-module _ (g : Geometry) (class : ℕ → ℕ → ℕ) (redo own : ℕ) (x : Words) where
+module _ (g : Geometry) (class : ℕ → ℕ → ℕ) (redo more own : ℕ) (x : Words) where
   -- a record that spells no step: none is in progress
-  idle : (o : Op) (q : Option ARedo) → OpTie g class redo own x o → redo_of redo ≡ q → (q ≡ None) ⊎ (q ≡ Some redos.Idle) → IsUncommitted o
+  idle : (o : Op) (q : Option ARedo) → OpTie g class redo more own x o → redo_of g.wide redo more ≡ q → (q ≡ None) ⊎ (q ≡ Some redos.Idle) → IsUncommitted o
   idle Nothing q tie is none = tt
   idle (Alloc s p b e) q tie is none = no_step (redos.Up (spot_address g p) b) q (sym is ∙ tie.spelled) (λ z. cc) none
   idle (Up s p b e) q tie is none = no_step (redos.Up (spot_address g p) b) q (sym is ∙ tie.spelled) (λ z. cc) none
@@ -58,15 +59,15 @@ module _ (g : Geometry) (class : ℕ → ℕ → ℕ) (redo own : ℕ) (x : Word
   idle (Change (Raising s) p a b e) q tie is none = no_step (redos.Change (odd e) (spot_address g p) a b) q (sym is ∙ tie.spelled) (λ z. cc) none
   idle (Change (Lowering s) p a b e) q tie is none = no_step (redos.Change (odd (e + 1)) (spot_address g p) a b) q (sym is ∙ tie.spelled) (λ z. cc) none
 
-  pub spells_none : (o : Op) → OpTie g class redo own x o → redo_of redo ≡ None → IsUncommitted o
+  pub spells_none : (o : Op) → OpTie g class redo more own x o → redo_of g.wide redo more ≡ None → IsUncommitted o
   spells_none o tie is = idle o None tie is (inl refl)
 
-  pub spells_idle : (o : Op) → OpTie g class redo own x o → redo_of redo ≡ Some redos.Idle → IsUncommitted o
+  pub spells_idle : (o : Op) → OpTie g class redo more own x o → redo_of g.wide redo more ≡ Some redos.Idle → IsUncommitted o
   spells_idle o tie is = idle o (Some redos.Idle) tie is (inr refl)
 
   -- ---- committed: the slot is to be stored, or the half has but its era left
 
-  pub to_write : (o : Op) (q : ARedo) (b : ℕ) → OpTie g class redo own x o → redo_of redo ≡ Some q → is_second q own ≡ false → on_of o ≡ Some b → Writes o (op_written o) (value_at q) × (slot_at q ≡ spot_address g (slot_of o))
+  pub to_write : (o : Op) (q : ARedo) (b : ℕ) → OpTie g class redo more own x o → redo_of g.wide redo more ≡ Some q → is_second q own ≡ false → on_of o ≡ Some b → Writes o (op_written o) (value_at q) × (slot_at q ≡ spot_address g (slot_of o))
   to_write Nothing q b tie is half on = absurd (cc)
   to_write (Alloc s p d e) q b tie is half on =
       let same : q ≡ redos.Up (spot_address g p) d = some_same q (redos.Up (spot_address g p) d) (sym is ∙ tie.spelled) in
@@ -107,7 +108,7 @@ module _ (g : Geometry) (class : ℕ → ℕ → ℕ) (redo own : ℕ) (x : Word
       absurd (true≢false (sym (ap (λ z. is_second z own) same ∙ ap not (second_half e own tie.current)) ∙ half))
 
   -- what has written its slot: a change leads to its second half, and every other step to its end
-  pub has_written : (o : Op) (q : ARedo) (v : ℕ) → OpTie g class redo own x o → redo_of redo ≡ Some q → Writes o (op_written o) v
+  pub has_written : (o : Op) (q : ARedo) (v : ℕ) → OpTie g class redo more own x o → redo_of g.wide redo more ≡ Some q → Writes o (op_written o) v
       → Closes (op_written o) (op_closed (op_written o) (own + 1)) × (is_first q own ≡ true → (p : Spot) × (b : ℕ) × (op_written o ≡ Change (Raising Written) p (before_of q) b own)) × (is_first q own ≡ false → op_closed (op_written o) (own + 1) ≡ Nothing)
   has_written Nothing q v tie is writes = absurd writes
   has_written (Alloc s p d e) q v tie is writes =
@@ -150,7 +151,7 @@ module _ (g : Geometry) (class : ℕ → ℕ → ℕ) (redo own : ℕ) (x : Word
   has_written (Change (Lowering s) p a d e) q v tie is writes = absurd writes
 
   -- a second half that is committed has but its era left
-  pub to_close : (o : Op) (q : ARedo) (b : ℕ) → OpTie g class redo own x o → redo_of redo ≡ Some q → is_second q own ≡ true → on_of o ≡ Some b → Closes o (op_closed o (own + 1)) × (op_closed o (own + 1) ≡ Nothing)
+  pub to_close : (o : Op) (q : ARedo) (b : ℕ) → OpTie g class redo more own x o → redo_of g.wide redo more ≡ Some q → is_second q own ≡ true → on_of o ≡ Some b → Closes o (op_closed o (own + 1)) × (op_closed o (own + 1) ≡ Nothing)
   to_close Nothing q b tie is half on = absurd (cc)
   to_close (Alloc s p d e) q b tie is half on = absurd (false≢true (sym (ap (λ z. is_second z own) (some_same q (redos.Up (spot_address g p) d) (sym is ∙ tie.spelled))) ∙ half))
   to_close (Up s p d e) q b tie is half on = absurd (false≢true (sym (ap (λ z. is_second z own) (some_same q (redos.Up (spot_address g p) d) (sym is ∙ tie.spelled))) ∙ half))
@@ -161,11 +162,11 @@ module _ (g : Geometry) (class : ℕ → ℕ → ℕ) (redo own : ℕ) (x : Word
 
   -- ---- not committed: a second half is to be made, and else nothing is
 
-  pub to_lower : (o : Op) (q : ARedo) → OpTie g class redo own x o → redo_of redo ≡ Some q → is_second q own ≡ true → on_of o ≢ Some (block_of q own) → (p : Spot) × (b : ℕ) × (o ≡ Change (Lowering Open) p (before_of q) b own)
+  pub to_lower : (o : Op) (q : ARedo) → OpTie g class redo more own x o → redo_of g.wide redo more ≡ Some q → is_second q own ≡ true → on_of o ≢ Some (block_of q own) → (p : Spot) × (b : ℕ) × (o ≡ Change (Lowering Open) p (before_of q) b own)
   to_lower Nothing redos.Idle tie is half on = absurd (cc)
   to_lower Nothing (redos.Up p b) tie is half on = absurd (cc)
   to_lower Nothing (redos.Down p b) tie is half on = absurd (cc)
-  to_lower Nothing (redos.Change parity p a b) tie is half on = absurd (false≢true (sym (ap not (ap (λ z. is_first_half z own) (tie parity p a b is) ∙ itself (odd own))) ∙ half))
+  to_lower Nothing (redos.Change parity p a b) tie is half on = absurd (false≢true (sym (ap not (ap (λ z. is_first_half z own) (let y = change_told g.wide redo more parity p a b is in sym y.1 ∙ tie y.0) ∙ itself (odd own))) ∙ half))
   to_lower (Alloc s p d e) q tie is half on = absurd (false≢true (sym (ap (λ z. is_second z own) (some_same q (redos.Up (spot_address g p) d) (sym is ∙ tie.spelled))) ∙ half))
   to_lower (Up s p d e) q tie is half on = absurd (false≢true (sym (ap (λ z. is_second z own) (some_same q (redos.Up (spot_address g p) d) (sym is ∙ tie.spelled))) ∙ half))
   to_lower (Down s p d e) q tie is half on = absurd (false≢true (sym (ap (λ z. is_second z own) (some_same q (redos.Down (spot_address g p) d) (sym is ∙ tie.spelled))) ∙ half))
@@ -177,7 +178,7 @@ module _ (g : Geometry) (class : ℕ → ℕ → ℕ) (redo own : ℕ) (x : Word
       let same = some_same q (redos.Change (odd (e + 1)) (spot_address g p) a d) (sym is ∙ tie.spelled) in
       absurd (on (ap Some (sym (ap (λ z. block_of z own) same ∙ ap (λ z. cond z d a) (second_half e own tie.current)))))
 
-  pub to_drop : (o : Op) (q : ARedo) → OpTie g class redo own x o → redo_of redo ≡ Some q → is_second q own ≡ false → on_of o ≢ Some (block_of q own) → IsUncommitted o
+  pub to_drop : (o : Op) (q : ARedo) → OpTie g class redo more own x o → redo_of g.wide redo more ≡ Some q → is_second q own ≡ false → on_of o ≢ Some (block_of q own) → IsUncommitted o
   to_drop Nothing q tie is half on = tt
   to_drop (Alloc s p d e) q tie is half on = go s on
     where

@@ -1,7 +1,8 @@
 -- what a held state shows of the step in progress, of the memo alone
-use Rattle.std.proofs.Common.{◌≡◌, ◌≢◌, ℕ, ◌+◌, ◌^◌, ◌<◌, ◌≤◌, refl, sym, ap, ◌∙◌, subst, arith, true, not}
+use Rattle.std.proofs.Common.{◌≡◌, ◌≢◌, ℕ, ◌+◌, ◌^◌, ◌<◌, ◌≤◌, refl, sym, ap, ◌∙◌, subst, arith, Bool, true, false, cond, not, inl, inr}
 use Rattle.std.specs.Prelude.{Some}
 use Rattle.std.proofs.lemmas.Bool.{eq-eqb, true≢false}
+use Rattle.shm_words.specs.declared.geometry.Geometry.{Geometry}
 use Rattle.shm_words.specs.declared.redo.Redo.{Redo as ARedo}
 use Rattle.shm_words.specs.declared.redo.Redo.TheVariants as redos
 use Rattle.shm_words.specs.Layout.{GeometryFits, total_of}
@@ -16,14 +17,32 @@ use Rattle.shm_graph.specs.declared.memo.Op.TheVariants.{Alloc, Change, Down, No
 use Rattle.shm_graph.specs.declared.memo.ChangeStage.TheVariants.{Lowering, Raising}
 use Rattle.shm_graph.specs.declared.memo.Second.TheVariants.{Open}
 use Rattle.shm_graph.specs.Blocks.{IsBlock, classes}
-use Rattle.shm_graph.specs.Held.{Names, OpTie, room_of}
+use Rattle.shm_graph.specs.Held.{IsBefore, MayName, OpTie, room_of}
 use Rattle.shm_graph.specs.References.{words_of}
 use Rattle.shm_graph.specs.Views.{own_word}
 use Rattle.shm_graph.proofs.Spots.Spotting.{in_pool}
+use Rattle.shm_graph.proofs.States.RedoNames.{may_name}
 use Rattle.shm_calls.specs.Parts.{IsHeld}
-use Rattle.shm_count.specs.CommitTest.Shown.{step_is_block}
+use Rattle.shm_count.specs.CommitTest.{is_first_half, record_in}
 use Rattle.shm_recover.specs.Mend.Control.{block_of, is_first, is_second, value_at}
-use Rattle.shm_recover.specs.Mend.Steps.{step_named}
+
+block_below : (g : Geometry) (class : ℕ → ℕ → ℕ) (b : ℕ) → IsBlock g class b → b < total_of g
+block_below g class b is = (in_pool g class b (spot.Head b) is (λ e. cc)).1
+
+before_below : (g : Geometry) (class : ℕ → ℕ → ℕ) (a : ℕ) → IsBefore g class a → a < total_of g
+before_below g class a (inl z) = let none = z.1 in omega arith
+before_below g class a (inr is) = block_below g class a is
+
+-- what the redo record names lies in the pool: a block, or in format 2 word 0, while its words are of two records
+named_below : (g : Geometry) (class : ℕ → ℕ → ℕ) (r : ARedo) (e : ℕ) → MayName g class r → r ≢ redos.Idle → block_of r e < total_of g
+named_below g class redos.Idle e n some = absurd (some refl)
+named_below g class (redos.Up p b) e n some = block_below g class b n
+named_below g class (redos.Down p b) e n some = before_below g class b n
+named_below g class (redos.Change parity p a b) e n some = go (is_first_half parity e)
+  where
+    go : (q : Bool) → cond q b a < total_of g
+    go true = block_below g class b n.1
+    go false = before_below g class a n.0
 
 -- what is said of the memo in the state is said of the memo
 module _ (me : Me) (m : Memo) (held : IsHeld me m) (l : me.who < me.geometry.clients) where
@@ -39,44 +58,52 @@ module _ (me : Me) (m : Memo) (held : IsHeld me m) (l : me.who < me.geometry.cli
   abbrev own : ℕ
   own = own_word m.own (spot.Era me.who me.who)
 
+  abbrev more : ℕ
+  more = own_word m.own (spot.RedoMore me.who)
+
   redo_is : redo ≡ w (spot.Redo c)
   redo_is = sym (ap (λ (x : Memo). own_word x.own (spot.Redo c)) held.3) ∙ held.2.mine c l (spot.Redo c) (eq-eqb c c refl)
+
+  more_is : more ≡ w (spot.RedoMore c)
+  more_is = sym (ap (λ (x : Memo). own_word x.own (spot.RedoMore c)) held.3) ∙ held.2.mine c l (spot.RedoMore c) (eq-eqb c c refl)
 
   own_is : own ≡ w (spot.Era c c)
   own_is = sym (ap (λ (x : Memo). own_word x.own (spot.Era c c)) held.3) ∙ held.2.mine c l (spot.Era c c) (eq-eqb c c refl)
 
   -- its redo record and its own era are tied to its step
-  pub op_tied : OpTie me.geometry (classes w) redo own (words_of w) m.op
+  pub op_tied : OpTie me.geometry (classes w) redo more own (words_of me.geometry.wide w) m.op
   op_tied =
-      subst (λ x. OpTie me.geometry (classes w) x own (words_of w) m.op) (sym redo_is)
-      (subst (λ x. OpTie me.geometry (classes w) (w (spot.Redo c)) x (words_of w) m.op) (sym own_is)
-      (subst (λ (x : Memo). OpTie me.geometry (classes w) (w (spot.Redo c)) (w (spot.Era c c)) (words_of w) x.op) held.3 (held.2.op c l)))
+      subst (λ x. OpTie me.geometry (classes w) x more own (words_of me.geometry.wide w) m.op) (sym redo_is)
+      (subst (λ x. OpTie me.geometry (classes w) (w (spot.Redo c)) x own (words_of me.geometry.wide w) m.op) (sym more_is)
+      (subst (λ x. OpTie me.geometry (classes w) (w (spot.Redo c)) (w (spot.RedoMore c)) x (words_of me.geometry.wide w) m.op) (sym own_is)
+      (subst (λ (x : Memo). OpTie me.geometry (classes w) (w (spot.Redo c)) (w (spot.RedoMore c)) (w (spot.Era c c)) (words_of me.geometry.wide w) x.op) held.3 (held.2.op c l))))
+
+  -- what its redo record may name
+  named : (r : ARedo) → record_in me m ≡ Some r → MayName me.geometry (classes w) r
+  named r spelled = may_name me.geometry (classes w) (w (spot.Redo c)) (w (spot.RedoMore c)) r (held.2.redo c l) (ap (λ x. redo_of me.geometry.wide x (w (spot.RedoMore c))) (sym redo_is) ∙ (ap (redo_of me.geometry.wide redo) (sym more_is) ∙ spelled))
 
   -- the own era leaves room
   pub own_room : own + room_of m.op ≤ 2 ^ 47
   own_room = subst (λ x. x + room_of m.op ≤ 2 ^ 47) (sym own_is) (subst (λ (x : Memo). w (spot.Era c c) + room_of x.op ≤ 2 ^ 47) held.3 (held.2.own c l).room)
 
   -- the block of the step lies in the pool
-  pub block_inside : (r : ARedo) → redo_of redo ≡ Some r → r ≢ redos.Idle → (0 < block_of r own) × (block_of r own < total_of me.geometry)
-  block_inside r spelled some =
-      in_pool me.geometry (classes w) (block_of r own) (spot.Head (block_of r own))
-      (step_is_block me.geometry (classes w) r own (block_of r own) (held.2.redo c l r (ap redo_of (sym redo_is) ∙ spelled)) (step_named r own some))
-      (λ e. cc)
+  pub block_inside : (r : ARedo) → record_in me m ≡ Some r → r ≢ redos.Idle → block_of r own < total_of me.geometry
+  block_inside r spelled some = named_below me.geometry (classes w) r own (named r spelled) some
 
   -- and so does the block before of a change
   pub before_inside : (p : Spot) (a b e : ℕ) → m.op ≡ Change (Lowering Open) p a b e → (0 < a) × (a < total_of me.geometry)
   before_inside p a b e op =
-      let tie = subst (OpTie me.geometry (classes w) redo own (words_of w)) op op_tied in
-      in_pool me.geometry (classes w) a (spot.Head a) (held.2.redo c l _ (ap redo_of (sym redo_is) ∙ tie.spelled)).0 (λ e. cc)
+      let tie = subst (OpTie me.geometry (classes w) redo more own (words_of me.geometry.wide w)) op op_tied in
+      in_pool me.geometry (classes w) a (spot.Head a) tie.blocks.0 (λ e. cc)
 
   -- what the slot comes to hold is small
-  pub value_small : (r : ARedo) → redo_of redo ≡ Some r → GeometryFits me.geometry → value_at r < 2 ^ 64
-  value_small r spelled fits = go r (held.2.redo c l r (ap redo_of (sym redo_is) ∙ spelled))
+  pub value_small : (r : ARedo) → record_in me m ≡ Some r → GeometryFits me.geometry → value_at r < 2 ^ 64
+  value_small r spelled fits = go r (named r spelled)
     where
       block_small : (b : ℕ) → IsBlock me.geometry (classes w) b → b < 2 ^ 64
       block_small b is = let x = in_pool me.geometry (classes w) b (spot.Head b) is (λ e. cc) in let y = total_small me.geometry fits in omega arith
 
-      go : (r : ARedo) → Names me.geometry (classes w) r → value_at r < 2 ^ 64
+      go : (r : ARedo) → MayName me.geometry (classes w) r → value_at r < 2 ^ 64
       go redos.Idle names = omega arith
       go (redos.Up p b) names = block_small b names
       go (redos.Down p b) names = omega arith

@@ -2,6 +2,7 @@
 use Rattle.std.proofs.Common.{◌≡◌, ℕ, ◌+◌, ◌<◌, ◌≤◌, refl, sym, ap, ◌∙◌, subst, arith, Bool, true, false, cond, eqb, ◌&&◌, List, [], ◌∷◌, ◌++◌, inl, inr}
 use Rattle.std.specs.Prelude.{◌⊎◌}
 use Rattle.std.proofs.lemmas.Bool.{cond-false, eq-eqb, eqb-true, false≢true}
+use Rattle.shm_graph.specs.Bounds.{redo_steps}
 use Rattle.shm_graph.specs.declared.ask.Me.{Me}
 use Rattle.shm_graph.specs.declared.spot.Spot.{Spot}
 use Rattle.shm_graph.specs.declared.spot.Spot.TheVariants as spot
@@ -161,21 +162,21 @@ module _ (me : Me) (r0 rs r : Memo) (v : ℕ) (left : core r ≡ core (slotted r
 -- ---- the own era was stored
 
 -- a word of its own that names a block is a word of the pool's
-word_named : (w : Spot → ℕ) (p : Spot) → is_name p ≡ true → word_at (words_of w) p ≡ w p
-word_named w (spot.Home c) e = refl
-word_named w (spot.Root c k) e = refl
-word_named w _ e = absurd (false≢true e)
+word_named : (wide : Bool) (w : Spot → ℕ) (p : Spot) → is_name p ≡ true → word_at (words_of wide w) p ≡ w p
+word_named wide w (spot.Home c) e = refl
+word_named wide w (spot.Root c k) e = refl
+word_named wide w _ e = absurd (false≢true e)
 
 -- a word that holds what covers it shows it
 module _ (me : Me) (w : Spot → ℕ) (r : ℕ → Memo) (h : HeldAt me.geometry w (view r)) (l : me.who < me.geometry.clients) (p : Spot) (name : is_name p ≡ true) (mine : owner_is me.who p ≡ true) where
-  covers_same : (q : Spot) (x : ℕ) → word_at (words_of w) q ≡ x → cover (On q x) p (own_word (r me.who).own p) ≡ own_word (r me.who).own p
+  covers_same : (q : Spot) (x : ℕ) → word_at (words_of me.geometry.wide w) q ≡ x → cover (On q x) p (own_word (r me.who).own p) ≡ own_word (r me.who).own p
   covers_same q x held = go (same_spot q p) (same_spot_is q p)
     where
       go : (z : Bool) → (z ≡ true → q ≡ p) → cond z x (own_word (r me.who).own p) ≡ own_word (r me.who).own p
-      go true is = sym held ∙ (ap (word_at (words_of w)) (is refl) ∙ (word_named w p name ∙ sym (h.mine me.who l p mine)))
+      go true is = sym held ∙ (ap (word_at (words_of me.geometry.wide w)) (is refl) ∙ (word_named me.geometry.wide w p name ∙ sym (h.mine me.who l p mine)))
       go false is = refl
 
-  closed_covers : (o : Op) (x : Op) → OpTie me.geometry (classes w) (w (spot.Redo me.who)) (w (spot.Era me.who me.who)) (words_of w) o → Closes o x → cover (cover_of o) p (own_word (r me.who).own p) ≡ own_word (r me.who).own p
+  closed_covers : (o : Op) (x : Op) → OpTie me.geometry (classes w) (w (spot.Redo me.who)) (w (spot.RedoMore me.who)) (w (spot.Era me.who me.who)) (words_of me.geometry.wide w) o → Closes o x → cover (cover_of o) p (own_word (r me.who).own p) ≡ own_word (r me.who).own p
   closed_covers (Alloc Written q b e) x tie c = covers_same q b tie.word
   closed_covers (Up Written q b e) x tie c = covers_same q b tie.word
   closed_covers (Down Written q b e) x tie c = covers_same q 0 tie.word
@@ -324,7 +325,7 @@ one_event : (c : ℕ) (r0 r : Memo) (es : List Event) → WasLost c r0 r es → 
 one_event c r0 r es (inl (none, quiet, same)) = inl quiet
 one_event c r0 r es (inr (some, event, left)) = inr (held_over_of r0.op, event)
 
-pub mended : (me : Me) (r0 rs r : Memo) (tr t : Trail) (es ds : List Event) → IsMending me r0 rs → HeldOver me.who r0 rs es → IsUncommitted rs.op → Unlatched me rs r t ds → recovers r ≡ true → IsWithin (me.geometry.clients + 14) (tr ++ t) → IsMended me r0 r (tr ++ t) (es ++ ds)
+pub mended : (me : Me) (r0 rs r : Memo) (tr t : Trail) (es ds : List Event) → IsMending me r0 rs → HeldOver me.who r0 rs es → IsUncommitted rs.op → Unlatched me rs r t ds → recovers r ≡ true → IsWithin (me.geometry.clients + 13 + redo_steps me.geometry.wide) (tr ++ t) → IsMended me r0 r (tr ++ t) (es ++ ds)
 mended me r0 rs r tr t es ds h over ended g recoverer bound =
     let rest : bare r ≡ bare (dead r0) = g.rest ∙ h.rest in
     let was : WasLost me.who r0 r (es ++ ds) = lost me.who r0 rs r es ds g.none g.dying (uncommitted rs.op ended).1 over in

@@ -8,7 +8,7 @@ use Rattle.shm_words.proofs.Words.{header_fits, header_of-word, header_word_smal
 use Rattle.shm_graph.specs.declared.ask.Ask.{Ask}
 use Rattle.shm_graph.specs.declared.ask.Me.{Me}
 use Rattle.shm_graph.specs.declared.spot.Spot.{Spot}
-use Rattle.shm_graph.specs.declared.spot.Spot.TheVariants.{Era, Head, Redo}
+use Rattle.shm_graph.specs.declared.spot.Spot.TheVariants.{Era, Head, Redo, RedoMore}
 use Rattle.shm_graph.specs.declared.memo.Memo.{Memo}
 use Rattle.shm_graph.specs.declared.memo.Op.TheVariants.{Change}
 use Rattle.shm_graph.specs.declared.memo.ChangeStage.TheVariants.{Lowering}
@@ -67,8 +67,8 @@ module _ (me : Me) (w : Spot → ℕ) (r : ℕ → Memo) (h : HeldAt me.geometry
   -- it is a block
   pub half_block : spot_at me.geometry (classes w) a ≡ Head a
   half_block =
-      let tie = subst (OpTie me.geometry (classes w) (w (Redo me.who)) (w (Era me.who me.who)) (words_of w)) half_here (h.op me.who l) in
-      (h.redo me.who l _ tie.spelled).0
+      let tie = subst (OpTie me.geometry (classes w) (w (Redo me.who)) (w (RedoMore me.who)) (w (Era me.who me.who)) (words_of me.geometry.wide w)) half_here (h.op me.who l) in
+      tie.blocks.0
 
   -- and a reference to it is held over
   pub half_counted : IsCounted me (w (Head a))
@@ -95,8 +95,8 @@ pub record IsLowering (p : Spot) (a b e : ℕ) (m x : Memo) : Type 0 where
   pub own : x.own ≡ m.own
   pub dying : (x.dying ≡ m.dying) ⊎ (x.dying ≡ m.dying ++ a ∷ [])
 
-pub half_committed : (c : ℕ) (m : Memo) (p : Spot) (a b e to : ℕ) → IsLowering p a b e m (committed c m (Change (Lowering Open) p a b e) to)
-half_committed c m p a b e to = go (eqb (header_of to).count 0)
+pub half_committed : (wide : Bool) (c : ℕ) (m : Memo) (p : Spot) (a b e to : ℕ) → IsLowering p a b e m (committed wide c m (Change (Lowering Open) p a b e) to)
+half_committed wide c m p a b e to = go (eqb (header_of to).count 0)
   where
     k : Memo
     k = cut c p (record m { op = Change (Lowering Closed) p a b e; made = without_made m a })

@@ -10,7 +10,7 @@ use Rattle.shm_graph.specs.declared.ask.Ask.TheVariants as ask
 use Rattle.shm_graph.specs.declared.ask.Me.{Me}
 use Rattle.shm_graph.specs.declared.spot.Spot.{Spot}
 use Rattle.shm_graph.specs.declared.spot.Spot.TheVariants as spot
-use Rattle.shm_graph.specs.declared.spot.Spot.TheVariants.{Era, Head}
+use Rattle.shm_graph.specs.declared.spot.Spot.TheVariants.{Era}
 use Rattle.shm_graph.specs.declared.memo.Fact.TheVariants.{Header as HeaderRead}
 use Rattle.shm_graph.specs.declared.memo.Memo.{Memo}
 use Rattle.shm_graph.specs.declared.memo.Op.{Op}
@@ -100,9 +100,9 @@ module _ (m : LoweringState) (r0 r : Memo) (es : List Event) (h : HasFound m.me 
   exchange_word shows =
       let to : ℕ = lowered c m.era m.header in
       let new = lowered_header m.me m.era m.header h.may.geometry h.may.who h.may.small in
-      event_besides false m.me (ask.Exchange m.block m.header to) (FormerLowered c half m.header to) (ExchangeFound m.me m.block m.era m.header) r
+      event_besides false m.me (ask.Exchange m.block m.header to) (FormerLowered m.me.geometry.wide c half m.header to) (ExchangeFound m.me m.block m.era m.header) r
       (λ w rs f st at x left. (
-        subst (λ o. FormerLowered c o m.header to r (w (spot_at m.me.geometry (classes w) m.block)) x) (sym op_same) left,
+        subst (λ o. FormerLowered m.me.geometry.wide c o m.header to r (w (spot_at m.me.geometry (classes w) m.block)) x) (sym op_same) left,
         subst (λ q. IsCounted m.me (w q)) (sym (half_block m.me w rs st.held h.may.who r at h.may.slot m.block h.may.after m.era op_same)) (half_counted m.me w rs st.held h.may.who r at h.may.slot m.block h.may.after m.era op_same),
       ))
       (former_event c m.block m.header)
@@ -247,10 +247,10 @@ module _ (m : LoweringState) (r0 rs r : Memo) (tr t : Trail) (es ds : List Event
       to : ℕ
       to = lowered who m.era m.header
 
-      done : IsLowering h.may.slot m.block h.may.after m.era rs (committed who rs rs.op to)
-      done = subst (λ o. IsLowering h.may.slot m.block h.may.after m.era rs (committed who rs o to)) (sym op_is) (half_committed who rs h.may.slot m.block h.may.after m.era to)
+      done : IsLowering h.may.slot m.block h.may.after m.era rs (committed m.me.geometry.wide who rs rs.op to)
+      done = subst (λ o. IsLowering h.may.slot m.block h.may.after m.era rs (committed m.me.geometry.wide who rs o to)) (sym op_is) (half_committed m.me.geometry.wide who rs h.may.slot m.block h.may.after m.era to)
 
-      go : (q : Bool) → (q ≡ true → n ≡ m.header) → (q ≡ false → n ≢ m.header) → core r ≡ core (cond q (committed who rs rs.op to) rs) → filter is_event (former_event who m.block m.header n ∷ []) ≡ filter is_event (cond q (ChangeDown who m.block) NoEvent ∷ [])
+      go : (q : Bool) → (q ≡ true → n ≡ m.header) → (q ≡ false → n ≢ m.header) → core r ≡ core (cond q (committed m.me.geometry.wide who rs rs.op to) rs) → filter is_event (former_event who m.block m.header n ∷ []) ≡ filter is_event (cond q (ChangeDown who m.block) NoEvent ∷ [])
           → let m2 : LoweringState = cond q (record m { point = Close }) (found m n) in LoweringKnows m2 m2.point r0 r (tr ++ t) (es ++ ds)
       go true is other left event = (
         record {
@@ -258,7 +258,7 @@ module _ (m : LoweringState) (r0 rs r : Memo) (tr t : Trail) (es ds : List Event
           op = ap (λ (x : Memo). x.op) left ∙ done.op;
           rest = ap bare left ∙ (done.rest ∙ ap bare h.same.rest);
           latch = ap (λ (x : Memo). x.latch) left ∙ (done.latch ∙ ap (λ (x : Memo). x.latch) h.same.rest);
-          dying = subst (λ ds. (ds ≡ r0.dying) ⊎ (ds ≡ r0.dying ++ m.block ∷ [])) (sym (ap (λ (x : Memo). x.dying) left)) (subst (λ bs. ((committed who rs rs.op to).dying ≡ bs) ⊎ ((committed who rs rs.op to).dying ≡ bs ++ m.block ∷ [])) (ap (λ (x : Memo). x.dying) h.same.rest) done.dying);
+          dying = subst (λ ds. (ds ≡ r0.dying) ⊎ (ds ≡ r0.dying ++ m.block ∷ [])) (sym (ap (λ (x : Memo). x.dying) left)) (subst (λ bs. ((committed m.me.geometry.wide who rs rs.op to).dying ≡ bs) ⊎ ((committed m.me.geometry.wide who rs rs.op to).dying ≡ bs ++ m.block ∷ [])) (ap (λ (x : Memo). x.dying) h.same.rest) done.dying);
           own = λ p apart. ap (λ ws. own_word ws p) (ap (λ (x : Memo). x.own) left ∙ done.own) ∙ h.same.own p apart;
           era = ap (λ ws. own_word ws (Era who who)) (ap (λ (x : Memo). x.own) left ∙ done.own) ∙ h.same.era;
           rows = λ j. subst (λ ws. own_word r0.own (Era who j) ≤ own_word ws (Era who j)) (sym (ap (λ (x : Memo). x.own) left ∙ done.own)) (h.same.rows j);

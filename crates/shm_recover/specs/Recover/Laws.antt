@@ -3,6 +3,9 @@ use Rattle.std.proofs.Common.{◌≡◌, ◌≢◌, ℕ, ◌+◌, ◌*◌, ◌-�
 use Rattle.std.specs.Prelude.{◌==◌, if◌then◌else◌, None, Ok, Err, slice_index, slice_index_or}
 use Rattle.std.specs.List.{All, Contains}
 use Rattle.std.proofs.lemmas.Bool.{cases_lt, eq-eqb, eqb-false, eqb-true}
+use Rattle.shm_recover.specs.Costs.{recovery_most}
+use Rattle.shm_ref.specs.Costs.{tear_sum}
+use Rattle.shm_graph.specs.Bounds.{redo_steps, tear_steps}
 use Rattle.shm_graph.specs.declared.ask.Me.{Me}
 use Rattle.shm_graph.specs.declared.spot.Spot.{Spot}
 use Rattle.shm_graph.specs.declared.spot.Spot.TheVariants.{Era, Hold, Home, QueueHead, Root, Tail}
@@ -126,10 +129,10 @@ module _ (me : Me) (k : ℕ) (r0 r : Memo) (tr : Trail) (es : List Event) (h : I
       }
 
 -- what a call with these losses leaves
-goes_on : (me : Me) (k j z : ℕ) (r0 rs r : Memo) (tr t : Trail) (es ds : List Event) → IsRecovering me k r0 rs tr es → lasting r ≡ lasting rs → r.op ≡ Nothing → ((p : Spot) → is_kept me.who p ≡ true → own_word r.own p ≡ own_word rs.own p) → ((j : ℕ) → own_word rs.own (Era me.who j) ≤ own_word r.own (Era me.who j)) → AreLosses me.who ds → IsWithin (j + 164 * frees ds) t → k + j ≤ z → IsRecovering me z r0 r (tr ++ t) (es ++ ds)
+goes_on : (me : Me) (k j z : ℕ) (r0 rs r : Memo) (tr t : Trail) (es ds : List Event) → IsRecovering me k r0 rs tr es → lasting r ≡ lasting rs → r.op ≡ Nothing → ((p : Spot) → is_kept me.who p ≡ true → own_word r.own p ≡ own_word rs.own p) → ((j : ℕ) → own_word rs.own (Era me.who j) ≤ own_word r.own (Era me.who j)) → AreLosses me.who ds → IsWithin (j + tear_steps me.geometry.wide (frees ds)) t → k + j ≤ z → IsRecovering me z r0 r (tr ++ t) (es ++ ds)
 goes_on me k j z r0 rs r tr t es ds h same idle own rows losses bound most =
-    let b = within_more (k + 164 * frees es) (j + 164 * frees ds) tr t h.bound bound in
-    let f = frees-append es ds in
+    let b = within_more (k + tear_steps me.geometry.wide (frees es)) (j + tear_steps me.geometry.wide (frees ds)) tr t h.bound bound in
+    let f = tear_sum me.geometry.wide (frees (es ++ ds)) (frees es) (frees ds) (frees-append es ds) in
     let x = h.events in
     record {
       member = h.member;
@@ -161,6 +164,13 @@ module _ (m : RecoverState) (r0 rs r : Memo) (tr t : Trail) (es ds : List Event)
   abbrev g : ℕ
   g = m.me.geometry.segments
 
+  abbrev wide : Bool
+  wide = m.me.geometry.wide
+
+  -- the word steps of an own redo record
+  abbrev u : ℕ
+  u = redo_steps m.me.geometry.wide
+
   -- what is known next, or what is left
   abbrev Leads : RecoverAnswer → Type 0
   Leads a = Follows recover_parts recover_plan m a r0 r (tr ++ t) (es ++ ds)
@@ -176,7 +186,7 @@ module _ (m : RecoverState) (r0 rs r : Memo) (tr t : Trail) (es ds : List Event)
           q = r;
           mended = record { first = t; half = ds; mended = is; same = refl; idle = is.op; own = λ p n. refl; rows = λ i. omega arith };
           events = record { half = ds; losses = []; split = told ∙ sym (append-nil ds); first = is.events; others = no_losses c };
-          bound = subst (IsWithin (n + 14 + 164 * frees (es ++ ds))) (sym asked) (let b = is.bound in omega arith);
+          bound = subst (IsWithin (n + 13 + u + tear_steps wide (frees (es ++ ds)))) (sym asked) (let b = is.bound in omega arith);
         },
         (λ s. record { received = ap (λ (x : List (List ℕ)). slice_index_or x s []) is.received; untaken = ap (λ (x : List ℕ). slice_index x s) is.untaken; head = is.apart (QueueHead s c) refl }),
         is.unsent,
@@ -197,7 +207,7 @@ module _ (m : RecoverState) (r0 rs r : Memo) (tr t : Trail) (es ds : List Event)
   still_rest e own s = record { received = ap (λ (x : Memo). slice_index_or x.received s []) e; untaken = ap (λ (x : Memo). slice_index x.untaken s) e; head = own (QueueHead s c) refl }
 
   -- on to the queues, or to the scan
-  to_queues : (y : RecoverPoint) → IsRecovering m.me (n + 158) r0 r (tr ++ t) (es ++ ds) → AreRootless c r → ((some : 1 < n) → RecoverKnows (record m { point = y }) y r0 r (tr ++ t) (es ++ ds)) → (n ≡ 1 → AreSent r × AreTaken c r0 r) → RecoverKnows (queues_next m y) (queues_next m y).point r0 r (tr ++ t) (es ++ ds)
+  to_queues : (y : RecoverPoint) → IsRecovering m.me (n + 141 + 17 * u) r0 r (tr ++ t) (es ++ ds) → AreRootless c r → ((some : 1 < n) → RecoverKnows (record m { point = y }) y r0 r (tr ++ t) (es ++ ds)) → (n ≡ 1 → AreSent r × AreTaken c r0 r) → RecoverKnows (queues_next m y) (queues_next m y).point r0 r (tr ++ t) (es ++ ds)
   to_queues y h roots more one = go (n == 1) (eqb-true n 1) (eqb-false n 1)
     where
       go : (q : Bool) → (q ≡ true → n ≡ 1) → (q ≡ false → n ≢ 1) → let x : RecoverState = if q then record m { point = Scan } else record m { point = y } in RecoverKnows x x.point r0 r (tr ++ t) (es ++ ds)
@@ -213,7 +223,7 @@ module _ (m : RecoverState) (r0 rs r : Memo) (tr t : Trail) (es ds : List Event)
       let e = y.left.rest in
       let roots : AreRootless c r = λ k. elim (cases_lt k 16) [ inl l ↦ y.gone k l | inr far ↦ root_beyond m.me h.member.who r k held far ] in
       let same : SameTakes c r0 r = same_takes takes (λ s. record { received = ap (λ (x : Memo). slice_index_or x.received s []) e; untaken = ap (λ (x : Memo). slice_index x.untaken s) e; head = y.left.own (QueueHead s c) refl refl }) in
-      let z = goes_on m.me (n + 14) 144 (n + 158) r0 rs r tr t es ds h (ap lasting e) y.left.op (λ p k. y.left.own p (kept_lasts c p k) (kept_no_root c _ p k)) y.left.rows (roots_losses c rs 16 ds y.events) y.bound (omega arith) in
+      let z = goes_on m.me (n + 13 + u) ((8 + u) * 16) (n + 141 + 17 * u) r0 rs r tr t es ds h (ap lasting e) y.left.op (λ p k. y.left.own p (kept_lasts c p k) (kept_no_root c _ p k)) y.left.rows (roots_losses c rs 16 ds y.events) y.bound (omega arith) in
       to_queues Back z roots (λ some. (z, same, ap (λ (x : Memo). x.unsent) e ∙ unsent, roots, some))
       (λ one. (λ j. nothing_unsent m.me h.member.who j r held (alone one j h.member.who), λ s. same_done c s r0 r (nothing_waits m.me h.member.who s r held (alone one s h.member.who)) (same s)))
 
@@ -223,7 +233,7 @@ module _ (m : RecoverState) (r0 rs r : Memo) (tr t : Trail) (es ds : List Event)
       let e = y.back.rest in
       let rootless : AreRootless c r = λ k. y.back.own (Root c k) refl ∙ roots k in
       let same : SameTakes c r0 r = same_takes takes (λ s. record { received = ap (λ (x : Memo). slice_index_or x.received s []) e; untaken = ap (λ (x : Memo). slice_index x.untaken s) e; head = y.back.own (QueueHead s c) refl }) in
-      let at : IsRecovering m.me (n + 158 + 11 * (n - 1)) r0 r (tr ++ t) (es ++ ds) = goes_on m.me (n + 158) (11 * (n - 1)) (n + 158 + 11 * (n - 1)) r0 rs r tr t es ds h (ap lasting e) y.back.op (λ p k. y.back.own p (kept_lasts c p k)) y.back.rows (backs_losses c rs (n - 1) ds y.events) y.bound (omega arith) in
+      let at : IsRecovering m.me (n + 141 + 17 * u + (10 + u) * (n - 1)) r0 r (tr ++ t) (es ++ ds) = goes_on m.me (n + 141 + 17 * u) ((10 + u) * (n - 1)) (n + 141 + 17 * u + (10 + u) * (n - 1)) r0 rs r tr t es ds h (ap lasting e) y.back.op (λ p k. y.back.own p (kept_lasts c p k)) y.back.rows (backs_losses c rs (n - 1) ds y.events) y.bound (omega arith) in
       go (n == 1) (eqb-true n 1) (at, same, rootless, y.none, some)
     where
       go : (q : Bool) → (q ≡ true → n ≡ 1) → RecoverKnows m Takes r0 r (tr ++ t) (es ++ ds) → let x : RecoverState = if q then record m { point = Scan } else record m { point = Takes } in RecoverKnows x x.point r0 r (tr ++ t) (es ++ ds)
@@ -234,7 +244,7 @@ module _ (m : RecoverState) (r0 rs r : Memo) (tr t : Trail) (es ds : List Event)
   taken : RecoverKnows m Takes r0 rs tr es → FinishDone m.me rs r t ds → RecoverKnows m Scan r0 r (tr ++ t) (es ++ ds)
   taken (h, takes, roots, sent, some) y =
       let e = y.heads.rest in (
-        goes_on m.me (n + 158 + 11 * (n - 1)) (4 * (n - 1)) (n + 158 + 15 * (n - 1)) r0 rs r tr t es ds h (ap lasting e) (ap (λ (x : Memo). x.op) e ∙ h.mended.idle) (λ p k. y.heads.own p (kept_no_head c p k))
+        goes_on m.me (n + 141 + 17 * u + (10 + u) * (n - 1)) (4 * (n - 1)) (n + 141 + 17 * u + (10 + u) * (n - 1) + 4 * (n - 1)) r0 rs r tr t es ds h (ap lasting e) (ap (λ (x : Memo). x.op) e ∙ h.mended.idle) (λ p k. y.heads.own p (kept_no_head c p k))
             (λ j. subst (λ z. own_word rs.own (Era c j) ≤ z) (sym (y.heads.own (Era c j) (λ s. refl))) (omega arith)) (subst (AreLosses c) (sym y.none) (no_losses c)) (let b = y.bound in omega arith) (omega arith),
         (λ k. y.heads.own (Root c k) (λ s. refl) ∙ roots k),
         (λ j. ap (λ (x : Memo). slice_index x.unsent j) e ∙ sent j),
@@ -249,7 +259,7 @@ module _ (m : RecoverState) (r0 rs r : Memo) (tr t : Trail) (es ds : List Event)
   scanned : (k : ℕ) → RecoverKnows m Scan r0 rs tr es → ScanDone m.me k rs r t ds → RecoverKnows m Give r0 r (tr ++ t) (es ++ ds)
   scanned k (h, roots, sent, taken) y =
       let e = y.scanned.rest in (
-        goes_on m.me (n + 158 + 15 * (n - 1)) (528 * g) (n + 158 + 15 * (n - 1) + 528 * g) r0 rs r tr t es ds h (ap lasting e) y.scanned.op (λ p k. y.scanned.own p (kept_lasts c p k)) y.scanned.rows (scan_losses c y.blocks ds y.events) y.bound (omega arith),
+        goes_on m.me (n + 141 + 17 * u + (10 + u) * (n - 1) + 4 * (n - 1)) (528 * g) (n + 141 + 17 * u + (10 + u) * (n - 1) + 4 * (n - 1) + 528 * g) r0 rs r tr t es ds h (ap lasting e) y.scanned.op (λ p k. y.scanned.own p (kept_lasts c p k)) y.scanned.rows (scan_losses c y.blocks ds y.events) y.bound (omega arith),
         (λ k. y.scanned.own (Root c k) refl ∙ roots k),
         (λ j. ap (λ (x : Memo). slice_index x.unsent j) e ∙ sent j),
         taken_still taken (still_rest e y.scanned.own),
@@ -261,10 +271,11 @@ module _ (m : RecoverState) (r0 rs r : Memo) (tr t : Trail) (es ds : List Event)
   gone (h, roots, sent, taken, none) y =
       let e = y.rest in
       let still : es ++ ds ≡ es = ap (λ (x : List Event). es ++ x) y.none ∙ append-nil es in
-      let f = ap frees still in
+      let f = ap (λ (x : List Event). tear_steps wide (frees x)) still in
       let most = h.member.geometry.clients in
       let some = h.member.who in
-      let b = within_more (n + 158 + 15 * (n - 1) + 528 * g + 164 * frees es) (2 * g + 1) tr t h.bound y.bound in
+      let all = recovery_most wide n most (omega arith) in
+      let b = within_more (n + 141 + 17 * u + (10 + u) * (n - 1) + 4 * (n - 1) + 528 * g + tear_steps wide (frees es)) (2 * g + 1) tr t h.bound y.bound in
       record {
         status = ap (λ (x : Memo). x.status) e;
         left = y.left;
@@ -280,12 +291,12 @@ module _ (m : RecoverState) (r0 rs r : Memo) (tr t : Trail) (es ds : List Event)
       }
 
   -- the own era left no room
-  stopped : (k j era : ℕ) (vs : List Visit) → IsRecovering m.me k r0 rs tr es → lasting r ≡ lasting rs → r.op ≡ Nothing → HasCome c r0 r → All (λ (v : Visit). Contains r.dying v.block) vs → (2 ^ 47 - 3 < era) × (era ≤ own_word r.own (Era c c)) → IsWithin (j + 164 * (frees ds + length vs)) t → k + j ≤ 400 + 530 * g → RecoverStopped m.me r0 r (tr ++ t) (es ++ ds) era
+  stopped : (k j era : ℕ) (vs : List Visit) → IsRecovering m.me k r0 rs tr es → lasting r ≡ lasting rs → r.op ≡ Nothing → HasCome c r0 r → All (λ (v : Visit). Contains r.dying v.block) vs → (2 ^ 47 - 3 < era) × (era ≤ own_word r.own (Era c c)) → IsWithin (j + tear_steps wide (frees ds + length vs)) t → k + j ≤ 368 + 32 * u + 530 * g → RecoverStopped m.me r0 r (tr ++ t) (es ++ ds) era
   stopped k j era vs h same idle come stay spent bound most =
       let x = h.mended in
       let last = same ∙ x.same in
-      let f = frees-append es ds in
-      let b = within_more (k + 164 * frees es) (j + 164 * (frees ds + length vs)) tr t h.bound bound in
+      let f = tear_sum wide (frees (es ++ ds) + length vs) (frees es) (frees ds + length vs) (let y = frees-append es ds in omega arith) in
+      let b = within_more (k + tear_steps wide (frees es)) (j + tear_steps wide (frees ds + length vs)) tr t h.bound bound in
       record {
         status = ap (λ (y : Memo). y.status) last ∙ x.mended.status;
         op = idle;
@@ -304,22 +315,25 @@ module _ (m : RecoverState) (r0 rs r : Memo) (tr t : Trail) (es ds : List Event)
   stopped_roots : (e : EraSpent) → RecoverKnows m Roots r0 rs tr es → RootsLeaves (record { me = m.me; root = 0 }) rs r t ds (Err e) → RecoverStopped m.me r0 r (tr ++ t) (es ++ ds) e.era
   stopped_roots e (h, takes, unsent) (vs, y) =
       let s = y.left.rest in
-      let most = h.member.geometry.clients in
-      stopped (n + 14) 144 e.era vs h (ap lasting s) y.left.op (inl (same_takes takes (λ i. record { received = ap (λ (x : Memo). slice_index_or x.received i []) s; untaken = ap (λ (x : Memo). slice_index x.untaken i) s; head = y.left.own (QueueHead i c) refl refl }))) y.stopped.left (y.stopped.spent, y.most) y.bound (omega arith)
+      let some = h.member.who in
+      let all = recovery_most wide n h.member.geometry.clients (omega arith) in
+      stopped (n + 13 + u) ((8 + u) * 16) e.era vs h (ap lasting s) y.left.op (inl (same_takes takes (λ i. record { received = ap (λ (x : Memo). slice_index_or x.received i []) s; untaken = ap (λ (x : Memo). slice_index x.untaken i) s; head = y.left.own (QueueHead i c) refl refl }))) y.stopped.left (y.stopped.spent, y.most) y.bound (omega arith)
 
   stopped_back : (e : EraSpent) → RecoverKnows m Back r0 rs tr es → BackLeaves (taking_back m.me) rs r t ds (Err e) → RecoverStopped m.me r0 r (tr ++ t) (es ++ ds) e.era
   stopped_back e (h, takes, unsent, roots, some) (vs, y) =
       let s = y.back.rest in
-      let most = h.member.geometry.clients in
-      stopped (n + 158) (11 * (n - 1)) e.era vs h (ap lasting s) y.back.op
+      let some = h.member.who in
+      let all = recovery_most wide n h.member.geometry.clients (omega arith) in
+      stopped (n + 141 + 17 * u) ((10 + u) * (n - 1)) e.era vs h (ap lasting s) y.back.op
       (inr (inl ((λ k. y.back.own (Root c k) refl ∙ roots k), same_takes takes (λ i. record { received = ap (λ (x : Memo). slice_index_or x.received i []) s; untaken = ap (λ (x : Memo). slice_index x.untaken i) s; head = y.back.own (QueueHead i c) refl }))))
       y.stopped.left (y.stopped.spent, y.most) y.bound (omega arith)
 
   stopped_scan : (e : EraSpent) → RecoverKnows m Scan r0 rs tr es → ScanStopped m.me rs r t ds e.era → RecoverStopped m.me r0 r (tr ++ t) (es ++ ds) e.era
   stopped_scan e (h, roots, sent, taken) y =
       let s = y.scanned.rest in
-      let most = h.member.geometry.clients in
-      stopped (n + 158 + 15 * (n - 1)) (528 * g) e.era y.vs h (ap lasting s) y.scanned.op
+      let some = h.member.who in
+      let all = recovery_most wide n h.member.geometry.clients (omega arith) in
+      stopped (n + 141 + 17 * u + (10 + u) * (n - 1) + 4 * (n - 1)) (528 * g) e.era y.vs h (ap lasting s) y.scanned.op
       (inr (inr (
         (λ k. y.scanned.own (Root c k) refl ∙ roots k),
         (λ j. ap (λ (x : Memo). slice_index x.unsent j) s ∙ sent j),

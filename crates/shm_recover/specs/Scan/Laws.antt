@@ -9,6 +9,8 @@ use Rattle.shm_words.proofs.Placing.{total_small}
 use Rattle.shm_words.specs.Classes.{IsClass}
 use Rattle.shm_words.specs.Headers.{header_of}
 use Rattle.shm_words.specs.Layout.{bodies}
+use Rattle.shm_ref.specs.Costs.{tear_sum}
+use Rattle.shm_graph.specs.Bounds.{tear_steps}
 use Rattle.shm_graph.specs.declared.ask.Me.{Me}
 use Rattle.shm_graph.specs.declared.memo.Fact.TheVariants.{Class}
 use Rattle.shm_graph.specs.declared.memo.Memo.{Memo}
@@ -161,9 +163,9 @@ lost_same bs m q r e h =
 -- one word step more that leaves the memo, on to a later word of the page
 one_more : (me : Me) (s q i j n k : ℕ) (r0 rs r : Memo) (tr t : Trail) (es ds : List Event) → IsScanning me s q i n k r0 rs tr es → i ≤ j → core r ≡ core rs → ds ≡ [] → length t ≡ 1 → ((b : ℕ) → Contains r.dying b → words_before s q j ≤ b - bodies me.geometry) → IsScanning me s q j n (k + 1) r0 r (tr ++ t) (es ++ ds)
 one_more me s q i j n k r0 rs r tr t es ds h le same quiet one ahead =
-    let b = within_more (33 * (16 * s + q) + k + 164 * frees es) 1 tr t h.bound (omega arith) in
+    let b = within_more (33 * (16 * s + q) + k + tear_steps me.geometry.wide (frees es)) 1 tr t h.bound (omega arith) in
     let still : es ++ ds ≡ es = ap (λ (x : List Event). es ++ x) quiet ∙ append-nil es in
-    let f = ap frees still in
+    let f = ap (λ (x : List Event). tear_steps me.geometry.wide (frees x)) still in
     let few = h.few in
     record {
       may = h.may;
@@ -370,8 +372,8 @@ module _ (m : ScanState) (r0 rs r : Memo) (tr t : Trail) (es ds : List Event) (h
   torn ((n, e, h), at, can) y grows =
       let b : ℕ = block_at m in
       let four : 4 ≤ m.class = by_class m.class at.class (λ z. 4 ≤ z) (omega arith) (omega arith) (omega arith) (omega arith) in
-      let f = frees-append es ds in
-      let bound = within_more (33 * (16 * m.segment + m.page) + (2 + m.offset / 4) + 164 * frees es) (164 * frees ds) tr t h.bound y.bound in
+      let f = tear_sum m.me.geometry.wide (frees (es ++ ds)) (frees es) (frees ds) (frees-append es ds) in
+      let bound = within_more (33 * (16 * m.segment + m.page) + (2 + m.offset / 4) + tear_steps m.me.geometry.wide (frees es)) (tear_steps m.me.geometry.wide (frees ds)) tr t h.bound y.bound in
       let read : Contains r.facts (Class m.segment m.page m.class) = grows.facts refl (Class m.segment m.page m.class) at.read in
       let was : (d : ℕ) → Contains r.dying d → Contains rs.dying d × (not_block b d ≡ true) = λ d has. filter_from (not_block b) rs.dying d (subst (λ (xs : List ℕ). Contains xs d) y.others has) in
       block_went m r0 r (tr ++ t) (es ++ ds) held
@@ -408,8 +410,8 @@ module _ (m : ScanState) (r0 rs r : Memo) (tr t : Trail) (es ds : List Event) (h
   torn_partly : (era : ℕ) (vs : List Visit) → ScanKnows m Tear r0 rs tr es → TornPartly m.me (block_at m) rs r ds t era vs → ScanStopped m.me r0 r (tr ++ t) (es ++ ds) era
   torn_partly era vs ((n, k, h), at, can) y =
       let b : ℕ = block_at m in
-      let f = frees-append es ds in
-      let bound = within_more (33 * (16 * m.segment + m.page) + (2 + m.offset / 4) + 164 * frees es) (164 * (frees ds + length vs)) tr t h.bound y.bound in
+      let f = tear_sum m.me.geometry.wide (frees (es ++ ds) + length vs) (frees es) (frees ds + length vs) (let y = frees-append es ds in omega arith) in
+      let bound = within_more (33 * (16 * m.segment + m.page) + (2 + m.offset / 4) + tear_steps m.me.geometry.wide (frees es)) (tear_steps m.me.geometry.wide (frees ds + length vs)) tr t h.bound y.bound in
       let ls = h.segment in
       let lq = h.page in
       let li = at.offset in

@@ -6,6 +6,9 @@ use Rattle.std.proofs.lemmas.Bool.{cases_eq, cases_lt, eq-eqb, eqb-false, eqb-tr
 use Rattle.std.proofs.lemmas.List.Elements.{All-nil}
 use Rattle.shm_words.proofs.Placing.{total_small}
 use Rattle.shm_words.specs.Layout.{total_of, address_limit}
+use Rattle.shm_recover.specs.Costs.{backs_more, backs_most, redo_some}
+use Rattle.shm_ref.specs.Costs.{tear_sum}
+use Rattle.shm_graph.specs.Bounds.{down_steps, redo_steps, tear_steps}
 use Rattle.shm_graph.specs.declared.ask.Me.{Me}
 use Rattle.shm_graph.specs.declared.spot.Spot.TheVariants as spot
 use Rattle.shm_graph.specs.declared.memo.Memo.{Memo}
@@ -111,9 +114,9 @@ opens m Tear r0 r tr es h = record { made = refl; can = h.can }
 -- one word step more that leaves the memo
 one_more : (me : Me) (p k : ℕ) (r0 rs r : Memo) (tr t : Trail) (es ds : List Event) → IsBacking me p k r0 rs tr es → core r ≡ core rs → ds ≡ [] → length t ≡ 1 → IsBacking me p (k + 1) r0 r (tr ++ t) (es ++ ds)
 one_more me p k r0 rs r tr t es ds h same quiet one =
-    let b = within_more (11 * p + k + 164 * frees es) 1 tr t h.bound (omega arith) in
+    let b = within_more ((10 + redo_steps me.geometry.wide) * p + k + tear_steps me.geometry.wide (frees es)) 1 tr t h.bound (omega arith) in
     let still : es ++ ds ≡ es = ap (λ (x : List Event). es ++ x) quiet ∙ append-nil es in
-    let f = ap frees still in
+    let f = ap (λ (x : List Event). tear_steps me.geometry.wide (frees x)) still in
     record {
       may = h.may;
       low = h.low;
@@ -124,7 +127,7 @@ one_more me p k r0 rs r tr t es ds h same quiet one =
     }
 
 -- a queue is done
-module _ (m : BackState) (r0 r : Memo) (tr : Trail) (es : List Event) (held : IsHeld m.me r) (may : MayServe m.me r0) (low : m.passed + 1 < m.me.geometry.clients) (back : Back m.me.who r0 r) (before : (j : ℕ) → (j < to_of m) ⊎ (j ≡ to_of m) → j ≢ m.me.who → slice_index r.unsent j ≡ 0) (after : (j : ℕ) → (to_of m < j) ⊎ (j ≡ m.me.who) → slice_index r.unsent j ≡ slice_index r0.unsent j) (dying : r.dying ≡ r0.dying) (events : BacksEvents m.me.who r0 (m.passed + 1) es) (bound : IsWithin (11 * m.passed + 11 + 164 * frees es) tr) where
+module _ (m : BackState) (r0 r : Memo) (tr : Trail) (es : List Event) (held : IsHeld m.me r) (may : MayServe m.me r0) (low : m.passed + 1 < m.me.geometry.clients) (back : Back m.me.who r0 r) (before : (j : ℕ) → (j < to_of m) ⊎ (j ≡ to_of m) → j ≢ m.me.who → slice_index r.unsent j ≡ 0) (after : (j : ℕ) → (to_of m < j) ⊎ (j ≡ m.me.who) → slice_index r.unsent j ≡ slice_index r0.unsent j) (dying : r.dying ≡ r0.dying) (events : BacksEvents m.me.who r0 (m.passed + 1) es) (bound : IsWithin ((10 + redo_steps m.me.geometry.wide) * m.passed + (10 + redo_steps m.me.geometry.wide) + tear_steps m.me.geometry.wide (frees es)) tr) where
   -- each queue is, where it was the last one
   all_done : m.passed + 2 ≡ m.me.geometry.clients → (j : ℕ) → slice_index r.unsent j ≡ 0
   all_done last j = elim (cases_eq j m.me.who) [
@@ -147,7 +150,7 @@ module _ (m : BackState) (r0 r : Memo) (tr : Trail) (es : List Event) (held : Is
         };
         dying = dying;
         events = events;
-        bound = omega arith;
+        bound = (let y = backs_more m.me.geometry.wide m.passed in omega arith);
       }
 
   went : Outcome (passed_answer m) (BackKnows (passed m) (passed m).point r0 r tr es) (BackLeaves (back_plan.start m) r0 r tr es)
@@ -158,7 +161,7 @@ module _ (m : BackState) (r0 r : Memo) (tr : Trail) (es : List Event) (held : Is
       go true last more =
           let e = last refl in
           let p : m.passed + 1 ≡ m.me.geometry.clients - 1 = omega arith in
-          record { back = back; none = all_done e; dying = dying; events = subst (λ j. BacksEvents m.me.who r0 j es) p events; bound = omega arith }
+          record { back = back; none = all_done e; dying = dying; events = subst (λ j. BacksEvents m.me.who r0 j es) p events; bound = subst (λ j. IsWithin ((10 + redo_steps m.me.geometry.wide) * j + tear_steps m.me.geometry.wide (frees es)) tr) p (let y = backs_more m.me.geometry.wide m.passed in omega arith) }
       go false last more = next_queue (more refl)
 
 module _ (m : BackState) (r0 rs r : Memo) (tr t : Trail) (es ds : List Event) (held : IsHeld m.me r) where
@@ -183,7 +186,7 @@ module _ (m : BackState) (r0 rs r : Memo) (tr t : Trail) (es ds : List Event) (h
       (λ j o. elim o [ inl l ↦ f.after j (inl (omega arith)) | inr e ↦ f.after j (inr e) ])
       x.dying
       (more_events c r0 m.passed es ds h.events (subst (λ y. BackEvents c i (own_word r0.own (spot.Tail c i) % 8) y ds) (sym here) quiet))
-      (omega arith)
+      (let z = redo_some m.me.geometry.wide in omega arith)
 
   -- the own tail was read
   tail_read : (n : ℕ) → IsBacking m.me m.passed 0 r0 rs tr es → WordLeaves (BackFound m Tail) (record { me = m.me; ask = back_ask m Tail; over = false }) rs r t ds n → BackKnows (record m { at = n; point = Head }) Head r0 r (tr ++ t) (es ++ ds)
@@ -228,7 +231,7 @@ module _ (m : BackState) (r0 rs r : Memo) (tr t : Trail) (es ds : List Event) (h
       names : slice_index r.unsent i ≡ n
       names = ap (λ (x : Memo). slice_index x.unsent i) w.found.left ∙ sym w.found.found
 
-      -- it has 20 bits
+      -- it has 24 bits
       small : n % address_limit ≡ n
       small = elim (cases_eq n 0) [
         | inl e ↦ omega arith
@@ -260,7 +263,7 @@ module _ (m : BackState) (r0 rs r : Memo) (tr t : Trail) (es ds : List Event) (h
 
   -- the slot was emptied, and the block keeps a count or was torn down
   pass_out : (q : Memo) (before after : List Event) (b at : ℕ) → MayServe m.me r0 → m.passed + 1 < m.me.geometry.clients → TakenBack c i r0 q → q.dying ≡ r0.dying → BacksEvents c r0 m.passed before → at ≡ own_word r0.own (spot.Tail c i) → slice_index r0.unsent i ≡ b → b ≢ 0 → Lost c (spot.Slot c i (at % 8)) false b 0 false q r
-      → es ++ ds ≡ before ++ after → (xs : List Event) → after ≡ event.Down c (spot.Slot c i (at % 8)) b ∷ xs → (xs ≡ []) ⊎ Walks c b xs [] → IsWithin (11 * m.passed + 11 + 164 * frees (es ++ ds)) (tr ++ t) → Next (passed_answer m) (passed m)
+      → es ++ ds ≡ before ++ after → (xs : List Event) → after ≡ event.Down c (spot.Slot c i (at % 8)) b ∷ xs → (xs ≡ []) ⊎ Walks c b xs [] → IsWithin ((10 + redo_steps m.me.geometry.wide) * m.passed + (10 + redo_steps m.me.geometry.wide) + tear_steps m.me.geometry.wide (frees (es ++ ds))) (tr ++ t) → Next (passed_answer m) (passed m)
   pass_out q before after b at may low taken dying events place names some lost told xs downs walks bound =
       went m r0 r (tr ++ t) (es ++ ds) held may low (back_took c i (at % 8) b false r0 q r lost.took taken.back)
       (λ j h o. elim h [
@@ -306,15 +309,15 @@ module _ (m : BackState) (r0 rs r : Memo) (tr t : Trail) (es ds : List Event) (h
           dying = dies m.me (spot.Slot c i (m.at % 8)) false m.block 0 rs r r h.may.may.who held lost;
         };
         told = ap (λ (x : List Event). es ++ x) s.did.1;
-        bound = (let b = within_more (11 * m.passed + 3 + 164 * frees es) 8 tr t h.bound s.bound in omega arith);
+        bound = (let b = within_more ((10 + redo_steps m.me.geometry.wide) * m.passed + 3 + tear_steps m.me.geometry.wide (frees es)) (down_steps m.me.geometry.wide) tr t h.bound s.bound in omega arith);
       }
   lowered (Ok false) (h, at, may) s =
-      let b = within_more (11 * m.passed + 3 + 164 * frees es) 8 tr t h.bound s.bound in
-      let f = frees-append es ds in
+      let b = within_more ((10 + redo_steps m.me.geometry.wide) * m.passed + 3 + tear_steps m.me.geometry.wide (frees es)) (down_steps m.me.geometry.wide) tr t h.bound s.bound in
+      let f = tear_sum m.me.geometry.wide (frees (es ++ ds)) (frees es) (frees ds) (frees-append es ds) in
       pass_out rs es ds m.block m.at h.may h.low h.taken h.dying h.events (at ∙ h.taken.back.own (spot.Tail c i) refl) (sym (h.taken.after i (inl (omega arith))) ∙ may.unsent.names) may.some s.did.0 refl [] s.did.1 (inl refl) (omega arith)
   lowered (Err e) (h, at, may) s =
-      let b = within_more (11 * m.passed + 3 + 164 * frees es) 8 tr t h.bound s.bound in
-      let f = frees-append es ds in
+      let b = within_more ((10 + redo_steps m.me.geometry.wide) * m.passed + 3 + tear_steps m.me.geometry.wide (frees es)) (down_steps m.me.geometry.wide) tr t h.bound s.bound in
+      let f = tear_sum m.me.geometry.wide (frees (es ++ ds)) (frees es) (frees ds) (frees-append es ds) in
       let u = s.did.0 in
       let low = h.low in (
         [],
@@ -322,7 +325,7 @@ module _ (m : BackState) (r0 rs r : Memo) (tr t : Trail) (es ds : List Event) (h
           back = back_untouched c r0 rs r u h.taken.back;
           stopped = record { left = All-nil (λ (v : Visit). Contains r.dying v.block); others = all_outside r.dying ∙ (ap (λ (x : Memo). x.dying) u.rest ∙ h.dying); spent = s.did.1.1 };
           most = let v = s.did.1.0 in let w = u.rows c in omega arith;
-          bound = omega arith;
+          bound = (let y = backs_most m.me.geometry.wide m.passed (m.me.geometry.clients - 1) (omega arith) in omega arith);
         },
       )
 
@@ -334,17 +337,16 @@ module _ (m : BackState) (r0 rs r : Memo) (tr t : Trail) (es ds : List Event) (h
       go (Ok done) y =
           let lost = torn_leaves m.me (spot.Slot c i (m.at % 8)) false m.block 0 h.q rs r h.may.may.who h.held h.lost h.counted ds t (Ok tt) y in
           let told : es ++ ds ≡ h.before ++ (event.Down c (spot.Slot c i (m.at % 8)) m.block ∷ ds) = ap (λ (x : List Event). x ++ ds) h.told ∙ append_assoc h.before (event.Down c (spot.Slot c i (m.at % 8)) m.block ∷ []) ds in
-          let f = frees-append h.before (event.Down c (spot.Slot c i (m.at % 8)) m.block ∷ ds) in
-          let g = ap frees told in
-          let b = within_more (11 * m.passed + 11 + 164 * frees h.before) (164 * frees ds) tr t h.bound y.bound in
+          let f = tear_sum m.me.geometry.wide (frees (es ++ ds)) (frees h.before) (frees ds) (let z = ap frees told ∙ frees-append h.before (event.Down c (spot.Slot c i (m.at % 8)) m.block ∷ ds) in omega arith) in
+          let b = within_more ((10 + redo_steps m.me.geometry.wide) * m.passed + (10 + redo_steps m.me.geometry.wide) + tear_steps m.me.geometry.wide (frees h.before)) (tear_steps m.me.geometry.wide (frees ds)) tr t h.bound y.bound in
           pass_out h.q h.before (event.Down c (spot.Slot c i (m.at % 8)) m.block ∷ ds) m.block m.at h.may h.low h.taken h.dying h.events h.place h.names h.some lost told ds refl (inr y.walks) (omega arith)
       go (Err e) (vs, y) =
           let lost = torn_leaves m.me (spot.Slot c i (m.at % 8)) false m.block 0 h.q rs r h.may.may.who h.held h.lost h.counted ds t (Err e) (vs, y) in
           let told : es ++ ds ≡ h.before ++ (event.Down c (spot.Slot c i (m.at % 8)) m.block ∷ ds) = ap (λ (x : List Event). x ++ ds) h.told ∙ append_assoc h.before (event.Down c (spot.Slot c i (m.at % 8)) m.block ∷ []) ds in
-          let f = frees-append h.before (event.Down c (spot.Slot c i (m.at % 8)) m.block ∷ ds) in
-          let g = ap frees told in
+          let u = ap frees told ∙ frees-append h.before (event.Down c (spot.Slot c i (m.at % 8)) m.block ∷ ds) in
+          let f = tear_sum m.me.geometry.wide (frees (es ++ ds) + length vs) (frees h.before) (frees ds + length vs) (omega arith) in
           let low = h.low in
-          let b = within_more (11 * m.passed + 11 + 164 * frees h.before) (164 * (frees ds + length vs)) tr t h.bound y.bound in
+          let b = within_more ((10 + redo_steps m.me.geometry.wide) * m.passed + (10 + redo_steps m.me.geometry.wide) + tear_steps m.me.geometry.wide (frees h.before)) (tear_steps m.me.geometry.wide (frees ds + length vs)) tr t h.bound y.bound in
           let stopped = lost.1.1 in
           let z = h.dying in (
             vs,
@@ -352,7 +354,7 @@ module _ (m : BackState) (r0 rs r : Memo) (tr t : Trail) (es ds : List Event) (h
               back = back_took c i (m.at % 8) m.block false r0 h.q r lost.0 h.taken.back;
               stopped = record { left = y.left; others = y.others ∙ (ap (filter (not_block m.block)) h.lost.dying ∙ (without_new m.block h.q.dying h.counted ∙ h.dying)); spent = y.last };
               most = let v = y.spent in omega arith;
-              bound = omega arith;
+              bound = (let q = backs_most m.me.geometry.wide m.passed (m.me.geometry.clients - 1) (omega arith) in omega arith);
             },
           )
 

@@ -1,9 +1,10 @@
 -- what is owed of a drop of a root: each call leads on, to the next one or to what is left
-use Rattle.std.proofs.Common.{◌≡◌, ◌≢◌, ℕ, ◌+◌, ◌*◌, ◌%◌, ◌^◌, ◌≤◌, refl, sym, ap, ◌∙◌, subst, arith, Bool, true, false, not, List, [], ◌∷◌, ◌++◌, append-nil, inl, inr, ◌⊎◌, length}
+use Rattle.std.proofs.Common.{◌≡◌, ◌≢◌, ℕ, ◌+◌, ◌%◌, ◌≤◌, refl, sym, ap, ◌∙◌, subst, arith, Bool, true, false, not, List, [], ◌∷◌, ◌++◌, append-nil, inl, inr, ◌⊎◌, length}
 use Rattle.std.specs.Prelude.{◌==◌, if◌then◌else◌, Some, None, Result, Ok, Err}
 use Rattle.std.specs.List.{Contains}
 use Rattle.std.proofs.lemmas.Bool.{cases_eq, ne_eqb}
 use Rattle.std.proofs.lemmas.List.Elements.{All-nil}
+use Rattle.shm_graph.specs.Bounds.{down_steps, redo_steps, tear_steps}
 use Rattle.shm_words.proofs.Placing.{total_small}
 use Rattle.shm_words.specs.Layout.{total_of, address_limit}
 use Rattle.shm_graph.specs.declared.ask.Ask.TheVariants as ask
@@ -126,7 +127,7 @@ module _ (m : DropState) (r0 rs r : Memo) (tr t : Trail) (es ds : List Event) (h
       ]
 
   -- the root is empty, and the zero-count blocks are those before
-  dropped : (x : List Event) → root_word c r0 k ≡ b → b ≢ 0 → Lost c (Root c k) false b 0 false r0 r → es ++ ds ≡ event.Down c (Root c k) b ∷ x → (x ≡ []) ⊎ Walks c b x [] → IsWithin (9 + 164 * frees (es ++ ds)) (tr ++ t)
+  dropped : (x : List Event) → root_word c r0 k ≡ b → b ≢ 0 → Lost c (Root c k) false b 0 false r0 r → es ++ ds ≡ event.Down c (Root c k) b ∷ x → (x ≡ []) ⊎ Walks c b x [] → IsWithin (8 + redo_steps m.me.geometry.wide + tear_steps m.me.geometry.wide (frees (es ++ ds))) (tr ++ t)
       → Dropped (record m { block = 0; point = Load }) r0 r (tr ++ t) (es ++ ds) true
   dropped x names some lost told walk bound =
       record {
@@ -159,13 +160,13 @@ module _ (m : DropState) (r0 rs r : Memo) (tr t : Trail) (es ds : List Event) (h
           dying = dies m.me (Root c k) false b 0 r0 r r h.may.who held lost;
         };
         told = ap (λ (x : List Event). x ++ ds) h.none ∙ s.did.1;
-        bound = within_more 1 8 tr t h.bound s.bound;
+        bound = (let n = within_more 1 (down_steps m.me.geometry.wide) tr t h.bound s.bound in omega arith);
       }
   lowered (Ok false) h s =
-      let bound = within_more 1 8 tr t h.bound s.bound in
+      let bound = within_more 1 (down_steps m.me.geometry.wide) tr t h.bound s.bound in
       dropped [] h.names h.some (lost_root r0 rs r h.same c k b 0 false s.did.0) (ap (λ (x : List Event). x ++ ds) h.none ∙ s.did.1) (inl refl) (omega arith)
   lowered (Err e) h s =
-      let bound = within_more 1 8 tr t h.bound s.bound in
+      let bound = within_more 1 (down_steps m.me.geometry.wide) tr t h.bound s.bound in
       let same = untouched_core r0 rs r h.same c s.did.0 in (
         [],
         record {
@@ -189,12 +190,12 @@ module _ (m : DropState) (r0 rs r : Memo) (tr t : Trail) (es ds : List Event) (h
 
       go : (a : Result (Unit {0}) EraSpent) → TearLeaves m.me b rs r ds t a → Leads (Second (Second a))
       go (Ok done) y =
-          let f = same_frees in
-          let bound = within_more 9 (164 * frees ds) tr t h.bound y.bound in
+          let f = ap (tear_steps m.me.geometry.wide) same_frees in
+          let bound = within_more (8 + redo_steps m.me.geometry.wide) (tear_steps m.me.geometry.wide (frees ds)) tr t h.bound y.bound in
           dropped ds h.names h.some (torn_leaves m.me (Root c k) false b 0 r0 rs r h.can.who h.holds h.lost h.counted ds t (Ok done) y) told (inr y.walks) (omega arith)
       go (Err e) (vs, y) =
-          let f = same_frees in
-          let bound = within_more 9 (164 * (frees ds + length vs)) tr t h.bound y.bound in
+          let f = ap (λ n. tear_steps m.me.geometry.wide (n + length vs)) same_frees in
+          let bound = within_more (8 + redo_steps m.me.geometry.wide) (tear_steps m.me.geometry.wide (frees ds + length vs)) tr t h.bound y.bound in
           let took = (torn_leaves m.me (Root c k) false b 0 r0 rs r h.can.who h.holds h.lost h.counted ds t (Err e) (vs, y)).0 in (
             vs,
             record {

@@ -3,6 +3,8 @@ use Rattle.std.proofs.Common.{◌≡◌, ℕ, ◌+◌, ◌*◌, ◌<◌, ◌≢�
 use Rattle.std.specs.Prelude.{◌==◌, ◌||◌, nat_lt, if◌then◌else◌, Option, Some, None, Result, Ok, Err}
 use Rattle.std.proofs.lemmas.Bool.{cases_eq, ne_eqb, eqb-true, eqb-false}
 use Rattle.std.proofs.lemmas.Bool.Decides.{nat_tests}
+use Rattle.shm_ref.specs.Costs.{drops_more, drops_most, tear_sum}
+use Rattle.shm_graph.specs.Bounds.{redo_steps, tear_steps}
 use Rattle.shm_graph.specs.declared.ask.Me.{Me}
 use Rattle.shm_graph.specs.declared.memo.Memo.{Memo}
 use Rattle.shm_graph.specs.Asks.{Trail}
@@ -52,8 +54,9 @@ module _ (m : RootsState) (r0 rs r : Memo) (tr t : Trail) (es ds : List Event) (
   -- one more root is gone
   one_more : (z : Bool) → Dropped (dropping m.me m.root) rs r t ds z → AreGone m.me (m.root + 1) r0 r (tr ++ t) (es ++ ds)
   one_more z d =
-      let f = frees-append es ds in
-      let bound = within_more (9 * m.root + 164 * frees es) (9 + 164 * frees ds) tr t h.gone.bound d.bound in
+      let f = tear_sum m.me.geometry.wide (frees (es ++ ds)) (frees es) (frees ds) (frees-append es ds) in
+      let n = drops_more m.me.geometry.wide m.root in
+      let bound = within_more ((8 + redo_steps m.me.geometry.wide) * m.root + tear_steps m.me.geometry.wide (frees es)) (8 + redo_steps m.me.geometry.wide + tear_steps m.me.geometry.wide (frees ds)) tr t h.gone.bound d.bound in
       record {
         left = left_more c (λ j. nat_lt j m.root || (m.root == j)) (λ j. nat_lt j (m.root + 1)) r0 r (λ j e. grind (arith, nat_tests)) (left_then c (λ j. nat_lt j m.root) (λ j. m.root == j) r0 rs r h.gone.left d.left);
         gone = λ j l. elim (cases_eq j m.root) [
@@ -69,8 +72,9 @@ module _ (m : RootsState) (r0 rs r : Memo) (tr t : Trail) (es ds : List Event) (
   stopped : (e : EraSpent) → DropLeaves (dropping m.me m.root) rs r t ds (Err e) → RootsLeaves (record m { root = 0 }) r0 r (tr ++ t) (es ++ ds) (Err e)
   stopped e (vs, d) =
       let f = frees-append es ds in
-      let l = h.low in
-      let bound = within_more (9 * m.root + 164 * frees es) (9 + 164 * (frees ds + length vs)) tr t h.gone.bound d.bound in (
+      let n = drops_most m.me.geometry.wide m.root h.low in
+      let torn = tear_sum m.me.geometry.wide (frees (es ++ ds) + length vs) (frees es) (frees ds + length vs) (omega arith) in
+      let bound = within_more ((8 + redo_steps m.me.geometry.wide) * m.root + tear_steps m.me.geometry.wide (frees es)) (8 + redo_steps m.me.geometry.wide + tear_steps m.me.geometry.wide (frees ds + length vs)) tr t h.gone.bound d.bound in (
         vs,
         record {
           left = left_more c (λ j. nat_lt j m.root || (m.root == j)) (λ j. nat_lt j 16) r0 r (λ j e. grind (arith, nat_tests)) (left_then c (λ j. nat_lt j m.root) (λ j. m.root == j) r0 rs r h.gone.left d.left);

@@ -1,5 +1,5 @@
 -- what is owed of a reference word of a block
-use Rattle.std.proofs.Common.{◌≡◌, ◌≢◌, ℕ, ◌+◌, ◌%◌, ◌^◌, ◌<◌, ◌≤◌, refl, sym, ap, ◌∙◌, subst, arith, Bool, true, false, List, [], ◌∷◌, ◌++◌}
+use Rattle.std.proofs.Common.{◌≡◌, ◌≢◌, ℕ, ◌+◌, ◌%◌, ◌<◌, ◌≤◌, refl, sym, ap, ◌∙◌, subst, arith, Bool, true, false, List, [], ◌∷◌, ◌++◌}
 use Rattle.std.specs.Prelude.{if◌then◌else◌, nat_lt, ◌==◌, None, Some, Err}
 use Rattle.std.specs.List.{Contains}
 use Rattle.std.proofs.lemmas.Bool.{cond-false, eqb-false, eqb-true, ltb-false, ltb-true, ne_eqb}
@@ -66,14 +66,14 @@ look_laws =
     opens : (m : LookState) (y : LookPoint) (r0 r : Memo) (tr : Trail) (es : List Event) → LookKnows (record m { point = y }) y r0 r tr es → (look_plan.part (record m { point = y })).needs (look_call m y) r
     opens m Shape r0 r tr es h =
         let room = h.0.read.room in
-        tag_load true m.me r h.0.read.may.who m.block (omega arith, omega arith) (reached_told m.me.who r m.block (ap (λ (x : Memo). is_reached m.me.who x m.block) h.1 ∙ h.0.read.reach))
+        tag_load true m.me r h.0.read.may.who m.block (omega arith, omega arith) (reached_told m.me.who r m.me.geometry.wide m.block (ap (λ (x : Memo). is_reached m.me.who x m.block) h.1 ∙ h.0.read.reach))
     opens m Whose r0 r tr es (x, h) = hold_load false m.me r h.may.read.may.who (λ e. ap (λ (y : Memo). y.op) h.same ∙ h.may.read.may.idle)
     opens m Reference r0 r tr es (x, h, held) =
         let low = h.low in
         let last = h.tag.last in
         reference_load false m.me r h.may.read.may.who m.block m.index (omega arith, omega arith) (
           reached_tagged m.me.who m.block x m.block r0 r h.same ∙ h.may.read.reach,
-          (record { block = m.block; refs = tag_refs x; plain = tag_plain x; author = Some (tag_author x) }, tag_author x, h.tag.told, refl, h.low, refl, ap (λ (y : Memo). y.latch) h.same ∙ held),
+          (record { block = m.block; refs = tag_refs m.me.geometry.wide x; plain = tag_plain m.me.geometry.wide x; author = Some (tag_author m.me.geometry.wide x) }, tag_author m.me.geometry.wide x, h.tag.told, refl, h.low, refl, ap (λ (y : Memo). y.latch) h.same ∙ held),
         )
         (idle_settled r (Body m.block m.index) (ap (λ (y : Memo). y.op) h.same ∙ h.may.read.may.idle))
 
@@ -83,7 +83,7 @@ look_laws =
     stays m Reference n = record { same_me = refl; same_line = refl; same_start = refl; started = λ e. absurd (cc) }
 
     -- the tag told of the word, or of fewer; g is the tag as the control reads it
-    told : (m : LookState) (r0 r : Memo) (tr : Trail) (es : List Event) (n : ℕ) (g : ATag) → g.refs ≡ tag_refs n → g.author ≡ tag_author n → MayLook m.me m.block r0 → as_known (Tag m.block) r0 n → IsTag m.me m.block n r → core r ≡ core (tagged m.block n r0) → es ≡ [] → tr ≡ tag_trail m.me m.block m.index n
+    told : (m : LookState) (r0 r : Memo) (tr : Trail) (es : List Event) (n : ℕ) (g : ATag) → g.refs ≡ tag_refs m.me.geometry.wide n → g.author ≡ tag_author m.me.geometry.wide n → MayLook m.me m.block r0 → as_known (Tag m.block) r0 n → IsTag m.me m.block n r → core r ≡ core (tagged m.block n r0) → es ≡ [] → tr ≡ tag_trail m.me m.block m.index n
         → (q : Bool) → (q ≡ true → m.index < g.refs) → (q ≡ false → g.refs ≤ m.index)
         → Outcome (if q then None else Some (Err (NoSuchRef g.refs))) ((x : ℕ) × IsLooking m.me m.block m.index g.author x (tag_trail m.me m.block m.index x) r0 r tr es) (LookLeaves (record m { author = 0; point = Shape }) r0 r tr es)
     told m r0 r tr es n g refs author may known tag cored none trail true low high =
@@ -94,12 +94,12 @@ look_laws =
     -- the hold word told the latch of the author, or another one
     named : (m : LookState) (r0 r : Memo) (tr : Trail) (es : List Event) (x n : ℕ) → IsLooking m.me m.block m.index m.author x (whose_trail m.me m.block m.index x n) r0 r tr es → n ≡ own_word r0.own (Hold m.me.who)
         → (q : Bool) → (q ≡ true → n ≡ m.author + 1) → (q ≡ false → n ≢ m.author + 1)
-        → Outcome (if q then None else Some (Err NotHeld)) ((z : ℕ) × IsLooking m.me m.block m.index m.author z (whose_trail m.me m.block m.index z (tag_author z + 1)) r0 r tr es × (r0.latch ≡ Some (tag_author z))) (LookLeaves (record m { author = 0; point = Shape }) r0 r tr es)
+        → Outcome (if q then None else Some (Err NotHeld)) ((z : ℕ) × IsLooking m.me m.block m.index m.author z (whose_trail m.me m.block m.index z (tag_author m.me.geometry.wide z + 1)) r0 r tr es × (r0.latch ≡ Some (tag_author m.me.geometry.wide z))) (LookLeaves (record m { author = 0; point = Shape }) r0 r tr es)
     named m r0 r tr es x n h found true mine other =
-        let same : n ≡ tag_author x + 1 = mine refl ∙ ap (λ z. z + 1) h.author in (
+        let same : n ≡ tag_author m.me.geometry.wide x + 1 = mine refl ∙ ap (λ z. z + 1) h.author in (
           x,
           record { may = h.may; author = h.author; low = h.low; known = h.known; tag = h.tag; same = h.same; none = h.none; trail = h.trail ∙ ap (whose_trail m.me m.block m.index x) same },
-          latch_by r0.latch (tag_author x) (sym h.may.ask.hold ∙ (sym found ∙ same)),
+          latch_by r0.latch (tag_author m.me.geometry.wide x) (sym h.may.ask.hold ∙ (sym found ∙ same)),
         )
     named m r0 r tr es x n h found false mine other =
         record {
@@ -116,10 +116,10 @@ look_laws =
     leads m Shape r0 rs r tr t es ds n h w held =
         let cored : core r ≡ core (tagged m.block n r0) = w.0.found.left ∙ ap (λ (x : Memo). core (tagged m.block n x)) h.1 in
         let tag = is_tag m.me m.block n r0 r h.0.read.may.who held h.0.read.reach cored in
-        told m r0 r (tr ++ t) (es ++ ds) n (tag_read n) (ap (λ (g : ATag). g.refs) tag.read) (ap (λ (g : ATag). g.author) tag.read) h.0 (subst (λ (x : Memo). as_known (Tag m.block) x n) h.1 w.0.found.found) tag cored
+        told m r0 r (tr ++ t) (es ++ ds) n (tag_read m.me.geometry.wide n) (ap (λ (g : ATag). g.refs) tag.read) (ap (λ (g : ATag). g.author) tag.read) h.0 (subst (λ (x : Memo). as_known (Tag m.block) x n) h.1 w.0.found.found) tag cored
         (ap (λ (x : List Event). x ++ ds) h.3 ∙ w.0.none)
         (one_more (look_ask m.me m.block m.index Shape) n n tr [] t h.2 refl w.1)
-        (nat_lt m.index (tag_read n).refs) (ltb-true m.index (tag_read n).refs) (ltb-false m.index (tag_read n).refs)
+        (nat_lt m.index (tag_read m.me.geometry.wide n).refs) (ltb-true m.index (tag_read m.me.geometry.wide n).refs) (ltb-false m.index (tag_read m.me.geometry.wide n).refs)
     leads m Whose r0 rs r tr t es ds n (x, h) w held =
         let cored : core r ≡ core (tagged m.block x r0) = w.0.found.left ∙ h.same in
         let next : IsLooking m.me m.block m.index m.author x (whose_trail m.me m.block m.index x n) r0 r (tr ++ t) (es ++ ds) =
@@ -154,5 +154,5 @@ look_laws =
           reach = reach;
           room = room;
           none = ap (λ (y : List Event). y ++ ds) h.none ∙ w.0.none;
-          trail = one_more (look_ask m.me b k Reference) n n tr (whose_trail m.me b k x (tag_author x + 1)) t h.trail refl w.1;
+          trail = one_more (look_ask m.me b k Reference) n n tr (whose_trail m.me b k x (tag_author m.me.geometry.wide x + 1)) t h.trail refl w.1;
         })

@@ -54,13 +54,13 @@ read_laws =
     opens : (m : ReadState) (y : ReadPoint) (r0 r : Memo) (tr : Trail) (es : List Event) → ReadKnows (record m { point = y }) y r0 r tr es → (read_plan.part (record m { point = y })).needs (read_call m y) r
     opens m Shape r0 r tr es h =
         let room = h.0.room in
-        tag_load true m.me r h.0.may.who m.block (omega arith, omega arith) (reached_told m.me.who r m.block (ap (λ (x : Memo). is_reached m.me.who x m.block) h.1 ∙ h.0.reach))
+        tag_load true m.me r h.0.may.who m.block (omega arith, omega arith) (reached_told m.me.who r m.me.geometry.wide m.block (ap (λ (x : Memo). is_reached m.me.who x m.block) h.1 ∙ h.0.reach))
     opens m Plain r0 r tr es (x, h) =
         let refs = h.refs in
         let low = h.low in
         let last = h.tag.last in
         plain_load false m.me r h.may.may.who m.block (m.refs + m.index) (omega arith, omega arith)
-        (record { block = m.block; refs = tag_refs x; plain = tag_plain x; author = _ }, h.tag.told, refl, omega arith, omega arith)
+        (record { block = m.block; refs = tag_refs m.me.geometry.wide x; plain = tag_plain m.me.geometry.wide x; author = _ }, h.tag.told, refl, omega arith, omega arith)
         (idle_settled r (Body m.block (m.refs + m.index)) (ap (λ (y : Memo). y.op) h.same ∙ h.may.may.idle))
 
     stays : (m : ReadState) (y : ReadPoint) (n : ℕ) → PlanStays word_control read_plan (record m { point = y }) n
@@ -68,7 +68,7 @@ read_laws =
     stays m Plain n = record { same_me = refl; same_line = refl; same_start = refl; started = λ e. absurd (cc) }
 
     -- the tag told of the word, or of fewer; g is the tag as the control reads it
-    told : (m : ReadState) (r0 r : Memo) (tr : Trail) (es : List Event) (n : ℕ) (g : ATag) → g.refs ≡ tag_refs n → g.plain ≡ tag_plain n → MayRead m.me m.block r0 → as_known (Tag m.block) r0 n → IsTag m.me m.block n r → core r ≡ core (tagged m.block n r0) → es ≡ [] → tr ≡ pair (read_ask m.block 0 Shape) n ∷ []
+    told : (m : ReadState) (r0 r : Memo) (tr : Trail) (es : List Event) (n : ℕ) (g : ATag) → g.refs ≡ tag_refs m.me.geometry.wide n → g.plain ≡ tag_plain m.me.geometry.wide n → MayRead m.me m.block r0 → as_known (Tag m.block) r0 n → IsTag m.me m.block n r → core r ≡ core (tagged m.block n r0) → es ≡ [] → tr ≡ pair (read_ask m.block 0 Shape) n ∷ []
         → (q : Bool) → (q ≡ true → m.index < g.plain) → (q ≡ false → g.plain ≤ m.index)
         → Outcome (if q then None else Some (Err (record { plain = g.plain }))) ((x : ℕ) × IsReading m.me m.block m.index g.refs x r0 r tr es) (ReadLeaves (record m { refs = 0; point = Shape }) r0 r tr es)
     told m r0 r tr es n g refs plain may known tag cored none trail true low high =
@@ -80,12 +80,12 @@ read_laws =
     leads m Shape r0 rs r tr t es ds n h w held =
         let cored : core r ≡ core (tagged m.block n r0) = w.0.found.left ∙ ap (λ (x : Memo). core (tagged m.block n x)) h.1 in
         let tag = is_tag m.me m.block n r0 r h.0.may.who held h.0.reach cored in
-        told m r0 r (tr ++ t) (es ++ ds) n (tag_read n) (ap (λ (g : ATag). g.refs) tag.read) (ap (λ (g : ATag). g.plain) tag.read) h.0 (known_same m.block rs r0 n h.1 w.0.found.found) tag cored
+        told m r0 r (tr ++ t) (es ++ ds) n (tag_read m.me.geometry.wide n) (ap (λ (g : ATag). g.refs) tag.read) (ap (λ (g : ATag). g.plain) tag.read) h.0 (known_same m.block rs r0 n h.1 w.0.found.found) tag cored
         (ap (λ (x : List Event). x ++ ds) h.3 ∙ w.0.none)
         (one_more (read_ask m.block 0 Shape) n n tr [] t h.2 refl w.1)
-        (nat_lt m.index (tag_read n).plain) (ltb-true m.index (tag_read n).plain) (ltb-false m.index (tag_read n).plain)
+        (nat_lt m.index (tag_read m.me.geometry.wide n).plain) (ltb-true m.index (tag_read m.me.geometry.wide n).plain) (ltb-false m.index (tag_read m.me.geometry.wide n).plain)
     leads m Plain r0 rs r tr t es ds n (x, h) w held =
-        let i : ℕ = tag_refs x + m.index in
+        let i : ℕ = tag_refs m.me.geometry.wide x + m.index in
         let at : m.refs + m.index ≡ i = ap (λ z. z + m.index) h.refs in
         let left : core r ≡ core (record rs { known = learnt (Body m.block i) n rs.known }) = w.0.found.left ∙ ap (λ z. core (record rs { known = learnt (Body m.block z) n rs.known })) at in
         record {

@@ -73,10 +73,10 @@ module _ (m : ReleaseState) (a : ℕ) (r0 : Memo) (may : MayRelease m.me a r0) w
           op = ap (λ (x : Memo). x.op) at ∙ (ap (λ (x : Memo). x.op) same ∙ may.idle);
           latch = ap (λ (x : Memo). x.latch) at ∙ (ap (λ (x : Memo). x.latch) same ∙ (may.latch ∙ ap Some mine));
         }))
-        (λ w rs f st stood at. (ap (λ (x : Memo). core (unlatched c x)) (called_core (rs c) (framed m.me (release_ask m.me m.author Give) f 0)) ∙ ap (λ (x : Memo). core (unlatched c x)) at, refl))
+        (λ w rs f st stood at. (ap (λ (x : Memo). core (unlatched m.me.geometry.wide c x)) (called_core (rs c) (framed m.me (release_ask m.me m.author Give) f 0)) ∙ ap (λ (x : Memo). core (unlatched m.me.geometry.wide c x)) at, refl))
 
   -- the hold word is stored as 0
-  pub back_word : (r : Memo) → core r ≡ core (unlatched c r0) → IsWord false m.me (release_ask m.me m.author Back) (ReleaseFound m Back) (release_call m Back) r
+  pub back_word : (r : Memo) → core r ≡ core (unlatched m.me.geometry.wide c r0) → IsWord false m.me (release_ask m.me m.author Back) (ReleaseFound m Back) (release_call m Back) r
   back_word r same =
       word_at false m.me (release_ask m.me m.author Back) (ReleaseFound m Back) r (Hold c) hold_there (λ e. cc) refl
       (λ w rs f st stands at. hold_stored m.me w rs f [] (address m.me.geometry (place.Hold c)) 0 st (hold_there (classes w))
@@ -135,7 +135,7 @@ release_laws =
         record {
           may = h.may;
           author = h.author;
-          same = w.0.found.0 ∙ ap (λ (x : Memo). core (unlatched m.me.who x)) h.same;
+          same = w.0.found.0 ∙ ap (λ (x : Memo). core (unlatched m.me.geometry.wide m.me.who x)) h.same;
           none = ap (λ (x : List Event). x ++ ds) h.none ∙ w.0.none;
           trail = one_more (release_ask m.me m.author Give) n 0 tr (whose_trail m.me m.author) t h.trail w.0.found.1 w.1;
         }

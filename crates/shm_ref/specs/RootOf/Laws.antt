@@ -1,5 +1,5 @@
 -- what is owed of what a root names
-use Rattle.std.proofs.Common.{◌≡◌, ℕ, ◌%◌, ◌^◌, ◌<◌, refl, sym, ap, ◌∙◌, arith, true, List, [], ◌∷◌, ◌++◌, inl, inr}
+use Rattle.std.proofs.Common.{◌≡◌, ℕ, ◌%◌, ◌<◌, refl, sym, ap, ◌∙◌, arith, true, List, [], ◌∷◌, ◌++◌, inl, inr}
 use Rattle.std.proofs.lemmas.Bool.{cases_eq}
 use Rattle.shm_words.proofs.Placing.{total_small}
 use Rattle.shm_words.specs.Layout.{address_limit}
@@ -18,7 +18,7 @@ use Rattle.shm_ref.specs.AskedParts.{asked_part_laws, one_pair}
 use Rattle.shm_ref.specs.RootOf.{IsNaming, naming_ask, naming_plan}
 use Rattle.shm_ref.specs.RootParts.{load_needs, load_part, root_names}
 
--- what a root holds in a held state with no step in progress has 20 bits
+-- what a root holds in a held state with no step in progress has 24 bits
 small_at : (m : NamingState) (r0 r : Memo) → IsNaming m.me m.root r0 r0 [] [] → core r ≡ core r0 → IsHeld m.me r → root_word m.me.who r m.root < address_limit
 small_at m r0 r h cored held = elim (cases_eq (root_word m.me.who r m.root) 0) [
   | inl e ↦ omega arith

@@ -1,7 +1,8 @@
 -- what is owed of setting the own home
-use Rattle.std.proofs.Common.{◌≡◌, ℕ, ◌%◌, ◌^◌, ◌<◌, refl, sym, ap, ◌∙◌, subst, arith, true, false, not, ◌&&◌, List, [], ◌∷◌, ◌++◌, inl, inr, length}
+use Rattle.std.proofs.Common.{◌≡◌, ℕ, ◌%◌, ◌<◌, refl, sym, ap, ◌∙◌, subst, arith, true, false, not, ◌&&◌, List, [], ◌∷◌, ◌++◌, inl, inr, length}
 use Rattle.std.specs.Prelude.{◌==◌, if◌then◌else◌, Some, None, Result, Ok, Err}
 use Rattle.std.proofs.lemmas.Bool.{and_parts, cases_eq, lt-ltb, ne_eqb, false≢true}
+use Rattle.shm_graph.specs.Bounds.{up_steps}
 use Rattle.shm_words.specs.declared.place.Place.TheVariants as place
 use Rattle.shm_words.specs.Layout.{GeometryFits, address, is_in, address_limit}
 use Rattle.shm_words.proofs.Placing.{address_below, address_small, total_small}
@@ -74,7 +75,7 @@ module _ (me : Me) (f : GeometryFits me.geometry) (l : me.who < me.geometry.clie
         can = λ room. (refl, record { may = record { here = here; idle = idle; room = omega arith }; empty = ap (λ (x : Memo). own_word x.own (Home c)) same ∙ empty; source = reach });
         put = tt;
         reach = λ e. reach;
-        part = subst (λ (x : Memo). KeepsPart c x (Up b) (Home c)) (sym same) (may.part empty);
+        part = subst (λ (x : Memo). KeepsPart me.geometry.wide c x (Up b) (Home c)) (sym same) (may.part empty);
         queued = λ n is up. absurd (false≢true is);
       }
 
@@ -173,19 +174,19 @@ home_laws =
           empty = h.empty;
           filled = filled_home r0 rs r h.same m.me.who m.block s.did.0;
           events = ap (λ (x : List Event). x ++ ds) h.none ∙ s.did.1;
-          bound = within_more 1 8 tr t h.bound s.bound;
+          bound = within_more 1 (up_steps m.me.geometry.wide) tr t h.bound s.bound;
         }
     raised m r0 rs r tr t es ds held agent (Err (EraSpent e)) h s =
         record {
           stays = (h.empty, untouched_core r0 rs r h.same m.me.who s.did.0, cause_core r0 rs r h.same m.me (Up m.block) (EraSpent e) s.did.1);
           none = ap (λ (x : List Event). x ++ ds) h.none ∙ s.did.2;
-          bound = within_more 1 8 tr t h.bound s.bound;
+          bound = within_more 1 (up_steps m.me.geometry.wide) tr t h.bound s.bound;
         }
     raised m r0 rs r tr t es ds held agent (Err (CountFull d n)) h s =
         record {
           stays = (h.empty, untouched_core r0 rs r h.same m.me.who s.did.0, cause_core r0 rs r h.same m.me (Up m.block) (CountFull d n) s.did.1);
           none = ap (λ (x : List Event). x ++ ds) h.none ∙ s.did.2;
-          bound = within_more 1 8 tr t h.bound s.bound;
+          bound = within_more 1 (up_steps m.me.geometry.wide) tr t h.bound s.bound;
         }
 
     -- each call leads on

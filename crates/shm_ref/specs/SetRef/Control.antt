@@ -1,5 +1,5 @@
 -- the control of setting a reference word of an own block: which call comes next, and where it goes by what that call answered
-use Rattle.std.specs.Prelude.{ℕ, ◌+◌, ◌%◌, ◌^◌, ◌<◌, ◌≤◌, Bool, true, false, ◌==◌, nat_le, if◌then◌else◌, Option, Some, None, Result, Ok, Err}
+use Rattle.std.specs.Prelude.{ℕ, ◌+◌, ◌%◌, ◌<◌, ◌≤◌, Bool, true, false, ◌==◌, nat_le, if◌then◌else◌, Option, Some, None, Result, Ok, Err}
 use Rattle.shm_words.specs.declared.place.Place.TheVariants as place
 use Rattle.shm_words.specs.Layout.{GeometryFits, address, total_of, address_limit}
 use Rattle.shm_words.specs.Tags.{tag_author, tag_refs}
@@ -68,7 +68,7 @@ found_after m Held n = record m { point = Look }
 found_after m y n = record m { before = n % address_limit; point = step_point (n % address_limit) m.to }
 
 abbrev pub found_turns : SetState → SetPoint → ℕ → Option (Result (Unit {0}) SetFault)
-found_turns m Tag n = if tag_author n == m.me.who then (if nat_le (tag_refs n) m.word then Some (Err (fault.NoSuchRef (tag_refs n))) else None) else Some (Err (fault.NotAuthor (tag_author n)))
+found_turns m Tag n = if tag_author m.me.geometry.wide n == m.me.who then (if nat_le (tag_refs m.me.geometry.wide n) m.word then Some (Err (fault.NoSuchRef (tag_refs m.me.geometry.wide n))) else None) else Some (Err (fault.NotAuthor (tag_author m.me.geometry.wide n)))
 found_turns m Held n = if n == m.me.who + 1 then None else Some (Err fault.NotHeld)
 found_turns m y n = if n % address_limit == m.to then Some (Ok tt) else None
 

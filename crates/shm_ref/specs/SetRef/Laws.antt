@@ -1,5 +1,5 @@
 -- what is owed of setting a reference word of an own block
-use Rattle.std.proofs.Common.{◌≡◌, ◌≢◌, ℕ, zero, suc, ◌+◌, ◌%◌, ◌^◌, ◌≤◌, refl, sym, ap, ◌∙◌, subst, arith, Bool, true, false, List, [], ◌∷◌, ◌++◌, append-nil, inl, inr, length}
+use Rattle.std.proofs.Common.{◌≡◌, ◌≢◌, ℕ, zero, suc, ◌+◌, ◌%◌, ◌≤◌, refl, sym, ap, ◌∙◌, subst, arith, Bool, true, false, List, [], ◌∷◌, ◌++◌, append-nil, inl, inr, length}
 use Rattle.std.specs.Prelude.{◌==◌, nat_le, if◌then◌else◌, Some, None, Result, Ok, Err}
 use Rattle.std.specs.List.{Contains}
 use Rattle.std.proofs.lemmas.Bool.{cases_eq, cases_lt, eq-eqb, false≢true, le-leb, lt-leb, ne_eqb}
@@ -13,7 +13,7 @@ use Rattle.shm_graph.specs.declared.spot.Spot.{Spot}
 use Rattle.shm_graph.specs.declared.spot.Spot.TheVariants as spot
 use Rattle.shm_graph.specs.Agents.{recovers}
 use Rattle.shm_graph.specs.Asks.{Trail, IsWithin}
-use Rattle.shm_graph.specs.Bounds.{change_steps, tear_steps}
+use Rattle.shm_graph.specs.Bounds.{change_steps, tear_steps, up_steps}
 use Rattle.shm_graph.specs.Core.{core}
 use Rattle.shm_graph.specs.Events.{Event}
 use Rattle.shm_graph.specs.Events as event
@@ -177,15 +177,15 @@ module _ (m : SetState) (r0 rs r : Memo) (tr t : Trail) (es ds : List Event) (he
       let quiet2 : es ++ ds ≡ [] = silent quiet w.none in
       let bound : IsWithin 1 (tr ++ t) = (let e = ap length (ap (λ (x : Trail). x ++ t) none) in let o = w.one in omega arith) in
       let next = Knows (At Held) Held in
-      elim (cases_eq (tag_author n) c) [
-        | inl e ↦ subst (λ z. Outcome (if z then (if nat_le (tag_refs n) k then Some (Err (fault.NoSuchRef (tag_refs n))) else None) else Some (Err (fault.NotAuthor (tag_author n)))) next Left) (sym (eq-eqb (tag_author n) c e))
-            (elim (cases_lt k (tag_refs n)) [
-              | inl low ↦ subst (λ z. Outcome (if z then Some (Err (fault.NoSuchRef (tag_refs n))) else None) next Left) (sym (lt-leb (tag_refs n) k low))
+      elim (cases_eq (tag_author m.me.geometry.wide n) c) [
+        | inl e ↦ subst (λ z. Outcome (if z then (if nat_le (tag_refs m.me.geometry.wide n) k then Some (Err (fault.NoSuchRef (tag_refs m.me.geometry.wide n))) else None) else Some (Err (fault.NotAuthor (tag_author m.me.geometry.wide n)))) next Left) (sym (eq-eqb (tag_author m.me.geometry.wide n) c e))
+            (elim (cases_lt k (tag_refs m.me.geometry.wide n)) [
+              | inl low ↦ subst (λ z. Outcome (if z then Some (Err (fault.NoSuchRef (tag_refs m.me.geometry.wide n))) else None) next Left) (sym (lt-leb (tag_refs m.me.geometry.wide n) k low))
                   (n, record { may = may; tag = record { known = known; author = e; low = low }; same = cored; client = agent ∙ (ap recovers begun ∙ may.client); none = quiet2; bound = bound })
-              | inr high ↦ subst (λ z. Outcome (if z then Some (Err (fault.NoSuchRef (tag_refs n))) else None) next Left) (sym (le-leb (tag_refs n) k high))
+              | inr high ↦ subst (λ z. Outcome (if z then Some (Err (fault.NoSuchRef (tag_refs m.me.geometry.wide n))) else None) next Left) (sym (le-leb (tag_refs m.me.geometry.wide n) k high))
                   (record { left = []; stays = (n, known, e, refl, high, cored, quiet2, refl); bound = omega arith })
             ])
-        | inr other ↦ subst (λ z. Outcome (if z then (if nat_le (tag_refs n) k then Some (Err (fault.NoSuchRef (tag_refs n))) else None) else Some (Err (fault.NotAuthor (tag_author n)))) next Left) (sym (ne_eqb (tag_author n) c other))
+        | inr other ↦ subst (λ z. Outcome (if z then (if nat_le (tag_refs m.me.geometry.wide n) k then Some (Err (fault.NoSuchRef (tag_refs m.me.geometry.wide n))) else None) else Some (Err (fault.NotAuthor (tag_author m.me.geometry.wide n)))) next Left) (sym (ne_eqb (tag_author m.me.geometry.wide n) c other))
             (record { left = []; stays = (n, known, refl, other, cored, quiet2, refl); bound = omega arith })
       ]
 
@@ -201,7 +201,7 @@ module _ (m : SetState) (r0 rs r : Memo) (tr t : Trail) (es ds : List Event) (he
         | inl e ↦ (
             let word : Stored = record { spot = spot.Tag b; value = u } in
             let known : Contains r.known word = subst (λ (ks : List Stored). Contains ks word) (sym (ap (λ (x : Memo). x.known) cored)) (0, omega arith, refl) in
-            let end = told_inside m.me r (claim_by b u) h.may.who held (listed_told c r b u known) in
+            let end = told_inside m.me r (claim_by m.me.geometry.wide b u) h.may.who held (listed_told m.me.geometry.wide c r b u known) in
             let low = h.tag.low in
             let last = end.1 in
             subst (λ z. Outcome (if z then None else Some (Err fault.NotHeld)) next Left) (sym (eq-eqb n (c + 1) e))
@@ -216,7 +216,7 @@ module _ (m : SetState) (r0 rs r : Memo) (tr t : Trail) (es ds : List Event) (he
       let seen : Memo = word_seen b k u n r0 in
       let cored : core r ≡ core seen = w.found.left ∙ reference_core b k n rs (tag_seen b u r0) h.same in
       let known : as_known p (tag_seen b u r0) n = λ y has. w.found.found y (subst (λ (ks : List Stored). Contains ks (record { spot = p; value = y })) (sym (ap (λ (x : Memo). x.known) h.same)) has) in
-      let read : IsRead c b k u n r0 = record { tag = h.tag; held = h.held; known = known } in
+      let read : IsRead m.me.geometry.wide c b k u n r0 = record { tag = h.tag; held = h.held; known = known } in
       let quiet : es ++ ds ≡ [] = silent h.none w.none in
       let o = w.one in
       let bound : IsWithin 3 (tr ++ t) = within_more 2 1 tr t h.bound (omega arith) in
@@ -253,13 +253,13 @@ module _ (m : SetState) (r0 rs r : Memo) (tr t : Trail) (es ds : List Event) (he
     seen = word_seen b k u m.before r0
 
     -- one was refused
-    refused : (f : UpFault) → Untouched c rs r × StepCause m.me (aim_of m.before m.to) rs f × (ds ≡ []) → IsWithin change_steps t → Left (Err (set_fault f))
+    refused : (f : UpFault) → Untouched c rs r × StepCause m.me (aim_of m.before m.to) rs f × (ds ≡ []) → IsWithin (change_steps m.me.geometry.wide) t → Left (Err (set_fault f))
     refused (EraSpent e) (same, cause, none) short =
-        let bound = within_more 3 change_steps tr t h.bound short in
+        let bound = within_more 3 (change_steps m.me.geometry.wide) tr t h.bound short in
         let era : e ≡ own_word r0.own (spot.Era c c) = cause.0 ∙ (ap (λ (x : Memo). own_word x.own (spot.Era c c)) h.same ∙ ap (λ (o : List Stored). own_word o (spot.Era c c)) (seen_own b k u m.before r0)) in
         record { left = []; stays = AtStep u m.before h.read h.other (untouched_core seen rs r h.same c same) (era, cause.1) (silent h.none none) refl; bound = omega arith }
     refused (CountFull d n) (same, (full, is, up), none) short =
-        let bound = within_more 3 change_steps tr t h.bound short in
+        let bound = within_more 3 (change_steps m.me.geometry.wide) tr t h.bound short in
         let y = full_to m.before m.to h.other up in
         record {
           left = [];
@@ -270,12 +270,12 @@ module _ (m : SetState) (r0 rs r : Memo) (tr t : Trail) (es ds : List Event) (he
     -- the word came to name a block
     raised : (a : Result (Unit {0}) UpFault) → m.before ≡ 0 → m.to ≢ 0 → StepLeft m.me (aims.Up m.to) p false rs r t ds (up_told a) → Leads Raise (Second (First (First a)))
     raised (Ok done) empty some s =
-        let bound = within_more 3 8 tr t h.bound s.bound in
+        let bound = within_more 3 (up_steps m.me.geometry.wide) tr t h.bound s.bound in
         record { tag = u; old = m.before; read = h.read; did = Raised empty some (filled_word seen rs r h.same c b k m.to s.did.0) (ap (λ (x : List Event). x ++ ds) h.none ∙ s.did.1); bound = omega arith }
     raised (Err f) empty some s = let short = s.bound in refused f (s.did.0, subst (λ (x : Aim). StepCause m.me x rs f) (sym (aim_up m.before m.to empty)) s.did.1, s.did.2) (omega arith)
 
     -- it lost the old block
-    taken : (y : SetPoint) (z : Bool) → m.before ≢ 0 → Lost c p false m.before m.to z rs r → ds ≡ taken_events c p m.before m.to → IsWithin change_steps t
+    taken : (y : SetPoint) (z : Bool) → m.before ≢ 0 → Lost c p false m.before m.to z rs r → ds ≡ taken_events c p m.before m.to → IsWithin (change_steps m.me.geometry.wide) t
         → Outcome (lowered_turns z) (Knows (lowered_after (At y) z) (lowered_after (At y) z).point) Left
     taken y true some lost told short = (
       u,
@@ -288,11 +288,11 @@ module _ (m : SetState) (r0 rs r : Memo) (tr t : Trail) (es ds : List Event) (he
         lost = lost_word seen rs r h.same c b k m.before m.to true lost;
         holds = held;
         told = ap (λ (x : List Event). x ++ ds) h.none ∙ told;
-        bound = within_more 3 change_steps tr t h.bound short;
+        bound = within_more 3 (change_steps m.me.geometry.wide) tr t h.bound short;
       },
     )
     taken y false some lost told short =
-        let bound = within_more 3 change_steps tr t h.bound short in
+        let bound = within_more 3 (change_steps m.me.geometry.wide) tr t h.bound short in
         record {
           tag = u;
           old = m.before;
@@ -329,13 +329,13 @@ module _ (m : SetState) (r0 rs r : Memo) (tr t : Trail) (es ds : List Event) (he
 
       go : (a : Result (Unit {0}) ASpent) → TearLeaves m.me m.before rs r ds t a → Leads Tear (Second (Second (Second a)))
       go (Ok done) y =
-          let f = same_frees in
-          let bound = within_more (3 + change_steps) (tear_steps (frees ds)) tr t h.bound y.bound in
+          let f = ap (tear_steps m.me.geometry.wide) same_frees in
+          let bound = within_more (3 + change_steps m.me.geometry.wide) (tear_steps m.me.geometry.wide (frees ds)) tr t h.bound y.bound in
           let lost = torn_leaves m.me p false m.before m.to (word_seen b k u m.before r0) rs r h.may.who h.holds h.lost counted ds t (Ok done) y in
           record { tag = u; old = m.before; read = h.read; did = Taken h.some h.other lost ds told (inr y.walks); bound = omega arith }
       go (Err e) (vs, y) =
-          let f = same_frees in
-          let bound = within_more (3 + change_steps) (tear_steps (frees ds + length vs)) tr t h.bound y.bound in
+          let f = ap (λ n. tear_steps m.me.geometry.wide (n + length vs)) same_frees in
+          let bound = within_more (3 + change_steps m.me.geometry.wide) (tear_steps m.me.geometry.wide (frees ds + length vs)) tr t h.bound y.bound in
           let seen : Memo = word_seen b k u m.before r0 in
           let took = (torn_leaves m.me p false m.before m.to seen rs r h.may.who h.holds h.lost counted ds t (Err e) (vs, y)).0 in
           let stopped = stopped_at m.me m.before seen rs r ds t e.era vs h.lost.dying counted y in

@@ -50,7 +50,7 @@ MayLoad m y r = (set_word_part m y).needs (record { me = m.me; ask = set_ask m y
 
 -- the tag
 pub tag_needs : (m : SetState) (r : Memo) → MaySetRef m.me m.block m.to r → MayLoad m Tag r
-tag_needs m r may = let room = may.room in tag_load true m.me r may.who m.block (omega arith, omega arith) (reached_told m.me.who r m.block may.reach)
+tag_needs m r may = let room = may.room in tag_load true m.me r may.who m.block (omega arith, omega arith) (reached_told m.me.who r m.me.geometry.wide m.block may.reach)
 
 -- the hold word
 pub held_needs : (m : SetState) (t : ℕ) (r0 r : Memo) (tr : Trail) (es : List Event) → IsTagged m.me m.block m.word m.to t r0 r tr es → MayLoad m Held r
@@ -64,7 +64,7 @@ look_needs m t r0 r tr es h =
     let known : Contains r.known (record { spot = spot.Tag b; value = t }) = subst (λ (ks : List Stored). Contains ks (record { spot = spot.Tag b; value = t })) (sym (ap (λ (x : Memo). x.known) h.same)) (0, omega arith, refl) in
     reference_load false m.me r h.may.who b m.word h.inside (
       ap (λ (x : Memo). is_reached c x b) h.same ∙ tag_reached c b t b r0 h.may.reach,
-      (claim_by b t, c, listed_told c r b t known, refl, h.tag.low, ap Some h.tag.author, ap (λ (x : Memo). x.latch) h.same ∙ h.may.latch h.held),
+      (claim_by m.me.geometry.wide b t, c, listed_told m.me.geometry.wide c r b t known, refl, h.tag.low, ap Some h.tag.author, ap (λ (x : Memo). x.latch) h.same ∙ h.may.latch h.held),
     )
     (idle_settled r (spot.Body b m.word) (ap (λ (x : Memo). x.op) h.same ∙ h.may.idle))
 
@@ -103,11 +103,11 @@ module _ (me : Me) (b k to t old : ℕ) (r0 r : Memo) (tr : Trail) (es : List Ev
   has p x = subst (λ (ks : List Stored). Contains ks (record { spot = p; value = x })) (sym (ap (λ (y : Memo). y.known) h.same))
 
   -- the word is one that may be stored, and holds what was read
-  word : IsOwnWord c r b k old
+  word : IsOwnWord me.geometry.wide c r b k old
   word =
       let latch : r.latch ≡ Some c = ap (λ (x : Memo). x.latch) h.same ∙ (seen_latch b k t old r0 ∙ h.may.latch h.read.held) in
       record {
-        told = (claim_by b t, listed_told c r b t (has (spot.Tag b) t (seen_tag b k t old r0)), refl, h.read.tag.low, inr (latch, ap Some h.read.tag.author, reached b h.may.reach));
+        told = (claim_by me.geometry.wide b t, listed_told me.geometry.wide c r b t (has (spot.Tag b) t (seen_tag b k t old r0)), refl, h.read.tag.low, inr (latch, ap Some h.read.tag.author, reached b h.may.reach));
         word = has (spot.Body b k) old (seen_word b k t old r0);
       }
 
@@ -115,7 +115,7 @@ module _ (me : Me) (b k to t old : ℕ) (r0 r : Memo) (tr : Trail) (es : List Ev
   room n l = record { here = here; idle = idle; room = l }
 
   -- a step at the word may be made
-  may_step : (x : Aim) → AimFits me x → AimSmall x → (own_word r.own (spot.Era c c) ≤ last_era x → CanAim me.geometry.clients c r x (spot.Body b k)) → (raises x First ≡ true → is_reached c r (block_at x First) ≡ true) → IsSlotFor c x (spot.Body b k) false
+  may_step : (x : Aim) → AimFits me x → AimSmall x → (own_word r.own (spot.Era c c) ≤ last_era x → CanAim me.geometry.wide me.geometry.clients c r x (spot.Body b k)) → (raises x First ≡ true → is_reached c r (block_at x First) ≡ true) → IsSlotFor c x (spot.Body b k) false
       → MayStepAt (spot.Body b k) false (record { me = me; slot = b + 2 + k; aim = x; point = Era }) r
   may_step x fits small can reach slot =
       let total = total_small me.geometry h.may.geometry in
@@ -151,7 +151,7 @@ module _ (me : Me) (b k to t old : ℕ) (r0 r : Memo) (tr : Trail) (es : List Ev
   pub raise_needs : old ≡ 0 → to ≢ 0 → MayStepAt (spot.Body b k) false (record { me = me; slot = b + 2 + k; aim = Up to; point = Era }) r
   raise_needs empty some =
       let target = h.may.target some in
-      may_step (Up to) target.0 (small_inside to target.0) (λ l. record { may = room 3 (omega arith); word = subst (IsOwnWord c r b k) empty word; source = reached to target.1 }) (λ e. reached to target.1) tt
+      may_step (Up to) target.0 (small_inside to target.0) (λ l. record { may = room 3 (omega arith); word = subst (IsOwnWord me.geometry.wide c r b k) empty word; source = reached to target.1 }) (λ e. reached to target.1) tt
 
   -- a step down, where it is to be empty
   pub lower_needs : old ≢ 0 → MayStepAt (spot.Body b k) false (record { me = me; slot = b + 2 + k; aim = Down old; point = Era }) r

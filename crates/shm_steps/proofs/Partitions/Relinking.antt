@@ -116,9 +116,9 @@ module _ (z : Contents) (c n : ℕ) where
       ((λ s. q.0 (sym h.1.key ∙ ap (λ b. z.body b 2) s)), without_key (z.refs e.block 0) d es h.2 q.1)
 
   -- the blocks of a chain have two references
-  pub without_refs : (at d : ℕ) (es : List Entry) → IsChain z c n at es → tag_refs (z.tag d) ≢ 2 → IsWithout d es
+  pub without_refs : (at d : ℕ) (es : List Entry) → IsChain z c n at es → tag_refs z.wide (z.tag d) ≢ 2 → IsWithout d es
   without_refs at d [] h k = tt
-  without_refs at d (e ∷ es) h k = ((λ s. k (ap (λ b. tag_refs (z.tag b)) (sym s) ∙ h.1.shape.names)), without_refs (z.refs e.block 0) d es h.2 k)
+  without_refs at d (e ∷ es) h k = ((λ s. k (ap (λ b. tag_refs z.wide (z.tag b)) (sym s) ∙ h.1.shape.names)), without_refs (z.refs e.block 0) d es h.2 k)
 
   -- a key of another bucket isn't found
   pub other_bucket : (at key : ℕ) (es : List Entry) → IsChain z c n at es → n ≢ key % 16 → find key es ≡ None

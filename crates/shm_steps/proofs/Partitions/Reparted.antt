@@ -1,5 +1,5 @@
 -- the partition that a memo has after a count step at one of its words is the one that the new targets hold
-use Rattle.std.proofs.Common.{◌≡◌, ◌≢◌, ℕ, ◌%◌, ◌<◌, ◌≤◌, ◌⊎◌, refl, sym, ap, ◌∙◌, subst, arith, true, false, cond, eqb, ltb, List, [], ◌∷◌, ◌++◌, map, Option, Some, None, inl, inr}
+use Rattle.std.proofs.Common.{◌≡◌, ◌≢◌, ℕ, ◌%◌, ◌<◌, ◌≤◌, ◌⊎◌, refl, sym, ap, ◌∙◌, subst, arith, true, false, cond, eqb, ltb, List, [], ◌∷◌, ◌++◌, map, Option, Some, None, inl, inr, Bool}
 use Rattle.std.specs.List.{All, Contains}
 use Rattle.std.proofs.lemmas.Bool.{cases_Bool, cases_eq, eq-eqb, ne_eqb, lt-ltb, cond-true, cond-false, true≢false}
 use Rattle.std.proofs.lemmas.List.Elements.{All-nil, All-cons, All-head, All-tail, All-weaker, All-contains, Contains-append_cases}
@@ -64,7 +64,7 @@ module _ (g : Geometry) (w : Spot → ℕ) (r : ℕ → Memo) (c : ℕ) (h : Hel
   t = targets g w (view r)
 
   abbrev z : Contents
-  z = contents_of w (targets g w (view r))
+  z = contents_of g.wide w (targets g w (view r))
 
   -- what is known is so
   known_so : (p : Spot) (x : ℕ) → IsKnown (sight c m) p x → KnownHolds g w (view r) c (record { spot = p; value = x })
@@ -85,15 +85,15 @@ module _ (g : Geometry) (w : Spot → ℕ) (r : ℕ → Memo) (c : ℕ) (h : Hel
   -- a block whose tag is known is live, and c's
   pub record IsOwn (b refs plain : ℕ) : Type 0 where
     pub shape : HasShape z refs plain b
-    pub author : tag_author (w (Tag b)) ≡ c
+    pub author : tag_author g.wide (w (Tag b)) ≡ c
     pub near : Contains m.dying b ⊎ InReach w g (view r) c b
 
-  pub tagged_own : (b refs plain : ℕ) → IsTagged c (sight c m) b refs plain → IsOwn b refs plain
+  pub tagged_own : (b refs plain : ℕ) → IsTagged g.wide c (sight c m) b refs plain → IsOwn b refs plain
   tagged_own b refs plain a =
       let k : KnownHolds g w (view r) c (record { spot = Tag b; value = a.tag }) = known_so (Tag b) a.tag a.known in
       record {
-        shape = record { live = live k.1; names = ap tag_refs k.0 ∙ a.refs_are; words = ap tag_plain k.0 ∙ a.plain_are };
-        author = ap tag_author k.0 ∙ a.author;
+        shape = record { live = live k.1; names = ap (tag_refs g.wide) k.0 ∙ a.refs_are; words = ap (tag_plain g.wide) k.0 ∙ a.plain_are };
+        author = ap (tag_author g.wide) k.0 ∙ a.author;
         near = k.1;
       }
     where
@@ -102,19 +102,19 @@ module _ (g : Geometry) (w : Spot → ℕ) (r : ℕ → Memo) (c : ℕ) (h : Hel
       live (inr x) = (reach_counted g w (view r) h c b l x).0
 
   -- no step of another covers a reference word of an own block
-  others_off : (b i e : ℕ) → tag_author (w (Tag b)) ≡ c → Contains m.dying b ⊎ InReach w g (view r) c b → e < g.clients → c ≢ e → slot_of (r e).op ≢ Body b i
+  others_off : (b i e : ℕ) → tag_author g.wide (w (Tag b)) ≡ c → Contains m.dying b ⊎ InReach w g (view r) c b → e < g.clients → c ≢ e → slot_of (r e).op ≢ Body b i
   others_off b i e author near le n s = off (step_holds g w (view r) h e (Body b i) le (λ q. cc) s).2 near
     where
-      off : (((headers w b).count ≡ 0) × ((headers w b).client ≡ e)) ⊎ ((tag_author (w (Tag b)) ≡ e) × ((view r).latch e ≡ Some e) × InReach w g (view r) e b) → Contains m.dying b ⊎ InReach w g (view r) c b → ⊥
+      off : (((headers w b).count ≡ 0) × ((headers w b).client ≡ e)) ⊎ ((tag_author g.wide (w (Tag b)) ≡ e) × ((view r).latch e ≡ Some e) × InReach w g (view r) e b) → Contains m.dying b ⊎ InReach w g (view r) c b → ⊥
       off (inr u) y = n (sym author ∙ u.0)
       off (inl u) (inl x) = n (sym ((h.dying c l).listed b x).2 ∙ u.1)
       off (inl u) (inr x) = (reach_counted g w (view r) h c b l x).1 u.0
 
   -- so that it is its target
-  pub own_target : (b i : ℕ) → IsLive (headers w) b → tag_author (w (Tag b)) ≡ c → Contains m.dying b ⊎ InReach w g (view r) c b → i < tag_refs (w (Tag b)) → cover_of m.op ≡ Quiet → t (Body b i) ≡ w (Body b i)
+  pub own_target : (b i : ℕ) → IsLive (headers w) b → tag_author g.wide (w (Tag b)) ≡ c → Contains m.dying b ⊎ InReach w g (view r) c b → i < tag_refs g.wide (w (Tag b)) → cover_of m.op ≡ Quiet → t (Body b i) ≡ w (Body b i)
   own_target b i live author near low quiet =
-      let e : (words_of w).refs b ≡ tag_refs (w (Tag b)) = ap (λ y. refs_of y (w (Tag b))) live in
-      cond-true (ltb i ((words_of w).refs b)) (covered (λ d. cover_of (r d).op) g.clients (Body b i) (w (Body b i))) 0 (lt-ltb i ((words_of w).refs b) (subst (λ k. i < k) (sym e) low))
+      let e : (words_of g.wide w).refs b ≡ tag_refs g.wide (w (Tag b)) = ap (λ y. refs_of g.wide y (w (Tag b))) live in
+      cond-true (ltb i ((words_of g.wide w).refs b)) (covered (λ d. cover_of (r d).op) g.clients (Body b i) (w (Body b i))) 0 (lt-ltb i ((words_of g.wide w).refs b) (subst (λ k. i < k) (sym e) low))
       ∙ covered_none g.clients (Body b i) (w (Body b i)) (λ d. cover_of (r d).op)
       (λ d ld y. elim (cases_eq c d) [
         | inl s ↦ ap (λ o. cover o (Body b i) y) (ap (λ j. cover_of (r j).op) (sym s) ∙ quiet)
@@ -122,12 +122,12 @@ module _ (g : Geometry) (w : Spot → ℕ) (r : ℕ → Memo) (c : ℕ) (h : Hel
       ])
 
   -- a reference word of an own block that is known is its target
-  pub known_target : (b i y : ℕ) → IsLive (headers w) b → tag_author (w (Tag b)) ≡ c → i < tag_refs (w (Tag b)) → cover_of m.op ≡ Quiet → IsKnown (sight c m) (Body b i) y → t (Body b i) ≡ y
+  pub known_target : (b i y : ℕ) → IsLive (headers w) b → tag_author g.wide (w (Tag b)) ≡ c → i < tag_refs g.wide (w (Tag b)) → cover_of m.op ≡ Quiet → IsKnown (sight c m) (Body b i) y → t (Body b i) ≡ y
   known_target b i y live author low quiet known =
       let k : KnownHolds g w (view r) c (record { spot = Body b i; value = y }) = known_so (Body b i) y known in
       own_target b i live author (near k.1) low quiet ∙ k.0
     where
-      near : Contains m.dying b ⊎ (InReach w g (view r) c b × ((tag_refs (w (Tag b)) ≤ i) ⊎ ((tag_author (w (Tag b)) ≡ c) ⊎ (m.latch ≡ Some (tag_author (w (Tag b))))))) → Contains m.dying b ⊎ InReach w g (view r) c b
+      near : Contains m.dying b ⊎ (InReach w g (view r) c b × ((tag_refs g.wide (w (Tag b)) ≤ i) ⊎ ((tag_author g.wide (w (Tag b)) ≡ c) ⊎ (m.latch ≡ Some (tag_author g.wide (w (Tag b))))))) → Contains m.dying b ⊎ InReach w g (view r) c b
       near (inl a) = inl a
       near (inr a) = inr a.0
 
@@ -154,7 +154,7 @@ link_body d i (e ∷ es) = link_body e.block 0 es
 pub record Repartitions (g : Geometry) (w : Spot → ℕ) (r : ℕ → Memo) (c : ℕ) (p : Spot) (new : ℕ) (ess : List (List Entry)) (map : ℕ → Option (ℕ × ℕ)) : Type 0 where
   pub chains : ℕ → List Entry
   pub lists : (n : ℕ) → listed (chains_set (r c).known c (cover (On p new) (Home c) (own_word (r c).own (Home c))) p new ess) n ≡ chains n
-  pub part : IsPartition (contents_of w (upd (targets g w (view r)) p new)) c (upd (targets g w (view r)) p new (Home c)) chains
+  pub part : IsPartition (contents_of g.wide w (upd (targets g w (view r)) p new)) c (upd (targets g w (view r)) p new (Home c)) chains
   pub maps : (k : ℕ) → find k (chains (k % 16)) ≡ map k
 
 module _ (g : Geometry) (w : Spot → ℕ) (r : ℕ → Memo) (c : ℕ) (h : HeldAt g w (view r)) (l : c < g.clients) (new : ℕ) (quiet : cover_of (r c).op ≡ Quiet) (ess : List (List Entry)) (is : (r c).part ≡ Table ess) where
@@ -162,7 +162,7 @@ module _ (g : Geometry) (w : Spot → ℕ) (r : ℕ → Memo) (c : ℕ) (h : Hel
   u = targets g w (view r)
 
   abbrev x : Contents
-  x = contents_of w (targets g w (view r))
+  x = contents_of g.wide w (targets g w (view r))
 
   abbrev q : Memo
   q = r c
@@ -192,13 +192,13 @@ module _ (g : Geometry) (w : Spot → ℕ) (r : ℕ → Memo) (c : ℕ) (h : Hel
 
   -- a partition of what the new targets hold begins at the new target of the home
   abbrev After : ℕ → ℕ → (ℕ → List Entry) → Type 0
-  After d i chains = IsPartition (contents_of w (upd u (Body d i) new)) c (upd u (Body d i) new (Home c)) chains
+  After d i chains = IsPartition (contents_of g.wide w (upd u (Body d i) new)) c (upd u (Body d i) new (Home c)) chains
 
   after_so : (d i : ℕ) (chains : ℕ → List Entry) → IsPartition (record x { refs = refs_at d i }) c home chains → After d i chains
-  after_so d i chains y = subst (λ a. IsPartition (contents_of w (upd u (Body d i) new)) c a chains) (sym (home_so g w r c h l quiet)) y
+  after_so d i chains y = subst (λ a. IsPartition (contents_of g.wide w (upd u (Body d i) new)) c a chains) (sym (home_so g w r c h l quiet)) y
 
   -- the home comes to name an empty directory
-  founded : (old : ℕ) → w (Home c) ≡ old → old ≡ 0 → IsBare c (sight c q) new → Repartitions g w r c (Home c) new ess (λ k. find k (listed ess (k % 16)))
+  founded : (old : ℕ) → w (Home c) ≡ old → old ≡ 0 → IsBare g.wide c (sight c q) new → Repartitions g w r c (Home c) new ess (λ k. find k (listed ess (k % 16)))
   founded old word none a =
       let o = tagged_own g w r c h l new 16 0 a.tagged in
       record {
@@ -211,7 +211,7 @@ module _ (g : Geometry) (w : Spot → ℕ) (r : ℕ → Memo) (c : ℕ) (h : Hel
       }
 
   -- the word is one of a block that isn't an entry yet
-  prepared : (d i key : ℕ) → IsNew c (sight c q) d key → Repartitions g w r c (Body d i) new ess (λ k. find k (listed ess (k % 16)))
+  prepared : (d i key : ℕ) → IsNew g.wide c (sight c q) d key → Repartitions g w r c (Body d i) new ess (λ k. find k (listed ess (k % 16)))
   prepared d i key a =
       let o = tagged_own g w r c h l d 2 1 a.tagged in
       let key_so : w (Body d 2) ≡ key = body_so g w r c h l d 2 key a.word in
@@ -227,7 +227,7 @@ module _ (g : Geometry) (w : Spot → ℕ) (r : ℕ → Memo) (c : ℕ) (h : Hel
       }
 
   -- a new entry is what is known of its words
-  new_entry : (key v n : ℕ) → IsNew c (sight c q) new key → IsKnown (sight c q) (Body new 1) v → IsValue (sight c q) v n → IsEntry x c (key % 16) (entry_known q.known new) × (entry_known q.known new ≡ record { key = key; number = n; block = new; value = v })
+  new_entry : (key v n : ℕ) → IsNew g.wide c (sight c q) new key → IsKnown (sight c q) (Body new 1) v → IsValue (sight c q) v n → IsEntry x c (key % 16) (entry_known q.known new) × (entry_known q.known new ≡ record { key = key; number = n; block = new; value = v })
   new_entry key v n a value number =
       let o = tagged_own g w r c h l new 2 1 a.tagged in
       let ks : word_known q.known new 2 ≡ key = word_so g w r c h l new 2 key a.word in
@@ -248,7 +248,7 @@ module _ (g : Geometry) (w : Spot → ℕ) (r : ℕ → Memo) (c : ℕ) (h : Hel
       (subst (IsEntry x c (key % 16)) (sym e) is, e)
 
   -- a new entry begins the chain of its bucket
-  linked : (old key v n : ℕ) → Holds w g (view r) c (Body home (key % 16)) → w (Body home (key % 16)) ≡ old → IsNew c (sight c q) new key → IsKnown (sight c q) (Body new 0) old → IsKnown (sight c q) (Body new 1) v → IsValue (sight c q) v n
+  linked : (old key v n : ℕ) → Holds w g (view r) c (Body home (key % 16)) → w (Body home (key % 16)) ≡ old → IsNew g.wide c (sight c q) new key → IsKnown (sight c q) (Body new 0) old → IsKnown (sight c q) (Body new 1) v → IsValue (sight c q) v n
       → Repartitions g w r c (Body home (key % 16)) new ess (λ k. cond (eqb key k) (Some (n, v)) (find k (listed ess (k % 16))))
   linked old key v n holds word a next value number =
       let b : ℕ = key % 16 in
@@ -311,14 +311,14 @@ module _ (g : Geometry) (w : Spot → ℕ) (r : ℕ → Memo) (c : ℕ) (h : Hel
       }
 
   -- what each step at a word of the own partition leaves
-  pub repartitions : (p : Spot) (old : ℕ) → Holds w g (view r) c p → word_at (words_of w) p ≡ old → old ≢ new → (s : TableStep c (sight c q) p old new) → Repartitions g w r c p new ess (map_after c (sight c q) p old new s (λ k. find k (listed ess (k % 16))))
+  pub repartitions : (p : Spot) (old : ℕ) → Holds w g (view r) c p → word_at (words_of g.wide w) p ≡ old → old ≢ new → (s : TableStep g.wide c (sight c q) p old new) → Repartitions g w r c p new ess (map_after g.wide c (sight c q) p old new s (λ k. find k (listed ess (k % 16))))
   repartitions p old holds word other (Founds at none a) =
-      subst (λ y. Repartitions g w r c y new ess (λ k. find k (listed ess (k % 16)))) (sym at) (founded old (subst (λ y. word_at (words_of w) y ≡ old) at word) none a)
+      subst (λ y. Repartitions g w r c y new ess (λ k. find k (listed ess (k % 16)))) (sym at) (founded old (subst (λ y. word_at (words_of g.wide w) y ≡ old) at word) none a)
   repartitions p old holds word other (Prepares d i key at a) =
       subst (λ y. Repartitions g w r c y new ess (λ k. find k (listed ess (k % 16)))) (sym at) (prepared d i key a)
   repartitions p old holds word other (Links key v n at a next value number) =
       subst (λ y. Repartitions g w r c y new ess (λ k. cond (eqb key k) (Some (n, v)) (find k (listed ess (k % 16))))) (sym at)
-      (linked old key v n (subst (Holds w g (view r) c) at holds) (subst (λ y. word_at (words_of w) y ≡ old) at word) a next value number)
+      (linked old key v n (subst (Holds w g (view r) c) at holds) (subst (λ y. word_at (words_of g.wide w) y ≡ old) at word) a next value number)
   repartitions p old holds word other (Unlinks key before e after has at old_is next) =
       let b = link_body home (key % 16) before in
       subst (λ y. Repartitions g w r c y new ess (λ k. cond (eqb key k) None (find k (listed ess (k % 16))))) (sym (at ∙ b.2))
@@ -329,32 +329,32 @@ module _ (g : Geometry) (w : Spot → ℕ) (r : ℕ → Memo) (c : ℕ) (h : Hel
 -- ---- the memo's partition
 
 -- what a step makes of a map at a key it makes of what the map has there
-map_same : (c : ℕ) (m : Sight) (p : Spot) (old new : ℕ) (s : TableStep c m p old new) (f f' : ℕ → Option (ℕ × ℕ)) (k : ℕ) → f k ≡ f' k → map_after c m p old new s f k ≡ map_after c m p old new s f' k
-map_same c m p old new (Founds at none a) f f' k e = e
-map_same c m p old new (Prepares b i key at a) f f' k e = e
-map_same c m p old new (Links key v n at a next value number) f f' k e = ap (cond (eqb key k) (Some (n, v))) e
-map_same c m p old new (Unlinks key before e1 after has at old_is next) f f' k e = ap (cond (eqb key k) None) e
-map_same c m p old new (Replaces key n before e1 after has at number) f f' k e = ap (cond (eqb key k) (Some (n, new))) e
+map_same : (wide : Bool) (c : ℕ) (m : Sight) (p : Spot) (old new : ℕ) (s : TableStep wide c m p old new) (f f' : ℕ → Option (ℕ × ℕ)) (k : ℕ) → f k ≡ f' k → map_after wide c m p old new s f k ≡ map_after wide c m p old new s f' k
+map_same wide c m p old new (Founds at none a) f f' k e = e
+map_same wide c m p old new (Prepares b i key at a) f f' k e = e
+map_same wide c m p old new (Links key v n at a next value number) f f' k e = ap (cond (eqb key k) (Some (n, v))) e
+map_same wide c m p old new (Unlinks key before e1 after has at old_is next) f f' k e = ap (cond (eqb key k) None) e
+map_same wide c m p old new (Replaces key n before e1 after has at number) f f' k e = ap (cond (eqb key k) (Some (n, new))) e
 
 -- a step in progress that has begun, at a word that it finds
-module _ (g : Geometry) (w : Spot → ℕ) (r : ℕ → Memo) (c : ℕ) (h : HeldAt g w (view r)) (l : c < g.clients) (p : Spot) (old new : ℕ) (quiet : cover_of (r c).op ≡ Quiet) (holds : Holds w g (view r) c p) (word : word_at (words_of w) p ≡ old) (other : old ≢ new) (s : TableStep c (sight c (r c)) p old new) where
+module _ (g : Geometry) (w : Spot → ℕ) (r : ℕ → Memo) (c : ℕ) (h : HeldAt g w (view r)) (l : c < g.clients) (p : Spot) (old new : ℕ) (quiet : cover_of (r c).op ≡ Quiet) (holds : Holds w g (view r) c p) (word : word_at (words_of g.wide w) p ≡ old) (other : old ≢ new) (s : TableStep g.wide c (sight c (r c)) p old new) where
   -- the partition of the memo is the one that the new targets hold
   pub table_reparted : IsReparted g w (view r) c (r c) p new
   table_reparted = record { tie = λ read. go (r c).part refl read }
     where
-      go : (y : Part) → (r c).part ≡ y → is_read y p ≡ true → PartTie (contents_of w (upd (targets g w (view r)) p new)) c (upd (targets g w (view r)) p new (Home c)) (part_set (r c).known c (cover (On p new) (Home c) (own_word (r c).own (Home c))) p new y)
+      go : (y : Part) → (r c).part ≡ y → is_read y p ≡ true → PartTie (contents_of g.wide w (upd (targets g w (view r)) p new)) c (upd (targets g w (view r)) p new (Home c)) (part_set (r c).known c (cover (On p new) (Home c) (own_word (r c).own (Home c))) p new y)
       go Loose e read = tt
       go (Table ess) e read =
           let a = repartitions g w r c h l new quiet ess e p old holds word other s in
-          partition_same (contents_of w (upd (targets g w (view r)) p new)) c (upd (targets g w (view r)) p new (Home c)) a.chains
+          partition_same (contents_of g.wide w (upd (targets g w (view r)) p new)) c (upd (targets g w (view r)) p new (Home c)) a.chains
           (listed (chains_set (r c).known c (cover (On p new) (Home c) (own_word (r c).own (Home c))) p new ess)) a.lists a.part
 
   -- and its map is what the step makes of the map before
-  pub table_mapped : is_loose (r c).part ≡ false → (k : ℕ) → map_in (part_set (r c).known c (cover (On p new) (Home c) (own_word (r c).own (Home c))) p new (r c).part) k ≡ map_after c (sight c (r c)) p old new s (map_in (r c).part) k
+  pub table_mapped : is_loose (r c).part ≡ false → (k : ℕ) → map_in (part_set (r c).known c (cover (On p new) (Home c) (own_word (r c).own (Home c))) p new (r c).part) k ≡ map_after g.wide c (sight c (r c)) p old new s (map_in (r c).part) k
   table_mapped table k = go (r c).part refl table
     where
-      go : (y : Part) → (r c).part ≡ y → is_loose y ≡ false → map_in (part_set (r c).known c (cover (On p new) (Home c) (own_word (r c).own (Home c))) p new y) k ≡ map_after c (sight c (r c)) p old new s (map_in (r c).part) k
+      go : (y : Part) → (r c).part ≡ y → is_loose y ≡ false → map_in (part_set (r c).known c (cover (On p new) (Home c) (own_word (r c).own (Home c))) p new y) k ≡ map_after g.wide c (sight c (r c)) p old new s (map_in (r c).part) k
       go Loose e n = absurd (true≢false n)
       go (Table ess) e n =
           let a = repartitions g w r c h l new quiet ess e p old holds word other s in
-          ap (find k) (a.lists (k % 16)) ∙ (a.maps k ∙ map_same c (sight c (r c)) p old new s (λ j. find j (listed ess (j % 16))) (map_in (r c).part) k (ap (λ z. map_in z k) (sym e)))
+          ap (find k) (a.lists (k % 16)) ∙ (a.maps k ∙ map_same g.wide c (sight c (r c)) p old new s (λ j. find j (listed ess (j % 16))) (map_in (r c).part) k (ap (λ z. map_in z k) (sym e)))

@@ -39,7 +39,7 @@ nothing_distinct : IsDistinct nat_eq (map (λ (x : Entry). x.key) [])
 unfolding IsDistinct
 nothing_distinct = tt
 
-pub empty_partition : (z : Contents) (c d : ℕ) → HasShape z 16 0 d → tag_author (z.tag d) ≡ c → ((b : ℕ) → b < 16 → z.refs d b ≡ 0) → IsPartition z c d (λ b. [])
+pub empty_partition : (z : Contents) (c d : ℕ) → HasShape z 16 0 d → tag_author z.wide (z.tag d) ≡ c → ((b : ℕ) → b < 16 → z.refs d b ≡ 0) → IsPartition z c d (λ b. [])
 empty_partition z c d shape author zeros =
     record {
       none = λ n b. refl;
@@ -69,10 +69,10 @@ module _ (z : Contents) (c home : ℕ) (chains : ℕ → List Entry) (part : IsP
       ]
 
   -- a block with two references is no directory
-  pub not_home : (d : ℕ) → (z.head d).live ≡ true → tag_refs (z.tag d) ≡ 2 → d ≢ home
+  pub not_home : (d : ℕ) → (z.head d).live ≡ true → tag_refs z.wide (z.tag d) ≡ 2 → d ≢ home
   not_home d live two s =
       let n : home ≢ 0 = (λ e. some d live (s ∙ e)) in
-      let r : tag_refs (z.tag d) ≡ 16 = ap (λ b. tag_refs (z.tag b)) s ∙ (part.shape n).names in
+      let r : tag_refs z.wide (z.tag d) ≡ 16 = ap (λ b. tag_refs z.wide (z.tag b)) s ∙ (part.shape n).names in
       absurd (omega arith)
 
   -- a bucket that has an entry is one of 16, of a directory
@@ -206,14 +206,14 @@ module _ (z : Contents) (c home : ℕ) (chains : ℕ → List Entry) (part : IsP
     -- ---- an entry is put in
 
     -- a new entry begins the chain of its bucket
-    pub entry_in : (b : ℕ) (known : List Stored) → b < 16 → home ≢ 0 → home ≡ d → b ≡ i → x ≢ 0 → tag_refs (z.tag x) ≡ 2 → (entry_known known x).key ≡ z.body x 2 → find (z.body x 2) (chains b) ≡ None → word_known known x 0 ≡ z.refs home b → z.refs x 0 ≡ z.refs home b
+    pub entry_in : (b : ℕ) (known : List Stored) → b < 16 → home ≢ 0 → home ≡ d → b ≡ i → x ≢ 0 → tag_refs z.wide (z.tag x) ≡ 2 → (entry_known known x).key ≡ z.body x 2 → find (z.body x 2) (chains b) ≡ None → word_known known x 0 ≡ z.refs home b → z.refs x 0 ≡ z.refs home b
         → IsEntry z c b (entry_known known x)
         → (ess : List (List Entry)) → ((n : ℕ) → listed ess n ≡ chains n)
         → ((n : ℕ) → listed (chains_set known c home (Body d i) x ess) n ≡ at1 chains b (entry_known known x ∷ chains b) n) × IsPartition after c home (at1 chains b (entry_known known x ∷ chains b))
     entry_in b known low nz hd ib xs two key absent next names entry ess list =
         let here : IsChain z c b (z.refs home b) (chains b) = part.chain nz b low in
         let off : IsWithout x (chains b) = without_key z c b (z.refs home b) x (chains b) here absent in
-        let other : x ≢ home = (λ s. let r : tag_refs (z.tag x) ≡ 16 = ap (λ q. tag_refs (z.tag q)) s ∙ (part.shape nz).names in absurd (omega arith)) in
+        let other : x ≢ home = (λ s. let r : tag_refs z.wide (z.tag x) ≡ 16 = ap (λ q. tag_refs z.wide (z.tag q)) s ∙ (part.shape nz).names in absurd (omega arith)) in
         let e : Entry = entry_known known x in (
           λ n. ap (λ u. listed u n) (cond-true (eqb d home) (bucket_set (relinked known x) i ess) (map (chain_set known d i x) ess) (eq-eqb d home (sym hd)))
               ∙ elim (cases_eq b n) [

@@ -1,5 +1,5 @@
 -- a walk along the own partition over the loads of its words
-use Rattle.std.proofs.Common.{◌≡◌, ◌≢◌, ℕ, ◌%◌, ◌<◌, zero, suc, refl, sym, ap, ◌∙◌, subst, arith, true, false, not, eqb, eq-eqb, ◌||◌, inl, inr, List, [], ◌∷◌, ◌++◌, map, Some}
+use Rattle.std.proofs.Common.{◌≡◌, ◌≢◌, ℕ, ◌%◌, ◌<◌, zero, suc, refl, sym, ap, ◌∙◌, subst, arith, true, false, not, eqb, eq-eqb, ◌||◌, inl, inr, List, [], ◌∷◌, ◌++◌, map, Some, Bool}
 use Rattle.std.specs.List.{Contains, filter, list_any}
 use Rattle.std.proofs.lemmas.Bool.{cases_Bool, cond-false, false≢true, or_left, or_right}
 use Rattle.std.proofs.lemmas.List.Elements.{Contains-append_right}
@@ -210,15 +210,15 @@ pub seek_end : (g : Geometry) (w : Spot → ℕ) (r : ℕ → Memo) (c : ℕ) (h
 seek_end g w r c h l key first p xs left idle k = record { latch = k.latch; table = k.table; some = k.some; role = k.role; absent = walk_end g w r c h l (ap cover_of idle) k.table key p xs left k.walk; word = k.word; next = k.next }
 
 -- the word that leads to the entry is one that may be stored
-pub seek_own : (c : ℕ) (m : Memo) (key first : ℕ) (p : Spot) (at d i : ℕ) (xs left : List Entry) → m.op ≡ Nothing → IsSeeking c m key first p at xs left → p ≡ Body d i → IsOwnWord c m d i at
-seek_own c m key first p at d i xs left idle k is =
+pub seek_own : (wide : Bool) (c : ℕ) (m : Memo) (key first : ℕ) (p : Spot) (at d i : ℕ) (xs left : List Entry) → m.op ≡ Nothing → IsSeeking c m key first p at xs left → p ≡ Body d i → IsOwnWord wide c m d i at
+seek_own wide c m key first p at d i xs left idle k is =
     let home : ℕ = own_word m.own (Home c) in
     let word : IsKnown (sight c m) (Body d i) at = subst (λ q. IsKnown (sight c m) q at) is k.walk.known in
     elim k.lead [
       | inl z ↦ (let s : d ≡ home = (let q : Body d i ≡ Body home (key % 16) = sym is ∙ z in cc) in
           let b : i ≡ key % 16 = (let q : Body d i ≡ Body home (key % 16) = sym is ∙ z in cc) in
-          directory_word c m d i at k.latch (ap (role_in (roles m)) s ∙ k.role) (home_reached c m d idle (sym s) (λ n. k.some (sym s ∙ n))) (omega arith) word)
+          directory_word wide c m d i at k.latch (ap (role_in (roles m)) s ∙ k.role) (home_reached c m d idle (sym s) (λ n. k.some (sym s ∙ n))) (omega arith) word)
       | inr (b, z, n, a) ↦ (let s : d ≡ b = (let q : Body d i ≡ Body b 0 = sym is ∙ z in cc) in
           let o : i ≡ 0 = (let q : Body d i ≡ Body b 0 = sym is ∙ z in cc) in
-          entry_word c m d i at k.latch (ap (role_in (roles m)) s ∙ a.0) (look_reached c m d (ap (is_looked m) s ∙ a.1)) (omega arith) word)
+          entry_word wide c m d i at k.latch (ap (role_in (roles m)) s ∙ a.0) (look_reached c m d (ap (is_looked m) s ∙ a.1)) (omega arith) word)
     ]

@@ -1,5 +1,5 @@
 -- a walk along a chain of the own partition: what a read of its words shows, and which steps may follow
-use Rattle.std.proofs.Common.{◌≡◌, ◌≢◌, ℕ, ◌%◌, ◌<◌, refl, sym, ap, ◌∙◌, subst, arith, false, List, [], ◌∷◌, ◌++◌, Option, Some, None}
+use Rattle.std.proofs.Common.{◌≡◌, ◌≢◌, ℕ, ◌%◌, ◌<◌, refl, sym, ap, ◌∙◌, subst, arith, false, List, [], ◌∷◌, ◌++◌, Option, Some, None, Bool}
 use Rattle.std.proofs.lemmas.Bool.{true≢false}
 use Rattle.shm_words.specs.declared.geometry.Geometry.{Geometry}
 use Rattle.shm_graph.specs.declared.spot.Spot.{Spot}
@@ -62,18 +62,18 @@ pub walk_has : (s : Sight) (key : ℕ) (p : Spot) (at : ℕ) (xs : List Entry) (
 walk_has s key p at xs e ys a k = (record { chain = a.chain; key_is = k }, ap (find key) a.chain ∙ (found_joined key xs (e ∷ ys) a.others ∙ found_here key e ys k))
 
 -- the entry may be taken out, once its next word is known
-pub walk_unlinks : (c : ℕ) (s : Sight) (key : ℕ) (p : Spot) (at next : ℕ) (xs : List Entry) (e : Entry) (ys : List Entry) → IsWalking s key p at xs (e ∷ ys) → e.key ≡ key → IsKnown s (Body at 0) next → TableStep c s p at next
-walk_unlinks c s key p at next xs e ys a k known = Unlinks key xs e ys (walk_has s key p at xs e ys a k).0 a.link (sym a.starts) known
+pub walk_unlinks : (wide : Bool) (c : ℕ) (s : Sight) (key : ℕ) (p : Spot) (at next : ℕ) (xs : List Entry) (e : Entry) (ys : List Entry) → IsWalking s key p at xs (e ∷ ys) → e.key ≡ key → IsKnown s (Body at 0) next → TableStep wide c s p at next
+walk_unlinks wide c s key p at next xs e ys a k known = Unlinks key xs e ys (walk_has s key p at xs e ys a k).0 a.link (sym a.starts) known
 
 -- and it may have another value block
-pub walk_replaces : (c : ℕ) (s : Sight) (key : ℕ) (p : Spot) (at old new n : ℕ) (xs : List Entry) (e : Entry) (ys : List Entry) → IsWalking s key p at xs (e ∷ ys) → e.key ≡ key → IsValue s new n → TableStep c s (Body at 1) old new
-walk_replaces c s key p at old new n xs e ys a k number = Replaces key n xs e ys (walk_has s key p at xs e ys a k).0 (ap (λ b. Body b 1) a.starts) number
+pub walk_replaces : (wide : Bool) (c : ℕ) (s : Sight) (key : ℕ) (p : Spot) (at old new n : ℕ) (xs : List Entry) (e : Entry) (ys : List Entry) → IsWalking s key p at xs (e ∷ ys) → e.key ≡ key → IsValue s new n → TableStep wide c s (Body at 1) old new
+walk_replaces wide c s key p at old new n xs e ys a k number = Replaces key n xs e ys (walk_has s key p at xs e ys a k).0 (ap (λ b. Body b 1) a.starts) number
 
 -- ---- by what holds
 
 module _ (g : Geometry) (w : Spot → ℕ) (r : ℕ → Memo) (c : ℕ) (h : HeldAt g w (view r)) (l : c < g.clients) (quiet : cover_of (r c).op ≡ Quiet) (table : is_loose (r c).part ≡ false) where
   abbrev z : Contents
-  z = contents_of w (targets g w (view r))
+  z = contents_of g.wide w (targets g w (view r))
 
   abbrev s : Sight
   s = sight c (r c)
@@ -144,15 +144,15 @@ module _ (g : Geometry) (w : Spot → ℕ) (r : ℕ → Memo) (c : ℕ) (h : Hel
   -- ---- a new entry
 
   -- a block that is to be an entry isn't the directory
-  pub new_not_home : (b key : ℕ) → IsNew c s b key → b ≢ home
+  pub new_not_home : (b key : ℕ) → IsNew g.wide c s b key → b ≢ home
   new_not_home b key a = let o = tagged_own g w r c h l b 2 1 a.tagged in not_home z c home (chain_in (r c).part) partition (some_block g w r c h l) b o.shape.live o.shape.names
 
   -- and no value block
-  pub new_not_value : (b key v : ℕ) → IsNew c s b key → Contains (r c).values v → v ≢ b
+  pub new_not_value : (b key v : ℕ) → IsNew g.wide c s b key → Contains (r c).values v → v ≢ b
   new_not_value b key v a value e =
       let o = tagged_own g w r c h l b 2 1 a.tagged in
       let shape : HasShape z 0 1 v = (All-contains (ValueHolds g w (view r) c) (r c).values v (h.values c l) value).0 in
-      let two : tag_refs (w (Tag v)) ≡ 2 = ap (λ d. tag_refs (w (Tag d))) e ∙ o.shape.names in
+      let two : tag_refs g.wide (w (Tag v)) ≡ 2 = ap (λ d. tag_refs g.wide (w (Tag d))) e ∙ o.shape.names in
       let none = shape.names in
       absurd (omega arith)
 
@@ -204,7 +204,7 @@ module _ (g : Geometry) (w : Spot → ℕ) (r : ℕ → Memo) (c : ℕ) (h : Hel
   value_some key v xs e ys a known = λ n. some_block g w r c h l e.value (entry_of key xs e ys a.chain).0.holds.live (entry_valued key v xs e ys a known ∙ n)
 
   -- the first entry of a chain is another block than one that is to be an entry
-  pub first_other : (key first b : ℕ) → home ≢ 0 → IsKnown s (Body home (key % 16)) first → IsNew c s b key → first ≢ 0 → first ≢ b
+  pub first_other : (key first b : ℕ) → home ≢ 0 → IsKnown s (Body home (key % 16)) first → IsNew g.wide c s b key → first ≢ 0 → first ≢ b
   first_other key first b nz known new some same = go (chain_in (r c).part (key % 16)) refl (walk_first key first nz known).starts
     where
       go : (es : List Entry) → chain_in (r c).part (key % 16) ≡ es → Starts es first → ⊥

@@ -1,5 +1,5 @@
 -- words of the own partition that a memo tells by what it read of the table
-use Rattle.std.proofs.Common.{◌≡◌, ◌≢◌, ℕ, ◌<◌, refl, sym, ap, ◌∙◌, subst, true, false, eqb, eq-eqb, ◌==◌, if◌then◌else◌, inl, inr, List, [], ◌∷◌, ◌++◌, Some}
+use Rattle.std.proofs.Common.{◌≡◌, ◌≢◌, ℕ, ◌<◌, refl, sym, ap, ◌∙◌, subst, true, false, eqb, eq-eqb, ◌==◌, if◌then◌else◌, inl, inr, List, [], ◌∷◌, ◌++◌, Some, Bool}
 use Rattle.std.specs.List.{Contains, All}
 use Rattle.std.proofs.lemmas.Bool.{cases_Bool, eqb-true, cond-true, cond-false}
 use Rattle.std.proofs.lemmas.List.Elements.{All-head, All-tail}
@@ -23,17 +23,17 @@ use Rattle.shm_steps.proofs.Covering.{role_told}
 -- ---- words that may be stored
 
 -- a word of the directory, which was read under the own latch
-pub directory_word : (c : ℕ) (m : Memo) (d i x : ℕ) → m.latch ≡ Some c → role_in (roles m) d ≡ Directory → is_reached c m d ≡ true → i < 16 → Contains m.known (record { spot = Body d i; value = x }) → IsOwnWord c m d i x
-directory_word c m d i x latch role reach low known = record { told = (shaped m.latch d Directory, role_told c m d Directory role (λ z. cc), refl, low, inr (latch, latch, reach)); word = known }
+pub directory_word : (wide : Bool) (c : ℕ) (m : Memo) (d i x : ℕ) → m.latch ≡ Some c → role_in (roles m) d ≡ Directory → is_reached c m d ≡ true → i < 16 → Contains m.known (record { spot = Body d i; value = x }) → IsOwnWord wide c m d i x
+directory_word wide c m d i x latch role reach low known = record { told = (shaped m.latch d Directory, role_told c m wide d Directory role (λ z. cc), refl, low, inr (latch, latch, reach)); word = known }
 
 -- a reference word of an entry, which was read under the own latch
-pub entry_word : (c : ℕ) (m : Memo) (d i x : ℕ) → m.latch ≡ Some c → role_in (roles m) d ≡ Entry → is_reached c m d ≡ true → i < 2 → Contains m.known (record { spot = Body d i; value = x }) → IsOwnWord c m d i x
-entry_word c m d i x latch role reach low known = record { told = (shaped m.latch d Entry, role_told c m d Entry role (λ z. cc), refl, low, inr (latch, latch, reach)); word = known }
+pub entry_word : (wide : Bool) (c : ℕ) (m : Memo) (d i x : ℕ) → m.latch ≡ Some c → role_in (roles m) d ≡ Entry → is_reached c m d ≡ true → i < 2 → Contains m.known (record { spot = Body d i; value = x }) → IsOwnWord wide c m d i x
+entry_word wide c m d i x latch role reach low known = record { told = (shaped m.latch d Entry, role_told c m wide d Entry role (λ z. cc), refl, low, inr (latch, latch, reach)); word = known }
 
 -- a reference word of an own block whose tag is known, under the own latch
-pub tagged_word : (c : ℕ) (m : Memo) (b refs plain i x : ℕ) → m.latch ≡ Some c → IsTagged c (sight c m) b refs plain → is_reached c m b ≡ true → i < refs → Contains m.known (record { spot = Body b i; value = x }) → IsOwnWord c m b i x
-tagged_word c m b refs plain i x latch a reach low known =
-    record { told = (claim_by b a.tag, listed_told c m b a.tag a.known, refl, subst (λ n. i < n) (sym a.refs_are) low, inr (latch, ap Some a.author, reach)); word = known }
+pub tagged_word : (wide : Bool) (c : ℕ) (m : Memo) (b refs plain i x : ℕ) → m.latch ≡ Some c → IsTagged wide c (sight c m) b refs plain → is_reached c m b ≡ true → i < refs → Contains m.known (record { spot = Body b i; value = x }) → IsOwnWord wide c m b i x
+tagged_word wide c m b refs plain i x latch a reach low known =
+    record { told = (claim_by wide b a.tag, listed_told wide c m b a.tag a.known, refl, subst (λ n. i < n) (sym a.refs_are) low, inr (latch, ap Some a.author, reach)); word = known }
 
 -- ---- roles
 
@@ -64,7 +64,7 @@ module _ (g : Geometry) (w : Spot → ℕ) (r : ℕ → Memo) (h : HeldAt g w (v
   role_stays p ps d role all other mine some is =
       elim (cases_Bool (eqb p.block d)) [
         | inr n ↦ cond-false (eqb p.block d) p.role (role_in ps d) n ∙ is
-        | inl y ↦ (let z : Contents = contents_of w (targets g w (view r)) in
+        | inl y ↦ (let z : Contents = contents_of g.wide w (targets g w (view r)) in
             let home : ℕ = targets g w (view r) (Home a) in
             let q = part_here g w r h c l a latch table in
             let dir : home ≡ d → d ≢ 0 → HasShape z 16 0 d = λ e n. (directory_shape g w r h c l a d q.0 q.1 e n).0 in

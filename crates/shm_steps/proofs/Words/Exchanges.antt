@@ -9,7 +9,7 @@ use Rattle.shm_graph.specs.declared.ask.Ask.{Ask}
 use Rattle.shm_graph.specs.declared.ask.Ask.TheVariants.{Exchange}
 use Rattle.shm_graph.specs.declared.ask.Me.{Me}
 use Rattle.shm_graph.specs.declared.spot.Spot.{Spot}
-use Rattle.shm_graph.specs.declared.spot.Spot.TheVariants.{Head, Redo, Era}
+use Rattle.shm_graph.specs.declared.spot.Spot.TheVariants.{Head, Redo, RedoMore, Era}
 use Rattle.shm_graph.specs.declared.memo.Fact.TheVariants.{Header as HeaderRead}
 use Rattle.shm_graph.specs.declared.memo.ChangeStage.TheVariants.{Lowering}
 use Rattle.shm_graph.specs.declared.memo.Memo.{Memo}
@@ -51,10 +51,10 @@ module _ (first : Bool) (me : Me) (m : Memo) (l : me.who < me.geometry.clients) 
   ask = Exchange a from to
 
   -- the block before is one that the redo record names
-  pub former_there : m.op ≡ half → IsThere first me ask (FormerLowered c half from to) m (Head a)
+  pub former_there : m.op ≡ half → IsThere first me ask (FormerLowered me.geometry.wide c half from to) m (Head a)
   former_there o w r f st same =
-      let tie = subst (OpTie me.geometry (classes w) (w (Redo c)) (w (Era c c)) (words_of w)) (ap (λ (x : Memo). x.op) same ∙ o) (st.held.op c st.who) in
-      (st.held.redo c st.who _ tie.spelled).0
+      let tie = subst (OpTie me.geometry (classes w) (w (Redo c)) (w (RedoMore c)) (w (Era c c)) (words_of me.geometry.wide w)) (ap (λ (x : Memo). x.op) same ∙ o) (st.held.op c st.who) in
+      tie.blocks.0
 
   -- what the exchange makes of a memo is in its core
   abbrev lowering : Memo → Memo
@@ -62,16 +62,16 @@ module _ (first : Bool) (me : Me) (m : Memo) (l : me.who < me.geometry.clients) 
       let k : Memo = cut c p (record x { op = Change (Lowering Closed) p a b e; made = without_made x a }) in
       sifted c (record k { dying = dying_after (header_of to).count a k.dying; known = known_lowered (header_of to).count a k.known })
 
-  lowered_half : (x : Memo) → ◌≡◌ {A = Memo} (committed c x half to) (lowering x)
+  lowered_half : (x : Memo) → ◌≡◌ {A = Memo} (committed me.geometry.wide c x half to) (lowering x)
   lowered_half x = ap (sifted c) (lowered_is (header_of to).count a (cut c p (record x { op = Change (Lowering Closed) p a b e; made = without_made x a })))
 
-  half_core : (x : Memo) → core x ≡ core m → core (committed c x half to) ≡ core (committed c m half to)
+  half_core : (x : Memo) → core x ≡ core m → core (committed me.geometry.wide c x half to) ≡ core (committed me.geometry.wide c m half to)
   half_core x i = ap core (lowered_half x) ∙ (ap (λ (y : Memo). core (lowering y)) i ∙ sym (ap core (lowered_half m)))
 
   -- the header of the block before is exchanged
-  pub lower_former : first ≡ false → (0 < a) × (a < total_of me.geometry) → MayLowerFormer c m p a b e n from to → IsEventWord first me ask (former_event c a from) (FormerLowered c half from to) (word_for me ask) m
+  pub lower_former : first ≡ false → (0 < a) × (a < total_of me.geometry) → MayLowerFormer c m p a b e n from to → IsEventWord first me ask (former_event c a from) (FormerLowered me.geometry.wide c half from to) (word_for me ask) m
   lower_former going inside may =
-      event_in first me ask (former_event c a from) (FormerLowered c half from to) m (Head a) inside (former_there may.op)
+      event_in first me ask (former_event c a from) (FormerLowered me.geometry.wide c half from to) m (Head a) inside.1 (former_there may.op)
       (λ t same. ap (λ (i : Me). cond (eqb t.seen from) (event_of i.who m.op) Nothing) same ∙ ap (λ o. cond (eqb t.seen from) (event_of c o) Nothing) may.op)
       (λ w r f st stands same. let there = former_there may.op w r f st same in
       elim (cases_eq (w (Head a)) from) [
@@ -85,7 +85,7 @@ module _ (first : Bool) (me : Me) (m : Memo) (l : me.who < me.geometry.clients) 
       record {
         found = tt;
         left = by (eqb seen from) x same_op i (header_read me.geometry c false x a seen) lost;
-        read = λ other. subst (λ (y : Memo). Contains y.facts (HeaderRead seen)) (sym (cond-false (eqb seen from) (exchanged_on c x (Head a) to) (header_read me.geometry c false x a seen) (ne_eqb seen from other))) (0, omega arith, refl);
+        read = λ other. subst (λ (y : Memo). Contains y.facts (HeaderRead seen)) (sym (cond-false (eqb seen from) (exchanged_on me.geometry.wide c x (Head a) to) (header_read me.geometry c false x a seen) (ne_eqb seen from other))) (0, omega arith, refl);
       })
     where
       stays : (d seen : ℕ) → core (record m { op = op_refused m d seen }) ≡ core m
@@ -93,6 +93,6 @@ module _ (first : Bool) (me : Me) (m : Memo) (l : me.who < me.geometry.clients) 
           ap (λ o. core (record m { op = cond (not (recovers m) && (is_held (raised_by o) d && leb 1023 (header_of seen).count)) op.Nothing m.op })) may.op
           ∙ ap (λ z. core (record m { op = cond z op.Nothing m.op })) (and-false (not (recovers m)))
 
-      by : (z : Bool) (x : Memo) → x.op ≡ half → core x ≡ core m → (y : Memo) → core y ≡ core m → core (cond z (committed c x x.op to) y) ≡ core (cond z (committed c m half to) m)
-      by true x o i y j = ap (λ q. core (committed c x q to)) o ∙ half_core x i
+      by : (z : Bool) (x : Memo) → x.op ≡ half → core x ≡ core m → (y : Memo) → core y ≡ core m → core (cond z (committed me.geometry.wide c x x.op to) y) ≡ core (cond z (committed me.geometry.wide c m half to) m)
+      by true x o i y j = ap (λ q. core (committed me.geometry.wide c x q to)) o ∙ half_core x i
       by false x o i y j = j

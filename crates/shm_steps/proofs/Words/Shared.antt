@@ -82,11 +82,11 @@ module _ (first : Bool) (me : Me) (m : Memo) (l : me.who < me.geometry.clients) 
         taken ends x e false = e
 
     -- the latch that is held is given back
-    pub latch_give : first ≡ false → MayUnlatch m a → IsWord first me (Store (address me.geometry (place.Latch a)) 0) (LatchGiven c) (word_for me (Store (address me.geometry (place.Latch a)) 0)) m
+    pub latch_give : first ≡ false → MayUnlatch m a → IsWord first me (Store (address me.geometry (place.Latch a)) 0) (LatchGiven me.geometry.wide c) (word_for me (Store (address me.geometry (place.Latch a)) 0)) m
     latch_give going may =
-        store_at first me m l (place.Latch a) (Latch a) 0 (unlatched c) (latch_there, λ e. cc, refl)
+        store_at first me m l (place.Latch a) (Latch a) 0 (unlatched me.geometry.wide c) (latch_there, λ e. cc, refl)
         (λ w r f st stands same. latch_back me w r f [] (address me.geometry (place.Latch a)) a st (stands going) (latch_there (classes w)) (subst (λ (x : Memo). MayUnlatch x a) (sym same) may))
-        (λ x e. ap (λ (y : Memo). core (unlatched c y)) e)
+        (λ x e. ap (λ (y : Memo). core (unlatched me.geometry.wide c y)) e)
 
     -- a home is loaded under its author's latch
     pub home_look : m.latch ≡ Some a → IsWord first me (Load (address me.geometry (place.Home a))) (HomeLooked c a) (word_for me (Load (address me.geometry (place.Home a)))) m

@@ -8,11 +8,12 @@ use Rattle.shm_words.specs.declared.place.Place.TheVariants as place
 use Rattle.shm_words.specs.Layout.{address, total_of}
 use Rattle.shm_graph.specs.declared.ask.Ask.TheVariants.{Load}
 use Rattle.shm_graph.specs.declared.ask.Me.{Me}
-use Rattle.shm_graph.specs.declared.spot.Spot.TheVariants.{Era, Head}
+use Rattle.shm_graph.specs.declared.spot.Spot.TheVariants.{Era, Head, Spare}
 use Rattle.shm_graph.specs.declared.memo.Fact.TheVariants.{Counter}
 use Rattle.shm_graph.specs.declared.memo.Memo.{Memo}
 use Rattle.shm_graph.specs.declared.memo.Step.{Step}
 use Rattle.shm_graph.specs.Agents.{recovers}
+use Rattle.shm_graph.specs.Blocks.{classes}
 use Rattle.shm_graph.specs.Changes.{called, test_before}
 use Rattle.shm_graph.specs.Core.{core}
 use Rattle.shm_graph.specs.Laws.{framed}
@@ -20,6 +21,8 @@ use Rattle.shm_graph.specs.Readings.{op_refused, row_read, test_from, test_on}
 use Rattle.shm_graph.specs.Spots.{segment_of}
 use Rattle.shm_graph.specs.Views.{own_word}
 use Rattle.shm_graph.proofs.Spots.SpotPlaces.{spot-place}
+use Rattle.shm_graph.proofs.Spots.Spotting.{spot_zero}
+use Rattle.shm_graph.proofs.StepKinds.LoadKeeping.{load_kept}
 use Rattle.shm_graph.proofs.Memos.MemoSteps.{recovers_called}
 use Rattle.shm_calls.specs.Words.{IsWord}
 use Rattle.shm_calls.specs.WordSteps.{IsThere, load_at, word_in}
@@ -36,13 +39,13 @@ module _ (first : Bool) (me : Me) (m : Memo) (l : me.who < me.geometry.clients) 
   -- the header of a block
   pub test_begin : (b : ℕ) → (0 < b) × (b < total_of me.geometry) → IsThere first me (Load b) (TestBegun me.geometry c b) m (Head b) → IsWord first me (Load b) (TestBegun me.geometry c b) (word_for me (Load b)) m
   test_begin b inside there =
-      word_in first me (Load b) (TestBegun me.geometry c b) m (Head b) inside there (λ x t. refl)
+      word_in first me (Load b) (TestBegun me.geometry c b) m (Head b) inside.1 there (λ x t. refl)
       (λ w r f st stands same. header_loaded me w r f [] b b st (there w r f st same))
       (λ w r f st stands same. let t : Step = framed me (Load b) f (w (Head b)) in let x : Memo = called (r c) t in let n : ℕ = w (Head b) in
       record {
         found = tt;
         left = header_core me (Load b) f (r c) b n true ∙ (ap (λ (y : Memo). core (record y { op = op_refused y b n })) same ∙ ap (λ o. core (record m { op = o })) (recoverer_goes_on m b n dead));
-        read = (
+        read = λ some. (
           ap (λ z. cond z (test_from c (own_word x.own (Era c c)) b n) None) (recovers_called (r c) t ∙ (ap recovers same ∙ dead)) ∙ ap (λ (y : Memo). test_from c (own_word y.own (Era c c)) b n) (at_step r c m t same),
           (
             (0, omega arith, refl),
@@ -52,6 +55,13 @@ module _ (first : Bool) (me : Me) (m : Memo) (l : me.who < me.geometry.clients) 
           ),
         );
       })
+
+  -- word 0, which is no block's header
+  pub test_spare : 0 < total_of me.geometry → IsWord first me (Load 0) (TestBegun me.geometry c 0) (word_for me (Load 0)) m
+  test_spare inside =
+      word_in first me (Load 0) (TestBegun me.geometry c 0) m Spare inside (λ w r f st same. spot_zero me.geometry (classes w)) (λ x t. refl)
+      (λ w r f st stands same. load_kept me w r f [] 0 (λ n x. Unit {0}) Spare st (spot_zero me.geometry (classes w)) refl tt tt)
+      (λ w r f st stands same. record { found = tt; left = at_step r c m (framed me (Load 0) f (w Spare)) same; read = λ some. absurd (some refl) })
 
   -- the row of another identity, after an own word step
   pub test_row : first ≡ false → (k : ℕ) → k < me.geometry.clients → k ≢ c → IsWord first me (Load (address me.geometry (place.Era k c))) (TestGoesOn c k) (word_for me (Load (address me.geometry (place.Era k c)))) m

@@ -1,5 +1,5 @@
 -- removals, and each command: while one runs the own map is what it was, until its deciding step, and from then on the one that the answer shown leaves
-use Rattle.std.proofs.Common.{◌≡◌, ℕ, refl, ap, ◌∙◌, subst, Bool, true, false, List, [], ◌∷◌, Option, None}
+use Rattle.std.proofs.Common.{◌≡◌, ℕ, refl, ap, ◌∙◌, subst, Bool, true, false, List, [], ◌∷◌, Option, None, ◌+◌}
 use Rattle.std.specs.Prelude.{◌==◌, if◌then◌else◌}
 use Rattle.shm_graph.specs.declared.ask.Me.{Me}
 use Rattle.shm_graph.specs.declared.memo.Memo.{Memo}
@@ -7,6 +7,7 @@ use Rattle.shm_graph.specs.Asks.{Trail}
 use Rattle.shm_graph.specs.Events.{Event}
 use Rattle.shm_graph.specs.Laws.{Control, Steady, is_some}
 use Rattle.shm_graph.specs.Tells.{after_all}
+use Rattle.shm_graph.specs.Bounds.{redo_steps}
 use Rattle.shm_calls.specs.declared.or.Or.TheVariants.{First, Second}
 use Rattle.shm_calls.specs.CallsFit.{CallsFits}
 use Rattle.shm_calls.specs.Deciding.{StillRuns, where_decided}
@@ -109,7 +110,7 @@ del_so m r0 r tr going fit = go m.plan m.plan.point m.call r0 fit.rs r fit.befor
         (λ d. cut_after p.key r0 rs r same (subst (λ s. UnlinkDoes s rs r) e d p.key (found_unlinks p.me p.key p.entry p.before p.word r0 rs before es known))) (unlink_so c rs r t run fit)
     go p y (Second (Second c)) r0 rs r before t es at run h fit =
         let known = subst (λ y. DelKnows p y r0 rs before es) at h in
-        by_then (is_removed p.answer) (MapCut p.key r0 rs) (MapCut p.key r0 r) r0 rs r (λ d k. unlatch_still c rs r t run fit k ∙ d k) (unlatch_still c rs r t run fit) (said_so p.me p.key 18 r0 rs before es p.answer known.says)
+        by_then (is_removed p.answer) (MapCut p.key r0 rs) (MapCut p.key r0 r) r0 rs r (λ d k. unlatch_still c rs r t run fit k ∙ d k) (unlatch_still c rs r t run fit) (said_so p.me p.key (17 + redo_steps p.me.geometry.wide) r0 rs before es p.answer known.says)
 
 -- ---- each command: its line, which stays
 

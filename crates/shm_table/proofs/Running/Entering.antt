@@ -39,18 +39,18 @@ module _ (me : Me) (key v n home first k b next value : ℕ) (r0 rs r : Memo) (h
   filled : (z : Bool) (i x : ℕ) → i < 2 → x ≢ 0 → IsKnown (sight me.who rs) (Body b i) 0 → PartBy z me.who (Body b i) x rs r → SameMap r0 r
   filled false i x low some known e = same_more r0 rs r h.map (same_map rs r e)
   filled true i x low some known e =
-      let own : IsOwnWord me.who rs b i 0 = entry_own me rs h.holds h.may.who h.keeps.idle h.client key first k b next value h.vacant h.coming i 0 low known in
+      let own : IsOwnWord me.geometry.wide me.who rs b i 0 = entry_own me rs h.holds h.may.who h.keeps.idle h.client key first k b next value h.vacant h.coming i 0 low known in
       λ j. map_word me rs r b i 0 x h.holds h.may.who h.keeps.idle.op h.vacant.table own (λ e. some (sym e)) e (Prepares b i key refl h.coming.entry) j ∙ h.map j
 
 module _ (me : Me) (key v n home first k b : ℕ) (r0 rs r : Memo) (h : IsMade me key v n home first k b first v r0 rs) where
-  bucket : IsOwnWord me.who rs home (key % 16) first
-  bucket = subst (λ d. IsOwnWord me.who rs d (key % 16) first) h.directory (bucket_own me rs h.holds h.may.who h.keeps.idle h.client key first k b first v h.vacant h.coming)
+  bucket : IsOwnWord me.geometry.wide me.who rs home (key % 16) first
+  bucket = subst (λ d. IsOwnWord me.geometry.wide me.who rs d (key % 16) first) h.directory (bucket_own me rs h.holds h.may.who h.keeps.idle h.client key first k b first v h.vacant h.coming)
 
   -- the bucket comes to name the entry
   linked : r.part ≡ part_after me.who (sight me.who rs) (Body home (key % 16)) b → (x : ℕ) → IsValue (sight me.who r0) v x → MapSet key x v r0 r
   linked part x number j =
       let at : Body home (key % 16) ≡ Body (own_word rs.own (Home me.who)) (key % 16) = ap (λ d. Body d (key % 16)) (sym h.directory) in
-      let step : TableStep me.who (sight me.who rs) (Body home (key % 16)) first b = Links key v x at h.coming.entry h.coming.next_is h.coming.value_is (value_number me key v n home first k b first v r0 rs h x number) in
+      let step : TableStep me.geometry.wide me.who (sight me.who rs) (Body home (key % 16)) first b = Links key v x at h.coming.entry h.coming.next_is h.coming.value_is (value_number me key v n home first k b first v r0 rs h x number) in
       map_word me rs r home (key % 16) first b h.holds h.may.who h.keeps.idle.op h.vacant.table bucket (first_apart me rs h.holds h.may.who h.keeps.idle h.client key first k b first v h.vacant h.coming) part step j
       ∙ ap (cond (eqb key j) (Some (x, v))) (h.map j)
 

@@ -9,7 +9,7 @@ use Rattle.shm_calls.specs.CallsFit.{CallsFits}
 use Rattle.shm_calls.specs.Either.{or_control}
 use Rattle.shm_calls.specs.Words.{word_control}
 use Rattle.shm_steps.specs.Reparting.{sight}
-use Rattle.shm_count.specs.declared.point.StepPoint.TheVariants as step
+use Rattle.shm_count.specs.Step.Control.{first_point}
 use Rattle.shm_count.specs.declared.up_root.RootingPoint.{RootingPoint}
 use Rattle.shm_count.specs.declared.up_root.RootingPoint.TheVariants as rooting
 use Rattle.shm_count.specs.declared.up_root.RootingState.{RootingState}
@@ -119,8 +119,8 @@ rooting_still = calls_still rooting_parts rooting_plan (λ m. known m m.point) (
     known m rooting.Look r0 r tr es h = same_map r0 r (ap (λ (x : Memo). x.part) h.same)
     known m rooting.Step r0 r tr es (h, empty) = same_map r0 r (ap (λ (x : Memo). x.part) h.same)
 
-    taken : (m : RootingState) → IsStill up_control (FitsFrom (spot.Root m.me.who m.root) (step.Redo m.era))
-    taken m s rs r t going fit = same_map rs r (root_from m.me.who m.root m.era s rs r t going fit)
+    taken : (m : RootingState) → IsStill up_control (FitsFrom (spot.Root m.me.who m.root) (first_point m.me m.era))
+    taken m s rs r t going fit = same_map rs r (root_from m.me.geometry.wide m.me.who m.root m.era s rs r t going fit)
 
     keeps : (m : RootingState) (y : RootingPoint) → IsStill rooting_parts (rooting_part m y).fits
     keeps m rooting.Era = or_still word_control up_control _ _ (word_still _) (root_up_still m.me.who m.root)

@@ -1,5 +1,5 @@
 -- the partition of a memo while a count step or a tear-down is running: as it was up to the exchange of the first half, and from then on the one that the slot leads to
-use Rattle.std.proofs.Common.{◌≡◌, ℕ, refl, sym, ap, ◌∙◌, Bool, true, false, eqb, ◌&&◌, List}
+use Rattle.std.proofs.Common.{◌≡◌, ℕ, refl, sym, ap, ◌∙◌, Bool, true, false, eqb, ◌&&◌, List, cond}
 use Rattle.std.specs.List.{filter}
 use Rattle.std.proofs.lemmas.Bool.{true≢false}
 use Rattle.shm_words.specs.Headers.{header_of}
@@ -37,6 +37,7 @@ use Rattle.shm_count.specs.Step.Exchanged.{exchanged_at, is_second, step_exchang
 use Rattle.shm_count.specs.Step.{AtFirst, InHalf, PointHas, StepFits, set_memo, slot_memo}
 use Rattle.shm_count.specs.Step.Memos.{closed_part}
 use Rattle.shm_count.specs.Step.Parts.{first_sight, part_after}
+use Rattle.shm_count.specs.Step.Reading.{ready_part}
 use Rattle.shm_count.specs.StepsFrom.{FitsFrom}
 
 -- ---- slots
@@ -165,7 +166,8 @@ module _ (me : Me) (slot : ℕ) (x : Aim) (p : Spot) (r0 : Memo) (place : IsPlac
 
   pub point_part : (r : Memo) (y : StepPoint) → PointFits me x y → is_over y ≡ false → PointHas me slot x p r0 r y → PartBy (exchanged_at x y) me.who p (value_after x) r0 r
   point_part r point.Era fits going (same, put) = ap (λ (m : Memo). m.part) same
-  point_part r (point.Redo e) fits going (same, era, put) = ap (λ (m : Memo). m.part) same
+  point_part r (point.More e) fits going (same, era, put, z) = ap (λ (m : Memo). m.part) same
+  point_part r (point.Redo e) fits going (same, era, put) = ap (λ (m : Memo). m.part) same ∙ ready_part (λ (m : Memo). m.part) me slot x e r0 refl
   point_part r (point.Load e h) fits going k = half_part r e h fits.1 k
   point_part r (point.Row e h w) fits going k = half_part r e h fits.1 k.0
   point_part r (point.Show e h w) fits going k = half_part r e h fits.1 k.0
@@ -192,8 +194,12 @@ pub lane_part : (s t k : ℕ) (m : StepState) (r0 r : Memo) (tr : Trail) → ste
 lane_part s t k m r0 r tr going fit = quiet_by (step_exchanged m) m.me.who (spot.Slot s t k) (value_after m.aim) r0 r (lane_after m.me.who (sight m.me.who r0) s t k (value_after m.aim)) (step_part (spot.Slot s t k) m r0 r tr tt going fit)
 
 -- a step at a root that is taken up once its own era was loaded
-pub root_from : (c k e : ℕ) (m : StepState) (rs r : Memo) (tr : Trail) → step_control.finished m ≡ false → FitsFrom (spot.Root c k) (point.Redo e) m rs r tr → r.part ≡ rs.part
-root_from c k e m rs r tr going fit =
+pub root_from : (z : Bool) (c k e : ℕ) (m : StepState) (rs r : Memo) (tr : Trail) → step_control.finished m ≡ false → FitsFrom (spot.Root c k) (cond z (point.More e) (point.Redo e)) m rs r tr → r.part ≡ rs.part
+root_from z c k e m rs r tr going fit =
     let d = m.me.who in
     let now = point_part m.me m.slot m.aim (spot.Root c k) fit.r0 tt r m.point fit.knows.point going fit.holds.has in
-    quiet_by (step_exchanged m) d (spot.Root c k) (value_after m.aim) fit.r0 r (root_after d (sight d fit.r0) c k (value_after m.aim)) now ∙ sym (ap (λ (x : Memo). x.part) fit.came.holds.has.0)
+    quiet_by (step_exchanged m) d (spot.Root c k) (value_after m.aim) fit.r0 r (root_after d (sight d fit.r0) c k (value_after m.aim)) now ∙ sym (came z fit.came.holds.has)
+  where
+    came : (b : Bool) → PointHas m.me m.slot m.aim (spot.Root c k) fit.r0 rs (cond b (point.More e) (point.Redo e)) → rs.part ≡ fit.r0.part
+    came true h = ap (λ (x : Memo). x.part) h.0
+    came false h = ap (λ (x : Memo). x.part) h.0 ∙ ready_part (λ (x : Memo). x.part) m.me m.slot m.aim e fit.r0 refl

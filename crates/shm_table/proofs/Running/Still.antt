@@ -41,7 +41,7 @@ use Rattle.shm_count.specs.Step.Machines.{down_control, up_control}
 use Rattle.shm_count.specs.Step.Parts.{part_after}
 use Rattle.shm_count.specs.Step.{PointHas}
 use Rattle.shm_count.specs.StepsAt.{DownFitsAt, UpFitsAt}
-use Rattle.shm_count.specs.Tear.Control.{TearPointFits, down_next, down_state, lowered_next, point_of, tag_read, tear_control, tear_next_at, word_address, word_or_free}
+use Rattle.shm_count.specs.Tear.Control.{TearPointFits, down_next, down_state, lowered_next, point_of, relinked, tag_read, tear_control, tear_next_at, word_address, word_or_free}
 use Rattle.shm_count.specs.Tear.Events.{tear_event, tear_start}
 use Rattle.shm_count.specs.Tear.Memos.{IsFound}
 use Rattle.shm_count.specs.Tear.{TearFits, TearHolds}
@@ -127,13 +127,13 @@ runs_on : (m : TearState) (n : ℕ) → RunsDown m.point → RunsDown (tear_cont
 runs_on m n h = go m.point h
   where
     go : (y : TearPoint) → RunsDown y → RunsDown (point_of (tear_next_at m.me m.block y n))
-    go tear.Begin h = runs_either ((tag_read n).link == 0) (word_or_free (tag_read n) 0) (tear.Link (record (tag_read n) { link = 0 })) (runs_word (tag_read n) 0) tt
-    go (tear.Enter l) h = runs_either ((tag_read n).link == l) (word_or_free (tag_read n) 0) (tear.Link (record (tag_read n) { link = l })) (runs_word (tag_read n) 0) tt
+    go tear.Begin h = runs_either ((tag_read m.me.geometry.wide n).link == 0) (word_or_free (tag_read m.me.geometry.wide n) 0) (tear.Link (relinked m.me.geometry.wide (tag_read m.me.geometry.wide n) 0)) (runs_word (tag_read m.me.geometry.wide n) 0) tt
+    go (tear.Enter l) h = runs_either ((tag_read m.me.geometry.wide n).link == l) (word_or_free (tag_read m.me.geometry.wide n) 0) (tear.Link (relinked m.me.geometry.wide (tag_read m.me.geometry.wide n) l)) (runs_word (tag_read m.me.geometry.wide n) 0) tt
     go (tear.Link g) h = runs_word g 0
     go (tear.Word g i) h = runs_either (n % address_limit == 0) (word_or_free g (i + 1)) (tear.Down g i (n % address_limit) step.Era) (runs_word g (i + 1)) refl
     go (tear.Down g i t y) h = runs_down m.me m.block g i t y n h
     go (tear.Free g) h = runs_freed (g.link == 0) g
-    go tear.Return h = runs_word (tag_read n) 0
+    go tear.Return h = runs_word (tag_read m.me.geometry.wide n) 0
     go tear.Over h = tt
 
 -- the partition is what it was before the step down that is running, which clears a word that none is read from

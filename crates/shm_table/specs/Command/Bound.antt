@@ -60,14 +60,14 @@ pub record IsCommandShort (me : Me) (l : Line) (r : Memo) (tr : Trail) (es : Lis
   pub read : AreRead me l keys tr
   pub left : List Visit
   pub dying : All (λ (x : Visit). Contains r.dying x.block) left
-  pub bound : IsWithin (command_steps me.geometry.segments keys (frees es + length left)) tr
+  pub bound : IsWithin (command_steps me.geometry.wide me.geometry.segments keys (frees es + length left)) tr
 
 -- the events that the command of a line tells of
 abbrev pub command_told : Me → Line → Trail → List Event
 command_told me l = happens_along command_control command_does (command_of me l)
 
 -- nothing was torn down
-quiet_short : (me : Me) (l : Line) (r : Memo) (tr : Trail) (es : List Event) (k : ℕ) → AreRead me l k tr → IsWithin (command_steps me.geometry.segments k 0) tr → IsCommandShort me l r tr es
+quiet_short : (me : Me) (l : Line) (r : Memo) (tr : Trail) (es : List Event) (k : ℕ) → AreRead me l k tr → IsWithin (command_steps me.geometry.wide me.geometry.segments k 0) tr → IsCommandShort me l r tr es
 quiet_short me l r tr es k read w = record { keys = k; read = read; left = []; dying = All-nil (λ (x : Visit). Contains r.dying x.block); bound = omega arith }
 
 got_short : (me : Me) (a key : ℕ) (r0 r : Memo) (tr : Trail) (es : List Event) (b : Answer) → GetGives me a key r0 r tr b → IsCommandShort me (line.Get a key) r tr es
@@ -87,24 +87,24 @@ got_short me a key r0 r tr es b h = absurd h.leaves
 pub command_short : (me : Me) (l : Line) (r0 r : Memo) (tr : Trail) (b : Answer) → CommandGives (command_of me l) r0 r tr b → IsCommandShort me l r tr (command_told me l tr)
 command_short me (line.Put key n) r0 r tr b g = go (put_within me key r tr (put_told me key n tr) (put_short me key n r0 r tr (put_told me key n tr) b (puts_give me key n r0 r tr b g).leaves))
   where
-    go : IsPutShort me key (command_steps me.geometry.segments) r tr (put_told me key n tr) → IsCommandShort me (line.Put key n) r tr (command_told me (line.Put key n) tr)
+    go : IsPutShort me key (command_steps me.geometry.wide me.geometry.segments) r tr (put_told me key n tr) → IsCommandShort me (line.Put key n) r tr (command_told me (line.Put key n) tr)
     go (k, found, vs, dying, w) = subst (IsCommandShort me (line.Put key n) r tr) (sym (puts_happen (calls_of put_plan (putting me key n)) tr)) (record { keys = k; read = found; left = vs; dying = dying; bound = w })
 command_short me (line.Copy key a other) r0 r tr b g = go (copy_within me key a other r tr (copy_told me key a other tr) (copy_short me key a other r0 r tr (copy_told me key a other tr) b (copies_give me key a other r0 r tr b g).leaves))
   where
-    go : IsCopyShort me key a other (command_steps me.geometry.segments) r tr (copy_told me key a other tr) → IsCommandShort me (line.Copy key a other) r tr (command_told me (line.Copy key a other) tr)
+    go : IsCopyShort me key a other (command_steps me.geometry.wide me.geometry.segments) r tr (copy_told me key a other tr) → IsCommandShort me (line.Copy key a other) r tr (command_told me (line.Copy key a other) tr)
     go (read, searched, k, found, vs, dying, w) =
         subst (IsCommandShort me (line.Copy key a other) r tr) (sym (copies_happen (calls_of copy_plan (copying me key a other)) tr)) (record { keys = read + k; read = (read, k, refl, searched, found); left = vs; dying = dying; bound = w })
 command_short me (line.Del key) r0 r tr b g = go (del_within me key me.geometry.segments r tr (del_told me key tr) (del_short me key r0 r tr (del_told me key tr) b (dels_give me key r0 r tr b g).leaves.1))
   where
-    go : IsShort me key (command_steps me.geometry.segments) r tr (del_told me key tr) → IsCommandShort me (line.Del key) r tr (command_told me (line.Del key) tr)
+    go : IsShort me key (command_steps me.geometry.wide me.geometry.segments) r tr (del_told me key tr) → IsCommandShort me (line.Del key) r tr (command_told me (line.Del key) tr)
     go (x, s, vs, dying, w) =
         subst (IsCommandShort me (line.Del key) r tr) (sym (dels_happen (calls_of del_plan (deleting me key)) tr)) (record { keys = keys_read s.read x; read = (s.tries, s.search, s.rest, s.trail, (s.read, x, s.whole, refl)); left = vs; dying = dying; bound = w })
 command_short me (line.Get a key) r0 r tr b g = got_short me a key r0 r tr (command_told me (line.Get a key) tr) b (gets_give me a key r0 r tr b g)
 command_short me (line.Send to key) r0 r tr b g = go (send_key_within me key me.geometry.segments tr (send_key_short me to key r0 r tr (send_key_told me to key tr) b (sends_give me to key r0 r tr b g).leaves))
   where
-    go : IsSendShort me key (λ k. command_steps me.geometry.segments k 0) tr → IsCommandShort me (line.Send to key) r tr (command_told me (line.Send to key) tr)
+    go : IsSendShort me key (λ k. command_steps me.geometry.wide me.geometry.segments k 0) tr → IsCommandShort me (line.Send to key) r tr (command_told me (line.Send to key) tr)
     go (k, search, w) = quiet_short me (line.Send to key) r tr (command_told me (line.Send to key) tr) k search w
 command_short me (line.Recv from key) r0 r tr b g = go (recv_within me key r tr (recv_told me from key tr) (recv_short me from key r0 r tr (recv_told me from key tr) b (recvs_give me from key r0 r tr b g).leaves))
   where
-    go : IsPutShort me key (command_steps me.geometry.segments) r tr (recv_told me from key tr) → IsCommandShort me (line.Recv from key) r tr (command_told me (line.Recv from key) tr)
+    go : IsPutShort me key (command_steps me.geometry.wide me.geometry.segments) r tr (recv_told me from key tr) → IsCommandShort me (line.Recv from key) r tr (command_told me (line.Recv from key) tr)
     go (k, found, vs, dying, w) = subst (IsCommandShort me (line.Recv from key) r tr) (sym (recvs_happen (calls_of recv_plan (receiving_key me from key)) tr)) (record { keys = k; read = found; left = vs; dying = dying; bound = w })

@@ -1,5 +1,5 @@
 -- how many word steps a copy takes: by the keys that were read in both tables, and the blocks that were torn down or left on the way
-use Rattle.std.proofs.Common.{◌≡◌, ℕ, ◌+◌, ◌*◌, refl, arith, inl, ◌⊎◌, List, [], length}
+use Rattle.std.proofs.Common.{◌≡◌, ℕ, ◌+◌, ◌*◌, refl, arith, inl, ◌⊎◌, List, [], length, Bool}
 use Rattle.std.specs.List.{All, Contains}
 use Rattle.std.proofs.lemmas.List.Elements.{All-nil}
 use Rattle.shm_graph.specs.declared.ask.Me.{Me}
@@ -26,18 +26,18 @@ IsCopyShort me key a other steps r tr es =
     (read : ℕ) × HasSearch me a other read tr × (keys : ℕ) × ((keys ≡ 0) ⊎ HasSearch me me.who key keys tr) × (vs : List Visit) × All (λ (x : Visit). Contains r.dying x.block) vs × IsWithin (steps (read + keys) (frees es + length vs)) tr
 
 -- those of its calls
-abbrev pub own_steps : ℕ → ℕ → ℕ → ℕ
-own_steps g k t = copy_steps g + 2 * k + tear_steps t
+abbrev pub own_steps : Bool → ℕ → ℕ → ℕ → ℕ
+own_steps wide g k t = copy_steps wide g + 2 * k + tear_steps wide t
 
-refused_short : (me : Me) (key a other : ℕ) (r0 r : Memo) (tr : Trail) (es : List Event) (f : PutFault) → NotCopied me key a other r0 r tr es f → IsCopyShort me key a other (own_steps me.geometry.segments) r tr es
+refused_short : (me : Me) (key a other : ℕ) (r0 r : Memo) (tr : Trail) (es : List Event) (f : PutFault) → NotCopied me key a other r0 r tr es f → IsCopyShort me key a other (own_steps me.geometry.wide me.geometry.segments) r tr es
 refused_short me key a other r0 r tr es f h = let w = h.bound in (h.read, h.searched, h.keys, h.search, h.left, h.dying, omega arith)
 
-pub copy_short : (me : Me) (key a other : ℕ) (r0 r : Memo) (tr : Trail) (es : List Event) (b : Answer) → CopyLeaves (copying me key a other) r0 r tr es b → IsCopyShort me key a other (own_steps me.geometry.segments) r tr es
+pub copy_short : (me : Me) (key a other : ℕ) (r0 r : Memo) (tr : Trail) (es : List Event) (b : Answer) → CopyLeaves (copying me key a other) r0 r tr es b → IsCopyShort me key a other (own_steps me.geometry.wide me.geometry.segments) r tr es
 copy_short me key a other r0 r tr es (answer.Value n v) h = let w = h.bound in (h.source.read, h.source.searched, h.keys, h.search, h.left, h.dying, omega arith)
 copy_short me key a other r0 r tr es answer.Missing h =
     missed (missing_within me a other r0 r tr es h)
   where
-    missed : (ps : List Passed) × GetAsked me a other ps tr answer.Missing × IsWithin (6 + 2 * length ps) tr → IsCopyShort me key a other (own_steps me.geometry.segments) r tr es
+    missed : (ps : List Passed) × GetAsked me a other ps tr answer.Missing × IsWithin (6 + 2 * length ps) tr → IsCopyShort me key a other (own_steps me.geometry.wide me.geometry.segments) r tr es
     missed (ps, (before, walk, home, first, split, tries, whole), bound) =
         (length ps, (before, walk, unlatch_trail me a, split, (ps, Absent home first, whole, refl)), 0, inl refl, [], All-nil (λ (x : Visit). Contains r.dying x.block), omega arith)
 copy_short me key a other r0 r tr es (answer.EraSpent e) h = refused_short me key a other r0 r tr es (EraSpent e) h
@@ -47,5 +47,5 @@ copy_short me key a other r0 r tr es (answer.CountFull b x) h = refused_short me
 copy_short me key a other r0 r tr es b h = absurd h
 
 -- that is within what a command on a table may take
-pub copy_within : (me : Me) (key a other : ℕ) (r : Memo) (tr : Trail) (es : List Event) → IsCopyShort me key a other (own_steps me.geometry.segments) r tr es → IsCopyShort me key a other (command_steps me.geometry.segments) r tr es
+pub copy_within : (me : Me) (key a other : ℕ) (r : Memo) (tr : Trail) (es : List Event) → IsCopyShort me key a other (own_steps me.geometry.wide me.geometry.segments) r tr es → IsCopyShort me key a other (command_steps me.geometry.wide me.geometry.segments) r tr es
 copy_within me key a other r tr es (read, searched, k, found, vs, dying, w) = (read, searched, k, found, vs, dying, omega arith)

@@ -10,7 +10,7 @@ use Rattle.shm_graph.specs.declared.spot.Spot.TheVariants.{Home}
 use Rattle.shm_graph.specs.declared.spot.Spot.TheVariants as spot
 use Rattle.shm_graph.specs.Agents.{recovers}
 use Rattle.shm_graph.specs.Asks.{Trail}
-use Rattle.shm_graph.specs.Bounds.{tear_steps}
+use Rattle.shm_graph.specs.Bounds.{tear_steps, redo_steps}
 use Rattle.shm_graph.specs.Events.{Event}
 use Rattle.shm_graph.specs.Views.{own_word}
 use Rattle.shm_calls.specs.declared.or.Or.TheVariants.{First, Second}
@@ -46,6 +46,7 @@ use Rattle.shm_table.specs.PutRoot.Steps.{decided_after, decided_more, frees_app
 use Rattle.shm_table.specs.Staying.{Cleared, Ended, SameMap}
 use Rattle.shm_table.specs.Staying.Laws.{cleared_drop, dropped_else, keeps_drop, keeps_more, left_by, spent_drop, spent_later}
 use Rattle.shm_table.specs.ValueReads.{idle_here}
+use Rattle.shm_table.specs.Costs.{tear_sum, tear_same}
 
 -- ---- the plan
 
@@ -165,11 +166,11 @@ module _ (m : CopyState) (r0 rs r : Memo) (tr t : Trail) (es ds : List Event) (h
           let is : b ≡ b % address_limit = omega arith in
           let at : k ≡ k % 16 = omega arith in (
             may,
-            subst (λ i. IsRooted m.me m.author m.other i (b % address_limit) n None fetch_steps r0 r t ds) at (subst (λ d. IsRooted m.me m.author m.other k d n None fetch_steps r0 r t ds) is w),
+            subst (λ i. IsRooted m.me m.author m.other i (b % address_limit) n None (fetch_steps m.me.geometry.wide) r0 r t ds) at (subst (λ d. IsRooted m.me m.author m.other k d n None (fetch_steps m.me.geometry.wide) r0 r t ds) is w),
           )
 
   -- where the value block was from
-  abbrev source : IsRooted m.me m.author m.other m.root m.block m.number None fetch_steps r0 rs tr es → IsSource m.me m.author m.other m.number m.block r0 tr
+  abbrev source : IsRooted m.me m.author m.other m.root m.block m.number None (fetch_steps m.me.geometry.wide) r0 rs tr es → IsSource m.me m.author m.other m.number m.block r0 tr
   source h = record { entry = h.entry; q = h.q; reading = h.reading; told = h.told; has = h.has; read = h.keys; searched = h.search }
 
   -- the key has it, or not
@@ -177,7 +178,8 @@ module _ (m : CopyState) (r0 rs r : Memo) (tr t : Trail) (es ds : List Event) (h
   put (Ok done) (may, h) (w, still) =
       let quiet = frees_append es ds in
       let none : frees es ≡ 0 = ap frees h.events in
-      let b = within_more (fetch_steps + 2 * h.keys) (put_root_steps g + 2 * w.keys + tear_steps (frees ds + length w.left)) tr t h.bound w.bound in (
+      let torn = tear_same m.me.geometry.wide (frees (es ++ ds) + length w.left) (frees ds + length w.left) (omega arith) in
+      let b = within_more (fetch_steps m.me.geometry.wide + 2 * h.keys) (put_root_steps m.me.geometry.wide g + 2 * w.keys + tear_steps m.me.geometry.wide (frees ds + length w.left)) tr t h.bound w.bound in (
         record {
           may = may;
           keeps = keeps_more c r0 rs r h.keeps w.keeps;
@@ -206,7 +208,8 @@ module _ (m : CopyState) (r0 rs r : Memo) (tr t : Trail) (es ds : List Event) (h
   put (Err f) (may, h) w =
       let quiet = frees_append es ds in
       let none : frees es ≡ 0 = ap frees h.events in
-      let b = within_more (fetch_steps + 2 * h.keys) (put_root_steps g + 2 * w.keys + tear_steps (frees ds + length w.left)) tr t h.bound w.bound in (
+      let torn = tear_same m.me.geometry.wide (frees (es ++ ds) + length w.left) (frees ds + length w.left) (omega arith) in
+      let b = within_more (fetch_steps m.me.geometry.wide + 2 * h.keys) (put_root_steps m.me.geometry.wide g + 2 * w.keys + tear_steps m.me.geometry.wide (frees ds + length w.left)) tr t h.bound w.bound in (
         record {
           may = may;
           keeps = keeps_more c r0 rs r h.keeps w.keeps;
@@ -246,7 +249,8 @@ module _ (m : CopyState) (r0 rs r : Memo) (tr t : Trail) (es ds : List Event) (h
   dropped None (Ok z) h w =
       let n = else_dropped (Ok z) w in
       let quiet = frees_append es ds in
-      let b = within_more (fetch_steps + 2 * h.source.read + put_root_steps g + 2 * h.keys + tear_steps (frees es + length h.left)) (9 + 164 * frees ds) tr t h.bound w.bound in
+      let torn = tear_sum m.me.geometry.wide (frees (es ++ ds) + length h.left) (frees es + length h.left) (frees ds) (omega arith) in
+      let b = within_more (fetch_steps m.me.geometry.wide + 2 * h.source.read + put_root_steps m.me.geometry.wide g + 2 * h.keys + tear_steps m.me.geometry.wide (frees es + length h.left)) (8 + redo_steps m.me.geometry.wide + tear_steps m.me.geometry.wide (frees ds)) tr t h.bound w.bound in
       record {
         keeps = keeps_drop (dropping m.me m.root) r0 rs r t ds (Ok z) h.keeps h.empty w;
         latch = n.0 ∙ h.latch;
@@ -266,7 +270,8 @@ module _ (m : CopyState) (r0 rs r : Memo) (tr t : Trail) (es ds : List Event) (h
       let n = else_dropped (Err e) (vs, w) in
       let quiet = frees_append es ds in
       let long = length-append h.left vs in
-      let b = within_more (fetch_steps + 2 * h.source.read + put_root_steps g + 2 * h.keys + tear_steps (frees es + length h.left)) (9 + 164 * (frees ds + length vs)) tr t h.bound w.bound in
+      let torn = tear_sum m.me.geometry.wide (frees (es ++ ds) + length (h.left ++ vs)) (frees es + length h.left) (frees ds + length vs) (omega arith) in
+      let b = within_more (fetch_steps m.me.geometry.wide + 2 * h.source.read + put_root_steps m.me.geometry.wide g + 2 * h.keys + tear_steps m.me.geometry.wide (frees es + length h.left)) (8 + redo_steps m.me.geometry.wide + tear_steps m.me.geometry.wide (frees ds + length vs)) tr t h.bound w.bound in
       record {
         keeps = keeps_drop (dropping m.me m.root) r0 rs r t ds (Err e) h.keeps h.empty (vs, w);
         latch = n.0 ∙ h.latch;
@@ -285,7 +290,8 @@ module _ (m : CopyState) (r0 rs r : Memo) (tr t : Trail) (es ds : List Event) (h
   dropped (Some f) (Ok z) h w =
       let n = else_dropped (Ok z) w in
       let quiet = frees_append es ds in
-      let b = within_more (fetch_steps + 2 * h.source.read + put_root_steps g + 2 * h.keys + tear_steps (frees es + length h.left)) (9 + 164 * frees ds) tr t h.bound w.bound in
+      let torn = tear_sum m.me.geometry.wide (frees (es ++ ds) + length h.left) (frees es + length h.left) (frees ds) (omega arith) in
+      let b = within_more (fetch_steps m.me.geometry.wide + 2 * h.source.read + put_root_steps m.me.geometry.wide g + 2 * h.keys + tear_steps m.me.geometry.wide (frees es + length h.left)) (8 + redo_steps m.me.geometry.wide + tear_steps m.me.geometry.wide (frees ds)) tr t h.bound w.bound in
       not_copied m r0 r (tr ++ t) (es ++ ds) f
       (record {
         keeps = keeps_drop (dropping m.me m.root) r0 rs r t ds (Ok z) h.keeps h.empty w;
@@ -308,7 +314,8 @@ module _ (m : CopyState) (r0 rs r : Memo) (tr t : Trail) (es ds : List Event) (h
       let n = else_dropped (Err e) (vs, w) in
       let quiet = frees_append es ds in
       let long = length-append h.left vs in
-      let b = within_more (fetch_steps + 2 * h.source.read + put_root_steps g + 2 * h.keys + tear_steps (frees es + length h.left)) (9 + 164 * (frees ds + length vs)) tr t h.bound w.bound in
+      let torn = tear_sum m.me.geometry.wide (frees (es ++ ds) + length (h.left ++ vs)) (frees es + length h.left) (frees ds + length vs) (omega arith) in
+      let b = within_more (fetch_steps m.me.geometry.wide + 2 * h.source.read + put_root_steps m.me.geometry.wide g + 2 * h.keys + tear_steps m.me.geometry.wide (frees es + length h.left)) (8 + redo_steps m.me.geometry.wide + tear_steps m.me.geometry.wide (frees ds + length vs)) tr t h.bound w.bound in
       record {
         keeps = keeps_drop (dropping m.me m.root) r0 rs r t ds (Err e) h.keeps h.empty (vs, w);
         latch = n.0 ∙ h.latch;

@@ -5,7 +5,7 @@ use Rattle.std.proofs.lemmas.List.Elements.{All-nil}
 use Rattle.shm_graph.specs.declared.ask.Me.{Me}
 use Rattle.shm_graph.specs.declared.memo.Memo.{Memo}
 use Rattle.shm_graph.specs.Asks.{Trail, IsWithin}
-use Rattle.shm_graph.specs.Bounds.{command_steps, tear_steps}
+use Rattle.shm_graph.specs.Bounds.{command_steps, tear_steps, redo_steps}
 use Rattle.shm_graph.specs.Events.{Event}
 use Rattle.shm_count.specs.Tear.Events.{Visit, frees}
 use Rattle.shm_script.specs.declared.log.Answer.{Answer}
@@ -22,10 +22,10 @@ abbrev pub IsShort : Me → ℕ → (ℕ → ℕ → ℕ) → Memo → Trail →
 IsShort me key steps r tr es = (b : Found) × (s : IsSearched me key b tr) × (vs : List Visit) × All (λ (x : Visit). Contains r.dying x.block) vs × IsWithin (steps (keys_read s.read b) (frees es + length vs)) tr
 
 -- so too where the count step was refused
-refused_short : (me : Me) (key : ℕ) (r0 r : Memo) (tr : Trail) (es : List Event) (f : UpFault) → NotDeleted me key 20 r0 r tr es f → IsShort me key (λ k t. 20 + 2 * k + tear_steps t) r tr es
+refused_short : (me : Me) (key : ℕ) (r0 r : Memo) (tr : Trail) (es : List Event) (f : UpFault) → NotDeleted me key (19 + redo_steps me.geometry.wide) r0 r tr es f → IsShort me key (λ k t. 19 + redo_steps me.geometry.wide + 2 * k + tear_steps me.geometry.wide t) r tr es
 refused_short me key r0 r tr es f h = (At h.entry h.before h.word, h.searched, [], All-nil (λ (x : Visit). Contains r.dying x.block), (let w = h.bound in omega arith))
 
-pub del_short : (me : Me) (key : ℕ) (r0 r : Memo) (tr : Trail) (es : List Event) (a : Answer) → DelSays me key 20 r0 r tr es a → IsShort me key (λ k t. 20 + 2 * k + tear_steps t) r tr es
+pub del_short : (me : Me) (key : ℕ) (r0 r : Memo) (tr : Trail) (es : List Event) (a : Answer) → DelSays me key (19 + redo_steps me.geometry.wide) r0 r tr es a → IsShort me key (λ k t. 19 + redo_steps me.geometry.wide + 2 * k + tear_steps me.geometry.wide t) r tr es
 del_short me key r0 r tr es answer.Ok h = (At h.entry h.before h.word, h.searched, h.left, h.dying, h.bound)
 del_short me key r0 r tr es answer.Missing h = (Absent h.directory h.first, h.searched, [], All-nil (λ (x : Visit). Contains r.dying x.block), (let w = h.bound in omega arith))
 del_short me key r0 r tr es (answer.EraSpent e) h = refused_short me key r0 r tr es (EraSpent e) h
@@ -33,5 +33,5 @@ del_short me key r0 r tr es (answer.CountFull b n) h = refused_short me key r0 r
 del_short me key r0 r tr es a h = absurd h
 
 -- that is within what a command on a table may take
-pub del_within : (me : Me) (key segments : ℕ) (r : Memo) (tr : Trail) (es : List Event) → IsShort me key (λ k t. 20 + 2 * k + tear_steps t) r tr es → IsShort me key (command_steps segments) r tr es
+pub del_within : (me : Me) (key segments : ℕ) (r : Memo) (tr : Trail) (es : List Event) → IsShort me key (λ k t. 19 + redo_steps me.geometry.wide + 2 * k + tear_steps me.geometry.wide t) r tr es → IsShort me key (command_steps me.geometry.wide segments) r tr es
 del_within me key segments r tr es (b, s, vs, dying, w) = (b, s, vs, dying, omega arith)

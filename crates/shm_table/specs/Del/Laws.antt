@@ -10,7 +10,7 @@ use Rattle.shm_graph.specs.declared.spot.Spot.TheVariants.{Body, Era, Home}
 use Rattle.shm_graph.specs.declared.table.Part.{Part as TablePart}
 use Rattle.shm_graph.specs.Agents.{recovers}
 use Rattle.shm_graph.specs.Asks.{Trail, IsWithin}
-use Rattle.shm_graph.specs.Bounds.{change_steps, tear_steps}
+use Rattle.shm_graph.specs.Bounds.{change_steps, tear_steps, redo_steps}
 use Rattle.shm_graph.specs.Events.{Event}
 use Rattle.shm_graph.specs.Views.{own_word}
 use Rattle.shm_calls.specs.declared.or.Or.TheVariants.{First, Second}
@@ -54,6 +54,7 @@ use Rattle.shm_table.specs.Unlink.Control.{unlink_parts}
 use Rattle.shm_table.specs.Unlink.{MayUnlink, NotUnlinked, Unlinked, UnlinkCause, UnlinkEvents, link_aim, unlink_control, unlink_plan}
 use Rattle.shm_table.specs.Unlink.Laws.{unlink_laws}
 use Rattle.shm_table.specs.ValueReads.{idle_here}
+use Rattle.shm_table.specs.Costs.{tear_same}
 
 -- ---- the search
 
@@ -123,7 +124,7 @@ missing me key home first r0 r tr es may h held =
     }
 
 -- a word that its identity may store lies in the pool
-own_inside : (me : Me) (r : Memo) (d i x : ℕ) → me.who < me.geometry.clients → IsHeld me r → IsOwnWord me.who r d i x → d + 2 + i < total_of me.geometry
+own_inside : (me : Me) (r : Memo) (d i x : ℕ) → me.who < me.geometry.clients → IsHeld me r → IsOwnWord me.geometry.wide me.who r d i x → d + 2 + i < total_of me.geometry
 own_inside me r d i x l held own = let k = told_inside me r own.told.0 l held own.told.1 in let e = own.told.2 in let low = own.told.3 in omega arith
 
 -- the entry has it: its block and the one that leads there are addresses
@@ -132,7 +133,7 @@ found_small me key entry before word r0 r tr es may h held =
     let total = total_small me.geometry may.geometry in
     let room = h.found.room in
     let o = h.found.own refl in
-    let end = own_inside me r before word entry may.who held (seek_own me.who r key o.0 (Body before word) entry before word o.1 (o.2 ∷ o.3) h.idle.op o.4 refl) in
+    let end = own_inside me r before word entry may.who held (seek_own me.geometry.wide me.who r key o.0 (Body before word) entry before word o.1 (o.2 ∷ o.3) h.idle.op o.4 refl) in
     (omega arith, omega arith)
 
 -- ---- the entry goes
@@ -190,7 +191,7 @@ module _ (me : Me) (key entry before word : ℕ) (r0 rs r : Memo) (tr t : Trail)
           dying = u.dying;
           ended = elim u.ended [ inl y ↦ inl (cleared_more me.who r0 rs r cleared y) | inr y ↦ inr y ];
           events = subst (λ (x : List Event). UnlinkEvents me entry before word x u.left) (sym quiet) u.events;
-          bound = let f = ap frees quiet in let w = within_more (4 + 2 * keys_read looked.read b) (1 + change_steps + tear_steps (frees ds + length u.left)) tr t (within me key r0 rs tr es b h.may h.located) u.bound in omega arith;
+          bound = let f = ap frees quiet in let torn = tear_same me.geometry.wide (frees (es ++ ds) + length u.left) (frees ds + length u.left) (omega arith) in let w = within_more (4 + 2 * keys_read looked.read b) (1 + change_steps me.geometry.wide + tear_steps me.geometry.wide (frees ds + length u.left)) tr t (within me key r0 rs tr es b h.may h.located) u.bound in omega arith;
         };
       }
 
@@ -202,7 +203,7 @@ module _ (me : Me) (key entry before word : ℕ) (r0 rs r : Memo) (tr t : Trail)
         idle = u.keeps.idle;
         latch = u.latch ∙ found_latch me key r0 rs tr es b h.may h.located;
         holds = held;
-        says = says_refused me key 18 r0 r (tr ++ t) (es ++ ds) f (record {
+        says = says_refused me key (17 + redo_steps me.geometry.wide) r0 r (tr ++ t) (es ++ ds) f (record {
           entry = entry;
           before = before;
           word = word;
@@ -215,7 +216,7 @@ module _ (me : Me) (key entry before word : ℕ) (r0 rs r : Memo) (tr t : Trail)
           cause = u.cause;
           refusal = (u.refusal.0, cause_before me key (link_aim entry u.refusal.0) r0 rs tr es b f h.may h.located u.refusal.1);
           none = quiet ∙ u.none;
-          bound = let w = within_more (4 + 2 * keys_read looked.read b) (1 + change_steps) tr t (within me key r0 rs tr es b h.may h.located) u.bound in omega arith;
+          bound = let w = within_more (4 + 2 * keys_read looked.read b) (1 + change_steps me.geometry.wide) tr t (within me key r0 rs tr es b h.may h.located) u.bound in omega arith;
         });
       }
 
@@ -233,7 +234,7 @@ module _ (me : Me) (key : ℕ) (r0 rs r : Memo) (tr t : Trail) (es ds : List Eve
   two = let n = ap length g.trail in omega arith
 
   abbrev As : (r.latch ≡ None) × (own_word r.own (Home me.who) ≡ own_word rs.own (Home me.who)) × (r.part ≡ rs.part) × Cleared me.who rs r
-  As = unlatched_else me.who rs r g.memo
+  As = unlatched_else me.geometry.wide me.who rs r g.memo
 
   cause_still : (f : UpFault) → own_word rs.own (Era me.who me.who) ≤ own_word r.own (Era me.who me.who) → UnlinkCause me rs f → UnlinkCause me r f
   cause_still (EraSpent e) grew h = spent_later me.who e rs r grew h
@@ -242,13 +243,13 @@ module _ (me : Me) (key : ℕ) (r0 rs r : Memo) (tr t : Trail) (es ds : List Eve
   ended_still : own_word rs.own (Era me.who me.who) ≤ own_word r.own (Era me.who me.who) → Ended me.who r0 rs → Ended me.who r0 r
   ended_still grew h = elim h [ inl y ↦ inl (cleared_more me.who r0 rs r y As.3) | inr y ↦ inr (y.0, spent_later me.who y.0 rs r grew y.1) ]
 
-  given : (a : Answer) → IsSettled me key r0 rs tr es a → (r.latch ≡ None) × DelSays me key 20 r0 r (tr ++ t) (es ++ ds) a
+  given : (a : Answer) → IsSettled me key r0 rs tr es a → (r.latch ≡ None) × DelSays me key (19 + redo_steps me.geometry.wide) r0 r (tr ++ t) (es ++ ds) a
   given a h = (g.latch, go a h.says)
     where
       later : Keeps me.who rs r
       later = keeps_unlatched me rs r h.idle h.holds h.may.who g.memo
 
-      refused : (f : UpFault) → NotDeleted me key 18 r0 rs tr es f → NotDeleted me key 20 r0 r (tr ++ t) (es ++ ds) f
+      refused : (f : UpFault) → NotDeleted me key (17 + redo_steps me.geometry.wide) r0 rs tr es f → NotDeleted me key (19 + redo_steps me.geometry.wide) r0 r (tr ++ t) (es ++ ds) f
       refused f d =
           record {
             entry = d.entry;
@@ -263,10 +264,10 @@ module _ (me : Me) (key : ℕ) (r0 rs r : Memo) (tr t : Trail) (es ds : List Eve
             cause = cause_still f later.era d.cause;
             refusal = d.refusal;
             none = silent ∙ d.none;
-            bound = let w = within_more (18 + 2 * keys_read d.searched.read (At d.entry d.before d.word)) 2 tr t d.bound two in omega arith;
+            bound = let w = within_more (17 + redo_steps me.geometry.wide + 2 * keys_read d.searched.read (At d.entry d.before d.word)) 2 tr t d.bound two in omega arith;
           }
 
-      go : (a : Answer) → DelSays me key 18 r0 rs tr es a → DelSays me key 20 r0 r (tr ++ t) (es ++ ds) a
+      go : (a : Answer) → DelSays me key (17 + redo_steps me.geometry.wide) r0 rs tr es a → DelSays me key (19 + redo_steps me.geometry.wide) r0 r (tr ++ t) (es ++ ds) a
       go answer.Ok d =
           record {
             entry = d.entry;
@@ -282,7 +283,7 @@ module _ (me : Me) (key : ℕ) (r0 rs r : Memo) (tr t : Trail) (es ds : List Eve
             dying = subst (λ (xs : List ℕ). All (λ (x : Visit). Contains xs x.block) d.left) (sym As.3.dying) d.dying;
             ended = ended_still later.era d.ended;
             events = subst (λ (x : List Event). UnlinkEvents me d.entry d.before d.word x d.left) (sym silent) d.events;
-            bound = let f = ap frees silent in let w = within_more (18 + 2 * keys_read d.searched.read (At d.entry d.before d.word) + tear_steps (frees es + length d.left)) 2 tr t d.bound two in omega arith;
+            bound = let f = ap frees silent in let torn = tear_same me.geometry.wide (frees (es ++ ds) + length d.left) (frees es + length d.left) (omega arith) in let w = within_more (17 + redo_steps me.geometry.wide + 2 * keys_read d.searched.read (At d.entry d.before d.word) + tear_steps me.geometry.wide (frees es + length d.left)) 2 tr t d.bound two in omega arith;
           }
       go answer.Missing d =
           record {
@@ -296,7 +297,7 @@ module _ (me : Me) (key : ℕ) (r0 rs r : Memo) (tr t : Trail) (es ds : List Eve
             cleared = cleared_more me.who r0 rs r d.cleared As.3;
             map = λ k. ap (λ (x : TablePart). map_in x k) As.2 ∙ d.map k;
             none = silent ∙ d.none;
-            bound = let w = within_more (18 + 2 * keys_read d.searched.read (Absent d.directory d.first)) 2 tr t d.bound two in omega arith;
+            bound = let w = within_more (17 + redo_steps me.geometry.wide + 2 * keys_read d.searched.read (Absent d.directory d.first)) 2 tr t d.bound two in omega arith;
           }
       go (answer.EraSpent e) d = refused (EraSpent e) d
       go (answer.CountFull b n) d = refused (CountFull b n) d

@@ -81,7 +81,7 @@ module _ (m : EnterState) (r0 rs r : Memo) (tr t : Trail) (es ds : List Event) (
     abbrev Asked : Result Made AllocFault → Type 0
     Asked = AllocLeaves (record { me = m.me; request = q; point = alloc.Era }) r0 r t ds
 
-    within : (a : Result Made AllocFault) → RequestFits q → Asked a → IsWithin (alloc_steps m.me.geometry.segments) t
+    within : (a : Result Made AllocFault) → RequestFits q → Asked a → IsWithin (alloc_steps m.me.geometry.wide m.me.geometry.segments) t
     within a fits g = let l = alloc_bound m.me q fits t a g.trail in omega arith
 
     -- it was made, and lies where an entry can be
@@ -91,7 +91,7 @@ module _ (m : EnterState) (r0 rs r : Memo) (tr t : Trail) (es ds : List Event) (
         let end = (value_needs m.me m.key m.value n m.home m.first x.root x.block r0 r h).step.can.inside.1 in
         let total = total_small m.me.geometry may.geometry in
         let is : entry_of x.block ≡ x.block = entry_is x.block (omega arith) in
-        subst (λ b. ((n : ℕ) × IsMade m.me m.key m.value n m.home m.first x.root b 0 0 r0 r) × (ds ≡ made_events c x.root b) × IsWithin (alloc_steps m.me.geometry.segments) t) (sym is) ((n, h), g.events, within (Ok x) fits g)
+        subst (λ b. ((n : ℕ) × IsMade m.me m.key m.value n m.home m.first x.root b 0 0 r0 r) × (ds ≡ made_events c x.root b) × IsWithin (alloc_steps m.me.geometry.wide m.me.geometry.segments) t) (sym is) ((n, h), g.events, within (Ok x) fits g)
 
     unmade : (f : AllocFault) → RequestFits q → Asked (Err f) → EnterLeaves m r0 r t ds (Unmade (made_fault f))
     unmade f fits g = subst (λ (u : List Event). EnterLeaves m r0 r t u (Unmade (made_fault f))) (sym g.events) (unmade_on m.me q m.key m.value n m.home m.first r0 r t f may g.holds (within (Err f) fits g))
@@ -106,7 +106,7 @@ module _ (m : EnterState) (r0 rs r : Memo) (tr t : Trail) (es ds : List Event) (
   some_more before more told is = ap (λ (x : List Event). x ++ ds) told ∙ ap (λ (x : List Event). before ++ x) is
 
   -- a count step was refused
-  refused : (next value n : ℕ) (x : Aim) (p : Spot) (f : UpFault) → IsMade m.me m.key m.value n m.home m.first m.root m.entry next value r0 rs → StepLeft m.me x p false rs r t ds (Err f) → IsHalfMade c m.root m.entry m.value m.first (es ++ ds) → IsWithin (enter_steps m.me.geometry.segments) (tr ++ t)
+  refused : (next value n : ℕ) (x : Aim) (p : Spot) (f : UpFault) → IsMade m.me m.key m.value n m.home m.first m.root m.entry next value r0 rs → StepLeft m.me x p false rs r t ds (Err f) → IsHalfMade c m.root m.entry m.value m.first (es ++ ds) → IsWithin (enter_steps m.me.geometry.wide m.me.geometry.segments) (tr ++ t)
       → IsUnlinked m.me m.key m.value m.home m.first m.root r0 r (tr ++ t) (es ++ ds) (raised_fault f)
   refused next value n x p f h s told bound = unlinked_on m.me m.key m.value n m.home m.first m.root m.entry next value r0 rs r (tr ++ t) (es ++ ds) x f h s.did.0 s.did.1 told bound
 
@@ -115,20 +115,20 @@ module _ (m : EnterState) (r0 rs r : Memo) (tr t : Trail) (es ds : List Event) (
   valued ((n, h), told, bound) s =
       let now = value_on m.me m.key m.value n m.home m.first m.root m.entry 0 0 r0 rs r h held agent refl s.did.0 in
       let events : es ++ ds ≡ valued_events c m.root m.entry m.value = some_more (made_events c m.root m.entry) (event.Up c (spot.Body m.entry 1) m.value ∷ []) told s.did.1 in
-      let within : IsWithin (alloc_steps m.me.geometry.segments + up_steps) (tr ++ t) = within_more (alloc_steps m.me.geometry.segments) up_steps tr t bound s.bound in (
+      let within : IsWithin (alloc_steps m.me.geometry.wide m.me.geometry.segments + up_steps m.me.geometry.wide) (tr ++ t) = within_more (alloc_steps m.me.geometry.wide m.me.geometry.segments) (up_steps m.me.geometry.wide) tr t bound s.bound in (
         λ e. (e, (n, now), events, within),
         λ some. (some, (n, now), events, within),
       )
 
   not_valued : (f : UpFault) → EnterKnows (At Value) Value r0 rs tr es → Raised m.entry 1 m.value (Err f) → Left (Unlinked m.root (raised_fault f))
   not_valued f ((n, h), told, bound) s =
-      let within = within_more (alloc_steps m.me.geometry.segments) up_steps tr t bound s.bound in
+      let within = within_more (alloc_steps m.me.geometry.wide m.me.geometry.segments) (up_steps m.me.geometry.wide) tr t bound s.bound in
       refused 0 0 n (aims.Up m.value) (spot.Body m.entry 1) f h s (inl (none_more (made_events c m.root m.entry) told s.did.2)) (omega arith)
 
   -- the next word
   followed : EnterKnows (At Next) Next r0 rs tr es → Raised m.entry 0 m.first (Ok tt) → Goes Change
   followed (some, (n, h), told, bound) s =
-      let within = within_more (alloc_steps m.me.geometry.segments + up_steps) up_steps tr t bound s.bound in (
+      let within = within_more (alloc_steps m.me.geometry.wide m.me.geometry.segments + up_steps m.me.geometry.wide) (up_steps m.me.geometry.wide) tr t bound s.bound in (
         some,
         (n, next_on m.me m.key m.value n m.home m.first m.root m.entry 0 m.value r0 rs r h held agent refl some s.did.0),
         some_more (valued_events c m.root m.entry m.value) (event.Up c (spot.Body m.entry 0) m.first ∷ []) told s.did.1,
@@ -137,7 +137,7 @@ module _ (m : EnterState) (r0 rs r : Memo) (tr t : Trail) (es ds : List Event) (
 
   not_followed : (f : UpFault) → EnterKnows (At Next) Next r0 rs tr es → Raised m.entry 0 m.first (Err f) → Left (Unlinked m.root (raised_fault f))
   not_followed f (some, (n, h), told, bound) s =
-      let within = within_more (alloc_steps m.me.geometry.segments + up_steps) up_steps tr t bound s.bound in
+      let within = within_more (alloc_steps m.me.geometry.wide m.me.geometry.segments + up_steps m.me.geometry.wide) (up_steps m.me.geometry.wide) tr t bound s.bound in
       refused 0 m.value n (aims.Up m.first) (spot.Body m.entry 0) f h s (inr (inl (none_more (valued_events c m.root m.entry m.value) told s.did.2))) (omega arith)
 
   -- ---- the bucket
@@ -145,14 +145,14 @@ module _ (m : EnterState) (r0 rs r : Memo) (tr t : Trail) (es ds : List Event) (
   -- an empty one
   linked : EnterKnows (At Link) Link r0 rs tr es → Raised m.home (m.key % 16) m.entry (Ok tt) → Left (Linked m.root)
   linked (none, (n, h), told, bound) s =
-      let within = within_more (alloc_steps m.me.geometry.segments + up_steps) up_steps tr t bound s.bound in
+      let within = within_more (alloc_steps m.me.geometry.wide m.me.geometry.segments + up_steps m.me.geometry.wide) (up_steps m.me.geometry.wide) tr t bound s.bound in
       let here = subst (λ x. IsMade m.me m.key m.value n m.home m.first m.root m.entry x m.value r0 rs) (sym none) h in
       let events = some_more (valued_events c m.root m.entry m.value) (event.Up c (spot.Body m.home (m.key % 16)) m.entry ∷ []) told s.did.1 ∙ sym (linked_first c m.root m.entry m.value m.home m.key m.first none) in
       link_on m.me m.key m.value n m.home m.first m.root m.entry r0 rs r here held (tr ++ t) (es ++ ds) s.did.0 events (omega arith)
 
   not_linked : (f : UpFault) → EnterKnows (At Link) Link r0 rs tr es → Raised m.home (m.key % 16) m.entry (Err f) → Left (Unlinked m.root (raised_fault f))
   not_linked f (none, (n, h), told, bound) s =
-      let within = within_more (alloc_steps m.me.geometry.segments + up_steps) up_steps tr t bound s.bound in
+      let within = within_more (alloc_steps m.me.geometry.wide m.me.geometry.segments + up_steps m.me.geometry.wide) (up_steps m.me.geometry.wide) tr t bound s.bound in
       refused 0 m.value n (aims.Up m.entry) (spot.Body m.home (m.key % 16)) f h s (inr (inl (none_more (valued_events c m.root m.entry m.value) told s.did.2))) (omega arith)
 
   -- one that names an entry
@@ -161,13 +161,13 @@ module _ (m : EnterState) (r0 rs r : Memo) (tr t : Trail) (es ds : List Event) (
 
   changed : (z : Bool) → EnterKnows (At Change) Change r0 rs tr es → Changed (Ok z) → Left (Linked m.root)
   changed z (some, (n, h), told, bound) s =
-      let within = within_more (alloc_steps m.me.geometry.segments + 2 * up_steps) change_steps tr t bound s.bound in
+      let within = within_more (alloc_steps m.me.geometry.wide m.me.geometry.segments + 2 * up_steps m.me.geometry.wide) (change_steps m.me.geometry.wide) tr t bound s.bound in
       let events = some_more (followed_events c m.root m.entry m.value m.first) (event.ChangeUp c (spot.Body m.home (m.key % 16)) m.first m.entry ∷ event.ChangeDown c m.first ∷ []) told s.did.1 ∙ sym (linked_before c m.root m.entry m.value m.home m.key m.first some) in
       change_on m.me m.key m.value n m.home m.first m.root m.entry r0 rs r h held z s.did.0 (tr ++ t) (es ++ ds) some events (omega arith)
 
   not_changed : (f : UpFault) → EnterKnows (At Change) Change r0 rs tr es → Changed (Err f) → Left (Unlinked m.root (raised_fault f))
   not_changed f (some, (n, h), told, bound) s =
-      let within = within_more (alloc_steps m.me.geometry.segments + 2 * up_steps) change_steps tr t bound s.bound in
+      let within = within_more (alloc_steps m.me.geometry.wide m.me.geometry.segments + 2 * up_steps m.me.geometry.wide) (change_steps m.me.geometry.wide) tr t bound s.bound in
       refused m.first m.value n (aims.Change m.first m.entry) (spot.Body m.home (m.key % 16)) f h s (inr (inr (some, none_more (followed_events c m.root m.entry m.value m.first) told s.did.2))) (omega arith)
 
 -- ---- the plan

@@ -81,9 +81,9 @@ module _ (me : Me) (key v n home first k b next value : ℕ) (r0 rs r : Memo) (h
   c = me.who
 
   -- an own word of the entry came to name x, after which the next word and the value word are known to be these
-  filled_on : (i x names has : ℕ) → i < 2 → x ≢ 0 → IsKnown (sight me.who rs) (spot.Body b i) 0 → Filled me.who (spot.Body b i) x rs r → IsVacant me.who r key first × IsComing me.who r k b key names has → IsMade me key v n home first k b names has r0 r
+  filled_on : (i x names has : ℕ) → i < 2 → x ≢ 0 → IsKnown (sight me.who rs) (spot.Body b i) 0 → Filled me.who (spot.Body b i) x rs r → IsVacant me.who r key first × IsComing me.geometry.wide me.who r k b key names has → IsMade me key v n home first k b names has r0 r
   filled_on i x names has low some known filled comes =
-      let own : IsOwnWord me.who rs b i 0 = entry_own me rs h.holds h.may.who h.keeps.idle h.client key first k b next value h.vacant h.coming i 0 low known in
+      let own : IsOwnWord me.geometry.wide me.who rs b i 0 = entry_own me rs h.holds h.may.who h.keeps.idle h.client key first k b next value h.vacant h.coming i 0 low known in
       let (latch, same_home, part, cleared) = filled_else me.who b i x rs r filled in
       record {
         may = h.may;
@@ -116,17 +116,17 @@ module _ (me : Me) (key v n home first k b next value : ℕ) (r0 rs r : Memo) (h
 -- ---- it was linked
 
 -- a block that an own word names isn't a zero-count block
-named_counted : (me : Me) (m : Memo) (d i t : ℕ) → IsHeld me m → me.who < me.geometry.clients → m.op ≡ Nothing → IsOwnWord me.who m d i t → t ≢ 0 → Contains m.dying t → ⊥
+named_counted : (me : Me) (m : Memo) (d i t : ℕ) → IsHeld me m → me.who < me.geometry.clients → m.op ≡ Nothing → IsOwnWord me.geometry.wide me.who m d i t → t ≢ 0 → Contains m.dying t → ⊥
 named_counted me m d i t (w, rs, h, same) who idle own some dies =
-    let has : SlotHas me.geometry w rs me.who (spot.Body d i) t = own_word_has me.geometry w rs me.who h who d i t (subst (λ (x : Memo). IsOwnWord me.who x d i t) (sym same) own) in
+    let has : SlotHas me.geometry w rs me.who (spot.Body d i) t = own_word_has me.geometry w rs me.who h who d i t (subst (λ (x : Memo). IsOwnWord me.geometry.wide me.who x d i t) (sym same) own) in
     let quiet : (rs me.who).op ≡ Nothing = ap (λ (x : Memo). x.op) same ∙ idle in
     (target_counted me.geometry w (view rs) h (spot.Body d i) t some (word_target me.geometry w rs me.who h who (spot.Body d i) has.holds quiet ∙ has.word)).1
     ((h.dying me.who who).listed t (subst (λ (x : Memo). Contains x.dying t) (sym same) dies)).1
 
 module _ (me : Me) (key v n home first k b : ℕ) (r0 rs r : Memo) (h : IsMade me key v n home first k b first v r0 rs) (held : IsHeld me r) where
   -- the bucket is an own word
-  bucket : IsOwnWord me.who rs home (key % 16) first
-  bucket = subst (λ d. IsOwnWord me.who rs d (key % 16) first) h.directory (bucket_own me rs h.holds h.may.who h.keeps.idle h.client key first k b first v h.vacant h.coming)
+  bucket : IsOwnWord me.geometry.wide me.who rs home (key % 16) first
+  bucket = subst (λ d. IsOwnWord me.geometry.wide me.who rs d (key % 16) first) h.directory (bucket_own me rs h.holds h.may.who h.keeps.idle h.client key first k b first v h.vacant h.coming)
 
   apart : first ≢ b
   apart = first_apart me rs h.holds h.may.who h.keeps.idle h.client key first k b first v h.vacant h.coming
@@ -134,10 +134,10 @@ module _ (me : Me) (key v n home first k b : ℕ) (r0 rs r : Memo) (h : IsMade m
   -- what follows of a step that put the entry into the word of the bucket
   linked_by : (tr : Trail) (es : List Event) → Keeps me.who rs r → r.latch ≡ rs.latch → own_word r.own (spot.Home me.who) ≡ own_word rs.own (spot.Home me.who)
       → r.part ≡ part_after me.who (sight me.who rs) (spot.Body home (key % 16)) b → ((j : ℕ) → root_word me.who r j ≡ root_word me.who rs j) → r.dying ≡ rs.dying
-      → es ≡ linked_events me.who k b v home key first → IsWithin (enter_steps me.geometry.segments) tr → IsLinked me key v home first k r0 r tr es
+      → es ≡ linked_events me.who k b v home key first → IsWithin (enter_steps me.geometry.wide me.geometry.segments) tr → IsLinked me key v home first k r0 r tr es
   linked_by tr es keeps latch same_home part roots dying told bound =
       let at : spot.Body home (key % 16) ≡ spot.Body (own_word rs.own (spot.Home me.who)) (key % 16) = ap (λ d. spot.Body d (key % 16)) (sym h.directory) in
-      let step : (x : ℕ) → IsValue (sight me.who r0) v x → TableStep me.who (sight me.who rs) (spot.Body home (key % 16)) first b = (λ x number. Links key v x at h.coming.entry h.coming.next_is h.coming.value_is (value_number me key v n home first k b first v r0 rs h x number)) in
+      let step : (x : ℕ) → IsValue (sight me.who r0) v x → TableStep me.geometry.wide me.who (sight me.who rs) (spot.Body home (key % 16)) first b = (λ x number. Links key v x at h.coming.entry h.coming.next_is h.coming.value_is (value_number me key v n home first k b first v r0 rs h x number)) in
       record {
         entry = b;
         some = h.coming.root.2;
@@ -155,7 +155,7 @@ module _ (me : Me) (key v n home first k b : ℕ) (r0 rs r : Memo) (h : IsMade m
       }
 
   -- an empty bucket came to name it
-  pub link_on : (tr : Trail) (es : List Event) → Filled me.who (spot.Body home (key % 16)) b rs r → es ≡ linked_events me.who k b v home key first → IsWithin (enter_steps me.geometry.segments) tr → IsLinked me key v home first k r0 r tr es
+  pub link_on : (tr : Trail) (es : List Event) → Filled me.who (spot.Body home (key % 16)) b rs r → es ≡ linked_events me.who k b v home key first → IsWithin (enter_steps me.geometry.wide me.geometry.segments) tr → IsLinked me key v home first k r0 r tr es
   link_on tr es a told bound =
       let (latch, same_home, part, cleared) = filled_else me.who home (key % 16) b rs r a in
       linked_by tr es (keeps_filled me rs r home (key % 16) b first h.keeps.idle h.holds h.may.who bucket a) latch same_home part cleared.roots cleared.dying told bound
@@ -172,12 +172,12 @@ module _ (me : Me) (key v n home first k b : ℕ) (r0 rs r : Memo) (h : IsMade m
         a.took.sifts.words b p x (root_named me.who r b k h.coming.root.0 a.took.op root_still h.coming.root.2) (λ e is. apart (sym is)) of (learnt_other (spot.Body home (key % 16)) p b x rs.known other known)
 
     -- so that its next word is an own word, which names it
-    next_own : IsOwnWord me.who r b 0 first
+    next_own : IsOwnWord me.geometry.wide me.who r b 0 first
     next_own =
-        let t : IsTagged me.who (sight me.who rs) b 2 1 = h.coming.entry.tagged in
+        let t : IsTagged me.geometry.wide me.who (sight me.who rs) b 2 1 = h.coming.entry.tagged in
         let off : home ≢ b = (λ e. home_apart me rs h.holds h.may.who h.keeps.idle h.client key first k b first v h.vacant h.coming (h.directory ∙ e)) in
-        let tagged : IsTagged me.who (sight me.who r) b 2 1 = record { tag = t.tag; known = knows_still (spot.Tag b) t.tag (eq-eqb b b refl) (λ e. cc) t.known; refs_are = t.refs_are; plain_are = t.plain_are; author = t.author } in
-        tagged_word me.who r b 2 1 0 first (ap (λ (x : Memo). x.latch) a.took.rest ∙ h.vacant.latch) tagged (root_reached me.who r b k h.coming.root.0 a.took.op root_still h.coming.root.2) (omega arith)
+        let tagged : IsTagged me.geometry.wide me.who (sight me.who r) b 2 1 = record { tag = t.tag; known = knows_still (spot.Tag b) t.tag (eq-eqb b b refl) (λ e. cc) t.known; refs_are = t.refs_are; plain_are = t.plain_are; author = t.author } in
+        tagged_word me.geometry.wide me.who r b 2 1 0 first (ap (λ (x : Memo). x.latch) a.took.rest ∙ h.vacant.latch) tagged (root_reached me.who r b k h.coming.root.0 a.took.op root_still h.coming.root.2) (omega arith)
         (knows_still (spot.Body b 0) first (eq-eqb b b refl) (λ e. off (let y : home ≡ b = cc in y)) h.coming.next_is)
 
     pub not_lost : first ≢ 0 → z ≡ false
@@ -187,7 +187,7 @@ module _ (me : Me) (key v n home first k b : ℕ) (r0 rs r : Memo) (h : IsMade m
         go false e = refl
         go true e = absurd (named_counted me r b 0 first held h.may.who a.took.op next_own some (subst (λ (ds : List ℕ). Contains ds first) (sym e) (Contains-push rs.dying first)))
 
-    pub change_on : (tr : Trail) (es : List Event) → first ≢ 0 → es ≡ linked_events me.who k b v home key first → IsWithin (enter_steps me.geometry.segments) tr → IsLinked me key v home first k r0 r tr es
+    pub change_on : (tr : Trail) (es : List Event) → first ≢ 0 → es ≡ linked_events me.who k b v home key first → IsWithin (enter_steps me.geometry.wide me.geometry.segments) tr → IsLinked me key v home first k r0 r tr es
     change_on tr es some told bound =
         let (latch, same_home, part, roots) = took_else me.who home (key % 16) first b false z rs r a.took in
         linked_by tr es (keeps_lost me rs r home (key % 16) first b first false h.keeps.idle h.holds h.may.who bucket z held a) latch same_home part roots
@@ -195,7 +195,7 @@ module _ (me : Me) (key v n home first k b : ℕ) (r0 rs r : Memo) (h : IsMade m
 
 -- ---- a count step was refused
 
-pub unlinked_on : (me : Me) (key v n home first k b next value : ℕ) (r0 rs r : Memo) (tr : Trail) (es : List Event) (x : Aim) (f : UpFault) → IsMade me key v n home first k b next value r0 rs → Untouched me.who rs r → StepCause me x rs f → IsHalfMade me.who k b v first es → IsWithin (enter_steps me.geometry.segments) tr
+pub unlinked_on : (me : Me) (key v n home first k b next value : ℕ) (r0 rs r : Memo) (tr : Trail) (es : List Event) (x : Aim) (f : UpFault) → IsMade me key v n home first k b next value r0 rs → Untouched me.who rs r → StepCause me x rs f → IsHalfMade me.who k b v first es → IsWithin (enter_steps me.geometry.wide me.geometry.segments) tr
     → IsUnlinked me key v home first k r0 r tr es (raised_fault f)
 unlinked_on me key v n home first k b next value r0 rs r tr es x f h left cause told bound =
     let rests = rests_untouched me.who rs r left in
@@ -218,7 +218,7 @@ unlinked_on me key v n home first k b next value r0 rs r tr es x f h left cause 
 
 -- ---- no block was made
 
-pub unmade_on : (me : Me) (q : Request) (key v n home first : ℕ) (r0 r : Memo) (tr : Trail) (f : AllocFault) → MayEnter me key v n home first r0 → AnswerHolds me q r0 r (Err f) → IsWithin (alloc_steps me.geometry.segments) tr → IsUnmade me home r0 r tr [] (made_fault f)
+pub unmade_on : (me : Me) (q : Request) (key v n home first : ℕ) (r0 r : Memo) (tr : Trail) (f : AllocFault) → MayEnter me key v n home first r0 → AnswerHolds me q r0 r (Err f) → IsWithin (alloc_steps me.geometry.wide me.geometry.segments) tr → IsUnmade me home r0 r tr [] (made_fault f)
 unmade_on me q key v n home first r0 r tr f may holds bound =
     let small : me.who < 64 = (let u = may.geometry.clients in let l = may.who in omega arith) in
     let rests = rests_unmade me q r0 r f holds in

@@ -40,7 +40,7 @@ pub idle_here : (c : ℕ) (r : Memo) → IsIdle c r → IsHere r
 idle_here c r idle = record { joined = λ z. let u = sym idle.live ∙ z in cc; stays = λ z. let u = sym idle.live ∙ z in cc }
 
 -- of a memo of a held state, in which root k has a block that is to be an entry
-module _ (me : Me) (r : Memo) (held : IsHeld me r) (who : me.who < me.geometry.clients) (idle : IsIdle me.who r) (client : recovers r ≡ false) (key first k b next value : ℕ) (vacant : IsVacant me.who r key first) (coming : IsComing me.who r k b key next value) where
+module _ (me : Me) (r : Memo) (held : IsHeld me r) (who : me.who < me.geometry.clients) (idle : IsIdle me.who r) (client : recovers r ≡ false) (key first k b next value : ℕ) (vacant : IsVacant me.who r key first) (coming : IsComing me.geometry.wide me.who r k b key next value) where
   abbrev c : ℕ
   c = me.who
 
@@ -52,15 +52,15 @@ module _ (me : Me) (r : Memo) (held : IsHeld me r) (who : me.who < me.geometry.c
   entry_reached = root_reached me.who r b k coming.root.0 idle.op coming.root.1 coming.root.2
 
   -- its reference words are own words, and so is the word of the bucket
-  pub entry_own : (i x : ℕ) → i < 2 → IsKnown (sight me.who r) (spot.Body b i) x → IsOwnWord me.who r b i x
-  entry_own i x low known = tagged_word me.who r b 2 1 i x vacant.latch coming.entry.tagged entry_reached low known
+  pub entry_own : (i x : ℕ) → i < 2 → IsKnown (sight me.who r) (spot.Body b i) x → IsOwnWord me.geometry.wide me.who r b i x
+  entry_own i x low known = tagged_word me.geometry.wide me.who r b 2 1 i x vacant.latch coming.entry.tagged entry_reached low known
 
-  pub bucket_own : IsOwnWord me.who r home (key % 16) first
-  bucket_own = directory_word me.who r home (key % 16) first vacant.latch vacant.role (home_reached me.who r home idle.op refl vacant.some) (omega arith) vacant.word
+  pub bucket_own : IsOwnWord me.geometry.wide me.who r home (key % 16) first
+  bucket_own = directory_word me.geometry.wide me.who r home (key % 16) first vacant.latch vacant.role (home_reached me.who r home idle.op refl vacant.some) (omega arith) vacant.word
 
   -- what holds of it where it follows of the memo of an identity in a held state
   abbrev Shows : (Memo → Type 0) → Memo → Type 0
-  Shows P x = IsHere x → x.op ≡ Nothing → recovers x ≡ false → IsVacant me.who x key first → IsComing me.who x k b key next value → P x
+  Shows P x = IsHere x → x.op ≡ Nothing → recovers x ≡ false → IsVacant me.who x key first → IsComing me.geometry.wide me.who x k b key next value → P x
 
   shown : (P : Memo → Type 0) → Shows P r → P r
   shown P f = f (idle_here me.who r idle) idle.op client vacant coming
@@ -124,18 +124,18 @@ module _ (me : Me) (r : Memo) (held : IsHeld me r) (who : me.who < me.geometry.c
 
   -- ---- once a word was filled
 
-  pub value_then : (v : ℕ) (x : Memo) → value ≡ 0 → v ≢ 0 → Raised me.who (spot.Body b 1) v r x → IsVacant me.who x key first × IsComing me.who x k b key next v
+  pub value_then : (v : ℕ) (x : Memo) → value ≡ 0 → v ≢ 0 → Raised me.who (spot.Body b 1) v r x → IsVacant me.who x key first × IsComing me.geometry.wide me.who x k b key next v
   value_then v x none some raised =
       let (w, rs, h, same) = held in
-      shown (λ y. Raised me.who (spot.Body b 1) v y x → IsVacant me.who x key first × IsComing me.who x k b key next v)
-      (subst (Shows (λ y. Raised me.who (spot.Body b 1) v y x → IsVacant me.who x key first × IsComing me.who x k b key next v)) same
+      shown (λ y. Raised me.who (spot.Body b 1) v y x → IsVacant me.who x key first × IsComing me.geometry.wide me.who x k b key next v)
+      (subst (Shows (λ y. Raised me.who (spot.Body b 1) v y x → IsVacant me.who x key first × IsComing me.geometry.wide me.who x k b key next v)) same
       (λ here quiet user free comes a. value_filled me w rs h who here quiet user key first free k b next value comes v x none some a)) raised
 
-  pub next_then : (x : Memo) → next ≡ 0 → first ≢ 0 → Raised me.who (spot.Body b 0) first r x → IsVacant me.who x key first × IsComing me.who x k b key first value
+  pub next_then : (x : Memo) → next ≡ 0 → first ≢ 0 → Raised me.who (spot.Body b 0) first r x → IsVacant me.who x key first × IsComing me.geometry.wide me.who x k b key first value
   next_then x none some raised =
       let (w, rs, h, same) = held in
-      shown (λ y. Raised me.who (spot.Body b 0) first y x → IsVacant me.who x key first × IsComing me.who x k b key first value)
-      (subst (Shows (λ y. Raised me.who (spot.Body b 0) first y x → IsVacant me.who x key first × IsComing me.who x k b key first value)) same
+      shown (λ y. Raised me.who (spot.Body b 0) first y x → IsVacant me.who x key first × IsComing me.geometry.wide me.who x k b key first value)
+      (subst (Shows (λ y. Raised me.who (spot.Body b 0) first y x → IsVacant me.who x key first × IsComing me.geometry.wide me.who x k b key first value)) same
       (λ here quiet user free comes a. next_filled me w rs h who here quiet user key first free k b next value comes x none some a)) raised
 
   -- ---- a count step

@@ -122,7 +122,7 @@ module _ (m : FetchState) (r0 rs r : Memo) (tr t : Trail) (es ds : List Event) (
     rooted : (k : ℕ) → UpRootLeaves m.me m.block rs r t ds (Ok k) → GiveKnows m (Rooted k m.block m.number) r0 r (tr ++ t) (es ++ ds)
     rooted k w =
         let clear = clear_reading m.me a r0 rs reading in
-        let b = within_more (6 + 2 * on.keys) (up_steps + 16) tr t on.bound (up_root_bound m.me m.block rs r t ds (Ok k) w) in
+        let b = within_more (6 + 2 * on.keys) (up_steps m.me.geometry.wide + 16) tr t on.bound (up_root_bound m.me m.block rs r t ds (Ok k) w) in
         record {
           may = may;
           keeps = keeps_more c r0 rs r before (keeps_root c k m.block rs r w.filled on.idle w.empty);
@@ -151,10 +151,10 @@ module _ (m : FetchState) (r0 rs r : Memo) (tr t : Trail) (es ds : List Event) (
         }
 
     -- it got none, and nothing was done
-    unrooted : (f : PutFault) → Keeps c rs r → Rests c rs r → PutCause m.me rs r f → ds ≡ [] → IsWithin (up_steps + 16) t → GiveKnows m (Refused f) r0 r (tr ++ t) (es ++ ds)
+    unrooted : (f : PutFault) → Keeps c rs r → Rests c rs r → PutCause m.me rs r f → ds ≡ [] → IsWithin (up_steps m.me.geometry.wide + 16) t → GiveKnows m (Refused f) r0 r (tr ++ t) (es ++ ds)
     unrooted f keeps rests cause none bound =
         let clear = clear_reading m.me a r0 rs reading in
-        let b = within_more (6 + 2 * on.keys) (up_steps + 16) tr t on.bound bound in
+        let b = within_more (6 + 2 * on.keys) (up_steps m.me.geometry.wide + 16) tr t on.bound bound in
         record {
           may = may;
           keeps = keeps_more c r0 rs r before keeps;
@@ -184,8 +184,8 @@ module _ (m : FetchState) (r0 rs r : Memo) (tr t : Trail) (es ds : List Event) (
   given Missing h w = missing (got m get.Missing) r0 rs r tr t es ds held h w
   given (Refused f) h w =
       let after = keeps_unlatched m.me rs r h.keeps.idle h.holds h.may.locate.who w.memo in
-      let u = unlatched_else c rs r w.memo in
-      let b = within_more (rooted_steps + 2 * h.keys) 2 tr t h.bound (subst (IsWithin 2) (sym w.trail) (omega arith)) in
+      let u = unlatched_else m.me.geometry.wide c rs r w.memo in
+      let b = within_more (rooted_steps m.me.geometry.wide + 2 * h.keys) 2 tr t h.bound (subst (IsWithin 2) (sym w.trail) (omega arith)) in
       record {
         may = h.may;
         keeps = keeps_more c r0 rs r h.keeps after;
@@ -201,8 +201,8 @@ module _ (m : FetchState) (r0 rs r : Memo) (tr t : Trail) (es ds : List Event) (
       }
   given (Rooted k v n) h w =
       let after = keeps_unlatched m.me rs r h.keeps.idle h.holds h.may.locate.who w.memo in
-      let u = unlatched_else c rs r w.memo in
-      let b = within_more (rooted_steps + 2 * h.keys) 2 tr t h.bound (subst (IsWithin 2) (sym w.trail) (omega arith)) in
+      let u = unlatched_else m.me.geometry.wide c rs r w.memo in
+      let b = within_more (rooted_steps m.me.geometry.wide + 2 * h.keys) 2 tr t h.bound (subst (IsWithin 2) (sym w.trail) (omega arith)) in
       record {
         may = h.may;
         keeps = keeps_more c r0 rs r h.keeps after;
@@ -283,8 +283,8 @@ fetch_laws =
     opens : (m : FetchState) (y : FetchPoint) (r0 r : Memo) (tr : Trail) (es : List Event) → FetchKnows (record m { point = y }) y r0 r tr es → (fetch_part (record m { point = y }) y).needs (fetch_call m y) r
     opens m Search r0 r tr es h = record { made = refl; first = refl; start = refl; knows = locate_begin m.me m.author m.key r (subst (MayLocate m.me m.author) (sym h.1) h.0.locate) }
     opens m Value r0 r tr es ((h, here, room), on, client) =
-        reference_load false m.me r h.reading.may.who m.entry 1 (omega arith, omega arith) (entry_latched m.me.who m.author r m.entry 1 (latch_of m.me m.author r0 r h.reading) here (omega arith)) (idle_settled r (Body m.entry 1) on.idle.op)
-    opens m Number r0 r tr es ((h, look, here, room), on, client, listed) = plain_load false m.me r h.reading.may.who m.block 0 (omega arith, omega arith) (value_plain m.me.who r m.block here) (idle_settled r (Body m.block 0) on.idle.op)
+        reference_load false m.me r h.reading.may.who m.entry 1 (omega arith, omega arith) (entry_latched m.me.geometry.wide m.me.who m.author r m.entry 1 (latch_of m.me m.author r0 r h.reading) here (omega arith)) (idle_settled r (Body m.entry 1) on.idle.op)
+    opens m Number r0 r tr es ((h, look, here, room), on, client, listed) = plain_load false m.me r h.reading.may.who m.block 0 (omega arith, omega arith) (value_plain m.me.geometry.wide m.me.who r m.block here) (idle_settled r (Body m.block 0) on.idle.op)
     opens m Share r0 r tr es ((h, told), on, client, value, reach) =
         may_up_root m.me m.block r
         (record { geometry = h.reading.may.geometry; who = h.reading.may.who; here = idle_here m.me.who r on.idle; idle = on.idle.op; client = on.client; reach = reach })

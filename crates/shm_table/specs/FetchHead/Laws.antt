@@ -127,7 +127,7 @@ module _ (m : FetchHeadState) (r0 rs r : Memo) (tr t : Trail) (es ds : List Even
   found n (may, (h, slot)) w grows =
       let item = item_read m.me s m.at r0 rs r tr t es ds held (asked Slot) n h slot w grows in
       let listed = item_listed m.me s m.at n r0 r (tr ++ t) (es ++ ds) may item.1 in
-      let inside = told_inside m.me r (shaped None n AValue) may.take.who held (value_told c r n listed) in
+      let inside = told_inside m.me r (shaped None n AValue) may.take.who held (value_told c r m.me.geometry.wide n listed) in
       let room : n + 2 < total_of m.me.geometry = omega arith in
       (may, subst (λ b. IsItemRead m.me s m.at b r0 r (tr ++ t) (es ++ ds) × (b + 2 < total_of m.me.geometry)) (sym item.0) (item.1, room))
 
@@ -181,7 +181,7 @@ module _ (m : FetchHeadState) (r0 rs r : Memo) (tr t : Trail) (es ds : List Even
     -- it got one
     rooted : (k : ℕ) → UpRootLeaves m.me m.block rs r t ds (Ok k) → IsHeadRooted m.me s k m.block m.number m.at r0 r (tr ++ t) (es ++ ds)
     rooted k w =
-        let b = within_more 4 (up_steps + 16) tr t h.bound (up_root_bound m.me m.block rs r t ds (Ok k) w) in
+        let b = within_more 4 (up_steps m.me.geometry.wide + 16) tr t h.bound (up_root_bound m.me m.block rs r t ds (Ok k) w) in
         record {
           keeps = keeps_more c r0 rs r before (keeps_root c k m.block rs r w.filled idle w.empty);
           holds = held;
@@ -203,7 +203,7 @@ module _ (m : FetchHeadState) (r0 rs r : Memo) (tr t : Trail) (es ds : List Even
         }
 
     -- it got none, and nothing was done
-    unrooted : (f : PutFault) → Keeps c rs r → Rests c rs r → PutCause m.me rs r f → ds ≡ [] → IsWithin (up_steps + 16) t → IsHeadUnrooted m.me f r0 r (tr ++ t) (es ++ ds)
+    unrooted : (f : PutFault) → Keeps c rs r → Rests c rs r → PutCause m.me rs r f → ds ≡ [] → IsWithin (up_steps m.me.geometry.wide + 16) t → IsHeadUnrooted m.me f r0 r (tr ++ t) (es ++ ds)
     unrooted f keeps same cause none bound =
         record {
           keeps = keeps_more c r0 rs r before keeps;
@@ -212,7 +212,7 @@ module _ (m : FetchHeadState) (r0 rs r : Memo) (tr t : Trail) (es ds : List Even
           cause = cause_before m.me r0 rs r f rests.cleared.roots cause;
           cleared = cleared_more c r0 rs r rests.cleared same.cleared;
           none = ap (λ (x : List Event). x ++ ds) h.none ∙ none;
-          bound = within_more 4 (up_steps + 16) tr t h.bound bound;
+          bound = within_more 4 (up_steps m.me.geometry.wide + 16) tr t h.bound bound;
         }
 
     shared : (b : Result ℕ ShareFault) → UpRootLeaves m.me m.block rs r t ds b → Goes Share (Second b)
@@ -247,7 +247,7 @@ opens m Head r0 r tr es h = head_load true m.me r h.0.take.who m.from m.me.who h
 opens m Tail r0 r tr es h = tail_seen false m.me r h.0.take.who m.from h.0.take.from h.0.take.other
 opens m Slot r0 r tr es h = head_slot_load false m.me r h.0.take.who m.from (m.at % 8) h.1.1
 opens m Number r0 r tr es (may, (h, room)) =
-    plain_load false m.me r may.take.who m.block 0 (omega arith, omega arith) (shaped None m.block AValue, value_told m.me.who r m.block (item_listed m.me m.from m.at m.block r0 r tr es may h), refl, omega arith, omega arith) (idle_settled r (spot.Body m.block 0) h.can.idle)
+    plain_load false m.me r may.take.who m.block 0 (omega arith, omega arith) (shaped None m.block AValue, value_told m.me.who r m.me.geometry.wide m.block (item_listed m.me m.from m.at m.block r0 r tr es may h), refl, omega arith, omega arith) (idle_settled r (spot.Body m.block 0) h.can.idle)
 opens m Share r0 r tr es h =
     let idle = idle_more m.me.who r0 r h.at.reads h.may.idle in
     may_up_root m.me m.block r

@@ -59,17 +59,17 @@ opens : (m : FindState) (y : FindPoint) (r0 r : Memo) (tr : Trail) (es : List Ev
 opens m point.Home r0 r tr es h = home_look true m.me r h.0.who m.author h.0.author (ap (λ (x : Memo). x.latch) h.1 ∙ h.0.latch)
 opens m point.Bucket r0 r tr es h =
     let room = h.room in
-    reference_load false m.me r h.may.who m.home (m.key % 16) (omega arith, omega arith) (directory_latched m.me.who m.author r m.home (m.key % 16) (latch_of m.me m.author r0 r h.may h.reads) h.here (omega arith))
+    reference_load false m.me r h.may.who m.home (m.key % 16) (omega arith, omega arith) (directory_latched m.me.geometry.wide m.me.who m.author r m.home (m.key % 16) (latch_of m.me m.author r0 r h.may h.reads) h.here (omega arith))
     (idle_settled r (Body m.home (m.key % 16)) (idle_of m.me m.author r0 r h.may h.reads))
 opens m point.Key r0 r tr es k =
     let h = k.1 in
     let room = h.room in
-    key_load m.me r h.may.who (idle_of m.me m.author r0 r h.may h.reads) m.key m.entry false (omega arith, omega arith) (entry_plain m.me.who r m.entry h.here)
+    key_load m.me r h.may.who (idle_of m.me m.author r0 r h.may h.reads) m.key m.entry false (omega arith, omega arith) (entry_plain m.me.geometry.wide m.me.who r m.entry h.here)
 opens m point.Next r0 r tr es k =
     let h = k.2 in
     let room = h.room in
     entry_load m.me r h.may.who (idle_of m.me m.author r0 r h.may h.reads) m.key m.entry false 0 (omega arith) (omega arith, omega arith)
-    (entry_latched m.me.who m.author r m.entry 0 (latch_of m.me m.author r0 r h.may h.reads) h.here (omega arith))
+    (entry_latched m.me.geometry.wide m.me.who m.author r m.entry 0 (latch_of m.me m.author r0 r h.may h.reads) h.here (omega arith))
 
 -- ---- walks, by a held state
 

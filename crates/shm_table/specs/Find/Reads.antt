@@ -1,5 +1,5 @@
 -- what the loads of a search for a key leave of a memo, the roles of what was read, and trails
-use Rattle.std.proofs.Common.{◌≡◌, ◌≢◌, ℕ, ◌+◌, ◌%◌, ◌<◌, refl, sym, ap, ◌∙◌, subst, arith, true, false, eqb, ◌&&◌, List, [], ◌∷◌, ◌++◌, map, inl, inr}
+use Rattle.std.proofs.Common.{◌≡◌, ◌≢◌, ℕ, ◌+◌, ◌%◌, ◌<◌, refl, sym, ap, ◌∙◌, subst, arith, true, false, eqb, ◌&&◌, List, [], ◌∷◌, ◌++◌, map, inl, inr, Bool}
 use Rattle.std.specs.Prelude.{None, Some, ◌==◌, if◌then◌else◌}
 use Rattle.std.specs.List.{Contains, list_any}
 use Rattle.std.proofs.lemmas.Bool.{cases_Bool, cases_eq, cond-false, cond-true, eq-eqb, false≢true, ne_eqb, or_left, or_right}
@@ -114,21 +114,21 @@ stays_in m x role b looks part h = (
 )
 
 -- what is told of a directory and of an entry under the latch of its author
-pub directory_latched : (c a : ℕ) (r : Memo) (b i : ℕ) → r.latch ≡ Some a → IsIn r Directory b → i < 16 → IsLatchedWord c r b i
-directory_latched c a r b i latch here low = (look_reached c r b here.1, (shaped r.latch b Directory, a, role_told c r b Directory here.0 (λ z. cc), refl, low, latch, latch))
+pub directory_latched : (wide : Bool) (c a : ℕ) (r : Memo) (b i : ℕ) → r.latch ≡ Some a → IsIn r Directory b → i < 16 → IsLatchedWord wide c r b i
+directory_latched wide c a r b i latch here low = (look_reached c r b here.1, (shaped r.latch b Directory, a, role_told c r wide b Directory here.0 (λ z. cc), refl, low, latch, latch))
 
-pub entry_latched : (c a : ℕ) (r : Memo) (b i : ℕ) → r.latch ≡ Some a → IsIn r AnEntry b → i < 2 → IsLatchedWord c r b i
-entry_latched c a r b i latch here low = (look_reached c r b here.1, (shaped r.latch b AnEntry, a, role_told c r b AnEntry here.0 (λ z. cc), refl, low, latch, latch))
+pub entry_latched : (wide : Bool) (c a : ℕ) (r : Memo) (b i : ℕ) → r.latch ≡ Some a → IsIn r AnEntry b → i < 2 → IsLatchedWord wide c r b i
+entry_latched wide c a r b i latch here low = (look_reached c r b here.1, (shaped r.latch b AnEntry, a, role_told c r wide b AnEntry here.0 (λ z. cc), refl, low, latch, latch))
 
-pub entry_plain : (c : ℕ) (r : Memo) (b : ℕ) → IsIn r AnEntry b → IsPlainWord c r b 2
-entry_plain c r b here = (shaped r.latch b AnEntry, role_told c r b AnEntry here.0 (λ z. cc), refl, omega arith, omega arith)
+pub entry_plain : (wide : Bool) (c : ℕ) (r : Memo) (b : ℕ) → IsIn r AnEntry b → IsPlainWord wide c r b 2
+entry_plain wide c r b here = (shaped r.latch b AnEntry, role_told c r wide b AnEntry here.0 (λ z. cc), refl, omega arith, omega arith)
 
 -- they lie in the pool
 pub directory_room : (me : Me) (r : Memo) (b : ℕ) → me.who < me.geometry.clients → IsHeld me r → IsIn r Directory b → b + 17 < total_of me.geometry
-directory_room me r b l held here = let k = told_inside me r (shaped r.latch b Directory) l held (role_told me.who r b Directory here.0 (λ z. cc)) in omega arith
+directory_room me r b l held here = let k = told_inside me r (shaped r.latch b Directory) l held (role_told me.who r me.geometry.wide b Directory here.0 (λ z. cc)) in omega arith
 
 pub entry_room : (me : Me) (r : Memo) (b : ℕ) → me.who < me.geometry.clients → IsHeld me r → IsIn r AnEntry b → b + 4 < total_of me.geometry
-entry_room me r b l held here = let k = told_inside me r (shaped r.latch b AnEntry) l held (role_told me.who r b AnEntry here.0 (λ z. cc)) in omega arith
+entry_room me r b l held here = let k = told_inside me r (shaped r.latch b AnEntry) l held (role_told me.who r me.geometry.wide b AnEntry here.0 (λ z. cc)) in omega arith
 
 -- ---- the chain that was read
 

@@ -107,10 +107,10 @@ module _ (g : Geometry) (w : Spot → ℕ) (r : ℕ → Memo) (c a key : ℕ) (h
   t = targets g w (view r)
 
   abbrev z : Contents
-  z = contents_of w (targets g w (view r))
+  z = contents_of g.wide w (targets g w (view r))
 
   named_so : (p : Spot) (b : ℕ) → IsLook (r c) p b → (b ≢ 0) × (t p ≡ b)
-  named_so p b k = All-contains (λ (k : Look). (k.block ≢ 0) × (t k.from ≡ k.block)) (r c).looks (record { block = b; from = p }) (looks_so t (λ b. tag_author (w (Tag b))) (r c).latch (named_by t (λ s i. w (Tail s i)) (λ s i. w (QueueHead s i)) c) [] (r c).looks (h.looks c l)) k
+  named_so p b k = All-contains (λ (k : Look). (k.block ≢ 0) × (t k.from ≡ k.block)) (r c).looks (record { block = b; from = p }) (looks_so t (λ b. tag_author g.wide (w (Tag b))) (r c).latch (named_by t (λ s i. w (Tail s i)) (λ s i. w (QueueHead s i)) c) [] (r c).looks (h.looks c l)) k
 
   -- the partition of the author
   partition_so : IsPartition z a (t (Home a)) (chain_in (r a).part)
@@ -187,11 +187,11 @@ module _ (g : Geometry) (w : Spot → ℕ) (r : ℕ → Memo) (c a key : ℕ) (h
       map_so entry s ∙ (ap (λ k. Some (k, s.e.value)) number ∙ ap (λ k. Some (n, k)) value)
 
   -- a reference word of a block of the author that is in reach is what it names, where no own step is about to store it
-  named_word : (b i : ℕ) → InReach w g (view r) c b → tag_author (w (Tag b)) ≡ a → i < tag_refs (w (Tag b)) → (r c).op ≡ Nothing → t (Body b i) ≡ w (Body b i)
+  named_word : (b i : ℕ) → InReach w g (view r) c b → tag_author g.wide (w (Tag b)) ≡ a → i < tag_refs g.wide (w (Tag b)) → (r c).op ≡ Nothing → t (Body b i) ≡ w (Body b i)
   named_word b i reach author low idle =
       let counted = reach_counted g w (view r) h c b l reach in
-      let refs : (words_of w).refs b ≡ tag_refs (w (Tag b)) = ap (λ y. refs_of y (w (Tag b))) counted.0 in
-      cond-true (ltb i ((words_of w).refs b)) (covered (λ d. cover_of (r d).op) g.clients (Body b i) (w (Body b i))) 0 (lt-ltb i ((words_of w).refs b) (subst (λ k. i < k) (sym refs) low))
+      let refs : (words_of g.wide w).refs b ≡ tag_refs g.wide (w (Tag b)) = ap (λ y. refs_of g.wide y (w (Tag b))) counted.0 in
+      cond-true (ltb i ((words_of g.wide w).refs b)) (covered (λ d. cover_of (r d).op) g.clients (Body b i) (w (Body b i))) 0 (lt-ltb i ((words_of g.wide w).refs b) (subst (λ k. i < k) (sym refs) low))
       ∙ covered_none g.clients (Body b i) (w (Body b i)) (λ d. cover_of (r d).op)
       (λ d ld y. elim (cases_eq c d) [
         | inl s ↦ ap (λ o. cover o (Body b i) y) (ap (λ j. cover_of (r j).op) (sym s) ∙ ap cover_of idle)
@@ -208,8 +208,8 @@ module _ (g : Geometry) (w : Spot → ℕ) (r : ℕ → Memo) (c a key : ℕ) (h
   value_named entry n f idle known none =
       let s = bucket_so entry f in
       let k = chain_last (r c) f.home (key % 16) f.passed entry f.chain in
-      let refs : tag_refs (w (Tag entry)) ≡ 2 = subst (λ b. tag_refs (w (Tag b)) ≡ 2) s.block s.entry.shape.names in
-      let author : tag_author (w (Tag entry)) ≡ a = subst (λ b. tag_author (w (Tag b)) ≡ a) s.block s.entry.author in
+      let refs : tag_refs g.wide (w (Tag entry)) ≡ 2 = subst (λ b. tag_refs g.wide (w (Tag b)) ≡ 2) s.block s.entry.shape.names in
+      let author : tag_author g.wide (w (Tag entry)) ≡ a = subst (λ b. tag_author g.wide (w (Tag b)) ≡ a) s.block s.entry.author in
       let named : t (Body entry 1) ≡ n = named_word entry 1 (inr (record { block = entry; from = k.0 }, k.1, refl)) author (omega arith) idle ∙ body_so g w r c h l entry 1 n known in
       let value : s.e.value ≡ n = sym s.entry.value ∙ (ap (λ b. t (Body b 1)) s.block ∙ named) in
       held_live_not_zero g w (view r) h s.e.value s.entry.holds.live (value ∙ none)

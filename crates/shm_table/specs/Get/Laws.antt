@@ -1,5 +1,5 @@
 -- what is owed of reading what a key has
-use Rattle.std.proofs.Common.{◌≡◌, ◌≢◌, ℕ, ◌+◌, ◌%◌, ◌<◌, refl, sym, ap, ◌∙◌, subst, arith, false, append_assoc, append-nil, List, [], ◌∷◌, ◌++◌}
+use Rattle.std.proofs.Common.{◌≡◌, ◌≢◌, ℕ, ◌+◌, ◌%◌, ◌<◌, refl, sym, ap, ◌∙◌, subst, arith, false, append_assoc, append-nil, List, [], ◌∷◌, ◌++◌, Bool}
 use Rattle.std.specs.Prelude.{Some}
 use Rattle.std.specs.List.{Contains}
 use Rattle.shm_words.specs.Layout.{total_of, address_limit}
@@ -48,11 +48,11 @@ use Rattle.shm_table.specs.Unlatch.Laws.{unlatch_begin, unlatch_laws}
 -- ---- what each call needs
 
 -- a value block's number is a plain word of it
-pub value_plain : (c : ℕ) (r : Memo) (b : ℕ) → IsIn r AValue b → IsPlainWord c r b 0
-value_plain c r b here = (shaped r.latch b AValue, role_told c r b AValue here.0 (λ z. cc), refl, omega arith, omega arith)
+pub value_plain : (wide : Bool) (c : ℕ) (r : Memo) (b : ℕ) → IsIn r AValue b → IsPlainWord wide c r b 0
+value_plain wide c r b here = (shaped r.latch b AValue, role_told c r wide b AValue here.0 (λ z. cc), refl, omega arith, omega arith)
 
 pub value_room : (me : Me) (r : Memo) (b : ℕ) → me.who < me.geometry.clients → IsHeld me r → IsIn r AValue b → b + 2 < total_of me.geometry
-value_room me r b l held here = let k = told_inside me r (shaped r.latch b AValue) l held (role_told me.who r b AValue here.0 (λ z. cc)) in omega arith
+value_room me r b l held here = let k = told_inside me r (shaped r.latch b AValue) l held (role_told me.who r me.geometry.wide b AValue here.0 (λ z. cc)) in omega arith
 
 -- of the memo under the latch
 pub latch_of : (me : Me) (a : ℕ) (r0 r : Memo) → IsReading me a r0 r → r.latch ≡ Some a
@@ -265,9 +265,9 @@ get_laws =
     opens : (m : GetState) (y : GetPoint) (r0 r : Memo) (tr : Trail) (es : List Event) → GetKnows (record m { point = y }) y r0 r tr es → (get_part (record m { point = y }) y).needs (get_call m y) r
     opens m Search r0 r tr es h = record { made = refl; first = refl; start = refl; knows = locate_begin m.me m.author m.key r (subst (MayLocate m.me m.author) (sym h.1) h.0) }
     opens m Value r0 r tr es (h, here, room) =
-        reference_load false m.me r h.reading.may.who m.entry 1 (omega arith, omega arith) (entry_latched m.me.who m.author r m.entry 1 (latch_of m.me m.author r0 r h.reading) here (omega arith)) (idle_settled r (Body m.entry 1) (idle_of m.me m.author r0 r h.reading))
+        reference_load false m.me r h.reading.may.who m.entry 1 (omega arith, omega arith) (entry_latched m.me.geometry.wide m.me.who m.author r m.entry 1 (latch_of m.me m.author r0 r h.reading) here (omega arith)) (idle_settled r (Body m.entry 1) (idle_of m.me m.author r0 r h.reading))
     opens m Number r0 r tr es (h, look, here, room) =
-        plain_load false m.me r h.reading.may.who m.block 0 (omega arith, omega arith) (value_plain m.me.who r m.block here) (idle_settled r (Body m.block 0) (idle_of m.me m.author r0 r h.reading))
+        plain_load false m.me r h.reading.may.who m.block 0 (omega arith, omega arith) (value_plain m.me.geometry.wide m.me.who r m.block here) (idle_settled r (Body m.block 0) (idle_of m.me m.author r0 r h.reading))
     opens m Missing r0 r tr es h = record { made = refl; first = refl; start = refl; knows = unlatch_begin m.me m.author r (may_unlatch m.me m.author r0 r h.reading) }
     opens m Known r0 r tr es h = record { made = refl; first = refl; start = refl; knows = unlatch_begin m.me m.author r (may_unlatch m.me m.author r0 r h.0.reading) }
 

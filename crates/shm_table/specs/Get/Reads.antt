@@ -116,10 +116,10 @@ word_more p m n x h =
 -- ---- the latch is given back
 
 -- what is known of a head slot binds without a latch
-slot_binds : (own : Bool) (c : ℕ) (m : Memo) (p : Spot) → is_slot p ≡ true → binds_unlatched own c m p ≡ true
-slot_binds own c m (Tag d) e = absurd (false≢true e)
-slot_binds own c m (Body d i) e = absurd (false≢true e)
-slot_binds own c m _ e = refl
+slot_binds : (wide : Bool) (own : Bool) (c : ℕ) (m : Memo) (p : Spot) → is_slot p ≡ true → binds_unlatched wide own c m p ≡ true
+slot_binds wide own c m (Tag d) e = absurd (false≢true e)
+slot_binds wide own c m (Body d i) e = absurd (false≢true e)
+slot_binds wide own c m _ e = refl
 
 module _ (me : Me) (a : ℕ) (r0 q r : Memo) (t : Trail) (ds : List Event) (h : IsReading me a r0 q) (w : Unlatched me a q r t ds) where
   abbrev c : ℕ
@@ -146,7 +146,7 @@ module _ (me : Me) (a : ℕ) (r0 q r : Memo) (t : Trail) (ds : List Event) (h : 
   slots_same p x is k =
       let free : Memo = record q { latch = None; looks = [] } in
       subst (λ (ks : List Stored). Contains ks (record { spot = p; value = x })) (sym (ap (λ (y : Memo). y.known) w.memo))
-      (Contains-filter (λ (s : Stored). binds_unlatched (is_latch_of c q.latch) c free s.spot) q.known (record { spot = p; value = x }) (h.known (record { spot = p; value = x }) k) (slot_binds (is_latch_of c q.latch) c free p is))
+      (Contains-filter (λ (s : Stored). binds_unlatched me.geometry.wide (is_latch_of c q.latch) c free s.spot) q.known (record { spot = p; value = x }) (h.known (record { spot = p; value = x }) k) (slot_binds me.geometry.wide (is_latch_of c q.latch) c free p is))
 
   -- so is the number of a value block that an own root names
   values_same : (k v n : ℕ) → k < 16 → v ≢ 0 → root_word c r0 k ≡ v → IsValue (sight c r0) v n → IsValue (sight c r) v n
@@ -154,8 +154,8 @@ module _ (me : Me) (a : ℕ) (r0 q r : Memo) (t : Trail) (ds : List Event) (h : 
       let before : IsValue (sight c q) v n = record { value = h.values v is.value; word = h.known (record { spot = Body v 0; value = n }) is.word } in
       let idle : q.op ≡ Nothing = ap (λ (x : Memo). x.op) h.memo ∙ h.may.idle.op in
       let held = h.held in
-      let after : IsValue (sight c (unlatched c q)) v n =
-      subst (λ (x : Memo). x.op ≡ Nothing → own_word x.own (Root c k) ≡ v → IsValue (sight c x) v n → IsValue (sight c (unlatched c x)) v n) held.3
+      let after : IsValue (sight c (unlatched me.geometry.wide c q)) v n =
+      subst (λ (x : Memo). x.op ≡ Nothing → own_word x.own (Root c k) ≡ v → IsValue (sight c x) v n → IsValue (sight c (unlatched me.geometry.wide c x)) v n) held.3
       (λ o e i. value_unlatched me.geometry held.0 held.1 c v n k held.2 h.may.who o low e some i)
       idle (h.own (Root c k) refl ∙ root) before in
       record {

@@ -1,5 +1,5 @@
 -- what is owed of a home that comes to name a directory
-use Rattle.std.proofs.Common.{◌≡◌, ◌≢◌, ℕ, zero, suc, ◌+◌, ◌*◌, ◌%◌, ◌^◌, ◌<◌, refl, sym, ap, ◌∙◌, subst, arith, Bool, true, false, not, ◌&&◌, List, [], ◌∷◌, ◌++◌, inl, inr, length, slice_index}
+use Rattle.std.proofs.Common.{◌≡◌, ◌≢◌, ℕ, zero, suc, ◌+◌, ◌%◌, ◌^◌, ◌<◌, refl, sym, ap, ◌∙◌, subst, arith, Bool, true, false, not, ◌&&◌, List, [], ◌∷◌, ◌++◌, inl, inr, length, slice_index}
 use Rattle.std.specs.Prelude.{◌==◌, if◌then◌else◌, Some, None, Ok, Err}
 use Rattle.std.proofs.lemmas.Bool.{cases_eq, cond-false, lt-ltb, ne_eqb}
 use Rattle.shm_words.specs.declared.place.Place.TheVariants as place
@@ -13,7 +13,7 @@ use Rattle.shm_graph.specs.declared.spot.Spot.TheVariants.{Home}
 use Rattle.shm_graph.specs.declared.table.Part.{Part}
 use Rattle.shm_graph.specs.Agents.{recovers}
 use Rattle.shm_graph.specs.Asks.{Trail, IsWithin}
-use Rattle.shm_graph.specs.Bounds.{alloc_steps}
+use Rattle.shm_graph.specs.Bounds.{alloc_steps, redo_steps, tear_steps, up_steps}
 use Rattle.shm_graph.specs.Core.{core}
 use Rattle.shm_graph.specs.Events.{Event}
 use Rattle.shm_graph.specs.Events as event
@@ -76,6 +76,7 @@ use Rattle.shm_table.specs.OpenTable.OpenEvents.{Founded, Named}
 use Rattle.shm_table.specs.OpenTable.OpenLeft.{Undropped, Unmade, Unnamed}
 use Rattle.shm_table.specs.Staying.Laws.{cause_before, cleared_drop, dropped_else, home_else, keeps_core, keeps_drop, keeps_home, keeps_made, keeps_more, keeps_untouched, made_cause, made_home, made_others, made_root, raised_cause, rests_core, rests_more, rests_unmade, rests_untouched, same_map, spent_drop}
 use Rattle.shm_table.specs.Staying.Steps.{map_home}
+use Rattle.shm_table.specs.Costs.{tear_same}
 
 -- ---- the home
 
@@ -89,13 +90,13 @@ idle_here : (c : ℕ) (m : Memo) → IsIdle c m → IsHere m
 idle_here c m h = record { joined = λ e. (let z = sym h.live ∙ e in cc); stays = λ e. (let z = sym h.live ∙ e in cc) }
 
 -- the step up may be made at a home that is empty, where a root names the directory
-home_can : (me : Me) (d : ℕ) (m : Memo) → IsHeld me m → me.who < me.geometry.clients → IsHere m → m.op ≡ Nothing → recovers m ≡ false → own_word m.own (Home me.who) ≡ 0 → is_reached me.who m d ≡ true → IsBare me.who (sight me.who m) d
+home_can : (me : Me) (d : ℕ) (m : Memo) → IsHeld me m → me.who < me.geometry.clients → IsHere m → m.op ≡ Nothing → recovers m ≡ false → own_word m.own (Home me.who) ≡ 0 → is_reached me.who m d ≡ true → IsBare me.geometry.wide me.who (sight me.who m) d
     → CanStep me (home_address me) (Up d) (Home me.who) m
 unfolding spot_address
 home_can me d m (w, rs, h, same) l here idle client empty reach bare =
     subst (λ (x : Memo). CanStep me (home_address me) (Up d) (Home me.who) x) same
     (can_found me w rs h l (subst IsHere (sym same) here) (ap (λ (x : Memo). x.op) same ∙ idle) d (ap recovers same ∙ client) (ap (λ (x : Memo). own_word x.own (Home me.who)) same ∙ empty) (ap (λ (x : Memo). is_reached me.who x d) same ∙ reach)
-    (Founds refl refl (subst (λ (x : Memo). IsBare me.who (sight me.who x) d) (sym same) bare)))
+    (Founds refl refl (subst (λ (x : Memo). IsBare me.geometry.wide me.who (sight me.who x) d) (sym same) bare)))
 
 -- ---- the directory
 
@@ -222,7 +223,7 @@ module _ (me : Me) (r0 rs r : Memo) (tr t : Trail) (es ds : List Event) (held : 
         holds = held;
         client = agent ∙ h.client;
         told = ap (λ (x : List Event). x ++ ds) h.none ∙ g.events;
-        bound = within_more 1 (alloc_steps me.geometry.segments) tr t h.bound (omega arith);
+        bound = within_more 1 (alloc_steps me.geometry.wide me.geometry.segments) tr t h.bound (omega arith);
       }
 
   -- or wasn't
@@ -233,7 +234,7 @@ module _ (me : Me) (r0 rs r : Memo) (tr t : Trail) (es ds : List Event) (held : 
       let rests = rests_more c r0 rs r (rests_core c r0 rs h.same) (rests_unmade me q rs r f g.holds) in
       let first = keeps_core c r0 rs may.idle h.same in
       let b = alloc_bound me q fits t (Err f) g.trail in
-      let bound = within_more 1 (alloc_steps me.geometry.segments) tr t h.bound (omega arith) in
+      let bound = within_more 1 (alloc_steps me.geometry.wide me.geometry.segments) tr t h.bound (omega arith) in
       record {
         empty = h.empty;
         keeps = keeps_more c r0 rs r first (keeps_made me q rs r (Err f) small g.holds);
@@ -269,7 +270,7 @@ module _ (me : Me) (r0 rs r : Memo) (tr t : Trail) (es ds : List Event) (held : 
           home = else_.1;
           map = λ j. map_home me rs r d h.holds h.may.who idle.op (h.keeps.loose ∙ h.may.table) h.home h.has.some else_.2 (Founds refl refl h.bare) j ∙ ap (λ (o : Part). map_in o j) h.part;
           told = ap (λ (x : List Event). x ++ ds) h.told ∙ ap (λ (x : List Event). event.Alloc c k d ∷ x) left.events;
-          bound = within_more (1 + alloc_steps me.geometry.segments) 8 tr t h.bound b;
+          bound = within_more (1 + alloc_steps me.geometry.wide me.geometry.segments) (up_steps me.geometry.wide) tr t h.bound b;
         }
 
     -- or the step up was refused
@@ -279,7 +280,7 @@ module _ (me : Me) (r0 rs r : Memo) (tr t : Trail) (es ds : List Event) (held : 
         let y = untouched me (Up d) (Home c) false rs r (EraSpent e) left.gives in
         let rests = rests_untouched c rs r y.0 in
         let b = step_bound me (home_address me) (Up d) t (up_told (Err (EraSpent e))) left.trail in
-        let bound = within_more (1 + alloc_steps me.geometry.segments) 8 tr t h.bound b in
+        let bound = within_more (1 + alloc_steps me.geometry.wide me.geometry.segments) (up_steps me.geometry.wide) tr t h.bound b in
         record {
           empty = h.empty;
           keeps = keeps_more c r0 rs r h.keeps (keeps_untouched c rs r idle y.0);
@@ -308,7 +309,8 @@ module _ (me : Me) (r0 rs r : Memo) (tr t : Trail) (es ds : List Event) (held : 
         let told = told_so h in
         let f : frees (es ++ ds) ≡ frees ds = ap frees told ∙ omega arith in
         let else_ = dropped_else c k rs r g.left in
-        let bound = within_more (9 + alloc_steps me.geometry.segments) (9 + 164 * frees ds) tr t (let b = h.bound in omega arith) g.bound in
+        let torn = tear_same me.geometry.wide (frees (es ++ ds) + 0) (frees ds) (omega arith) in
+        let bound = within_more (1 + up_steps me.geometry.wide + alloc_steps me.geometry.wide me.geometry.segments) (8 + redo_steps me.geometry.wide + tear_steps me.geometry.wide (frees ds)) tr t (let b = h.bound in omega arith) g.bound in
         record {
           keeps = keeps_drop (dropping me k) r0 rs r t ds (Ok z) h.keeps h.has.free g;
           latch = else_.0 ∙ h.has.latch;
@@ -326,7 +328,8 @@ module _ (me : Me) (r0 rs r : Memo) (tr t : Trail) (es ds : List Event) (held : 
         let told = told_so h in
         let f : frees (es ++ ds) ≡ frees ds = ap frees told ∙ omega arith in
         let else_ = dropped_else c k rs r g.left in
-        let bound = within_more (9 + alloc_steps me.geometry.segments) (9 + 164 * (frees ds + length vs)) tr t (let b = h.bound in omega arith) g.bound in
+        let torn = tear_same me.geometry.wide (frees (es ++ ds) + length vs) (frees ds + length vs) (omega arith) in
+        let bound = within_more (1 + up_steps me.geometry.wide + alloc_steps me.geometry.wide me.geometry.segments) (8 + redo_steps me.geometry.wide + tear_steps me.geometry.wide (frees ds + length vs)) tr t (let b = h.bound in omega arith) g.bound in
         record {
           empty = h.empty;
           keeps = keeps_drop (dropping me k) r0 rs r t ds (Err e) h.keeps h.has.free (vs, g);

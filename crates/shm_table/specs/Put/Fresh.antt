@@ -40,19 +40,19 @@ module _ (me : Me) (w : Spot → ℕ) (rs : ℕ → Memo) (h : HeldAt me.geometr
   sole = All-contains (MadeAt (λ i. header_of (w (Head i))) (λ k. t (Root me.who k))) (rs me.who).made b (h.made me.who l) made
 
   -- no entry names it
-  no_entry : (e : Entry) (bucket : ℕ) → IsEntry (contents_of w t) me.who bucket e → e.value ≡ b → ⊥
+  no_entry : (e : Entry) (bucket : ℕ) → IsEntry (contents_of me.geometry.wide w t) me.who bucket e → e.value ≡ b → ⊥
   no_entry e bucket is same =
       let live : (header_of (w (Head b))).live ≡ true = subst (λ (x : ℕ). (header_of (w (Head x))).live ≡ true) same is.holds.live in
       let two = two_names me.geometry w (view rs) h b (Body e.block 1) (Root me.who sole.1.0) (is.value ∙ same) sole.1.1 refl live in
       let one = sole.0 in
       omega arith
 
-  not_in : (y : Part) → PartTie (contents_of w t) me.who (t (Home me.who)) y → (key n : ℕ) → map_in y key ≡ Some (n, b) → ⊥
+  not_in : (y : Part) → PartTie (contents_of me.geometry.wide w t) me.who (t (Home me.who)) y → (key n : ℕ) → map_in y key ≡ Some (n, b) → ⊥
   not_in Loose tie key n f = cc
   not_in (Table chains) tie key n f =
       elim (cases_eq (t (Home me.who)) 0) [
         | inl e ↦ (let k : find key [] ≡ Some (n, b) = sym (ap (find key) (tie.none e (key % 16))) ∙ f in cc)
-        | inr some ↦ (let q = entry_found (contents_of w t) me.who (key % 16) ((contents_of w t).refs (t (Home me.who)) (key % 16)) key n b _ (tie.chain some (key % 16) (omega arith)) f in no_entry q.0 (key % 16) q.1 q.2)
+        | inr some ↦ (let q = entry_found (contents_of me.geometry.wide w t) me.who (key % 16) ((contents_of me.geometry.wide w t).refs (t (Home me.who)) (key % 16)) key n b _ (tie.chain some (key % 16) (omega arith)) f in no_entry q.0 (key % 16) q.1 q.2)
       ]
 
 -- no key has it

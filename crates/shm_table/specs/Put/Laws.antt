@@ -7,7 +7,7 @@ use Rattle.std.proofs.lemmas.List.Elements.{All-nil, Contains-append_left}
 use Rattle.shm_words.specs.Tags.{tag_plain, tag_refs, TagFits}
 use Rattle.shm_words.specs.declared.tag.Tag.{Tag as ATag}
 use Rattle.shm_words.proofs.Placing.{total_small}
-use Rattle.shm_words.proofs.Words.{tag_plain-word, tag_refs-word}
+use Rattle.shm_words.proofs.Words.{place_some, tag_plain-word, tag_refs-word}
 use Rattle.shm_words.specs.Layout.{address_limit}
 use Rattle.shm_graph.specs.declared.ask.Me.{Me}
 use Rattle.shm_graph.specs.declared.memo.Making.{Making}
@@ -17,7 +17,7 @@ use Rattle.shm_graph.specs.declared.spot.Spot.TheVariants.{Body, Home}
 use Rattle.shm_graph.specs.declared.spot.Spot.TheVariants as spot
 use Rattle.shm_graph.specs.Agents.{recovers}
 use Rattle.shm_graph.specs.Asks.{Trail}
-use Rattle.shm_graph.specs.Bounds.{alloc_steps, tear_steps}
+use Rattle.shm_graph.specs.Bounds.{alloc_steps, tear_steps, redo_steps}
 use Rattle.shm_graph.specs.Events.{Event}
 use Rattle.shm_graph.specs.Held.{is_loose}
 use Rattle.shm_graph.specs.Readings.{valued}
@@ -63,6 +63,7 @@ use Rattle.shm_table.specs.PutRoot.Steps.{decided_after, decided_more, frees_app
 use Rattle.shm_table.specs.Staying.{Cleared, Ended, PutCause, SameMap}
 use Rattle.shm_table.specs.Staying.Laws.{cleared_drop, dropped_else, keeps_drop, keeps_made, keeps_more, left_by, made_cause, made_others, made_root, rests_unmade, spent_drop, spent_later}
 use Rattle.shm_table.specs.ValueReads.{idle_here}
+use Rattle.shm_table.specs.Costs.{tear_sum, tear_same}
 
 -- ---- the plan
 
@@ -98,13 +99,13 @@ value_fits n l = record { refs = omega arith; count = omega arith; small = λ i.
 value_made : (me : Me) (q : Request) (m r : Memo) (a : Made) → me.who < 64 → AnswerHolds me q m r (Ok a) → q.refs ≡ 0 → q.count ≡ 1 → is_loose m.part ≡ false → IsValue (sight me.who r) a.block (slice_index q.plain 0)
 value_made me q m r a small holds e f table =
     let t : ATag = record { refs = q.refs; plain = q.count; author = me.who; link = 0 } in
-    let fits : TagFits t = record { refs = omega arith; plain = omega arith; author = small; link = omega arith } in
-    let tag = tag_asked q me.who in
-    let refs : tag_refs tag ≡ 0 = tag_refs-word t fits ∙ e in
-    let plain : tag_plain tag ≡ 1 = tag_plain-word t fits ∙ f in
+    let fits : TagFits me.geometry.wide t = record { refs = omega arith; plain = omega arith; author = small; link = place_some me.geometry.wide } in
+    let tag = tag_asked me.geometry.wide q me.who in
+    let refs : tag_refs me.geometry.wide tag ≡ 0 = tag_refs-word me.geometry.wide t fits ∙ e in
+    let plain : tag_plain me.geometry.wide tag ≡ 1 = tag_plain-word me.geometry.wide t fits ∙ f in
     let gives : MadeGives me q m r a = holds.gives in
-    let is : (eqb (tag_refs tag) 0 && eqb (tag_plain tag) 1) ≡ true = and_from _ _ (eq-eqb (tag_refs tag) 0 refs) (eq-eqb (tag_plain tag) 1 plain) in
-    let values : r.values ≡ a.block ∷ m.values = gives.values ∙ (cond-true (eqb (tag_refs tag) 0 && eqb (tag_plain tag) 1) (valued m.part a.block m.values) m.values is ∙ cond-false (is_loose m.part) m.values (a.block ∷ m.values) table) in
+    let is : (eqb (tag_refs me.geometry.wide tag) 0 && eqb (tag_plain me.geometry.wide tag) 1) ≡ true = and_from _ _ (eq-eqb (tag_refs me.geometry.wide tag) 0 refs) (eq-eqb (tag_plain me.geometry.wide tag) 1 plain) in
+    let values : r.values ≡ a.block ∷ m.values = gives.values ∙ (cond-true (eqb (tag_refs me.geometry.wide tag) 0 && eqb (tag_plain me.geometry.wide tag) 1) (valued m.part a.block m.values) m.values is ∙ cond-false (is_loose m.part) m.values (a.block ∷ m.values) table) in
     let words : Making = gives.knows.0 in
     let none : 0 < q.count = omega arith in
     let at : q.refs + 0 ≡ 0 = omega arith in
@@ -216,7 +217,8 @@ module _ (m : PutState) (r0 rs r : Memo) (tr t : Trail) (es ds : List Event) whe
   put done h (w, still) =
       let quiet = frees_append es ds in
       let none : frees es ≡ 0 = ap frees h.told in
-      let b = within_more (alloc_steps g) (put_root_steps g + 2 * w.keys + tear_steps (frees ds + length w.left)) tr t h.bound w.bound in (
+      let torn = tear_same m.me.geometry.wide (frees (es ++ ds) + length w.left) (frees ds + length w.left) (omega arith) in
+      let b = within_more (alloc_steps m.me.geometry.wide g) (put_root_steps m.me.geometry.wide g + 2 * w.keys + tear_steps m.me.geometry.wide (frees ds + length w.left)) tr t h.bound w.bound in (
         record {
           may = h.may;
           keeps = keeps_more c r0 rs r h.keeps w.keeps;
@@ -247,7 +249,8 @@ module _ (m : PutState) (r0 rs r : Memo) (tr t : Trail) (es ds : List Event) whe
   not_put f h w =
       let quiet = frees_append es ds in
       let none : frees es ≡ 0 = ap frees h.told in
-      let b = within_more (alloc_steps g) (put_root_steps g + 2 * w.keys + tear_steps (frees ds + length w.left)) tr t h.bound w.bound in (
+      let torn = tear_same m.me.geometry.wide (frees (es ++ ds) + length w.left) (frees ds + length w.left) (omega arith) in
+      let b = within_more (alloc_steps m.me.geometry.wide g) (put_root_steps m.me.geometry.wide g + 2 * w.keys + tear_steps m.me.geometry.wide (frees ds + length w.left)) tr t h.bound w.bound in (
         record {
           may = h.may;
           keeps = keeps_more c r0 rs r h.keeps w.keeps;
@@ -286,7 +289,8 @@ module _ (m : PutState) (r0 rs r : Memo) (tr t : Trail) (es ds : List Event) whe
   stored (Ok z) h w =
       let n = else_dropped (Ok z) w in
       let quiet = frees_append es ds in
-      let b = within_more (alloc_steps g + put_root_steps g + 2 * h.keys + tear_steps (frees es + length h.left)) (9 + 164 * frees ds) tr t h.bound w.bound in
+      let torn = tear_sum m.me.geometry.wide (frees (es ++ ds) + length h.left) (frees es + length h.left) (frees ds) (omega arith) in
+      let b = within_more (alloc_steps m.me.geometry.wide g + put_root_steps m.me.geometry.wide g + 2 * h.keys + tear_steps m.me.geometry.wide (frees es + length h.left)) (8 + redo_steps m.me.geometry.wide + tear_steps m.me.geometry.wide (frees ds)) tr t h.bound w.bound in
       record {
         keeps = keeps_drop (dropping m.me m.root) r0 rs r t ds (Ok z) h.keeps h.empty w;
         latch = n.0 ∙ h.latch;
@@ -305,7 +309,8 @@ module _ (m : PutState) (r0 rs r : Memo) (tr t : Trail) (es ds : List Event) whe
       let n = else_dropped (Err e) (vs, w) in
       let quiet = frees_append es ds in
       let long = length-append h.left vs in
-      let b = within_more (alloc_steps g + put_root_steps g + 2 * h.keys + tear_steps (frees es + length h.left)) (9 + 164 * (frees ds + length vs)) tr t h.bound w.bound in
+      let torn = tear_sum m.me.geometry.wide (frees (es ++ ds) + length (h.left ++ vs)) (frees es + length h.left) (frees ds + length vs) (omega arith) in
+      let b = within_more (alloc_steps m.me.geometry.wide g + put_root_steps m.me.geometry.wide g + 2 * h.keys + tear_steps m.me.geometry.wide (frees es + length h.left)) (8 + redo_steps m.me.geometry.wide + tear_steps m.me.geometry.wide (frees ds + length vs)) tr t h.bound w.bound in
       record {
         keeps = keeps_drop (dropping m.me m.root) r0 rs r t ds (Err e) h.keeps h.empty (vs, w);
         latch = n.0 ∙ h.latch;
@@ -326,7 +331,8 @@ module _ (m : PutState) (r0 rs r : Memo) (tr t : Trail) (es ds : List Event) whe
   refused f z h w =
       let n = else_dropped (Ok z) w in
       let quiet = frees_append es ds in
-      let b = within_more (alloc_steps g + put_root_steps g + 2 * h.keys + tear_steps (frees es + length h.left)) (9 + 164 * frees ds) tr t h.bound w.bound in
+      let torn = tear_sum m.me.geometry.wide (frees (es ++ ds) + length h.left) (frees es + length h.left) (frees ds) (omega arith) in
+      let b = within_more (alloc_steps m.me.geometry.wide g + put_root_steps m.me.geometry.wide g + 2 * h.keys + tear_steps m.me.geometry.wide (frees es + length h.left)) (8 + redo_steps m.me.geometry.wide + tear_steps m.me.geometry.wide (frees ds)) tr t h.bound w.bound in
       record {
         keeps = keeps_drop (dropping m.me m.root) r0 rs r t ds (Ok z) h.keeps h.empty w;
         latch = n.0 ∙ h.latch;
@@ -348,7 +354,8 @@ module _ (m : PutState) (r0 rs r : Memo) (tr t : Trail) (es ds : List Event) whe
       let n = else_dropped (Err e) (vs, w) in
       let quiet = frees_append es ds in
       let long = length-append h.left vs in
-      let b = within_more (alloc_steps g + put_root_steps g + 2 * h.keys + tear_steps (frees es + length h.left)) (9 + 164 * (frees ds + length vs)) tr t h.bound w.bound in
+      let torn = tear_sum m.me.geometry.wide (frees (es ++ ds) + length (h.left ++ vs)) (frees es + length h.left) (frees ds + length vs) (omega arith) in
+      let b = within_more (alloc_steps m.me.geometry.wide g + put_root_steps m.me.geometry.wide g + 2 * h.keys + tear_steps m.me.geometry.wide (frees es + length h.left)) (8 + redo_steps m.me.geometry.wide + tear_steps m.me.geometry.wide (frees ds + length vs)) tr t h.bound w.bound in
       record {
         keeps = keeps_drop (dropping m.me m.root) r0 rs r t ds (Err e) h.keeps h.empty (vs, w);
         latch = n.0 ∙ h.latch;

@@ -17,13 +17,13 @@ abbrev pub IsPutShort : Me → ℕ → (ℕ → ℕ → ℕ) → Memo → Trail 
 IsPutShort me key steps r tr es = (k : ℕ) × ((k ≡ 0) ⊎ HasSearch me me.who key k tr) × (vs : List Visit) × All (λ (x : Visit). Contains r.dying x.block) vs × IsWithin (steps k (frees es + length vs)) tr
 
 -- those of its calls
-abbrev pub own_steps : ℕ → ℕ → ℕ → ℕ
-own_steps g k t = put_root_steps g + 2 * k + tear_steps t
+abbrev pub own_steps : Bool → ℕ → ℕ → ℕ → ℕ
+own_steps wide g k t = put_root_steps wide g + 2 * k + tear_steps wide t
 
-pub put_root_short : (me : Me) (key v : ℕ) (r0 r : Memo) (tr : Trail) (es : List Event) (a : Result Bool PutFault) → PutRootLeaves (putting_root me key v) r0 r tr es a → IsPutShort me key (own_steps me.geometry.segments) r tr es
+pub put_root_short : (me : Me) (key v : ℕ) (r0 r : Memo) (tr : Trail) (es : List Event) (a : Result Bool PutFault) → PutRootLeaves (putting_root me key v) r0 r tr es a → IsPutShort me key (own_steps me.geometry.wide me.geometry.segments) r tr es
 put_root_short me key v r0 r tr es (Ok done) (h, still) = (h.keys, inr h.search, h.left, h.dying, h.bound)
 put_root_short me key v r0 r tr es (Err f) h = (h.keys, h.search, h.left, h.dying, h.bound)
 
 -- that is within what a command on a table may take
-pub put_root_within : (me : Me) (key : ℕ) (r : Memo) (tr : Trail) (es : List Event) → IsPutShort me key (own_steps me.geometry.segments) r tr es → IsPutShort me key (command_steps me.geometry.segments) r tr es
+pub put_root_within : (me : Me) (key : ℕ) (r : Memo) (tr : Trail) (es : List Event) → IsPutShort me key (own_steps me.geometry.wide me.geometry.segments) r tr es → IsPutShort me key (command_steps me.geometry.wide me.geometry.segments) r tr es
 put_root_within me key r tr es (k, found, vs, dying, w) = (k, found, vs, dying, omega arith)

@@ -9,7 +9,7 @@ use Rattle.shm_graph.specs.declared.spot.Spot.TheVariants.{Body, Home}
 use Rattle.shm_graph.specs.declared.spot.Spot.TheVariants as spot
 use Rattle.shm_graph.specs.Agents.{recovers}
 use Rattle.shm_graph.specs.Asks.{Trail, IsWithin}
-use Rattle.shm_graph.specs.Bounds.{alloc_steps, change_steps, tear_steps}
+use Rattle.shm_graph.specs.Bounds.{alloc_steps, change_steps, tear_steps, redo_steps}
 use Rattle.shm_graph.specs.Events.{Event}
 use Rattle.shm_graph.specs.Events as event
 use Rattle.shm_graph.specs.Views.{own_word}
@@ -46,6 +46,7 @@ use Rattle.shm_table.specs.Replace.{MayReplace, ReplaceLeaves}
 use Rattle.shm_table.specs.Staying.{Cleared, Ended, SameMap}
 use Rattle.shm_table.specs.Staying.Laws.{cause_before, cause_later, cleared_drop, cleared_more, dropped_else, ended_drop, keeps_drop, keeps_more, keeps_unlatched, left_by, spent_drop, spent_later, unlatched_else}
 use Rattle.shm_table.specs.Unlatch.{Unlatched}
+use Rattle.shm_table.specs.Costs.{tear_sum}
 
 -- ---- what is left
 
@@ -54,7 +55,7 @@ abbrev nobody : List Visit
 nobody = []
 
 -- the key has the block
-done_of : (m : PutRootState) (r0 r : Memo) (tr : Trail) (es : List Event) → IsSettled (record m { root = None; refused = None; point = Drop }) None (settled_steps m.me.geometry.segments + 2) r0 r tr es → PutRootDone m.me m.key m.value r0 r tr es
+done_of : (m : PutRootState) (r0 r : Memo) (tr : Trail) (es : List Event) → IsSettled (record m { root = None; refused = None; point = Drop }) None (settled_steps m.me.geometry.wide m.me.geometry.segments + 2) r0 r tr es → PutRootDone m.me m.key m.value r0 r tr es
 done_of m r0 r tr es h =
     let b = h.bound in
     record {
@@ -72,7 +73,7 @@ done_of m r0 r tr es h =
     }
 
 -- it was refused, and no new entry was made
-refused_of : (m : PutRootState) (r0 r : Memo) (tr : Trail) (es : List Event) (f : PutFault) → IsSettled (record m { root = None; refused = Some f; point = Drop }) None (settled_steps m.me.geometry.segments + 2) r0 r tr es
+refused_of : (m : PutRootState) (r0 r : Memo) (tr : Trail) (es : List Event) (f : PutFault) → IsSettled (record m { root = None; refused = Some f; point = Drop }) None (settled_steps m.me.geometry.wide m.me.geometry.segments + 2) r0 r tr es
     → PutRootRefused m.me m.key m.value r0 r tr es f
 refused_of m r0 r tr es f h =
     let b = h.bound in
@@ -152,14 +153,14 @@ module _ (m : PutRootState) (r0 rs r : Memo) (tr t : Trail) (es ds : List Event)
   located (At entry before word) (h, root, fault, bound) w = (
     located_putting m.me m.key m.value r0 rs r t es ds (At entry before word) held agent h w,
     root,
-    located_searched m.me m.key m.value r0 rs r t es ds (At entry before word) held agent h w tr (opened_steps g) bound,
+    located_searched m.me m.key m.value r0 rs r t es ds (At entry before word) held agent h w tr (opened_steps m.me.geometry.wide g) bound,
     (let u = located_at m.me m.key m.value r0 rs r t es ds entry before word held agent h w in (u.0, before, word, u.1)),
   )
   located (Absent home first) (h, root, fault, bound) w = (
     located_putting m.me m.key m.value r0 rs r t es ds (Absent home first) held agent h w,
     root,
     fault,
-    located_searched m.me m.key m.value r0 rs r t es ds (Absent home first) held agent h w tr (opened_steps g) bound,
+    located_searched m.me m.key m.value r0 rs r t es ds (Absent home first) held agent h w tr (opened_steps m.me.geometry.wide g) bound,
     located_absent m.me m.key m.value r0 rs r t es ds home first held agent h w,
   )
 
@@ -188,7 +189,7 @@ module _ (m : PutRootState) (r0 rs r : Memo) (tr t : Trail) (es ds : List Event)
         left = w.left;
         dying = w.dying;
         alone = subst (λ (o : Option ℕ). IfSome o (λ k. w.left ≡ [])) (sym root) tt;
-        bound = let y = within_more (searched_steps g + 2 * k + tear_steps (frees es)) (1 + change_steps + tear_steps (frees ds + length w.left)) tr t searched.bound w.bound in omega arith;
+        bound = let torn = tear_sum m.me.geometry.wide (frees (es ++ ds) + length w.left) (frees es) (frees ds + length w.left) (omega arith) in let y = within_more (searched_steps m.me.geometry.wide g + 2 * k + tear_steps m.me.geometry.wide (frees es)) (1 + change_steps m.me.geometry.wide + tear_steps m.me.geometry.wide (frees ds + length w.left)) tr t searched.bound w.bound in omega arith;
       }
     where
       other_number : (i : ℕ) → IsValue (sight c rs) m.value i → MayReplace m.me m.key m.value i m.entry before word rs
@@ -213,7 +214,7 @@ module _ (m : PutRootState) (r0 rs r : Memo) (tr t : Trail) (es ds : List Event)
         left = nobody;
         dying = All-nil (λ (x : Visit). Contains r.dying x.block);
         alone = subst (λ (o : Option ℕ). IfSome o (λ k. nobody ≡ [])) (sym root) tt;
-        bound = let y = within_more (searched_steps g + 2 * k + tear_steps (frees es)) (1 + change_steps) tr t searched.bound w.bound in omega arith;
+        bound = let torn = tear_sum m.me.geometry.wide (frees (es ++ ds) + 0) (frees es) (frees ds) (omega arith) in let y = within_more (searched_steps m.me.geometry.wide g + 2 * k + tear_steps m.me.geometry.wide (frees es)) (1 + change_steps m.me.geometry.wide) tr t searched.bound w.bound in omega arith;
       }
 
   -- a new entry is linked, or not
@@ -240,7 +241,7 @@ module _ (m : PutRootState) (r0 rs r : Memo) (tr t : Trail) (es ds : List Event)
         left = nobody;
         dying = All-nil (λ (x : Visit). Contains r.dying x.block);
         alone = refl;
-        bound = let y = within_more (searched_steps g + 2 * k + tear_steps (frees es)) (enter_steps g) tr t searched.bound x.bound in omega arith;
+        bound = let torn = tear_sum m.me.geometry.wide (frees (es ++ ds) + 0) (frees es) (frees ds) (omega arith) in let y = within_more (searched_steps m.me.geometry.wide g + 2 * k + tear_steps m.me.geometry.wide (frees es)) (enter_steps m.me.geometry.wide g) tr t searched.bound x.bound in omega arith;
       }
     where
       linked : (first e : ℕ) → own_word r.own (Home c) ≡ m.home → ds ≡ event.Alloc c j e ∷ event.Up c (Body e 1) m.value ∷ link_events c e m.home m.key first → IsDecided c m.key (own_word r.own (Home c)) m.value ds
@@ -271,7 +272,7 @@ module _ (m : PutRootState) (r0 rs r : Memo) (tr t : Trail) (es ds : List Event)
         left = nobody;
         dying = All-nil (λ (x : Visit). Contains r.dying x.block);
         alone = refl;
-        bound = let y = within_more (searched_steps g + 2 * k + tear_steps (frees es)) (enter_steps g) tr t searched.bound x.bound in omega arith;
+        bound = let torn = tear_sum m.me.geometry.wide (frees (es ++ ds) + 0) (frees es) (frees ds) (omega arith) in let y = within_more (searched_steps m.me.geometry.wide g + 2 * k + tear_steps m.me.geometry.wide (frees es)) (enter_steps m.me.geometry.wide g) tr t searched.bound x.bound in omega arith;
       }
   entered (Unmade f) (h, root, fault, searched, (n, may)) x =
       let quiet = frees_append es ds in
@@ -291,7 +292,7 @@ module _ (m : PutRootState) (r0 rs r : Memo) (tr t : Trail) (es ds : List Event)
         left = nobody;
         dying = All-nil (λ (x : Visit). Contains r.dying x.block);
         alone = subst (λ (o : Option ℕ). IfSome o (λ k. nobody ≡ [])) (sym root) tt;
-        bound = let y = within_more (searched_steps g + 2 * k + tear_steps (frees es)) (alloc_steps g) tr t searched.bound x.bound in omega arith;
+        bound = let torn = tear_sum m.me.geometry.wide (frees (es ++ ds) + 0) (frees es) (frees ds) (omega arith) in let y = within_more (searched_steps m.me.geometry.wide g + 2 * k + tear_steps m.me.geometry.wide (frees es)) (alloc_steps m.me.geometry.wide g) tr t searched.bound x.bound in omega arith;
       }
 
   -- the latch is given back
@@ -300,9 +301,9 @@ module _ (m : PutRootState) (r0 rs r : Memo) (tr t : Trail) (es ds : List Event)
     no_events = ap (λ (x : List Event). es ++ x) w.none ∙ append-nil es
 
     -- where root o is left, if any, and this was refused, if anything
-    freed : (o : Option ℕ) (f : Option PutFault) → IsSettled (record m { root = o; refused = f; point = Unlatch }) (Some c) (settled_steps g) r0 rs tr es → IsSettled (record m { root = o; refused = f; point = Drop }) None (settled_steps g + 2) r0 r (tr ++ t) (es ++ ds)
+    freed : (o : Option ℕ) (f : Option PutFault) → IsSettled (record m { root = o; refused = f; point = Unlatch }) (Some c) (settled_steps m.me.geometry.wide g) r0 rs tr es → IsSettled (record m { root = o; refused = f; point = Drop }) None (settled_steps m.me.geometry.wide g + 2) r0 r (tr ++ t) (es ++ ds)
     freed o f h =
-        let n = unlatched_else c rs r w.memo in
+        let n = unlatched_else m.me.geometry.wide c rs r w.memo in
         let keeps = keeps_unlatched m.me rs r h.keeps.idle h.holds h.may.2.who w.memo in
         let same : SameMap rs r = same_part rs r n.2 in
         let home : own_word r.own (Home c) ≡ own_word rs.own (Home c) = n.1 in
@@ -320,8 +321,8 @@ module _ (m : PutRootState) (r0 rs r : Memo) (tr t : Trail) (es ds : List Event)
           left = h.left;
           dying = subst (λ (xs : List ℕ). All (λ (x : Visit). Contains xs x.block) h.left) (sym n.3.dying) h.dying;
           alone = h.alone;
-          bound = subst (λ (x : List Event). IsWithin (settled_steps g + 2 + 2 * h.keys + tear_steps (frees x + length h.left)) (tr ++ t)) (sym no_events)
-              (let short : length t ≡ 2 = ap length w.trail in let y = within_more (settled_steps g + 2 * h.keys + tear_steps (frees es + length h.left)) 2 tr t h.bound (omega arith) in omega arith);
+          bound = subst (λ (x : List Event). IsWithin (settled_steps m.me.geometry.wide g + 2 + 2 * h.keys + tear_steps m.me.geometry.wide (frees x + length h.left)) (tr ++ t)) (sym no_events)
+              (let short : length t ≡ 2 = ap length w.trail in let y = within_more (settled_steps m.me.geometry.wide g + 2 * h.keys + tear_steps m.me.geometry.wide (frees es + length h.left)) 2 tr t h.bound (omega arith) in omega arith);
         }
       where
         roots_so : (o : Option ℕ) → Cleared c rs r → RootsSo c r0 rs o → RootsSo c r0 r o
@@ -337,7 +338,7 @@ module _ (m : PutRootState) (r0 rs r : Memo) (tr t : Trail) (es ds : List Event)
         map_so None (Some f) same n home era y = (same_more r0 rs r y.0 same, cause_later m.me r0 rs r f era y.1, cleared_more c r0 rs r y.2 n)
         map_so (Some k) (Some f) same n home era y = (same_more r0 rs r y.0 same, cause_later m.me r0 rs r f era y.1)
 
-    pub unlatched_so : (o : Option ℕ) (f : Option PutFault) → IsSettled (record m { root = o; refused = f; point = Unlatch }) (Some c) (settled_steps g) r0 rs tr es
+    pub unlatched_so : (o : Option ℕ) (f : Option PutFault) → IsSettled (record m { root = o; refused = f; point = Unlatch }) (Some c) (settled_steps m.me.geometry.wide g) r0 rs tr es
         → Follows put_root_parts put_root_plan (record m { root = o; refused = f; point = Unlatch }) (Second (Second (First tt))) r0 r (tr ++ t) (es ++ ds)
     unlatched_so (Some k) f h = (k, refl, freed (Some k) f h)
     unlatched_so None None h = let y = freed None None h in (done_of m r0 r (tr ++ t) (es ++ ds) y, y.still)
@@ -360,7 +361,7 @@ module _ (m : PutRootState) (r0 rs r : Memo) (tr t : Trail) (es ds : List Event)
   cleared_so : (k : ℕ) (z : Bool) → DropLeaves (dropping m.me k) rs r t ds (Ok z) → RootsSo c r0 rs (Some k) → Cleared c r0 r
   cleared_so k z w y = cleared_drop (dropping m.me k) r0 rs r t ds z y.1 y.2 y.3 w
 
-  pub dropped_so : (k : ℕ) (f : Option PutFault) (a : Result Bool EraSpent) → IsSettled (record m { root = Some k; refused = f; point = Drop }) None (settled_steps g + 2) r0 rs tr es → DropLeaves (dropping m.me k) rs r t ds a
+  pub dropped_so : (k : ℕ) (f : Option PutFault) (a : Result Bool EraSpent) → IsSettled (record m { root = Some k; refused = f; point = Drop }) None (settled_steps m.me.geometry.wide g + 2) r0 rs tr es → DropLeaves (dropping m.me k) rs r t ds a
       → Follows put_root_parts put_root_plan (record m { root = Some k; refused = f; point = Drop }) (Second (Second (Second a))) r0 r (tr ++ t) (es ++ ds)
   dropped_so k None (Ok z) h w =
       let n = else_dropped k (Ok z) w in
@@ -377,7 +378,7 @@ module _ (m : PutRootState) (r0 rs r : Memo) (tr t : Trail) (es ds : List Event)
           search = search_more m.me c m.key h.keys tr t h.search;
           left = nobody;
           dying = All-nil (λ (x : Visit). Contains r.dying x.block);
-          bound = let y = within_more (settled_steps g + 2 + 2 * h.keys + tear_steps (frees es + length h.left)) (9 + 164 * frees ds) tr t h.bound w.bound in omega arith;
+          bound = let torn = tear_sum m.me.geometry.wide (frees (es ++ ds) + 0) (frees es + length h.left) (frees ds) (omega arith) in let y = within_more (settled_steps m.me.geometry.wide g + 2 + 2 * h.keys + tear_steps m.me.geometry.wide (frees es + length h.left)) (8 + redo_steps m.me.geometry.wide + tear_steps m.me.geometry.wide (frees ds)) tr t h.bound w.bound in omega arith;
         },
         λ y. same_more r0 rs r (h.still y) (same_dropped k (Ok z) w),
       )
@@ -396,7 +397,7 @@ module _ (m : PutRootState) (r0 rs r : Memo) (tr t : Trail) (es ds : List Event)
         search = inr (search_more m.me c m.key h.keys tr t h.search);
         left = nobody;
         dying = All-nil (λ (x : Visit). Contains r.dying x.block);
-        bound = let y = within_more (settled_steps g + 2 + 2 * h.keys + tear_steps (frees es + length h.left)) (9 + 164 * frees ds) tr t h.bound w.bound in omega arith;
+        bound = let torn = tear_sum m.me.geometry.wide (frees (es ++ ds) + 0) (frees es + length h.left) (frees ds) (omega arith) in let y = within_more (settled_steps m.me.geometry.wide g + 2 + 2 * h.keys + tear_steps m.me.geometry.wide (frees es + length h.left)) (8 + redo_steps m.me.geometry.wide + tear_steps m.me.geometry.wide (frees ds)) tr t h.bound w.bound in omega arith;
       }
   dropped_so k None (Err e) h (vs, w) =
       let n = else_dropped k (Err e) (vs, w) in
@@ -413,7 +414,7 @@ module _ (m : PutRootState) (r0 rs r : Memo) (tr t : Trail) (es ds : List Event)
           search = search_more m.me c m.key h.keys tr t h.search;
           left = vs;
           dying = w.stopped.left;
-          bound = let y = within_more (settled_steps g + 2 + 2 * h.keys + tear_steps (frees es + length h.left)) (9 + 164 * (frees ds + length vs)) tr t h.bound w.bound in omega arith;
+          bound = let torn = tear_sum m.me.geometry.wide (frees (es ++ ds) + length vs) (frees es + length h.left) (frees ds + length vs) (omega arith) in let y = within_more (settled_steps m.me.geometry.wide g + 2 + 2 * h.keys + tear_steps m.me.geometry.wide (frees es + length h.left)) (8 + redo_steps m.me.geometry.wide + tear_steps m.me.geometry.wide (frees ds + length vs)) tr t h.bound w.bound in omega arith;
         },
         λ y. same_more r0 rs r (h.still y) (same_dropped k (Err e) (vs, w)),
       )
@@ -431,5 +432,5 @@ module _ (m : PutRootState) (r0 rs r : Memo) (tr t : Trail) (es ds : List Event)
         search = inr (search_more m.me c m.key h.keys tr t h.search);
         left = vs;
         dying = w.stopped.left;
-        bound = let y = within_more (settled_steps g + 2 + 2 * h.keys + tear_steps (frees es + length h.left)) (9 + 164 * (frees ds + length vs)) tr t h.bound w.bound in omega arith;
+        bound = let torn = tear_sum m.me.geometry.wide (frees (es ++ ds) + length vs) (frees es + length h.left) (frees ds + length vs) (omega arith) in let y = within_more (settled_steps m.me.geometry.wide g + 2 + 2 * h.keys + tear_steps m.me.geometry.wide (frees es + length h.left)) (8 + redo_steps m.me.geometry.wide + tear_steps m.me.geometry.wide (frees ds + length vs)) tr t h.bound w.bound in omega arith;
       }

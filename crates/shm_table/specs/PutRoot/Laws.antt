@@ -105,7 +105,7 @@ leads m Replace r0 rs r tr t es ds (Second (First (First a))) held agent h w = r
 leads m Enter r0 rs r tr t es ds (Second (First (Second b))) held agent h w = entered m r0 rs r tr t es ds held agent b h w
 leads m Unlatch r0 rs r tr t es ds (Second (Second (First done))) held agent h w = unlatched_so m r0 rs r tr t es ds held agent w m.root m.refused h
 leads m Drop r0 rs r tr t es ds (Second (Second (Second a))) held agent (k, is, h) w =
-    subst (λ (o : Option ℕ). DropLeaves (dropping m.me (root_or o)) rs r t ds a → IsSettled (record m { root = o; point = Drop }) None (settled_steps m.me.geometry.segments + 2) r0 rs tr es
+    subst (λ (o : Option ℕ). DropLeaves (dropping m.me (root_or o)) rs r t ds a → IsSettled (record m { root = o; point = Drop }) None (settled_steps m.me.geometry.wide m.me.geometry.segments + 2) r0 rs tr es
     → Follows put_root_parts put_root_plan (record m { root = o; point = Drop }) (Second (Second (Second a))) r0 r (tr ++ t) (es ++ ds)) (sym is) (λ v j. dropped_so m r0 rs r tr t es ds held agent k m.refused a j v) w h
 leads m Open r0 rs r tr t es ds (First (Second b)) held agent h w = absurd w
 leads m Open r0 rs r tr t es ds (Second b) held agent h w = absurd w

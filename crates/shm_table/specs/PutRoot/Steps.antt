@@ -106,18 +106,18 @@ module _ (me : Me) (key v : ℕ) (r0 rs r : Memo) (t : Trail) (es ds : List Even
       }
 
   -- what was asked so far
-  pub located_searched : (tr : Trail) (steps : ℕ) → IsWithin (steps + tear_steps (frees es)) tr → IsSearched me key (steps + 2 + 2) (tr ++ t) (es ++ ds)
+  pub located_searched : (tr : Trail) (steps : ℕ) → IsWithin (steps + tear_steps me.geometry.wide (frees es)) tr → IsSearched me key (steps + 2 + 2) (tr ++ t) (es ++ ds)
   located_searched tr steps bound =
       let u = find_within me c key w.latched r w.after ds b w.found in
       let quiet : es ++ ds ≡ es = ap (λ (x : List Event). es ++ x) w.none ∙ append-nil es in
-      let first = within_more (steps + tear_steps (frees es)) 2 tr w.before bound w.bound in
-      let all = within_more (steps + tear_steps (frees es) + 2) (2 + 2 * keys_read u.0 b) (tr ++ w.before) w.after first u.2 in
+      let first = within_more (steps + tear_steps me.geometry.wide (frees es)) 2 tr w.before bound w.bound in
+      let all = within_more (steps + tear_steps me.geometry.wide (frees es) + 2) (2 + 2 * keys_read u.0 b) (tr ++ w.before) w.after first u.2 in
       let split : tr ++ t ≡ (tr ++ w.before) ++ w.after = ap (λ (x : Trail). tr ++ x) w.trail ∙ sym (append_assoc tr w.before w.after) in
       record {
         keys = keys_read u.0 b;
         search = (tr ++ w.before, w.after, [], split ∙ ap (λ (x : Trail). (tr ++ w.before) ++ x) (sym (append-nil w.after)), (u.0, b, u.1, refl));
-        bound = subst (λ (x : List Event). IsWithin (steps + 2 + 2 + 2 * keys_read u.0 b + tear_steps (frees x)) (tr ++ t)) (sym quiet)
-            (subst (IsWithin (steps + 2 + 2 + 2 * keys_read u.0 b + tear_steps (frees es))) (sym split) (omega arith));
+        bound = subst (λ (x : List Event). IsWithin (steps + 2 + 2 + 2 * keys_read u.0 b + tear_steps me.geometry.wide (frees x)) (tr ++ t)) (sym quiet)
+            (subst (IsWithin (steps + 2 + 2 + 2 * keys_read u.0 b + tear_steps me.geometry.wide (frees es))) (sym split) (omega arith));
       }
 
   -- the value block and its root are still there
@@ -162,7 +162,7 @@ located_absent me key v r0 rs r t es ds home first held agent h w =
     let here : own_word r.own (Home me.who) ≡ home = w.found.directory refl in
     let vacant : IsVacant me.who r key first = w.found.vacant refl (λ e. putting.home (here ∙ e)) in
     let role : role_in (roles r) home ≡ Directory = ap (role_in (roles r)) (sym here) ∙ vacant.role in
-    let inside = told_inside me r (shaped r.latch home Directory) may.who held (role_told me.who r home Directory role (λ z. cc)) in
+    let inside = told_inside me r (shaped r.latch home Directory) may.who held (role_told me.who r me.geometry.wide home Directory role (λ z. cc)) in
     let low : home ≡ home_of home = sym (cond-true _ _ _ (lt-ltb home (address_limit - 17) (omega arith))) in
     let small : first ≡ first % address_limit = elim (is_zero first) [
       | inl e ↦ omega arith

@@ -9,7 +9,7 @@ use Rattle.shm_graph.specs.declared.ask.Me.{Me}
 use Rattle.shm_graph.specs.declared.memo.Memo.{Memo}
 use Rattle.shm_graph.specs.declared.spot.Spot.TheVariants as spot
 use Rattle.shm_graph.specs.Asks.{Trail, IsWithin}
-use Rattle.shm_graph.specs.Bounds.{tear_steps}
+use Rattle.shm_graph.specs.Bounds.{tear_steps, redo_steps}
 use Rattle.shm_graph.specs.Events.{Event}
 use Rattle.shm_graph.specs.Events as event
 use Rattle.shm_graph.specs.Idle.{IsIdle}
@@ -54,6 +54,7 @@ use Rattle.shm_table.specs.TakeHead.Control.{take_head_parts, taking_head}
 use Rattle.shm_table.specs.TakeHead.{MayTakeHead, TakeHeadLeaves, passed_memo, take_head_plan, take_head_steps}
 use Rattle.shm_table.specs.TakeHead.Laws.{keeps_beside, take_head_begin}
 use Rattle.shm_table.specs.ValueReads.{idle_here}
+use Rattle.shm_table.specs.Costs.{tear_sum, tear_same}
 
 -- ---- the item
 
@@ -211,7 +212,8 @@ module _ (m : RecvState) (r0 rs r : Memo) (tr t : Trail) (es ds : List Event) (h
   put_in z (may, h) (w, still) =
       let quiet = frees_append es ds in
       let none : frees es ≡ 0 = ap frees h.events in
-      let b = within_more fetch_head_steps (put_root_steps g + 2 * w.keys + tear_steps (frees ds + length w.left)) tr t h.bound w.bound in (
+      let torn = tear_same m.me.geometry.wide (frees (es ++ ds) + length w.left) (frees ds + length w.left) (omega arith) in
+      let b = within_more (fetch_head_steps m.me.geometry.wide) (put_root_steps m.me.geometry.wide g + 2 * w.keys + tear_steps m.me.geometry.wide (frees ds + length w.left)) tr t h.bound w.bound in (
         refl,
         record {
           may = may;
@@ -251,7 +253,8 @@ module _ (m : RecvState) (r0 rs r : Memo) (tr t : Trail) (es ds : List Event) (h
   put_refused f (may, h) w =
       let quiet = frees_append es ds in
       let none : frees es ≡ 0 = ap frees h.events in
-      let b = within_more fetch_head_steps (put_root_steps g + 2 * w.keys + tear_steps (frees ds + length w.left)) tr t h.bound w.bound in (
+      let torn = tear_same m.me.geometry.wide (frees (es ++ ds) + length w.left) (frees ds + length w.left) (omega arith) in
+      let b = within_more (fetch_head_steps m.me.geometry.wide) (put_root_steps m.me.geometry.wide g + 2 * w.keys + tear_steps m.me.geometry.wide (frees ds + length w.left)) tr t h.bound w.bound in (
         record {
           may = may;
           latch = w.latch;
@@ -273,11 +276,12 @@ module _ (m : RecvState) (r0 rs r : Memo) (tr t : Trail) (es ds : List Event) (h
       )
 
   -- where roots, latch, home and map are as they were all stays that is settled
-  still_in : Rests c rs r → own_word rs.own (spot.Era c c) ≤ own_word r.own (spot.Era c c) → frees ds ≡ 0 → IsWithin take_head_steps t → IsPutIn m.me s m.key m.at m.block m.number m.root (put_in_steps g) None r0 rs tr es
-      → IsPutIn m.me s m.key m.at m.block m.number m.root (put_in_steps g + take_head_steps) None r0 r (tr ++ t) (es ++ ds)
+  still_in : Rests c rs r → own_word rs.own (spot.Era c c) ≤ own_word r.own (spot.Era c c) → frees ds ≡ 0 → IsWithin (take_head_steps m.me.geometry.wide) t → IsPutIn m.me s m.key m.at m.block m.number m.root (put_in_steps m.me.geometry.wide g) None r0 rs tr es
+      → IsPutIn m.me s m.key m.at m.block m.number m.root (put_in_steps m.me.geometry.wide g + take_head_steps m.me.geometry.wide) None r0 r (tr ++ t) (es ++ ds)
   still_in rests era none bound h =
       let quiet = frees_append es ds in
-      let b = within_more (put_in_steps g + 2 * h.keys + tear_steps (frees es + length h.left)) take_head_steps tr t h.bound bound in
+      let torn = tear_same m.me.geometry.wide (frees (es ++ ds) + length h.left) (frees es + length h.left) (omega arith) in
+      let b = within_more (put_in_steps m.me.geometry.wide g + 2 * h.keys + tear_steps m.me.geometry.wide (frees es + length h.left)) (take_head_steps m.me.geometry.wide) tr t h.bound bound in
       record {
         may = h.may;
         latch = rests.latch ∙ h.latch;
@@ -309,7 +313,7 @@ module _ (m : RecvState) (r0 rs r : Memo) (tr t : Trail) (es ds : List Event) (h
   took : (a : Result (Unit {0}) EraSpent) → RecvKnows (record m { point = Take }) Take r0 rs tr es → TakeHeadLeaves (taking_head m.me s m.at m.block) rs r t ds a → RecvKnows (record m { point = Drop }) Drop r0 r (tr ++ t) (es ++ ds)
   took a (none, p, h, still) w =
       let so = subst
-      (λ (f : Option PutFault). IsPutIn m.me s m.key m.at m.block m.number m.root (put_in_steps g + take_head_steps) f r0 r (tr ++ t) (es ++ ds) × ItemSo m.me s m.at m.block r0 r (es ++ ds) f) (sym none)
+      (λ (f : Option PutFault). IsPutIn m.me s m.key m.at m.block m.number m.root (put_in_steps m.me.geometry.wide g + take_head_steps m.me.geometry.wide) f r0 r (tr ++ t) (es ++ ds) × ItemSo m.me s m.at m.block r0 r (es ++ ds) f) (sym none)
       (go a w) in
       (so.0, so.1, λ e. same_more r0 rs r (still e) (stays a w))
     where
@@ -318,7 +322,7 @@ module _ (m : RecvState) (r0 rs r : Memo) (tr t : Trail) (es ds : List Event) (h
       stays (Err e) w = same_part rs r (rests_untouched c rs r w.untouched).part
 
       go : (a : Result (Unit {0}) EraSpent) → TakeHeadLeaves (taking_head m.me s m.at m.block) rs r t ds a
-          → IsPutIn m.me s m.key m.at m.block m.number m.root (put_in_steps g + take_head_steps) None r0 r (tr ++ t) (es ++ ds) × ItemSo m.me s m.at m.block r0 r (es ++ ds) None
+          → IsPutIn m.me s m.key m.at m.block m.number m.root (put_in_steps m.me.geometry.wide g + take_head_steps m.me.geometry.wide) None r0 r (tr ++ t) (es ++ ds) × ItemSo m.me s m.at m.block r0 r (es ++ ds) None
       go (Ok done) w =
           let lost : Event = event.Down c (spot.Slot s c (m.at % 8)) m.block in (
             still_in w.rests w.keeps.era (ap frees w.told) w.bound p,
@@ -357,17 +361,18 @@ module _ (m : RecvState) (r0 rs r : Memo) (tr t : Trail) (es ds : List Event) (h
   ended_so z w empty (inr y) = inr (y.0, spent_later c y.0 rs r (era_dropped (Ok z) w) y.1)
 
   -- what is answered of the item
-  item_left : (p : IsPutIn m.me s m.key m.at m.block m.number m.root (put_in_steps g + take_head_steps) None r0 rs tr es) → ItemSo m.me s m.at m.block r0 r (es ++ ds) None
+  item_left : (p : IsPutIn m.me s m.key m.at m.block m.number m.root (put_in_steps m.me.geometry.wide g + take_head_steps m.me.geometry.wide) None r0 rs tr es) → ItemSo m.me s m.at m.block r0 r (es ++ ds) None
       → ItemTaken m.me s m.at m.block r0 r (es ++ ds) ⊎ (Keeps c r0 r × ((e : ℕ) × IsSpent c e r))
   item_left p (inl h) = inl (item_taken m.me s m.at m.block r0 r (es ++ ds) p.source.place p.may.none h)
   item_left p (inr h) = inr h
 
-  dropped : (f : Option PutFault) (a : Result Bool EraSpent) → IsPutIn m.me s m.key m.at m.block m.number m.root (put_in_steps g + take_head_steps) f r0 rs tr es × ItemSo m.me s m.at m.block r0 rs es f → DropLeaves (dropping m.me m.root) rs r t ds a
+  dropped : (f : Option PutFault) (a : Result Bool EraSpent) → IsPutIn m.me s m.key m.at m.block m.number m.root (put_in_steps m.me.geometry.wide g + take_head_steps m.me.geometry.wide) f r0 rs tr es × ItemSo m.me s m.at m.block r0 rs es f → DropLeaves (dropping m.me m.root) rs r t ds a
       → Follows recv_parts recv_plan (record m { refused = f; point = Drop }) (Second (Second a)) r0 r (tr ++ t) (es ++ ds)
   dropped None (Ok z) (h, item) w =
       let n = else_dropped (Ok z) w in
       let quiet = frees_append es ds in
-      let b = within_more (put_in_steps g + take_head_steps + 2 * h.keys + tear_steps (frees es + length h.left)) (9 + 164 * frees ds) tr t h.bound w.bound in
+      let torn = tear_sum m.me.geometry.wide (frees (es ++ ds) + length h.left) (frees es + length h.left) (frees ds) (omega arith) in
+      let b = within_more (put_in_steps m.me.geometry.wide g + take_head_steps m.me.geometry.wide + 2 * h.keys + tear_steps m.me.geometry.wide (frees es + length h.left)) (8 + redo_steps m.me.geometry.wide + tear_steps m.me.geometry.wide (frees ds)) tr t h.bound w.bound in
       record {
         place = m.at;
         item = item_left h (item_dropped (Ok z) w None h.empty item);
@@ -389,7 +394,8 @@ module _ (m : RecvState) (r0 rs r : Memo) (tr t : Trail) (es ds : List Event) (h
       let n = else_dropped (Err e) (vs, w) in
       let quiet = frees_append es ds in
       let long = length-append h.left vs in
-      let b = within_more (put_in_steps g + take_head_steps + 2 * h.keys + tear_steps (frees es + length h.left)) (9 + 164 * (frees ds + length vs)) tr t h.bound w.bound in
+      let torn = tear_sum m.me.geometry.wide (frees (es ++ ds) + length (h.left ++ vs)) (frees es + length h.left) (frees ds + length vs) (omega arith) in
+      let b = within_more (put_in_steps m.me.geometry.wide g + take_head_steps m.me.geometry.wide + 2 * h.keys + tear_steps m.me.geometry.wide (frees es + length h.left)) (8 + redo_steps m.me.geometry.wide + tear_steps m.me.geometry.wide (frees ds + length vs)) tr t h.bound w.bound in
       record {
         place = m.at;
         item = item_left h (item_dropped (Err e) (vs, w) None h.empty item);
@@ -410,7 +416,8 @@ module _ (m : RecvState) (r0 rs r : Memo) (tr t : Trail) (es ds : List Event) (h
   dropped (Some f) (Ok z) (h, item) w =
       let n = else_dropped (Ok z) w in
       let quiet = frees_append es ds in
-      let b = within_more (put_in_steps g + take_head_steps + 2 * h.keys + tear_steps (frees es + length h.left)) (9 + 164 * frees ds) tr t h.bound w.bound in
+      let torn = tear_sum m.me.geometry.wide (frees (es ++ ds) + length h.left) (frees es + length h.left) (frees ds) (omega arith) in
+      let b = within_more (put_in_steps m.me.geometry.wide g + take_head_steps m.me.geometry.wide + 2 * h.keys + tear_steps m.me.geometry.wide (frees es + length h.left)) (8 + redo_steps m.me.geometry.wide + tear_steps m.me.geometry.wide (frees ds)) tr t h.bound w.bound in
       not_received m r0 r (tr ++ t) (es ++ ds) f
       (record {
         keeps = item_dropped (Ok z) w (Some f) h.empty item;
@@ -428,7 +435,8 @@ module _ (m : RecvState) (r0 rs r : Memo) (tr t : Trail) (es ds : List Event) (h
       let n = else_dropped (Err e) (vs, w) in
       let quiet = frees_append es ds in
       let long = length-append h.left vs in
-      let b = within_more (put_in_steps g + take_head_steps + 2 * h.keys + tear_steps (frees es + length h.left)) (9 + 164 * (frees ds + length vs)) tr t h.bound w.bound in
+      let torn = tear_sum m.me.geometry.wide (frees (es ++ ds) + length (h.left ++ vs)) (frees es + length h.left) (frees ds + length vs) (omega arith) in
+      let b = within_more (put_in_steps m.me.geometry.wide g + take_head_steps m.me.geometry.wide + 2 * h.keys + tear_steps m.me.geometry.wide (frees es + length h.left)) (8 + redo_steps m.me.geometry.wide + tear_steps m.me.geometry.wide (frees ds + length vs)) tr t h.bound w.bound in
       record {
         keeps = item_dropped (Err e) (vs, w) (Some f) h.empty item;
         latch = n.0 ∙ h.latch;

@@ -54,6 +54,7 @@ use Rattle.shm_table.specs.Staying.{Ended, Keeps, SameMap}
 use Rattle.shm_table.specs.Staying.Laws.{keeps_more, keeps_untouched, raised_cause, same_map}
 use Rattle.shm_table.specs.Staying.Steps.{keeps_took}
 use Rattle.shm_table.specs.ValueReads.{ReadsMore, cause_read, idle_here, keeps_reads, reads_more_by}
+use Rattle.shm_table.specs.Costs.{tear_same}
 
 -- ---- the value word was read
 
@@ -142,7 +143,7 @@ module _ (me : Me) (b v old : ℕ) (r0 q r : Memo) (seen : IsSeen me b v old r0 
   roots_same j = took.own (Root me.who j) refl ∙ ap (λ (x : Memo). root_word me.who x j) seen.reads.memo
 
   replaced : (tr : Trail) (es torn : List Event) (vs : List Visit) → All (λ (x : Visit). Contains r.dying x.block) vs → Ended me.who r0 r → es ≡ changed_events me.who b old v torn → IsTorn me.who old torn vs
-      → IsWithin (1 + change_steps + tear_steps (frees es + length vs)) tr → Replaced me v b r0 r tr es
+      → IsWithin (1 + change_steps me.geometry.wide + tear_steps me.geometry.wide (frees es + length vs)) tr → Replaced me v b r0 r tr es
   replaced tr es torn vs dying ended told walk bound =
       record {
         keeps = keeps_more me.who r0 q r was_read (keeps_took me q r b 1 old v old false was_read.idle seen.holds begun_may.who seen.own took);
@@ -204,7 +205,7 @@ module _ (me : Me) (b v old : ℕ) (r0 rs r : Memo) (tr t : Trail) (es ds : List
     none_yet xs e = ap (λ (x : List Event). x ++ ds) quiet ∙ e
 
     -- it was refused
-    refused : (f : UpFault) → Untouched me.who rs r × StepCause me (aims.Change old v) rs f × (ds ≡ []) → IsWithin change_steps t → NotReplaced me v r0 r (tr ++ t) (es ++ ds) (raised_fault f)
+    refused : (f : UpFault) → Untouched me.who rs r × StepCause me (aims.Change old v) rs f × (ds ≡ []) → IsWithin (change_steps me.geometry.wide) t → NotReplaced me v r0 r (tr ++ t) (es ++ ds) (raised_fault f)
     refused f (same, cause, none) short =
         let c = me.who in
         let before : Keeps c r0 rs = keeps_reads c r0 rs seen.begun.4.idle so_far in
@@ -217,16 +218,16 @@ module _ (me : Me) (b v old : ℕ) (r0 rs r : Memo) (tr t : Trail) (es ds : List
           cause = raised_cause me (aims.Change old v) r0 rs r f same cause;
           refusal = (old, f, refl, cause_read me (aims.Change old v) r0 rs f so_far cause);
           none = none_yet [] none;
-          bound = within_more 1 change_steps tr t bound short;
+          bound = within_more 1 (change_steps me.geometry.wide) tr t bound short;
         }
 
     -- the count of the old block came to 0, or it didn't
-    fell : Lost me.who (Body b 1) false old v true rs r → ds ≡ changed_events me.who b old v [] → IsWithin change_steps t → IsFallen me b v old r0 r (tr ++ t) (es ++ ds)
-    fell lost told short = record { memo = rs; seen = seen; lost = lost; holds = held; told = none_yet (changed_events me.who b old v []) told; bound = within_more 1 change_steps tr t bound short }
+    fell : Lost me.who (Body b 1) false old v true rs r → ds ≡ changed_events me.who b old v [] → IsWithin (change_steps me.geometry.wide) t → IsFallen me b v old r0 r (tr ++ t) (es ++ ds)
+    fell lost told short = record { memo = rs; seen = seen; lost = lost; holds = held; told = none_yet (changed_events me.who b old v []) told; bound = within_more 1 (change_steps me.geometry.wide) tr t bound short }
 
-    lowered : Lost me.who (Body b 1) false old v false rs r → ds ≡ changed_events me.who b old v [] → IsWithin change_steps t → Replaced me v b r0 r (tr ++ t) (es ++ ds)
+    lowered : Lost me.who (Body b 1) false old v false rs r → ds ≡ changed_events me.who b old v [] → IsWithin (change_steps me.geometry.wide) t → Replaced me v b r0 r (tr ++ t) (es ++ ds)
     lowered lost told short =
-        let within = within_more 1 change_steps tr t bound short in
+        let within = within_more 1 (change_steps me.geometry.wide) tr t bound short in
         replaced me b v old r0 rs r seen lost.took (tr ++ t) (es ++ ds) [] [] (All-nil (λ (x : Visit). Contains r.dying x.block))
         (inl (record { roots = roots_same me b v old r0 rs r seen lost.took; dying = lost.dying ∙ (append-nil rs.dying ∙ ap (λ (x : Memo). x.dying) so_far.memo) }))
         (none_yet (changed_events me.who b old v []) told) (inl (refl, refl)) (omega arith)
@@ -248,14 +249,16 @@ module _ (me : Me) (b v old : ℕ) (r0 rs r : Memo) (tr t : Trail) (es ds : List
       go : (a : Result (Unit {0}) ASpent) → TearLeaves me old rs r ds t a → Replaced me v b r0 r (tr ++ t) (es ++ ds)
       go (Ok done) y =
           let f = same_frees in
-          let within = within_more (1 + change_steps) (tear_steps (frees ds)) tr t h.bound y.bound in
+          let torn = tear_same me.geometry.wide (frees (es ++ ds) + 0) (frees ds) (omega arith) in
+          let within = within_more (1 + change_steps me.geometry.wide) (tear_steps me.geometry.wide (frees ds)) tr t h.bound y.bound in
           let lost = torn_leaves me (Body b 1) false old v h.memo rs r seen.begun.4.who h.holds h.lost seen.counted ds t (Ok done) y in
           replaced me b v old r0 h.memo r seen lost.took (tr ++ t) (es ++ ds) ds [] (All-nil (λ (x : Visit). Contains r.dying x.block))
           (inl (record { roots = roots_same me b v old r0 h.memo r seen lost.took; dying = lost.dying ∙ (append-nil h.memo.dying ∙ ap (λ (x : Memo). x.dying) seen.reads.memo) }))
           told (inr y.walks) (omega arith)
       go (Err e) (vs, y) =
           let f = same_frees in
-          let within = within_more (1 + change_steps) (tear_steps (frees ds + length vs)) tr t h.bound y.bound in
+          let torn = tear_same me.geometry.wide (frees (es ++ ds) + length vs) (frees ds + length vs) (omega arith) in
+          let within = within_more (1 + change_steps me.geometry.wide) (tear_steps me.geometry.wide (frees ds + length vs)) tr t h.bound y.bound in
           let took = (torn_leaves me (Body b 1) false old v h.memo rs r seen.begun.4.who h.holds h.lost seen.counted ds t (Err e) (vs, y)).0 in
           let late = y.last in
           let is = y.spent in
@@ -292,7 +295,7 @@ replace_laws =
     opens m Look r0 r tr es (begun, same, none, quiet) =
         let may : MayReplace m.me begun.0 m.to begun.1 m.entry begun.2 begun.3 r = subst (MayReplace m.me begun.0 m.to begun.1 m.entry begun.2 begun.3) (sym same) begun.4 in
         let room = may.room in
-        entry_loads m.me r may.who may.idle.op m.entry true 1 (omega arith) (omega arith, omega arith) (entry_latched m.me.who m.me.who r m.entry 1 may.found.4.latch may.here (omega arith))
+        entry_loads m.me r may.who may.idle.op m.entry true 1 (omega arith) (omega arith, omega arith) (entry_latched m.me.geometry.wide m.me.who m.me.who r m.entry 1 may.found.4.latch may.here (omega arith))
     opens m Change r0 r tr es (seen, none, bound) = (refl, seen.step)
     opens m Tear r0 r tr es h =
         let seen = h.seen in

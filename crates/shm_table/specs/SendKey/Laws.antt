@@ -11,6 +11,7 @@ use Rattle.shm_graph.specs.Events.{Event}
 use Rattle.shm_graph.specs.Events as event
 use Rattle.shm_graph.specs.Idle.{IsIdle}
 use Rattle.shm_graph.specs.Trails.{Answers, Asked}
+use Rattle.shm_graph.specs.Bounds.{redo_steps}
 use Rattle.shm_calls.specs.declared.or.Or.TheVariants.{First, Second}
 use Rattle.shm_calls.specs.CallTells.{within_more}
 use Rattle.shm_calls.specs.CallsPart.{calls_part, calls_part_laws}
@@ -139,11 +140,11 @@ module _ (m : SendKeyState) (r0 rs r : Memo) (tr t : Trail) (es ds : List Event)
     had : (x : ℕ) × (map_in r0.part m.key ≡ Some (x, m.block))
     had = let y = own_names m.me m.key m.entry m.block rs may.locate.who reading.held h.0.0.has h.0.1 in (y.0, sym (same m.key) ∙ y.1)
 
-    within : IsWithin 11 t → IsWithin (sent_steps + 2 * on.keys) (tr ++ t)
-    within bound = let b = within_more (5 + 2 * on.keys) 11 tr t on.bound bound in omega arith
+    within : IsWithin (10 + redo_steps m.me.geometry.wide) t → IsWithin (sent_steps m.me.geometry.wide + 2 * on.keys) (tr ++ t)
+    within bound = let b = within_more (5 + 2 * on.keys) (10 + redo_steps m.me.geometry.wide) tr t on.bound bound in omega arith
 
     -- it was sent
-    sent : (n : ℕ) → SendDone m.me m.to m.block n rs r t ds → IsSent m.me m.to m.key m.block n (Some c) sent_steps r0 r (tr ++ t) (es ++ ds)
+    sent : (n : ℕ) → SendDone m.me m.to m.block n rs r t ds → IsSent m.me m.to m.key m.block n (Some c) (sent_steps m.me.geometry.wide) r0 r (tr ++ t) (es ++ ds)
     sent n w =
         let rests = rests_sent c m.to m.block n rs r w.sent in
         record {
@@ -164,7 +165,7 @@ module _ (m : SendKeyState) (r0 rs r : Memo) (tr t : Trail) (es ds : List Event)
         }
 
     -- it wasn't, and nothing was done
-    unsent : (f : SendFault) → SendCause m.me m.to m.block r0 f → Keeps c rs r → Rests c rs r → ds ≡ [] → IsWithin 11 t → IsUnsent m.me m.to m.key m.block f (Some c) sent_steps r0 r (tr ++ t) (es ++ ds)
+    unsent : (f : SendFault) → SendCause m.me m.to m.block r0 f → Keeps c rs r → Rests c rs r → ds ≡ [] → IsWithin (10 + redo_steps m.me.geometry.wide) t → IsUnsent m.me m.to m.key m.block f (Some c) (sent_steps m.me.geometry.wide) r0 r (tr ++ t) (es ++ ds)
     unsent f cause keeps rests none bound =
         record {
           may = may;
@@ -182,22 +183,22 @@ module _ (m : SendKeyState) (r0 rs r : Memo) (tr t : Trail) (es ds : List Event)
           bound = within bound;
         }
 
-    untouched : (f : SendFault) → SendCause m.me m.to m.block r0 f → NotSent c rs r t ds → IsUnsent m.me m.to m.key m.block f (Some c) sent_steps r0 r (tr ++ t) (es ++ ds)
+    untouched : (f : SendFault) → SendCause m.me m.to m.block r0 f → NotSent m.me rs r t ds → IsUnsent m.me m.to m.key m.block f (Some c) (sent_steps m.me.geometry.wide) r0 r (tr ++ t) (es ++ ds)
     untouched f cause w = unsent f cause (keeps_untouched c rs r on.idle w.untouched) (rests_untouched c rs r w.untouched) w.none (let b = w.bound in omega arith)
 
     -- why it wasn't
-    refused : (f : SendFault) → SendLeaves (sending m.me m.to m.block) rs r t ds (Err f) → IsUnsent m.me m.to m.key m.block f (Some c) sent_steps r0 r (tr ++ t) (es ++ ds)
+    refused : (f : SendFault) → SendLeaves (sending m.me m.to m.block) rs r t ds (Err f) → IsUnsent m.me m.to m.key m.block f (Some c) (sent_steps m.me.geometry.wide) r0 r (tr ++ t) (es ++ ds)
     refused (QueueFull d n) w = unsent (QueueFull d n) (w.tail ∙ reading.own (Tail c m.to) refl, w.full) (keeps_core c rs r on.idle w.same) (rests_core c rs r w.same) w.none (let b = w.bound in omega arith)
     refused (EraSpent e) w = untouched (EraSpent e) (w.1 ∙ reading.own (Era c c) refl, w.2) w.0
     refused (CountFull d n) w = untouched (CountFull d n) (w.2, w.1) w.0
 
   -- ---- the latch is given back
 
-  still_sent : (b n : ℕ) → IsSent m.me m.to m.key b n (Some c) sent_steps r0 rs tr es → Unlatched m.me c rs r t ds → IsSent m.me m.to m.key b n None send_key_steps r0 r (tr ++ t) (es ++ ds)
+  still_sent : (b n : ℕ) → IsSent m.me m.to m.key b n (Some c) (sent_steps m.me.geometry.wide) r0 rs tr es → Unlatched m.me c rs r t ds → IsSent m.me m.to m.key b n None (send_key_steps m.me.geometry.wide) r0 r (tr ++ t) (es ++ ds)
   still_sent b n h w =
       let after = keeps_unlatched m.me rs r h.keeps.idle h.holds h.may.locate.who w.memo in
-      let u = unlatched_else c rs r w.memo in
-      let l = within_more (sent_steps + 2 * h.keys) 2 tr t h.bound (subst (IsWithin 2) (sym w.trail) (omega arith)) in
+      let u = unlatched_else m.me.geometry.wide c rs r w.memo in
+      let l = within_more (sent_steps m.me.geometry.wide + 2 * h.keys) 2 tr t h.bound (subst (IsWithin 2) (sym w.trail) (omega arith)) in
       record {
         may = h.may;
         holds = held;
@@ -215,10 +216,10 @@ module _ (m : SendKeyState) (r0 rs r : Memo) (tr t : Trail) (es ds : List Event)
         bound = omega arith;
       }
 
-  still_unsent : (b : ℕ) (f : SendFault) → IsUnsent m.me m.to m.key b f (Some c) sent_steps r0 rs tr es → Unlatched m.me c rs r t ds → IsUnsent m.me m.to m.key b f None send_key_steps r0 r (tr ++ t) (es ++ ds)
+  still_unsent : (b : ℕ) (f : SendFault) → IsUnsent m.me m.to m.key b f (Some c) (sent_steps m.me.geometry.wide) r0 rs tr es → Unlatched m.me c rs r t ds → IsUnsent m.me m.to m.key b f None (send_key_steps m.me.geometry.wide) r0 r (tr ++ t) (es ++ ds)
   still_unsent b f h w =
-      let u = unlatched_else c rs r w.memo in
-      let l = within_more (sent_steps + 2 * h.keys) 2 tr t h.bound (subst (IsWithin 2) (sym w.trail) (omega arith)) in
+      let u = unlatched_else m.me.geometry.wide c rs r w.memo in
+      let l = within_more (sent_steps m.me.geometry.wide + 2 * h.keys) 2 tr t h.bound (subst (IsWithin 2) (sym w.trail) (omega arith)) in
       record {
         may = h.may;
         holds = held;
@@ -286,7 +287,7 @@ send_key_laws =
     opens : (m : SendKeyState) (y : SendKeyPoint) (r0 r : Memo) (tr : Trail) (es : List Event) → SendKeyKnows (record m { point = y }) y r0 r tr es → (send_key_part (record m { point = y }) y).needs (send_key_call m y) r
     opens m Search r0 r tr es h = record { made = refl; first = refl; start = refl; knows = locate_begin m.me m.me.who m.key r (subst (MayLocate m.me m.me.who) (sym h.1) h.0.locate) }
     opens m Value r0 r tr es ((h, here, room), on, may) =
-        reference_load false m.me r h.reading.may.who m.entry 1 (omega arith, omega arith) (entry_latched m.me.who m.me.who r m.entry 1 (latch_of m.me m.me.who r0 r h.reading) here (omega arith)) (idle_settled r (Body m.entry 1) on.idle.op)
+        reference_load false m.me r h.reading.may.who m.entry 1 (omega arith, omega arith) (entry_latched m.me.geometry.wide m.me.who m.me.who r m.entry 1 (latch_of m.me m.me.who r0 r h.reading) here (omega arith)) (idle_settled r (Body m.entry 1) on.idle.op)
     opens m Send r0 r tr es h = record { made = refl; first = refl; start = refl; knows = (may_send m r0 r tr es h, refl, refl, refl) }
     opens m Give r0 r tr es h = record { made = refl; first = refl; start = refl; knows = unlatch_begin m.me m.me.who r (gives m m.outcome r0 r tr es h) }
 

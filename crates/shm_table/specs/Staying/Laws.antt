@@ -2,12 +2,12 @@
 use Rattle.std.proofs.Common.{◌≡◌, ◌≢◌, ℕ, ◌+◌, ◌<◌, ◌≤◌, refl, sym, ap, ◌∙◌, subst, arith, Bool, true, false, eqb, ◌&&◌, append-nil, List, [], Option, Some, None, inl, inr}
 use Rattle.std.specs.Prelude.{◌⊎◌, ◌==◌, Result, Ok, Err}
 use Rattle.std.specs.List.{Contains, list_any}
-use Rattle.std.proofs.lemmas.Bool.{cases_Bool, cond-false, cond-true, eq-eqb, eqb-true, false≢true, ne_eqb, true≢false}
+use Rattle.std.proofs.lemmas.Bool.{cases_Bool, cond-false, cond-true, eq-eqb, eqb-true, false≢true, ne_eqb, true≢false, not-true}
 use Rattle.std.proofs.lemmas.List.Elements.{Contains-append_right}
 use Rattle.shm_laws.proofs.Keep.{Contains-filter}
 use Rattle.shm_graph.specs.declared.ask.Me.{Me}
 use Rattle.shm_graph.specs.declared.spot.Spot.{Spot}
-use Rattle.shm_graph.specs.declared.spot.Spot.TheVariants.{Hold, Home, Era, Root, Tag, Body}
+use Rattle.shm_graph.specs.declared.spot.Spot.TheVariants.{Hold, Home, Era, RedoMore, Root, Tag, Body}
 use Rattle.shm_graph.specs.declared.memo.Memo.{Memo}
 use Rattle.shm_graph.specs.declared.memo.Op.TheVariants.{Nothing}
 use Rattle.shm_graph.specs.declared.memo.Stored.{Stored}
@@ -43,7 +43,8 @@ use Rattle.shm_alloc.specs.declared.alloc.AllocFault.{AllocFault}
 use Rattle.shm_alloc.specs.declared.alloc.AllocFault.TheVariants as alloc
 use Rattle.shm_alloc.specs.declared.request.Request.{Request}
 use Rattle.shm_alloc.specs.Alloc.Carrying.{value_made}
-use Rattle.shm_alloc.specs.Alloc.{AnswerHolds, MadeGives}
+use Rattle.shm_alloc.specs.Alloc.{AnswerHolds, MadeGives, goal_of}
+use Rattle.shm_alloc.specs.Alloc.Steps.{ready_word}
 use Rattle.shm_ref.specs.declared.drop_root.DropState.{DropState}
 use Rattle.shm_ref.specs.DropRoot.{DropLeaves}
 use Rattle.shm_ref.specs.Hold.{wants}
@@ -218,17 +219,17 @@ keeps_latched c a m r idle h =
 pub latched_else : (c a : ℕ) (m r : Memo) → Latched c a m r → (r.latch ≡ Some a) × (own_word r.own (Home c) ≡ own_word m.own (Home c)) × (r.part ≡ m.part) × Cleared c m r
 latched_else c a m r h = (ap (λ (x : Memo). x.latch) h.memo, h.own (Home c) refl, ap (λ (x : Memo). x.part) h.memo, record { roots = λ j. h.own (Root c j) refl; dying = ap (λ (x : Memo). x.dying) h.memo })
 
-slot_binds : (b : Bool) (c : ℕ) (m : Memo) (p : Spot) → is_slot p ≡ true → binds_unlatched b c m p ≡ true
-slot_binds b c m (Tag d) e = absurd (false≢true e)
-slot_binds b c m (Body d i) e = absurd (false≢true e)
-slot_binds b c m _ e = refl
+slot_binds : (wide : Bool) (b : Bool) (c : ℕ) (m : Memo) (p : Spot) → is_slot p ≡ true → binds_unlatched wide b c m p ≡ true
+slot_binds wide b c m (Tag d) e = absurd (false≢true e)
+slot_binds wide b c m (Body d i) e = absurd (false≢true e)
+slot_binds wide b c m _ e = refl
 
-value_left : (me : Me) (m : Memo) (v n k : ℕ) → IsHeld me m → me.who < me.geometry.clients → m.op ≡ Nothing → k < 16 → root_word me.who m k ≡ v → v ≢ 0 → IsValue (sight me.who m) v n → IsValue (sight me.who (unlatched me.who m)) v n
+value_left : (me : Me) (m : Memo) (v n k : ℕ) → IsHeld me m → me.who < me.geometry.clients → m.op ≡ Nothing → k < 16 → root_word me.who m k ≡ v → v ≢ 0 → IsValue (sight me.who m) v n → IsValue (sight me.who (unlatched me.geometry.wide me.who m)) v n
 value_left me m v n k (w, rs, h, same) who idle low root some a =
-    subst (λ (x : Memo). IsValue (sight me.who (unlatched me.who x)) v n) same
+    subst (λ (x : Memo). IsValue (sight me.who (unlatched me.geometry.wide me.who x)) v n) same
     (value_unlatched me.geometry w rs me.who v n k h who (ap (λ (x : Memo). x.op) same ∙ idle) low (ap (λ (x : Memo). root_word me.who x k) same ∙ root) some (subst (λ (x : Memo). IsValue (sight me.who x) v n) (sym same) a))
 
-pub keeps_unlatched : (me : Me) (m r : Memo) → IsIdle me.who m → IsHeld me m → me.who < me.geometry.clients → core r ≡ core (wants me.who 0 (unlatched me.who m)) → Keeps me.who m r
+pub keeps_unlatched : (me : Me) (m r : Memo) → IsIdle me.who m → IsHeld me m → me.who < me.geometry.clients → core r ≡ core (wants me.who 0 (unlatched me.geometry.wide me.who m)) → Keeps me.who m r
 keeps_unlatched me m r idle held who e =
     let c = me.who in
     keeps_rest c m r None m.part idle (ap rest e) (ap (λ (x : Memo). x.op) e ∙ idle.op)
@@ -239,11 +240,11 @@ keeps_unlatched me m r idle held who e =
     (λ j. inl (ap (λ (x : Memo). root_word c x j) e))
     (λ p x s k. let free : Memo = record m { latch = None; looks = [] } in
     subst (λ (ks : List Stored). Contains ks (record { spot = p; value = x })) (sym (ap (λ (y : Memo). y.known) e))
-    (Contains-filter (λ (y : Stored). binds_unlatched (is_latch_of c m.latch) c free y.spot) m.known (record { spot = p; value = x }) k (slot_binds (is_latch_of c m.latch) c free p s)))
-    (λ k v n l some root a. value_same c (unlatched c m) r v n (ap (λ (x : Memo). x.known) e) (ap (λ (x : Memo). x.values) e) (value_left me m v n k held who idle.op l root some a))
+    (Contains-filter (λ (y : Stored). binds_unlatched me.geometry.wide (is_latch_of c m.latch) c free y.spot) m.known (record { spot = p; value = x }) k (slot_binds me.geometry.wide (is_latch_of c m.latch) c free p s)))
+    (λ k v n l some root a. value_same c (unlatched me.geometry.wide c m) r v n (ap (λ (x : Memo). x.known) e) (ap (λ (x : Memo). x.values) e) (value_left me m v n k held who idle.op l root some a))
 
-pub unlatched_else : (c : ℕ) (m r : Memo) → core r ≡ core (wants c 0 (unlatched c m)) → (r.latch ≡ None) × (own_word r.own (Home c) ≡ own_word m.own (Home c)) × (r.part ≡ m.part) × Cleared c m r
-unlatched_else c m r e = (ap (λ (x : Memo). x.latch) e, ap (λ (x : Memo). own_word x.own (Home c)) e, ap (λ (x : Memo). x.part) e, record { roots = λ j. ap (λ (x : Memo). root_word c x j) e; dying = ap (λ (x : Memo). x.dying) e })
+pub unlatched_else : (wide : Bool) (c : ℕ) (m r : Memo) → core r ≡ core (wants c 0 (unlatched wide c m)) → (r.latch ≡ None) × (own_word r.own (Home c) ≡ own_word m.own (Home c)) × (r.part ≡ m.part) × Cleared c m r
+unlatched_else wide c m r e = (ap (λ (x : Memo). x.latch) e, ap (λ (x : Memo). own_word x.own (Home c)) e, ap (λ (x : Memo). x.part) e, record { roots = λ j. ap (λ (x : Memo). root_word c x j) e; dying = ap (λ (x : Memo). x.dying) e })
 
 -- ---- allocations
 
@@ -254,10 +255,15 @@ module _ (me : Me) (q : Request) (m r : Memo) (a : Made) (holds : AnswerHolds me
   gives : MadeGives me q m r a
   gives = holds.gives
 
+  -- neither is it the second word of the redo record
+  more_not : (d : ℕ) (p : Spot) → is_lasting d p ≡ true → same_spot (RedoMore d) p ≡ false
+  more_not d (RedoMore j) e = not-true (eqb d j) e
+  more_not d _ e = refl
+
   own_made : (p : Spot) → is_lasting me.who p ≡ true → same_spot (Root me.who a.root) p ≡ false → own_word r.own p ≡ own_word m.own p
   own_made p l n =
       let y = lasting_not me.who p l in
-      ap (λ (s : List Stored). own_word s p) gives.own ∙ (cond-false _ _ _ y.0 ∙ (cond-false _ _ _ n ∙ cond-false _ _ _ y.2))
+      ap (λ (s : List Stored). own_word s p) gives.own ∙ (cond-false _ _ _ y.0 ∙ (cond-false _ _ _ n ∙ (cond-false _ _ _ y.2 ∙ ready_word me (goal_of me m a) a.block m.own p (more_not me.who p l))))
 
   -- the root that it chose names the new block, and the others are as they were
   pub made_root : root_word me.who r a.root ≡ a.block

@@ -35,18 +35,18 @@ use Rattle.shm_table.specs.Staying.Laws.{keeps_rest, root_named, value_by}
 
 -- ---- value blocks are apart from blocks with reference words
 
-value_apart_here : (g : Geometry) (w : Spot → ℕ) (r : ℕ → Memo) (c d i x v : ℕ) → HeldAt g w (view r) → c < g.clients → IsOwnWord c (r c) d i x → Contains (r c).values v → d ≢ v
+value_apart_here : (g : Geometry) (w : Spot → ℕ) (r : ℕ → Memo) (c d i x v : ℕ) → HeldAt g w (view r) → c < g.clients → IsOwnWord g.wide c (r c) d i x → Contains (r c).values v → d ≢ v
 value_apart_here g w r c d i x v h l own value same =
     let has : SlotHas g w r c (Body d i) x = own_word_has g w r c h l d i x own in
     let held : ValueHolds g w (view r) c v = All-contains (ValueHolds g w (view r) c) (r c).values v (h.values c l) value in
-    let low : i < tag_refs (w (Tag d)) = has.holds.1 in
-    let none : tag_refs (w (Tag d)) ≡ 0 = ap (λ b. tag_refs (w (Tag b))) same ∙ held.0.names in
+    let low : i < tag_refs g.wide (w (Tag d)) = has.holds.1 in
+    let none : tag_refs g.wide (w (Tag d)) ≡ 0 = ap (λ b. tag_refs g.wide (w (Tag b))) same ∙ held.0.names in
     absurd (omega arith)
 
 -- a value block that was read has no reference word that its identity may store
-pub value_apart : (me : Me) (m : Memo) (d i x v : ℕ) → IsHeld me m → me.who < me.geometry.clients → IsOwnWord me.who m d i x → Contains m.values v → d ≢ v
+pub value_apart : (me : Me) (m : Memo) (d i x v : ℕ) → IsHeld me m → me.who < me.geometry.clients → IsOwnWord me.geometry.wide me.who m d i x → Contains m.values v → d ≢ v
 value_apart me m d i x v (w, r, h, same) l own value =
-    value_apart_here me.geometry w r me.who d i x v h l (subst (λ (y : Memo). IsOwnWord me.who y d i x) (sym same) own) (subst (λ (y : Memo). Contains y.values v) (sym same) value)
+    value_apart_here me.geometry w r me.who d i x v h l (subst (λ (y : Memo). IsOwnWord me.geometry.wide me.who y d i x) (sym same) own) (subst (λ (y : Memo). Contains y.values v) (sym same) value)
 
 -- so that its number stays known once another word is
 number_learnt : (d i x v n : ℕ) (ks : List Stored) → d ≢ v → Contains ks (record { spot = Body v 0; value = n }) → Contains (learnt (Body d i) x ks) (record { spot = Body v 0; value = n })
@@ -58,7 +58,7 @@ slot_learnt d i x p y ks s h = learnt_other (Body d i) p x y ks (λ e. false≢t
 
 -- ---- a step up at a word of a block
 
-pub keeps_filled : (me : Me) (m r : Memo) (d i b y : ℕ) → IsIdle me.who m → IsHeld me m → me.who < me.geometry.clients → IsOwnWord me.who m d i y → Filled me.who (Body d i) b m r → Keeps me.who m r
+pub keeps_filled : (me : Me) (m r : Memo) (d i b y : ℕ) → IsIdle me.who m → IsHeld me m → me.who < me.geometry.clients → IsOwnWord me.geometry.wide me.who m d i y → Filled me.who (Body d i) b m r → Keeps me.who m r
 keeps_filled me m r d i b y idle held who word h =
     let c = me.who in
     let known : r.known ≡ learnt (Body d i) b m.known = ap (λ (x : Memo). x.known) h.rest in
@@ -78,7 +78,7 @@ filled_else c d i b m r h = (ap (λ (x : Memo). x.latch) h.rest, h.own (Home c) 
 
 -- ---- a step that takes a block out of a word of a block
 
-module _ (me : Me) (m r : Memo) (d i t x y : ℕ) (h : Bool) (idle : IsIdle me.who m) (held : IsHeld me m) (who : me.who < me.geometry.clients) (word : IsOwnWord me.who m d i y) where
+module _ (me : Me) (m r : Memo) (d i t x y : ℕ) (h : Bool) (idle : IsIdle me.who m) (held : IsHeld me m) (who : me.who < me.geometry.clients) (word : IsOwnWord me.geometry.wide me.who m d i y) where
   took_keeps : (z : Bool) → (z ≡ true → (b : ℕ) → is_named me.who r b ≡ true → b ≢ t) → Took me.who (Body d i) h t x z m r → Keeps me.who m r
   took_keeps z other a =
       let c = me.who in
@@ -112,25 +112,25 @@ took_else c d i t x h z m r a = (ap (λ (y : Memo). y.latch) a.rest, a.own (Home
 -- ---- the own map
 
 -- what a count step that has begun at a word of a table makes of the map
-abbrev MapStepped : ℕ → Spot → ℕ → ℕ → Memo → Type 0
-MapStepped c p old new m = (s : TableStep c (sight c m) p old new) (k : ℕ) → map_in (part_after c (sight c m) p new) k ≡ map_after c (sight c m) p old new s (map_in m.part) k
+abbrev MapStepped : Bool → ℕ → Spot → ℕ → ℕ → Memo → Type 0
+MapStepped wide c p old new m = (s : TableStep wide c (sight c m) p old new) (k : ℕ) → map_in (part_after c (sight c m) p new) k ≡ map_after wide c (sight c m) p old new s (map_in m.part) k
 
 -- a word of a block
-pub map_word : (me : Me) (m r : Memo) (d i old new : ℕ) → IsHeld me m → me.who < me.geometry.clients → m.op ≡ Nothing → is_loose m.part ≡ false → IsOwnWord me.who m d i old → old ≢ new → r.part ≡ part_after me.who (sight me.who m) (Body d i) new
-    → (s : TableStep me.who (sight me.who m) (Body d i) old new) (k : ℕ) → map_in r.part k ≡ map_after me.who (sight me.who m) (Body d i) old new s (map_in m.part) k
-map_word me m r d i old new (w, rs, h, same) who idle table word other is s k = ap (λ o. map_in o k) is ∙ subst (MapStepped me.who (Body d i) old new) same here s k
+pub map_word : (me : Me) (m r : Memo) (d i old new : ℕ) → IsHeld me m → me.who < me.geometry.clients → m.op ≡ Nothing → is_loose m.part ≡ false → IsOwnWord me.geometry.wide me.who m d i old → old ≢ new → r.part ≡ part_after me.who (sight me.who m) (Body d i) new
+    → (s : TableStep me.geometry.wide me.who (sight me.who m) (Body d i) old new) (k : ℕ) → map_in r.part k ≡ map_after me.geometry.wide me.who (sight me.who m) (Body d i) old new s (map_in m.part) k
+map_word me m r d i old new (w, rs, h, same) who idle table word other is s k = ap (λ o. map_in o k) is ∙ subst (MapStepped me.geometry.wide me.who (Body d i) old new) same here s k
   where
-    here : MapStepped me.who (Body d i) old new (rs me.who)
+    here : MapStepped me.geometry.wide me.who (Body d i) old new (rs me.who)
     here s k =
-        let has : SlotHas me.geometry w rs me.who (Body d i) old = own_word_has me.geometry w rs me.who h who d i old (subst (λ (y : Memo). IsOwnWord me.who y d i old) (sym same) word) in
+        let has : SlotHas me.geometry w rs me.who (Body d i) old = own_word_has me.geometry w rs me.who h who d i old (subst (λ (y : Memo). IsOwnWord me.geometry.wide me.who y d i old) (sym same) word) in
         table_mapped me.geometry w rs me.who h who (Body d i) old new (ap cover_of (ap (λ (y : Memo). y.op) same ∙ idle)) has.holds has.word other s (ap (λ (y : Memo). is_loose y.part) same ∙ table) k
 
 -- the own home, which was empty
 pub map_home : (me : Me) (m r : Memo) (new : ℕ) → IsHeld me m → me.who < me.geometry.clients → m.op ≡ Nothing → is_loose m.part ≡ false → own_word m.own (Home me.who) ≡ 0 → new ≢ 0 → r.part ≡ part_after me.who (sight me.who m) (Home me.who) new
-    → (s : TableStep me.who (sight me.who m) (Home me.who) 0 new) (k : ℕ) → map_in r.part k ≡ map_after me.who (sight me.who m) (Home me.who) 0 new s (map_in m.part) k
-map_home me m r new (w, rs, h, same) who idle table empty some is s k = ap (λ o. map_in o k) is ∙ subst (MapStepped me.who (Home me.who) 0 new) same here s k
+    → (s : TableStep me.geometry.wide me.who (sight me.who m) (Home me.who) 0 new) (k : ℕ) → map_in r.part k ≡ map_after me.geometry.wide me.who (sight me.who m) (Home me.who) 0 new s (map_in m.part) k
+map_home me m r new (w, rs, h, same) who idle table empty some is s k = ap (λ o. map_in o k) is ∙ subst (MapStepped me.geometry.wide me.who (Home me.who) 0 new) same here s k
   where
-    here : MapStepped me.who (Home me.who) 0 new (rs me.who)
+    here : MapStepped me.geometry.wide me.who (Home me.who) 0 new (rs me.who)
     here s k =
         let has : SlotHas me.geometry w rs me.who (Home me.who) 0 = home_has me.geometry w rs me.who h who (ap (λ (y : Memo). own_word y.own (Home me.who)) same ∙ empty) in
         table_mapped me.geometry w rs me.who h who (Home me.who) 0 new (ap cover_of (ap (λ (y : Memo). y.op) same ∙ idle)) has.holds has.word (λ e. some (sym e)) s (ap (λ (y : Memo). is_loose y.part) same ∙ table) k

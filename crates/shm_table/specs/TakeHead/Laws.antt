@@ -21,6 +21,7 @@ use Rattle.shm_graph.specs.Reach.{is_named}
 use Rattle.shm_graph.specs.Spots.{same_spot}
 use Rattle.shm_graph.specs.Stores.{head_stored, lane_with, other_than, put}
 use Rattle.shm_graph.specs.Views.{own_word}
+use Rattle.shm_graph.specs.Bounds.{redo_steps}
 use Rattle.shm_laws.proofs.Keep.{Contains-filter, filter_from}
 use Rattle.shm_calls.specs.declared.or.Or.TheVariants.{First, Second}
 use Rattle.shm_calls.specs.CallTells.{within_more}
@@ -231,7 +232,7 @@ module _ (m : TakeHeadState) (r0 rs r : Memo) (tr t : Trail) (es ds : List Event
         keeps = keeps_passed c s m.at m.block r0 rs r h.may.idle h.lost w.found.left;
         rests = rests_passed c s m.at m.block r0 rs r h.may.idle h.lost w.found.left;
         told = ap (λ (x : List Event). x ++ ds) h.told ∙ ap (λ (x : List Event). event.Down c slot m.block ∷ x) w.none;
-        bound = within_more 8 1 tr t h.bound one;
+        bound = (let n = within_more (7 + redo_steps m.me.geometry.wide) 1 tr t h.bound one in omega arith);
       }
 
 leads : (m : TakeHeadState) (y : TakeHeadPoint) (r0 rs r : Memo) (tr t : Trail) (es ds : List Event) (b : TakeHeadAnswer) → IsHeld m.me r → TakeHeadKnows (record m { point = y }) y r0 rs tr es

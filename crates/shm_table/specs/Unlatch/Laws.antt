@@ -49,10 +49,10 @@ module _ (m : UnlatchState) (r0 r : Memo) (may : MayUnlatch m.me m.author r0) wh
         op = ap (λ (x : Memo). x.op) at ∙ (ap (λ (x : Memo). x.op) same ∙ may.idle);
         latch = ap (λ (x : Memo). x.latch) at ∙ (ap (λ (x : Memo). x.latch) same ∙ may.latch);
       }))
-      (λ w rs f st stands at. (ap (λ (x : Memo). core (unlatched c x)) (called_core (rs c) (framed m.me (unlatch_ask m.me m.author Give) f 0)) ∙ ap (λ (x : Memo). core (unlatched c x)) at, refl))
+      (λ w rs f st stands at. (ap (λ (x : Memo). core (unlatched m.me.geometry.wide c x)) (called_core (rs c) (framed m.me (unlatch_ask m.me m.author Give) f 0)) ∙ ap (λ (x : Memo). core (unlatched m.me.geometry.wide c x)) at, refl))
 
   -- the hold word is stored as 0
-  pub back_word : core r ≡ core (unlatched c r0) → IsWord false m.me (unlatch_ask m.me m.author Back) (UnlatchFound m Back) (unlatch_call m Back) r
+  pub back_word : core r ≡ core (unlatched m.me.geometry.wide c r0) → IsWord false m.me (unlatch_ask m.me m.author Back) (UnlatchFound m Back) (unlatch_call m Back) r
   back_word same =
       word_at false m.me (unlatch_ask m.me m.author Back) (UnlatchFound m Back) r (Hold c) hold_there (λ e. cc) refl
       (λ w rs f st stands at. hold_stored m.me w rs f [] (address m.me.geometry (place.Hold c)) 0 st (hold_there (classes w))
@@ -92,7 +92,7 @@ unlatch_laws =
     leads m Give r0 rs r tr t es ds n h w =
         record {
           may = h.0;
-          same = w.0.found.0 ∙ ap (λ (x : Memo). core (unlatched m.me.who x)) h.1;
+          same = w.0.found.0 ∙ ap (λ (x : Memo). core (unlatched m.me.geometry.wide m.me.who x)) h.1;
           none = ap (λ (x : List Event). x ++ ds) h.3 ∙ w.0.none;
           trail = one_more (unlatch_ask m.me m.author Give) n 0 tr [] t h.2 w.0.found.1 w.1;
         }

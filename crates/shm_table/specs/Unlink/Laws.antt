@@ -56,6 +56,7 @@ use Rattle.shm_table.specs.Staying.Steps.{keeps_took}
 use Rattle.shm_table.specs.Unlink.Control.{UnlinkAnswer, is_look, step_point, unlink_call_at, unlink_parts}
 use Rattle.shm_table.specs.Unlink.{IsFallen, IsSeen, MayBegin, MayUnlink, NotUnlinked, Unlinked, UnlinkCause, UnlinkKnows, link_aim, link_events, look_part, unlink_plan}
 use Rattle.shm_table.specs.ValueReads.{ReadsMore, cause_read, idle_here, keeps_reads, reads_more_by}
+use Rattle.shm_table.specs.Costs.{tear_same}
 
 -- ---- the next word was read
 
@@ -121,7 +122,7 @@ module _ (me : Me) (b d i next : ℕ) (r0 q r : Memo) (seen : IsSeen me b d i ne
   roots_same j = took.own (Root me.who j) refl ∙ ap (λ (x : Memo). root_word me.who x j) seen.reads.memo
 
   unlinked : (tr : Trail) (es torn : List Event) (vs : List Visit) → All (λ (x : Visit). Contains r.dying x.block) vs → Ended me.who r0 r → es ≡ link_events me.who b d i next torn → IsTorn me.who b torn vs
-      → IsWithin (1 + change_steps + tear_steps (frees es + length vs)) tr → Unlinked me b d i r0 r tr es
+      → IsWithin (1 + change_steps me.geometry.wide + tear_steps me.geometry.wide (frees es + length vs)) tr → Unlinked me b d i r0 r tr es
   unlinked tr es torn vs dying ended told walk bound =
       record {
         keeps = keeps_more me.who r0 q r was_read (keeps_took me q r d i b next b false was_read.idle seen.holds seen.begun.1.who seen.own took);
@@ -195,7 +196,7 @@ module _ (me : Me) (b d i next : ℕ) (r0 rs r : Memo) (tr t : Trail) (es ds : L
     none_yet xs e = ap (λ (x : List Event). x ++ ds) quiet ∙ e
 
     -- it was refused
-    refused : (x : Aim) → x ≡ link_aim b next → 2 ^ 47 < last_era x + 5 → (f : UpFault) → Untouched me.who rs r × StepCause me x rs f × (ds ≡ []) → IsWithin change_steps t → NotUnlinked me b r0 r (tr ++ t) (es ++ ds) f
+    refused : (x : Aim) → x ≡ link_aim b next → 2 ^ 47 < last_era x + 5 → (f : UpFault) → Untouched me.who rs r × StepCause me x rs f × (ds ≡ []) → IsWithin (change_steps me.geometry.wide) t → NotUnlinked me b r0 r (tr ++ t) (es ++ ds) f
     refused x is_step last f (same, cause, none) short =
         let c = me.who in
         let before : Keeps c r0 rs = keeps_reads c r0 rs seen.begun.1.idle so_far in
@@ -208,7 +209,7 @@ module _ (me : Me) (b d i next : ℕ) (r0 rs r : Memo) (tr t : Trail) (es ds : L
           cause = by f cause;
           refusal = (next, subst (λ (y : Aim). StepCause me y r0 f) is_step (cause_read me x r0 rs f so_far cause));
           none = none_yet [] none;
-          bound = within_more 1 change_steps tr t bound short;
+          bound = within_more 1 (change_steps me.geometry.wide) tr t bound short;
         }
       where
         by : (f : UpFault) → StepCause me x rs f → UnlinkCause me r f
@@ -216,12 +217,12 @@ module _ (me : Me) (b d i next : ℕ) (r0 rs r : Memo) (tr t : Trail) (es ds : L
         by (CountFull k n) (full, is, up) = full
 
     -- the count of the entry came to 0, or it didn't
-    fell : Lost me.who (Body d i) false b next true rs r → ds ≡ link_events me.who b d i next [] → IsWithin change_steps t → IsFallen me b d i next r0 r (tr ++ t) (es ++ ds)
-    fell lost told short = record { memo = rs; seen = seen; lost = lost; holds = held; told = none_yet (link_events me.who b d i next []) told; bound = within_more 1 change_steps tr t bound short }
+    fell : Lost me.who (Body d i) false b next true rs r → ds ≡ link_events me.who b d i next [] → IsWithin (change_steps me.geometry.wide) t → IsFallen me b d i next r0 r (tr ++ t) (es ++ ds)
+    fell lost told short = record { memo = rs; seen = seen; lost = lost; holds = held; told = none_yet (link_events me.who b d i next []) told; bound = within_more 1 (change_steps me.geometry.wide) tr t bound short }
 
-    lowered : Lost me.who (Body d i) false b next false rs r → ds ≡ link_events me.who b d i next [] → IsWithin change_steps t → Unlinked me b d i r0 r (tr ++ t) (es ++ ds)
+    lowered : Lost me.who (Body d i) false b next false rs r → ds ≡ link_events me.who b d i next [] → IsWithin (change_steps me.geometry.wide) t → Unlinked me b d i r0 r (tr ++ t) (es ++ ds)
     lowered lost told short =
-        let within = within_more 1 change_steps tr t bound short in
+        let within = within_more 1 (change_steps me.geometry.wide) tr t bound short in
         unlinked me b d i next r0 rs r seen lost.took (tr ++ t) (es ++ ds) [] [] (All-nil (λ (x : Visit). Contains r.dying x.block))
         (inl (record { roots = roots_same me b d i next r0 rs r seen lost.took; dying = lost.dying ∙ (append-nil rs.dying ∙ ap (λ (x : Memo). x.dying) so_far.memo) }))
         (none_yet (link_events me.who b d i next []) told) (inl (refl, refl)) (omega arith)
@@ -234,13 +235,13 @@ module _ (me : Me) (b d i next : ℕ) (r0 rs r : Memo) (tr t : Trail) (es ds : L
       last_told : ds ≡ event.Down me.who (Body d i) b ∷ [] → ds ≡ link_events me.who b d i next []
       last_told told = told ∙ sym (events_last me.who b d i next [] last)
 
-      last_fell : Lost me.who (Body d i) false b 0 true rs r → ds ≡ event.Down me.who (Body d i) b ∷ [] → IsWithin down_steps t → IsFallen me b d i next r0 r (tr ++ t) (es ++ ds)
+      last_fell : Lost me.who (Body d i) false b 0 true rs r → ds ≡ event.Down me.who (Body d i) b ∷ [] → IsWithin (down_steps me.geometry.wide) t → IsFallen me b d i next r0 r (tr ++ t) (es ++ ds)
       last_fell lost told short = fell (no_next true lost) (last_told told) (omega arith)
 
-      last_lowered : Lost me.who (Body d i) false b 0 false rs r → ds ≡ event.Down me.who (Body d i) b ∷ [] → IsWithin down_steps t → Unlinked me b d i r0 r (tr ++ t) (es ++ ds)
+      last_lowered : Lost me.who (Body d i) false b 0 false rs r → ds ≡ event.Down me.who (Body d i) b ∷ [] → IsWithin (down_steps me.geometry.wide) t → Unlinked me b d i r0 r (tr ++ t) (es ++ ds)
       last_lowered lost told short = lowered (no_next false lost) (last_told told) (omega arith)
 
-      last_refused : (e : ℕ) → Untouched me.who rs r × StepCause me (aims.Down b) rs (EraSpent e) × (ds ≡ []) → IsWithin down_steps t → NotUnlinked me b r0 r (tr ++ t) (es ++ ds) (EraSpent e)
+      last_refused : (e : ℕ) → Untouched me.who rs r × StepCause me (aims.Down b) rs (EraSpent e) × (ds ≡ []) → IsWithin (down_steps me.geometry.wide) t → NotUnlinked me b r0 r (tr ++ t) (es ++ ds) (EraSpent e)
       last_refused e did short = refused (aims.Down b) (aim_last b next last) (omega arith) (EraSpent e) did (omega arith)
 
     -- or there is a next one
@@ -248,7 +249,7 @@ module _ (me : Me) (b d i next : ℕ) (r0 rs r : Memo) (tr t : Trail) (es ds : L
       more_told : ds ≡ event.ChangeUp me.who (Body d i) b next ∷ event.ChangeDown me.who b ∷ [] → ds ≡ link_events me.who b d i next []
       more_told told = told ∙ sym (events_more me.who b d i next [] more)
 
-      more_refused : (f : UpFault) → Untouched me.who rs r × StepCause me (aims.Change b next) rs f × (ds ≡ []) → IsWithin change_steps t → NotUnlinked me b r0 r (tr ++ t) (es ++ ds) f
+      more_refused : (f : UpFault) → Untouched me.who rs r × StepCause me (aims.Change b next) rs f × (ds ≡ []) → IsWithin (change_steps me.geometry.wide) t → NotUnlinked me b r0 r (tr ++ t) (es ++ ds) f
       more_refused f did short = refused (aims.Change b next) (aim_more b next more) (omega arith) f did short
 
   -- ---- the tear-down
@@ -272,14 +273,16 @@ module _ (me : Me) (b d i next : ℕ) (r0 rs r : Memo) (tr t : Trail) (es ds : L
       go : (a : Result (Unit {0}) ASpent) → TearLeaves me b rs r ds t a → Unlinked me b d i r0 r (tr ++ t) (es ++ ds)
       go (Ok done) y =
           let f = same_frees in
-          let within = within_more (1 + change_steps) (tear_steps (frees ds)) tr t h.bound y.bound in
+          let torn = tear_same me.geometry.wide (frees (es ++ ds) + 0) (frees ds) (omega arith) in
+          let within = within_more (1 + change_steps me.geometry.wide) (tear_steps me.geometry.wide (frees ds)) tr t h.bound y.bound in
           let lost = torn_leaves me (Body d i) false b next h.memo rs r seen.begun.1.who h.holds h.lost seen.counted ds t (Ok done) y in
           unlinked me b d i next r0 h.memo r seen lost.took (tr ++ t) (es ++ ds) ds [] (All-nil (λ (x : Visit). Contains r.dying x.block))
           (inl (record { roots = roots_same me b d i next r0 h.memo r seen lost.took; dying = lost.dying ∙ (append-nil h.memo.dying ∙ ap (λ (x : Memo). x.dying) seen.reads.memo) }))
           told (inr y.walks) (omega arith)
       go (Err e) (vs, y) =
           let f = same_frees in
-          let within = within_more (1 + change_steps) (tear_steps (frees ds + length vs)) tr t h.bound y.bound in
+          let torn = tear_same me.geometry.wide (frees (es ++ ds) + length vs) (frees ds + length vs) (omega arith) in
+          let within = within_more (1 + change_steps me.geometry.wide) (tear_steps me.geometry.wide (frees ds + length vs)) tr t h.bound y.bound in
           let took = (torn_leaves me (Body d i) false b next h.memo rs r seen.begun.1.who h.holds h.lost seen.counted ds t (Err e) (vs, y)).0 in
           let late = y.last in
           let is = y.spent in
@@ -329,7 +332,7 @@ unlink_laws =
     opens m Look r0 r tr es (begun, same, none, quiet) =
         let may : MayUnlink m.me begun.0 m.entry m.before m.word r = subst (MayUnlink m.me begun.0 m.entry m.before m.word) (sym same) begun.1 in
         let room = may.room in
-        entry_loads m.me r may.who may.idle.op m.entry true 0 (omega arith) (omega arith, omega arith) (entry_latched m.me.who m.me.who r m.entry 0 may.found.4.latch may.here (omega arith))
+        entry_loads m.me r may.who may.idle.op m.entry true 0 (omega arith) (omega arith, omega arith) (entry_latched m.me.geometry.wide m.me.who m.me.who r m.entry 0 may.found.4.latch may.here (omega arith))
     opens m Lower r0 r tr es (last, seen, none, bound) = (refl, seen.last last)
     opens m Change r0 r tr es (more, seen, none, bound) = (refl, seen.goes more)
     opens m Tear r0 r tr es h =

@@ -1,4 +1,4 @@
-use Rattle.std.proofs.Common.{◌≡◌, ℕ, refl, sym, ap, ◌∙◌, true, [], Option}
+use Rattle.std.proofs.Common.{◌≡◌, ℕ, Bool, refl, sym, ap, ◌∙◌, true, [], Option}
 use Rattle.std.specs.Prelude.{None, Some}
 use Rattle.std.proofs.lemmas.Bool.{cond-true}
 use Rattle.shm_graph.specs.declared.ask.Me.{Me}
@@ -76,9 +76,9 @@ pub returns-clause-kind : goal.returns-clause-kind
 returns-clause-kind c = (called (goal.at.returns-clause-kind c).After-call).kind
 
 -- what is left of the memo
-idle_by : (c : ℕ) (r0 r : Memo) → IsIdle c r0 → r.latch ≡ None → core r ≡ core (wants c 0 (unlatched c r0)) → IsIdle c r
-idle_by c r0 r idle none e =
-    idle_core c (wants c 0 (unlatched c r0)) r e
+idle_by : (wide : Bool) (c : ℕ) (r0 r : Memo) → IsIdle c r0 → r.latch ≡ None → core r ≡ core (wants c 0 (unlatched wide c r0)) → IsIdle c r
+idle_by wide c r0 r idle none e =
+    idle_core c (wants c 0 (unlatched wide c r0)) r e
     (record { live = idle.live; op = idle.op; making = idle.making; hold = cond-true _ _ _ (same_spot_self (Hold c)) })
 
 pub returns-clause-none : goal.returns-clause-none
@@ -106,7 +106,7 @@ returns-clause-waiting c =
     let at = (goal.at.returns-clause-waiting c).After-call in
     let r0 : Memo = memo_of c.args.pool.now c.args.who in
     let r : Memo = memo_of c.call.new.self c.args.who in
-    (called at).follows (λ a. LeavesWaiting r0 r) (λ a g. waits_by r0 (wants c.args.who 0 (unlatched c.args.who r0)) r (record { dying = refl; unsent = λ j. refl; untaken = λ j. refl }) g.leaves.memo)
+    (called at).follows (λ a. LeavesWaiting r0 r) (λ a g. waits_by r0 (wants c.args.who 0 (unlatched c.args.pool.now.start.geometry.wide c.args.who r0)) r (record { dying = refl; unsent = λ j. refl; untaken = λ j. refl }) g.leaves.memo)
 
 pub returns-clause-reached : goal.returns-clause-reached
 returns-clause-reached c =
@@ -116,7 +116,7 @@ returns-clause-reached c =
 pub returns-clause-at_work : goal.returns-clause-at_work
 returns-clause-at_work c =
     let at = (goal.at.returns-clause-at_work c).After-call in
-    (called at).works (λ a g. idle_by c.args.who (memo_of c.args.pool.now c.args.who) (memo_of c.call.new.self c.args.who) c.requires.at_work.idle g.leaves.latch g.leaves.memo)
+    (called at).works (λ a g. idle_by c.args.pool.now.start.geometry.wide c.args.who (memo_of c.args.pool.now c.args.who) (memo_of c.call.new.self c.args.who) c.requires.at_work.idle g.leaves.latch g.leaves.memo)
 
 pub returns-clause-events : goal.returns-clause-events
 returns-clause-events c =

@@ -1,4 +1,4 @@
-use Rattle.std.proofs.Common.{◌≡◌, ◌≢◌, ℕ, zero, suc, ◌+◌, ◌^◌, ◌<◌, ◌≤◌, refl, sym, ap, ◌∙◌, subst, true, arith, List, []}
+use Rattle.std.proofs.Common.{◌≡◌, ◌≢◌, ℕ, zero, suc, ◌+◌, ◌<◌, ◌≤◌, refl, sym, ap, ◌∙◌, subst, true, arith, List, []}
 use Rattle.std.specs.Prelude.{Some, IfOk, IfErr}
 use Rattle.shm_words.specs.declared.geometry.Geometry.{Geometry}
 use Rattle.shm_words.specs.Layout.{total_of, address_limit}
@@ -108,7 +108,7 @@ returns-clause-set c =
 pub returns-clause-refused : goal.returns-clause-refused
 returns-clause-refused c =
     let at = (goal.at.returns-clause-refused c).After-call in
-    (called at).follows (λ a. IfErr a (λ e. SetTold c.args.who c.args.block c.args.index c.args.target (memo_of c.args.pool.now c.args.who) (memo_of c.call.new.self c.args.who) e)) (λ a g. set_told (machine at) _ _ _ _ c.requires.at_work.idle a g.leaves)
+    (called at).follows (λ a. IfErr a (λ e. SetTold c.args.pool.now.start.geometry.wide c.args.who c.args.block c.args.index c.args.target (memo_of c.args.pool.now c.args.who) (memo_of c.call.new.self c.args.who) e)) (λ a g. set_told (machine at) _ _ _ _ c.requires.at_work.idle a g.leaves)
 
 pub returns-clause-left : goal.returns-clause-left
 returns-clause-left c =

@@ -1,6 +1,7 @@
-use Rattle.std.proofs.Common.{◌≡◌, ◌<◌, ℕ, sym, ap, ◌∙◌, subst, Result}
+use Rattle.std.proofs.Common.{◌≡◌, ◌≢◌, ◌<◌, ℕ, sym, ap, ◌∙◌, subst, Result}
 use Rattle.std.specs.Prelude.{IfOk}
 use Rattle.shm_graph.specs.declared.ask.Me.{Me}
+use Rattle.shm_graph.specs.declared.memo.Memo.{Memo}
 use Rattle.shm_graph.specs.declared.run.Account.{Account}
 use Rattle.shm_graph.specs.declared.run.Start.{Start}
 use Rattle.shm_alloc.specs.declared.alloc.AllocFault.{AllocFault}
@@ -9,16 +10,43 @@ use Rattle.shm_alloc.specs.declared.point.AllocState.{AllocState}
 use Rattle.shm_alloc.specs.Alloc.{AllocGives}
 use Rattle.shm_alloc.specs.Alloc.Control.{alloc_control}
 use Rattle.shm_count.specs.declared.answer.Made.{Made}
+use Rattle.shm_count.specs.Roots.{member, root_word}
 use Rattle.shm_count.specs.Step.Control.{IsInside}
 use Rattle.shm_recover.specs.Leave.{MayLeave}
 use Rattle.shm_pool.specs.Calls.{Tells}
 use Rattle.shm_pool.specs.Endings.{ClientMayLeave}
 use Rattle.shm_pool.specs.Tokens.{Its, me_of}
 use Rattle.pool_calls.specs.Between.{me_now}
+use Rattle.pool_calls.proofs.AllocRoots.{made_others, made_root}
 use Rattle.pool_calls.proofs.Keeping.{alloc_may_leave}
 use Rattle.pool_calls.proofs.Standing.{made_inside, reply_both, reply_map}
 use Rattle.pool_calls.proofs.calls.allocate.Goals as goal
+use Rattle.pool_calls.proofs.calls.allocate.Goals.{After-run}
 use Rattle.shm_graph.specs.Runs.{Stood}
+
+-- the identity of the machine
+of : (c : After-run) → c.in_ok-alloc.alloc.me ≡ member c.args.client.now.of.start.geometry c.run.new.self.account.who
+of c =
+    let who : c.run.new.self.account.who ≡ c.args.client.now.account.who = c.run.ensures.same.1 in
+    let sizes = c.new.ensures.geometry ∙ (c.geometry.ensures.is ∙ sym (ap (λ (n : Its). n.start.geometry) c.requires.pool)) in
+    c.in_ok-alloc.ensures.fresh.0 ∙ (λ j. record { geometry = sizes j; who = (c.new.ensures.who ∙ (c.client-who.ensures.is ∙ sym who)) j })
+
+pub returns-clause-root : goal.returns-clause-root
+returns-clause-root c =
+    let s : Start = c.args.client.now.of.start in
+    let e : Account = c.run.new.self.account in
+    let r0 : Memo = c.args.client.now.account.memo in
+    reply_map (λ (a : Result Made AllocFault). AllocGives c.in_ok-alloc.alloc r0 e.memo e.memo.call a) (λ (a : Result Made AllocFault). IfOk a (λ made. (made.root < 16) × (root_word e.who e.memo made.root ≡ made.block))) c.run.result
+    (λ a h. made_root (member s.geometry e.who) c.in_ok-alloc.alloc r0 e.memo e.memo.call (of (goal.at.returns-clause-root c).After-run) a h) c.run.ensures.gives
+
+pub returns-clause-roots : goal.returns-clause-roots
+returns-clause-roots c =
+    let s : Start = c.args.client.now.of.start in
+    let e : Account = c.run.new.self.account in
+    let r0 : Memo = c.args.client.now.account.memo in
+    let Others : Result Made AllocFault → ℕ → Type 0 = λ a n. IfOk a (λ made. (k : ℕ) → k ≢ made.root → root_word e.who e.memo k ≡ root_word n r0 k) in
+    reply_map (λ (a : Result Made AllocFault). AllocGives c.in_ok-alloc.alloc r0 e.memo e.memo.call a) (λ (a : Result Made AllocFault). Others a c.args.client.now.account.who) c.run.result
+    (λ a h. subst (Others a) c.run.ensures.same.1 (made_others (member s.geometry e.who) c.in_ok-alloc.alloc r0 e.memo e.memo.call (of (goal.at.returns-clause-roots c).After-run) a h)) c.run.ensures.gives
 
 pub returns-clause-inside : goal.returns-clause-inside
 returns-clause-inside c =

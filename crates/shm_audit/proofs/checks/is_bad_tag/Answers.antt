@@ -18,9 +18,9 @@ returns-then-unpack c =
     let t = tag_test g ws c.args.at c.in-Tag.b c.requires (sym c.spot.ensures ∙ c.in-Tag.is) in
     let live = ap (λ w. (header_of w).live) (sym c.word.ensures) ∙ (ap (λ h. h.live) (sym c.unpack.ensures.is) ∙ c.if-unpack.true) in
     sym (t
-    ∙ (ap (λ z. z && not (tag_suits g.clients (class_at g (classes_in g ws) c.in-Tag.b) (tag_of (get_or ws c.args.at 0)))) live
-    ∙ (ap (λ k. not (tag_suits g.clients k (tag_of (get_or ws c.args.at 0)))) (sym c.class_at.ensures)
-    ∙ (ap (λ k. not (tag_suits g.clients c.class_at.result (tag_of k))) (sym c.word-then-unpack.ensures)
+    ∙ (ap (λ z. z && not (tag_suits g.clients (class_at g (classes_in g ws) c.in-Tag.b) (tag_of g.wide (get_or ws c.args.at 0)))) live
+    ∙ (ap (λ k. not (tag_suits g.clients k (tag_of g.wide (get_or ws c.args.at 0)))) (sym c.class_at.ensures)
+    ∙ (ap (λ k. not (tag_suits g.clients c.class_at.result (tag_of g.wide k))) (sym c.word-then-unpack.ensures)
     ∙ ap not (sym c.suits.ensures)))))
 
 pub returns-else-unpack : goal.returns-else-unpack
@@ -29,7 +29,7 @@ returns-else-unpack c =
     let ws = numbers c.args.words.now in
     let t = tag_test g ws c.args.at c.in-Tag.b c.requires (sym c.spot.ensures ∙ c.in-Tag.is) in
     let dead = ap (λ w. (header_of w).live) (sym c.word.ensures) ∙ (ap (λ h. h.live) (sym c.unpack.ensures.is) ∙ c.if-unpack.false) in
-    c.if-unpack.false ∙ sym (t ∙ ap (λ z. z && not (tag_suits g.clients (class_at g (classes_in g ws) c.in-Tag.b) (tag_of (get_or ws c.args.at 0)))) dead)
+    c.if-unpack.false ∙ sym (t ∙ ap (λ z. z && not (tag_suits g.clients (class_at g (classes_in g ws) c.in-Tag.b) (tag_of g.wide (get_or ws c.args.at 0)))) dead)
 
 pub returns-in_default : goal.returns-in_default
 returns-in_default c = sym (other_tag c.args.geometry (see c.args.geometry (numbers c.args.words.now)) _ (λ b e. c.in_default.not-Tag b (c.spot.ensures ∙ e)))

@@ -1,5 +1,4 @@
 use Rattle.std.proofs.Common.{◌+◌, sym, ap, ◌∙◌, arith}
-use Rattle.std.proofs.lemmas.Nat.{and_mask}
 use Rattle.shm_words.specs.Headers.{header_of}
 use Rattle.shm_words.specs.Tags.{tag_refs}
 use Rattle.shm_words.proofs.Placing.{total_small}
@@ -21,7 +20,7 @@ pub returns-then-unpack : goal.returns-then-unpack
 returns-then-unpack c =
     let live = ap (λ w. (header_of w).live) (sym c.word.ensures) ∙ (ap (λ h. h.live) (sym c.unpack.ensures.is) ∙ c.if-unpack.true) in
     let r = refs_live c.args.geometry (numbers c.args.words.now) c.args.block c.requires.is c.requires.tag live in
-    and_mask _ 5 ∙ (ap tag_refs c.word-then-unpack.ensures ∙ sym r)
+    c.refs_in.ensures ∙ (ap (tag_refs c.args.geometry.wide) c.word-then-unpack.ensures ∙ sym r)
 
 pub returns-else-unpack : goal.returns-else-unpack
 returns-else-unpack c =

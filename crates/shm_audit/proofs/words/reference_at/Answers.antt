@@ -19,10 +19,10 @@ returns-in-Home c =
     let ws = numbers c.args.words.now in
     let e = sym c.spot.ensures in
     elim c.in-Home.is [
-      | inl h ↦ c.word.ensures ∙ sym (ap (references (see g ws)) (e ∙ h.1) ∙ see_at g ws c.args.at _ c.requires.range (e ∙ h.1))
+      | inl h ↦ c.word.ensures ∙ sym (ap (references g.wide (see g ws)) (e ∙ h.1) ∙ see_at g ws c.args.at _ c.requires.range (e ∙ h.1))
       | inr o ↦ elim o [
-        | inl h ↦ c.word.ensures ∙ sym (ap (references (see g ws)) (e ∙ h.2) ∙ see_at g ws c.args.at _ c.requires.range (e ∙ h.2))
-        | inr h ↦ c.word.ensures ∙ sym (ap (references (see g ws)) (e ∙ h.3) ∙ see_at g ws c.args.at _ c.requires.range (e ∙ h.3))
+        | inl h ↦ c.word.ensures ∙ sym (ap (references g.wide (see g ws)) (e ∙ h.2) ∙ see_at g ws c.args.at _ c.requires.range (e ∙ h.2))
+        | inr h ↦ c.word.ensures ∙ sym (ap (references g.wide (see g ws)) (e ∙ h.3) ∙ see_at g ws c.args.at _ c.requires.range (e ∙ h.3))
       ]
     ]
 
@@ -31,17 +31,17 @@ returns-then-i-block_refs c =
     let g = c.args.geometry in
     let ws = numbers c.args.words.now in
     let e = sym c.spot.ensures ∙ c.in-Body.is in
-    c.word-then-i-block_refs.ensures ∙ sym (ap (references (see g ws)) e ∙ body_reference g ws c.args.at c.in-Body.b c.in-Body.i c.block_refs.result e (sym c.block_refs.ensures) c.if-i-block_refs.true)
+    c.word-then-i-block_refs.ensures ∙ sym (ap (references g.wide (see g ws)) e ∙ body_reference g ws c.args.at c.in-Body.b c.in-Body.i c.block_refs.result e (sym c.block_refs.ensures) c.if-i-block_refs.true)
 
 pub returns-else-i-block_refs : goal.returns-else-i-block_refs
 returns-else-i-block_refs c =
     let g = c.args.geometry in
     let ws = numbers c.args.words.now in
     let e = sym c.spot.ensures ∙ c.in-Body.is in
-    sym (ap (references (see g ws)) e ∙ body_plain g ws c.in-Body.b c.in-Body.i c.block_refs.result (sym c.block_refs.ensures) c.if-i-block_refs.false)
+    sym (ap (references g.wide (see g ws)) e ∙ body_plain g ws c.in-Body.b c.in-Body.i c.block_refs.result (sym c.block_refs.ensures) c.if-i-block_refs.false)
 
 pub returns-in_default : goal.returns-in_default
 returns-in_default c =
     let g = c.args.geometry in
     let ws = numbers c.args.words.now in
-    sym (ap (references (see g ws)) (sym c.spot.ensures) ∙ other_reference (words_of (see g ws)) c.spot.result c.in_default.not-Home c.in_default.not-Root c.in_default.not-Slot c.in_default.not-Body)
+    sym (ap (references g.wide (see g ws)) (sym c.spot.ensures) ∙ other_reference (words_of g.wide (see g ws)) c.spot.result c.in_default.not-Home c.in_default.not-Root c.in_default.not-Slot c.in_default.not-Body)

@@ -2,10 +2,14 @@ use Rattle.shm_laws.proofs.RedoAndRows.{begin_kept, row_stored}
 use Rattle.shm_laws.proofs.CloseOp.{close_kept}
 use Rattle.shm_laws.proofs.QueueTails.{tail_kept}
 use Rattle.shm_laws.proofs.QueueHeads.{head_kept}
+use Rattle.shm_laws.proofs.MoreStore.{more_kept}
 use Rattle.shm_laws.proofs.laws.own_stores_kept.Goals as goal
 
 pub returns-clause-redo : goal.returns-clause-redo
 returns-clause-redo c = begin_kept
+
+pub returns-clause-more : goal.returns-clause-more
+returns-clause-more c = more_kept
 
 pub returns-clause-row : goal.returns-clause-row
 returns-clause-row c = row_stored

@@ -1,8 +1,12 @@
 use Rattle.shm_laws.proofs.Quiet.{begin_quiet, row_quiet, close_quiet, tail_quiet, head_quiet, root_quiet, body_quiet, class_quiet, back_quiet, latch_quiet}
+use Rattle.shm_laws.proofs.MoreStore.{more_quiet}
 use Rattle.shm_laws.proofs.laws.stores_are_quiet.Goals as goal
 
 pub returns-clause-redo : goal.returns-clause-redo
 returns-clause-redo c = begin_quiet
+
+pub returns-clause-more : goal.returns-clause-more
+returns-clause-more c = more_quiet
 
 pub returns-clause-row : goal.returns-clause-row
 returns-clause-row c = row_quiet

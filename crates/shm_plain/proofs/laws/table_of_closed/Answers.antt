@@ -12,4 +12,4 @@ returns c d l chains is =
     let p = c.args.closed.now in
     let w = see p.start.geometry p.words in
     let end = c.geometry.ensures.end in
-    subst (PartTie (contents_of w (references w)) d (w (Home d))) is (still_part p end.run end.still d l)
+    subst (PartTie (contents_of p.start.geometry.wide w (references p.start.geometry.wide w)) d (w (Home d))) is (still_part p end.run end.still d l)

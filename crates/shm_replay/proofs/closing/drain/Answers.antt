@@ -15,11 +15,11 @@ use Rattle.shm_queue.specs.Drain.Control.{DrainAnswer, DrainCall, drain_parts, d
 use Rattle.shm_queue.specs.Drain.{drain_plan}
 use Rattle.shm_plain.specs.Calls.{Ran, Took}
 use Rattle.shm_plain.specs.Pools.{IsOf, memo_of, readied}
-use Rattle.shm_alone.proofs.Lasting.{Lasts, answers_alone}
+use Rattle.shm_alone.proofs.Lasting.{Lasts}
 use Rattle.shm_plain.proofs.Calling.{fits_acting, may_acting}
 use Rattle.shm_replay.proofs.Visiting.{drain_fits, drain_in, drain_ok, drain_part}
 use Rattle.shm_replay.proofs.closing.drain.Goals.{After-new-2, After-call, After-unwrap, After-unwrap-2}
-use Rattle.shm_replay.proofs.Enough.{drain_lasts}
+use Rattle.shm_replay.proofs.Enough.{answers_in_time, drain_lasts}
 use Rattle.shm_replay.proofs.closing.drain.Goals as goal
 
 abbrev Machine : Type 0
@@ -42,12 +42,12 @@ pub call-requires-clause-fits : goal.call-requires-clause-fits
 call-requires-clause-fits c = (memo_of c.args.pool.now c.args.me.who, fit (goal.at.call-requires-clause-fits c).After-new-2)
 
 -- it has answered, and so many word steps of its life went
-enough : (c : After-call) → IsSome c.call.result × (c.args.life.now.left ≤ c.call.new.life.left + 2 ^ 34)
+enough : (c : After-call) → IsSome c.call.result × (c.args.life.now.left ≤ c.call.new.life.left + 2 ^ 38)
 enough c =
     let at = (goal.at.After-call c).After-new-2 in
     let p = c.args.pool.now in
     let who = c.args.me.who in
-    answers_alone (calls_control drain_parts drain_plan) (CallsFits drain_parts drain_plan) c.new-2.result
+    answers_in_time (calls_control drain_parts drain_plan) (CallsFits drain_parts drain_plan) c.new-2.result
     (subst (λ (x : Machine). Lasts (calls_control drain_parts drain_plan) (CallsFits drain_parts drain_plan) x) (sym (state at)) (drain_lasts (member p.start.geometry who)))
     who p c.call.new.self (memo_of p who) (is_some c.call.result) c.args.life.now.left c.call.new.life.left c.geometry.ensures.run (may_acting p who c.requires.here.acts)
     (subst (λ (x : Machine). IsOf p who (calls_control drain_parts drain_plan) x) (sym (state at)) (refl, c.requires.who, refl))

@@ -11,8 +11,8 @@ use Rattle.shm_recover.specs.declared.join.JoinState.{JoinState}
 use Rattle.shm_recover.specs.Join.{JoinFits, JoinGives, is_start, join_control, join_fresh}
 use Rattle.shm_plain.specs.Calls.{Ran, Took}
 use Rattle.shm_plain.specs.Pools.{IsOf, MayStep, memo_of, readied}
-use Rattle.shm_alone.proofs.Lasting.{Lasts, answers_alone}
-use Rattle.shm_replay.proofs.Enough.{join_lasts}
+use Rattle.shm_alone.proofs.Lasting.{Lasts}
+use Rattle.shm_replay.proofs.Enough.{answers_in_time, join_lasts}
 use Rattle.shm_replay.proofs.Visiting.{join_fits, join_in, join_part}
 use Rattle.shm_replay.proofs.closing.join.Goals.{After-new, After-call, After-unwrap}
 use Rattle.shm_replay.proofs.closing.join.Goals as goal
@@ -33,13 +33,13 @@ may : (c : After-call) → MayStep c.args.pool.now c.args.me.who
 may c e = subst (λ (b : Bool). MayBegin (cond b Recoverer Client) (memo_of c.args.pool.now c.args.me.who)) (sym c.requires.out.whole) c.requires.out.status
 
 -- it has answered, and so many word steps of its life went
-enough : (c : After-call) → IsSome c.call.result × (c.args.life.now.left ≤ c.call.new.life.left + 2 ^ 34)
+enough : (c : After-call) → IsSome c.call.result × (c.args.life.now.left ≤ c.call.new.life.left + 2 ^ 38)
 enough c =
     let at = (goal.at.After-call c).After-new in
     let p = c.args.pool.now in
     let who = c.args.me.who in
     let r0 : Memo = memo_of (readied p who) who in
-    answers_alone join_control JoinFits c.new.result
+    answers_in_time join_control JoinFits c.new.result
     (subst (λ (x : JoinState). Lasts join_control JoinFits x) (sym (state at)) (join_lasts (member p.start.geometry who)))
     who p c.call.new.self r0 (is_some c.call.result) c.args.life.now.left c.call.new.life.left c.geometry.ensures.run (may c)
     (subst (λ (x : JoinState). IsOf p who join_control x) (sym (state at)) (refl, c.requires.who, refl))

@@ -14,11 +14,11 @@ use Rattle.shm_recover.specs.Leave.Control.{LeaveAnswer, LeaveCall, leave_parts,
 use Rattle.shm_recover.specs.Leave.{leave_plan}
 use Rattle.shm_plain.specs.Calls.{Ran, Took}
 use Rattle.shm_plain.specs.Pools.{IsOf, memo_of, readied}
-use Rattle.shm_alone.proofs.Lasting.{Lasts, answers_alone}
+use Rattle.shm_alone.proofs.Lasting.{Lasts}
 use Rattle.shm_plain.proofs.Calling.{fits_acting, may_acting}
 use Rattle.shm_replay.proofs.Visiting.{leave_fits, leave_ok}
 use Rattle.shm_replay.proofs.closing.leave.Goals.{After-new-2, After-call, After-unwrap, After-unwrap-2}
-use Rattle.shm_replay.proofs.Enough.{leave_lasts}
+use Rattle.shm_replay.proofs.Enough.{answers_in_time, leave_lasts}
 use Rattle.shm_replay.proofs.closing.leave.Goals as goal
 
 abbrev Machine : Type 0
@@ -41,12 +41,12 @@ pub call-requires-clause-fits : goal.call-requires-clause-fits
 call-requires-clause-fits c = (memo_of c.args.pool.now c.args.me.who, fit (goal.at.call-requires-clause-fits c).After-new-2)
 
 -- it has answered, and so many word steps of its life went
-enough : (c : After-call) → IsSome c.call.result × (c.args.life.now.left ≤ c.call.new.life.left + 2 ^ 34)
+enough : (c : After-call) → IsSome c.call.result × (c.args.life.now.left ≤ c.call.new.life.left + 2 ^ 38)
 enough c =
     let at = (goal.at.After-call c).After-new-2 in
     let p = c.args.pool.now in
     let who = c.args.me.who in
-    answers_alone (calls_control leave_parts leave_plan) (CallsFits leave_parts leave_plan) c.new-2.result
+    answers_in_time (calls_control leave_parts leave_plan) (CallsFits leave_parts leave_plan) c.new-2.result
     (subst (λ (x : Machine). Lasts (calls_control leave_parts leave_plan) (CallsFits leave_parts leave_plan) x) (sym (state at)) (leave_lasts (member p.start.geometry who)))
     who p c.call.new.self (memo_of p who) (is_some c.call.result) c.args.life.now.left c.call.new.life.left c.geometry.ensures.run (may_acting p who c.requires.here.acts)
     (subst (λ (x : Machine). IsOf p who (calls_control leave_parts leave_plan) x) (sym (state at)) (refl, c.requires.who, refl))

@@ -12,12 +12,12 @@ use Rattle.shm_recover.specs.Recover.Control.{recover_parts, recovering}
 use Rattle.shm_recover.specs.Recover.{recover_plan}
 use Rattle.shm_plain.specs.Calls.{Ran, Took}
 use Rattle.shm_plain.specs.Pools.{IsOf, memo_of, readied}
-use Rattle.shm_alone.proofs.Lasting.{Lasts, answers_alone}
+use Rattle.shm_alone.proofs.Lasting.{Lasts}
 use Rattle.shm_replay.specs.Work.{RecoverCalls}
 use Rattle.shm_replay.proofs.Aside.{told_first}
 use Rattle.shm_replay.proofs.Reviving.{may_begin, r0, revive_fits, revive_ok, revive_out, revive_table, still}
 use Rattle.shm_replay.proofs.closing.recover.Goals.{After-new-2, After-call, After-unwrap, After-unwrap-2}
-use Rattle.shm_replay.proofs.Enough.{recover_lasts}
+use Rattle.shm_replay.proofs.Enough.{answers_in_time, recover_lasts}
 use Rattle.shm_replay.proofs.closing.recover.Goals as goal
 
 abbrev machine : (c : After-new-2) → RecoverCalls
@@ -42,12 +42,12 @@ pub call-requires-clause-fits : goal.call-requires-clause-fits
 call-requires-clause-fits c = let at = (goal.at.call-requires-clause-fits c).After-new-2 in (start at, fit at)
 
 -- it has answered, and so many word steps of its life went
-enough : (c : After-call) → IsSome c.call.result × (c.args.life.now.left ≤ c.call.new.life.left + 2 ^ 34)
+enough : (c : After-call) → IsSome c.call.result × (c.args.life.now.left ≤ c.call.new.life.left + 2 ^ 38)
 enough c =
     let at = (goal.at.After-call c).After-new-2 in
     let p = c.args.pool.now in
     let who = c.args.me.who in
-    answers_alone (calls_control recover_parts recover_plan) (CallsFits recover_parts recover_plan) c.new-2.result
+    answers_in_time (calls_control recover_parts recover_plan) (CallsFits recover_parts recover_plan) c.new-2.result
     (subst (λ (x : RecoverCalls). Lasts (calls_control recover_parts recover_plan) (CallsFits recover_parts recover_plan) x) (sym (state at)) (recover_lasts (member p.start.geometry who)))
     who p c.call.new.self (start at) (is_some c.call.result) c.args.life.now.left c.call.new.life.left c.geometry.ensures.run (may_begin p who c.geometry.ensures.run c.requires.who c.requires.dead)
     (subst (λ (x : RecoverCalls). IsOf p who (calls_control recover_parts recover_plan) x) (sym (state at)) (refl, c.requires.who, refl))

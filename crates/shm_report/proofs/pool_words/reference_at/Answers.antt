@@ -41,7 +41,7 @@ pub returns-in_default : goal.returns-in_default
 returns-in_default c = λ pool.
     let g = c.args.geometry in
     let ws = c.args.words.now in
-    sym (reference_word g ws c.args.at c.spot.result c.requires.fits c.requires.range (sym c.spot.ensures) ∙ other_reference (words_of (see g ws)) c.spot.result c.in_default.not-Home c.in_default.not-Root c.in_default.not-Slot c.in_default.not-Body)
+    sym (reference_word g ws c.args.at c.spot.result c.requires.fits c.requires.range (sym c.spot.ensures) ∙ other_reference (words_of g.wide (see g ws)) c.spot.result c.in_default.not-Home c.in_default.not-Root c.in_default.not-Slot c.in_default.not-Body)
 
 pub returns-then-word-eq0 : goal.returns-then-word-eq0
 returns-then-word-eq0 c = λ pool. sym (zero_word c.args.geometry c.args.words.now c.args.at c.requires.fits c.requires.range (sym c.word.ensures ∙ c.if-word-eq0.true))

@@ -19,4 +19,4 @@ pub returns : goal.returns
 unfolding references_in_all
 returns c = λ pool.
     let e : c.loop-at.at ≡ total_of c.args.geometry = omega arith in
-    c.loop-at.invariant.1 pool ∙ ap (λ n. sum_below n (λ a. cond (references (see c.args.geometry c.args.words.now) (spot_at c.args.geometry (classes (see c.args.geometry c.args.words.now)) a) == 0) 0 1)) e
+    c.loop-at.invariant.1 pool ∙ ap (λ n. sum_below n (λ a. cond (references c.args.geometry.wide (see c.args.geometry c.args.words.now) (spot_at c.args.geometry (classes (see c.args.geometry c.args.words.now)) a) == 0) 0 1)) e

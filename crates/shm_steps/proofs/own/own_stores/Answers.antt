@@ -1,8 +1,8 @@
 use Rattle.shm_steps.proofs.OwnStores.{row_stored, hold_stored}
 use Rattle.shm_steps.proofs.OwnStoresEra.{era_closed}
 use Rattle.shm_steps.proofs.OwnStoresLanes.{tail_stored, head_stored}
-use Rattle.shm_steps.proofs.OwnStoresRedo.{redo_stored}
+use Rattle.shm_steps.proofs.OwnStoresRedo.{more_stored, redo_stored}
 use Rattle.shm_steps.proofs.own.own_stores.Goals as goal
 
 pub returns : goal.returns
-returns c = record { row = row_stored; hold = hold_stored; tail = tail_stored; head = head_stored; era = era_closed; redo = redo_stored }
+returns c = record { row = row_stored; hold = hold_stored; tail = tail_stored; head = head_stored; era = era_closed; more = more_stored; redo = redo_stored }

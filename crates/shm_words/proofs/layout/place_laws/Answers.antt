@@ -1,4 +1,4 @@
-use Rattle.shm_words.proofs.Placing.{place-address, address_below, address-place, in_place, total_most}
+use Rattle.shm_words.proofs.Placing.{place-address, address_below, address-place, in_place, total_most, total_most_wide, total_in_format}
 use Rattle.shm_words.proofs.layout.place_laws.Goals as goal
 
 pub returns-clause-place : goal.returns-clause-place
@@ -15,3 +15,9 @@ returns-clause-within c = in_place
 
 pub returns-clause-size : goal.returns-clause-size
 returns-clause-size c = total_most
+
+pub returns-clause-size_wide : goal.returns-clause-size_wide
+returns-clause-size_wide c = total_most_wide
+
+pub returns-clause-small : goal.returns-clause-small
+returns-clause-small c = total_in_format

@@ -1,5 +1,5 @@
 use Rattle.std.proofs.Common.{arith, subst}
-use Rattle.shm_words.proofs.Placing.{total_most}
+use Rattle.shm_words.proofs.Placing.{total_most_wide}
 use Rattle.shm_alloc.specs.declared.point.AllocPoint.{AllocPoint}
 use Rattle.shm_alloc.specs.Alloc.Control.{PointFits}
 use Rattle.shm_alloc.specs.Alloc.Passing.{AtHeader}
@@ -15,6 +15,6 @@ overflow_add-self c =
     let k = subst (PointFits me q) h.is c.self.invariant.0.point in
     let a = (subst (λ (y : AllocPoint). AtHeader me q y f.header f.left) h.is c.self.invariant.1.header).0 in
     let b = (block_of_within me q h.search h.page h.index k.1.segment k.2 k.3).0 in
-    let t = total_most me.geometry c.self.invariant.0.geometry in
+    let t = total_most_wide me.geometry c.self.invariant.0.geometry in
     let e = c.self.invariant.1.class in
     omega arith
