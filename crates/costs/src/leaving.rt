@@ -11,11 +11,10 @@ mod loops;
 
 use crate::times::{Least, nanos};
 use flat::Flat;
-use loops::{Steps, Whole, run};
+use loops::{run, run_plan, run_whole};
 use shm_alloc::Alloc;
-use shm_calls::Calls;
 use shm_graph::{Me, Start, first_words};
-use shm_recover::{Join, Leave, Leaving};
+use shm_recover::{Join, Leaving};
 use shm_words::Geometry;
 use std::alloc::{AllocError, Global};
 use std::io;
@@ -26,26 +25,25 @@ const STEPS: u64 = 1_000_000;
 /// How many rounds are made; the least time of each kind counts.
 const ROUNDS: u32 = 20;
 
-/// A leaving that may begin.
-trait Leaves: Steps + Drop {
-    fn of(me: Me) -> Self
+/// A leaving of one kind.
+trait Leaves {
+    /// Leaves; how many word steps that took.
+    fn leave(words: &mut [u64], me: Me) -> Option<u64>
         requires geometry { GeometryFits me.geometry }
         requires who { me.who < me.geometry.clients };
 }
 
-impl Leaves for Whole<Leave> {
+impl Leaves for Leaving {
     #[inline(always)]
-    fn of(me: Me) -> Whole<Leave> {
-        Whole {
-            machine: Calls::new(Leaving::new(me)),
-        }
+    fn leave(words: &mut [u64], me: Me) -> Option<u64> {
+        run_plan(words, Leaving::new(me))
     }
 }
 
 impl Leaves for Flat {
     #[inline(always)]
-    fn of(me: Me) -> Flat {
-        Flat::new(me)
+    fn leave(words: &mut [u64], me: Me) -> Option<u64> {
+        run(words, &mut Flat::new(me))
     }
 }
 
@@ -68,17 +66,14 @@ fn words_of(alloc: Global, me: Me, blocks: u32) -> Result<Option<Vec<u64>>, Allo
         tables: false,
     };
     let mut words = first_words(alloc, start)?;
-    let mut join = Whole {
-        machine: Join::new(me),
-    };
-    if run(words.as_mut_slice(), &mut join).is_none() {
+    if run_whole(words.as_mut_slice(), Join::new(me)).is_none() {
         return Ok(None);
     }
     for _ in 0..blocks {
         let Ok(machine) = Alloc::new(me, 2, &[7]) else {
             return Ok(None);
         };
-        if run(words.as_mut_slice(), &mut Whole { machine }).is_none() {
+        if run_whole(words.as_mut_slice(), machine).is_none() {
             return Ok(None);
         }
     }
@@ -95,11 +90,8 @@ fn pass<S: Leaves>(words: &mut [u64], before: &[(usize, u64)], me: Me) -> Option
             *word = *value;
         }
     }
-    let mut join = Whole {
-        machine: Join::new(me),
-    };
-    let joined = run(words, &mut join)?;
-    let left = run(words, &mut S::of(me))?;
+    let joined = run_whole(words, Join::new(me))?;
+    let left = S::leave(words, me)?;
     joined.checked_add(left)
 }
 
@@ -112,7 +104,7 @@ fn case_of(alloc: Global, me: Me, blocks: u32) -> Result<Option<Case>, AllocErro
         return Ok(None);
     };
     let mut words = was.as_slice().to_vec(alloc)?;
-    let Some(steps) = pass::<Whole<Leave>>(words.as_mut_slice(), &[], me) else {
+    let Some(steps) = pass::<Leaving>(words.as_mut_slice(), &[], me) else {
         return Ok(None);
     };
     let mut before = Vec::new(alloc);
@@ -171,7 +163,7 @@ fn time_case(rt: &HostRuntime, name: &'static str, me: Me, blocks: u32) -> io::R
     let counts = (STEPS / steps.max(1), steps);
     let mut least = Least::new();
     for _ in 0..ROUNDS {
-        let one = time_passes::<Whole<Leave>>(rt, me, words, before, counts)?;
+        let one = time_passes::<Leaving>(rt, me, words, before, counts)?;
         let other = time_passes::<Flat>(rt, me, words, before, counts)?;
         let (Some(one), Some(other)) = (one, other) else {
             return Ok(false);

@@ -30,9 +30,9 @@ fn time_part(rt: &HostRuntime, name: &str) -> io::Result<bool> {
     match name {
         "script" => script::time_all(rt),
         "audit" => audit::time_all(rt),
-        "steps" => steps::time_all(rt, small),
+        "steps" => steps::time_all(rt, small, steps::ROUNDS),
         "leaving" => leaving::time_all(rt),
-        "shared" => shared::time_all(rt, small),
+        "shared" => shared::time_all(rt, small, shared::ROUNDS),
         "wide" => wide::time_all(rt),
         _ => Ok(false),
     }

@@ -22,14 +22,15 @@ use std::sync::atomic::{AtomicU64, Ordering};
 /// How many word steps of each kind a round makes.
 const STEPS: u32 = 1_000_000;
 
-/// How many rounds are made; the least time of each kind counts.
-const ROUNDS: u32 = 50;
+/// How many rounds are made on a small pool.
+pub const ROUNDS: u32 = 50;
 
 /// Takes the last token.
 fn pop_of(pool: &SharedPool, all: &mut Vec<Vacant>) -> Option<Vacant>
     requires { AllOf pool.now all.old.items }
     ensures { IfSome result (λ t. t.of ≡ pool.now) }
 {
+    // for the proof: the contract alone speaks of the pool
     let _ = pool;
     all.pop()
 }
@@ -143,13 +144,13 @@ fn time_words(rt: &HostRuntime, geometry: Geometry) -> io::Result<Option<u64>>
     Ok(if last == Some(1) { Some(time) } else { None })
 }
 
-/// Times both, through pools of these sizes, and writes what a step of each kind took; false where a watch found another word than
-/// the status of a client.
-pub fn time_all(rt: &HostRuntime, geometry: Geometry) -> io::Result<bool>
+/// Times both in so many rounds, through pools of these sizes, and writes what a step of each kind took, by the least time of each; false where
+/// a watch found another word than the status of a client.
+pub fn time_all(rt: &HostRuntime, geometry: Geometry, rounds: u32) -> io::Result<bool>
     requires { GeometryFits geometry }
 {
     let mut least = Least::new();
-    for _ in 0..ROUNDS {
+    for _ in 0..rounds {
         let (Some(pool), Some(words)) = (time_pool(rt, geometry)?, time_words(rt, geometry)?) else {
             return Ok(false);
         };

@@ -24,8 +24,8 @@ use std::io;
 /// How many word steps of each kind a round makes.
 const STEPS: u32 = 1_000_000;
 
-/// How many rounds are made; the least time of each kind counts.
-const ROUNDS: u32 = 200;
+/// How many rounds are made on a small pool.
+pub const ROUNDS: u32 = 200;
 
 /// A pool of these sizes that its identity 0 has joined.
 fn joined_pool(alloc: Global, geometry: Geometry) -> Result<PlainPool, AllocError>
@@ -130,13 +130,13 @@ fn time_words(rt: &HostRuntime, geometry: Geometry) -> io::Result<Option<u64>>
     Ok(if last == Some(1) { Some(time) } else { None })
 }
 
-/// Times both, through pools of these sizes, and writes what a step of each kind took; false where a watch found another word than
-/// the status of a client.
-pub fn time_all(rt: &HostRuntime, geometry: Geometry) -> io::Result<bool>
+/// Times both in so many rounds, through pools of these sizes, and writes what a step of each kind took, by the least time of each; false where
+/// a watch found another word than the status of a client.
+pub fn time_all(rt: &HostRuntime, geometry: Geometry, rounds: u32) -> io::Result<bool>
     requires { GeometryFits geometry }
 {
     let mut least = Least::new();
-    for _ in 0..ROUNDS {
+    for _ in 0..rounds {
         let (Some(pool), Some(words)) = (time_pool(rt, geometry)?, time_words(rt, geometry)?) else {
             return Ok(false);
         };

@@ -12,8 +12,8 @@ use shm_pool::SharedPool;
 use shm_words::Geometry;
 use std::io;
 
-/// How many rounds are made; the least time of each kind counts.
-const ROUNDS: u32 = 20;
+/// How many rounds are made, each of which takes about a second; the least time of each kind counts.
+const ROUNDS: u32 = 5;
 
 /// How many bytes the words of the largest pool have.
 const BYTES: usize = 132_185_352;
@@ -83,8 +83,8 @@ pub fn time_all(rt: &HostRuntime) -> io::Result<bool> {
     let bytes = bytes.as_slice();
     Ok(
         time_ends(rt, false, geometry, bytes)?
-            && steps::time_all(rt, geometry)?
+            && steps::time_all(rt, geometry, ROUNDS)?
             && time_ends(rt, true, geometry, bytes)?
-            && shared::time_all(rt, geometry)?,
+            && shared::time_all(rt, geometry, ROUNDS)?,
     )
 }

@@ -6,15 +6,11 @@
 #![tactic(auto)]
 
 use shm_io::{StdSink, StdSource};
-use shm_program::top::top;
-use shm_program::{exit_code, program_words};
-use std::alloc::Global;
+use shm_program::run;
 use std::env;
 use std::process::ExitCode;
 
 fn main(rt: HostRuntime) -> ExitCode {
-    exit_code(&program_words(rt.alloc(), env::args(&rt)).map(|words| {
-        let (mut source, mut sink) = (StdSource::new(&rt), StdSink::new(&rt));
-        top(rt.alloc(), words.as_slice(), &mut source, &mut sink)
-    }))
+    let (mut source, mut sink) = (StdSource::new(&rt), StdSink::new(&rt));
+    run(rt.alloc(), env::args(&rt), &mut source, &mut sink)
 }

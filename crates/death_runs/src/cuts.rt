@@ -8,7 +8,6 @@ use crate::op::{Op, perform};
 use crate::pool::Pool;
 use crate::references::References;
 use crate::rules::{is_gone, is_recovered};
-use shm_calls::Calls;
 use shm_graph::{Machine, Me, Turn};
 use shm_recover::{Join, Leaving};
 use shm_runs::{geometry, make};
@@ -81,7 +80,7 @@ fn work(pool: &mut Pool, me: Me, put: &mut Command, steps: u32) -> Option<()>
     let joined = pool.advance(&mut Join::new(me), steps)?;
     let left = steps.saturating_sub(joined);
     let made = pool.advance(put, left)?;
-    pool.advance(&mut Calls::new(Leaving::new(me)), left.saturating_sub(made))?;
+    pool.follow(Leaving::new(me), left.saturating_sub(made))?;
     Some(())
 }
 
@@ -121,6 +120,27 @@ pub struct Left {
     pub died: bool,
 }
 
+/// Whether a put showed its answer when its client was cut, and whether it had answered.
+#[derive(Drop)]
+struct Cut {
+    shown: bool,
+    answered: bool,
+}
+
+/// A client that puts a number at the key 5 is cut after so many word steps.
+fn cut_put(pool: &mut Pool, me: Me, number: u64, death: u32) -> Option<Cut>
+    requires geometry { GeometryFits me.geometry }
+    requires who { me.who < me.geometry.clients }
+{
+    let mut put = Command::new(me, &Line::Put { key: 5, number });
+    let worked = work(pool, me, &mut put, death);
+    let cut = Cut {
+        shown: put.effect().is_some(),
+        answered: put.finished(),
+    };
+    if worked.is_some() { Some(cut) } else { None }
+}
+
 /// A client of a pool of one identity that puts a number is cut after so many word steps and recovered, where recoverers of these lives
 /// die. None where a rule is broken.
 pub fn cut_alone(
@@ -135,11 +155,9 @@ pub fn cut_alone(
     };
     let me = Me::new(geometry, 0);
     let mut pool = Pool::new(alloc, geometry)?;
-    let mut put = Command::new(me, &Line::Put { key: 5, number });
-    if work(&mut pool, me, &mut put, death).is_none() {
+    let Some(Cut { shown, answered }) = cut_put(&mut pool, me, number, death) else {
         return Ok(None);
-    }
-    let (shown, answered) = (put.effect().is_some(), put.finished());
+    };
     let Some(died) = recover(&mut pool, me, lives) else {
         return Ok(None);
     };
@@ -185,6 +203,16 @@ pub struct Copied {
     pub sizes: Sizes,
 }
 
+/// `me` is recovered while another client's command goes on before and after it, where a recoverer of this life dies.
+fn recover_within(pool: &mut Pool, me: Me, life: u32, beside: &mut Beside) -> Option<()>
+    requires geometry { GeometryFits me.geometry }
+    requires who { me.who < me.geometry.clients }
+{
+    beside.go_on(pool)?;
+    recover(pool, me, &[life])?;
+    beside.go_on(pool)
+}
+
 /// `me` is cut after so many word steps of its work, `other` joins and copies the key, and `me` is recovered, where a recoverer of this life
 /// dies; what the copy answered.
 fn copy_within(pool: &mut Pool, me: Me, other: Me, death: u32, life: u32) -> Option<Option<Answer>>
@@ -193,25 +221,23 @@ fn copy_within(pool: &mut Pool, me: Me, other: Me, death: u32, life: u32) -> Opt
     requires other_geometry { GeometryFits other.geometry }
     requires other_who { other.who < other.geometry.clients }
 {
-    let put = Line::Put {
-        key: 5,
-        number: NUMBER,
-    };
     let copy = Line::Copy {
         key: 9,
         author: 0,
         other: 5,
     };
+    cut_put(pool, me, NUMBER, death)?;
+    pool.advance(&mut Join::new(other), 1)?;
     let mut beside = Beside {
         command: Command::new(other, &copy),
         answer: None,
     };
-    work(pool, me, &mut Command::new(me, &put), death)?;
-    pool.advance(&mut Join::new(other), 1)?;
-    beside.go_on(pool)?;
-    recover(pool, me, &[life])?;
-    beside.go_on(pool)?;
-    Some(beside.answer)
+    let done = recover_within(pool, me, life, &mut beside);
+    if done.is_some() {
+        Some(beside.answer)
+    } else {
+        None
+    }
 }
 
 /// Client 0 of a pool of two is cut after so many word steps, client 1 joins and copies the key, and client 0 is recovered, where a

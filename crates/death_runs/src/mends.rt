@@ -4,17 +4,23 @@
 ghost use Rattle.std.specs.Prelude.{◌<◌};
 ghost use Rattle.shm_words.specs.Layout.{GeometryFits};
 
+use crate::op::{Op, perform};
 use crate::pool::Pool;
 use shm_calls::Calls;
 use shm_count::{Commit, CommitTest, Testing};
 use shm_graph::{Machine, Me, Turn};
-use shm_recover::{Join, Mend, Mending};
+use shm_recover::{Join, Mending};
 use shm_runs::{geometry, make};
 use shm_script::Line;
-use shm_table::Command;
 use shm_words::Geometry;
 use std::alloc::{AllocError, Global};
 use std::fmt;
+
+/// More word steps than a copy makes here.
+const COPY: u32 = 1_000;
+
+/// More word steps than a mending makes here.
+const MENDING: u32 = 100;
 
 /// What identity 1 has seen of the eras of identity 0, root 0 of that one, and its own era.
 #[derive(Drop)]
@@ -53,10 +59,9 @@ fn copy_by_other(pool: &mut Pool, geometry: Geometry) -> Option<()>
         author: 0,
         other: 5,
     };
-    let mut copy = Command::new(me, &line);
     pool.advance(&mut Join::new(me), 1)?;
-    pool.advance(&mut copy, 1_000)?;
-    if copy.finished() { Some(()) } else { None }
+    let made = perform(pool, me, Op::Run(line), COPY)?;
+    if made < COPY { Some(()) } else { None }
 }
 
 /// Identity 0 joins and dies after so many word steps with its put of 77 at the key 5, and identity 1 copies the value if it is told to.
@@ -68,7 +73,7 @@ fn die(pool: &mut Pool, geometry: Geometry, death: u32, copied: bool) -> Option<
     let me = Me::new(geometry, 0);
     let put = Line::Put { key: 5, number: 77 };
     pool.advance(&mut Join::new(me), 1)?;
-    pool.advance(&mut Command::new(me, &put), death.saturating_sub(1))?;
+    perform(pool, me, Op::Run(put), death.saturating_sub(1))?;
     if copied {
         copy_by_other(pool, geometry)?;
     }
@@ -104,8 +109,7 @@ fn tested(pool: &mut Pool, me: Me) -> Option<(Words, Commit)>
     requires who { me.who < me.geometry.clients }
     requires clients { 1 < me.geometry.clients }
 {
-    let mut mend: Mend = Calls::new(Mending::new(me));
-    pool.advance(&mut mend, 3)?;
+    pool.follow(Mending::new(me), 3)?;
     let before = words_of(pool, me.geometry);
     let block = if me.geometry.is_wide() { 123 } else { 121 };
     let answer = answer_of(pool, Calls::new(Testing::new(me, block, 9)))?;
@@ -118,9 +122,8 @@ fn mend_whole(pool: &mut Pool, me: Me) -> Option<Words>
     requires who { me.who < me.geometry.clients }
     requires clients { 1 < me.geometry.clients }
 {
-    let mut mend: Mend = Calls::new(Mending::new(me));
-    pool.advance(&mut mend, 100)?;
-    if mend.finished() {
+    let made = pool.follow(Mending::new(me), MENDING)?;
+    if made < MENDING {
         Some(words_of(pool, me.geometry))
     } else {
         None

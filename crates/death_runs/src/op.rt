@@ -6,7 +6,6 @@ ghost use Rattle.shm_table.specs.Command.{MayStand};
 
 use crate::pool::Pool;
 use shm_alloc::Alloc;
-use shm_calls::Calls;
 use shm_count::{StepChange, StepDown, StepUp, TearDown};
 use shm_graph::Me;
 use shm_queue::{Draining, Peeking, Receiving, Sending, Taking};
@@ -93,19 +92,36 @@ pub fn perform(pool: &mut Pool, me: Me, op: Op, most: u32) -> Option<u32>
 {
     match op {
         Op::Join => pool.advance(&mut Join::new(me), most),
-        Op::Leave => pool.advance(&mut Calls::new(Leaving::new(me)), most),
-        Op::Recover => pool.advance(&mut Calls::new(Recovering::new(me)), most),
-        Op::Run(line) if may_stand(me, line) => pool.advance(&mut Command::new(me, &line), most),
-        Op::Alloc(refs, plain) => match Alloc::new(me, refs, plain) {
-            Ok(mut alloc) => pool.advance(&mut alloc, most),
-            Err(_) => None,
-        },
-        Op::Release => pool.advance(&mut Calls::new(Releasing::new(me)), most),
-        Op::Drain => pool.advance(&mut Calls::new(Draining::new(me)), most),
+        Op::Leave => pool.follow(Leaving::new(me), most),
+        Op::Recover => pool.follow(Recovering::new(me), most),
+        Op::Run(line) if may_stand(me, line) => perform_line(pool, me, &line, most),
+        Op::Alloc(refs, plain) => perform_alloc(pool, me, refs, plain, most),
+        Op::Release => pool.follow(Releasing::new(me), most),
+        Op::Drain => pool.follow(Draining::new(me), most),
         _ => match perform_at(pool, me, op, most) {
             None => perform_on(pool, me, op, most),
             made => made,
         },
+    }
+}
+
+/// The same of the command of a line.
+fn perform_line(pool: &mut Pool, me: Me, line: &Line, most: u32) -> Option<u32>
+    requires geometry { GeometryFits me.geometry }
+    requires who { me.who < me.geometry.clients }
+    requires line { MayStand me line.now }
+{
+    pool.advance(&mut Command::new(me, line), most)
+}
+
+/// The same of an allocation.
+fn perform_alloc(pool: &mut Pool, me: Me, refs: u8, plain: &[u64], most: u32) -> Option<u32>
+    requires geometry { GeometryFits me.geometry }
+    requires who { me.who < me.geometry.clients }
+{
+    match Alloc::new(me, refs, plain) {
+        Ok(mut alloc) => pool.advance(&mut alloc, most),
+        Err(_) => None,
     }
 }
 
@@ -116,31 +132,19 @@ fn perform_at(pool: &mut Pool, me: Me, op: Op, most: u32) -> Option<u32>
 {
     let clients = me.geometry.clients();
     match op {
-        Op::DropRoot(root) if root < 16 => {
-            pool.advance(&mut Calls::new(Dropping::new(me, root)), most)
-        }
-        Op::RootOf(root) if root < 16 => {
-            pool.advance(&mut Calls::new(Naming::new(me, root)), most)
-        }
-        Op::Hold(author) if author < clients => {
-            pool.advance(&mut Calls::new(Holding::new(me, author)), most)
-        }
+        Op::DropRoot(root) if root < 16 => { pool.follow(Dropping::new(me, root), most) }
+        Op::RootOf(root) if root < 16 => { pool.follow(Naming::new(me, root), most) }
+        Op::Hold(author) if author < clients => { pool.follow(Holding::new(me, author), most) }
         Op::HomeOf(author) if author < clients => {
-            pool.advance(&mut Calls::new(FindingHome::new(me, author)), most)
+            pool.follow(FindingHome::new(me, author), most)
         }
         Op::Send(to, block) if to < clients => {
             let block = address(me, block)?;
-            pool.advance(&mut Calls::new(Sending::new(me, to, block)), most)
+            pool.follow(Sending::new(me, to, block), most)
         }
-        Op::Peek(from) if from < clients => {
-            pool.advance(&mut Calls::new(Peeking::new(me, from)), most)
-        }
-        Op::Take(from) if from < clients => {
-            pool.advance(&mut Calls::new(Taking::new(me, from)), most)
-        }
-        Op::Receive(from) if from < clients => {
-            pool.advance(&mut Calls::new(Receiving::new(me, from)), most)
-        }
+        Op::Peek(from) if from < clients => { pool.follow(Peeking::new(me, from), most) }
+        Op::Take(from) if from < clients => { pool.follow(Taking::new(me, from), most) }
+        Op::Receive(from) if from < clients => { pool.follow(Receiving::new(me, from), most) }
         _ => None,
     }
 }
@@ -153,26 +157,26 @@ fn perform_on(pool: &mut Pool, me: Me, op: Op, most: u32) -> Option<u32>
     match op {
         Op::Share(block) => {
             let block = address(me, block)?;
-            pool.advance(&mut Calls::new(Sharing::new(me, block)), most)
+            pool.follow(Sharing::new(me, block), most)
         }
         Op::SetHome(block) => {
             let block = address(me, block)?;
-            pool.advance(&mut Calls::new(Homing::new(me, block)), most)
+            pool.follow(Homing::new(me, block), most)
         }
         Op::Look(block, word) => {
             let block = address(me, block)?;
-            pool.advance(&mut Calls::new(Looking::new(me, block, word)), most)
+            pool.follow(Looking::new(me, block, word), most)
         }
         Op::Read(block, word) => {
             let block = address(me, block)?;
-            pool.advance(&mut Calls::new(Reading::new(me, block, word)), most)
+            pool.follow(Reading::new(me, block, word), most)
         }
         Op::SetRef(block, word, to) => {
             let (block, to) = (address(me, block)?, address(me, to)?);
             if block + 2 > me.geometry.total() {
                 return None;
             }
-            pool.advance(&mut Calls::new(Setting::new(me, block, word, to)), most)
+            pool.follow(Setting::new(me, block, word, to), most)
         }
         _ => perform_count(pool, me, op, most),
     }

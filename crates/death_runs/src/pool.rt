@@ -2,6 +2,7 @@
 
 ghost use Rattle.shm_words.specs.Layout.{GeometryFits};
 
+use shm_calls::{Calls, Plan};
 use shm_graph::Machine;
 use shm_runs::{Sum, make};
 use shm_words::Geometry;
@@ -51,6 +52,15 @@ impl Pool {
             machine.take(seen);
         }
         Some(most)
+    }
+
+    /// The same of the machine of a plan, from its first word step. (A function that names that machine itself is proved more slowly.)
+    pub fn follow<P: Plan>(&mut self, plan: P, most: u32) -> Option<u32>
+    where
+        P: Drop,
+        P::Answer: Drop,
+    {
+        self.advance(&mut Calls::new(plan), most)
     }
 
     /// The word at an address; the greatest number where there is none.

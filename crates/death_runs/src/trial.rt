@@ -107,26 +107,36 @@ fn recover(pool: &mut Pool, me: Me, most: u32, beside: &mut Option<Command>) -> 
     Some(made)
 }
 
-/// The identity dies after `death` word steps of its operation, and a recoverer dies after `second` word steps, if that isn't 0. Then another
-/// one recovers it, unless it is gone already. How many word steps the first recoverer made; none where the command beside didn't end.
+/// The command beside goes on, and a recoverer dies after `second` word steps, if that isn't 0. Then another one recovers the identity, unless
+/// it is gone already. How many word steps the first recoverer made.
+fn recover_twice(pool: &mut Pool, me: Me, second: u32, beside: &mut Option<Command>) -> Option<u32>
+    requires geometry { GeometryFits me.geometry }
+    requires who { me.who < me.geometry.clients }
+{
+    go_on(pool, beside)?;
+    let mut first = 0;
+    if second > 0 && !is_gone(pool, me) {
+        first = recover(pool, me, second, beside)?;
+    }
+    if !is_gone(pool, me) {
+        let made = recover(pool, me, LIMIT, beside)?;
+        first = if second > 0 { first } else { made };
+    }
+    Some(first)
+}
+
+/// The identity dies after `death` word steps of its operation, and is recovered, where a recoverer may die too. How many word steps the first
+/// recoverer made; none where the command beside didn't end.
 fn kill(pool: &mut Pool, me: Me, case: &Case, death: u32, second: u32) -> Option<u32>
     requires geometry { GeometryFits me.geometry }
     requires who { me.who < me.geometry.clients }
 {
     perform(pool, me, case.op, death)?;
     let mut beside = command_beside(case, me.geometry);
-    go_on(pool, &mut beside)?;
-    let mut first = 0;
-    if second > 0 && !is_gone(pool, me) {
-        first = recover(pool, me, second, &mut beside)?;
-    }
-    if !is_gone(pool, me) {
-        let made = recover(pool, me, LIMIT, &mut beside)?;
-        first = if second > 0 { first } else { made };
-    }
-    match beside {
+    let first = recover_twice(pool, me, second, &mut beside);
+    match &beside {
         Some(command) if !command.finished() => None,
-        _ => Some(first),
+        _ => first,
     }
 }
 

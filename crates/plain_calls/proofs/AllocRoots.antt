@@ -1,5 +1,5 @@
 -- what an allocation says of the roots of its identity
-use Rattle.std.proofs.Common.{◌≡◌, ◌≢◌, ℕ, ◌<◌, Bool, true, false, refl, sym, ap, ◌∙◌, subst, cond, eqb, ◌&&◌, List, ◌∷◌, ◌⊎◌, inl, inr, Result}
+use Rattle.std.proofs.Common.{◌≡◌, ◌≢◌, ℕ, ◌<◌, refl, sym, ap, ◌∙◌, subst, List, ◌⊎◌, inl, inr, Result}
 use Rattle.std.specs.Prelude.{Ok, Err, IfOk, IfErr}
 use Rattle.std.specs.List.{Contains}
 use Rattle.std.proofs.lemmas.Bool.{cond-true, cond-false, eq-eqb, ne_eqb}
@@ -23,29 +23,13 @@ use Rattle.shm_graph.proofs.Spots.Spotting.{block_within}
 use Rattle.shm_plain.specs.Pools.{Pool, IsRun, memo_of}
 use Rattle.shm_count.specs.declared.answer.Made.{Made}
 use Rattle.shm_count.specs.Step.Control.{IsInside}
+use Rattle.shm_alloc.proofs.MadeRoots.{made_word}
 use Rattle.shm_alloc.specs.declared.alloc.AllocFault.{AllocFault}
 use Rattle.shm_alloc.specs.declared.point.AllocState.{AllocState}
-use Rattle.shm_alloc.specs.declared.point.Goal.{Goal}
 use Rattle.shm_alloc.specs.declared.request.Request.{Request}
 use Rattle.shm_alloc.specs.Alloc.Control.{tag_asked}
-use Rattle.shm_alloc.specs.Alloc.{AllocGives, MadeGives, goal_of, more_stored, readied}
+use Rattle.shm_alloc.specs.Alloc.{AllocGives, MadeGives}
 use Rattle.shm_count.specs.Roots.{member, root_word}
-
--- the second word of a redo record is no root
-unreadied : (me : Me) (g : Goal) (b : ℕ) (own : List Stored) (j : ℕ) → own_word (readied me g b own) (spot.Root me.who j) ≡ own_word own (spot.Root me.who j)
-unreadied me g b own j = go me.geometry.wide
-  where
-    go : (wide : Bool) → own_word (cond wide (more_stored me g b ∷ own) own) (spot.Root me.who j) ≡ own_word own (spot.Root me.who j)
-    go true = refl
-    go false = refl
-
--- the root of the new block holds it, and each other root what it held
-made_word : (me : Me) (q : Request) (r0 r : Memo) (a : Made) (j : ℕ) → MadeGives me q r0 r a → root_word me.who r j ≡ cond (eqb a.root j) a.block (root_word me.who r0 j)
-made_word me q r0 r a j h =
-    let g : Goal = goal_of me r0 a in
-    ap (λ (o : List Stored). own_word o (spot.Root me.who j)) h.own
-    ∙ (ap (λ y. cond (y && eqb a.root j) a.block (own_word (readied me g a.block r0.own) (spot.Root me.who j))) (eq-eqb me.who me.who refl)
-    ∙ ap (λ (x : ℕ). cond (eqb a.root j) a.block x) (unreadied me g a.block r0.own j))
 
 -- a block whose tag is known is a block
 tagged_block : (g : Geometry) (w : Spot → ℕ) (r : ℕ → Memo) (c b x : ℕ) → HeldAt g w (view r) → c < g.clients → Contains (r c).known (record { spot = spot.Tag b; value = x }) → IsBlock g (classes w) b

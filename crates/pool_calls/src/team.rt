@@ -79,6 +79,7 @@ pub fn pop_of(pool: &SharedPool, all: &mut Vec<Vacant>) -> Option<Vacant>
     ensures of { IfSome result (λ t. t.of ≡ pool.now) }
     ensures roots { IfSome result (λ t. AreRootsEmpty t.account) }
 {
+    // for the proof: the contract alone speaks of the pool
     let _ = pool;
     all.pop()
 }
@@ -157,6 +158,7 @@ pub fn put_back(pool: &SharedPool, all: &mut Vec<Vacant>, token: Vacant) -> Resu
     requires of { token.of ≡ pool.now }
     ensures { IfOk result (λ _. AllOf pool.now all.new.items) }
 {
+    // for the proof: the contract alone speaks of the pool
     let _ = pool;
     all.push(token)?;
     Ok(())

@@ -1,3 +1,4 @@
 pub mod AllocBound
 pub mod AllocCounting
 pub mod MadeBlocks
+pub mod MadeRoots

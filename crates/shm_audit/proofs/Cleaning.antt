@@ -14,7 +14,7 @@ use Rattle.shm_graph.specs.declared.spot.Spot.{Spot}
 use Rattle.shm_graph.specs.declared.spot.Spot.TheVariants.{Status, Home, Root, Slot, Page, Head, Tag, Body}
 use Rattle.shm_graph.specs.Spots.{see, spot_at, spot_address, class_at}
 use Rattle.shm_graph.specs.Blocks.{classes, headers, IsLive}
-use Rattle.shm_graph.specs.References.{words_of, references, references_in_all, live_count}
+use Rattle.shm_graph.specs.References.{words_of, references}
 use Rattle.shm_graph.specs.Clean.{IsClean, TagSuits}
 use Rattle.shm_graph.proofs.Spots.Spotting.{at_below, block_within, is_at_block, is_below, tag_spot}
 use Rattle.shm_graph.proofs.Spots.Seeing.{seen_stands}
@@ -24,7 +24,7 @@ use Rattle.shm_audit.specs.declared.fault.ImageFault.TheVariants as fault
 use Rattle.shm_audit.specs.declared.verdict.Verdict.{Verdict}
 use Rattle.shm_audit.specs.declared.verdict.Verdict.TheVariants.{Clean, WrongCount, Uncounted}
 use Rattle.shm_audit.specs.Faults.{least_below, first_fault, is_page_word, is_bad_page, is_bad_header, tag_suits, is_bad_tag, is_counted, is_bad_reference, words_fault_of}
-use Rattle.shm_audit.specs.Verdicts.{is_settled, is_pending, found_at, is_wrong, by_block, by_client, verdict_of, IsCleanVerdict}
+use Rattle.shm_audit.specs.Verdicts.{is_settled, is_pending, found_at, is_wrong, by_block, by_client, verdict_of, clean_verdict, IsCleanVerdict}
 use Rattle.shm_audit.proofs.Least.{none_below, none_passes}
 use Rattle.shm_audit.proofs.Tested.{Test, no_fault}
 
@@ -80,7 +80,7 @@ so_below a b e = grind (arith, nat_tests)
 
 -- ---- faults and verdicts
 
-both_none : (x y : Option ImageFault) → x ≡ None → y ≡ None → option_or x y ≡ None
+pub both_none : (x y : Option ImageFault) → x ≡ None → y ≡ None → option_or x y ≡ None
 both_none x y e d = ap (λ o. option_or o y) e ∙ d
 
 either_none : (x y : Option ImageFault) → option_or x y ≡ None → (x ≡ None) × (y ≡ None)
@@ -152,11 +152,11 @@ module _ (g : Geometry) (w : Spot → ℕ) (h : IsClean g w) where
         | inr d ↦ ap (λ l. l && ((eqb (headers w b).count 0) || not (eqb (headers w b).count (found_at g w b)))) d
       ]
 
-  pub clean_verdict : IsCleanVerdict (verdict_of g w)
-  clean_verdict =
+  pub clean_is_told : verdict_of g w ≡ clean_verdict g w
+  clean_is_told =
       let c = none_below g.clients (is_pending w) clean_settled in
       let b = none_below (total_of g) (is_wrong g w) (λ a l. clean_right a) in
-      (live_count g w, references_in_all g (classes w) (references g.wide w), ap (by_client g w) c ∙ ap (by_block g w) b)
+      ap (by_client g w) c ∙ ap (by_block g w) b
 
 pub clean_no_fault : (g : Geometry) (ws : List ℕ) → GeometryFits g → IsClean g (see g ws) → words_fault_of g ws ≡ None
 clean_no_fault g ws f h =

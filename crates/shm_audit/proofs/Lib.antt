@@ -5,5 +5,6 @@ pub mod Counting
 pub mod Judging
 pub mod Cleaning
 pub mod ReadingBack
+pub mod CleanImages
 pub mod Using
 pub mod UsedTests

@@ -30,10 +30,14 @@ is_wrong g w b = (headers w b).live && (((headers w b).count == 0) || not ((head
 abbrev pub block_verdict : Geometry → (Spot → ℕ) → ℕ → Verdict
 block_verdict g w b = if (headers w b).count == 0 then Uncounted b else WrongCount b (headers w b).count (found_at g w b)
 
+-- the verdict on a pool in which nothing is wrong: how many blocks are live, and how many words name one
+abbrev pub clean_verdict : Geometry → (Spot → ℕ) → Verdict
+clean_verdict g w = Clean (live_count g w) (references_in_all g (classes w) (references g.wide w))
+
 -- the verdict by the first block that is wrong, if one is
 abbrev pub by_block : Geometry → (Spot → ℕ) → Option ℕ → Verdict
 by_block g w (Some b) = block_verdict g w b
-by_block g w None = Clean (live_count g w) (references_in_all g (classes w) (references g.wide w))
+by_block g w None = clean_verdict g w
 
 -- the verdict by the first identity that is pending, if one is
 abbrev pub by_client : Geometry → (Spot → ℕ) → Option ℕ → Verdict

@@ -1,13 +1,13 @@
 //! The audit of an image: its first fault, or the first verdict on its words.
 
-ghost use Rattle.std.specs.Prelude.{◌≡◌, ℕ, ◌↔◌, List, IfOk, IfErr, None, Some};
+ghost use Rattle.std.specs.Prelude.{◌≡◌, ℕ, ◌^◌, ◌<◌, ◌↔◌, false, List, length, slice_index, IfOk, IfErr, None, Some};
 ghost use Rattle.shm_words.specs.declared.geometry.Geometry.{Geometry as AGeometry};
-ghost use Rattle.shm_words.specs.Layout.{GeometryFits};
+ghost use Rattle.shm_words.specs.Layout.{GeometryFits, total_of};
 ghost use Rattle.shm_graph.specs.Spots.{see};
 ghost use Rattle.shm_graph.specs.Clean.{IsClean};
-ghost use Rattle.shm_audit.specs.Images.{geometry_in, words_in, numbers};
+ghost use Rattle.shm_audit.specs.Images.{image_of, geometry_in, words_in, numbers};
 ghost use Rattle.shm_audit.specs.Faults.{image_fault_of, words_fault_of};
-ghost use Rattle.shm_audit.specs.Verdicts.{verdict_of, IsCleanVerdict};
+ghost use Rattle.shm_audit.specs.Verdicts.{verdict_of, clean_verdict, IsCleanVerdict};
 ghost use Rattle.shm_audit.specs.Stops.{StopsBy};
 
 use crate::blocks::used_blocks;
@@ -53,4 +53,11 @@ fn audit_words(alloc: Global, geometry: Geometry, words: &[[u8; 8]]) -> Result<V
 /// A pool is clean exactly where its words have no fault and the verdict on them is that it is.
 pub fn clean_where_verdict_is()
     ensures { (g : AGeometry) (ws : List ℕ) → GeometryFits g → IsClean g (see g ws) ↔ (words_fault_of g ws ≡ None) × IsCleanVerdict (verdict_of g (see g ws)) }
+{}
+
+/// The image of a clean pool of format 1 has no fault, and the verdict on the sizes and words that are read in it is `Clean`, with two
+/// numbers: how many blocks of the pool are live, and how many of its words name one.
+pub fn clean_images()
+    ensures faultless { (g : AGeometry) (ws : List ℕ) → GeometryFits g → g.wide ≡ false → length ws ≡ total_of g → ((i : ℕ) → slice_index ws i < 2 ^ 64) → IsClean g (see g ws) → image_fault_of (image_of g ws) ≡ None }
+    ensures verdict { (g : AGeometry) (ws : List ℕ) → GeometryFits g → g.wide ≡ false → ((i : ℕ) → slice_index ws i < 2 ^ 64) → IsClean g (see g ws) → let image = image_of g ws in verdict_of (geometry_in image) (see (geometry_in image) (words_in image)) ≡ clean_verdict g (see g ws) }
 {}

@@ -12,7 +12,7 @@ mod text;
 mod verdict;
 mod words;
 
-pub use auditing::{audit, clean_where_verdict_is};
+pub use auditing::{audit, clean_images, clean_where_verdict_is};
 pub use fault::ImageFault;
 pub use image::{image_reads_back, write_image};
 pub use stop::AuditStop;

@@ -5,3 +5,4 @@ pub mod CallEvents
 pub mod TearWalks
 pub mod UpRootPart
 pub mod Steady
+pub mod LastCalls

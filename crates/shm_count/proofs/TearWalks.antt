@@ -19,7 +19,7 @@ walk_last c b (Fell i t inner rest) =
     (event.Down c (Body b i) t ∷ (events_of c t inner ++ u.0), ap (λ (es : List Event). event.Down c (Body b i) t ∷ es) (ap (λ (es : List Event). events_of c t inner ++ es) u.1 ∙ sym (append_assoc (events_of c t inner) u.0 (event.Free c b ∷ []))))
 
 -- so it is among them
-walk_frees : (c b : ℕ) (x : Walk) → Contains (events_of c b x) (event.Free c b)
+pub walk_frees : (c b : ℕ) (x : Walk) → Contains (events_of c b x) (event.Free c b)
 walk_frees c b x = let u = walk_last c b x in subst (λ (es : List Event). Contains es (event.Free c b)) (sym u.1) (Contains-push u.0 (event.Free c b))
 
 -- an event of one walk is one of another walk that has all of its events, where the block of the first one is that of the second one or lost a reference in it

@@ -4,5 +4,6 @@ pub mod Running
 pub mod Going
 pub mod CallEventsOf
 pub mod OwnEvents
+pub mod Shapes
 pub mod TurnsTaken
 pub mod EraRises

@@ -11,5 +11,6 @@ pub mod Reached
 pub mod Roles
 pub mod Claims
 pub mod SoundStates
+pub mod GoneStates
 pub mod CleanPools
 pub mod RedoNames

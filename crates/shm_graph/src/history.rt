@@ -2,7 +2,8 @@
 
 ghost use Rattle.std.specs.Prelude.{◌≡◌, ◌≢◌, ℕ, ◌+◌, ◌<◌, ◌≤◌, ◌⊎◌, false, List, ◌∷◌, ◌++◌, Some};
 ghost use Rattle.shm_words.specs.declared.geometry.Geometry.{Geometry as AGeometry};
-ghost use Rattle.shm_words.specs.Layout.{GeometryFits};
+ghost use Rattle.shm_words.specs.Layout.{GeometryFits, total_of};
+ghost use Rattle.shm_words.specs.Tags.{tag_author, tag_plain, tag_refs};
 ghost use Rattle.shm_graph.specs.declared.ask.Ask.TheVariants.{Exchange};
 ghost use Rattle.shm_graph.specs.declared.memo.Agent.{Agent as AnAgent};
 ghost use Rattle.shm_graph.specs.declared.memo.Fate.TheVariants as fate;
@@ -33,10 +34,11 @@ pub fn runs_are_sound()
     ensures taken { (g : AGeometry) (a : State) (ms : List AMove) (m : AMove) (ns : List AMove) (z : State) → Held g a.words a.accounts → Leads g a (ms ++ m ∷ ns) z → (b : State) × Leads g a ms b × IsTaken g b m × Leads g (moved b m) ns z }
 {}
 
-/// What a word step in a run leaves and needs: no word that another identity controls changes; a block that is allocated was named
-/// by nothing; no reference comes but to a block that has one; a change begins only where its identity holds over none; no
-/// reference of a block that is freed is passed by; a header of another client is overwritten only by one whose own row shows its
-/// era; no word of a row falls, and an own era rises by at most one.
+/// What a word step in a run leaves and needs: it is of this pool, and asks for a word of it; no word that another identity controls
+/// changes; a block that is allocated was named by nothing, and is live and its author's then; a block that is live before and after
+/// the step keeps its numbers of reference words and of plain words, and its author; no reference comes but to a block that has one; a
+/// change begins only where its identity holds over none; no reference of a block that is freed is passed by; a header of another
+/// client is overwritten only by one whose own row shows its era; no word of a row falls, and an own era rises by at most one.
 pub fn word_turns()
     ensures others { (g : AGeometry) (s : State) (t : AStep) → IsTaken g s (Word t) → (d : ℕ) (p : ASpot) → d < g.clients → d ≢ t.me.who → IsController g (see g s.words) (view (memos_of s.accounts)) d p → see g (moved s (Word t)).words p ≡ see g s.words p }
     ensures allocated { (g : AGeometry) (s : State) (t : AStep) → IsTaken g s (Word t) → (c k b : ℕ) → event_at g s t ≡ Alloc c k b → (p : ASpot) → targets g (see g s.words) (view (memos_of s.accounts)) p ≢ b }
@@ -45,6 +47,9 @@ pub fn word_turns()
     ensures freed { (g : AGeometry) (s : State) (t : AStep) → IsTaken g s (Word t) → (c b : ℕ) → event_at g s t ≡ Free c b → (i : ℕ) → targets g (see g s.words) (view (memos_of s.accounts)) (spot.Body b i) ≡ 0 }
     ensures rows { (g : AGeometry) (s : State) (t : AStep) → IsTaken g s (Word t) → (at from to b : ℕ) → t.ask ≡ Exchange at from to → spot_at g (classes_in g s.words) at ≡ spot.Head b → see g s.words (spot.Head b) ≡ from → IsLive (headers (see g s.words)) b → t.me.who ≢ (headers (see g s.words) b).client → (headers (see g s.words) b).era ≤ see g s.words (spot.Era t.me.who (headers (see g s.words) b).client) }
     ensures eras { (g : AGeometry) (s : State) (t : AStep) → IsTaken g s (Word t) → (i j : ℕ) → let n = see g s.words (spot.Era i j) in let x = see g (moved s (Word t)).words (spot.Era i j) in (n ≤ x) × (i ≡ j → x ≤ n + 1) }
+    ensures placed { (g : AGeometry) (s : State) (t : AStep) → IsTaken g s (Word t) → (t.me.geometry ≡ g) × (at_of t.ask < total_of g) }
+    ensures authored { (g : AGeometry) (s : State) (t : AStep) → IsTaken g s (Word t) → (c k b : ℕ) → event_at g s t ≡ Alloc c k b → let x = see g (moved s (Word t)).words in IsLive (headers x) b × (tag_author g.wide (x (spot.Tag b)) ≡ c) }
+    ensures shaped { (g : AGeometry) (s : State) (t : AStep) → IsTaken g s (Word t) → (b : ℕ) → let w = see g s.words in let x = see g (moved s (Word t)).words in IsLive (headers w) b → IsLive (headers x) b → (tag_refs g.wide (x (spot.Tag b)) ≡ tag_refs g.wide (w (spot.Tag b))) × (tag_plain g.wide (x (spot.Tag b)) ≡ tag_plain g.wide (w (spot.Tag b))) × (tag_author g.wide (x (spot.Tag b)) ≡ tag_author g.wide (w (spot.Tag b))) }
 {}
 
 /// Along a run no word of a row falls. In a run from a pool's first state each own era is at least the first era, and at most that and

@@ -32,8 +32,8 @@ pub use memo::{
 };
 pub use run::{Account, LoggedLine, Move, Start};
 pub use sound::{
-    clean_pools, commitment_is_shown, queues_keep_their_items, redo_tells_the_step,
-    references_are_counted, unused_pages_are_empty,
+    clean_pools, commitment_is_shown, gone_leaves_nothing, queues_keep_their_items,
+    redo_tells_the_step, references_are_counted, unused_pages_are_empty,
 };
 pub use spot::Spot;
 pub use start::{first_state_holds, first_words};

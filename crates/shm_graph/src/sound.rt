@@ -1,13 +1,13 @@
 //! What a user of a pool may conclude from its states: of any sound state, and of a clean pool.
 
-ghost use Rattle.std.specs.Prelude.{◌≡◌, ◌≢◌, ℕ, ◌+◌, ◌<◌, ◌≤◌, if◌then◌else◌, List, Some, slice_index, take};
+ghost use Rattle.std.specs.Prelude.{◌≡◌, ◌≢◌, ℕ, ◌+◌, ◌<◌, ◌≤◌, ◌%◌, if◌then◌else◌, List, Some, slice_index, take};
 ghost use Rattle.shm_words.specs.declared.geometry.Geometry.{Geometry as AGeometry};
 ghost use Rattle.shm_words.specs.declared.redo.Redo.TheVariants as redos;
 ghost use Rattle.shm_words.specs.Layout.{GeometryFits, total_of};
 ghost use Rattle.shm_words.specs.Redos.{redo_of};
 ghost use Rattle.shm_graph.specs.declared.memo.First.{First as AFirst};
 ghost use Rattle.shm_graph.specs.declared.memo.ChangeStage.TheVariants.{Raising};
-ghost use Rattle.shm_graph.specs.declared.memo.Op.TheVariants.{Up, Down, Change};
+ghost use Rattle.shm_graph.specs.declared.memo.Op.TheVariants.{Nothing, Up, Down, Change};
 ghost use Rattle.shm_graph.specs.declared.spot.Spot.{Spot as ASpot};
 ghost use Rattle.shm_graph.specs.declared.spot.Spot.TheVariants as spot;
 ghost use Rattle.shm_graph.specs.Spots.{see, spot_at, spot_address};
@@ -50,6 +50,23 @@ pub fn queues_keep_their_items()
     ensures waiting { (g : AGeometry) (w : ASpot → ℕ) (v : View) → IsSound g w v → (s r n : ℕ) → s < g.clients → r < g.clients → s ≢ r → w (spot.QueueHead s r) < n → n < w (spot.Tail s r) → IsLive (headers w) (slice_index (v.sent s r) n) }
     ensures room { (g : AGeometry) (w : ASpot → ℕ) (v : View) → IsSound g w v → (s r : ℕ) → s < g.clients → r < g.clients → s ≢ r → (w (spot.QueueHead s r) ≤ w (spot.Tail s r)) × (w (spot.Tail s r) ≤ w (spot.QueueHead s r) + 8) }
     ensures apart { (g : AGeometry) (w : ASpot → ℕ) (v : View) → IsSound g w v → (s r k : ℕ) → s < g.clients → targets g w v (spot.Slot s r k) ≢ 0 → s ≢ r }
+{}
+
+/// In a sound state nothing is left of an identity whose status word is 3. No step of it is in progress, so that no header and no row
+/// of another identity shows its own era; no root of it names a block; its hold word is 0, and no latch word and no segment word is its
+/// number and one; and each zero-count block is another identity's. Of each queue from it that isn't full the slot at the tail is
+/// empty, and of each queue to it that isn't empty the slot at the head names the item that comes next, a live block. Its home and its
+/// tables stay.
+pub fn gone_leaves_nothing()
+    ensures idle { (g : AGeometry) (w : ASpot → ℕ) (v : View) → IsSound g w v → (c : ℕ) → c < g.clients → w (spot.Status c) ≡ 3 → v.op c ≡ Nothing }
+    ensures closed { (g : AGeometry) (w : ASpot → ℕ) (v : View) → IsSound g w v → (c : ℕ) → c < g.clients → w (spot.Status c) ≡ 3 → ((b : ℕ) → IsLive (headers w) b → (headers w b).client ≡ c → (headers w b).era < w (spot.Era c c)) × ((k : ℕ) → k < g.clients → k ≢ c → w (spot.Era k c) < w (spot.Era c c)) }
+    ensures roots { (g : AGeometry) (w : ASpot → ℕ) (v : View) → IsSound g w v → (c : ℕ) → c < g.clients → w (spot.Status c) ≡ 3 → (k : ℕ) → w (spot.Root c k) ≡ 0 }
+    ensures hold { (g : AGeometry) (w : ASpot → ℕ) (v : View) → IsSound g w v → (c : ℕ) → c < g.clients → w (spot.Status c) ≡ 3 → w (spot.Hold c) ≡ 0 }
+    ensures latches { (g : AGeometry) (w : ASpot → ℕ) (v : View) → IsSound g w v → (c : ℕ) → c < g.clients → w (spot.Status c) ≡ 3 → (a : ℕ) → w (spot.Latch a) ≢ c + 1 }
+    ensures segments { (g : AGeometry) (w : ASpot → ℕ) (v : View) → IsSound g w v → (c : ℕ) → c < g.clients → w (spot.Status c) ≡ 3 → (s : ℕ) → w (spot.Segment s) ≢ c + 1 }
+    ensures zero_counts { (g : AGeometry) (w : ASpot → ℕ) (v : View) → IsSound g w v → (c : ℕ) → c < g.clients → w (spot.Status c) ≡ 3 → (b : ℕ) → IsLive (headers w) b → (headers w b).count ≡ 0 → ((headers w b).client ≢ c) × ((headers w b).client < g.clients) }
+    ensures sends { (g : AGeometry) (w : ASpot → ℕ) (v : View) → IsSound g w v → (c : ℕ) → c < g.clients → w (spot.Status c) ≡ 3 → (r : ℕ) → r < g.clients → r ≢ c → w (spot.Tail c r) < w (spot.QueueHead c r) + 8 → w (spot.Slot c r (w (spot.Tail c r) % 8)) ≡ 0 }
+    ensures takes { (g : AGeometry) (w : ASpot → ℕ) (v : View) → IsSound g w v → (c : ℕ) → c < g.clients → w (spot.Status c) ≡ 3 → (s : ℕ) → s < g.clients → s ≢ c → w (spot.QueueHead s c) < w (spot.Tail s c) → let b = w (spot.Slot s c (w (spot.QueueHead s c) % 8)) in (b ≢ 0) × IsLive (headers w) b × (b ≡ slice_index (v.sent s c) (w (spot.QueueHead s c))) }
 {}
 
 /// In a sound state each word of a page without a class is 0: the blocks of a page that is given a class are free.

@@ -53,7 +53,7 @@ impl From<Failed> for ReadStop {
 
 /// Reads a source to its end, but takes at most `limit` bytes, and answers the bytes in order. It asks for no
 /// byte beyond the limit. Fewer bytes than `limit` are all that the source had left. Where it stops, a front of
-/// at most `limit` bytes is lost.
+/// at most `limit` bytes is lost; where `limit` is 0 it asks for nothing, and doesn't stop.
 pub fn read_to_limit<S: Source>(
     alloc: Global,
     source: &mut S,
@@ -63,6 +63,7 @@ pub fn read_to_limit<S: Source>(
     ensures front { IfOk result (λ bytes. TakesFront (S.left source.old) (S.left source.new) limit bytes.items) }
     ensures no_fault { OnOk result (S.faults source.new ≡ S.faults source.old) }
     ensures lost { OnErr result (LosesFront (S.left source.old) (S.left source.new) limit) }
+    ensures asked { OnErr result (0 < limit) }
     ensures cause { IfErr result (HasCause (S.faults source.old) (S.faults source.new)) }
     ensures rising { S.faults source.old ≤ S.faults source.new }
 {

@@ -8,7 +8,7 @@ use Rattle.shm_words.specs.declared.geometry.Geometry.{Geometry}
 use Rattle.shm_words.specs.declared.header.Header.{Header}
 use Rattle.shm_words.specs.Headers.{header_of}
 use Rattle.shm_words.specs.Classes.{class_for}
-use Rattle.shm_words.specs.Tags.{tag_refs, tag_plain, tag_author, tag_link, tag_shape, tag_limit, shape_author}
+use Rattle.shm_words.specs.Tags.{tag_refs, tag_plain, tag_author, tag_link, tag_shape, tag_limit}
 use Rattle.shm_graph.specs.declared.spot.Spot.{Spot}
 use Rattle.shm_graph.specs.declared.spot.Spot.TheVariants.{Spare, Status, Redo, RedoMore, Hold, Latch, Home, Era, Root, Tail, QueueHead, Slot, Segment, Page, Unused, Head, Tag, Body}
 use Rattle.shm_graph.specs.declared.memo.Status.TheVariants as status
@@ -25,6 +25,7 @@ use Rattle.shm_graph.specs.Events.{Nothing, graph_of, Happens}
 use Rattle.shm_graph.specs.Held.{HeldAt, CountSound, SlotOf, reach_of, named_by, InLooks, LookAt, LooksSound, MakingTie, TagSound, TestAt, KnownAt, LaneSound, IsUnusedLane, PartTie, ValueAt, MadeAt, IsDying, is_loose}
 use Rattle.shm_graph.proofs.States.Holders.{InReach, reach_counted, reach_target, target_counted}
 use Rattle.shm_graph.proofs.Memos.Frames.{at1_all}
+use Rattle.shm_graph.proofs.Runs.Shapes.{author_above, plain_above, refs_above}
 use Rattle.shm_laws.proofs.Parts.{PartKept, part_kept}
 use Rattle.shm_laws.proofs.References.{IsNamed, live_some}
 use Rattle.shm_laws.proofs.Writing.{tie_other}
@@ -53,18 +54,6 @@ pub record BlocksMay (g : Geometry) (w : Spot → ℕ) (c : ℕ) (tag : ℕ → 
   pub size : (d : ℕ) → (header_of (w (Head d))).live ≡ true → tag d < tag_limit g.wide
   pub same : (d : ℕ) → (header_of (w (Head d))).live ≡ true → (IsDying (header_of (w (Head d))) c → ⊥) → tag d ≡ w (Tag d)
   pub inner : (d i : ℕ) → (header_of (w (Head d))).live ≡ true → body d i ≡ w (Body d i)
-
--- the numbers of words and the author are above the link
-refs_above : (wide : Bool) (x y : ℕ) → tag_shape wide x ≡ tag_shape wide y → tag_refs wide x ≡ tag_refs wide y
-refs_above false x y e = omega arith
-refs_above true x y e = omega arith
-
-plain_above : (wide : Bool) (x y : ℕ) → tag_shape wide x ≡ tag_shape wide y → tag_plain wide x ≡ tag_plain wide y
-plain_above false x y e = omega arith
-plain_above true x y e = omega arith
-
-author_above : (wide : Bool) (x y : ℕ) → tag_shape wide x ≡ tag_shape wide y → tag_author wide x ≡ tag_author wide y
-author_above wide x y e = ap shape_author e
 
 module _ (g : Geometry) (w : Spot → ℕ) (v : View) (c : ℕ) (tag : ℕ → ℕ) (body : ℕ → ℕ → ℕ) (h : HeldAt g w v) (a : BlocksMay g w c tag body) where
   abbrev heads : ℕ → Header

@@ -25,6 +25,7 @@ impl PlainPool {
         ensures took { 0 < life.old.left → Took M.control who self.old m.old self.new }
         ensures events { 0 < life.old.left → M.control.fresh m.old ≡ true → (does : M → ℕ → Event) → Tells M.control M.fits does → Did who self.old self.new (happens_along M.control does m.old (memo_of self.new who).call) }
     {
+        // for the proof: its turns lead to the words and accounts
         self.geometry();
         loop {
             match self.step(who, m, life) {

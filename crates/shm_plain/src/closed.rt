@@ -65,6 +65,7 @@ impl PlainPool {
         ensures is { result ≡ self }
         ensures end { IsClosedRun result }
     {
+        // for the proof: its turns lead to the words and accounts
         self.geometry();
         PlainClosed { pool: self }
     }

@@ -31,6 +31,7 @@ pub fn turns_of_pool(pool: &PlainPool)
     ensures states { (before after : List AMove) (m : AMove) → pool.now.turns ≡ before ++ m ∷ after → (s : State) × Leads pool.now.start.geometry (first_state pool.now.start) before s × IsMove s m × IsSound pool.now.start.geometry (see pool.now.start.geometry (moved s m).words) (view (memos_of (moved s m).accounts)) }
     ensures events { (before after : List AMove) (t : AStep) → pool.now.turns ≡ before ++ Word t ∷ after → (s : State) × Leads pool.now.start.geometry (first_state pool.now.start) before s × (let g = pool.now.start.geometry in let p = spot_at g (classes_in g s.words) (at_of t.ask) in let s2 = moved s (Word t) in Happens g (see g s.words) (event_on (memos_of s.accounts t.me.who) t p) (graph_of g (see g s.words) (view (memos_of s.accounts))) (graph_of g (see g s2.words) (view (memos_of s2.accounts)))) }
 {
+    // for the proof: its turns lead to the words and accounts
     pool.geometry();
 }
 
@@ -41,6 +42,7 @@ pub fn queues_of_pool(pool: &PlainPool)
     ensures head { (s c : ℕ) → s < pool.now.start.geometry.clients → c < pool.now.start.geometry.clients → s ≢ c → own_word (memo_of pool.now c).own (QueueHead s c) ≡ length (received_of pool.now s c) }
     ensures tail { (s c : ℕ) → s < pool.now.start.geometry.clients → c < pool.now.start.geometry.clients → s ≢ c → own_word (memo_of pool.now s).own (Tail s c) ≡ length (sent_of pool.now s c) }
 {
+    // for the proof: its turns lead to the words and accounts
     pool.geometry();
 }
 
@@ -62,5 +64,6 @@ pub fn steps_of_pools()
 pub fn table_of_closed(closed: &PlainClosed)
     ensures { (c : ℕ) → c < closed.now.start.geometry.clients → (chains : List (List AnEntry)) → (memo_of closed.now c).part ≡ Table chains → let w = see closed.now.start.geometry closed.now.words in IsPartition (contents_of closed.now.start.geometry.wide w (references closed.now.start.geometry.wide w)) c (w (Home c)) (λ b. slice_index_or chains b []) }
 {
+    // for the proof: its turns lead to the words and accounts, and the words are clean
     closed.geometry();
 }

@@ -107,6 +107,7 @@ impl PlainPool {
         ensures fits { 0 < life.old.left → (r0 : Memo) → fits_now M.control M.fits m.old r0 (memo_of (readied self.old who) who) → let t = turn_on (readied self.old who) M.control m.old in Outcome (M.control.turns m.old t.seen) (fits_now M.control M.fits m.new r0 (memo_of self.new who)) (gives_now M.gives m.old r0 (memo_of self.new who)) }
         ensures run { IsRun self.new }
     {
+        // for the proof: its turns lead to the words and accounts
         let _ = &self.start;
         if life.left == 0 {
             return Turn::Died;

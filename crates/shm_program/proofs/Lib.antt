@@ -1,8 +1,12 @@
 pub mod ImageSizes
+pub mod CleanImages
 pub mod JobAnswers
 pub mod TopReads
 pub mod TopAnswers
+pub mod CallEnds
 pub mod Commands
 pub mod Numerals
 pub mod ProgramWords
 pub mod LoggedClients
+pub mod SameTexts
+pub mod SameCalls

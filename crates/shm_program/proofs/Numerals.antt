@@ -1,5 +1,5 @@
 -- what a parse of a plain numeral gives
-use Rattle.std.proofs.Common.{◌≡◌, ◌≢◌, ◌<◌, ◌^◌, ℕ, Bool, true, false, cond, nat_lt, get_or, List, [], ◌∷◌, length, Option, Some, None, Result, Ok, Err, refl, sym, ap, ◌∙◌, rules, arith, lt-ltb, inl, inr, le-ltb}
+use Rattle.std.proofs.Common.{◌≡◌, ◌≢◌, ◌<◌, ◌^◌, ℕ, Bool, true, false, cond, get_or, List, [], ◌∷◌, length, Some, None, Result, Ok, Err, refl, sym, ap, ◌∙◌, rules, arith, lt-ltb, inl, inr, le-ltb}
 use Rattle.std.specs.Result.{OkIff, result_ok}
 use Rattle.std.specs.Str.{all_ascii_digits}
 use Rattle.std.specs.Str.Parse.{ParsesUnsigned}

@@ -1,11 +1,7 @@
 -- what the answer to the bytes that were read says of the bytes that the source had left
-use Rattle.std.proofs.Common.{◌≡◌, ℕ, ◌<◌, ◌≤◌, List, [], length, refl, sym, ap, ◌∙◌, arith, inl, inr, ◌⊎◌, subst}
+use Rattle.std.proofs.Common.{◌≡◌, ℕ, ◌≤◌, List, length, sym, ◌∙◌, arith, inl, inr, ◌⊎◌, subst}
 use Rattle.std.specs.Prelude.{Option, Some, None}
-use Rattle.shm_audit.specs.declared.fault.ImageFault.{ImageFault}
-use Rattle.shm_audit.specs.Faults.{image_fault_of}
 use Rattle.shm_io.specs.Reading.{TakesFront}
-use Rattle.shm_script.specs.declared.fault.TraceFault.{TraceFault}
-use Rattle.shm_script.specs.Faults.{fault_of}
 use Rattle.shm_script.specs.Ranges.{IsTraceText}
 use Rattle.shm_script.specs.Values.{Traced}
 use Rattle.shm_script.proofs.Complete.{faultless}
@@ -54,7 +50,7 @@ answered : (job : Job) (before after : Option (List ℕ)) (bytes : List ℕ) (st
     → Answers job bytes status finished text → Said job before after status finished text
 answered job before after bytes status finished text t few (inl d) =
     inl (d.0, record { bytes = bytes; read = done_read job before after bytes t few (done_input job bytes finished text d.1); is = d.1 })
-answered job before after bytes status finished text t few (inr d) = inr (d.0, record { kept = d.1; bytes = bytes; read = any_read job before after bytes t few; is = d.2 })
+answered job before after bytes status finished text t few (inr d) = inr (d.0, record { kept = d.1; bytes = bytes; few = few; read = any_read job before after bytes t few; is = d.2 })
 
 -- the answer as it was written
 pub said : (job : Job) (before after : Option (List ℕ)) (limit : ℕ) (bytes read : List ℕ) (status : ℕ) (finished kept : Finished) (text written : List ℕ) → limit ≡ limit_of job

@@ -1,11 +1,13 @@
 -- what a call of the program does: what it reads, what it answers and what it writes
-use Rattle.std.specs.Prelude.{◌≡◌, ℕ, ◌≤◌, ◌⊎◌, List, length, codes, Option, Some, None}
+use Rattle.std.specs.Prelude.{◌≡◌, ◌≢◌, ℕ, ◌≤◌, ◌⊎◌, List, length, codes, Option, Some, None}
 use Rattle.shm_audit.specs.declared.fault.ImageFault.{ImageFault}
 use Rattle.shm_audit.specs.Faults.{image_fault_of}
 use Rattle.shm_audit.specs.Images.{geometry_in, words_in}
 use Rattle.shm_audit.specs.Texts.{fault_line as image_fault_line, verdict_line}
 use Rattle.shm_audit.specs.Verdicts.{verdict_of}
 use Rattle.shm_graph.specs.Spots.{see}
+use Rattle.shm_io.specs.Faults.{NoFault, Rose}
+use Rattle.shm_io.specs.Reading.{LosesFront}
 use Rattle.shm_io.specs.Writing.{Appends, AppendsFront}
 use Rattle.shm_script.specs.declared.fault.TraceFault.{TraceFault}
 use Rattle.shm_script.specs.Drawing.{drawn_trace}
@@ -13,10 +15,10 @@ use Rattle.shm_script.specs.Faults.{fault_of}
 use Rattle.shm_script.specs.Ranges.{IsTrace, IsTraceText}
 use Rattle.shm_script.specs.Text.{text_of}
 use Rattle.shm_script.specs.Values.{Traced}
-use Rattle.shm_program.specs.Reads.{Reads, ReadsLimit, limit_of}
+use Rattle.shm_program.specs.Reads.{Reads, ReadsLimit, input_of, limit_of, most_of}
 use Rattle.shm_program.specs.Refusals.{fault_line}
 use Rattle.shm_program.specs.Replays.{IsTold}
-use Rattle.shm_program.specs.Words.{job_of}
+use Rattle.shm_program.specs.Words.{NamesCommand, job_of}
 use Rattle.shm_program.specs.declared.outcome.Finished.{Finished}
 use Rattle.shm_program.specs.declared.outcome.Finished.TheVariants.{Neither}
 use Rattle.shm_program.specs.declared.words.Form.TheVariants.{Summary}
@@ -83,10 +85,11 @@ pub record Done (job : Job) (before after : Option (List ℕ)) (finished : Finis
   pub read : Reads job before after bytes
   pub is : IsDone job bytes finished text
 
--- the input was refused: all the bytes that the job is for, or one byte more than a trace, or an image, may have
+-- the input was refused: all the bytes that the job is for, or as many as are read at most: one more than a trace, or an image, may have
 pub record Refused (job : Job) (before after : Option (List ℕ)) (finished : Finished) (text : List ℕ) : Type 0 where
   pub kept : finished ≡ Neither
   pub bytes : List ℕ
+  pub few : length bytes ≤ limit_of job
   pub read : Reads job before after bytes ⊎ ReadsLimit (limit_of job) before after bytes
   pub is : IsFaulty job bytes text
 
@@ -116,3 +119,48 @@ WritesFront before after IsText = (text : List ℕ) × IsText text × AppendsFro
 -- the statuses that the program ends with
 abbrev pub IsStatus : ℕ → Type 0
 IsStatus s = (s ≡ 0) ⊎ ((s ≡ 2) ⊎ ((s ≡ 3) ⊎ ((s ≡ 4) ⊎ ((s ≡ 5) ⊎ (s ≡ 6)))))
+
+-- ---- a whole call
+
+-- a source and a sink at one time: the bytes that are left and those that are held, where they are told, and how many reads and writes failed
+pub record Sides : Type 0 where
+  pub left : Option (List ℕ)
+  pub read_faults : ℕ
+  pub held : Option (List ℕ)
+  pub write_faults : ℕ
+
+abbrev pub sides : Option (List ℕ) → ℕ → Option (List ℕ) → ℕ → Sides
+sides left reads held writes = record { left = left; read_faults = reads; held = held; write_faults = writes }
+
+-- what a call with these words did, by its status and what was made
+pub record IsCall (words : List (List ℕ)) (old new : Sides) (code : ℕ) (made : Finished) : Type 0 where
+  -- the status is one of six
+  pub status : IsStatus code
+  -- 0: what the words ask for was done with all the bytes that it is for, and told
+  pub done : code ≡ 0 → Asks words (λ job. Writes old.held new.held (Done job old.left new.left made))
+  -- 2: the words aren't accepted, and the usage line was written
+  pub misused : code ≡ 2 → Writes old.held new.held (Misused words old.left new.left made)
+  -- 3: the input was refused, and the line that names its first fault was written
+  pub refused : code ≡ 3 → Asks words (λ job. Writes old.held new.held (Refused job old.left new.left made))
+  -- and then no read and no write failed
+  pub quiet : (code ≡ 0) ⊎ ((code ≡ 2) ⊎ (code ≡ 3)) → (new.read_faults ≡ old.read_faults) × (new.write_faults ≡ old.write_faults)
+  -- 4: a read failed, and nothing was written
+  pub read_failed : code ≡ 4 → Rose old.read_faults new.read_faults × (new.held ≡ old.held) × (made ≡ Neither)
+  -- 5: a write failed, behind a front of the text that the words and the bytes give
+  pub write_failed : code ≡ 5 → Rose old.write_faults new.write_faults × WritesFront old.held new.held (Decided words old.left new.left made)
+  -- 6: memory was wanting, and nothing was written
+  pub no_memory : code ≡ 6 → NamesCommand words × (new.held ≡ old.held) × (made ≡ Neither)
+  -- words that aren't accepted end so
+  pub usage : job_of words ≡ None → (code ≡ 2) ⊎ ((code ≡ 5) ⊎ (code ≡ 6))
+  -- valid input is answered, unless a read or a write fails or memory is wanting
+  pub complete : (job : Job) → job_of words ≡ Some job → NoFault old.read_faults new.read_faults → NoFault old.write_faults new.write_faults → (bytes : List ℕ) → input_of job old.left ≡ Some bytes → IsInput job bytes → (code ≡ 0) ⊎ (code ≡ 6)
+  -- and input with a fault is refused
+  pub faulty : (job : Job) → job_of words ≡ Some job → NoFault old.read_faults new.read_faults → NoFault old.write_faults new.write_faults → (bytes text : List ℕ) → input_of job old.left ≡ Some bytes → IsFaulty job bytes text → (code ≡ 3) ⊎ (code ≡ 6)
+  -- whatever the status, no more bytes are gone than the job reads at most
+  pub within : LosesFront old.left new.left (most_of (job_of words))
+  -- where nothing is to be read the source is as it was, and no read failed
+  pub unread : most_of (job_of words) ≡ 0 → (new.left ≡ old.left) × (new.read_faults ≡ old.read_faults) × (code ≢ 4)
+  -- a read that failed is told by 4 alone
+  pub reads_well : code ≢ 4 → new.read_faults ≡ old.read_faults
+  -- and a write that failed by 5 alone
+  pub writes_well : code ≢ 5 → new.write_faults ≡ old.write_faults

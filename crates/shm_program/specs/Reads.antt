@@ -10,6 +10,11 @@ limit_of (Make start size) = 0
 limit_of (Draw start size) = 0
 limit_of _ = 1048577
 
+-- and for what the words ask for: none where they aren't accepted
+abbrev pub most_of : Option Job → ℕ
+most_of None = 0
+most_of (Some job) = limit_of job
+
 -- the bytes that are asked for: those that the source has left, where it tells them, and none where the trace is drawn
 abbrev pub input_of : Job → Option (List ℕ) → Option (List ℕ)
 input_of (Make start size) left = Some []

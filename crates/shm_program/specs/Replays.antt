@@ -1,8 +1,12 @@
 -- the replay of a trace, and what is written of it
-use Rattle.std.specs.Prelude.{◌≡◌, ℕ, List}
+use Rattle.std.specs.Prelude.{◌≡◌, ℕ, List, ◌++◌, codes}
+use Rattle.std.specs.Fmt.{decimal}
 use Rattle.shm_audit.specs.Images.{image_of}
+use Rattle.shm_graph.specs.Blocks.{classes}
+use Rattle.shm_graph.specs.References.{live_count, references, references_in_all}
 use Rattle.shm_graph.specs.Spots.{see}
 use Rattle.shm_graph.specs.declared.table.Entry.{Entry}
+use Rattle.shm_plain.specs.Pools.{Pool}
 use Rattle.shm_replay.specs.declared.replaying.Replayed.{Replayed as Run}
 use Rattle.shm_replay.specs.Replays.{IsReplay}
 use Rattle.shm_report.specs.Report.{report_of, summary_of}
@@ -27,3 +31,10 @@ written Summary run table = let g = run.closed.start.geometry in summary_of g (s
 -- the trace was replayed, and the text is what is written of that
 abbrev pub IsTold : Form → Traced → Finished → List ℕ → Type 0
 IsTold form t finished text = (r : IsRan t finished) × (text ≡ written form r.run r.replay.table)
+
+-- the last line of the report of a replay that left this pool, `live L refs F`: how many of its blocks are live, and how many of its words name one
+abbrev pub last_line : Pool → List ℕ
+last_line p =
+    let g = p.start.geometry in
+    let w = see g p.words in
+    codes "live " ++ decimal (live_count g w) ++ codes " refs " ++ decimal (references_in_all g (classes w) (references g.wide w)) ++ codes "\n"

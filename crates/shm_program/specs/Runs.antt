@@ -12,12 +12,16 @@ use Rattle.shm_graph.specs.Spots.{classes_in, see, spot_at}
 use Rattle.shm_graph.specs.Views.{view}
 use Rattle.shm_plain.specs.Pools.{Pool}
 
+-- the words of this state, and its memos, are sound
+abbrev pub IsSoundState : Pool → State → Type 0
+IsSoundState p s = IsSound p.start.geometry (see p.start.geometry s.words) (view (memos_of s.accounts))
+
 -- the turns before this one led from the first state to one in which it could be taken, and the state behind it is sound
 pub record IsSoundTurn (p : Pool) (before : List Move) (m : Move) : Type 0 where
   pub state : State
   pub leads : Leads p.start.geometry (first_state p.start) before state
   pub may : IsMove state m
-  pub sound : let s = moved state m in IsSound p.start.geometry (see p.start.geometry s.words) (view (memos_of s.accounts))
+  pub sound : IsSoundState p (moved state m)
 
 -- the turns before this word step led from the first state to one in which it was one event of the graph of references, which the memo and the spot tell
 pub record IsOneEvent (p : Pool) (before : List Move) (t : Step) : Type 0 where

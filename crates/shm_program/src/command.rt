@@ -7,9 +7,12 @@ ghost use Rattle.std.specs.IoError.{error_kind};
 ghost use Rattle.std.specs.declared.io.ErrorKind.TheVariants.{OutOfMemory};
 ghost use Rattle.std.specs.Process.{exit_status};
 ghost use Rattle.shm_program.specs.Words.{job_of};
-ghost use Rattle.shm_program.specs.Commands.{ended_with};
+ghost use Rattle.shm_program.specs.Commands.{Ends, EndsUnread, ended_with};
+ghost use Rattle.shm_program.specs.Outcomes.{sides};
 
 use crate::outcome::Outcome;
+use crate::top::top;
+use shm_io::{Sink, Source};
 use std::alloc::{AllocError, Global};
 use std::env::Args;
 use std::io;
@@ -41,4 +44,21 @@ pub fn exit_code(called: &Result<Outcome, AllocError>) -> ExitCode
         Ok(outcome) => ExitCode::from(outcome.status),
         Err(AllocError) => ExitCode::from(6),
     }
+}
+
+/// The whole program over a source and a sink: what the words of the process ask for is done, and the process ends with the status of that.
+pub fn run<S: Source, K: Sink>(
+    alloc: Global,
+    args: io::Result<Args>,
+    source: &mut S,
+    sink: &mut K,
+) -> ExitCode
+    ensures words { IfOk args (λ all. Ends (map string_bytes (drop 1 (into_iter_items all))) (sides (S.left source.old) (S.faults source.old) (K.held sink.old) (K.faults sink.old)) (sides (S.left source.new) (S.faults source.new) (K.held sink.new) (K.faults sink.new)) (exit_status result)) }
+    ensures unread { IfErr args (λ e. EndsUnread (error_kind e) (sides (S.left source.old) (S.faults source.old) (K.held sink.old) (K.faults sink.old)) (sides (S.left source.new) (S.faults source.new) (K.held sink.new) (K.faults sink.new)) (exit_status result)) }
+{
+    let words = match program_words(alloc, args) {
+        Ok(words) => words,
+        Err(wanting) => return exit_code(&Err(wanting)),
+    };
+    exit_code(&Ok(top(alloc, words.as_slice(), source, sink)))
 }

@@ -1,11 +1,12 @@
 //! What holds of each trace that was replayed.
 
-ghost use Rattle.std.specs.Prelude.{◌≡◌, ◌<◌, ◌∷◌, ◌++◌, List, ℕ, None};
+ghost use Rattle.std.specs.Prelude.{◌≡◌, ◌<◌, ◌∷◌, ◌++◌, List, ℕ, None, Option, Some};
 ghost use Rattle.std.specs.List.{flat_map};
 ghost use Rattle.std.specs.FinMap as finmap;
 ghost use Rattle.shm_graph.specs.declared.memo.Step.{Step as AStep};
 ghost use Rattle.shm_graph.specs.declared.run.Move.{Move as AMove};
 ghost use Rattle.shm_graph.specs.declared.run.Move.TheVariants.{Word};
+ghost use Rattle.shm_graph.specs.Runs.{first_state};
 ghost use Rattle.shm_graph.specs.Tables.{map_of};
 ghost use Rattle.shm_replay.specs.Replays.{fold_in};
 ghost use Rattle.shm_replay.specs.Turns.{script_in};
@@ -13,17 +14,21 @@ ghost use Rattle.shm_report.specs.Logs.{log_text};
 ghost use Rattle.shm_script.specs.Values.{Traced};
 ghost use Rattle.shm_program.specs.declared.outcome.Finished.{Finished as AFinished};
 ghost use Rattle.shm_program.specs.declared.words.Form.TheVariants.{Report};
+ghost use Rattle.shm_program.specs.declared.words.Form.{Form as AForm};
+ghost use Rattle.shm_program.specs.declared.words.Job.{Job as AJob};
+ghost use Rattle.shm_program.specs.Outcomes.{Answers, Asks, Decided, Done, Refused};
 ghost use Rattle.shm_program.specs.Replays.{IsRan, IsTold};
-ghost use Rattle.shm_program.specs.Runs.{IsOneEvent, IsSoundTurn};
+ghost use Rattle.shm_program.specs.Runs.{IsOneEvent, IsSoundState, IsSoundTurn};
 
 /// The report of a trace that was replayed begins with the text of these very logs.
 pub fn replay_writes_log()
     ensures { (t : Traced) (finished : AFinished) (text : List ℕ) → (told : IsTold Report t finished text) → (rest : List ℕ) × (text ≡ flat_map log_text told.0.run.logs.items ++ rest) }
 {}
 
-/// Each turn of the pool that was replayed could be taken where it was taken, and led to a sound state. Each word step was one event of the graph
-/// of references.
+/// The state before the first turn of the pool that was replayed is sound. Each turn could be taken where it was taken, and led to a sound state.
+/// Each word step was one event of the graph of references.
 pub fn replays_are_sound()
+    ensures first { (t : Traced) (finished : AFinished) → (r : IsRan t finished) → IsSoundState r.run.closed (first_state r.run.closed.start) }
     ensures states { (t : Traced) (finished : AFinished) → (r : IsRan t finished) → (before after : List AMove) (m : AMove) → r.run.closed.turns ≡ before ++ m ∷ after → IsSoundTurn r.run.closed before m }
     ensures events { (t : Traced) (finished : AFinished) → (r : IsRan t finished) → (before after : List AMove) (s : AStep) → r.run.closed.turns ≡ before ++ Word s ∷ after → IsOneEvent r.run.closed before s }
 {}
@@ -32,4 +37,22 @@ pub fn replays_are_sound()
 pub fn tables_are_of_logs()
     ensures folded { (t : Traced) (finished : AFinished) → (r : IsRan t finished) → (c key : ℕ) → c < t.clients → map_of (r.replay.table c) key ≡ finmap.get (fold_in r.run.logs.items c) key }
     ensures empty { (t : Traced) (finished : AFinished) → (r : IsRan t finished) → (c key : ℕ) → c < t.clients → script_in t.scripts c ≡ None → map_of (r.replay.table c) key ≡ None }
+{}
+
+/// What is written of a trace that was replayed follows from the trace and the form alone.
+pub fn replays_write_one_text()
+    ensures { (form : AForm) (t : Traced) (one other : AFinished) (text again : List ℕ) → IsTold form t one text → IsTold form t other again → text ≡ again }
+{}
+
+/// The status and the text that a job answers follow from its bytes alone.
+pub fn answers_follow_from_bytes()
+    ensures status { (job : AJob) (bytes : List ℕ) (status other : ℕ) (one two : AFinished) (text again : List ℕ) → Answers job bytes status one text → Answers job bytes other two again → status ≡ other }
+    ensures text { (job : AJob) (bytes : List ℕ) (status other : ℕ) (one two : AFinished) (text again : List ℕ) → Answers job bytes status one text → Answers job bytes other two again → text ≡ again }
+{}
+
+/// Where the source tells its bytes, the text that a call writes follows from the words of the call and from those bytes alone, and so does whether
+/// what they ask for is done or refused.
+pub fn calls_write_one_text()
+    ensures text { (ws : List (List ℕ)) (left : List ℕ) (after other : Option (List ℕ)) (one two : AFinished) (text again : List ℕ) → Decided ws (Some left) after one text → Decided ws (Some left) other two again → text ≡ again }
+    ensures apart { (ws : List (List ℕ)) (left : List ℕ) (after other : Option (List ℕ)) (one two : AFinished) (text again : List ℕ) → Asks ws (λ job. Done job (Some left) after one text) → Asks ws (λ job. Refused job (Some left) other two again) → ⊥ }
 {}

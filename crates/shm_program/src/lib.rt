@@ -1,12 +1,13 @@
 //! The program as a function over a source and a sink: which words are accepted, what they ask for, which bytes are read for it, and what is
 //! answered and written.
 //!
-//! `top` is the whole program but for the process: the words that it was called with (`program_words`), the status that it ends with
-//! (`exit_code`), and the standard streams, for which any source and any sink may stand.
+//! `run` is the whole program but for the standard streams, for which any source and any sink may stand: the words that the process was called with
+//! (`program_words`), what is done (`top`), and the status that the process ends with (`exit_code`).
 #![tactic(auto)]
 
 mod answer;
 pub mod command;
+pub mod image_laws;
 pub mod laws;
 pub mod outcome;
 mod refusals;
@@ -14,5 +15,5 @@ mod telling;
 pub mod top;
 pub mod words;
 
-pub use command::{exit_code, program_words};
+pub use command::{exit_code, program_words, run};
 pub use outcome::{Finished, Outcome};

@@ -1,13 +1,11 @@
 //! The program over a source and a sink.
 
-ghost use Rattle.std.specs.Prelude.{◌≡◌, ◌≢◌, ◌⊎◌, map, Some, None, List, ℕ};
+ghost use Rattle.std.specs.Prelude.{◌≡◌, ◌≢◌, ◌⊎◌, map};
 ghost use Rattle.std.specs.String.{string_bytes};
-ghost use Rattle.shm_io.specs.Faults.{Rose, NoFault};
+ghost use Rattle.shm_io.specs.Faults.{Rose};
 ghost use Rattle.shm_io.specs.Writing.{Appends, AppendsFront};
-ghost use Rattle.shm_program.specs.declared.words.Job.{Job as AJob};
-ghost use Rattle.shm_program.specs.Outcomes.{Asks, Decided, Done, IsFaulty, IsInput, IsStatus, Misused, Refused, Writes, WritesFront};
-ghost use Rattle.shm_program.specs.Reads.{input_of, limit_of};
-ghost use Rattle.shm_program.specs.Words.{NamesCommand, job_of};
+ghost use Rattle.shm_program.specs.Outcomes.{IsCall, sides};
+ghost use Rattle.shm_program.specs.Reads.{limit_of};
 
 use crate::answer::{Reply, answer};
 use crate::outcome::{Finished, Outcome};
@@ -31,31 +29,16 @@ const USAGE: &str = "usage: cxlshm replay [--image|--print] | audit | make START
 /// - `make START SIZE` reads nothing. It replays the trace that is drawn from START, 0 to 2^64 - 1, with SIZE commands, 1 to 4,000, for each
 ///   of four clients, and writes the summary; with `--print` it writes that trace, without a replay.
 ///
-/// The whole text is made before the first write. At most 1,048,577 bytes of a trace and 4,254,369 bytes of an image are read, in pieces of
-/// 4,096.
+/// The whole text is made before the first write. At most 1,048,577 bytes of a trace and 4,254,369 bytes of an image are read.
+///
+/// The clauses are the fields of `IsCall` (specs/Outcomes.antt), which `run` shares.
 pub fn top<S: Source, K: Sink>(
     alloc: Global,
     words: &[String],
     source: &mut S,
     sink: &mut K,
 ) -> Outcome
-    ensures status { IsStatus result.status }
-
-    // What was done and written.
-    ensures done { result.status ≡ 0 → Asks (map string_bytes words.now) (λ job. Writes (K.held sink.old) (K.held sink.new) (Done job (S.left source.old) (S.left source.new) result.finished)) }
-    ensures misused { result.status ≡ 2 → Writes (K.held sink.old) (K.held sink.new) (Misused (map string_bytes words.now) (S.left source.old) (S.left source.new) result.finished) }
-    ensures refused { result.status ≡ 3 → Asks (map string_bytes words.now) (λ job. Writes (K.held sink.old) (K.held sink.new) (Refused job (S.left source.old) (S.left source.new) result.finished)) }
-    ensures quiet { (result.status ≡ 0) ⊎ ((result.status ≡ 2) ⊎ (result.status ≡ 3)) → (S.faults source.new ≡ S.faults source.old) × (K.faults sink.new ≡ K.faults sink.old) }
-
-    // A failed read, a failed write and want of memory.
-    ensures read_failed { result.status ≡ 4 → Rose (S.faults source.old) (S.faults source.new) × (K.held sink.new ≡ K.held sink.old) × (result.finished ≡ Finished.Neither) }
-    ensures write_failed { result.status ≡ 5 → Rose (K.faults sink.old) (K.faults sink.new) × WritesFront (K.held sink.old) (K.held sink.new) (Decided (map string_bytes words.now) (S.left source.old) (S.left source.new) result.finished) }
-    ensures no_memory { result.status ≡ 6 → NamesCommand (map string_bytes words.now) × (K.held sink.new ≡ K.held sink.old) × (result.finished ≡ Finished.Neither) }
-
-    // When each status comes.
-    ensures usage { job_of (map string_bytes words.now) ≡ None → (result.status ≡ 2) ⊎ ((result.status ≡ 5) ⊎ (result.status ≡ 6)) }
-    ensures complete { (job : AJob) → job_of (map string_bytes words.now) ≡ Some job → NoFault (S.faults source.old) (S.faults source.new) → NoFault (K.faults sink.old) (K.faults sink.new) → (bytes : List ℕ) → input_of job (S.left source.old) ≡ Some bytes → IsInput job bytes → (result.status ≡ 0) ⊎ (result.status ≡ 6) }
-    ensures faulty { (job : AJob) → job_of (map string_bytes words.now) ≡ Some job → NoFault (S.faults source.old) (S.faults source.new) → NoFault (K.faults sink.old) (K.faults sink.new) → (bytes text : List ℕ) → input_of job (S.left source.old) ≡ Some bytes → IsFaulty job bytes text → (result.status ≡ 3) ⊎ (result.status ≡ 6) }
+    ensures { IsCall (map string_bytes words.now) (sides (S.left source.old) (S.faults source.old) (K.held sink.old) (K.faults sink.old)) (sides (S.left source.new) (S.faults source.new) (K.held sink.new) (K.faults sink.new)) result.status result.finished }
 {
     let job = match job_of(alloc, words) {
         Ok(Some(job)) => job,

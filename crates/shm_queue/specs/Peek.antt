@@ -1,7 +1,7 @@
 -- a peek as a plan: what is known before each call, and what is left
 pub mod Control
 pub mod Laws
-use Rattle.std.specs.Prelude.{◌≡◌, ◌≢◌, ℕ, ◌+◌, ◌-◌, ◌%◌, ◌^◌, ◌<◌, false, Result, Ok, Err, List, [], ◌∷◌}
+use Rattle.std.specs.Prelude.{◌≡◌, ◌≢◌, ℕ, ◌+◌, ◌-◌, ◌%◌, ◌^◌, ◌<◌, ◌≤◌, false, Result, Ok, Err, List, [], ◌∷◌}
 use Rattle.std.specs.List.{Contains}
 use Rattle.shm_graph.specs.Bounds.{redo_steps}
 use Rattle.shm_graph.specs.declared.ask.Ask.{Ask}
@@ -59,9 +59,10 @@ pub record Peeked (me : Me) (s n b k : ℕ) (r0 r : Memo) (tr : Trail) (es : Lis
   pub events : es ≡ event.Up me.who (spot.Root me.who k) b ∷ []
   pub bound : IsWithin (11 + redo_steps me.geometry.wide + k) tr
 
--- the item got no root: nothing was done, but that the item is known
+-- a tail that was read is above the head, and the item got no root: nothing was done, but that the item is known
 pub record NotPeeked (me : Me) (s n b : ℕ) (r0 r : Memo) (tr : Trail) (es : List Event) : Type 0 where
   pub at : n ≡ own_word r0.own (spot.QueueHead s me.who)
+  pub some : (y : ℕ) × Contains r.facts (Counter (spot.Tail s me.who) y) × (n < y)
   pub untouched : Untouched me.who (slot_memo me.who s n b r0) r
   pub none : es ≡ []
   pub bound : IsWithin (26 + redo_steps me.geometry.wide) tr
@@ -69,8 +70,8 @@ pub record NotPeeked (me : Me) (s n b : ℕ) (r0 r : Memo) (tr : Trail) (es : Li
 abbrev pub PeekRefused : PeekState → Memo → Memo → Trail → List Event → PeekFault → Type 0
 PeekRefused m r0 r tr es (Empty n) = TakeEmpty m.me m.from n r0 r tr es
 PeekRefused m r0 r tr es (EraSpent e) = (n : ℕ) × (b : ℕ) × NotPeeked m.me m.from n b r0 r tr es × (e ≡ own_word r0.own (spot.Era m.me.who m.me.who)) × (2 ^ 47 - 3 < e)
-PeekRefused m r0 r tr es RootsFull = (n : ℕ) × (b : ℕ) × NotPeeked m.me m.from n b r0 r tr es × ((j : ℕ) → j < 16 → root_word m.me.who r0 j ≢ 0)
-PeekRefused m r0 r tr es (CountFull b k) = (n : ℕ) × NotPeeked m.me m.from n b r0 r tr es × (k ≡ 1023)
+PeekRefused m r0 r tr es RootsFull = (n : ℕ) × (b : ℕ) × NotPeeked m.me m.from n b r0 r tr es × ((own_word r0.own (spot.Era m.me.who m.me.who) + 3 ≤ 2 ^ 47) × ((j : ℕ) → j < 16 → root_word m.me.who r0 j ≢ 0))
+PeekRefused m r0 r tr es (CountFull b k) = (n : ℕ) × NotPeeked m.me m.from n b r0 r tr es × ((own_word r0.own (spot.Era m.me.who m.me.who) + 3 ≤ 2 ^ 47) × (k ≡ 1023))
 
 abbrev pub PeekLeaves : PeekState → Memo → Memo → Trail → List Event → Result Made PeekFault → Type 0
 PeekLeaves m r0 r tr es (Ok made) = (n : ℕ) × Peeked m.me m.from n made.block made.root r0 r tr es

@@ -168,11 +168,12 @@ pub record TakeEmpty (me : Me) (s n : ℕ) (r0 r : Memo) (tr : Trail) (es : List
   pub none : es ≡ []
   pub bound : IsWithin 2 tr
 
--- the step down was refused: nothing was done, but that the item is known
+-- a tail that was read is above the head, and the step down was refused: nothing was done, but that the item is known
 pub record NotTaken (me : Me) (s : ℕ) (r0 r : Memo) (tr : Trail) (es : List Event) (era : ℕ) : Type 0 where
   pub place : ℕ
   pub block : ℕ
   pub at : place ≡ own_word r0.own (spot.QueueHead s me.who)
+  pub some : (y : ℕ) × Contains r.facts (Counter (spot.Tail s me.who) y) × (place < y)
   pub spent : era ≡ own_word r0.own (spot.Era me.who me.who)
   pub untouched : Untouched me.who (slot_memo me.who s place block r0) r
   pub none : es ≡ []

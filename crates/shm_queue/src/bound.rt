@@ -1,6 +1,6 @@
 //! How many word steps machines over queues make.
 
-ghost use Rattle.std.specs.Prelude.{ℕ, ◌+◌, ◌*◌, ◌⊎◌, Result, Ok, Err, length};
+ghost use Rattle.std.specs.Prelude.{◌≡◌, ℕ, ◌+◌, ◌*◌, ◌⊎◌, true, false, Result, Ok, Err, length};
 ghost use Rattle.shm_graph.specs.declared.ask.Me.{Me as AMe};
 ghost use Rattle.shm_graph.specs.declared.memo.Memo.{Memo as AMemo};
 ghost use Rattle.shm_graph.specs.Asks.{Trail, IsWithin};
@@ -41,6 +41,8 @@ pub fn peek_bound()
 pub fn drain_bound()
     ensures done { (me : AMe) (n : ℕ) (r0 r : AMemo) (tr : Trail) → DrainGives me r0 r tr (Ok n) → IsWithin (drain_steps me.geometry.wide me.geometry.clients n (frees (drain_told me tr))) tr }
     ensures spent { (me : AMe) (r0 r : AMemo) (tr : Trail) (e : ASpent) → DrainGives me r0 r tr (Err e) → (d : DrainStopped me r0 r tr (drain_told me tr) e.era) × (IsWithin (drain_steps me.geometry.wide me.geometry.clients (length d.items) (frees (drain_told me tr))) tr ⊎ ((t : TakeStopped me d.from d.q r d.last d.after e.era) × IsWithin (drain_steps me.geometry.wide me.geometry.clients (length d.items + 1) (frees (drain_told me tr) + length t.left)) tr)) }
+    ensures steps { (n q t : ℕ) → drain_steps false n q t ≡ 12 * q + 2 * n + 164 * t + 4 }
+    ensures wide { (n q t : ℕ) → drain_steps true n q t ≡ 13 * q + 2 * n + 180 * t + 4 }
 {}
 
 /// A receive took at most 39 word steps and 164 for each block that it freed or left on the way, in format 2 41 and 180, and three more

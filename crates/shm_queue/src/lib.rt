@@ -11,6 +11,7 @@ pub mod events;
 pub mod parts;
 pub mod peek;
 pub mod receive;
+pub mod refusals;
 pub mod send;
 pub mod take;
 
@@ -24,5 +25,6 @@ pub use events::{
 };
 pub use peek::{Peek, Peeking};
 pub use receive::{Receive, Receiving};
+pub use refusals::{drain_refusals, peek_refusals, receive_refusals, send_refusals, take_refusals};
 pub use send::{Send, Sending};
 pub use take::{Take, Taking};

@@ -1,2 +1,4 @@
 pub mod JoinPart
 pub mod Steady
+pub mod Departing
+pub mod Spent

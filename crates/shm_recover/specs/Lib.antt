@@ -11,4 +11,5 @@ pub mod TakeBack
 pub mod Scan
 pub mod GiveUp
 pub mod Recover
+pub mod Departures
 pub mod Machines

@@ -141,12 +141,15 @@ pub record Recovered (me : Me) (r0 r : Memo) (tr : Trail) (es : List Event) : Ty
 abbrev pub HasCome : ℕ → Memo → Memo → Type 0
 HasCome c r0 r = SameTakes c r0 r ⊎ ((AreRootless c r × SameTakes c r0 r) ⊎ (AreRootless c r × AreSent r × AreTaken c r0 r))
 
--- The own era left no room for a step down: the identity is dead still, with no step in progress and no latch held; what was sent and the map are what they were
+-- The own era left no room for a step down: the identity is dead still, with no step in progress and no latch held; its segments, what was sent, the tails, the map and what the home names are what they were, counting what was committed
 pub record RecoverStopped (me : Me) (r0 r : Memo) (tr : Trail) (es : List Event) (era : ℕ) : Type 0 where
   pub status : r.status ≡ status.Dead
   pub op : r.op ≡ Nothing
   pub latch : r.latch ≡ None
+  pub owned : r.owned ≡ r0.owned
   pub sent : r.sent ≡ r0.sent
+  pub tails : (i : ℕ) → own_word r.own (Tail me.who i) ≡ own_word r0.own (Tail me.who i)
+  pub home : own_word r.own (Home me.who) ≡ shown r0 (Home me.who)
   pub loose : is_loose r.part ≡ is_loose r0.part
   pub map : map_in r.part ≡ map_in r0.part
   pub come : HasCome me.who r0 r

@@ -1,6 +1,6 @@
 //! How many word steps a leaving makes.
 
-ghost use Rattle.std.specs.Prelude.{ℕ, ◌+◌, Result, Ok, Err, List, length};
+ghost use Rattle.std.specs.Prelude.{◌≡◌, ℕ, ◌+◌, ◌*◌, false, true, Result, Ok, Err, List, length};
 ghost use Rattle.shm_graph.specs.declared.ask.Me.{Me as AMe};
 ghost use Rattle.shm_graph.specs.declared.memo.Memo.{Memo as AMemo};
 ghost use Rattle.shm_graph.specs.Asks.{Trail, IsWithin};
@@ -15,4 +15,6 @@ ghost use Rattle.shm_recover.specs.Machines.{LeaveGives, leave_told};
 pub fn leave_bound()
     ensures done { (me : AMe) (r0 r : AMemo) (tr : Trail) → LeaveGives me r0 r tr (Ok tt) → IsWithin (leave_steps me.geometry.wide me.geometry.segments (frees (leave_told me tr))) tr }
     ensures spent { (me : AMe) (r0 r : AMemo) (tr : Trail) (e : ASpent) → LeaveGives me r0 r tr (Err e) → (vs : List Visit) × Stopped me r0 r e.era vs × IsWithin (leave_steps me.geometry.wide me.geometry.segments (frees (leave_told me tr) + length vs)) tr }
+    ensures steps { (g t : ℕ) → leave_steps false g t ≡ 2 * g + 164 * t + 145 }
+    ensures wide { (g t : ℕ) → leave_steps true g t ≡ 2 * g + 180 * t + 161 }
 {}

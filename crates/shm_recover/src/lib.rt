@@ -2,6 +2,7 @@
 #![tactic(auto)]
 
 pub mod bound;
+pub mod departures;
 pub mod events;
 pub mod finish_takes;
 pub mod give_up;
@@ -19,6 +20,7 @@ pub mod stays;
 pub mod take_back;
 
 pub use bound::leave_bound;
+pub use departures::{departed_hold_nothing, recovery_keeps, scan_frees_all, spent_departures};
 pub use events::{leave_begins, leave_events, leave_gone, leave_leaves};
 pub use join::{Join, JoinPoint, JoinState, join_bound};
 pub use leave::{Leave, Leaving};

@@ -1,7 +1,7 @@
 //! When the machines that a recovery is made of may begin, what they do to the graph of references, what they leave, and how many word steps
 //! they take.
 
-ghost use Rattle.std.specs.Prelude.{◌≡◌, ℕ, ◌+◌, ◌*◌, ◌-◌, ◌<◌, Result, Ok, Err, [], List, length};
+ghost use Rattle.std.specs.Prelude.{◌≡◌, ℕ, ◌+◌, ◌*◌, ◌-◌, ◌<◌, false, true, Result, Ok, Err, [], List, length};
 ghost use Rattle.shm_graph.specs.declared.ask.Me.{Me as AMe};
 ghost use Rattle.shm_graph.specs.declared.memo.Memo.{Memo as AMemo};
 ghost use Rattle.shm_graph.specs.Asks.{Trail, IsWithin};
@@ -150,4 +150,6 @@ pub fn recover_gone()
 pub fn recover_bound()
     ensures done { (me : AMe) (r0 r : AMemo) (tr : Trail) → RecoverGives me r0 r tr (Ok tt) → IsWithin (recovery_steps me.geometry.wide me.geometry.segments (frees (recover_told me tr))) tr }
     ensures spent { (me : AMe) (r0 r : AMemo) (tr : Trail) (e : ASpent) → RecoverGives me r0 r tr (Err e) → (s : RecoverStopped me r0 r tr (recover_told me tr) e.era) × IsWithin (recovery_steps me.geometry.wide me.geometry.segments (frees (recover_told me tr) + length s.vs)) tr }
+    ensures steps { (g t : ℕ) → recovery_steps false g t ≡ 530 * g + 164 * t + 400 }
+    ensures wide { (g t : ℕ) → recovery_steps true g t ≡ 530 * g + 180 * t + 432 }
 {}

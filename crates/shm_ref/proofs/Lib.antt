@@ -1,1 +1,3 @@
 pub mod Steady
+pub mod FullCounts
+pub mod RefusedDrops

@@ -17,11 +17,11 @@ use Rattle.shm_calls.specs.Plans.{Planned}
 use Rattle.shm_count.specs.declared.answer.EraSpent.{EraSpent}
 use Rattle.shm_count.specs.CountParts.{tear_part}
 use Rattle.shm_count.specs.Roots.{root_word}
-use Rattle.shm_count.specs.Slots.{Lost}
+use Rattle.shm_count.specs.Slots.{Lost, Took, Untouched}
 use Rattle.shm_count.specs.Slots.Parts.{down_slot_part}
 use Rattle.shm_count.specs.Step.Control.{IsInside}
 use Rattle.shm_graph.specs.Core.{core}
-use Rattle.shm_count.specs.Tear.Events.{Visit, frees}
+use Rattle.shm_count.specs.Tear.Events.{Visit, Walks, frees}
 use Rattle.shm_count.specs.Tear.{CanTear}
 use Rattle.shm_ref.specs.declared.drop_root.DropPoint.{DropPoint}
 use Rattle.shm_ref.specs.declared.drop_root.DropPoint.TheVariants.{Load, Lower, Tear}
@@ -75,8 +75,14 @@ pub record Dropped (m : DropState) (r0 r : Memo) (tr : Trail) (es : List Event) 
   pub events : RootEvents m.me.who m.root (root_word m.me.who r0 m.root) es
   pub bound : IsWithin (8 + redo_steps m.me.geometry.wide + tear_steps m.me.geometry.wide (frees es)) tr
 
+-- the own era was spent at a root that names a block: at the step down, and nothing was done; or at a step down of the tear-down: the root is empty, the loss of its reference comes first, and these blocks are left as zero-count blocks
+pub data DropSpent (c k : ℕ) (r0 r : Memo) (es : List Event) (e : ℕ) (vs : List Visit) : Type 0 where
+  AtStep : (some : root_word c r0 k ≢ 0) (memo : Untouched c r0 r) (cause : e ≡ own_word r0.own (Era c c)) (none : es ≡ []) (all : vs ≡ []) → DropSpent c k r0 r es e vs
+  AtTear : (some : root_word c r0 k ≢ 0) (took : Took c (Root c k) false (root_word c r0 k) 0 false r0 r) (torn : List Event) (told : es ≡ event.Down c (Root c k) (root_word c r0 k) ∷ torn) (walk : Walks c (root_word c r0 k) torn vs) → DropSpent c k r0 r es e vs
+
 -- the own era left no room for a step down, and is at least the one that was read
 pub record DropStopped (m : DropState) (r0 r : Memo) (tr : Trail) (es : List Event) (era : ℕ) (vs : List Visit) : Type 0 where
+  pub at : DropSpent m.me.who m.root r0 r es era vs
   pub left : Left m.me.who (λ j. m.root == j) r0 r
   pub remains : Remains m.me.who r0 r
   pub stopped : Stopped m.me r0 r era vs

@@ -1,7 +1,7 @@
 -- a drop of all roots as a plan: what is known before each root, and what is left
 pub mod Control
 pub mod Laws
-use Rattle.std.specs.Prelude.{◌≡◌, ℕ, ◌+◌, ◌*◌, ◌<◌, ◌≤◌, ◌==◌, nat_lt, Bool, Result, Ok, Err, List, [], length}
+use Rattle.std.specs.Prelude.{◌≡◌, ℕ, ◌+◌, ◌*◌, ◌<◌, ◌≤◌, ◌==◌, nat_lt, Bool, Result, Ok, Err, List, [], ◌++◌, length}
 use Rattle.shm_graph.specs.Bounds.{redo_steps, tear_steps}
 use Rattle.shm_graph.specs.declared.ask.Me.{Me}
 use Rattle.shm_graph.specs.declared.memo.Memo.{Memo}
@@ -15,8 +15,8 @@ use Rattle.shm_count.specs.declared.answer.EraSpent.{EraSpent}
 use Rattle.shm_count.specs.Roots.{root_word}
 use Rattle.shm_count.specs.Tear.Events.{Visit, frees}
 use Rattle.shm_ref.specs.declared.drop_roots.RootsState.{RootsState}
-use Rattle.shm_ref.specs.DropRoot.Control.{drop_parts}
-use Rattle.shm_ref.specs.DropRoot.{drop_plan}
+use Rattle.shm_ref.specs.DropRoot.Control.{drop_parts, dropping}
+use Rattle.shm_ref.specs.DropRoot.{DropStopped, drop_plan}
 use Rattle.shm_ref.specs.Lefts.{Left, MayDrop, RootsEvents, Stopped}
 use Rattle.shm_ref.specs.DropRoots.Control.{RootsCall, roots_call, roots_after, roots_turns}
 
@@ -34,8 +34,23 @@ pub record RootsKnows (m : RootsState) (r0 r : Memo) (tr : Trail) (es : List Eve
   pub low : m.root < 16
   pub gone : AreGone m.me m.root r0 r tr es
 
+-- the roots before this one are empty, which left q, and the drop of this one was refused, which left r
+pub record RefusedAt (me : Me) (r0 r : Memo) (tr : Trail) (es : List Event) (era : ℕ) (vs : List Visit) : Type 0 where
+  pub root : ℕ
+  pub low : root < 16
+  pub q : Memo
+  pub first : Trail
+  pub next : Trail
+  pub asked : tr ≡ first ++ next
+  pub before : List Event
+  pub after : List Event
+  pub split : es ≡ before ++ after
+  pub gone : AreGone me root r0 q first before
+  pub drop : DropStopped (dropping me root) q r next after era vs
+
 -- the own era left no room for a step down, and is at least the one that was read
 pub record RootsStopped (m : RootsState) (r0 r : Memo) (tr : Trail) (es : List Event) (era : ℕ) (vs : List Visit) : Type 0 where
+  pub at : RefusedAt m.me r0 r tr es era vs
   pub left : Left m.me.who (λ j. nat_lt j 16) r0 r
   pub stopped : Stopped m.me r0 r era vs
   pub most : era ≤ own_word r.own (Era m.me.who m.me.who)

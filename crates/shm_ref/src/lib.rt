@@ -16,6 +16,7 @@ pub mod home_of;
 pub mod look;
 pub mod parts;
 pub mod read;
+pub mod refusals;
 pub mod release;
 pub mod root_of;
 pub mod set_home;
@@ -42,6 +43,10 @@ pub use hold::{Hold, Holding};
 pub use home_of::{FindingHome, HomeOf};
 pub use look::{Look, Looking};
 pub use read::{Read, Reading};
+pub use refusals::{
+    drop_root_refusals, hold_refusals, home_of_refusals, latch_needed, look_refusals,
+    read_refusals, set_home_refusals, set_ref_refusals, share_refusals,
+};
 pub use release::{Release, Releasing};
 pub use root_of::{Naming, RootOf};
 pub use set_home::{Homing, SetHome};

@@ -8,6 +8,7 @@ pub use crate::hold::{HoldPoint, HoldState};
 pub use crate::home_of::{FindPoint, FindState};
 pub use crate::look::{LookPoint, LookState};
 pub use crate::read::{ReadPoint, ReadState};
+pub use crate::refusals::drop_roots_refusals;
 pub use crate::release::{ReleasePoint, ReleaseState};
 pub use crate::root_of::NamingState;
 pub use crate::set_home::{HomePoint, HomeState};

@@ -46,6 +46,7 @@ use Rattle.shm_replay.proofs.Effects.{behind_none, behind_some, effect_line, fol
 use Rattle.shm_replay.proofs.Growing.{began_last, get_last, index_is, log_on, steps_of-end, sum_more, told_rest, with_last-end}
 use Rattle.shm_replay.proofs.Lines.{command_line}
 use Rattle.shm_replay.proofs.Trails.{after_first, after_second, entries_rest}
+use Rattle.shm_replay.proofs.Unspent.{unspent_shown}
 
 -- the map of a command that runs: the first law of `command_maps`
 abbrev pub CommandMaps : Type 0
@@ -63,7 +64,7 @@ fallen_by s y e here settled many fell made = go (slice_get (lives_of s.life) (y
     go : (o : Option ℕ) → slice_get (lives_of s.life) (y.agent + 1) ≡ o → IsFallen s (follows o y) e
     go None none =
         record {
-          settled = record { end = settled.end; ended = settled.ended; log = settled.log; fold = settled.fold; table = settled.table };
+          settled = record { end = settled.end; ended = settled.ended; log = settled.log; unspent = settled.unspent; fold = settled.fold; table = settled.table };
           many = many;
           some = omega arith;
           fell = fell;
@@ -72,7 +73,7 @@ fallen_by s y e here settled many fell made = go (slice_get (lives_of s.life) (y
         }
     go (Some n) at =
         record {
-          settled = record { end = settled.end; ended = settled.ended; log = settled.log; fold = settled.fold; table = settled.table };
+          settled = record { end = settled.end; ended = settled.ended; log = settled.log; unspent = settled.unspent; fold = settled.fold; table = settled.table };
           many = many;
           some = omega arith;
           fell = fell;
@@ -112,6 +113,7 @@ module _ (s : Scripted) (x : Playing) (e : Account) (spent : x.life.left ≡ 0) 
           end = h.settled.end;
           ended = h.settled.ended;
           log = log_on x.me s e.memo.agents e2.memo.agents e.begun e.begun e.told told (logged x) mended_began (λ k some same. same) rest.0 rest.1 h.settled.log;
+          unspent = h.settled.unspent;
           fold = h.settled.fold;
           table = h.settled.table;
         }
@@ -204,6 +206,7 @@ module _ (s : Scripted) (x : Playing) (e : Account) (spent : x.life.left ≡ 0) 
               entries = entries_rest x.me h.told.behind l.rest x.entries h.told.entries;
               end = (refl, began, l.was);
             };
+            unspent = unspent_shown x.entries line x.work h.unspent;
             fold = fold;
             table = table;
           }

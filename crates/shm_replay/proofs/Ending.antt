@@ -23,7 +23,7 @@ use Rattle.shm_replay.specs.declared.agents.Standing.{Standing}
 use Rattle.shm_replay.specs.declared.agents.Standing.TheVariants.{AtWork, Dead}
 use Rattle.shm_replay.specs.Agents.{Fallen, Fresh, HasParted, IsFallen, IsFold, IsMended, Mended, Mending, Parted, Playing, Plays, Stage, end_or, is_at_work, logged}
 use Rattle.shm_replay.specs.Closings.{MayVisit, is_dead, is_standing_dead}
-use Rattle.shm_replay.specs.Logs.{HasEnd, IsLogOf}
+use Rattle.shm_replay.specs.Logs.{AreUnspent, HasEnd, IsLogOf}
 use Rattle.shm_replay.specs.Seats.{IsSeat, Seat}
 use Rattle.shm_replay.specs.Turns.{is_busy, lives_of}
 use Rattle.shm_replay.proofs.Seating.{seat_busy}
@@ -110,6 +110,11 @@ pub over_fold : (s : Scripted) (x : Playing) (e : Account) → IsOver s x e → 
 over_fold s x e (inl p) = p.fold
 over_fold s x e (inr (inl p)) = p.settled.fold
 over_fold s x e (inr (inr (dead, f))) = f.settled.fold
+
+pub over_unspent : (s : Scripted) (x : Playing) (e : Account) → IsOver s x e → AreUnspent x.entries
+over_unspent s x e (inl p) = p.unspent
+over_unspent s x e (inr (inl p)) = p.settled.unspent
+over_unspent s x e (inr (inr (dead, f))) = f.settled.unspent
 
 pub over_table : (s : Scripted) (x : Playing) (e : Account) → IsOver s x e → is_loose e.memo.part ≡ false
 over_table s x e (inl p) = p.table

@@ -56,6 +56,13 @@ logs_are p (s ∷ ss) xs h =
     let (x, e, l) = h 0 s refl in
     subst (λ o. AreLogs p (s ∷ ss) (log_at o ++ logs_by ss xs)) (sym e) (l, logs_are p ss xs (λ k r g. h (suc k) r g))
 
+-- what holds of the log of each script's client holds of all logs
+pub logs_all : (P : Logged → Type 0) (ss : List Scripted) (xs : List (Option Playing)) → ((k : ℕ) (s : Scripted) → slice_get ss k ≡ Some s → (x : Playing) × (slice_index_or xs s.client None ≡ Some x) × P (logged x)) → AllByRecursion P (logs_by ss xs)
+logs_all P [] xs h = tt
+logs_all P (s ∷ ss) xs h =
+    let (x, e, l) = h 0 s refl in
+    subst (λ o. AllByRecursion P (log_at o ++ logs_by ss xs)) (sym e) (l, logs_all P ss xs (λ k r g. h (suc k) r g))
+
 -- each script has a client of its identity
 abbrev pub HaveClients : List Scripted → List (Option Playing) → Type 0
 HaveClients ss xs = (k : ℕ) (s : Scripted) → slice_get ss k ≡ Some s → (x : Playing) × (slice_index_or xs s.client None ≡ Some x) × (x.me.who ≡ s.client)

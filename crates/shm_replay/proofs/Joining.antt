@@ -80,6 +80,7 @@ module _ (start : Start) (me : Me) (n : ℕ) where
           life = full ∙ ap Some (sym spent);
           few = omega arith;
           commands = refl;
+          unspent = tt;
           start = e2.memo;
           ready = ready;
           me = behind_me me lines 0;

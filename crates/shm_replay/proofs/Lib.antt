@@ -1,5 +1,6 @@
 pub mod Standing
 pub mod Folding
+mod Unspent
 pub mod WorkLaws
 pub mod Trails
 pub mod Lines
@@ -29,3 +30,8 @@ mod Ending
 mod WholeRun
 mod Starting
 mod Answering
+mod SomeSteps
+mod SameTurns
+mod SameRuns
+mod SameLogs
+pub mod SameReplays

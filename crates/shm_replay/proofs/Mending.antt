@@ -153,6 +153,7 @@ module _ (start : Start) (s : Scripted) (x : Playing) (e : Account) (may : MayPl
                 (λ n f b. subst (λ (xs : List Agent). BeganWith xs n f) (sym agents_first) (began_more e.memo.agents (record { kind = Recoverer; steps = 1; fate = fate.Acts } ∷ []) n f b))
                 (λ k some is. subst (λ (bs : List (List (List ℕ))). begun_first bs ≡ k) (sym first_lines) (first_more e.begun ((t.line ∷ []) ∷ []) k some is))
                 [] (first_told ∙ sym (append-nil (told_left true e))) h.settled.log;
+            unspent = h.settled.unspent;
             fold = λ key. ap (λ f. f key) first_same.0 ∙ h.settled.fold key;
             table = first_same.1 ∙ h.settled.table;
           }
@@ -259,6 +260,7 @@ module _ (s : Scripted) (x : Playing) (e : Account) (h : IsMending s x e) (n : �
           end = h.settled.end;
           ended = h.settled.ended;
           log = log_on x.me s e.memo.agents e2.memo.agents e.begun e2.begun e.told e2.told (logged x) (first_agent (stepped it) agents) begun_first_same [] (told ∙ sym (append-nil e.told)) h.settled.log;
+          unspent = h.settled.unspent;
           fold = λ key. ap (λ f. f key) same.0 ∙ h.fold key;
           table = same.1 ∙ h.table;
         }
@@ -361,6 +363,7 @@ module _ (s : Scripted) (x : Playing) (e : Account) (h : IsMending s x e) (n : �
             end = h.settled.end;
             ended = h.settled.ended;
             log = log_on x.me s e.memo.agents e2.memo.agents e.begun e2.begun e.told e2.told (logged x) (first_agent (ended (stepped it)) last_agents) begun_first_same told_last.0 told_last.1 h.settled.log;
+            unspent = h.settled.unspent;
             fold = λ key. ap (λ f. f key) left.leaves.map ∙ h.fold key;
             table = left.leaves.loose ∙ h.table;
           };

@@ -57,6 +57,7 @@ use Rattle.shm_replay.specs.Logs.{answer_along}
 use Rattle.shm_replay.specs.Turns.{lives_of}
 use Rattle.shm_replay.specs.Work.{Work, WorkFits, WorkGives, commanding, work_control}
 use Rattle.shm_replay.proofs.Folding.{HasRoom, command_leaves}
+use Rattle.shm_replay.proofs.Unspent.{command_unspent, unspent_more}
 use Rattle.shm_replay.proofs.Lines.{command_line}
 use Rattle.shm_replay.proofs.Trails.{after_first, after_second, answer_inside, answer_last, begun_more, begun_on, entries_more, entries_rest, left_same, many_more, runs_more, told_more, told_spelled}
 use Rattle.shm_replay.proofs.WorkLaws.{behind_fits, behind_fresh, behind_going, behind_me, work_laws}
@@ -174,6 +175,7 @@ module _ (s : Scripted) (x : Playing) (e : Account) (h : IsPlaying s x e) (n : �
         life = lived;
         few = h.few;
         commands = h.commands;
+        unspent = h.unspent;
         start = h.start;
         ready = h.ready;
         me = stays.same_me ∙ h.me;
@@ -293,6 +295,7 @@ module _ (s : Scripted) (x : Playing) (e : Account) (h : IsPlaying s x e) (n : �
             life = lived;
             few = let m = more in let b = below in omega arith;
             commands = lines_more;
+            unspent = unspent_more x.entries entry h.unspent (command_unspent x.me h.start e2.memo room command_at.0 e2.memo.call a command_at.3);
             start = e2.memo;
             ready = ready;
             me = behind_me x.me lines (length follow.entries);
@@ -354,6 +357,7 @@ module _ (s : Scripted) (x : Playing) (e : Account) (h : IsPlaying s x e) (n : �
             agents = agents true (ap (λ (s : AStatus). is_gone s && t.ends) gone.leaves.status ∙ leave_over);
             life = lived;
             commands = h.commands ∙ (ap (λ (k : ℕ). take k lines) ended ∙ take-length lines);
+            unspent = h.unspent;
             status = gone.leaves.status;
             gone = gone.leaves.left;
             fold = λ key. ap (λ p. map_in p key) gone.leaves.part ∙ h.ready.fold key;

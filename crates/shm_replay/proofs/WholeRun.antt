@@ -19,19 +19,20 @@ use Rattle.shm_steps.specs.Reparting.{chain_in, map_in}
 use Rattle.shm_plain.specs.Closings.{IsClosedRun}
 use Rattle.shm_plain.specs.Pools.{IsRun, Pool, first_pool, memo_of}
 use Rattle.shm_plain.proofs.StillTable.{still_part}
+use Rattle.shm_script.specs.Logged.{Logged}
 use Rattle.shm_script.specs.Ranges.{AreApart, IsTrace, ScriptFits}
 use Rattle.shm_script.specs.Values.{Scripted, Traced}
 use Rattle.shm_replay.specs.Agents.{Playing, logged}
 use Rattle.shm_replay.specs.Closings.{AreVisits, HasTold, SameTable, is_dead, is_standing_dead}
 use Rattle.shm_replay.specs.Gathered.{logs_by}
-use Rattle.shm_replay.specs.Logs.{IsLog, IsLogOf}
+use Rattle.shm_replay.specs.Logs.{AreUnspent, IsLog, IsLogOf}
 use Rattle.shm_replay.specs.Orders.{IsGivenAll}
 use Rattle.shm_replay.specs.Replays.{IsReplay, fold_in, start_of}
 use Rattle.shm_replay.specs.Seats.{AreSeated, IsSeat, Seat}
 use Rattle.shm_replay.specs.Turns.{script_in}
-use Rattle.shm_replay.proofs.Ending.{IsOver, is_over, over_fold, over_log, over_table, seat_rest}
+use Rattle.shm_replay.proofs.Ending.{IsOver, is_over, over_fold, over_log, over_table, over_unspent, seat_rest}
 use Rattle.shm_replay.proofs.Firsts.{even_run}
-use Rattle.shm_replay.proofs.Gathering.{fold_none, fold_some, logs_are}
+use Rattle.shm_replay.proofs.Gathering.{fold_none, fold_some, logs_all, logs_are}
 use Rattle.shm_replay.proofs.Later.{led_stays, log_later, visits_led}
 use Rattle.shm_replay.proofs.Telling.{Grows, visits_grow}
 
@@ -71,7 +72,7 @@ module _ (t : Traced) (trace : IsTrace t) (q p : Pool) (xs : List (Option Playin
       go false e = visits_grow 0 t.clients q p run visits c
 
   -- the client of a script, with its log
-  client_of : (k : ℕ) (s : Scripted) → slice_get t.scripts k ≡ Some s → (x : Playing) × (slice_index_or xs s.client None ≡ Some x) × (x.me.who ≡ s.client) × IsLog p s (logged x)
+  client_of : (k : ℕ) (s : Scripted) → slice_get t.scripts k ≡ Some s → (x : Playing) × (slice_index_or xs s.client None ≡ Some x) × (x.me.who ≡ s.client) × IsLog p s (logged x) × AreUnspent x.entries
   client_of k s e = go (slice_index_or xs s.client None) refl (seated.seats s.client few)
     where
       c : ℕ
@@ -83,7 +84,7 @@ module _ (t : Traced) (trace : IsTrace t) (q p : Pool) (xs : List (Option Playin
       is : script_in t.scripts c ≡ Some s
       is = script_at t.scripts k s trace.apart e
 
-      go : (o : Option Playing) → slice_index_or xs c None ≡ o → Seat t q c o → (x : Playing) × (slice_index_or xs c None ≡ Some x) × (x.me.who ≡ c) × IsLog p s (logged x)
+      go : (o : Option Playing) → slice_index_or xs c None ≡ o → Seat t q c o → (x : Playing) × (slice_index_or xs c None ≡ Some x) × (x.me.who ≡ c) × IsLog p s (logged x) × AreUnspent x.entries
       go None f h = let z : ◌≡◌ {A = Option Scripted} (Some s) None = sym is ∙ h.0 in absurd (cc)
       go (Some x) f h =
           let script : h.script ≡ s = same_some h.script s (sym h.is ∙ is) in
@@ -93,10 +94,10 @@ module _ (t : Traced) (trace : IsTrace t) (q p : Pool) (xs : List (Option Playin
           let f' = account_at p.accounts c in
           let ends = subst (λ (r : Scripted). IsOver r x e) script (over c x h) in
           let log = log_later e f' (even_run q run c) (led_stays q p c (visits_led 0 t.clients q p run visits)) x.me s (told_left (is_standing_dead x.standing) e) (logged x) (grown c x few f) (over_log s x e (sym who) ends) in
-          (x, f, who, subst (λ (m : Me). IsLogOf m s f'.memo.agents f'.begun f'.told (logged x)) mine log)
+          (x, f, who, subst (λ (m : Me). IsLogOf m s f'.memo.agents f'.begun f'.told (logged x)) mine log, over_unspent s x e ends)
 
   have : (k : ℕ) (s : Scripted) → slice_get t.scripts k ≡ Some s → (x : Playing) × (slice_index_or xs s.client None ≡ Some x) × (x.me.who ≡ s.client)
-  have k s e = let (x, at, who, log) = client_of k s e in (x, at, who)
+  have k s e = let (x, at, who, log, room) = client_of k s e in (x, at, who)
 
   parts : (c : ℕ) → c < t.clients → is_loose (memo_of q c).part ≡ false
   parts c l = go (slice_index_or xs c None) (seated.seats c l)
@@ -124,7 +125,8 @@ module _ (t : Traced) (trace : IsTrace t) (q p : Pool) (xs : List (Option Playin
         given = given;
         visits = visits;
         closed = closed;
-        logs = logs_are p t.scripts xs (λ k s e. let (x, at, who, log) = client_of k s e in (x, at, log));
+        logs = logs_are p t.scripts xs (λ k s e. let (x, at, who, log, room) = client_of k s e in (x, at, log));
+        unspent = logs_all (λ (l : Logged). AreUnspent l.entries) t.scripts xs (λ k s e. let (x, at, who, log, room) = client_of k s e in (x, at, room));
         table = λ c. chain_in (memo_of p c).part;
         is = λ c l.
             let few : c < t.clients = subst (λ n. c < n) (ap (λ (z : Start). z.geometry.clients) (same ∙ start)) l in

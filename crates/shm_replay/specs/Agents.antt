@@ -35,7 +35,7 @@ use Rattle.shm_script.specs.Values.{Scripted}
 use Rattle.shm_table.specs.Command.{command_effect}
 use Rattle.shm_replay.specs.declared.agents.Standing.{Standing}
 use Rattle.shm_replay.specs.declared.agents.Standing.TheVariants.{AtWork, Gone, Dead}
-use Rattle.shm_replay.specs.Logs.{AreEntries, IsLogOf}
+use Rattle.shm_replay.specs.Logs.{AreEntries, AreUnspent, IsLogOf}
 use Rattle.shm_replay.specs.Turns.{lives_of}
 use Rattle.shm_replay.specs.Work.{Work, WorkAnswer, WorkFits, WorkGives, commanding, joining, leaving, recovering, work_control}
 
@@ -134,6 +134,7 @@ pub record IsPlaying (s : Scripted) (x : Playing) (e : Account) : Type 0 where
   pub life : slice_get (lives_of s.life) 0 ≡ Some (x.life.left + steps)
   pub few : length x.entries ≤ length s.lines
   pub commands : map (λ (y : Entry). y.line) x.entries ≡ take (length x.entries) s.lines
+  pub unspent : AreUnspent x.entries
   pub start : Memo
   pub ready : IsReady x.me.who x.entries start
   pub me : work_control.me x.work ≡ x.me
@@ -159,6 +160,7 @@ pub record HasParted (s : Scripted) (x : Playing) (e : Account) : Type 0 where
   pub agents : e.memo.agents ≡ one_agent steps Ended
   pub life : slice_get (lives_of s.life) 0 ≡ Some (x.life.left + steps)
   pub commands : map (λ (y : Entry). y.line) x.entries ≡ s.lines
+  pub unspent : AreUnspent x.entries
   pub status : e.memo.status ≡ status.Gone
   pub gone : GoneNow x.me.who e.memo
   pub fold : IsFold x.entries e.memo
@@ -172,11 +174,12 @@ pub record HasParted (s : Scripted) (x : Playing) (e : Account) : Type 0 where
 
 -- ---- after the client's death
 
--- the log of the dead client by what is told of it, and the map, which is the fold of its entries
+-- the log of the dead client by what is told of it, none of whose commands was refused for a spent era, and the map, which is the fold of its entries
 pub record IsSettled (s : Scripted) (x : Playing) (e : Account) (told : List LoggedLine) : Type 0 where
   pub end : End
   pub ended : x.end ≡ Some end
   pub log : IsLogOf x.me s e.memo.agents e.begun told (logged x)
+  pub unspent : AreUnspent x.entries
   pub fold : IsFold x.entries e.memo
   pub table : is_loose e.memo.part ≡ false
 

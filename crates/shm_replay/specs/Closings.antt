@@ -1,5 +1,5 @@
 -- the closing of a pool after a trace
-use Rattle.std.specs.Prelude.{◌≡◌, ℕ, zero, suc, ◌^◌, ◌≤◌, ◌⊎◌, Bool, true, false, Option, None, Some, List, [], ◌++◌, slice_index}
+use Rattle.std.specs.Prelude.{◌≡◌, ◌≢◌, ℕ, zero, suc, ◌^◌, ◌≤◌, ◌⊎◌, Bool, true, false, Option, None, Some, List, [], ◌++◌, slice_index}
 use Rattle.shm_graph.specs.declared.memo.Memo.{Memo}
 use Rattle.shm_graph.specs.declared.memo.Status.TheVariants.{Gone, New}
 use Rattle.shm_graph.specs.declared.run.Account.{Account}
@@ -27,10 +27,11 @@ use Rattle.shm_replay.specs.Agents.{Playing}
 
 -- ---- what a closing is
 
--- c ran the machine m from p to q until it had answered, as a client that began where none acted; no other identity made a step meanwhile
+-- c ran the machine m from p to q until it had answered, by one word step or more, as a client that began where none acted; no other identity made a step meanwhile
 pub record IsWhole {M A : Type 0} (k : Control M A) (c : ℕ) (p : Pool) (m : M) (q : Pool) : Type 0 where
   pub start : q.start ≡ p.start
   pub took : Took k c p m q
+  pub some : took.trail ≢ []
   pub over : (memo_of q c).over ≡ true
   pub run : IsRun q
 

@@ -1,6 +1,7 @@
 -- the logs of a trace's clients, by what a pool accounts for of them
 use Rattle.std.specs.Prelude.{◌≡◌, ℕ, ◌+◌, Bool, true, false, Option, Some, None, List, [], ◌∷◌, ◌++◌, length, map, take, slice_get, slice_index}
 use Rattle.std.specs.Option.{is_some}
+use Rattle.std.specs.List.{AllByRecursion}
 use Rattle.shm_graph.specs.declared.ask.Me.{Me}
 use Rattle.shm_graph.specs.declared.memo.Agent.{Agent}
 use Rattle.shm_graph.specs.declared.memo.Fate.{Fate}
@@ -15,6 +16,7 @@ use Rattle.shm_count.specs.Roots.{member}
 use Rattle.shm_plain.specs.Pools.{Pool}
 use Rattle.shm_script.specs.declared.line.Line.{Line}
 use Rattle.shm_script.specs.declared.log.Answer.{Answer}
+use Rattle.shm_script.specs.declared.log.Answer.TheVariants.{EraSpent}
 use Rattle.shm_script.specs.declared.log.End.{End}
 use Rattle.shm_script.specs.declared.log.End.TheVariants.{Ended, Died}
 use Rattle.shm_script.specs.declared.log.Entry.{Entry}
@@ -43,6 +45,15 @@ abbrev pub AreEntries : Me → List LoggedLine → List Entry → Type 0
 AreEntries me told [] = Unit {0}
 AreEntries me [] (e ∷ es) = ⊥
 AreEntries me (x ∷ told) (e ∷ es) = IsEntry me x e × AreEntries me told es
+
+-- the answer isn't that the own era was spent
+abbrev pub IsUnspent : Answer → Type 0
+IsUnspent (EraSpent e) = ⊥
+IsUnspent a = Unit {0}
+
+-- no command of these entries was refused for a spent own era
+abbrev pub AreUnspent : List Entry → Type 0
+AreUnspent = AllByRecursion (λ (e : Entry). IsUnspent e.answer)
 
 -- ---- the death of a client
 

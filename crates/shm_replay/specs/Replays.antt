@@ -1,6 +1,7 @@
 -- the replay of a trace
 use Rattle.std.specs.Prelude.{◌≡◌, ℕ, ◌<◌, ◌==◌, if◌then◌else◌, true, false, List, [], ◌∷◌}
 use Rattle.std.specs.FinMap as finmap
+use Rattle.std.specs.List.{AllByRecursion}
 use Rattle.shm_graph.specs.declared.run.Start.{Start}
 use Rattle.shm_graph.specs.Spots.{see}
 use Rattle.shm_graph.specs.Tables.{IsTable, map_of}
@@ -11,7 +12,7 @@ use Rattle.shm_script.specs.Logged.{Logged, Table, fold_of}
 use Rattle.shm_script.specs.Values.{Traced}
 use Rattle.shm_replay.specs.Orders.{IsGivenAll}
 use Rattle.shm_replay.specs.Closings.{AreVisits}
-use Rattle.shm_replay.specs.Logs.{AreLogs}
+use Rattle.shm_replay.specs.Logs.{AreLogs, AreUnspent}
 
 -- the pool of a trace: of format 1 and of its sizes, made for tables, and its first eras are 1
 abbrev pub start_of : Traced → Start
@@ -22,7 +23,7 @@ abbrev pub fold_in : List Logged → ℕ → Table
 fold_in [] c = finmap.empty
 fold_in (l ∷ ls) c = if l.client == c then fold_of l else fold_in ls c
 
--- The closed pool p is what the run of the trace leaves, and these are its logs: its turns are those that the trace gives, and then each identity is visited; each map of the table that its words hold is the fold of the identity's log
+-- The closed pool p is what the run of the trace leaves, and these are its logs: its turns are those that the trace gives, and then each identity is visited; no command was refused for a spent era; each map of the table that its words hold is the fold of the identity's log
 pub record IsReplay (t : Traced) (p : Pool) (ls : List Logged) : Type 0 where
   pub start : p.start ≡ start_of t
   pub played : Pool
@@ -30,6 +31,7 @@ pub record IsReplay (t : Traced) (p : Pool) (ls : List Logged) : Type 0 where
   pub visits : AreVisits 0 t.clients played p
   pub closed : IsClosedRun p
   pub logs : AreLogs p t.scripts ls
+  pub unspent : AllByRecursion (λ (l : Logged). AreUnspent l.entries) ls
   pub table : ℕ → ℕ → List Entry
   pub is : IsTable p.start.geometry (see p.start.geometry p.words) table
   pub fold : (c key : ℕ) → c < t.clients → map_of (table c) key ≡ finmap.get (fold_in ls c) key

@@ -147,6 +147,7 @@ impl Agents {
         ensures turns { turns_by self.new (Some script.now) < turns_by self.old (Some script.now) }
         ensures run { IsRun pool.new }
     {
+        // for the proof: the pool is a run
         pool.geometry();
         match pool.step(self.me.who, &mut self.work, &mut self.life) {
             Turn::More => {}

@@ -36,6 +36,7 @@ fn recover(pool: &mut PlainPool, me: Me, life: &mut Life)
     ensures told { HasTold (account_at pool.old.accounts me.who) (account_at pool.new.accounts me.who) }
     ensures ran { Ran me.who true true pool.old pool.new life.old.left life.new.left }
 {
+    // for the proof: the pool is a run
     pool.geometry();
     pool.call(me.who, &mut Calls::new(Recovering::new(me)), life)
         .unwrap()
@@ -54,6 +55,7 @@ fn join(pool: &mut PlainPool, me: Me, life: &mut Life)
     ensures ran { Ran me.who true true pool.old pool.new life.old.left life.new.left }
     ensures rest { life.old.left ≤ life.new.left + 2 ^ 38 }
 {
+    // for the proof: the pool is a run
     pool.geometry();
     pool.call(me.who, &mut Join::new(me), life).unwrap();
 }
@@ -72,6 +74,7 @@ fn drain(pool: &mut PlainPool, me: Me, life: &mut Life)
     ensures ran { Ran me.who true true pool.old pool.new life.old.left life.new.left }
     ensures rest { life.old.left ≤ life.new.left + 2 ^ 38 }
 {
+    // for the proof: the pool is a run
     pool.geometry();
     pool.call(me.who, &mut Calls::new(Draining::new(me)), life)
         .unwrap()
@@ -91,6 +94,7 @@ fn leave(pool: &mut PlainPool, me: Me, life: &mut Life)
     ensures part { (memo_of pool.new me.who).part ≡ (memo_of pool.old me.who).part }
     ensures ran { Ran me.who true true pool.old pool.new life.old.left life.new.left }
 {
+    // for the proof: the pool is a run
     pool.geometry();
     pool.call(me.who, &mut Calls::new(Leaving::new(me)), life)
         .unwrap()
@@ -111,6 +115,7 @@ fn revive(pool: &mut PlainPool, me: Me, dead: bool)
     ensures start { pool.new.start ≡ pool.old.start }
     ensures run { IsRun pool.new }
 {
+    // for the proof: the pool is a run
     pool.geometry();
     if !dead {
         return;
@@ -133,6 +138,7 @@ fn visit(pool: &mut PlainPool, me: Me, dead: bool)
     ensures start { pool.new.start ≡ pool.old.start }
     ensures run { IsRun pool.new }
 {
+    // for the proof: the pool is a run
     pool.geometry();
     revive(pool, me, dead);
     let mut life = Life::of(LIFE);

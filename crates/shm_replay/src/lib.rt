@@ -3,6 +3,7 @@
 
 pub mod agents;
 pub mod closing;
+pub mod laws;
 pub mod order;
 pub mod replaying;
 mod work;

@@ -92,6 +92,7 @@ fn play(agents: &mut [Option<Agents>], trace: &Trace, pool: &mut PlainPool)
 {
     give_items(agents, trace, pool);
     give_rounds(agents, trace, pool);
+    // for the proof: the pool is a run
     pool.geometry();
     visit_all(pool, agents);
 }

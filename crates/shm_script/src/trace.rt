@@ -46,6 +46,7 @@ impl Trace {
     pub fn in_grammar(&self)
         ensures { IsInGrammar self.now }
     {
+        // for the proof: what is read shows what the type keeps
         let _ = &self.order;
     }
 }

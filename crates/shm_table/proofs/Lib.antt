@@ -2,3 +2,10 @@ mod EffectLaws
 mod DecidingEvents
 mod EarlierEvents
 mod Running
+mod CallStates
+mod ValueWords
+mod Within
+mod GetMaps
+mod RefusedCommands
+mod CauseTrails
+mod TakenBack

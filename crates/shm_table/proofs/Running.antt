@@ -1,4 +1,4 @@
--- what the own map of an identity is while its machines over tables are running
+-- what the own map of an identity is, and what it has sent, while its machines over tables are running
 pub mod Steps
 pub mod Still
 pub mod Reading
@@ -8,3 +8,6 @@ pub mod Entering
 pub mod Roots
 pub mod Puts
 pub mod Commands
+pub mod SentSteps
+pub mod SentMachines
+pub mod SentCommands

@@ -38,6 +38,7 @@ use Rattle.shm_table.specs.Commands.{CommandCause, MayCommand, RestSo, ValueSo}
 use Rattle.shm_table.specs.PutRoot.Control.{put_root_parts}
 use Rattle.shm_table.specs.PutRoot.{HasSearch, IsDecided, IsEraSpent, put_root_plan, put_root_steps}
 use Rattle.shm_table.specs.Staying.{Cleared, Ended, Keeps, MapSet, SameMap}
+use Rattle.shm_table.specs.Undoing.{BlockUndone, CommandUndone}
 
 -- ---- when it may begin
 
@@ -67,6 +68,7 @@ pub record IsCopied (me : Me) (key a other n k b : ℕ) (f : Option PutFault) (r
   pub empty : root_word me.who r0 k ≡ 0
   pub rest : RestSo me.who k r0 r f
   pub value : ValueSo me key n b r0 r es f
+  pub undone : BlockUndone me.who (λ j v. event.Up me.who (Root me.who j) v) k b r0 r es f
   pub made : (ds : List Event) × (es ≡ event.Up me.who (Root me.who k) b ∷ ds)
   pub source : IsSource me a other n b r0 tr
   pub keys : ℕ
@@ -102,13 +104,15 @@ pub record Copied (me : Me) (key a other n b : ℕ) (r0 r : Memo) (tr : Trail) (
   pub dying : All (λ (x : Visit). Contains r.dying x.block) left
   pub bound : IsWithin (copy_steps me.geometry.wide me.geometry.segments + 2 * source.read + 2 * keys + tear_steps me.geometry.wide (frees es + length left)) tr
 
--- it was refused: the map, the latches and the queues are as before, and so are roots and zero-count blocks, unless the own era was spent
+-- it was refused: the map, the latches and the queues are as before, and so are roots and zero-count blocks, unless the own era was spent; and the home, unless a directory was made, which it names
 pub record NotCopied (me : Me) (key a other : ℕ) (r0 r : Memo) (tr : Trail) (es : List Event) (f : PutFault) : Type 0 where
   pub keeps : Keeps me.who r0 r
   pub latch : r.latch ≡ None
   pub map : SameMap r0 r
   pub cause : CommandCause me r0 r f
   pub cleared : Cleared me.who r0 r ⊎ IsEraSpent f
+  pub undone : CommandUndone me (λ j v. event.Up me.who (Root me.who j) v) r0 r es f
+  pub has : a ≡ me.who → (n : ℕ) × (v : ℕ) × (map_in r0.part other ≡ Some (n, v))
   pub read : ℕ
   pub searched : HasSearch me a other read tr
   pub keys : ℕ

@@ -65,14 +65,16 @@ pub record IsOn (me : Me) (a key steps : ℕ) (r : Memo) (tr : Trail) : Type 0 w
   pub search : HasSearch me a key keys tr
   pub bound : IsWithin (steps + 2 * keys) tr
 
--- the value block got no root for this reason, and this latch is held or none
+-- the value block that the key has got no root for this reason, and this latch is held or none
 pub record IsUnrooted (me : Me) (a key : ℕ) (f : PutFault) (taken : Option ℕ) (steps : ℕ) (r0 r : Memo) (tr : Trail) (es : List Event) : Type 0 where
   pub may : MayFetch me a r0
   pub keeps : Keeps me.who r0 r
   pub holds : IsHeld me r
   pub latch : r.latch ≡ taken
+  pub home : own_word r.own (Home me.who) ≡ own_word r0.own (Home me.who)
   pub map : SameMap r0 r
   pub cause : PutCause me r0 r f
+  pub has : a ≡ me.who → (n : ℕ) × (v : ℕ) × (map_in r0.part key ≡ Some (n, v))
   pub cleared : Cleared me.who r0 r
   pub none : es ≡ []
   pub keys : ℕ

@@ -59,6 +59,10 @@ pub record IsAtHead (me : Me) (s n b v : ℕ) (r0 q : Memo) : Type 0 where
   pub known : Knows q (spot.Slot s me.who (n % 8)) b
   pub value : IsValue (sight me.who q) b v
 
+-- some item waits there
+abbrev pub IsWaited : Me → ℕ → Memo → Type 0
+IsWaited me s r0 = (n : ℕ) × (b : ℕ) × (v : ℕ) × (q : Memo) × IsAtHead me s n b v r0 q
+
 -- the head was read so far, and no event happened
 pub record IsNumbered (me : Me) (s n b v : ℕ) (r0 r : Memo) (tr : Trail) (es : List Event) : Type 0 where
   pub may : MayFetchHead me s r0
@@ -80,12 +84,14 @@ FetchHeadKnows m Share r0 r tr es = IsNumbered m.me m.from m.at m.block m.number
 abbrev pub fetch_head_steps : Bool → ℕ
 fetch_head_steps wide = 4 + (up_steps wide + 16)
 
--- the value block got no root for this reason: nothing else was done but reading
-pub record IsHeadUnrooted (me : Me) (f : PutFault) (r0 r : Memo) (tr : Trail) (es : List Event) : Type 0 where
+-- the value block at the head of the queue from s got no root for this reason: nothing else was done but reading
+pub record IsHeadUnrooted (me : Me) (s : ℕ) (f : PutFault) (r0 r : Memo) (tr : Trail) (es : List Event) : Type 0 where
   pub keeps : Keeps me.who r0 r
   pub latch : r.latch ≡ r0.latch
+  pub home : own_word r.own (spot.Home me.who) ≡ own_word r0.own (spot.Home me.who)
   pub map : SameMap r0 r
   pub cause : PutCause me r0 r f
+  pub waits : IsWaited me s r0
   pub cleared : Cleared me.who r0 r
   pub none : es ≡ []
   pub bound : IsWithin (fetch_head_steps me.geometry.wide) tr
@@ -96,6 +102,7 @@ pub record IsHeadRooted (me : Me) (s k b v n : ℕ) (r0 r : Memo) (tr : Trail) (
   pub holds : IsHeld me r
   pub client : recovers r ≡ false
   pub latch : r.latch ≡ r0.latch
+  pub home : own_word r.own (spot.Home me.who) ≡ own_word r0.own (spot.Home me.who)
   pub map : SameMap r0 r
   pub low : k < 16
   pub empty : root_word me.who r0 k ≡ 0
@@ -112,7 +119,7 @@ pub record IsHeadRooted (me : Me) (s k b v n : ℕ) (r0 r : Memo) (tr : Trail) (
 
 abbrev pub FetchHeadLeaves : FetchHeadState → Memo → Memo → Trail → List Event → FetchedHead → Type 0
 FetchHeadLeaves m r0 r tr es (Empty n) = TakeEmpty m.me m.from n r0 r tr es
-FetchHeadLeaves m r0 r tr es (Refused f) = IsHeadUnrooted m.me f r0 r tr es
+FetchHeadLeaves m r0 r tr es (Refused f) = IsHeadUnrooted m.me m.from f r0 r tr es
 FetchHeadLeaves m r0 r tr es (Rooted k b v n) = IsHeadRooted m.me m.from k b v n r0 r tr es
 
 -- ---- the plan

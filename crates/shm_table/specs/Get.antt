@@ -4,6 +4,7 @@ pub mod Reads
 pub mod Laws
 pub mod Bound
 pub mod Tells
+pub mod Finding
 use Rattle.std.specs.Prelude.{◌≡◌, ℕ, ◌+◌, ◌<◌, false, Option, Some, None, List, [], ◌∷◌, ◌++◌}
 use Rattle.std.specs.List.{Contains}
 use Rattle.shm_words.specs.Layout.{total_of}

@@ -16,6 +16,7 @@ pub mod Get
 pub mod Del
 pub mod PutRoot
 pub mod Commands
+pub mod Undoing
 pub mod Put
 pub mod Fetch
 pub mod CopyKey
@@ -27,3 +28,5 @@ pub mod SendKey
 pub mod Effects
 pub mod Cutting
 pub mod Command
+pub mod Refusals
+pub mod Causes

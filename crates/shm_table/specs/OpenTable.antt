@@ -1,7 +1,7 @@
 -- a home that comes to name a directory as a plan: when it may begin, what is known before each call, and what is left
 pub mod Control
 pub mod Laws
-use Rattle.std.specs.Prelude.{◌≡◌, ◌≢◌, ℕ, ◌+◌, ◌<◌, false, None, Result, Ok, Err, List, [], ◌∷◌, length}
+use Rattle.std.specs.Prelude.{◌≡◌, ◌≢◌, ℕ, ◌+◌, ◌<◌, ◌⊎◌, false, None, Result, Ok, Err, List, [], ◌∷◌, length}
 use Rattle.std.specs.List.{Contains}
 use Rattle.shm_words.specs.Layout.{GeometryFits}
 use Rattle.shm_graph.specs.declared.ask.Me.{Me}
@@ -115,6 +115,14 @@ pub data OpenEvents (c : ℕ) (r0 : Memo) (es : List Event) : Type 0 where
   Named : (some : own_word r0.own (Home c) ≢ 0) (none : es ≡ []) → OpenEvents c r0 es
   Founded : (empty : own_word r0.own (Home c) ≡ 0) (k d : ℕ) (ds : List Event) (told : es ≡ event.Alloc c k d ∷ event.Up c (Home c) d ∷ ds) (drop : RootEvents c k d ds) → OpenEvents c r0 es
 
+-- By these events a home that was `before` is `after`: it is the same, and there is none; or it was empty and names a directory, which was made in a root, came to be named, and lost that root
+abbrev pub IsOpening : ℕ → ℕ → ℕ → List Event → Type 0
+IsOpening c before after es = ((after ≡ before) × (es ≡ [])) ⊎ ((before ≡ 0) × (after ≢ 0) × ((k : ℕ) × (ds : List Event) × (es ≡ event.Alloc c k after ∷ event.Up c (Home c) after ∷ ds) × RootEvents c k after ds))
+
+-- a home that was `before` is `after`: the same, or it was empty and names a directory that was made among these events
+abbrev pub HomeSo : ℕ → ℕ → ℕ → List Event → Type 0
+HomeSo c before after es = (after ≡ before) ⊎ ((before ≡ 0) × (after ≢ 0) × ((k : ℕ) × Contains es (event.Alloc c k after)) × Contains es (event.Up c (Home c) after))
+
 -- the own home names a directory, the one that it named or a new one; the map, the roots and the zero-count blocks are as they were
 pub record Opened (me : Me) (r0 r : Memo) (tr : Trail) (es : List Event) : Type 0 where
   pub keeps : Keeps me.who r0 r
@@ -124,6 +132,7 @@ pub record Opened (me : Me) (r0 r : Memo) (tr : Trail) (es : List Event) : Type 
   pub map : SameMap r0 r
   pub cleared : Cleared me.who r0 r
   pub events : OpenEvents me.who r0 es
+  pub opening : IsOpening me.who (own_word r0.own (Home me.who)) (own_word r.own (Home me.who)) es
   pub bound : IsWithin (1 + alloc_steps me.geometry.wide me.geometry.segments + up_steps me.geometry.wide + (8 + redo_steps me.geometry.wide) + tear_steps me.geometry.wide (frees es)) tr
 
 -- What a refusal leaves, with these zero-count blocks that it left on the way: no directory was made; or root k keeps one that the home doesn't name; or the home names it, and the step down at that root, or one of a tear-down after it, was refused

@@ -38,6 +38,7 @@ use Rattle.shm_table.specs.Put.Control.{PutAnswer, PutCall, is_make, put_after, 
 use Rattle.shm_table.specs.PutRoot.Control.{put_root_parts}
 use Rattle.shm_table.specs.PutRoot.{HasSearch, IsDecided, IsEraSpent, put_root_plan, put_root_steps}
 use Rattle.shm_table.specs.Staying.{Cleared, Ended, Keeps, MapSet, SameMap}
+use Rattle.shm_table.specs.Undoing.{BlockUndone, CommandUndone}
 
 -- ---- on the way
 
@@ -53,6 +54,7 @@ pub record HasValue (me : Me) (key n k b : ℕ) (r0 r : Memo) (tr : Trail) (es :
   pub some : b ≢ 0
   pub others : (j : ℕ) → k ≢ j → root_word me.who r j ≡ root_word me.who r0 j
   pub dying : r.dying ≡ r0.dying
+  pub home : own_word r.own (Home me.who) ≡ own_word r0.own (Home me.who)
   pub map : SameMap r0 r
   pub value : IsValue (sight me.who r) b n
   pub fresh : (i : ℕ) → map_in r0.part key ≡ Some (i, b) → ⊥
@@ -68,6 +70,7 @@ pub record IsPut (me : Me) (key n k b : ℕ) (f : Option PutFault) (r0 r : Memo)
   pub empty : root_word me.who r0 k ≡ 0
   pub rest : RestSo me.who k r0 r f
   pub value : ValueSo me key n b r0 r es f
+  pub undone : BlockUndone me.who (λ j v. event.Alloc me.who j v) k b r0 r es f
   pub fresh : (i : ℕ) → map_in r0.part key ≡ Some (i, b) → ⊥
   pub made : (ds : List Event) × (es ≡ event.Alloc me.who k b ∷ ds)
   pub keys : ℕ
@@ -102,13 +105,14 @@ pub record PutStored (me : Me) (key n b : ℕ) (r0 r : Memo) (tr : Trail) (es : 
   pub dying : All (λ (x : Visit). Contains r.dying x.block) left
   pub bound : IsWithin (put_steps me.geometry.wide me.geometry.segments + 2 * keys + tear_steps me.geometry.wide (frees es + length left)) tr
 
--- it was refused: the map, the latches and the queues are as before, and so are roots and zero-count blocks, unless the own era was spent
+-- it was refused: the map, the latches and the queues are as before, and so are roots and zero-count blocks, unless the own era was spent; and the home, unless a directory was made, which it names
 pub record NotStored (me : Me) (key : ℕ) (r0 r : Memo) (tr : Trail) (es : List Event) (f : PutFault) : Type 0 where
   pub keeps : Keeps me.who r0 r
   pub latch : r.latch ≡ None
   pub map : SameMap r0 r
   pub cause : CommandCause me r0 r f
   pub cleared : Cleared me.who r0 r ⊎ IsEraSpent f
+  pub undone : CommandUndone me (λ j v. event.Alloc me.who j v) r0 r es f
   pub keys : ℕ
   pub search : (keys ≡ 0) ⊎ HasSearch me me.who key keys tr
   pub left : List Visit

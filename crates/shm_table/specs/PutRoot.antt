@@ -1,6 +1,7 @@
 -- putting a value block into the own table as a plan: when it may begin, what is known before each call, and what is left
 pub mod Control
 pub mod Steps
+pub mod Undoing
 pub mod Following
 pub mod Laws
 pub mod Bound
@@ -30,6 +31,7 @@ use Rattle.shm_count.specs.Roots.{root_word}
 use Rattle.shm_count.specs.Tear.Events.{Visit, frees}
 use Rattle.shm_ref.specs.DropRoot.Control.{drop_parts}
 use Rattle.shm_ref.specs.DropRoot.{drop_plan}
+use Rattle.shm_ref.specs.Lefts.{RootEvents}
 use Rattle.shm_table.specs.declared.answer.PutFault.{PutFault}
 use Rattle.shm_table.specs.declared.answer.PutFault.TheVariants.{EraSpent}
 use Rattle.shm_table.specs.declared.put_root.PutRootPoint.{PutRootPoint}
@@ -37,17 +39,17 @@ use Rattle.shm_table.specs.declared.put_root.PutRootPoint.TheVariants.{Open, Loc
 use Rattle.shm_table.specs.declared.put_root.PutRootState.{PutRootState}
 use Rattle.shm_table.specs.declared.find.Found.{Found}
 use Rattle.shm_table.specs.Enter.Control.{enter_parts}
-use Rattle.shm_table.specs.Enter.{MayEnter, enter_plan, enter_steps}
+use Rattle.shm_table.specs.Enter.{IsHalfMade, MayEnter, enter_plan, enter_steps}
 use Rattle.shm_table.specs.Find.Bound.{IsWhole, keys_read}
 use Rattle.shm_table.specs.Find.Control.{Passed}
 use Rattle.shm_table.specs.Locate.Control.{locate_parts}
 use Rattle.shm_table.specs.Locate.{locate_plan}
 use Rattle.shm_table.specs.OpenTable.Control.{open_parts}
-use Rattle.shm_table.specs.OpenTable.{open_plan}
+use Rattle.shm_table.specs.OpenTable.{HomeSo, IsOpening, open_plan}
 use Rattle.shm_table.specs.PutRoot.Control.{PutRootAnswer, PutRootCall, PutRootCalls, put_root_parts, is_open, put_root_after, put_root_call, put_root_turns, putting_root}
 use Rattle.shm_table.specs.Replace.Control.{replace_parts}
 use Rattle.shm_table.specs.Replace.{MayReplace, replace_plan}
-use Rattle.shm_table.specs.Staying.{Cleared, Ended, Keeps, MapSet, PutCause, SameMap}
+use Rattle.shm_table.specs.Staying.{Cleared, Ended, Keeps, MapSet, PutCause, SameMap, Still}
 use Rattle.shm_table.specs.Unlatch.{unlatch_plan}
 
 -- ---- when it may begin
@@ -82,6 +84,14 @@ pub data Decides (c key home v : ℕ) : Event → Type 0 where
 abbrev pub IsDecided : ℕ → ℕ → ℕ → ℕ → List Event → Type 0
 IsDecided c key home v es = (before : List Event) × (d : Event) × (after : List Event) × (es ≡ before ++ d ∷ after) × Decides c key home v d
 
+-- an entry of v was made in a root, it was not linked, and it lost that root
+abbrev pub IsUnlinking : ℕ → ℕ → List Event → Type 0
+IsUnlinking c v es = (k : ℕ) × (e : ℕ) × (first : ℕ) × (hs : List Event) × (ds : List Event) × (es ≡ hs ++ ds) × (e ≢ 0) × IsHalfMade c k e v first hs × RootEvents c k e ds
+
+-- by these events a home that was `before` is `after`, and then an entry of v was made and given up, or none was made
+abbrev pub IsUnlisted : ℕ → ℕ → ℕ → ℕ → List Event → Type 0
+IsUnlisted c v before after es = (os : List Event) × (hs : List Event) × (es ≡ os ++ hs) × IsOpening c before after os × ((hs ≡ []) ⊎ IsUnlinking c v hs)
+
 -- a part of the trail is that of a search for the key in the table of a, which read so many keys
 abbrev pub HasSearch : Me → ℕ → ℕ → ℕ → Trail → Type 0
 HasSearch me a key n tr = (before : Trail) × (middle : Trail) × (after : Trail) × (tr ≡ before ++ (middle ++ after)) × ((ps : List Passed) × (b : Found) × IsWhole me a key ps middle b × (n ≡ keys_read ps b))
@@ -101,6 +111,10 @@ pub record IsPutting (me : Me) (key v : ℕ) (latch : Option ℕ) (r0 r : Memo) 
   pub home : own_word r.own (Home me.who) ≢ 0
   pub map : SameMap r0 r
   pub cleared : Cleared me.who r0 r
+
+-- the events of the own home
+abbrev pub OpenedSo : ℕ → Memo → Memo → List Event → Type 0
+OpenedSo c r0 r es = IsOpening c (own_word r0.own (Home c)) (own_word r.own (Home c)) es
 
 -- the search was made, and so many word steps at most besides
 pub record IsSearched (me : Me) (key steps : ℕ) (tr : Trail) (es : List Event) : Type 0 where
@@ -129,6 +143,12 @@ MapSo me key v r0 r es root None = ((n : ℕ) → IsValue (sight me.who r0) v n 
 MapSo me key v r0 r es None (Some f) = SameMap r0 r × PutCause me r0 r f × Cleared me.who r0 r
 MapSo me key v r0 r es (Some k) (Some f) = SameMap r0 r × PutCause me r0 r f
 
+-- the events where it was refused: of the home, and of the block that was to be the entry, where root k still names it
+abbrev pub UnlistedSo : ℕ → ℕ → Memo → Memo → List Event → Option ℕ → Option PutFault → Type 0
+UnlistedSo c v r0 r es root None = Unit {0}
+UnlistedSo c v r0 r es None (Some f) = OpenedSo c r0 r es
+UnlistedSo c v r0 r es (Some k) (Some f) = (os : List Event) × (hs : List Event) × (es ≡ os ++ hs) × OpenedSo c r0 r os × (root_word c r k ≢ 0) × ((first : ℕ) × IsHalfMade c k (root_word c r k) v first hs)
+
 -- it is settled whether the key has the block, and no key changed where it didn't come to have it; these are the zero-count blocks that a tear-down left
 pub record IsSettled (m : PutRootState) (latch : Option ℕ) (steps : ℕ) (r0 r : Memo) (tr : Trail) (es : List Event) : Type 0 where
   pub may : MayPut m.me m.key m.value r0
@@ -138,6 +158,7 @@ pub record IsSettled (m : PutRootState) (latch : Option ℕ) (steps : ℕ) (r0 r
   pub home : own_word r.own (Home m.me.who) ≢ 0
   pub roots : RootsSo m.me.who r0 r m.root
   pub map : MapSo m.me m.key m.value r0 r es m.root m.refused
+  pub undone : UnlistedSo m.me.who m.value r0 r es m.root m.refused
   pub still : m.decided ≡ false → SameMap r0 r
   pub keys : ℕ
   pub search : HasSearch m.me m.me.who m.key keys tr
@@ -148,11 +169,11 @@ pub record IsSettled (m : PutRootState) (latch : Option ℕ) (steps : ℕ) (r0 r
 
 abbrev pub PutRootKnows : PutRootState → PutRootPoint → Memo → Memo → Trail → List Event → Type 0
 PutRootKnows m Open r0 r tr es = MayPut m.me m.key m.value r0 × (r ≡ r0) × (tr ≡ []) × (es ≡ []) × (m.root ≡ None) × (m.refused ≡ None)
-PutRootKnows m Locate r0 r tr es = IsPutting m.me m.key m.value None r0 r × (m.root ≡ None) × (m.refused ≡ None) × IsWithin (opened_steps m.me.geometry.wide m.me.geometry.segments + tear_steps m.me.geometry.wide (frees es)) tr
+PutRootKnows m Locate r0 r tr es = IsPutting m.me m.key m.value None r0 r × (m.root ≡ None) × (m.refused ≡ None) × IsWithin (opened_steps m.me.geometry.wide m.me.geometry.segments + tear_steps m.me.geometry.wide (frees es)) tr × OpenedSo m.me.who r0 r es
 PutRootKnows m Replace r0 r tr es = IsPutting m.me m.key m.value (Some m.me.who) r0 r × (m.root ≡ None) × IsSearched m.me m.key (searched_steps m.me.geometry.wide m.me.geometry.segments) tr es
-    × ((n : ℕ) × (before : ℕ) × (word : ℕ) × MayReplace m.me m.key m.value n m.entry before word r)
+    × ((n : ℕ) × (before : ℕ) × (word : ℕ) × MayReplace m.me m.key m.value n m.entry before word r) × OpenedSo m.me.who r0 r es
 PutRootKnows m Enter r0 r tr es = IsPutting m.me m.key m.value (Some m.me.who) r0 r × (m.root ≡ None) × (m.refused ≡ None) × IsSearched m.me m.key (searched_steps m.me.geometry.wide m.me.geometry.segments) tr es
-    × ((n : ℕ) × MayEnter m.me m.key m.value n m.home m.first r)
+    × ((n : ℕ) × MayEnter m.me m.key m.value n m.home m.first r) × OpenedSo m.me.who r0 r es
 PutRootKnows m Unlatch r0 r tr es = IsSettled m (Some m.me.who) (settled_steps m.me.geometry.wide m.me.geometry.segments) r0 r tr es
 PutRootKnows m Drop r0 r tr es = (k : ℕ) × (m.root ≡ Some k) × IsSettled m None (settled_steps m.me.geometry.wide m.me.geometry.segments + 2) r0 r tr es
 
@@ -177,13 +198,16 @@ abbrev pub IsEraSpent : PutFault → Type 0
 IsEraSpent (EraSpent e) = Unit {0}
 IsEraSpent f = ⊥
 
--- it was refused: the map and the latches are as before, and so are roots and zero-count blocks, unless the own era was spent
+-- it was refused: the map and the latches are as before; the home too, or it names a directory that was made; the zero-count blocks are there still; unless the own era was spent roots and zero-count blocks are as before, and an entry that was made was given up
 pub record PutRootRefused (me : Me) (key v : ℕ) (r0 r : Memo) (tr : Trail) (es : List Event) (f : PutFault) : Type 0 where
   pub keeps : Keeps me.who r0 r
   pub latch : r.latch ≡ None
   pub map : SameMap r0 r
   pub cause : PutCause me r0 r f
   pub cleared : Cleared me.who r0 r ⊎ IsEraSpent f
+  pub home : HomeSo me.who (own_word r0.own (Home me.who)) (own_word r.own (Home me.who)) es
+  pub still : Still r0 r
+  pub events : IsUnlisted me.who v (own_word r0.own (Home me.who)) (own_word r.own (Home me.who)) es ⊎ IsEraSpent f
   pub keys : ℕ
   pub search : (keys ≡ 0) ⊎ HasSearch me me.who key keys tr
   pub left : List Visit

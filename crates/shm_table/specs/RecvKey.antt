@@ -1,5 +1,6 @@
 -- a receive into a table as a plan: when it may begin, what is known before each call, and what is left
 pub mod Control
+pub mod Items
 pub mod Laws
 pub mod Bound
 use Rattle.std.specs.Prelude.{◌≡◌, ◌≢◌, ℕ, ◌+◌, ◌*◌, ◌%◌, ◌<◌, ◌⊎◌, false, Option, Some, None, List, [], ◌∷◌, length, slice_index, Bool}
@@ -35,13 +36,14 @@ use Rattle.shm_table.specs.declared.recv.RecvPoint.TheVariants.{Fetch, Put, Take
 use Rattle.shm_table.specs.declared.recv.RecvState.{RecvState}
 use Rattle.shm_table.specs.Commands.{CommandCause, MayCommand, RestSo, ValueSo}
 use Rattle.shm_table.specs.FetchHead.Control.{fetch_head_parts}
-use Rattle.shm_table.specs.FetchHead.{IsAtHead, IsHeadRooted, fetch_head_plan, fetch_head_steps}
+use Rattle.shm_table.specs.FetchHead.{IsAtHead, IsHeadRooted, IsWaited, fetch_head_plan, fetch_head_steps}
 use Rattle.shm_table.specs.PutRoot.Control.{put_root_parts}
 use Rattle.shm_table.specs.PutRoot.{HasSearch, IsDecided, IsEraSpent, put_root_plan, put_root_steps}
 use Rattle.shm_table.specs.RecvKey.Control.{RecvAnswer, RecvCall, is_fetch, receiving_key, recv_after, recv_call_at, recv_turns}
 use Rattle.shm_table.specs.Staying.{Cleared, Ended, IsSpent, Keeps, MapSet, SameMap}
 use Rattle.shm_table.specs.TakeHead.Control.{take_head_parts}
 use Rattle.shm_table.specs.TakeHead.{passed_memo, take_head_plan, take_head_steps}
+use Rattle.shm_table.specs.Undoing.{BlockUndone, CommandUndone}
 
 -- ---- when it may begin
 
@@ -62,6 +64,7 @@ pub record IsPutIn (me : Me) (s key n b v k steps : ℕ) (f : Option PutFault) (
   pub empty : root_word me.who r0 k ≡ 0
   pub rest : RestSo me.who k r0 r f
   pub value : ValueSo me key v b r0 r es f
+  pub undone : BlockUndone me.who (λ j x. event.Up me.who (spot.Root me.who j) x) k b r0 r es f
   pub made : (ds : List Event) × (es ≡ event.Up me.who (spot.Root me.who k) b ∷ ds)
   pub q : Memo
   pub source : IsAtHead me s n b v r0 q
@@ -130,13 +133,15 @@ pub record ReceivedIn (me : Me) (s key v b : ℕ) (r0 r : Memo) (tr : Trail) (es
   pub dying : All (λ (x : Visit). Contains r.dying x.block) left
   pub bound : IsWithin (recv_steps me.geometry.wide me.geometry.segments + 2 * keys + tear_steps me.geometry.wide (frees es + length left)) tr
 
--- it was refused: the map, the latches and the queues are as before, and so are roots and zero-count blocks, unless the own era was spent
-pub record NotReceivedIn (me : Me) (key : ℕ) (r0 r : Memo) (tr : Trail) (es : List Event) (f : PutFault) : Type 0 where
+-- it was refused: the map, the latches and the queues are as before, and so are roots and zero-count blocks, unless the own era was spent; and the home, unless a directory was made, which it names
+pub record NotReceivedIn (me : Me) (s key : ℕ) (r0 r : Memo) (tr : Trail) (es : List Event) (f : PutFault) : Type 0 where
   pub keeps : Keeps me.who r0 r
   pub latch : r.latch ≡ None
   pub map : SameMap r0 r
   pub cause : CommandCause me r0 r f
   pub cleared : Cleared me.who r0 r ⊎ IsEraSpent f
+  pub undone : CommandUndone me (λ j x. event.Up me.who (spot.Root me.who j) x) r0 r es f
+  pub waits : IsWaited me s r0
   pub keys : ℕ
   pub search : (keys ≡ 0) ⊎ HasSearch me me.who key keys tr
   pub left : List Visit
@@ -146,10 +151,10 @@ pub record NotReceivedIn (me : Me) (key : ℕ) (r0 r : Memo) (tr : Trail) (es : 
 abbrev pub RecvLeaves : RecvState → Memo → Memo → Trail → List Event → Answer → Type 0
 RecvLeaves m r0 r tr es (answer.Value v b) = ReceivedIn m.me m.from m.key v b r0 r tr es
 RecvLeaves m r0 r tr es (answer.Empty n) = TakeEmpty m.me m.from n r0 r tr es
-RecvLeaves m r0 r tr es (answer.EraSpent e) = NotReceivedIn m.me m.key r0 r tr es (EraSpent e)
-RecvLeaves m r0 r tr es answer.RootsFull = NotReceivedIn m.me m.key r0 r tr es RootsFull
-RecvLeaves m r0 r tr es (answer.Full s b) = NotReceivedIn m.me m.key r0 r tr es (Full s b)
-RecvLeaves m r0 r tr es (answer.CountFull b n) = NotReceivedIn m.me m.key r0 r tr es (CountFull b n)
+RecvLeaves m r0 r tr es (answer.EraSpent e) = NotReceivedIn m.me m.from m.key r0 r tr es (EraSpent e)
+RecvLeaves m r0 r tr es answer.RootsFull = NotReceivedIn m.me m.from m.key r0 r tr es RootsFull
+RecvLeaves m r0 r tr es (answer.Full s b) = NotReceivedIn m.me m.from m.key r0 r tr es (Full s b)
+RecvLeaves m r0 r tr es (answer.CountFull b n) = NotReceivedIn m.me m.from m.key r0 r tr es (CountFull b n)
 RecvLeaves m r0 r tr es a = ⊥
 
 -- ---- the plan

@@ -2,6 +2,7 @@
 pub mod Laws
 pub mod Steps
 use Rattle.std.specs.Prelude.{◌≡◌, ◌≢◌, ℕ, ◌+◌, ◌^◌, ◌-◌, ◌<◌, ◌≤◌, ◌==◌, ◌⊎◌, Bool, true, false, if◌then◌else◌, Some, None}
+use Rattle.std.specs.List.{Contains}
 use Rattle.shm_graph.specs.declared.ask.Me.{Me}
 use Rattle.shm_graph.specs.declared.memo.Memo.{Memo}
 use Rattle.shm_graph.specs.declared.spot.Spot.{Spot}
@@ -67,6 +68,10 @@ MapCut key m r = (k : ℕ) → map_in r.part k ≡ (if key == k then None else m
 pub record Cleared (c : ℕ) (m r : Memo) : Type 0 where
   pub roots : (j : ℕ) → root_word c r j ≡ root_word c m j
   pub dying : r.dying ≡ m.dying
+
+-- the zero-count blocks that there were are still there
+abbrev pub Still : Memo → Memo → Type 0
+Still m r = (b : ℕ) → Contains m.dying b → Contains r.dying b
 
 -- the own era had come to e, at which a count step finds no room
 abbrev pub IsSpent : ℕ → ℕ → Memo → Type 0

@@ -1,8 +1,9 @@
 //! What commands on a table show of their answers: from the deciding step on they show it, and it is what they answer.
 
-ghost use Rattle.std.specs.Prelude.{◌≡◌, ◌+◌, ◌*◌, ◌^◌, ◌<◌, ℕ, true, false, is_ok, None, []};
+ghost use Rattle.std.specs.Prelude.{◌≡◌, ◌+◌, ◌*◌, ◌^◌, ◌<◌, ℕ, true, false, is_ok, Option, None, []};
 ghost use Rattle.shm_graph.specs.declared.ask.Me.{Me as AMe};
 ghost use Rattle.shm_graph.specs.declared.memo.Memo.{Memo as AMemo};
+ghost use Rattle.shm_graph.specs.Agents.{died};
 ghost use Rattle.shm_graph.specs.Asks.{Trail};
 ghost use Rattle.shm_graph.specs.Bounds.{command_steps};
 ghost use Rattle.shm_graph.specs.Tells.{Tells, after_all};
@@ -16,6 +17,7 @@ ghost use Rattle.shm_script.specs.Text.{line_spelled};
 ghost use Rattle.shm_table.specs.Machines.Change.{DelGives};
 ghost use Rattle.shm_table.specs.Command.Bound.{IsCommandShort, command_told};
 ghost use Rattle.shm_table.specs.Command.Maps.{MapSoFar};
+ghost use Rattle.shm_table.specs.Command.Sends.{SentSoFar};
 ghost use Rattle.shm_table.specs.Command.{CommandCall, CommandFits, CommandGives, command_by, command_control, command_does, command_effect, command_of};
 ghost use Rattle.shm_table.specs.Commands.{MayCommand};
 ghost use Rattle.shm_table.specs.CopyKey.Control.{CopyCalls, copy_parts};
@@ -128,4 +130,13 @@ pub fn command_maps()
     ensures runs { (me : AMe) (l : ALine) (start : Trail) (r0 r : AMemo) (tr : Trail) → StillRuns command_control (command_of me l) start → let m = after_all command_control (command_of me l) start in CommandFits m r0 r tr → MapSoFar l (command_effect m) r0 r }
     ensures going { (me : AMe) (l : ALine) (start : Trail) (r0 r : AMemo) (tr : Trail) → let m = after_all command_control (command_of me l) start in command_control.finished m ≡ false → CommandFits m r0 r tr → MapSoFar l (command_effect m) r0 r }
     ensures fresh { (me : AMe) (l : ALine) → command_effect (command_of me l) ≡ None }
+{}
+
+/// While it runs nothing was sent since it began, as long as it shows no answer; from its deciding step on, where it shows `Ok`, a send has sent the
+/// value block that its key had to the identity of its line, behind all that was sent before, and nothing else; and a command of any other
+/// line sends nothing. A client that dies has sent just this.
+pub fn command_sends()
+    ensures runs { (me : AMe) (l : ALine) (start : Trail) (r0 r : AMemo) (tr : Trail) → StillRuns command_control (command_of me l) start → let m = after_all command_control (command_of me l) start in CommandFits m r0 r tr → SentSoFar l (command_effect m) r0 r }
+    ensures going { (me : AMe) (l : ALine) (start : Trail) (r0 r : AMemo) (tr : Trail) → let m = after_all command_control (command_of me l) start in command_control.finished m ≡ false → CommandFits m r0 r tr → SentSoFar l (command_effect m) r0 r }
+    ensures dies { (l : ALine) (a : Option AnAnswer) (r0 r : AMemo) → SentSoFar l a r0 r → SentSoFar l a r0 (died r) }
 {}

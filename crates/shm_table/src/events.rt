@@ -56,10 +56,12 @@ pub fn find_tells()
 {}
 
 /// That a chain was read up to an entry stays so while the latch is held and more is read. In each state that holds with such a memo the
-/// author's partition has the key at that entry; and once the entry's value word was read and its number is known, the author's map has them.
+/// author's partition has the key at that entry; once the entry's value word was read the author's map has the block that it names, with the
+/// number in its word; and where that number is known, it is what was read.
 pub fn read_tells()
     ensures stays { (a key entry : ℕ) (r x : AMemo) → x.latch ≡ r.latch → x.part ≡ r.part → ((s : AStored) → Contains r.known s → Contains x.known s) → ((k : ALook) → Contains r.looks k → Contains x.looks k) → HasRead a r key entry → HasRead a x key entry }
     ensures has { (me : AMe) (a key entry : ℕ) (r : AMemo) → HasRead a r key entry → me.who < me.geometry.clients → (w : ASpot → ℕ) (rs : ℕ → AMemo) → HeldAt me.geometry w (view rs) → rs me.who ≡ r → HasKey (rs a).part key entry }
+    ensures names { (me : AMe) (a key entry v : ℕ) (r : AMemo) → HasRead a r key entry → IsLook r (Body entry 1) v → me.who < me.geometry.clients → (w : ASpot → ℕ) (rs : ℕ → AMemo) → HeldAt me.geometry w (view rs) → rs me.who ≡ r → map_in (rs a).part key ≡ Some (w (Body v 0), v) }
     ensures map { (me : AMe) (a key entry v n : ℕ) (r : AMemo) → HasRead a r key entry → IsLook r (Body entry 1) v → Contains r.known (record { spot = Body v 0; value = n }) → me.who < me.geometry.clients → (w : ASpot → ℕ) (rs : ℕ → AMemo) → HeldAt me.geometry w (view rs) → rs me.who ≡ r → map_in (rs a).part key ≡ Some (n, v) }
 {}
 

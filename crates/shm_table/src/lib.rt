@@ -29,6 +29,7 @@ pub mod putting;
 pub mod reading;
 pub mod receiving;
 pub mod recv;
+pub mod refusals;
 pub mod replace;
 pub mod send_key;
 pub mod sending;
@@ -44,13 +45,18 @@ pub use copying::{copy_begins, copy_bound, copy_events, copy_leaves};
 pub use del::{Del, Deleting};
 pub use effects::{
     command_begins, command_bound, command_events, command_foretells, command_leaves,
-    command_lines, command_maps, commands_foretell, deciding_events, earlier_events, parts_decide,
+    command_lines, command_maps, command_sends, commands_foretell, deciding_events, earlier_events,
+    parts_decide,
 };
 pub use get::{Get, Getting};
 pub use put::{Put, Putting};
 pub use putting::{put_begins, put_bound, put_events, put_leaves};
-pub use reading::{get_begins, get_bound, get_events, get_leaves, get_tells};
+pub use reading::{get_begins, get_bound, get_events, get_finds_the_map, get_leaves, get_tells};
 pub use receiving::{recv_begins, recv_bound, recv_events, recv_leaves};
 pub use recv::{ReceivingKey, RecvKey};
+pub use refusals::{
+    command_causes, command_refusals, copy_refusals, del_refusals, get_refusals, put_refusals,
+    recv_refusals, refusal_trails, send_key_refusals, taken_back,
+};
 pub use send_key::{SendKey, SendingKey};
 pub use sending::{send_key_begins, send_key_bound, send_key_events, send_key_leaves};

@@ -4,30 +4,37 @@
 ghost use Rattle.std.specs.Prelude.{◌≡◌, ℕ, ◌+◌, ◌*◌, Some, None, List, [], length};
 ghost use Rattle.shm_graph.specs.declared.ask.Me.{Me as AMe};
 ghost use Rattle.shm_graph.specs.declared.memo.Memo.{Memo as AMemo};
+ghost use Rattle.shm_graph.specs.declared.run.Move.{Move as AMove};
 ghost use Rattle.shm_graph.specs.declared.spot.Spot.{Spot as ASpot};
+ghost use Rattle.shm_graph.specs.declared.spot.Spot.TheVariants.{Body};
 ghost use Rattle.shm_graph.specs.Asks.{Trail, IsWithin};
 ghost use Rattle.shm_graph.specs.Bounds.{command_steps};
 ghost use Rattle.shm_graph.specs.Held.{HeldAt};
+ghost use Rattle.shm_graph.specs.Runs.{State, memos_of};
 ghost use Rattle.shm_graph.specs.Tells.{Tells};
 ghost use Rattle.shm_graph.specs.Views.{view};
 ghost use Rattle.shm_calls.specs.declared.calls.Calls.{Calls as ACalls};
-ghost use Rattle.shm_calls.specs.CallsControl.{calls_does};
+ghost use Rattle.shm_calls.specs.CallsControl.{calls_does, calls_of};
 ghost use Rattle.shm_calls.specs.CallsFit.{CallsFits};
 ghost use Rattle.shm_calls.specs.Plans.{plan_trail};
 ghost use Rattle.shm_calls.specs.Words.{word_control};
 ghost use Rattle.shm_steps.specs.Reparting.{map_in};
+ghost use Rattle.shm_count.specs.Calling.{IsCall};
+ghost use Rattle.shm_script.specs.declared.line.Line.TheVariants as line;
 ghost use Rattle.shm_script.specs.declared.log.Answer.{Answer as AnAnswer};
 ghost use Rattle.shm_script.specs.declared.log.Answer.TheVariants as answer;
 ghost use Rattle.shm_table.specs.declared.find.Found.{Found as AFound};
 ghost use Rattle.shm_table.specs.declared.find.Found.TheVariants.{Absent, At};
 ghost use Rattle.shm_table.specs.declared.get.GetState.{GetState as AGetState};
+ghost use Rattle.shm_table.specs.Command.{command_control, command_of};
 ghost use Rattle.shm_table.specs.Find.Bound.{keys_read};
 ghost use Rattle.shm_table.specs.Find.Control.{Passed};
 ghost use Rattle.shm_table.specs.Find.Tells.{HasRead};
+ghost use Rattle.shm_table.specs.Get.Finding.{FindsAt, IsAnswered};
 ghost use Rattle.shm_table.specs.Get.Bound.{GetAsked, LocateAsked, keys_got};
 ghost use Rattle.shm_table.specs.Get.Control.{GetAnswer, GetCall, get_parts, getting};
 ghost use Rattle.shm_table.specs.Get.{GetLeaves, IsTold, get_plan};
-ghost use Rattle.shm_table.specs.Get.Tells.{IsReady};
+ghost use Rattle.shm_table.specs.Get.Tells.{HasNamed, IsReady};
 ghost use Rattle.shm_table.specs.Locate.Control.{locate_parts, locating};
 ghost use Rattle.shm_table.specs.Locate.{Located, MayLocate, locate_control, locate_plan};
 ghost use Rattle.shm_table.specs.Machines.Read.{UnlatchFits, UnlatchGives, unlatch_told, LocateFits, LocateGives, locate_told, get, GetFits, GetGives, get_told};
@@ -102,14 +109,24 @@ pub fn get_leaves()
     ensures trail { (me : AMe) (a key : ℕ) (r0 r : AMemo) (tr : Trail) (b : AnAnswer) → GetGives me a key r0 r tr b → plan_trail get_plan (getting me a key) tr b }
 {}
 
-/// In the own table the answer is what the map has at the key. In any table a machine that is about to give back the latch, once the number
-/// is known, has a memo that shows the chain up to the entry, its value word and the number: in each state that holds with that memo they are
-/// what the author's map has at the key.
+/// In the own table the answer is what the map has at the key. In any table a machine that has loaded the value word of the entry, and is to
+/// load the number, has a memo such that in each state that holds with it the author's map has the value block at the key, with the number in
+/// its word. When it is about to give back the latch, once the number is known, its memo shows the chain up to the entry, its value word and
+/// the number: in each state that holds with that memo they are what the author's map has at the key.
 pub fn get_tells()
     ensures missing { (me : AMe) (a key : ℕ) (r0 r : AMemo) (tr : Trail) → a ≡ me.who → GetGives me a key r0 r tr answer.Missing → map_in r0.part key ≡ None }
     ensures found { (me : AMe) (a key : ℕ) (r0 r : AMemo) (tr : Trail) (n v : ℕ) → a ≡ me.who → GetGives me a key r0 r tr (answer.Value n v) → map_in r0.part key ≡ Some (n, v) }
+    ensures named { (m : ACalls AGetState GetCall AnAnswer GetAnswer) (r0 r : AMemo) (tr : Trail) → CallsFits get_parts get_plan m r0 r tr → HasNamed m → (w : ASpot → ℕ) (rs : ℕ → AMemo) → HeldAt m.plan.me.geometry w (view rs) → rs m.plan.me.who ≡ r → map_in (rs m.plan.author).part m.plan.key ≡ Some (w (Body m.plan.block 0), m.plan.block) }
     ensures told { (m : ACalls AGetState GetCall AnAnswer GetAnswer) (r0 r : AMemo) (tr : Trail) → CallsFits get_parts get_plan m r0 r tr → IsReady m → IsTold m.plan.author m.plan.key m.plan.entry m.plan.number m.plan.block r }
     ensures map { (m : ACalls AGetState GetCall AnAnswer GetAnswer) (r0 r : AMemo) (tr : Trail) → CallsFits get_parts get_plan m r0 r tr → IsReady m → (w : ASpot → ℕ) (rs : ℕ → AMemo) → HeldAt m.plan.me.geometry w (view rs) → rs m.plan.me.who ≡ r → map_in (rs m.plan.author).part m.plan.key ≡ Some (m.plan.number, m.plan.block) }
+{}
+
+/// In a run of a pool, whoever else steps, a get that answered a number and a block found what the author's map had: at the word step of it that
+/// loads the value word of the entry that the author's table has for the key, the author's map has this number and this block there. So does
+/// the command of its line.
+pub fn get_finds_the_map()
+    ensures get { (me : AMe) (author key : ℕ) (a : State) (ms : List AMove) (b : State) (tr : Trail) (n v : ℕ) → MayLocate me author (memos_of a.accounts me.who) → IsCall get (calls_of get_plan (getting me author key)) a ms b tr → IsAnswered get (calls_of get_plan (getting me author key)) tr (answer.Value n v) → FindsAt me author key n v a ms b }
+    ensures command { (me : AMe) (author key : ℕ) (a : State) (ms : List AMove) (b : State) (tr : Trail) (n v : ℕ) → MayLocate me author (memos_of a.accounts me.who) → IsCall command_control (command_of me (line.Get author key)) a ms b tr → IsAnswered command_control (command_of me (line.Get author key)) tr (answer.Value n v) → FindsAt me author key n v a ms b }
 {}
 
 /// Where the key was missing it took at most 6 word steps, and 2 for each entry whose key it read; otherwise 7 and so many; and three more for

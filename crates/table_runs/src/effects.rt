@@ -1,6 +1,10 @@
 //! Commands, and what they show of their answers.
 
-use crate::lines::{line_for, refuse};
+ghost use Rattle.std.specs.Prelude.{◌<◌};
+ghost use Rattle.shm_words.specs.Layout.{GeometryFits};
+ghost use Rattle.shm_table.specs.Command.{MayStand};
+
+use crate::lines::{OwnLine, line_for, refuse};
 use shm_graph::{Machine, Turn};
 use shm_runs::{Case, go, make, numbers};
 use shm_script::Answer;
@@ -69,6 +73,15 @@ fn answer(command: &mut Command, words: &mut Vec<u64>, shown: &mut Shown) -> Opt
     None
 }
 
+/// The same of the command of a line.
+fn answer_to(own: OwnLine, words: &mut Vec<u64>, shown: &mut Shown) -> Option<Answer>
+    requires fits { GeometryFits own.me.geometry }
+    requires who { own.me.who < own.me.geometry.clients }
+    requires line { MayStand own.me own.line }
+{
+    answer(&mut Command::new(own.me, &own.line), words, shown)
+}
+
 /// Tells of an answer, after how many word steps it was given, and after how many the command showed it.
 fn tell(rt: &HostRuntime, answer: Answer, shown: &Shown) -> io::Result<()> {
     print!(rt; "  = {answer:?} after {}", shown.steps)?;
@@ -88,12 +101,7 @@ pub fn show(rt: &HostRuntime, case: &mut Case, row: &str) -> io::Result<()> {
         return refuse(rt);
     };
     let mut shown = Shown::new();
-    let answer = answer(
-        &mut Command::new(own.me, &own.line),
-        &mut case.words,
-        &mut shown,
-    );
-    match answer {
+    match answer_to(own, &mut case.words, &mut shown) {
         Some(answer) => tell(rt, answer, &shown),
         None => println!(rt; "  = stopped"),
     }

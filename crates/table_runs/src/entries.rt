@@ -4,12 +4,9 @@ ghost use Rattle.std.specs.Prelude.{◌+◌, ◌<◌, IfSome};
 ghost use Rattle.shm_words.specs.Layout.{GeometryFits, address_limit};
 
 use crate::lines::{key, refuse};
-use shm_calls::Calls;
 use shm_graph::Me;
-use shm_runs::{Case, address, below, byte, go};
-use shm_table::parts::{
-    Enter, Entering, OpenTable, Opening, PutRoot, Replace, Replacing, Unlink, Unlinking,
-};
+use shm_runs::{Case, address, below, byte, go, go_calls};
+use shm_table::parts::{Entering, Opening, PutRoot, Replacing, Unlinking};
 use std::io;
 
 /// Who makes an entry, its key and its value block, the directory, and the first entry of the bucket.
@@ -79,8 +76,7 @@ pub fn open_table(rt: &HostRuntime, case: &mut Case, f: &[u64; 6]) -> io::Result
     let Some(me) = case.me(f[0]) else {
         return refuse(rt);
     };
-    let machine: OpenTable = Calls::new(Opening::new(me));
-    go(rt, Some(machine), case)
+    go_calls(rt, Some(Opening::new(me)), case)
 }
 
 /// who, key, value block, directory, the first entry of the bucket
@@ -88,8 +84,11 @@ pub fn enter(rt: &HostRuntime, case: &mut Case, f: &[u64; 6]) -> io::Result<()> 
     let Some(e) = new_entry(case, f) else {
         return refuse(rt);
     };
-    let machine: Enter = Calls::new(Entering::new(e.me, e.key, e.value, e.home, e.first));
-    go(rt, Some(machine), case)
+    go_calls(
+        rt,
+        Some(Entering::new(e.me, e.key, e.value, e.home, e.first)),
+        case,
+    )
 }
 
 /// who, key, value block
@@ -105,8 +104,11 @@ pub fn replace(rt: &HostRuntime, case: &mut Case, f: &[u64; 6]) -> io::Result<()
     let Some(change) = change_of(case, f) else {
         return refuse(rt);
     };
-    let machine: Replace = Calls::new(Replacing::new(change.me, change.entry, change.block));
-    go(rt, Some(machine), case)
+    go_calls(
+        rt,
+        Some(Replacing::new(change.me, change.entry, change.block)),
+        case,
+    )
 }
 
 /// who, entry, the block before it, the number of its word that leads to the entry
@@ -114,6 +116,9 @@ pub fn unlink(rt: &HostRuntime, case: &mut Case, f: &[u64; 6]) -> io::Result<()>
     let Some(c) = change_of(case, f) else {
         return refuse(rt);
     };
-    let machine: Unlink = Calls::new(Unlinking::new(c.me, c.entry, c.block, c.word));
-    go(rt, Some(machine), case)
+    go_calls(
+        rt,
+        Some(Unlinking::new(c.me, c.entry, c.block, c.word)),
+        case,
+    )
 }

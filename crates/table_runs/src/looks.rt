@@ -4,10 +4,9 @@ ghost use Rattle.std.specs.Prelude.{◌<◌, IfSome};
 ghost use Rattle.shm_words.specs.Layout.{GeometryFits};
 
 use crate::lines::{key, refuse};
-use shm_calls::Calls;
 use shm_graph::Me;
-use shm_runs::{Case, client, go};
-use shm_table::parts::{Fetch, Fetching, Find, Finding, Locate, Locating, Unlatch, Unlatching};
+use shm_runs::{Case, client, go_calls};
+use shm_table::parts::{Fetching, Finding, Locating, Unlatching};
 use std::io;
 
 /// Who looks, whose table it is, and a key.
@@ -33,8 +32,7 @@ pub fn find(rt: &HostRuntime, case: &mut Case, f: &[u64; 6]) -> io::Result<()> {
     let Some(look) = look_of(case, f) else {
         return refuse(rt);
     };
-    let machine: Find = Calls::new(Finding::new(look.me, look.author, look.key));
-    go(rt, Some(machine), case)
+    go_calls(rt, Some(Finding::new(look.me, look.author, look.key)), case)
 }
 
 /// who, author, key
@@ -42,8 +40,11 @@ pub fn locate(rt: &HostRuntime, case: &mut Case, f: &[u64; 6]) -> io::Result<()>
     let Some(look) = look_of(case, f) else {
         return refuse(rt);
     };
-    let machine: Locate = Calls::new(Locating::new(look.me, look.author, look.key));
-    go(rt, Some(machine), case)
+    go_calls(
+        rt,
+        Some(Locating::new(look.me, look.author, look.key)),
+        case,
+    )
 }
 
 /// who, author
@@ -51,8 +52,7 @@ pub fn unlatch(rt: &HostRuntime, case: &mut Case, f: &[u64; 6]) -> io::Result<()
     let Some(look) = look_of(case, f) else {
         return refuse(rt);
     };
-    let machine: Unlatch = Calls::new(Unlatching::new(look.me, look.author));
-    go(rt, Some(machine), case)
+    go_calls(rt, Some(Unlatching::new(look.me, look.author)), case)
 }
 
 /// who, author, key
@@ -60,6 +60,9 @@ pub fn fetch(rt: &HostRuntime, case: &mut Case, f: &[u64; 6]) -> io::Result<()> 
     let Some(look) = look_of(case, f) else {
         return refuse(rt);
     };
-    let machine: Fetch = Calls::new(Fetching::new(look.me, look.author, look.key));
-    go(rt, Some(machine), case)
+    go_calls(
+        rt,
+        Some(Fetching::new(look.me, look.author, look.key)),
+        case,
+    )
 }

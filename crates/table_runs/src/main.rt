@@ -4,6 +4,7 @@
 //! `keep` keeps the words as they stand, and `again` begins with those that were kept. Any other line runs the machine of its name: an identity, and
 //! the machine's own numbers; `put`, `del`, `get`, `copy`, `send` and `recv` are commands, with the numbers that their lines have in a script. What
 //! is told of a run is said at `go` of shm_runs. `effect put WHO ..` tells of a command, not of its word steps, but of when it shows its answer.
+//! `random POOLS` runs random commands of several clients in so many pools of their own (random.rt).
 //! What must be told (the file stdout) was computed by an independent implementation.
 #![tactic(auto)]
 
@@ -11,8 +12,9 @@ mod effects;
 mod entries;
 mod lines;
 mod looks;
+mod random;
 
-use shm_runs::{Case, numbers};
+use shm_runs::{Case, number, numbers};
 use std::alloc::{AllocError, Global};
 use std::io;
 use std::process::ExitCode;
@@ -69,6 +71,7 @@ fn tell(rt: &HostRuntime, case: &mut Case, line: &str) -> io::Result<()> {
     match name {
         "#" => Ok(()),
         "effect" => effects::show(rt, case, rest),
+        "random" => random::tell_all(rt, number(rest)),
         _ => run(rt, case, name, &numbers(rest)),
     }
 }

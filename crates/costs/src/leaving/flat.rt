@@ -120,6 +120,7 @@ impl Steps for Flat {
 
     #[inline(always)]
     fn begins(&self) -> bool {
+        // for the proof: what is read shows what the type keeps
         let _ = &self.point;
         true
     }

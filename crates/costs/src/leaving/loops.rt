@@ -2,6 +2,7 @@
 
 ghost use Rattle.std.specs.Prelude.{◌≡◌, true, false};
 
+use shm_calls::{Calls, Plan};
 use shm_graph::{Ask, Machine, Me, Turn};
 
 /// More word steps than any machine takes here.
@@ -33,8 +34,8 @@ pub fn take_on<M: Machine>(m: &mut M, seen: u64) -> Turn<M::Answer>
 
 /// A machine of the pool's.
 #[derive(Drop)]
-pub struct Whole<M: Machine> {
-    pub machine: M,
+struct Whole<M: Machine> {
+    machine: M,
 }
 
 impl<M: Machine> Steps for Whole<M>
@@ -101,4 +102,24 @@ pub fn run<S: Steps>(words: &mut [u64], m: &mut S) -> Option<u64> {
         }
     }
     None
+}
+
+/// Steps a machine of the pool's so.
+#[inline(always)]
+pub fn run_whole<M: Machine>(words: &mut [u64], machine: M) -> Option<u64>
+where
+    M: Drop,
+    M::Answer: Drop,
+{
+    run(words, &mut Whole { machine })
+}
+
+/// Steps the machine of a plan so. (A function that names that machine itself is proved more slowly.)
+#[inline(always)]
+pub fn run_plan<P: Plan>(words: &mut [u64], plan: P) -> Option<u64>
+where
+    P: Drop,
+    P::Answer: Drop,
+{
+    run_whole(words, Calls::new(plan))
 }

@@ -3,7 +3,8 @@ use Rattle.std.proofs.Common.{◌≡◌, ◌≢◌, ℕ, ◌<◌, ◌≤◌, ref
 use Rattle.std.specs.Prelude.{Option, Some, None}
 use Rattle.std.proofs.lemmas.Bool.{cases_Bool, cond-true, cond-false, eqb-true, ltb-true}
 use Rattle.shm_words.specs.declared.geometry.Geometry.{Geometry}
-use Rattle.shm_words.specs.Tags.{tag_refs}
+use Rattle.shm_words.specs.Layout.{total_of}
+use Rattle.shm_words.specs.Tags.{tag_author, tag_plain, tag_refs}
 use Rattle.shm_words.proofs.Words.{live_not_zero}
 use Rattle.shm_graph.specs.declared.ask.Ask.{Ask}
 use Rattle.shm_graph.specs.declared.ask.Ask.TheVariants.{Load, Store, Exchange}
@@ -33,6 +34,7 @@ use Rattle.shm_graph.specs.Spots.{classes_in, same_spot, see, spot_at, upd}
 use Rattle.shm_graph.specs.Views.{View, held_overs, targets, view}
 use Rattle.shm_graph.proofs.States.Counting.{has_place, indegree_has, target_not_spare}
 use Rattle.shm_graph.proofs.Runs.Going.{acts_within}
+use Rattle.shm_graph.proofs.Runs.Shapes.{alloc_author, tag_stays}
 use Rattle.shm_graph.proofs.States.HeldSound.{held_state_sound}
 use Rattle.shm_graph.proofs.Runs.Lists.{see-words_set}
 use Rattle.shm_graph.proofs.Spots.Spotting.{in_pool, same_spot_is}
@@ -132,6 +134,15 @@ module _ (g : Geometry) (s : State) (t : Step) (x : IsTaken g s (Word t)) where
 
   pub turn_freed : (c b : ℕ) → event_at g s t ≡ Free c b → (i : ℕ) → targets g w v (Body b i) ≡ 0
   turn_freed c b e i = let y = happens (Free c b) e in past_references g w v b i y.0 (y.3 i)
+
+  pub turn_placed : (t.me.geometry ≡ g) × (at_of t.ask < total_of g)
+  turn_placed = (turn.of, turn.inside)
+
+  pub turn_shaped : (b : ℕ) → let x : Spot → ℕ = see g (moved s (Word t)).words in IsLive (headers w) b → IsLive (headers x) b → (tag_refs g.wide (x (Tag b)) ≡ tag_refs g.wide (w (Tag b))) × (tag_plain g.wide (x (Tag b)) ≡ tag_plain g.wide (w (Tag b))) × (tag_author g.wide (x (Tag b)) ≡ tag_author g.wide (w (Tag b)))
+  turn_shaped b = tag_stays g w v (see g (moved s (Word t)).words) (view (memos_of (moved s (Word t)).accounts)) (event_at g s t) one.event b
+
+  pub turn_authored : (c k b : ℕ) → event_at g s t ≡ Alloc c k b → let x : Spot → ℕ = see g (moved s (Word t)).words in IsLive (headers x) b × (tag_author g.wide (x (Tag b)) ≡ c)
+  turn_authored c k b e = alloc_author g w v (see g (moved s (Word t)).words) (view (memos_of (moved s (Word t)).accounts)) c k b (happens (Alloc c k b) e)
 
   pub turn_rows : (at from to b : ℕ) → t.ask ≡ Exchange at from to → spot_at g (classes_in g s.words) at ≡ Head b → w (Head b) ≡ from → IsLive (headers w) b → t.me.who ≢ (headers w b).client → (headers w b).era ≤ w (Era t.me.who (headers w b).client)
   turn_rows at from to b e here =

@@ -87,11 +87,11 @@ other_head s t c n = go (eqb s t) (ne_eqb s t n)
     go false e = refl
 
 -- one item more was taken
-module _ (me : Me) (x : TakenItem) (items : List TakenItem) (m q r : Memo) (h : Drained me items m q) (g : Received me.who x.from x.place x.block q r) (dying : r.dying ≡ q.dying) where
+module _ (me : Me) (x : TakenItem) (items : List TakenItem) (m q r : Memo) (h : Drained me items m q) (g : Received me.who x.from x.place x.block q r) where
   abbrev c : ℕ
   c = me.who
 
-  lane_more : (s : ℕ) → slice_index_or r.received s [] ≡ slice_index_or m.received s [] ++ blocks_from s (items ++ x ∷ [])
+  pub lane_more : (s : ℕ) → slice_index_or r.received s [] ≡ slice_index_or m.received s [] ++ blocks_from s (items ++ x ∷ [])
   lane_more s =
       ap (λ (y : Memo). slice_index_or y.received s []) g.rest
       ∙ (put_at [] q.received x.from (slice_index_or q.received x.from [] ++ x.block ∷ []) s
@@ -103,7 +103,7 @@ module _ (me : Me) (x : TakenItem) (items : List TakenItem) (m q r : Memo) (h : 
         | inr o ↦ cond-false _ _ _ (ne_eqb x.from s o) ∙ (h.received s ∙ ap (λ (bs : List ℕ). slice_index_or m.received s [] ++ bs) (sym (blocks_other s x items o)))
       ])
 
-  head_more : (s : ℕ) → own_word r.own (QueueHead s c) ≡ own_word m.own (QueueHead s c) + length (blocks_from s (items ++ x ∷ []))
+  pub head_more : (s : ℕ) → own_word r.own (QueueHead s c) ≡ own_word m.own (QueueHead s c) + length (blocks_from s (items ++ x ∷ []))
   head_more s =
       elim (cases_eq x.from s) [
         | inl e ↦ subst (λ j. own_word r.own (QueueHead j c) ≡ own_word m.own (QueueHead j c) + length (blocks_from j (items ++ x ∷ []))) e
@@ -111,8 +111,8 @@ module _ (me : Me) (x : TakenItem) (items : List TakenItem) (m q r : Memo) (h : 
         | inr o ↦ g.own (QueueHead s c) refl (other_head x.from s c o) ∙ (h.heads s ∙ ap (λ (bs : List ℕ). own_word m.own (QueueHead s c) + length bs) (sym (blocks_other s x items o)))
       ]
 
-  pub drained_more : Drained me (items ++ x ∷ []) m r
-  drained_more =
+  pub drained_more : r.dying ≡ q.dying → Drained me (items ++ x ∷ []) m r
+  drained_more dying =
       record {
         rest = ap (λ (y : Memo). record y { received = r.received }) g.rest ∙ ap (λ (y : Memo). record y { received = r.received; untaken = r.untaken }) h.rest;
         op = g.op;

@@ -186,7 +186,7 @@ module _ (m : DrainState) (r0 rs r : Memo) (tr t : Trail) (es ds : List Event) (
         few = omega arith;
         drained = drained_more m.me x h.items r0 rs r h.drained g.received g.dying;
         events = events_more c x h.items es ds h.events g.events;
-        empty = still_empty m.from h.empty grows (λ s l o. same_head m.me x h.items r0 rs r h.drained g.received g.dying s (λ e. absurd (omega arith)));
+        empty = still_empty m.from h.empty grows (λ s l o. same_head m.me x h.items r0 rs r h.drained g.received s (λ e. absurd (omega arith)));
         bound = omega arith;
       }
 

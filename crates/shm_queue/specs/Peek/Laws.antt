@@ -1,5 +1,5 @@
 -- what is owed of a peek: each call leads on, to the next one or to what is left
-use Rattle.std.proofs.Common.{◌≡◌, ◌≢◌, ℕ, ◌+◌, ◌%◌, ◌≤◌, refl, sym, ap, ◌∙◌, subst, arith, Bool, true, false, List, [], ◌++◌}
+use Rattle.std.proofs.Common.{◌≡◌, ◌≢◌, ℕ, ◌+◌, ◌%◌, ◌^◌, ◌≤◌, refl, sym, ap, ◌∙◌, subst, arith, Bool, true, false, List, [], ◌++◌}
 use Rattle.std.specs.Prelude.{◌==◌, if◌then◌else◌, Some, None, Result, Ok, Err}
 use Rattle.std.proofs.lemmas.Bool.{eqb-false, eqb-true}
 use Rattle.shm_graph.specs.Bounds.{redo_steps}
@@ -97,10 +97,14 @@ module _ (m : PeekState) (r0 rs r : Memo) (tr t : Trail) (es ds : List Event) (h
       (item.1, record { geometry = can.geometry; who = can.who; here = can.here; idle = can.idle; client = item.1.grows.agent ∙ client; reach = item_reached c s (m.at % 8) n r (λ e. let l = can.inside.0 in absurd (omega arith)) can.known })
 
   -- the item got no root
-  refused : (b : ℕ) → IsItemRead m.me s m.at b r0 rs tr es → (k : ℕ) → k ≤ 23 + redo_steps m.me.geometry.wide → Untouched c rs r → ds ≡ [] → IsWithin k t → NotPeeked m.me s m.at b r0 r (tr ++ t) (es ++ ds)
-  refused b h k most untouched quiet bound =
+  refused : (b : ℕ) → IsItemRead m.me s m.at b r0 rs tr es → (k : ℕ) → k ≤ 23 + redo_steps m.me.geometry.wide → Untouched c rs r → ds ≡ [] → IsWithin k t → Grows false rs r → NotPeeked m.me s m.at b r0 r (tr ++ t) (es ++ ds)
+  refused b h k most untouched quiet bound grows =
       let all = within_more 3 k tr t h.bound bound in
-      record { at = h.head; untouched = untouched_core c (slot_memo c s m.at b r0) rs r h.left untouched; none = ap (λ (x : List Event). x ++ ds) h.none ∙ quiet; bound = omega arith }
+      record { at = h.head; some = (h.some.0, grows.counts (Counter (spot.Tail s c) h.some.0) refl h.some.1, h.some.2); untouched = untouched_core c (slot_memo c s m.at b r0) rs r h.left untouched; none = ap (λ (x : List Event). x ++ ds) h.none ∙ quiet; bound = omega arith }
+
+  -- the own era that was read left room
+  room : (b : ℕ) → IsItemRead m.me s m.at b r0 rs tr es → own_word rs.own (spot.Era c c) + 3 ≤ 2 ^ 47 → own_word r0.own (spot.Era c c) + 3 ≤ 2 ^ 47
+  room b h = subst (λ (x : Memo). own_word x.own (spot.Era c c) + 3 ≤ 2 ^ 47) h.left
 
   -- the item has a root, or not
   shared : (a : Result ℕ ShareFault) → PeekKnows (record m { point = Share }) Share r0 rs tr es → UpRootLeaves m.me m.block rs r t ds a → Grows false rs r → Leads Share (Second a)
@@ -119,9 +123,9 @@ module _ (m : PeekState) (r0 rs r : Memo) (tr t : Trail) (es ds : List Event) (h
           bound = omega arith;
         },
       )
-  shared (Err (share.EraSpent e)) (h, may) g grows = (m.at, m.block, refused m.block h 1 (omega arith) (untouched_now c rs r g.same) g.events g.bound, g.era ∙ ap (λ (x : Memo). own_word x.own (spot.Era c c)) h.left, g.spent)
-  shared (Err share.RootsFull) (h, may) g grows = (m.at, m.block, refused m.block h 17 (omega arith) (untouched_now c rs r g.same) g.events g.bound, λ j l e. g.all j l (ap (λ (x : Memo). own_word x.own (spot.Root c j)) h.left ∙ e))
-  shared (Err (share.CountFull b n)) (h, may) g grows = (m.at, subst (λ d. NotPeeked m.me s m.at d r0 r (tr ++ t) (es ++ ds)) (sym g.block) (refused m.block h (23 + redo_steps m.me.geometry.wide) (omega arith) g.untouched g.events (let x = g.bound in omega arith)), g.full)
+  shared (Err (share.EraSpent e)) (h, may) g grows = (m.at, m.block, refused m.block h 1 (omega arith) (untouched_now c rs r g.same) g.events g.bound grows, g.era ∙ ap (λ (x : Memo). own_word x.own (spot.Era c c)) h.left, g.spent)
+  shared (Err share.RootsFull) (h, may) g grows = (m.at, m.block, refused m.block h 17 (omega arith) (untouched_now c rs r g.same) g.events g.bound grows, (room m.block h g.room, λ j l e. g.all j l (ap (λ (x : Memo). own_word x.own (spot.Root c j)) h.left ∙ e)))
+  shared (Err (share.CountFull b n)) (h, may) g grows = (m.at, subst (λ d. NotPeeked m.me s m.at d r0 r (tr ++ t) (es ++ ds)) (sym g.block) (refused m.block h (23 + redo_steps m.me.geometry.wide) (omega arith) g.untouched g.events (let x = g.bound in omega arith) grows), (room m.block h g.room, g.full))
 
 leads : (m : PeekState) (y : PeekPoint) (r0 rs r : Memo) (tr t : Trail) (es ds : List Event) (a : PeekAnswer) → PeekKnows (record m { point = y }) y r0 rs tr es → (peek_part m y).leaves (peek_call_at m y) rs r t ds a → IsHeld m.me r
     → Follows peek_parts peek_plan (record m { point = y }) a r0 r (tr ++ t) (es ++ ds)

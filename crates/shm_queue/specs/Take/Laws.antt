@@ -8,6 +8,7 @@ use Rattle.std.proofs.lemmas.List.Elements.{Contains-push}
 use Rattle.shm_words.specs.Layout.{address_limit}
 use Rattle.shm_graph.specs.declared.ask.Ask.TheVariants as ask
 use Rattle.shm_graph.specs.declared.spot.Spot.TheVariants as spot
+use Rattle.shm_graph.specs.declared.memo.Fact.TheVariants.{Counter}
 use Rattle.shm_graph.specs.declared.memo.Memo.{Memo}
 use Rattle.shm_graph.specs.Asks.{Trail, IsWithin}
 use Rattle.shm_graph.specs.Bounds.{tear_steps, redo_steps}
@@ -146,6 +147,7 @@ module _ (m : TakeState) (r0 rs r : Memo) (tr t : Trail) (es ds : List Event) (h
           place = m.at;
           block = m.block;
           at = h.head;
+          some = (h.some.0, g.grows.counts (Counter (spot.Tail s c) h.some.0) refl h.some.1, h.some.2);
           spent = g.did.1.0 ∙ ap (λ (x : Memo). own_word x.own (spot.Era c c)) h.left;
           untouched = untouched_core c (slot_memo c s m.at m.block r0) rs r h.left g.did.0;
           none = ap (λ (x : List Event). x ++ ds) h.none ∙ g.did.2;

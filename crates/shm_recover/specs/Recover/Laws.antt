@@ -291,8 +291,8 @@ module _ (m : RecoverState) (r0 rs r : Memo) (tr t : Trail) (es ds : List Event)
       }
 
   -- the own era left no room
-  stopped : (k j era : ℕ) (vs : List Visit) → IsRecovering m.me k r0 rs tr es → lasting r ≡ lasting rs → r.op ≡ Nothing → HasCome c r0 r → All (λ (v : Visit). Contains r.dying v.block) vs → (2 ^ 47 - 3 < era) × (era ≤ own_word r.own (Era c c)) → IsWithin (j + tear_steps wide (frees ds + length vs)) t → k + j ≤ 368 + 32 * u + 530 * g → RecoverStopped m.me r0 r (tr ++ t) (es ++ ds) era
-  stopped k j era vs h same idle come stay spent bound most =
+  stopped : (k j era : ℕ) (vs : List Visit) → IsRecovering m.me k r0 rs tr es → lasting r ≡ lasting rs → r.op ≡ Nothing → ((p : Spot) → is_kept c p ≡ true → own_word r.own p ≡ own_word rs.own p) → HasCome c r0 r → All (λ (v : Visit). Contains r.dying v.block) vs → (2 ^ 47 - 3 < era) × (era ≤ own_word r.own (Era c c)) → IsWithin (j + tear_steps wide (frees ds + length vs)) t → k + j ≤ 368 + 32 * u + 530 * g → RecoverStopped m.me r0 r (tr ++ t) (es ++ ds) era
+  stopped k j era vs h same idle own come stay spent bound most =
       let x = h.mended in
       let last = same ∙ x.same in
       let f = tear_sum wide (frees (es ++ ds) + length vs) (frees es) (frees ds + length vs) (let y = frees-append es ds in omega arith) in
@@ -301,6 +301,9 @@ module _ (m : RecoverState) (r0 rs r : Memo) (tr t : Trail) (es ds : List Event)
         status = ap (λ (y : Memo). y.status) last ∙ x.mended.status;
         op = idle;
         latch = ap (λ (y : Memo). y.latch) last ∙ x.mended.latch;
+        owned = ap (λ (y : Memo). y.owned) last ∙ x.mended.owned;
+        tails = λ i. own (Tail c i) refl ∙ (x.own (Tail c i) refl ∙ x.mended.apart (Tail c i) refl);
+        home = own (Home c) refl ∙ (x.own (Home c) refl ∙ x.mended.names (Home c) refl (eq-eqb c c refl));
         sent = ap (λ (y : Memo). y.sent) last ∙ x.mended.sent;
         loose = ap (λ (y : Memo). is_loose y.part) last ∙ x.mended.loose;
         map = ap (λ (y : Memo). map_in y.part) last ∙ x.mended.map;
@@ -317,14 +320,14 @@ module _ (m : RecoverState) (r0 rs r : Memo) (tr t : Trail) (es ds : List Event)
       let s = y.left.rest in
       let some = h.member.who in
       let all = recovery_most wide n h.member.geometry.clients (omega arith) in
-      stopped (n + 13 + u) ((8 + u) * 16) e.era vs h (ap lasting s) y.left.op (inl (same_takes takes (λ i. record { received = ap (λ (x : Memo). slice_index_or x.received i []) s; untaken = ap (λ (x : Memo). slice_index x.untaken i) s; head = y.left.own (QueueHead i c) refl refl }))) y.stopped.left (y.stopped.spent, y.most) y.bound (omega arith)
+      stopped (n + 13 + u) ((8 + u) * 16) e.era vs h (ap lasting s) y.left.op (λ p k. y.left.own p (kept_lasts c p k) (kept_no_root c _ p k)) (inl (same_takes takes (λ i. record { received = ap (λ (x : Memo). slice_index_or x.received i []) s; untaken = ap (λ (x : Memo). slice_index x.untaken i) s; head = y.left.own (QueueHead i c) refl refl }))) y.stopped.left (y.stopped.spent, y.most) y.bound (omega arith)
 
   stopped_back : (e : EraSpent) → RecoverKnows m Back r0 rs tr es → BackLeaves (taking_back m.me) rs r t ds (Err e) → RecoverStopped m.me r0 r (tr ++ t) (es ++ ds) e.era
   stopped_back e (h, takes, unsent, roots, some) (vs, y) =
       let s = y.back.rest in
       let some = h.member.who in
       let all = recovery_most wide n h.member.geometry.clients (omega arith) in
-      stopped (n + 141 + 17 * u) ((10 + u) * (n - 1)) e.era vs h (ap lasting s) y.back.op
+      stopped (n + 141 + 17 * u) ((10 + u) * (n - 1)) e.era vs h (ap lasting s) y.back.op (λ p k. y.back.own p (kept_lasts c p k))
       (inr (inl ((λ k. y.back.own (Root c k) refl ∙ roots k), same_takes takes (λ i. record { received = ap (λ (x : Memo). slice_index_or x.received i []) s; untaken = ap (λ (x : Memo). slice_index x.untaken i) s; head = y.back.own (QueueHead i c) refl }))))
       y.stopped.left (y.stopped.spent, y.most) y.bound (omega arith)
 
@@ -333,7 +336,7 @@ module _ (m : RecoverState) (r0 rs r : Memo) (tr t : Trail) (es ds : List Event)
       let s = y.scanned.rest in
       let some = h.member.who in
       let all = recovery_most wide n h.member.geometry.clients (omega arith) in
-      stopped (n + 141 + 17 * u + (10 + u) * (n - 1) + 4 * (n - 1)) (528 * g) e.era y.vs h (ap lasting s) y.scanned.op
+      stopped (n + 141 + 17 * u + (10 + u) * (n - 1) + 4 * (n - 1)) (528 * g) e.era y.vs h (ap lasting s) y.scanned.op (λ p k. y.scanned.own p (kept_lasts c p k))
       (inr (inr (
         (λ k. y.scanned.own (Root c k) refl ∙ roots k),
         (λ j. ap (λ (x : Memo). slice_index x.unsent j) s ∙ sent j),

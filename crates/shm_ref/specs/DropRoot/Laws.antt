@@ -8,12 +8,13 @@ use Rattle.shm_graph.specs.Bounds.{down_steps, redo_steps, tear_steps}
 use Rattle.shm_words.proofs.Placing.{total_small}
 use Rattle.shm_words.specs.Layout.{total_of, address_limit}
 use Rattle.shm_graph.specs.declared.ask.Ask.TheVariants as ask
-use Rattle.shm_graph.specs.declared.spot.Spot.TheVariants.{Root}
+use Rattle.shm_graph.specs.declared.spot.Spot.TheVariants.{Era, Root}
 use Rattle.shm_graph.specs.declared.memo.Memo.{Memo}
 use Rattle.shm_graph.specs.Asks.{Trail, IsWithin}
 use Rattle.shm_graph.specs.Events.{Event}
 use Rattle.shm_graph.specs.Events as event
 use Rattle.shm_graph.specs.Laws.{Outcome}
+use Rattle.shm_graph.specs.Views.{own_word}
 use Rattle.shm_calls.specs.declared.or.Or.TheVariants.{First, Second}
 use Rattle.shm_calls.specs.CallTells.{within_more}
 use Rattle.shm_calls.specs.Either.{or_control, or_part, or_part_laws}
@@ -23,7 +24,7 @@ use Rattle.shm_calls.specs.Words.{word_control, word_part_laws, WordLeaves}
 use Rattle.shm_count.specs.declared.answer.EraSpent.{EraSpent}
 use Rattle.shm_count.specs.CountParts.{tear_part, tear_part_laws}
 use Rattle.shm_count.specs.Lowering.{dies, torn_leaves}
-use Rattle.shm_count.specs.Slots.{Lost, StepLeft}
+use Rattle.shm_count.specs.Slots.{Lost, StepLeft, Took}
 use Rattle.shm_count.specs.Slots.Parts.{down_slot_laws, down_slot_part, era_room}
 use Rattle.shm_count.specs.Roots.{root_word}
 use Rattle.shm_count.specs.Step.Control.{IsInside}
@@ -38,7 +39,8 @@ use Rattle.shm_ref.specs.declared.drop_root.DropPoint.{DropPoint}
 use Rattle.shm_ref.specs.declared.drop_root.DropPoint.TheVariants.{Load, Lower, Tear}
 use Rattle.shm_ref.specs.declared.drop_root.DropState.{DropState}
 use Rattle.shm_ref.specs.DropRoot.Control.{DropAnswer, drop_parts, root_at, drop_call_at, is_load}
-use Rattle.shm_ref.specs.DropRoot.{Dropped, IsLoaded, IsLowered, DropKnows, DropLeaves, drop_plan}
+use Rattle.shm_ref.specs.DropRoot.{DropSpent, Dropped, IsLoaded, IsLowered, DropKnows, DropLeaves, drop_plan}
+use Rattle.shm_ref.specs.DropRoot.DropSpent.{AtStep, AtTear}
 use Rattle.shm_ref.specs.CoreLeaves.{lost_root, untouched_core}
 use Rattle.shm_ref.specs.Leaving.{all_outside, left_core, left_took, left_untouched, may_still, named_events, remains_took, remains_untouched, root_took, stopped_at}
 use Rattle.shm_ref.specs.Lefts.{RootEvents}
@@ -170,6 +172,7 @@ module _ (m : DropState) (r0 rs r : Memo) (tr t : Trail) (es ds : List Event) (h
       let same = untouched_core r0 rs r h.same c s.did.0 in (
         [],
         record {
+          at = AtStep (λ z. h.some (sym h.names ∙ z)) same (s.did.1.0 ∙ ap (λ (x : Memo). own_word x.own (Era c c)) h.same) (ap (λ (x : List Event). x ++ ds) h.none ∙ s.did.2) refl;
           left = left_untouched c (λ j. k == j) r0 r h.may.idle same;
           remains = remains_untouched c r0 r same;
           stopped = record { left = All-nil (λ (v : Visit). Contains r.dying v.block); others = all_outside r.dying ∙ ap (λ (x : Memo). x.dying) same.rest; spent = s.did.1.1 };
@@ -177,6 +180,12 @@ module _ (m : DropState) (r0 rs r : Memo) (tr t : Trail) (es ds : List Event) (h
           bound = omega arith;
         },
       )
+
+  -- a step down of the tear-down was refused
+  tear_refused : (x : List Event) (e : ℕ) (vs : List Visit) → root_word c r0 k ≡ b → b ≢ 0 → Took c (Root c k) false b 0 false r0 r → es ++ ds ≡ event.Down c (Root c k) b ∷ x → Walks c b x vs → DropSpent c k r0 r (es ++ ds) e vs
+  tear_refused x e vs names =
+      subst (λ d. d ≢ 0 → Took c (Root c k) false d 0 false r0 r → es ++ ds ≡ event.Down c (Root c k) d ∷ x → Walks c d x vs → DropSpent c k r0 r (es ++ ds) e vs) names
+      (λ some took told walk. AtTear some took x told walk)
 
   -- the block was torn down
   torn : (a : Result (Unit {0}) EraSpent) → IsLowered m r0 rs tr es → TearLeaves m.me b rs r ds t a → Leads (Second (Second a))
@@ -199,6 +208,7 @@ module _ (m : DropState) (r0 rs r : Memo) (tr t : Trail) (es ds : List Event) (h
           let took = (torn_leaves m.me (Root c k) false b 0 r0 rs r h.can.who h.holds h.lost h.counted ds t (Err e) (vs, y)).0 in (
             vs,
             record {
+              at = tear_refused ds e.era vs h.names h.some took told y.walks;
               left = left_took c k b false r0 r took;
               remains = remains_took c k b r0 r took;
               stopped = stopped_at m.me b r0 rs r ds t e.era vs h.lost.dying h.counted y;

@@ -77,6 +77,7 @@ module _ (m : RootsState) (r0 rs r : Memo) (tr t : Trail) (es ds : List Event) (
       let bound = within_more ((8 + redo_steps m.me.geometry.wide) * m.root + tear_steps m.me.geometry.wide (frees es)) (8 + redo_steps m.me.geometry.wide + tear_steps m.me.geometry.wide (frees ds + length vs)) tr t h.gone.bound d.bound in (
         vs,
         record {
+          at = record { root = m.root; low = h.low; q = rs; first = tr; next = t; asked = refl; before = es; after = ds; split = refl; gone = h.gone; drop = d };
           left = left_more c (λ j. nat_lt j m.root || (m.root == j)) (λ j. nat_lt j 16) r0 r (λ j e. grind (arith, nat_tests)) (left_then c (λ j. nat_lt j m.root) (λ j. m.root == j) r0 rs r h.gone.left d.left);
           stopped = record { left = d.stopped.left; others = d.stopped.others ∙ h.gone.dying; spent = d.stopped.spent };
           most = d.most;

@@ -114,7 +114,7 @@ del_so m r0 r tr going fit = go m.plan m.plan.point m.call r0 fit.rs r fit.befor
 
 -- ---- each command: its line, which stays
 
-abbrev line_of : CommandCall → Line
+abbrev pub line_of : CommandCall → Line
 line_of (First (First c)) = line.Put c.plan.key c.plan.number
 line_of (First (Second c)) = line.Copy c.plan.key c.plan.author c.plan.other
 line_of (Second (First (First c))) = line.Del c.plan.key
@@ -158,10 +158,14 @@ of_line (Second (Second (First c))) r0 r tr going fit = sent (send_key_at c.plan
     sent false h = h
 of_line (Second (Second (Second c))) r0 r tr going fit = shown_so (line.Recv c.plan.from c.plan.key) (answer.Value c.plan.number c.plan.block) (recv_at c.plan c.call) r0 r (recv_so c r0 r tr going fit)
 
+-- a command that runs is of the line that it was made of
+pub line_along : (me : Me) (l : Line) (start : Trail) → line_of (after_all command_control (command_of me l) start) ≡ l
+line_along me l start = kept_along command_control (λ x. line_of x ≡ l) (line_kept l) (command_of me l) start (line_begun me l)
+
 pub map_so_far : (me : Me) (l : Line) (start : Trail) (r0 r : Memo) (tr : Trail) → let m = after_all command_control (command_of me l) start in command_control.finished m ≡ false → CommandFits m r0 r tr → MapSoFar l (command_effect m) r0 r
 map_so_far me l start r0 r tr going fit =
     let m : CommandCall = after_all command_control (command_of me l) start in
-    subst (λ (x : Line). MapSoFar x (command_effect m) r0 r) (kept_along command_control (λ x. line_of x ≡ l) (line_kept l) (command_of me l) start (line_begun me l)) (of_line m r0 r tr going fit)
+    subst (λ (x : Line). MapSoFar x (command_effect m) r0 r) (line_along me l start) (of_line m r0 r tr going fit)
 
 -- ---- a machine that hasn't answered yet
 
@@ -177,12 +181,15 @@ begun_going me (line.Get a key) = refl
 begun_going me (line.Send to key) = refl
 begun_going me (line.Recv from key) = refl
 
-pub runs_so_far : (me : Me) (l : Line) (start : Trail) (r0 r : Memo) (tr : Trail) → StillRuns command_control (command_of me l) start → let m = after_all command_control (command_of me l) start in CommandFits m r0 r tr → MapSoFar l (command_effect m) r0 r
-runs_so_far me l start r0 r tr runs fit = map_so_far me l start r0 r tr (still_going command_control steady (command_of me l) start (begun_going me l) runs) fit
+pub command_going : (me : Me) (l : Line) (start : Trail) → StillRuns command_control (command_of me l) start → command_control.finished (after_all command_control (command_of me l) start) ≡ false
+command_going me l start runs = still_going command_control steady (command_of me l) start (begun_going me l) runs
   where
     steady : Steady command_control
     steady =
         (command_laws (put_laws (put_root_laws open_laws locate_laws replace_laws enter_laws)) (copy_laws fetch_laws (put_root_laws open_laws locate_laws replace_laws enter_laws)) del_laws get_laws send_key_laws (recv_laws fetch_head_laws take_head_laws (put_root_laws open_laws locate_laws replace_laws enter_laws))).steady
+
+pub runs_so_far : (me : Me) (l : Line) (start : Trail) (r0 r : Memo) (tr : Trail) → StillRuns command_control (command_of me l) start → let m = after_all command_control (command_of me l) start in CommandFits m r0 r tr → MapSoFar l (command_effect m) r0 r
+runs_so_far me l start r0 r tr runs fit = map_so_far me l start r0 r tr (command_going me l start runs) fit
 
 -- ---- one that hasn't begun shows nothing
 

@@ -120,7 +120,7 @@ put_root_so m r0 r tr going fit = go m.plan m.plan.point m.call r0 fit.rs r fit.
         let known = subst (λ y. PutRootKnows p y r0 rs before es) at h in
         same_more r0 rs r known.0.map (locate_still c rs r t run fit)
     go p y (Second (First (First c))) r0 rs r before t es (at, e) run h fit =
-        let (putting, root, searched, (n, b, word, may)) = subst (λ y. PutRootKnows p y r0 rs before es) at h in
+        let (putting, root, searched, (n, b, word, may), opening) = subst (λ y. PutRootKnows p y r0 rs before es) at h in
         by_call (replace_decided c) (ReplaceDoes c.plan rs r) (RootDoes p r0 r) r0 rs r putting.map (λ d. replaces p r0 rs r (Some p.me.who) putting n b word may (subst (λ s. ReplaceDoes s rs r) e d)) (replace_so c rs r t run fit)
     go p y (Second (First (Second c))) r0 rs r before t es (at, e) run h fit =
         let known = subst (λ y. PutRootKnows p y r0 rs before es) at h in

@@ -55,18 +55,29 @@ use Rattle.shm_table.proofs.Running.Steps.{lane_part, point_part, quiet_by, root
 
 -- ---- the form
 
--- of a machine that is running: the map is what it was when the machine began
-abbrev pub IsStill : {S A : Type 0} → Control S A → OnTheWay S → Type 0
-IsStill {S} k fits = (m : S) (r0 r : Memo) (tr : Trail) → k.finished m ≡ false → fits m r0 r tr → SameMap r0 r
+-- of a machine that is running: the memo is so to the one in which the machine began
+abbrev pub WhileRunning : {S A : Type 0} → (Memo → Memo → Type 0) → Control S A → OnTheWay S → Type 0
+WhileRunning {S} R k fits = (m : S) (r0 r : Memo) (tr : Trail) → k.finished m ≡ false → fits m r0 r tr → R r0 r
 
 -- one of two machines
-pub or_still : {S T A B : Type 0} (j : Control S A) (k : Control T B) (fits : OnTheWay S) (fits' : OnTheWay T) → IsStill j fits → IsStill k fits' → IsStill (or_control j k) (OrFits fits fits')
-or_still j k fits fits' h i (or.First m) r0 r tr going fit = h m r0 r tr going fit
-or_still j k fits fits' h i (or.Second m) r0 r tr going fit = i m r0 r tr going fit
+pub or_running : {S T A B : Type 0} (R : Memo → Memo → Type 0) (j : Control S A) (k : Control T B) (fits : OnTheWay S) (fits' : OnTheWay T) → WhileRunning R j fits → WhileRunning R k fits' → WhileRunning R (or_control j k) (OrFits fits fits')
+or_running R j k fits fits' h i (or.First m) r0 r tr going fit = h m r0 r tr going fit
+or_running R j k fits fits' h i (or.Second m) r0 r tr going fit = i m r0 r tr going fit
 
--- a machine that makes the calls of a plan, where the map is known to be the same before each call, and each call leaves it
+-- a machine that makes the calls of a plan, where the memo is known to be so before each call, and each call leaves it so
+pub calls_running : {P C B A : Type 0} (R : Memo → Memo → Type 0) → ((x y z : Memo) → R x y → R y z → R x z) → (k : Control C B) (q : Planned P C B A) → ((p : P) (r0 r : Memo) (tr : Trail) (es : List Event) → q.knows p r0 r tr es → R r0 r) → ((p : P) → WhileRunning R k (q.part p).fits)
+    → WhileRunning R (calls_control k q) (CallsFits k q)
+calls_running R more k q known keeps m r0 r tr going fit = more r0 fit.rs r (known m.plan r0 fit.rs fit.before fit.es fit.knows) (keeps m.plan m.call fit.rs r fit.t going fit.fits)
+
+-- the map is what it was when the machine began
+abbrev pub IsStill : {S A : Type 0} → Control S A → OnTheWay S → Type 0
+IsStill k fits = WhileRunning SameMap k fits
+
+pub or_still : {S T A B : Type 0} (j : Control S A) (k : Control T B) (fits : OnTheWay S) (fits' : OnTheWay T) → IsStill j fits → IsStill k fits' → IsStill (or_control j k) (OrFits fits fits')
+or_still j k fits fits' h i = or_running SameMap j k fits fits' h i
+
 pub calls_still : {P C B A : Type 0} (k : Control C B) (q : Planned P C B A) → ((p : P) (r0 r : Memo) (tr : Trail) (es : List Event) → q.knows p r0 r tr es → SameMap r0 r) → ((p : P) → IsStill k (q.part p).fits) → IsStill (calls_control k q) (CallsFits k q)
-calls_still k q known keeps m r0 r tr going fit = same_more r0 fit.rs r (known m.plan r0 fit.rs fit.before fit.es fit.knows) (keeps m.plan m.call fit.rs r fit.t going fit.fits)
+calls_still k q known keeps = calls_running SameMap same_more k q known keeps
 
 -- nothing was done yet
 pub same_now : (r0 r : Memo) → r ≡ r0 → SameMap r0 r
@@ -147,8 +158,12 @@ module _ (me : Me) (b i t : ℕ) (m : Memo) (idle : m.op ≡ Nothing) (found : I
   down_part : (slot : ℕ) (r : Memo) (y : StepPoint) → PointFits me (Down t) y → is_over y ≡ false → PointHas me slot (Down t) (spot.Body b i) m r y → r.part ≡ m.part
   down_part slot r y fits going has = quiet_by (exchanged_at (Down t) y) me.who (spot.Body b i) 0 m r cleared (point_part me slot (Down t) (spot.Body b i) m tt r y fits going has)
 
+-- where a tear-down fits the step down in it is running
+pub tear_runs : (m : TearState) (r0 r : Memo) (tr : Trail) → TearFits m r0 r tr → RunsDown m.point
+tear_runs m r0 r tr fit = subst (λ (x : TearState). RunsDown x.point) fit.course (kept_along tear_control (λ x. RunsDown x.point) runs_on (tear_start m) tr tt)
+
 pub tear_still : IsStill tear_control TearFits
-tear_still m r0 r tr going fit = same_map r0 r (go m.point fit.knows.point (subst (λ (x : TearState). RunsDown x.point) fit.course (kept_along tear_control (λ x. RunsDown x.point) runs_on (tear_start m) tr tt)) fit.holds)
+tear_still m r0 r tr going fit = same_map r0 r (go m.point fit.knows.point (tear_runs m r0 r tr fit) fit.holds)
   where
     es : List Event
     es = happens_along tear_control tear_event (tear_start m) tr

@@ -12,6 +12,7 @@ use Rattle.shm_graph.specs.Agents.{recovers}
 use Rattle.shm_graph.specs.Asks.{Trail}
 use Rattle.shm_graph.specs.Bounds.{tear_steps, redo_steps}
 use Rattle.shm_graph.specs.Events.{Event}
+use Rattle.shm_graph.specs.Events as event
 use Rattle.shm_graph.specs.Views.{own_word}
 use Rattle.shm_calls.specs.declared.or.Or.TheVariants.{First, Second}
 use Rattle.shm_calls.specs.CallTells.{within_more}
@@ -45,6 +46,7 @@ use Rattle.shm_table.specs.PutRoot.{IsDecided, IsEraSpent, PutRootLeaves, put_ro
 use Rattle.shm_table.specs.PutRoot.Steps.{decided_after, decided_more, frees_append, same_more, same_part, search_before, search_more, set_after, set_then}
 use Rattle.shm_table.specs.Staying.{Cleared, Ended, SameMap}
 use Rattle.shm_table.specs.Staying.Laws.{cleared_drop, dropped_else, keeps_drop, keeps_more, left_by, spent_drop, spent_later}
+use Rattle.shm_table.specs.Undoing.{dropped_undone, none_undone, put_undone, stopped_undone}
 use Rattle.shm_table.specs.ValueReads.{idle_here}
 use Rattle.shm_table.specs.Costs.{tear_sum, tear_same}
 
@@ -152,6 +154,8 @@ module _ (m : CopyState) (r0 rs r : Memo) (tr t : Trail) (es ds : List Event) (h
             map = w.map;
             cause = cause_fetch m.me r0 r f w.cause;
             cleared = inl w.cleared;
+            undone = none_undone m.me (λ j v. event.Up c (spot.Root c j) v) r0 r ds f w.home w.cleared.dying w.none;
+            has = w.has;
             read = w.keys;
             searched = w.search;
             keys = 0;
@@ -195,6 +199,7 @@ module _ (m : CopyState) (r0 rs r : Memo) (tr t : Trail) (es ds : List Event) (h
               | inr d ↦ inr (d.0, sym (h.map m.key) ∙ d.1)
             ],
           );
+          undone = tt;
           made = (ds, ap (λ (u : List Event). u ++ ds) h.events);
           source = source_more m.me m.author m.other m.number m.block r0 tr t (source h);
           keys = w.keys;
@@ -218,6 +223,7 @@ module _ (m : CopyState) (r0 rs r : Memo) (tr t : Trail) (es ds : List Event) (h
           empty = h.empty;
           rest = elim w.cleared [ inl y ↦ inl ((λ j n. y.roots j ∙ h.others j n), y.dying ∙ h.dying) | inr y ↦ inr y ];
           value = (same_more r0 rs r h.map w.map, cause_put m.me m.root r0 rs r f h.low h.empty h.others w.cause);
+          undone = put_undone m.me (λ j v. event.Up c (spot.Root c j) v) m.key m.root m.block r0 rs r t es ds f h.events h.home h.dying h.some h.root w;
           made = (ds, ap (λ (u : List Event). u ++ ds) h.events);
           source = source_more m.me m.author m.other m.number m.block r0 tr t (source h);
           keys = w.keys;
@@ -299,6 +305,8 @@ module _ (m : CopyState) (r0 rs r : Memo) (tr t : Trail) (es ds : List Event) (h
         map = same_more r0 rs r h.value.0 (same_dropped (Ok z) w);
         cause = cause_then m.me r0 rs r f (era_dropped (Ok z) w) h.value.1;
         cleared = cleared_by f z w h;
+        undone = dropped_undone m.me (λ j v. event.Up c (spot.Root c j) v) m.root m.block r0 rs r es ds f n.1 h.undone w.dying w.events;
+        has = λ own. (m.number, m.block, h.source.has own);
         read = h.source.read;
         searched = search_more m.me m.author m.other h.source.read tr t h.source.searched;
         keys = h.keys;
@@ -322,6 +330,8 @@ module _ (m : CopyState) (r0 rs r : Memo) (tr t : Trail) (es ds : List Event) (h
         map = same_more r0 rs r h.value.0 (same_dropped (Err e) (vs, w));
         cause = spent_drop (dropping m.me m.root) r0 rs r t ds e (vs, w);
         cleared = inr tt;
+        undone = stopped_undone m.me (λ j v. event.Up c (spot.Root c j) v) m.root m.block r0 rs r es ds f n.1 h.undone e vs w.stopped;
+        has = λ own. (m.number, m.block, h.source.has own);
         read = h.source.read;
         searched = search_more m.me m.author m.other h.source.read tr t h.source.searched;
         keys = h.keys;

@@ -160,8 +160,10 @@ module _ (m : FetchState) (r0 rs r : Memo) (tr t : Trail) (es ds : List Event) (
           keeps = keeps_more c r0 rs r before keeps;
           holds = held;
           latch = rests.latch ∙ latch_of m.me a r0 rs reading;
+          home = rests.home ∙ reading.own (Home c) refl;
           map = same_more r0 rs r (map_reading m.me a r0 rs reading) (same_part rs r rests.part);
           cause = cause_before m.me r0 rs r f clear.roots cause;
+          has = λ own. (m.number, m.block, sym (map_reading m.me a r0 rs reading m.key) ∙ told_own m.me a m.key m.entry m.number m.block rs reading.may.who reading.held h.0.1 own);
           cleared = cleared_more c r0 rs r clear rests.cleared;
           none = ap (λ (x : List Event). x ++ ds) h.0.0.none ∙ none;
           keys = on.keys;
@@ -191,8 +193,10 @@ module _ (m : FetchState) (r0 rs r : Memo) (tr t : Trail) (es ds : List Event) (
         keeps = keeps_more c r0 rs r h.keeps after;
         holds = held;
         latch = w.latch;
+        home = u.1 ∙ h.home;
         map = same_more r0 rs r h.map (same_part rs r u.2);
         cause = cause_later m.me r0 rs r f after.era h.cause;
+        has = h.has;
         cleared = cleared_more c r0 rs r h.cleared u.3;
         none = ap (λ (x : List Event). x ++ ds) h.none ∙ w.none;
         keys = h.keys;

@@ -187,6 +187,7 @@ module _ (m : FetchHeadState) (r0 rs r : Memo) (tr t : Trail) (es ds : List Even
           holds = held;
           client = agent ∙ h.client;
           latch = ap (λ (x : Memo). x.latch) w.filled.rest ∙ rests.latch;
+          home = w.filled.own (spot.Home c) refl ∙ rests.home;
           map = same_part r0 r (root_part c k m.block rs r w.filled ∙ rests.part);
           low = w.low;
           empty = sym (rests.cleared.roots k) ∙ w.empty;
@@ -203,13 +204,15 @@ module _ (m : FetchHeadState) (r0 rs r : Memo) (tr t : Trail) (es ds : List Even
         }
 
     -- it got none, and nothing was done
-    unrooted : (f : PutFault) → Keeps c rs r → Rests c rs r → PutCause m.me rs r f → ds ≡ [] → IsWithin (up_steps m.me.geometry.wide + 16) t → IsHeadUnrooted m.me f r0 r (tr ++ t) (es ++ ds)
+    unrooted : (f : PutFault) → Keeps c rs r → Rests c rs r → PutCause m.me rs r f → ds ≡ [] → IsWithin (up_steps m.me.geometry.wide + 16) t → IsHeadUnrooted m.me s f r0 r (tr ++ t) (es ++ ds)
     unrooted f keeps same cause none bound =
         record {
           keeps = keeps_more c r0 rs r before keeps;
           latch = same.latch ∙ rests.latch;
+          home = same.home ∙ rests.home;
           map = same_part r0 r (same.part ∙ rests.part);
           cause = cause_before m.me r0 rs r f rests.cleared.roots cause;
+          waits = (m.at, m.block, m.number, rs, h.at);
           cleared = cleared_more c r0 rs r rests.cleared same.cleared;
           none = ap (λ (x : List Event). x ++ ds) h.none ∙ none;
           bound = within_more 4 (up_steps m.me.geometry.wide + 16) tr t h.bound bound;

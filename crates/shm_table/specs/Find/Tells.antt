@@ -21,7 +21,7 @@ use Rattle.shm_graph.specs.Events.{Event}
 use Rattle.shm_graph.specs.Held.{HeldAt, InLooks, LookAt, LooksSound, PartTie, is_loose, named_by}
 use Rattle.shm_graph.specs.Ops.{cover, cover_of, covered, slot_of}
 use Rattle.shm_graph.specs.References.{refs_of, words_of}
-use Rattle.shm_graph.specs.Tables.{Contents, contents_of, IsChain, IsEntry, IsPartition, find}
+use Rattle.shm_graph.specs.Tables.{Contents, contents_of, HasShape, IsChain, IsEntry, IsPartition, find}
 use Rattle.shm_graph.specs.Views.{targets, view}
 use Rattle.shm_graph.proofs.States.Counting.{cover_slot, covered_none}
 use Rattle.shm_graph.proofs.States.Holders.{InReach, held_live_not_zero, one_latch, reach_counted, step_holds}
@@ -175,16 +175,19 @@ module _ (g : Geometry) (w : Spot → ℕ) (r : ℕ → Memo) (c a key : ℕ) (h
   value_had : (entry v : ℕ) → IsLook (r c) (Body entry 1) v → (s : IsSo (key % 16) (chain_in (r a).part (key % 16)) entry) → s.e.value ≡ v
   value_had entry v look s = sym s.entry.value ∙ (ap (λ b. t (Body b 1)) s.block ∙ (named_so (Body entry 1) v look).1)
 
-  block_so : (entry v : ℕ) → HasRead a (r c) key entry → IsLook (r c) (Body entry 1) v → (n : ℕ) × (map_in (r a).part key ≡ Some (n, v))
-  block_so entry v f look = let s = bucket_so entry f in (s.e.number, map_so entry s ∙ ap (λ k. Some (s.e.number, k)) (value_had entry v look s))
+  block_so : (entry v : ℕ) → HasRead a (r c) key entry → IsLook (r c) (Body entry 1) v → map_in (r a).part key ≡ Some (w (Body v 0), v)
+  block_so entry v f look =
+      let s = bucket_so entry f in
+      let value : s.e.value ≡ v = value_had entry v look s in
+      map_so entry s ∙ (ap (λ k. Some (k, s.e.value)) (sym s.entry.number) ∙ ap (λ b. Some (w (Body b 0), b)) value)
+
+  -- which has no reference word
+  shape_so : (entry v : ℕ) → HasRead a (r c) key entry → IsLook (r c) (Body entry 1) v → HasShape z 0 1 v
+  shape_so entry v f look = let s = bucket_so entry f in subst (HasShape z 0 1) (value_had entry v look s) s.entry.holds
 
   -- and that block's number
   value_so : (entry v n : ℕ) → HasRead a (r c) key entry → IsLook (r c) (Body entry 1) v → Contains (r c).known (record { spot = Body v 0; value = n }) → map_in (r a).part key ≡ Some (n, v)
-  value_so entry v n f look known =
-      let s = bucket_so entry f in
-      let value : s.e.value ≡ v = value_had entry v look s in
-      let number : s.e.number ≡ n = sym s.entry.number ∙ (ap (λ b. w (Body b 0)) value ∙ body_so g w r c h l v 0 n known) in
-      map_so entry s ∙ (ap (λ k. Some (k, s.e.value)) number ∙ ap (λ k. Some (n, k)) value)
+  value_so entry v n f look known = block_so entry v f look ∙ ap (λ k. Some (k, v)) (body_so g w r c h l v 0 n known)
 
   -- a reference word of a block of the author that is in reach is what it names, where no own step is about to store it
   named_word : (b i : ℕ) → InReach w g (view r) c b → tag_author g.wide (w (Tag b)) ≡ a → i < tag_refs g.wide (w (Tag b)) → (r c).op ≡ Nothing → t (Body b i) ≡ w (Body b i)
@@ -220,11 +223,17 @@ author_has me a key entry r f l w rs h same =
     let here : HasRead a (rs me.who) key entry = subst (λ (x : Memo). HasRead a x key entry) (sym same) f in
     found_so me.geometry w rs me.who a key h l here.latch here.table entry here
 
--- and where its value word was read, the author's map has the value block at the key
-pub author_names : (me : Me) (a key entry v : ℕ) (r : Memo) → HasRead a r key entry → IsLook r (Body entry 1) v → me.who < me.geometry.clients → (w : Spot → ℕ) (rs : ℕ → Memo) → HeldAt me.geometry w (view rs) → rs me.who ≡ r → (n : ℕ) × (map_in (rs a).part key ≡ Some (n, v))
+-- and where its value word was read, the author's map has the value block at the key, with the number in its word
+pub author_names : (me : Me) (a key entry v : ℕ) (r : Memo) → HasRead a r key entry → IsLook r (Body entry 1) v → me.who < me.geometry.clients → (w : Spot → ℕ) (rs : ℕ → Memo) → HeldAt me.geometry w (view rs) → rs me.who ≡ r → map_in (rs a).part key ≡ Some (w (Body v 0), v)
 author_names me a key entry v r f look l w rs h same =
     let here : HasRead a (rs me.who) key entry = subst (λ (x : Memo). HasRead a x key entry) (sym same) f in
     block_so me.geometry w rs me.who a key h l here.latch here.table entry v here (subst (λ (x : Memo). IsLook x (Body entry 1) v) (sym same) look)
+
+-- which is a live block of one plain word
+pub author_value : (me : Me) (a key entry v : ℕ) (r : Memo) → HasRead a r key entry → IsLook r (Body entry 1) v → me.who < me.geometry.clients → (w : Spot → ℕ) (rs : ℕ → Memo) → HeldAt me.geometry w (view rs) → rs me.who ≡ r → HasShape (contents_of me.geometry.wide w (targets me.geometry w (view rs))) 0 1 v
+author_value me a key entry v r f look l w rs h same =
+    let here : HasRead a (rs me.who) key entry = subst (λ (x : Memo). HasRead a x key entry) (sym same) f in
+    shape_so me.geometry w rs me.who a key h l here.latch here.table entry v here (subst (λ (x : Memo). IsLook x (Body entry 1) v) (sym same) look)
 
 -- and where the number of the value block was read too, it has that number there
 pub author_maps : (me : Me) (a key entry v n : ℕ) (r : Memo) → HasRead a r key entry → IsLook r (Body entry 1) v → Contains r.known (record { spot = Body v 0; value = n }) → me.who < me.geometry.clients

@@ -1,22 +1,25 @@
 -- what a latch that was taken and a search say of maps, and reading what a key has: of the own map, and in a held state of that of the author
-use Rattle.std.proofs.Common.{◌≡◌, ℕ, ◌<◌, refl, sym, ap, ◌∙◌, subst}
+use Rattle.std.proofs.Common.{◌≡◌, ℕ, ◌<◌, refl, sym, ap, ◌∙◌, subst, false}
 use Rattle.std.specs.Prelude.{Some, None, List}
 use Rattle.shm_graph.specs.declared.ask.Me.{Me}
 use Rattle.shm_graph.specs.declared.memo.Memo.{Memo}
 use Rattle.shm_graph.specs.declared.spot.Spot.{Spot}
+use Rattle.shm_graph.specs.declared.spot.Spot.TheVariants.{Body}
 use Rattle.shm_graph.specs.Asks.{Trail}
 use Rattle.shm_graph.specs.Events.{Event}
 use Rattle.shm_graph.specs.Held.{HeldAt}
 use Rattle.shm_graph.specs.Views.{view}
-use Rattle.shm_calls.specs.declared.or.Or.TheVariants.{Second}
+use Rattle.shm_calls.specs.declared.or.Or.TheVariants.{First, Second}
 use Rattle.shm_calls.specs.CallsControl.{calls_of}
 use Rattle.shm_calls.specs.CallsFit.{CallsFits}
 use Rattle.shm_calls.specs.Words.{word_control}
 use Rattle.shm_steps.specs.Reparting.{map_in}
 use Rattle.shm_table.specs.declared.find.Found.TheVariants.{Absent, At}
-use Rattle.shm_table.specs.declared.get.GetPoint.TheVariants.{Known}
+use Rattle.shm_table.specs.declared.get.GetPoint.TheVariants.{Known, Number}
 use Rattle.shm_table.specs.declared.get.GetState.{GetState}
-use Rattle.shm_table.specs.Find.Tells.{HasRead, absent_tells, author_maps, found_tells, has_read}
+use Rattle.shm_table.specs.Find.Control.{word_ask}
+use Rattle.shm_table.specs.Find.{IsLook}
+use Rattle.shm_table.specs.Find.Tells.{HasRead, absent_tells, author_maps, author_names, found_tells, has_read}
 use Rattle.shm_table.specs.Get.Control.{GetCalls, GetCall, get_parts}
 use Rattle.shm_table.specs.Get.{GetKnows, IsAt, IsTold, get_plan, number_trail}
 use Rattle.shm_table.specs.Locate.{Located}
@@ -36,6 +39,25 @@ pub located_read : (me : Me) (a key entry before word : ℕ) (r0 r : Memo) (tr :
 located_read me a key entry before word r0 r tr es h = has_read me a key entry before word h.latched r h.after es h.found
 
 -- ---- what a key has
+
+-- the value word of the entry was loaded, and the number of the block that it names is loaded next
+pub record HasNamed (m : GetCalls) : Type 0 where
+  pub point : m.plan.point ≡ Number
+  pub call : m.call ≡ Second (First (record { me = m.plan.me; ask = word_ask m.plan.block 0; over = false }))
+
+-- then the memo shows the chain up to the entry, and its value word
+pub named_shown : (m : GetCalls) (r0 r : Memo) (tr : Trail) → CallsFits get_parts get_plan m r0 r tr → HasNamed m → (m.plan.me.who < m.plan.me.geometry.clients) × HasRead m.plan.author r m.plan.key m.plan.entry × IsLook r (Body m.plan.entry 1) m.plan.block
+named_shown m r0 r tr fit named =
+    let k = subst (λ y. GetKnows m.plan y r0 fit.rs fit.before fit.es) named.point fit.knows in
+    let begun : r ≡ fit.rs = (subst (λ (c : GetCall). (get_plan.part m.plan).fits c fit.rs r fit.t) named.call fit.fits).same in
+    (k.0.reading.may.who, subst (λ (x : Memo). HasRead m.plan.author x m.plan.key m.plan.entry) (sym begun) k.0.has, subst (λ (x : Memo). IsLook x (Body m.plan.entry 1) m.plan.block) (sym begun) k.1)
+
+-- and in each held state with that memo the author's map has the block at the key, with the number in its word
+pub named_maps : (m : GetCalls) (r0 r : Memo) (tr : Trail) → CallsFits get_parts get_plan m r0 r tr → HasNamed m
+    → (w : Spot → ℕ) (rs : ℕ → Memo) → HeldAt m.plan.me.geometry w (view rs) → rs m.plan.me.who ≡ r → map_in (rs m.plan.author).part m.plan.key ≡ Some (w (Body m.plan.block 0), m.plan.block)
+named_maps m r0 r tr fit named w rs h same =
+    let k = named_shown m r0 r tr fit named in
+    author_names m.plan.me m.plan.author m.plan.key m.plan.entry m.plan.block r k.1 k.2 k.0 w rs h same
 
 -- the machine is about to give back the latch, once the number is known
 pub record IsReady (m : GetCalls) : Type 0 where

@@ -71,7 +71,7 @@ use Rattle.shm_count.specs.CountParts.{StepLeaves}
 use Rattle.shm_table.specs.declared.answer.PutFault.TheVariants.{EraSpent as Spent}
 use Rattle.shm_table.specs.Answers.{made_fault, spent_fault}
 use Rattle.shm_table.specs.OpenTable.Control.{OpenAnswer, directory_request, is_look, open_call_at, open_parts}
-use Rattle.shm_table.specs.OpenTable.{IsMade, IsNamed, IsUnopened, MayOpen, OpenKnows, OpenLeaves, OpenRefused, Opened, name_part, open_plan}
+use Rattle.shm_table.specs.OpenTable.{IsMade, IsNamed, IsOpening, IsUnopened, MayOpen, OpenKnows, OpenLeaves, OpenRefused, Opened, name_part, open_plan}
 use Rattle.shm_table.specs.OpenTable.OpenEvents.{Founded, Named}
 use Rattle.shm_table.specs.OpenTable.OpenLeft.{Undropped, Unmade, Unnamed}
 use Rattle.shm_table.specs.Staying.Laws.{cause_before, cleared_drop, dropped_else, home_else, keeps_core, keeps_drop, keeps_home, keeps_made, keeps_more, keeps_untouched, made_cause, made_home, made_others, made_root, raised_cause, rests_core, rests_more, rests_unmade, rests_untouched, same_map, spent_drop}
@@ -189,6 +189,7 @@ module _ (me : Me) (r0 rs r : Memo) (tr t : Trail) (es ds : List Event) (held : 
           map = same_map r0 r rests.part;
           cleared = rests.cleared;
           events = Named (λ e. some (names ∙ e)) silent;
+          opening = inl (rests.home, silent);
           bound = omega arith;
         }
 
@@ -319,6 +320,7 @@ module _ (me : Me) (r0 rs r : Memo) (tr t : Trail) (es ds : List Event) (held : 
           map = λ j. ap (λ (o : Part). map_in o j) else_.2 ∙ h.map j;
           cleared = cleared_drop (dropping me k) r0 rs r t ds z h.has.free h.has.others h.has.dying g;
           events = Founded h.empty k d ds told (subst (λ x. RootEvents c k x ds) h.has.root g.events);
+          opening = subst (λ x. IsOpening c (own_word r0.own (Home c)) x (es ++ ds)) (sym (else_.1 ∙ h.home)) (inr (h.empty, h.has.some, (k, ds, told, subst (λ x. RootEvents c k x ds) h.has.root g.events)));
           bound = omega arith;
         }
 

@@ -19,6 +19,7 @@ use Rattle.shm_graph.specs.Agents.{recovers}
 use Rattle.shm_graph.specs.Asks.{Trail}
 use Rattle.shm_graph.specs.Bounds.{alloc_steps, tear_steps, redo_steps}
 use Rattle.shm_graph.specs.Events.{Event}
+use Rattle.shm_graph.specs.Events as event
 use Rattle.shm_graph.specs.Held.{is_loose}
 use Rattle.shm_graph.specs.Readings.{valued}
 use Rattle.shm_graph.specs.Views.{own_word}
@@ -61,7 +62,8 @@ use Rattle.shm_table.specs.PutRoot.Control.{put_root_parts, putting_root}
 use Rattle.shm_table.specs.PutRoot.{IsDecided, IsEraSpent, PutRootLeaves, put_root_control, put_root_plan, put_root_steps}
 use Rattle.shm_table.specs.PutRoot.Steps.{decided_after, decided_more, frees_append, same_more, same_part, search_before, search_more, set_after, set_then}
 use Rattle.shm_table.specs.Staying.{Cleared, Ended, PutCause, SameMap}
-use Rattle.shm_table.specs.Staying.Laws.{cleared_drop, dropped_else, keeps_drop, keeps_made, keeps_more, left_by, made_cause, made_others, made_root, rests_unmade, spent_drop, spent_later}
+use Rattle.shm_table.specs.Staying.Laws.{cleared_drop, dropped_else, keeps_drop, keeps_made, keeps_more, left_by, made_cause, made_home, made_others, made_root, rests_unmade, spent_drop, spent_later}
+use Rattle.shm_table.specs.Undoing.{dropped_undone, none_undone, put_undone, stopped_undone}
 use Rattle.shm_table.specs.ValueReads.{idle_here}
 use Rattle.shm_table.specs.Costs.{tear_sum, tear_same}
 
@@ -168,6 +170,7 @@ module _ (m : PutState) (r0 r : Memo) (t : Trail) (ds : List Event) (held : IsHe
         some = λ e. (let l = inside.0 in absurd (omega arith));
         others = λ j n. made_others m.me q r0 r a h j n;
         dying = h.stays.dying;
+        home = made_home m.me q r0 r a h;
         map = same_part r0 r h.stays.part;
         value = value_made m.me q r0 r a few h refl refl may.table;
         fresh = λ i e. not_mapped m.me r a.block held may.who h.gives.made m.key i (ap (λ (x : Part). map_in x m.key) h.stays.part ∙ e);
@@ -186,6 +189,7 @@ module _ (m : PutState) (r0 r : Memo) (t : Trail) (ds : List Event) (held : IsHe
         map = same_part r0 r rests.part;
         cause = cause_made m.me r0 r f (made_cause m.me q r0 r f w.holds);
         cleared = inl rests.cleared;
+        undone = none_undone m.me (λ j v. event.Alloc m.me.who j v) r0 r ds (made_fault f) rests.home rests.cleared.dying w.events;
         keys = 0;
         search = inl refl;
         left = [];
@@ -234,6 +238,7 @@ module _ (m : PutState) (r0 rs r : Memo) (tr t : Trail) (es ds : List Event) whe
               | inr d ↦ inr (d.0, sym (h.map m.key) ∙ d.1)
             ],
           );
+          undone = tt;
           fresh = h.fresh;
           made = (ds, ap (λ (u : List Event). u ++ ds) h.told);
           keys = w.keys;
@@ -259,6 +264,7 @@ module _ (m : PutState) (r0 rs r : Memo) (tr t : Trail) (es ds : List Event) whe
           empty = h.empty;
           rest = elim w.cleared [ inl y ↦ inl ((λ j n. y.roots j ∙ h.others j n), y.dying ∙ h.dying) | inr y ↦ inr y ];
           value = (same_more r0 rs r h.map w.map, cause_put m.me m.root r0 rs r f h.low h.empty h.others w.cause);
+          undone = put_undone m.me (λ j v. event.Alloc c j v) m.key m.root m.block r0 rs r t es ds f h.told h.home h.dying h.some h.root w;
           fresh = h.fresh;
           made = (ds, ap (λ (u : List Event). u ++ ds) h.told);
           keys = w.keys;
@@ -339,6 +345,7 @@ module _ (m : PutState) (r0 rs r : Memo) (tr t : Trail) (es ds : List Event) whe
         map = same_more r0 rs r h.value.0 (same_dropped (Ok z) w);
         cause = cause_then m.me r0 rs r f (era_dropped (Ok z) w) h.value.1;
         cleared = cleared_by f z w h;
+        undone = dropped_undone m.me (λ j v. event.Alloc c j v) m.root m.block r0 rs r es ds f n.1 h.undone w.dying w.events;
         keys = h.keys;
         search = elim h.search [ inl y ↦ inl y | inr y ↦ inr (search_more m.me c m.key h.keys tr t y) ];
         left = h.left;
@@ -362,6 +369,7 @@ module _ (m : PutState) (r0 rs r : Memo) (tr t : Trail) (es ds : List Event) whe
         map = same_more r0 rs r h.value.0 (same_dropped (Err e) (vs, w));
         cause = spent_drop (dropping m.me m.root) r0 rs r t ds e (vs, w);
         cleared = inr tt;
+        undone = stopped_undone m.me (λ j v. event.Alloc c j v) m.root m.block r0 rs r es ds f n.1 h.undone e vs w.stopped;
         keys = h.keys;
         search = elim h.search [ inl y ↦ inl y | inr y ↦ inr (search_more m.me c m.key h.keys tr t y) ];
         left = h.left ++ vs;

@@ -32,18 +32,19 @@ use Rattle.shm_table.specs.declared.put_root.PutRootPoint.{PutRootPoint}
 use Rattle.shm_table.specs.declared.put_root.PutRootPoint.TheVariants.{Open, Locate, Replace, Enter, Unlatch, Drop}
 use Rattle.shm_table.specs.declared.put_root.PutRootState.{PutRootState}
 use Rattle.shm_table.specs.Enter.Control.{entering}
-use Rattle.shm_table.specs.Enter.{EnterLeaves, enter_steps, link_events}
+use Rattle.shm_table.specs.Enter.{EnterLeaves, IsHalfMade, enter_steps, link_events}
 use Rattle.shm_table.specs.Locate.{Located}
 use Rattle.shm_table.specs.OpenTable.Control.{opening}
-use Rattle.shm_table.specs.OpenTable.{OpenLeaves, OpenLeft}
+use Rattle.shm_table.specs.OpenTable.{HomeSo, IsOpening, OpenLeaves, OpenLeft}
 use Rattle.shm_table.specs.OpenTable.OpenLeft.{Unmade as NotMade, Unnamed, Undropped}
 use Rattle.shm_table.specs.PutRoot.Control.{PutRootAnswer, put_root_parts}
-use Rattle.shm_table.specs.PutRoot.{Decides, IsDecided, IsEraSpent, IsSettled, MapSo, PutRootDone, PutRootKnows, PutRootRefused, RootsSo, put_root_plan, opened_steps, searched_steps, settled_steps}
+use Rattle.shm_table.specs.PutRoot.{Decides, IsDecided, IsEraSpent, IsSettled, IsUnlisted, MapSo, PutRootDone, PutRootKnows, PutRootRefused, RootsSo, UnlistedSo, put_root_plan, opened_steps, searched_steps, settled_steps}
 use Rattle.shm_table.specs.PutRoot.Decides.{Begins, Leads as Leading, Replaces}
-use Rattle.shm_table.specs.PutRoot.Steps.{decided_after, decided_more, frees_append, located_absent, located_at, located_putting, located_searched, same_more, same_part, search_more, set_after, set_then}
+use Rattle.shm_table.specs.PutRoot.Undoing.{home_more, opening_still, still_more, still_same, still_stopped, unlisted_dropped, unlisted_home, unlisted_still}
+use Rattle.shm_table.specs.PutRoot.Steps.{decided_after, decided_more, frees_append, located_absent, located_at, located_opening, located_putting, located_searched, same_more, same_part, search_more, set_after, set_then}
 use Rattle.shm_table.specs.Replace.Control.{replacing}
 use Rattle.shm_table.specs.Replace.{MayReplace, ReplaceLeaves}
-use Rattle.shm_table.specs.Staying.{Cleared, Ended, SameMap}
+use Rattle.shm_table.specs.Staying.{Cleared, Ended, SameMap, Still}
 use Rattle.shm_table.specs.Staying.Laws.{cause_before, cause_later, cleared_drop, cleared_more, dropped_else, ended_drop, keeps_drop, keeps_more, keeps_unlatched, left_by, spent_drop, spent_later, unlatched_else}
 use Rattle.shm_table.specs.Unlatch.{Unlatched}
 use Rattle.shm_table.specs.Costs.{tear_sum}
@@ -83,6 +84,9 @@ refused_of m r0 r tr es f h =
       map = h.map.0;
       cause = h.map.1;
       cleared = inl h.map.2;
+      home = unlisted_home m.me.who m.value r0 r es None f h.undone;
+      still = still_same r0 r h.map.2.dying;
+      events = inl (es, [], sym (append-nil es), h.undone, inl refl);
       keys = h.keys;
       search = inr h.search;
       left = h.left;
@@ -123,6 +127,7 @@ module _ (m : PutRootState) (r0 rs r : Memo) (tr t : Trail) (es ds : List Event)
         root,
         fault,
         w.bound,
+        w.opening,
       )
       go (Err f) w =
           record {
@@ -131,6 +136,9 @@ module _ (m : PutRootState) (r0 rs r : Memo) (tr t : Trail) (es ds : List Event)
             map = w.map;
             cause = w.cause;
             cleared = left_so f w.left;
+            home = home_so f w.left;
+            still = still_so f w.left;
+            events = events_so f w.left;
             keys = 0;
             search = inl refl;
             left = w.visits;
@@ -143,6 +151,27 @@ module _ (m : PutRootState) (r0 rs r : Memo) (tr t : Trail) (es ds : List Event)
           left_so f (Unnamed e is k d has home told all) = inr (subst IsEraSpent (sym is) tt)
           left_so f (Undropped e is k d free some home others stopped fs told) = inr (subst IsEraSpent (sym is) tt)
 
+          home_so : (f : PutFault) → OpenLeft m.me r0 r ds w.visits f → HomeSo c (own_word r0.own (Home c)) (own_word r.own (Home c)) ds
+          home_so f (NotMade a is cleared home none all) = inl (home ∙ sym w.empty)
+          home_so f (Unnamed e is k d has home told all) = inl (home ∙ sym w.empty)
+          home_so f (Undropped e is k d free some home others stopped fs told) =
+              inr (
+                w.empty,
+                (λ z. some (sym home ∙ z)),
+                (k, subst (λ (u : List Event). Contains u (event.Alloc c k (own_word r.own (Home c)))) (sym told) (0, omega arith, ap (λ x. event.Alloc c k x) (sym home))),
+                subst (λ (u : List Event). Contains u (event.Up c (Home c) (own_word r.own (Home c)))) (sym told) (1, omega arith, ap (λ x. event.Up c (Home c) x) (sym home)),
+              )
+
+          still_so : (f : PutFault) → OpenLeft m.me r0 r ds w.visits f → Still r0 r
+          still_so f (NotMade a is cleared home none all) = still_same r0 r cleared.dying
+          still_so f (Unnamed e is k d has home told all) = still_same r0 r has.dying
+          still_so f (Undropped e is k d free some home others stopped fs told) = still_stopped m.me r0 r e w.visits stopped
+
+          events_so : (f : PutFault) → OpenLeft m.me r0 r ds w.visits f → IsUnlisted c m.value (own_word r0.own (Home c)) (own_word r.own (Home c)) ds ⊎ IsEraSpent f
+          events_so f (NotMade a is cleared home none all) = inl ([], [], none, inl (home ∙ sym w.empty, refl), inl refl)
+          events_so f (Unnamed e is k d has home told all) = inr (subst IsEraSpent (sym is) tt)
+          events_so f (Undropped e is k d free some home others stopped fs told) = inr (subst IsEraSpent (sym is) tt)
+
           dying_so : (f : PutFault) → OpenLeft m.me r0 r ds w.visits f → All (λ (x : Visit). Contains r.dying x.block) w.visits
           dying_so f (NotMade a is cleared home none all) = subst (All (λ (x : Visit). Contains r.dying x.block)) (sym all) (All-nil (λ (x : Visit). Contains r.dying x.block))
           dying_so f (Unnamed e is k d has home told all) = subst (All (λ (x : Visit). Contains r.dying x.block)) (sym all) (All-nil (λ (x : Visit). Contains r.dying x.block))
@@ -150,23 +179,25 @@ module _ (m : PutRootState) (r0 rs r : Memo) (tr t : Trail) (es ds : List Event)
 
   -- the latch is taken, and the key was looked for
   pub located : (b : Found) → PutRootKnows (record m { point = Locate }) Locate r0 rs tr es → Located m.me c m.key rs r t ds b → Goes Locate (First (Second b))
-  located (At entry before word) (h, root, fault, bound) w = (
+  located (At entry before word) (h, root, fault, bound, opening) w = (
     located_putting m.me m.key m.value r0 rs r t es ds (At entry before word) held agent h w,
     root,
     located_searched m.me m.key m.value r0 rs r t es ds (At entry before word) held agent h w tr (opened_steps m.me.geometry.wide g) bound,
     (let u = located_at m.me m.key m.value r0 rs r t es ds entry before word held agent h w in (u.0, before, word, u.1)),
+    located_opening m.me m.key m.value r0 rs r t es ds (At entry before word) held agent h w opening,
   )
-  located (Absent home first) (h, root, fault, bound) w = (
+  located (Absent home first) (h, root, fault, bound, opening) w = (
     located_putting m.me m.key m.value r0 rs r t es ds (Absent home first) held agent h w,
     root,
     fault,
     located_searched m.me m.key m.value r0 rs r t es ds (Absent home first) held agent h w tr (opened_steps m.me.geometry.wide g) bound,
     located_absent m.me m.key m.value r0 rs r t es ds home first held agent h w,
+    located_opening m.me m.key m.value r0 rs r t es ds (Absent home first) held agent h w opening,
   )
 
   -- the entry that was found has the block, or not
   pub replaced : (a : Result Bool PutFault) → PutRootKnows (record m { point = Replace }) Replace r0 rs tr es → ReplaceLeaves (replacing m.me m.entry m.value) rs r t ds a → Goes Replace (Second (First (First a)))
-  replaced (Ok done) (h, root, searched, (n, before, word, may)) (w, still) =
+  replaced (Ok done) (h, root, searched, (n, before, word, may), opening) (w, still) =
       let quiet = frees_append es ds in
       let k = searched.keys in
       record {
@@ -183,6 +214,7 @@ module _ (m : PutRootState) (r0 rs r : Memo) (tr t : Trail) (es ds : List Event)
             | inr y ↦ inl (es, event.ChangeUp c (Body m.entry 1) y.0 m.value, event.ChangeDown c y.0 ∷ y.1, ap (λ (u : List Event). es ++ u) y.4, Replaces m.entry y.0)
           ],
         );
+        undone = tt;
         still = λ z. same_more r0 rs r h.map (still z);
         keys = k;
         search = search_more m.me c m.key k tr t searched.search;
@@ -195,7 +227,7 @@ module _ (m : PutRootState) (r0 rs r : Memo) (tr t : Trail) (es ds : List Event)
       other_number : (i : ℕ) → IsValue (sight c rs) m.value i → MayReplace m.me m.key m.value i m.entry before word rs
       other_number i v =
           record { geometry = may.geometry; who = may.who; idle = may.idle; client = may.client; found = may.found; some = may.some; room = may.room; here = may.here; value = v; named = may.named; block = may.block }
-  replaced (Err f) (h, root, searched, (n, before, word, may)) w =
+  replaced (Err f) (h, root, searched, (n, before, word, may), opening) w =
       let quiet = frees_append es ds in
       let none : frees ds ≡ 0 = ap frees w.none in
       let k = searched.keys in
@@ -208,6 +240,7 @@ module _ (m : PutRootState) (r0 rs r : Memo) (tr t : Trail) (es ds : List Event)
         home = λ e. h.home (sym w.home ∙ e);
         roots = subst (RootsSo c r0 r) (sym root) (inl cleared);
         map = subst (λ (o : Option ℕ). MapSo m.me m.key m.value r0 r (es ++ ds) o (Some f)) (sym root) (same_more r0 rs r h.map w.map, cause_before m.me r0 rs r f h.cleared.roots w.cause, cleared);
+        undone = subst (λ (o : Option ℕ). UnlistedSo c m.value r0 r (es ++ ds) o (Some f)) (sym root) (opening_still c (own_word r0.own (Home c)) (own_word rs.own (Home c)) (own_word r.own (Home c)) es ds w.home w.none opening);
         still = λ z. same_more r0 rs r h.map w.map;
         keys = k;
         search = search_more m.me c m.key k tr t searched.search;
@@ -219,7 +252,7 @@ module _ (m : PutRootState) (r0 rs r : Memo) (tr t : Trail) (es ds : List Event)
 
   -- a new entry is linked, or not
   pub entered : (b : Entered) → PutRootKnows (record m { point = Enter }) Enter r0 rs tr es → EnterLeaves (entering m.me m.key m.value m.home m.first) rs r t ds b → Goes Enter (Second (First (Second b)))
-  entered (Linked j) (h, root, fault, searched, (n, may)) x =
+  entered (Linked j) (h, root, fault, searched, (n, may), opening) x =
       let quiet = frees_append es ds in
       let low = x.low in
       let small : j ≡ j % 16 = omega arith in
@@ -235,6 +268,7 @@ module _ (m : PutRootState) (r0 rs r : Memo) (tr t : Trail) (es ds : List Event)
           (λ i v. set_after m.key i m.value r0 rs r h.map (x.map i (h.keeps.values h.may.1 m.value i h.may.2.low h.may.2.some h.may.2.root v))),
           inl (decided_after c m.key (own_word r.own (Home c)) m.value es ds (linked m.first x.entry x.directory x.events)),
         );
+        undone = tt;
         still = λ z. absurd (true≢false z);
         keys = k;
         search = search_more m.me c m.key k tr t searched.search;
@@ -253,7 +287,7 @@ module _ (m : PutRootState) (r0 rs r : Memo) (tr t : Trail) (es ds : List Event)
         told,
         subst (λ d. Decides c m.key d m.value (event.ChangeUp c (Body m.home (m.key % 16)) (suc y) e)) (sym at) (Leading (suc y) e),
       )
-  entered (Unlinked j f) (h, root, fault, searched, (n, may)) x =
+  entered (Unlinked j f) (h, root, fault, searched, (n, may), opening) x =
       let quiet = frees_append es ds in
       let low = x.low in
       let small : j ≡ j % 16 = omega arith in
@@ -266,6 +300,14 @@ module _ (m : PutRootState) (r0 rs r : Memo) (tr t : Trail) (es ds : List Event)
         home = λ e. h.home (may.directory ∙ (sym x.directory ∙ e));
         roots = subst (λ i. RootsSo c r0 r (Some i)) small (low, sym (h.cleared.roots j) ∙ x.empty, (λ i o. x.others i (λ z. o (sym z)) ∙ h.cleared.roots i), x.dying ∙ h.cleared.dying);
         map = (same_more r0 rs r h.map x.map, cause_before m.me r0 rs r f h.cleared.roots x.cause);
+        undone = subst (λ i. UnlistedSo c m.value r0 r (es ++ ds) (Some i) (Some f)) small (
+          es,
+          ds,
+          refl,
+          subst (λ y. IsOpening c (own_word r0.own (Home c)) y es) (may.directory ∙ sym x.directory) opening,
+          (λ z. x.some (sym x.root ∙ z)),
+          (m.first, subst (λ e. IsHalfMade c j e m.value m.first ds) (sym x.root) x.events),
+        );
         still = λ z. same_more r0 rs r h.map x.map;
         keys = k;
         search = search_more m.me c m.key k tr t searched.search;
@@ -274,7 +316,7 @@ module _ (m : PutRootState) (r0 rs r : Memo) (tr t : Trail) (es ds : List Event)
         alone = refl;
         bound = let torn = tear_sum m.me.geometry.wide (frees (es ++ ds) + 0) (frees es) (frees ds) (omega arith) in let y = within_more (searched_steps m.me.geometry.wide g + 2 * k + tear_steps m.me.geometry.wide (frees es)) (enter_steps m.me.geometry.wide g) tr t searched.bound x.bound in omega arith;
       }
-  entered (Unmade f) (h, root, fault, searched, (n, may)) x =
+  entered (Unmade f) (h, root, fault, searched, (n, may), opening) x =
       let quiet = frees_append es ds in
       let k = searched.keys in
       let cleared = cleared_more c r0 rs r h.cleared x.cleared in
@@ -286,6 +328,7 @@ module _ (m : PutRootState) (r0 rs r : Memo) (tr t : Trail) (es ds : List Event)
         home = λ e. h.home (may.directory ∙ (sym x.directory ∙ e));
         roots = subst (RootsSo c r0 r) (sym root) (inl cleared);
         map = subst (λ (o : Option ℕ). MapSo m.me m.key m.value r0 r (es ++ ds) o (Some f)) (sym root) (same_more r0 rs r h.map x.map, cause_before m.me r0 rs r f h.cleared.roots x.cause, cleared);
+        undone = subst (λ (o : Option ℕ). UnlistedSo c m.value r0 r (es ++ ds) o (Some f)) (sym root) (opening_still c (own_word r0.own (Home c)) (own_word rs.own (Home c)) (own_word r.own (Home c)) es ds (x.directory ∙ sym may.directory) x.none opening);
         still = λ z. same_more r0 rs r h.map x.map;
         keys = k;
         search = search_more m.me c m.key k tr t searched.search;
@@ -315,6 +358,7 @@ module _ (m : PutRootState) (r0 rs r : Memo) (tr t : Trail) (es ds : List Event)
           home = λ e. h.home (sym home ∙ e);
           roots = roots_so o n.3 h.roots;
           map = map_so o f same n.3 home keeps.era h.map;
+          undone = unlisted_still c m.value r0 rs r es ds o f home n.3.roots w.none h.undone;
           still = λ z. same_more r0 rs r (h.still z) same;
           keys = h.keys;
           search = search_more m.me c m.key h.keys tr t h.search;
@@ -358,6 +402,9 @@ module _ (m : PutRootState) (r0 rs r : Memo) (tr t : Trail) (es ds : List Event)
     ended_so : RootsSo c r0 rs (Some k) → Ended c r0 r
     ended_so y = ended_drop (dropping m.me k) r0 rs r t ds a y.1 y.2 y.3 w
 
+  home_so : (k : ℕ) (f : PutFault) → UnlistedSo c m.value r0 rs es (Some k) (Some f) → own_word r.own (Home c) ≡ own_word rs.own (Home c) → HomeSo c (own_word r0.own (Home c)) (own_word r.own (Home c)) (es ++ ds)
+  home_so k f h same = subst (λ y. HomeSo c (own_word r0.own (Home c)) y (es ++ ds)) (sym same) (home_more c (own_word r0.own (Home c)) (own_word rs.own (Home c)) es ds (unlisted_home c m.value r0 rs es (Some k) f h))
+
   cleared_so : (k : ℕ) (z : Bool) → DropLeaves (dropping m.me k) rs r t ds (Ok z) → RootsSo c r0 rs (Some k) → Cleared c r0 r
   cleared_so k z w y = cleared_drop (dropping m.me k) r0 rs r t ds z y.1 y.2 y.3 w
 
@@ -393,6 +440,9 @@ module _ (m : PutRootState) (r0 rs r : Memo) (tr t : Trail) (es ds : List Event)
         map = same_more r0 rs r h.map.0 (same_dropped k (Ok z) w);
         cause = cause_later m.me r0 rs r f (era_dropped k (Ok z) w) h.map.1;
         cleared = inl (cleared_so k z w h.roots);
+        home = home_so k f h.undone n.1;
+        still = still_same r0 r (cleared_so k z w h.roots).dying;
+        events = inl (unlisted_dropped c m.value k r0 rs r es ds f n.1 w.events h.undone);
         keys = h.keys;
         search = inr (search_more m.me c m.key h.keys tr t h.search);
         left = nobody;
@@ -428,6 +478,9 @@ module _ (m : PutRootState) (r0 rs r : Memo) (tr t : Trail) (es ds : List Event)
         map = same_more r0 rs r h.map.0 (same_dropped k (Err e) (vs, w));
         cause = spent_drop (dropping m.me k) r0 rs r t ds e (vs, w);
         cleared = inr tt;
+        home = home_so k f h.undone n.1;
+        still = still_more r0 rs r (still_same r0 rs h.roots.3) (still_stopped m.me rs r e.era vs w.stopped);
+        events = inr tt;
         keys = h.keys;
         search = inr (search_more m.me c m.key h.keys tr t h.search);
         left = vs;

@@ -66,7 +66,7 @@ opens m Open r0 r tr es (may, same, none, quiet, root, fault) =
     let a = subst (MayPut m.me m.key m.value) (sym same) may in
     let b = a.2 in
     record { made = refl; first = refl; start = refl; knows = (record { geometry = b.geometry; who = b.who; idle = b.idle; client = b.client; table = b.table; none = b.none }, refl, refl, refl) }
-opens m Locate r0 r tr es (h, root, fault, bound) =
+opens m Locate r0 r tr es (h, root, fault, bound, opening) =
     let b = h.may.2 in
     record {
       made = refl;
@@ -74,8 +74,8 @@ opens m Locate r0 r tr es (h, root, fault, bound) =
       start = refl;
       knows = locate_begin m.me m.me.who m.key r (record { geometry = b.geometry; who = b.who; author = b.who; idle = h.keeps.idle; none = h.latched; table = h.keeps.loose ∙ b.table });
     }
-opens m Replace r0 r tr es (h, root, searched, (n, before, word, may)) = record { made = refl; first = refl; start = refl; knows = ((m.key, n, before, word, may), refl, refl, refl) }
-opens m Enter r0 r tr es (h, root, fault, searched, (n, may)) = record { made = refl; first = refl; start = refl; knows = ((n, may), refl, refl, refl) }
+opens m Replace r0 r tr es (h, root, searched, (n, before, word, may), opening) = record { made = refl; first = refl; start = refl; knows = ((m.key, n, before, word, may), refl, refl, refl) }
+opens m Enter r0 r tr es (h, root, fault, searched, (n, may), opening) = record { made = refl; first = refl; start = refl; knows = ((n, may), refl, refl, refl) }
 opens m Unlatch r0 r tr es h =
     let b = h.may.2 in
     record {

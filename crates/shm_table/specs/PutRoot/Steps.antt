@@ -31,7 +31,8 @@ use Rattle.shm_table.specs.Find.{OnlyReads}
 use Rattle.shm_table.specs.Locate.{Located}
 use Rattle.shm_table.specs.Locate.Laws.{find_only}
 use Rattle.shm_table.specs.PutRoot.Control.{home_of}
-use Rattle.shm_table.specs.PutRoot.{HasSearch, IsDecided, IsPutting, IsSearched, MayPutRoot}
+use Rattle.shm_table.specs.PutRoot.{HasSearch, IsDecided, IsPutting, IsSearched, MayPutRoot, OpenedSo}
+use Rattle.shm_table.specs.PutRoot.Undoing.{opening_still}
 use Rattle.shm_table.specs.Replace.{MayReplace}
 use Rattle.shm_table.specs.Staying.{Cleared, Keeps, MapSet, SameMap}
 use Rattle.shm_table.specs.Staying.Laws.{cleared_more, keeps_latched, keeps_more, keeps_read, latched_else, rests_read, root_kept}
@@ -104,6 +105,9 @@ module _ (me : Me) (key v : ℕ) (r0 rs r : Memo) (t : Trail) (es ds : List Even
         map = same_more r0 rs r h.map (same_part rs r (rests.part ∙ else_latched.2));
         cleared = cleared_more c r0 w.latched r (cleared_more c r0 rs w.latched h.cleared else_latched.3) rests.cleared;
       }
+
+  pub located_opening : OpenedSo c r0 rs es → OpenedSo c r0 r (es ++ ds)
+  located_opening = opening_still c (own_word r0.own (Home c)) (own_word rs.own (Home c)) (own_word r.own (Home c)) es ds ((rests_read c w.latched r reads).home ∙ else_latched.1) w.none
 
   -- what was asked so far
   pub located_searched : (tr : Trail) (steps : ℕ) → IsWithin (steps + tear_steps me.geometry.wide (frees es)) tr → IsSearched me key (steps + 2 + 2) (tr ++ t) (es ++ ds)

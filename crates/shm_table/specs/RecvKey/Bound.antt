@@ -38,16 +38,16 @@ take_head_short me s n b r0 r tr es (Err e) h = h.bound
 abbrev pub own_steps : Bool → ℕ → ℕ → ℕ → ℕ
 own_steps wide g k t = recv_steps wide g + 2 * k + tear_steps wide t
 
-refused_short : (me : Me) (key : ℕ) (r0 r : Memo) (tr : Trail) (es : List Event) (f : PutFault) → NotReceivedIn me key r0 r tr es f → IsPutShort me key (own_steps me.geometry.wide me.geometry.segments) r tr es
-refused_short me key r0 r tr es f h = (h.keys, h.search, h.left, h.dying, h.bound)
+refused_short : (me : Me) (s key : ℕ) (r0 r : Memo) (tr : Trail) (es : List Event) (f : PutFault) → NotReceivedIn me s key r0 r tr es f → IsPutShort me key (own_steps me.geometry.wide me.geometry.segments) r tr es
+refused_short me s key r0 r tr es f h = (h.keys, h.search, h.left, h.dying, h.bound)
 
 pub recv_short : (me : Me) (s key : ℕ) (r0 r : Memo) (tr : Trail) (es : List Event) (a : Answer) → RecvLeaves (receiving_key me s key) r0 r tr es a → IsPutShort me key (own_steps me.geometry.wide me.geometry.segments) r tr es
 recv_short me s key r0 r tr es (answer.Value v b) h = (h.keys, h.search, h.left, h.dying, h.bound)
 recv_short me s key r0 r tr es (answer.Empty n) h = (0, inl refl, [], All-nil (λ (x : Visit). Contains r.dying x.block), (let b = h.bound in omega arith))
-recv_short me s key r0 r tr es (answer.EraSpent e) h = refused_short me key r0 r tr es (EraSpent e) h
-recv_short me s key r0 r tr es answer.RootsFull h = refused_short me key r0 r tr es RootsFull h
-recv_short me s key r0 r tr es (answer.Full c b) h = refused_short me key r0 r tr es (Full c b) h
-recv_short me s key r0 r tr es (answer.CountFull b x) h = refused_short me key r0 r tr es (CountFull b x) h
+recv_short me s key r0 r tr es (answer.EraSpent e) h = refused_short me s key r0 r tr es (EraSpent e) h
+recv_short me s key r0 r tr es answer.RootsFull h = refused_short me s key r0 r tr es RootsFull h
+recv_short me s key r0 r tr es (answer.Full c b) h = refused_short me s key r0 r tr es (Full c b) h
+recv_short me s key r0 r tr es (answer.CountFull b x) h = refused_short me s key r0 r tr es (CountFull b x) h
 recv_short me s key r0 r tr es a h = absurd h
 
 -- that is within what a command on a table may take

@@ -1,8 +1,7 @@
 -- what is owed of a receive into a table
-use Rattle.std.proofs.Common.{◌≡◌, ◌≢◌, ℕ, length-append, ◌+◌, ◌*◌, ◌%◌, ◌<◌, ◌≤◌, refl, sym, ap, ◌∙◌, subst, arith, Bool, false, List, [], ◌++◌, Option, Some, None, inl, inr, ◌⊎◌}
-use Rattle.std.specs.Prelude.{Result, Ok, Err, length, slice_index}
+use Rattle.std.proofs.Common.{◌≡◌, ◌≢◌, ℕ, length-append, ◌+◌, ◌*◌, ◌%◌, ◌≤◌, refl, sym, ap, ◌∙◌, subst, arith, Bool, false, List, [], ◌++◌, Option, Some, None, inl, inr, ◌⊎◌}
+use Rattle.std.specs.Prelude.{Result, Ok, Err, length}
 use Rattle.std.specs.List.{All, Contains}
-use Rattle.std.proofs.lemmas.Bool.{cases_eq, cond-false, cond-true, eq-eqb, ne_eqb}
 use Rattle.std.proofs.lemmas.List.Elements.{All-nil, Contains-append_left, Contains-append_right}
 use Rattle.shm_words.specs.Layout.{address_limit}
 use Rattle.shm_graph.specs.declared.ask.Me.{Me}
@@ -12,21 +11,16 @@ use Rattle.shm_graph.specs.Asks.{Trail, IsWithin}
 use Rattle.shm_graph.specs.Bounds.{tear_steps, redo_steps}
 use Rattle.shm_graph.specs.Events.{Event}
 use Rattle.shm_graph.specs.Events as event
-use Rattle.shm_graph.specs.Idle.{IsIdle}
-use Rattle.shm_graph.specs.Stores.{lane_with, put as put_item}
 use Rattle.shm_graph.specs.Views.{own_word}
-use Rattle.shm_graph.proofs.Spots.Spotting.{same_spot_self}
 use Rattle.shm_calls.specs.declared.or.Or.TheVariants.{First, Second}
 use Rattle.shm_calls.specs.CallTells.{within_more}
 use Rattle.shm_calls.specs.CallsPart.{calls_part, calls_part_laws}
 use Rattle.shm_calls.specs.Either.{or_control, or_part, or_part_laws}
 use Rattle.shm_calls.specs.Parts.{IsHeld, PartLaws}
 use Rattle.shm_calls.specs.Plans.{PlanLaws, PlanStays, IsCall, Follows}
-use Rattle.shm_steps.proofs.Items.{put_at}
 use Rattle.shm_count.specs.declared.answer.EraSpent.{EraSpent}
 use Rattle.shm_count.specs.Roots.{root_word}
 use Rattle.shm_count.specs.Tear.Events.{Visit, frees}
-use Rattle.shm_queue.specs.QueueSteps.{put_here}
 use Rattle.shm_ref.specs.DropRoot.Control.{drop_parts, dropping}
 use Rattle.shm_ref.specs.DropRoot.{DropLeaves, drop_plan}
 use Rattle.shm_ref.specs.DropRoot.Laws.{drop_laws}
@@ -41,74 +35,24 @@ use Rattle.shm_table.specs.declared.recv.RecvState.{RecvState}
 use Rattle.shm_table.specs.Answers.{fault_answer}
 use Rattle.shm_table.specs.Commands.{RestSo, cause_fetch, cause_put, cause_then, left_too}
 use Rattle.shm_table.specs.FetchHead.Control.{fetch_head_parts, fetching_head}
-use Rattle.shm_table.specs.FetchHead.{FetchHeadLeaves, IsHeadRooted, MayFetchHead, fetch_head_plan, fetch_head_steps}
+use Rattle.shm_table.specs.FetchHead.{FetchHeadLeaves, IsHeadRooted, fetch_head_plan, fetch_head_steps}
 use Rattle.shm_table.specs.FetchHead.Laws.{fetch_head_begin}
 use Rattle.shm_table.specs.PutRoot.Control.{put_root_parts}
 use Rattle.shm_table.specs.PutRoot.{IsDecided, PutRootDone, PutRootRefused, put_root_control, put_root_plan, put_root_steps}
 use Rattle.shm_table.specs.PutRoot.Steps.{decided_after, decided_more, frees_append, same_more, same_part, search_before, search_more, set_after, set_then}
 use Rattle.shm_table.specs.RecvKey.Control.{RecvAnswer, fetch_head_control, is_fetch, receiving_key, recv_call_at, recv_parts, take_head_control}
-use Rattle.shm_table.specs.RecvKey.{IsPassed, IsPutIn, IsWaiting, ItemSo, ItemTaken, MayRecv, NotReceivedIn, RecvKnows, RecvLeaves, put_in_steps, recv_part, recv_plan}
+use Rattle.shm_table.specs.RecvKey.Items.{item_idle, item_taken, may_fetch, may_take}
+use Rattle.shm_table.specs.RecvKey.{IsPutIn, ItemSo, ItemTaken, MayRecv, NotReceivedIn, RecvKnows, RecvLeaves, put_in_steps, recv_part, recv_plan}
 use Rattle.shm_table.specs.Staying.{Ended, IsSpent, Keeps, SameMap}
 use Rattle.shm_table.specs.Staying.Laws.{Rests, cleared_drop, dropped_else, keeps_drop, keeps_more, keeps_untouched, left_by, rests_untouched, root_kept, spent_drop, spent_later}
 use Rattle.shm_table.specs.TakeHead.Control.{take_head_parts, taking_head}
-use Rattle.shm_table.specs.TakeHead.{MayTakeHead, TakeHeadLeaves, passed_memo, take_head_plan, take_head_steps}
+use Rattle.shm_table.specs.TakeHead.{TakeHeadLeaves, passed_memo, take_head_plan, take_head_steps}
 use Rattle.shm_table.specs.TakeHead.Laws.{keeps_beside, take_head_begin}
+use Rattle.shm_table.specs.Undoing.{dropped_undone, none_undone, put_undone, stopped_undone}
 use Rattle.shm_table.specs.ValueReads.{idle_here}
 use Rattle.shm_table.specs.Costs.{tear_sum, tear_same}
 
--- ---- the item
-
--- an identity that goes on is between two calls
-item_idle : (me : Me) (s n b : ℕ) (r0 r : Memo) (es : List Event) (f : Option PutFault) → ItemSo me s n b r0 r es f → IsIdle me.who r
-item_idle me s n b r0 r es None (inl h) = h.keeps.idle
-item_idle me s n b r0 r es None (inr h) = h.0.idle
-item_idle me s n b r0 r es (Some f) h = h.idle
-
--- what was received, the head and what waits, once the item is
-item_taken : (me : Me) (s n b : ℕ) (r0 r : Memo) (es : List Event) → n ≡ own_word r0.own (spot.QueueHead s me.who) → slice_index r0.untaken s ≡ 0 → IsPassed me s n b r0 r es → ItemTaken me s n b r0 r es
-item_taken me s n b r0 r es place none h =
-    record {
-      passed = h;
-      received = h.keeps.received ∙ ap (λ d. lane_with r0.received s d) (put_here r0.untaken s b);
-      head = (h.keeps.own (spot.QueueHead s me.who) refl refl ∙ cond-true _ _ _ (same_spot_self (spot.QueueHead s me.who))) ∙ ap (λ y. y + 1) (sym place);
-      untaken = λ j.
-          ap (λ (us : List ℕ). slice_index us j) h.keeps.untaken
-          ∙ (put_at 0 (put_item 0 r0.untaken s b) s 0 j
-          ∙ elim (cases_eq s j) [
-            | inl e ↦ cond-true _ _ _ (eq-eqb s j e) ∙ (sym none ∙ ap (slice_index r0.untaken) e)
-            | inr o ↦ cond-false _ _ _ (ne_eqb s j o) ∙ (put_at 0 r0.untaken s b j ∙ cond-false _ _ _ (ne_eqb s j o))
-          ]);
-    }
-
 -- ---- before each call
-
-may_fetch : (me : Me) (s key : ℕ) (r : Memo) → MayRecv me s key r → MayFetchHead me s r
-may_fetch me s key r may =
-    let b = may.command in
-    record {
-      take = record { geometry = b.geometry; who = b.who; here = idle_here me.who r b.idle; idle = b.idle.op; from = may.from; other = may.other; none = may.none };
-      idle = b.idle;
-      client = b.client;
-      table = b.table;
-    }
-
--- the item may be taken once the key has it
-may_take : (me : Me) (s n b k : ℕ) (r0 r : Memo) → (key : ℕ) → MayRecv me s key r0 → n ≡ own_word r0.own (spot.QueueHead s me.who) → k < 16 → IsWaiting me s n b k r0 r → MayTakeHead me s n b r
-may_take me s n b k r0 r key may place low h =
-    let b0 = may.command in
-    record {
-      geometry = b0.geometry;
-      who = b0.who;
-      from = may.from;
-      other = may.other;
-      idle = h.keeps.idle;
-      holds = h.holds;
-      none = ap (λ (us : List ℕ). slice_index us s) h.keeps.untaken ∙ may.none;
-      place = place ∙ sym (h.keeps.own (spot.QueueHead s me.who) refl refl);
-      known = h.known;
-      some = h.some;
-      root = (k, low, h.root);
-    }
 
 opens : (m : RecvState) (y : RecvPoint) (r0 r : Memo) (tr : Trail) (es : List Event) → RecvKnows (record m { point = y }) y r0 r tr es → recv_part.needs (recv_call_at m y) r
 opens m Fetch r0 r tr es (may, same, none, quiet) =
@@ -154,7 +98,7 @@ opens m Drop r0 r tr es (p, item, still) =
 -- ---- answers
 
 -- what a refusal leaves
-not_received : (m : RecvState) (r0 r : Memo) (tr : Trail) (es : List Event) (f : PutFault) → NotReceivedIn m.me m.key r0 r tr es f → RecvLeaves m r0 r tr es (fault_answer f)
+not_received : (m : RecvState) (r0 r : Memo) (tr : Trail) (es : List Event) (f : PutFault) → NotReceivedIn m.me m.from m.key r0 r tr es f → RecvLeaves m r0 r tr es (fault_answer f)
 not_received m r0 r tr es (fault.EraSpent e) h = h
 not_received m r0 r tr es fault.RootsFull h = h
 not_received m r0 r tr es (fault.Full s b) h = h
@@ -193,7 +137,9 @@ module _ (m : RecvState) (r0 rs r : Memo) (tr t : Trail) (es ds : List Event) (h
             latch = w.latch ∙ may.command.none;
             map = w.map;
             cause = cause_fetch m.me r0 r f w.cause;
+            waits = w.waits;
             cleared = inl w.cleared;
+            undone = none_undone m.me (λ j v. event.Up c (spot.Root c j) v) r0 r ds f w.home w.cleared.dying w.none;
             keys = 0;
             search = inl refl;
             left = [];
@@ -229,6 +175,7 @@ module _ (m : RecvState) (r0 rs r : Memo) (tr t : Trail) (es ds : List Event) (h
               | inr d ↦ inr (d.0, sym (h.map m.key) ∙ d.1)
             ],
           );
+          undone = tt;
           made = (ds, ap (λ (u : List Event). u ++ ds) h.events);
           q = h.q;
           source = h.source;
@@ -262,6 +209,7 @@ module _ (m : RecvState) (r0 rs r : Memo) (tr t : Trail) (es ds : List Event) (h
           empty = h.empty;
           rest = elim w.cleared [ inl y ↦ inl ((λ j n. y.roots j ∙ h.others j n), y.dying ∙ h.dying) | inr y ↦ inr y ];
           value = (same_more r0 rs r h.map w.map, cause_put m.me m.root r0 rs r f h.low h.empty h.others w.cause);
+          undone = put_undone m.me (λ j v. event.Up c (spot.Root c j) v) m.key m.root m.block r0 rs r t es ds f h.events h.home h.dying h.source.some h.root w;
           made = (ds, ap (λ (u : List Event). u ++ ds) h.events);
           q = h.q;
           source = h.source;
@@ -299,6 +247,7 @@ module _ (m : RecvState) (r0 rs r : Memo) (tr t : Trail) (es ds : List Event) (h
             | inr d ↦ inr d
           ],
         );
+        undone = tt;
         made = (h.made.0 ++ ds, ap (λ (u : List Event). u ++ ds) h.made.1);
         q = h.q;
         source = h.source;
@@ -424,7 +373,9 @@ module _ (m : RecvState) (r0 rs r : Memo) (tr t : Trail) (es ds : List Event) (h
         latch = n.0 ∙ h.latch;
         map = same_more r0 rs r h.value.0 (same_dropped (Ok z) w);
         cause = cause_then m.me r0 rs r f (era_dropped (Ok z) w) h.value.1;
+        waits = (m.at, m.block, m.number, h.q, h.source);
         cleared = elim h.rest [ inl y ↦ inl (cleared_drop (dropping m.me m.root) r0 rs r t ds z h.empty y.0 y.1 w) | inr y ↦ inr y ];
+        undone = dropped_undone m.me (λ j v. event.Up c (spot.Root c j) v) m.root m.block r0 rs r es ds f n.1 h.undone w.dying w.events;
         keys = h.keys;
         search = elim h.search [ inl y ↦ inl y | inr y ↦ inr (search_more m.me c m.key h.keys tr t y) ];
         left = h.left;
@@ -442,7 +393,9 @@ module _ (m : RecvState) (r0 rs r : Memo) (tr t : Trail) (es ds : List Event) (h
         latch = n.0 ∙ h.latch;
         map = same_more r0 rs r h.value.0 (same_dropped (Err e) (vs, w));
         cause = spent_drop (dropping m.me m.root) r0 rs r t ds e (vs, w);
+        waits = (m.at, m.block, m.number, h.q, h.source);
         cleared = inr tt;
+        undone = stopped_undone m.me (λ j v. event.Up c (spot.Root c j) v) m.root m.block r0 rs r es ds f n.1 h.undone e vs w.stopped;
         keys = h.keys;
         search = elim h.search [ inl y ↦ inl y | inr y ↦ inr (search_more m.me c m.key h.keys tr t y) ];
         left = h.left ++ vs;

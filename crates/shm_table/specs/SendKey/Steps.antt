@@ -33,8 +33,7 @@ use Rattle.shm_table.specs.Staying.Laws.{Rests, keeps_more, value_same}
 -- it has the block that the value word of the key's entry was read to name
 pub own_names : (me : Me) (key entry v : ℕ) (r : Memo) → me.who < me.geometry.clients → IsHeld me r → HasRead me.who r key entry → IsLook r (Body entry 1) v → (n : ℕ) × (map_in r.part key ≡ Some (n, v))
 own_names me key entry v r l (w, rs, h, same) has look =
-    let y = author_names me me.who key entry v r has look l w rs h same in
-    (y.0, ap (λ (x : Memo). map_in x.part key) (sym same) ∙ y.1)
+    (w (Body v 0), ap (λ (x : Memo). map_in x.part key) (sym same) ∙ author_names me me.who key entry v r has look l w rs h same)
 
 -- ---- a block is sent
 

@@ -1,5 +1,5 @@
 use Rattle.shm_graph.proofs.Runs.EraRises.{turn_eras}
-use Rattle.shm_graph.proofs.Runs.TurnsTaken.{turn_others, turn_allocated, turn_raised, turn_changed, turn_freed, turn_rows}
+use Rattle.shm_graph.proofs.Runs.TurnsTaken.{turn_placed, turn_others, turn_allocated, turn_authored, turn_shaped, turn_raised, turn_changed, turn_freed, turn_rows}
 use Rattle.shm_graph.proofs.history.word_turns.Goals as goal
 
 pub returns-clause-others : goal.returns-clause-others
@@ -22,3 +22,12 @@ returns-clause-rows c = turn_rows
 
 pub returns-clause-eras : goal.returns-clause-eras
 returns-clause-eras c = turn_eras
+
+pub returns-clause-placed : goal.returns-clause-placed
+returns-clause-placed c = turn_placed
+
+pub returns-clause-authored : goal.returns-clause-authored
+returns-clause-authored c = turn_authored
+
+pub returns-clause-shaped : goal.returns-clause-shaped
+returns-clause-shaped c = turn_shaped

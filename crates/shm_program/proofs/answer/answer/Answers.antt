@@ -1,4 +1,3 @@
-use Rattle.std.proofs.Common.{IfOk}
 use Rattle.std.proofs.lemmas.Result.{IfOk-weaker}
 use Rattle.shm_program.specs.Outcomes.{Spells}
 use Rattle.shm_program.proofs.JobAnswers.{drawn_told, read_printed, read_told}

@@ -3,6 +3,7 @@ use Rattle.shm_graph.specs.declared.run.Move.{Move}
 use Rattle.shm_graph.specs.declared.run.Move.TheVariants.{Word}
 use Rattle.shm_graph.specs.Runs.{IsMove, Leads, State, Turned, first_state, moved}
 use Rattle.shm_graph.proofs.States.HeldSound.{held_state_sound}
+use Rattle.shm_graph.proofs.Runs.EraRises.{first_was_held}
 use Rattle.shm_graph.proofs.Runs.Running.{Leads-split}
 use Rattle.shm_plain.specs.Calls.{state_of}
 use Rattle.shm_plain.specs.Pools.{Pool, IsRun}
@@ -14,6 +15,13 @@ at_turn p before after m run e =
     let g = p.start.geometry in
     let x = Leads-split g (first_state p.start) before (m ∷ after) (state_of p) (subst (λ (ms : List Move). Leads g (first_state p.start) ms (state_of p)) e run.leads) in
     (x.0, x.1, x.2.0, x.2.1)
+
+pub returns-clause-first : goal.returns-clause-first
+returns-clause-first c t finished r =
+    let p = r.run.closed in
+    let s = first_state p.start in
+    let run = r.replay.closed.run in
+    held_state_sound p.start.geometry s.words s.accounts (first_was_held p.start p.turns (state_of p) run.held run.leads)
 
 pub returns-clause-states : goal.returns-clause-states
 returns-clause-states c t finished r before after m e =

@@ -1,65 +1,56 @@
-use Rattle.std.proofs.Common.{ℕ, ◌∙◌, ◌≡◌, inl, inr, sym, arith, subst, refl, map}
+use Rattle.std.proofs.Common.{◌∙◌, ◌≡◌, ◌<◌, ℕ, map, refl, sym, subst}
+use Rattle.std.specs.Prelude.{Some}
 use Rattle.std.specs.String.{string_bytes}
-use Rattle.shm_io.specs.Faults.{NoFault, Rose}
-use Rattle.shm_program.specs.declared.words.Job.{Job}
+use Rattle.shm_program.specs.Reads.{most_of}
+use Rattle.shm_program.specs.Words.{job_of}
+use Rattle.shm_program.proofs.CallEnds.{answering, failing, loses_nothing, lost_at, misusing, most_at, takes_loses, wanting}
 use Rattle.shm_program.proofs.Commands.{command_named}
-use Rattle.shm_program.proofs.TopAnswers.{complete, done_written, faulty, refused_written, said, same_job}
+use Rattle.shm_program.proofs.TopAnswers.{said}
 use Rattle.shm_program.proofs.top.top.Goals as goal
-
--- a write didn't fail where no fault was counted
-unfailed : (before after : ℕ) → NoFault before after → Rose before after → ⊥
-unfailed before after none (inl more) = omega (arith, none.same, more)
-unfailed before after none (inr end) = none.not_at_end end
 
 pub answer-requires : goal.answer-requires
 answer-requires g c = rw c.in-Ok-Some.field-0-is at c.in-Ok-Some.ensures.fits
 
-pub returns-in-Ok-answer-clause-done : goal.returns-in-Ok-answer-clause-done
-returns-in-Ok-answer-clause-done g c = λ e.
-    let s = said c.in-Ok-Some.job (g.S.Source.left c.args.source.now) (g.S.Source.left c.read_to_limit.new.source) c.limit_of.result c.in-Ok.bytes.items c.as_slice.result.now c.in-Ok-answer.field-0.status c.in-Ok-answer.field-0.finished c.finish-in-Ok-answer.result.finished c.in-Ok-answer.field-0.text.items c.as_slice-in-Ok-answer.result.now c.limit_of.ensures c.in-Ok.ensures.front c.in-Ok.ensures.size c.as_slice.ensures.value c.in-Ok-answer.ensures c.finish-in-Ok-answer.ensures.finished c.as_slice-in-Ok-answer.ensures.value in
-    let w = done_written c.in-Ok-answer.field-0.status c.finish-in-Ok-answer.result.status s c.finish-in-Ok-answer.ensures.status e c.finish-in-Ok-answer.ensures.written in
-    (c.in-Ok-Some.job, sym c.in-Ok-Some.ensures.job ∙ c.in-Ok-Some.field-0-is, (c.as_slice-in-Ok-answer.result.now, w.0, w.1.0))
+-- the words aren't accepted
+pub returns-in-Ok-None : goal.returns-in-Ok-None
+returns-in-Ok-None g c =
+    misusing _ _ _ _ _ c.as_bytes.result.now c.as_bytes.ensures.value (sym c.in-Ok-None.ensures.job ∙ c.in-Ok-None.field-0-is) refl refl c.finish.ensures.finished
+    (record { ends = c.finish.ensures.status; written = c.finish.ensures.written; failed = c.finish.ensures.failed })
 
-pub returns-in-Ok-answer-clause-refused : goal.returns-in-Ok-answer-clause-refused
-returns-in-Ok-answer-clause-refused g c = λ e.
-    let s = said c.in-Ok-Some.job (g.S.Source.left c.args.source.now) (g.S.Source.left c.read_to_limit.new.source) c.limit_of.result c.in-Ok.bytes.items c.as_slice.result.now c.in-Ok-answer.field-0.status c.in-Ok-answer.field-0.finished c.finish-in-Ok-answer.result.finished c.in-Ok-answer.field-0.text.items c.as_slice-in-Ok-answer.result.now c.limit_of.ensures c.in-Ok.ensures.front c.in-Ok.ensures.size c.as_slice.ensures.value c.in-Ok-answer.ensures c.finish-in-Ok-answer.ensures.finished c.as_slice-in-Ok-answer.ensures.value in
-    let w = refused_written c.in-Ok-answer.field-0.status c.finish-in-Ok-answer.result.status s c.finish-in-Ok-answer.ensures.status e c.finish-in-Ok-answer.ensures.written in
-    (c.in-Ok-Some.job, sym c.in-Ok-Some.ensures.job ∙ c.in-Ok-Some.field-0-is, (c.as_slice-in-Ok-answer.result.now, w.0, w.1.0))
+-- memory was wanting for the words
+pub returns-in-Err : goal.returns-in-Err
+returns-in-Err g c =
+    wanting _ _ _ _ _ c.stopped.ensures.status c.in-Err.ensures.memory
+    (loses_nothing (g.S.Source.left c.args.source.now) (g.S.Source.left c.args.source.now) (most_of (job_of (map string_bytes c.args.words.now))) refl) refl refl refl c.stopped.ensures.finished
 
-pub returns-in-Ok-answer-clause-write_failed : goal.returns-in-Ok-answer-clause-write_failed
-returns-in-Ok-answer-clause-write_failed g c = λ e.
-    let s = said c.in-Ok-Some.job (g.S.Source.left c.args.source.now) (g.S.Source.left c.read_to_limit.new.source) c.limit_of.result c.in-Ok.bytes.items c.as_slice.result.now c.in-Ok-answer.field-0.status c.in-Ok-answer.field-0.finished c.finish-in-Ok-answer.result.finished c.in-Ok-answer.field-0.text.items c.as_slice-in-Ok-answer.result.now c.limit_of.ensures c.in-Ok.ensures.front c.in-Ok.ensures.size c.as_slice.ensures.value c.in-Ok-answer.ensures c.finish-in-Ok-answer.ensures.finished c.as_slice-in-Ok-answer.ensures.value in
-    let f = c.finish-in-Ok-answer.ensures.failed e in
-    (f.0, (c.as_slice-in-Ok-answer.result.now, inr (c.in-Ok-Some.job, sym c.in-Ok-Some.ensures.job ∙ c.in-Ok-Some.field-0-is, elim s [ inl d ↦ inl d.1 | inr r ↦ inr r.1 ]), f.1))
+-- a read failed
+pub returns-in-Err-Fault : goal.returns-in-Err-Fault
+returns-in-Err-Fault g c =
+    let asked : job_of (map string_bytes c.args.words.now) ≡ Some c.in-Ok-Some.job = sym c.in-Ok-Some.ensures.job ∙ c.in-Ok-Some.field-0-is in
+    failing _ _ _ _ _ c.in-Ok-Some.job asked c.stopped-in-Err-Fault.ensures.status (rw c.in-Err-Fault.field-0-is at c.in-Err-Fault.ensures.cause)
+    (lost_at (map string_bytes c.args.words.now) c.in-Ok-Some.job c.limit_of.result (g.S.Source.left c.args.source.now) (g.S.Source.left c.read_to_limit.new.source) asked c.limit_of.ensures c.in-Err-Fault.ensures.lost)
+    (subst (λ (n : ℕ). 0 < n) (most_at (map string_bytes c.args.words.now) c.in-Ok-Some.job c.limit_of.result asked c.limit_of.ensures) c.in-Err-Fault.ensures.asked) refl refl c.stopped-in-Err-Fault.ensures.finished
 
-pub returns-in-Ok-answer-clause-complete : goal.returns-in-Ok-answer-clause-complete
-returns-in-Ok-answer-clause-complete g c = λ job asks source sink bytes left input.
-    let same : job ≡ c.in-Ok-Some.job = same_job _ job c.in-Ok-Some.job asks (sym c.in-Ok-Some.ensures.job ∙ c.in-Ok-Some.field-0-is) in
-    let s = said c.in-Ok-Some.job (g.S.Source.left c.args.source.now) (g.S.Source.left c.read_to_limit.new.source) c.limit_of.result c.in-Ok.bytes.items c.as_slice.result.now c.in-Ok-answer.field-0.status c.in-Ok-answer.field-0.finished c.finish-in-Ok-answer.result.finished c.in-Ok-answer.field-0.text.items c.as_slice-in-Ok-answer.result.now c.limit_of.ensures c.in-Ok.ensures.front c.in-Ok.ensures.size c.as_slice.ensures.value c.in-Ok-answer.ensures c.finish-in-Ok-answer.ensures.finished c.as_slice-in-Ok-answer.ensures.value in
-    let here = complete job (g.S.Source.left c.args.source.now) (g.S.Source.left c.read_to_limit.new.source) bytes c.in-Ok-answer.field-0.status c.finish-in-Ok-answer.result.finished c.as_slice-in-Ok-answer.result.now left input (rw same s) in
-    elim c.finish-in-Ok-answer.ensures.status [
-      | inl st ↦ inl (st ∙ here)
-      | inr five ↦ absurd (unfailed _ _ sink (c.finish-in-Ok-answer.ensures.failed five).0)
-    ]
+-- memory was wanting for the bytes
+pub returns-in-Err-Memory : goal.returns-in-Err-Memory
+returns-in-Err-Memory g c =
+    let asked : job_of (map string_bytes c.args.words.now) ≡ Some c.in-Ok-Some.job = sym c.in-Ok-Some.ensures.job ∙ c.in-Ok-Some.field-0-is in
+    wanting _ _ _ _ _ c.stopped-in-Err-Memory.ensures.status (command_named (map string_bytes c.args.words.now) c.in-Ok-Some.job asked)
+    (lost_at (map string_bytes c.args.words.now) c.in-Ok-Some.job c.limit_of.result (g.S.Source.left c.args.source.now) (g.S.Source.left c.read_to_limit.new.source) asked c.limit_of.ensures c.in-Err-Memory.ensures.lost)
+    (rw c.in-Err-Memory.field-0-is at c.in-Err-Memory.ensures.cause) refl refl c.stopped-in-Err-Memory.ensures.finished
 
-pub returns-in-Ok-answer-clause-faulty : goal.returns-in-Ok-answer-clause-faulty
-returns-in-Ok-answer-clause-faulty g c = λ job asks source sink bytes text left is.
-    let same : job ≡ c.in-Ok-Some.job = same_job _ job c.in-Ok-Some.job asks (sym c.in-Ok-Some.ensures.job ∙ c.in-Ok-Some.field-0-is) in
-    let s = said c.in-Ok-Some.job (g.S.Source.left c.args.source.now) (g.S.Source.left c.read_to_limit.new.source) c.limit_of.result c.in-Ok.bytes.items c.as_slice.result.now c.in-Ok-answer.field-0.status c.in-Ok-answer.field-0.finished c.finish-in-Ok-answer.result.finished c.in-Ok-answer.field-0.text.items c.as_slice-in-Ok-answer.result.now c.limit_of.ensures c.in-Ok.ensures.front c.in-Ok.ensures.size c.as_slice.ensures.value c.in-Ok-answer.ensures c.finish-in-Ok-answer.ensures.finished c.as_slice-in-Ok-answer.ensures.value in
-    let three = faulty job (g.S.Source.left c.args.source.now) (g.S.Source.left c.read_to_limit.new.source) bytes text c.in-Ok-answer.field-0.status c.finish-in-Ok-answer.result.finished c.as_slice-in-Ok-answer.result.now left is (rw same s) in
-    elim c.finish-in-Ok-answer.ensures.status [
-      | inl st ↦ inl (st ∙ three)
-      | inr five ↦ absurd (unfailed _ _ sink (c.finish-in-Ok-answer.ensures.failed five).0)
-    ]
+-- there was an answer
+pub returns-in-Ok-answer : goal.returns-in-Ok-answer
+returns-in-Ok-answer g c =
+    let asked : job_of (map string_bytes c.args.words.now) ≡ Some c.in-Ok-Some.job = sym c.in-Ok-Some.ensures.job ∙ c.in-Ok-Some.field-0-is in
+    answering _ _ _ _ _ c.in-Ok-Some.job c.in-Ok-answer.field-0.status c.as_slice-in-Ok-answer.result.now asked
+    (lost_at (map string_bytes c.args.words.now) c.in-Ok-Some.job c.limit_of.result (g.S.Source.left c.args.source.now) (g.S.Source.left c.read_to_limit.new.source) asked c.limit_of.ensures (takes_loses (g.S.Source.left c.args.source.now) (g.S.Source.left c.read_to_limit.new.source) c.limit_of.result c.in-Ok.bytes.items c.in-Ok.ensures.front)) c.in-Ok.ensures.no_fault
+    (said c.in-Ok-Some.job (g.S.Source.left c.args.source.now) (g.S.Source.left c.read_to_limit.new.source) c.limit_of.result c.in-Ok.bytes.items c.as_slice.result.now c.in-Ok-answer.field-0.status c.in-Ok-answer.field-0.finished c.finish-in-Ok-answer.result.finished c.in-Ok-answer.field-0.text.items c.as_slice-in-Ok-answer.result.now c.limit_of.ensures c.in-Ok.ensures.front c.in-Ok.ensures.size c.as_slice.ensures.value c.in-Ok-answer.ensures c.finish-in-Ok-answer.ensures.finished c.as_slice-in-Ok-answer.ensures.value)
+    (record { ends = c.finish-in-Ok-answer.ensures.status; written = c.finish-in-Ok-answer.ensures.written; failed = c.finish-in-Ok-answer.ensures.failed })
 
-pub returns-clause-complete : goal.returns-clause-complete
-returns-clause-complete g c = λ job asks source sink bytes left input. inr c.stopped-in-Err-answer.ensures.status
-
-pub returns-clause-faulty : goal.returns-clause-faulty
-returns-clause-faulty g c = λ job asks source sink bytes text left is. inr c.stopped-in-Err-answer.ensures.status
-
-pub returns-in-Err-Memory-clause-no_memory : goal.returns-in-Err-Memory-clause-no_memory
-returns-in-Err-Memory-clause-no_memory g c = λ e. (command_named (map string_bytes c.args.words.now) c.in-Ok-Some.job (sym c.in-Ok-Some.ensures.job ∙ c.in-Ok-Some.field-0-is), refl, c.stopped-in-Err-Memory.ensures.finished)
-
-pub returns-clause-no_memory : goal.returns-clause-no_memory
-returns-clause-no_memory g c = λ e. (command_named (map string_bytes c.args.words.now) c.in-Ok-Some.job (sym c.in-Ok-Some.ensures.job ∙ c.in-Ok-Some.field-0-is), refl, c.stopped-in-Err-answer.ensures.finished)
+-- memory was wanting for the answer
+pub returns : goal.returns
+returns g c =
+    let asked : job_of (map string_bytes c.args.words.now) ≡ Some c.in-Ok-Some.job = sym c.in-Ok-Some.ensures.job ∙ c.in-Ok-Some.field-0-is in
+    wanting _ _ _ _ _ c.stopped-in-Err-answer.ensures.status (command_named (map string_bytes c.args.words.now) c.in-Ok-Some.job asked)
+    (lost_at (map string_bytes c.args.words.now) c.in-Ok-Some.job c.limit_of.result (g.S.Source.left c.args.source.now) (g.S.Source.left c.read_to_limit.new.source) asked c.limit_of.ensures (takes_loses (g.S.Source.left c.args.source.now) (g.S.Source.left c.read_to_limit.new.source) c.limit_of.result c.in-Ok.bytes.items c.in-Ok.ensures.front)) c.in-Ok.ensures.no_fault refl refl c.stopped-in-Err-answer.ensures.finished

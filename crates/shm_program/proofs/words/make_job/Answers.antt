@@ -1,4 +1,4 @@
-use Rattle.std.proofs.Common.{◌≡◌, ◌∙◌, ap, ap₂, sym, map, List, ℕ, Bool, Option, codes}
+use Rattle.std.proofs.Common.{◌≡◌, ◌∙◌, ap, ap₂, map, ℕ, Bool, Option, codes}
 use Rattle.std.specs.Prelude.{option_and_then}
 use Rattle.std.specs.String.{string_bytes}
 use Rattle.clap.specs.Words.{app_of, first_of, found_of, is_simple_and_free}

@@ -20,6 +20,7 @@ use Rattle.shm_plain.proofs.Calling.{fits_acting, may_acting}
 use Rattle.shm_replay.proofs.Visiting.{drain_fits, drain_in, drain_ok, drain_part}
 use Rattle.shm_replay.proofs.closing.drain.Goals.{After-new-2, After-call, After-unwrap, After-unwrap-2}
 use Rattle.shm_replay.proofs.Enough.{answers_in_time, drain_lasts}
+use Rattle.shm_replay.proofs.SomeSteps.{some_steps}
 use Rattle.shm_replay.proofs.closing.drain.Goals as goal
 
 abbrev Machine : Type 0
@@ -97,9 +98,11 @@ pub returns-clause-whole : goal.returns-clause-whole
 returns-clause-whole c =
     let call = called (goal.at.returns-clause-whole c).After-unwrap-2 in
     let r = ran call in
+    let took : Took (calls_control drain_parts drain_plan) c.args.me.who c.args.pool.now (machine (goal.at.After-call call).After-new-2) c.call.new.self = subst (λ (x : Machine). Took (calls_control drain_parts drain_plan) c.args.me.who c.args.pool.now x c.call.new.self) (state (goal.at.After-call call).After-new-2) (c.call.ensures.took (r.some refl)) in
     record {
       start = r.start;
-      took = subst (λ (x : Machine). Took (calls_control drain_parts drain_plan) c.args.me.who c.args.pool.now x c.call.new.self) (state (goal.at.After-call call).After-new-2) (c.call.ensures.took (r.some refl));
+      took = took;
+      some = some_steps (calls_control drain_parts drain_plan) c.args.me.who c.args.pool.now _ c.call.new.self c.args.life.now.left c.call.new.life.left refl r took;
       over = r.over refl;
       run = r.run;
     }

@@ -13,6 +13,7 @@ use Rattle.shm_plain.specs.Calls.{Ran, Took}
 use Rattle.shm_plain.specs.Pools.{IsOf, MayStep, memo_of, readied}
 use Rattle.shm_alone.proofs.Lasting.{Lasts}
 use Rattle.shm_replay.proofs.Enough.{answers_in_time, join_lasts}
+use Rattle.shm_replay.proofs.SomeSteps.{some_steps}
 use Rattle.shm_replay.proofs.Visiting.{join_fits, join_in, join_part}
 use Rattle.shm_replay.proofs.closing.join.Goals.{After-new, After-call, After-unwrap}
 use Rattle.shm_replay.proofs.closing.join.Goals as goal
@@ -71,9 +72,11 @@ pub returns-clause-whole : goal.returns-clause-whole
 returns-clause-whole c =
     let call = called (goal.at.returns-clause-whole c).After-unwrap in
     let r = ran call in
+    let took : Took join_control c.args.me.who c.args.pool.now (join_fresh (member c.args.pool.now.start.geometry c.args.me.who)) c.call.new.self = subst (λ (x : JoinState). Took join_control c.args.me.who c.args.pool.now x c.call.new.self) (state (goal.at.After-call call).After-new) (c.call.ensures.took (r.some refl)) in
     record {
       start = r.start;
-      took = subst (λ (x : JoinState). Took join_control c.args.me.who c.args.pool.now x c.call.new.self) (state (goal.at.After-call call).After-new) (c.call.ensures.took (r.some refl));
+      took = took;
+      some = some_steps join_control c.args.me.who c.args.pool.now _ c.call.new.self c.args.life.now.left c.call.new.life.left refl r took;
       over = r.over refl;
       run = r.run;
     }

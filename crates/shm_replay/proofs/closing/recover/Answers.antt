@@ -18,6 +18,7 @@ use Rattle.shm_replay.proofs.Aside.{told_first}
 use Rattle.shm_replay.proofs.Reviving.{may_begin, r0, revive_fits, revive_ok, revive_out, revive_table, still}
 use Rattle.shm_replay.proofs.closing.recover.Goals.{After-new-2, After-call, After-unwrap, After-unwrap-2}
 use Rattle.shm_replay.proofs.Enough.{answers_in_time, recover_lasts}
+use Rattle.shm_replay.proofs.SomeSteps.{some_steps}
 use Rattle.shm_replay.proofs.closing.recover.Goals as goal
 
 abbrev machine : (c : After-new-2) → RecoverCalls
@@ -99,9 +100,11 @@ pub returns-clause-whole : goal.returns-clause-whole
 returns-clause-whole c =
     let call = called (goal.at.returns-clause-whole c).After-unwrap-2 in
     let r = ran call in
+    let took : Took (calls_control recover_parts recover_plan) c.args.me.who c.args.pool.now (machine (goal.at.After-call call).After-new-2) c.call.new.self = subst (λ (x : RecoverCalls). Took (calls_control recover_parts recover_plan) c.args.me.who c.args.pool.now x c.call.new.self) (state (goal.at.After-call call).After-new-2) (c.call.ensures.took (r.some refl)) in
     record {
       start = r.start;
-      took = subst (λ (x : RecoverCalls). Took (calls_control recover_parts recover_plan) c.args.me.who c.args.pool.now x c.call.new.self) (state (goal.at.After-call call).After-new-2) (c.call.ensures.took (r.some refl));
+      took = took;
+      some = some_steps (calls_control recover_parts recover_plan) c.args.me.who c.args.pool.now _ c.call.new.self c.args.life.now.left c.call.new.life.left refl r took;
       over = r.over refl;
       run = r.run;
     }

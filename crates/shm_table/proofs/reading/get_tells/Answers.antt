@@ -1,4 +1,4 @@
-use Rattle.shm_table.specs.Get.Tells.{ready_maps, ready_told}
+use Rattle.shm_table.specs.Get.Tells.{named_maps, ready_maps, ready_told}
 use Rattle.shm_table.proofs.reading.get_tells.Goals as goal
 
 pub returns-clause-missing : goal.returns-clause-missing
@@ -6,6 +6,9 @@ returns-clause-missing c me a key r0 r tr q h = h.leaves.absent q
 
 pub returns-clause-found : goal.returns-clause-found
 returns-clause-found c me a key r0 r tr n v q h = h.leaves.has q
+
+pub returns-clause-named : goal.returns-clause-named
+returns-clause-named c m r0 r tr fit named w rs held same = named_maps m r0 r tr fit named w rs held same
 
 pub returns-clause-told : goal.returns-clause-told
 returns-clause-told c m r0 r tr fit ready = (ready_told m r0 r tr fit ready).1

@@ -1,5 +1,5 @@
 use Rattle.std.proofs.Common.{◌≡◌, refl, sym, ap, ◌∙◌, subst}
-use Rattle.std.specs.Prelude.{IfOk}
+use Rattle.std.specs.Prelude.{IfErr, IfOk}
 use Rattle.shm_calls.specs.declared.calls.Calls.{Calls}
 use Rattle.shm_calls.specs.CallsControl.{calls_of}
 use Rattle.shm_calls.specs.CallsFit.{CallsFits, CallsGives}
@@ -12,7 +12,7 @@ use Rattle.shm_recover.specs.Leave.Control.{LeaveAnswer, LeaveCall, leave_parts,
 use Rattle.shm_recover.specs.Leave.Laws.{leave_begin, leave_laws}
 use Rattle.shm_recover.specs.Leave.{leave_plan}
 use Rattle.shm_recover.specs.Machines.{leave}
-use Rattle.shm_pool.specs.Endings.{Answer, HasEnded}
+use Rattle.shm_pool.specs.Endings.{Answer, HasEnded, HasStopped}
 use Rattle.shm_pool.specs.Tokens.{Its, me_of}
 use Rattle.shm_pool.proofs.token.Client.leave.Goals.{After-new-leave}
 use Rattle.shm_pool.proofs.token.Client.leave.Goals as goal
@@ -41,3 +41,9 @@ pub returns-clause-left : goal.returns-clause-left
 returns-clause-left c =
     let x = (goal.at.returns-clause-left c).After-new-leave in
     subst (λ (m : Machine). IfOk c.leave_by.result (HasEnded leave (gives_now (CallsGives leave_parts leave_plan)) m c.args.self.of c.args.self.account c.args.life.now.left c.leave_by.new.life.left)) (state x) c.leave_by.ensures.ended
+
+pub returns-clause-stopped : goal.returns-clause-stopped
+returns-clause-stopped c = λ alive.
+    let x = (goal.at.returns-clause-stopped c).After-new-leave in
+    subst (λ (m : Machine). IfErr c.leave_by.result (λ s. HasStopped leave (gives_now (CallsGives leave_parts leave_plan)) m c.args.self.of c.args.self.account c.args.life.now.left c.leave_by.new.life.left s.cause s.corpse)) (state x)
+    (c.leave_by.ensures.stopped alive)

@@ -1,0 +1,103 @@
+-- the image of a pool that was replayed: its words, what is answered to it, and the report's last line
+use Rattle.std.proofs.Common.{◌≡◌, ℕ, ◌<◌, ◌≤◌, ◌^◌, List, [], ◌++◌, get_or, append_assoc, sym, subst, ap, ◌∙◌, inl, inr, refl, lit<, false}
+use Rattle.std.specs.Prelude.{Option, None, Some, codes}
+use Rattle.std.specs.Fmt.{decimal}
+use Rattle.std.specs.List.{flat_map}
+use Rattle.std.proofs.lemmas.Bool.{cases_lt}
+use Rattle.std.proofs.lemmas.List.{get_or_past}
+use Rattle.shm_words.specs.declared.geometry.Geometry.{Geometry}
+use Rattle.shm_words.specs.Layout.{total_of}
+use Rattle.shm_graph.specs.declared.run.Account.{Account}
+use Rattle.shm_graph.specs.declared.run.Start.{Start}
+use Rattle.shm_graph.specs.Blocks.{classes, headers}
+use Rattle.shm_graph.specs.References.{homes_in_all, live_count, references, references_in_all}
+use Rattle.shm_graph.specs.Runs.{Held}
+use Rattle.shm_graph.specs.Spots.{classes_in, see, spot_at}
+use Rattle.shm_graph.proofs.Spots.Seeing.{see-spot}
+use Rattle.shm_audit.specs.declared.fault.ImageFault.{ImageFault}
+use Rattle.shm_audit.specs.Faults.{image_fault_of}
+use Rattle.shm_audit.specs.Images.{geometry_in, words_in}
+use Rattle.shm_audit.specs.Texts.{verdict_line}
+use Rattle.shm_audit.specs.Verdicts.{clean_verdict, verdict_of}
+use Rattle.shm_audit.proofs.CleanImages.{image_faultless, image_verdict}
+use Rattle.shm_audit.proofs.ReadingBack.{AreWords}
+use Rattle.shm_plain.specs.Closings.{IsClosedRun}
+use Rattle.shm_plain.specs.Pools.{Pool}
+use Rattle.shm_replay.proofs.SameReplays.{replay_same}
+use Rattle.shm_replay.specs.declared.replaying.Replayed.{Replayed as Run}
+use Rattle.shm_report.specs.Logs.{line_end, log_text}
+use Rattle.shm_report.specs.Report.{named_from, row_line, rows_below, table_line, value_lines}
+use Rattle.shm_script.specs.Values.{Traced}
+use Rattle.shm_program.specs.declared.outcome.Finished.{Finished}
+use Rattle.shm_program.specs.declared.words.Form.TheVariants.{Image, Report}
+use Rattle.shm_program.specs.declared.words.Job.TheVariants.{Audit}
+use Rattle.shm_program.specs.Outcomes.{Answers}
+use Rattle.shm_program.specs.Replays.{IsRan, IsTold, last_line, written}
+
+-- each word of a pool whose state holds is below 2 ^ 64
+words_small : (g : Geometry) (ws : List ℕ) (es : List Account) → Held g ws es → (i : ℕ) → get_or ws i 0 < 2 ^ 64
+words_small g ws es h i =
+    elim (cases_lt i (total_of g)) [
+      | inl l ↦ subst (λ x. x < 2 ^ 64) (see-spot g ws i l) (h.at.small (spot_at g (classes_in g ws) i))
+      | inr m ↦ subst (λ x. x < 2 ^ 64) (sym (get_or_past ws i 0 (subst (λ n. n ≤ i) (sym h.words) m))) (lit< tt)
+    ]
+
+-- the pool of a replay is of format 1
+is_narrow : (t : Traced) (finished : Finished) (r : IsRan t finished) → r.run.closed.start.geometry.wide ≡ false
+is_narrow t finished r = ap (λ (s : Start). s.geometry.wide) r.replay.start
+
+-- ---- the report's last line
+
+-- the texts behind the number of homes and its line end are the end of the whole text
+regroup : (logs rows homes number ended live blocks refs words : List ℕ) → (front : List ℕ) × (logs ++ (rows ++ (homes ++ number ++ ended ++ live ++ blocks ++ refs ++ words ++ ended)) ≡ front ++ (live ++ blocks ++ refs ++ words ++ ended))
+regroup logs rows homes number ended live blocks refs words = (logs ++ (rows ++ (homes ++ number ++ ended)), simp append_assoc refl)
+
+written_ends : (t : Traced) (finished : Finished) (r : IsRan t finished) → (front : List ℕ) × (written Report r.run r.replay.table ≡ front ++ last_line r.run.closed)
+written_ends t finished r =
+    let g = r.run.closed.start.geometry in
+    let w = see g r.run.closed.words in
+    let rows = rows_below g.clients r.replay.table in
+    let named = named_from [] rows in
+    regroup (flat_map log_text r.run.logs.items) (table_line rows ++ flat_map (row_line named) rows ++ value_lines (λ v. (headers w v).count) 1 named)
+    (codes "homes ") (decimal (homes_in_all g w)) line_end (codes "live ") (decimal (live_count g w)) (codes " refs ") (decimal (references_in_all g (classes w) (references g.wide w)))
+
+-- whichever replay of the trace it is the report of
+pub report_ends : (t : Traced) (finished other : Finished) (report : List ℕ) (r : IsRan t finished) → IsTold Report t other report → (front : List ℕ) × (report ≡ front ++ last_line r.run.closed)
+report_ends t finished other report r told =
+    let q = told.0 in
+    let ends = written_ends t other q in
+    let same = (replay_same t q.run.closed r.run.closed q.run.logs.items r.run.logs.items q.replay r.replay).0 in
+    (ends.0, told.1 ∙ (ends.1 ∙ ap (λ (p : Pool). ends.0 ++ last_line p) same))
+
+-- ---- what is answered to its image
+
+module _ (t : Traced) (finished : Finished) (image : List ℕ) (told : IsTold Image t finished image) where
+  abbrev run : Run
+  run = told.0.run
+
+  abbrev g : Geometry
+  g = run.closed.start.geometry
+
+  abbrev ws : List ℕ
+  ws = run.closed.words
+
+  closed : IsClosedRun run.closed
+  closed = told.0.replay.closed
+
+  small : AreWords ws
+  small = words_small g ws run.closed.accounts closed.run.held
+
+  narrow : g.wide ≡ false
+  narrow = is_narrow t finished told.0
+
+  pub faultless_image : image_fault_of image ≡ None
+  faultless_image = ap image_fault_of told.1 ∙ image_faultless g ws closed.run.held.at.fits narrow small closed.clean closed.run.held.words
+
+  verdict_told : verdict_of (geometry_in image) (see (geometry_in image) (words_in image)) ≡ clean_verdict g (see g ws)
+  verdict_told = ap (λ (bytes : List ℕ). verdict_of (geometry_in bytes) (see (geometry_in bytes) (words_in bytes))) told.1 ∙ image_verdict g ws closed.run.held.at.fits narrow small closed.clean
+
+  pub clean_answer : (ended : Finished) (text : List ℕ) (status : ℕ) → Answers Audit image status ended text → (status ≡ 0) × (text ≡ codes "clean " ++ last_line run.closed)
+  clean_answer ended text status (inl (s, d)) = (s, d.verdict ∙ ap verdict_line verdict_told)
+  clean_answer ended text status (inr refused) =
+      let e : ◌≡◌ {A = Option ImageFault} None (Some refused.2.0) = sym faultless_image ∙ refused.2.1 in
+      cc

@@ -1,0 +1,149 @@
+-- what is written of a trace is determined
+use Rattle.std.proofs.Common.{◌≡◌, ℕ, zero, suc, ◌<◌, ◌≤◌, List, [], ◌∷◌, ◌++◌, map, refl, sym, ap, ◌∙◌, subst, arith, inl, inr}
+use Rattle.std.proofs.lemmas.Bool.{cases_eq}
+use Rattle.std.specs.Prelude.{Option, Some, None}
+use Rattle.shm_audit.specs.Images.{image_of}
+use Rattle.shm_audit.specs.Texts.{fault_line as image_fault_line}
+use Rattle.shm_words.specs.declared.geometry.Geometry.{Geometry}
+use Rattle.shm_graph.specs.declared.spot.Spot.TheVariants.{Home}
+use Rattle.shm_graph.specs.declared.table.Entry.{Entry}
+use Rattle.shm_graph.specs.Spots.{see}
+use Rattle.shm_graph.specs.Tables.{IsChain, IsTable}
+use Rattle.shm_plain.specs.Pools.{Pool}
+use Rattle.shm_replay.specs.declared.replaying.Replayed.{Replayed as Run}
+use Rattle.shm_replay.proofs.SameReplays.{replay_same}
+use Rattle.shm_report.specs.Report.{add_entries, entries_below, report_of, row_of, rows_below, rows_text, counts_text, summary_of, table_line}
+use Rattle.shm_report.specs.Logs.{client_line, log_text}
+use Rattle.shm_report.specs.TableRows.{contents_in}
+use Rattle.shm_report.proofs.ChainReading.{chain_end}
+use Rattle.shm_script.specs.declared.fault.TraceFault.{TraceFault}
+use Rattle.shm_script.specs.Drawing.{drawn_trace}
+use Rattle.shm_script.specs.Faults.{fault_of}
+use Rattle.shm_script.specs.Logged.{Logged}
+use Rattle.shm_script.specs.Text.{text_of}
+use Rattle.shm_script.specs.Values.{Traced}
+use Rattle.shm_script.proofs.Complete.{faultless, one_spelling}
+use Rattle.std.specs.List.{flat_map}
+use Rattle.shm_program.specs.Outcomes.{Answers, IsDone, IsFaulty, Spells}
+use Rattle.shm_program.specs.Refusals.{fault_line}
+use Rattle.shm_program.specs.Replays.{IsTold, written}
+use Rattle.shm_program.specs.declared.outcome.Finished.{Finished}
+use Rattle.shm_program.specs.declared.words.Form.{Form}
+use Rattle.shm_program.specs.declared.words.Form.TheVariants.{Report, Image, Summary}
+use Rattle.shm_program.specs.declared.words.Job.{Job}
+use Rattle.shm_program.specs.declared.words.Job.TheVariants.{Replay, Print, Audit, Make, Draw}
+
+-- ---- tables
+
+abbrev entry : ℕ → ℕ → ℕ → ℕ → Entry
+entry k n b v = record { key = k; number = n; block = b; value = v }
+
+-- from one block words hold one chain
+chain_same : (g : Geometry) (ws : List ℕ) (c i at : ℕ) (es fs : List Entry) → IsChain (contents_in g ws) c i at es → IsChain (contents_in g ws) c i at fs → es ≡ fs
+chain_same g ws c i at [] fs a b = sym (chain_end g ws c i fs (subst (λ n. IsChain (contents_in g ws) c i n fs) a b))
+chain_same g ws c i at (e ∷ es) [] a b = chain_end g ws c i (e ∷ es) (subst (λ n. IsChain (contents_in g ws) c i n (e ∷ es)) b a)
+chain_same g ws c i at (e ∷ es) (f ∷ fs) a b =
+    let x = contents_in g ws in
+    let block : e.block ≡ f.block = sym a.0 ∙ b.0 in
+    let key : e.key ≡ f.key = sym a.1.key ∙ (ap (λ n. x.body n 2) block ∙ b.1.key) in
+    let value : e.value ≡ f.value = sym a.1.value ∙ (ap (λ n. x.refs n 1) block ∙ b.1.value) in
+    let number : e.number ≡ f.number = sym a.1.number ∙ (ap (λ n. x.body n 0) value ∙ b.1.number) in
+    let here : e ≡ f =
+    ap (λ k. entry k e.number e.block e.value) key
+    ∙ (ap (λ n. entry f.key n e.block e.value) number ∙ (ap (λ n. entry f.key f.number n e.value) block ∙ ap (λ n. entry f.key f.number f.block n) value)) in
+    let rest : es ≡ fs = chain_same g ws c i (x.refs e.block 0) es fs a.2 (subst (λ n. IsChain (contents_in g ws) c i (x.refs n 0) fs) (sym block) b.2) in
+    ap (λ z. z ∷ es) here ∙ ap (λ zs. f ∷ zs) rest
+
+module _ (g : Geometry) (ws : List ℕ) (t u : ℕ → ℕ → List Entry) (a : IsTable g (see g ws) t) (b : IsTable g (see g ws) u) where
+  bucket_same : (c i : ℕ) → c < g.clients → i < 16 → t c i ≡ u c i
+  bucket_same c i l k =
+      elim (cases_eq (see g ws (Home c)) 0) [
+        | inl e ↦ (a c l).none e i ∙ sym ((b c l).none e i)
+        | inr n ↦ chain_same g ws c i _ (t c i) (u c i) ((a c l).chain n i k) ((b c l).chain n i k)
+      ]
+
+  entries_same : (c n : ℕ) → c < g.clients → n ≤ 16 → entries_below n (t c) ≡ entries_below n (u c)
+  entries_same c zero l k = refl
+  entries_same c (suc n) l k = ap (λ xs. xs ++ t c n) (entries_same c n l (omega arith)) ∙ ap (λ xs. entries_below n (u c) ++ xs) (bucket_same c n l (omega arith))
+
+  rows_same : (n : ℕ) → n ≤ g.clients → rows_below n t ≡ rows_below n u
+  rows_same zero l = refl
+  rows_same (suc c) l =
+      ap (λ xs. xs ++ map (row_of c) (add_entries [] (entries_below 16 (t c)))) (rows_same c (omega arith))
+      ∙ ap (λ xs. rows_below c u ++ map (row_of c) (add_entries [] xs)) (entries_same c 16 (omega arith) (omega arith))
+
+-- ---- replays
+
+-- what is written, by the closed pool and the logs
+abbrev text_by : Form → Pool → List Logged → (ℕ → ℕ → List Entry) → List ℕ
+text_by Report p ls table = report_of p.start.geometry (see p.start.geometry p.words) table ls
+text_by Image p ls table = image_of p.start.geometry p.words
+text_by Summary p ls table = summary_of p.start.geometry (see p.start.geometry p.words) table ls
+
+written_by : (form : Form) (run : Run) (table : ℕ → ℕ → List Entry) → written form run table ≡ text_by form run.closed run.logs.items table
+written_by Report run table = refl
+written_by Image run table = refl
+written_by Summary run table = refl
+
+tables_same : (form : Form) (p : Pool) (ls : List Logged) (t u : ℕ → ℕ → List Entry) → IsTable p.start.geometry (see p.start.geometry p.words) t → IsTable p.start.geometry (see p.start.geometry p.words) u → text_by form p ls t ≡ text_by form p ls u
+tables_same Report p ls t u a b = let g = p.start.geometry in ap (λ rows. flat_map log_text ls ++ rows_text g (see g p.words) rows) (rows_same g p.words t u a b g.clients (omega arith))
+tables_same Image p ls t u a b = refl
+tables_same Summary p ls t u a b = let g = p.start.geometry in ap (λ rows. flat_map client_line ls ++ table_line rows ++ counts_text g (see g p.words)) (rows_same g p.words t u a b g.clients (omega arith))
+
+-- one text is written of a trace
+pub told_same : (form : Form) (t : Traced) (one other : Finished) (x y : List ℕ) → IsTold form t one x → IsTold form t other y → x ≡ y
+told_same form t one other x y (r, e) (s, f) =
+    let same = replay_same t r.run.closed s.run.closed r.run.logs.items s.run.logs.items r.replay s.replay in
+    let ls = r.run.logs.items in
+    let table = r.replay.table in
+    e ∙ (written_by form r.run table
+    ∙ (ap (λ (p : Pool). text_by form p ls table) same.0
+    ∙ (ap (λ (ms : List Logged). text_by form s.run.closed ms table) same.1
+    ∙ (tables_same form s.run.closed s.run.logs.items table s.replay.table (subst (λ (p : Pool). IsTable p.start.geometry (see p.start.geometry p.words) table) same.0 r.replay.is) s.replay.is
+    ∙ (sym (written_by form s.run s.replay.table) ∙ sym f)))))
+
+-- ---- jobs
+
+trace_same : (bytes : List ℕ) (s t : Traced) → Spells bytes s → Spells bytes t → s ≡ t
+trace_same bytes s t a b = one_spelling s t a.trace b.trace (sym a.text ∙ b.text)
+
+pub done_same : (job : Job) (bytes : List ℕ) (one other : Finished) (x y : List ℕ) → IsDone job bytes one x → IsDone job bytes other y → x ≡ y
+done_same (Replay form) bytes one other x y (s, a, h) (t, b, k) = told_same form s one other x y h (subst (λ (z : Traced). IsTold form z other y) (trace_same bytes t s b a) k)
+done_same Print bytes one other x y (s, a, h) (t, b, k) = h.1 ∙ (ap text_of (trace_same bytes s t a b) ∙ sym k.1)
+done_same Audit bytes one other x y h k = h.verdict ∙ sym k.verdict
+done_same (Make start size) bytes one other x y h k = told_same Summary (drawn_trace start size) one other x y h k
+done_same (Draw start size) bytes one other x y h k = h.1 ∙ sym k.1
+
+some_same : {A : Type 0} (o : Option A) (x y : A) → o ≡ Some x → o ≡ Some y → x ≡ y
+some_same o x y e f = cc
+
+some_none : {A : Type 0} (o : Option A) (x : A) → o ≡ Some x → o ≡ None → ⊥
+some_none o x e f = absurd (cc)
+
+trace_fault_same : (bytes x y : List ℕ) → (fault : TraceFault) × (fault_of bytes ≡ Some fault) × (x ≡ fault_line fault) → (fault : TraceFault) × (fault_of bytes ≡ Some fault) × (y ≡ fault_line fault) → x ≡ y
+trace_fault_same bytes x y (f, e, h) (k, d, l) = h ∙ (ap fault_line (some_same (fault_of bytes) f k e d) ∙ sym l)
+
+pub faulty_same : (job : Job) (bytes x y : List ℕ) → IsFaulty job bytes x → IsFaulty job bytes y → x ≡ y
+faulty_same (Replay form) bytes x y a b = trace_fault_same bytes x y a b
+faulty_same Print bytes x y a b = trace_fault_same bytes x y a b
+faulty_same Audit bytes x y (f, e, h) (k, d, l) = h ∙ (ap image_fault_line (some_same _ f k e d) ∙ sym l)
+faulty_same (Make start size) bytes x y a b = absurd a
+faulty_same (Draw start size) bytes x y a b = absurd a
+
+spelled_faultless : (bytes : List ℕ) (t : Traced) → Spells bytes t → fault_of bytes ≡ None
+spelled_faultless bytes t a = faultless bytes (a.short, t, a.trace, a.text)
+
+-- what is done is not refused
+pub done_or_faulty : (job : Job) (bytes : List ℕ) (one : Finished) (x y : List ℕ) → IsDone job bytes one x → IsFaulty job bytes y → ⊥
+done_or_faulty (Replay form) bytes one x y (t, a, h) (f, e, l) = some_none (fault_of bytes) f e (spelled_faultless bytes t a)
+done_or_faulty Print bytes one x y (t, a, h) (f, e, l) = some_none (fault_of bytes) f e (spelled_faultless bytes t a)
+done_or_faulty Audit bytes one x y h (f, e, l) = some_none _ f e h.faultless
+done_or_faulty (Make start size) bytes one x y h b = b
+done_or_faulty (Draw start size) bytes one x y h b = b
+
+-- one status and one text answer the bytes
+pub answers_same : (job : Job) (bytes : List ℕ) (m n : ℕ) (one other : Finished) (x y : List ℕ) → Answers job bytes m one x → Answers job bytes n other y → (m ≡ n) × (x ≡ y)
+answers_same job bytes m n one other x y (inl a) (inl b) = (a.0 ∙ sym b.0, done_same job bytes one other x y a.1 b.1)
+answers_same job bytes m n one other x y (inl a) (inr b) = absurd (done_or_faulty job bytes one x y a.1 b.2)
+answers_same job bytes m n one other x y (inr a) (inl b) = absurd (done_or_faulty job bytes other y x b.1 a.2)
+answers_same job bytes m n one other x y (inr a) (inr b) = (a.0 ∙ sym b.0, faulty_same job bytes x y a.2 b.2)

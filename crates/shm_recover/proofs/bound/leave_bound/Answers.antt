@@ -1,0 +1,8 @@
+use Rattle.std.proofs.Common.{arith}
+use Rattle.shm_recover.proofs.bound.leave_bound.Goals as goal
+
+pub returns-clause-steps : goal.returns-clause-steps
+returns-clause-steps c g t = omega arith
+
+pub returns-clause-wide : goal.returns-clause-wide
+returns-clause-wide c g t = omega arith

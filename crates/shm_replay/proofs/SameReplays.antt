@@ -1,0 +1,17 @@
+-- a replay is determined
+use Rattle.std.proofs.Common.{◌≡◌, List, sym, subst}
+use Rattle.shm_plain.specs.Pools.{Pool, first_pool}
+use Rattle.shm_script.specs.Logged.{Logged}
+use Rattle.shm_script.specs.Values.{Traced}
+use Rattle.shm_replay.specs.Closings.{AreVisits}
+use Rattle.shm_replay.specs.Logs.{AreLogs}
+use Rattle.shm_replay.specs.Replays.{IsReplay, start_of}
+use Rattle.shm_replay.proofs.SameLogs.{logs_same}
+use Rattle.shm_replay.proofs.SameRuns.{visits_same}
+use Rattle.shm_replay.proofs.SameTurns.{same_turns}
+
+pub replay_same : (t : Traced) (p q : Pool) (ls ms : List Logged) → IsReplay t p ls → IsReplay t q ms → (p ≡ q) × (ls ≡ ms)
+replay_same t p q ls ms a b =
+    let played : b.played ≡ a.played = same_turns t (first_pool (start_of t)) b.played a.played b.given a.given in
+    let closed : q ≡ p = visits_same 0 t.clients a.played q p (subst (λ (x : Pool). AreVisits 0 t.clients x q) played b.visits) a.visits in
+    (sym closed, logs_same p t.scripts ls ms a.logs (subst (λ (x : Pool). AreLogs x t.scripts ms) closed b.logs))

@@ -1,0 +1,5 @@
+mod Names
+mod Frees
+mod Pairs
+mod Auditing
+mod Attempts

@@ -1,0 +1,23 @@
+//! Images: a closed pool as bytes, and what an audit says of them, which knows nothing of the pool.
+
+ghost use Rattle.std.specs.Prelude.{◌≡◌, false, IfOk, IfErr};
+ghost use Rattle.shm_audit.specs.Verdicts.{IsCleanVerdict};
+ghost use Rattle.uses.specs.Images.{IsForMemory};
+
+use shm_audit::{AuditStop, Verdict, audit, clean_where_verdict_is, image_reads_back, write_image};
+use shm_plain::PlainClosed;
+use std::alloc::Global;
+
+/// Writes the image of a closed pool of format 1, and audits it. Unless memory is wanting the verdict is that the pool is clean.
+pub fn judged(alloc: Global, closed: &PlainClosed) -> Result<Verdict, AuditStop>
+    requires format { closed.now.start.geometry.wide ≡ false }
+    ensures clean { IfOk result IsCleanVerdict }
+    ensures memory { IfErr result IsForMemory }
+{
+    // for the proof: the image is read as it was written, and a clean pool has the verdict that it is
+    image_reads_back();
+    clean_where_verdict_is();
+    let (geometry, words) = (closed.geometry(), closed.words());
+    let image = write_image(alloc, geometry, words).map_err(AuditStop::Memory)?;
+    audit(alloc, image.as_slice())
+}

@@ -1,0 +1,103 @@
+//! Callers of the library, each with the contract that its user would want, and what comes of them by the lines of standard input.
+//!
+//! A line is a name and how many word steps there are: `memory STEPS`, `table STEPS`, `machine STEPS`. Lines that begin with `#` are printed
+//! again. docs/CALLING.md reads the callers aloud.
+#![tactic(auto)]
+
+mod image;
+mod machine;
+mod memory;
+mod stop;
+mod table;
+
+use image::judged;
+use machine::shared_root;
+use memory::closed_pair;
+use shm_audit::verdict_text;
+use shm_graph::Life;
+use shm_script::Answer;
+use shm_words::Geometry;
+use std::process::ExitCode;
+use std::{io, str};
+use table::{put_copy_die, two_clients};
+
+/// What a line is answered by that asks for nothing that is there.
+fn refusal() -> io::Error {
+    io::Error::from(io::ErrorKind::InvalidInput)
+}
+
+/// `memory STEPS`: a pair in a pool of its own, and the verdict on the image of the closed pool.
+fn tell_memory(rt: &HostRuntime, steps: u64) -> io::Result<()> {
+    let geometry = Geometry::new(1, 1).map_err(|_| refusal())?;
+    match closed_pair(rt.alloc(), geometry, &mut Life::of(steps)) {
+        Ok(closed) => {
+            let verdict = judged(rt.alloc(), &closed).map_err(|_| refusal())?;
+            let text = verdict_text(rt.alloc(), &verdict)?;
+            print!(rt;
+                "{}",
+                str::from_utf8(text.as_slice()).map_err(|_| refusal())?
+            )
+        }
+        Err(stop) => println!(rt; "{stop:?}"),
+    }
+}
+
+/// Whether a put is done.
+fn is_done(answer: Option<Answer>) -> bool {
+    matches!(answer, Some(Answer::Stored { .. }))
+}
+
+/// `table STEPS`: two puts, the second of which its client dies in after so many word steps at most, and a copy between them.
+fn tell_table(rt: &HostRuntime, steps: u64) -> io::Result<()> {
+    let geometry = Geometry::new(2, 2).map_err(|_| refusal())?;
+    let mut life = Life::of(100_000);
+    let mut pool = two_clients(rt.alloc(), geometry, &mut life).map_err(|_| refusal())?;
+    match put_copy_die(&mut pool, steps, &mut life) {
+        Some(told) => {
+            let copied = matches!(told.copy, Answer::Value { number: 77, .. });
+            let (first, second) = (is_done(Some(told.first)), is_done(told.second));
+            let gone = matches!(told.recovery, Some(Ok(())));
+            println!(rt; "first {first} copied {copied} second {second} gone {gone}")
+        }
+        None => println!(rt; "no step was left"),
+    }
+}
+
+/// `machine STEPS`: whether two roots that were made to name one block do.
+fn tell_machine(rt: &HostRuntime, steps: u64) -> io::Result<()> {
+    let geometry = Geometry::new(1, 1).map_err(|_| refusal())?;
+    match shared_root(rt.alloc(), geometry, &mut Life::of(steps)) {
+        Ok(same) => println!(rt; "same {same}"),
+        Err(stop) => println!(rt; "{stop:?}"),
+    }
+}
+
+/// Does what a line asks for.
+fn answer(rt: &HostRuntime, line: &str) -> io::Result<()> {
+    let (name, rest) = line.split_once(' ').unwrap_or((line, ""));
+    if name == "#" {
+        return println!(rt; "{line}");
+    }
+    let steps = rest.parse::<u64>().map_err(|_| refusal())?;
+    match name {
+        "memory" => tell_memory(rt, steps),
+        "table" => tell_table(rt, steps),
+        "machine" => tell_machine(rt, steps),
+        _ => Err(refusal()),
+    }
+}
+
+/// Does what all lines ask for.
+fn answer_all(rt: &HostRuntime) -> io::Result<()> {
+    for line in rt.lines(rt.alloc()) {
+        answer(rt, line?.as_str())?;
+    }
+    Ok(())
+}
+
+fn main(rt: HostRuntime) -> ExitCode {
+    match answer_all(&rt) {
+        Ok(()) => ExitCode::SUCCESS,
+        Err(_) => ExitCode::FAILURE,
+    }
+}
