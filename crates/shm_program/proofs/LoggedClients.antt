@@ -2,9 +2,9 @@
 use Rattle.std.proofs.Common.{◌≡◌, ◌==◌, ℕ, Bool, true, false, cond, List, [], ◌∷◌, Option, Some, None, refl, ap, ◌∙◌}
 use Rattle.std.specs.FinMap as finmap
 use Rattle.shm_plain.specs.Pools.{Pool}
-use Rattle.shm_replay.specs.Logs.{AreLogs}
+use Rattle.shm_agents.specs.Logs.{AreLogs}
+use Rattle.shm_agents.specs.Turns.{script_in}
 use Rattle.shm_replay.specs.Replays.{fold_in}
-use Rattle.shm_replay.specs.Turns.{script_in}
 use Rattle.shm_script.specs.Logged.{Logged}
 use Rattle.shm_script.specs.Values.{Scripted}
 

@@ -14,13 +14,14 @@ use Rattle.shm_plain.specs.Pools.{IsRun, Pool, memo_of, readied, turn_on}
 use Rattle.shm_plain.specs.Tracks.{kind_next}
 use Rattle.shm_script.specs.declared.log.Entry.{Entry}
 use Rattle.shm_script.specs.Values.{Scripted, Traced}
-use Rattle.shm_replay.specs.declared.agents.Standing.TheVariants.{AtWork}
-use Rattle.shm_replay.specs.Agents.{IsFresh, IsPlaying, Playing, is_client}
+use Rattle.shm_agents.specs.declared.agents.Standing.TheVariants.{AtWork}
+use Rattle.shm_agents.specs.Agents.{IsFresh, IsPlaying, Playing, is_client}
+use Rattle.shm_agents.specs.Turns.{begun_last}
+use Rattle.shm_agents.specs.Work.{Work, work_control}
+use Rattle.shm_agents.proofs.Standing.{client_stage, playing_begun}
 use Rattle.shm_replay.specs.Seats.{IsSeat}
-use Rattle.shm_replay.specs.Turns.{begun_last, worked}
-use Rattle.shm_replay.specs.Work.{Work, work_control}
+use Rattle.shm_replay.specs.Turns.{worked}
 use Rattle.shm_replay.proofs.Seating.{client_here}
-use Rattle.shm_replay.proofs.Standing.{client_stage, playing_begun}
 
 -- ---- the account of an identity after its turn
 

@@ -19,15 +19,16 @@ use Rattle.shm_script.specs.declared.log.Entry.{Entry}
 use Rattle.shm_script.specs.declared.line.Line.{Line}
 use Rattle.shm_script.specs.Ranges.{ScriptFits}
 use Rattle.shm_script.specs.Values.{Scripted, Traced}
-use Rattle.shm_replay.specs.declared.agents.Standing.{Standing}
-use Rattle.shm_replay.specs.declared.agents.Standing.TheVariants.{AtWork, Dead}
-use Rattle.shm_replay.specs.Agents.{Fallen, Fresh, HasParted, IsFallen, IsFold, IsMended, Mended, Mending, Parted, Playing, Plays, Stage, end_or, is_at_work, logged}
+use Rattle.shm_agents.specs.declared.agents.Standing.{Standing}
+use Rattle.shm_agents.specs.declared.agents.Standing.TheVariants.{AtWork, Dead}
+use Rattle.shm_agents.specs.Agents.{Fallen, Fresh, HasParted, IsFallen, IsFold, IsMended, Mended, Mending, Parted, Playing, Plays, Stage, end_or, is_at_work, logged}
+use Rattle.shm_agents.specs.Logs.{AreUnspent, HasEnd, IsLogOf}
+use Rattle.shm_agents.specs.Turns.{lives_of}
+use Rattle.shm_agents.proofs.Mending.{few_lives}
 use Rattle.shm_replay.specs.Closings.{MayVisit, is_dead, is_standing_dead}
-use Rattle.shm_replay.specs.Logs.{AreUnspent, HasEnd, IsLogOf}
 use Rattle.shm_replay.specs.Seats.{IsSeat, Seat}
-use Rattle.shm_replay.specs.Turns.{is_busy, lives_of}
+use Rattle.shm_replay.specs.Turns.{is_busy}
 use Rattle.shm_replay.proofs.Seating.{seat_busy}
-use Rattle.shm_replay.proofs.Mending.{few_lives}
 
 -- the client left, or a recoverer recovered the identity, or all of them died
 abbrev pub IsOver : Scripted → Playing → Account → Type 0

@@ -29,7 +29,7 @@ use Rattle.shm_alone.specs.LeaveEnds.{leave_alone, leave_few, leave_left, leave_
 use Rattle.shm_alone.specs.QueuesEnd.{drain_alone, drain_left, drain_saved, drain_ends, drain_begin, drain_ready}
 use Rattle.shm_alone.specs.RecoverEnds.{recover_alone, recover_few, recover_left, recover_ends}
 use Rattle.shm_alone.proofs.Lasting.{Lasts, alone_few, answers_alone, calls_last, lasts, left_few}
-use Rattle.shm_replay.proofs.WorkLaws.{recoveries}
+use Rattle.shm_agents.proofs.WorkLaws.{recoveries}
 
 -- a join, which is one word step
 pub join_lasts : (me : Me) → Lasts join_control JoinFits (join_fresh me)

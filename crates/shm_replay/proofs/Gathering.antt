@@ -8,11 +8,11 @@ use Rattle.shm_script.specs.Logged.{Logged, fold_of, folded}
 use Rattle.shm_script.specs.Ranges.{ScriptFits}
 use Rattle.shm_script.specs.Values.{Scripted}
 use Rattle.shm_plain.specs.Pools.{Pool}
-use Rattle.shm_replay.specs.Agents.{Playing, logged}
+use Rattle.shm_agents.specs.Agents.{Playing, logged}
+use Rattle.shm_agents.specs.Logs.{AreLogs, IsLog}
+use Rattle.shm_agents.specs.Turns.{script_in}
 use Rattle.shm_replay.specs.Gathered.{log_at, logs_by}
-use Rattle.shm_replay.specs.Logs.{AreLogs, IsLog}
 use Rattle.shm_replay.specs.Replays.{fold_in}
-use Rattle.shm_replay.specs.Turns.{script_in}
 
 -- ---- scripts
 

@@ -7,9 +7,10 @@ use Rattle.shm_script.specs.declared.line.Item.{Item}
 use Rattle.std.specs.List.{AllByRecursion}
 use Rattle.shm_script.specs.Ranges.{ItemFits}
 use Rattle.shm_script.specs.Values.{Traced}
+use Rattle.shm_agents.specs.Work.{Work}
+use Rattle.shm_agents.specs.Turns.{script_in}
 use Rattle.shm_replay.specs.Orders.{AreOfItems, IsGiven, from_on, rounds_of}
-use Rattle.shm_replay.specs.Work.{Work}
-use Rattle.shm_replay.specs.Turns.{given, in_a_row, is_busy, life_in, next_of, script_in, worked}
+use Rattle.shm_replay.specs.Turns.{given, in_a_row, is_busy, life_in, next_of, worked}
 
 module _ (t : Traced) where
   -- first these, and then those

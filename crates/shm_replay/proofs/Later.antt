@@ -22,15 +22,15 @@ use Rattle.shm_script.specs.declared.log.Entry.{Entry}
 use Rattle.shm_script.specs.declared.line.Line.{Line}
 use Rattle.shm_script.specs.Logged.{Logged}
 use Rattle.shm_script.specs.Values.{Scripted}
+use Rattle.shm_agents.specs.Logs.{BeganWith, HasEnd, IsLogOf, Was, begun_first}
+use Rattle.shm_agents.specs.Logs.Was.{Between, InCommand, InLeaving}
+use Rattle.shm_agents.specs.Turns.{lives_of}
+use Rattle.shm_agents.proofs.Growing.{get_more}
+use Rattle.shm_agents.proofs.Trails.{entries_rest}
 use Rattle.shm_replay.specs.Closings.{AreVisits, IsRecovery, IsVisit, IsWhole}
-use Rattle.shm_replay.specs.Logs.{BeganWith, HasEnd, IsLogOf, Was, begun_first}
-use Rattle.shm_replay.specs.Logs.Was.{Between, InCommand, InLeaving}
-use Rattle.shm_replay.specs.Turns.{lives_of}
 use Rattle.shm_replay.proofs.Aside.{leads_between}
 use Rattle.shm_replay.proofs.Firsts.{AreEven, First, first_leads}
-use Rattle.shm_replay.proofs.Growing.{get_more}
 use Rattle.shm_replay.proofs.Telling.{Grows, grows_then, ready_grew}
-use Rattle.shm_replay.proofs.Trails.{entries_rest}
 
 -- ---- turns of a closing
 

@@ -1,19 +1,4 @@
-pub mod Standing
-pub mod Folding
-mod Unspent
-pub mod WorkLaws
-pub mod Trails
-pub mod Lines
-pub mod Playing
-pub mod Joining
-pub mod Turning
-pub mod Turns
-pub mod Loose
-pub mod Growing
-pub mod Effects
-pub mod Dying
-pub mod Deaths
-pub mod Mending
+mod Worked
 mod OwnEras
 mod Enough
 mod Visiting

@@ -31,9 +31,9 @@ use Rattle.shm_recover.specs.TakeBack.Laws.{back_laws}
 use Rattle.shm_plain.specs.Pools.{IsRun, MayStep, Pool, memo_of, readied}
 use Rattle.shm_plain.specs.Tracks.{kind_next}
 use Rattle.shm_plain.proofs.Turning.{ready_memo}
+use Rattle.shm_agents.proofs.Standing.{fell_quiet}
 use Rattle.shm_replay.specs.Closings.{IsDead, IsOut, SameTable}
 use Rattle.shm_replay.proofs.OwnEras.{never_spent}
-use Rattle.shm_replay.proofs.Standing.{fell_quiet}
 
 pub laws : PlanLaws recover_parts recover_plan
 laws = recover_laws mend_laws roots_laws back_laws finish_laws scan_laws give_laws

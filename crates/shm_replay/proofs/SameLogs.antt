@@ -17,8 +17,8 @@ use Rattle.shm_script.specs.declared.log.Entry.{Entry}
 use Rattle.shm_script.specs.Logged.{Logged}
 use Rattle.shm_script.specs.Values.{Scripted}
 use Rattle.shm_table.specs.Command.{command_control, command_of}
-use Rattle.shm_replay.specs.Logs.{AreEntries, AreLogs, HasEnd, IsLogOf, Was, answer_along, begun_first, effect_along, with_effect}
-use Rattle.shm_replay.specs.Logs.Was.{Between, InCommand, InLeaving}
+use Rattle.shm_agents.specs.Logs.{AreEntries, AreLogs, HasEnd, IsLogOf, Was, answer_along, begun_first, effect_along, with_effect}
+use Rattle.shm_agents.specs.Logs.Was.{Between, InCommand, InLeaving}
 
 -- ---- entries
 

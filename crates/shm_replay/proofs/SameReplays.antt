@@ -3,8 +3,8 @@ use Rattle.std.proofs.Common.{◌≡◌, List, sym, subst}
 use Rattle.shm_plain.specs.Pools.{Pool, first_pool}
 use Rattle.shm_script.specs.Logged.{Logged}
 use Rattle.shm_script.specs.Values.{Traced}
+use Rattle.shm_agents.specs.Logs.{AreLogs}
 use Rattle.shm_replay.specs.Closings.{AreVisits}
-use Rattle.shm_replay.specs.Logs.{AreLogs}
 use Rattle.shm_replay.specs.Replays.{IsReplay, start_of}
 use Rattle.shm_replay.proofs.SameLogs.{logs_same}
 use Rattle.shm_replay.proofs.SameRuns.{visits_same}

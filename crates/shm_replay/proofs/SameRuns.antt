@@ -33,9 +33,9 @@ use Rattle.shm_recover.specs.Recover.Control.{recover_parts}
 use Rattle.shm_recover.specs.Recover.{recover_plan}
 use Rattle.shm_plain.specs.Calls.{state_of, words}
 use Rattle.shm_plain.specs.Pools.{IsRun, Pool, memo_of, pool, readied}
+use Rattle.shm_agents.specs.Logs.{answer_along}
+use Rattle.shm_agents.proofs.WorkLaws.{recoveries}
 use Rattle.shm_replay.specs.Closings.{AreVisits, IsRecovery, IsVisit, IsWhole}
-use Rattle.shm_replay.specs.Logs.{answer_along}
-use Rattle.shm_replay.proofs.WorkLaws.{recoveries}
 
 -- ---- turns
 

@@ -5,21 +5,26 @@ use Rattle.std.specs.Option.{is_some}
 use Rattle.std.proofs.lemmas.Bool.{cases_eq, eqb-true, true≢false}
 use Rattle.std.proofs.lemmas.List.{get_or-set_other, get_or-set_same, length-set}
 use Rattle.std.proofs.lemmas.Option.{slice_get_read, slice_get_within}
+use Rattle.shm_graph.specs.declared.ask.Me.{Me}
 use Rattle.shm_graph.specs.declared.run.Account.{Account}
 use Rattle.shm_graph.specs.declared.run.Start.{Start}
 use Rattle.shm_graph.specs.Runs.{account_at, first_account}
 use Rattle.shm_count.specs.Roots.{member}
-use Rattle.shm_plain.specs.Pools.{Pool}
+use Rattle.shm_plain.specs.Pools.{Pool, IsOf}
+use Rattle.shm_work.specs.Working.{IsWorkOf}
 use Rattle.shm_script.specs.declared.line.Item.{Item}
 use Rattle.shm_script.specs.Values.{Scripted, Traced}
-use Rattle.shm_replay.specs.declared.agents.Standing.{Standing}
-use Rattle.shm_replay.specs.declared.agents.Standing.TheVariants.{AtWork, Gone, Dead}
-use Rattle.shm_replay.specs.Agents.{Playing, Stands, is_at_work, is_client}
+use Rattle.shm_agents.specs.declared.agents.Standing.{Standing}
+use Rattle.shm_agents.specs.declared.agents.Standing.TheVariants.{AtWork, Gone, Dead}
+use Rattle.shm_agents.specs.Agents.{Playing, Stands, is_at_work, is_client}
+use Rattle.shm_agents.specs.Turns.{agent_of, answered_of, next_by, script_in}
+use Rattle.shm_agents.specs.Work.{work_control}
+use Rattle.shm_agents.proofs.Standing.{IsNow, stands_answered, stands_now, stands_still}
+use Rattle.shm_agents.proofs.Turning.{is_of}
 use Rattle.shm_replay.specs.Orders.{IsGiven, IsUntilAnswered}
 use Rattle.shm_replay.specs.Seats.{AreSeated, IsSeat, Seat, turns_in, turns_left}
-use Rattle.shm_replay.specs.Turns.{agent_of, answered, answered_of, in_a_row, is_busy, is_client_busy, life_in, next_by, next_of, next_work, script_in, worked}
+use Rattle.shm_replay.specs.Turns.{answered, in_a_row, is_busy, is_client_busy, life_in, next_of, next_work, worked}
 use Rattle.shm_replay.proofs.Giving.{idle_row}
-use Rattle.shm_replay.proofs.Standing.{IsNow, stands_answered, stands_now, stands_still}
 
 -- ---- how they stand
 
@@ -77,6 +82,10 @@ module _ (t : Traced) (p : Pool) (c : ℕ) (x : Playing) (h : IsSeat t p c x) wh
   seat_answered e =
       let is = client_here x e in
       ap (λ o. answered_of o here) h.is ∙ stands_answered p.start h.script x here h.stands is.0 is.1
+
+  -- what is to be done is the identity's
+  pub seat_of : x.standing ≡ AtWork → IsOf p c work_control x.work
+  seat_of e = subst (λ (k : ℕ). IsWorkOf p.start k work_control x.work) (ap (λ (m : Me). m.who) h.me) (is_of p.start h.script x here h.stands.may e h.stands.stage)
 
   -- a word step of its work, or a death, is its turn
   pub seat_turn : (q : Pool) → x.standing ≡ AtWork → q ≡ worked (Some x.work) x.life.left c p → q ≡ in_a_row t p c 1

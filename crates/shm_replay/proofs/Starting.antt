@@ -10,10 +10,10 @@ use Rattle.shm_count.specs.Roots.{member}
 use Rattle.shm_plain.specs.Pools.{first_pool}
 use Rattle.shm_script.specs.Ranges.{IsTrace, ScriptFits}
 use Rattle.shm_script.specs.Values.{Scripted, Traced}
-use Rattle.shm_replay.specs.Agents.{Playing, Stands}
+use Rattle.shm_agents.specs.Agents.{Playing, Stands}
+use Rattle.shm_agents.specs.Turns.{script_in}
 use Rattle.shm_replay.specs.Replays.{start_of}
 use Rattle.shm_replay.specs.Seats.{IsSeat, Seat}
-use Rattle.shm_replay.specs.Turns.{script_in}
 use Rattle.shm_replay.proofs.Gathering.{same_some}
 use Rattle.shm_replay.proofs.WholeRun.{all_at}
 

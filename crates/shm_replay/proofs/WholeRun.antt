@@ -22,14 +22,14 @@ use Rattle.shm_plain.proofs.StillTable.{still_part}
 use Rattle.shm_script.specs.Logged.{Logged}
 use Rattle.shm_script.specs.Ranges.{AreApart, IsTrace, ScriptFits}
 use Rattle.shm_script.specs.Values.{Scripted, Traced}
-use Rattle.shm_replay.specs.Agents.{Playing, logged}
+use Rattle.shm_agents.specs.Agents.{Playing, logged}
+use Rattle.shm_agents.specs.Logs.{AreUnspent, IsLog, IsLogOf}
+use Rattle.shm_agents.specs.Turns.{script_in}
 use Rattle.shm_replay.specs.Closings.{AreVisits, HasTold, SameTable, is_dead, is_standing_dead}
 use Rattle.shm_replay.specs.Gathered.{logs_by}
-use Rattle.shm_replay.specs.Logs.{AreUnspent, IsLog, IsLogOf}
 use Rattle.shm_replay.specs.Orders.{IsGivenAll}
 use Rattle.shm_replay.specs.Replays.{IsReplay, fold_in, start_of}
 use Rattle.shm_replay.specs.Seats.{AreSeated, IsSeat, Seat}
-use Rattle.shm_replay.specs.Turns.{script_in}
 use Rattle.shm_replay.proofs.Ending.{IsOver, is_over, over_fold, over_log, over_table, over_unspent, seat_rest}
 use Rattle.shm_replay.proofs.Firsts.{even_run}
 use Rattle.shm_replay.proofs.Gathering.{fold_none, fold_some, logs_all, logs_are}

@@ -21,9 +21,9 @@ use Rattle.shm_recover.specs.Leave.{leave_plan}
 use Rattle.shm_recover.specs.Recover.Control.{recover_parts, recovering}
 use Rattle.shm_recover.specs.Recover.{recover_plan}
 use Rattle.shm_steps.specs.Reparting.{map_in}
-use Rattle.shm_replay.specs.declared.agents.Standing.{Standing}
-use Rattle.shm_replay.specs.declared.agents.Standing.TheVariants.{Dead}
-use Rattle.shm_replay.specs.Agents.{Playing}
+use Rattle.shm_agents.specs.declared.agents.Standing.{Standing}
+use Rattle.shm_agents.specs.declared.agents.Standing.TheVariants.{Dead}
+use Rattle.shm_agents.specs.Agents.{Playing}
 
 -- ---- what a closing is
 

@@ -2,7 +2,7 @@
 use Rattle.std.specs.Prelude.{Option, Some, None, List, [], ◌∷◌, ◌++◌, slice_index_or}
 use Rattle.shm_script.specs.Logged.{Logged}
 use Rattle.shm_script.specs.Values.{Scripted}
-use Rattle.shm_replay.specs.Agents.{Playing, logged}
+use Rattle.shm_agents.specs.Agents.{Playing, logged}
 
 -- the log of a client, where there is one
 abbrev pub log_at : Option Playing → List Logged

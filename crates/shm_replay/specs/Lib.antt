@@ -1,9 +1,6 @@
-pub mod Work
 pub mod Turns
 pub mod Orders
 pub mod Closings
-pub mod Logs
-pub mod Agents
 pub mod Seats
 pub mod Gathered
 pub mod Replays

@@ -10,9 +10,9 @@ use Rattle.shm_plain.specs.Pools.{Pool, first_pool}
 use Rattle.shm_plain.specs.Closings.{IsClosedRun}
 use Rattle.shm_script.specs.Logged.{Logged, Table, fold_of}
 use Rattle.shm_script.specs.Values.{Traced}
+use Rattle.shm_agents.specs.Logs.{AreLogs, AreUnspent}
 use Rattle.shm_replay.specs.Orders.{IsGivenAll}
 use Rattle.shm_replay.specs.Closings.{AreVisits}
-use Rattle.shm_replay.specs.Logs.{AreLogs, AreUnspent}
 
 -- the pool of a trace: of format 1 and of its sizes, made for tables, and its first eras are 1
 abbrev pub start_of : Traced → Start

@@ -1,13 +1,12 @@
 -- the agents of a trace's scripts, by the numbers of their identities
-use Rattle.std.specs.Prelude.{◌≡◌, ℕ, ◌+◌, ◌<◌, Option, Some, None, List, [], ◌∷◌, drop, length, slice_get, slice_index_or}
+use Rattle.std.specs.Prelude.{◌≡◌, ℕ, ◌+◌, ◌<◌, Option, Some, None, List, [], ◌∷◌, length, slice_get, slice_index_or}
 use Rattle.shm_graph.specs.Runs.{account_at, first_account}
 use Rattle.shm_count.specs.Roots.{member}
 use Rattle.shm_plain.specs.Pools.{Pool}
 use Rattle.shm_script.specs.Values.{Scripted, Traced}
-use Rattle.shm_replay.specs.declared.agents.Standing.{Standing}
-use Rattle.shm_replay.specs.declared.agents.Standing.TheVariants.{AtWork, Gone, Dead}
-use Rattle.shm_replay.specs.Agents.{Playing, Stands}
-use Rattle.shm_replay.specs.Turns.{lives_of, script_in}
+use Rattle.shm_agents.specs.Agents.{Playing, Stands}
+use Rattle.shm_agents.specs.Turns.{script_in}
+use Rattle.shm_agents.specs.TurnsLeft.{turns_by}
 
 -- x are the agents of c, which has a script, and stand in the pool
 pub record IsSeat (t : Traced) (p : Pool) (c : ℕ) (x : Playing) : Type 0 where
@@ -28,25 +27,14 @@ pub record AreSeated (t : Traced) (p : Pool) (xs : List (Option Playing)) : Type
   pub many : length xs ≡ t.clients
   pub seats : (c : ℕ) → c < t.clients → Seat t p c (slice_index_or xs c None)
 
--- ---- the turns that they have left at most: one for each word step of a life, and one for each death
+-- ---- the turns that they have left at most
 
-abbrev pub turns_of : List ℕ → ℕ
-turns_of [] = 0
-turns_of (n ∷ lives) = n + 1 + turns_of lives
-
-abbrev pub turns_at : Standing → ℕ → ℕ
-turns_at AtWork n = n
-turns_at Gone n = 0
-turns_at Dead n = 0
-
-abbrev pub turns_by : Playing → Option Scripted → ℕ
-turns_by x None = 0
-turns_by x (Some s) = turns_at x.standing (x.life.left + 1 + turns_of (drop (x.agent + 1) (lives_of s.life)))
-
+-- those of one identity, which has none where it has no script
 abbrev pub turns_in : List Scripted → Option Playing → ℕ
 turns_in ss None = 0
 turns_in ss (Some x) = turns_by x (slice_get ss x.script)
 
+-- and those of all
 abbrev pub turns_left : List Scripted → List (Option Playing) → ℕ
 turns_left ss [] = 0
 turns_left ss (x ∷ xs) = turns_in ss x + turns_left ss xs

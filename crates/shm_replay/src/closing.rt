@@ -15,12 +15,15 @@ ghost use Rattle.shm_recover.specs.Leave.Control.{leave_parts, leaving};
 ghost use Rattle.shm_recover.specs.Leave.{leave_plan};
 ghost use Rattle.shm_replay.specs.Closings.{AreVisits, HasTold, IsDead, IsIn, IsOut, IsRecovery, IsVisit, IsWhole, MayVisit, SameTable, is_dead};
 
-use crate::agents::{Agents, LIFE, Standing};
+use shm_agents::agents::{Agents, Standing};
 use shm_calls::Calls;
 use shm_graph::{Life, Me};
 use shm_plain::PlainPool;
 use shm_queue::Draining;
 use shm_recover::{Join, Leaving, Recovering};
+
+/// How many word steps the recovery of an identity has in a closing, and how many its join, drain and leaving have together.
+const LIFE: u64 = 1 << 40;
 
 /// An identity whose last agent died is recovered. Nobody else steps, so that 2^38 word steps are enough.
 fn recover(pool: &mut PlainPool, me: Me, life: &mut Life)

@@ -2,12 +2,12 @@
 
 ghost use Rattle.std.specs.Prelude.{◌≡◌, ◌≢◌, ◌+◌, ◌<◌, ◌⊎◌, ℕ, false, true, List, length};
 ghost use Rattle.shm_graph.specs.Runs.{account_at};
-ghost use Rattle.shm_replay.specs.Agents.{is_client};
+ghost use Rattle.shm_agents.specs.Agents.{is_client};
 ghost use Rattle.shm_replay.specs.Orders.{AreOfItems, IsGiven, IsUntilAnswered, from_on, rounds_of};
 ghost use Rattle.shm_replay.specs.Seats.{AreSeated, IsSeat, turns_in, turns_left};
 ghost use Rattle.shm_replay.specs.Turns.{given, in_a_row, is_busy};
 
-use crate::agents::{Agents, Standing};
+use shm_agents::agents::{Agents, Standing};
 use shm_plain::PlainPool;
 use shm_script::{Item, Trace};
 
@@ -28,6 +28,8 @@ fn give_turn(agents: &mut Agents, trace: &Trace, pool: &mut PlainPool)
     ensures grows { is_client agents.old ≡ true → is_client agents.new ≡ true → (length agents.new.entries ≡ length agents.old.entries) ⊎ (length agents.new.entries ≡ length agents.old.entries + 1) }
 {
     if agents.standing() == Standing::AtWork {
+        // for the proof: the pool is a run
+        pool.geometry();
         agents.turn(&trace.scripts[agents.script()], pool);
     }
 }

@@ -6,16 +6,16 @@ ghost use Rattle.shm_graph.specs.declared.memo.Status.TheVariants.{Gone};
 ghost use Rattle.shm_graph.specs.Runs.{account_at};
 ghost use Rattle.shm_plain.specs.Pools.{Pool as APool, IsRun, first_pool, memo_of};
 ghost use Rattle.shm_script.specs.Values.{Scripted as AScript};
+ghost use Rattle.shm_agents.specs.Turns.{script_in};
 ghost use Rattle.shm_replay.specs.Closings.{AreVisits, HasTold, SameTable, is_dead};
 ghost use Rattle.shm_replay.specs.Gathered.{log_at, logs_by};
 ghost use Rattle.shm_replay.specs.Orders.{IsGivenAll};
 ghost use Rattle.shm_replay.specs.Replays.{IsReplay, start_of};
 ghost use Rattle.shm_replay.specs.Seats.{AreSeated, Seat};
-ghost use Rattle.shm_replay.specs.Turns.{script_in};
 
-use crate::agents::Agents;
 use crate::closing::visit_all;
 use crate::order::{give_items, give_rounds};
+use shm_agents::agents::Agents;
 use shm_graph::Me;
 use shm_plain::{PlainClosed, PlainPool};
 use shm_script::{Log, Script, Trace};

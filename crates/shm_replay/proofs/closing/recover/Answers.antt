@@ -13,7 +13,7 @@ use Rattle.shm_recover.specs.Recover.{recover_plan}
 use Rattle.shm_plain.specs.Calls.{Ran, Took}
 use Rattle.shm_plain.specs.Pools.{IsOf, memo_of, readied}
 use Rattle.shm_alone.proofs.Lasting.{Lasts}
-use Rattle.shm_replay.specs.Work.{RecoverCalls}
+use Rattle.shm_agents.specs.Work.{RecoverCalls}
 use Rattle.shm_replay.proofs.Aside.{told_first}
 use Rattle.shm_replay.proofs.Reviving.{may_begin, r0, revive_fits, revive_ok, revive_out, revive_table, still}
 use Rattle.shm_replay.proofs.closing.recover.Goals.{After-new-2, After-call, After-unwrap, After-unwrap-2}

@@ -1,8 +1,8 @@
 use Rattle.std.proofs.Common.{◌≡◌, ◌≢◌, ◌<◌, ℕ, length, sym, ap, ◌∙◌, subst, arith, rules}
 use Rattle.std.specs.Prelude.{None, Some, slice_index_or}
 use Rattle.shm_graph.specs.declared.ask.Me.{Me}
-use Rattle.shm_replay.specs.declared.agents.Standing.TheVariants.{AtWork}
-use Rattle.shm_replay.specs.Agents.{Playing, is_at_work}
+use Rattle.shm_agents.specs.declared.agents.Standing.TheVariants.{AtWork}
+use Rattle.shm_agents.specs.Agents.{Playing, is_at_work}
 use Rattle.shm_replay.specs.Seats.{IsSeat, Seat, turns_in}
 use Rattle.shm_replay.specs.Turns.{in_a_row}
 use Rattle.shm_replay.proofs.Seating.{any_or, seat_busy, seats_set, turns_set}

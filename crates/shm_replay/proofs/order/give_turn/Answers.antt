@@ -1,10 +1,17 @@
 use Rattle.std.proofs.Common.{◌≡◌, ◌≢◌, List, sym, ap, ◌∙◌, arith, rules}
 use Rattle.std.specs.Prelude.{Some, slice_get}
+use Rattle.shm_graph.specs.declared.ask.Me.{Me}
+use Rattle.shm_graph.specs.Runs.{account_at}
+use Rattle.shm_plain.specs.Pools.{Pool}
 use Rattle.shm_script.specs.Values.{Scripted, Traced}
-use Rattle.shm_replay.specs.declared.agents.Standing.TheVariants.{AtWork}
-use Rattle.shm_replay.specs.Seats.{IsSeat, turns_by}
+use Rattle.shm_agents.specs.declared.agents.Standing.TheVariants.{AtWork}
+use Rattle.shm_agents.specs.Agents.{Playing}
+use Rattle.shm_agents.specs.TurnsLeft.{turns_by}
+use Rattle.shm_replay.specs.Seats.{IsSeat}
+use Rattle.shm_replay.specs.Turns.{worked}
 use Rattle.shm_replay.proofs.Answering.{turn_grows}
-use Rattle.shm_replay.proofs.Seating.{script_read, seat_after, seat_stands, seat_still, seat_turn}
+use Rattle.shm_replay.proofs.Seating.{client_here, script_read, seat_after, seat_of, seat_stands, seat_still, seat_turn}
+use Rattle.shm_replay.proofs.Worked.{worked_by, worked_others}
 use Rattle.shm_replay.proofs.order.give_turn.Goals.{After-index, After-turn}
 use Rattle.shm_replay.proofs.order.give_turn.Goals as goal
 
@@ -24,13 +31,33 @@ seat c at =
 pub turn-requires-clause-stands : goal.turn-requires-clause-stands
 turn-requires-clause-stands c = seat_stands c.args.trace.now c.args.pool.now c.args.agents.now.me.who c.args.agents.now c.index.result.now c.requires.seat (read (goal.at.turn-requires-clause-stands c).After-index)
 
+pub turn-requires-clause-has : goal.turn-requires-clause-has
+turn-requires-clause-has c = (c.geometry.ensures.run, c.requires.seat.stands.may.who)
+
+-- the turn that it is
+took : (c : After-turn) → c.args.agents.now.standing ≡ AtWork → c.turn.new.pool ≡ worked (Some c.args.agents.now.work) c.args.agents.now.life.left c.args.agents.now.me.who c.args.pool.now
+took c here =
+    let p : Pool = c.args.pool.now in
+    let x : Playing = c.args.agents.now in
+    worked_by p c.turn.new.pool x.me.who x.life.left x.work (ap (λ (m : Me). m.who) (seat_of c.args.trace.now p x.me.who x c.requires.seat here).0) c.turn.ensures.stepped c.turn.ensures.fell
+
 pub returns-then-eq-clause-seat : goal.returns-then-eq-clause-seat
 returns-then-eq-clause-seat c = seat c (read (goal.at.returns-then-eq-clause-seat c).After-index)
 
 pub returns-then-eq-clause-given : goal.returns-then-eq-clause-given
 returns-then-eq-clause-given c =
     let here : c.args.agents.now.standing ≡ AtWork = search rules in
-    seat_turn c.args.trace.now c.args.pool.now c.args.agents.now.me.who c.args.agents.now c.requires.seat c.turn.new.pool here c.turn.ensures.worked
+    seat_turn c.args.trace.now c.args.pool.now c.args.agents.now.me.who c.args.agents.now c.requires.seat c.turn.new.pool here (took c here)
+
+pub returns-then-eq-clause-others : goal.returns-then-eq-clause-others
+returns-then-eq-clause-others c d other =
+    let here : c.args.agents.now.standing ≡ AtWork = search rules in
+    let p : Pool = c.args.pool.now in
+    let x : Playing = c.args.agents.now in
+    ap (λ (z : Pool). account_at z.accounts d) (took c here) ∙ worked_others p x.me.who d x.life.left x.work (seat_of c.args.trace.now p x.me.who x c.requires.seat here) other
+
+pub returns-then-eq-clause-start : goal.returns-then-eq-clause-start
+returns-then-eq-clause-start c = c.turn.ensures.start
 
 pub returns-then-eq-clause-turns : goal.returns-then-eq-clause-turns
 returns-then-eq-clause-turns c here =
@@ -45,7 +72,7 @@ returns-then-eq-clause-turns c here =
 pub returns-then-eq-clause-grows : goal.returns-then-eq-clause-grows
 returns-then-eq-clause-grows c old new =
     let g = c.turn.ensures in
-    turn_grows c.args.trace.now c.args.pool.now c.turn.new.pool c.args.agents.now.me.who c.args.agents.now c.turn.new.self c.requires.seat (seat c (read (goal.at.returns-then-eq-clause-grows c).After-index)) old new g.start g.worked g.run
+    turn_grows c.args.trace.now c.args.pool.now c.turn.new.pool c.args.agents.now.me.who c.args.agents.now c.turn.new.self c.requires.seat (seat c (read (goal.at.returns-then-eq-clause-grows c).After-index)) old new g.start (took c (client_here c.args.agents.now old).0) g.has.0
 
 pub returns-else-eq-clause-given : goal.returns-else-eq-clause-given
 returns-else-eq-clause-given c =

@@ -1,6 +1,6 @@
 use Rattle.std.proofs.Common.{◌≡◌, ℕ, ◌+◌, ◌≤◌, false, true, length, refl, sym, ap, ◌∙◌, subst, arith, inl, inr, rules}
 use Rattle.shm_graph.specs.declared.ask.Me.{Me}
-use Rattle.shm_replay.specs.Agents.{is_client}
+use Rattle.shm_agents.specs.Agents.{is_client}
 use Rattle.shm_replay.specs.Seats.{IsSeat}
 use Rattle.shm_replay.specs.Turns.{answered, in_a_row}
 use Rattle.shm_replay.proofs.Giving.{row_more}

@@ -1,7 +1,7 @@
 use Rattle.std.proofs.Common.{◌≡◌, ◌≢◌, ℕ, ◌+◌, ◌<◌, true, length}
 use Rattle.std.specs.Prelude.{◌⊎◌}
 use Rattle.shm_graph.specs.Runs.{account_at}
-use Rattle.shm_replay.specs.Agents.{is_client}
+use Rattle.shm_agents.specs.Agents.{is_client}
 use Rattle.shm_replay.specs.Seats.{IsSeat}
 use Rattle.shm_replay.specs.Turns.{answered, in_a_row, is_client_busy}
 use Rattle.shm_replay.proofs.order.give_until_answered.Given as goal

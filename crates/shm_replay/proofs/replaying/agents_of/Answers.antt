@@ -3,8 +3,8 @@ use Rattle.std.specs.Prelude.{Some, slice_get}
 use Rattle.std.proofs.lemmas.Option.{slice_get_read, slice_get_within}
 use Rattle.shm_count.specs.Roots.{member}
 use Rattle.shm_script.specs.Values.{Traced}
+use Rattle.shm_agents.specs.Turns.{script_in}
 use Rattle.shm_replay.specs.Replays.{start_of}
-use Rattle.shm_replay.specs.Turns.{script_in}
 use Rattle.shm_replay.proofs.Gathering.{same_some}
 use Rattle.shm_replay.proofs.Starting.{new_seat, none_seat}
 use Rattle.shm_replay.proofs.replaying.agents_of.Goals as goal

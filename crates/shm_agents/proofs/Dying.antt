@@ -1,0 +1,326 @@
+-- the death of an agent: of a client that was at work, or of a recoverer
+use Rattle.std.proofs.Common.{◌≡◌, ℕ, ◌+◌, Bool, true, false, cond, List, [], ◌∷◌, ◌++◌, map, take, length, append-nil, refl, sym, ap, ◌∙◌, subst, inl, inr, arith}
+use Rattle.std.specs.Prelude.{Option, Some, None, slice_get, slice_index, sum}
+use Rattle.std.specs.Option.{is_some}
+use Rattle.std.proofs.lemmas.List.{length-append}
+use Rattle.shm_graph.specs.declared.ask.Me.{Me}
+use Rattle.shm_graph.specs.declared.memo.Agent.{Agent}
+use Rattle.shm_graph.specs.declared.memo.Fate.{Fate}
+use Rattle.shm_graph.specs.declared.memo.Fate.TheVariants as fate
+use Rattle.shm_graph.specs.declared.memo.Kind.TheVariants.{Recoverer}
+use Rattle.shm_graph.specs.declared.memo.Memo.{Memo}
+use Rattle.shm_graph.specs.declared.run.Account.{Account}
+use Rattle.shm_graph.specs.declared.run.LoggedLine.{LoggedLine}
+use Rattle.shm_graph.specs.Agents.{fallen, last_agent, steps_made, steps_of, with_last}
+use Rattle.shm_graph.specs.Asks.{Trail, call_before}
+use Rattle.shm_graph.specs.Held.{is_loose}
+use Rattle.shm_graph.specs.Runs.{account_died, fell_by, told_by, told_left}
+use Rattle.shm_graph.specs.Tells.{after_all}
+use Rattle.shm_graph.proofs.Memos.MemoSteps.{last-append}
+use Rattle.shm_calls.specs.declared.or.Or.TheVariants.{First, Second}
+use Rattle.shm_calls.specs.CallsControl.{calls_control, calls_of}
+use Rattle.shm_calls.specs.Deciding.{StillRuns}
+use Rattle.shm_calls.specs.Either.{or_control}
+use Rattle.shm_count.specs.Steady.{SameTable}
+use Rattle.shm_recover.specs.Join.{join_control}
+use Rattle.shm_recover.specs.Leave.Control.{leave_line, leave_parts, leaving as leave_state}
+use Rattle.shm_recover.specs.Leave.{leave_plan}
+use Rattle.shm_recover.specs.Recover.Control.{recover_parts}
+use Rattle.shm_recover.specs.Recover.{recover_plan}
+use Rattle.shm_recover.proofs.Steady.{leave_steady}
+use Rattle.shm_script.specs.declared.line.Line.{Line}
+use Rattle.shm_script.specs.declared.log.Answer.{Answer}
+use Rattle.shm_script.specs.declared.log.End.TheVariants.{Died}
+use Rattle.shm_script.specs.declared.log.Entry.{Entry}
+use Rattle.shm_script.specs.Text.{line_spelled}
+use Rattle.shm_script.specs.Values.{Scripted}
+use Rattle.shm_table.specs.Command.Maps.{MapSoFar}
+use Rattle.shm_table.specs.Command.{CommandCall, CommandFits, command_control, command_effect, command_of}
+use Rattle.shm_agents.specs.declared.agents.Standing.TheVariants.{AtWork}
+use Rattle.shm_agents.specs.Agents.{IsFallen, IsFold, IsMending, IsPlaying, IsSettled, Playing, behind, follows, logged, one_agent, shown_by}
+use Rattle.shm_agents.specs.Logs.{BeganWith, Was, begun_first, with_effect}
+use Rattle.shm_agents.specs.Logs.Was.{Between, InCommand, InLeaving}
+use Rattle.shm_agents.specs.Turns.{lives_of}
+use Rattle.shm_agents.specs.Work.{LeaveCalls, Work, WorkFits, commanding, leaving, work_control}
+use Rattle.shm_agents.proofs.Effects.{behind_none, behind_some, effect_line, fold_so_far, lines_so_far, none_shown, runs_first, runs_second, told_cut}
+use Rattle.shm_agents.proofs.Growing.{began_last, get_last, index_is, log_on, steps_of-end, sum_more, told_rest, with_last-end}
+use Rattle.shm_agents.proofs.Lines.{command_line}
+use Rattle.shm_agents.proofs.Trails.{after_first, after_second, entries_rest}
+use Rattle.shm_agents.proofs.Unspent.{unspent_shown}
+
+-- the map of a command that runs: the first law of `command_maps`
+abbrev pub CommandMaps : Type 0
+CommandMaps = (me : Me) (l : Line) (start : Trail) (r0 r : Memo) (tr : Trail) → StillRuns command_control (command_of me l) start → let m : CommandCall = after_all command_control (command_of me l) start in CommandFits m r0 r tr → MapSoFar l (command_effect m) r0 r
+
+-- what is noted of a client that dies in its work: a command that shows its answer is an entry too
+abbrev pub settles : Line → Playing → Playing
+settles line x = record x { entries = with_effect x.entries line (shown_by x.work); end = Some (Died (length x.entries) (is_some (shown_by x.work))) }
+
+-- so many agents have fallen once the last one has
+fallen_by : (s : Scripted) (y : Playing) (e : Account) → y.standing ≡ AtWork → IsSettled s y e (told_left true e) → length e.memo.agents ≡ y.agent + 1 → fell_by (last_agent e.memo.agents) ≡ true → steps_made e.memo ≡ sum (take (y.agent + 1) (lives_of s.life))
+    → IsFallen s (follows (slice_get (lives_of s.life) (y.agent + 1)) y) e
+fallen_by s y e here settled many fell made = go (slice_get (lives_of s.life) (y.agent + 1)) refl
+  where
+    go : (o : Option ℕ) → slice_get (lives_of s.life) (y.agent + 1) ≡ o → IsFallen s (follows o y) e
+    go None none =
+        record {
+          settled = record { end = settled.end; ended = settled.ended; log = settled.log; unspent = settled.unspent; fold = settled.fold; table = settled.table };
+          many = many;
+          some = omega arith;
+          fell = fell;
+          made = made;
+          next = inl (refl, none);
+        }
+    go (Some n) at =
+        record {
+          settled = record { end = settled.end; ended = settled.ended; log = settled.log; unspent = settled.unspent; fold = settled.fold; table = settled.table };
+          many = many;
+          some = omega arith;
+          fell = fell;
+          made = made;
+          next = inr (here, at, refl);
+        }
+
+module _ (s : Scripted) (x : Playing) (e : Account) (spent : x.life.left ≡ 0) where
+  abbrev pub next : Option ℕ
+  next = slice_get (lives_of s.life) (x.agent + 1)
+
+  abbrev e2 : Account
+  e2 = account_died e
+
+  -- what is told of it once the next agent begins
+  abbrev told : List LoggedLine
+  told = told_left true e2
+
+  -- ---- a recoverer dies
+
+  module _ (h : IsMending s x e) where
+    abbrev it : Agent
+    it = record { kind = Recoverer; steps = h.steps; fate = fate.Acts }
+
+    mended_agents : e2.memo.agents ≡ h.before ++ fallen it ∷ []
+    mended_agents = ap (with_last fallen) h.agents ∙ with_last-end fallen h.before it
+
+    mended_began : (n : ℕ) (f : Fate) → BeganWith e.memo.agents n f → BeganWith e2.memo.agents n f
+    mended_began n f b =
+        subst (λ (xs : List Agent). BeganWith xs n f) (sym mended_agents)
+        (began_last h.before it (fallen it) n f (let m = h.many in let o = h.some in omega arith) (subst (λ (xs : List Agent). BeganWith xs n f) h.agents b))
+
+    mended_settled : IsSettled s x e2 told
+    mended_settled =
+        let rest = told_rest e.running e.memo.call false e.told in
+        record {
+          end = h.settled.end;
+          ended = h.settled.ended;
+          log = log_on x.me s e.memo.agents e2.memo.agents e.begun e.begun e.told told (logged x) mended_began (λ k some same. same) rest.0 rest.1 h.settled.log;
+          unspent = h.settled.unspent;
+          fold = h.settled.fold;
+          table = h.settled.table;
+        }
+
+    pub falls_mending : IsFallen s (follows next x) e2
+    falls_mending =
+        fallen_by s x e2 h.here mended_settled
+        (ap (λ (xs : List Agent). length xs) mended_agents ∙ (length-append h.before (fallen it ∷ []) ∙ ap (λ (n : ℕ). n + 1) h.many))
+        (ap (λ (xs : List Agent). fell_by (last_agent xs)) mended_agents ∙ ap fell_by (last-append h.before (fallen it)))
+        (let a = ap steps_of mended_agents in let b = steps_of-end h.before (fallen it) in let m = h.made in let l = sum_more (lives_of s.life) x.agent _ h.life in omega arith)
+
+  -- ---- the client dies
+
+  module _ (h : IsPlaying s x e) where
+    abbrev many : ℕ
+    many = length x.entries
+
+    abbrev fresh : Bool
+    fresh = work_control.fresh x.work
+
+    abbrev now : Work
+    now = behind x.me s.lines many
+
+    -- what its work has asked
+    abbrev trail : Trail
+    trail = call_before fresh e.memo.call
+
+    -- ---- in its leaving, or before it
+
+    module _ (all : slice_get s.lines many ≡ None) where
+      abbrev n : LeaveCalls
+      n = after_all (calls_control leave_parts leave_plan) (calls_of leave_plan (leave_state x.me)) trail
+
+      last_one : now ≡ leaving x.me
+      last_one = behind_none x.me s.lines many all
+
+      in_leaving : x.work ≡ Second (Second n)
+      in_leaving =
+          sym h.course
+          ∙ (ap (λ (z : Work). after_all work_control z trail) last_one
+          ∙ (after_second (or_control join_control (calls_control recover_parts recover_plan)) (or_control command_control (calls_control leave_parts leave_plan)) (Second (calls_of leave_plan (leave_state x.me))) trail
+          ∙ ap Second (after_second command_control (calls_control leave_parts leave_plan) (calls_of leave_plan (leave_state x.me)) trail)))
+
+      none : shown_by x.work ≡ None
+      none = ap shown_by in_leaving
+
+    -- what shows an answer is a command
+    pub shows_line : is_some (shown_by x.work) ≡ true → (l : Line) × (slice_get s.lines many ≡ Some l)
+    shows_line shown = go (slice_get s.lines many) refl
+      where
+        go : (o : Option Line) → slice_get s.lines many ≡ o → (l : Line) × (slice_get s.lines many ≡ Some l)
+        go (Some l) is = (l, is)
+        go None all = absurd (let z : true ≡ false = sym shown ∙ ap (λ (o : Option Answer). is_some o) (none all) in cc)
+
+    module _ (client : s.client ≡ x.me.who) (table : is_loose e.memo.part ≡ false) (maps : CommandMaps) (line : Line) (at : is_some (shown_by x.work) ≡ true → slice_get s.lines many ≡ Some line) where
+      abbrev entries : List Entry
+      entries = with_effect x.entries line (shown_by x.work)
+
+      abbrev done : Bool
+      done = is_some (shown_by x.work)
+
+      agents : e2.memo.agents ≡ one_agent h.steps fate.Died
+      agents = ap (with_last fallen) h.agents
+
+      lived : slice_index (lives_of s.life) 0 ≡ h.steps
+      lived = index_is (lives_of s.life) 0 _ h.life ∙ (let z = spent in omega arith)
+
+      began : BeganWith e2.memo.agents (slice_index (lives_of s.life) 0) fate.Died
+      began = ([], agents ∙ ap (λ (n : ℕ). one_agent n fate.Died) (sym lived))
+
+      -- what it was at, and what of that is told
+      record Left : Type 0 where
+        rest : List LoggedLine
+        tells : told ≡ e.told ++ rest
+        was : Was x.me s.lines (begun_first e.begun) (h.told.behind ++ rest) x.entries entries done
+
+      -- it has noted all that it did
+      settled : Left → map (λ (y : Entry). y.line) entries ≡ take (length entries) s.lines → IsFold entries e.memo → IsSettled s (settles line x) e2 told
+      settled l lines fold =
+          record {
+            end = Died many done;
+            ended = refl;
+            log = record {
+              client = sym client;
+              lines = lines;
+              join = h.told.join;
+              behind = h.told.behind ++ l.rest;
+              is = l.tells ∙ ap (λ (ts : List LoggedLine). ts ++ l.rest) h.told.is;
+              finished = x.entries;
+              entries = entries_rest x.me h.told.behind l.rest x.entries h.told.entries;
+              end = (refl, began, l.was);
+            };
+            unspent = unspent_shown x.entries line x.work h.unspent;
+            fold = fold;
+            table = table;
+          }
+
+      -- between two pieces of work
+      between : fresh ≡ true → shown_by x.work ≡ None → Left
+      between new none =
+          record {
+            rest = [];
+            tells = ap (λ (l : List ℕ). told_by l e.memo.call false e.told) (h.running ∙ ap (λ (b : Bool). cond b [] (work_control.line x.work)) new) ∙ sym (append-nil e.told);
+            was = Between (ap begun_first h.is_begun ∙ (h.many ∙ ap (λ (b : Bool). cond b (many + 1) (many + 2)) new)) (ap (with_effect x.entries line) none) (ap (λ (o : Option Answer). is_some o) none);
+          }
+
+      -- within one, of which this is told
+      begun_more : fresh ≡ false → begun_first e.begun ≡ many + 2
+      begun_more old = ap begun_first h.is_begun ∙ (h.many ∙ ap (λ (b : Bool). cond b (many + 1) (many + 2)) old)
+
+      last_told : (t : LoggedLine) → slice_get (h.told.behind ++ t ∷ []) many ≡ Some t
+      last_told t = get_last h.told.behind t many (let a = h.all_told in let i = ap (λ (ts : List LoggedLine). length ts) h.told.is in omega arith)
+
+      runs_line : fresh ≡ false → e.running ≡ work_control.line now
+      runs_line old = h.running ∙ (ap (λ (b : Bool). cond b [] (work_control.line x.work)) old ∙ h.line)
+
+      -- ---- in a command, or before it
+
+      module _ (l : Line) (here : slice_get s.lines many ≡ Some l) where
+        abbrev m : CommandCall
+        m = after_all command_control (command_of x.me l) trail
+
+        placed : now ≡ commanding x.me l
+        placed = behind_some x.me s.lines many l here
+
+        in_command : x.work ≡ Second (First m)
+        in_command =
+            sym h.course
+            ∙ (ap (λ (z : Work). after_all work_control z trail) placed
+            ∙ (after_second (or_control join_control (calls_control recover_parts recover_plan)) (or_control command_control (calls_control leave_parts leave_plan)) (First (command_of x.me l)) trail
+            ∙ ap Second (after_first command_control (calls_control leave_parts leave_plan) (command_of x.me l) trail)))
+
+        shown : shown_by x.work ≡ command_effect m
+        shown = ap shown_by in_command
+
+        noted : entries ≡ with_effect x.entries l (command_effect m)
+        noted =
+            effect_line x.entries line l (shown_by x.work) (λ some. let e : Some line ≡ Some l = sym (at some) ∙ here in cc)
+            ∙ ap (with_effect x.entries l) shown
+
+        runs : StillRuns command_control (command_of x.me l) trail
+        runs =
+            runs_first command_control (calls_control leave_parts leave_plan) (command_of x.me l) trail
+            (runs_second (or_control join_control (calls_control recover_parts recover_plan)) (or_control command_control (calls_control leave_parts leave_plan)) (First (command_of x.me l)) trail
+            (subst (λ (z : Work). StillRuns work_control z trail) placed h.runs))
+
+        so_far : MapSoFar l (command_effect m) h.start e.memo
+        so_far = maps x.me l trail h.start e.memo trail runs (subst (λ (z : Work). WorkFits z h.start e.memo trail) in_command h.fits)
+
+        -- where its call is that, by whether it is before its first word step
+        effect_at : (b : Bool) → fresh ≡ b → shown_by x.work ≡ command_effect (after_all command_control (command_of x.me l) (call_before b e.memo.call))
+        effect_at b is = shown ∙ ap (λ (z : Bool). command_effect (after_all command_control (command_of x.me l) (call_before z e.memo.call))) is
+
+        cut : (b : Bool) → fresh ≡ b → Left
+        cut true new = between new (effect_at true new ∙ none_shown x.me l)
+        cut false old =
+            let t : LoggedLine = record { line = line_spelled l; trail = e.memo.call; finished = false } in
+            record {
+              rest = t ∷ [];
+              tells = ap (λ (z : List ℕ). told_by z e.memo.call false e.told) (runs_line old ∙ (ap (λ (z : Work). work_control.line z) placed ∙ command_line x.me l)) ∙ told_cut l e.memo.call e.told;
+              was = InCommand l t (begun_more old) here (last_told t) refl refl
+                  (effect_line x.entries line l (shown_by x.work) (λ some. let e : Some line ≡ Some l = sym (at some) ∙ here in cc) ∙ ap (with_effect x.entries l) (effect_at false old))
+                  (ap (λ (o : Option Answer). is_some o) (effect_at false old));
+            }
+
+        pub dies_commanding : IsSettled s (settles line x) e2 told
+        dies_commanding =
+            settled (cut fresh refl)
+            (subst (λ (es : List Entry). map (λ (y : Entry). y.line) es ≡ take (length es) s.lines) (sym noted) (lines_so_far x.entries l (command_effect m) s.lines here h.commands))
+            (subst (λ (es : List Entry). IsFold es e.memo) (sym noted) (fold_so_far x.entries l (command_effect m) h.start e.memo h.ready.fold so_far))
+
+      module _ (all : slice_get s.lines many ≡ None) where
+        noted_none : entries ≡ x.entries
+        noted_none = ap (with_effect x.entries line) (none all)
+
+        same : SameTable h.start e.memo
+        same = leave_steady (n all) h.start e.memo trail (ap (λ (z : Work). work_control.finished z) (sym (in_leaving all)) ∙ h.going) (subst (λ (z : Work). WorkFits z h.start e.memo trail) (in_leaving all) h.fits)
+
+        ended : (b : Bool) → fresh ≡ b → Left
+        ended true new = between new (none all)
+        ended false old =
+            let t : LoggedLine = record { line = leave_line; trail = e.memo.call; finished = false } in
+            record {
+              rest = t ∷ [];
+              tells = ap (λ (z : List ℕ). told_by z e.memo.call false e.told) (runs_line old ∙ ap (λ (z : Work). work_control.line z) (last_one all));
+              was = InLeaving t (begun_more old) all (last_told t) refl noted_none (ap (λ (o : Option Answer). is_some o) (none all));
+            }
+
+        pub dies_leaving : IsSettled s (settles line x) e2 told
+        dies_leaving =
+            settled (ended fresh refl)
+            (subst (λ (es : List Entry). map (λ (y : Entry). y.line) es ≡ take (length es) s.lines) (sym noted_none) h.commands)
+            (subst (λ (es : List Entry). IsFold es e.memo) (sym noted_none) (λ key. ap (λ f. f key) same.0 ∙ h.ready.fold key))
+
+      dies : (o : Option Line) → slice_get s.lines many ≡ o → IsSettled s (settles line x) e2 told
+      dies (Some l) here = dies_commanding l here
+      dies None all = dies_leaving all
+
+      pub falls_playing : IsFallen s (follows next (settles line x)) e2
+      falls_playing =
+          fallen_by s (settles line x) e2 h.here (dies (slice_get s.lines many) refl)
+          (ap (λ (xs : List Agent). length xs) agents ∙ ap (λ (n : ℕ). n + 1) (sym h.agent))
+          (ap (λ (xs : List Agent). fell_by (last_agent xs)) agents)
+          (let a = ap steps_of agents in
+          let b : steps_of (one_agent h.steps fate.Died) ≡ h.steps + 0 = refl in
+          let l = sum_more (lives_of s.life) 0 _ h.life in
+          let z = spent in
+          let k : sum (take (0 + 1) (lives_of s.life)) ≡ sum (take (x.agent + 1) (lives_of s.life)) = ap (λ (i : ℕ). sum (take (i + 1) (lives_of s.life))) (sym h.agent) in
+          let none : sum (take 0 (lives_of s.life)) ≡ 0 = refl in
+          omega arith)

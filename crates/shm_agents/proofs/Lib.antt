@@ -1,0 +1,17 @@
+pub mod Standing
+pub mod Folding
+pub mod Unspent
+pub mod WorkLaws
+pub mod Trails
+pub mod Lines
+pub mod Playing
+pub mod Joining
+pub mod Turning
+pub mod Turns
+pub mod Loose
+pub mod Growing
+pub mod Effects
+pub mod Dying
+pub mod Deaths
+pub mod Mending
+pub mod OwnEras

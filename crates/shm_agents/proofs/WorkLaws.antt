@@ -1,0 +1,180 @@
+-- the laws of pieces of work, and what holds of each before its first word step
+use Rattle.std.proofs.Common.{◌≡◌, ℕ, zero, suc, ◌^◌, ◌<◌, ◌≤◌, true, false, List, [], ◌∷◌, get_or, length, refl, sym, subst, arith}
+use Rattle.std.specs.Prelude.{Some, slice_get}
+use Rattle.std.specs.List.{AllByRecursion}
+use Rattle.shm_words.specs.Layout.{GeometryFits}
+use Rattle.shm_graph.specs.declared.ask.Me.{Me}
+use Rattle.shm_graph.specs.declared.memo.Memo.{Memo}
+use Rattle.shm_graph.specs.Laws.{Laws}
+use Rattle.shm_calls.specs.CallsControl.{calls_control}
+use Rattle.shm_calls.specs.CallsFit.{CallsFits, CallsGives}
+use Rattle.shm_calls.specs.CallsKeep.{calls_begin, calls_laws}
+use Rattle.shm_calls.specs.Either.{OrFits, OrGives, or_control, or_laws}
+use Rattle.shm_ref.specs.DropRoots.Laws.{roots_laws}
+use Rattle.shm_recover.specs.FinishTakes.Laws.{finish_laws}
+use Rattle.shm_recover.specs.GiveUp.Laws.{give_laws}
+use Rattle.shm_recover.specs.Mend.Laws.{mend_laws}
+use Rattle.shm_recover.specs.Recover.Control.{recover_parts}
+use Rattle.shm_recover.specs.Recover.{recover_plan}
+use Rattle.shm_recover.specs.Recover.Laws.{recover_laws}
+use Rattle.shm_recover.specs.Scan.Laws.{scan_laws}
+use Rattle.shm_recover.specs.TakeBack.Laws.{back_laws}
+use Rattle.shm_recover.specs.Join.{JoinFits, JoinGives, join_control}
+use Rattle.shm_recover.specs.Join.Keeps.{join_laws}
+use Rattle.shm_recover.specs.Leave.Control.{leave_parts, leaving as leave_state}
+use Rattle.shm_recover.specs.Leave.{leave_plan}
+use Rattle.shm_recover.specs.Leave.Gone.{idle_may_leave}
+use Rattle.shm_recover.specs.Leave.Laws.{leave_begin, leave_laws}
+use Rattle.shm_script.specs.declared.line.Line.{Line}
+use Rattle.shm_script.specs.declared.line.Line.TheVariants as line
+use Rattle.shm_script.specs.Ranges.{LineFits}
+use Rattle.shm_table.specs.Command.{CommandFits, CommandGives, MayStand, command_control, command_of}
+use Rattle.shm_table.specs.Command.Laws.{command_laws}
+use Rattle.shm_table.specs.Commands.{MayCommand}
+use Rattle.shm_table.specs.CopyKey.Control.{copy_parts, copying}
+use Rattle.shm_table.specs.CopyKey.{copy_plan}
+use Rattle.shm_table.specs.CopyKey.Laws.{copy_begin, copy_laws}
+use Rattle.shm_table.specs.Del.Control.{del_parts, deleting}
+use Rattle.shm_table.specs.Del.{del_plan}
+use Rattle.shm_table.specs.Del.Laws.{del_begin, del_laws}
+use Rattle.shm_table.specs.Enter.Laws.{enter_laws}
+use Rattle.shm_table.specs.FetchHead.Laws.{fetch_head_laws}
+use Rattle.shm_table.specs.Fetch.Laws.{fetch_laws}
+use Rattle.shm_table.specs.Get.Control.{get_parts, getting}
+use Rattle.shm_table.specs.Get.{get_plan}
+use Rattle.shm_table.specs.Get.Laws.{get_begin, get_laws}
+use Rattle.shm_table.specs.Locate.{MayLocate}
+use Rattle.shm_table.specs.Locate.Laws.{locate_laws}
+use Rattle.shm_table.specs.OpenTable.Laws.{open_laws}
+use Rattle.shm_table.specs.Put.Control.{put_parts, putting}
+use Rattle.shm_table.specs.Put.{put_plan}
+use Rattle.shm_table.specs.Put.Laws.{put_laws}
+use Rattle.shm_table.specs.PutRoot.Control.{put_root_parts}
+use Rattle.shm_table.specs.PutRoot.{put_root_plan}
+use Rattle.shm_table.specs.PutRoot.Laws.{put_root_laws}
+use Rattle.shm_table.specs.RecvKey.Control.{receiving_key, recv_parts}
+use Rattle.shm_table.specs.RecvKey.{recv_plan}
+use Rattle.shm_table.specs.RecvKey.Laws.{recv_begin, recv_laws}
+use Rattle.shm_table.specs.Replace.Laws.{replace_laws}
+use Rattle.shm_table.specs.SendKey.Control.{send_key_parts, sending_key}
+use Rattle.shm_table.specs.SendKey.{send_key_plan}
+use Rattle.shm_table.specs.SendKey.Laws.{send_key_begin, send_key_laws}
+use Rattle.shm_table.specs.TakeHead.Laws.{take_head_laws}
+use Rattle.shm_calls.specs.Plans.{PlanLaws}
+use Rattle.shm_script.specs.declared.log.Entry.{Entry}
+use Rattle.shm_agents.specs.Agents.{IsReady, behind}
+use Rattle.shm_agents.specs.Work.{WorkFits, WorkGives, commanding, leaving, work_control}
+
+-- ---- the laws
+
+puts : PlanLaws put_root_parts put_root_plan
+puts = put_root_laws open_laws locate_laws replace_laws enter_laws
+
+commands : Laws command_control CommandFits CommandGives
+commands = command_laws (put_laws puts) (copy_laws fetch_laws puts) del_laws get_laws send_key_laws (recv_laws fetch_head_laws take_head_laws puts)
+
+pub recoveries : PlanLaws recover_parts recover_plan
+recoveries = recover_laws mend_laws roots_laws back_laws finish_laws scan_laws give_laws
+
+pub work_laws : Laws work_control WorkFits WorkGives
+work_laws =
+    or_laws (or_control join_control (calls_control recover_parts recover_plan)) (or_control command_control (calls_control leave_parts leave_plan))
+    (OrFits JoinFits (CallsFits recover_parts recover_plan)) (OrGives JoinGives (CallsGives recover_parts recover_plan))
+    (OrFits CommandFits (CallsFits leave_parts leave_plan)) (OrGives CommandGives (CallsGives leave_parts leave_plan))
+    (or_laws join_control (calls_control recover_parts recover_plan) JoinFits JoinGives (CallsFits recover_parts recover_plan) (CallsGives recover_parts recover_plan) join_laws (calls_laws recover_parts recover_plan recoveries))
+    (or_laws command_control (calls_control leave_parts leave_plan) CommandFits CommandGives (CallsFits leave_parts leave_plan) (CallsGives leave_parts leave_plan) commands (calls_laws leave_parts leave_plan leave_laws))
+
+-- ---- what comes behind commands, before its first word step
+
+command_fresh : (me : Me) (l : Line) → command_control.fresh (command_of me l) ≡ true
+command_fresh me (line.Put key n) = refl
+command_fresh me (line.Copy key a other) = refl
+command_fresh me (line.Del key) = refl
+command_fresh me (line.Get a key) = refl
+command_fresh me (line.Send i key) = refl
+command_fresh me (line.Recv s key) = refl
+
+command_going : (me : Me) (l : Line) → command_control.finished (command_of me l) ≡ false
+command_going me (line.Put key n) = refl
+command_going me (line.Copy key a other) = refl
+command_going me (line.Del key) = refl
+command_going me (line.Get a key) = refl
+command_going me (line.Send i key) = refl
+command_going me (line.Recv s key) = refl
+
+command_me : (me : Me) (l : Line) → command_control.me (command_of me l) ≡ me
+command_me me (line.Put key n) = refl
+command_me me (line.Copy key a other) = refl
+command_me me (line.Del key) = refl
+command_me me (line.Get a key) = refl
+command_me me (line.Send i key) = refl
+command_me me (line.Recv s key) = refl
+
+pub behind_fresh : (me : Me) (ls : List Line) (k : ℕ) → work_control.fresh (behind me ls k) ≡ true
+behind_fresh me [] k = refl
+behind_fresh me (l ∷ ls) zero = command_fresh me l
+behind_fresh me (l ∷ ls) (suc k) = behind_fresh me ls k
+
+pub behind_going : (me : Me) (ls : List Line) (k : ℕ) → work_control.finished (behind me ls k) ≡ false
+behind_going me [] k = refl
+behind_going me (l ∷ ls) zero = command_going me l
+behind_going me (l ∷ ls) (suc k) = behind_going me ls k
+
+pub behind_me : (me : Me) (ls : List Line) (k : ℕ) → work_control.me (behind me ls k) ≡ me
+behind_me me [] k = refl
+behind_me me (l ∷ ls) zero = command_me me l
+behind_me me (l ∷ ls) (suc k) = behind_me me ls k
+
+-- the command at its place, and the leaving behind all
+pub behind_at : (me : Me) (ls : List Line) (k : ℕ) (d : Line) → k < length ls → behind me ls k ≡ commanding me (get_or ls k d)
+behind_at me [] k d l = absurd (omega arith)
+behind_at me (l ∷ ls) zero d low = refl
+behind_at me (l ∷ ls) (suc k) d low = behind_at me ls k d (omega arith)
+
+pub behind_past : (me : Me) (ls : List Line) (k : ℕ) → length ls ≤ k → behind me ls k ≡ leaving me
+behind_past me [] k far = refl
+behind_past me (l ∷ ls) zero far = absurd (omega arith)
+behind_past me (l ∷ ls) (suc k) far = behind_past me ls k (omega arith)
+
+-- each line fits
+pub line_fits : (clients who : ℕ) (ls : List Line) (k : ℕ) (l : Line) → AllByRecursion (LineFits clients who) ls → slice_get ls k ≡ Some l → LineFits clients who l
+line_fits clients who [] k l all at = absurd (cc)
+line_fits clients who (x ∷ ls) zero l all at = let e : x ≡ l = cc in subst (LineFits clients who) e all.0
+line_fits clients who (x ∷ ls) (suc k) l all at = line_fits clients who ls k l all.1 at
+
+-- ---- a client that may begin
+
+-- the numbers of a line that fits
+pub may_stand : (me : Me) (l : Line) → LineFits me.geometry.clients me.who l → MayStand me l
+may_stand me (line.Put key n) f = tt
+may_stand me (line.Del key) f = tt
+may_stand me (line.Get a key) f = f.0
+may_stand me (line.Copy key a other) f = f.1
+may_stand me (line.Send i key) f = (f.0, λ e. f.1 (sym e))
+may_stand me (line.Recv s key) f = (f.0, f.1)
+
+module _ (me : Me) (geometry : GeometryFits me.geometry) (who : me.who < me.geometry.clients) (es : List Entry) (r : Memo) (h : IsReady me.who es r) where
+  may_command : (key : ℕ) → key < 2 ^ 32 → MayCommand me key r
+  may_command key small = record { geometry = geometry; who = who; idle = h.idle; client = h.client; none = h.latch; table = h.table; small = small }
+
+  may_locate : (a : ℕ) → a < me.geometry.clients → MayLocate me a r
+  may_locate a l = record { geometry = geometry; who = who; author = l; idle = h.idle; none = h.latch; table = h.table }
+
+  command_fits : (l : Line) → LineFits me.geometry.clients me.who l → CommandFits (command_of me l) r r []
+  command_fits (line.Put key n) f = calls_begin put_parts put_plan (put_laws puts) (putting me key n) r refl refl (may_command key f.0, f.1, refl, refl, refl)
+  command_fits (line.Copy key a other) f = calls_begin copy_parts copy_plan (copy_laws fetch_laws puts) (copying me key a other) r refl refl (copy_begin me key a other r (record { command = may_command key f.0; author = f.1 }))
+  command_fits (line.Del key) f =
+      calls_begin del_parts del_plan del_laws (deleting me key) r refl refl (del_begin me key r (record { geometry = geometry; who = who; idle = h.idle; none = h.latch; table = h.table; client = h.client }))
+  command_fits (line.Get a key) f = calls_begin get_parts get_plan get_laws (getting me a key) r refl refl (get_begin me a key r (may_locate a f.0))
+  command_fits (line.Send i key) f =
+      calls_begin send_key_parts send_key_plan send_key_laws (sending_key me i key) r refl refl
+      (send_key_begin me i key r (record { locate = may_locate me.who who; client = h.client; to = f.0; other = λ e. f.1 (sym e); none = h.unsent i }))
+  command_fits (line.Recv s key) f =
+      calls_begin recv_parts recv_plan (recv_laws fetch_head_laws take_head_laws puts) (receiving_key me s key) r refl refl
+      (recv_begin me s key r (record { command = may_command key f.2; from = f.0; other = f.1; none = h.untaken s }))
+
+  pub behind_fits : (ls : List Line) (k : ℕ) → AllByRecursion (LineFits me.geometry.clients me.who) ls → WorkFits (behind me ls k) r r []
+  behind_fits [] k all =
+      calls_begin leave_parts leave_plan leave_laws (leave_state me) r refl refl (leave_begin me r (idle_may_leave me r (record { geometry = geometry; who = who }) h.idle h.latch h.dying h.unsent h.untaken))
+  behind_fits (l ∷ ls) zero all = command_fits l all.0
+  behind_fits (l ∷ ls) (suc k) all = behind_fits ls k all.1

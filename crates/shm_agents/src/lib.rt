@@ -1,0 +1,5 @@
+//! The agents of a script, one after the other, wherever they work.
+#![tactic(auto)]
+
+pub mod agents;
+mod work;
