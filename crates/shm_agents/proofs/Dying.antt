@@ -1,5 +1,5 @@
 -- the death of an agent: of a client that was at work, or of a recoverer
-use Rattle.std.proofs.Common.{◌≡◌, ℕ, ◌+◌, Bool, true, false, cond, List, [], ◌∷◌, ◌++◌, map, take, length, append-nil, refl, sym, ap, ◌∙◌, subst, inl, inr, arith}
+use Rattle.std.proofs.Common.{◌≡◌, ℕ, ◌+◌, ◌<◌, Bool, true, false, cond, List, [], ◌∷◌, ◌++◌, map, take, length, append-nil, refl, sym, ap, ◌∙◌, subst, inl, inr, arith}
 use Rattle.std.specs.Prelude.{Option, Some, None, slice_get, slice_index, sum}
 use Rattle.std.specs.Option.{is_some}
 use Rattle.std.proofs.lemmas.List.{length-append}
@@ -38,12 +38,12 @@ use Rattle.shm_table.specs.Command.Maps.{MapSoFar}
 use Rattle.shm_table.specs.Command.{CommandCall, CommandFits, command_control, command_effect, command_of}
 use Rattle.shm_agents.specs.declared.agents.Standing.TheVariants.{AtWork}
 use Rattle.shm_agents.specs.Agents.{IsFallen, IsFold, IsMending, IsPlaying, IsSettled, Playing, behind, follows, logged, one_agent, shown_by}
-use Rattle.shm_agents.specs.Logs.{BeganWith, Was, begun_first, with_effect}
+use Rattle.shm_agents.specs.Logs.{BeganWith, Was, begun_first, steps_first, with_effect}
 use Rattle.shm_agents.specs.Logs.Was.{Between, InCommand, InLeaving}
 use Rattle.shm_agents.specs.Turns.{lives_of}
 use Rattle.shm_agents.specs.Work.{LeaveCalls, Work, WorkFits, commanding, leaving, work_control}
 use Rattle.shm_agents.proofs.Effects.{behind_none, behind_some, effect_line, fold_so_far, lines_so_far, none_shown, runs_first, runs_second, told_cut}
-use Rattle.shm_agents.proofs.Growing.{began_last, get_last, index_is, log_on, steps_of-end, sum_more, told_rest, with_last-end}
+use Rattle.shm_agents.proofs.Growing.{began_last, first_steps, get_last, index_is, log_on, steps_of-end, sum_more, told_rest, with_last-end}
 use Rattle.shm_agents.proofs.Lines.{command_line}
 use Rattle.shm_agents.proofs.Trails.{after_first, after_second, entries_rest}
 use Rattle.shm_agents.proofs.Unspent.{unspent_shown}
@@ -57,14 +57,15 @@ abbrev pub settles : Line → Playing → Playing
 settles line x = record x { entries = with_effect x.entries line (shown_by x.work); end = Some (Died (length x.entries) (is_some (shown_by x.work))) }
 
 -- so many agents have fallen once the last one has
-fallen_by : (s : Scripted) (y : Playing) (e : Account) → y.standing ≡ AtWork → IsSettled s y e (told_left true e) → length e.memo.agents ≡ y.agent + 1 → fell_by (last_agent e.memo.agents) ≡ true → steps_made e.memo ≡ sum (take (y.agent + 1) (lives_of s.life))
+fallen_by : (s : Scripted) (y : Playing) (e : Account) → y.standing ≡ AtWork → IsSettled s y e (told_left true e) → steps_first e.memo.agents ≡ slice_index (lives_of s.life) 0 → length e.memo.agents ≡ y.agent + 1 → fell_by (last_agent e.memo.agents) ≡ true → steps_made e.memo ≡ sum (take (y.agent + 1) (lives_of s.life))
     → IsFallen s (follows (slice_get (lives_of s.life) (y.agent + 1)) y) e
-fallen_by s y e here settled many fell made = go (slice_get (lives_of s.life) (y.agent + 1)) refl
+fallen_by s y e here settled lived many fell made = go (slice_get (lives_of s.life) (y.agent + 1)) refl
   where
     go : (o : Option ℕ) → slice_get (lives_of s.life) (y.agent + 1) ≡ o → IsFallen s (follows o y) e
     go None none =
         record {
           settled = record { end = settled.end; ended = settled.ended; log = settled.log; unspent = settled.unspent; fold = settled.fold; table = settled.table };
+          lived = lived;
           many = many;
           some = omega arith;
           fell = fell;
@@ -74,6 +75,7 @@ fallen_by s y e here settled many fell made = go (slice_get (lives_of s.life) (y
     go (Some n) at =
         record {
           settled = record { end = settled.end; ended = settled.ended; log = settled.log; unspent = settled.unspent; fold = settled.fold; table = settled.table };
+          lived = lived;
           many = many;
           some = omega arith;
           fell = fell;
@@ -106,13 +108,19 @@ module _ (s : Scripted) (x : Playing) (e : Account) (spent : x.life.left ≡ 0) 
         subst (λ (xs : List Agent). BeganWith xs n f) (sym mended_agents)
         (began_last h.before it (fallen it) n f (let m = h.many in let o = h.some in omega arith) (subst (λ (xs : List Agent). BeganWith xs n f) h.agents b))
 
+    -- and made as many word steps
+    mended_made : steps_first e2.memo.agents ≡ steps_first e.memo.agents
+    mended_made =
+        let some : 0 < length h.before = (let m = h.many in let o = h.some in omega arith) in
+        ap steps_first mended_agents ∙ (first_steps h.before (fallen it ∷ []) some ∙ sym (ap steps_first h.agents ∙ first_steps h.before (it ∷ []) some))
+
     mended_settled : IsSettled s x e2 told
     mended_settled =
         let rest = told_rest e.running e.memo.call false e.told in
         record {
           end = h.settled.end;
           ended = h.settled.ended;
-          log = log_on x.me s e.memo.agents e2.memo.agents e.begun e.begun e.told told (logged x) mended_began (λ k some same. same) rest.0 rest.1 h.settled.log;
+          log = log_on x.me s (steps_first e.memo.agents) (steps_first e2.memo.agents) mended_made e.memo.agents e2.memo.agents e.begun e.begun e.told told (logged x) mended_began (λ k some same. same) rest.0 rest.1 h.settled.log;
           unspent = h.settled.unspent;
           fold = h.settled.fold;
           table = h.settled.table;
@@ -120,7 +128,7 @@ module _ (s : Scripted) (x : Playing) (e : Account) (spent : x.life.left ≡ 0) 
 
     pub falls_mending : IsFallen s (follows next x) e2
     falls_mending =
-        fallen_by s x e2 h.here mended_settled
+        fallen_by s x e2 h.here mended_settled (mended_made ∙ h.lived)
         (ap (λ (xs : List Agent). length xs) mended_agents ∙ (length-append h.before (fallen it ∷ []) ∙ ap (λ (n : ℕ). n + 1) h.many))
         (ap (λ (xs : List Agent). fell_by (last_agent xs)) mended_agents ∙ ap fell_by (last-append h.before (fallen it)))
         (let a = ap steps_of mended_agents in let b = steps_of-end h.before (fallen it) in let m = h.made in let l = sum_more (lives_of s.life) x.agent _ h.life in omega arith)
@@ -181,8 +189,11 @@ module _ (s : Scripted) (x : Playing) (e : Account) (spent : x.life.left ≡ 0) 
       lived : slice_index (lives_of s.life) 0 ≡ h.steps
       lived = index_is (lives_of s.life) 0 _ h.life ∙ (let z = spent in omega arith)
 
-      began : BeganWith e2.memo.agents (slice_index (lives_of s.life) 0) fate.Died
-      began = ([], agents ∙ ap (λ (n : ℕ). one_agent n fate.Died) (sym lived))
+      made : steps_first e2.memo.agents ≡ h.steps
+      made = ap steps_first agents
+
+      began : BeganWith e2.memo.agents (steps_first e2.memo.agents) fate.Died
+      began = ([], agents ∙ ap (λ (n : ℕ). one_agent n fate.Died) (sym made))
 
       -- what it was at, and what of that is told
       record Left : Type 0 where
@@ -314,7 +325,7 @@ module _ (s : Scripted) (x : Playing) (e : Account) (spent : x.life.left ≡ 0) 
 
       pub falls_playing : IsFallen s (follows next (settles line x)) e2
       falls_playing =
-          fallen_by s (settles line x) e2 h.here (dies (slice_get s.lines many) refl)
+          fallen_by s (settles line x) e2 h.here (dies (slice_get s.lines many) refl) (made ∙ sym lived)
           (ap (λ (xs : List Agent). length xs) agents ∙ ap (λ (n : ℕ). n + 1) (sym h.agent))
           (ap (λ (xs : List Agent). fell_by (last_agent xs)) agents)
           (let a = ap steps_of agents in

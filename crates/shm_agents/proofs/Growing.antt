@@ -1,5 +1,5 @@
 -- the log of a client while further agents begin and end, and more is told behind it
-use Rattle.std.proofs.Common.{◌≡◌, ℕ, zero, suc, ◌+◌, ◌<◌, Bool, List, [], ◌∷◌, ◌++◌, length, append-nil, refl, sym, ap, ◌∙◌, arith}
+use Rattle.std.proofs.Common.{◌≡◌, ℕ, zero, suc, ◌+◌, ◌<◌, Bool, List, [], ◌∷◌, ◌++◌, length, append-nil, refl, sym, ap, ◌∙◌, subst, arith}
 use Rattle.std.specs.Prelude.{Some, slice_get, slice_index, sum, take}
 use Rattle.std.proofs.lemmas.List.Sums.{sum_by_more}
 use Rattle.std.proofs.lemmas.Option.{get_or_from_slice_get, slice_get_within}
@@ -17,7 +17,7 @@ use Rattle.shm_script.specs.declared.log.End.TheVariants.{Ended, Died}
 use Rattle.shm_script.specs.declared.log.Entry.{Entry}
 use Rattle.shm_script.specs.Logged.{Logged}
 use Rattle.shm_script.specs.Values.{Scripted}
-use Rattle.shm_agents.specs.Logs.{BeganWith, HasEnd, IsLogOf, Was, begun_first}
+use Rattle.shm_agents.specs.Logs.{BeganWith, HasEnd, IsLogOf, Was, begun_first, steps_first}
 use Rattle.shm_agents.specs.Logs.Was.{Between, InCommand, InLeaving}
 use Rattle.shm_agents.proofs.Trails.{entries_rest}
 
@@ -57,6 +57,10 @@ steps_of-end (x ∷ xs) a = let h = steps_of-end xs a in omega arith
 pub began_more : (agents rest : List Agent) (n : ℕ) (f : Fate) → BeganWith agents n f → BeganWith (agents ++ rest) n f
 began_more agents rest n f (others, is) = (others ++ rest, ap (λ (xs : List Agent). xs ++ rest) is)
 
+pub first_steps : (agents rest : List Agent) → 0 < length agents → steps_first (agents ++ rest) ≡ steps_first agents
+first_steps [] rest some = absurd (omega arith)
+first_steps (a ∷ agents) rest some = refl
+
 -- the last one isn't the first
 pub began_last : (before : List Agent) (a b : Agent) (n : ℕ) (f : Fate) → 0 < length before → BeganWith (before ++ a ∷ []) n f → BeganWith (before ++ b ∷ []) n f
 began_last [] a b n f some h = absurd (omega arith)
@@ -79,18 +83,18 @@ told_rest (x ∷ xs) tr finished told = (record { line = x ∷ xs; trail = tr; f
 
 -- ---- the log
 
-module _ (me : Me) (s : Scripted) (agents agents' : List Agent) (begun begun' : List (List (List ℕ))) (told told' : List LoggedLine) (l : Logged) (began : (n : ℕ) (f : Fate) → BeganWith agents n f → BeganWith agents' n f)
+module _ (me : Me) (s : Scripted) (life life' : ℕ) (as_long : life' ≡ life) (agents agents' : List Agent) (begun begun' : List (List (List ℕ))) (told told' : List LoggedLine) (l : Logged) (began : (n : ℕ) (f : Fate) → BeganWith agents n f → BeganWith agents' n f)
     (first : (k : ℕ) → 0 < k → begun_first begun ≡ k → begun_first begun' ≡ k) (rest : List LoggedLine) (more : told' ≡ told ++ rest) where
   was_on : (behind : List LoggedLine) (finished entries : List Entry) (done : Bool) → Was me s.lines (begun_first begun) behind finished entries done → Was me s.lines (begun_first begun') (behind ++ rest) finished entries done
   was_on behind finished entries done (Between count same undone) = Between (first _ (omega arith) count) same undone
   was_on behind finished entries done (InCommand line x count next at text cut same shown) = InCommand line x (first _ (omega arith) count) next (get_more behind rest (length finished) x at) text cut same shown
   was_on behind finished entries done (InLeaving x count all at cut same undone) = InLeaving x (first _ (omega arith) count) all (get_more behind rest (length finished) x at) cut same undone
 
-  end_on : (behind : List LoggedLine) (finished entries : List Entry) (e : End) → HasEnd me s agents begun behind finished entries e → HasEnd me s agents' begun' (behind ++ rest) finished entries e
+  end_on : (behind : List LoggedLine) (finished entries : List Entry) (e : End) → HasEnd me s life agents begun behind finished entries e → HasEnd me s life' agents' begun' (behind ++ rest) finished entries e
   end_on behind finished entries Ended (all, many, (n, b)) = (all, many, (n, began n fate.Ended b))
-  end_on behind finished entries (Died n done) (many, b, was) = (many, began _ fate.Died b, was_on behind finished entries done was)
+  end_on behind finished entries (Died n done) (many, b, was) = (many, subst (λ (k : ℕ). BeganWith agents' k fate.Died) (sym as_long) (began life fate.Died b), was_on behind finished entries done was)
 
-  pub log_on : IsLogOf me s agents begun told l → IsLogOf me s agents' begun' told' l
+  pub log_on : IsLogOf me s life agents begun told l → IsLogOf me s life' agents' begun' told' l
   log_on h =
       record {
         client = h.client;

@@ -1,5 +1,5 @@
 -- word steps of a recoverer: its first one, one after which it goes on, and its last one
-use Rattle.std.proofs.Common.{◌≡◌, ℕ, ◌+◌, ◌^◌, ◌<◌, ◌≤◌, ◌&&◌, Bool, true, false, cond, List, [], ◌∷◌, ◌++◌, take, append-nil, refl, sym, ap, ◌∙◌, subst, arith, inl, inr, Result}
+use Rattle.std.proofs.Common.{◌≡◌, ℕ, ◌+◌, ◌^◌, ◌<◌, ◌≤◌, ◌&&◌, Bool, true, false, cond, List, [], ◌∷◌, ◌++◌, length, take, append-nil, refl, sym, ap, ◌∙◌, subst, arith, inl, inr, Result}
 use Rattle.std.specs.Prelude.{Some, None, Ok, Err, slice_get, sum}
 use Rattle.std.proofs.lemmas.List.Sums.{sum_by-append, sum_by-cons, sum_by-take-le}
 use Rattle.shm_words.specs.declared.geometry.Geometry.{Geometry}
@@ -44,10 +44,10 @@ use Rattle.shm_script.specs.Values.{Scripted}
 use Rattle.shm_table.specs.Command.{command_control}
 use Rattle.shm_agents.specs.declared.agents.Standing.TheVariants.{AtWork, Dead, Gone}
 use Rattle.shm_agents.specs.Agents.{IsFallen, IsMended, IsMending, IsSettled, MayPlay, Playing, logged}
-use Rattle.shm_agents.specs.Logs.{BeganWith, begun_first}
+use Rattle.shm_agents.specs.Logs.{BeganWith, begun_first, steps_first}
 use Rattle.shm_agents.specs.Turns.{lives_of}
 use Rattle.shm_agents.specs.Work.{RecoverCalls, Work, WorkAnswer, WorkFits, WorkGives, recovering, work_control}
-use Rattle.shm_agents.proofs.Growing.{began_last, began_more, begun_end, first_more, log_on, steps_of-end, sum_more, told_rest, with_last-end}
+use Rattle.shm_agents.proofs.Growing.{began_last, began_more, begun_end, first_more, first_steps, log_on, steps_of-end, sum_more, told_rest, with_last-end}
 use Rattle.shm_agents.proofs.Trails.{after_first, after_second}
 use Rattle.shm_agents.proofs.WorkLaws.{recoveries, work_laws}
 
@@ -135,6 +135,10 @@ module _ (start : Start) (s : Scripted) (x : Playing) (e : Account) (may : MayPl
         ap (λ (b : Bool). agents_after b e1.memo.agents) (ap (λ (b : Bool). is_gone e_first.memo.status && b) first_goes ∙ never (is_gone e_first.memo.status))
         ∙ with_last-end stepped e.memo.agents (record { kind = Recoverer; steps = 0; fate = fate.Acts })
 
+    -- the client's word steps stay
+    first_made : steps_first e_first.memo.agents ≡ steps_first e.memo.agents
+    first_made = ap steps_first agents_first ∙ first_steps e.memo.agents (record { kind = Recoverer; steps = 1; fate = fate.Acts } ∷ []) (let m = h.many in let o = h.some in omega arith)
+
     first_course : after_all work_control (recovering x.me) e_first.memo.call ≡ first_work
     first_course =
         ap (λ (b : Bool). after_all work_control (recovering x.me) (call_before b e1.memo.call ++ pair t.ask n ∷ [])) new
@@ -149,7 +153,7 @@ module _ (start : Start) (s : Scripted) (x : Playing) (e : Account) (may : MayPl
           record {
             end = h.settled.end;
             ended = h.settled.ended;
-            log = log_on x.me s e.memo.agents e_first.memo.agents e.begun e_first.begun (told_left true e) e_first.told (logged x)
+            log = log_on x.me s (steps_first e.memo.agents) (steps_first e_first.memo.agents) first_made e.memo.agents e_first.memo.agents e.begun e_first.begun (told_left true e) e_first.told (logged x)
                 (λ n f b. subst (λ (xs : List Agent). BeganWith xs n f) (sym agents_first) (began_more e.memo.agents (record { kind = Recoverer; steps = 1; fate = fate.Acts } ∷ []) n f b))
                 (λ k some is. subst (λ (bs : List (List (List ℕ))). begun_first bs ≡ k) (sym first_lines) (first_more e.begun ((t.line ∷ []) ∷ []) k some is))
                 [] (first_told ∙ sym (append-nil (told_left true e))) h.settled.log;
@@ -163,6 +167,7 @@ module _ (start : Start) (s : Scripted) (x : Playing) (e : Account) (may : MayPl
           record {
             here = here;
             settled = first_settled;
+            lived = first_made ∙ h.lived;
             before = e.memo.agents;
             steps = 1;
             agents = agents_first;
@@ -231,6 +236,12 @@ module _ (s : Scripted) (x : Playing) (e : Account) (h : IsMending s x e) (n : �
       subst (λ (xs : List Agent). BeganWith xs k f) (sym is)
       (began_last h.before it b k f (let m = h.many in let o = h.some in omega arith) (subst (λ (xs : List Agent). BeganWith xs k f) h.agents began))
 
+  -- and its word steps
+  first_made_by : (b : Agent) → e2.memo.agents ≡ h.before ++ b ∷ [] → steps_first e2.memo.agents ≡ steps_first e.memo.agents
+  first_made_by b is =
+      let some : 0 < length h.before = (let m = h.many in let o = h.some in omega arith) in
+      ap steps_first is ∙ (first_steps h.before (b ∷ []) some ∙ sym (ap steps_first h.agents ∙ first_steps h.before (it ∷ []) some))
+
   begun_first_same : (k : ℕ) → 0 < k → begun_first e.begun ≡ k → begun_first e2.begun ≡ k
   begun_first_same k some is = ap begun_first begun ∙ is
 
@@ -259,7 +270,7 @@ module _ (s : Scripted) (x : Playing) (e : Account) (h : IsMending s x e) (n : �
         record {
           end = h.settled.end;
           ended = h.settled.ended;
-          log = log_on x.me s e.memo.agents e2.memo.agents e.begun e2.begun e.told e2.told (logged x) (first_agent (stepped it) agents) begun_first_same [] (told ∙ sym (append-nil e.told)) h.settled.log;
+          log = log_on x.me s (steps_first e.memo.agents) (steps_first e2.memo.agents) (first_made_by (stepped it) agents) e.memo.agents e2.memo.agents e.begun e2.begun e.told e2.told (logged x) (first_agent (stepped it) agents) begun_first_same [] (told ∙ sym (append-nil e.told)) h.settled.log;
           unspent = h.settled.unspent;
           fold = λ key. ap (λ f. f key) same.0 ∙ h.fold key;
           table = same.1 ∙ h.table;
@@ -270,6 +281,7 @@ module _ (s : Scripted) (x : Playing) (e : Account) (h : IsMending s x e) (n : �
         record {
           here = h.here;
           settled = settled;
+          lived = first_made_by (stepped it) agents ∙ h.lived;
           before = h.before;
           steps = h.steps + 1;
           agents = agents;
@@ -362,11 +374,12 @@ module _ (s : Scripted) (x : Playing) (e : Account) (h : IsMending s x e) (n : �
           settled = record {
             end = h.settled.end;
             ended = h.settled.ended;
-            log = log_on x.me s e.memo.agents e2.memo.agents e.begun e2.begun e.told e2.told (logged x) (first_agent (ended (stepped it)) last_agents) begun_first_same told_last.0 told_last.1 h.settled.log;
+            log = log_on x.me s (steps_first e.memo.agents) (steps_first e2.memo.agents) (first_made_by (ended (stepped it)) last_agents) e.memo.agents e2.memo.agents e.begun e2.begun e.told e2.told (logged x) (first_agent (ended (stepped it)) last_agents) begun_first_same told_last.0 told_last.1 h.settled.log;
             unspent = h.settled.unspent;
             fold = λ key. ap (λ f. f key) left.leaves.map ∙ h.fold key;
             table = left.leaves.loose ∙ h.table;
           };
+          lived = first_made_by (ended (stepped it)) last_agents ∙ h.lived;
           before = h.before;
           steps = h.steps + 1;
           agents = last_agents;

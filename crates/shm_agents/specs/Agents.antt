@@ -35,7 +35,7 @@ use Rattle.shm_script.specs.Values.{Scripted}
 use Rattle.shm_table.specs.Command.{command_effect}
 use Rattle.shm_agents.specs.declared.agents.Standing.{Standing}
 use Rattle.shm_agents.specs.declared.agents.Standing.TheVariants.{AtWork, Gone, Dead}
-use Rattle.shm_agents.specs.Logs.{AreEntries, AreUnspent, IsLogOf}
+use Rattle.shm_agents.specs.Logs.{AreEntries, AreUnspent, IsLogOf, steps_first}
 use Rattle.shm_agents.specs.Turns.{lives_of}
 use Rattle.shm_agents.specs.Work.{Work, WorkAnswer, WorkFits, WorkGives, commanding, joining, leaving, recovering, work_control}
 
@@ -174,11 +174,11 @@ pub record HasParted (s : Scripted) (x : Playing) (e : Account) : Type 0 where
 
 -- ---- after the client's death
 
--- the log of the dead client by what is told of it, none of whose commands was refused for a spent era, and the map, which is the fold of its entries
+-- the log of the dead client, whose word steps are those that it made, by what is told of it, none of whose commands was refused for a spent era, and the map, which is the fold of its entries
 pub record IsSettled (s : Scripted) (x : Playing) (e : Account) (told : List LoggedLine) : Type 0 where
   pub end : End
   pub ended : x.end ≡ Some end
-  pub log : IsLogOf x.me s e.memo.agents e.begun told (logged x)
+  pub log : IsLogOf x.me s (steps_first e.memo.agents) e.memo.agents e.begun told (logged x)
   pub unspent : AreUnspent x.entries
   pub fold : IsFold x.entries e.memo
   pub table : is_loose e.memo.part ≡ false
@@ -186,6 +186,7 @@ pub record IsSettled (s : Scripted) (x : Playing) (e : Account) (told : List Log
 -- So many agents began and died, each after the word steps of its life, and none acts. What was running is told once the next one begins; none comes where the lives are spent
 pub record IsFallen (s : Scripted) (x : Playing) (e : Account) : Type 0 where
   pub settled : IsSettled s x e (told_left true e)
+  pub lived : steps_first e.memo.agents ≡ slice_index (lives_of s.life) 0
   pub many : length e.memo.agents ≡ x.agent
   pub some : 0 < x.agent
   pub fell : fell_by (last_agent e.memo.agents) ≡ true
@@ -196,6 +197,7 @@ pub record IsFallen (s : Scripted) (x : Playing) (e : Account) : Type 0 where
 pub record IsMending (s : Scripted) (x : Playing) (e : Account) : Type 0 where
   pub here : x.standing ≡ AtWork
   pub settled : IsSettled s x e e.told
+  pub lived : steps_first e.memo.agents ≡ slice_index (lives_of s.life) 0
   pub before : List Agent
   pub steps : ℕ
   pub agents : e.memo.agents ≡ before ++ record { kind = Recoverer; steps = steps; fate = Acts } ∷ []
@@ -223,6 +225,7 @@ pub record IsMending (s : Scripted) (x : Playing) (e : Account) : Type 0 where
 pub record IsMended (s : Scripted) (x : Playing) (e : Account) : Type 0 where
   pub recovered : x.standing ≡ Gone
   pub settled : IsSettled s x e e.told
+  pub lived : steps_first e.memo.agents ≡ slice_index (lives_of s.life) 0
   pub before : List Agent
   pub steps : ℕ
   pub agents : e.memo.agents ≡ before ++ record { kind = Recoverer; steps = steps; fate = Ended } ∷ []

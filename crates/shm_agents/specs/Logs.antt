@@ -76,6 +76,11 @@ pub data Was (me : Me) (lines : List Line) (begun : ℕ) (behind : List LoggedLi
 abbrev pub BeganWith : List Agent → ℕ → Fate → Type 0
 BeganWith agents n f = (others : List Agent) × (agents ≡ record { kind = Client; steps = n; fate = f } ∷ others)
 
+-- how many word steps the first agent made
+abbrev pub steps_first : List Agent → ℕ
+steps_first [] = 0
+steps_first (a ∷ agents) = a.steps
+
 -- how many pieces of work the first agent began
 abbrev pub begun_first : List (List (List ℕ)) → ℕ
 begun_first [] = 0
@@ -83,13 +88,13 @@ begun_first (lines ∷ agents) = length lines
 
 -- ---- logs
 
--- how the client of a script ended: it left when all commands were finished; or it died, after the word steps of its life, with so many finished
-abbrev pub HasEnd : Me → Scripted → List Agent → List (List (List ℕ)) → List LoggedLine → List Entry → List Entry → End → Type 0
-HasEnd me s agents begun behind finished entries Ended = (entries ≡ finished) × (length finished ≡ length s.lines) × ((n : ℕ) × BeganWith agents n fate.Ended)
-HasEnd me s agents begun behind finished entries (Died n done) = (n ≡ length finished) × BeganWith agents (slice_index (lives_of s.life) 0) fate.Died × Was me s.lines (begun_first begun) behind finished entries done
+-- how the client of a script ended that has so many word steps: it left when all commands were finished; or it died, after these word steps, with so many finished
+abbrev pub HasEnd : Me → Scripted → ℕ → List Agent → List (List (List ℕ)) → List LoggedLine → List Entry → List Entry → End → Type 0
+HasEnd me s life agents begun behind finished entries Ended = (entries ≡ finished) × (length finished ≡ length s.lines) × ((n : ℕ) × BeganWith agents n fate.Ended)
+HasEnd me s life agents begun behind finished entries (Died n done) = (n ≡ length finished) × BeganWith agents life fate.Died × Was me s.lines (begun_first begun) behind finished entries done
 
--- The log of the client of a script, by the agents of its identity, the lines that they began and what was told: its entries are the first commands of the script, in order, the finished ones as they were told behind its join
-pub record IsLogOf (me : Me) (s : Scripted) (agents : List Agent) (begun : List (List (List ℕ))) (told : List LoggedLine) (l : Logged) : Type 0 where
+-- The log of the client of a script that has so many word steps, by the agents of its identity, the lines that they began and what was told: its entries are the first commands of the script, in order, the finished ones as they were told behind its join
+pub record IsLogOf (me : Me) (s : Scripted) (life : ℕ) (agents : List Agent) (begun : List (List (List ℕ))) (told : List LoggedLine) (l : Logged) : Type 0 where
   pub client : l.client ≡ s.client
   pub lines : map (λ (e : Entry). e.line) l.entries ≡ take (length l.entries) s.lines
   pub join : LoggedLine
@@ -97,11 +102,11 @@ pub record IsLogOf (me : Me) (s : Scripted) (agents : List Agent) (begun : List 
   pub is : told ≡ join ∷ behind
   pub finished : List Entry
   pub entries : AreEntries me behind finished
-  pub end : HasEnd me s agents begun behind finished l.entries l.end
+  pub end : HasEnd me s life agents begun behind finished l.entries l.end
 
--- the log of the client of a script, by what the pool accounts for of its identity
+-- the log of the client of a script, whose word steps are those of its life, by what the pool accounts for of its identity
 abbrev pub IsLog : Pool → Scripted → Logged → Type 0
-IsLog p s l = let e = account_at p.accounts s.client in IsLogOf (member p.start.geometry s.client) s e.memo.agents e.begun e.told l
+IsLog p s l = let e = account_at p.accounts s.client in IsLogOf (member p.start.geometry s.client) s (slice_index (lives_of s.life) 0) e.memo.agents e.begun e.told l
 
 -- a log for each script, in the order of the scripts
 abbrev pub AreLogs : Pool → List Scripted → List Logged → Type 0

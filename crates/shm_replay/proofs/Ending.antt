@@ -1,6 +1,6 @@
 -- how the agents of a script stand where none of them has anything left to do
-use Rattle.std.proofs.Common.{◌≡◌, ◌≢◌, ℕ, ◌+◌, ◌^◌, ◌≤◌, false, List, [], ◌∷◌, length, refl, sym, ap, ◌∙◌, subst, arith, inl, inr}
-use Rattle.std.specs.Prelude.{◌⊎◌, Option, Some, None, slice_get, sum}
+use Rattle.std.proofs.Common.{◌≡◌, ◌≢◌, ℕ, ◌+◌, ◌^◌, ◌≤◌, true, false, List, [], ◌∷◌, length, refl, sym, ap, ◌∙◌, subst, arith, inl, inr}
+use Rattle.std.specs.Prelude.{◌⊎◌, Option, Some, None, slice_get, slice_index, sum}
 use Rattle.std.proofs.lemmas.Bool.{true≢false}
 use Rattle.std.proofs.lemmas.List.{length-map, take_all}
 use Rattle.std.proofs.lemmas.List.Sums.{sum_by-cons, sum_by-take-le}
@@ -8,6 +8,7 @@ use Rattle.shm_graph.specs.declared.memo.Agent.{Agent}
 use Rattle.shm_graph.specs.declared.memo.Fate.TheVariants as fate
 use Rattle.shm_graph.specs.declared.memo.Kind.TheVariants.{Recoverer}
 use Rattle.shm_graph.specs.declared.run.Account.{Account}
+use Rattle.shm_graph.specs.declared.run.LoggedLine.{LoggedLine}
 use Rattle.shm_graph.specs.declared.run.Start.{Start}
 use Rattle.shm_graph.specs.Agents.{acts_by, last_agent, steps_made, steps_of}
 use Rattle.shm_graph.specs.Held.{is_loose}
@@ -21,8 +22,8 @@ use Rattle.shm_script.specs.Ranges.{ScriptFits}
 use Rattle.shm_script.specs.Values.{Scripted, Traced}
 use Rattle.shm_agents.specs.declared.agents.Standing.{Standing}
 use Rattle.shm_agents.specs.declared.agents.Standing.TheVariants.{AtWork, Dead}
-use Rattle.shm_agents.specs.Agents.{Fallen, Fresh, HasParted, IsFallen, IsFold, IsMended, Mended, Mending, Parted, Playing, Plays, Stage, end_or, is_at_work, logged}
-use Rattle.shm_agents.specs.Logs.{AreUnspent, HasEnd, IsLogOf}
+use Rattle.shm_agents.specs.Agents.{Fallen, Fresh, HasParted, IsFallen, IsFold, IsMended, IsSettled, Mended, Mending, Parted, Playing, Plays, Stage, end_or, is_at_work, logged}
+use Rattle.shm_agents.specs.Logs.{AreUnspent, HasEnd, IsLogOf, steps_first}
 use Rattle.shm_agents.specs.Turns.{lives_of}
 use Rattle.shm_agents.proofs.Mending.{few_lives}
 use Rattle.shm_replay.specs.Closings.{MayVisit, is_dead, is_standing_dead}
@@ -88,7 +89,10 @@ over_may n s x e fits h = may_over s x e (few_lives s.life fits.sum) h
 -- ---- the log, and the map
 
 module _ (s : Scripted) (x : Playing) (e : Account) (client : s.client ≡ x.me.who) where
-  log_parted : HasParted s x e → IsLogOf x.me s e.memo.agents e.begun e.told (logged x)
+  abbrev life : ℕ
+  life = slice_index (lives_of s.life) 0
+
+  log_parted : HasParted s x e → IsLogOf x.me s life e.memo.agents e.begun e.told (logged x)
   log_parted p =
       let long : length x.entries ≡ length s.lines = sym (length-map x.entries (λ (y : Entry). y.line)) ∙ ap (λ (ls : List Line). length ls) p.commands in
       record {
@@ -99,13 +103,17 @@ module _ (s : Scripted) (x : Playing) (e : Account) (client : s.client ≡ x.me.
         is = p.told.is;
         finished = x.entries;
         entries = p.told.entries;
-        end = subst (λ (o : Option End). HasEnd x.me s e.memo.agents e.begun p.told.behind x.entries x.entries (end_or o)) (sym p.end) (refl, long, (p.steps, ([], p.agents)));
+        end = subst (λ (o : Option End). HasEnd x.me s life e.memo.agents e.begun p.told.behind x.entries x.entries (end_or o)) (sym p.end) (refl, long, (p.steps, ([], p.agents)));
       }
 
-  pub over_log : IsOver s x e → IsLogOf x.me s e.memo.agents e.begun (told_left (is_standing_dead x.standing) e) (logged x)
-  over_log (inl p) = subst (λ (st : Standing). IsLogOf x.me s e.memo.agents e.begun (told_left (is_standing_dead st) e) (logged x)) (sym p.left) (log_parted p)
-  over_log (inr (inl p)) = subst (λ (st : Standing). IsLogOf x.me s e.memo.agents e.begun (told_left (is_standing_dead st) e) (logged x)) (sym p.recovered) p.settled.log
-  over_log (inr (inr (dead, f))) = subst (λ (st : Standing). IsLogOf x.me s e.memo.agents e.begun (told_left (is_standing_dead st) e) (logged x)) (sym dead) f.settled.log
+  -- the word steps that the dead client made are those of its life
+  log_lived : (told : List LoggedLine) → steps_first e.memo.agents ≡ life → IsSettled s x e told → IsLogOf x.me s life e.memo.agents e.begun told (logged x)
+  log_lived told lived h = subst (λ (n : ℕ). IsLogOf x.me s n e.memo.agents e.begun told (logged x)) lived h.log
+
+  pub over_log : IsOver s x e → IsLogOf x.me s life e.memo.agents e.begun (told_left (is_standing_dead x.standing) e) (logged x)
+  over_log (inl p) = subst (λ (st : Standing). IsLogOf x.me s life e.memo.agents e.begun (told_left (is_standing_dead st) e) (logged x)) (sym p.left) (log_parted p)
+  over_log (inr (inl p)) = subst (λ (st : Standing). IsLogOf x.me s life e.memo.agents e.begun (told_left (is_standing_dead st) e) (logged x)) (sym p.recovered) (log_lived e.told p.lived p.settled)
+  over_log (inr (inr (dead, f))) = subst (λ (st : Standing). IsLogOf x.me s life e.memo.agents e.begun (told_left (is_standing_dead st) e) (logged x)) (sym dead) (log_lived (told_left true e) f.lived f.settled)
 
 pub over_fold : (s : Scripted) (x : Playing) (e : Account) → IsOver s x e → IsFold x.entries e.memo
 over_fold s x e (inl p) = p.fold

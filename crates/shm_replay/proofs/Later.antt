@@ -1,6 +1,5 @@
 -- the log of a client that has ended or died, as its identity goes on
 use Rattle.std.proofs.Common.{◌≡◌, ℕ, zero, suc, Bool, true, false, List, [], ◌∷◌, ◌++◌, length, refl, sym, ap, ◌∙◌, subst, arith}
-use Rattle.std.specs.Prelude.{slice_index}
 use Rattle.shm_words.specs.declared.geometry.Geometry.{Geometry}
 use Rattle.shm_graph.specs.declared.ask.Me.{Me}
 use Rattle.shm_graph.specs.declared.memo.Agent.{Agent}
@@ -24,7 +23,6 @@ use Rattle.shm_script.specs.Logged.{Logged}
 use Rattle.shm_script.specs.Values.{Scripted}
 use Rattle.shm_agents.specs.Logs.{BeganWith, HasEnd, IsLogOf, Was, begun_first}
 use Rattle.shm_agents.specs.Logs.Was.{Between, InCommand, InLeaving}
-use Rattle.shm_agents.specs.Turns.{lives_of}
 use Rattle.shm_agents.proofs.Growing.{get_more}
 use Rattle.shm_agents.proofs.Trails.{entries_rest}
 use Rattle.shm_replay.specs.Closings.{AreVisits, IsRecovery, IsVisit, IsWhole}
@@ -96,14 +94,14 @@ module _ (e f : Account) (even : AreEven e) (stays : FirstStays e f) where
       let later = stays a b still first in
       ((later.others, later.agents), ap begun_first later.begun ∙ sym (ap begun_first first.begun))
 
-  end_later : (me : Me) (s : Scripted) (behind more : List LoggedLine) (finished entries : List Entry) (end : End) → HasEnd me s e.memo.agents e.begun behind finished entries end → HasEnd me s f.memo.agents f.begun (behind ++ more) finished entries end
-  end_later me s behind more finished entries Ended (same, all, (n, began)) = (same, all, (n, (began_later n fate.Ended refl began).0))
-  end_later me s behind more finished entries (Died n done) (many, began, was) =
-      let (later, same) = began_later (slice_index (lives_of s.life) 0) fate.Died refl began in
+  end_later : (me : Me) (s : Scripted) (life : ℕ) (behind more : List LoggedLine) (finished entries : List Entry) (end : End) → HasEnd me s life e.memo.agents e.begun behind finished entries end → HasEnd me s life f.memo.agents f.begun (behind ++ more) finished entries end
+  end_later me s life behind more finished entries Ended (same, all, (n, began)) = (same, all, (n, (began_later n fate.Ended refl began).0))
+  end_later me s life behind more finished entries (Died n done) (many, began, was) =
+      let (later, same) = began_later life fate.Died refl began in
       (many, later, was_later me s.lines (begun_first e.begun) (begun_first f.begun) behind more finished entries done same was)
 
-  pub log_later : (me : Me) (s : Scripted) (told : List LoggedLine) (l : Logged) → Grows told f.told → IsLogOf me s e.memo.agents e.begun told l → IsLogOf me s f.memo.agents f.begun f.told l
-  log_later me s told l (more, grew) h =
+  pub log_later : (me : Me) (s : Scripted) (life : ℕ) (told : List LoggedLine) (l : Logged) → Grows told f.told → IsLogOf me s life e.memo.agents e.begun told l → IsLogOf me s life f.memo.agents f.begun f.told l
+  log_later me s life told l (more, grew) h =
       record {
         client = h.client;
         lines = h.lines;
@@ -112,7 +110,7 @@ module _ (e f : Account) (even : AreEven e) (stays : FirstStays e f) where
         is = grew ∙ ap (λ (xs : List LoggedLine). xs ++ more) h.is;
         finished = h.finished;
         entries = entries_rest me h.behind more h.finished h.entries;
-        end = end_later me s h.behind more h.finished l.entries l.end h.end;
+        end = end_later me s life h.behind more h.finished l.entries l.end h.end;
       }
 
 -- turns leave the first agent that has ended or died

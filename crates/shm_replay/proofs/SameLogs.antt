@@ -1,7 +1,7 @@
 -- the logs of a pool are determined
 use Rattle.std.proofs.Common.{◌≡◌, ℕ, zero, suc, ◌+◌, ◌<◌, ◌⊎◌, Bool, true, false, List, [], ◌∷◌, ◌++◌, length, map, take, refl, sym, ap, ◌∙◌, subst, arith, inl, inr}
 use Rattle.std.proofs.lemmas.Bool.{false≢true}
-use Rattle.std.specs.Prelude.{Option, Some, None, slice_get}
+use Rattle.std.specs.Prelude.{Option, Some, None, slice_get, slice_index}
 use Rattle.std.specs.Option.{is_some}
 use Rattle.shm_graph.specs.declared.ask.Me.{Me}
 use Rattle.shm_graph.specs.declared.memo.Agent.{Agent}
@@ -19,6 +19,7 @@ use Rattle.shm_script.specs.Values.{Scripted}
 use Rattle.shm_table.specs.Command.{command_control, command_of}
 use Rattle.shm_agents.specs.Logs.{AreEntries, AreLogs, HasEnd, IsLogOf, Was, answer_along, begun_first, effect_along, with_effect}
 use Rattle.shm_agents.specs.Logs.Was.{Between, InCommand, InLeaving}
+use Rattle.shm_agents.specs.Turns.{lives_of}
 
 -- ---- entries
 
@@ -121,11 +122,11 @@ abbrev died_first : List Agent → Bool
 died_first [] = false
 died_first (a ∷ others) = is_dead a.fate
 
-module _ (me : Me) (s : Scripted) (agents : List Agent) (begun : List (List (List ℕ))) (behind : List LoggedLine) where
+module _ (me : Me) (s : Scripted) (life : ℕ) (agents : List Agent) (begun : List (List (List ℕ))) (behind : List LoggedLine) where
   first_many : (fs gs : List Entry) → lines_of fs ≡ take (length fs) s.lines → lines_of gs ≡ take (length gs) s.lines → AreEntries me behind fs → AreEntries me behind gs → length fs ≡ length gs → fs ≡ gs
   first_many fs gs e f a b n = entries_same me behind fs gs a b (e ∙ (ap (λ k. take k s.lines) n ∙ sym f))
 
-  end_same : (fs gs es ds : List Entry) (x y : End) → HasEnd me s agents begun behind fs es x → HasEnd me s agents begun behind gs ds y → AreEntries me behind fs → AreEntries me behind gs
+  end_same : (fs gs es ds : List Entry) (x y : End) → HasEnd me s life agents begun behind fs es x → HasEnd me s life agents begun behind gs ds y → AreEntries me behind fs → AreEntries me behind gs
       → lines_of es ≡ take (length es) s.lines → lines_of ds ≡ take (length ds) s.lines → (es ≡ ds) × (x ≡ y)
   end_same fs gs es ds Ended Ended h k a b e f =
       let e2 = subst (λ (zs : List Entry). lines_of zs ≡ take (length zs) s.lines) h.0 e in
@@ -143,12 +144,12 @@ module _ (me : Me) (s : Scripted) (agents : List Agent) (begun : List (List (Lis
 abbrev logged : ℕ → List Entry → End → Logged
 logged c es x = record { client = c; entries = es; end = x }
 
-log_same : (me : Me) (s : Scripted) (agents : List Agent) (begun : List (List (List ℕ))) (told : List LoggedLine) (l m : Logged) → IsLogOf me s agents begun told l → IsLogOf me s agents begun told m → l ≡ m
-log_same me s agents begun told l m a b =
+log_same : (me : Me) (s : Scripted) (life : ℕ) (agents : List Agent) (begun : List (List (List ℕ))) (told : List LoggedLine) (l m : Logged) → IsLogOf me s life agents begun told l → IsLogOf me s life agents begun told m → l ≡ m
+log_same me s life agents begun told l m a b =
     let behind : b.behind ≡ a.behind = tail_same b.join a.join b.behind a.behind (sym b.is ∙ a.is) in
     let (es, end) =
-    end_same me s agents begun a.behind a.finished b.finished l.entries m.entries l.end m.end a.end
-    (subst (λ (ts : List LoggedLine). HasEnd me s agents begun ts b.finished m.entries m.end) behind b.end)
+    end_same me s life agents begun a.behind a.finished b.finished l.entries m.entries l.end m.end a.end
+    (subst (λ (ts : List LoggedLine). HasEnd me s life agents begun ts b.finished m.entries m.end) behind b.end)
     a.entries (subst (λ (ts : List LoggedLine). AreEntries me ts b.finished) behind b.entries) a.lines b.lines in
     ap (λ c. logged c l.entries l.end) (a.client ∙ sym b.client) ∙ (ap (λ xs. logged m.client xs l.end) es ∙ ap (λ x. logged m.client m.entries x) end)
 
@@ -159,4 +160,4 @@ logs_same p (s ∷ ss) [] ms a b = absurd a
 logs_same p (s ∷ ss) (l ∷ ls) [] a b = absurd b
 logs_same p (s ∷ ss) (l ∷ ls) (m ∷ ms) a b =
     let e = account_at p.accounts s.client in
-    ap (λ (z : Logged). z ∷ ls) (log_same (member p.start.geometry s.client) s e.memo.agents e.begun e.told l m a.0 b.0) ∙ ap (λ (zs : List Logged). m ∷ zs) (logs_same p ss ls ms a.1 b.1)
+    ap (λ (z : Logged). z ∷ ls) (log_same (member p.start.geometry s.client) s (slice_index (lives_of s.life) 0) e.memo.agents e.begun e.told l m a.0 b.0) ∙ ap (λ (zs : List Logged). m ∷ zs) (logs_same p ss ls ms a.1 b.1)

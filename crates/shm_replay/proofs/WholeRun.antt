@@ -1,6 +1,6 @@
 -- the run of a trace and its closing are a replay
 use Rattle.std.proofs.Common.{◌≡◌, ◌≢◌, ℕ, zero, suc, ◌%◌, ◌<◌, Bool, true, false, eqb, List, [], ◌∷◌, refl, sym, ap, ◌∙◌, subst, arith}
-use Rattle.std.specs.Prelude.{Option, Some, None, slice_get, slice_index_or}
+use Rattle.std.specs.Prelude.{Option, Some, None, slice_get, slice_index, slice_index_or}
 use Rattle.std.specs.FinMap as finmap
 use Rattle.std.specs.Ordering.{nat_cmp}
 use Rattle.std.specs.List.{AllByRecursion}
@@ -24,7 +24,7 @@ use Rattle.shm_script.specs.Ranges.{AreApart, IsTrace, ScriptFits}
 use Rattle.shm_script.specs.Values.{Scripted, Traced}
 use Rattle.shm_agents.specs.Agents.{Playing, logged}
 use Rattle.shm_agents.specs.Logs.{AreUnspent, IsLog, IsLogOf}
-use Rattle.shm_agents.specs.Turns.{script_in}
+use Rattle.shm_agents.specs.Turns.{lives_of, script_in}
 use Rattle.shm_replay.specs.Closings.{AreVisits, HasTold, SameTable, is_dead, is_standing_dead}
 use Rattle.shm_replay.specs.Gathered.{logs_by}
 use Rattle.shm_replay.specs.Orders.{IsGivenAll}
@@ -93,8 +93,8 @@ module _ (t : Traced) (trace : IsTrace t) (q p : Pool) (xs : List (Option Playin
           let e = account_at q.accounts c in
           let f' = account_at p.accounts c in
           let ends = subst (λ (r : Scripted). IsOver r x e) script (over c x h) in
-          let log = log_later e f' (even_run q run c) (led_stays q p c (visits_led 0 t.clients q p run visits)) x.me s (told_left (is_standing_dead x.standing) e) (logged x) (grown c x few f) (over_log s x e (sym who) ends) in
-          (x, f, who, subst (λ (m : Me). IsLogOf m s f'.memo.agents f'.begun f'.told (logged x)) mine log, over_unspent s x e ends)
+          let log = log_later e f' (even_run q run c) (led_stays q p c (visits_led 0 t.clients q p run visits)) x.me s (slice_index (lives_of s.life) 0) (told_left (is_standing_dead x.standing) e) (logged x) (grown c x few f) (over_log s x e (sym who) ends) in
+          (x, f, who, subst (λ (m : Me). IsLogOf m s (slice_index (lives_of s.life) 0) f'.memo.agents f'.begun f'.told (logged x)) mine log, over_unspent s x e ends)
 
   have : (k : ℕ) (s : Scripted) → slice_get t.scripts k ≡ Some s → (x : Playing) × (slice_index_or xs s.client None ≡ Some x) × (x.me.who ≡ s.client)
   have k s e = let (x, at, who, log, room) = client_of k s e in (x, at, who)
