@@ -13,7 +13,8 @@ use Rattle.shm_graph.specs.declared.memo.Agent.{Agent}
 use Rattle.shm_graph.specs.declared.run.Account.{Account}
 use Rattle.shm_graph.specs.Agents.{acts, acts_by, last_agent}
 use Rattle.shm_graph.specs.declared.run.Start.{Start}
-use Rattle.shm_graph.specs.Runs.{Stood, account_died}
+use Rattle.shm_graph.specs.Held.{is_loose}
+use Rattle.shm_graph.specs.Runs.{Stood, account_died, told_left}
 use Rattle.shm_graph.proofs.Memos.MemoSteps.{last-append}
 use Rattle.shm_script.specs.declared.line.Line.{Line}
 use Rattle.shm_script.specs.declared.line.Line.TheVariants.{Del}
@@ -22,11 +23,11 @@ use Rattle.shm_script.specs.Ranges.{IsLife}
 use Rattle.shm_script.specs.Values.{Scripted}
 use Rattle.shm_agents.specs.declared.agents.Standing.{Standing}
 use Rattle.shm_agents.specs.declared.agents.Standing.TheVariants.{AtWork, Dead, Gone}
-use Rattle.shm_agents.specs.Agents.{IsFallen, IsMending, IsPlaying, MayPlay, Playing, Stage, Stands, follows, shown_by}
+use Rattle.shm_agents.specs.Agents.{IsFallen, IsMending, IsPlaying, IsSettled, MayPlay, Playing, Stage, Stands, follows, shown_by}
 use Rattle.shm_agents.specs.Agents.Stage.{Fresh, Plays, Parted, Fallen, Mending, Mended}
 use Rattle.shm_agents.specs.TurnsLeft.{turns_at, turns_by, turns_of}
 use Rattle.shm_agents.specs.Turns.{lives_of}
-use Rattle.shm_agents.proofs.Dying.{CommandMaps, falls_mending, falls_playing, settles, shows_line}
+use Rattle.shm_agents.proofs.Dying.{CommandMaps, falls_mending, falls_playing, mended_settled, playing_settled, settles, shows_line}
 use Rattle.shm_agents.proofs.Loose.{has_table}
 
 -- ---- lives
@@ -102,26 +103,26 @@ module _ (start : Start) (s : Scripted) (x : Playing) (e : Account) (is : IsSpen
   may = is.stands.may
 
   -- the client is at work, or a recoverer
-  stage : IsPlaying s x e ⊎ IsMending s x e
+  stage : IsPlaying s x e ⊎ (IsMending s x e × IsSettled s x e e.told)
   stage = go is.stands.stage
     where
-      go : Stage start s x e → IsPlaying s x e ⊎ IsMending s x e
+      go : Stage start s x e → IsPlaying s x e ⊎ (IsMending s x e × IsSettled s x e e.told)
       go (Fresh h) = absurd (let l = some_life s.life may.script.life 0 x.life.left h.life in let z = is.spent in omega arith)
       go (Plays h) = inl h
       go (Parted h) = absurd (let z : AtWork ≡ Gone = sym is.here ∙ h.left in cc)
-      go (Fallen h) =
+      go (Fallen h l) =
           elim h.next [
             | inl d ↦ absurd (let z : AtWork ≡ Dead = sym is.here ∙ d.0 in cc)
             | inr l ↦ absurd (let k = some_life s.life may.script.life x.agent x.life.left l.1 in let z = is.spent in omega arith)
           ]
-      go (Mending h) = inr h
-      go (Mended h) = absurd (let z : AtWork ≡ Gone = sym is.here ∙ h.recovered in cc)
+      go (Mending h l) = inr (h, l)
+      go (Mended h l) = absurd (let z : AtWork ≡ Gone = sym is.here ∙ h.recovered in cc)
 
   pub acting : acts e.memo ≡ true
   acting =
       elim stage [
         | inl h ↦ ap (λ (xs : List Agent). acts_by (last_agent xs)) h.agents
-        | inr h ↦ ap (λ (xs : List Agent). acts_by (last_agent xs)) h.agents ∙ ap acts_by (last-append h.before _)
+        | inr h ↦ ap (λ (xs : List Agent). acts_by (last_agent xs)) h.0.agents ∙ ap acts_by (last-append h.0.before _)
       ]
 
   -- ---- what needs to be shown on the way
@@ -136,7 +137,7 @@ module _ (start : Start) (s : Scripted) (x : Playing) (e : Account) (is : IsSpen
   agent_fits =
       let a : x.agent < length (lives_of s.life) = elim stage [
         | inl h ↦ subst (λ (k : ℕ). k < length (lives_of s.life)) (sym h.agent) (slice_get_within (lives_of s.life) 0 _ h.life)
-        | inr h ↦ slice_get_within (lives_of s.life) x.agent _ h.life
+        | inr h ↦ slice_get_within (lives_of s.life) x.agent _ h.0.life
       ] in
       let b = long_lives s.life in
       let d = few_agents s.life may.script.life in
@@ -148,7 +149,7 @@ module _ (start : Start) (s : Scripted) (x : Playing) (e : Account) (is : IsSpen
   plays none =
       elim stage [
         | inl h ↦ h
-        | inr h ↦ absurd (let z : Some h.settled.end ≡ None = sym h.settled.ended ∙ none in cc)
+        | inr h ↦ absurd (let z : Some h.1.end ≡ None = sym h.1.ended ∙ none in cc)
       ]
 
   -- the line of the command that it may be in
@@ -221,17 +222,23 @@ module _ (start : Start) (s : Scripted) (x : Playing) (e : Account) (is : IsSpen
           | inr n ↦ ap (λ (z : Playing). z.standing) n.1 ∙ is.here
         ]
 
+    abbrev behind_it : Playing → Playing
+    behind_it z = follows (slice_get (lives_of s.life) (z.agent + 1)) z
+
     abbrev After : Playing → Type 0
-    After z = IsFallen s (follows (slice_get (lives_of s.life) (z.agent + 1)) z) (account_died e)
+    After z = IsFallen s (behind_it z) (account_died e) × IsSettled s (behind_it z) (account_died e) (told_left true (account_died e))
+
+    table : is_loose e.memo.part ≡ false
+    table = has_table start e is.stood may.tables
 
     falls : After y
     falls =
         elim noted [
-          | inl n ↦ subst After (sym n.1) (falls_playing s x e is.spent (plays n.0) may.client (has_table start e is.stood may.tables) maps line (line_at n.0))
-          | inr n ↦ subst After (sym n.1) (falls_mending s x e is.spent (mends n.0))
+          | inl n ↦ subst After (sym n.1) (falls_playing s x e is.spent (plays n.0) may.client table maps line (line_at n.0), playing_settled s x e is.spent (plays n.0) may.client table maps line (line_at n.0))
+          | inr n ↦ subst After (sym n.1) (falls_mending s x e is.spent (mends n.0).0, mended_settled s x e is.spent (mends n.0).0 (mends n.0).1)
         ]
       where
-        mends : is_some x.end ≡ true → IsMending s x e
+        mends : is_some x.end ≡ true → IsMending s x e × IsSettled s x e e.told
         mends some =
             elim stage [
               | inl h ↦ absurd (let z : true ≡ false = sym some ∙ ap (λ (o : Option End). is_some o) h.end in cc)
@@ -251,7 +258,7 @@ module _ (start : Start) (s : Scripted) (x : Playing) (e : Account) (is : IsSpen
           subst (Stands start s z) (sym to)
           (record {
             may = still z last_me (ap (λ (w : Playing). w.room) last ∙ (follows_room next y ∙ noted_room));
-            stage = Fallen (subst (λ (w : Playing). IsFallen s w (account_died e)) (sym last) falls);
+            stage = Fallen (subst (λ (w : Playing). IsFallen s w (account_died e)) (sym last) falls.0) (subst (λ (w : Playing). IsSettled s w (account_died e) (told_left true (account_died e))) (sym last) falls.1);
           })
 
       pub last_fewer : turns_by z (Some s) < turns_by x (Some s)

@@ -56,15 +56,19 @@ CommandMaps = (me : Me) (l : Line) (start : Trail) (r0 r : Memo) (tr : Trail) �
 abbrev pub settles : Line → Playing → Playing
 settles line x = record x { entries = with_effect x.entries line (shown_by x.work); end = Some (Died (length x.entries) (is_some (shown_by x.work))) }
 
+-- what is settled of the log stays where the next one comes
+settled_by : (s : Scripted) (y : Playing) (e : Account) (told : List LoggedLine) (o : Option ℕ) → IsSettled s y e told → IsSettled s (follows o y) e told
+settled_by s y e told None h = record { end = h.end; ended = h.ended; log = h.log; unspent = h.unspent; fold = h.fold; table = h.table }
+settled_by s y e told (Some n) h = record { end = h.end; ended = h.ended; log = h.log; unspent = h.unspent; fold = h.fold; table = h.table }
+
 -- so many agents have fallen once the last one has
-fallen_by : (s : Scripted) (y : Playing) (e : Account) → y.standing ≡ AtWork → IsSettled s y e (told_left true e) → steps_first e.memo.agents ≡ slice_index (lives_of s.life) 0 → length e.memo.agents ≡ y.agent + 1 → fell_by (last_agent e.memo.agents) ≡ true → steps_made e.memo ≡ sum (take (y.agent + 1) (lives_of s.life))
+fallen_by : (s : Scripted) (y : Playing) (e : Account) → y.standing ≡ AtWork → steps_first e.memo.agents ≡ slice_index (lives_of s.life) 0 → length e.memo.agents ≡ y.agent + 1 → fell_by (last_agent e.memo.agents) ≡ true → steps_made e.memo ≡ sum (take (y.agent + 1) (lives_of s.life))
     → IsFallen s (follows (slice_get (lives_of s.life) (y.agent + 1)) y) e
-fallen_by s y e here settled lived many fell made = go (slice_get (lives_of s.life) (y.agent + 1)) refl
+fallen_by s y e here lived many fell made = go (slice_get (lives_of s.life) (y.agent + 1)) refl
   where
     go : (o : Option ℕ) → slice_get (lives_of s.life) (y.agent + 1) ≡ o → IsFallen s (follows o y) e
     go None none =
         record {
-          settled = record { end = settled.end; ended = settled.ended; log = settled.log; unspent = settled.unspent; fold = settled.fold; table = settled.table };
           lived = lived;
           many = many;
           some = omega arith;
@@ -74,7 +78,6 @@ fallen_by s y e here settled lived many fell made = go (slice_get (lives_of s.li
         }
     go (Some n) at =
         record {
-          settled = record { end = settled.end; ended = settled.ended; log = settled.log; unspent = settled.unspent; fold = settled.fold; table = settled.table };
           lived = lived;
           many = many;
           some = omega arith;
@@ -114,21 +117,22 @@ module _ (s : Scripted) (x : Playing) (e : Account) (spent : x.life.left ≡ 0) 
         let some : 0 < length h.before = (let m = h.many in let o = h.some in omega arith) in
         ap steps_first mended_agents ∙ (first_steps h.before (fallen it ∷ []) some ∙ sym (ap steps_first h.agents ∙ first_steps h.before (it ∷ []) some))
 
-    mended_settled : IsSettled s x e2 told
-    mended_settled =
+    pub mended_settled : IsSettled s x e e.told → IsSettled s (follows next x) e2 told
+    mended_settled l =
         let rest = told_rest e.running e.memo.call false e.told in
-        record {
-          end = h.settled.end;
-          ended = h.settled.ended;
-          log = log_on x.me s (steps_first e.memo.agents) (steps_first e2.memo.agents) mended_made e.memo.agents e2.memo.agents e.begun e.begun e.told told (logged x) mended_began (λ k some same. same) rest.0 rest.1 h.settled.log;
-          unspent = h.settled.unspent;
-          fold = h.settled.fold;
-          table = h.settled.table;
-        }
+        settled_by s x e2 told next
+        (record {
+          end = l.end;
+          ended = l.ended;
+          log = log_on x.me s (steps_first e.memo.agents) (steps_first e2.memo.agents) mended_made e.memo.agents e2.memo.agents e.begun e.begun e.told told (logged x) mended_began (λ k some same. same) rest.0 rest.1 l.log;
+          unspent = l.unspent;
+          fold = l.fold;
+          table = l.table;
+        })
 
     pub falls_mending : IsFallen s (follows next x) e2
     falls_mending =
-        fallen_by s x e2 h.here mended_settled (mended_made ∙ h.lived)
+        fallen_by s x e2 h.here (mended_made ∙ h.lived)
         (ap (λ (xs : List Agent). length xs) mended_agents ∙ (length-append h.before (fallen it ∷ []) ∙ ap (λ (n : ℕ). n + 1) h.many))
         (ap (λ (xs : List Agent). fell_by (last_agent xs)) mended_agents ∙ ap fell_by (last-append h.before (fallen it)))
         (let a = ap steps_of mended_agents in let b = steps_of-end h.before (fallen it) in let m = h.made in let l = sum_more (lives_of s.life) x.agent _ h.life in omega arith)
@@ -325,7 +329,7 @@ module _ (s : Scripted) (x : Playing) (e : Account) (spent : x.life.left ≡ 0) 
 
       pub falls_playing : IsFallen s (follows next (settles line x)) e2
       falls_playing =
-          fallen_by s (settles line x) e2 h.here (dies (slice_get s.lines many) refl) (made ∙ sym lived)
+          fallen_by s (settles line x) e2 h.here (made ∙ sym lived)
           (ap (λ (xs : List Agent). length xs) agents ∙ ap (λ (n : ℕ). n + 1) (sym h.agent))
           (ap (λ (xs : List Agent). fell_by (last_agent xs)) agents)
           (let a = ap steps_of agents in
@@ -335,3 +339,6 @@ module _ (s : Scripted) (x : Playing) (e : Account) (spent : x.life.left ≡ 0) 
           let k : sum (take (0 + 1) (lives_of s.life)) ≡ sum (take (x.agent + 1) (lives_of s.life)) = ap (λ (i : ℕ). sum (take (i + 1) (lives_of s.life))) (sym h.agent) in
           let none : sum (take 0 (lives_of s.life)) ≡ 0 = refl in
           omega arith)
+
+      pub playing_settled : IsSettled s (follows next (settles line x)) e2 told
+      playing_settled = settled_by s (settles line x) e2 told next (dies (slice_get s.lines many) refl)

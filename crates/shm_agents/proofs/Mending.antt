@@ -148,25 +148,24 @@ module _ (start : Start) (s : Scripted) (x : Playing) (e : Account) (may : MayPl
       first_same : SameTable e1.memo e_first.memo
       first_same = mending_table x.me e_first.memo.call first_work first_course first_goes e1.memo e_first.memo (call_before (work_control.fresh first_work) e_first.memo.call) fit
 
-      first_settled : IsSettled s (record x { work = first_work; life = life }) e_first e_first.told
-      first_settled =
+      pub first_settled : IsSettled s x e (told_left true e) → IsSettled s (record x { work = first_work; life = life }) e_first e_first.told
+      first_settled l =
           record {
-            end = h.settled.end;
-            ended = h.settled.ended;
+            end = l.end;
+            ended = l.ended;
             log = log_on x.me s (steps_first e.memo.agents) (steps_first e_first.memo.agents) first_made e.memo.agents e_first.memo.agents e.begun e_first.begun (told_left true e) e_first.told (logged x)
                 (λ n f b. subst (λ (xs : List Agent). BeganWith xs n f) (sym agents_first) (began_more e.memo.agents (record { kind = Recoverer; steps = 1; fate = fate.Acts } ∷ []) n f b))
                 (λ k some is. subst (λ (bs : List (List (List ℕ))). begun_first bs ≡ k) (sym first_lines) (first_more e.begun ((t.line ∷ []) ∷ []) k some is))
-                [] (first_told ∙ sym (append-nil (told_left true e))) h.settled.log;
-            unspent = h.settled.unspent;
-            fold = λ key. ap (λ f. f key) first_same.0 ∙ h.settled.fold key;
-            table = first_same.1 ∙ h.settled.table;
+                [] (first_told ∙ sym (append-nil (told_left true e))) l.log;
+            unspent = l.unspent;
+            fold = λ key. ap (λ f. f key) first_same.0 ∙ l.fold key;
+            table = first_same.1 ∙ l.table;
           }
 
       pub mend_first : IsMending s (record x { work = first_work; life = life }) e_first
       mend_first =
           record {
             here = here;
-            settled = first_settled;
             lived = first_made ∙ h.lived;
             before = e.memo.agents;
             steps = 1;
@@ -177,8 +176,6 @@ module _ (start : Start) (s : Scripted) (x : Playing) (e : Account) (may : MayPl
             made = h.made;
             start = e1.memo;
             recoverer = recovers-entered Recoverer e.memo;
-            fold = h.settled.fold;
-            table = h.settled.table;
             me = first_stays.same_me ∙ ap (λ (z : Work). work_control.me z) comes.1;
             going = first_goes;
             old = first_stays.started;
@@ -250,6 +247,10 @@ module _ (s : Scripted) (x : Playing) (e : Account) (h : IsMending s x e) (n : �
       ap (λ (b : Bool). after_all work_control (recovering x.me) (call_before b e.memo.call ++ pair again.ask n ∷ [])) h.old
       ∙ (after_all-append work_control (recovering x.me) e.memo.call (pair again.ask n) ∙ ap (λ (z : Work). work_control.after z n) h.course)
 
+  -- the map is as it was where it began its recovery
+  same_here : SameTable h.start e.memo
+  same_here = mending_table x.me e.memo.call x.work h.course h.going h.start e.memo (call_before (work_control.fresh x.work) e.memo.call) h.fits
+
   -- ---- it goes on
 
   module _ (none : work_control.turns x.work n ≡ None) (fit : fits_now work_control WorkFits next h.start e2.memo) where
@@ -265,22 +266,21 @@ module _ (s : Scripted) (x : Playing) (e : Account) (h : IsMending s x e) (n : �
     same : SameTable h.start e2.memo
     same = mending_table x.me e2.memo.call next course goes h.start e2.memo (call_before (work_control.fresh next) e2.memo.call) fit
 
-    settled : IsSettled s (record x { work = next; life = life }) e2 e2.told
-    settled =
+    pub more_settled : IsSettled s x e e.told → IsSettled s (record x { work = next; life = life }) e2 e2.told
+    more_settled l =
         record {
-          end = h.settled.end;
-          ended = h.settled.ended;
-          log = log_on x.me s (steps_first e.memo.agents) (steps_first e2.memo.agents) (first_made_by (stepped it) agents) e.memo.agents e2.memo.agents e.begun e2.begun e.told e2.told (logged x) (first_agent (stepped it) agents) begun_first_same [] (told ∙ sym (append-nil e.told)) h.settled.log;
-          unspent = h.settled.unspent;
-          fold = λ key. ap (λ f. f key) same.0 ∙ h.fold key;
-          table = same.1 ∙ h.table;
+          end = l.end;
+          ended = l.ended;
+          log = log_on x.me s (steps_first e.memo.agents) (steps_first e2.memo.agents) (first_made_by (stepped it) agents) e.memo.agents e2.memo.agents e.begun e2.begun e.told e2.told (logged x) (first_agent (stepped it) agents) begun_first_same [] (told ∙ sym (append-nil e.told)) l.log;
+          unspent = l.unspent;
+          fold = λ key. ap (λ f. f key) same.0 ∙ (ap (λ f. f key) (sym same_here.0) ∙ l.fold key);
+          table = same.1 ∙ (sym same_here.1 ∙ l.table);
         }
 
     pub mend_more : IsMending s (record x { work = next; life = life }) e2
     mend_more =
         record {
           here = h.here;
-          settled = settled;
           lived = first_made_by (stepped it) agents ∙ h.lived;
           before = h.before;
           steps = h.steps + 1;
@@ -291,8 +291,6 @@ module _ (s : Scripted) (x : Playing) (e : Account) (h : IsMending s x e) (n : �
           made = h.made;
           start = h.start;
           recoverer = h.recoverer;
-          fold = h.fold;
-          table = h.table;
           me = stays.same_me ∙ h.me;
           going = goes;
           old = stays.started;
@@ -371,14 +369,6 @@ module _ (s : Scripted) (x : Playing) (e : Account) (h : IsMending s x e) (n : �
         recovered.1 ∙ ap (λ (r : Result (Unit {0}) EraSpent). First (Second r)) is_done,
         λ w. record {
           recovered = refl;
-          settled = record {
-            end = h.settled.end;
-            ended = h.settled.ended;
-            log = log_on x.me s (steps_first e.memo.agents) (steps_first e2.memo.agents) (first_made_by (ended (stepped it)) last_agents) e.memo.agents e2.memo.agents e.begun e2.begun e.told e2.told (logged x) (first_agent (ended (stepped it)) last_agents) begun_first_same told_last.0 told_last.1 h.settled.log;
-            unspent = h.settled.unspent;
-            fold = λ key. ap (λ f. f key) left.leaves.map ∙ h.fold key;
-            table = left.leaves.loose ∙ h.table;
-          };
           lived = first_made_by (ended (stepped it)) last_agents ∙ h.lived;
           before = h.before;
           steps = h.steps + 1;
@@ -389,3 +379,14 @@ module _ (s : Scripted) (x : Playing) (e : Account) (h : IsMending s x e) (n : �
           done = over;
         },
       )
+
+      pub done_settled : (w : Work) → IsSettled s x e e.told → IsSettled s (record x { work = w; life = life; standing = Gone }) e2 e2.told
+      done_settled w l =
+          record {
+            end = l.end;
+            ended = l.ended;
+            log = log_on x.me s (steps_first e.memo.agents) (steps_first e2.memo.agents) (first_made_by (ended (stepped it)) last_agents) e.memo.agents e2.memo.agents e.begun e2.begun e.told e2.told (logged x) (first_agent (ended (stepped it)) last_agents) begun_first_same told_last.0 told_last.1 l.log;
+            unspent = l.unspent;
+            fold = λ key. ap (λ f. f key) left.leaves.map ∙ (ap (λ f. f key) (sym same_here.0) ∙ l.fold key);
+            table = left.leaves.loose ∙ (sym same_here.1 ∙ l.table);
+          }

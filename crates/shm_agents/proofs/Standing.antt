@@ -261,9 +261,9 @@ stands_now start s x e h here = go h.stage
     go (Fresh f) = fresh_now start s x e f
     go (Plays p) = playing_now s x e p
     go (Parted p) = absurd (let left = p.left in cc)
-    go (Mended p) = absurd (let gone = p.recovered in cc)
-    go (Mending p) = mending_now s x e p
-    go (Fallen f) = fallen_here s x e f here f.next
+    go (Mended p l) = absurd (let gone = p.recovered in cc)
+    go (Mending p l) = mending_now s x e p
+    go (Fallen f l) = fallen_here s x e f here f.next
 
 -- ---- agents of which none does
 
@@ -278,12 +278,12 @@ stands_still start s x e h rest = go h.stage
     go : Stage start s x e → next_by x.me s e ≡ None
     go (Fresh f) = absurd (rest f.here)
     go (Plays p) = absurd (rest p.here)
-    go (Mending p) = absurd (rest p.here)
+    go (Mending p l) = absurd (rest p.here)
     go (Parted p) = ended_next s x e (record { kind = Client; steps = p.steps; fate = Ended }) (ap last_agent p.agents) refl
-    go (Mended p) =
+    go (Mended p l) =
         let a : Agent = record { kind = Recoverer; steps = p.steps; fate = Ended } in
         ended_next s x e a (ap last_agent p.agents ∙ last-append p.before a) refl
-    go (Fallen f) = fallen_still s x e f rest f.next
+    go (Fallen f l) = fallen_still s x e f rest f.next
 
 -- ---- the client
 
@@ -295,9 +295,9 @@ client_stage start s x e h here client = go h.stage
     go (Fresh f) = inl f
     go (Plays p) = inr p
     go (Parted p) = absurd (let left = p.left in cc)
-    go (Mended p) = absurd (let gone = p.recovered in cc)
-    go (Mending p) = absurd (let some = p.some in omega arith)
-    go (Fallen p) = absurd (let some = p.some in omega arith)
+    go (Mended p l) = absurd (let gone = p.recovered in cc)
+    go (Mending p l) = absurd (let some = p.some in omega arith)
+    go (Fallen p l) = absurd (let some = p.some in omega arith)
 
 -- how many of its commands have answered
 pub stands_answered : (start : Start) (s : Scripted) (x : Playing) (e : Account) → Stands start s x e → x.standing ≡ AtWork → x.agent ≡ 0 → answered_of (Some s) e ≡ length x.entries

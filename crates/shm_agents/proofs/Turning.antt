@@ -33,7 +33,7 @@ use Rattle.shm_script.specs.Ranges.{LineFits}
 use Rattle.shm_script.specs.Values.{Scripted}
 use Rattle.shm_agents.specs.declared.agents.Standing.{Standing}
 use Rattle.shm_agents.specs.declared.agents.Standing.TheVariants.{AtWork, Gone}
-use Rattle.shm_agents.specs.Agents.{HasParted, IsFallen, IsFresh, IsMended, IsMending, IsPlaying, MayPlay, Playing, Stage, Stands, behind}
+use Rattle.shm_agents.specs.Agents.{HasParted, IsFallen, IsFresh, IsMended, IsMending, IsPlaying, IsSettled, MayPlay, Playing, Stage, Stands, behind}
 use Rattle.shm_agents.specs.Agents as at
 use Rattle.shm_agents.specs.Work.{Work, WorkAnswer, WorkFits, WorkGives, joining as join_work, recovering, work_control}
 use Rattle.shm_agents.proofs.OwnEras.{own_most}
@@ -99,9 +99,9 @@ module _ (start : Start) (s : Scripted) (x : Playing) (e : Account) where
         go (at.Fresh h) = (ap (λ (z : Work). work_control.me z) h.work ∙ is_me may, may.who, ap (λ (z : Work). work_control.finished z) h.work)
         go (at.Plays h) = (h.me ∙ is_me may, may.who, h.going)
         go (at.Parted h) = not_gone x.standing here h.left
-        go (at.Fallen h) = (ap (λ (z : Work). work_control.me z) (fallen_work h here) ∙ is_me may, may.who, ap (λ (z : Work). work_control.finished z) (fallen_work h here))
-        go (at.Mending h) = (h.me ∙ is_me may, may.who, h.going)
-        go (at.Mended h) = not_gone x.standing here h.recovered
+        go (at.Fallen h l) = (ap (λ (z : Work). work_control.me z) (fallen_work h here) ∙ is_me may, may.who, ap (λ (z : Work). work_control.finished z) (fallen_work h here))
+        go (at.Mending h l) = (h.me ∙ is_me may, may.who, h.going)
+        go (at.Mended h l) = not_gone x.standing here h.recovered
 
     pub may_step : MayWork e
     may_step = go stage
@@ -110,9 +110,9 @@ module _ (start : Start) (s : Scripted) (x : Playing) (e : Account) where
         go (at.Fresh h) = subst MayWork (sym h.account) (λ _. inl (refl, refl))
         go (at.Plays h) = may_acting e (acts_playing h)
         go (at.Parted h) = not_gone x.standing here h.left
-        go (at.Fallen h) = λ _. inr h.fell
-        go (at.Mending h) = may_acting e (acts_mending h)
-        go (at.Mended h) = not_gone x.standing here h.recovered
+        go (at.Fallen h l) = λ _. inr h.fell
+        go (at.Mending h l) = may_acting e (acts_mending h)
+        go (at.Mended h l) = not_gone x.standing here h.recovered
 
     fresh_fits : IsFresh start s x e → fits_now work_control WorkFits (join_work x.me) e1.memo e1.memo
     fresh_fits h =
@@ -134,9 +134,9 @@ module _ (start : Start) (s : Scripted) (x : Playing) (e : Account) where
         go (at.Fresh h) = (e1.memo, subst (λ (z : Work). fits_now work_control WorkFits z e1.memo e1.memo) (sym h.work) (fresh_fits h))
         go (at.Plays h) = (h.start, acting_fits (acts_playing h) h.start h.fits)
         go (at.Parted h) = not_gone x.standing here h.left
-        go (at.Fallen h) = (e1.memo, fallen_fits h)
-        go (at.Mending h) = (h.start, acting_fits (acts_mending h) h.start h.fits)
-        go (at.Mended h) = not_gone x.standing here h.recovered
+        go (at.Fallen h l) = (e1.memo, fallen_fits h)
+        go (at.Mending h l) = (h.start, acting_fits (acts_mending h) h.start h.fits)
+        go (at.Mended h l) = not_gone x.standing here h.recovered
 
     -- ---- after it
 
@@ -212,6 +212,10 @@ module _ (start : Start) (s : Scripted) (x : Playing) (e : Account) where
       stood : (y : Playing) → y.me ≡ x.me → y.room ≡ x.room → Stage start s y last → Stand y
       stood y me room h = record { may = still y me room; stage = h }
 
+      -- what is settled of the log, where the account after it is z
+      settled_at : (y : Playing) (z : Account) → last ≡ z → IsSettled s y z z.told → IsSettled s y last last.told
+      settled_at y z same = subst (λ (a : Account). IsSettled s y a a.told) (sym same)
+
       module _ (h : IsPlaying s x e) where
         -- the account after the step of a client that has joined
         abbrev ep : Account
@@ -243,6 +247,9 @@ module _ (start : Start) (s : Scripted) (x : Playing) (e : Account) where
         mends_done : (a : WorkAnswer) → work_control.turns x.work n ≡ Some a → (a ≡ First (Second (Ok tt))) × ((w : Work) → IsMended s (record x { work = w; life = life; standing = Gone }) em)
         mends_done a some = mending.mend_done s x e h n life spent start may (era_at em mends_after) a some (gave h.start em mends_after mends_fits a some)
 
+        mends_settled : (a : WorkAnswer) → work_control.turns x.work n ≡ Some a → (w : Work) → IsSettled s x e e.told → IsSettled s (record x { work = w; life = life; standing = Gone }) em em.told
+        mends_settled a some = mending.done_settled s x e h n life spent start may (era_at em mends_after) a some (gave h.start em mends_after mends_fits a some)
+
       -- the work goes on
       pub went_on : work_control.turns x.work n ≡ None → Stand (record x { work = next; life = life })
       went_on none = stood y refl refl (go stage)
@@ -254,13 +261,15 @@ module _ (start : Start) (s : Scripted) (x : Playing) (e : Account) where
           go (at.Fresh h) = absurd (let z = sym none ∙ joins h in cc)
           go (at.Plays h) = at.Plays (subst (IsPlaying s y) (sym (plays_after h)) (playing.goes_on s x e h n life spent none (on h.start (ep h) (plays_after h) (plays_fits h) none)))
           go (at.Parted h) = not_gone x.standing here h.left
-          go (at.Fallen h) =
+          go (at.Fallen h l) =
               let ef : Account = account_after (account_entered Recoverer e) t in
               let same : last ≡ ef = after ∙ ap (λ (z : Account). account_after z t) (fallen_ready h) in
               let fit : Fits (account_entered Recoverer e).memo ef = subst (λ (z : Account). Fits z.memo ef) (fallen_ready h) (on e1.memo ef same (fallen_fits h) none) in
-              at.Mending (subst (IsMending s y) (sym same) (mending.mend_first start s x e may h here n life spent fit))
-          go (at.Mending h) = at.Mending (subst (IsMending s y) (sym (mends_after h)) (mending.mend_more s x e h n life spent none (on h.start (em h) (mends_after h) (mends_fits h) none)))
-          go (at.Mended h) = not_gone x.standing here h.recovered
+              at.Mending (subst (IsMending s y) (sym same) (mending.mend_first start s x e may h here n life spent fit)) (settled_at y ef same (mending.first_settled start s x e may h here n life spent fit l))
+          go (at.Mending h l) =
+              let fit : Fits h.start (em h) = on h.start (em h) (mends_after h) (mends_fits h) none in
+              at.Mending (subst (IsMending s y) (sym (mends_after h)) (mending.mend_more s x e h n life spent none fit)) (settled_at y (em h) (mends_after h) (mending.more_settled s x e h n life spent none fit l))
+          go (at.Mended h l) = not_gone x.standing here h.recovered
 
       -- it has joined
       pub began : (a : Unit {0}) → work_control.turns x.work n ≡ Some (First (First a)) → Stand (record x { work = behind x.me s.lines (length x.entries); life = life })
@@ -272,9 +281,9 @@ module _ (start : Start) (s : Scripted) (x : Playing) (e : Account) where
           go : Stage start s x e → Stage start s (y x.entries) last
           go (at.Plays h) = plays_not_join h _ (First a) some
           go (at.Parted h) = not_gone x.standing here h.left
-          go (at.Fallen h) = absurd (let z = sym some ∙ starts h in cc)
-          go (at.Mending h) = absurd (let z = (mends_done h (First (First a)) some).0 in cc)
-          go (at.Mended h) = not_gone x.standing here h.recovered
+          go (at.Fallen h l) = absurd (let z = sym some ∙ starts h in cc)
+          go (at.Mending h l) = absurd (let z = (mends_done h (First (First a)) some).0 in cc)
+          go (at.Mended h l) = not_gone x.standing here h.recovered
           go (at.Fresh h) =
               let ej : Account = joining.e2 start x.me n in
               let same : last ≡ ej = after ∙ (ap (λ (z : Account). account_after z t) (fresh_ready h) ∙ ap (λ (z : Work). account_after (account_entered Client (first_account start c)) (step_of work_control z n)) h.work) in
@@ -296,11 +305,12 @@ module _ (start : Start) (s : Scripted) (x : Playing) (e : Account) where
           go (at.Fresh h) = absurd (let z = sym some ∙ joins h in cc)
           go (at.Plays h) = plays_not_join h _ (Second a) some
           go (at.Parted h) = not_gone x.standing here h.left
-          go (at.Fallen h) = absurd (let z = sym some ∙ starts h in cc)
-          go (at.Mending h) =
+          go (at.Fallen h l) = absurd (let z = sym some ∙ starts h in cc)
+          go (at.Mending h l) =
               let done = mends_done h (First (Second a)) some in
-              let same = done.0 in (cc, stood y refl refl (at.Mended (subst (IsMended s y) (sym (mends_after h)) (done.1 next))))
-          go (at.Mended h) = not_gone x.standing here h.recovered
+              let settled = mends_settled h (First (Second a)) some next l in
+              let same = done.0 in (cc, stood y refl refl (at.Mended (subst (IsMended s y) (sym (mends_after h)) (done.1 next)) (settled_at y (em h) (mends_after h) settled)))
+          go (at.Mended h l) = not_gone x.standing here h.recovered
 
       -- a command has answered
       pub answered : (a : Answer) → work_control.turns x.work n ≡ Some (Second (First a)) → (l : Line) × (slice_get s.lines (length x.entries) ≡ Some l) × Stand (record x { entries = x.entries ++ record { line = l; answer = a } ∷ []; work = behind x.me s.lines (length (x.entries ++ record { line = l; answer = a } ∷ [])); life = life })
@@ -312,9 +322,9 @@ module _ (start : Start) (s : Scripted) (x : Playing) (e : Account) where
           go : Stage start s x e → (l : Line) × (slice_get s.lines (length x.entries) ≡ Some l) × Stand (y l)
           go (at.Fresh h) = absurd (let z = sym (joins h) ∙ some in cc)
           go (at.Parted h) = not_gone x.standing here h.left
-          go (at.Fallen h) = absurd (let z = sym some ∙ starts h in cc)
-          go (at.Mending h) = absurd (let z = (mends_done h (Second (First a)) some).0 in cc)
-          go (at.Mended h) = not_gone x.standing here h.recovered
+          go (at.Fallen h l) = absurd (let z = sym some ∙ starts h in cc)
+          go (at.Mending h l) = absurd (let z = (mends_done h (Second (First a)) some).0 in cc)
+          go (at.Mended h l) = not_gone x.standing here h.recovered
           go (at.Plays h) =
               let gives = plays_gave h (Second (First a)) some in
               let own = era_at (ep h) (plays_after h) in
@@ -331,9 +341,9 @@ module _ (start : Start) (s : Scripted) (x : Playing) (e : Account) where
           go : Stage start s x e → (a ≡ Ok tt) × Stand y
           go (at.Fresh h) = absurd (let z = sym (joins h) ∙ some in cc)
           go (at.Parted h) = not_gone x.standing here h.left
-          go (at.Fallen h) = absurd (let z = sym some ∙ starts h in cc)
-          go (at.Mending h) = absurd (let z = (mends_done h (Second (Second a)) some).0 in cc)
-          go (at.Mended h) = not_gone x.standing here h.recovered
+          go (at.Fallen h l) = absurd (let z = sym some ∙ starts h in cc)
+          go (at.Mending h l) = absurd (let z = (mends_done h (Second (Second a)) some).0 in cc)
+          go (at.Mended h l) = not_gone x.standing here h.recovered
           go (at.Plays h) =
               let gives = plays_gave h (Second (Second a)) some in
               let own = era_at (ep h) (plays_after h) in (

@@ -183,9 +183,8 @@ pub record IsSettled (s : Scripted) (x : Playing) (e : Account) (told : List Log
   pub fold : IsFold x.entries e.memo
   pub table : is_loose e.memo.part ≡ false
 
--- So many agents began and died, each after the word steps of its life, and none acts. What was running is told once the next one begins; none comes where the lives are spent
+-- So many agents began and died, each after the word steps of its life, and none acts. None comes where the lives are spent
 pub record IsFallen (s : Scripted) (x : Playing) (e : Account) : Type 0 where
-  pub settled : IsSettled s x e (told_left true e)
   pub lived : steps_first e.memo.agents ≡ slice_index (lives_of s.life) 0
   pub many : length e.memo.agents ≡ x.agent
   pub some : 0 < x.agent
@@ -196,7 +195,6 @@ pub record IsFallen (s : Scripted) (x : Playing) (e : Account) : Type 0 where
 -- A recoverer acts, which began its recovery at the memo `start`
 pub record IsMending (s : Scripted) (x : Playing) (e : Account) : Type 0 where
   pub here : x.standing ≡ AtWork
-  pub settled : IsSettled s x e e.told
   pub lived : steps_first e.memo.agents ≡ slice_index (lives_of s.life) 0
   pub before : List Agent
   pub steps : ℕ
@@ -207,8 +205,6 @@ pub record IsMending (s : Scripted) (x : Playing) (e : Account) : Type 0 where
   pub made : steps_of before ≡ sum (take x.agent (lives_of s.life))
   pub start : Memo
   pub recoverer : recovers start ≡ true
-  pub fold : IsFold x.entries start
-  pub table : is_loose start.part ≡ false
   pub me : work_control.me x.work ≡ x.me
   pub going : work_control.finished x.work ≡ false
   pub old : work_control.fresh x.work ≡ false
@@ -224,7 +220,6 @@ pub record IsMending (s : Scripted) (x : Playing) (e : Account) : Type 0 where
 -- a recoverer has recovered the identity: it is gone, and nothing of it is left to finish
 pub record IsMended (s : Scripted) (x : Playing) (e : Account) : Type 0 where
   pub recovered : x.standing ≡ Gone
-  pub settled : IsSettled s x e e.told
   pub lived : steps_first e.memo.agents ≡ slice_index (lives_of s.life) 0
   pub before : List Agent
   pub steps : ℕ
@@ -247,14 +242,14 @@ pub record MayPlay (start : Start) (s : Scripted) (x : Playing) : Type 0 where
   pub script : ScriptFits start.geometry.clients s
   pub room : length s.lines ≤ x.room
 
--- where they are
+-- where they are, and once the client is dead that its log is settled: what was running of an agent that died is told once the next one begins
 pub data Stage (start : Start) (s : Scripted) (x : Playing) (e : Account) : Type 0 where
   Fresh : IsFresh start s x e → Stage start s x e
   Plays : IsPlaying s x e → Stage start s x e
   Parted : HasParted s x e → Stage start s x e
-  Fallen : IsFallen s x e → Stage start s x e
-  Mending : IsMending s x e → Stage start s x e
-  Mended : IsMended s x e → Stage start s x e
+  Fallen : IsFallen s x e → IsSettled s x e (told_left true e) → Stage start s x e
+  Mending : IsMending s x e → IsSettled s x e e.told → Stage start s x e
+  Mended : IsMended s x e → IsSettled s x e e.told → Stage start s x e
 
 -- The agents x of a script stand in a pool that was made so and accounts for e of their identity. Neither words nor another identity are spoken of, so that turns of others keep it
 pub record Stands (start : Start) (s : Scripted) (x : Playing) (e : Account) : Type 0 where

@@ -33,15 +33,15 @@ use Rattle.shm_replay.proofs.Seating.{seat_busy}
 
 -- the client left, or a recoverer recovered the identity, or all of them died
 abbrev pub IsOver : Scripted → Playing → Account → Type 0
-IsOver s x e = HasParted s x e ⊎ (IsMended s x e ⊎ ((x.standing ≡ Dead) × IsFallen s x e))
+IsOver s x e = HasParted s x e ⊎ ((IsMended s x e × IsSettled s x e e.told) ⊎ ((x.standing ≡ Dead) × IsFallen s x e × IsSettled s x e (told_left true e)))
 
 pub is_over : (start : Start) (s : Scripted) (x : Playing) (e : Account) → Stage start s x e → x.standing ≢ AtWork → IsOver s x e
 is_over start s x e (Fresh f) rest = absurd (rest f.here)
 is_over start s x e (Plays p) rest = absurd (rest p.here)
-is_over start s x e (Mending p) rest = absurd (rest p.here)
+is_over start s x e (Mending p l) rest = absurd (rest p.here)
 is_over start s x e (Parted p) rest = inl p
-is_over start s x e (Mended p) rest = inr (inl p)
-is_over start s x e (Fallen f) rest = elim f.next [ inl d ↦ inr (inr (d.0, f)) | inr w ↦ absurd (rest w.0) ]
+is_over start s x e (Mended p l) rest = inr (inl (p, l))
+is_over start s x e (Fallen f l) rest = elim f.next [ inl d ↦ inr (inr (d.0, f, l)) | inr w ↦ absurd (rest w.0) ]
 
 -- ---- what the closing asks
 
@@ -80,8 +80,8 @@ module _ (s : Scripted) (x : Playing) (e : Account) (lives : sum (lives_of s.lif
 
   may_over : IsOver s x e → MayVisit (is_standing_dead x.standing) e.memo
   may_over (inl p) = may_parted p
-  may_over (inr (inl p)) = may_mended p
-  may_over (inr (inr (dead, f))) = may_dead dead f
+  may_over (inr (inl (p, l))) = may_mended p
+  may_over (inr (inr (dead, f, l))) = may_dead dead f
 
 pub over_may : (n : ℕ) (s : Scripted) (x : Playing) (e : Account) → ScriptFits n s → IsOver s x e → MayVisit (is_standing_dead x.standing) e.memo
 over_may n s x e fits h = may_over s x e (few_lives s.life fits.sum) h
@@ -112,23 +112,23 @@ module _ (s : Scripted) (x : Playing) (e : Account) (client : s.client ≡ x.me.
 
   pub over_log : IsOver s x e → IsLogOf x.me s life e.memo.agents e.begun (told_left (is_standing_dead x.standing) e) (logged x)
   over_log (inl p) = subst (λ (st : Standing). IsLogOf x.me s life e.memo.agents e.begun (told_left (is_standing_dead st) e) (logged x)) (sym p.left) (log_parted p)
-  over_log (inr (inl p)) = subst (λ (st : Standing). IsLogOf x.me s life e.memo.agents e.begun (told_left (is_standing_dead st) e) (logged x)) (sym p.recovered) (log_lived e.told p.lived p.settled)
-  over_log (inr (inr (dead, f))) = subst (λ (st : Standing). IsLogOf x.me s life e.memo.agents e.begun (told_left (is_standing_dead st) e) (logged x)) (sym dead) (log_lived (told_left true e) f.lived f.settled)
+  over_log (inr (inl (p, l))) = subst (λ (st : Standing). IsLogOf x.me s life e.memo.agents e.begun (told_left (is_standing_dead st) e) (logged x)) (sym p.recovered) (log_lived e.told p.lived l)
+  over_log (inr (inr (dead, f, l))) = subst (λ (st : Standing). IsLogOf x.me s life e.memo.agents e.begun (told_left (is_standing_dead st) e) (logged x)) (sym dead) (log_lived (told_left true e) f.lived l)
 
 pub over_fold : (s : Scripted) (x : Playing) (e : Account) → IsOver s x e → IsFold x.entries e.memo
 over_fold s x e (inl p) = p.fold
-over_fold s x e (inr (inl p)) = p.settled.fold
-over_fold s x e (inr (inr (dead, f))) = f.settled.fold
+over_fold s x e (inr (inl (p, l))) = l.fold
+over_fold s x e (inr (inr (dead, f, l))) = l.fold
 
 pub over_unspent : (s : Scripted) (x : Playing) (e : Account) → IsOver s x e → AreUnspent x.entries
 over_unspent s x e (inl p) = p.unspent
-over_unspent s x e (inr (inl p)) = p.settled.unspent
-over_unspent s x e (inr (inr (dead, f))) = f.settled.unspent
+over_unspent s x e (inr (inl (p, l))) = l.unspent
+over_unspent s x e (inr (inr (dead, f, l))) = l.unspent
 
 pub over_table : (s : Scripted) (x : Playing) (e : Account) → IsOver s x e → is_loose e.memo.part ≡ false
 over_table s x e (inl p) = p.table
-over_table s x e (inr (inl p)) = p.settled.table
-over_table s x e (inr (inr (dead, f))) = f.settled.table
+over_table s x e (inr (inl (p, l))) = l.table
+over_table s x e (inr (inr (dead, f, l))) = l.table
 
 -- ---- the seats of a trace
 
