@@ -8,7 +8,7 @@ use Rattle.shm_graph.specs.Held.{is_loose}
 use Rattle.shm_graph.specs.Reach.{is_reached}
 use Rattle.shm_plain.specs.Calls.{IsAtWork, Ran}
 use Rattle.shm_plain.specs.Pools.{Pool, memo_of}
-use Rattle.plain_calls.specs.Queues.{IsQuiet, LeavesWaiting}
+use Rattle.shm_count.specs.Waiting.{IsQuiet, LeavesWaiting}
 use Rattle.call_runs.specs.declared.standing.Known.{Known}
 use Rattle.call_runs.specs.Known.{After, IsKnown, bare, kept, released, unsettled}
 

@@ -11,7 +11,7 @@ use Rattle.shm_graph.specs.Idle.{IsIdle}
 use Rattle.shm_graph.specs.Runs.{fell_by, first_memo}
 use Rattle.shm_plain.specs.Calls.{IsAtWork}
 use Rattle.shm_plain.specs.Pools.{Pool, memo_of}
-use Rattle.plain_calls.specs.Queues.{IsClear}
+use Rattle.plain_calls.specs.Clear.{IsClear}
 use Rattle.call_runs.specs.declared.standing.Known.{Known}
 use Rattle.call_runs.specs.declared.standing.Standing.{Standing}
 use Rattle.call_runs.specs.declared.standing.Standing.TheVariants.{New, Works, Fallen, Lost}

@@ -14,7 +14,7 @@ use Rattle.shm_queue.specs.declared.answer.PeekFault.{PeekFault}
 use Rattle.shm_queue.specs.declared.answer.PeekFault.TheVariants.{Empty, EraSpent, RootsFull, CountFull}
 use Rattle.shm_ref.specs.declared.answer.Busy.{Busy}
 use Rattle.shm_ref.specs.declared.answer.NotHeld.{NotHeld}
-use Rattle.plain_calls.specs.Queues.{IsQuiet}
+use Rattle.shm_count.specs.Waiting.{IsQuiet}
 use Rattle.call_runs.specs.declared.standing.Known.{Known}
 use Rattle.call_runs.specs.declared.standing.Standing.{Standing}
 use Rattle.call_runs.specs.declared.standing.Standing.TheVariants.{New, Works, Fallen, Lost}

@@ -1,14 +1,22 @@
-//! Calls that make blocks and count what names them, and leaving.
+//! Calls that make blocks and count what names them, and leaving. The law that is called before a run is for the proof: it says what the
+//! run keeps.
 
 ghost use Rattle.std.specs.Prelude.{IfOk};
 ghost use Rattle.call_runs.specs.Known.{After, IsKnown};
 
 use crate::row::Row;
-use crate::seeing::{check, inside, reach, rooted};
+use crate::seeing::{check, differ, reach, rooted};
 use crate::standing::{BARE, Client, Known, dying, settled, told};
 use crate::telling::tell;
+use shm_calls::Calls;
+use shm_count::TearDown;
 use shm_graph::Life;
 use shm_plain::PlainPool;
+use shm_recover::Leaving;
+use shm_ref::{
+    Changing, Dropping, Lowering, Raising, change_root_keeps, drop_root_keeps, lower_root_keeps,
+    raise_root_keeps,
+};
 use std::io;
 
 /// `allocate WHO REFS WORD ..`
@@ -47,7 +55,9 @@ pub fn drop_root(
     ensures { IfOk result (After client.who pool.old pool.new) }
 {
     let root = row.small(1, 16)?;
-    let answer = plain_calls::drop_root(pool, client.who, root, life);
+    drop_root_keeps();
+    let dropping = Dropping::new(pool.me(client.who), root);
+    let answer = pool.run(client.who, Calls::new(dropping), life);
     tell(rt, &answer)?;
     Ok(settled(&answer, client.known))
 }
@@ -67,8 +77,9 @@ pub fn raise(
     let block = row.block(2)?;
     rooted(pool, client.who, root, 0)?;
     reach(pool, client, block)?;
-    inside(pool.geometry(), client.who, block)?;
-    let answer = plain_calls::raise(pool, client.who, root, block, life);
+    raise_root_keeps();
+    let raising = Raising::new(pool.me(client.who), root, block);
+    let answer = pool.run(client.who, Calls::new(raising), life);
     tell(rt, &answer)?;
     Ok(told(&answer, BARE))
 }
@@ -86,9 +97,11 @@ pub fn lower(
 {
     let root = row.small(1, 16)?;
     let block = row.block(2)?;
+    check(block != 0)?;
     rooted(pool, client.who, root, block)?;
-    inside(pool.geometry(), client.who, block)?;
-    let answer = plain_calls::lower(pool, client.who, root, block, life);
+    lower_root_keeps();
+    let lowering = Lowering::new(pool.me(client.who), root, block);
+    let answer = pool.run(client.who, Calls::new(lowering), life);
     tell(rt, &answer)?;
     Ok(dying(&answer, block))
 }
@@ -107,12 +120,13 @@ pub fn change(
     let root = row.small(1, 16)?;
     let before = row.block(2)?;
     let after = row.block(3)?;
-    check(before != after)?;
+    check(before != 0)?;
+    differ(before, after)?;
     rooted(pool, client.who, root, before)?;
     reach(pool, client, after)?;
-    inside(pool.geometry(), client.who, before)?;
-    inside(pool.geometry(), client.who, after)?;
-    let answer = plain_calls::change(pool, client.who, root, before, after, life);
+    change_root_keeps();
+    let changing = Changing::new(pool.me(client.who), root, before, after);
+    let answer = pool.run(client.who, Calls::new(changing), life);
     tell(rt, &answer)?;
     Ok(dying(&answer, before))
 }
@@ -130,7 +144,8 @@ pub fn tear_down(
 {
     let block = row.block(1)?;
     check(block != 0 && block == client.known.dying)?;
-    let answer = plain_calls::tear_down(pool, client.who, block, life);
+    let tearing = TearDown::new(pool.me(client.who), block);
+    let answer = pool.run(client.who, tearing, life);
     tell(rt, &answer)?;
     Ok(None)
 }
@@ -145,8 +160,10 @@ pub fn leave(
     requires known { IsKnown client.known client.who pool.old }
     ensures { IfOk result (After client.who pool.old pool.new) }
 {
-    check(client.known.free && client.known.quiet)?;
-    let answer = plain_calls::leave(pool, client.who, life);
+    check(client.known.free)?;
+    check(client.known.quiet)?;
+    let leaving = Leaving::new(pool.me(client.who));
+    let answer = pool.run(client.who, Calls::new(leaving), life);
     tell(rt, &answer)?;
     Ok(None)
 }

@@ -1,4 +1,4 @@
-//! Calls on latches, homes and words of blocks.
+//! Calls on latches, homes and words of blocks. The law that is called before a run is for the proof: it says what the run keeps.
 
 ghost use Rattle.std.specs.Prelude.{IfOk};
 ghost use Rattle.call_runs.specs.Known.{After, IsKnown};
@@ -7,8 +7,14 @@ use crate::row::Row;
 use crate::seeing::{check, reach};
 use crate::standing::{Client, Known, found, held, settled, told};
 use crate::telling::tell;
+use shm_calls::Calls;
 use shm_graph::Life;
 use shm_plain::PlainPool;
+use shm_ref::{
+    FindingHome, Holding, Homing, Looking, Naming, Reading, Releasing, Setting, Sharing,
+    hold_keeps, home_of_keeps, look_keeps, read_keeps, release_keeps, root_of_keeps,
+    set_home_keeps, set_ref_keeps, share_keeps,
+};
 use std::io;
 
 /// `hold WHO AUTHOR`
@@ -24,7 +30,9 @@ pub fn hold(
 {
     let author = row.small(1, pool.geometry().clients())?;
     check(client.known.free)?;
-    let answer = plain_calls::hold(pool, client.who, author, life);
+    hold_keeps();
+    let holding = Holding::new(pool.me(client.who), author);
+    let answer = pool.run(client.who, Calls::new(holding), life);
     tell(rt, &answer)?;
     Ok(held(&answer, client.known))
 }
@@ -40,7 +48,9 @@ pub fn release(
     ensures { IfOk result (After client.who pool.old pool.new) }
 {
     check(client.known.held)?;
-    let answer = plain_calls::release(pool, client.who, life);
+    release_keeps();
+    let releasing = Releasing::new(pool.me(client.who));
+    let answer = pool.run(client.who, Calls::new(releasing), life);
     tell(rt, &answer)?;
     Ok(told(&answer, client.known.released()))
 }
@@ -57,7 +67,9 @@ pub fn home_of(
     ensures { IfOk result (After client.who pool.old pool.new) }
 {
     let author = row.small(1, pool.geometry().clients())?;
-    let answer = plain_calls::home_of(pool, client.who, author, life);
+    home_of_keeps();
+    let finding = FindingHome::new(pool.me(client.who), author);
+    let answer = pool.run(client.who, Calls::new(finding), life);
     tell(rt, &answer)?;
     Ok(found(&answer, client.known))
 }
@@ -74,7 +86,9 @@ pub fn root_of(
     ensures { IfOk result (After client.who pool.old pool.new) }
 {
     let root = row.small(1, 16)?;
-    let answer = plain_calls::root_of(pool, client.who, root, life);
+    root_of_keeps();
+    let naming = Naming::new(pool.me(client.who), root);
+    let answer = pool.run(client.who, Calls::new(naming), life);
     tell(rt, &answer)?;
     Ok(told(&answer, client.known.kept()))
 }
@@ -93,7 +107,9 @@ pub fn read(
     let block = row.block(1)?;
     let index = row.small(2, 255)?;
     reach(pool, client, block)?;
-    let answer = plain_calls::read(pool, client.who, block, index, life);
+    read_keeps();
+    let reading = Reading::new(pool.me(client.who), block, index);
+    let answer = pool.run(client.who, Calls::new(reading), life);
     tell(rt, &answer)?;
     Ok(told(&answer, client.known.seeing()))
 }
@@ -112,7 +128,9 @@ pub fn look(
     let block = row.block(1)?;
     let index = row.small(2, 255)?;
     reach(pool, client, block)?;
-    let answer = plain_calls::look(pool, client.who, block, index, life);
+    look_keeps();
+    let looking = Looking::new(pool.me(client.who), block, index);
+    let answer = pool.run(client.who, Calls::new(looking), life);
     tell(rt, &answer)?;
     Ok(told(&answer, client.known.seeing()))
 }
@@ -130,7 +148,9 @@ pub fn set_home(
 {
     let block = row.block(1)?;
     reach(pool, client, block)?;
-    let answer = plain_calls::set_home(pool, client.who, block, life);
+    set_home_keeps();
+    let homing = Homing::new(pool.me(client.who), block);
+    let answer = pool.run(client.who, Calls::new(homing), life);
     tell(rt, &answer)?;
     Ok(told(&answer, client.known.unsettled()))
 }
@@ -149,7 +169,9 @@ pub fn empty_ref(
     let block = row.block(1)?;
     let index = row.small(2, 255)?;
     reach(pool, client, block)?;
-    let answer = plain_calls::set_ref(pool, client.who, block, index, 0, life);
+    set_ref_keeps();
+    let setting = Setting::new(pool.me(client.who), block, index, 0);
+    let answer = pool.run(client.who, Calls::new(setting), life);
     tell(rt, &answer)?;
     Ok(settled(&answer, client.known))
 }
@@ -170,7 +192,9 @@ pub fn set_ref(
     let target = row.block(3)?;
     reach(pool, client, block)?;
     reach(pool, client, target)?;
-    let answer = plain_calls::set_ref(pool, client.who, block, index, target, life);
+    set_ref_keeps();
+    let setting = Setting::new(pool.me(client.who), block, index, target);
+    let answer = pool.run(client.who, Calls::new(setting), life);
     tell(rt, &answer)?;
     Ok(settled(&answer, client.known))
 }
@@ -188,7 +212,9 @@ pub fn share(
 {
     let block = row.block(1)?;
     reach(pool, client, block)?;
-    let answer = plain_calls::share(pool, client.who, block, life);
+    share_keeps();
+    let sharing = Sharing::new(pool.me(client.who), block);
+    let answer = pool.run(client.who, Calls::new(sharing), life);
     tell(rt, &answer)?;
     Ok(told(&answer, client.known.kept()))
 }

@@ -1,14 +1,19 @@
-//! Calls on queues.
+//! Calls on queues. The law that is called before a run is for the proof: it says what the run keeps.
 
 ghost use Rattle.std.specs.Prelude.{IfOk};
 ghost use Rattle.call_runs.specs.Known.{After, IsKnown};
 
 use crate::row::Row;
-use crate::seeing::{check, reach};
+use crate::seeing::{apart, check, reach};
 use crate::standing::{Client, Known, received, settled, told};
 use crate::telling::tell;
+use shm_calls::Calls;
 use shm_graph::Life;
 use shm_plain::PlainPool;
+use shm_queue::{
+    Draining, Peeking, Receiving, Sending, Taking, drain_keeps, peek_keeps, receive_keeps,
+    send_keeps, take_keeps,
+};
 use std::io;
 
 /// `send WHO TO BLOCK`
@@ -24,9 +29,12 @@ pub fn send(
 {
     let to = row.small(1, pool.geometry().clients())?;
     let block = row.block(2)?;
-    check(client.known.quiet && client.who != to)?;
+    check(client.known.quiet)?;
+    apart(client.who, to)?;
     reach(pool, client, block)?;
-    let answer = plain_calls::send(pool, client.who, to, block, life);
+    send_keeps();
+    let sending = Sending::new(pool.me(client.who), to, block);
+    let answer = pool.run(client.who, Calls::new(sending), life);
     tell(rt, &answer)?;
     Ok(told(&answer, client.known.kept()))
 }
@@ -43,8 +51,11 @@ pub fn peek(
     ensures { IfOk result (After client.who pool.old pool.new) }
 {
     let from = row.small(1, pool.geometry().clients())?;
-    check(client.known.quiet && from != client.who)?;
-    let answer = plain_calls::peek(pool, client.who, from, life);
+    check(client.known.quiet)?;
+    apart(from, client.who)?;
+    peek_keeps();
+    let peeking = Peeking::new(pool.me(client.who), from);
+    let answer = pool.run(client.who, Calls::new(peeking), life);
     tell(rt, &answer)?;
     Ok(told(&answer, client.known.kept()))
 }
@@ -61,8 +72,11 @@ pub fn take(
     ensures { IfOk result (After client.who pool.old pool.new) }
 {
     let from = row.small(1, pool.geometry().clients())?;
-    check(client.known.quiet && from != client.who)?;
-    let answer = plain_calls::take(pool, client.who, from, life);
+    check(client.known.quiet)?;
+    apart(from, client.who)?;
+    take_keeps();
+    let taking = Taking::new(pool.me(client.who), from);
+    let answer = pool.run(client.who, Calls::new(taking), life);
     tell(rt, &answer)?;
     Ok(settled(&answer, client.known))
 }
@@ -79,8 +93,11 @@ pub fn receive(
     ensures { IfOk result (After client.who pool.old pool.new) }
 {
     let from = row.small(1, pool.geometry().clients())?;
-    check(client.known.quiet && from != client.who)?;
-    let answer = plain_calls::receive(pool, client.who, from, life);
+    check(client.known.quiet)?;
+    apart(from, client.who)?;
+    receive_keeps();
+    let receiving = Receiving::new(pool.me(client.who), from);
+    let answer = pool.run(client.who, Calls::new(receiving), life);
     tell(rt, &answer)?;
     Ok(received(&answer, client.known))
 }
@@ -96,7 +113,9 @@ pub fn drain(
     ensures { IfOk result (After client.who pool.old pool.new) }
 {
     check(client.known.quiet)?;
-    let answer = plain_calls::drain(pool, client.who, life);
+    drain_keeps();
+    let draining = Draining::new(pool.me(client.who));
+    let answer = pool.run(client.who, Calls::new(draining), life);
     tell(rt, &answer)?;
     Ok(settled(&answer, client.known))
 }

@@ -1,18 +1,15 @@
 //! What a client may name.
 
-ghost use Rattle.std.specs.Prelude.{◌≡◌, ◌<◌, true, IfOk};
-ghost use Rattle.shm_words.specs.Layout.{GeometryFits};
+ghost use Rattle.std.specs.Prelude.{◌≡◌, ◌≢◌, ◌<◌, true, IfOk};
 ghost use Rattle.shm_graph.specs.Reach.{is_reached};
 ghost use Rattle.shm_plain.specs.Calls.{IsAtWork};
 ghost use Rattle.shm_plain.specs.Pools.{memo_of};
-ghost use Rattle.shm_count.specs.Roots.{member, root_word};
-ghost use Rattle.shm_count.specs.Step.Control.{IsInside};
+ghost use Rattle.shm_count.specs.Roots.{root_word};
 ghost use Rattle.call_runs.specs.Known.{IsKnown};
 
 use crate::row::refusal;
 use crate::standing::Client;
 use shm_plain::PlainPool;
-use shm_words::Geometry;
 use std::io;
 
 /// What a root of an identity names, or 0.
@@ -52,19 +49,6 @@ pub fn reach(pool: &PlainPool, client: Client, block: u32) -> io::Result<()>
     }
 }
 
-/// Refuses an address that lies before the blocks or past the end.
-#[tactic(auto, unfolding(shm_words::specs::Layout::address))]
-pub fn inside(geometry: Geometry, who: u8, block: u32) -> io::Result<()>
-    requires geometry { GeometryFits geometry }
-    ensures { IfOk result (λ u. IsInside (member geometry who) block) }
-{
-    if geometry.body(0, 0) <= block && block < geometry.total() {
-        Ok(())
-    } else {
-        Err(refusal())
-    }
-}
-
 /// Refuses a root that names something else.
 pub fn rooted(pool: &PlainPool, who: u8, root: u8, block: u32) -> io::Result<()>
     requires work { IsAtWork who pool.now }
@@ -83,4 +67,22 @@ pub fn check(holds: bool) -> io::Result<()>
     ensures { IfOk result (λ u. holds ≡ true) }
 {
     if holds { Ok(()) } else { Err(refusal()) }
+}
+
+/// Refuses a block that is the other one.
+pub fn differ(block: u32, other: u32) -> io::Result<()>
+    ensures { IfOk result (λ u. block ≢ other) }
+{
+    if block != other {
+        Ok(())
+    } else {
+        Err(refusal())
+    }
+}
+
+/// Refuses an identity that is the other one.
+pub fn apart(who: u8, other: u8) -> io::Result<()>
+    ensures { IfOk result (λ u. who ≢ other) }
+{
+    if who != other { Ok(()) } else { Err(refusal()) }
 }

@@ -1,15 +1,19 @@
 //! Pools for tables, on which commands run one after the other, and which all identities leave in the end.
 
-ghost use Rattle.std.specs.Prelude.{◌≡◌, ◌≢◌, ℕ, true, IfOk};
+ghost use Rattle.std.specs.Prelude.{◌≡◌, ◌≢◌, ℕ, true, IfOk, IfSome};
 ghost use Rattle.shm_words.specs.Layout.{GeometryFits};
 ghost use Rattle.shm_script.specs.Ranges.{LineFits};
 ghost use Rattle.table_calls.specs.Running.{AreOpen, IsFew, IsOpen};
 
 use crate::row::refusal;
 use crate::seeing::check;
-use plain_calls::{drain, join, joined, leave};
+use plain_calls::{join, joined};
+use shm_calls::Calls;
+use shm_count::EraSpent;
 use shm_graph::Life;
 use shm_plain::{PlainClosed, PlainPool};
+use shm_queue::{Draining, drain_keeps};
+use shm_recover::Leaving;
 use shm_script::{Answer, Line};
 use shm_words::Geometry;
 use std::alloc::Global;
@@ -70,6 +74,29 @@ pub fn answered(pool: &mut PlainPool, who: u8, line: &Line, life: &mut Life) -> 
         return Err(refusal());
     }
     Ok(answer)
+}
+
+/// Drains the queues of an identity.
+fn drain(pool: &mut PlainPool, who: u8, life: &mut Life) -> Option<Result<u64, EraSpent>>
+    requires one { IsOpen who pool.old }
+    ensures one { IfSome result (λ a. IfOk a (λ n. IsOpen who pool.new)) }
+    ensures start { pool.new.start ≡ pool.old.start }
+    ensures others { (d : ℕ) → d ≢ who → IsOpen d pool.old → IsOpen d pool.new }
+{
+    // for the proof: what a drain keeps
+    drain_keeps();
+    let draining = Draining::new(pool.me(who));
+    pool.run(who, Calls::new(draining), life)
+}
+
+/// Has an identity leave.
+fn leave(pool: &mut PlainPool, who: u8, life: &mut Life) -> Option<Result<(), EraSpent>>
+    requires one { IsOpen who pool.old }
+    ensures start { pool.new.start ≡ pool.old.start }
+    ensures others { (d : ℕ) → d ≢ who → IsOpen d pool.old → IsOpen d pool.new }
+{
+    let leaving = Leaving::new(pool.me(who));
+    pool.run(who, Calls::new(leaving), life)
 }
 
 /// The identity drains its queues, where there is another identity that may have sent to it, and leaves.

@@ -65,7 +65,7 @@ fn watch_pool(pool: &SharedPool, client: &mut Client, steps: u32) -> Option<u64>
     let who = client.client();
     let mut watch = Watch::new(Me::new(pool.geometry(), who), steps);
     let mut life = Life::of(u64::from(steps));
-    match client.run(pool, &mut watch, &mut life) {
+    match client.drive(pool, &mut watch, &mut life) {
         Reply::Done(()) => watch.last(),
         Reply::Died => None,
     }

@@ -25,7 +25,7 @@ use Rattle.shm_steps.specs.Reparting.{map_in}
 use Rattle.shm_plain.specs.Calls.{Did, Ran}
 use Rattle.shm_plain.specs.Tracks.{kind_next}
 use Rattle.shm_plain.proofs.Turning.{ready_memo}
-use Rattle.plain_calls.proofs.Called.{Called, ran_fresh}
+use Rattle.shm_plain.proofs.Called.{Called, ran_fresh}
 
 -- an agent that is dead doesn't act
 fate_still : (f : Fate) → is_dead f ≡ true → is_acting f ≡ false

@@ -21,7 +21,7 @@ use Rattle.shm_calls.specs.CallsKeep.{calls_begin, calls_tells}
 use Rattle.shm_recover.specs.Mend.Control.{mend_parts, mending}
 use Rattle.shm_recover.specs.Mend.{IsMended, MayMend, mend_plan}
 use Rattle.shm_recover.specs.Mend.Laws.{mend_begin, mend_laws}
-use Rattle.plain_calls.proofs.Called.{Called}
+use Rattle.shm_plain.proofs.Called.{Called}
 
 module _ (p : Pool) (c : ℕ) (l : c < length p.accounts) (act : acts (memo_of p c) ≡ true) where
   abbrev d : Memo

@@ -10,7 +10,7 @@ use Rattle.shm_graph.specs.Runs.{first_memo}
 use Rattle.shm_plain.specs.Pools.{Pool, IsRun, memo_of, readied}
 use Rattle.shm_recover.specs.Join.{JoinGives, join_fresh}
 use Rattle.shm_count.specs.Roots.{member}
-use Rattle.plain_calls.specs.Queues.{IsClear}
+use Rattle.plain_calls.specs.Clear.{IsClear}
 use Rattle.plain_calls.proofs.Passing.{ready_new}
 use Rattle.plain_calls.proofs.QueueReady.{clear_join}
 

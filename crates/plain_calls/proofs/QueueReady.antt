@@ -1,4 +1,4 @@
--- what waits in queues: how nothing comes to wait, and what waits stays
+-- identities that have just joined have nothing to finish; and the first two differ
 use Rattle.std.proofs.Common.{◌≡◌, ◌≢◌, ℕ, Bool, false, sym, ap, ◌∙◌, subst}
 use Rattle.std.specs.Prelude.{◌==◌, slice_index}
 use Rattle.std.proofs.lemmas.Bool.{true≢false}
@@ -8,13 +8,12 @@ use Rattle.shm_graph.specs.declared.memo.Memo.{Memo}
 use Rattle.shm_graph.specs.declared.run.Start.{Start}
 use Rattle.shm_graph.specs.Agents.{entered}
 use Rattle.shm_graph.specs.Asks.{Trail}
-use Rattle.shm_graph.specs.Core.{core}
 use Rattle.shm_graph.specs.Held.{is_loose}
 use Rattle.shm_graph.specs.Runs.{first_memo}
 use Rattle.shm_graph.proofs.States.FirstHeld.{same_everywhere}
 use Rattle.shm_count.specs.Roots.{member}
 use Rattle.shm_recover.specs.Join.{JoinGives, join_fresh}
-use Rattle.plain_calls.specs.Queues.{IsClear, LeavesWaiting}
+use Rattle.plain_calls.specs.Clear.{IsClear}
 
 -- once it has joined a pool for the first time
 pub clear_join : (s : Start) (g : Geometry) (c : ℕ) (m0 m : Memo) (tr : Trail) → s.tables ≡ false → m0 ≡ entered Client (first_memo s c) → JoinGives (join_fresh (member g c)) m0 m tr tt → IsClear m
@@ -28,22 +27,7 @@ clear_join s g c m0 m tr single e gives =
       untaken = λ i. ap (λ (z : Memo). slice_index z.untaken i) x.rest ∙ same_everywhere s.geometry.clients i 0;
     }
 
--- the core says what waits
-pub core_waits : (m r : Memo) → core r ≡ core m → LeavesWaiting m r
-core_waits m r e =
-    record {
-      dying = ap (λ (x : Memo). x.dying) e;
-      unsent = λ j. ap (λ (x : Memo). slice_index x.unsent j) e;
-      untaken = λ j. ap (λ (x : Memo). slice_index x.untaken j) e;
-    }
-
--- and what has the core of a memo in which the same waits
-pub waits_by : (m q r : Memo) → LeavesWaiting m q → core r ≡ core q → LeavesWaiting m r
-waits_by m q r h e =
-    let x = core_waits q r e in
-    record { dying = x.dying ∙ h.dying; unsent = λ j. x.unsent j ∙ h.unsent j; untaken = λ j. x.untaken j ∙ h.untaken j }
-
--- the sender isn't the receiver
+-- two identities
 pub zero_not_one : ◌≢◌ {A = ℕ} 0 1
 zero_not_one e = absurd (true≢false (ap (λ n. n == 0) e))
 

@@ -1,4 +1,2 @@
 pub mod Allocating
-pub mod Answers
-pub mod Queues
-pub mod Setting
+pub mod Clear

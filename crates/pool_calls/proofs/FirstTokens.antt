@@ -3,7 +3,7 @@ use Rattle.std.proofs.Common.{◌≡◌, ℕ, zero, suc, List, [], ◌∷◌, �
 use Rattle.std.specs.Prelude.{Option, Some, None, IfSome}
 use Rattle.std.specs.Option.{option_to_list}
 use Rattle.shm_pool.specs.Tokens.{AllOf, Its, Token, first_tokens, token_first}
-use Rattle.pool_calls.specs.Between.{AllFirst, AreRootsEmpty}
+use Rattle.pool_calls.specs.Clients.{AllFirst, AreRootsEmpty}
 
 pub all_first : (p : Its) (c n : ℕ) → AllFirst p (first_tokens p c n)
 all_first p c zero = tt

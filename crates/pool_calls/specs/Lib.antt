@@ -1,2 +1,2 @@
-pub mod Between
+pub mod Clients
 pub mod Allocating

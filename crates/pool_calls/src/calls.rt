@@ -12,9 +12,10 @@ ghost use Rattle.shm_count.specs.Step.Machines.{DownGives, UpGives};
 ghost use Rattle.shm_count.specs.Tear.{TearGives};
 ghost use Rattle.pool_calls.specs.Allocating.{IsAsked};
 ghost use Rattle.shm_count.specs.Roots.{AreRootsReached, root_step, root_word, tear_of};
+ghost use Rattle.shm_pool.specs.Calls.{IsBetween};
 ghost use Rattle.shm_pool.specs.Replies.{IsLost, IfReply};
 ghost use Rattle.shm_pool.specs.Endings.{ClientMayLeave};
-ghost use Rattle.pool_calls.specs.Between.{IsBetween, me_now};
+ghost use Rattle.pool_calls.specs.Clients.{me_now};
 
 use shm_alloc::{Alloc, AllocFault, TooLarge};
 use shm_count::{EraSpent, Made, StepDown, StepUp, TearDown, UpFault};
@@ -46,7 +47,7 @@ pub fn allocate(
 {
     let who = client.client();
     let mut alloc = Alloc::new(Me::new(pool.geometry(), who), refs, plain)?;
-    Ok(client.run(pool, &mut alloc, life))
+    Ok(client.drive(pool, &mut alloc, life))
 }
 
 /// Makes the empty root `root` name `block`.
@@ -73,7 +74,7 @@ pub fn raise(
     let who = client.client();
     let geometry = pool.geometry();
     let mut up = StepUp::new(Me::new(geometry, who), geometry.root(who, root), block);
-    client.run(pool, &mut up, life)
+    client.drive(pool, &mut up, life)
 }
 
 /// Makes root `root`, which names `block`, empty, and says whether the block's count came to 0.
@@ -99,7 +100,7 @@ pub fn lower(
     let who = client.client();
     let geometry = pool.geometry();
     let mut down = StepDown::new(Me::new(geometry, who), geometry.root(who, root), block);
-    client.run(pool, &mut down, life)
+    client.drive(pool, &mut down, life)
 }
 
 /// Frees the zero-count block `block` with all that only it names.
@@ -119,5 +120,5 @@ pub fn tear_down(
 {
     let who = client.client();
     let mut tear = TearDown::new(Me::new(pool.geometry(), who), block);
-    client.run(pool, &mut tear, life)
+    client.drive(pool, &mut tear, life)
 }

@@ -2,7 +2,8 @@
 
 ghost use Rattle.std.specs.Prelude.{◌≡◌, IfOk, IfErr, IfSome};
 ghost use Rattle.shm_words.specs.Layout.{GeometryFits};
-ghost use Rattle.pool_calls.specs.Between.{AreRootsEmpty, IsBetween};
+ghost use Rattle.shm_pool.specs.Calls.{IsBetween};
+ghost use Rattle.pool_calls.specs.Clients.{AreRootsEmpty};
 
 use crate::team::{pop_of, put_back, visit, work};
 use shm_graph::Life;

@@ -4,7 +4,8 @@ ghost use Rattle.std.specs.Prelude.{◌≡◌, ◌≢◌, ℕ, ◌<◌, IfOk, If
 ghost use Rattle.shm_words.specs.Layout.{GeometryFits};
 ghost use Rattle.shm_graph.specs.Runs.{EraFits};
 ghost use Rattle.shm_pool.specs.Tokens.{AllOf};
-ghost use Rattle.pool_calls.specs.Between.{AllFirst, AreRootsEmpty, IsBetween};
+ghost use Rattle.shm_pool.specs.Calls.{IsBetween};
+ghost use Rattle.pool_calls.specs.Clients.{AllFirst, AreRootsEmpty};
 
 use crate::calls::{allocate, lower, raise, tear_down};
 use shm_graph::Life;

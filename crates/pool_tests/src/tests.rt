@@ -4,7 +4,7 @@ ghost use Rattle.std.specs.Prelude.{◌≡◌, IfSome};
 ghost use Rattle.shm_words.specs.Layout.{GeometryFits};
 
 use pool_calls::team::{pass_and_close, pass_by, pop_of, put_back};
-use pool_calls::{Team, TwoMade, make_two, recover_and_close, run_two};
+use pool_calls::{Team, TwoMade, make_two, recover_and_close, run_two, visit_and_share};
 use shm_alloc::AllocFault;
 use shm_count::Made;
 use shm_pool::{Cause, CloseCause, CloseStop, SharedPool, Stopped, Vacant};
@@ -402,5 +402,23 @@ fn a_corpse_is_recovered_beside_a_client(rt: HostRuntime) -> Result<(), Fail> {
     for steps in 0..60u64 {
         assert!(rt; is_recovered(&rt, rt.alloc(), geometry, steps)?, "{steps}");
     }
+    Ok(())
+}
+
+/// Whether a client makes a block, and its count doesn't come to 0 as another root that names it is emptied.
+fn is_shared(pool: &SharedPool, token: Vacant) -> bool
+    requires { token.of ≡ pool.now }
+{
+    visit_and_share(pool, token, 1_000) == Some(false)
+}
+
+#[test]
+fn a_root_is_shared_and_dropped(rt: HostRuntime) -> Result<(), Fail> {
+    let (pool, mut all) = SharedPool::make(rt.alloc(), Geometry::new(1, 1)?, 1, false)?;
+    let Some(token) = pop_of(&pool, &mut all) else {
+        panic!(rt; "no token")
+    };
+    assert!(rt; is_shared(&pool, token));
+    assert!(rt; stand(&pool, &[(1, 1), (7, 50), (8, 0), (52, 77)]));
     Ok(())
 }

@@ -1,2 +1,3 @@
 pub mod Alloc
 pub mod BlockPlaces
+pub mod Operating

@@ -5,15 +5,18 @@ ghost use Rattle.shm_words.specs.Layout.{GeometryFits};
 ghost use Rattle.shm_graph.specs.Asks.{at_of, seen_of, words_set};
 ghost use Rattle.shm_graph.specs.Laws.{turn_of};
 ghost use Rattle.shm_alloc.specs.Alloc.Control.{PointFits, alloc_ask, alloc_control, alloc_next, answer_of, point_of};
+ghost use Rattle.shm_alloc.specs.Alloc.AsPart.{AllocLeaves};
+ghost use Rattle.shm_alloc.specs.Alloc.Events.{alloc_event};
 ghost use Rattle.shm_alloc.specs.Alloc.{AllocFits, AllocGives};
 ghost use Rattle.shm_alloc.specs.Alloc.Laws.{alloc_laws};
+ghost use Rattle.shm_alloc.specs.Operating.{AllocMay, alloc_operation};
 ghost use Rattle.shm_alloc.specs.declared.point.AllocPoint.TheVariants.{Era};
 ghost use Rattle.shm_alloc.specs.declared.point.AllocNext.TheVariants.{Point};
 
 use crate::point::{AllocNext, AllocPoint, AllocState};
 use crate::request::Request;
 use shm_count::Made;
-use shm_graph::{Ask, Machine, Me, Turn};
+use shm_graph::{Ask, Machine, Me, Operation, Turn};
 use std::marker::Model;
 
 /// Why no block was made.
@@ -249,4 +252,14 @@ impl Machine for Alloc {
     }
 
     ghost laws = { alloc_laws };
+}
+
+impl Operation for Alloc {
+    ghost may = { AllocMay };
+
+    ghost leaves = { AllocLeaves };
+
+    ghost does = { alloc_event };
+
+    ghost operates = { alloc_operation };
 }

@@ -14,3 +14,5 @@ pub mod MappedParts
 pub mod Grown
 pub mod MadeStays
 pub mod Deciding
+pub mod Tasks
+pub mod EitherOperates

@@ -1,20 +1,14 @@
 -- parts: a machine as larger machines call it, with what it needs at its begin and what it leaves in the end
 use Rattle.std.specs.Prelude.{◌≡◌, ℕ, Bool, List, []}
 use Rattle.shm_graph.specs.declared.ask.Me.{Me}
-use Rattle.shm_graph.specs.declared.spot.Spot.{Spot}
 use Rattle.shm_graph.specs.declared.memo.Memo.{Memo}
 use Rattle.shm_graph.specs.Agents.{recovers}
 use Rattle.shm_graph.specs.Asks.{Trail}
 use Rattle.shm_graph.specs.Events.{Event}
-use Rattle.shm_graph.specs.Held.{HeldAt}
 use Rattle.shm_graph.specs.Laws.{Control}
+pub use Rattle.shm_graph.specs.Operations.{IsHeld}
 use Rattle.shm_graph.specs.Tells.{happens_along, Tells}
-use Rattle.shm_graph.specs.Views.{view}
 use Rattle.shm_calls.specs.Placed.{PlacedLaws}
-
--- the memo is that of an identity in a held state
-abbrev pub IsHeld : Me → Memo → Type 0
-IsHeld me m = (w : Spot → ℕ) × (r : ℕ → Memo) × HeldAt me.geometry w (view r) × (r me.who ≡ m)
 
 -- of a machine with states S and answers A: on the way, when it fits, what it gives and which events it tells of; and as it is called, what it needs of the memo before its first word step, and what it leaves, by the memo before, the memo now, what was asked, the events and the answer; what is asked is one of its trails
 pub record Part (S A : Type 0) : Type 1 where

@@ -8,6 +8,7 @@ pub mod calls;
 pub mod laws;
 pub mod or;
 pub mod plan;
+pub mod task;
 pub mod word;
 
 pub use calls::Calls;
@@ -17,4 +18,5 @@ pub use laws::{
 };
 pub use or::Or;
 pub use plan::Plan;
+pub use task::Task;
 pub use word::Word;

@@ -6,3 +6,4 @@ pub mod TearWalks
 pub mod UpRootPart
 pub mod Steady
 pub mod LastCalls
+pub mod Waiting

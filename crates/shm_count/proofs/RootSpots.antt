@@ -14,7 +14,6 @@ use Rattle.shm_words.proofs.Placing.{address_below, address_small, total_small}
 use Rattle.shm_graph.specs.declared.ask.Me.{Me}
 use Rattle.shm_graph.specs.declared.memo.Memo.{Memo}
 use Rattle.shm_graph.specs.declared.memo.Op.TheVariants as op
-use Rattle.shm_graph.specs.declared.memo.Status.TheVariants.{New, Live, Gone}
 use Rattle.shm_graph.specs.declared.spot.Spot.{Spot}
 use Rattle.shm_graph.specs.declared.spot.Spot.TheVariants as spot
 use Rattle.shm_graph.specs.declared.table.Part.{Part}
@@ -44,6 +43,7 @@ use Rattle.shm_steps.proofs.Cores.{room_least}
 use Rattle.shm_count.specs.Step.Memos.{closed_part}
 use Rattle.shm_count.specs.Roots.{AreRootsReached, member, root_step}
 use Rattle.shm_count.proofs.RootMemos.{StepLeft, up_done, down_done, change_done, left_done, left_refused}
+pub use Rattle.shm_count.specs.Idles.{is_here}
 
 -- ---- it begins
 
@@ -66,10 +66,6 @@ aim_small g c (Change a b) f k = let l = total_small g f in let y = k.0.1 in let
 -- a block of the pool isn't 0
 pub some_inside : (g : Geometry) (c b : ℕ) → IsInside (member g c) b → b ≢ 0
 some_inside g c b h = λ e. let l = h.0 in absurd (omega arith)
-
--- an identity between two calls is here
-pub is_here : (c : ℕ) (r : Memo) → IsIdle c r → IsHere r
-is_here c r idle = record { joined = λ z. (let y : Live ≡ New = sym idle.live ∙ z in absurd (cc)); stays = λ z. (let y : Live ≡ Gone = sym idle.live ∙ z in absurd (cc)) }
 
 module _ (g : Geometry) (c k : ℕ) (f : GeometryFits g) (l : c < g.clients) (s : k < 16) where
   abbrev at : ℕ

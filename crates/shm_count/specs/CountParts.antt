@@ -98,6 +98,10 @@ pub record IsTear (m : TearState) (r : Memo) : Type 0 where
   pub made : m ≡ record { me = m.me; first = m.first; block = m.first; point = Begin }
   pub can : CanTear m.me m.first r
 
+-- what it gives speaks of the events that it tells of
+pub tear_left : (m : TearState) (rs r : Memo) (t : Trail) (a : Result (Unit {0}) EraSpent) → m ≡ record { me = m.me; first = m.first; block = m.first; point = Begin } → TearGives m rs r t a → TearLeaves m.me m.first rs r (happens_along tear_control tear_event m t) t a
+tear_left m rs r t a made g = subst (λ (x : TearState). TearLeaves m.me m.first rs r (happens_along tear_control tear_event x t) t a) (sym made) g.leaves
+
 abbrev pub tear_part : Part TearState (Result (Unit {0}) EraSpent)
 tear_part = record { fits = TearFits; gives = TearGives; does = tear_event; needs = IsTear; leaves = λ m rs r t es a. TearLeaves m.me m.first rs r es t a; asks = λ m. tear_trail m.me m.first }
 
@@ -107,7 +111,7 @@ tear_part_laws first =
       placed = placed first tear_control TearFits TearGives tear_laws;
       tells = tear_tells;
       begins = λ m r n. tears.begins m r (ap (λ (x : TearState). x.point) n.made) (ap (λ (x : TearState). x.block) n.made) (knows m r n) n.can;
-      ends = λ m rs r t a n g held same. subst (λ (x : TearState). TearLeaves m.me m.first rs r (happens_along tear_control tear_event x t) t a) (sym n.made) g.leaves;
+      ends = λ m rs r t a n g held same. tear_left m rs r t a n.made g;
       asked = λ m rs r t a n g. g.trail;
     }
   where

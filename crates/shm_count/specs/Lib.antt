@@ -19,3 +19,7 @@ pub mod Refusing
 pub mod UpRoot
 pub mod CommitTest
 pub mod Steady
+pub mod Idles
+pub mod ShareTask
+pub mod Operating
+pub mod Waiting

@@ -1,14 +1,17 @@
 //! What count steps and tear-downs leave of their agent, of the status and of what is known.
 
-ghost use Rattle.std.specs.Prelude.{◌≡◌, ◌≢◌, ◌⊎◌, ◌<◌, ◌^◌, ◌++◌, ◌∷◌, [], if◌then◌else◌, ℕ, true, false, Bool, Result, Ok, Err};
-ghost use Rattle.std.specs.List.{Contains};
+ghost use Rattle.std.specs.Prelude.{◌≡◌, ◌≢◌, ◌⊎◌, ◌<◌, ◌^◌, ◌++◌, ◌∷◌, [], if◌then◌else◌, ℕ, true, false, Bool, List, Result, Ok, Err, IfOk};
+ghost use Rattle.std.specs.List.{Contains, filter};
+ghost use Rattle.shm_graph.specs.declared.ask.Me.{Me as AMe};
 ghost use Rattle.shm_graph.specs.declared.memo.Memo.{Memo as AMemo};
 ghost use Rattle.shm_graph.specs.declared.spot.Spot.{Spot as ASpot};
 ghost use Rattle.shm_graph.specs.declared.spot.Spot.TheVariants as spots;
 ghost use Rattle.shm_graph.specs.Asks.{Trail};
+ghost use Rattle.shm_graph.specs.Events.{Event as AnEvent};
 ghost use Rattle.shm_graph.specs.Held.{is_slot};
+ghost use Rattle.shm_graph.specs.Idle.{IsIdle};
 ghost use Rattle.shm_graph.specs.Reach.{is_named};
-ghost use Rattle.shm_graph.specs.Stores.{is_of};
+ghost use Rattle.shm_graph.specs.Stores.{is_of, not_block};
 ghost use Rattle.shm_graph.specs.Views.{own_word};
 ghost use Rattle.shm_calls.specs.Grown.{Grows, grown};
 ghost use Rattle.shm_calls.specs.Parts.{PartLaws};
@@ -20,7 +23,9 @@ ghost use Rattle.shm_count.specs.declared.point.Half.TheVariants.{First};
 ghost use Rattle.shm_count.specs.declared.point.StepState.{StepState as AState};
 ghost use Rattle.shm_count.specs.declared.tear_point.TearState.{TearState as ATearState};
 ghost use Rattle.shm_count.specs.MadeSteps.{change_making, down_making, made_up_part, tear_making, up_making};
+ghost use Rattle.shm_count.specs.Operating.{TearDownLeaves, tearing};
 ghost use Rattle.shm_count.specs.Refusing.{ReadsCount};
+ghost use Rattle.shm_count.specs.Roots.{AreRootsReached, root_word};
 ghost use Rattle.shm_count.specs.Step.Control.{last_era, block_at, raises};
 ghost use Rattle.shm_count.specs.Step.{StepGives};
 ghost use Rattle.shm_count.specs.Step.Control.{step_control};
@@ -28,6 +33,7 @@ ghost use Rattle.shm_count.specs.Step.Machines.{down_control, up_control};
 ghost use Rattle.shm_count.specs.Tear.Control.{tear_control};
 ghost use Rattle.shm_count.specs.Tear.{TearGives};
 ghost use Rattle.shm_count.specs.Tear.Memos.{Knows, Retains, is_lasting};
+ghost use Rattle.shm_count.specs.Waiting.{LeavesQueues};
 
 /// Whatever a count step answers, the status and the agent are what they were, and what was read of tails and heads stays.
 pub fn step_lasts()
@@ -48,6 +54,15 @@ pub fn tear_retains()
     ensures values { (m : ATearState) (r0 r : AMemo) (tr : Trail) (a : Result (Unit {0}) ASpent) → TearGives m r0 r tr a → (b : ℕ) → is_named m.me.who r0 b ≡ true → Contains r0.values b → Contains r.values b }
     ensures slots { (m : ATearState) (r0 r : AMemo) (tr : Trail) (a : Result (Unit {0}) ASpent) → TearGives m r0 r tr a → (p : ASpot) (x : ℕ) → is_slot p ≡ true → Knows r0 p x → Knows r p x }
     ensures looks { (m : ATearState) (r0 r : AMemo) (tr : Trail) (a : Result (Unit {0}) ASpent) → TearGives m r0 r tr a → (r.looks ≡ r0.looks) ⊎ (r.looks ≡ []) }
+{}
+
+/// Once a tear-down is done its block is no zero-count block any more. Whatever it answers, the roots, the latch and what waits in queues are
+/// what they were, and what roots name is in reach.
+pub fn tear_keeps()
+    ensures freed { (me : AMe) (b : ℕ) (r0 r : AMemo) (tr : Trail) (es : List AnEvent) (a : Result (Unit {0}) ASpent) → TearDownLeaves (tearing me b) r0 r tr es a → IfOk a (λ u. r.dying ≡ filter (not_block b) r0.dying) }
+    ensures roots { (me : AMe) (b : ℕ) (r0 r : AMemo) (tr : Trail) (es : List AnEvent) (a : Result (Unit {0}) ASpent) → TearDownLeaves (tearing me b) r0 r tr es a → (k : ℕ) → root_word me.who r k ≡ root_word me.who r0 k }
+    ensures left { (me : AMe) (b : ℕ) (r0 r : AMemo) (tr : Trail) (es : List AnEvent) (a : Result (Unit {0}) ASpent) → TearDownLeaves (tearing me b) r0 r tr es a → LeavesQueues r0 r }
+    ensures reached { (me : AMe) (b : ℕ) (r0 r : AMemo) (tr : Trail) (es : List AnEvent) (a : Result (Unit {0}) ASpent) → TearDownLeaves (tearing me b) r0 r tr es a → IsIdle me.who r0 → AreRootsReached me.who r }
 {}
 
 /// A step down that is done at an own root leaves it empty, and its block joins the zero-count blocks where its count came to 0; of the

@@ -27,8 +27,8 @@ pub use events::{
     tear_own_events, tear_stopped,
 };
 pub use lasting::{
-    root_down_retains, step_in_call, step_lasts, step_refusals, tear_in_call, tear_lasts,
-    tear_retains, up_of_made,
+    root_down_retains, step_in_call, step_lasts, step_refusals, tear_in_call, tear_keeps,
+    tear_lasts, tear_retains, up_of_made,
 };
 pub use stays::{step_partitions, tear_partitions, tests_are_steady};
 pub use step::{StepChange, StepDown, StepUp};

@@ -4,13 +4,15 @@ ghost use Rattle.std.specs.Prelude.{◌≡◌, ◌<◌, ◌^◌, slice_index, ve
 ghost use Rattle.shm_words.specs.Layout.{GeometryFits, address_limit};
 ghost use Rattle.shm_graph.specs.Asks.{at_of, seen_of, words_set};
 ghost use Rattle.shm_count.specs.declared.tear_point.TearPoint.TheVariants.{Begin};
+ghost use Rattle.shm_count.specs.Operating.{TearDownLeaves, TearMay, tear_operation};
 ghost use Rattle.shm_count.specs.Tear.Control.{TearInRange, tear_ask, tear_next, answer_of, block_of, point_of, tear_control, is_over};
 ghost use Rattle.shm_count.specs.Tear.{TearFits, TearGives};
+ghost use Rattle.shm_count.specs.Tear.Events.{tear_event};
 ghost use Rattle.shm_count.specs.Tear.Keeps.{tear_laws};
 
 use crate::answer::EraSpent;
 use crate::tear_point::{TearNext, TearPoint, TearState};
-use shm_graph::{Ask, Machine, Me, Turn};
+use shm_graph::{Ask, Machine, Me, Operation, Turn};
 use std::marker::Model;
 
 impl TearState {
@@ -159,4 +161,14 @@ impl Machine for TearDown {
     }
 
     ghost laws = { tear_laws };
+}
+
+impl Operation for TearDown {
+    ghost may = { TearMay };
+
+    ghost leaves = { TearDownLeaves };
+
+    ghost does = { tear_event };
+
+    ghost operates = { tear_operation };
 }

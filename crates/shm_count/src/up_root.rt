@@ -6,10 +6,11 @@ ghost use Rattle.shm_count.specs.UpRoot.Control.{rooting};
 ghost use Rattle.shm_count.specs.UpRoot.Control as control;
 ghost use Rattle.shm_count.specs.UpRoot.{rooting_plan};
 ghost use Rattle.shm_count.specs.UpRoot.Laws.{rooting_laws};
+ghost use Rattle.shm_count.specs.ShareTask.{ShareMay, share_task};
 
 use crate::answer::{ShareFault, UpFault};
 use crate::step::StepUp;
-use shm_calls::{Calls, Or, Plan, Word};
+use shm_calls::{Calls, Or, Plan, Task, Word};
 use shm_graph::{Machine, Me};
 use std::marker::Model;
 
@@ -136,6 +137,12 @@ impl Plan for Rooting {
     }
 
     ghost laws = { rooting_laws };
+}
+
+impl Task for Rooting {
+    ghost may = { ShareMay };
+
+    ghost tasks = { share_task };
 }
 
 /// What the refusal of the step up says of the whole.

@@ -4,3 +4,4 @@ pub mod Runs
 pub mod Memos
 pub mod Machines
 pub mod StepKinds
+pub mod Idles

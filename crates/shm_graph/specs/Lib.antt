@@ -29,3 +29,4 @@ pub mod Tells
 pub mod Idle
 pub mod Mapped
 pub mod Core
+pub mod Operations

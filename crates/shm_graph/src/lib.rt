@@ -12,6 +12,7 @@ pub mod history;
 pub mod laws;
 pub mod machine;
 pub mod memo;
+pub mod operation;
 pub mod run;
 pub mod sound;
 pub mod spot;
@@ -30,6 +31,7 @@ pub use memo::{
     Agent, ChangeStage, Fact, Fate, First, Kind, Look, Making, Memo, Op, Second, Seen, Status,
     Step, Stored, Test,
 };
+pub use operation::Operation;
 pub use run::{Account, LoggedLine, Move, Start};
 pub use sound::{
     clean_pools, commitment_is_shown, gone_leaves_nothing, queues_keep_their_items,

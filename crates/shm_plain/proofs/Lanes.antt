@@ -1,14 +1,17 @@
--- the queues of a pool: what waits in them
-use Rattle.std.proofs.Common.{◌≡◌, ◌≢◌, ℕ, suc, ◌+◌, ◌<◌, ◌≤◌, refl, sym, ap, ◌∙◌, subst, arith, List, ◌∷◌, ◌++◌, length, drop, drop-cons, take-append-drop, length-drop}
+-- the queues of a pool: what waits in them, and which item is the first one
+use Rattle.std.proofs.Common.{◌≡◌, ◌≢◌, ℕ, zero, suc, ◌+◌, ◌<◌, ◌≤◌, refl, sym, ap, ◌∙◌, subst, arith, List, [], ◌∷◌, ◌++◌, append_assoc, length, drop, drop-cons, take-append-drop, length-drop}
 use Rattle.std.specs.List.{Contains}
-use Rattle.std.specs.Prelude.{slice_index}
+use Rattle.std.specs.Prelude.{slice_index, slice_index_or}
 use Rattle.std.proofs.lemmas.Bool.{eq-eqb}
+use Rattle.std.proofs.lemmas.List.{append_cancel_left}
 use Rattle.std.proofs.lemmas.List.Elements.{All-contains}
+use Rattle.shm_graph.specs.declared.memo.Memo.{Memo}
 use Rattle.shm_graph.specs.declared.memo.Stored.{Stored}
 use Rattle.shm_graph.specs.declared.spot.Spot.TheVariants.{QueueHead, Tail, Slot}
 use Rattle.shm_graph.specs.Held.{HeldAt}
 use Rattle.shm_graph.specs.Runs.{memos_of}
 use Rattle.shm_graph.specs.Spots.{see}
+use Rattle.shm_graph.specs.Stores.{lane_with, put}
 use Rattle.shm_graph.specs.Views.{own_word, targets, view}
 use Rattle.shm_graph.proofs.Memos.KnownChange.{KnownHolds}
 use Rattle.shm_graph.proofs.States.Reached.{known_target}
@@ -47,3 +50,25 @@ module _ (p : Pool) (s c : ℕ) (run : IsRun p) (ls : s < p.start.geometry.clien
       let some : n < length (sent_of p s c) = (let all = lane.all_sent in let less = a.3 in omega arith) in
       let queue_head = sym (take-append-drop n (sent_of p s c)) ∙ ap (λ xs. xs ++ drop n (sent_of p s c)) (sym lane.prefix) in
       (drop (suc n) (sent_of p s c), queue_head ∙ ap (λ xs. received_of p s c ++ xs) (drop-cons (sent_of p s c) n 0 some ∙ ap (λ x. x ∷ drop (suc n) (sent_of p s c)) item))
+
+-- item i of a list is the one that was put there
+put_self : {T : Type 0} (d : T) (xs : List T) (i : ℕ) (x : T) → slice_index_or (put d xs i x) i d ≡ x
+put_self d [] zero x = refl
+put_self d [] (suc i) x = put_self d [] i x
+put_self d (y ∷ ys) zero x = refl
+put_self d (y ∷ ys) (suc i) x = put_self d ys i x
+
+-- a pool that c has come to, with nothing done by s: the item at the end of what c received was the first one
+pub taken_first : (p q : Pool) (s c b : ℕ) → IsRun q → s < q.start.geometry.clients → c < q.start.geometry.clients → s ≢ c → memo_of q s ≡ memo_of p s → (memo_of q c).received ≡ lane_with (memo_of p c).received s b → IsFirst p s c b
+taken_first p q s c b run ls lc other same taken =
+    let x = items_wait q s c run ls lc other in
+    let received : received_of q s c ≡ received_of p s c ++ b ∷ [] = ap (λ rs. slice_index_or rs s []) taken ∙ put_self [] (memo_of p c).received s (received_of p s c ++ b ∷ []) in
+    (x.0, ap (λ (m : Memo). slice_index_or m.sent c []) (sym same) ∙ (x.1 ∙ (ap (λ xs. xs ++ x.0) received ∙ append_assoc (received_of p s c) (b ∷ []) x.0)))
+
+-- no two items are the first one
+pub one_first : (p : Pool) (s c b d : ℕ) → IsFirst p s c b → IsFirst p s c d → b ≡ d
+one_first p s c b d x y = ap head_of (append_cancel_left (received_of p s c) (b ∷ x.0) (d ∷ y.0) (sym x.1 ∙ y.1))
+  where
+    head_of : List ℕ → ℕ
+    head_of [] = 0
+    head_of (z ∷ zs) = z

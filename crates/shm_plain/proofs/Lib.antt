@@ -4,3 +4,5 @@ pub mod Calling
 pub mod Stilling
 pub mod StillTable
 pub mod Lanes
+pub mod Answering
+pub mod Called

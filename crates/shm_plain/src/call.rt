@@ -2,15 +2,16 @@
 
 ghost use Rattle.std.specs.Prelude.{◌≡◌, ℕ, ◌+◌, ◌<◌, true, false, length, IfSome};
 ghost use Rattle.std.specs.Option.{is_some};
+ghost use Rattle.shm_words.specs.Layout.{GeometryFits};
 ghost use Rattle.shm_graph.specs.declared.memo.Memo.{Memo};
 ghost use Rattle.shm_graph.specs.Events.{Event};
 ghost use Rattle.shm_graph.specs.Tells.{Tells, happens_along};
 ghost use Rattle.shm_graph.specs.Whole.{fits_now, gives_now};
-ghost use Rattle.shm_plain.specs.Pools.{IsOf, MayStep, memo_of, readied};
-ghost use Rattle.shm_plain.specs.Calls.{Did, Ran, Took};
+ghost use Rattle.shm_plain.specs.Pools.{IsOf, IsRun, MayStep, memo_of, readied};
+ghost use Rattle.shm_plain.specs.Calls.{Did, IsAtWork, Ran, Took};
 
 use crate::pool::PlainPool;
-use shm_graph::{Life, Machine, Turn};
+use shm_graph::{Life, Machine, Me, Operation, Turn};
 
 impl PlainPool {
     /// Steps a machine of `who` until it has answered, or no word step is left. Where it has not answered it fits still.
@@ -34,5 +35,35 @@ impl PlainPool {
                 Turn::Died => return None,
             }
         }
+    }
+
+    /// The identity `who` of the pool, as its machines have it.
+    pub fn me(&self, who: u8) -> Me
+        requires { who < self.now.start.geometry.clients }
+        ensures is { result ≡ record { geometry = self.now.start.geometry; who = who } }
+        ensures fits { GeometryFits result.geometry }
+        ensures inside { result.who < result.geometry.clients }
+        ensures run { IsRun self.now }
+    {
+        Me::new(self.geometry(), who)
+    }
+
+    /// Runs an operation of `who` until it answers, or no word step is left. Where it has not answered it fits still, as it was left.
+    pub fn run<O: Operation + Drop>(
+        &mut self,
+        who: u8,
+        mut operation: O,
+        life: &mut Life,
+    ) -> Option<O::Answer>
+        requires at_work { IsAtWork who self.old }
+        requires me { O.control.me operation ≡ record { geometry = self.old.start.geometry; who = who } }
+        requires may { O.may operation (memo_of self.old who) }
+        ensures leaves { IfSome result (λ a. let tr = (memo_of self.new who).call in let es = happens_along O.control O.does operation tr in Did who self.old self.new es × O.leaves operation (memo_of self.old who) (memo_of self.new who) tr es a) }
+        ensures at_work { IfSome result (λ a. O.rests operation a → IsAtWork who self.new) }
+        ensures cut { is_some result ≡ false → (m : O) × (O.control.finished m ≡ false) × fits_now O.control O.fits m (memo_of self.old who) (memo_of (readied self.new who) who) }
+        ensures ran { Ran who true (is_some result) self.old self.new life.old.left life.new.left }
+    {
+        self.geometry();
+        self.call(who, &mut operation, life)
     }
 }

@@ -1,11 +1,12 @@
 //! What holds of each pool.
 
 ghost use Rattle.std.specs.Prelude.{◌≡◌, ◌≢◌, ℕ, ◌+◌, ◌<◌, ◌≤◌, List, [], length, ◌∷◌, ◌++◌, slice_index_or};
+ghost use Rattle.std.specs.List.{Contains};
 ghost use Rattle.shm_graph.specs.declared.memo.Step.{Step as AStep};
 ghost use Rattle.shm_graph.specs.declared.run.Move.{Move as AMove};
 ghost use Rattle.shm_graph.specs.declared.run.Move.TheVariants.{Word};
 ghost use Rattle.shm_graph.specs.declared.run.Start.{Start as AStart};
-ghost use Rattle.shm_graph.specs.declared.spot.Spot.TheVariants.{Era, Home, QueueHead, Tail};
+ghost use Rattle.shm_graph.specs.declared.spot.Spot.TheVariants.{Era, Home, QueueHead, Slot, Tail};
 ghost use Rattle.shm_graph.specs.declared.table.Entry.{Entry as AnEntry};
 ghost use Rattle.shm_graph.specs.declared.table.Part.TheVariants.{Table};
 ghost use Rattle.shm_graph.specs.Agents.{steps_made};
@@ -16,9 +17,10 @@ ghost use Rattle.shm_graph.specs.References.{references};
 ghost use Rattle.shm_graph.specs.Runs.{State, IsMove, Leads, first_state, memos_of, moved};
 ghost use Rattle.shm_graph.specs.Sound.{IsSound};
 ghost use Rattle.shm_graph.specs.Spots.{classes_in, see, spot_at};
+ghost use Rattle.shm_graph.specs.Stores.{lane_with};
 ghost use Rattle.shm_graph.specs.Tables.{IsPartition, contents_of};
 ghost use Rattle.shm_graph.specs.Views.{own_word, view};
-ghost use Rattle.shm_plain.specs.Lanes.{Wait, received_of, sent_of};
+ghost use Rattle.shm_plain.specs.Lanes.{IsFirst, Wait, received_of, sent_of};
 ghost use Rattle.shm_plain.specs.Pools.{Pool as APool, IsRun, after_fall, first_pool, memo_of};
 
 use crate::closed::PlainClosed;
@@ -45,6 +47,14 @@ pub fn queues_of_pool(pool: &PlainPool)
     // for the proof: its turns lead to the words and accounts
     pool.geometry();
 }
+
+/// In a pool to which its turns lead an item that is known in the slot at a head is the first one that waits. One that joined what was received
+/// while its sender did nothing was the first one before. No two items of a queue are the first one.
+pub fn first_items()
+    ensures known { (p : APool) → IsRun p → (s c k b : ℕ) → s < p.start.geometry.clients → c < p.start.geometry.clients → s ≢ c → Contains (memo_of p c).known (record { spot = Slot s c k; value = b }) → IsFirst p s c b }
+    ensures received { (p q : APool) → IsRun q → (s c b : ℕ) → s < q.start.geometry.clients → c < q.start.geometry.clients → s ≢ c → memo_of q s ≡ memo_of p s → (memo_of q c).received ≡ lane_with (memo_of p c).received s b → IsFirst p s c b }
+    ensures one { (p : APool) (s c b d : ℕ) → IsFirst p s c b → IsFirst p s c d → b ≡ d }
+{}
 
 /// In a pool to which its turns lead each own era is at least the first era, and at most that and the word steps that the agents of its
 /// identity have made.

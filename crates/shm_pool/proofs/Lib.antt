@@ -6,3 +6,4 @@ pub mod Ends
 pub mod Changing
 pub mod Joining
 pub mod Seating
+pub mod Replied

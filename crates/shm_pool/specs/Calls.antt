@@ -7,6 +7,7 @@ use Rattle.shm_graph.specs.declared.run.Account.{Account}
 use Rattle.shm_graph.specs.declared.run.Start.{Start}
 use Rattle.shm_graph.specs.declared.memo.Step.{Step}
 use Rattle.shm_graph.specs.Agents.{is_gone}
+use Rattle.shm_graph.specs.Idle.{IsIdle}
 use Rattle.shm_graph.specs.Laws.{Control, step_of, turn_of}
 use Rattle.shm_graph.specs.Runs.{account_after, told_by, told_left, begun_by, Stood}
 use Rattle.shm_graph.specs.Whole.{Learns}
@@ -82,6 +83,11 @@ pub record Tells (line : List ℕ) (r r' : Account) : Type 0 where
   pub begun : r'.begun ≡ begun_by line r.begun
   pub running : r'.running ≡ []
   pub over : r'.memo.over ≡ true
+
+-- a client between two calls: it is idle, and its last machine is finished
+pub record IsBetween (e : Account) : Type 0 where
+  pub idle : IsIdle e.who e.memo
+  pub over : e.memo.over ≡ true
 
 -- an agent ends where its machine is done and leaves the status gone
 abbrev pub acts_still : Bool → Memo → Bool

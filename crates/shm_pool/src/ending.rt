@@ -14,7 +14,7 @@ use crate::steps::run_place;
 use crate::token::{Cause, Client, Corpse, Stopped, Vacant};
 use shm_calls::Calls;
 use shm_count::EraSpent;
-use shm_graph::{Life, Machine, Me, Start};
+use shm_graph::{Life, Machine, Start};
 use shm_recover::Leaving;
 
 /// The corpse of an agent that was stopped; `begun` says whether one had begun.
@@ -105,8 +105,7 @@ impl Client {
         ensures stopped { self.dead ≡ false → IfErr result (λ s. HasNotLeft self.of self.account life.old.left life.new.left s.cause s.corpse) }
         ensures again { self.dead ≡ true → (is_err result ≡ true) × IfErr result (λ s. (s.cause ≡ cause.Died) × (s.corpse ≡ fallen_of self) × (life.new ≡ life.old)) }
     {
-        let me = Me::new(pool.geometry(), self.client());
-        let mut leave = Calls::new(Leaving::new(me));
+        let mut leave = Calls::new(Leaving::new(self.me()));
         self.leave_by(pool, &mut leave, life)
     }
 }

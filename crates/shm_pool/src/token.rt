@@ -1,16 +1,18 @@
 //! Tokens of one identity each.
 
 ghost use Rattle.std.specs.Prelude.{◌≡◌, ℕ, ◌+◌, ◌<◌, ◌↔◌, ◌⊎◌, true, false, IfOk, IfErr, is_err};
+ghost use Rattle.shm_words.specs.Layout.{GeometryFits};
 ghost use Rattle.shm_graph.specs.declared.memo.Kind.TheVariants.{Client as AClient};
 ghost use Rattle.shm_graph.specs.declared.memo.Memo.{Memo};
 ghost use Rattle.shm_graph.specs.Agents.{acts, recovers};
 ghost use Rattle.shm_graph.specs.Core.{core};
 ghost use Rattle.shm_graph.specs.Laws.{is_died};
 ghost use Rattle.shm_graph.specs.Runs.{account_entered, Stood};
+ghost use Rattle.shm_graph.specs.Tells.{happens_along};
 ghost use Rattle.shm_graph.specs.Whole.{fits_now, gives_now};
 ghost use Rattle.shm_recover.specs.Join.{JoinGives, join_fresh, join_line};
 ghost use Rattle.shm_pool.specs.declared.token.Cause.TheVariants as cause;
-ghost use Rattle.shm_pool.specs.Calls.{ClientStepped, Calls, CallStays, Tells, shown};
+ghost use Rattle.shm_pool.specs.Calls.{ClientStepped, Calls, CallStays, IsBetween, Tells, shown};
 ghost use Rattle.shm_pool.specs.Tokens.{me_of, live, IsFor, IsOut};
 ghost use Rattle.shm_pool.specs.Replies.{IsLost, IfReply, is_reply};
 ghost use Rattle.shm_pool.specs.Endings.{ClientMayLeave};
@@ -20,7 +22,7 @@ use crate::pool::SharedPool;
 use crate::reply::Reply;
 use crate::rule::Place;
 use crate::steps::{note_client, run_place, step_place};
-use shm_graph::{Life, Machine, Me, Start, Turn};
+use shm_graph::{Life, Machine, Me, Operation, Start, Turn};
 use shm_recover::Join;
 use std::marker::Model;
 
@@ -165,6 +167,17 @@ impl Client {
         self.who
     }
 
+    /// The identity in its pool, which machines ask for; it is a client's, and its account is one of a state that holds.
+    pub fn me(&self) -> Me
+        ensures is { result ≡ me_of self.now.of self.now.account }
+        ensures fits { GeometryFits result.geometry }
+        ensures who { result.who < result.geometry.clients }
+        ensures stood { Stood self.now.of.start self.now.account }
+        ensures kind { recovers self.now.account.memo ≡ false }
+    {
+        Me::new(self.start.geometry, self.who)
+    }
+
     /// One word step of a machine, unless no life is left or a call of this client has died.
     #[inline(always)]
     pub fn step<M: Machine>(
@@ -196,7 +209,7 @@ impl Client {
     }
 
     /// The steps of a machine until it is finished or no life is left.
-    pub fn run<M: Machine>(
+    pub fn drive<M: Machine>(
         &mut self,
         pool: &SharedPool,
         m: &mut M,
@@ -225,6 +238,33 @@ impl Client {
                 Reply::Died
             }
         }
+    }
+
+    /// Runs an operation of the client until it answers, or no life is left. A client that hasn't died is between two calls again.
+    pub fn run<O: Operation + Drop>(
+        &mut self,
+        pool: &SharedPool,
+        mut operation: O,
+        life: &mut Life,
+    ) -> Reply<O::Answer>
+        requires pool { self.old.of ≡ pool.now }
+        requires between { self.old.dead ≡ false → IsBetween self.old.account }
+        requires me { O.control.me operation ≡ me_of self.old.of self.old.account }
+        requires may { self.old.dead ≡ false → O.may operation self.old.account.memo }
+        requires rests { (a : O.Answer) → O.rests operation a }
+        ensures same { (self.new.of ≡ self.old.of) × (self.new.account.who ≡ self.old.account.who) }
+        ensures stood { Stood self.new.of.start self.new.account }
+        ensures died { IsLost result ↔ (self.new.dead ≡ true) }
+        ensures again { self.old.dead ≡ true → IsLost result × (self.new ≡ self.old) × (life.new ≡ life.old) }
+        ensures spent { self.old.dead ≡ false → IsLost result → life.new.left ≡ 0 }
+        ensures call { self.old.dead ≡ false → Calls (shown O.control operation) self.old.account self.new.account (is_reply result) life.old.left life.new.left }
+        ensures told { IfReply result (λ _. Tells (O.control.line operation) self.old.account self.new.account) }
+        ensures leaves { IfReply result (λ a. let tr = self.new.account.memo.call in O.leaves operation self.old.account.memo self.new.account.memo tr (happens_along O.control O.does operation tr) a) }
+        ensures between { self.new.dead ≡ false → IsBetween self.new.account }
+    {
+        // for the proof: the account stood
+        self.client();
+        self.drive(pool, &mut operation, life)
     }
 
     /// The agent is dead: its death is noted before the next one begins.

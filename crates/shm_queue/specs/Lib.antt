@@ -10,3 +10,5 @@ pub mod Peek
 pub mod Drain
 pub mod Receive
 pub mod Machines
+pub mod QueueTasks
+pub mod Keeping

@@ -6,10 +6,11 @@ ghost use Rattle.shm_queue.specs.Drain.Control.{draining, turned, turned_answer}
 ghost use Rattle.shm_queue.specs.Drain.{drain_plan};
 ghost use Rattle.shm_queue.specs.Drain.Laws.{drain_laws};
 ghost use Rattle.shm_queue.specs.Take.Laws.{take_laws};
+ghost use Rattle.shm_queue.specs.QueueTasks.{DrainMay, drain_task};
 
 use crate::answer::TakeFault;
 use crate::take::{Take, Taking};
-use shm_calls::{Calls, Or, Plan, Word};
+use shm_calls::{Calls, Or, Plan, Task, Word};
 use shm_count::EraSpent;
 use shm_graph::{Machine, Me};
 use std::marker::Model;
@@ -141,4 +142,10 @@ impl Plan for Draining {
     }
 
     ghost laws = { drain_laws take_laws };
+}
+
+impl Task for Draining {
+    ghost may = { DrainMay };
+
+    ghost tasks = { drain_task };
 }

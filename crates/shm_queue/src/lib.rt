@@ -8,6 +8,7 @@ pub mod answer;
 pub mod bound;
 pub mod drain;
 pub mod events;
+pub mod keeping;
 pub mod parts;
 pub mod peek;
 pub mod receive;
@@ -23,6 +24,7 @@ pub use events::{
     receive_begins, receive_events, receive_leaves, send_begins, send_events, send_leaves,
     take_begins, take_events, take_leaves,
 };
+pub use keeping::{drain_keeps, peek_keeps, receive_keeps, send_keeps, take_keeps};
 pub use peek::{Peek, Peeking};
 pub use receive::{Receive, Receiving};
 pub use refusals::{drain_refusals, peek_refusals, receive_refusals, send_refusals, take_refusals};

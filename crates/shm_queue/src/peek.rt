@@ -5,9 +5,10 @@ ghost use Rattle.shm_words.specs.Layout.{GeometryFits};
 ghost use Rattle.shm_queue.specs.Peek.Control.{peeking, after_word, turns_word};
 ghost use Rattle.shm_queue.specs.Peek.{peek_plan};
 ghost use Rattle.shm_queue.specs.Peek.Laws.{peek_laws};
+ghost use Rattle.shm_queue.specs.QueueTasks.{PeekMay, peek_task};
 
 use crate::answer::PeekFault;
-use shm_calls::{Calls, Or, Plan, Word};
+use shm_calls::{Calls, Or, Plan, Task, Word};
 use shm_count::Made;
 use shm_count::parts::{Rooting, ShareFault, UpRoot};
 use shm_graph::{Machine, Me};
@@ -153,4 +154,10 @@ impl Plan for Peeking {
     }
 
     ghost laws = { peek_laws };
+}
+
+impl Task for Peeking {
+    ghost may = { PeekMay };
+
+    ghost tasks = { peek_task };
 }

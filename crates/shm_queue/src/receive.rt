@@ -7,11 +7,12 @@ ghost use Rattle.shm_queue.specs.Receive.{receive_plan};
 ghost use Rattle.shm_queue.specs.Peek.Laws.{peek_laws};
 ghost use Rattle.shm_queue.specs.Receive.Laws.{receive_laws};
 ghost use Rattle.shm_queue.specs.Take.Laws.{take_laws};
+ghost use Rattle.shm_queue.specs.QueueTasks.{ReceiveMay, receive_task};
 
 use crate::answer::{PeekFault, TakeFault};
 use crate::peek::{Peek, Peeking};
 use crate::take::{Take, Taking};
-use shm_calls::{Calls, Or, Plan};
+use shm_calls::{Calls, Or, Plan, Task};
 use shm_count::Made;
 use shm_graph::{Machine, Me};
 use std::marker::Model;
@@ -124,4 +125,10 @@ impl Plan for Receiving {
     }
 
     ghost laws = { receive_laws peek_laws take_laws };
+}
+
+impl Task for Receiving {
+    ghost may = { ReceiveMay };
+
+    ghost tasks = { receive_task };
 }

@@ -5,9 +5,10 @@ ghost use Rattle.shm_words.specs.Layout.{GeometryFits, address_limit};
 ghost use Rattle.shm_queue.specs.Send.Control.{sending};
 ghost use Rattle.shm_queue.specs.Send.{send_plan};
 ghost use Rattle.shm_queue.specs.Send.Laws.{send_laws};
+ghost use Rattle.shm_queue.specs.QueueTasks.{SendMay, send_task};
 
 use crate::answer::SendFault;
-use shm_calls::{Calls, Or, Plan, Word};
+use shm_calls::{Calls, Or, Plan, Task, Word};
 use shm_count::{StepUp, UpFault};
 use shm_graph::{Machine, Me};
 use std::marker::Model;
@@ -144,4 +145,10 @@ impl Plan for Sending {
     }
 
     ghost laws = { send_laws };
+}
+
+impl Task for Sending {
+    ghost may = { SendMay };
+
+    ghost tasks = { send_task };
 }

@@ -5,9 +5,10 @@ ghost use Rattle.shm_words.specs.Layout.{GeometryFits};
 ghost use Rattle.shm_queue.specs.Take.Control.{taking, after_word, turns_word};
 ghost use Rattle.shm_queue.specs.Take.{take_plan};
 ghost use Rattle.shm_queue.specs.Take.Laws.{take_laws};
+ghost use Rattle.shm_queue.specs.QueueTasks.{TakeMay, take_task};
 
 use crate::answer::TakeFault;
-use shm_calls::{Calls, Or, Plan, Word};
+use shm_calls::{Calls, Or, Plan, Task, Word};
 use shm_count::{EraSpent, StepDown, TearDown};
 use shm_graph::{Machine, Me};
 use shm_words::ADDRESS_LIMIT;
@@ -172,4 +173,10 @@ impl Plan for Taking {
     }
 
     ghost laws = { take_laws };
+}
+
+impl Task for Taking {
+    ghost may = { TakeMay };
+
+    ghost tasks = { take_task };
 }

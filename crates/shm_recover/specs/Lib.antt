@@ -13,3 +13,4 @@ pub mod GiveUp
 pub mod Recover
 pub mod Departures
 pub mod Machines
+pub mod LeaveTask

@@ -5,8 +5,9 @@ ghost use Rattle.shm_words.specs.Layout.{GeometryFits};
 ghost use Rattle.shm_recover.specs.Leave.Control.{leaving, leave_next};
 ghost use Rattle.shm_recover.specs.Leave.{leave_plan};
 ghost use Rattle.shm_recover.specs.Leave.Laws.{leave_laws};
+ghost use Rattle.shm_recover.specs.LeaveTask.{LeaveMay, LeaveRests, leave_task};
 
-use shm_calls::{Calls, Or, Plan, Word};
+use shm_calls::{Calls, Or, Plan, Task, Word};
 use shm_count::EraSpent;
 use shm_graph::{Machine, Me};
 use shm_ref::parts::{DropRoots, DroppingRoots};
@@ -139,4 +140,12 @@ impl Plan for Leaving {
     }
 
     ghost laws = { leave_laws };
+}
+
+impl Task for Leaving {
+    ghost may = { LeaveMay };
+
+    ghost rests = { LeaveRests };
+
+    ghost tasks = { leave_task };
 }

@@ -1,3 +1,9 @@
 pub mod Steady
 pub mod FullCounts
 pub mod RefusedDrops
+pub mod LatchKeeps
+pub mod ReadKeeps
+pub mod HomeKeeps
+pub mod SetKeeps
+pub mod RootKeeps
+pub mod RootStepKeeps

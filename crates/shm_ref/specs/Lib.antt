@@ -19,3 +19,7 @@ pub mod HomeParts
 pub mod SetHome
 pub mod SetRef
 pub mod Machines
+pub mod LatchTasks
+pub mod RootTasks
+pub mod Single
+pub mod RootSteps

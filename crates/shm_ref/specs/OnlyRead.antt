@@ -17,7 +17,7 @@ use Rattle.shm_graph.specs.declared.memo.Stored.{Stored}
 use Rattle.shm_graph.specs.Asks.{Trail}
 use Rattle.shm_graph.specs.Core.{core}
 use Rattle.shm_graph.specs.Events.{Event}
-use Rattle.shm_graph.specs.Idle.{hold_word}
+use Rattle.shm_graph.specs.Idle.{IsIdle, hold_word}
 use Rattle.shm_graph.specs.Ops.{cover, cover_of}
 use Rattle.shm_graph.specs.Reach.{is_named, is_reached, learnt, named_blocks, shown}
 use Rattle.shm_graph.specs.Readings.{values_read}
@@ -38,11 +38,12 @@ use Rattle.shm_ref.specs.Look.{LookLeaves}
 use Rattle.shm_ref.specs.Read.{ReadLeaves}
 use Rattle.shm_ref.specs.ReadParts.{MayAsk, tagged}
 
--- only words were read: the status, the own words, the step in progress, the latch and the known head slots are what they were, and the looks have grown
+-- only words were read: the status, the own words, the step in progress, the block that is prepared, the latch and the known head slots are what they were, and the looks have grown
 pub record OnlyRead (m r : Memo) : Type 0 where
   pub status : r.status ≡ m.status
   pub own : r.own ≡ m.own
   pub op : r.op ≡ m.op
+  pub making : r.making ≡ m.making
   pub latch : r.latch ≡ m.latch
   pub slots : filter is_slot_word r.known ≡ filter is_slot_word m.known
   pub more : List Look
@@ -53,6 +54,16 @@ pub record OnlyRead (m r : Memo) : Type 0 where
 -- no step is in progress
 pub still_drops : (me : Me) (m r : Memo) → OnlyRead m r → MayDrop me m → MayDrop me r
 still_drops me m r s h = record { geometry = h.geometry; who = h.who; here = here_same m r s.status h.here; idle = s.op ∙ h.idle }
+
+-- an identity between two calls is between two calls still
+pub still_idle : (c : ℕ) (m r : Memo) → OnlyRead m r → IsIdle c m → IsIdle c r
+still_idle c m r s h =
+    record {
+      live = s.status ∙ h.live;
+      op = s.op ∙ h.op;
+      making = s.making ∙ h.making;
+      hold = ap (λ ks. own_word ks (Hold c)) s.own ∙ (h.hold ∙ ap hold_word (sym s.latch));
+    }
 
 -- reading may go on
 pub still_asks : (me : Me) (m r : Memo) → OnlyRead m r → MayAsk me m → MayAsk me r
@@ -85,6 +96,7 @@ read_more m r known values more slots e =
       status = ap (λ (x : Memo). x.status) e;
       own = ap (λ (x : Memo). x.own) e;
       op = ap (λ (x : Memo). x.op) e;
+      making = ap (λ (x : Memo). x.making) e;
       latch = ap (λ (x : Memo). x.latch) e;
       slots = ap (λ (x : Memo). filter is_slot_word x.known) e ∙ slots;
       more = more;

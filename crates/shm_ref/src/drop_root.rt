@@ -5,8 +5,9 @@ ghost use Rattle.shm_words.specs.Layout.{GeometryFits};
 ghost use Rattle.shm_ref.specs.DropRoot.Control.{dropping};
 ghost use Rattle.shm_ref.specs.DropRoot.{drop_plan};
 ghost use Rattle.shm_ref.specs.DropRoot.Laws.{drop_laws};
+ghost use Rattle.shm_ref.specs.RootTasks.{DropMay, drop_task};
 
-use shm_calls::{Calls, Or, Plan, Word};
+use shm_calls::{Calls, Or, Plan, Task, Word};
 use shm_count::{EraSpent, StepDown, TearDown};
 use shm_graph::{Machine, Me};
 use shm_words::ADDRESS_LIMIT;
@@ -125,4 +126,10 @@ impl Plan for Dropping {
     }
 
     ghost laws = { drop_laws };
+}
+
+impl Task for Dropping {
+    ghost may = { DropMay };
+
+    ghost tasks = { drop_task };
 }

@@ -5,9 +5,10 @@ ghost use Rattle.shm_words.specs.Layout.{GeometryFits};
 ghost use Rattle.shm_ref.specs.DropRoots.Control.{dropping_roots};
 ghost use Rattle.shm_ref.specs.DropRoots.{roots_plan};
 ghost use Rattle.shm_ref.specs.DropRoots.Laws.{roots_laws};
+ghost use Rattle.shm_ref.specs.RootTasks.{RootsMay, roots_task};
 
 use crate::drop_root::{DropRoot, Dropping};
-use shm_calls::{Calls, Plan};
+use shm_calls::{Calls, Plan, Task};
 use shm_count::EraSpent;
 use shm_graph::{Machine, Me};
 use std::marker::Model;
@@ -87,4 +88,10 @@ impl Plan for DroppingRoots {
     }
 
     ghost laws = { roots_laws };
+}
+
+impl Task for DroppingRoots {
+    ghost may = { RootsMay };
+
+    ghost tasks = { roots_task };
 }

@@ -5,9 +5,10 @@ ghost use Rattle.shm_words.specs.Layout.{GeometryFits};
 ghost use Rattle.shm_ref.specs.Hold.Control.{holding};
 ghost use Rattle.shm_ref.specs.Hold.{hold_plan};
 ghost use Rattle.shm_ref.specs.Hold.Laws.{hold_laws};
+ghost use Rattle.shm_ref.specs.LatchTasks.{HoldMay, hold_task};
 
 use crate::answer::Busy;
-use shm_calls::{Calls, Plan, Word};
+use shm_calls::{Calls, Plan, Task, Word};
 use shm_graph::{Machine, Me};
 use std::marker::Model;
 
@@ -126,4 +127,10 @@ impl Plan for Holding {
     }
 
     ghost laws = { hold_laws };
+}
+
+impl Task for Holding {
+    ghost may = { HoldMay };
+
+    ghost tasks = { hold_task };
 }

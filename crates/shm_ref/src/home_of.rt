@@ -4,9 +4,10 @@ ghost use Rattle.std.specs.Prelude.{◌≡◌, ◌<◌};
 ghost use Rattle.shm_words.specs.Layout.{GeometryFits};
 ghost use Rattle.shm_ref.specs.HomeOf.{finding, home_of_plan};
 ghost use Rattle.shm_ref.specs.HomeOf.Laws.{home_of_laws};
+ghost use Rattle.shm_ref.specs.LatchTasks.{FindMay, find_task};
 
 use crate::answer::NotHeld;
-use shm_calls::{Calls, Plan, Word};
+use shm_calls::{Calls, Plan, Task, Word};
 use shm_graph::{Machine, Me};
 use shm_words::ADDRESS_LIMIT;
 use std::marker::Model;
@@ -105,4 +106,10 @@ impl Plan for FindingHome {
     }
 
     ghost laws = { home_of_laws };
+}
+
+impl Task for FindingHome {
+    ghost may = { FindMay };
+
+    ghost tasks = { find_task };
 }

@@ -13,12 +13,14 @@ pub mod drop_roots;
 pub mod events;
 pub mod hold;
 pub mod home_of;
+pub mod keeping;
 pub mod look;
 pub mod parts;
 pub mod read;
 pub mod refusals;
 pub mod release;
 pub mod root_of;
+pub mod root_steps;
 pub mod set_home;
 pub mod set_ref;
 pub mod setting;
@@ -41,6 +43,11 @@ pub use events::{
 };
 pub use hold::{Hold, Holding};
 pub use home_of::{FindingHome, HomeOf};
+pub use keeping::{
+    change_root_keeps, drop_root_keeps, hold_keeps, home_of_keeps, look_keeps, lower_root_keeps,
+    raise_root_keeps, read_keeps, release_keeps, root_of_keeps, set_home_keeps, set_ref_keeps,
+    share_keeps,
+};
 pub use look::{Look, Looking};
 pub use read::{Read, Reading};
 pub use refusals::{
@@ -49,6 +56,7 @@ pub use refusals::{
 };
 pub use release::{Release, Releasing};
 pub use root_of::{Naming, RootOf};
+pub use root_steps::{ChangeRoot, Changing, LowerRoot, Lowering, RaiseRoot, Raising};
 pub use set_home::{Homing, SetHome};
 pub use set_ref::{SetRef, Setting};
 pub use setting::{

@@ -4,10 +4,11 @@ ghost use Rattle.std.specs.Prelude.{◌≡◌, ◌<◌, ◌^◌};
 ghost use Rattle.shm_words.specs.Layout.{GeometryFits, address_limit};
 ghost use Rattle.shm_ref.specs.Look.{looking, look_plan};
 ghost use Rattle.shm_ref.specs.Look.Laws.{look_laws};
+ghost use Rattle.shm_ref.specs.LatchTasks.{LookMay, look_task};
 
 use crate::answer::LookFault;
 use crate::tagged::tag_in;
-use shm_calls::{Calls, Plan, Word};
+use shm_calls::{Calls, Plan, Task, Word};
 use shm_graph::{Machine, Me};
 use shm_words::ADDRESS_LIMIT;
 use std::marker::Model;
@@ -129,4 +130,10 @@ impl Plan for Looking {
     }
 
     ghost laws = { look_laws };
+}
+
+impl Task for Looking {
+    ghost may = { LookMay };
+
+    ghost tasks = { look_task };
 }

@@ -11,5 +11,6 @@ pub use crate::read::{ReadPoint, ReadState};
 pub use crate::refusals::drop_roots_refusals;
 pub use crate::release::{ReleasePoint, ReleaseState};
 pub use crate::root_of::NamingState;
+pub use crate::root_steps::{ChangingState, LoweringState, RaisingState};
 pub use crate::set_home::{HomePoint, HomeState};
 pub use crate::set_ref::{SetPoint, SetState};

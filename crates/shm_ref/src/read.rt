@@ -4,10 +4,11 @@ ghost use Rattle.std.specs.Prelude.{◌≡◌, ◌<◌, ◌^◌};
 ghost use Rattle.shm_words.specs.Layout.{GeometryFits, address_limit};
 ghost use Rattle.shm_ref.specs.Read.{reading, read_plan};
 ghost use Rattle.shm_ref.specs.Read.Laws.{read_laws};
+ghost use Rattle.shm_ref.specs.LatchTasks.{ReadMay, read_task};
 
 use crate::answer::NoSuchWord;
 use crate::tagged::tag_in;
-use shm_calls::{Calls, Plan, Word};
+use shm_calls::{Calls, Plan, Task, Word};
 use shm_graph::{Machine, Me};
 use std::marker::Model;
 
@@ -117,4 +118,10 @@ impl Plan for Reading {
     }
 
     ghost laws = { read_laws };
+}
+
+impl Task for Reading {
+    ghost may = { ReadMay };
+
+    ghost tasks = { read_task };
 }

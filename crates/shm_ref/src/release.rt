@@ -4,8 +4,9 @@ ghost use Rattle.std.specs.Prelude.{◌≡◌, ◌<◌};
 ghost use Rattle.shm_words.specs.Layout.{GeometryFits};
 ghost use Rattle.shm_ref.specs.Release.{releasing, release_plan};
 ghost use Rattle.shm_ref.specs.Release.Laws.{release_laws};
+ghost use Rattle.shm_ref.specs.LatchTasks.{ReleaseMay, release_task};
 
-use shm_calls::{Calls, Plan, Word};
+use shm_calls::{Calls, Plan, Task, Word};
 use shm_graph::{Machine, Me};
 use std::marker::Model;
 
@@ -108,4 +109,10 @@ impl Plan for Releasing {
     }
 
     ghost laws = { release_laws };
+}
+
+impl Task for Releasing {
+    ghost may = { ReleaseMay };
+
+    ghost tasks = { release_task };
 }

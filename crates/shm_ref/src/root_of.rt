@@ -4,8 +4,9 @@ ghost use Rattle.std.specs.Prelude.{◌≡◌, ◌<◌};
 ghost use Rattle.shm_words.specs.Layout.{GeometryFits};
 ghost use Rattle.shm_ref.specs.RootOf.{naming, naming_plan};
 ghost use Rattle.shm_ref.specs.RootOf.Laws.{naming_laws};
+ghost use Rattle.shm_ref.specs.LatchTasks.{NamingMay, naming_task};
 
-use shm_calls::{Calls, Plan, Word};
+use shm_calls::{Calls, Plan, Task, Word};
 use shm_graph::{Machine, Me};
 use shm_words::ADDRESS_LIMIT;
 use std::marker::Model;
@@ -77,4 +78,10 @@ impl Plan for Naming {
     }
 
     ghost laws = { naming_laws };
+}
+
+impl Task for Naming {
+    ghost may = { NamingMay };
+
+    ghost tasks = { naming_task };
 }

@@ -4,9 +4,10 @@ ghost use Rattle.std.specs.Prelude.{◌≡◌, ◌<◌, ◌^◌};
 ghost use Rattle.shm_words.specs.Layout.{GeometryFits, address_limit};
 ghost use Rattle.shm_ref.specs.SetHome.{homing, home_plan};
 ghost use Rattle.shm_ref.specs.SetHome.Laws.{home_laws};
+ghost use Rattle.shm_ref.specs.RootTasks.{HomeMay, home_task};
 
 use crate::answer::HomeFault;
-use shm_calls::{Calls, Or, Plan, Word};
+use shm_calls::{Calls, Or, Plan, Task, Word};
 use shm_count::{StepUp, UpFault};
 use shm_graph::{Machine, Me};
 use shm_words::ADDRESS_LIMIT;
@@ -112,4 +113,10 @@ impl Plan for Homing {
     }
 
     ghost laws = { home_laws };
+}
+
+impl Task for Homing {
+    ghost may = { HomeMay };
+
+    ghost tasks = { home_task };
 }

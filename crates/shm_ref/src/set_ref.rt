@@ -6,10 +6,11 @@ ghost use Rattle.shm_ref.specs.SetRef.Control as control;
 ghost use Rattle.shm_ref.specs.SetRef.Control.{setting};
 ghost use Rattle.shm_ref.specs.SetRef.{set_plan};
 ghost use Rattle.shm_ref.specs.SetRef.Laws.{set_laws};
+ghost use Rattle.shm_ref.specs.RootTasks.{SetMay, set_task};
 
 use crate::answer::SetFault;
 use crate::tagged::{author_in, refs_in};
-use shm_calls::{Calls, Or, Plan, Word};
+use shm_calls::{Calls, Or, Plan, Task, Word};
 use shm_count::{EraSpent, StepChange, StepDown, StepUp, TearDown, UpFault};
 use shm_graph::{Machine, Me};
 use shm_words::ADDRESS_LIMIT;
@@ -237,4 +238,10 @@ impl Plan for Setting {
     }
 
     ghost laws = { set_laws };
+}
+
+impl Task for Setting {
+    ghost may = { SetMay };
+
+    ghost tasks = { set_task };
 }

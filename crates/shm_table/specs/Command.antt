@@ -4,6 +4,7 @@ pub mod Events
 pub mod Bound
 pub mod Maps
 pub mod Sends
+pub mod Operates
 use Rattle.std.specs.Prelude.{◌≢◌, ℕ, ◌<◌, Bool, false, Option}
 use Rattle.shm_graph.specs.declared.ask.Me.{Me}
 use Rattle.shm_graph.specs.declared.memo.Memo.{Memo}

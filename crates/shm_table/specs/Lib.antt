@@ -27,6 +27,7 @@ pub mod RecvKey
 pub mod SendKey
 pub mod Effects
 pub mod Cutting
+pub mod TableTasks
 pub mod Command
 pub mod Refusals
 pub mod Causes

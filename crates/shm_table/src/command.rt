@@ -5,8 +5,9 @@ ghost use Rattle.shm_words.specs.Layout.{GeometryFits};
 ghost use Rattle.shm_calls.specs.Deciding.{either};
 ghost use Rattle.shm_script.specs.Text.{line_spelled};
 ghost use Rattle.shm_table.specs.Command as control;
-ghost use Rattle.shm_table.specs.Command.{CommandFits, CommandGives, MayStand, command_control, command_effect, command_of};
+ghost use Rattle.shm_table.specs.Command.{CommandFits, CommandGives, MayStand, command_control, command_does, command_effect, command_of};
 ghost use Rattle.shm_table.specs.Command.Laws.{command_laws};
+ghost use Rattle.shm_table.specs.Command.Operates.{CommandLeaves, CommandMay, command_operation};
 ghost use Rattle.shm_table.specs.CopyKey.Laws.{copy_laws};
 ghost use Rattle.shm_table.specs.Del.Laws.{del_laws};
 ghost use Rattle.shm_table.specs.Enter.Laws.{enter_laws};
@@ -29,7 +30,7 @@ use crate::put::Put;
 use crate::recv::RecvKey;
 use crate::send_key::SendKey;
 use shm_calls::Or;
-use shm_graph::{Ask, Machine, Me, Turn};
+use shm_graph::{Ask, Machine, Me, Operation, Turn};
 use shm_script::{Answer, Line};
 use std::marker::Model;
 
@@ -163,4 +164,14 @@ impl Machine for Command {
     }
 
     ghost laws = { command_laws (put_laws (put_root_laws open_laws locate_laws replace_laws enter_laws)) (copy_laws fetch_laws (put_root_laws open_laws locate_laws replace_laws enter_laws)) del_laws get_laws send_key_laws (recv_laws fetch_head_laws take_head_laws (put_root_laws open_laws locate_laws replace_laws enter_laws)) };
+}
+
+impl Operation for Command {
+    ghost may = { CommandMay };
+
+    ghost leaves = { CommandLeaves };
+
+    ghost does = { command_does };
+
+    ghost operates = { command_operation (put_laws (put_root_laws open_laws locate_laws replace_laws enter_laws)) (copy_laws fetch_laws (put_root_laws open_laws locate_laws replace_laws enter_laws)) del_laws get_laws send_key_laws (recv_laws fetch_head_laws take_head_laws (put_root_laws open_laws locate_laws replace_laws enter_laws)) };
 }

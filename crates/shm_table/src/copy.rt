@@ -17,12 +17,13 @@ ghost use Rattle.shm_table.specs.Locate.Laws.{locate_laws};
 ghost use Rattle.shm_table.specs.OpenTable.Laws.{open_laws};
 ghost use Rattle.shm_table.specs.PutRoot.Laws.{put_root_laws};
 ghost use Rattle.shm_table.specs.Replace.Laws.{replace_laws};
+ghost use Rattle.shm_table.specs.TableTasks.{CopyMay, copy_task};
 
 use crate::answer::PutFault;
 use crate::effect::Deciding;
 use crate::fetch::{Fetch, Fetched, Fetching};
 use crate::put_root::{PutRoot, settled};
-use shm_calls::{Calls, Or, Plan};
+use shm_calls::{Calls, Or, Plan, Task};
 use shm_count::EraSpent;
 use shm_graph::{Ask, Machine, Me, Turn};
 use shm_ref::{DropRoot, Dropping};
@@ -298,4 +299,10 @@ impl Plan for Copying {
     }
 
     ghost laws = { copy_laws fetch_laws (put_root_laws open_laws locate_laws replace_laws enter_laws) };
+}
+
+impl Task for Copying {
+    ghost may = { CopyMay };
+
+    ghost tasks = { copy_task };
 }

@@ -11,6 +11,7 @@ ghost use Rattle.shm_table.specs.Del.Control.{del_parts};
 ghost use Rattle.shm_table.specs.Del.Control.{deleting};
 ghost use Rattle.shm_table.specs.Del.{del_plan};
 ghost use Rattle.shm_table.specs.Del.Laws.{del_laws};
+ghost use Rattle.shm_table.specs.TableTasks.{DelMay, del_task};
 
 use crate::answer::PutFault;
 use crate::effect::Deciding;
@@ -18,7 +19,7 @@ use crate::find::Found;
 use crate::locate::{Locate, Locating};
 use crate::unlatch::{Unlatch, Unlatching};
 use crate::unlink::{Unlink, Unlinking};
-use shm_calls::{Calls, Or, Plan};
+use shm_calls::{Calls, Or, Plan, Task};
 use shm_count::UpFault;
 use shm_graph::{Ask, Machine, Me, Turn};
 use shm_script::Answer;
@@ -256,6 +257,12 @@ impl Plan for Deleting {
     }
 
     ghost laws = { del_laws };
+}
+
+impl Task for Deleting {
+    ghost may = { DelMay };
+
+    ghost tasks = { del_task };
 }
 
 /// Whether the entry was taken out.

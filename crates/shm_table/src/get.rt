@@ -10,11 +10,12 @@ ghost use Rattle.shm_table.specs.Get.Control as control;
 ghost use Rattle.shm_table.specs.Get.Control.{get_parts};
 ghost use Rattle.shm_table.specs.Get.{get_plan};
 ghost use Rattle.shm_table.specs.Get.Laws.{get_laws};
+ghost use Rattle.shm_table.specs.TableTasks.{GetMay, get_task};
 
 use crate::find::Found;
 use crate::locate::{Locate, Locating};
 use crate::unlatch::{Unlatch, Unlatching};
-use shm_calls::{Calls, Or, Plan, Word};
+use shm_calls::{Calls, Or, Plan, Task, Word};
 use shm_graph::{Ask, Machine, Me, Turn};
 use shm_script::Answer;
 use shm_words::ADDRESS_LIMIT;
@@ -256,4 +257,10 @@ impl Plan for Getting {
     }
 
     ghost laws = { get_laws };
+}
+
+impl Task for Getting {
+    ghost may = { GetMay };
+
+    ghost tasks = { get_task };
 }

@@ -16,12 +16,13 @@ ghost use Rattle.shm_table.specs.OpenTable.Laws.{open_laws};
 ghost use Rattle.shm_table.specs.Put.Laws.{put_laws};
 ghost use Rattle.shm_table.specs.PutRoot.Laws.{put_root_laws};
 ghost use Rattle.shm_table.specs.Replace.Laws.{replace_laws};
+ghost use Rattle.shm_table.specs.TableTasks.{PutMay, put_task};
 
 use crate::answer::PutFault;
 use crate::effect::Deciding;
 use crate::put_root::{PutRoot, settled};
 use shm_alloc::{Alloc, AllocFault, Request};
-use shm_calls::{Calls, Or, Plan};
+use shm_calls::{Calls, Or, Plan, Task};
 use shm_count::{EraSpent, Made};
 use shm_graph::{Ask, Machine, Me, Turn};
 use shm_ref::{DropRoot, Dropping};
@@ -279,4 +280,10 @@ impl Plan for Putting {
     }
 
     ghost laws = { put_laws (put_root_laws open_laws locate_laws replace_laws enter_laws) };
+}
+
+impl Task for Putting {
+    ghost may = { PutMay };
+
+    ghost tasks = { put_task };
 }

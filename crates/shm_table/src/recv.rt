@@ -17,6 +17,7 @@ ghost use Rattle.shm_table.specs.OpenTable.Laws.{open_laws};
 ghost use Rattle.shm_table.specs.PutRoot.Laws.{put_root_laws};
 ghost use Rattle.shm_table.specs.Replace.Laws.{replace_laws};
 ghost use Rattle.shm_table.specs.TakeHead.Laws.{take_head_laws};
+ghost use Rattle.shm_table.specs.TableTasks.{RecvMay, recv_task};
 
 use crate::answer::PutFault;
 use crate::copy::{answer, stuck};
@@ -24,7 +25,7 @@ use crate::effect::Deciding;
 use crate::fetch_head::{FetchHead, FetchedHead, FetchingHead};
 use crate::put_root::{PutRoot, settled};
 use crate::take_head::{TakeHead, TakingHead};
-use shm_calls::{Calls, Or, Plan};
+use shm_calls::{Calls, Or, Plan, Task};
 use shm_count::EraSpent;
 use shm_graph::{Ask, Machine, Me, Turn};
 use shm_ref::{DropRoot, Dropping};
@@ -309,4 +310,10 @@ impl Plan for ReceivingKey {
     }
 
     ghost laws = { recv_laws fetch_head_laws take_head_laws (put_root_laws open_laws locate_laws replace_laws enter_laws) };
+}
+
+impl Task for ReceivingKey {
+    ghost may = { RecvMay };
+
+    ghost tasks = { recv_task };
 }

@@ -10,11 +10,12 @@ ghost use Rattle.shm_table.specs.SendKey.Control as control;
 ghost use Rattle.shm_table.specs.SendKey.Control.{send_key_parts, sending_key};
 ghost use Rattle.shm_table.specs.SendKey.{send_key_plan};
 ghost use Rattle.shm_table.specs.SendKey.Laws.{send_key_laws};
+ghost use Rattle.shm_table.specs.TableTasks.{SendKeyMay, send_key_task};
 
 use crate::find::Found;
 use crate::locate::{Locate, Locating};
 use crate::unlatch::{Unlatch, Unlatching};
-use shm_calls::{Calls, Or, Plan, Word};
+use shm_calls::{Calls, Or, Plan, Task, Word};
 use shm_graph::{Ask, Machine, Me, Turn};
 use shm_queue::{Send, SendFault, Sending};
 use shm_script::Answer;
@@ -272,4 +273,10 @@ impl Plan for SendingKey {
     }
 
     ghost laws = { send_key_laws };
+}
+
+impl Task for SendingKey {
+    ghost may = { SendKeyMay };
+
+    ghost tasks = { send_key_task };
 }

@@ -32,7 +32,7 @@ use Rattle.shm_script.specs.Ranges.{LineFits}
 use Rattle.shm_table.specs.Commands.{MayCommand}
 use Rattle.shm_table.specs.Locate.{MayLocate}
 use Rattle.shm_table.specs.Staying.{Ended}
-use Rattle.plain_calls.specs.Queues.{LeavesQueues}
+use Rattle.shm_count.specs.Waiting.{LeavesQueues}
 use Rattle.table_calls.specs.Running.{AreOpen, IsOpen, LeavesOpen, MayRun}
 
 -- ---- how they come to be so

@@ -31,7 +31,7 @@ use Rattle.shm_table.specs.RecvKey.{ItemTaken, RecvLeaves}
 use Rattle.shm_table.specs.SendKey.Control.{sending_key}
 use Rattle.shm_table.specs.SendKey.{IsSent, SendKeyLeaves}
 use Rattle.shm_table.specs.Staying.{Cleared, Ended, Keeps}
-use Rattle.plain_calls.proofs.PlanCalls.{idle_core}
+use Rattle.shm_graph.proofs.Idles.{idle_core}
 use Rattle.table_calls.specs.Running.{LeavesOpen, RunLeaves}
 
 -- the identity is between two calls again, no latch is held, and what waits is as it was; so are roots and zero-count blocks, unless the own era was spent

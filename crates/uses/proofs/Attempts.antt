@@ -41,7 +41,7 @@ use Rattle.shm_table.specs.SendKey.Laws.{send_key_laws}
 use Rattle.shm_table.specs.TakeHead.Laws.{take_head_laws}
 use Rattle.table_calls.specs.Running.{MapSo, MayRun}
 use Rattle.table_calls.proofs.RunBegins.{run_begins, run_fresh}
-use Rattle.plain_calls.proofs.Called.{fits_first}
+use Rattle.shm_plain.proofs.Called.{fits_first}
 
 -- what is owed of a command
 pub laws : Laws command_control CommandFits CommandGives

@@ -1,14 +1,14 @@
 -- clients with nothing to finish: how they come to be so, and stay so
-use Rattle.std.proofs.Common.{◌≡◌, ℕ, Bool, ap, ◌∙◌}
-use Rattle.std.specs.Prelude.{None, slice_index}
+use Rattle.std.proofs.Common.{◌≡◌, ℕ, Bool, refl, ◌∙◌}
+use Rattle.std.specs.Prelude.{None, Some, slice_index}
 use Rattle.shm_graph.specs.declared.memo.Memo.{Memo}
 use Rattle.shm_graph.specs.Agents.{recovers}
 use Rattle.shm_graph.specs.Held.{is_loose}
-use Rattle.shm_alloc.specs.Alloc.{AllocStays}
 use Rattle.shm_plain.specs.Calls.{IsAtWork, Ran}
 use Rattle.shm_plain.specs.Pools.{IsRun, Pool, memo_of}
-use Rattle.plain_calls.specs.Queues.{LeavesQueues, LeavesWaiting}
-use Rattle.uses.specs.Blocks.{HasRun, IsFree}
+use Rattle.shm_count.specs.Waiting.{LeavesQueues, LeavesWaiting}
+use Rattle.plain_calls.specs.Clear.{IsClear}
+use Rattle.uses.specs.Blocks.{HasRun, IsFree, IsHolding}
 
 -- whether the pool is for tables, the zero-count blocks, and what waits in queues are as they were
 pub record Rests (m r : Memo) : Type 0 where
@@ -19,10 +19,6 @@ pub record Rests (m r : Memo) : Type 0 where
 
 pub rests_then : (m q r : Memo) → Rests m q → Rests q r → Rests m r
 rests_then m q r a b = record { loose = b.loose ∙ a.loose; dying = b.dying ∙ a.dying; unsent = λ j. b.unsent j ∙ a.unsent j; untaken = λ j. b.untaken j ∙ a.untaken j }
-
--- after an allocation
-pub made_rests : (m r : Memo) → AllocStays m r → Rests m r
-made_rests m r s = record { loose = ap is_loose s.part; dying = s.dying; unsent = λ j. ap (λ y. slice_index y j) s.unsent; untaken = λ j. ap (λ y. slice_index y j) s.untaken }
 
 -- after a call that says what waits
 pub waiting_rests : (m r : Memo) → is_loose r.part ≡ is_loose m.part → LeavesWaiting m r → Rests m r
@@ -46,6 +42,30 @@ free_again c p q h work run kind rests latch =
         untaken = λ j. rests.untaken j ∙ h.clear.untaken j;
       };
     }
+
+-- ---- the own latch
+
+-- but for the latch nothing is to finish, as before
+still : (m r : Memo) → IsClear (record m { latch = None }) → Rests m r → IsClear (record r { latch = None })
+still m r h rests = record { loose = rests.loose ∙ h.loose; latch = refl; dying = rests.dying ∙ h.dying; unsent = λ j. rests.unsent j ∙ h.unsent j; untaken = λ j. rests.untaken j ∙ h.untaken j }
+
+-- it was taken
+pub holds_now : (c : ℕ) (p q : Pool) → IsFree c p → IsAtWork c q → IsRun q → recovers (memo_of q c) ≡ recovers (memo_of p c) → Rests (memo_of p c) (memo_of q c) → (memo_of q c).latch ≡ Some c → IsHolding c q
+holds_now c p q h work run kind rests latch =
+    let x = h.clear in
+    let clear : IsClear (record (memo_of p c) { latch = None }) = record { loose = x.loose; latch = refl; dying = x.dying; unsent = x.unsent; untaken = x.untaken } in
+    record { work = work; run = run; client = kind ∙ h.client; latch = latch; clear = still (memo_of p c) (memo_of q c) clear rests }
+
+-- it is held still
+pub holds_still : (c : ℕ) (p q : Pool) → IsHolding c p → IsAtWork c q → IsRun q → recovers (memo_of q c) ≡ recovers (memo_of p c) → Rests (memo_of p c) (memo_of q c) → (memo_of q c).latch ≡ (memo_of p c).latch → IsHolding c q
+holds_still c p q h work run kind rests latch =
+    record { work = work; run = run; client = kind ∙ h.client; latch = latch ∙ h.latch; clear = still (memo_of p c) (memo_of q c) h.clear rests }
+
+-- it was given back
+pub holds_no_more : (c : ℕ) (p q : Pool) → IsHolding c p → IsAtWork c q → IsRun q → recovers (memo_of q c) ≡ recovers (memo_of p c) → Rests (memo_of p c) (memo_of q c) → (memo_of q c).latch ≡ None → IsFree c q
+holds_no_more c p q h work run kind rests latch =
+    let x = still (memo_of p c) (memo_of q c) h.clear rests in
+    record { work = work; run = run; client = kind ∙ h.client; clear = record { loose = x.loose; latch = latch; dying = x.dying; unsent = x.unsent; untaken = x.untaken } }
 
 -- ---- turns of c alone
 

@@ -1,5 +1,6 @@
 mod Names
 mod Frees
+mod Done
 mod Pairs
 mod Auditing
 mod Attempts

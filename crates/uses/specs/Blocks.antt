@@ -1,5 +1,5 @@
 -- two blocks of a client, of which the first one refers to the second
-use Rattle.std.specs.Prelude.{◌≡◌, ◌≢◌, ℕ, ◌<◌, false}
+use Rattle.std.specs.Prelude.{◌≡◌, ◌≢◌, ℕ, ◌<◌, false, None, Some}
 use Rattle.shm_graph.specs.declared.memo.Memo.{Memo}
 use Rattle.shm_graph.specs.declared.spot.Spot.{Spot}
 use Rattle.shm_graph.specs.declared.spot.Spot.TheVariants.{Body, Home, Root}
@@ -10,7 +10,7 @@ use Rattle.shm_plain.specs.Pools.{IsRun, Pool, memo_of}
 use Rattle.shm_count.specs.declared.answer.Made.{Made}
 use Rattle.shm_count.specs.Roots.{root_word}
 use Rattle.shm_count.specs.Tear.Memos.{Knows}
-use Rattle.plain_calls.specs.Queues.{IsClear}
+use Rattle.plain_calls.specs.Clear.{IsClear}
 use Rattle.uses.specs.declared.memory.Pair.{Pair}
 
 -- c is a client between two calls, in a pool for single calls; it holds no latch, no count came to 0, and nothing waits in its queues: each call may be made, and it may leave
@@ -19,6 +19,18 @@ pub record IsFree (c : ℕ) (p : Pool) : Type 0 where
   pub run : IsRun p
   pub client : recovers (memo_of p c) ≡ false
   pub clear : IsClear (memo_of p c)
+
+-- the same, but that c holds its own latch, under which the words of its blocks are set
+pub record IsHolding (c : ℕ) (p : Pool) : Type 0 where
+  pub work : IsAtWork c p
+  pub run : IsRun p
+  pub client : recovers (memo_of p c) ≡ false
+  pub latch : (memo_of p c).latch ≡ Some c
+  pub clear : IsClear (record (memo_of p c) { latch = None })
+
+-- the roots of c are as they were
+abbrev pub AreSameRoots : ℕ → Memo → Memo → Type 0
+AreSameRoots c m r = (k : ℕ) → root_word c r k ≡ root_word c m k
 
 -- a root of c that was empty names the block, and the other roots are as they were
 pub record IsMade (c : ℕ) (x : Made) (m r : Memo) : Type 0 where
@@ -36,8 +48,10 @@ pub record AreRooted (c : ℕ) (x : Pair) (m : Memo) : Type 0 where
   pub parent : root_word c m x.parent.root ≡ x.parent.block
   pub child : root_word c m x.child.root ≡ x.child.block
 
--- a root of c names the parent, and the child is known to be what word 0 of it names
+-- one of the roots of c names the parent, and the child is known to be what word 0 of it names
 pub record Refers (c : ℕ) (x : Pair) (m : Memo) : Type 0 where
+  pub low : x.parent.root < 16
+  pub some : x.parent.block ≢ 0
   pub parent : root_word c m x.parent.root ≡ x.parent.block
   pub reference : Knows m (Body x.parent.block 0) x.child.block
 

@@ -71,6 +71,10 @@ pub record MayCompare (m : CompareState) (r : Memo) : Type 0 where
   pub first : m.first < 16
   pub second : m.second < 16
 
+-- two roots that there are may be compared
+abbrev pub CompareMay : CompareState → Memo → Type 0
+CompareMay m r = (m ≡ comparing m.me m.first m.second) × (m.first < 16) × (m.second < 16)
+
 -- what the first root names was found, and nothing else came of that
 pub record IsFound (m : CompareState) (r0 r : Memo) (tr : Trail) (es : List Event) : Type 0 where
   pub may : MayCompare m r0

@@ -1,22 +1,24 @@
 //! A machine of one's own: whether two roots of an identity name one block.
 
-ghost use Rattle.std.specs.Prelude.{◌≡◌, ◌==◌, ◌<◌, true, [], IfErr, IfSome};
+ghost use Rattle.std.specs.Prelude.{◌≡◌, ◌==◌, ◌<◌, false, true, [], IfErr, IfOk, IfSome};
 ghost use Rattle.std.specs.Option.{is_some};
 ghost use Rattle.shm_words.specs.Layout.{GeometryFits};
+ghost use Rattle.shm_graph.specs.Agents.{recovers};
 ghost use Rattle.shm_graph.specs.Core.{core};
+ghost use Rattle.shm_graph.specs.Reach.{is_reached};
 ghost use Rattle.shm_plain.specs.Calls.{Did, IsAtWork, Ran};
-ghost use Rattle.shm_plain.specs.Pools.{memo_of};
+ghost use Rattle.shm_plain.specs.Pools.{IsRun, memo_of};
 ghost use Rattle.shm_count.specs.Roots.{root_word};
 ghost use Rattle.uses.specs.declared.stop.Stop.TheVariants as stop;
-ghost use Rattle.uses.specs.Compare.{comparing, compare_plan};
-ghost use Rattle.uses.specs.Compare.Laws.{compare_laws};
+ghost use Rattle.uses.specs.Compare.{CompareMay, comparing, compare_plan};
+ghost use Rattle.uses.specs.Compare.Laws.{compare_laws, compare_task};
 
 use crate::stop::Stop;
-use plain_calls::{allocate, joined, share};
-use shm_calls::{Calls, Plan};
+use plain_calls::{allocate, joined};
+use shm_calls::{Calls, Plan, Task};
 use shm_graph::{Life, Machine, Me};
 use shm_plain::PlainPool;
-use shm_ref::{Naming, RootOf};
+use shm_ref::{Naming, RootOf, Sharing, share_keeps};
 use shm_words::Geometry;
 use std::alloc::Global;
 use std::marker::Model;
@@ -119,6 +121,12 @@ impl Plan for Comparing {
     ghost laws = { compare_laws };
 }
 
+impl Task for Comparing {
+    ghost may = { CompareMay };
+
+    ghost tasks = { compare_task };
+}
+
 /// Says whether two roots of `who` name the same block, or neither names one; none where no word step was left. It changes nothing.
 pub fn same_block(
     pool: &mut PlainPool,
@@ -136,9 +144,26 @@ pub fn same_block(
     ensures ran { Ran who true (is_some result) pool.old pool.new life.old.left life.new.left }
     ensures events { IfSome result (λ b. Did who pool.old pool.new []) }
 {
-    let geometry = pool.geometry();
-    let mut machine = Calls::new(Comparing::new(Me::new(geometry, who), first, second));
-    pool.call(who, &mut machine, life)
+    let comparing = Comparing::new(pool.me(who), first, second);
+    pool.run(who, Calls::new(comparing), life)
+}
+
+/// Has a further root of `who` name a block that a root names already.
+fn share(pool: &mut PlainPool, who: u8, block: u32, life: &mut Life) -> Result<u8, Stop>
+    requires at_work { IsAtWork who pool.old }
+    requires run { IsRun pool.old }
+    requires client { recovers (memo_of pool.old who) ≡ false }
+    requires reached { is_reached who (memo_of pool.old who) block ≡ true }
+    ensures at_work { IfOk result (λ k. IsAtWork who pool.new) }
+    ensures low { IfOk result (λ k. k < 16) }
+    ensures died { IfErr result (λ e. e ≡ stop.Died → life.new.left ≡ 0) }
+{
+    // for the proof: the root that a share answers is one that there is
+    share_keeps();
+    let sharing = Calls::new(Sharing::new(pool.me(who), block));
+    pool.run(who, sharing, life)
+        .ok_or(Stop::Died)?
+        .map_err(Stop::NotShared)
 }
 
 /// Makes a pool in which client 0 makes a block and has a second root name it, and says whether both roots do.
@@ -153,8 +178,6 @@ pub fn shared_root(alloc: Global, geometry: Geometry, life: &mut Life) -> Result
         .map_err(Stop::TooLarge)?
         .ok_or(Stop::Died)?
         .map_err(Stop::NotMade)?;
-    let root = share(&mut pool, 0, made.block, life)
-        .ok_or(Stop::Died)?
-        .map_err(Stop::NotShared)?;
+    let root = share(&mut pool, 0, made.block, life)?;
     same_block(&mut pool, 0, made.root, root, life).ok_or(Stop::Died)
 }

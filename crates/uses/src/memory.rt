@@ -1,17 +1,24 @@
 //! Blocks in a pool of one's own: of two blocks the first one refers to the second, which lives on that reference alone.
 
-ghost use Rattle.std.specs.Prelude.{◌≡◌, false, IfOk, IfErr};
+ghost use Rattle.std.specs.Prelude.{◌≡◌, ◌≢◌, ◌<◌, false, IfOk, IfErr};
 ghost use Rattle.shm_words.specs.Layout.{GeometryFits};
+ghost use Rattle.shm_graph.specs.declared.memo.Status.TheVariants.{Gone};
 ghost use Rattle.shm_plain.specs.Closings.{IsClosedRun};
 ghost use Rattle.shm_plain.specs.Pools.{memo_of};
 ghost use Rattle.uses.specs.declared.stop.Stop.TheVariants as stop;
-ghost use Rattle.uses.specs.Blocks.{AreRooted, HasRun, IsFree, IsMade, IsPair, Refers};
+ghost use Rattle.uses.specs.Blocks.{AreRooted, AreSameRoots, HasRun, IsFree, IsHolding, IsMade, IsPair, Refers};
 
 use crate::stop::Stop;
-use plain_calls::{allocate, drop_root, hold, joined, leave, release, set_home, set_ref};
+use plain_calls::{allocate, joined};
+use shm_calls::Calls;
 use shm_count::Made;
 use shm_graph::Life;
 use shm_plain::{PlainClosed, PlainPool};
+use shm_recover::Leaving;
+use shm_ref::{
+    Dropping, Holding, Homing, Releasing, Setting, drop_root_keeps, hold_keeps, release_keeps,
+    set_home_keeps, set_ref_keeps,
+};
 use shm_words::Geometry;
 use std::alloc::Global;
 
@@ -42,6 +49,75 @@ fn block(
         .map_err(Stop::NotMade)
 }
 
+/// Has `who` take its own latch. Its roots stay as they are.
+fn take_latch(pool: &mut PlainPool, who: u8, life: &mut Life) -> Result<(), Stop>
+    requires free { IsFree who pool.old }
+    ensures holds { IfOk result (λ u. IsHolding who pool.new) }
+    ensures roots { IfOk result (λ u. AreSameRoots who (memo_of pool.old who) (memo_of pool.new who)) }
+    ensures ran { HasRun who pool.old pool.new }
+    ensures died { IfErr result (λ e. e ≡ stop.Died → life.new.left ≡ 0) }
+{
+    // for the proof: what a hold keeps
+    hold_keeps();
+    let holding = Calls::new(Holding::new(pool.me(who), who));
+    pool.run(who, holding, life)
+        .ok_or(Stop::Died)?
+        .map_err(Stop::Busy)
+}
+
+/// Has word 0 of the first block name the second.
+fn set_ref(pool: &mut PlainPool, who: u8, pair: Pair, life: &mut Life) -> Result<(), Stop>
+    requires holds { IsHolding who pool.old }
+    requires rooted { AreRooted who pair (memo_of pool.old who) }
+    ensures holds { IfOk result (λ u. IsHolding who pool.new) }
+    ensures refers { IfOk result (λ u. Refers who pair (memo_of pool.new who)) }
+    ensures ran { HasRun who pool.old pool.new }
+    ensures died { IfErr result (λ e. e ≡ stop.Died → life.new.left ≡ 0) }
+{
+    // for the proof: what the setting of a reference keeps
+    set_ref_keeps();
+    let (parent, child) = (pair.parent.block, pair.child.block);
+    let setting = Calls::new(Setting::new(pool.me(who), parent, 0, child));
+    pool.run(who, setting, life)
+        .ok_or(Stop::Died)?
+        .map_err(Stop::NotSet)
+}
+
+/// Drops the root of the second block, which lives on the reference of the first one then.
+fn drop_root(pool: &mut PlainPool, who: u8, pair: Pair, life: &mut Life) -> Result<(), Stop>
+    requires holds { IsHolding who pool.old }
+    requires refers { Refers who pair (memo_of pool.old who) }
+    requires child { pair.child.root < 16 }
+    requires apart { pair.parent.root ≢ pair.child.root }
+    ensures holds { IfOk result (λ u. IsHolding who pool.new) }
+    ensures refers { IfOk result (λ u. Refers who pair (memo_of pool.new who)) }
+    ensures ran { HasRun who pool.old pool.new }
+    ensures died { IfErr result (λ e. e ≡ stop.Died → life.new.left ≡ 0) }
+{
+    // for the proof: what the drop of a root keeps
+    drop_root_keeps();
+    let dropping = Calls::new(Dropping::new(pool.me(who), pair.child.root));
+    pool.run(who, dropping, life)
+        .ok_or(Stop::Died)?
+        .map_err(Stop::Spent)?;
+    Ok(())
+}
+
+/// Has `who` give its latch back.
+fn give_back(pool: &mut PlainPool, who: u8, pair: Pair, life: &mut Life) -> Result<(), Stop>
+    requires holds { IsHolding who pool.old }
+    requires refers { Refers who pair (memo_of pool.old who) }
+    ensures free { IfOk result (λ u. IsFree who pool.new) }
+    ensures refers { IfOk result (λ u. Refers who pair (memo_of pool.new who)) }
+    ensures ran { HasRun who pool.old pool.new }
+    ensures died { IfErr result (λ e. e ≡ stop.Died → life.new.left ≡ 0) }
+{
+    // for the proof: what a release keeps
+    release_keeps();
+    let releasing = Calls::new(Releasing::new(pool.me(who)));
+    pool.run(who, releasing, life).ok_or(Stop::Died)
+}
+
 /// Has the first block refer to the second, which keeps that alive when its root is dropped.
 fn refer(pool: &mut PlainPool, who: u8, pair: Pair, life: &mut Life) -> Result<(), Stop>
     requires free { IsFree who pool.old }
@@ -51,19 +127,41 @@ fn refer(pool: &mut PlainPool, who: u8, pair: Pair, life: &mut Life) -> Result<(
     ensures ran { HasRun who pool.old pool.new }
     ensures died { IfErr result (λ e. e ≡ stop.Died → life.new.left ≡ 0) }
 {
-    let (parent, child) = (pair.parent.block, pair.child);
     // the reference words of a client's blocks are set under its own latch
-    hold(pool, who, who, life)
+    take_latch(pool, who, life)?;
+    set_ref(pool, who, pair, life)?;
+    drop_root(pool, who, pair, life)?;
+    give_back(pool, who, pair, life)
+}
+
+/// Has the home of `who` name the first block.
+fn set_home(pool: &mut PlainPool, who: u8, pair: Pair, life: &mut Life) -> Result<(), Stop>
+    requires free { IsFree who pool.old }
+    requires refers { Refers who pair (memo_of pool.old who) }
+    ensures free { IfOk result (λ u. IsFree who pool.new) }
+    ensures refers { IfOk result (λ u. IsPair who pair pool.new) }
+    ensures ran { HasRun who pool.old pool.new }
+    ensures died { IfErr result (λ e. e ≡ stop.Died → life.new.left ≡ 0) }
+{
+    // for the proof: what the setting of a home keeps
+    set_home_keeps();
+    let homing = Calls::new(Homing::new(pool.me(who), pair.parent.block));
+    pool.run(who, homing, life)
         .ok_or(Stop::Died)?
-        .map_err(Stop::Busy)?;
-    set_ref(pool, who, parent, 0, child.block, life)
+        .map_err(Stop::NoHome)
+}
+
+/// Has `who`, which has nothing to finish, leave.
+fn leave(pool: &mut PlainPool, who: u8, life: &mut Life) -> Result<(), Stop>
+    requires free { IsFree who pool.old }
+    ensures gone { IfOk result (λ u. (memo_of pool.new who).status ≡ Gone) }
+    ensures ran { HasRun who pool.old pool.new }
+    ensures died { IfErr result (λ e. e ≡ stop.Died → life.new.left ≡ 0) }
+{
+    let leaving = Calls::new(Leaving::new(pool.me(who)));
+    pool.run(who, leaving, life)
         .ok_or(Stop::Died)?
-        .map_err(Stop::NotSet)?;
-    drop_root(pool, who, child.root, life)
-        .ok_or(Stop::Died)?
-        .map_err(Stop::Spent)?;
-    release(pool, who, life).ok_or(Stop::Died)?;
-    Ok(())
+        .map_err(Stop::Spent)
 }
 
 /// Makes two blocks for `who`, one with a reference word and one with the plain word 7. The first one refers to the second, and the home of
@@ -79,9 +177,7 @@ pub fn make_pair(pool: &mut PlainPool, who: u8, life: &mut Life) -> Result<Pair,
     let child = block(pool, who, 0, &[7], life)?;
     let pair = Pair { parent, child };
     refer(pool, who, pair, life)?;
-    set_home(pool, who, pair.parent.block, life)
-        .ok_or(Stop::Died)?
-        .map_err(Stop::NoHome)?;
+    set_home(pool, who, pair, life)?;
     Ok(pair)
 }
 
@@ -96,8 +192,6 @@ pub fn closed_pair(alloc: Global, geometry: Geometry, life: &mut Life) -> Result
         .map_err(Stop::Memory)?
         .ok_or(Stop::Died)?;
     make_pair(&mut pool, 0, life)?;
-    leave(&mut pool, 0, life)
-        .ok_or(Stop::Died)?
-        .map_err(Stop::Spent)?;
+    leave(&mut pool, 0, life)?;
     Ok(pool.close())
 }

@@ -35,6 +35,16 @@ pub record AllocLeaves (m : AllocState) (rs r : Memo) (t : Trail) (es : List Eve
   pub events : es ≡ own_events m.me a
   pub trail : alloc_trail m.me m.request t a
 
+-- what it gives speaks of the events that it tells of
+pub alloc_left : (m : AllocState) (rs r : Memo) (t : Trail) (a : Result Made AllocFault) → m.point ≡ Era → AllocGives m rs r t a → AllocLeaves m rs r t (happens_along alloc_control alloc_event m t) a
+alloc_left m rs r t a made g =
+    record {
+      holds = g.holds;
+      grows = g.grows;
+      events = ap (λ (y : AllocPoint). happens_along alloc_control alloc_event (record m { point = y }) t) made ∙ g.events;
+      trail = g.trail;
+    }
+
 abbrev pub alloc_part : Part AllocState (Result Made AllocFault)
 alloc_part = record { fits = AllocFits; gives = AllocGives; does = alloc_event; needs = IsAlloc; leaves = AllocLeaves; asks = λ m. alloc_trail m.me m.request }
 
@@ -44,7 +54,7 @@ alloc_part_laws first =
       placed = placed first alloc_control AllocFits AllocGives alloc_laws;
       tells = alloc_tells;
       begins = λ m r n. begins m r n.made n.knows n.can;
-      ends = λ m rs r t a n g held same. record { holds = g.holds; grows = g.grows; events = ap (λ (y : AllocPoint). happens_along alloc_control alloc_event (record m { point = y }) t) n.made ∙ g.events; trail = g.trail };
+      ends = λ m rs r t a n g held same. alloc_left m rs r t a n.made g;
       asked = λ m rs r t a n g. g.trail;
     }
 

@@ -5,6 +5,7 @@ use Rattle.std.specs.Prelude.{◌-◌, ◌==◌, nat_lt, if◌then◌else◌, Op
 use Rattle.std.proofs.lemmas.Bool.{cases_eq, eq-eqb, eqb-true, eqb-false, ltb-true, ltb-false}
 use Rattle.std.proofs.lemmas.List.Elements.{Contains-append_right}
 use Rattle.shm_graph.specs.Bounds.{redo_steps}
+use Rattle.shm_graph.specs.declared.ask.Me.{Me}
 use Rattle.shm_graph.specs.declared.memo.Memo.{Memo}
 use Rattle.shm_graph.specs.declared.spot.Spot.TheVariants as spot
 use Rattle.shm_graph.specs.Agents.{recovers}
@@ -45,11 +46,10 @@ pub rooting_begin : (m : RootingState) (r : Memo) → m.root ≡ 0 → MayUpRoot
 rooting_begin m r low may = (may, low, refl, refl, refl)
 
 -- a block in reach is one of the pool
-reach_inside : (m : RootingState) (r : Memo) → IsHeld m.me r → m.me.who < m.me.geometry.clients → is_reached m.me.who r m.block ≡ true → IsInside m.me m.block
-reach_inside m r (w, rs, h, same) l reach =
-    let me = m.me in
-    let near : is_reached me.who (rs me.who) m.block ≡ true = subst (λ (x : Memo). is_reached me.who x m.block ≡ true) (sym same) reach in
-    (live_room me.geometry w rs h m.block me.who (reach_counted me.geometry w (view rs) h me.who m.block l (reached_here me.geometry w rs h me.who l m.block near)).0).0
+pub reach_inside : (me : Me) (b : ℕ) (r : Memo) → IsHeld me r → me.who < me.geometry.clients → is_reached me.who r b ≡ true → IsInside me b
+reach_inside me b r (w, rs, h, same) l reach =
+    let near : is_reached me.who (rs me.who) b ≡ true = subst (λ (x : Memo). is_reached me.who x b ≡ true) (sym same) reach in
+    (live_room me.geometry w rs h b me.who (reach_counted me.geometry w (view rs) h me.who b l (reached_here me.geometry w rs h me.who l b near)).0).0
 
 -- what the states after a word step are alike in
 era_same : (m : RootingState) (n : ℕ) {T : Type 0} (f : RootingState → T) → f (record m { era = n; point = Look }) ≡ f m → (q : Bool) → f (if q then m else record m { era = n; point = Look }) ≡ f m
@@ -239,7 +239,7 @@ rooting_laws =
             let b = within in
             record {
               may = may;
-              inside = reach_inside m r held may.who (ap (λ (x : Memo). is_reached m.me.who x m.block) cored ∙ may.reach);
+              inside = reach_inside m.me m.block r held may.who (ap (λ (x : Memo). is_reached m.me.who x m.block) cored ∙ may.reach);
               low = omega arith;
               same = cored;
               agent = agent ∙ ap recovers same;

@@ -6,18 +6,21 @@ use Rattle.shm_graph.specs.declared.memo.Memo.{Memo}
 use Rattle.shm_graph.specs.Asks.{Trail, pair}
 use Rattle.shm_graph.specs.Core.{core}
 use Rattle.shm_graph.specs.Events.{Event}
+use Rattle.shm_graph.proofs.Idles.{idle_core}
 use Rattle.shm_steps.proofs.Cores.{here_same}
 use Rattle.shm_calls.specs.CallsPart.{MayCall, calls_part_laws}
 use Rattle.shm_calls.specs.Plans.{PlanLaws, PlanStays, Follows}
+use Rattle.shm_calls.specs.Tasks.{IsNew, TaskLaws}
 use Rattle.shm_calls.specs.Words.{word_control}
 use Rattle.shm_count.specs.Roots.{root_word}
+use Rattle.shm_ref.specs.LatchTasks.{may_drop}
 use Rattle.shm_ref.specs.Lefts.{MayDrop}
 use Rattle.shm_ref.specs.RootOf.{naming_ask, naming_plan}
 use Rattle.shm_ref.specs.RootOf.Laws.{naming_laws}
 use Rattle.uses.specs.declared.machine.ComparePoint.{ComparePoint}
 use Rattle.uses.specs.declared.machine.ComparePoint.TheVariants.{First, Second}
 use Rattle.uses.specs.declared.machine.CompareState.{CompareState}
-use Rattle.uses.specs.Compare.{CompareKnows, compare_call, compare_plan, root_of}
+use Rattle.uses.specs.Compare.{CompareKnows, CompareMay, compare_call, compare_plan, root_of}
 
 stays : (m : CompareState) (y : ComparePoint) (b : ℕ) → PlanStays root_of compare_plan (record m { point = y }) b
 stays m First b = record { same_me = refl; same_line = refl; same_start = refl; started = λ e. refl }
@@ -71,3 +74,12 @@ compare_laws =
               ∙ (ap (λ (x : ℕ). pair (naming_ask m.me m.first) x ∷ pair (naming_ask m.me m.second) b ∷ []) h.names
               ∙ ap (λ (x : ℕ). pair (naming_ask m.me m.first) (root_word m.me.who r0 m.first) ∷ pair (naming_ask m.me m.second) x ∷ []) second));
         }
+
+-- between two calls it may begin, and it leaves its identity so
+pub compare_task : TaskLaws root_of compare_plan CompareMay (λ m a. Unit {0})
+compare_task =
+    record {
+      new = λ m r h. subst (IsNew root_of compare_plan) (sym h.0) (record { first = refl; start = refl; fresh = refl });
+      begins = λ m r ready h. subst (λ (x : CompareState). CompareKnows m x.point r r [] []) (sym h.0) (record { may = may_drop m.me r ready; first = h.1; second = h.2 }, refl, refl, refl);
+      rests = λ m r0 r tr es a ready h l e. idle_core m.me.who r0 r l.memo ready.idle;
+    }

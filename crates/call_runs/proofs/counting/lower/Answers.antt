@@ -1,9 +1,31 @@
-use Rattle.call_runs.proofs.Knowing.{after_ran}
+use Rattle.std.proofs.Common.{◌≢◌, rules}
+use Rattle.shm_graph.specs.declared.ask.Me.{Me}
+use Rattle.shm_plain.specs.Pools.{memo_of}
+use Rattle.shm_count.specs.Roots.{member}
+use Rattle.shm_count.specs.Step.Machines.{down_control}
+use Rattle.shm_ref.specs.RootSteps.{LoweringMay, lowering, lowering_plan}
+use Rattle.plain_calls.proofs.Running.{plan_may, plan_said}
 use Rattle.call_runs.proofs.Answered.{lowers}
 use Rattle.call_runs.proofs.counting.lower.Goals as goal
 
+pub run-answer-requires-clause-may : goal.run-answer-requires-clause-may
+run-answer-requires-clause-may c =
+    let p = c.args.pool.now in
+    let who = c.args.client.who in
+    let me = member p.start.geometry who in
+    let some : c.in_ok-block.block ≢ 0 = search rules in
+    plan_may lowering_plan (λ (x : Me). lowering x c.in_ok-root.root c.in_ok-block.block) me _ _ _ c.me.ensures.is c.new-lowering.ensures c.new.ensures
+    LoweringMay (memo_of p who) (c.in_ok-root.ensures, c.in_ok-rooted.ensures, some)
+
 pub returns : goal.returns
 returns c =
-    let said = c.lower-answer.ensures in
-    after_ran c.args.client.who c.args.pool.now c.lower-answer.new.pool _ _ _ _ _ said.ran
-    (lowers c.args.client.known c.args.client.who c.args.pool.now c.lower-answer.new.pool _ c.requires.known c.in_ok-block.block c.lower-answer.result c.dying.ensures said.at_work said.kind said.loose said.dying)
+    let p = c.args.pool.now in
+    let q = c.run-answer.new.self in
+    let who = c.args.client.who in
+    let me = member p.start.geometry who in
+    let m = memo_of p who in
+    let n = memo_of q who in
+    let said = plan_said lowering_plan (λ (x : Me). lowering x c.in_ok-root.root c.in_ok-block.block) me _ _ _ c.me.ensures.is c.new-lowering.ensures c.new.ensures
+    down_control who p q _ _ c.run-answer.result c.run-answer.ensures.ran c.run-answer.ensures.at_work c.run-answer.ensures.leaves in
+    lowers c.args.client.known who p q _ _ _ c.requires.known _ c.in_ok-block.block c.run-answer.result said c.dying.ensures
+    (λ a z. c.lower_root_keeps.ensures.left me c.in_ok-root.root c.in_ok-block.block m n n.call z.0 a z.2) (λ a z. c.lower_root_keeps.ensures.dying me c.in_ok-root.root c.in_ok-block.block m n n.call z.0 a z.2)

@@ -1,11 +1,39 @@
-use Rattle.std.proofs.Common.{◌≡◌, true, rules}
-use Rattle.call_runs.proofs.Knowing.{after_ran}
+use Rattle.std.proofs.Common.{◌<◌, refl, ap, ◌∙◌, subst}
+use Rattle.shm_words.specs.declared.geometry.Geometry.{Geometry}
+use Rattle.shm_graph.specs.declared.ask.Me.{Me}
+use Rattle.shm_plain.specs.Pools.{memo_of}
+use Rattle.shm_calls.specs.Words.{word_control}
+use Rattle.shm_count.specs.Roots.{member}
+use Rattle.shm_ref.specs.Hold.Control.{holding}
+use Rattle.shm_ref.specs.Hold.{hold_plan}
+use Rattle.shm_ref.specs.LatchTasks.{HoldMay}
+use Rattle.plain_calls.proofs.Running.{plan_may, plan_said}
 use Rattle.call_runs.proofs.Answered.{holds}
 use Rattle.call_runs.proofs.latches.hold.Goals as goal
 
+pub run-answer-requires-clause-may : goal.run-answer-requires-clause-may
+run-answer-requires-clause-may c =
+    let p = c.args.pool.now in
+    let who = c.args.client.who in
+    let me = member p.start.geometry who in
+    let low : c.in_ok-author.author < p.start.geometry.clients = subst (λ n. c.in_ok-author.author < n) (c.clients.ensures ∙ ap (λ (z : Geometry). z.clients) c.geometry.ensures.is) c.in_ok-author.ensures in
+    let free = c.requires.known.free c.in_ok-check.ensures in
+    plan_may hold_plan (λ (x : Me). holding x c.in_ok-author.author) me _ _ _ c.me.ensures.is c.new-holding.ensures c.new.ensures
+    HoldMay (memo_of p who) (refl, low, free)
+
 pub returns : goal.returns
 returns c =
-    let said = c.hold-answer.ensures in
-    let free : c.args.client.known.free ≡ true = search rules in
-    after_ran c.args.client.who c.args.pool.now c.hold-answer.new.pool _ _ _ _ _ said.ran
-    (holds c.args.client.known c.args.client.who c.args.pool.now c.hold-answer.new.pool _ c.requires.known c.in_ok-author.author c.hold-answer.result (c.requires.known.free free) c.held.ensures said.at_work said.kind said.loose said.waiting said.held said.refused)
+    let p = c.args.pool.now in
+    let q = c.run-answer.new.self in
+    let who = c.args.client.who in
+    let me = member p.start.geometry who in
+    let m = memo_of p who in
+    let n = memo_of q who in
+    let free = c.requires.known.free c.in_ok-check.ensures in
+    let said = plan_said hold_plan (λ (x : Me). holding x c.in_ok-author.author) me _ _ _ c.me.ensures.is c.new-holding.ensures c.new.ensures
+    word_control who p q _ _ c.run-answer.result c.run-answer.ensures.ran c.run-answer.ensures.at_work c.run-answer.ensures.leaves in
+    holds c.args.client.known who p q _ _ _ c.requires.known _ c.in_ok-author.author c.run-answer.result said c.held.ensures free
+    (λ a z. c.hold_keeps.ensures.loose me c.in_ok-author.author m n n.call z.0 a z.2)
+    (λ a z. c.hold_keeps.ensures.waiting me c.in_ok-author.author m n n.call z.0 a z.2)
+    (λ a z. c.hold_keeps.ensures.held me c.in_ok-author.author m n n.call z.0 a z.2)
+    (λ a z. c.hold_keeps.ensures.refused me c.in_ok-author.author m n n.call z.0 a z.2 free)

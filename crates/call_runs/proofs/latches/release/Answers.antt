@@ -1,11 +1,31 @@
-use Rattle.std.proofs.Common.{ap, ◌∙◌}
+use Rattle.std.proofs.Common.{refl, ap, ◌∙◌}
+use Rattle.shm_plain.specs.Pools.{memo_of}
+use Rattle.shm_calls.specs.Words.{word_control}
+use Rattle.shm_count.specs.Roots.{member}
+use Rattle.shm_ref.specs.Release.{release_plan, releasing}
+use Rattle.shm_ref.specs.LatchTasks.{ReleaseMay}
+use Rattle.plain_calls.proofs.Running.{plan_may, plan_said}
 use Rattle.call_runs.specs.Known.{told}
-use Rattle.call_runs.proofs.Knowing.{after_ran}
-use Rattle.call_runs.proofs.Answered.{releases}
+use Rattle.call_runs.proofs.Answered.{releases, some_held}
 use Rattle.call_runs.proofs.latches.release.Goals as goal
+
+pub run-answer-requires-clause-may : goal.run-answer-requires-clause-may
+run-answer-requires-clause-may c =
+    let p = c.args.pool.now in
+    let who = c.args.client.who in
+    let me = member p.start.geometry who in
+    plan_may release_plan releasing me _ _ _ c.me.ensures.is c.new-releasing.ensures c.new.ensures
+    ReleaseMay (memo_of p who) (refl, some_held (memo_of p who).latch (c.requires.known.held c.in_ok-check.ensures))
 
 pub returns : goal.returns
 returns c =
-    let said = c.release-answer.ensures in
-    after_ran c.args.client.who c.args.pool.now c.release-answer.new.pool _ _ _ _ _ said.ran
-    (releases c.args.client.known c.args.client.who c.args.pool.now c.release-answer.new.pool _ c.requires.known c.release-answer.result (c.told.ensures ∙ ap (told c.release-answer.result) c.released.ensures) said.at_work said.kind said.loose said.waiting said.none)
+    let p = c.args.pool.now in
+    let q = c.run-answer.new.self in
+    let who = c.args.client.who in
+    let me = member p.start.geometry who in
+    let m = memo_of p who in
+    let n = memo_of q who in
+    let said = plan_said release_plan releasing me _ _ _ c.me.ensures.is c.new-releasing.ensures c.new.ensures
+    word_control who p q _ _ c.run-answer.result c.run-answer.ensures.ran c.run-answer.ensures.at_work c.run-answer.ensures.leaves in
+    releases c.args.client.known who p q _ _ _ c.requires.known _ c.run-answer.result said (c.told.ensures ∙ ap (told c.run-answer.result) c.released.ensures)
+    (λ u z. c.release_keeps.ensures.loose me m n n.call z.0 z.2) (λ u z. c.release_keeps.ensures.waiting me m n n.call z.0 z.2) (λ u z. z.2.latch)

@@ -1,9 +1,31 @@
-use Rattle.call_runs.proofs.Knowing.{after_ran}
+use Rattle.std.proofs.Common.{refl}
+use Rattle.shm_plain.specs.Pools.{memo_of}
+use Rattle.shm_count.specs.Roots.{member}
+use Rattle.shm_queue.specs.Drain.Control.{drain_parts, draining}
+use Rattle.shm_queue.specs.Drain.{drain_plan}
+use Rattle.shm_queue.specs.QueueTasks.{DrainMay}
+use Rattle.plain_calls.proofs.Running.{plan_may, plan_said}
 use Rattle.call_runs.proofs.Answered.{settles}
 use Rattle.call_runs.proofs.queues.drain.Goals as goal
 
+pub run-answer-requires-clause-may : goal.run-answer-requires-clause-may
+run-answer-requires-clause-may c =
+    let p = c.args.pool.now in
+    let who = c.args.client.who in
+    let me = member p.start.geometry who in
+    let quiet = c.requires.known.quiet c.in_ok-check.ensures in
+    plan_may drain_plan draining me _ _ _ c.me.ensures.is c.new-draining.ensures c.new.ensures
+    DrainMay (memo_of p who) (refl, quiet.untaken)
+
 pub returns : goal.returns
 returns c =
-    let said = c.drain-answer.ensures in
-    after_ran c.args.client.who c.args.pool.now c.drain-answer.new.pool _ _ _ _ _ said.ran
-    (settles c.args.client.known c.args.client.who c.args.pool.now c.drain-answer.new.pool _ c.requires.known c.drain-answer.result c.settled.ensures said.at_work said.kind said.left said.dying)
+    let p = c.args.pool.now in
+    let q = c.run-answer.new.self in
+    let who = c.args.client.who in
+    let me = member p.start.geometry who in
+    let m = memo_of p who in
+    let n = memo_of q who in
+    let said = plan_said drain_plan draining me _ _ _ c.me.ensures.is c.new-draining.ensures c.new.ensures
+    drain_parts who p q _ _ c.run-answer.result c.run-answer.ensures.ran c.run-answer.ensures.at_work c.run-answer.ensures.leaves in
+    settles c.args.client.known who p q _ _ _ c.requires.known _ c.run-answer.result said c.settled.ensures
+    (λ a z. c.drain_keeps.ensures.left me m n n.call z.0 a z.2) (λ a z. c.drain_keeps.ensures.dying me m n n.call z.0 a z.2)

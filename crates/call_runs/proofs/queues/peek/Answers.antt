@@ -1,11 +1,35 @@
-use Rattle.std.proofs.Common.{ap, ◌∙◌}
+use Rattle.std.proofs.Common.{◌<◌, refl, ap, ◌∙◌, subst}
+use Rattle.shm_words.specs.declared.geometry.Geometry.{Geometry}
+use Rattle.shm_graph.specs.declared.ask.Me.{Me}
+use Rattle.shm_plain.specs.Pools.{memo_of}
+use Rattle.shm_count.specs.Roots.{member}
+use Rattle.shm_queue.specs.QueueTasks.{PeekMay}
+use Rattle.shm_queue.specs.Peek.Control.{peek_parts, peeking}
+use Rattle.shm_queue.specs.Peek.{peek_plan}
+use Rattle.plain_calls.proofs.Running.{plan_may, plan_said}
 use Rattle.call_runs.specs.Known.{told}
-use Rattle.call_runs.proofs.Knowing.{after_ran}
 use Rattle.call_runs.proofs.Answered.{peeks}
 use Rattle.call_runs.proofs.queues.peek.Goals as goal
 
+pub run-answer-requires-clause-may : goal.run-answer-requires-clause-may
+run-answer-requires-clause-may c =
+    let p = c.args.pool.now in
+    let who = c.args.client.who in
+    let me = member p.start.geometry who in
+    let low : c.in_ok-from.from < p.start.geometry.clients = subst (λ n. c.in_ok-from.from < n) (c.clients.ensures ∙ ap (λ (z : Geometry). z.clients) c.geometry.ensures.is) c.in_ok-from.ensures in
+    let quiet = c.requires.known.quiet c.in_ok-check.ensures in
+    plan_may peek_plan (λ (x : Me). peeking x c.in_ok-from.from) me _ _ _ c.me.ensures.is c.new-peeking.ensures c.new.ensures
+    PeekMay (memo_of p who) (refl, c.requires.known.client, (low, c.in_ok-apart.ensures, quiet.untaken c.in_ok-from.from))
+
 pub returns : goal.returns
 returns c =
-    let said = c.peek-answer.ensures in
-    after_ran c.args.client.who c.args.pool.now c.peek-answer.new.pool _ _ _ _ _ said.ran
-    (peeks c.args.client.known c.args.client.who c.args.pool.now c.peek-answer.new.pool _ c.requires.known c.peek-answer.result (c.told.ensures ∙ ap (told c.peek-answer.result) c.kept.ensures) said.at_work said.kind said.left said.stays)
+    let p = c.args.pool.now in
+    let q = c.run-answer.new.self in
+    let who = c.args.client.who in
+    let me = member p.start.geometry who in
+    let m = memo_of p who in
+    let n = memo_of q who in
+    let said = plan_said peek_plan (λ (x : Me). peeking x c.in_ok-from.from) me _ _ _ c.me.ensures.is c.new-peeking.ensures c.new.ensures
+    peek_parts who p q _ _ c.run-answer.result c.run-answer.ensures.ran c.run-answer.ensures.at_work c.run-answer.ensures.leaves in
+    peeks c.args.client.known who p q _ _ _ c.requires.known _ c.run-answer.result said (c.told.ensures ∙ ap (told c.run-answer.result) c.kept.ensures)
+    (λ a z. c.peek_keeps.ensures.left me c.in_ok-from.from m n n.call z.0 a z.2) (λ a z. c.peek_keeps.ensures.stays me c.in_ok-from.from m n n.call z.0 a z.2)

@@ -4,7 +4,7 @@ use Rattle.shm_graph.specs.declared.memo.Memo.{Memo}
 use Rattle.shm_graph.specs.Agents.{acts}
 use Rattle.shm_plain.specs.Pools.{memo_of}
 use Rattle.shm_plain.specs.Tracks.{kind_next}
-use Rattle.plain_calls.specs.Queues.{IsClear}
+use Rattle.plain_calls.specs.Clear.{IsClear}
 use Rattle.plain_calls.proofs.JoinLatch.{clear_joining}
 use Rattle.call_runs.specs.declared.standing.Standing.{Standing}
 use Rattle.call_runs.specs.declared.standing.Standing.TheVariants.{New, Works}

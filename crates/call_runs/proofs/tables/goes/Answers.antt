@@ -1,13 +1,12 @@
 use Rattle.std.proofs.Common.{sym, subst}
 use Rattle.table_calls.specs.Running.{IsOpen}
-use Rattle.table_calls.proofs.Opens.{open_other}
 use Rattle.call_runs.proofs.tables.goes.Goals as goal
 use Rattle.call_runs.proofs.tables.goes.Goals.{then-clients-eq2+in-Some-Ok, else-clients-eq2}
 
 pub returns-clause-others : goal.returns-clause-others
 returns-clause-others c = λ d n h.
     let drained : IsOpen d c.if-clients-eq2.pool = elim c.if-clients-eq2.branch [
-      | then-clients-eq2+in-Some-Ok w ↦ subst (IsOpen d) (sym w.pool-is) (open_other d c.args.who _ _ _ _ _ _ h n w.drain.ensures.ran)
+      | then-clients-eq2+in-Some-Ok w ↦ subst (IsOpen d) (sym w.pool-is) (w.drain.ensures.others d n h)
       | else-clients-eq2 w ↦ subst (IsOpen d) (sym w.pool-is) h
     ] in
-    open_other d c.args.who _ _ _ _ _ _ drained n c.leave.ensures.ran
+    c.leave.ensures.others d n drained

@@ -19,7 +19,7 @@ use Rattle.shm_alloc.specs.Alloc.Going.{begins}
 use Rattle.plain_calls.specs.Allocating.{IsAsked}
 use Rattle.shm_count.specs.Roots.{AreRootsReached, member, root_word}
 use Rattle.plain_calls.proofs.AllocRoots.{alloc_inside, alloc_number, alloc_others, alloc_refused, alloc_root}
-use Rattle.plain_calls.proofs.Called.{Answered, Gave, answered, call_fits}
+use Rattle.shm_plain.proofs.Called.{Answered, Gave, answered, call_fits}
 use Rattle.shm_count.proofs.RootSpots.{roots_reached}
 use Rattle.plain_calls.proofs.allocating.allocate.Goals.{In_ok-alloc, After-call}
 use Rattle.plain_calls.proofs.allocating.allocate.Goals as goal

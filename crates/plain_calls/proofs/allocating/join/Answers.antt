@@ -13,13 +13,13 @@ use Rattle.shm_recover.specs.declared.join.JoinState.{JoinState}
 use Rattle.shm_recover.specs.Join.{JoinFits, JoinGives, is_start, join_control, join_fresh}
 use Rattle.shm_recover.specs.Join.Keeps.{join_begins}
 use Rattle.shm_plain.specs.Pools.{memo_of, readied}
-use Rattle.plain_calls.proofs.Answering.{of_done}
+use Rattle.shm_plain.proofs.Answering.{of_done}
 use Rattle.shm_plain.proofs.Calling.{ready_status}
 use Rattle.shm_plain.proofs.Turning.{ready_memo}
 use Rattle.shm_plain.specs.Calls.{Did, Ran}
 use Rattle.shm_plain.specs.Tracks.{kind_next}
 use Rattle.shm_graph.proofs.Memos.MemoSteps.{recovers-entered}
-use Rattle.plain_calls.proofs.Called.{Called, ran_fresh}
+use Rattle.shm_plain.proofs.Called.{Called, ran_fresh}
 use Rattle.plain_calls.proofs.JoinEvents.{join_tells, none_along, none_of}
 use Rattle.plain_calls.proofs.allocating.join.Goals.{After-new-join, After-call}
 use Rattle.plain_calls.proofs.allocating.join.Goals as goal

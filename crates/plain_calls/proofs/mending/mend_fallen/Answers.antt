@@ -15,7 +15,7 @@ use Rattle.shm_count.specs.Roots.{member}
 use Rattle.shm_recover.specs.declared.mend.MendState.{MendState}
 use Rattle.shm_recover.specs.Mend.Control.{mend_parts, mending}
 use Rattle.shm_recover.specs.Mend.{IsMended, MayMend, mend_plan}
-use Rattle.plain_calls.proofs.Called.{Called}
+use Rattle.shm_plain.proofs.Called.{Called}
 use Rattle.plain_calls.proofs.Falling.{fits_then, may_recover, mend_answer, recovers_then}
 use Rattle.plain_calls.proofs.mending.mend_fallen.Goals.{After-new-machine}
 use Rattle.plain_calls.proofs.mending.mend_fallen.Goals as goal

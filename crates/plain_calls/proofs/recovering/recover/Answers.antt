@@ -30,7 +30,7 @@ use Rattle.shm_recover.specs.Recover.{RecoverLeaves, recover_plan}
 use Rattle.shm_recover.specs.Scan.Laws.{scan_laws}
 use Rattle.shm_recover.specs.TakeBack.Laws.{back_laws}
 use Rattle.shm_recover.proofs.Steady.{recover_steady}
-use Rattle.plain_calls.proofs.Called.{Called}
+use Rattle.shm_plain.proofs.Called.{Called}
 use Rattle.plain_calls.proofs.Cut.{cut_map, either_way, long}
 use Rattle.plain_calls.proofs.Fallen.{fallen_first, fallen_fits, fallen_gave, fallen_ran, fallen_told, may_begin}
 use Rattle.plain_calls.proofs.recovering.recover.Goals.{After-new-machine, After-call}

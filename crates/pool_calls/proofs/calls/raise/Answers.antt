@@ -16,12 +16,11 @@ use Rattle.shm_count.specs.declared.point.StepPoint.TheVariants.{Era}
 use Rattle.shm_count.specs.declared.point.StepState.{StepState}
 use Rattle.shm_count.specs.Step.Machines.{UpFits, UpGives, up_control}
 use Rattle.shm_count.specs.Roots.{root_step, root_word}
-use Rattle.shm_pool.specs.Calls.{Tells}
+use Rattle.shm_pool.specs.Calls.{IsBetween, Tells}
 use Rattle.shm_pool.specs.Replies.{IfReply}
 use Rattle.shm_pool.specs.Tokens.{Its}
-use Rattle.pool_calls.specs.Between.{IsBetween}
 use Rattle.pool_calls.proofs.Standing.{raised, root_others, root_raised, up_fits, reply_both, reply_map}
-use Rattle.pool_calls.proofs.calls.raise.Goals.{After-root, After-new-up, After-run}
+use Rattle.pool_calls.proofs.calls.raise.Goals.{After-root, After-new-up, After-drive}
 use Rattle.pool_calls.proofs.calls.raise.Goals as goal
 use Rattle.shm_graph.specs.Runs.{Stood}
 
@@ -52,67 +51,67 @@ state c =
     let x = (goal.at.After-new-up c).After-root in
     c.new-up.ensures ∙ (λ j. record { me = record { geometry = (c.new.ensures.geometry ∙ sizes x) j; who = (c.new.ensures.who ∙ c.client-who.ensures.is) j }; slot = at x j; aim = Up c.args.block; point = Era })
 
-pub run-requires-clause-fits : goal.run-requires-clause-fits
-run-requires-clause-fits c = λ alive.
-    let y = (goal.at.run-requires-clause-fits c).After-new-up in
-    let x = (goal.at.run-requires-clause-fits c).After-root in
+pub drive-requires-clause-fits : goal.drive-requires-clause-fits
+drive-requires-clause-fits c = λ alive.
+    let y = (goal.at.drive-requires-clause-fits c).After-new-up in
+    let x = (goal.at.drive-requires-clause-fits c).After-root in
     let e : Account = c.args.client.now.account in
     subst (λ (m : StepState). fits_now up_control UpFits m e.memo e.memo) (sym (state y))
     (up_fits c.args.client.now.of.start.geometry e.who c.args.root c.args.block e.memo (fitting x) (below x) c.requires.root c.requires.between.idle c.client-who.ensures.kind c.requires.empty c.requires.reached c.requires.inside)
 
-pub run-requires-clause-stays : goal.run-requires-clause-stays
-run-requires-clause-stays c = λ alive e' a stood who h.
-    let y = (goal.at.run-requires-clause-stays c).After-new-up in
-    let x = (goal.at.run-requires-clause-stays c).After-root in
+pub drive-requires-clause-stays : goal.drive-requires-clause-stays
+drive-requires-clause-stays c = λ alive e' a stood who h.
+    let y = (goal.at.drive-requires-clause-stays c).After-new-up in
+    let x = (goal.at.drive-requires-clause-stays c).After-root in
     let e : Account = c.args.client.now.account in
     ap is_gone (raised c.args.client.now.of.start e e' c.client-who.ensures.stood stood who c.args.root (below x) c.requires.root c.requires.between.idle c.args.block a (subst (λ (m : StepState). UpGives m e.memo e'.memo e'.memo.call a) (state y) h)).idle.live
 
 -- what is given, of the step at the root
-given : (c : After-run) → let e = c.args.client.now.account in let e' = c.run.new.self.account in IfReply c.run.result (λ a. UpGives (root_step c.args.client.now.of.start.geometry e.who c.args.root (Up c.args.block)) e.memo e'.memo e'.memo.call a)
+given : (c : After-drive) → let e = c.args.client.now.account in let e' = c.drive.new.self.account in IfReply c.drive.result (λ a. UpGives (root_step c.args.client.now.of.start.geometry e.who c.args.root (Up c.args.block)) e.memo e'.memo e'.memo.call a)
 given c =
-    let y = (goal.at.After-run c).After-new-up in
+    let y = (goal.at.After-drive c).After-new-up in
     let e : Account = c.args.client.now.account in
-    let e' : Account = c.run.new.self.account in
-    subst (λ (m : StepState). IfReply c.run.result (λ a. UpGives m e.memo e'.memo e'.memo.call a)) (state y) c.run.ensures.gives
+    let e' : Account = c.drive.new.self.account in
+    subst (λ (m : StepState). IfReply c.drive.result (λ a. UpGives m e.memo e'.memo e'.memo.call a)) (state y) c.drive.ensures.gives
 
 pub returns-clause-gives : goal.returns-clause-gives
-returns-clause-gives c = given (goal.at.returns-clause-gives c).After-run
+returns-clause-gives c = given (goal.at.returns-clause-gives c).After-drive
 
 -- the account after it is one of a state of this pool too
-stood_after : (c : After-run) → Stood c.args.client.now.of.start c.run.new.self.account
-stood_after c = subst (λ (z : Start). Stood z c.run.new.self.account) (ap (λ (n : Its). n.start) c.run.ensures.same.0) c.run.ensures.stood
+stood_after : (c : After-drive) → Stood c.args.client.now.of.start c.drive.new.self.account
+stood_after c = subst (λ (z : Start). Stood z c.drive.new.self.account) (ap (λ (n : Its). n.start) c.drive.ensures.same.0) c.drive.ensures.stood
 
-told : (c : After-run) → IfReply c.run.result (λ a. c.run.new.self.account.memo.over ≡ true)
+told : (c : After-drive) → IfReply c.drive.result (λ a. c.drive.new.self.account.memo.over ≡ true)
 told c =
-    let y = (goal.at.After-run c).After-new-up in
-    reply_map (λ a. Tells (up_control.line c.new-up.result) c.args.client.now.account c.run.new.self.account) (λ a. c.run.new.self.account.memo.over ≡ true) c.run.result (λ a t. t.over) (c.run.ensures.told (ap (λ (m : StepState). up_control.fresh m) (state y)))
+    let y = (goal.at.After-drive c).After-new-up in
+    reply_map (λ a. Tells (up_control.line c.new-up.result) c.args.client.now.account c.drive.new.self.account) (λ a. c.drive.new.self.account.memo.over ≡ true) c.drive.result (λ a t. t.over) (c.drive.ensures.told (ap (λ (m : StepState). up_control.fresh m) (state y)))
 
 pub returns-clause-between : goal.returns-clause-between
 returns-clause-between c =
-    let r = (goal.at.returns-clause-between c).After-run in
+    let r = (goal.at.returns-clause-between c).After-drive in
     let x = (goal.at.returns-clause-between c).After-root in
     let e : Account = c.args.client.now.account in
-    let e' : Account = c.run.new.self.account in
-    reply_both (λ a. UpGives (root_step c.args.client.now.of.start.geometry e.who c.args.root (Up c.args.block)) e.memo e'.memo e'.memo.call a) (λ a. e'.memo.over ≡ true) (λ a. IsBetween e') c.run.result
+    let e' : Account = c.drive.new.self.account in
+    reply_both (λ a. UpGives (root_step c.args.client.now.of.start.geometry e.who c.args.root (Up c.args.block)) e.memo e'.memo e'.memo.call a) (λ a. e'.memo.over ≡ true) (λ a. IsBetween e') c.drive.result
     (λ a h o. record {
-      idle = subst (λ (n : ℕ). IsIdle n e'.memo) (sym c.run.ensures.same.1) (raised c.args.client.now.of.start e e' c.client-who.ensures.stood (stood_after r) c.run.ensures.same.1 c.args.root (below x) c.requires.root c.requires.between.idle c.args.block a h).idle;
+      idle = subst (λ (n : ℕ). IsIdle n e'.memo) (sym c.drive.ensures.same.1) (raised c.args.client.now.of.start e e' c.client-who.ensures.stood (stood_after r) c.drive.ensures.same.1 c.args.root (below x) c.requires.root c.requires.between.idle c.args.block a h).idle;
       over = o;
     }) (given r) (told r)
 
 pub returns-clause-raised : goal.returns-clause-raised
 returns-clause-raised c =
-    let r = (goal.at.returns-clause-raised c).After-run in
+    let r = (goal.at.returns-clause-raised c).After-drive in
     let x = (goal.at.returns-clause-raised c).After-root in
     let e : Account = c.args.client.now.account in
-    let e' : Account = c.run.new.self.account in
-    reply_map (λ (a : Result (Unit {0}) UpFault). UpGives (root_step c.args.client.now.of.start.geometry e.who c.args.root (Up c.args.block)) e.memo e'.memo e'.memo.call a) (λ (a : Result (Unit {0}) UpFault). IfOk a (λ u. root_word e'.who e'.memo c.args.root ≡ c.args.block)) c.run.result
-    (λ a h. root_raised c.args.client.now.of.start e e' c.client-who.ensures.stood (stood_after r) c.run.ensures.same.1 c.args.root (below x) c.requires.root c.requires.between.idle a c.args.block (raised c.args.client.now.of.start e e' c.client-who.ensures.stood (stood_after r) c.run.ensures.same.1 c.args.root (below x) c.requires.root c.requires.between.idle c.args.block a h)) (given r)
+    let e' : Account = c.drive.new.self.account in
+    reply_map (λ (a : Result (Unit {0}) UpFault). UpGives (root_step c.args.client.now.of.start.geometry e.who c.args.root (Up c.args.block)) e.memo e'.memo e'.memo.call a) (λ (a : Result (Unit {0}) UpFault). IfOk a (λ u. root_word e'.who e'.memo c.args.root ≡ c.args.block)) c.drive.result
+    (λ a h. root_raised c.args.client.now.of.start e e' c.client-who.ensures.stood (stood_after r) c.drive.ensures.same.1 c.args.root (below x) c.requires.root c.requires.between.idle a c.args.block (raised c.args.client.now.of.start e e' c.client-who.ensures.stood (stood_after r) c.drive.ensures.same.1 c.args.root (below x) c.requires.root c.requires.between.idle c.args.block a h)) (given r)
 
 pub returns-clause-roots : goal.returns-clause-roots
 returns-clause-roots c =
-    let r = (goal.at.returns-clause-roots c).After-run in
+    let r = (goal.at.returns-clause-roots c).After-drive in
     let x = (goal.at.returns-clause-roots c).After-root in
     let e : Account = c.args.client.now.account in
-    let e' : Account = c.run.new.self.account in
-    reply_map (λ (a : Result (Unit {0}) UpFault). UpGives (root_step c.args.client.now.of.start.geometry e.who c.args.root (Up c.args.block)) e.memo e'.memo e'.memo.call a) (λ (a : Result (Unit {0}) UpFault). IfOk a (λ u. (k : ℕ) → k ≢ c.args.root → root_word e'.who e'.memo k ≡ root_word e.who e.memo k)) c.run.result
-    (λ a h. root_others c.args.client.now.of.start e e' c.client-who.ensures.stood (stood_after r) c.run.ensures.same.1 c.args.root (below x) c.requires.root c.requires.between.idle a c.args.block (raised c.args.client.now.of.start e e' c.client-who.ensures.stood (stood_after r) c.run.ensures.same.1 c.args.root (below x) c.requires.root c.requires.between.idle c.args.block a h)) (given r)
+    let e' : Account = c.drive.new.self.account in
+    reply_map (λ (a : Result (Unit {0}) UpFault). UpGives (root_step c.args.client.now.of.start.geometry e.who c.args.root (Up c.args.block)) e.memo e'.memo e'.memo.call a) (λ (a : Result (Unit {0}) UpFault). IfOk a (λ u. (k : ℕ) → k ≢ c.args.root → root_word e'.who e'.memo k ≡ root_word e.who e.memo k)) c.drive.result
+    (λ a h. root_others c.args.client.now.of.start e e' c.client-who.ensures.stood (stood_after r) c.drive.ensures.same.1 c.args.root (below x) c.requires.root c.requires.between.idle a c.args.block (raised c.args.client.now.of.start e e' c.client-who.ensures.stood (stood_after r) c.drive.ensures.same.1 c.args.root (below x) c.requires.root c.requires.between.idle c.args.block a h)) (given r)

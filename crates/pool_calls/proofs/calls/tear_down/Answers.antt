@@ -32,9 +32,9 @@ state c =
     let x = (goal.at.After-new-tear c).After-new in
     c.new-tear.ensures ∙ (λ j. record { me = record { geometry = (c.new.ensures.geometry ∙ sizes x) j; who = (c.new.ensures.who ∙ c.client-who.ensures.is) j }; first = c.args.block; block = c.args.block; point = Begin })
 
-pub run-requires-clause-fits : goal.run-requires-clause-fits
-run-requires-clause-fits c = λ alive.
-    let x = (goal.at.run-requires-clause-fits c).After-new in
+pub drive-requires-clause-fits : goal.drive-requires-clause-fits
+drive-requires-clause-fits c = λ alive.
+    let x = (goal.at.drive-requires-clause-fits c).After-new in
     let e : Account = c.args.client.now.account in
-    subst (λ (m : TearState). fits_now tear_control TearFits m e.memo e.memo) (sym (state (goal.at.run-requires-clause-fits c).After-new-tear))
+    subst (λ (m : TearState). fits_now tear_control TearFits m e.memo e.memo) (sym (state (goal.at.drive-requires-clause-fits c).After-new-tear))
     (tears c.args.client.now.of.start e c.client-who.ensures.stood c.args.block (fitting x) (below x) c.requires.between.idle c.requires.dying c.client-who.ensures.acts)

@@ -1,5 +1,5 @@
 use Rattle.std.proofs.Common.{sym, subst}
-use Rattle.pool_calls.specs.Between.{AllFirst}
+use Rattle.pool_calls.specs.Clients.{AllFirst}
 use Rattle.pool_calls.proofs.FirstTokens.{all_first}
 use Rattle.pool_calls.proofs.recovering.recover_and_close.Goals as goal
 

@@ -2,7 +2,7 @@ use Rattle.std.proofs.Common.{◌≡◌, subst}
 use Rattle.std.specs.Prelude.{IfSome}
 use Rattle.std.specs.Option.{option_to_list}
 use Rattle.shm_pool.specs.Tokens.{Token, token_first}
-use Rattle.pool_calls.specs.Between.{AllFirst}
+use Rattle.pool_calls.specs.Clients.{AllFirst}
 use Rattle.pool_calls.proofs.FirstTokens.{all_of, first_front, of_first, popped, roots_first}
 use Rattle.pool_calls.proofs.team.pop_of.Goals.{After-pop}
 use Rattle.pool_calls.proofs.team.pop_of.Goals as goal

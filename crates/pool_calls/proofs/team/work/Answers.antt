@@ -2,7 +2,8 @@ use Rattle.std.proofs.Common.{rules, ◌≡◌, ◌<◌, arith}
 use Rattle.shm_count.proofs.RootSpots.{roots_reached}
 use Rattle.shm_count.specs.Roots.{root_word}
 use Rattle.shm_count.specs.Step.Control.{IsInside}
-use Rattle.pool_calls.specs.Between.{IsBetween, me_now}
+use Rattle.shm_pool.specs.Calls.{IsBetween}
+use Rattle.pool_calls.specs.Clients.{me_now}
 use Rattle.pool_calls.proofs.team.work.Goals as goal
 
 -- the root that was found names the block

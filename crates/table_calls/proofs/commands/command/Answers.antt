@@ -9,7 +9,7 @@ use Rattle.shm_count.specs.Roots.{member}
 use Rattle.shm_script.specs.declared.log.Answer.{Answer}
 use Rattle.shm_table.specs.Command.{CommandCall, CommandFits, CommandGives, MayStand, command_control, command_does, command_of}
 use Rattle.shm_table.specs.Staying.{Ended}
-use Rattle.plain_calls.proofs.Called.{Answered, answered, call_fits}
+use Rattle.shm_plain.proofs.Called.{Answered, answered, call_fits}
 use Rattle.table_calls.specs.Running.{LeavesOpen, MapSo, RunLeaves}
 use Rattle.table_calls.proofs.RunBegins.{run_begins, run_fresh, run_latch, run_stands, run_tells}
 use Rattle.table_calls.proofs.RunEvents.{run_leaves}

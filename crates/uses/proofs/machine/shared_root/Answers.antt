@@ -1,6 +1,4 @@
 use Rattle.std.proofs.Common.{◌≡◌, rules, Ok, Some, arith}
-use Rattle.plain_calls.proofs.PlanCalls.{reached_small}
-use Rattle.uses.proofs.machine.shared_root.Goals.{After-allocate}
 use Rattle.uses.proofs.machine.shared_root.Goals as goal
 
 pub share-requires-clause-at_work : goal.share-requires-clause-at_work
@@ -13,8 +11,3 @@ share-requires-clause-reached c =
     let e : c.allocate.result ≡ Ok (Some (Ok c.in_ok-made.made)) = search rules in
     let inside = rw e at c.allocate.ensures.inside in
     (rw e at c.allocate.ensures.reached) c.in_ok-made.made.root c.in_ok-made.made.block (rw e at c.allocate.ensures.number) (λ z. let a = inside.0 in omega arith) (rw e at c.allocate.ensures.root)
-
-pub share-requires-clause-block : goal.share-requires-clause-block
-share-requires-clause-block c =
-    let e : c.allocate.result ≡ Ok (Some (Ok c.in_ok-made.made)) = search rules in
-    reached_small c.allocate.new.pool 0 (rw e at c.allocate.ensures.at_work) (rw e at c.allocate.ensures.ran).run c.in_ok-made.made.block (share-requires-clause-reached c)

@@ -25,10 +25,9 @@ pub close-requires : goal.close-requires
 close-requires c = λ d l.
     let p = c.in_ok-pool.pool in
     let e : c.joined.result ≡ Ok (Some p) = search rules in
-    let left : c.leave.result ≡ Some (Ok c.in_ok-map_err-2.field-0) = search rules in
     let start = c.leave.ensures.ran.start ∙ (c.make_pair.ensures.ran.start ∙ (rw e at c.joined.ensures.start)) in
     elim (cases_eq d 0) [
-      | inl z ↦ inr (subst (λ (i : ℕ). (memo_of c.leave.new.pool i).status ≡ Gone) (sym z) (rw left at c.leave.ensures.gone))
+      | inl z ↦ inr (subst (λ (i : ℕ). (memo_of c.leave.new.pool i).status ≡ Gone) (sym z) c.in_ok-leave.ensures.gone)
       | inr n ↦
           (let low : d < c.args.geometry.clients = subst (λ (s : Start). d < s.geometry.clients) start l in
           inl (ap (λ (m : Memo). m.status) (c.leave.ensures.ran.others d n ∙ (c.make_pair.ensures.ran.others d n ∙ (rw e at c.joined.ensures.others) d low n))))

@@ -13,7 +13,7 @@ use Rattle.shm_recover.specs.Leave.Laws.{leave_begin, leave_laws}
 use Rattle.shm_recover.specs.Leave.{leave_plan}
 use Rattle.shm_recover.specs.Machines.{leave}
 use Rattle.shm_pool.specs.Endings.{Answer, HasEnded, HasStopped}
-use Rattle.shm_pool.specs.Tokens.{Its, me_of}
+use Rattle.shm_pool.specs.Tokens.{me_of}
 use Rattle.shm_pool.proofs.token.Client.leave.Goals.{After-new-leave}
 use Rattle.shm_pool.proofs.token.Client.leave.Goals as goal
 
@@ -25,10 +25,7 @@ who c = me_of c.args.self.of c.args.self.account
 
 -- the machine is the leaving of the client's identity
 state : (c : After-new-leave) → c.new-leave.result ≡ calls_of leave_plan (leaving (who c))
-state c =
-    let sizes = c.new-me.ensures.geometry ∙ (c.geometry.ensures.is ∙ sym (ap (λ (n : Its). n.start.geometry) c.requires.pool)) in
-    let me : c.new-me.result ≡ who c = (λ j. record { geometry = sizes j; who = (c.new-me.ensures.who ∙ c.client.ensures.is) j }) in
-    c.new-leave.ensures ∙ ap (λ (x : LeaveState). calls_of leave_plan x) (c.new.ensures ∙ ap (λ (x : Me). leaving x) me)
+state c = c.new-leave.ensures ∙ ap (λ (x : LeaveState). calls_of leave_plan x) (c.new.ensures ∙ ap (λ (x : Me). leaving x) c.me.ensures.is)
 
 pub leave_by-requires-clause-fits : goal.leave_by-requires-clause-fits
 leave_by-requires-clause-fits c = λ alive.
