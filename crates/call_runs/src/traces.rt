@@ -20,11 +20,16 @@ pub fn add(text: &mut Vec<u8>, line: &str) -> io::Result<()> {
     Ok(())
 }
 
-/// The sizes of the pool of a trace, which has one or two identities.
+/// The sizes and the format of the pool of a trace, which has one or two identities.
 fn geometry(trace: &Trace) -> io::Result<Geometry>
     ensures { IfOk result IsFew }
 {
-    match Geometry::new(trace.clients, trace.segments) {
+    let made = if trace.wide {
+        Geometry::wide(trace.clients, trace.segments)
+    } else {
+        Geometry::new(trace.clients, trace.segments)
+    };
+    match made {
         Ok(geometry) if geometry.clients() <= 2 => Ok(geometry),
         _ => Err(refusal()),
     }

@@ -30,7 +30,9 @@ use Rattle.shm_count.specs.declared.point.Aim.TheVariants.{Up, Down}
 use Rattle.shm_count.specs.Step.Control.{IsInside}
 use Rattle.shm_count.specs.Step.Machines.{DownFits, DownGives, UpFits, UpGives, down_means, up_means}
 use Rattle.shm_count.specs.Tear.Control.{tear_control, TearInRange}
-use Rattle.shm_count.specs.Tear.{CanTear, TearFits}
+use Rattle.shm_count.specs.Operating.{tear_operation}
+use Rattle.shm_count.specs.Tear.{CanTear, TearFits, TearGives}
+use Rattle.shm_count.specs.Tear.Events.{tear_event}
 use Rattle.shm_count.specs.Tear.Going.{begins}
 use Rattle.shm_count.specs.DyingBlocks.{dying_header, live_room}
 use Rattle.shm_alloc.proofs.MadeBlocks.{block_inside}
@@ -39,12 +41,17 @@ use Rattle.shm_words.specs.Layout.{total_of}
 use Rattle.shm_words.specs.Tags.{tag_refs}
 use Rattle.shm_words.proofs.Placing.{total_small}
 use Rattle.shm_graph.specs.Spots.{see}
+use Rattle.shm_graph.specs.Tells.{happens_along}
 use Rattle.shm_count.specs.Roots.{member, root_step, root_word, tear_of}
 use Rattle.shm_count.proofs.RootMemos.{StepLeft, dying_down}
 use Rattle.shm_count.proofs.RootSpots.{can_root, done_root, fits_root, is_here, left_root, some_inside}
 use Rattle.shm_pool.specs.declared.reply.Reply.{Reply}
 use Rattle.shm_pool.specs.declared.reply.Reply.TheVariants.{Done, Died}
-use Rattle.shm_pool.specs.Replies.{IfReply}
+use Rattle.shm_pool.specs.Calls.{IsBetween}
+use Rattle.shm_pool.specs.Replies.{IfReply, IsLost}
+use Rattle.shm_pool.specs.Tokens.{Its, has_left, me_of}
+use Rattle.shm_pool.proofs.Replied.{ready}
+use Rattle.shm_pool.proofs.Calling.{live_here}
 
 -- the account's memo in that state
 pub there_memo : (s : Start) (e : Account) (x : Stood s e) → memos_of x.accounts e.who ≡ e.memo
@@ -66,6 +73,11 @@ reply_map P Q (Done a) f h = f a h
 pub reply_both : {A : Type 0} (P Q R : A → Type 0) (o : Reply A) → ((a : A) → P a → Q a → R a) → IfReply o P → IfReply o Q → IfReply o R
 reply_both P Q R Died f h k = tt
 reply_both P Q R (Done a) f h k = f a h k
+
+-- a client that lives after a call is still there, where each answer leaves it between two calls
+pub here_after : {A : Type 0} (o : Reply A) (dead : Bool) (e : Account) → (IsLost o → dead ≡ true) → IfReply o (λ _. IsBetween e) → dead ≡ false → has_left e.memo ≡ false
+here_after Died dead e lost b alive = absurd (true≢false (sym (lost tt) ∙ alive))
+here_after (Done a) dead e lost b alive = live_here e.memo b.idle.live
 
 -- ---- count steps at roots
 
@@ -204,3 +216,10 @@ module _ (s : Start) (e : Account) (x : Stood s e) (b : ℕ) (f : GeometryFits s
 
   pub tears : acts e.memo ≡ true → fits_now tear_control TearFits (tear_of s.geometry e.who b) e.memo e.memo
   tears act = begins (tear_of s.geometry c b) e.memo refl refl knows can
+
+-- between two calls again, whatever it answers
+pub torn_idle : (p : Its) (e : Account) → Stood p.start e → (b : ℕ) → IsIdle e.who e.memo → Contains e.memo.dying b → (r : Memo) (tr : Trail) (a : Result (Unit {0}) EraSpent) → TearGives (tear_of p.start.geometry e.who b) e.memo r tr a → IsIdle e.who r
+torn_idle p e x b idle dying r tr a g =
+    let m = tear_of p.start.geometry e.who b in
+    let is = ready p e x idle (me_of p e) refl in
+    tear_operation.rests m e.memo r tr (happens_along tear_control tear_event m tr) a is (refl, dying) (tear_operation.leads m e.memo r tr a is (refl, dying) g) tt

@@ -1,6 +1,6 @@
 //! Calls of a client on a pool that threads share, each of which runs one machine.
 
-ghost use Rattle.std.specs.Prelude.{◌≡◌, ◌≢◌, ℕ, ◌<◌, true, IfOk, IfErr};
+ghost use Rattle.std.specs.Prelude.{◌≡◌, ◌≢◌, ℕ, ◌<◌, true, false, IfOk, IfErr};
 ghost use Rattle.std.specs.List.{Contains};
 ghost use Rattle.shm_words.specs.Layout.{GeometryFits};
 ghost use Rattle.shm_graph.specs.Reach.{is_reached};
@@ -15,6 +15,7 @@ ghost use Rattle.shm_count.specs.Roots.{AreRootsReached, root_step, root_word, t
 ghost use Rattle.shm_pool.specs.Calls.{IsBetween};
 ghost use Rattle.shm_pool.specs.Replies.{IsLost, IfReply};
 ghost use Rattle.shm_pool.specs.Endings.{ClientMayLeave};
+ghost use Rattle.shm_pool.specs.Tokens.{has_left};
 ghost use Rattle.pool_calls.specs.Clients.{me_now};
 
 use shm_alloc::{Alloc, AllocFault, TooLarge};
@@ -38,6 +39,7 @@ pub fn allocate(
     requires between { IsBetween client.old.account }
     ensures same { (client.new.of ≡ client.old.of) × (client.new.account.who ≡ client.old.account.who) }
     ensures died { IfOk result (λ o. IsLost o → client.new.dead ≡ true) }
+    ensures there { client.new.dead ≡ false → has_left client.new.account.memo ≡ false }
     ensures gives { IfOk result (λ o. IfReply o (λ a. (m : AState) × IsAsked client.old.of.start.geometry client.old.account.who refs plain.now m × AllocGives m client.old.account.memo client.new.account.memo client.new.account.memo.call a)) }
     ensures between { IfOk result (λ o. IfReply o (λ a. IsBetween client.new.account)) }
     ensures leaves { ClientMayLeave client.old.of client.old.account → IfOk result (λ o. IfReply o (λ a. ClientMayLeave client.new.of client.new.account)) }
@@ -66,6 +68,7 @@ pub fn raise(
     requires inside { IsInside (me_now client.old) block }
     ensures same { (client.new.of ≡ client.old.of) × (client.new.account.who ≡ client.old.account.who) }
     ensures died { IsLost result → client.new.dead ≡ true }
+    ensures there { client.new.dead ≡ false → has_left client.new.account.memo ≡ false }
     ensures gives { IfReply result (λ a. UpGives (root_step client.old.of.start.geometry client.old.account.who root (aims.Up block)) client.old.account.memo client.new.account.memo client.new.account.memo.call a) }
     ensures between { IfReply result (λ a. IsBetween client.new.account) }
     ensures roots { IfReply result (λ a. IfOk a (λ u. (k : ℕ) → k ≢ root → root_word client.new.account.who client.new.account.memo k ≡ root_word client.old.account.who client.old.account.memo k)) }
@@ -92,6 +95,7 @@ pub fn lower(
     requires inside { IsInside (me_now client.old) block }
     ensures same { (client.new.of ≡ client.old.of) × (client.new.account.who ≡ client.old.account.who) }
     ensures died { IsLost result → client.new.dead ≡ true }
+    ensures there { client.new.dead ≡ false → has_left client.new.account.memo ≡ false }
     ensures gives { IfReply result (λ a. DownGives (root_step client.old.of.start.geometry client.old.account.who root (aims.Down block)) client.old.account.memo client.new.account.memo client.new.account.memo.call a) }
     ensures between { IfReply result (λ a. IsBetween client.new.account) }
     ensures roots { IfReply result (λ a. IfOk a (λ u. (k : ℕ) → k ≢ root → root_word client.new.account.who client.new.account.memo k ≡ root_word client.old.account.who client.old.account.memo k)) }
@@ -115,6 +119,7 @@ pub fn tear_down(
     requires dying { Contains client.old.account.memo.dying block }
     ensures same { (client.new.of ≡ client.old.of) × (client.new.account.who ≡ client.old.account.who) }
     ensures died { IsLost result → client.new.dead ≡ true }
+    ensures there { client.new.dead ≡ false → has_left client.new.account.memo ≡ false }
     ensures gives { IfReply result (λ a. TearGives (tear_of client.old.of.start.geometry client.old.account.who block) client.old.account.memo client.new.account.memo client.new.account.memo.call a) }
     ensures between { IfReply result (λ a. IsBetween client.new.account) }
 {

@@ -9,6 +9,6 @@ pub mod team;
 
 pub use calls::{allocate, lower, raise, tear_down};
 pub use leaving::{TwoMade, make_two};
-pub use recovering::{bury, recover_and_close};
+pub use recovering::{bury, recover_and_close, rescue};
 pub use sharing::{share_and_drop, visit_and_share};
 pub use team::{Team, Visited, both, run_two, visit, work};

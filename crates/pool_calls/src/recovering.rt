@@ -6,7 +6,7 @@ ghost use Rattle.shm_pool.specs.Calls.{IsBetween};
 ghost use Rattle.pool_calls.specs.Clients.{AreRootsEmpty};
 
 use crate::team::{pop_of, put_back, visit, work};
-use shm_graph::Life;
+use shm_graph::{Life, Turn};
 use shm_pool::{Client, Closed, Corpse, SharedPool, Vacant};
 use shm_words::Geometry;
 use std::alloc::{AllocError, Global};
@@ -24,6 +24,18 @@ pub fn bury(pool: &SharedPool, corpse: Corpse, steps: u64) -> Result<Vacant, Cor
         Ok(token) => Ok(token),
         Err(stopped) => Err(stopped.corpse),
     }
+}
+
+/// The same, one word step at a time.
+pub fn rescue(pool: &SharedPool, corpse: Corpse, steps: u64) -> Result<Vacant, Corpse>
+    requires of { corpse.of ≡ pool.now }
+    ensures ok { IfOk result (λ v. v.of ≡ pool.now) }
+    ensures err { IfErr result (λ c. c.of ≡ pool.now) }
+{
+    let mut life = Life::of(steps);
+    let mut rescuer = corpse.start();
+    while let Turn::More = rescuer.step(pool, &mut life) {}
+    rescuer.end()
 }
 
 /// Joins, works and falls, after so many word steps at the latest.
@@ -85,7 +97,7 @@ fn fall_beside<R: Threads + Sync>(
     )
 }
 
-/// On two threads the recovery of a corpse, and the work of a client.
+/// On two threads the recovery of a corpse, in single steps, and the work of a client.
 fn bury_beside<R: Threads + Sync>(
     rt: &R,
     pool: &SharedPool,
@@ -100,7 +112,7 @@ fn bury_beside<R: Threads + Sync>(
 {
     thread::join(
         rt,
-        move || bury(pool, corpse, steps),
+        move || rescue(pool, corpse, steps),
         move || work_and_fall(pool, client, steps),
     )
 }

@@ -1,9 +1,9 @@
 //! What a client does, and two of them on two threads.
 
-ghost use Rattle.std.specs.Prelude.{◌≡◌, ◌≢◌, ℕ, ◌<◌, IfOk, IfErr, IfSome};
+ghost use Rattle.std.specs.Prelude.{◌≡◌, ◌≢◌, ℕ, ◌<◌, false, IfOk, IfErr, IfSome};
 ghost use Rattle.shm_words.specs.Layout.{GeometryFits};
 ghost use Rattle.shm_graph.specs.Runs.{EraFits};
-ghost use Rattle.shm_pool.specs.Tokens.{AllOf};
+ghost use Rattle.shm_pool.specs.Tokens.{AllOf, has_left};
 ghost use Rattle.shm_pool.specs.Calls.{IsBetween};
 ghost use Rattle.pool_calls.specs.Clients.{AllFirst, AreRootsEmpty};
 
@@ -21,6 +21,7 @@ pub fn work(client: &mut Client, pool: &SharedPool, life: &mut Life) -> Option<u
     requires between { IsBetween client.old.account }
     requires roots { AreRootsEmpty client.old.account }
     ensures same { (client.new.of ≡ client.old.of) × (client.new.account.who ≡ client.old.account.who) }
+    ensures there { client.new.dead ≡ false → has_left client.new.account.memo ≡ false }
 {
     let Ok(Reply::Done(Ok(made))) = allocate(client, pool, 0, &[77], life) else {
         return None;
@@ -53,7 +54,7 @@ pub struct Visited {
 pub fn visit(pool: &SharedPool, token: Vacant, steps: u64) -> Result<Visited, Corpse>
     requires of { token.of ≡ pool.now }
     requires roots { AreRootsEmpty token.account }
-    ensures ok { IfOk result (λ v. v.client.of ≡ pool.now) }
+    ensures ok { IfOk result (λ v. (v.client.of ≡ pool.now) × (v.client.dead ≡ false → has_left v.client.account.memo ≡ false)) }
     ensures err { IfErr result (λ c. c.of ≡ pool.now) }
 {
     let mut life = Life::of(steps);

@@ -168,7 +168,7 @@ clean_no_fault g ws f h =
 -- ---- and where there is none and the verdict is that, the pool is clean
 
 -- a reference word that names something isn't 0
-names_in : (wide : Bool) (w : Spot → ℕ) (p : Spot) → references wide w p ≢ 0 → w p ≢ 0
+pub names_in : (wide : Bool) (w : Spot → ℕ) (p : Spot) → references wide w p ≢ 0 → w p ≢ 0
 names_in wide w (Home c) n = n
 names_in wide w (Root c k) n = n
 names_in wide w (Slot s r k) n = n

@@ -4,18 +4,15 @@ use Rattle.std.proofs.lemmas.Bool.{cases_Bool, cases_eq, cond-true, cond-false, 
 use Rattle.shm_words.specs.declared.geometry.Geometry.{Geometry}
 use Rattle.shm_words.specs.Layout.{GeometryFits, total_of}
 use Rattle.shm_words.proofs.Placing.{total_small}
-use Rattle.shm_graph.specs.Spots.{see, spot_at, classes_in}
+use Rattle.shm_graph.specs.Spots.{see, spot_at}
 use Rattle.shm_graph.specs.Blocks.{classes, headers}
 use Rattle.shm_graph.specs.References.{sum_below, one_if, references, references_to, references_in_all}
 use Rattle.shm_graph.proofs.Spots.Summing.{sum_below-one_more}
 use Rattle.shm_graph.proofs.Spots.Seeing.{classes-see}
 use Rattle.shm_graph.proofs.States.Reading.{live_below}
 use Rattle.shm_audit.specs.Faults.{is_counted}
+use Rattle.shm_audit.specs.Tallies.{named}
 use Rattle.shm_audit.specs.Verdicts.{AreFound}
-
--- what the word at an address names
-abbrev pub named : Geometry → List ℕ → ℕ → ℕ
-named g ws a = references g.wide (see g ws) (spot_at g (classes_in g ws) a)
 
 -- how many of the words below an address name each block, and how many name any
 abbrev pub FoundBelow : Geometry → List ℕ → ℕ → List ℕ → Type 0

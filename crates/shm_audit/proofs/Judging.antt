@@ -11,7 +11,7 @@ use Rattle.shm_audit.specs.Faults.{is_counted, is_bad_reference, least_below}
 use Rattle.shm_audit.specs.Verdicts.{found_at, is_wrong, block_verdict, by_block}
 use Rattle.shm_audit.proofs.Least.{some_below}
 use Rattle.shm_audit.proofs.Tested.{test_at}
-use Rattle.shm_audit.proofs.Counting.{named}
+use Rattle.shm_audit.specs.Tallies.{named}
 
 module _ (g : Geometry) (w : Spot → ℕ) (b : ℕ) where
   pub right_dead : (headers w b).live ≡ false → is_wrong g w b ≡ false

@@ -8,3 +8,6 @@ pub mod ReadingBack
 pub mod CleanImages
 pub mod Using
 pub mod UsedTests
+pub mod Tallying
+pub mod TallyBlocks
+pub mod TallyEnd

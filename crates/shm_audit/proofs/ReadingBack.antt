@@ -1,18 +1,18 @@
 -- the image of a pool, read back
-use Rattle.std.proofs.Common.{◌≡◌, ℕ, zero, suc, ◌+◌, ◌*◌, ◌/◌, ◌^◌, ◌<◌, ◌≤◌, Bool, true, false, not, eqb, ltb, cond, List, [], ◌∷◌, ◌++◌, length, get_or, drop, refl, sym, ap, subst, ◌∙◌, arith}
+use Rattle.std.proofs.Common.{◌≡◌, ℕ, zero, suc, ◌+◌, ◌*◌, ◌/◌, ◌^◌, ◌<◌, Bool, true, false, not, ◌||◌, eqb, ltb, cond, List, [], ◌∷◌, ◌++◌, length, get_or, drop, refl, ap, ◌∙◌, arith}
 use Rattle.std.specs.Prelude.{Option, Some, None, map}
 use Rattle.std.specs.List.{flat_map}
 use Rattle.std.specs.Int.{w64, from_le_bytes, to_le_bytes}
 use Rattle.std.specs.Simd.{first_chunks}
-use Rattle.std.proofs.lemmas.Bool.{cond-false, eq-eqb}
+use Rattle.std.proofs.lemmas.Bool.{cond-false, eq-eqb, ne_eqb}
 use Rattle.std.proofs.lemmas.Bool.Decides.{nat_tests}
 use Rattle.std.proofs.lemmas.Nat.{from_le_bytes-to_le_bytes_8}
 use Rattle.shm_words.specs.declared.geometry.Geometry.{Geometry}
-use Rattle.shm_words.specs.Layout.{GeometryFits, total_of, segments_most}
+use Rattle.shm_words.specs.Layout.{GeometryFits, total_of}
 use Rattle.shm_words.proofs.Placing.{segments_few}
 use Rattle.shm_audit.specs.declared.fault.ImageFault.{ImageFault}
 use Rattle.shm_audit.specs.declared.fault.ImageFault.TheVariants as fault
-use Rattle.shm_audit.specs.Images.{image_of, mark, numbers, numbers_in, geometry_in, words_in}
+use Rattle.shm_audit.specs.Images.{image_of, mark, marks, numbers, numbers_in, geometry_in, words_in}
 use Rattle.shm_audit.specs.Faults.{frame_fault_of, image_len, is_size}
 
 abbrev pub AreWords : List ℕ → Type 0
@@ -71,15 +71,24 @@ content_words g ws f h (suc (suc (suc i))) = h i
 pub numbers_back : (g : Geometry) (ws : List ℕ) → GeometryFits g → AreWords ws → numbers_in (image_of g ws) ≡ content g ws
 numbers_back g ws f h = ap numbers_in (image_bytes g ws) ∙ read_back (content g ws) (content_words g ws f h)
 
--- the sizes of a pool of format 1
-abbrev narrow : Geometry → Geometry
-narrow g = record { clients = g.clients; segments = g.segments; wide = false }
+-- the mark of format 2 is that of format 2 alone
+is_wide : (wide : Bool) → marks true (magic wide) ≡ wide
+is_wide true = refl
+is_wide false = ne_eqb (magic false) (magic true) (omega arith)
 
-narrow_same : (g : Geometry) → g.wide ≡ false → narrow g ≡ g
-narrow_same g o = λ i. record { clients = g.clients; segments = g.segments; wide = (sym o) i }
+has_mark : (wide : Bool) → (marks false (magic wide) || marks true (magic wide)) ≡ true
+has_mark true = refl
+has_mark false = refl
 
-pub sizes_back : (g : Geometry) (ws : List ℕ) → GeometryFits g → g.wide ≡ false → AreWords ws → geometry_in (image_of g ws) ≡ g
-sizes_back g ws f o h = ap (λ xs. record { clients = get_or xs 1 0; segments = get_or xs 2 0; wide = false }) (numbers_back g ws f h) ∙ narrow_same g o
+-- the sizes that the numbers of an image announce
+abbrev announced : List ℕ → Geometry
+announced xs = record { clients = get_or xs 1 0; segments = get_or xs 2 0; wide = marks true (get_or xs 0 0) }
+
+announced_same : (g : Geometry) (ws : List ℕ) → announced (content g ws) ≡ g
+announced_same g ws = λ i. record { clients = g.clients; segments = g.segments; wide = is_wide g.wide i }
+
+pub sizes_back : (g : Geometry) (ws : List ℕ) → GeometryFits g → AreWords ws → geometry_in (image_of g ws) ≡ g
+sizes_back g ws f h = ap announced (numbers_back g ws f h) ∙ announced_same g ws
 
 pub words_back : (g : Geometry) (ws : List ℕ) → GeometryFits g → AreWords ws → words_in (image_of g ws) ≡ ws
 words_back g ws f h = ap (drop 3) (numbers_back g ws f h)
@@ -89,26 +98,27 @@ image_length g ws =
     let l : length (bytes (content g ws)) ≡ 8 * length (content g ws) = many_bytes (content g ws) in
     ap length (image_bytes g ws) ∙ (l ∙ omega arith)
 
--- the fault of a frame by its numbers and by how many bytes there are
-abbrev frame_fault : ℕ → List ℕ → Option ImageFault
-frame_fault n xs =
+-- the fault of a frame by its sizes, its numbers and how many bytes there are
+abbrev frame_fault : ℕ → List ℕ → Geometry → Option ImageFault
+frame_fault n xs g =
     cond (ltb n 24) (Some (fault.Short n))
-    (cond (not (eqb (get_or xs 0 0) (magic false))) (Some (fault.Magic (get_or xs 0 0)))
-    (cond (not (is_size (get_or xs 1 0) (get_or xs 2 0))) (Some (fault.Geometry (get_or xs 1 0) (get_or xs 2 0)))
-    (cond (not (eqb n (image_len (record { clients = get_or xs 1 0; segments = get_or xs 2 0; wide = false })))) (Some (fault.Length n (image_len (record { clients = get_or xs 1 0; segments = get_or xs 2 0; wide = false })))) None)))
+    (cond (not (marks false (get_or xs 0 0) || marks true (get_or xs 0 0))) (Some (fault.Magic (get_or xs 0 0)))
+    (cond (not (is_size g)) (Some (fault.Geometry g.clients g.segments))
+    (cond (not (eqb n (image_len g))) (Some (fault.Length n (image_len g))) None)))
 
-size_so : (g : Geometry) → GeometryFits g → g.wide ≡ false → is_size g.clients g.segments ≡ true
-size_so g f o = let a = f.client in let b = f.clients in let c = f.segment in let d : g.segments ≤ 256 = subst (λ wide. g.segments ≤ segments_most wide) o f.segments in grind (arith, nat_tests)
+size_so : (g : Geometry) → GeometryFits g → is_size g ≡ true
+size_so g f = let a = f.client in let b = f.clients in let c = f.segment in let d = f.segments in grind (arith, nat_tests)
 
-no_frame_fault : (g : Geometry) (ws : List ℕ) (n : ℕ) → GeometryFits g → g.wide ≡ false → n ≡ image_len (narrow g) → frame_fault n (content g ws) ≡ None
-no_frame_fault g ws n f o e =
+no_frame_fault : (g : Geometry) (ws : List ℕ) (n : ℕ) → GeometryFits g → n ≡ image_len g → frame_fault n (content g ws) g ≡ None
+no_frame_fault g ws n f e =
     cond-false (ltb n 24) _ _ (grind (arith, nat_tests))
-    ∙ (cond-false (not (eqb (magic g.wide) (magic false))) _ _ (ap not (eq-eqb (magic g.wide) (magic false) (ap magic o)))
-    ∙ (cond-false (not (is_size g.clients g.segments)) _ _ (ap not (size_so g f o))
-    ∙ cond-false (not (eqb n (image_len (narrow g)))) _ _ (ap not (eq-eqb n (image_len (narrow g)) e))))
+    ∙ (cond-false (not (marks false (magic g.wide) || marks true (magic g.wide))) _ _ (ap not (has_mark g.wide))
+    ∙ (cond-false (not (is_size g)) _ _ (ap not (size_so g f))
+    ∙ cond-false (not (eqb n (image_len g))) _ _ (ap not (eq-eqb n (image_len g) e))))
 
-pub frame_back : (g : Geometry) (ws : List ℕ) → GeometryFits g → g.wide ≡ false → length ws ≡ total_of g → AreWords ws → frame_fault_of (image_of g ws) ≡ None
-frame_back g ws f o w h =
-    let l = image_length g ws in
-    let e : length (image_of g ws) ≡ image_len (narrow g) = l ∙ (ap (λ k. 24 + 8 * k) w ∙ ap image_len (sym (narrow_same g o))) in
-    ap (frame_fault (length (image_of g ws))) (numbers_back g ws f h) ∙ no_frame_fault g ws (length (image_of g ws)) f o e
+pub frame_back : (g : Geometry) (ws : List ℕ) → GeometryFits g → length ws ≡ total_of g → AreWords ws → frame_fault_of (image_of g ws) ≡ None
+frame_back g ws f w h =
+    let image = image_of g ws in
+    let e : length image ≡ image_len g = image_length g ws ∙ ap (λ k. 24 + 8 * k) w in
+    ap (λ (xs : List ℕ). frame_fault (length image) xs (announced xs)) (numbers_back g ws f h)
+    ∙ (ap (frame_fault (length image) (content g ws)) (announced_same g ws) ∙ no_frame_fault g ws (length image) f e)

@@ -51,7 +51,7 @@ module _ (g : Geometry) (ws xs : List ℕ) (e : xs ≡ used_in g ws) where
 seen_used : (g : Geometry) (ws : List ℕ) (b : ℕ) → is_used g ws b ≡ true → see g ws (Head b) ≢ 0
 seen_used g ws b u = λ z. false≢true (sym (ap not (eq-eqb (see g ws (Head b)) 0 z)) ∙ u)
 
-used_seen : (g : Geometry) (ws : List ℕ) (b : ℕ) → see g ws (Head b) ≢ 0 → is_used g ws b ≡ true
+pub used_seen : (g : Geometry) (ws : List ℕ) (b : ℕ) → see g ws (Head b) ≢ 0 → is_used g ws b ≡ true
 used_seen g ws b n = ap not (ne_eqb (see g ws (Head b)) 0 n)
 
 pub used_block : (g : Geometry) (ws : List ℕ) (b : ℕ) → is_used g ws b ≡ true → IsBlock g (classes_in g ws) b

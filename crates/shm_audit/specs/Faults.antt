@@ -1,10 +1,9 @@
 -- what is at fault in an image
-use Rattle.std.specs.Prelude.{ℕ, zero, suc, ◌+◌, ◌*◌, Bool, false, not, ◌&&◌, ◌||◌, ◌==◌, nat_lt, nat_le, if◌then◌else◌, List, length, codes, slice_index, Option, Some, None, option_map}
+use Rattle.std.specs.Prelude.{ℕ, zero, suc, ◌+◌, ◌*◌, Bool, true, false, not, ◌&&◌, ◌||◌, ◌==◌, nat_lt, nat_le, if◌then◌else◌, List, length, slice_index, Option, Some, None, option_map}
 use Rattle.std.specs.Option.{option_or}
-use Rattle.std.specs.Int.{w64, from_le_bytes}
 use Rattle.shm_words.specs.declared.geometry.Geometry.{Geometry}
 use Rattle.shm_words.specs.declared.tag.Tag.{Tag as ATag}
-use Rattle.shm_words.specs.Layout.{total_of}
+use Rattle.shm_words.specs.Layout.{segments_most, total_of}
 use Rattle.shm_words.specs.Tags.{tag_of}
 use Rattle.shm_graph.specs.declared.spot.Spot.{Spot}
 use Rattle.shm_graph.specs.declared.spot.Spot.TheVariants.{Page, Head, Tag}
@@ -13,7 +12,7 @@ use Rattle.shm_graph.specs.Blocks.{classes, headers}
 use Rattle.shm_graph.specs.References.{references}
 use Rattle.shm_audit.specs.declared.fault.ImageFault.{ImageFault}
 use Rattle.shm_audit.specs.declared.fault.ImageFault.TheVariants as fault
-use Rattle.shm_audit.specs.Images.{numbers_in, geometry_in, words_in}
+use Rattle.shm_audit.specs.Images.{marks, numbers_in, geometry_in, words_in}
 
 -- the least number below n that passes the test
 abbrev pub least_below : ℕ → (ℕ → Bool) → Option ℕ
@@ -72,16 +71,16 @@ words_fault_of g ws =
 abbrev pub image_len : Geometry → ℕ
 image_len g = 24 + 8 * total_of g
 
--- whether a pool may have so many clients and segments
-abbrev pub is_size : ℕ → ℕ → Bool
-is_size n s = (nat_le 1 n && nat_le n 16) && (nat_le 1 s && nat_le s 256)
+-- whether a pool of this format may have so many clients and segments
+abbrev pub is_size : Geometry → Bool
+is_size g = (nat_le 1 g.clients && nat_le g.clients 16) && (nat_le 1 g.segments && nat_le g.segments (segments_most g.wide))
 
 -- what is wrong with the length of an image or with its first 24 bytes, if anything is
 abbrev pub frame_fault_of : List ℕ → Option ImageFault
 frame_fault_of image =
     if nat_lt (length image) 24 then Some (fault.Short (length image))
-    else if not (slice_index (numbers_in image) 0 == from_le_bytes w64 (codes "CXLSHM01")) then Some (fault.Magic (slice_index (numbers_in image) 0))
-    else if not (is_size (slice_index (numbers_in image) 1) (slice_index (numbers_in image) 2)) then Some (fault.Geometry (slice_index (numbers_in image) 1) (slice_index (numbers_in image) 2))
+    else if not (marks false (slice_index (numbers_in image) 0) || marks true (slice_index (numbers_in image) 0)) then Some (fault.Magic (slice_index (numbers_in image) 0))
+    else if not (is_size (geometry_in image)) then Some (fault.Geometry (geometry_in image).clients (geometry_in image).segments)
     else if not (length image == image_len (geometry_in image)) then Some (fault.Length (length image) (image_len (geometry_in image)))
     else None
 

@@ -1,5 +1,5 @@
 -- the bytes of an image
-use Rattle.std.specs.Prelude.{ℕ, ◌/◌, Bool, true, false, List, ◌∷◌, ◌++◌, length, map, drop, codes, slice_index}
+use Rattle.std.specs.Prelude.{ℕ, ◌/◌, Bool, true, false, ◌==◌, List, ◌∷◌, ◌++◌, length, map, drop, codes, slice_index}
 use Rattle.std.specs.List.{flat_map}
 use Rattle.std.specs.Int.{w64, from_le_bytes, to_le_bytes}
 use Rattle.std.specs.Simd.{first_chunks}
@@ -22,9 +22,13 @@ numbers = map (from_le_bytes w64)
 abbrev pub numbers_in : List ℕ → List ℕ
 numbers_in bytes = numbers (first_chunks 8 (length bytes / 8) bytes)
 
--- the sizes that an image announces
+-- whether a number is what its first 8 bytes say in an image of format 2 (`true`) or of format 1
+abbrev pub marks : Bool → ℕ → Bool
+marks wide seen = seen == from_le_bytes w64 (mark wide)
+
+-- the sizes that an image announces, of format 2 where it begins with that mark
 abbrev pub geometry_in : List ℕ → Geometry
-geometry_in image = record { clients = slice_index (numbers_in image) 1; segments = slice_index (numbers_in image) 2; wide = false }
+geometry_in image = record { clients = slice_index (numbers_in image) 1; segments = slice_index (numbers_in image) 2; wide = marks true (slice_index (numbers_in image) 0) }
 
 -- the words in an image
 abbrev pub words_in : List ℕ → List ℕ

@@ -4,3 +4,4 @@ pub mod Verdicts
 pub mod Stops
 pub mod Used
 pub mod Texts
+pub mod Tallies

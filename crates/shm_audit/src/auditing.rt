@@ -1,6 +1,6 @@
 //! The audit of an image: its first fault, or the first verdict on its words.
 
-ghost use Rattle.std.specs.Prelude.{◌≡◌, ℕ, ◌^◌, ◌<◌, ◌↔◌, false, List, length, slice_index, IfOk, IfErr, None, Some};
+ghost use Rattle.std.specs.Prelude.{◌≡◌, ℕ, ◌^◌, ◌<◌, ◌↔◌, List, length, slice_index, IfOk, IfErr, None, Some};
 ghost use Rattle.shm_words.specs.declared.geometry.Geometry.{Geometry as AGeometry};
 ghost use Rattle.shm_words.specs.Layout.{GeometryFits, total_of};
 ghost use Rattle.shm_graph.specs.Spots.{see};
@@ -15,6 +15,7 @@ use crate::checks::{check_headers, check_pages, check_tags};
 use crate::counts::{count_references, first_pending, judge_blocks};
 use crate::image::open_image;
 use crate::stop::AuditStop;
+use crate::tally::clean_pool;
 use crate::verdict::Verdict;
 use shm_words::Geometry;
 use std::alloc::Global;
@@ -23,8 +24,9 @@ use std::alloc::Global;
 ///
 /// Of the faults the first in this order is told: the length, the first 8 bytes, the sizes, the length that they ask for, page words,
 /// headers, tags, references; of those at words the one at the least address. Of the verdicts it is the least identity that is neither new
-/// nor gone; then the first block that is live and has the count 0 or another count than references; else the pool is clean. All
-/// references are counted in one pass. It takes 4 bytes of memory for each word.
+/// nor gone; then the first block that is live and has the count 0 or another count than references; else the pool is clean. One pass
+/// tells a clean pool, with 1 byte of memory for each word of the pages; only where the pool isn't clean the first fault or verdict is looked
+/// for, with 4 bytes for each word and 4 for each block in use.
 pub fn audit(alloc: Global, image: &[u8]) -> Result<Verdict, AuditStop>
     ensures ok { IfOk result (λ v. (image_fault_of image.now ≡ None) × (v ≡ verdict_of (geometry_in image.now) (see (geometry_in image.now) (words_in image.now)))) }
     ensures err { IfErr result (λ e. StopsBy (image_fault_of image.now) e) }
@@ -39,6 +41,9 @@ fn audit_words(alloc: Global, geometry: Geometry, words: &[[u8; 8]]) -> Result<V
     ensures ok { IfOk result (λ v. (words_fault_of geometry (numbers words.now) ≡ None) × (v ≡ verdict_of geometry (see geometry (numbers words.now)))) }
     ensures err { IfErr result (λ e. StopsBy (words_fault_of geometry (numbers words.now)) e) }
 {
+    if let Some(verdict) = clean_pool(alloc, geometry, words).map_err(AuditStop::Memory)? {
+        return Ok(verdict);
+    }
     check_pages(geometry, words).map_err(AuditStop::Fault)?;
     let blocks = used_blocks(alloc, geometry, words).map_err(AuditStop::Memory)?;
     check_headers(geometry, words, blocks.as_slice()).map_err(AuditStop::Fault)?;
@@ -55,9 +60,9 @@ pub fn clean_where_verdict_is()
     ensures { (g : AGeometry) (ws : List ℕ) → GeometryFits g → IsClean g (see g ws) ↔ (words_fault_of g ws ≡ None) × IsCleanVerdict (verdict_of g (see g ws)) }
 {}
 
-/// The image of a clean pool of format 1 has no fault, and the verdict on the sizes and words that are read in it is `Clean`, with two
+/// The image of a clean pool has no fault, and the verdict on the sizes and words that are read in it is `Clean`, with two
 /// numbers: how many blocks of the pool are live, and how many of its words name one.
 pub fn clean_images()
-    ensures faultless { (g : AGeometry) (ws : List ℕ) → GeometryFits g → g.wide ≡ false → length ws ≡ total_of g → ((i : ℕ) → slice_index ws i < 2 ^ 64) → IsClean g (see g ws) → image_fault_of (image_of g ws) ≡ None }
-    ensures verdict { (g : AGeometry) (ws : List ℕ) → GeometryFits g → g.wide ≡ false → ((i : ℕ) → slice_index ws i < 2 ^ 64) → IsClean g (see g ws) → let image = image_of g ws in verdict_of (geometry_in image) (see (geometry_in image) (words_in image)) ≡ clean_verdict g (see g ws) }
+    ensures faultless { (g : AGeometry) (ws : List ℕ) → GeometryFits g → length ws ≡ total_of g → ((i : ℕ) → slice_index ws i < 2 ^ 64) → IsClean g (see g ws) → image_fault_of (image_of g ws) ≡ None }
+    ensures verdict { (g : AGeometry) (ws : List ℕ) → GeometryFits g → ((i : ℕ) → slice_index ws i < 2 ^ 64) → IsClean g (see g ws) → let image = image_of g ws in verdict_of (geometry_in image) (see (geometry_in image) (words_in image)) ≡ clean_verdict g (see g ws) }
 {}

@@ -29,8 +29,8 @@ pub fn check_pages(geometry: Geometry, words: &[[u8; 8]]) -> Result<(), ImageFau
     Ok(())
 }
 
-// whether a page may have this word
-fn is_page_word(word: u64) -> bool
+/// Whether a page may have this word.
+pub fn is_page_word(word: u64) -> bool
     ensures { result ≡ is_page_word word }
 {
     matches!(word, 0 | 4 | 8 | 16 | 32)
@@ -57,8 +57,8 @@ pub fn check_headers(
     Ok(())
 }
 
-// whether a header is live and of a client of the pool
-fn is_lawful(geometry: Geometry, header: Header) -> bool
+/// Whether a header is live and of a client of the pool.
+pub fn is_lawful(geometry: Geometry, header: Header) -> bool
     ensures { result ≡ (header.live && nat_lt header.client geometry.clients) }
 {
     header.live && header.client < geometry.clients()
@@ -97,8 +97,8 @@ fn is_bad_tag(geometry: Geometry, words: &[[u8; 8]], at: u32) -> bool
     }
 }
 
-// whether a word is the tag of a block of so many words, by a client of the pool
-fn suits(geometry: Geometry, class: u64, word: u64) -> bool
+/// Whether a word is the tag of a block of so many words, by a client of the pool.
+pub fn suits(geometry: Geometry, class: u64, word: u64) -> bool
     ensures { result ≡ tag_suits geometry.clients class (tag_of geometry.wide word) }
 {
     match geometry.read_tag(word) {

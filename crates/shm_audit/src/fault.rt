@@ -8,10 +8,10 @@ pub enum ImageFault {
     /// There are fewer than 24 bytes; `len` is how many there are.
     #[error("refused short {len}")]
     Short { len: u64 },
-    /// The first 8 bytes aren't `CXLSHM01`; `seen` is the number that they are, the lowest byte first.
+    /// The first 8 bytes are neither `CXLSHM01` nor `CXLSHM02`; `seen` is the number that they are, the lowest byte first.
     #[error("refused magic {seen}")]
     Magic { seen: u64 },
-    /// No pool has so many clients and segments.
+    /// No pool of this format has so many clients and segments.
     #[error("refused geometry {clients} {segments}")]
     Geometry { clients: u64, segments: u64 },
     /// There are `len` bytes, and an image of this geometry has `want`.

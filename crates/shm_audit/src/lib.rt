@@ -8,13 +8,15 @@ mod counts;
 mod fault;
 mod image;
 mod stop;
+mod tally;
 mod text;
 mod verdict;
 mod words;
 
 pub use auditing::{audit, clean_images, clean_where_verdict_is};
 pub use fault::ImageFault;
-pub use image::{image_reads_back, write_image};
+pub use image::{image_reads_back, open_image, push_word, write_image};
 pub use stop::AuditStop;
 pub use text::{fault_text, verdict_text};
 pub use verdict::Verdict;
+pub use words::{spot, word};

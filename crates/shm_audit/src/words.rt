@@ -132,8 +132,8 @@ pub fn header_at(geometry: Geometry, words: &[[u8; 8]], at: u32) -> Header
     }
 }
 
-// how many reference words a tag word shows
-fn refs_in(geometry: Geometry, word: u64) -> u8
+/// How many reference words a tag word shows.
+pub fn refs_in(geometry: Geometry, word: u64) -> u8
     ensures { result ≡ tag_refs geometry.wide word }
 {
     if geometry.is_wide() {

@@ -1,13 +1,12 @@
 -- a call, one step on, at its end and cut off
-use Rattle.std.proofs.Common.{◌≡◌, ℕ, ◌+◌, ◌<◌, Bool, true, false, cond, ◌&&◌, List, [], ◌∷◌, ◌++◌, length, refl, sym, ap, ◌∙◌, subst, arith, length-append}
+use Rattle.std.proofs.Common.{◌≡◌, ◌≢◌, ℕ, ◌<◌, Bool, true, false, cond, ◌&&◌, List, [], ◌∷◌, ◌++◌, refl, sym, ap, ◌∙◌, subst, true≢false}
 use Rattle.std.specs.Prelude.{if◌then◌else◌, Option, Some, None}
-use Rattle.std.proofs.lemmas.List.{append-nil}
 use Rattle.shm_words.specs.declared.geometry.Geometry.{Geometry}
 use Rattle.shm_graph.specs.declared.ask.Me.{Me}
 use Rattle.shm_graph.specs.declared.ask.Turn.{Turn}
 use Rattle.shm_graph.specs.declared.memo.Memo.{Memo}
 use Rattle.shm_graph.specs.declared.memo.Status.{Status}
-use Rattle.shm_graph.specs.declared.memo.Status.TheVariants.{Gone}
+use Rattle.shm_graph.specs.declared.memo.Status.TheVariants.{Gone, Live}
 use Rattle.shm_graph.specs.declared.memo.Step.{Step}
 use Rattle.shm_graph.specs.declared.run.Account.{Account}
 use Rattle.shm_graph.specs.Agents.{acts, is_gone, recovers}
@@ -17,6 +16,7 @@ use Rattle.shm_graph.specs.Laws.{Control, Steady, step_of, turn_of, is_died, is_
 use Rattle.shm_graph.specs.Runs.{account_after, told_by, told_left, begun_by}
 use Rattle.shm_graph.proofs.Memos.MemoSteps.{acts_after, acts-on, memo_call, memo_over, recovers_on}
 use Rattle.shm_pool.specs.Rules.{IsOf}
+use Rattle.shm_pool.specs.Tokens.{IsServing, has_left}
 use Rattle.shm_pool.specs.Calls.{Shown, shown, accounts_by, IsBy, Going, fresh_after, Ending, Calls, ClientStepped, Ongoing, Tells, acts_still}
 
 -- a step leaves what kind of agent acts
@@ -28,28 +28,18 @@ pub never_died : {A : Type 0} (o : Option A) → is_died (turn_of o) ≡ false
 never_died None = refl
 never_died (Some a) = refl
 
-accounts_more : (r : Account) (ts : List Step) (t : Step) → accounts_by r (ts ++ t ∷ []) ≡ account_after (accounts_by r ts) t
+pub accounts_more : (r : Account) (ts : List Step) (t : Step) → accounts_by r (ts ++ t ∷ []) ≡ account_after (accounts_by r ts) t
 accounts_more r [] t = refl
 accounts_more r (u ∷ us) t = accounts_more (account_after r u) us t
 
-going_more : (s : Shown) (fresh : Bool) (ts : List Step) (t : Step) → Going s fresh ts → IsBy s (fresh_after fresh ts) t → t.ends ≡ false → Going s fresh (ts ++ t ∷ [])
+pub going_more : (s : Shown) (fresh : Bool) (ts : List Step) (t : Step) → Going s fresh ts → IsBy s (fresh_after fresh ts) t → t.ends ≡ false → Going s fresh (ts ++ t ∷ [])
 going_more s fresh [] t g by on = (by, on, tt)
 going_more s fresh (u ∷ []) t g by on = (g.0, g.1, (by, on, tt))
 going_more s fresh (u ∷ v ∷ us) t g by on = (g.0, g.1, going_more s false (v ∷ us) t g.2 by on)
 
-fresh_more : (fresh : Bool) (ts : List Step) (t : Step) → fresh_after fresh (ts ++ t ∷ []) ≡ false
+pub fresh_more : (fresh : Bool) (ts : List Step) (t : Step) → fresh_after fresh (ts ++ t ∷ []) ≡ false
 fresh_more fresh [] t = refl
 fresh_more fresh (u ∷ us) t = refl
-
-pub cut : (s : Shown) (r : Account) (s' : Shown) (r' : Account) (before left : ℕ) → Ongoing s r s' r' before left → Calls s r r' false before left
-cut s r s' r' before left o = record {
-  steps = o.steps;
-  last = [];
-  going = o.going;
-  ends = tt;
-  account = o.account ∙ ap (accounts_by r) (sym (append-nil o.steps));
-  life = ap (λ (ts : List Step). left + length ts) (append-nil o.steps) ∙ o.life;
-}
 
 -- whether the agent acts after a step that is not the machine's last, and after one that is
 acts_going : (e : Account) (t : Step) → t.ends ≡ false → acts (account_after e t).memo ≡ acts e.memo
@@ -62,30 +52,36 @@ acts_over e t y acting = acts_after e.memo t (asked_spot e.memo t) ∙ by (is_go
     by true d x e f = ap (λ (z : Bool). cond z false x) e
     by false d x e f = f
 
+-- a step of an agent that acts leaves it acting, unless the client has left by it
+pub serves_on : (e : Account) (t : Step) → acts e.memo ≡ true → acts (account_after e t).memo ≡ cond (has_left (account_after e t).memo) false true
+serves_on e t acting = acts_after e.memo t (asked_spot e.memo t) ∙ ap (λ (b : Bool). cond (has_left (account_after e t).memo) false b) acting
+
+-- who acts hasn't left, and who hasn't left acts
+pub still_here : (b : Bool) → true ≡ cond b false true → b ≡ false
+still_here true e = absurd (true≢false e)
+still_here false e = refl
+
+pub acts_here : (m : Memo) → acts m ≡ cond (has_left m) false true → has_left m ≡ false → acts m ≡ true
+acts_here m is here = is ∙ ap (λ (b : Bool). cond b false true) here
+
+pub serving_acts : (dead : Bool) (m : Memo) → IsServing dead m → (dead ≡ false → has_left m ≡ false) → acts m ≡ true
+serving_acts true m s h = acts_here m s.acts (s.there refl)
+serving_acts false m s h = acts_here m s.acts (h refl)
+
+-- where the identity isn't gone, its client hasn't left
+here_by : (s : Status) (b : Bool) → s ≢ Gone → (is_gone s && b) ≡ false
+here_by Gone b n = absurd (n refl)
+here_by _ b n = refl
+
+pub is_here : (m : Memo) → m.status ≢ Gone → has_left m ≡ false
+is_here m n = here_by m.status m.over n
+
+pub live_here : (m : Memo) → m.status ≡ Live → has_left m ≡ false
+live_here m live = ap (λ (s : Status). is_gone s && m.over) live
+
 module _ {M A : Type 0} (k : Control M A) (fits : M → Memo → Memo → Type 0) (gives : M → Memo → Memo → A → Type 0) (steady : Steady k) where
-  by : (s : Shown) (r : Account) (m : M) (r' r'' : Account) (t : Turn A) (m' : M) (before left : ℕ) → (o : Ongoing s r (shown k m) r' before left) → (x : ClientStepped k fits gives m r' r'' t m') → IsBy s (fresh_after s.fresh o.steps) (step_of k m x.seen)
-  by s r m r' r'' t m' before left o x = record { me = o.me; line = o.line; first = o.first }
-
-  pub more : (s : Shown) (r : Account) (m : M) (r' r'' : Account) (t : Turn A) (m' : M) (before left left' : ℕ) → k.finished m ≡ false → Ongoing s r (shown k m) r' before left → (x : ClientStepped k fits gives m r' r'' t m') → k.turns m x.seen ≡ None → left' + 1 ≡ left → Ongoing s r (shown k m') r'' before left'
-  more s r m r' r'' t m' before left left' going o x none down = let u : Step = step_of k m x.seen in let n : ℕ = length o.steps in let l : left + n ≡ before = o.life in let st = steady m x.seen going in record {
-    steps = o.steps ++ u ∷ [];
-    going = going_more s s.fresh o.steps u o.going (by s r m r' r'' t m' before left o x) (st.ends ∙ ap is_some none);
-    account = x.account ∙ (ap (λ (z : Account). account_after z u) o.account ∙ sym (accounts_more r o.steps u));
-    life = omega (arith, length-append o.steps (u ∷ []));
-    me = ap k.me x.next ∙ (st.same_me ∙ o.me);
-    line = ap k.line x.next ∙ (st.same_line ∙ o.line);
-    first = ap k.fresh x.next ∙ (st.started ∙ sym (fresh_more s.fresh o.steps u));
-  }
-
-  pub whole : (s : Shown) (r : Account) (m : M) (r' r'' : Account) (t : Turn A) (m' : M) (before left left' : ℕ) (a : A) → k.finished m ≡ false → Ongoing s r (shown k m) r' before left → (x : ClientStepped k fits gives m r' r'' t m') → k.turns m x.seen ≡ Some a → left' + 1 ≡ left → Calls s r r'' true before left'
-  whole s r m r' r'' t m' before left left' a going o x some down = let u : Step = step_of k m x.seen in let n : ℕ = length o.steps in let l : left + n ≡ before = o.life in record {
-    steps = o.steps;
-    last = u ∷ [];
-    going = o.going;
-    ends = (by s r m r' r'' t m' before left o x, (steady m x.seen going).ends ∙ ap is_some some);
-    account = x.account ∙ (ap (λ (z : Account). account_after z u) o.account ∙ sym (accounts_more r o.steps u));
-    life = omega (arith, length-append o.steps (u ∷ []));
-  }
+  pub is_by : (s : Shown) (r : Account) (m : M) (r' r'' : Account) (t : Turn A) (m' : M) (before left : ℕ) → (o : Ongoing s r (shown k m) r' before left) → (x : ClientStepped k fits gives m r' r'' t m') → IsBy s (fresh_after s.fresh o.steps) (step_of k m x.seen)
+  is_by s r m r' r'' t m' before left o x = record { me = o.me; line = o.line; first = o.first }
 
   -- a step that goes on leaves an agent that acts, and one that is done leaves one where the status isn't gone
   pub acts_more : (m : M) (r' r'' : Account) (t : Turn A) (m' : M) → k.finished m ≡ false → acts r'.memo ≡ true → (x : ClientStepped k fits gives m r' r'' t m') → k.turns m x.seen ≡ None → acts r''.memo ≡ true

@@ -7,3 +7,6 @@ pub mod Changing
 pub mod Joining
 pub mod Seating
 pub mod Replied
+pub mod Driving
+pub mod Reading
+pub mod Rescuing

@@ -3,7 +3,6 @@ use Rattle.std.proofs.Common.{◌≡◌, ℕ, ◌<◌, Bool, true, false, List, 
 use Rattle.shm_graph.specs.declared.ask.Me.{Me}
 use Rattle.shm_graph.specs.declared.memo.Memo.{Memo}
 use Rattle.shm_graph.specs.declared.run.Account.{Account}
-use Rattle.shm_graph.specs.Agents.{is_gone}
 use Rattle.shm_graph.specs.Asks.{Trail, call_before}
 use Rattle.shm_graph.specs.Events.{Event}
 use Rattle.shm_graph.specs.Idle.{IsIdle}
@@ -45,10 +44,6 @@ module _ {M A : Type 0} (k : Control M A) (fits : M → Memo → Memo → Trail 
   idle : dead ≡ false → (a : A) → ends m a → Left a → IsIdle (k.me m).who q.memo
   idle d a en h = l.rests m e.memo q.memo q.memo.call (happens_along k does m q.memo.call) a (is d) (fit d) h en
 
-  -- its identity isn't gone
-  pub still_there : dead ≡ false → (a : A) → ends m a → gives_now gives m e.memo q.memo a → is_gone q.memo.status ≡ false
-  still_there d a en g = ap is_gone (idle d a en (left d a g)).live
-
   -- what is so of each answer of a client that lives is so of the reply
   of_living : (P : A → Type 0) (o : Reply A) → (dead ≡ true → IsLost o) → (dead ≡ false → IfReply o P) → IfReply o P
   of_living P Died h f = tt
@@ -65,10 +60,10 @@ module _ {M A : Type 0} (k : Control M A) (fits : M → Memo → Memo → Trail 
   pub told : (o : Reply A) → (dead ≡ true → IsLost o) → (k.fresh m ≡ true → IfReply o (λ _. Tells (k.line m) e q)) → IfReply o (λ _. Tells (k.line m) e q)
   told o h t = of_living (λ _. Tells (k.line m) e q) o h (λ d. t (l.fresh m e.memo (fit d)))
 
-  pub rested : (o : Reply A) → (dead ≡ true → IsLost o) → (IsLost o → ⊥) → IfReply o Left → IfReply o (λ _. Tells (k.line m) e q) → (k.me m).who ≡ q.who → ((a : A) → ends m a) → IsBetween q
-  rested Died h n g t w en = absurd (n tt)
-  rested (Done a) h n g t w en = by dead refl
+  pub rested : (o : Reply A) → (dead ≡ true → IsLost o) → IfReply o Left → IfReply o (λ _. Tells (k.line m) e q) → (k.me m).who ≡ q.who → IfReply o (λ a. ends m a → IsBetween q)
+  rested Died h g t w = tt
+  rested (Done a) h g t w = by dead refl
     where
-      by : (b : Bool) → dead ≡ b → IsBetween q
-      by true d = absurd (h d)
-      by false d = record { idle = subst (λ (c : ℕ). IsIdle c q.memo) w (idle d a (en a) g); over = t.over }
+      by : (b : Bool) → dead ≡ b → ends m a → IsBetween q
+      by true d en = absurd (h d)
+      by false d en = record { idle = subst (λ (c : ℕ). IsIdle c q.memo) w (idle d a en g); over = t.over }

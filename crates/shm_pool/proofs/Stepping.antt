@@ -21,7 +21,7 @@ use Rattle.shm_graph.specs.Laws.{Control, Outcome, step_of}
 use Rattle.shm_graph.specs.Runs.{Turned, Held, Leads, MayBegin, State, state, first_state, moved, IsMove, accounts_after, account_after, account_at, changed, account_died, account_entered, Stood, IsAmong}
 use Rattle.shm_graph.specs.Whole.{WholeKeeps, WholeKept, Learns}
 use Rattle.shm_graph.proofs.Runs.Running.{Leads-more, turned-dies, turned-begins}
-use Rattle.shm_pool.specs.Rules.{count_in, AllKnow, Rule, IsOf, Follows}
+use Rattle.shm_pool.specs.Rules.{count_in, AllKnow, Rule, IsOf, IsMade, Follows}
 use Rattle.shm_pool.proofs.Counts.{count_set, knows_at, known_step, among_set}
 
 module _ {M A : Type 0} (k : Control M A) (fits : M → Memo → Memo → Type 0) (gives : M → Memo → Memo → A → Type 0) (keeps : WholeKeeps k fits gives) where
@@ -44,6 +44,7 @@ module _ {M A : Type 0} (k : Control M A) (fits : M → Memo → Memo → Type 0
       → Rule s (words_set (k.asks m) ws) (set views id (next m e (slice_index ws (at_of (k.asks m))) ∷ []))
       × Learns k fits gives m (seen_of (k.asks m) (slice_index ws (at_of (k.asks m)))) e.memo (next m e (slice_index ws (at_of (k.asks m)))).memo
       × Stood s (next m e (slice_index ws (at_of (k.asks m))))
+      × IsMade e (step_of k m (seen_of (k.asks m) (slice_index ws (at_of (k.asks m)))))
   steps s id m e r0 is fit ws views r at =
       let n : ℕ = slice_index ws (at_of (k.asks m)) in
       let t : Step = step_of k m (seen_of (k.asks m) n) in
@@ -81,6 +82,7 @@ module _ {M A : Type 0} (k : Control M A) (fits : M → Memo → Memo → Type 0
           leads = leads;
           here = subst (λ (z : Account). IsAmong (set r.accounts c z) e') (sym new) (among_set r.accounts c e' (sym ew) long);
         },
+        record { words = ws; accounts = r.accounts; held = subst (λ (z : Geometry). Held z ws r.accounts) (sym eg) r.held; here = among; move = (refl, acting); turned = x.turned },
       )
 
   -- what the table asks of such a step; `pick` is the number that the step tells
@@ -92,7 +94,7 @@ module _ {M A : Type 0} (k : Control M A) (fits : M → Memo → Memo → Type 0
       (λ z r _ at small.
       let n : ℕ = slice_index z.words (at_of (k.asks m)) in
       let done = steps s id m e r0 is fit z.words z.views r (at ∙ ap (λ (y : Mine (Unit {0}) (List Account)). some y.0) alone) in
-      let told : says (e ∷ []) (pick n) (next m e (pick n) ∷ []) = follows (pick n) (subst (λ (x : ℕ). Learns k fits gives m x e.memo (account_after e (step_of k m x)).memo) (sym (same n)) done.1) (subst (λ (x : ℕ). Stood s (account_after e (step_of k m x))) (sym (same n)) done.2) in
+      let told : says (e ∷ []) (pick n) (next m e (pick n) ∷ []) = follows (pick n) (subst (λ (x : ℕ). Learns k fits gives m x e.memo (account_after e (step_of k m x)).memo) (sym (same n)) done.1) (subst (λ (x : ℕ). Stood s (account_after e (step_of k m x))) (sym (same n)) done.2) (subst (λ (x : ℕ). IsMade e (step_of k m x)) (sym (same n)) done.3) in
       let told' : says me.0 (pick n) (next m e n ∷ []) = subst (λ (x : ℕ). says me.0 (pick n) (account_after e (step_of k m x) ∷ [])) (same n) (subst (λ (y : Mine (Unit {0}) (List Account)). says y.0 (pick n) (next m e (pick n) ∷ [])) (sym alone) told) in
       (next m e n ∷ [], nothing, tt, done.0, (told', refl)))
 

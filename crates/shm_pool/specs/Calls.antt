@@ -4,13 +4,17 @@ use Rattle.shm_graph.specs.declared.ask.Me.{Me}
 use Rattle.shm_graph.specs.declared.ask.Turn.{Turn}
 use Rattle.shm_graph.specs.declared.memo.Memo.{Memo}
 use Rattle.shm_graph.specs.declared.run.Account.{Account}
-use Rattle.shm_graph.specs.declared.run.Start.{Start}
 use Rattle.shm_graph.specs.declared.memo.Step.{Step}
 use Rattle.shm_graph.specs.Agents.{is_gone}
+use Rattle.shm_graph.specs.Asks.{Trail, call_before, pair}
+use Rattle.shm_graph.specs.CallEvents.{events_of}
+use Rattle.shm_graph.specs.Events.{Event}
 use Rattle.shm_graph.specs.Idle.{IsIdle}
 use Rattle.shm_graph.specs.Laws.{Control, step_of, turn_of}
-use Rattle.shm_graph.specs.Runs.{account_after, told_by, told_left, begun_by, Stood}
+use Rattle.shm_graph.specs.Runs.{account_after, told_by, told_left, begun_by}
+use Rattle.shm_graph.specs.Tells.{Tells as TellsEvents, after_all, machine_steps, tells_along}
 use Rattle.shm_graph.specs.Whole.{Learns}
+use Rattle.shm_pool.specs.Rules.{IsMade}
 
 -- what a machine shows of itself
 pub record Shown : Type 0 where
@@ -59,13 +63,32 @@ pub record Calls (s : Shown) (r r' : Account) (over : Bool) (before left : ℕ) 
   pub life : left + length (steps ++ last) ≡ before
 
 module _ {M A : Type 0} (k : Control M A) (fits : M → Memo → Memo → Type 0) (gives : M → Memo → Memo → A → Type 0) where
-  -- one step: the machine m becomes m' and answers t, and the account r becomes r'
+  -- one step, which is a turn of the pool: the machine m becomes m' and answers t, and the account r becomes r'
   pub record ClientStepped (m : M) (r r' : Account) (t : Turn A) (m' : M) : Type 0 where
     pub seen : ℕ
     pub account : r' ≡ account_after r (step_of k m seen)
     pub next : m' ≡ k.after m seen
     pub turn : t ≡ turn_of (k.turns m seen)
+    pub made : IsMade r (step_of k m seen)
     pub suits : Learns k fits gives m seen r.memo r'.memo
+
+-- what these steps asked for, and found
+abbrev pub pairs : List Step → Trail
+pairs [] = []
+pairs (t ∷ ts) = pair t.ask t.seen ∷ pairs ts
+
+module _ {M A : Type 0} (k : Control M A) (fits : M → Memo → Memo → Trail → Type 0) where
+  -- these steps of an account, which was r and is r' now, are those that the machine m asked for, which is m' now: they are its call so far, and their events are those that it tells
+  pub record IsDriven (m m' : M) (r r' : Account) (ts : List Step) : Type 0 where
+    pub steps : ts ≡ machine_steps k m (pairs ts)
+    pub machine : m' ≡ after_all k m (pairs ts)
+    pub asked : call_before (fresh_after (k.fresh m) ts) r'.memo.call ≡ call_before (k.fresh m) r.memo.call ++ pairs ts
+    pub events : (does : M → ℕ → Event) → TellsEvents k fits does → events_of r.memo ts ≡ tells_along k does m (pairs ts)
+
+  -- a call of the machine m
+  pub record Drives (m m' : M) (r r' : Account) (over : Bool) (before left : ℕ) : Type 0 where
+    pub call : Calls (shown k m) r r' over before left
+    pub driven : IsDriven m m' r r' (call.steps ++ call.last)
 
 -- a call that goes on: the machine showed s at first and shows s' now
 pub record Ongoing (s : Shown) (r : Account) (s' : Shown) (r' : Account) (before left : ℕ) : Type 0 where
@@ -93,7 +116,3 @@ pub record IsBetween (e : Account) : Type 0 where
 abbrev pub acts_still : Bool → Memo → Bool
 acts_still false m = true
 acts_still true m = if is_gone m.status then false else true
-
--- whatever such a machine of the identity c answers, it leaves another status than gone
-abbrev pub CallStays : {A : Type 0} → Start → ℕ → (Memo → A → Type 0) → Type 0
-CallStays {A} s c gives = (e : Account) (a : A) → Stood s e → e.who ≡ c → gives e.memo a → is_gone e.memo.status ≡ false

@@ -5,11 +5,13 @@ use Rattle.shm_words.specs.declared.geometry.Geometry.{Geometry}
 use Rattle.shm_graph.specs.declared.run.Start.{Start}
 use Rattle.shm_graph.specs.declared.memo.Memo.{Memo}
 use Rattle.shm_graph.specs.declared.run.Account.{Account}
+use Rattle.shm_graph.specs.declared.memo.Step.{Step}
 use Rattle.shm_graph.specs.declared.run.Move.{Move}
+use Rattle.shm_graph.specs.declared.run.Move.TheVariants.{Word}
 use Rattle.shm_graph.specs.Agents.{acts}
 use Rattle.shm_graph.specs.Asks.{seen_of}
 use Rattle.shm_graph.specs.Laws.{Control, step_of}
-use Rattle.shm_graph.specs.Runs.{Held, Leads, state, first_state, account_after, first_account, IsAmong, Stood}
+use Rattle.shm_graph.specs.Runs.{Held, IsMove, Leads, Turned, state, first_state, account_after, first_account, IsAmong, Stood}
 use Rattle.shm_graph.specs.Whole.{Learns}
 
 -- how often the identity c stands in a view
@@ -62,11 +64,20 @@ IsAlone s = s.me ≡ (head_account s.me.0 ∷ [], [])
 abbrev pub IsOf : {M A : Type 0} → Geometry → Account → Control M A → M → Type 0
 IsOf g e k m = (k.me m ≡ record { geometry = g; who = e.who }) × (e.who < g.clients) × (k.finished m ≡ false) × (acts e.memo ≡ true)
 
+-- the identity of the account e made the word step t in this state: it is held, the word that was found was there, and the step is one turn of one event
+pub record IsMade (e : Account) (t : Step) : Type 0 where
+  pub words : List ℕ
+  pub accounts : List Account
+  pub held : Held t.me.geometry words accounts
+  pub here : IsAmong accounts e
+  pub move : IsMove (state words accounts) (Word t)
+  pub turned : Turned t.me.geometry (state words accounts) (Word t)
+
 module _ {M A : Type 0} (k : Control M A) (fits : M → Memo → Memo → Type 0) (gives : M → Memo → Memo → A → Type 0) where
   -- the account e' after the step of m that was given n
   abbrev pub Told : Start → M → Account → ℕ → Account → Type 0
-  Told s m e n e' = (e' ≡ account_after e (step_of k m n)) × Learns k fits gives m n e.memo e'.memo × Stood s e'
+  Told s m e n e' = (e' ≡ account_after e (step_of k m n)) × Learns k fits gives m n e.memo e'.memo × Stood s e' × IsMade e (step_of k m n)
 
   -- what is told follows from what the step is
   abbrev pub Follows : Start → M → Account → ℕ → (List Account → Type 0) → Type 0
-  Follows s m e n says = let e' : Account = account_after e (step_of k m (seen_of (k.asks m) n)) in Learns k fits gives m (seen_of (k.asks m) n) e.memo e'.memo → Stood s e' → says (e' ∷ [])
+  Follows s m e n says = let t : Step = step_of k m (seen_of (k.asks m) n) in Learns k fits gives m (seen_of (k.asks m) n) e.memo (account_after e t).memo → Stood s (account_after e t) → IsMade e t → says (account_after e t ∷ [])

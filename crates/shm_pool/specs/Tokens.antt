@@ -1,5 +1,5 @@
 -- pools and tokens as contracts see them
-use Rattle.std.specs.Prelude.{◌≡◌, zero, suc, ℕ, ◌<◌, ◌==◌, if◌then◌else◌, ◌⊎◌, Bool, true, false, List, [], ◌∷◌}
+use Rattle.std.specs.Prelude.{◌≡◌, zero, suc, ℕ, ◌<◌, ◌==◌, ◌&&◌, if◌then◌else◌, ◌⊎◌, Bool, true, false, List, [], ◌∷◌}
 use Rattle.atomic_table.specs.Seated.{TableId}
 use Rattle.atomic_table.specs.declared.shared.Seat.{Seat}
 use Rattle.shm_words.specs.Layout.{GeometryFits}
@@ -10,7 +10,7 @@ use Rattle.shm_graph.specs.declared.run.Account.{Account}
 use Rattle.shm_graph.specs.declared.memo.Status.TheVariants.{New, Live, Gone}
 use Rattle.shm_graph.specs.declared.run.Move.{Move}
 use Rattle.shm_graph.specs.declared.memo.Kind.TheVariants.{Client, Recoverer}
-use Rattle.shm_graph.specs.Agents.{acts}
+use Rattle.shm_graph.specs.Agents.{acts, is_gone, recovers}
 use Rattle.shm_graph.specs.Clean.{IsClean}
 use Rattle.shm_graph.specs.Spots.{see}
 use Rattle.shm_graph.specs.Laws.{Control}
@@ -50,6 +50,16 @@ abbrev pub IsFallen : Bool → Memo → Type 0
 IsFallen true m = acts m ≡ true
 IsFallen false m = IsStill m
 
+-- whether a client has left: its last machine is finished, and the identity is gone
+abbrev pub has_left : Memo → Bool
+has_left m = is_gone m.status && m.over
+
+-- the agent is a client's and acts until it has left; where a call of it has died it hasn't left
+pub record IsServing (dead : Bool) (m : Memo) : Type 0 where
+  pub kind : recovers m ≡ false
+  pub acts : acts m ≡ (if has_left m then false else true)
+  pub there : dead ≡ true → has_left m ≡ false
+
 -- the memo of an identity that has joined, but for its call and its agents
 abbrev pub live : Memo → Memo
 live m = record m { status = Live }
@@ -82,9 +92,9 @@ pub record IsSeated (start : Start) (c : ℕ) (s : Seat (Unit {0}) (List Account
 abbrev pub me_of : Its → Account → Me
 me_of p r = record { geometry = p.start.geometry; who = r.who }
 
--- the machine is of this identity of this pool and not finished; before its first step the client's last one is finished
+-- the machine is of this identity of this pool, whose client hasn't left, and not finished; before its first step the client's last one is finished
 abbrev pub IsFor : {M A : Type 0} → Its → Account → Control M A → M → Type 0
-IsFor p r k m = (k.me m ≡ me_of p r) × (k.finished m ≡ false) × (k.fresh m ≡ true → r.memo.over ≡ true)
+IsFor p r k m = (k.me m ≡ me_of p r) × (k.finished m ≡ false) × (k.fresh m ≡ true → r.memo.over ≡ true) × (has_left r.memo ≡ false)
 
 -- the token of identity c as it is made
 abbrev pub token_first : Its → ℕ → Token

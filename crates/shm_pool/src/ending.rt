@@ -1,16 +1,16 @@
 //! The last machine of an agent, which leaves its identity gone.
 
-ghost use Rattle.std.specs.Prelude.{◌≡◌, ◌<◌, true, false, IfOk, IfErr, is_err};
+ghost use Rattle.std.specs.Prelude.{◌≡◌, ◌<◌, true, false, IfOk, IfErr, is_err, is_ok};
 ghost use Rattle.shm_graph.specs.Agents.{acts};
 ghost use Rattle.shm_graph.specs.Whole.{fits_now, gives_now};
 ghost use Rattle.shm_pool.specs.declared.token.Cause.TheVariants as cause;
 ghost use Rattle.shm_pool.specs.Rules.{alone};
-ghost use Rattle.shm_pool.specs.Tokens.{its, me_of, token_of, IsFor, IsFallen, IsSeated};
+ghost use Rattle.shm_pool.specs.Tokens.{has_left, its, me_of, token_of, IsFor, IsFallen, IsSeated};
 ghost use Rattle.shm_pool.specs.Endings.{ClientMayLeave, HasEnded, HasStopped, HasLeft, HasNotLeft, Leaves, fallen_of};
 
 use crate::pool::SharedPool;
 use crate::rule::Place;
-use crate::steps::run_place;
+use crate::steps::{load_status, run_place};
 use crate::token::{Cause, Client, Corpse, Stopped, Vacant};
 use shm_calls::Calls;
 use shm_count::EraSpent;
@@ -107,5 +107,42 @@ impl Client {
     {
         let mut leave = Calls::new(Leaving::new(self.me()));
         self.leave_by(pool, &mut leave, life)
+    }
+
+    /// Gives the token back where the client has left: where the last machine that it was stepped through, or ran, left the identity gone.
+    /// No machine of it is unfinished, unless a step has answered `Died`.
+    ///
+    /// The status word is loaded for that, which no life pays for.
+    ///
+    /// # Errors
+    ///
+    /// The client as it was, where it hasn't left.
+    pub fn end(self, pool: &SharedPool) -> Result<Vacant, Client>
+        requires pool { self.of ≡ pool.now }
+        requires over { self.dead ≡ false → self.account.memo.over ≡ true }
+        ensures left { is_ok result ≡ has_left self.account.memo }
+        ensures ended { IfOk result (λ v. (v.of ≡ self.of) × (v.account ≡ self.account)) }
+        ensures stays { IfErr result (λ c. c ≡ self) }
+    {
+        if self.dead {
+            return Err(self);
+        }
+        let Client {
+            mut place,
+            start,
+            who,
+            dead,
+        } = self;
+        let at = start.geometry.status(who);
+        if load_status(pool.top(), &mut place, at) == 3 {
+            Ok(Vacant { place, start, who })
+        } else {
+            Err(Client {
+                place,
+                start,
+                who,
+                dead,
+            })
+        }
     }
 }

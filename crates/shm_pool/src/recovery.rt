@@ -21,7 +21,7 @@ use shm_graph::{Life, Machine, Me};
 use shm_recover::Recovering;
 
 // An agent that has fallen is dead before the next one begins; where a join began none, a client begins and dies without a step.
-fn note_change(top: &Top, place: &mut Place, begun: bool)
+pub(crate) fn note_change(top: &Top, place: &mut Place, begun: bool)
     requires table { (place.old.table_id ≡ top.now.table_id) × (top.now.table_id.words ≡ total_of top.now.key.geometry) × IsAlone place.old }
     requires who { (alone place.old).who < top.now.key.geometry.clients }
     requires fallen { IsFallen begun (alone place.old).memo }

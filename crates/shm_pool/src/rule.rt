@@ -113,3 +113,14 @@ impl Play<(), View> for RecovererBegins {
 
     ghost then = { λ step before n now. (now.0 ≡ map (account_entered Recoverer) before.0) × (now.1 ≡ before.1) };
 }
+
+/// The status word of the identity is read: nothing changes.
+pub(crate) struct ReadsStatus;
+
+impl Play<(), View> for ReadsStatus {
+    ghost use Rattle.std.specs.Prelude.{◌≡◌};
+    ghost use Rattle.shm_graph.specs.Held.{status_word};
+    ghost use Rattle.shm_pool.specs.Rules.{head_account};
+
+    ghost then = { λ step before n now. (now.0 ≡ before.0) × (now.1 ≡ before.1) × (n ≡ status_word (head_account before.0).memo.status) };
+}

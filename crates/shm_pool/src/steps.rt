@@ -1,18 +1,21 @@
 //! One word step of any machine on the table.
 
-ghost use Rattle.std.specs.Prelude.{◌≡◌, ℕ, ◌+◌, ◌<◌, ◌↔◌, [], ◌∷◌, true, false, IfSome, IsNone};
-ghost use Rattle.shm_words.specs.Layout.{total_of};
+ghost use Rattle.std.specs.Prelude.{◌≡◌, ℕ, ◌+◌, ◌<◌, ◌↔◌, [], ◌∷◌, true, false, if◌then◌else◌, IfSome, IsNone};
+ghost use Rattle.shm_words.specs.declared.place.Place.TheVariants as APlace;
+ghost use Rattle.shm_words.specs.Layout.{GeometryFits, address, total_of};
 ghost use Rattle.shm_graph.specs.declared.memo.Kind.TheVariants.{Client as AClient, Recoverer as ARecoverer};
 ghost use Rattle.shm_graph.specs.declared.memo.Memo.{Memo};
 ghost use Rattle.shm_graph.specs.Agents.{acts, recovers};
 ghost use Rattle.shm_graph.specs.Asks.{seen_of};
+ghost use Rattle.shm_graph.specs.Held.{status_word};
 ghost use Rattle.shm_graph.specs.Laws.{is_died, is_done, is_some};
 ghost use Rattle.shm_graph.specs.Runs.{MayBegin, account_died, account_entered, Stood};
 ghost use Rattle.shm_graph.specs.Whole.{fits_now, gives_now};
 ghost use Rattle.shm_pool.specs.Rules.{IsOf, IsAlone, alone, Told, Follows};
-ghost use Rattle.shm_pool.specs.Calls.{ClientStepped, Calls, Tells, acts_still, shown};
+ghost use Rattle.shm_pool.specs.Calls.{ClientStepped, Drives, Tells, acts_still};
+ghost use Rattle.shm_pool.specs.Tokens.{has_left};
 
-use crate::rule::{ClientBegins, Dies, Place, RecovererBegins, Say, Says, Top};
+use crate::rule::{ClientBegins, Dies, Place, ReadsStatus, RecovererBegins, Say, Says, Top};
 use shm_graph::{Ask, Life, Machine, Turn};
 use std::marker::Brand;
 
@@ -67,6 +70,7 @@ pub(crate) fn step_place<M: Machine>(
     ensures stays { is_died result ≡ true → (alone place.new ≡ alone place.old) × (m.new ≡ m.old) × (life.new ≡ life.old) }
     ensures turn { 0 < life.old.left → (life.new.left + 1 ≡ life.old.left) × ClientStepped M.control (fits_now M.control M.fits) (gives_now M.gives) m.old (alone place.old) (alone place.new) result m.new }
     ensures acts { acts (alone place.new).memo ≡ acts_still (is_done result) (alone place.new).memo }
+    ensures serves { is_died result ≡ false → acts (alone place.new).memo ≡ (if has_left (alone place.new).memo then false else true) }
     ensures who { (alone place.new).who ≡ (alone place.old).who }
     ensures kind { recovers (alone place.new).memo ≡ recovers (alone place.old).memo }
 {
@@ -92,11 +96,13 @@ pub(crate) fn run_place<M: Machine>(
     requires fits { fits_now M.control M.fits m.old (alone place.old).memo (alone place.old).memo }
     ensures place { (place.new.table_id ≡ place.old.table_id) × (place.new.id ≡ place.old.id) × IsAlone place.new }
     ensures stood { Stood top.now.key (alone place.new) }
-    ensures call { Calls (shown M.control m.old) (alone place.old) (alone place.new) (is_some result) life.old.left life.new.left }
+    ensures call { Drives M.control M.fits m.old m.new (alone place.old) (alone place.new) (is_some result) life.old.left life.new.left }
     ensures told { M.control.fresh m.old ≡ true → IfSome result (λ _. Tells (M.control.line m.old) (alone place.old) (alone place.new)) }
     ensures spent { IsNone result → life.new.left ≡ 0 }
     ensures gives { IfSome result (gives_now M.gives m.old (alone place.old).memo (alone place.new).memo) }
     ensures acts { acts (alone place.new).memo ≡ acts_still (is_some result) (alone place.new).memo }
+    ensures serves { has_left (alone place.old).memo ≡ false → acts (alone place.new).memo ≡ (if has_left (alone place.new).memo then false else true) }
+    ensures there { has_left (alone place.old).memo ≡ false → IsNone result → has_left (alone place.new).memo ≡ false }
     ensures who { (alone place.new).who ≡ (alone place.old).who }
     ensures kind { recovers (alone place.new).memo ≡ recovers (alone place.old).memo }
 {
@@ -140,4 +146,16 @@ pub(crate) fn note_recoverer(top: &Top, place: &mut Place)
     ensures account { alone place.new ≡ account_entered ARecoverer (alone place.old) }
 {
     top.load::<RecovererBegins>(place, 0);
+}
+
+/// The status word of the identity, in a load that no life pays for. It stands at `at`.
+pub(crate) fn load_status(top: &Top, place: &mut Place, at: u32) -> u64
+    requires table { (place.old.table_id ≡ top.now.table_id) × (top.now.table_id.words ≡ total_of top.now.key.geometry) × IsAlone place.old }
+    requires fits { GeometryFits top.now.key.geometry }
+    requires at { ((alone place.old).who < top.now.key.geometry.clients) × (at ≡ address top.now.key.geometry (APlace.Status (alone place.old).who)) }
+    ensures place { (place.new.table_id ≡ place.old.table_id) × (place.new.id ≡ place.old.id) × IsAlone place.new }
+    ensures account { alone place.new ≡ alone place.old }
+    ensures is { result ≡ status_word (alone place.old).memo.status }
+{
+    top.load::<ReadsStatus>(place, at as usize)
 }

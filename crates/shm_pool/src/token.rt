@@ -1,19 +1,19 @@
 //! Tokens of one identity each.
 
-ghost use Rattle.std.specs.Prelude.{◌≡◌, ℕ, ◌+◌, ◌<◌, ◌↔◌, ◌⊎◌, true, false, IfOk, IfErr, is_err};
+ghost use Rattle.std.specs.Prelude.{◌≡◌, ◌+◌, ◌<◌, ◌↔◌, ◌⊎◌, true, false, IfOk, IfErr, is_err};
 ghost use Rattle.shm_words.specs.Layout.{GeometryFits};
 ghost use Rattle.shm_graph.specs.declared.memo.Kind.TheVariants.{Client as AClient};
 ghost use Rattle.shm_graph.specs.declared.memo.Memo.{Memo};
-ghost use Rattle.shm_graph.specs.Agents.{acts, recovers};
+ghost use Rattle.shm_graph.specs.Agents.{recovers};
 ghost use Rattle.shm_graph.specs.Core.{core};
 ghost use Rattle.shm_graph.specs.Laws.{is_died};
 ghost use Rattle.shm_graph.specs.Runs.{account_entered, Stood};
-ghost use Rattle.shm_graph.specs.Tells.{happens_along};
 ghost use Rattle.shm_graph.specs.Whole.{fits_now, gives_now};
 ghost use Rattle.shm_recover.specs.Join.{JoinGives, join_fresh, join_line};
 ghost use Rattle.shm_pool.specs.declared.token.Cause.TheVariants as cause;
-ghost use Rattle.shm_pool.specs.Calls.{ClientStepped, Calls, CallStays, IsBetween, Tells, shown};
-ghost use Rattle.shm_pool.specs.Tokens.{me_of, live, IsFor, IsOut};
+ghost use Rattle.shm_pool.specs.Calls.{ClientStepped, Drives, IsBetween, Tells};
+ghost use Rattle.shm_pool.specs.Doing.{HasDone};
+ghost use Rattle.shm_pool.specs.Tokens.{has_left, me_of, live, IsFor, IsOut, IsServing};
 ghost use Rattle.shm_pool.specs.Replies.{IsLost, IfReply, is_reply};
 ghost use Rattle.shm_pool.specs.Endings.{ClientMayLeave};
 
@@ -55,16 +55,14 @@ pub struct Client {
 }
 
 impl Model for Client {
-    ghost use Rattle.std.specs.Prelude.{◌≡◌, true, false};
-    ghost use Rattle.shm_graph.specs.Agents.{acts, recovers};
     ghost use Rattle.shm_pool.specs.Rules.{alone};
-    ghost use Rattle.shm_pool.specs.Tokens.{Acting, acting_of, IsSeated};
+    ghost use Rattle.shm_pool.specs.Tokens.{Acting, acting_of, IsSeated, IsServing};
 
     ghost Value = { Acting };
 
     ghost view = { λ t. acting_of t.start t.dead t.place };
 
-    ghost invariant = { λ t. IsSeated t.start t.who t.place × (acts (alone t.place).memo ≡ true) × (recovers (alone t.place).memo ≡ false) };
+    ghost invariant = { λ t. IsSeated t.start t.who t.place × IsServing t.dead (alone t.place).memo };
 }
 
 /// An identity whose agent has fallen, or never took a step.
@@ -156,13 +154,12 @@ impl Vacant {
 }
 
 impl Client {
-    /// Which identity it is; and its account is one of a state that holds.
+    /// Which identity it is; and its account is one of a state that holds. The agent acts until it has left.
     pub fn client(&self) -> u8
         ensures is { result ≡ self.now.account.who }
         ensures below { result < self.now.of.start.geometry.clients }
         ensures stood { Stood self.now.of.start self.now.account }
-        ensures acts { acts self.now.account.memo ≡ true }
-        ensures kind { recovers self.now.account.memo ≡ false }
+        ensures serves { IsServing self.now.dead self.now.account.memo }
     {
         self.who
     }
@@ -188,7 +185,7 @@ impl Client {
     ) -> Turn<M::Answer>
         requires pool { self.old.of ≡ pool.now }
         requires machine { self.old.dead ≡ false → IsFor self.old.of self.old.account M.control m.old }
-        requires fits { self.old.dead ≡ false → (r0 : Memo) × fits_now M.control M.fits m.old r0 self.old.account.memo × CallStays self.old.of.start self.old.account.who (gives_now M.gives m.old r0) }
+        requires fits { self.old.dead ≡ false → (r0 : Memo) × fits_now M.control M.fits m.old r0 self.old.account.memo }
         ensures same { (self.new.of ≡ self.old.of) × (self.new.account.who ≡ self.old.account.who) }
         ensures stood { Stood self.new.of.start self.new.account }
         ensures died { is_died result ≡ true ↔ ((life.old.left ≡ 0) ⊎ (self.old.dead ≡ true)) }
@@ -218,13 +215,12 @@ impl Client {
         requires pool { self.old.of ≡ pool.now }
         requires machine { self.old.dead ≡ false → IsFor self.old.of self.old.account M.control m.old }
         requires fits { self.old.dead ≡ false → fits_now M.control M.fits m.old self.old.account.memo self.old.account.memo }
-        requires stays { self.old.dead ≡ false → CallStays self.old.of.start self.old.account.who (gives_now M.gives m.old self.old.account.memo) }
         ensures same { (self.new.of ≡ self.old.of) × (self.new.account.who ≡ self.old.account.who) }
         ensures stood { Stood self.new.of.start self.new.account }
         ensures died { IsLost result ↔ (self.new.dead ≡ true) }
         ensures again { self.old.dead ≡ true → IsLost result × (self.new ≡ self.old) × (m.new ≡ m.old) × (life.new ≡ life.old) }
         ensures spent { self.old.dead ≡ false → IsLost result → life.new.left ≡ 0 }
-        ensures call { self.old.dead ≡ false → Calls (shown M.control m.old) self.old.account self.new.account (is_reply result) life.old.left life.new.left }
+        ensures call { self.old.dead ≡ false → Drives M.control M.fits m.old m.new self.old.account self.new.account (is_reply result) life.old.left life.new.left }
         ensures told { M.control.fresh m.old ≡ true → IfReply result (λ _. Tells (M.control.line m.old) self.old.account self.new.account) }
         ensures gives { IfReply result (gives_now M.gives m.old self.old.account.memo self.new.account.memo) }
     {
@@ -240,7 +236,8 @@ impl Client {
         }
     }
 
-    /// Runs an operation of the client until it answers, or no life is left. A client that hasn't died is between two calls again.
+    /// Runs an operation of the client until it answers, or no life is left. Where it rests in its answer the client is between two calls
+    /// again; where it left the identity gone the client has left.
     pub fn run<O: Operation + Drop>(
         &mut self,
         pool: &SharedPool,
@@ -251,16 +248,7 @@ impl Client {
         requires between { self.old.dead ≡ false → IsBetween self.old.account }
         requires me { O.control.me operation ≡ me_of self.old.of self.old.account }
         requires may { self.old.dead ≡ false → O.may operation self.old.account.memo }
-        requires rests { (a : O.Answer) → O.rests operation a }
-        ensures same { (self.new.of ≡ self.old.of) × (self.new.account.who ≡ self.old.account.who) }
-        ensures stood { Stood self.new.of.start self.new.account }
-        ensures died { IsLost result ↔ (self.new.dead ≡ true) }
-        ensures again { self.old.dead ≡ true → IsLost result × (self.new ≡ self.old) × (life.new ≡ life.old) }
-        ensures spent { self.old.dead ≡ false → IsLost result → life.new.left ≡ 0 }
-        ensures call { self.old.dead ≡ false → Calls (shown O.control operation) self.old.account self.new.account (is_reply result) life.old.left life.new.left }
-        ensures told { IfReply result (λ _. Tells (O.control.line operation) self.old.account self.new.account) }
-        ensures leaves { IfReply result (λ a. let tr = self.new.account.memo.call in O.leaves operation self.old.account.memo self.new.account.memo tr (happens_along O.control O.does operation tr) a) }
-        ensures between { self.new.dead ≡ false → IsBetween self.new.account }
+        ensures done { HasDone O.control O.does O.leaves O.rests operation self.old self.new life.old.left life.new.left result }
     {
         // for the proof: the account stood
         self.client();
@@ -269,6 +257,7 @@ impl Client {
 
     /// The agent is dead: its death is noted before the next one begins.
     pub fn fall(self) -> Corpse
+        requires { self.dead ≡ false → has_left self.account.memo ≡ false }
         ensures { (result.of ≡ self.of) × (result.account ≡ self.account) }
     {
         let Client {

@@ -1,5 +1,5 @@
 -- the image of a pool that was replayed: its words, what is answered to it, and the report's last line
-use Rattle.std.proofs.Common.{◌≡◌, ℕ, ◌<◌, ◌≤◌, ◌^◌, List, [], ◌++◌, get_or, append_assoc, sym, subst, ap, ◌∙◌, inl, inr, refl, lit<, false}
+use Rattle.std.proofs.Common.{◌≡◌, ℕ, ◌<◌, ◌≤◌, ◌^◌, List, [], ◌++◌, get_or, append_assoc, sym, subst, ap, ◌∙◌, inl, inr, refl, lit<}
 use Rattle.std.specs.Prelude.{Option, None, Some, codes}
 use Rattle.std.specs.Fmt.{decimal}
 use Rattle.std.specs.List.{flat_map}
@@ -8,7 +8,6 @@ use Rattle.std.proofs.lemmas.List.{get_or_past}
 use Rattle.shm_words.specs.declared.geometry.Geometry.{Geometry}
 use Rattle.shm_words.specs.Layout.{total_of}
 use Rattle.shm_graph.specs.declared.run.Account.{Account}
-use Rattle.shm_graph.specs.declared.run.Start.{Start}
 use Rattle.shm_graph.specs.Blocks.{classes, headers}
 use Rattle.shm_graph.specs.References.{homes_in_all, live_count, references, references_in_all}
 use Rattle.shm_graph.specs.Runs.{Held}
@@ -41,10 +40,6 @@ words_small g ws es h i =
       | inl l ↦ subst (λ x. x < 2 ^ 64) (see-spot g ws i l) (h.at.small (spot_at g (classes_in g ws) i))
       | inr m ↦ subst (λ x. x < 2 ^ 64) (sym (get_or_past ws i 0 (subst (λ n. n ≤ i) (sym h.words) m))) (lit< tt)
     ]
-
--- the pool of a replay is of format 1
-is_narrow : (t : Traced) (finished : Finished) (r : IsRan t finished) → r.run.closed.start.geometry.wide ≡ false
-is_narrow t finished r = ap (λ (s : Start). s.geometry.wide) r.replay.start
 
 -- ---- the report's last line
 
@@ -87,14 +82,11 @@ module _ (t : Traced) (finished : Finished) (image : List ℕ) (told : IsTold Im
   small : AreWords ws
   small = words_small g ws run.closed.accounts closed.run.held
 
-  narrow : g.wide ≡ false
-  narrow = is_narrow t finished told.0
-
   pub faultless_image : image_fault_of image ≡ None
-  faultless_image = ap image_fault_of told.1 ∙ image_faultless g ws closed.run.held.at.fits narrow small closed.clean closed.run.held.words
+  faultless_image = ap image_fault_of told.1 ∙ image_faultless g ws closed.run.held.at.fits small closed.clean closed.run.held.words
 
   verdict_told : verdict_of (geometry_in image) (see (geometry_in image) (words_in image)) ≡ clean_verdict g (see g ws)
-  verdict_told = ap (λ (bytes : List ℕ). verdict_of (geometry_in bytes) (see (geometry_in bytes) (words_in bytes))) told.1 ∙ image_verdict g ws closed.run.held.at.fits narrow small closed.clean
+  verdict_told = ap (λ (bytes : List ℕ). verdict_of (geometry_in bytes) (see (geometry_in bytes) (words_in bytes))) told.1 ∙ image_verdict g ws closed.run.held.at.fits small closed.clean
 
   pub clean_answer : (ended : Finished) (text : List ℕ) (status : ℕ) → Answers Audit image status ended text → (status ≡ 0) × (text ≡ codes "clean " ++ last_line run.closed)
   clean_answer ended text status (inl (s, d)) = (s, d.verdict ∙ ap verdict_line verdict_told)

@@ -20,7 +20,7 @@ all_of limit left bytes e few = e ∙ sym (take_all limit left (subst (λ (xs : 
 done_bytes : (job : Job) (left bytes : List ℕ) (after : Option (List ℕ)) (one : Finished) (x : List ℕ) → Reads job (Some left) after bytes → IsDone job bytes one x → bytes ≡ take (limit_of job) left
 done_bytes (Replay form) left bytes after one x r (t, a, h) = all_of 1048577 left bytes r.0 (let short = a.short in omega (arith, short))
 done_bytes Print left bytes after one x r (t, a, h) = all_of 1048577 left bytes r.0 (let short = a.short in omega (arith, short))
-done_bytes Audit left bytes after one x r h = all_of 4254369 left bytes r.0 (let short = image_short bytes h.faultless in omega (arith, short))
+done_bytes Audit left bytes after one x r h = all_of 132185377 left bytes r.0 (let short = image_short bytes h.faultless in omega (arith, short))
 done_bytes (Make start size) left bytes after one x r h = r.0
 done_bytes (Draw start size) left bytes after one x r h = r.0
 
@@ -29,7 +29,7 @@ refused_bytes : (job : Job) (left bytes x : List ℕ) (after : Option (List ℕ)
 refused_bytes job left bytes x after few (inr r) f = r.1.0
 refused_bytes (Replay form) left bytes x after few (inl r) f = all_of 1048577 left bytes r.0 few
 refused_bytes Print left bytes x after few (inl r) f = all_of 1048577 left bytes r.0 few
-refused_bytes Audit left bytes x after few (inl r) f = all_of 4254369 left bytes r.0 few
+refused_bytes Audit left bytes x after few (inl r) f = all_of 132185377 left bytes r.0 few
 refused_bytes (Make start size) left bytes x after few (inl r) f = absurd f
 refused_bytes (Draw start size) left bytes x after few (inl r) f = absurd f
 

@@ -30,7 +30,7 @@ done_input (Draw start size) bytes finished text d = tt
 done_read : (job : Job) (before after : Option (List ℕ)) (bytes : List ℕ) → TakesFront before after (limit_of job) bytes → length bytes ≤ limit_of job → IsInput job bytes → Reads job before after bytes
 done_read (Replay form) before after bytes t few input = let short : length bytes ≤ 1048576 = input.0 in reads_all 1048577 before after bytes t (omega (arith, short))
 done_read Print before after bytes t few input = let short : length bytes ≤ 1048576 = input.0 in reads_all 1048577 before after bytes t (omega (arith, short))
-done_read Audit before after bytes t few input = reads_all 4254369 before after bytes t (image_short bytes input)
+done_read Audit before after bytes t few input = reads_all 132185377 before after bytes t (image_short bytes input)
 done_read (Make start size) before after bytes t few input = reads_none before after bytes t few
 done_read (Draw start size) before after bytes t few input = reads_none before after bytes t few
 
@@ -38,7 +38,7 @@ any_read : (job : Job) (before after : Option (List ℕ)) (bytes : List ℕ) →
     → Reads job before after bytes ⊎ ReadsLimit (limit_of job) before after bytes
 any_read (Replay form) before after bytes t few = reads 1048577 before after bytes t few
 any_read Print before after bytes t few = reads 1048577 before after bytes t few
-any_read Audit before after bytes t few = reads 4254369 before after bytes t few
+any_read Audit before after bytes t few = reads 132185377 before after bytes t few
 any_read (Make start size) before after bytes t few = inl (reads_none before after bytes t few)
 any_read (Draw start size) before after bytes t few = inl (reads_none before after bytes t few)
 
@@ -89,7 +89,7 @@ input_read Print before after bytes read text left input r refused =
     let same = read_same 1048577 before after read bytes left (omega (arith, short)) r in
     no_fault Print bytes text input (subst (λ (xs : List ℕ). IsFaulty Print xs text) same refused)
 input_read Audit before after bytes read text left input r refused =
-    let same = read_same 4254369 before after read bytes left (image_short bytes input) r in
+    let same = read_same 132185377 before after read bytes left (image_short bytes input) r in
     no_fault Audit bytes text input (subst (λ (xs : List ℕ). IsFaulty Audit xs text) same refused)
 input_read (Make start size) before after bytes read text left input r refused = refused
 input_read (Draw start size) before after bytes read text left input r refused = refused

@@ -5,7 +5,7 @@ use Rattle.shm_program.specs.declared.words.Job.TheVariants.{Audit, Make, Draw}
 
 -- how many bytes are read at most: one more than a trace, or an image, may have, and none where the trace is drawn
 abbrev pub limit_of : Job → ℕ
-limit_of Audit = 4254369
+limit_of Audit = 132185377
 limit_of (Make start size) = 0
 limit_of (Draw start size) = 0
 limit_of _ = 1048577

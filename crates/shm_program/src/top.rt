@@ -16,8 +16,8 @@ use std::alloc::Global;
 /// One byte more than a trace may have.
 const TRACE_LIMIT: usize = 1_048_577;
 
-/// One byte more than the image of the largest pool has.
-const IMAGE_LIMIT: usize = 4_254_369;
+/// One byte more than the image of the largest pool has, which is of format 2.
+const IMAGE_LIMIT: usize = 132_185_377;
 
 const USAGE: &str = "usage: cxlshm replay [--image|--print] | audit | make START SIZE [--print]\n";
 
@@ -29,7 +29,7 @@ const USAGE: &str = "usage: cxlshm replay [--image|--print] | audit | make START
 /// - `make START SIZE` reads nothing. It replays the trace that is drawn from START, 0 to 2^64 - 1, with SIZE commands, 1 to 4,000, for each
 ///   of four clients, and writes the summary; with `--print` it writes that trace, without a replay.
 ///
-/// The whole text is made before the first write. At most 1,048,577 bytes of a trace and 4,254,369 bytes of an image are read.
+/// The whole text is made before the first write. At most 1,048,577 bytes of a trace and 132,185,377 bytes of an image are read.
 ///
 /// The clauses are the fields of `IsCall` (specs/Outcomes.antt), which `run` shares.
 pub fn top<S: Source, K: Sink>(

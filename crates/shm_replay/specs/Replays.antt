@@ -14,9 +14,9 @@ use Rattle.shm_agents.specs.Logs.{AreLogs, AreUnspent}
 use Rattle.shm_replay.specs.Orders.{IsGivenAll}
 use Rattle.shm_replay.specs.Closings.{AreVisits}
 
--- the pool of a trace: of format 1 and of its sizes, made for tables, and its first eras are 1
+-- the pool of a trace: of its format and its sizes, made for tables, and its first eras are 1
 abbrev pub start_of : Traced → Start
-start_of t = record { geometry = record { clients = t.clients; segments = t.segments; wide = false }; first_era = 1; tables = true }
+start_of t = record { geometry = record { clients = t.clients; segments = t.segments; wide = t.wide }; first_era = 1; tables = true }
 
 -- the map that the log of an identity leaves; the empty one where no log is of it
 abbrev pub fold_in : List Logged → ℕ → Table

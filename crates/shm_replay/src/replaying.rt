@@ -29,6 +29,19 @@ pub struct Replayed {
     pub logs: Vec<Log>,
 }
 
+/// The sizes and the format of a trace's pool.
+fn geometry_of(trace: &Trace) -> Geometry
+    ensures geometry { result ≡ (start_of trace.now).geometry }
+    ensures fits { GeometryFits result }
+{
+    trace.in_grammar();
+    if trace.wide {
+        Geometry::wide(trace.clients, trace.segments).unwrap()
+    } else {
+        Geometry::new(trace.clients, trace.segments).unwrap()
+    }
+}
+
 /// Which of the scripts is that of the identity.
 fn script_of(scripts: &[Script], who: u8) -> Option<usize>
     ensures { MatchOption result (script_in scripts.now who ≡ None) (λ at. (s : AScript) × (slice_get scripts.now at ≡ Some s) × (script_in scripts.now who ≡ Some s)) }
@@ -135,7 +148,7 @@ pub fn replay(alloc: Global, trace: &Trace) -> Result<Replayed, AllocError>
     ensures { IfOk result (λ r. IsReplay trace.now r.closed r.logs.items) }
 {
     trace.in_grammar();
-    let geometry = Geometry::new(trace.clients, trace.segments).unwrap();
+    let geometry = geometry_of(trace);
     let mut pool = PlainPool::make(alloc, geometry, 1, true)?;
     let mut agents = all_agents(alloc, geometry, trace)?;
     let mut logs = Vec::with_capacity(alloc, trace.scripts.len())?;

@@ -57,8 +57,8 @@ line_reaches : (d : Drafted) (fit : Fit) → d.seen.clients < 256 → FitRange d
 line_reaches d fit few range stands second at rest = (at + 1, line_goes d at fit rest few range stands second)
 
 -- the pool's line
-pool_reaches : (n g : ℕ) → FitRange 0 0 (FitPool n g) → Reaches draft_none (ended (fit_text (FitPool n g))) (draft_after draft_none (FitPool n g))
-pool_reaches n g h = line_reaches draft_none (FitPool n g) (omega arith) h refl refl
+pool_reaches : (wide : Bool) (n g : ℕ) → FitRange 0 0 (FitPool wide n g) → Reaches draft_none (ended (fit_text (FitPool wide n g))) (draft_after draft_none (FitPool wide n g))
+pool_reaches wide n g h = line_reaches draft_none (FitPool wide n g) (omega arith) h refl refl
 
 -- behind an order
 abbrev order_after : Drafted → List Item → Drafted
@@ -71,7 +71,7 @@ order_reaches d (i ∷ items) few there many h = line_reaches d (FitOrder (i ∷
 
 -- what was read, with these last lines
 abbrev set_last : Drafted → Place → List ℕ → List Line → Drafted
-set_last d p life ls = record { seen = record { place = p; clients = d.seen.clients; me = d.seen.me; taken = d.seen.taken }; segments = d.segments; order = d.order; scripts = d.scripts; life = life; lines = ls }
+set_last d p life ls = record { seen = record { place = p; clients = d.seen.clients; me = d.seen.me; taken = d.seen.taken }; segments = d.segments; wide = d.wide; order = d.order; scripts = d.scripts; life = life; lines = ls }
 
 -- a script goes on
 abbrev GoesOn : Place → Type 0
@@ -195,14 +195,14 @@ still_first taken c (s ∷ ss) h k = (any_push s.client c taken h.0 (λ same. k.
 
 -- the trace of what was read, with these scripts
 abbrev with_scripts : Drafted → List Scripted → Traced
-with_scripts d ss = record { clients = d.seen.clients; segments = d.segments; order = d.order; scripts = ss }
+with_scripts d ss = record { clients = d.seen.clients; segments = d.segments; wide = d.wide; order = d.order; scripts = ss }
 
 -- behind all scripts
 record Ended (d : Drafted) (ss : List Scripted) : Type 0 where
   behind : Drafted
   reaches : Reaches d (flat_map script_spelled ss) behind
   begun_there : IsBegun behind.seen.place
-  is : traced behind ≡ record { clients = d.seen.clients; segments = d.segments; order = d.order; scripts = all_scripts d ++ ss }
+  is : traced behind ≡ record { clients = d.seen.clients; segments = d.segments; wide = d.wide; order = d.order; scripts = all_scripts d ++ ss }
 
 scripts_reach : (ss : List Scripted) (d : Drafted) → d.seen.clients < 256 → IsBegun d.seen.place → AllByRecursion (ScriptFits d.seen.clients) ss → AreApart ss → AreFirst d.seen.taken ss → Ended d ss
 scripts_reach [] d few there h apart first = record { behind = d; reaches = stays d; begun_there = there; is = ap (with_scripts d) (sym (append-nil (all_scripts d))) }
@@ -228,22 +228,22 @@ end_reads place.Order d is h at = reading_end d at [] ∙ ap (λ p. cond (may_en
 end_reads place.Client d is h at = reading_end d at [] ∙ ap (λ p. cond (may_end p []) (Ok (traced d)) (Err (fault_at at Syntax))) is
 end_reads place.Body d is h at = reading_end d at [] ∙ ap (λ p. cond (may_end p []) (Ok (traced d)) (Err (fault_at at Syntax))) is
 
-head_reaches : (t : Traced) → IsTrace t → Reaches draft_none (ended (fit_text (FitPool t.clients t.segments)) ++ order_spelled t.order) (order_after (draft_after draft_none (FitPool t.clients t.segments)) t.order)
+head_reaches : (t : Traced) → IsTrace t → Reaches draft_none (ended (fit_text (FitPool t.wide t.clients t.segments)) ++ order_spelled t.order) (order_after (draft_after draft_none (FitPool t.wide t.clients t.segments)) t.order)
 head_reaches t h =
-    let d = draft_after draft_none (FitPool t.clients t.segments) in
-    then_more draft_none d (order_after d t.order) (ended (fit_text (FitPool t.clients t.segments))) (order_spelled t.order)
-    (pool_reaches t.clients t.segments (h.some_client, h.few_clients, h.some_segment, h.few_segments)) (order_reaches d t.order (omega (arith, h.few_clients)) refl h.few_items h.items)
+    let d = draft_after draft_none (FitPool t.wide t.clients t.segments) in
+    then_more draft_none d (order_after d t.order) (ended (fit_text (FitPool t.wide t.clients t.segments))) (order_spelled t.order)
+    (pool_reaches t.wide t.clients t.segments (h.some_client, h.few_clients, h.some_segment, h.few_segments)) (order_reaches d t.order (omega (arith, h.few_clients)) refl h.few_items h.items)
 
-ended_by : (n g : ℕ) (items : List Item) (ss : List Scripted) → n < 256 → AllByRecursion (ScriptFits n) ss → AreApart ss → (e : Drafted) × Reaches (order_after (draft_after draft_none (FitPool n g)) items) (flat_map script_spelled ss) e × IsBegun e.seen.place × (traced e ≡ record { clients = n; segments = g; order = items; scripts = ss })
-ended_by n g [] ss few h apart = let r = scripts_reach ss (draft_after draft_none (FitPool n g)) few tt h apart (first_of_all ss) in (r.behind, r.reaches, r.begun_there, r.is)
-ended_by n g (i ∷ items) ss few h apart = let r = scripts_reach ss (draft_after (draft_after draft_none (FitPool n g)) (FitOrder (i ∷ items))) few tt h apart (first_of_all ss) in (r.behind, r.reaches, r.begun_there, r.is)
+ended_by : (wide : Bool) (n g : ℕ) (items : List Item) (ss : List Scripted) → n < 256 → AllByRecursion (ScriptFits n) ss → AreApart ss → (e : Drafted) × Reaches (order_after (draft_after draft_none (FitPool wide n g)) items) (flat_map script_spelled ss) e × IsBegun e.seen.place × (traced e ≡ record { clients = n; segments = g; wide = wide; order = items; scripts = ss })
+ended_by wide n g [] ss few h apart = let r = scripts_reach ss (draft_after draft_none (FitPool wide n g)) few tt h apart (first_of_all ss) in (r.behind, r.reaches, r.begun_there, r.is)
+ended_by wide n g (i ∷ items) ss few h apart = let r = scripts_reach ss (draft_after (draft_after draft_none (FitPool wide n g)) (FitOrder (i ∷ items))) few tt h apart (first_of_all ss) in (r.behind, r.reaches, r.begun_there, r.is)
 
 -- the lines of a trace are read as that trace
 reading_again : (t : Traced) → IsTrace t → reading draft_none 1 (cut (text_of t)) ≡ Ok t
 reading_again t h =
-    let e = ended_by t.clients t.segments t.order t.scripts (omega (arith, h.few_clients)) h.scripts h.apart in
-    let d = order_after (draft_after draft_none (FitPool t.clients t.segments)) t.order in
-    let front = ended (fit_text (FitPool t.clients t.segments)) ++ order_spelled t.order in
+    let e = ended_by t.wide t.clients t.segments t.order t.scripts (omega (arith, h.few_clients)) h.scripts h.apart in
+    let d = order_after (draft_after draft_none (FitPool t.wide t.clients t.segments)) t.order in
+    let front = ended (fit_text (FitPool t.wide t.clients t.segments)) ++ order_spelled t.order in
     let whole = then_more draft_none d e.0 front (flat_map script_spelled t.scripts) (head_reaches t h) e.1 in
     let r = whole 1 [] in
     ap (λ x. reading draft_none 1 (cut x)) (sym (append-nil (text_of t))) ∙ r.1 ∙ end_reads e.0.seen.place e.0 refl e.2 r.0 ∙ ap Ok e.3

@@ -15,8 +15,8 @@ use Rattle.shm_script.specs.declared.raw.RawCommand.{RawCommand}
 use Rattle.shm_script.specs.declared.raw.RawCommand.TheVariants as raw
 use Rattle.shm_script.specs.declared.fault.TraceKind.{TraceKind}
 use Rattle.shm_script.specs.declared.fault.TraceKind.TheVariants.{Syntax, Limit, Twice}
-use Rattle.shm_script.specs.Ranges.{LineFits, ItemFits, IsLife}
-use Rattle.shm_script.specs.Text.{spaced, line_spelled}
+use Rattle.shm_script.specs.Ranges.{LineFits, ItemFits, IsLife, segments_limit}
+use Rattle.shm_script.specs.Text.{spaced, line_spelled, pool_word}
 use Rattle.shm_script.specs.Numbers.{number_of}
 use Rattle.shm_script.specs.Shapes.{Shape, Pool, Order, Client, Life, Command, both, given, one_of, two_of, three_of, numbers_of, items_of, item_from, command_of, shape_by, shape_from, shape_of}
 use Rattle.shm_script.specs.Faults.{Seen, Fit, FitPool, FitOrder, FitClient, FitLife, FitCommand, between, below, key_of, other_than, turns_fit, items_fit, life_fit, command_fit, fit_of, may_stand, too_many, is_second, ranged, judged}
@@ -25,7 +25,7 @@ use Rattle.shm_script.proofs.LineTexts.{blanks, join_blanks, fit_text, one_text,
 
 -- the ranges of a line
 abbrev pub FitRange : ℕ → ℕ → Fit → Type 0
-FitRange clients me (FitPool n g) = (1 ≤ n) × (n ≤ 16) × (1 ≤ g) × (g ≤ 256)
+FitRange clients me (FitPool wide n g) = (1 ≤ n) × (n ≤ 16) × (1 ≤ g) × (g ≤ segments_limit wide)
 FitRange clients me (FitOrder items) = (0 < length items) × (length items ≤ 1000) × AllByRecursion (ItemFits clients) items
 FitRange clients me (FitClient c) = c < clients
 FitRange clients me (FitLife life) = (0 < length life) × AllByRecursion IsLife life × (sum life ≤ 2 ^ 40)
@@ -216,14 +216,14 @@ module _ (clients me : ℕ) (word : List ℕ) (others : List (List ℕ)) (shape 
       let some = numbers_some word others g.0 g.1 in
       subst (Words clients me (codes "life") (word ∷ others)) f.2 (ap (λ w. codes "life" ++ w) text, (omega arith, r.1, r.2))
 
-  pool_spelt : given (λ n. Pool n.0 n.1) (two_of (word ∷ others)) ≡ Some shape → Words clients me (codes "pool") (word ∷ others) fit
-  pool_spelt h =
-      let g = given_is (λ (n : Option ℕ × Option ℕ). Pool n.0 n.1) (two_of (word ∷ others)) shape h in
-      let f = both_is FitPool (between 1 16 g.0.0) (between 1 256 g.0.1) fit (ap (fit_of clients me) g.2 ∙ fits) in
+  pool_spelt : (wide : Bool) → given (λ n. Pool wide n.0 n.1) (two_of (word ∷ others)) ≡ Some shape → Words clients me (pool_word wide) (word ∷ others) fit
+  pool_spelt wide h =
+      let g = given_is (λ (n : Option ℕ × Option ℕ). Pool wide n.0 n.1) (two_of (word ∷ others)) shape h in
+      let f = both_is (FitPool wide) (between 1 16 g.0.0) (between 1 (segments_limit wide) g.0.1) fit (ap (fit_of clients me) g.2 ∙ fits) in
       let n = between_is 1 16 g.0.0 f.0 f.2 in
-      let s = between_is 1 256 g.0.1 f.1 f.3 in
+      let s = between_is 1 (segments_limit wide) g.0.1 f.1 f.3 in
       let t = two_text (word ∷ others) f.0 f.1 (g.1 ∙ ap Some (pair_is g.0 (Some f.0) (Some f.1) n.0 s.0)) in
-      subst (Words clients me (codes "pool") (word ∷ others)) f.4 (ap (λ w. codes "pool" ++ w) t.0, (n.1, n.2, s.1, s.2))
+      subst (Words clients me (pool_word wide) (word ∷ others)) f.4 (ap (λ w. pool_word wide ++ w) t.0 ∙ sym (append_assoc (pool_word wide) (spaced f.0) (spaced f.1)), (n.1, n.2, s.1, s.2))
 
   client_spelt : given Client (one_of (word ∷ others)) ≡ Some shape → Words clients me (codes "client") (word ∷ others) fit
   client_spelt h =
@@ -251,10 +251,13 @@ module _ (clients me : ℕ) (word : List ℕ) (others : List (List ℕ)) (shape 
         | inr p ↦ elim (either (bytes_eq head (codes "life")) _ _ _ p.1) [
           | inl q ↦ by_head head (codes "life") q.0 (life_spelt q.1)
           | inr q ↦ elim (either (bytes_eq head (codes "pool")) _ _ _ q.1) [
-            | inl s ↦ by_head head (codes "pool") s.0 (pool_spelt s.1)
-            | inr s ↦ elim (either (bytes_eq head (codes "client")) _ _ _ s.1) [
-              | inl t ↦ by_head head (codes "client") t.0 (client_spelt t.1)
-              | inr t ↦ command_spelt head t.1
+            | inl s ↦ by_head head (codes "pool") s.0 (pool_spelt false s.1)
+            | inr s ↦ elim (either (bytes_eq head (codes "pool2")) _ _ _ s.1) [
+              | inl v ↦ by_head head (codes "pool2") v.0 (pool_spelt true v.1)
+              | inr v ↦ elim (either (bytes_eq head (codes "client")) _ _ _ v.1) [
+                | inl t ↦ by_head head (codes "client") t.0 (client_spelt t.1)
+                | inr t ↦ command_spelt head t.1
+              ]
             ]
           ]
         ]

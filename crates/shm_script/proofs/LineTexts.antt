@@ -8,7 +8,7 @@ use Rattle.std.proofs.lemmas.List.Concat.{flat_map-cons}
 use Rattle.std.proofs.lemmas.List.Splits.{join_with_byte-slice_split}
 use Rattle.shm_script.specs.declared.line.Item.{Item}
 use Rattle.shm_script.specs.declared.raw.RawItem.{RawItem}
-use Rattle.shm_script.specs.Text.{spaced, line_spelled, item_spelled, turns_spelled}
+use Rattle.shm_script.specs.Text.{spaced, line_spelled, pool_word, item_spelled, turns_spelled}
 use Rattle.shm_script.specs.Numbers.{number_of}
 use Rattle.shm_script.specs.Shapes.{both, one_of, two_of, three_of, numbers_of, items_of, item_from}
 use Rattle.shm_script.specs.Faults.{Fit, FitPool, FitOrder, FitClient, FitLife, FitCommand, between, below, turns_fit, items_fit, life_fit, before_rest}
@@ -26,7 +26,7 @@ join_blanks word (next ∷ words) = ap (λ t. word ++ (32 ∷ t)) (join_blanks n
 
 -- a line in range
 abbrev pub fit_text : Fit → List ℕ
-fit_text (FitPool n g) = codes "pool" ++ spaced n ++ spaced g
+fit_text (FitPool wide n g) = pool_word wide ++ spaced n ++ spaced g
 fit_text (FitOrder items) = codes "order" ++ flat_map item_spelled items
 fit_text (FitClient c) = codes "client" ++ spaced c
 fit_text (FitLife life) = codes "life" ++ flat_map spaced life

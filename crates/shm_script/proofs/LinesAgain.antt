@@ -1,5 +1,5 @@
 -- The spelling of each line is told as that line again.
-use Rattle.std.proofs.Common.{◌≡◌, ℕ, zero, suc, ◌-◌, ◌^◌, ◌<◌, ◌≤◌, true, false, eqb, List, [], ◌∷◌, ◌++◌, length, map, sum, Option, Some, None, Ok, codes, refl, sym, ap, subst, ◌∙◌, arith, rules, ◌⊎◌, inl, inr}
+use Rattle.std.proofs.Common.{◌≡◌, ℕ, zero, suc, ◌-◌, ◌^◌, ◌<◌, ◌≤◌, Bool, true, false, eqb, List, [], ◌∷◌, ◌++◌, length, map, sum, Option, Some, None, Ok, codes, refl, sym, ap, subst, ◌∙◌, arith, append_assoc, rules, ◌⊎◌, inl, inr}
 use Rattle.std.specs.Prelude.{◌==◌}
 use Rattle.std.specs.Fmt.{decimal}
 use Rattle.std.specs.List.{AllByRecursion, flat_map, slice_split}
@@ -10,8 +10,8 @@ use Rattle.std.proofs.lemmas.List.Sums.{sum_by-cons}
 use Rattle.std.proofs.lemmas.List.Splits.{slice_split_at, slice_split_none}
 use Rattle.shm_script.specs.declared.line.Item.{Item}
 use Rattle.shm_script.specs.declared.raw.RawItem.{RawItem}
-use Rattle.shm_script.specs.Text.{spaced, item_spelled, turns_spelled}
-use Rattle.shm_script.specs.Ranges.{ItemFits, IsLife}
+use Rattle.shm_script.specs.Text.{spaced, pool_word, item_spelled, turns_spelled}
+use Rattle.shm_script.specs.Ranges.{ItemFits, IsLife, segments_limit}
 use Rattle.shm_script.specs.Shapes.{Shape, Pool, Order, Client, Life, Command, given, numbers_of, items_of, item_from, shape_by, shape_from, shape_of}
 use Rattle.shm_script.specs.Faults.{Seen, Fit, FitPool, FitOrder, FitClient, FitLife, FitCommand, turns_fit, items_fit, life_fit, before_rest, fit_of, may_stand, too_many, is_second, judged}
 use Rattle.shm_script.proofs.LineTexts.{blanks, fit_text}
@@ -33,7 +33,7 @@ item_word i = decimal i.client ++ turns_spelled i.turns
 
 -- a line before its numbers are tried
 abbrev pub fit_raw : Fit → Shape
-fit_raw (FitPool n g) = Pool (Some n) (Some g)
+fit_raw (FitPool wide n g) = Pool wide (Some n) (Some g)
 fit_raw (FitOrder items) = Order (map raw_item items)
 fit_raw (FitClient c) = Client (Some c)
 fit_raw (FitLife life) = Life (map (λ n. Some n) life)
@@ -41,14 +41,14 @@ fit_raw (FitCommand line) = Command (raw_line line)
 
 -- its word and its others
 abbrev pub fit_head : Fit → List ℕ
-fit_head (FitPool n g) = codes "pool"
+fit_head (FitPool wide n g) = pool_word wide
 fit_head (FitOrder items) = codes "order"
 fit_head (FitClient c) = codes "client"
 fit_head (FitLife life) = codes "life"
 fit_head (FitCommand line) = line_head line
 
 abbrev pub fit_words : Fit → List (List ℕ)
-fit_words (FitPool n g) = decimal n ∷ decimal g ∷ []
+fit_words (FitPool wide n g) = decimal n ∷ decimal g ∷ []
 fit_words (FitOrder items) = map item_word items
 fit_words (FitClient c) = decimal c ∷ []
 fit_words (FitLife life) = map decimal life
@@ -63,7 +63,7 @@ items_joined [] = refl
 items_joined (i ∷ items) = flat_map-cons item_spelled i items ∙ ap (λ w. item_spelled i ++ w) (items_joined items)
 
 fit_joined : (fit : Fit) → fit_text fit ≡ fit_head fit ++ blanks (fit_words fit)
-fit_joined (FitPool n g) = ap (λ w. codes "pool" ++ (spaced n ++ w)) (sym (append-nil (spaced g)))
+fit_joined (FitPool wide n g) = append_assoc (pool_word wide) (spaced n) (spaced g) ∙ ap (λ w. pool_word wide ++ (spaced n ++ w)) (sym (append-nil (spaced g)))
 fit_joined (FitOrder items) = ap (λ w. codes "order" ++ w) (items_joined items)
 fit_joined (FitClient c) = ap (λ w. codes "client" ++ w) (sym (append-nil (spaced c)))
 fit_joined (FitLife life) = ap (λ w. codes "life" ++ w) (numbers_joined life)
@@ -89,8 +89,16 @@ numbers_free : (byte : ℕ) (life : List ℕ) → IsGap byte → AllByRecursion 
 numbers_free byte [] b h = tt
 numbers_free byte (n ∷ life) b h = (free_decimal byte n (low byte b) (omega (arith, h.0.1)), numbers_free byte life b h.1)
 
+word_free : (byte : ℕ) (wide : Bool) → IsGap byte → Free byte (pool_word wide)
+word_free byte true b = literal byte (codes "pool2") b (search rules) (search rules)
+word_free byte false b = literal byte (codes "pool") b (search rules) (search rules)
+
+segments_small : (wide : Bool) (g : ℕ) → g ≤ segments_limit wide → g < 2 ^ 64
+segments_small true g h = omega (arith, h)
+segments_small false g h = omega (arith, h)
+
 fit_free : (byte clients me : ℕ) (fit : Fit) → IsGap byte → clients < 256 → FitRange clients me fit → Free byte (fit_head fit) × AllByRecursion (Free byte) (fit_words fit)
-fit_free byte clients me (FitPool n g) b few h = (literal byte (codes "pool") b (search rules) (search rules), (free_decimal byte n (low byte b) (omega (arith, h.1)), (free_decimal byte g (low byte b) (omega (arith, h.3)), tt)))
+fit_free byte clients me (FitPool wide n g) b few h = (word_free byte wide b, (free_decimal byte n (low byte b) (omega (arith, h.1)), (free_decimal byte g (low byte b) (segments_small wide g h.3), tt)))
 fit_free byte clients me (FitOrder items) b few h = (literal byte (codes "order") b (search rules) (search rules), items_free byte clients items b few h.2)
 fit_free byte clients me (FitClient c) b few h = (literal byte (codes "client") b (search rules) (search rules), (free_decimal byte c (low byte b) (omega (arith, h)), tt))
 fit_free byte clients me (FitLife life) b few h = (literal byte (codes "life") b (search rules) (search rules), numbers_free byte life b h.1)
@@ -130,7 +138,8 @@ items_again clients (i ∷ items) few h = rw (item_by i.client i.turns (omega (a
 
 fit_shaped : (clients me : ℕ) (fit : Fit) → clients < 256 → FitRange clients me fit → shape_from (fit_head fit ∷ fit_words fit) ≡ Some (fit_raw fit)
 unfolding shape_from shape_by
-fit_shaped clients me (FitPool n g) few h = ap (given (λ (n : Option ℕ × Option ℕ). Pool n.0 n.1)) (two_again n g (omega (arith, h.1)) (omega (arith, h.3)))
+fit_shaped clients me (FitPool true n g) few h = ap (given (λ (n : Option ℕ × Option ℕ). Pool true n.0 n.1)) (two_again n g (omega (arith, h.1)) (omega (arith, h.3)))
+fit_shaped clients me (FitPool false n g) few h = ap (given (λ (n : Option ℕ × Option ℕ). Pool false n.0 n.1)) (two_again n g (omega (arith, h.1)) (omega (arith, h.3)))
 fit_shaped clients me (FitOrder []) few h = absurd (omega (arith, h.0))
 fit_shaped clients me (FitOrder (i ∷ items)) few h = ap (given Order) (items_again clients (i ∷ items) few h.2)
 fit_shaped clients me (FitClient c) few h = ap (given Client) (one_again c (omega (arith, h)))
@@ -163,7 +172,7 @@ items_in clients [] h = refl
 items_in clients (i ∷ items) h = rw (below_if clients i.client h.0.0, turns_again i.turns h.0.1, items_in clients items h.1) refl
 
 fit_in : (clients me : ℕ) (fit : Fit) → FitRange clients me fit → fit_of clients me (fit_raw fit) ≡ Some fit
-fit_in clients me (FitPool n g) h = rw (between_if 1 16 n h.0 h.1, between_if 1 256 g h.2 h.3) refl
+fit_in clients me (FitPool wide n g) h = rw (between_if 1 16 n h.0 h.1, between_if 1 (segments_limit wide) g h.2 h.3) refl
 fit_in clients me (FitOrder items) h = ap (given FitOrder) (items_in clients items h.2)
 fit_in clients me (FitClient c) h = ap (given FitClient) (below_if clients c h)
 fit_in clients me (FitLife life) h = ap (given FitLife) (life_again (2 ^ 40) life h.1 h.2)
@@ -174,7 +183,7 @@ map_counted [] = refl
 map_counted (i ∷ items) = ap suc (map_counted items)
 
 fit_few : (clients me : ℕ) (fit : Fit) → FitRange clients me fit → too_many (fit_raw fit) ≡ false
-fit_few clients me (FitPool n g) h = refl
+fit_few clients me (FitPool wide n g) h = refl
 fit_few clients me (FitOrder items) h = let n : length (map raw_item items) ≤ 1000 = omega (arith, map_counted items, h.1) in grind (arith, nat_tests)
 fit_few clients me (FitClient c) h = refl
 fit_few clients me (FitLife life) h = refl

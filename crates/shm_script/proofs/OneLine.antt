@@ -1,8 +1,7 @@
 -- The text of a command tells the command.
-use Rattle.std.proofs.Common.{◌≡◌, ℕ, ◌∷◌, ◌++◌, Option, Some, None, refl, sym, ap, ◌∙◌, inr}
+use Rattle.std.proofs.Common.{◌≡◌, ℕ, Option, Some, None, refl, sym, ap, ◌∙◌, inr}
 use Rattle.shm_script.specs.declared.line.Line.{Line}
 use Rattle.shm_script.specs.declared.line.Line.TheVariants as lines
-use Rattle.shm_script.specs.declared.raw.RawCommand.{RawCommand}
 use Rattle.shm_script.specs.declared.raw.RawCommand.TheVariants as raw
 use Rattle.shm_script.specs.Text.{line_spelled}
 use Rattle.shm_script.specs.Ranges.{LineSmall}

@@ -1,5 +1,5 @@
 -- What was read is a trace, and its text is what was read.
-use Rattle.std.proofs.Common.{◌≡◌, ◌≢◌, ℕ, ◌^◌, ◌<◌, ◌≤◌, true, false, List, [], ◌∷◌, ◌++◌, length, map, sum, Option, codes, refl, sym, ap, subst, ◌∙◌, arith}
+use Rattle.std.proofs.Common.{◌≡◌, ◌≢◌, ℕ, ◌^◌, ◌<◌, ◌≤◌, Bool, true, false, List, [], ◌∷◌, ◌++◌, length, map, sum, Option, refl, sym, ap, subst, ◌∙◌, arith}
 use Rattle.std.specs.Prelude.{◌==◌}
 use Rattle.std.specs.List.{AllByRecursion, flat_map, list_any}
 use Rattle.std.proofs.lemmas.List.{append-nil}
@@ -9,8 +9,8 @@ use Rattle.shm_script.specs.declared.raw.RawCommand.{RawCommand}
 use Rattle.shm_script.specs.declared.fit.Place.{Place}
 use Rattle.shm_script.specs.declared.fit.Place.TheVariants as place
 use Rattle.shm_script.specs.Values.{Scripted}
-use Rattle.shm_script.specs.Ranges.{LineFits, ItemFits, IsLife, AreApart}
-use Rattle.shm_script.specs.Text.{spaced, ended, line_ended, order_spelled, life_spelled, script_spelled, text_of}
+use Rattle.shm_script.specs.Ranges.{LineFits, ItemFits, IsLife, AreApart, segments_limit}
+use Rattle.shm_script.specs.Text.{spaced, ended, line_ended, order_spelled, pool_word, life_spelled, script_spelled, text_of}
 use Rattle.shm_script.specs.Shapes.{Client, Command}
 use Rattle.shm_script.specs.Faults.{FitPool, FitOrder, FitClient, FitLife, FitCommand, may_stand, is_second}
 use Rattle.shm_script.specs.Drafts.{Drafted, draft_none, open_script, scripts_at, all_scripts, draft_after, traced}
@@ -35,9 +35,9 @@ pub record LooseFits (clients : ℕ) (s : Scripted) : Type 0 where
   pub lines : AllByRecursion (LineFits clients s.client) s.lines
 
 -- the size of a pool that was read
-abbrev pub SizeAt : Place → ℕ → ℕ → Type 0
-SizeAt place.Start n g = Unit {0}
-SizeAt _ n g = (1 ≤ n) × (n ≤ 16) × (1 ≤ g) × (g ≤ 256)
+abbrev pub SizeAt : Place → Bool → ℕ → ℕ → Type 0
+SizeAt place.Start wide n g = Unit {0}
+SizeAt _ wide n g = (1 ≤ n) × (n ≤ 16) × (1 ≤ g) × (g ≤ segments_limit wide)
 
 -- what is empty still
 abbrev pub EmptyAt : Place → Drafted → Type 0
@@ -49,7 +49,7 @@ EmptyAt place.Body d = Unit {0}
 
 -- what was read is in its ranges
 pub record IsDraft (d : Drafted) : Type 0 where
-  pub size : SizeAt d.seen.place d.seen.clients d.segments
+  pub size : SizeAt d.seen.place d.wide d.seen.clients d.segments
   pub few : length d.order ≤ 1000
   pub items : AllByRecursion (ItemFits d.seen.clients) d.order
   pub loose : AllByRecursion (LooseFits d.seen.clients) (all_scripts d)
@@ -65,13 +65,13 @@ abbrev pub Grows : Drafted → Drafted → List ℕ → Type 0
 Grows d e text = IsDraft e × (draft_text e ≡ draft_text d ++ ended text)
 
 -- the part of the text before the scripts
-abbrev pub head_text : ℕ → ℕ → List Item → List ℕ
-head_text n g order = ended (codes "pool" ++ spaced n ++ spaced g) ++ order_spelled order
+abbrev pub head_text : Bool → ℕ → ℕ → List Item → List ℕ
+head_text wide n g order = ended (pool_word wide ++ spaced n ++ spaced g) ++ order_spelled order
 
-pub pool_grows : (d : Drafted) (n g : ℕ) → IsDraft d → d.seen.place ≡ place.Start → FitRange d.seen.clients d.seen.me (FitPool n g) → Grows d (draft_after d (FitPool n g)) (fit_text (FitPool n g))
-pool_grows d n g h start range =
+pub pool_grows : (d : Drafted) (wide : Bool) (n g : ℕ) → IsDraft d → d.seen.place ≡ place.Start → FitRange d.seen.clients d.seen.me (FitPool wide n g) → Grows d (draft_after d (FitPool wide n g)) (fit_text (FitPool wide n g))
+pool_grows d wide n g h start range =
     let empty = subst (λ p. EmptyAt p d) start h.empty in
-    let whole = ended (fit_text (FitPool n g)) in
+    let whole = ended (fit_text (FitPool wide n g)) in
     let none : draft_text d ≡ [] = ap (λ p. text_at p d) start in
     let scripts : all_scripts d ≡ [] = ap (λ p. scripts_at p d) start ∙ empty.1 in
     let text : (whole ++ order_spelled d.order) ++ flat_map script_spelled d.scripts ≡ whole =
@@ -91,9 +91,9 @@ pool_grows d n g h start range =
 pub order_grows : (d : Drafted) (items : List Item) → IsDraft d → d.seen.place ≡ place.Pool → FitRange d.seen.clients d.seen.me (FitOrder items) → Grows d (draft_after d (FitOrder items)) (fit_text (FitOrder items))
 order_grows d items h pool range =
     let empty = subst (λ p. EmptyAt p d) pool h.empty in
-    let size = subst (λ p. SizeAt p d.seen.clients d.segments) pool h.size in
+    let size = subst (λ p. SizeAt p d.wide d.seen.clients d.segments) pool h.size in
     let scripts : all_scripts d ≡ d.scripts = ap (λ p. scripts_at p d) pool in
-    let front = ended (codes "pool" ++ spaced d.seen.clients ++ spaced d.segments) in
+    let front = ended (pool_word d.wide ++ spaced d.seen.clients ++ spaced d.segments) in
     let line = ended (fit_text (FitOrder items)) in
     let before : draft_text d ≡ front = ap (λ p. text_at p d) pool ∙ ap (λ ss. (front ++ order_spelled d.order) ++ flat_map script_spelled ss) (scripts ∙ empty.1) ∙ append-nil (front ++ order_spelled d.order) ∙ ap (λ os. front ++ order_spelled os) empty.0 ∙ append-nil front in
     let behind : (front ++ order_spelled items) ++ flat_map script_spelled d.scripts ≡ front ++ line =
@@ -111,12 +111,12 @@ order_grows d items h pool range =
     )
 
 -- a place behind which a client may stand
-size_there : (p : Place) (c : Option ℕ) (n g : ℕ) → may_stand p (Client c) ≡ true → SizeAt p n g → SizeAt place.Client n g
-size_there place.Start c n g h size = absurd cc
-size_there place.Pool c n g h size = size
-size_there place.Order c n g h size = size
-size_there place.Client c n g h size = size
-size_there place.Body c n g h size = size
+size_there : (p : Place) (c : Option ℕ) (wide : Bool) (n g : ℕ) → may_stand p (Client c) ≡ true → SizeAt p wide n g → SizeAt place.Client wide n g
+size_there place.Start c wide n g h size = absurd cc
+size_there place.Pool c wide n g h size = size
+size_there place.Order c wide n g h size = size
+size_there place.Client c wide n g h size = size
+size_there place.Body c wide n g h size = size
 
 text_there : (p : Place) (c : Option ℕ) (d : Drafted) → may_stand p (Client c) ≡ true → text_at p d ≡ text_of (traced d)
 text_there place.Start c d h = absurd cc
@@ -131,9 +131,9 @@ client_grows d o c h stands first range =
     let s : Scripted = record { client = c; life = []; lines = [] } in
     let apart : AllByRecursion (λ x. x.client ≢ c) ss = not_taken ss c (ap (λ cs. list_any (λ x. x == c) cs) (sym h.taken) ∙ first) in
     let spelled : script_spelled s ≡ client_text c = append-nil (client_text c ++ []) ∙ append-nil (client_text c) in
-    let front = head_text d.seen.clients d.segments d.order in (
+    let front = head_text d.wide d.seen.clients d.segments d.order in (
       record {
-        size = size_there d.seen.place o d.seen.clients d.segments stands h.size;
+        size = size_there d.seen.place o d.wide d.seen.clients d.segments stands h.size;
         few = h.few;
         items = h.items;
         loose = all_push (LooseFits d.seen.clients) ss s h.loose (record { client = range; life = tt; sum = omega arith; lines = tt });
@@ -155,9 +155,9 @@ module _ (d : Drafted) (h : IsDraft d) (at : all_scripts d ≡ d.scripts ++ open
   taken_more : d.seen.taken ≡ map (λ (s : Scripted). s.client) (d.scripts ++ t ∷ [])
   taken_more = h.taken ∙ ap (map (λ (s : Scripted). s.client)) at ∙ clients_last d.scripts (open_script d) t client
 
-  text_more : (more : List ℕ) → script_spelled t ≡ script_spelled (open_script d) ++ more → draft_text d ≡ text_of (traced d) → head_text d.seen.clients d.segments d.order ++ flat_map script_spelled (d.scripts ++ t ∷ []) ≡ draft_text d ++ more
+  text_more : (more : List ℕ) → script_spelled t ≡ script_spelled (open_script d) ++ more → draft_text d ≡ text_of (traced d) → head_text d.wide d.seen.clients d.segments d.order ++ flat_map script_spelled (d.scripts ++ t ∷ []) ≡ draft_text d ++ more
   text_more more spelled there =
-      let front = head_text d.seen.clients d.segments d.order in
+      let front = head_text d.wide d.seen.clients d.segments d.order in
       text_last front d.scripts (open_script d) t more spelled ∙ ap (λ w. w ++ more) (ap (λ ss. front ++ flat_map script_spelled ss) (sym at) ∙ sym there)
 
 pub life_grows : (d : Drafted) (life : List ℕ) → IsDraft d → d.seen.place ≡ place.Client → FitRange d.seen.clients d.seen.me (FitLife life) → Grows d (draft_after d (FitLife life)) (fit_text (FitLife life))
@@ -171,7 +171,7 @@ life_grows d life h client range =
     let old : script_spelled (open_script d) ≡ me = ap (λ ls. (me ++ life_spelled d.life) ++ flat_map line_ended ls) empty.1 ∙ append-nil (me ++ life_spelled d.life) ∙ ap (λ l. me ++ life_spelled l) empty.0 ∙ append-nil me in
     let new : script_spelled t ≡ me ++ line = ap (λ ls. (me ++ life_spelled life) ++ flat_map line_ended ls) empty.1 ∙ append-nil (me ++ life_spelled life) ∙ ap (λ w. me ++ w) (life_some life range.0) in (
       record {
-        size = subst (λ p. SizeAt p d.seen.clients d.segments) client h.size;
+        size = subst (λ p. SizeAt p d.wide d.seen.clients d.segments) client h.size;
         few = h.few;
         items = h.items;
         loose = loose_more d h at t refl fits;
@@ -183,12 +183,12 @@ life_grows d life h client range =
     )
 
 -- a place behind which a command may stand
-body_size : (p : Place) (r : RawCommand) (n g : ℕ) → may_stand p (Command r) ≡ true → SizeAt p n g → SizeAt place.Body n g
-body_size place.Start r n g h size = absurd cc
-body_size place.Pool r n g h size = absurd cc
-body_size place.Order r n g h size = absurd cc
-body_size place.Client r n g h size = size
-body_size place.Body r n g h size = size
+body_size : (p : Place) (r : RawCommand) (wide : Bool) (n g : ℕ) → may_stand p (Command r) ≡ true → SizeAt p wide n g → SizeAt place.Body wide n g
+body_size place.Start r wide n g h size = absurd cc
+body_size place.Pool r wide n g h size = absurd cc
+body_size place.Order r wide n g h size = absurd cc
+body_size place.Client r wide n g h size = size
+body_size place.Body r wide n g h size = size
 
 body_there : (p : Place) (r : RawCommand) (d : Drafted) → may_stand p (Command r) ≡ true → (text_at p d ≡ text_of (traced d)) × (scripts_at p d ≡ d.scripts ++ open_script d ∷ [])
 body_there place.Start r d h = absurd cc
@@ -203,7 +203,7 @@ command_grows d r line h stands range =
     let t : Scripted = record { client = d.seen.me; life = d.life; lines = d.lines ++ line ∷ [] } in
     let fits : LooseFits d.seen.clients (open_script d) → LooseFits d.seen.clients t = λ l. record { client = l.client; life = l.life; sum = l.sum; lines = all_push (LineFits d.seen.clients d.seen.me) d.lines line l.lines range } in (
       record {
-        size = body_size d.seen.place r d.seen.clients d.segments stands h.size;
+        size = body_size d.seen.place r d.wide d.seen.clients d.segments stands h.size;
         few = h.few;
         items = h.items;
         loose = loose_more d h there.1 t refl fits;

@@ -12,7 +12,7 @@ use Rattle.shm_script.specs.declared.fault.TraceKind.{TraceKind}
 use Rattle.shm_script.specs.declared.fault.TraceKind.TheVariants.{Syntax}
 use Rattle.shm_script.specs.declared.fault.TraceFault.{TraceFault}
 use Rattle.shm_script.specs.Values.{Traced}
-use Rattle.shm_script.specs.Ranges.{ScriptFits, IsTrace}
+use Rattle.shm_script.specs.Ranges.{ScriptFits, IsTrace, segments_limit}
 use Rattle.shm_script.specs.Text.{script_spelled, text_of}
 use Rattle.shm_script.specs.Shapes.{Shape, Pool, Order, Client, Life, Command, shape_of}
 use Rattle.shm_script.specs.Faults.{Seen, Fit, FitPool, FitOrder, FitClient, FitLife, FitCommand, between, below, items_fit, life_fit, command_fit, may_stand, is_second, judged, seen_after, seen_none, fault_at, fault_or, first_fault, limit_fault, fault_of, may_end}
@@ -24,12 +24,12 @@ use Rattle.shm_script.proofs.LineTexts.{fit_text}
 use Rattle.shm_script.proofs.Lists.{few_in_all}
 use Rattle.shm_script.proofs.Sound.{text_at, draft_text, head_text, LooseFits, SizeAt, IsDraft, none_is_draft, Grows, pool_grows, order_grows, client_grows, life_grows, command_grows}
 
-pool_place : (p : Place) (n g : Option ℕ) → may_stand p (Pool n g) ≡ true → p ≡ place.Start
-pool_place place.Start n g h = refl
-pool_place place.Pool n g h = absurd cc
-pool_place place.Order n g h = absurd cc
-pool_place place.Client n g h = absurd cc
-pool_place place.Body n g h = absurd cc
+pool_place : (p : Place) (wide : Bool) (n g : Option ℕ) → may_stand p (Pool wide n g) ≡ true → p ≡ place.Start
+pool_place place.Start wide n g h = refl
+pool_place place.Pool wide n g h = absurd cc
+pool_place place.Order wide n g h = absurd cc
+pool_place place.Client wide n g h = absurd cc
+pool_place place.Body wide n g h = absurd cc
 
 order_place : (p : Place) (shape : Shape) (items : List RawItem) → shape ≡ Order items → may_stand p (Order items) ≡ true → p ≡ place.Pool
 order_place place.Start shape items is h = absurd cc
@@ -56,9 +56,9 @@ abbrev GrowsBy : Drafted → Fit → Type 0
 GrowsBy d f = Grows d (draft_after d f) (fit_text f)
 
 grows_by : (d : Drafted) (line : List ℕ) (shape : Shape) (fit : Fit) → IsDraft d → IsJudged d.seen line shape fit → GrowsBy d fit
-grows_by d line (Pool n g) fit h j =
-    let f = both_is FitPool (between 1 16 n) (between 1 256 g) fit j.fits in
-    subst (GrowsBy d) f.4 (pool_grows d f.0 f.1 h (pool_place d.seen.place n g j.stands) (subst (FitRange d.seen.clients d.seen.me) (sym f.4) j.spelled.1))
+grows_by d line (Pool wide n g) fit h j =
+    let f = both_is (FitPool wide) (between 1 16 n) (between 1 (segments_limit wide) g) fit j.fits in
+    subst (GrowsBy d) f.4 (pool_grows d wide f.0 f.1 h (pool_place d.seen.place wide n g j.stands) (subst (FitRange d.seen.clients d.seen.me) (sym f.4) j.spelled.1))
 grows_by d line (Order items) fit h j =
     let f = given_is FitOrder (items_fit d.seen.clients items) fit j.fits in
     subst (GrowsBy d) f.2 (order_grows d f.0 h (order_place d.seen.place (Order items) items refl j.stands) (subst (FitRange d.seen.clients d.seen.me) (sym f.2) j.spelled.1))
@@ -95,7 +95,7 @@ line_grows d line e h is =
     subst (λ x. Grows d x line) f.2 (subst (Grows d (draft_after d f.0)) (sym j.1.spelled.0) (grows_by d line j.0 f.0 h j.1))
 
 -- where the lines end
-ends_there : (p : Place) (d : Drafted) (rest : List ℕ) → may_end p rest ≡ true → SizeAt p d.seen.clients d.segments → (rest ≡ []) × (text_of (traced d) ≡ text_at p d) × SizeAt place.Pool d.seen.clients d.segments
+ends_there : (p : Place) (d : Drafted) (rest : List ℕ) → may_end p rest ≡ true → SizeAt p d.wide d.seen.clients d.segments → (rest ≡ []) × (text_of (traced d) ≡ text_at p d) × SizeAt place.Pool d.wide d.seen.clients d.segments
 ends_there place.Start d rest h size = absurd cc
 ends_there place.Pool d [] h size = (refl, refl, size)
 ends_there place.Order d [] h size = (refl, refl, size)
@@ -110,7 +110,7 @@ ends_there place.Body d (b ∷ rest) h size = absurd cc
 pub record IsRead (d : Drafted) (pieces : List (List ℕ)) (t : Traced) : Type 0 where
   pub last : Drafted
   pub draft : IsDraft last
-  pub size : SizeAt place.Pool last.seen.clients last.segments
+  pub size : SizeAt place.Pool last.wide last.seen.clients last.segments
   pub is : traced last ≡ t
   pub text : text_of t ≡ draft_text d ++ join_with_byte 10 pieces
 
@@ -144,10 +144,10 @@ all_both : {A : Type 0} (P Q R : A → Type 0) (xs : List A) → AllByRecursion 
 all_both P Q R [] p q f = tt
 all_both P Q R (x ∷ xs) p q f = (f x p.0 q.0, all_both P Q R xs p.1 q.1 f)
 
-draft_is_trace : (e : Drafted) → IsDraft e → SizeAt place.Pool e.seen.clients e.segments → length (text_of (traced e)) ≤ 1048576 → IsTrace (traced e)
+draft_is_trace : (e : Drafted) → IsDraft e → SizeAt place.Pool e.wide e.seen.clients e.segments → length (text_of (traced e)) ≤ 1048576 → IsTrace (traced e)
 draft_is_trace e h size short =
     let ss = all_scripts e in
-    let part : length (flat_map script_spelled ss) ≤ 1048576 = omega (arith, short, length-append (head_text e.seen.clients e.segments e.order) (flat_map script_spelled ss)) in
+    let part : length (flat_map script_spelled ss) ≤ 1048576 = omega (arith, short, length-append (head_text e.wide e.seen.clients e.segments e.order) (flat_map script_spelled ss)) in
     record {
       some_client = size.0;
       few_clients = size.1;
@@ -181,7 +181,7 @@ reading_end d at rest = refl
 
 -- the faults of lines are those of their reading
 seen_goes : (d : Drafted) (f : Fit) → (draft_after d f).seen ≡ seen_after d.seen f
-seen_goes d (FitPool n g) = refl
+seen_goes d (FitPool wide n g) = refl
 seen_goes d (FitOrder items) = refl
 seen_goes d (FitClient c) = refl
 seen_goes d (FitLife life) = refl

@@ -1,5 +1,5 @@
 -- A trace that is read line by line.
-use Rattle.std.specs.Prelude.{◌≡◌, ℕ, ◌+◌, List, [], ◌∷◌, ◌++◌, length, Option, Some, Result, Ok, Err, nat_lt, ◌==◌, if◌then◌else◌}
+use Rattle.std.specs.Prelude.{◌≡◌, ℕ, ◌+◌, Bool, false, List, [], ◌∷◌, ◌++◌, length, Option, Some, Result, Ok, Err, nat_lt, ◌==◌, if◌then◌else◌}
 use Rattle.std.specs.List.{slice_split}
 use Rattle.shm_script.specs.declared.line.Line.{Line}
 use Rattle.shm_script.specs.declared.line.Item.{Item}
@@ -20,6 +20,7 @@ use Rattle.shm_script.specs.Faults.{Seen, Fit, FitPool, FitOrder, FitClient, Fit
 pub record Drafted : Type 0 where
   pub seen : Seen
   pub segments : ℕ
+  pub wide : Bool
   pub order : List Item
   pub scripts : List Scripted
   pub life : List ℕ
@@ -27,7 +28,7 @@ pub record Drafted : Type 0 where
 
 -- without where it lies in memory
 abbrev pub fit_seen : FitLine → Fit
-fit_seen (fit.Pool clients segments) = FitPool clients segments
+fit_seen (fit.Pool wide clients segments) = FitPool wide clients segments
 fit_seen (fit.Order items) = FitOrder items.items
 fit_seen (fit.Client c) = FitClient c
 fit_seen (fit.Life numbers) = FitLife numbers.items
@@ -35,7 +36,7 @@ fit_seen (fit.Command line) = FitCommand line
 
 -- nothing was read
 abbrev pub draft_none : Drafted
-draft_none = record { seen = seen_none; segments = 0; order = []; scripts = []; life = []; lines = [] }
+draft_none = record { seen = seen_none; segments = 0; wide = false; order = []; scripts = []; life = []; lines = [] }
 
 -- the script that goes on
 abbrev pub open_script : Drafted → Scripted
@@ -53,7 +54,7 @@ all_scripts d = scripts_at d.seen.place d
 
 -- behind one more line
 abbrev pub draft_after : Drafted → Fit → Drafted
-draft_after d (FitPool clients segments) = record d { seen = seen_after d.seen (FitPool clients segments); segments = segments }
+draft_after d (FitPool wide clients segments) = record d { seen = seen_after d.seen (FitPool wide clients segments); segments = segments; wide = wide }
 draft_after d (FitOrder items) = record d { seen = seen_after d.seen (FitOrder items); order = items }
 draft_after d (FitClient c) = record d { seen = seen_after d.seen (FitClient c); scripts = all_scripts d; life = []; lines = [] }
 draft_after d (FitLife numbers) = record d { seen = seen_after d.seen (FitLife numbers); life = numbers }
@@ -70,7 +71,7 @@ drafted_line d line = drafted d (judged d.seen (shape_of line))
 
 -- the trace that was read
 abbrev pub traced : Drafted → Traced
-traced d = record { clients = d.seen.clients; segments = d.segments; order = d.order; scripts = all_scripts d }
+traced d = record { clients = d.seen.clients; segments = d.segments; wide = d.wide; order = d.order; scripts = all_scripts d }
 
 -- a fault of this line, or what comes behind it
 abbrev pub read_or : ℕ → Result Drafted TraceKind → (Drafted → Result Traced TraceFault) → Result Traced TraceFault

@@ -1,5 +1,5 @@
 -- The traces of the generator: four clients, and commands drawn from a sequence of numbers.
-use Rattle.std.specs.Prelude.{ℕ, zero, suc, ◌+◌, ◌*◌, ◌%◌, List, [], ◌∷◌, nat_lt, ◌==◌, if◌then◌else◌}
+use Rattle.std.specs.Prelude.{ℕ, zero, suc, false, ◌+◌, ◌*◌, ◌%◌, List, [], ◌∷◌, nat_lt, ◌==◌, if◌then◌else◌}
 use Rattle.shm_script.specs.declared.line.Line.{Line}
 use Rattle.shm_script.specs.declared.line.Line.TheVariants.{Put, Del, Get, Copy, Send, Recv}
 use Rattle.shm_script.specs.Values.{Scripted, Traced}
@@ -49,6 +49,6 @@ unfoldable pub drawn_scripts : ℕ → ℕ → ℕ → ℕ → List Scripted
 drawn_scripts n c zero x = []
 drawn_scripts n c (suc k) x = (drawn_script n c x).0 ∷ drawn_scripts n (c + 1) k (drawn_script n c x).1
 
--- the trace of four scripts of n commands each
+-- the trace of four scripts of n commands each, of format 1
 abbrev pub drawn_trace : ℕ → ℕ → Traced
-drawn_trace start n = record { clients = 4; segments = 16; order = []; scripts = drawn_scripts n 0 4 (first start) }
+drawn_trace start n = record { clients = 4; segments = 16; wide = false; order = []; scripts = drawn_scripts n 0 4 (first start) }

@@ -12,6 +12,7 @@ use Rattle.shm_script.specs.declared.fit.Place.TheVariants as place
 use Rattle.shm_script.specs.declared.fault.TraceKind.{TraceKind}
 use Rattle.shm_script.specs.declared.fault.TraceKind.TheVariants.{Syntax, Range, Limit, Twice}
 use Rattle.shm_script.specs.declared.fault.TraceFault.{TraceFault}
+use Rattle.shm_script.specs.Ranges.{segments_limit}
 use Rattle.shm_script.specs.Shapes.{Shape, Pool, Order, Client, Life, Command, both, given, shape_of}
 
 -- what the lines before tell of a line: what the last of them was, the clients that there are, the client whose script goes on, and those that have one
@@ -23,7 +24,7 @@ pub record Seen : Type 0 where
 
 -- a line with its numbers in range
 pub data Fit : Type 0 where
-  FitPool : ℕ → ℕ → Fit
+  FitPool : Bool → ℕ → ℕ → Fit
   FitOrder : List Item → Fit
   FitClient : ℕ → Fit
   FitLife : List ℕ → Fit
@@ -31,7 +32,7 @@ pub data Fit : Type 0 where
 
 -- Places: the pool first, an order behind it alone, lives behind a client alone, commands in a script.
 abbrev pub may_stand : Place → Shape → Bool
-may_stand place.Start (Pool clients segments) = true
+may_stand place.Start (Pool wide clients segments) = true
 may_stand place.Pool (Order items) = true
 may_stand place.Pool (Client client) = true
 may_stand place.Order (Client client) = true
@@ -103,7 +104,7 @@ life_fit left (number ∷ numbers) = before_rest (between 1 left number) (λ n. 
 
 -- a line with its numbers in range
 abbrev pub fit_of : ℕ → ℕ → Shape → Option Fit
-fit_of clients me (Pool n g) = both FitPool (between 1 16 n) (between 1 256 g)
+fit_of clients me (Pool wide n g) = both (FitPool wide) (between 1 16 n) (between 1 (segments_limit wide) g)
 fit_of clients me (Order items) = given FitOrder (items_fit clients items)
 fit_of clients me (Client c) = given FitClient (below clients c)
 fit_of clients me (Life numbers) = given FitLife (life_fit (2 ^ 40) numbers)
@@ -129,7 +130,7 @@ judged seen (Some shape) =
 
 -- what is told behind one more line
 abbrev pub seen_after : Seen → Fit → Seen
-seen_after seen (FitPool clients segments) = record seen { place = place.Pool; clients = clients }
+seen_after seen (FitPool wide clients segments) = record seen { place = place.Pool; clients = clients }
 seen_after seen (FitOrder items) = record seen { place = place.Order }
 seen_after seen (FitClient c) = record seen { place = place.Client; me = c; taken = seen.taken ++ c ∷ [] }
 seen_after seen (FitLife numbers) = record seen { place = place.Body }

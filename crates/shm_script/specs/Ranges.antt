@@ -1,5 +1,5 @@
 -- The ranges of a trace's numbers.
-use Rattle.std.specs.Prelude.{◌≡◌, ◌≢◌, ℕ, ◌^◌, ◌<◌, ◌≤◌, List, [], ◌∷◌, ◌++◌, length, sum}
+use Rattle.std.specs.Prelude.{◌≡◌, ◌≢◌, ℕ, ◌^◌, ◌<◌, ◌≤◌, Bool, true, false, List, [], ◌∷◌, ◌++◌, length, sum}
 use Rattle.std.specs.List.{AllByRecursion}
 use Rattle.shm_script.specs.declared.line.Line.{Line}
 use Rattle.shm_script.specs.declared.line.Line.TheVariants.{Put, Del, Get, Copy, Send, Recv}
@@ -54,12 +54,17 @@ abbrev pub AreApart : List Scripted → Type 0
 AreApart [] = Unit {0}
 AreApart (s ∷ ss) = AllByRecursion (λ o. o.client ≢ s.client) ss × AreApart ss
 
+-- how many segments a pool may have, in format 2 or in format 1
+abbrev pub segments_limit : Bool → ℕ
+segments_limit true = 8000
+segments_limit false = 256
+
 -- a trace in the ranges of the grammar
 pub record IsTrace (t : Traced) : Type 0 where
   pub some_client : 1 ≤ t.clients
   pub few_clients : t.clients ≤ 16
   pub some_segment : 1 ≤ t.segments
-  pub few_segments : t.segments ≤ 256
+  pub few_segments : t.segments ≤ segments_limit t.wide
   pub few_items : length t.order ≤ 1000
   pub items : AllByRecursion (ItemFits t.clients) t.order
   pub scripts : AllByRecursion (ScriptFits t.clients) t.scripts

@@ -6,7 +6,7 @@ use Rattle.shm_script.specs.Shapes.{Shape, Pool, Order, Client, Life, Command, g
 
 -- without where it lies in memory
 abbrev pub shape_seen : RawLine → Shape
-shape_seen (raw.Pool clients segments) = Pool clients segments
+shape_seen (raw.Pool wide clients segments) = Pool wide clients segments
 shape_seen (raw.Order items) = Order items.items
 shape_seen (raw.Client client) = Client client
 shape_seen (raw.Life numbers) = Life numbers.items

@@ -1,5 +1,5 @@
 -- The shape of a line: its word and its numbers, which may have any size.
-use Rattle.std.specs.Prelude.{ℕ, List, [], ◌∷◌, Option, Some, None, codes, ◌==◌, if◌then◌else◌}
+use Rattle.std.specs.Prelude.{ℕ, Bool, true, false, List, [], ◌∷◌, Option, Some, None, codes, ◌==◌, if◌then◌else◌}
 use Rattle.std.specs.List.{slice_split}
 use Rattle.std.specs.Str.{bytes_eq}
 use Rattle.shm_script.specs.declared.raw.RawItem.{RawItem}
@@ -7,9 +7,9 @@ use Rattle.shm_script.specs.declared.raw.RawCommand.{RawCommand}
 use Rattle.shm_script.specs.declared.raw.RawCommand.TheVariants.{Put, Del, Get, Copy, Send, Recv}
 use Rattle.shm_script.specs.Numbers.{number_of}
 
--- a line of a trace
+-- a line of a trace; of a pool with whether it is of format 2
 pub data Shape : Type 0 where
-  Pool : Option ℕ → Option ℕ → Shape
+  Pool : Bool → Option ℕ → Option ℕ → Shape
   Order : List RawItem → Shape
   Client : Option ℕ → Shape
   Life : List (Option ℕ) → Shape
@@ -72,7 +72,8 @@ unfoldable pub shape_by : List ℕ → List (List ℕ) → Option Shape
 shape_by head words =
     if bytes_eq head (codes "order") then given Order (items_of words)
     else if bytes_eq head (codes "life") then given Life (numbers_of words)
-    else if bytes_eq head (codes "pool") then given (λ n. Pool n.0 n.1) (two_of words)
+    else if bytes_eq head (codes "pool") then given (λ n. Pool false n.0 n.1) (two_of words)
+    else if bytes_eq head (codes "pool2") then given (λ n. Pool true n.0 n.1) (two_of words)
     else if bytes_eq head (codes "client") then given Client (one_of words)
     else given Command (command_of head words)
 

@@ -1,5 +1,5 @@
 -- The one spelling of a trace: lines that each end with a line feed, words parted by one blank, numbers in decimal.
-use Rattle.std.specs.Prelude.{ℕ, zero, suc, List, [], ◌∷◌, ◌++◌, codes}
+use Rattle.std.specs.Prelude.{ℕ, zero, suc, Bool, true, false, List, [], ◌∷◌, ◌++◌, codes}
 use Rattle.std.specs.Fmt.{decimal}
 use Rattle.std.specs.List.{flat_map}
 use Rattle.shm_script.specs.declared.line.Line.{Line}
@@ -53,9 +53,14 @@ line_ended line = ended (line_spelled line)
 abbrev pub script_spelled : Scripted → List ℕ
 script_spelled s = ended (codes "client" ++ spaced s.client) ++ life_spelled s.life ++ flat_map line_ended s.lines
 
+-- the word of a pool, of format 2 or of format 1
+abbrev pub pool_word : Bool → List ℕ
+pool_word true = codes "pool2"
+pool_word false = codes "pool"
+
 -- a trace: its pool, its order and its scripts
 abbrev pub text_of : Traced → List ℕ
-text_of t = ended (codes "pool" ++ spaced t.clients ++ spaced t.segments) ++ order_spelled t.order ++ flat_map script_spelled t.scripts
+text_of t = ended (pool_word t.wide ++ spaced t.clients ++ spaced t.segments) ++ order_spelled t.order ++ flat_map script_spelled t.scripts
 
 -- an answer
 abbrev pub answer_spelled : Answer → List ℕ

@@ -1,5 +1,5 @@
 -- Scripts and traces without where they lie in memory.
-use Rattle.std.specs.Prelude.{ℕ, List}
+use Rattle.std.specs.Prelude.{ℕ, Bool, List}
 use Rattle.shm_script.specs.declared.line.Line.{Line}
 use Rattle.shm_script.specs.declared.line.Item.{Item}
 
@@ -9,9 +9,10 @@ pub record Scripted : Type 0 where
   pub life : List ℕ
   pub lines : List Line
 
--- the size of a pool, an order of turns, and scripts
+-- the size of a pool and whether it is of format 2, an order of turns, and scripts
 pub record Traced : Type 0 where
   pub clients : ℕ
   pub segments : ℕ
+  pub wide : Bool
   pub order : List Item
   pub scripts : List Scripted

@@ -163,6 +163,7 @@ pub fn generate(alloc: Global, start: u64, size: u32) -> Result<Trace, AllocErro
     Ok(Trace {
         clients: 4,
         segments: 16,
+        wide: false,
         order: Vec::new(alloc),
         scripts,
     })

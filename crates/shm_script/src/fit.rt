@@ -14,10 +14,10 @@ pub enum Place {
     Body,
 }
 
-/// A line with its numbers in range.
+/// A line with its numbers in range. That of a pool tells first whether it is of format 2.
 #[derive(Drop)]
 pub enum FitLine {
-    Pool(u8, u16),
+    Pool(bool, u8, u16),
     Order(Vec<Item>),
     Client(u8),
     Life(Vec<u64>),

@@ -1,8 +1,9 @@
 //! Where a line may stand, and whether its numbers are in range.
 
-ghost use Rattle.std.specs.Prelude.{◌≡◌, ◌==◌, ◌^◌, None, IfOk, MatchOption};
+ghost use Rattle.std.specs.Prelude.{◌≡◌, ◌≤◌, ◌==◌, ◌^◌, None, IfOk, MatchOption};
 ghost use Rattle.std.specs.List.{list_any};
 ghost use Rattle.shm_script.specs.Faults.{below, between, command_fit, fit_of, is_second, items_fit, key_of, life_fit, may_stand, other_than, takes_commands, too_many, turns_fit};
+ghost use Rattle.shm_script.specs.Ranges.{segments_limit};
 ghost use Rattle.shm_script.specs.RawShapes.{shape_seen};
 ghost use Rattle.shm_script.specs.Drafts.{fit_seen};
 ghost use Rattle.shm_script.specs.Shapes.{given};
@@ -116,7 +117,7 @@ pub fn fit_line(
     ensures { IfOk result (λ o. given fit_seen o ≡ fit_of clients me (shape_seen line)) }
 {
     match line {
-        RawLine::Pool(n, g) => Ok(fit_pool(n, g)),
+        RawLine::Pool(wide, n, g) => Ok(fit_pool(wide, n, g)),
         RawLine::Order(items) => match fit_items(alloc, clients, items.as_slice())? {
             None => Ok(None),
             Some(items) => Ok(Some(FitLine::Order(items))),
@@ -130,13 +131,21 @@ pub fn fit_line(
     }
 }
 
-/// The line of a pool, where its numbers are in range.
-fn fit_pool(clients: Option<u64>, segments: Option<u64>) -> Option<FitLine>
-    ensures { given fit_seen result ≡ fit_of 0 0 (shape_seen (RawLine.Pool clients segments)) }
+/// How many segments a pool of this format may have.
+fn most_segments(wide: bool) -> u64
+    ensures limit { result ≡ segments_limit wide }
+    ensures few { result ≤ 8000 }
+{
+    if wide { 8_000 } else { 256 }
+}
+
+/// The line of a pool of this format, where its numbers are in range.
+fn fit_pool(wide: bool, clients: Option<u64>, segments: Option<u64>) -> Option<FitLine>
+    ensures { given fit_seen result ≡ fit_of 0 0 (shape_seen (RawLine.Pool wide clients segments)) }
 {
     let clients = between(1, 16, clients)?;
-    let segments = between(1, 256, segments)?;
-    Some(FitLine::Pool(clients as u8, segments as u16))
+    let segments = between(1, most_segments(wide), segments)?;
+    Some(FitLine::Pool(wide, clients as u8, segments as u16))
 }
 
 /// The line of a client, where there is one of its number.

@@ -1,6 +1,6 @@
 //! The shape of a line.
 
-ghost use Rattle.std.specs.Prelude.{◌≡◌, ◌==◌, IfOk, MatchOption, Some, None};
+ghost use Rattle.std.specs.Prelude.{◌≡◌, ◌==◌, true, false, IfOk, MatchOption, Some, None};
 ghost use Rattle.std.specs.List.{slice_split};
 ghost use Rattle.shm_script.specs.Pieces.{pieces_left};
 ghost use Rattle.shm_script.specs.Shapes.{Client, Command, Life, Order, Pool, command_of, given, item_from, items_of, numbers_of, one_of, shape_by, shape_of, two_of};
@@ -37,7 +37,9 @@ fn shape_with(
     } else if is_word(head, "life") {
         life(alloc, words)
     } else if is_word(head, "pool") {
-        Ok(pool(words))
+        Ok(pool(false, words))
+    } else if is_word(head, "pool2") {
+        Ok(pool(true, words))
     } else if is_word(head, "client") {
         Ok(client(words))
     } else {
@@ -65,12 +67,12 @@ fn life(alloc: Global, words: Option<&[u8]>) -> Result<Option<RawLine>, AllocErr
     }
 }
 
-/// The line of a pool with these numbers.
-fn pool(words: Option<&[u8]>) -> Option<RawLine>
-    ensures { line_seen result ≡ given (λ n. Pool n.0 n.1) (two_of (pieces_left 32 words.entry)) }
+/// The line of a pool of this format with these numbers.
+fn pool(wide: bool, words: Option<&[u8]>) -> Option<RawLine>
+    ensures { line_seen result ≡ given (λ n. Pool wide n.0 n.1) (two_of (pieces_left 32 words.entry)) }
 {
     let (clients, segments) = two(words)?;
-    Some(RawLine::Pool(clients, segments))
+    Some(RawLine::Pool(wide, clients, segments))
 }
 
 /// The line of a client with this number.

@@ -31,6 +31,7 @@ struct Draft {
     place: Place,
     clients: u8,
     segments: u16,
+    wide: bool,
     order: Vec<Item>,
     taken: Vec<u8>,
     scripts: Vec<Script>,
@@ -44,7 +45,7 @@ impl Model for Draft {
 
     ghost Value = { Drafted };
 
-    ghost view = { λ d. record { seen = record { place = d.place; clients = d.clients; me = d.me; taken = d.taken.items }; segments = d.segments; order = d.order.items; scripts = d.scripts.items; life = d.life.items; lines = d.lines.items } };
+    ghost view = { λ d. record { seen = record { place = d.place; clients = d.clients; me = d.me; taken = d.taken.items }; segments = d.segments; wide = d.wide; order = d.order.items; scripts = d.scripts.items; life = d.life.items; lines = d.lines.items } };
 }
 
 /// The fault of this kind at a line.
@@ -63,6 +64,7 @@ impl Draft {
             place: Place::Start,
             clients: 0,
             segments: 0,
+            wide: false,
             order: Vec::new(alloc),
             taken: Vec::new(alloc),
             scripts: Vec::new(alloc),
@@ -109,9 +111,10 @@ impl Draft {
         ensures { OnOk result (self.new ≡ draft_after self.old (fit_seen line)) }
     {
         match line {
-            FitLine::Pool(clients, segments) => {
+            FitLine::Pool(wide, clients, segments) => {
                 self.clients = clients;
                 self.segments = segments;
+                self.wide = wide;
                 self.place = Place::Pool;
             }
             FitLine::Order(items) => {
@@ -215,6 +218,7 @@ impl Draft {
         let Draft {
             clients,
             segments,
+            wide,
             order,
             scripts,
             ..
@@ -222,6 +226,7 @@ impl Draft {
         Ok(Trace {
             clients,
             segments,
+            wide,
             order,
             scripts,
         })

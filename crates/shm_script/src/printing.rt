@@ -4,7 +4,7 @@ ghost use Rattle.std.specs.Prelude.{◌≡◌, ◌++◌, IfOk, OnOk};
 ghost use Rattle.std.specs.List.{flat_map};
 ghost use Rattle.shm_script.specs.declared.line.Line.{Line as ALine};
 ghost use Rattle.shm_script.specs.Ranges.{LineSmall};
-ghost use Rattle.shm_script.specs.Text.{answer_spelled, item_spelled, life_spelled, line_ended, line_spelled, order_spelled, script_spelled, spaced, text_of};
+ghost use Rattle.shm_script.specs.Text.{answer_spelled, item_spelled, life_spelled, line_ended, line_spelled, order_spelled, pool_word, script_spelled, spaced, text_of};
 
 use crate::line::{Item, Line};
 use crate::log::Answer;
@@ -12,12 +12,19 @@ use crate::text::{push_number, push_spaced, push_text};
 use crate::trace::{Script, Trace};
 use std::alloc::{AllocError, Global};
 
+/// The word of a pool of this format.
+fn pool_word(wide: bool) -> &'static str
+    ensures { result.now ≡ pool_word wide }
+{
+    if wide { "pool2" } else { "pool" }
+}
+
 /// The one spelling of the trace.
 pub fn print(alloc: Global, trace: &Trace) -> Result<Vec<u8>, AllocError>
     ensures { IfOk result (λ v. v.items ≡ text_of trace.now) }
 {
     let mut text = Vec::new(alloc);
-    push_text(&mut text, "pool")?;
+    push_text(&mut text, pool_word(trace.wide))?;
     push_spaced(&mut text, u64::from(trace.clients))?;
     push_spaced(&mut text, u64::from(trace.segments))?;
     push_text(&mut text, "\n")?;

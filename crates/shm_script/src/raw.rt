@@ -18,10 +18,10 @@ pub enum RawCommand {
     Recv(Option<u64>, Option<u64>),
 }
 
-/// A line of a trace; a number from 2^64 on is `None`.
+/// A line of a trace; a number from 2^64 on is `None`. That of a pool tells first whether it is of format 2.
 #[derive(Drop)]
 pub enum RawLine {
-    Pool(Option<u64>, Option<u64>),
+    Pool(bool, Option<u64>, Option<u64>),
     Order(Vec<RawItem>),
     Client(Option<u64>),
     Life(Vec<Option<u64>>),

@@ -19,11 +19,14 @@ impl Model for Script {
     ghost view = { λ s. record { client = s.client; life = s.life.items; lines = s.lines.items } };
 }
 
-/// The size of a pool, an order of turns, and at most one script for each client, in the ranges of the grammar.
+/// The size and the format of a pool, an order of turns, and at most one script for each client, in the ranges of the grammar.
 #[derive(Debug, Drop)]
 pub struct Trace {
     pub clients: u8,
+    /// 1 to 256, or 1 to 8,000 in format 2.
     pub segments: u16,
+    /// Whether the pool is of format 2.
+    pub wide: bool,
     pub order: Vec<Item>,
     pub scripts: Vec<Script>,
 }
@@ -34,9 +37,9 @@ impl Model for Trace {
 
     ghost Value = { Traced };
 
-    ghost view = { λ t. record { clients = t.clients; segments = t.segments; order = t.order.items; scripts = t.scripts.items } };
+    ghost view = { λ t. record { clients = t.clients; segments = t.segments; wide = t.wide; order = t.order.items; scripts = t.scripts.items } };
 
-    ghost invariant = { λ t. IsTrace (record { clients = t.clients; segments = t.segments; order = t.order.items; scripts = t.scripts.items }) };
+    ghost invariant = { λ t. IsTrace (record { clients = t.clients; segments = t.segments; wide = t.wide; order = t.order.items; scripts = t.scripts.items }) };
 }
 
 impl Trace {

@@ -1,6 +1,7 @@
 //! Images, changes of them, and what is told of them.
 
 use shm_audit::{AuditStop, audit, fault_text, verdict_text};
+use shm_migrate::{MigrateStop, migrate, stop_text};
 use std::alloc::{AllocError, Global};
 
 /// What the FNV-1a checksum of 64 bits begins with.
@@ -11,6 +12,13 @@ const NO_BYTES: u64 = 0xcbf2_9ce4_8422_2325;
 pub enum Change {
     To(u64),
     OneMore,
+}
+
+/// What is told of an image.
+#[derive(Clone, Copy, Drop)]
+pub enum Task {
+    Audit,
+    Migration,
 }
 
 /// The checksum of some bytes and of these behind them.
@@ -35,10 +43,22 @@ pub fn told(alloc: Global, image: &[u8]) -> Result<Vec<u8>, AllocError> {
     }
 }
 
-/// The checksum of some lines and of the one that is told of this image.
-fn add_told(alloc: Global, sum: u64, image: &[u8]) -> Result<u64, AllocError> {
-    let line = told(alloc, image)?;
-    Ok(add(sum, line.as_slice()))
+/// The image in format 2, or the line that tells why there is none.
+fn migration_told(alloc: Global, image: &[u8]) -> Result<Vec<u8>, AllocError> {
+    match migrate(alloc, image) {
+        Ok(migrated) => Ok(migrated),
+        Err(MigrateStop::Memory(stop)) => Err(stop),
+        Err(stop) => stop_text(alloc, &stop),
+    }
+}
+
+/// The checksum of some texts and of what is told of this image.
+fn add_told(alloc: Global, sum: u64, image: &[u8], task: Task) -> Result<u64, AllocError> {
+    let text = match task {
+        Task::Audit => told(alloc, image)?,
+        Task::Migration => migration_told(alloc, image)?,
+    };
+    Ok(add(sum, text.as_slice()))
 }
 
 /// Where a word of an image begins.
@@ -47,7 +67,7 @@ fn start_of(at: u64) -> usize {
 }
 
 /// The word at an address of an image, and 0 past its end.
-fn word_in(image: &[u8], at: u64) -> u64 {
+pub fn word_in(image: &[u8], at: u64) -> u64 {
     let start = start_of(at);
     let mut word = 0u64;
     for i in (0..8usize).rev() {
@@ -66,19 +86,20 @@ pub fn set_word(image: &mut [u8], at: u64, word: u64) {
 }
 
 /// Stores a byte of an image.
-fn set_byte(image: &mut [u8], at: usize, byte: u8) {
+pub fn set_byte(image: &mut [u8], at: usize, byte: u8) {
     if let Some(place) = image.get_mut(at) {
         *place = byte;
     }
 }
 
-/// Adds the line that is told of an image where the word at an address is changed.
+/// Adds what is told of an image where the word at an address is changed.
 fn add_change(
     alloc: Global,
     sum: u64,
     image: &mut [u8],
     at: u64,
     change: Change,
+    task: Task,
 ) -> Result<u64, AllocError> {
     let word = word_in(image, at);
     let changed = match change {
@@ -86,16 +107,21 @@ fn add_change(
         Change::OneMore => word.wrapping_add(1),
     };
     set_word(image, at, changed);
-    let sum = add_told(alloc, sum, image)?;
+    let sum = add_told(alloc, sum, image, task)?;
     set_word(image, at, word);
     Ok(sum)
 }
 
-/// The checksum of all lines that are told where each word in turn is changed so.
-pub fn changes(alloc: Global, image: &mut [u8], change: Change) -> Result<u64, AllocError> {
+/// The checksum of all that is told where each word in turn is changed so.
+pub fn changes(
+    alloc: Global,
+    image: &mut [u8],
+    change: Change,
+    task: Task,
+) -> Result<u64, AllocError> {
     let mut sum = NO_BYTES;
     for at in 0..image.len().saturating_sub(24) as u64 / 8 {
-        sum = add_change(alloc, sum, image, at, change)?;
+        sum = add_change(alloc, sum, image, at, change, task)?;
     }
     Ok(sum)
 }
@@ -104,7 +130,7 @@ pub fn changes(alloc: Global, image: &mut [u8], change: Change) -> Result<u64, A
 pub fn cuts(alloc: Global, image: &[u8]) -> Result<u64, AllocError> {
     let mut sum = NO_BYTES;
     for len in 0..image.len() {
-        sum = add_told(alloc, sum, &image[..len])?;
+        sum = add_told(alloc, sum, &image[..len], Task::Audit)?;
     }
     Ok(sum)
 }
@@ -114,7 +140,7 @@ fn add_bytes(alloc: Global, mut sum: u64, image: &mut [u8], at: usize) -> Result
     let kept = image.get(at).copied().unwrap_or(0);
     for byte in 0..=255u8 {
         set_byte(image, at, byte);
-        sum = add_told(alloc, sum, image)?;
+        sum = add_told(alloc, sum, image, Task::Audit)?;
     }
     set_byte(image, at, kept);
     Ok(sum)

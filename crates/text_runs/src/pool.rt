@@ -14,6 +14,7 @@ use std::alloc::{AllocError, Global};
 pub struct Pool {
     clients: u8,
     segments: u16,
+    wide: bool,
     words: Vec<u64>,
 }
 
@@ -23,18 +24,20 @@ impl Pool {
         Pool {
             clients: 0,
             segments: 0,
+            wide: false,
             words: Vec::new(alloc),
         }
     }
 
-    /// The pool of the sizes that a text spells, with words that are 0.
-    pub fn of_sizes(alloc: Global, text: &str) -> Result<Pool, Stop> {
+    /// The pool of the sizes that a text spells, of format 2 or of format 1, with words that are 0.
+    pub fn of_sizes(alloc: Global, wide: bool, text: &str) -> Result<Pool, Stop> {
         let sizes = read_numbers(text).ok_or(Stop::NoRow)?;
-        let geometry = geometry_of(sizes.first, sizes.second).ok_or(Stop::NoRow)?;
+        let geometry = geometry_of(wide, sizes.first, sizes.second).ok_or(Stop::NoRow)?;
         let words = vec![in alloc; 0u64; geometry.total() as usize]?;
         Ok(Pool {
             clients: geometry.clients(),
             segments: geometry.segments(),
+            wide,
             words,
         })
     }
@@ -43,7 +46,8 @@ impl Pool {
     pub fn geometry(&self) -> Result<Geometry, Stop>
         ensures { IfOk result GeometryFits }
     {
-        geometry_of(u64::from(self.clients), u64::from(self.segments)).ok_or(Stop::NoRow)
+        let (clients, segments) = (u64::from(self.clients), u64::from(self.segments));
+        geometry_of(self.wide, clients, segments).ok_or(Stop::NoRow)
     }
 
     /// Its words.
@@ -72,13 +76,18 @@ impl Pool {
     }
 }
 
-/// The sizes of a pool, where a pool may have them.
-fn geometry_of(clients: u64, segments: u64) -> Option<Geometry>
+/// The sizes of a pool of format 2 or of format 1, where one may have them.
+fn geometry_of(wide: bool, clients: u64, segments: u64) -> Option<Geometry>
     ensures { IfSome result GeometryFits }
 {
     let clients = u8::try_from(clients).ok()?;
     let segments = u16::try_from(segments).ok()?;
-    Geometry::new(clients, segments).ok()
+    let made = if wide {
+        Geometry::wide(clients, segments)
+    } else {
+        Geometry::new(clients, segments)
+    };
+    made.ok()
 }
 
 /// Sets a word that is given as `AT:WORD`.

@@ -1,11 +1,14 @@
 //! The lines of standard input.
 
-use crate::images::{Change, changes, checksum, cuts, frames, set_word, told};
+use crate::images::{
+    Change, Task, changes, checksum, cuts, frames, set_byte, set_word, told, word_in,
+};
 use crate::lines::{fault_lines, verdict_line};
 use crate::logs::logs_of;
 use crate::numbers::{number, read_numbers};
 use crate::pool::Pool;
 use crate::stop::Stop;
+use shm_migrate::{MigrateStop, migrate, stop_text};
 use shm_report::{report, summary};
 use shm_script::{ParseStop, Trace, parse, push_number, push_text};
 use std::alloc::{AllocError, Global};
@@ -46,7 +49,10 @@ impl Rows {
             "front" => self.front(alloc, rest),
             "checksum" => Ok(number_line(alloc, checksum(self.image.as_slice()))?),
             "audit" => Ok(told(alloc, self.image.as_slice())?),
-            "changes" => self.changes(alloc, rest),
+            "word" => self.word(alloc, rest),
+            "migrate" => self.migrate(alloc),
+            "changes" => self.changes(alloc, rest, Task::Audit),
+            "migrations" => self.changes(alloc, rest, Task::Migration),
             "cuts" => Ok(number_line(alloc, cuts(alloc, self.image.as_slice())?)?),
             "frames" => self.frames(alloc),
             _ => {
@@ -59,8 +65,8 @@ impl Rows {
     /// Takes a line of which nothing is told.
     fn note(&mut self, alloc: Global, line: &str, word: &str, rest: &str) -> Result<(), Stop> {
         match word {
-            "pool" => {
-                self.pool = Pool::of_sizes(alloc, rest)?;
+            "pool" | "pool2" => {
+                self.pool = Pool::of_sizes(alloc, word == "pool2", rest)?;
                 self.trace = line_of(alloc, line)?;
                 Ok(())
             }
@@ -78,6 +84,7 @@ impl Rows {
                 Ok(())
             }
             "set" => self.set(rest),
+            "byte" => self.set_byte(rest),
             "push" => self.push(rest),
             "cut" => self.cut(rest),
             _ => self.note_command(line, word),
@@ -127,6 +134,18 @@ impl Rows {
         Ok(())
     }
 
+    /// Stores a byte at a place of the image.
+    fn set_byte(&mut self, text: &str) -> Result<(), Stop> {
+        let of = read_numbers(text).ok_or(Stop::NoRow)?;
+        let byte = u8::try_from(of.second).ok();
+        let place = usize::try_from(of.first).ok();
+        let (Some(at), Some(byte)) = (place, byte) else {
+            return Err(Stop::NoRow);
+        };
+        set_byte(self.image.as_mut_slice(), at, byte);
+        Ok(())
+    }
+
     /// Adds a byte to the image.
     fn push(&mut self, text: &str) -> Result<(), Stop> {
         let byte = number(text).and_then(|byte| u8::try_from(byte).ok());
@@ -145,13 +164,31 @@ impl Rows {
         Ok(bytes_line(alloc, front)?)
     }
 
+    /// The word at an address of the image.
+    fn word(&self, alloc: Global, text: &str) -> Result<Vec<u8>, Stop> {
+        let at = number(text).ok_or(Stop::NoRow)?;
+        Ok(number_line(alloc, word_in(self.image.as_slice(), at))?)
+    }
+
+    /// The image becomes that of format 2, or why it doesn't is told.
+    fn migrate(&mut self, alloc: Global) -> Result<Vec<u8>, Stop> {
+        match migrate(alloc, self.image.as_slice()) {
+            Ok(migrated) => {
+                self.image = migrated;
+                Ok(line_of(alloc, "migrated")?)
+            }
+            Err(MigrateStop::Memory(_)) => Err(Stop::Memory),
+            Err(stop) => Ok(stop_text(alloc, &stop)?),
+        }
+    }
+
     /// The checksum of what is told where each word of the image is another number, or one more than it was.
-    fn changes(&mut self, alloc: Global, text: &str) -> Result<Vec<u8>, Stop> {
+    fn changes(&mut self, alloc: Global, text: &str, task: Task) -> Result<Vec<u8>, Stop> {
         let change = match text {
             "more" => Change::OneMore,
             _ => Change::To(number(text).ok_or(Stop::NoRow)?),
         };
-        let sum = changes(alloc, self.image.as_mut_slice(), change)?;
+        let sum = changes(alloc, self.image.as_mut_slice(), change, task)?;
         Ok(number_line(alloc, sum)?)
     }
 

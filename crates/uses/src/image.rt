@@ -1,6 +1,6 @@
 //! Images: a closed pool as bytes, and what an audit says of them, which knows nothing of the pool.
 
-ghost use Rattle.std.specs.Prelude.{◌≡◌, false, IfOk, IfErr};
+ghost use Rattle.std.specs.Prelude.{IfOk, IfErr};
 ghost use Rattle.shm_audit.specs.Verdicts.{IsCleanVerdict};
 ghost use Rattle.uses.specs.Images.{IsForMemory};
 
@@ -8,9 +8,8 @@ use shm_audit::{AuditStop, Verdict, audit, clean_where_verdict_is, image_reads_b
 use shm_plain::PlainClosed;
 use std::alloc::Global;
 
-/// Writes the image of a closed pool of format 1, and audits it. Unless memory is wanting the verdict is that the pool is clean.
+/// Writes the image of a closed pool, and audits it. Unless memory is wanting the verdict is that the pool is clean.
 pub fn judged(alloc: Global, closed: &PlainClosed) -> Result<Verdict, AuditStop>
-    requires format { closed.now.start.geometry.wide ≡ false }
     ensures clean { IfOk result IsCleanVerdict }
     ensures memory { IfErr result IsForMemory }
 {

@@ -1,4 +1,4 @@
-use Rattle.std.proofs.Common.{◌≡◌, ◌≢◌, ◌<◌, ℕ, sym, ap, ◌∙◌, subst, Result}
+use Rattle.std.proofs.Common.{rules, ◌≡◌, ◌≢◌, ◌<◌, ℕ, sym, ap, ◌∙◌, subst, Result}
 use Rattle.std.specs.Prelude.{IfOk}
 use Rattle.shm_graph.specs.declared.ask.Me.{Me}
 use Rattle.shm_graph.specs.declared.memo.Memo.{Memo}
@@ -13,13 +13,15 @@ use Rattle.shm_count.specs.declared.answer.Made.{Made}
 use Rattle.shm_count.specs.Roots.{member, root_word}
 use Rattle.shm_count.specs.Step.Control.{IsInside}
 use Rattle.shm_recover.specs.Leave.{MayLeave}
-use Rattle.shm_pool.specs.Calls.{Tells}
+use Rattle.shm_pool.specs.Calls.{IsBetween, Tells}
+use Rattle.shm_pool.proofs.Calling.{live_here}
+use Rattle.shm_graph.specs.Idle.{IsIdle}
 use Rattle.shm_pool.specs.Endings.{ClientMayLeave}
 use Rattle.shm_pool.specs.Tokens.{Its, me_of}
 use Rattle.pool_calls.specs.Clients.{me_now}
 use Rattle.pool_calls.proofs.AllocRoots.{made_others, made_root}
 use Rattle.pool_calls.proofs.Keeping.{alloc_may_leave}
-use Rattle.pool_calls.proofs.Standing.{made_inside, reply_both, reply_map}
+use Rattle.pool_calls.proofs.Standing.{here_after, made_inside, reply_both, reply_map}
 use Rattle.pool_calls.proofs.calls.allocate.Goals as goal
 use Rattle.pool_calls.proofs.calls.allocate.Goals.{After-drive}
 use Rattle.shm_graph.specs.Runs.{Stood}
@@ -71,3 +73,20 @@ returns-clause-leaves c = λ may.
     reply_both (λ (a : Result Made AllocFault). AllocGives c.in_ok-alloc.alloc t.account.memo t'.account.memo t'.account.memo.call a) (λ (a : Result Made AllocFault). Tells (alloc_control.line c.in_ok-alloc.alloc) t.account t'.account) (λ (a : Result Made AllocFault). ClientMayLeave t'.of t'.account) c.drive.result
     (λ a h told. (alloc_may_leave (me_of t'.of t'.account) c.in_ok-alloc.alloc t.account.memo t'.account.memo t'.account.memo.call a (subst (λ (x : Me). MayLeave x t.account.memo) (sym same) may.0) (is ∙ sym same) h, told.over))
     c.drive.ensures.gives (c.drive.ensures.told fresh)
+
+pub drive-requires-clause-machine : goal.drive-requires-clause-machine
+drive-requires-clause-machine c = λ alive. (search rules, search rules, search rules, live_here c.args.client.now.account.memo c.requires.between.idle.live)
+
+pub returns-clause-there : goal.returns-clause-there
+returns-clause-there c =
+    let e : Account = c.drive.new.self.account in
+    let r0 : Memo = c.args.client.now.account.memo in
+    let fresh = ap (λ (p : AllocPoint). alloc_control.fresh (record c.in_ok-alloc.alloc { point = p })) c.in_ok-alloc.ensures.fresh.1 in
+    let is = of (goal.at.returns-clause-there c).After-drive in
+    here_after c.drive.result c.drive.new.self.dead e c.drive.ensures.died.0
+    (reply_both (λ (a : Result Made AllocFault). AllocGives c.in_ok-alloc.alloc r0 e.memo e.memo.call a) (λ (a : Result Made AllocFault). Tells (alloc_control.line c.in_ok-alloc.alloc) c.args.client.now.account e) (λ (a : Result Made AllocFault). IsBetween e) c.drive.result
+    (λ a h told. record { idle = subst (λ (x : Me). IsIdle x.who e.memo) is h.holds.idle; over = told.over })
+    c.drive.ensures.gives (c.drive.ensures.told fresh))
+
+pub returns-in_err-alloc-clause-there : goal.returns-in_err-alloc-clause-there
+returns-in_err-alloc-clause-there c = λ alive. live_here c.args.client.now.account.memo c.requires.between.idle.live

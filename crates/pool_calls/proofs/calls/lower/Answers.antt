@@ -1,4 +1,4 @@
-use Rattle.std.proofs.Common.{◌≡◌, ◌≢◌, ◌^◌, ◌<◌, ℕ, Bool, true, sym, ap, ◌∙◌, subst, Result}
+use Rattle.std.proofs.Common.{rules, ◌≡◌, ◌≢◌, ◌^◌, ◌<◌, ℕ, Bool, true, sym, ap, ◌∙◌, subst, Result}
 use Rattle.std.specs.Prelude.{IfOk}
 use Rattle.std.specs.List.{Contains}
 use Rattle.std.proofs.lemmas.Bool.{and_from, lt-ltb}
@@ -8,7 +8,6 @@ use Rattle.shm_words.specs.Layout.{GeometryFits, address, is_in, address_limit}
 use Rattle.shm_words.proofs.Placing.{address_small}
 use Rattle.shm_graph.specs.declared.run.Account.{Account}
 use Rattle.shm_graph.specs.declared.run.Start.{Start}
-use Rattle.shm_graph.specs.Agents.{is_gone}
 use Rattle.shm_graph.specs.Idle.{IsIdle}
 use Rattle.shm_graph.specs.Whole.{fits_now}
 use Rattle.shm_count.specs.declared.answer.EraSpent.{EraSpent}
@@ -20,7 +19,8 @@ use Rattle.shm_count.specs.Roots.{root_step, root_word}
 use Rattle.shm_pool.specs.Calls.{IsBetween, Tells}
 use Rattle.shm_pool.specs.Replies.{IfReply}
 use Rattle.shm_pool.specs.Tokens.{Its}
-use Rattle.pool_calls.proofs.Standing.{lowered, root_others, came_to_zero, down_fits, reply_both, reply_map}
+use Rattle.shm_pool.proofs.Calling.{live_here}
+use Rattle.pool_calls.proofs.Standing.{here_after, lowered, root_others, came_to_zero, down_fits, reply_both, reply_map}
 use Rattle.pool_calls.proofs.calls.lower.Goals.{After-root, After-new-down, After-drive}
 use Rattle.pool_calls.proofs.calls.lower.Goals as goal
 use Rattle.shm_graph.specs.Runs.{Stood}
@@ -58,14 +58,10 @@ drive-requires-clause-fits c = λ alive.
     let x = (goal.at.drive-requires-clause-fits c).After-root in
     let e : Account = c.args.client.now.account in
     subst (λ (m : StepState). fits_now down_control DownFits m e.memo e.memo) (sym (state y))
-    (down_fits c.args.client.now.of.start.geometry e.who c.args.root c.args.block e.memo (fitting x) (below x) c.requires.root c.requires.between.idle c.client-who.ensures.kind c.requires.holds c.requires.inside)
+    (down_fits c.args.client.now.of.start.geometry e.who c.args.root c.args.block e.memo (fitting x) (below x) c.requires.root c.requires.between.idle c.client-who.ensures.serves.kind c.requires.holds c.requires.inside)
 
-pub drive-requires-clause-stays : goal.drive-requires-clause-stays
-drive-requires-clause-stays c = λ alive e' a stood who h.
-    let y = (goal.at.drive-requires-clause-stays c).After-new-down in
-    let x = (goal.at.drive-requires-clause-stays c).After-root in
-    let e : Account = c.args.client.now.account in
-    ap is_gone (lowered c.args.client.now.of.start e e' c.client-who.ensures.stood stood who c.args.root (below x) c.requires.root c.requires.between.idle c.args.block a (subst (λ (m : StepState). DownGives m e.memo e'.memo e'.memo.call a) (state y) h)).idle.live
+pub drive-requires-clause-machine : goal.drive-requires-clause-machine
+drive-requires-clause-machine c = λ alive. (search rules, search rules, search rules, live_here c.args.client.now.account.memo c.requires.between.idle.live)
 
 -- what is given, of the step at the root
 given : (c : After-drive) → let e = c.args.client.now.account in let e' = c.drive.new.self.account in IfReply c.drive.result (λ a. DownGives (root_step c.args.client.now.of.start.geometry e.who c.args.root (Down c.args.block)) e.memo e'.memo e'.memo.call a)
@@ -87,17 +83,23 @@ told c =
     let y = (goal.at.After-drive c).After-new-down in
     reply_map (λ a. Tells (down_control.line c.new-down.result) c.args.client.now.account c.drive.new.self.account) (λ a. c.drive.new.self.account.memo.over ≡ true) c.drive.result (λ a t. t.over) (c.drive.ensures.told (ap (λ (m : StepState). down_control.fresh m) (state y)))
 
-pub returns-clause-between : goal.returns-clause-between
-returns-clause-between c =
-    let r = (goal.at.returns-clause-between c).After-drive in
-    let x = (goal.at.returns-clause-between c).After-root in
+-- and between two calls
+between : (c : After-drive) → IfReply c.drive.result (λ a. IsBetween c.drive.new.self.account)
+between c =
+    let x = (goal.at.After-drive c).After-root in
     let e : Account = c.args.client.now.account in
     let e' : Account = c.drive.new.self.account in
     reply_both (λ a. DownGives (root_step c.args.client.now.of.start.geometry e.who c.args.root (Down c.args.block)) e.memo e'.memo e'.memo.call a) (λ a. e'.memo.over ≡ true) (λ a. IsBetween e') c.drive.result
     (λ a h o. record {
-      idle = subst (λ (n : ℕ). IsIdle n e'.memo) (sym c.drive.ensures.same.1) (lowered c.args.client.now.of.start e e' c.client-who.ensures.stood (stood_after r) c.drive.ensures.same.1 c.args.root (below x) c.requires.root c.requires.between.idle c.args.block a h).idle;
+      idle = subst (λ (n : ℕ). IsIdle n e'.memo) (sym c.drive.ensures.same.1) (lowered c.args.client.now.of.start e e' c.client-who.ensures.stood (stood_after c) c.drive.ensures.same.1 c.args.root (below x) c.requires.root c.requires.between.idle c.args.block a h).idle;
       over = o;
-    }) (given r) (told r)
+    }) (given c) (told c)
+
+pub returns-clause-between : goal.returns-clause-between
+returns-clause-between c = between (goal.at.returns-clause-between c).After-drive
+
+pub returns-clause-there : goal.returns-clause-there
+returns-clause-there c = here_after c.drive.result c.drive.new.self.dead c.drive.new.self.account c.drive.ensures.died.0 (between (goal.at.returns-clause-there c).After-drive)
 
 pub returns-clause-dying : goal.returns-clause-dying
 returns-clause-dying c =

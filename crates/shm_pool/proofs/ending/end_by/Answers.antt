@@ -39,7 +39,7 @@ returns-in-Some-Ok-clause-ended g c =
     record {
       same = (ap (λ (z : TableId). its z c.args.start) e.place.0 ∙ c.requires.pool, e.who);
       gone = left_gone g c;
-      answered = record { call = e.call; gave = gave_ok g c; told = e.told };
+      answered = record { call = e.call.call; gave = gave_ok g c; told = e.told };
     }
 
 pub returns-in-Some-Err-clause-stopped : goal.returns-in-Some-Err-clause-stopped
@@ -52,7 +52,7 @@ returns-in-Some-Err-clause-stopped g c =
     (record {
       same = (ap (λ (z : TableId). its z c.args.start) e.place.0 ∙ c.requires.pool, e.who);
       by = record {
-        call = e.call;
+        call = e.call.call;
         gave = subst (λ (a : Answer). gives_now M.gives c.args.m.now (alone c.args.place).memo (alone c.run_place.new.place).memo a) c.in-Some-Err.field-0-is e.gives;
         told = e.told;
       };

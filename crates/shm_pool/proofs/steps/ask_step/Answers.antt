@@ -4,7 +4,7 @@ use Rattle.shm_pool.specs.Rules.{Told, alone}
 use Rattle.shm_pool.proofs.steps.ask_step.Goals as goal
 
 pub step_as-requires-clause-say : goal.step_as-requires-clause-say
-step_as-requires-clause-say g c = λ n learns stood. (refl, (refl, learns, stood))
+step_as-requires-clause-say g c = λ n learns stood made. (refl, (refl, learns, stood, made))
 
 pub returns-clause-told : goal.returns-clause-told
 returns-clause-told g c = let e = c.step_as.ensures.told in

@@ -1,9 +1,10 @@
-use Rattle.std.proofs.Common.{◌≡◌}
+use Rattle.std.proofs.Common.{◌≡◌, false}
 use Rattle.shm_graph.specs.declared.memo.Memo.{Memo}
 use Rattle.shm_graph.specs.Agents.{recovers}
 use Rattle.shm_graph.specs.Whole.{fits_now, gives_now}
 use Rattle.shm_pool.specs.Rules.{IsOf, IsAlone, alone}
-use Rattle.shm_pool.specs.Calls.{Ongoing, shown}
+use Rattle.shm_pool.specs.Calls.{IsDriven, Ongoing, shown}
+use Rattle.shm_pool.specs.Tokens.{has_left}
 use Rattle.shm_pool.proofs.steps.run_place.Given as goal
 use Rattle.shm_graph.specs.Runs.{Stood}
 
@@ -18,7 +19,8 @@ invariant-steps g l = record {
   back : (r : Memo) (a : g.row.M-Answer.Denot) → gives_now g.M.Machine.gives l.m (alone l.initial.place).memo r a → gives_now g.M.Machine.gives l.initial.m (alone l.initial.place).memo r a;
   same_who : (alone l.place).who ≡ (alone l.initial.place).who;
   same_kind : recovers (alone l.place).memo ≡ recovers (alone l.initial.place).memo;
-  so_far : Ongoing (shown g.M.Machine.control l.initial.m) (alone l.initial.place) (shown g.M.Machine.control l.m) (alone l.place) l.initial.life.left l.life.left;
+  here : has_left (alone l.initial.place).memo ≡ false → has_left (alone l.place).memo ≡ false;
+  so_far : (o : Ongoing (shown g.M.Machine.control l.initial.m) (alone l.initial.place) (shown g.M.Machine.control l.m) (alone l.place) l.initial.life.left l.life.left) × IsDriven g.M.Machine.control g.M.Machine.fits l.initial.m l.m (alone l.initial.place) (alone l.place) o.steps;
 }
 
 abbrev pub decreases-steps : goal.decreases-steps

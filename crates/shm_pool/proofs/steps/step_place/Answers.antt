@@ -1,11 +1,12 @@
-use Rattle.shm_graph.specs.Agents.{recovers}
+use Rattle.shm_graph.specs.Agents.{acts, recovers}
 use Rattle.shm_graph.specs.declared.run.Account.{Account}
-use Rattle.std.proofs.Common.{sym, ap, ◌∙◌, arith, true≢false}
+use Rattle.std.proofs.Common.{◌≡◌, false, true, cond, sym, ap, ◌∙◌, subst, arith, true≢false}
 use Rattle.shm_graph.specs.Laws.{is_died, step_of}
 use Rattle.shm_graph.specs.Whole.{fits_now, gives_now}
 use Rattle.shm_pool.specs.Rules.{alone}
 use Rattle.shm_pool.specs.Calls.{ClientStepped}
-use Rattle.shm_pool.proofs.Calling.{acts_stepped, kind_same, never_died}
+use Rattle.shm_pool.specs.Tokens.{has_left}
+use Rattle.shm_pool.proofs.Calling.{acts_stepped, kind_same, never_died, serves_on}
 use Rattle.shm_pool.proofs.steps.step_place.Given.{Over}
 use Rattle.shm_pool.proofs.steps.step_place.Goals.{After-take}
 use Rattle.shm_pool.proofs.steps.step_place.Goals as goal
@@ -16,6 +17,7 @@ stepped g c = let t = c.ask_step-seen.ensures.told in record {
   account = t.0;
   next = c.take.ensures.machine;
   turn = c.take.ensures.turn;
+  made = t.3;
   suits = t.1;
 }
 
@@ -31,3 +33,7 @@ returns-clause-kind g c = let M = g.M.Machine in ap (λ (e : Account). recovers 
 pub returns-clause-acts : goal.returns-clause-acts
 returns-clause-acts g c = let M = g.M.Machine in
     acts_stepped M.control (fits_now M.control M.fits) (gives_now M.gives) g.met.M.Machine.laws.steady c.args.m.now (alone c.args.place.now) (alone c.ask_step-seen.new.place) c.take.result c.take.new.self c.requires.me.2 c.requires.me.3 (stepped g (goal.at.returns-clause-acts g c).After-take)
+
+pub returns-clause-serves : goal.returns-clause-serves
+returns-clause-serves g c = λ lives. let M = g.M.Machine in
+    subst (λ (e : Account). acts e.memo ≡ cond (has_left e.memo) false true) (sym c.ask_step-seen.ensures.told.0) (serves_on (alone c.args.place.now) (step_of M.control c.args.m.now c.ask_step-seen.result) c.requires.me.3)

@@ -1,9 +1,7 @@
-use Rattle.std.proofs.Common.{arith, ◌≡◌, true, false, length, sym, ap, ◌∙◌, subst}
-use Rattle.std.specs.Prelude.{IfOk}
+use Rattle.std.proofs.Common.{arith, ◌≡◌, true, length, sym, ap, ◌∙◌, subst}
 use Rattle.shm_words.specs.declared.geometry.Geometry.{Geometry}
 use Rattle.shm_graph.specs.Runs.{account_at}
 use Rattle.shm_plain.specs.Pools.{Pool, first_pool, memo_of}
-use Rattle.shm_script.specs.Values.{Traced}
 use Rattle.shm_replay.specs.Closings.{AreVisits, HasTold, SameTable}
 use Rattle.shm_replay.specs.Gathered.{logs_by}
 use Rattle.shm_replay.specs.Orders.{IsGivenAll}
@@ -18,11 +16,7 @@ returns c =
     let t = c.args.trace.now in
     let p = c.close.result in
     let (q, given, seated, visits, run, tables, told) = c.play.ensures.played in
-    let sizes = subst (λ r. IfOk r (λ g. (g.clients ≡ c.trace.inside.clients) × (g.segments ≡ c.trace.inside.segments) × (g.wide ≡ false))) c.unwrap-geometry.ensures c.new.ensures.sizes in
-    let clients : c.trace.inside.clients ≡ t.clients = (let v = ap (λ (x : Traced). x.clients) c.trace.view_is in cc) in
-    let segments : c.trace.inside.segments ≡ t.segments = (let v = ap (λ (x : Traced). x.segments) c.trace.view_is in cc) in
-    let geometry : c.unwrap-geometry.result ≡ (start_of t).geometry = (λ i. record { clients = (sizes.0 ∙ clients) i; segments = (sizes.1 ∙ segments) i; wide = sizes.2 i }) in
-    let first : c.in_ok-pool.pool ≡ first_pool (start_of t) = c.in_ok-pool.ensures.first ∙ ap (λ (g : Geometry). first_pool (record { geometry = g; first_era = 1; tables = true })) geometry in
+    let first : c.in_ok-pool.pool ≡ first_pool (start_of t) = c.in_ok-pool.ensures.first ∙ ap (λ (g : Geometry). first_pool (record { geometry = g; first_era = 1; tables = true })) c.geometry_of-geometry.ensures.geometry in
     let here : p ≡ c.play.new.pool = c.close.ensures.is in
     let visited : AreVisits 0 t.clients q p = subst (AreVisits 0 t.clients q) (sym here) visits in
     let same : p.start ≡ q.start = visits_start 0 t.clients q p visited in

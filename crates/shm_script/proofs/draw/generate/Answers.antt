@@ -1,4 +1,4 @@
-use Rattle.std.proofs.Common.{◌≡◌, List, [], ap}
+use Rattle.std.proofs.Common.{◌≡◌, false, List, [], ap}
 use Rattle.shm_script.specs.Values.{Scripted, Traced}
 use Rattle.shm_script.specs.Drawing.{drawn_scripts, first}
 use Rattle.shm_script.proofs.Drawn.{script_goes_on, scripts_done, trace_fits}
@@ -6,7 +6,7 @@ use Rattle.shm_script.proofs.draw.generate.Goals as goal
 
 -- the trace with these scripts
 abbrev traced_of : List Scripted → Traced
-traced_of ss = record { clients = 4; segments = 16; order = []; scripts = ss }
+traced_of ss = record { clients = 4; segments = 16; wide = false; order = []; scripts = ss }
 
 pub loop-client-preserved : goal.loop-client-preserved
 loop-client-preserved c =

@@ -24,8 +24,8 @@ returns-clause-clean c =
     let end = c.words-words.ensures.end in
     let small : (i : ℕ) → slice_index ws i < 2 ^ 64 = words_small g ws end.run.held.words end.run.held.at.small in
     IfOk-weaker c.audit.result _ _ (λ v h. image_clean g ws c.as_slice.result.now (written at) end.clean
-    (c.image_reads_back.ensures.frame g ws end.run.held.at.fits c.requires.format end.run.held.words small)
-    (c.image_reads_back.ensures.sizes g ws end.run.held.at.fits c.requires.format small)
+    (c.image_reads_back.ensures.frame g ws end.run.held.at.fits end.run.held.words small)
+    (c.image_reads_back.ensures.sizes g ws end.run.held.at.fits small)
     (c.image_reads_back.ensures.words g ws end.run.held.at.fits small)
     (c.clean_where_verdict_is.ensures g ws end.run.held.at.fits) v h.1) c.audit.ensures.ok
 
@@ -37,7 +37,7 @@ returns-clause-memory c =
     let end = c.words-words.ensures.end in
     let small : (i : ℕ) → slice_index ws i < 2 ^ 64 = words_small g ws end.run.held.words end.run.held.at.small in
     IfErr-weaker c.audit.result _ _ (λ e h. image_stops g ws c.as_slice.result.now (written at) end.clean
-    (c.image_reads_back.ensures.frame g ws end.run.held.at.fits c.requires.format end.run.held.words small)
-    (c.image_reads_back.ensures.sizes g ws end.run.held.at.fits c.requires.format small)
+    (c.image_reads_back.ensures.frame g ws end.run.held.at.fits end.run.held.words small)
+    (c.image_reads_back.ensures.sizes g ws end.run.held.at.fits small)
     (c.image_reads_back.ensures.words g ws end.run.held.at.fits small)
     (c.clean_where_verdict_is.ensures g ws end.run.held.at.fits) e h) c.audit.ensures.err

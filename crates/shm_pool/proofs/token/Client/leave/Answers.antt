@@ -13,7 +13,8 @@ use Rattle.shm_recover.specs.Leave.Laws.{leave_begin, leave_laws}
 use Rattle.shm_recover.specs.Leave.{leave_plan}
 use Rattle.shm_recover.specs.Machines.{leave}
 use Rattle.shm_pool.specs.Endings.{Answer, HasEnded, HasStopped}
-use Rattle.shm_pool.specs.Tokens.{me_of}
+use Rattle.shm_pool.specs.Tokens.{IsFor, me_of}
+use Rattle.shm_pool.proofs.Calling.{is_here}
 use Rattle.shm_pool.proofs.token.Client.leave.Goals.{After-new-leave}
 use Rattle.shm_pool.proofs.token.Client.leave.Goals as goal
 
@@ -44,3 +45,9 @@ returns-clause-stopped c = λ alive.
     let x = (goal.at.returns-clause-stopped c).After-new-leave in
     subst (λ (m : Machine). IfErr c.leave_by.result (λ s. HasStopped leave (gives_now (CallsGives leave_parts leave_plan)) m c.args.self.of c.args.self.account c.args.life.now.left c.leave_by.new.life.left s.cause s.corpse)) (state x)
     (c.leave_by.ensures.stopped alive)
+
+pub leave_by-requires-clause-machine : goal.leave_by-requires-clause-machine
+leave_by-requires-clause-machine c = λ alive.
+    let x = (goal.at.leave_by-requires-clause-machine c).After-new-leave in
+    let may = c.requires.may alive in
+    subst (λ (m : Machine). IsFor c.args.self.of c.args.self.account leave m) (sym (state x)) (refl, refl, (λ first. may.1), is_here c.args.self.account.memo may.0.may.here.stays)

@@ -1,4 +1,4 @@
-use Rattle.std.proofs.Common.{◌≡◌, ℕ, ◌<◌, true, false, rules, sym, ap, ◌∙◌, subst, []}
+use Rattle.std.proofs.Common.{◌≡◌, ℕ, ◌<◌, Bool, true, false, cond, rules, sym, ap, ◌∙◌, subst, []}
 use Rattle.shm_graph.specs.declared.ask.Me.{Me}
 use Rattle.shm_graph.specs.declared.memo.Kind.TheVariants.{Client}
 use Rattle.shm_graph.specs.declared.memo.Memo.{Memo}
@@ -13,9 +13,9 @@ use Rattle.shm_recover.specs.Join.{IsMember, JoinFits, JoinGives, is_over, is_st
 use Rattle.shm_recover.specs.Join.Keeps.{join_begins}
 use Rattle.shm_recover.specs.Leave.{MayLeave}
 use Rattle.shm_pool.specs.Rules.{alone}
-use Rattle.shm_pool.proofs.Calling.{acts_stay}
+use Rattle.shm_pool.proofs.Calling.{acts_stay, live_here}
 use Rattle.shm_pool.proofs.Joining.{joined_may_leave}
-use Rattle.shm_pool.specs.Tokens.{Its, Token, its, me_of}
+use Rattle.shm_pool.specs.Tokens.{Its, Token, has_left, its, me_of}
 use Rattle.shm_pool.proofs.token.Vacant.join.Goals.{After-top-2}
 use Rattle.shm_pool.proofs.token.Vacant.join.Goals as goal
 
@@ -49,7 +49,8 @@ invariant_of-result c =
     let m : Memo = (alone c.run_place.new.place).memo in
     let acting : acts m ≡ true = acts_stay m (ap is_gone c.in-Some.ensures.gives.idle.live) c.in-Some.ensures.acts in
     let kind : recovers m ≡ false = c.in-Some.ensures.kind ∙ (ap (λ (e : Account). recovers e.memo) c.note_client.ensures.account ∙ recovers-entered Client (alone c.self.inside.place).memo) in
-    (search rules, acting, kind)
+    let here : has_left m ≡ false = live_here m c.in-Some.ensures.gives.idle.live in
+    (search rules, record { kind = kind; acts = acting ∙ ap (λ (b : Bool). cond b false true) (sym here); there = λ d. here })
 
 pub returns-in-Some-clause-leaves : goal.returns-in-Some-clause-leaves
 returns-in-Some-clause-leaves c =
