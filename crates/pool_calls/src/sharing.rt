@@ -10,8 +10,8 @@ use shm_graph::Life;
 use shm_pool::{Client, Reply, SharedPool, Vacant};
 use shm_ref::{Dropping, Sharing};
 
-/// Makes the least empty root of the client name `block`, which is in its reach, and empties that root again; says whether the block's
-/// count came to 0. None where one of the two was refused, or no word step was left; the root may name the block still then.
+/// Makes the least empty root of the client name `block`, which is in its reach, and empties that root again; says whether that root
+/// named a block. None where one of the two was refused, or no word step was left; the root may name the block still then.
 pub fn share_and_drop(
     client: &mut Client,
     pool: &SharedPool,
@@ -29,10 +29,10 @@ pub fn share_and_drop(
         return None;
     };
     let emptying = Calls::new(Dropping::new(client.me(), root));
-    let Reply::Done(Ok(zero)) = client.run(pool, emptying, life) else {
+    let Reply::Done(Ok(named)) = client.run(pool, emptying, life) else {
         return None;
     };
-    Some(zero)
+    Some(named)
 }
 
 /// Allocates a block, and shares it and drops that root again.

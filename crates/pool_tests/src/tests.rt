@@ -405,11 +405,11 @@ fn a_corpse_is_recovered_beside_a_client(rt: HostRuntime) -> Result<(), Fail> {
     Ok(())
 }
 
-/// Whether a client makes a block, and its count doesn't come to 0 as another root that names it is emptied.
+/// Whether a client makes a block, has another root name it, and empties that root, which named it.
 fn is_shared(pool: &SharedPool, token: Vacant) -> bool
     requires { token.of ≡ pool.now }
 {
-    visit_and_share(pool, token, 1_000) == Some(false)
+    visit_and_share(pool, token, 1_000) == Some(true)
 }
 
 #[test]

@@ -53,6 +53,12 @@ impl Made {
             written: Vec::new(alloc),
         }
     }
+
+    /// Whether both calls came to the same status, and wrote the same.
+    pub fn is_same(&self, other: &Made) -> bool {
+        self.outcome.status == other.outcome.status
+            && self.written.as_slice() == other.written.as_slice()
+    }
 }
 
 impl Call {

@@ -13,6 +13,8 @@
 //! | `again` | takes as input what the last call wrote |
 //! | `go` | makes a call, and tells its status and what it wrote, and then a point |
 //! | `sum` | makes a call, and tells its status, and how many bytes it wrote and their 64-bit FNV-1a sum |
+//! | `lives A B` | makes calls in whose input 1 to A stands for `N`: without anything for `M`, and with a space and 1 to B. Tells for each of the A what the first call came to, where that is new, and with how many of the B the others came to the same |
+//! | `want CALL` | makes a call of a library: `parse`, `replay` or `report` with the input, or `plain N G`, `shared N G` or `close N G` with a pool of N clients and G segments; and tells whether there was memory for it |
 //! | `words` | tells how many words the pool has that the last call handed out, and those that aren't 0, behind their addresses |
 //! | `answers` | tells the answers in the logs that it handed out, with the blocks that they name |
 //! | `args WORD ..` | tells the words of a call whose process has these |
@@ -25,9 +27,11 @@
 mod call;
 mod input;
 mod left;
+mod lives;
 mod process;
 mod reading;
 mod telling;
+mod wanting;
 
 use call::{Call, Made};
 use input::Input;
@@ -83,6 +87,8 @@ fn tell(rt: &HostRuntime, rows: &mut Rows, word: &str, rest: &str) -> io::Result
             rows.make(rt.alloc())?;
             telling::sum(rt, &rows.last)
         }
+        "lives" => lives::tell(rt, &rows.call, rows.input.bytes(), reading::pair(rest)),
+        "want" => wanting::tell(rt, rest, rows.input.bytes()),
         "words" => left::words(rt, &rows.last.outcome.finished),
         "answers" => left::answers(rt, &rows.last.outcome.finished),
         "args" => process::args(rt, rest),

@@ -1,5 +1,5 @@
 -- the words of a pool of format 1 in format 2, where its format is known
-use Rattle.std.proofs.Common.{◌≡◌, ℕ, ◌+◌, ◌-◌, ◌*◌, ◌<◌, ◌≤◌, true, false, List, get_or, ap, ◌∙◌, arith}
+use Rattle.std.proofs.Common.{◌≡◌, ℕ, ◌+◌, ◌<◌, ◌≤◌, true, false, List, ap, ◌∙◌, arith}
 use Rattle.shm_words.specs.declared.geometry.Geometry.{Geometry}
 use Rattle.shm_words.specs.Layout.{GeometryFits, total_of}
 use Rattle.shm_graph.specs.declared.spot.Spot.TheVariants.{Head}

@@ -1,13 +1,13 @@
 -- where the words of a pool of format 1 stand in format 2: behind the redo records each stands further on, by one for each client
-use Rattle.std.proofs.Common.{◌≡◌, ℕ, ◌+◌, ◌-◌, ◌*◌, ◌/◌, ◌%◌, ◌<◌, ◌≤◌, Bool, true, false, refl, sym, ap, subst, ◌∙◌, arith}
+use Rattle.std.proofs.Common.{◌≡◌, ℕ, ◌+◌, ◌-◌, ◌*◌, ◌<◌, ◌≤◌, Bool, true, false, refl, sym, ap, subst, ◌∙◌, arith}
 use Rattle.std.proofs.lemmas.Bool.Decides.{nat_tests}
 use Rattle.shm_words.specs.declared.geometry.Geometry.{Geometry}
 use Rattle.shm_words.specs.declared.place.Place.{Place}
 use Rattle.shm_words.specs.declared.place.Place.TheVariants as place
-use Rattle.shm_words.specs.Layout.{GeometryFits, address, place_at, total_of, eras, roots, queues, segments, pages, bodies, redo_place}
+use Rattle.shm_words.specs.Layout.{address, place_at, total_of, eras, roots, queues, segments, pages, bodies, redo_place}
 use Rattle.shm_words.proofs.Placing.{address-place}
 use Rattle.shm_graph.specs.declared.spot.Spot.{Spot}
-use Rattle.shm_graph.specs.declared.spot.Spot.TheVariants.{Spare, Status, Redo, RedoMore, Hold, Latch, Home, Era, Root, Tail, QueueHead, Slot, Segment, Page, Unused, Head, Tag, Body}
+use Rattle.shm_graph.specs.declared.spot.Spot.TheVariants.{Spare, Status, Redo, RedoMore, Unused, Head, Tag, Body}
 use Rattle.shm_graph.specs.Spots.{block_spot, spot_of, spot_at}
 use Rattle.shm_graph.proofs.Spots.WordsAt.{body_after}
 use Rattle.shm_migrate.specs.Widened.{wide_of}

@@ -8,5 +8,9 @@ pub mod Joining
 pub mod Seating
 pub mod Replied
 pub mod Driving
+pub mod Named
+pub mod Commanded
+pub mod Keeping
 pub mod Reading
 pub mod Rescuing
+pub mod Posting

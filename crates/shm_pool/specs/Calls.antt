@@ -116,3 +116,8 @@ pub record IsBetween (e : Account) : Type 0 where
 abbrev pub acts_still : Bool → Memo → Bool
 acts_still false m = true
 acts_still true m = if is_gone m.status then false else true
+
+-- a machine that was cut off isn't finished, and fits the memo that is left of the one that it began with
+pub record StillFits {M A : Type 0} (k : Control M A) (fits : M → Memo → Memo → Type 0) (m : M) (r0 r : Memo) : Type 0 where
+  pub going : k.finished m ≡ false
+  pub suits : fits m r0 r

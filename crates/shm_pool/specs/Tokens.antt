@@ -1,5 +1,5 @@
 -- pools and tokens as contracts see them
-use Rattle.std.specs.Prelude.{◌≡◌, zero, suc, ℕ, ◌<◌, ◌==◌, ◌&&◌, if◌then◌else◌, ◌⊎◌, Bool, true, false, List, [], ◌∷◌}
+use Rattle.std.specs.Prelude.{◌≡◌, zero, suc, ℕ, ◌<◌, ◌==◌, ◌&&◌, if◌then◌else◌, ◌⊎◌, Bool, true, false, List, [], ◌∷◌, Option}
 use Rattle.atomic_table.specs.Seated.{TableId}
 use Rattle.atomic_table.specs.declared.shared.Seat.{Seat}
 use Rattle.shm_words.specs.Layout.{GeometryFits}
@@ -15,6 +15,7 @@ use Rattle.shm_graph.specs.Clean.{IsClean}
 use Rattle.shm_graph.specs.Spots.{see}
 use Rattle.shm_graph.specs.Laws.{Control}
 use Rattle.shm_graph.specs.Runs.{Held, Leads, state, first_state, first_account, account_at, account_died, account_entered, Stood}
+use Rattle.shm_script.specs.declared.log.Answer.{Answer}
 use Rattle.shm_pool.specs.Rules.{alone, IsAlone, no_account}
 
 -- which pool it is: its table, and what it was made of
@@ -27,11 +28,12 @@ pub record Token : Type 0 where
   pub of : Its
   pub account : Account
 
--- a token of a client, and whether a call of it has died
+-- a token of a client, whether a call of it has died, and what that showed of its answer, where it was a command
 pub record Acting : Type 0 where
   pub of : Its
   pub account : Account
   pub dead : Bool
+  pub effect : Option Answer
 
 -- the pool of this table
 abbrev pub its : TableId → Start → Its
@@ -77,8 +79,8 @@ abbrev pub token_of : Start → Seat (Unit {0}) (List Account) → Token
 token_of start s = record { of = its s.table_id start; account = alone s }
 
 -- and that of a client
-abbrev pub acting_of : Start → Bool → Seat (Unit {0}) (List Account) → Acting
-acting_of start dead s = record { of = its s.table_id start; account = alone s; dead = dead }
+abbrev pub acting_of : Start → Bool → Option Answer → Seat (Unit {0}) (List Account) → Acting
+acting_of start dead effect s = record { of = its s.table_id start; account = alone s; dead = dead; effect = effect }
 
 -- the seat answers for the identity c alone, and its account is one of a Held state of the pool
 pub record IsSeated (start : Start) (c : ℕ) (s : Seat (Unit {0}) (List Account)) : Type 0 where

@@ -84,6 +84,7 @@ impl Client {
             start,
             who,
             dead,
+            effect: _,
         } = self;
         if dead {
             return Err(stop(place, start, who, true, Cause::Died));
@@ -132,6 +133,7 @@ impl Client {
             start,
             who,
             dead,
+            effect,
         } = self;
         let at = start.geometry.status(who);
         if load_status(pool.top(), &mut place, at) == 3 {
@@ -142,6 +144,7 @@ impl Client {
                 start,
                 who,
                 dead,
+                effect,
             })
         }
     }

@@ -12,7 +12,7 @@ ghost use Rattle.shm_graph.specs.Laws.{is_died, is_done, is_some};
 ghost use Rattle.shm_graph.specs.Runs.{MayBegin, account_died, account_entered, Stood};
 ghost use Rattle.shm_graph.specs.Whole.{fits_now, gives_now};
 ghost use Rattle.shm_pool.specs.Rules.{IsOf, IsAlone, alone, Told, Follows};
-ghost use Rattle.shm_pool.specs.Calls.{ClientStepped, Drives, Tells, acts_still};
+ghost use Rattle.shm_pool.specs.Calls.{ClientStepped, Drives, Tells, acts_still, StillFits};
 ghost use Rattle.shm_pool.specs.Tokens.{has_left};
 
 use crate::rule::{ClientBegins, Dies, Place, ReadsStatus, RecovererBegins, Say, Says, Top};
@@ -97,6 +97,7 @@ pub(crate) fn run_place<M: Machine>(
     ensures place { (place.new.table_id ≡ place.old.table_id) × (place.new.id ≡ place.old.id) × IsAlone place.new }
     ensures stood { Stood top.now.key (alone place.new) }
     ensures call { Drives M.control M.fits m.old m.new (alone place.old) (alone place.new) (is_some result) life.old.left life.new.left }
+    ensures cut { IsNone result → StillFits M.control (fits_now M.control M.fits) m.new (alone place.old).memo (alone place.new).memo }
     ensures told { M.control.fresh m.old ≡ true → IfSome result (λ _. Tells (M.control.line m.old) (alone place.old) (alone place.new)) }
     ensures spent { IsNone result → life.new.left ≡ 0 }
     ensures gives { IfSome result (gives_now M.gives m.old (alone place.old).memo (alone place.new).memo) }

@@ -9,9 +9,9 @@ ghost use Rattle.shm_graph.specs.Core.{core};
 ghost use Rattle.shm_graph.specs.Laws.{is_died};
 ghost use Rattle.shm_graph.specs.Runs.{account_entered, Stood};
 ghost use Rattle.shm_graph.specs.Whole.{fits_now, gives_now};
-ghost use Rattle.shm_recover.specs.Join.{JoinGives, join_fresh, join_line};
+ghost use Rattle.shm_recover.specs.Join.{JoinGives, join_control, join_fresh, join_line};
 ghost use Rattle.shm_pool.specs.declared.token.Cause.TheVariants as cause;
-ghost use Rattle.shm_pool.specs.Calls.{ClientStepped, Drives, IsBetween, Tells};
+ghost use Rattle.shm_pool.specs.Calls.{Calls, ClientStepped, Drives, IsBetween, Tells, StillFits, shown};
 ghost use Rattle.shm_pool.specs.Doing.{HasDone};
 ghost use Rattle.shm_pool.specs.Tokens.{has_left, me_of, live, IsFor, IsOut, IsServing};
 ghost use Rattle.shm_pool.specs.Replies.{IsLost, IfReply, is_reply};
@@ -24,6 +24,7 @@ use crate::rule::Place;
 use crate::steps::{note_client, run_place, step_place};
 use shm_graph::{Life, Machine, Me, Operation, Start, Turn};
 use shm_recover::Join;
+use shm_script::Answer;
 use std::marker::Model;
 
 /// An identity with no agent.
@@ -52,17 +53,20 @@ pub struct Client {
     pub(crate) start: Start,
     pub(crate) who: u8,
     pub(crate) dead: bool,
+    /// What the command in which it died was going to answer, where its deciding step was made.
+    pub(crate) effect: Option<Answer>,
 }
 
 impl Model for Client {
+    ghost use Rattle.std.specs.Prelude.{◌≡◌, false, None};
     ghost use Rattle.shm_pool.specs.Rules.{alone};
     ghost use Rattle.shm_pool.specs.Tokens.{Acting, acting_of, IsSeated, IsServing};
 
     ghost Value = { Acting };
 
-    ghost view = { λ t. acting_of t.start t.dead t.place };
+    ghost view = { λ t. acting_of t.start t.dead t.effect t.place };
 
-    ghost invariant = { λ t. IsSeated t.start t.who t.place × IsServing t.dead (alone t.place).memo };
+    ghost invariant = { λ t. IsSeated t.start t.who t.place × IsServing t.dead (alone t.place).memo × (t.dead ≡ false → t.effect ≡ None) };
 }
 
 /// An identity whose agent has fallen, or never took a step.
@@ -126,6 +130,7 @@ impl Vacant {
         ensures gives { IfOk result (λ c. JoinGives (join_fresh (me_of self.of self.account)) (account_entered AClient self.account).memo c.account.memo c.account.memo.call tt) }
         ensures stood { IfOk result (λ c. Stood c.of.start c.account) }
         ensures told { IfOk result (λ c. Tells join_line (account_entered AClient self.account) c.account) }
+        ensures call { IfOk result (λ c. Calls (shown join_control (join_fresh (me_of self.of self.account))) (account_entered AClient self.account) c.account true life.old.left life.new.left) }
         ensures keeps { IfOk result (λ c. core c.account.memo ≡ core (live self.account.memo)) }
         ensures leaves { IfOk result (λ c. ClientMayLeave c.of c.account) }
         ensures err { IfErr result (λ s. (s.cause ≡ cause.Died) × (s.corpse.of ≡ self.of) × (s.corpse.account.who ≡ self.account.who) × (life.new.left ≡ 0)) }
@@ -147,6 +152,7 @@ impl Vacant {
                 start,
                 who,
                 dead: false,
+                effect: None,
             }),
             None => Err(stop(place, start, who, true, Cause::Died)),
         }
@@ -190,6 +196,7 @@ impl Client {
         ensures stood { Stood self.new.of.start self.new.account }
         ensures died { is_died result ≡ true ↔ ((life.old.left ≡ 0) ⊎ (self.old.dead ≡ true)) }
         ensures stays { is_died result ≡ true → (self.new.account ≡ self.old.account) × (m.new ≡ m.old) × (life.new ≡ life.old) × (self.new.dead ≡ true) }
+        ensures effect { self.new.effect ≡ self.old.effect }
         ensures turn { (0 < life.old.left) → (self.old.dead ≡ false) → (life.new.left + 1 ≡ life.old.left) × (self.new.dead ≡ false) × ClientStepped M.control (fits_now M.control M.fits) (gives_now M.gives) m.old self.old.account self.new.account result m.new }
     {
         if self.dead {
@@ -223,6 +230,8 @@ impl Client {
         ensures call { self.old.dead ≡ false → Drives M.control M.fits m.old m.new self.old.account self.new.account (is_reply result) life.old.left life.new.left }
         ensures told { M.control.fresh m.old ≡ true → IfReply result (λ _. Tells (M.control.line m.old) self.old.account self.new.account) }
         ensures gives { IfReply result (gives_now M.gives m.old self.old.account.memo self.new.account.memo) }
+        ensures cut { self.old.dead ≡ false → IsLost result → StillFits M.control (fits_now M.control M.fits) m.new self.old.account.memo self.new.account.memo }
+        ensures effect { self.new.effect ≡ self.old.effect }
     {
         if self.dead {
             return Reply::Died;
@@ -249,10 +258,30 @@ impl Client {
         requires me { O.control.me operation ≡ me_of self.old.of self.old.account }
         requires may { self.old.dead ≡ false → O.may operation self.old.account.memo }
         ensures done { HasDone O.control O.does O.leaves O.rests operation self.old self.new life.old.left life.new.left result }
+        ensures effect { self.new.effect ≡ self.old.effect }
+    {
+        self.run_on(pool, &mut operation, life)
+    }
+
+    /// Runs an operation so, and leaves it where it is.
+    pub(crate) fn run_on<O: Operation>(
+        &mut self,
+        pool: &SharedPool,
+        operation: &mut O,
+        life: &mut Life,
+    ) -> Reply<O::Answer>
+        requires pool { self.old.of ≡ pool.now }
+        requires between { self.old.dead ≡ false → IsBetween self.old.account }
+        requires me { O.control.me operation.old ≡ me_of self.old.of self.old.account }
+        requires may { self.old.dead ≡ false → O.may operation.old self.old.account.memo }
+        ensures done { HasDone O.control O.does O.leaves O.rests operation.old self.old self.new life.old.left life.new.left result }
+        ensures driven { self.old.dead ≡ false → Drives O.control O.fits operation.old operation.new self.old.account self.new.account (is_reply result) life.old.left life.new.left }
+        ensures cut { self.old.dead ≡ false → IsLost result → StillFits O.control (fits_now O.control O.fits) operation.new self.old.account.memo self.new.account.memo }
+        ensures effect { self.new.effect ≡ self.old.effect }
     {
         // for the proof: the account stood
         self.client();
-        self.drive(pool, &mut operation, life)
+        self.drive(pool, operation, life)
     }
 
     /// The agent is dead: its death is noted before the next one begins.
@@ -265,6 +294,7 @@ impl Client {
             start,
             who,
             dead: _,
+            effect: _,
         } = self;
         Corpse {
             place,

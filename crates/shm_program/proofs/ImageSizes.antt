@@ -8,6 +8,8 @@ use Rattle.shm_audit.specs.declared.fault.ImageFault.{ImageFault}
 use Rattle.shm_audit.specs.declared.fault.ImageFault.TheVariants as fault
 use Rattle.shm_audit.specs.Images.{geometry_in, marks, numbers_in, words_in}
 use Rattle.shm_audit.specs.Faults.{frame_fault_of, image_fault_of, image_len, is_size, words_fault_of}
+use Rattle.shm_audit.specs.declared.verdict.Verdict.{Verdict}
+use Rattle.shm_migrate.specs.Migrations.{refusal, refusal_of, verdict_in}
 use Rattle.std.specs.Option.{option_or}
 
 first_none : (a b : Option ImageFault) → option_or a b ≡ None → a ≡ None
@@ -40,3 +42,11 @@ image_short bytes none =
     let most : total_of g ≤ 16523169 = total_most_wide g (size_fits g (holds (is_size g) c.0)) in
     let long : length bytes ≡ 24 + 8 * total_of g = same (length bytes) (image_len g) (holds (eqb (length bytes) (image_len g)) d.0) in
     omega (arith, long, most)
+
+-- what is migrated has no fault
+refused_fault : (fault : Option ImageFault) (wide : Bool) (verdict : Verdict) → refusal fault wide verdict ≡ None → fault ≡ None
+refused_fault None wide verdict e = refl
+refused_fault (Some f) wide verdict e = absurd cc
+
+pub unrefused : (bytes : List ℕ) → refusal_of bytes ≡ None → image_fault_of bytes ≡ None
+unrefused bytes e = refused_fault (image_fault_of bytes) (geometry_in bytes).wide (verdict_in bytes) e

@@ -10,3 +10,4 @@ pub mod ProgramWords
 pub mod LoggedClients
 pub mod SameTexts
 pub mod SameCalls
+pub mod Fronts

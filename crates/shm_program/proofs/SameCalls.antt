@@ -4,11 +4,11 @@ use Rattle.std.proofs.lemmas.List.{take_all}
 use Rattle.std.specs.Prelude.{Option, Some, None}
 use Rattle.shm_program.specs.declared.outcome.Finished.{Finished}
 use Rattle.shm_program.specs.declared.words.Job.{Job}
-use Rattle.shm_program.specs.declared.words.Job.TheVariants.{Replay, Print, Audit, Make, Draw}
+use Rattle.shm_program.specs.declared.words.Job.TheVariants.{Replay, Print, Audit, Migrate, Make, Draw}
 use Rattle.shm_program.specs.Outcomes.{Asks, Decided, Done, IsDone, IsFaulty, Refused}
 use Rattle.shm_program.specs.Reads.{Reads, ReadsLimit, limit_of}
 use Rattle.shm_program.specs.Words.{job_of}
-use Rattle.shm_program.proofs.ImageSizes.{image_short}
+use Rattle.shm_program.proofs.ImageSizes.{image_short, unrefused}
 use Rattle.shm_program.proofs.SameTexts.{done_or_faulty, done_same, faulty_same}
 use Rattle.shm_program.proofs.TopAnswers.{same_job}
 
@@ -17,19 +17,21 @@ all_of : (limit : ℕ) (left bytes : List ℕ) → bytes ≡ left → length byt
 all_of limit left bytes e few = e ∙ sym (take_all limit left (subst (λ (xs : List ℕ). length xs ≤ limit) e few))
 
 -- what was done was done with the bytes up to the limit
-done_bytes : (job : Job) (left bytes : List ℕ) (after : Option (List ℕ)) (one : Finished) (x : List ℕ) → Reads job (Some left) after bytes → IsDone job bytes one x → bytes ≡ take (limit_of job) left
+pub done_bytes : (job : Job) (left bytes : List ℕ) (after : Option (List ℕ)) (one : Finished) (x : List ℕ) → Reads job (Some left) after bytes → IsDone job bytes one x → bytes ≡ take (limit_of job) left
 done_bytes (Replay form) left bytes after one x r (t, a, h) = all_of 1048577 left bytes r.0 (let short = a.short in omega (arith, short))
 done_bytes Print left bytes after one x r (t, a, h) = all_of 1048577 left bytes r.0 (let short = a.short in omega (arith, short))
 done_bytes Audit left bytes after one x r h = all_of 132185377 left bytes r.0 (let short = image_short bytes h.faultless in omega (arith, short))
+done_bytes Migrate left bytes after one x r h = all_of 132185377 left bytes r.0 (let short = image_short bytes (unrefused bytes h.allowed) in omega (arith, short))
 done_bytes (Make start size) left bytes after one x r h = r.0
 done_bytes (Draw start size) left bytes after one x r h = r.0
 
 -- and so was what was refused
-refused_bytes : (job : Job) (left bytes x : List ℕ) (after : Option (List ℕ)) → length bytes ≤ limit_of job → Reads job (Some left) after bytes ⊎ ReadsLimit (limit_of job) (Some left) after bytes → IsFaulty job bytes x → bytes ≡ take (limit_of job) left
+pub refused_bytes : (job : Job) (left bytes x : List ℕ) (after : Option (List ℕ)) → length bytes ≤ limit_of job → Reads job (Some left) after bytes ⊎ ReadsLimit (limit_of job) (Some left) after bytes → IsFaulty job bytes x → bytes ≡ take (limit_of job) left
 refused_bytes job left bytes x after few (inr r) f = r.1.0
 refused_bytes (Replay form) left bytes x after few (inl r) f = all_of 1048577 left bytes r.0 few
 refused_bytes Print left bytes x after few (inl r) f = all_of 1048577 left bytes r.0 few
 refused_bytes Audit left bytes x after few (inl r) f = all_of 132185377 left bytes r.0 few
+refused_bytes Migrate left bytes x after few (inl r) f = all_of 132185377 left bytes r.0 few
 refused_bytes (Make start size) left bytes x after few (inl r) f = absurd f
 refused_bytes (Draw start size) left bytes x after few (inl r) f = absurd f
 

@@ -7,10 +7,10 @@ use Rattle.shm_script.specs.Values.{Traced}
 use Rattle.shm_script.proofs.Complete.{faultless}
 use Rattle.shm_program.specs.declared.outcome.Finished.{Finished}
 use Rattle.shm_program.specs.declared.words.Job.{Job}
-use Rattle.shm_program.specs.declared.words.Job.TheVariants.{Replay, Print, Audit, Make, Draw}
+use Rattle.shm_program.specs.declared.words.Job.TheVariants.{Replay, Print, Audit, Migrate, Make, Draw}
 use Rattle.shm_program.specs.Outcomes.{Answers, Done, IsDone, IsFaulty, IsInput, Refused, Spells}
 use Rattle.shm_program.specs.Reads.{Reads, ReadsAll, ReadsLimit, input_of, limit_of}
-use Rattle.shm_program.proofs.ImageSizes.{image_short}
+use Rattle.shm_program.proofs.ImageSizes.{image_short, unrefused}
 use Rattle.shm_program.proofs.TopReads.{read_same, reads, reads_all, reads_none}
 
 -- ---- what was read for an answer
@@ -23,6 +23,7 @@ done_input : (job : Job) (bytes : List ℕ) (finished : Finished) (text : List �
 done_input (Replay form) bytes finished text d = is_text bytes d.0 d.1
 done_input Print bytes finished text d = is_text bytes d.0 d.1
 done_input Audit bytes finished text d = d.faultless
+done_input Migrate bytes finished text d = d.allowed
 done_input (Make start size) bytes finished text d = tt
 done_input (Draw start size) bytes finished text d = tt
 
@@ -31,6 +32,7 @@ done_read : (job : Job) (before after : Option (List ℕ)) (bytes : List ℕ) �
 done_read (Replay form) before after bytes t few input = let short : length bytes ≤ 1048576 = input.0 in reads_all 1048577 before after bytes t (omega (arith, short))
 done_read Print before after bytes t few input = let short : length bytes ≤ 1048576 = input.0 in reads_all 1048577 before after bytes t (omega (arith, short))
 done_read Audit before after bytes t few input = reads_all 132185377 before after bytes t (image_short bytes input)
+done_read Migrate before after bytes t few input = reads_all 132185377 before after bytes t (image_short bytes (unrefused bytes input))
 done_read (Make start size) before after bytes t few input = reads_none before after bytes t few
 done_read (Draw start size) before after bytes t few input = reads_none before after bytes t few
 
@@ -39,6 +41,7 @@ any_read : (job : Job) (before after : Option (List ℕ)) (bytes : List ℕ) →
 any_read (Replay form) before after bytes t few = reads 1048577 before after bytes t few
 any_read Print before after bytes t few = reads 1048577 before after bytes t few
 any_read Audit before after bytes t few = reads 132185377 before after bytes t few
+any_read Migrate before after bytes t few = reads 132185377 before after bytes t few
 any_read (Make start size) before after bytes t few = inl (reads_none before after bytes t few)
 any_read (Draw start size) before after bytes t few = inl (reads_none before after bytes t few)
 
@@ -74,6 +77,7 @@ no_fault : (job : Job) (bytes text : List ℕ) → IsInput job bytes → IsFault
 no_fault (Replay form) bytes text input f = some_none f.0 (sym f.1 ∙ faultless bytes input)
 no_fault Print bytes text input f = some_none f.0 (sym f.1 ∙ faultless bytes input)
 no_fault Audit bytes text input f = some_none f.0 (sym f.1 ∙ input)
+no_fault Migrate bytes text input f = some_none f.0 (sym f.1 ∙ input)
 no_fault (Make start size) bytes text input f = f
 no_fault (Draw start size) bytes text input f = f
 
@@ -91,6 +95,9 @@ input_read Print before after bytes read text left input r refused =
 input_read Audit before after bytes read text left input r refused =
     let same = read_same 132185377 before after read bytes left (image_short bytes input) r in
     no_fault Audit bytes text input (subst (λ (xs : List ℕ). IsFaulty Audit xs text) same refused)
+input_read Migrate before after bytes read text left input r refused =
+    let same = read_same 132185377 before after read bytes left (image_short bytes (unrefused bytes input)) r in
+    no_fault Migrate bytes text input (subst (λ (xs : List ℕ). IsFaulty Migrate xs text) same refused)
 input_read (Make start size) before after bytes read text left input r refused = refused
 input_read (Draw start size) before after bytes read text left input r refused = refused
 
@@ -109,6 +116,7 @@ done_all : (job : Job) (before after : Option (List ℕ)) (bytes read text : Lis
 done_all (Replay form) before after bytes read text left r input f = no_fault (Replay form) bytes text (subst (λ (xs : List ℕ). IsInput (Replay form) xs) (read_all before after bytes read left r) input) f
 done_all Print before after bytes read text left r input f = no_fault Print bytes text (subst (λ (xs : List ℕ). IsInput Print xs) (read_all before after bytes read left r) input) f
 done_all Audit before after bytes read text left r input f = no_fault Audit bytes text (subst (λ (xs : List ℕ). IsInput Audit xs) (read_all before after bytes read left r) input) f
+done_all Migrate before after bytes read text left r input f = no_fault Migrate bytes text (subst (λ (xs : List ℕ). IsInput Migrate xs) (read_all before after bytes read left r) input) f
 done_all (Make start size) before after bytes read text left r input f = f
 done_all (Draw start size) before after bytes read text left r input f = f
 

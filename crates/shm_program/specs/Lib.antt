@@ -5,3 +5,4 @@ pub mod Replays
 pub mod Outcomes
 pub mod Commands
 pub mod Runs
+pub mod Streams

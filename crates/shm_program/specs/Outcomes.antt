@@ -6,6 +6,8 @@ use Rattle.shm_audit.specs.Images.{geometry_in, words_in}
 use Rattle.shm_audit.specs.Texts.{fault_line as image_fault_line, verdict_line}
 use Rattle.shm_audit.specs.Verdicts.{verdict_of}
 use Rattle.shm_graph.specs.Spots.{see}
+use Rattle.shm_migrate.specs.declared.stop.MigrateStop.{MigrateStop}
+use Rattle.shm_migrate.specs.Migrations.{migrated, refusal_of, stop_line}
 use Rattle.shm_io.specs.Faults.{NoFault, Rose}
 use Rattle.shm_io.specs.Reading.{LosesFront}
 use Rattle.shm_io.specs.Writing.{Appends, AppendsFront}
@@ -23,11 +25,11 @@ use Rattle.shm_program.specs.declared.outcome.Finished.{Finished}
 use Rattle.shm_program.specs.declared.outcome.Finished.TheVariants.{Neither}
 use Rattle.shm_program.specs.declared.words.Form.TheVariants.{Summary}
 use Rattle.shm_program.specs.declared.words.Job.{Job}
-use Rattle.shm_program.specs.declared.words.Job.TheVariants.{Replay, Print, Audit, Make, Draw}
+use Rattle.shm_program.specs.declared.words.Job.TheVariants.{Replay, Print, Audit, Migrate, Make, Draw}
 
 -- the line that is written where the words aren't accepted
 abbrev pub usage_text : List ℕ
-usage_text = codes "usage: cxlshm replay [--image|--print] | audit | make START SIZE [--print]\n"
+usage_text = codes "usage: cxlshm replay [--image|--print] | audit | make START SIZE [--print] | migrate\n"
 
 -- ---- what a job is asked for
 
@@ -37,9 +39,10 @@ pub record Spells (bytes : List ℕ) (t : Traced) : Type 0 where
   pub short : length bytes ≤ 1048576
   pub text : bytes ≡ text_of t
 
--- the bytes are a trace, or an image without a fault; a job that draws its trace needs none
+-- the bytes are a trace, an image without a fault, or one that nothing stands against migrating; a job that draws its trace needs none
 abbrev pub IsInput : Job → List ℕ → Type 0
 IsInput Audit bytes = image_fault_of bytes ≡ None
+IsInput Migrate bytes = refusal_of bytes ≡ None
 IsInput (Make start size) bytes = Unit {0}
 IsInput (Draw start size) bytes = Unit {0}
 IsInput _ bytes = IsTraceText bytes
@@ -56,17 +59,25 @@ pub record IsAudited (bytes : List ℕ) (finished : Finished) (text : List ℕ) 
   pub faultless : image_fault_of bytes ≡ None
   pub verdict : let g = geometry_in bytes in text ≡ verdict_line (verdict_of g (see g (words_in bytes)))
 
+-- the bytes are a clean image of format 1, and the text is the image of its pool in format 2
+pub record IsMigrated (bytes : List ℕ) (finished : Finished) (text : List ℕ) : Type 0 where
+  pub kept : finished ≡ Neither
+  pub allowed : refusal_of bytes ≡ None
+  pub image : text ≡ migrated bytes
+
 -- what was asked for was done with these bytes
 abbrev pub IsDone : Job → List ℕ → Finished → List ℕ → Type 0
 IsDone (Replay form) bytes finished text = (t : Traced) × Spells bytes t × IsTold form t finished text
 IsDone Print bytes finished text = (t : Traced) × Spells bytes t × IsPrinted t finished text
 IsDone Audit bytes finished text = IsAudited bytes finished text
+IsDone Migrate bytes finished text = IsMigrated bytes finished text
 IsDone (Make start size) bytes finished text = IsTold Summary (drawn_trace start size) finished text
 IsDone (Draw start size) bytes finished text = IsPrinted (drawn_trace start size) finished text
 
--- the bytes are no trace, or no image, and the line names their first fault
+-- the bytes are no trace, or no image, and the line names their first fault; or it names what stands against their migration
 abbrev pub IsFaulty : Job → List ℕ → List ℕ → Type 0
 IsFaulty Audit bytes text = (fault : ImageFault) × (image_fault_of bytes ≡ Some fault) × (text ≡ image_fault_line fault)
+IsFaulty Migrate bytes text = (stop : MigrateStop) × (refusal_of bytes ≡ Some stop) × (text ≡ stop_line stop)
 IsFaulty (Make start size) bytes text = ⊥
 IsFaulty (Draw start size) bytes text = ⊥
 IsFaulty _ bytes text = (fault : TraceFault) × (fault_of bytes ≡ Some fault) × (text ≡ fault_line fault)

@@ -1,11 +1,12 @@
 -- which bytes a job reads
 use Rattle.std.specs.Prelude.{◌≡◌, ℕ, List, [], length, take, drop, Option, Some, None, MatchOption}
 use Rattle.shm_program.specs.declared.words.Job.{Job}
-use Rattle.shm_program.specs.declared.words.Job.TheVariants.{Audit, Make, Draw}
+use Rattle.shm_program.specs.declared.words.Job.TheVariants.{Audit, Migrate, Make, Draw}
 
 -- how many bytes are read at most: one more than a trace, or an image, may have, and none where the trace is drawn
 abbrev pub limit_of : Job → ℕ
 limit_of Audit = 132185377
+limit_of Migrate = 132185377
 limit_of (Make start size) = 0
 limit_of (Draw start size) = 0
 limit_of _ = 1048577

@@ -7,7 +7,7 @@ use Rattle.clap.specs.declared.parser.matches.ArgMatches.{ArgMatches}
 use Rattle.shm_script.specs.Numbers.{is_numeral, small, value_after}
 use Rattle.shm_program.specs.declared.words.Form.TheVariants.{Report, Image}
 use Rattle.shm_program.specs.declared.words.Job.{Job}
-use Rattle.shm_program.specs.declared.words.Job.TheVariants.{Replay, Print, Audit, Make, Draw}
+use Rattle.shm_program.specs.declared.words.Job.TheVariants.{Replay, Print, Audit, Migrate, Make, Draw}
 use Rattle.shm_program.specs.declared.words.Name.{Name}
 use Rattle.shm_program.specs.declared.words.Name.TheVariants as name
 
@@ -28,6 +28,10 @@ replay_command = with_rule (with_rule (new_app (codes "replay")) (flag (codes "i
 -- `audit` has nothing but what each command has
 abbrev pub audit_command : App
 audit_command = new_app (codes "audit")
+
+-- and so has `migrate`
+abbrev pub migrate_command : App
+migrate_command = new_app (codes "migrate")
 
 -- `make` has two words and a flag
 abbrev pub make_command : App
@@ -72,6 +76,9 @@ replay_in rows = replay_of (is_true (first_of (codes "image") rows)) (is_true (f
 abbrev pub audit_in : List Row → Option Job
 audit_in rows = Some Audit
 
+abbrev pub migrate_in : List Row → Option Job
+migrate_in rows = Some Migrate
+
 -- how many commands a drawn script may have
 abbrev pub is_size : ℕ → Bool
 is_size n = nat_le 1 n && nat_le n 4000
@@ -98,12 +105,14 @@ name_of word =
     if bytes_eq word (codes "replay") then Some name.Replay
     else if bytes_eq word (codes "audit") then Some name.Audit
     else if bytes_eq word (codes "make") then Some name.Make
+    else if bytes_eq word (codes "migrate") then Some name.Migrate
     else None
 
 abbrev pub job_by : Name → List (List ℕ) → Option Job
 job_by name.Replay words = asked replay_command replay_in words
 job_by name.Audit words = asked audit_command audit_in words
 job_by name.Make words = asked make_command make_in words
+job_by name.Migrate words = asked migrate_command migrate_in words
 
 -- what the words ask for: the first one names the command, and nothing where it names none
 abbrev pub job_of : List (List ℕ) → Option Job

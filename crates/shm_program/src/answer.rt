@@ -13,6 +13,7 @@ use crate::refusals::fault_line;
 use crate::telling::tell;
 use crate::words::{Form, Job};
 use shm_audit::{AuditStop, audit, fault_text, verdict_text};
+use shm_migrate::{MigrateStop, migrate, stop_text};
 use shm_script::{ParseStop, Trace, generate, parse, print};
 use std::alloc::{AllocError, Global};
 
@@ -39,6 +40,7 @@ pub fn answer(alloc: Global, job: Job, bytes: &[u8]) -> Result<Reply, AllocError
             Err(stop) => refuse(alloc, stop),
         },
         Job::Audit => audit_of(alloc, bytes),
+        Job::Migrate => migration_of(alloc, bytes),
         Job::Make { start, size } => tell(alloc, &generate(alloc, start, size)?, Form::Summary),
         Job::Draw { start, size } => print_of(alloc, &generate(alloc, start, size)?),
     }
@@ -84,5 +86,16 @@ fn audit_of(alloc: Global, image: &[u8]) -> Result<Reply, AllocError>
         Ok(verdict) => Ok(plain(0, verdict_text(alloc, &verdict)?)),
         Err(AuditStop::Fault(fault)) => Ok(plain(3, fault_text(alloc, &fault)?)),
         Err(AuditStop::Memory(error)) => Err(error),
+    }
+}
+
+/// The image in format 2, or what stands against the migration.
+fn migration_of(alloc: Global, image: &[u8]) -> Result<Reply, AllocError>
+    ensures { IfOk result (λ r. Answers Job.Migrate image.now r.status r.finished r.text.items) }
+{
+    match migrate(alloc, image) {
+        Ok(migrated) => Ok(plain(0, migrated)),
+        Err(MigrateStop::Memory(error)) => Err(error),
+        Err(stop) => Ok(plain(3, stop_text(alloc, &stop)?)),
     }
 }

@@ -11,6 +11,7 @@ pub mod image_laws;
 pub mod laws;
 pub mod outcome;
 mod refusals;
+pub mod stream_laws;
 mod telling;
 pub mod top;
 pub mod words;

@@ -19,13 +19,16 @@ const TRACE_LIMIT: usize = 1_048_577;
 /// One byte more than the image of the largest pool has, which is of format 2.
 const IMAGE_LIMIT: usize = 132_185_377;
 
-const USAGE: &str = "usage: cxlshm replay [--image|--print] | audit | make START SIZE [--print]\n";
+const USAGE: &str =
+    "usage: cxlshm replay [--image|--print] | audit | make START SIZE [--print] | migrate\n";
 
 /// Does what the words say.
 ///
 /// - `replay` reads a trace to its end, replays it, closes the pool and writes the report; `replay --image` writes the image of the closed
 ///   pool; `replay --print` writes the trace as it is printed, without a replay.
 /// - `audit` reads an image to its end and writes the verdict on it. Each verdict has status 0.
+/// - `migrate` reads an image of format 1 to its end, whose verdict must be that its pool is clean, and writes the image of that pool in
+///   format 2.
 /// - `make START SIZE` reads nothing. It replays the trace that is drawn from START, 0 to 2^64 - 1, with SIZE commands, 1 to 4,000, for each
 ///   of four clients, and writes the summary; with `--print` it writes that trace, without a replay.
 ///
@@ -68,7 +71,7 @@ fn limit_of(job: Job) -> usize
 {
     match job {
         Job::Replay(_) | Job::Print => TRACE_LIMIT,
-        Job::Audit => IMAGE_LIMIT,
+        Job::Audit | Job::Migrate => IMAGE_LIMIT,
         Job::Make { .. } | Job::Draw { .. } => 0,
     }
 }

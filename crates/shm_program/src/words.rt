@@ -4,7 +4,7 @@ ghost use Rattle.std.specs.Prelude.{◌≡◌, ◌≢◌, ◌∷◌, [], true, f
 ghost use Rattle.std.specs.String.{string_bytes};
 ghost use Rattle.clap.specs.Words.{app_of, first_value, found_of, is_simple_and_free};
 ghost use Rattle.shm_script.specs.Numbers.{is_numeral, leads_well};
-ghost use Rattle.shm_program.specs.Words.{JobFits, NamesCommand, asked, audit_command, audit_in, is_true, job_by, job_of, make_command, make_in, make_of, name_of, number_in, read_by, replay_command, replay_in, replay_of, rows_in};
+ghost use Rattle.shm_program.specs.Words.{JobFits, NamesCommand, asked, audit_command, audit_in, is_true, job_by, job_of, make_command, make_in, make_of, migrate_command, migrate_in, name_of, number_in, read_by, replay_command, replay_in, replay_of, rows_in};
 
 use clap::error::ErrorKind;
 use clap::{Arg, ArgAction, ArgMatches, Command};
@@ -30,6 +30,8 @@ pub enum Job {
     Print,
     /// `audit`: an image is read, and the verdict on it is written.
     Audit,
+    /// `migrate`: an image of format 1 is read, and that of its pool in format 2 is written.
+    Migrate,
     /// `make START SIZE`: the trace that is drawn from START, with SIZE commands, 1 to 4,000, for each client, is replayed.
     Make { start: u64, size: u32 },
     /// `make START SIZE --print`: that trace is written.
@@ -42,6 +44,7 @@ pub enum Name {
     Replay,
     Audit,
     Make,
+    Migrate,
 }
 
 /// What the words ask for, and nothing where they aren't accepted.
@@ -71,6 +74,8 @@ fn name_of(word: &str) -> Option<Name>
         Some(Name::Audit)
     } else if word == "make" {
         Some(Name::Make)
+    } else if word == "migrate" {
+        Some(Name::Migrate)
     } else {
         None
     }
@@ -85,6 +90,7 @@ fn job_by(alloc: Global, name: Name, words: &[String]) -> Result<Option<Job>, Al
         Name::Replay => replay_job(alloc, words),
         Name::Audit => audit_job(alloc, words),
         Name::Make => make_job(alloc, words),
+        Name::Migrate => migrate_job(alloc, words),
     }
 }
 
@@ -134,6 +140,18 @@ fn audit_job(alloc: Global, words: &[String]) -> Result<Option<Job>, AllocError>
     let command = Command::new(alloc, "audit");
     match read(command, words)? {
         Some(_) => Ok(Some(Job::Audit)),
+        None => Ok(None),
+    }
+}
+
+/// What the words of `migrate` ask for.
+fn migrate_job(alloc: Global, words: &[String]) -> Result<Option<Job>, AllocError>
+    ensures job { IfOk result (λ job. job ≡ asked migrate_command migrate_in (map string_bytes words.now)) }
+    ensures fits { IfOk result (λ job. IfSome job JobFits) }
+{
+    let command = Command::new(alloc, "migrate");
+    match read(command, words)? {
+        Some(_) => Ok(Some(Job::Migrate)),
         None => Ok(None),
     }
 }
@@ -245,6 +263,8 @@ pub fn words_of_jobs()
     ensures more { job_of (codes "replay" ∷ codes "replay" ∷ []) ≡ None }
     ensures audit { job_of (codes "audit" ∷ []) ≡ Some Job.Audit }
     ensures audit_more { job_of (codes "audit" ∷ codes "--print" ∷ []) ≡ None }
+    ensures migrate { job_of (codes "migrate" ∷ []) ≡ Some Job.Migrate }
+    ensures migrate_more { job_of (codes "migrate" ∷ codes "--image" ∷ []) ≡ None }
     ensures make { job_of (codes "make" ∷ codes "0" ∷ codes "4000" ∷ []) ≡ Some (Job.Make 0 4000) }
     ensures draw { job_of (codes "make" ∷ codes "--print" ∷ codes "7" ∷ codes "1" ∷ []) ≡ Some (Job.Draw 7 1) }
     ensures few { job_of (codes "make" ∷ codes "0" ∷ []) ≡ None }

@@ -6,7 +6,6 @@ use Rattle.shm_graph.specs.declared.run.Account.{Account}
 use Rattle.shm_graph.specs.declared.run.Start.{Start}
 use Rattle.shm_alloc.specs.declared.alloc.AllocFault.{AllocFault}
 use Rattle.shm_alloc.specs.declared.point.AllocPoint.{AllocPoint}
-use Rattle.shm_alloc.specs.declared.point.AllocState.{AllocState}
 use Rattle.shm_alloc.specs.Alloc.{AllocGives}
 use Rattle.shm_alloc.specs.Alloc.Control.{alloc_control}
 use Rattle.shm_count.specs.declared.answer.Made.{Made}

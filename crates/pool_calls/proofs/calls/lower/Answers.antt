@@ -1,4 +1,4 @@
-use Rattle.std.proofs.Common.{rules, ◌≡◌, ◌≢◌, ◌^◌, ◌<◌, ℕ, Bool, true, sym, ap, ◌∙◌, subst, Result}
+use Rattle.std.proofs.Common.{rules, ◌≡◌, ◌≢◌, ◌<◌, ℕ, Bool, true, sym, ap, ◌∙◌, subst, Result}
 use Rattle.std.specs.Prelude.{IfOk}
 use Rattle.std.specs.List.{Contains}
 use Rattle.std.proofs.lemmas.Bool.{and_from, lt-ltb}

@@ -1,4 +1,4 @@
-use Rattle.std.proofs.Common.{◌+◌, IfSome, sym, ap, ◌∙◌, subst, arith}
+use Rattle.std.proofs.Common.{◌+◌, sym, ap, ◌∙◌, arith}
 use Rattle.shm_words.specs.Headers.{header_of}
 use Rattle.shm_words.specs.Tags.{tag_of}
 use Rattle.shm_words.proofs.Placing.{total_small}

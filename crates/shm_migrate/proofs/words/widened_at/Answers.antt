@@ -1,10 +1,10 @@
-use Rattle.std.proofs.Common.{◌≡◌, Bool, true, sym, ap, ◌∙◌, inl, inr}
-use Rattle.shm_graph.specs.declared.spot.Spot.TheVariants.{Tag, Body}
+use Rattle.std.proofs.Common.{◌≡◌, true, sym, ap, ◌∙◌, inl, inr}
+use Rattle.shm_graph.specs.declared.spot.Spot.TheVariants.{Body}
 use Rattle.shm_graph.specs.Spots.{see, spot_at, classes_in}
 use Rattle.shm_graph.proofs.Spots.Spotting.{body_block, tag_block}
 use Rattle.shm_graph.proofs.Spots.Seeing.{see-spot, see_at}
 use Rattle.shm_audit.specs.Images.{numbers}
-use Rattle.shm_migrate.specs.Widened.{moved, live_tag, widened_tag, widened_body, widened_at}
+use Rattle.shm_migrate.specs.Widened.{moved, live_tag, widened_body, widened_at}
 use Rattle.shm_migrate.proofs.WordReading.{zero_stays, is_name, name_moves, name_live, body_live, word_stays}
 use Rattle.shm_migrate.proofs.words.widened_at.Goals as goal
 

@@ -1,7 +1,6 @@
-use Rattle.std.proofs.Common.{◌≡◌, ℕ, codes, ◌+◌, ◌<◌, ◌^◌, ◌++◌, ◌∷◌, List, [], map, get_or, sym, ap, ◌∙◌, append_assoc, below_more, arith, inl, inr}
+use Rattle.std.proofs.Common.{◌≡◌, ℕ, codes, ◌++◌, ◌∷◌, List, [], map, sym, ap, ◌∙◌, below_more, arith}
 use Rattle.std.specs.List.{flat_map, range_with_len}
 use Rattle.std.specs.Int.{w64, to_le_bytes}
-use Rattle.std.proofs.lemmas.Bool.{cases_lt}
 use Rattle.std.proofs.lemmas.List.{flat_map_more}
 use Rattle.std.proofs.lemmas.List.FromFn.{map-range_with_len_more}
 use Rattle.shm_words.specs.Layout.{total_of}

@@ -9,6 +9,7 @@ use Rattle.shm_graph.specs.Whole.{fits_now, gives_now}
 use Rattle.shm_graph.proofs.Machines.Composing.{none_of, some_of}
 use Rattle.shm_pool.specs.Rules.{alone}
 use Rattle.shm_pool.specs.Calls.{Drives, shown}
+use Rattle.shm_pool.specs.Calls.{StillFits}
 use Rattle.shm_pool.specs.Tokens.{has_left}
 use Rattle.shm_pool.proofs.Calling.{still_of, goes_on, is_over, still_here, tells}
 use Rattle.shm_pool.proofs.Driving.{cut, driven_none, more, whole}
@@ -114,3 +115,12 @@ returns-in-Died-clause-serves g c = λ h. let i = c.steps.invariant in
 
 pub returns-in-Died-clause-there : goal.returns-in-Died-clause-there
 returns-in-Died-clause-there g c = λ h n. ap (λ (e : Account). has_left e.memo) (c.in-Died.ensures.stays refl).0 ∙ c.steps.invariant.here h
+
+pub returns-in-Died-clause-cut : goal.returns-in-Died-clause-cut
+returns-in-Died-clause-cut g c = λ _.
+    let s = c.in-Died.ensures.stays refl in
+    let M = g.M.Machine in
+    let i = c.steps.invariant in
+    let r0 : Memo = (alone c.args.place.now).memo in
+    subst (λ (e : Account). StillFits M.control (fits_now M.control M.fits) c.step_place.new.m r0 e.memo) (sym s.0)
+    (subst (λ m. StillFits M.control (fits_now M.control M.fits) m r0 (alone c.steps.place).memo) (sym s.1) (record { going = i.is_of.2; suits = i.suits }))

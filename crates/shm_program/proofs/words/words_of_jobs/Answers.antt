@@ -38,6 +38,14 @@ pub returns-clause-audit_more : goal.returns-clause-audit_more
 unfolding clap_on_literals
 returns-clause-audit_more c = refl
 
+pub returns-clause-migrate : goal.returns-clause-migrate
+unfolding clap_on_literals
+returns-clause-migrate c = refl
+
+pub returns-clause-migrate_more : goal.returns-clause-migrate_more
+unfolding clap_on_literals
+returns-clause-migrate_more c = refl
+
 pub returns-clause-make : goal.returns-clause-make
 unfolding clap_on_literals
 returns-clause-make c = refl

@@ -15,10 +15,10 @@ pub invariant_of-self : goal.invariant_of-self
 invariant_of-self g c =
     let e = c.in-Some.ensures in
     let h = here g (goal.at.invariant_of-self g c).After-run_place in
-    (search rules, record { kind = e.kind ∙ c.self.invariant.1.kind; acts = e.serves h; there = λ d. absurd (true≢false (sym d ∙ c.if-self.false)) })
+    (search rules, record { kind = e.kind ∙ c.self.invariant.1.kind; acts = e.serves h; there = λ d. absurd (true≢false (sym d ∙ c.if-self.false)) }, c.self.invariant.2)
 
 pub invariant_of-self-in-None : goal.invariant_of-self-in-None
 invariant_of-self-in-None g c =
     let e = c.in-None.ensures in
     let h = here g (goal.at.invariant_of-self-in-None g c).After-run_place in
-    (search rules, record { kind = e.kind ∙ c.self.invariant.1.kind; acts = e.serves h; there = λ d. e.there h refl })
+    (search rules, record { kind = e.kind ∙ c.self.invariant.1.kind; acts = e.serves h; there = λ d. e.there h refl }, λ d. absurd (true≢false d))

@@ -11,11 +11,11 @@ use Rattle.shm_pool.proofs.token.Client.step.Goals as goal
 
 pub invariant_of-self : goal.invariant_of-self
 invariant_of-self g c =
-    (search rules, record { kind = c.in-More.ensures.kind ∙ c.self.invariant.1.kind; acts = c.in-More.ensures.serves refl; there = λ d. absurd (true≢false (sym d ∙ c.if-self.false)) })
+    (search rules, record { kind = c.in-More.ensures.kind ∙ c.self.invariant.1.kind; acts = c.in-More.ensures.serves refl; there = λ d. absurd (true≢false (sym d ∙ c.if-self.false)) }, c.self.invariant.2)
 
 pub invariant_of-self-in-Done : goal.invariant_of-self-in-Done
 invariant_of-self-in-Done g c =
-    (search rules, record { kind = c.in-Done.ensures.kind ∙ c.self.invariant.1.kind; acts = c.in-Done.ensures.serves refl; there = λ d. absurd (true≢false (sym d ∙ c.if-self.false)) })
+    (search rules, record { kind = c.in-Done.ensures.kind ∙ c.self.invariant.1.kind; acts = c.in-Done.ensures.serves refl; there = λ d. absurd (true≢false (sym d ∙ c.if-self.false)) }, c.self.invariant.2)
 
 pub invariant_of-self-in-Died : goal.invariant_of-self-in-Died
 invariant_of-self-in-Died g c =
@@ -28,6 +28,7 @@ invariant_of-self-in-Died g c =
         acts = subst (λ (e : Account). acts e.memo ≡ cond (has_left e.memo) false true) (sym same) c.self.invariant.1.acts;
         there = λ d. ap (λ (e : Account). has_left e.memo) same ∙ here;
       },
+      λ d. absurd (true≢false d),
     )
 
 pub returns-in-More-clause-turn : goal.returns-in-More-clause-turn

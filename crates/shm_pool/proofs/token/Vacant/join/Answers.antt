@@ -1,4 +1,4 @@
-use Rattle.std.proofs.Common.{◌≡◌, ℕ, ◌<◌, Bool, true, false, cond, rules, sym, ap, ◌∙◌, subst, []}
+use Rattle.std.proofs.Common.{refl, ◌≡◌, ℕ, ◌<◌, Bool, true, false, cond, rules, sym, ap, ◌∙◌, subst, []}
 use Rattle.shm_graph.specs.declared.ask.Me.{Me}
 use Rattle.shm_graph.specs.declared.memo.Kind.TheVariants.{Client}
 use Rattle.shm_graph.specs.declared.memo.Memo.{Memo}
@@ -9,10 +9,11 @@ use Rattle.shm_graph.specs.Asks.{call_before}
 use Rattle.shm_graph.specs.Runs.{account_entered}
 use Rattle.shm_graph.proofs.Memos.MemoSteps.{acts-entered, recovers-entered}
 use Rattle.shm_recover.specs.declared.join.JoinState.{JoinState}
-use Rattle.shm_recover.specs.Join.{IsMember, JoinFits, JoinGives, is_over, is_start, join_fresh}
+use Rattle.shm_recover.specs.Join.{IsMember, JoinFits, JoinGives, is_over, is_start, join_control, join_fresh}
 use Rattle.shm_recover.specs.Join.Keeps.{join_begins}
 use Rattle.shm_recover.specs.Leave.{MayLeave}
 use Rattle.shm_pool.specs.Rules.{alone}
+use Rattle.shm_pool.specs.Calls.{Calls, shown}
 use Rattle.shm_pool.proofs.Calling.{acts_stay, live_here}
 use Rattle.shm_pool.proofs.Joining.{joined_may_leave}
 use Rattle.shm_pool.specs.Tokens.{Its, Token, has_left, its, me_of}
@@ -50,7 +51,7 @@ invariant_of-result c =
     let acting : acts m ≡ true = acts_stay m (ap is_gone c.in-Some.ensures.gives.idle.live) c.in-Some.ensures.acts in
     let kind : recovers m ≡ false = c.in-Some.ensures.kind ∙ (ap (λ (e : Account). recovers e.memo) c.note_client.ensures.account ∙ recovers-entered Client (alone c.self.inside.place).memo) in
     let here : has_left m ≡ false = live_here m c.in-Some.ensures.gives.idle.live in
-    (search rules, record { kind = kind; acts = acting ∙ ap (λ (b : Bool). cond b false true) (sym here); there = λ d. here })
+    (search rules, record { kind = kind; acts = acting ∙ ap (λ (b : Bool). cond b false true) (sym here); there = λ d. here }, λ d. refl)
 
 pub returns-in-Some-clause-leaves : goal.returns-in-Some-clause-leaves
 returns-in-Some-clause-leaves c =
@@ -68,3 +69,14 @@ returns-in-Some-clause-leaves c =
       subst (λ (n : ℕ). let y : Me = record { geometry = c.self.inside.start.geometry; who = n } in MayLeave y e'.memo) (sym same) may,
       (c.in-Some.ensures.told fresh).over,
     )
+
+pub returns-in-Some-clause-call : goal.returns-in-Some-clause-call
+returns-in-Some-clause-call c =
+    let i = c.self.invariant.0 in
+    let e : Account = alone c.self.inside.place in
+    let e' : Account = alone c.run_place.new.place in
+    let p : Its = its c.self.inside.place.table_id c.self.inside.start in
+    let me : c.new.result ≡ me_of p e = (λ j. record { geometry = c.new.ensures.geometry j; who = (c.new.ensures.who ∙ i.who) j }) in
+    subst (λ (t : Token). Calls (shown join_control (join_fresh (me_of t.of t.account))) (account_entered Client t.account) e' true c.args.life.now.left c.run_place.new.life.left) c.self.view_is
+    (subst (λ (m : JoinState). Calls (shown join_control m) (account_entered Client e) e' true c.args.life.now.left c.run_place.new.life.left) (c.new-machine.ensures.state ∙ ap (λ (x : Me). join_fresh x) me)
+    (subst (λ (x : Account). Calls (shown join_control c.new-machine.result) x e' true c.args.life.now.left c.run_place.new.life.left) c.note_client.ensures.account c.in-Some.ensures.call.call))

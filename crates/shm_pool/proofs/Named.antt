@@ -1,0 +1,81 @@
+-- a call of a client over the operation that it runs: made by one plan for the identity of the client, or, of a client that has died, none
+use Rattle.std.proofs.Common.{◌≡◌, ◌≢◌, ◌+◌, ◌<◌, ◌≤◌, ℕ, true, false, List, refl, sym, ap, ◌∙◌, subst, arith}
+use Rattle.std.proofs.lemmas.Bool.{true≢false}
+use mathlib.Core.Logic.{dite}
+use native.Mathlib.Decide.{ℕ_discrete}
+use Rattle.shm_words.specs.Layout.{GeometryFits, address_limit, total_of}
+use Rattle.shm_words.proofs.Placing.{total_small}
+use Rattle.shm_graph.specs.declared.ask.Me.{Me}
+use Rattle.shm_graph.specs.declared.run.Account.{Account}
+use Rattle.shm_graph.specs.declared.memo.Memo.{Memo}
+use Rattle.shm_graph.specs.Asks.{Trail}
+use Rattle.shm_graph.specs.Events.{Event}
+use Rattle.shm_graph.specs.Laws.{Control}
+use Rattle.shm_graph.specs.Operations.{IsReady}
+use Rattle.shm_graph.specs.Reach.{is_reached}
+use Rattle.shm_graph.specs.Runs.{Stood}
+use Rattle.shm_calls.specs.CallsControl.{calls_control, calls_does, calls_of}
+use Rattle.shm_calls.specs.Plans.{Planned}
+use Rattle.shm_calls.specs.Tasks.{CallsLeave}
+use Rattle.shm_ref.specs.ReadParts.{reached_room}
+use Rattle.shm_pool.specs.declared.reply.Reply.{Reply}
+use Rattle.shm_pool.specs.declared.reply.Reply.TheVariants.{Died, Done}
+use Rattle.shm_pool.specs.Called.{HasCalled, IsAlive, Rests}
+use Rattle.shm_pool.specs.Calls.{IsBetween}
+use Rattle.shm_pool.specs.Doing.{HasDone}
+use Rattle.shm_pool.specs.Tokens.{Acting, me_of}
+use Rattle.shm_pool.proofs.Calling.{live_here}
+use Rattle.shm_pool.proofs.Replied.{ready}
+
+-- a client of which a call has died does nothing
+pub done_dead : {M A : Type 0} (k : Control M A) (does : M → ℕ → Event) (leaves : M → Memo → Memo → Trail → List Event → A → Type 0) (ends : M → A → Type 0) (m : M) (t : Acting) (left : ℕ) → Stood t.of.start t.account → t.dead ≡ true → HasDone k does leaves ends m t t left left Died
+done_dead k does leaves ends m t left stood dead =
+    record {
+      same = (refl, refl);
+      stood = stood;
+      died = ((λ _. dead), λ _. tt);
+      again = λ _. (tt, refl, refl);
+      spent = λ alive. absurd (true≢false (sym dead ∙ alive));
+      call = λ alive. absurd (true≢false (sym dead ∙ alive));
+      events = λ alive. absurd (true≢false (sym dead ∙ alive));
+      asked = λ alive. absurd (true≢false (sym dead ∙ alive));
+      told = tt;
+      left_so = tt;
+      between = tt;
+    }
+
+-- where each answer rests, so does the client
+pub rests_by : {M A : Type 0} (k : Control M A) (does : M → ℕ → Event) (leaves : M → Memo → Memo → Trail → List Event → A → Type 0) (m : M) (t t' : Acting) (before left : ℕ) (o : Reply A) → HasDone k does leaves (λ x a. Unit {0}) m t t' before left o → Rests t'
+rests_by k does leaves m t t' before left Died h = let dead = h.died.0 tt in record { between = λ alive. absurd (true≢false (sym dead ∙ alive)); here = λ alive. absurd (true≢false (sym dead ∙ alive)) }
+rests_by k does leaves m t t' before left (Done a) h = let b = h.between tt in record { between = λ alive. b; here = λ alive. live_here t'.account.memo b.idle.live }
+
+-- nor does a call of it
+pub called_dead : {P C B A : Type 0} (k : Control C B) (q : Planned P C B A) (p : P) (t : Acting) (left : ℕ) → Stood t.of.start t.account → t.dead ≡ true → HasCalled k q p t t left left Died
+called_dead k q p t left stood dead =
+    let d = done_dead (calls_control k q) (calls_does k q) (CallsLeave q) (λ m a. Unit {0}) (calls_of q p) t left stood dead in
+    record { done = d; rests = rests_by (calls_control k q) (calls_does k q) (CallsLeave q) (calls_of q p) t t left left Died d; effect = refl }
+
+-- a block in reach of a client that lives lies in the pool, and has an address
+module _ (t : Acting) (me : Me) (stood : Stood t.of.start t.account) (between : t.dead ≡ false → IsBetween t.account) (x : IsAlive t me) (b : ℕ) (reach : t.dead ≡ false → is_reached t.account.who t.account.memo b ≡ true) where
+  is_ready : IsReady (me_of t.of t.account) t.account.memo
+  is_ready = ready t.of t.account stood (between x.alive).idle (me_of t.of t.account) refl
+
+  inside : b + 2 ≤ total_of (me_of t.of t.account).geometry
+  inside = reached_room (me_of t.of t.account) b t.account.memo is_ready.who is_ready.held (reach x.alive)
+
+  pub reach_room : b + 2 ≤ total_of me.geometry
+  reach_room = subst (λ (z : Me). b + 2 ≤ total_of z.geometry) (sym x.is) inside
+
+  pub reach_small : b < address_limit
+  reach_small = let most = total_small me.geometry x.fits in let room = reach_room in omega arith
+
+-- the machine that a call ran is that of the plan that it names
+pub called_by : {P C B A : Type 0} (k : Control C B) (q : Planned P C B A) (e p : P) (t t' : Acting) (before left : ℕ) (o : Reply A) → e ≡ p → HasDone (calls_control k q) (calls_does k q) (CallsLeave q) (λ m a. Unit {0}) (calls_of q e) t t' before left o → t'.effect ≡ t.effect → HasCalled k q p t t' before left o
+called_by k q e p t t' before left o is done same =
+    let d = subst (λ x. HasDone (calls_control k q) (calls_does k q) (CallsLeave q) (λ m a. Unit {0}) (calls_of q x) t t' before left o) is done in
+    record { done = d; rests = rests_by (calls_control k q) (calls_does k q) (CallsLeave q) (calls_of q p) t t' before left o d; effect = same }
+
+-- a block that is to be named, or none
+pub target_small : (t : Acting) (me : Me) → Stood t.of.start t.account → (t.dead ≡ false → IsBetween t.account) → IsAlive t me → (b : ℕ) → (t.dead ≡ false → b ≢ 0 → is_reached t.account.who t.account.memo b ≡ true) → b < address_limit
+target_small t me stood between x b reach =
+    dite (ℕ_discrete b 0) (λ e. let none : b ≡ 0 = e in omega arith) (λ some. reach_small t me stood between x b (λ alive. reach alive some))

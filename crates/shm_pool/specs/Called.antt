@@ -1,0 +1,86 @@
+-- what the calls of a client leave, each of which runs one operation
+use Rattle.std.specs.Prelude.{◌≡◌, ◌<◌, ℕ, true, false, List, length, take, Result, Option}
+use Rattle.shm_words.specs.Layout.{GeometryFits}
+use Rattle.shm_graph.specs.declared.ask.Me.{Me}
+use Rattle.shm_graph.specs.declared.run.Account.{Account}
+use Rattle.shm_graph.specs.Agents.{recovers}
+use Rattle.shm_graph.specs.Reach.{is_reached}
+use Rattle.shm_graph.specs.Whole.{fits_now}
+use Rattle.shm_graph.specs.Laws.{Control}
+use Rattle.shm_alloc.specs.declared.alloc.AllocFault.{AllocFault}
+use Rattle.shm_alloc.specs.declared.point.AllocPoint.TheVariants.{Era}
+use Rattle.shm_alloc.specs.declared.point.AllocState.{AllocState}
+use Rattle.shm_alloc.specs.Alloc.AsPart.{AllocLeaves}
+use Rattle.shm_alloc.specs.Alloc.Control.{alloc_control}
+use Rattle.shm_alloc.specs.Alloc.Events.{alloc_event}
+use Rattle.shm_calls.specs.CallsControl.{calls_control, calls_does, calls_of}
+use Rattle.shm_calls.specs.Plans.{Planned}
+use Rattle.shm_calls.specs.Tasks.{CallsLeave}
+use Rattle.shm_count.specs.declared.answer.Made.{Made}
+use Rattle.shm_count.specs.Roots.{root_word}
+use Rattle.shm_script.specs.declared.line.Line.{Line}
+use Rattle.shm_script.specs.declared.log.Answer.{Answer}
+use Rattle.shm_table.specs.Command.{CommandCall, CommandFits, command_control, command_does, command_effect, command_of}
+use Rattle.shm_table.specs.Command.Maps.{MapSoFar}
+use Rattle.shm_table.specs.Command.Operates.{CommandLeaves}
+use Rattle.shm_pool.specs.declared.reply.Reply.{Reply}
+use Rattle.shm_pool.specs.Calls.{Drives, IsBetween, StillFits}
+use Rattle.shm_pool.specs.Doing.{HasDone}
+use Rattle.shm_pool.specs.Replies.{IfReply, IsLost}
+use Rattle.shm_pool.specs.Tokens.{Acting, has_left, me_of}
+
+-- the client t of which no call has died is this identity, in a pool that there may be
+pub record IsAlive (t : Acting) (me : Me) : Type 0 where
+  pub alive : t.dead ≡ false
+  pub is : me ≡ me_of t.of t.account
+  pub fits : GeometryFits me.geometry
+  pub who : me.who < me.geometry.clients
+  pub kind : recovers t.account.memo ≡ false
+
+-- where no call of the client has died, it is between two calls, and hasn't left
+pub record Rests (t : Acting) : Type 0 where
+  pub between : t.dead ≡ false → IsBetween t.account
+  pub here : t.dead ≡ false → has_left t.account.memo ≡ false
+
+-- a client ran the machine of the plan p; what a command showed that died before stays
+pub record HasCalled {P C B A : Type 0} (k : Control C B) (q : Planned P C B A) (p : P) (t t' : Acting) (before left : ℕ) (o : Reply A) : Type 0 where
+  pub done : HasDone (calls_control k q) (calls_does k q) (CallsLeave q) (λ m a. Unit {0}) (calls_of q p) t t' before left o
+  pub rests : Rests t'
+  pub effect : t'.effect ≡ t.effect
+
+-- an allocation of this identity, before its first step, of a block with n reference words and the plain words xs
+pub record IsAsked (me : Me) (n : ℕ) (xs : List ℕ) (m : AllocState) : Type 0 where
+  pub of : m.me ≡ me
+  pub point : m.point ≡ Era
+  pub refs : m.request.refs ≡ n
+  pub count : m.request.count ≡ length xs
+  pub plain : take (length xs) m.request.plain ≡ xs
+
+-- a client ran such an allocation
+pub record HasAllocated (n : ℕ) (xs : List ℕ) (t t' : Acting) (before left : ℕ) (o : Reply (Result Made AllocFault)) : Type 0 where
+  pub machine : AllocState
+  pub asked : IsAsked (me_of t.of t.account) n xs machine
+  pub done : HasDone alloc_control alloc_event AllocLeaves (λ m a. Unit {0}) machine t t' before left o
+  pub rests : Rests t'
+  pub effect : t'.effect ≡ t.effect
+
+-- The command of a line of this identity was cut off. What it shows is what it was going to answer where its deciding step was made, and otherwise none; and the own map is as after that answer
+pub record HasEffect (me : Me) (l : Line) (e e' : Account) (before left : ℕ) (a : Option Answer) : Type 0 where
+  pub machine : CommandCall
+  pub driven : Drives command_control CommandFits (command_of me l) machine e e' false before left
+  pub still : StillFits command_control (fits_now command_control CommandFits) machine e.memo e'.memo
+  pub effect : a ≡ command_effect machine
+  pub map : MapSoFar l a e.memo e'.memo
+
+-- a client ran the command of a line; it keeps what that showed where it died in it
+pub record HasCommanded (l : Line) (t t' : Acting) (before left : ℕ) (o : Reply Answer) : Type 0 where
+  pub done : HasDone command_control command_does CommandLeaves (λ m a. Unit {0}) (command_of (me_of t.of t.account) l) t t' before left o
+  pub rests : Rests t'
+  pub answered : IfReply o (λ a. t'.effect ≡ t.effect)
+  pub cut : t.dead ≡ false → IsLost o → HasEffect (me_of t.of t.account) l t.account t'.account before left t'.effect
+
+-- a root of the client names the block, which is in reach
+pub record HasRoot (x : Made) (t : Acting) : Type 0 where
+  pub low : x.root < 16
+  pub named : root_word t.account.who t.account.memo x.root ≡ x.block
+  pub reached : is_reached t.account.who t.account.memo x.block ≡ true
