@@ -12,10 +12,10 @@ use shm_calls::Calls;
 use shm_count::TearDown;
 use shm_graph::Life;
 use shm_plain::PlainPool;
-use shm_recover::Leaving;
+use shm_recover::Leave;
 use shm_ref::{
-    Changing, Dropping, Lowering, Raising, change_root_keeps, drop_root_keeps, lower_root_keeps,
-    raise_root_keeps,
+    ChangeRoot, DropRoot, LowerRoot, RaiseRoot, change_root_keeps, drop_root_keeps,
+    lower_root_keeps, raise_root_keeps,
 };
 use std::io;
 
@@ -56,7 +56,7 @@ pub fn drop_root(
 {
     let root = row.small(1, 16)?;
     drop_root_keeps();
-    let dropping = Dropping::new(pool.me(client.who), root);
+    let dropping = DropRoot::new(pool.me(client.who), root);
     let answer = pool.run(client.who, Calls::new(dropping), life);
     tell(rt, &answer)?;
     Ok(settled(&answer, client.known))
@@ -78,7 +78,7 @@ pub fn raise(
     rooted(pool, client.who, root, 0)?;
     reach(pool, client, block)?;
     raise_root_keeps();
-    let raising = Raising::new(pool.me(client.who), root, block);
+    let raising = RaiseRoot::new(pool.me(client.who), root, block);
     let answer = pool.run(client.who, Calls::new(raising), life);
     tell(rt, &answer)?;
     Ok(told(&answer, BARE))
@@ -100,7 +100,7 @@ pub fn lower(
     check(block != 0)?;
     rooted(pool, client.who, root, block)?;
     lower_root_keeps();
-    let lowering = Lowering::new(pool.me(client.who), root, block);
+    let lowering = LowerRoot::new(pool.me(client.who), root, block);
     let answer = pool.run(client.who, Calls::new(lowering), life);
     tell(rt, &answer)?;
     Ok(dying(&answer, block))
@@ -125,7 +125,7 @@ pub fn change(
     rooted(pool, client.who, root, before)?;
     reach(pool, client, after)?;
     change_root_keeps();
-    let changing = Changing::new(pool.me(client.who), root, before, after);
+    let changing = ChangeRoot::new(pool.me(client.who), root, before, after);
     let answer = pool.run(client.who, Calls::new(changing), life);
     tell(rt, &answer)?;
     Ok(dying(&answer, before))
@@ -162,7 +162,7 @@ pub fn leave(
 {
     check(client.known.free)?;
     check(client.known.quiet)?;
-    let leaving = Leaving::new(pool.me(client.who));
+    let leaving = Leave::new(pool.me(client.who));
     let answer = pool.run(client.who, Calls::new(leaving), life);
     tell(rt, &answer)?;
     Ok(None)

@@ -11,9 +11,9 @@ use shm_calls::Calls;
 use shm_graph::Life;
 use shm_plain::PlainPool;
 use shm_ref::{
-    FindingHome, Holding, Homing, Looking, Naming, Reading, Releasing, Setting, Sharing,
-    hold_keeps, home_of_keeps, look_keeps, read_keeps, release_keeps, root_of_keeps,
-    set_home_keeps, set_ref_keeps, share_keeps,
+    Hold, HomeOf, Look, Read, Release, RootOf, SetHome, SetRef, Share, hold_keeps, home_of_keeps,
+    look_keeps, read_keeps, release_keeps, root_of_keeps, set_home_keeps, set_ref_keeps,
+    share_keeps,
 };
 use std::io;
 
@@ -31,7 +31,7 @@ pub fn hold(
     let author = row.small(1, pool.geometry().clients())?;
     check(client.known.free)?;
     hold_keeps();
-    let holding = Holding::new(pool.me(client.who), author);
+    let holding = Hold::new(pool.me(client.who), author);
     let answer = pool.run(client.who, Calls::new(holding), life);
     tell(rt, &answer)?;
     Ok(held(&answer, client.known))
@@ -49,7 +49,7 @@ pub fn release(
 {
     check(client.known.held)?;
     release_keeps();
-    let releasing = Releasing::new(pool.me(client.who));
+    let releasing = Release::new(pool.me(client.who));
     let answer = pool.run(client.who, Calls::new(releasing), life);
     tell(rt, &answer)?;
     Ok(told(&answer, client.known.released()))
@@ -68,7 +68,7 @@ pub fn home_of(
 {
     let author = row.small(1, pool.geometry().clients())?;
     home_of_keeps();
-    let finding = FindingHome::new(pool.me(client.who), author);
+    let finding = HomeOf::new(pool.me(client.who), author);
     let answer = pool.run(client.who, Calls::new(finding), life);
     tell(rt, &answer)?;
     Ok(found(&answer, client.known))
@@ -87,7 +87,7 @@ pub fn root_of(
 {
     let root = row.small(1, 16)?;
     root_of_keeps();
-    let naming = Naming::new(pool.me(client.who), root);
+    let naming = RootOf::new(pool.me(client.who), root);
     let answer = pool.run(client.who, Calls::new(naming), life);
     tell(rt, &answer)?;
     Ok(told(&answer, client.known.kept()))
@@ -108,7 +108,7 @@ pub fn read(
     let index = row.small(2, 255)?;
     reach(pool, client, block)?;
     read_keeps();
-    let reading = Reading::new(pool.me(client.who), block, index);
+    let reading = Read::new(pool.me(client.who), block, index);
     let answer = pool.run(client.who, Calls::new(reading), life);
     tell(rt, &answer)?;
     Ok(told(&answer, client.known.seeing()))
@@ -129,7 +129,7 @@ pub fn look(
     let index = row.small(2, 255)?;
     reach(pool, client, block)?;
     look_keeps();
-    let looking = Looking::new(pool.me(client.who), block, index);
+    let looking = Look::new(pool.me(client.who), block, index);
     let answer = pool.run(client.who, Calls::new(looking), life);
     tell(rt, &answer)?;
     Ok(told(&answer, client.known.seeing()))
@@ -149,7 +149,7 @@ pub fn set_home(
     let block = row.block(1)?;
     reach(pool, client, block)?;
     set_home_keeps();
-    let homing = Homing::new(pool.me(client.who), block);
+    let homing = SetHome::new(pool.me(client.who), block);
     let answer = pool.run(client.who, Calls::new(homing), life);
     tell(rt, &answer)?;
     Ok(told(&answer, client.known.unsettled()))
@@ -170,7 +170,7 @@ pub fn empty_ref(
     let index = row.small(2, 255)?;
     reach(pool, client, block)?;
     set_ref_keeps();
-    let setting = Setting::new(pool.me(client.who), block, index, 0);
+    let setting = SetRef::new(pool.me(client.who), block, index, 0);
     let answer = pool.run(client.who, Calls::new(setting), life);
     tell(rt, &answer)?;
     Ok(settled(&answer, client.known))
@@ -193,7 +193,7 @@ pub fn set_ref(
     reach(pool, client, block)?;
     reach(pool, client, target)?;
     set_ref_keeps();
-    let setting = Setting::new(pool.me(client.who), block, index, target);
+    let setting = SetRef::new(pool.me(client.who), block, index, target);
     let answer = pool.run(client.who, Calls::new(setting), life);
     tell(rt, &answer)?;
     Ok(settled(&answer, client.known))
@@ -213,7 +213,7 @@ pub fn share(
     let block = row.block(1)?;
     reach(pool, client, block)?;
     share_keeps();
-    let sharing = Sharing::new(pool.me(client.who), block);
+    let sharing = Share::new(pool.me(client.who), block);
     let answer = pool.run(client.who, Calls::new(sharing), life);
     tell(rt, &answer)?;
     Ok(told(&answer, client.known.kept()))

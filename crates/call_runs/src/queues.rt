@@ -11,8 +11,8 @@ use shm_calls::Calls;
 use shm_graph::Life;
 use shm_plain::PlainPool;
 use shm_queue::{
-    Draining, Peeking, Receiving, Sending, Taking, drain_keeps, peek_keeps, receive_keeps,
-    send_keeps, take_keeps,
+    Drain, Peek, Receive, Send, Take, drain_keeps, peek_keeps, receive_keeps, send_keeps,
+    take_keeps,
 };
 use std::io;
 
@@ -33,7 +33,7 @@ pub fn send(
     apart(client.who, to)?;
     reach(pool, client, block)?;
     send_keeps();
-    let sending = Sending::new(pool.me(client.who), to, block);
+    let sending = Send::new(pool.me(client.who), to, block);
     let answer = pool.run(client.who, Calls::new(sending), life);
     tell(rt, &answer)?;
     Ok(told(&answer, client.known.kept()))
@@ -54,7 +54,7 @@ pub fn peek(
     check(client.known.quiet)?;
     apart(from, client.who)?;
     peek_keeps();
-    let peeking = Peeking::new(pool.me(client.who), from);
+    let peeking = Peek::new(pool.me(client.who), from);
     let answer = pool.run(client.who, Calls::new(peeking), life);
     tell(rt, &answer)?;
     Ok(told(&answer, client.known.kept()))
@@ -75,7 +75,7 @@ pub fn take(
     check(client.known.quiet)?;
     apart(from, client.who)?;
     take_keeps();
-    let taking = Taking::new(pool.me(client.who), from);
+    let taking = Take::new(pool.me(client.who), from);
     let answer = pool.run(client.who, Calls::new(taking), life);
     tell(rt, &answer)?;
     Ok(settled(&answer, client.known))
@@ -96,7 +96,7 @@ pub fn receive(
     check(client.known.quiet)?;
     apart(from, client.who)?;
     receive_keeps();
-    let receiving = Receiving::new(pool.me(client.who), from);
+    let receiving = Receive::new(pool.me(client.who), from);
     let answer = pool.run(client.who, Calls::new(receiving), life);
     tell(rt, &answer)?;
     Ok(received(&answer, client.known))
@@ -114,7 +114,7 @@ pub fn drain(
 {
     check(client.known.quiet)?;
     drain_keeps();
-    let draining = Draining::new(pool.me(client.who));
+    let draining = Drain::new(pool.me(client.who));
     let answer = pool.run(client.who, Calls::new(draining), life);
     tell(rt, &answer)?;
     Ok(settled(&answer, client.known))

@@ -12,8 +12,8 @@ use shm_calls::Calls;
 use shm_count::EraSpent;
 use shm_graph::Life;
 use shm_plain::{PlainClosed, PlainPool};
-use shm_queue::{Draining, drain_keeps};
-use shm_recover::Leaving;
+use shm_queue::{Drain, drain_keeps};
+use shm_recover::Leave;
 use shm_script::{Answer, Line};
 use shm_words::Geometry;
 use std::alloc::Global;
@@ -85,7 +85,7 @@ fn drain(pool: &mut PlainPool, who: u8, life: &mut Life) -> Option<Result<u64, E
 {
     // for the proof: what a drain keeps
     drain_keeps();
-    let draining = Draining::new(pool.me(who));
+    let draining = Drain::new(pool.me(who));
     pool.run(who, Calls::new(draining), life)
 }
 
@@ -95,7 +95,7 @@ fn leave(pool: &mut PlainPool, who: u8, life: &mut Life) -> Option<Result<(), Er
     ensures start { pool.new.start ≡ pool.old.start }
     ensures others { (d : ℕ) → d ≢ who → IsOpen d pool.old → IsOpen d pool.new }
 {
-    let leaving = Leaving::new(pool.me(who));
+    let leaving = Leave::new(pool.me(who));
     pool.run(who, Calls::new(leaving), life)
 }
 

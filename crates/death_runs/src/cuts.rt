@@ -9,7 +9,7 @@ use crate::pool::Pool;
 use crate::references::References;
 use crate::rules::{is_gone, is_recovered};
 use shm_graph::{Machine, Me, Turn};
-use shm_recover::{Join, Leaving};
+use shm_recover::{Join, Leave};
 use shm_runs::{geometry, make};
 use shm_script::{Answer, Line};
 use shm_table::Command;
@@ -80,7 +80,7 @@ fn work(pool: &mut Pool, me: Me, put: &mut Command, steps: u32) -> Option<()>
     let joined = pool.advance(&mut Join::new(me), steps)?;
     let left = steps.saturating_sub(joined);
     let made = pool.advance(put, left)?;
-    pool.follow(Leaving::new(me), left.saturating_sub(made))?;
+    pool.follow(Leave::new(me), left.saturating_sub(made))?;
     Some(())
 }
 

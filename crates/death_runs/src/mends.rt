@@ -7,9 +7,9 @@ ghost use Rattle.shm_words.specs.Layout.{GeometryFits};
 use crate::op::{Op, perform};
 use crate::pool::Pool;
 use shm_calls::Calls;
-use shm_count::{Commit, CommitTest, Testing};
+use shm_count::{Commit, CommitTest};
 use shm_graph::{Machine, Me, Turn};
-use shm_recover::{Join, Mending};
+use shm_recover::{Join, Mend};
 use shm_runs::{geometry, make};
 use shm_script::Line;
 use shm_words::Geometry;
@@ -81,7 +81,7 @@ fn die(pool: &mut Pool, geometry: Geometry, death: u32, copied: bool) -> Option<
 }
 
 /// What a commit test answers, within three word steps.
-fn answer_of(pool: &mut Pool, mut test: CommitTest) -> Option<Commit> {
+fn answer_of(pool: &mut Pool, mut test: Calls<CommitTest>) -> Option<Commit> {
     for _ in 0..3 {
         if test.finished() {
             return None;
@@ -109,10 +109,10 @@ fn tested(pool: &mut Pool, me: Me) -> Option<(Words, Commit)>
     requires who { me.who < me.geometry.clients }
     requires clients { 1 < me.geometry.clients }
 {
-    pool.follow(Mending::new(me), 3)?;
+    pool.follow(Mend::new(me), 3)?;
     let before = words_of(pool, me.geometry);
     let block = if me.geometry.is_wide() { 123 } else { 121 };
-    let answer = answer_of(pool, Calls::new(Testing::new(me, block, 9)))?;
+    let answer = answer_of(pool, Calls::new(CommitTest::new(me, block, 9)))?;
     Some((before, answer))
 }
 
@@ -122,7 +122,7 @@ fn mend_whole(pool: &mut Pool, me: Me) -> Option<Words>
     requires who { me.who < me.geometry.clients }
     requires clients { 1 < me.geometry.clients }
 {
-    let made = pool.follow(Mending::new(me), MENDING)?;
+    let made = pool.follow(Mend::new(me), MENDING)?;
     if made < MENDING {
         Some(words_of(pool, me.geometry))
     } else {

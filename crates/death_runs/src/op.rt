@@ -8,11 +8,9 @@ use crate::pool::Pool;
 use shm_alloc::Alloc;
 use shm_count::{StepChange, StepDown, StepUp, TearDown};
 use shm_graph::Me;
-use shm_queue::{Draining, Peeking, Receiving, Sending, Taking};
-use shm_recover::{Join, Leaving, Recovering};
-use shm_ref::{
-    Dropping, FindingHome, Holding, Homing, Looking, Naming, Reading, Releasing, Setting, Sharing,
-};
+use shm_queue::{Drain, Peek, Receive, Send, Take};
+use shm_recover::{Join, Leave, Recover};
+use shm_ref::{DropRoot, Hold, HomeOf, Look, Read, Release, RootOf, SetHome, SetRef, Share};
 use shm_script::Line;
 use shm_table::Command;
 use shm_words::ADDRESS_LIMIT;
@@ -92,12 +90,12 @@ pub fn perform(pool: &mut Pool, me: Me, op: Op, most: u32) -> Option<u32>
 {
     match op {
         Op::Join => pool.advance(&mut Join::new(me), most),
-        Op::Leave => pool.follow(Leaving::new(me), most),
-        Op::Recover => pool.follow(Recovering::new(me), most),
+        Op::Leave => pool.follow(Leave::new(me), most),
+        Op::Recover => pool.follow(Recover::new(me), most),
         Op::Run(line) if may_stand(me, line) => perform_line(pool, me, &line, most),
         Op::Alloc(refs, plain) => perform_alloc(pool, me, refs, plain, most),
-        Op::Release => pool.follow(Releasing::new(me), most),
-        Op::Drain => pool.follow(Draining::new(me), most),
+        Op::Release => pool.follow(Release::new(me), most),
+        Op::Drain => pool.follow(Drain::new(me), most),
         _ => match perform_at(pool, me, op, most) {
             None => perform_on(pool, me, op, most),
             made => made,
@@ -132,19 +130,17 @@ fn perform_at(pool: &mut Pool, me: Me, op: Op, most: u32) -> Option<u32>
 {
     let clients = me.geometry.clients();
     match op {
-        Op::DropRoot(root) if root < 16 => { pool.follow(Dropping::new(me, root), most) }
-        Op::RootOf(root) if root < 16 => { pool.follow(Naming::new(me, root), most) }
-        Op::Hold(author) if author < clients => { pool.follow(Holding::new(me, author), most) }
-        Op::HomeOf(author) if author < clients => {
-            pool.follow(FindingHome::new(me, author), most)
-        }
+        Op::DropRoot(root) if root < 16 => { pool.follow(DropRoot::new(me, root), most) }
+        Op::RootOf(root) if root < 16 => { pool.follow(RootOf::new(me, root), most) }
+        Op::Hold(author) if author < clients => { pool.follow(Hold::new(me, author), most) }
+        Op::HomeOf(author) if author < clients => { pool.follow(HomeOf::new(me, author), most) }
         Op::Send(to, block) if to < clients => {
             let block = address(me, block)?;
-            pool.follow(Sending::new(me, to, block), most)
+            pool.follow(Send::new(me, to, block), most)
         }
-        Op::Peek(from) if from < clients => { pool.follow(Peeking::new(me, from), most) }
-        Op::Take(from) if from < clients => { pool.follow(Taking::new(me, from), most) }
-        Op::Receive(from) if from < clients => { pool.follow(Receiving::new(me, from), most) }
+        Op::Peek(from) if from < clients => { pool.follow(Peek::new(me, from), most) }
+        Op::Take(from) if from < clients => { pool.follow(Take::new(me, from), most) }
+        Op::Receive(from) if from < clients => { pool.follow(Receive::new(me, from), most) }
         _ => None,
     }
 }
@@ -157,26 +153,26 @@ fn perform_on(pool: &mut Pool, me: Me, op: Op, most: u32) -> Option<u32>
     match op {
         Op::Share(block) => {
             let block = address(me, block)?;
-            pool.follow(Sharing::new(me, block), most)
+            pool.follow(Share::new(me, block), most)
         }
         Op::SetHome(block) => {
             let block = address(me, block)?;
-            pool.follow(Homing::new(me, block), most)
+            pool.follow(SetHome::new(me, block), most)
         }
         Op::Look(block, word) => {
             let block = address(me, block)?;
-            pool.follow(Looking::new(me, block, word), most)
+            pool.follow(Look::new(me, block, word), most)
         }
         Op::Read(block, word) => {
             let block = address(me, block)?;
-            pool.follow(Reading::new(me, block, word), most)
+            pool.follow(Read::new(me, block, word), most)
         }
         Op::SetRef(block, word, to) => {
             let (block, to) = (address(me, block)?, address(me, to)?);
             if block + 2 > me.geometry.total() {
                 return None;
             }
-            pool.follow(Setting::new(me, block, word, to), most)
+            pool.follow(SetRef::new(me, block, word, to), most)
         }
         _ => perform_count(pool, me, op, most),
     }

@@ -4,11 +4,13 @@ use Rattle.std.specs.Prelude.{IfSome}
 use Rattle.std.specs.Option.{is_some}
 use Rattle.shm_graph.specs.declared.ask.Me.{Me}
 use Rattle.shm_graph.specs.declared.memo.Memo.{Memo}
+use Rattle.shm_graph.specs.Agents.{acts, recovers}
 use Rattle.shm_graph.specs.Events.{Event}
 use Rattle.shm_graph.specs.Laws.{Control}
 use Rattle.shm_graph.specs.Tells.{happens_along}
 use Rattle.shm_plain.specs.Calls.{Did, IsAtWork, Ran}
 use Rattle.shm_plain.specs.Pools.{Pool, memo_of}
+use Rattle.shm_plain.proofs.Calling.{still_kind}
 use Rattle.shm_calls.specs.declared.calls.Calls.{Calls}
 use Rattle.shm_calls.specs.CallsControl.{calls_control, calls_does, calls_of}
 use Rattle.shm_calls.specs.Plans.{Planned}
@@ -27,6 +29,11 @@ pub record Said {A : Type 0} (L : A → Type 0) (c : ℕ) (p r : Pool) (x y : �
   pub ran : Ran c true (is_some o) p r x y
   pub work : IfSome o (λ a. Unit {0} → IsAtWork c r)
   pub left : IfSome o L
+
+-- whatever it answers, its agent is of the kind that it was of
+pub run_kind : {A : Type 0} (c : ℕ) (p r : Pool) (x y : ℕ) (o : Option A) → acts (memo_of p c) ≡ true → Ran c true (is_some o) p r x y → IfSome o (λ a. recovers (memo_of r c) ≡ recovers (memo_of p c))
+run_kind c p r x y None act ran = tt
+run_kind c p r x y (Some a) act ran = still_kind c true p r x y act ran
 
 -- the machine m was made of the plan e, and that for the identity x, which is me
 module _ {P C B A : Type 0} (q : Planned P C B A) (plan : Me → P) (me x : Me) (e : P) (m : Calls P C A B) (is : x ≡ me) (planned : e ≡ plan x) (made : m ≡ calls_of q e) where

@@ -69,6 +69,6 @@ pub fn allocate(
     ensures ran { IfOk result (λ o. Ran who true (is_some o) pool.old pool.new life.old.left life.new.left) }
     ensures events { IfOk result (λ o. IfSome o (λ a. Did who pool.old pool.new (own_events (member pool.old.start.geometry who) a))) }
 {
-    let mut alloc = Alloc::new(Me::new(pool.geometry(), who), refs, plain)?;
-    Ok(pool.call(who, &mut alloc, life))
+    let alloc = Alloc::new(pool.me(who), refs, plain)?;
+    Ok(pool.run(who, alloc, life))
 }

@@ -14,7 +14,7 @@ ghost use Rattle.shm_recover.specs.Mend.{IsMended};
 use shm_calls::Calls;
 use shm_graph::{Life, Me};
 use shm_plain::PlainPool;
-use shm_recover::Mending;
+use shm_recover::Mend;
 
 /// The agent of `who` dies, whatever it is at, and a recoverer of it mends what it left in progress; none where no word step was left.
 pub fn mend_fallen(pool: &mut PlainPool, who: u8, life: &mut Life) -> Option<()>
@@ -26,6 +26,6 @@ pub fn mend_fallen(pool: &mut PlainPool, who: u8, life: &mut Life) -> Option<()>
 {
     let geometry = pool.geometry();
     pool.fall(who);
-    let mut machine = Calls::new(Mending::new(Me::new(geometry, who)));
+    let mut machine = Calls::new(Mend::new(Me::new(geometry, who)));
     pool.call(who, &mut machine, life)
 }

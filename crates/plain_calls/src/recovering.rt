@@ -20,7 +20,7 @@ use shm_calls::Calls;
 use shm_count::EraSpent;
 use shm_graph::{Life, Me};
 use shm_plain::PlainPool;
-use shm_recover::Recovering;
+use shm_recover::Recover;
 
 /// The agent of `who` dies, whatever it is at.
 pub fn die(pool: &mut PlainPool, who: u8)
@@ -47,6 +47,6 @@ pub fn recover(pool: &mut PlainPool, who: u8, life: &mut Life) -> Option<Result<
     ensures events { IfSome result (λ a. (es : List Event) × Did who pool.old pool.new es × RecoverLeaves (recovering (member pool.old.start.geometry who)) (entered Recoverer (memo_of pool.old who)) (memo_of pool.new who) (memo_of pool.new who).call es a) }
 {
     let geometry = pool.geometry();
-    let mut machine = Calls::new(Recovering::new(Me::new(geometry, who)));
+    let mut machine = Calls::new(Recover::new(Me::new(geometry, who)));
     pool.call(who, &mut machine, life)
 }

@@ -36,8 +36,8 @@ use Rattle.shm_graph.specs.Trails.{Asked, Chosen}
 use Rattle.shm_graph.specs.Idle.{IsIdle}
 use Rattle.shm_graph.specs.Tells.{after_all, happens_along}
 use Rattle.shm_graph.specs.Views.{own_word}
-use Rattle.shm_graph.specs.Stores.{class_read, class_told}
-use Rattle.shm_graph.specs.Exchanges.{values_with}
+use Rattle.shm_graph.specs.MemoAfterStore.{class_read, class_told}
+use Rattle.shm_graph.specs.MemoAfterExchange.{values_with}
 use Rattle.shm_count.specs.declared.answer.Made.{Made}
 use Rattle.shm_alloc.specs.declared.alloc.AllocFault.{AllocFault}
 use Rattle.shm_alloc.specs.declared.alloc.AllocFault.TheVariants.{EraSpent, RootsFull, Full}

@@ -15,6 +15,7 @@ ghost use Rattle.shm_alloc.specs.declared.point.AllocNext.TheVariants.{Point};
 
 use crate::point::{AllocNext, AllocPoint, AllocState};
 use crate::request::Request;
+use shm_calls::Begin;
 use shm_count::Made;
 use shm_graph::{Ask, Machine, Me, Operation, Turn};
 use std::marker::Model;
@@ -262,4 +263,15 @@ impl Operation for Alloc {
     ghost does = { alloc_event };
 
     ghost operates = { alloc_operation };
+}
+
+impl Begin for Alloc {
+    type Op = Alloc;
+
+    ghost op = { λ m. m };
+
+    #[inline(always)]
+    fn begin(self) -> Alloc {
+        self
+    }
 }

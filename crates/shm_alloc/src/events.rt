@@ -1,30 +1,18 @@
-//! How an allocation begins, and what it does to the graph of references.
+//! What an allocation does to the graph of references.
 
-ghost use Rattle.std.specs.Prelude.{◌≡◌, [], List, Result};
+ghost use Rattle.std.specs.Prelude.{◌≡◌, List, Result};
 ghost use Rattle.shm_graph.specs.declared.memo.Memo.{Memo as AMemo};
 ghost use Rattle.shm_graph.specs.declared.run.Move.{Move as AMove};
 ghost use Rattle.shm_graph.specs.Asks.{Trail};
 ghost use Rattle.shm_graph.specs.Runs.{State, memos_of};
-ghost use Rattle.shm_graph.specs.Tells.{Tells};
 ghost use Rattle.shm_count.specs.declared.answer.Made.{Made as AMade};
 ghost use Rattle.shm_count.specs.Calling.{IsCall, happened_in};
 ghost use Rattle.shm_alloc.specs.declared.alloc.AllocFault.{AllocFault as AFault};
 ghost use Rattle.shm_alloc.specs.declared.point.AllocPoint.TheVariants.{Era};
 ghost use Rattle.shm_alloc.specs.declared.point.AllocState.{AllocState as AState};
 ghost use Rattle.shm_alloc.specs.Alloc.Control.{alloc_control, AllocInRange};
-ghost use Rattle.shm_alloc.specs.Alloc.Events.{alloc_event, own_events};
-ghost use Rattle.shm_alloc.specs.Alloc.{AllocFits, AllocGives, CanAlloc};
-
-/// An allocation that has just been made fits each memo of an identity between two calls.
-pub fn alloc_begins()
-    ensures { (m : AState) (r : AMemo) → m.point ≡ Era → AllocInRange m → CanAlloc m.me r → AllocFits m r r [] }
-{}
-
-/// The event of each step of an allocation is the one that it tells: the exchange of the header makes the block live in the root, and no
-/// other step is an event.
-pub fn alloc_events()
-    ensures { Tells alloc_control AllocFits alloc_event }
-{}
+ghost use Rattle.shm_alloc.specs.Alloc.Events.{own_events};
+ghost use Rattle.shm_alloc.specs.Alloc.{AllocGives, CanAlloc};
 
 /// In a run of a pool the own events of an allocation that has answered are one: the block answered becomes live in the root answered;
 /// where it is refused there are none.

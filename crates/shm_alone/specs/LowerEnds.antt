@@ -19,11 +19,11 @@ use Rattle.shm_calls.specs.CallsControl.{calls_control, calls_does}
 use Rattle.shm_calls.specs.CallsFit.{CallsFits}
 use Rattle.shm_calls.specs.Grown.{Grows}
 use Rattle.shm_calls.specs.Words.{WordFits, word_control, word_does}
-use Rattle.shm_count.specs.Step.Reading.{row_spot}
+use Rattle.shm_count.specs.Step.BeforeExchange.{row_spot}
 use Rattle.shm_steps.specs.WordParts.{former_event}
-use Rattle.shm_recover.specs.declared.mend_lower.LoweringPoint.{LoweringPoint}
-use Rattle.shm_recover.specs.declared.mend_lower.LoweringPoint.TheVariants.{Header, Row, Show, Exchange, Close}
-use Rattle.shm_recover.specs.declared.mend_lower.LoweringState.{LoweringState}
+use Rattle.shm_recover.specs.declared.mend_lower.MendLowerPoint.{MendLowerPoint}
+use Rattle.shm_recover.specs.declared.mend_lower.MendLowerPoint.TheVariants.{Header, Row, Show, Exchange, Close}
+use Rattle.shm_recover.specs.declared.mend_lower.MendLowerState.{MendLowerState}
 use Rattle.shm_recover.specs.MendLower.Control.{found, lowering_ask, lowering_call}
 use Rattle.shm_recover.specs.MendLower.Headers.{half_block}
 use Rattle.shm_recover.specs.MendLower.{HasFound, LoweringKnows, lowering_part, lowering_plan}
@@ -34,45 +34,45 @@ use Rattle.shm_alone.specs.Lifting.{GoesOn, anything, calls_alone, calls_end, ca
 -- ---- what is known, and what is left
 
 -- the header that was found is still in the header word of the block
-abbrev pub lower_stands_at : LoweringState → LoweringPoint → (Spot → ℕ) → Type 0
+abbrev pub lower_stands_at : MendLowerState → MendLowerPoint → (Spot → ℕ) → Type 0
 lower_stands_at m Row w = w (Head m.block) ≡ m.header
 lower_stands_at m Show w = w (Head m.block) ≡ m.header
 lower_stands_at m Exchange w = w (Head m.block) ≡ m.header
 lower_stands_at m y w = Unit {0}
 
-abbrev pub lower_stands : LoweringState → (Spot → ℕ) → Type 0
+abbrev pub lower_stands : MendLowerState → (Spot → ℕ) → Type 0
 lower_stands m = lower_stands_at m m.point
 
 -- how many word steps come behind the one at a point at most
-abbrev pub lower_rest_at : LoweringPoint → ℕ
+abbrev pub lower_rest_at : MendLowerPoint → ℕ
 lower_rest_at Header = 4
 lower_rest_at Row = 3
 lower_rest_at Show = 2
 lower_rest_at Exchange = 1
 lower_rest_at Close = 0
 
-abbrev pub lower_rest : LoweringState → ℕ
+abbrev pub lower_rest : MendLowerState → ℕ
 lower_rest m = lower_rest_at m.point
 
 -- what it knows of the words, and how many word steps it has left
-abbrev pub lower_alone : Calls LoweringState Word (Unit {0}) ℕ → (Spot → ℕ) → Type 0
+abbrev pub lower_alone : Calls MendLowerState Word (Unit {0}) ℕ → (Spot → ℕ) → Type 0
 lower_alone = calls_alone anything lower_stands
 
-abbrev pub lower_left : Calls LoweringState Word (Unit {0}) ℕ → ℕ
+abbrev pub lower_left : Calls MendLowerState Word (Unit {0}) ℕ → ℕ
 lower_left = calls_left word_left lower_rest
 
 -- ---- where it goes
 
 -- what is owed once the word step has found n and left these words
-abbrev Goes : LoweringState → ℕ → (Spot → ℕ) → Type 0
+abbrev Goes : MendLowerState → ℕ → (Spot → ℕ) → Type 0
 Goes = GoesOn word_control lowering_plan anything word_left word_saved lower_stands lower_rest none_over
 
-module _ (m : LoweringState) (r0 : Memo) (tr t : Trail) (es : List Event) (w : Spot → ℕ) (r : ℕ → Memo) (f : Frame) (s : Stands m.me w r f t) where
+module _ (m : MendLowerState) (r0 : Memo) (tr t : Trail) (es : List Event) (w : Spot → ℕ) (r : ℕ → Memo) (f : Frame) (s : Stands m.me w r f t) where
   -- the header is one of the block
   found_goes : (n z : ℕ) → w (Head m.block) ≡ n → 4 ≤ z → lower_stands (found m n) w × (1 + lower_rest (found m n) ≤ z)
   found_goes n z is most = go ((header_of n).client == m.me.who)
     where
-      go : (q : Bool) → let x : LoweringState = record m { header = n; point = if q then Exchange else Row } in lower_stands x w × (1 + lower_rest x ≤ z)
+      go : (q : Bool) → let x : MendLowerState = record m { header = n; point = if q then Exchange else Row } in lower_stands x w × (1 + lower_rest x ≤ z)
       go true = (is, omega arith)
       go false = (is, omega arith)
 
@@ -81,7 +81,7 @@ module _ (m : LoweringState) (r0 : Memo) (tr t : Trail) (es : List Event) (w : S
   block_there h = half_block m.me w r s.held h.may.who (r m.me.who) refl h.may.slot m.block h.may.after m.era (ap (λ (x : Memo). x.op) h.same.rest ∙ h.may.op)
 
   -- the word step at a point leads on
-  lower_goes : (y : LoweringPoint) → LoweringKnows (record m { point = y }) y r0 (r m.me.who) tr es → lower_stands_at m y w
+  lower_goes : (y : MendLowerPoint) → LoweringKnows (record m { point = y }) y r0 (r m.me.who) tr es → lower_stands_at m y w
       → let a : Ask = lowering_ask m.me m.block m.era m.header y in
       let p = spot_at m.me.geometry (classes w) (at_of a) in
       Goes (record m { point = y }) (seen_of a (w p)) (words_after w a p)
@@ -90,7 +90,7 @@ module _ (m : LoweringState) (r0 : Memo) (tr t : Trail) (es : List Event) (w : S
       found_goes (w (spot_at m.me.geometry (classes w) m.block)) (4 + 0) (ap w (sym place)) (omega arith)
   lower_goes Row (h, other, bound) is = go (nat_lt (w (spot_at m.me.geometry (classes w) (at_of (lowering_ask m.me m.block m.era m.header Row)))) (header_of m.header).era)
     where
-      go : (q : Bool) → let x : LoweringState = record m { point = if q then Show else Exchange } in lower_stands x w × (1 + lower_rest x ≤ 3 + 0)
+      go : (q : Bool) → let x : MendLowerState = record m { point = if q then Show else Exchange } in lower_stands x w × (1 + lower_rest x ≤ 3 + 0)
       go true = (is, omega arith)
       go false = (is, omega arith)
   lower_goes Show (h, other, low, bound) is =
@@ -100,13 +100,13 @@ module _ (m : LoweringState) (r0 : Memo) (tr t : Trail) (es : List Event) (w : S
       let a : Ask = lowering_ask m.me m.block m.era m.header Exchange in
       let p : Spot = spot_at m.me.geometry (classes w) m.block in
       let same : eqb (w p) m.header ≡ true = eq-eqb (w p) m.header (ap w (block_there h) ∙ is) in
-      subst (λ (q : Bool). let x : LoweringState = if q then record m { point = Close } else found m (w p) in lower_stands x (words_after w a p) × (1 + lower_rest x ≤ 1 + 0)) (sym same) (tt, omega arith)
+      subst (λ (q : Bool). let x : MendLowerState = if q then record m { point = Close } else found m (w p) in lower_stands x (words_after w a p) × (1 + lower_rest x ≤ 1 + 0)) (sym same) (tt, omega arith)
   lower_goes Close h is = omega arith
 
 -- ---- it ends
 
 -- nothing was asked yet, and the memo is that before the word step
-made_none : (m : LoweringState) (y : LoweringPoint) (c : Word) (r0 r : Memo) (t : Trail) → (lowering_part m y).fits c r0 r t → (t ≡ []) × (r ≡ r0)
+made_none : (m : MendLowerState) (y : MendLowerPoint) (c : Word) (r0 r : Memo) (t : Trail) → (lowering_part m y).fits c r0 r t → (t ≡ []) × (r ≡ r0)
 made_none m Header c r0 r t h = (h.0.none, h.0.same)
 made_none m Row c r0 r t h = (h.0.none, h.0.same)
 made_none m Show c r0 r t h = (h.0.none, h.0.same)
@@ -122,13 +122,13 @@ lower_loss c a b n = go (eqb n b)
     go false = tt
 
 -- its word steps end alone
-lower_part_ends : (m : LoweringState) (y : LoweringPoint) → EndsAlone word_control (lowering_part m y).does anything word_left word_saved (lowering_part m y).fits
+lower_part_ends : (m : MendLowerState) (y : MendLowerPoint) → EndsAlone word_control (lowering_part m y).does anything word_left word_saved (lowering_part m y).fits
 lower_part_ends m y = go y
   where
     plain : (first : Bool) → EndsAlone word_control word_does anything word_left word_saved (λ c r0 r tr. WordFits first c r0 r tr × Grows first r0 r)
     plain first = fewer_end word_control (WordFits first) (λ c r0 r tr. WordFits first c r0 r tr × Grows first r0 r) word_does anything word_left word_saved (λ c r0 r tr h. h.0) (word_ends first)
 
-    go : (y : LoweringPoint) → EndsAlone word_control (lowering_part m y).does anything word_left word_saved (lowering_part m y).fits
+    go : (y : MendLowerPoint) → EndsAlone word_control (lowering_part m y).does anything word_left word_saved (lowering_part m y).fits
     go Header = plain true
     go Row = plain false
     go Show = plain false
@@ -143,7 +143,7 @@ lower_ends =
       parts = λ m. lower_part_ends m m.point;
       begins = λ m w is. tt;
       follows = λ m r0 tr w r f going s fit is.
-          let p : LoweringState = m.plan in
+          let p : MendLowerState = m.plan in
           let made = made_none p p.point m.call fit.rs (r p.me.who) fit.t fit.fits in
           let call : lowering_call p p.point ≡ m.call = subst (λ (t : Trail). after_all word_control (lowering_call p p.point) t ≡ m.call) made.0 fit.there in
           subst (λ (c : Word). let at = spot_at p.me.geometry (classes w) (at_of c.ask) in Goes p (seen_of c.ask (w at)) (words_after w c.ask at)) call

@@ -30,7 +30,7 @@ use Rattle.shm_count.specs.Step.Control.{PartFits, PointFits, answer_of, block_a
 use Rattle.shm_count.specs.Step.Events.{step_event, step_event_at}
 use Rattle.shm_count.specs.Step.Headers.{half_block}
 use Rattle.shm_count.specs.Step.Machines.{down_answer, down_control, is_down}
-use Rattle.shm_count.specs.Step.Reading.{row_spot}
+use Rattle.shm_count.specs.Step.BeforeExchange.{row_spot}
 use Rattle.shm_count.specs.Step.{CanStep, PointHolds}
 use Rattle.shm_count.specs.StepsAt.{DownFitsAt}
 use Rattle.shm_alone.specs.Alone.{pay, IsLoss, weight, IsPaid, EndsAlone}

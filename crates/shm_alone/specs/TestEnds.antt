@@ -4,7 +4,7 @@ use Rattle.std.specs.Prelude.{nat_lt, Some, None}
 use Rattle.std.proofs.lemmas.Bool.{ltb-true}
 use Rattle.shm_graph.specs.declared.ask.Me.{Me}
 use Rattle.shm_graph.specs.Laws.{Outcome}
-use Rattle.shm_graph.specs.Readings.{next_row}
+use Rattle.shm_graph.specs.MemoAfterRead.{next_row}
 use Rattle.shm_calls.specs.CallsControl.{calls_does}
 use Rattle.shm_calls.specs.CallsFit.{CallsFits}
 use Rattle.shm_calls.specs.Words.{word_control}

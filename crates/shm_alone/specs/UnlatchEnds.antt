@@ -8,9 +8,9 @@ use Rattle.shm_calls.specs.declared.word.Word.{Word}
 use Rattle.shm_calls.specs.CallsControl.{calls_control, calls_does}
 use Rattle.shm_calls.specs.CallsFit.{CallsFits}
 use Rattle.shm_calls.specs.Words.{word_control}
-use Rattle.shm_recover.specs.declared.mend_unlatch.UnlatchingPoint.{UnlatchingPoint}
-use Rattle.shm_recover.specs.declared.mend_unlatch.UnlatchingPoint.TheVariants.{Whose, Look, Give, Back}
-use Rattle.shm_recover.specs.declared.mend_unlatch.UnlatchingState.{UnlatchingState}
+use Rattle.shm_recover.specs.declared.mend_unlatch.MendUnlatchPoint.{MendUnlatchPoint}
+use Rattle.shm_recover.specs.declared.mend_unlatch.MendUnlatchPoint.TheVariants.{Whose, Look, Give, Back}
+use Rattle.shm_recover.specs.declared.mend_unlatch.MendUnlatchState.{MendUnlatchState}
 use Rattle.shm_recover.specs.MendUnlatch.Control.{is_whose, unlatching_after, unlatching_turns}
 use Rattle.shm_recover.specs.MendUnlatch.{unlatching_plan}
 use Rattle.shm_alone.specs.Alone.{EndsAlone}
@@ -18,24 +18,24 @@ use Rattle.shm_alone.specs.GiveEnds.{none_over}
 use Rattle.shm_alone.specs.Lifting.{anything, bare_calls_end, calls_alone, calls_left, word_ends, word_left, word_saved}
 
 -- how many word steps come behind the one at a point at most
-abbrev pub unlatch_rest_at : UnlatchingPoint → ℕ
+abbrev pub unlatch_rest_at : MendUnlatchPoint → ℕ
 unlatch_rest_at Whose = 3
 unlatch_rest_at Look = 2
 unlatch_rest_at Give = 1
 unlatch_rest_at Back = 0
 
-abbrev pub unlatch_rest : UnlatchingState → ℕ
+abbrev pub unlatch_rest : MendUnlatchState → ℕ
 unlatch_rest m = unlatch_rest_at m.point
 
 -- what it knows of the words, and how many word steps it has left
-abbrev pub unlatch_alone : Calls UnlatchingState Word (Unit {0}) ℕ → (Spot → ℕ) → Type 0
+abbrev pub unlatch_alone : Calls MendUnlatchState Word (Unit {0}) ℕ → (Spot → ℕ) → Type 0
 unlatch_alone = calls_alone anything anything
 
-abbrev pub unlatch_left : Calls UnlatchingState Word (Unit {0}) ℕ → ℕ
+abbrev pub unlatch_left : Calls MendUnlatchState Word (Unit {0}) ℕ → ℕ
 unlatch_left = calls_left word_left unlatch_rest
 
 -- a word step pays for the next one
-unlatch_paid : (m : UnlatchingState) (y : UnlatchingPoint) (n : ℕ) → Outcome (unlatching_turns y n) (1 + unlatch_rest (unlatching_after m y n) ≤ unlatch_rest_at y + 0) (λ u. 0 ≤ unlatch_rest_at y + 0)
+unlatch_paid : (m : MendUnlatchState) (y : MendUnlatchPoint) (n : ℕ) → Outcome (unlatching_turns y n) (1 + unlatch_rest (unlatching_after m y n) ≤ unlatch_rest_at y + 0) (λ u. 0 ≤ unlatch_rest_at y + 0)
 unlatch_paid m Whose n = go (n == 0)
   where
     go : (q : Bool) → Outcome {A = Unit {0}} (if q then Some tt else None) (1 + unlatch_rest (if q then m else record m { author = (n - 1) % m.me.geometry.clients; point = Look }) ≤ 3) (λ u. 0 ≤ 3)

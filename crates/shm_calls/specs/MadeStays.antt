@@ -27,13 +27,13 @@ use Rattle.shm_graph.specs.Blocks.{classes}
 use Rattle.shm_graph.specs.Changes.{forgotten, called, memo_on, test_before, changed_by}
 use Rattle.shm_graph.specs.Events as event
 use Rattle.shm_graph.specs.Events.{Event}
-use Rattle.shm_graph.specs.Exchanges.{cut, reparted, without_made, with_unsent, with_untaken, lowered, committed, exchanged_on}
+use Rattle.shm_graph.specs.MemoAfterExchange.{cut, reparted, without_made, with_unsent, with_untaken, lowered, committed, exchanged_on}
 use Rattle.shm_graph.specs.Laws.{Control, Frame, framed, Outcome, event_by, event_of, event_on}
 use Rattle.shm_graph.specs.Ops.{is_op, slot_of}
 use Rattle.shm_graph.specs.Reach.{learnt, is_dying}
-use Rattle.shm_graph.specs.Readings.{is_held, is_head_slot, is_latched, read_on, reference_read, row_read, valued, values_read, word_read}
+use Rattle.shm_graph.specs.MemoAfterRead.{is_held, is_head_slot, is_latched, read_on, reference_read, row_read, valued, values_read, word_read}
 use Rattle.shm_graph.specs.Spots.{same_spot, spot_at}
-use Rattle.shm_graph.specs.Stores.{is_lowering, making_with, not_block, not_of, other_than, put, with_own, without_looks, written, op_closed, era_stored, stored_on}
+use Rattle.shm_graph.specs.MemoAfterStore.{is_lowering, making_with, not_block, not_of, other_than, put, with_own, without_looks, written, op_closed, era_stored, stored_on}
 use Rattle.shm_graph.specs.Telling.{Claim, claim_of}
 use Rattle.shm_graph.specs.Tells.{after_all, happens_along, is_event}
 use Rattle.shm_graph.proofs.Machines.Calling.{called_part}

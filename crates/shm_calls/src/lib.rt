@@ -18,5 +18,5 @@ pub use laws::{
 };
 pub use or::Or;
 pub use plan::Plan;
-pub use task::Task;
+pub use task::{Begin, Task};
 pub use word::Word;

@@ -1,7 +1,8 @@
-//! Plans whose machines are operations, and one of two operations.
+//! Plans whose machines are operations, one of two operations, and what an operation is made of.
 
+ghost use Rattle.std.specs.Prelude.{◌≡◌};
 ghost use Rattle.shm_graph.specs.declared.memo.Memo.{Memo as AMemo};
-ghost use Rattle.shm_calls.specs.CallsControl.{calls_does};
+ghost use Rattle.shm_calls.specs.CallsControl.{calls_does, calls_of};
 ghost use Rattle.shm_calls.specs.Either.{OrLeaves, OrNeeds, or_does};
 ghost use Rattle.shm_calls.specs.EitherOperates.{OrRests, or_operation};
 ghost use Rattle.shm_calls.specs.Tasks.{CallsLeave, CallsMay, TaskLaws, calls_operation};
@@ -44,4 +45,49 @@ impl<A: Operation, B: Operation> Operation for Or<A, B> {
     ghost rests = { OrRests A.rests B.rests };
 
     ghost operates = { or_operation A.control B.control A.fits A.gives B.fits B.gives A.may B.may A.does B.does A.leaves B.leaves A.rests B.rests A.operates B.operates };
+}
+
+/// What an operation is made of: a plan, or the operation itself.
+pub trait Begin {
+    type Op: Operation + Drop;
+
+    /// The operation, before its first word step.
+    ghost op: { Self → Self.Op };
+
+    /// Makes the operation, to be run.
+    fn begin(self) -> Self::Op
+        ensures { result ≡ op self };
+}
+
+impl<P: Task + Drop> Begin for P {
+    type Op = Calls<P>;
+
+    ghost op = { calls_of P.plan };
+
+    #[inline(always)]
+    fn begin(self) -> Calls<P> {
+        Calls::new(self)
+    }
+}
+
+impl<A: Operation + Drop, B: Operation + Drop> Begin for Or<A, B> {
+    type Op = Or<A, B>;
+
+    ghost op = { λ m. m };
+
+    #[inline(always)]
+    fn begin(self) -> Or<A, B> {
+        self
+    }
+}
+
+impl<P: Task + Drop> Begin for Calls<P> {
+    type Op = Calls<P>;
+
+    ghost op = { λ m. m };
+
+    #[inline(always)]
+    fn begin(self) -> Calls<P> {
+        self
+    }
 }

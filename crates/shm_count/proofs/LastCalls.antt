@@ -17,7 +17,7 @@ use Rattle.shm_count.specs.Refusing.{ReadsCount}
 use Rattle.shm_count.specs.Step.Control.{first_point}
 use Rattle.shm_count.specs.Step.Asks.{point_trail}
 use Rattle.shm_count.specs.Step.Machines.{up_answer}
-use Rattle.shm_count.specs.Step.Reading.{first_asked}
+use Rattle.shm_count.specs.Step.BeforeExchange.{first_asked}
 use Rattle.shm_count.specs.Step.Refusing.{first_reads}
 use Rattle.shm_count.specs.UpRoot.Control.{RootingAnswer, rooting_call, rooting_turns, taken_up}
 use Rattle.shm_count.specs.UpRoot.{rooting_part, rooting_plan}

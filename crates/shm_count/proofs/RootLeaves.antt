@@ -12,11 +12,11 @@ use Rattle.shm_graph.specs.declared.memo.Stored.{Stored}
 use Rattle.shm_graph.specs.declared.table.Part.{Part as TablePart}
 use Rattle.shm_graph.specs.declared.table.Part.TheVariants.{Loose, Table}
 use Rattle.shm_graph.specs.Chains.{part_set}
-use Rattle.shm_graph.specs.Exchanges.{cut, reparted, without_made}
+use Rattle.shm_graph.specs.MemoAfterExchange.{cut, reparted, without_made}
 use Rattle.shm_graph.specs.Reach.{shown, sifted, is_named}
 use Rattle.shm_graph.specs.Views.{own_word}
 use Rattle.shm_graph.proofs.Spots.Spotting.{same_spot_self}
-use Rattle.shm_laws.specs.Exchanges.{dying_after}
+use Rattle.shm_laws.specs.HeaderExchanges.{dying_after}
 use Rattle.shm_steps.proofs.MemoCommits.{known_lowered, lowered_is}
 use Rattle.shm_count.specs.declared.point.Aim.TheVariants.{Down}
 use Rattle.shm_count.specs.declared.point.Half.TheVariants.{First}
@@ -29,7 +29,7 @@ use Rattle.shm_count.specs.Step.Memos.{closed_part}
 use Rattle.shm_count.specs.Roots.{rest, RootLowered}
 use Rattle.shm_count.proofs.RootMemos.{op_done, word_done}
 use Rattle.std.specs.List.{Contains, filter}
-use Rattle.shm_graph.specs.Stores.{is_of, not_of, with_own, written, stored_on, era_stored}
+use Rattle.shm_graph.specs.MemoAfterStore.{is_of, not_of, with_own, written, stored_on, era_stored}
 use Rattle.shm_graph.proofs.StepKinds.Loads.{choice}
 use Rattle.shm_count.specs.Retaining.{slots_forgotten, slots_sifted, named_same, named_sifted, value_sifted}
 use Rattle.shm_count.specs.Tear.Memos.{is_slot_word}

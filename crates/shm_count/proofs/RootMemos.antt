@@ -19,12 +19,12 @@ use Rattle.shm_graph.specs.declared.memo.Stored.{Stored}
 use Rattle.shm_graph.specs.declared.table.Part.{Part as TablePart}
 use Rattle.shm_graph.specs.declared.table.Part.TheVariants.{Loose, Table}
 use Rattle.shm_graph.specs.Chains.{part_set}
-use Rattle.shm_graph.specs.Exchanges.{cut, lowered, reparted, without_made}
+use Rattle.shm_graph.specs.MemoAfterExchange.{cut, lowered, reparted, without_made}
 use Rattle.shm_graph.specs.Held.{is_loose}
 use Rattle.shm_graph.specs.Idle.{IsIdle, hold_word}
 use Rattle.shm_graph.specs.Reach.{shown}
 use Rattle.shm_graph.specs.Spots.{same_spot}
-use Rattle.shm_graph.specs.Stores.{not_block, not_of, op_closed, op_written}
+use Rattle.shm_graph.specs.MemoAfterStore.{not_block, not_of, op_closed, op_written}
 use Rattle.shm_graph.specs.Views.{own_word}
 use Rattle.shm_count.specs.declared.answer.UpFault.{UpFault}
 use Rattle.shm_count.specs.declared.answer.UpFault.TheVariants.{EraSpent, CountFull}

@@ -1,6 +1,6 @@
 -- the commit test as a plan: what is known before each load, and what is left
 pub mod Control
-pub mod Reads
+pub mod StepTrail
 pub mod Shown
 pub mod Laws
 pub mod Machines
@@ -22,7 +22,7 @@ use Rattle.shm_graph.specs.Core.{core}
 use Rattle.shm_graph.specs.Events.{Event}
 use Rattle.shm_graph.specs.Held.{odd}
 use Rattle.shm_graph.specs.Ops.{on_of}
-use Rattle.shm_graph.specs.Readings.{next_row}
+use Rattle.shm_graph.specs.MemoAfterRead.{next_row}
 use Rattle.shm_graph.specs.Views.{own_word}
 use Rattle.shm_steps.specs.WordParts.{TestBegun, TestGoesOn}
 use Rattle.shm_calls.specs.declared.word.Word.{Word}
@@ -36,7 +36,7 @@ use Rattle.shm_count.specs.declared.commit_test.Proof.TheVariants as proof
 use Rattle.shm_count.specs.declared.commit_test.TestingPoint.{TestingPoint}
 use Rattle.shm_count.specs.declared.commit_test.TestingPoint.TheVariants.{Header, Row}
 use Rattle.shm_count.specs.declared.commit_test.TestingState.{TestingState}
-use Rattle.shm_count.specs.CommitTest.Reads.{read_part}
+use Rattle.shm_count.specs.CommitTest.StepTrail.{read_part}
 use Rattle.shm_count.specs.CommitTest.Control.{is_header, is_shown, test_after, test_ask, test_call, test_turns}
 
 -- ---- when it may begin

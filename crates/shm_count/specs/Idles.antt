@@ -10,7 +10,7 @@ use Rattle.shm_graph.specs.declared.spot.Spot.TheVariants.{Hold, Home, Root, Slo
 use Rattle.shm_graph.specs.declared.memo.Status.TheVariants.{New, Live, Gone}
 use Rattle.shm_graph.specs.Events.{Event}
 use Rattle.shm_graph.specs.Idle.{IsIdle, hold_word}
-use Rattle.shm_graph.specs.Stores.{other_than, put}
+use Rattle.shm_graph.specs.MemoAfterStore.{other_than, put}
 use Rattle.shm_graph.specs.Views.{own_word}
 use Rattle.shm_graph.proofs.Idles.{idle_own}
 use Rattle.shm_steps.specs.Conditions.{IsHere}

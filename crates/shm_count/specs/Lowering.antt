@@ -10,7 +10,7 @@ use Rattle.shm_graph.specs.declared.memo.Memo.{Memo}
 use Rattle.shm_graph.specs.Asks.{Trail}
 use Rattle.shm_graph.specs.Events.{Event}
 use Rattle.shm_graph.specs.Reach.{is_named}
-use Rattle.shm_graph.specs.Stores.{not_block}
+use Rattle.shm_graph.specs.MemoAfterStore.{not_block}
 use Rattle.shm_calls.specs.Parts.{IsHeld}
 use Rattle.shm_count.specs.declared.answer.EraSpent.{EraSpent}
 use Rattle.shm_count.specs.Retaining.{held_counted, named_stays}

@@ -15,7 +15,7 @@ use Rattle.shm_graph.specs.Blocks.{headers}
 use Rattle.shm_graph.specs.Held.{HeldAt, IsDying, is_slot}
 use Rattle.shm_graph.specs.Ops.{cover, cover_of}
 use Rattle.shm_graph.specs.Reach.{learnt, not_at, shown, in_slot, in_slots, not_zero, named_blocks, roots_below, is_named, is_reached, is_dying, binds, sifted}
-use Rattle.shm_graph.specs.Stores.{is_of, not_of}
+use Rattle.shm_graph.specs.MemoAfterStore.{is_of, not_of}
 use Rattle.shm_graph.specs.Views.{view, own_word}
 use Rattle.shm_graph.proofs.States.Holders.{reach_counted}
 use Rattle.shm_graph.proofs.StepKinds.Loads.{choice}

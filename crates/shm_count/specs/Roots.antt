@@ -10,7 +10,7 @@ use Rattle.shm_graph.specs.declared.spot.Spot.{Spot}
 use Rattle.shm_graph.specs.declared.spot.Spot.TheVariants.{Root}
 use Rattle.shm_graph.specs.Spots.{same_spot}
 use Rattle.std.specs.List.{Contains, filter}
-use Rattle.shm_graph.specs.Stores.{is_of}
+use Rattle.shm_graph.specs.MemoAfterStore.{is_of}
 use Rattle.shm_graph.specs.Reach.{is_named, is_reached}
 use Rattle.shm_graph.specs.Views.{own_word}
 use Rattle.shm_count.specs.declared.point.Aim.{Aim}

@@ -11,7 +11,7 @@ use Rattle.shm_graph.specs.declared.memo.Memo.{Memo}
 use Rattle.shm_graph.specs.declared.memo.Op.TheVariants.{Nothing}
 use Rattle.shm_graph.specs.declared.memo.Stored.{Stored}
 use Rattle.shm_graph.specs.Reach.{learnt}
-use Rattle.shm_graph.specs.Stores.{is_of, other_than, put, with_own}
+use Rattle.shm_graph.specs.MemoAfterStore.{is_of, other_than, put, with_own}
 use Rattle.shm_graph.specs.Views.{own_word}
 use Rattle.shm_steps.specs.Reparting.{sight}
 use Rattle.shm_graph.specs.declared.ask.Me.{Me}

@@ -7,16 +7,16 @@ pub mod Going
 pub mod Ranges
 pub mod Laws
 pub mod Machines
-pub mod Exchanged
+pub mod ExchangeMade
 pub mod Decides
 pub mod Memos
 pub mod Headers
 pub mod Beginning
-pub mod Reading
+pub mod BeforeExchange
 pub mod Cores
 pub mod Committing
 pub mod Parts
-pub mod Exchanging
+pub mod HalfExchange
 pub mod Tells
 pub mod Keeps
 pub mod Bound
@@ -44,8 +44,8 @@ use Rattle.shm_steps.specs.Conditions.{IsHere}
 use Rattle.shm_graph.specs.Views.{own_word}
 use Rattle.shm_graph.specs.Held.{is_loose, is_slot}
 use Rattle.shm_graph.specs.Reach.{is_reached}
-use Rattle.shm_graph.specs.Exchanges.{committed}
-use Rattle.shm_graph.specs.Stores.{stored_on, with_own}
+use Rattle.shm_graph.specs.MemoAfterExchange.{committed}
+use Rattle.shm_graph.specs.MemoAfterStore.{stored_on, with_own}
 use Rattle.shm_graph.specs.Tells.{after_all, happens_along}
 use Rattle.shm_steps.specs.OwnWords.{MayAdd, MayRemove}
 use Rattle.shm_steps.specs.Beginning.{MayReplaceRoot, MaySet, MayPut, MayTake, MayTakeBack, MayFill, MayClear, MayReplace}

@@ -17,14 +17,14 @@ use Rattle.shm_graph.specs.Changes.{called, memo_on}
 use Rattle.shm_graph.specs.Held.{HeldAt, is_loose}
 use Rattle.shm_graph.specs.Laws.{Frame, framed}
 use Rattle.shm_graph.specs.Reach.{learnt, is_dying, reached_blocks}
-use Rattle.shm_graph.specs.Readings.{word_read, reference_read, values_read, is_latched}
+use Rattle.shm_graph.specs.MemoAfterRead.{word_read, reference_read, values_read, is_latched}
 use Rattle.shm_graph.specs.Spots.{spot_at}
 use Rattle.shm_graph.specs.Telling.{Claim, bare, tag_claim, tag_claims, Role, Directory, Entry, Value, Other, Played, role_in, roles_from, roles, shaped, role_claim, claims, claim_of}
 use Rattle.shm_graph.specs.Views.{view}
 use Rattle.shm_graph.proofs.Machines.Calling.{called_by}
 use Rattle.shm_graph.proofs.States.Claims.{ClaimSound, claims_sound}
 use Rattle.shm_graph.proofs.Memos.LoadTold.{claim_found, claim_in_all, claim_word}
-use Rattle.shm_steps.specs.Reading.{IsCovered}
+use Rattle.shm_steps.specs.LoadNeeds.{IsCovered}
 use Rattle.shm_steps.specs.Walking.{Reads}
 use Rattle.shm_steps.proofs.Partitions.Words.{one_more_role, role_new}
 use Rattle.shm_steps.proofs.BlockReads.{told_called}

@@ -6,7 +6,7 @@ pub mod Events
 pub mod Stacks
 pub mod Bound
 pub mod Cores
-pub mod Reading
+pub mod TagLoads
 pub mod Words
 pub mod Storing
 pub mod Lowering
@@ -27,7 +27,7 @@ use Rattle.shm_graph.specs.Asks.{Trail, failed, IsWithin}
 use Rattle.shm_graph.specs.Bounds.{tear_steps, redo_steps}
 use Rattle.shm_graph.specs.Agents.{recovers}
 use Rattle.shm_graph.specs.Events.{Event}
-use Rattle.shm_graph.specs.Stores.{not_block}
+use Rattle.shm_graph.specs.MemoAfterStore.{not_block}
 use Rattle.shm_graph.specs.Tells.{after_all, happens_along}
 use Rattle.shm_graph.specs.Views.{own_word}
 use Rattle.shm_steps.specs.Conditions.{IsHere}

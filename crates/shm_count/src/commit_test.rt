@@ -3,23 +3,18 @@
 //! That a header of last client and era together with a matrix of eras tells it, the header read before the rows, is an idea of CXL-SHM
 //! (SOSP 2023); the exact condition is this project's own.
 
-ghost use Rattle.std.specs.Prelude.{◌≡◌, ℕ, ◌<◌, []};
+ghost use Rattle.std.specs.Prelude.{◌≡◌, ℕ, ◌<◌, List};
 ghost use Rattle.shm_words.specs.Layout.{GeometryFits};
 ghost use Rattle.shm_graph.specs.declared.ask.Me.{Me as AMe};
 ghost use Rattle.shm_graph.specs.declared.memo.Memo.{Memo as AMemo};
 ghost use Rattle.shm_graph.specs.Asks.{Trail, IsWithin};
-ghost use Rattle.shm_graph.specs.Tells.{Tells};
-ghost use Rattle.shm_calls.specs.CallsControl.{calls_does};
-ghost use Rattle.shm_calls.specs.CallsFit.{CallsFits};
-ghost use Rattle.shm_calls.specs.Plans.{plan_trail};
-ghost use Rattle.shm_calls.specs.Words.{word_control};
 ghost use Rattle.shm_count.specs.declared.commit_test.Commit.{Commit as ACommit};
 ghost use Rattle.shm_count.specs.CommitTest.Control.{testing, test_next, test_step};
-ghost use Rattle.shm_count.specs.CommitTest.{MayTest, TestLeaves, testing_plan};
+ghost use Rattle.shm_count.specs.CommitTest.{TestLeaves, testing_plan};
 ghost use Rattle.shm_count.specs.CommitTest.Laws.{testing_laws};
-ghost use Rattle.shm_count.specs.CommitTest.Machines.{commit_test, CommitTestFits, CommitTestGives, commit_test_told};
+ghost use Rattle.shm_graph.specs.Events.{Event as AnEvent};
 
-use shm_calls::{Calls, Plan, Word};
+use shm_calls::{Plan, Word};
 use shm_graph::{Machine, Me};
 use shm_words::Header;
 use std::marker::Model;
@@ -82,12 +77,14 @@ impl TestingState {
 }
 
 /// The word steps of a commit test.
+///
+/// It answers `Committed` exactly where the step of this era was committed on this block, whatever other identities do between its loads.
 #[derive(Drop)]
-pub struct Testing {
+pub struct CommitTest {
     state: TestingState,
 }
 
-impl Model for Testing {
+impl Model for CommitTest {
     ghost use Rattle.shm_count.specs.declared.commit_test.TestingState.{TestingState as AState};
 
     ghost Value = { AState };
@@ -99,19 +96,16 @@ impl Model for Testing {
     ghost invariant = { λ a. TestingInRange a.state };
 }
 
-/// It answers `Committed` exactly where the step of this era was committed on this block, whatever other identities do between its loads.
-pub type CommitTest = Calls<Testing>;
-
-impl Testing {
+impl CommitTest {
     /// Whether the step of the identity `me` at its own era was committed on `block`, before the first load. In format 2 the block may be
     /// 0, which a redo record names while its words are of two records; then no step was.
     #[inline(always)]
-    pub fn new(me: Me, block: u32, era: u64) -> Testing
+    pub fn new(me: Me, block: u32, era: u64) -> CommitTest
         requires geometry { GeometryFits me.geometry }
         requires who { me.who < me.geometry.clients }
         ensures { result ≡ testing me block era }
     {
-        Testing {
+        CommitTest {
             state: TestingState {
                 me,
                 block,
@@ -123,7 +117,7 @@ impl Testing {
     }
 }
 
-impl Plan for Testing {
+impl Plan for CommitTest {
     type Call = Word;
 
     type Answer = Commit;
@@ -183,25 +177,7 @@ impl Plan for Testing {
     ghost laws = { testing_laws };
 }
 
-/// A commit test fits each memo of an identity whose agent is a recoverer, where the redo record names the block for the own era, or in
-/// format 2 names 0 for it.
-pub fn commit_test_begins()
-    ensures { (me : AMe) (b e : ℕ) (r : AMemo) → MayTest me b e r → CommitTestFits me b e r r [] }
-{}
-
-/// The event of each word step of a commit test is the one that it tells: none.
-pub fn commit_test_events()
-    ensures { Tells commit_test (CallsFits word_control testing_plan) (calls_does word_control testing_plan) }
-{}
-
-/// A commit test answers that the step is committed exactly where it is, by a word that it read and that shows it; nothing of the memo
-/// changed but what was read, there is no event, and what it asked is one of its trails.
-pub fn commit_test_leaves()
-    ensures leaves { (me : AMe) (b e : ℕ) (r0 r : AMemo) (tr : Trail) (a : ACommit) → CommitTestGives me b e r0 r tr a → TestLeaves (testing me b e) r0 r tr (commit_test_told me b e tr) a }
-    ensures trail { (me : AMe) (b e : ℕ) (r0 r : AMemo) (tr : Trail) (a : ACommit) → CommitTestGives me b e r0 r tr a → plan_trail testing_plan (testing me b e) tr a }
-{}
-
 /// A commit test took at most a load for each client.
 pub fn commit_test_bound()
-    ensures { (me : AMe) (b e : ℕ) (r0 r : AMemo) (tr : Trail) (a : ACommit) → CommitTestGives me b e r0 r tr a → IsWithin me.geometry.clients tr }
+    ensures { (me : AMe) (b e : ℕ) (r0 r : AMemo) (tr : Trail) (es : List AnEvent) (a : ACommit) → TestLeaves (testing me b e) r0 r tr es a → IsWithin me.geometry.clients tr }
 {}

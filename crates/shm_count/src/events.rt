@@ -1,4 +1,4 @@
-//! How a count step and a tear-down begin, and what they do to the graph of references.
+//! How a count step begins, and what count steps and tear-downs do to the graph of references.
 
 ghost use Rattle.std.specs.Prelude.{◌≡◌, ◌≢◌, ℕ, ◌-◌, ◌^◌, ◌<◌, [], ◌∷◌, ◌++◌, Bool, List, Result, Ok, Err, is_ok};
 ghost use Rattle.std.specs.List.{All, Contains};
@@ -20,16 +20,15 @@ ghost use Rattle.shm_count.specs.Step.Machines.{IsUp, IsDown, IsChange, up_contr
 ghost use Rattle.shm_count.specs.StepsAt.{UpGivesAt, DownGivesAt, ChangeGivesAt};
 ghost use Rattle.shm_count.specs.declared.point.StepPoint.TheVariants.{Era};
 ghost use Rattle.shm_count.specs.declared.point.StepState.{StepState as AState};
-ghost use Rattle.shm_count.specs.declared.tear_point.TearPoint.TheVariants.{Begin};
 ghost use Rattle.shm_count.specs.declared.tear_point.TearState.{TearState as ATear};
 ghost use Rattle.shm_calls.specs.Deciding.{Decides};
 ghost use Rattle.shm_count.specs.Step.Control.{step_control, StepInRange};
-ghost use Rattle.shm_count.specs.Step.Exchanged.{step_exchanged, step_exchanging};
+ghost use Rattle.shm_count.specs.Step.ExchangeMade.{step_exchanged, step_exchanging};
 ghost use Rattle.shm_count.specs.Step.Events.{step_event, own_events};
 ghost use Rattle.shm_count.specs.Step.{StepFits, CanStep};
-ghost use Rattle.shm_count.specs.Tear.Control.{tear_control, TearInRange};
-ghost use Rattle.shm_count.specs.Tear.Events.{tear_event, Visit, Walk, InOrder, events_of, IsTearing, frees_of};
-ghost use Rattle.shm_count.specs.Tear.{TearFits, TearGives, TearLeaves, CanTear};
+ghost use Rattle.shm_count.specs.Tear.Control.{tear_control};
+ghost use Rattle.shm_count.specs.Tear.Events.{Visit, Walk, InOrder, events_of, IsTearing, frees_of};
+ghost use Rattle.shm_count.specs.Tear.{TearGives, TearLeaves};
 
 /// A count step that has just been made fits each memo that shows its slot to be the identity's, holding what the step needs there,
 /// and a block that is to be raised to be in reach.
@@ -41,17 +40,6 @@ pub fn step_begins()
 /// step, and no other word step is an event.
 pub fn step_events()
     ensures { (p : ASpot) → Tells step_control (StepFits p) (step_event p) }
-{}
-
-/// A tear-down that has just been made fits each memo that has its block among its zero-count blocks, with no step in progress.
-pub fn tear_begins()
-    ensures { (m : ATear) (r : AMemo) → m.point ≡ Begin → m.block ≡ m.first → TearInRange m → CanTear m.me m.first r → TearFits m r r [] }
-{}
-
-/// The event of each word step of a tear-down is the one that it tells: those of its steps down, and the freeing of a block by the
-/// store of its header.
-pub fn tear_events()
-    ensures { Tells tear_control TearFits tear_event }
 {}
 
 /// In a run of a pool the own events of a count step that is done are exactly its own, and where it is refused there are none.

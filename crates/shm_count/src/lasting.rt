@@ -11,7 +11,7 @@ ghost use Rattle.shm_graph.specs.Events.{Event as AnEvent};
 ghost use Rattle.shm_graph.specs.Held.{is_slot};
 ghost use Rattle.shm_graph.specs.Idle.{IsIdle};
 ghost use Rattle.shm_graph.specs.Reach.{is_named};
-ghost use Rattle.shm_graph.specs.Stores.{is_of, not_block};
+ghost use Rattle.shm_graph.specs.MemoAfterStore.{is_of, not_block};
 ghost use Rattle.shm_graph.specs.Views.{own_word};
 ghost use Rattle.shm_calls.specs.Grown.{Grows, grown};
 ghost use Rattle.shm_calls.specs.Parts.{PartLaws};

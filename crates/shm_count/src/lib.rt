@@ -18,13 +18,10 @@ pub mod up_root;
 
 pub use answer::{EraSpent, Made, UpFault};
 pub use bound::{step_bound, tear_bound};
-pub use commit_test::{
-    Commit, CommitTest, Proof, Testing, commit_test_begins, commit_test_bound, commit_test_events,
-    commit_test_leaves,
-};
+pub use commit_test::{Commit, CommitTest, Proof, commit_test_bound};
 pub use events::{
-    step_begins, step_events, step_own_events, steps_decide, tear_begins, tear_done, tear_events,
-    tear_own_events, tear_stopped,
+    step_begins, step_events, step_own_events, steps_decide, tear_done, tear_own_events,
+    tear_stopped,
 };
 pub use lasting::{
     root_down_retains, step_in_call, step_lasts, step_refusals, tear_in_call, tear_keeps,

@@ -4,4 +4,4 @@ pub use crate::answer::ShareFault;
 pub use crate::commit_test::{TestingPoint, TestingState};
 pub use crate::point::{Aim, Half, StepNext, StepPoint, StepState};
 pub use crate::tear_point::{TearNext, TearPoint, TearState};
-pub use crate::up_root::{Rooting, RootingPoint, RootingState, UpRoot};
+pub use crate::up_root::{RootingPoint, RootingState, UpRoot};

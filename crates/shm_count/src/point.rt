@@ -8,7 +8,7 @@ ghost use Rattle.shm_graph.specs.declared.ask.Ask.TheVariants as asks;
 ghost use Rattle.shm_graph.specs.Asks.{at_of, seen_of, words_set};
 ghost use Rattle.shm_count.specs.Step.Control.{AimSmall, EraFits, PartFits, CountFits, StepInRange};
 ghost use Rattle.shm_count.specs.Step.Control as control;
-ghost use Rattle.shm_count.specs.Step.Exchanged as exchanging;
+ghost use Rattle.shm_count.specs.Step.ExchangeMade as exchanging;
 ghost use Rattle.shm_count.specs.declared.point.StepPoint.TheVariants as point;
 
 use crate::answer::UpFault;

@@ -172,3 +172,14 @@ impl Operation for TearDown {
 
     ghost operates = { tear_operation };
 }
+
+impl shm_calls::Begin for TearDown {
+    type Op = TearDown;
+
+    ghost op = { λ m. m };
+
+    #[inline(always)]
+    fn begin(self) -> TearDown {
+        self
+    }
+}

@@ -10,7 +10,7 @@ ghost use Rattle.shm_count.specs.ShareTask.{ShareMay, share_task};
 
 use crate::answer::{ShareFault, UpFault};
 use crate::step::StepUp;
-use shm_calls::{Calls, Or, Plan, Task, Word};
+use shm_calls::{Or, Plan, Task, Word};
 use shm_graph::{Machine, Me};
 use std::marker::Model;
 
@@ -36,12 +36,14 @@ pub struct RootingState {
 }
 
 /// The calls by which the least empty root of an identity comes to name a block.
+///
+/// It answers the root, or why none names the block: `EraSpent` where the own era is above 2^47 - 3, then `RootsFull`, then `CountFull`.
 #[derive(Drop)]
-pub struct Rooting {
+pub struct UpRoot {
     state: RootingState,
 }
 
-impl Model for Rooting {
+impl Model for UpRoot {
     ghost use Rattle.shm_count.specs.declared.up_root.RootingState.{RootingState as AState};
 
     ghost Value = { AState };
@@ -53,19 +55,16 @@ impl Model for Rooting {
     ghost invariant = { λ a. RootingInRange a.state };
 }
 
-/// It answers the root, or why none names the block: `EraSpent` where the own era is above 2^47 - 3, then `RootsFull`, then `CountFull`.
-pub type UpRoot = Calls<Rooting>;
-
-impl Rooting {
+impl UpRoot {
     /// A root of the identity `me` is to name `block`, before the first call.
     #[inline(always)]
-    pub fn new(me: Me, block: u32) -> Rooting
+    pub fn new(me: Me, block: u32) -> UpRoot
         requires geometry { GeometryFits me.geometry }
         requires who { me.who < me.geometry.clients }
         requires block { block < address_limit }
         ensures { result ≡ rooting me block }
     {
-        Rooting {
+        UpRoot {
             state: RootingState {
                 me,
                 block,
@@ -77,7 +76,7 @@ impl Rooting {
     }
 }
 
-impl Plan for Rooting {
+impl Plan for UpRoot {
     type Call = Or<Word, StepUp>;
 
     type Answer = Result<u8, ShareFault>;
@@ -139,7 +138,7 @@ impl Plan for Rooting {
     ghost laws = { rooting_laws };
 }
 
-impl Task for Rooting {
+impl Task for UpRoot {
     ghost may = { ShareMay };
 
     ghost tasks = { share_task };

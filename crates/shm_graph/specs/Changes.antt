@@ -13,9 +13,9 @@ use Rattle.shm_graph.specs.declared.memo.Test.{Test}
 use Rattle.shm_graph.specs.Asks.{call_after}
 use Rattle.shm_graph.specs.Agents.{with_last, stepped, ended, is_gone}
 use Rattle.shm_graph.specs.Telling.{spot_told}
-use Rattle.shm_graph.specs.Readings.{read_on}
-use Rattle.shm_graph.specs.Stores.{stored_on}
-use Rattle.shm_graph.specs.Exchanges.{exchanged_on}
+use Rattle.shm_graph.specs.MemoAfterRead.{read_on}
+use Rattle.shm_graph.specs.MemoAfterStore.{stored_on}
+use Rattle.shm_graph.specs.MemoAfterExchange.{exchanged_on}
 
 -- what was read of tails and heads, which only grow
 abbrev pub is_lane_count : Fact → Bool

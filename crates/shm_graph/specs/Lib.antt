@@ -12,9 +12,9 @@ pub mod Agents
 pub mod Reach
 pub mod Telling
 pub mod Chains
-pub mod Readings
-pub mod Stores
-pub mod Exchanges
+pub mod MemoAfterRead
+pub mod MemoAfterStore
+pub mod MemoAfterExchange
 pub mod Changes
 pub mod Events
 pub mod Controllers

@@ -34,10 +34,10 @@ use Rattle.shm_graph.proofs.States.Counting.{covered_none}
 use Rattle.shm_laws.proofs.Owns.{mine_other, small_stored, there_stored}
 use Rattle.shm_laws.proofs.Sum.{refs_target, commit_target}
 use Rattle.shm_laws.proofs.Keep.{All-kept, era_of_zero, count_of_zero}
-use Rattle.shm_laws.proofs.Exchange.{era_exchange, facts_committed, count_free, count_exchange, named_kept, slot_kept, looks_kept, known_kept, apart}
+use Rattle.shm_laws.proofs.ExchangeFields.{era_exchange, facts_committed, count_free, count_exchange, named_kept, slot_kept, looks_kept, known_kept, apart}
 use Rattle.shm_laws.proofs.References.{live_some, part_lives, queued_kept, values_kept, made_some, made_kept}
-use Rattle.shm_laws.specs.Exchanges.{AllocNeeds, alloc_view}
-use Rattle.shm_graph.specs.Stores.{other_than}
+use Rattle.shm_laws.specs.HeaderExchanges.{AllocNeeds, alloc_view}
+use Rattle.shm_graph.specs.MemoAfterStore.{other_than}
 
 module _ (g : Geometry) (w : Spot → ℕ) (v : View) (c k b e to tag : ℕ) (m : Making) (h : HeldAt g w v) (a : AllocNeeds g w v c k b e to tag m) where
   m_at : MakingSound g (classes w) (λ i. w (Segment i)) (λ i. w (Head i)) (λ i. w (Tag i)) (λ i j. w (Body i j)) c m

@@ -23,8 +23,8 @@ use Rattle.shm_graph.specs.Views.{View, targets, held_overs}
 use Rattle.shm_graph.specs.Events.{ChangeUp, graph_of, Happens}
 use Rattle.shm_graph.specs.Blocks.{IsBlock}
 use Rattle.shm_graph.specs.Held.{HeldAt, is_slot, odd, SlotOf, reach_of, is_home, LaneSound, OpTie, OpSound, Allowed, room_of}
-use Rattle.shm_graph.specs.Stores.{not_block}
-use Rattle.shm_laws.specs.Exchanges.{not_blocks, ChangeNeeds, change_view}
+use Rattle.shm_graph.specs.MemoAfterStore.{not_block}
+use Rattle.shm_laws.specs.HeaderExchanges.{not_blocks, ChangeNeeds, change_view}
 use Rattle.shm_graph.proofs.Spots.Spotting.{same_spot_is}
 use Rattle.shm_laws.proofs.Sum.{held_over_step, degree_step}
 use Rattle.shm_laws.proofs.Keep.{block_not_zero}
@@ -33,7 +33,7 @@ use Rattle.shm_graph.specs.declared.table.Part.{Part}
 use Rattle.shm_laws.proofs.Headers.{dying_raised, live_stays, lives, refs_stay, shape_stays}
 use Rattle.shm_laws.proofs.Slots.{slot_committed, slot_looks, slot_named, slot_names, slot_not_spare}
 use Rattle.shm_laws.proofs.References.{one_name, differs, slot_no_root, part_other, made_kept, made_own}
-use Rattle.shm_laws.proofs.Exchanged.{Changes, exchanged_kept, tails_stay, moved, unmoved}
+use Rattle.shm_laws.proofs.LiveExchange.{Changes, exchanged_kept, tails_stay, moved, unmoved}
 use Rattle.shm_words.specs.declared.redo.Redo.TheVariants as redos
 
 module _ (g : Geometry) (w : Spot → ℕ) (v : View) (c x b e to : ℕ) (p : Spot) (looks' : List Look) (kept : List Stored) (values : List ℕ) (part : Part) (h : HeldAt g w v) (a : ChangeNeeds g w v c x b e to p looks' kept values part) where

@@ -34,7 +34,7 @@ use Rattle.shm_graph.proofs.Memos.Frames.{at1_all}
 use Rattle.shm_graph.proofs.States.Counting.{cover_slot, covered_alone, covered_none}
 use Rattle.shm_laws.proofs.Owns.{mine_stored, small_stored, there_stored}
 use Rattle.shm_laws.proofs.Sum.{covered_same}
-use Rattle.shm_laws.proofs.Exchange.{apart}
+use Rattle.shm_laws.proofs.ExchangeFields.{apart}
 use Rattle.shm_laws.specs.OwnWords.{CloseNeeds, close_view, Closes}
 
 -- the eras after a store of c's own

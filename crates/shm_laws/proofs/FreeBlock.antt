@@ -23,7 +23,7 @@ use Rattle.shm_graph.specs.Events.{Free, graph_of, Happens}
 use Rattle.shm_graph.specs.Ops.{cover, cover_of, covered, slot_of, indegree, on_of, is_op}
 use Rattle.shm_words.specs.Tags.{tag_refs, tag_author, tag_link, tag_shape}
 use Rattle.shm_laws.specs.Preparing.{FreeNeeds, free_view}
-use Rattle.shm_graph.specs.Stores.{not_block, not_of, is_of}
+use Rattle.shm_graph.specs.MemoAfterStore.{not_block, not_of, is_of}
 use Rattle.shm_laws.proofs.Owns.{mine_other, small_stored, there_stored}
 use Rattle.shm_graph.proofs.Spots.Spotting.{block_is_at}
 use Rattle.shm_graph.proofs.States.Holders.{held_live_not_zero, held_over_counted, reach_counted, target_counted}
@@ -32,7 +32,7 @@ use Rattle.shm_laws.proofs.Sum.{refs_target}
 use Rattle.shm_laws.proofs.Keep.{live_block, All-kept, Contains-filter, filter_from}
 use Rattle.shm_graph.specs.Tables.{contents_of, HasShape}
 use Rattle.shm_laws.proofs.References.{IsNamed, part_lives, values_kept, made_kept, queued_kept}
-use Rattle.shm_laws.proofs.Exchange.{slot_kept, known_kept, apart}
+use Rattle.shm_laws.proofs.ExchangeFields.{slot_kept, known_kept, apart}
 
 module _ (g : Geometry) (w : Spot → ℕ) (v : View) (c b tag : ℕ) (h : HeldAt g w v) (a : FreeNeeds g v c b tag) where
   abbrev w' : Spot → ℕ

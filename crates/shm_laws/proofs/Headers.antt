@@ -18,7 +18,7 @@ use Rattle.shm_graph.specs.Events.{graph_of, with_target, IsSame}
 use Rattle.shm_graph.specs.Held.{HeldAt, BlockSound, DyingTie, IsDying, MakingTie, TagSound, ZeroAt}
 use Rattle.shm_graph.proofs.Runs.Lists.{at1_here, at1_other}
 use Rattle.shm_graph.proofs.Memos.Frames.{at1_all}
-use Rattle.shm_laws.specs.Exchanges.{dying_after}
+use Rattle.shm_laws.specs.HeaderExchanges.{dying_after}
 
 module _ (g : Geometry) (w : Spot → ℕ) (v : View) (h : HeldAt g w v) (b to : ℕ) (live : (headers w b).live ≡ true) (counted : (headers w b).count ≢ 0) (now : (header_of to).live ≡ true) where
   abbrev word : ℕ → ℕ

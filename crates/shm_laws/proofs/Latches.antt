@@ -19,7 +19,7 @@ use Rattle.shm_graph.specs.Ops.{slot_of, is_op}
 use Rattle.shm_words.specs.Tags.{tag_author}
 use Rattle.shm_graph.specs.Held.{HeldAt, SlotOf, reach_of, named_by, KnownAt, LookAt, LooksSound, LatchTie, TestAt, InLooks, ValueAt}
 use Rattle.shm_laws.proofs.Owns.{mine_other, small_stored, there_stored}
-use Rattle.shm_laws.proofs.Exchange.{slot_kept, known_kept}
+use Rattle.shm_laws.proofs.ExchangeFields.{slot_kept, known_kept}
 use Rattle.shm_laws.specs.Latches.{LatchNeeds, latch_view, BackNeeds, back_view}
 use Rattle.shm_graph.specs.Tables.{contents_of}
 

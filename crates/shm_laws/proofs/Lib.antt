@@ -3,7 +3,7 @@ pub mod Owns
 pub mod Keep
 pub mod Lanes
 pub mod Sum
-pub mod Exchange
+pub mod ExchangeFields
 pub mod Parts
 pub mod References
 pub mod Headers
@@ -19,7 +19,7 @@ pub mod Writing
 pub mod RootStore
 pub mod BodyStore
 pub mod CloseOp
-pub mod Exchanged
+pub mod LiveExchange
 pub mod AllocBlock
 pub mod UpBlock
 pub mod FreeBlock

@@ -14,7 +14,7 @@ use Rattle.shm_graph.specs.Views.{at1, View, ons}
 use Rattle.shm_graph.proofs.Memos.Frames.{at1_all}
 use Rattle.shm_graph.specs.Events.{Nothing, graph_of, Happens}
 use Rattle.shm_graph.specs.Held.{HeldAt, FactAt, TestAt}
-use Rattle.shm_graph.specs.Readings.{next_row}
+use Rattle.shm_graph.specs.MemoAfterRead.{next_row}
 use Rattle.shm_laws.specs.Loads.{header_view, row_view}
 
 -- one more fact that holds, another window that holds

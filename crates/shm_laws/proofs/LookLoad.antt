@@ -22,7 +22,7 @@ use Rattle.shm_graph.specs.Reach.{learnt, not_at}
 use Rattle.shm_laws.proofs.Keep.{All-kept}
 use Rattle.shm_graph.proofs.States.Holders.{one_latch, reach_counted}
 use Rattle.shm_graph.specs.Tables.{contents_of}
-use Rattle.shm_laws.proofs.Exchange.{slot_kept, known_kept, apart}
+use Rattle.shm_laws.proofs.ExchangeFields.{slot_kept, known_kept, apart}
 use Rattle.shm_graph.proofs.Memos.Looking.{looks_push}
 use Rattle.shm_graph.proofs.States.Counting.{cover_idle, covered_none}
 use Rattle.shm_laws.specs.Latches.{LookNeeds, look_view}

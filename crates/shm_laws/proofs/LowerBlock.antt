@@ -19,8 +19,8 @@ use Rattle.shm_graph.specs.Ops.{word_at, cover, cover_of, slot_of, up_slot, inde
 use Rattle.shm_graph.specs.Spots.{upd, same_spot, IsAt, spot_address}
 use Rattle.shm_graph.specs.Views.{View, targets, held_overs}
 use Rattle.shm_graph.specs.Held.{HeldAt, CountSound, is_home, LaneSound, OpTie, OpSound, Allowed, room_of}
-use Rattle.shm_graph.specs.Stores.{not_block}
-use Rattle.shm_laws.specs.Exchanges.{LowerNeeds, lower_view, dying_after, unsent_back, untaken_after}
+use Rattle.shm_graph.specs.MemoAfterStore.{not_block}
+use Rattle.shm_laws.specs.HeaderExchanges.{LowerNeeds, lower_view, dying_after, unsent_back, untaken_after}
 use Rattle.shm_laws.proofs.Lanes.{lane_up, lane_taken, lane_same, other_lane, this_lane, lane_clients, lane_from}
 use Rattle.shm_graph.proofs.States.Holders.{Holds, held_live_not_zero}
 use Rattle.shm_graph.specs.declared.table.Part.{Part}
@@ -29,8 +29,8 @@ use Rattle.shm_graph.specs.Events.{graph_of, Happens, Down as DownEvent}
 use Rattle.shm_laws.proofs.Headers.{dying_lowered, graph_stays, lives, refs_stay}
 use Rattle.shm_laws.proofs.Slots.{slot_committed, slot_looks, slot_named, slot_names, slot_not_spare}
 use Rattle.shm_laws.proofs.References.{one_name, differs, slot_no_root, part_other, made_kept, made_own}
-use Rattle.shm_laws.proofs.Exchanged.{Changes, exchanged_kept, tails_stay, moved}
-use Rattle.shm_laws.proofs.Exchange.{count_exchange}
+use Rattle.shm_laws.proofs.LiveExchange.{Changes, exchanged_kept, tails_stay, moved}
+use Rattle.shm_laws.proofs.ExchangeFields.{count_exchange}
 use Rattle.shm_words.specs.declared.redo.Redo.TheVariants as redos
 
 module _ (g : Geometry) (w : Spot → ℕ) (v : View) (c b e n to : ℕ) (p : Spot) (looks' : List Look) (kept : List Stored) (values : List ℕ) (part : Part) (h : HeldAt g w v) (a : LowerNeeds g w v c b e n to p looks' kept values part) where

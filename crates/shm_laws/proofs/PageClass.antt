@@ -20,7 +20,7 @@ use Rattle.shm_graph.specs.Ops.{cover_of, slot_of}
 use Rattle.shm_graph.specs.Held.{HeldAt, SlotOf, reach_of, TagSound, MakingTie, FactAt, ZeroAt, TestAt}
 use Rattle.shm_words.specs.Classes.{IsClass}
 use Rattle.shm_laws.specs.Segments.{ClassNeeds, class_view}
-use Rattle.shm_graph.specs.Stores.{other_than}
+use Rattle.shm_graph.specs.MemoAfterStore.{other_than}
 use Rattle.shm_laws.proofs.Owns.{mine_other, small_stored, there_stored}
 use Rattle.shm_graph.proofs.Spots.Spotting.{same_spot_self, alone}
 use Rattle.shm_graph.proofs.Spots.PageSpots.{same_page, page_spot, stays_at, page_of_block, is_unused}

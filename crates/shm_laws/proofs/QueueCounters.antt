@@ -22,7 +22,7 @@ use Rattle.shm_graph.specs.Tables.{contents_of}
 use Rattle.shm_graph.specs.Held.{HeldAt, FactAt, CounterAt, LaneSound, SlotOf, reach_of, named_by, KnownAt, TestAt, TailSound, ValueAt}
 use Rattle.shm_graph.proofs.Memos.Frames.{at1_all}
 use Rattle.shm_laws.proofs.Owns.{mine_stored, small_stored, there_stored}
-use Rattle.shm_laws.proofs.Exchange.{looks_kept}
+use Rattle.shm_laws.proofs.ExchangeFields.{looks_kept}
 
 -- the words with these tails and heads
 abbrev pub with_counters : (Spot → ℕ) → (ℕ → ℕ → ℕ) → (ℕ → ℕ → ℕ) → Spot → ℕ

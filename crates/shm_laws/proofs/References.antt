@@ -10,7 +10,7 @@ use Rattle.shm_words.specs.Tags.{tag_refs, tag_author}
 use Rattle.shm_graph.specs.declared.spot.Spot.{Spot}
 use Rattle.shm_graph.specs.declared.spot.Spot.TheVariants.{Spare, Home, Root, Tail, QueueHead, Slot, Page, Head, Tag, Body}
 use Rattle.shm_graph.specs.Spots.{same_spot, upd, IsAt}
-use Rattle.shm_graph.specs.Stores.{not_block}
+use Rattle.shm_graph.specs.MemoAfterStore.{not_block}
 use Rattle.shm_graph.specs.References.{one_if, words_of}
 use Rattle.shm_graph.specs.Tables.{Contents, contents_of, HasShape}
 use Rattle.shm_graph.specs.Ops.{cover_of}
@@ -21,7 +21,7 @@ use Rattle.shm_graph.proofs.Runs.Lists.{at1_here, at1_other}
 use Rattle.shm_graph.proofs.States.Counting.{has_place, target_not_spare, indegree_has}
 use Rattle.shm_laws.proofs.Keep.{live_block, count_of_zero, All-kept}
 use Rattle.shm_laws.proofs.Sum.{degree_step, held_over_step}
-use Rattle.shm_laws.proofs.Exchange.{reach_target}
+use Rattle.shm_laws.proofs.ExchangeFields.{reach_target}
 use Rattle.shm_laws.proofs.Parts.{PartKept, part_kept}
 
 -- ---- counts

@@ -23,13 +23,13 @@ use Rattle.shm_graph.specs.Blocks.{headers}
 use Rattle.shm_graph.specs.Views.{View, targets, held_overs}
 use Rattle.shm_graph.specs.Events.{ChangeDown, graph_of, Happens}
 use Rattle.shm_graph.specs.Held.{HeldAt, odd, OpTie, OpSound, Allowed, room_of}
-use Rattle.shm_graph.specs.Stores.{not_block}
-use Rattle.shm_laws.specs.Exchanges.{SecondNeeds, second_view, dying_after}
+use Rattle.shm_graph.specs.MemoAfterStore.{not_block}
+use Rattle.shm_laws.specs.HeaderExchanges.{SecondNeeds, second_view, dying_after}
 use Rattle.shm_laws.proofs.Sum.{refs_target, held_over_step}
 use Rattle.shm_laws.proofs.Keep.{block_not_zero}
 use Rattle.shm_laws.proofs.Headers.{dying_lowered, live_stays, lives, refs_stay, shape_stays}
 use Rattle.shm_laws.proofs.References.{differs, live_some, part_lives, name_and_held_over, part_lives, made_kept, made_own}
-use Rattle.shm_laws.proofs.Exchanged.{Changes, exchanged_kept, tails_stay, moved, unmoved}
+use Rattle.shm_laws.proofs.LiveExchange.{Changes, exchanged_kept, tails_stay, moved, unmoved}
 use Rattle.shm_words.specs.declared.redo.Redo.TheVariants as redos
 
 module _ (g : Geometry) (w : Spot → ℕ) (v : View) (c b y e n to : ℕ) (p : Spot) (looks' : List Look) (kept : List Stored) (values : List ℕ) (h : HeldAt g w v) (a : SecondNeeds g w v c b y e n to p looks' kept values) where

@@ -18,7 +18,7 @@ use Rattle.shm_laws.proofs.Owns.{mine_other, small_stored, there_stored}
 use Rattle.shm_laws.proofs.Keep.{All-kept, Contains-filter, filter_from}
 use Rattle.shm_laws.proofs.Quiet.{quiet}
 use Rattle.shm_laws.specs.Segments.{SegmentBackNeeds, segment_back_view}
-use Rattle.shm_graph.specs.Stores.{not_segment, outside_of}
+use Rattle.shm_graph.specs.MemoAfterStore.{not_segment, outside_of}
 
 pub segment_back_kept : (g : Geometry) (w : Spot → ℕ) (v : View) (c s : ℕ) → HeldAt g w v → SegmentBackNeeds g v c s → HeldAt g (upd w (Segment s) 0) (segment_back_view g v c s)
 segment_back_kept g w v c s h a =

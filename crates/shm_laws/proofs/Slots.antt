@@ -16,7 +16,7 @@ use Rattle.shm_graph.proofs.Spots.Spotting.{same_spot_is}
 use Rattle.shm_graph.proofs.States.Holders.{Holds, InReach, apart_slots, held_live_not_zero, one_holder, one_latch, target_counted}
 use Rattle.shm_graph.proofs.States.Counting.{covered_alone}
 use Rattle.shm_laws.proofs.Sum.{HasTarget, commit_target, refs_target}
-use Rattle.shm_laws.proofs.Exchange.{apart, looks_through, named_kept, reach_target}
+use Rattle.shm_laws.proofs.ExchangeFields.{apart, looks_through, named_kept, reach_target}
 use Rattle.shm_laws.proofs.References.{slot_no_home, slot_no_root}
 
 module _ (g : Geometry) (w : Spot → ℕ) (v : View) (h : HeldAt g w v) (c : ℕ) (p : Spot) (lc : c < g.clients) (mine : Holds w g v c p) where

@@ -29,13 +29,13 @@ use Rattle.shm_graph.proofs.States.Holders.{Holds}
 use Rattle.shm_graph.proofs.Runs.Lists.{at1_here}
 use Rattle.shm_graph.proofs.Memos.Frames.{at1_all}
 use Rattle.shm_laws.proofs.Lanes.{lane_up, lane_same, other_lane, this_lane, no_self, lane_clients, lane_to}
-use Rattle.shm_laws.proofs.Exchanged.{Changes, exchanged_kept, moved, unmoved}
-use Rattle.shm_laws.proofs.Exchange.{count_exchange, named_kept, slot_kept, looks_kept, known_kept}
+use Rattle.shm_laws.proofs.LiveExchange.{Changes, exchanged_kept, moved, unmoved}
+use Rattle.shm_laws.proofs.ExchangeFields.{count_exchange, named_kept, slot_kept, looks_kept, known_kept}
 use Rattle.shm_laws.proofs.Headers.{dying_raised, lives, refs_stay, graph_stays}
 use Rattle.shm_laws.proofs.Slots.{slot_not_spare, slot_names, slot_committed}
 use Rattle.shm_laws.proofs.References.{one_name, differs, live_some, named_count, slot_no_root, part_other, values_kept, made_kept, made_own}
-use Rattle.shm_laws.specs.Exchanges.{UpNeeds, up_view, unsent_after}
-use Rattle.shm_graph.specs.Stores.{not_block}
+use Rattle.shm_laws.specs.HeaderExchanges.{UpNeeds, up_view, unsent_after}
+use Rattle.shm_graph.specs.MemoAfterStore.{not_block}
 
 module _ (g : Geometry) (w : Spot → ℕ) (v : View) (c b e to : ℕ) (p : Spot) (part : Part) (h : HeldAt g w v) (a : UpNeeds g w v c b e to p part) where
   new_live : (header_of to).live ≡ true

@@ -1,4 +1,4 @@
-pub mod Exchanges
+pub mod HeaderExchanges
 pub mod OwnWords
 pub mod Segments
 pub mod Preparing

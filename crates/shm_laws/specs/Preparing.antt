@@ -12,7 +12,7 @@ use Rattle.shm_graph.specs.Views.{View, at1}
 use Rattle.shm_graph.specs.Reach.{learnt}
 use Rattle.shm_graph.specs.declared.memo.Op.TheVariants.{Nothing}
 use Rattle.shm_words.specs.Tags.{tag_refs, tag_limit, tag_shape}
-use Rattle.shm_graph.specs.Stores.{not_block, not_of}
+use Rattle.shm_graph.specs.MemoAfterStore.{not_block, not_of}
 use Rattle.shm_graph.specs.declared.memo.Status.TheVariants as status
 
 -- ---- the store of a word of a free block

@@ -7,7 +7,7 @@ use Rattle.shm_graph.specs.declared.spot.Spot.TheVariants.{Page, Segment}
 use Rattle.shm_graph.specs.declared.memo.Fact.TheVariants.{Class}
 use Rattle.shm_words.specs.Classes.{IsClass}
 use Rattle.shm_graph.specs.Spots.{IsAt}
-use Rattle.shm_graph.specs.Stores.{other_than, not_segment, outside_of}
+use Rattle.shm_graph.specs.MemoAfterStore.{other_than, not_segment, outside_of}
 use Rattle.shm_graph.specs.Views.{View, at1}
 use Rattle.shm_graph.specs.declared.memo.Status.TheVariants as status
 

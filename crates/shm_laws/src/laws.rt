@@ -15,13 +15,13 @@ ghost use Rattle.shm_graph.specs.Spots.{upd};
 ghost use Rattle.shm_graph.specs.Views.{View};
 ghost use Rattle.shm_graph.specs.Events.{Nothing, Alloc, Up, Down, ChangeUp, ChangeDown, Free, graph_of, Happens};
 ghost use Rattle.shm_graph.specs.Held.{HeldAt};
-ghost use Rattle.shm_graph.specs.Readings.{next_row};
+ghost use Rattle.shm_graph.specs.MemoAfterRead.{next_row};
 ghost use Rattle.shm_laws.specs.OwnWords.{BeginNeeds, begin_view, MoreNeeds, more_view, RowNeeds, row_store_view, CloseNeeds, close_view, TailNeeds, tail_view, QueueHeadNeeds, head_view, HoldNeeds, hold_view};
 ghost use Rattle.shm_laws.specs.Segments.{ClassNeeds, class_view, ClaimNeeds, claim_view, SegmentBackNeeds, segment_back_view};
 ghost use Rattle.shm_laws.specs.Slotting.{RootNeeds, root_view, BodyNeeds, body_view, HomeNeeds, home_view, QueueNeeds, queue_view};
 ghost use Rattle.shm_laws.specs.Latches.{BackNeeds, back_view, LatchNeeds, latch_view, LookNeeds, look_view};
 ghost use Rattle.shm_laws.specs.Preparing.{FreeNeeds, free_view, PrepareNeeds, prepare_view, LinkNeeds, link_view};
-ghost use Rattle.shm_laws.specs.Exchanges.{AllocNeeds, alloc_view, UpNeeds, up_view, LowerNeeds, lower_view, ChangeNeeds, change_view, SecondNeeds, second_view};
+ghost use Rattle.shm_laws.specs.HeaderExchanges.{AllocNeeds, alloc_view, UpNeeds, up_view, LowerNeeds, lower_view, ChangeNeeds, change_view, SecondNeeds, second_view};
 ghost use Rattle.shm_laws.specs.Loads.{header_view, row_view};
 
 /// Stores of own words: a redo record, in format 2 its first word, which begins a step; in format 2 the second word of one, while no step

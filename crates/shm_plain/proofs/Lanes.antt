@@ -11,7 +11,7 @@ use Rattle.shm_graph.specs.declared.spot.Spot.TheVariants.{QueueHead, Tail, Slot
 use Rattle.shm_graph.specs.Held.{HeldAt}
 use Rattle.shm_graph.specs.Runs.{memos_of}
 use Rattle.shm_graph.specs.Spots.{see}
-use Rattle.shm_graph.specs.Stores.{lane_with, put}
+use Rattle.shm_graph.specs.MemoAfterStore.{lane_with, put}
 use Rattle.shm_graph.specs.Views.{own_word, targets, view}
 use Rattle.shm_graph.proofs.Memos.KnownChange.{KnownHolds}
 use Rattle.shm_graph.proofs.States.Reached.{known_target}

@@ -11,6 +11,7 @@ ghost use Rattle.shm_plain.specs.Pools.{IsOf, IsRun, MayStep, memo_of, readied};
 ghost use Rattle.shm_plain.specs.Calls.{Did, IsAtWork, Ran, Took};
 
 use crate::pool::PlainPool;
+use shm_calls::Begin;
 use shm_graph::{Life, Machine, Me, Operation, Turn};
 
 impl PlainPool {
@@ -48,8 +49,28 @@ impl PlainPool {
         Me::new(self.geometry(), who)
     }
 
-    /// Runs an operation of `who` until it answers, or no word step is left. Where it has not answered it fits still, as it was left.
-    pub fn run<O: Operation + Drop>(
+    /// Runs an operation of `who`, or what is made of a plan, until it answers, or no word step is left. Where it has not answered it fits
+    /// still, as it was left.
+    pub fn run<B: Begin>(
+        &mut self,
+        who: u8,
+        begins: B,
+        life: &mut Life,
+    ) -> Option<<B::Op as Machine>::Answer>
+        requires at_work { IsAtWork who self.old }
+        requires me { B.Op.control.me (B.op begins) ≡ record { geometry = self.old.start.geometry; who = who } }
+        requires may { B.Op.may (B.op begins) (memo_of self.old who) }
+        ensures leaves { IfSome result (λ a. let tr = (memo_of self.new who).call in let es = happens_along B.Op.control B.Op.does (B.op begins) tr in Did who self.old self.new es × B.Op.leaves (B.op begins) (memo_of self.old who) (memo_of self.new who) tr es a) }
+        ensures gives { IfSome result (λ a. gives_now B.Op.gives (B.op begins) (memo_of self.old who) (memo_of self.new who) a) }
+        ensures at_work { IfSome result (λ a. B.Op.rests (B.op begins) a → IsAtWork who self.new) }
+        ensures cut { is_some result ≡ false → (m : B.Op) × (B.Op.control.finished m ≡ false) × fits_now B.Op.control B.Op.fits m (memo_of self.old who) (memo_of (readied self.new who) who) }
+        ensures ran { Ran who true (is_some result) self.old self.new life.old.left life.new.left }
+    {
+        self.operate(who, begins.begin(), life)
+    }
+
+    /// Runs an operation, before its first word step.
+    fn operate<O: Operation + Drop>(
         &mut self,
         who: u8,
         mut operation: O,
@@ -59,6 +80,7 @@ impl PlainPool {
         requires me { O.control.me operation ≡ record { geometry = self.old.start.geometry; who = who } }
         requires may { O.may operation (memo_of self.old who) }
         ensures leaves { IfSome result (λ a. let tr = (memo_of self.new who).call in let es = happens_along O.control O.does operation tr in Did who self.old self.new es × O.leaves operation (memo_of self.old who) (memo_of self.new who) tr es a) }
+        ensures gives { IfSome result (λ a. gives_now O.gives operation (memo_of self.old who) (memo_of self.new who) a) }
         ensures at_work { IfSome result (λ a. O.rests operation a → IsAtWork who self.new) }
         ensures cut { is_some result ≡ false → (m : O) × (O.control.finished m ≡ false) × fits_now O.control O.fits m (memo_of self.old who) (memo_of (readied self.new who) who) }
         ensures ran { Ran who true (is_some result) self.old self.new life.old.left life.new.left }

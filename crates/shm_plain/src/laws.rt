@@ -17,7 +17,7 @@ ghost use Rattle.shm_graph.specs.References.{references};
 ghost use Rattle.shm_graph.specs.Runs.{State, IsMove, Leads, first_state, memos_of, moved};
 ghost use Rattle.shm_graph.specs.Sound.{IsSound};
 ghost use Rattle.shm_graph.specs.Spots.{classes_in, see, spot_at};
-ghost use Rattle.shm_graph.specs.Stores.{lane_with};
+ghost use Rattle.shm_graph.specs.MemoAfterStore.{lane_with};
 ghost use Rattle.shm_graph.specs.Tables.{IsPartition, contents_of};
 ghost use Rattle.shm_graph.specs.Views.{own_word, view};
 ghost use Rattle.shm_plain.specs.Lanes.{IsFirst, Wait, received_of, sent_of};

@@ -9,7 +9,7 @@ use Rattle.shm_graph.specs.Asks.{Trail}
 use Rattle.shm_graph.specs.Events.{Event}
 use Rattle.shm_graph.specs.Held.{is_loose}
 use Rattle.shm_graph.specs.Spots.{same_spot}
-use Rattle.shm_graph.specs.Stores.{lane_with}
+use Rattle.shm_graph.specs.MemoAfterStore.{lane_with}
 use Rattle.shm_steps.specs.Reparting.{sight}
 use Rattle.shm_count.specs.declared.answer.EraSpent.{EraSpent as ASpent}
 use Rattle.shm_count.specs.declared.answer.Made.{Made}

@@ -17,7 +17,7 @@ use Rattle.shm_graph.specs.Agents.{recovers}
 use Rattle.shm_graph.specs.Held.{is_loose}
 use Rattle.shm_graph.specs.Reach.{is_reached}
 use Rattle.shm_graph.specs.Spots.{spot_address}
-use Rattle.shm_graph.specs.Stores.{put}
+use Rattle.shm_graph.specs.MemoAfterStore.{put}
 use Rattle.shm_graph.specs.Views.{own_word}
 use Rattle.shm_graph.proofs.Spots.SpotPlaces.{spot-place}
 use Rattle.shm_graph.proofs.Spots.Spotting.{in_pool}

@@ -19,9 +19,9 @@ use Rattle.shm_graph.specs.Core.{core}
 use Rattle.shm_graph.specs.Events.{Event}
 use Rattle.shm_graph.specs.Events as event
 use Rattle.shm_graph.specs.Reach.{learnt}
-use Rattle.shm_graph.specs.Readings.{valued}
+use Rattle.shm_graph.specs.MemoAfterRead.{valued}
 use Rattle.shm_graph.specs.Spots.{same_spot}
-use Rattle.shm_graph.specs.Stores.{head_stored, lane_with, other_than}
+use Rattle.shm_graph.specs.MemoAfterStore.{head_stored, lane_with, other_than}
 use Rattle.shm_graph.specs.Views.{own_word}
 use Rattle.shm_steps.specs.Conditions.{IsHere}
 use Rattle.shm_steps.specs.WordParts.{CountLoaded, HeadSlotLoaded, HeadStored, IsHeadSlot, as_known}

@@ -9,7 +9,7 @@ ghost use Rattle.shm_queue.specs.Take.Laws.{take_laws};
 ghost use Rattle.shm_queue.specs.QueueTasks.{DrainMay, drain_task};
 
 use crate::answer::TakeFault;
-use crate::take::{Take, Taking};
+use crate::take::Take;
 use shm_calls::{Calls, Or, Plan, Task, Word};
 use shm_count::EraSpent;
 use shm_graph::{Machine, Me};
@@ -34,12 +34,14 @@ pub struct DrainState {
 }
 
 /// The calls by which an identity takes all items of all queues to it, one sender after the other.
+///
+/// It answers how many items it took, or `EraSpent` where the own era is above 2^47 - 3 at a reference that is to go.
 #[derive(Drop)]
-pub struct Draining {
+pub struct Drain {
     state: DrainState,
 }
 
-impl Model for Draining {
+impl Model for Drain {
     ghost use Rattle.shm_queue.specs.declared.drain.DrainState.{DrainState as AState};
 
     ghost Value = { AState };
@@ -51,18 +53,15 @@ impl Model for Draining {
     ghost invariant = { λ a. DrainInRange a.state };
 }
 
-/// It answers how many items it took, or `EraSpent` where the own era is above 2^47 - 3 at a reference that is to go.
-pub type Drain = Calls<Draining>;
-
-impl Draining {
+impl Drain {
     /// The queues to the identity `me`, before the first call.
     #[inline(always)]
-    pub fn new(me: Me) -> Draining
+    pub fn new(me: Me) -> Drain
         requires geometry { GeometryFits me.geometry }
         requires who { me.who < me.geometry.clients }
         ensures { result ≡ draining me }
     {
-        Draining {
+        Drain {
             state: DrainState {
                 me,
                 from: 0,
@@ -87,8 +86,8 @@ impl Draining {
     }
 }
 
-impl Plan for Draining {
-    type Call = Or<Word, Take>;
+impl Plan for Drain {
+    type Call = Or<Word, Calls<Take>>;
 
     type Answer = Result<u64, EraSpent>;
 
@@ -100,7 +99,7 @@ impl Plan for Draining {
     }
 
     #[inline(always)]
-    fn call(&self) -> Or<Word, Take> {
+    fn call(&self) -> Or<Word, Calls<Take>> {
         let DrainState {
             me,
             from,
@@ -109,7 +108,7 @@ impl Plan for Draining {
         } = self.state;
         match point {
             DrainPoint::Status => Or::First(Word::load(me, me.geometry.status(me.who))),
-            DrainPoint::Item => Or::Second(Calls::new(Taking::new(me, from))),
+            DrainPoint::Item => Or::Second(Calls::new(Take::new(me, from))),
         }
     }
 
@@ -144,7 +143,7 @@ impl Plan for Draining {
     ghost laws = { drain_laws take_laws };
 }
 
-impl Task for Draining {
+impl Task for Drain {
     ghost may = { DrainMay };
 
     ghost tasks = { drain_task };

@@ -8,7 +8,7 @@ ghost use Rattle.shm_graph.specs.Asks.{Trail};
 ghost use Rattle.shm_graph.specs.Core.{core};
 ghost use Rattle.shm_graph.specs.Events.{Event as AnEvent};
 ghost use Rattle.shm_graph.specs.Idle.{IsIdle};
-ghost use Rattle.shm_graph.specs.Stores.{lane_with};
+ghost use Rattle.shm_graph.specs.MemoAfterStore.{lane_with};
 ghost use Rattle.shm_graph.specs.Views.{own_word};
 ghost use Rattle.shm_count.specs.declared.answer.EraSpent.{EraSpent as ASpent};
 ghost use Rattle.shm_count.specs.declared.answer.Made.{Made as AMade};

@@ -10,7 +10,7 @@ ghost use Rattle.shm_queue.specs.QueueTasks.{PeekMay, peek_task};
 use crate::answer::PeekFault;
 use shm_calls::{Calls, Or, Plan, Task, Word};
 use shm_count::Made;
-use shm_count::parts::{Rooting, ShareFault, UpRoot};
+use shm_count::parts::{ShareFault, UpRoot};
 use shm_graph::{Machine, Me};
 use shm_words::ADDRESS_LIMIT;
 use std::marker::Model;
@@ -39,12 +39,14 @@ pub struct PeekState {
 }
 
 /// The calls by which the first item of a queue comes to have a root.
+///
+/// It answers the root and the item, `Empty` where the queue has no item, or why the item got no root.
 #[derive(Drop)]
-pub struct Peeking {
+pub struct Peek {
     state: PeekState,
 }
 
-impl Model for Peeking {
+impl Model for Peek {
     ghost use Rattle.shm_queue.specs.declared.peek.PeekState.{PeekState as AState};
 
     ghost Value = { AState };
@@ -56,19 +58,16 @@ impl Model for Peeking {
     ghost invariant = { λ a. PeekInRange a.state };
 }
 
-/// It answers the root and the item, `Empty` where the queue has no item, or why the item got no root.
-pub type Peek = Calls<Peeking>;
-
-impl Peeking {
+impl Peek {
     /// The first item of the queue from the identity `from` to the identity `me`, before the first call.
     #[inline(always)]
-    pub fn new(me: Me, from: u8) -> Peeking
+    pub fn new(me: Me, from: u8) -> Peek
         requires geometry { GeometryFits me.geometry }
         requires who { me.who < me.geometry.clients }
         requires from { from < me.geometry.clients }
         ensures { result ≡ peeking me from }
     {
-        Peeking {
+        Peek {
             state: PeekState {
                 me,
                 from,
@@ -108,8 +107,8 @@ impl Peeking {
     }
 }
 
-impl Plan for Peeking {
-    type Call = Or<Word, UpRoot>;
+impl Plan for Peek {
+    type Call = Or<Word, Calls<UpRoot>>;
 
     type Answer = Result<Made, PeekFault>;
 
@@ -121,7 +120,7 @@ impl Plan for Peeking {
     }
 
     #[inline(always)]
-    fn call(&self) -> Or<Word, UpRoot> {
+    fn call(&self) -> Or<Word, Calls<UpRoot>> {
         let PeekState {
             me,
             from,
@@ -137,7 +136,7 @@ impl Plan for Peeking {
                 let slot = pool.slot(from, me.who, (at % 8) as u8);
                 Or::First(Word::load(me, slot))
             }
-            PeekPoint::Share => Or::Second(Calls::new(Rooting::new(me, block))),
+            PeekPoint::Share => Or::Second(Calls::new(UpRoot::new(me, block))),
         }
     }
 
@@ -156,7 +155,7 @@ impl Plan for Peeking {
     ghost laws = { peek_laws };
 }
 
-impl Task for Peeking {
+impl Task for Peek {
     ghost may = { PeekMay };
 
     ghost tasks = { peek_task };

@@ -10,8 +10,8 @@ ghost use Rattle.shm_queue.specs.Take.Laws.{take_laws};
 ghost use Rattle.shm_queue.specs.QueueTasks.{ReceiveMay, receive_task};
 
 use crate::answer::{PeekFault, TakeFault};
-use crate::peek::{Peek, Peeking};
-use crate::take::{Take, Taking};
+use crate::peek::Peek;
+use crate::take::Take;
 use shm_calls::{Calls, Or, Plan, Task};
 use shm_count::Made;
 use shm_graph::{Machine, Me};
@@ -37,12 +37,14 @@ pub struct ReceiveState {
 }
 
 /// The calls by which an identity receives an item.
+///
+/// It answers as the peek; where the take is refused for want of eras the root is set, and the item stays in the queue.
 #[derive(Drop)]
-pub struct Receiving {
+pub struct Receive {
     state: ReceiveState,
 }
 
-impl Model for Receiving {
+impl Model for Receive {
     ghost use Rattle.shm_queue.specs.declared.receive.ReceiveState.{ReceiveState as AState};
 
     ghost Value = { AState };
@@ -54,19 +56,16 @@ impl Model for Receiving {
     ghost invariant = { λ a. ReceiveInRange a.state };
 }
 
-/// It answers as the peek; where the take is refused for want of eras the root is set, and the item stays in the queue.
-pub type Receive = Calls<Receiving>;
-
-impl Receiving {
+impl Receive {
     /// The first item of the queue from the identity `from` to the identity `me`, before the first call.
     #[inline(always)]
-    pub fn new(me: Me, from: u8) -> Receiving
+    pub fn new(me: Me, from: u8) -> Receive
         requires geometry { GeometryFits me.geometry }
         requires who { me.who < me.geometry.clients }
         requires from { from < me.geometry.clients }
         ensures { result ≡ receiving me from }
     {
-        Receiving {
+        Receive {
             state: ReceiveState {
                 me,
                 from,
@@ -78,8 +77,8 @@ impl Receiving {
     }
 }
 
-impl Plan for Receiving {
-    type Call = Or<Peek, Take>;
+impl Plan for Receive {
+    type Call = Or<Calls<Peek>, Calls<Take>>;
 
     type Answer = Result<Made, PeekFault>;
 
@@ -91,7 +90,7 @@ impl Plan for Receiving {
     }
 
     #[inline(always)]
-    fn call(&self) -> Or<Peek, Take> {
+    fn call(&self) -> Or<Calls<Peek>, Calls<Take>> {
         let ReceiveState {
             me,
             from,
@@ -99,8 +98,8 @@ impl Plan for Receiving {
             ..
         } = self.state;
         match point {
-            ReceivePoint::Look => Or::First(Calls::new(Peeking::new(me, from))),
-            ReceivePoint::Item => Or::Second(Calls::new(Taking::new(me, from))),
+            ReceivePoint::Look => Or::First(Calls::new(Peek::new(me, from))),
+            ReceivePoint::Item => Or::Second(Calls::new(Take::new(me, from))),
         }
     }
 
@@ -127,7 +126,7 @@ impl Plan for Receiving {
     ghost laws = { receive_laws peek_laws take_laws };
 }
 
-impl Task for Receiving {
+impl Task for Receive {
     ghost may = { ReceiveMay };
 
     ghost tasks = { receive_task };

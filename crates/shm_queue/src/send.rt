@@ -8,7 +8,7 @@ ghost use Rattle.shm_queue.specs.Send.Laws.{send_laws};
 ghost use Rattle.shm_queue.specs.QueueTasks.{SendMay, send_task};
 
 use crate::answer::SendFault;
-use shm_calls::{Calls, Or, Plan, Task, Word};
+use shm_calls::{Or, Plan, Task, Word};
 use shm_count::{StepUp, UpFault};
 use shm_graph::{Machine, Me};
 use std::marker::Model;
@@ -37,12 +37,14 @@ pub struct SendState {
 }
 
 /// The calls by which an identity sends a block.
+///
+/// It answers the place of the block in the queue: how many were sent before it.
 #[derive(Drop)]
-pub struct Sending {
+pub struct Send {
     state: SendState,
 }
 
-impl Model for Sending {
+impl Model for Send {
     ghost use Rattle.shm_queue.specs.declared.send.SendState.{SendState as AState};
 
     ghost Value = { AState };
@@ -54,20 +56,17 @@ impl Model for Sending {
     ghost invariant = { λ a. SendInRange a.state };
 }
 
-/// It answers the place of the block in the queue: how many were sent before it.
-pub type Send = Calls<Sending>;
-
-impl Sending {
+impl Send {
     /// Block `block` is to be sent by the identity `me` to the identity `to`, before the first call.
     #[inline(always)]
-    pub fn new(me: Me, to: u8, block: u32) -> Sending
+    pub fn new(me: Me, to: u8, block: u32) -> Send
         requires geometry { GeometryFits me.geometry }
         requires who { me.who < me.geometry.clients }
         requires to { to < me.geometry.clients }
         requires block { block < address_limit }
         ensures { result ≡ sending me to block }
     {
-        Sending {
+        Send {
             state: SendState {
                 me,
                 to,
@@ -79,7 +78,7 @@ impl Sending {
     }
 }
 
-impl Plan for Sending {
+impl Plan for Send {
     type Call = Or<Word, StepUp>;
 
     type Answer = Result<u64, SendFault>;
@@ -147,7 +146,7 @@ impl Plan for Sending {
     ghost laws = { send_laws };
 }
 
-impl Task for Sending {
+impl Task for Send {
     ghost may = { SendMay };
 
     ghost tasks = { send_task };

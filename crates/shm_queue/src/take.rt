@@ -8,7 +8,7 @@ ghost use Rattle.shm_queue.specs.Take.Laws.{take_laws};
 ghost use Rattle.shm_queue.specs.QueueTasks.{TakeMay, take_task};
 
 use crate::answer::TakeFault;
-use shm_calls::{Calls, Or, Plan, Task, Word};
+use shm_calls::{Or, Plan, Task, Word};
 use shm_count::{EraSpent, StepDown, TearDown};
 use shm_graph::{Machine, Me};
 use shm_words::ADDRESS_LIMIT;
@@ -43,12 +43,14 @@ pub struct TakeState {
 }
 
 /// The calls by which an identity takes an item.
+///
+/// It answers `Empty` where the queue has no item, and `EraSpent` where the own era is above 2^47 - 3 at a reference that is to go.
 #[derive(Drop)]
-pub struct Taking {
+pub struct Take {
     state: TakeState,
 }
 
-impl Model for Taking {
+impl Model for Take {
     ghost use Rattle.shm_queue.specs.declared.take.TakeState.{TakeState as AState};
 
     ghost Value = { AState };
@@ -60,19 +62,16 @@ impl Model for Taking {
     ghost invariant = { λ a. TakeInRange a.state };
 }
 
-/// It answers `Empty` where the queue has no item, and `EraSpent` where the own era is above 2^47 - 3 at a reference that is to go.
-pub type Take = Calls<Taking>;
-
-impl Taking {
+impl Take {
     /// The first item of the queue from the identity `from` to the identity `me`, before the first call.
     #[inline(always)]
-    pub fn new(me: Me, from: u8) -> Taking
+    pub fn new(me: Me, from: u8) -> Take
         requires geometry { GeometryFits me.geometry }
         requires who { me.who < me.geometry.clients }
         requires from { from < me.geometry.clients }
         ensures { result ≡ taking me from }
     {
-        Taking {
+        Take {
             state: TakeState {
                 me,
                 from,
@@ -117,7 +116,7 @@ impl Taking {
     }
 }
 
-impl Plan for Taking {
+impl Plan for Take {
     type Call = Or<Word, Or<StepDown, TearDown>>;
 
     type Answer = Result<(), TakeFault>;
@@ -175,7 +174,7 @@ impl Plan for Taking {
     ghost laws = { take_laws };
 }
 
-impl Task for Taking {
+impl Task for Take {
     ghost may = { TakeMay };
 
     ghost tasks = { take_task };

@@ -28,7 +28,7 @@ use Rattle.shm_graph.specs.Held.{is_loose}
 use Rattle.shm_graph.specs.Ops.{IsUncommitted, held_over_of, slot_of}
 use Rattle.shm_graph.specs.Reach.{learnt, shown}
 use Rattle.shm_graph.specs.Spots.{spot_address}
-use Rattle.shm_graph.specs.Stores.{op_closed, op_written, with_own, written}
+use Rattle.shm_graph.specs.MemoAfterStore.{op_closed, op_written, with_own, written}
 use Rattle.shm_graph.specs.Views.{own_word, owner_is}
 use Rattle.shm_laws.specs.OwnWords.{Closes}
 use Rattle.shm_laws.specs.Slotting.{Writes}

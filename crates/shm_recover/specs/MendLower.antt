@@ -28,10 +28,10 @@ use Rattle.shm_calls.specs.Grown.{grown}
 use Rattle.shm_calls.specs.Parts.{Part}
 use Rattle.shm_calls.specs.Plans.{Planned}
 use Rattle.shm_calls.specs.Words.{word_part}
-use Rattle.shm_count.specs.CommitTest.Reads.{read_part}
-use Rattle.shm_recover.specs.declared.mend_lower.LoweringPoint.{LoweringPoint}
-use Rattle.shm_recover.specs.declared.mend_lower.LoweringPoint.TheVariants.{Header, Row, Show, Exchange, Close}
-use Rattle.shm_recover.specs.declared.mend_lower.LoweringState.{LoweringState}
+use Rattle.shm_count.specs.CommitTest.StepTrail.{read_part}
+use Rattle.shm_recover.specs.declared.mend_lower.MendLowerPoint.{MendLowerPoint}
+use Rattle.shm_recover.specs.declared.mend_lower.MendLowerPoint.TheVariants.{Header, Row, Show, Exchange, Close}
+use Rattle.shm_recover.specs.declared.mend_lower.MendLowerState.{MendLowerState}
 use Rattle.shm_recover.specs.MendRest.{bare, is_row}
 use Rattle.shm_recover.specs.MendLower.Control.{is_header, lowered, lowering_after, lowering_ask, lowering_call, lowering_turns}
 
@@ -83,7 +83,7 @@ pub record HasLowered (me : Me) (a e : ℕ) (r0 r : Memo) (es : List Event) : Ty
   pub rows : (j : ℕ) → own_word r0.own (Era me.who j) ≤ own_word r.own (Era me.who j)
   pub events : es ≡ ChangeDown me.who a ∷ []
 
-abbrev pub LoweringKnows : LoweringState → LoweringPoint → Memo → Memo → Trail → List Event → Type 0
+abbrev pub LoweringKnows : MendLowerState → MendLowerPoint → Memo → Memo → Trail → List Event → Type 0
 LoweringKnows m Header r0 r tr es = MayLowerDead m.me m.block m.era r0 × (r ≡ r0) × (tr ≡ []) × (es ≡ [])
 LoweringKnows m Row r0 r tr es = HasFound m.me m.block m.era m.header r0 r es × (m.me.who ≢ (header_of m.header).client) × IsWithin 1 tr
 LoweringKnows m Show r0 r tr es = HasFound m.me m.block m.era m.header r0 r es × (m.me.who ≢ (header_of m.header).client) × (own_word r.own (Era m.me.who (header_of m.header).client) ≤ (header_of m.header).era) × IsWithin 2 tr
@@ -110,7 +110,7 @@ abbrev pub ExchangeFound : Me → ℕ → ℕ → ℕ → Memo → ℕ → Memo 
 ExchangeFound me a e n r k x = FormerLowered me.geometry.wide me.who r.op n (lowered me.who e n) r k x × IsCounted me k
 
 -- what holds after the word step at a point, by the memo before, the word found and the memo
-abbrev pub LoweringFound : LoweringState → LoweringPoint → Memo → ℕ → Memo → Type 0
+abbrev pub LoweringFound : MendLowerState → MendLowerPoint → Memo → ℕ → Memo → Type 0
 LoweringFound m Header r n x = HeaderSeen m.me.geometry m.block r n x × IsCounted m.me n
 LoweringFound m Row r n x = CountLoaded m.me.who (Era m.me.who (header_of m.header).client) r n x
 LoweringFound m Show r n x = RowStored m.me.who (header_of m.header).client (header_of m.header).era r n x
@@ -118,11 +118,11 @@ LoweringFound m Exchange r n x = ExchangeFound m.me m.block m.era m.header r n x
 LoweringFound m Close r n x = EraClosedLowering m.me.who r n x
 
 -- the part that the word step at a point is; the exchange is an event
-abbrev pub lowering_part : LoweringState → LoweringPoint → Part Word ℕ
+abbrev pub lowering_part : MendLowerState → MendLowerPoint → Part Word ℕ
 lowering_part m Exchange = read_part (event_part false m.me (lowering_ask m.me m.block m.era m.header Exchange) (former_event m.me.who m.block m.header) (LoweringFound m Exchange))
 lowering_part m y = grown (is_header y) (word_part (is_header y) m.me (lowering_ask m.me m.block m.era m.header y) (LoweringFound m y))
 
-abbrev pub lowering_plan : Planned LoweringState Word ℕ (Unit {0})
+abbrev pub lowering_plan : Planned MendLowerState Word ℕ (Unit {0})
 lowering_plan =
     record {
       me = λ m. m.me;

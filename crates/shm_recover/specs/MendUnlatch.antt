@@ -20,9 +20,9 @@ use Rattle.shm_calls.specs.declared.word.Word.{Word}
 use Rattle.shm_calls.specs.Parts.{Part}
 use Rattle.shm_calls.specs.Plans.{Planned}
 use Rattle.shm_calls.specs.Words.{word_part}
-use Rattle.shm_recover.specs.declared.mend_unlatch.UnlatchingPoint.{UnlatchingPoint}
-use Rattle.shm_recover.specs.declared.mend_unlatch.UnlatchingPoint.TheVariants.{Whose, Look, Give, Back}
-use Rattle.shm_recover.specs.declared.mend_unlatch.UnlatchingState.{UnlatchingState}
+use Rattle.shm_recover.specs.declared.mend_unlatch.MendUnlatchPoint.{MendUnlatchPoint}
+use Rattle.shm_recover.specs.declared.mend_unlatch.MendUnlatchPoint.TheVariants.{Whose, Look, Give, Back}
+use Rattle.shm_recover.specs.declared.mend_unlatch.MendUnlatchState.{MendUnlatchState}
 use Rattle.shm_recover.specs.MendRest.{bare, is_hold}
 use Rattle.shm_recover.specs.MendUnlatch.Control.{is_whose, unlatching_after, unlatching_ask, unlatching_call, unlatching_turns}
 
@@ -54,7 +54,7 @@ pub record HasUnlatched (me : Me) (r0 r : Memo) (es : List Event) : Type 0 where
   pub own : r.own ≡ r0.own
   pub none : es ≡ []
 
-abbrev pub UnlatchingKnows : UnlatchingState → UnlatchingPoint → Memo → Memo → Trail → List Event → Type 0
+abbrev pub UnlatchingKnows : MendUnlatchState → MendUnlatchPoint → Memo → Memo → Trail → List Event → Type 0
 UnlatchingKnows m Whose r0 r tr es = MayUnlatchDead m.me r0 × (r ≡ r0) × (tr ≡ []) × (es ≡ [])
 UnlatchingKnows m Look r0 r tr es = NamesLatch m.me m.author r0 r es × IsWithin 1 tr
 UnlatchingKnows m Give r0 r tr es = NamesLatch m.me m.author r0 r es × (r.latch ≡ Some m.author) × IsWithin 2 tr
@@ -76,16 +76,16 @@ pub record Unlatched (me : Me) (r0 r : Memo) (tr : Trail) (es : List Event) : Ty
 -- ---- the plan
 
 -- what holds after the word step at a point, by the memo before, the word found and the memo
-abbrev pub UnlatchingFound : UnlatchingState → UnlatchingPoint → Memo → ℕ → Memo → Type 0
+abbrev pub UnlatchingFound : MendUnlatchState → MendUnlatchPoint → Memo → ℕ → Memo → Type 0
 UnlatchingFound m Whose = HoldLoaded m.me.who
 UnlatchingFound m Look = LatchLoaded m.me.who m.author
 UnlatchingFound m Give = LatchGiven m.me.geometry.wide m.me.who
 UnlatchingFound m Back = HoldStored m.me.who 0
 
-abbrev pub unlatching_part : UnlatchingState → UnlatchingPoint → Part Word ℕ
+abbrev pub unlatching_part : MendUnlatchState → MendUnlatchPoint → Part Word ℕ
 unlatching_part m y = word_part (is_whose y) m.me (unlatching_ask m.me m.author y) (UnlatchingFound m y)
 
-abbrev pub unlatching_plan : Planned UnlatchingState Word ℕ (Unit {0})
+abbrev pub unlatching_plan : Planned MendUnlatchState Word ℕ (Unit {0})
 unlatching_plan =
     record {
       me = λ m. m.me;

@@ -30,6 +30,7 @@ ghost use Rattle.shm_recover.specs.Recover.Losses.{IsLoss};
 ghost use Rattle.shm_recover.specs.Recover.{RecoverLeaves};
 ghost use Rattle.shm_recover.specs.Scan.Control.{scanning};
 ghost use Rattle.shm_recover.specs.Scan.{IsApart, ScanLeaves};
+ghost use Rattle.shm_graph.specs.Sound.{IsGone};
 
 /// In each state that holds once a leaving or a recovery is done the words have nothing of the identity: its status word is 3, no step
 /// of it is in progress, its roots and its hold word are 0, no latch word and no segment word is its number and one, and each
@@ -88,4 +89,9 @@ pub fn scan_frees_all()
     ensures freed { (me : AMe) (n : ℕ) (w : ASpot → ℕ) (r : ℕ → AMemo) (q : AMemo) (tr : Trail) (es : List AnEvent) → me.who < me.geometry.clients → HeldAt me.geometry w (view r) → ScanLeaves (scanning me) (r me.who) q tr es (Ok n) → (b : ℕ) → IsDying (headers w b) me.who → Contains es (Free me.who b) }
     ensures none { (me : AMe) (n : ℕ) (w : ASpot → ℕ) (r0 : AMemo) (r : ℕ → AMemo) (tr : Trail) (es : List AnEvent) → me.who < me.geometry.clients → HeldAt me.geometry w (view r) → ScanLeaves (scanning me) r0 (r me.who) tr es (Ok n) → (b : ℕ) → IsLive (headers w) b → (headers w b).count ≡ 0 → (headers w b).client ≢ me.who }
     ensures stopped { (me : AMe) (r0 r : AMemo) (tr : Trail) (es : List AnEvent) (e : ASpent) → ScanLeaves (scanning me) r0 r tr es (Err e) → (bs : List ℕ) × IsApart bs × ((b : ℕ) → Contains bs b → Contains r0.dying b) × ((b : ℕ) → Contains r0.dying b → Contains bs b ⊎ Contains r.dying b) }
+{}
+
+/// Where a leaving answered that it is done, nothing of the identity is left in the words.
+pub fn leave_gone()
+    ensures { (me : AMe) (r0 : AMemo) (tr : Trail) (es : List AnEvent) (w : ASpot → ℕ) (r : ℕ → AMemo) → me.who < me.geometry.clients → HeldAt me.geometry w (view r) → LeaveLeaves (leaving me) r0 (r me.who) tr es (Ok tt) → IsGone me.geometry w (view r) me.who }
 {}

@@ -7,7 +7,7 @@ ghost use Rattle.shm_recover.specs.FinishTakes.{finish_plan};
 ghost use Rattle.shm_recover.specs.FinishTakes.Laws.{finish_laws};
 
 use crate::others::other;
-use shm_calls::{Calls, Plan, Word};
+use shm_calls::{Plan, Word};
 use shm_graph::{Machine, Me};
 use std::marker::Model;
 
@@ -34,12 +34,14 @@ pub struct FinishState {
 }
 
 /// The word steps by which the heads of queues pass items whose slots are empty.
+///
+/// Of each queue to an identity, the item that was taken out of its slot joins what was received.
 #[derive(Drop)]
-pub struct Finishing {
+pub struct FinishTakes {
     state: FinishState,
 }
 
-impl Model for Finishing {
+impl Model for FinishTakes {
     ghost use Rattle.shm_recover.specs.declared.finish_takes.FinishState.{FinishState as AState};
 
     ghost Value = { AState };
@@ -51,19 +53,16 @@ impl Model for Finishing {
     ghost invariant = { λ a. FinishInRange a.state };
 }
 
-/// Of each queue to an identity, the item that was taken out of its slot joins what was received.
-pub type FinishTakes = Calls<Finishing>;
-
-impl Finishing {
+impl FinishTakes {
     /// The queues to the identity `me` of a pool of more than one client, before the first word step.
     #[inline(always)]
-    pub fn new(me: Me) -> Finishing
+    pub fn new(me: Me) -> FinishTakes
         requires geometry { GeometryFits me.geometry }
         requires who { me.who < me.geometry.clients }
         requires others { 1 < me.geometry.clients }
         ensures { result ≡ finishing me }
     {
-        Finishing {
+        FinishTakes {
             state: FinishState {
                 me,
                 passed: 0,
@@ -88,7 +87,7 @@ impl Finishing {
     }
 }
 
-impl Plan for Finishing {
+impl Plan for FinishTakes {
     type Call = Word;
 
     type Answer = ();

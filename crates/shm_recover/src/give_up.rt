@@ -6,7 +6,7 @@ ghost use Rattle.shm_recover.specs.GiveUp.Control.{giving_up, next_segment};
 ghost use Rattle.shm_recover.specs.GiveUp.{give_plan};
 ghost use Rattle.shm_recover.specs.GiveUp.Laws.{give_laws};
 
-use shm_calls::{Calls, Plan, Word};
+use shm_calls::{Plan, Word};
 use shm_graph::{Machine, Me};
 use std::marker::Model;
 
@@ -47,12 +47,14 @@ impl GiveState {
 }
 
 /// The word steps by which an identity gives up its segments and is gone.
+///
+/// The segments of an identity are nobody's, with their pages and blocks as they are, and then its status is gone.
 #[derive(Drop)]
-pub struct GivingUp {
+pub struct GiveUp {
     state: GiveState,
 }
 
-impl Model for GivingUp {
+impl Model for GiveUp {
     ghost use Rattle.shm_recover.specs.declared.give_up.GiveState.{GiveState as AState};
 
     ghost Value = { AState };
@@ -64,18 +66,15 @@ impl Model for GivingUp {
     ghost invariant = { λ a. GiveInRange a.state };
 }
 
-/// The segments of an identity are nobody's, with their pages and blocks as they are, and then its status is gone.
-pub type GiveUp = Calls<GivingUp>;
-
-impl GivingUp {
+impl GiveUp {
     /// The segments and the status of the identity `me`, before the first word step.
     #[inline(always)]
-    pub fn new(me: Me) -> GivingUp
+    pub fn new(me: Me) -> GiveUp
         requires geometry { GeometryFits me.geometry }
         requires who { me.who < me.geometry.clients }
         ensures { result ≡ giving_up me }
     {
-        GivingUp {
+        GiveUp {
             state: GiveState {
                 me,
                 segment: 0,
@@ -85,7 +84,7 @@ impl GivingUp {
     }
 }
 
-impl Plan for GivingUp {
+impl Plan for GiveUp {
     type Call = Word;
 
     type Answer = ();

@@ -10,7 +10,7 @@ ghost use Rattle.shm_recover.specs.LeaveTask.{LeaveMay, LeaveRests, leave_task};
 use shm_calls::{Calls, Or, Plan, Task, Word};
 use shm_count::EraSpent;
 use shm_graph::{Machine, Me};
-use shm_ref::parts::{DropRoots, DroppingRoots};
+use shm_ref::parts::DropRoots;
 use std::marker::Model;
 
 /// Which call of it comes next.
@@ -52,12 +52,14 @@ impl LeaveState {
 }
 
 /// The calls by which an identity leaves: its roots are dropped, its segments are given up, and its status is stored.
+///
+/// It answers `EraSpent` where the own era is above 2^47 - 3 at a reference that is to go; the identity is then still there.
 #[derive(Drop)]
-pub struct Leaving {
+pub struct Leave {
     state: LeaveState,
 }
 
-impl Model for Leaving {
+impl Model for Leave {
     ghost use Rattle.shm_recover.specs.declared.leave.LeaveState.{LeaveState as AState};
 
     ghost Value = { AState };
@@ -69,18 +71,15 @@ impl Model for Leaving {
     ghost invariant = { λ a. LeaveInRange a.state };
 }
 
-/// It answers `EraSpent` where the own era is above 2^47 - 3 at a reference that is to go; the identity is then still there.
-pub type Leave = Calls<Leaving>;
-
-impl Leaving {
+impl Leave {
     /// The leaving of the identity `me`, before the first call.
     #[inline(always)]
-    pub fn new(me: Me) -> Leaving
+    pub fn new(me: Me) -> Leave
         requires geometry { GeometryFits me.geometry }
         requires who { me.who < me.geometry.clients }
         ensures { result ≡ leaving me }
     {
-        Leaving {
+        Leave {
             state: LeaveState {
                 me,
                 segment: 0,
@@ -90,8 +89,8 @@ impl Leaving {
     }
 }
 
-impl Plan for Leaving {
-    type Call = Or<DropRoots, Word>;
+impl Plan for Leave {
+    type Call = Or<Calls<DropRoots>, Word>;
 
     type Answer = Result<(), EraSpent>;
 
@@ -103,10 +102,10 @@ impl Plan for Leaving {
     }
 
     #[inline(always)]
-    fn call(&self) -> Or<DropRoots, Word> {
+    fn call(&self) -> Or<Calls<DropRoots>, Word> {
         let LeaveState { me, segment, point } = self.state;
         match point {
-            LeavePoint::Roots => Or::First(Calls::new(DroppingRoots::new(me))),
+            LeavePoint::Roots => Or::First(Calls::new(DropRoots::new(me))),
             LeavePoint::Look => Or::Second(Word::load(me, me.geometry.segment(segment))),
             LeavePoint::Give => Or::Second(Word::store(me, me.geometry.segment(segment), 0)),
             LeavePoint::Status => Or::Second(Word::store(me, me.geometry.status(me.who), 3)),
@@ -142,7 +141,7 @@ impl Plan for Leaving {
     ghost laws = { leave_laws };
 }
 
-impl Task for Leaving {
+impl Task for Leave {
     ghost may = { LeaveMay };
 
     ghost rests = { LeaveRests };

@@ -3,7 +3,6 @@
 
 pub mod bound;
 pub mod departures;
-pub mod events;
 pub mod finish_takes;
 pub mod give_up;
 pub mod join;
@@ -20,17 +19,13 @@ pub mod stays;
 pub mod take_back;
 
 pub use bound::leave_bound;
-pub use departures::{departed_hold_nothing, recovery_keeps, scan_frees_all, spent_departures};
-pub use events::{leave_begins, leave_events, leave_gone, leave_leaves};
+pub use departures::{
+    departed_hold_nothing, leave_gone, recovery_keeps, scan_frees_all, spent_departures,
+};
 pub use join::{Join, JoinPoint, JoinState, join_bound};
-pub use leave::{Leave, Leaving};
-pub use mend::{
-    Mend, Mending, mend_begins, mend_bound, mend_events, mend_keeps, mend_leaves, mend_loses,
-};
-pub use recover::{Recover, Recovering};
-pub use recovering::{
-    recover_begins, recover_bound, recover_events, recover_gone, recover_leaves, scan_begins,
-    scan_bound, scan_events, scan_leaves,
-};
-pub use scan::{Scan, Scanning};
+pub use leave::Leave;
+pub use mend::{Mend, mend_begins, mend_bound, mend_events, mend_keeps, mend_leaves, mend_loses};
+pub use recover::Recover;
+pub use recovering::{recover_begins, recover_bound, recover_gone, scan_bound};
+pub use scan::Scan;
 pub use stays::maps_stay;

@@ -26,10 +26,10 @@ ghost use Rattle.shm_recover.specs.Mend.{IsMended, MayMend, mend_plan};
 ghost use Rattle.shm_recover.specs.Mend.Laws.{mend_laws};
 ghost use Rattle.shm_recover.specs.Mend.Machines.{mend, MendFits, MendGives, mend_told};
 
-use crate::mend_lower::{Lowering, MendLower};
-use crate::mend_unlatch::{MendUnlatch, Unlatching};
+use crate::mend_lower::MendLower;
+use crate::mend_unlatch::MendUnlatch;
 use shm_calls::{Calls, Or, Plan, Word};
-use shm_count::{Commit, CommitTest, Testing};
+use shm_count::{Commit, CommitTest};
 use shm_graph::{Machine, Me};
 use shm_words::Redo;
 use std::marker::Model;
@@ -184,12 +184,14 @@ impl MendState {
 }
 
 /// The calls by which a recoverer mends what a dead client left in progress.
+///
+/// After it the identity is dead, with no step in progress and no latch. It refuses nothing.
 #[derive(Drop)]
-pub struct Mending {
+pub struct Mend {
     state: MendState,
 }
 
-impl Model for Mending {
+impl Model for Mend {
     ghost use Rattle.shm_recover.specs.declared.mend.MendState.{MendState as AState};
 
     ghost Value = { AState };
@@ -201,18 +203,15 @@ impl Model for Mending {
     ghost invariant = { λ a. MendInRange a.state };
 }
 
-/// After it the identity is dead, with no step in progress and no latch. It refuses nothing.
-pub type Mend = Calls<Mending>;
-
-impl Mending {
+impl Mend {
     /// The mending of the identity `me`, before the first call.
     #[inline(always)]
-    pub fn new(me: Me) -> Mending
+    pub fn new(me: Me) -> Mend
         requires geometry { GeometryFits me.geometry }
         requires who { me.who < me.geometry.clients }
         ensures { result ≡ mending me }
     {
-        Mending {
+        Mend {
             state: MendState {
                 me,
                 era: 0,
@@ -224,8 +223,8 @@ impl Mending {
     }
 }
 
-impl Plan for Mending {
-    type Call = Or<Word, Or<CommitTest, Or<MendLower, MendUnlatch>>>;
+impl Plan for Mend {
+    type Call = Or<Word, Or<Calls<CommitTest>, Or<Calls<MendLower>, Calls<MendUnlatch>>>>;
 
     type Answer = ();
 
@@ -237,7 +236,7 @@ impl Plan for Mending {
     }
 
     #[inline(always)]
-    fn call(&self) -> Or<Word, Or<CommitTest, Or<MendLower, MendUnlatch>>> {
+    fn call(&self) -> Or<Word, Or<Calls<CommitTest>, Or<Calls<MendLower>, Calls<MendUnlatch>>>> {
         let MendState { me, era, point, .. } = self.state;
         let own_era = me.geometry.era(me.who, me.who);
         match point {
@@ -245,20 +244,20 @@ impl Plan for Mending {
             MendPoint::Era => Or::First(Word::load(me, own_era)),
             MendPoint::Redo => Or::First(Word::load(me, me.geometry.redo(me.who))),
             MendPoint::More => Or::First(Word::load(me, me.geometry.redo_more(me.who))),
-            MendPoint::Test => Or::Second(Or::First(Calls::new(Testing::new(
+            MendPoint::Test => Or::Second(Or::First(Calls::new(CommitTest::new(
                 me,
                 self.state.block(),
                 era,
             )))),
             MendPoint::Slot => Or::First(self.state.write()),
             MendPoint::Close => Or::First(Word::store(me, own_era, era + 1)),
-            MendPoint::Lower => Or::Second(Or::Second(Or::First(Calls::new(Lowering::new(
+            MendPoint::Lower => Or::Second(Or::Second(Or::First(Calls::new(MendLower::new(
                 me,
                 self.state.before(),
                 era,
             ))))),
             MendPoint::Unlatch => {
-                Or::Second(Or::Second(Or::Second(Calls::new(Unlatching::new(me)))))
+                Or::Second(Or::Second(Or::Second(Calls::new(MendUnlatch::new(me)))))
             }
         }
     }

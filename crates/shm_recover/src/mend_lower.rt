@@ -8,14 +8,14 @@ ghost use Rattle.shm_recover.specs.MendLower.Control.{lowering};
 ghost use Rattle.shm_recover.specs.MendLower.{lowering_plan};
 ghost use Rattle.shm_recover.specs.MendLower.Laws.{lowering_laws};
 
-use shm_calls::{Calls, Plan, Word};
+use shm_calls::{Plan, Word};
 use shm_graph::{Machine, Me};
 use shm_words::Header;
 use std::marker::Model;
 
 /// Which word step of it comes next.
 #[derive(Clone, Copy, Drop)]
-pub enum LoweringPoint {
+pub enum MendLowerPoint {
     /// The header of the block is loaded.
     Header,
     /// The own row for the header's client is loaded.
@@ -30,15 +30,15 @@ pub enum LoweringPoint {
 
 /// The control of it; `era` is that of the second half, and `header` the word of the header that was found last.
 #[derive(Clone, Copy, Drop)]
-pub struct LoweringState {
+pub struct MendLowerState {
     pub me: Me,
     pub block: u32,
     pub era: u64,
     pub header: u64,
-    pub point: LoweringPoint,
+    pub point: MendLowerPoint,
 }
 
-impl LoweringState {
+impl MendLowerState {
     /// The header of the block was found.
     #[inline(always)]
     fn found(&mut self, header: u64)
@@ -46,9 +46,9 @@ impl LoweringState {
     {
         self.header = header;
         self.point = if Header::unpack(header).client == self.me.who {
-            LoweringPoint::Exchange
+            MendLowerPoint::Exchange
         } else {
-            LoweringPoint::Row
+            MendLowerPoint::Row
         };
     }
 
@@ -87,13 +87,15 @@ impl LoweringState {
 }
 
 /// The word steps of the second half of a change.
+///
+/// After it the block has lost the reference that the change held over, and the change is closed.
 #[derive(Drop)]
-pub struct Lowering {
-    state: LoweringState,
+pub struct MendLower {
+    state: MendLowerState,
 }
 
-impl Model for Lowering {
-    ghost use Rattle.shm_recover.specs.declared.mend_lower.LoweringState.{LoweringState as AState};
+impl Model for MendLower {
+    ghost use Rattle.shm_recover.specs.declared.mend_lower.MendLowerState.{MendLowerState as AState};
 
     ghost Value = { AState };
 
@@ -104,31 +106,28 @@ impl Model for Lowering {
     ghost invariant = { λ a. LoweringInRange a.state };
 }
 
-/// After it the block has lost the reference that the change held over, and the change is closed.
-pub type MendLower = Calls<Lowering>;
-
-impl Lowering {
+impl MendLower {
     /// The second half at era `era` of a change of the identity `me`, which takes the reference to `block` away.
     #[inline(always)]
-    pub fn new(me: Me, block: u32, era: u64) -> Lowering
+    pub fn new(me: Me, block: u32, era: u64) -> MendLower
         requires geometry { GeometryFits me.geometry }
         requires who { me.who < me.geometry.clients }
         requires era { era < 2 ^ 47 }
         ensures { result ≡ lowering me block era }
     {
-        Lowering {
-            state: LoweringState {
+        MendLower {
+            state: MendLowerState {
                 me,
                 block,
                 era,
                 header: 0,
-                point: LoweringPoint::Header,
+                point: MendLowerPoint::Header,
             },
         }
     }
 }
 
-impl Plan for Lowering {
+impl Plan for MendLower {
     type Call = Word;
 
     type Answer = ();
@@ -142,7 +141,7 @@ impl Plan for Lowering {
 
     #[inline(always)]
     fn call(&self) -> Word {
-        let LoweringState {
+        let MendLowerState {
             me,
             block,
             era,
@@ -150,34 +149,36 @@ impl Plan for Lowering {
             point,
         } = self.state;
         match point {
-            LoweringPoint::Header => Word::load(me, block),
-            LoweringPoint::Row => Word::load(me, self.state.row()),
-            LoweringPoint::Show => { Word::store(me, self.state.row(), Header::unpack(header).era) }
-            LoweringPoint::Exchange => Word::exchange(me, block, header, self.state.lowered()),
-            LoweringPoint::Close => Word::store(me, me.geometry.era(me.who, me.who), era + 1),
+            MendLowerPoint::Header => Word::load(me, block),
+            MendLowerPoint::Row => Word::load(me, self.state.row()),
+            MendLowerPoint::Show => {
+                Word::store(me, self.state.row(), Header::unpack(header).era)
+            }
+            MendLowerPoint::Exchange => Word::exchange(me, block, header, self.state.lowered()),
+            MendLowerPoint::Close => Word::store(me, me.geometry.era(me.who, me.who), era + 1),
         }
     }
 
     #[inline(always)]
     fn next(&mut self, word: u64) -> Option<()> {
         match self.state.point {
-            LoweringPoint::Header => self.state.found(word),
-            LoweringPoint::Row => {
+            MendLowerPoint::Header => self.state.found(word),
+            MendLowerPoint::Row => {
                 self.state.point = if word < Header::unpack(self.state.header).era {
-                    LoweringPoint::Show
+                    MendLowerPoint::Show
                 } else {
-                    LoweringPoint::Exchange
+                    MendLowerPoint::Exchange
                 };
             }
-            LoweringPoint::Show => self.state.point = LoweringPoint::Exchange,
-            LoweringPoint::Exchange => {
+            MendLowerPoint::Show => self.state.point = MendLowerPoint::Exchange,
+            MendLowerPoint::Exchange => {
                 if word == self.state.header {
-                    self.state.point = LoweringPoint::Close;
+                    self.state.point = MendLowerPoint::Close;
                 } else {
                     self.state.found(word);
                 }
             }
-            LoweringPoint::Close => return Some(()),
+            MendLowerPoint::Close => return Some(()),
         }
         None
     }

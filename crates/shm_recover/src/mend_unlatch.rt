@@ -6,13 +6,13 @@ ghost use Rattle.shm_recover.specs.MendUnlatch.Control.{unlatching};
 ghost use Rattle.shm_recover.specs.MendUnlatch.{unlatching_plan};
 ghost use Rattle.shm_recover.specs.MendUnlatch.Laws.{unlatching_laws};
 
-use shm_calls::{Calls, Plan, Word};
+use shm_calls::{Plan, Word};
 use shm_graph::{Machine, Me};
 use std::marker::Model;
 
 /// Which word step of it comes next.
 #[derive(Clone, Copy, Drop)]
-pub enum UnlatchingPoint {
+pub enum MendUnlatchPoint {
     /// The hold word is loaded.
     Whose,
     /// The latch that it names is loaded.
@@ -25,20 +25,22 @@ pub enum UnlatchingPoint {
 
 /// The control of it; `author` is whose latch the hold word names.
 #[derive(Clone, Copy, Drop)]
-pub struct UnlatchingState {
+pub struct MendUnlatchState {
     pub me: Me,
     pub author: u8,
-    pub point: UnlatchingPoint,
+    pub point: MendUnlatchPoint,
 }
 
 /// The word steps by which a recoverer gives back a latch.
+///
+/// After it no step is in progress, no latch is held, and the hold word is 0.
 #[derive(Drop)]
-pub struct Unlatching {
-    state: UnlatchingState,
+pub struct MendUnlatch {
+    state: MendUnlatchState,
 }
 
-impl Model for Unlatching {
-    ghost use Rattle.shm_recover.specs.declared.mend_unlatch.UnlatchingState.{UnlatchingState as AState};
+impl Model for MendUnlatch {
+    ghost use Rattle.shm_recover.specs.declared.mend_unlatch.MendUnlatchState.{MendUnlatchState as AState};
 
     ghost Value = { AState };
 
@@ -49,28 +51,25 @@ impl Model for Unlatching {
     ghost invariant = { λ a. UnlatchingInRange a.state };
 }
 
-/// After it no step is in progress, no latch is held, and the hold word is 0.
-pub type MendUnlatch = Calls<Unlatching>;
-
-impl Unlatching {
+impl MendUnlatch {
     /// The latch of the identity `me` is to be given back, if it holds one.
     #[inline(always)]
-    pub fn new(me: Me) -> Unlatching
+    pub fn new(me: Me) -> MendUnlatch
         requires geometry { GeometryFits me.geometry }
         requires who { me.who < me.geometry.clients }
         ensures { result ≡ unlatching me }
     {
-        Unlatching {
-            state: UnlatchingState {
+        MendUnlatch {
+            state: MendUnlatchState {
                 me,
                 author: 0,
-                point: UnlatchingPoint::Whose,
+                point: MendUnlatchPoint::Whose,
             },
         }
     }
 }
 
-impl Plan for Unlatching {
+impl Plan for MendUnlatch {
     type Call = Word;
 
     type Answer = ();
@@ -84,14 +83,14 @@ impl Plan for Unlatching {
 
     #[inline(always)]
     fn call(&self) -> Word {
-        let UnlatchingState { me, author, point } = self.state;
+        let MendUnlatchState { me, author, point } = self.state;
         let hold = me.geometry.hold(me.who);
         let latch = me.geometry.latch(author);
         match point {
-            UnlatchingPoint::Whose => Word::load(me, hold),
-            UnlatchingPoint::Look => Word::load(me, latch),
-            UnlatchingPoint::Give => Word::store(me, latch, 0),
-            UnlatchingPoint::Back => Word::store(me, hold, 0),
+            MendUnlatchPoint::Whose => Word::load(me, hold),
+            MendUnlatchPoint::Look => Word::load(me, latch),
+            MendUnlatchPoint::Give => Word::store(me, latch, 0),
+            MendUnlatchPoint::Back => Word::store(me, hold, 0),
         }
     }
 
@@ -99,22 +98,22 @@ impl Plan for Unlatching {
     fn next(&mut self, word: u64) -> Option<()> {
         let me = self.state.me;
         match self.state.point {
-            UnlatchingPoint::Whose => {
+            MendUnlatchPoint::Whose => {
                 if word == 0 {
                     return Some(());
                 }
                 self.state.author = ((word - 1) % u64::from(me.geometry.clients())) as u8;
-                self.state.point = UnlatchingPoint::Look;
+                self.state.point = MendUnlatchPoint::Look;
             }
-            UnlatchingPoint::Look => {
+            MendUnlatchPoint::Look => {
                 self.state.point = if word == u64::from(me.who) + 1 {
-                    UnlatchingPoint::Give
+                    MendUnlatchPoint::Give
                 } else {
-                    UnlatchingPoint::Back
+                    MendUnlatchPoint::Back
                 };
             }
-            UnlatchingPoint::Give => self.state.point = UnlatchingPoint::Back,
-            UnlatchingPoint::Back => return Some(()),
+            MendUnlatchPoint::Give => self.state.point = MendUnlatchPoint::Back,
+            MendUnlatchPoint::Back => return Some(()),
         }
         None
     }

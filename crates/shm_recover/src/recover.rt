@@ -12,15 +12,15 @@ ghost use Rattle.shm_recover.specs.Scan.Laws.{scan_laws};
 ghost use Rattle.shm_recover.specs.TakeBack.Laws.{back_laws};
 ghost use Rattle.shm_ref.specs.DropRoots.Laws.{roots_laws};
 
-use crate::finish_takes::{FinishTakes, Finishing};
-use crate::give_up::{GiveUp, GivingUp};
-use crate::mend::{Mend, Mending};
-use crate::scan::{Scan, Scanning};
-use crate::take_back::{TakeBack, TakingBack};
+use crate::finish_takes::FinishTakes;
+use crate::give_up::GiveUp;
+use crate::mend::Mend;
+use crate::scan::Scan;
+use crate::take_back::TakeBack;
 use shm_calls::{Calls, Or, Plan};
 use shm_count::EraSpent;
 use shm_graph::{Machine, Me};
-use shm_ref::parts::{DropRoots, DroppingRoots};
+use shm_ref::parts::DropRoots;
 use std::marker::Model;
 
 /// Which call of it comes next.
@@ -48,12 +48,15 @@ pub struct RecoverState {
 }
 
 /// The calls by which a dead identity is recovered.
+///
+/// It answers `EraSpent` where the own era is above 2^47 - 3 at a reference that is to go; what was done stays done, and the identity is
+/// dead still.
 #[derive(Drop)]
-pub struct Recovering {
+pub struct Recover {
     state: RecoverState,
 }
 
-impl Model for Recovering {
+impl Model for Recover {
     ghost use Rattle.shm_recover.specs.declared.recover.RecoverState.{RecoverState as AState};
 
     ghost Value = { AState };
@@ -65,20 +68,16 @@ impl Model for Recovering {
     ghost invariant = { λ a. RecoverInRange a.state };
 }
 
-/// It answers `EraSpent` where the own era is above 2^47 - 3 at a reference that is to go; what was done stays done, and the identity is
-/// dead still.
-pub type Recover = Calls<Recovering>;
-
-impl Recovering {
+impl Recover {
     /// The recovery of the identity `me`, before the first call; its line is the bytes of `recover`.
     #[inline(always)]
-    pub fn new(me: Me) -> Recovering
+    pub fn new(me: Me) -> Recover
         requires geometry { GeometryFits me.geometry }
         requires who { me.who < me.geometry.clients }
         ensures state { result ≡ recovering me }
         ensures line { recover_plan.line result ≡ 114 ∷ 101 ∷ 99 ∷ 111 ∷ 118 ∷ 101 ∷ 114 ∷ [] }
     {
-        Recovering {
+        Recover {
             state: RecoverState {
                 me,
                 point: RecoverPoint::Mend,
@@ -99,8 +98,14 @@ impl Recovering {
     }
 }
 
-impl Plan for Recovering {
-    type Call = Or<Mend, Or<DropRoots, Or<TakeBack, Or<FinishTakes, Or<Scan, GiveUp>>>>>;
+impl Plan for Recover {
+    type Call = Or<
+        Calls<Mend>,
+        Or<
+            Calls<DropRoots>,
+            Or<Calls<TakeBack>, Or<Calls<FinishTakes>, Or<Calls<Scan>, Calls<GiveUp>>>>,
+        >,
+    >;
 
     type Answer = Result<(), EraSpent>;
 
@@ -112,24 +117,32 @@ impl Plan for Recovering {
     }
 
     #[inline(always)]
-    fn call(&self) -> Or<Mend, Or<DropRoots, Or<TakeBack, Or<FinishTakes, Or<Scan, GiveUp>>>>> {
+    fn call(
+        &self,
+    ) -> Or<
+        Calls<Mend>,
+        Or<
+            Calls<DropRoots>,
+            Or<Calls<TakeBack>, Or<Calls<FinishTakes>, Or<Calls<Scan>, Calls<GiveUp>>>>,
+        >,
+    > {
         let me = self.state.me;
         match self.state.point {
-            RecoverPoint::Mend => Or::First(Calls::new(Mending::new(me))),
-            RecoverPoint::Roots => Or::Second(Or::First(Calls::new(DroppingRoots::new(me)))),
+            RecoverPoint::Mend => Or::First(Calls::new(Mend::new(me))),
+            RecoverPoint::Roots => Or::Second(Or::First(Calls::new(DropRoots::new(me)))),
             RecoverPoint::Back => {
-                Or::Second(Or::Second(Or::First(Calls::new(TakingBack::new(me)))))
+                Or::Second(Or::Second(Or::First(Calls::new(TakeBack::new(me)))))
             }
             RecoverPoint::Takes => {
-                let takes = Calls::new(Finishing::new(me));
+                let takes = Calls::new(FinishTakes::new(me));
                 Or::Second(Or::Second(Or::Second(Or::First(takes))))
             }
             RecoverPoint::Scan => {
-                let scan = Calls::new(Scanning::new(me));
+                let scan = Calls::new(Scan::new(me));
                 Or::Second(Or::Second(Or::Second(Or::Second(Or::First(scan)))))
             }
             RecoverPoint::Give => {
-                let give = Calls::new(GivingUp::new(me));
+                let give = Calls::new(GiveUp::new(me));
                 Or::Second(Or::Second(Or::Second(Or::Second(Or::Second(give)))))
             }
         }

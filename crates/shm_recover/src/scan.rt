@@ -6,7 +6,7 @@ ghost use Rattle.shm_recover.specs.Scan.Control.{scanning, block_at, is_lost, pa
 ghost use Rattle.shm_recover.specs.Scan.{scan_plan};
 ghost use Rattle.shm_recover.specs.Scan.Laws.{scan_laws};
 
-use shm_calls::{Calls, Or, Plan, Word};
+use shm_calls::{Or, Plan, Word};
 use shm_count::{EraSpent, TearDown};
 use shm_graph::{Machine, Me};
 use shm_words::Header;
@@ -103,12 +103,17 @@ impl ScanState {
 }
 
 /// The calls by which the blocks of an identity whose count is 0 are found, wherever they are in the pool, and freed.
+///
+/// It answers how many blocks of the identity with count 0 it found itself, or `EraSpent` where the own era is above 2^47 - 3 at a
+/// reference that is to go; the blocks that it hasn't freed then keep their count 0.
+///
+/// That blocks which a dead client was freeing are found by going through the whole pool is the scan of CXL-SHM (SOSP 2023).
 #[derive(Drop)]
-pub struct Scanning {
+pub struct Scan {
     state: ScanState,
 }
 
-impl Model for Scanning {
+impl Model for Scan {
     ghost use Rattle.shm_recover.specs.declared.scan.ScanState.{ScanState as AState};
 
     ghost Value = { AState };
@@ -120,21 +125,15 @@ impl Model for Scanning {
     ghost invariant = { λ a. ScanInRange a.state };
 }
 
-/// It answers how many blocks of the identity with count 0 it found itself, or `EraSpent` where the own era is above 2^47 - 3 at a
-/// reference that is to go; the blocks that it hasn't freed then keep their count 0.
-///
-/// That blocks which a dead client was freeing are found by going through the whole pool is the scan of CXL-SHM (SOSP 2023).
-pub type Scan = Calls<Scanning>;
-
-impl Scanning {
+impl Scan {
     /// The scan for the identity `me`, before the first call.
     #[inline(always)]
-    pub fn new(me: Me) -> Scanning
+    pub fn new(me: Me) -> Scan
         requires geometry { GeometryFits me.geometry }
         requires who { me.who < me.geometry.clients }
         ensures { result ≡ scanning me }
     {
-        Scanning {
+        Scan {
             state: ScanState {
                 me,
                 segment: 0,
@@ -148,7 +147,7 @@ impl Scanning {
     }
 }
 
-impl Plan for Scanning {
+impl Plan for Scan {
     type Call = Or<Word, TearDown>;
 
     type Answer = Result<u32, EraSpent>;

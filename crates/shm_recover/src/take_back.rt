@@ -7,7 +7,7 @@ ghost use Rattle.shm_recover.specs.TakeBack.{back_plan};
 ghost use Rattle.shm_recover.specs.TakeBack.Laws.{back_laws};
 
 use crate::others::other;
-use shm_calls::{Calls, Or, Plan, Word};
+use shm_calls::{Or, Plan, Word};
 use shm_count::{EraSpent, StepDown, TearDown};
 use shm_graph::{Machine, Me};
 use shm_words::ADDRESS_LIMIT;
@@ -40,12 +40,14 @@ pub struct BackState {
 }
 
 /// The calls by which the slots at the tails of queues from an identity come to be empty.
+///
+/// It answers `EraSpent` where the own era is above 2^47 - 3 at a reference that is to go; the queues after it are then as they were.
 #[derive(Drop)]
-pub struct TakingBack {
+pub struct TakeBack {
     state: BackState,
 }
 
-impl Model for TakingBack {
+impl Model for TakeBack {
     ghost use Rattle.shm_recover.specs.declared.take_back.BackState.{BackState as AState};
 
     ghost Value = { AState };
@@ -57,19 +59,16 @@ impl Model for TakingBack {
     ghost invariant = { λ a. BackInRange a.state };
 }
 
-/// It answers `EraSpent` where the own era is above 2^47 - 3 at a reference that is to go; the queues after it are then as they were.
-pub type TakeBack = Calls<TakingBack>;
-
-impl TakingBack {
+impl TakeBack {
     /// The queues from the identity `me` of a pool of more than one client, before the first call.
     #[inline(always)]
-    pub fn new(me: Me) -> TakingBack
+    pub fn new(me: Me) -> TakeBack
         requires geometry { GeometryFits me.geometry }
         requires who { me.who < me.geometry.clients }
         requires others { 1 < me.geometry.clients }
         ensures { result ≡ taking_back me }
     {
-        TakingBack {
+        TakeBack {
             state: BackState {
                 me,
                 passed: 0,
@@ -127,7 +126,7 @@ impl TakingBack {
     }
 }
 
-impl Plan for TakingBack {
+impl Plan for TakeBack {
     type Call = Or<Word, Or<StepDown, TearDown>>;
 
     type Answer = Result<(), EraSpent>;

@@ -9,7 +9,7 @@ use Rattle.shm_graph.specs.Core.{core}
 use Rattle.shm_graph.specs.Events.{Event}
 use Rattle.shm_graph.specs.Held.{is_loose}
 use Rattle.shm_graph.specs.Idle.{IsIdle}
-use Rattle.shm_graph.specs.Readings.{home_read, is_held}
+use Rattle.shm_graph.specs.MemoAfterRead.{home_read, is_held}
 use Rattle.shm_graph.specs.Views.{own_word}
 use Rattle.shm_graph.proofs.Spots.Spotting.{same_spot_self}
 use Rattle.shm_graph.proofs.StepKinds.Loads.{choice}

@@ -8,13 +8,13 @@ use Rattle.shm_graph.specs.Events.{Event}
 use Rattle.shm_graph.specs.Held.{is_loose}
 use Rattle.shm_graph.specs.Idle.{IsIdle, hold_word}
 use Rattle.shm_graph.specs.Reach.{is_reached, learnt}
-use Rattle.shm_graph.specs.Readings.{values_read}
+use Rattle.shm_graph.specs.MemoAfterRead.{values_read}
 use Rattle.shm_graph.proofs.StepKinds.Loads.{choice}
 use Rattle.shm_ref.specs.declared.answer.LookFault.{LookFault}
 use Rattle.shm_ref.specs.declared.answer.LookFault.TheVariants.{NoSuchRef, NotHeld}
 use Rattle.shm_ref.specs.declared.answer.NoSuchWord.{NoSuchWord}
 use Rattle.shm_ref.specs.declared.answer.NotHeld.{NotHeld as Unheld}
-use Rattle.shm_ref.specs.declared.home_of.FindState.{FindState}
+use Rattle.shm_ref.specs.declared.home_of.HomeOfState.{HomeOfState}
 use Rattle.shm_ref.specs.declared.look.LookState.{LookState}
 use Rattle.shm_ref.specs.declared.read.ReadState.{ReadState}
 use Rattle.shm_ref.specs.HomeOf.{HomeLeaves}
@@ -25,7 +25,7 @@ use Rattle.shm_ref.specs.ReadParts.{tagged}
 
 -- ---- a home
 
-module _ (m : FindState) (r0 r : Memo) (tr : Trail) (es : List Event) where
+module _ (m : HomeOfState) (r0 r : Memo) (tr : Trail) (es : List Event) where
   pub home_of_reached : (a : Result ℕ Unheld) → HomeLeaves m r0 r tr es a → IfOk a (λ b. b ≢ 0 → is_reached m.me.who r b ≡ true)
   home_of_reached (Ok b) h = h.reach
   home_of_reached (Err e) h = tt

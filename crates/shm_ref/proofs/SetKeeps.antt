@@ -14,7 +14,7 @@ use Rattle.shm_graph.specs.Events.{Event}
 use Rattle.shm_graph.specs.Held.{is_loose}
 use Rattle.shm_graph.specs.Idle.{IsIdle, hold_word}
 use Rattle.shm_graph.specs.Reach.{is_named, is_reached, learnt}
-use Rattle.shm_graph.specs.Readings.{values_read}
+use Rattle.shm_graph.specs.MemoAfterRead.{values_read}
 use Rattle.shm_graph.proofs.StepKinds.Loads.{choice}
 use Rattle.shm_count.specs.Roots.{AreRootsReached, root_word}
 use Rattle.shm_count.specs.Slots.{Filled, Took, Untouched}

@@ -7,7 +7,7 @@ use Rattle.shm_graph.specs.declared.memo.Stored.{Stored}
 use Rattle.shm_graph.specs.declared.spot.Spot.TheVariants.{Body, Era, Home, Root}
 use Rattle.shm_graph.specs.Core.{core}
 use Rattle.shm_graph.specs.Reach.{learnt}
-use Rattle.shm_graph.specs.Stores.{with_own}
+use Rattle.shm_graph.specs.MemoAfterStore.{with_own}
 use Rattle.shm_graph.specs.Views.{own_word}
 use Rattle.shm_steps.specs.Reparting.{sight}
 use Rattle.shm_count.specs.declared.answer.UpFault.{UpFault}

@@ -9,7 +9,7 @@ use Rattle.shm_graph.specs.declared.memo.Memo.{Memo}
 use Rattle.shm_graph.specs.declared.memo.Op.TheVariants.{Nothing}
 use Rattle.shm_graph.specs.Asks.{Trail, pair}
 use Rattle.shm_graph.specs.Events.{Event}
-use Rattle.shm_graph.specs.Stores.{with_own}
+use Rattle.shm_graph.specs.MemoAfterStore.{with_own}
 use Rattle.shm_steps.specs.Conditions.{IsHere}
 use Rattle.shm_calls.specs.declared.word.Word.{Word}
 use Rattle.shm_calls.specs.Parts.{Part}

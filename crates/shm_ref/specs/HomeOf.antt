@@ -19,40 +19,40 @@ use Rattle.shm_calls.specs.Parts.{Part}
 use Rattle.shm_calls.specs.Plans.{Planned}
 use Rattle.shm_calls.specs.Words.{word_part}
 use Rattle.shm_ref.specs.declared.answer.NotHeld.{NotHeld}
-use Rattle.shm_ref.specs.declared.home_of.FindPoint.{FindPoint}
-use Rattle.shm_ref.specs.declared.home_of.FindPoint.TheVariants.{Whose, Find}
-use Rattle.shm_ref.specs.declared.home_of.FindState.{FindState}
+use Rattle.shm_ref.specs.declared.home_of.HomeOfPoint.{HomeOfPoint}
+use Rattle.shm_ref.specs.declared.home_of.HomeOfPoint.TheVariants.{Whose, Find}
+use Rattle.shm_ref.specs.declared.home_of.HomeOfState.{HomeOfState}
 use Rattle.shm_ref.specs.AskedParts.{asked_part}
 use Rattle.shm_ref.specs.ReadParts.{MayAsk}
 
 -- ---- the control
 
 -- before its first word step
-abbrev pub finding : Me → ℕ → FindState
+abbrev pub finding : Me → ℕ → HomeOfState
 finding me a = record { me = me; author = a; point = Whose }
 
 -- the word step at a point
-abbrev pub find_ask : Me → ℕ → FindPoint → Ask
+abbrev pub find_ask : Me → ℕ → HomeOfPoint → Ask
 find_ask me a Whose = Load (address me.geometry (place.Hold me.who))
 find_ask me a Find = Load (address me.geometry (place.Home a))
 
-abbrev pub home_of_call : FindState → FindPoint → Word
+abbrev pub home_of_call : HomeOfState → HomeOfPoint → Word
 home_of_call m y = record { me = m.me; ask = find_ask m.me m.author y; over = false }
 
-abbrev pub home_of_after : FindState → FindPoint → ℕ → FindState
+abbrev pub home_of_after : HomeOfState → HomeOfPoint → ℕ → HomeOfState
 home_of_after m Whose n = record m { point = Find }
 home_of_after m Find n = m
 
-abbrev pub home_of_turns : FindState → FindPoint → ℕ → Option (Result ℕ NotHeld)
+abbrev pub home_of_turns : HomeOfState → HomeOfPoint → ℕ → Option (Result ℕ NotHeld)
 home_of_turns m Whose n = if n == m.author + 1 then None else Some (Err (record {}))
 home_of_turns m Find n = Some (Ok (n % address_limit))
 
-abbrev pub is_whose : FindPoint → Bool
+abbrev pub is_whose : HomeOfPoint → Bool
 is_whose Whose = true
 is_whose y = false
 
 -- what the control keeps in range
-pub record FindInRange (m : FindState) : Type 0 where
+pub record HomeOfInRange (m : HomeOfState) : Type 0 where
   pub geometry : GeometryFits m.me.geometry
   pub who : m.me.who < m.me.geometry.clients
   pub author : m.author < m.me.geometry.clients
@@ -72,7 +72,7 @@ pub record IsFinding (me : Me) (a : ℕ) (r0 r : Memo) (tr : Trail) (es : List E
   pub none : es ≡ []
   pub trail : tr ≡ hold_trail me a (a + 1)
 
-abbrev pub HomeKnows : FindState → FindPoint → Memo → Memo → Trail → List Event → Type 0
+abbrev pub HomeKnows : HomeOfState → HomeOfPoint → Memo → Memo → Trail → List Event → Type 0
 HomeKnows m Whose r0 r tr es = MayAsk m.me r0 × (m.author < m.me.geometry.clients) × (r ≡ r0) × (tr ≡ []) × (es ≡ [])
 HomeKnows m Find r0 r tr es = IsFinding m.me m.author r0 r tr es
 
@@ -95,20 +95,20 @@ pub record IsNotHeld (me : Me) (a : ℕ) (r0 r : Memo) (tr : Trail) (es : List E
   pub none : es ≡ []
   pub trail : tr ≡ hold_trail me a (own_word r0.own (Hold me.who))
 
-abbrev pub HomeLeaves : FindState → Memo → Memo → Trail → List Event → Result ℕ NotHeld → Type 0
+abbrev pub HomeLeaves : HomeOfState → Memo → Memo → Trail → List Event → Result ℕ NotHeld → Type 0
 HomeLeaves m r0 r tr es (Ok b) = Found m.me m.author r0 r tr es b
 HomeLeaves m r0 r tr es (Err e) = IsNotHeld m.me m.author r0 r tr es
 
 -- what holds after each word step, by the memo before, the word found and the memo
-abbrev pub FindFound : FindState → FindPoint → Memo → ℕ → Memo → Type 0
-FindFound m Whose = OwnLoaded (Hold m.me.who)
-FindFound m Find = HomeLooked m.me.who m.author
+abbrev pub HomeOfFound : HomeOfState → HomeOfPoint → Memo → ℕ → Memo → Type 0
+HomeOfFound m Whose = OwnLoaded (Hold m.me.who)
+HomeOfFound m Find = HomeLooked m.me.who m.author
 
 -- the part that the word step at a point is
-abbrev pub home_of_part : FindState → FindPoint → Part Word ℕ
-home_of_part m y = asked_part (word_part (is_whose y) m.me (find_ask m.me m.author y) (FindFound m y))
+abbrev pub home_of_part : HomeOfState → HomeOfPoint → Part Word ℕ
+home_of_part m y = asked_part (word_part (is_whose y) m.me (find_ask m.me m.author y) (HomeOfFound m y))
 
-abbrev pub home_of_plan : Planned FindState Word ℕ (Result ℕ NotHeld)
+abbrev pub home_of_plan : Planned HomeOfState Word ℕ (Result ℕ NotHeld)
 home_of_plan =
     record {
       me = λ m. m.me;

@@ -11,7 +11,7 @@ use Rattle.shm_graph.specs.declared.spot.Spot.TheVariants.{Home}
 use Rattle.shm_graph.specs.Changes.{called}
 use Rattle.shm_graph.specs.Core.{core}
 use Rattle.shm_graph.specs.Laws.{framed}
-use Rattle.shm_graph.specs.Readings.{home_read, is_held}
+use Rattle.shm_graph.specs.MemoAfterRead.{home_read, is_held}
 use Rattle.shm_graph.specs.Spots.{spot_at}
 use Rattle.shm_graph.specs.Views.{own_word}
 use Rattle.shm_graph.proofs.Spots.SpotPlaces.{spot-place}

@@ -17,7 +17,7 @@ use Rattle.shm_calls.specs.Words.{word_control}
 use Rattle.shm_count.specs.Idles.{is_here}
 use Rattle.shm_ref.specs.declared.answer.Busy.{Busy}
 use Rattle.shm_ref.specs.declared.hold.HoldState.{HoldState}
-use Rattle.shm_ref.specs.declared.home_of.FindState.{FindState}
+use Rattle.shm_ref.specs.declared.home_of.HomeOfState.{HomeOfState}
 use Rattle.shm_ref.specs.declared.look.LookState.{LookState}
 use Rattle.shm_ref.specs.declared.read.ReadState.{ReadState}
 use Rattle.shm_ref.specs.declared.release.ReleaseState.{ReleaseState}
@@ -99,14 +99,14 @@ naming_task =
     }
 
 -- what the home of a client that there is names may be asked
-abbrev pub FindMay : FindState → Memo → Type 0
-FindMay m r = (m ≡ finding m.me m.author) × (m.author < m.me.geometry.clients)
+abbrev pub HomeOfMay : HomeOfState → Memo → Type 0
+HomeOfMay m r = (m ≡ finding m.me m.author) × (m.author < m.me.geometry.clients)
 
-pub find_task : TaskLaws word_control home_of_plan FindMay (λ m a. Unit {0})
-find_task =
+pub home_of_task : TaskLaws word_control home_of_plan HomeOfMay (λ m a. Unit {0})
+home_of_task =
     record {
       new = λ m r h. subst (IsNew word_control home_of_plan) (sym h.0) (record { first = refl; start = refl; fresh = refl });
-      begins = λ m r ready h. subst (λ (x : FindState). HomeKnows m x.point r r [] []) (sym h.0) (may_ask m.me r ready, h.1, refl, refl, refl);
+      begins = λ m r ready h. subst (λ (x : HomeOfState). HomeKnows m x.point r r [] []) (sym h.0) (may_ask m.me r ready, h.1, refl, refl, refl);
       rests = λ m r0 r tr es a ready h l e. still_idle m.me.who r0 r (home_reads m r0 r tr es a l) ready.idle;
     }
 

@@ -17,7 +17,7 @@ use Rattle.shm_graph.specs.Chains.{part_set}
 use Rattle.shm_graph.specs.Ops.{cover}
 use Rattle.shm_graph.specs.Ops.Cover.{On}
 use Rattle.shm_graph.specs.Spots.{same_spot}
-use Rattle.shm_graph.specs.Stores.{not_block}
+use Rattle.shm_graph.specs.MemoAfterStore.{not_block}
 use Rattle.shm_graph.proofs.Spots.Spotting.{same_spot_self}
 use Rattle.shm_graph.specs.Views.{own_word}
 use Rattle.shm_count.specs.Lowering.{StoppedAt, without_new}

@@ -13,7 +13,7 @@ use Rattle.shm_graph.specs.Asks.{Trail, pair}
 use Rattle.shm_graph.specs.Core.{core}
 use Rattle.shm_graph.specs.Events.{Event}
 use Rattle.shm_graph.specs.Reach.{is_reached}
-use Rattle.shm_graph.specs.Readings.{reference_read}
+use Rattle.shm_graph.specs.MemoAfterRead.{reference_read}
 use Rattle.shm_graph.specs.Views.{own_word}
 use Rattle.shm_steps.specs.WordParts.{OwnLoaded, ReferenceLoaded, WordLoaded, as_known}
 use Rattle.shm_calls.specs.declared.word.Word.{Word}

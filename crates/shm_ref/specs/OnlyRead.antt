@@ -20,7 +20,7 @@ use Rattle.shm_graph.specs.Events.{Event}
 use Rattle.shm_graph.specs.Idle.{IsIdle, hold_word}
 use Rattle.shm_graph.specs.Ops.{cover, cover_of}
 use Rattle.shm_graph.specs.Reach.{is_named, is_reached, learnt, named_blocks, shown}
-use Rattle.shm_graph.specs.Readings.{values_read}
+use Rattle.shm_graph.specs.MemoAfterRead.{values_read}
 use Rattle.shm_graph.specs.Views.{own_word}
 use Rattle.shm_steps.proofs.Cores.{here_same}
 use Rattle.shm_count.specs.Retaining.{named_same, slots_learnt}
@@ -29,7 +29,7 @@ use Rattle.shm_ref.specs.declared.answer.LookFault.{LookFault}
 use Rattle.shm_ref.specs.declared.answer.LookFault.TheVariants.{NoSuchRef, NotHeld}
 use Rattle.shm_ref.specs.declared.answer.NoSuchWord.{NoSuchWord}
 use Rattle.shm_ref.specs.declared.answer.NotHeld.{NotHeld as Unheld}
-use Rattle.shm_ref.specs.declared.home_of.FindState.{FindState}
+use Rattle.shm_ref.specs.declared.home_of.HomeOfState.{HomeOfState}
 use Rattle.shm_ref.specs.declared.look.LookState.{LookState}
 use Rattle.shm_ref.specs.declared.read.ReadState.{ReadState}
 use Rattle.shm_ref.specs.HomeOf.{HomeLeaves}
@@ -106,7 +106,7 @@ read_more m r known values more slots e =
 read_same : (m r : Memo) (known : List Stored) → filter is_slot_word known ≡ filter is_slot_word m.known → core r ≡ core (record m { known = known }) → OnlyRead m r
 read_same m r known slots e = read_more m r known m.values [] slots (e ∙ ap (λ ls. core (record m { looks = ls; known = known })) (sym (append-nil m.looks)))
 
-pub home_reads : (m : FindState) (r0 r : Memo) (tr : Trail) (es : List Event) (a : Result ℕ Unheld) → HomeLeaves m r0 r tr es a → OnlyRead r0 r
+pub home_reads : (m : HomeOfState) (r0 r : Memo) (tr : Trail) (es : List Event) (a : Result ℕ Unheld) → HomeLeaves m r0 r tr es a → OnlyRead r0 r
 home_reads m r0 r tr es (Ok b) h = by (b == 0) h.memo
   where
     by : (q : Bool) → core r ≡ core (if q then r0 else record r0 { looks = r0.looks ++ record { block = b; from = Home m.author } ∷ [] }) → OnlyRead r0 r

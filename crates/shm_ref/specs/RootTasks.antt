@@ -10,7 +10,7 @@ use Rattle.shm_graph.specs.Events.{Event}
 use Rattle.shm_graph.specs.Held.{is_loose}
 use Rattle.shm_graph.specs.Idle.{IsIdle, hold_word}
 use Rattle.shm_graph.specs.Reach.{is_reached, learnt}
-use Rattle.shm_graph.specs.Readings.{home_read, is_held, values_read}
+use Rattle.shm_graph.specs.MemoAfterRead.{home_read, is_held, values_read}
 use Rattle.shm_graph.specs.Views.{own_word}
 use Rattle.shm_graph.proofs.Idles.{idle_core}
 use Rattle.shm_calls.specs.Tasks.{IsNew, TaskLaws}

@@ -7,7 +7,7 @@ ghost use Rattle.shm_ref.specs.DropRoot.{drop_plan};
 ghost use Rattle.shm_ref.specs.DropRoot.Laws.{drop_laws};
 ghost use Rattle.shm_ref.specs.RootTasks.{DropMay, drop_task};
 
-use shm_calls::{Calls, Or, Plan, Task, Word};
+use shm_calls::{Or, Plan, Task, Word};
 use shm_count::{EraSpent, StepDown, TearDown};
 use shm_graph::{Machine, Me};
 use shm_words::ADDRESS_LIMIT;
@@ -34,12 +34,14 @@ pub struct DropState {
 }
 
 /// The calls by which root `root` of an identity comes to be empty.
+///
+/// It answers whether the root named a block, or `EraSpent` where the own era is above 2^47 - 3 at a reference that is to go.
 #[derive(Drop)]
-pub struct Dropping {
+pub struct DropRoot {
     state: DropState,
 }
 
-impl Model for Dropping {
+impl Model for DropRoot {
     ghost use Rattle.shm_ref.specs.declared.drop_root.DropState.{DropState as AState};
 
     ghost Value = { AState };
@@ -51,19 +53,16 @@ impl Model for Dropping {
     ghost invariant = { λ a. DropInRange a.state };
 }
 
-/// It answers whether the root named a block, or `EraSpent` where the own era is above 2^47 - 3 at a reference that is to go.
-pub type DropRoot = Calls<Dropping>;
-
-impl Dropping {
+impl DropRoot {
     /// Root `root` of the identity `me`, before the first call.
     #[inline(always)]
-    pub fn new(me: Me, root: u8) -> Dropping
+    pub fn new(me: Me, root: u8) -> DropRoot
         requires geometry { GeometryFits me.geometry }
         requires who { me.who < me.geometry.clients }
         requires root { root < 16 }
         ensures { result ≡ dropping me root }
     {
-        Dropping {
+        DropRoot {
             state: DropState {
                 me,
                 root,
@@ -74,7 +73,7 @@ impl Dropping {
     }
 }
 
-impl Plan for Dropping {
+impl Plan for DropRoot {
     type Call = Or<Word, Or<StepDown, TearDown>>;
 
     type Answer = Result<bool, EraSpent>;
@@ -128,7 +127,7 @@ impl Plan for Dropping {
     ghost laws = { drop_laws };
 }
 
-impl Task for Dropping {
+impl Task for DropRoot {
     ghost may = { DropMay };
 
     ghost tasks = { drop_task };

@@ -7,7 +7,7 @@ ghost use Rattle.shm_ref.specs.DropRoots.{roots_plan};
 ghost use Rattle.shm_ref.specs.DropRoots.Laws.{roots_laws};
 ghost use Rattle.shm_ref.specs.RootTasks.{RootsMay, roots_task};
 
-use crate::drop_root::{DropRoot, Dropping};
+use crate::drop_root::DropRoot;
 use shm_calls::{Calls, Plan, Task};
 use shm_count::EraSpent;
 use shm_graph::{Machine, Me};
@@ -21,12 +21,14 @@ pub struct RootsState {
 }
 
 /// The calls by which the 16 roots of an identity come to be empty, one after the other.
+///
+/// It answers `EraSpent` where the own era is above 2^47 - 3 at a reference that is to go; the roots after it are then as they were.
 #[derive(Drop)]
-pub struct DroppingRoots {
+pub struct DropRoots {
     state: RootsState,
 }
 
-impl Model for DroppingRoots {
+impl Model for DropRoots {
     ghost use Rattle.shm_ref.specs.declared.drop_roots.RootsState.{RootsState as AState};
 
     ghost Value = { AState };
@@ -38,25 +40,22 @@ impl Model for DroppingRoots {
     ghost invariant = { λ a. RootsInRange a.state };
 }
 
-/// It answers `EraSpent` where the own era is above 2^47 - 3 at a reference that is to go; the roots after it are then as they were.
-pub type DropRoots = Calls<DroppingRoots>;
-
-impl DroppingRoots {
+impl DropRoots {
     /// The roots of the identity `me`, before the first call.
     #[inline(always)]
-    pub fn new(me: Me) -> DroppingRoots
+    pub fn new(me: Me) -> DropRoots
         requires geometry { GeometryFits me.geometry }
         requires who { me.who < me.geometry.clients }
         ensures { result ≡ dropping_roots me }
     {
-        DroppingRoots {
+        DropRoots {
             state: RootsState { me, root: 0 },
         }
     }
 }
 
-impl Plan for DroppingRoots {
-    type Call = DropRoot;
+impl Plan for DropRoots {
+    type Call = Calls<DropRoot>;
 
     type Answer = Result<(), EraSpent>;
 
@@ -68,8 +67,8 @@ impl Plan for DroppingRoots {
     }
 
     #[inline(always)]
-    fn call(&self) -> DropRoot {
-        Calls::new(Dropping::new(self.state.me, self.state.root))
+    fn call(&self) -> Calls<DropRoot> {
+        Calls::new(DropRoot::new(self.state.me, self.state.root))
     }
 
     #[inline(always)]
@@ -90,7 +89,7 @@ impl Plan for DroppingRoots {
     ghost laws = { roots_laws };
 }
 
-impl Task for DroppingRoots {
+impl Task for DropRoots {
     ghost may = { RootsMay };
 
     ghost tasks = { roots_task };

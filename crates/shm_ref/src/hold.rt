@@ -8,7 +8,7 @@ ghost use Rattle.shm_ref.specs.Hold.Laws.{hold_laws};
 ghost use Rattle.shm_ref.specs.LatchTasks.{HoldMay, hold_task};
 
 use crate::answer::Busy;
-use shm_calls::{Calls, Plan, Task, Word};
+use shm_calls::{Plan, Task, Word};
 use shm_graph::{Machine, Me};
 use std::marker::Model;
 
@@ -33,12 +33,14 @@ pub struct HoldState {
 }
 
 /// The word steps by which an identity takes a latch.
+///
+/// It answers `Busy` where the exchange found the latch held; the hold word is then 0 again, and nothing else has changed.
 #[derive(Drop)]
-pub struct Holding {
+pub struct Hold {
     state: HoldState,
 }
 
-impl Model for Holding {
+impl Model for Hold {
     ghost use Rattle.shm_ref.specs.declared.hold.HoldState.{HoldState as AState};
 
     ghost Value = { AState };
@@ -50,19 +52,16 @@ impl Model for Holding {
     ghost invariant = { λ a. HoldInRange a.state };
 }
 
-/// It answers `Busy` where the exchange found the latch held; the hold word is then 0 again, and nothing else has changed.
-pub type Hold = Calls<Holding>;
-
-impl Holding {
+impl Hold {
     /// The latch of `author` is to be taken by the identity `me`.
     #[inline(always)]
-    pub fn new(me: Me, author: u8) -> Holding
+    pub fn new(me: Me, author: u8) -> Hold
         requires geometry { GeometryFits me.geometry }
         requires who { me.who < me.geometry.clients }
         requires author { author < me.geometry.clients }
         ensures { result ≡ holding me author }
     {
-        Holding {
+        Hold {
             state: HoldState {
                 me,
                 author,
@@ -73,7 +72,7 @@ impl Holding {
     }
 }
 
-impl Plan for Holding {
+impl Plan for Hold {
     type Call = Word;
 
     type Answer = Result<(), Busy>;
@@ -129,7 +128,7 @@ impl Plan for Holding {
     ghost laws = { hold_laws };
 }
 
-impl Task for Holding {
+impl Task for Hold {
     ghost may = { HoldMay };
 
     ghost tasks = { hold_task };

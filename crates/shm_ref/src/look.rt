@@ -8,7 +8,7 @@ ghost use Rattle.shm_ref.specs.LatchTasks.{LookMay, look_task};
 
 use crate::answer::LookFault;
 use crate::tagged::tag_in;
-use shm_calls::{Calls, Plan, Task, Word};
+use shm_calls::{Plan, Task, Word};
 use shm_graph::{Machine, Me};
 use shm_words::ADDRESS_LIMIT;
 use std::marker::Model;
@@ -35,12 +35,14 @@ pub struct LookState {
 }
 
 /// The word steps that tell what reference word `index` of `block` names.
+///
+/// It answers the block that the reference word names, or 0; a block that it answers may be read while the latch is held.
 #[derive(Drop)]
-pub struct Looking {
+pub struct Look {
     state: LookState,
 }
 
-impl Model for Looking {
+impl Model for Look {
     ghost use Rattle.shm_ref.specs.declared.look.LookState.{LookState as AState};
 
     ghost Value = { AState };
@@ -52,19 +54,16 @@ impl Model for Looking {
     ghost invariant = { λ a. LookInRange a.state };
 }
 
-/// It answers the block that the reference word names, or 0; a block that it answers may be read while the latch is held.
-pub type Look = Calls<Looking>;
-
-impl Looking {
+impl Look {
     /// Reference word `index` of `block`, an address, for the identity `me`, before the first word step.
     #[inline(always)]
-    pub fn new(me: Me, block: u32, index: u8) -> Looking
+    pub fn new(me: Me, block: u32, index: u8) -> Look
         requires geometry { GeometryFits me.geometry }
         requires who { me.who < me.geometry.clients }
         requires block { block < address_limit }
         ensures { result ≡ looking me block index }
     {
-        Looking {
+        Look {
             state: LookState {
                 me,
                 block,
@@ -76,7 +75,7 @@ impl Looking {
     }
 }
 
-impl Plan for Looking {
+impl Plan for Look {
     type Call = Word;
 
     type Answer = Result<u32, LookFault>;
@@ -132,7 +131,7 @@ impl Plan for Looking {
     ghost laws = { look_laws };
 }
 
-impl Task for Looking {
+impl Task for Look {
     ghost may = { LookMay };
 
     ghost tasks = { look_task };

@@ -2,10 +2,9 @@
 
 pub use crate::bound::drop_roots_bound;
 pub use crate::drop_root::{DropPoint, DropState};
-pub use crate::drop_roots::{DropRoots, DroppingRoots, RootsState};
-pub use crate::events::{drop_roots_begins, drop_roots_events, drop_roots_leaves};
+pub use crate::drop_roots::{DropRoots, RootsState};
 pub use crate::hold::{HoldPoint, HoldState};
-pub use crate::home_of::{FindPoint, FindState};
+pub use crate::home_of::{HomeOfPoint, HomeOfState};
 pub use crate::look::{LookPoint, LookState};
 pub use crate::read::{ReadPoint, ReadState};
 pub use crate::refusals::drop_roots_refusals;

@@ -8,7 +8,7 @@ ghost use Rattle.shm_ref.specs.LatchTasks.{ReadMay, read_task};
 
 use crate::answer::NoSuchWord;
 use crate::tagged::tag_in;
-use shm_calls::{Calls, Plan, Task, Word};
+use shm_calls::{Plan, Task, Word};
 use shm_graph::{Machine, Me};
 use std::marker::Model;
 
@@ -32,12 +32,14 @@ pub struct ReadState {
 }
 
 /// The word steps that tell plain word `index` of `block`.
+///
+/// It answers the word.
 #[derive(Drop)]
-pub struct Reading {
+pub struct Read {
     state: ReadState,
 }
 
-impl Model for Reading {
+impl Model for Read {
     ghost use Rattle.shm_ref.specs.declared.read.ReadState.{ReadState as AState};
 
     ghost Value = { AState };
@@ -49,19 +51,16 @@ impl Model for Reading {
     ghost invariant = { λ a. ReadInRange a.state };
 }
 
-/// It answers the word.
-pub type Read = Calls<Reading>;
-
-impl Reading {
+impl Read {
     /// Plain word `index` of `block`, an address, for the identity `me`, before the first word step.
     #[inline(always)]
-    pub fn new(me: Me, block: u32, index: u8) -> Reading
+    pub fn new(me: Me, block: u32, index: u8) -> Read
         requires geometry { GeometryFits me.geometry }
         requires who { me.who < me.geometry.clients }
         requires block { block < address_limit }
         ensures { result ≡ reading me block index }
     {
-        Reading {
+        Read {
             state: ReadState {
                 me,
                 block,
@@ -73,7 +72,7 @@ impl Reading {
     }
 }
 
-impl Plan for Reading {
+impl Plan for Read {
     type Call = Word;
 
     type Answer = Result<u64, NoSuchWord>;
@@ -120,7 +119,7 @@ impl Plan for Reading {
     ghost laws = { read_laws };
 }
 
-impl Task for Reading {
+impl Task for Read {
     ghost may = { ReadMay };
 
     ghost tasks = { read_task };

@@ -15,7 +15,7 @@ ghost use Rattle.shm_graph.specs.Bounds.{redo_steps, tear_steps};
 ghost use Rattle.shm_graph.specs.Core.{core};
 ghost use Rattle.shm_graph.specs.Events as event;
 ghost use Rattle.shm_graph.specs.Events.{Event as AnEvent};
-ghost use Rattle.shm_graph.specs.Readings.{home_read};
+ghost use Rattle.shm_graph.specs.MemoAfterRead.{home_read};
 ghost use Rattle.shm_graph.specs.Spots.{same_spot};
 ghost use Rattle.shm_graph.specs.Views.{own_word};
 ghost use Rattle.shm_steps.specs.WordParts.{as_known};

@@ -6,7 +6,7 @@ ghost use Rattle.shm_ref.specs.Release.{releasing, release_plan};
 ghost use Rattle.shm_ref.specs.Release.Laws.{release_laws};
 ghost use Rattle.shm_ref.specs.LatchTasks.{ReleaseMay, release_task};
 
-use shm_calls::{Calls, Plan, Task, Word};
+use shm_calls::{Plan, Task, Word};
 use shm_graph::{Machine, Me};
 use std::marker::Model;
 
@@ -30,12 +30,14 @@ pub struct ReleaseState {
 }
 
 /// The word steps by which an identity gives back the latch that it holds.
+///
+/// After it no latch is held, and nothing that was read under it is looked at.
 #[derive(Drop)]
-pub struct Releasing {
+pub struct Release {
     state: ReleaseState,
 }
 
-impl Model for Releasing {
+impl Model for Release {
     ghost use Rattle.shm_ref.specs.declared.release.ReleaseState.{ReleaseState as AState};
 
     ghost Value = { AState };
@@ -47,18 +49,15 @@ impl Model for Releasing {
     ghost invariant = { λ a. ReleaseInRange a.state };
 }
 
-/// After it no latch is held, and nothing that was read under it is looked at.
-pub type Release = Calls<Releasing>;
-
-impl Releasing {
+impl Release {
     /// The latch of the identity `me` is to be given back.
     #[inline(always)]
-    pub fn new(me: Me) -> Releasing
+    pub fn new(me: Me) -> Release
         requires geometry { GeometryFits me.geometry }
         requires who { me.who < me.geometry.clients }
         ensures { result ≡ releasing me }
     {
-        Releasing {
+        Release {
             state: ReleaseState {
                 me,
                 author: 0,
@@ -68,7 +67,7 @@ impl Releasing {
     }
 }
 
-impl Plan for Releasing {
+impl Plan for Release {
     type Call = Word;
 
     type Answer = ();
@@ -111,7 +110,7 @@ impl Plan for Releasing {
     ghost laws = { release_laws };
 }
 
-impl Task for Releasing {
+impl Task for Release {
     ghost may = { ReleaseMay };
 
     ghost tasks = { release_task };

@@ -6,7 +6,7 @@ ghost use Rattle.shm_ref.specs.RootOf.{naming, naming_plan};
 ghost use Rattle.shm_ref.specs.RootOf.Laws.{naming_laws};
 ghost use Rattle.shm_ref.specs.LatchTasks.{NamingMay, naming_task};
 
-use shm_calls::{Calls, Plan, Task, Word};
+use shm_calls::{Plan, Task, Word};
 use shm_graph::{Machine, Me};
 use shm_words::ADDRESS_LIMIT;
 use std::marker::Model;
@@ -19,12 +19,14 @@ pub struct NamingState {
 }
 
 /// The one word step that tells what root `root` of an identity names.
+///
+/// It answers the block that the root names, or 0.
 #[derive(Drop)]
-pub struct Naming {
+pub struct RootOf {
     state: NamingState,
 }
 
-impl Model for Naming {
+impl Model for RootOf {
     ghost use Rattle.shm_ref.specs.declared.root_of.NamingState.{NamingState as AState};
 
     ghost Value = { AState };
@@ -36,25 +38,22 @@ impl Model for Naming {
     ghost invariant = { λ a. NamingInRange a.state };
 }
 
-/// It answers the block that the root names, or 0.
-pub type RootOf = Calls<Naming>;
-
-impl Naming {
+impl RootOf {
     /// Root `root` of the identity `me`, before the word step.
     #[inline(always)]
-    pub fn new(me: Me, root: u8) -> Naming
+    pub fn new(me: Me, root: u8) -> RootOf
         requires geometry { GeometryFits me.geometry }
         requires who { me.who < me.geometry.clients }
         requires root { root < 16 }
         ensures { result ≡ naming me root }
     {
-        Naming {
+        RootOf {
             state: NamingState { me, root },
         }
     }
 }
 
-impl Plan for Naming {
+impl Plan for RootOf {
     type Call = Word;
 
     type Answer = u32;
@@ -80,7 +79,7 @@ impl Plan for Naming {
     ghost laws = { naming_laws };
 }
 
-impl Task for Naming {
+impl Task for RootOf {
     ghost may = { NamingMay };
 
     ghost tasks = { naming_task };

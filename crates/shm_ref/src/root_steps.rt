@@ -7,7 +7,7 @@ ghost use Rattle.shm_words.specs.Layout.{GeometryFits, address_limit};
 ghost use Rattle.shm_ref.specs.RootSteps.{ChangingMay, LoweringMay, RaisingMay, changing, changing_plan, lowering, lowering_plan, raising, raising_plan};
 ghost use Rattle.shm_ref.specs.RootSteps.Laws.{changing_laws, changing_task, lowering_laws, lowering_task, raising_laws, raising_task};
 
-use shm_calls::{Calls, Plan, Task};
+use shm_calls::{Plan, Task};
 use shm_count::{EraSpent, StepChange, StepDown, StepUp, UpFault};
 use shm_graph::{Machine, Me};
 use std::marker::Model;
@@ -21,12 +21,14 @@ pub struct RaisingState {
 }
 
 /// The count step by which an empty root of an identity comes to name a block.
+///
+/// It answers `UpFault` where the own era is above 2^47 - 3 or the block has the greatest count, and then no reference has changed.
 #[derive(Drop)]
-pub struct Raising {
+pub struct RaiseRoot {
     state: RaisingState,
 }
 
-impl Model for Raising {
+impl Model for RaiseRoot {
     ghost use Rattle.shm_ref.specs.declared.root_steps.RaisingState.{RaisingState as AState};
 
     ghost Value = { AState };
@@ -38,26 +40,23 @@ impl Model for Raising {
     ghost invariant = { λ a. RaisingInRange a.state };
 }
 
-/// It answers `UpFault` where the own era is above 2^47 - 3 or the block has the greatest count, and then no reference has changed.
-pub type RaiseRoot = Calls<Raising>;
-
-impl Raising {
+impl RaiseRoot {
     /// Root `root` of the identity `me`, which is empty, is to name `block`, before the step.
     #[inline(always)]
-    pub fn new(me: Me, root: u8, block: u32) -> Raising
+    pub fn new(me: Me, root: u8, block: u32) -> RaiseRoot
         requires geometry { GeometryFits me.geometry }
         requires who { me.who < me.geometry.clients }
         requires root { root < 16 }
         requires block { block < address_limit }
         ensures { result ≡ raising me root block }
     {
-        Raising {
+        RaiseRoot {
             state: RaisingState { me, root, block },
         }
     }
 }
 
-impl Plan for Raising {
+impl Plan for RaiseRoot {
     type Call = StepUp;
 
     type Answer = Result<(), UpFault>;
@@ -84,7 +83,7 @@ impl Plan for Raising {
     ghost laws = { raising_laws };
 }
 
-impl Task for Raising {
+impl Task for RaiseRoot {
     ghost may = { RaisingMay };
 
     ghost tasks = { raising_task };
@@ -99,12 +98,14 @@ pub struct LoweringState {
 }
 
 /// The count step by which a root of an identity that names a block comes to be empty.
+///
+/// It answers whether the block's count came to 0, or `EraSpent` where the own era is above 2^47 - 3, and then nothing has changed.
 #[derive(Drop)]
-pub struct Lowering {
+pub struct LowerRoot {
     state: LoweringState,
 }
 
-impl Model for Lowering {
+impl Model for LowerRoot {
     ghost use Rattle.shm_ref.specs.declared.root_steps.LoweringState.{LoweringState as AState};
 
     ghost Value = { AState };
@@ -116,26 +117,23 @@ impl Model for Lowering {
     ghost invariant = { λ a. LoweringInRange a.state };
 }
 
-/// It answers whether the block's count came to 0, or `EraSpent` where the own era is above 2^47 - 3, and then nothing has changed.
-pub type LowerRoot = Calls<Lowering>;
-
-impl Lowering {
+impl LowerRoot {
     /// Root `root` of the identity `me`, which names `block`, is to be empty, before the step.
     #[inline(always)]
-    pub fn new(me: Me, root: u8, block: u32) -> Lowering
+    pub fn new(me: Me, root: u8, block: u32) -> LowerRoot
         requires geometry { GeometryFits me.geometry }
         requires who { me.who < me.geometry.clients }
         requires root { root < 16 }
         requires block { block < address_limit }
         ensures { result ≡ lowering me root block }
     {
-        Lowering {
+        LowerRoot {
             state: LoweringState { me, root, block },
         }
     }
 }
 
-impl Plan for Lowering {
+impl Plan for LowerRoot {
     type Call = StepDown;
 
     type Answer = Result<bool, EraSpent>;
@@ -162,7 +160,7 @@ impl Plan for Lowering {
     ghost laws = { lowering_laws };
 }
 
-impl Task for Lowering {
+impl Task for LowerRoot {
     ghost may = { LoweringMay };
 
     ghost tasks = { lowering_task };
@@ -178,12 +176,15 @@ pub struct ChangingState {
 }
 
 /// The count step by which a root of an identity that names a block comes to name another one.
+///
+/// It answers whether the count of the block before came to 0, or `UpFault` where the own era is above 2^47 - 4 or the block after has the
+/// greatest count, and then no reference has changed.
 #[derive(Drop)]
-pub struct Changing {
+pub struct ChangeRoot {
     state: ChangingState,
 }
 
-impl Model for Changing {
+impl Model for ChangeRoot {
     ghost use Rattle.shm_ref.specs.declared.root_steps.ChangingState.{ChangingState as AState};
 
     ghost Value = { AState };
@@ -195,14 +196,10 @@ impl Model for Changing {
     ghost invariant = { λ a. ChangingInRange a.state };
 }
 
-/// It answers whether the count of the block before came to 0, or `UpFault` where the own era is above 2^47 - 4 or the block after has the
-/// greatest count, and then no reference has changed.
-pub type ChangeRoot = Calls<Changing>;
-
-impl Changing {
+impl ChangeRoot {
     /// Root `root` of the identity `me`, which names `before`, is to name `after`, before the step.
     #[inline(always)]
-    pub fn new(me: Me, root: u8, before: u32, after: u32) -> Changing
+    pub fn new(me: Me, root: u8, before: u32, after: u32) -> ChangeRoot
         requires geometry { GeometryFits me.geometry }
         requires who { me.who < me.geometry.clients }
         requires root { root < 16 }
@@ -210,7 +207,7 @@ impl Changing {
         requires after { after < address_limit }
         ensures { result ≡ changing me root before after }
     {
-        Changing {
+        ChangeRoot {
             state: ChangingState {
                 me,
                 root,
@@ -221,7 +218,7 @@ impl Changing {
     }
 }
 
-impl Plan for Changing {
+impl Plan for ChangeRoot {
     type Call = StepChange;
 
     type Answer = Result<bool, UpFault>;
@@ -253,7 +250,7 @@ impl Plan for Changing {
     ghost laws = { changing_laws };
 }
 
-impl Task for Changing {
+impl Task for ChangeRoot {
     ghost may = { ChangingMay };
 
     ghost tasks = { changing_task };

@@ -7,7 +7,7 @@ ghost use Rattle.shm_ref.specs.SetHome.Laws.{home_laws};
 ghost use Rattle.shm_ref.specs.RootTasks.{HomeMay, home_task};
 
 use crate::answer::HomeFault;
-use shm_calls::{Calls, Or, Plan, Task, Word};
+use shm_calls::{Or, Plan, Task, Word};
 use shm_count::{StepUp, UpFault};
 use shm_graph::{Machine, Me};
 use shm_words::ADDRESS_LIMIT;
@@ -31,12 +31,14 @@ pub struct HomeState {
 }
 
 /// The calls by which the home of an identity comes to name a block.
+///
+/// It answers `HomeFault` where the home names a block, or the step up was refused; then no reference has changed.
 #[derive(Drop)]
-pub struct Homing {
+pub struct SetHome {
     state: HomeState,
 }
 
-impl Model for Homing {
+impl Model for SetHome {
     ghost use Rattle.shm_ref.specs.declared.set_home.HomeState.{HomeState as AState};
 
     ghost Value = { AState };
@@ -48,19 +50,16 @@ impl Model for Homing {
     ghost invariant = { λ a. HomeInRange a.state };
 }
 
-/// It answers `HomeFault` where the home names a block, or the step up was refused; then no reference has changed.
-pub type SetHome = Calls<Homing>;
-
-impl Homing {
+impl SetHome {
     /// The home of the identity `me` is to name `block`.
     #[inline(always)]
-    pub fn new(me: Me, block: u32) -> Homing
+    pub fn new(me: Me, block: u32) -> SetHome
         requires geometry { GeometryFits me.geometry }
         requires who { me.who < me.geometry.clients }
         requires block { block < address_limit }
         ensures { result ≡ homing me block }
     {
-        Homing {
+        SetHome {
             state: HomeState {
                 me,
                 block,
@@ -70,7 +69,7 @@ impl Homing {
     }
 }
 
-impl Plan for Homing {
+impl Plan for SetHome {
     type Call = Or<Word, StepUp>;
 
     type Answer = Result<(), HomeFault>;
@@ -115,7 +114,7 @@ impl Plan for Homing {
     ghost laws = { home_laws };
 }
 
-impl Task for Homing {
+impl Task for SetHome {
     ghost may = { HomeMay };
 
     ghost tasks = { home_task };

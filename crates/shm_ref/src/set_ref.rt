@@ -10,7 +10,7 @@ ghost use Rattle.shm_ref.specs.RootTasks.{SetMay, set_task};
 
 use crate::answer::SetFault;
 use crate::tagged::{author_in, refs_in};
-use shm_calls::{Calls, Or, Plan, Task, Word};
+use shm_calls::{Or, Plan, Task, Word};
 use shm_count::{EraSpent, StepChange, StepDown, StepUp, TearDown, UpFault};
 use shm_graph::{Machine, Me};
 use shm_words::ADDRESS_LIMIT;
@@ -59,12 +59,15 @@ pub type SetAnswer = Or<
 >;
 
 /// The calls by which a reference word of an own block comes to be `to`.
+///
+/// It answers `SetFault` where the block isn't of the identity, the word is none of its reference words, the own latch isn't held, or a
+/// count step was refused.
 #[derive(Drop)]
-pub struct Setting {
+pub struct SetRef {
     state: SetState,
 }
 
-impl Model for Setting {
+impl Model for SetRef {
     ghost use Rattle.shm_ref.specs.declared.set_ref.SetState.{SetState as AState};
 
     ghost Value = { AState };
@@ -76,21 +79,17 @@ impl Model for Setting {
     ghost invariant = { λ a. SetInRange a.state };
 }
 
-/// It answers `SetFault` where the block isn't of the identity, the word is none of its reference words, the own latch isn't held, or a
-/// count step was refused.
-pub type SetRef = Calls<Setting>;
-
-impl Setting {
+impl SetRef {
     /// Reference word `word` of `block` is to name the block `to`, or none where it is 0.
     #[inline(always)]
-    pub fn new(me: Me, block: u32, word: u8, to: u32) -> Setting
+    pub fn new(me: Me, block: u32, word: u8, to: u32) -> SetRef
         requires geometry { GeometryFits me.geometry }
         requires who { me.who < me.geometry.clients }
         requires block { block + 2 ≤ total_of me.geometry }
         requires to { to < address_limit }
         ensures { result ≡ setting me block word to }
     {
-        Setting {
+        SetRef {
             state: SetState {
                 me,
                 block,
@@ -186,7 +185,7 @@ fn refused(fault: UpFault) -> SetFault
     }
 }
 
-impl Plan for Setting {
+impl Plan for SetRef {
     type Call = SetCall;
 
     type Answer = Result<(), SetFault>;
@@ -240,7 +239,7 @@ impl Plan for Setting {
     ghost laws = { set_laws };
 }
 
-impl Task for Setting {
+impl Task for SetRef {
     ghost may = { SetMay };
 
     ghost tasks = { set_task };

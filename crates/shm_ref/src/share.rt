@@ -1,9 +1,8 @@
 //! Another root for a block in reach.
 
-use shm_count::parts::{Rooting, UpRoot};
+use shm_count::parts::UpRoot;
 
 /// The calls by which the least empty root of an identity comes to name a block.
-pub type Sharing = Rooting;
-
+///
 /// It answers the root, or why none names the block: `EraSpent` where the own era is above 2^47 - 3, then `RootsFull`, then `CountFull`.
 pub type Share = UpRoot;

@@ -24,10 +24,10 @@ use Rattle.shm_graph.specs.Views.{View, view, at1, targets}
 use Rattle.shm_graph.specs.Held.{HeldAt, InBlock, MadeAt}
 use Rattle.shm_graph.specs.Asks.{Trail}
 use Rattle.shm_graph.specs.Reach.{is_at, known_at}
-use Rattle.shm_graph.specs.Readings.{valued}
-use Rattle.shm_graph.specs.Stores.{other_than}
+use Rattle.shm_graph.specs.MemoAfterRead.{valued}
+use Rattle.shm_graph.specs.MemoAfterStore.{other_than}
 use Rattle.shm_graph.specs.Chains.{or_zero}
-use Rattle.shm_graph.specs.Exchanges.{words_made, values_with, committed}
+use Rattle.shm_graph.specs.MemoAfterExchange.{words_made, values_with, committed}
 use Rattle.shm_graph.specs.Changes.{called}
 use Rattle.shm_graph.specs.Events.{Event, graph_of, Happens}
 use Rattle.shm_graph.specs.Laws.{Frame, framed, Stands, KeptAt, event_of}
@@ -41,7 +41,7 @@ use Rattle.shm_graph.proofs.StepKinds.Loads.{choice}
 use Rattle.shm_graph.proofs.Memos.MemoParts.{parts, put_parts, put_same}
 use Rattle.shm_graph.proofs.Spots.Spotting.{same_spot_is}
 use Rattle.shm_graph.proofs.Spots.Updating.{upd_here}
-use Rattle.shm_laws.specs.Exchanges.{AllocNeeds, alloc_view}
+use Rattle.shm_laws.specs.HeaderExchanges.{AllocNeeds, alloc_view}
 use Rattle.shm_laws.proofs.AllocBlock.{alloc_kept, alloc_event}
 use Rattle.shm_steps.specs.Preparing.{MayAlloc}
 use Rattle.shm_steps.proofs.Prepared.{MakingHolds, making_holds}

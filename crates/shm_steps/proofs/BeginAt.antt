@@ -23,7 +23,7 @@ use Rattle.shm_graph.specs.Views.{view, own_word, targets}
 use Rattle.shm_graph.specs.Held.{HeldAt, MakingTie, Names, OpTie, Allowed, room_of, odd, is_home, is_slot, is_slot_to}
 use Rattle.shm_graph.specs.Ops.{Quiet, cover, cover_of, covered, on_of, held_over_of, slot_of, word_at}
 use Rattle.shm_graph.specs.Reach.{is_reached}
-use Rattle.shm_graph.specs.Stores.{is_block_made, op_spelled}
+use Rattle.shm_graph.specs.MemoAfterStore.{is_block_made, op_spelled}
 use Rattle.shm_graph.specs.Telling.{word_told}
 use Rattle.shm_graph.proofs.States.Counting.{cover_slot, covered_none}
 use Rattle.shm_graph.proofs.Spots.Fixed.{fixed_is_at}

@@ -25,7 +25,7 @@ use Rattle.shm_graph.proofs.States.Claims.{ClaimSound, claims_sound}
 use Rattle.shm_graph.proofs.States.Reached.{reached_here}
 use Rattle.shm_graph.proofs.Spots.Spotting.{block_within, body_is_at}
 use Rattle.shm_steps.specs.OwnWords.{MayBegin}
-use Rattle.shm_steps.specs.Reading.{IsCovered}
+use Rattle.shm_steps.specs.LoadNeeds.{IsCovered}
 use Rattle.shm_steps.specs.Beginning.{IsOwnWord, MayStoreIn, MayFill, MayClear, MayReplace}
 use Rattle.shm_steps.proofs.BeginAt.{SlotHas, up_at, down_at, change_at}
 use Rattle.shm_steps.proofs.Covering.{covers_word}

@@ -20,7 +20,7 @@ use Rattle.shm_graph.specs.Held.{HeldAt}
 use Rattle.shm_graph.specs.Changes.{called}
 use Rattle.shm_graph.specs.Reach.{learnt, is_dying}
 use Rattle.shm_graph.specs.Telling.{Claim, claim_of, role_in, roles}
-use Rattle.shm_graph.specs.Readings.{tag_read, word_read, reference_read, values_read, valued, is_entry, is_latched}
+use Rattle.shm_graph.specs.MemoAfterRead.{tag_read, word_read, reference_read, values_read, valued, is_entry, is_latched}
 use Rattle.shm_graph.proofs.Runs.Lists.{at1_here}
 use Rattle.shm_graph.proofs.Spots.Spotting.{same_spot_not}
 use Rattle.shm_graph.proofs.States.Counting.{cover_slot, covered_none}
@@ -32,7 +32,7 @@ use Rattle.shm_graph.proofs.Machines.Calling.{after_call, called_by, called_part
 use Rattle.shm_graph.proofs.StepKinds.Loads.{choice}
 use Rattle.shm_graph.proofs.States.Claims.{entry_value}
 use Rattle.shm_graph.proofs.Memos.LoadTold.{claim_here, claim_tag, claim_word}
-use Rattle.shm_steps.specs.Reading.{IsSettled, MayLookBy, MayLook}
+use Rattle.shm_steps.specs.LoadNeeds.{IsSettled, MayLookBy, MayLook}
 use Rattle.shm_steps.proofs.BlockTold.{dying_listed, dying_true}
 
 -- ---- the word that a look is read from

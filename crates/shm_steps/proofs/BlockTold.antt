@@ -19,7 +19,7 @@ use Rattle.shm_graph.specs.Views.{view}
 use Rattle.shm_graph.specs.Held.{HeldAt, FactAt}
 use Rattle.shm_graph.specs.Ops.{cover_of}
 use Rattle.shm_graph.specs.Reach.{is_dying}
-use Rattle.shm_graph.specs.Stores.{class_read}
+use Rattle.shm_graph.specs.MemoAfterStore.{class_read}
 use Rattle.shm_graph.specs.Telling.{is_slot_at, stored_told, prepared, word_of_block}
 use Rattle.shm_graph.proofs.States.Holders.{held_live_block}
 use Rattle.shm_graph.proofs.Spots.Spotting.{tag_block, body_block}

@@ -14,8 +14,8 @@ use Rattle.shm_graph.specs.Held.{HeldAt}
 use Rattle.shm_graph.specs.Ops.{cover_of, held_over_of}
 use Rattle.shm_graph.specs.Asks.{Trail}
 use Rattle.shm_graph.specs.Changes.{called, test_before, with_call, with_end, memo_on}
-use Rattle.shm_graph.specs.Readings.{read_on, header_read}
-use Rattle.shm_graph.specs.Exchanges.{exchanged_on}
+use Rattle.shm_graph.specs.MemoAfterRead.{read_on, header_read}
+use Rattle.shm_graph.specs.MemoAfterExchange.{exchanged_on}
 use Rattle.shm_graph.specs.Telling.{claims, claim_of, covers, spot_told}
 use Rattle.shm_graph.specs.Events.{Nothing, graph_of, Happens}
 use Rattle.shm_graph.specs.Laws.{Frame, framed, Stands, KeptAt, event_of}
@@ -26,7 +26,7 @@ use Rattle.shm_graph.proofs.StepKinds.OpEnd.{uncommitted_quiet}
 use Rattle.shm_graph.proofs.StepKinds.SameGraph.{same_graph}
 use Rattle.shm_graph.proofs.Memos.BodyTold.{told_exchange}
 use Rattle.shm_graph.proofs.Memos.LoadTold.{claim_found, told_load}
-use Rattle.shm_steps.specs.Reading.{IsTold, IsCovered, MayLook}
+use Rattle.shm_steps.specs.LoadNeeds.{IsTold, IsCovered, MayLook}
 use Rattle.shm_steps.proofs.HeaderReads.{header_held, header_op}
 use Rattle.shm_steps.proofs.BlockReads.{tag_held, word_held, word_op}
 

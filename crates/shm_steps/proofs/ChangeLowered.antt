@@ -18,7 +18,7 @@ use Rattle.shm_steps.specs.Lowering.{MayLowerFormer}
 use Rattle.shm_graph.specs.declared.ask.Me.{Me}
 use Rattle.shm_graph.specs.declared.memo.Memo.{Memo}
 use Rattle.shm_graph.proofs.States.Reached.{Names, all_named, named_sound, names_here}
-use Rattle.shm_laws.specs.Exchanges.{SecondNeeds, dying_after, second_view}
+use Rattle.shm_laws.specs.HeaderExchanges.{SecondNeeds, dying_after, second_view}
 use Rattle.shm_graph.specs.declared.spot.Spot.{Spot}
 use Rattle.shm_steps.proofs.Naming.{StaysKnown, all_lowered, all_spared_apart, names_same}
 use Rattle.shm_graph.specs.declared.memo.Stored.{Stored}
@@ -27,7 +27,7 @@ use Rattle.shm_graph.specs.Views.{View, at1, targets, view}
 use Rattle.shm_graph.specs.Reach.{binds, cut_looks, is_reached, sifted}
 use Rattle.shm_graph.specs.Changes.{called}
 use Rattle.shm_graph.specs.Blocks.{classes, headers}
-use Rattle.shm_graph.specs.Exchanges.{committed, exchanged_on, lowered}
+use Rattle.shm_graph.specs.MemoAfterExchange.{committed, exchanged_on, lowered}
 use Rattle.shm_steps.proofs.LowerBlock.{counted_live}
 use Rattle.shm_graph.specs.Ops.{cover_of, is_op, slot_of}
 use Rattle.shm_steps.proofs.Cutting.{cut_slot, cut_sound}
@@ -35,7 +35,7 @@ use Rattle.shm_steps.proofs.Sifting.{dying_more, known_after, values_after}
 use Rattle.shm_words.specs.Headers.{header_of}
 use Rattle.shm_graph.proofs.StepKinds.KindKeeping.{in_frame, kept_exchange}
 use Rattle.shm_steps.proofs.MemoCommits.{known_lowered, lowered_is}
-use Rattle.shm_graph.specs.Stores.{not_block}
+use Rattle.shm_graph.specs.MemoAfterStore.{not_block}
 use Rattle.shm_graph.proofs.Memos.MemoParts.{parts, put_parts, put_same}
 use Rattle.shm_steps.proofs.RaiseBlock.{row_shows}
 use Rattle.shm_steps.proofs.BlockTold.{dying_listed}

@@ -4,7 +4,7 @@ use Rattle.std.specs.List.{All, filter}
 use Rattle.shm_graph.specs.Held.{Allowed, is_slot}
 use Rattle.shm_graph.specs.declared.memo.First.TheVariants.{Begun, Committed}
 use Rattle.shm_graph.specs.declared.memo.Op.TheVariants.{Change}
-use Rattle.shm_laws.specs.Exchanges.{ChangeNeeds, change_view}
+use Rattle.shm_laws.specs.HeaderExchanges.{ChangeNeeds, change_view}
 use Rattle.shm_graph.specs.declared.ask.Ask.TheVariants.{Exchange}
 use Rattle.shm_graph.specs.Laws.{Frame, KeptAt, Stands, event_of, framed}
 use Rattle.shm_graph.specs.declared.spot.Spot.TheVariants.{QueueHead, Head, Home, Tail}
@@ -31,14 +31,14 @@ use Rattle.shm_graph.specs.Changes.{called}
 use Rattle.shm_laws.proofs.ChangeFirst.{change_event, change_kept}
 use Rattle.shm_graph.proofs.Memos.MemoParts.{parts, put_parts, put_same}
 use Rattle.shm_graph.specs.Blocks.{classes}
-use Rattle.shm_graph.specs.Exchanges.{committed, exchanged_on}
+use Rattle.shm_graph.specs.MemoAfterExchange.{committed, exchanged_on}
 use Rattle.std.proofs.lemmas.Bool.{cond-false}
 use Rattle.shm_steps.proofs.Cutting.{cut_slot, cut_sound}
 use Rattle.shm_steps.proofs.Sifting.{known_after, values_after}
 use Rattle.shm_words.specs.Headers.{header_of}
 use Rattle.shm_graph.proofs.StepKinds.KindKeeping.{in_frame, kept_exchange}
 use Rattle.shm_steps.proofs.PartsSet.{loose_stays, part_tie}
-use Rattle.shm_graph.specs.Stores.{not_block}
+use Rattle.shm_graph.specs.MemoAfterStore.{not_block}
 use Rattle.shm_steps.proofs.MemoCommits.{not_both}
 use Rattle.shm_steps.proofs.BlockTold.{dying_listed}
 use Rattle.shm_graph.specs.Chains.{part_set}

@@ -23,9 +23,9 @@ use Rattle.shm_graph.specs.Changes.{is_lane_count, called, test_before, with_cal
 use Rattle.shm_graph.specs.Held.{room_of}
 use Rattle.shm_graph.specs.Laws.{Frame, framed}
 use Rattle.shm_graph.specs.Reach.{shown, roots_below, in_slots, not_zero, is_reached, learnt}
-use Rattle.shm_graph.specs.Readings.{row_read, header_read, op_refused, raised_by, is_held}
+use Rattle.shm_graph.specs.MemoAfterRead.{row_read, header_read, op_refused, raised_by, is_held}
 use Rattle.shm_graph.specs.Spots.{same_spot}
-use Rattle.shm_graph.specs.Stores.{written}
+use Rattle.shm_graph.specs.MemoAfterStore.{written}
 use Rattle.shm_graph.proofs.Machines.Calling.{called_part}
 use Rattle.shm_graph.proofs.StepKinds.KindKeeping.{in_frame}
 use Rattle.shm_graph.proofs.StepKinds.Loads.{choice}
@@ -35,7 +35,7 @@ use Rattle.shm_words.specs.Headers.{header_of}
 use Rattle.shm_words.specs.declared.geometry.Geometry.{Geometry}
 use Rattle.shm_graph.specs.Core.{core}
 use Rattle.shm_graph.specs.Ops.{is_op, slot_of}
-use Rattle.shm_graph.specs.Stores.{stored_on}
+use Rattle.shm_graph.specs.MemoAfterStore.{stored_on}
 use Rattle.shm_graph.proofs.Memos.MemoSteps.{recovers_called}
 
 -- the cores of memos that are chosen alike

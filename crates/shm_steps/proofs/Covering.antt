@@ -15,7 +15,7 @@ use Rattle.shm_graph.specs.Reach.{is_at, known_at, reached_blocks, is_reached, i
 use Rattle.shm_graph.specs.Telling.{Claim, bare, tag_claim, tag_claims, Role, Other, Value, Played, role_in, roles, shaped, role_claim, claims, covers, claim_of}
 use Rattle.shm_graph.proofs.Spots.Spotting.{same_spot_is}
 use Rattle.shm_graph.proofs.StepKinds.OpEnd.{uncommitted_quiet}
-use Rattle.shm_steps.specs.Reading.{IsTold, IsCovered, IsSettled, MayLook, MayLookBy}
+use Rattle.shm_steps.specs.LoadNeeds.{IsTold, IsCovered, IsSettled, MayLook, MayLookBy}
 use Rattle.shm_steps.proofs.BlockTold.{dying_listed}
 
 -- ---- claims

@@ -16,7 +16,7 @@ use Rattle.shm_laws.proofs.LooksCut.{from_named, looks_apart, upto_first, upto_h
 use Rattle.shm_words.specs.Headers.{header_of}
 use Rattle.std.specs.List.{list_any}
 use Rattle.std.proofs.lemmas.List.Folds.{list_any_at}
-use Rattle.shm_laws.proofs.Exchange.{named_kept}
+use Rattle.shm_laws.proofs.ExchangeFields.{named_kept}
 use Rattle.shm_graph.specs.Spots.{same_spot}
 use Rattle.shm_words.specs.Tags.{tag_author}
 

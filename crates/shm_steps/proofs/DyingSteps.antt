@@ -14,7 +14,7 @@ use Rattle.shm_graph.specs.Blocks.{classes}
 use Rattle.shm_graph.specs.Views.{View, view, at1}
 use Rattle.shm_graph.specs.Asks.{Trail}
 use Rattle.shm_graph.specs.Reach.{is_dying, learnt}
-use Rattle.shm_graph.specs.Stores.{not_block, not_of}
+use Rattle.shm_graph.specs.MemoAfterStore.{not_block, not_of}
 use Rattle.shm_graph.specs.Changes.{called}
 use Rattle.shm_graph.specs.Laws.{Frame, framed, Stands, KeptAt}
 use Rattle.shm_graph.proofs.Memos.BodyTold.{told_in_body}

@@ -22,7 +22,7 @@ use Rattle.shm_graph.specs.Views.{View, view, at1, own_word}
 use Rattle.shm_graph.specs.Held.{HeldAt}
 use Rattle.shm_graph.specs.Agents.{recovers}
 use Rattle.shm_graph.specs.Changes.{called}
-use Rattle.shm_graph.specs.Readings.{header_read, op_refused, raised_by, is_held, test_from}
+use Rattle.shm_graph.specs.MemoAfterRead.{header_read, op_refused, raised_by, is_held, test_from}
 use Rattle.shm_graph.proofs.Memos.Frames.{at1_same}
 use Rattle.shm_graph.proofs.Memos.MemoParts.{put_memo, put_same}
 use Rattle.shm_graph.proofs.Memos.Calls.{FactHolds, ZeroHolds, ZerosHold, TestHolds, call_held}

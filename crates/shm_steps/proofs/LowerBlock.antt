@@ -13,7 +13,7 @@ use Rattle.shm_graph.specs.Held.{HeldAt, PartTie}
 use Rattle.shm_graph.proofs.States.Holders.{Holds, held_live_not_zero}
 use Rattle.shm_steps.specs.Raising.{IsReparted}
 use Rattle.shm_graph.specs.declared.memo.Look.{Look}
-use Rattle.shm_laws.specs.Exchanges.{LowerNeeds, dying_after, lower_view, untaken_after}
+use Rattle.shm_laws.specs.HeaderExchanges.{LowerNeeds, dying_after, lower_view, untaken_after}
 use Rattle.shm_steps.specs.Lowering.{MayLower}
 use Rattle.shm_graph.specs.declared.ask.Me.{Me}
 use Rattle.shm_graph.specs.declared.memo.Memo.{Memo}
@@ -28,7 +28,7 @@ use Rattle.shm_graph.specs.Views.{View, at1, own_word, targets, view}
 use Rattle.shm_graph.specs.Reach.{binds, cut_looks, is_reached, sifted}
 use Rattle.shm_graph.specs.Changes.{called}
 use Rattle.shm_graph.specs.Blocks.{classes, headers}
-use Rattle.shm_graph.specs.Exchanges.{committed, exchanged_on, lowered, reparted, with_untaken, cut}
+use Rattle.shm_graph.specs.MemoAfterExchange.{committed, exchanged_on, lowered, reparted, with_untaken, cut}
 use Rattle.std.proofs.lemmas.Bool.{cond-false, true_from_ne_false}
 use Rattle.shm_graph.specs.Tables.{contents_of}
 use Rattle.shm_laws.proofs.Keep.{count_of_zero}
@@ -39,7 +39,7 @@ use Rattle.shm_graph.proofs.StepKinds.KindKeeping.{in_frame, kept_exchange}
 use Rattle.shm_steps.proofs.MemoCommits.{known_left, known_lowered, lowered_is, unsent_list, unsent_lowered, untaken_list, untaken_lowered, with_unsent_is, with_untaken_is}
 use Rattle.shm_steps.proofs.PartsSet.{known_read, loose_stays, part_tie}
 use Rattle.shm_laws.proofs.LowerBlock.{lower_event, lower_kept}
-use Rattle.shm_graph.specs.Stores.{not_block}
+use Rattle.shm_graph.specs.MemoAfterStore.{not_block}
 use Rattle.shm_graph.specs.Chains.{part_set}
 use Rattle.shm_graph.proofs.Memos.MemoParts.{parts, put_parts, put_same}
 use Rattle.shm_steps.proofs.RaiseBlock.{row_shows}

@@ -9,10 +9,10 @@ use Rattle.shm_graph.specs.declared.spot.Spot.TheVariants.{Slot}
 use Rattle.shm_graph.specs.declared.memo.Stored.{Stored}
 use Rattle.shm_graph.specs.declared.memo.Memo.{Memo}
 use Rattle.shm_graph.specs.Views.{at1}
-use Rattle.shm_graph.specs.Stores.{put, other_than, not_block, not_of}
-use Rattle.shm_graph.specs.Exchanges.{with_unsent, with_untaken, lowered}
+use Rattle.shm_graph.specs.MemoAfterStore.{put, other_than, not_block, not_of}
+use Rattle.shm_graph.specs.MemoAfterExchange.{with_unsent, with_untaken, lowered}
 use Rattle.shm_graph.proofs.Memos.Frames.{at1_same}
-use Rattle.shm_laws.specs.Exchanges.{unsent_after, unsent_back, untaken_after, dying_after, not_blocks}
+use Rattle.shm_laws.specs.HeaderExchanges.{unsent_after, unsent_back, untaken_after, dying_after, not_blocks}
 use Rattle.shm_steps.proofs.Items.{put_at}
 
 -- ---- what becomes of each part

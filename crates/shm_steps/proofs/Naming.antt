@@ -16,7 +16,7 @@ use Rattle.std.proofs.lemmas.Bool.{and_left, and_right, cond-false, ne_eqb, not-
 use Rattle.shm_graph.proofs.StepKinds.Loads.{choice}
 use Rattle.shm_graph.specs.Held.{is_slot, HeldAt}
 use Rattle.shm_steps.proofs.MemoCommits.{known_left, known_lowered}
-use Rattle.shm_graph.specs.Stores.{other_than, not_of}
+use Rattle.shm_graph.specs.MemoAfterStore.{other_than, not_of}
 use Rattle.shm_graph.specs.Spots.{same_spot, upd}
 use Rattle.shm_graph.specs.Reach.{shown}
 

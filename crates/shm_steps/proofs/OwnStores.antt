@@ -20,7 +20,7 @@ use Rattle.shm_graph.specs.Views.{View, view, at1}
 use Rattle.shm_graph.specs.Asks.{Trail}
 use Rattle.shm_graph.specs.Changes.{called}
 use Rattle.shm_graph.specs.Held.{HeldAt}
-use Rattle.shm_graph.specs.Stores.{era_stored, with_own}
+use Rattle.shm_graph.specs.MemoAfterStore.{era_stored, with_own}
 use Rattle.shm_graph.specs.Laws.{Frame, framed, Stands, KeptAt}
 use Rattle.shm_graph.proofs.Memos.Calls.{call_held}
 use Rattle.shm_graph.proofs.Memos.Frames.{at1_twice}

@@ -26,7 +26,7 @@ use Rattle.shm_graph.specs.Events.{Nothing as Quietly, graph_of, Happens}
 use Rattle.shm_graph.specs.Held.{HeldAt, KnownAt, ValueAt, SlotOf, LooksSound, Fresh, InLooks, named_by, reach_of}
 use Rattle.shm_graph.specs.Ops.{cover, cover_of, slot_of, is_op}
 use Rattle.shm_graph.specs.Reach.{binds, is_reached}
-use Rattle.shm_graph.specs.Stores.{op_closed, is_lowering, without_looks, era_stored, with_own}
+use Rattle.shm_graph.specs.MemoAfterStore.{op_closed, is_lowering, without_looks, era_stored, with_own}
 use Rattle.shm_graph.specs.Tables.{contents_of}
 use Rattle.shm_graph.specs.Laws.{Frame, framed, Stands, KeptAt}
 use Rattle.shm_graph.proofs.Memos.Frames.{at1_all}

@@ -13,7 +13,7 @@ use Rattle.shm_graph.specs.Views.{View, view, at1, own_word}
 use Rattle.shm_graph.specs.Asks.{Trail}
 use Rattle.shm_graph.specs.Events.{Nothing, graph_of, Happens}
 use Rattle.shm_graph.specs.Held.{HeldAt}
-use Rattle.shm_graph.specs.Stores.{put, lane_with}
+use Rattle.shm_graph.specs.MemoAfterStore.{put, lane_with}
 use Rattle.shm_graph.specs.Laws.{Frame, Stands, KeptAt}
 use Rattle.shm_graph.proofs.StepKinds.Keeping.{told_fixed}
 use Rattle.shm_graph.proofs.StepKinds.KindKeeping.{in_frame, kept_from}

@@ -25,7 +25,7 @@ use Rattle.shm_graph.specs.Asks.{Trail}
 use Rattle.shm_graph.specs.Held.{HeldAt, MakingTie, Names, IsSecond, OpSound, OpTie, Allowed, room_of}
 use Rattle.shm_graph.specs.Ops.{Quiet, cover, cover_of, on_of, held_over_of, slot_of}
 use Rattle.shm_graph.specs.Reach.{is_reached}
-use Rattle.shm_graph.specs.Stores.{is_block_made, op_spelled}
+use Rattle.shm_graph.specs.MemoAfterStore.{is_block_made, op_spelled}
 use Rattle.shm_graph.specs.Telling.{word_told, outside_or, spot_claimed, claim_of}
 use Rattle.shm_graph.specs.Laws.{Frame, Stands, KeptAt}
 use Rattle.shm_graph.proofs.Spots.Fixed.{fixed_is_at}

@@ -13,7 +13,7 @@ use Rattle.shm_graph.specs.Blocks.{classes}
 use Rattle.shm_graph.specs.Views.{View, view, at1}
 use Rattle.shm_graph.specs.Held.{ZeroAt}
 use Rattle.shm_graph.specs.Asks.{Trail}
-use Rattle.shm_graph.specs.Stores.{not_segment, outside_of, other_than}
+use Rattle.shm_graph.specs.MemoAfterStore.{not_segment, outside_of, other_than}
 use Rattle.shm_graph.specs.Laws.{Frame, Stands, KeptAt}
 use Rattle.shm_graph.proofs.Spots.Spotting.{spot_there}
 use Rattle.shm_graph.proofs.StepKinds.Keeping.{told_fixed}

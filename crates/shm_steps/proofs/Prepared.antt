@@ -21,7 +21,7 @@ use Rattle.shm_graph.specs.Held.{HeldAt, MakingTie, MakingSound, ZeroAt}
 use Rattle.shm_graph.specs.Ops.{is_op, slot_of}
 use Rattle.shm_graph.specs.Asks.{Trail}
 use Rattle.shm_graph.specs.Reach.{is_dying}
-use Rattle.shm_graph.specs.Stores.{stored_on, making_with, class_told}
+use Rattle.shm_graph.specs.MemoAfterStore.{stored_on, making_with, class_told}
 use Rattle.shm_graph.specs.Telling.{spot_told, prepared, word_of_block}
 use Rattle.shm_graph.specs.Changes.{called}
 use Rattle.shm_graph.specs.Controllers.{IsController, IsEraRaised}

@@ -18,7 +18,7 @@ use Rattle.shm_graph.specs.declared.ask.Me.{Me}
 use Rattle.shm_graph.specs.declared.memo.Memo.{Memo}
 use Rattle.shm_graph.specs.Ops.{On, cover, is_op, slot_of}
 use Rattle.shm_graph.specs.declared.table.Part.{Part}
-use Rattle.shm_laws.specs.Exchanges.{RowShows, UpNeeds, up_view}
+use Rattle.shm_laws.specs.HeaderExchanges.{RowShows, UpNeeds, up_view}
 use Rattle.shm_graph.specs.declared.spot.Spot.{Spot}
 use Rattle.shm_graph.specs.Asks.{Trail}
 use Rattle.shm_graph.specs.declared.memo.Op.TheVariants.{Up}
@@ -26,11 +26,11 @@ use Rattle.shm_graph.proofs.Memos.KnownChange.{ValueHolds}
 use Rattle.shm_graph.specs.Views.{View, at1, own_word, targets, view}
 use Rattle.shm_graph.specs.Changes.{called}
 use Rattle.shm_graph.specs.Blocks.{classes}
-use Rattle.shm_graph.specs.Exchanges.{exchanged_on, reparted, committed}
+use Rattle.shm_graph.specs.MemoAfterExchange.{exchanged_on, reparted, committed}
 use Rattle.shm_words.specs.Headers.{header_of}
 use Rattle.shm_graph.proofs.StepKinds.KindKeeping.{in_frame, kept_exchange}
 use Rattle.shm_steps.proofs.PartsSet.{loose_stays, part_tie}
-use Rattle.shm_graph.specs.Stores.{not_block}
+use Rattle.shm_graph.specs.MemoAfterStore.{not_block}
 use Rattle.shm_graph.specs.Chains.{part_set}
 use Rattle.shm_graph.proofs.Memos.MemoParts.{parts, put_parts, put_same}
 use Rattle.shm_graph.proofs.States.Reached.{reached_here}

@@ -15,7 +15,7 @@ use Rattle.shm_graph.specs.Views.{View, targets}
 use Rattle.std.proofs.lemmas.Bool.{and_from, and_parts, cond-false, eqb-true, false_from_ne_true, or_cases, true≢false}
 use Rattle.shm_graph.specs.Reach.{binds, is_dying, is_reached}
 use Rattle.shm_graph.proofs.StepKinds.Loads.{choice}
-use Rattle.shm_laws.specs.Exchanges.{dying_after, untaken_after}
+use Rattle.shm_laws.specs.HeaderExchanges.{dying_after, untaken_after}
 use Rattle.shm_graph.specs.Spots.{same_spot}
 use Rattle.shm_graph.proofs.States.Reached.{Names, reached_sound}
 use Rattle.shm_graph.specs.declared.memo.Stored.{Stored}

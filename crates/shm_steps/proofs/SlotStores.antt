@@ -9,7 +9,7 @@ use Rattle.shm_graph.specs.Spots.{spot_at, same_spot}
 use Rattle.shm_graph.specs.Blocks.{classes}
 use Rattle.shm_graph.specs.Views.{View, view, at1}
 use Rattle.shm_graph.specs.Asks.{Trail}
-use Rattle.shm_graph.specs.Stores.{op_written, stage_written}
+use Rattle.shm_graph.specs.MemoAfterStore.{op_written, stage_written}
 use Rattle.shm_graph.specs.Laws.{Frame, Stands, KeptAt}
 use Rattle.shm_graph.proofs.StepKinds.Keeping.{told_fixed}
 use Rattle.shm_graph.proofs.StepKinds.KindKeeping.{in_frame, kept_from}

@@ -4,4 +4,4 @@ pub mod Shared
 pub mod Queues
 pub mod Blocks
 pub mod Test
-pub mod Exchanges
+pub mod FormerBlock

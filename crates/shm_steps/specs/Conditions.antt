@@ -4,7 +4,7 @@ use Rattle.shm_graph.specs.declared.spot.Spot.{Spot}
 use Rattle.shm_graph.specs.declared.memo.Status.TheVariants as status
 use Rattle.shm_graph.specs.declared.memo.Memo.{Memo}
 use Rattle.shm_graph.specs.Ops.{slot_of}
-use Rattle.shm_graph.specs.Stores.{op_written}
+use Rattle.shm_graph.specs.MemoAfterStore.{op_written}
 use Rattle.shm_laws.specs.Slotting.{Writes}
 
 -- somebody has joined, and the identity isn't gone

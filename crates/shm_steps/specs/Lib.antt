@@ -4,7 +4,7 @@ pub mod OwnWords
 pub mod Raising
 pub mod Lowering
 pub mod Unlatching
-pub mod Reading
+pub mod LoadNeeds
 pub mod Beginning
 pub mod Reparting
 pub mod Walking

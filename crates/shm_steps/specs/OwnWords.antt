@@ -15,7 +15,7 @@ use Rattle.shm_graph.specs.declared.spot.Spot.{Spot}
 use Rattle.shm_graph.specs.Blocks.{classes}
 use Rattle.shm_graph.specs.Held.{Names}
 use Rattle.shm_graph.specs.Reach.{is_reached}
-use Rattle.shm_graph.specs.Stores.{op_closed, is_block_made, op_spelled}
+use Rattle.shm_graph.specs.MemoAfterStore.{op_closed, is_block_made, op_spelled}
 use Rattle.shm_graph.specs.Telling.{word_told}
 use Rattle.shm_laws.specs.OwnWords.{Closes, BeginNeeds}
 use Rattle.shm_steps.specs.Conditions.{IsHere}

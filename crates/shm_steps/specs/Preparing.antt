@@ -12,7 +12,7 @@ use Rattle.shm_graph.specs.declared.memo.Op.TheVariants.{Nothing, Alloc}
 use Rattle.shm_graph.specs.declared.memo.Making.{Making}
 use Rattle.shm_graph.specs.declared.memo.Memo.{Memo}
 use Rattle.shm_graph.specs.Views.{own_word}
-use Rattle.shm_graph.specs.Stores.{class_told}
+use Rattle.shm_graph.specs.MemoAfterStore.{class_told}
 use Rattle.shm_steps.specs.Conditions.{IsHere}
 
 -- ---- segments and pages

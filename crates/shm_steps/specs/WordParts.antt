@@ -12,13 +12,13 @@ use Rattle.shm_graph.specs.declared.memo.Status.TheVariants as status
 use Rattle.shm_graph.specs.Agents.{recovers}
 use Rattle.shm_graph.specs.Core.{core}
 use Rattle.shm_graph.specs.Events.{Event, ChangeDown, Nothing as NoEvent}
-use Rattle.shm_graph.specs.Exchanges.{committed}
+use Rattle.shm_graph.specs.MemoAfterExchange.{committed}
 use Rattle.shm_graph.specs.Held.{status_word}
 use Rattle.shm_graph.specs.Laws.{GoneNow}
 use Rattle.shm_graph.specs.Reach.{is_reached, learnt, unlatched}
-use Rattle.shm_graph.specs.Readings.{op_refused, reference_read, test_from, test_on, valued}
+use Rattle.shm_graph.specs.MemoAfterRead.{op_refused, reference_read, test_from, test_on, valued}
 use Rattle.shm_graph.specs.Spots.{segment_of}
-use Rattle.shm_graph.specs.Stores.{with_own, written, tail_stored, head_stored, not_segment, era_stored, op_closed, without_looks}
+use Rattle.shm_graph.specs.MemoAfterStore.{with_own, written, tail_stored, head_stored, not_segment, era_stored, op_closed, without_looks}
 use Rattle.shm_graph.specs.Telling.{Claim, claims}
 use Rattle.shm_graph.specs.Views.{own_word, owner_is}
 

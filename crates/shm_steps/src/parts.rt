@@ -11,7 +11,7 @@ ghost use Rattle.shm_graph.specs.Views.{own_word};
 ghost use Rattle.shm_calls.specs.Words.{IsWord};
 ghost use Rattle.shm_steps.specs.OwnWords.{MaySend};
 ghost use Rattle.shm_steps.specs.Preparing.{MayLatch};
-ghost use Rattle.shm_steps.specs.Reading.{IsSettled};
+ghost use Rattle.shm_steps.specs.LoadNeeds.{IsSettled};
 ghost use Rattle.shm_steps.specs.Unlatching.{MayUnlatch};
 ghost use Rattle.shm_graph.specs.declared.spot.Spot.TheVariants.{Body};
 ghost use Rattle.shm_steps.specs.WordParts.{OwnLoaded, LatchTaken, LatchGiven, IsHeadSlot, HeadSlotLoaded, TailStored, IsLatchedWord, ReferenceLoaded};

@@ -10,7 +10,7 @@ ghost use Rattle.shm_graph.specs.Spots.{spot_at};
 ghost use Rattle.shm_graph.specs.Blocks.{classes};
 ghost use Rattle.shm_graph.specs.Asks.{Trail};
 ghost use Rattle.shm_graph.specs.Laws.{Frame, Stands, KeptAt};
-ghost use Rattle.shm_steps.specs.Reading.{IsTold, IsCovered, MayLook};
+ghost use Rattle.shm_steps.specs.LoadNeeds.{IsTold, IsCovered, MayLook};
 
 /// A header is loaded; the tag of a block of which the memo tells something, and a word of a block that it tells; an exchange of a
 /// header finds another word than it names.

@@ -23,7 +23,7 @@ use Rattle.shm_count.specs.declared.point.Half.TheVariants as part
 use Rattle.shm_count.specs.declared.point.StepPoint.{StepPoint}
 use Rattle.shm_count.specs.declared.point.StepPoint.TheVariants as point
 use Rattle.shm_count.specs.Step.Events.{event_of_half, step_event_at}
-use Rattle.shm_count.specs.Step.Exchanged.{exchanged_at, exchanging_at, is_second}
+use Rattle.shm_count.specs.Step.ExchangeMade.{exchanged_at, exchanging_at, is_second}
 use Rattle.shm_script.specs.declared.log.Answer.{Answer}
 use Rattle.shm_script.specs.declared.log.Answer.TheVariants as answer
 use Rattle.shm_table.specs.declared.copy.CopyPoint.{CopyPoint}

@@ -33,7 +33,7 @@ use Rattle.shm_count.specs.declared.point.StepPoint.TheVariants as point
 use Rattle.shm_count.specs.declared.tear_point.TearPoint.{TearPoint}
 use Rattle.shm_count.specs.declared.tear_point.TearPoint.TheVariants as tear
 use Rattle.shm_count.specs.Step.Events.{event_of_half, step_event_at}
-use Rattle.shm_count.specs.Step.Exchanged.{exchanging_at}
+use Rattle.shm_count.specs.Step.ExchangeMade.{exchanging_at}
 use Rattle.shm_count.specs.Tear.Events.{tear_event_at}
 use Rattle.shm_count.specs.UpRoot.AsPart.{RootingCalls}
 use Rattle.shm_count.specs.UpRoot.Control.{RootingCall, rooting_parts}

@@ -14,7 +14,7 @@ use Rattle.shm_count.specs.declared.answer.UpFault.{UpFault}
 use Rattle.shm_count.specs.declared.answer.UpFault.TheVariants.{CountFull, EraSpent}
 use Rattle.shm_count.specs.Step.Control.{step_control}
 use Rattle.shm_count.specs.Step.Decides.{down_decides, step_decides, up_decides}
-use Rattle.shm_count.specs.Step.Exchanged.{step_exchanged, step_exchanging}
+use Rattle.shm_count.specs.Step.ExchangeMade.{step_exchanged, step_exchanging}
 use Rattle.shm_count.specs.Step.Machines.{down_control, up_control}
 use Rattle.shm_count.specs.Tear.Control.{tear_control}
 use Rattle.shm_alloc.specs.Alloc.Control.{alloc_control}
@@ -64,7 +64,7 @@ use Rattle.shm_table.specs.Put.{put_plan}
 use Rattle.shm_table.specs.Machines.Put.{put}
 use Rattle.shm_table.specs.PutRoot.Control.{PutRootAnswer, decided_of, enter_control, fault_of, freed_turns, open_control, put_answer, put_root_parts, replace_control, stuck_answer}
 use Rattle.shm_table.specs.PutRoot.{put_root_control, put_root_plan}
-use Rattle.shm_table.specs.Machines.Read.{get}
+use Rattle.shm_table.specs.Machines.Get.{get}
 use Rattle.shm_table.specs.RecvKey.Control.{RecvAnswer, RecvCalls, fetch_head_control, recv_parts, take_head_control}
 use Rattle.shm_table.specs.RecvKey.{recv_plan}
 use Rattle.shm_table.specs.Machines.Recv.{recv_control}

@@ -40,7 +40,7 @@ use Rattle.shm_table.specs.Get.Laws.{get_begin, get_laws}
 use Rattle.shm_table.specs.Get.Tells.{HasNamed, IsReady, named_shown, ready_told}
 use Rattle.shm_table.specs.Locate.Control.{locating}
 use Rattle.shm_table.specs.Locate.{LocateCalls, MayLocate, locate_control, locate_plan}
-use Rattle.shm_table.specs.Machines.Read.{get}
+use Rattle.shm_table.specs.Machines.Get.{get}
 use Rattle.shm_table.specs.Unlatch.{UnlatchCalls, unlatch_control, unlatch_plan, unlatching}
 use Rattle.shm_table.proofs.CallStates.{IsCalled, IsNext, comes, next_step}
 use Rattle.shm_table.proofs.DecidingEvents.{kept_along}

@@ -38,7 +38,7 @@ use Rattle.shm_table.specs.Get.{get_plan}
 use Rattle.shm_table.specs.Put.Control.{PutCalls, PutAnswer, PutCall, put_parts, putting}
 use Rattle.shm_table.specs.Put.{put_plan}
 use Rattle.shm_table.specs.Machines.Put.{put}
-use Rattle.shm_table.specs.Machines.Read.{get}
+use Rattle.shm_table.specs.Machines.Get.{get}
 use Rattle.shm_table.specs.RecvKey.Control.{RecvCalls, receiving_key, recv_parts}
 use Rattle.shm_table.specs.RecvKey.{recv_plan}
 use Rattle.shm_table.specs.Machines.Recv.{recv_control}

@@ -19,7 +19,7 @@ use Rattle.shm_graph.specs.Held.{HeldAt}
 use Rattle.shm_graph.specs.Laws.{Frame, framed, Stands}
 use Rattle.shm_graph.specs.Ops.{cover_of}
 use Rattle.shm_graph.specs.Reach.{learnt}
-use Rattle.shm_graph.specs.Readings.{values_read}
+use Rattle.shm_graph.specs.MemoAfterRead.{values_read}
 use Rattle.shm_graph.specs.Spots.{spot_at}
 use Rattle.shm_graph.specs.Views.{at1, view}
 use Rattle.shm_graph.proofs.Runs.Lists.{at1_here}

@@ -35,7 +35,7 @@ use Rattle.shm_table.specs.declared.fetch_head.FetchHeadState.{FetchHeadState}
 use Rattle.shm_table.specs.declared.fetch_head.FetchedHead.{FetchedHead}
 use Rattle.shm_table.specs.declared.fetch_head.FetchedHead.TheVariants.{Empty, Refused, Rooted}
 use Rattle.shm_table.specs.FetchHead.Control.{FetchHeadAnswer, FetchHeadCall, fetch_head_after, fetch_head_ask, fetch_head_call, fetch_head_turns, fetching_head, is_head}
-use Rattle.shm_table.specs.Get.Reads.{ReadsMore}
+use Rattle.shm_table.specs.Get.UnderLatch.{ReadsMore}
 use Rattle.shm_table.specs.Staying.{Cleared, Keeps, PutCause, SameMap}
 
 -- ---- when it may begin

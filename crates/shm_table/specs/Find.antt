@@ -1,6 +1,6 @@
 -- looking for a key as a plan: when it may begin, what is known before each word step, and what is left
 pub mod Control
-pub mod Reads
+pub mod SearchLoads
 pub mod Laws
 pub mod Bound
 pub mod Tells

@@ -6,7 +6,7 @@ pub mod EntryReads
 pub mod LatchGiving
 pub mod Unlatch
 pub mod Locate
-pub mod ValueReads
+pub mod ValuesListed
 pub mod EntrySteps
 pub mod Replace
 pub mod Unlink

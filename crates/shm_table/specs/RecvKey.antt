@@ -12,7 +12,7 @@ use Rattle.shm_graph.specs.Asks.{Trail, IsWithin}
 use Rattle.shm_graph.specs.Bounds.{tear_steps, redo_steps}
 use Rattle.shm_graph.specs.Events.{Event}
 use Rattle.shm_graph.specs.Events as event
-use Rattle.shm_graph.specs.Stores.{lane_with}
+use Rattle.shm_graph.specs.MemoAfterStore.{lane_with}
 use Rattle.shm_graph.specs.Views.{own_word}
 use Rattle.shm_calls.specs.CallsPart.{calls_part}
 use Rattle.shm_calls.specs.Either.{or_part}

@@ -43,7 +43,7 @@ use Rattle.shm_table.specs.EntryReads.{EntryReads}
 use Rattle.shm_table.specs.Find.Control.{word_ask}
 use Rattle.shm_table.specs.Replace.Control.{ReplaceAnswer, ReplaceCall, is_look, replace_after, replace_call_at, replace_turns, replacing}
 use Rattle.shm_table.specs.Staying.{Cleared, Ended, Keeps, MapSet, PutCause, SameMap}
-use Rattle.shm_table.specs.ValueReads.{ReadsMore}
+use Rattle.shm_table.specs.ValuesListed.{ReadsMore}
 
 -- ---- when it may begin
 

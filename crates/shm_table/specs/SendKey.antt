@@ -12,7 +12,7 @@ use Rattle.shm_graph.specs.Agents.{recovers}
 use Rattle.shm_graph.specs.Asks.{Trail, IsWithin}
 use Rattle.shm_graph.specs.Events.{Event}
 use Rattle.shm_graph.specs.Events as event
-use Rattle.shm_graph.specs.Stores.{lane_with, with_own}
+use Rattle.shm_graph.specs.MemoAfterStore.{lane_with, with_own}
 use Rattle.shm_graph.specs.Views.{own_word}
 use Rattle.shm_graph.specs.Bounds.{redo_steps}
 use Rattle.shm_calls.specs.declared.word.Word.{Word}

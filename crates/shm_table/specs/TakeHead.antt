@@ -10,7 +10,7 @@ use Rattle.shm_graph.specs.Asks.{Trail, IsWithin}
 use Rattle.shm_graph.specs.Events.{Event}
 use Rattle.shm_graph.specs.Events as event
 use Rattle.shm_graph.specs.Idle.{IsIdle}
-use Rattle.shm_graph.specs.Stores.{head_stored}
+use Rattle.shm_graph.specs.MemoAfterStore.{head_stored}
 use Rattle.shm_graph.specs.Views.{own_word}
 use Rattle.shm_graph.specs.Bounds.{redo_steps}
 use Rattle.shm_steps.specs.Conditions.{IsHere}

@@ -47,7 +47,7 @@ use Rattle.shm_table.specs.Find.Control.{word_ask}
 use Rattle.shm_table.specs.Replace.{IsTorn}
 use Rattle.shm_table.specs.Staying.{Cleared, Ended, IsSpent, Keeps, MapCut, SameMap}
 use Rattle.shm_table.specs.Unlink.Control.{UnlinkAnswer, UnlinkCall, is_look, unlink_after, unlink_call_at, unlink_parts, unlink_turns, unlinking}
-use Rattle.shm_table.specs.ValueReads.{ReadsMore}
+use Rattle.shm_table.specs.ValuesListed.{ReadsMore}
 
 -- ---- when it may begin
 

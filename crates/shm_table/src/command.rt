@@ -29,7 +29,7 @@ use crate::get::Get;
 use crate::put::Put;
 use crate::recv::RecvKey;
 use crate::send_key::SendKey;
-use shm_calls::Or;
+use shm_calls::{Begin, Or};
 use shm_graph::{Ask, Machine, Me, Operation, Turn};
 use shm_script::{Answer, Line};
 use std::marker::Model;
@@ -174,4 +174,15 @@ impl Operation for Command {
     ghost does = { command_does };
 
     ghost operates = { command_operation (put_laws (put_root_laws open_laws locate_laws replace_laws enter_laws)) (copy_laws fetch_laws (put_root_laws open_laws locate_laws replace_laws enter_laws)) del_laws get_laws send_key_laws (recv_laws fetch_head_laws take_head_laws (put_root_laws open_laws locate_laws replace_laws enter_laws)) };
+}
+
+impl Begin for Command {
+    type Op = Command;
+
+    ghost op = { λ m. m };
+
+    #[inline(always)]
+    fn begin(self) -> Command {
+        self
+    }
 }

@@ -21,12 +21,12 @@ ghost use Rattle.shm_table.specs.TableTasks.{CopyMay, copy_task};
 
 use crate::answer::PutFault;
 use crate::effect::Deciding;
-use crate::fetch::{Fetch, Fetched, Fetching};
+use crate::fetch::{Fetch, Fetched};
 use crate::put_root::{PutRoot, settled};
 use shm_calls::{Calls, Or, Plan, Task};
 use shm_count::EraSpent;
 use shm_graph::{Ask, Machine, Me, Turn};
-use shm_ref::{DropRoot, Dropping};
+use shm_ref::DropRoot;
 use shm_script::Answer;
 use shm_words::ADDRESS_LIMIT;
 use std::marker::Model;
@@ -59,7 +59,7 @@ pub struct CopyState {
 }
 
 /// Its calls.
-pub type CopyCall = Or<Fetch, Or<PutRoot, DropRoot>>;
+pub type CopyCall = Or<Calls<Fetch>, Or<PutRoot, Calls<DropRoot>>>;
 
 /// What its calls answer.
 pub type CopyAnswer = Or<Fetched, Or<Result<bool, PutFault>, Result<bool, EraSpent>>>;
@@ -271,9 +271,9 @@ impl Plan for Copying {
             ..
         } = self.state;
         match point {
-            CopyPoint::Fetch => Or::First(Calls::new(Fetching::new(me, author, other))),
+            CopyPoint::Fetch => Or::First(Calls::new(Fetch::new(me, author, other))),
             CopyPoint::Put => Or::Second(Or::First(PutRoot::new(me, key, block))),
-            CopyPoint::Drop => Or::Second(Or::Second(Calls::new(Dropping::new(me, root)))),
+            CopyPoint::Drop => Or::Second(Or::Second(Calls::new(DropRoot::new(me, root)))),
         }
     }
 

@@ -16,9 +16,9 @@ ghost use Rattle.shm_table.specs.TableTasks.{DelMay, del_task};
 use crate::answer::PutFault;
 use crate::effect::Deciding;
 use crate::find::Found;
-use crate::locate::{Locate, Locating};
-use crate::unlatch::{Unlatch, Unlatching};
-use crate::unlink::{Unlink, Unlinking};
+use crate::locate::Locate;
+use crate::unlatch::Unlatch;
+use crate::unlink::Unlink;
 use shm_calls::{Calls, Or, Plan, Task};
 use shm_count::UpFault;
 use shm_graph::{Ask, Machine, Me, Turn};
@@ -50,7 +50,7 @@ pub struct DelState {
 }
 
 /// Its calls: a search under the latch, the taking out of an entry, and the giving back of the latch.
-pub type DelCall = Or<Locate, Or<Unlink, Unlatch>>;
+pub type DelCall = Or<Calls<Locate>, Or<Calls<Unlink>, Calls<Unlatch>>>;
 
 /// The calls by which a key of the own table is removed.
 #[derive(Drop)]
@@ -232,12 +232,12 @@ impl Plan for Deleting {
             ..
         } = self.state;
         match point {
-            DelPoint::Search => Or::First(Calls::new(Locating::new(me, me.who, key))),
+            DelPoint::Search => Or::First(Calls::new(Locate::new(me, me.who, key))),
             DelPoint::Cut => {
-                let cut = Unlinking::new(me, entry, before, word);
+                let cut = Unlink::new(me, entry, before, word);
                 Or::Second(Or::First(Calls::new(cut)))
             }
-            DelPoint::Back => Or::Second(Or::Second(Calls::new(Unlatching::new(me, me.who)))),
+            DelPoint::Back => Or::Second(Or::Second(Calls::new(Unlatch::new(me, me.who)))),
         }
     }
 

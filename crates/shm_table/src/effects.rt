@@ -1,48 +1,41 @@
 //! What commands on a table show of their answers: from the deciding step on they show it, and it is what they answer.
 
-ghost use Rattle.std.specs.Prelude.{◌≡◌, ◌+◌, ◌*◌, ◌^◌, ◌<◌, ℕ, true, false, is_ok, Option, None, []};
+ghost use Rattle.std.specs.Prelude.{◌≡◌, ◌+◌, ◌*◌, ℕ, true, false, is_ok, Option, None, List};
 ghost use Rattle.shm_graph.specs.declared.ask.Me.{Me as AMe};
 ghost use Rattle.shm_graph.specs.declared.memo.Memo.{Memo as AMemo};
 ghost use Rattle.shm_graph.specs.Agents.{died};
 ghost use Rattle.shm_graph.specs.Asks.{Trail};
 ghost use Rattle.shm_graph.specs.Bounds.{command_steps};
-ghost use Rattle.shm_graph.specs.Tells.{Tells, after_all};
+ghost use Rattle.shm_graph.specs.Tells.{after_all};
 ghost use Rattle.shm_calls.specs.CallsControl.{calls_control, calls_does};
 ghost use Rattle.shm_calls.specs.CallsFit.{CallsFits};
 ghost use Rattle.shm_calls.specs.Deciding.{Decides, Foretells, StillRuns};
 ghost use Rattle.shm_script.specs.declared.line.Line.{Line as ALine};
-ghost use Rattle.shm_script.specs.declared.line.Line.TheVariants as line;
 ghost use Rattle.shm_script.specs.declared.log.Answer.{Answer as AnAnswer};
 ghost use Rattle.shm_script.specs.Text.{line_spelled};
-ghost use Rattle.shm_table.specs.Machines.Change.{DelGives};
-ghost use Rattle.shm_table.specs.Command.Bound.{IsCommandShort, command_told};
+ghost use Rattle.shm_table.specs.Command.Bound.{IsCommandShort};
 ghost use Rattle.shm_table.specs.Command.Maps.{MapSoFar};
 ghost use Rattle.shm_table.specs.Command.Sends.{SentSoFar};
-ghost use Rattle.shm_table.specs.Command.{CommandCall, CommandFits, CommandGives, command_by, command_control, command_does, command_effect, command_of};
-ghost use Rattle.shm_table.specs.Commands.{MayCommand};
+ghost use Rattle.shm_table.specs.Command.{CommandCall, CommandFits, command_by, command_control, command_effect, command_of};
 ghost use Rattle.shm_table.specs.CopyKey.Control.{CopyCalls, copy_parts};
-ghost use Rattle.shm_table.specs.Machines.Copy.{CopyGives};
-ghost use Rattle.shm_table.specs.CopyKey.{MayCopy, copy_plan};
+ghost use Rattle.shm_table.specs.CopyKey.{copy_plan};
 ghost use Rattle.shm_table.specs.Cutting.{Cuts};
 ghost use Rattle.shm_table.specs.Del.Control.{DelCalls, del_parts};
-ghost use Rattle.shm_table.specs.Del.{MayDel, del_plan};
+ghost use Rattle.shm_table.specs.Del.{del_plan};
 ghost use Rattle.shm_table.specs.Effects.{copy_by, copy_effect, copy_home, del_by, del_effect, enter_by, enter_decided, get_effect, is_linked, put_by, put_effect, put_home, put_root_by, put_root_decided, recv_by, recv_effect, recv_home, replace_by, replace_decided, send_key_by, send_key_effect, unlink_by, unlink_decided};
 ghost use Rattle.shm_table.specs.Get.Control.{get_parts};
 ghost use Rattle.shm_table.specs.Get.{get_plan};
-ghost use Rattle.shm_table.specs.Locate.{MayLocate};
 ghost use Rattle.shm_table.specs.Put.Control.{PutCalls, put_parts};
 ghost use Rattle.shm_table.specs.Put.{put_plan};
-ghost use Rattle.shm_table.specs.Machines.Put.{PutGives};
 ghost use Rattle.shm_table.specs.PutRoot.Control.{decided_of, enter_control, replace_control};
 ghost use Rattle.shm_table.specs.PutRoot.{Decides as DecidesMap, put_root_control};
-ghost use Rattle.shm_table.specs.Machines.Read.{GetGives};
 ghost use Rattle.shm_table.specs.RecvKey.Control.{RecvCalls, recv_parts};
-ghost use Rattle.shm_table.specs.RecvKey.{MayRecv, recv_plan};
-ghost use Rattle.shm_table.specs.Machines.Recv.{RecvGives};
+ghost use Rattle.shm_table.specs.RecvKey.{recv_plan};
 ghost use Rattle.shm_table.specs.SendKey.Control.{send_key_parts};
-ghost use Rattle.shm_table.specs.SendKey.{MaySendKey, send_key_plan};
-ghost use Rattle.shm_table.specs.Machines.Send.{SendKeyGives};
+ghost use Rattle.shm_table.specs.SendKey.{send_key_plan};
 ghost use Rattle.shm_table.specs.Unlink.{unlink_control};
+ghost use Rattle.shm_graph.specs.Events.{Event as AnEvent};
+ghost use Rattle.shm_table.specs.Refusals.{CommandLeaves};
 
 /// Whether an entry has another value block, whether a new entry is linked, whether an entry is taken out, and whether a key comes to have a
 /// value block: the answer tells that the deciding step was made, exactly where it was.
@@ -80,31 +73,6 @@ pub fn earlier_events()
     ensures del { (m : DelCalls) (n : ℕ) → del_effect m ≡ None → del_by m.plan m.call n ≡ false → Cuts m.plan.me.who m.plan.before m.plan.word m.plan.entry (calls_does del_parts del_plan m n) → ⊥ }
 {}
 
-/// The command of a line fits each memo of a client between two calls, in a pool for tables, with no latch, as the one that the line tells does.
-pub fn command_begins()
-    ensures put { (me : AMe) (key n : ℕ) (r : AMemo) → MayCommand me key r → n < 2 ^ 64 → CommandFits (command_of me (line.Put key n)) r r [] }
-    ensures copy { (me : AMe) (key a other : ℕ) (r : AMemo) → MayCopy me key a r → CommandFits (command_of me (line.Copy key a other)) r r [] }
-    ensures del { (me : AMe) (key : ℕ) (r : AMemo) → MayDel me r → CommandFits (command_of me (line.Del key)) r r [] }
-    ensures get { (me : AMe) (a key : ℕ) (r : AMemo) → MayLocate me a r → CommandFits (command_of me (line.Get a key)) r r [] }
-    ensures send { (me : AMe) (i key : ℕ) (r : AMemo) → MaySendKey me i r → CommandFits (command_of me (line.Send i key)) r r [] }
-    ensures recv { (me : AMe) (s key : ℕ) (r : AMemo) → MayRecv me s key r → CommandFits (command_of me (line.Recv s key)) r r [] }
-{}
-
-/// The event of each word step of it is the one that it tells.
-pub fn command_events()
-    ensures { Tells command_control CommandFits command_does }
-{}
-
-/// It gives what the command gives that the line tells.
-pub fn command_leaves()
-    ensures put { (me : AMe) (key n : ℕ) (r0 r : AMemo) (tr : Trail) (b : AnAnswer) → CommandGives (command_of me (line.Put key n)) r0 r tr b → PutGives me key n r0 r tr b }
-    ensures copy { (me : AMe) (key a other : ℕ) (r0 r : AMemo) (tr : Trail) (b : AnAnswer) → CommandGives (command_of me (line.Copy key a other)) r0 r tr b → CopyGives me key a other r0 r tr b }
-    ensures del { (me : AMe) (key : ℕ) (r0 r : AMemo) (tr : Trail) (b : AnAnswer) → CommandGives (command_of me (line.Del key)) r0 r tr b → DelGives me key r0 r tr b }
-    ensures get { (me : AMe) (a key : ℕ) (r0 r : AMemo) (tr : Trail) (b : AnAnswer) → CommandGives (command_of me (line.Get a key)) r0 r tr b → GetGives me a key r0 r tr b }
-    ensures send { (me : AMe) (i key : ℕ) (r0 r : AMemo) (tr : Trail) (b : AnAnswer) → CommandGives (command_of me (line.Send i key)) r0 r tr b → SendKeyGives me i key r0 r tr b }
-    ensures recv { (me : AMe) (s key : ℕ) (r0 r : AMemo) (tr : Trail) (b : AnAnswer) → CommandGives (command_of me (line.Recv s key)) r0 r tr b → RecvGives me s key r0 r tr b }
-{}
-
 /// Its line is the text of the line that it was made of, and stays so.
 pub fn command_lines()
     ensures begun { (me : AMe) (l : ALine) → command_control.line (command_of me l) ≡ line_spelled l }
@@ -114,7 +82,7 @@ pub fn command_lines()
 /// Whatever it answers, it takes at most 1,638 word steps for each segment of the pool, 300, 2 for each key that it read, 164 for each block
 /// that it freed or left on the way, in format 2 320 and 180, and three for each exchange that failed.
 pub fn command_bound()
-    ensures within { (me : AMe) (l : ALine) (r0 r : AMemo) (tr : Trail) (b : AnAnswer) → CommandGives (command_of me l) r0 r tr b → IsCommandShort me l r tr (command_told me l tr) }
+    ensures within { (me : AMe) (l : ALine) (r0 r : AMemo) (tr : Trail) (es : List AnEvent) (b : AnAnswer) → CommandLeaves me l r0 r tr es b → IsCommandShort me l r tr es }
     ensures steps { (g k t : ℕ) → command_steps false g k t ≡ 1638 * g + 2 * k + 164 * t + 300 }
     ensures wide { (g k t : ℕ) → command_steps true g k t ≡ 1638 * g + 2 * k + 180 * t + 320 }
 {}

@@ -63,12 +63,14 @@ pub type EnterCall = Or<Alloc, Or<StepUp, StepChange>>;
 pub type EnterAnswer = Or<Result<Made, AllocFault>, Or<Result<(), UpFault>, Result<bool, UpFault>>>;
 
 /// The calls by which a key that the own table doesn't have comes to have an entry.
+///
+/// It answers whether the entry was linked, and by which root it is to be dropped where it was made.
 #[derive(Drop)]
-pub struct Entering {
+pub struct Enter {
     state: EnterState,
 }
 
-impl Model for Entering {
+impl Model for Enter {
     ghost use Rattle.shm_table.specs.declared.enter.EnterState.{EnterState as AState};
 
     ghost Value = { AState };
@@ -79,9 +81,6 @@ impl Model for Entering {
 
     ghost invariant = { λ a. EnterInRange a.state };
 }
-
-/// It answers whether the entry was linked, and by which root it is to be dropped where it was made.
-pub type Enter = Calls<Entering>;
 
 /// What an entry of the key is to hold: an empty next word, an empty value word, and the key.
 #[inline(always)]
@@ -115,11 +114,11 @@ fn after_value(first: u32) -> EnterPoint
     }
 }
 
-impl Entering {
+impl Enter {
     /// The key `key`, which the own table doesn't have, is to have the value block `value`: the bucket in the directory `home` names
     /// `first`, or none where it is 0.
     #[inline(always)]
-    pub fn new(me: Me, key: u32, value: u32, home: u32, first: u32) -> Entering
+    pub fn new(me: Me, key: u32, value: u32, home: u32, first: u32) -> Enter
         requires geometry { GeometryFits me.geometry }
         requires who { me.who < me.geometry.clients }
         requires value { value < address_limit }
@@ -127,7 +126,7 @@ impl Entering {
         requires first { first < address_limit }
         ensures { result ≡ entering me key value home first }
     {
-        Entering {
+        Enter {
             state: EnterState {
                 me,
                 key,
@@ -176,7 +175,7 @@ impl EnterState {
     }
 }
 
-impl Plan for Entering {
+impl Plan for Enter {
     type Call = EnterCall;
 
     type Answer = Entered;
@@ -255,7 +254,7 @@ impl EnterPoint {
     }
 }
 
-impl Deciding for Enter {
+impl Deciding for Calls<Enter> {
     ghost decided = { enter_decided };
 
     /// The step at the bucket decides.

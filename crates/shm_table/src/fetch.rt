@@ -9,10 +9,10 @@ ghost use Rattle.shm_table.specs.Fetch.Laws.{fetch_laws};
 
 use crate::answer::PutFault;
 use crate::find::Found;
-use crate::locate::{Locate, Locating};
-use crate::unlatch::{Unlatch, Unlatching};
+use crate::locate::Locate;
+use crate::unlatch::Unlatch;
 use shm_calls::{Calls, Or, Plan, Word};
-use shm_count::parts::{Rooting, ShareFault, UpRoot};
+use shm_count::parts::{ShareFault, UpRoot};
 use shm_graph::{Machine, Me};
 use shm_words::ADDRESS_LIMIT;
 use std::marker::Model;
@@ -58,18 +58,21 @@ pub struct FetchState {
 }
 
 /// Its calls.
-pub type FetchCall = Or<Locate, Or<Word, Or<UpRoot, Unlatch>>>;
+pub type FetchCall = Or<Calls<Locate>, Or<Word, Or<Calls<UpRoot>, Calls<Unlatch>>>>;
 
 /// What its calls answer.
 pub type FetchAnswer = Or<Found, Or<u64, Or<Result<u8, ShareFault>, ()>>>;
 
 /// The calls by which an identity comes to have a root of what a key has in the table of an author.
+///
+/// It answers what the key has, and the root that names it; or that no entry has the key, or why there is no root. The latch is given back
+/// then.
 #[derive(Drop)]
-pub struct Fetching {
+pub struct Fetch {
     state: FetchState,
 }
 
-impl Model for Fetching {
+impl Model for Fetch {
     ghost use Rattle.shm_table.specs.declared.fetch.FetchState.{FetchState as AState};
 
     ghost Value = { AState };
@@ -80,10 +83,6 @@ impl Model for Fetching {
 
     ghost invariant = { λ a. FetchInRange a.state };
 }
-
-/// It answers what the key has, and the root that names it; or that no entry has the key, or why there is no root. The latch is given back
-/// then.
-pub type Fetch = Calls<Fetching>;
 
 /// The address of the first word of a block after its header and its tag, or of one more.
 #[inline(always)]
@@ -107,16 +106,16 @@ pub fn shared(fault: ShareFault) -> PutFault
     }
 }
 
-impl Fetching {
+impl Fetch {
     /// What the key `key` has in the table of `author` is to be read, and to have a root of `me`.
     #[inline(always)]
-    pub fn new(me: Me, author: u8, key: u32) -> Fetching
+    pub fn new(me: Me, author: u8, key: u32) -> Fetch
         requires geometry { GeometryFits me.geometry }
         requires who { me.who < me.geometry.clients }
         requires author { author < me.geometry.clients }
         ensures { result ≡ fetching me author key }
     {
-        Fetching {
+        Fetch {
             state: FetchState {
                 me,
                 author,
@@ -166,7 +165,7 @@ impl FetchState {
     }
 }
 
-impl Plan for Fetching {
+impl Plan for Fetch {
     type Call = FetchCall;
 
     type Answer = Fetched;
@@ -190,13 +189,13 @@ impl Plan for Fetching {
             ..
         } = self.state;
         match point {
-            FetchPoint::Search => Or::First(Calls::new(Locating::new(me, author, key))),
+            FetchPoint::Search => Or::First(Calls::new(Locate::new(me, author, key))),
             FetchPoint::Value => Or::Second(Or::First(Word::load(me, word_of(entry, 1)))),
             FetchPoint::Number => Or::Second(Or::First(Word::load(me, word_of(block, 0)))),
-            FetchPoint::Share => Or::Second(Or::Second(Or::First(Calls::new(Rooting::new(
+            FetchPoint::Share => Or::Second(Or::Second(Or::First(Calls::new(UpRoot::new(
                 me, block,
             ))))),
-            FetchPoint::Give => Or::Second(Or::Second(Or::Second(Calls::new(Unlatching::new(
+            FetchPoint::Give => Or::Second(Or::Second(Or::Second(Calls::new(Unlatch::new(
                 me, author,
             ))))),
         }

@@ -10,7 +10,7 @@ ghost use Rattle.shm_table.specs.FetchHead.Laws.{fetch_head_laws};
 use crate::answer::PutFault;
 use crate::fetch::shared;
 use shm_calls::{Calls, Or, Plan, Word};
-use shm_count::parts::{Rooting, ShareFault, UpRoot};
+use shm_count::parts::{ShareFault, UpRoot};
 use shm_graph::{Machine, Me};
 use shm_words::ADDRESS_LIMIT;
 use std::marker::Model;
@@ -60,18 +60,21 @@ pub struct FetchHeadState {
 }
 
 /// Its calls.
-pub type FetchHeadCall = Or<Word, UpRoot>;
+pub type FetchHeadCall = Or<Word, Calls<UpRoot>>;
 
 /// What its calls answer.
 pub type FetchHeadAnswer = Or<u64, Result<u8, ShareFault>>;
 
 /// The calls by which an identity comes to have a root of the value block at the head of a queue.
+///
+/// It answers the value block at the head with its number and the root that names it; or that the queue has no item, or why there is no root.
+/// The item stays in the queue.
 #[derive(Drop)]
-pub struct FetchingHead {
+pub struct FetchHead {
     state: FetchHeadState,
 }
 
-impl Model for FetchingHead {
+impl Model for FetchHead {
     ghost use Rattle.shm_table.specs.declared.fetch_head.FetchHeadState.{FetchHeadState as AState};
 
     ghost Value = { AState };
@@ -83,20 +86,16 @@ impl Model for FetchingHead {
     ghost invariant = { λ a. FetchHeadInRange a.state };
 }
 
-/// It answers the value block at the head with its number and the root that names it; or that the queue has no item, or why there is no root.
-/// The item stays in the queue.
-pub type FetchHead = Calls<FetchingHead>;
-
-impl FetchingHead {
+impl FetchHead {
     /// The first item of the queue from the identity `from` is to have a root of `me`.
     #[inline(always)]
-    pub fn new(me: Me, from: u8) -> FetchingHead
+    pub fn new(me: Me, from: u8) -> FetchHead
         requires geometry { GeometryFits me.geometry }
         requires who { me.who < me.geometry.clients }
         requires from { from < me.geometry.clients }
         ensures { result ≡ fetching_head me from }
     {
-        FetchingHead {
+        FetchHead {
             state: FetchHeadState {
                 me,
                 from,
@@ -145,7 +144,7 @@ impl FetchHeadState {
     }
 }
 
-impl Plan for FetchingHead {
+impl Plan for FetchHead {
     type Call = FetchHeadCall;
 
     type Answer = FetchedHead;
@@ -176,7 +175,7 @@ impl Plan for FetchingHead {
                 Or::First(Word::load(me, slot))
             }
             FetchHeadPoint::Number => Or::First(Word::load(me, block + 2)),
-            FetchHeadPoint::Share => Or::Second(Calls::new(Rooting::new(me, block))),
+            FetchHeadPoint::Share => Or::Second(Calls::new(UpRoot::new(me, block))),
         }
     }
 

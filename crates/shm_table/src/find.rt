@@ -7,7 +7,7 @@ ghost use Rattle.shm_table.specs.Find.Control.{finding, find_goes, find_answers,
 ghost use Rattle.shm_table.specs.Find.{find_plan};
 ghost use Rattle.shm_table.specs.Find.Laws.{find_laws};
 
-use shm_calls::{Calls, Plan, Word};
+use shm_calls::{Plan, Word};
 use shm_graph::{Machine, Me};
 use shm_words::ADDRESS_LIMIT;
 use std::marker::Model;
@@ -49,12 +49,14 @@ pub struct FindState {
 }
 
 /// The word steps by which an identity looks for a key in the table of an author whose latch it holds.
+///
+/// It answers where the entry of the key is, or that there is none.
 #[derive(Drop)]
-pub struct Finding {
+pub struct Find {
     state: FindState,
 }
 
-impl Model for Finding {
+impl Model for Find {
     ghost use Rattle.shm_table.specs.declared.find.FindState.{FindState as AState};
 
     ghost Value = { AState };
@@ -65,9 +67,6 @@ impl Model for Finding {
 
     ghost invariant = { λ a. FindInRange a.state };
 }
-
-/// It answers where the entry of the key is, or that there is none.
-pub type Find = Calls<Finding>;
 
 /// The address of a word of a block, after its header and its tag.
 #[inline(always)]
@@ -156,16 +155,16 @@ fn answers(state: FindState, seen: u64, block: u32) -> Option<Found>
     }
 }
 
-impl Finding {
+impl Find {
     /// The key `key` is to be looked for in the table of `author`.
     #[inline(always)]
-    pub fn new(me: Me, author: u8, key: u32) -> Finding
+    pub fn new(me: Me, author: u8, key: u32) -> Find
         requires geometry { GeometryFits me.geometry }
         requires who { me.who < me.geometry.clients }
         requires author { author < me.geometry.clients }
         ensures { result ≡ finding me author key }
     {
-        Finding {
+        Find {
             state: FindState {
                 me,
                 author,
@@ -181,7 +180,7 @@ impl Finding {
     }
 }
 
-impl Plan for Finding {
+impl Plan for Find {
     type Call = Word;
 
     type Answer = Found;

@@ -13,8 +13,8 @@ ghost use Rattle.shm_table.specs.Get.Laws.{get_laws};
 ghost use Rattle.shm_table.specs.TableTasks.{GetMay, get_task};
 
 use crate::find::Found;
-use crate::locate::{Locate, Locating};
-use crate::unlatch::{Unlatch, Unlatching};
+use crate::locate::Locate;
+use crate::unlatch::Unlatch;
 use shm_calls::{Calls, Or, Plan, Task, Word};
 use shm_graph::{Ask, Machine, Me, Turn};
 use shm_script::Answer;
@@ -205,7 +205,7 @@ impl GetState {
 }
 
 impl Plan for Getting {
-    type Call = Or<Locate, Or<Word, Unlatch>>;
+    type Call = Or<Calls<Locate>, Or<Word, Calls<Unlatch>>>;
 
     type Answer = Answer;
 
@@ -217,7 +217,7 @@ impl Plan for Getting {
     }
 
     #[inline(always)]
-    fn call(&self) -> Or<Locate, Or<Word, Unlatch>> {
+    fn call(&self) -> Or<Calls<Locate>, Or<Word, Calls<Unlatch>>> {
         let GetState {
             me,
             author,
@@ -228,11 +228,11 @@ impl Plan for Getting {
             ..
         } = self.state;
         match point {
-            GetPoint::Search => Or::First(Calls::new(Locating::new(me, author, key))),
+            GetPoint::Search => Or::First(Calls::new(Locate::new(me, author, key))),
             GetPoint::Value => Or::Second(Or::First(Word::load(me, word_of(entry, 1)))),
             GetPoint::Number => Or::Second(Or::First(Word::load(me, word_of(block, 0)))),
-            GetPoint::Missing => { Or::Second(Or::Second(Calls::new(Unlatching::new(me, author)))) }
-            GetPoint::Known => Or::Second(Or::Second(Calls::new(Unlatching::new(me, author)))),
+            GetPoint::Missing => { Or::Second(Or::Second(Calls::new(Unlatch::new(me, author)))) }
+            GetPoint::Known => Or::Second(Or::Second(Calls::new(Unlatch::new(me, author)))),
         }
     }
 

@@ -6,10 +6,10 @@ ghost use Rattle.shm_table.specs.Locate.Control.{locating};
 ghost use Rattle.shm_table.specs.Locate.{locate_plan};
 ghost use Rattle.shm_table.specs.Locate.Laws.{locate_laws};
 
-use crate::find::{Find, Finding, Found};
+use crate::find::{Find, Found};
 use shm_calls::{Calls, Or, Plan};
 use shm_graph::{Machine, Me};
-use shm_ref::{Busy, Hold, Holding};
+use shm_ref::{Busy, Hold};
 use std::marker::Model;
 
 /// Which call of it comes next.
@@ -33,12 +33,14 @@ pub struct LocateState {
 }
 
 /// The calls by which an identity takes the latch of an author and looks for a key in its table.
+///
+/// It tries for the latch until it has it, and answers as the search; the latch is then held.
 #[derive(Drop)]
-pub struct Locating {
+pub struct Locate {
     state: LocateState,
 }
 
-impl Model for Locating {
+impl Model for Locate {
     ghost use Rattle.shm_table.specs.declared.locate.LocateState.{LocateState as AState};
 
     ghost Value = { AState };
@@ -50,19 +52,16 @@ impl Model for Locating {
     ghost invariant = { λ a. LocateInRange a.state };
 }
 
-/// It tries for the latch until it has it, and answers as the search; the latch is then held.
-pub type Locate = Calls<Locating>;
-
-impl Locating {
+impl Locate {
     /// The key `key` is to be looked for in the table of `author`, whose latch isn't held yet.
     #[inline(always)]
-    pub fn new(me: Me, author: u8, key: u32) -> Locating
+    pub fn new(me: Me, author: u8, key: u32) -> Locate
         requires geometry { GeometryFits me.geometry }
         requires who { me.who < me.geometry.clients }
         requires author { author < me.geometry.clients }
         ensures { result ≡ locating me author key }
     {
-        Locating {
+        Locate {
             state: LocateState {
                 me,
                 author,
@@ -73,8 +72,8 @@ impl Locating {
     }
 }
 
-impl Plan for Locating {
-    type Call = Or<Hold, Find>;
+impl Plan for Locate {
+    type Call = Or<Calls<Hold>, Calls<Find>>;
 
     type Answer = Found;
 
@@ -86,7 +85,7 @@ impl Plan for Locating {
     }
 
     #[inline(always)]
-    fn call(&self) -> Or<Hold, Find> {
+    fn call(&self) -> Or<Calls<Hold>, Calls<Find>> {
         let LocateState {
             me,
             author,
@@ -94,9 +93,9 @@ impl Plan for Locating {
             point,
         } = self.state;
         match point {
-            LocatePoint::Take => Or::First(Calls::new(Holding::new(me, author))),
-            LocatePoint::Again => Or::First(Calls::new(Holding::new(me, author))),
-            LocatePoint::Search => Or::Second(Calls::new(Finding::new(me, author, key))),
+            LocatePoint::Take => Or::First(Calls::new(Hold::new(me, author))),
+            LocatePoint::Again => Or::First(Calls::new(Hold::new(me, author))),
+            LocatePoint::Search => Or::Second(Calls::new(Find::new(me, author, key))),
         }
     }
 

@@ -11,7 +11,7 @@ use shm_alloc::{Alloc, AllocFault, Request};
 use shm_calls::{Calls, Or, Plan, Word};
 use shm_count::{EraSpent, Made, StepUp, UpFault};
 use shm_graph::{Machine, Me};
-use shm_ref::{DropRoot, Dropping};
+use shm_ref::DropRoot;
 use shm_words::ADDRESS_LIMIT;
 use std::marker::Model;
 
@@ -38,7 +38,7 @@ pub struct OpenState {
 }
 
 /// Its calls: a word step, an allocation, a step up, and the drop of a root.
-pub type OpenCall = Or<Word, Or<Alloc, Or<StepUp, DropRoot>>>;
+pub type OpenCall = Or<Word, Or<Alloc, Or<StepUp, Calls<DropRoot>>>>;
 
 /// What its calls answer.
 pub type OpenAnswer = Or<
@@ -47,12 +47,14 @@ pub type OpenAnswer = Or<
 >;
 
 /// The calls by which the home of an identity comes to name a directory.
+///
+/// It answers `PutFault` where no directory was made, or a count step was refused.
 #[derive(Drop)]
-pub struct Opening {
+pub struct OpenTable {
     state: OpenState,
 }
 
-impl Model for Opening {
+impl Model for OpenTable {
     ghost use Rattle.shm_table.specs.declared.open_table.OpenState.{OpenState as AState};
 
     ghost Value = { AState };
@@ -63,9 +65,6 @@ impl Model for Opening {
 
     ghost invariant = { λ a. OpenInRange a.state };
 }
-
-/// It answers `PutFault` where no directory was made, or a count step was refused.
-pub type OpenTable = Calls<Opening>;
 
 /// What a directory is to hold: 16 empty reference words.
 #[inline(always)]
@@ -79,15 +78,15 @@ fn directory() -> Request
     }
 }
 
-impl Opening {
+impl OpenTable {
     /// The home of the identity `me` is to name a directory.
     #[inline(always)]
-    pub fn new(me: Me) -> Opening
+    pub fn new(me: Me) -> OpenTable
         requires geometry { GeometryFits me.geometry }
         requires who { me.who < me.geometry.clients }
         ensures { result ≡ opening me }
     {
-        Opening {
+        OpenTable {
             state: OpenState {
                 me,
                 root: 0,
@@ -98,7 +97,7 @@ impl Opening {
     }
 }
 
-impl Plan for Opening {
+impl Plan for OpenTable {
     type Call = OpenCall;
 
     type Answer = Result<(), PutFault>;
@@ -123,7 +122,7 @@ impl Plan for Opening {
             OpenPoint::Look => Or::First(Word::load(me, home)),
             OpenPoint::Make => Or::Second(Or::First(Alloc::asked(me, directory()))),
             OpenPoint::Name => Or::Second(Or::Second(Or::First(StepUp::new(me, home, block)))),
-            OpenPoint::Drop => Or::Second(Or::Second(Or::Second(Calls::new(Dropping::new(
+            OpenPoint::Drop => Or::Second(Or::Second(Or::Second(Calls::new(DropRoot::new(
                 me, root,
             ))))),
         }

@@ -25,7 +25,7 @@ use shm_alloc::{Alloc, AllocFault, Request};
 use shm_calls::{Calls, Or, Plan, Task};
 use shm_count::{EraSpent, Made};
 use shm_graph::{Ask, Machine, Me, Turn};
-use shm_ref::{DropRoot, Dropping};
+use shm_ref::DropRoot;
 use shm_script::Answer;
 use shm_words::ADDRESS_LIMIT;
 use std::marker::Model;
@@ -56,7 +56,7 @@ pub struct PutState {
 }
 
 /// Its calls.
-pub type PutCall = Or<Alloc, Or<PutRoot, DropRoot>>;
+pub type PutCall = Or<Alloc, Or<PutRoot, Calls<DropRoot>>>;
 
 /// What its calls answer.
 pub type PutAnswer = Or<
@@ -253,7 +253,7 @@ impl Plan for Putting {
         match point {
             PutPoint::Make => Or::First(Alloc::asked(me, value(number))),
             PutPoint::Put => Or::Second(Or::First(PutRoot::new(me, key, block))),
-            PutPoint::Drop => Or::Second(Or::Second(Calls::new(Dropping::new(me, root)))),
+            PutPoint::Drop => Or::Second(Or::Second(Calls::new(DropRoot::new(me, root)))),
         }
     }
 

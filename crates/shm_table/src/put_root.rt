@@ -17,16 +17,16 @@ ghost use Rattle.shm_table.specs.Replace.Laws.{replace_laws};
 
 use crate::answer::PutFault;
 use crate::effect::Deciding;
-use crate::enter::{Enter, Entered, Entering};
+use crate::enter::{Enter, Entered};
 use crate::find::Found;
-use crate::locate::{Locate, Locating};
-use crate::open_table::{OpenTable, Opening};
-use crate::replace::{Replace, Replacing};
-use crate::unlatch::{Unlatch, Unlatching};
+use crate::locate::Locate;
+use crate::open_table::OpenTable;
+use crate::replace::Replace;
+use crate::unlatch::Unlatch;
 use shm_calls::{Calls, Or, Plan};
 use shm_count::EraSpent;
 use shm_graph::{Ask, Machine, Me, Turn};
-use shm_ref::{DropRoot, Dropping};
+use shm_ref::DropRoot;
 use shm_words::ADDRESS_LIMIT;
 use std::marker::Model;
 
@@ -64,7 +64,10 @@ pub struct PutRootState {
 }
 
 /// Its calls.
-pub type PutRootCall = Or<Or<OpenTable, Locate>, Or<Or<Replace, Enter>, Or<Unlatch, DropRoot>>>;
+pub type PutRootCall = Or<
+    Or<Calls<OpenTable>, Calls<Locate>>,
+    Or<Or<Calls<Replace>, Calls<Enter>>, Or<Calls<Unlatch>, Calls<DropRoot>>>,
+>;
 
 /// What its calls answer.
 pub type PutRootAnswer = Or<
@@ -279,20 +282,18 @@ impl Plan for PuttingRoot {
             ..
         } = self.state;
         match point {
-            PutRootPoint::Open => Or::First(Or::First(Calls::new(Opening::new(me)))),
-            PutRootPoint::Locate => Or::First(Or::Second(Calls::new(Locating::new(
-                me, me.who, key,
-            )))),
+            PutRootPoint::Open => Or::First(Or::First(Calls::new(OpenTable::new(me)))),
+            PutRootPoint::Locate => Or::First(Or::Second(Calls::new(Locate::new(me, me.who, key)))),
             PutRootPoint::Replace => {
-                Or::Second(Or::First(Or::First(Calls::new(Replacing::new(me, entry, value)))))
+                Or::Second(Or::First(Or::First(Calls::new(Replace::new(me, entry, value)))))
             }
-            PutRootPoint::Enter => Or::Second(Or::First(Or::Second(Calls::new(Entering::new(
+            PutRootPoint::Enter => Or::Second(Or::First(Or::Second(Calls::new(Enter::new(
                 me, key, value, home, first,
             ))))),
             PutRootPoint::Unlatch => {
-                Or::Second(Or::Second(Or::First(Calls::new(Unlatching::new(me, me.who)))))
+                Or::Second(Or::Second(Or::First(Calls::new(Unlatch::new(me, me.who)))))
             }
-            PutRootPoint::Drop => Or::Second(Or::Second(Or::Second(Calls::new(Dropping::new(
+            PutRootPoint::Drop => Or::Second(Or::Second(Or::Second(Calls::new(DropRoot::new(
                 me,
                 root.unwrap_or(0),
             ))))),

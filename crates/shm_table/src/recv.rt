@@ -22,13 +22,13 @@ ghost use Rattle.shm_table.specs.TableTasks.{RecvMay, recv_task};
 use crate::answer::PutFault;
 use crate::copy::{answer, stuck};
 use crate::effect::Deciding;
-use crate::fetch_head::{FetchHead, FetchedHead, FetchingHead};
+use crate::fetch_head::{FetchHead, FetchedHead};
 use crate::put_root::{PutRoot, settled};
-use crate::take_head::{TakeHead, TakingHead};
+use crate::take_head::TakeHead;
 use shm_calls::{Calls, Or, Plan, Task};
 use shm_count::EraSpent;
 use shm_graph::{Ask, Machine, Me, Turn};
-use shm_ref::{DropRoot, Dropping};
+use shm_ref::DropRoot;
 use shm_script::Answer;
 use shm_words::ADDRESS_LIMIT;
 use std::marker::Model;
@@ -63,7 +63,7 @@ pub struct RecvState {
 }
 
 /// Its calls.
-pub type RecvCall = Or<Or<FetchHead, TakeHead>, Or<PutRoot, DropRoot>>;
+pub type RecvCall = Or<Or<Calls<FetchHead>, Calls<TakeHead>>, Or<PutRoot, Calls<DropRoot>>>;
 
 /// What its calls answer.
 pub type RecvAnswer = Or<
@@ -277,12 +277,12 @@ impl Plan for ReceivingKey {
             ..
         } = self.state;
         match point {
-            RecvPoint::Fetch => Or::First(Or::First(Calls::new(FetchingHead::new(me, from)))),
-            RecvPoint::Take => Or::First(Or::Second(Calls::new(TakingHead::new(
+            RecvPoint::Fetch => Or::First(Or::First(Calls::new(FetchHead::new(me, from)))),
+            RecvPoint::Take => Or::First(Or::Second(Calls::new(TakeHead::new(
                 me, from, at, block,
             )))),
             RecvPoint::Put => Or::Second(Or::First(PutRoot::new(me, key, block))),
-            RecvPoint::Drop => Or::Second(Or::Second(Calls::new(Dropping::new(me, root)))),
+            RecvPoint::Drop => Or::Second(Or::Second(Calls::new(DropRoot::new(me, root)))),
         }
     }
 

@@ -44,12 +44,15 @@ pub type ReplaceCall = Or<Word, Or<StepChange, TearDown>>;
 pub type ReplaceAnswer = Or<u64, Or<Result<bool, UpFault>, Result<(), EraSpent>>>;
 
 /// The calls by which an entry of the own table comes to have another value block.
+///
+/// It answers whether the entry came to have the value block, or had it already, and a `PutFault` where the change was refused; a tear-down
+/// that is refused leaves blocks behind, and changes no answer.
 #[derive(Drop)]
-pub struct Replacing {
+pub struct Replace {
     state: ReplaceState,
 }
 
-impl Model for Replacing {
+impl Model for Replace {
     ghost use Rattle.shm_table.specs.declared.replace.ReplaceState.{ReplaceState as AState};
 
     ghost Value = { AState };
@@ -61,21 +64,17 @@ impl Model for Replacing {
     ghost invariant = { λ a. ReplaceInRange a.state };
 }
 
-/// It answers whether the entry came to have the value block, or had it already, and a `PutFault` where the change was refused; a tear-down
-/// that is refused leaves blocks behind, and changes no answer.
-pub type Replace = Calls<Replacing>;
-
-impl Replacing {
+impl Replace {
     /// The value block of `entry` is to be `to`.
     #[inline(always)]
-    pub fn new(me: Me, entry: u32, to: u32) -> Replacing
+    pub fn new(me: Me, entry: u32, to: u32) -> Replace
         requires geometry { GeometryFits me.geometry }
         requires who { me.who < me.geometry.clients }
         requires entry { entry < address_limit }
         requires to { to < address_limit }
         ensures { result ≡ replacing me entry to }
     {
-        Replacing {
+        Replace {
             state: ReplaceState {
                 me,
                 entry,
@@ -119,7 +118,7 @@ impl ReplaceState {
     }
 }
 
-impl Plan for Replacing {
+impl Plan for Replace {
     type Call = ReplaceCall;
 
     type Answer = Result<bool, PutFault>;
@@ -164,7 +163,7 @@ impl Plan for Replacing {
     ghost laws = { replace_laws };
 }
 
-impl Deciding for Replace {
+impl Deciding for Calls<Replace> {
     ghost decided = { replace_decided };
 
     /// The change decides, and a tear-down comes after it.

@@ -13,11 +13,11 @@ ghost use Rattle.shm_table.specs.SendKey.Laws.{send_key_laws};
 ghost use Rattle.shm_table.specs.TableTasks.{SendKeyMay, send_key_task};
 
 use crate::find::Found;
-use crate::locate::{Locate, Locating};
-use crate::unlatch::{Unlatch, Unlatching};
+use crate::locate::Locate;
+use crate::unlatch::Unlatch;
 use shm_calls::{Calls, Or, Plan, Task, Word};
 use shm_graph::{Ask, Machine, Me, Turn};
-use shm_queue::{Send, SendFault, Sending};
+use shm_queue::{Send, SendFault};
 use shm_script::Answer;
 use shm_words::ADDRESS_LIMIT;
 use std::marker::Model;
@@ -48,7 +48,7 @@ pub struct SendKeyState {
 }
 
 /// Its calls.
-pub type SendKeyCall = Or<Locate, Or<Word, Or<Send, Unlatch>>>;
+pub type SendKeyCall = Or<Calls<Locate>, Or<Word, Or<Calls<Send>, Calls<Unlatch>>>>;
 
 /// What its calls answer.
 pub type SendKeyAnswer = Or<Found, Or<u64, Or<Result<u64, SendFault>, ()>>>;
@@ -232,14 +232,14 @@ impl Plan for SendingKey {
             ..
         } = self.state;
         match point {
-            SendKeyPoint::Search => Or::First(Calls::new(Locating::new(me, me.who, key))),
+            SendKeyPoint::Search => Or::First(Calls::new(Locate::new(me, me.who, key))),
             SendKeyPoint::Value => Or::Second(Or::First(Word::load(me, value_word(entry)))),
             SendKeyPoint::Send => {
-                let send = Calls::new(Sending::new(me, to, block));
+                let send = Calls::new(Send::new(me, to, block));
                 Or::Second(Or::Second(Or::First(send)))
             }
             SendKeyPoint::Give => {
-                let give = Calls::new(Unlatching::new(me, me.who));
+                let give = Calls::new(Unlatch::new(me, me.who));
                 Or::Second(Or::Second(Or::Second(give)))
             }
         }

@@ -6,7 +6,7 @@ ghost use Rattle.shm_table.specs.TakeHead.Control.{taking_head};
 ghost use Rattle.shm_table.specs.TakeHead.{take_head_plan};
 ghost use Rattle.shm_table.specs.TakeHead.Laws.{take_head_laws};
 
-use shm_calls::{Calls, Or, Plan, Word};
+use shm_calls::{Or, Plan, Word};
 use shm_count::{EraSpent, StepDown};
 use shm_graph::{Machine, Me};
 use std::marker::Model;
@@ -37,12 +37,14 @@ pub type TakeHeadCall = Or<Word, StepDown>;
 pub type TakeHeadAnswer = Or<u64, Result<bool, EraSpent>>;
 
 /// The calls by which an identity takes an item that is known.
+///
+/// It answers `EraSpent` where the own era is above 2^47 - 3: the item stays in the queue then, and the head isn't stored.
 #[derive(Drop)]
-pub struct TakingHead {
+pub struct TakeHead {
     state: TakeHeadState,
 }
 
-impl Model for TakingHead {
+impl Model for TakeHead {
     ghost use Rattle.shm_table.specs.declared.take_head.TakeHeadState.{TakeHeadState as AState};
 
     ghost Value = { AState };
@@ -54,20 +56,17 @@ impl Model for TakingHead {
     ghost invariant = { λ a. TakeHeadInRange a.state };
 }
 
-/// It answers `EraSpent` where the own era is above 2^47 - 3: the item stays in the queue then, and the head isn't stored.
-pub type TakeHead = Calls<TakingHead>;
-
-impl TakingHead {
+impl TakeHead {
     /// The item `block` of the queue from the identity `from`, whose head is `at`, before the first call.
     #[inline(always)]
-    pub fn new(me: Me, from: u8, at: u64, block: u32) -> TakingHead
+    pub fn new(me: Me, from: u8, at: u64, block: u32) -> TakeHead
         requires geometry { GeometryFits me.geometry }
         requires who { me.who < me.geometry.clients }
         requires from { from < me.geometry.clients }
         requires block { block < address_limit }
         ensures { result ≡ taking_head me from at block }
     {
-        TakingHead {
+        TakeHead {
             state: TakeHeadState {
                 me,
                 from,
@@ -79,7 +78,7 @@ impl TakingHead {
     }
 }
 
-impl Plan for TakingHead {
+impl Plan for TakeHead {
     type Call = TakeHeadCall;
 
     type Answer = Result<(), EraSpent>;

@@ -5,7 +5,7 @@ ghost use Rattle.shm_words.specs.Layout.{GeometryFits};
 ghost use Rattle.shm_table.specs.Unlatch.{unlatching, unlatch_plan};
 ghost use Rattle.shm_table.specs.Unlatch.Laws.{unlatch_laws};
 
-use shm_calls::{Calls, Plan, Word};
+use shm_calls::{Plan, Word};
 use shm_graph::{Machine, Me};
 use std::marker::Model;
 
@@ -27,12 +27,14 @@ pub struct UnlatchState {
 }
 
 /// The word steps by which an identity gives back the latch of an author.
+///
+/// After it no latch is held, and nothing that was read under it is looked at.
 #[derive(Drop)]
-pub struct Unlatching {
+pub struct Unlatch {
     state: UnlatchState,
 }
 
-impl Model for Unlatching {
+impl Model for Unlatch {
     ghost use Rattle.shm_table.specs.declared.unlatch.UnlatchState.{UnlatchState as AState};
 
     ghost Value = { AState };
@@ -44,19 +46,16 @@ impl Model for Unlatching {
     ghost invariant = { λ a. UnlatchInRange a.state };
 }
 
-/// After it no latch is held, and nothing that was read under it is looked at.
-pub type Unlatch = Calls<Unlatching>;
-
-impl Unlatching {
+impl Unlatch {
     /// The latch of `author`, which the identity `me` holds, is to be given back.
     #[inline(always)]
-    pub fn new(me: Me, author: u8) -> Unlatching
+    pub fn new(me: Me, author: u8) -> Unlatch
         requires geometry { GeometryFits me.geometry }
         requires who { me.who < me.geometry.clients }
         requires author { author < me.geometry.clients }
         ensures { result ≡ unlatching me author }
     {
-        Unlatching {
+        Unlatch {
             state: UnlatchState {
                 me,
                 author,
@@ -66,7 +65,7 @@ impl Unlatching {
     }
 }
 
-impl Plan for Unlatching {
+impl Plan for Unlatch {
     type Call = Word;
 
     type Answer = ();

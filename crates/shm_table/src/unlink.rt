@@ -50,12 +50,14 @@ pub type UnlinkAnswer = Or<
 >;
 
 /// The calls by which an entry of the own table is taken out of its chain.
+///
+/// It answers an `UpFault` where the word stays what it was; a tear-down that is refused leaves blocks behind, and changes no answer.
 #[derive(Drop)]
-pub struct Unlinking {
+pub struct Unlink {
     state: UnlinkState,
 }
 
-impl Model for Unlinking {
+impl Model for Unlink {
     ghost use Rattle.shm_table.specs.declared.unlink.UnlinkState.{UnlinkState as AState};
 
     ghost Value = { AState };
@@ -66,9 +68,6 @@ impl Model for Unlinking {
 
     ghost invariant = { λ a. UnlinkInRange a.state };
 }
-
-/// It answers an `UpFault` where the word stays what it was; a tear-down that is refused leaves blocks behind, and changes no answer.
-pub type Unlink = Calls<Unlinking>;
 
 /// The address of a word of a block, after its header and its tag.
 #[inline(always)]
@@ -88,17 +87,17 @@ fn refused(spent: EraSpent) -> UpFault
     UpFault::EraSpent { era: spent.era }
 }
 
-impl Unlinking {
+impl Unlink {
     /// The entry `entry`, to which word `word` of block `before` leads, is to go.
     #[inline(always)]
-    pub fn new(me: Me, entry: u32, before: u32, word: u8) -> Unlinking
+    pub fn new(me: Me, entry: u32, before: u32, word: u8) -> Unlink
         requires geometry { GeometryFits me.geometry }
         requires who { me.who < me.geometry.clients }
         requires entry { entry < address_limit }
         requires before { before < address_limit }
         ensures { result ≡ unlinking me entry before word }
     {
-        Unlinking {
+        Unlink {
             state: UnlinkState {
                 me,
                 entry,
@@ -141,7 +140,7 @@ impl UnlinkState {
     }
 }
 
-impl Plan for Unlinking {
+impl Plan for Unlink {
     type Call = UnlinkCall;
 
     type Answer = Result<(), UpFault>;
@@ -192,7 +191,7 @@ impl Plan for Unlinking {
     ghost laws = { unlink_laws };
 }
 
-impl Deciding for Unlink {
+impl Deciding for Calls<Unlink> {
     ghost decided = { unlink_decided };
 
     /// The step at the word that leads to the entry decides, and a tear-down comes after it.

@@ -3,7 +3,7 @@
 ghost use Rattle.std.specs.Prelude.{◌<◌};
 ghost use Rattle.shm_words.specs.Layout.{GeometryFits};
 
-use shm_count::{StepChange, StepDown, StepUp, TearDown, Testing};
+use shm_count::{CommitTest, StepChange, StepDown, StepUp, TearDown};
 use shm_graph::Me;
 use shm_runs::{Case, address, go, go_calls};
 use std::io;
@@ -50,11 +50,11 @@ fn step_change(me: Me, f: &[u64; 6]) -> Option<StepChange>
 }
 
 /// who, block, era
-fn commit_test(me: Me, f: &[u64; 6]) -> Option<Testing>
+fn commit_test(me: Me, f: &[u64; 6]) -> Option<CommitTest>
     requires fits { GeometryFits me.geometry }
     requires who { me.who < me.geometry.clients }
 {
-    Some(Testing::new(me, address(f[1])?, f[2]))
+    Some(CommitTest::new(me, address(f[1])?, f[2]))
 }
 
 /// who, block

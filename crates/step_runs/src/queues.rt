@@ -4,7 +4,7 @@ ghost use Rattle.std.specs.Prelude.{◌<◌};
 ghost use Rattle.shm_words.specs.Layout.{GeometryFits};
 
 use shm_graph::Me;
-use shm_queue::{Draining, Peeking, Receiving, Sending, Taking};
+use shm_queue::{Drain, Peek, Receive, Send, Take};
 use shm_runs::{Case, address, client, go_calls};
 use std::io;
 
@@ -18,40 +18,40 @@ pub fn run(rt: &HostRuntime, case: &mut Case, me: Me, name: &str, f: &[u64; 6]) 
         "take" => go_calls(rt, take(me, f), case)?,
         "peek" => go_calls(rt, peek(me, f), case)?,
         "receive" => go_calls(rt, receive(me, f), case)?,
-        "drain" => go_calls(rt, Some(Draining::new(me)), case)?,
+        "drain" => go_calls(rt, Some(Drain::new(me)), case)?,
         _ => return Ok(false),
     }
     Ok(true)
 }
 
 /// who, to, block
-fn send(me: Me, f: &[u64; 6]) -> Option<Sending>
+fn send(me: Me, f: &[u64; 6]) -> Option<Send>
     requires fits { GeometryFits me.geometry }
     requires who { me.who < me.geometry.clients }
 {
-    Some(Sending::new(me, client(me, f[1])?, address(f[2])?))
+    Some(Send::new(me, client(me, f[1])?, address(f[2])?))
 }
 
 /// who, from
-fn take(me: Me, f: &[u64; 6]) -> Option<Taking>
+fn take(me: Me, f: &[u64; 6]) -> Option<Take>
     requires fits { GeometryFits me.geometry }
     requires who { me.who < me.geometry.clients }
 {
-    Some(Taking::new(me, client(me, f[1])?))
+    Some(Take::new(me, client(me, f[1])?))
 }
 
 /// who, from
-fn peek(me: Me, f: &[u64; 6]) -> Option<Peeking>
+fn peek(me: Me, f: &[u64; 6]) -> Option<Peek>
     requires fits { GeometryFits me.geometry }
     requires who { me.who < me.geometry.clients }
 {
-    Some(Peeking::new(me, client(me, f[1])?))
+    Some(Peek::new(me, client(me, f[1])?))
 }
 
 /// who, from
-fn receive(me: Me, f: &[u64; 6]) -> Option<Receiving>
+fn receive(me: Me, f: &[u64; 6]) -> Option<Receive>
     requires fits { GeometryFits me.geometry }
     requires who { me.who < me.geometry.clients }
 {
-    Some(Receiving::new(me, client(me, f[1])?))
+    Some(Receive::new(me, client(me, f[1])?))
 }

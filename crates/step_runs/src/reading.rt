@@ -4,7 +4,7 @@ ghost use Rattle.std.specs.Prelude.{◌<◌};
 ghost use Rattle.shm_words.specs.Layout.{GeometryFits};
 
 use shm_graph::Me;
-use shm_ref::{FindingHome, Holding, Looking, Naming, Reading, Releasing};
+use shm_ref::{Hold, HomeOf, Look, Read, Release, RootOf};
 use shm_runs::{Case, address, byte, client, go_calls, root};
 use std::io;
 
@@ -14,7 +14,7 @@ pub fn run(rt: &HostRuntime, case: &mut Case, me: Me, name: &str, f: &[u64; 6]) 
     requires who { me.who < me.geometry.clients }
 {
     match name {
-        "release" => go_calls(rt, Some(Releasing::new(me)), case)?,
+        "release" => go_calls(rt, Some(Release::new(me)), case)?,
         "hold" => go_calls(rt, hold(me, f), case)?,
         "home_of" => go_calls(rt, home_of(me, f), case)?,
         "root_of" => go_calls(rt, root_of(me, f), case)?,
@@ -26,41 +26,41 @@ pub fn run(rt: &HostRuntime, case: &mut Case, me: Me, name: &str, f: &[u64; 6]) 
 }
 
 /// who, author
-fn hold(me: Me, f: &[u64; 6]) -> Option<Holding>
+fn hold(me: Me, f: &[u64; 6]) -> Option<Hold>
     requires fits { GeometryFits me.geometry }
     requires who { me.who < me.geometry.clients }
 {
-    Some(Holding::new(me, client(me, f[1])?))
+    Some(Hold::new(me, client(me, f[1])?))
 }
 
 /// who, author
-fn home_of(me: Me, f: &[u64; 6]) -> Option<FindingHome>
+fn home_of(me: Me, f: &[u64; 6]) -> Option<HomeOf>
     requires fits { GeometryFits me.geometry }
     requires who { me.who < me.geometry.clients }
 {
-    Some(FindingHome::new(me, client(me, f[1])?))
+    Some(HomeOf::new(me, client(me, f[1])?))
 }
 
 /// who, root
-fn root_of(me: Me, f: &[u64; 6]) -> Option<Naming>
+fn root_of(me: Me, f: &[u64; 6]) -> Option<RootOf>
     requires fits { GeometryFits me.geometry }
     requires who { me.who < me.geometry.clients }
 {
-    Some(Naming::new(me, root(f[1])?))
+    Some(RootOf::new(me, root(f[1])?))
 }
 
 /// who, block, index
-fn look(me: Me, f: &[u64; 6]) -> Option<Looking>
+fn look(me: Me, f: &[u64; 6]) -> Option<Look>
     requires fits { GeometryFits me.geometry }
     requires who { me.who < me.geometry.clients }
 {
-    Some(Looking::new(me, address(f[1])?, byte(f[2])?))
+    Some(Look::new(me, address(f[1])?, byte(f[2])?))
 }
 
 /// who, block, index
-fn read(me: Me, f: &[u64; 6]) -> Option<Reading>
+fn read(me: Me, f: &[u64; 6]) -> Option<Read>
     requires fits { GeometryFits me.geometry }
     requires who { me.who < me.geometry.clients }
 {
-    Some(Reading::new(me, address(f[1])?, byte(f[2])?))
+    Some(Read::new(me, address(f[1])?, byte(f[2])?))
 }

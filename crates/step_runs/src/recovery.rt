@@ -4,8 +4,8 @@ ghost use Rattle.std.specs.Prelude.{◌<◌};
 ghost use Rattle.shm_words.specs.Layout.{GeometryFits};
 
 use shm_graph::Me;
-use shm_recover::parts::{Finishing, TakingBack};
-use shm_recover::{Join, Leaving, Mending, Recovering, Scanning};
+use shm_recover::parts::{FinishTakes, TakeBack};
+use shm_recover::{Join, Leave, Mend, Recover, Scan};
 use shm_runs::{Case, go, go_calls};
 use std::io;
 
@@ -16,8 +16,8 @@ pub fn run(rt: &HostRuntime, case: &mut Case, me: Me, name: &str) -> io::Result<
 {
     match name {
         "join" => go(rt, Some(Join::new(me)), case)?,
-        "leave" => go_calls(rt, Some(Leaving::new(me)), case)?,
-        "recover" => go_calls(rt, Some(Recovering::new(me)), case)?,
+        "leave" => go_calls(rt, Some(Leave::new(me)), case)?,
+        "recover" => go_calls(rt, Some(Recover::new(me)), case)?,
         _ => return run_part(rt, case, me, name),
     }
     Ok(true)
@@ -29,8 +29,8 @@ fn run_part(rt: &HostRuntime, case: &mut Case, me: Me, name: &str) -> io::Result
     requires who { me.who < me.geometry.clients }
 {
     match name {
-        "mend" => go_calls(rt, Some(Mending::new(me)), case)?,
-        "scan" => go_calls(rt, Some(Scanning::new(me)), case)?,
+        "mend" => go_calls(rt, Some(Mend::new(me)), case)?,
+        "scan" => go_calls(rt, Some(Scan::new(me)), case)?,
         "take_back" => go_calls(rt, take_back(me), case)?,
         "finish_takes" => go_calls(rt, finish_takes(me), case)?,
         _ => return Ok(false),
@@ -38,23 +38,23 @@ fn run_part(rt: &HostRuntime, case: &mut Case, me: Me, name: &str) -> io::Result
     Ok(true)
 }
 
-fn take_back(me: Me) -> Option<TakingBack>
+fn take_back(me: Me) -> Option<TakeBack>
     requires fits { GeometryFits me.geometry }
     requires who { me.who < me.geometry.clients }
 {
     if me.geometry.clients() > 1 {
-        Some(TakingBack::new(me))
+        Some(TakeBack::new(me))
     } else {
         None
     }
 }
 
-fn finish_takes(me: Me) -> Option<Finishing>
+fn finish_takes(me: Me) -> Option<FinishTakes>
     requires fits { GeometryFits me.geometry }
     requires who { me.who < me.geometry.clients }
 {
     if me.geometry.clients() > 1 {
-        Some(Finishing::new(me))
+        Some(FinishTakes::new(me))
     } else {
         None
     }

@@ -4,8 +4,8 @@ ghost use Rattle.std.specs.Prelude.{◌<◌, ◌≤◌, ◌+◌, IfSome};
 ghost use Rattle.shm_words.specs.Layout.{GeometryFits, total_of};
 
 use shm_graph::Me;
-use shm_ref::parts::DroppingRoots;
-use shm_ref::{Dropping, Homing, Setting, Sharing};
+use shm_ref::parts::DropRoots;
+use shm_ref::{DropRoot, SetHome, SetRef, Share};
 use shm_runs::{Case, address, byte, go_calls, root};
 use std::io;
 
@@ -19,18 +19,18 @@ pub fn run(rt: &HostRuntime, case: &mut Case, me: Me, name: &str, f: &[u64; 6]) 
         "set_ref" => go_calls(rt, set_ref(me, f), case)?,
         "share" => go_calls(rt, share(me, f), case)?,
         "drop_root" => go_calls(rt, drop_root(me, f), case)?,
-        "drop_roots" => go_calls(rt, Some(DroppingRoots::new(me)), case)?,
+        "drop_roots" => go_calls(rt, Some(DropRoots::new(me)), case)?,
         _ => return Ok(false),
     }
     Ok(true)
 }
 
 /// who, block
-fn set_home(me: Me, f: &[u64; 6]) -> Option<Homing>
+fn set_home(me: Me, f: &[u64; 6]) -> Option<SetHome>
     requires fits { GeometryFits me.geometry }
     requires who { me.who < me.geometry.clients }
 {
-    Some(Homing::new(me, address(f[1])?))
+    Some(SetHome::new(me, address(f[1])?))
 }
 
 /// A block whose header and tag lie in the pool.
@@ -47,26 +47,26 @@ fn block(me: Me, number: u64) -> Option<u32>
 }
 
 /// who, block, index, target
-fn set_ref(me: Me, f: &[u64; 6]) -> Option<Setting>
+fn set_ref(me: Me, f: &[u64; 6]) -> Option<SetRef>
     requires fits { GeometryFits me.geometry }
     requires who { me.who < me.geometry.clients }
 {
     let (block, target) = (block(me, f[1])?, address(f[3])?);
-    Some(Setting::new(me, block, byte(f[2])?, target))
+    Some(SetRef::new(me, block, byte(f[2])?, target))
 }
 
 /// who, block
-fn share(me: Me, f: &[u64; 6]) -> Option<Sharing>
+fn share(me: Me, f: &[u64; 6]) -> Option<Share>
     requires fits { GeometryFits me.geometry }
     requires who { me.who < me.geometry.clients }
 {
-    Some(Sharing::new(me, address(f[1])?))
+    Some(Share::new(me, address(f[1])?))
 }
 
 /// who, root
-fn drop_root(me: Me, f: &[u64; 6]) -> Option<Dropping>
+fn drop_root(me: Me, f: &[u64; 6]) -> Option<DropRoot>
     requires fits { GeometryFits me.geometry }
     requires who { me.who < me.geometry.clients }
 {
-    Some(Dropping::new(me, root(f[1])?))
+    Some(DropRoot::new(me, root(f[1])?))
 }

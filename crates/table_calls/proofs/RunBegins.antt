@@ -1,14 +1,13 @@
--- the command of a line begins where the memo is as it asks, and its steps are the events that it tells
-use Rattle.std.proofs.Common.{◌≡◌, true, refl, None, []}
+-- the command of a line begins where the memo is as it asks
+use Rattle.std.proofs.Common.{◌≡◌, ℕ, true, refl, None, []}
 use Rattle.shm_graph.specs.declared.ask.Me.{Me}
 use Rattle.shm_graph.specs.declared.memo.Memo.{Memo}
-use Rattle.shm_graph.specs.Tells.{Tells}
 use Rattle.shm_calls.specs.CallsKeep.{calls_begin}
 use Rattle.shm_calls.specs.Plans.{PlanLaws}
 use Rattle.shm_script.specs.declared.line.Line.{Line}
 use Rattle.shm_script.specs.declared.line.Line.TheVariants as line
-use Rattle.shm_table.specs.Command.{CommandFits, MayStand, command_control, command_does, command_of}
-use Rattle.shm_table.specs.Command.Laws.{command_tells}
+use Rattle.shm_table.specs.Command.{CommandFits, MayStand, command_control, command_of}
+use Rattle.shm_table.specs.Commands.{MayCommand}
 use Rattle.shm_table.specs.CopyKey.Control.{copy_parts, copying}
 use Rattle.shm_table.specs.CopyKey.{copy_plan}
 use Rattle.shm_table.specs.CopyKey.Laws.{copy_begin, copy_laws}
@@ -36,12 +35,16 @@ use Rattle.shm_table.specs.Replace.Laws.{replace_laws}
 use Rattle.shm_table.specs.SendKey.Control.{send_key_parts, sending_key}
 use Rattle.shm_table.specs.SendKey.{send_key_plan}
 use Rattle.shm_table.specs.SendKey.Laws.{send_key_begin, send_key_laws}
+use Rattle.shm_table.specs.TableTasks.{IsAtTable, LineMay}
 use Rattle.shm_table.specs.TakeHead.Laws.{take_head_laws}
 use Rattle.table_calls.specs.Running.{MayRun}
 
 -- the laws of what commands that bring a value block share
 root_laws : PlanLaws put_root_parts put_root_plan
 root_laws = put_root_laws open_laws locate_laws replace_laws enter_laws
+
+at_table : (me : Me) (key : ℕ) (r : Memo) → MayCommand me key r → IsAtTable r
+at_table me key r may = record { client = may.client; none = may.none; table = may.table }
 
 pub run_begins : (me : Me) (l : Line) (r : Memo) → MayRun me l r → CommandFits (command_of me l) r r []
 run_begins me (line.Put key n) r may = calls_begin put_parts put_plan (put_laws root_laws) (putting me key n) r refl refl (may.0, may.1, refl, refl, refl)
@@ -51,9 +54,6 @@ run_begins me (line.Get a key) r may = calls_begin get_parts get_plan get_laws (
 run_begins me (line.Send to key) r may = calls_begin send_key_parts send_key_plan send_key_laws (sending_key me to key) r refl refl (send_key_begin me to key r may)
 run_begins me (line.Recv from key) r may = calls_begin recv_parts recv_plan (recv_laws fetch_head_laws take_head_laws root_laws) (receiving_key me from key) r refl refl (recv_begin me from key r may)
 
-pub run_tells : Tells command_control CommandFits command_does
-run_tells = command_tells (put_laws root_laws) (copy_laws fetch_laws root_laws) del_laws get_laws send_key_laws (recv_laws fetch_head_laws take_head_laws root_laws)
-
 -- no word step of it was made yet
 pub run_fresh : (me : Me) (l : Line) → command_control.fresh (command_of me l) ≡ true
 run_fresh me (line.Put key n) = refl
@@ -62,6 +62,24 @@ run_fresh me (line.Del key) = refl
 run_fresh me (line.Get a key) = refl
 run_fresh me (line.Send to key) = refl
 run_fresh me (line.Recv from key) = refl
+
+-- it is of that identity
+pub run_me : (me : Me) (l : Line) → command_control.me (command_of me l) ≡ me
+run_me me (line.Put key n) = refl
+run_me me (line.Copy key a other) = refl
+run_me me (line.Del key) = refl
+run_me me (line.Get a key) = refl
+run_me me (line.Send to key) = refl
+run_me me (line.Recv from key) = refl
+
+-- it may begin between two calls
+pub run_may : (me : Me) (l : Line) (r : Memo) → MayRun me l r → LineMay me l r
+run_may me (line.Put key n) r may = (at_table me key r may.0, may.0.small, may.1)
+run_may me (line.Copy key a other) r may = (at_table me key r may.command, may.command.small, may.author)
+run_may me (line.Del key) r may = record { client = may.client; none = may.none; table = may.table }
+run_may me (line.Get a key) r may = (may.none, may.table, may.author)
+run_may me (line.Send to key) r may = (record { client = may.client; none = may.locate.none; table = may.locate.table }, may.to, may.other, may.none)
+run_may me (line.Recv from key) r may = (at_table me key r may.command, may.command.small, may.from, may.other, may.none)
 
 -- the identities of the line are of the pool
 pub run_stands : (me : Me) (l : Line) (r : Memo) → MayRun me l r → MayStand me l

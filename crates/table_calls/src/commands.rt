@@ -11,7 +11,7 @@ ghost use Rattle.shm_table.specs.Command.{CommandGives, command_of};
 ghost use Rattle.shm_table.specs.Staying.{Ended};
 ghost use Rattle.table_calls.specs.Running.{LeavesOpen, MapSo, MayRun, RunLeaves};
 
-use shm_graph::{Life, Me};
+use shm_graph::Life;
 use shm_plain::PlainPool;
 use shm_script::{Answer, Line};
 use shm_table::Command;
@@ -30,7 +30,6 @@ pub fn command(pool: &mut PlainPool, who: u8, line: &Line, life: &mut Life) -> O
     ensures ran { Ran who true (is_some result) pool.old pool.new life.old.left life.new.left }
     ensures leaves { IfSome result (λ a. (es : List Event) × Did who pool.old pool.new es × RunLeaves (member pool.old.start.geometry who) line.now (memo_of pool.old who) (memo_of pool.new who) (memo_of pool.new who).call es a) }
 {
-    let geometry = pool.geometry();
-    let mut machine = Command::new(Me::new(geometry, who), line);
-    pool.call(who, &mut machine, life)
+    let machine = Command::new(pool.me(who), line);
+    pool.run(who, machine, life)
 }

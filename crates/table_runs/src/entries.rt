@@ -6,7 +6,7 @@ ghost use Rattle.shm_words.specs.Layout.{GeometryFits, address_limit};
 use crate::lines::{key, refuse};
 use shm_graph::Me;
 use shm_runs::{Case, address, below, byte, go, go_calls};
-use shm_table::parts::{Entering, Opening, PutRoot, Replacing, Unlinking};
+use shm_table::parts::{Enter, OpenTable, PutRoot, Replace, Unlink};
 use std::io;
 
 /// Who makes an entry, its key and its value block, the directory, and the first entry of the bucket.
@@ -76,7 +76,7 @@ pub fn open_table(rt: &HostRuntime, case: &mut Case, f: &[u64; 6]) -> io::Result
     let Some(me) = case.me(f[0]) else {
         return refuse(rt);
     };
-    go_calls(rt, Some(Opening::new(me)), case)
+    go_calls(rt, Some(OpenTable::new(me)), case)
 }
 
 /// who, key, value block, directory, the first entry of the bucket
@@ -86,7 +86,7 @@ pub fn enter(rt: &HostRuntime, case: &mut Case, f: &[u64; 6]) -> io::Result<()> 
     };
     go_calls(
         rt,
-        Some(Entering::new(e.me, e.key, e.value, e.home, e.first)),
+        Some(Enter::new(e.me, e.key, e.value, e.home, e.first)),
         case,
     )
 }
@@ -106,7 +106,7 @@ pub fn replace(rt: &HostRuntime, case: &mut Case, f: &[u64; 6]) -> io::Result<()
     };
     go_calls(
         rt,
-        Some(Replacing::new(change.me, change.entry, change.block)),
+        Some(Replace::new(change.me, change.entry, change.block)),
         case,
     )
 }
@@ -116,9 +116,5 @@ pub fn unlink(rt: &HostRuntime, case: &mut Case, f: &[u64; 6]) -> io::Result<()>
     let Some(c) = change_of(case, f) else {
         return refuse(rt);
     };
-    go_calls(
-        rt,
-        Some(Unlinking::new(c.me, c.entry, c.block, c.word)),
-        case,
-    )
+    go_calls(rt, Some(Unlink::new(c.me, c.entry, c.block, c.word)), case)
 }

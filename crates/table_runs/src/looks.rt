@@ -6,7 +6,7 @@ ghost use Rattle.shm_words.specs.Layout.{GeometryFits};
 use crate::lines::{key, refuse};
 use shm_graph::Me;
 use shm_runs::{Case, client, go_calls};
-use shm_table::parts::{Fetching, Finding, Locating, Unlatching};
+use shm_table::parts::{Fetch, Find, Locate, Unlatch};
 use std::io;
 
 /// Who looks, whose table it is, and a key.
@@ -32,7 +32,7 @@ pub fn find(rt: &HostRuntime, case: &mut Case, f: &[u64; 6]) -> io::Result<()> {
     let Some(look) = look_of(case, f) else {
         return refuse(rt);
     };
-    go_calls(rt, Some(Finding::new(look.me, look.author, look.key)), case)
+    go_calls(rt, Some(Find::new(look.me, look.author, look.key)), case)
 }
 
 /// who, author, key
@@ -40,11 +40,7 @@ pub fn locate(rt: &HostRuntime, case: &mut Case, f: &[u64; 6]) -> io::Result<()>
     let Some(look) = look_of(case, f) else {
         return refuse(rt);
     };
-    go_calls(
-        rt,
-        Some(Locating::new(look.me, look.author, look.key)),
-        case,
-    )
+    go_calls(rt, Some(Locate::new(look.me, look.author, look.key)), case)
 }
 
 /// who, author
@@ -52,7 +48,7 @@ pub fn unlatch(rt: &HostRuntime, case: &mut Case, f: &[u64; 6]) -> io::Result<()
     let Some(look) = look_of(case, f) else {
         return refuse(rt);
     };
-    go_calls(rt, Some(Unlatching::new(look.me, look.author)), case)
+    go_calls(rt, Some(Unlatch::new(look.me, look.author)), case)
 }
 
 /// who, author, key
@@ -60,9 +56,5 @@ pub fn fetch(rt: &HostRuntime, case: &mut Case, f: &[u64; 6]) -> io::Result<()> 
     let Some(look) = look_of(case, f) else {
         return refuse(rt);
     };
-    go_calls(
-        rt,
-        Some(Fetching::new(look.me, look.author, look.key)),
-        case,
-    )
+    go_calls(rt, Some(Fetch::new(look.me, look.author, look.key)), case)
 }

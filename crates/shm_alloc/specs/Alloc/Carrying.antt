@@ -13,7 +13,7 @@ use Rattle.shm_graph.specs.declared.memo.Making.{Making}
 use Rattle.shm_graph.specs.declared.memo.Memo.{Memo}
 use Rattle.shm_graph.specs.declared.memo.Stored.{Stored}
 use Rattle.shm_graph.specs.Held.{is_loose}
-use Rattle.shm_graph.specs.Readings.{valued}
+use Rattle.shm_graph.specs.MemoAfterRead.{valued}
 use Rattle.shm_graph.specs.Views.{own_word}
 use Rattle.shm_graph.proofs.StepKinds.Loads.{choice}
 use Rattle.shm_graph.proofs.Spots.Spotting.{same_spot_self}

@@ -31,12 +31,12 @@ use Rattle.shm_graph.specs.Held.{InBlock}
 use Rattle.shm_graph.specs.Asks.{Trail}
 use Rattle.shm_graph.specs.Chains.{or_zero}
 use Rattle.shm_graph.specs.Changes.{memo_on}
-use Rattle.shm_graph.specs.Exchanges.{words_made, values_with, committed, allocated}
+use Rattle.shm_graph.specs.MemoAfterExchange.{words_made, values_with, committed, allocated}
 use Rattle.shm_graph.specs.Idle.{hold_word}
 use Rattle.shm_graph.specs.Ops.{slot_of}
 use Rattle.shm_graph.specs.Reach.{is_at, known_at}
-use Rattle.shm_graph.specs.Readings.{valued}
-use Rattle.shm_graph.specs.Stores.{is_block_made, with_own, op_written, op_closed, is_lowering, without_looks, era_stored}
+use Rattle.shm_graph.specs.MemoAfterRead.{valued}
+use Rattle.shm_graph.specs.MemoAfterStore.{is_block_made, with_own, op_written, op_closed, is_lowering, without_looks, era_stored}
 use Rattle.shm_graph.specs.Laws.{Frame, framed, KeptAt}
 use Rattle.shm_graph.proofs.Spots.SpotPlaces.{spot-place}
 use Rattle.shm_graph.proofs.Spots.Spotting.{same_spot_self, same_spot_is}

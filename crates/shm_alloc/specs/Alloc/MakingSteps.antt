@@ -26,7 +26,7 @@ use Rattle.shm_graph.specs.Asks.{Trail}
 use Rattle.shm_graph.specs.Changes.{called, with_call, with_end}
 use Rattle.shm_graph.specs.Ops.{is_op, slot_of}
 use Rattle.shm_graph.specs.Reach.{is_dying, learnt, not_at}
-use Rattle.shm_graph.specs.Stores.{class_told, making_with}
+use Rattle.shm_graph.specs.MemoAfterStore.{class_told, making_with}
 use Rattle.shm_graph.specs.Laws.{Frame, framed, Stands, KeptAt}
 use Rattle.shm_graph.proofs.StepKinds.Loads.{choice}
 use Rattle.shm_graph.proofs.Spots.Spotting.{block_within, tag_spot, body_spot, same_spot_not}

@@ -26,8 +26,8 @@ use Rattle.shm_graph.specs.Asks.{Trail}
 use Rattle.shm_graph.specs.Views.{view, ons}
 use Rattle.shm_graph.specs.Agents.{recovers}
 use Rattle.shm_graph.specs.Changes.{called, with_call, with_end, memo_on}
-use Rattle.shm_graph.specs.Readings.{op_refused, raised_by, is_held}
-use Rattle.shm_graph.specs.Stores.{class_read, class_told}
+use Rattle.shm_graph.specs.MemoAfterRead.{op_refused, raised_by, is_held}
+use Rattle.shm_graph.specs.MemoAfterStore.{class_read, class_told}
 use Rattle.shm_graph.specs.Laws.{Frame, framed}
 use Rattle.shm_graph.proofs.Machines.Calling.{called_part}
 use Rattle.shm_graph.proofs.Spots.SpotPlaces.{spot-place, body_spot_at}

@@ -17,8 +17,8 @@ use Rattle.shm_graph.specs.Blocks.{classes}
 use Rattle.shm_graph.specs.Asks.{Trail}
 use Rattle.shm_graph.specs.Views.{own_word, owner_is}
 use Rattle.shm_graph.specs.Changes.{called, test_before, with_call, with_end, memo_on}
-use Rattle.shm_graph.specs.Readings.{read_on, row_read}
-use Rattle.shm_graph.specs.Exchanges.{exchanged_on}
+use Rattle.shm_graph.specs.MemoAfterRead.{read_on, row_read}
+use Rattle.shm_graph.specs.MemoAfterExchange.{exchanged_on}
 use Rattle.shm_graph.specs.Laws.{Frame, framed, Stands}
 use Rattle.shm_graph.proofs.Spots.SpotPlaces.{spot-place}
 use Rattle.shm_graph.proofs.StepKinds.Loads.{choice}

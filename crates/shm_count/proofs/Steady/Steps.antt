@@ -4,7 +4,7 @@ use Rattle.std.specs.List.{filter}
 use Rattle.std.proofs.lemmas.Bool.{true≢false}
 use Rattle.shm_words.specs.declared.geometry.Geometry.{Geometry}
 use Rattle.shm_words.specs.Headers.{header_of}
-use Rattle.shm_count.specs.Step.Reading.{ready_part}
+use Rattle.shm_count.specs.Step.BeforeExchange.{ready_part}
 use Rattle.shm_graph.specs.declared.ask.Me.{Me}
 use Rattle.shm_graph.specs.declared.spot.Spot.{Spot}
 use Rattle.shm_graph.specs.declared.spot.Spot.TheVariants as spot
@@ -19,11 +19,11 @@ use Rattle.shm_graph.specs.declared.table.Part.TheVariants.{Loose, Table}
 use Rattle.shm_graph.specs.Agents.{status_of}
 use Rattle.shm_graph.specs.Asks.{Trail}
 use Rattle.shm_graph.specs.Chains.{part_set}
-use Rattle.shm_graph.specs.Exchanges.{cut, lowered, reparted, with_unsent, with_untaken, without_made}
+use Rattle.shm_graph.specs.MemoAfterExchange.{cut, lowered, reparted, with_unsent, with_untaken, without_made}
 use Rattle.shm_graph.specs.Ops.{On, cover, is_op, slot_of}
 use Rattle.shm_graph.specs.Reach.{is_dying, learnt, shown}
 use Rattle.shm_graph.specs.Spots.{same_spot}
-use Rattle.shm_graph.specs.Stores.{era_stored, is_lowering, making_with, not_of, op_closed, other_than, put, stored_on, with_own, without_looks, written}
+use Rattle.shm_graph.specs.MemoAfterStore.{era_stored, is_lowering, making_with, not_of, op_closed, other_than, put, stored_on, with_own, without_looks, written}
 use Rattle.shm_graph.specs.Views.{own_word}
 use Rattle.shm_graph.proofs.StepKinds.Loads.{choice}
 use Rattle.shm_steps.specs.Reparting.{sight}

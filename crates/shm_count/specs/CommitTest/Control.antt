@@ -6,7 +6,7 @@ use Rattle.shm_words.specs.Layout.{GeometryFits, address}
 use Rattle.shm_graph.specs.declared.ask.Ask.{Ask}
 use Rattle.shm_graph.specs.declared.ask.Ask.TheVariants.{Load}
 use Rattle.shm_graph.specs.declared.ask.Me.{Me}
-use Rattle.shm_graph.specs.Readings.{next_row}
+use Rattle.shm_graph.specs.MemoAfterRead.{next_row}
 use Rattle.shm_calls.specs.declared.word.Word.{Word}
 use Rattle.shm_count.specs.declared.commit_test.Commit.{Commit}
 use Rattle.shm_count.specs.declared.commit_test.Commit.TheVariants.{Committed, NotCommitted}

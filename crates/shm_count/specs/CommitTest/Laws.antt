@@ -19,7 +19,7 @@ use Rattle.shm_graph.specs.Core.{core}
 use Rattle.shm_graph.specs.Events.{Event}
 use Rattle.shm_graph.specs.Laws.{Frame, Outcome, Stands}
 use Rattle.shm_graph.specs.Ops.{on_of}
-use Rattle.shm_graph.specs.Readings.{next_row, test_from, test_on}
+use Rattle.shm_graph.specs.MemoAfterRead.{next_row, test_from, test_on}
 use Rattle.shm_graph.specs.Spots.{spot_at}
 use Rattle.shm_graph.specs.Views.{own_word}
 use Rattle.shm_graph.proofs.Spots.Spotting.{spot_zero}
@@ -37,7 +37,7 @@ use Rattle.shm_count.specs.declared.commit_test.TestingPoint.TheVariants.{Header
 use Rattle.shm_count.specs.declared.commit_test.TestingState.{TestingState}
 use Rattle.shm_count.specs.CommitTest.Control.{is_header, is_shown, test_ask, test_call, test_next, test_step, testing}
 use Rattle.shm_count.specs.CommitTest.{record_in, HasTest, IsTesting, MayTest, TestFound, TestKnows, TestLeaves, rows_to, step_block, test_part, testing_plan}
-use Rattle.shm_count.specs.CommitTest.Reads.{one_read, read_part_laws}
+use Rattle.shm_count.specs.CommitTest.StepTrail.{one_read, read_part_laws}
 use Rattle.shm_count.specs.CommitTest.Shown.{block_here, by_header, by_none, by_row, none_there, spare_hidden}
 
 -- ---- rows

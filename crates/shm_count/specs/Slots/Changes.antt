@@ -13,15 +13,15 @@ use Rattle.shm_graph.specs.declared.memo.Second.TheVariants.{Open, Closed}
 use Rattle.shm_graph.specs.declared.memo.Op.TheVariants as op
 use Rattle.shm_graph.specs.declared.memo.Stored.{Stored}
 use Rattle.shm_graph.specs.Chains.{part_set}
-use Rattle.shm_graph.specs.Exchanges.{cut, reparted, without_made}
+use Rattle.shm_graph.specs.MemoAfterExchange.{cut, reparted, without_made}
 use Rattle.shm_graph.specs.Ops.{On, cover}
 use Rattle.shm_graph.specs.Reach.{is_named, shown, sifted}
 use Rattle.shm_graph.specs.Spots.{same_spot}
-use Rattle.shm_graph.specs.Stores.{is_of, not_block, not_of, written, stored_on, with_own, era_stored}
+use Rattle.shm_graph.specs.MemoAfterStore.{is_of, not_block, not_of, written, stored_on, with_own, era_stored}
 use Rattle.shm_graph.specs.Views.{own_word}
 use Rattle.shm_graph.proofs.StepKinds.Loads.{choice}
 use Rattle.shm_graph.proofs.Spots.Spotting.{same_spot_is}
-use Rattle.shm_laws.specs.Exchanges.{dying_after}
+use Rattle.shm_laws.specs.HeaderExchanges.{dying_after}
 use Rattle.shm_steps.proofs.MemoCommits.{known_lowered, lowered_is}
 use Rattle.shm_steps.specs.Reparting.{sight}
 use Rattle.shm_count.specs.declared.point.Aim.TheVariants.{Change}

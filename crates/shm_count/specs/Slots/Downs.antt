@@ -16,15 +16,15 @@ use Rattle.shm_graph.specs.declared.memo.Stored.{Stored}
 use Rattle.shm_graph.specs.declared.table.Part.{Part as TablePart}
 use Rattle.shm_graph.specs.declared.table.Part.TheVariants.{Loose, Table}
 use Rattle.shm_graph.specs.Chains.{part_set}
-use Rattle.shm_graph.specs.Exchanges.{cut, reparted, without_made, with_unsent, with_untaken, lowered}
+use Rattle.shm_graph.specs.MemoAfterExchange.{cut, reparted, without_made, with_unsent, with_untaken, lowered}
 use Rattle.shm_graph.specs.Ops.{On, cover, cover_of}
 use Rattle.shm_graph.specs.Reach.{is_named, not_at, shown, sifted}
 use Rattle.shm_graph.specs.Spots.{same_spot}
-use Rattle.shm_graph.specs.Stores.{is_lowering, is_of, not_of, op_closed, op_written, other_than, put, written, without_looks, stored_on, with_own, era_stored}
+use Rattle.shm_graph.specs.MemoAfterStore.{is_lowering, is_of, not_of, op_closed, op_written, other_than, put, written, without_looks, stored_on, with_own, era_stored}
 use Rattle.shm_graph.specs.Views.{own_word}
 use Rattle.shm_graph.proofs.StepKinds.Loads.{choice}
 use Rattle.shm_laws.proofs.Keep.{newest, Contains-filter, filter_from}
-use Rattle.shm_laws.specs.Exchanges.{dying_after}
+use Rattle.shm_laws.specs.HeaderExchanges.{dying_after}
 use Rattle.shm_steps.proofs.MemoCommits.{known_lowered, lowered_is}
 use Rattle.shm_steps.specs.Reparting.{sight}
 use Rattle.shm_count.specs.declared.point.Aim.TheVariants.{Down}

@@ -10,10 +10,10 @@ use Rattle.shm_graph.specs.declared.memo.Op.{Op}
 use Rattle.shm_graph.specs.declared.memo.Op.TheVariants as op
 use Rattle.shm_graph.specs.declared.memo.Stored.{Stored}
 use Rattle.shm_graph.specs.Chains.{part_set}
-use Rattle.shm_graph.specs.Exchanges.{reparted, without_made}
+use Rattle.shm_graph.specs.MemoAfterExchange.{reparted, without_made}
 use Rattle.shm_graph.specs.Ops.{On, cover}
 use Rattle.shm_graph.specs.Spots.{same_spot}
-use Rattle.shm_graph.specs.Stores.{put, written, stored_on, with_own, era_stored}
+use Rattle.shm_graph.specs.MemoAfterStore.{put, written, stored_on, with_own, era_stored}
 use Rattle.shm_graph.specs.Views.{own_word}
 use Rattle.shm_graph.proofs.Spots.Spotting.{same_spot_self}
 use Rattle.shm_steps.specs.Reparting.{sight}

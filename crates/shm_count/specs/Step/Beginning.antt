@@ -15,7 +15,7 @@ use Rattle.shm_graph.specs.Blocks.{classes}
 use Rattle.shm_graph.specs.Held.{HeldAt, is_home, is_slot, is_slot_to, odd}
 use Rattle.shm_graph.specs.Reach.{is_reached}
 use Rattle.shm_graph.specs.Spots.{spot_address, IsAt}
-use Rattle.shm_graph.specs.Stores.{is_block_made, with_own}
+use Rattle.shm_graph.specs.MemoAfterStore.{is_block_made, with_own}
 use Rattle.shm_graph.specs.Telling.{claims}
 use Rattle.shm_graph.specs.Views.{view, own_word}
 use Rattle.shm_graph.proofs.Memos.KnownChange.{KnownHolds}

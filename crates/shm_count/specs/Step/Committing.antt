@@ -19,7 +19,7 @@ use Rattle.shm_graph.specs.Views.{own_word, view}
 use Rattle.shm_graph.specs.References.{words_of}
 use Rattle.shm_graph.specs.Asks.{Trail}
 use Rattle.shm_graph.specs.Laws.{framed, Stands, KeptAt, Frame}
-use Rattle.shm_graph.specs.Stores.{op_written, op_closed}
+use Rattle.shm_graph.specs.MemoAfterStore.{op_written, op_closed}
 use Rattle.shm_graph.specs.Ops.{is_op, slot_of}
 use Rattle.shm_graph.specs.Held.{HeldAt, OpTie}
 use Rattle.shm_graph.specs.Spots.{spot_at, IsAt}

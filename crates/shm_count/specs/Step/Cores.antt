@@ -11,8 +11,8 @@ use Rattle.shm_graph.specs.declared.memo.Op.{Op}
 use Rattle.shm_graph.specs.declared.memo.Second.TheVariants.{Closed}
 use Rattle.shm_graph.specs.declared.spot.Spot.TheVariants as spot
 use Rattle.shm_graph.specs.declared.memo.Op.TheVariants as op
-use Rattle.shm_graph.specs.Exchanges.{reparted, cut, without_made, lowered, with_untaken}
-use Rattle.shm_graph.specs.Stores.{op_written, written, stored_on, with_own, era_stored, is_lowering}
+use Rattle.shm_graph.specs.MemoAfterExchange.{reparted, cut, without_made, lowered, with_untaken}
+use Rattle.shm_graph.specs.MemoAfterStore.{op_written, written, stored_on, with_own, era_stored, is_lowering}
 use Rattle.shm_graph.specs.Spots.{spot_at}
 use Rattle.shm_graph.specs.Reach.{learnt, sifted}
 use Rattle.shm_graph.specs.Views.{own_word}
@@ -20,7 +20,7 @@ use Rattle.shm_graph.specs.Ops.{slot_of, is_op}
 use Rattle.shm_graph.specs.Asks.{at_of, Trail}
 use Rattle.shm_graph.specs.Laws.{Stands, Frame, KeptAt}
 use Rattle.shm_graph.specs.Blocks.{classes}
-use Rattle.shm_laws.specs.Exchanges.{dying_after}
+use Rattle.shm_laws.specs.HeaderExchanges.{dying_after}
 use Rattle.shm_steps.proofs.MemoCommits.{untaken_list, known_left, known_lowered, lowered_is, with_untaken_is, unsent_list, with_unsent_is}
 use Rattle.shm_steps.proofs.Cores.{HasSlot, body_word, core_cond}
 use Rattle.shm_count.specs.declared.point.Aim.TheVariants.{Down, Change, Up}

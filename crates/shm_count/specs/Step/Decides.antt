@@ -15,7 +15,7 @@ use Rattle.shm_count.specs.declared.point.Half.TheVariants.{First, Second}
 use Rattle.shm_count.specs.declared.point.StepPoint.{StepPoint}
 use Rattle.shm_count.specs.declared.point.StepPoint.TheVariants as point
 use Rattle.shm_count.specs.Step.Control.{answer_of, block_at, closed_next, committed_next, header_next, last_era, point_of, step_control, step_next, step_next_at, first_next}
-use Rattle.shm_count.specs.Step.Exchanged.{exchanged_at, exchanging_at, is_second, step_exchanged, step_exchanging}
+use Rattle.shm_count.specs.Step.ExchangeMade.{exchanged_at, exchanging_at, is_second, step_exchanged, step_exchanging}
 use Rattle.shm_count.specs.Step.Machines.{down_answer, down_control, up_answer, up_control}
 
 -- ---- the exchange is what decides

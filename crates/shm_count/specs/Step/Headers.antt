@@ -18,7 +18,7 @@ use Rattle.shm_graph.specs.Blocks.{classes, headers, IsBlock, IsLive}
 use Rattle.shm_graph.specs.Held.{HeldAt, OpTie}
 use Rattle.shm_graph.specs.Ops.{is_op, slot_of, cover_of, held_over_of}
 use Rattle.shm_graph.specs.References.{words_of}
-use Rattle.shm_graph.specs.Readings.{op_refused, raised_by, is_held}
+use Rattle.shm_graph.specs.MemoAfterRead.{op_refused, raised_by, is_held}
 use Rattle.shm_graph.specs.Views.{view}
 use Rattle.shm_graph.proofs.States.Holders.{Holds, target_counted, held_over_counted, reach_counted}
 use Rattle.shm_graph.proofs.StepKinds.Loads.{choice}

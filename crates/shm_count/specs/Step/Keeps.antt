@@ -19,8 +19,8 @@ use Rattle.shm_count.specs.Step.Control.{step_ask, step_ask_at, step_next, step_
 use Rattle.shm_count.specs.Step.{CanStep, PointHolds, NextHolds, StepFits, StepGives}
 use Rattle.shm_count.specs.Step.Ranges.{knows_after}
 use Rattle.shm_count.specs.Step.Going.{fits_goes, gives_ends}
-use Rattle.shm_count.specs.Step.Reading.{era_step, more_step, redo_step, load_step, row_step, show_step}
-use Rattle.shm_count.specs.Step.Exchanging.{exchange_step}
+use Rattle.shm_count.specs.Step.BeforeExchange.{era_step, more_step, redo_step, load_step, row_step, show_step}
+use Rattle.shm_count.specs.Step.HalfExchange.{exchange_step}
 use Rattle.shm_count.specs.Step.Committing.{slot_step, close_step}
 use Rattle.shm_calls.specs.Grown.{Grows, grows_more}
 

@@ -15,7 +15,7 @@ use Rattle.shm_graph.specs.declared.memo.Stored.{Stored}
 use Rattle.shm_graph.specs.Ops.{Quiet, cover, cover_of}
 use Rattle.shm_graph.specs.Reach.{shown, is_reached, learnt}
 use Rattle.shm_graph.specs.Spots.{same_spot}
-use Rattle.shm_graph.specs.Stores.{with_own, written, op_closed, is_lowering, without_looks, era_stored, making_with}
+use Rattle.shm_graph.specs.MemoAfterStore.{with_own, written, op_closed, is_lowering, without_looks, era_stored, making_with}
 use Rattle.shm_graph.specs.Views.{own_word}
 use Rattle.shm_graph.proofs.StepKinds.Loads.{choice}
 use Rattle.shm_graph.proofs.Spots.Spotting.{same_spot_self, same_spot_is, same_spot_not}

@@ -11,11 +11,11 @@ use Rattle.shm_graph.specs.declared.memo.First.TheVariants.{Committed}
 use Rattle.shm_graph.specs.declared.memo.Op.TheVariants as op
 use Rattle.shm_graph.specs.declared.table.Part.{Part as TablePart}
 use Rattle.shm_graph.specs.Chains.{part_set}
-use Rattle.shm_graph.specs.Exchanges.{reparted, cut, without_made}
+use Rattle.shm_graph.specs.MemoAfterExchange.{reparted, cut, without_made}
 use Rattle.shm_graph.specs.Ops.{On, cover, is_op, slot_of}
 use Rattle.shm_graph.specs.Reach.{sifted, learnt}
 use Rattle.shm_graph.specs.Spots.{same_spot}
-use Rattle.shm_graph.specs.Stores.{written, making_with, with_own, era_stored}
+use Rattle.shm_graph.specs.MemoAfterStore.{written, making_with, with_own, era_stored}
 use Rattle.shm_graph.specs.declared.memo.Stored.{Stored}
 use Rattle.shm_graph.specs.declared.memo.Op.{Op}
 use Rattle.shm_graph.proofs.Spots.Spotting.{same_spot_is}
@@ -24,7 +24,7 @@ use Rattle.shm_graph.proofs.StepKinds.Loads.{choice}
 use Rattle.shm_steps.specs.Reparting.{Sight, sight, link_after}
 use Rattle.shm_graph.specs.declared.table.Entry.{Entry}
 use Rattle.shm_steps.proofs.MemoCommits.{known_lowered, lowered_is}
-use Rattle.shm_laws.specs.Exchanges.{dying_after}
+use Rattle.shm_laws.specs.HeaderExchanges.{dying_after}
 use Rattle.shm_count.specs.declared.point.Aim.{Aim}
 use Rattle.shm_count.specs.declared.point.Aim.TheVariants.{Up, Down, Change}
 use Rattle.shm_count.specs.declared.point.Half.TheVariants.{First}

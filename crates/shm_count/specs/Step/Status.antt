@@ -10,11 +10,11 @@ use Rattle.shm_graph.specs.declared.memo.Second.TheVariants.{Closed}
 use Rattle.shm_graph.specs.declared.memo.ChangeStage.TheVariants.{Lowering}
 use Rattle.shm_graph.specs.declared.memo.Memo.{Memo}
 use Rattle.shm_graph.specs.declared.memo.Op.TheVariants as op
-use Rattle.shm_graph.specs.Exchanges.{cut, reparted, with_unsent, with_untaken, without_made}
+use Rattle.shm_graph.specs.MemoAfterExchange.{cut, reparted, with_unsent, with_untaken, without_made}
 use Rattle.shm_graph.specs.Ops.{is_op, slot_of}
 use Rattle.shm_graph.specs.Reach.{learnt}
 use Rattle.shm_graph.specs.Spots.{same_spot}
-use Rattle.shm_graph.specs.Stores.{making_with, written}
+use Rattle.shm_graph.specs.MemoAfterStore.{making_with, written}
 use Rattle.shm_graph.specs.Views.{own_word}
 use Rattle.shm_graph.proofs.StepKinds.Loads.{choice}
 use Rattle.shm_steps.proofs.MemoCommits.{lowered_is, with_unsent_is, with_untaken_is}

@@ -30,7 +30,7 @@ use Rattle.shm_count.specs.Step.{StepFits, CanStep, PointHolds, op_of}
 use Rattle.shm_count.specs.Step.Memos.{half_op}
 use Rattle.shm_count.specs.Step.Committing.{slot_set}
 use Rattle.shm_count.specs.Step.Cores.{IsStepSlot}
-use Rattle.shm_count.specs.Step.Reading.{row_spot}
+use Rattle.shm_count.specs.Step.BeforeExchange.{row_spot}
 use Rattle.shm_count.specs.Step.Headers.{half_block}
 
 -- a step at another word than a header is no event

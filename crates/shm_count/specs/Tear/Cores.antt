@@ -14,8 +14,8 @@ use Rattle.shm_graph.specs.Changes.{called, memo_on}
 use Rattle.shm_graph.specs.Events.{Event}
 use Rattle.shm_graph.specs.Laws.{Frame, framed}
 use Rattle.shm_graph.specs.Reach.{learnt, is_dying}
-use Rattle.shm_graph.specs.Readings.{word_read}
-use Rattle.shm_graph.specs.Stores.{not_of, not_block}
+use Rattle.shm_graph.specs.MemoAfterRead.{word_read}
+use Rattle.shm_graph.specs.MemoAfterStore.{not_of, not_block}
 use Rattle.shm_graph.specs.Telling.{Claim, claim_of}
 use Rattle.shm_graph.specs.Views.{own_word}
 use Rattle.shm_graph.proofs.Machines.Calling.{called_part}

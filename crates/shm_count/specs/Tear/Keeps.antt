@@ -19,7 +19,7 @@ use Rattle.shm_count.specs.Tear.{CanTear, TearHolds, TearFits, TearGives}
 use Rattle.shm_count.specs.Tear.Going.{then_holds}
 use Rattle.shm_count.specs.Tear.Laws.{IsRunning, fit_runs, tear_steady, tear_inside, tear_back}
 use Rattle.shm_count.specs.Tear.Lowering.{down_step}
-use Rattle.shm_count.specs.Tear.Reading.{TearKept, begin_step, enter_step, return_step}
+use Rattle.shm_count.specs.Tear.TagLoads.{TearKept, begin_step, enter_step, return_step}
 use Rattle.shm_count.specs.Tear.Storing.{link_step, free_step}
 use Rattle.shm_count.specs.Tear.Words.{word_step}
 use Rattle.shm_calls.specs.Grown.{grows_more}

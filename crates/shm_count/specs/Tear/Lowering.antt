@@ -45,7 +45,7 @@ use Rattle.shm_count.specs.Tear.Events.{Visit, frees, Walks}
 use Rattle.shm_count.specs.Tear.{CanTear, IsVisited, Linked, is_outside, TearAt, TearHolds, NextHolds}
 use Rattle.shm_count.specs.DownLeaves.{down_leaves}
 use Rattle.shm_count.specs.Tear.Bound.{before_answer, paid_down, paid_kept, paid_fell, paid_refused}
-use Rattle.shm_count.specs.Tear.Reading.{TearKept}
+use Rattle.shm_count.specs.Tear.TagLoads.{TearKept}
 use Rattle.shm_count.specs.Tear.Stacks.{walks_kept, walks_fell, frees_more, others_entered, outside_other, apart_entered, KeepsBlock, linked_kept, linked_dying, left_dying, keeps_lowered, lowered_knows, lowered_tagged, lowered_dying}
 use Rattle.shm_count.specs.Tear.Memos.{TearStays, Retains, Knows, IsTagged, IsFound, Lowered}
 

@@ -13,7 +13,7 @@ use Rattle.shm_graph.specs.declared.memo.Stored.{Stored}
 use Rattle.shm_graph.specs.Held.{is_slot}
 use Rattle.shm_graph.specs.Views.{own_word}
 use Rattle.shm_graph.specs.Reach.{shown, is_named}
-use Rattle.shm_graph.specs.Stores.{is_of}
+use Rattle.shm_graph.specs.MemoAfterStore.{is_of}
 use Rattle.shm_graph.specs.Chains.{part_set}
 use Rattle.shm_count.specs.Step.Control.{IsInside}
 

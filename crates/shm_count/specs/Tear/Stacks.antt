@@ -15,7 +15,7 @@ use Rattle.shm_graph.specs.Spots.{same_spot}
 use Rattle.shm_graph.specs.Reach.{learnt, not_at}
 use Rattle.shm_graph.specs.Events.{Event}
 use Rattle.shm_graph.specs.Events as event
-use Rattle.shm_graph.specs.Stores.{is_of, not_of, not_block}
+use Rattle.shm_graph.specs.MemoAfterStore.{is_of, not_of, not_block}
 use Rattle.shm_graph.proofs.Spots.Spotting.{same_spot_not}
 use Rattle.shm_laws.proofs.Keep.{newest, Contains-filter}
 use Rattle.shm_count.specs.Tear.Events.{Walk, Freed, Kept, Fell, InOrder, events_of, Visit, Walks, freed_by, frees}

@@ -24,7 +24,7 @@ use Rattle.shm_graph.specs.Laws.{Frame, framed, Stands, KeptAt}
 use Rattle.shm_graph.specs.Reach.{learnt}
 use Rattle.shm_graph.specs.Spots.{spot_at}
 use Rattle.shm_graph.proofs.Spots.Spotting.{same_spot_not}
-use Rattle.shm_graph.specs.Stores.{is_of, not_of, not_block}
+use Rattle.shm_graph.specs.MemoAfterStore.{is_of, not_of, not_block}
 use Rattle.shm_steps.specs.Conditions.{IsHere}
 use Rattle.shm_steps.specs.Preparing.{KnowsDying}
 use Rattle.shm_steps.proofs.BlockTold.{dying_true, dying_block}
@@ -41,7 +41,7 @@ use Rattle.shm_count.specs.Tear.Cores.{stays_then, stays_core, link_core, free_c
 use Rattle.shm_count.specs.Tear.Events.{Visit}
 use Rattle.shm_count.specs.Tear.{Settled, CanTear, Linked, is_outside, TearAt, TearHolds, NextHolds}
 use Rattle.shm_count.specs.Tear.Bound.{paid_linked, paid_freed, paid_done}
-use Rattle.shm_count.specs.Tear.Reading.{TearKept, unchanged}
+use Rattle.shm_count.specs.Tear.TagLoads.{TearKept, unchanged}
 use Rattle.shm_count.specs.DyingBlocks.{dying_tag_spot}
 use Rattle.shm_count.specs.Tear.Stacks.{walks_freed, frees_free, others_freed, others_last, outside_other, KeepsBlock, visited_kept, tagged_kept, linked_kept, knows_learnt, knows_other, keeps_learnt, keeps_freed}
 use Rattle.shm_count.specs.Tear.Memos.{TearStays, Retains, IsTagged}

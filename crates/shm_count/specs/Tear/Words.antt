@@ -30,7 +30,7 @@ use Rattle.shm_graph.specs.Views.{own_word}
 use Rattle.shm_graph.proofs.Machines.Calling.{called_part}
 use Rattle.shm_graph.proofs.Memos.LoadTold.{claim_found}
 use Rattle.shm_steps.specs.Conditions.{IsHere}
-use Rattle.shm_steps.specs.Reading.{IsCovered, IsSettled, MayLookBy, MayLook}
+use Rattle.shm_steps.specs.LoadNeeds.{IsCovered, IsSettled, MayLookBy, MayLook}
 use Rattle.shm_steps.proofs.BeginWords.{listed_covered, known_here}
 use Rattle.shm_steps.proofs.BeginWords as begin
 use Rattle.shm_steps.proofs.BlockTold.{dying_true}
@@ -52,7 +52,7 @@ use Rattle.shm_count.specs.Tear.Events.{Visit}
 use Rattle.shm_count.specs.Tear.{Settled, CanTear, Linked, TearAt, TearHolds, NextHolds, Bool}
 use Rattle.shm_count.specs.Tear.Laws.{word_address_is}
 use Rattle.shm_count.specs.Tear.Bound.{paid_again, paid_empty, paid_found}
-use Rattle.shm_count.specs.Tear.Reading.{TearKept, still_known, load_keeps, unchanged}
+use Rattle.shm_count.specs.Tear.TagLoads.{TearKept, still_known, load_keeps, unchanged}
 use Rattle.shm_count.specs.Tear.Stacks.{walks_later, knows_learnt, linked_kept, tagged_kept}
 use Rattle.shm_count.specs.Tear.Memos.{Knows, IsTagged, IsFound}
 

@@ -6,7 +6,7 @@ use Rattle.shm_words.specs.declared.place.Place.TheVariants as place
 use Rattle.shm_words.specs.Layout.{address, is_in}
 use Rattle.shm_words.proofs.Placing.{address_below, address_small, total_small}
 use Rattle.shm_graph.specs.Bounds.{redo_steps}
-use Rattle.shm_count.specs.Step.Reading.{first_holds, first_same, first_era, first_asked, first_told}
+use Rattle.shm_count.specs.Step.BeforeExchange.{first_holds, first_same, first_era, first_asked, first_told}
 use Rattle.shm_count.specs.Step.Control.{first_point}
 use Rattle.shm_count.specs.Step.Ranges.{first_fits}
 use Rattle.shm_count.specs.Step.Refusing.{first_reads}

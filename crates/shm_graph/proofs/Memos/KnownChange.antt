@@ -12,7 +12,7 @@ use Rattle.shm_graph.specs.Tables.{contents_of}
 use Rattle.shm_graph.specs.Views.{View, view, at1, targets}
 use Rattle.shm_graph.specs.Held.{HeldAt, KnownAt, ValueAt, is_loose}
 use Rattle.shm_graph.specs.Reach.{not_at, learnt}
-use Rattle.shm_graph.specs.Readings.{valued}
+use Rattle.shm_graph.specs.MemoAfterRead.{valued}
 use Rattle.shm_graph.proofs.Memos.Frames.{at1_all}
 use Rattle.shm_graph.proofs.States.Holders.{InReach}
 use Rattle.shm_graph.proofs.StepKinds.Loads.{choice}

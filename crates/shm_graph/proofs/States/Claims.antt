@@ -19,7 +19,7 @@ use Rattle.shm_graph.specs.Reach.{reached_blocks}
 use Rattle.shm_graph.specs.Telling.{Claim, bare, tag_claim, tag_claims, Role, Directory, Entry, Value, Other, Played, role_in, roles_from, roles, shaped, role_claim, claims}
 use Rattle.shm_graph.proofs.States.Holders.{InReach, held_live_not_zero, reach_counted}
 use Rattle.shm_graph.proofs.Memos.KnownChange.{KnownHolds, ValueHolds}
-use Rattle.shm_graph.specs.Readings.{is_entry}
+use Rattle.shm_graph.specs.MemoAfterRead.{is_entry}
 use Rattle.shm_graph.proofs.StepKinds.Loads.{choice}
 use Rattle.shm_graph.proofs.States.Reached.{all_reached}
 use Rattle.shm_graph.proofs.States.Roles.{Plays, IsPlayed, chain_shape, partition_of, roles_blocks, roles_play, latch_inside, role_plays, next_entry, reference_live}

@@ -15,8 +15,8 @@ use Rattle.shm_graph.specs.Views.{View, view, at1}
 use Rattle.shm_graph.specs.Held.{HeldAt}
 use Rattle.shm_graph.specs.Asks.{Trail, seen_of, words_after, call_before}
 use Rattle.shm_graph.specs.Changes.{called, test_before, changed_by, memo_on}
-use Rattle.shm_graph.specs.Readings.{read_on}
-use Rattle.shm_graph.specs.Exchanges.{exchanged_on}
+use Rattle.shm_graph.specs.MemoAfterRead.{read_on}
+use Rattle.shm_graph.specs.MemoAfterExchange.{exchanged_on}
 use Rattle.shm_graph.specs.Telling.{spot_told}
 use Rattle.shm_graph.specs.Events.{Event, Nothing, graph_of, Happens}
 use Rattle.shm_graph.specs.Controllers.{IsAllowed, IsEraRaised, IsRowShown}

@@ -23,8 +23,8 @@ use Rattle.shm_graph.specs.Asks.{Trail}
 use Rattle.shm_graph.specs.Changes.{called, test_before, with_call, with_end, memo_on}
 use Rattle.shm_graph.specs.Reach.{learnt}
 use Rattle.shm_graph.proofs.StepKinds.SlotRead.{slot_held}
-use Rattle.shm_graph.specs.Readings.{is_head_slot, valued, read_on, row_read, home_read, is_held}
-use Rattle.shm_graph.specs.Exchanges.{exchanged_on}
+use Rattle.shm_graph.specs.MemoAfterRead.{is_head_slot, valued, read_on, row_read, home_read, is_held}
+use Rattle.shm_graph.specs.MemoAfterExchange.{exchanged_on}
 use Rattle.shm_graph.specs.Agents.{recovers, last_agent, recovers_by, with_last, stepped}
 use Rattle.shm_graph.specs.Events.{graph_of, IsSame}
 use Rattle.shm_graph.specs.Laws.{MayEnd, Frame, framed, Stands, KeptAt}

@@ -14,7 +14,7 @@ use Rattle.shm_graph.specs.declared.memo.Step.{Step}
 use Rattle.shm_graph.specs.Views.{view, at1, own_word, ons}
 use Rattle.shm_graph.specs.Held.{HeldAt, TestAt}
 use Rattle.shm_graph.specs.Changes.{called, test_before}
-use Rattle.shm_graph.specs.Readings.{next_row, test_on, row_read, page_read}
+use Rattle.shm_graph.specs.MemoAfterRead.{next_row, test_on, row_read, page_read}
 use Rattle.shm_graph.specs.Agents.{recovers}
 use Rattle.shm_graph.proofs.Memos.Calls.{TestHolds}
 use Rattle.shm_graph.proofs.Machines.Calling.{called_part, called_held, fact_held, zero_held}

@@ -17,7 +17,7 @@ use Rattle.shm_graph.specs.Views.{view, at1, own_word}
 use Rattle.shm_graph.specs.Held.{HeldAt}
 use Rattle.shm_graph.specs.Changes.{called}
 use Rattle.shm_graph.specs.Reach.{learnt}
-use Rattle.shm_graph.specs.Readings.{slot_read, is_head_slot, is_tail_above, valued}
+use Rattle.shm_graph.specs.MemoAfterRead.{slot_read, is_head_slot, is_tail_above, valued}
 use Rattle.shm_graph.proofs.Spots.SpotPlaces.{at_is_in}
 use Rattle.shm_graph.proofs.Memos.MemoParts.{view_here}
 use Rattle.shm_graph.proofs.Memos.Calls.{FactHolds, FactsHold}

@@ -16,7 +16,7 @@ use Rattle.shm_graph.specs.Core.{core}
 use Rattle.shm_graph.specs.Events.{Event}
 use Rattle.shm_graph.specs.Events as event
 use Rattle.shm_graph.specs.Laws.{Outcome}
-use Rattle.shm_graph.specs.Stores.{head_stored, not_block}
+use Rattle.shm_graph.specs.MemoAfterStore.{head_stored, not_block}
 use Rattle.shm_graph.specs.Views.{own_word}
 use Rattle.shm_steps.specs.WordParts.{HeadSlotLoaded}
 use Rattle.shm_steps.proofs.Cores.{here_same}

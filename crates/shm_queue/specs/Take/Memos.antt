@@ -12,9 +12,9 @@ use Rattle.shm_graph.specs.declared.table.Part.{Part}
 use Rattle.shm_graph.specs.Core.{core}
 use Rattle.shm_graph.specs.Held.{is_loose}
 use Rattle.shm_graph.specs.Reach.{is_named, learnt}
-use Rattle.shm_graph.specs.Readings.{valued}
+use Rattle.shm_graph.specs.MemoAfterRead.{valued}
 use Rattle.shm_graph.specs.Spots.{same_spot}
-use Rattle.shm_graph.specs.Stores.{head_stored, lane_with, other_than, put}
+use Rattle.shm_graph.specs.MemoAfterStore.{head_stored, lane_with, other_than, put}
 use Rattle.shm_graph.specs.Views.{own_word}
 use Rattle.shm_graph.proofs.Spots.Spotting.{same_spot_self}
 use Rattle.shm_steps.specs.Reparting.{sight}

@@ -16,12 +16,12 @@ use Rattle.shm_count.proofs.Steady.Tests.{test_steady}
 use Rattle.shm_recover.specs.declared.mend.MendPoint.{MendPoint}
 use Rattle.shm_recover.specs.declared.mend.MendPoint.TheVariants as mend
 use Rattle.shm_recover.specs.declared.mend.MendState.{MendState}
-use Rattle.shm_recover.specs.declared.mend_lower.LoweringPoint.{LoweringPoint}
-use Rattle.shm_recover.specs.declared.mend_lower.LoweringPoint.TheVariants as lower
-use Rattle.shm_recover.specs.declared.mend_lower.LoweringState.{LoweringState}
-use Rattle.shm_recover.specs.declared.mend_unlatch.UnlatchingPoint.{UnlatchingPoint}
-use Rattle.shm_recover.specs.declared.mend_unlatch.UnlatchingPoint.TheVariants as unlatch
-use Rattle.shm_recover.specs.declared.mend_unlatch.UnlatchingState.{UnlatchingState}
+use Rattle.shm_recover.specs.declared.mend_lower.MendLowerPoint.{MendLowerPoint}
+use Rattle.shm_recover.specs.declared.mend_lower.MendLowerPoint.TheVariants as lower
+use Rattle.shm_recover.specs.declared.mend_lower.MendLowerState.{MendLowerState}
+use Rattle.shm_recover.specs.declared.mend_unlatch.MendUnlatchPoint.{MendUnlatchPoint}
+use Rattle.shm_recover.specs.declared.mend_unlatch.MendUnlatchPoint.TheVariants as unlatch
+use Rattle.shm_recover.specs.declared.mend_unlatch.MendUnlatchState.{MendUnlatchState}
 use Rattle.shm_recover.specs.Mend.Control.{is_dead, mend_ask, mend_parts}
 use Rattle.shm_recover.specs.Mend.{IsDead, IsMending, MendFound, MendKnows, mend_plan}
 use Rattle.shm_recover.specs.MendLower.Control.{is_header, lowering_ask}
@@ -34,17 +34,17 @@ use Rattle.shm_recover.specs.MendUnlatch.{UnlatchingFound, UnlatchingKnows, unla
 found_table : (me : Me) (a e n : ℕ) (r0 r : Memo) (es : List Event) → HasFound me a e n r0 r es → SameTable r0 r
 found_table me a e n r0 r es h = table_of r0 r (ap (λ (x : Memo). x.part) h.same.rest)
 
-lowering_known : (m : LoweringState) (y : LoweringPoint) (r0 r : Memo) (tr : Trail) (es : List Event) → LoweringKnows m y r0 r tr es → SameTable r0 r
+lowering_known : (m : MendLowerState) (y : MendLowerPoint) (r0 r : Memo) (tr : Trail) (es : List Event) → LoweringKnows m y r0 r tr es → SameTable r0 r
 lowering_known m lower.Header r0 r tr es (may, same, none, quiet) = table_of r0 r (ap (λ (x : Memo). x.part) same)
 lowering_known m lower.Row r0 r tr es h = found_table m.me m.block m.era m.header r0 r es h.0
 lowering_known m lower.Show r0 r tr es h = found_table m.me m.block m.era m.header r0 r es h.0
 lowering_known m lower.Exchange r0 r tr es h = found_table m.me m.block m.era m.header r0 r es h.0
 lowering_known m lower.Close r0 r tr es h = table_of r0 r (ap (λ (x : Memo). x.part) h.0.rest)
 
-lowering_word : (m : LoweringState) (y : LoweringPoint) → IsSteady word_control (word_part (is_header y) m.me (lowering_ask m.me m.block m.era m.header y) (LoweringFound m y))
+lowering_word : (m : MendLowerState) (y : MendLowerPoint) → IsSteady word_control (word_part (is_header y) m.me (lowering_ask m.me m.block m.era m.header y) (LoweringFound m y))
 lowering_word m y = word_steady (is_header y) m.me (lowering_ask m.me m.block m.era m.header y) (LoweringFound m y)
 
-lowering_call : (m : LoweringState) (y : LoweringPoint) → IsSteady word_control (lowering_part m y)
+lowering_call : (m : MendLowerState) (y : MendLowerPoint) → IsSteady word_control (lowering_part m y)
 lowering_call m lower.Exchange = event_steady false m.me (lowering_ask m.me m.block m.era m.header lower.Exchange) (former_event m.me.who m.block m.header) (LoweringFound m lower.Exchange)
 lowering_call m lower.Header = grown_steady (is_header lower.Header) word_control (word_part (is_header lower.Header) m.me (lowering_ask m.me m.block m.era m.header lower.Header) (LoweringFound m lower.Header)) (lowering_word m lower.Header)
 lowering_call m lower.Row = grown_steady (is_header lower.Row) word_control (word_part (is_header lower.Row) m.me (lowering_ask m.me m.block m.era m.header lower.Row) (LoweringFound m lower.Row)) (lowering_word m lower.Row)
@@ -56,7 +56,7 @@ lowering_steady = calls_steady word_control lowering_plan (λ m. lowering_known 
 
 -- ---- the latch
 
-unlatching_known : (m : UnlatchingState) (y : UnlatchingPoint) (r0 r : Memo) (tr : Trail) (es : List Event) → UnlatchingKnows m y r0 r tr es → SameTable r0 r
+unlatching_known : (m : MendUnlatchState) (y : MendUnlatchPoint) (r0 r : Memo) (tr : Trail) (es : List Event) → UnlatchingKnows m y r0 r tr es → SameTable r0 r
 unlatching_known m unlatch.Whose r0 r tr es (may, same, none, quiet) = table_of r0 r (ap (λ (x : Memo). x.part) same)
 unlatching_known m unlatch.Look r0 r tr es h = table_of r0 r (ap (λ (x : Memo). x.part) h.0.same)
 unlatching_known m unlatch.Give r0 r tr es h = table_of r0 r (ap (λ (x : Memo). x.part) h.0.same)

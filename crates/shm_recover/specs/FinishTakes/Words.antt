@@ -19,7 +19,7 @@ use Rattle.shm_graph.specs.Core.{core}
 use Rattle.shm_graph.specs.Held.{HeldAt}
 use Rattle.shm_graph.specs.Laws.{framed}
 use Rattle.shm_graph.specs.Reach.{learnt}
-use Rattle.shm_graph.specs.Readings.{is_head_slot, valued}
+use Rattle.shm_graph.specs.MemoAfterRead.{is_head_slot, valued}
 use Rattle.shm_graph.specs.Views.{own_word, targets, view}
 use Rattle.shm_graph.proofs.Memos.Calls.{FactHolds}
 use Rattle.shm_graph.proofs.States.Holders.{Holds}

@@ -11,7 +11,7 @@ use Rattle.shm_graph.specs.Asks.{Trail}
 use Rattle.shm_graph.specs.Core.{core}
 use Rattle.shm_graph.specs.Events.{Event}
 use Rattle.shm_graph.specs.Laws.{GoneNow, Outcome}
-use Rattle.shm_graph.specs.Stores.{not_segment}
+use Rattle.shm_graph.specs.MemoAfterStore.{not_segment}
 use Rattle.shm_graph.specs.Views.{own_word}
 use Rattle.shm_laws.proofs.Keep.{filter_from}
 use Rattle.shm_steps.proofs.Cores.{here_same}

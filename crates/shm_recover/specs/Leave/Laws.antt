@@ -9,7 +9,7 @@ use Rattle.shm_graph.specs.declared.spot.Spot.TheVariants.{Hold}
 use Rattle.shm_graph.specs.declared.memo.Memo.{Memo}
 use Rattle.shm_graph.specs.Asks.{Trail}
 use Rattle.shm_graph.specs.Events.{Event}
-use Rattle.shm_graph.specs.Stores.{not_segment}
+use Rattle.shm_graph.specs.MemoAfterStore.{not_segment}
 use Rattle.shm_graph.specs.Views.{own_word}
 use Rattle.shm_laws.proofs.Keep.{filter_from}
 use Rattle.shm_calls.specs.declared.or.Or.TheVariants.{First, Second}

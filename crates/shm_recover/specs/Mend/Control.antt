@@ -24,8 +24,8 @@ use Rattle.shm_count.specs.CommitTest.{is_first_half, testing_plan}
 use Rattle.shm_recover.specs.declared.mend.MendPoint.{MendPoint}
 use Rattle.shm_recover.specs.declared.mend.MendPoint.TheVariants.{Dead, Era, Redo, More, Test, Slot, Close, Lower, Unlatch}
 use Rattle.shm_recover.specs.declared.mend.MendState.{MendState}
-use Rattle.shm_recover.specs.declared.mend_lower.LoweringState.{LoweringState}
-use Rattle.shm_recover.specs.declared.mend_unlatch.UnlatchingState.{UnlatchingState}
+use Rattle.shm_recover.specs.declared.mend_lower.MendLowerState.{MendLowerState}
+use Rattle.shm_recover.specs.declared.mend_unlatch.MendUnlatchState.{MendUnlatchState}
 use Rattle.shm_recover.specs.MendLower.Control.{lowering}
 use Rattle.shm_recover.specs.MendLower.{lowering_plan}
 use Rattle.shm_recover.specs.MendUnlatch.Control.{unlatching}
@@ -33,7 +33,7 @@ use Rattle.shm_recover.specs.MendUnlatch.{unlatching_plan}
 
 -- its calls, and what they answer
 abbrev pub MendCall : Type 0
-MendCall = Or Word (Or (Calls TestingState Word Commit ℕ) (Or (Calls LoweringState Word (Unit {0}) ℕ) (Calls UnlatchingState Word (Unit {0}) ℕ)))
+MendCall = Or Word (Or (Calls TestingState Word Commit ℕ) (Or (Calls MendLowerState Word (Unit {0}) ℕ) (Calls MendUnlatchState Word (Unit {0}) ℕ)))
 
 abbrev pub MendAnswer : Type 0
 MendAnswer = Or ℕ (Or Commit (Or (Unit {0}) (Unit {0})))

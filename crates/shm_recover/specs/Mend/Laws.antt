@@ -24,7 +24,7 @@ use Rattle.shm_graph.specs.Events.{Event}
 use Rattle.shm_graph.specs.Held.{OpTie}
 use Rattle.shm_graph.specs.Ops.{IsUncommitted, on_of, slot_of}
 use Rattle.shm_graph.specs.References.{words_of}
-use Rattle.shm_graph.specs.Stores.{era_stored, op_closed, op_written}
+use Rattle.shm_graph.specs.MemoAfterStore.{era_stored, op_closed, op_written}
 use Rattle.shm_graph.specs.Views.{own_word}
 use Rattle.shm_laws.specs.OwnWords.{Closes}
 use Rattle.shm_calls.specs.declared.or.Or.TheVariants.{First, Second}

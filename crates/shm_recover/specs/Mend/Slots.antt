@@ -20,7 +20,7 @@ use Rattle.shm_graph.specs.Ops.{cover, cover_of, is_op, slot_of}
 use Rattle.shm_graph.specs.Reach.{shown}
 use Rattle.shm_graph.specs.References.{words_of}
 use Rattle.shm_graph.specs.Spots.{IsAt, same_spot, spot_address}
-use Rattle.shm_graph.specs.Stores.{op_written}
+use Rattle.shm_graph.specs.MemoAfterStore.{op_written}
 use Rattle.shm_graph.specs.Views.{own_word, view}
 use Rattle.shm_graph.proofs.Spots.SpotPlaces.{at_is_in}
 use Rattle.shm_graph.proofs.Spots.Spotting.{in_pool}

@@ -18,7 +18,7 @@ use Rattle.shm_graph.specs.Held.{OpTie, odd}
 use Rattle.shm_graph.specs.Ops.{IsUncommitted, on_of, slot_of}
 use Rattle.shm_graph.specs.References.{Words}
 use Rattle.shm_graph.specs.Spots.{spot_address}
-use Rattle.shm_graph.specs.Stores.{op_closed, op_written}
+use Rattle.shm_graph.specs.MemoAfterStore.{op_closed, op_written}
 use Rattle.shm_laws.specs.OwnWords.{Closes}
 use Rattle.shm_laws.specs.Slotting.{Writes}
 use Rattle.shm_count.specs.CommitTest.{is_first_half, step_block}

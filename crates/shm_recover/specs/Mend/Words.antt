@@ -23,7 +23,7 @@ use Rattle.shm_graph.specs.Ops.{IsUncommitted, On, Quiet, cover, cover_of, held_
 use Rattle.shm_graph.specs.Reach.{shown}
 use Rattle.shm_graph.specs.References.{words_of}
 use Rattle.shm_graph.specs.Spots.{same_spot}
-use Rattle.shm_graph.specs.Stores.{era_stored, is_lowering, op_closed, op_written, with_own, without_looks}
+use Rattle.shm_graph.specs.MemoAfterStore.{era_stored, is_lowering, op_closed, op_written, with_own, without_looks}
 use Rattle.shm_graph.specs.Views.{own_word, owner_is, view}
 use Rattle.shm_graph.proofs.Spots.Spotting.{same_spot_is}
 use Rattle.shm_laws.specs.OwnWords.{Closes}

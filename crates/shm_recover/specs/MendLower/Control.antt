@@ -9,12 +9,12 @@ use Rattle.shm_graph.specs.declared.ask.Ask.TheVariants as ask
 use Rattle.shm_graph.specs.declared.ask.Me.{Me}
 use Rattle.shm_calls.specs.declared.word.Word.{Word}
 use Rattle.shm_count.specs.Step.Control.{row_address}
-use Rattle.shm_recover.specs.declared.mend_lower.LoweringPoint.{LoweringPoint}
-use Rattle.shm_recover.specs.declared.mend_lower.LoweringPoint.TheVariants.{Header, Row, Show, Exchange, Close}
-use Rattle.shm_recover.specs.declared.mend_lower.LoweringState.{LoweringState}
+use Rattle.shm_recover.specs.declared.mend_lower.MendLowerPoint.{MendLowerPoint}
+use Rattle.shm_recover.specs.declared.mend_lower.MendLowerPoint.TheVariants.{Header, Row, Show, Exchange, Close}
+use Rattle.shm_recover.specs.declared.mend_lower.MendLowerState.{MendLowerState}
 
 -- before its first word step
-abbrev pub lowering : Me → ℕ → ℕ → LoweringState
+abbrev pub lowering : Me → ℕ → ℕ → MendLowerState
 lowering me b e = record { me = me; block = b; era = e; header = 0; point = Header }
 
 -- the header that a word is
@@ -26,37 +26,37 @@ abbrev pub lowered : ℕ → ℕ → ℕ → ℕ
 lowered c e n = header_word (record { live = true; client = c; count = (header_of n).count - 1; era = e })
 
 -- the word step at a point, where the header n was found last
-abbrev pub lowering_ask : Me → ℕ → ℕ → ℕ → LoweringPoint → Ask
+abbrev pub lowering_ask : Me → ℕ → ℕ → ℕ → MendLowerPoint → Ask
 lowering_ask me b e n Header = ask.Load b
 lowering_ask me b e n Row = ask.Load (row_address me (header_of n).client)
 lowering_ask me b e n Show = ask.Store (row_address me (header_of n).client) (header_of n).era
 lowering_ask me b e n Exchange = ask.Exchange b n (lowered me.who e n)
 lowering_ask me b e n Close = ask.Store (address me.geometry (place.Era me.who me.who)) (e + 1)
 
-abbrev pub lowering_call : LoweringState → LoweringPoint → Word
+abbrev pub lowering_call : MendLowerState → MendLowerPoint → Word
 lowering_call m y = record { me = m.me; ask = lowering_ask m.me m.block m.era m.header y; over = false }
 
 -- a header was found: another client's is shown in the own row first
-abbrev pub found : LoweringState → ℕ → LoweringState
+abbrev pub found : MendLowerState → ℕ → MendLowerState
 found m n = record m { header = n; point = if (header_of n).client == m.me.who then Exchange else Row }
 
-abbrev pub lowering_after : LoweringState → LoweringPoint → ℕ → LoweringState
+abbrev pub lowering_after : MendLowerState → MendLowerPoint → ℕ → MendLowerState
 lowering_after m Header n = found m n
 lowering_after m Row n = record m { point = if nat_lt n (header_of m.header).era then Show else Exchange }
 lowering_after m Show n = record m { point = Exchange }
 lowering_after m Exchange n = if n == m.header then record m { point = Close } else found m n
 lowering_after m Close n = m
 
-abbrev pub lowering_turns : LoweringPoint → Option (Unit {0})
+abbrev pub lowering_turns : MendLowerPoint → Option (Unit {0})
 lowering_turns Close = Some tt
 lowering_turns y = None
 
-abbrev pub is_header : LoweringPoint → Bool
+abbrev pub is_header : MendLowerPoint → Bool
 is_header Header = true
 is_header y = false
 
 -- what the control keeps in range
-pub record LoweringInRange (m : LoweringState) : Type 0 where
+pub record LoweringInRange (m : MendLowerState) : Type 0 where
   pub geometry : GeometryFits m.me.geometry
   pub who : m.me.who < m.me.geometry.clients
   pub era : m.era < 2 ^ 47

@@ -16,14 +16,14 @@ use Rattle.shm_graph.specs.declared.memo.Second.TheVariants.{Closed, Open}
 use Rattle.shm_graph.specs.Asks.{at_of, seen_of}
 use Rattle.shm_graph.specs.Blocks.{classes}
 use Rattle.shm_graph.specs.Events.{Event}
-use Rattle.shm_graph.specs.Exchanges.{committed, cut, without_made}
+use Rattle.shm_graph.specs.MemoAfterExchange.{committed, cut, without_made}
 use Rattle.shm_graph.specs.Held.{HeldAt, OpTie}
 use Rattle.shm_graph.specs.Laws.{Frame, Stands}
 use Rattle.shm_graph.specs.Ops.{held_over_of}
 use Rattle.shm_graph.specs.Reach.{sifted}
 use Rattle.shm_graph.specs.References.{words_of}
 use Rattle.shm_graph.specs.Spots.{spot_at}
-use Rattle.shm_graph.specs.Stores.{not_of}
+use Rattle.shm_graph.specs.MemoAfterStore.{not_of}
 use Rattle.shm_graph.specs.Views.{view}
 use Rattle.shm_graph.proofs.States.Holders.{held_over_counted}
 use Rattle.shm_laws.proofs.Keep.{block_not_zero}

@@ -20,10 +20,10 @@ use Rattle.shm_graph.specs.declared.memo.Second.TheVariants.{Open}
 use Rattle.shm_graph.specs.Asks.{Trail, IsWithin, failed, pair}
 use Rattle.shm_graph.specs.Core.{core}
 use Rattle.shm_graph.specs.Events.{ChangeDown, Event, Nothing as NoEvent}
-use Rattle.shm_graph.specs.Exchanges.{committed}
+use Rattle.shm_graph.specs.MemoAfterExchange.{committed}
 use Rattle.shm_graph.specs.Blocks.{classes}
 use Rattle.shm_graph.specs.Spots.{same_spot, spot_at}
-use Rattle.shm_graph.specs.Stores.{is_lowering, op_closed}
+use Rattle.shm_graph.specs.MemoAfterStore.{is_lowering, op_closed}
 use Rattle.shm_graph.specs.Tells.{is_event}
 use Rattle.shm_graph.specs.Views.{own_word}
 use Rattle.shm_graph.proofs.Spots.Spotting.{same_spot_self}
@@ -35,17 +35,17 @@ use Rattle.shm_calls.specs.Parts.{PartLaws}
 use Rattle.shm_calls.specs.Plans.{Follows, PlanLaws, PlanStays}
 use Rattle.shm_calls.specs.Words.{IsWord, word_control, word_part, word_part_laws}
 use Rattle.shm_count.specs.Step.Control.{row_address}
-use Rattle.shm_count.specs.CommitTest.Reads.{one_read, read_part_laws}
+use Rattle.shm_count.specs.CommitTest.StepTrail.{one_read, read_part_laws}
 use Rattle.shm_steps.specs.Conditions.{IsHere}
 use Rattle.shm_steps.specs.Raising.{OwnRowShows}
 use Rattle.shm_steps.specs.WordParts.{FormerLowered, HeaderSeen, former_event}
 use Rattle.shm_steps.proofs.Cores.{here_same}
 use Rattle.shm_steps.proofs.Words.Blocks.{header_see, recoverer_goes_on}
-use Rattle.shm_steps.proofs.Words.Exchanges.{lower_former}
+use Rattle.shm_steps.proofs.Words.FormerBlock.{lower_former}
 use Rattle.shm_steps.proofs.Words.Own.{era_close_lowering, era_load, row_store}
-use Rattle.shm_recover.specs.declared.mend_lower.LoweringPoint.{LoweringPoint}
-use Rattle.shm_recover.specs.declared.mend_lower.LoweringPoint.TheVariants.{Header, Row, Show, Exchange, Close}
-use Rattle.shm_recover.specs.declared.mend_lower.LoweringState.{LoweringState}
+use Rattle.shm_recover.specs.declared.mend_lower.MendLowerPoint.{MendLowerPoint}
+use Rattle.shm_recover.specs.declared.mend_lower.MendLowerPoint.TheVariants.{Header, Row, Show, Exchange, Close}
+use Rattle.shm_recover.specs.declared.mend_lower.MendLowerState.{MendLowerState}
 use Rattle.shm_recover.specs.MendRest.{bare, is_row}
 use Rattle.shm_recover.specs.MendLower.Control.{found, is_header, lowered, lowering, lowering_ask, lowering_call}
 use Rattle.shm_recover.specs.MendLower.{ExchangeFound, HasFound, IsCounted, IsLowered, IsSame, LoweringFound, LoweringKnows, MayLowerDead, lowering_part, lowering_plan}
@@ -71,7 +71,7 @@ row_there me j l = cond-true (nat_lt j me.geometry.clients) (address me.geometry
 
 -- ---- what is needed
 
-module _ (m : LoweringState) (r0 r : Memo) (es : List Event) (h : HasFound m.me m.block m.era m.header r0 r es) where
+module _ (m : MendLowerState) (r0 r : Memo) (es : List Event) (h : HasFound m.me m.block m.era m.header r0 r es) where
   abbrev c : ℕ
   c = m.me.who
 
@@ -116,7 +116,7 @@ module _ (m : LoweringState) (r0 r : Memo) (es : List Event) (h : HasFound m.me 
         shows = shows;
       }))
 
-opens : (m : LoweringState) (y : LoweringPoint) (r0 r : Memo) (tr : Trail) (es : List Event) → LoweringKnows (record m { point = y }) y r0 r tr es → (lowering_part (record m { point = y }) y).needs (lowering_call m y) r
+opens : (m : MendLowerState) (y : MendLowerPoint) (r0 r : Memo) (tr : Trail) (es : List Event) → LoweringKnows (record m { point = y }) y r0 r tr es → (lowering_part (record m { point = y }) y).needs (lowering_call m y) r
 opens m Header r0 r tr es (may0, same, none, quiet) =
     let may : MayLowerDead m.me m.block m.era r = subst (MayLowerDead m.me m.block m.era) (sym same) may0 in
     word_besides true m.me (ask.Load m.block) (HeaderSeen m.me.geometry m.block) (LoweringFound m Header) r
@@ -135,7 +135,7 @@ opens m Close r0 r tr es (h, bound) =
 
 -- ---- where it goes
 
-module _ (m : LoweringState) (r0 rs r : Memo) (tr t : Trail) (es ds : List Event) (n : ℕ) where
+module _ (m : MendLowerState) (r0 rs r : Memo) (tr t : Trail) (es ds : List Event) (n : ℕ) where
   abbrev who : ℕ
   who = m.me.who
 
@@ -154,15 +154,15 @@ module _ (m : LoweringState) (r0 rs r : Memo) (tr t : Trail) (es ds : List Event
       }
 
   -- a header was found
-  found_led : HasFound m.me m.block m.era n r0 r (es ++ ds) → IsWithin 1 (tr ++ t) → let m2 : LoweringState = found m n in LoweringKnows m2 m2.point r0 r (tr ++ t) (es ++ ds)
+  found_led : HasFound m.me m.block m.era n r0 r (es ++ ds) → IsWithin 1 (tr ++ t) → let m2 : MendLowerState = found m n in LoweringKnows m2 m2.point r0 r (tr ++ t) (es ++ ds)
   found_led h one = go (eqb (header_of n).client who) (eqb-true (header_of n).client who) (eqb-false (header_of n).client who)
     where
       go : (q : Bool) → (q ≡ true → (header_of n).client ≡ who) → (q ≡ false → (header_of n).client ≢ who)
-          → let m2 : LoweringState = record m { header = n; point = cond q Exchange Row } in LoweringKnows m2 m2.point r0 r (tr ++ t) (es ++ ds)
+          → let m2 : MendLowerState = record m { header = n; point = cond q Exchange Row } in LoweringKnows m2 m2.point r0 r (tr ++ t) (es ++ ds)
       go true mine other = (h, (λ z. absurd (z (sym (mine refl)))), (let z = one in omega arith))
       go false mine other = (h, (λ z. other refl (sym z)), one)
 
-  header_led : LoweringKnows (record m { point = Header }) Header r0 rs tr es → (lowering_part m Header).leaves (lowering_call m Header) rs r t ds n → let m2 : LoweringState = found m n in LoweringKnows m2 m2.point r0 r (tr ++ t) (es ++ ds)
+  header_led : LoweringKnows (record m { point = Header }) Header r0 rs tr es → (lowering_part m Header).leaves (lowering_call m Header) rs r t ds n → let m2 : MendLowerState = found m n in LoweringKnows m2 m2.point r0 r (tr ++ t) (es ++ ds)
   header_led (may, begun, empty, still) (w, grows) =
       found_led
       (record {
@@ -174,7 +174,7 @@ module _ (m : LoweringState) (r0 rs r : Memo) (tr t : Trail) (es ds : List Event
       (let z = w.one in subst (λ (x : Trail). IsWithin 1 (x ++ t)) (sym empty) (omega arith))
 
   row_led : LoweringKnows (record m { point = Row }) Row r0 rs tr es → (lowering_part m Row).leaves (lowering_call m Row) rs r t ds n
-      → let m2 : LoweringState = record m { point = cond (nat_lt n (header_of m.header).era) Show Exchange } in LoweringKnows m2 m2.point r0 r (tr ++ t) (es ++ ds)
+      → let m2 : MendLowerState = record m { point = cond (nat_lt n (header_of m.header).era) Show Exchange } in LoweringKnows m2 m2.point r0 r (tr ++ t) (es ++ ds)
   row_led (h, other, bound) (w, grows) = go (nat_lt n (header_of m.header).era) (ltb-true n (header_of m.header).era) (ltb-false n (header_of m.header).era)
     where
       after : HasFound m.me m.block m.era m.header r0 r (es ++ ds)
@@ -187,7 +187,7 @@ module _ (m : LoweringState) (r0 rs r : Memo) (tr t : Trail) (es ds : List Event
       two = within_more 1 1 tr t bound (let z = w.one in omega arith)
 
       go : (q : Bool) → (q ≡ true → n < (header_of m.header).era) → (q ≡ false → (header_of m.header).era ≤ n)
-          → let m2 : LoweringState = record m { point = cond q Show Exchange } in LoweringKnows m2 m2.point r0 r (tr ++ t) (es ++ ds)
+          → let m2 : MendLowerState = record m { point = cond q Show Exchange } in LoweringKnows m2 m2.point r0 r (tr ++ t) (es ++ ds)
       go true low high = (after, other, (let z = low refl in let y = is in omega arith), two)
       go false low high = (after, (λ z. let x = high refl in let y = is in omega arith), (let z = two in omega arith))
 
@@ -238,7 +238,7 @@ module _ (m : LoweringState) (r0 rs r : Memo) (tr t : Trail) (es ds : List Event
       omega arith
 
   exchange_led : LoweringKnows (record m { point = Exchange }) Exchange r0 rs tr es → (lowering_part m Exchange).leaves (lowering_call m Exchange) rs r t ds n
-      → let m2 : LoweringState = cond (eqb n m.header) (record m { point = Close }) (found m n) in LoweringKnows m2 m2.point r0 r (tr ++ t) (es ++ ds)
+      → let m2 : MendLowerState = cond (eqb n m.header) (record m { point = Close }) (found m n) in LoweringKnows m2 m2.point r0 r (tr ++ t) (es ++ ds)
   exchange_led (h, shows, bound) (w, asked) = go (eqb n m.header) (eqb-true n m.header) (eqb-false n m.header) w.found.0.left refl
     where
       op_is : rs.op ≡ Change (Lowering Open) h.may.slot m.block h.may.after m.era
@@ -251,7 +251,7 @@ module _ (m : LoweringState) (r0 rs r : Memo) (tr t : Trail) (es ds : List Event
       done = subst (λ o. IsLowering h.may.slot m.block h.may.after m.era rs (committed m.me.geometry.wide who rs o to)) (sym op_is) (half_committed m.me.geometry.wide who rs h.may.slot m.block h.may.after m.era to)
 
       go : (q : Bool) → (q ≡ true → n ≡ m.header) → (q ≡ false → n ≢ m.header) → core r ≡ core (cond q (committed m.me.geometry.wide who rs rs.op to) rs) → filter is_event (former_event who m.block m.header n ∷ []) ≡ filter is_event (cond q (ChangeDown who m.block) NoEvent ∷ [])
-          → let m2 : LoweringState = cond q (record m { point = Close }) (found m n) in LoweringKnows m2 m2.point r0 r (tr ++ t) (es ++ ds)
+          → let m2 : MendLowerState = cond q (record m { point = Close }) (found m n) in LoweringKnows m2 m2.point r0 r (tr ++ t) (es ++ ds)
       go true is other left event = (
         record {
           may = h.may;
@@ -308,10 +308,10 @@ lowering_laws =
       leads = λ m r0 rs r tr t es ds n h w held same. leads m m.point r0 rs r tr t es ds n h w;
     }
   where
-    plain : (m : LoweringState) (y : LoweringPoint) → PartLaws (is_header y) word_control (grown (is_header y) (word_part (is_header y) m.me (lowering_ask m.me m.block m.era m.header y) (LoweringFound m y)))
+    plain : (m : MendLowerState) (y : MendLowerPoint) → PartLaws (is_header y) word_control (grown (is_header y) (word_part (is_header y) m.me (lowering_ask m.me m.block m.era m.header y) (LoweringFound m y)))
     plain m y = grown_laws (is_header y) word_control (word_part (is_header y) m.me (lowering_ask m.me m.block m.era m.header y) (LoweringFound m y)) (word_part_laws (is_header y) m.me (lowering_ask m.me m.block m.era m.header y) (LoweringFound m y))
 
-    parts : (m : LoweringState) (y : LoweringPoint) → PartLaws (is_header y) word_control (lowering_part m y)
+    parts : (m : MendLowerState) (y : MendLowerPoint) → PartLaws (is_header y) word_control (lowering_part m y)
     parts m Header = plain m Header
     parts m Row = plain m Row
     parts m Show = plain m Show
@@ -320,29 +320,29 @@ lowering_laws =
         let a = lowering_ask m.me m.block m.era m.header Exchange in
         read_part_laws false word_control (event_part false m.me a (former_event m.me.who m.block m.header) (LoweringFound m Exchange)) (event_part_laws false m.me a (former_event m.me.who m.block m.header) (LoweringFound m Exchange))
 
-    alike : {T : Type 0} (f : LoweringState → T) (q : Bool) (m n : LoweringState) {v : T} → f m ≡ v → f n ≡ v → f (cond q m n) ≡ v
+    alike : {T : Type 0} (f : MendLowerState → T) (q : Bool) (m n : MendLowerState) {v : T} → f m ≡ v → f n ≡ v → f (cond q m n) ≡ v
     alike f true m n a b = a
     alike f false m n a b = b
 
-    later : (q : Bool) (x y : LoweringPoint) → is_header x ≡ false → is_header y ≡ false → is_header (cond q x y) ≡ false
+    later : (q : Bool) (x y : MendLowerPoint) → is_header x ≡ false → is_header y ≡ false → is_header (cond q x y) ≡ false
     later true x y a b = a
     later false x y a b = b
 
-    stays : (m : LoweringState) (y : LoweringPoint) (n : ℕ) → PlanStays word_control lowering_plan (record m { point = y }) n
+    stays : (m : MendLowerState) (y : MendLowerPoint) (n : ℕ) → PlanStays word_control lowering_plan (record m { point = y }) n
     stays m Header n = record { same_me = refl; same_line = refl; same_start = refl; started = λ e. later (eqb (header_of n).client m.me.who) Exchange Row refl refl }
     stays m Row n = record { same_me = refl; same_line = refl; same_start = refl; started = λ e. later (nat_lt n (header_of m.header).era) Show Exchange refl refl }
     stays m Show n = record { same_me = refl; same_line = refl; same_start = refl; started = λ e. refl }
     stays m Exchange n =
-        let p : LoweringState = record m { point = Close } in
+        let p : MendLowerState = record m { point = Close } in
         record {
-          same_me = alike (λ (x : LoweringState). x.me) (eqb n m.header) p (found m n) refl refl;
+          same_me = alike (λ (x : MendLowerState). x.me) (eqb n m.header) p (found m n) refl refl;
           same_line = refl;
           same_start = alike lowering_plan.start (eqb n m.header) p (found m n) refl refl;
-          started = λ e. alike (λ (x : LoweringState). is_header x.point) (eqb n m.header) p (found m n) refl (later (eqb (header_of n).client m.me.who) Exchange Row refl refl);
+          started = λ e. alike (λ (x : MendLowerState). is_header x.point) (eqb n m.header) p (found m n) refl (later (eqb (header_of n).client m.me.who) Exchange Row refl refl);
         }
     stays m Close n = record { same_me = refl; same_line = refl; same_start = refl; started = λ e. absurd (cc) }
 
-    leads : (m : LoweringState) (y : LoweringPoint) (r0 rs r : Memo) (tr t : Trail) (es ds : List Event) (n : ℕ) → LoweringKnows (record m { point = y }) y r0 rs tr es → (lowering_part (record m { point = y }) y).leaves (lowering_call m y) rs r t ds n
+    leads : (m : MendLowerState) (y : MendLowerPoint) (r0 rs r : Memo) (tr t : Trail) (es ds : List Event) (n : ℕ) → LoweringKnows (record m { point = y }) y r0 rs tr es → (lowering_part (record m { point = y }) y).leaves (lowering_call m y) rs r t ds n
         → Follows word_control lowering_plan (record m { point = y }) n r0 r (tr ++ t) (es ++ ds)
     leads m Header r0 rs r tr t es ds n h w = header_led (record m { point = Header }) r0 rs r tr t es ds n h w
     leads m Row r0 rs r tr t es ds n h w = row_led (record m { point = Row }) r0 rs r tr t es ds n h w

@@ -25,9 +25,9 @@ use Rattle.shm_calls.specs.Words.{WordLeaves, word_control, word_part_laws}
 use Rattle.shm_steps.proofs.Cores.{here_same}
 use Rattle.shm_steps.proofs.Words.Own.{hold_end, hold_store}
 use Rattle.shm_steps.proofs.Words.Shared.{latch_give, latch_load}
-use Rattle.shm_recover.specs.declared.mend_unlatch.UnlatchingPoint.{UnlatchingPoint}
-use Rattle.shm_recover.specs.declared.mend_unlatch.UnlatchingPoint.TheVariants.{Whose, Look, Give, Back}
-use Rattle.shm_recover.specs.declared.mend_unlatch.UnlatchingState.{UnlatchingState}
+use Rattle.shm_recover.specs.declared.mend_unlatch.MendUnlatchPoint.{MendUnlatchPoint}
+use Rattle.shm_recover.specs.declared.mend_unlatch.MendUnlatchPoint.TheVariants.{Whose, Look, Give, Back}
+use Rattle.shm_recover.specs.declared.mend_unlatch.MendUnlatchState.{MendUnlatchState}
 use Rattle.shm_recover.specs.MendRest.{bare, is_hold}
 use Rattle.shm_recover.specs.MendUnlatch.Control.{is_whose, unlatching, unlatching_ask, unlatching_call}
 use Rattle.shm_recover.specs.MendUnlatch.{MayUnlatchDead, UnlatchingFound, UnlatchingKnows, Unlatched, unlatching_part, unlatching_plan}
@@ -61,7 +61,7 @@ other_word c _ e = refl
 
 -- ---- the word steps
 
-opens : (m : UnlatchingState) (y : UnlatchingPoint) (r0 r : Memo) (tr : Trail) (es : List Event) → UnlatchingKnows (record m { point = y }) y r0 r tr es → (unlatching_part (record m { point = y }) y).needs (unlatching_call m y) r
+opens : (m : MendUnlatchState) (y : MendUnlatchPoint) (r0 r : Memo) (tr : Trail) (es : List Event) → UnlatchingKnows (record m { point = y }) y r0 r tr es → (unlatching_part (record m { point = y }) y).needs (unlatching_call m y) r
 opens m Whose r0 r tr es (may, same, none, quiet) = hold_end true m.me r may.who (λ e. subst (λ (x : Memo). IsUncommitted x.op) (sym same) may.ended)
 opens m Look r0 r tr es (h, bound) = latch_load false m.me r h.may.who m.author h.author
 opens m Give r0 r tr es (h, holds, bound) =
@@ -87,19 +87,19 @@ unlatching_laws =
       leads = λ m r0 rs r tr t es ds n h w held same. leads m m.point r0 rs r tr t es ds n h w held;
     }
   where
-    alike : {T : Type 0} (f : UnlatchingState → T) (q : Bool) (m n : UnlatchingState) {v : T} → f m ≡ v → f n ≡ v → f (cond q m n) ≡ v
+    alike : {T : Type 0} (f : MendUnlatchState → T) (q : Bool) (m n : MendUnlatchState) {v : T} → f m ≡ v → f n ≡ v → f (cond q m n) ≡ v
     alike f true m n a b = a
     alike f false m n a b = b
 
-    going : (m : UnlatchingState) (a : ℕ) (q : Bool) → ◌≡◌ {A = Option (Unit {0})} (cond q (Some tt) None) None → is_whose (cond q m (record m { author = a; point = Look })).point ≡ false
+    going : (m : MendUnlatchState) (a : ℕ) (q : Bool) → ◌≡◌ {A = Option (Unit {0})} (cond q (Some tt) None) None → is_whose (cond q m (record m { author = a; point = Look })).point ≡ false
     going m a true e = absurd (cc)
     going m a false e = refl
 
-    stays : (m : UnlatchingState) (y : UnlatchingPoint) (n : ℕ) → PlanStays word_control unlatching_plan (record m { point = y }) n
+    stays : (m : MendUnlatchState) (y : MendUnlatchPoint) (n : ℕ) → PlanStays word_control unlatching_plan (record m { point = y }) n
     stays m Whose n =
-        let p : UnlatchingState = record m { point = Whose } in
-        let q : UnlatchingState = record m { author = (n - 1) % m.me.geometry.clients; point = Look } in
-        record { same_me = alike (λ (x : UnlatchingState). x.me) (eqb n 0) p q refl refl; same_line = refl; same_start = alike unlatching_plan.start (eqb n 0) p q refl refl; started = going p ((n - 1) % m.me.geometry.clients) (eqb n 0) }
+        let p : MendUnlatchState = record m { point = Whose } in
+        let q : MendUnlatchState = record m { author = (n - 1) % m.me.geometry.clients; point = Look } in
+        record { same_me = alike (λ (x : MendUnlatchState). x.me) (eqb n 0) p q refl refl; same_line = refl; same_start = alike unlatching_plan.start (eqb n 0) p q refl refl; started = going p ((n - 1) % m.me.geometry.clients) (eqb n 0) }
     stays m Look n = record { same_me = refl; same_line = refl; same_start = refl; started = λ e. later (eqb n (m.me.who + 1)) }
       where
         later : (q : Bool) → is_whose (cond q Give Back) ≡ false
@@ -111,10 +111,10 @@ unlatching_laws =
     quiet : (es ds : List Event) → es ≡ [] → ds ≡ [] → es ++ ds ≡ []
     quiet es ds a b = ap (λ (x : List Event). x ++ ds) a ∙ b
 
-    Leaves : UnlatchingState → UnlatchingPoint → Memo → Memo → Trail → List Event → ℕ → Type 0
+    Leaves : MendUnlatchState → MendUnlatchPoint → Memo → Memo → Trail → List Event → ℕ → Type 0
     Leaves m y = WordLeaves (UnlatchingFound (record m { point = y }) y) (unlatching_call m y)
 
-    leads : (m : UnlatchingState) (y : UnlatchingPoint) (r0 rs r : Memo) (tr t : Trail) (es ds : List Event) (n : ℕ) → UnlatchingKnows (record m { point = y }) y r0 rs tr es → Leaves m y rs r t ds n → IsHeld m.me r
+    leads : (m : MendUnlatchState) (y : MendUnlatchPoint) (r0 rs r : Memo) (tr t : Trail) (es ds : List Event) (n : ℕ) → UnlatchingKnows (record m { point = y }) y r0 rs tr es → Leaves m y rs r t ds n → IsHeld m.me r
         → Follows word_control unlatching_plan (record m { point = y }) n r0 r (tr ++ t) (es ++ ds)
     leads m Whose r0 rs r tr t es ds n (may, begun, empty, still) w held = go (eqb n 0) (eqb-true n 0) (eqb-false n 0)
       where
@@ -146,7 +146,7 @@ unlatching_laws =
         only some b holds = let told = is ∙ named.1 b holds in let y = (fewer some).1 in omega arith
 
         go : (q : Bool) → (q ≡ true → n ≡ 0) → (q ≡ false → n ≢ 0)
-            → let p : UnlatchingState = record m { point = Whose } in let m2 : UnlatchingState = cond q p (record p { author = author; point = Look }) in Outcome {A = Unit {0}} (cond q (Some tt) None) (UnlatchingKnows m2 m2.point r0 r (tr ++ t) (es ++ ds)) (λ u. Unlatched m.me r0 r (tr ++ t) (es ++ ds))
+            → let p : MendUnlatchState = record m { point = Whose } in let m2 : MendUnlatchState = cond q p (record p { author = author; point = Look }) in Outcome {A = Unit {0}} (cond q (Some tt) None) (UnlatchingKnows m2 m2.point r0 r (tr ++ t) (es ++ ds)) (λ u. Unlatched m.me r0 r (tr ++ t) (es ++ ds))
         go true none some =
             record {
               op = ap (λ (x : Memo). x.op) same;
@@ -167,7 +167,7 @@ unlatching_laws =
         two : IsWithin 2 (tr ++ t)
         two = within_more 1 1 tr t bound (let z = w.one in omega arith)
 
-        go : (q : Bool) → (q ≡ true → n ≡ m.me.who + 1) → (q ≡ false → n ≢ m.me.who + 1) → let m2 : UnlatchingState = record m { point = cond q Give Back } in UnlatchingKnows m2 m2.point r0 r (tr ++ t) (es ++ ds)
+        go : (q : Bool) → (q ≡ true → n ≡ m.me.who + 1) → (q ≡ false → n ≢ m.me.who + 1) → let m2 : MendUnlatchState = record m { point = cond q Give Back } in UnlatchingKnows m2 m2.point r0 r (tr ++ t) (es ++ ds)
         go true mine other = (
           record { may = h.may; author = h.author; same = w.found.left ∙ h.same; only = λ b e. h.only b (sym latch_is ∙ e); none = quiet es ds h.none w.none },
           latch_is ∙ w.found.found.0 (mine refl),

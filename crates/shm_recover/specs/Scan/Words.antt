@@ -20,7 +20,7 @@ use Rattle.shm_graph.specs.Asks.{at_of, seen_of}
 use Rattle.shm_graph.specs.Blocks.{classes}
 use Rattle.shm_graph.specs.Held.{HeldAt, IsDying}
 use Rattle.shm_graph.specs.Laws.{Frame, Stands}
-use Rattle.shm_graph.specs.Readings.{op_refused}
+use Rattle.shm_graph.specs.MemoAfterRead.{op_refused}
 use Rattle.shm_graph.specs.Spots.{class_at, spot_at}
 use Rattle.shm_graph.specs.Views.{view}
 use Rattle.shm_graph.proofs.Memos.Calls.{FactHolds}

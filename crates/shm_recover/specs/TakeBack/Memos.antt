@@ -10,7 +10,7 @@ use Rattle.shm_graph.specs.declared.table.Part.{Part}
 use Rattle.shm_graph.specs.Core.{core}
 use Rattle.shm_graph.specs.Events.{Event}
 use Rattle.shm_graph.specs.Events as event
-use Rattle.shm_graph.specs.Stores.{put}
+use Rattle.shm_graph.specs.MemoAfterStore.{put}
 use Rattle.shm_graph.specs.Held.{HeldAt}
 use Rattle.shm_graph.specs.Views.{own_word, view}
 use Rattle.shm_steps.specs.Reparting.{sight}

@@ -3,7 +3,6 @@ use Rattle.std.proofs.Common.{◌≡◌, ◌≢◌, ℕ, ◌+◌, ◌%◌, ◌<�
 use Rattle.std.specs.Prelude.{◌==◌, if◌then◌else◌, None, Some, Err}
 use Rattle.std.proofs.lemmas.Bool.{cond-false, eqb-false, eqb-true, ne_eqb}
 use Rattle.shm_words.specs.Layout.{total_of, address_limit}
-use Rattle.shm_graph.specs.declared.ask.Me.{Me}
 use Rattle.shm_graph.specs.declared.spot.Spot.TheVariants.{Hold, Home}
 use Rattle.shm_graph.specs.declared.memo.Memo.{Memo}
 use Rattle.shm_graph.specs.Asks.{Trail}
@@ -18,19 +17,15 @@ use Rattle.shm_steps.proofs.Words.Shared.{home_look}
 use Rattle.shm_calls.specs.Parts.{IsHeld}
 use Rattle.shm_calls.specs.Plans.{PlanLaws, PlanStays, Follows}
 use Rattle.shm_calls.specs.Words.{word_control, word_part, word_part_laws}
-use Rattle.shm_ref.specs.declared.home_of.FindPoint.{FindPoint}
-use Rattle.shm_ref.specs.declared.home_of.FindPoint.TheVariants.{Whose, Find}
-use Rattle.shm_ref.specs.declared.home_of.FindState.{FindState}
+use Rattle.shm_ref.specs.declared.home_of.HomeOfPoint.{HomeOfPoint}
+use Rattle.shm_ref.specs.declared.home_of.HomeOfPoint.TheVariants.{Whose, Find}
+use Rattle.shm_ref.specs.declared.home_of.HomeOfState.{HomeOfState}
 use Rattle.shm_ref.specs.AskedParts.{asked_part_laws, one_more}
-use Rattle.shm_ref.specs.HomeOf.{FindFound, HomeKnows, HomeLeaves, Found, IsFinding, find_ask, home_of_call, home_of_part, home_of_plan, finding, hold_trail, is_whose}
+use Rattle.shm_ref.specs.HomeOf.{HomeOfFound, HomeKnows, HomeLeaves, Found, IsFinding, find_ask, home_of_call, home_of_part, home_of_plan, hold_trail, is_whose}
 use Rattle.shm_ref.specs.ReadParts.{MayAsk, latch_by, looked_reached, reached_room, small_block}
 
--- what is known before the first word step
-pub home_of_begin : (me : Me) (a : ℕ) (r : Memo) → MayAsk me r → a < me.geometry.clients → HomeKnows (finding me a) Whose r r [] []
-home_of_begin me a r may author = (may, author, refl, refl, refl)
-
 -- what a word step left, and what it asked
-abbrev Leaves : FindState → FindPoint → Memo → Memo → Trail → List Event → ℕ → Type 0
+abbrev Leaves : HomeOfState → HomeOfPoint → Memo → Memo → Trail → List Event → ℕ → Type 0
 Leaves m y = (home_of_part (record m { point = y }) y).leaves (home_of_call m y)
 
 -- the looks with a home that isn't 0
@@ -42,22 +37,22 @@ home_of_laws =
     record {
       stays = λ m n. stays m m.point n;
       calls = λ m. record { me = refl; asks = refl };
-      parts = λ m. let part = word_part (is_whose m.point) m.me (find_ask m.me m.author m.point) (FindFound m m.point) in
-          asked_part_laws (is_whose m.point) word_control part (word_part_laws (is_whose m.point) m.me (find_ask m.me m.author m.point) (FindFound m m.point));
+      parts = λ m. let part = word_part (is_whose m.point) m.me (find_ask m.me m.author m.point) (HomeOfFound m m.point) in
+          asked_part_laws (is_whose m.point) word_control part (word_part_laws (is_whose m.point) m.me (find_ask m.me m.author m.point) (HomeOfFound m m.point));
       opens = λ m. opens m m.point;
       leads = λ m r0 rs r tr t es ds n h w held same. leads m m.point r0 rs r tr t es ds n h w held;
     }
   where
-    opens : (m : FindState) (y : FindPoint) (r0 r : Memo) (tr : Trail) (es : List Event) → HomeKnows (record m { point = y }) y r0 r tr es → (home_of_plan.part (record m { point = y })).needs (home_of_call m y) r
+    opens : (m : HomeOfState) (y : HomeOfPoint) (r0 r : Memo) (tr : Trail) (es : List Event) → HomeKnows (record m { point = y }) y r0 r tr es → (home_of_plan.part (record m { point = y })).needs (home_of_call m y) r
     opens m Whose r0 r tr es h = hold_load true m.me r h.0.may.who (λ e. ap (λ (x : Memo). x.op) h.2 ∙ h.0.may.idle)
     opens m Find r0 r tr es h = home_look false m.me r h.may.may.who m.author h.author (ap (λ (x : Memo). x.latch) h.same ∙ h.held)
 
-    stays : (m : FindState) (y : FindPoint) (n : ℕ) → PlanStays word_control home_of_plan (record m { point = y }) n
+    stays : (m : HomeOfState) (y : HomeOfPoint) (n : ℕ) → PlanStays word_control home_of_plan (record m { point = y }) n
     stays m Whose n = record { same_me = refl; same_line = refl; same_start = refl; started = λ e. refl }
     stays m Find n = record { same_me = refl; same_line = refl; same_start = refl; started = λ e. absurd (cc) }
 
     -- the hold word told the latch, or another one
-    told : (m : FindState) (r0 r : Memo) (tr : Trail) (es : List Event) (n : ℕ) → MayAsk m.me r0 → m.author < m.me.geometry.clients → n ≡ own_word r0.own (Hold m.me.who) → core r ≡ core r0 → es ≡ [] → tr ≡ hold_trail m.me m.author n
+    told : (m : HomeOfState) (r0 r : Memo) (tr : Trail) (es : List Event) (n : ℕ) → MayAsk m.me r0 → m.author < m.me.geometry.clients → n ≡ own_word r0.own (Hold m.me.who) → core r ≡ core r0 → es ≡ [] → tr ≡ hold_trail m.me m.author n
         → (q : Bool) → (q ≡ true → n ≡ m.author + 1) → (q ≡ false → n ≢ m.author + 1) → Outcome (if q then None else Some (Err (record {}))) (IsFinding m.me m.author r0 r tr es) (HomeLeaves (record m { point = Whose }) r0 r tr es)
     told m r0 r tr es n may low found cored none trail true mine other =
         record {
@@ -71,7 +66,7 @@ home_of_laws =
     told m r0 r tr es n may low found cored none trail false mine other =
         record { other = λ e. other refl (found ∙ e); memo = cored; none = none; trail = trail ∙ ap (hold_trail m.me m.author) found }
 
-    leads : (m : FindState) (y : FindPoint) (r0 rs r : Memo) (tr t : Trail) (es ds : List Event) (n : ℕ) → HomeKnows (record m { point = y }) y r0 rs tr es → Leaves m y rs r t ds n → IsHeld m.me r → Follows word_control home_of_plan (record m { point = y }) n r0 r (tr ++ t) (es ++ ds)
+    leads : (m : HomeOfState) (y : HomeOfPoint) (r0 rs r : Memo) (tr t : Trail) (es ds : List Event) (n : ℕ) → HomeKnows (record m { point = y }) y r0 rs tr es → Leaves m y rs r t ds n → IsHeld m.me r → Follows word_control home_of_plan (record m { point = y }) n r0 r (tr ++ t) (es ++ ds)
     leads m Whose r0 rs r tr t es ds n h w held =
         told m r0 r (tr ++ t) (es ++ ds) n h.0 h.1 (w.0.found.found ∙ ap (λ (x : Memo). own_word x.own (Hold m.me.who)) h.2) (w.0.found.left ∙ ap core h.2)
         (ap (λ (x : List Event). x ++ ds) h.4 ∙ w.0.none)

@@ -6,7 +6,6 @@ use Rattle.std.proofs.lemmas.Bool.{cond-false, eqb-false, eqb-true, ltb-false, l
 use Rattle.shm_words.specs.declared.tag.Tag.{Tag as ATag}
 use Rattle.shm_words.specs.Layout.{total_of, address_limit}
 use Rattle.shm_words.specs.Tags.{tag_author, tag_plain, tag_refs}
-use Rattle.shm_graph.specs.declared.ask.Me.{Me}
 use Rattle.shm_graph.specs.declared.spot.Spot.TheVariants.{Body, Hold, Tag}
 use Rattle.shm_graph.specs.declared.memo.Memo.{Memo}
 use Rattle.shm_graph.specs.declared.memo.Stored.{Stored}
@@ -15,7 +14,7 @@ use Rattle.shm_graph.specs.Core.{core}
 use Rattle.shm_graph.specs.Events.{Event}
 use Rattle.shm_graph.specs.Laws.{Outcome}
 use Rattle.shm_graph.specs.Reach.{is_reached, learnt}
-use Rattle.shm_graph.specs.Readings.{reference_read, values_read}
+use Rattle.shm_graph.specs.MemoAfterRead.{reference_read, values_read}
 use Rattle.shm_graph.specs.Views.{own_word}
 use Rattle.shm_steps.specs.WordParts.{as_known}
 use Rattle.shm_steps.proofs.Cores.{core_cond}
@@ -31,12 +30,8 @@ use Rattle.shm_ref.specs.declared.look.LookPoint.{LookPoint}
 use Rattle.shm_ref.specs.declared.look.LookPoint.TheVariants.{Shape, Whose, Reference}
 use Rattle.shm_ref.specs.declared.look.LookState.{LookState}
 use Rattle.shm_ref.specs.AskedParts.{asked_part_laws, one_more}
-use Rattle.shm_ref.specs.Look.{IsLooking, LookFound, LookKnows, LookLeaves, Looked, MayLook, is_shape, look_ask, look_call, look_part, look_plan, looking, tag_trail, whose_trail}
+use Rattle.shm_ref.specs.Look.{IsLooking, LookFound, LookKnows, LookLeaves, Looked, MayLook, is_shape, look_ask, look_call, look_part, look_plan, tag_trail, whose_trail}
 use Rattle.shm_ref.specs.ReadParts.{IsTag, is_tag, latch_by, looked_reached, reached_room, reached_tagged, small_block, tagged}
-
--- what is known before the first word step
-pub look_begin : (me : Me) (b k : ℕ) (r : Memo) → MayLook me b r → LookKnows (looking me b k) Shape r r [] []
-look_begin me b k r may = (may, refl, refl, refl)
 
 -- what a word step left, and what it asked
 abbrev Leaves : LookState → LookPoint → Memo → Memo → Trail → List Event → ℕ → Type 0

@@ -5,7 +5,6 @@ use Rattle.std.specs.List.{Contains}
 use Rattle.std.proofs.lemmas.Bool.{ltb-false, ltb-true}
 use Rattle.shm_words.specs.declared.tag.Tag.{Tag as ATag}
 use Rattle.shm_words.specs.Tags.{tag_plain, tag_refs}
-use Rattle.shm_graph.specs.declared.ask.Me.{Me}
 use Rattle.shm_graph.specs.declared.spot.Spot.TheVariants.{Body, Tag}
 use Rattle.shm_graph.specs.declared.memo.Memo.{Memo}
 use Rattle.shm_graph.specs.declared.memo.Stored.{Stored}
@@ -25,12 +24,8 @@ use Rattle.shm_ref.specs.declared.read.ReadPoint.{ReadPoint}
 use Rattle.shm_ref.specs.declared.read.ReadPoint.TheVariants.{Shape, Plain}
 use Rattle.shm_ref.specs.declared.read.ReadState.{ReadState}
 use Rattle.shm_ref.specs.AskedParts.{asked_part_laws, one_more}
-use Rattle.shm_ref.specs.Read.{IsReading, ReadFound, ReadKnows, ReadLeaves, is_shape, read_ask, read_call, read_part, read_plan, reading}
+use Rattle.shm_ref.specs.Read.{IsReading, ReadFound, ReadKnows, ReadLeaves, is_shape, read_ask, read_call, read_part, read_plan}
 use Rattle.shm_ref.specs.ReadParts.{IsTag, MayRead, is_tag, tagged}
-
--- what is known before the first word step
-pub read_begin : (me : Me) (b k : ℕ) (r : Memo) → MayRead me b r → ReadKnows (reading me b k) Shape r r [] []
-read_begin me b k r may = (may, refl, refl, refl)
 
 -- what a word step left, and what it asked
 abbrev Leaves : ReadState → ReadPoint → Memo → Memo → Trail → List Event → ℕ → Type 0

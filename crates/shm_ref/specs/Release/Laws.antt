@@ -5,7 +5,6 @@ use Rattle.std.proofs.Math.Nat.{mod-eq_of_lt}
 use Rattle.std.proofs.lemmas.Bool.{lt-ltb}
 use Rattle.shm_words.specs.declared.place.Place.TheVariants as place
 use Rattle.shm_words.specs.Layout.{address}
-use Rattle.shm_graph.specs.declared.ask.Me.{Me}
 use Rattle.shm_graph.specs.declared.spot.Spot.TheVariants.{Hold, Latch}
 use Rattle.shm_graph.specs.declared.memo.Memo.{Memo}
 use Rattle.shm_graph.specs.declared.memo.Op.{Op}
@@ -33,7 +32,7 @@ use Rattle.shm_ref.specs.declared.release.ReleasePoint.TheVariants.{Whose, Give,
 use Rattle.shm_ref.specs.declared.release.ReleaseState.{ReleaseState}
 use Rattle.shm_ref.specs.AskedParts.{asked_part_laws, one_more}
 use Rattle.shm_ref.specs.Hold.{wants}
-use Rattle.shm_ref.specs.Release.{releasing, release_ask, release_call, is_whose, MayRelease, IsReleasing, whose_trail, given_trail, ReleaseKnows, ReleaseFound, release_part, release_plan}
+use Rattle.shm_ref.specs.Release.{release_ask, release_call, is_whose, MayRelease, IsReleasing, whose_trail, given_trail, ReleaseKnows, ReleaseFound, release_part, release_plan}
 
 -- ---- the word steps
 
@@ -102,10 +101,6 @@ author_of n a k e l = let less : n - 1 ≡ a = omega arith in ap (λ x. x % k) l
 -- what a word step left, and what it asked
 abbrev Leaves : ReleaseState → ReleasePoint → Memo → Memo → Trail → List Event → ℕ → Type 0
 Leaves m y = (release_part (record m { point = y }) y).leaves (release_call m y)
-
--- what is known before the first word step
-pub release_begin : (me : Me) (a : ℕ) (r : Memo) → MayRelease me a r → ReleaseKnows (releasing me) Whose r r [] []
-release_begin me a r may = (a, may, refl, refl, refl)
 
 pub release_laws : PlanLaws word_control release_plan
 release_laws =

@@ -17,7 +17,7 @@ use Rattle.shm_graph.specs.Core.{core}
 use Rattle.shm_graph.specs.Events.{Event}
 use Rattle.shm_graph.specs.Laws.{Outcome}
 use Rattle.shm_graph.specs.Reach.{is_reached}
-use Rattle.shm_graph.specs.Readings.{home_read, is_held}
+use Rattle.shm_graph.specs.MemoAfterRead.{home_read, is_held}
 use Rattle.shm_graph.specs.Spots.{spot_address}
 use Rattle.shm_graph.specs.Views.{own_word}
 use Rattle.shm_graph.proofs.StepKinds.Loads.{choice}

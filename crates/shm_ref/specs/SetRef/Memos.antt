@@ -15,7 +15,7 @@ use Rattle.shm_graph.specs.declared.spot.Spot.TheVariants.{Body, Home, Root, Tag
 use Rattle.shm_graph.specs.Core.{core}
 use Rattle.shm_graph.specs.Ops.{cover, cover_of}
 use Rattle.shm_graph.specs.Reach.{is_reached, learnt, named_blocks, not_at, reached_blocks, shown}
-use Rattle.shm_graph.specs.Readings.{reference_read, values_read}
+use Rattle.shm_graph.specs.MemoAfterRead.{reference_read, values_read}
 use Rattle.shm_graph.specs.Views.{own_word}
 use Rattle.shm_graph.proofs.StepKinds.Loads.{choice}
 use Rattle.shm_laws.proofs.Keep.{Contains-filter}

@@ -28,11 +28,11 @@ use Rattle.shm_graph.specs.Held.{HeldAt}
 use Rattle.shm_graph.specs.Laws.{Frame, Stands, framed}
 use Rattle.shm_graph.specs.Ops.{cover, cover_of, is_op, slot_of}
 use Rattle.shm_graph.specs.Reach.{is_dying, is_reached, learnt, reached_blocks}
-use Rattle.shm_graph.specs.Readings.{is_held, is_latched, op_refused, raised_by, reference_read, word_read}
+use Rattle.shm_graph.specs.MemoAfterRead.{is_held, is_latched, op_refused, raised_by, reference_read, word_read}
 use Rattle.shm_graph.proofs.Memos.Calls.{FactHolds}
 use Rattle.shm_graph.proofs.Spots.SpotPlaces.{body_spot_at}
 use Rattle.shm_graph.specs.Spots.{block_spot, class_at, segment_of, spot_at}
-use Rattle.shm_graph.specs.Stores.{op_written, written}
+use Rattle.shm_graph.specs.MemoAfterStore.{op_written, written}
 use Rattle.shm_graph.specs.Telling.{Claim, Directory, Entry, Other, Role, Value, bare, claim_of, claims, covers, role_claim, roles, shaped, tag_claim, tag_claims, word_of_block}
 use Rattle.shm_graph.specs.Views.{view}
 use Rattle.shm_graph.proofs.States.Claims.{ClaimSound, claims_sound}
@@ -47,7 +47,7 @@ use Rattle.shm_calls.specs.Words.{IsWord, word_more}
 use Rattle.shm_calls.specs.WordSteps.{IsThere, word_in}
 use Rattle.shm_laws.specs.Slotting.{Writes}
 use Rattle.shm_steps.specs.Conditions.{MayWrite}
-use Rattle.shm_steps.specs.Reading.{IsCovered, IsSettled, IsTold, MayLookBy}
+use Rattle.shm_steps.specs.LoadNeeds.{IsCovered, IsSettled, IsTold, MayLookBy}
 use Rattle.shm_steps.specs.WordParts.{BodyStored, HeaderLoaded, HeaderSeen, IsDyingWord, IsLatchedWord, IsPlainWord, ReferenceLoaded, WordLoaded}
 use Rattle.shm_steps.proofs.BeginWords.{known_here}
 use Rattle.shm_steps.proofs.BlockTold.{dying_false, dying_true}

@@ -24,9 +24,9 @@ use Rattle.shm_graph.specs.Core.{core}
 use Rattle.shm_graph.specs.Held.{status_word}
 use Rattle.shm_graph.specs.Laws.{GoneNow, KeptAt, MayEnd, framed}
 use Rattle.shm_graph.specs.Ops.{IsUncommitted}
-use Rattle.shm_graph.specs.Readings.{read_on, row_read}
+use Rattle.shm_graph.specs.MemoAfterRead.{read_on, row_read}
 use Rattle.shm_graph.specs.Spots.{is_in_body, spot_at}
-use Rattle.shm_graph.specs.Stores.{era_stored, is_lowering, op_closed, stored_on, with_own, without_looks, written}
+use Rattle.shm_graph.specs.MemoAfterStore.{era_stored, is_lowering, op_closed, stored_on, with_own, without_looks, written}
 use Rattle.shm_graph.specs.Views.{own_word, owner_is}
 use Rattle.shm_graph.proofs.Machines.Calling.{called_by}
 use Rattle.shm_graph.proofs.StepKinds.Keeping.{live_kept}

@@ -21,9 +21,9 @@ use Rattle.shm_graph.specs.Core.{core}
 use Rattle.shm_graph.specs.Held.{HeldAt}
 use Rattle.shm_graph.specs.Laws.{KeptAt, framed}
 use Rattle.shm_graph.specs.Reach.{learnt}
-use Rattle.shm_graph.specs.Readings.{is_head_slot, is_tail_above, valued}
+use Rattle.shm_graph.specs.MemoAfterRead.{is_head_slot, is_tail_above, valued}
 use Rattle.shm_graph.specs.Spots.{spot_at}
-use Rattle.shm_graph.specs.Stores.{head_stored, tail_stored, written}
+use Rattle.shm_graph.specs.MemoAfterStore.{head_stored, tail_stored, written}
 use Rattle.shm_graph.specs.Views.{own_word, targets, view}
 use Rattle.shm_graph.proofs.Memos.Calls.{FactHolds}
 use Rattle.shm_graph.proofs.States.Holders.{Holds}

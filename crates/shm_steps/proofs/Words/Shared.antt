@@ -19,9 +19,9 @@ use Rattle.shm_graph.specs.Changes.{called, with_call, with_end}
 use Rattle.shm_graph.specs.Core.{core}
 use Rattle.shm_graph.specs.Laws.{framed}
 use Rattle.shm_graph.specs.Reach.{unlatched}
-use Rattle.shm_graph.specs.Readings.{is_held}
+use Rattle.shm_graph.specs.MemoAfterRead.{is_held}
 use Rattle.shm_graph.specs.Spots.{spot_at}
-use Rattle.shm_graph.specs.Stores.{not_segment}
+use Rattle.shm_graph.specs.MemoAfterStore.{not_segment}
 use Rattle.shm_graph.specs.Views.{own_word}
 use Rattle.shm_graph.proofs.StepKinds.LoadKeeping.{lost_kept}
 use Rattle.shm_graph.proofs.StepKinds.Loads.{choice}

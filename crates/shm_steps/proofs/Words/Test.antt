@@ -17,7 +17,7 @@ use Rattle.shm_graph.specs.Blocks.{classes}
 use Rattle.shm_graph.specs.Changes.{called, test_before}
 use Rattle.shm_graph.specs.Core.{core}
 use Rattle.shm_graph.specs.Laws.{framed}
-use Rattle.shm_graph.specs.Readings.{op_refused, row_read, test_from, test_on}
+use Rattle.shm_graph.specs.MemoAfterRead.{op_refused, row_read, test_from, test_on}
 use Rattle.shm_graph.specs.Spots.{segment_of}
 use Rattle.shm_graph.specs.Views.{own_word}
 use Rattle.shm_graph.proofs.Spots.SpotPlaces.{spot-place}

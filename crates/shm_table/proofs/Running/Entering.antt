@@ -13,7 +13,7 @@ use Rattle.shm_steps.specs.Beginning.{IsOwnWord}
 use Rattle.shm_steps.specs.Reparting.{IsKnown, IsValue, TableStep, sight}
 use Rattle.shm_steps.specs.Reparting.TableStep.{Links, Prepares}
 use Rattle.shm_count.specs.declared.point.Aim.TheVariants as aims
-use Rattle.shm_count.specs.Step.Exchanged.{step_exchanged}
+use Rattle.shm_count.specs.Step.ExchangeMade.{step_exchanged}
 use Rattle.shm_count.specs.Step.Parts.{part_after}
 use Rattle.shm_table.specs.declared.enter.EnterPoint.{EnterPoint}
 use Rattle.shm_table.specs.declared.enter.EnterPoint.TheVariants as entering

@@ -15,7 +15,7 @@ use Rattle.shm_count.specs.declared.point.Aim.{Aim}
 use Rattle.shm_count.specs.declared.point.Aim.TheVariants as aims
 use Rattle.shm_count.specs.declared.point.StepState.{StepState}
 use Rattle.shm_count.specs.Step.Control.{step_control, value_after}
-use Rattle.shm_count.specs.Step.Exchanged.{step_exchanged}
+use Rattle.shm_count.specs.Step.ExchangeMade.{step_exchanged}
 use Rattle.shm_count.specs.Step.Parts.{part_after}
 use Rattle.shm_count.specs.Step.{StepFits}
 use Rattle.shm_table.specs.declared.replace.ReplacePoint.{ReplacePoint}

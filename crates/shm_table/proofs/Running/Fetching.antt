@@ -14,7 +14,7 @@ use Rattle.shm_steps.specs.Reparting.TableStep.{Founds}
 use Rattle.shm_count.specs.declared.point.Aim.{Aim}
 use Rattle.shm_count.specs.declared.point.Aim.TheVariants as aims
 use Rattle.shm_count.specs.Step.Control.{value_after}
-use Rattle.shm_count.specs.Step.Exchanged.{step_exchanged}
+use Rattle.shm_count.specs.Step.ExchangeMade.{step_exchanged}
 use Rattle.shm_count.specs.UpRoot.AsPart.{up_root}
 use Rattle.shm_count.specs.UpRoot.Control.{rooting_parts}
 use Rattle.shm_count.specs.UpRoot.{rooting_plan}
@@ -49,7 +49,7 @@ use Rattle.shm_table.specs.Get.Control.{get_parts}
 use Rattle.shm_table.specs.Get.{GetKnows, get_plan}
 use Rattle.shm_table.specs.Locate.Control.{locate_parts}
 use Rattle.shm_table.specs.Locate.{locate_control, locate_plan}
-use Rattle.shm_table.specs.Machines.Read.{get}
+use Rattle.shm_table.specs.Machines.Get.{get}
 use Rattle.shm_table.specs.Machines.Send.{send_key}
 use Rattle.shm_table.specs.OpenTable.Control.{OpenCall, open_call_at, open_parts}
 use Rattle.shm_table.specs.OpenTable.{OpenKnows, open_plan}

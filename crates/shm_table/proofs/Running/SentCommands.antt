@@ -7,7 +7,7 @@ use Rattle.shm_graph.specs.declared.memo.Memo.{Memo}
 use Rattle.shm_graph.specs.Agents.{died}
 use Rattle.shm_graph.specs.Asks.{Trail}
 use Rattle.shm_graph.specs.Events.{Event}
-use Rattle.shm_graph.specs.Stores.{lane_with}
+use Rattle.shm_graph.specs.MemoAfterStore.{lane_with}
 use Rattle.shm_graph.specs.Tells.{after_all}
 use Rattle.shm_calls.specs.declared.or.Or.TheVariants.{First, Second}
 use Rattle.shm_calls.specs.CallsFit.{CallsFits}

@@ -15,7 +15,7 @@ use Rattle.shm_count.specs.declared.up_root.RootingPoint.TheVariants as rooting
 use Rattle.shm_count.specs.declared.up_root.RootingState.{RootingState}
 use Rattle.shm_count.specs.Step.Control.{first_point, step_control}
 use Rattle.shm_count.specs.Step.Machines.{down_control, up_control}
-use Rattle.shm_count.specs.Step.Reading.{ready_part}
+use Rattle.shm_count.specs.Step.BeforeExchange.{ready_part}
 use Rattle.shm_count.specs.Step.{PointHas}
 use Rattle.shm_count.specs.StepsAt.{ChangeFitsAt, DownFitsAt, UpFitsAt}
 use Rattle.shm_count.specs.StepsFrom.{FitsFrom}
@@ -113,7 +113,7 @@ use Rattle.shm_table.specs.Locate.{LocateKnows, locate_control, locate_plan}
 use Rattle.shm_table.specs.Machines.Change.{del}
 use Rattle.shm_table.specs.Machines.Copy.{copy_control}
 use Rattle.shm_table.specs.Machines.Put.{put}
-use Rattle.shm_table.specs.Machines.Read.{get}
+use Rattle.shm_table.specs.Machines.Get.{get}
 use Rattle.shm_table.specs.Machines.Recv.{recv_control}
 use Rattle.shm_table.specs.OpenTable.Control.{open_parts}
 use Rattle.shm_table.specs.OpenTable.{OpenKnows, name_part, open_plan}

@@ -13,16 +13,16 @@ use Rattle.shm_graph.specs.declared.memo.Memo.{Memo}
 use Rattle.shm_graph.specs.declared.memo.Op.TheVariants as op
 use Rattle.shm_graph.specs.Asks.{Trail}
 use Rattle.shm_graph.specs.Events.{Event}
-use Rattle.shm_graph.specs.Exchanges.{cut, lowered, reparted, without_made, with_unsent, with_untaken}
+use Rattle.shm_graph.specs.MemoAfterExchange.{cut, lowered, reparted, without_made, with_unsent, with_untaken}
 use Rattle.shm_graph.specs.Laws.{Control}
 use Rattle.shm_graph.specs.Mapped.{OnTheWay}
 use Rattle.shm_graph.specs.Ops.{is_op, slot_of}
 use Rattle.shm_graph.specs.Reach.{learnt}
 use Rattle.shm_graph.specs.Spots.{same_spot}
-use Rattle.shm_graph.specs.Stores.{making_with, other_than, put, written}
+use Rattle.shm_graph.specs.MemoAfterStore.{making_with, other_than, put, written}
 use Rattle.shm_graph.specs.Tells.{happens_along}
 use Rattle.shm_graph.proofs.StepKinds.Loads.{choice}
-use Rattle.shm_laws.specs.Exchanges.{dying_after}
+use Rattle.shm_laws.specs.HeaderExchanges.{dying_after}
 use Rattle.shm_steps.proofs.MemoCommits.{known_lowered, lowered_is}
 use Rattle.shm_calls.specs.CallsControl.{calls_control}
 use Rattle.shm_calls.specs.CallsFit.{CallsFits}
@@ -41,7 +41,7 @@ use Rattle.shm_count.specs.Step.Control.{header_after, is_over, step_control, va
 use Rattle.shm_count.specs.Step.{AtFirst, InHalf, PointHas, StepFits, set_memo, slot_memo}
 use Rattle.shm_count.specs.Step.Machines.{down_control, up_control}
 use Rattle.shm_count.specs.Step.Memos.{closed_part}
-use Rattle.shm_count.specs.Step.Reading.{ready_part}
+use Rattle.shm_count.specs.Step.BeforeExchange.{ready_part}
 use Rattle.shm_count.specs.StepsAt.{DownFitsAt, UpFitsAt}
 use Rattle.shm_count.specs.Tear.Control.{tear_control, word_address}
 use Rattle.shm_count.specs.Tear.Events.{tear_event, tear_start}

@@ -16,13 +16,13 @@ use Rattle.shm_graph.specs.declared.table.Part.{Part}
 use Rattle.shm_graph.specs.declared.table.Part.TheVariants.{Loose, Table}
 use Rattle.shm_graph.specs.Asks.{Trail}
 use Rattle.shm_graph.specs.Chains.{part_set}
-use Rattle.shm_graph.specs.Exchanges.{cut, lowered, reparted, without_made, with_unsent, with_untaken}
+use Rattle.shm_graph.specs.MemoAfterExchange.{cut, lowered, reparted, without_made, with_unsent, with_untaken}
 use Rattle.shm_graph.specs.Ops.{On, cover, is_op, slot_of}
 use Rattle.shm_graph.specs.Reach.{learnt, shown, sifted}
 use Rattle.shm_graph.specs.Spots.{same_spot}
-use Rattle.shm_graph.specs.Stores.{making_with, other_than, put, written}
+use Rattle.shm_graph.specs.MemoAfterStore.{making_with, other_than, put, written}
 use Rattle.shm_graph.proofs.StepKinds.Loads.{choice}
-use Rattle.shm_laws.specs.Exchanges.{dying_after}
+use Rattle.shm_laws.specs.HeaderExchanges.{dying_after}
 use Rattle.shm_steps.specs.Reparting.{Sight, sight}
 use Rattle.shm_steps.proofs.MemoCommits.{known_lowered, lowered_is}
 use Rattle.shm_count.specs.declared.point.Aim.{Aim}
@@ -33,11 +33,11 @@ use Rattle.shm_count.specs.declared.point.StepPoint.{StepPoint}
 use Rattle.shm_count.specs.declared.point.StepPoint.TheVariants as point
 use Rattle.shm_count.specs.declared.point.StepState.{StepState}
 use Rattle.shm_count.specs.Step.Control.{PartFits, PointFits, header_after, is_over, step_control, value_after}
-use Rattle.shm_count.specs.Step.Exchanged.{exchanged_at, is_second, step_exchanged}
+use Rattle.shm_count.specs.Step.ExchangeMade.{exchanged_at, is_second, step_exchanged}
 use Rattle.shm_count.specs.Step.{AtFirst, InHalf, PointHas, StepFits, set_memo, slot_memo}
 use Rattle.shm_count.specs.Step.Memos.{closed_part}
 use Rattle.shm_count.specs.Step.Parts.{first_sight, part_after}
-use Rattle.shm_count.specs.Step.Reading.{ready_part}
+use Rattle.shm_count.specs.Step.BeforeExchange.{ready_part}
 use Rattle.shm_count.specs.StepsFrom.{FitsFrom}
 
 -- ---- slots

@@ -35,7 +35,7 @@ use Rattle.shm_count.specs.declared.tear_point.TearPoint.{TearPoint}
 use Rattle.shm_count.specs.declared.tear_point.TearPoint.TheVariants as tear
 use Rattle.shm_count.specs.declared.tear_point.TearState.{TearState}
 use Rattle.shm_count.specs.Step.Control.{PointFits, answer_of as next_answer, is_over, point_of as next_point, step_next}
-use Rattle.shm_count.specs.Step.Exchanged.{exchanged_at}
+use Rattle.shm_count.specs.Step.ExchangeMade.{exchanged_at}
 use Rattle.shm_count.specs.Step.Laws.{step_steady}
 use Rattle.shm_count.specs.Step.Machines.{down_control, up_control}
 use Rattle.shm_count.specs.Step.Parts.{part_after}

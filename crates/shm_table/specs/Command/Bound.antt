@@ -1,5 +1,5 @@
 -- how many word steps a command takes: by the keys that were read, and the blocks that were torn down or left on the way
-use Rattle.std.proofs.Common.{◌≡◌, ℕ, ◌+◌, ◌*◌, refl, sym, subst, arith, ◌⊎◌, List, [], ◌++◌, length}
+use Rattle.std.proofs.Common.{◌≡◌, ℕ, ◌+◌, ◌*◌, refl, arith, ◌⊎◌, List, [], ◌++◌, length}
 use Rattle.std.specs.List.{All, Contains}
 use Rattle.std.proofs.lemmas.List.Elements.{All-nil}
 use Rattle.shm_graph.specs.declared.ask.Me.{Me}
@@ -7,41 +7,24 @@ use Rattle.shm_graph.specs.declared.memo.Memo.{Memo}
 use Rattle.shm_graph.specs.Asks.{Trail, IsWithin}
 use Rattle.shm_graph.specs.Bounds.{command_steps}
 use Rattle.shm_graph.specs.Events.{Event}
-use Rattle.shm_graph.specs.Tells.{happens_along}
-use Rattle.shm_calls.specs.CallsControl.{calls_of}
 use Rattle.shm_count.specs.Tear.Events.{Visit, frees}
 use Rattle.shm_script.specs.declared.line.Line.{Line}
 use Rattle.shm_script.specs.declared.line.Line.TheVariants as line
 use Rattle.shm_script.specs.declared.log.Answer.{Answer}
 use Rattle.shm_script.specs.declared.log.Answer.TheVariants as answer
 use Rattle.shm_table.specs.declared.find.Found.TheVariants.{Absent, At}
-use Rattle.shm_table.specs.Command.{CommandGives, command_control, command_does, command_of}
-use Rattle.shm_table.specs.Command.Events.{copies_happen, dels_happen, puts_happen, recvs_happen}
-use Rattle.shm_table.specs.Command.Laws.{copies_give, dels_give, gets_give, puts_give, recvs_give, sends_give}
 use Rattle.shm_table.specs.CopyKey.Bound.{IsCopyShort, copy_short, copy_within}
-use Rattle.shm_table.specs.CopyKey.Control.{copying}
-use Rattle.shm_table.specs.CopyKey.{copy_plan}
 use Rattle.shm_table.specs.Del.Bound.{IsShort, del_short, del_within}
-use Rattle.shm_table.specs.Del.Control.{deleting}
-use Rattle.shm_table.specs.Del.{del_plan}
 use Rattle.shm_table.specs.Find.Bound.{keys_read}
 use Rattle.shm_table.specs.Find.Control.{Passed}
 use Rattle.shm_table.specs.Get.Bound.{GetAsked, found_within, missing_within}
-use Rattle.shm_table.specs.Get.{found_trail, number_trail}
-use Rattle.shm_table.specs.Machines.Change.{del_told}
-use Rattle.shm_table.specs.Machines.Copy.{copy_told}
-use Rattle.shm_table.specs.Machines.Put.{put_told}
-use Rattle.shm_table.specs.Machines.Read.{GetGives, get_told}
-use Rattle.shm_table.specs.Machines.Recv.{recv_told}
-use Rattle.shm_table.specs.Machines.Send.{send_key_told}
+use Rattle.shm_table.specs.Get.Control.{getting}
+use Rattle.shm_table.specs.Get.{GetLeaves, found_trail, number_trail}
+use Rattle.shm_table.specs.Refusals.{CommandLeaves}
 use Rattle.shm_table.specs.Put.Bound.{put_short, put_within}
-use Rattle.shm_table.specs.Put.Control.{putting}
-use Rattle.shm_table.specs.Put.{put_plan}
 use Rattle.shm_table.specs.PutRoot.Bound.{IsPutShort}
 use Rattle.shm_table.specs.PutRoot.{HasSearch}
 use Rattle.shm_table.specs.RecvKey.Bound.{recv_short, recv_within}
-use Rattle.shm_table.specs.RecvKey.Control.{receiving_key}
-use Rattle.shm_table.specs.RecvKey.{recv_plan}
 use Rattle.shm_table.specs.SendKey.Bound.{IsSendShort, send_key_short, send_key_within}
 use Rattle.shm_table.specs.Unlatch.{unlatch_trail}
 
@@ -62,49 +45,43 @@ pub record IsCommandShort (me : Me) (l : Line) (r : Memo) (tr : Trail) (es : Lis
   pub dying : All (λ (x : Visit). Contains r.dying x.block) left
   pub bound : IsWithin (command_steps me.geometry.wide me.geometry.segments keys (frees es + length left)) tr
 
--- the events that the command of a line tells of
-abbrev pub command_told : Me → Line → Trail → List Event
-command_told me l = happens_along command_control command_does (command_of me l)
-
 -- nothing was torn down
 quiet_short : (me : Me) (l : Line) (r : Memo) (tr : Trail) (es : List Event) (k : ℕ) → AreRead me l k tr → IsWithin (command_steps me.geometry.wide me.geometry.segments k 0) tr → IsCommandShort me l r tr es
 quiet_short me l r tr es k read w = record { keys = k; read = read; left = []; dying = All-nil (λ (x : Visit). Contains r.dying x.block); bound = omega arith }
 
-got_short : (me : Me) (a key : ℕ) (r0 r : Memo) (tr : Trail) (es : List Event) (b : Answer) → GetGives me a key r0 r tr b → IsCommandShort me (line.Get a key) r tr es
+got_short : (me : Me) (a key : ℕ) (r0 r : Memo) (tr : Trail) (es : List Event) (b : Answer) → GetLeaves (getting me a key) r0 r tr es b → IsCommandShort me (line.Get a key) r tr es
 got_short me a key r0 r tr es answer.Missing h =
-    missed (missing_within me a key r0 r tr (get_told me a key tr) h.leaves)
+    missed (missing_within me a key r0 r tr es h)
   where
     missed : (ps : List Passed) × GetAsked me a key ps tr answer.Missing × IsWithin (6 + 2 * length ps) tr → IsCommandShort me (line.Get a key) r tr es
     missed (ps, (before, walk, home, first, split, tries, whole), bound) = quiet_short me (line.Get a key) r tr es (length ps) (before, walk, unlatch_trail me a, split, (ps, Absent home first, whole, refl)) (omega arith)
 got_short me a key r0 r tr es (answer.Value n v) h =
-    found (found_within me a key n v r0 r tr (get_told me a key tr) h.leaves)
+    found (found_within me a key n v r0 r tr es h)
   where
     found : (ps : List Passed) × GetAsked me a key ps tr (answer.Value n v) × IsWithin (9 + 2 * length ps) tr → IsCommandShort me (line.Get a key) r tr es
     found (ps, (before, home, entry, split, tries), bound) =
         quiet_short me (line.Get a key) r tr es (length ps + 1) (before, found_trail me a key home ps entry, number_trail entry v n ++ unlatch_trail me a, split, (ps, At entry 0 0, (home, refl), refl)) (omega arith)
-got_short me a key r0 r tr es b h = absurd h.leaves
+got_short me a key r0 r tr es b h = absurd h
 
-pub command_short : (me : Me) (l : Line) (r0 r : Memo) (tr : Trail) (b : Answer) → CommandGives (command_of me l) r0 r tr b → IsCommandShort me l r tr (command_told me l tr)
-command_short me (line.Put key n) r0 r tr b g = go (put_within me key r tr (put_told me key n tr) (put_short me key n r0 r tr (put_told me key n tr) b (puts_give me key n r0 r tr b g).leaves))
+pub command_short : (me : Me) (l : Line) (r0 r : Memo) (tr : Trail) (es : List Event) (b : Answer) → CommandLeaves me l r0 r tr es b → IsCommandShort me l r tr es
+command_short me (line.Put key n) r0 r tr es b h = go (put_within me key r tr es (put_short me key n r0 r tr es b h))
   where
-    go : IsPutShort me key (command_steps me.geometry.wide me.geometry.segments) r tr (put_told me key n tr) → IsCommandShort me (line.Put key n) r tr (command_told me (line.Put key n) tr)
-    go (k, found, vs, dying, w) = subst (IsCommandShort me (line.Put key n) r tr) (sym (puts_happen (calls_of put_plan (putting me key n)) tr)) (record { keys = k; read = found; left = vs; dying = dying; bound = w })
-command_short me (line.Copy key a other) r0 r tr b g = go (copy_within me key a other r tr (copy_told me key a other tr) (copy_short me key a other r0 r tr (copy_told me key a other tr) b (copies_give me key a other r0 r tr b g).leaves))
+    go : IsPutShort me key (command_steps me.geometry.wide me.geometry.segments) r tr es → IsCommandShort me (line.Put key n) r tr es
+    go (k, found, vs, dying, w) = record { keys = k; read = found; left = vs; dying = dying; bound = w }
+command_short me (line.Copy key a other) r0 r tr es b h = go (copy_within me key a other r tr es (copy_short me key a other r0 r tr es b h))
   where
-    go : IsCopyShort me key a other (command_steps me.geometry.wide me.geometry.segments) r tr (copy_told me key a other tr) → IsCommandShort me (line.Copy key a other) r tr (command_told me (line.Copy key a other) tr)
-    go (read, searched, k, found, vs, dying, w) =
-        subst (IsCommandShort me (line.Copy key a other) r tr) (sym (copies_happen (calls_of copy_plan (copying me key a other)) tr)) (record { keys = read + k; read = (read, k, refl, searched, found); left = vs; dying = dying; bound = w })
-command_short me (line.Del key) r0 r tr b g = go (del_within me key me.geometry.segments r tr (del_told me key tr) (del_short me key r0 r tr (del_told me key tr) b (dels_give me key r0 r tr b g).leaves.1))
+    go : IsCopyShort me key a other (command_steps me.geometry.wide me.geometry.segments) r tr es → IsCommandShort me (line.Copy key a other) r tr es
+    go (read, searched, k, found, vs, dying, w) = record { keys = read + k; read = (read, k, refl, searched, found); left = vs; dying = dying; bound = w }
+command_short me (line.Del key) r0 r tr es b h = go (del_within me key me.geometry.segments r tr es (del_short me key r0 r tr es b h.1))
   where
-    go : IsShort me key (command_steps me.geometry.wide me.geometry.segments) r tr (del_told me key tr) → IsCommandShort me (line.Del key) r tr (command_told me (line.Del key) tr)
-    go (x, s, vs, dying, w) =
-        subst (IsCommandShort me (line.Del key) r tr) (sym (dels_happen (calls_of del_plan (deleting me key)) tr)) (record { keys = keys_read s.read x; read = (s.tries, s.search, s.rest, s.trail, (s.read, x, s.whole, refl)); left = vs; dying = dying; bound = w })
-command_short me (line.Get a key) r0 r tr b g = got_short me a key r0 r tr (command_told me (line.Get a key) tr) b (gets_give me a key r0 r tr b g)
-command_short me (line.Send to key) r0 r tr b g = go (send_key_within me key me.geometry.segments tr (send_key_short me to key r0 r tr (send_key_told me to key tr) b (sends_give me to key r0 r tr b g).leaves))
+    go : IsShort me key (command_steps me.geometry.wide me.geometry.segments) r tr es → IsCommandShort me (line.Del key) r tr es
+    go (x, s, vs, dying, w) = record { keys = keys_read s.read x; read = (s.tries, s.search, s.rest, s.trail, (s.read, x, s.whole, refl)); left = vs; dying = dying; bound = w }
+command_short me (line.Get a key) r0 r tr es b h = got_short me a key r0 r tr es b h
+command_short me (line.Send to key) r0 r tr es b h = go (send_key_within me key me.geometry.segments tr (send_key_short me to key r0 r tr es b h))
   where
-    go : IsSendShort me key (λ k. command_steps me.geometry.wide me.geometry.segments k 0) tr → IsCommandShort me (line.Send to key) r tr (command_told me (line.Send to key) tr)
-    go (k, search, w) = quiet_short me (line.Send to key) r tr (command_told me (line.Send to key) tr) k search w
-command_short me (line.Recv from key) r0 r tr b g = go (recv_within me key r tr (recv_told me from key tr) (recv_short me from key r0 r tr (recv_told me from key tr) b (recvs_give me from key r0 r tr b g).leaves))
+    go : IsSendShort me key (λ k. command_steps me.geometry.wide me.geometry.segments k 0) tr → IsCommandShort me (line.Send to key) r tr es
+    go (k, search, w) = quiet_short me (line.Send to key) r tr es k search w
+command_short me (line.Recv from key) r0 r tr es b h = go (recv_within me key r tr es (recv_short me from key r0 r tr es b h))
   where
-    go : IsPutShort me key (command_steps me.geometry.wide me.geometry.segments) r tr (recv_told me from key tr) → IsCommandShort me (line.Recv from key) r tr (command_told me (line.Recv from key) tr)
-    go (k, found, vs, dying, w) = subst (IsCommandShort me (line.Recv from key) r tr) (sym (recvs_happen (calls_of recv_plan (receiving_key me from key)) tr)) (record { keys = k; read = found; left = vs; dying = dying; bound = w })
+    go : IsPutShort me key (command_steps me.geometry.wide me.geometry.segments) r tr es → IsCommandShort me (line.Recv from key) r tr es
+    go (k, found, vs, dying, w) = record { keys = k; read = found; left = vs; dying = dying; bound = w }

@@ -30,7 +30,7 @@ use Rattle.shm_table.specs.Get.{get_plan}
 use Rattle.shm_table.specs.Put.Control.{put_parts}
 use Rattle.shm_table.specs.Put.{put_plan}
 use Rattle.shm_table.specs.Machines.Put.{PutGives, put}
-use Rattle.shm_table.specs.Machines.Read.{GetGives, get}
+use Rattle.shm_table.specs.Machines.Get.{GetGives, get}
 use Rattle.shm_table.specs.RecvKey.Control.{recv_parts}
 use Rattle.shm_table.specs.RecvKey.{recv_plan}
 use Rattle.shm_table.specs.Machines.Recv.{RecvGives, recv_control}

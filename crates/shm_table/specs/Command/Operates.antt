@@ -27,7 +27,7 @@ use Rattle.shm_table.specs.Get.{GetLeaves, get_plan}
 use Rattle.shm_table.specs.Machines.Change.{del}
 use Rattle.shm_table.specs.Machines.Copy.{copy_control}
 use Rattle.shm_table.specs.Machines.Put.{put}
-use Rattle.shm_table.specs.Machines.Read.{get}
+use Rattle.shm_table.specs.Machines.Get.{get}
 use Rattle.shm_table.specs.Machines.Recv.{recv_control}
 use Rattle.shm_table.specs.Machines.Send.{send_key}
 use Rattle.shm_table.specs.Put.Control.{put_parts}

@@ -47,7 +47,7 @@ use Rattle.shm_table.specs.PutRoot.Steps.{decided_after, decided_more, frees_app
 use Rattle.shm_table.specs.Staying.{Cleared, Ended, SameMap}
 use Rattle.shm_table.specs.Staying.Laws.{cleared_drop, dropped_else, keeps_drop, keeps_more, left_by, spent_drop, spent_later}
 use Rattle.shm_table.specs.Undoing.{dropped_undone, none_undone, put_undone, stopped_undone}
-use Rattle.shm_table.specs.ValueReads.{idle_here}
+use Rattle.shm_table.specs.ValuesListed.{idle_here}
 use Rattle.shm_table.specs.Costs.{tear_sum, tear_same}
 
 -- ---- the plan

@@ -53,7 +53,7 @@ use Rattle.shm_table.specs.Unlatch.Laws.{unlatch_begin, unlatch_laws}
 use Rattle.shm_table.specs.Unlink.Control.{unlink_parts}
 use Rattle.shm_table.specs.Unlink.{MayUnlink, NotUnlinked, Unlinked, UnlinkCause, UnlinkEvents, link_aim, unlink_control, unlink_plan}
 use Rattle.shm_table.specs.Unlink.Laws.{unlink_laws}
-use Rattle.shm_table.specs.ValueReads.{idle_here}
+use Rattle.shm_table.specs.ValuesListed.{idle_here}
 use Rattle.shm_table.specs.Costs.{tear_same}
 
 -- ---- the search

@@ -13,7 +13,7 @@ use Rattle.shm_graph.specs.Agents.{recovers}
 use Rattle.shm_graph.specs.Asks.{Trail, IsWithin}
 use Rattle.shm_graph.specs.Bounds.{alloc_steps}
 use Rattle.shm_graph.specs.Events.{Event}
-use Rattle.shm_graph.specs.Stores.{is_of}
+use Rattle.shm_graph.specs.MemoAfterStore.{is_of}
 use Rattle.shm_graph.specs.Views.{own_word, view}
 use Rattle.shm_graph.proofs.States.Holders.{target_counted}
 use Rattle.shm_calls.specs.Parts.{IsHeld}

@@ -45,10 +45,10 @@ use Rattle.shm_table.specs.Fetch.Control.{FetchAnswer, fetch_ask, fetch_call, fe
 use Rattle.shm_table.specs.Fetch.{FetchFound, FetchKnows, FetchLeaves, GiveKnows, IsOn, MayFetch, fetch_part, fetch_plan, fetch_word_part, got, rooted_steps}
 use Rattle.shm_table.specs.Fetch.Steps.{clear_reading, idle_more, keeps_reading, keeps_root, map_reading, on_more, one_step, root_others, root_part, root_value, search_on, value_seen}
 use Rattle.shm_table.specs.Find.Control.{word_ask}
-use Rattle.shm_table.specs.Find.Reads.{entry_latched}
+use Rattle.shm_table.specs.Find.SearchLoads.{entry_latched}
 use Rattle.shm_table.specs.Get.{IsReading}
 use Rattle.shm_table.specs.Get.Laws.{at_entry, latch_of, may_unlatch, missing, nowhere, number_read, told_own, value_plain, value_read}
-use Rattle.shm_table.specs.Get.Reads.{reference_more, word_more}
+use Rattle.shm_table.specs.Get.UnderLatch.{reference_more, word_more}
 use Rattle.shm_table.specs.Locate.Control.{locate_parts}
 use Rattle.shm_table.specs.Locate.{Located, MayLocate, locate_control, locate_plan}
 use Rattle.shm_table.specs.Locate.Laws.{locate_begin, locate_laws}
@@ -57,7 +57,7 @@ use Rattle.shm_table.specs.Staying.{Keeps, PutCause}
 use Rattle.shm_table.specs.Staying.Laws.{Rests, cause_before, cause_later, cleared_more, keeps_core, keeps_more, keeps_unlatched, keeps_untouched, rests_core, rests_untouched, unlatched_else}
 use Rattle.shm_table.specs.Unlatch.{MayUnlatch, Unlatched, unlatch_control, unlatch_plan}
 use Rattle.shm_table.specs.Unlatch.Laws.{unlatch_begin, unlatch_laws}
-use Rattle.shm_table.specs.ValueReads.{idle_here}
+use Rattle.shm_table.specs.ValuesListed.{idle_here}
 
 -- ---- what follows each call
 

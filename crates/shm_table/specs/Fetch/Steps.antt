@@ -22,7 +22,7 @@ use Rattle.shm_graph.specs.Reach.{learnt}
 use Rattle.shm_graph.specs.Chains.{part_set}
 use Rattle.shm_graph.specs.Ops.{cover}
 use Rattle.shm_graph.specs.Ops.Cover.{On}
-use Rattle.shm_graph.specs.Readings.{is_entry, valued, values_read}
+use Rattle.shm_graph.specs.MemoAfterRead.{is_entry, valued, values_read}
 use Rattle.shm_graph.specs.Spots.{same_spot}
 use Rattle.shm_graph.specs.Telling.{Entry as AnEntry, Value as AValue, role_in, roles}
 use Rattle.shm_graph.specs.Trails.{Answers, Asked}
@@ -43,11 +43,11 @@ use Rattle.shm_table.specs.EntryReads.{reference_reads}
 use Rattle.shm_table.specs.Fetch.{IsOn}
 use Rattle.shm_table.specs.Find.Bound.{find_within, keys_read}
 use Rattle.shm_table.specs.Find.Control.{word_ask}
-use Rattle.shm_table.specs.Find.Reads.{look_in}
+use Rattle.shm_table.specs.Find.SearchLoads.{look_in}
 use Rattle.shm_table.specs.Find.Tells.{entry_value}
 use Rattle.shm_table.specs.Get.{GetKnows, IsReading}
 use Rattle.shm_table.specs.Get.Laws.{idle_of, table_of, value_room}
-use Rattle.shm_table.specs.Get.Reads.{ReadsMore}
+use Rattle.shm_table.specs.Get.UnderLatch.{ReadsMore}
 use Rattle.shm_table.specs.Locate.{Located}
 use Rattle.shm_table.specs.PutRoot.Steps.{search_more}
 use Rattle.shm_table.specs.Staying.{Cleared, Keeps, SameMap, is_set}

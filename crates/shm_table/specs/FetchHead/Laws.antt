@@ -54,12 +54,12 @@ use Rattle.shm_table.specs.declared.fetch_head.FetchedHead.TheVariants.{Empty}
 use Rattle.shm_table.specs.FetchHead.Control.{FetchHeadAnswer, fetch_head_ask, fetch_head_call, fetch_head_parts, fetching_head, is_head}
 use Rattle.shm_table.specs.FetchHead.{FetchHeadFound, FetchHeadKnows, FetchHeadLeaves, IsHeadRooted, IsHeadUnrooted, IsNumbered, MayFetchHead, fetch_head_part, fetch_head_plan}
 use Rattle.shm_table.specs.Fetch.Steps.{idle_more, keeps_root, root_others, root_part, root_value}
-use Rattle.shm_table.specs.Find.Reads.{learnt_keeps}
-use Rattle.shm_table.specs.Get.Reads.{ReadsMore, word_more}
+use Rattle.shm_table.specs.Find.SearchLoads.{learnt_keeps}
+use Rattle.shm_table.specs.Get.UnderLatch.{ReadsMore, word_more}
 use Rattle.shm_table.specs.PutRoot.Steps.{same_part}
 use Rattle.shm_table.specs.Staying.{Keeps, PutCause}
 use Rattle.shm_table.specs.Staying.Laws.{Rests, cause_before, cleared_more, keeps_core, keeps_more, keeps_rest, keeps_untouched, rests_core, rests_untouched, value_by}
-use Rattle.shm_table.specs.ValueReads.{idle_here}
+use Rattle.shm_table.specs.ValuesListed.{idle_here}
 
 -- ---- reading
 

@@ -38,7 +38,7 @@ use Rattle.shm_table.specs.declared.find.Found.TheVariants.{Absent, At}
 use Rattle.shm_table.specs.EntryReads.{entry_load, key_load, reference_reads}
 use Rattle.shm_table.specs.Find.Control.{Passed, begin_of, find_ask, find_call, find_goes, finding, home_ask, is_home, walk_trail, word_ask}
 use Rattle.shm_table.specs.Find.{AreOthers, FindFinds, FindKnows, FindLeaves, IsAtBucket, MayFind, OnlyReads, find_part, find_plan}
-use Rattle.shm_table.specs.Find.Reads.{chain_kept, chain_more, look_made, at_entry, begin_more, by_block, directory_latched, directory_room, directory_values, entry_latched, entry_plain, entry_room, home_in, led_more, look_in, next_values, one_more, reads_by, reads_more, reference_only, stays_in, walk_more, word_only}
+use Rattle.shm_table.specs.Find.SearchLoads.{chain_kept, chain_more, look_made, at_entry, begin_more, by_block, directory_latched, directory_room, directory_values, entry_latched, entry_plain, entry_room, home_in, led_more, look_in, next_values, one_more, reads_by, reads_more, reference_only, stays_in, walk_more, word_only}
 
 -- ---- the plan
 

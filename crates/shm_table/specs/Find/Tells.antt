@@ -33,7 +33,7 @@ use Rattle.shm_steps.proofs.Partitions.Reparted.{body_so}
 use Rattle.shm_steps.proofs.Partitions.Relinking.{found_here, found_joined, not_found}
 use Rattle.shm_steps.proofs.Partitions.Walked.{walk_has}
 use Rattle.shm_table.specs.Find.Control.{Passed}
-use Rattle.shm_table.specs.Find.Reads.{chain_kept}
+use Rattle.shm_table.specs.Find.SearchLoads.{chain_kept}
 use Rattle.shm_table.specs.Find.{AreOthers, IsAbsent, IsChainRead, IsFound, IsLook}
 
 -- ---- the own partition

@@ -34,11 +34,11 @@ use Rattle.shm_table.specs.declared.get.GetPoint.TheVariants.{Search, Value, Num
 use Rattle.shm_table.specs.declared.get.GetState.{GetState}
 use Rattle.shm_table.specs.EntryReads.{reference_reads}
 use Rattle.shm_table.specs.Find.Control.{word_ask}
-use Rattle.shm_table.specs.Find.Reads.{entry_latched, look_in, look_made}
+use Rattle.shm_table.specs.Find.SearchLoads.{entry_latched, look_in, look_made}
 use Rattle.shm_table.specs.Find.Tells.{absent_tells, author_maps, entry_value, has_read, read_kept}
 use Rattle.shm_table.specs.Get.Control.{GetAnswer, get_ask, get_call, get_parts, getting, is_search}
 use Rattle.shm_table.specs.Get.{GetFound, GetKnows, GotNone, GotSome, IsAt, IsNowhere, IsReading, IsTold, found_trail, get_part, get_plan, get_word_part, number_trail, value_trail}
-use Rattle.shm_table.specs.Get.Reads.{ReadsMore, reads_on, reference_more, searched, visited, word_more}
+use Rattle.shm_table.specs.Get.UnderLatch.{ReadsMore, reads_on, reference_more, searched, visited, word_more}
 use Rattle.shm_table.specs.Locate.Control.{locate_parts}
 use Rattle.shm_table.specs.Locate.{Located, MayLocate, locate_control, locate_plan}
 use Rattle.shm_table.specs.Locate.Laws.{live_here, locate_begin, locate_laws}

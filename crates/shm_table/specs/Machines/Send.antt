@@ -1,13 +1,11 @@
--- the machine that sends what an own key has as it is made: when it fits, what it gives, and what it tells of its events
-use Rattle.std.specs.Prelude.{ℕ, List}
+-- the send of what a key has: its control, and what it gives as it is made
+use Rattle.std.specs.Prelude.{ℕ}
 use Rattle.shm_graph.specs.declared.ask.Me.{Me}
 use Rattle.shm_graph.specs.declared.memo.Memo.{Memo}
 use Rattle.shm_graph.specs.Asks.{Trail}
-use Rattle.shm_graph.specs.Events.{Event}
 use Rattle.shm_graph.specs.Laws.{Control}
-use Rattle.shm_graph.specs.Tells.{happens_along}
-use Rattle.shm_calls.specs.CallsControl.{calls_control, calls_of, calls_does}
-use Rattle.shm_calls.specs.CallsFit.{CallsFits, CallsGives}
+use Rattle.shm_calls.specs.CallsControl.{calls_control, calls_of}
+use Rattle.shm_calls.specs.CallsFit.{CallsGives}
 use Rattle.shm_script.specs.declared.log.Answer.{Answer}
 use Rattle.shm_table.specs.SendKey.Control.{SendKeyCalls, send_key_parts, sending_key}
 use Rattle.shm_table.specs.SendKey.{send_key_plan}
@@ -17,11 +15,5 @@ use Rattle.shm_table.specs.SendKey.{send_key_plan}
 abbrev pub send_key : Control SendKeyCalls Answer
 send_key = calls_control send_key_parts send_key_plan
 
-abbrev pub SendKeyFits : Me → ℕ → ℕ → Memo → Memo → Trail → Type 0
-SendKeyFits me i key = CallsFits send_key_parts send_key_plan (calls_of send_key_plan (sending_key me i key))
-
 abbrev pub SendKeyGives : Me → ℕ → ℕ → Memo → Memo → Trail → Answer → Type 0
 SendKeyGives me i key = CallsGives send_key_parts send_key_plan (calls_of send_key_plan (sending_key me i key))
-
-abbrev pub send_key_told : Me → ℕ → ℕ → Trail → List Event
-send_key_told me i key = happens_along send_key (calls_does send_key_parts send_key_plan) (calls_of send_key_plan (sending_key me i key))

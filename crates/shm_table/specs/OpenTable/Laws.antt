@@ -20,7 +20,7 @@ use Rattle.shm_graph.specs.Events as event
 use Rattle.shm_graph.specs.Idle.{IsIdle}
 use Rattle.shm_graph.specs.Laws.{Outcome}
 use Rattle.shm_graph.specs.Reach.{is_reached}
-use Rattle.shm_graph.specs.Readings.{home_read, is_held}
+use Rattle.shm_graph.specs.MemoAfterRead.{home_read, is_held}
 use Rattle.shm_graph.specs.Spots.{spot_address}
 use Rattle.shm_graph.specs.Views.{own_word}
 use Rattle.shm_steps.specs.Conditions.{IsHere}
@@ -352,10 +352,6 @@ name_laws m Name = made_up_laws (Home m.me.who)
 name_laws m Drop = up_slot_laws (Home m.me.who) false false
 
 -- ---- all of it
-
--- what is known before the first call
-pub open_begin : (me : Me) (r : Memo) → MayOpen me r → OpenKnows (record { me = me; root = 0; block = 0; point = Look }) Look r r [] []
-open_begin me r may = (may, refl, refl, refl)
 
 pub open_laws : PlanLaws open_parts open_plan
 open_laws =

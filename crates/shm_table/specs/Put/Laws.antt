@@ -21,7 +21,7 @@ use Rattle.shm_graph.specs.Bounds.{alloc_steps, tear_steps, redo_steps}
 use Rattle.shm_graph.specs.Events.{Event}
 use Rattle.shm_graph.specs.Events as event
 use Rattle.shm_graph.specs.Held.{is_loose}
-use Rattle.shm_graph.specs.Readings.{valued}
+use Rattle.shm_graph.specs.MemoAfterRead.{valued}
 use Rattle.shm_graph.specs.Views.{own_word}
 use Rattle.shm_steps.specs.Reparting.{sight, map_in, IsValue}
 use Rattle.shm_calls.specs.declared.or.Or.TheVariants.{First, Second}
@@ -64,7 +64,7 @@ use Rattle.shm_table.specs.PutRoot.Steps.{decided_after, decided_more, frees_app
 use Rattle.shm_table.specs.Staying.{Cleared, Ended, PutCause, SameMap}
 use Rattle.shm_table.specs.Staying.Laws.{cleared_drop, dropped_else, keeps_drop, keeps_made, keeps_more, left_by, made_cause, made_home, made_others, made_root, rests_unmade, spent_drop, spent_later}
 use Rattle.shm_table.specs.Undoing.{dropped_undone, none_undone, put_undone, stopped_undone}
-use Rattle.shm_table.specs.ValueReads.{idle_here}
+use Rattle.shm_table.specs.ValuesListed.{idle_here}
 use Rattle.shm_table.specs.Costs.{tear_sum, tear_same}
 
 -- ---- the plan

@@ -34,7 +34,7 @@ use Rattle.shm_table.specs.Replace.Control.{replace_parts}
 use Rattle.shm_table.specs.Replace.{replace_plan}
 use Rattle.shm_table.specs.Unlatch.{unlatch_control, unlatch_plan}
 use Rattle.shm_table.specs.Unlatch.Laws.{unlatch_laws}
-use Rattle.shm_table.specs.ValueReads.{idle_here}
+use Rattle.shm_table.specs.ValuesListed.{idle_here}
 
 -- ---- the plan
 

@@ -7,7 +7,7 @@ use Rattle.shm_graph.specs.declared.memo.Memo.{Memo}
 use Rattle.shm_graph.specs.declared.spot.Spot.TheVariants as spot
 use Rattle.shm_graph.specs.Events.{Event}
 use Rattle.shm_graph.specs.Idle.{IsIdle}
-use Rattle.shm_graph.specs.Stores.{lane_with, put as put_item}
+use Rattle.shm_graph.specs.MemoAfterStore.{lane_with, put as put_item}
 use Rattle.shm_graph.specs.Views.{own_word}
 use Rattle.shm_graph.proofs.Spots.Spotting.{same_spot_self}
 use Rattle.shm_steps.proofs.Items.{put_at}
@@ -16,7 +16,7 @@ use Rattle.shm_table.specs.declared.answer.PutFault.{PutFault}
 use Rattle.shm_table.specs.FetchHead.{MayFetchHead}
 use Rattle.shm_table.specs.RecvKey.{IsPassed, IsWaiting, ItemSo, ItemTaken, MayRecv}
 use Rattle.shm_table.specs.TakeHead.{MayTakeHead}
-use Rattle.shm_table.specs.ValueReads.{idle_here}
+use Rattle.shm_table.specs.ValuesListed.{idle_here}
 
 -- ---- the item
 

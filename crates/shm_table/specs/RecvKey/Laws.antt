@@ -49,7 +49,7 @@ use Rattle.shm_table.specs.TakeHead.Control.{take_head_parts, taking_head}
 use Rattle.shm_table.specs.TakeHead.{TakeHeadLeaves, passed_memo, take_head_plan, take_head_steps}
 use Rattle.shm_table.specs.TakeHead.Laws.{keeps_beside, take_head_begin}
 use Rattle.shm_table.specs.Undoing.{dropped_undone, none_undone, put_undone, stopped_undone}
-use Rattle.shm_table.specs.ValueReads.{idle_here}
+use Rattle.shm_table.specs.ValuesListed.{idle_here}
 use Rattle.shm_table.specs.Costs.{tear_sum, tear_same}
 
 -- ---- before each call

@@ -47,13 +47,13 @@ use Rattle.shm_table.specs.Answers.{raised_fault}
 use Rattle.shm_table.specs.EntryReads.{EntryReads, entry_loads, reference_reads}
 use Rattle.shm_table.specs.EntrySteps.{ValueSteps, value_steps, word_step}
 use Rattle.shm_table.specs.Find.Control.{word_ask}
-use Rattle.shm_table.specs.Find.Reads.{entry_latched, look_in}
+use Rattle.shm_table.specs.Find.SearchLoads.{entry_latched, look_in}
 use Rattle.shm_table.specs.Replace.Control.{ReplaceAnswer, is_look, replace_call_at, replace_parts, replacing}
 use Rattle.shm_table.specs.Replace.{IsFallen, IsSeen, IsTorn, MayBegin, MayReplace, NotReplaced, Replaced, ReplaceKnows, ReplaceLeaves, changed_events, look_part, replace_plan}
 use Rattle.shm_table.specs.Staying.{Ended, Keeps, SameMap}
 use Rattle.shm_table.specs.Staying.Laws.{keeps_more, keeps_untouched, raised_cause, same_map}
 use Rattle.shm_table.specs.Staying.Steps.{keeps_took}
-use Rattle.shm_table.specs.ValueReads.{ReadsMore, cause_read, idle_here, keeps_reads, reads_more_by}
+use Rattle.shm_table.specs.ValuesListed.{ReadsMore, cause_read, idle_here, keeps_reads, reads_more_by}
 use Rattle.shm_table.specs.Costs.{tear_same}
 
 -- ---- the value word was read

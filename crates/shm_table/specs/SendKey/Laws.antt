@@ -40,10 +40,10 @@ use Rattle.shm_table.specs.declared.send_key.SendKeyState.{SendKeyState}
 use Rattle.shm_table.specs.Fetch.{IsOn}
 use Rattle.shm_table.specs.Fetch.Steps.{clear_reading, idle_more, keeps_reading, map_reading, on_more, one_step, search_on, value_seen}
 use Rattle.shm_table.specs.Find.Control.{word_ask}
-use Rattle.shm_table.specs.Find.Reads.{entry_latched}
+use Rattle.shm_table.specs.Find.SearchLoads.{entry_latched}
 use Rattle.shm_table.specs.Get.{IsReading}
 use Rattle.shm_table.specs.Get.Laws.{at_entry, latch_of, may_unlatch, missing, nowhere, value_read}
-use Rattle.shm_table.specs.Get.Reads.{reference_more}
+use Rattle.shm_table.specs.Get.UnderLatch.{reference_more}
 use Rattle.shm_table.specs.Locate.Control.{locate_parts}
 use Rattle.shm_table.specs.Locate.{Located, MayLocate, locate_control, locate_plan}
 use Rattle.shm_table.specs.Locate.Laws.{locate_begin, locate_laws}
@@ -55,7 +55,7 @@ use Rattle.shm_table.specs.Staying.{Cleared, Keeps, SameMap}
 use Rattle.shm_table.specs.Staying.Laws.{Rests, cleared_more, keeps_core, keeps_more, keeps_unlatched, keeps_untouched, rests_core, rests_untouched, unlatched_else}
 use Rattle.shm_table.specs.Unlatch.{MayUnlatch, Unlatched, unlatch_control, unlatch_plan}
 use Rattle.shm_table.specs.Unlatch.Laws.{unlatch_begin, unlatch_laws}
-use Rattle.shm_table.specs.ValueReads.{idle_here}
+use Rattle.shm_table.specs.ValuesListed.{idle_here}
 
 -- ---- what the calls need
 

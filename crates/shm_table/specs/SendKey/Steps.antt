@@ -13,7 +13,7 @@ use Rattle.shm_graph.specs.Events.{Event}
 use Rattle.shm_graph.specs.Held.{is_loose}
 use Rattle.shm_graph.specs.Idle.{hold_word}
 use Rattle.shm_graph.specs.Spots.{same_spot}
-use Rattle.shm_graph.specs.Stores.{lane_with}
+use Rattle.shm_graph.specs.MemoAfterStore.{lane_with}
 use Rattle.shm_graph.specs.Views.{own_word}
 use Rattle.shm_graph.proofs.Spots.Spotting.{same_spot_is, same_spot_self}
 use Rattle.shm_calls.specs.Parts.{IsHeld}

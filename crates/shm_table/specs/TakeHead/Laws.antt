@@ -19,7 +19,7 @@ use Rattle.shm_graph.specs.Events as event
 use Rattle.shm_graph.specs.Idle.{IsIdle}
 use Rattle.shm_graph.specs.Reach.{is_named}
 use Rattle.shm_graph.specs.Spots.{same_spot}
-use Rattle.shm_graph.specs.Stores.{head_stored, lane_with, other_than, put}
+use Rattle.shm_graph.specs.MemoAfterStore.{head_stored, lane_with, other_than, put}
 use Rattle.shm_graph.specs.Views.{own_word}
 use Rattle.shm_graph.specs.Bounds.{redo_steps}
 use Rattle.shm_laws.proofs.Keep.{Contains-filter, filter_from}
@@ -51,7 +51,7 @@ use Rattle.shm_table.specs.Staying.{Keeps}
 use Rattle.shm_table.specs.Staying.Laws.{Rests, keeps_rest, raised_cause, root_named}
 use Rattle.shm_table.specs.TakeHead.Control.{TakeHeadAnswer, head_at, is_lower, take_head_ask, take_head_call, take_head_parts, taking_head}
 use Rattle.shm_table.specs.TakeHead.{IsLowered, MayTakeHead, TakeHeadKnows, passed_memo, take_head_part, take_head_plan}
-use Rattle.shm_table.specs.ValueReads.{idle_here}
+use Rattle.shm_table.specs.ValuesListed.{idle_here}
 
 -- ---- the item is received
 

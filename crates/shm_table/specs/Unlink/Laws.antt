@@ -48,14 +48,14 @@ use Rattle.shm_table.specs.declared.unlink.UnlinkState.{UnlinkState}
 use Rattle.shm_table.specs.EntryReads.{EntryReads, entry_loads, reference_reads}
 use Rattle.shm_table.specs.EntrySteps.{LinkSteps, link_steps, word_step}
 use Rattle.shm_table.specs.Find.Control.{word_ask}
-use Rattle.shm_table.specs.Find.Reads.{entry_latched, look_in}
+use Rattle.shm_table.specs.Find.SearchLoads.{entry_latched, look_in}
 use Rattle.shm_table.specs.Replace.{IsTorn}
 use Rattle.shm_table.specs.Staying.{Ended, Keeps}
 use Rattle.shm_table.specs.Staying.Laws.{keeps_more, keeps_untouched}
 use Rattle.shm_table.specs.Staying.Steps.{keeps_took}
 use Rattle.shm_table.specs.Unlink.Control.{UnlinkAnswer, is_look, step_point, unlink_call_at, unlink_parts}
 use Rattle.shm_table.specs.Unlink.{IsFallen, IsSeen, MayBegin, MayUnlink, NotUnlinked, Unlinked, UnlinkCause, UnlinkKnows, link_aim, link_events, look_part, unlink_plan}
-use Rattle.shm_table.specs.ValueReads.{ReadsMore, cause_read, idle_here, keeps_reads, reads_more_by}
+use Rattle.shm_table.specs.ValuesListed.{ReadsMore, cause_read, idle_here, keeps_reads, reads_more_by}
 use Rattle.shm_table.specs.Costs.{tear_same}
 
 -- ---- the next word was read

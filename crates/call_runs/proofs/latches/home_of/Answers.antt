@@ -5,7 +5,7 @@ use Rattle.shm_plain.specs.Pools.{memo_of}
 use Rattle.shm_calls.specs.Words.{word_control}
 use Rattle.shm_count.specs.Roots.{member}
 use Rattle.shm_ref.specs.HomeOf.{finding, home_of_plan}
-use Rattle.shm_ref.specs.LatchTasks.{FindMay}
+use Rattle.shm_ref.specs.LatchTasks.{HomeOfMay}
 use Rattle.plain_calls.proofs.Running.{plan_may, plan_said}
 use Rattle.call_runs.proofs.Answered.{finds}
 use Rattle.call_runs.proofs.latches.home_of.Goals as goal
@@ -17,7 +17,7 @@ run-answer-requires-clause-may c =
     let me = member p.start.geometry who in
     let low : c.in_ok-author.author < p.start.geometry.clients = subst (λ n. c.in_ok-author.author < n) (c.clients.ensures ∙ ap (λ (z : Geometry). z.clients) c.geometry.ensures.is) c.in_ok-author.ensures in
     plan_may home_of_plan (λ (x : Me). finding x c.in_ok-author.author) me _ _ _ c.me.ensures.is c.new-finding.ensures c.new.ensures
-    FindMay (memo_of p who) (refl, low)
+    HomeOfMay (memo_of p who) (refl, low)
 
 pub returns : goal.returns
 returns c =

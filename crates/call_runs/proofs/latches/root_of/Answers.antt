@@ -1,4 +1,4 @@
-use Rattle.std.proofs.Common.{refl, ap, ◌∙◌}
+use Rattle.std.proofs.Common.{ap, ◌∙◌}
 use Rattle.shm_graph.specs.declared.ask.Me.{Me}
 use Rattle.shm_plain.specs.Pools.{memo_of}
 use Rattle.shm_calls.specs.Words.{word_control}

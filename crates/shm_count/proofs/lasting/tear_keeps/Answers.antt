@@ -7,7 +7,7 @@ use Rattle.shm_graph.specs.declared.spot.Spot.TheVariants.{Root}
 use Rattle.shm_graph.specs.Asks.{Trail}
 use Rattle.shm_graph.specs.Events.{Event}
 use Rattle.shm_graph.specs.Held.{is_loose}
-use Rattle.shm_graph.specs.Stores.{not_block}
+use Rattle.shm_graph.specs.MemoAfterStore.{not_block}
 use Rattle.shm_count.specs.declared.answer.EraSpent.{EraSpent}
 use Rattle.shm_count.specs.Idles.{stays_idle}
 use Rattle.shm_count.specs.Operating.{TearDownLeaves, tearing}

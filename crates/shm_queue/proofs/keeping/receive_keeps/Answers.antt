@@ -3,7 +3,7 @@ use Rattle.std.specs.Prelude.{Ok, Err}
 use Rattle.std.proofs.lemmas.Bool.{cond-false, cond-true}
 use Rattle.shm_graph.specs.declared.memo.Memo.{Memo}
 use Rattle.shm_graph.specs.declared.spot.Spot.TheVariants.{Root}
-use Rattle.shm_graph.specs.Stores.{lane_with}
+use Rattle.shm_graph.specs.MemoAfterStore.{lane_with}
 use Rattle.shm_graph.proofs.Spots.Spotting.{same_spot_self}
 use Rattle.shm_count.proofs.RootSpots.{roots_reached}
 use Rattle.shm_queue.specs.QueueTasks.{receive_rests}

@@ -10,7 +10,6 @@ use Rattle.shm_table.specs.declared.answer.PutFault.TheVariants.{CountFull}
 use Rattle.shm_table.specs.Answers.{made_fault}
 use Rattle.shm_table.specs.OpenTable.{OpenLeft}
 use Rattle.shm_table.specs.OpenTable.OpenLeft.{Undropped, Unmade, Unnamed}
-use Rattle.shm_table.specs.Machines.Open.{open_told}
 use Rattle.shm_table.proofs.opening.open_table_tells.Goals as goal
 
 -- no allocation is refused since a count is full
@@ -25,4 +24,4 @@ never me r0 r es vs b n (Unnamed e is k d has home told all) = cc
 never me r0 r es vs b n (Undropped e is k d free some home others stopped ds told) = cc
 
 pub returns-clause-room : goal.returns-clause-room
-returns-clause-room c me r0 r tr b n h = never me r0 r (open_told me tr) h.leaves.visits b n h.leaves.left
+returns-clause-room c me r0 r tr es b n h = never me r0 r es h.visits b n h.left

@@ -2,10 +2,10 @@ use Rattle.shm_table.specs.Get.Tells.{named_maps, ready_maps, ready_told}
 use Rattle.shm_table.proofs.reading.get_tells.Goals as goal
 
 pub returns-clause-missing : goal.returns-clause-missing
-returns-clause-missing c me a key r0 r tr q h = h.leaves.absent q
+returns-clause-missing c me a key r0 r tr es q h = h.absent q
 
 pub returns-clause-found : goal.returns-clause-found
-returns-clause-found c me a key r0 r tr n v q h = h.leaves.has q
+returns-clause-found c me a key r0 r tr es n v q h = h.has q
 
 pub returns-clause-named : goal.returns-clause-named
 returns-clause-named c m r0 r tr fit named w rs held same = named_maps m r0 r tr fit named w rs held same

@@ -1,111 +1,117 @@
-use Rattle.std.proofs.Common.{◌≡◌, ap, ◌∙◌, subst, sym, List, []}
-use Rattle.shm_words.specs.Layout.{GeometryFits}
+use Rattle.std.proofs.Common.{ap, ◌≡◌, ◌∙◌, subst, sym, List}
+use Rattle.std.specs.Prelude.{IfSome}
 use Rattle.shm_graph.specs.declared.ask.Me.{Me}
 use Rattle.shm_graph.specs.declared.memo.Memo.{Memo}
 use Rattle.shm_graph.specs.Events.{Event}
-use Rattle.shm_plain.specs.Calls.{Did}
+use Rattle.shm_graph.specs.Tells.{happens_along}
+use Rattle.shm_plain.specs.Calls.{Did, IsAtWork}
 use Rattle.shm_plain.specs.Pools.{memo_of}
+use Rattle.shm_plain.proofs.Answering.{some_map}
+use Rattle.plain_calls.proofs.Running.{run_kind}
 use Rattle.shm_count.specs.Roots.{member}
 use Rattle.shm_script.specs.declared.log.Answer.{Answer}
-use Rattle.shm_table.specs.Command.{CommandCall, CommandFits, CommandGives, MayStand, command_control, command_does, command_of}
+use Rattle.shm_table.specs.Command.{CommandCall, CommandGives, MayStand, command_control, command_does, command_of}
+use Rattle.shm_table.specs.Command.Operates.{CommandLeaves, CommandMay, command_may}
 use Rattle.shm_table.specs.Staying.{Ended}
-use Rattle.shm_plain.proofs.Called.{Answered, answered, call_fits}
 use Rattle.table_calls.specs.Running.{LeavesOpen, MapSo, RunLeaves}
-use Rattle.table_calls.proofs.RunBegins.{run_begins, run_fresh, run_latch, run_stands, run_tells}
-use Rattle.table_calls.proofs.RunEvents.{run_leaves}
+use Rattle.table_calls.proofs.RunBegins.{run_latch, run_may, run_me, run_stands}
+use Rattle.table_calls.proofs.RunEvents.{run_leaves, run_left}
 use Rattle.table_calls.proofs.RunKeeps.{RunKeeps, run_keeps}
 use Rattle.table_calls.proofs.RunMaps.{run_maps}
-use Rattle.table_calls.proofs.commands.command.Goals.{After-new-machine, After-call}
+use Rattle.table_calls.proofs.commands.command.Goals.{After-new-machine, After-run}
 use Rattle.table_calls.proofs.commands.command.Goals as goal
 
 -- ---- the machine
 
-pub new-machine-requires-clause-geometry : goal.new-machine-requires-clause-geometry
-new-machine-requires-clause-geometry c =
-    let g = c.new.ensures.geometry ∙ c.geometry-geometry.ensures.is in
-    subst GeometryFits (sym g) c.requires.at_work.geometry
-
 pub new-machine-requires-clause-line : goal.new-machine-requires-clause-line
 new-machine-requires-clause-line c =
-    let g = c.new.ensures.geometry ∙ c.geometry-geometry.ensures.is in
-    let me : c.new.result ≡ member c.args.pool.now.start.geometry c.args.who = (λ i. record { geometry = g i; who = c.new.ensures.who i }) in
-    subst (λ (x : Me). MayStand x c.args.line.now) (sym me) (run_stands _ c.args.line.now (memo_of c.args.pool.now c.args.who) c.requires.may)
+    subst (λ (x : Me). MayStand x c.args.line.now) (sym c.me.ensures.is) (run_stands _ c.args.line.now (memo_of c.args.pool.now c.args.who) c.requires.may)
 
 -- it is the command of the line
 abbrev machine : (c : After-new-machine) → CommandCall
 machine c = command_of (member c.args.pool.now.start.geometry c.args.who) c.args.line.now
 
 state : (c : After-new-machine) → c.new-machine.result ≡ machine c
-state c =
-    let g = c.new.ensures.geometry ∙ c.geometry-geometry.ensures.is in
-    let me : c.new.result ≡ member c.args.pool.now.start.geometry c.args.who = (λ i. record { geometry = g i; who = c.new.ensures.who i }) in
-    c.new-machine.ensures.command ∙ ap (λ (x : Me). command_of x c.args.line.now) me
+state c = c.new-machine.ensures.command ∙ ap (λ (x : Me). command_of x c.args.line.now) c.me.ensures.is
 
-begins : (c : After-new-machine) → let r : Memo = memo_of c.args.pool.now c.args.who in CommandFits (machine c) r r []
-begins c = run_begins (member c.args.pool.now.start.geometry c.args.who) c.args.line.now (memo_of c.args.pool.now c.args.who) c.requires.may
+pub run-requires-clause-me : goal.run-requires-clause-me
+run-requires-clause-me c =
+    let at = (goal.at.run-requires-clause-me c).After-new-machine in
+    ap (λ (m : CommandCall). command_control.me m) (state at) ∙ run_me (member c.args.pool.now.start.geometry c.args.who) c.args.line.now
 
-pub call-requires-clause-fits : goal.call-requires-clause-fits
-call-requires-clause-fits c =
-    let at = (goal.at.call-requires-clause-fits c).After-new-machine in
-    let work = c.requires.at_work in
-    call_fits command_control CommandFits CommandGives c.args.who c.args.pool.now work.geometry work.who work.acts (machine at) (run_fresh _ c.args.line.now) (begins at) c.new-machine.result (state at)
-
--- ---- what the call leaves
-
-abbrev made : (c : After-call) → CommandCall
-made c = machine (goal.at.After-call c).After-new-machine
-
-called : (c : After-call) → Answered command_control CommandGives command_does c.args.who c.args.pool.now (made c) c.call.new.self c.args.life.now.left c.call.new.life.left c.call.result
-called c =
-    let at = (goal.at.After-call c).After-new-machine in
-    let work = c.requires.at_work in
-    answered command_control CommandFits CommandGives c.args.who c.args.pool.now work.geometry work.who work.acts (machine at) (run_fresh _ c.args.line.now) (begins at) c.new-machine.result (state at) c.call.new.self c.args.life.now.left c.call.new.life.left c.call.result
-    (record { gave = c.call.ensures.gives; ran = c.call.ensures.ran; took = c.call.ensures.took; events = c.call.ensures.events }) command_does run_tells
-
-keeps : (c : After-call) (a : Answer) → let r : Memo = memo_of c.args.pool.now c.args.who in let m : Memo = memo_of c.call.new.self c.args.who in CommandGives (made c) r m m.call a → RunKeeps c.args.who r m
-keeps c a g =
+pub run-requires-clause-may : goal.run-requires-clause-may
+run-requires-clause-may c =
+    let at = (goal.at.run-requires-clause-may c).After-new-machine in
     let me : Me = member c.args.pool.now.start.geometry c.args.who in
     let r : Memo = memo_of c.args.pool.now c.args.who in
-    let m : Memo = memo_of c.call.new.self c.args.who in
-    run_keeps me r m m.call _ c.args.line.now a c.requires.at_work.idle (run_latch me c.args.line.now r c.requires.may) (run_leaves me c.args.line.now r m m.call a g)
+    subst (λ (m : CommandCall). CommandMay m r) (sym (state at)) (command_may me c.args.line.now r (run_may me c.args.line.now r c.requires.may))
+
+-- ---- what the run leaves
+
+abbrev me : (c : After-run) → Me
+me c = member c.args.pool.now.start.geometry c.args.who
+
+-- the memos of the identity, before and after
+abbrev before : (c : After-run) → Memo
+before c = memo_of c.args.pool.now c.args.who
+
+abbrev after : (c : After-run) → Memo
+after c = memo_of c.run.new.self c.args.who
+
+-- what it gives, by the line
+abbrev Gives : (c : After-run) → Answer → Type 0
+Gives c a = CommandGives (command_of (me c) c.args.line.now) (before c) (after c) (after c).call a
+
+gave : (c : After-run) → IfSome c.run.result (Gives c)
+gave c = subst (λ (m : CommandCall). IfSome c.run.result (λ a. CommandGives m (before c) (after c) (after c).call a)) (state (goal.at.After-run c).After-new-machine) c.run.ensures.gives
+
+-- what follows of it
+follows : (c : After-run) (P : Answer → Type 0) → ((a : Answer) → Gives c a → P a) → IfSome c.run.result P
+follows c P f = some_map (Gives c) P c.run.result f (gave c)
+
+keeps : (c : After-run) (a : Answer) → Gives c a → RunKeeps c.args.who (before c) (after c)
+keeps c a g =
+    run_keeps (me c) (before c) (after c) (after c).call _ c.args.line.now a c.requires.at_work.idle (run_latch (me c) c.args.line.now (before c) c.requires.may) (run_leaves (me c) c.args.line.now (before c) (after c) (after c).call a g)
 
 pub returns-clause-gives : goal.returns-clause-gives
-returns-clause-gives c = (called (goal.at.returns-clause-gives c).After-call).gives
+returns-clause-gives c = gave (goal.at.returns-clause-gives c).After-run
 
 pub returns-clause-ran : goal.returns-clause-ran
-returns-clause-ran c = (called (goal.at.returns-clause-ran c).After-call).ran
+returns-clause-ran c = c.run.ensures.ran
 
 pub returns-clause-kind : goal.returns-clause-kind
-returns-clause-kind c = (called (goal.at.returns-clause-kind c).After-call).kind
+returns-clause-kind c = run_kind c.args.who c.args.pool.now c.run.new.self _ _ c.run.result c.requires.at_work.acts c.run.ensures.ran
 
 pub returns-clause-rests : goal.returns-clause-rests
 returns-clause-rests c =
-    let at = (goal.at.returns-clause-rests c).After-call in
-    (called at).follows (λ a. LeavesOpen (memo_of c.args.pool.now c.args.who) (memo_of c.call.new.self c.args.who)) (λ a g. (keeps at a g).rests)
+    let at = (goal.at.returns-clause-rests c).After-run in
+    follows at (λ a. LeavesOpen (before at) (after at)) (λ a g. (keeps at a g).rests)
 
 pub returns-clause-ended : goal.returns-clause-ended
 returns-clause-ended c =
-    let at = (goal.at.returns-clause-ended c).After-call in
-    (called at).follows (λ a. Ended c.args.who (memo_of c.args.pool.now c.args.who) (memo_of c.call.new.self c.args.who)) (λ a g. (keeps at a g).ended)
+    let at = (goal.at.returns-clause-ended c).After-run in
+    follows at (λ a. Ended c.args.who (before at) (after at)) (λ a g. (keeps at a g).ended)
 
 pub returns-clause-at_work : goal.returns-clause-at_work
-returns-clause-at_work c =
-    let at = (goal.at.returns-clause-at_work c).After-call in
-    (called at).works (λ a g. (keeps at a g).idle)
+returns-clause-at_work c = some_map (λ a. Unit {0} → IsAtWork c.args.who c.run.new.self) (λ a. IsAtWork c.args.who c.run.new.self) c.run.result (λ a work. work tt) c.run.ensures.at_work
+
+-- what its page says, with the events that it tells of
+abbrev Left : (c : After-run) → CommandCall → Answer → Type 0
+Left c m a = let es = happens_along command_control command_does m (after c).call in Did c.args.who c.args.pool.now c.run.new.self es × CommandLeaves m (before c) (after c) (after c).call es a
 
 pub returns-clause-leaves : goal.returns-clause-leaves
 returns-clause-leaves c =
-    let at = (goal.at.returns-clause-leaves c).After-call in
-    let me : Me = member c.args.pool.now.start.geometry c.args.who in
-    (called at).told (λ a. (es : List Event) × Did c.args.who c.args.pool.now c.call.new.self es × RunLeaves me c.args.line.now (memo_of c.args.pool.now c.args.who) (memo_of c.call.new.self c.args.who) (memo_of c.call.new.self c.args.who).call es a)
-    (λ a g d. (_, d, run_leaves me c.args.line.now (memo_of c.args.pool.now c.args.who) (memo_of c.call.new.self c.args.who) (memo_of c.call.new.self c.args.who).call a g))
+    let at = (goal.at.returns-clause-leaves c).After-run in
+    let m : CommandCall = command_of (me at) c.args.line.now in
+    let left = subst (λ (z : CommandCall). IfSome c.run.result (Left at z)) (state (goal.at.After-run at).After-new-machine) c.run.ensures.leaves in
+    some_map (Left at m) (λ a. (es : List Event) × Did c.args.who c.args.pool.now c.run.new.self es × RunLeaves (me at) c.args.line.now (before at) (after at) (after at).call es a) c.run.result
+    (λ a h. (_, h.0, run_left (me at) c.args.line.now (before at) (after at) (after at).call _ a h.1)) left
 
 pub returns-clause-map : goal.returns-clause-map
 returns-clause-map c =
-    let at = (goal.at.returns-clause-map c).After-call in
-    let me : Me = member c.args.pool.now.start.geometry c.args.who in
-    (called at).follows (λ a. MapSo c.args.line.now a (memo_of c.args.pool.now c.args.who) (memo_of c.call.new.self c.args.who))
-    (λ a g. run_maps me (memo_of c.args.pool.now c.args.who) (memo_of c.call.new.self c.args.who) (memo_of c.call.new.self c.args.who).call _ c.args.line.now a (run_leaves me c.args.line.now (memo_of c.args.pool.now c.args.who) (memo_of c.call.new.self c.args.who) (memo_of c.call.new.self c.args.who).call a g))
+    let at = (goal.at.returns-clause-map c).After-run in
+    follows at (λ a. MapSo c.args.line.now a (before at) (after at))
+    (λ a g. run_maps (me at) (before at) (after at) (after at).call _ c.args.line.now a (run_leaves (me at) c.args.line.now (before at) (after at) (after at).call a g))
 
 pub returns-clause-others : goal.returns-clause-others
-returns-clause-others c = (called (goal.at.returns-clause-others c).After-call).ran.others
+returns-clause-others c = c.run.ensures.ran.others

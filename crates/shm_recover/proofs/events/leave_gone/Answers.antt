@@ -1,5 +1,0 @@
-use Rattle.shm_recover.specs.Leave.Gone.{leave_gone}
-use Rattle.shm_recover.proofs.events.leave_gone.Goals as goal
-
-pub returns : goal.returns
-returns c = leave_gone

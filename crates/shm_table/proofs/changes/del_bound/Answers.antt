@@ -1,9 +1,0 @@
-use Rattle.shm_table.specs.Machines.Change.{del_told}
-use Rattle.shm_table.specs.Del.Bound.{del_short, del_within}
-use Rattle.shm_table.proofs.changes.del_bound.Goals as goal
-
-pub returns-clause-own : goal.returns-clause-own
-returns-clause-own c me key r0 r tr a h = del_short me key r0 r tr (del_told me key tr) a h.leaves.1
-
-pub returns-clause-command : goal.returns-clause-command
-returns-clause-command c me key r0 r tr a h = del_within me key me.geometry.segments r tr (del_told me key tr) (del_short me key r0 r tr (del_told me key tr) a h.leaves.1)

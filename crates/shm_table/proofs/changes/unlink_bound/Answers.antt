@@ -1,7 +1,0 @@
-use Rattle.shm_table.proofs.changes.unlink_bound.Goals as goal
-
-pub returns-clause-done : goal.returns-clause-done
-returns-clause-done c me entry before word r0 r tr h = (h.leaves.left, h.leaves.events, h.leaves.bound)
-
-pub returns-clause-refused : goal.returns-clause-refused
-returns-clause-refused c me entry before word r0 r tr f h = h.leaves.bound

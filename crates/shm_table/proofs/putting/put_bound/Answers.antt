@@ -1,9 +1,0 @@
-use Rattle.shm_table.specs.Machines.Put.{put_told}
-use Rattle.shm_table.specs.Put.Bound.{put_short, put_within}
-use Rattle.shm_table.proofs.putting.put_bound.Goals as goal
-
-pub returns-clause-own : goal.returns-clause-own
-returns-clause-own c me key n r0 r tr a h = put_short me key n r0 r tr (put_told me key n tr) a h.leaves
-
-pub returns-clause-command : goal.returns-clause-command
-returns-clause-command c me key n r0 r tr a h = put_within me key r tr (put_told me key n tr) (put_short me key n r0 r tr (put_told me key n tr) a h.leaves)

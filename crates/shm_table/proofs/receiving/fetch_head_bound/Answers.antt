@@ -1,6 +1,0 @@
-use Rattle.shm_table.specs.RecvKey.Bound.{fetch_head_short}
-use Rattle.shm_table.specs.Machines.Recv.{fetch_head_told}
-use Rattle.shm_table.proofs.receiving.fetch_head_bound.Goals as goal
-
-pub returns-clause-within : goal.returns-clause-within
-returns-clause-within c me s r0 r tr b h = fetch_head_short me s r0 r tr (fetch_head_told me s tr) b h.leaves

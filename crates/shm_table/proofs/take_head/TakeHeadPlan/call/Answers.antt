@@ -1,0 +1,12 @@
+use Rattle.std.proofs.Common.{sym, subst, arith, ◌%◌, ◌<◌}
+use Rattle.std.proofs.lemmas.Bool.{and_from, lt-ltb}
+use Rattle.shm_words.specs.declared.place.Place.TheVariants as place
+use Rattle.shm_words.proofs.Placing.{address_small}
+use Rattle.shm_words.specs.Layout.{address_limit}
+use Rattle.shm_table.proofs.take_head.TakeHeadPlan.call.Goals as goal
+
+pub new-requires-clause-slot : goal.new-requires-clause-slot
+new-requires-clause-slot c =
+    let m = c.self.inside.state in
+    let k = c.self.invariant in
+    subst (λ x. x < address_limit) (sym c.slot-slot.ensures) (address_small m.me.geometry (place.Slot m.from m.me.who (m.at % 8)) (and_from _ _ (and_from _ _ (lt-ltb m.from m.me.geometry.clients k.from) (lt-ltb m.me.who m.me.geometry.clients k.who)) (lt-ltb (m.at % 8) 8 (omega arith))) k.geometry)
