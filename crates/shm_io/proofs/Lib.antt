@@ -1,3 +1,2 @@
-pub mod FaultCases
 pub mod ReadSteps
 pub mod WriteSteps

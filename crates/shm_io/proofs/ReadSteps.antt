@@ -1,7 +1,7 @@
 -- Reads one after another.
-use Rattle.std.proofs.Common.{◌≡◌, ℕ, ◌+◌, ◌<◌, ◌≤◌, List, [], ◌++◌, length, take, drop, Option, Some, None, sym, ap, ◌∙◌, arith, subst}
+use Rattle.std.proofs.Common.{◌≡◌, ℕ, ◌+◌, ◌≤◌, List, [], ◌++◌, length, take, drop, Option, Some, None, sym, ap, ◌∙◌, arith, subst}
 use Rattle.std.proofs.Math.Seq.{take-add}
-use Rattle.std.proofs.lemmas.List.{drop-drop, length-drop, length-take, take_all, drop_all}
+use Rattle.std.proofs.lemmas.List.{drop-drop, length-drop, take_all, drop_all}
 use Rattle.std.specs.Io.KnownBytes.{IsAtEnd}
 use Rattle.shm_io.specs.Reading.{ReadsOn, TakesFront}
 

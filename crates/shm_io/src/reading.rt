@@ -68,33 +68,40 @@ pub fn read_to_limit<S: Source>(
     ensures rising { S.faults source.old ≤ S.faults source.new }
 {
     let mut bytes = Vec::new(alloc);
+    let mut piece = [0u8; PIECE];
     while bytes.len() < limit {
-        let room = limit - bytes.len();
-        if read_piece(source, &mut bytes, room)? == 0 {
-            return Ok(bytes);
+        let room = PIECE.min(limit - bytes.len());
+        if read_piece(source, &mut piece[..room], &mut bytes)? == 0 {
+            return Ok(fitted(bytes));
         }
     }
-    Ok(bytes)
+    Ok(fitted(bytes))
 }
 
-// Reads one piece of at most `room` bytes to the end of the bytes.
+// These bytes, in as little memory as holds them.
+fn fitted(mut bytes: Vec<u8>) -> Vec<u8>
+    ensures { result.items ≡ bytes.items }
+{
+    bytes.shrink_to_fit();
+    bytes
+}
+
+// Reads into the piece once, and adds what was read to the end of the bytes.
 fn read_piece<S: Source>(
     source: &mut S,
+    piece: &mut [u8],
     bytes: &mut Vec<u8>,
-    room: usize,
 ) -> Result<usize, ReadStop>
-    requires { 0 < room }
-    ensures count { IfOk result (λ n. (n ≤ room) × (length bytes.new.items ≡ length bytes.old.items + n)) }
+    requires { 0 < length piece.old }
+    ensures count { IfOk result (λ n. (n ≤ length piece.old) × (length bytes.new.items ≡ length bytes.old.items + n)) }
     ensures bytes { IfOk result (ReadsOn (S.left source.old) (S.left source.new) bytes.old.items bytes.new.items) }
     ensures end { IfOk result (λ n. n ≡ 0 → IsAtEnd (S.left source.old)) }
     ensures no_fault { OnOk result (S.faults source.new ≡ S.faults source.old) }
-    ensures lost { OnErr result (LosesFront (S.left source.old) (S.left source.new) room) }
+    ensures lost { OnErr result (LosesFront (S.left source.old) (S.left source.new) (length piece.old)) }
     ensures cause { IfErr result (HasCause (S.faults source.old) (S.faults source.new)) }
     ensures rising { S.faults source.old ≤ S.faults source.new }
 {
-    let mut piece = [0u8; PIECE];
-    let asked = room.min(PIECE);
-    let n = source.read(&mut piece[..asked])?;
+    let n = source.read(piece)?;
     bytes.extend_from_slice(&piece[..n])?;
     Ok(n)
 }

@@ -4,4 +4,5 @@ pub mod Kept
 pub mod TableKept
 pub mod Formats
 pub mod WordReading
+pub mod Writing
 pub mod Migrated

@@ -1,56 +1,24 @@
 -- the words of an image of format 1, and what they become
 use Rattle.std.proofs.Common.{◌≡◌, ◌≢◌, ℕ, ◌+◌, ◌-◌, ◌*◌, ◌/◌, ◌%◌, ◌<◌, ◌≤◌, Bool, true, false, eqb, ltb, cond, List, get_or, IfSome, refl, sym, ap, ◌∙◌, arith, rules, inl, inr}
 use Rattle.std.specs.Prelude.{Option, Some, None}
-use Rattle.std.proofs.lemmas.Bool.{cases_Bool, cond-true, cond-false, lt-ltb}
+use Rattle.std.proofs.lemmas.Bool.{cases_Bool, cond-true, cond-false, lt-ltb, true≢false}
 use Rattle.shm_words.specs.declared.geometry.Geometry.{Geometry}
 use Rattle.shm_words.specs.declared.place.Place.TheVariants as place
 use Rattle.shm_words.specs.declared.tag.Tag.{Tag as ATag}
 use Rattle.shm_words.specs.Layout.{address, place_at, redo_place, total_of}
 use Rattle.shm_words.specs.Headers.{header_of}
-use Rattle.shm_words.specs.Tags.{tag_of, tag_word, TagFits}
+use Rattle.shm_words.specs.Tags.{tag_of, TagFits}
 use Rattle.shm_words.proofs.Words.{tag_fields, tag_fits}
 use Rattle.shm_graph.specs.declared.spot.Spot.{Spot}
 use Rattle.shm_graph.specs.declared.spot.Spot.TheVariants.{Spare, Redo, RedoMore, Home, Root, Slot, Unused, Tag, Body}
-use Rattle.shm_graph.specs.Spots.{spot_of, spot_at, classes_in, see}
+use Rattle.shm_graph.specs.Spots.{spot_of, spot_at, classes_in, is_in_body, see}
 use Rattle.shm_graph.specs.Blocks.{classes, headers, IsBlock, IsLive}
 use Rattle.shm_graph.specs.References.{references, words_of}
 use Rattle.shm_graph.specs.Clean.{IsClean}
 use Rattle.shm_graph.proofs.Spots.Seeing.{see_at}
 use Rattle.shm_graph.proofs.Spots.WordsAt.{block_header, block_tag}
-use Rattle.shm_migrate.specs.Widened.{wide_of, moved, live_tag, widened_tag, widened_body, widened_at, widened_word}
+use Rattle.shm_migrate.specs.Widened.{wide_of, moved, live_tag, widened_at, widened_word}
 use Rattle.shm_migrate.proofs.Places.{status_place, redo_place_at}
-
--- ---- words that are 0
-
-no_tag_word : (wide : Bool) (t : ℕ) → t ≡ 0 → widened_tag (tag_of wide t) ≡ 0
-unfolding tag_of tag_word
-no_tag_word false t e = ap (λ k. widened_tag (tag_of false k)) e
-no_tag_word true t e = ap (λ k. widened_tag (tag_of true k)) e
-
-no_live_tag : (wide live : Bool) (t : ℕ) → t ≡ 0 → widened_tag (cond live (tag_of wide t) None) ≡ 0
-no_live_tag wide true t e = no_tag_word wide t e
-no_live_tag wide false t e = refl
-
-no_body : (g : Geometry) (o : Option ATag) (i word : ℕ) → word ≡ 0 → widened_body g o i word ≡ 0
-no_body g None i word e = refl
-no_body g (Some t) i word e = ap (widened_body g (Some t) i) e ∙ nothing (ltb i t.refs) (ltb i (t.refs + t.plain))
-  where
-    nothing : (a b : Bool) → ◌≡◌ {A = ℕ} (cond a 0 (cond b 0 0)) 0
-    nothing true b = refl
-    nothing false true = refl
-    nothing false false = refl
-
-pub zero_stays : (g : Geometry) (w : Spot → ℕ) (p : Spot) → w p ≡ 0 → widened_at g w p ≡ 0
-zero_stays g w (Tag b) e = no_live_tag g.wide (headers w b).live (w (Tag b)) e
-zero_stays g w (Body b i) e = no_body g (live_tag g w b) i (w (Body b i)) e
-zero_stays g w (Home c) e = ap (moved g) e
-zero_stays g w (Root c k) e = ap (moved g) e
-zero_stays g w (Slot s r k) e = ap (moved g) e
-zero_stays g w Spare e = refl
-zero_stays g w (Redo c) e = refl
-zero_stays g w (RedoMore c) e = refl
-zero_stays g w (Unused a) e = refl
-zero_stays g w _ e = e
 
 -- ---- words that are references
 
@@ -73,18 +41,18 @@ name_names wide w (Root c k) e = refl
 name_names wide w (Slot s r k) e = refl
 name_names wide w _ e = absurd cc
 
--- a word that stays as it is
-pub word_stays : (g : Geometry) (w : Spot → ℕ) (p : Spot) → (p ≡ Spare → ⊥) → ((c : ℕ) → p ≡ Redo c → ⊥) → ((c : ℕ) → p ≡ RedoMore c → ⊥) → ((c : ℕ) → p ≡ Home c → ⊥) → ((c k : ℕ) → p ≡ Root c k → ⊥) → ((s r k : ℕ) → p ≡ Slot s r k → ⊥) → ((a : ℕ) → p ≡ Unused a → ⊥) → ((b : ℕ) → p ≡ Tag b → ⊥) → ((b i : ℕ) → p ≡ Body b i → ⊥) → widened_at g w p ≡ w p
-word_stays g w Spare n r m h o s u t b = absurd (n refl)
-word_stays g w (Redo c) n r m h o s u t b = absurd (r c refl)
-word_stays g w (RedoMore c) n r m h o s u t b = absurd (m c refl)
-word_stays g w (Home c) n r m h o s u t b = absurd (h c refl)
-word_stays g w (Root c k) n r m h o s u t b = absurd (o c k refl)
-word_stays g w (Slot x y k) n r m h o s u t b = absurd (s x y k refl)
-word_stays g w (Unused a) n r m h o s u t b = absurd (u a refl)
-word_stays g w (Tag d) n r m h o s u t b = absurd (t d refl)
-word_stays g w (Body d i) n r m h o s u t b = absurd (b d i refl)
-word_stays g w _ n r m h o s u t b = refl
+-- a word before the bodies that stays as it is
+pub word_stays : (g : Geometry) (w : Spot → ℕ) (p : Spot) → (p ≡ Spare → ⊥) → ((c : ℕ) → p ≡ Redo c → ⊥) → ((c : ℕ) → p ≡ RedoMore c → ⊥) → ((c : ℕ) → p ≡ Home c → ⊥) → ((c k : ℕ) → p ≡ Root c k → ⊥) → ((s r k : ℕ) → p ≡ Slot s r k → ⊥) → is_in_body p ≡ false → widened_at g w p ≡ w p
+word_stays g w Spare n r m h o s out = absurd (n refl)
+word_stays g w (Redo c) n r m h o s out = absurd (r c refl)
+word_stays g w (RedoMore c) n r m h o s out = absurd (m c refl)
+word_stays g w (Home c) n r m h o s out = absurd (h c refl)
+word_stays g w (Root c k) n r m h o s out = absurd (o c k refl)
+word_stays g w (Slot x y k) n r m h o s out = absurd (s x y k refl)
+word_stays g w (Unused a) n r m h o s out = absurd (true≢false out)
+word_stays g w (Tag d) n r m h o s out = absurd (true≢false out)
+word_stays g w (Body d i) n r m h o s out = absurd (true≢false out)
+word_stays g w _ n r m h o s out = refl
 
 told_live : (live : Bool) (o : Option ATag) (t : ATag) → cond live o None ≡ Some t → (live ≡ true) × (o ≡ Some t)
 told_live true o t e = (refl, e)

@@ -1,2 +1,3 @@
 pub mod Widened
+pub mod Writing
 pub mod Migrations

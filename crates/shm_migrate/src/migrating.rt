@@ -14,8 +14,8 @@ ghost use Rattle.shm_audit.specs.Verdicts.{clean_verdict, found_at};
 ghost use Rattle.shm_migrate.specs.Migrations.{StopsBy, migrated, refusal_of, verdict_in};
 ghost use Rattle.shm_migrate.specs.Widened.{moved, moved_table, wide_of, widened};
 
+use crate::image::widened_image;
 use crate::stop::MigrateStop;
-use crate::words::widened_image;
 use shm_audit::{AuditStop, Verdict, audit, open_image};
 use std::alloc::Global;
 

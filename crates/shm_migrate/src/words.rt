@@ -1,55 +1,26 @@
 //! The words of a clean pool of format 1 as they are in format 2.
 
-ghost use Rattle.std.specs.Prelude.{◌≡◌, ◌≢◌, ℕ, ◌+◌, ◌^◌, ◌<◌, false, length, slice_index, IfOk, IfSome};
-ghost use Rattle.shm_words.specs.Layout.{GeometryFits, total_of};
+ghost use Rattle.std.specs.Prelude.{◌≡◌, ◌≢◌, ◌+◌, ◌<◌, false, IfSome};
+ghost use Rattle.shm_words.specs.Layout.{GeometryFits, bodies};
 ghost use Rattle.shm_words.specs.Tags.{TagFits};
 ghost use Rattle.shm_graph.specs.declared.spot.Spot.TheVariants.{Tag as TagSpot};
 ghost use Rattle.shm_graph.specs.Spots.{see, spot_at, classes_in};
 ghost use Rattle.shm_graph.specs.Blocks.{headers, IsBlock, IsLive};
 ghost use Rattle.shm_graph.specs.Clean.{IsClean};
-ghost use Rattle.shm_audit.specs.Images.{image_of, numbers};
-ghost use Rattle.shm_migrate.specs.Widened.{wide_of, moved, live_tag, widened_tag, widened_body, widened_at, widened_word, widened};
+ghost use Rattle.shm_audit.specs.Images.{numbers};
+ghost use Rattle.shm_migrate.specs.Widened.{moved, live_tag, widened_tag, widened_body, widened_at, widened_word};
 
-use shm_audit::{push_word, spot, word};
+use shm_audit::{spot, word};
 use shm_graph::Spot;
-use shm_script::push_text;
 use shm_words::{Geometry, Header, Tag};
-use std::alloc::{AllocError, Global};
 
-/// How many bytes stand before the words of an image.
-const FRAME: usize = 24;
-
-/// The image in format 2 of a clean pool of format 1 with these words.
-///
-/// It takes as much memory as it is long. Each of its words is below 2^64.
-pub fn widened_image(
-    alloc: Global,
-    geometry: Geometry,
-    words: &[[u8; 8]],
-) -> Result<Vec<u8>, AllocError>
+/// The word before the bodies of the pages at an address of format 2; behind the redo records each word stands further on, by one for each
+/// client.
+pub fn widened_word(geometry: Geometry, words: &[[u8; 8]], at: u32) -> u64
     requires fits { GeometryFits geometry }
     requires narrow { geometry.wide ≡ false }
     requires clean { IsClean geometry (see geometry (numbers words.now)) }
-    ensures bytes { IfOk result (λ v. v.items ≡ image_of (wide_of geometry) (widened geometry (numbers words.now))) }
-    ensures small { IfOk result (λ v. (i : ℕ) → slice_index (widened geometry (numbers words.now)) i < 2 ^ 64) }
-{
-    let total = geometry.total() + u32::from(geometry.clients());
-    let mut image = Vec::with_capacity(alloc, FRAME + 8 * total as usize)?;
-    push_text(&mut image, "CXLSHM02")?;
-    push_word(&mut image, u64::from(geometry.clients()))?;
-    push_word(&mut image, u64::from(geometry.segments()))?;
-    for at in 0..total {
-        push_word(&mut image, widened_word(geometry, words, at))?;
-    }
-    Ok(image)
-}
-
-// the word at an address of format 2; behind the redo records each word stands further on, by one for each client
-fn widened_word(geometry: Geometry, words: &[[u8; 8]], at: u32) -> u64
-    requires fits { GeometryFits geometry }
-    requires narrow { geometry.wide ≡ false }
-    requires clean { IsClean geometry (see geometry (numbers words.now)) }
-    requires range { at < total_of (wide_of geometry) }
+    requires range { at < bodies geometry + geometry.clients }
     ensures { result ≡ widened_word geometry (see geometry (numbers words.now)) at }
 {
     let clients = u32::from(geometry.clients());
@@ -64,23 +35,18 @@ fn widened_word(geometry: Geometry, words: &[[u8; 8]], at: u32) -> u64
     }
 }
 
-// what the word at an address of format 1 is in format 2
+// what the word before the bodies at an address of format 1 is in format 2
 fn widened_at(geometry: Geometry, words: &[[u8; 8]], at: u32) -> u64
     requires fits { GeometryFits geometry }
     requires narrow { geometry.wide ≡ false }
     requires clean { IsClean geometry (see geometry (numbers words.now)) }
-    requires range { at < total_of geometry }
+    requires range { at < bodies geometry }
     ensures { result ≡ widened_at geometry (see geometry (numbers words.now)) (spot_at geometry (classes_in geometry (numbers words.now)) at) }
 {
     let word = word(words, at);
-    if word == 0 {
-        return 0;
-    }
     match spot(geometry, words, at) {
-        Spot::Spare | Spot::Redo { .. } | Spot::RedoMore { .. } | Spot::Unused { .. } => 0,
+        Spot::Spare | Spot::Redo { .. } | Spot::RedoMore { .. } => 0,
         Spot::Home { .. } | Spot::Root { .. } | Spot::Slot { .. } => moved(geometry, words, word),
-        Spot::Tag { b } => widened_tag(live_tag(geometry, words, b)),
-        Spot::Body { b, i } => widened_body(geometry, words, live_tag(geometry, words, b), i, word),
         _ => word,
     }
 }
@@ -99,8 +65,8 @@ fn moved(geometry: Geometry, words: &[[u8; 8]], block: u64) -> u64
     }
 }
 
-// what the tag of a block says, where the block is live
-fn live_tag(geometry: Geometry, words: &[[u8; 8]], block: u32) -> Option<Tag>
+/// What the tag of a block says, where the block is live.
+pub fn live_tag(geometry: Geometry, words: &[[u8; 8]], block: u32) -> Option<Tag>
     requires fits { GeometryFits geometry }
     requires narrow { geometry.wide ≡ false }
     requires is { IsBlock geometry (classes_in geometry (numbers words.now)) block }
@@ -115,8 +81,8 @@ fn live_tag(geometry: Geometry, words: &[[u8; 8]], block: u32) -> Option<Tag>
     }
 }
 
-// the tag in format 2, with the link 0
-fn widened_tag(tag: Option<Tag>) -> u64
+/// The tag in format 2, with the link 0.
+pub fn widened_tag(tag: Option<Tag>) -> u64
     requires { IfSome tag (λ t. TagFits false t) }
     ensures { result ≡ widened_tag tag }
 {
@@ -132,8 +98,14 @@ fn widened_tag(tag: Option<Tag>) -> u64
     }
 }
 
-// the word `i` behind a block's tag
-fn widened_body(geometry: Geometry, words: &[[u8; 8]], tag: Option<Tag>, i: u8, word: u64) -> u64
+/// The word `i` behind a block's tag.
+pub fn widened_body(
+    geometry: Geometry,
+    words: &[[u8; 8]],
+    tag: Option<Tag>,
+    i: u8,
+    word: u64,
+) -> u64
     requires fits { GeometryFits geometry }
     requires narrow { geometry.wide ≡ false }
     requires tag { IfSome tag (λ t. TagFits false t) }

@@ -1,4 +1,5 @@
 pub mod PoolReading
+pub mod Counting
 pub mod ChainReading
 pub mod TableReading
 pub mod ValueNaming

@@ -14,10 +14,10 @@ use Rattle.shm_words.proofs.Placing.{place-address, address_below}
 use Rattle.shm_graph.specs.declared.spot.Spot.{Spot}
 use Rattle.shm_graph.specs.declared.spot.Spot.TheVariants.{Body, Home, Head, Root, Slot, Tag}
 use Rattle.shm_graph.specs.Spots.{same_spot, spot_address, spot_at, spot_of, classes_in, see}
-use Rattle.shm_graph.specs.Blocks.{IsBlock, IsLive, classes, headers}
+use Rattle.shm_graph.specs.Blocks.{IsBlock, IsLive, headers}
 use Rattle.shm_graph.specs.References.{references, words_of}
 use Rattle.shm_graph.proofs.Spots.Spotting.{tag_spot}
-use Rattle.shm_graph.proofs.Spots.Seeing.{see_at, classes-see}
+use Rattle.shm_graph.proofs.Spots.Seeing.{see_at}
 use Rattle.shm_graph.proofs.States.Reading.{live_class}
 use Rattle.shm_report.specs.PoolWords.{IsCleanPool}
 use Rattle.shm_graph.proofs.Spots.WordsAt.{block_header, block_tag as tag_word}
@@ -41,10 +41,6 @@ pub refs_live : (g : Geometry) (ws : List ℕ) (b : ℕ) (t : ATag) → IsBlock 
 refs_live g ws b t is live e =
     cond-true (header_of (see g ws (Head b))).live (tag_refs g.wide (see g ws (Tag b))) 0 (ap (λ w. (header_of w).live) (block_header g ws b is) ∙ live) ∙ sym (tag_fields g.wide (see g ws (Tag b)) t e).1
 
--- the reference words
-pub reference_word : (g : Geometry) (ws : List ℕ) (a : ℕ) (p : Spot) → GeometryFits g → a < total_of g → spot_at g (classes_in g ws) a ≡ p → references g.wide (see g ws) (spot_at g (classes (see g ws)) a) ≡ references g.wide (see g ws) p
-reference_word g ws a p f l e = ap (λ c. references g.wide (see g ws) (spot_at g c a)) (classes-see g ws f) ∙ ap (references g.wide (see g ws)) e
-
 -- a word that is 0 names nothing, and is no block's header
 zero_reference : (wide : Bool) (w : Spot → ℕ) (p : Spot) → w p ≡ 0 → references wide w p ≡ 0
 zero_reference wide w (Home c) e = e
@@ -57,8 +53,8 @@ zero_reference wide w (Body b i) e = go (ltb i ((words_of wide w).refs b))
     go false = refl
 zero_reference wide w _ e = refl
 
-pub zero_word : (g : Geometry) (ws : List ℕ) (a : ℕ) → GeometryFits g → a < total_of g → get_or ws a 0 ≡ 0 → references g.wide (see g ws) (spot_at g (classes (see g ws)) a) ≡ 0
-zero_word g ws a f l e = reference_word g ws a (spot_at g (classes_in g ws) a) f l refl ∙ zero_reference g.wide (see g ws) (spot_at g (classes_in g ws) a) (see_at g ws a (spot_at g (classes_in g ws) a) l refl ∙ e)
+pub zero_word : (g : Geometry) (ws : List ℕ) (a : ℕ) → a < total_of g → get_or ws a 0 ≡ 0 → references g.wide (see g ws) (spot_at g (classes_in g ws) a) ≡ 0
+zero_word g ws a l e = zero_reference g.wide (see g ws) (spot_at g (classes_in g ws) a) (see_at g ws a (spot_at g (classes_in g ws) a) l refl ∙ e)
 
 pub zero_header : (g : Geometry) (ws : List ℕ) (a : ℕ) → get_or ws a 0 ≡ 0 → see g ws (Head a) ≡ 0
 unfolding see spot_address

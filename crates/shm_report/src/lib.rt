@@ -1,6 +1,7 @@
 //! The text of a closed pool: the logs of its clients, and then what its words hold.
 #![tactic(auto)]
 
+mod counts;
 mod logs;
 mod pool_words;
 mod table_rows;

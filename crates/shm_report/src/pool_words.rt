@@ -1,10 +1,10 @@
-//! What the words of a closed pool say: which of them are references, and how many blocks, references and homes there are.
+//! What the words of a closed pool say: what each is for, the headers of blocks, the references and the homes.
 
 ghost use Rattle.std.specs.Prelude.{◌≡◌, ◌+◌, ◌^◌, ◌<◌, ◌≤◌, slice_index, true};
-ghost use Rattle.shm_words.specs.Layout.{GeometryFits, total_of, address, is_in};
+ghost use Rattle.shm_words.specs.Layout.{GeometryFits, bodies, address, is_in};
 ghost use Rattle.shm_graph.specs.Spots.{see, spot_at, spot_of, block_spot, classes_in};
-ghost use Rattle.shm_graph.specs.Blocks.{classes, headers, IsBlock};
-ghost use Rattle.shm_graph.specs.References.{words_of, references, live_count, references_in_all, homes_in_all};
+ghost use Rattle.shm_graph.specs.Blocks.{headers, IsBlock};
+ghost use Rattle.shm_graph.specs.References.{words_of, references, homes_in_all};
 ghost use Rattle.shm_report.specs.PoolWords.{IsCleanPool};
 
 use shm_graph::Spot;
@@ -103,8 +103,8 @@ pub fn header_at(geometry: Geometry, words: &[u64], at: u32) -> Header
     }
 }
 
-// how many reference words a block has
-fn block_refs(geometry: Geometry, words: &[u64], block: u32) -> u8
+/// How many reference words a block has.
+pub fn block_refs(geometry: Geometry, words: &[u64], block: u32) -> u8
     requires fits { GeometryFits geometry }
     requires is { IsBlock geometry (classes_in geometry words.now) block }
     ensures { IsCleanPool geometry words.now → result ≡ (words_of geometry.wide (see geometry words.now)).refs block }
@@ -118,54 +118,19 @@ fn block_refs(geometry: Geometry, words: &[u64], block: u32) -> u8
     }
 }
 
-/// What the word at an address names where it is a reference word: a block, or 0; another word names nothing.
+/// What the word at an address before the bodies names: a block, or 0.
 pub fn reference_at(geometry: Geometry, words: &[u64], at: u32) -> u64
     requires fits { GeometryFits geometry }
-    requires range { at < total_of geometry }
-    ensures { IsCleanPool geometry words.now → result ≡ references geometry.wide (see geometry words.now) (spot_at geometry (classes (see geometry words.now)) at) }
+    requires before { at < bodies geometry }
+    ensures { result ≡ references geometry.wide (see geometry words.now) (spot_at geometry (classes_in geometry words.now) at) }
 {
     if word(words, at) == 0 {
         return 0;
     }
     match spot(geometry, words, at) {
         Spot::Home { .. } | Spot::Root { .. } | Spot::Slot { .. } => word(words, at),
-        Spot::Body { b, i } => {
-            if i < block_refs(geometry, words, b) {
-                word(words, at)
-            } else {
-                0
-            }
-        }
         _ => 0,
     }
-}
-
-/// How many blocks are live.
-pub fn live_count(geometry: Geometry, words: &[u64]) -> u32
-    requires { GeometryFits geometry }
-    ensures { result ≡ live_count geometry (see geometry words.now) }
-{
-    let mut live = 0;
-    for at in 0..geometry.total() {
-        if header_at(geometry, words, at).live {
-            live += 1;
-        }
-    }
-    live
-}
-
-/// How many words name a block.
-pub fn references_in_all(geometry: Geometry, words: &[u64]) -> u32
-    requires { GeometryFits geometry }
-    ensures { IsCleanPool geometry words.now → result ≡ references_in_all geometry (classes (see geometry words.now)) (references geometry.wide (see geometry words.now)) }
-{
-    let mut refs = 0;
-    for at in 0..geometry.total() {
-        if reference_at(geometry, words, at) != 0 {
-            refs += 1;
-        }
-    }
-    refs
 }
 
 /// How many homes are set.

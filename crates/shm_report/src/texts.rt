@@ -11,8 +11,9 @@ ghost use Rattle.shm_report.specs.Report.{IsReport, IsSummary, counts_lines, cou
 ghost use Rattle.shm_report.specs.TableRows.{rows_seen};
 ghost use Rattle.shm_report.specs.ValueNames.{IsNumbered};
 
+use crate::counts::Counts;
 use crate::logs::{push_clients, push_logs};
-use crate::pool_words::{header_at, homes_in_all, live_count, references_in_all};
+use crate::pool_words::{header_at, homes_in_all};
 use crate::table_rows::{TableRow, table_rows};
 use crate::value_names::ValueNames;
 use shm_script::{Log, push_number, push_text};
@@ -135,9 +136,8 @@ fn push_counts(text: &mut Vec<u8>, geometry: Geometry, words: &[u64]) -> Result<
     ensures { OnOk result (IsCleanPool geometry words.now → text.new.items ≡ text.old.items ++ counts_text geometry (see geometry words.now)) }
 {
     let homes = homes_in_all(geometry, words);
-    let live = live_count(geometry, words);
-    let refs = references_in_all(geometry, words);
-    push_numbers(text, homes, live, refs)?;
+    let counts = Counts::of(geometry, words);
+    push_numbers(text, homes, counts.live, counts.refs)?;
     Ok(())
 }
 

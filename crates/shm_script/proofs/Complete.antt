@@ -8,8 +8,8 @@ use Rattle.std.proofs.lemmas.List.Concat.{flat_map-cons}
 use Rattle.std.proofs.lemmas.List.Splits.{slice_split_at}
 use Rattle.shm_script.specs.declared.line.Line.{Line}
 use Rattle.shm_script.specs.declared.line.Item.{Item}
-use Rattle.shm_script.specs.declared.fit.Place.{Place}
-use Rattle.shm_script.specs.declared.fit.Place.TheVariants as place
+use Rattle.shm_script.specs.declared.fit.TracePlace.{TracePlace}
+use Rattle.shm_script.specs.declared.fit.TracePlace.TheVariants as place
 use Rattle.shm_script.specs.declared.fault.TraceKind.TheVariants.{Syntax}
 use Rattle.shm_script.specs.declared.fault.TraceFault.{TraceFault}
 use Rattle.shm_script.specs.declared.fault.ParseStop.{ParseStop}
@@ -70,27 +70,27 @@ order_reaches d [] few there many h = stays d
 order_reaches d (i ∷ items) few there many h = line_reaches d (FitOrder (i ∷ items)) few (omega arith, many, h) (ap (λ p. may_stand p (fit_raw (FitOrder (i ∷ items)))) there) refl
 
 -- what was read, with these last lines
-abbrev set_last : Drafted → Place → List ℕ → List Line → Drafted
+abbrev set_last : Drafted → TracePlace → List ℕ → List Line → Drafted
 set_last d p life ls = record { seen = record { place = p; clients = d.seen.clients; me = d.seen.me; taken = d.seen.taken }; segments = d.segments; wide = d.wide; order = d.order; scripts = d.scripts; life = life; lines = ls }
 
 -- a script goes on
-abbrev GoesOn : Place → Type 0
+abbrev GoesOn : TracePlace → Type 0
 GoesOn place.Client = Unit {0}
 GoesOn place.Body = Unit {0}
 GoesOn _ = ⊥
 
-command_stands : (p : Place) (line : Line) → GoesOn p → may_stand p (fit_raw (FitCommand line)) ≡ true
+command_stands : (p : TracePlace) (line : Line) → GoesOn p → may_stand p (fit_raw (FitCommand line)) ≡ true
 command_stands place.Start line h = absurd h
 command_stands place.Pool line h = absurd h
 command_stands place.Order line h = absurd h
 command_stands place.Client line h = refl
 command_stands place.Body line h = refl
 
-abbrev place_behind : Place → List Line → Place
+abbrev place_behind : TracePlace → List Line → TracePlace
 place_behind p [] = p
 place_behind p (line ∷ ls) = place.Body
 
-goes_behind : (p : Place) (ls : List Line) → GoesOn p → GoesOn (place_behind p ls)
+goes_behind : (p : TracePlace) (ls : List Line) → GoesOn p → GoesOn (place_behind p ls)
 goes_behind p [] h = h
 goes_behind p (line ∷ ls) h = tt
 
@@ -98,7 +98,7 @@ same_place : (ls : List Line) → place_behind place.Body ls ≡ place.Body
 same_place [] = refl
 same_place (line ∷ ls) = refl
 
-lines_reach : (d : Drafted) (p : Place) (life : List ℕ) (before ls : List Line) → d.seen.clients < 256 → GoesOn p → AllByRecursion (LineFits d.seen.clients d.seen.me) ls → Reaches (set_last d p life before) (flat_map line_ended ls) (set_last d (place_behind p ls) life (before ++ ls))
+lines_reach : (d : Drafted) (p : TracePlace) (life : List ℕ) (before ls : List Line) → d.seen.clients < 256 → GoesOn p → AllByRecursion (LineFits d.seen.clients d.seen.me) ls → Reaches (set_last d p life before) (flat_map line_ended ls) (set_last d (place_behind p ls) life (before ++ ls))
 lines_reach d p life before [] few on h = subst (λ xs. Reaches (set_last d p life before) [] (set_last d p life xs)) (sym (append-nil before)) (stays (set_last d p life before))
 lines_reach d p life before (line ∷ ls) few on h =
     let one = line_reaches (set_last d p life before) (FitCommand line) few h.0 (command_stands p line on) refl in
@@ -108,7 +108,7 @@ lines_reach d p life before (line ∷ ls) few on h =
     let both = then_more (set_last d p life before) (set_last d place.Body life (before ++ line ∷ [])) (set_last d place.Body life (before ++ (line ∷ ls))) (line_ended line) (flat_map line_ended ls) one (subst (Reaches (set_last d place.Body life (before ++ line ∷ [])) (flat_map line_ended ls)) behind more) in
     subst (λ t. Reaches (set_last d p life before) t (set_last d place.Body life (before ++ (line ∷ ls)))) (sym (flat_map-cons line_ended line ls)) both
 
-abbrev life_place : List ℕ → Place
+abbrev life_place : List ℕ → TracePlace
 life_place [] = place.Client
 life_place (n ∷ life) = place.Body
 
@@ -125,7 +125,7 @@ life_reaches d (n ∷ life) few (inr h) = absurd cc
 abbrev begun : Drafted → ℕ → Drafted
 begun d c = draft_after d (FitClient c)
 
-abbrev script_place : Scripted → Place
+abbrev script_place : Scripted → TracePlace
 script_place s = place_behind (life_place s.life) s.lines
 
 -- behind a script
@@ -137,11 +137,11 @@ life_range n me [] h k = inr refl
 life_range n me (x ∷ life) h k = inl (omega arith, h, k)
 
 -- not at the start
-abbrev IsBegun : Place → Type 0
+abbrev IsBegun : TracePlace → Type 0
 IsBegun place.Start = ⊥
 IsBegun _ = Unit {0}
 
-client_stands : (p : Place) (c : ℕ) → IsBegun p → may_stand p (fit_raw (FitClient c)) ≡ true
+client_stands : (p : TracePlace) (c : ℕ) → IsBegun p → may_stand p (fit_raw (FitClient c)) ≡ true
 client_stands place.Start c h = absurd h
 client_stands place.Pool c h = refl
 client_stands place.Order c h = refl
@@ -157,7 +157,7 @@ script_reaches d s few there h first =
     then_more d (set_last e (life_place s.life) s.life []) (script_after d s) (client_text s.client ++ life_spelled s.life) (flat_map line_ended s.lines)
     (then_more d e (set_last e (life_place s.life) s.life []) (client_text s.client) (life_spelled s.life) one two) three
 
-script_begun : (p : Place) → GoesOn p → IsBegun p
+script_begun : (p : TracePlace) → GoesOn p → IsBegun p
 script_begun place.Start h = h
 script_begun place.Pool h = tt
 script_begun place.Order h = tt
@@ -167,7 +167,7 @@ script_begun place.Body h = tt
 script_goes : (s : Scripted) → GoesOn (script_place s)
 script_goes s = goes_behind (life_place s.life) s.lines (life_goes s.life)
 
-scripts_on : (p : Place) (d : Drafted) → GoesOn p → scripts_at p d ≡ d.scripts ++ open_script d ∷ []
+scripts_on : (p : TracePlace) (d : Drafted) → GoesOn p → scripts_at p d ≡ d.scripts ++ open_script d ∷ []
 scripts_on place.Start d h = absurd h
 scripts_on place.Pool d h = absurd h
 scripts_on place.Order d h = absurd h
@@ -221,7 +221,7 @@ first_of_all : (ss : List Scripted) → AreFirst [] ss
 first_of_all [] = tt
 first_of_all (s ∷ ss) = (refl, first_of_all ss)
 
-end_reads : (p : Place) (d : Drafted) → d.seen.place ≡ p → IsBegun p → (at : ℕ) → reading d at ([] ∷ []) ≡ Ok (traced d)
+end_reads : (p : TracePlace) (d : Drafted) → d.seen.place ≡ p → IsBegun p → (at : ℕ) → reading d at ([] ∷ []) ≡ Ok (traced d)
 end_reads place.Start d is h at = absurd h
 end_reads place.Pool d is h at = reading_end d at [] ∙ ap (λ p. cond (may_end p []) (Ok (traced d)) (Err (fault_at at Syntax))) is
 end_reads place.Order d is h at = reading_end d at [] ∙ ap (λ p. cond (may_end p []) (Ok (traced d)) (Err (fault_at at Syntax))) is

@@ -6,8 +6,8 @@ use Rattle.std.specs.List.{slice_split}
 use Rattle.std.proofs.Math.Arith.{digits_div, digits_mod}
 use Rattle.std.proofs.lemmas.Fmt.{decimal_digit, decimal_step}
 use Rattle.shm_script.specs.declared.line.Line.{Line}
-use Rattle.shm_script.specs.declared.fit.Place.{Place}
-use Rattle.shm_script.specs.declared.fit.Place.TheVariants as place
+use Rattle.shm_script.specs.declared.fit.TracePlace.{TracePlace}
+use Rattle.shm_script.specs.declared.fit.TracePlace.TheVariants as place
 use Rattle.shm_script.specs.Ranges.{IsNext}
 use Rattle.shm_script.specs.Faults.{FitCommand, may_stand, takes_commands}
 use Rattle.shm_script.specs.Drafts.{Drafted, draft_after, reading}
@@ -28,7 +28,7 @@ next_digit text before rest n d m is goes some below more small =
     let by_more : decimal m ≡ decimal n ++ ((48 + d) ∷ []) = ap decimal more ∙ one_more n d some below (omega arith) in
     is ∙ ap (λ w. decimal n ++ w) goes ∙ sym (append_assoc (decimal n) ((48 + d) ∷ []) rest) ∙ ap (λ w. w ++ rest) (sym by_more)
 
-stands : (p : Place) (line : Line) → takes_commands p ≡ true → may_stand p (fit_raw (FitCommand line)) ≡ true
+stands : (p : TracePlace) (line : Line) → takes_commands p ≡ true → may_stand p (fit_raw (FitCommand line)) ≡ true
 stands place.Start line h = h
 stands place.Pool line h = h
 stands place.Order line h = h

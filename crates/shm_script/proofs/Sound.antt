@@ -6,8 +6,8 @@ use Rattle.std.proofs.lemmas.List.{append-nil}
 use Rattle.shm_script.specs.declared.line.Line.{Line}
 use Rattle.shm_script.specs.declared.line.Item.{Item}
 use Rattle.shm_script.specs.declared.raw.RawCommand.{RawCommand}
-use Rattle.shm_script.specs.declared.fit.Place.{Place}
-use Rattle.shm_script.specs.declared.fit.Place.TheVariants as place
+use Rattle.shm_script.specs.declared.fit.TracePlace.{TracePlace}
+use Rattle.shm_script.specs.declared.fit.TracePlace.TheVariants as place
 use Rattle.shm_script.specs.Values.{Scripted}
 use Rattle.shm_script.specs.Ranges.{LineFits, ItemFits, IsLife, AreApart, segments_limit}
 use Rattle.shm_script.specs.Text.{spaced, ended, line_ended, order_spelled, pool_word, life_spelled, script_spelled, text_of}
@@ -20,7 +20,7 @@ use Rattle.shm_script.proofs.LineTexts.{fit_text}
 use Rattle.shm_script.proofs.Lists.{all_push, all_last, apart_push, apart_last, clients_last, clients_push, not_taken, text_last, text_push, client_text, lines_push}
 
 -- the text that was read
-abbrev pub text_at : Place → Drafted → List ℕ
+abbrev pub text_at : TracePlace → Drafted → List ℕ
 text_at place.Start d = []
 text_at _ d = text_of (traced d)
 
@@ -35,12 +35,12 @@ pub record LooseFits (clients : ℕ) (s : Scripted) : Type 0 where
   pub lines : AllByRecursion (LineFits clients s.client) s.lines
 
 -- the size of a pool that was read
-abbrev pub SizeAt : Place → Bool → ℕ → ℕ → Type 0
+abbrev pub SizeAt : TracePlace → Bool → ℕ → ℕ → Type 0
 SizeAt place.Start wide n g = Unit {0}
 SizeAt _ wide n g = (1 ≤ n) × (n ≤ 16) × (1 ≤ g) × (g ≤ segments_limit wide)
 
 -- what is empty still
-abbrev pub EmptyAt : Place → Drafted → Type 0
+abbrev pub EmptyAt : TracePlace → Drafted → Type 0
 EmptyAt place.Start d = (d.order ≡ []) × (d.scripts ≡ [])
 EmptyAt place.Pool d = (d.order ≡ []) × (d.scripts ≡ [])
 EmptyAt place.Order d = d.scripts ≡ []
@@ -111,14 +111,14 @@ order_grows d items h pool range =
     )
 
 -- a place behind which a client may stand
-size_there : (p : Place) (c : Option ℕ) (wide : Bool) (n g : ℕ) → may_stand p (Client c) ≡ true → SizeAt p wide n g → SizeAt place.Client wide n g
+size_there : (p : TracePlace) (c : Option ℕ) (wide : Bool) (n g : ℕ) → may_stand p (Client c) ≡ true → SizeAt p wide n g → SizeAt place.Client wide n g
 size_there place.Start c wide n g h size = absurd cc
 size_there place.Pool c wide n g h size = size
 size_there place.Order c wide n g h size = size
 size_there place.Client c wide n g h size = size
 size_there place.Body c wide n g h size = size
 
-text_there : (p : Place) (c : Option ℕ) (d : Drafted) → may_stand p (Client c) ≡ true → text_at p d ≡ text_of (traced d)
+text_there : (p : TracePlace) (c : Option ℕ) (d : Drafted) → may_stand p (Client c) ≡ true → text_at p d ≡ text_of (traced d)
 text_there place.Start c d h = absurd cc
 text_there place.Pool c d h = refl
 text_there place.Order c d h = refl
@@ -183,14 +183,14 @@ life_grows d life h client range =
     )
 
 -- a place behind which a command may stand
-body_size : (p : Place) (r : RawCommand) (wide : Bool) (n g : ℕ) → may_stand p (Command r) ≡ true → SizeAt p wide n g → SizeAt place.Body wide n g
+body_size : (p : TracePlace) (r : RawCommand) (wide : Bool) (n g : ℕ) → may_stand p (Command r) ≡ true → SizeAt p wide n g → SizeAt place.Body wide n g
 body_size place.Start r wide n g h size = absurd cc
 body_size place.Pool r wide n g h size = absurd cc
 body_size place.Order r wide n g h size = absurd cc
 body_size place.Client r wide n g h size = size
 body_size place.Body r wide n g h size = size
 
-body_there : (p : Place) (r : RawCommand) (d : Drafted) → may_stand p (Command r) ≡ true → (text_at p d ≡ text_of (traced d)) × (scripts_at p d ≡ d.scripts ++ open_script d ∷ [])
+body_there : (p : TracePlace) (r : RawCommand) (d : Drafted) → may_stand p (Command r) ≡ true → (text_at p d ≡ text_of (traced d)) × (scripts_at p d ≡ d.scripts ++ open_script d ∷ [])
 body_there place.Start r d h = absurd cc
 body_there place.Pool r d h = absurd cc
 body_there place.Order r d h = absurd cc

@@ -6,8 +6,8 @@ use Rattle.std.proofs.lemmas.Bool.{ltb-false}
 use Rattle.std.proofs.lemmas.List.{append-nil}
 use Rattle.std.proofs.lemmas.List.Splits.{join_with_byte-slice_split}
 use Rattle.shm_script.specs.declared.raw.RawItem.{RawItem}
-use Rattle.shm_script.specs.declared.fit.Place.{Place}
-use Rattle.shm_script.specs.declared.fit.Place.TheVariants as place
+use Rattle.shm_script.specs.declared.fit.TracePlace.{TracePlace}
+use Rattle.shm_script.specs.declared.fit.TracePlace.TheVariants as place
 use Rattle.shm_script.specs.declared.fault.TraceKind.{TraceKind}
 use Rattle.shm_script.specs.declared.fault.TraceKind.TheVariants.{Syntax}
 use Rattle.shm_script.specs.declared.fault.TraceFault.{TraceFault}
@@ -24,21 +24,21 @@ use Rattle.shm_script.proofs.LineTexts.{fit_text}
 use Rattle.shm_script.proofs.Lists.{few_in_all}
 use Rattle.shm_script.proofs.Sound.{text_at, draft_text, head_text, LooseFits, SizeAt, IsDraft, none_is_draft, Grows, pool_grows, order_grows, client_grows, life_grows, command_grows}
 
-pool_place : (p : Place) (wide : Bool) (n g : Option ℕ) → may_stand p (Pool wide n g) ≡ true → p ≡ place.Start
+pool_place : (p : TracePlace) (wide : Bool) (n g : Option ℕ) → may_stand p (Pool wide n g) ≡ true → p ≡ place.Start
 pool_place place.Start wide n g h = refl
 pool_place place.Pool wide n g h = absurd cc
 pool_place place.Order wide n g h = absurd cc
 pool_place place.Client wide n g h = absurd cc
 pool_place place.Body wide n g h = absurd cc
 
-order_place : (p : Place) (shape : Shape) (items : List RawItem) → shape ≡ Order items → may_stand p (Order items) ≡ true → p ≡ place.Pool
+order_place : (p : TracePlace) (shape : Shape) (items : List RawItem) → shape ≡ Order items → may_stand p (Order items) ≡ true → p ≡ place.Pool
 order_place place.Start shape items is h = absurd cc
 order_place place.Pool shape items is h = refl
 order_place place.Order shape items is h = absurd cc
 order_place place.Client shape items is h = absurd cc
 order_place place.Body shape items is h = absurd cc
 
-life_place : (p : Place) (numbers : List (Option ℕ)) → may_stand p (Life numbers) ≡ true → p ≡ place.Client
+life_place : (p : TracePlace) (numbers : List (Option ℕ)) → may_stand p (Life numbers) ≡ true → p ≡ place.Client
 life_place place.Start numbers h = absurd cc
 life_place place.Pool numbers h = absurd cc
 life_place place.Order numbers h = absurd cc
@@ -95,7 +95,7 @@ line_grows d line e h is =
     subst (λ x. Grows d x line) f.2 (subst (Grows d (draft_after d f.0)) (sym j.1.spelled.0) (grows_by d line j.0 f.0 h j.1))
 
 -- where the lines end
-ends_there : (p : Place) (d : Drafted) (rest : List ℕ) → may_end p rest ≡ true → SizeAt p d.wide d.seen.clients d.segments → (rest ≡ []) × (text_of (traced d) ≡ text_at p d) × SizeAt place.Pool d.wide d.seen.clients d.segments
+ends_there : (p : TracePlace) (d : Drafted) (rest : List ℕ) → may_end p rest ≡ true → SizeAt p d.wide d.seen.clients d.segments → (rest ≡ []) × (text_of (traced d) ≡ text_at p d) × SizeAt place.Pool d.wide d.seen.clients d.segments
 ends_there place.Start d rest h size = absurd cc
 ends_there place.Pool d [] h size = (refl, refl, size)
 ends_there place.Order d [] h size = (refl, refl, size)

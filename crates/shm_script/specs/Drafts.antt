@@ -3,8 +3,8 @@ use Rattle.std.specs.Prelude.{◌≡◌, ℕ, ◌+◌, Bool, false, List, [], �
 use Rattle.std.specs.List.{slice_split}
 use Rattle.shm_script.specs.declared.line.Line.{Line}
 use Rattle.shm_script.specs.declared.line.Item.{Item}
-use Rattle.shm_script.specs.declared.fit.Place.{Place}
-use Rattle.shm_script.specs.declared.fit.Place.TheVariants as place
+use Rattle.shm_script.specs.declared.fit.TracePlace.{TracePlace}
+use Rattle.shm_script.specs.declared.fit.TracePlace.TheVariants as place
 use Rattle.shm_script.specs.declared.fit.FitLine.{FitLine}
 use Rattle.shm_script.specs.declared.fit.FitLine.TheVariants as fit
 use Rattle.shm_script.specs.declared.fault.TraceKind.{TraceKind}
@@ -43,7 +43,7 @@ abbrev pub open_script : Drafted → Scripted
 open_script d = record { client = d.seen.me; life = d.life; lines = d.lines }
 
 -- the scripts, where the last line was of this kind
-abbrev pub scripts_at : Place → Drafted → List Scripted
+abbrev pub scripts_at : TracePlace → Drafted → List Scripted
 scripts_at place.Client d = d.scripts ++ open_script d ∷ []
 scripts_at place.Body d = d.scripts ++ open_script d ∷ []
 scripts_at _ d = d.scripts

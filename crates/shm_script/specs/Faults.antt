@@ -7,8 +7,8 @@ use Rattle.shm_script.specs.declared.line.Item.{Item}
 use Rattle.shm_script.specs.declared.raw.RawItem.{RawItem}
 use Rattle.shm_script.specs.declared.raw.RawCommand.{RawCommand}
 use Rattle.shm_script.specs.declared.raw.RawCommand.TheVariants as raw
-use Rattle.shm_script.specs.declared.fit.Place.{Place}
-use Rattle.shm_script.specs.declared.fit.Place.TheVariants as place
+use Rattle.shm_script.specs.declared.fit.TracePlace.{TracePlace}
+use Rattle.shm_script.specs.declared.fit.TracePlace.TheVariants as place
 use Rattle.shm_script.specs.declared.fault.TraceKind.{TraceKind}
 use Rattle.shm_script.specs.declared.fault.TraceKind.TheVariants.{Syntax, Range, Limit, Twice}
 use Rattle.shm_script.specs.declared.fault.TraceFault.{TraceFault}
@@ -17,7 +17,7 @@ use Rattle.shm_script.specs.Shapes.{Shape, Pool, Order, Client, Life, Command, b
 
 -- what the lines before tell of a line: what the last of them was, the clients that there are, the client whose script goes on, and those that have one
 pub record Seen : Type 0 where
-  pub place : Place
+  pub place : TracePlace
   pub clients : ℕ
   pub me : ℕ
   pub taken : List ℕ
@@ -31,7 +31,7 @@ pub data Fit : Type 0 where
   FitCommand : Line → Fit
 
 -- Places: the pool first, an order behind it alone, lives behind a client alone, commands in a script.
-abbrev pub may_stand : Place → Shape → Bool
+abbrev pub may_stand : TracePlace → Shape → Bool
 may_stand place.Start (Pool wide clients segments) = true
 may_stand place.Pool (Order items) = true
 may_stand place.Pool (Client client) = true
@@ -44,7 +44,7 @@ may_stand place.Body (Command command) = true
 may_stand _ _ = false
 
 -- behind such a line a command may stand
-abbrev pub takes_commands : Place → Bool
+abbrev pub takes_commands : TracePlace → Bool
 takes_commands place.Client = true
 takes_commands place.Body = true
 takes_commands _ = false
@@ -145,7 +145,7 @@ abbrev pub fault_at : ℕ → TraceKind → TraceFault
 fault_at line kind = record { line = line; kind = kind }
 
 -- behind the last line feed nothing may stand, and a line has to be before it
-abbrev pub may_end : Place → List ℕ → Bool
+abbrev pub may_end : TracePlace → List ℕ → Bool
 may_end place.Start rest = false
 may_end place [] = true
 may_end place _ = false

@@ -4,7 +4,7 @@ use crate::line::{Item, Line};
 
 /// What the last line was.
 #[derive(Clone, Copy, Drop)]
-pub enum Place {
+pub enum TracePlace {
     /// There was none.
     Start,
     Pool,

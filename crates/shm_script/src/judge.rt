@@ -8,7 +8,7 @@ ghost use Rattle.shm_script.specs.RawShapes.{shape_seen};
 ghost use Rattle.shm_script.specs.Drafts.{fit_seen};
 ghost use Rattle.shm_script.specs.Shapes.{given};
 
-use crate::fit::{FitLine, Place};
+use crate::fit::{FitLine, TracePlace};
 use crate::line::{Item, Line};
 use crate::raw::{RawCommand, RawItem, RawLine};
 use std::alloc::{AllocError, Global};
@@ -23,23 +23,23 @@ const MOST_TURNS: u64 = 100_000;
 const MOST_LIFE: u64 = 1 << 40;
 
 /// Whether the line may stand behind one of this kind.
-pub fn may_stand(place: Place, line: &RawLine) -> bool
+pub fn may_stand(place: TracePlace, line: &RawLine) -> bool
     ensures { result ≡ may_stand place (shape_seen line.now) }
 {
     match line {
-        RawLine::Pool(..) => matches!(place, Place::Start),
-        RawLine::Order(_) => matches!(place, Place::Pool),
-        RawLine::Client(_) => !matches!(place, Place::Start),
-        RawLine::Life(_) => matches!(place, Place::Client),
-        RawLine::Command(_) => matches!(place, Place::Client | Place::Body),
+        RawLine::Pool(..) => matches!(place, TracePlace::Start),
+        RawLine::Order(_) => matches!(place, TracePlace::Pool),
+        RawLine::Client(_) => !matches!(place, TracePlace::Start),
+        RawLine::Life(_) => matches!(place, TracePlace::Client),
+        RawLine::Command(_) => matches!(place, TracePlace::Client | TracePlace::Body),
     }
 }
 
 /// Whether a command may stand behind a line of this kind.
-pub fn takes_commands(place: Place) -> bool
+pub fn takes_commands(place: TracePlace) -> bool
     ensures { result ≡ takes_commands place }
 {
-    matches!(place, Place::Client | Place::Body)
+    matches!(place, TracePlace::Client | TracePlace::Body)
 }
 
 /// Whether the line is an order of too many items.

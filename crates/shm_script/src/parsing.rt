@@ -11,7 +11,7 @@ ghost use Rattle.shm_script.specs.Shapes.{shape_of};
 
 use crate::commands::next_command;
 use crate::fault::{ParseStop, TraceFault, TraceKind};
-use crate::fit::{FitLine, Place};
+use crate::fit::{FitLine, TracePlace};
 use crate::judge::{fit_line, is_second, may_stand, takes_commands, too_many};
 use crate::line::{Item, Line};
 use crate::line_shape::line_shape;
@@ -28,7 +28,7 @@ const MOST_BYTES: usize = 1_048_576;
 /// What was read: the scripts that are whole, and the client, the lives and the commands of the one that goes on.
 #[derive(Drop)]
 struct Draft {
-    place: Place,
+    place: TracePlace,
     clients: u8,
     segments: u16,
     wide: bool,
@@ -61,7 +61,7 @@ impl Draft {
         ensures { result ≡ draft_none }
     {
         Draft {
-            place: Place::Start,
+            place: TracePlace::Start,
             clients: 0,
             segments: 0,
             wide: false,
@@ -115,21 +115,21 @@ impl Draft {
                 self.clients = clients;
                 self.segments = segments;
                 self.wide = wide;
-                self.place = Place::Pool;
+                self.place = TracePlace::Pool;
             }
             FitLine::Order(items) => {
                 self.order = items;
-                self.place = Place::Order;
+                self.place = TracePlace::Order;
             }
             FitLine::Client(client) => {
                 self.end_script(alloc)?;
                 self.taken.push(client)?;
                 self.me = client;
-                self.place = Place::Client;
+                self.place = TracePlace::Client;
             }
             FitLine::Life(life) => {
                 self.life = life;
-                self.place = Place::Body;
+                self.place = TracePlace::Body;
             }
             FitLine::Command(command) => self.add_command(command)?,
         }
@@ -142,7 +142,7 @@ impl Draft {
         ensures { OnOk result (self.new ≡ draft_after self.old (FitCommand line)) }
     {
         self.lines.push(line)?;
-        self.place = Place::Body;
+        self.place = TracePlace::Body;
         Ok(())
     }
 
@@ -152,7 +152,7 @@ impl Draft {
     {
         let life = mem::replace(&mut self.life, Vec::new(alloc));
         let lines = mem::replace(&mut self.lines, Vec::new(alloc));
-        if matches!(self.place, Place::Client | Place::Body) {
+        if matches!(self.place, TracePlace::Client | TracePlace::Body) {
             let client = self.me;
             self.scripts.push(Script {
                 client,
@@ -204,7 +204,7 @@ impl Draft {
         ensures { result ≡ may_end self.now.seen.place rest.now }
     {
         match self.place {
-            Place::Start => false,
+            TracePlace::Start => false,
             _ => rest.is_empty(),
         }
     }

@@ -4,6 +4,7 @@ ghost use Rattle.std.specs.Prelude.{◌≡◌, ◌++◌, OnOk, OnErr};
 ghost use Rattle.std.specs.Fmt.{decimal};
 ghost use Rattle.shm_script.specs.Text.{spaced};
 
+use itoa::Buffer;
 use std::alloc::AllocError;
 
 /// Appends `more` to the text.
@@ -19,8 +20,7 @@ pub fn push_number(text: &mut Vec<u8>, number: u64) -> Result<(), AllocError>
     ensures ok { OnOk result (text.new.items ≡ text.old.items ++ decimal number) }
     ensures err { OnErr result (text.new.items ≡ text.old.items) }
 {
-    let digits = number.to_string(*text.allocator())?;
-    push_text(text, digits.as_str())
+    push_text(text, Buffer::new().format(number))
 }
 
 /// Appends a blank and a number. After an error a part may be there.

@@ -7,4 +7,4 @@ same_counts text h l r homes live refs a b e =
     ap (λ n. text ++ counts_lines n l r) a ∙ (ap (λ n. text ++ counts_lines homes n r) b ∙ ap (λ n. text ++ counts_lines homes live n) e)
 
 pub returns : goal.returns
-returns c = λ pool. c.in_ok-push_numbers.ensures ∙ same_counts c.args.text.now.items _ _ _ _ _ _ c.homes_in_all-homes.ensures c.live_count-live.ensures (c.references_in_all-refs.ensures pool)
+returns c = λ pool. c.in_ok-push_numbers.ensures ∙ same_counts c.args.text.now.items _ _ _ _ _ _ c.homes_in_all-homes.ensures c.of-counts.ensures.live (c.of-counts.ensures.refs pool)
