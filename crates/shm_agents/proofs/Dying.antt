@@ -25,7 +25,7 @@ use Rattle.shm_count.specs.Steady.{SameTable}
 use Rattle.shm_recover.specs.Join.{join_control}
 use Rattle.shm_recover.specs.Leave.Control.{leave_line, leave_parts, leaving as leave_state}
 use Rattle.shm_recover.specs.Leave.{leave_plan}
-use Rattle.shm_recover.specs.Recover.Control.{recover_parts}
+use Rattle.shm_recover.specs.Recover.Control.{recover_line, recover_parts}
 use Rattle.shm_recover.specs.Recover.{recover_plan}
 use Rattle.shm_recover.proofs.Steady.{leave_steady}
 use Rattle.shm_script.specs.declared.line.Line.{Line}
@@ -38,12 +38,14 @@ use Rattle.shm_table.specs.Command.Maps.{MapSoFar}
 use Rattle.shm_table.specs.Command.{CommandCall, CommandFits, command_control, command_effect, command_of}
 use Rattle.shm_agents.specs.declared.agents.Standing.TheVariants.{AtWork}
 use Rattle.shm_agents.specs.Agents.{IsFallen, IsFold, IsMending, IsPlaying, IsSettled, Playing, behind, follows, logged, one_agent, shown_by}
+use Rattle.shm_agents.specs.Courses.{AreAgents, AreCommandsTold}
 use Rattle.shm_agents.specs.Logs.{BeganWith, Was, begun_first, steps_first, with_effect}
 use Rattle.shm_agents.specs.Logs.Was.{Between, InCommand, InLeaving}
 use Rattle.shm_agents.specs.Turns.{lives_of}
 use Rattle.shm_agents.specs.Work.{LeaveCalls, Work, WorkFits, commanding, leaving, work_control}
+use Rattle.shm_agents.proofs.Courses.{agents_more, effect_behind, take_more, told_aside, told_on, told_shown}
 use Rattle.shm_agents.proofs.Effects.{behind_none, behind_some, effect_line, fold_so_far, lines_so_far, none_shown, runs_first, runs_second, told_cut}
-use Rattle.shm_agents.proofs.Growing.{began_last, first_steps, get_last, index_is, log_on, steps_of-end, sum_more, told_rest, with_last-end}
+use Rattle.shm_agents.proofs.Growing.{began_last, first_steps, get_last, index_is, log_on, steps_of-end, sum_more, with_last-end}
 use Rattle.shm_agents.proofs.Lines.{command_line}
 use Rattle.shm_agents.proofs.Trails.{after_first, after_second, entries_rest}
 use Rattle.shm_agents.proofs.Unspent.{unspent_shown}
@@ -58,13 +60,13 @@ settles line x = record x { entries = with_effect x.entries line (shown_by x.wor
 
 -- what is settled of the log stays where the next one comes
 settled_by : (s : Scripted) (y : Playing) (e : Account) (told : List LoggedLine) (o : Option ℕ) → IsSettled s y e told → IsSettled s (follows o y) e told
-settled_by s y e told None h = record { end = h.end; ended = h.ended; log = h.log; unspent = h.unspent; fold = h.fold; table = h.table }
-settled_by s y e told (Some n) h = record { end = h.end; ended = h.ended; log = h.log; unspent = h.unspent; fold = h.fold; table = h.table }
+settled_by s y e told None h = record { end = h.end; ended = h.ended; log = h.log; only = h.only; unspent = h.unspent; fold = h.fold; table = h.table }
+settled_by s y e told (Some n) h = record { end = h.end; ended = h.ended; log = h.log; only = h.only; unspent = h.unspent; fold = h.fold; table = h.table }
 
 -- so many agents have fallen once the last one has
-fallen_by : (s : Scripted) (y : Playing) (e : Account) → y.standing ≡ AtWork → steps_first e.memo.agents ≡ slice_index (lives_of s.life) 0 → length e.memo.agents ≡ y.agent + 1 → fell_by (last_agent e.memo.agents) ≡ true → steps_made e.memo ≡ sum (take (y.agent + 1) (lives_of s.life))
+fallen_by : (s : Scripted) (y : Playing) (e : Account) → y.standing ≡ AtWork → steps_first e.memo.agents ≡ slice_index (lives_of s.life) 0 → length e.memo.agents ≡ y.agent + 1 → fell_by (last_agent e.memo.agents) ≡ true → AreAgents s.lines (take (y.agent + 1) (lives_of s.life)) e.memo.agents e.begun true → steps_made e.memo ≡ sum (take (y.agent + 1) (lives_of s.life))
     → IsFallen s (follows (slice_get (lives_of s.life) (y.agent + 1)) y) e
-fallen_by s y e here lived many fell made = go (slice_get (lives_of s.life) (y.agent + 1)) refl
+fallen_by s y e here lived many fell died made = go (slice_get (lives_of s.life) (y.agent + 1)) refl
   where
     go : (o : Option ℕ) → slice_get (lives_of s.life) (y.agent + 1) ≡ o → IsFallen s (follows o y) e
     go None none =
@@ -73,6 +75,7 @@ fallen_by s y e here lived many fell made = go (slice_get (lives_of s.life) (y.a
           many = many;
           some = omega arith;
           fell = fell;
+          died = died;
           made = made;
           next = inl (refl, none);
         }
@@ -82,6 +85,7 @@ fallen_by s y e here lived many fell made = go (slice_get (lives_of s.life) (y.a
           many = many;
           some = omega arith;
           fell = fell;
+          died = died;
           made = made;
           next = inr (here, at, refl);
         }
@@ -96,6 +100,10 @@ module _ (s : Scripted) (x : Playing) (e : Account) (spent : x.life.left ≡ 0) 
   -- what is told of it once the next agent begins
   abbrev told : List LoggedLine
   told = told_left true e2
+
+  -- it made all word steps of its life
+  all_made : (steps : ℕ) → steps ≡ x.life.left + steps
+  all_made steps = let z = spent in omega arith
 
   -- ---- a recoverer dies
 
@@ -117,14 +125,19 @@ module _ (s : Scripted) (x : Playing) (e : Account) (spent : x.life.left ≡ 0) 
         let some : 0 < length h.before = (let m = h.many in let o = h.some in omega arith) in
         ap steps_first mended_agents ∙ (first_steps h.before (fallen it ∷ []) some ∙ sym (ap steps_first h.agents ∙ first_steps h.before (it ∷ []) some))
 
+    -- what is told of its recovery
+    abbrev tells : LoggedLine
+    tells = record { line = recover_line; trail = e.memo.call; finished = false }
+
     pub mended_settled : IsSettled s x e e.told → IsSettled s (follows next x) e2 told
     mended_settled l =
-        let rest = told_rest e.running e.memo.call false e.told in
+        let more : told ≡ e.told ++ tells ∷ [] = ap (λ (line : List ℕ). told_by line e.memo.call false e.told) h.running in
         settled_by s x e2 told next
         (record {
           end = l.end;
           ended = l.ended;
-          log = log_on x.me s (steps_first e.memo.agents) (steps_first e2.memo.agents) mended_made e.memo.agents e2.memo.agents e.begun e.begun e.told told (logged x) mended_began (λ k some same. same) rest.0 rest.1 l.log;
+          log = log_on x.me s (steps_first e.memo.agents) (steps_first e2.memo.agents) mended_made e.memo.agents e2.memo.agents e.begun e.begun e.told told (logged x) mended_began (λ k some same. same) (tells ∷ []) more l.log;
+          only = subst (λ (ts : List LoggedLine). AreCommandsTold x.me ts x.entries) (sym more) (told_aside x.me e.told (tells ∷ []) x.entries l.only (inl (inr (inr (inr refl))), refl));
           unspent = l.unspent;
           fold = l.fold;
           table = l.table;
@@ -135,6 +148,11 @@ module _ (s : Scripted) (x : Playing) (e : Account) (spent : x.life.left ≡ 0) 
         fallen_by s x e2 h.here (mended_made ∙ h.lived)
         (ap (λ (xs : List Agent). length xs) mended_agents ∙ (length-append h.before (fallen it ∷ []) ∙ ap (λ (n : ℕ). n + 1) h.many))
         (ap (λ (xs : List Agent). fell_by (last_agent xs)) mended_agents ∙ ap fell_by (last-append h.before (fallen it)))
+        (subst (λ (ls : List ℕ). AreAgents s.lines ls e2.memo.agents e2.begun true) (sym (take_more (lives_of s.life) x.agent _ h.life))
+        (subst (λ (xs : List Agent). AreAgents s.lines (take x.agent (lives_of s.life) ++ (x.life.left + h.steps) ∷ []) xs e2.begun true) (sym mended_agents)
+        (subst (λ (bs : List (List (List ℕ))). AreAgents s.lines (take x.agent (lives_of s.life) ++ (x.life.left + h.steps) ∷ []) (h.before ++ fallen it ∷ []) bs true) (sym h.is_begun)
+        (agents_more s.lines (take x.agent (lives_of s.life)) ((x.life.left + h.steps) ∷ []) h.before (fallen it ∷ []) h.begun ((recover_line ∷ []) ∷ []) true h.died
+        (refl, inl (refl, all_made h.steps), refl, refl)))))
         (let a = ap steps_of mended_agents in let b = steps_of-end h.before (fallen it) in let m = h.made in let l = sum_more (lives_of s.life) x.agent _ h.life in omega arith)
 
   -- ---- the client dies
@@ -204,6 +222,7 @@ module _ (s : Scripted) (x : Playing) (e : Account) (spent : x.life.left ≡ 0) 
         rest : List LoggedLine
         tells : told ≡ e.told ++ rest
         was : Was x.me s.lines (begun_first e.begun) (h.told.behind ++ rest) x.entries entries done
+        only : AreCommandsTold x.me rest (with_effect [] line (shown_by x.work))
 
       -- it has noted all that it did
       settled : Left → map (λ (y : Entry). y.line) entries ≡ take (length entries) s.lines → IsFold entries e.memo → IsSettled s (settles line x) e2 told
@@ -221,6 +240,8 @@ module _ (s : Scripted) (x : Playing) (e : Account) (spent : x.life.left ≡ 0) 
               entries = entries_rest x.me h.told.behind l.rest x.entries h.told.entries;
               end = (refl, began, l.was);
             };
+            only = subst (λ (ts : List LoggedLine). AreCommandsTold x.me ts entries) (sym l.tells)
+                (subst (AreCommandsTold x.me (e.told ++ l.rest)) (effect_behind x.entries line (shown_by x.work)) (told_on x.me e.told l.rest x.entries (with_effect [] line (shown_by x.work)) h.told.only l.only));
             unspent = unspent_shown x.entries line x.work h.unspent;
             fold = fold;
             table = table;
@@ -233,6 +254,7 @@ module _ (s : Scripted) (x : Playing) (e : Account) (spent : x.life.left ≡ 0) 
             rest = [];
             tells = ap (λ (l : List ℕ). told_by l e.memo.call false e.told) (h.running ∙ ap (λ (b : Bool). cond b [] (work_control.line x.work)) new) ∙ sym (append-nil e.told);
             was = Between (ap begun_first h.is_begun ∙ (h.many ∙ ap (λ (b : Bool). cond b (many + 1) (many + 2)) new)) (ap (with_effect x.entries line) none) (ap (λ (o : Option Answer). is_some o) none);
+            only = ap (with_effect [] line) none;
           }
 
       -- within one, of which this is told
@@ -264,10 +286,12 @@ module _ (s : Scripted) (x : Playing) (e : Account) (spent : x.life.left ≡ 0) 
         shown : shown_by x.work ≡ command_effect m
         shown = ap shown_by in_command
 
+        -- the line that is noted is its own
+        shown_on : (es : List Entry) → with_effect es line (shown_by x.work) ≡ with_effect es l (shown_by x.work)
+        shown_on es = effect_line es line l (shown_by x.work) (λ some. let e : Some line ≡ Some l = sym (at some) ∙ here in cc)
+
         noted : entries ≡ with_effect x.entries l (command_effect m)
-        noted =
-            effect_line x.entries line l (shown_by x.work) (λ some. let e : Some line ≡ Some l = sym (at some) ∙ here in cc)
-            ∙ ap (with_effect x.entries l) shown
+        noted = shown_on x.entries ∙ ap (with_effect x.entries l) shown
 
         runs : StillRuns command_control (command_of x.me l) trail
         runs =
@@ -290,8 +314,9 @@ module _ (s : Scripted) (x : Playing) (e : Account) (spent : x.life.left ≡ 0) 
               rest = t ∷ [];
               tells = ap (λ (z : List ℕ). told_by z e.memo.call false e.told) (runs_line old ∙ (ap (λ (z : Work). work_control.line z) placed ∙ command_line x.me l)) ∙ told_cut l e.memo.call e.told;
               was = InCommand l t (begun_more old) here (last_told t) refl refl
-                  (effect_line x.entries line l (shown_by x.work) (λ some. let e : Some line ≡ Some l = sym (at some) ∙ here in cc) ∙ ap (with_effect x.entries l) (effect_at false old))
+                  (shown_on x.entries ∙ ap (with_effect x.entries l) (effect_at false old))
                   (ap (λ (o : Option Answer). is_some o) (effect_at false old));
+              only = subst (AreCommandsTold x.me (t ∷ [])) (sym (shown_on [] ∙ ap (with_effect [] l) (effect_at false old))) (told_shown x.me t l refl refl);
             }
 
         pub dies_commanding : IsSettled s (settles line x) e2 told
@@ -315,6 +340,7 @@ module _ (s : Scripted) (x : Playing) (e : Account) (spent : x.life.left ≡ 0) 
               rest = t ∷ [];
               tells = ap (λ (z : List ℕ). told_by z e.memo.call false e.told) (runs_line old ∙ ap (λ (z : Work). work_control.line z) (last_one all));
               was = InLeaving t (begun_more old) all (last_told t) refl noted_none (ap (λ (o : Option Answer). is_some o) (none all));
+              only = subst (AreCommandsTold x.me (t ∷ [])) (sym (ap (with_effect [] line) (none all))) (inl (inr (inl refl)), refl);
             }
 
         pub dies_leaving : IsSettled s (settles line x) e2 told
@@ -332,6 +358,10 @@ module _ (s : Scripted) (x : Playing) (e : Account) (spent : x.life.left ≡ 0) 
           fallen_by s (settles line x) e2 h.here (made ∙ sym lived)
           (ap (λ (xs : List Agent). length xs) agents ∙ ap (λ (n : ℕ). n + 1) (sym h.agent))
           (ap (λ (xs : List Agent). fell_by (last_agent xs)) agents)
+          (subst (λ (ls : List ℕ). AreAgents s.lines ls e2.memo.agents e2.begun true) (sym (ap (λ (i : ℕ). take (i + 1) (lives_of s.life)) h.agent ∙ take_more (lives_of s.life) 0 _ h.life))
+          (subst (λ (xs : List Agent). AreAgents s.lines ((x.life.left + h.steps) ∷ []) xs e2.begun true) (sym agents)
+          (subst (λ (bs : List (List (List ℕ))). AreAgents s.lines ((x.life.left + h.steps) ∷ []) (one_agent h.steps fate.Died) bs true) (sym h.is_begun)
+          (refl, inl (refl, all_made h.steps), h.lines, refl))))
           (let a = ap steps_of agents in
           let b : steps_of (one_agent h.steps fate.Died) ≡ h.steps + 0 = refl in
           let l = sum_more (lives_of s.life) 0 _ h.life in

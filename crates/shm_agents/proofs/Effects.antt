@@ -1,15 +1,13 @@
 -- a client that dies in a command: its map is the fold of its entries, of which the command is one where it shows its answer
-use Rattle.std.proofs.Common.{◌≡◌, ℕ, zero, suc, Bool, true, false, cond, List, [], ◌∷◌, ◌++◌, map, take, length, refl, sym, ap, ◌∙◌, arith}
+use Rattle.std.proofs.Common.{◌≡◌, ℕ, zero, suc, Bool, true, false, cond, List, [], ◌∷◌, ◌++◌, map, take, length, refl, sym, ap, ◌∙◌}
 use Rattle.std.specs.Prelude.{◌==◌, Option, Some, None, slice_get}
 use Rattle.std.specs.Cmp.{unsigned_ties}
 use Rattle.std.specs.FinMap as finmap
 use Rattle.std.specs.FinMap.{get-insert, get-remove}
 use Rattle.std.specs.Option.{is_some, option_map}
 use Rattle.std.specs.Ordering.{eq_by_cmp, nat_cmp}
-use Rattle.std.proofs.Math.Seq.{take-suc}
 use Rattle.std.proofs.lemmas.Cmp.{eq_by_cmp_equiv, nat_cmp_total}
 use Rattle.std.proofs.lemmas.List.{length-append, map-append}
-use Rattle.std.proofs.lemmas.Option.{get_or_from_slice_get, slice_get_within}
 use Rattle.shm_graph.specs.declared.ask.Me.{Me}
 use Rattle.shm_graph.specs.declared.memo.Memo.{Memo}
 use Rattle.shm_graph.specs.declared.run.LoggedLine.{LoggedLine}
@@ -31,6 +29,7 @@ use Rattle.shm_table.specs.Command.{command_effect, command_of}
 use Rattle.shm_agents.specs.Agents.{IsFold, behind}
 use Rattle.shm_agents.specs.Logs.{with_effect}
 use Rattle.shm_agents.specs.Work.{commanding, leaving}
+use Rattle.shm_agents.proofs.Courses.{take_more}
 
 -- ---- the map
 
@@ -76,10 +75,7 @@ lines_so_far es l None lines at h = h
 lines_so_far es l (Some a) lines at h =
     let x : Entry = record { line = l; answer = a } in
     map-append (λ (y : Entry). y.line) es (x ∷ [])
-    ∙ (ap (λ (ls : List Line). ls ++ l ∷ []) h
-    ∙ (ap (λ (z : Line). take (length es) lines ++ z ∷ []) (sym (get_or_from_slice_get lines (length es) l l at))
-    ∙ (sym (take-suc lines (length es) l (slice_get_within lines (length es) l at))
-    ∙ ap (λ (k : ℕ). take k lines) (let m = length-append es (x ∷ []) in let s : suc (length es) ≡ length (es ++ x ∷ []) = omega arith in s))))
+    ∙ (ap (λ (ls : List Line). ls ++ l ∷ []) h ∙ (sym (take_more lines (length es) l at) ∙ ap (λ (k : ℕ). take k lines) (sym (length-append es (x ∷ [])))))
 
 -- the line counts only where an answer is shown
 pub effect_line : (es : List Entry) (l k : Line) (o : Option Answer) → (is_some o ≡ true → l ≡ k) → with_effect es l o ≡ with_effect es k o

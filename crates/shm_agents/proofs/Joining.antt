@@ -1,5 +1,5 @@
 -- the first word step of a client: it has joined
-use Rattle.std.proofs.Common.{◌≡◌, ℕ, ◌+◌, ◌%◌, ◌<◌, ◌&&◌, Bool, true, cond, List, [], ◌∷◌, refl, sym, ap, ◌∙◌, subst, arith}
+use Rattle.std.proofs.Common.{◌≡◌, ℕ, ◌+◌, ◌%◌, ◌<◌, ◌&&◌, Bool, true, cond, List, [], ◌∷◌, refl, sym, ap, ◌∙◌, subst, arith, inl}
 use Rattle.std.specs.Prelude.{None, Some, slice_get, slice_index}
 use Rattle.std.specs.List.{AllByRecursion}
 use Rattle.std.specs.FinMap.{get-empty}
@@ -94,7 +94,8 @@ module _ (start : Start) (me : Me) (n : ℕ) where
           begun = t.line ∷ [];
           is_begun = refl;
           many = sym (ap (λ (b : Bool). cond b 1 2) first);
-          told = record { join = record { line = t.line; trail = e2.memo.call; finished = true }; behind = []; is = refl; entries = tt };
+          lines = refl;
+          told = record { join = record { line = t.line; trail = e2.memo.call; finished = true }; behind = []; is = refl; entries = tt; only = (inl (inl refl), refl) };
           all_told = refl;
           running = sym (ap (λ (b : Bool). cond b [] (work_control.line (behind me lines 0))) first);
         }

@@ -4,6 +4,7 @@ pub mod Unspent
 pub mod WorkLaws
 pub mod Trails
 pub mod Lines
+pub mod Courses
 pub mod Playing
 pub mod Joining
 pub mod Turning
@@ -15,3 +16,4 @@ pub mod Dying
 pub mod Deaths
 pub mod Mending
 pub mod OwnEras
+pub mod Rested

@@ -25,13 +25,13 @@ use Rattle.shm_graph.specs.declared.table.Part.{Part}
 use Rattle.shm_graph.specs.declared.table.Part.TheVariants.{Loose, Table}
 use Rattle.shm_graph.specs.Chains.{part_set}
 use Rattle.shm_graph.specs.Changes.{asked_spot, called, changed_by, forgotten, memo_on, test_before}
-use Rattle.shm_graph.specs.Exchanges.{committed, cut, exchanged_on, lowered, reparted, with_unsent, with_untaken, without_made}
+use Rattle.shm_graph.specs.MemoAfterExchange.{committed, cut, exchanged_on, lowered, reparted, with_unsent, with_untaken, without_made}
 use Rattle.shm_graph.specs.Held.{is_loose}
-use Rattle.shm_graph.specs.Readings.{is_latched, read_on, reference_read, values_read, word_read}
+use Rattle.shm_graph.specs.MemoAfterRead.{is_latched, read_on, reference_read, values_read, word_read}
 use Rattle.shm_graph.specs.Reach.{is_dying, learnt, shown}
 use Rattle.shm_graph.specs.declared.run.Start.{Start}
 use Rattle.shm_graph.specs.Runs.{Leads, State, Stood, account_after, account_at, account_died, account_entered, first_part, first_state, memos_of, moved}
-use Rattle.shm_graph.specs.Stores.{era_stored, is_lowering, not_block, op_closed, stored_on, with_own, without_looks}
+use Rattle.shm_graph.specs.MemoAfterStore.{era_stored, is_lowering, not_block, op_closed, stored_on, with_own, without_looks}
 use Rattle.shm_graph.specs.Telling.{Claim, claim_of}
 use Rattle.shm_graph.proofs.Runs.Lists.{account_part}
 use Rattle.shm_graph.proofs.States.FirstHeld.{first_memo_of}

@@ -1,6 +1,6 @@
 -- word steps of a recoverer: its first one, one after which it goes on, and its last one
-use Rattle.std.proofs.Common.{◌≡◌, ℕ, ◌+◌, ◌^◌, ◌<◌, ◌≤◌, ◌&&◌, Bool, true, false, cond, List, [], ◌∷◌, ◌++◌, length, take, append-nil, refl, sym, ap, ◌∙◌, subst, arith, inl, inr, Result}
-use Rattle.std.specs.Prelude.{Some, None, Ok, Err, slice_get, sum}
+use Rattle.std.proofs.Common.{◌≡◌, ℕ, suc, ◌+◌, ◌^◌, ◌<◌, ◌≤◌, ◌&&◌, Bool, true, false, cond, List, [], ◌∷◌, ◌++◌, length, take, append-nil, refl, sym, ap, ◌∙◌, subst, arith, inl, inr, Result}
+use Rattle.std.specs.Prelude.{Some, None, Ok, Err, drop, slice_get, sum}
 use Rattle.std.proofs.lemmas.List.Sums.{sum_by-append, sum_by-cons, sum_by-take-le}
 use Rattle.shm_words.specs.declared.geometry.Geometry.{Geometry}
 use Rattle.shm_words.specs.Layout.{GeometryFits}
@@ -36,7 +36,7 @@ use Rattle.shm_recover.specs.Join.{join_control}
 use Rattle.shm_recover.specs.Leave.Control.{leave_parts}
 use Rattle.shm_recover.specs.Leave.{leave_plan}
 use Rattle.shm_recover.specs.Machines.Recovering.{RecoverGives}
-use Rattle.shm_recover.specs.Recover.Control.{recover_parts, recovering as recover_state}
+use Rattle.shm_recover.specs.Recover.Control.{recover_line, recover_parts, recovering as recover_state}
 use Rattle.shm_recover.specs.Recover.{recover_plan}
 use Rattle.shm_recover.specs.Recover.Laws.{recover_begin}
 use Rattle.shm_recover.proofs.Steady.{recover_steady}
@@ -44,10 +44,12 @@ use Rattle.shm_script.specs.Values.{Scripted}
 use Rattle.shm_table.specs.Command.{command_control}
 use Rattle.shm_agents.specs.declared.agents.Standing.TheVariants.{AtWork, Dead, Gone}
 use Rattle.shm_agents.specs.Agents.{IsFallen, IsMended, IsMending, IsSettled, MayPlay, Playing, logged}
+use Rattle.shm_agents.specs.Courses.{AreAgents, AreCommandsTold, AreScriptAgents}
 use Rattle.shm_agents.specs.Logs.{BeganWith, begun_first, steps_first}
 use Rattle.shm_agents.specs.Turns.{lives_of}
 use Rattle.shm_agents.specs.Work.{RecoverCalls, Work, WorkAnswer, WorkFits, WorkGives, recovering, work_control}
-use Rattle.shm_agents.proofs.Growing.{began_last, began_more, begun_end, first_more, first_steps, log_on, steps_of-end, sum_more, told_rest, with_last-end}
+use Rattle.shm_agents.proofs.Courses.{agents_more, around, told_aside}
+use Rattle.shm_agents.proofs.Growing.{began_last, began_more, begun_end, first_more, first_steps, log_on, steps_of-end, sum_more, with_last-end}
 use Rattle.shm_agents.proofs.Trails.{after_first, after_second}
 use Rattle.shm_agents.proofs.WorkLaws.{recoveries, work_laws}
 
@@ -121,6 +123,9 @@ module _ (start : Start) (s : Scripted) (x : Playing) (e : Account) (may : MayPl
     first_stays : Stays work_control x.work n
     first_stays = work_laws.steady x.work n first_going
 
+    first_line : t.line ≡ recover_line
+    first_line = ap (λ (z : Work). work_control.line z) comes.1
+
     first_goes : t.ends ≡ false
     first_goes = first_stays.ends ∙ ap is_some (mend_starts n)
 
@@ -157,6 +162,7 @@ module _ (start : Start) (s : Scripted) (x : Playing) (e : Account) (may : MayPl
                 (λ n f b. subst (λ (xs : List Agent). BeganWith xs n f) (sym agents_first) (began_more e.memo.agents (record { kind = Recoverer; steps = 1; fate = fate.Acts } ∷ []) n f b))
                 (λ k some is. subst (λ (bs : List (List (List ℕ))). begun_first bs ≡ k) (sym first_lines) (first_more e.begun ((t.line ∷ []) ∷ []) k some is))
                 [] (first_told ∙ sym (append-nil (told_left true e))) l.log;
+            only = subst (λ (ts : List LoggedLine). AreCommandsTold x.me ts x.entries) (sym first_told) l.only;
             unspent = l.unspent;
             fold = λ key. ap (λ f. f key) first_same.0 ∙ l.fold key;
             table = first_same.1 ∙ l.table;
@@ -185,8 +191,9 @@ module _ (start : Start) (s : Scripted) (x : Playing) (e : Account) (may : MayPl
             course = first_course;
             over = first_goes;
             begun = e.begun;
-            line_begun = t.line;
-            is_begun = first_lines;
+            is_begun = first_lines ∙ ap (λ (line : List ℕ). e.begun ++ (line ∷ []) ∷ []) first_line;
+            died = h.died;
+            running = ap (λ (b : Bool). cond b [] t.line) first_goes ∙ first_line;
           }
 
 -- ---- a further word step of it
@@ -217,6 +224,9 @@ module _ (s : Scripted) (x : Playing) (e : Account) (h : IsMending s x e) (n : �
 
   abbrev it : Agent
   it = record { kind = Recoverer; steps = h.steps; fate = fate.Acts }
+
+  is_line : again.line ≡ recover_line
+  is_line = h.line
 
   told_before : told_left again.fresh e ≡ e.told
   told_before = ap (λ (b : Bool). told_left b e) h.old
@@ -272,6 +282,7 @@ module _ (s : Scripted) (x : Playing) (e : Account) (h : IsMending s x e) (n : �
           end = l.end;
           ended = l.ended;
           log = log_on x.me s (steps_first e.memo.agents) (steps_first e2.memo.agents) (first_made_by (stepped it) agents) e.memo.agents e2.memo.agents e.begun e2.begun e.told e2.told (logged x) (first_agent (stepped it) agents) begun_first_same [] (told ∙ sym (append-nil e.told)) l.log;
+          only = subst (λ (ts : List LoggedLine). AreCommandsTold x.me ts x.entries) (sym told) l.only;
           unspent = l.unspent;
           fold = λ key. ap (λ f. f key) same.0 ∙ (ap (λ f. f key) (sym same_here.0) ∙ l.fold key);
           table = same.1 ∙ (sym same_here.1 ∙ l.table);
@@ -300,8 +311,9 @@ module _ (s : Scripted) (x : Playing) (e : Account) (h : IsMending s x e) (n : �
           course = course;
           over = goes;
           begun = h.begun;
-          line_begun = h.line_begun;
           is_begun = begun ∙ h.is_begun;
+          died = h.died;
+          running = ap (λ (b : Bool). cond b [] again.line) goes ∙ is_line;
         }
 
   -- ---- it has recovered the identity
@@ -356,13 +368,25 @@ module _ (s : Scripted) (x : Playing) (e : Account) (h : IsMending s x e) (n : �
           ap (λ (b : Bool). agents_after b e.memo.agents) (ap (λ (y : AStatus). is_gone y && again.ends) left.leaves.status ∙ over)
           ∙ (ap (with_last ended) stepped_agents ∙ with_last-end ended h.before (stepped it))
 
-      told_last : (rest : List LoggedLine) × (e2.told ≡ e.told ++ rest)
+      -- what is told of its recovery
+      abbrev tells : LoggedLine
+      tells = record { line = recover_line; trail = e2.memo.call; finished = true }
+
+      told_last : e2.told ≡ e.told ++ tells ∷ []
       told_last =
-          let m = told_rest again.line e2.memo.call true e.told in (
-            m.0,
-            ap (λ (b : Bool). cond b (told_by again.line e2.memo.call true (told_left again.fresh e)) (told_left again.fresh e)) over
-                ∙ (ap (λ (ts : List LoggedLine). told_by again.line e2.memo.call true ts) told_before ∙ m.1),
-          )
+          ap (λ (b : Bool). cond b (told_by again.line e2.memo.call true (told_left again.fresh e)) (told_left again.fresh e)) over
+          ∙ (ap (λ (line : List ℕ). told_by line e2.memo.call true (told_left again.fresh e)) is_line ∙ ap (λ (ts : List LoggedLine). told_by recover_line e2.memo.call true ts) told_before)
+
+      all_last : AreScriptAgents s e2.memo.agents e2.begun false
+      all_last =
+          subst (λ (ls : List ℕ). AreAgents s.lines ls e2.memo.agents e2.begun false) (around (lives_of s.life) x.agent _ h.life)
+          (subst (λ (xs : List Agent). AreAgents s.lines lives xs e2.begun false) (sym last_agents)
+          (subst (λ (bs : List (List (List ℕ))). AreAgents s.lines lives (h.before ++ ended (stepped it) ∷ []) bs false) (sym (begun ∙ h.is_begun))
+          (agents_more s.lines (take x.agent (lives_of s.life)) ((x.life.left + h.steps) ∷ drop (suc x.agent) (lives_of s.life)) h.before (ended (stepped it) ∷ []) h.begun ((recover_line ∷ []) ∷ []) false h.died
+          (refl, inr (refl, (let l = spent in let most : h.steps + 1 ≤ x.life.left + h.steps = omega arith in most)), refl, refl))))
+        where
+          lives : List ℕ
+          lives = take x.agent (lives_of s.life) ++ (x.life.left + h.steps) ∷ drop (suc x.agent) (lives_of s.life)
 
       pub mend_done : (a ≡ First (Second (Ok tt))) × ((w : Work) → IsMended s (record x { work = w; life = life; standing = Gone }) e2)
       mend_done = (
@@ -373,6 +397,7 @@ module _ (s : Scripted) (x : Playing) (e : Account) (h : IsMending s x e) (n : �
           before = h.before;
           steps = h.steps + 1;
           agents = last_agents;
+          all = all_last;
           few = few;
           status = left.leaves.status;
           gone = left.leaves.left;
@@ -385,7 +410,8 @@ module _ (s : Scripted) (x : Playing) (e : Account) (h : IsMending s x e) (n : �
           record {
             end = l.end;
             ended = l.ended;
-            log = log_on x.me s (steps_first e.memo.agents) (steps_first e2.memo.agents) (first_made_by (ended (stepped it)) last_agents) e.memo.agents e2.memo.agents e.begun e2.begun e.told e2.told (logged x) (first_agent (ended (stepped it)) last_agents) begun_first_same told_last.0 told_last.1 l.log;
+            log = log_on x.me s (steps_first e.memo.agents) (steps_first e2.memo.agents) (first_made_by (ended (stepped it)) last_agents) e.memo.agents e2.memo.agents e.begun e2.begun e.told e2.told (logged x) (first_agent (ended (stepped it)) last_agents) begun_first_same (tells ∷ []) told_last l.log;
+            only = subst (λ (ts : List LoggedLine). AreCommandsTold x.me ts x.entries) (sym told_last) (told_aside x.me e.told (tells ∷ []) x.entries l.only (inl (inr (inr (inr refl))), refl));
             unspent = l.unspent;
             fold = λ key. ap (λ f. f key) left.leaves.map ∙ (ap (λ f. f key) (sym same_here.0) ∙ l.fold key);
             table = left.leaves.loose ∙ (sym same_here.1 ∙ l.table);

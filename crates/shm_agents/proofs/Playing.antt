@@ -2,10 +2,10 @@
 use Rattle.std.proofs.Common.{◌≡◌, ℕ, zero, suc, ◌+◌, ◌^◌, ◌<◌, ◌≤◌, ◌&&◌, Bool, true, false, cond, List, [], ◌∷◌, ◌++◌, map, take, length, get_or, refl, sym, ap, ◌∙◌, subst, arith, inl, inr, Result}
 use Rattle.std.specs.Prelude.{Some, None, Ok, Err, slice_get}
 use Rattle.std.specs.List.{AllByRecursion}
-use Rattle.std.proofs.Math.Seq.{take-suc, take-length}
+use Rattle.std.proofs.Math.Seq.{take-length}
 use Rattle.std.proofs.lemmas.Bool.{cases_lt}
-use Rattle.std.proofs.lemmas.List.{length-append, map-append}
-use Rattle.std.proofs.lemmas.Option.{get_or_from_slice_get, slice_get-get_or, slice_get_within}
+use Rattle.std.proofs.lemmas.List.{length-append, map-append, take_all}
+use Rattle.std.proofs.lemmas.Option.{slice_get-get_or, slice_get_within}
 use Rattle.shm_words.specs.Layout.{GeometryFits}
 use Rattle.shm_graph.specs.declared.ask.Life.{Life}
 use Rattle.shm_graph.specs.declared.ask.Me.{Me}
@@ -36,7 +36,7 @@ use Rattle.shm_calls.specs.declared.or.Or.{Or}
 use Rattle.shm_calls.specs.declared.or.Or.TheVariants.{First, Second}
 use Rattle.shm_count.specs.declared.answer.EraSpent.{EraSpent}
 use Rattle.shm_recover.specs.Join.{join_control}
-use Rattle.shm_recover.specs.Leave.Control.{leave_parts}
+use Rattle.shm_recover.specs.Leave.Control.{leave_line, leave_parts}
 use Rattle.shm_recover.specs.Leave.{leave_plan}
 use Rattle.shm_recover.specs.Machines.{LeaveGives}
 use Rattle.shm_recover.specs.Recover.Control.{recover_parts}
@@ -53,13 +53,16 @@ use Rattle.shm_steps.specs.Reparting.{map_in}
 use Rattle.shm_table.specs.Command.{CommandCall, CommandGives, command_control, command_of}
 use Rattle.shm_agents.specs.declared.agents.Standing.TheVariants.{Gone}
 use Rattle.shm_agents.specs.Agents.{AreTold, HasParted, IsPlaying, IsReady, Playing, behind, one_agent}
-use Rattle.shm_agents.specs.Logs.{answer_along}
+use Rattle.shm_agents.specs.Courses.{AreCommandsTold, client_lines}
+use Rattle.shm_agents.specs.Logs.{IsEntry, answer_along}
 use Rattle.shm_agents.specs.Turns.{lives_of}
 use Rattle.shm_agents.specs.Work.{Work, WorkFits, WorkGives, commanding, work_control}
+use Rattle.shm_agents.proofs.Courses.{client_long, front_more, line_behind, take_more, told_aside, told_on}
+use Rattle.shm_agents.proofs.Effects.{behind_none}
 use Rattle.shm_agents.proofs.Folding.{HasRoom, command_leaves}
 use Rattle.shm_agents.proofs.Unspent.{command_unspent, unspent_more}
 use Rattle.shm_agents.proofs.Lines.{command_line}
-use Rattle.shm_agents.proofs.Trails.{after_first, after_second, answer_inside, answer_last, begun_more, begun_on, entries_more, entries_rest, left_same, many_more, runs_more, told_more, told_spelled}
+use Rattle.shm_agents.proofs.Trails.{after_first, after_second, answer_inside, answer_last, begun_more, begun_on, entries_more, entries_rest, left_same, many_more, runs_more, told_spelled}
 use Rattle.shm_agents.proofs.WorkLaws.{behind_fits, behind_fresh, behind_going, behind_me, work_laws}
 
 -- ---- what comes behind the commands that have answered, by what was answered
@@ -139,6 +142,16 @@ module _ (s : Scripted) (x : Playing) (e : Account) (h : IsPlaying s x e) (n : �
   long : length begun ≡ many + 2
   long = many_more fresh h.begun t.line many h.many
 
+  -- and these are its first lines
+  begun_lines : begun ≡ take (length begun) (client_lines lines)
+  begun_lines = go fresh refl
+    where
+      go : (b : Bool) → fresh ≡ b → begun_on b h.begun t.line ≡ take (length (begun_on b h.begun t.line)) (client_lines lines)
+      go false old = h.lines
+      go true new =
+          front_more (client_lines lines) h.begun t.line h.lines
+          (ap (slice_get (client_lines lines)) (h.many ∙ ap (λ (z : Bool). cond z (many + 1) (many + 2)) new) ∙ (line_behind x.me lines many h.few ∙ ap Some (sym h.line)))
+
   told_before : told_left t.fresh e ≡ e.told
   told_before = left_same e fresh (work_control.line x.work) h.running
 
@@ -189,6 +202,7 @@ module _ (s : Scripted) (x : Playing) (e : Account) (h : IsPlaying s x e) (n : �
         begun = begun;
         is_begun = is_begun;
         many = long ∙ sym (ap (λ (b : Bool). cond b (many + 1) (many + 2)) stays.started);
+        lines = begun_lines;
         told = subst (λ (ts : List LoggedLine). AreTold x.me ts x.entries) (sym told) h.told;
         all_told = ap (λ (ts : List LoggedLine). length ts) told ∙ h.all_told;
         running = ap (λ (b : Bool). cond b [] t.line) going ∙ (sym stays.same_line ∙ sym (ap (λ (b : Bool). cond b [] (work_control.line next)) stays.started));
@@ -239,9 +253,7 @@ module _ (s : Scripted) (x : Playing) (e : Account) (h : IsPlaying s x e) (n : �
       lines_more : map (λ (y : Entry). y.line) follow.entries ≡ take (length follow.entries) lines
       lines_more =
           map-append (λ (y : Entry). y.line) x.entries (entry ∷ [])
-          ∙ (ap (λ (ls : List Line). ls ++ command_at.0 ∷ []) h.commands
-          ∙ (ap (λ (l : Line). take many lines ++ l ∷ []) (sym (get_or_from_slice_get lines many command_at.0 command_at.0 command_at.1))
-          ∙ (sym (take-suc lines many command_at.0 below) ∙ ap (λ (k : ℕ). take k lines) (let m = more in let s : suc many ≡ length follow.entries = omega arith in s))))
+          ∙ (ap (λ (ls : List Line). ls ++ command_at.0 ∷ []) h.commands ∙ (sym (take_more lines many command_at.0 command_at.1) ∙ ap (λ (k : ℕ). take k lines) (sym more)))
 
       -- what is told of it
       abbrev tells : LoggedLine
@@ -273,6 +285,9 @@ module _ (s : Scripted) (x : Playing) (e : Account) (h : IsPlaying s x e) (n : �
           answer_last command_control (command_of x.me command_at.0) before x1
           ∙ answer_inside (command_control.turns was n) a (ap (λ (z : Work). work_control.turns z n) (sym work_was) ∙ some)
 
+      is_entry : IsEntry x.me tells entry
+      is_entry = record { line = refl; whole = refl; answer = answer }
+
       told_entries : AreTold x.me e2.told follow.entries
       told_entries =
           record {
@@ -280,8 +295,8 @@ module _ (s : Scripted) (x : Playing) (e : Account) (h : IsPlaying s x e) (n : �
             behind = h.told.behind ++ tells ∷ [];
             is = told ∙ ap (λ (ts : List LoggedLine). ts ++ tells ∷ []) h.told.is;
             entries = entries_more x.me h.told.behind x.entries tells entry h.told.entries
-                (let m = h.all_told in let i = ap (λ (ts : List LoggedLine). length ts) h.told.is in let s : length h.told.behind ≡ length x.entries = omega arith in s)
-                (record { line = refl; whole = refl; answer = answer });
+                (let m = h.all_told in let i = ap (λ (ts : List LoggedLine). length ts) h.told.is in let s : length h.told.behind ≡ length x.entries = omega arith in s) is_entry;
+            only = subst (λ (ts : List LoggedLine). AreCommandsTold x.me ts follow.entries) (sym told) (told_on x.me e.told (tells ∷ []) x.entries (entry ∷ []) h.told.only (inr (inl is_entry, refl)));
           }
 
       pub answers : IsPlaying s follow e2
@@ -309,6 +324,7 @@ module _ (s : Scripted) (x : Playing) (e : Account) (h : IsPlaying s x e) (n : �
             begun = begun;
             is_begun = is_begun;
             many = long ∙ (let m = more in let s : many + 2 ≡ length follow.entries + 1 = omega arith in s) ∙ sym (ap (λ (b : Bool). cond b (length follow.entries + 1) (length follow.entries + 2)) first);
+            lines = begun_lines;
             told = told_entries;
             all_told = ap (λ (ts : List LoggedLine). length ts) told ∙ length-append e.told (tells ∷ []) ∙ (let m = more in let a = h.all_told in let s : length e.told + 1 ≡ length follow.entries + 1 = omega arith in s);
             running = ap (λ (b : Bool). cond b [] t.line) over ∙ sym (ap (λ (b : Bool). cond b [] (work_control.line follow.work)) first);
@@ -338,12 +354,15 @@ module _ (s : Scripted) (x : Playing) (e : Account) (h : IsPlaying s x e) (n : �
       leave_over : t.ends ≡ true
       leave_over = ends true (ap is_some some)
 
-      leave_told : (rest : List LoggedLine) × (e2.told ≡ e.told ++ rest)
+      -- what is told of it
+      abbrev tells_leaving : LoggedLine
+      tells_leaving = record { line = leave_line; trail = e2.memo.call; finished = true }
+
+      leave_told : e2.told ≡ e.told ++ tells_leaving ∷ []
       leave_told =
-          let m = told_more t.line e2.memo.call e.told in (
-            m.0,
-            ap (λ (b : Bool). cond b (told_by t.line e2.memo.call true (told_left t.fresh e)) (told_left t.fresh e)) leave_over ∙ (ap (λ (ts : List LoggedLine). told_by t.line e2.memo.call true ts) told_before ∙ m.1),
-          )
+          ap (λ (b : Bool). cond b (told_by t.line e2.memo.call true (told_left t.fresh e)) (told_left t.fresh e)) leave_over
+          ∙ (ap (λ (l : List ℕ). told_by l e2.memo.call true (told_left t.fresh e)) (h.line ∙ ap (λ (z : Work). work_control.line z) (behind_none x.me lines many leave_at.0))
+          ∙ ap (λ (ts : List LoggedLine). told_by leave_line e2.memo.call true ts) told_before)
 
       gone : LeaveGives x.me h.start e2.memo e2.memo.call (Ok tt)
       gone = subst (λ (b : Result (Unit {0}) EraSpent). LeaveGives x.me h.start e2.memo e2.memo.call b) left_ok leave_at.1
@@ -363,14 +382,13 @@ module _ (s : Scripted) (x : Playing) (e : Account) (h : IsPlaying s x e) (n : �
             fold = λ key. ap (λ p. map_in p key) gone.leaves.part ∙ h.ready.fold key;
             table = ap is_loose gone.leaves.part ∙ h.ready.table;
             done = leave_over;
-            begun = begun;
-            is_begun = is_begun;
-            many = long ∙ ap (λ (k : ℕ). k + 2) ended;
+            begun = is_begun ∙ ap (λ (b : List (List ℕ)). b ∷ []) (begun_lines ∙ take_all (length begun) (client_lines lines) (let k = long in let c = client_long lines in let m = ended in omega arith));
             told = record {
               join = h.told.join;
-              behind = h.told.behind ++ leave_told.0;
-              is = leave_told.1 ∙ ap (λ (ts : List LoggedLine). ts ++ leave_told.0) h.told.is;
-              entries = entries_rest x.me h.told.behind leave_told.0 x.entries h.told.entries;
+              behind = h.told.behind ++ tells_leaving ∷ [];
+              is = leave_told ∙ ap (λ (ts : List LoggedLine). ts ++ tells_leaving ∷ []) h.told.is;
+              entries = entries_rest x.me h.told.behind (tells_leaving ∷ []) x.entries h.told.entries;
+              only = subst (λ (ts : List LoggedLine). AreCommandsTold x.me ts x.entries) (sym leave_told) (told_aside x.me e.told (tells_leaving ∷ []) x.entries h.told.only (inl (inr (inl refl)), refl));
             };
             running = ap (λ (b : Bool). cond b [] t.line) leave_over;
           }

@@ -17,6 +17,7 @@ use Rattle.shm_graph.specs.Agents.{acts, acts_by, is_acting, last_agent}
 use Rattle.shm_graph.specs.Runs.{fell_by, is_dead}
 use Rattle.shm_graph.specs.Tells.{after_all}
 use Rattle.shm_graph.proofs.Memos.MemoSteps.{last-append}
+use Rattle.shm_recover.specs.Recover.Control.{recover_line}
 use Rattle.shm_script.specs.declared.line.Line.{Line}
 use Rattle.shm_script.specs.declared.log.Entry.{Entry}
 use Rattle.shm_script.specs.Values.{Scripted}
@@ -206,7 +207,7 @@ module _ (s : Scripted) (x : Playing) (e : Account) (h : IsMending s x e) where
 
   mending_next : work_at (recovering x.me ∷ []) e ≡ Some x.work
   mending_next =
-      let count : begun_last e.begun - 1 ≡ 0 = ap (λ bs. begun_last bs - 1) h.is_begun ∙ ap (λ (k : ℕ). k - 1) (last_begun h.begun (h.line_begun ∷ [])) in
+      let count : begun_last e.begun - 1 ≡ 0 = ap (λ bs. begun_last bs - 1) h.is_begun ∙ ap (λ (k : ℕ). k - 1) (last_begun h.begun (recover_line ∷ [])) in
       within x.me s e (recovering x.me ∷ []) 0 (recovering x.me) h.over count refl ∙ ap Some h.course
 
   mending_now : IsNow s x e

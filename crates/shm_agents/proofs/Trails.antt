@@ -1,5 +1,5 @@
 -- trails and what was told of an identity
-use Rattle.std.proofs.Common.{◌≡◌, ℕ, ◌+◌, Bool, true, false, List, [], ◌∷◌, ◌++◌, length, append-nil, refl, sym, ap, ◌∙◌, arith}
+use Rattle.std.proofs.Common.{◌≡◌, ℕ, ◌+◌, Bool, true, false, List, [], ◌∷◌, ◌++◌, length, refl, ap, ◌∙◌, arith}
 use Rattle.std.specs.Prelude.{if◌then◌else◌, Option, Some, None}
 use Rattle.std.specs.Option.{option_map}
 use Rattle.std.proofs.lemmas.List.{length-append}
@@ -66,11 +66,7 @@ pub left_same : (e : Account) (b : Bool) (l : List ℕ) → e.running ≡ (if b 
 left_same e false l h = refl
 left_same e true l h = ap (λ (l : List ℕ). told_by l e.memo.call false e.told) h
 
--- a line that is finished is told behind the others
-pub told_more : (l : List ℕ) (tr : Trail) (told : List LoggedLine) → (rest : List LoggedLine) × (told_by l tr true told ≡ told ++ rest)
-told_more [] tr told = ([], sym (append-nil told))
-told_more (x ∷ xs) tr told = (record { line = x ∷ xs; trail = tr; finished = true } ∷ [], refl)
-
+-- a command that is finished is told behind the others
 pub told_spelled : (l : Line) (tr : Trail) (told : List LoggedLine) → told_by (line_spelled l) tr true told ≡ told ++ record { line = line_spelled l; trail = tr; finished = true } ∷ []
 told_spelled (line.Put key n) tr told = refl
 told_spelled (line.Del key) tr told = refl

@@ -24,6 +24,7 @@ use Rattle.shm_graph.specs.Whole.{fits_now}
 use Rattle.shm_calls.specs.declared.or.Or.TheVariants.{First, Second}
 use Rattle.shm_calls.specs.Deciding.{StillRuns}
 use Rattle.shm_steps.specs.Reparting.{map_in}
+use Rattle.shm_recover.specs.Recover.Control.{recover_line}
 use Rattle.shm_script.specs.declared.line.Line.{Line}
 use Rattle.shm_script.specs.declared.log.Answer.{Answer}
 use Rattle.shm_script.specs.declared.log.End.{End}
@@ -35,6 +36,7 @@ use Rattle.shm_script.specs.Values.{Scripted}
 use Rattle.shm_table.specs.Command.{command_effect}
 use Rattle.shm_agents.specs.declared.agents.Standing.{Standing}
 use Rattle.shm_agents.specs.declared.agents.Standing.TheVariants.{AtWork, Gone, Dead}
+use Rattle.shm_agents.specs.Courses.{AreAgents, AreCommandsTold, AreScriptAgents, client_lines}
 use Rattle.shm_agents.specs.Logs.{AreEntries, AreUnspent, IsLogOf, steps_first}
 use Rattle.shm_agents.specs.Turns.{lives_of}
 use Rattle.shm_agents.specs.Work.{Work, WorkAnswer, WorkFits, WorkGives, commanding, joining, leaving, recovering, work_control}
@@ -63,9 +65,20 @@ abbrev pub is_at_work : Standing → Bool
 is_at_work AtWork = true
 is_at_work standing = false
 
+-- whether all of them died
+abbrev pub is_standing_dead : Standing → Bool
+is_standing_dead Dead = true
+is_standing_dead standing = false
+
 -- whether the client is at work
 abbrev pub is_client : Playing → Bool
 is_client x = is_at_work x.standing && (x.agent == 0)
+
+-- a piece of work is a command
+abbrev pub is_command : Work → Bool
+is_command (First m) = false
+is_command (Second (First m)) = true
+is_command (Second (Second m)) = false
 
 -- what a piece of work shows of its answer: a command does from its deciding step on
 abbrev pub shown_by : Work → Option Answer
@@ -105,12 +118,13 @@ pub record IsReady (c : ℕ) (es : List Entry) (r : Memo) : Type 0 where
 abbrev pub one_agent : ℕ → Fate → List Agent
 one_agent n fate = record { kind = Client; steps = n; fate = fate } ∷ []
 
--- what was told of the identity is a join and these entries, and then the rest
+-- what was told of the identity is a join and these entries, and then the rest, and no other command was told
 pub record AreTold (me : Me) (told : List LoggedLine) (es : List Entry) : Type 0 where
   pub join : LoggedLine
   pub behind : List LoggedLine
   pub is : told ≡ join ∷ behind
   pub entries : AreEntries me behind es
+  pub only : AreCommandsTold me told es
 
 -- ---- while the client is at work
 
@@ -148,6 +162,7 @@ pub record IsPlaying (s : Scripted) (x : Playing) (e : Account) : Type 0 where
   pub begun : List (List ℕ)
   pub is_begun : e.begun ≡ begun ∷ []
   pub many : length begun ≡ (if work_control.fresh x.work then length x.entries + 1 else length x.entries + 2)
+  pub lines : begun ≡ take (length begun) (client_lines s.lines)
   pub told : AreTold x.me e.told x.entries
   pub all_told : length e.told ≡ length x.entries + 1
   pub running : e.running ≡ (if work_control.fresh x.work then [] else work_control.line x.work)
@@ -166,33 +181,33 @@ pub record HasParted (s : Scripted) (x : Playing) (e : Account) : Type 0 where
   pub fold : IsFold x.entries e.memo
   pub table : is_loose e.memo.part ≡ false
   pub done : e.memo.over ≡ true
-  pub begun : List (List ℕ)
-  pub is_begun : e.begun ≡ begun ∷ []
-  pub many : length begun ≡ length s.lines + 2
+  pub begun : e.begun ≡ client_lines s.lines ∷ []
   pub told : AreTold x.me e.told x.entries
   pub running : e.running ≡ []
 
 -- ---- after the client's death
 
--- the log of the dead client, whose word steps are those that it made, by what is told of it, none of whose commands was refused for a spent era, and the map, which is the fold of its entries
+-- the log of the dead client, whose word steps are those that it made, by what is told of it, which tells no other command; none of its commands was refused for a spent era, and the map is the fold of its entries
 pub record IsSettled (s : Scripted) (x : Playing) (e : Account) (told : List LoggedLine) : Type 0 where
   pub end : End
   pub ended : x.end ≡ Some end
   pub log : IsLogOf x.me s (steps_first e.memo.agents) e.memo.agents e.begun told (logged x)
+  pub only : AreCommandsTold x.me told x.entries
   pub unspent : AreUnspent x.entries
   pub fold : IsFold x.entries e.memo
   pub table : is_loose e.memo.part ≡ false
 
--- So many agents began and died, each after the word steps of its life, and none acts. None comes where the lives are spent
+-- So many agents began and died, each after the word steps of its life, the first a client and the others recoverers, and none acts. None comes where the lives are spent
 pub record IsFallen (s : Scripted) (x : Playing) (e : Account) : Type 0 where
   pub lived : steps_first e.memo.agents ≡ slice_index (lives_of s.life) 0
   pub many : length e.memo.agents ≡ x.agent
   pub some : 0 < x.agent
   pub fell : fell_by (last_agent e.memo.agents) ≡ true
+  pub died : AreAgents s.lines (take x.agent (lives_of s.life)) e.memo.agents e.begun true
   pub made : steps_made e.memo ≡ sum (take x.agent (lives_of s.life))
   pub next : ((x.standing ≡ Dead) × (slice_get (lives_of s.life) x.agent ≡ None)) ⊎ ((x.standing ≡ AtWork) × (slice_get (lives_of s.life) x.agent ≡ Some x.life.left) × (x.work ≡ recovering x.me))
 
--- A recoverer acts, which began its recovery at the memo `start`
+-- A recoverer acts behind agents that died, which began its recovery at the memo `start` and nothing else
 pub record IsMending (s : Scripted) (x : Playing) (e : Account) : Type 0 where
   pub here : x.standing ≡ AtWork
   pub lived : steps_first e.memo.agents ≡ slice_index (lives_of s.life) 0
@@ -214,8 +229,9 @@ pub record IsMending (s : Scripted) (x : Playing) (e : Account) : Type 0 where
   pub course : after_all work_control (recovering x.me) e.memo.call ≡ x.work
   pub over : e.memo.over ≡ false
   pub begun : List (List (List ℕ))
-  pub line_begun : List ℕ
-  pub is_begun : e.begun ≡ begun ++ (line_begun ∷ []) ∷ []
+  pub is_begun : e.begun ≡ begun ++ (recover_line ∷ []) ∷ []
+  pub died : AreAgents s.lines (take x.agent (lives_of s.life)) before begun true
+  pub running : e.running ≡ recover_line
 
 -- a recoverer has recovered the identity: it is gone, and nothing of it is left to finish
 pub record IsMended (s : Scripted) (x : Playing) (e : Account) : Type 0 where
@@ -224,6 +240,7 @@ pub record IsMended (s : Scripted) (x : Playing) (e : Account) : Type 0 where
   pub before : List Agent
   pub steps : ℕ
   pub agents : e.memo.agents ≡ before ++ record { kind = Recoverer; steps = steps; fate = Ended } ∷ []
+  pub all : AreScriptAgents s e.memo.agents e.begun false
   pub few : steps_made e.memo ≤ sum (lives_of s.life)
   pub status : e.memo.status ≡ status.Gone
   pub gone : GoneNow x.me.who e.memo

@@ -1,5 +1,6 @@
 pub mod Work
 pub mod Turns
 pub mod Logs
+pub mod Courses
 pub mod Agents
 pub mod TurnsLeft

@@ -10,7 +10,7 @@ ghost use Rattle.shm_script.specs.declared.line.Line.{Line as ALine};
 ghost use Rattle.shm_script.specs.declared.log.End.TheVariants.{Died};
 ghost use Rattle.shm_script.specs.Ranges.{ScriptFits};
 ghost use Rattle.shm_table.specs.Command.{MayStand};
-ghost use Rattle.shm_agents.specs.Agents.{Stands, behind, follows, is_client, logged, shown_by};
+ghost use Rattle.shm_agents.specs.Agents.{Stands, behind, follows, is_client, is_command, logged, shown_by};
 ghost use Rattle.shm_agents.specs.Logs.{with_effect};
 ghost use Rattle.shm_agents.specs.TurnsLeft.{turns_by};
 ghost use Rattle.shm_agents.specs.Turns.{lives_of};
@@ -120,6 +120,20 @@ impl Agents {
         ensures { result ≡ is_client self.now }
     {
         self.standing == Standing::AtWork && self.agent == 0
+    }
+
+    /// Whose agents they are.
+    pub fn client(&self) -> u8
+        ensures { result ≡ self.now.me.who }
+    {
+        self.me.who
+    }
+
+    /// Whether a command is what they are at.
+    pub fn is_at_command(&self) -> bool
+        ensures { result ≡ is_command self.now.work }
+    {
+        matches!(self.work, Or::Second(Or::First(_)))
     }
 
     /// How many of the commands have answered, or had their effect.

@@ -7,12 +7,12 @@ ghost use Rattle.shm_agents.specs.Work as work;
 
 use shm_calls::{Calls, Or};
 use shm_graph::Me;
-use shm_recover::{Join, Leave, Leaving, Recover, Recovering};
+use shm_recover::{Join, Leave, Recover};
 use shm_script::Line;
 use shm_table::Command;
 
 /// A piece of work: a join, a recovery, a command or a leaving.
-pub(crate) type Work = Or<Or<Join, Recover>, Or<Command, Leave>>;
+pub(crate) type Work = Or<Or<Join, Calls<Recover>>, Or<Command, Calls<Leave>>>;
 
 /// The join of an identity.
 pub(crate) fn joining(me: Me) -> Work
@@ -29,7 +29,7 @@ pub(crate) fn recovering(me: Me) -> Work
     requires who { me.who < me.geometry.clients }
     ensures { result ≡ work.recovering me }
 {
-    Or::First(Or::Second(Calls::new(Recovering::new(me))))
+    Or::First(Or::Second(Calls::new(Recover::new(me))))
 }
 
 /// The command of a line.
@@ -48,5 +48,5 @@ pub(crate) fn leaving(me: Me) -> Work
     requires who { me.who < me.geometry.clients }
     ensures { result ≡ work.leaving me }
 {
-    Or::Second(Or::Second(Calls::new(Leaving::new(me))))
+    Or::Second(Or::Second(Calls::new(Leave::new(me))))
 }

@@ -4,15 +4,15 @@ mod Enough
 mod Visiting
 mod Reviving
 mod Giving
-mod Seating
+pub mod Seating
 mod Telling
 mod Aside
 mod Firsts
 mod Later
-mod Gathering
-mod Visited
-mod Ending
-mod WholeRun
+pub mod Gathering
+pub mod Visited
+pub mod Ending
+pub mod WholeRun
 mod Starting
 mod Answering
 mod SomeSteps

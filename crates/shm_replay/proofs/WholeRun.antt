@@ -45,7 +45,7 @@ all_at P (r ∷ ss) zero s h e = subst P (same_some r s e) h.0
 all_at P (r ∷ ss) (suc k) s h e = all_at P ss k s h.1 e
 
 -- a script is that of its identity
-script_at : (ss : List Scripted) (k : ℕ) (s : Scripted) → AreApart ss → slice_get ss k ≡ Some s → script_in ss s.client ≡ Some s
+pub script_at : (ss : List Scripted) (k : ℕ) (s : Scripted) → AreApart ss → slice_get ss k ≡ Some s → script_in ss s.client ≡ Some s
 script_at [] k s h e = absurd (cc)
 script_at (r ∷ ss) zero s h e = let same : r ≡ s = same_some r s e in cond-true (eqb r.client s.client) (Some r) (script_in ss s.client) (eq-eqb r.client s.client (ap (λ (x : Scripted). x.client) same)) ∙ e
 script_at (r ∷ ss) (suc k) s h e =
@@ -53,7 +53,7 @@ script_at (r ∷ ss) (suc k) s h e =
     ∙ script_at ss k s h.1 e
 
 -- the partition that is a part for tables
-table_by : (x : Contents) (c home : ℕ) (part : Part) → is_loose part ≡ false → PartTie x c home part → IsPartition x c home (chain_in part)
+pub table_by : (x : Contents) (c home : ℕ) (part : Part) → is_loose part ≡ false → PartTie x c home part → IsPartition x c home (chain_in part)
 table_by x c home Loose e h = absurd (true≢false e)
 table_by x c home (Table chains) e h = h
 

@@ -21,8 +21,7 @@ use Rattle.shm_recover.specs.Leave.{leave_plan}
 use Rattle.shm_recover.specs.Recover.Control.{recover_parts, recovering}
 use Rattle.shm_recover.specs.Recover.{recover_plan}
 use Rattle.shm_steps.specs.Reparting.{map_in}
-use Rattle.shm_agents.specs.declared.agents.Standing.{Standing}
-use Rattle.shm_agents.specs.declared.agents.Standing.TheVariants.{Dead}
+pub use Rattle.shm_agents.specs.Agents.{is_standing_dead}
 use Rattle.shm_agents.specs.Agents.{Playing}
 
 -- ---- what a closing is
@@ -77,10 +76,6 @@ pub record IsDead (m : Memo) : Type 0 where
 abbrev pub MayVisit : Bool → Memo → Type 0
 MayVisit false m = IsOut m
 MayVisit true m = IsDead m
-
-abbrev pub is_standing_dead : Standing → Bool
-is_standing_dead Dead = true
-is_standing_dead standing = false
 
 -- whether all agents of an identity died
 abbrev pub is_dead : Option Playing → Bool

@@ -19,8 +19,8 @@ use shm_agents::agents::{Agents, Standing};
 use shm_calls::Calls;
 use shm_graph::{Life, Me};
 use shm_plain::PlainPool;
-use shm_queue::Draining;
-use shm_recover::{Join, Leaving, Recovering};
+use shm_queue::Drain;
+use shm_recover::{Join, Leave, Recover};
 
 /// How many word steps the recovery of an identity has in a closing, and how many its join, drain and leaving have together.
 const LIFE: u64 = 1 << 40;
@@ -41,7 +41,7 @@ fn recover(pool: &mut PlainPool, me: Me, life: &mut Life)
 {
     // for the proof: the pool is a run
     pool.geometry();
-    pool.call(me.who, &mut Calls::new(Recovering::new(me)), life)
+    pool.call(me.who, &mut Calls::new(Recover::new(me)), life)
         .unwrap()
         .unwrap();
 }
@@ -79,7 +79,7 @@ fn drain(pool: &mut PlainPool, me: Me, life: &mut Life)
 {
     // for the proof: the pool is a run
     pool.geometry();
-    pool.call(me.who, &mut Calls::new(Draining::new(me)), life)
+    pool.call(me.who, &mut Calls::new(Drain::new(me)), life)
         .unwrap()
         .unwrap();
 }
@@ -99,7 +99,7 @@ fn leave(pool: &mut PlainPool, me: Me, life: &mut Life)
 {
     // for the proof: the pool is a run
     pool.geometry();
-    pool.call(me.who, &mut Calls::new(Leaving::new(me)), life)
+    pool.call(me.who, &mut Calls::new(Leave::new(me)), life)
         .unwrap()
         .unwrap();
 }

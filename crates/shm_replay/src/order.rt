@@ -99,6 +99,7 @@ pub(crate) fn give_items(agents: &mut [Option<Agents>], trace: &Trace, pool: &mu
 }
 
 /// Gives a turn to the agents of an identity, if it has a script. It answers whether one of them had anything to do.
+#[inline(always)]
 fn give_one(agents: &mut [Option<Agents>], trace: &Trace, who: u8, pool: &mut PlainPool) -> bool
     requires seated { AreSeated trace.now pool.old agents.old }
     requires who { who < trace.now.clients }
@@ -120,6 +121,7 @@ fn give_one(agents: &mut [Option<Agents>], trace: &Trace, who: u8, pool: &mut Pl
 }
 
 /// Gives a turn to the agents of each identity, in order of number. It answers whether one of them had anything to do.
+#[inline(always)]
 fn give_round(agents: &mut [Option<Agents>], trace: &Trace, pool: &mut PlainPool) -> bool
     requires seated { AreSeated trace.now pool.old agents.old }
     ensures seated { AreSeated trace.now pool.new agents.new }
@@ -139,6 +141,7 @@ fn give_round(agents: &mut [Option<Agents>], trace: &Trace, pool: &mut PlainPool
 }
 
 /// Gives rounds of turns until no agent has anything left to do.
+#[inline(never)]
 pub(crate) fn give_rounds(agents: &mut [Option<Agents>], trace: &Trace, pool: &mut PlainPool)
     requires seated { AreSeated trace.now pool.old agents.old }
     ensures seated { AreSeated trace.now pool.new agents.new }

@@ -30,7 +30,7 @@ pub struct Replayed {
 }
 
 /// The sizes and the format of a trace's pool.
-fn geometry_of(trace: &Trace) -> Geometry
+pub fn geometry_of(trace: &Trace) -> Geometry
     ensures geometry { result ≡ (start_of trace.now).geometry }
     ensures fits { GeometryFits result }
 {
@@ -55,7 +55,7 @@ fn script_of(scripts: &[Script], who: u8) -> Option<usize>
 }
 
 /// The agents of an identity before their first word step, if the identity has a script.
-fn agents_of(
+pub fn agents_of(
     alloc: Global,
     geometry: Geometry,
     trace: &Trace,
@@ -126,7 +126,7 @@ fn take_log(agents: &mut [Option<Agents>], who: u8, logs: &mut Vec<Log>)
 }
 
 /// Takes the logs of the scripts' clients, in the order of the scripts.
-fn take_logs(agents: &mut [Option<Agents>], trace: &Trace, logs: &mut Vec<Log>)
+pub fn take_logs(agents: &mut [Option<Agents>], trace: &Trace, logs: &mut Vec<Log>)
     requires many { length agents.old ≡ trace.now.clients }
     requires empty { logs.old.items ≡ [] }
     requires none { vec_len logs.old ≡ 0 }
