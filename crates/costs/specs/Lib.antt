@@ -2,3 +2,5 @@ pub mod Watching
 pub mod WatchKeeps
 pub mod Watched
 pub mod Flats
+pub mod Putting
+pub mod Soaking

@@ -14,7 +14,7 @@ use flat::Flat;
 use loops::{run, run_plan, run_whole};
 use shm_alloc::Alloc;
 use shm_graph::{Me, Start, first_words};
-use shm_recover::{Join, Leaving};
+use shm_recover::{Join, Leave};
 use shm_words::Geometry;
 use std::alloc::{AllocError, Global};
 use std::io;
@@ -33,10 +33,10 @@ trait Leaves {
         requires who { me.who < me.geometry.clients };
 }
 
-impl Leaves for Leaving {
+impl Leaves for Leave {
     #[inline(always)]
     fn leave(words: &mut [u64], me: Me) -> Option<u64> {
-        run_plan(words, Leaving::new(me))
+        run_plan(words, Leave::new(me))
     }
 }
 
@@ -104,7 +104,7 @@ fn case_of(alloc: Global, me: Me, blocks: u32) -> Result<Option<Case>, AllocErro
         return Ok(None);
     };
     let mut words = was.as_slice().to_vec(alloc)?;
-    let Some(steps) = pass::<Leaving>(words.as_mut_slice(), &[], me) else {
+    let Some(steps) = pass::<Leave>(words.as_mut_slice(), &[], me) else {
         return Ok(None);
     };
     let mut before = Vec::new(alloc);
@@ -163,7 +163,7 @@ fn time_case(rt: &HostRuntime, name: &'static str, me: Me, blocks: u32) -> io::R
     let counts = (STEPS / steps.max(1), steps);
     let mut least = Least::new();
     for _ in 0..ROUNDS {
-        let one = time_passes::<Leaving>(rt, me, words, before, counts)?;
+        let one = time_passes::<Leave>(rt, me, words, before, counts)?;
         let other = time_passes::<Flat>(rt, me, words, before, counts)?;
         let (Some(one), Some(other)) = (one, other) else {
             return Ok(false);

@@ -1,14 +1,19 @@
 //! What parts of the pool cost, against plain work that does the same.
 //!
-//! Run it with `rt run costs`, or `rt run costs -- WORD` for one part: `script`, `audit`, `steps`, `leaving`, `shared` or `wide`, of which
-//! the modules of these names tell more. It writes to standard error what each takes, in processor time, and how many times the one is the
-//! other; and nothing to standard output. With status 1 something failed, and the figures say nothing.
+//! Run it with `rt run costs`, or `rt run costs -- WORD` for one part: `script`, `audit`, `steps`, `leaving`, `shared`, `commands` or
+//! `wide`, of which the modules of these names tell more. It writes to standard error what each takes, in processor time, and how many times
+//! the one is the other; and nothing to standard output. With status 1 something failed, and the figures say nothing.
+//!
+//! `rt run costs -- soak SECONDS` plays rounds of clients that die and are recovered (soak.rt), and ends with status 1 where one left a pool that
+//! isn't clean.
 #![tactic(auto)]
 
 mod audit;
+mod commands;
 mod leaving;
 mod script;
 mod shared;
+mod soak;
 mod steps;
 mod times;
 mod watch;
@@ -16,13 +21,16 @@ mod wide;
 
 use shm_words::Geometry;
 use std::process::ExitCode;
+use std::thread::Threads;
 use std::{env, io};
 
 /// The parts.
-const PARTS: [&str; 6] = ["script", "audit", "steps", "leaving", "shared", "wide"];
+const PARTS: [&str; 7] = [
+    "script", "audit", "steps", "leaving", "shared", "commands", "wide",
+];
 
 /// Times the part of this name; false where something failed, or there is none.
-fn time_part(rt: &HostRuntime, name: &str) -> io::Result<bool> {
+fn time_part<R: Threads + Sync>(rt: &HostRuntime, threads: &R, name: &str) -> io::Result<bool> {
     eprintln!(rt; "{name}:")?;
     let Ok(small) = Geometry::new(1, 1) else {
         unreachable!()
@@ -33,33 +41,43 @@ fn time_part(rt: &HostRuntime, name: &str) -> io::Result<bool> {
         "steps" => steps::time_all(rt, small, steps::ROUNDS),
         "leaving" => leaving::time_all(rt),
         "shared" => shared::time_all(rt, small, shared::ROUNDS),
+        "commands" => commands::time_all(rt, threads),
         "wide" => wide::time_all(rt),
         _ => Ok(false),
     }
 }
 
 /// Times all parts.
-fn time_parts(rt: &HostRuntime) -> io::Result<bool> {
+fn time_parts<R: Threads + Sync>(rt: &HostRuntime, threads: &R) -> io::Result<bool> {
     for name in PARTS {
-        if !time_part(rt, name)? {
+        if !time_part(rt, threads, name)? {
             return Ok(false);
         }
     }
     Ok(true)
 }
 
+/// Soaks for so many seconds; false where the text is no number.
+fn soak_for<R: Threads + Sync>(rt: &HostRuntime, threads: &R, seconds: &str) -> io::Result<bool> {
+    match seconds.parse::<u64>() {
+        Ok(seconds) => soak::soak(rt, threads, seconds),
+        Err(_) => Ok(false),
+    }
+}
+
 /// Times the part that the word behind the program's name names, and without one all of them.
-fn time_named(rt: &HostRuntime) -> io::Result<bool> {
+fn time_named<R: Threads + Sync>(rt: &HostRuntime, threads: &R) -> io::Result<bool> {
     let mut words = env::args(rt)?;
     let _name = words.next();
-    match words.next() {
-        Some(word) => time_part(rt, word.as_str()),
-        None => time_parts(rt),
+    match (words.next(), words.next()) {
+        (Some(word), None) => time_part(rt, threads, word.as_str()),
+        (Some(_soak), Some(seconds)) => soak_for(rt, threads, seconds.as_str()),
+        (None, _) => time_parts(rt, threads),
     }
 }
 
 fn main(rt: HostRuntime) -> ExitCode {
-    match time_named(&rt) {
+    match time_named(&rt, &rt) {
         Ok(true) => ExitCode::SUCCESS,
         Ok(false) | Err(_) => ExitCode::FAILURE,
     }

@@ -1,9 +1,9 @@
 -- tokens as a pool made them
-use Rattle.std.proofs.Common.{◌≡◌, ℕ, zero, suc, List, [], ◌∷◌, ◌++◌, refl, sym, ap, subst}
+use Rattle.std.proofs.Common.{◌≡◌, ℕ, zero, suc, List, [], ◌∷◌, ◌++◌, refl, ap}
 use Rattle.std.specs.Prelude.{Option, Some, None, IfSome}
 use Rattle.std.specs.Option.{option_to_list}
 use Rattle.shm_pool.specs.Tokens.{AllOf, Its, Token, first_tokens, token_first}
-use Rattle.pool_calls.specs.Clients.{AllFirst, AreRootsEmpty}
+use Rattle.pool_calls.specs.Clients.{AllFirst}
 
 pub all_first : (p : Its) (c n : ℕ) → AllFirst p (first_tokens p c n)
 all_first p c zero = tt
@@ -24,11 +24,6 @@ popped p xs (Some t) a = first_last p xs t a
 pub of_first : (p : Its) (o : Option Token) → IfSome o (λ t. t ≡ token_first p t.account.who) → IfSome o (λ t. t.of ≡ p)
 of_first p None h = tt
 of_first p (Some t) h = ap (λ (y : Token). y.of) h
-
--- nothing is in the roots of an identity that nobody has joined
-pub roots_first : (p : Its) (o : Option Token) → IfSome o (λ t. t ≡ token_first p t.account.who) → IfSome o (λ t. AreRootsEmpty t.account)
-roots_first p None h = tt
-roots_first p (Some t) h = subst (λ (y : Token). AreRootsEmpty y.account) (sym h) (λ k. refl)
 
 -- they are tokens of the pool
 pub all_of : (p : Its) (xs : List Token) → AllFirst p xs → AllOf p xs

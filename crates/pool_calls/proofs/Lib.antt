@@ -1,4 +1,2 @@
-mod AllocRoots
-pub mod Standing
 pub mod FirstTokens
-pub mod Keeping
+pub mod Opens

@@ -2,11 +2,10 @@
 
 ghost use Rattle.std.specs.Prelude.{◌≡◌, IfOk, IfSome};
 
-use crate::calls::allocate;
 use shm_alloc::AllocFault;
 use shm_count::Made;
 use shm_graph::Life;
-use shm_pool::{Reply, SharedPool, Stopped, Vacant};
+use shm_pool::{Reply, SharedPool, Stopped, Vacant, alloc_gives};
 
 /// What came of two allocations and a leaving.
 #[derive(Drop)]
@@ -29,15 +28,17 @@ pub fn make_two(
     requires of { token.of ≡ pool.now }
     ensures { IfSome result (λ t. IfOk t.left (λ v. v.of ≡ pool.now)) }
 {
+    // for the proof: a client that made a block may leave
+    alloc_gives();
     let mut life = Life::of(steps);
     let mut client = match token.join(pool, &mut life) {
         Ok(client) => client,
         Err(_) => return None,
     };
-    let Ok(Reply::Done(one)) = allocate(&mut client, pool, refs.0, first, &mut life) else {
+    let Ok(Reply::Done(one)) = client.alloc(pool, &mut life, refs.0, first) else {
         return None;
     };
-    let Ok(Reply::Done(two)) = allocate(&mut client, pool, refs.1, second, &mut life) else {
+    let Ok(Reply::Done(two)) = client.alloc(pool, &mut life, refs.1, second) else {
         return None;
     };
     let left = client.leave(pool, &mut life);

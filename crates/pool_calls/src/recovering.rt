@@ -3,7 +3,6 @@
 ghost use Rattle.std.specs.Prelude.{◌≡◌, IfOk, IfErr, IfSome};
 ghost use Rattle.shm_words.specs.Layout.{GeometryFits};
 ghost use Rattle.shm_pool.specs.Calls.{IsBetween};
-ghost use Rattle.pool_calls.specs.Clients.{AreRootsEmpty};
 
 use crate::team::{pop_of, put_back, visit, work};
 use shm_graph::{Life, Turn};
@@ -41,7 +40,6 @@ pub fn rescue(pool: &SharedPool, corpse: Corpse, steps: u64) -> Result<Vacant, C
 /// Joins, works and falls, after so many word steps at the latest.
 fn visit_and_fall(pool: &SharedPool, token: Vacant, steps: u64) -> Corpse
     requires of { token.of ≡ pool.now }
-    requires roots { AreRootsEmpty token.account }
     ensures { result.of ≡ pool.now }
 {
     match visit(pool, token, steps) {
@@ -53,9 +51,8 @@ fn visit_and_fall(pool: &SharedPool, token: Vacant, steps: u64) -> Corpse
 /// Joins.
 fn enter(pool: &SharedPool, token: Vacant) -> Result<Client, Corpse>
     requires of { token.of ≡ pool.now }
-    requires roots { AreRootsEmpty token.account }
     ensures of { IfOk result (λ c. c.of ≡ pool.now) }
-    ensures between { IfOk result (λ c. IsBetween c.account × AreRootsEmpty c.account) }
+    ensures between { IfOk result (λ c. IsBetween c.account) }
 {
     let mut life = Life::of(1);
     match token.join(pool, &mut life) {
@@ -68,7 +65,6 @@ fn enter(pool: &SharedPool, token: Vacant) -> Result<Client, Corpse>
 fn work_and_fall(pool: &SharedPool, mut client: Client, steps: u64) -> (Corpse, Option<u32>)
     requires of { client.of ≡ pool.now }
     requires between { IsBetween client.account }
-    requires roots { AreRootsEmpty client.account }
     ensures { result.0.of ≡ pool.now }
 {
     let mut life = Life::of(steps);
@@ -85,10 +81,9 @@ fn fall_beside<R: Threads + Sync>(
     steps: u64,
 ) -> (Corpse, Result<Client, Corpse>)
     requires of { (a.of ≡ pool.now) × (b.of ≡ pool.now) }
-    requires roots { AreRootsEmpty a.account × AreRootsEmpty b.account }
     ensures corpse { result.0.of ≡ pool.now }
     ensures of { IfOk result.1 (λ c. c.of ≡ pool.now) }
-    ensures between { IfOk result.1 (λ c. IsBetween c.account × AreRootsEmpty c.account) }
+    ensures between { IfOk result.1 (λ c. IsBetween c.account) }
 {
     thread::join(
         rt,
@@ -106,7 +101,7 @@ fn bury_beside<R: Threads + Sync>(
     steps: u64,
 ) -> (Result<Vacant, Corpse>, (Corpse, Option<u32>))
     requires of { (corpse.of ≡ pool.now) × (client.of ≡ pool.now) }
-    requires between { IsBetween client.account × AreRootsEmpty client.account }
+    requires between { IsBetween client.account }
     ensures buried { IfOk result.0 (λ v. v.of ≡ pool.now) }
     ensures corpse { result.1.0.of ≡ pool.now }
 {

@@ -1,42 +1,68 @@
 //! What a client does, and two of them on two threads.
 
-ghost use Rattle.std.specs.Prelude.{◌≡◌, ◌≢◌, ℕ, ◌<◌, false, IfOk, IfErr, IfSome};
+ghost use Rattle.std.specs.Prelude.{◌≡◌, ◌<◌, false, IfOk, IfErr, IfSome};
 ghost use Rattle.shm_words.specs.Layout.{GeometryFits};
 ghost use Rattle.shm_graph.specs.Runs.{EraFits};
-ghost use Rattle.shm_pool.specs.Tokens.{AllOf, has_left};
+ghost use Rattle.shm_pool.specs.Tokens.{AllOf, token_first};
+ghost use Rattle.shm_pool.specs.Called.{HasRoot, Rests};
 ghost use Rattle.shm_pool.specs.Calls.{IsBetween};
-ghost use Rattle.pool_calls.specs.Clients.{AllFirst, AreRootsEmpty};
+ghost use Rattle.pool_calls.specs.Clients.{AllFirst};
 
-use crate::calls::{allocate, lower, raise, tear_down};
+use shm_count::Made;
 use shm_graph::Life;
-use shm_pool::{Client, Closed, Corpse, Reply, SharedPool, Vacant};
+use shm_pool::{Client, Closed, Corpse, Reply, SharedPool, Vacant, alloc_gives};
+use shm_ref::share_keeps;
 use shm_words::Geometry;
 use std::alloc::{AllocError, Global};
 use std::thread;
 use std::thread::Threads;
 
-/// Allocates a block, lets a second root name it, empties both roots and frees it; gives the block.
+/// Makes a block that holds 77; a root names it.
+fn make_one(client: &mut Client, pool: &SharedPool, life: &mut Life) -> Option<Made>
+    requires pool { client.old.of ≡ pool.now }
+    requires between { client.old.dead ≡ false → IsBetween client.old.account }
+    ensures same { (client.new.of ≡ client.old.of) × (client.new.account.who ≡ client.old.account.who) }
+    ensures rests { Rests client.new }
+    ensures root { IfSome result (λ made. HasRoot made client.new) }
+{
+    // for the proof: what a block that was made is named by
+    alloc_gives();
+    match client.alloc(pool, life, 0, &[77]) {
+        Ok(Reply::Done(Ok(made))) => Some(made),
+        _ => None,
+    }
+}
+
+/// Lets a further root name a block that a root names.
+fn name_again(client: &mut Client, pool: &SharedPool, life: &mut Life, made: Made) -> Option<u8>
+    requires pool { client.old.of ≡ pool.now }
+    requires rests { Rests client.old }
+    requires root { HasRoot made client.old }
+    ensures same { (client.new.of ≡ client.old.of) × (client.new.account.who ≡ client.old.account.who) }
+    ensures rests { Rests client.new }
+    ensures number { IfSome result (λ k. k < 16) }
+{
+    // for the proof: what a share leaves
+    share_keeps();
+    match client.share(pool, life, made.block) {
+        Reply::Done(Ok(root)) => Some(root),
+        _ => None,
+    }
+}
+
+/// Makes a block, lets a second root name it and drops both roots, the last of which frees it; gives the block.
 pub fn work(client: &mut Client, pool: &SharedPool, life: &mut Life) -> Option<u32>
     requires pool { client.old.of ≡ pool.now }
-    requires between { IsBetween client.old.account }
-    requires roots { AreRootsEmpty client.old.account }
+    requires between { client.old.dead ≡ false → IsBetween client.old.account }
     ensures same { (client.new.of ≡ client.old.of) × (client.new.account.who ≡ client.old.account.who) }
-    ensures there { client.new.dead ≡ false → has_left client.new.account.memo ≡ false }
+    ensures rests { Rests client.new }
 {
-    let Ok(Reply::Done(Ok(made))) = allocate(client, pool, 0, &[77], life) else {
+    let made = make_one(client, pool, life)?;
+    let other = name_again(client, pool, life, made)?;
+    let Reply::Done(Ok(true)) = client.drop_root(pool, life, made.root) else {
         return None;
     };
-    let other = if made.root == 0 { 1 } else { 0 };
-    let Reply::Done(Ok(())) = raise(client, pool, other, made.block, life) else {
-        return None;
-    };
-    let Reply::Done(Ok(false)) = lower(client, pool, made.root, made.block, life) else {
-        return None;
-    };
-    let Reply::Done(Ok(true)) = lower(client, pool, other, made.block, life) else {
-        return None;
-    };
-    let Reply::Done(Ok(())) = tear_down(client, pool, made.block, life) else {
+    let Reply::Done(Ok(true)) = client.drop_root(pool, life, other) else {
         return None;
     };
     Some(made.block)
@@ -53,8 +79,7 @@ pub struct Visited {
 /// Joins and works. Where no word step was left, or the work was refused, the corpse comes back.
 pub fn visit(pool: &SharedPool, token: Vacant, steps: u64) -> Result<Visited, Corpse>
     requires of { token.of ≡ pool.now }
-    requires roots { AreRootsEmpty token.account }
-    ensures ok { IfOk result (λ v. (v.client.of ≡ pool.now) × (v.client.dead ≡ false → has_left v.client.account.memo ≡ false)) }
+    ensures ok { IfOk result (λ v. (v.client.of ≡ pool.now) × Rests v.client) }
     ensures err { IfErr result (λ c. c.of ≡ pool.now) }
 {
     let mut life = Life::of(steps);
@@ -79,7 +104,7 @@ pub fn pop_of(pool: &SharedPool, all: &mut Vec<Vacant>) -> Option<Vacant>
     ensures rest { AllFirst pool.now all.new.items }
     ensures tokens { AllOf pool.now all.new.items }
     ensures of { IfSome result (λ t. t.of ≡ pool.now) }
-    ensures roots { IfSome result (λ t. AreRootsEmpty t.account) }
+    ensures first { IfSome result (λ t. t ≡ token_first pool.now t.account.who) }
 {
     // for the proof: the contract alone speaks of the pool
     let _ = pool;
@@ -95,7 +120,6 @@ pub fn both<R: Threads + Sync>(
     steps: (u64, u64),
 ) -> (Result<Visited, Corpse>, Result<Visited, Corpse>)
     requires of { (a.of ≡ pool.now) × (b.of ≡ pool.now) }
-    requires roots { AreRootsEmpty a.account × AreRootsEmpty b.account }
 {
     let (first, second) = steps;
     thread::join(

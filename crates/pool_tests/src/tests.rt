@@ -1,13 +1,18 @@
 //! Clients on threads, and one that dies between two word steps.
 
-ghost use Rattle.std.specs.Prelude.{◌≡◌, IfSome};
+ghost use Rattle.std.specs.Prelude.{◌≡◌, true, IfSome};
+ghost use Rattle.shm_pool.specs.Tokens.{token_first};
 ghost use Rattle.shm_words.specs.Layout.{GeometryFits};
 
 use pool_calls::team::{pass_and_close, pass_by, pop_of, put_back};
-use pool_calls::{Team, TwoMade, make_two, recover_and_close, run_two, visit_and_share};
+use pool_calls::{
+    Refused, Team, TwoMade, close_at_last, make_two, pass_all, play_and_close, put_in,
+    recover_and_close, refuse_both, run_two,
+};
 use shm_alloc::AllocFault;
 use shm_count::Made;
 use shm_pool::{Cause, CloseCause, CloseStop, SharedPool, Stopped, Vacant};
+use shm_script::Answer;
 use shm_words::Geometry;
 use std::alloc::{AllocError, Global};
 use std::test::Fail;
@@ -169,6 +174,39 @@ fn a_missing_token_is_named(rt: HostRuntime) -> Result<(), Fail> {
     Ok(())
 }
 
+#[test]
+fn what_a_refused_closing_gave_back_joins_and_leaves(rt: HostRuntime) -> Result<(), Fail> {
+    let (pool, mut all) = SharedPool::make(rt.alloc(), Geometry::new(3, 1)?, 7, false)?;
+    let Some(last) = pop_of(&pool, &mut all) else {
+        panic!(rt; "no token")
+    };
+    let Err(stop) = pool.close(rt.alloc(), all) else {
+        panic!(rt; "closed without a token")
+    };
+    assert!(rt; is_missing(&stop, 2, 2));
+    let CloseStop { pool, all, .. } = stop;
+    let Some(mut all) = pass_all(&pool, rt.alloc(), all, 100)? else {
+        panic!(rt; "not joined, or not left")
+    };
+    put_back(&pool, &mut all, last)?;
+    let Ok(closed) = pool.close(rt.alloc(), all) else {
+        panic!(rt; "not closed")
+    };
+    assert!(rt; stand_alone(closed.words(), &[(1, 3), (2, 3), (16, 7), (20, 7), (24, 7)]));
+    Ok(())
+}
+
+// where an allocation of the closing fails, its tokens are used once more before it is closed
+#[test]
+fn a_closing_goes_on_after_its_memory_was_refused(rt: HostRuntime) -> Result<(), Fail> {
+    let (pool, all) = SharedPool::make(rt.alloc(), Geometry::new(2, 1)?, 7, false)?;
+    let Some(closed) = close_at_last(rt.alloc(), pool, all, 100)? else {
+        panic!(rt; "not closed")
+    };
+    assert!(rt; closed_word(closed.words(), 11) == 7);
+    Ok(())
+}
+
 /// Whether both identities of a pool pass by, and it is closed with these words alone.
 fn have_passed<R: Threads + Sync>(
     rt: &R,
@@ -325,39 +363,94 @@ fn segments_that_were_given_up_are_claimed_as_they_are(rt: HostRuntime) -> Resul
     Ok(())
 }
 
-/// An identity that joins and leaves, and again.
-fn pass_twice(pool: &SharedPool, token: Vacant) -> Option<Vacant>
-    requires { token.of ≡ pool.now }
-    ensures { IfSome result (λ v. v.of ≡ pool.now) }
-{
-    let token = pass_by(pool, token, 19).ok()?;
-    pass_by(pool, token, 19).ok()
-}
-
 #[test]
-fn a_refused_closing_gives_pool_and_tokens_back(rt: HostRuntime) -> Result<(), Fail> {
-    let (pool, mut all) = SharedPool::make(rt.alloc(), Geometry::new(2, 1)?, 7, false)?;
-    let Some(one) = pop_of(&pool, &mut all) else {
+fn a_latch_is_anothers_and_a_refused_closing_gives_all_back(rt: HostRuntime) -> Result<(), Fail> {
+    let (pool, mut all) = SharedPool::make(rt.alloc(), Geometry::new(2, 2)?, 7, false)?;
+    let (Some(one), Some(zero)) = (pop_of(&pool, &mut all), pop_of(&pool, &mut all)) else {
         panic!(rt; "no token")
     };
+    let Some(refused) = refuse_both(&pool, zero, one) else {
+        panic!(rt; "nothing was refused")
+    };
+    let Refused {
+        busy,
+        made,
+        fault,
+        zero,
+        one,
+    } = refused;
+    assert!(rt; busy.holder == 1 && made == 16 && fault == AllocFault::RootsFull);
+    put_back(&pool, &mut all, zero)?;
     let Err(stop) = pool.close(rt.alloc(), all) else {
         panic!(rt; "closed without a token")
     };
     assert!(rt; is_missing(&stop, 1, 1));
     let CloseStop { pool, mut all, .. } = stop;
-    let Some(zero) = pop_of(&pool, &mut all) else {
-        panic!(rt; "no token")
-    };
-    assert!(rt; zero.client() == 0 && one.client() == 1);
-    let (Some(zero), Some(one)) = (pass_twice(&pool, zero), pass_twice(&pool, one)) else {
-        panic!(rt; "not gone")
-    };
     put_back(&pool, &mut all, one)?;
-    put_back(&pool, &mut all, zero)?;
     let Ok(closed) = pool.close(rt.alloc(), all) else {
         panic!(rt; "not closed")
     };
-    assert!(rt; stand_alone(closed.words(), &[(1, 3), (2, 3), (11, 7), (14, 7)]));
+    assert!(rt; are_gone(closed.words()));
+    Ok(())
+}
+
+/// Whether a put that had so many word steps answered so, and shows that it is done.
+fn is_put(pool: &SharedPool, token: Vacant, steps: u64, answered: bool, done: bool) -> bool
+    requires { (token ≡ token_first pool.now token.account.who) × (pool.now.start.tables ≡ true) }
+{
+    match put_in(pool, token, steps) {
+        Some((answer, effect)) => {
+            matches!(answer, Some(Answer::Stored { .. })) == answered
+                && matches!(effect, Some(Answer::Stored { .. })) == done
+        }
+        None => false,
+    }
+}
+
+// a join takes one word step, and the put of a first key 105: the 87th decides it
+#[test]
+fn a_put_shows_what_it_did(rt: HostRuntime) -> Result<(), Fail> {
+    for (steps, answered, done) in [
+        (86, false, false),
+        (87, false, true),
+        (104, false, true),
+        (105, true, false),
+    ] {
+        let (pool, mut all) = SharedPool::make(rt.alloc(), Geometry::new(1, 1)?, 1, true)?;
+        let Some(token) = pop_of(&pool, &mut all) else {
+            panic!(rt; "no token")
+        };
+        assert!(rt; is_put(&pool, token, steps, answered, done), "{steps}");
+    }
+    Ok(())
+}
+
+/// Whether two clients play, and one that falls after so many word steps is recovered while the other one goes on.
+fn is_played<R: Threads + Sync>(
+    rt: &R,
+    alloc: Global,
+    geometry: Geometry,
+    steps: u64,
+) -> Result<bool, AllocError>
+    requires { GeometryFits geometry × (geometry.clients ≡ 2) }
+{
+    let played = play_and_close(rt, alloc, geometry, steps)?;
+    Ok(match &played {
+        Some(played) => {
+            let words = played.closed.words();
+            played.beside == 50
+                && played.on == 50
+                && closed_word(words, 1) == 3
+                && closed_word(words, 2) == 3
+        }
+        None => false,
+    })
+}
+
+#[test]
+fn two_clients_play_and_one_falls(rt: HostRuntime) -> Result<(), Fail> {
+    let geometry = Geometry::new(2, 8)?;
+    assert!(rt; is_played(&rt, rt.alloc(), geometry, 500)?);
     Ok(())
 }
 
@@ -402,23 +495,5 @@ fn a_corpse_is_recovered_beside_a_client(rt: HostRuntime) -> Result<(), Fail> {
     for steps in 0..60u64 {
         assert!(rt; is_recovered(&rt, rt.alloc(), geometry, steps)?, "{steps}");
     }
-    Ok(())
-}
-
-/// Whether a client makes a block, has another root name it, and empties that root, which named it.
-fn is_shared(pool: &SharedPool, token: Vacant) -> bool
-    requires { token.of ≡ pool.now }
-{
-    visit_and_share(pool, token, 1_000) == Some(true)
-}
-
-#[test]
-fn a_root_is_shared_and_dropped(rt: HostRuntime) -> Result<(), Fail> {
-    let (pool, mut all) = SharedPool::make(rt.alloc(), Geometry::new(1, 1)?, 1, false)?;
-    let Some(token) = pop_of(&pool, &mut all) else {
-        panic!(rt; "no token")
-    };
-    assert!(rt; is_shared(&pool, token));
-    assert!(rt; stand(&pool, &[(1, 1), (7, 50), (8, 0), (52, 77)]));
     Ok(())
 }

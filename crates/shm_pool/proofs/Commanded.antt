@@ -1,5 +1,5 @@
 -- a command of a client over the machine that it ran
-use Rattle.std.proofs.Common.{◌≡◌, ℕ, ◌++◌, true, false, Option, List, refl, sym, ap, ◌∙◌, subst}
+use Rattle.std.proofs.Common.{◌≡◌, ℕ, ◌++◌, true, false, Option, refl, sym, ap, ◌∙◌, subst}
 use Rattle.std.proofs.lemmas.Bool.{true≢false}
 use Rattle.shm_graph.specs.declared.ask.Me.{Me}
 use Rattle.shm_graph.specs.declared.memo.Memo.{Memo}
@@ -15,7 +15,6 @@ use Rattle.shm_table.specs.Command.{CommandCall, CommandFits, MayStand, command_
 use Rattle.shm_table.specs.Command.Maps.{MapSoFar}
 use Rattle.shm_table.specs.Command.Operates.{CommandLeaves}
 use Rattle.shm_table.specs.TableTasks.{LineMay}
-use Rattle.shm_pool.specs.declared.reply.Reply.{Reply}
 use Rattle.shm_pool.specs.declared.reply.Reply.TheVariants.{Died, Done}
 use Rattle.shm_pool.specs.Called.{HasCommanded, HasEffect}
 use Rattle.shm_pool.specs.Calls.{Drives, StillFits, pairs}

@@ -14,3 +14,4 @@ pub mod Keeping
 pub mod Reading
 pub mod Rescuing
 pub mod Posting
+pub mod Told

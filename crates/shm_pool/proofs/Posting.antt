@@ -1,23 +1,21 @@
 -- the agents of a post
-use Rattle.std.proofs.Common.{◌≡◌, ◌≢◌, ℕ, ◌<◌, inl, inr, ◌⊎◌, Bool, true, false, cond, List, [], refl, sym, ap, ◌∙◌, subst}
+use Rattle.std.proofs.Common.{◌≡◌, Bool, true, false, cond, List, refl, sym, ap, ◌∙◌}
 use Rattle.std.specs.Prelude.{Option, Some, None}
 use Rattle.std.specs.Option.{is_some}
-use Rattle.std.proofs.lemmas.Bool.{cases_eq, true≢false}
+use Rattle.std.proofs.lemmas.Bool.{true≢false}
 use Rattle.shm_graph.specs.declared.memo.Agent.{Agent}
 use Rattle.shm_graph.specs.declared.memo.Kind.TheVariants.{Client, Recoverer}
-use Rattle.shm_graph.specs.declared.memo.Memo.{Memo}
-use Rattle.shm_graph.specs.declared.memo.Status.TheVariants.{New}
 use Rattle.shm_graph.specs.declared.memo.Step.{Step}
 use Rattle.shm_graph.specs.declared.run.Account.{Account}
 use Rattle.shm_graph.specs.declared.memo.Fate.{Fate}
 use Rattle.shm_graph.specs.declared.memo.Fate.TheVariants.{Acts, Died, Ended}
 use Rattle.shm_graph.specs.Agents.{acts, acts_by, ended, is_acting, last_agent, stepped, with_last}
 use Rattle.shm_graph.specs.Changes.{asked_spot}
-use Rattle.shm_graph.specs.Runs.{MayBegin, account_after, account_died, account_entered, fell_by, is_dead}
-use Rattle.shm_graph.proofs.Memos.MemoSteps.{acts-died, acts-entered, agents_after, ends_agent, fell-died, last-with_last, memo_agents, with_some}
+use Rattle.shm_graph.specs.Runs.{account_after, account_died, account_entered, fell_by, is_dead}
+use Rattle.shm_graph.proofs.Memos.MemoSteps.{acts-died, agents_after, ends_agent, fell-died, last-with_last, memo_agents, with_some}
 use Rattle.shm_plain.specs.Tracks.{kind_next}
-use Rattle.shm_work.specs.Working.{MayWork, ready_account}
-use Rattle.shm_pool.specs.Posts.{Knows, account_seen, has_begun}
+use Rattle.shm_work.specs.Working.{ready_account}
+use Rattle.shm_pool.specs.Posts.{Knows, account_seen}
 
 -- ---- what begins
 

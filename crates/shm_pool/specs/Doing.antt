@@ -14,15 +14,16 @@ use Rattle.shm_pool.specs.Calls.{Calls, IsBetween, Tells, pairs, shown}
 use Rattle.shm_pool.specs.Replies.{IfReply, IsLost, is_reply}
 use Rattle.shm_pool.specs.Tokens.{Acting}
 
-module _ {M A : Type 0} (k : Control M A) (does : M → ℕ → Event) (leaves : M → Memo → Memo → Trail → List Event → A → Type 0) (ends : M → A → Type 0) where
-  -- what is left of the account e, which is e' then, by what was asked and by its events
-  abbrev pub LeftOf : M → Account → Account → A → Type 0
-  LeftOf m e e' a = leaves m e.memo e'.memo e'.memo.call (happens_along k does m e'.memo.call) a
-
+module _ {M A : Type 0} (k : Control M A) (does : M → ℕ → Event) where
   -- m asked for these steps of the account e, and tells their events
   pub record AreTold (m : M) (e : Account) (ts : List Step) : Type 0 where
     pub steps : ts ≡ machine_steps k m (pairs ts)
     pub events : events_of e.memo ts ≡ tells_along k does m (pairs ts)
+
+module _ {M A : Type 0} (k : Control M A) (does : M → ℕ → Event) (leaves : M → Memo → Memo → Trail → List Event → A → Type 0) (ends : M → A → Type 0) where
+  -- what is left of the account e, which is e' then, by what was asked and by its events
+  abbrev pub LeftOf : M → Account → Account → A → Type 0
+  LeftOf m e e' a = leaves m e.memo e'.memo e'.memo.call (happens_along k does m e'.memo.call) a
 
   -- What the client c became by a call of the operation m that had `before` word steps left, of which `left` are left, and gave o. It is the same identity, in a state that holds. It is dead exactly where no answer came; then no life was left, or it was dead before, and nothing changed. What it made were steps of m, with the events that it tells; and where an answer came they are its call, it told its line, left what it leaves, and is between two calls again where it rests
   pub record HasDone (m : M) (c c' : Acting) (before left : ℕ) (o : Reply A) : Type 0 where
@@ -32,7 +33,7 @@ module _ {M A : Type 0} (k : Control M A) (does : M → ℕ → Event) (leaves :
     pub again : c.dead ≡ true → IsLost o × (c' ≡ c) × (left ≡ before)
     pub spent : c.dead ≡ false → IsLost o → left ≡ 0
     pub call : c.dead ≡ false → Calls (shown k m) c.account c'.account (is_reply o) before left
-    pub events : (alive : c.dead ≡ false) → AreTold m c.account ((call alive).steps ++ (call alive).last)
+    pub events : (alive : c.dead ≡ false) → AreTold k does m c.account ((call alive).steps ++ (call alive).last)
     pub asked : (alive : c.dead ≡ false) → IfReply o (λ _. c'.account.memo.call ≡ pairs ((call alive).steps ++ (call alive).last))
     pub told : IfReply o (λ _. Tells (k.line m) c.account c'.account)
     pub left_so : IfReply o (LeftOf m c.account c'.account)

@@ -1,13 +1,16 @@
 -- how the last machine of an agent came to its end: the identity is gone, or is still there
-use Rattle.std.specs.Prelude.{◌≡◌, ℕ, true, false, Result, Ok, Err}
+use Rattle.std.specs.Prelude.{◌≡◌, ℕ, true, false, List, ◌++◌, Result, Ok, Err}
 use Rattle.shm_graph.specs.declared.memo.Memo.{Memo}
 use Rattle.shm_graph.specs.declared.memo.Status.TheVariants.{Gone}
+use Rattle.shm_graph.specs.declared.memo.Step.{Step}
 use Rattle.shm_graph.specs.declared.run.Account.{Account}
 use Rattle.shm_graph.specs.Agents.{is_gone}
+use Rattle.shm_graph.specs.Asks.{Trail}
+use Rattle.shm_graph.specs.Events.{Event}
 use Rattle.shm_graph.specs.Laws.{Control}
 use Rattle.shm_graph.specs.Whole.{gives_now}
-use Rattle.shm_calls.specs.CallsControl.{calls_of}
-use Rattle.shm_calls.specs.CallsFit.{CallsGives}
+use Rattle.shm_calls.specs.CallsControl.{calls_does, calls_of}
+use Rattle.shm_calls.specs.CallsFit.{CallsFits, CallsGives}
 use Rattle.shm_count.specs.declared.answer.EraSpent.{EraSpent}
 use Rattle.shm_recover.specs.Leave.Control.{leave_parts, leaving}
 use Rattle.shm_recover.specs.Leave.{MayLeave, leave_plan}
@@ -17,7 +20,8 @@ use Rattle.shm_recover.specs.Recover.Control.{recover_parts, recovering as recov
 use Rattle.shm_recover.specs.Recover.{recover_plan}
 use Rattle.shm_pool.specs.declared.token.Cause.{Cause}
 use Rattle.shm_pool.specs.declared.token.Cause.TheVariants as cause
-use Rattle.shm_pool.specs.Calls.{Calls, Tells, shown}
+use Rattle.shm_pool.specs.Calls.{Calls, IsDriven, Tells, pairs, shown}
+use Rattle.shm_pool.specs.Doing.{AreTold}
 use Rattle.shm_pool.specs.Tokens.{Acting, Its, Token, me_of, recovering}
 
 -- what such a machine answers: it is done, or the own era left no room for a step
@@ -33,31 +37,59 @@ pub record Leaves {M : Type 0} (gives : M → Memo → Memo → Answer → Type 
   pub ok : (r' : Memo) → gives m r r' (Ok tt) → r'.status ≡ Gone
   pub err : (r' : Memo) (e : EraSpent) → gives m r r' (Err e) → is_gone r'.status ≡ false
 
-module _ {M : Type 0} (k : Control M Answer) (gives : M → Memo → Memo → Answer → Type 0) (m : M) (p : Its) (e : Account) (before left : ℕ) where
-  -- a whole call of the machine m by the agent of the account e, of which this account is left, and this was answered
+-- the same identity of the same pool
+abbrev pub IsSame : Its → Account → Token → Type 0
+IsSame p e t = (t.of ≡ p) × (t.account.who ≡ e.who)
+
+module _ {M : Type 0} (k : Control M Answer) (fits : M → Memo → Memo → Trail → Type 0) (gives : M → Memo → Memo → Answer → Type 0) (m : M) (p : Its) (e : Account) (before left : ℕ) where
+  -- a whole call of the machine m by the agent of the account e, of which this account is left, and this was answered: m asked for its steps, their events are those that it tells, and they are its call
   pub record HasAnswered (a : Answer) (e' : Account) : Type 0 where
     pub call : Calls (shown k m) e e' true before left
+    pub machine : M
+    pub driven : IsDriven k fits m machine e e' (call.steps ++ call.last)
+    pub asked : k.fresh m ≡ true → e'.memo.call ≡ pairs (call.steps ++ call.last)
     pub gave : gives m e.memo e'.memo a
     pub told : k.fresh m ≡ true → Tells (k.line m) e e'
 
-  -- the same identity of the same pool
-  abbrev pub IsSame : Token → Type 0
-  IsSame t = (t.of ≡ p) × (t.account.who ≡ e.who)
+  -- a call of it that was cut off, for no life was left; its steps and events likewise
+  pub record HasDied (e' : Account) : Type 0 where
+    pub call : Calls (shown k m) e e' false before left
+    pub machine : M
+    pub driven : IsDriven k fits m machine e e' (call.steps ++ call.last)
+    pub spent : left ≡ 0
 
   -- the machine answered Ok, and the identity is gone
   pub record HasEnded (t : Token) : Type 0 where
-    pub same : IsSame t
+    pub same : IsSame p e t
     pub gone : t.account.memo.status ≡ Gone
     pub answered : HasAnswered (Ok tt) t.account
 
   -- no life was left before the machine had answered; or it answered that the own era left no room
   abbrev pub StopsBy : Cause → Account → Type 0
-  StopsBy cause.Died e' = Calls (shown k m) e e' false before left × (left ≡ 0)
+  StopsBy cause.Died e' = HasDied e'
   StopsBy (cause.EraSpent n) e' = HasAnswered (Err (spent n)) e'
 
+  -- its steps
+  abbrev pub stopped_steps : (x : Cause) (e' : Account) → StopsBy x e' → List Step
+  stopped_steps cause.Died e' h = h.call.steps ++ h.call.last
+  stopped_steps (cause.EraSpent n) e' h = h.call.steps ++ h.call.last
+
   pub record HasStopped (x : Cause) (t : Token) : Type 0 where
-    pub same : IsSame t
+    pub same : IsSame p e t
     pub by : StopsBy x t.account
+
+-- the same, where the machine tells of a step what `does` says
+module _ {M : Type 0} (k : Control M Answer) (fits : M → Memo → Memo → Trail → Type 0) (gives : M → Memo → Memo → Answer → Type 0) (does : M → ℕ → Event) (m : M) (p : Its) (e : Account) (before left : ℕ) where
+  pub record EndIsTold (t : Token) : Type 0 where
+    pub same : IsSame p e t
+    pub gone : t.account.memo.status ≡ Gone
+    pub answered : HasAnswered k fits gives m p e before left (Ok tt) t.account
+    pub events : AreTold k does m e (answered.call.steps ++ answered.call.last)
+
+  pub record StopIsTold (x : Cause) (t : Token) : Type 0 where
+    pub same : IsSame p e t
+    pub by : StopsBy k fits gives m p e before left x t.account
+    pub events : AreTold k does m e (stopped_steps k fits gives m p e before left x t.account by)
 
 -- ---- leaving
 
@@ -65,13 +97,13 @@ module _ {M : Type 0} (k : Control M Answer) (gives : M → Memo → Memo → An
 abbrev pub ClientMayLeave : Its → Account → Type 0
 ClientMayLeave p e = MayLeave (me_of p e) e.memo × (e.memo.over ≡ true)
 
--- what a leaving gave
+-- what a leaving gave, and that its steps' events are those that it tells
 abbrev pub HasLeft : Its → Account → ℕ → ℕ → Token → Type 0
-HasLeft p e = HasEnded leave (gives_now (CallsGives leave_parts leave_plan)) (calls_of leave_plan (leaving (me_of p e))) p e
+HasLeft p e = EndIsTold leave (CallsFits leave_parts leave_plan) (gives_now (CallsGives leave_parts leave_plan)) (calls_does leave_parts leave_plan) (calls_of leave_plan (leaving (me_of p e))) p e
 
 -- and what stopped it
 abbrev pub HasNotLeft : Its → Account → ℕ → ℕ → Cause → Token → Type 0
-HasNotLeft p e = HasStopped leave (gives_now (CallsGives leave_parts leave_plan)) (calls_of leave_plan (leaving (me_of p e))) p e
+HasNotLeft p e = StopIsTold leave (CallsFits leave_parts leave_plan) (gives_now (CallsGives leave_parts leave_plan)) (calls_does leave_parts leave_plan) (calls_of leave_plan (leaving (me_of p e))) p e
 
 -- the corpse of a client that took no step any more
 abbrev pub fallen_of : Acting → Token
@@ -79,10 +111,10 @@ fallen_of t = record { of = t.of; account = t.account }
 
 -- ---- recovering
 
--- what a recovery gave
+-- what a recovery gave, and that its steps' events are those that it tells
 abbrev pub HasRecovered : Its → Account → ℕ → ℕ → Token → Type 0
-HasRecovered p e = HasEnded recover (gives_now (CallsGives recover_parts recover_plan)) (calls_of recover_plan (recovery (me_of p e))) p (recovering e)
+HasRecovered p e = EndIsTold recover (CallsFits recover_parts recover_plan) (gives_now (CallsGives recover_parts recover_plan)) (calls_does recover_parts recover_plan) (calls_of recover_plan (recovery (me_of p e))) p (recovering e)
 
 -- and what stopped it
 abbrev pub HasNotRecovered : Its → Account → ℕ → ℕ → Cause → Token → Type 0
-HasNotRecovered p e = HasStopped recover (gives_now (CallsGives recover_parts recover_plan)) (calls_of recover_plan (recovery (me_of p e))) p (recovering e)
+HasNotRecovered p e = StopIsTold recover (CallsFits recover_parts recover_plan) (gives_now (CallsGives recover_parts recover_plan)) (calls_does recover_parts recover_plan) (calls_of recover_plan (recovery (me_of p e))) p (recovering e)

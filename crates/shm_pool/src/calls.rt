@@ -47,10 +47,10 @@ use shm_alloc::{Alloc, AllocFault, TooLarge};
 use shm_calls::{Calls, Task};
 use shm_count::{EraSpent, Made};
 use shm_graph::{Life, Me};
-use shm_queue::{Draining, PeekFault, Receiving, SendFault, Sending};
+use shm_queue::{Drain, PeekFault, Receive, Send, SendFault};
 use shm_ref::{
-    Busy, Dropping, FindingHome, Holding, HomeFault, Homing, LookFault, Looking, Naming,
-    NoSuchWord, NotHeld, Reading, Releasing, SetFault, Setting, ShareFault, Sharing,
+    Busy, DropRoot, Hold, HomeFault, HomeOf, Look, LookFault, NoSuchWord, NotHeld, Read, Release,
+    RootOf, SetFault, SetHome, SetRef, Share, ShareFault,
 };
 
 impl Client {
@@ -122,7 +122,7 @@ impl Client {
         let Some(me) = self.alive() else {
             return Reply::Died;
         };
-        self.run_plan(pool, life, Holding::new(me, author))
+        self.run_plan(pool, life, Hold::new(me, author))
     }
 
     /// Gives the latch back that the client holds. What it alone had in reach by looks is out of reach then.
@@ -135,7 +135,7 @@ impl Client {
         let Some(me) = self.alive() else {
             return Reply::Died;
         };
-        self.run_plan(pool, life, Releasing::new(me))
+        self.run_plan(pool, life, Release::new(me))
     }
 
     /// The block that the home of `author` names, a client of the pool, and 0 where it names none; `NotHeld` where the client doesn't hold the
@@ -154,7 +154,7 @@ impl Client {
         let Some(me) = self.alive() else {
             return Reply::Died;
         };
-        self.run_plan(pool, life, FindingHome::new(me, author))
+        self.run_plan(pool, life, HomeOf::new(me, author))
     }
 
     /// The block that reference word `k` of `block` names, which is in reach, and 0 where it names none; `NoSuchRef` where the block has no such
@@ -174,7 +174,7 @@ impl Client {
         let Some(me) = self.alive() else {
             return Reply::Died;
         };
-        self.run_plan(pool, life, Looking::new(me, block, k))
+        self.run_plan(pool, life, Look::new(me, block, k))
     }
 
     /// Plain word `k` of `block`, which is in reach; `NoSuchWord` where the block has no such word.
@@ -193,7 +193,7 @@ impl Client {
         let Some(me) = self.alive() else {
             return Reply::Died;
         };
-        self.run_plan(pool, life, Reading::new(me, block, k))
+        self.run_plan(pool, life, Read::new(me, block, k))
     }
 
     /// The block that root `k` names, 0 to 15, and 0 where it names none.
@@ -206,7 +206,7 @@ impl Client {
         let Some(me) = self.alive() else {
             return Reply::Died;
         };
-        self.run_plan(pool, life, Naming::new(me, k))
+        self.run_plan(pool, life, RootOf::new(me, k))
     }
 
     /// Makes the least empty root name `block`, which is in reach, and answers that root; `EraSpent`, `RootsFull` where all 16 roots name blocks,
@@ -225,7 +225,7 @@ impl Client {
         let Some(me) = self.alive() else {
             return Reply::Died;
         };
-        self.run_plan(pool, life, Sharing::new(me, block))
+        self.run_plan(pool, life, Share::new(me, block))
     }
 
     /// Makes reference word `k` of `block` name the block `to`, or none where that is 0; both are in reach, and the pool is one for single calls.
@@ -249,7 +249,7 @@ impl Client {
         let Some(me) = self.alive() else {
             return Reply::Died;
         };
-        self.run_plan(pool, life, Setting::new(me, block, k, to))
+        self.run_plan(pool, life, SetRef::new(me, block, k, to))
     }
 
     /// Makes the home of the client name `block`, which is in reach, where it names none; `HomeSet` where it names a block, `EraSpent`, and
@@ -269,7 +269,7 @@ impl Client {
         let Some(me) = self.alive() else {
             return Reply::Died;
         };
-        self.run_plan(pool, life, Homing::new(me, block))
+        self.run_plan(pool, life, SetHome::new(me, block))
     }
 
     /// Makes root `k` empty, 0 to 15, and frees what it alone named; whether it named a block. `EraSpent` where the own era leaves no room for a
@@ -288,7 +288,7 @@ impl Client {
         let Some(me) = self.alive() else {
             return Reply::Died;
         };
-        self.run_plan(pool, life, Dropping::new(me, k))
+        self.run_plan(pool, life, DropRoot::new(me, k))
     }
 
     /// Sends `block`, which is in reach and in a pool for tables a value block, to the client `to`, another one, for which no block waits that
@@ -312,7 +312,7 @@ impl Client {
         let Some(me) = self.alive() else {
             return Reply::Died;
         };
-        self.run_plan(pool, life, Sending::new(me, to, block))
+        self.run_plan(pool, life, Send::new(me, to, block))
     }
 
     /// Takes the first block that waits from the client `from`, another one, of which no item was taken without its head; it answers the root
@@ -333,7 +333,7 @@ impl Client {
         let Some(me) = self.alive() else {
             return Reply::Died;
         };
-        self.run_plan(pool, life, Receiving::new(me, from))
+        self.run_plan(pool, life, Receive::new(me, from))
     }
 
     /// Takes all that waits for the client, and frees what nothing else names; how many blocks that were. `EraSpent` where the own era leaves no
@@ -347,6 +347,6 @@ impl Client {
         let Some(me) = self.alive() else {
             return Reply::Died;
         };
-        self.run_plan(pool, life, Draining::new(me))
+        self.run_plan(pool, life, Drain::new(me))
     }
 }

@@ -15,7 +15,7 @@ use crate::token::{Cause, Client, Corpse, Stopped, Vacant};
 use shm_calls::Calls;
 use shm_count::EraSpent;
 use shm_graph::{Life, Machine, Start};
-use shm_recover::Leaving;
+use shm_recover::Leave;
 
 /// The corpse of an agent that was stopped; `begun` says whether one had begun.
 pub(crate) fn stop(place: Place, start: Start, who: u8, begun: bool, cause: Cause) -> Stopped
@@ -47,8 +47,8 @@ pub(crate) fn end_by<M: Machine<Answer = Result<(), EraSpent>>>(
     requires machine { (M.control.me m.old ≡ me_of pool.now (alone place)) × (M.control.finished m.old ≡ false) }
     requires fits { fits_now M.control M.fits m.old (alone place).memo (alone place).memo }
     requires leaves { Leaves (gives_now M.gives) m.old (alone place).memo }
-    ensures ended { IfOk result (HasEnded M.control (gives_now M.gives) m.old pool.now (alone place) life.old.left life.new.left) }
-    ensures stopped { IfErr result (λ s. HasStopped M.control (gives_now M.gives) m.old pool.now (alone place) life.old.left life.new.left s.cause s.corpse) }
+    ensures ended { IfOk result (HasEnded M.control M.fits (gives_now M.gives) m.old pool.now (alone place) life.old.left life.new.left) }
+    ensures stopped { IfErr result (λ s. HasStopped M.control M.fits (gives_now M.gives) m.old pool.now (alone place) life.old.left life.new.left s.cause s.corpse) }
 {
     match run_place(pool.top(), &mut place, m, life) {
         Some(Ok(())) => Ok(Vacant { place, start, who }),
@@ -75,8 +75,8 @@ impl Client {
         requires machine { self.dead ≡ false → IsFor self.of self.account M.control m.old }
         requires fits { self.dead ≡ false → fits_now M.control M.fits m.old self.account.memo self.account.memo }
         requires leaves { self.dead ≡ false → Leaves (gives_now M.gives) m.old self.account.memo }
-        ensures ended { IfOk result (HasEnded M.control (gives_now M.gives) m.old self.of self.account life.old.left life.new.left) }
-        ensures stopped { self.dead ≡ false → IfErr result (λ s. HasStopped M.control (gives_now M.gives) m.old self.of self.account life.old.left life.new.left s.cause s.corpse) }
+        ensures ended { IfOk result (HasEnded M.control M.fits (gives_now M.gives) m.old self.of self.account life.old.left life.new.left) }
+        ensures stopped { self.dead ≡ false → IfErr result (λ s. HasStopped M.control M.fits (gives_now M.gives) m.old self.of self.account life.old.left life.new.left s.cause s.corpse) }
         ensures again { self.dead ≡ true → (is_err result ≡ true) × IfErr result (λ s. (s.cause ≡ cause.Died) × (s.corpse ≡ fallen_of self) × (m.new ≡ m.old) × (life.new ≡ life.old)) }
     {
         let Client {
@@ -106,7 +106,7 @@ impl Client {
         ensures stopped { self.dead ≡ false → IfErr result (λ s. HasNotLeft self.of self.account life.old.left life.new.left s.cause s.corpse) }
         ensures again { self.dead ≡ true → (is_err result ≡ true) × IfErr result (λ s. (s.cause ≡ cause.Died) × (s.corpse ≡ fallen_of self) × (life.new ≡ life.old)) }
     {
-        let mut leave = Calls::new(Leaving::new(self.me()));
+        let mut leave = Calls::new(Leave::new(self.me()));
         self.leave_by(pool, &mut leave, life)
     }
 

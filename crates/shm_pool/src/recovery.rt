@@ -18,7 +18,7 @@ use crate::token::{Cause, Corpse, Stopped, Vacant};
 use shm_calls::Calls;
 use shm_count::EraSpent;
 use shm_graph::{Life, Machine, Me};
-use shm_recover::Recovering;
+use shm_recover::Recover;
 
 // An agent that has fallen is dead before the next one begins; where a join began none, a client begins and dies without a step.
 pub(crate) fn note_change(top: &Top, place: &mut Place, begun: bool)
@@ -77,8 +77,8 @@ impl Corpse {
         requires machine { (M.control.me m.old ≡ me_of self.of self.account) × (M.control.finished m.old ≡ false) }
         requires fits { fits_now M.control M.fits m.old (recovering self.account).memo (recovering self.account).memo }
         requires leaves { Leaves (gives_now M.gives) m.old (recovering self.account).memo }
-        ensures ended { IfOk result (HasEnded M.control (gives_now M.gives) m.old self.of (recovering self.account) life.old.left life.new.left) }
-        ensures stopped { 0 < life.old.left → IfErr result (λ s. HasStopped M.control (gives_now M.gives) m.old self.of (recovering self.account) life.old.left life.new.left s.cause s.corpse) }
+        ensures ended { IfOk result (HasEnded M.control M.fits (gives_now M.gives) m.old self.of (recovering self.account) life.old.left life.new.left) }
+        ensures stopped { 0 < life.old.left → IfErr result (λ s. HasStopped M.control M.fits (gives_now M.gives) m.old self.of (recovering self.account) life.old.left life.new.left s.cause s.corpse) }
         ensures unbegun { life.old.left ≡ 0 → (is_err result ≡ true) × IfErr result (λ s. (s.cause ≡ cause.Died) × (s.corpse ≡ self) × (m.new ≡ m.old) × (life.new ≡ life.old)) }
     {
         let Corpse {
@@ -108,7 +108,7 @@ impl Corpse {
         ensures unbegun { life.old.left ≡ 0 → (is_err result ≡ true) × IfErr result (λ s. (s.cause ≡ cause.Died) × (s.corpse ≡ self) × (life.new ≡ life.old)) }
     {
         let me = Me::new(pool.geometry(), self.client());
-        let mut recover = Calls::new(Recovering::new(me));
+        let mut recover = Calls::new(Recover::new(me));
         self.recover_by(pool, &mut recover, life)
     }
 }

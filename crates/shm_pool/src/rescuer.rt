@@ -25,7 +25,7 @@ use crate::token::{Corpse, Vacant};
 use shm_calls::Calls;
 use shm_count::EraSpent;
 use shm_graph::{Life, Me, Start, Turn};
-use shm_recover::Recovering;
+use shm_recover::Recover;
 use std::marker::Model;
 
 /// An identity that is recovered one word step at a time.
@@ -38,7 +38,7 @@ pub struct Rescuer {
     fell: bool,
     /// Whether the recoverer has begun.
     begun: bool,
-    machine: Calls<Recovering>,
+    machine: Calls<Recover>,
     /// Whether it has answered Ok.
     done: bool,
 }
@@ -87,7 +87,7 @@ impl Corpse {
             begun,
         } = self;
         let me = Me::new(start.geometry, who);
-        let machine = Calls::new(Recovering::new(me));
+        let machine = Calls::new(Recover::new(me));
         Rescuer {
             place,
             start,

@@ -22,6 +22,7 @@ use crate::pool::SharedPool;
 use crate::reply::Reply;
 use crate::rule::Place;
 use crate::steps::{note_client, run_place, step_place};
+use shm_calls::Begin;
 use shm_graph::{Life, Machine, Me, Operation, Start, Turn};
 use shm_recover::Join;
 use shm_script::Answer;
@@ -245,9 +246,26 @@ impl Client {
         }
     }
 
-    /// Runs an operation of the client until it answers, or no life is left. Where it rests in its answer the client is between two calls
-    /// again; where it left the identity gone the client has left.
-    pub fn run<O: Operation + Drop>(
+    /// Runs an operation of the client, or what is made of a plan, until it answers, or no life is left. Where it rests in its answer the
+    /// client is between two calls again; where it left the identity gone the client has left.
+    pub fn run<B: Begin>(
+        &mut self,
+        pool: &SharedPool,
+        begins: B,
+        life: &mut Life,
+    ) -> Reply<<B::Op as Machine>::Answer>
+        requires pool { self.old.of ≡ pool.now }
+        requires between { self.old.dead ≡ false → IsBetween self.old.account }
+        requires me { B.Op.control.me (B.op begins) ≡ me_of self.old.of self.old.account }
+        requires may { self.old.dead ≡ false → B.Op.may (B.op begins) self.old.account.memo }
+        ensures done { HasDone B.Op.control B.Op.does B.Op.leaves B.Op.rests (B.op begins) self.old self.new life.old.left life.new.left result }
+        ensures effect { self.new.effect ≡ self.old.effect }
+    {
+        self.operate(pool, begins.begin(), life)
+    }
+
+    /// Runs an operation, before its first word step.
+    fn operate<O: Operation + Drop>(
         &mut self,
         pool: &SharedPool,
         mut operation: O,

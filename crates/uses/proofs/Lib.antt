@@ -4,3 +4,4 @@ mod Done
 mod Pairs
 mod Auditing
 mod Attempts
+mod Quiet

@@ -1,4 +1,10 @@
 -- audits of images that were just written
+use Rattle.std.specs.Prelude.{◌≡◌, ℕ, ◌^◌, ◌<◌, List, length}
+use Rattle.shm_words.specs.declared.geometry.Geometry.{Geometry}
+use Rattle.shm_words.specs.Layout.{GeometryFits, total_of}
+use Rattle.shm_graph.specs.declared.spot.Spot.{Spot}
+use Rattle.shm_graph.specs.Clean.{IsClean}
+use Rattle.shm_graph.specs.Spots.{see}
 use Rattle.shm_audit.specs.declared.stop.AuditStop.{AuditStop}
 use Rattle.shm_audit.specs.declared.stop.AuditStop.TheVariants.{Memory, Fault}
 
@@ -6,3 +12,10 @@ use Rattle.shm_audit.specs.declared.stop.AuditStop.TheVariants.{Memory, Fault}
 abbrev pub IsForMemory : AuditStop → Type 0
 IsForMemory (Memory e) = Unit {0}
 IsForMemory (Fault f) = ⊥
+
+-- the words are those of a clean pool of these sizes
+pub record AreClean (g : Geometry) (ws : List ℕ) : Type 0 where
+  pub fits : GeometryFits g
+  pub whole : length ws ≡ total_of g
+  pub small : (p : Spot) → see g ws p < 2 ^ 64
+  pub clean : IsClean g (see g ws)

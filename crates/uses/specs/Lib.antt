@@ -1,3 +1,4 @@
 pub mod Blocks
 pub mod Compare
 pub mod Images
+pub mod Sharing

@@ -18,7 +18,7 @@ use plain_calls::{allocate, joined};
 use shm_calls::{Calls, Plan, Task};
 use shm_graph::{Life, Machine, Me};
 use shm_plain::PlainPool;
-use shm_ref::{Naming, RootOf, Sharing, share_keeps};
+use shm_ref::{RootOf, Share, share_keeps};
 use shm_words::Geometry;
 use std::alloc::Global;
 use std::marker::Model;
@@ -43,12 +43,14 @@ pub struct CompareState {
 }
 
 /// The plan: two calls of `RootOf`, one after the other.
+///
+/// It answers whether both roots name the same block, or neither names one.
 #[derive(Drop)]
-pub struct Comparing {
+pub struct Compare {
     state: CompareState,
 }
 
-impl Model for Comparing {
+impl Model for Compare {
     ghost use Rattle.uses.specs.declared.machine.CompareState.{CompareState as AState};
 
     ghost Value = { AState };
@@ -60,20 +62,17 @@ impl Model for Comparing {
     ghost invariant = { λ a. CompareInRange a.state };
 }
 
-/// It answers whether both roots name the same block, or neither names one.
-pub type Compare = Calls<Comparing>;
-
-impl Comparing {
+impl Compare {
     /// Two roots of the identity `me`, before the first call.
     #[inline(always)]
-    pub fn new(me: Me, first: u8, second: u8) -> Comparing
+    pub fn new(me: Me, first: u8, second: u8) -> Compare
         requires geometry { GeometryFits me.geometry }
         requires who { me.who < me.geometry.clients }
         requires first { first < 16 }
         requires second { second < 16 }
         ensures { result ≡ comparing me first second }
     {
-        Comparing {
+        Compare {
             state: CompareState {
                 me,
                 first,
@@ -85,8 +84,8 @@ impl Comparing {
     }
 }
 
-impl Plan for Comparing {
-    type Call = RootOf;
+impl Plan for Compare {
+    type Call = Calls<RootOf>;
 
     type Answer = bool;
 
@@ -98,12 +97,12 @@ impl Plan for Comparing {
     }
 
     #[inline(always)]
-    fn call(&self) -> RootOf {
+    fn call(&self) -> Calls<RootOf> {
         let root = match self.state.point {
             ComparePoint::First => self.state.first,
             ComparePoint::Second => self.state.second,
         };
-        Calls::new(Naming::new(self.state.me, root))
+        Calls::new(RootOf::new(self.state.me, root))
     }
 
     #[inline(always)]
@@ -121,7 +120,7 @@ impl Plan for Comparing {
     ghost laws = { compare_laws };
 }
 
-impl Task for Comparing {
+impl Task for Compare {
     ghost may = { CompareMay };
 
     ghost tasks = { compare_task };
@@ -144,8 +143,8 @@ pub fn same_block(
     ensures ran { Ran who true (is_some result) pool.old pool.new life.old.left life.new.left }
     ensures events { IfSome result (λ b. Did who pool.old pool.new []) }
 {
-    let comparing = Comparing::new(pool.me(who), first, second);
-    pool.run(who, Calls::new(comparing), life)
+    let comparing = Compare::new(pool.me(who), first, second);
+    pool.run(who, comparing, life)
 }
 
 /// Has a further root of `who` name a block that a root names already.
@@ -160,7 +159,7 @@ fn share(pool: &mut PlainPool, who: u8, block: u32, life: &mut Life) -> Result<u
 {
     // for the proof: the root that a share answers is one that there is
     share_keeps();
-    let sharing = Calls::new(Sharing::new(pool.me(who), block));
+    let sharing = Share::new(pool.me(who), block);
     pool.run(who, sharing, life)
         .ok_or(Stop::Died)?
         .map_err(Stop::NotShared)

@@ -1,6 +1,6 @@
 //! Callers of the library, each with the contract that its user would want, and what comes of them by the lines of standard input.
 //!
-//! A line is a name and how many word steps there are: `memory STEPS`, `table STEPS`, `machine STEPS`. Lines that begin with `#` are printed
+//! A line is a name and how many word steps there are: `memory STEPS`, `table STEPS`, `machine STEPS`, `threads STEPS`. Lines that begin with `#` are printed
 //! again. docs/CALLING.md reads the callers aloud.
 #![tactic(auto)]
 
@@ -9,8 +9,9 @@ mod machine;
 mod memory;
 mod stop;
 mod table;
+mod threads;
 
-use image::judged;
+use image::{judged, judged_shared};
 use machine::shared_root;
 use memory::closed_pair;
 use shm_audit::verdict_text;
@@ -18,8 +19,10 @@ use shm_graph::Life;
 use shm_script::Answer;
 use shm_words::Geometry;
 use std::process::ExitCode;
+use std::thread::Threads;
 use std::{io, str};
 use table::{put_copy_die, two_clients};
+use threads::shared_while_one_dies;
 
 /// What a line is answered by that asks for nothing that is there.
 fn refusal() -> io::Error {
@@ -72,8 +75,25 @@ fn tell_machine(rt: &HostRuntime, steps: u64) -> io::Result<()> {
     }
 }
 
+/// `threads STEPS`: a block that two clients share on two threads, one of which dies after so many word steps at most; the word that the other one
+/// read, and the verdict on the image of the closed pool.
+fn tell_threads<R: Threads + Sync>(rt: &HostRuntime, threads: &R, steps: u64) -> io::Result<()> {
+    let geometry = Geometry::new(2, 1).map_err(|_| refusal())?;
+    match shared_while_one_dies(threads, rt.alloc(), geometry, steps)? {
+        Some((word, closed)) => {
+            let verdict = judged_shared(rt.alloc(), &closed).map_err(|_| refusal())?;
+            let text = verdict_text(rt.alloc(), &verdict)?;
+            print!(rt;
+                "read {word} {}",
+                str::from_utf8(text.as_slice()).map_err(|_| refusal())?
+            )
+        }
+        None => println!(rt; "not shared"),
+    }
+}
+
 /// Does what a line asks for.
-fn answer(rt: &HostRuntime, line: &str) -> io::Result<()> {
+fn answer<R: Threads + Sync>(rt: &HostRuntime, threads: &R, line: &str) -> io::Result<()> {
     let (name, rest) = line.split_once(' ').unwrap_or((line, ""));
     if name == "#" {
         return println!(rt; "{line}");
@@ -83,20 +103,21 @@ fn answer(rt: &HostRuntime, line: &str) -> io::Result<()> {
         "memory" => tell_memory(rt, steps),
         "table" => tell_table(rt, steps),
         "machine" => tell_machine(rt, steps),
+        "threads" => tell_threads(rt, threads, steps),
         _ => Err(refusal()),
     }
 }
 
 /// Does what all lines ask for.
-fn answer_all(rt: &HostRuntime) -> io::Result<()> {
+fn answer_all<R: Threads + Sync>(rt: &HostRuntime, threads: &R) -> io::Result<()> {
     for line in rt.lines(rt.alloc()) {
-        answer(rt, line?.as_str())?;
+        answer(rt, threads, line?.as_str())?;
     }
     Ok(())
 }
 
 fn main(rt: HostRuntime) -> ExitCode {
-    match answer_all(&rt) {
+    match answer_all(&rt, &rt) {
         Ok(()) => ExitCode::SUCCESS,
         Err(_) => ExitCode::FAILURE,
     }

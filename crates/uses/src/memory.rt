@@ -10,13 +10,12 @@ ghost use Rattle.uses.specs.Blocks.{AreRooted, AreSameRoots, HasRun, IsFree, IsH
 
 use crate::stop::Stop;
 use plain_calls::{allocate, joined};
-use shm_calls::Calls;
 use shm_count::Made;
 use shm_graph::Life;
 use shm_plain::{PlainClosed, PlainPool};
-use shm_recover::Leaving;
+use shm_recover::Leave;
 use shm_ref::{
-    Dropping, Holding, Homing, Releasing, Setting, drop_root_keeps, hold_keeps, release_keeps,
+    DropRoot, Hold, Release, SetHome, SetRef, drop_root_keeps, hold_keeps, release_keeps,
     set_home_keeps, set_ref_keeps,
 };
 use shm_words::Geometry;
@@ -59,7 +58,7 @@ fn take_latch(pool: &mut PlainPool, who: u8, life: &mut Life) -> Result<(), Stop
 {
     // for the proof: what a hold keeps
     hold_keeps();
-    let holding = Calls::new(Holding::new(pool.me(who), who));
+    let holding = Hold::new(pool.me(who), who);
     pool.run(who, holding, life)
         .ok_or(Stop::Died)?
         .map_err(Stop::Busy)
@@ -77,7 +76,7 @@ fn set_ref(pool: &mut PlainPool, who: u8, pair: Pair, life: &mut Life) -> Result
     // for the proof: what the setting of a reference keeps
     set_ref_keeps();
     let (parent, child) = (pair.parent.block, pair.child.block);
-    let setting = Calls::new(Setting::new(pool.me(who), parent, 0, child));
+    let setting = SetRef::new(pool.me(who), parent, 0, child);
     pool.run(who, setting, life)
         .ok_or(Stop::Died)?
         .map_err(Stop::NotSet)
@@ -96,7 +95,7 @@ fn drop_root(pool: &mut PlainPool, who: u8, pair: Pair, life: &mut Life) -> Resu
 {
     // for the proof: what the drop of a root keeps
     drop_root_keeps();
-    let dropping = Calls::new(Dropping::new(pool.me(who), pair.child.root));
+    let dropping = DropRoot::new(pool.me(who), pair.child.root);
     pool.run(who, dropping, life)
         .ok_or(Stop::Died)?
         .map_err(Stop::Spent)?;
@@ -114,7 +113,7 @@ fn give_back(pool: &mut PlainPool, who: u8, pair: Pair, life: &mut Life) -> Resu
 {
     // for the proof: what a release keeps
     release_keeps();
-    let releasing = Calls::new(Releasing::new(pool.me(who)));
+    let releasing = Release::new(pool.me(who));
     pool.run(who, releasing, life).ok_or(Stop::Died)
 }
 
@@ -145,7 +144,7 @@ fn set_home(pool: &mut PlainPool, who: u8, pair: Pair, life: &mut Life) -> Resul
 {
     // for the proof: what the setting of a home keeps
     set_home_keeps();
-    let homing = Calls::new(Homing::new(pool.me(who), pair.parent.block));
+    let homing = SetHome::new(pool.me(who), pair.parent.block);
     pool.run(who, homing, life)
         .ok_or(Stop::Died)?
         .map_err(Stop::NoHome)
@@ -158,7 +157,7 @@ fn leave(pool: &mut PlainPool, who: u8, life: &mut Life) -> Result<(), Stop>
     ensures ran { HasRun who pool.old pool.new }
     ensures died { IfErr result (λ e. e ≡ stop.Died → life.new.left ≡ 0) }
 {
-    let leaving = Calls::new(Leaving::new(pool.me(who)));
+    let leaving = Leave::new(pool.me(who));
     pool.run(who, leaving, life)
         .ok_or(Stop::Died)?
         .map_err(Stop::Spent)

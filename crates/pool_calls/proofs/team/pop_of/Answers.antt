@@ -3,7 +3,7 @@ use Rattle.std.specs.Prelude.{IfSome}
 use Rattle.std.specs.Option.{option_to_list}
 use Rattle.shm_pool.specs.Tokens.{Token, token_first}
 use Rattle.pool_calls.specs.Clients.{AllFirst}
-use Rattle.pool_calls.proofs.FirstTokens.{all_of, first_front, of_first, popped, roots_first}
+use Rattle.pool_calls.proofs.FirstTokens.{all_of, first_front, of_first, popped}
 use Rattle.pool_calls.proofs.team.pop_of.Goals.{After-pop}
 use Rattle.pool_calls.proofs.team.pop_of.Goals as goal
 
@@ -16,8 +16,8 @@ returns-clause-rest c = first_front c.args.pool.now c.pop.new.self.items (option
 pub returns-clause-of : goal.returns-clause-of
 returns-clause-of c = of_first c.args.pool.now c.pop.result (one (goal.at.returns-clause-of c).After-pop)
 
-pub returns-clause-roots : goal.returns-clause-roots
-returns-clause-roots c = roots_first c.args.pool.now c.pop.result (one (goal.at.returns-clause-roots c).After-pop)
-
 pub returns-clause-tokens : goal.returns-clause-tokens
 returns-clause-tokens c = all_of c.args.pool.now c.pop.new.self.items (first_front c.args.pool.now c.pop.new.self.items (option_to_list c.pop.result) (subst (AllFirst c.args.pool.now) c.pop.ensures.items c.requires))
+
+pub returns-clause-first : goal.returns-clause-first
+returns-clause-first c = one (goal.at.returns-clause-first c).After-pop

@@ -1,4 +1,4 @@
-use Rattle.std.proofs.Common.{◌≡◌, false, ap, sym, ◌∙◌, subst, inr}
+use Rattle.std.proofs.Common.{◌≡◌, false, refl, ap, sym, ◌∙◌, subst, inr}
 use Rattle.std.specs.Prelude.{Ok}
 use Rattle.atomic_table.specs.Seated.{TableId}
 use Rattle.shm_graph.specs.declared.memo.Memo.{Memo}
@@ -8,10 +8,12 @@ use Rattle.shm_graph.specs.Agents.{acts}
 use Rattle.shm_graph.specs.Runs.{Stood}
 use Rattle.shm_graph.specs.Whole.{gives_now}
 use Rattle.shm_pool.specs.declared.token.Cause.{Cause}
+use Rattle.shm_pool.specs.declared.reply.Reply.TheVariants.{Done}
 use Rattle.shm_pool.specs.Rules.{alone}
 use Rattle.shm_pool.specs.Tokens.{Its, Token, its, token_of}
 use Rattle.shm_pool.specs.Endings.{Answer, HasStopped}
 use Rattle.shm_pool.proofs.Calling.{acts_leave}
+use Rattle.shm_pool.proofs.Driving.{asked}
 use Rattle.shm_pool.proofs.Seating.{seated_on}
 use Rattle.shm_pool.proofs.ending.end_by.Given.{Over}
 use Rattle.shm_pool.proofs.ending.end_by.Goals.{In-Some-Ok}
@@ -39,21 +41,43 @@ returns-in-Some-Ok-clause-ended g c =
     record {
       same = (ap (λ (z : TableId). its z c.args.start) e.place.0 ∙ c.requires.pool, e.who);
       gone = left_gone g c;
-      answered = record { call = e.call.call; gave = gave_ok g c; told = e.told };
+      answered = record {
+        call = e.call.call;
+        machine = c.run_place.new.m;
+        driven = e.call.driven;
+        asked = λ first. asked g.M.Machine.control g.M.Machine.fits c.args.m.now c.run_place.new.m (alone c.args.place) (alone c.run_place.new.place) c.args.life.now.left c.run_place.new.life.left (Done (Ok tt)) first e.call;
+        gave = gave_ok g c;
+        told = e.told;
+      };
     }
 
 pub returns-in-Some-Err-clause-stopped : goal.returns-in-Some-Err-clause-stopped
 returns-in-Some-Err-clause-stopped g c =
     let M = g.M.Machine in
     let e = c.in-Some-Err.ensures in
-    let stopped : Cause → Token → Type 0 = HasStopped M.control (gives_now M.gives) c.args.m.now c.args.pool.now (alone c.args.place) c.args.life.now.left c.run_place.new.life.left in
+    let stopped : Cause → Token → Type 0 = HasStopped M.control M.fits (gives_now M.gives) c.args.m.now c.args.pool.now (alone c.args.place) c.args.life.now.left c.run_place.new.life.left in
     subst (λ (t : Token). stopped c.stop.result.cause t) (sym c.stop.ensures.0)
     (subst (λ (x : Cause). stopped x (token_of c.args.start c.run_place.new.place)) (sym c.stop.ensures.1)
     (record {
       same = (ap (λ (z : TableId). its z c.args.start) e.place.0 ∙ c.requires.pool, e.who);
       by = record {
         call = e.call.call;
+        machine = c.run_place.new.m;
+        driven = e.call.driven;
+        asked = λ first. asked M.control M.fits c.args.m.now c.run_place.new.m (alone c.args.place) (alone c.run_place.new.place) c.args.life.now.left c.run_place.new.life.left (Done (Ok tt)) first e.call;
         gave = subst (λ (a : Answer). gives_now M.gives c.args.m.now (alone c.args.place).memo (alone c.run_place.new.place).memo a) c.in-Some-Err.field-0-is e.gives;
         told = e.told;
       };
+    }))
+
+pub returns-in-None-clause-stopped : goal.returns-in-None-clause-stopped
+returns-in-None-clause-stopped g c =
+    let M = g.M.Machine in
+    let e = c.in-None.ensures in
+    let stopped : Cause → Token → Type 0 = HasStopped M.control M.fits (gives_now M.gives) c.args.m.now c.args.pool.now (alone c.args.place) c.args.life.now.left c.run_place.new.life.left in
+    subst (λ (t : Token). stopped c.stop-in-None.result.cause t) (sym c.stop-in-None.ensures.0)
+    (subst (λ (x : Cause). stopped x (token_of c.args.start c.run_place.new.place)) (sym c.stop-in-None.ensures.1)
+    (record {
+      same = (ap (λ (z : TableId). its z c.args.start) e.place.0 ∙ c.requires.pool, e.who);
+      by = record { call = e.call.call; machine = c.run_place.new.m; driven = e.call.driven; spent = e.spent refl };
     }))

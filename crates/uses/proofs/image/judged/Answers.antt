@@ -1,43 +1,12 @@
-use Rattle.std.proofs.Common.{◌≡◌, ℕ, ◌^◌, ◌<◌, ap, ◌∙◌, rules, Ok}
-use Rattle.std.specs.Prelude.{slice_index}
-use Rattle.std.proofs.lemmas.Result.{IfErr-weaker, IfOk-weaker}
+use Rattle.std.proofs.Common.{ℕ, sym, subst, List}
 use Rattle.shm_words.specs.declared.geometry.Geometry.{Geometry}
-use Rattle.shm_audit.specs.Images.{image_of}
-use Rattle.uses.proofs.Auditing.{image_clean, image_stops, words_small}
-use Rattle.uses.proofs.image.judged.Goals.{After-audit}
+use Rattle.uses.specs.Images.{AreClean}
 use Rattle.uses.proofs.image.judged.Goals as goal
 
--- the bytes that are audited are the image of the pool
-written : (c : After-audit) → c.as_slice.result.now ≡ image_of c.args.closed.now.start.geometry c.args.closed.now.words
-written c =
-    let e : c.write_image.result ≡ Ok c.in_ok-image.image = search rules in
-    c.as_slice.ensures.value
-    ∙ ((rw e at c.write_image.ensures)
-    ∙ (ap (λ (g : Geometry). image_of g c.words-words.result.now) c.geometry-geometry.ensures.is
-    ∙ ap (image_of c.args.closed.now.start.geometry) c.words-words.ensures.is))
-
-pub returns-clause-clean : goal.returns-clause-clean
-returns-clause-clean c =
-    let at = (goal.at.returns-clause-clean c).After-audit in
-    let g = c.args.closed.now.start.geometry in
-    let ws = c.args.closed.now.words in
+pub judged_words-requires : goal.judged_words-requires
+judged_words-requires c =
     let end = c.words-words.ensures.end in
-    let small : (i : ℕ) → slice_index ws i < 2 ^ 64 = words_small g ws end.run.held.words end.run.held.at.small in
-    IfOk-weaker c.audit.result _ _ (λ v h. image_clean g ws c.as_slice.result.now (written at) end.clean
-    (c.image_reads_back.ensures.frame g ws end.run.held.at.fits end.run.held.words small)
-    (c.image_reads_back.ensures.sizes g ws end.run.held.at.fits small)
-    (c.image_reads_back.ensures.words g ws end.run.held.at.fits small)
-    (c.clean_where_verdict_is.ensures g ws end.run.held.at.fits) v h.1) c.audit.ensures.ok
-
-pub returns-clause-memory : goal.returns-clause-memory
-returns-clause-memory c =
-    let at = (goal.at.returns-clause-memory c).After-audit in
-    let g = c.args.closed.now.start.geometry in
-    let ws = c.args.closed.now.words in
-    let end = c.words-words.ensures.end in
-    let small : (i : ℕ) → slice_index ws i < 2 ^ 64 = words_small g ws end.run.held.words end.run.held.at.small in
-    IfErr-weaker c.audit.result _ _ (λ e h. image_stops g ws c.as_slice.result.now (written at) end.clean
-    (c.image_reads_back.ensures.frame g ws end.run.held.at.fits end.run.held.words small)
-    (c.image_reads_back.ensures.sizes g ws end.run.held.at.fits small)
-    (c.image_reads_back.ensures.words g ws end.run.held.at.fits small)
-    (c.clean_where_verdict_is.ensures g ws end.run.held.at.fits) e h) c.audit.ensures.err
+    let h = end.run.held in
+    subst (λ (g : Geometry). AreClean g c.words-words.result.now) (sym c.geometry-geometry.ensures.is)
+    (subst (λ (ws : List ℕ). AreClean c.args.closed.now.start.geometry ws) (sym c.words-words.ensures.is)
+    (record { fits = h.at.fits; whole = h.words; small = h.at.small; clean = end.clean }))

@@ -15,7 +15,7 @@ use Rattle.uses.proofs.machine.same_block.Goals as goal
 
 pub run-requires-clause-may : goal.run-requires-clause-may
 run-requires-clause-may c =
-    plan_may compare_plan (λ (x : Me). comparing x c.args.first c.args.second) (member c.args.pool.now.start.geometry c.args.who) _ _ _ c.me.ensures.is c.new-comparing.ensures c.new.ensures
+    plan_may compare_plan (λ (x : Me). comparing x c.args.first c.args.second) (member c.args.pool.now.start.geometry c.args.who) _ _ _ c.me.ensures.is c.new-comparing.ensures refl
     CompareMay (memo_of c.args.pool.now c.args.who) (refl, c.requires.first, c.requires.second)
 
 -- the plan as it was made
@@ -28,7 +28,7 @@ Left c = PlanLeft compare_plan (plan c) c.args.who c.args.pool.now c.run.new.sel
 
 left : (c : After-run) → IfSome c.run.result (Left c)
 left c =
-    (plan_said compare_plan (λ (x : Me). comparing x c.args.first c.args.second) (member c.args.pool.now.start.geometry c.args.who) _ _ _ c.me.ensures.is c.new-comparing.ensures c.new.ensures
+    (plan_said compare_plan (λ (x : Me). comparing x c.args.first c.args.second) (member c.args.pool.now.start.geometry c.args.who) _ _ _ c.me.ensures.is c.new-comparing.ensures refl
     root_of c.args.who c.args.pool.now c.run.new.self _ _ c.run.result c.run.ensures.ran c.run.ensures.at_work c.run.ensures.leaves).left
 
 pub returns-clause-is : goal.returns-clause-is

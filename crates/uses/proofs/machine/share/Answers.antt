@@ -9,12 +9,12 @@ use Rattle.plain_calls.proofs.Reaching.{reached_small}
 use Rattle.plain_calls.proofs.Running.{plan_may}
 use Rattle.uses.proofs.machine.share.Goals as goal
 
-pub new-requires-clause-block : goal.new-requires-clause-block
-new-requires-clause-block c = reached_small c.args.pool.now c.args.who c.requires.at_work c.me.ensures.run c.args.block c.requires.reached
+pub new-sharing-requires-clause-block : goal.new-sharing-requires-clause-block
+new-sharing-requires-clause-block c = reached_small c.args.pool.now c.args.who c.requires.at_work c.me.ensures.run c.args.block c.requires.reached
 
 pub run-requires-clause-may : goal.run-requires-clause-may
 run-requires-clause-may c =
     let p = c.args.pool.now in
     let who = c.args.who in
-    plan_may rooting_plan (λ (x : Me). rooting x c.args.block) (member p.start.geometry who) _ _ _ c.me.ensures.is c.new.ensures c.new-sharing.ensures
+    plan_may rooting_plan (λ (x : Me). rooting x c.args.block) (member p.start.geometry who) _ _ _ c.me.ensures.is c.new-sharing.ensures refl
     ShareMay (memo_of p who) (refl, c.requires.client, c.requires.reached)

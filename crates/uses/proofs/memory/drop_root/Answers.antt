@@ -23,7 +23,7 @@ returns-clause-holds c =
     let m = memo_of p who in
     let n = memo_of q who in
     let j = c.args.pair.child.root in
-    let z = plan_done drop_plan (λ (x : Me). dropping x j) me _ _ _ c.me.ensures.is c.new.ensures c.new-dropping.ensures drop_parts who p q c.run.result (Ok a) e c.run.ensures.leaves in
+    let z = plan_done drop_plan (λ (x : Me). dropping x j) me _ _ _ c.me.ensures.is c.new-dropping.ensures refl drop_parts who p q c.run.result (Ok a) e c.run.ensures.leaves in
     let queues = c.drop_root_keeps.ensures.left me j m n n.call z.0 (Ok a) z.2 in
     let rests = queues_rests m n queues (c.drop_root_keeps.ensures.dying me j m n n.call z.0 (Ok a) z.2) in
     holds_still who p q c.requires.holds ((rw e at c.run.ensures.at_work) tt) c.run.ensures.ran.run (still_kind who true p q _ _ c.requires.holds.work.acts (rw e at c.run.ensures.ran)) rests queues.latch
@@ -42,7 +42,7 @@ returns-clause-refers c =
     let k = c.args.pair.parent.root in
     let b = c.args.pair.parent.block in
     let x = c.requires.refers in
-    let z = plan_done drop_plan (λ (y : Me). dropping y j) me _ _ _ c.me.ensures.is c.new.ensures c.new-dropping.ensures drop_parts who p q c.run.result (Ok a) e c.run.ensures.leaves in
+    let z = plan_done drop_plan (λ (y : Me). dropping y j) me _ _ _ c.me.ensures.is c.new-dropping.ensures refl drop_parts who p q c.run.result (Ok a) e c.run.ensures.leaves in
     let root : root_word who n k ≡ b = c.drop_root_keeps.ensures.roots me j m n n.call z.0 (Ok a) z.2 k c.requires.apart ∙ x.parent in
     let named = root_named who n k b ((rw e at c.run.ensures.at_work) tt).idle.op x.low x.some root in
     record { low = x.low; some = x.some; parent = root; reference = z.2.remains.words b (Body b 0) c.args.pair.child.block named (eq-eqb b b refl) x.reference }

@@ -1,4 +1,4 @@
-use Rattle.std.proofs.Common.{true, ◌∙◌}
+use Rattle.std.proofs.Common.{true, ◌∙◌, refl}
 use Rattle.shm_plain.specs.Pools.{memo_of}
 use Rattle.shm_plain.proofs.Calling.{still_kind}
 use Rattle.shm_calls.specs.Words.{word_control}
@@ -19,7 +19,7 @@ returns-clause-free c =
     let m = memo_of p who in
     let n = memo_of q who in
     answered c.run.result c.ok_or.result c.ok_or.ensures.variant (λ u e.
-    let z = plan_done release_plan releasing me _ _ _ c.me.ensures.is c.new.ensures c.new-releasing.ensures word_control who p q c.run.result u e c.run.ensures.leaves in
+    let z = plan_done release_plan releasing me _ _ _ c.me.ensures.is c.new-releasing.ensures refl word_control who p q c.run.result u e c.run.ensures.leaves in
     let rests = waiting_rests m n (c.release_keeps.ensures.loose me m n n.call z.0 z.2) (c.release_keeps.ensures.waiting me m n n.call z.0 z.2) in
     holds_no_more who p q c.requires.holds ((rw e at c.run.ensures.at_work) tt) c.run.ensures.ran.run (still_kind who true p q _ _ c.requires.holds.work.acts (rw e at c.run.ensures.ran)) rests z.2.latch)
 
@@ -35,7 +35,7 @@ returns-clause-refers c =
     let b = c.args.pair.parent.block in
     let x = c.requires.refers in
     answered c.run.result c.ok_or.result c.ok_or.ensures.variant (λ u e.
-    let z = plan_done release_plan releasing me _ _ _ c.me.ensures.is c.new.ensures c.new-releasing.ensures word_control who p q c.run.result u e c.run.ensures.leaves in
+    let z = plan_done release_plan releasing me _ _ _ c.me.ensures.is c.new-releasing.ensures refl word_control who p q c.run.result u e c.run.ensures.leaves in
     let named = root_named who m k b c.requires.holds.work.idle.op x.low x.some x.parent in
     record {
       low = x.low;

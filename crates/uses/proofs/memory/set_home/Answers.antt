@@ -28,8 +28,8 @@ reached c =
     let x = c.requires.refers in
     roots_reached c.args.who (memo_of c.args.pool.now c.args.who) c.requires.free.work.idle.op c.args.pair.parent.root c.args.pair.parent.block x.low x.some x.parent
 
-pub new-requires-clause-block : goal.new-requires-clause-block
-new-requires-clause-block c = reached_small c.args.pool.now c.args.who c.requires.free.work c.me.ensures.run c.args.pair.parent.block (reached c)
+pub new-homing-requires-clause-block : goal.new-homing-requires-clause-block
+new-homing-requires-clause-block c = reached_small c.args.pool.now c.args.who c.requires.free.work c.me.ensures.run c.args.pair.parent.block (reached c)
 
 pub run-requires-clause-may : goal.run-requires-clause-may
 run-requires-clause-may c =
@@ -37,7 +37,7 @@ run-requires-clause-may c =
     let p = c.args.pool.now in
     let who = c.args.who in
     let free = c.requires.free in
-    plan_may home_plan (λ (x : Me). homing x c.args.pair.parent.block) (member p.start.geometry who) _ _ _ c.me.ensures.is c.new.ensures c.new-homing.ensures
+    plan_may home_plan (λ (x : Me). homing x c.args.pair.parent.block) (member p.start.geometry who) _ _ _ c.me.ensures.is c.new-homing.ensures refl
     HomeMay (memo_of p who) (refl, free.client, reached at, λ empty. inl (home_unread (memo_of p who).part who free.clear.loose))
 
 pub returns-clause-free : goal.returns-clause-free
@@ -53,7 +53,7 @@ returns-clause-free c =
     let free = c.requires.free in
     renamed c.in_ok-ok_or.field-0 c.map_err.result c.map_err.ensures.variant (λ u ok.
     let e : c.run.result ≡ Some (Ok u) = some ∙ ap Some ok in
-    let z = plan_done home_plan (λ (x : Me). homing x b) me _ _ _ c.me.ensures.is c.new.ensures c.new-homing.ensures home_parts who p q c.run.result (Ok u) e c.run.ensures.leaves in
+    let z = plan_done home_plan (λ (x : Me). homing x b) me _ _ _ c.me.ensures.is c.new-homing.ensures refl home_parts who p q c.run.result (Ok u) e c.run.ensures.leaves in
     let rests = home_rests me b m n n.call z.0 z.2 (c.set_home_keeps.ensures.loose me b m n n.call z.0 (Ok u) z.2) in
     free_again who p q free ((rw e at c.run.ensures.at_work) tt) c.run.ensures.ran.run (still_kind who true p q _ _ free.work.acts (rw e at c.run.ensures.ran)) rests
     (c.set_home_keeps.ensures.latch me b m n n.call z.0 (Ok u) z.2 ∙ free.clear.latch))
@@ -74,7 +74,7 @@ returns-clause-refers c =
     let said = c.requires.refers in
     renamed c.in_ok-ok_or.field-0 c.map_err.result c.map_err.ensures.variant (λ u ok.
     let e : c.run.result ≡ Some (Ok u) = some ∙ ap Some ok in
-    let z = plan_done home_plan (λ (x : Me). homing x b) me _ _ _ c.me.ensures.is c.new.ensures c.new-homing.ensures home_parts who p q c.run.result (Ok u) e c.run.ensures.leaves in
+    let z = plan_done home_plan (λ (x : Me). homing x b) me _ _ _ c.me.ensures.is c.new-homing.ensures refl home_parts who p q c.run.result (Ok u) e c.run.ensures.leaves in
     let low = ((rw e at c.run.ensures.at_work) tt).who in
     let known = ap (λ (y : Memo). y.known) z.2.filled.rest in
     let knows : Knows n (Body b 0) d = subst (λ (ks : List Stored). Contains ks (record { spot = Body b 0; value = d })) (sym known) said.reference in

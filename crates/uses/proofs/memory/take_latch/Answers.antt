@@ -1,4 +1,4 @@
-use Rattle.std.proofs.Common.{◌≡◌, true, ap, ◌∙◌, rules, Ok, Some}
+use Rattle.std.proofs.Common.{◌≡◌, true, ap, ◌∙◌, rules, Ok, Some, refl}
 use Rattle.shm_graph.specs.declared.ask.Me.{Me}
 use Rattle.shm_plain.specs.Pools.{memo_of}
 use Rattle.shm_plain.proofs.Calling.{still_kind}
@@ -22,7 +22,7 @@ returns-clause-holds c =
     let n = memo_of q who in
     renamed c.in_ok-ok_or.field-0 c.map_err.result c.map_err.ensures.variant (λ u ok.
     let e : c.run.result ≡ Some (Ok u) = some ∙ ap Some ok in
-    let z = plan_done hold_plan (λ (x : Me). holding x who) me _ _ _ c.me.ensures.is c.new.ensures c.new-holding.ensures word_control who p q c.run.result (Ok u) e c.run.ensures.leaves in
+    let z = plan_done hold_plan (λ (x : Me). holding x who) me _ _ _ c.me.ensures.is c.new-holding.ensures refl word_control who p q c.run.result (Ok u) e c.run.ensures.leaves in
     let rests = waiting_rests m n (c.hold_keeps.ensures.loose me who m n n.call z.0 (Ok u) z.2) (c.hold_keeps.ensures.waiting me who m n n.call z.0 (Ok u) z.2) in
     holds_now who p q c.requires.free ((rw e at c.run.ensures.at_work) tt) c.run.ensures.ran.run (still_kind who true p q _ _ c.requires.free.work.acts (rw e at c.run.ensures.ran)) rests
     (c.hold_keeps.ensures.held me who m n n.call z.0 (Ok u) z.2))

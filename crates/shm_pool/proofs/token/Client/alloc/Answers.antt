@@ -1,5 +1,4 @@
 use Rattle.std.proofs.Common.{◌∙◌, rules}
-use Rattle.shm_graph.specs.declared.memo.Memo.{Memo}
 use Rattle.shm_alloc.specs.Alloc.AsPart.{AllocLeaves}
 use Rattle.shm_alloc.specs.Alloc.Control.{AllocInRange, alloc_control}
 use Rattle.shm_alloc.specs.Alloc.Events.{alloc_event}

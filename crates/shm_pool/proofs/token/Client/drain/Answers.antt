@@ -1,4 +1,4 @@
-use Rattle.std.proofs.Common.{◌≡◌, ◌<◌, refl, sym, ap, ◌∙◌, subst}
+use Rattle.std.proofs.Common.{◌≡◌, refl, sym, ap, ◌∙◌, subst}
 use Rattle.shm_graph.specs.declared.ask.Me.{Me}
 use Rattle.shm_queue.specs.Drain.Control.{drain_parts, draining}
 use Rattle.shm_queue.specs.Drain.{drain_plan}

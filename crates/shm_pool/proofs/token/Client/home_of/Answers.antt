@@ -2,8 +2,8 @@ use Rattle.std.proofs.Common.{◌≡◌, ◌<◌, refl, sym, ap, ◌∙◌, subs
 use Rattle.shm_graph.specs.declared.ask.Me.{Me}
 use Rattle.shm_calls.specs.Words.{word_control}
 use Rattle.shm_ref.specs.HomeOf.{finding, home_of_plan}
-use Rattle.shm_ref.specs.LatchTasks.{FindMay}
-use Rattle.shm_ref.specs.declared.home_of.FindState.{FindState}
+use Rattle.shm_ref.specs.LatchTasks.{HomeOfMay}
+use Rattle.shm_ref.specs.declared.home_of.HomeOfState.{HomeOfState}
 use Rattle.shm_pool.specs.Tokens.{me_of}
 use Rattle.shm_pool.proofs.Named.{called_by, called_dead}
 use Rattle.shm_pool.proofs.token.Client.home_of.Goals.{After-new}
@@ -17,7 +17,7 @@ planned : (c : After-new) → c.new.result ≡ finding (me_of c.args.self.now.of
 planned c = c.new.ensures ∙ ap (λ (x : Me). finding x c.args.author) c.in-Some.ensures.alive.is
 
 pub run_plan-requires-clause-may : goal.run_plan-requires-clause-may
-run_plan-requires-clause-may c = λ alive. subst (λ (m : FindState). FindMay m c.args.self.now.account.memo) (sym (planned (goal.at.run_plan-requires-clause-may c).After-new)) (refl, c.requires.author alive)
+run_plan-requires-clause-may c = λ alive. subst (λ (m : HomeOfState). HomeOfMay m c.args.self.now.account.memo) (sym (planned (goal.at.run_plan-requires-clause-may c).After-new)) (refl, c.requires.author alive)
 
 pub returns : goal.returns
 returns c = record { called = called_by word_control home_of_plan _ (finding (me_of c.args.self.now.of c.args.self.now.account) c.args.author) _ _ _ _ _ (planned (goal.at.returns c).After-new) c.run_plan.ensures.done c.run_plan.ensures.effect }

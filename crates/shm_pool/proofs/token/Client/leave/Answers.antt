@@ -1,20 +1,25 @@
 use Rattle.std.proofs.Common.{◌≡◌, refl, sym, ap, ◌∙◌, subst}
 use Rattle.std.specs.Prelude.{IfErr, IfOk}
+use Rattle.std.proofs.lemmas.Result.{IfErr-weaker, IfOk-weaker}
 use Rattle.shm_calls.specs.declared.calls.Calls.{Calls}
-use Rattle.shm_calls.specs.CallsControl.{calls_of}
+use Rattle.shm_calls.specs.CallsControl.{calls_does, calls_of}
 use Rattle.shm_calls.specs.CallsFit.{CallsFits, CallsGives}
-use Rattle.shm_calls.specs.CallsKeep.{calls_begin}
+use Rattle.shm_calls.specs.CallsKeep.{calls_begin, calls_tells}
 use Rattle.shm_graph.specs.declared.ask.Me.{Me}
 use Rattle.shm_graph.specs.declared.memo.Memo.{Memo}
+use Rattle.shm_graph.specs.declared.run.Account.{Account}
+use Rattle.shm_graph.specs.Asks.{Trail}
+use Rattle.shm_graph.specs.Tells.{Tells}
 use Rattle.shm_graph.specs.Whole.{fits_now, gives_now}
 use Rattle.shm_recover.specs.declared.leave.LeaveState.{LeaveState}
 use Rattle.shm_recover.specs.Leave.Control.{LeaveAnswer, LeaveCall, leave_parts, leaving}
 use Rattle.shm_recover.specs.Leave.Laws.{leave_begin, leave_laws}
 use Rattle.shm_recover.specs.Leave.{leave_plan}
 use Rattle.shm_recover.specs.Machines.{leave}
-use Rattle.shm_pool.specs.Endings.{Answer, HasEnded, HasStopped}
+use Rattle.shm_pool.specs.Endings.{Answer, HasEnded, HasLeft, HasNotLeft, HasStopped}
 use Rattle.shm_pool.specs.Tokens.{IsFor, me_of}
 use Rattle.shm_pool.proofs.Calling.{is_here}
+use Rattle.shm_pool.proofs.Told.{end_told, stop_told}
 use Rattle.shm_pool.proofs.token.Client.leave.Goals.{After-new-leave}
 use Rattle.shm_pool.proofs.token.Client.leave.Goals as goal
 
@@ -35,16 +40,32 @@ leave_by-requires-clause-fits c = λ alive.
     subst (λ (m : Machine). fits_now leave (CallsFits leave_parts leave_plan) m r r) (sym (state x))
     (calls_begin leave_parts leave_plan leave_laws (leaving (who x)) r refl refl (leave_begin (who x) r (c.requires.may alive).0))
 
+abbrev tells : Tells leave (CallsFits leave_parts leave_plan) (calls_does leave_parts leave_plan)
+tells = calls_tells leave_parts leave_plan leave_laws
+
 pub returns-clause-left : goal.returns-clause-left
 returns-clause-left c =
     let x = (goal.at.returns-clause-left c).After-new-leave in
-    subst (λ (m : Machine). IfOk c.leave_by.result (HasEnded leave (gives_now (CallsGives leave_parts leave_plan)) m c.args.self.of c.args.self.account c.args.life.now.left c.leave_by.new.life.left)) (state x) c.leave_by.ensures.ended
+    let p = c.args.self.of in
+    let e : Account = c.args.self.account in
+    let n = c.args.life.now.left in
+    let l = c.leave_by.new.life.left in
+    let fits : Machine → Memo → Memo → Trail → Type 0 = CallsFits leave_parts leave_plan in
+    let gives : Machine → Memo → Memo → Answer → Type 0 = gives_now (CallsGives leave_parts leave_plan) in
+    IfOk-weaker c.leave_by.result (HasEnded leave fits gives (calls_of leave_plan (leaving (who x))) p e n l) (HasLeft p e n l) (end_told leave fits gives (calls_does leave_parts leave_plan) tells (calls_of leave_plan (leaving (who x))) p e n l)
+    (subst (λ (m : Machine). IfOk c.leave_by.result (HasEnded leave fits gives m p e n l)) (state x) c.leave_by.ensures.ended)
 
 pub returns-clause-stopped : goal.returns-clause-stopped
 returns-clause-stopped c = λ alive.
     let x = (goal.at.returns-clause-stopped c).After-new-leave in
-    subst (λ (m : Machine). IfErr c.leave_by.result (λ s. HasStopped leave (gives_now (CallsGives leave_parts leave_plan)) m c.args.self.of c.args.self.account c.args.life.now.left c.leave_by.new.life.left s.cause s.corpse)) (state x)
-    (c.leave_by.ensures.stopped alive)
+    let p = c.args.self.of in
+    let e : Account = c.args.self.account in
+    let n = c.args.life.now.left in
+    let l = c.leave_by.new.life.left in
+    let fits : Machine → Memo → Memo → Trail → Type 0 = CallsFits leave_parts leave_plan in
+    let gives : Machine → Memo → Memo → Answer → Type 0 = gives_now (CallsGives leave_parts leave_plan) in
+    IfErr-weaker c.leave_by.result (λ s. HasStopped leave fits gives (calls_of leave_plan (leaving (who x))) p e n l s.cause s.corpse) (λ s. HasNotLeft p e n l s.cause s.corpse) (λ s. stop_told leave fits gives (calls_does leave_parts leave_plan) tells (calls_of leave_plan (leaving (who x))) p e n l s.cause s.corpse)
+    (subst (λ (m : Machine). IfErr c.leave_by.result (λ s. HasStopped leave fits gives m p e n l s.cause s.corpse)) (state x) (c.leave_by.ensures.stopped alive))
 
 pub leave_by-requires-clause-machine : goal.leave_by-requires-clause-machine
 leave_by-requires-clause-machine c = λ alive.

@@ -1,5 +1,4 @@
 use Rattle.std.proofs.Common.{sym, ap, ◌∙◌, refl, subst}
-use Rattle.shm_graph.specs.declared.memo.Memo.{Memo}
 use Rattle.shm_calls.specs.CallsControl.{calls_control, calls_does}
 use Rattle.shm_calls.specs.Tasks.{CallsLeave, CallsMay}
 use Rattle.shm_pool.specs.Doing.{HasDone}

@@ -1,4 +1,4 @@
-use Rattle.std.proofs.Common.{◌≡◌, ◌<◌, refl, sym, ap, ◌∙◌, subst}
+use Rattle.std.proofs.Common.{◌≡◌, refl, sym, ap, ◌∙◌, subst}
 use Rattle.shm_graph.specs.declared.ask.Me.{Me}
 use Rattle.shm_ref.specs.RootTasks.{HomeMay}
 use Rattle.shm_ref.specs.SetHome.{home_parts, home_plan, homing}

@@ -1,16 +1,19 @@
 use Rattle.std.proofs.Common.{◌≡◌, ◌<◌, refl, sym, ap, ◌∙◌, subst, true}
 use Rattle.std.specs.Prelude.{IfOk, IfErr}
+use Rattle.std.proofs.lemmas.Result.{IfErr-weaker, IfOk-weaker}
 use Rattle.shm_words.specs.Layout.{GeometryFits}
 use Rattle.shm_calls.specs.declared.calls.Calls.{Calls}
-use Rattle.shm_calls.specs.CallsControl.{calls_of}
+use Rattle.shm_calls.specs.CallsControl.{calls_does, calls_of}
 use Rattle.shm_calls.specs.CallsFit.{CallsFits, CallsGives}
-use Rattle.shm_calls.specs.CallsKeep.{calls_begin}
+use Rattle.shm_calls.specs.CallsKeep.{calls_begin, calls_tells}
 use Rattle.shm_graph.specs.declared.ask.Me.{Me}
 use Rattle.shm_graph.specs.declared.memo.Kind.TheVariants.{Recoverer}
 use Rattle.shm_graph.specs.declared.memo.Memo.{Memo}
 use Rattle.shm_graph.specs.declared.run.Account.{Account}
 use Rattle.shm_graph.specs.Agents.{recovers}
+use Rattle.shm_graph.specs.Asks.{Trail}
 use Rattle.shm_graph.specs.Runs.{account_died}
+use Rattle.shm_graph.specs.Tells.{Tells}
 use Rattle.shm_graph.specs.Whole.{fits_now, gives_now}
 use Rattle.shm_graph.proofs.Memos.MemoSteps.{recovers-entered}
 use Rattle.shm_ref.specs.DropRoots.Laws.{roots_laws}
@@ -24,8 +27,9 @@ use Rattle.shm_recover.specs.Recover.Laws.{recover_begin, recover_laws}
 use Rattle.shm_recover.specs.Recover.{recover_plan}
 use Rattle.shm_recover.specs.Scan.Laws.{scan_laws}
 use Rattle.shm_recover.specs.TakeBack.Laws.{back_laws}
-use Rattle.shm_pool.specs.Endings.{Answer, HasEnded, HasStopped}
+use Rattle.shm_pool.specs.Endings.{Answer, HasEnded, HasNotRecovered, HasRecovered, HasStopped}
 use Rattle.shm_pool.specs.Tokens.{Its, begun_account, me_of, recovering}
+use Rattle.shm_pool.proofs.Told.{end_told, stop_told}
 use Rattle.shm_pool.proofs.token.Corpse.recover.Goals.{After-new-recover}
 use Rattle.shm_pool.proofs.token.Corpse.recover.Goals as goal
 
@@ -54,12 +58,29 @@ recover_by-requires-clause-fits c =
     subst (λ (m : Machine). fits_now recover (CallsFits recover_parts recover_plan) m r r) (sym (state x))
     (calls_begin recover_parts recover_plan (recover_laws mend_laws roots_laws back_laws finish_laws scan_laws give_laws) (recovery (who x)) r refl refl (recover_begin (who x) r (record { geometry = subst GeometryFits (sizes x) c.geometry.ensures.fits; who = below; recoverer = agent })))
 
+abbrev tells : Tells recover (CallsFits recover_parts recover_plan) (calls_does recover_parts recover_plan)
+tells = calls_tells recover_parts recover_plan (recover_laws mend_laws roots_laws back_laws finish_laws scan_laws give_laws)
+
 pub returns-clause-recovered : goal.returns-clause-recovered
 returns-clause-recovered c =
     let x = (goal.at.returns-clause-recovered c).After-new-recover in
-    subst (λ (m : Machine). IfOk c.recover_by.result (HasEnded recover (gives_now (CallsGives recover_parts recover_plan)) m c.args.self.of (recovering c.args.self.account) c.args.life.now.left c.recover_by.new.life.left)) (state x) c.recover_by.ensures.ended
+    let p = c.args.self.of in
+    let e : Account = recovering c.args.self.account in
+    let n = c.args.life.now.left in
+    let l = c.recover_by.new.life.left in
+    let fits : Machine → Memo → Memo → Trail → Type 0 = CallsFits recover_parts recover_plan in
+    let gives : Machine → Memo → Memo → Answer → Type 0 = gives_now (CallsGives recover_parts recover_plan) in
+    IfOk-weaker c.recover_by.result (HasEnded recover fits gives (calls_of recover_plan (recovery (who x))) p e n l) (HasRecovered p c.args.self.account n l) (end_told recover fits gives (calls_does recover_parts recover_plan) tells (calls_of recover_plan (recovery (who x))) p e n l)
+    (subst (λ (m : Machine). IfOk c.recover_by.result (HasEnded recover fits gives m p e n l)) (state x) c.recover_by.ensures.ended)
 
 pub returns-clause-stopped : goal.returns-clause-stopped
-returns-clause-stopped c =
+returns-clause-stopped c = λ some.
     let x = (goal.at.returns-clause-stopped c).After-new-recover in
-    subst (λ (m : Machine). 0 < c.args.life.now.left → IfErr c.recover_by.result (λ s. HasStopped recover (gives_now (CallsGives recover_parts recover_plan)) m c.args.self.of (recovering c.args.self.account) c.args.life.now.left c.recover_by.new.life.left s.cause s.corpse)) (state x) c.recover_by.ensures.stopped
+    let p = c.args.self.of in
+    let e : Account = recovering c.args.self.account in
+    let n = c.args.life.now.left in
+    let l = c.recover_by.new.life.left in
+    let fits : Machine → Memo → Memo → Trail → Type 0 = CallsFits recover_parts recover_plan in
+    let gives : Machine → Memo → Memo → Answer → Type 0 = gives_now (CallsGives recover_parts recover_plan) in
+    IfErr-weaker c.recover_by.result (λ s. HasStopped recover fits gives (calls_of recover_plan (recovery (who x))) p e n l s.cause s.corpse) (λ s. HasNotRecovered p c.args.self.account n l s.cause s.corpse) (λ s. stop_told recover fits gives (calls_does recover_parts recover_plan) tells (calls_of recover_plan (recovery (who x))) p e n l s.cause s.corpse)
+    (subst (λ (m : Machine). IfErr c.recover_by.result (λ s. HasStopped recover fits gives m p e n l s.cause s.corpse)) (state x) (c.recover_by.ensures.stopped some))
