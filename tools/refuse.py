@@ -8,7 +8,8 @@ crates/program_runs/out/program_runs (or FOLDER holds them). Requests are calls 
 program makes them. Each number is refused alone, and then with all later ones.
 
 - `cxlshm`, for each word of the command line and each kind of input: it has to end with status 6 and nothing written. Where one number alone is
-  refused, it may also write what it always writes: the kit's Vec asks for less where it was refused more than it needs.
+  refused, it may also write what it always writes: the kit's Vec asks for less where it was refused more than it needs, and where a thread can't be
+  made the caller does its work.
 - rows `want CALL` of program_runs, for calls of the libraries: each has to answer that it was refused, and a refused `SharedPool::close` has to
   close when it is called again with the pool and the tokens that it gave back.
 
@@ -64,6 +65,7 @@ void *realloc(void *at, size_t size)
 
 PUT = b"pool 1 1\nclient 0\nput 5 77\n"
 TWO = b"pool 2 2\norder 0:104 1:1000\nclient 0\nlife 104\nput 5 77\nclient 1\ncopy 9 0 5\n"
+TEAM = b"pool 2 2\nclient 0\nput 5 77\nclient 1\nput 6 78\n"
 FAULTY = b"pool 2 1\nclient 16\n"
 ALL = 1 << 62
 
@@ -116,7 +118,7 @@ def call_case(shim, program, call, given, refused):
     rows = b"input\n" + given + b".\nwant " + call.encode() + b"\n"
     ends, usual = each_number(shim, [program], rows, False)
     told = [(status, text.decode().rpartition(": ")[2].strip()) for status, text in ends]
-    counts = {word: told.count((0, word)) for word in (refused, "no trace", "no replay", "no pool", "made")}
+    counts = {word: told.count((0, word)) for word in (refused, "no trace", "no replay", "no image", "no pool", "made")}
     # the rows themselves could not be read, or what was told not be written
     counts["no row"] = sum(status != 0 and text == b"" for status, text in ends)
     left = len(ends) - sum(counts.values())
@@ -131,21 +133,31 @@ def main():
     with tempfile.TemporaryDirectory() as made:
         shim = build(made)
         image = run(shim, [program, "replay", "--image"], PUT, 0, 0)[1]
+        migrated = run(shim, [program, "migrate"], image, 0, 0)[1]
+        unclean = image[:32] + b"\1" + image[33:]
         cases = [
             ("replay", ["replay"], PUT),
             ("replay, with a death", ["replay"], TWO),
             ("replay of no trace", ["replay"], FAULTY),
             ("replay --image", ["replay", "--image"], TWO),
             ("replay --print", ["replay", "--print"], TWO),
+            ("run", ["run"], PUT),
+            ("run of two clients", ["run"], TEAM),
+            ("run of no trace", ["run"], FAULTY),
+            ("run --image", ["run", "--image"], PUT),
             ("audit", ["audit"], image),
             ("audit of no image", ["audit"], image[:-1]),
+            ("migrate", ["migrate"], image),
+            ("migrate of no image", ["migrate"], image[:-1]),
+            ("migrate of an image of format 2", ["migrate"], migrated),
+            ("migrate of a pool that is not clean", ["migrate"], unclean),
             ("make 0 1", ["make", "0", "1"], b""),
             ("make 0 4 --print", ["make", "0", "4", "--print"], b""),
             ("words that aren't accepted: fly", ["fly"], b""),
             ("words that aren't accepted: replay --image --print", ["replay", "--image", "--print"], b""),
         ]
         ends = [program_case(shim, program, *case) for case in cases]
-        calls = [("parse", "refused"), ("replay", "refused"), ("report", "refused"), ("plain 2 2", "refused"), ("shared 2 2", "refused"), ("close 2 2", "refused, then made")]
+        calls = [("parse", "refused"), ("replay", "refused"), ("run", "refused"), ("report", "refused"), ("migrate", "refused"), ("plain 2 2", "refused"), ("shared 2 2", "refused"), ("close 2 2", "refused, then made")]
         ends += [call_case(shim, rows, call, TWO, refused) for call, refused in calls]
     return 0 if all(ends) else 1
 

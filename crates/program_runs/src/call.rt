@@ -6,7 +6,10 @@ use crate::reading::number_at;
 use shm_io::{MemorySink, MemorySource};
 use shm_program::top::top;
 use shm_program::{Finished, Outcome};
+use shm_team::NoGate;
 use std::alloc::{AllocError, Global};
+use std::sync::Wait;
+use std::thread::Threads;
 
 /// The streams of a call: the most bytes that a read gives and that a write takes, the read and the write that fail, by their numbers from 1
 /// (0: none), and the room of the sink.
@@ -81,11 +84,23 @@ impl Call {
         };
     }
 
-    /// Makes the call.
-    pub fn make(&self, alloc: Global, input: &[u8]) -> Result<Made, AllocError> {
+    /// Makes the call, whose threads are made by this handle.
+    pub fn make<R: Threads + Wait + Sync>(
+        &self,
+        threads: &R,
+        alloc: Global,
+        input: &[u8],
+    ) -> Result<Made, AllocError> {
         let mut source = source_of(alloc, &self.streams, input)?;
         let mut sink = sink_of(alloc, &self.streams)?;
-        let outcome = top(alloc, self.words.as_slice(), &mut source, &mut sink);
+        let outcome = top(
+            threads,
+            alloc,
+            self.words.as_slice(),
+            &mut source,
+            &mut sink,
+            &NoGate,
+        );
         let written = sink.bytes().to_vec(alloc)?;
         Ok(Made { outcome, written })
     }

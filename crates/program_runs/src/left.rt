@@ -1,4 +1,4 @@
-//! What is told of the replay that a call hands out.
+//! What is told of the replay, or the run, that a call hands out.
 
 use shm_program::Finished;
 use shm_script::Log;
@@ -9,6 +9,7 @@ pub fn words(rt: &HostRuntime, finished: &Finished) -> io::Result<()> {
     match finished {
         Finished::Neither => println!(rt; "no replay"),
         Finished::Replayed(run) => words_of(rt, run.closed.words()),
+        Finished::Ran(run) => words_of(rt, run.closed.words()),
     }
 }
 
@@ -28,6 +29,7 @@ pub fn answers(rt: &HostRuntime, finished: &Finished) -> io::Result<()> {
     match finished {
         Finished::Neither => println!(rt; "no replay"),
         Finished::Replayed(run) => answers_of(rt, run.logs.as_slice()),
+        Finished::Ran(run) => answers_of(rt, run.logs.as_slice()),
     }
 }
 

@@ -5,16 +5,24 @@ use crate::telling;
 use shm_script::{push_number, push_text};
 use std::alloc::{AllocError, Global};
 use std::io;
+use std::sync::Wait;
+use std::thread::Threads;
 
 /// For each life of the client tells with how many lives of a recoverer the call comes to the same as without that, and then what it comes to,
 /// unless that is the same as with the life before.
 ///
 /// `most` are the greatest lives: of the client, and of the recoverer.
-pub fn tell(rt: &HostRuntime, call: &Call, form: &[u8], most: (u64, u64)) -> io::Result<()> {
+pub fn tell<R: Threads + Wait + Sync>(
+    rt: &HostRuntime,
+    threads: &R,
+    call: &Call,
+    form: &[u8],
+    most: (u64, u64),
+) -> io::Result<()> {
     let mut before = Made::nothing(rt.alloc());
     for life in 1..=most.0 {
-        let made = make(rt.alloc(), call, form, life, None)?;
-        let alike = count_alike(rt.alloc(), call, form, life, most.1, &made)?;
+        let made = make(threads, rt.alloc(), call, form, life, None)?;
+        let alike = count_alike(threads, rt.alloc(), call, form, life, most.1, &made)?;
         println!(rt; "life {life}: {alike} alike")?;
         if !made.is_same(&before) {
             telling::text(rt, &made)?;
@@ -25,7 +33,8 @@ pub fn tell(rt: &HostRuntime, call: &Call, form: &[u8], most: (u64, u64)) -> io:
 }
 
 /// With how many lives of a recoverer, of 1 to the greatest, the call comes to the same.
-fn count_alike(
+fn count_alike<R: Threads + Wait + Sync>(
+    threads: &R,
     alloc: Global,
     call: &Call,
     form: &[u8],
@@ -35,7 +44,7 @@ fn count_alike(
 ) -> Result<u64, AllocError> {
     let mut count = 0u64;
     for second in 1..=most {
-        if make(alloc, call, form, life, Some(second))?.is_same(made) {
+        if make(threads, alloc, call, form, life, Some(second))?.is_same(made) {
             count = count.wrapping_add(1);
         }
     }
@@ -43,7 +52,8 @@ fn count_alike(
 }
 
 /// Makes the call with the lives in the form.
-fn make(
+fn make<R: Threads + Wait + Sync>(
+    threads: &R,
     alloc: Global,
     call: &Call,
     form: &[u8],
@@ -51,7 +61,7 @@ fn make(
     second: Option<u64>,
 ) -> Result<Made, AllocError> {
     let input = fill(alloc, form, life, second)?;
-    call.make(alloc, input.as_slice())
+    call.make(threads, alloc, input.as_slice())
 }
 
 /// The form, with the life for each `N`, and for each `M` a space and the second life, or nothing where there is none.

@@ -14,7 +14,7 @@
 //! | `go` | makes a call, and tells its status and what it wrote, and then a point |
 //! | `sum` | makes a call, and tells its status, and how many bytes it wrote and their 64-bit FNV-1a sum |
 //! | `lives A B` | makes calls in whose input 1 to A stands for `N`: without anything for `M`, and with a space and 1 to B. Tells for each of the A what the first call came to, where that is new, and with how many of the B the others came to the same |
-//! | `want CALL` | makes a call of a library: `parse`, `replay` or `report` with the input, or `plain N G`, `shared N G` or `close N G` with a pool of N clients and G segments; and tells whether there was memory for it |
+//! | `want CALL` | makes a call of a library: `parse`, `replay`, `run`, `report` or `migrate` with the input, or `plain N G`, `shared N G` or `close N G` with a pool of N clients and G segments; and tells whether there was memory for it |
 //! | `words` | tells how many words the pool has that the last call handed out, and those that aren't 0, behind their addresses |
 //! | `answers` | tells the answers in the logs that it handed out, with the blocks that they name |
 //! | `args WORD ..` | tells the words of a call whose process has these |
@@ -38,6 +38,8 @@ use input::Input;
 use std::alloc::{AllocError, Global};
 use std::io;
 use std::process::ExitCode;
+use std::sync::Wait;
+use std::thread::Threads;
 
 /// The call that is made ready, and what the last one came to.
 #[derive(Drop)]
@@ -58,8 +60,12 @@ impl Rows {
     }
 
     /// Makes the call.
-    fn make(&mut self, alloc: Global) -> Result<(), AllocError> {
-        self.last = self.call.make(alloc, self.input.bytes())?;
+    fn make<R: Threads + Wait + Sync>(
+        &mut self,
+        threads: &R,
+        alloc: Global,
+    ) -> Result<(), AllocError> {
+        self.last = self.call.make(threads, alloc, self.input.bytes())?;
         Ok(())
     }
 }
@@ -76,19 +82,31 @@ fn prepare(alloc: Global, rows: &mut Rows, word: &str, rest: &str) -> Result<boo
 }
 
 /// A row that tells something.
-fn tell(rt: &HostRuntime, rows: &mut Rows, word: &str, rest: &str) -> io::Result<()> {
+fn tell<R: Threads + Wait + Sync>(
+    rt: &HostRuntime,
+    threads: &R,
+    rows: &mut Rows,
+    word: &str,
+    rest: &str,
+) -> io::Result<()> {
     match word {
         "#" => println!(rt; "# {rest}"),
         "go" => {
-            rows.make(rt.alloc())?;
+            rows.make(threads, rt.alloc())?;
             telling::text(rt, &rows.last)
         }
         "sum" => {
-            rows.make(rt.alloc())?;
+            rows.make(threads, rt.alloc())?;
             telling::sum(rt, &rows.last)
         }
-        "lives" => lives::tell(rt, &rows.call, rows.input.bytes(), reading::pair(rest)),
-        "want" => wanting::tell(rt, rest, rows.input.bytes()),
+        "lives" => lives::tell(
+            rt,
+            threads,
+            &rows.call,
+            rows.input.bytes(),
+            reading::pair(rest),
+        ),
+        "want" => wanting::tell(rt, threads, rest, rows.input.bytes()),
         "words" => left::words(rt, &rows.last.outcome.finished),
         "answers" => left::answers(rt, &rows.last.outcome.finished),
         "args" => process::args(rt, rest),
@@ -99,7 +117,12 @@ fn tell(rt: &HostRuntime, rows: &mut Rows, word: &str, rest: &str) -> io::Result
 }
 
 /// A row.
-fn take(rt: &HostRuntime, rows: &mut Rows, line: &str) -> io::Result<()> {
+fn take<R: Threads + Wait + Sync>(
+    rt: &HostRuntime,
+    threads: &R,
+    rows: &mut Rows,
+    line: &str,
+) -> io::Result<()> {
     if rows.input.is_open() {
         rows.input.line(line)?;
         return Ok(());
@@ -108,20 +131,20 @@ fn take(rt: &HostRuntime, rows: &mut Rows, line: &str) -> io::Result<()> {
     if prepare(rt.alloc(), rows, word, rest)? {
         return Ok(());
     }
-    tell(rt, rows, word, rest)
+    tell(rt, threads, rows, word, rest)
 }
 
 /// All rows.
-fn take_all(rt: &HostRuntime) -> io::Result<()> {
+fn take_all<R: Threads + Wait + Sync>(rt: &HostRuntime, threads: &R) -> io::Result<()> {
     let mut rows = Rows::new(rt.alloc());
     for line in rt.lines(rt.alloc()) {
-        take(rt, &mut rows, line?.as_str())?;
+        take(rt, threads, &mut rows, line?.as_str())?;
     }
     Ok(())
 }
 
 fn main(rt: HostRuntime) -> ExitCode {
-    match take_all(&rt) {
+    match take_all(&rt, &rt) {
         Ok(()) => ExitCode::SUCCESS,
         Err(_) => ExitCode::FAILURE,
     }

@@ -4,25 +4,37 @@ ghost use Rattle.std.specs.Prelude.{IfOk};
 ghost use Rattle.shm_words.specs.Layout.{GeometryFits};
 
 use crate::reading::pair;
+use shm_audit::write_image;
+use shm_migrate::{MigrateStop, migrate};
 use shm_plain::PlainPool;
 use shm_pool::{CloseCause, CloseStop, SharedPool};
 use shm_replay::replay;
 use shm_report::report;
 use shm_script::{ParseStop, parse};
+use shm_team::{NoGate, run_team};
 use shm_words::{BadGeometry, Geometry};
 use std::alloc::{AllocError, Global};
 use std::io;
+use std::sync::Wait;
+use std::thread::Threads;
 
 /// What a call came to, in words.
 type Told = Result<&'static str, AllocError>;
 
 /// Makes the call that the row names, and tells what it came to: `refused` where there was no memory for it, or for what goes before it.
-pub fn tell(rt: &HostRuntime, row: &str, input: &[u8]) -> io::Result<()> {
+pub fn tell<R: Threads + Wait + Sync>(
+    rt: &HostRuntime,
+    threads: &R,
+    row: &str,
+    input: &[u8],
+) -> io::Result<()> {
     let (name, sizes) = row.split_once(' ').unwrap_or((row, ""));
     let told = match name {
         "parse" => parsed(rt.alloc(), input),
         "replay" => replayed(rt.alloc(), input),
+        "run" => ran(threads, rt.alloc(), input),
         "report" => reported(rt.alloc(), input),
+        "migrate" => migrated(rt.alloc(), input),
         _ => pooled(rt.alloc(), name, sizes),
     };
     println!(rt; "{row}: {}", told.unwrap_or("refused"))
@@ -46,6 +58,15 @@ fn replayed(alloc: Global, input: &[u8]) -> Told {
     Ok("made")
 }
 
+/// `run_team` of that trace.
+fn ran<R: Threads + Wait + Sync>(threads: &R, alloc: Global, input: &[u8]) -> Told {
+    let Ok(trace) = parse(alloc, input) else {
+        return Ok("no trace");
+    };
+    let _run = run_team(threads, alloc, &trace, &NoGate)?;
+    Ok("made")
+}
+
 /// `report` of the replay of that trace.
 fn reported(alloc: Global, input: &[u8]) -> Told {
     let Ok(trace) = parse(alloc, input) else {
@@ -61,6 +82,24 @@ fn reported(alloc: Global, input: &[u8]) -> Told {
         run.logs.as_slice(),
     )?;
     Ok("made")
+}
+
+/// `migrate` of the image of the pool that the replay leaves.
+fn migrated(alloc: Global, input: &[u8]) -> Told {
+    let Ok(trace) = parse(alloc, input) else {
+        return Ok("no trace");
+    };
+    let Ok(run) = replay(alloc, &trace) else {
+        return Ok("no replay");
+    };
+    let Ok(image) = write_image(alloc, run.closed.geometry(), run.closed.words()) else {
+        return Ok("no image");
+    };
+    match migrate(alloc, image.as_slice()) {
+        Ok(_) => Ok("made"),
+        Err(MigrateStop::Memory(error)) => Err(error),
+        Err(_) => Ok("no migration"),
+    }
 }
 
 /// A call that makes or closes a pool of these sizes.

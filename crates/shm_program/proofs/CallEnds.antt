@@ -1,16 +1,18 @@
 -- what a call did, by where it ended
 use Rattle.std.proofs.Common.{◌≡◌, ◌≢◌, ℕ, ◌<◌, List, drop, ap, sym, ◌∙◌, subst, arith, inl, inr, ◌⊎◌}
-use Rattle.std.specs.Prelude.{Option, Some, None}
+use Rattle.std.specs.Prelude.{Option, Some, None, Result, Ok, Err, IfOk, IfErr}
+use Rattle.std.specs.declared.alloc.AllocError.{AllocError}
 use Rattle.shm_io.specs.Faults.{NoFault, Rose}
 use Rattle.shm_io.specs.Reading.{LosesFront, TakesFront}
-use Rattle.shm_io.specs.Writing.{Appends, AppendsFront}
-use Rattle.shm_program.specs.Outcomes.{IsCall, Misused, Sides, usage_text}
-use Rattle.shm_program.specs.Reads.{limit_of, most_of}
+use Rattle.shm_program.specs.Outcomes.{Answers, IsCall, IsWanting, IsWritten, Misused, Sides, usage_text}
+use Rattle.shm_program.specs.Reads.{IsRead, IsUnread, limit_of, most_of}
 use Rattle.shm_program.specs.Words.{NamesCommand, job_of}
+use Rattle.shm_program.specs.declared.answer.Reply.{Reply}
 use Rattle.shm_program.specs.declared.outcome.Finished.{Finished}
 use Rattle.shm_program.specs.declared.outcome.Finished.TheVariants.{Neither}
 use Rattle.shm_program.specs.declared.words.Job.{Job}
-use Rattle.shm_program.proofs.TopAnswers.{Said, complete, done_written, faulty, refused_written, same_job}
+use Rattle.shm_program.proofs.Commands.{command_named}
+use Rattle.shm_program.proofs.TopAnswers.{Said, complete, done_written, faulty, refused_written, said, same_job}
 
 -- ---- what was read
 
@@ -23,16 +25,16 @@ pub loses_nothing : (before after : Option (List ℕ)) (n : ℕ) → after ≡ b
 loses_nothing None after n e = e
 loses_nothing (Some left) after n e = (0, omega arith, e)
 
-pub takes_loses : (before after : Option (List ℕ)) (n : ℕ) (taken : List ℕ) → TakesFront before after n taken → LosesFront before after n
+takes_loses : (before after : Option (List ℕ)) (n : ℕ) (taken : List ℕ) → TakesFront before after n taken → LosesFront before after n
 takes_loses None after n taken t = t
 takes_loses (Some left) after n taken t = (n, omega arith, t.left)
 
 -- the limit of the job that the words ask for is the most that is read
-pub most_at : (words : List (List ℕ)) (job : Job) (limit : ℕ) → job_of words ≡ Some job → limit ≡ limit_of job → limit ≡ most_of (job_of words)
-most_at words job limit asked is = is ∙ sym (ap most_of asked)
+most_at : (words : List (List ℕ)) (job : Job) → job_of words ≡ Some job → limit_of job ≡ most_of (job_of words)
+most_at words job asked = sym (ap most_of asked)
 
-pub lost_at : (words : List (List ℕ)) (job : Job) (limit : ℕ) (before after : Option (List ℕ)) → job_of words ≡ Some job → limit ≡ limit_of job → LosesFront before after limit → LosesFront before after (most_of (job_of words))
-lost_at words job limit before after asked is lost = subst (λ (n : ℕ). LosesFront before after n) (most_at words job limit asked is) lost
+lost_at : (words : List (List ℕ)) (job : Job) (before after : Option (List ℕ)) → job_of words ≡ Some job → LosesFront before after (limit_of job) → LosesFront before after (most_of (job_of words))
+lost_at words job before after asked lost = subst (λ (n : ℕ). LosesFront before after n) (most_at words job asked) lost
 
 some_none : {A : Type 0} (o : Option A) (x : A) → o ≡ Some x → o ≡ None → ⊥
 some_none o x e f = absurd (cc)
@@ -44,15 +46,13 @@ unfailed before after none (inr end) = none.not_at_end end
 
 -- ---- the text
 
--- it was written, or a write failed
-pub record Wrote (old new : Sides) (code answer : ℕ) (text : List ℕ) : Type 0 where
-  pub ends : (code ≡ answer) ⊎ (code ≡ 5)
-  pub written : code ≡ answer → Appends old.held new.held text × (new.write_faults ≡ old.write_faults)
-  pub failed : code ≡ 5 → Rose old.write_faults new.write_faults × AppendsFront old.held new.held text
+-- what is written of an answer with this status
+abbrev Wrote : Sides → Sides → ℕ → ℕ → List ℕ → Type 0
+Wrote old new code answer text = IsWritten old.held old.write_faults new.held new.write_faults answer code text
 
 -- a write that failed is told by its status
 wrote_well : (old new : Sides) (code answer : ℕ) (text : List ℕ) → Wrote old new code answer text → code ≢ 5 → new.write_faults ≡ old.write_faults
-wrote_well old new code answer text w e = elim w.ends [ inl same ↦ (w.written same).1 | inr five ↦ absurd (e five) ]
+wrote_well old new code answer text w e = elim w.ends [ inl same ↦ (w.whole same).1 | inr five ↦ absurd (e five) ]
 
 -- where an answer was written no read and no write failed
 not_failed : (code : ℕ) → (code ≡ 0) ⊎ ((code ≡ 2) ⊎ (code ≡ 3)) → (code ≢ 4) × (code ≢ 5)
@@ -85,7 +85,7 @@ module _ (words : List (List ℕ)) (old new : Sides) (code : ℕ) (made : Finish
       }
 
   -- a read failed
-  pub failing : (job : Job) → job_of words ≡ Some job → code ≡ 4 → Rose old.read_faults new.read_faults → LosesFront old.left new.left (most_of (job_of words)) → 0 < most_of (job_of words) → new.held ≡ old.held → new.write_faults ≡ old.write_faults → made ≡ Neither → IsCall words old new code made
+  failing : (job : Job) → job_of words ≡ Some job → code ≡ 4 → Rose old.read_faults new.read_faults → LosesFront old.left new.left (most_of (job_of words)) → 0 < most_of (job_of words) → new.held ≡ old.held → new.write_faults ≡ old.write_faults → made ≡ Neither → IsCall words old new code made
   failing job asked four rose lost some held writes none =
       record {
         status = inr (inr (inr (inl four)));
@@ -111,7 +111,7 @@ module _ (words : List (List ℕ)) (old new : Sides) (code : ℕ) (made : Finish
       record {
         status = elim w.ends [ inl two ↦ inr (inl two) | inr five ↦ inr (inr (inr (inr (inl five)))) ];
         done = λ e. absurd (other 0 (omega arith) (omega arith) e);
-        misused = λ e. (text, it, (w.written e).0);
+        misused = λ e. (text, it, (w.whole e).0);
         refused = λ e. absurd (other 3 (omega arith) (omega arith) e);
         quiet = λ e. (reads, wrote_well old new code 2 text w (not_failed code e).1);
         read_failed = λ e. absurd (other 4 (omega arith) (omega arith) e);
@@ -133,13 +133,13 @@ module _ (words : List (List ℕ)) (old new : Sides) (code : ℕ) (made : Finish
       other n two five e = elim w.ends [ inl z ↦ two (sym e ∙ z) | inr z ↦ five (sym e ∙ z) ]
 
   -- the bytes that were read were answered
-  pub answering : (job : Job) (answer : ℕ) (text : List ℕ) → job_of words ≡ Some job → LosesFront old.left new.left (most_of (job_of words)) → new.read_faults ≡ old.read_faults → Said job old.left new.left answer made text → Wrote old new code answer text → IsCall words old new code made
+  answering : (job : Job) (answer : ℕ) (text : List ℕ) → job_of words ≡ Some job → LosesFront old.left new.left (most_of (job_of words)) → new.read_faults ≡ old.read_faults → Said job old.left new.left answer made text → Wrote old new code answer text → IsCall words old new code made
   answering job answer text asked lost reads s w =
       record {
         status = elim w.ends [ inl same ↦ elim s [ inl d ↦ inl (same ∙ d.0) | inr r ↦ inr (inr (inl (same ∙ r.0))) ] | inr five ↦ inr (inr (inr (inr (inl five)))) ];
-        done = λ e. let d = done_written answer code s w.ends e w.written in (job, asked, (text, d.0, d.1.0));
+        done = λ e. let d = done_written answer code s w.ends e w.whole in (job, asked, (text, d.0, d.1.0));
         misused = λ e. absurd (other 2 (omega arith) (omega arith) (omega arith) e);
-        refused = λ e. let r = refused_written answer code s w.ends e w.written in (job, asked, (text, r.0, r.1.0));
+        refused = λ e. let r = refused_written answer code s w.ends e w.whole in (job, asked, (text, r.0, r.1.0));
         quiet = λ e. (reads, wrote_well old new code answer text w (not_failed code e).1);
         read_failed = λ e. absurd (other 4 (omega arith) (omega arith) (omega arith) e);
         write_failed = λ e. let f = w.failed e in (f.0, (text, inr (job, asked, elim s [ inl d ↦ inl d.1 | inr r ↦ inr r.1 ]), f.1));
@@ -161,3 +161,22 @@ module _ (words : List (List ℕ)) (old new : Sides) (code : ℕ) (made : Finish
 
       comes : (n : ℕ) → NoFault old.write_faults new.write_faults → answer ≡ n → code ≡ n
       comes n sink e = elim w.ends [ inl same ↦ same ∙ e | inr five ↦ absurd (unfailed _ _ sink (w.failed five).0) ]
+
+  -- the bytes weren't read
+  pub unreading : (job : Job) (status : ℕ) → job_of words ≡ Some job → IsUnread old.left old.read_faults new.left new.read_faults (limit_of job) status → code ≡ status → new.held ≡ old.held → new.write_faults ≡ old.write_faults → made ≡ Neither → IsCall words old new code made
+  unreading job status asked u is held writes none =
+      let lost = lost_at words job old.left new.left asked u.lost in
+      elim u.ends [
+        | inl four ↦ failing job asked (is ∙ four.0) four.1 lost (subst (λ (n : ℕ). 0 < n) (most_at words job asked) u.some) held writes none
+        | inr six ↦ wanting (is ∙ six.0) (command_named words job asked) lost six.1 held writes none
+      ]
+
+  -- the bytes were read, and the answer to them written, unless memory was wanting for it
+  pub replying : (job : Job) (bytes read : List ℕ) (answered : Result Reply AllocError) → job_of words ≡ Some job → IsRead old.left old.read_faults new.left new.read_faults (limit_of job) bytes → read ≡ bytes
+      → IfOk answered (λ r. Answers job read r.status r.finished r.text.items) → IfOk answered (λ r. made ≡ r.finished) → IfOk answered (λ r. Wrote old new code r.status r.text.items)
+      → IfErr answered (λ _. IsWanting old.held old.write_faults new.held new.write_faults code made) → IsCall words old new code made
+  replying job bytes read (Ok r) asked taken same answers kept w none =
+      answering job r.status r.text.items asked (lost_at words job old.left new.left asked (takes_loses old.left new.left (limit_of job) bytes taken.front)) taken.quiet
+      (said job old.left new.left old.read_faults new.read_faults bytes read r.status r.finished made r.text.items taken same answers kept) w
+  replying job bytes read (Err e) asked taken same answers kept w none =
+      wanting none.ends (command_named words job asked) (lost_at words job old.left new.left asked (takes_loses old.left new.left (limit_of job) bytes taken.front)) taken.quiet none.held none.quiet none.kept

@@ -1,15 +1,15 @@
 -- what a call writes is a front of one text
-use Rattle.std.proofs.Common.{◌≡◌, ℕ, ◌<◌, ◌≤◌, ◌⊎◌, List, [], ◌++◌, length, take, refl, sym, ap, ◌∙◌, subst, arith, inl, inr}
+use Rattle.std.proofs.Common.{◌≡◌, ℕ, ◌≤◌, ◌⊎◌, List, [], ◌++◌, length, take, refl, sym, ap, ◌∙◌, subst, arith, inl, inr}
 use Rattle.std.proofs.lemmas.List.{append-nil, take_all}
 use Rattle.std.specs.Prelude.{Option, Some, None}
 use Rattle.shm_io.specs.Writing.{Appends, AppendsFront}
 use Rattle.shm_program.specs.declared.outcome.Finished.{Finished}
 use Rattle.shm_program.specs.declared.words.Job.{Job}
-use Rattle.shm_program.specs.declared.words.Job.TheVariants.{Replay, Print, Audit, Migrate, Make, Draw}
+use Rattle.shm_program.specs.declared.words.Job.TheVariants.{Replay, Print, Run, Audit, Migrate, Make, Draw}
 use Rattle.shm_program.specs.Outcomes.{Answers, Decided, Done, IsCall, IsDone, IsStatus, Misused, Refused, Sides}
 use Rattle.shm_program.specs.Reads.{Reads, limit_of, most_of}
 use Rattle.shm_program.specs.Streams.{AreFirst, Grows, IsAnswered, IsStopped, IsTextOf, WritesFrontOf}
-use Rattle.shm_program.specs.Words.{job_of}
+use Rattle.shm_program.specs.Words.{AreDetermined, job_of}
 use Rattle.shm_program.proofs.ImageSizes.{image_short, unrefused}
 use Rattle.shm_program.proofs.SameCalls.{done_bytes, refused_bytes}
 use Rattle.shm_program.proofs.SameTexts.{answers_same}
@@ -26,6 +26,7 @@ first_of most (Some left) = (take most left, refl)
 done_few : (job : Job) (before after : Option (List ℕ)) (bytes : List ℕ) (made : Finished) (x : List ℕ) → Reads job before after bytes → IsDone job bytes made x → length bytes ≤ limit_of job
 done_few (Replay form) before after bytes made x r (t, a, h) = let short = a.short in omega (arith, short)
 done_few Print before after bytes made x r (t, a, h) = let short = a.short in omega (arith, short)
+done_few (Run form) before after bytes made x r (t, a, h) = let short = a.short in omega (arith, short)
 done_few Audit before after bytes made x r h = let short = image_short bytes h.faultless in omega (arith, short)
 done_few Migrate before after bytes made x r h = let short = image_short bytes (unrefused bytes h.allowed) in omega (arith, short)
 done_few (Make start size) before after bytes made x r h = let none : length bytes ≡ 0 = ap length r.0 in omega (arith, none)
@@ -48,14 +49,14 @@ none_first (Some left) = refl
 some_none : {A : Type 0} (o : Option A) (x : A) → o ≡ Some x → o ≡ None → ⊥
 some_none o x e f = absurd (cc)
 
--- the words and the bytes give one text
-pub text_same : (ws : List (List ℕ)) (bytes x y : List ℕ) → IsTextOf ws bytes x → IsTextOf ws bytes y → x ≡ y
-text_same ws bytes x y (inl a) (inl b) = a.1 ∙ sym b.1
-text_same ws bytes x y (inl a) (inr (job, asked, h)) = absurd (some_none (job_of ws) job asked a.0)
-text_same ws bytes x y (inr (job, asked, h)) (inl b) = absurd (some_none (job_of ws) job asked b.0)
-text_same ws bytes x y (inr (job, asked, (m, one, h))) (inr (job2, asked2, (n, two, k))) =
+-- the words and the bytes give one text, but for a run
+pub text_same : (ws : List (List ℕ)) (bytes x y : List ℕ) → AreDetermined ws → IsTextOf ws bytes x → IsTextOf ws bytes y → x ≡ y
+text_same ws bytes x y e (inl a) (inl b) = a.1 ∙ sym b.1
+text_same ws bytes x y e (inl a) (inr (job, asked, h)) = absurd (some_none (job_of ws) job asked a.0)
+text_same ws bytes x y e (inr (job, asked, h)) (inl b) = absurd (some_none (job_of ws) job asked b.0)
+text_same ws bytes x y e (inr (job, asked, (m, one, h))) (inr (job2, asked2, (n, two, k))) =
     let same : job2 ≡ job = same_job (job_of ws) job2 job asked2 asked in
-    (answers_same job bytes m n one two x y h (subst (λ (j : Job). Answers j bytes n two y) same k)).1
+    answers_same job bytes m n one two x y (e job asked) h (subst (λ (j : Job). Answers j bytes n two y) same k)
 
 -- ---- the statuses
 
@@ -157,7 +158,7 @@ any_front code (Some held) after x y stopped grown =
 first_same : (most : ℕ) (before : Option (List ℕ)) (left bytes : List ℕ) → before ≡ Some left → AreFirst most before bytes → bytes ≡ take most left
 first_same most before left bytes told read = subst (λ (o : Option (List ℕ)). AreFirst most o bytes) told read
 
-module _ (ws : List (List ℕ)) (left : List ℕ) (old new before after : Sides) (code other : ℕ) where
+module _ (ws : List (List ℕ)) (determined : AreDetermined ws) (left : List ℕ) (old new before after : Sides) (code other : ℕ) where
   abbrev Both : Type 0
   Both = (text : List ℕ) × Grows code old.held new.held text × Grows other before.held after.held text
 
@@ -165,7 +166,7 @@ module _ (ws : List (List ℕ)) (left : List ℕ) (old new before after : Sides)
   one_text a b same (inl stopped) r = (b.text, any_front code old.held new.held a.text b.text stopped a.grown, b.grown)
   one_text a b same (inr s) (inl stopped) = (a.text, a.grown, any_front other before.held after.held b.text a.text stopped b.grown)
   one_text a b same (inr s) (inr r) =
-      let texts : b.text ≡ a.text = text_same ws b.bytes b.text a.text r (subst (λ (xs : List ℕ). IsTextOf ws xs a.text) same s) in
+      let texts : b.text ≡ a.text = text_same ws b.bytes b.text a.text determined r (subst (λ (xs : List ℕ). IsTextOf ws xs a.text) same s) in
       (a.text, a.grown, subst (λ (xs : List ℕ). Grows other before.held after.held xs) texts b.grown)
 
   pub both_fronts : old.left ≡ Some left → before.left ≡ Some left → WritesFrontOf ws old new code → WritesFrontOf ws before after other → Both

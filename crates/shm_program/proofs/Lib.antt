@@ -1,6 +1,7 @@
 pub mod ImageSizes
 pub mod CleanImages
 pub mod JobAnswers
+pub mod Tellings
 pub mod TopReads
 pub mod TopAnswers
 pub mod CallEnds
@@ -8,6 +9,7 @@ pub mod Commands
 pub mod Numerals
 pub mod ProgramWords
 pub mod LoggedClients
+pub mod SoundTurns
 pub mod SameTexts
 pub mod SameCalls
 pub mod Fronts

@@ -1,8 +1,7 @@
 -- what is written of a trace is determined
-use Rattle.std.proofs.Common.{◌≡◌, ℕ, zero, suc, ◌<◌, ◌≤◌, List, [], ◌∷◌, ◌++◌, map, refl, sym, ap, ◌∙◌, subst, arith, inl, inr}
+use Rattle.std.proofs.Common.{◌≡◌, true, ℕ, zero, suc, ◌<◌, ◌≤◌, List, [], ◌∷◌, ◌++◌, map, refl, sym, ap, ◌∙◌, subst, arith, inl, inr}
 use Rattle.std.proofs.lemmas.Bool.{cases_eq}
 use Rattle.std.specs.Prelude.{Option, Some, None}
-use Rattle.shm_audit.specs.Images.{image_of}
 use Rattle.shm_audit.specs.Texts.{fault_line as image_fault_line}
 use Rattle.shm_words.specs.declared.geometry.Geometry.{Geometry}
 use Rattle.shm_graph.specs.declared.spot.Spot.TheVariants.{Home}
@@ -10,9 +9,8 @@ use Rattle.shm_graph.specs.declared.table.Entry.{Entry}
 use Rattle.shm_graph.specs.Spots.{see}
 use Rattle.shm_graph.specs.Tables.{IsChain, IsTable}
 use Rattle.shm_plain.specs.Pools.{Pool}
-use Rattle.shm_replay.specs.declared.replaying.Replayed.{Replayed as Run}
 use Rattle.shm_replay.proofs.SameReplays.{replay_same}
-use Rattle.shm_report.specs.Report.{add_entries, entries_below, report_of, row_of, rows_below, rows_text, counts_text, summary_of, table_line}
+use Rattle.shm_report.specs.Report.{add_entries, entries_below, row_of, rows_below, rows_text, counts_text, table_line}
 use Rattle.shm_report.specs.Logs.{client_line, log_text}
 use Rattle.shm_report.specs.TableRows.{contents_in}
 use Rattle.shm_report.proofs.ChainReading.{chain_end}
@@ -32,7 +30,8 @@ use Rattle.shm_program.specs.declared.outcome.Finished.{Finished}
 use Rattle.shm_program.specs.declared.words.Form.{Form}
 use Rattle.shm_program.specs.declared.words.Form.TheVariants.{Report, Image, Summary}
 use Rattle.shm_program.specs.declared.words.Job.{Job}
-use Rattle.shm_program.specs.declared.words.Job.TheVariants.{Replay, Print, Audit, Migrate, Make, Draw}
+use Rattle.shm_program.specs.declared.words.Job.TheVariants.{Replay, Print, Run, Audit, Migrate, Make, Draw}
+use Rattle.shm_program.specs.Words.{is_determined}
 
 -- ---- tables
 
@@ -75,46 +74,37 @@ module _ (g : Geometry) (ws : List ℕ) (t u : ℕ → ℕ → List Entry) (a : 
 
 -- ---- replays
 
--- what is written, by the closed pool and the logs
-abbrev text_by : Form → Pool → List Logged → (ℕ → ℕ → List Entry) → List ℕ
-text_by Report p ls table = report_of p.start.geometry (see p.start.geometry p.words) table ls
-text_by Image p ls table = image_of p.start.geometry p.words
-text_by Summary p ls table = summary_of p.start.geometry (see p.start.geometry p.words) table ls
-
-written_by : (form : Form) (run : Run) (table : ℕ → ℕ → List Entry) → written form run table ≡ text_by form run.closed run.logs.items table
-written_by Report run table = refl
-written_by Image run table = refl
-written_by Summary run table = refl
-
-tables_same : (form : Form) (p : Pool) (ls : List Logged) (t u : ℕ → ℕ → List Entry) → IsTable p.start.geometry (see p.start.geometry p.words) t → IsTable p.start.geometry (see p.start.geometry p.words) u → text_by form p ls t ≡ text_by form p ls u
+tables_same : (form : Form) (p : Pool) (ls : List Logged) (t u : ℕ → ℕ → List Entry) → IsTable p.start.geometry (see p.start.geometry p.words) t → IsTable p.start.geometry (see p.start.geometry p.words) u
+    → written form p.start.geometry p.words t ls ≡ written form p.start.geometry p.words u ls
 tables_same Report p ls t u a b = let g = p.start.geometry in ap (λ rows. flat_map log_text ls ++ rows_text g (see g p.words) rows) (rows_same g p.words t u a b g.clients (omega arith))
 tables_same Image p ls t u a b = refl
 tables_same Summary p ls t u a b = let g = p.start.geometry in ap (λ rows. flat_map client_line ls ++ table_line rows ++ counts_text g (see g p.words)) (rows_same g p.words t u a b g.clients (omega arith))
 
--- one text is written of a trace
+-- one text is written of a replay of a trace
 pub told_same : (form : Form) (t : Traced) (one other : Finished) (x y : List ℕ) → IsTold form t one x → IsTold form t other y → x ≡ y
 told_same form t one other x y (r, e) (s, f) =
     let same = replay_same t r.run.closed s.run.closed r.run.logs.items s.run.logs.items r.replay s.replay in
     let ls = r.run.logs.items in
     let table = r.replay.table in
-    e ∙ (written_by form r.run table
-    ∙ (ap (λ (p : Pool). text_by form p ls table) same.0
-    ∙ (ap (λ (ms : List Logged). text_by form s.run.closed ms table) same.1
+    e ∙ (ap (λ (p : Pool). written form p.start.geometry p.words table ls) same.0
+    ∙ (ap (λ (ms : List Logged). written form s.run.closed.start.geometry s.run.closed.words table ms) same.1
     ∙ (tables_same form s.run.closed s.run.logs.items table s.replay.table (subst (λ (p : Pool). IsTable p.start.geometry (see p.start.geometry p.words) table) same.0 r.replay.is) s.replay.is
-    ∙ (sym (written_by form s.run s.replay.table) ∙ sym f)))))
+    ∙ sym f)))
 
 -- ---- jobs
 
 trace_same : (bytes : List ℕ) (s t : Traced) → Spells bytes s → Spells bytes t → s ≡ t
 trace_same bytes s t a b = one_spelling s t a.trace b.trace (sym a.text ∙ b.text)
 
-pub done_same : (job : Job) (bytes : List ℕ) (one other : Finished) (x y : List ℕ) → IsDone job bytes one x → IsDone job bytes other y → x ≡ y
-done_same (Replay form) bytes one other x y (s, a, h) (t, b, k) = told_same form s one other x y h (subst (λ (z : Traced). IsTold form z other y) (trace_same bytes t s b a) k)
-done_same Print bytes one other x y (s, a, h) (t, b, k) = h.1 ∙ (ap text_of (trace_same bytes s t a b) ∙ sym k.1)
-done_same Audit bytes one other x y h k = h.verdict ∙ sym k.verdict
-done_same Migrate bytes one other x y h k = h.image ∙ sym k.image
-done_same (Make start size) bytes one other x y h k = told_same Summary (drawn_trace start size) one other x y h k
-done_same (Draw start size) bytes one other x y h k = h.1 ∙ sym k.1
+-- what is done is told in one text, but for a run
+pub done_same : (job : Job) (bytes : List ℕ) (one other : Finished) (x y : List ℕ) → is_determined job ≡ true → IsDone job bytes one x → IsDone job bytes other y → x ≡ y
+done_same (Replay form) bytes one other x y e (s, a, h) (t, b, k) = told_same form s one other x y h (subst (λ (z : Traced). IsTold form z other y) (trace_same bytes t s b a) k)
+done_same Print bytes one other x y e (s, a, h) (t, b, k) = h.1 ∙ (ap text_of (trace_same bytes s t a b) ∙ sym k.1)
+done_same (Run form) bytes one other x y e h k = cc
+done_same Audit bytes one other x y e h k = h.verdict ∙ sym k.verdict
+done_same Migrate bytes one other x y e h k = h.image ∙ sym k.image
+done_same (Make start size) bytes one other x y e h k = told_same Summary (drawn_trace start size) one other x y h k
+done_same (Draw start size) bytes one other x y e h k = h.1 ∙ sym k.1
 
 some_same : {A : Type 0} (o : Option A) (x y : A) → o ≡ Some x → o ≡ Some y → x ≡ y
 some_same o x y e f = cc
@@ -128,6 +118,7 @@ trace_fault_same bytes x y (f, e, h) (k, d, l) = h ∙ (ap fault_line (some_same
 pub faulty_same : (job : Job) (bytes x y : List ℕ) → IsFaulty job bytes x → IsFaulty job bytes y → x ≡ y
 faulty_same (Replay form) bytes x y a b = trace_fault_same bytes x y a b
 faulty_same Print bytes x y a b = trace_fault_same bytes x y a b
+faulty_same (Run form) bytes x y a b = trace_fault_same bytes x y a b
 faulty_same Audit bytes x y (f, e, h) (k, d, l) = h ∙ (ap image_fault_line (some_same _ f k e d) ∙ sym l)
 faulty_same Migrate bytes x y (f, e, h) (k, d, l) = h ∙ (ap stop_line (some_same _ f k e d) ∙ sym l)
 faulty_same (Make start size) bytes x y a b = absurd a
@@ -140,14 +131,22 @@ spelled_faultless bytes t a = faultless bytes (a.short, t, a.trace, a.text)
 pub done_or_faulty : (job : Job) (bytes : List ℕ) (one : Finished) (x y : List ℕ) → IsDone job bytes one x → IsFaulty job bytes y → ⊥
 done_or_faulty (Replay form) bytes one x y (t, a, h) (f, e, l) = some_none (fault_of bytes) f e (spelled_faultless bytes t a)
 done_or_faulty Print bytes one x y (t, a, h) (f, e, l) = some_none (fault_of bytes) f e (spelled_faultless bytes t a)
+done_or_faulty (Run form) bytes one x y (t, a, h) (f, e, l) = some_none (fault_of bytes) f e (spelled_faultless bytes t a)
 done_or_faulty Audit bytes one x y h (f, e, l) = some_none _ f e h.faultless
 done_or_faulty Migrate bytes one x y h (f, e, l) = some_none _ f e h.allowed
 done_or_faulty (Make start size) bytes one x y h b = b
 done_or_faulty (Draw start size) bytes one x y h b = b
 
--- one status and one text answer the bytes
-pub answers_same : (job : Job) (bytes : List ℕ) (m n : ℕ) (one other : Finished) (x y : List ℕ) → Answers job bytes m one x → Answers job bytes n other y → (m ≡ n) × (x ≡ y)
-answers_same job bytes m n one other x y (inl a) (inl b) = (a.0 ∙ sym b.0, done_same job bytes one other x y a.1 b.1)
-answers_same job bytes m n one other x y (inl a) (inr b) = absurd (done_or_faulty job bytes one x y a.1 b.2)
-answers_same job bytes m n one other x y (inr a) (inl b) = absurd (done_or_faulty job bytes other y x b.1 a.2)
-answers_same job bytes m n one other x y (inr a) (inr b) = (a.0 ∙ sym b.0, faulty_same job bytes x y a.2 b.2)
+-- one status answers the bytes
+pub status_same : (job : Job) (bytes : List ℕ) (m n : ℕ) (one other : Finished) (x y : List ℕ) → Answers job bytes m one x → Answers job bytes n other y → m ≡ n
+status_same job bytes m n one other x y (inl a) (inl b) = a.0 ∙ sym b.0
+status_same job bytes m n one other x y (inl a) (inr b) = absurd (done_or_faulty job bytes one x y a.1 b.2)
+status_same job bytes m n one other x y (inr a) (inl b) = absurd (done_or_faulty job bytes other y x b.1 a.2)
+status_same job bytes m n one other x y (inr a) (inr b) = a.0 ∙ sym b.0
+
+-- and one text, but for a run
+pub answers_same : (job : Job) (bytes : List ℕ) (m n : ℕ) (one other : Finished) (x y : List ℕ) → is_determined job ≡ true → Answers job bytes m one x → Answers job bytes n other y → x ≡ y
+answers_same job bytes m n one other x y e (inl a) (inl b) = done_same job bytes one other x y e a.1 b.1
+answers_same job bytes m n one other x y e (inl a) (inr b) = absurd (done_or_faulty job bytes one x y a.1 b.2)
+answers_same job bytes m n one other x y e (inr a) (inl b) = absurd (done_or_faulty job bytes other y x b.1 a.2)
+answers_same job bytes m n one other x y e (inr a) (inr b) = faulty_same job bytes x y a.2 b.2

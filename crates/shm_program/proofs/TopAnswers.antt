@@ -7,9 +7,9 @@ use Rattle.shm_script.specs.Values.{Traced}
 use Rattle.shm_script.proofs.Complete.{faultless}
 use Rattle.shm_program.specs.declared.outcome.Finished.{Finished}
 use Rattle.shm_program.specs.declared.words.Job.{Job}
-use Rattle.shm_program.specs.declared.words.Job.TheVariants.{Replay, Print, Audit, Migrate, Make, Draw}
+use Rattle.shm_program.specs.declared.words.Job.TheVariants.{Replay, Print, Run, Audit, Migrate, Make, Draw}
 use Rattle.shm_program.specs.Outcomes.{Answers, Done, IsDone, IsFaulty, IsInput, Refused, Spells}
-use Rattle.shm_program.specs.Reads.{Reads, ReadsAll, ReadsLimit, input_of, limit_of}
+use Rattle.shm_program.specs.Reads.{IsRead, Reads, ReadsAll, ReadsLimit, input_of, limit_of}
 use Rattle.shm_program.proofs.ImageSizes.{image_short, unrefused}
 use Rattle.shm_program.proofs.TopReads.{read_same, reads, reads_all, reads_none}
 
@@ -22,6 +22,7 @@ is_text bytes t s = (s.short, t, s.trace, s.text)
 done_input : (job : Job) (bytes : List ℕ) (finished : Finished) (text : List ℕ) → IsDone job bytes finished text → IsInput job bytes
 done_input (Replay form) bytes finished text d = is_text bytes d.0 d.1
 done_input Print bytes finished text d = is_text bytes d.0 d.1
+done_input (Run form) bytes finished text d = is_text bytes d.0 d.1
 done_input Audit bytes finished text d = d.faultless
 done_input Migrate bytes finished text d = d.allowed
 done_input (Make start size) bytes finished text d = tt
@@ -31,6 +32,7 @@ done_input (Draw start size) bytes finished text d = tt
 done_read : (job : Job) (before after : Option (List ℕ)) (bytes : List ℕ) → TakesFront before after (limit_of job) bytes → length bytes ≤ limit_of job → IsInput job bytes → Reads job before after bytes
 done_read (Replay form) before after bytes t few input = let short : length bytes ≤ 1048576 = input.0 in reads_all 1048577 before after bytes t (omega (arith, short))
 done_read Print before after bytes t few input = let short : length bytes ≤ 1048576 = input.0 in reads_all 1048577 before after bytes t (omega (arith, short))
+done_read (Run form) before after bytes t few input = let short : length bytes ≤ 1048576 = input.0 in reads_all 1048577 before after bytes t (omega (arith, short))
 done_read Audit before after bytes t few input = reads_all 132185377 before after bytes t (image_short bytes input)
 done_read Migrate before after bytes t few input = reads_all 132185377 before after bytes t (image_short bytes (unrefused bytes input))
 done_read (Make start size) before after bytes t few input = reads_none before after bytes t few
@@ -40,6 +42,7 @@ any_read : (job : Job) (before after : Option (List ℕ)) (bytes : List ℕ) →
     → Reads job before after bytes ⊎ ReadsLimit (limit_of job) before after bytes
 any_read (Replay form) before after bytes t few = reads 1048577 before after bytes t few
 any_read Print before after bytes t few = reads 1048577 before after bytes t few
+any_read (Run form) before after bytes t few = reads 1048577 before after bytes t few
 any_read Audit before after bytes t few = reads 132185377 before after bytes t few
 any_read Migrate before after bytes t few = reads 132185377 before after bytes t few
 any_read (Make start size) before after bytes t few = inl (reads_none before after bytes t few)
@@ -55,14 +58,12 @@ answered job before after bytes status finished text t few (inl d) =
     inl (d.0, record { bytes = bytes; read = done_read job before after bytes t few (done_input job bytes finished text d.1); is = d.1 })
 answered job before after bytes status finished text t few (inr d) = inr (d.0, record { kept = d.1; bytes = bytes; few = few; read = any_read job before after bytes t few; is = d.2 })
 
--- the answer as it was written
-pub said : (job : Job) (before after : Option (List ℕ)) (limit : ℕ) (bytes read : List ℕ) (status : ℕ) (finished kept : Finished) (text written : List ℕ) → limit ≡ limit_of job
-    → TakesFront before after limit bytes → length bytes ≤ limit → read ≡ bytes → Answers job read status finished text → kept ≡ finished → written ≡ text → Said job before after status kept written
-said job before after limit bytes read status finished kept text written most front few same a k w =
+-- the answer to what was read
+pub said : (job : Job) (before after : Option (List ℕ)) (faults later : ℕ) (bytes read : List ℕ) (status : ℕ) (finished kept : Finished) (text : List ℕ) → IsRead before faults after later (limit_of job) bytes
+    → read ≡ bytes → Answers job read status finished text → kept ≡ finished → Said job before after status kept text
+said job before after faults later bytes read status finished kept text taken same a k =
     let b = subst (λ (xs : List ℕ). Answers job xs status finished text) same a in
-    let c = subst (λ (f : Finished). Answers job bytes status f text) (sym k) b in
-    let d = subst (λ (xs : List ℕ). Answers job bytes status kept xs) (sym w) c in
-    answered job before after bytes status kept written (subst (λ (n : ℕ). TakesFront before after n bytes) most front) (subst (λ (n : ℕ). length bytes ≤ n) most few) d
+    answered job before after bytes status kept text taken.front taken.few (subst (λ (f : Finished). Answers job bytes status f text) (sym k) b)
 
 -- ---- what the answer is to what the source had left
 
@@ -76,6 +77,7 @@ some_none x e = cc
 no_fault : (job : Job) (bytes text : List ℕ) → IsInput job bytes → IsFaulty job bytes text → ⊥
 no_fault (Replay form) bytes text input f = some_none f.0 (sym f.1 ∙ faultless bytes input)
 no_fault Print bytes text input f = some_none f.0 (sym f.1 ∙ faultless bytes input)
+no_fault (Run form) bytes text input f = some_none f.0 (sym f.1 ∙ faultless bytes input)
 no_fault Audit bytes text input f = some_none f.0 (sym f.1 ∙ input)
 no_fault Migrate bytes text input f = some_none f.0 (sym f.1 ∙ input)
 no_fault (Make start size) bytes text input f = f
@@ -92,6 +94,10 @@ input_read Print before after bytes read text left input r refused =
     let short : length bytes ≤ 1048576 = input.0 in
     let same = read_same 1048577 before after read bytes left (omega (arith, short)) r in
     no_fault Print bytes text input (subst (λ (xs : List ℕ). IsFaulty Print xs text) same refused)
+input_read (Run form) before after bytes read text left input r refused =
+    let short : length bytes ≤ 1048576 = input.0 in
+    let same = read_same 1048577 before after read bytes left (omega (arith, short)) r in
+    no_fault (Run form) bytes text input (subst (λ (xs : List ℕ). IsFaulty (Run form) xs text) same refused)
 input_read Audit before after bytes read text left input r refused =
     let same = read_same 132185377 before after read bytes left (image_short bytes input) r in
     no_fault Audit bytes text input (subst (λ (xs : List ℕ). IsFaulty Audit xs text) same refused)
@@ -115,6 +121,7 @@ read_all (Some xs) after bytes read left r = r.0 ∙ some_same xs bytes left
 done_all : (job : Job) (before after : Option (List ℕ)) (bytes read text : List ℕ) → input_of job before ≡ Some bytes → Reads job before after read → IsInput job read → IsFaulty job bytes text → ⊥
 done_all (Replay form) before after bytes read text left r input f = no_fault (Replay form) bytes text (subst (λ (xs : List ℕ). IsInput (Replay form) xs) (read_all before after bytes read left r) input) f
 done_all Print before after bytes read text left r input f = no_fault Print bytes text (subst (λ (xs : List ℕ). IsInput Print xs) (read_all before after bytes read left r) input) f
+done_all (Run form) before after bytes read text left r input f = no_fault (Run form) bytes text (subst (λ (xs : List ℕ). IsInput (Run form) xs) (read_all before after bytes read left r) input) f
 done_all Audit before after bytes read text left r input f = no_fault Audit bytes text (subst (λ (xs : List ℕ). IsInput Audit xs) (read_all before after bytes read left r) input) f
 done_all Migrate before after bytes read text left r input f = no_fault Migrate bytes text (subst (λ (xs : List ℕ). IsInput Migrate xs) (read_all before after bytes read left r) input) f
 done_all (Make start size) before after bytes read text left r input f = f

@@ -19,17 +19,17 @@ use Rattle.shm_script.specs.Text.{text_of}
 use Rattle.shm_script.specs.Values.{Traced}
 use Rattle.shm_program.specs.Reads.{Reads, ReadsLimit, input_of, limit_of, most_of}
 use Rattle.shm_program.specs.Refusals.{fault_line}
-use Rattle.shm_program.specs.Replays.{IsTold}
+use Rattle.shm_program.specs.Replays.{IsTeamTold, IsTold}
 use Rattle.shm_program.specs.Words.{NamesCommand, job_of}
 use Rattle.shm_program.specs.declared.outcome.Finished.{Finished}
 use Rattle.shm_program.specs.declared.outcome.Finished.TheVariants.{Neither}
 use Rattle.shm_program.specs.declared.words.Form.TheVariants.{Summary}
 use Rattle.shm_program.specs.declared.words.Job.{Job}
-use Rattle.shm_program.specs.declared.words.Job.TheVariants.{Replay, Print, Audit, Migrate, Make, Draw}
+use Rattle.shm_program.specs.declared.words.Job.TheVariants.{Replay, Print, Run, Audit, Migrate, Make, Draw}
 
 -- the line that is written where the words aren't accepted
 abbrev pub usage_text : List ℕ
-usage_text = codes "usage: cxlshm replay [--image|--print] | audit | make START SIZE [--print] | migrate\n"
+usage_text = codes "usage: cxlshm replay [--image|--print] | run [--image] | audit | make START SIZE [--print] | migrate\n"
 
 -- ---- what a job is asked for
 
@@ -49,7 +49,7 @@ IsInput _ bytes = IsTraceText bytes
 
 -- ---- what is answered to the bytes that were read
 
--- no replay was made, and the text is that of this trace
+-- neither a replay nor a run was made, and the text is that of this trace
 abbrev pub IsPrinted : Traced → Finished → List ℕ → Type 0
 IsPrinted t finished text = (finished ≡ Neither) × (text ≡ text_of t)
 
@@ -69,6 +69,7 @@ pub record IsMigrated (bytes : List ℕ) (finished : Finished) (text : List ℕ)
 abbrev pub IsDone : Job → List ℕ → Finished → List ℕ → Type 0
 IsDone (Replay form) bytes finished text = (t : Traced) × Spells bytes t × IsTold form t finished text
 IsDone Print bytes finished text = (t : Traced) × Spells bytes t × IsPrinted t finished text
+IsDone (Run form) bytes finished text = (t : Traced) × Spells bytes t × IsTeamTold form t finished text
 IsDone Audit bytes finished text = IsAudited bytes finished text
 IsDone Migrate bytes finished text = IsMigrated bytes finished text
 IsDone (Make start size) bytes finished text = IsTold Summary (drawn_trace start size) finished text
@@ -126,6 +127,19 @@ Writes before after IsText = (text : List ℕ) × IsText text × Appends before 
 -- a front of the text was written, and not all of it
 abbrev pub WritesFront : Option (List ℕ) → Option (List ℕ) → (List ℕ → Type 0) → Type 0
 WritesFront before after IsText = (text : List ℕ) × IsText text × AppendsFront before after text
+
+-- the whole text was written, and the status is that of the answer; or a write failed behind a front of the text, and the status is 5
+pub record IsWritten (before : Option (List ℕ)) (faults : ℕ) (after : Option (List ℕ)) (later answer code : ℕ) (text : List ℕ) : Type 0 where
+  pub ends : (code ≡ answer) ⊎ (code ≡ 5)
+  pub whole : code ≡ answer → Appends before after text × (later ≡ faults)
+  pub failed : code ≡ 5 → Rose faults later × AppendsFront before after text
+
+-- nothing was made and nothing written, for want of memory
+pub record IsWanting (before : Option (List ℕ)) (faults : ℕ) (after : Option (List ℕ)) (later code : ℕ) (finished : Finished) : Type 0 where
+  pub ends : code ≡ 6
+  pub kept : finished ≡ Neither
+  pub held : after ≡ before
+  pub quiet : later ≡ faults
 
 -- the statuses that the program ends with
 abbrev pub IsStatus : ℕ → Type 0

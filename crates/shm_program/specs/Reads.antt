@@ -1,5 +1,7 @@
 -- which bytes a job reads
-use Rattle.std.specs.Prelude.{◌≡◌, ℕ, List, [], length, take, drop, Option, Some, None, MatchOption}
+use Rattle.std.specs.Prelude.{◌≡◌, ◌⊎◌, ℕ, ◌<◌, ◌≤◌, List, [], length, take, drop, Option, Some, None, MatchOption}
+use Rattle.shm_io.specs.Faults.{Rose}
+use Rattle.shm_io.specs.Reading.{LosesFront, TakesFront}
 use Rattle.shm_program.specs.declared.words.Job.{Job}
 use Rattle.shm_program.specs.declared.words.Job.TheVariants.{Audit, Migrate, Make, Draw}
 
@@ -39,3 +41,15 @@ abbrev pub Reads : Job → Option (List ℕ) → Option (List ℕ) → List ℕ 
 Reads (Make start size) = ReadsNone
 Reads (Draw start size) = ReadsNone
 Reads _ = ReadsAll
+
+-- these are the bytes that a source gave up to a limit, and no read failed
+pub record IsRead (before : Option (List ℕ)) (faults : ℕ) (after : Option (List ℕ)) (later limit : ℕ) (bytes : List ℕ) : Type 0 where
+  pub front : TakesFront before after limit bytes
+  pub few : length bytes ≤ limit
+  pub quiet : later ≡ faults
+
+-- a source didn't give its bytes up to a limit: a read failed, which is the status 4, or memory was wanting, which is 6
+pub record IsUnread (before : Option (List ℕ)) (faults : ℕ) (after : Option (List ℕ)) (later limit code : ℕ) : Type 0 where
+  pub ends : ((code ≡ 4) × Rose faults later) ⊎ ((code ≡ 6) × (later ≡ faults))
+  pub some : 0 < limit
+  pub lost : LosesFront before after limit

@@ -1,38 +1,58 @@
--- the replay of a trace, and what is written of it
+-- the replay of a trace or its run by threads, and what is written of it
 use Rattle.std.specs.Prelude.{◌≡◌, ℕ, List, ◌++◌, codes}
 use Rattle.std.specs.Fmt.{decimal}
+use Rattle.shm_words.specs.declared.geometry.Geometry.{Geometry}
 use Rattle.shm_audit.specs.Images.{image_of}
 use Rattle.shm_graph.specs.Blocks.{classes}
 use Rattle.shm_graph.specs.References.{live_count, references, references_in_all}
 use Rattle.shm_graph.specs.Spots.{see}
+use Rattle.shm_graph.specs.declared.run.Move.{Move}
 use Rattle.shm_graph.specs.declared.table.Entry.{Entry}
-use Rattle.shm_plain.specs.Pools.{Pool}
-use Rattle.shm_replay.specs.declared.replaying.Replayed.{Replayed as Run}
+use Rattle.shm_plain.specs.Pools.{Pool, pool}
+use Rattle.shm_replay.specs.declared.replaying.Replayed.{Replayed as Replay}
 use Rattle.shm_replay.specs.Replays.{IsReplay}
 use Rattle.shm_report.specs.Report.{report_of, summary_of}
+use Rattle.shm_script.specs.Logged.{Logged}
 use Rattle.shm_script.specs.Values.{Traced}
+use Rattle.shm_team.specs.declared.team.Ran.{Ran as Team}
+use Rattle.shm_team.specs.Rans.{IsTeamRun}
 use Rattle.shm_program.specs.declared.outcome.Finished.{Finished}
-use Rattle.shm_program.specs.declared.outcome.Finished.TheVariants.{Replayed}
+use Rattle.shm_program.specs.declared.outcome.Finished.TheVariants.{Replayed, Ran}
 use Rattle.shm_program.specs.declared.words.Form.{Form}
 use Rattle.shm_program.specs.declared.words.Form.TheVariants.{Report, Image, Summary}
 
 -- the trace was replayed, and what is kept is its replay: the closed pool, and the logs
 pub record IsRan (t : Traced) (finished : Finished) : Type 0 where
-  pub run : Run
+  pub run : Replay
   pub kept : finished ≡ Replayed run
   pub replay : IsReplay t run.closed run.logs.items
 
--- what is written of a replay that left this table: the report or the summary of its words and its logs, or the image of its words
-abbrev pub written : Form → Run → (ℕ → ℕ → List Entry) → List ℕ
-written Report run table = let g = run.closed.start.geometry in report_of g (see g run.closed.words) table run.logs.items
-written Image run table = image_of run.closed.start.geometry run.closed.words
-written Summary run table = let g = run.closed.start.geometry in summary_of g (see g run.closed.words) table run.logs.items
+-- the pool that threads closed, with turns that lead to it
+abbrev pub team_pool : Team → List Move → Pool
+team_pool run turns = pool run.closed.start run.closed.words run.closed.accounts turns
+
+-- the trace was run by clients on threads, and what is kept is what they left: the closed pool, to which turns in some lawful order lead, and the logs
+pub record IsTeam (t : Traced) (finished : Finished) : Type 0 where
+  pub run : Team
+  pub kept : finished ≡ Ran run
+  pub turns : List Move
+  pub team : IsTeamRun t (team_pool run turns) run.logs.items
+
+-- what is written of a closed pool with these words, which hold this table, and of these logs: the report or the summary of both, or the image of the words
+abbrev pub written : Form → Geometry → List ℕ → (ℕ → ℕ → List Entry) → List Logged → List ℕ
+written Report g ws table ls = report_of g (see g ws) table ls
+written Image g ws table ls = image_of g ws
+written Summary g ws table ls = summary_of g (see g ws) table ls
 
 -- the trace was replayed, and the text is what is written of that
 abbrev pub IsTold : Form → Traced → Finished → List ℕ → Type 0
-IsTold form t finished text = (r : IsRan t finished) × (text ≡ written form r.run r.replay.table)
+IsTold form t finished text = (r : IsRan t finished) × (text ≡ written form r.run.closed.start.geometry r.run.closed.words r.replay.table r.run.logs.items)
 
--- the last line of the report of a replay that left this pool, `live L refs F`: how many of its blocks are live, and how many of its words name one
+-- the trace was run by clients on threads, and the text is what is written of that
+abbrev pub IsTeamTold : Form → Traced → Finished → List ℕ → Type 0
+IsTeamTold form t finished text = (r : IsTeam t finished) × (text ≡ written form r.run.closed.start.geometry r.run.closed.words r.team.table r.run.logs.items)
+
+-- the last line of the report of this closed pool, `live L refs F`: how many of its blocks are live, and how many of its words name one
 abbrev pub last_line : Pool → List ℕ
 last_line p =
     let g = p.start.geometry in

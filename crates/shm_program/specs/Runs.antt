@@ -1,4 +1,4 @@
--- the turns of a pool that was replayed
+-- the turns of a closed pool
 use Rattle.std.specs.Prelude.{List}
 use Rattle.shm_graph.specs.declared.memo.Step.{Step}
 use Rattle.shm_graph.specs.declared.run.Move.{Move}

@@ -7,7 +7,7 @@ use Rattle.clap.specs.declared.parser.matches.ArgMatches.{ArgMatches}
 use Rattle.shm_script.specs.Numbers.{is_numeral, small, value_after}
 use Rattle.shm_program.specs.declared.words.Form.TheVariants.{Report, Image}
 use Rattle.shm_program.specs.declared.words.Job.{Job}
-use Rattle.shm_program.specs.declared.words.Job.TheVariants.{Replay, Print, Audit, Migrate, Make, Draw}
+use Rattle.shm_program.specs.declared.words.Job.TheVariants.{Replay, Print, Run, Audit, Migrate, Make, Draw}
 use Rattle.shm_program.specs.declared.words.Name.{Name}
 use Rattle.shm_program.specs.declared.words.Name.TheVariants as name
 
@@ -24,6 +24,10 @@ required id = record (new_rule id) { required = true }
 -- `replay` has two flags
 abbrev pub replay_command : App
 replay_command = with_rule (with_rule (new_app (codes "replay")) (flag (codes "image"))) (flag (codes "print"))
+
+-- `run` has one
+abbrev pub run_command : App
+run_command = with_rule (new_app (codes "run")) (flag (codes "image"))
 
 -- `audit` has nothing but what each command has
 abbrev pub audit_command : App
@@ -73,6 +77,14 @@ replay_of true true = None
 abbrev pub replay_in : List Row → Option Job
 replay_in rows = replay_of (is_true (first_of (codes "image") rows)) (is_true (first_of (codes "print") rows))
 
+-- `run` by its flag `--image`
+abbrev pub run_of : Bool → Job
+run_of false = Run Report
+run_of true = Run Image
+
+abbrev pub run_in : List Row → Option Job
+run_in rows = Some (run_of (is_true (first_of (codes "image") rows)))
+
 abbrev pub audit_in : List Row → Option Job
 audit_in rows = Some Audit
 
@@ -103,6 +115,7 @@ asked command job words = option_and_then job (read_by command words)
 abbrev pub name_of : List ℕ → Option Name
 name_of word =
     if bytes_eq word (codes "replay") then Some name.Replay
+    else if bytes_eq word (codes "run") then Some name.Run
     else if bytes_eq word (codes "audit") then Some name.Audit
     else if bytes_eq word (codes "make") then Some name.Make
     else if bytes_eq word (codes "migrate") then Some name.Migrate
@@ -110,6 +123,7 @@ name_of word =
 
 abbrev pub job_by : Name → List (List ℕ) → Option Job
 job_by name.Replay words = asked replay_command replay_in words
+job_by name.Run words = asked run_command run_in words
 job_by name.Audit words = asked audit_command audit_in words
 job_by name.Make words = asked make_command make_in words
 job_by name.Migrate words = asked migrate_command migrate_in words
@@ -128,3 +142,12 @@ abbrev pub JobFits : Job → Type 0
 JobFits (Make start size) = (1 ≤ size) × (size ≤ 4000)
 JobFits (Draw start size) = (1 ≤ size) × (size ≤ 4000)
 JobFits _ = Unit {0}
+
+-- the text that a job writes follows from the bytes that it reads: of all but a run, whose threads take their turns in any lawful order
+abbrev pub is_determined : Job → Bool
+is_determined (Run form) = false
+is_determined _ = true
+
+-- and so it does for what the words ask for
+abbrev pub AreDetermined : List (List ℕ) → Type 0
+AreDetermined words = (job : Job) → job_of words ≡ Some job → is_determined job ≡ true

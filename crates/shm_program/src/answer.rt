@@ -1,21 +1,24 @@
 //! What is answered to the bytes that a job read.
 
-ghost use Rattle.std.specs.Prelude.{◌≡◌, IfOk};
+ghost use Rattle.std.specs.Prelude.{◌≡◌, true, IfOk};
 ghost use Rattle.shm_audit.specs.Faults.{image_fault_of};
 ghost use Rattle.shm_script.specs.declared.fault.ParseStop.{ParseStop as AStop};
 ghost use Rattle.shm_script.specs.declared.fault.TraceFault.{TraceFault as AFault};
 ghost use Rattle.shm_program.specs.Outcomes.{Answers, IsPrinted};
 ghost use Rattle.shm_program.specs.Refusals.{fault_line};
-ghost use Rattle.shm_program.specs.Words.{JobFits};
+ghost use Rattle.shm_program.specs.Words.{JobFits, is_determined};
 
 use crate::outcome::Finished;
 use crate::refusals::fault_line;
-use crate::telling::tell;
+use crate::telling::{tell, tell_team};
 use crate::words::{Form, Job};
 use shm_audit::{AuditStop, audit, fault_text, verdict_text};
 use shm_migrate::{MigrateStop, migrate, stop_text};
 use shm_script::{ParseStop, Trace, generate, parse, print};
+use shm_team::Gate;
 use std::alloc::{AllocError, Global};
+use std::sync::Wait;
+use std::thread::Threads;
 
 /// A text that is to be written, with the status that it has.
 #[derive(Drop)]
@@ -25,9 +28,10 @@ pub struct Reply {
     pub finished: Finished,
 }
 
-/// What a job answers to the bytes that it read.
+/// What a job that needs no threads answers to the bytes that it read.
 pub fn answer(alloc: Global, job: Job, bytes: &[u8]) -> Result<Reply, AllocError>
-    requires { JobFits job }
+    requires fits { JobFits job }
+    requires determined { is_determined job ≡ true }
     ensures { IfOk result (λ r. Answers job bytes.now r.status r.finished r.text.items) }
 {
     match job {
@@ -39,10 +43,27 @@ pub fn answer(alloc: Global, job: Job, bytes: &[u8]) -> Result<Reply, AllocError
             Ok(trace) => print_of(alloc, &trace),
             Err(stop) => refuse(alloc, stop),
         },
+        Job::Run(_) => unreachable!(),
         Job::Audit => audit_of(alloc, bytes),
         Job::Migrate => migration_of(alloc, bytes),
         Job::Make { start, size } => tell(alloc, &generate(alloc, start, size)?, Form::Summary),
         Job::Draw { start, size } => print_of(alloc, &generate(alloc, start, size)?),
+    }
+}
+
+/// What `run` answers to the bytes that it read: those of a trace are run by clients on threads.
+pub fn answer_run<R: Threads + Wait + Sync, G: Gate>(
+    rt: &R,
+    alloc: Global,
+    form: Form,
+    bytes: &[u8],
+    gate: &G,
+) -> Result<Reply, AllocError>
+    ensures { IfOk result (λ r. Answers (Job.Run form) bytes.now r.status r.finished r.text.items) }
+{
+    match parse(alloc, bytes) {
+        Ok(trace) => tell_team(rt, alloc, &trace, form, gate),
+        Err(stop) => refuse(alloc, stop),
     }
 }
 

@@ -13,11 +13,14 @@ ghost use Rattle.shm_program.specs.Outcomes.{sides};
 use crate::outcome::Outcome;
 use crate::top::top;
 use shm_io::{Sink, Source};
+use shm_team::Gate;
 use std::alloc::{AllocError, Global};
 use std::env::Args;
 use std::io;
 use std::io::ErrorKind;
 use std::process::ExitCode;
+use std::sync::Wait;
+use std::thread::Threads;
 
 /// The words after the program's name, all of them, in order. Where one of all words isn't UTF-8 there are none, which isn't accepted.
 ///
@@ -47,11 +50,15 @@ pub fn exit_code(called: &Result<Outcome, AllocError>) -> ExitCode
 }
 
 /// The whole program over a source and a sink: what the words of the process ask for is done, and the process ends with the status of that.
-pub fn run<S: Source, K: Sink>(
+///
+/// It may wait where these words ask for `run`, and for nothing else (`top`).
+pub fn run<R: Threads + Wait + Sync, S: Source, K: Sink, G: Gate>(
+    rt: &R,
     alloc: Global,
     args: io::Result<Args>,
     source: &mut S,
     sink: &mut K,
+    gate: &G,
 ) -> ExitCode
     ensures words { IfOk args (λ all. Ends (map string_bytes (drop 1 (into_iter_items all))) (sides (S.left source.old) (S.faults source.old) (K.held sink.old) (K.faults sink.old)) (sides (S.left source.new) (S.faults source.new) (K.held sink.new) (K.faults sink.new)) (exit_status result)) }
     ensures unread { IfErr args (λ e. EndsUnread (error_kind e) (sides (S.left source.old) (S.faults source.old) (K.held sink.old) (K.faults sink.old)) (sides (S.left source.new) (S.faults source.new) (K.held sink.new) (K.faults sink.new)) (exit_status result)) }
@@ -60,5 +67,5 @@ pub fn run<S: Source, K: Sink>(
         Ok(words) => words,
         Err(wanting) => return exit_code(&Err(wanting)),
     };
-    exit_code(&Ok(top(alloc, words.as_slice(), source, sink)))
+    exit_code(&Ok(top(rt, alloc, words.as_slice(), source, sink, gate)))
 }

@@ -1,6 +1,6 @@
 //! What holds of each trace that was replayed.
 
-ghost use Rattle.std.specs.Prelude.{◌≡◌, ◌<◌, ◌∷◌, ◌++◌, List, ℕ, None, Option, Some};
+ghost use Rattle.std.specs.Prelude.{◌≡◌, ◌<◌, ◌∷◌, ◌++◌, List, ℕ, None, Option, Some, true};
 ghost use Rattle.std.specs.List.{flat_map};
 ghost use Rattle.std.specs.FinMap as finmap;
 ghost use Rattle.shm_graph.specs.declared.memo.Step.{Step as AStep};
@@ -19,6 +19,7 @@ ghost use Rattle.shm_program.specs.declared.words.Job.{Job as AJob};
 ghost use Rattle.shm_program.specs.Outcomes.{Answers, Asks, Decided, Done, Refused};
 ghost use Rattle.shm_program.specs.Replays.{IsRan, IsTold};
 ghost use Rattle.shm_program.specs.Runs.{IsOneEvent, IsSoundState, IsSoundTurn};
+ghost use Rattle.shm_program.specs.Words.{AreDetermined, is_determined};
 
 /// The report of a trace that was replayed begins with the text of these very logs.
 pub fn replay_writes_log()
@@ -44,15 +45,15 @@ pub fn replays_write_one_text()
     ensures { (form : AForm) (t : Traced) (one other : AFinished) (text again : List ℕ) → IsTold form t one text → IsTold form t other again → text ≡ again }
 {}
 
-/// The status and the text that a job answers follow from its bytes alone.
+/// The status that a job answers follows from its bytes alone, and of each job but a run so does the text.
 pub fn answers_follow_from_bytes()
     ensures status { (job : AJob) (bytes : List ℕ) (status other : ℕ) (one two : AFinished) (text again : List ℕ) → Answers job bytes status one text → Answers job bytes other two again → status ≡ other }
-    ensures text { (job : AJob) (bytes : List ℕ) (status other : ℕ) (one two : AFinished) (text again : List ℕ) → Answers job bytes status one text → Answers job bytes other two again → text ≡ again }
+    ensures text { (job : AJob) (bytes : List ℕ) (status other : ℕ) (one two : AFinished) (text again : List ℕ) → is_determined job ≡ true → Answers job bytes status one text → Answers job bytes other two again → text ≡ again }
 {}
 
-/// Where the source tells its bytes, the text that a call writes follows from the words of the call and from those bytes alone, and so does whether
-/// what they ask for is done or refused.
+/// Where the source tells its bytes, whether what a call asks for is done or refused follows from the words of the call and from those bytes alone,
+/// and unless the words ask for a run so does the text that the call writes.
 pub fn calls_write_one_text()
-    ensures text { (ws : List (List ℕ)) (left : List ℕ) (after other : Option (List ℕ)) (one two : AFinished) (text again : List ℕ) → Decided ws (Some left) after one text → Decided ws (Some left) other two again → text ≡ again }
+    ensures text { (ws : List (List ℕ)) (left : List ℕ) (after other : Option (List ℕ)) (one two : AFinished) (text again : List ℕ) → AreDetermined ws → Decided ws (Some left) after one text → Decided ws (Some left) other two again → text ≡ again }
     ensures apart { (ws : List (List ℕ)) (left : List ℕ) (after other : Option (List ℕ)) (one two : AFinished) (text again : List ℕ) → Asks ws (λ job. Done job (Some left) after one text) → Asks ws (λ job. Refused job (Some left) other two again) → ⊥ }
 {}

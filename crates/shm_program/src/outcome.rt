@@ -1,6 +1,7 @@
 //! What a call of the program comes to.
 
 use shm_replay::Replayed;
+use shm_team::Ran;
 
 /// What a call of the program came to.
 #[derive(Drop)]
@@ -13,8 +14,10 @@ pub struct Outcome {
 /// What was made.
 #[derive(Drop)]
 pub enum Finished {
-    /// No replay.
+    /// Neither of these.
     Neither,
     /// The replay of a trace.
     Replayed(Replayed),
+    /// The run of a trace by clients on threads.
+    Ran(Ran),
 }

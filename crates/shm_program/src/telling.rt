@@ -1,25 +1,33 @@
-//! Replays, and what is written of them.
+//! Replays and runs of traces, and what is written of them.
 
-ghost use Rattle.std.specs.Prelude.{◌≡◌, IfOk};
-ghost use Rattle.shm_replay.specs.Replays.{IsReplay};
-ghost use Rattle.shm_script.specs.Values.{Traced};
-ghost use Rattle.shm_program.specs.Replays.{IsTold, written};
+ghost use Rattle.std.specs.Prelude.{◌≡◌, ℕ, List, IfOk, length};
+ghost use Rattle.shm_words.specs.Layout.{GeometryFits, total_of};
+ghost use Rattle.shm_graph.specs.declared.table.Entry.{Entry as AnEntry};
+ghost use Rattle.shm_graph.specs.Spots.{see};
+ghost use Rattle.shm_graph.specs.Tables.{IsTable};
+ghost use Rattle.shm_report.specs.PoolWords.{IsCleanPool};
+ghost use Rattle.shm_program.specs.Replays.{IsTeamTold, IsTold, written};
 
 use crate::answer::Reply;
 use crate::outcome::Finished;
 use crate::words::Form;
 use shm_audit::write_image;
-use shm_replay::{Replayed, replay};
+use shm_replay::replay;
 use shm_report::{report, summary};
-use shm_script::Trace;
+use shm_script::{Log, Trace};
+use shm_team::{Gate, run_team};
+use shm_words::Geometry;
 use std::alloc::{AllocError, Global};
+use std::sync::Wait;
+use std::thread::Threads;
 
 /// Replays a trace, and answers with what is to be written of the replay.
 pub fn tell(alloc: Global, trace: &Trace, form: Form) -> Result<Reply, AllocError>
     ensures { IfOk result (λ r. (r.status ≡ 0) × IsTold form trace.now r.finished r.text.items) }
 {
     let run = replay(alloc, trace)?;
-    let text = written(alloc, &run, form)?;
+    let closed = &run.closed;
+    let text = written(alloc, form, closed.geometry(), closed.words(), &run.logs)?;
     Ok(Reply {
         status: 0,
         text,
@@ -27,14 +35,41 @@ pub fn tell(alloc: Global, trace: &Trace, form: Form) -> Result<Reply, AllocErro
     })
 }
 
-/// What is written of a replay.
-fn written(alloc: Global, run: &Replayed, form: Form) -> Result<Vec<u8>, AllocError>
-    ensures { (t : Traced) → (r : IsReplay t run.now.closed run.now.logs.items) → IfOk result (λ v. v.items ≡ written form run.now r.table) }
+/// Runs a trace by clients on threads, and answers with what is to be written of the run.
+pub fn tell_team<R: Threads + Wait + Sync, G: Gate>(
+    rt: &R,
+    alloc: Global,
+    trace: &Trace,
+    form: Form,
+    gate: &G,
+) -> Result<Reply, AllocError>
+    ensures { IfOk result (λ r. (r.status ≡ 0) × IsTeamTold form trace.now r.finished r.text.items) }
 {
-    let (geometry, words) = (run.closed.geometry(), run.closed.words());
+    let run = run_team(rt, alloc, trace, gate)?;
+    let closed = &run.closed;
+    let text = written(alloc, form, closed.geometry(), closed.words(), &run.logs)?;
+    Ok(Reply {
+        status: 0,
+        text,
+        finished: Finished::Ran(run),
+    })
+}
+
+/// What is written of a closed pool and of logs.
+fn written(
+    alloc: Global,
+    form: Form,
+    geometry: Geometry,
+    words: &[u64],
+    logs: &[Log],
+) -> Result<Vec<u8>, AllocError>
+    requires fits { GeometryFits geometry }
+    requires whole { length words.now ≡ total_of geometry }
+    ensures { IsCleanPool geometry words.now → (table : ℕ → ℕ → List AnEntry) → IsTable geometry (see geometry words.now) table → IfOk result (λ v. v.items ≡ written form geometry words.now table logs.now) }
+{
     match form {
-        Form::Report => report(alloc, geometry, words, run.logs.as_slice()),
+        Form::Report => report(alloc, geometry, words, logs),
         Form::Image => write_image(alloc, geometry, words),
-        Form::Summary => summary(alloc, geometry, words, run.logs.as_slice()),
+        Form::Summary => summary(alloc, geometry, words, logs),
     }
 }

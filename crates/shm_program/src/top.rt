@@ -1,17 +1,19 @@
 //! The program over a source and a sink.
 
-ghost use Rattle.std.specs.Prelude.{◌≡◌, ◌≢◌, ◌⊎◌, map};
+ghost use Rattle.std.specs.Prelude.{◌≡◌, ◌≢◌, IfErr, IfOk, Some, map};
 ghost use Rattle.std.specs.String.{string_bytes};
-ghost use Rattle.shm_io.specs.Faults.{Rose};
-ghost use Rattle.shm_io.specs.Writing.{Appends, AppendsFront};
-ghost use Rattle.shm_program.specs.Outcomes.{IsCall, sides};
-ghost use Rattle.shm_program.specs.Reads.{limit_of};
+ghost use Rattle.shm_program.specs.Outcomes.{IsCall, IsWanting, IsWritten, sides};
+ghost use Rattle.shm_program.specs.Reads.{IsRead, IsUnread, limit_of};
+ghost use Rattle.shm_program.specs.Words.{job_of};
 
-use crate::answer::{Reply, answer};
+use crate::answer::{Reply, answer, answer_run};
 use crate::outcome::{Finished, Outcome};
-use crate::words::{Job, job_of};
+use crate::words::{Form, Job, job_of};
 use shm_io::{ReadStop, Sink, Source, read_to_limit, write_all};
-use std::alloc::Global;
+use shm_team::Gate;
+use std::alloc::{AllocError, Global};
+use std::sync::Wait;
+use std::thread::Threads;
 
 /// One byte more than a trace may have.
 const TRACE_LIMIT: usize = 1_048_577;
@@ -20,12 +22,14 @@ const TRACE_LIMIT: usize = 1_048_577;
 const IMAGE_LIMIT: usize = 132_185_377;
 
 const USAGE: &str =
-    "usage: cxlshm replay [--image|--print] | audit | make START SIZE [--print] | migrate\n";
+    "usage: cxlshm replay [--image|--print] | run [--image] | audit | make START SIZE [--print] | migrate\n";
 
 /// Does what the words say.
 ///
 /// - `replay` reads a trace to its end, replays it, closes the pool and writes the report; `replay --image` writes the image of the closed
 ///   pool; `replay --print` writes the trace as it is printed, without a replay.
+/// - `run` reads a trace to its end, has clients on threads run it, closes the pool and writes the report; `run --image` writes the image of
+///   the closed pool.
 /// - `audit` reads an image to its end and writes the verdict on it. Each verdict has status 0.
 /// - `migrate` reads an image of format 1 to its end, whose verdict must be that its pool is clean, and writes the image of that pool in
 ///   format 2.
@@ -34,34 +38,65 @@ const USAGE: &str =
 ///
 /// The whole text is made before the first write. At most 1,048,577 bytes of a trace and 132,185,377 bytes of an image are read.
 ///
-/// The clauses are the fields of `IsCall` (specs/Outcomes.antt), which `run` shares.
-pub fn top<S: Source, K: Sink>(
+/// Only `run` may wait: for its threads, and, where an agent of the closing dies, forever. So what is promised of it holds if it returns.
+/// All other words are done by `call`, which always returns.
+///
+/// The clauses are the fields of `IsCall` (specs/Outcomes.antt), which `run` of src/command.rt shares.
+pub fn top<R: Threads + Wait + Sync, S: Source, K: Sink, G: Gate>(
+    rt: &R,
     alloc: Global,
     words: &[String],
     source: &mut S,
     sink: &mut K,
+    gate: &G,
 ) -> Outcome
     ensures { IsCall (map string_bytes words.now) (sides (S.left source.old) (S.faults source.old) (K.held sink.old) (K.faults sink.old)) (sides (S.left source.new) (S.faults source.new) (K.held sink.new) (K.faults sink.new)) result.status result.finished }
 {
+    let form = match call(alloc, words, source, sink) {
+        Ok(outcome) => return outcome,
+        Err(form) => form,
+    };
+    match read_input(alloc, source, Job::Run(form)) {
+        Ok(bytes) => reply(sink, answer_run(rt, alloc, form, bytes.as_slice(), gate)),
+        Err(status) => stopped(status),
+    }
+}
+
+/// Does what the words say, unless they ask for `run`: then it reads and writes nothing, and answers with the form that `run` is asked for.
+///
+/// It has no handle with which it might wait, so it always returns, as far as the source and the sink do.
+pub fn call<S: Source, K: Sink>(
+    alloc: Global,
+    words: &[String],
+    source: &mut S,
+    sink: &mut K,
+) -> Result<Outcome, Form>
+    ensures done { IfOk result (λ r. IsCall (map string_bytes words.now) (sides (S.left source.old) (S.faults source.old) (K.held sink.old) (K.faults sink.old)) (sides (S.left source.new) (S.faults source.new) (K.held sink.new) (K.faults sink.new)) r.status r.finished) }
+    ensures run { IfErr result (λ form. job_of (map string_bytes words.now) ≡ Some (Job.Run form)) }
+    ensures unread { IfErr result (λ _. source.new ≡ source.old) }
+    ensures unwritten { IfErr result (λ _. sink.new ≡ sink.old) }
+{
     let job = match job_of(alloc, words) {
+        Ok(Some(Job::Run(form))) => return Err(form),
         Ok(Some(job)) => job,
-        Ok(None) => return finish(sink, 2, USAGE.as_bytes(), Finished::Neither),
-        Err(_) => return stopped(6),
+        Ok(None) => return Ok(finish(sink, 2, USAGE.as_bytes(), Finished::Neither)),
+        Err(_) => return Ok(stopped(6)),
     };
-    let bytes = match read_to_limit(alloc, source, limit_of(job)) {
-        Ok(bytes) => bytes,
-        Err(ReadStop::Fault(_)) => return stopped(4),
-        Err(ReadStop::Memory(_)) => return stopped(6),
-    };
-    match answer(alloc, job, bytes.as_slice()) {
-        Ok(
-            Reply {
-                status,
-                text,
-                finished,
-            },
-        ) => finish(sink, status, text.as_slice(), finished),
-        Err(_) => stopped(6),
+    match read_input(alloc, source, job) {
+        Ok(bytes) => Ok(reply(sink, answer(alloc, job, bytes.as_slice()))),
+        Err(status) => Ok(stopped(status)),
+    }
+}
+
+/// Reads the bytes that a job is for. Where a read fails it answers with the status 4, and where memory is wanting with 6.
+fn read_input<S: Source>(alloc: Global, source: &mut S, job: Job) -> Result<Vec<u8>, u8>
+    ensures read { IfOk result (λ bytes. IsRead (S.left source.old) (S.faults source.old) (S.left source.new) (S.faults source.new) (limit_of job) bytes.items) }
+    ensures unread { IfErr result (λ status. IsUnread (S.left source.old) (S.faults source.old) (S.left source.new) (S.faults source.new) (limit_of job) status) }
+{
+    match read_to_limit(alloc, source, limit_of(job)) {
+        Ok(bytes) => Ok(bytes),
+        Err(ReadStop::Fault(_)) => Err(4),
+        Err(ReadStop::Memory(_)) => Err(6),
     }
 }
 
@@ -70,7 +105,7 @@ fn limit_of(job: Job) -> usize
     ensures { result ≡ limit_of job }
 {
     match job {
-        Job::Replay(_) | Job::Print => TRACE_LIMIT,
+        Job::Replay(_) | Job::Print | Job::Run(_) => TRACE_LIMIT,
         Job::Audit | Job::Migrate => IMAGE_LIMIT,
         Job::Make { .. } | Job::Draw { .. } => 0,
     }
@@ -87,13 +122,30 @@ fn stopped(status: u8) -> Outcome
     }
 }
 
+/// Writes an answer, unless memory was wanting for it.
+fn reply<K: Sink>(sink: &mut K, answered: Result<Reply, AllocError>) -> Outcome
+    requires { IfOk answered (λ r. r.status ≢ 5) }
+    ensures finished { IfOk answered (λ r. result.finished ≡ r.finished) }
+    ensures written { IfOk answered (λ r. IsWritten (K.held sink.old) (K.faults sink.old) (K.held sink.new) (K.faults sink.new) r.status result.status r.text.items) }
+    ensures wanting { IfErr answered (λ _. IsWanting (K.held sink.old) (K.faults sink.old) (K.held sink.new) (K.faults sink.new) result.status result.finished) }
+{
+    match answered {
+        Ok(
+            Reply {
+                status,
+                text,
+                finished,
+            },
+        ) => finish(sink, status, text.as_slice(), finished),
+        Err(_) => stopped(6),
+    }
+}
+
 /// Writes the text; a failed write turns the status into 5.
 fn finish<K: Sink>(sink: &mut K, status: u8, text: &[u8], finished: Finished) -> Outcome
     requires { status ≢ 5 }
-    ensures status { (result.status ≡ status) ⊎ (result.status ≡ 5) }
     ensures finished { result.finished ≡ finished }
-    ensures written { result.status ≡ status → Appends (K.held sink.old) (K.held sink.new) text.now × (K.faults sink.new ≡ K.faults sink.old) }
-    ensures failed { result.status ≡ 5 → Rose (K.faults sink.old) (K.faults sink.new) × AppendsFront (K.held sink.old) (K.held sink.new) text.now }
+    ensures written { IsWritten (K.held sink.old) (K.faults sink.old) (K.held sink.new) (K.faults sink.new) status result.status text.now }
 {
     match write_all(sink, text) {
         Ok(()) => Outcome { status, finished },

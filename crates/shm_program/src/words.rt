@@ -4,13 +4,13 @@ ghost use Rattle.std.specs.Prelude.{◌≡◌, ◌≢◌, ◌∷◌, [], true, f
 ghost use Rattle.std.specs.String.{string_bytes};
 ghost use Rattle.clap.specs.Words.{app_of, first_value, found_of, is_simple_and_free};
 ghost use Rattle.shm_script.specs.Numbers.{is_numeral, leads_well};
-ghost use Rattle.shm_program.specs.Words.{JobFits, NamesCommand, asked, audit_command, audit_in, is_true, job_by, job_of, make_command, make_in, make_of, migrate_command, migrate_in, name_of, number_in, read_by, replay_command, replay_in, replay_of, rows_in};
+ghost use Rattle.shm_program.specs.Words.{JobFits, NamesCommand, asked, audit_command, audit_in, is_true, job_by, job_of, make_command, make_in, make_of, migrate_command, migrate_in, name_of, number_in, read_by, replay_command, replay_in, replay_of, rows_in, run_command, run_in, run_of};
 
 use clap::error::ErrorKind;
 use clap::{Arg, ArgAction, ArgMatches, Command};
 use std::alloc::{AllocError, Global};
 
-/// What is written of a replay.
+/// What is written of a replay, or of a run.
 #[derive(Clone, Copy, Debug, PartialEq, Eq, Drop)]
 pub enum Form {
     /// The logs, the table and the sums.
@@ -28,6 +28,8 @@ pub enum Job {
     Replay(Form),
     /// `replay --print`: a trace is read, and written as it is printed.
     Print,
+    /// `run` and `run --image`: a trace is read and run by clients on threads.
+    Run(Form),
     /// `audit`: an image is read, and the verdict on it is written.
     Audit,
     /// `migrate`: an image of format 1 is read, and that of its pool in format 2 is written.
@@ -42,6 +44,7 @@ pub enum Job {
 #[derive(Clone, Copy, Debug, PartialEq, Eq, Drop)]
 pub enum Name {
     Replay,
+    Run,
     Audit,
     Make,
     Migrate,
@@ -70,6 +73,8 @@ fn name_of(word: &str) -> Option<Name>
 {
     if word == "replay" {
         Some(Name::Replay)
+    } else if word == "run" {
+        Some(Name::Run)
     } else if word == "audit" {
         Some(Name::Audit)
     } else if word == "make" {
@@ -88,6 +93,7 @@ fn job_by(alloc: Global, name: Name, words: &[String]) -> Result<Option<Job>, Al
 {
     match name {
         Name::Replay => replay_job(alloc, words),
+        Name::Run => run_job(alloc, words),
         Name::Audit => audit_job(alloc, words),
         Name::Make => make_job(alloc, words),
         Name::Migrate => migrate_job(alloc, words),
@@ -129,6 +135,40 @@ fn replay_of(image: bool, print: bool) -> Option<Job>
         (true, false) => Some(Job::Replay(Form::Image)),
         (false, true) => Some(Job::Print),
         (true, true) => None,
+    }
+}
+
+/// What the words of `run` ask for.
+fn run_job(alloc: Global, words: &[String]) -> Result<Option<Job>, AllocError>
+    ensures job { IfOk result (λ job. job ≡ asked run_command run_in (map string_bytes words.now)) }
+    ensures fits { IfOk result (λ job. IfSome job JobFits) }
+{
+    match read(run_command(alloc)?, words)? {
+        Some(matches) => Ok(Some(run_of(is_set(&matches, "image")))),
+        None => Ok(None),
+    }
+}
+
+/// The command `run`, which has one flag.
+fn run_command<'a>(alloc: Global) -> Result<Command<'a>, AllocError>
+    ensures { IfOk result (λ c. app_of c ≡ run_command) }
+{
+    let image = Arg::new(alloc, "image")
+        .long("image")
+        .action(ArgAction::SetTrue);
+    let command = Command::new(alloc, "run").arg(image)?;
+    Ok(command)
+}
+
+/// What `run` is asked for by its flag.
+fn run_of(image: bool) -> Job
+    ensures job { result ≡ run_of image }
+    ensures fits { JobFits result }
+{
+    if image {
+        Job::Run(Form::Image)
+    } else {
+        Job::Run(Form::Report)
     }
 }
 
@@ -261,6 +301,9 @@ pub fn words_of_jobs()
     ensures twice { job_of (codes "replay" ∷ codes "--print" ∷ codes "--print" ∷ []) ≡ None }
     ensures help { job_of (codes "replay" ∷ codes "--help" ∷ []) ≡ None }
     ensures more { job_of (codes "replay" ∷ codes "replay" ∷ []) ≡ None }
+    ensures run { job_of (codes "run" ∷ []) ≡ Some (Job.Run Form.Report) }
+    ensures run_image { job_of (codes "run" ∷ codes "--image" ∷ []) ≡ Some (Job.Run Form.Image) }
+    ensures run_print { job_of (codes "run" ∷ codes "--print" ∷ []) ≡ None }
     ensures audit { job_of (codes "audit" ∷ []) ≡ Some Job.Audit }
     ensures audit_more { job_of (codes "audit" ∷ codes "--print" ∷ []) ≡ None }
     ensures migrate { job_of (codes "migrate" ∷ []) ≡ Some Job.Migrate }

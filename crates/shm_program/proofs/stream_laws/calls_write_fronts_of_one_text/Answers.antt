@@ -8,5 +8,5 @@ pub returns-clause-one : goal.returns-clause-one
 returns-clause-one c = text_same
 
 pub returns-clause-both : goal.returns-clause-both
-returns-clause-both c ws left old new before after code other made two told again call next =
-    both_fronts ws left old new before after code other told again (writes_front ws old new code made call) (writes_front ws before after other two next)
+returns-clause-both c ws left old new before after code other made two determined told again call next =
+    both_fronts ws determined left old new before after code other told again (writes_front ws old new code made call) (writes_front ws before after other two next)

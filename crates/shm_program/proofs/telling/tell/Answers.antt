@@ -1,5 +1,10 @@
 use Rattle.std.proofs.Common.{refl}
+use Rattle.shm_program.proofs.Tellings.{text_told}
 use Rattle.shm_program.proofs.telling.tell.Goals as goal
 
 pub returns : goal.returns
-returns c = (refl, (record { run = c.in_ok-run.run'; kept = refl; replay = c.in_ok-run.ensures }, c.in_ok-text.ensures c.args.trace.now c.in_ok-run.ensures))
+returns c =
+    let run = c.in_ok-run.run' in
+    let r = c.in_ok-run.ensures in
+    let text = text_told c.args.form run.closed run.logs.items c.deref.result.now c.geometry.result c.words.result.now c.in_ok-text.text.items r.table c.geometry.ensures.is c.words.ensures.is c.deref.ensures.value r.closed r.is c.in_ok-text.ensures in
+    (refl, (record { run = run; kept = refl; replay = r }, text))

@@ -30,6 +30,18 @@ pub returns-clause-more : goal.returns-clause-more
 unfolding clap_on_literals
 returns-clause-more c = refl
 
+pub returns-clause-run : goal.returns-clause-run
+unfolding clap_on_literals
+returns-clause-run c = refl
+
+pub returns-clause-run_image : goal.returns-clause-run_image
+unfolding clap_on_literals
+returns-clause-run_image c = refl
+
+pub returns-clause-run_print : goal.returns-clause-run_print
+unfolding clap_on_literals
+returns-clause-run_print c = refl
+
 pub returns-clause-audit : goal.returns-clause-audit
 unfolding clap_on_literals
 returns-clause-audit c = refl

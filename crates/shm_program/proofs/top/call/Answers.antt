@@ -1,0 +1,28 @@
+use Rattle.std.proofs.Common.{◌∙◌, ◌≡◌, map, refl, sym}
+use Rattle.std.specs.Prelude.{Some}
+use Rattle.std.specs.String.{string_bytes}
+use Rattle.shm_program.specs.Words.{job_of}
+use Rattle.shm_program.proofs.CallEnds.{replying, unreading}
+use Rattle.shm_program.proofs.top.call.Goals as goal
+
+-- the bytes were read
+pub returns-in-Ok : goal.returns-in-Ok
+returns-in-Ok g c =
+    let asked : job_of (map string_bytes c.args.words.now) ≡ Some c.in-Ok-Some.job = sym c.in-Ok-Some.ensures.job ∙ c.in-Ok-Some.field-0-is in
+    record {
+      done = replying _ _ _ _ _ c.in-Ok-Some.job c.in-Ok.bytes.items c.as_slice.result.now c.answer.result asked c.in-Ok.ensures.read c.as_slice.ensures.value c.answer.ensures c.reply.ensures.finished c.reply.ensures.written c.reply.ensures.wanting;
+      run = tt;
+      unread = tt;
+      unwritten = tt;
+    }
+
+-- they weren't
+pub returns-in-Err-read_input : goal.returns-in-Err-read_input
+returns-in-Err-read_input g c =
+    let asked : job_of (map string_bytes c.args.words.now) ≡ Some c.in-Ok-Some.job = sym c.in-Ok-Some.ensures.job ∙ c.in-Ok-Some.field-0-is in
+    record {
+      done = unreading _ _ _ _ _ c.in-Ok-Some.job c.in-Err-read_input.status asked c.in-Err-read_input.ensures.unread c.stopped-in-Err-read_input.ensures.status refl refl c.stopped-in-Err-read_input.ensures.finished;
+      run = tt;
+      unread = tt;
+      unwritten = tt;
+    }

@@ -1,0 +1,19 @@
+use Rattle.std.proofs.Common.{refl, ap, inl}
+use Rattle.shm_graph.specs.declared.memo.Fate.TheVariants.{Acts}
+use Rattle.shm_graph.specs.declared.memo.Kind.TheVariants.{Client}
+use Rattle.shm_graph.specs.declared.memo.Memo.{Memo}
+use Rattle.shm_graph.specs.Agents.{is_gone}
+use Rattle.shm_recover.specs.Join.{join_control, join_fresh}
+use Rattle.shm_pool.specs.Calls.{shown}
+use Rattle.shm_pool.specs.Tokens.{me_of}
+use Rattle.shm_team.proofs.Visiting.{acts_still, run_first, same_part}
+use Rattle.shm_team.proofs.closing.join.Goals as goal
+
+pub returns-in-Ok-clause-ran : goal.returns-in-Ok-clause-ran
+returns-in-Ok-clause-ran g c =
+    let e = c.args.token.account in
+    let f = c.in-Ok.client.account in
+    let h = c.in-Ok.ensures in
+    run_first Client (shown join_control (join_fresh (me_of c.args.token.of e))) e f _ _ Acts (inl refl) h.call h.told
+    (acts_still f.memo.status (ap (λ (x : Memo). is_gone x.status) h.keeps))
+    (same_part e.memo f.memo (ap (λ (x : Memo). x.part) h.keeps))

@@ -1,0 +1,50 @@
+use Rattle.std.proofs.Common.{◌≡◌, List, sym, ap, ◌∙◌, subst}
+use Rattle.std.specs.Prelude.{Some, slice_get}
+use Rattle.shm_graph.specs.declared.ask.Me.{Me}
+use Rattle.shm_graph.specs.Runs.{first_account}
+use Rattle.shm_agents.specs.Agents.{Stands}
+use Rattle.shm_pool.specs.Tokens.{Its}
+use Rattle.shm_replay.proofs.Gathering.{same_some}
+use Rattle.shm_replay.proofs.Seating.{script_read}
+use Rattle.shm_script.specs.Values.{Scripted, Traced}
+use Rattle.shm_team.specs.Jobs.{AreAgentsOf}
+use Rattle.shm_team.proofs.Gathering.{agents_in, none_in, worked}
+use Rattle.shm_team.proofs.worker.work_at.Given.{Over}
+use Rattle.shm_team.proofs.worker.work_at.Goals.{After-index}
+use Rattle.shm_team.proofs.worker.work_at.Goals as goal
+
+pub returns-in-None : goal.returns-in-None
+returns-in-None g c = none_in c.args.trace.now c.args.pool.now c.args.job c.requires c.in-None.is
+
+module _ (g : Over) (c : After-index g) where
+  its : AreAgentsOf c.args.trace.now c.args.pool.now.start c.args.job.token.account.who c.args.job.token.account c.in-Some.agents
+  its = agents_in c.args.trace.now c.args.pool.now c.args.job c.in-Some.agents c.requires c.in-Some.is
+
+  -- the script that is read is theirs
+  read : c.index.result.now ≡ its.script
+  read =
+      let scripts : c.args.trace.now.scripts ≡ c.trace.inside.scripts.items = sym (ap (λ (t : Traced). t.scripts) c.trace.view_is) in
+      let k = c.in-Some.agents.script in
+      let here : slice_get c.args.trace.now.scripts k ≡ Some c.index.result.now =
+      ap (λ (ss : List Scripted). slice_get ss k) scripts
+      ∙ script_read c.trace.inside.scripts.items k c.script-at.result its.script c.index.result.now (sym (ap (λ (ss : List Scripted). slice_get ss k) scripts) ∙ its.at) c.script-at.ensures c.index.ensures in
+      same_some c.index.result.now its.script (sym here ∙ its.at)
+
+pub work-agents-requires-clause-first : goal.work-agents-requires-clause-first
+work-agents-requires-clause-first g c = λ κs within. c.requires.first ∙ ap (λ (p : Its). first_account p.start c.args.job.token.account.who) (sym c.requires.of)
+
+pub work-agents-requires-clause-me : goal.work-agents-requires-clause-me
+work-agents-requires-clause-me g c = λ κs within. ap (λ (m : Me). m.who) (its g (goal.at.work-agents-requires-clause-me g c).After-index).me
+
+pub work-agents-requires-clause-stands : goal.work-agents-requires-clause-stands
+work-agents-requires-clause-stands g c = λ κs within.
+    let at = (goal.at.work-agents-requires-clause-stands g c).After-index in
+    let e = c.args.job.token.account in
+    subst (λ (p : Its). Stands p.start c.index.result.now c.in-Some.agents e) (sym c.requires.of)
+    (subst (λ (s : Scripted). Stands c.args.pool.now.start s c.in-Some.agents e) (sym (read g at)) (its g at).stands)
+
+pub returns-in-Some : goal.returns-in-Some
+returns-in-Some g c =
+    let at = (goal.at.returns-in-Some g c).After-index in
+    let w = c.work-agents.ensures in
+    worked c.args.trace.now c.args.pool.now c.args.job c.in-Some.agents c.work-agents.result.agents c.index.result.now c.work-agents.result.left c.requires (its g at) (read g at) w.left w.who w.dead w.me w.script w.stands w.rests

@@ -1,0 +1,63 @@
+-- what workers begin with, and what they leave
+use Rattle.std.specs.Prelude.{◌≡◌, ◌≢◌, ℕ, suc, ◌<◌, Option, Some, None, List, [], ◌∷◌, length, slice_get, slice_index_or}
+use Rattle.shm_graph.specs.declared.run.Account.{Account}
+use Rattle.shm_graph.specs.declared.run.Start.{Start}
+use Rattle.shm_graph.specs.Runs.{first_account}
+use Rattle.shm_count.specs.Roots.{member}
+use Rattle.shm_agents.specs.declared.agents.Standing.TheVariants.{AtWork}
+use Rattle.shm_agents.specs.Agents.{Playing, Stands}
+use Rattle.shm_agents.specs.Turns.{script_in}
+use Rattle.shm_pool.specs.Tokens.{Its, Token}
+use Rattle.shm_replay.specs.Closings.{is_dead}
+use Rattle.shm_script.specs.Values.{Scripted, Traced}
+use Rattle.shm_team.specs.declared.worker.Done.{Done}
+use Rattle.shm_team.specs.declared.worker.Job.{Job}
+use Rattle.shm_team.specs.Lefts.{IsGivenBack, is_corpse, token_in}
+
+-- x are the agents of the identity c, which has a script, and stand where e is accounted for of it
+pub record AreAgentsOf (t : Traced) (start : Start) (c : ℕ) (e : Account) (x : Playing) : Type 0 where
+  pub me : x.me ≡ member start.geometry c
+  pub script : Scripted
+  pub is : script_in t.scripts c ≡ Some script
+  pub at : slice_get t.scripts x.script ≡ Some script
+  pub stands : Stands start script x e
+
+-- none where c has no script: then nobody has joined it
+abbrev pub MayHaveAgents : Traced → Start → ℕ → Account → Option Playing → Type 0
+MayHaveAgents t start c e None = (script_in t.scripts c ≡ None) × (e ≡ first_account start c)
+MayHaveAgents t start c e (Some x) = AreAgentsOf t start c e x
+
+-- the job of the identity c: the first token of it, and its agents before their first word step
+pub record IsJob (t : Traced) (p : Its) (c : ℕ) (j : Job) : Type 0 where
+  pub of : j.token.of ≡ p
+  pub first : j.token.account ≡ first_account p.start c
+  pub agents : MayHaveAgents t p.start c j.token.account j.agents
+
+-- none of them has anything left to do
+abbrev pub HaveRested : Option Playing → Type 0
+HaveRested None = Unit {0}
+HaveRested (Some x) = x.standing ≢ AtWork
+
+-- it is done: its agents have nothing left to do, and its token is a corpse's where all of them died
+pub record IsDone (t : Traced) (p : Its) (c : ℕ) (d : Done) : Type 0 where
+  pub left : IsGivenBack p d.left
+  pub who : (token_in d.left).account.who ≡ c
+  pub agents : MayHaveAgents t p.start c (token_in d.left).account d.agents
+  pub rested : HaveRested d.agents
+  pub dead : is_corpse d.left ≡ is_dead d.agents
+
+-- the jobs of the identities from c on, in order
+abbrev pub AreJobs : Traced → Its → ℕ → List Job → Type 0
+AreJobs t p c [] = Unit {0}
+AreJobs t p c (j ∷ js) = (j.token.account.who ≡ c) × IsJob t p c j × AreJobs t p (suc c) js
+
+-- they are done, in order
+pub record AreDone (t : Traced) (p : Its) (js : List Job) (ds : List Done) : Type 0 where
+  pub many : length ds ≡ length js
+  pub each : (i : ℕ) (j : Job) (d : Done) → i < length js → IsDone t p (slice_index_or js i j).token.account.who (slice_index_or ds i d)
+
+-- the tokens of all identities of the pool, in order
+pub record AreTokens (p : Its) (ts : List Token) : Type 0 where
+  pub many : length ts ≡ p.start.geometry.clients
+  pub of : (i : ℕ) (t : Token) → i < length ts → (slice_index_or ts i t).of ≡ p
+  pub who : (i : ℕ) (t : Token) → i < length ts → (slice_index_or ts i t).account.who ≡ i

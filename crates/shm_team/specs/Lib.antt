@@ -1,0 +1,5 @@
+pub mod Lefts
+pub mod Working
+pub mod Visits
+pub mod Jobs
+pub mod Rans

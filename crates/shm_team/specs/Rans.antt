@@ -1,0 +1,63 @@
+-- what clients on threads leave of a trace
+use Rattle.std.specs.Prelude.{◌≡◌, ℕ, ◌==◌, ◌<◌, Bool, false, if◌then◌else◌, Option, Some, None, List, [], ◌∷◌, ◌++◌, slice_index_or}
+use Rattle.std.specs.FinMap as finmap
+use Rattle.std.specs.List.{AllByRecursion}
+use Rattle.shm_graph.specs.declared.memo.Agent.{Agent}
+use Rattle.shm_graph.specs.declared.run.Account.{Account}
+use Rattle.shm_graph.specs.declared.table.Entry.{Entry}
+use Rattle.shm_graph.specs.Runs.{account_at}
+use Rattle.shm_graph.specs.Spots.{see}
+use Rattle.shm_graph.specs.Tables.{IsTable, map_of}
+use Rattle.shm_count.specs.Roots.{member}
+use Rattle.shm_plain.specs.Closings.{IsClosedRun}
+use Rattle.shm_plain.specs.Pools.{Pool}
+use Rattle.shm_pool.specs.Tokens.{End, Its, Token}
+use Rattle.shm_pool.specs.Tokens as shared
+use Rattle.shm_script.specs.Logged.{Logged}
+use Rattle.shm_script.specs.declared.log.Entry.{Entry as LogEntry}
+use Rattle.shm_script.specs.Values.{Scripted, Traced}
+use Rattle.shm_agents.specs.Courses.{AreCommandsTold, AreScriptAgents}
+use Rattle.shm_agents.specs.Turns.{script_in}
+use Rattle.shm_agents.specs.Logs.{AreLogs, AreUnspent}
+use Rattle.shm_replay.specs.Replays.{fold_in, start_of}
+use Rattle.shm_team.specs.Visits.{AreClosers}
+
+-- the agents of an identity's script with what each of them began, as `dead` tells of the last one; none where it has no script
+abbrev pub MayHaveBegun : Option Scripted → List Agent → List (List (List ℕ)) → Bool → Type 0
+MayHaveBegun None agents begun dead = (agents ≡ []) × (begun ≡ []) × (dead ≡ false)
+MayHaveBegun (Some s) agents begun dead = AreScriptAgents s agents begun dead
+
+-- the agents of an identity, each with what it began, are those of its script, if it has one, and then those of a visit: where the last one of the script had died a recoverer, and then a client
+pub record HasAgents (script : Option Scripted) (e : Account) : Type 0 where
+  pub dead : Bool
+  pub first : List Agent
+  pub others : List Agent
+  pub before : List (List (List ℕ))
+  pub lines : List (List (List ℕ))
+  pub agents : e.memo.agents ≡ first ++ others
+  pub begun : e.begun ≡ before ++ lines
+  pub own : MayHaveBegun script first before dead
+  pub closers : AreClosers dead others lines
+
+-- the entries of the log of an identity; none where no log is of it
+abbrev pub entries_in : List Logged → ℕ → List LogEntry
+entries_in [] c = []
+entries_in (l ∷ ls) c = if l.client == c then l.entries else entries_in ls c
+
+-- The closed pool p is what clients on threads leave of the trace, and these are its logs: the turns of p, in whatever lawful order they came, lead from the first state to its words and accounts; each log is that of its client; no command was refused for a spent era; the agents of each identity are those of its script, and then those of a visit; what was told of its commands is the entries of its log, and besides no command but one that was cut without effect; and each map of the table that the words hold is the fold of the identity's log
+pub record IsTeamRun (t : Traced) (p : Pool) (ls : List Logged) : Type 0 where
+  pub start : p.start ≡ start_of t
+  pub closed : IsClosedRun p
+  pub logs : AreLogs p t.scripts ls
+  pub unspent : AllByRecursion (λ (l : Logged). AreUnspent l.entries) ls
+  pub agents : (c : ℕ) → c < t.clients → HasAgents (script_in t.scripts c) (account_at p.accounts c)
+  pub told : (c : ℕ) → c < t.clients → AreCommandsTold (member p.start.geometry c) (account_at p.accounts c).told (entries_in ls c)
+  pub table : ℕ → ℕ → List Entry
+  pub is : IsTable p.start.geometry (see p.start.geometry p.words) table
+  pub fold : (c key : ℕ) → c < t.clients → map_of (table c) key ≡ finmap.get (fold_in ls c) key
+
+-- the pool was closed with these tokens, one for each identity: what is accounted for of each is what its token had
+pub record IsClosedBy (p : Its) (ts : List Token) (end : End) : Type 0 where
+  pub start : end.start ≡ p.start
+  pub run : shared.IsClosedRun end.start end.words end.accounts
+  pub account : (c : ℕ) (t : Token) → c < p.start.geometry.clients → account_at end.accounts c ≡ (slice_index_or ts c t).account

@@ -1,0 +1,63 @@
+-- the visit of an identity in a closing
+use Rattle.std.specs.Prelude.{◌≡◌, ℕ, Bool, true, false, Option, List, [], ◌∷◌, ◌++◌}
+use Rattle.std.specs.List.{AllByRecursion}
+use Rattle.shm_graph.specs.declared.memo.Agent.{Agent}
+use Rattle.shm_graph.specs.declared.memo.Fate.{Fate}
+use Rattle.shm_graph.specs.declared.memo.Fate.TheVariants.{Ended}
+use Rattle.shm_graph.specs.declared.memo.Kind.{Kind}
+use Rattle.shm_graph.specs.declared.memo.Kind.TheVariants.{Client, Recoverer}
+use Rattle.shm_graph.specs.declared.memo.Status.TheVariants.{Gone}
+use Rattle.shm_graph.specs.declared.run.Account.{Account}
+use Rattle.shm_graph.specs.declared.run.LoggedLine.{LoggedLine}
+use Rattle.shm_graph.specs.Runs.{told_left}
+use Rattle.shm_queue.specs.Drain.Control.{drain_line}
+use Rattle.shm_recover.specs.Join.{join_line}
+use Rattle.shm_recover.specs.Leave.Control.{leave_line}
+use Rattle.shm_recover.specs.Recover.Control.{recover_line}
+use Rattle.shm_pool.specs.Tokens.{Its, Token}
+use Rattle.shm_agents.specs.Agents.{Playing}
+use Rattle.shm_agents.specs.Courses.{IsAside}
+use Rattle.shm_replay.specs.Closings.{SameTable}
+use Rattle.shm_team.specs.declared.worker.Done.{Done}
+use Rattle.shm_team.specs.Lefts.{is_corpse, token_in}
+
+-- each of these lines is a join's, a drain's, a leaving's or a recovery's
+abbrev pub AreAside : List LoggedLine → Type 0
+AreAside = AllByRecursion (λ (x : LoggedLine). IsAside x.line)
+
+-- One agent of this kind began behind those of e, and began these lines, one after the other, each of which it finished. What was told behind what had been told before, and behind what was left of a dead agent, is aside of commands; and the map of the table is what it was
+pub record HasRun (kind : Kind) (lines : List (List ℕ)) (fate : Fate) (e f : Account) : Type 0 where
+  pub steps : ℕ
+  pub agents : f.memo.agents ≡ e.memo.agents ++ record { kind = kind; steps = steps; fate = fate } ∷ []
+  pub begun : f.begun ≡ e.begun ++ lines ∷ []
+  pub more : List LoggedLine
+  pub told : f.told ≡ told_left true e ++ more
+  pub aside : AreAside more
+  pub rests : f.running ≡ []
+  pub table : SameTable e.memo f.memo
+
+-- the agents of a visit, and what each of them began: where the last agent had died a recoverer, and then a client, which joined, took all that waited for it, and left; each of them ended
+abbrev pub AreClosers : Bool → List Agent → List (List (List ℕ)) → Type 0
+AreClosers true (a ∷ others) (b ∷ bs) = (a.kind ≡ Recoverer) × (a.fate ≡ Ended) × (b ≡ recover_line ∷ []) × AreClosers false others bs
+AreClosers false (a ∷ []) (b ∷ []) = (a.kind ≡ Client) × (a.fate ≡ Ended) × (b ≡ join_line ∷ drain_line ∷ leave_line ∷ [])
+AreClosers dead others bs = ⊥
+
+-- The identity was visited: its agents are those of e and behind them those of a visit; what was told behind what had been told before, and behind a death what was left of the dead agent, is aside of commands; the identity is gone, and the map of its table is what it was
+pub record IsVisited (dead : Bool) (e f : Account) : Type 0 where
+  pub who : f.who ≡ e.who
+  pub others : List Agent
+  pub lines : List (List (List ℕ))
+  pub closers : AreClosers dead others lines
+  pub agents : f.memo.agents ≡ e.memo.agents ++ others
+  pub begun : f.begun ≡ e.begun ++ lines
+  pub more : List LoggedLine
+  pub told : f.told ≡ told_left dead e ++ more
+  pub aside : AreAside more
+  pub gone : f.memo.status ≡ Gone
+  pub table : SameTable e.memo f.memo
+
+-- all of them, in order: the agents as the workers gave them back, and the tokens of the identities that were visited
+abbrev pub AreVisits : Its → List Done → List (Option Playing) → List Token → Type 0
+AreVisits p [] [] [] = Unit {0}
+AreVisits p (d ∷ ds) (x ∷ xs) (t ∷ ts) = (x ≡ d.agents) × (t.of ≡ p) × IsVisited (is_corpse d.left) (token_in d.left).account t.account × AreVisits p ds xs ts
+AreVisits p ds xs ts = ⊥
