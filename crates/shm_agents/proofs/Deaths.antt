@@ -39,7 +39,7 @@ some_steps [] all (suc i) n at = absurd (cc)
 some_steps (k ∷ life) all zero n at = let e : k ≡ n = cc in let l = all.0.0 in omega arith
 some_steps (k ∷ life) all (suc i) n at = some_steps life all.1 i n at
 
-some_life : (life : List ℕ) → AllByRecursion IsLife life → (i n : ℕ) → slice_get (lives_of life) i ≡ Some n → 0 < n
+pub some_life : (life : List ℕ) → AllByRecursion IsLife life → (i n : ℕ) → slice_get (lives_of life) i ≡ Some n → 0 < n
 some_life [] all zero n at = let e : 2 ^ 40 ≡ n = cc in omega arith
 some_life [] all (suc i) n at = some_steps [] all i n at
 some_life (k ∷ life) all i n at = some_steps (k ∷ life) all i n at
@@ -158,7 +158,7 @@ module _ (start : Start) (s : Scripted) (x : Playing) (e : Account) (is : IsSpen
 
   pub line_at : x.end ≡ None → is_some (shown_by x.work) ≡ true → slice_get s.lines (length x.entries) ≡ Some line
   line_at none shown =
-      let l = shows_line s x e is.spent (plays none) shown in
+      let l = shows_line s x e (plays none) shown in
       l.1 ∙ ap (λ (z : Line). Some z) (sym (get_or_from_slice_get s.lines (length x.entries) l.0 (Del 0) l.1))
 
   pub below : x.end ≡ None → is_some (shown_by x.work) ≡ true → length x.entries < length s.lines
@@ -234,8 +234,8 @@ module _ (start : Start) (s : Scripted) (x : Playing) (e : Account) (is : IsSpen
     falls : After y
     falls =
         elim noted [
-          | inl n ↦ subst After (sym n.1) (falls_playing s x e is.spent (plays n.0) may.client table maps line (line_at n.0), playing_settled s x e is.spent (plays n.0) may.client table maps line (line_at n.0))
-          | inr n ↦ subst After (sym n.1) (falls_mending s x e is.spent (mends n.0).0, mended_settled s x e is.spent (mends n.0).0 (mends n.0).1)
+          | inl n ↦ subst After (sym n.1) (falls_playing s x e (plays n.0) may.client table maps line (line_at n.0) is.spent, playing_settled s x e (plays n.0) may.client table maps line (line_at n.0))
+          | inr n ↦ subst After (sym n.1) (falls_mending s x e (mends n.0).0 is.spent, mended_settled s x e (mends n.0).0 (mends n.0).1)
         ]
       where
         mends : is_some x.end ≡ true → IsMending s x e × IsSettled s x e e.told

@@ -90,7 +90,7 @@ fallen_by s y e here lived many fell died made = go (slice_get (lives_of s.life)
           next = inr (here, at, refl);
         }
 
-module _ (s : Scripted) (x : Playing) (e : Account) (spent : x.life.left ≡ 0) where
+module _ (s : Scripted) (x : Playing) (e : Account) where
   abbrev pub next : Option ℕ
   next = slice_get (lives_of s.life) (x.agent + 1)
 
@@ -102,8 +102,8 @@ module _ (s : Scripted) (x : Playing) (e : Account) (spent : x.life.left ≡ 0) 
   told = told_left true e2
 
   -- it made all word steps of its life
-  all_made : (steps : ℕ) → steps ≡ x.life.left + steps
-  all_made steps = let z = spent in omega arith
+  all_made : x.life.left ≡ 0 → (steps : ℕ) → steps ≡ x.life.left + steps
+  all_made spent steps = let z = spent in omega arith
 
   -- ---- a recoverer dies
 
@@ -111,7 +111,7 @@ module _ (s : Scripted) (x : Playing) (e : Account) (spent : x.life.left ≡ 0) 
     abbrev it : Agent
     it = record { kind = Recoverer; steps = h.steps; fate = fate.Acts }
 
-    mended_agents : e2.memo.agents ≡ h.before ++ fallen it ∷ []
+    pub mended_agents : e2.memo.agents ≡ h.before ++ fallen it ∷ []
     mended_agents = ap (with_last fallen) h.agents ∙ with_last-end fallen h.before it
 
     mended_began : (n : ℕ) (f : Fate) → BeganWith e.memo.agents n f → BeganWith e2.memo.agents n f
@@ -129,11 +129,10 @@ module _ (s : Scripted) (x : Playing) (e : Account) (spent : x.life.left ≡ 0) 
     abbrev tells : LoggedLine
     tells = record { line = recover_line; trail = e.memo.call; finished = false }
 
-    pub mended_settled : IsSettled s x e e.told → IsSettled s (follows next x) e2 told
-    mended_settled l =
+    pub mended : IsSettled s x e e.told → IsSettled s x e2 told
+    mended l =
         let more : told ≡ e.told ++ tells ∷ [] = ap (λ (line : List ℕ). told_by line e.memo.call false e.told) h.running in
-        settled_by s x e2 told next
-        (record {
+        record {
           end = l.end;
           ended = l.ended;
           log = log_on x.me s (steps_first e.memo.agents) (steps_first e2.memo.agents) mended_made e.memo.agents e2.memo.agents e.begun e.begun e.told told (logged x) mended_began (λ k some same. same) (tells ∷ []) more l.log;
@@ -141,10 +140,13 @@ module _ (s : Scripted) (x : Playing) (e : Account) (spent : x.life.left ≡ 0) 
           unspent = l.unspent;
           fold = l.fold;
           table = l.table;
-        })
+        }
 
-    pub falls_mending : IsFallen s (follows next x) e2
-    falls_mending =
+    pub mended_settled : IsSettled s x e e.told → IsSettled s (follows next x) e2 told
+    mended_settled l = settled_by s x e2 told next (mended l)
+
+    pub falls_mending : x.life.left ≡ 0 → IsFallen s (follows next x) e2
+    falls_mending spent =
         fallen_by s x e2 h.here (mended_made ∙ h.lived)
         (ap (λ (xs : List Agent). length xs) mended_agents ∙ (length-append h.before (fallen it ∷ []) ∙ ap (λ (n : ℕ). n + 1) h.many))
         (ap (λ (xs : List Agent). fell_by (last_agent xs)) mended_agents ∙ ap fell_by (last-append h.before (fallen it)))
@@ -152,7 +154,7 @@ module _ (s : Scripted) (x : Playing) (e : Account) (spent : x.life.left ≡ 0) 
         (subst (λ (xs : List Agent). AreAgents s.lines (take x.agent (lives_of s.life) ++ (x.life.left + h.steps) ∷ []) xs e2.begun true) (sym mended_agents)
         (subst (λ (bs : List (List (List ℕ))). AreAgents s.lines (take x.agent (lives_of s.life) ++ (x.life.left + h.steps) ∷ []) (h.before ++ fallen it ∷ []) bs true) (sym h.is_begun)
         (agents_more s.lines (take x.agent (lives_of s.life)) ((x.life.left + h.steps) ∷ []) h.before (fallen it ∷ []) h.begun ((recover_line ∷ []) ∷ []) true h.died
-        (refl, inl (refl, all_made h.steps), refl, refl)))))
+        (refl, inl (refl, all_made spent h.steps), refl, refl)))))
         (let a = ap steps_of mended_agents in let b = steps_of-end h.before (fallen it) in let m = h.made in let l = sum_more (lives_of s.life) x.agent _ h.life in omega arith)
 
   -- ---- the client dies
@@ -205,11 +207,11 @@ module _ (s : Scripted) (x : Playing) (e : Account) (spent : x.life.left ≡ 0) 
       abbrev done : Bool
       done = is_some (shown_by x.work)
 
-      agents : e2.memo.agents ≡ one_agent h.steps fate.Died
+      pub agents : e2.memo.agents ≡ one_agent h.steps fate.Died
       agents = ap (with_last fallen) h.agents
 
-      lived : slice_index (lives_of s.life) 0 ≡ h.steps
-      lived = index_is (lives_of s.life) 0 _ h.life ∙ (let z = spent in omega arith)
+      lived : x.life.left ≡ 0 → slice_index (lives_of s.life) 0 ≡ h.steps
+      lived spent = index_is (lives_of s.life) 0 _ h.life ∙ (let z = spent in omega arith)
 
       made : steps_first e2.memo.agents ≡ h.steps
       made = ap steps_first agents
@@ -349,19 +351,19 @@ module _ (s : Scripted) (x : Playing) (e : Account) (spent : x.life.left ≡ 0) 
             (subst (λ (es : List Entry). map (λ (y : Entry). y.line) es ≡ take (length es) s.lines) (sym noted_none) h.commands)
             (subst (λ (es : List Entry). IsFold es e.memo) (sym noted_none) (λ key. ap (λ f. f key) same.0 ∙ h.ready.fold key))
 
-      dies : (o : Option Line) → slice_get s.lines many ≡ o → IsSettled s (settles line x) e2 told
+      pub dies : (o : Option Line) → slice_get s.lines many ≡ o → IsSettled s (settles line x) e2 told
       dies (Some l) here = dies_commanding l here
       dies None all = dies_leaving all
 
-      pub falls_playing : IsFallen s (follows next (settles line x)) e2
-      falls_playing =
-          fallen_by s (settles line x) e2 h.here (made ∙ sym lived)
+      pub falls_playing : x.life.left ≡ 0 → IsFallen s (follows next (settles line x)) e2
+      falls_playing spent =
+          fallen_by s (settles line x) e2 h.here (made ∙ sym (lived spent))
           (ap (λ (xs : List Agent). length xs) agents ∙ ap (λ (n : ℕ). n + 1) (sym h.agent))
           (ap (λ (xs : List Agent). fell_by (last_agent xs)) agents)
           (subst (λ (ls : List ℕ). AreAgents s.lines ls e2.memo.agents e2.begun true) (sym (ap (λ (i : ℕ). take (i + 1) (lives_of s.life)) h.agent ∙ take_more (lives_of s.life) 0 _ h.life))
           (subst (λ (xs : List Agent). AreAgents s.lines ((x.life.left + h.steps) ∷ []) xs e2.begun true) (sym agents)
           (subst (λ (bs : List (List (List ℕ))). AreAgents s.lines ((x.life.left + h.steps) ∷ []) (one_agent h.steps fate.Died) bs true) (sym h.is_begun)
-          (refl, inl (refl, all_made h.steps), h.lines, refl))))
+          (refl, inl (refl, all_made spent h.steps), h.lines, refl))))
           (let a = ap steps_of agents in
           let b : steps_of (one_agent h.steps fate.Died) ≡ h.steps + 0 = refl in
           let l = sum_more (lives_of s.life) 0 _ h.life in

@@ -32,7 +32,7 @@ use Rattle.shm_script.specs.Ranges.{LineFits}
 use Rattle.shm_script.specs.Values.{Scripted}
 use Rattle.shm_steps.specs.Reparting.{map_in}
 use Rattle.shm_agents.specs.declared.agents.Standing.TheVariants.{AtWork}
-use Rattle.shm_agents.specs.Agents.{IsPlaying, IsReady, Playing, behind, one_agent}
+use Rattle.shm_agents.specs.Agents.{IsFold, IsPlaying, IsReady, Playing, behind, one_agent}
 use Rattle.shm_agents.specs.Turns.{lives_of}
 use Rattle.shm_agents.specs.Work.{WorkFits, joining, work_control}
 use Rattle.shm_agents.proofs.WorkLaws.{behind_fits, behind_fresh, behind_going, behind_me}
@@ -40,6 +40,10 @@ use Rattle.shm_agents.proofs.WorkLaws.{behind_fits, behind_fresh, behind_going, 
 -- the map of a partition without entries
 empty_map : (key : ℕ) → map_in (first_part true) key ≡ None
 empty_map key = ap (find key) (same_everywhere {X = List AnEntry} 16 (key % 16) [])
+
+-- the map of an identity that nobody has joined, in a pool for tables
+pub first_fold : (start : Start) (who : ℕ) → start.tables ≡ true → IsFold [] (first_account start who).memo
+first_fold start who tables key = ap (λ (b : Bool). map_in (first_part b) key) tables ∙ (empty_map key ∙ sym (get-empty nat_cmp key))
 
 module _ (start : Start) (me : Me) (n : ℕ) where
   -- the account once an agent has begun
@@ -63,7 +67,7 @@ module _ (start : Start) (me : Me) (n : ℕ) where
           table = ap (λ (m : Memo). is_loose m.part) g.rest ∙ ap (λ (b : Bool). is_loose (first_part b)) tables;
           unsent = λ i. ap (λ (m : Memo). slice_index m.unsent i) g.rest ∙ same_everywhere start.geometry.clients i 0;
           untaken = λ i. ap (λ (m : Memo). slice_index m.untaken i) g.rest ∙ same_everywhere start.geometry.clients i 0;
-          fold = λ key. ap (λ (m : Memo). map_in m.part key) g.rest ∙ (ap (λ (b : Bool). map_in (first_part b) key) tables ∙ (empty_map key ∙ sym (get-empty nat_cmp key)));
+          fold = λ key. ap (λ (m : Memo). map_in m.part key) g.rest ∙ first_fold start me.who tables key;
         }
 
     pub joined : (s : Scripted) (x : Playing) (life : Life) → x.agent ≡ 0 → x.end ≡ None → x.standing ≡ AtWork → slice_get (lives_of s.life) 0 ≡ Some x.life.left → life.left + 1 ≡ x.life.left → GeometryFits me.geometry → me.who < me.geometry.clients → AllByRecursion (LineFits me.geometry.clients me.who) s.lines
@@ -76,6 +80,7 @@ module _ (start : Start) (me : Me) (n : ℕ) where
           end = end;
           here = here;
           steps = 1;
+          stepped = omega arith;
           agents = ap (λ (s : AStatus). agents_after (is_gone s && t.ends) (one_agent 0 Acts)) g.idle.live;
           life = full ∙ ap Some (sym spent);
           few = omega arith;

@@ -10,10 +10,13 @@ pub mod Joining
 pub mod Turning
 pub mod Turns
 pub mod Loose
+pub mod Given
 pub mod Growing
 pub mod Effects
 pub mod Dying
 pub mod Deaths
 pub mod Mending
 pub mod OwnEras
+pub mod Cutting
 pub mod Rested
+pub mod Over

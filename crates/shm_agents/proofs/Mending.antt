@@ -175,6 +175,7 @@ module _ (start : Start) (s : Scripted) (x : Playing) (e : Account) (may : MayPl
             lived = first_made ∙ h.lived;
             before = e.memo.agents;
             steps = 1;
+            stepped = omega arith;
             agents = agents_first;
             many = h.many;
             some = h.some;
@@ -295,6 +296,7 @@ module _ (s : Scripted) (x : Playing) (e : Account) (h : IsMending s x e) (n : �
           lived = first_made_by (stepped it) agents ∙ h.lived;
           before = h.before;
           steps = h.steps + 1;
+          stepped = omega arith;
           agents = agents;
           many = h.many;
           some = h.some;
@@ -318,7 +320,7 @@ module _ (s : Scripted) (x : Playing) (e : Account) (h : IsMending s x e) (n : �
 
   -- ---- it has recovered the identity
 
-  module _ (start : Start) (may : MayPlay start s x) (era : own_word e2.memo.own (Era x.me.who x.me.who) ≤ 1 + steps_made e2.memo) where
+  module _ (start : Start) (may : MayPlay start s x) (era : own_word e2.memo.own (Era x.me.who x.me.who) ≤ 2 ^ 46 + steps_made e2.memo) where
     made : steps_made e2.memo ≡ steps_of h.before + (h.steps + 1)
     made = go (is_gone e2.memo.status && again.ends) refl
       where

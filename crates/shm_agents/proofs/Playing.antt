@@ -184,6 +184,7 @@ module _ (s : Scripted) (x : Playing) (e : Account) (h : IsPlaying s x e) (n : �
         end = h.end;
         here = h.here;
         steps = h.steps + 1;
+        stepped = omega arith;
         agents = agents false (ap (λ (b : Bool). is_gone e2.memo.status && b) going ∙ never (is_gone e2.memo.status));
         life = lived;
         few = h.few;
@@ -214,7 +215,7 @@ module _ (s : Scripted) (x : Playing) (e : Account) (h : IsPlaying s x e) (n : �
 
   -- ---- the work is over
 
-  module _ (geometry : GeometryFits x.me.geometry) (who : c < x.me.geometry.clients) (all : AllByRecursion (LineFits x.me.geometry.clients c) lines) (lives : AllByRecursion IsLife s.life) (era : own_word e2.memo.own (Era c c) ≤ 1 + steps_made e2.memo) where
+  module _ (geometry : GeometryFits x.me.geometry) (who : c < x.me.geometry.clients) (all : AllByRecursion (LineFits x.me.geometry.clients c) lines) (lives : AllByRecursion IsLife s.life) (era : own_word e2.memo.own (Era c c) ≤ 2 ^ 46 + steps_made e2.memo) where
     most : life.left + (h.steps + 1) ≤ 2 ^ 40
     most = life_most s.life (life.left + (h.steps + 1)) lives lived
 
@@ -306,6 +307,7 @@ module _ (s : Scripted) (x : Playing) (e : Account) (h : IsPlaying s x e) (n : �
             end = h.end;
             here = h.here;
             steps = h.steps + 1;
+            stepped = omega arith;
             agents = agents false (ap (λ (s : AStatus). is_gone s && t.ends) ready.idle.live);
             life = lived;
             few = let m = more in let b = below in omega arith;

@@ -1,5 +1,5 @@
 -- a word step of the agents that stand where they work
-use Rattle.std.proofs.Common.{◌≡◌, ℕ, ◌+◌, ◌<◌, ◌≤◌, Bool, true, false, cond, List, [], ◌∷◌, ◌++◌, length, refl, sym, ap, ◌∙◌, subst, inl, inr, Result}
+use Rattle.std.proofs.Common.{◌≡◌, ℕ, ◌+◌, ◌^◌, ◌<◌, ◌≤◌, Bool, true, false, cond, List, [], ◌∷◌, ◌++◌, length, refl, sym, ap, ◌∙◌, subst, inl, inr, Result, arith}
 use Rattle.std.specs.Prelude.{Option, Some, None, Ok, slice_get}
 use Rattle.std.specs.List.{AllByRecursion}
 use Rattle.std.proofs.lemmas.Bool.{true≢false}
@@ -172,8 +172,11 @@ module _ (start : Start) (s : Scripted) (x : Playing) (e : Account) where
       all = subst (λ (g : Geometry). AllByRecursion (LineFits g.clients c) s.lines) (sym may.me) (subst (λ (d : ℕ). AllByRecursion (LineFits start.geometry.clients d) s.lines) may.client may.script.lines)
 
       -- the own era is far from spent
-      era : own_word last.memo.own (Era c c) ≤ 1 + steps_made last.memo
-      era = subst (λ (k : ℕ). own_word last.memo.own (Era k k) ≤ 1 + steps_made last.memo) named (subst (λ (k : ℕ). own_word last.memo.own (Era last.who last.who) ≤ k + steps_made last.memo) may.era (own_most start last now))
+      era : own_word last.memo.own (Era c c) ≤ 2 ^ 46 + steps_made last.memo
+      era =
+          let most = subst (λ (k : ℕ). own_word last.memo.own (Era k k) ≤ start.first_era + steps_made last.memo) named (own_most start last now) in
+          let few = may.era in
+          omega arith
 
       -- what was learnt, by what it answered
       outcome_on : {A : Type 0} (o : Option A) (P : Type 0) (Q : A → Type 0) → o ≡ None → Outcome o P Q → P
@@ -195,8 +198,8 @@ module _ (start : Start) (s : Scripted) (x : Playing) (e : Account) where
       gave : (r0 : Memo) (z : Account) → last ≡ z → fits_now work_control WorkFits x.work r0 e1.memo → (a : WorkAnswer) → work_control.turns x.work n ≡ Some a → Gives r0 z a
       gave r0 z same f a some = subst (λ (y : Account). Gives r0 y a) same (outcome_done (work_control.turns x.work n) (fits_now work_control WorkFits next r0 last.memo) (gives_now WorkGives x.work r0 last.memo) a some (learns r0 f))
 
-      era_at : (z : Account) → last ≡ z → own_word z.memo.own (Era c c) ≤ 1 + steps_made z.memo
-      era_at z same = subst (λ (y : Account). own_word y.memo.own (Era c c) ≤ 1 + steps_made y.memo) same era
+      era_at : (z : Account) → last ≡ z → own_word z.memo.own (Era c c) ≤ 2 ^ 46 + steps_made z.memo
+      era_at z same = subst (λ (y : Account). own_word y.memo.own (Era c c) ≤ 2 ^ 46 + steps_made y.memo) same era
 
       -- what the join answers
       joins : IsFresh start s x e → work_control.turns x.work n ≡ Some (First (First tt))

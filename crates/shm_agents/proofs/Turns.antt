@@ -28,9 +28,10 @@ use Rattle.shm_table.specs.Command.{MayStand}
 use Rattle.shm_agents.specs.declared.agents.Standing.{Standing}
 use Rattle.shm_agents.specs.declared.agents.Standing.TheVariants.{AtWork, Gone, Dead}
 use Rattle.shm_agents.specs.Agents.{Playing, Stands, behind}
-use Rattle.shm_agents.specs.TurnsLeft.{turns_at, turns_by, turns_of}
+use Rattle.shm_agents.specs.TurnsLeft.{turns_at, turns_by, turns_given, turns_of}
 use Rattle.shm_agents.specs.Turns.{lives_of}
 use Rattle.shm_agents.specs.Work.{Work, WorkAnswer, WorkFits, WorkGives, work_control}
+use Rattle.shm_agents.proofs.Given.{given_worked}
 use Rattle.shm_agents.proofs.Turning as turning
 use Rattle.shm_agents.proofs.WorkLaws.{line_fits, may_stand}
 
@@ -80,6 +81,10 @@ finally {start} {start2} {s} {now} {x} acc2 same is {y} h = subst (λ (z : Start
 
 pub stepped_on : {now x : Playing} → x ≡ now → (S : Step → Type 0) → (0 < x.life.left → (n : ℕ) × S (laws.step_of work_control x.work n)) → 0 < now.life.left → (n : ℕ) × S (laws.step_of work_control now.work n)
 stepped_on is S h = subst (λ (z : Playing). 0 < z.life.left → (n : ℕ) × S (laws.step_of work_control z.work n)) is h
+
+-- what was given to them, by the number before it
+pub given_on : {now x : Playing} → x ≡ now → (acc acc2 : ℕ → Account) → turns_given (acc2 x.me.who) ≡ turns_given (acc x.me.who) + 1 → turns_given (acc2 now.me.who) ≡ turns_given (acc now.me.who) + 1
+given_on is acc acc2 h = subst (λ (z : Playing). turns_given (acc2 z.me.who) ≡ turns_given (acc z.me.who) + 1) is h
 
 none_on : {A : Type 0} (o : Option A) → More ≡ turn_of o → o ≡ None
 none_on None e = refl
@@ -148,6 +153,9 @@ module _ {start : Start} {s : Scripted} {now x : Playing} {e : Account} (b : Bef
       pub turns : (y : Playing) → y.agent ≡ x.agent → y.life ≡ life → turns_by y (Some s) < turns_by now (Some s)
       turns y agent same =
           fewer s now y b.here (agent ∙ ap (λ (z : Playing). z.agent) b.is) (ap (λ (z : Life). z.left + 1) same ∙ (left ∙ ap (λ (z : Playing). z.life.left) b.is))
+
+      pub given : turns_given e2 ≡ turns_given e + 1
+      given = given_worked e e2 _ turn.account
 
       answer : (v : WorkAnswer) → u ≡ Done v → work_control.turns x.work n ≡ Some v
       answer v o = answered_is (work_control.turns x.work n) u v turn.turn o

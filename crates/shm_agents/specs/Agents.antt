@@ -1,5 +1,5 @@
 -- the agents of a script at work: what ties them to what a pool accounts for of their identity
-use Rattle.std.specs.Prelude.{◌≡◌, ℕ, zero, suc, ◌+◌, ◌==◌, ◌&&◌, ◌<◌, ◌≤◌, ◌⊎◌, Bool, true, false, if◌then◌else◌, Option, Some, None, List, [], ◌∷◌, ◌++◌, length, map, sum, take, slice_get, slice_index}
+use Rattle.std.specs.Prelude.{◌≡◌, ℕ, zero, suc, ◌+◌, ◌^◌, ◌==◌, ◌&&◌, ◌<◌, ◌≤◌, ◌⊎◌, Bool, true, false, if◌then◌else◌, Option, Some, None, List, [], ◌∷◌, ◌++◌, length, map, sum, take, slice_get, slice_index}
 use Rattle.std.specs.FinMap as finmap
 use Rattle.shm_words.specs.Layout.{GeometryFits}
 use Rattle.shm_graph.specs.declared.ask.Life.{Life}
@@ -144,6 +144,7 @@ pub record IsPlaying (s : Scripted) (x : Playing) (e : Account) : Type 0 where
   pub end : x.end ≡ None
   pub here : x.standing ≡ AtWork
   pub steps : ℕ
+  pub stepped : 0 < steps
   pub agents : e.memo.agents ≡ one_agent steps Acts
   pub life : slice_get (lives_of s.life) 0 ≡ Some (x.life.left + steps)
   pub few : length x.entries ≤ length s.lines
@@ -213,6 +214,7 @@ pub record IsMending (s : Scripted) (x : Playing) (e : Account) : Type 0 where
   pub lived : steps_first e.memo.agents ≡ slice_index (lives_of s.life) 0
   pub before : List Agent
   pub steps : ℕ
+  pub stepped : 0 < steps
   pub agents : e.memo.agents ≡ before ++ record { kind = Recoverer; steps = steps; fate = Acts } ∷ []
   pub many : length before ≡ x.agent
   pub some : 0 < x.agent
@@ -248,10 +250,10 @@ pub record IsMended (s : Scripted) (x : Playing) (e : Account) : Type 0 where
 
 -- ---- all
 
--- the agents of a pool that was made so, for tables and with the first era 1, for a script in its ranges, with room for all its commands
+-- the agents of a pool that was made so, for tables and with a first era below 2^46, for a script in its ranges, with room for all its commands
 pub record MayPlay (start : Start) (s : Scripted) (x : Playing) : Type 0 where
   pub geometry : GeometryFits start.geometry
-  pub era : start.first_era ≡ 1
+  pub era : start.first_era < 2 ^ 46
   pub tables : start.tables ≡ true
   pub me : x.me.geometry ≡ start.geometry
   pub who : x.me.who < start.geometry.clients

@@ -4,3 +4,4 @@ pub mod Logs
 pub mod Courses
 pub mod Agents
 pub mod TurnsLeft
+pub mod Cuts

@@ -1,9 +1,10 @@
 //! The agents of a script, wherever they work.
 
-ghost use Rattle.std.specs.Prelude.{◌≡◌, ◌+◌, ◌<◌, ◌≤◌, ◌^◌, ◌++◌, ℕ, true, Some, [], ◌∷◌, length, slice_get, IfOk};
+ghost use Rattle.std.specs.Prelude.{◌≡◌, ◌+◌, ◌<◌, ◌≤◌, ◌^◌, ◌++◌, ℕ, true, false, Some, [], ◌∷◌, length, slice_get, IfOk};
 ghost use Rattle.std.specs.Option.{is_some};
 ghost use Rattle.shm_words.specs.Layout.{GeometryFits};
 ghost use Rattle.shm_graph.specs.declared.run.Start.{Start as AStart};
+ghost use Rattle.shm_graph.specs.Agents.{acts};
 ghost use Rattle.shm_graph.specs.Runs.{first_account};
 ghost use Rattle.shm_graph.specs.Laws.{step_of};
 ghost use Rattle.shm_script.specs.declared.line.Line.{Line as ALine};
@@ -11,8 +12,9 @@ ghost use Rattle.shm_script.specs.declared.log.End.TheVariants.{Died};
 ghost use Rattle.shm_script.specs.Ranges.{ScriptFits};
 ghost use Rattle.shm_table.specs.Command.{MayStand};
 ghost use Rattle.shm_agents.specs.Agents.{Stands, behind, follows, is_client, is_command, logged, shown_by};
+ghost use Rattle.shm_agents.specs.Cuts.{IsCut, account_cut};
 ghost use Rattle.shm_agents.specs.Logs.{with_effect};
-ghost use Rattle.shm_agents.specs.TurnsLeft.{turns_by};
+ghost use Rattle.shm_agents.specs.TurnsLeft.{turns_by, turns_given};
 ghost use Rattle.shm_agents.specs.Turns.{lives_of};
 ghost use Rattle.shm_agents.specs.Work.{work_control};
 ghost use Rattle.shm_agents.specs.Work as work;
@@ -86,7 +88,8 @@ impl Agents {
         requires who { me.who < me.geometry.clients }
         ensures me { IfOk result (λ x. x.me ≡ me) }
         ensures script { IfOk result (λ x. x.script ≡ at) }
-        ensures stands { IfOk result (λ x. (start : AStart) → start.geometry ≡ me.geometry → start.first_era ≡ 1 → start.tables ≡ true → script.now.client ≡ me.who → ScriptFits me.geometry.clients script.now → Stands start script.now x (first_account start me.who)) }
+        ensures here { IfOk result (λ x. x.standing ≡ Standing.AtWork) }
+        ensures stands { IfOk result (λ x. (start : AStart) → start.geometry ≡ me.geometry → start.first_era < 2 ^ 46 → start.tables ≡ true → script.now.client ≡ me.who → ScriptFits me.geometry.clients script.now → Stands start script.now x (first_account start me.who)) }
     {
         let life = life_at(script.life.as_slice(), 0).unwrap();
         Ok(Agents {
@@ -156,6 +159,7 @@ impl Agents {
         ensures me { self.new.me ≡ self.old.me }
         ensures script { self.new.script ≡ self.old.script }
         ensures stands { Stands (W.start pool.new) script.now self.new (W.account pool.new self.old.me.who) }
+        ensures given { turns_given (W.account pool.new self.old.me.who) ≡ turns_given (W.account pool.old self.old.me.who) + 1 }
         ensures turns { turns_by self.new (Some script.now) < turns_by self.old (Some script.now) }
     {
         match pool.step(self.me.who, &mut self.work, &mut self.life) {
@@ -192,6 +196,7 @@ impl Agents {
         ensures me { self.new.me ≡ self.old.me }
         ensures script { self.new.script ≡ self.old.script }
         ensures stands { Stands (W.start pool.new) script.now self.new (W.account pool.new self.old.me.who) }
+        ensures given { turns_given (W.account pool.new self.old.me.who) ≡ turns_given (W.account pool.old self.old.me.who) + 1 }
         ensures turns { turns_by self.new (Some script.now) < turns_by self.old (Some script.now) }
     {
         // by its law: what the map is where a command was cut
@@ -201,6 +206,46 @@ impl Agents {
             self.settle(script.lines.as_slice());
         }
         self.follow(script.life.as_slice());
+    }
+
+    /// They are given up: the agent that acts dies, whatever it has left of its life, and no other one comes. Where none acts nothing changes
+    /// but that the log says how the client ended.
+    ///
+    /// It tells whether one of them had begun.
+    pub fn cut<W: Workplace>(&mut self, script: &Script, pool: &mut W) -> bool
+        requires has { W.has pool.old self.old.me.who }
+        requires stands { Stands (W.start pool.old) script.now self.old (W.account pool.old self.old.me.who) }
+        requires here { self.old.standing ≡ Standing.AtWork }
+        ensures start { W.start pool.new ≡ W.start pool.old }
+        ensures has { W.has pool.new self.old.me.who }
+        ensures account { W.account pool.new self.old.me.who ≡ account_cut (W.account pool.old self.old.me.who) }
+        ensures fell { acts (W.account pool.old self.old.me.who).memo ≡ true → W.fell pool.old self.old.me.who pool.new }
+        ensures still { acts (W.account pool.old self.old.me.who).memo ≡ false → pool.new ≡ pool.old }
+        ensures same { (self.new.me ≡ self.old.me) × (self.new.script ≡ self.old.script) × (self.new.standing ≡ Standing.Dead) }
+        ensures cut { IsCut result script.now self.new (W.account pool.new self.old.me.who) }
+    {
+        // by its law: what the map is where a command was cut
+        command_maps();
+        let acts = self.has_begun(script.life.as_slice());
+        if acts {
+            pool.fall(self.me.who);
+        }
+        if self.end.is_none() {
+            self.settle(script.lines.as_slice());
+        }
+        self.standing = Standing::Dead;
+        acts || self.agent > 0
+    }
+
+    /// Whether the agent has made a word step of its life.
+    fn has_begun(&self, life: &[u64]) -> bool
+        ensures some { result ≡ true → (n : ℕ) × (slice_get (lives_of life.now) self.now.agent ≡ Some n) × (self.now.life.left < n) }
+        ensures none { result ≡ false → (n : ℕ) → slice_get (lives_of life.now) self.now.agent ≡ Some n → n ≤ self.now.life.left }
+    {
+        match life_at(life, self.agent) {
+            Some(all) => self.life.left < all,
+            None => false,
+        }
     }
 
     /// The next agent comes, if there is one.

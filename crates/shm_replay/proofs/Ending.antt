@@ -25,23 +25,12 @@ use Rattle.shm_agents.specs.declared.agents.Standing.TheVariants.{AtWork, Dead}
 use Rattle.shm_agents.specs.Agents.{Fallen, Fresh, HasParted, IsFallen, IsFold, IsMended, IsSettled, Mended, Mending, Parted, Playing, Plays, Stage, end_or, is_at_work, logged}
 use Rattle.shm_agents.specs.Logs.{AreUnspent, HasEnd, IsLogOf, steps_first}
 use Rattle.shm_agents.specs.Turns.{lives_of}
+pub use Rattle.shm_agents.proofs.Over.{IsOver, is_over, over_fold, over_log, over_table, over_unspent}
 use Rattle.shm_agents.proofs.Mending.{few_lives}
 use Rattle.shm_replay.specs.Closings.{MayVisit, is_dead, is_standing_dead}
 use Rattle.shm_replay.specs.Seats.{IsSeat, Seat}
 use Rattle.shm_replay.specs.Turns.{is_busy}
 use Rattle.shm_replay.proofs.Seating.{seat_busy}
-
--- the client left, or a recoverer recovered the identity, or all of them died
-abbrev pub IsOver : Scripted → Playing → Account → Type 0
-IsOver s x e = HasParted s x e ⊎ ((IsMended s x e × IsSettled s x e e.told) ⊎ ((x.standing ≡ Dead) × IsFallen s x e × IsSettled s x e (told_left true e)))
-
-pub is_over : (start : Start) (s : Scripted) (x : Playing) (e : Account) → Stage start s x e → x.standing ≢ AtWork → IsOver s x e
-is_over start s x e (Fresh f) rest = absurd (rest f.here)
-is_over start s x e (Plays p) rest = absurd (rest p.here)
-is_over start s x e (Mending p l) rest = absurd (rest p.here)
-is_over start s x e (Parted p) rest = inl p
-is_over start s x e (Mended p l) rest = inr (inl (p, l))
-is_over start s x e (Fallen f l) rest = elim f.next [ inl d ↦ inr (inr (d.0, f, l)) | inr w ↦ absurd (rest w.0) ]
 
 -- ---- what the closing asks
 
@@ -85,50 +74,6 @@ module _ (s : Scripted) (x : Playing) (e : Account) (lives : sum (lives_of s.lif
 
 pub over_may : (n : ℕ) (s : Scripted) (x : Playing) (e : Account) → ScriptFits n s → IsOver s x e → MayVisit (is_standing_dead x.standing) e.memo
 over_may n s x e fits h = may_over s x e (few_lives s.life fits.sum) h
-
--- ---- the log, and the map
-
-module _ (s : Scripted) (x : Playing) (e : Account) (client : s.client ≡ x.me.who) where
-  abbrev life : ℕ
-  life = slice_index (lives_of s.life) 0
-
-  log_parted : HasParted s x e → IsLogOf x.me s life e.memo.agents e.begun e.told (logged x)
-  log_parted p =
-      let long : length x.entries ≡ length s.lines = sym (length-map x.entries (λ (y : Entry). y.line)) ∙ ap (λ (ls : List Line). length ls) p.commands in
-      record {
-        client = sym client;
-        lines = p.commands ∙ sym (take_all (length x.entries) s.lines (omega arith));
-        join = p.told.join;
-        behind = p.told.behind;
-        is = p.told.is;
-        finished = x.entries;
-        entries = p.told.entries;
-        end = subst (λ (o : Option End). HasEnd x.me s life e.memo.agents e.begun p.told.behind x.entries x.entries (end_or o)) (sym p.end) (refl, long, (p.steps, ([], p.agents)));
-      }
-
-  -- the word steps that the dead client made are those of its life
-  log_lived : (told : List LoggedLine) → steps_first e.memo.agents ≡ life → IsSettled s x e told → IsLogOf x.me s life e.memo.agents e.begun told (logged x)
-  log_lived told lived h = subst (λ (n : ℕ). IsLogOf x.me s n e.memo.agents e.begun told (logged x)) lived h.log
-
-  pub over_log : IsOver s x e → IsLogOf x.me s life e.memo.agents e.begun (told_left (is_standing_dead x.standing) e) (logged x)
-  over_log (inl p) = subst (λ (st : Standing). IsLogOf x.me s life e.memo.agents e.begun (told_left (is_standing_dead st) e) (logged x)) (sym p.left) (log_parted p)
-  over_log (inr (inl (p, l))) = subst (λ (st : Standing). IsLogOf x.me s life e.memo.agents e.begun (told_left (is_standing_dead st) e) (logged x)) (sym p.recovered) (log_lived e.told p.lived l)
-  over_log (inr (inr (dead, f, l))) = subst (λ (st : Standing). IsLogOf x.me s life e.memo.agents e.begun (told_left (is_standing_dead st) e) (logged x)) (sym dead) (log_lived (told_left true e) f.lived l)
-
-pub over_fold : (s : Scripted) (x : Playing) (e : Account) → IsOver s x e → IsFold x.entries e.memo
-over_fold s x e (inl p) = p.fold
-over_fold s x e (inr (inl (p, l))) = l.fold
-over_fold s x e (inr (inr (dead, f, l))) = l.fold
-
-pub over_unspent : (s : Scripted) (x : Playing) (e : Account) → IsOver s x e → AreUnspent x.entries
-over_unspent s x e (inl p) = p.unspent
-over_unspent s x e (inr (inl (p, l))) = l.unspent
-over_unspent s x e (inr (inr (dead, f, l))) = l.unspent
-
-pub over_table : (s : Scripted) (x : Playing) (e : Account) → IsOver s x e → is_loose e.memo.part ≡ false
-over_table s x e (inl p) = p.table
-over_table s x e (inr (inl (p, l))) = l.table
-over_table s x e (inr (inr (dead, f, l))) = l.table
 
 -- ---- the seats of a trace
 

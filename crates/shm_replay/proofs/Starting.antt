@@ -1,5 +1,5 @@
 -- the clients of a trace before their first word steps
-use Rattle.std.proofs.Common.{◌≡◌, ℕ, ◌+◌, ◌<◌, Bool, true, false, eqb, List, [], ◌∷◌, refl, sym, ap, ◌∙◌, subst, arith}
+use Rattle.std.proofs.Common.{◌≡◌, ℕ, ◌+◌, ◌^◌, ◌<◌, Bool, true, false, eqb, List, [], ◌∷◌, refl, sym, ap, ◌∙◌, subst, arith}
 use Rattle.std.specs.Prelude.{Some, None, slice_get}
 use Rattle.std.proofs.lemmas.Bool.{cond-false, cond-true, eqb-true}
 use Rattle.shm_graph.specs.declared.ask.Me.{Me}
@@ -30,7 +30,7 @@ script_client (r ∷ ss) c s e = go (eqb r.client c) refl (script_client ss c s)
 
 -- what is said of agents that have been made for a script
 abbrev pub NewStands : Me → Scripted → Playing → Type 0
-NewStands me s x = (start : Start) → start.geometry ≡ me.geometry → start.first_era ≡ 1 → start.tables ≡ true → s.client ≡ me.who → ScriptFits me.geometry.clients s → Stands start s x (first_account start me.who)
+NewStands me s x = (start : Start) → start.geometry ≡ me.geometry → start.first_era < 2 ^ 46 → start.tables ≡ true → s.client ≡ me.who → ScriptFits me.geometry.clients s → Stands start s x (first_account start me.who)
 
 module _ (t : Traced) (trace : IsTrace t) (who : ℕ) (l : who < t.clients) where
   pub none_seat : script_in t.scripts who ≡ None → Seat t (first_pool (start_of t)) who None
@@ -39,7 +39,7 @@ module _ (t : Traced) (trace : IsTrace t) (who : ℕ) (l : who < t.clients) wher
   pub new_seat : (at : ℕ) (s : Scripted) (me : Me) (x : Playing) → slice_get t.scripts at ≡ Some s → script_in t.scripts who ≡ Some s → me ≡ member (start_of t).geometry who → x.me ≡ me → x.script ≡ at → NewStands me s x → IsSeat t (first_pool (start_of t)) who x
   new_seat at s me x has is em xm xs new =
       let fits : ScriptFits t.clients s = all_at (ScriptFits t.clients) t.scripts at s trace.scripts has in
-      let stands = subst (λ (m : Me). NewStands m s x) em new (start_of t) refl refl refl (script_client t.scripts who s is) fits in
+      let stands = subst (λ (m : Me). NewStands m s x) em new (start_of t) refl (omega arith) refl (script_client t.scripts who s is) fits in
       record {
         me = xm ∙ em;
         script = s;

@@ -12,8 +12,10 @@ use Rattle.shm_script.specs.declared.log.End.{End}
 use Rattle.shm_script.specs.Values.{Scripted}
 use Rattle.shm_agents.specs.Agents.{Playing, Stands, follows}
 use Rattle.shm_agents.specs.Turns.{lives_of}
+use Rattle.shm_agents.specs.TurnsLeft.{turns_given}
 use Rattle.shm_agents.proofs.Deaths as deaths
 use Rattle.shm_agents.proofs.Dying.{settles}
+use Rattle.shm_agents.proofs.Given.{given_died}
 use Rattle.shm_agents.proofs.agents.Agents.die.Given.{Over}
 use Rattle.shm_agents.proofs.agents.Agents.die.Goals.{After-as_slice-2, After-follow, else-is_none, then-is_none}
 use Rattle.shm_agents.proofs.agents.Agents.die.Goals as goal
@@ -118,3 +120,7 @@ returns-clause-stands g c =
 pub returns-clause-turns : goal.returns-clause-turns
 returns-clause-turns g c =
     deaths.last_fewer (start g (at g c)) c.args.script.now c.args.self.now (e g (at g c)) (is_spent g (at g c)) c.command_maps.ensures.runs c.if-is_none.self (noted g (at g c)) _ (to g c) c.follow.new.self (is g c)
+
+pub returns-clause-given : goal.returns-clause-given
+returns-clause-given g c =
+    ap turns_given (to g c) ∙ given_died (e g (at g c)) (deaths.acting (start g (at g c)) c.args.script.now c.args.self.now (e g (at g c)) (is_spent g (at g c)))

@@ -1,4 +1,4 @@
-use Rattle.std.proofs.Common.{◌≡◌, ℕ, ◌<◌, ap, sym, subst, refl, ◌∙◌, Result, length}
+use Rattle.std.proofs.Common.{◌≡◌, ℕ, ◌+◌, ◌<◌, true, false, ap, sym, subst, refl, ◌∙◌, Result, length}
 use Rattle.std.specs.Prelude.{vec_capacity}
 use Rattle.std.specs.Result.{IsOk}
 use Rattle.shm_graph.specs.declared.ask.Turn.TheVariants.{Done}
@@ -9,6 +9,7 @@ use Rattle.shm_calls.specs.declared.or.Or.TheVariants.{First, Second}
 use Rattle.shm_count.specs.declared.answer.EraSpent.{EraSpent}
 use Rattle.shm_script.specs.Values.{Scripted}
 use Rattle.shm_agents.specs.Agents.{Playing, Stands}
+use Rattle.shm_agents.specs.TurnsLeft.{turns_given}
 use Rattle.shm_agents.specs.Work.{work_control}
 use Rattle.shm_agents.proofs.Turns as turns
 use Rattle.shm_agents.proofs.agents.Agents.turn.Given.{Over}
@@ -45,6 +46,9 @@ module _ (g : Over) (c : After-step g) where
 
   stepped : 0 < c.args.self.now.life.left → (n : ℕ) × g.W.Workplace.stepped c.args.pool.now (step_of work_control c.args.self.now.work n) c.step.new.self
   stepped = turns.stepped_on c.self.view_is (λ t. g.W.Workplace.stepped c.args.pool.now t c.step.new.self) (λ some. let z = c.step.ensures.turn some in (z.1.seen, z.2))
+
+  given : is_died c.step.result ≡ false → turns_given (g.W.Workplace.account c.step.new.self c.args.self.now.me.who) ≡ turns_given (g.W.Workplace.account c.args.pool.now c.args.self.now.me.who) + 1
+  given acts = turns.given_on c.self.view_is (λ k. g.W.Workplace.account c.args.pool.now k) (λ k. g.W.Workplace.account c.step.new.self k) (turns.given before after acts)
 
 -- ---- what the calls need
 
@@ -215,3 +219,28 @@ returns-in-Done-Second-First-clause-stepped g c = stepped g (goal.at.returns-in-
 
 pub returns-in-Done-Second-Second-clause-stepped : goal.returns-in-Done-Second-Second-clause-stepped
 returns-in-Done-Second-Second-clause-stepped g c = stepped g (goal.at.returns-in-Done-Second-Second-clause-stepped g c).After-step
+
+pub returns-in-More-clause-given : goal.returns-in-More-clause-given
+returns-in-More-clause-given g c = given g (goal.at.returns-in-More-clause-given g c).After-step (ap is_died c.in-More.is)
+
+pub returns-in-Done-First-First-clause-given : goal.returns-in-Done-First-First-clause-given
+returns-in-Done-First-First-clause-given g c = given g (goal.at.returns-in-Done-First-First-clause-given g c).After-step (ap is_died c.in-Done-First-First.is)
+
+pub returns-in-Done-First-Second-clause-given : goal.returns-in-Done-First-Second-clause-given
+returns-in-Done-First-Second-clause-given g c = given g (goal.at.returns-in-Done-First-Second-clause-given g c).After-step (ap is_died c.in-Done-First-Second.is)
+
+pub returns-in-Done-Second-First-clause-given : goal.returns-in-Done-Second-First-clause-given
+returns-in-Done-Second-First-clause-given g c = given g (goal.at.returns-in-Done-Second-First-clause-given g c).After-step (ap is_died c.in-Done-Second-First.is)
+
+pub returns-in-Done-Second-Second-clause-given : goal.returns-in-Done-Second-Second-clause-given
+returns-in-Done-Second-Second-clause-given g c = given g (goal.at.returns-in-Done-Second-Second-clause-given g c).After-step (ap is_died c.in-Done-Second-Second.is)
+
+pub returns-in-Died-clause-given : goal.returns-in-Died-clause-given
+returns-in-Died-clause-given g c =
+    let at = (goal.at.returns-in-Died-clause-given g c).After-step in
+    let b = before g at in
+    let a = after g at in
+    let died = ap is_died c.in-Died.is in
+    let same : g.W.Workplace.account c.step.new.self c.args.self.now.me.who ≡ g.W.Workplace.account c.args.pool.now c.args.self.now.me.who = subst (λ (z : Playing). g.W.Workplace.account c.step.new.self z.me.who ≡ g.W.Workplace.account c.args.pool.now z.me.who) c.self.view_is (turns.same_account b a died) in
+    subst (λ (z : Playing). turns_given (g.W.Workplace.account c.die.new.pool z.me.who) ≡ turns_given (g.W.Workplace.account c.step.new.self z.me.who) + 1) (turns.same b a died) c.die.ensures.given
+    ∙ ap (λ (e : Account). turns_given e + 1) same

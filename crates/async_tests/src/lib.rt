@@ -1,0 +1,5 @@
+//! Clients as futures that are polled by hand: tests.
+#![tactic(auto)]
+
+#[cfg(test)]
+mod tests;

@@ -1,0 +1,106 @@
+-- agents at a post that are given up
+use Rattle.std.proofs.Common.{◌≡◌, ℕ, ◌<◌, Bool, true, false, cond, List, inl, refl, sym, ap, ◌∙◌, subst}
+use Rattle.shm_graph.specs.declared.ask.Me.{Me}
+use Rattle.shm_graph.specs.declared.memo.Agent.{Agent}
+use Rattle.shm_graph.specs.declared.run.Account.{Account}
+use Rattle.shm_graph.specs.Agents.{acts, acts_by, last_agent, steps_made, steps_of}
+use Rattle.shm_graph.specs.Runs.{account_died, fell_by, told_left}
+use Rattle.shm_graph.proofs.Memos.MemoSteps.{steps_died}
+use Rattle.shm_count.specs.Roots.{member}
+use Rattle.shm_script.specs.declared.log.End.TheVariants.{Died}
+use Rattle.shm_script.specs.declared.log.Entry.{Entry}
+use Rattle.shm_script.specs.Logged.{Logged}
+use Rattle.shm_script.specs.Values.{Scripted}
+use Rattle.shm_agents.specs.Agents.{IsFold, end_or, logged}
+use Rattle.shm_agents.specs.Courses.{AreCommandsTold}
+use Rattle.shm_agents.specs.Cuts.{IsCut, IsCutOff, IsUnbegun, account_cut}
+use Rattle.shm_agents.specs.Logs.{AreUnspent, IsLogOf, steps_first}
+use Rattle.shm_pool.specs.Tokens.{IsOut}
+use Rattle.shm_async.specs.declared.finish.Finish.{Finish}
+use Rattle.shm_async.specs.Cancelled.{HasCancelled, IsCorpseBy, LogFits}
+use Rattle.shm_async.specs.Polled.{AtPost, StandAt}
+use Rattle.shm_async.specs.Tokens.{IsGivenBack, account_in, is_corpse}
+use Rattle.shm_async.proofs.Finishing.{is_me}
+
+-- what a cut leaves of the pool, whether an agent acted or none
+pub by_acting : (b : Bool) (P : Type 0) → (b ≡ true → P) → (b ≡ false → P) → P
+by_acting true P fell still = fell refl
+by_acting false P fell still = still refl
+
+cut_steps : (e : Account) → steps_made (account_cut e).memo ≡ steps_made e.memo
+cut_steps e = go (acts e.memo)
+  where
+    go : (b : Bool) → steps_made (cond b (account_died e) e).memo ≡ steps_made e.memo
+    go true = steps_died e.memo
+    go false = refl
+
+-- v are the agents w after they were given up; `some` tells whether one of them had begun
+module _ (s : Scripted) (w v : AtPost) (h : StandAt s w) (me : v.agents.me ≡ w.agents.me) (account : v.post.account ≡ account_cut w.post.account) where
+  abbrev e : Account
+  e = account_cut w.post.account
+
+  at_cut : (b : Bool) → IsCut b s v.agents v.post.account → IsCut b s v.agents e
+  at_cut b = subst (IsCut b s v.agents) account
+
+  -- ---- what the post asks before it gives a token
+
+  pub cut_fell : IsCutOff s v.agents v.post.account → fell_by (last_agent v.post.account.memo.agents) ≡ true
+  cut_fell c = c.fell
+
+  pub cut_out : IsUnbegun v.agents v.post.account → IsOut v.post.account.memo
+  cut_out c = inl c.status
+
+  pub cut_still : IsUnbegun v.agents v.post.account → acts v.post.account.memo ≡ false
+  cut_still c = ap (λ (xs : List Agent). acts_by (last_agent xs)) c.agents
+
+  pub cut_whole : IsUnbegun v.agents v.post.account → fell_by (last_agent v.post.account.memo.agents) ≡ false
+  cut_whole c = ap (λ (xs : List Agent). fell_by (last_agent xs)) c.agents
+
+  -- ---- what is given
+
+  abbrev its : Me
+  its = member w.post.of.start.geometry s.client
+
+  mine : v.agents.me ≡ its
+  mine = me ∙ is_me s w h
+
+  corpse_by : (b : Bool) → IsCut b s v.agents e → IsCorpseBy (steps_made w.post.account.memo) b
+  corpse_by true c = subst (λ (n : ℕ). 0 < n) (cut_steps w.post.account) c.stepped
+  corpse_by false c = sym (cut_steps w.post.account) ∙ ap steps_of c.agents
+
+  log_fits : (b : Bool) → IsCut b s v.agents e → LogFits b w.post.of s e (logged v.agents)
+  log_fits true c =
+      record {
+        log = subst (λ (m : Me). IsLogOf m s (steps_first e.memo.agents) e.memo.agents e.begun (told_left true e) (logged v.agents)) mine c.settled.log;
+        only = subst (λ (m : Me). AreCommandsTold m (told_left true e) v.agents.entries) mine c.settled.only;
+        lives = c.lives;
+        cut = c.cut;
+        agents = c.died;
+      }
+  log_fits false c =
+      let who : v.agents.me.who ≡ s.client = ap (λ (m : Me). m.who) mine in
+      let entries = c.entries in
+      let end : end_or v.agents.end ≡ Died 0 false = ap end_or c.end in
+      (λ i. record { client = who i; entries = entries i; end = end i })
+
+  unspent_cut : (b : Bool) → IsCut b s v.agents e → AreUnspent v.agents.entries
+  unspent_cut true c = c.settled.unspent
+  unspent_cut false c = subst AreUnspent (sym c.entries) tt
+
+  fold_cut : (b : Bool) → IsCut b s v.agents e → IsFold v.agents.entries e.memo
+  fold_cut true c = c.settled.fold
+  fold_cut false c = subst (λ (es : List Entry). IsFold es e.memo) (sym c.entries) c.fold
+
+  pub cancelled : (b : Bool) → IsCut b s v.agents v.post.account → (x : Finish) → x.log ≡ logged v.agents → IsGivenBack w.post.of x.token → account_in x.token ≡ v.post.account → is_corpse x.token ≡ b → HasCancelled w.post.of s w.post.account x
+  cancelled b cut x log token given some =
+      let c = at_cut b cut in
+      let entries : x.log.entries ≡ v.agents.entries = ap (λ (l : Logged). l.entries) log in
+      record {
+        token = token;
+        account = given ∙ account;
+        who = h.posted.named ∙ sym h.stands.may.client;
+        corpse = subst (IsCorpseBy (steps_made w.post.account.memo)) (sym some) (corpse_by b c);
+        log = subst (λ (d : Bool). LogFits d w.post.of s e x.log) (sym some) (subst (LogFits b w.post.of s e) (sym log) (log_fits b c));
+        unspent = subst AreUnspent (sym entries) (unspent_cut b c);
+        fold = subst (λ (es : List Entry). IsFold es e.memo) (sym entries) (fold_cut b c);
+      }

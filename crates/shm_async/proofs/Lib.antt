@@ -1,0 +1,5 @@
+pub mod Finishing
+pub mod Giving
+pub mod Making
+pub mod Cancelling
+pub mod Recovering
