@@ -62,6 +62,7 @@ impl PlainPool {
         requires may { B.Op.may (B.op begins) (memo_of self.old who) }
         ensures leaves { IfSome result (λ a. let tr = (memo_of self.new who).call in let es = happens_along B.Op.control B.Op.does (B.op begins) tr in Did who self.old self.new es × B.Op.leaves (B.op begins) (memo_of self.old who) (memo_of self.new who) tr es a) }
         ensures gives { IfSome result (λ a. gives_now B.Op.gives (B.op begins) (memo_of self.old who) (memo_of self.new who) a) }
+        ensures took { IfSome result (λ a. Took B.Op.control who self.old (B.op begins) self.new) }
         ensures at_work { IfSome result (λ a. B.Op.rests (B.op begins) a → IsAtWork who self.new) }
         ensures cut { is_some result ≡ false → (m : B.Op) × (B.Op.control.finished m ≡ false) × fits_now B.Op.control B.Op.fits m (memo_of self.old who) (memo_of (readied self.new who) who) }
         ensures ran { Ran who true (is_some result) self.old self.new life.old.left life.new.left }
@@ -81,6 +82,7 @@ impl PlainPool {
         requires may { O.may operation (memo_of self.old who) }
         ensures leaves { IfSome result (λ a. let tr = (memo_of self.new who).call in let es = happens_along O.control O.does operation tr in Did who self.old self.new es × O.leaves operation (memo_of self.old who) (memo_of self.new who) tr es a) }
         ensures gives { IfSome result (λ a. gives_now O.gives operation (memo_of self.old who) (memo_of self.new who) a) }
+        ensures took { IfSome result (λ a. Took O.control who self.old operation self.new) }
         ensures at_work { IfSome result (λ a. O.rests operation a → IsAtWork who self.new) }
         ensures cut { is_some result ≡ false → (m : O) × (O.control.finished m ≡ false) × fits_now O.control O.fits m (memo_of self.old who) (memo_of (readied self.new who) who) }
         ensures ran { Ran who true (is_some result) self.old self.new life.old.left life.new.left }

@@ -11,6 +11,7 @@ mod line_shape;
 mod log;
 mod number;
 mod parsing;
+pub mod parts;
 mod pieces;
 mod printing;
 mod raw;

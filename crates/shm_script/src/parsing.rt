@@ -234,7 +234,7 @@ impl Draft {
 }
 
 /// The next line and what stands behind it, where a line feed ends it.
-fn split_line(text: &[u8]) -> Option<(&[u8], &[u8])>
+pub fn split_line(text: &[u8]) -> Option<(&[u8], &[u8])>
     ensures lines { MatchOption result (slice_split (λ b. b == 10) text.now ≡ text.now ∷ []) (λ x. slice_split (λ b. b == 10) text.now ≡ x.0.now ∷ slice_split (λ b. b == 10) x.1.now) }
     ensures less { IfSome result (λ x. length x.1.now < length text.now) }
 {
@@ -246,7 +246,7 @@ fn split_line(text: &[u8]) -> Option<(&[u8], &[u8])>
 }
 
 /// The fault of bytes that are too many: the line of the first one past the limit.
-fn limit(bytes: &[u8]) -> ParseStop
+pub fn limit(bytes: &[u8]) -> ParseStop
     requires { 1048576 < length bytes.now }
     ensures { result ≡ ParseStop.Fault (limit_fault bytes.now) }
 {
