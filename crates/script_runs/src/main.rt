@@ -1,8 +1,9 @@
-//! Texts by the rows of standard input: traces that are read, printed and drawn, and bytes that come and go in pieces.
+//! Texts by the rows of standard input: traces that are read, printed and drawn, lines for versions of a map that are read, and bytes that
+//! come and go in pieces.
 //!
 //! A line that begins with `#` is a title: it is told as it is, and an empty text begins. Other rows build the text (`+ LINE`) or make the
-//! call of their name on it and tell what it answers (`parse`: `ok`, or the faulty line and the kind of its fault). What must be told (the
-//! file stdout) was computed by an independent implementation.
+//! call of their name on it and tell what it answers (`parse`: `ok`, or the faulty line and the kind of its fault; `tree`: the script that is
+//! read, or its fault). What must be told (the file stdout) was computed by an independent implementation.
 #![tactic(auto)]
 
 mod desk;
@@ -11,6 +12,7 @@ mod parsing;
 mod streams;
 mod sums;
 mod texts;
+mod trees;
 
 use desk::Desk;
 use std::io;
@@ -37,6 +39,7 @@ fn tell_trace(rt: &HostRuntime, desk: &mut Desk, kind: &str, rest: &str) -> io::
         "parse" => parsing::tell(rt, desk.text.as_slice()),
         "generate" => drawing::tell(rt, &mut desk.text, rest),
         "answer" => parsing::tell_answer(rt, rest),
+        "tree" => trees::tell(rt, desk.text.as_slice()),
         "sum" => sums::tell(rt, desk.text.as_slice()),
         "show" => streams::show(rt, desk.text.as_slice()),
         _ => tell_stream(rt, desk, kind, rest),

@@ -15,7 +15,7 @@ fn name(kind: TraceKind) -> &'static str {
 }
 
 /// Tells why a text is refused.
-fn tell_stop(rt: &HostRuntime, stop: ParseStop) -> io::Result<()> {
+pub fn tell_stop(rt: &HostRuntime, stop: ParseStop) -> io::Result<()> {
     match stop {
         ParseStop::Memory(_) => println!(rt; "no memory"),
         ParseStop::Fault(fault) => println!(rt; "{} {}", fault.line, name(fault.kind)),

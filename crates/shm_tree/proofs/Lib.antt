@@ -1,0 +1,9 @@
+pub mod Heights
+pub mod Low
+pub mod Searching
+pub mod Insertions
+pub mod Removals
+pub mod ReadLoop
+pub mod LineTexts
+pub mod Sound
+pub mod Again

@@ -1,0 +1,4 @@
+pub mod Shapes
+pub mod Scripts
+pub mod ScriptTexts
+pub mod Trees
