@@ -1,0 +1,4 @@
+pub mod Entries
+pub mod Hands
+pub mod Keeps
+pub mod Closing
