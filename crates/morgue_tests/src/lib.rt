@@ -1,0 +1,5 @@
+//! The rows of a morgue.
+#![tactic(auto)]
+
+#[cfg(test)]
+mod tests;
