@@ -1,27 +1,27 @@
 -- jobs, what is done of them, and visits, one by one
-use Rattle.std.proofs.Common.{◌≡◌, ◌≢◌, ℕ, zero, suc, ◌+◌, ◌<◌, ◌≤◌, List, [], ◌∷◌, ◌++◌, append-nil, length, refl, sym, ap, ◌∙◌, subst, arith}
+use Rattle.std.proofs.Common.{◌≡◌, ℕ, zero, suc, ◌+◌, ◌<◌, ◌≤◌, List, [], ◌∷◌, ◌++◌, append-nil, length, refl, sym, ap, ◌∙◌, subst, arith}
 use Rattle.std.specs.List.{AllByRecursion}
-use Rattle.std.specs.Prelude.{Option, Some, None, slice_get, slice_index_or}
+use Rattle.std.specs.Prelude.{Option, Some, None, slice_index_or}
 use Rattle.shm_graph.specs.declared.run.Account.{Account}
 use Rattle.shm_graph.specs.declared.run.Start.{Start}
 use Rattle.shm_graph.specs.Runs.{account_at, first_account}
 use Rattle.shm_graph.proofs.States.FirstHeld.{at-accounts_from}
 use Rattle.shm_plain.specs.Pools.{first_pool}
-use Rattle.shm_agents.specs.declared.agents.Standing.TheVariants.{AtWork}
 use Rattle.shm_agents.specs.Agents.{Playing, Stands}
-use Rattle.shm_pool.specs.Tokens.{Its, Token, first_tokens}
-use Rattle.shm_agents.specs.Agents.{is_standing_dead}
+use Rattle.shm_pool.specs.Tokens.{Its, Token, first_tokens, token_first}
 use Rattle.shm_replay.specs.Replays.{start_of}
 use Rattle.shm_replay.specs.Seats.{Seat}
+use Rattle.shm_script.specs.Logged.{Logged}
 use Rattle.shm_script.specs.Values.{Scripted, Traced}
-use Rattle.shm_team.specs.declared.worker.Done.{Done}
-use Rattle.shm_team.specs.declared.worker.Job.{Job}
+use Rattle.shm_team.specs.declared.done.Done.{Done}
+use Rattle.shm_team.specs.declared.jobs.Job.{Job}
 use Rattle.shm_team.specs.declared.left.Left.{Left}
 use Rattle.shm_team.specs.declared.left.Left.TheVariants.{Vacant}
-use Rattle.shm_team.specs.Jobs.{AreAgentsOf, AreDone, AreJobs, AreTokens, IsDone, IsJob, MayHaveAgents}
-use Rattle.shm_team.specs.Lefts.{IsGivenBack, is_corpse, token_in}
+use Rattle.shm_team.specs.Dones.{AreDones, AreGivenBack, IsDone, IsDoneBy, IsFinished, logs_done}
+use Rattle.shm_team.specs.Jobs.{AreAgentsOf, AreDone, AreJobs, AreTokens, IsJob, MayHaveAgents}
+use Rattle.shm_team.specs.Lefts.{IsGivenBack, account_in, is_corpse}
 use Rattle.shm_team.specs.Visits.{AreVisits, IsVisited}
-use Rattle.shm_team.proofs.Whole.{WasClosed}
+use Rattle.shm_team.proofs.Telling.{script_client}
 
 pub nothing_left : {X : Type 0} (l : List X) → length l ≡ 0 → l ≡ []
 nothing_left [] h = refl
@@ -90,105 +90,114 @@ pub agents_in : (t : Traced) (p : Its) (j : Job) (x : Playing) → IsJob t p j.t
 agents_in t p j x h e = subst (MayHaveAgents t p.start j.token.account.who j.token.account) e h.agents
 
 -- none
-pub none_in : (t : Traced) (p : Its) (j : Job) → IsJob t p j.token.account.who j → j.agents ≡ None → IsDone t p j.token.account.who (record { agents = None; left = Vacant j.token })
+pub none_in : (t : Traced) (p : Its) (j : Job) → IsJob t p j.token.account.who j → j.agents ≡ None → IsDone t p j.token.account.who (record { log = None; left = Vacant j.token })
 none_in t p j h e =
+    let none = subst (MayHaveAgents t p.start j.token.account.who j.token.account) e h.agents in
+    let first : j.token ≡ token_first p j.token.account.who = (λ i. record { of = h.of i; account = h.first i }) in
     record {
       left = (h.of, ap (λ (e : Account). e.running) h.first);
       who = refl;
-      agents = subst (MayHaveAgents t p.start j.token.account.who j.token.account) e h.agents;
-      rested = tt;
-      dead = refl;
+      by = subst (λ (o : Option Scripted). IsDoneBy o p j.token.account.who None (Vacant j.token)) (sym none.0) (refl, ap (λ (k : Token). Vacant k) first);
     }
 
 -- what a worker made of them
-pub worked : (t : Traced) (p : Its) (j : Job) (x y : Playing) (s : Scripted) (l : Left) → IsJob t p j.token.account.who j → (a : AreAgentsOf t p.start j.token.account.who j.token.account x) → s ≡ a.script → IsGivenBack j.token.of l → (token_in l).account.who ≡ j.token.account.who → is_corpse l ≡ is_standing_dead y.standing → y.me ≡ x.me → y.script ≡ x.script → Stands j.token.of.start s y (token_in l).account → y.standing ≢ AtWork → IsDone t p j.token.account.who (record { agents = Some y; left = l })
-worked t p j x y s l h a is back who dead me script stands rests =
+pub worked : (t : Traced) (p : Its) (j : Job) (x : Playing) (s : Scripted) (l : Logged) (k : Left) → IsJob t p j.token.account.who j → (a : AreAgentsOf t p.start j.token.account.who j.token.account x) → s ≡ a.script → IsFinished j.token.of s l k → IsDone t p j.token.account.who (record { log = Some l; left = k })
+worked t p j x s l k h a is f =
+    let g : IsFinished p s l k = subst (λ (q : Its). IsFinished q s l k) h.of f in
     record {
-      left = subst (λ (q : Its). IsGivenBack q l) h.of back;
-      who = who;
-      agents = record {
-        me = me ∙ a.me;
-        script = a.script;
-        is = a.is;
-        at = ap (slice_get t.scripts) script ∙ a.at;
-        stands = subst (λ (q : Its). Stands q.start a.script y (token_in l).account) h.of (subst (λ (z : Scripted). Stands j.token.of.start z y (token_in l).account) is stands);
-      };
-      rested = rests;
-      dead = dead;
+      left = g.token;
+      who = g.who ∙ script_client t.scripts j.token.account.who s (a.is ∙ ap (λ (z : Scripted). Some z) (sym is));
+      by = subst (λ (o : Option Scripted). IsDoneBy o p j.token.account.who (Some l) k) (ap (λ (z : Scripted). Some z) is ∙ sym a.is) (l, refl, g);
     }
 
 -- ---- what is done of them
 
-abbrev pub DonesOf : Traced → Its → List Job → List Done → Type 0
-DonesOf t p [] [] = Unit {0}
-DonesOf t p (j ∷ js) (d ∷ ds) = IsDone t p j.token.account.who d × DonesOf t p js ds
-DonesOf t p js ds = ⊥
+-- of the jobs from c on, in order
+dones_from : (t : Traced) (p : Its) (c : ℕ) (js : List Job) (ds : List Done) → AreJobs t p c js → length ds ≡ length js → ((i : ℕ) (j : Job) (d : Done) → i < length js → IsDone t p (slice_index_or js i j).token.account.who (slice_index_or ds i d)) → AreDones t p c ds
+dones_from t p c [] [] jobs many each = tt
+dones_from t p c [] (d ∷ ds) jobs many each = absurd (omega arith)
+dones_from t p c (j ∷ js) [] jobs many each = absurd (omega arith)
+dones_from t p c (j ∷ js) (d ∷ ds) jobs many each = (subst (λ (n : ℕ). IsDone t p n d) jobs.0 (each 0 j d (omega arith)), dones_from t p (suc c) js ds jobs.2 (omega arith) (λ i x y l. each (suc i) x y (omega arith)))
 
-dones_of : (t : Traced) (p : Its) (js : List Job) (ds : List Done) → length ds ≡ length js → ((i : ℕ) (j : Job) (d : Done) → i < length js → IsDone t p (slice_index_or js i j).token.account.who (slice_index_or ds i d)) → DonesOf t p js ds
-dones_of t p [] [] many each = tt
-dones_of t p [] (d ∷ ds) many each = absurd (omega arith)
-dones_of t p (j ∷ js) [] many each = absurd (omega arith)
-dones_of t p (j ∷ js) (d ∷ ds) many each = (each 0 j d (omega arith), dones_of t p js ds (omega arith) (λ i x y l. each (suc i) x y (omega arith)))
+pub dones_of : (t : Traced) (p : Its) (js : List Job) (ds : List Done) → AreJobs t p 0 js → AreDone t p js ds → AreDones t p 0 ds
+dones_of t p js ds jobs h = dones_from t p 0 js ds jobs h.many h.each
 
-pub dones_all : (t : Traced) (p : Its) (js : List Job) (ds : List Done) → AreDone t p js ds → DonesOf t p js ds
-dones_all t p js ds h = dones_of t p js ds h.many h.each
+-- they are given back
+pub dones_back : (t : Traced) (p : Its) (c : ℕ) (ds : List Done) → AreDones t p c ds → AreGivenBack p c ds
+dones_back t p c [] h = tt
+dones_back t p c (d ∷ ds) h = (h.0.left, h.0.who, dones_back t p (suc c) ds h.1)
 
-pub dones_back : (t : Traced) (p : Its) (js : List Job) (ds : List Done) → DonesOf t p js ds → AllByRecursion (λ (d : Done). IsGivenBack p d.left) ds
-dones_back t p [] [] h = tt
-dones_back t p [] (d ∷ ds) h = absurd h
-dones_back t p (j ∷ js) [] h = absurd h
-dones_back t p (j ∷ js) (d ∷ ds) h = (h.0.left, dones_back t p js ds h.1)
+pub done_at : (t : Traced) (p : Its) (c i : ℕ) (ds : List Done) (d : Done) → AreDones t p c ds → i < length ds → IsDone t p (c + i) (slice_index_or ds i d)
+done_at t p c i [] d h l = absurd (omega arith)
+done_at t p c zero (x ∷ ds) d h l = let z : c ≡ c + 0 = omega arith in subst (λ (n : ℕ). IsDone t p n x) z h.0
+done_at t p c (suc i) (x ∷ ds) d h l = let z : suc c + i ≡ c + suc i = omega arith in subst (λ (n : ℕ). IsDone t p n (slice_index_or ds i d)) z (done_at t p (suc c) i ds d h.1 (omega arith))
+
+pub log_done : (ds : List Done) (i : ℕ) (d : Done) → i < length ds → slice_index_or (logs_done ds) i None ≡ (slice_index_or ds i d).log
+log_done [] i d l = absurd (omega arith)
+log_done (x ∷ ds) zero d l = refl
+log_done (x ∷ ds) (suc i) d l = log_done ds i d (omega arith)
 
 -- ---- visits
 
-pub visits_more : (p : Its) (ds : List Done) (xs : List (Option Playing)) (ts : List Token) (d : Done) (x : Option Playing) (t : Token) → AreVisits p ds xs ts → AreVisits p (d ∷ []) (x ∷ []) (t ∷ []) → AreVisits p (ds ++ d ∷ []) (xs ++ x ∷ []) (ts ++ t ∷ [])
-visits_more p [] [] [] d x t h one = one
-visits_more p [] [] (u ∷ ts) d x t h one = absurd h
-visits_more p [] (y ∷ xs) ts d x t h one = absurd h
-visits_more p (z ∷ ds) [] ts d x t h one = absurd h
-visits_more p (z ∷ ds) (y ∷ xs) [] d x t h one = absurd h
-visits_more p (z ∷ ds) (y ∷ xs) (u ∷ ts) d x t h one = (h.0, h.1, h.2, visits_more p ds xs ts d x t h.3 one)
+pub back_all : (p : Its) (c : ℕ) (ds : List Done) → AreGivenBack p c ds → AllByRecursion (λ (d : Done). IsGivenBack p d.left) ds
+back_all p c [] h = tt
+back_all p c (d ∷ ds) h = (h.0, back_all p (suc c) ds h.2)
 
--- what is left of each identity
-pub closed_at : (t : Traced) (p : Its) (c i : ℕ) (js : List Job) (ds : List Done) (xs : List (Option Playing)) (ts : List Token) (k : Token) → AreJobs t p c js → DonesOf t p js ds → AreVisits p ds xs ts → i < length js → WasClosed t p.start (c + i) (slice_index_or xs i None) (slice_index_or ts i k).account
-closed_at t p c i [] ds xs ts k js_are ds_are v l = absurd (omega arith)
-closed_at t p c i (j ∷ js) [] xs ts k js_are ds_are v l = absurd ds_are
-closed_at t p c i (j ∷ js) (d ∷ ds) [] ts k js_are ds_are v l = absurd v
-closed_at t p c i (j ∷ js) (d ∷ ds) (x ∷ xs) [] k js_are ds_are v l = absurd v
-closed_at t p c zero (j ∷ js) (d ∷ ds) (x ∷ xs) (u ∷ ts) k js_are ds_are v l =
-    let is = ds_are.0 in
-    let e = (token_in d.left).account in
-    let n : j.token.account.who ≡ c + 0 = js_are.0 ∙ (let z : c ≡ c + 0 = omega arith in z) in
-    subst (λ (m : ℕ). WasClosed t p.start m x u.account) n
-    (subst (λ (o : Option Playing). WasClosed t p.start j.token.account.who o u.account) (sym v.0)
-    (record { left = e; agents = is.agents; rested = is.rested; visited = subst (λ b. IsVisited b e u.account) is.dead v.2 }))
-closed_at t p c (suc i) (j ∷ js) (d ∷ ds) (x ∷ xs) (u ∷ ts) k js_are ds_are v l =
-    let z : suc c + i ≡ c + suc i = omega arith in
-    subst (λ (m : ℕ). WasClosed t p.start m (slice_index_or xs i None) (slice_index_or ts i k).account) z
-    (closed_at t p (suc c) i js ds xs ts k js_are.2 ds_are.1 v.3 (omega arith))
-
--- the tokens are of the pool, and of the identities in order
-pub tokens_at : (t : Traced) (p : Its) (c i : ℕ) (js : List Job) (ds : List Done) (xs : List (Option Playing)) (ts : List Token) (k : Token) → AreJobs t p c js → DonesOf t p js ds → AreVisits p ds xs ts → i < length ts → ((slice_index_or ts i k).of ≡ p) × ((slice_index_or ts i k).account.who ≡ c + i)
-tokens_at t p c i js ds xs [] k js_are ds_are v l = absurd (omega arith)
-tokens_at t p c i js [] [] (u ∷ ts) k js_are ds_are v l = absurd v
-tokens_at t p c i js [] (x ∷ xs) (u ∷ ts) k js_are ds_are v l = absurd v
-tokens_at t p c i js (d ∷ ds) [] (u ∷ ts) k js_are ds_are v l = absurd v
-tokens_at t p c i [] (d ∷ ds) (x ∷ xs) (u ∷ ts) k js_are ds_are v l = absurd ds_are
-tokens_at t p c zero (j ∷ js) (d ∷ ds) (x ∷ xs) (u ∷ ts) k js_are ds_are v l = (v.1, v.2.who ∙ (ds_are.0.who ∙ (js_are.0 ∙ (let z : c ≡ c + 0 = omega arith in z))))
-tokens_at t p c (suc i) (j ∷ js) (d ∷ ds) (x ∷ xs) (u ∷ ts) k js_are ds_are v l =
-    let h = tokens_at t p (suc c) i js ds xs ts k js_are.2 ds_are.1 v.3 (omega arith) in
-    (h.0, h.1 ∙ (let z : suc c + i ≡ c + suc i = omega arith in z))
+pub visits_more : (p : Its) (ds : List Done) (ls : List (Option Logged)) (ts : List Token) (d : Done) (l : Option Logged) (t : Token) → AreVisits p ds ls ts → AreVisits p (d ∷ []) (l ∷ []) (t ∷ []) → AreVisits p (ds ++ d ∷ []) (ls ++ l ∷ []) (ts ++ t ∷ [])
+visits_more p [] [] [] d l t h one = one
+visits_more p [] [] (u ∷ ts) d l t h one = absurd h
+visits_more p [] (y ∷ ls) ts d l t h one = absurd h
+visits_more p (z ∷ ds) [] ts d l t h one = absurd h
+visits_more p (z ∷ ds) (y ∷ ls) [] d l t h one = absurd h
+visits_more p (z ∷ ds) (y ∷ ls) (u ∷ ts) d l t h one = (h.0, h.1, h.2, visits_more p ds ls ts d l t h.3 one)
 
 -- there are as many of all
-pub as_many : (t : Traced) (p : Its) (js : List Job) (ds : List Done) (xs : List (Option Playing)) (ts : List Token) → DonesOf t p js ds → AreVisits p ds xs ts → (length xs ≡ length js) × (length ts ≡ length js)
-as_many t p [] [] [] [] ds_are v = (refl, refl)
-as_many t p [] [] [] (u ∷ ts) ds_are v = absurd v
-as_many t p [] [] (x ∷ xs) ts ds_are v = absurd v
-as_many t p [] (d ∷ ds) xs ts ds_are v = absurd ds_are
-as_many t p (j ∷ js) [] xs ts ds_are v = absurd ds_are
-as_many t p (j ∷ js) (d ∷ ds) [] ts ds_are v = absurd v
-as_many t p (j ∷ js) (d ∷ ds) (x ∷ xs) [] ds_are v = absurd v
-as_many t p (j ∷ js) (d ∷ ds) (x ∷ xs) (u ∷ ts) ds_are v = let h = as_many t p js ds xs ts ds_are.1 v.3 in (ap suc h.0, ap suc h.1)
+pub as_many : (p : Its) (ds : List Done) (ls : List (Option Logged)) (ts : List Token) → AreVisits p ds ls ts → (length ls ≡ length ds) × (length ts ≡ length ds)
+as_many p [] [] [] v = (refl, refl)
+as_many p [] [] (u ∷ ts) v = absurd v
+as_many p [] (l ∷ ls) ts v = absurd v
+as_many p (d ∷ ds) [] ts v = absurd v
+as_many p (d ∷ ds) (l ∷ ls) [] v = absurd v
+as_many p (d ∷ ds) (l ∷ ls) (u ∷ ts) v = let h = as_many p ds ls ts v.3 in (ap suc h.0, ap suc h.1)
+
+-- the logs are those that were given
+pub visits_logs : (p : Its) (ds : List Done) (ls : List (Option Logged)) (ts : List Token) → AreVisits p ds ls ts → ls ≡ logs_done ds
+visits_logs p [] [] [] v = refl
+visits_logs p [] [] (u ∷ ts) v = absurd v
+visits_logs p [] (l ∷ ls) ts v = absurd v
+visits_logs p (d ∷ ds) [] ts v = absurd v
+visits_logs p (d ∷ ds) (l ∷ ls) [] v = absurd v
+visits_logs p (d ∷ ds) (l ∷ ls) (u ∷ ts) v = let h = visits_logs p ds ls ts v.3 in (λ i. v.0 i ∷ h i)
+
+-- each identity was visited
+pub visited_at : (p : Its) (i : ℕ) (ds : List Done) (ls : List (Option Logged)) (ts : List Token) (d : Done) (k : Token) → AreVisits p ds ls ts → i < length ds → IsVisited (is_corpse (slice_index_or ds i d).left) (account_in (slice_index_or ds i d).left) (slice_index_or ts i k).account
+visited_at p i [] ls ts d k v l = absurd (omega arith)
+visited_at p i (x ∷ ds) [] ts d k v l = absurd v
+visited_at p i (x ∷ ds) (y ∷ ls) [] d k v l = absurd v
+visited_at p zero (x ∷ ds) (y ∷ ls) (u ∷ ts) d k v l = v.2
+visited_at p (suc i) (x ∷ ds) (y ∷ ls) (u ∷ ts) d k v l = visited_at p i ds ls ts d k v.3 (omega arith)
+
+-- the tokens are of the pool, and of the identities in order
+tokens_at : (p : Its) (c i : ℕ) (ds : List Done) (ls : List (Option Logged)) (ts : List Token) (k : Token) → AreGivenBack p c ds → AreVisits p ds ls ts → i < length ts → ((slice_index_or ts i k).of ≡ p) × ((slice_index_or ts i k).account.who ≡ c + i)
+tokens_at p c i ds ls [] k back v l = absurd (omega arith)
+tokens_at p c i [] [] (u ∷ ts) k back v l = absurd v
+tokens_at p c i [] (x ∷ ls) (u ∷ ts) k back v l = absurd v
+tokens_at p c i (d ∷ ds) [] (u ∷ ts) k back v l = absurd v
+tokens_at p c zero (d ∷ ds) (x ∷ ls) (u ∷ ts) k back v l = (v.1, v.2.who ∙ (back.1 ∙ (let z : c ≡ c + 0 = omega arith in z)))
+tokens_at p c (suc i) (d ∷ ds) (x ∷ ls) (u ∷ ts) k back v l =
+    let h = tokens_at p (suc c) i ds ls ts k back.2 v.3 (omega arith) in
+    (h.0, h.1 ∙ (let z : suc c + i ≡ c + suc i = omega arith in z))
+
+-- what the closing is given
+pub tokens_of : (p : Its) (ds : List Done) (ls : List (Option Logged)) (ts : List Token) → length ds ≡ p.start.geometry.clients → AreGivenBack p 0 ds → AreVisits p ds ls ts → AreTokens p ts
+tokens_of p ds ls ts many back v =
+    record {
+      many = (as_many p ds ls ts v).1 ∙ many;
+      of = λ i k l. (tokens_at p 0 i ds ls ts k back v l).0;
+      who = λ i k l. let z : 0 + i ≡ i = omega arith in (tokens_at p 0 i ds ls ts k back v l).1 ∙ z;
+    }
+
+-- ---- tokens
 
 -- as many jobs as tokens that they began with
 pub jobs_long : (t : Traced) (ks : List Token) (js : List Job) → JobsOf t ks js → length js ≡ length ks
@@ -200,12 +209,3 @@ jobs_long t (k ∷ ks) (j ∷ js) h = ap suc (jobs_long t ks js h.2)
 pub first_many : (p : Its) (c n : ℕ) → length (first_tokens p c n) ≡ n
 first_many p c zero = refl
 first_many p c (suc n) = ap suc (first_many p (suc c) n)
-
--- what the closing is given
-pub tokens_of : (t : Traced) (p : Its) (js : List Job) (ds : List Done) (xs : List (Option Playing)) (ts : List Token) → length js ≡ p.start.geometry.clients → AreJobs t p 0 js → DonesOf t p js ds → AreVisits p ds xs ts → AreTokens p ts
-tokens_of t p js ds xs ts many js_are ds_are v =
-    record {
-      many = (as_many t p js ds xs ts ds_are v).1 ∙ many;
-      of = λ i k l. (tokens_at t p 0 i js ds xs ts k js_are ds_are v l).0;
-      who = λ i k l. let z : 0 + i ≡ i = omega arith in (tokens_at t p 0 i js ds xs ts k js_are ds_are v l).1 ∙ z;
-    }

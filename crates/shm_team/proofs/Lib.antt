@@ -1,9 +1,9 @@
 pub mod Calling
 pub mod Visiting
 pub mod Resting
-pub mod Working
+pub mod Finishing
 pub mod Tokens
 pub mod Telling
 pub mod Whole
 pub mod Gathering
-pub mod Running
+pub mod Settled

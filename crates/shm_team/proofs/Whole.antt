@@ -1,4 +1,4 @@
--- what workers and the visits leave is a run of the trace by clients on threads
+-- a pool of whose identities all is done, once it is settled, is a run of the trace
 use Rattle.std.proofs.Common.{◌≡◌, ℕ, ◌%◌, ◌<◌, false, List, [], refl, sym, ap, ◌∙◌, subst}
 use Rattle.std.specs.Prelude.{Option, Some, None, slice_get, slice_index, slice_index_or}
 use Rattle.std.specs.FinMap as finmap
@@ -17,151 +17,139 @@ use Rattle.shm_steps.specs.Reparting.{chain_in, map_in}
 use Rattle.shm_plain.specs.Closings.{IsClosedRun}
 use Rattle.shm_plain.specs.Pools.{Pool, memo_of, pool}
 use Rattle.shm_plain.proofs.StillTable.{still_part}
-use Rattle.shm_pool.specs.Tokens.{End, Its, Token}
+use Rattle.shm_pool.specs.Tokens.{Its}
 use Rattle.shm_pool.specs.Tokens as shared
 use Rattle.shm_script.specs.Logged.{Logged}
-use Rattle.shm_script.specs.Ranges.{IsTrace, ScriptFits}
+use Rattle.shm_script.specs.Ranges.{AreApart}
 use Rattle.shm_script.specs.Values.{Scripted, Traced}
-use Rattle.shm_agents.specs.Agents.{Playing, is_standing_dead, logged}
 use Rattle.shm_agents.specs.Logs.{AreUnspent, BeganWith, IsLog, IsLogOf, begun_first}
 use Rattle.shm_agents.specs.Turns.{lives_of, script_in}
 use Rattle.shm_agents.specs.Courses.{AreCommandsTold}
 use Rattle.shm_agents.proofs.Courses.{told_aside}
 use Rattle.shm_agents.proofs.Growing.{began_more, first_more, log_on}
-use Rattle.shm_agents.proofs.Rested.{stands_agents, stands_told}
-use Rattle.shm_replay.specs.Closings.{is_dead}
-use Rattle.shm_replay.specs.Gathered.{logs_by}
 use Rattle.shm_replay.specs.Replays.{fold_in, start_of}
-use Rattle.shm_replay.proofs.Ending.{IsOver, is_over, over_fold, over_log, over_table, over_unspent}
-use Rattle.shm_replay.proofs.Gathering.{fold_none, fold_some, logs_all, logs_are}
-use Rattle.shm_replay.proofs.WholeRun.{all_at, script_at, table_by}
-use Rattle.shm_team.specs.Jobs.{AreAgentsOf, HaveRested, MayHaveAgents}
+use Rattle.shm_replay.proofs.WholeRun.{script_at, table_by}
+use Rattle.shm_team.specs.declared.left.Left.{Left}
+use Rattle.shm_team.specs.Dones.{IsDoneBy, logs_in}
+use Rattle.shm_team.specs.Lefts.{account_in, is_corpse}
 use Rattle.shm_team.specs.Rans.{HasAgents, IsTeamRun, MayHaveBegun, entries_in}
 use Rattle.shm_team.specs.Visits.{IsVisited}
-use Rattle.shm_team.proofs.Telling.{aside_told, entries_none, entries_some}
-
-same_some : {A : Type 0} (a b : A) → ◌≡◌ {A = Option A} (Some a) (Some b) → a ≡ b
-same_some a b e = cc
+use Rattle.shm_team.proofs.Telling.{aside_told, entries_none, entries_some, fold_none, fold_some, logs_all, logs_are, script_client}
 
 -- the closed pool with the turns of its run
 pub closed_pool : (s : Start) (ws : List ℕ) (es : List Account) (h : shared.IsClosedRun s ws es) → IsClosedRun (pool s ws es h.turns)
 closed_pool s ws es h = record { run = record { held = h.held; leads = h.leads }; still = λ c l. (h.still c l).0; clean = h.clean }
 
--- what a worker left of an identity, its agents o and its account e, and the account f once it was visited
-pub record WasClosed (t : Traced) (start : Start) (c : ℕ) (o : Option Playing) (f : Account) : Type 0 where
-  pub left : Account
-  pub agents : MayHaveAgents t start c left o
-  pub rested : HaveRested o
-  pub visited : IsVisited (is_dead o) left f
+-- what is done of an identity of the pool q that has this script, its log o, and the account f once it was visited
+pub record WasClosed (s : Option Scripted) (q : Its) (c : ℕ) (o : Option Logged) (f : Account) : Type 0 where
+  pub left : Left
+  pub done : IsDoneBy s q c o left
+  pub visited : IsVisited (is_corpse left) (account_in left) f
 
-module _ (t : Traced) (trace : IsTrace t) (p : Pool) (xs : List (Option Playing)) (start : p.start ≡ start_of t) (closed : IsClosedRun p)
-    (each : (c : ℕ) → c < t.clients → WasClosed t p.start c (slice_index_or xs c None) (account_at p.accounts c)) where
-  -- the agents of an identity with a script have nothing left to do
-  over : (c : ℕ) (e : Account) (x : Playing) (h : AreAgentsOf t p.start c e x) → HaveRested (Some x) → IsOver h.script x e
-  over c e x h rested = is_over p.start h.script x e h.stands.stage rested
+module _ (t : Traced) (few : (k : ℕ) (s : Scripted) → slice_get t.scripts k ≡ Some s → s.client < t.clients) (apart : AreApart t.scripts) (p : Pool) (q : Its) (of : q.start ≡ p.start) (start : p.start ≡ start_of t) (closed : IsClosedRun p)
+    (os : List (Option Logged)) (each : (c : ℕ) → c < t.clients → WasClosed (script_in t.scripts c) q c (slice_index_or os c None) (account_at p.accounts c)) where
+  -- a script's identity
+  abbrev its : ℕ → Me
+  its c = member p.start.geometry c
 
-  -- the client of a script, with its log
-  client_of : (k : ℕ) (s : Scripted) → slice_get t.scripts k ≡ Some s → (x : Playing) × (slice_index_or xs s.client None ≡ Some x) × (x.me.who ≡ s.client) × IsLog p s (logged x) × AreUnspent x.entries
-  client_of k s e = go (slice_index_or xs s.client None) refl (each s.client few)
-    where
-      c : ℕ
-      c = s.client
+  same_me : (c : ℕ) → member q.start.geometry c ≡ its c
+  same_me c = ap (λ (z : Start). member z.geometry c) of
 
-      few : c < t.clients
-      few = (all_at (ScriptFits t.clients) t.scripts k s trace.scripts e).client
+  -- a script with the log of its client
+  log_at : (k : ℕ) (s : Scripted) → slice_get t.scripts k ≡ Some s → (x : Logged) × (slice_index_or os s.client None ≡ Some x) × (x.client ≡ s.client) × IsLog p s x × AreUnspent x.entries
+  log_at k s e =
+      let c = s.client in
+      let w = each c (few k s e) in
+      let v = w.visited in
+      let d : IsDoneBy (Some s) q c (slice_index_or os c None) w.left = subst (λ (r : Option Scripted). IsDoneBy r q c (slice_index_or os c None) w.left) (script_at t.scripts k s apart e) w.done in
+      let x = d.0 in
+      let h = d.2 in
+      let a = account_in w.left in
+      let f = account_at p.accounts c in
+      let life = slice_index (lives_of s.life) 0 in
+      let log : IsLogOf (its c) s life f.memo.agents f.begun f.told x =
+      log_on (its c) s life life refl a.memo.agents f.memo.agents a.begun f.begun (told_left (is_corpse w.left) a) f.told x
+      (λ n z b. subst (λ (found : List Agent). BeganWith found n z) (sym v.agents) (began_more a.memo.agents v.others n z b))
+      (λ n some b. ap begun_first v.begun ∙ first_more a.begun v.lines n some b)
+      v.more v.told (subst (λ (m : Me). IsLogOf m s life a.memo.agents a.begun (told_left (is_corpse w.left) a) x) (same_me c) h.log) in
+      (x, d.1, h.log.client, log, h.unspent)
 
-      is : script_in t.scripts c ≡ Some s
-      is = script_at t.scripts k s trace.apart e
+  have : (k : ℕ) (s : Scripted) → slice_get t.scripts k ≡ Some s → (x : Logged) × (slice_index_or os s.client None ≡ Some x) × (x.client ≡ s.client)
+  have k s e = let (x, at, who, log, room) = log_at k s e in (x, at, who)
 
-      f : Account
-      f = account_at p.accounts c
+  abbrev ls : List Logged
+  ls = logs_in t.scripts os
 
-      by : (o : Option Playing) → slice_index_or xs c None ≡ o → (left : Account) → MayHaveAgents t p.start c left o → HaveRested o → IsVisited (is_dead o) left (account_at p.accounts c) → (x : Playing) × (slice_index_or xs c None ≡ Some x) × (x.me.who ≡ c) × IsLog p s (logged x) × AreUnspent x.entries
-      by None at left h rested v = let z : ◌≡◌ {A = Option Scripted} (Some s) None = sym is ∙ h.0 in absurd (cc)
-      by (Some x) at left h rested v =
-          let script : h.script ≡ s = same_some h.script s (sym h.is ∙ is) in
-          let who : x.me.who ≡ c = ap (λ (m : Me). m.who) h.me in
-          let ends = subst (λ (r : Scripted). IsOver r x left) script (over c left x h rested) in
-          let life = slice_index (lives_of s.life) 0 in
-          let log = log_on x.me s life life refl left.memo.agents f.memo.agents left.begun f.begun (told_left (is_standing_dead x.standing) left) f.told (logged x)
-          (λ n z b. subst (λ (found : List Agent). BeganWith found n z) (sym v.agents) (began_more left.memo.agents v.others n z b))
-          (λ n some b. ap begun_first v.begun ∙ first_more left.begun v.lines n some b)
-          v.more v.told (over_log s x left (sym who) ends) in
-          (x, at, who, subst (λ (m : Me). IsLogOf m s life f.memo.agents f.begun f.told (logged x)) h.me log, over_unspent s x left ends)
+  -- what was left of an identity, in parts that no visit changes, by its script
+  module _ (c : ℕ) (k : Left) where
+    abbrev a : Account
+    a = account_in k
 
-      go : (o : Option Playing) → slice_index_or xs c None ≡ o → WasClosed t p.start c o (account_at p.accounts c) → (x : Playing) × (slice_index_or xs c None ≡ Some x) × (x.me.who ≡ c) × IsLog p s (logged x) × AreUnspent x.entries
-      go o at w = by o at w.left w.agents w.rested w.visited
+    abbrev Done : Option Scripted → Type 0
+    Done s = IsDoneBy s q c (slice_index_or os c None) k
 
-  have : (k : ℕ) (s : Scripted) → slice_get t.scripts k ≡ Some s → (x : Playing) × (slice_index_or xs s.client None ≡ Some x) × (x.me.who ≡ s.client)
-  have k s e = let (x, at, who, log, room) = client_of k s e in (x, at, who)
+    left_loose : (s : Option Scripted) → Done s → is_loose a.memo.part ≡ false
+    left_loose None h = ap (λ (x : Account). is_loose x.memo.part) (ap account_in h.1) ∙ ap (λ (z : Start). is_loose (first_account z c).memo.part) (of ∙ start)
+    left_loose (Some s) h = h.2.table
 
-  -- what a worker left of an identity, in parts that no visit changes
-  left_loose : (c : ℕ) (e : Account) (o : Option Playing) → MayHaveAgents t p.start c e o → HaveRested o → is_loose e.memo.part ≡ false
-  left_loose c e None h rested = ap (λ (a : Account). is_loose a.memo.part) h.1 ∙ ap (λ (z : Start). is_loose (first_account z c).memo.part) start
-  left_loose c e (Some x) h rested = over_table h.script x e (over c e x h rested)
+    left_fold : (key : ℕ) (s : Option Scripted) → script_in t.scripts c ≡ s → Done s → map_in a.memo.part key ≡ finmap.get (fold_in ls c) key
+    left_fold key None is h =
+        ap (λ (x : Account). map_in x.memo.part key) (ap account_in h.1)
+        ∙ (ap (λ (z : Start). map_in (first_account z c).memo.part key) (of ∙ start)
+        ∙ (ap (find key) (same_everywhere 16 (key % 16) [])
+        ∙ sym (ap (λ m. finmap.get m key) (fold_none t.scripts os c have is) ∙ finmap.get-empty nat_cmp key)))
+    left_fold key (Some s) is h = h.2.fold key ∙ sym (ap (λ m. finmap.get m key) (fold_some t.scripts os c have s h.0 is h.1))
 
-  left_fold : (c key : ℕ) (e : Account) (o : Option Playing) → slice_index_or xs c None ≡ o → MayHaveAgents t p.start c e o → HaveRested o → map_in e.memo.part key ≡ finmap.get (fold_in (logs_by t.scripts xs) c) key
-  left_fold c key e None at h rested =
-      ap (λ (a : Account). map_in a.memo.part key) h.1
-      ∙ (ap (λ (z : Start). map_in (first_account z c).memo.part key) start
-      ∙ (ap (find key) (same_everywhere 16 (key % 16) [])
-      ∙ sym (ap (λ m. finmap.get m key) (fold_none t.scripts xs c have h.0) ∙ finmap.get-empty nat_cmp key)))
-  left_fold c key e (Some x) at h rested = over_fold h.script x e (over c e x h rested) key ∙ sym (ap (λ m. finmap.get m key) (fold_some t.scripts xs c h.script x have h.is at))
+    -- the agents of its script, and what was told of its commands
+    own_agents : (s : Option Scripted) → Done s → MayHaveBegun s a.memo.agents a.begun (is_corpse k)
+    own_agents None h = (ap (λ (x : Account). x.memo.agents) (ap account_in h.1), ap (λ (x : Account). x.begun) (ap account_in h.1), ap is_corpse h.1)
+    own_agents (Some s) h = h.2.agents
 
-  -- the agents of an identity's script, and what was told of its commands
-  own_agents : (c : ℕ) (e : Account) (o : Option Playing) → MayHaveAgents t p.start c e o → HaveRested o → MayHaveBegun (script_in t.scripts c) e.memo.agents e.begun (is_dead o)
-  own_agents c e None h rested =
-      subst (λ (q : Option Scripted). MayHaveBegun q e.memo.agents e.begun false) (sym h.0)
-      (ap (λ (a : Account). a.memo.agents) h.1, ap (λ (a : Account). a.begun) h.1, refl)
-  own_agents c e (Some x) h rested =
-      subst (λ (q : Option Scripted). MayHaveBegun q e.memo.agents e.begun (is_standing_dead x.standing)) (sym h.is) (stands_agents p.start h.script x e h.stands rested)
-
-  own_told : (c : ℕ) (e : Account) (o : Option Playing) → slice_index_or xs c None ≡ o → MayHaveAgents t p.start c e o → HaveRested o → AreCommandsTold (member p.start.geometry c) (told_left (is_dead o) e) (entries_in (logs_by t.scripts xs) c)
-  own_told c e None at h rested =
-      subst (λ (a : Account). AreCommandsTold (member p.start.geometry c) a.told (entries_in (logs_by t.scripts xs) c)) (sym h.1) (entries_none t.scripts xs c have h.0)
-  own_told c e (Some x) at h rested =
-      let told = told_left (is_standing_dead x.standing) e in
-      subst (AreCommandsTold (member p.start.geometry c) told) (sym (entries_some t.scripts xs c h.script x have h.is at))
-      (subst (λ (m : Me). AreCommandsTold m told x.entries) h.me (stands_told p.start h.script x e h.stands rested))
+    own_told : (s : Option Scripted) → script_in t.scripts c ≡ s → Done s → AreCommandsTold (its c) (told_left (is_corpse k) a) (entries_in ls c)
+    own_told None is h =
+        subst (λ (z : Left). AreCommandsTold (its c) (told_left (is_corpse z) (account_in z)) (entries_in ls c)) (sym h.1) (entries_none t.scripts os c have is)
+    own_told (Some s) is h =
+        let who : s.client ≡ c = script_client t.scripts c s is in
+        subst (AreCommandsTold (its c) (told_left (is_corpse k) a)) (sym (entries_some t.scripts os c have s h.0 is h.1))
+        (subst (λ (m : Me). AreCommandsTold m (told_left (is_corpse k) a) h.0.entries) (same_me s.client ∙ ap its who) h.2.only)
 
   agents : (c : ℕ) → c < t.clients → HasAgents (script_in t.scripts c) (account_at p.accounts c)
   agents c l =
       let w = each c l in
       let v = w.visited in
       record {
-        dead = is_dead (slice_index_or xs c None);
-        first = w.left.memo.agents;
+        dead = is_corpse w.left;
+        first = (account_in w.left).memo.agents;
         others = v.others;
-        before = w.left.begun;
+        before = (account_in w.left).begun;
         lines = v.lines;
         agents = v.agents;
         begun = v.begun;
-        own = own_agents c w.left (slice_index_or xs c None) w.agents w.rested;
+        own = own_agents c w.left (script_in t.scripts c) w.done;
         closers = v.closers;
       }
 
-  told : (c : ℕ) → c < t.clients → AreCommandsTold (member p.start.geometry c) (account_at p.accounts c).told (entries_in (logs_by t.scripts xs) c)
+  told : (c : ℕ) → c < t.clients → AreCommandsTold (its c) (account_at p.accounts c).told (entries_in ls c)
   told c l =
       let w = each c l in
       let v = w.visited in
-      let me = member p.start.geometry c in
-      let es = entries_in (logs_by t.scripts xs) c in
-      subst (λ (zs : List LoggedLine). AreCommandsTold me zs es) (sym v.told)
-      (told_aside me (told_left (is_dead (slice_index_or xs c None)) w.left) v.more es (own_told c w.left (slice_index_or xs c None) refl w.agents w.rested) (aside_told me v.more v.aside))
+      let es = entries_in ls c in
+      subst (λ (zs : List LoggedLine). AreCommandsTold (its c) zs es) (sym v.told)
+      (told_aside (its c) (told_left (is_corpse w.left) (account_in w.left)) v.more es (own_told c w.left (script_in t.scripts c) refl w.done) (aside_told (its c) v.more v.aside))
 
-  pub is_team_run : IsTeamRun t p (logs_by t.scripts xs)
+  pub is_team_run : IsTeamRun t p (logs_in t.scripts os)
   is_team_run =
       record {
         start = start;
         closed = closed;
-        logs = logs_are p t.scripts xs (λ k s e. let (x, at, who, log, room) = client_of k s e in (x, at, log));
-        unspent = logs_all (λ (l : Logged). AreUnspent l.entries) t.scripts xs (λ k s e. let (x, at, who, log, room) = client_of k s e in (x, at, room));
+        logs = logs_are p t.scripts os (λ k s e. let (x, at, who, log, room) = log_at k s e in (x, at, log));
+        unspent = logs_all (λ (l : Logged). AreUnspent l.entries) t.scripts os (λ k s e. let (x, at, who, log, room) = log_at k s e in (x, at, room));
         agents = agents;
         told = told;
         table = λ c. chain_in (memo_of p c).part;
         is = λ c l.
-            let few : c < t.clients = subst (λ n. c < n) (ap (λ (z : Start). z.geometry.clients) start) l in
-            let w = each c few in
-            table_by _ c _ (memo_of p c).part (w.visited.table.loose ∙ left_loose c w.left (slice_index_or xs c None) w.agents w.rested) (still_part p closed.run closed.still c l);
-        fold = λ c key l. let w = each c l in w.visited.table.map key ∙ left_fold c key w.left (slice_index_or xs c None) refl w.agents w.rested;
+            let here : c < t.clients = subst (λ n. c < n) (ap (λ (z : Start). z.geometry.clients) start) l in
+            let w = each c here in
+            table_by _ c _ (memo_of p c).part (w.visited.table.loose ∙ left_loose c w.left (script_in t.scripts c) w.done) (still_part p closed.run closed.still c l);
+        fold = λ c key l. let w = each c l in w.visited.table.map key ∙ left_fold c w.left key (script_in t.scripts c) refl w.done;
       }

@@ -1,18 +1,16 @@
 -- what workers begin with, and what they leave
-use Rattle.std.specs.Prelude.{◌≡◌, ◌≢◌, ℕ, suc, ◌<◌, Option, Some, None, List, [], ◌∷◌, length, slice_get, slice_index_or}
+use Rattle.std.specs.Prelude.{◌≡◌, ℕ, suc, ◌<◌, Option, Some, None, List, [], ◌∷◌, length, slice_get, slice_index_or}
 use Rattle.shm_graph.specs.declared.run.Account.{Account}
 use Rattle.shm_graph.specs.declared.run.Start.{Start}
 use Rattle.shm_graph.specs.Runs.{first_account}
 use Rattle.shm_count.specs.Roots.{member}
-use Rattle.shm_agents.specs.declared.agents.Standing.TheVariants.{AtWork}
 use Rattle.shm_agents.specs.Agents.{Playing, Stands}
 use Rattle.shm_agents.specs.Turns.{script_in}
 use Rattle.shm_pool.specs.Tokens.{Its, Token}
-use Rattle.shm_replay.specs.Closings.{is_dead}
 use Rattle.shm_script.specs.Values.{Scripted, Traced}
-use Rattle.shm_team.specs.declared.worker.Done.{Done}
-use Rattle.shm_team.specs.declared.worker.Job.{Job}
-use Rattle.shm_team.specs.Lefts.{IsGivenBack, is_corpse, token_in}
+use Rattle.shm_team.specs.declared.done.Done.{Done}
+use Rattle.shm_team.specs.declared.jobs.Job.{Job}
+use Rattle.shm_team.specs.Dones.{IsDone}
 
 -- x are the agents of the identity c, which has a script, and stand where e is accounted for of it
 pub record AreAgentsOf (t : Traced) (start : Start) (c : ℕ) (e : Account) (x : Playing) : Type 0 where
@@ -32,19 +30,6 @@ pub record IsJob (t : Traced) (p : Its) (c : ℕ) (j : Job) : Type 0 where
   pub of : j.token.of ≡ p
   pub first : j.token.account ≡ first_account p.start c
   pub agents : MayHaveAgents t p.start c j.token.account j.agents
-
--- none of them has anything left to do
-abbrev pub HaveRested : Option Playing → Type 0
-HaveRested None = Unit {0}
-HaveRested (Some x) = x.standing ≢ AtWork
-
--- it is done: its agents have nothing left to do, and its token is a corpse's where all of them died
-pub record IsDone (t : Traced) (p : Its) (c : ℕ) (d : Done) : Type 0 where
-  pub left : IsGivenBack p d.left
-  pub who : (token_in d.left).account.who ≡ c
-  pub agents : MayHaveAgents t p.start c (token_in d.left).account d.agents
-  pub rested : HaveRested d.agents
-  pub dead : is_corpse d.left ≡ is_dead d.agents
 
 -- the jobs of the identities from c on, in order
 abbrev pub AreJobs : Traced → Its → ℕ → List Job → Type 0

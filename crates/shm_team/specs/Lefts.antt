@@ -1,5 +1,6 @@
--- tokens that workers give back
+-- tokens that are given back
 use Rattle.std.specs.Prelude.{◌≡◌, Bool, true, false, []}
+use Rattle.shm_graph.specs.declared.run.Account.{Account}
 use Rattle.shm_graph.specs.Agents.{acts}
 use Rattle.shm_graph.specs.Runs.{account_died}
 use Rattle.shm_pool.specs.Tokens.{Its, Token}
@@ -10,6 +11,9 @@ use Rattle.shm_team.specs.declared.left.Left.TheVariants.{Vacant, Corpse}
 abbrev pub token_in : Left → Token
 token_in (Vacant t) = t
 token_in (Corpse t) = record t { account = account_died t.account }
+
+abbrev pub account_in : Left → Account
+account_in k = (token_in k).account
 
 abbrev pub is_corpse : Left → Bool
 is_corpse (Vacant t) = false

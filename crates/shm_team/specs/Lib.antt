@@ -1,4 +1,5 @@
 pub mod Lefts
+pub mod Dones
 pub mod Working
 pub mod Visits
 pub mod Jobs

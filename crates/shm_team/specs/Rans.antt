@@ -1,5 +1,5 @@
 -- what clients on threads leave of a trace
-use Rattle.std.specs.Prelude.{◌≡◌, ℕ, ◌==◌, ◌<◌, Bool, false, if◌then◌else◌, Option, Some, None, List, [], ◌∷◌, ◌++◌, slice_index_or}
+use Rattle.std.specs.Prelude.{◌≡◌, ℕ, ◌==◌, ◌<◌, Bool, false, if◌then◌else◌, Option, Some, None, List, [], ◌∷◌, ◌++◌, length, slice_index_or}
 use Rattle.std.specs.FinMap as finmap
 use Rattle.std.specs.List.{AllByRecursion}
 use Rattle.shm_graph.specs.declared.memo.Agent.{Agent}
@@ -20,7 +20,10 @@ use Rattle.shm_agents.specs.Courses.{AreCommandsTold, AreScriptAgents}
 use Rattle.shm_agents.specs.Turns.{script_in}
 use Rattle.shm_agents.specs.Logs.{AreLogs, AreUnspent}
 use Rattle.shm_replay.specs.Replays.{fold_in, start_of}
-use Rattle.shm_team.specs.Visits.{AreClosers}
+use Rattle.shm_team.specs.declared.done.Done.{Done}
+use Rattle.shm_team.specs.Dones.{logs_done, logs_in}
+use Rattle.shm_team.specs.Lefts.{account_in, is_corpse}
+use Rattle.shm_team.specs.Visits.{AreClosers, IsVisited}
 
 -- the agents of an identity's script with what each of them began, as `dead` tells of the last one; none where it has no script
 abbrev pub MayHaveBegun : Option Scripted → List Agent → List (List (List ℕ)) → Bool → Type 0
@@ -61,3 +64,10 @@ pub record IsClosedBy (p : Its) (ts : List Token) (end : End) : Type 0 where
   pub start : end.start ≡ p.start
   pub run : shared.IsClosedRun end.start end.words end.accounts
   pub account : (c : ℕ) (t : Token) → c < p.start.geometry.clients → account_at end.accounts c ≡ (slice_index_or ts c t).account
+
+-- The pool p was settled, where this was done of its identities: it is closed, by a run; each identity was visited behind what was done of it; and the logs are those that were given, in the order of the scripts
+pub record HasSettled (t : Traced) (p : Its) (ds : List Done) (end : End) (ls : List Logged) : Type 0 where
+  pub start : end.start ≡ p.start
+  pub run : shared.IsClosedRun end.start end.words end.accounts
+  pub visited : (c : ℕ) (d : Done) → c < length ds → IsVisited (is_corpse (slice_index_or ds c d).left) (account_in (slice_index_or ds c d).left) (account_at end.accounts c)
+  pub logs : ls ≡ logs_in t.scripts (logs_done ds)

@@ -15,11 +15,11 @@ use Rattle.shm_recover.specs.Join.{join_line}
 use Rattle.shm_recover.specs.Leave.Control.{leave_line}
 use Rattle.shm_recover.specs.Recover.Control.{recover_line}
 use Rattle.shm_pool.specs.Tokens.{Its, Token}
-use Rattle.shm_agents.specs.Agents.{Playing}
 use Rattle.shm_agents.specs.Courses.{IsAside}
 use Rattle.shm_replay.specs.Closings.{SameTable}
-use Rattle.shm_team.specs.declared.worker.Done.{Done}
-use Rattle.shm_team.specs.Lefts.{is_corpse, token_in}
+use Rattle.shm_script.specs.Logged.{Logged}
+use Rattle.shm_team.specs.declared.done.Done.{Done}
+use Rattle.shm_team.specs.Lefts.{account_in, is_corpse}
 
 -- each of these lines is a join's, a drain's, a leaving's or a recovery's
 abbrev pub AreAside : List LoggedLine → Type 0
@@ -56,8 +56,8 @@ pub record IsVisited (dead : Bool) (e f : Account) : Type 0 where
   pub gone : f.memo.status ≡ Gone
   pub table : SameTable e.memo f.memo
 
--- all of them, in order: the agents as the workers gave them back, and the tokens of the identities that were visited
-abbrev pub AreVisits : Its → List Done → List (Option Playing) → List Token → Type 0
+-- all of them, in order: the logs as they were given, and the tokens of the identities that were visited
+abbrev pub AreVisits : Its → List Done → List (Option Logged) → List Token → Type 0
 AreVisits p [] [] [] = Unit {0}
-AreVisits p (d ∷ ds) (x ∷ xs) (t ∷ ts) = (x ≡ d.agents) × (t.of ≡ p) × IsVisited (is_corpse d.left) (token_in d.left).account t.account × AreVisits p ds xs ts
-AreVisits p ds xs ts = ⊥
+AreVisits p (d ∷ ds) (l ∷ ls) (t ∷ ts) = (l ≡ d.log) × (t.of ≡ p) × IsVisited (is_corpse d.left) (account_in d.left) t.account × AreVisits p ds ls ts
+AreVisits p ds ls ts = ⊥

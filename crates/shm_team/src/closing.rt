@@ -14,15 +14,15 @@ ghost use Rattle.shm_recover.specs.Leave.Control.{leave_line};
 ghost use Rattle.shm_recover.specs.Recover.Control.{recover_line};
 ghost use Rattle.shm_pool.specs.Calls.{IsBetween};
 ghost use Rattle.shm_pool.specs.Endings.{ClientMayLeave};
-ghost use Rattle.shm_team.specs.declared.worker.Done.{Done as ADone};
-ghost use Rattle.shm_team.specs.Lefts.{IsGivenBack, is_corpse, token_in};
+ghost use Rattle.shm_team.specs.declared.done.Done.{Done as ADone};
+ghost use Rattle.shm_team.specs.Lefts.{IsGivenBack, account_in, is_corpse};
 ghost use Rattle.shm_team.specs.Visits.{AreVisits, HasRun, IsVisited};
 
+use crate::done::Done;
 use crate::left::Left;
-use crate::worker::Done;
-use shm_agents::agents::Agents;
 use shm_graph::Life;
 use shm_pool::{Client, Corpse, Reply, SharedPool, Vacant};
+use shm_script::Log;
 use std::alloc::{AllocError, Global};
 use std::sync::Wait;
 
@@ -116,7 +116,7 @@ fn enter<R: Wait>(rt: &R, pool: &SharedPool, token: Vacant) -> Vacant
 fn visit<R: Wait>(rt: &R, pool: &SharedPool, left: Left) -> Vacant
     requires left { IsGivenBack pool.now left }
     ensures of { result.of ≡ pool.now }
-    ensures visited { IsVisited (is_corpse left) (token_in left).account result.account }
+    ensures visited { IsVisited (is_corpse left) (account_in left) result.account }
 {
     match left {
         Left::Vacant(token) => enter(rt, pool, token),
@@ -127,23 +127,23 @@ fn visit<R: Wait>(rt: &R, pool: &SharedPool, left: Left) -> Vacant
     }
 }
 
-/// Each identity is visited, one after the other. The agents and the tokens are in the order of the identities.
+/// Each identity is visited, one after the other. The logs and the tokens are in the order of the identities.
 pub(crate) fn visit_all<R: Wait>(
     rt: &R,
     alloc: Global,
     pool: &SharedPool,
     dones: Vec<Done>,
-) -> Result<(Vec<Option<Agents>>, Vec<Vacant>), AllocError>
+) -> Result<(Vec<Option<Log>>, Vec<Vacant>), AllocError>
     requires left { AllByRecursion (λ (d : ADone). IsGivenBack pool.now d.left) dones.items }
     ensures visits { IfOk result (λ r. AreVisits pool.now dones.items r.0.items r.1.items) }
 {
-    let mut agents = Vec::new(alloc);
+    let mut logs = Vec::new(alloc);
     let mut tokens = Vec::new(alloc);
     for done in dones {
-        let Done { agents: own, left } = done;
+        let Done { log, left } = done;
         let token = visit(rt, pool, left);
-        agents.push(own)?;
+        logs.push(log)?;
         tokens.push(token)?;
     }
-    Ok((agents, tokens))
+    Ok((logs, tokens))
 }

@@ -1,10 +1,10 @@
-//! The token that a worker gives back.
+//! The token of an identity that is given back.
 
 use shm_pool::{Corpse, Vacant};
 
-/// The token of an identity whose agents are done: it is vacant, or its last agent died.
+/// The token of an identity whose agents have nothing left to do: it is vacant, or its last agent died.
 #[derive(Drop)]
-pub(crate) enum Left {
+pub enum Left {
     Vacant(Vacant),
     Corpse(Corpse),
 }

@@ -1,14 +1,15 @@
 //! A worker: the agents of an identity at work, one after the other, until none of them has anything left to do.
 
-ghost use Rattle.std.specs.Prelude.{◌≡◌, ◌≢◌, ◌<◌, ℕ, true, IfOk, length, slice_index_or};
+ghost use Rattle.std.specs.Prelude.{◌≡◌, ◌<◌, ℕ, IfOk, length, slice_index_or};
 ghost use Rattle.shm_graph.specs.Runs.{first_account};
 ghost use Rattle.shm_agents.specs.Agents.{Stands};
-ghost use Rattle.shm_agents.specs.Agents.{is_standing_dead};
-ghost use Rattle.shm_team.specs.declared.worker.Job.{Job as AJob};
-ghost use Rattle.shm_team.specs.Jobs.{AreDone, IsDone, IsJob};
-ghost use Rattle.shm_team.specs.Lefts.{IsGivenBack, is_corpse, token_in};
+ghost use Rattle.shm_team.specs.declared.jobs.Job.{Job as AJob};
+ghost use Rattle.shm_team.specs.Dones.{IsDone, IsFinished};
+ghost use Rattle.shm_team.specs.Jobs.{AreDone, IsJob};
 
+use crate::done::{Done, Finish, hand_back};
 use crate::gate::Gate;
+use crate::jobs::Job;
 use crate::left::Left;
 use shm_agents::agents::{Agents, Standing};
 use shm_pool::{Post, SharedPool, Vacant};
@@ -17,27 +18,6 @@ use std::alloc::AllocError;
 use std::thread;
 use std::thread::Threads;
 
-/// The agents of an identity before their first word step, if it has a script; and its token.
-#[derive(Drop)]
-pub(crate) struct Job {
-    pub(crate) agents: Option<Agents>,
-    pub(crate) token: Vacant,
-}
-
-/// The agents of an identity that have nothing left to do, if it has a script; and its token.
-#[derive(Drop)]
-pub(crate) struct Done {
-    pub(crate) agents: Option<Agents>,
-    pub(crate) left: Left,
-}
-
-/// The agents of a script that have nothing left to do, and their token.
-#[derive(Drop)]
-struct Finished {
-    agents: Agents,
-    left: Left,
-}
-
 /// The agents of a script work on the pool until none of them has anything left to do. The gate is passed before each command.
 fn work<G: Gate>(
     pool: &SharedPool,
@@ -45,18 +25,12 @@ fn work<G: Gate>(
     gate: &G,
     mut agents: Agents,
     token: Vacant,
-) -> Finished
+) -> Finish
     requires of { token.of ≡ pool.now }
     requires first { token.account ≡ first_account token.of.start token.account.who }
     requires me { agents.me.who ≡ token.account.who }
     requires stands { Stands token.of.start script.now agents token.account }
-    ensures left { IsGivenBack token.of result.left }
-    ensures who { (token_in result.left).account.who ≡ token.account.who }
-    ensures dead { is_corpse result.left ≡ is_standing_dead result.agents.standing }
-    ensures me { result.agents.me ≡ agents.me }
-    ensures script { result.agents.script ≡ agents.script }
-    ensures stands { Stands token.of.start script.now result.agents (token_in result.left).account }
-    ensures rests { result.agents.standing ≢ Standing.AtWork }
+    ensures { IsFinished token.of script.now result.log result.token }
 {
     let mut post = Post::new(pool, token);
     let mut passed: u32 = 0;
@@ -67,12 +41,7 @@ fn work<G: Gate>(
         }
         agents.turn(script, &mut post);
     }
-    let left = if agents.standing() == Standing::Dead {
-        Left::Corpse(post.corpse())
-    } else {
-        Left::Vacant(post.vacate())
-    };
-    Finished { agents, left }
+    hand_back(agents, post)
 }
 
 /// One worker. Where the identity has no script it gives the token back as it is.
@@ -83,15 +52,15 @@ fn work_at<G: Gate>(pool: &SharedPool, trace: &Trace, gate: &G, job: Job) -> Don
     let Job { agents, token } = job;
     match agents {
         None => Done {
-            agents: None,
+            log: None,
             left: Left::Vacant(token),
         },
         Some(agents) => {
             let at = agents.script();
-            let Finished { agents, left } = work(pool, &trace.scripts[at], gate, agents, token);
+            let Finish { log, token } = work(pool, &trace.scripts[at], gate, agents, token);
             Done {
-                agents: Some(agents),
-                left,
+                log: Some(log),
+                left: token,
             }
         }
     }

@@ -2,17 +2,17 @@ use Rattle.std.proofs.Common.{◌≡◌, List, [], ◌∷◌, ◌++◌, append_a
 use Rattle.std.specs.List.{AllByRecursion}
 use Rattle.std.specs.Prelude.{Option}
 use Rattle.std.specs.Vec.Iter.{into_iter_items}
-use Rattle.shm_agents.specs.Agents.{Playing}
 use Rattle.shm_pool.specs.Tokens.{Its, Token}
-use Rattle.shm_team.specs.declared.worker.Done.{Done}
+use Rattle.shm_script.specs.Logged.{Logged}
+use Rattle.shm_team.specs.declared.done.Done.{Done}
 use Rattle.shm_team.specs.Lefts.{IsGivenBack}
 use Rattle.shm_team.specs.Visits.{AreVisits}
 use Rattle.shm_team.proofs.Gathering.{all_yielded, visits_more}
 use Rattle.shm_team.proofs.closing.visit_all.Goals as goal
 
 -- lists of the same items
-visits_same : (p : Its) (ds : List Done) (xs ys : List (Option Playing)) (ts us : List Token) → ys ≡ xs → us ≡ ts → AreVisits p ds xs ts → AreVisits p ds ys us
-visits_same p ds xs ys ts us e f h = subst (λ (zs : List (Option Playing)). AreVisits p ds zs us) (sym e) (subst (AreVisits p ds xs) (sym f) h)
+visits_same : (p : Its) (ds : List Done) (xs ys : List (Option Logged)) (ts us : List Token) → ys ≡ xs → us ≡ ts → AreVisits p ds xs ts → AreVisits p ds ys us
+visits_same p ds xs ys ts us e f h = subst (λ (zs : List (Option Logged)). AreVisits p ds zs us) (sym e) (subst (AreVisits p ds xs) (sym f) h)
 
 pub loop-done-init : goal.loop-done-init
 loop-done-init g c =
@@ -22,7 +22,7 @@ loop-done-init g c =
       items = items;
       len = (let whole = c.args.dones.ok.0 in let same = ap length items in omega (arith, len));
       left = subst (AllByRecursion (λ (d : Done). IsGivenBack p d.left)) (sym items) c.requires.left;
-      visits = visits_same p [] [] _ [] _ c.new-agents.ensures.items c.new-tokens.ensures.items tt;
+      visits = visits_same p [] [] _ [] _ c.new-logs.ensures.items c.new-tokens.ensures.items tt;
     }
 
 pub visit-token-requires : goal.visit-token-requires
@@ -45,11 +45,11 @@ loop-done-preserved g c =
           omega arith;
       left = (subst (AllByRecursion (λ (d : Done). IsGivenBack p d.left)) steps i.left).1;
       visits = visits_same p (at.yielded ++ x ∷ []) _ _ _ _ c.in_ok-push.ensures.items c.in_ok-push-2.ensures.items
-          (visits_more p at.yielded at.agents.items at.tokens.items x x.agents c.visit-token.result i.visits (refl, v.of, v.visited, tt));
+          (visits_more p at.yielded at.logs.items at.tokens.items x x.log c.visit-token.result i.visits (refl, v.of, v.visited, tt));
     }
 
 pub returns : goal.returns
 returns g c =
     let at = c.loop-done in
     let all = all_yielded at.yielded _ _ _ at.invariant.items at.invariant.len c.in-None.ensures.steps.0 in
-    record { visits = subst (λ (ds : List Done). AreVisits c.args.pool.now ds at.agents.items at.tokens.items) all at.invariant.visits }
+    record { visits = subst (λ (ds : List Done). AreVisits c.args.pool.now ds at.logs.items at.tokens.items) all at.invariant.visits }

@@ -1,7 +1,7 @@
 use Rattle.std.proofs.Common.{◌≡◌, ◌++◌, length}
 use Rattle.std.specs.List.{AllByRecursion}
 use Rattle.std.specs.Vec.Iter.{into_iter_items, into_iter_len}
-use Rattle.shm_team.specs.declared.worker.Done.{Done}
+use Rattle.shm_team.specs.declared.done.Done.{Done}
 use Rattle.shm_team.specs.Lefts.{IsGivenBack}
 use Rattle.shm_team.specs.Visits.{AreVisits}
 use Rattle.shm_team.proofs.closing.visit_all.Given as goal
@@ -11,5 +11,5 @@ invariant-loop-done g l = record {
   items : l.yielded ++ into_iter_items l.done-iterator ≡ l.fn.dones.items;
   len : into_iter_len l.done-iterator ≡ length (into_iter_items l.done-iterator);
   left : AllByRecursion (λ (d : Done). IsGivenBack l.pool d.left) (into_iter_items l.done-iterator);
-  visits : AreVisits l.pool l.yielded l.agents.items l.tokens.items;
+  visits : AreVisits l.pool l.yielded l.logs.items l.tokens.items;
 }

@@ -30,15 +30,15 @@ module _ (g : Over) (c : After-index g) where
       ∙ script_read c.trace.inside.scripts.items k c.script-at.result its.script c.index.result.now (sym (ap (λ (ss : List Scripted). slice_get ss k) scripts) ∙ its.at) c.script-at.ensures c.index.ensures in
       same_some c.index.result.now its.script (sym here ∙ its.at)
 
-pub work-agents-requires-clause-first : goal.work-agents-requires-clause-first
-work-agents-requires-clause-first g c = λ κs within. c.requires.first ∙ ap (λ (p : Its). first_account p.start c.args.job.token.account.who) (sym c.requires.of)
+pub work-log-requires-clause-first : goal.work-log-requires-clause-first
+work-log-requires-clause-first g c = λ κs within. c.requires.first ∙ ap (λ (p : Its). first_account p.start c.args.job.token.account.who) (sym c.requires.of)
 
-pub work-agents-requires-clause-me : goal.work-agents-requires-clause-me
-work-agents-requires-clause-me g c = λ κs within. ap (λ (m : Me). m.who) (its g (goal.at.work-agents-requires-clause-me g c).After-index).me
+pub work-log-requires-clause-me : goal.work-log-requires-clause-me
+work-log-requires-clause-me g c = λ κs within. ap (λ (m : Me). m.who) (its g (goal.at.work-log-requires-clause-me g c).After-index).me
 
-pub work-agents-requires-clause-stands : goal.work-agents-requires-clause-stands
-work-agents-requires-clause-stands g c = λ κs within.
-    let at = (goal.at.work-agents-requires-clause-stands g c).After-index in
+pub work-log-requires-clause-stands : goal.work-log-requires-clause-stands
+work-log-requires-clause-stands g c = λ κs within.
+    let at = (goal.at.work-log-requires-clause-stands g c).After-index in
     let e = c.args.job.token.account in
     subst (λ (p : Its). Stands p.start c.index.result.now c.in-Some.agents e) (sym c.requires.of)
     (subst (λ (s : Scripted). Stands c.args.pool.now.start s c.in-Some.agents e) (sym (read g at)) (its g at).stands)
@@ -46,5 +46,4 @@ work-agents-requires-clause-stands g c = λ κs within.
 pub returns-in-Some : goal.returns-in-Some
 returns-in-Some g c =
     let at = (goal.at.returns-in-Some g c).After-index in
-    let w = c.work-agents.ensures in
-    worked c.args.trace.now c.args.pool.now c.args.job c.in-Some.agents c.work-agents.result.agents c.index.result.now c.work-agents.result.left c.requires (its g at) (read g at) w.left w.who w.dead w.me w.script w.stands w.rests
+    worked c.args.trace.now c.args.pool.now c.args.job c.in-Some.agents c.index.result.now c.work-log.result.log c.work-log.result.token c.requires (its g at) (read g at) c.work-log.ensures

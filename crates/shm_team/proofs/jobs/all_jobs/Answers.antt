@@ -2,9 +2,9 @@ use Rattle.std.proofs.Common.{◌≡◌, ◌<◌, List, [], ◌∷◌, ◌++◌,
 use Rattle.std.specs.List.{AllByRecursion}
 use Rattle.std.specs.Vec.Iter.{into_iter_items}
 use Rattle.shm_pool.specs.Tokens.{Token}
-use Rattle.shm_team.specs.declared.worker.Job.{Job}
+use Rattle.shm_team.specs.declared.jobs.Job.{Job}
 use Rattle.shm_team.proofs.Gathering.{JobsOf, all_yielded, jobs_first, jobs_long, jobs_more}
-use Rattle.shm_team.proofs.team.all_jobs.Goals as goal
+use Rattle.shm_team.proofs.jobs.all_jobs.Goals as goal
 
 pub loop-token-init : goal.loop-token-init
 loop-token-init c =

@@ -3,7 +3,7 @@ use Rattle.std.specs.List.{AllByRecursion}
 use Rattle.std.specs.Vec.Iter.{into_iter_items, into_iter_len}
 use Rattle.shm_pool.specs.Tokens.{Token}
 use Rattle.shm_team.proofs.Gathering.{JobsOf}
-use Rattle.shm_team.proofs.team.all_jobs.Given as goal
+use Rattle.shm_team.proofs.jobs.all_jobs.Given as goal
 
 abbrev pub invariant-loop-token : goal.invariant-loop-token
 invariant-loop-token l = record {

@@ -2,7 +2,7 @@ use Rattle.std.proofs.Common.{List, ap, ◌∙◌}
 use Rattle.shm_graph.specs.declared.run.Account.{Account}
 use Rattle.shm_graph.specs.Runs.{account_at}
 use Rattle.shm_team.proofs.Tokens.{account_in, all_of, none_missing}
-use Rattle.shm_team.proofs.team.close.Goals as goal
+use Rattle.shm_team.proofs.settling.close.Goals as goal
 
 pub close-requires : goal.close-requires
 close-requires c = all_of c.args.pool c.args.tokens.items c.requires.of
