@@ -5,11 +5,14 @@ ghost use Rattle.shm_script.specs.Ranges.{ScriptFits};
 ghost use Rattle.shm_pool.specs.Tokens.{token_first};
 
 use pool_calls::team::pop_of;
-use shm_async::{Finish, IdentityFuture, Token};
+use shm_async::{Finish, IdentityFuture, Token, run_async};
+use shm_audit::{Verdict, audit, write_image};
 use shm_pool::{SharedPool, Vacant};
 use shm_script::{End, Script, Trace, parse};
 use shm_words::Geometry;
-use std::alloc::{AllocError, Global};
+use std::alloc::{AllocError, AllocGlobal, Global};
+use std::random::RandomSource;
+use std::sync::Wait;
 use std::test::Fail;
 
 /// How a client was polled: how many polls it took, unless it was given up, and what it gave.
@@ -140,5 +143,44 @@ fn a_client_is_given_up(rt: HostRuntime) -> Result<(), Fail> {
     assert!(rt; is_polled(rt.alloc(), PUT, (8, 11), None, DONE, true)?);
     assert!(rt; is_polled(rt.alloc(), PUT, (87, 1), None, UNDONE, true)?);
     assert!(rt; is_polled(rt.alloc(), PUT, (7, 0), None, UNDONE, false)?);
+    Ok(())
+}
+
+/// What a trace of one client leaves that is polled with `q` turns each: how the client ended, and how many live blocks there are, and references.
+fn poll_run<R: Wait + RandomSource + AllocGlobal>(
+    rt: &R,
+    text: &[u8],
+    q: u32,
+) -> Result<Option<(End, u64, u64)>, AllocError>
+    requires { (1 ≤ q) × (q ≤ 1000000) }
+{
+    let alloc = rt.alloc();
+    let Ok(trace) = parse(alloc, text) else {
+        return Ok(None);
+    };
+    let Ok(geometry) = Geometry::new(1, 1) else {
+        return Ok(None);
+    };
+    let polled = run_async(rt, alloc, &trace, q)?;
+    let Some(log) = polled.logs.first() else {
+        return Ok(None);
+    };
+    let words = polled.closed.words();
+    if words.len() != geometry.total() as usize {
+        return Ok(None);
+    }
+    let image = write_image(alloc, geometry, words)?;
+    Ok(match audit(alloc, image.as_slice()) {
+        Ok(Verdict::Clean { live, refs }) => Some((log.end, live as u64, refs as u64)),
+        _ => None,
+    })
+}
+
+// what a replay of these traces leaves too: the put's value, its table and the home of the client
+#[test]
+fn an_executor_polls_a_trace(rt: HostRuntime) -> Result<(), Fail> {
+    assert_eq!(rt; poll_run(&rt, PUT, 7)?, Some((End::Ended, 3, 3)));
+    assert_eq!(rt; poll_run(&rt, PUT, 1_000_000)?, Some((End::Ended, 3, 3)));
+    assert_eq!(rt; poll_run(&rt, DIES, 1)?, Some((DONE, 3, 3)));
     Ok(())
 }

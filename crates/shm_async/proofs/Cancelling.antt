@@ -1,9 +1,12 @@
 -- agents at a post that are given up
-use Rattle.std.proofs.Common.{◌≡◌, ℕ, ◌<◌, Bool, true, false, cond, List, inl, refl, sym, ap, ◌∙◌, subst}
+use Rattle.std.proofs.Common.{◌≡◌, ℕ, ◌<◌, Bool, true, false, cond, List, [], ◌∷◌, length, length-append, inl, refl, sym, ap, ◌∙◌, subst, arith, true≢false}
 use Rattle.shm_graph.specs.declared.ask.Me.{Me}
 use Rattle.shm_graph.specs.declared.memo.Agent.{Agent}
 use Rattle.shm_graph.specs.declared.run.Account.{Account}
-use Rattle.shm_graph.specs.Agents.{acts, acts_by, last_agent, steps_made, steps_of}
+use Rattle.shm_graph.specs.declared.memo.Fate.TheVariants.{Acts}
+use Rattle.shm_graph.specs.declared.memo.Kind.TheVariants.{Recoverer}
+use Rattle.shm_graph.specs.declared.run.Start.{Start}
+use Rattle.shm_graph.specs.Agents.{acts, acts_by, fallen, last_agent, steps_made, steps_of, with_last}
 use Rattle.shm_graph.specs.Runs.{account_died, fell_by, told_left}
 use Rattle.shm_graph.proofs.Memos.MemoSteps.{steps_died}
 use Rattle.shm_count.specs.Roots.{member}
@@ -11,16 +14,17 @@ use Rattle.shm_script.specs.declared.log.End.TheVariants.{Died}
 use Rattle.shm_script.specs.declared.log.Entry.{Entry}
 use Rattle.shm_script.specs.Logged.{Logged}
 use Rattle.shm_script.specs.Values.{Scripted}
-use Rattle.shm_agents.specs.Agents.{IsFold, end_or, logged}
+use Rattle.shm_agents.specs.declared.agents.Standing.TheVariants.{AtWork, Gone}
+use Rattle.shm_agents.specs.Agents.{Fallen, Fresh, IsFold, Mended, Mending, Parted, Playing, Plays, Stage, Stands, end_or, logged, one_agent}
 use Rattle.shm_agents.specs.Courses.{AreCommandsTold}
 use Rattle.shm_agents.specs.Cuts.{IsCut, IsCutOff, IsUnbegun, account_cut}
 use Rattle.shm_agents.specs.Logs.{AreUnspent, IsLogOf, steps_first}
 use Rattle.shm_pool.specs.Tokens.{IsOut}
-use Rattle.shm_async.specs.declared.finish.Finish.{Finish}
+use Rattle.shm_team.specs.declared.done.Finish.{Finish}
+use Rattle.shm_team.specs.Lefts.{IsGivenBack, account_in, is_corpse}
+use Rattle.shm_team.proofs.Finishing.{is_me}
 use Rattle.shm_async.specs.Cancelled.{HasCancelled, IsCorpseBy, LogFits}
 use Rattle.shm_async.specs.Polled.{AtPost, StandAt}
-use Rattle.shm_async.specs.Tokens.{IsGivenBack, account_in, is_corpse}
-use Rattle.shm_async.proofs.Finishing.{is_me}
 
 -- what a cut leaves of the pool, whether an agent acted or none
 pub by_acting : (b : Bool) (P : Type 0) → (b ≡ true → P) → (b ≡ false → P) → P
@@ -33,6 +37,30 @@ cut_steps e = go (acts e.memo)
     go : (b : Bool) → steps_made (cond b (account_died e) e).memo ≡ steps_made e.memo
     go true = steps_died e.memo
     go false = refl
+
+-- an agent that died is one
+died_some : (e : Account) → acts e.memo ≡ true → (account_cut e).memo.agents ≡ [] → ⊥
+died_some e acting none = go e.memo.agents refl
+  where
+    is : account_cut e ≡ account_died e
+    is = ap (λ (b : Bool). cond b (account_died e) e) acting
+
+    go : (xs : List Agent) → e.memo.agents ≡ xs → ⊥
+    go [] at = true≢false (sym acting ∙ ap (λ (ys : List Agent). acts_by (last_agent ys)) at)
+    go (a ∷ []) at = let z : fallen a ∷ [] ≡ [] = sym (ap (with_last fallen) at) ∙ (sym (ap (λ (x : Account). x.memo.agents) is) ∙ none) in absurd (cc)
+    go (a ∷ b ∷ xs) at = let z : a ∷ with_last fallen (b ∷ xs) ≡ [] = sym (ap (with_last fallen) at) ∙ (sym (ap (λ (x : Account). x.memo.agents) is) ∙ none) in absurd (cc)
+
+-- where none of them has begun nothing runs
+unbegun_quiet : (start : Start) (s : Scripted) (x : Playing) (e : Account) → Stands start s x e → x.standing ≡ AtWork → e.memo.agents ≡ [] → e.running ≡ []
+unbegun_quiet start s x e h here none = go h.stage
+  where
+    go : Stage start s x e → e.running ≡ []
+    go (Fresh f) = ap (λ (a : Account). a.running) f.account
+    go (Plays p) = let z : one_agent p.steps Acts ≡ [] = sym p.agents ∙ none in absurd (cc)
+    go (Parted p) = let z : AtWork ≡ Gone = sym here ∙ p.left in absurd (cc)
+    go (Fallen f l) = absurd (let many = f.many in let some = f.some in let zero = ap length none in omega arith)
+    go (Mending m l) = absurd (let many = m.many in let some = m.some in let both = ap length (sym m.agents ∙ none) in let sum = length-append m.before (record { kind = Recoverer; steps = m.steps; fate = Acts } ∷ []) in omega arith)
+    go (Mended m l) = let z : AtWork ≡ Gone = sym here ∙ m.recovered in absurd (cc)
 
 -- v are the agents w after they were given up; `some` tells whether one of them had begun
 module _ (s : Scripted) (w v : AtPost) (h : StandAt s w) (me : v.agents.me ≡ w.agents.me) (account : v.post.account ≡ account_cut w.post.account) where
@@ -53,6 +81,21 @@ module _ (s : Scripted) (w v : AtPost) (h : StandAt s w) (me : v.agents.me ≡ w
   pub cut_still : IsUnbegun v.agents v.post.account → acts v.post.account.memo ≡ false
   cut_still c = ap (λ (xs : List Agent). acts_by (last_agent xs)) c.agents
 
+  -- nothing runs where none of them had begun
+  pub cut_quiet : w.agents.standing ≡ AtWork → IsUnbegun v.agents v.post.account → v.post.account.running ≡ []
+  cut_quiet here c = ap (λ (a : Account). a.running) account ∙ (by_acting (acts w.post.account.memo) _ acting still)
+    where
+      none : (account_cut w.post.account).memo.agents ≡ []
+      none = sym (ap (λ (a : Account). a.memo.agents) account) ∙ c.agents
+
+      acting : acts w.post.account.memo ≡ true → (account_cut w.post.account).running ≡ []
+      acting is = absurd (died_some w.post.account is none)
+
+      still : acts w.post.account.memo ≡ false → (account_cut w.post.account).running ≡ []
+      still is =
+          let same : account_cut w.post.account ≡ w.post.account = ap (λ (b : Bool). cond b (account_died w.post.account) w.post.account) is in
+          ap (λ (a : Account). a.running) same ∙ unbegun_quiet w.post.of.start s w.agents w.post.account h.stands here (sym (ap (λ (a : Account). a.memo.agents) same) ∙ none)
+
   pub cut_whole : IsUnbegun v.agents v.post.account → fell_by (last_agent v.post.account.memo.agents) ≡ false
   cut_whole c = ap (λ (xs : List Agent). fell_by (last_agent xs)) c.agents
 
@@ -62,7 +105,7 @@ module _ (s : Scripted) (w v : AtPost) (h : StandAt s w) (me : v.agents.me ≡ w
   its = member w.post.of.start.geometry s.client
 
   mine : v.agents.me ≡ its
-  mine = me ∙ is_me s w h
+  mine = me ∙ is_me w.post s w.agents h.stands
 
   corpse_by : (b : Bool) → IsCut b s v.agents e → IsCorpseBy (steps_made w.post.account.memo) b
   corpse_by true c = subst (λ (n : ℕ). 0 < n) (cut_steps w.post.account) c.stepped

@@ -4,14 +4,14 @@ use Rattle.std.specs.Prelude.{MatchOption}
 use Rattle.shm_graph.specs.declared.ask.Me.{Me}
 use Rattle.shm_agents.specs.declared.agents.Standing.TheVariants.{AtWork}
 use Rattle.shm_agents.specs.Agents.{Playing, Stands}
-use Rattle.shm_agents.specs.TurnsLeft.{turns_given}
+use Rattle.shm_agents.specs.TurnsLeft.{turns_by, turns_given}
 use Rattle.shm_pool.specs.Posts.{IsPosted}
 use Rattle.shm_pool.specs.Tokens.{Its, Token}
 use Rattle.shm_script.specs.Values.{Scripted}
-use Rattle.shm_async.specs.declared.finish.Finish.{Finish}
+use Rattle.shm_team.specs.declared.done.Finish.{Finish}
+use Rattle.shm_team.specs.Lefts.{account_in}
 use Rattle.shm_async.specs.Finished.{HasFinished}
 use Rattle.shm_async.specs.Polled.{AtPost, Course, HasGiven, HasTurned, IsPolled, MayGive, StandAt, WentOn, course_of}
-use Rattle.shm_async.specs.Tokens.{account_in}
 
 -- agents at their post
 abbrev pub at : Playing → Token → AtPost
@@ -22,9 +22,10 @@ pub record AreGiven (s : Scripted) (w v : AtPost) (n : ℕ) : Type 0 where
   pub went : WentOn w v
   pub stand : StandAt s v
   pub given : turns_given v.post.account ≡ turns_given w.post.account + n
+  pub left : turns_by v.agents (Some s) + n ≤ turns_by w.agents (Some s)
 
 pub none_given : (s : Scripted) (w : AtPost) → StandAt s w → AreGiven s w w 0
-none_given s w h = record { went = record { of = refl; who = refl; me = refl }; stand = h; given = omega arith }
+none_given s w h = record { went = record { of = refl; who = refl; me = refl }; stand = h; given = omega arith; left = omega arith }
 
 -- what a turn says of the pool, whether it was a word step or a death
 by_life : (left : ℕ) (P : Type 0) → (0 < left → (k : ℕ) × P) → (left ≡ 0 → P) → P
@@ -32,8 +33,8 @@ by_life zero P stepped fell = fell refl
 by_life (suc n) P stepped fell = (stepped (omega arith)).1
 
 -- one turn more
-pub one_given : (s : Scripted) (w v u : AtPost) (n : ℕ) → AreGiven s w v n → (0 < v.agents.life.left → (k : ℕ) × (u.post.of ≡ v.post.of)) → (v.agents.life.left ≡ 0 → u.post.of ≡ v.post.of) → IsPosted u.post v.agents.me.who → u.agents.me ≡ v.agents.me → Stands u.post.of.start s u.agents u.post.account → turns_given u.post.account ≡ turns_given v.post.account + 1 → AreGiven s w u (n + 1)
-one_given s w v u n h stepped fell posted me stands given =
+pub one_given : (s : Scripted) (w v u : AtPost) (n : ℕ) → AreGiven s w v n → (0 < v.agents.life.left → (k : ℕ) × (u.post.of ≡ v.post.of)) → (v.agents.life.left ≡ 0 → u.post.of ≡ v.post.of) → IsPosted u.post v.agents.me.who → u.agents.me ≡ v.agents.me → Stands u.post.of.start s u.agents u.post.account → turns_given u.post.account ≡ turns_given v.post.account + 1 → turns_by u.agents (Some s) < turns_by v.agents (Some s) → AreGiven s w u (n + 1)
+one_given s w v u n h stepped fell posted me stands given less =
     record {
       went = record {
         of = by_life v.agents.life.left (u.post.of ≡ v.post.of) stepped fell ∙ h.went.of;
@@ -42,6 +43,7 @@ one_given s w v u n h stepped fell posted me stands given =
       };
       stand = record { posted = subst (λ (m : Me). IsPosted u.post m.who) (sym me) posted; stands = stands };
       given = (let z = h.given in omega arith);
+      left = (let z = h.left in omega arith);
     }
 
 -- none of them is left
@@ -56,6 +58,21 @@ given_rest q (suc n) s w v h few first rest =
       few = few;
       all = λ here. absurd (rest here);
       given = h.given;
+      less = (let z = h.left in omega arith);
+    }
+
+-- all of them were given
+pub given_all : (q n : ℕ) (s : Scripted) (w v : AtPost) → AreGiven s w v n → 1 ≤ q → n ≡ q → HasGiven q s w v
+given_all q n s w v h some is =
+    record {
+      went = h.went;
+      stand = h.stand;
+      turns = n;
+      some = omega arith;
+      few = omega arith;
+      all = λ here. is;
+      given = h.given;
+      less = (let z = h.left in omega arith);
     }
 
 -- and the poll is ready
@@ -79,7 +96,7 @@ may_give f g x h = given_on f.quota f.script f.site g.site x h.turned
 
 still_on : (q : ℕ) (s s2 : Scripted) (o b : Option AtPost) (x : Finish) → s2 ≡ s → HasTurned q s o None b → MatchOption b ⊥ (λ w. HasFinished w.post.of s2 x) → MatchOption o ⊥ (λ w. HasFinished w.post.of s x)
 still_on q s s2 None b x same h g = subst (λ (c : Option AtPost). MatchOption c ⊥ (λ w. HasFinished w.post.of s2 x)) h.1 g
-still_on q s s2 (Some w) b x same (v, is, went, given) g =
+still_on q s s2 (Some w) b x same (v, is, went, given, left) g =
     let at : HasFinished v.post.of s2 x = subst (λ (c : Option AtPost). MatchOption c ⊥ (λ w. HasFinished w.post.of s2 x)) is g in
     subst (λ (r : Scripted). HasFinished w.post.of r x) same (subst (λ (p : Its). HasFinished p s2 x) went.of at)
 

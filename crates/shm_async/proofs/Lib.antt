@@ -1,5 +1,5 @@
-pub mod Finishing
 pub mod Giving
 pub mod Making
 pub mod Cancelling
 pub mod Recovering
+pub mod Gathering

@@ -13,9 +13,9 @@ use Rattle.shm_agents.specs.Cuts.{AreCut, account_cut}
 use Rattle.shm_agents.specs.Logs.{AreUnspent, IsLogOf, steps_first}
 use Rattle.shm_agents.specs.Turns.{lives_of}
 use Rattle.shm_pool.specs.Tokens.{Its}
-use Rattle.shm_async.specs.declared.finish.Finish.{Finish}
+use Rattle.shm_team.specs.declared.done.Finish.{Finish}
+use Rattle.shm_team.specs.Lefts.{IsGivenBack, account_in, is_corpse}
 use Rattle.shm_async.specs.Polled.{AtPost}
-use Rattle.shm_async.specs.Tokens.{IsGivenBack, account_in, is_corpse}
 
 -- The log of a client that was cut, by what is accounted for of the identity: where it had ended or died before the cut it is what it was, and otherwise it died after the word steps that it had made
 pub record IsCutLog (p : Its) (s : Scripted) (e : Account) (l : Logged) : Type 0 where

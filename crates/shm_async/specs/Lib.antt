@@ -1,5 +1,5 @@
-pub mod Tokens
 pub mod Finished
 pub mod Polled
 pub mod Cancelled
 pub mod Rescued
+pub mod Members

@@ -4,13 +4,13 @@ use Rattle.futures.specs.declared.task.Poll.{Poll}
 use Rattle.futures.specs.declared.task.Poll.TheVariants.{Ready, Pending}
 use Rattle.shm_agents.specs.declared.agents.Standing.TheVariants.{AtWork}
 use Rattle.shm_agents.specs.Agents.{Playing, Stands}
-use Rattle.shm_agents.specs.TurnsLeft.{turns_given}
+use Rattle.shm_agents.specs.TurnsLeft.{turns_by, turns_given}
 use Rattle.shm_pool.specs.Posts.{IsPosted}
 use Rattle.shm_pool.specs.Tokens.{Token}
 use Rattle.shm_script.specs.Values.{Scripted}
-use Rattle.shm_async.specs.declared.finish.Finish.{Finish}
+use Rattle.shm_team.specs.declared.done.Finish.{Finish}
+use Rattle.shm_team.specs.Lefts.{account_in}
 use Rattle.shm_async.specs.Finished.{HasFinished}
-use Rattle.shm_async.specs.Tokens.{account_in}
 
 -- agents at their post
 pub record AtPost : Type 0 where
@@ -70,11 +70,12 @@ pub record HasGiven (q : ℕ) (s : Scripted) (w v : AtPost) : Type 0 where
   pub few : turns ≤ q
   pub all : v.agents.standing ≡ AtWork → turns ≡ q
   pub given : turns_given v.post.account ≡ turns_given w.post.account + turns
+  pub less : turns_by v.agents (Some s) < turns_by w.agents (Some s)
 
--- A poll of q turns. Where an earlier one was ready nothing is given and nothing changes. It is pending where an agent is left after q turns, each of them a word step or a death. Otherwise it is ready, after at most q of them
+-- A poll of q turns. Where an earlier one was ready nothing is given and nothing changes. It is pending where an agent is left after q turns, each of them a word step or a death, and fewer are left at most. Otherwise it is ready, after at most q of them
 abbrev pub HasTurned : ℕ → Scripted → Option AtPost → Option Finish → Option AtPost → Type 0
 HasTurned q s None r b = (r ≡ None) × (b ≡ None)
-HasTurned q s (Some w) None b = (v : AtPost) × (b ≡ Some v) × WentOn w v × (turns_given v.post.account ≡ turns_given w.post.account + q)
+HasTurned q s (Some w) None b = (v : AtPost) × (b ≡ Some v) × WentOn w v × (turns_given v.post.account ≡ turns_given w.post.account + q) × (turns_by v.agents (Some s) < turns_by w.agents (Some s))
 HasTurned q s (Some w) (Some x) b = (b ≡ None) × HasFinished w.post.of s x × ((n : ℕ) × (0 < n) × (n ≤ q) × (turns_given (account_in x.token) ≡ turns_given w.post.account + n))
 
 pub record IsPolled (f : Course) (r : Option Finish) (g : Course) : Type 0 where

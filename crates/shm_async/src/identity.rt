@@ -2,6 +2,7 @@
 
 ghost use Rattle.std.specs.Prelude.{◌≡◌, ◌≢◌, ◌<◌, ◌≤◌, ◌^◌, ⊤, IfOk, IfErr, true};
 ghost use Rattle.shm_graph.specs.Runs.{first_account};
+ghost use Rattle.shm_agents.specs.Agents.{Stands};
 ghost use Rattle.shm_script.specs.Ranges.{ScriptFits};
 ghost use Rattle.shm_script.specs.Values.{Scripted as AScript};
 ghost use Rattle.shm_async.specs.Cancelled.{HasCancelled, IsCancelled};
@@ -9,16 +10,17 @@ ghost use Rattle.shm_async.specs.Finished.{HasFinished};
 ghost use Rattle.shm_async.specs.Polled.{HasGiven, IsNew, IsPolled, MayGive, StandAt, given_by};
 ghost use Rattle.futures.specs.Poll.{IfReady, OnPending};
 ghost use Rattle.futures.specs.Task.{Covers, Keeps};
-ghost use Rattle.shm_async.specs.declared.finish.Finish.{Finish as AFinish};
-ghost use Rattle.shm_async.specs.Tokens.{account_in};
+ghost use Rattle.shm_team.specs.declared.done.Finish.{Finish as AFinish};
+ghost use Rattle.shm_team.specs.Lefts.{account_in};
 
-use crate::finish::{Finish, NewStop, Token};
+use crate::finish::NewStop;
 use futures::Future;
 use futures::task::{Context, Poll};
 use shm_agents::agents::{Agents, Standing};
 use shm_graph::Me;
 use shm_pool::{Post, SharedPool, Vacant};
 use shm_script::Script;
+use shm_team::{Finish, Left, hand_back};
 use std::alloc::Global;
 use std::marker::Model;
 
@@ -81,15 +83,32 @@ impl<'p> IdentityFuture<'p> {
     {
         let me = Me::new(pool.geometry(), token.client());
         match Agents::new(alloc, me, 0, script) {
-            Ok(agents) => Ok(IdentityFuture {
-                script,
-                q,
-                site: Some(Site {
-                    agents,
-                    post: Post::new(pool, token),
-                }),
-            }),
+            Ok(agents) => Ok(IdentityFuture::of(pool, agents, token, script, q)),
             Err(cause) => Err(NewStop { token, cause }),
+        }
+    }
+
+    /// The agents of an identity before their first turn, of which each poll gives them `q`. The script is theirs.
+    pub(crate) fn of(
+        pool: &'p SharedPool,
+        agents: Agents,
+        token: Vacant,
+        script: &'p Script,
+        q: u32,
+    ) -> IdentityFuture<'p>
+        requires turns { 1 ≤ q }
+        requires of { token.of ≡ pool.now }
+        requires first { token.account ≡ first_account token.of.start token.account.who }
+        requires me { agents.me.who ≡ token.account.who }
+        requires stands { Stands token.of.start script.now agents token.account }
+        requires here { agents.standing ≡ Standing.AtWork }
+        ensures { IsNew token script.now q result }
+    {
+        let post = Post::new(pool, token);
+        IdentityFuture {
+            script,
+            q,
+            site: Some(Site { agents, post }),
         }
     }
 
@@ -103,7 +122,7 @@ impl<'p> IdentityFuture<'p> {
             self.site = Some(site);
             return None;
         }
-        Some(finish(site))
+        Some(finish_at(site))
     }
 
     /// The agents are given up: the one that acts dies, and the log says how far the client had come. None where a poll was ready.
@@ -128,9 +147,9 @@ fn cut(script: &Script, site: Site<'_>) -> Finish
         mut post,
     } = site;
     let token = if agents.cut(script, &mut post) {
-        Token::Corpse(post.corpse())
+        Left::Corpse(post.corpse())
     } else {
-        Token::Vacant(post.vacate())
+        Left::Vacant(post.vacate())
     };
     Finish {
         log: agents.log(),
@@ -153,22 +172,14 @@ fn give(script: &Script, q: u32, site: &mut Site<'_>)
 }
 
 /// The log and the token, where no agent is left.
-fn finish(site: Site<'_>) -> Finish
+fn finish_at(site: Site<'_>) -> Finish
     requires stand { (s : AScript) × StandAt s site }
     requires rests { site.agents.standing ≢ Standing.AtWork }
     ensures finished { (s : AScript) → StandAt s site.entry → HasFinished site.entry.post.of s result }
     ensures account { account_in result.token ≡ site.entry.post.account }
 {
     let Site { agents, post } = site;
-    let token = if agents.standing() == Standing::Dead {
-        Token::Corpse(post.corpse())
-    } else {
-        Token::Vacant(post.vacate())
-    };
-    Finish {
-        log: agents.log(),
-        token,
-    }
+    hand_back(agents, post)
 }
 
 impl<'p> Future for IdentityFuture<'p> {

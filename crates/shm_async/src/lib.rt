@@ -4,8 +4,13 @@
 
 mod finish;
 mod identity;
+mod members;
+mod polls;
 mod recovery;
+mod runs;
 
-pub use finish::{Finish, NewStop, Token};
+pub use finish::NewStop;
 pub use identity::IdentityFuture;
 pub use recovery::RecoveryFuture;
+pub use runs::{Polled, run_async};
+pub use shm_team::{Finish, Left as Token};

@@ -8,5 +8,5 @@ returns c =
     let s = c.self.inside.script.now in
     let q = c.self.inside.q in
     let site : c.self.inside.site ≡ Some c.in_ok-site.site = (let a = c.take.ensures.value in let b = c.in_ok-site.was in cc) in
-    subst (λ (f : Course). IsPolled f (Some c.finish.result) (course_of s q c.take.new.self)) (ap (λ (o : Option AtPost). course_of s q o) (sym site) ∙ c.self.view_is)
-    (ready q s c.in_ok-site.site c.give.new.site c.take.new.self c.finish.result c.give.ensures (c.finish.ensures.finished s c.give.ensures.stand) c.finish.ensures.account c.take.ensures.after)
+    subst (λ (f : Course). IsPolled f (Some c.finish_at.result) (course_of s q c.take.new.self)) (ap (λ (o : Option AtPost). course_of s q o) (sym site) ∙ c.self.view_is)
+    (ready q s c.in_ok-site.site c.give.new.site c.take.new.self c.finish_at.result c.give.ensures (c.finish_at.ensures.finished s c.give.ensures.stand) c.finish_at.ensures.account c.take.ensures.after)

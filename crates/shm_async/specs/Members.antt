@@ -1,0 +1,30 @@
+-- the identities of a trace, each of which is polled until all is done of it
+use Rattle.std.specs.Prelude.{◌≡◌, ℕ, ◌<◌, Option, Some, None, List, length, slice_index_or}
+use Rattle.shm_agents.specs.Turns.{script_in}
+use Rattle.shm_pool.specs.Tokens.{Its}
+use Rattle.shm_script.specs.Values.{Traced}
+use Rattle.shm_team.specs.Dones.{IsDone}
+use Rattle.shm_async.specs.declared.members.Member.{Member}
+use Rattle.shm_async.specs.declared.members.Member.TheVariants.{Works, Finished}
+use Rattle.shm_async.specs.Polled.{AtPost, Course}
+
+-- the agents of the script of the identity c, which are at their post in the pool p
+pub record IsAtWork (t : Traced) (p : Its) (c : ℕ) (f : Course) : Type 0 where
+  pub script : script_in t.scripts c ≡ Some f.script
+  pub site : AtPost
+  pub is : f.site ≡ Some site
+  pub of : site.post.of ≡ p
+
+abbrev pub IsMember : Traced → Its → ℕ → Member → Type 0
+IsMember t p c (Works f) = IsAtWork t p c f
+IsMember t p c (Finished d) = IsDone t p c d
+
+-- none of them is out
+abbrev pub IsHere : Traced → Its → ℕ → Option Member → Type 0
+IsHere t p c None = ⊥
+IsHere t p c (Some m) = IsMember t p c m
+
+-- all identities of the trace, by number
+pub record AreMembers (t : Traced) (p : Its) (ms : List (Option Member)) : Type 0 where
+  pub many : length ms ≡ t.clients
+  pub here : (c : ℕ) → c < t.clients → IsHere t p c (slice_index_or ms c None)

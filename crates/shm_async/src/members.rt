@@ -1,0 +1,181 @@
+//! The identities of a trace, each of which is polled until all is done of it.
+
+ghost use Rattle.std.specs.Prelude.{◌≡◌, ◌≢◌, ◌≤◌, ℕ, None, Some, IfOk, length};
+ghost use Rattle.shm_pool.specs.Tokens.{Its as APool};
+ghost use Rattle.shm_replay.specs.Replays.{start_of};
+ghost use Rattle.shm_script.specs.Values.{Traced as ATrace};
+ghost use Rattle.shm_team.specs.Dones.{AreDones, IsDone};
+ghost use Rattle.shm_team.specs.Jobs.{AreJobs, IsJob};
+ghost use Rattle.shm_async.specs.Members.{AreMembers, IsAtWork, IsHere, IsMember};
+ghost use Rattle.shm_async.specs.Polled.{MayGive};
+
+use crate::identity::IdentityFuture;
+use shm_pool::SharedPool;
+use shm_script::Trace;
+use shm_team::{Done, Finish, Job, Left};
+use std::alloc::{AllocError, Global};
+
+/// An identity of a trace: its agents have turns left, or all is done.
+#[derive(Drop)]
+pub(crate) enum Member<'p> {
+    Works(IdentityFuture<'p>),
+    Finished(Done),
+}
+
+/// What is done of an identity, by what its future gave.
+fn done_of(finish: Finish) -> Done
+    ensures { result ≡ record { log = Some finish.log; left = finish.token } }
+{
+    let Finish { log, token } = finish;
+    Done {
+        log: Some(log),
+        left: token,
+    }
+}
+
+impl<'p> Member<'p> {
+    /// The identity of a job, before its first turn.
+    fn of(pool: &'p SharedPool, trace: &'p Trace, job: Job, q: u32) -> Member<'p>
+        requires turns { 1 ≤ q }
+        requires job { IsJob trace.now pool.now job.token.account.who job }
+        ensures { IsMember trace.now pool.now job.token.account.who result }
+    {
+        let Job { agents, token } = job;
+        match agents {
+            None => Member::Finished(Done {
+                log: None,
+                left: Left::Vacant(token),
+            }),
+            Some(agents) => {
+                let at = agents.script();
+                Member::Works(IdentityFuture::of(pool, agents, token, &trace.scripts[at], q))
+            }
+        }
+    }
+
+    /// Whether it has turns left.
+    fn is_left(&self) -> bool {
+        matches!(self, Member::Works(_))
+    }
+
+    /// It is polled, unless all is done.
+    fn polled(self) -> Member<'p>
+        ensures { (t : ATrace) (p : APool) (c : ℕ) → IsMember t p c self.entry → IsMember t p c result }
+    {
+        match self {
+            Member::Finished(done) => Member::Finished(done),
+            Member::Works(future) => turned(future),
+        }
+    }
+
+    /// All its turns are made.
+    fn done(self) -> Done
+        requires { (t : ATrace) × (p : APool) × (c : ℕ) × IsMember t p c self }
+        ensures { (t : ATrace) (p : APool) (c : ℕ) → IsMember t p c self.entry → IsDone t p c result }
+    {
+        match self {
+            Member::Finished(done) => done,
+            Member::Works(future) => done_of(run_out(future)),
+        }
+    }
+}
+
+/// The agents get the turns of one poll.
+fn turned(mut future: IdentityFuture<'_>) -> Member<'_>
+    ensures { (t : ATrace) (p : APool) (c : ℕ) → IsAtWork t p c future.entry → IsMember t p c result }
+{
+    match future.advance() {
+        None => Member::Works(future),
+        Some(finish) => Member::Finished(done_of(finish)),
+    }
+}
+
+/// Makes all turns that are left.
+fn run_out(mut future: IdentityFuture<'_>) -> Finish
+    requires { future.site ≢ None }
+    ensures { MayGive future.entry result }
+{
+    'turns: loop {
+        match future.advance() {
+            None => {}
+            Some(finish) => return finish,
+        }
+    }
+}
+
+/// The identities of a trace before their first turns.
+pub(crate) fn all_members<'p>(
+    alloc: Global,
+    pool: &'p SharedPool,
+    trace: &'p Trace,
+    jobs: Vec<Job>,
+    q: u32,
+) -> Result<Vec<Option<Member<'p>>>, AllocError>
+    requires turns { 1 ≤ q }
+    requires many { length jobs.items ≡ trace.now.clients }
+    requires jobs { AreJobs trace.now pool.now 0 jobs.items }
+    ensures { IfOk result (λ v. AreMembers trace.now pool.now v.items) }
+{
+    let mut members = Vec::new(alloc);
+    for job in jobs {
+        members.push(Some(Member::of(pool, trace, job, q)))?;
+    }
+    Ok(members)
+}
+
+/// Polls an identity that is here, and tells whether it has turns left.
+fn poll_one(slot: &mut Option<Member<'_>>) -> bool
+    ensures { (t : ATrace) (p : APool) (c : ℕ) → IsHere t p c slot.old → IsHere t p c slot.new }
+{
+    match slot.take() {
+        None => false,
+        Some(member) => {
+            let member = member.polled();
+            let left = member.is_left();
+            *slot = Some(member);
+            left
+        }
+    }
+}
+
+/// Polls each identity once, in order, and tells whether one of them has turns left.
+pub(crate) fn poll_each(members: &mut [Option<Member<'_>>]) -> bool
+    ensures { (t : ATrace) (p : APool) → AreMembers t p members.old → AreMembers t p members.new }
+{
+    let mut left = false;
+    for at in 0..members.len() {
+        left |= poll_one(&mut members[at]);
+    }
+    left
+}
+
+/// Makes the turns that are left of an identity that is here.
+fn finish(slot: Option<Member<'_>>) -> Done
+    requires { (t : ATrace) × (p : APool) × (c : ℕ) × IsHere t p c slot }
+    ensures { (t : ATrace) (p : APool) (c : ℕ) → IsHere t p c slot.entry → IsDone t p c result }
+{
+    match slot {
+        None => unreachable!(),
+        Some(member) => member.done(),
+    }
+}
+
+/// Makes the turns that are left of all identities. The pool and the trace only say which identities they are.
+pub(crate) fn finish_all(
+    alloc: Global,
+    pool: &SharedPool,
+    trace: &Trace,
+    members: Vec<Option<Member<'_>>>,
+) -> Result<Vec<Done>, AllocError>
+    requires { AreMembers trace.now pool.now members.items }
+    ensures many { IfOk result (λ v. length v.items ≡ trace.now.clients) }
+    ensures dones { IfOk result (λ v. AreDones trace.now pool.now 0 v.items) }
+{
+    let _ = pool;
+    let _ = trace;
+    let mut dones = Vec::new(alloc);
+    for member in members {
+        dones.push(finish(member))?;
+    }
+    Ok(dones)
+}

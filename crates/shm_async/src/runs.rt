@@ -1,0 +1,69 @@
+//! A trace is run by clients that are polled on one thread.
+
+ghost use Rattle.std.specs.Prelude.{◌≡◌, ◌≤◌, IfOk, List, length};
+ghost use Rattle.shm_graph.specs.declared.run.Move.{Move as AMove};
+ghost use Rattle.shm_plain.specs.Pools.{pool as pool_of};
+ghost use Rattle.shm_team.specs.Dones.{AreDones};
+ghost use Rattle.shm_team.specs.Jobs.{AreJobs};
+ghost use Rattle.shm_team.specs.Rans.{IsTeamRun};
+
+use crate::members::{all_members, finish_all};
+use crate::polls::{Members, Which, poll_all};
+use shm_pool::{Closed, SharedPool};
+use shm_script::{Log, Trace};
+use shm_team::{Done, Job, Ran, begin, settle};
+use std::alloc::{AllocError, AllocGlobal, Global};
+use std::random::RandomSource;
+use std::sync::Wait;
+
+/// What polled clients leave of a trace: the closed pool, and the logs of the clients in the order of the scripts.
+#[derive(Drop)]
+pub struct Polled {
+    pub closed: Closed,
+    pub logs: Vec<Log>,
+}
+
+/// An executor polls the identities of a trace, and where it gives up the caller makes the turns that are left.
+fn poll_jobs<R: Wait + RandomSource + AllocGlobal>(
+    rt: &R,
+    alloc: Global,
+    pool: &SharedPool,
+    trace: &Trace,
+    jobs: Vec<Job>,
+    q: u32,
+) -> Result<Vec<Done>, AllocError>
+    requires turns { 1 ≤ q }
+    requires many { length jobs.items ≡ trace.now.clients }
+    requires jobs { AreJobs trace.now pool.now 0 jobs.items }
+    ensures many { IfOk result (λ v. length v.items ≡ trace.now.clients) }
+    ensures dones { IfOk result (λ v. AreDones trace.now pool.now 0 v.items) }
+{
+    let members = all_members(alloc, pool, trace, jobs, q)?;
+    let which = Which { pool, trace };
+    let Members { members } = poll_all(rt, which, Members { members });
+    finish_all(alloc, pool, trace, members)
+}
+
+/// Runs a trace by clients that are polled on this thread. There is one future for each script; one future polls each of them that is not
+/// ready yet, once per poll and in the order of the identities, and a poll gives an identity `q` turns, from 1 to 1,000,000. Where the
+/// executor gives up, the caller makes the turns that are left. The order of the trace is not used. Then the pool is settled, as after
+/// clients on threads: an agent of the closing that dies waits, and never returns.
+///
+/// # Errors
+///
+/// Want of memory, and nothing else.
+pub fn run_async<R: Wait + RandomSource + AllocGlobal>(
+    rt: &R,
+    alloc: Global,
+    trace: &Trace,
+    q: u32,
+) -> Result<Polled, AllocError>
+    requires { (1 ≤ q) × (q ≤ 1000000) }
+    ensures { IfOk result (λ r. (turns : List AMove) × IsTeamRun trace.now (pool_of r.closed.start r.closed.words r.closed.accounts turns) r.logs.items) }
+{
+    trace.in_grammar();
+    let (pool, jobs) = begin(alloc, trace)?;
+    let dones = poll_jobs(rt, alloc, &pool, trace, jobs, q)?;
+    let Ran { closed, logs } = settle(rt, alloc, trace, pool, dones)?;
+    Ok(Polled { closed, logs })
+}
